@@ -1,0 +1,4 @@
+pub mod Memories
+pub mod Starts
+pub mod Tables
+pub mod Words

@@ -1,13 +1,12 @@
-// A library with one function.
+//! The processor: operations, registers, instructions, the table of latencies and resources, memory, starts and
+//! outcomes. A narrowed Hexagon V4 (Programmer's Reference Manual); the counts of a packet, the latencies and the
+//! ranges of literals are this project's own.
 #![tactic(auto)]
 
-ghost use Rattle.std.specs.Prelude.{◌≡◌};
-ghost use Rattle.un_isa.specs.Echo.{echo_of};
-
-// The `ensures` clause is the contract: what `echo` returns is `echo_of` of its argument, a definition
-// in `specs/Echo.antt`, which a caller's clause can cite too.
-pub fn echo(x: usize) -> usize
-    ensures { result ≡ echo_of x }
-{
-    x
-}
+pub mod instr;
+pub mod memory;
+pub mod op;
+pub mod outcome;
+pub mod reg;
+pub mod start;
+pub mod table;
