@@ -1,4 +1,5 @@
 //! Functions over virtual registers, as they are read.
 #![tactic(auto)]
 
+pub mod extended;
 pub mod function;

@@ -1,3 +1,4 @@
+pub mod Hexagon
 pub mod Memories
 pub mod Starts
 pub mod Tables

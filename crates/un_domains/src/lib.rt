@@ -1,0 +1,4 @@
+//! Finite sets of numbers.
+#![tactic(auto)]
+
+pub mod domain;

@@ -1,0 +1,85 @@
+//! Linear functions and extended functions: every temporary is local to its block, as in the TOPLAS paper's linear SSA
+//! form with copy extension and alternative temporaries.
+
+use crate::function::{Kind, SrcOp, Term};
+use un_base::ids::{NameId, TempId};
+use un_base::name::Name;
+use un_isa::reg::Reg;
+use un_isa::table::Table;
+use un_lists::items::Items;
+
+/// Which copy of a value or of an operand: the first or second of the value, the first or second of the operand.
+#[derive(Clone, Copy, Debug, PartialEq, Eq)]
+pub enum NodeCopy {
+    D,
+    D2,
+    U,
+    U2,
+}
+
+/// What an operation of an extended block is: the values at its start, those at its end, an operation or terminator of the
+/// source, an optional copy, and the optional operations that move the stack pointer.
+#[derive(Debug, PartialEq, Eq, Drop)]
+pub enum ExtKind {
+    In,
+    Out,
+    Body(SrcOp),
+    End(Term),
+    Copy(NodeCopy),
+    Enter,
+    Leave,
+}
+
+/// An operand: the temporaries that it may choose, in order, and the register to which it is preassigned.
+#[derive(Debug, PartialEq, Eq, Drop)]
+pub struct Operand {
+    pub alts: Items<TempId>,
+    pub home: Option<Reg>,
+}
+
+/// An operation of an extended block, with the temporaries that it defines.
+#[derive(Debug, PartialEq, Eq, Drop)]
+pub struct ExtOp {
+    pub kind: ExtKind,
+    pub operands: Items<Operand>,
+    pub results: Items<TempId>,
+}
+
+/// An extended block. `live_in` are the names of the first values of `In`, `live_out` those that `Out` reads before the
+/// saved values; no cycle of the block is past `horizon`.
+#[derive(Debug, PartialEq, Eq, Drop)]
+pub struct ExtBlock {
+    pub freq: u32,
+    pub label: Name,
+    pub live_in: Items<NameId>,
+    pub live_out: Items<NameId>,
+    pub ops: Items<ExtOp>,
+    pub horizon: u32,
+}
+
+/// An extended function with its table. `names` has the kind of each name of the function, by its number.
+#[derive(Debug, PartialEq, Eq, Drop)]
+pub struct Ext {
+    pub table: Table,
+    pub names: Items<Kind>,
+    pub blocks: Items<ExtBlock>,
+}
+
+/// A block of a linear function: an extended block without copies, Enter and Leave, with one alternative per operand.
+#[derive(Debug, PartialEq, Eq, Drop)]
+pub struct LssaBlock {
+    pub freq: u32,
+    pub label: Name,
+    pub live_in: Items<NameId>,
+    pub live_out: Items<NameId>,
+    pub ops: Items<ExtOp>,
+    pub horizon: u32,
+}
+
+/// A linear function with its table.
+#[derive(Debug, PartialEq, Eq, Drop)]
+pub struct Lssa {
+    pub table: Table,
+    pub names: Items<Kind>,
+    pub blocks: Items<LssaBlock>,
+}

@@ -1,0 +1,2 @@
+//! The text of code.
+#![tactic(auto)]

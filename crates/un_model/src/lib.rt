@@ -1,0 +1,4 @@
+//! The model of a function: its variables with their domains, its solutions and their cost.
+#![tactic(auto)]
+
+pub mod model;

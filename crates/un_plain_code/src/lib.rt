@@ -1,0 +1,2 @@
+//! Code for plain functions, one operation a packet.
+#![tactic(auto)]
