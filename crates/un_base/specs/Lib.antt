@@ -1,1 +1,4 @@
+pub mod Causes
+pub mod Lines
 pub mod Names
+pub mod Statuses

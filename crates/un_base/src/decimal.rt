@@ -1,0 +1,1 @@
+//! Decimal numbers without sign or leading zeros.
