@@ -28,16 +28,12 @@ front_longer a b c n m bs p q =
 pub prefix_longer : (a b c : Option (List ℕ)) (n m : ℕ) (bs : List ℕ) → Appends a b (take n bs) → Appends b c (take m (rest_of n bs)) → AppendsPrefix a c bs
 prefix_longer a b c n m bs p q = (take (n + m) bs, drop (n + m) bs, take-append-drop (n + m) bs, front_longer a b c n m bs p q)
 
--- a read of the front, of n bytes
-pub front_read : (bs buf copied : List ℕ) (at n piece : ℕ) → at ≤ length bs → 0 < piece
-    → n ≡ min (min (length (rest_of at bs)) piece) (length buf) → copied ≡ take n (rest_of at bs)
-    → (drop at bs ≡ take n (copied ++ drop n buf) ++ drop (at + n) bs) × (n ≡ 0 → 0 < length (copied ++ drop n buf) → drop (at + n) bs ≡ [])
-front_read bs buf copied at n piece within some count copy =
+-- a copy of the front, of n bytes
+pub front_read : (bs buf copied : List ℕ) (at n : ℕ) → n ≤ length (rest_of at bs) → copied ≡ take n (rest_of at bs)
+    → drop at bs ≡ take n (copied ++ drop n buf) ++ drop (at + n) bs
+front_read bs buf copied at n some copy =
     let whole = rest_of-drop at bs in
-    let long : length (rest_of at bs) ≡ length bs - at = ap length whole ∙ length-drop at bs in
-    let n_long : length copied ≡ n = ap length copy ∙ length-take-le n (rest_of at bs) (omega arith) in
+    let long : length copied ≡ n = ap length copy ∙ length-take-le n (rest_of at bs) some in
     let same : copied ≡ take n (drop at bs) = copy ∙ ap (take n) whole in
-    let front : take n (copied ++ drop n buf) ≡ copied = subst (λ (m : ℕ). take m (copied ++ drop n buf) ≡ copied) n_long (take-append_seam copied (drop n buf)) in (
-      sym (ap (λ (xs : List ℕ). xs ++ drop (at + n) bs) (front ∙ same) ∙ ap (λ (xs : List ℕ). take n (drop at bs) ++ xs) (sym (drop-drop n at bs)) ∙ take-append-drop n (drop at bs)),
-      λ none room. drop_of_length-le bs {i = at + n} (let l : length (copied ++ drop n buf) ≡ length copied + length (drop n buf) = length-append copied (drop n buf) in let m = length-drop n buf in omega arith),
-    )
+    let front : take n (copied ++ drop n buf) ≡ copied = subst (λ (m : ℕ). take m (copied ++ drop n buf) ≡ copied) long (take-append_seam copied (drop n buf)) in
+    sym (ap (λ (xs : List ℕ). xs ++ drop (at + n) bs) (front ∙ same) ∙ ap (λ (xs : List ℕ). take n (drop at bs) ++ xs) (sym (drop-drop n at bs)) ∙ take-append-drop n (drop at bs))
