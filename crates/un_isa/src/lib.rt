@@ -3,6 +3,7 @@
 //! ranges of literals are this project's own.
 #![tactic(auto)]
 
+pub mod alu;
 pub mod instr;
 pub mod memory;
 pub mod op;
