@@ -1,3 +1,4 @@
+pub mod Exactness
 pub mod Fit
 pub mod Hexagon
 pub mod Memories

@@ -4,6 +4,7 @@
 #![tactic(auto)]
 
 pub mod alu;
+pub mod exact;
 pub mod instr;
 pub mod memory;
 pub mod op;
@@ -11,3 +12,5 @@ pub mod outcome;
 pub mod reg;
 pub mod start;
 pub mod table;
+#[cfg(test)]
+mod tests;

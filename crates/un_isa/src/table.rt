@@ -87,11 +87,13 @@ pub fn hexagon() -> Table
 {
     Table {
         lat: [
-            1, 1, 1, 1, 1, 1, 1, 1, 1, 1, 1, 1, 1, 1, 1, 1, 2, 1, 1, 1, 2, 1, 1, 1, 1, 1, 1, 1, 2, 1, 1, 1, 1, 1,
+            1, 1, 1, 1, 1, 1, 1, 1, 1, 1, 1, 1, 1, 1, 1, 1, 2, 1, 1, 1, 2, 1, 1, 1, 1, 1, 1, 1, 2,
+            1, 1, 1, 1, 1,
         ],
         uses: [
-            ALU, ALU, ALU, ALU, ALU, ALU, ALU, ALU, ALU, ALU, ALU, ALU, ALU, ALU, ALU, ALU, XTYPE, XTYPE, XTYPE, XTYPE,
-            LOAD, STORE, CONTROL, CONTROL, CONTROL, CONTROL, CONTROL, STORE, LOAD, XTYPE, XTYPE, ALU, ALU, ALU,
+            ALU, ALU, ALU, ALU, ALU, ALU, ALU, ALU, ALU, ALU, ALU, ALU, ALU, ALU, ALU, ALU, XTYPE,
+            XTYPE, XTYPE, XTYPE, LOAD, STORE, CONTROL, CONTROL, CONTROL, CONTROL, CONTROL, STORE,
+            LOAD, XTYPE, XTYPE, ALU, ALU, ALU,
         ],
         clobbered: 0xF_9000_FFFF,
         args: [0, 1, 2, 3, 4, 5],
