@@ -1,2 +1,7 @@
 //! The text of code.
 #![tactic(auto)]
+
+pub mod form;
+pub mod pieces;
+pub mod print;
+pub mod report;
