@@ -5,3 +5,5 @@ pub mod form;
 pub mod pieces;
 pub mod print;
 pub mod report;
+#[cfg(test)]
+mod tests;
