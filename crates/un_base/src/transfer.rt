@@ -137,7 +137,10 @@ mod tests {
     fn refuses_one_byte_too_many(rt: HostRuntime) -> Result<(), Fail> {
         let bytes = b"func f".to_vec(rt.alloc())?;
         let mut src = SureSource::new(bytes);
-        assert_eq!(rt; read_all(rt.alloc(), &mut src, 4).err(), Some(ReadAll::TooLong));
+        assert_eq!(rt;
+            read_all(rt.alloc(), &mut src, 4).err(),
+            Some(ReadAll::TooLong)
+        );
         let rest = read_all(rt.alloc(), &mut src, 1)?;
         assert_eq!(rt; rest.as_slice(), b"f".as_slice());
         Ok(())
@@ -147,7 +150,10 @@ mod tests {
     fn tells_a_read_fault(rt: HostRuntime) -> Result<(), Fail> {
         let bytes = b"func f".to_vec(rt.alloc())?;
         let mut src = MemSource::new(bytes, 4, [1].to_vec(rt.alloc())?);
-        assert_eq!(rt; read_all(rt.alloc(), &mut src, 9).err(), Some(ReadAll::ReadFault));
+        assert_eq!(rt;
+            read_all(rt.alloc(), &mut src, 9).err(),
+            Some(ReadAll::ReadFault)
+        );
         let rest = read_all(rt.alloc(), &mut src, 9)?;
         assert_eq!(rt; rest.as_slice(), b" f".as_slice());
         Ok(())
