@@ -1,2 +1,6 @@
+pub mod Causes
+pub mod Decimals
 pub mod Lines
+pub mod Memory
 pub mod Names
+pub mod Statuses
