@@ -1,0 +1,4 @@
+pub mod BodyLemmas
+pub mod Building
+pub mod Going
+pub mod TextLemmas

@@ -1,2 +1,6 @@
+pub mod Body
+pub mod BodyText
 pub mod Faults
+pub mod Names
+pub mod Parts
 pub mod Plain
