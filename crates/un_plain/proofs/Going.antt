@@ -311,3 +311,12 @@ pub body_of : (text : List ℕ) (names : Names) (ops : List SrcOp) (rest line af
 body_of text names ops rest line after v g split none spelled below last =
     (is_body names ops v text rest g below,
       with_return text names ops rest line after v g split none spelled ∙ ap (λ (bs : List ℕ). map ended (body_lines names ops v) ++ pieces_of bs) last ∙ append-nil (map ended (body_lines names ops v)))
+
+-- ---- a line that is expected
+
+-- a first line that is another is not that
+pub other_line : (text line rest x : List ℕ) → text ≡ line ++ 10 ∷ rest → HasNone 10 line → line ≢ x → take 1 (pieces_of text) ≢ ended x ∷ []
+other_line text line rest x split none other e =
+    let piece = first_piece text line rest split none in
+    let e' : ended line ∷ [] ≡ ended x ∷ [] = rw piece at e in
+    other (same_line line x (cc))

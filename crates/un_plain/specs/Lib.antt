@@ -4,3 +4,4 @@ pub mod Faults
 pub mod Names
 pub mod Parts
 pub mod Plain
+pub mod Reader

@@ -4,6 +4,7 @@
 mod body;
 mod body_line;
 pub mod error;
+mod head;
 pub mod limits;
 mod names;
 mod numbers;
