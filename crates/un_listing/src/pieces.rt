@@ -1,40 +1,21 @@
 //! Pieces of an instruction's text. Each function appends one to a text, and there is `NoMemory` where it finds no room.
 
 ghost use Rattle.std.specs.Prelude.{◌≡◌, ◌++◌, OnOk, codes};
-ghost use Rattle.std.specs.Fmt.{decimal};
 ghost use Rattle.std.specs.List.{flat_map};
 ghost use Rattle.un_listing.specs.Listing.{joined, reg_text, some_reg_text, operand_text, operands_text, literal_text, result_text, word_text, label_text};
 
-use itoa::Buffer;
-use un_base::decimal::write_decimal;
 use un_base::memory_error::NoMemory;
 use un_base::name::Name;
+use un_ir::text::{put_number, put_signed_number, put_text};
 use un_isa::instr::Instr;
 use un_isa::reg::Reg;
-
-/// Appends a text.
-pub fn put_text(out: &mut Vec<u8>, text: &[u8]) -> Result<(), NoMemory>
-    ensures { OnOk result (out.new.items ≡ out.old.items ++ text.now) }
-{
-    out.extend_from_slice(text)?;
-    Ok(())
-}
-
-/// Appends a number in decimal.
-pub fn put_number(out: &mut Vec<u8>, n: u64) -> Result<(), NoMemory>
-    ensures { OnOk result (out.new.items ≡ out.old.items ++ decimal n) }
-{
-    let alloc = *out.allocator();
-    write_decimal(alloc, out, n)
-}
 
 /// Appends `#` and the number of an instruction.
 pub fn put_literal(out: &mut Vec<u8>, instr: &Instr) -> Result<(), NoMemory>
     ensures { OnOk result (out.new.items ≡ out.old.items ++ literal_text instr.now) }
 {
-    let mut buffer = Buffer::new();
     put_text(out, b"#")?;
-    put_text(out, buffer.format(instr.imm).as_bytes())
+    put_signed_number(out, instr.imm)
 }
 
 /// Appends a register.

@@ -6,11 +6,11 @@ ghost use Rattle.un_listing.specs.Listing.{joined, operand_text, label_text, ins
 
 use crate::form::{Form, form_of, mnemonic};
 use crate::pieces::{
-    put_frame_word, put_label, put_literal, put_number, put_operand, put_operands, put_result,
-    put_text, put_word,
+    put_frame_word, put_label, put_literal, put_operand, put_operands, put_result, put_word,
 };
 use std::alloc::Global;
 use un_base::memory_error::NoMemory;
+use un_ir::text::{put_number, put_text};
 use un_isa::instr::Instr;
 use un_packet::code::{Code, CodeBlock, Packet};
 

@@ -3,10 +3,10 @@
 ghost use Rattle.std.specs.Prelude.{◌≡◌, ◌++◌, OnOk, IfOk};
 ghost use Rattle.un_listing.specs.Report.{first_report_text};
 
-use crate::pieces::{put_number, put_text};
 use crate::print::put_code;
 use std::alloc::Global;
 use un_base::memory_error::NoMemory;
+use un_ir::text::{put_number, put_text};
 use un_packet::code::Code;
 
 /// A line with the cost of code, a line with a bound of the cost, and the listing of the code.
