@@ -1,0 +1,2 @@
+pub mod HexagonTable
+pub mod MemoryWords

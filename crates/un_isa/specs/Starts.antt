@@ -1,7 +1,7 @@
 -- Which starts are well formed.
-use Rattle.std.specs.Prelude.{ℕ, ◌≡◌, ◌<◌, ◌+◌, ◌/◌, ◌%◌, ◌^◌, Bool, true, ◌&&◌, ◌||◌, nat_eq, nat_lt, nat_le, List, [], ◌∷◌, is_some, All, length, slice_index, drop, if◌then◌else◌}
+use Rattle.std.specs.Prelude.{ℕ, ◌+◌, Bool, true, ◌&&◌, ◌||◌, nat_eq, nat_lt, nat_le, List, [], ◌∷◌, is_some, drop}
 use Rattle.std.specs.List.{list_all}
-use Rattle.un_isa.specs.Memories.{is_memory, is_memory_from, word_at}
+use Rattle.un_isa.specs.Memories.{is_memory, word_at}
 use Rattle.un_isa.specs.declared.start.Reply.{Reply}
 
 -- r0 to r15, r28, r31 and p0 to p3: what a call writes

@@ -3,6 +3,8 @@
 //! ranges of literals are this project's own.
 #![tactic(auto)]
 
+pub mod alu;
+pub mod exact;
 pub mod instr;
 pub mod memory;
 pub mod op;
@@ -10,3 +12,5 @@ pub mod outcome;
 pub mod reg;
 pub mod start;
 pub mod table;
+#[cfg(test)]
+mod tests;

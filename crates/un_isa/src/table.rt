@@ -1,5 +1,12 @@
 //! The table of the processor.
 
+ghost use Rattle.std.specs.Prelude.{◌≡◌, slice_get, Some};
+ghost use Rattle.un_isa.specs.Tables.{number_of, latency_of};
+ghost use Rattle.un_isa.specs.Hexagon.{HEXAGON, IsHexagon};
+ghost use Rattle.un_isa.specs.Fit.{IsFit};
+
+use crate::op::Op;
+
 /// How many of each resource of a packet an instruction takes.
 #[derive(Clone, Copy, Debug, PartialEq, Eq)]
 pub struct Needs {
@@ -28,4 +35,83 @@ pub struct Table {
     pub result: u8,
     /// The registers that a function keeps.
     pub saved: u64,
+}
+
+/// What an instruction of ALU32, and Nop, needs of a packet.
+const ALU: Needs = Needs {
+    mem: 0,
+    store: 0,
+    xc: 0,
+    control: 0,
+};
+
+/// What one of XTYPE needs.
+const XTYPE: Needs = Needs {
+    mem: 0,
+    store: 0,
+    xc: 1,
+    control: 0,
+};
+
+/// What a load needs.
+const LOAD: Needs = Needs {
+    mem: 1,
+    store: 0,
+    xc: 0,
+    control: 0,
+};
+
+/// What a store needs.
+const STORE: Needs = Needs {
+    mem: 1,
+    store: 1,
+    xc: 0,
+    control: 0,
+};
+
+/// What a control transfer needs.
+const CONTROL: Needs = Needs {
+    mem: 0,
+    store: 0,
+    xc: 1,
+    control: 1,
+};
+
+/// The table of this project's profile of Hexagon V4: 2 cycles for Load, Reload and Mpyi, and 1 for all others. A call
+/// clobbers r0 to r15, r28, r31 and p0 to p3, its arguments are in r0 to r5 and its result in r0; a function keeps r16 to
+/// r27.
+pub fn hexagon() -> Table
+    ensures table { result ≡ HEXAGON }
+    ensures entries { IsHexagon result }
+    ensures fit { IsFit result }
+{
+    Table {
+        lat: [
+            1, 1, 1, 1, 1, 1, 1, 1, 1, 1, 1, 1, 1, 1, 1, 1, 2, 1, 1, 1, 2, 1, 1, 1, 1, 1, 1, 1, 2,
+            1, 1, 1, 1, 1,
+        ],
+        uses: [
+            ALU, ALU, ALU, ALU, ALU, ALU, ALU, ALU, ALU, ALU, ALU, ALU, ALU, ALU, ALU, ALU, XTYPE,
+            XTYPE, XTYPE, XTYPE, LOAD, STORE, CONTROL, CONTROL, CONTROL, CONTROL, CONTROL, STORE,
+            LOAD, XTYPE, XTYPE, ALU, ALU, ALU,
+        ],
+        clobbered: 0xF_9000_FFFF,
+        args: [0, 1, 2, 3, 4, 5],
+        result: 0,
+        saved: 0x0FFF_0000,
+    }
+}
+
+/// The latency of an operation, in cycles: a register that it writes in cycle c can be read from cycle c + latency on.
+pub fn latency(t: &Table, op: Op) -> u32
+    ensures { result ≡ latency_of t.now op }
+{
+    t.lat[op as usize] as u32
+}
+
+/// What an operation needs of a packet.
+pub fn uses(t: &Table, op: Op) -> Needs
+    ensures { slice_get t.now.uses (number_of op) ≡ Some result }
+{
+    t.uses[op as usize]
 }

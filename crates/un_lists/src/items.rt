@@ -1,6 +1,6 @@
 //! A list of any length.
 
-ghost use Rattle.std.specs.Prelude.{◌≡◌, ℕ, ◌+◌, ◌<◌, ◌≤◌, ◌++◌, List, [], ◌∷◌, length, IfOk, OnOk, OnErr, slice_get, Some};
+ghost use Rattle.std.specs.Prelude.{◌≡◌, ℕ, ◌+◌, ◌<◌, ◌≤◌, ◌++◌, List, [], ◌∷◌, length, IfOk, OnOk, OnErr, slice_get, slice_set, Some};
 
 use std::alloc::{AllocError, Global};
 use std::marker::Model;
@@ -61,6 +61,16 @@ impl<T> Items<T> {
         ensures { slice_get self.now i ≡ Some result.now }
     {
         &self.items[i]
+    }
+
+    /// Another item at place `i`, from 0.
+    pub fn set(&mut self, i: usize, item: T)
+    where
+        T: Drop,
+        requires { i < length self.old }
+        ensures { self.new ≡ slice_set self.old i item }
+    {
+        self.items[i] = item;
     }
 
     /// One item more at the end.
