@@ -2,4 +2,5 @@ pub mod Answered
 pub mod FaultLaws
 pub mod Firsts
 pub mod Parts
+pub mod PlainLines
 pub mod WordLaws
