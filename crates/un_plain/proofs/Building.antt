@@ -48,7 +48,7 @@ refused_by_assign names names' count line dst right o spelled none (no_name not 
 }
 refused_by_assign names names' count line dst right o spelled none (no_room new full same) e = record {
   no_operation = λ dst' right' name valid room few f.
-    let room' : length names < PLAIN_NAMES = room (subst (IsNew names) (same_dst names names dst dst' right right' none name (sym spelled ∙ f)) new) in omega arith;
+      let room' : length names < PLAIN_NAMES = room (subst (IsNew names) (same_dst names names dst dst' right right' none name (sym spelled ∙ f)) new) in omega arith;
   no_return = λ v below f. operation_no_return names names dst right v (sym spelled ∙ f);
 }
 
@@ -135,7 +135,7 @@ op_line_spelled all names i (Addition a b) x here alike general valid =
     let y' : slice_get all a.0 ≡ Some (y.name, General) = alike a.0 valid.0 ∙ y.here in
     let z' : slice_get all b.0 ≡ Some (z.name, General) = alike b.0 valid.1 ∙ z.here in
     rw (here, y', z', y.here, z.here) (ap (λ (bs : List ℕ). 32 ∷ 32 ∷ 37 ∷ bs) (append_assoc x (codes " = ") (codes "add %" ++ ((y.name ++ codes ", ") ++ (37 ∷ z.name)))
-      ∙ ap (λ (bs : List ℕ). x ++ (codes " = add %" ++ bs)) (append_assoc y.name (codes ", ") (37 ∷ z.name))))
+    ∙ ap (λ (bs : List ℕ). x ++ (codes " = add %" ++ bs)) (append_assoc y.name (codes ", ") (37 ∷ z.name))))
 
 -- a plain operation as it is spelled
 pub record Spelled (all names : Names) (o : SrcOp) : Type 0 where

@@ -104,7 +104,7 @@ begins_with text names ops v ps plain e =
       v = v;
       plain = plain;
       same = ap (take (length ops)) e ∙ take_at front ps (length ops) long
-        ∙ sym (ap (take (length ops)) (map-append ended (map (op_line names) ops) (return_text names v ∷ [])) ∙ take_at front (ended (return_text names v) ∷ []) (length ops) long);
+          ∙ sym (ap (take (length ops)) (map-append ended (map (op_line names) ops) (return_text names v ∷ [])) ∙ take_at front (ended (return_text names v) ∷ []) (length ops) long);
     }
 
 pub going_on : (text : List ℕ) (names : Names) (ops : List SrcOp) (rest line after : List ℕ) (names' : Names) (ops' : List SrcOp) → Going text names ops rest
@@ -117,8 +117,8 @@ going_on text names ops rest line after names' ops' g split none t = record {
   few_ops = few_ops;
   plain = plain;
   good = begins_with text names' ops' (record { 0 = 0 }) (pieces_of after)
-    (record { general = w.general; few_names = w.few; distinct = w.distinct; few_ops = few_ops; plain = plain; was_assigned = some })
-    (sound [] ∙ ap (λ (ns : Names). map ended (map (op_line ns) ops') ++ pieces_of after) (append-nil names'));
+      (record { general = w.general; few_names = w.few; distinct = w.distinct; few_ops = few_ops; plain = plain; was_assigned = some })
+      (sound [] ∙ ap (λ (ns : Names). map ended (map (op_line ns) ops') ++ pieces_of after) (append-nil names'));
   each = each;
 }
   where
@@ -142,14 +142,14 @@ going_on text names ops rest line after names' ops' g split none t = record {
 
     plain : ArePlainOps 0 ops' (length names')
     plain = rw t.appended (plain_ops-push 0 ops o (length names) (length names') g.plain (is_plain_op (length names) t.i t.right w.at_most t.valid)
-      (operation_of-dst (length names) t.i t.right ∙ w.count))
+        (operation_of-dst (length names) t.i t.right ∙ w.count))
 
     spelled : (more : Names) → op_line (names' ++ more) o ≡ line
     spelled more =
         let whole : names' ++ more ≡ names ++ (w.tail ++ more) = ap (λ (ns : Names). ns ++ more) w.longer ∙ append_assoc names w.tail more in
         let below = slice_get-front names' more t.i (let count = w.count in omega arith) in
         op_line_spelled (names' ++ more) names t.i t.right t.dst (below ∙ w.here)
-          (λ k h. ap (λ (ns : Names). slice_get ns k) whole ∙ slice_get-front names (w.tail ++ more) k h) g.general t.valid ∙ sym t.spelled
+        (λ k h. ap (λ (ns : Names). slice_get ns k) whole ∙ slice_get-front names (w.tail ++ more) k h) g.general t.valid ∙ sym t.spelled
 
     sound : (more : Names) → pieces_of text ≡ map ended (map (op_line (names' ++ more)) ops') ++ pieces_of after
     sound more =
@@ -157,10 +157,10 @@ going_on text names ops rest line after names' ops' g split none t = record {
         let f : SrcOp → List ℕ = op_line (names' ++ more) in
         let so_far : pieces_of text ≡ map ended (map f ops) ++ pieces_of rest = rw (← whole) at (g.sound (w.tail ++ more)) in
         let last : map ended (map f ops') ≡ map ended (map f ops) ++ ended line ∷ [] =
-          ap (λ (os : List SrcOp). map ended (map f os)) t.appended ∙ ap (map ended) (map_push f ops o) ∙ map_push ended (map f ops) (f o)
-            ∙ ap (λ (l : List ℕ). map ended (map f ops) ++ ended l ∷ []) (spelled more) in
+        ap (λ (os : List SrcOp). map ended (map f os)) t.appended ∙ ap (map ended) (map_push f ops o) ∙ map_push ended (map f ops) (f o)
+        ∙ ap (λ (l : List ℕ). map ended (map f ops) ++ ended l ∷ []) (spelled more) in
         so_far ∙ ap (λ (ps : List (List ℕ)). map ended (map f ops) ++ ps) piece ∙ sym (append_assoc (map ended (map f ops)) (ended line ∷ []) (pieces_of after))
-          ∙ ap (λ (ps : List (List ℕ)). ps ++ pieces_of after) (sym last)
+        ∙ ap (λ (ps : List (List ℕ)). ps ++ pieces_of after) (sym last)
 
     left : (all : Names) (v : NameId) (j : ℕ) → All IsGeneralName all → AllPairs (λ a b. a.0 ≢ b.0) all → (more : List SrcOp) → names ≡ take (length names) all
         → ArePlainOps (length names) more (length all) → length ops + length more ≤ OPS
@@ -217,11 +217,11 @@ refused text names ops rest line after g split none r b = by l.more l.front l.pl
         let this : line ≡ op_line b.names o = same_line line (op_line b.names o) (cc) in
         let inside : (k : ℕ) → k < length names → slice_get names k ≡ slice_get b.names k = λ k h. ap (λ (ns : Names). slice_get ns k) front ∙ slice_get-take (length names) b.names k h in
         let room : IsNew names s.name → length names < PLAIN_NAMES =
-          λ new.
-            let not_before : s.dst < length names → ⊥ = λ h. new_not_there names s.dst s.name General new (inside s.dst h ∙ s.here) in
-            let few_names = b.plain.few_names in
-            let count = s.count in
-            omega arith in
+        λ new.
+        let not_before : s.dst < length names → ⊥ = λ h. new_not_there names s.dst s.name General new (inside s.dst h ∙ s.here) in
+        let few_names = b.plain.few_names in
+        let count = s.count in
+        omega arith in
         r.no_operation s.name s.right s.is s.valid room (omega arith) (this ∙ s.line)
 
 -- no line of a text has no line feed
@@ -257,8 +257,8 @@ with_return text names ops rest line after v g split none spelled =
     let piece = first_piece rest line after split none in
     let so_far : pieces_of text ≡ map ended (map f ops) ++ pieces_of rest = g.sound [] ∙ ap (λ (ns : Names). map ended (map (op_line ns) ops) ++ pieces_of rest) (append-nil names) in
     so_far ∙ ap (λ (ps : List (List ℕ)). map ended (map f ops) ++ ps) piece ∙ ap (λ (l : List ℕ). map ended (map f ops) ++ (ended l ∷ pieces_of after)) spelled
-      ∙ sym (append_assoc (map ended (map f ops)) (ended (return_text names v) ∷ []) (pieces_of after))
-      ∙ ap (λ (ps : List (List ℕ)). ps ++ pieces_of after) (sym (map-append ended (map f ops) (return_text names v ∷ [])))
+    ∙ sym (append_assoc (map ended (map f ops)) (ended (return_text names v) ∷ []) (pieces_of after))
+    ∙ ap (λ (ps : List (List ℕ)). ps ++ pieces_of after) (sym (map-append ended (map f ops) (return_text names v ∷ [])))
 
 pub begins_return : (text : List ℕ) (names : Names) (ops : List SrcOp) (rest line after : List ℕ) (v : NameId) → Going text names ops rest → rest ≡ line ++ 10 ∷ after → HasNone 10 line
     → line ≡ return_text names v → v.0 < length names → BodyBegins text (length ops + 1)
@@ -271,7 +271,7 @@ begins_return text names ops rest line after v g split none spelled below =
       v = v;
       plain = is_body names ops v text rest g below;
       same = ap (take (length ops + 1)) (with_return text names ops rest line after v g split none spelled) ∙ take_at lines (pieces_of after) (length ops + 1) long
-        ∙ sym (take_all (length ops + 1) lines (omega arith));
+          ∙ sym (take_all (length ops + 1) lines (omega arith));
     }
 
 -- nothing follows the return
@@ -308,9 +308,10 @@ bad_here text k n error is same good bad = subst (IsBodyFault text) (sym is) (re
 
 pub body_of : (text : List ℕ) (names : Names) (ops : List SrcOp) (rest line after : List ℕ) (v : NameId) → Going text names ops rest → rest ≡ line ++ 10 ∷ after → HasNone 10 line
     → line ≡ return_text names v → v.0 < length names → after ≡ [] → IsPlainBody names ops v × (pieces_of text ≡ map ended (body_lines names ops v))
-body_of text names ops rest line after v g split none spelled below last =
-    (is_body names ops v text rest g below,
-      with_return text names ops rest line after v g split none spelled ∙ ap (λ (bs : List ℕ). map ended (body_lines names ops v) ++ pieces_of bs) last ∙ append-nil (map ended (body_lines names ops v)))
+body_of text names ops rest line after v g split none spelled below last = (
+  is_body names ops v text rest g below,
+  with_return text names ops rest line after v g split none spelled ∙ ap (λ (bs : List ℕ). map ended (body_lines names ops v) ++ pieces_of bs) last ∙ append-nil (map ended (body_lines names ops v)),
+)
 
 -- ---- a line that is expected
 

@@ -104,11 +104,11 @@ entry_at [] i general below = absurd (omega arith)
 entry_at (n ∷ names) zero general below = let g = general 0 n (omega arith) in record { name = n.0; is = g.spelled; here = ap Some (pair_of n n.0 General refl g.general) }
 entry_at (n ∷ names) (suc i) general below = let e = entry_at names i (λ k d h. general (suc k) d (omega arith)) (omega arith) in record { name = e.name; is = e.is; here = e.here }
 
-and_right : (a b : Bool) → (a && b) ≡ true → b ≡ true
+pub and_right : (a b : Bool) → (a && b) ≡ true → b ≡ true
 and_right true b e = e
 and_right false b e = absurd (cc e)
 
-and_left : (a b : Bool) → (a && b) ≡ true → a ≡ true
+pub and_left : (a b : Bool) → (a && b) ≡ true → a ≡ true
 and_left true b e = refl
 and_left false b e = absurd (cc e)
 

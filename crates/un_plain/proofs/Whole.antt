@@ -77,8 +77,8 @@ built f p = record {
   head = record { named = p.name; labelled = p.plain.label; low = p.plain.freq.0; high = p.plain.freq.1 };
   body = record { general = p.names; few_names = p.few_names; distinct = p.distinct; few_ops = p.plain.few_ops; plain = p.plain.ops; was_assigned = p.plain.was_assigned };
   same = ap (λ (ps : List NameId). let g : Function = record { name = f.name; params = ps; names = f.names; blocks = f.blocks } in g) p.params
-    ∙ ap (λ (bs : List Block). let g : Function = record { name = f.name; params = []; names = f.names; blocks = bs } in g) p.blocks
-    ∙ ap (λ (t : Term). let g : Function = record { name = f.name; params = []; names = f.names; blocks = record p.block { term = t } ∷ [] } in g) p.plain.term;
+      ∙ ap (λ (bs : List Block). let g : Function = record { name = f.name; params = []; names = f.names; blocks = bs } in g) p.blocks
+      ∙ ap (λ (t : Term). let g : Function = record { name = f.name; params = []; names = f.names; blocks = record p.block { term = t } ∷ [] } in g) p.plain.term;
 }
 
 pub lines_of_plain : (f : Function) (b : Built f) → function_lines f ≡ func_text f.name ∷ block_text b.label b.freq ∷ body_lines f.names b.ops b.v
@@ -96,16 +96,20 @@ begins_well_none text =
 
 pub begins_well_func : (text : List ℕ) (name : List ℕ) (rest : List ℕ) → is_name name ≡ true → pieces_of text ≡ ended (func_text name) ∷ pieces_of rest → BeginsWell text 1
 begins_well_func text name rest named first =
-    let b = begins_none [] in
-    (function_of name (97 ∷ []) 1 b.names b.ops b.v, plain_function name (97 ∷ []) 1 b.names b.ops b.v (a_head name named) b.plain,
-      ap (take 1) first ∙ sym (ap (λ (ls : List (List ℕ)). take 1 (map ended ls)) (lines_of_function name (97 ∷ []) 1 b.names b.ops b.v)))
+    let b = begins_none [] in (
+      function_of name (97 ∷ []) 1 b.names b.ops b.v,
+      plain_function name (97 ∷ []) 1 b.names b.ops b.v (a_head name named) b.plain,
+      ap (take 1) first ∙ sym (ap (λ (ls : List (List ℕ)). take 1 (map ended ls)) (lines_of_function name (97 ∷ []) 1 b.names b.ops b.v)),
+    )
 
 pub begins_well_body : (text name label : List ℕ) (freq : ℕ) (rest : List ℕ) (k : ℕ) → Head name label freq
     → pieces_of text ≡ ended (func_text name) ∷ ended (block_text label freq) ∷ pieces_of rest → BodyBegins rest k → BeginsWell text (suc (suc k))
-begins_well_body text name label freq rest k head first b =
-    (function_of name label freq b.names b.ops b.v, plain_function name label freq b.names b.ops b.v head b.plain,
-      ap (take (suc (suc k))) first ∙ ap (λ (ps : List (List ℕ)). ended (func_text name) ∷ ended (block_text label freq) ∷ ps) b.same
-      ∙ sym (ap (λ (ls : List (List ℕ)). take (suc (suc k)) (map ended ls)) (lines_of_function name label freq b.names b.ops b.v)))
+begins_well_body text name label freq rest k head first b = (
+  function_of name label freq b.names b.ops b.v,
+  plain_function name label freq b.names b.ops b.v head b.plain,
+  ap (take (suc (suc k))) first ∙ ap (λ (ps : List (List ℕ)). ended (func_text name) ∷ ended (block_text label freq) ∷ ps) b.same
+      ∙ sym (ap (λ (ls : List (List ℕ)). take (suc (suc k)) (map ended ls)) (lines_of_function name label freq b.names b.ops b.v)),
+)
 
 pub body_begins : (text name label : List ℕ) (freq : ℕ) (rest : List ℕ) (k : ℕ)
     → pieces_of text ≡ ended (func_text name) ∷ ended (block_text label freq) ∷ pieces_of rest → BeginsWell text (suc (suc k)) → BodyBegins rest k
@@ -113,8 +117,8 @@ body_begins text name label freq rest k first w =
     let f = w.0 in
     let b = built f w.1 in
     let same : ended (func_text name) ∷ ended (block_text label freq) ∷ take k (pieces_of rest)
-          ≡ ended (func_text f.name) ∷ ended (block_text b.label b.freq) ∷ take k (map ended (body_lines f.names b.ops b.v)) =
-      sym (ap (take (suc (suc k))) first) ∙ w.2 ∙ ap (λ (ls : List (List ℕ)). take (suc (suc k)) (map ended ls)) (lines_of_plain f b) in
+    ≡ ended (func_text f.name) ∷ ended (block_text b.label b.freq) ∷ take k (map ended (body_lines f.names b.ops b.v)) =
+    sym (ap (take (suc (suc k))) first) ∙ w.2 ∙ ap (λ (ls : List (List ℕ)). take (suc (suc k)) (map ended ls)) (lines_of_plain f b) in
     record { names = f.names; ops = b.ops; v = b.v; plain = b.body; same = ap (drop 2) same }
 
 -- ---- faults
@@ -134,10 +138,10 @@ bad_second text name rest within named first none = not_built 2 within (record {
   next = refl;
   good = begins_well_func text name rest named first;
   bad = λ w.
-    let b = built w.0 w.1 in
-    let same : ended (func_text name) ∷ take 1 (pieces_of rest) ≡ ended (func_text w.0.name) ∷ ended (block_text b.label b.freq) ∷ [] =
+      let b = built w.0 w.1 in
+      let same : ended (func_text name) ∷ take 1 (pieces_of rest) ≡ ended (func_text w.0.name) ∷ ended (block_text b.label b.freq) ∷ [] =
       sym (ap (take 2) first) ∙ w.2 ∙ ap (λ (ls : List (List ℕ)). take 2 (map ended ls)) (lines_of_plain w.0 b) in
-    none b.label b.freq b.head.labelled b.head.low b.head.high (ap (drop 1) same);
+      none b.label b.freq b.head.labelled b.head.low b.head.high (ap (drop 1) same);
 })
 
 pub bad_body : (text name label : List ℕ) (freq : ℕ) (rest : List ℕ) (error : PlainError) → length text ≤ TEXT → Head name label freq
@@ -166,7 +170,7 @@ pub text_of_function : (text name label : List ℕ) (freq : ℕ) (rest : List �
 text_of_function text name label freq rest names ops v within head first body pieces = record {
   plain = plain_function name label freq names ops v head body;
   spelled = sym (concat-pieces_of text) ∙ ap concat (first ∙ ap (λ (ps : List (List ℕ)). ended (func_text name) ∷ ended (block_text label freq) ∷ ps) pieces
-    ∙ sym (ap (map ended) (lines_of_function name label freq names ops v))) ∙ concat-map ended (function_lines (function_of name label freq names ops v));
+      ∙ sym (ap (map ended) (lines_of_function name label freq names ops v))) ∙ concat-map ended (function_lines (function_of name label freq names ops v));
   within = within;
 }
 

@@ -5,6 +5,10 @@ ghost use Rattle.un_plain.specs.Body.{IsStep, IsBodyOf, IsBodyFault};
 ghost use Rattle.un_plain.specs.BodyText.{operation_of};
 ghost use Rattle.un_plain.specs.Plain.{IsGeneralName};
 
+use crate::body_line::{BodyLine, Right, read_line};
+use crate::error::PlainError;
+use crate::names::assign;
+use crate::parts::split;
 use smallvec::SmallVec;
 use std::alloc::{AllocError, Global};
 use un_base::ids::NameId;
@@ -12,11 +16,6 @@ use un_base::name::Name;
 use un_ir::function::{Kind, OPS, SrcOp};
 use un_isa::op::Op;
 use un_lists::few::Few;
-
-use crate::body_line::{BodyLine, Right, read_line};
-use crate::error::PlainError;
-use crate::names::assign;
-use crate::parts::split;
 
 /// The code of a text that is no plain function's.
 pub const NOT_BUILT: u8 = 15;
@@ -62,7 +61,12 @@ fn operation(alloc: Global, dst: usize, right: Right) -> Result<SrcOp, AllocErro
 }
 
 /// Appends the operation that the line spells, with its name where that is new.
-fn take_line(alloc: Global, names: &mut Vec<(Name, Kind)>, ops: &mut Vec<SrcOp>, line: &[u8]) -> Result<Step, AllocError>
+fn take_line(
+    alloc: Global,
+    names: &mut Vec<(Name, Kind)>,
+    ops: &mut Vec<SrcOp>,
+    line: &[u8],
+) -> Result<Step, AllocError>
     requires general { All IsGeneralName names.old.items }
     requires few { length names.old.items ≤ 12 }
     ensures { IfOk result (IsStep names.old.items ops.old.items names.new.items ops.new.items line.now) }

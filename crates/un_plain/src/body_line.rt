@@ -8,13 +8,12 @@ ghost use Rattle.un_plain.specs.Plain.{IsGeneralName};
 ghost use Rattle.un_plain.specs.declared.body_line.Right.{Right};
 ghost use Rattle.un_plain.specs.BodyText.{IsRight, right_text, IsRead, CannotRead};
 
-use un_base::ids::NameId;
-use un_base::name::Name;
-use un_ir::function::Kind;
-
 use crate::names::find;
 use crate::numbers::read_literal;
 use crate::parts::{split, strip};
+use un_base::ids::NameId;
+use un_base::name::Name;
+use un_ir::function::Kind;
 
 /// What an operation assigns: a constant, or the sum of two names.
 #[derive(Clone, Copy, Debug)]

@@ -6,11 +6,10 @@ ghost use Rattle.un_base.specs.Names.{is_name};
 ghost use Rattle.un_ir.specs.Text.{ended};
 ghost use Rattle.un_plain.specs.Reader.{func_text, block_text};
 
-use un_base::name::Name;
-use un_ir::function::FREQUENCY;
-
 use crate::numbers::read_frequency;
 use crate::parts::{split, strip};
+use un_base::name::Name;
+use un_ir::function::FREQUENCY;
 
 /// The first line: the name of the function, and the text after the line.
 #[derive(Clone, Copy, Debug)]

@@ -10,3 +10,5 @@ mod names;
 mod numbers;
 mod parts;
 pub mod reader;
+#[cfg(test)]
+mod tests;

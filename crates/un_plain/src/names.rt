@@ -5,11 +5,10 @@ ghost use Rattle.un_ir.specs.declared.function.Kind.TheVariants.{General};
 ghost use Rattle.un_plain.specs.Plain.{IsGeneralName};
 ghost use Rattle.un_plain.specs.Names.{IsNew, IsAssigned};
 
+use crate::limits::PLAIN_NAMES;
 use std::alloc::AllocError;
 use un_base::name::Name;
 use un_ir::function::Kind;
-
-use crate::limits::PLAIN_NAMES;
 
 /// The number of the name with these bytes.
 pub fn find(names: &[(Name, Kind)], bytes: &[u8]) -> Option<usize>

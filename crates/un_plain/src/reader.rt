@@ -4,21 +4,26 @@ ghost use Rattle.std.specs.Prelude.{◌≡◌, ◌∷◌, [], IfOk, IfErr};
 ghost use Rattle.un_plain.specs.Faults.{IsTextOf};
 ghost use Rattle.un_plain.specs.Reader.{IsFaultOf, function_of};
 
+use crate::body::{Body, NOT_BUILT, read_body};
+use crate::error::PlainError;
+use crate::head::{read_block, read_func};
+use crate::limits::TEXT;
 use std::alloc::{AllocError, Global};
 use un_base::name::Name;
 use un_ir::function::{Block, Function, Term};
 use un_lists::items::Items;
 
-use crate::body::{Body, NOT_BUILT, read_body};
-use crate::error::PlainError;
-use crate::head::{read_block, read_func};
-use crate::limits::TEXT;
-
 /// The code of a text past the limit.
 const TOO_MANY: u8 = 13;
 
 /// The function of one block with these parts.
-fn function(alloc: Global, name: Name, label: Name, freq: u32, body: Body) -> Result<Function, AllocError>
+fn function(
+    alloc: Global,
+    name: Name,
+    label: Name,
+    freq: u32,
+    body: Body,
+) -> Result<Function, AllocError>
     ensures { IfOk result (λ f. f ≡ function_of name label freq body.names.items body.ops.items body.returned) }
 {
     let mut blocks = Items::new(alloc);

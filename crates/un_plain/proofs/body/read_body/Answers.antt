@@ -34,7 +34,7 @@ returns-in-Returned-2-clause-fault c =
     bad_here c.args.text.now (length c.loop-line.ops.items + 1) (c.len-in-Returned-2.result + 1) c.bad_line-in-Returned-2.result c.bad_line-in-Returned-2.ensures (omega arith)
     (begins_return c.args.text.now c.loop-line.names.items c.loop-line.ops.items c.loop-line.rest.now c.in-Some.line.now c.in-Some.after.now c.in-Returned-2.field-0 c.loop-line.invariant c.in-Some.ensures.some.0 c.in-Some.ensures.some.1 step.2 step.3)
     (past_return c.args.text.now c.loop-line.names.items c.loop-line.ops.items c.loop-line.rest.now c.in-Some.line.now c.in-Some.after.now c.in-Returned-2.field-0 c.loop-line.invariant c.in-Some.ensures.some.0 c.in-Some.ensures.some.1 step.2
-      (λ none. eqb-false _ _ (sym c.is_empty.ensures ∙ c.if-is_empty.false) (ap length none)))
+    (λ none. eqb-false _ _ (sym c.is_empty.ensures ∙ c.if-is_empty.false) (ap length none)))
 
 pub loop-line-preserved : goal.loop-line-preserved
 loop-line-preserved c =

@@ -15,11 +15,13 @@ returns-in_err-line-clause-none c =
 pub returns-in_err-name-clause-none : goal.returns-in_err-name-clause-none
 returns-in_err-name-clause-none c =
     let none : (name : List ℕ) → is_name name ≡ true → take 1 (pieces_of c.args.text.now) ≢ ended (func_text name) ∷ [] = λ name is.
-      other_line c.args.text.now c.in_ok-line.line.now c.in_ok-line.rest.now (func_text name) c.in_ok-line.ensures.some.0 c.in_ok-line.ensures.some.1 (c.in_err-name.ensures.none name is) in
+    other_line c.args.text.now c.in_ok-line.line.now c.in_ok-line.rest.now (func_text name) c.in_ok-line.ensures.some.0 c.in_ok-line.ensures.some.1 (c.in_err-name.ensures.none name is) in
     if_none _ none
 
 pub returns-clause-some : goal.returns-clause-some
 returns-clause-some c =
-    let p = c.in_ok-name.ensures.some in
-    (p.0, first_piece c.args.text.now c.in_ok-line.line.now c.in_ok-line.rest.now c.in_ok-line.ensures.some.0 c.in_ok-line.ensures.some.1
-      ∙ ap (λ (l : List ℕ). ended l ∷ pieces_of c.in_ok-line.rest.now) p.1)
+    let p = c.in_ok-name.ensures.some in (
+      p.0,
+      first_piece c.args.text.now c.in_ok-line.line.now c.in_ok-line.rest.now c.in_ok-line.ensures.some.0 c.in_ok-line.ensures.some.1
+          ∙ ap (λ (l : List ℕ). ended l ∷ pieces_of c.in_ok-line.rest.now) p.1,
+    )
