@@ -10,9 +10,10 @@ use Rattle.un_base.specs.declared.status.Status.{Status}
 use Rattle.un_base.specs.declared.status.Status.TheVariants.{Done, Infeasible, Spent, TextFault, Usage, ReadFault, WriteFault, NoMemory, No, BadReport}
 use Rattle.un_plain.specs.Faults.{IsFault, IsTextOf, too_long}
 use Rattle.un_top.specs.Reports.{IsReportOf}
+use Rattle.un_plain.proofs.Exclusive.{text_has_no_fault}
 use Rattle.un_top.specs.Words.{IsBadWord}
 use Rattle.un_top.specs.Runs.{AnswersFault, IsRefusal}
-use Rattle.un_top.proofs.FaultLaws.{fault_unique, text_is_good}
+use Rattle.un_top.proofs.FaultLaws.{fault_unique}
 
 -- a text that is too long has its fault
 pub too_long_fault : (told : Option (List ℕ)) (line code : ℕ) → 0 ≡ line → 13 ≡ code
@@ -49,6 +50,6 @@ pub answers_fault : (told : Option (List ℕ)) (outcome : Result (Vec ℕ Global
     → IfOk outcome (λ out. IfSome told (λ (text : List ℕ). IsReportOf text out.items))
     → IfSome told (λ (text : List ℕ). (line code : ℕ) → IsFault text line code → AnswersFault status line code)
 answers_fault None outcome status r e f o = tt
-answers_fault (Some text) (Ok out) status r e f o = λ line code h. absurd (text_is_good text o.function line code o.spelled h)
+answers_fault (Some text) (Ok out) status r e f o = λ line code h. absurd (text_has_no_fault text o.function line code o.spelled h)
 answers_fault (Some text) (Err s) status r e f o = λ line code h.
     subst (λ (t : Status). AnswersFault t line code) (sym e) (refused_fault text line code s r (λ l c k. f l c (ap Err k)) h)

@@ -3,8 +3,7 @@ use Rattle.std.proofs.Common.{ℕ, ◌≡◌, ◌+◌, ◌≤◌, ◌<◌, List,
 use Rattle.un_base.specs.Lines.{pieces_of}
 use Rattle.un_ir.specs.declared.function.Function.{Function}
 use Rattle.un_ir.specs.Text.{function_lines, ended}
-use Rattle.un_plain.specs.Faults.{BeginsWell, IsTextOf, IsFirstBadLine, IsFault, too_long, not_built, TOO_MANY, NOT_BUILT}
-use Rattle.un_top.proofs.PlainLines.{plain_pieces}
+use Rattle.un_plain.specs.Faults.{BeginsWell, IsFirstBadLine, IsFault, too_long, not_built, TOO_MANY, NOT_BUILT}
 use Rattle.un_top.proofs.Firsts.{begin_alike, first_unique}
 
 begins_less : (text : List ℕ) (j k : ℕ) → j ≤ k → BeginsWell text k → BeginsWell text j
@@ -23,9 +22,3 @@ fault_unique text l c line code (too_long h) (too_long k) = (refl, refl)
 fault_unique text l c line code (too_long h) (not_built line' within k) = absurd (omega arith)
 fault_unique text l c line code (not_built l' within h) (too_long k) = absurd (omega arith)
 fault_unique text l c line code (not_built l' within h) (not_built line' within' k) = (bad_line_unique text l' line' h k, refl)
-
--- the text of a function has no fault
-pub text_is_good : (text : List ℕ) (f : Function) (line code : ℕ) → IsTextOf text f → IsFault text line code → ⊥
-text_is_good text f line code h (too_long long) = let within = h.within in absurd (omega arith)
-text_is_good text f line code h (not_built line' within bad) =
-    bad.bad (f, h.plain, ap (λ (ps : List (List ℕ)). take line' ps) (ap pieces_of h.spelled ∙ plain_pieces f h.plain))

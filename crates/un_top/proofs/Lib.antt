@@ -2,5 +2,4 @@ pub mod Answered
 pub mod FaultLaws
 pub mod Firsts
 pub mod Parts
-pub mod PlainLines
 pub mod WordLaws
