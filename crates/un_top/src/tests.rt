@@ -4,7 +4,6 @@ use crate::run::run;
 use std::alloc::Global;
 use std::test::Fail;
 use un_base::memory::{MemSink, MemSource};
-use un_base::memory_error::NoMemory;
 use un_base::status::Status;
 use un_base::words::Word;
 
@@ -42,7 +41,7 @@ const SOUND: Outside = Outside {
     err_fails: None,
 };
 
-fn numbers(alloc: Global, number: Option<u64>) -> Result<Vec<u64>, NoMemory> {
+fn numbers(alloc: Global, number: Option<u64>) -> Result<Vec<u64>, Fail> {
     let mut all = Vec::new(alloc);
     if let Some(number) = number {
         all.push(number)?;
@@ -50,7 +49,7 @@ fn numbers(alloc: Global, number: Option<u64>) -> Result<Vec<u64>, NoMemory> {
     Ok(all)
 }
 
-fn words_of(alloc: Global, texts: &[&str]) -> Result<Vec<Word>, NoMemory> {
+fn words_of(alloc: Global, texts: &[&str]) -> Result<Vec<Word>, Fail> {
     let mut words = Vec::new(alloc);
     for text in texts {
         words.push(Word::new(alloc, text)?)?;
@@ -58,7 +57,7 @@ fn words_of(alloc: Global, texts: &[&str]) -> Result<Vec<Word>, NoMemory> {
     Ok(words)
 }
 
-fn run_in(alloc: Global, words: &[&str], text: &[u8], outside: Outside) -> Result<Left, NoMemory> {
+fn run_in(alloc: Global, words: &[&str], text: &[u8], outside: Outside) -> Result<Left, Fail> {
     let words = words_of(alloc, words)?;
     let piece = outside.piece.max(1);
     let reads = numbers(alloc, outside.read_fails)?;
@@ -73,12 +72,12 @@ fn run_in(alloc: Global, words: &[&str], text: &[u8], outside: Outside) -> Resul
     Ok(Left { status, out, err })
 }
 
-fn alloc_of(alloc: Global, text: &[u8]) -> Result<Left, NoMemory> {
+fn alloc_of(alloc: Global, text: &[u8]) -> Result<Left, Fail> {
     run_in(alloc, &["alloc"], text, SOUND)
 }
 
 /// A text with so many operations and names.
-fn long_text(alloc: Global, names: &[u8], ops: usize) -> Result<Vec<u8>, NoMemory> {
+fn long_text(alloc: Global, names: &[u8], ops: usize) -> Result<Vec<u8>, Fail> {
     let mut text = b"func f\nblock e freq 1\n".to_vec(alloc)?;
     for name in names {
         text.extend_from_slice(b"  %")?;
