@@ -2,3 +2,6 @@
 #![tactic(auto)]
 
 pub mod code;
+pub mod effects;
+pub mod machine;
+pub mod state;
