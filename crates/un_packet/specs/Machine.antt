@@ -27,6 +27,12 @@ GoesOn (Went s) new = new ≡ s
 GoesOn (Jumped label s) new = ⊥
 GoesOn (Stopped stop s) new = ⊥
 
+-- where a packet goes on, this holds
+abbrev pub WhereItGoesOn : PacketStep → Type 0 → Type 0
+WhereItGoesOn (Went s) fact = fact
+WhereItGoesOn (Jumped label s) fact = Unit {0}
+WhereItGoesOn (Stopped stop s) fact = Unit {0}
+
 -- packets of block b lead to the block with the number `to`: to the next one behind the last packet, or to a label's
 abbrev pub LeadsTo : List CodeBlock → ℕ → PacketStep → ℕ → PacketState → Type 0
 LeadsTo blocks b (Went s) to new = (to ≡ b + 1) × (new ≡ s)

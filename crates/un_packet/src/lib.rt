@@ -4,4 +4,5 @@
 pub mod code;
 pub mod effects;
 pub mod machine;
+pub mod run;
 pub mod state;

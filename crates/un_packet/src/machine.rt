@@ -1,6 +1,6 @@
 //! The machine: it runs code packet by packet.
 
-ghost use Rattle.std.specs.Prelude.{◌≡◌, ◌<◌, ◌≤◌, ◌+◌, ◌-◌, ◌^◌, IfOk};
+ghost use Rattle.std.specs.Prelude.{◌≡◌, ◌<◌, ◌≤◌, ◌+◌, ◌-◌, ◌^◌, Some, IfOk};
 ghost use Rattle.un_isa.specs.Fit.{IsFit};
 ghost use Rattle.un_packet.specs.Straight.{IsStraight};
 ghost use Rattle.un_packet.specs.Machine.{moved, first_machine, IsInCode};
@@ -11,7 +11,7 @@ use std::alloc::Global;
 use std::marker::Model;
 use un_base::ids::BlockId;
 use un_base::memory_error::NoMemory;
-use un_isa::outcome::End;
+use un_isa::outcome::{End, Outcome};
 use un_isa::start::Start;
 use un_isa::table::Table;
 
@@ -103,5 +103,12 @@ impl Machine {
             return Stepped::Went;
         }
         self.leave(self.block + 1)
+    }
+
+    /// The outcome of a run that ended so.
+    pub(crate) fn outcome(self, end: End) -> Outcome
+        ensures { result ≡ record { end = end; memory = self.state.memory; calls = self.state.calls; cycles = Some self.state.cycle } }
+    {
+        self.state.outcome(end)
     }
 }

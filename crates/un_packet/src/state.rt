@@ -1,12 +1,12 @@
 //! The state of a run: registers, memory, frame, calls, replies, and cycles.
 
-ghost use Rattle.std.specs.Prelude.{◌≡◌, slice_index, slice_set, replicate, IfOk};
+ghost use Rattle.std.specs.Prelude.{◌≡◌, slice_index, slice_set, replicate, Some, IfOk};
 ghost use Rattle.un_packet.specs.Run.{first_state};
 
 use crate::code::Code;
 use un_base::memory_error::NoMemory;
 use un_isa::memory::Memory;
-use un_isa::outcome::CallRecord;
+use un_isa::outcome::{CallRecord, End, Outcome};
 use un_isa::reg::Reg;
 use un_isa::start::{Reply, Start};
 use un_lists::items::Items;
@@ -68,6 +68,20 @@ impl State {
         ensures { result ≡ slice_index self.now.regs r }
     {
         at(&self.regs, r)
+    }
+}
+
+impl State {
+    /// The outcome of a run that ended so in this state.
+    pub(crate) fn outcome(self, end: End) -> Outcome
+        ensures { result ≡ record { end = end; memory = self.memory; calls = self.calls; cycles = Some self.cycle } }
+    {
+        Outcome {
+            end,
+            memory: self.memory,
+            calls: self.calls,
+            cycles: Some(self.cycle),
+        }
     }
 }
 
