@@ -26,7 +26,7 @@ fn latest(ready: &[u64; 36], regs: &[Reg], cycle: u64) -> u64
 }
 
 /// Whether an operation returns.
-fn is_return(op: Op) -> bool
+pub(crate) fn is_return(op: Op) -> bool
     ensures { result ≡ is_return op }
 {
     match op {

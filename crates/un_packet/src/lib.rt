@@ -6,3 +6,6 @@ pub mod effects;
 pub mod machine;
 pub mod run;
 pub mod state;
+pub mod straight;
+#[cfg(test)]
+mod tests;
