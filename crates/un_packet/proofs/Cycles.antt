@@ -1,5 +1,5 @@
 -- The bound of the cycles from which registers can be read.
-use Rattle.std.proofs.Common.{ℕ, zero, suc, ◌≡◌, ◌+◌, ◌≤◌, max, List, [], ◌∷◌, map, set, replicate, slice_index, arith, refl, rules}
+use Rattle.std.proofs.Common.{ℕ, zero, suc, ◌+◌, ◌≤◌, max, List, [], ◌∷◌, map, set, replicate, slice_index, arith}
 use Rattle.std.specs.List.{fold, flat_map}
 use Rattle.un_isa.specs.declared.instr.Instr.{Instr}
 use Rattle.un_isa.specs.declared.table.Table.{Table}

@@ -12,7 +12,7 @@ use Rattle.un_packet.specs.declared.machine.Stepped.TheVariants
 use Rattle.un_packet.specs.Step.{PacketState, PacketStep, Went, Jumped, Stopped, packet_step}
 use Rattle.un_packet.specs.Run.{then_packets, packets_run}
 use Rattle.un_packet.specs.Machine.{MachineState, moved, GoesOn, WhereItGoesOn, LeadsTo, EndsBy}
-use Rattle.un_packet.specs.Outcomes.{IsPacketStep, IsEmptyStep, IsBlockStep, IsStep, IsRunOf, IsBlockRun}
+use Rattle.un_packet.specs.Outcomes.{IsPacketStep, IsEmptyStep, IsBlockStep, IsStep, IsBlockRun}
 
 pub drop_some : {A : Type 0} (xs : List A) (k : ℕ) (x : A) → slice_get xs k ≡ Some x → drop k xs ≡ x ∷ drop (suc k) xs
 drop_some [] k x h = absurd (cc h)

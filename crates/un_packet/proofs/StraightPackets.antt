@@ -1,5 +1,5 @@
 -- Straight packets.
-use Rattle.std.proofs.Common.{ℕ, suc, arith, ◌≡◌, ◌<◌, ◌+◌, length, slice_get, IsSomeAnd, Bool, true, false, ◌||◌, List, [], ◌∷◌, Option, Some, None, find, All, refl, ap, ◌∙◌}
+use Rattle.std.proofs.Common.{ℕ, suc, arith, ◌≡◌, ◌<◌, ◌+◌, length, slice_get, IsSomeAnd, Bool, true, false, List, [], ◌∷◌, Option, Some, None, find, All, refl, ◌∙◌}
 use Rattle.std.specs.List.{list_any}
 use Rattle.std.specs.Option.{option_map}
 use Rattle.un_isa.specs.declared.op.Op.{Op}
@@ -14,7 +14,7 @@ use Rattle.un_packet.specs.declared.machine.Stepped.TheVariants.{Left}
 use Rattle.un_packet.specs.Run.{packets_run}
 use Rattle.un_packet.specs.Machine.{MachineState, LeadsTo}
 use Rattle.un_packet.specs.Outcomes.{IsRunOf, IsBlockRun}
-use Rattle.un_packet.specs.Step.{PacketState, PacketStep, traps, traps_by, jumps, jumps_by, is_call, is_return, memory_by, memory_after, frame_by, frame_after, after, regs_after, ready_after, issue_cycle, packet_step, operand_in, leads}
+use Rattle.un_packet.specs.Step.{PacketState, traps, traps_by, jumps, jumps_by, is_call, is_return, memory_by, memory_after, frame_by, frame_after, after, regs_after, ready_after, issue_cycle, packet_step, operand_in, leads}
 use Rattle.un_packet.specs.Straight.{is_straight, AreStraight, passed, returns_in, IsStraightBlock, IsStraight}
 
 -- what a straight operation does not do
@@ -153,7 +153,7 @@ straight_ends t blocks b (p ∷ []) s all some last to new h =
     step_by t blocks b p [] s (after t (issue_cycle s p.instrs) s p.instrs) (find (λ (i : Instr). is_return i.op) p.instrs) (straight_step t p.instrs s (first_packet p [] all)) refl (λ e. absurd (not_last p last e)) to new h
 straight_ends t blocks b (p ∷ q ∷ ps) s all some last to new h =
     step_by t blocks b p (q ∷ ps) s (after t (issue_cycle s p.instrs) s p.instrs) (find (λ (i : Instr). is_return i.op) p.instrs) (straight_step t p.instrs s (first_packet p (q ∷ ps) all)) refl
-        (λ e. straight_ends t blocks b (q ∷ ps) (after t (issue_cycle s p.instrs) s p.instrs) (rest_packets p (q ∷ ps) all) (omega arith) (rest_last p q ps last)) to new h
+    (λ e. straight_ends t blocks b (q ∷ ps) (after t (issue_cycle s p.instrs) s p.instrs) (rest_packets p (q ∷ ps) all) (omega arith) (rest_last p q ps last)) to new h
 
 never_by : (c : Code) → All IsStraightBlock c.blocks → (old new : MachineState) (to : BlockId) (o : Option CodeBlock) → slice_get c.blocks old.block ≡ o → IsSomeAnd o (λ block. IsRunOf c.blocks old (packets_run old.table block.packets old.state) new (Left to)) → IsSomeAnd o IsStraightBlock → ⊥
 never_by c all old new to None e h straight = absurd h

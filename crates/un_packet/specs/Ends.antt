@@ -1,5 +1,5 @@
 -- How the outcome of a run of packets is told.
-use Rattle.std.specs.Prelude.{ℕ, ◌≡◌, List, [], Some, slice_get, IsSomeAnd}
+use Rattle.std.specs.Prelude.{◌≡◌, List, [], Some, slice_get, IsSomeAnd}
 use Rattle.un_isa.specs.declared.outcome.End.{End}
 use Rattle.un_isa.specs.declared.outcome.End.TheVariants
 use Rattle.un_isa.specs.declared.outcome.Outcome.{Outcome}

@@ -1,12 +1,12 @@
 -- The machine: a state of packets, with the table that it runs by and the place of the next packet.
-use Rattle.std.specs.Prelude.{ℕ, ◌≡◌, ◌+◌, ◌<◌, ◌⊎◌, List, length, Option, Some, None, slice_get, IsSomeAnd}
+use Rattle.std.specs.Prelude.{ℕ, ◌≡◌, ◌+◌, ◌<◌, ◌⊎◌, List, length, slice_get, IsSomeAnd}
 use Rattle.un_isa.specs.declared.table.Table.{Table}
 use Rattle.un_isa.specs.declared.outcome.End.{End}
 use Rattle.un_isa.specs.declared.start.Start.{Start}
 use Rattle.un_packet.specs.declared.code.Packet.{Packet}
 use Rattle.un_packet.specs.declared.code.CodeBlock.{CodeBlock}
 use Rattle.un_packet.specs.declared.code.Code.{Code}
-use Rattle.un_packet.specs.Step.{PacketState, PacketStep, Went, Jumped, Stopped, packet_step}
+use Rattle.un_packet.specs.Step.{PacketState, PacketStep, Went, Jumped, Stopped}
 use Rattle.un_packet.specs.Run.{label_place, first_state}
 use Rattle.un_packet.specs.Ends.{IsEnd}
 

@@ -1,11 +1,10 @@
 -- What a step of the machine answers.
-use Rattle.std.specs.Prelude.{ℕ, ◌≡◌, ◌<◌, ◌+◌, List, length, Option, Some, None, slice_get, IsSomeAnd, MatchOption}
-use Rattle.un_packet.specs.declared.code.Packet.{Packet}
+use Rattle.std.specs.Prelude.{ℕ, ◌≡◌, ◌<◌, ◌+◌, List, length, slice_get, IsSomeAnd, MatchOption}
 use Rattle.un_packet.specs.declared.code.CodeBlock.{CodeBlock}
 use Rattle.un_packet.specs.declared.code.Code.{Code}
 use Rattle.un_packet.specs.declared.machine.Stepped.{Stepped}
 use Rattle.un_packet.specs.declared.machine.Stepped.TheVariants.{Went, Left, Ended}
-use Rattle.un_packet.specs.Step.{PacketState, PacketStep, packet_step}
+use Rattle.un_packet.specs.Step.{PacketStep, packet_step}
 use Rattle.un_packet.specs.Run.{packets_run}
 use Rattle.un_packet.specs.Machine.{MachineState, moved, GoesOn, WhereItGoesOn, LeadsTo, EndsBy}
 
@@ -28,7 +27,7 @@ IsEmptyStep old new answer = (answer ≡ Left (record { 0 = old.block + 1 })) ×
 abbrev pub IsBlockStep : List CodeBlock → CodeBlock → MachineState → MachineState → Stepped → Type 0
 IsBlockStep blocks block old new answer =
     MatchOption (slice_get block.packets old.place) (IsEmptyStep old new answer)
-        (λ packet. IsPacketStep blocks (length block.packets) old (packet_step old.table packet.instrs old.state) new answer)
+    (λ packet. IsPacketStep blocks (length block.packets) old (packet_step old.table packet.instrs old.state) new answer)
 
 -- the step of a machine whose place is in the code
 abbrev pub IsStep : Code → MachineState → MachineState → Stepped → Type 0

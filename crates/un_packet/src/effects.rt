@@ -41,7 +41,11 @@ impl State {
         ensures { result ≡ operand_in self.now i.now k }
     {
         let srcs = i.srcs.as_slice();
-        if k < srcs.len() { at(&self.regs, srcs[k].0) } else { 0 }
+        if k < srcs.len() {
+            at(&self.regs, srcs[k].0)
+        } else {
+            0
+        }
     }
 
     /// The value that an instruction writes to its register.
@@ -49,7 +53,13 @@ impl State {
         requires { is_straight i.now.op ≡ true }
         ensures { result ≡ value_of self.now i.now }
     {
-        value(i.op, self.operand(i, 0), self.operand(i, 1), self.operand(i, 2), i.imm)
+        value(
+            i.op,
+            self.operand(i, 0),
+            self.operand(i, 1),
+            self.operand(i, 2),
+            i.imm,
+        )
     }
 
     /// The register that an instruction writes, with its value.

@@ -83,7 +83,10 @@ impl Machine {
         if self.place >= packets.len() {
             return self.leave(self.block + 1);
         }
-        match self.state.pass(&self.table, packets[self.place].instrs.as_slice()) {
+        match self
+            .state
+            .pass(&self.table, packets[self.place].instrs.as_slice())
+        {
             Some(target) => Stepped::Ended(End::Returned {
                 result: Some(self.state.register(0)),
                 target: Some(target),

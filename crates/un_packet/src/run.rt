@@ -57,7 +57,13 @@ fn run(alloc: Global, machine: &mut Machine, c: &Code, n: u32) -> End
 
 /// Runs code from a start, where at most `n` labels are entered, the first block's among them. Where a further one would be
 /// entered, the outcome is Running with its label.
-pub fn run_packets(alloc: Global, c: &Code, t: &Table, start: &Start, n: u32) -> Result<Outcome, NoMemory>
+pub fn run_packets(
+    alloc: Global,
+    c: &Code,
+    t: &Table,
+    start: &Start,
+    n: u32,
+) -> Result<Outcome, NoMemory>
     requires straight { IsStraight c.now }
     requires fit { IsFit t.now }
     ensures { IfOk result (IsOutcome c.now.blocks (packet_run t.now c.now start.now n)) }

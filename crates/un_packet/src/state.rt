@@ -4,14 +4,14 @@ ghost use Rattle.std.specs.Prelude.{◌≡◌, slice_index, slice_set, replicate
 ghost use Rattle.un_packet.specs.Run.{first_state};
 
 use crate::code::Code;
+use std::alloc::Global;
+use std::marker::Model;
 use un_base::memory_error::NoMemory;
 use un_isa::memory::Memory;
 use un_isa::outcome::{CallRecord, End, Outcome};
 use un_isa::reg::Reg;
 use un_isa::start::{Reply, Start};
 use un_lists::items::Items;
-use std::alloc::Global;
-use std::marker::Model;
 
 /// The number of the stack pointer.
 pub(crate) const STACK: u32 = 29;

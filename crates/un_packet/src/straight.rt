@@ -2,7 +2,6 @@
 
 ghost use Rattle.std.specs.Prelude.{◌≡◌, ◌↔◌, IsTrue, All};
 ghost use Rattle.std.specs.List.{list_any, list_all};
-
 ghost use Rattle.un_packet.specs.Step.{is_return};
 ghost use Rattle.un_packet.specs.Straight.{is_straight, AreStraight, returns_in, IsStraight, IsStraightBlock};
 

@@ -1,7 +1,6 @@
 //! A run of straight code.
 
 use crate::code::{Code, CodeBlock, Packet};
-
 use crate::run::run_packets;
 use crate::straight::is_straight;
 use std::alloc::Global;
@@ -45,7 +44,9 @@ fn sum_code(alloc: Global) -> Result<Code, Fail> {
     packets.push(alone(alloc, instr(alloc, Op::Imm, Some(Reg(0)), &[], 1)?)?)?;
     packets.push(alone(alloc, instr(alloc, Op::Imm, Some(Reg(1)), &[], -3)?)?)?;
     let mut exchange = alone(alloc, instr(alloc, Op::Mov, Some(Reg(0)), &[1], 0)?)?;
-    exchange.instrs.push(instr(alloc, Op::Mov, Some(Reg(1)), &[0], 0)?)?;
+    exchange
+        .instrs
+        .push(instr(alloc, Op::Mov, Some(Reg(1)), &[0], 0)?)?;
     packets.push(exchange)?;
     packets.push(alone(alloc, instr(alloc, Op::Add, Some(Reg(2)), &[0, 1], 0)?)?)?;
     let mut last = alone(alloc, instr(alloc, Op::Mov, Some(Reg(0)), &[1], 0)?)?;
@@ -74,7 +75,9 @@ fn straight_code_returns(rt: HostRuntime) -> Result<(), Fail> {
     let code = sum_code(rt.alloc())?;
     let start = start(rt.alloc())?;
     assert!(rt; is_straight(&code));
-    let outcome = run_packets(rt.alloc(), &code, &hexagon(), &start, 5).ok().ok_or("memory")?;
+    let outcome = run_packets(rt.alloc(), &code, &hexagon(), &start, 5)
+        .ok()
+        .ok_or("memory")?;
     let end = End::Returned {
         result: Some(1),
         target: Some(100),

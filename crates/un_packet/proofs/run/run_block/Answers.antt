@@ -1,4 +1,4 @@
-use Rattle.std.proofs.Common.{◌≡◌, ◌+◌, ◌≤◌, Some, slice_get, IsSomeAnd, subst, sym, ap, ◌∙◌, arith, length, get_or}
+use Rattle.std.proofs.Common.{◌≡◌, Some, slice_get, subst, ap, arith, length, get_or}
 use Rattle.un_packet.specs.declared.code.CodeBlock.{CodeBlock}
 use Rattle.un_packet.proofs.Runs.{gone, left, ended, finished, only_block}
 use Rattle.un_packet.proofs.run.run_block.Goals as goal

@@ -1,7 +1,5 @@
-use Rattle.std.proofs.Common.{ℕ, ◌≡◌, ◌/◌, List, [], replicate, subst, refl, ◌∙◌, sym}
+use Rattle.std.proofs.Common.{ℕ, ◌≡◌, [], replicate, subst, refl, ◌∙◌, sym}
 use Rattle.std.specs.List.{each_same}
-use Rattle.un_isa.specs.declared.outcome.CallRecord.{CallRecord}
-use Rattle.un_isa.specs.declared.start.Reply.{Reply}
 use Rattle.un_isa.specs.declared.start.Start.{Start}
 use Rattle.un_packet.specs.Cycles.{IsReadyBy}
 use Rattle.un_packet.specs.Step.{PacketState}
@@ -19,9 +17,9 @@ invariant_of-result c = subst (IsReadyBy 2) (sym c.read_at_once.ensures) (none_w
 pub returns : goal.returns
 returns c =
     told c.args.c.now.frame c.args.start.now _ refl c.in_ok-memory.ensures.cases
-        (c.from_vec.ensures ∙ c.in_ok-words.ensures.items_if_clones_equal (λ y e. e))
-        (c.saturating_sub.ensures ∙ rw c.at.ensures refl)
-        c.new.ensures
-        (each_same _ _ c.in_ok-replies.ensures.cases)
-        refl
-        c.read_at_once.ensures
+    (c.from_vec.ensures ∙ c.in_ok-words.ensures.items_if_clones_equal (λ y e. e))
+    (c.saturating_sub.ensures ∙ rw c.at.ensures refl)
+    c.new.ensures
+    (each_same _ _ c.in_ok-replies.ensures.cases)
+    refl
+    c.read_at_once.ensures

@@ -1,4 +1,4 @@
-use Rattle.std.proofs.Common.{◌≡◌, ◌+◌, ◌≤◌, ap, subst, arith, refl, ◌∙◌}
+use Rattle.std.proofs.Common.{◌+◌, ap, subst, arith, refl, ◌∙◌}
 use Rattle.un_packet.specs.Cycles.{IsReadyBy}
 use Rattle.un_packet.specs.Step.{PacketState}
 use Rattle.un_packet.proofs.Cycles.{soon, still_ready}

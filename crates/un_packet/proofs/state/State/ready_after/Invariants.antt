@@ -1,8 +1,6 @@
 -- what is left to write comes to the whole
-use Rattle.std.proofs.Common.{◌≡◌, ◌+◌, ◌<◌, ◌≤◌, ◌^◌, max, map, drop, find, slice_index, true}
-use Rattle.std.specs.List.{fold, flat_map}
-use Rattle.std.specs.Option.{option_map}
-use Rattle.un_packet.specs.Step.{reads_of, regs_after, ready_after, operand_in, is_return}
+use Rattle.std.proofs.Common.{◌≡◌, drop}
+use Rattle.un_packet.specs.Step.{ready_after}
 use Rattle.un_packet.specs.Straight.{AreStraight}
 use Rattle.un_packet.proofs.state.State.ready_after.Given as goal
 
