@@ -1,2 +1,3 @@
 pub mod HexagonTable
 pub mod MemoryWords
+pub mod Shifts

@@ -69,6 +69,13 @@ IsLiteral Load n = IsOffset n
 IsLiteral Store n = IsOffset n
 IsLiteral _ n = Unit {0}
 
+-- a shift by 0 to 31; no other operation shifts
+abbrev pub IsShift : Op → ℤ → Type 0
+IsShift Asl n = IsUnsigned5 n
+IsShift Asr n = IsUnsigned5 n
+IsShift Lsr n = IsUnsigned5 n
+IsShift _ n = Unit {0}
+
 -- the operations of the classes ALU32 and XTYPE, but for those that move the stack pointer
 abbrev pub is_alu : Op → Bool
 is_alu Load = false

@@ -1,8 +1,8 @@
 //! What the operations on registers compute.
 
 ghost use Rattle.std.specs.Prelude.{◌≡◌, nat_eq, if◌then◌else◌, slice_index};
-ghost use Rattle.un_isa.specs.Words.{eval, truth_of};
-ghost use Rattle.un_isa.specs.Operands.{CanEval};
+ghost use Rattle.un_isa.specs.Words.{eval, value_of, truth_of};
+ghost use Rattle.un_isa.specs.Operands.{CanEval, IsShift};
 
 use crate::op::Op;
 
@@ -27,15 +27,12 @@ fn operand(srcs: &[u32], k: usize) -> u32
     if k < srcs.len() { srcs[k] } else { 0 }
 }
 
-/// What an operation of the classes ALU32 and XTYPE, other than Enter and Leave, computes of its operands and its
-/// literal, as the Hexagon V4 Programmer's Reference Manual has it. A predicate is 1 for true and 0 for false.
-pub fn eval_alu(op: Op, srcs: &[u32], imm: i32) -> u32
-    requires { CanEval op srcs.now imm }
-    ensures { result ≡ eval op srcs.now imm }
+/// What an operation computes of its operands in order and its literal, where an operand that it does not have counts for
+/// nothing. Operations that compute nothing from operands, as loads and jumps, give 0.
+pub fn value(op: Op, a: u32, b: u32, c: u32, imm: i32) -> u32
+    requires { IsShift op imm }
+    ensures { result ≡ value_of op a b c imm }
 {
-    let a = operand(srcs, 0);
-    let b = operand(srcs, 1);
-    let c = operand(srcs, 2);
     match op {
         Op::Imm => imm.cast_unsigned(),
         Op::Mov => a,
@@ -61,4 +58,13 @@ pub fn eval_alu(op: Op, srcs: &[u32], imm: i32) -> u32
         Op::R2P => a % 2,
         _ => 0,
     }
+}
+
+/// What an operation of the classes ALU32 and XTYPE, other than Enter and Leave, computes of its operands and its
+/// literal, as the Hexagon V4 Programmer's Reference Manual has it. A predicate is 1 for true and 0 for false.
+pub fn eval_alu(op: Op, srcs: &[u32], imm: i32) -> u32
+    requires { CanEval op srcs.now imm }
+    ensures { result ≡ eval op srcs.now imm }
+{
+    value(op, operand(srcs, 0), operand(srcs, 1), operand(srcs, 2), imm)
 }
