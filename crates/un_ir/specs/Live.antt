@@ -1,7 +1,6 @@
 -- Which names are live at a place of a function. A place of a block is that of an operation, or of the terminator, which
 -- stands after the last one.
 use Rattle.std.specs.Prelude.{ℕ, ◌≡◌, ◌≢◌, ◌+◌, ◌≤◌, List, [], ◌∷◌, Option, Some, None, map, length, slice_get, Contains}
-use Rattle.std.specs.Option.{option_map}
 use Rattle.un_base.specs.declared.ids.NameId.{NameId}
 use Rattle.un_ir.specs.declared.function.SrcOp.{SrcOp}
 use Rattle.un_ir.specs.declared.function.Term.{Term}

@@ -1,8 +1,9 @@
 -- The text of code: `frame` with the size of the frame in bytes, then for each block `block` with its label, and a line
 -- for each packet, its instructions between braces.
-use Rattle.std.specs.Prelude.{ℕ, ◌-◌, nat_lt, List, [], ◌∷◌, ◌++◌, Option, Some, None, codes, slice_get, if◌then◌else◌}
+use Rattle.std.specs.Prelude.{ℕ, ◌-◌, nat_lt, List, [], ◌∷◌, ◌++◌, Option, Some, None, map, codes, slice_get, if◌then◌else◌}
 use Rattle.std.specs.List.{flat_map}
 use Rattle.std.specs.Fmt.{decimal, signed_decimal}
+use Rattle.un_base.specs.Lines.{joined_lines}
 use Rattle.un_isa.specs.declared.reg.Reg.{Reg}
 use Rattle.un_isa.specs.declared.instr.Instr.{Instr}
 use Rattle.un_packet.specs.declared.code.Packet.{Packet}
@@ -71,13 +72,17 @@ abbrev pub instr_text : Instr → List ℕ
 instr_text i = text_in (form_of i.op) i
 
 -- the line of a packet
-abbrev pub packet_text : Packet → List ℕ
-packet_text packet = codes "{ " ++ joined (codes "; ") instr_text packet.instrs ++ codes " }\n"
+abbrev pub packet_line : Packet → List ℕ
+packet_line packet = codes "{ " ++ joined (codes "; ") instr_text packet.instrs ++ codes " }"
 
 -- the lines of a block
-abbrev pub block_text : CodeBlock → List ℕ
-block_text block = codes "block " ++ block.label ++ codes "\n" ++ flat_map packet_text block.packets
+abbrev pub block_lines : CodeBlock → List (List ℕ)
+block_lines block = (codes "block " ++ block.label) ∷ map packet_line block.packets
+
+-- the lines of code
+abbrev pub code_lines : Code → List (List ℕ)
+code_lines c = (codes "frame " ++ decimal c.frame) ∷ flat_map block_lines c.blocks
 
 -- the listing of code
 abbrev pub code_text : Code → List ℕ
-code_text c = codes "frame " ++ decimal c.frame ++ codes "\n" ++ flat_map block_text c.blocks
+code_text c = joined_lines (code_lines c)

@@ -1,8 +1,9 @@
 //! Code as text.
 
-ghost use Rattle.std.specs.Prelude.{◌≡◌, ◌++◌, OnOk, IfOk, codes};
+ghost use Rattle.std.specs.Prelude.{◌≡◌, ◌++◌, OnOk, IfOk, codes, map};
 ghost use Rattle.std.specs.List.{flat_map};
-ghost use Rattle.un_listing.specs.Listing.{joined, operand_text, label_text, instr_text, text_in, packet_text, block_text, code_text};
+ghost use Rattle.un_base.specs.Lines.{joined_lines};
+ghost use Rattle.un_listing.specs.Listing.{joined, operand_text, label_text, instr_text, text_in, packet_line, block_lines, code_text};
 
 use crate::form::{Form, form_of, mnemonic};
 use crate::pieces::{
@@ -152,22 +153,41 @@ fn put_instrs(out: &mut Vec<u8>, instrs: &[Instr]) -> Result<(), NoMemory>
 
 /// Appends the line of a packet.
 fn put_packet(out: &mut Vec<u8>, packet: &Packet) -> Result<(), NoMemory>
-    ensures { OnOk result (out.new.items ≡ out.old.items ++ packet_text packet.now) }
+    ensures { OnOk result (out.new.items ≡ out.old.items ++ (packet_line packet.now ++ codes "\n")) }
 {
     put_text(out, b"{ ")?;
     put_instrs(out, packet.instrs.as_slice())?;
     put_text(out, b" }\n")
 }
 
+/// Appends the lines of packets.
+fn put_packets(out: &mut Vec<u8>, packets: &[Packet]) -> Result<(), NoMemory>
+    ensures { OnOk result
+        (out.new.items ≡ out.old.items ++ joined_lines (map packet_line packets.now)) }
+{
+    for packet in packets {
+        put_packet(out, packet)?;
+    }
+    Ok(())
+}
+
 /// Appends the lines of a block.
 fn put_block(out: &mut Vec<u8>, block: &CodeBlock) -> Result<(), NoMemory>
-    ensures { OnOk result (out.new.items ≡ out.old.items ++ block_text block.now) }
+    ensures { OnOk result (out.new.items ≡ out.old.items ++ joined_lines (block_lines block.now)) }
 {
     put_text(out, b"block ")?;
     put_text(out, block.label.as_bytes())?;
     put_text(out, b"\n")?;
-    for packet in block.packets.as_slice() {
-        put_packet(out, packet)?;
+    put_packets(out, block.packets.as_slice())
+}
+
+/// Appends the lines of blocks.
+fn put_blocks(out: &mut Vec<u8>, blocks: &[CodeBlock]) -> Result<(), NoMemory>
+    ensures { OnOk result
+        (out.new.items ≡ out.old.items ++ joined_lines (flat_map block_lines blocks.now)) }
+{
+    for block in blocks {
+        put_block(out, block)?;
     }
     Ok(())
 }
@@ -179,10 +199,7 @@ pub fn put_code(out: &mut Vec<u8>, c: &Code) -> Result<(), NoMemory>
     put_text(out, b"frame ")?;
     put_number(out, u64::from(c.frame))?;
     put_text(out, b"\n")?;
-    for block in c.blocks.as_slice() {
-        put_block(out, block)?;
-    }
-    Ok(())
+    put_blocks(out, c.blocks.as_slice())
 }
 
 /// The listing of code: `frame` with the size of its frame in bytes, then for each block `block` with its label, and a
