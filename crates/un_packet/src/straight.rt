@@ -1,8 +1,6 @@
 //! Which code the machine runs: one block, which returns, of operations on registers other than shifts.
 
 ghost use Rattle.std.specs.Prelude.{◌≡◌, ◌↔◌, IsTrue, All};
-ghost use Rattle.std.specs.List.{list_any, list_all};
-ghost use Rattle.un_packet.specs.Step.{is_return};
 ghost use Rattle.un_packet.specs.Straight.{is_straight, AreStraight, returns_in, IsStraight, IsStraightBlock};
 
 use crate::code::{Code, CodeBlock, Packet};
