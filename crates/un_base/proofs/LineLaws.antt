@@ -1,11 +1,10 @@
 -- The laws of the lines of a text and of its pieces.
-use Rattle.std.proofs.Common.{◌≡◌, ◌≢◌, ℕ, Bool, true, false, not, zero, suc, ◌==◌, ◌+◌, ◌<◌, ◌≤◌, List, [], ◌∷◌, ◌++◌, if◌then◌else◌, Option, Some, None, refl, sym, ap, ◌∙◌, length, take, drop, get_or, arith, subst, add-one, cond, nat_lt, append_assoc}
-use Rattle.std.proofs.lemmas.Grind.{common_steps}
+use Rattle.std.proofs.Common.{◌≡◌, ◌≢◌, ℕ, Bool, true, false, not, suc, ◌==◌, ◌+◌, ◌<◌, ◌≤◌, List, [], ◌∷◌, ◌++◌, if◌then◌else◌, Some, None, refl, sym, ap, ◌∙◌, length, take, drop, arith, subst, add-one, cond, nat_lt}
 use Rattle.std.proofs.lemmas.Bool.{eqb-true, eqb-false, ne_eqb}
 use Rattle.std.proofs.lemmas.Bool.Decides.{nat_tests}
 use Rattle.std.proofs.lemmas.List.Elements.{All-cons, All-nil}
 use Rattle.std.proofs.lemmas.List.Sums.{prefix_len-le-length}
-use Rattle.std.specs.List.{All, onto_first, flat_map, concat, position, position_or_len}
+use Rattle.std.specs.List.{All, onto_first, concat, position, position_or_len}
 use Rattle.un_base.specs.Lines.{is_line_feed, lines_of, pieces_of, joined_lines, with_last_feed, HasNoFeed}
 
 -- ---- the first line feed

@@ -1,7 +1,6 @@
 -- What is read or written in pieces.
-use Rattle.std.proofs.Common.{drop-drop, ◌≡◌, ℕ, ◌+◌, ◌-◌, ◌≤◌, List, [], ◌++◌, sym, ap, ◌∙◌, length, take, drop, subst, take-append-drop, arith, take_all, length-drop, take-add, ◌<◌, min, length-take-le, length-append}
+use Rattle.std.proofs.Common.{drop-drop, ◌≡◌, ℕ, ◌+◌, ◌-◌, ◌≤◌, List, ◌++◌, sym, ap, ◌∙◌, length, take, drop, subst, take-append-drop, arith, take_all, length-drop, take-add, length-take-le}
 use Rattle.std.proofs.Math.Seq.{take-append_seam}
-use Rattle.std.proofs.Math.ListN.{drop_of_length-le}
 use Rattle.std.specs.declared.option.Option.{Option}
 use Rattle.std.specs.Io.KnownBytes.{Keeps, Appends}
 use Rattle.std.proofs.KnownBytes.{Appends-trans, Appends-kept}

@@ -1,5 +1,7 @@
 //! The outside over std's readers and writers: the trusted edge. They tell the bytes where the reader or writer does.
 
+ghost use Rattle.std.specs.Prelude.{◌≡◌};
+
 use crate::outside::{Failed, Sink, Source};
 use std::io::{Read, Write};
 
@@ -12,7 +14,10 @@ pub struct StdSource<R: Read> {
 
 impl<R: Read> StdSource<R> {
     /// The source over `reader`, which has not failed yet.
-    pub fn new(reader: R) -> StdSource<R> {
+    pub fn new(reader: R) -> StdSource<R>
+        ensures left { ⟦<StdSource<R> as Source>⟧.left result ≡ R.remaining reader }
+        ensures faults { ⟦<StdSource<R> as Source>⟧.faults result ≡ 0 }
+    {
         StdSource { reader, faults: 0 }
     }
 }
@@ -44,7 +49,10 @@ pub struct StdSink<W: Write> {
 
 impl<W: Write> StdSink<W> {
     /// The sink over `writer`, which has not failed yet.
-    pub fn new(writer: W) -> StdSink<W> {
+    pub fn new(writer: W) -> StdSink<W>
+        ensures held { ⟦<StdSink<W> as Sink>⟧.held result ≡ W.contents writer }
+        ensures faults { ⟦<StdSink<W> as Sink>⟧.faults result ≡ 0 }
+    {
         StdSink { writer, faults: 0 }
     }
 }
@@ -69,5 +77,25 @@ impl<W: Write> Sink for StdSink<W> {
                 Err(Failed)
             }
         }
+    }
+}
+
+#[cfg(test)]
+mod tests {
+    use super::*;
+    use crate::transfer::{read_all, write_all};
+    use std::test::Fail;
+
+    #[test]
+    fn passes_bytes_through(rt: HostRuntime) -> Result<(), Fail> {
+        let mut src = StdSource::new(b"block e freq 1".as_slice());
+        let text = read_all(rt.alloc(), &mut src, 99)?;
+        assert_eq!(rt; text.as_slice(), b"block e freq 1".as_slice());
+
+        let mut out = Vec::new(rt.alloc());
+        let mut sink = StdSink::new(&mut out);
+        write_all(&mut sink, text.as_slice())?;
+        assert_eq!(rt; out.as_slice(), b"block e freq 1".as_slice());
+        Ok(())
     }
 }

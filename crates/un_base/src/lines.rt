@@ -4,6 +4,7 @@ ghost use Rattle.std.specs.Prelude.{◌≡◌, ◌+◌, ◌<◌, ◌≤◌, IfSo
 ghost use Rattle.std.specs.List.{All, position, position_or_len};
 ghost use Rattle.std.specs.Iterator.{item_count, YieldsFirstBy};
 ghost use Rattle.un_base.specs.Lines.{is_line_feed, lines_of, joined_lines, with_last_feed, HasNoFeed};
+ghost use Rattle.un_base.specs.LinesLeft.{lines_left};
 
 /// The lines of a text that are left, each a slice of it.
 #[derive(Drop)]
@@ -14,7 +15,7 @@ pub struct LineIter<'a> {
 /// Lends the lines of `text` in order, each a slice of it without its line feed. A carriage return stays. A last line
 /// may lack its line feed, and the empty text has no line. It takes no memory.
 pub fn lines(text: &[u8]) -> LineIter<'_>
-    ensures left { lines_of result.rest.now ≡ lines_of text.now }
+    ensures left { lines_left result ≡ lines_of text.now }
     ensures joined { joined_lines (lines_of text.now) ≡ with_last_feed text.now }
     ensures no_feed { All HasNoFeed (lines_of text.now) }
 {
@@ -54,9 +55,9 @@ fn after(text: &[u8], end: usize) -> &[u8]
 impl<'a> Iterator for LineIter<'a> {
     type Item = &'a [u8];
 
-    ghost next_gives = { YieldsFirstBy (λ line. line.now) (λ s. lines_of s.rest.now) };
+    ghost next_gives = { YieldsFirstBy (λ line. line.now) lines_left };
 
-    ghost remaining = { item_count (λ s. lines_of s.rest.now) };
+    ghost remaining = { item_count lines_left };
 
     fn next(&mut self) -> Option<&'a [u8]> {
         if self.rest.is_empty() {
@@ -66,5 +67,22 @@ impl<'a> Iterator for LineIter<'a> {
         let line = &self.rest[..end];
         self.rest = after(self.rest, end);
         Some(line)
+    }
+}
+
+#[cfg(test)]
+mod tests {
+    use super::*;
+
+    #[test]
+    fn lends_each_line(rt: HostRuntime) {
+        let mut left = lines(b"first\r\n\nlast");
+        assert_eq!(rt; left.next(), Some(b"first\r".as_slice()));
+        assert_eq!(rt; left.next(), Some(b"".as_slice()));
+        assert_eq!(rt; left.next(), Some(b"last".as_slice()));
+        assert_eq!(rt; left.next(), None);
+        assert_eq!(rt; lines(b"").count(), 0);
+        assert_eq!(rt; lines(b"one\n").count(), 1);
+        assert_eq!(rt; lines(b"\n\n").count(), 2);
     }
 }

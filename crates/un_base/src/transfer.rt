@@ -115,3 +115,73 @@ pub fn write_all<K: Sink>(sink: &mut K, bytes: &[u8]) -> Result<(), Failed>
     }
     Ok(())
 }
+
+#[cfg(test)]
+mod tests {
+    use super::*;
+    use crate::memory::{MemSink, MemSource, SureSource};
+    use std::test::Fail;
+
+    #[test]
+    fn reads_in_small_pieces(rt: HostRuntime) -> Result<(), Fail> {
+        let bytes = b"func f".to_vec(rt.alloc())?;
+        let mut src = MemSource::new(bytes, 1, Vec::new(rt.alloc()));
+        let text = read_all(rt.alloc(), &mut src, 6)?;
+        assert_eq!(rt; text.as_slice(), b"func f".as_slice());
+        let rest = read_all(rt.alloc(), &mut src, 0)?;
+        assert_eq!(rt; rest.as_slice(), b"".as_slice());
+        Ok(())
+    }
+
+    #[test]
+    fn refuses_one_byte_too_many(rt: HostRuntime) -> Result<(), Fail> {
+        let bytes = b"func f".to_vec(rt.alloc())?;
+        let mut src = SureSource::new(bytes);
+        assert_eq!(rt;
+            read_all(rt.alloc(), &mut src, 4).err(),
+            Some(ReadAll::TooLong)
+        );
+        let rest = read_all(rt.alloc(), &mut src, 1)?;
+        assert_eq!(rt; rest.as_slice(), b"f".as_slice());
+        Ok(())
+    }
+
+    #[test]
+    fn tells_a_read_fault(rt: HostRuntime) -> Result<(), Fail> {
+        let bytes = b"func f".to_vec(rt.alloc())?;
+        let mut src = MemSource::new(bytes, 4, [1].to_vec(rt.alloc())?);
+        assert_eq!(rt;
+            read_all(rt.alloc(), &mut src, 9).err(),
+            Some(ReadAll::ReadFault)
+        );
+        let rest = read_all(rt.alloc(), &mut src, 9)?;
+        assert_eq!(rt; rest.as_slice(), b" f".as_slice());
+        Ok(())
+    }
+
+    #[test]
+    fn writes_in_small_pieces(rt: HostRuntime) -> Result<(), Fail> {
+        let mut sink = MemSink::new(rt.alloc(), 9, 1, Vec::new(rt.alloc()))?;
+        write_all(&mut sink, b"cost 1")?;
+        write_all(&mut sink, b"")?;
+        assert_eq!(rt; sink.bytes(), b"cost 1".as_slice());
+        Ok(())
+    }
+
+    #[test]
+    fn keeps_a_prefix_where_the_room_ends(rt: HostRuntime) -> Result<(), Fail> {
+        let mut sink = MemSink::new(rt.alloc(), 4, 3, Vec::new(rt.alloc()))?;
+        assert_eq!(rt; write_all(&mut sink, b"cost 1"), Err(Failed));
+        assert_eq!(rt; sink.bytes(), b"cost".as_slice());
+        Ok(())
+    }
+
+    #[test]
+    fn keeps_a_prefix_where_a_call_fails(rt: HostRuntime) -> Result<(), Fail> {
+        let mut sink = MemSink::new(rt.alloc(), 640, 64, [2].to_vec(rt.alloc())?)?;
+        let text = [b'x'; 200];
+        assert_eq!(rt; write_all(&mut sink, &text), Err(Failed));
+        assert_eq!(rt; sink.bytes().len(), 128);
+        Ok(())
+    }
+}

@@ -1,7 +1,10 @@
 //! Linear functions and extended functions: every temporary is local to its block, as in the TOPLAS paper's linear SSA
 //! form with copy extension and alternative temporaries.
 
+ghost use Rattle.std.specs.Prelude.{◌≡◌};
+
 use crate::function::{Kind, SrcOp, Term};
+use std::alloc::AllocError;
 use un_base::ids::{NameId, TempId};
 use un_base::name::Name;
 use un_isa::reg::Reg;
@@ -30,11 +33,40 @@ pub enum ExtKind {
     Leave,
 }
 
+impl Clone for ExtKind {
+    ghost is_clone = { λ a b. b ≡ a };
+
+    fn clone(&self) -> Result<Self, AllocError> {
+        let copy = match self {
+            ExtKind::In => ExtKind::In,
+            ExtKind::Out => ExtKind::Out,
+            ExtKind::Body(op) => ExtKind::Body(op.clone()?),
+            ExtKind::End(term) => ExtKind::End(*term),
+            ExtKind::Copy(node) => ExtKind::Copy(*node),
+            ExtKind::Enter => ExtKind::Enter,
+            ExtKind::Leave => ExtKind::Leave,
+        };
+        Ok(copy)
+    }
+}
+
 /// An operand: the temporaries that it may choose, in order, and the register to which it is preassigned.
 #[derive(Debug, PartialEq, Eq, Drop)]
 pub struct Operand {
     pub alts: Items<TempId>,
     pub home: Option<Reg>,
+}
+
+impl Clone for Operand {
+    ghost is_clone = { λ a b. b ≡ a };
+
+    fn clone(&self) -> Result<Self, AllocError> {
+        let alts = self.alts.clone()?;
+        Ok(Operand {
+            alts,
+            home: self.home,
+        })
+    }
 }
 
 /// An operation of an extended block, with the temporaries that it defines.
@@ -43,6 +75,21 @@ pub struct ExtOp {
     pub kind: ExtKind,
     pub operands: Items<Operand>,
     pub results: Items<TempId>,
+}
+
+impl Clone for ExtOp {
+    ghost is_clone = { λ a b. b ≡ a };
+
+    fn clone(&self) -> Result<Self, AllocError> {
+        let kind = self.kind.clone()?;
+        let operands = self.operands.clone()?;
+        let results = self.results.clone()?;
+        Ok(ExtOp {
+            kind,
+            operands,
+            results,
+        })
+    }
 }
 
 /// An extended block. `live_in` are the names of the first values of `In`, `live_out` those that `Out` reads before the
@@ -57,12 +104,44 @@ pub struct ExtBlock {
     pub horizon: u32,
 }
 
+impl Clone for ExtBlock {
+    ghost is_clone = { λ a b. b ≡ a };
+
+    fn clone(&self) -> Result<Self, AllocError> {
+        let live_in = self.live_in.clone()?;
+        let live_out = self.live_out.clone()?;
+        let ops = self.ops.clone()?;
+        Ok(ExtBlock {
+            freq: self.freq,
+            label: self.label,
+            live_in,
+            live_out,
+            ops,
+            horizon: self.horizon,
+        })
+    }
+}
+
 /// An extended function with its table. `names` has the kind of each name of the function, by its number.
 #[derive(Debug, PartialEq, Eq, Drop)]
 pub struct Ext {
     pub table: Table,
     pub names: Items<Kind>,
     pub blocks: Items<ExtBlock>,
+}
+
+impl Clone for Ext {
+    ghost is_clone = { λ a b. b ≡ a };
+
+    fn clone(&self) -> Result<Self, AllocError> {
+        let names = self.names.clone()?;
+        let blocks = self.blocks.clone()?;
+        Ok(Ext {
+            table: self.table,
+            names,
+            blocks,
+        })
+    }
 }
 
 /// A block of a linear function: an extended block without copies, Enter and Leave, with one alternative per operand.

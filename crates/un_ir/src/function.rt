@@ -1,5 +1,8 @@
 //! Functions, blocks, operations and terminators.
 
+ghost use Rattle.std.specs.Prelude.{◌≡◌};
+
+use std::alloc::AllocError;
 use un_base::ids::{BlockId, NameId};
 use un_base::name::Name;
 use un_isa::op::Op;
@@ -34,6 +37,21 @@ pub struct SrcOp {
     pub srcs: Few<NameId>,
     pub imm: i32,
     pub callee: Option<Name>,
+}
+
+impl Clone for SrcOp {
+    ghost is_clone = { λ a b. b ≡ a };
+
+    fn clone(&self) -> Result<Self, AllocError> {
+        let srcs = self.srcs.clone()?;
+        Ok(SrcOp {
+            op: self.op,
+            dst: self.dst,
+            srcs,
+            imm: self.imm,
+            callee: self.callee,
+        })
+    }
 }
 
 /// How a block ends: it falls through to the next, jumps, jumps where a predicate has the value `sense`, or returns.

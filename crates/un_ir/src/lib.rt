@@ -3,3 +3,7 @@
 
 pub mod extended;
 pub mod function;
+pub mod print;
+#[cfg(test)]
+mod tests;
+pub mod text;

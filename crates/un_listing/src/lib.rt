@@ -1,2 +1,9 @@
 //! The text of code.
 #![tactic(auto)]
+
+pub mod form;
+pub mod pieces;
+pub mod print;
+pub mod report;
+#[cfg(test)]
+mod tests;

@@ -1,4 +1,4 @@
-use Rattle.std.proofs.Common.{rules, arith, sym, ◌∙◌, ◌<◌, length, inl, inr}
+use Rattle.std.proofs.Common.{rules, sym, ◌∙◌, ◌<◌, length, inl, inr}
 use Rattle.un_base.specs.Decimals.{HasLeadingZero}
 use Rattle.un_base.proofs.DecimalLaws.{is_empty, no_decimal, read_some, read_none}
 use Rattle.un_base.proofs.decimal.read_decimal.Goals.{then-is_empty-via-then-is_empty, then-is_empty-via-else-is_empty+then-has_leading_zero}

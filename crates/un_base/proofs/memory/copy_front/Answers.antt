@@ -1,4 +1,4 @@
-use Rattle.std.proofs.Common.{arith, length-drop, length-take-le}
+use Rattle.std.proofs.Common.{arith}
 use Rattle.un_base.proofs.Pieces.{front_read}
 use Rattle.un_base.proofs.memory.copy_front.Goals as goal
 

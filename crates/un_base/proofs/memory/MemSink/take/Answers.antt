@@ -1,4 +1,4 @@
-use Rattle.std.proofs.Common.{rules, arith}
+use Rattle.std.proofs.Common.{arith}
 use Rattle.un_base.proofs.memory.MemSink.take.Goals.{then-contains-via-then-contains, then-contains-via-else-contains+then-len-self}
 use Rattle.un_base.proofs.memory.MemSink.take.Goals as goal
 

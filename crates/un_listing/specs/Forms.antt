@@ -1,0 +1,56 @@
+-- The forms in which instructions are printed.
+use Rattle.std.specs.Prelude.{ℕ, List, [], codes}
+use Rattle.un_isa.specs.declared.op.Op.{Op}
+use Rattle.un_isa.specs.declared.op.Op.TheVariants.{Imm, Mov, Add, Sub, And, Or, Xor, Addi, Andi, Ori, Mux, CmpEq, CmpGt, CmpGtu, CmpEqi, CmpGti, Mpyi, Asl, Asr, Lsr, Load, Store, Call, Jump, JumpIf, JumpIfNot, Jumpr, Spill, Reload, P2R, R2P, Enter, Leave, Nop}
+use Rattle.un_listing.specs.declared.form.Form.{Form}
+use Rattle.un_listing.specs.declared.form.Form.TheVariants.{Literal, Copied, Computed, WithLiteral, Loaded, Stored, Reloaded, Spilled, StackMoved, Called, Jumped, JumpedIf, JumpedIfNot, Returned, Idle}
+
+-- the form of each operation
+abbrev pub form_of : Op → Form
+form_of Imm = Literal
+form_of Mov = Copied
+form_of P2R = Copied
+form_of R2P = Copied
+form_of Addi = WithLiteral
+form_of Andi = WithLiteral
+form_of Ori = WithLiteral
+form_of CmpEqi = WithLiteral
+form_of CmpGti = WithLiteral
+form_of Asl = WithLiteral
+form_of Asr = WithLiteral
+form_of Lsr = WithLiteral
+form_of Load = Loaded
+form_of Store = Stored
+form_of Reload = Reloaded
+form_of Spill = Spilled
+form_of Enter = StackMoved
+form_of Leave = StackMoved
+form_of Call = Called
+form_of Jump = Jumped
+form_of JumpIf = JumpedIf
+form_of JumpIfNot = JumpedIfNot
+form_of Jumpr = Returned
+form_of Nop = Idle
+form_of _ = Computed
+
+-- the word before the operands of an operation that is printed with one
+abbrev pub mnemonic : Op → List ℕ
+mnemonic Add = codes "add"
+mnemonic Addi = codes "add"
+mnemonic Sub = codes "sub"
+mnemonic And = codes "and"
+mnemonic Andi = codes "and"
+mnemonic Or = codes "or"
+mnemonic Ori = codes "or"
+mnemonic Xor = codes "xor"
+mnemonic Mux = codes "mux"
+mnemonic CmpEq = codes "cmp.eq"
+mnemonic CmpEqi = codes "cmp.eq"
+mnemonic CmpGt = codes "cmp.gt"
+mnemonic CmpGti = codes "cmp.gt"
+mnemonic CmpGtu = codes "cmp.gtu"
+mnemonic Mpyi = codes "mpyi"
+mnemonic Asl = codes "asl"
+mnemonic Asr = codes "asr"
+mnemonic Lsr = codes "lsr"
+mnemonic _ = []

@@ -1,0 +1,5 @@
+pub mod Answered
+pub mod FaultLaws
+pub mod Firsts
+pub mod Parts
+pub mod WordLaws

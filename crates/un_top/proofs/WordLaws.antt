@@ -1,0 +1,15 @@
+-- The words of a command, and the place of the first bad one.
+use Rattle.std.proofs.Common.{ℕ, ◌≡◌, ◌+◌, ◌≤◌, List, take, refl, ap, codes, [], ◌∷◌}
+use Rattle.un_top.specs.Words.{IsCommand, BeginsCommand, IsBadWord}
+use Rattle.un_top.proofs.Firsts.{begin_alike, first_unique}
+
+begins_less : (words : List (List ℕ)) (j k : ℕ) → j ≤ k → BeginsCommand words k → BeginsCommand words j
+begins_less words j k h b = record { command = b.command; is_command = b.is_command; begins = begin_alike j k words b.command h b.begins }
+
+-- a command has no bad word
+pub command_is_good : (words : List (List ℕ)) (place : ℕ) → IsCommand words → IsBadWord words place → ⊥
+command_is_good words place h b = b.bad (record { command = words; is_command = h; begins = refl })
+
+-- there is one first bad word
+pub bad_word_unique : (words : List (List ℕ)) (p q : ℕ) → IsBadWord words p → IsBadWord words q → p ≡ q
+bad_word_unique words p q a b = first_unique (BeginsCommand words) (begins_less words) p q a.good a.bad b.good b.bad

@@ -1,0 +1,95 @@
+//! The line on `err`.
+
+ghost use Rattle.std.specs.Prelude.{◌≡◌, ◌⊎◌, ◌++◌, ℕ, ◌<◌, ◌≤◌, ◌^◌, List, OnOk, OnErr, map};
+ghost use Rattle.std.specs.List.{concat};
+ghost use Rattle.std.specs.Io.KnownBytes.{Appends};
+ghost use Rattle.un_base.specs.Causes.{Rose, AppendsPrefix};
+ghost use Rattle.un_top.specs.Runs.{fault_name, fault_line, numbered, line_of};
+
+use itoa::Buffer;
+use un_base::outside::{Failed, Sink};
+use un_base::status::Status;
+use un_base::transfer::write_all;
+
+/// The name of a fault of a text.
+fn fault_name(code: u8) -> &'static [u8]
+    ensures { result.now ≡ fault_name code }
+{
+    match code {
+        1 => b"BadByte",
+        2 => b"BadLine",
+        3 => b"WideLiteral",
+        4 => b"DupLabel",
+        5 => b"UnknownLabel",
+        6 => b"NoBlock",
+        7 => b"AfterEnd",
+        8 => b"FallsOff",
+        9 => b"JumpToEntry",
+        10 => b"KindClash",
+        11 => b"MixedResult",
+        12 => b"LiveAtEntry",
+        13 => b"TooMany",
+        14 => b"BadFreq",
+        _ => b"NotBuilt",
+    }
+}
+
+/// Writes parts one after another.
+fn write_parts<K: Sink>(sink: &mut K, parts: &[&[u8]]) -> Result<(), Failed>
+    ensures all { OnOk result (Appends (K.held sink.old) (K.held sink.new) (concat (map (λ part. part.now) parts.now))) }
+    ensures failed { OnErr result (Rose (K.faults sink.old) (K.faults sink.new)) }
+    ensures prefix { OnErr result (AppendsPrefix (K.held sink.old) (K.held sink.new) (concat (map (λ part. part.now) parts.now))) }
+{
+    for part in parts {
+        match write_all(sink, part) {
+            Ok(()) => {}
+            Err(failed) => return Err(failed),
+        }
+    }
+    Ok(())
+}
+
+/// Writes a text, a number and a line feed.
+fn write_numbered<K: Sink>(sink: &mut K, before: &[u8], number: u32) -> Result<(), Failed>
+    ensures all { OnOk result (Appends (K.held sink.old) (K.held sink.new) (numbered before.now number)) }
+    ensures failed { OnErr result (Rose (K.faults sink.old) (K.faults sink.new)) }
+    ensures prefix { OnErr result (AppendsPrefix (K.held sink.old) (K.held sink.new) (numbered before.now number)) }
+{
+    let mut buffer = Buffer::new();
+    let digits = buffer.format(number).as_bytes();
+    write_parts(sink, &[before, digits, b"\n"])
+}
+
+/// Writes the line for a fault of the text.
+fn write_fault<K: Sink>(sink: &mut K, line: u32, code: u8) -> Result<(), Failed>
+    ensures all { OnOk result (Appends (K.held sink.old) (K.held sink.new) (fault_line line code)) }
+    ensures failed { OnErr result (Rose (K.faults sink.old) (K.faults sink.new)) }
+    ensures prefix { OnErr result (AppendsPrefix (K.held sink.old) (K.held sink.new) (fault_line line code)) }
+{
+    let mut line_buffer = Buffer::new();
+    let mut code_buffer = Buffer::new();
+    let line_digits = line_buffer.format(line).as_bytes();
+    let code_digits = code_buffer.format(code).as_bytes();
+    let name = fault_name(code);
+    write_parts(
+        sink,
+        &[b"line ", line_digits, b": ", code_digits, b" ", name, b"\n"],
+    )
+}
+
+/// Writes the line for a status, which takes no memory.
+pub fn write_line<K: Sink>(sink: &mut K, status: Status) -> Result<(), Failed>
+    ensures all { OnOk result (Appends (K.held sink.old) (K.held sink.new) (line_of status)) }
+    ensures failed { OnErr result (Rose (K.faults sink.old) (K.faults sink.new)) }
+    ensures prefix { OnErr result (AppendsPrefix (K.held sink.old) (K.held sink.new) (line_of status)) }
+{
+    match status {
+        Status::Done | Status::Infeasible | Status::Spent | Status::No(_) => write_all(sink, b""),
+        Status::TextFault { line, code } => write_fault(sink, line, code),
+        Status::Usage { word } => write_numbered(sink, b"usage: word ", word),
+        Status::ReadFault => write_all(sink, b"read fault\n"),
+        Status::WriteFault => write_all(sink, b"write fault\n"),
+        Status::NoMemory => write_all(sink, b"no memory\n"),
+        Status::BadReport { line } => write_numbered(sink, b"bad report: line ", line),
+    }
+}

@@ -1,0 +1,9 @@
+//! The whole program over any outside.
+#![tactic(auto)]
+
+pub mod faults;
+pub mod produce;
+pub mod run;
+#[cfg(test)]
+mod tests;
+pub mod words;

@@ -1,0 +1,91 @@
+//! The whole output, before anything is written.
+
+ghost use Rattle.std.specs.Prelude.{◌≡◌, ℕ, ◌+◌, ◌<◌, ◌≤◌, ◌*◌, ◌/◌, ◌^◌, Ok, Err, IfSome, IfOk, IfErr, length, sum_by, slice_get, Some};
+ghost use Rattle.std.specs.Io.KnownBytes.{IsAtEnd};
+ghost use Rattle.un_base.specs.Causes.{Rose};
+ghost use Rattle.un_plain.specs.Plain.{IsPlain};
+ghost use Rattle.un_plain.specs.Faults.{IsTextOf, IsFault};
+ghost use Rattle.un_top.specs.Reports.{IsReportOf, full_packets};
+ghost use Rattle.un_top.specs.Words.{IsCommand, IsBadWord};
+ghost use Rattle.un_top.specs.Runs.{IsTextRefusal, IsRefusal};
+
+use crate::words::check_words;
+use std::alloc::Global;
+use un_base::outside::Source;
+use un_base::status::Status;
+use un_base::transfer::{ReadAll, read_all};
+use un_base::words::Word;
+use un_ir::function::Function;
+use un_listing::report::print_first_report;
+use un_plain::error::PlainError;
+use un_plain::limits::TEXT;
+use un_plain::reader::read_plain;
+use un_plain_code::plain_code::plain_code;
+
+/// The code of a text that is too long.
+const TOO_MANY: u8 = 13;
+
+/// The cost of one operation a packet, the return among them, and the number of full packets, weighted by frequency.
+fn cost_and_bound(f: &Function) -> (u64, u64)
+    requires { IsPlain f.now }
+    ensures cost { result.0 ≡ sum_by (λ b. b.freq * (length b.ops + 1)) f.now.blocks }
+    ensures bound { result.1 ≡ full_packets f.now }
+{
+    match f.blocks.as_slice() {
+        [block] => {
+            let freq = u64::from(block.freq);
+            let ops = block.ops.len() as u64;
+            (freq * (ops + 1), freq * ((ops + 4) / 4))
+        }
+        _ => (0, 0),
+    }
+}
+
+/// The report of a text.
+fn report(alloc: Global, text: &[u8]) -> Result<Vec<u8>, Status>
+    ensures ok { IfOk result (λ out. IsReportOf text.now out.items) }
+    ensures fault { (line code : ℕ) → result ≡ Err (Status.TextFault line code) → IsFault text.now line code }
+    ensures only { IfErr result IsTextRefusal }
+{
+    let f = match read_plain(alloc, text) {
+        Ok(f) => f,
+        Err(PlainError::NoMemory) => return Err(Status::NoMemory),
+        Err(PlainError::TextFault { line, code }) => return Err(Status::TextFault { line, code }),
+    };
+    let Ok(code) = plain_code(alloc, &f) else {
+        return Err(Status::NoMemory);
+    };
+    let (cost, bound) = cost_and_bound(&f);
+    match print_first_report(alloc, cost, bound, &code) {
+        Ok(out) => Ok(out),
+        Err(_) => Err(Status::NoMemory),
+    }
+}
+
+/// Looks at the words, reads the input and makes its report. Nothing is read where the words are no command.
+pub fn produce<S: Source>(alloc: Global, words: &[Word], src: &mut S) -> Result<Vec<u8>, Status>
+    ensures ok { IfOk result (λ out. IfSome (S.left src.old) (λ text. IsReportOf text out.items)) }
+    ensures exactly_usage { (place : ℕ) → IsBadWord words.now place → result ≡ Err (Status.Usage place) }
+    ensures read_all { IfOk result (λ out. IsAtEnd (S.left src.new)) }
+    ensures usage { (place : ℕ) → result ≡ Err (Status.Usage place) → IsBadWord words.now place }
+    ensures unread { (place : ℕ) → result ≡ Err (Status.Usage place) → S.left src.new ≡ S.left src.old }
+    ensures read { result ≡ Err Status.ReadFault → Rose (S.faults src.old) (S.faults src.new) }
+    ensures fault { (line code : ℕ) → result ≡ Err (Status.TextFault line code) → IfSome (S.left src.old) (λ text. IsFault text line code) }
+    ensures only { IfErr result IsRefusal }
+{
+    if let Err(word) = check_words(words) {
+        return Err(Status::Usage { word });
+    }
+    let text = match read_all(alloc, src, TEXT) {
+        Ok(text) => text,
+        Err(ReadAll::ReadFault) => return Err(Status::ReadFault),
+        Err(ReadAll::TooLong) => {
+            return Err(Status::TextFault {
+                line: 0,
+                code: TOO_MANY,
+            });
+        }
+        Err(ReadAll::NoMemory) => return Err(Status::NoMemory),
+    };
+    report(alloc, text.as_slice())
+}

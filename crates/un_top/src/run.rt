@@ -1,0 +1,76 @@
+//! Everything that the program does.
+
+ghost use Rattle.std.specs.Prelude.{◌≡◌, ℕ, ◌⊎◌, ◌<◌, ◌≤◌, Ok, Err, IfSome, IfOk, IfErr, OnOk, OnErr};
+ghost use Rattle.std.specs.Io.KnownBytes.{Appends, IsAtEnd};
+ghost use Rattle.un_base.specs.Causes.{Rose, AppendsPrefix};
+ghost use Rattle.un_plain.specs.Faults.{IsFault};
+ghost use Rattle.un_top.specs.Words.{IsCommand, IsBadWord};
+ghost use Rattle.un_top.specs.Runs.{OutAfter, KeepsOut, AnswersFault, IsAnswer, IsRefusal, line_of};
+
+use crate::faults::write_line;
+use crate::produce::produce;
+use std::alloc::Global;
+use un_base::outside::{Sink, Source};
+use un_base::status::Status;
+use un_base::transfer::write_all;
+use un_base::words::Word;
+
+/// Writes the output, or hands the refusal on.
+fn finish<K: Sink>(outcome: Result<Vec<u8>, Status>, out: &mut K) -> Status
+    requires { IfErr outcome IsRefusal }
+    ensures err { IfErr outcome (λ s. result ≡ s) }
+    ensures kept { OnErr outcome (K.held out.new ≡ K.held out.old) }
+    ensures done { result ≡ Status.Done → IfOk outcome (λ text. Appends (K.held out.old) (K.held out.new) text.items) }
+    ensures prefix { result ≡ Status.WriteFault → IfOk outcome (λ text. AppendsPrefix (K.held out.old) (K.held out.new) text.items) }
+    ensures which { OnOk outcome ((result ≡ Status.Done) ⊎ (result ≡ Status.WriteFault)) }
+    ensures fault { result ≡ Status.WriteFault → Rose (K.faults out.old) (K.faults out.new) }
+{
+    match outcome {
+        Ok(text) => match write_all(out, text.as_slice()) {
+            Ok(()) => Status::Done,
+            Err(_) => Status::WriteFault,
+        },
+        Err(status) => status,
+    }
+}
+
+/// Does all that the program does: `words` are the arguments without the program's own name, a function's text is read
+/// from `src`, its report goes to `out`, and a refusal to `err` as one line. The report is built whole before the first
+/// write, and a failure of `err` changes no status.
+///
+/// The answers come in this order: the words, reading, the text, writing. Want of memory may stand at each of them after
+/// the words.
+pub fn run<S: Source, K: Sink, E: Sink>(
+    alloc: Global,
+    words: &[Word],
+    src: &mut S,
+    out: &mut K,
+    err: &mut E,
+) -> Status
+    // The report is that of the text, whole, or a prefix of it where writing failed.
+    ensures out { IfSome (S.left src.old) (λ text. OutAfter result text (K.held out.old) (K.held out.new)) }
+    ensures kept { KeepsOut result (K.held out.old) (K.held out.new) }
+    ensures read_whole { result ≡ Status.Done → IsAtEnd (S.left src.new) }
+
+    // When each other answer comes.
+    ensures answers { IsAnswer result }
+    ensures usage { (place : ℕ) → result ≡ Status.Usage place → IsBadWord words.now place }
+    ensures unread { (place : ℕ) → result ≡ Status.Usage place → S.left src.new ≡ S.left src.old }
+    ensures exactly_usage { (place : ℕ) → IsBadWord words.now place → result ≡ Status.Usage place }
+    ensures read { result ≡ Status.ReadFault → Rose (S.faults src.old) (S.faults src.new) }
+    ensures fault { (line code : ℕ) → result ≡ Status.TextFault line code
+        → IfSome (S.left src.old) (λ text. IsFault text line code) }
+    ensures exactly_fault { IfSome (S.left src.old) (λ text. (line code : ℕ) → IsFault text line code
+        → AnswersFault result line code) }
+    ensures write { result ≡ Status.WriteFault → Rose (K.faults out.old) (K.faults out.new) }
+
+    // The line for the status goes to `err`, whole where its count did not rise.
+    ensures err_line { AppendsPrefix (E.held err.old) (E.held err.new) (line_of result) }
+    ensures err_whole { Rose (E.faults err.old) (E.faults err.new)
+        ⊎ Appends (E.held err.old) (E.held err.new) (line_of result) }
+{
+    let outcome = produce(alloc, words, src);
+    let status = finish(outcome, out);
+    let _ = write_line(err, status);
+    status
+}
