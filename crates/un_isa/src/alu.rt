@@ -66,5 +66,11 @@ pub fn eval_alu(op: Op, srcs: &[u32], imm: i32) -> u32
     requires { CanEval op srcs.now imm }
     ensures { result ≡ eval op srcs.now imm }
 {
-    value(op, operand(srcs, 0), operand(srcs, 1), operand(srcs, 2), imm)
+    value(
+        op,
+        operand(srcs, 0),
+        operand(srcs, 1),
+        operand(srcs, 2),
+        imm,
+    )
 }

@@ -29,20 +29,20 @@ plain : (op : Op) (s : PacketState) (i : Instr) → is_straight op ≡ true → 
 plain Imm s i h = record { traps = refl; jumps = refl; calls = refl; memory = λ m. refl; frame = λ f. refl }
 plain Mov s i h = record { traps = refl; jumps = refl; calls = refl; memory = λ m. refl; frame = λ f. refl }
 plain Add s i h = record { traps = refl; jumps = refl; calls = refl; memory = λ m. refl; frame = λ f. refl }
-plain Sub s i h = absurd (cc h)
-plain And s i h = absurd (cc h)
-plain Or s i h = absurd (cc h)
-plain Xor s i h = absurd (cc h)
-plain Addi s i h = absurd (cc h)
-plain Andi s i h = absurd (cc h)
-plain Ori s i h = absurd (cc h)
-plain Mux s i h = absurd (cc h)
-plain CmpEq s i h = absurd (cc h)
-plain CmpGt s i h = absurd (cc h)
-plain CmpGtu s i h = absurd (cc h)
-plain CmpEqi s i h = absurd (cc h)
-plain CmpGti s i h = absurd (cc h)
-plain Mpyi s i h = absurd (cc h)
+plain Sub s i h = record { traps = refl; jumps = refl; calls = refl; memory = λ m. refl; frame = λ f. refl }
+plain And s i h = record { traps = refl; jumps = refl; calls = refl; memory = λ m. refl; frame = λ f. refl }
+plain Or s i h = record { traps = refl; jumps = refl; calls = refl; memory = λ m. refl; frame = λ f. refl }
+plain Xor s i h = record { traps = refl; jumps = refl; calls = refl; memory = λ m. refl; frame = λ f. refl }
+plain Addi s i h = record { traps = refl; jumps = refl; calls = refl; memory = λ m. refl; frame = λ f. refl }
+plain Andi s i h = record { traps = refl; jumps = refl; calls = refl; memory = λ m. refl; frame = λ f. refl }
+plain Ori s i h = record { traps = refl; jumps = refl; calls = refl; memory = λ m. refl; frame = λ f. refl }
+plain Mux s i h = record { traps = refl; jumps = refl; calls = refl; memory = λ m. refl; frame = λ f. refl }
+plain CmpEq s i h = record { traps = refl; jumps = refl; calls = refl; memory = λ m. refl; frame = λ f. refl }
+plain CmpGt s i h = record { traps = refl; jumps = refl; calls = refl; memory = λ m. refl; frame = λ f. refl }
+plain CmpGtu s i h = record { traps = refl; jumps = refl; calls = refl; memory = λ m. refl; frame = λ f. refl }
+plain CmpEqi s i h = record { traps = refl; jumps = refl; calls = refl; memory = λ m. refl; frame = λ f. refl }
+plain CmpGti s i h = record { traps = refl; jumps = refl; calls = refl; memory = λ m. refl; frame = λ f. refl }
+plain Mpyi s i h = record { traps = refl; jumps = refl; calls = refl; memory = λ m. refl; frame = λ f. refl }
 plain Asl s i h = absurd (cc h)
 plain Asr s i h = absurd (cc h)
 plain Lsr s i h = absurd (cc h)
@@ -55,8 +55,8 @@ plain JumpIfNot s i h = absurd (cc h)
 plain Jumpr s i h = record { traps = refl; jumps = refl; calls = refl; memory = λ m. refl; frame = λ f. refl }
 plain Spill s i h = absurd (cc h)
 plain Reload s i h = absurd (cc h)
-plain P2R s i h = absurd (cc h)
-plain R2P s i h = absurd (cc h)
+plain P2R s i h = record { traps = refl; jumps = refl; calls = refl; memory = λ m. refl; frame = λ f. refl }
+plain R2P s i h = record { traps = refl; jumps = refl; calls = refl; memory = λ m. refl; frame = λ f. refl }
 plain Enter s i h = absurd (cc h)
 plain Leave s i h = absurd (cc h)
 plain Nop s i h = record { traps = refl; jumps = refl; calls = refl; memory = λ m. refl; frame = λ f. refl }

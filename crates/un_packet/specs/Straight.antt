@@ -1,21 +1,30 @@
--- The code that the machine runs today: one block of Imm, Mov, Add, Jumpr and Nop, which returns.
+-- The code that the machine runs today: one block, which returns, of operations on registers other than shifts.
 use Rattle.std.specs.Prelude.{ℕ, ◌≡◌, ◌<◌, ◌+◌, ◌^◌, Bool, true, false, List, length, All, slice_get, slice_index, IsSomeAnd, Option, Some, None}
 use Rattle.std.specs.List.{list_any}
 use Rattle.un_isa.specs.declared.op.Op.{Op}
-use Rattle.un_isa.specs.declared.op.Op.TheVariants.{Imm, Mov, Add, Jumpr, Nop}
+use Rattle.un_isa.specs.declared.op.Op.TheVariants.{Asl, Asr, Lsr, Load, Store, Call, Jump, JumpIf, JumpIfNot, Spill, Reload, Enter, Leave}
 use Rattle.un_isa.specs.declared.instr.Instr.{Instr}
 use Rattle.un_packet.specs.declared.code.Packet.{Packet}
 use Rattle.un_packet.specs.declared.code.CodeBlock.{CodeBlock}
 use Rattle.un_packet.specs.declared.code.Code.{Code}
 use Rattle.un_packet.specs.Step.{is_return, PacketState, PacketStep, Went, Stopped, Returned}
 
+-- it computes a register from registers and its literal, returns or does nothing
 abbrev pub is_straight : Op → Bool
-is_straight Imm = true
-is_straight Mov = true
-is_straight Add = true
-is_straight Jumpr = true
-is_straight Nop = true
-is_straight _ = false
+is_straight Asl = false
+is_straight Asr = false
+is_straight Lsr = false
+is_straight Load = false
+is_straight Store = false
+is_straight Call = false
+is_straight Jump = false
+is_straight JumpIf = false
+is_straight JumpIfNot = false
+is_straight Spill = false
+is_straight Reload = false
+is_straight Enter = false
+is_straight Leave = false
+is_straight _ = true
 
 abbrev pub AreStraight : List Instr → Type 0
 AreStraight is = All (λ (i : Instr). is_straight i.op ≡ true) is

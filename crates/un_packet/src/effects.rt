@@ -7,7 +7,7 @@ ghost use Rattle.un_packet.specs.Step.{reg_in, operand_in, value_of, writes_of, 
 ghost use Rattle.un_isa.specs.Fit.{IsFit};
 ghost use Rattle.un_packet.specs.Straight.{is_straight, AreStraight, passed};
 
-use crate::state::{STACK, State, at, put, put_ready, ready_at};
+use crate::state::{State, at, put, put_ready, ready_at};
 use un_isa::alu::value;
 use un_isa::instr::Instr;
 use un_isa::op::Op;

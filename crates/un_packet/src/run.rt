@@ -1,10 +1,9 @@
 //! Runs of code from a start.
 
-ghost use Rattle.std.specs.Prelude.{◌≡◌, ◌<◌, ◌≤◌, ◌+◌, ◌*◌, ◌^◌, length, Some, IfOk, IsSomeAnd, slice_get};
+ghost use Rattle.std.specs.Prelude.{◌≡◌, ◌<◌, ◌^◌, IfOk};
 ghost use Rattle.un_isa.specs.Fit.{IsFit};
 ghost use Rattle.un_packet.specs.Straight.{IsStraight};
 ghost use Rattle.un_packet.specs.Run.{packet_run, enter};
-ghost use Rattle.un_packet.specs.Machine.{first_machine};
 ghost use Rattle.un_packet.specs.Ends.{IsOutcome, EndsRun};
 ghost use Rattle.un_packet.specs.Outcomes.{IsBlockRun};
 

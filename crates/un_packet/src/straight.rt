@@ -1,8 +1,6 @@
-//! Which code the machine runs: one block of Imm, Mov, Add, Jumpr and Nop, which returns.
+//! Which code the machine runs: one block, which returns, of operations on registers other than shifts.
 
 ghost use Rattle.std.specs.Prelude.{◌≡◌, ◌↔◌, IsTrue, All};
-ghost use Rattle.std.specs.List.{list_any, list_all};
-ghost use Rattle.un_packet.specs.Step.{is_return};
 ghost use Rattle.un_packet.specs.Straight.{is_straight, AreStraight, returns_in, IsStraight, IsStraightBlock};
 
 use crate::code::{Code, CodeBlock, Packet};
@@ -15,12 +13,20 @@ fn is_straight_op(op: Op) -> bool
     ensures { result ≡ is_straight op }
 {
     match op {
-        Op::Imm => true,
-        Op::Mov => true,
-        Op::Add => true,
-        Op::Jumpr => true,
-        Op::Nop => true,
-        _ => false,
+        Op::Asl => false,
+        Op::Asr => false,
+        Op::Lsr => false,
+        Op::Load => false,
+        Op::Store => false,
+        Op::Call => false,
+        Op::Jump => false,
+        Op::JumpIf => false,
+        Op::JumpIfNot => false,
+        Op::Spill => false,
+        Op::Reload => false,
+        Op::Enter => false,
+        Op::Leave => false,
+        _ => true,
     }
 }
 
@@ -69,7 +75,8 @@ fn is_straight_block(block: &CodeBlock) -> bool
     packets_are_straight(packets)
 }
 
-/// Whether the machine runs the code: it is one block of Imm, Mov, Add, Jumpr and Nop, and its last packet returns.
+/// Whether the machine runs the code: it is one block of Jumpr, Nop and operations on registers other than shifts, Enter and
+/// Leave, and its last packet returns.
 pub fn is_straight(c: &Code) -> bool
     ensures { IsTrue result ↔ (IsStraight c.now) }
 {
