@@ -1,0 +1,5 @@
+pub mod Codes
+pub mod Pieces
+pub mod Shapes
+pub mod Tokens
+pub mod Words

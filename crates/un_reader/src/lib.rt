@@ -1,0 +1,13 @@
+//! Reading functions: the words of a line, its shape, its faults, the faults of a whole text, and the function.
+#![tactic(auto)]
+
+pub mod fault;
+pub mod forms;
+pub mod limits;
+pub mod line;
+pub mod number;
+pub mod pieces;
+pub mod shape;
+pub mod slot;
+pub mod token;
+pub mod words;
