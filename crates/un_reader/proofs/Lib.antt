@@ -1,3 +1,5 @@
+pub mod BeforeLaws
+pub mod CheckLaws
 pub mod NumberLaws
 pub mod PieceLaws
 pub mod WordLaws

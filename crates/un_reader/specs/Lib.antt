@@ -1,4 +1,9 @@
+pub mod Before
 pub mod Codes
+pub mod Errors
+pub mod LineFaults
+pub mod Lines
+pub mod Noted
 pub mod Pieces
 pub mod Shapes
 pub mod Tokens

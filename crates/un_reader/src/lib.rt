@@ -1,10 +1,14 @@
 //! Reading functions: the words of a line, its shape, its faults, the faults of a whole text, and the function.
 #![tactic(auto)]
 
+pub mod before;
+pub mod check;
+pub mod error;
 pub mod fault;
 pub mod forms;
 pub mod limits;
 pub mod line;
+pub mod line_fault;
 pub mod number;
 pub mod pieces;
 pub mod shape;
