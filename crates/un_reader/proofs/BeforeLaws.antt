@@ -1,27 +1,27 @@
 -- What stands before a line, one line further on.
 use Rattle.std.proofs.Common.{◌≡◌, ℕ, ◌+◌, ◌||◌, ◌++◌, Bool, true, false, cond, List, [], ◌∷◌, if◌then◌else◌, Option, Some, None, refl, sym, ap, ◌∙◌, zero-add, add-zero, append-nil, arith, ◌≤◌, length}
 use Rattle.std.specs.List.{list_any, filter_map, flat_map, count_by, sum_by, fold}
-use Rattle.std.specs.Option.{option_to_list}
+use Rattle.std.specs.Option.{option_to_list, option_or}
 use Rattle.std.proofs.lemmas.List.Elements.{filter_map-append}
 use Rattle.std.proofs.lemmas.Grind.{flat_map-append, fold-append}
 use Rattle.std.proofs.lemmas.List.Sums.{sum_by-append, count_by-le-length}
 use Rattle.un_reader.specs.declared.line.Line.{Line}
 use Rattle.un_reader.specs.declared.before.Before.{Before}
 use Rattle.un_reader.specs.Tokens.{Spelled}
-use Rattle.un_reader.specs.Before.{add_name, names_on, label_on, is_filled, is_operation, ended_after, labels_of, names_of, before_of}
+use Rattle.un_reader.specs.Before.{add_name, names_on, label_on, name_on, name_of, is_operation, ended_after, labels_of, names_of, before_of}
 use Rattle.un_reader.specs.Noted.{noted}
 
-or_false : (b : Bool) → (b || false) ≡ b
-or_false true = refl
-or_false false = refl
+option_or_none : {X : Type 0} (o : Option X) → option_or o None ≡ o
+option_or_none None = refl
+option_or_none (Some x) = refl
 
-or_assoc : (a b c : Bool) → (a || (b || c)) ≡ ((a || b) || c)
-or_assoc true b c = refl
-or_assoc false b c = refl
+option_or_assoc : {X : Type 0} (a b c : Option X) → option_or a (option_or b c) ≡ option_or (option_or a b) c
+option_or_assoc None b c = refl
+option_or_assoc (Some x) b c = refl
 
-list_any-push : {X : Type 0} (p : X → Bool) (xs : List X) (x : X) → list_any p (xs ++ x ∷ []) ≡ (list_any p xs || p x)
-list_any-push p [] x = or_false (p x)
-list_any-push p (y ∷ ys) x = ap (λ b. p y || b) (list_any-push p ys x) ∙ or_assoc (p y) (list_any p ys) (p x)
+name-push : (lines : List Line) (line : Line) → name_of (lines ++ line ∷ []) ≡ option_or (name_of lines) (name_on line)
+name-push [] line = option_or_none (name_on line)
+name-push (first ∷ lines) line = ap (λ o. option_or (name_on first) o) (name-push lines line) ∙ option_or_assoc (name_on first) (name_of lines) (name_on line)
 
 to_list : {X : Type 0} (o : Option X) → filter_map (λ (y : Option X). y) (o ∷ []) ≡ option_to_list o
 to_list None = refl
@@ -44,7 +44,7 @@ ended-push lines line = fold-append ended_after false lines (line ∷ [])
 
 pub before_of_push : (lines : List Line) (line : Line) → before_of (lines ++ line ∷ []) ≡ noted (before_of lines) line
 before_of_push lines line =
-    let started = list_any-push is_filled lines line in
+    let name = name-push lines line in
     let labels = labels-push lines line in
     let names = names-push lines line in
     let ops = ops-push lines line in

@@ -1,8 +1,8 @@
--- What stands before a line: whether there is a line that is not blank, the labels, the names in the order of their first
+-- What stands before a line: the name on the `func` line, where there is one, the labels, the names in the order of their first
 -- appearance, how many operations there are, and whether the last block has ended.
 use Rattle.std.specs.Prelude.{ℕ, ◌+◌, ◌&&◌, ◌||◌, Bool, true, false, not, List, [], ◌∷◌, ◌++◌, Option, Some, None, if◌then◌else◌}
 use Rattle.std.specs.List.{list_any, filter_map, flat_map, count_by, fold}
-use Rattle.std.specs.Option.{option_to_list}
+use Rattle.std.specs.Option.{option_to_list, option_or}
 use Rattle.std.specs.Str.{bytes_eq}
 use Rattle.un_ir.specs.declared.function.Kind.{Kind}
 use Rattle.un_ir.specs.declared.function.Kind.TheVariants.{General, Pred}
@@ -59,9 +59,14 @@ label_on _ = None
 abbrev pub labels_of : List Line → List (List ℕ)
 labels_of lines = filter_map label_on lines
 
-abbrev pub is_filled : Line → Bool
-is_filled Blank = false
-is_filled _ = true
+abbrev pub name_on : Line → Option (List ℕ)
+name_on (Func name params) = Some name
+name_on _ = None
+
+-- the name on the first `func` line
+abbrev pub name_of : List Line → Option (List ℕ)
+name_of [] = None
+name_of (line ∷ lines) = option_or (name_on line) (name_of lines)
 
 abbrev pub is_operation : Line → Bool
 is_operation (Operation o) = true
@@ -76,7 +81,7 @@ ended_after ended _ = ended
 -- what stands before a line that these lines stand before
 abbrev pub before_of : List Line → Before
 before_of lines = record {
-  started = list_any is_filled lines;
+  name = name_of lines;
   labels = labels_of lines;
   names = names_of lines;
   ops = count_by is_operation lines;

@@ -6,5 +6,6 @@ pub mod Lines
 pub mod Noted
 pub mod Pieces
 pub mod Shapes
+pub mod TextFaults
 pub mod Tokens
 pub mod Words

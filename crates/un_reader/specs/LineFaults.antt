@@ -1,5 +1,5 @@
 -- The faults of one line, given what stands before it.
-use Rattle.std.specs.Prelude.{ℕ, ◌==◌, ◌%◌, ◌^◌, ◌&&◌, ◌||◌, Bool, true, false, not, nat_lt, nat_le, List, [], ◌∷◌, length, Option, Some, None, unwrap_or, map, take, slice_get, if◌then◌else◌}
+use Rattle.std.specs.Prelude.{ℕ, ◌==◌, ◌%◌, ◌^◌, ◌&&◌, ◌||◌, Bool, true, false, not, nat_lt, nat_le, List, [], ◌∷◌, length, Option, Some, None, is_some, is_none, unwrap_or, map, take, slice_get, if◌then◌else◌}
 use Rattle.std.specs.List.{list_all, list_any}
 use Rattle.std.specs.Option.{option_map_or, option_and_then}
 use Rattle.std.specs.Str.{bytes_eq}
@@ -33,11 +33,12 @@ abbrev pub has_repeat : List Spelled → Bool
 has_repeat [] = false
 has_repeat (name ∷ names) = list_any (same_name name) names || has_repeat names
 
--- a `func` line that is not first or repeats a parameter, or another line that is first
+-- a `func` line that is not first or repeats a parameter, or another line that is first: where no line before has a
+-- fault, the first line that is not blank is a `func` line
 abbrev pub is_misplaced : Before → Line → Bool
 is_misplaced before Blank = false
-is_misplaced before (Func name params) = before.started || has_repeat params
-is_misplaced before _ = not before.started
+is_misplaced before (Func name params) = is_some before.name || has_repeat params
+is_misplaced before _ = is_none before.name
 
 -- ---- kinds
 

@@ -2,8 +2,8 @@
 
 ghost use Rattle.std.specs.Prelude.{◌≡◌, ◌+◌, ◌^◌, ◌<◌, ◌++◌, OnOk, length, [], false, if◌then◌else◌};
 ghost use Rattle.std.specs.List.{list_any, fold};
-ghost use Rattle.un_reader.specs.Before.{same_kind, same_name, add_name, numbered, names_on, before_of, label_on, is_filled, is_operation, ended_after};
-ghost use Rattle.std.specs.Option.{option_to_list};
+ghost use Rattle.un_reader.specs.Before.{same_kind, same_name, add_name, numbered, names_on, before_of, label_on, name_on, is_operation, ended_after};
+ghost use Rattle.std.specs.Option.{option_to_list, option_or};
 ghost use Rattle.un_reader.specs.Noted.{noted};
 
 use crate::forms::is_text;
@@ -14,11 +14,11 @@ use un_base::name::Name;
 use un_ir::function::Kind;
 use un_lists::items::Items;
 
-/// What stands before a line: whether there is a line that is not blank, the labels, the names in the order of their
-/// first appearance, how many operations there are, and whether a terminator has ended the last block.
+/// What stands before a line: the name on the `func` line, the labels, the names in the order of their first
+/// appearance, how many operations there are, and whether a terminator has ended the last block.
 #[derive(Debug, Drop)]
 pub struct Before {
-    pub started: bool,
+    pub name: Option<Name>,
     pub labels: Items<Name>,
     pub names: Items<(Name, Kind)>,
     pub ops: usize,
@@ -93,11 +93,14 @@ pub fn add_line(names: &mut Items<(Name, Kind)>, line: &Line) -> Result<(), NoMe
     }
 }
 
-/// Whether the line is not blank.
-fn is_filled(line: &Line) -> bool
-    ensures { result ≡ is_filled line.now }
+/// The name on a `func` line.
+fn name_on(line: &Line) -> Option<Name>
+    ensures { result ≡ name_on line.now }
 {
-    !matches!(line, Line::Blank)
+    match line {
+        Line::Func { name, .. } => Some(*name),
+        _ => None,
+    }
 }
 
 /// Whether a terminator has ended the last block behind the line.
@@ -138,7 +141,7 @@ impl Before {
         ensures { result ≡ before_of [] }
     {
         Before {
-            started: false,
+            name: None,
             labels: Items::new(alloc),
             names: Items::new(alloc),
             ops: 0,
@@ -156,7 +159,7 @@ impl Before {
     {
         add_line(&mut self.names, line)?;
         add_label(&mut self.labels, line)?;
-        self.started = self.started || is_filled(line);
+        self.name = self.name.or(name_on(line));
         self.ops = ops_after(self.ops, line);
         self.ended = ended_after(self.ended, line);
         Ok(())

@@ -13,5 +13,6 @@ pub mod number;
 pub mod pieces;
 pub mod shape;
 pub mod slot;
+pub mod text_fault;
 pub mod token;
 pub mod words;

@@ -51,8 +51,8 @@ fn is_misplaced(before: &Before, line: &Line) -> bool
 {
     match line {
         Line::Blank => false,
-        Line::Func { params, .. } => before.started || has_repeat(params.as_slice()),
-        _ => !before.started,
+        Line::Func { params, .. } => before.name.is_some() || has_repeat(params.as_slice()),
+        _ => before.name.is_none(),
     }
 }
 
@@ -221,7 +221,7 @@ fn has_bad_freq(line: &Line) -> bool
 }
 
 /// Whether the label is among these.
-fn has_label(labels: &[Name], label: Name) -> bool
+pub fn has_label(labels: &[Name], label: Name) -> bool
     ensures { result ≡ list_any (bytes_eq label) labels.now }
 {
     labels.iter().any(|l| is_text(label.as_bytes(), l.as_bytes()))
