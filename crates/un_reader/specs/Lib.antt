@@ -1,6 +1,7 @@
 pub mod Before
 pub mod Codes
 pub mod Errors
+pub mod Functions
 pub mod LineFaults
 pub mod Lines
 pub mod Noted

@@ -2,6 +2,7 @@
 #![tactic(auto)]
 
 pub mod before;
+pub mod build;
 pub mod check;
 pub mod error;
 pub mod fault;
