@@ -1,6 +1,6 @@
 //! The lines of a text, each checked against what stands before it.
 
-ghost use Rattle.std.specs.Prelude.{◌≡◌, ◌+◌, ◌<◌, ◌≤◌, ◌++◌, ◌∷◌, [], OnOk, IfOk, IfErr, Some, None, length};
+ghost use Rattle.std.specs.Prelude.{◌≡◌, ◌+◌, ◌<◌, ◌≤◌, ◌^◌, ◌++◌, ◌∷◌, [], OnOk, IfOk, IfErr, Some, None, length};
 ghost use Rattle.un_reader.specs.Before.{before_of};
 ghost use Rattle.un_reader.specs.Codes.{code_of};
 ghost use Rattle.un_reader.specs.Errors.{Tells};
@@ -22,13 +22,13 @@ use std::alloc::Global;
 use un_base::memory_error::NoMemory;
 use un_lists::items::Items;
 
-/// The fault of the line at a place, which is counted from 0.
-pub fn fault_of(place: usize, fault: Fault) -> ReadError
-    requires { place < 65536 }
-    ensures { result ≡ ReadError.TextFault (place + 1) (code_of fault) }
+/// The fault of a line, which is counted from 1.
+pub fn fault_of(line: usize, fault: Fault) -> ReadError
+    requires { line < 2 ^ 32 }
+    ensures { result ≡ ReadError.TextFault line (code_of fault) }
 {
     ReadError::TextFault {
-        line: place as u32 + 1,
+        line: line as u32,
         code: fault.code(),
     }
 }
@@ -49,13 +49,13 @@ fn good_line(alloc: Global, before: &Before, bytes: &[u8], place: usize) -> Resu
     ensures bad { IfErr result (Tells (λ l fault. (l ≡ place + 1) × (line_fault before.now bytes.now ≡ Some fault))) }
 {
     if !are_plain(bytes) {
-        return Err(fault_of(place, Fault::BadByte));
+        return Err(fault_of(place + 1, Fault::BadByte));
     }
     match shape(alloc, bytes)? {
-        None => Err(fault_of(place, Fault::BadLine)),
+        None => Err(fault_of(place + 1, Fault::BadLine)),
         Some(line) => match shaped_fault(before, &line)? {
             None => Ok(line),
-            Some(fault) => Err(fault_of(place, fault)),
+            Some(fault) => Err(fault_of(place + 1, fault)),
         },
     }
 }
@@ -76,12 +76,20 @@ fn add_line(alloc: Global, lines: &mut Items<Line>, before: &mut Before, bytes: 
     Ok(())
 }
 
+/// The lines of a text, and what would stand before a line behind them.
+#[derive(Debug, Drop)]
+pub struct Checked {
+    pub lines: Items<Line>,
+    pub before: Before,
+}
+
 /// The lines of a text by their shapes, one for each, where none has a fault, or else the first fault.
-pub fn check_lines(alloc: Global, text: &[u8]) -> Result<Items<Line>, ReadError>
+pub fn check_lines(alloc: Global, text: &[u8]) -> Result<Checked, ReadError>
     requires { length text.now ≤ 65536 }
-    ensures good { IfOk result (λ lines. HasNoLineFault (lines_in text.now)) }
-    ensures lines { IfOk result (λ lines. lines ≡ shapes_in text.now) }
-    ensures count { IfOk result (λ lines. length lines ≤ length text.now) }
+    ensures good { IfOk result (λ checked. HasNoLineFault (lines_in text.now)) }
+    ensures lines { IfOk result (λ checked. checked.lines ≡ shapes_in text.now) }
+    ensures before { IfOk result (λ checked. checked.before ≡ before_of checked.lines) }
+    ensures count { IfOk result (λ checked. length checked.lines ≤ length text.now) }
     ensures bad { IfErr result (Tells (IsFirstLineFault (lines_in text.now))) }
 {
     let mut lines = Items::new(alloc);
@@ -92,5 +100,5 @@ pub fn check_lines(alloc: Global, text: &[u8]) -> Result<Items<Line>, ReadError>
         add_line(alloc, &mut lines, &mut before, content(&rest[..len]))?;
         rest = &rest[len..];
     }
-    Ok(lines)
+    Ok(Checked { lines, before })
 }

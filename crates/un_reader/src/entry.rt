@@ -2,6 +2,7 @@
 
 ghost use Rattle.std.specs.Prelude.{◌≡◌, ◌+◌, ◌<◌, ◌^◌, ◌≤◌, IfOk, IfSome, IfNone, length, true, false, nat_eq, Contains};
 ghost use Rattle.std.specs.List.{list_any};
+ghost use Rattle.un_base.specs.declared.ids.NameId.{NameId};
 ghost use Rattle.un_ir.specs.Live.{IsLive, read_by_term};
 ghost use Rattle.un_reader.specs.Entry.{IsLiveAtEntry, HasNoneLive, reads, assigns, meeting, marked, leads, live_by, lives, lives_at, AreSound, AreClosed};
 
@@ -122,28 +123,57 @@ fn next_block(blocks: &[Block], name: NameId, marks: &[bool]) -> Option<usize>
     None
 }
 
-/// Marks blocks until none is left to be marked.
-#[tactic(auto, using(crate::proofs::EntryLaws::sound_step, crate::proofs::EntryLaws::fewer_unmarked))]
-fn spread(blocks: &[Block], name: NameId, marks: &mut [bool])
+/// Marks blocks until none is left to be marked, and answers whether the entry is marked then.
+#[tactic(auto, using(crate::proofs::EntryLaws::fewer_unmarked))]
+fn spread(blocks: &[Block], name: NameId, marks: &mut [bool]) -> bool
     requires few { length blocks.now < 2 ^ 32 }
     requires long { length marks.old ≡ length blocks.now }
     requires sound { AreSound blocks.now name marks.old }
-    ensures sound { AreSound blocks.now name marks.new }
-    ensures closed { AreClosed blocks.now name marks.new }
+    ensures yes { result ≡ true → IsLive blocks.now name 0 0 }
+    ensures no { result ≡ false → IsLive blocks.now name 0 0 → ⊥ }
 {
     while let Some(b) = next_block(blocks, name, marks) {
         marks[b] = true;
     }
+    marked(marks, 0)
 }
 
 /// Whether the name is live at the start of the entry.
-#[tactic(auto, using(crate::proofs::EntryLaws::none_marked, crate::proofs::EntryLaws::not_live))]
+#[tactic(auto, using(crate::proofs::EntryLaws::none_marked))]
 fn is_live(alloc: Global, blocks: &[Block], name: NameId) -> Result<bool, NoMemory>
     requires { length blocks.now < 2 ^ 32 }
     ensures yes { IfOk result (λ live. live ≡ true → IsLive blocks.now name 0 0) }
     ensures no { IfOk result (λ live. live ≡ false → IsLive blocks.now name 0 0 → ⊥) }
 {
     let mut marks = vec![in alloc; false; blocks.len()]?;
-    spread(blocks, name, &mut marks);
-    Ok(marked(&marks, 0))
+    Ok(spread(blocks, name, &mut marks))
+}
+
+/// Whether the name is no parameter and is live at the start of the entry.
+#[tactic(auto, using(crate::proofs::EntryLaws::param_reads))]
+fn is_live_name(alloc: Global, f: &Function, name: NameId) -> Result<bool, NoMemory>
+    requires number { name.0 < length f.now.names }
+    requires few { length f.now.blocks < 2 ^ 32 }
+    ensures yes { IfOk result (λ live. live ≡ true → IsLiveAtEntry f.now name) }
+    ensures no { IfOk result (λ live. live ≡ false → IsLiveAtEntry f.now name → ⊥) }
+{
+    if reads(name, f.params.as_slice()) {
+        return Ok(false);
+    }
+    is_live(alloc, f.blocks.as_slice(), name)
+}
+
+/// Whether a name that is no parameter is live at the start of the entry.
+pub fn has_live(alloc: Global, f: &Function) -> Result<bool, NoMemory>
+    requires names { length f.now.names < 2 ^ 32 }
+    requires blocks { length f.now.blocks < 2 ^ 32 }
+    ensures yes { IfOk result (λ live. live ≡ true → (name : NameId) × IsLiveAtEntry f.now name) }
+    ensures no { IfOk result (λ live. live ≡ false → HasNoneLive f.now) }
+{
+    for i in 0..f.names.len() {
+        if is_live_name(alloc, f, NameId(i as u32))? {
+            return Ok(true);
+        }
+    }
+    Ok(false)
 }

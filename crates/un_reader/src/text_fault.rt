@@ -13,7 +13,7 @@ use crate::line_fault::has_label;
 use un_base::name::Name;
 
 /// Whether it is a block line.
-fn is_block(line: &Line) -> bool
+pub fn is_block(line: &Line) -> bool
     ensures { result ≡ is_block line.now }
 {
     matches!(line, Line::Block { .. })
