@@ -1,0 +1,7 @@
+pub mod BeforeLaws
+pub mod CheckLaws
+pub mod EntryLaws
+pub mod NumberLaws
+pub mod PieceLaws
+pub mod ReadLaws
+pub mod WordLaws

@@ -1,0 +1,84 @@
+-- The function that lines are.
+use Rattle.std.specs.Prelude.{ℕ, zero, suc, ℤ, pos, negsuc, ◌-◌, ◌^◌, min, List, [], ◌∷◌, Option, Some, None, map, unwrap_or, if◌then◌else◌}
+use Rattle.std.specs.List.{position_or_len, cons_option}
+use Rattle.std.specs.Option.{option_map}
+use Rattle.std.specs.Str.{bytes_eq}
+use Rattle.un_base.specs.declared.ids.NameId.{NameId}
+use Rattle.un_base.specs.declared.ids.BlockId.{BlockId}
+use Rattle.un_ir.specs.declared.function.SrcOp.{SrcOp}
+use Rattle.un_ir.specs.declared.function.Term.{Term}
+use Rattle.un_ir.specs.declared.function.Term.TheVariants.{Fall, Jump as JumpTo, Branch as BranchTo, Ret as Return}
+use Rattle.un_ir.specs.declared.function.Block.{Block as SourceBlock}
+use Rattle.un_ir.specs.declared.function.Function.{Function}
+use Rattle.un_reader.specs.declared.token.Number.{Number}
+use Rattle.un_reader.specs.declared.line.OpLine.{OpLine}
+use Rattle.un_reader.specs.declared.line.TermLine.{TermLine}
+use Rattle.un_reader.specs.declared.line.TermLine.TheVariants.{Jump, Branch, Ret}
+use Rattle.un_reader.specs.declared.line.Line.{Line}
+use Rattle.un_reader.specs.declared.line.Line.TheVariants.{Blank, Func, Block, Operation, Terminator}
+use Rattle.un_reader.specs.Tokens.{Spelled}
+use Rattle.un_reader.specs.Before.{same_name, names_of, labels_of, name_of}
+use Rattle.un_reader.specs.TextFaults.{term_of}
+
+-- the number of a name is its place among the names
+abbrev pub name_id : List Spelled → Spelled → NameId
+name_id names name = record { 0 = position_or_len (same_name name) names }
+
+-- the number of a block is the place of its label
+abbrev pub block_id : List (List ℕ) → List ℕ → BlockId
+block_id labels label = record { 0 = position_or_len (bytes_eq label) labels }
+
+abbrev pub negated : ℕ → ℤ
+negated zero = pos 0
+negated (suc n) = negsuc n
+
+-- the number that is written; one that does not fit 32 bits is kept as the nearest that does
+abbrev pub literal_value : Number → ℤ
+literal_value n = if n.negative then negated (min n.size (2 ^ 31 - 1)) else pos (min n.size (2 ^ 31 - 1))
+
+abbrev pub op_of : List Spelled → OpLine → SrcOp
+op_of names o = record { op = o.op; dst = option_map (name_id names) o.dst; srcs = map (name_id names) o.srcs; imm = literal_value o.imm; callee = o.callee }
+
+abbrev pub term_by : List Spelled → List (List ℕ) → Option TermLine → Term
+term_by names labels None = Fall
+term_by names labels (Some (Jump to)) = JumpTo (block_id labels to)
+term_by names labels (Some (Branch pred sense to)) = BranchTo (name_id names pred) sense (block_id labels to)
+term_by names labels (Some (Ret value)) = Return (option_map (name_id names) value)
+
+abbrev pub op_or : List Spelled → Line → List SrcOp → List SrcOp
+op_or names (Operation o) later = op_of names o ∷ later
+op_or names (Block label freq) later = []
+op_or names _ later = later
+
+-- the operations of a block, by the lines behind its block line
+abbrev pub ops_of : List Spelled → List Line → List SrcOp
+ops_of names [] = []
+ops_of names (line ∷ lines) = op_or names line (ops_of names lines)
+
+-- the block that a block line begins, by the lines behind it
+abbrev pub block_on : List Spelled → List (List ℕ) → Line → List Line → Option SourceBlock
+block_on names labels (Block label freq) rest =
+    Some (record { label = label; freq = freq.size; ops = ops_of names rest; term = term_by names labels (term_of rest) })
+block_on names labels _ rest = None
+
+abbrev pub blocks_of : List Spelled → List (List ℕ) → List Line → List SourceBlock
+blocks_of names labels [] = []
+blocks_of names labels (line ∷ lines) = cons_option (block_on names labels line lines) (blocks_of names labels lines)
+
+abbrev pub params_or : Line → List Spelled → List Spelled
+params_or (Func name params) later = params
+params_or _ later = later
+
+-- the parameters on the `func` line
+abbrev pub params_of : List Line → List Spelled
+params_of [] = []
+params_of (line ∷ lines) = params_or line (params_of lines)
+
+-- the function that lines without a fault are
+abbrev pub function_of : List Line → Function
+function_of lines = record {
+  name = unwrap_or (name_of lines) [];
+  params = map (name_id (names_of lines)) (params_of lines);
+  names = names_of lines;
+  blocks = blocks_of (names_of lines) (labels_of lines) lines;
+}

@@ -1,0 +1,15 @@
+pub mod Before
+pub mod Codes
+pub mod Entry
+pub mod Errors
+pub mod Functions
+pub mod LineFaults
+pub mod Lines
+pub mod Named
+pub mod Noted
+pub mod Pieces
+pub mod Read
+pub mod Shapes
+pub mod TextFaults
+pub mod Tokens
+pub mod Words

@@ -1,0 +1,15 @@
+-- What stands before a line, one line further on.
+use Rattle.std.specs.Prelude.{◌+◌, ◌||◌, ◌++◌, ◌≡◌, List, [], ◌∷◌, if◌then◌else◌}
+use Rattle.std.specs.Option.{option_to_list, option_or}
+use Rattle.un_reader.specs.declared.line.Line.{Line}
+use Rattle.un_reader.specs.declared.before.Before.{Before}
+use Rattle.un_reader.specs.Before.{numbered, names_on, label_on, name_on, is_operation, ended_after}
+
+abbrev pub noted : Before → Line → Before
+noted before line = record {
+  name = option_or before.name (name_on line);
+  labels = before.labels ++ option_to_list (label_on line);
+  names = numbered before.names (names_on line);
+  ops = before.ops + (if is_operation line then 1 else 0);
+  ended = ended_after before.ended line;
+}

@@ -1,0 +1,298 @@
+//! The faults of one line, given what stands before it.
+
+ghost use Rattle.std.specs.Prelude.{◌≡◌, ◌==◌, ◌&&◌, ◌||◌, not, IfOk, length, drop};
+ghost use Rattle.std.specs.List.{list_any, list_all};
+ghost use Rattle.std.specs.Str.{bytes_eq};
+ghost use Rattle.un_reader.specs.LineFaults.{is_plain_byte, has_repeat, is_misplaced, is_predicate, result_kind, operands_clash, result_clashes, term_clashes, has_clash, is_over_limit, has_too_many, fits_signed, fits_unsigned, fits_offset, literal_fits, is_wide, freq_fits, has_bad_freq, repeats_label, is_body, is_before_block, is_after_end, first_of, faults_on, line_fault, line_of};
+
+use crate::before::{Before, add_line, has_name, same_kind};
+use crate::fault::Fault;
+use crate::forms::is_text;
+use crate::limits::PARAMS;
+use crate::line::{Line, OpLine, TermLine};
+use crate::token::Number;
+use std::alloc::Global;
+use un_base::memory_error::NoMemory;
+use un_base::name::Name;
+use un_ir::function::{BLOCKS, FREQUENCY, Kind, NAMES, OPS};
+use un_isa::op::Op;
+
+/// Whether it is a tab, or a byte from a space to a tilde.
+fn is_plain_byte(b: u8) -> bool
+    ensures { result ≡ is_plain_byte b }
+{
+    b == b'\t' || (32 <= b && b <= 126)
+}
+
+/// Whether each byte is.
+pub fn are_plain(bytes: &[u8]) -> bool
+    ensures { result ≡ list_all is_plain_byte bytes.now }
+{
+    bytes.iter().all(|b| is_plain_byte(*b))
+}
+
+/// Whether a name stands in the list twice.
+fn has_repeat(names: &[(Name, Kind)]) -> bool
+    ensures { result ≡ has_repeat names.now }
+{
+    let mut rest = names;
+    while let Some((name, more)) = rest.split_first() {
+        if has_name(more, name) {
+            return true;
+        }
+        rest = more;
+    }
+    false
+}
+
+/// Whether a `func` line is not the first or repeats a parameter, or another line is the first.
+fn is_misplaced(before: &Before, line: &Line) -> bool
+    ensures { result ≡ is_misplaced before.now line.now }
+{
+    match line {
+        Line::Blank => false,
+        Line::Func { params, .. } => before.name.is_some() || has_repeat(params.as_slice()),
+        _ => before.name.is_none(),
+    }
+}
+
+/// Whether the name is that of a predicate.
+fn is_predicate(name: &(Name, Kind)) -> bool
+    ensures { result ≡ is_predicate name.now }
+{
+    same_kind(Kind::Pred, name.1)
+}
+
+/// Whether one of the names is.
+fn has_predicate(names: &[(Name, Kind)]) -> bool
+    ensures { result ≡ list_any is_predicate names.now }
+{
+    names.iter().any(|n| is_predicate(n))
+}
+
+/// The kind of an operation's result.
+fn result_kind(op: Op) -> Kind
+    ensures { result ≡ result_kind op }
+{
+    match op {
+        Op::CmpEq | Op::CmpGt | Op::CmpGtu | Op::CmpEqi | Op::CmpGti => Kind::Pred,
+        _ => Kind::General,
+    }
+}
+
+/// Whether the first operand of a Mux is no predicate, or another one is.
+fn mux_clashes(srcs: &[(Name, Kind)]) -> bool
+    ensures { result ≡ operands_clash Op.Mux srcs.now }
+{
+    match srcs.split_first() {
+        None => false,
+        Some((pred, rest)) => !is_predicate(pred) || has_predicate(rest),
+    }
+}
+
+/// Whether an operand is not of the kind of its place.
+fn operands_clash(op: Op, srcs: &[(Name, Kind)]) -> bool
+    ensures { result ≡ operands_clash op srcs.now }
+{
+    match op {
+        Op::Mux => mux_clashes(srcs),
+        _ => has_predicate(srcs),
+    }
+}
+
+/// Whether the result is not of the operation's kind.
+fn result_clashes(op: Op, dst: &Option<(Name, Kind)>) -> bool
+    ensures { result ≡ result_clashes op dst.now }
+{
+    match dst {
+        Some(name) => !same_kind(result_kind(op), name.1),
+        None => false,
+    }
+}
+
+/// Whether a terminator's name is not of the kind of its place.
+fn term_clashes(term: &TermLine) -> bool
+    ensures { result ≡ term_clashes term.now }
+{
+    match term {
+        TermLine::Jump(_) => false,
+        TermLine::Branch { pred, .. } => !is_predicate(pred),
+        TermLine::Ret(None) => false,
+        TermLine::Ret(Some(name)) => is_predicate(name),
+    }
+}
+
+/// Whether a name of the line is not of the kind of its place.
+fn has_clash(line: &Line) -> bool
+    ensures { result ≡ has_clash line.now }
+{
+    match line {
+        Line::Blank => false,
+        Line::Func { params, .. } => has_predicate(params.as_slice()),
+        Line::Block { .. } => false,
+        Line::Operation(o) => result_clashes(o.op, &o.dst) || operands_clash(o.op, o.srcs.as_slice()),
+        Line::Terminator(term) => term_clashes(term),
+    }
+}
+
+/// Whether there is a 7th parameter or argument, a 17th block or an 81st operation.
+fn is_over_limit(before: &Before, line: &Line) -> bool
+    ensures { result ≡ is_over_limit before.now line.now }
+{
+    match line {
+        Line::Func { params, .. } => PARAMS < params.len(),
+        Line::Block { .. } => (BLOCKS as usize) <= before.labels.len(),
+        Line::Operation(o) => PARAMS < o.srcs.len() || (OPS as usize) <= before.ops,
+        _ => false,
+    }
+}
+
+/// Whether there is one of these, or a 41st name.
+fn has_too_many(before: &Before, line: &Line) -> Result<bool, NoMemory>
+    ensures { IfOk result (λ many. many ≡ has_too_many before.now line.now) }
+{
+    if is_over_limit(before, line) {
+        return Ok(true);
+    }
+    let mut names = before.names.clone()?;
+    add_line(&mut names, line)?;
+    Ok((NAMES as usize) < names.len())
+}
+
+/// Whether the number is at least `-limit` and less than `limit`.
+fn fits_signed(limit: u32, n: Number) -> bool
+    ensures { result ≡ fits_signed limit n }
+{
+    n.size < limit || (n.negative && n.size == limit)
+}
+
+/// Whether the number is at least 0 and less than `limit`.
+fn fits_unsigned(limit: u32, n: Number) -> bool
+    ensures { result ≡ fits_unsigned limit n }
+{
+    n.size < limit && (!n.negative || n.size == 0)
+}
+
+/// Whether the number is an offset: a multiple of 4 of 13 bits with its sign.
+fn fits_offset(n: Number) -> bool
+    ensures { result ≡ fits_offset n }
+{
+    fits_signed(4096, n) && n.size % 4 == 0
+}
+
+/// Whether the literal is in the range of its operation.
+fn literal_fits(op: Op, n: Number) -> bool
+    ensures { result ≡ literal_fits op n }
+{
+    match op {
+        Op::Imm | Op::Addi => fits_signed(32768, n),
+        Op::Andi | Op::Ori | Op::CmpEqi | Op::CmpGti => fits_signed(512, n),
+        Op::Asl | Op::Asr | Op::Lsr => fits_unsigned(32, n),
+        Op::Load | Op::Store => fits_offset(n),
+        _ => true,
+    }
+}
+
+/// Whether the line's literal is outside the range of its operation.
+fn is_wide(line: &Line) -> bool
+    ensures { result ≡ is_wide line.now }
+{
+    match line {
+        Line::Operation(o) => !literal_fits(o.op, o.imm),
+        _ => false,
+    }
+}
+
+/// Whether the number is a frequency.
+fn freq_fits(n: Number) -> bool
+    ensures { result ≡ freq_fits n }
+{
+    !n.negative && 1 <= n.size && n.size <= FREQUENCY
+}
+
+/// Whether a block line's frequency is none.
+fn has_bad_freq(line: &Line) -> bool
+    ensures { result ≡ has_bad_freq line.now }
+{
+    match line {
+        Line::Block { freq, .. } => !freq_fits(*freq),
+        _ => false,
+    }
+}
+
+/// Whether the label is among these.
+pub fn has_label(labels: &[Name], label: Name) -> bool
+    ensures { result ≡ list_any (bytes_eq label) labels.now }
+{
+    labels.iter().any(|l| is_text(label.as_bytes(), l.as_bytes()))
+}
+
+/// Whether a block line's label stands on an earlier one.
+fn repeats_label(before: &Before, line: &Line) -> bool
+    ensures { result ≡ repeats_label before.now line.now }
+{
+    match line {
+        Line::Block { label, .. } => has_label(before.labels.as_slice(), *label),
+        _ => false,
+    }
+}
+
+/// Whether the line is an operation or a terminator.
+fn is_body(line: &Line) -> bool
+    ensures { result ≡ is_body line.now }
+{
+    match line {
+        Line::Operation(_) => true,
+        Line::Terminator(_) => true,
+        _ => false,
+    }
+}
+
+/// Whether the line is one and stands before the first block line.
+fn is_before_block(before: &Before, line: &Line) -> bool
+    ensures { result ≡ is_before_block before.now line.now }
+{
+    is_body(line) && before.labels.len() == 0
+}
+
+/// Whether the line is one and stands behind its block's terminator.
+fn is_after_end(before: &Before, line: &Line) -> bool
+    ensures { result ≡ is_after_end before.now line.now }
+{
+    is_body(line) && before.ended
+}
+
+/// The first fault of a line with a shape.
+pub fn shaped_fault(before: &Before, line: &Line) -> Result<Option<Fault>, NoMemory>
+    ensures { IfOk result (λ fault. fault ≡ first_of (faults_on before.now line.now)) }
+{
+    let fault = if is_misplaced(before, line) {
+        Some(Fault::BadLine)
+    } else if has_clash(line) {
+        Some(Fault::KindClash)
+    } else if has_too_many(before, line)? {
+        Some(Fault::TooMany)
+    } else {
+        late_fault(before, line)
+    };
+    Ok(fault)
+}
+
+/// The first of the faults that are looked for last.
+fn late_fault(before: &Before, line: &Line) -> Option<Fault>
+    ensures { result ≡ first_of (drop 3 (faults_on before.now line.now)) }
+{
+    if is_wide(line) {
+        Some(Fault::WideLiteral)
+    } else if has_bad_freq(line) {
+        Some(Fault::BadFreq)
+    } else if repeats_label(before, line) {
+        Some(Fault::DupLabel)
+    } else if is_before_block(before, line) {
+        Some(Fault::NoBlock)
+    } else if is_after_end(before, line) {
+        Some(Fault::AfterEnd)
+    } else {
+        None
+    }
+}

@@ -1,0 +1,100 @@
+//! Reading a function.
+
+ghost use Rattle.std.specs.Prelude.{◌≡◌, ◌+◌, ◌<◌, ◌^◌, ◌≤◌, IfOk, IfErr, Some, None, length};
+ghost use Rattle.std.specs.List.{position_or_len};
+ghost use Rattle.un_reader.specs.Before.{before_of, name_of, names_of, labels_of};
+ghost use Rattle.un_reader.specs.Errors.{Tells};
+ghost use Rattle.un_reader.specs.Functions.{function_of};
+ghost use Rattle.un_reader.specs.Named.{IsNamed};
+ghost use Rattle.un_reader.specs.Read.{IsRead, IsTextFault};
+ghost use Rattle.un_reader.specs.TextFaults.{is_block, shape_fault};
+
+use crate::before::Before;
+use crate::build::source_function;
+use crate::check::{Checked, check_lines, fault_of};
+use crate::entry::has_live;
+use crate::error::ReadError;
+use crate::fault::Fault;
+use crate::limits::TEXT;
+use crate::line::Line;
+use crate::text_fault::{is_block, shape_fault};
+use std::alloc::Global;
+use un_base::name::Name;
+use un_ir::function::{Function, Kind};
+use un_lists::items::Items;
+
+/// The place of the first block line, or the count where there is none.
+fn entry_place(lines: &[Line]) -> usize
+    ensures place { result ≡ position_or_len is_block lines.now }
+    ensures bound { result ≤ length lines.now }
+{
+    for (i, line) in lines.iter().enumerate() {
+        if is_block(line) {
+            return i;
+        }
+    }
+    lines.len()
+}
+
+/// The same for lines with this name, these names and labels.
+fn named_function(alloc: Global, lines: &[Line], name: Name, names: Items<(Name, Kind)>, labels: &[Name]) -> Result<Function, ReadError>
+    requires name { name_of lines.now ≡ Some name }
+    requires names { names ≡ names_of lines.now }
+    requires labels { labels.now ≡ labels_of lines.now }
+    requires few_names { length names ≤ 40 }
+    requires few_labels { length labels.now ≤ 65536 }
+    requires count { length lines.now ≤ 65536 }
+    ensures good { IfOk result (λ f. shape_fault lines.now ≡ None) }
+    ensures function { IfOk result (λ f. f ≡ function_of lines.now) }
+    ensures bad { IfErr result (Tells (λ line fault. shape_fault lines.now ≡ Some (line, fault))) }
+{
+    if let Some((line, fault)) = shape_fault(lines, labels) {
+        return Err(fault_of(line, fault));
+    }
+    let function = source_function(alloc, name, names, labels, lines)?;
+    Ok(function)
+}
+
+/// The function that lines without a fault are, where their whole has none, liveness left out.
+fn good_function(alloc: Global, lines: &[Line], before: Before) -> Result<Function, ReadError>
+    requires before { before ≡ before_of lines.now }
+    requires few { length before.names ≤ 40 }
+    requires named { IsNamed before }
+    requires count { length lines.now ≤ 65536 }
+    requires labels { length before.labels ≤ 65536 }
+    ensures good { IfOk result (λ f. shape_fault lines.now ≡ None) }
+    ensures function { IfOk result (λ f. f ≡ function_of lines.now) }
+    ensures bad { IfErr result (Tells (λ line fault. shape_fault lines.now ≡ Some (line, fault))) }
+{
+    let Before {
+        name,
+        labels,
+        names,
+        ops: _,
+        ended: _,
+    } = before;
+    match name {
+        None => Err(fault_of(lines.len() + 1, Fault::NoBlock)),
+        Some(name) => named_function(alloc, lines, name, names, labels.as_slice()),
+    }
+}
+
+/// The function that a text is.
+///
+/// # Errors
+/// `TextFault` with the line and the code of the text's first fault where it is none, and `NoMemory` where there is no
+/// memory for the function or for what is needed on the way.
+pub fn read_function(alloc: Global, text: &[u8]) -> Result<Function, ReadError>
+    ensures read { IfOk result (IsRead text.now) }
+    ensures fault { IfErr result (Tells (IsTextFault text.now)) }
+{
+    if text.len() > TEXT {
+        return Err(fault_of(0, Fault::TooMany));
+    }
+    let Checked { lines, before } = check_lines(alloc, text)?;
+    let function = good_function(alloc, lines.as_slice(), before)?;
+    if has_live(alloc, &function)? {
+        return Err(fault_of(entry_place(lines.as_slice()) + 1, Fault::LiveAtEntry));
+    }
+    Ok(function)
+}
