@@ -11,5 +11,7 @@ pub mod placement;
 mod registers;
 pub mod schedule;
 pub mod straight;
+#[cfg(test)]
+mod tests;
 pub mod verdict;
 pub mod violations;
