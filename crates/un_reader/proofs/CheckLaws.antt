@@ -75,12 +75,16 @@ pub seen_fault : (all : List (List ℕ)) (lines : List Line) (bytes : List ℕ) 
     → Tells (λ l fault. (l ≡ length lines + 1) × (line_fault (before_of lines) bytes ≡ Some fault)) e
     → Tells (IsFirstLineFault all) e
 seen_fault all lines bytes rest NoMemory s t = tt
-seen_fault all lines bytes rest (TextFault line code) s (fault, is, (number, here)) = (fault, is, record {
-  place = length s.front;
-  number = number ∙ ap (λ n. n + 1) (ap length s.read ∙ length-map s.front line_of);
-  here = fault_next all lines bytes rest s ∙ here;
-  before = s.good;
-})
+seen_fault all lines bytes rest (TextFault line code) s (fault, is, (number, here)) = (
+  fault,
+  is,
+  record {
+    place = length s.front;
+    number = number ∙ ap (λ n. n + 1) (ap length s.read ∙ length-map s.front line_of);
+    here = fault_next all lines bytes rest s ∙ here;
+    before = s.good;
+  },
+)
 
 -- the first line of a text
 first_line : (piece old new bytes : List ℕ) → pieces_of old ≡ piece ∷ pieces_of new → bytes ≡ without_comment (without_end piece) → lines_in old ≡ bytes ∷ lines_in new
@@ -100,7 +104,7 @@ pub fault_step : (all : List (List ℕ)) (lines : List Line) (before : Before) (
     → Tells (IsFirstLineFault all) e
 fault_step all lines before piece old new bytes e s cut is same tells =
     seen_fault all lines bytes (lines_in new) e (subst (Seen all lines) (first_line piece old new bytes cut is) s)
-        (subst (λ (b : Before). Tells (λ l fault. (l ≡ length lines + 1) × (line_fault b bytes ≡ Some fault)) e) same tells)
+    (subst (λ (b : Before). Tells (λ l fault. (l ≡ length lines + 1) × (line_fault b bytes ≡ Some fault)) e) same tells)
 
 -- ---- the faults that come before a shape
 

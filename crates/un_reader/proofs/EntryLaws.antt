@@ -182,7 +182,7 @@ live_meets blocks name marks closed b k (kept b2 k2 own c l g h na nx live) bloc
     let e : own ≡ block = same_some own block (sym g ∙ is) in
     let next = live_block blocks name c l live in
     kept_meets blocks name marks closed b2 k2 block is (subst (λ (x : Block). k2 ≤ length x.ops) e h) (subst (λ (x : Block). assigned_at x k2 ≢ Some name) e na)
-        c l (subst (λ (x : Block). Contains {X = ℕ × ℕ} (next_of b2 k2 x) (c, l)) e nx) next.0 next.1 (live_meets blocks name marks closed c l live)
+    c l (subst (λ (x : Block). Contains {X = ℕ × ℕ} (next_of b2 k2 x) (c, l)) e nx) next.0 next.1 (live_meets blocks name marks closed c l live)
 
 -- where no block is left to be marked and the entry is not marked, the name is not live there
 pub not_live : (blocks : List Block) (name : NameId) (marks : List Bool) → AreClosed blocks name marks → marked marks 0 ≡ false → IsLive blocks name 0 0 → ⊥
@@ -207,9 +207,9 @@ meets_live blocks name b block is l out [] k drops h hyp = elim (at_place block.
     by none false e hyp =
         let t = out hyp in
         kept b k block t.0 0 is h
-            (subst (λ (o : Option SrcOp). assigned_by o ≢ Some name) (sym none) (λ e. cc e))
-            (subst (λ (o : Option SrcOp). Contains {X = ℕ × ℕ} (next_by b k o block.term) (t.0, 0)) (sym none) (pair_place (targets_of b block.term) t.0 t.1))
-            t.2
+        (subst (λ (o : Option SrcOp). assigned_by o ≢ Some name) (sym none) (λ e. cc e))
+        (subst (λ (o : Option SrcOp). Contains {X = ℕ × ℕ} (next_by b k o block.term) (t.0, 0)) (sym none) (pair_place (targets_of b block.term) t.0 t.1))
+        t.2
 meets_live blocks name b block is l out (o ∷ os) k drops h hyp = elim (at_place block.ops k h) [
   | inl (none, empty) ↦ absurd (cc (sym empty ∙ drops))
   | inr s ↦
@@ -230,9 +230,9 @@ meets_live blocks name b block is l out (o ∷ os) k drops h hyp = elim (at_plac
     by got bound later false e true f hyp = absurd (cc hyp)
     by got bound later false e false f hyp =
         kept b k block b (k + 1) is h
-            (subst (λ (x : Option SrcOp). assigned_by x ≢ Some name) (sym got) (λ d. not_assigned d))
-            (subst (λ (x : Option SrcOp). Contains {X = ℕ × ℕ} (next_by b k x block.term) (b, k + 1)) (sym got) (0, omega arith, refl))
-            (later hyp)
+        (subst (λ (x : Option SrcOp). assigned_by x ≢ Some name) (sym got) (λ d. not_assigned d))
+        (subst (λ (x : Option SrcOp). Contains {X = ℕ × ℕ} (next_by b k x block.term) (b, k + 1)) (sym got) (0, omega arith, refl))
+        (later hyp)
       where
         not_assigned : o.dst ≡ Some name → ⊥
         not_assigned d = let yes : assigns name o.dst ≡ true = rw d (own_id name) in cc (sym f ∙ yes)
@@ -244,8 +244,8 @@ block_live blocks name marks sound b h = by (slice_get blocks b) refl h
     by None e hyp = absurd (cc hyp)
     by (Some block) e hyp =
         meets_live blocks name b block e (leads marks b block.term)
-            (λ led. let t = leads_target marks b block.term led in (t.0, t.1, sound t.0 t.2))
-            block.ops 0 refl (omega arith) hyp
+        (λ led. let t = leads_target marks b block.term led in (t.0, t.1, sound t.0 t.2))
+        block.ops 0 refl (omega arith) hyp
 
 marked_set : (marks : List Bool) (b c : ℕ) → marked (set marks b true) c ≡ true → (c ≡ b) ⊎ (marked marks c ≡ true)
 marked_set [] b c h = absurd (cc h)

@@ -52,7 +52,7 @@ no_fault before bytes h = by (list_all is_plain_byte bytes) (shape_of (tokens_of
     by true None e hyp = absurd (cc hyp)
     by true (Some line) e hyp =
         let t = first_tests (is_misplaced before line) (has_clash line) (has_too_many before line)
-            ((is_wide line, WideLiteral) ∷ (has_bad_freq line, BadFreq) ∷ (repeats_label before line, DupLabel) ∷ (is_before_block before line, NoBlock) ∷ (is_after_end before line, AfterEnd) ∷ []) hyp in
+        ((is_wide line, WideLiteral) ∷ (has_bad_freq line, BadFreq) ∷ (repeats_label before line, DupLabel) ∷ (is_before_block before line, NoBlock) ∷ (is_after_end before line, AfterEnd) ∷ []) hyp in
         rw e (record { placed = t.0; few = t.1 })
 
 or_false_right : (a b : Bool) → (a || b) ≡ false → b ≡ false
@@ -158,7 +158,7 @@ pub entry_fault : (text : List ℕ) (lines : List Line) (f : Function) (place : 
 entry_fault text lines f place within good same none is at name live =
     let p : place ≡ position_or_len is_block (shapes_in text) = at ∙ ap (position_or_len is_block) same in
     subst (λ (k : ℕ). IsTextFault text (k + 1) LiveAtEntry) (sym p)
-        (at_entry name within good (ap shape_fault (sym same) ∙ none) (subst (λ (x : Function). IsLiveAtEntry x name) (is ∙ ap function_of same) live))
+    (at_entry name within good (ap shape_fault (sym same) ∙ none) (subst (λ (x : Function). IsLiveAtEntry x name) (is ∙ ap function_of same) live))
 
 -- what is kept, at the lines and what stands before a line behind them
 pub kept_here : (text : List ℕ) (lines : List Line) → HasNoLineFault (lines_in text) → lines ≡ shapes_in text → Kept lines

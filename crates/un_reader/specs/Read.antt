@@ -26,7 +26,7 @@ pub data IsTextFault (text : List ℕ) : ℕ → Fault → Type 0 where
   too_long : TEXT < length text → IsTextFault text 0 TooMany
   on_line : (line : ℕ) (fault : Fault) → length text ≤ TEXT → IsFirstLineFault (lines_in text) line fault → IsTextFault text line fault
   in_whole : (line : ℕ) (fault : Fault) → length text ≤ TEXT → HasNoLineFault (lines_in text)
-    → shape_fault (shapes_in text) ≡ Some (line, fault) → IsTextFault text line fault
+      → shape_fault (shapes_in text) ≡ Some (line, fault) → IsTextFault text line fault
   at_entry : (name : NameId) → length text ≤ TEXT → HasNoLineFault (lines_in text)
-    → shape_fault (shapes_in text) ≡ None → IsLiveAtEntry (function_of (shapes_in text)) name
-    → IsTextFault text (position_or_len is_block (shapes_in text) + 1) LiveAtEntry
+      → shape_fault (shapes_in text) ≡ None → IsLiveAtEntry (function_of (shapes_in text)) name
+      → IsTextFault text (position_or_len is_block (shapes_in text) + 1) LiveAtEntry

@@ -72,7 +72,11 @@ fn literal_value(n: Number) -> i32
 }
 
 /// The numbers of names.
-fn operand_ids(alloc: Global, names: &[(Name, Kind)], list: &[(Name, Kind)]) -> Result<Few<NameId>, NoMemory>
+fn operand_ids(
+    alloc: Global,
+    names: &[(Name, Kind)],
+    list: &[(Name, Kind)],
+) -> Result<Few<NameId>, NoMemory>
     requires { length names.now < 2 ^ 32 }
     ensures { IfOk result (λ ids. ids ≡ map (name_id names.now) list.now) }
 {
@@ -84,7 +88,11 @@ fn operand_ids(alloc: Global, names: &[(Name, Kind)], list: &[(Name, Kind)]) -> 
 }
 
 /// The numbers of parameters.
-fn param_ids(alloc: Global, names: &[(Name, Kind)], list: &[(Name, Kind)]) -> Result<Items<NameId>, NoMemory>
+fn param_ids(
+    alloc: Global,
+    names: &[(Name, Kind)],
+    list: &[(Name, Kind)],
+) -> Result<Items<NameId>, NoMemory>
     requires { length names.now < 2 ^ 32 }
     ensures { IfOk result (λ ids. ids ≡ map (name_id names.now) list.now) }
 {
@@ -122,7 +130,11 @@ fn source_op(alloc: Global, names: &[(Name, Kind)], o: &OpLine) -> Result<SrcOp,
 }
 
 /// The operations of a block, by the lines behind its block line.
-fn source_ops(alloc: Global, names: &[(Name, Kind)], lines: &[Line]) -> Result<Items<SrcOp>, NoMemory>
+fn source_ops(
+    alloc: Global,
+    names: &[(Name, Kind)],
+    lines: &[Line],
+) -> Result<Items<SrcOp>, NoMemory>
     requires { length names.now < 2 ^ 32 }
     ensures { IfOk result (λ ops. ops ≡ ops_of names.now lines.now) }
 {
@@ -156,7 +168,14 @@ fn source_term(names: &[(Name, Kind)], labels: &[Name], term: &Option<TermLine>)
 }
 
 /// The block with this label and frequency, by the lines behind its block line.
-fn source_block(alloc: Global, names: &[(Name, Kind)], labels: &[Name], label: Name, freq: u32, lines: &[Line]) -> Result<Block, NoMemory>
+fn source_block(
+    alloc: Global,
+    names: &[(Name, Kind)],
+    labels: &[Name],
+    label: Name,
+    freq: u32,
+    lines: &[Line],
+) -> Result<Block, NoMemory>
     requires names { length names.now < 2 ^ 32 }
     requires labels { length labels.now < 2 ^ 32 }
     ensures { IfOk result (λ block. block ≡ record { label = label; freq = freq; ops = ops_of names.now lines.now; term = term_by names.now labels.now (term_of lines.now) }) }
@@ -172,7 +191,12 @@ fn source_block(alloc: Global, names: &[(Name, Kind)], labels: &[Name], label: N
 }
 
 /// The blocks of the lines.
-fn source_blocks(alloc: Global, names: &[(Name, Kind)], labels: &[Name], lines: &[Line]) -> Result<Items<Block>, NoMemory>
+fn source_blocks(
+    alloc: Global,
+    names: &[(Name, Kind)],
+    labels: &[Name],
+    lines: &[Line],
+) -> Result<Items<Block>, NoMemory>
     requires names { length names.now < 2 ^ 32 }
     requires labels { length labels.now < 2 ^ 32 }
     ensures { IfOk result (λ blocks. blocks ≡ blocks_of names.now labels.now lines.now) }
@@ -187,7 +211,11 @@ fn source_blocks(alloc: Global, names: &[(Name, Kind)], labels: &[Name], lines: 
 }
 
 /// The parameters on the `func` line.
-fn find_params(alloc: Global, names: &[(Name, Kind)], lines: &[Line]) -> Result<Items<NameId>, NoMemory>
+fn find_params(
+    alloc: Global,
+    names: &[(Name, Kind)],
+    lines: &[Line],
+) -> Result<Items<NameId>, NoMemory>
     requires { length names.now < 2 ^ 32 }
     ensures { IfOk result (λ ids. ids ≡ map (name_id names.now) (params_of lines.now)) }
 {
@@ -200,7 +228,13 @@ fn find_params(alloc: Global, names: &[(Name, Kind)], lines: &[Line]) -> Result<
 }
 
 /// The function that lines without a fault are, by its name, their names and labels.
-pub fn source_function(alloc: Global, name: Name, names: Items<(Name, Kind)>, labels: &[Name], lines: &[Line]) -> Result<Function, NoMemory>
+pub fn source_function(
+    alloc: Global,
+    name: Name,
+    names: Items<(Name, Kind)>,
+    labels: &[Name],
+    lines: &[Line],
+) -> Result<Function, NoMemory>
     requires name { name_of lines.now ≡ Some name }
     requires names { names ≡ names_of lines.now }
     requires labels { labels.now ≡ labels_of lines.now }

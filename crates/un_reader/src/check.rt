@@ -62,7 +62,12 @@ fn good_line(alloc: Global, before: &Before, bytes: &[u8], place: usize) -> Resu
 
 /// Reads one line more.
 #[tactic(auto, using(crate::proofs::BeforeLaws::before_of_push, crate::proofs::BeforeLaws::few_ops))]
-fn add_line(alloc: Global, lines: &mut Items<Line>, before: &mut Before, bytes: &[u8]) -> Result<(), ReadError>
+fn add_line(
+    alloc: Global,
+    lines: &mut Items<Line>,
+    before: &mut Before,
+    bytes: &[u8],
+) -> Result<(), ReadError>
     requires before { before.old ≡ before_of lines.old }
     requires count { length lines.old < 65536 }
     ensures good { OnOk result (line_fault before.old bytes.now ≡ None) }

@@ -17,6 +17,8 @@ pub mod pieces;
 pub mod read;
 pub mod shape;
 pub mod slot;
+#[cfg(test)]
+mod tests;
 pub mod text_fault;
 pub mod token;
 pub mod words;

@@ -130,7 +130,8 @@ fn has_clash(line: &Line) -> bool
         Line::Blank => false,
         Line::Func { params, .. } => has_predicate(params.as_slice()),
         Line::Block { .. } => false,
-        Line::Operation(o) => result_clashes(o.op, &o.dst) || operands_clash(o.op, o.srcs.as_slice()),
+        Line::Operation(o) => result_clashes(o.op, &o.dst)
+            || operands_clash(o.op, o.srcs.as_slice()),
         Line::Terminator(term) => term_clashes(term),
     }
 }
@@ -224,7 +225,9 @@ fn has_bad_freq(line: &Line) -> bool
 pub fn has_label(labels: &[Name], label: Name) -> bool
     ensures { result ≡ list_any (bytes_eq label) labels.now }
 {
-    labels.iter().any(|l| is_text(label.as_bytes(), l.as_bytes()))
+    labels
+        .iter()
+        .any(|l| is_text(label.as_bytes(), l.as_bytes()))
 }
 
 /// Whether a block line's label stands on an earlier one.

@@ -37,7 +37,13 @@ fn entry_place(lines: &[Line]) -> usize
 }
 
 /// The same for lines with this name, these names and labels.
-fn named_function(alloc: Global, lines: &[Line], name: Name, names: Items<(Name, Kind)>, labels: &[Name]) -> Result<Function, ReadError>
+fn named_function(
+    alloc: Global,
+    lines: &[Line],
+    name: Name,
+    names: Items<(Name, Kind)>,
+    labels: &[Name],
+) -> Result<Function, ReadError>
     requires name { name_of lines.now ≡ Some name }
     requires names { names ≡ names_of lines.now }
     requires labels { labels.now ≡ labels_of lines.now }

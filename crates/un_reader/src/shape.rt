@@ -6,7 +6,10 @@ ghost use Rattle.std.specs.Str.{bytes_eq};
 ghost use Rattle.un_ir.specs.Text.{mnemonic};
 ghost use Rattle.un_reader.specs.Shapes.{is_slot, word_at, text_ops, op_named, slots_of, result_fits, operands_fit, callee_of, op_line_of, op_shape, operation_shape, func_shape, block_shape, jump_shape, branch_shape, return_shape, assigned_shape, head_word, head_of, shape_by, shape_of};
 
-use crate::forms::{are_names, condition_at, from_place, have_forms, is_list, is_slot, is_text, is_word_at, literal_at, name_at, names_at, plain_at, word_at};
+use crate::forms::{
+    are_names, condition_at, from_place, have_forms, is_list, is_slot, is_text, is_word_at,
+    literal_at, name_at, names_at, plain_at, word_at,
+};
 use crate::line::{Line, OpLine, TermLine};
 use crate::slot::{Head, Slot};
 use crate::token::Token;
@@ -79,7 +82,10 @@ fn mnemonic(op: Op) -> &'static [u8]
 fn op_named(word: &[u8]) -> Option<Op>
     ensures { result ≡ op_named word.now }
 {
-    TEXT_OPS.iter().copied().find(|op| is_text(word, mnemonic(*op)))
+    TEXT_OPS
+        .iter()
+        .copied()
+        .find(|op| is_text(word, mnemonic(*op)))
 }
 
 /// The forms of the words behind an operation's own word.
@@ -89,9 +95,29 @@ fn slots(op: Op) -> &'static [Slot]
     match op {
         Op::Imm => &[Slot::Literal],
         Op::Mov => &[Slot::Named],
-        Op::Addi | Op::Andi | Op::Ori | Op::CmpEqi | Op::CmpGti | Op::Asl | Op::Asr | Op::Lsr | Op::Load => &[Slot::Named, Slot::Comma, Slot::Literal],
-        Op::Mux => &[Slot::Named, Slot::Comma, Slot::Named, Slot::Comma, Slot::Named],
-        Op::Store => &[Slot::Named, Slot::Comma, Slot::Literal, Slot::Comma, Slot::Named],
+        Op::Addi
+        | Op::Andi
+        | Op::Ori
+        | Op::CmpEqi
+        | Op::CmpGti
+        | Op::Asl
+        | Op::Asr
+        | Op::Lsr
+        | Op::Load => &[Slot::Named, Slot::Comma, Slot::Literal],
+        Op::Mux => &[
+            Slot::Named,
+            Slot::Comma,
+            Slot::Named,
+            Slot::Comma,
+            Slot::Named,
+        ],
+        Op::Store => &[
+            Slot::Named,
+            Slot::Comma,
+            Slot::Literal,
+            Slot::Comma,
+            Slot::Named,
+        ],
         _ => &[Slot::Named, Slot::Comma, Slot::Named],
     }
 }
@@ -128,7 +154,12 @@ fn callee(op: Op, tokens: &[Token]) -> Option<Name>
 }
 
 /// The line of an operation, whose words fit.
-fn op_line(alloc: Global, op: Op, dst: Option<(Name, Kind)>, tokens: &[Token]) -> Result<OpLine, NoMemory>
+fn op_line(
+    alloc: Global,
+    op: Op,
+    dst: Option<(Name, Kind)>,
+    tokens: &[Token],
+) -> Result<OpLine, NoMemory>
     ensures { IfOk result (λ line. line ≡ op_line_of op dst tokens.now) }
 {
     let srcs = names_at(alloc, tokens)?;
@@ -152,7 +183,11 @@ fn first_op(tokens: &[Token]) -> Option<Op>
 }
 
 /// An operation with this result, from its own word on.
-fn operation_shape(alloc: Global, dst: Option<(Name, Kind)>, tokens: &[Token]) -> Result<Option<Line>, NoMemory>
+fn operation_shape(
+    alloc: Global,
+    dst: Option<(Name, Kind)>,
+    tokens: &[Token],
+) -> Result<Option<Line>, NoMemory>
     ensures { IfOk result (λ line. line ≡ operation_shape dst tokens.now) }
 {
     match first_op(tokens) {

@@ -141,13 +141,7 @@ fn returns_else(valued: bool, line: &Line) -> bool
     ensures { result ≡ returns_else valued line.now }
 {
     match value_on(line) {
-        Some(other) => {
-            if valued {
-                !other
-            } else {
-                other
-            }
-        }
+        Some(other) => { if valued { !other } else { other } }
         None => false,
     }
 }

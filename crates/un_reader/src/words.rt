@@ -75,11 +75,7 @@ fn word_len(line: &[u8]) -> usize
     ensures bound { result ≤ length line.now }
     ensures cut { words_of line.now ≡ take result line.now ∷ words_of (drop result line.now) }
 {
-    if is_mark(line[0]) {
-        1
-    } else {
-        inner_len(line)
-    }
+    if is_mark(line[0]) { 1 } else { inner_len(line) }
 }
 
 /// The words of a line from left to right, by their form.

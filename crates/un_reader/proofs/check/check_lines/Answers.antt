@@ -11,7 +11,7 @@ pub returns-in_err-add_line-clause-bad : goal.returns-in_err-add_line-clause-bad
 returns-in_err-add_line-clause-bad c =
     let p = err_from_is_err_and c.from_residual.result c.from_residual.ensures.1 in
     let told = fault_step (lines_in c.args.text.now) c.loop-rest.lines c.loop-rest.before (take c.first_len-len.result c.loop-rest.rest.now) c.loop-rest.rest.now (drop c.first_len-len.result c.loop-rest.rest.now) c.content.result.now _
-        c.loop-rest.invariant.seen c.first_len-len.ensures.cut c.content.ensures c.loop-rest.invariant.before c.in_err-add_line.ensures.bad in
+    c.loop-rest.invariant.seen c.first_len-len.ensures.cut c.content.ensures c.loop-rest.invariant.before c.in_err-add_line.ensures.bad in
     rw (p.1, p.2) told
 
 pub loop-rest-preserved : goal.loop-rest-preserved

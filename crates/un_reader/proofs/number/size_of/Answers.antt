@@ -12,8 +12,8 @@ loop-digit-preserved c =
     let rest : List ℕ = drop (i + 1) xs in
     record {
       whole = c.loop-digit.invariant.whole
-        ∙ at_drop_more (λ (ds : List ℕ). min (value_after c.loop-digit.size ds) most) xs i 0 (omega arith)
-        ∙ sym (kept_size most (10 * c.loop-digit.size + (get_or xs i 0 - 48)) rest)
-        ∙ ap (λ (m : ℕ). min (value_after m rest) most) (sym c.with_digit-size.ensures);
+          ∙ at_drop_more (λ (ds : List ℕ). min (value_after c.loop-digit.size ds) most) xs i 0 (omega arith)
+          ∙ sym (kept_size most (10 * c.loop-digit.size + (get_or xs i 0 - 48)) rest)
+          ∙ ap (λ (m : ℕ). min (value_after m rest) most) (sym c.with_digit-size.ensures);
       fits = omega (arith, c.with_digit-size.ensures);
     }

@@ -64,7 +64,7 @@ has_live-requires-clause-blocks c =
     let lines = c.as_slice.result.now in
     let count : length lines ≡ length c.in_ok-lines.field-0.lines = ap length c.as_slice.ensures in
     let few : length (blocks_of (names_of lines) (labels_of lines) lines) < 4294967296 =
-        omega (arith, few_blocks (names_of lines) (labels_of lines) lines, count, c.in_ok-lines.ensures.count) in
+    omega (arith, few_blocks (names_of lines) (labels_of lines) lines, count, c.in_ok-lines.ensures.count) in
     subst (λ (f : Function). length f.blocks < 4294967296) (sym c.in_ok-function.ensures.function) few
 
 pub returns-then-branch-clause-fault : goal.returns-then-branch-clause-fault
@@ -74,5 +74,5 @@ returns-then-branch-clause-fault c =
     let live = c.in_ok-has_live.ensures.yes c.if-branch.true in
     let place : c.entry_place.result ≡ position_or_len is_block c.as_slice.result.now = c.entry_place.ensures.place ∙ ap (position_or_len is_block) (c.as_slice-then-branch.ensures ∙ sym c.as_slice.ensures) in
     told (IsTextFault c.args.text.now) (c.entry_place.result + 1) LiveAtEntry c.fault_of-then-branch.result c.fault_of-then-branch.ensures
-        (entry_fault c.args.text.now c.as_slice.result.now c.in_ok-function.function c.entry_place.result within c.in_ok-lines.ensures.good
-            same c.in_ok-function.ensures.good c.in_ok-function.ensures.function place live.0 live.1)
+    (entry_fault c.args.text.now c.as_slice.result.now c.in_ok-function.function c.entry_place.result within c.in_ok-lines.ensures.good
+    same c.in_ok-function.ensures.good c.in_ok-function.ensures.function place live.0 live.1)
