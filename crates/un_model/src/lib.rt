@@ -1,4 +1,10 @@
 //! The model of a function: its variables with their domains, its solutions and their cost.
 #![tactic(auto)]
 
+pub mod cost;
+mod instructions;
+pub mod limits;
 pub mod model;
+pub mod placement;
+pub mod schedule;
+pub mod verdict;

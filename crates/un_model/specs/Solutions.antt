@@ -1,0 +1,187 @@
+-- What a solution is: the ten clauses, each on the schedule that the values make.
+use Rattle.std.specs.Prelude.{ℕ, ◌≡◌, ◌≢◌, ◌+◌, ◌-◌, ◌<◌, ◌≤◌, ◌↔◌, ◌⊎◌, Bool, true, false, ◌==◌, ◌&&◌, nat_eq, IsTrue, if◌then◌else◌, List, [], ◌∷◌, ◌++◌, Option, Some, None, All, AllPairs, Contains, IfSome, length, slice_get, sum_by}
+use Rattle.std.specs.List.{AllZip, flat_map}
+use Rattle.un_base.specs.declared.ids.VarId.{VarId}
+use Rattle.un_isa.specs.declared.reg.Reg.{Reg}
+use Rattle.un_isa.specs.declared.reg.Space.{Space}
+use Rattle.un_isa.specs.declared.reg.Space.TheVariants.{R, P, M}
+use Rattle.un_ir.specs.declared.extended.ExtBlock.{ExtBlock}
+use Rattle.un_domains.specs.declared.domain.Domain.{Domain}
+use Rattle.un_domains.specs.declared.domain.Domain.TheVariants.{Range, Set}
+use Rattle.un_model.specs.declared.model.OpVars.{OpVars}
+use Rattle.un_model.specs.declared.model.BlockVars.{BlockVars}
+use Rattle.un_model.specs.declared.model.Model.{Model}
+use Rattle.un_model.specs.declared.model.Solution.{Solution}
+use Rattle.un_model.specs.declared.schedule.Role.{Role}
+use Rattle.un_model.specs.declared.schedule.Role.TheVariants.{Border, Transfer, Call, Plain}
+use Rattle.un_model.specs.declared.schedule.Issue.{Issue}
+use Rattle.un_model.specs.declared.schedule.Read.{Read}
+use Rattle.un_model.specs.declared.schedule.Hold.{Hold}
+use Rattle.un_model.specs.declared.schedule.Schedule.{Schedule}
+use Rattle.un_model.specs.declared.verdict.Verdict.{Verdict}
+use Rattle.un_model.specs.declared.limits.TheConstants.{PACKET, MEM_PLACES, STORE_PLACES, XC_PLACES, CONTROL_PLACES}
+use Rattle.un_model.specs.Cost.{value_of}
+use Rattle.un_model.specs.Pairs.{pairs_from}
+use Rattle.un_model.specs.Schedules.{schedule_of}
+
+-- 1: each value is in its domain, and there are as many as variables
+
+abbrev pub InDomain : ℕ → Domain → Type 0
+InDomain v (Range lo hi) = (lo ≤ v) × (v ≤ hi)
+InDomain v (Set values) = Contains values v
+
+abbrev pub KeepsDomains : List Domain → List ℕ → Type 0
+KeepsDomains domains values = AllZip InDomain values domains
+
+-- 2: the variables of an inactive operation are 0
+
+abbrev pub IsZero : List ℕ → Option VarId → Type 0
+IsZero values v = IfSome v (λ (w : VarId). value_of values w ≡ 0)
+
+abbrev pub IsIdle : List ℕ → OpVars → Type 0
+IsIdle values vars = IsZero values vars.cycle × All (λ (v : VarId). value_of values v ≡ 0) vars.choices
+
+abbrev pub RestsAtZero : List ℕ → Issue → OpVars → Type 0
+RestsAtZero values i vars = (i.active ≡ true) ⊎ IsIdle values vars
+
+abbrev pub HoldsZero : Hold → Type 0
+HoldsZero h = (h.active ≡ true) ⊎ (h.reg ≡ 0)
+
+abbrev pub KeepsZeros : Model → List ℕ → Schedule → Type 0
+KeepsZeros m values t = AllZip (RestsAtZero values) t.issues (flat_map (λ (b : BlockVars). b.ops) m.blocks) × All HoldsZero t.holds
+
+-- 3: every operand of an active operation chooses an active temporary
+
+abbrev pub IsHeld : Option Hold → Type 0
+IsHeld None = ⊥
+IsHeld (Some h) = h.active ≡ true
+
+abbrev pub KeepsChoices : Schedule → Type 0
+KeepsChoices t = All (λ (r : Read). IsHeld (slice_get t.holds r.temp.0)) t.reads
+
+-- 4: operands and results lie in the spaces of the instructions
+
+abbrev pub InSpace : ℕ → Option Space → Type 0
+InSpace reg None = Unit {0}
+InSpace reg (Some R) = reg < 32
+InSpace reg (Some P) = (32 ≤ reg) × (reg < 36)
+InSpace reg (Some M) = 36 ≤ reg
+
+abbrev pub ReadsInSpace : Read → Option Hold → Type 0
+ReadsInSpace r None = ⊥
+ReadsInSpace r (Some h) = InSpace h.reg r.space
+
+abbrev pub KeepsSpaces : Schedule → Type 0
+KeepsSpaces t = All (λ (r : Read). ReadsInSpace r (slice_get t.holds r.temp.0)) t.reads × All (λ (h : Hold). InSpace h.reg h.space) t.holds
+
+-- 5: an active operation issues in its block, a transfer in the block's last cycle, and a user leaves a gap after the
+-- definer of what it reads
+
+abbrev pub IsLast : Role → Issue → Type 0
+IsLast Transfer i = i.cycle + 1 ≡ i.end
+IsLast _ i = Unit {0}
+
+abbrev pub IsWithin : Issue → Type 0
+IsWithin i = (i.role ≡ Border) ⊎ ((0 < i.cycle) × (i.cycle < i.end))
+
+abbrev pub LeavesGap : (Hold → Read → ℕ) → Read → Option Hold → Type 0
+LeavesGap gap r None = ⊥
+LeavesGap gap r (Some h) = h.from + gap h r ≤ r.cycle
+
+-- a user waits for its definer's latency
+abbrev pub latency_gap : Hold → Read → ℕ
+latency_gap h r = h.latency
+
+abbrev pub KeepsLatencies : (Hold → Read → ℕ) → Schedule → Type 0
+KeepsLatencies gap t = All IsWithin t.issues × All (λ (i : Issue). IsLast i.role i) t.issues × All (λ (r : Read). LeavesGap gap r (slice_get t.holds r.temp.0)) t.reads
+
+-- 7: two active temporaries of a block with one register do not occupy it in one cycle
+
+abbrev pub IsApart : Hold → Hold → Type 0
+IsApart a b = (a.last < b.from) ⊎ (b.last < a.from)
+
+abbrev pub ShareNoCycle : Hold → Hold → Type 0
+ShareNoCycle a b = a.active ≡ true → b.active ≡ true → a.block.0 ≡ b.block.0 → a.reg ≡ b.reg → IsApart a b
+
+abbrev pub KeepsRegisters : Schedule → Type 0
+KeepsRegisters t = AllPairs ShareNoCycle t.holds
+
+-- 8: the active operations of each cycle have room in one packet
+
+abbrev pub issues_at : ℕ → ℕ → Issue → Bool
+issues_at b c i = i.active && i.block.0 == b && i.cycle == c
+
+-- how much of a resource the operations of block b in cycle c take together
+abbrev pub taken : (Issue → ℕ) → List Issue → ℕ → ℕ → ℕ
+taken share issues b c = sum_by (λ (i : Issue). if issues_at b c i then share i else 0) issues
+
+pub record HasRoom (issues : List Issue) (b c : ℕ) : Type 0 where
+  pub instructions : taken (λ (i : Issue). i.width) issues b c ≤ PACKET
+  pub accesses : taken (λ (i : Issue). i.needs.mem) issues b c ≤ MEM_PLACES
+  pub stores : taken (λ (i : Issue). i.needs.store) issues b c ≤ STORE_PLACES
+  pub products : taken (λ (i : Issue). i.needs.xc) issues b c ≤ XC_PLACES
+  pub transfers : taken (λ (i : Issue). i.needs.control) issues b c ≤ CONTROL_PLACES
+
+abbrev pub KeepsPackets : Schedule → Type 0
+KeepsPackets t = All (λ (i : Issue). HasRoom t.issues i.block.0 i.cycle) t.issues
+
+-- 9: the temporaries that preassigned operands choose have their homes. A preassigned value has its home alone as domain.
+
+abbrev pub IsHome : Option Reg → Hold → Type 0
+IsHome home h = IfSome home (λ (r : Reg). h.reg ≡ r.0)
+
+abbrev pub ReadsHome : Read → Option Hold → Type 0
+ReadsHome r None = ⊥
+ReadsHome r (Some h) = IsHome r.home h
+
+abbrev pub KeepsHomes : Schedule → Type 0
+KeepsHomes t = All (λ (r : Read). ReadsHome r (slice_get t.holds r.temp.0)) t.reads
+
+-- 10: the frame flag is 0 where no copy and no value at a block's start may have a slot
+
+abbrev pub KeepsFrame : Model → List ℕ → Type 0
+KeepsFrame m values = value_of values m.flag ≡ 0
+
+-- the ten clauses together, of values as a schedule. Clause 6, the order of accesses to memory, has no case in a block that
+-- makes none.
+pub record IsSchedule (gap : Hold → Read → ℕ) (domains : List Domain) (m : Model) (values : List ℕ) (t : Schedule) : Type 0 where
+  pub in_domains : KeepsDomains domains values
+  pub zeros : KeepsZeros m values t
+  pub choices : KeepsChoices t
+  pub spaces : KeepsSpaces t
+  pub latencies : KeepsLatencies gap t
+  pub registers : KeepsRegisters t
+  pub packets : KeepsPackets t
+  pub homes : KeepsHomes t
+  pub frame : KeepsFrame m values
+
+abbrev pub IsSolution : Model → Solution → Type 0
+IsSolution m s = IsSchedule latency_gap m.domains m s.values (schedule_of m s.values)
+
+-- the truth values say which clauses are kept
+pub record Tells (v : Verdict) (m : Model) (values : List ℕ) (t : Schedule) : Type 0 where
+  pub in_domains : IsTrue v.domains ↔ KeepsDomains m.domains values
+  pub zeros : IsTrue v.zeros ↔ KeepsZeros m values t
+  pub choices : IsTrue v.choices ↔ KeepsChoices t
+  pub spaces : IsTrue v.spaces ↔ KeepsSpaces t
+  pub latencies : IsTrue v.latencies ↔ KeepsLatencies latency_gap t
+  pub memory : IsTrue v.memory
+  pub registers : IsTrue v.registers ↔ KeepsRegisters t
+  pub packets : IsTrue v.packets ↔ KeepsPackets t
+  pub homes : IsTrue v.homes ↔ KeepsHomes t
+  pub frame : IsTrue v.frame ↔ KeepsFrame m values
+
+abbrev pub broken : ℕ → Bool → List ℕ
+broken k true = []
+broken k false = k ∷ []
+
+-- the numbers of the clauses that are not kept, rising; where a value is in no domain the other clauses are not asked
+abbrev pub broken_after : Verdict → List ℕ
+broken_after v = broken 2 v.zeros ++ broken 3 v.choices ++ broken 4 v.spaces ++ broken 5 v.latencies ++ broken 6 v.memory ++ broken 7 v.registers ++ broken 8 v.packets ++ broken 9 v.homes ++ broken 10 v.frame
+
+abbrev pub broken_clauses : Verdict → List ℕ
+broken_clauses v = if v.domains then broken_after v else 1 ∷ []
+
+-- the list has the number of each clause that the values break, once, rising
+abbrev pub ListsBroken : Model → Solution → List ℕ → Type 0
+ListsBroken m s clauses = (v : Verdict) × (Tells v m s.values (schedule_of m s.values) × (clauses ≡ broken_clauses v))
