@@ -1,0 +1,4 @@
+//! The code of solutions.
+#![tactic(auto)]
+
+pub mod emission;
