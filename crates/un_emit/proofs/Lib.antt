@@ -1,2 +1,7 @@
 pub mod Cost
+pub mod Holds
+pub mod Live
 pub mod Packets
+pub mod Scenes
+pub mod Source
+pub mod Walk

@@ -393,7 +393,7 @@ pub record Ends (t : Table) (p : Plan) (total end stack l : ℕ) (memory : List 
 same_packet : (p : Plan) (first end l c : ℕ) (ss : List Step) (b : Bool) → nat_eq (c + 1) end ≡ b → packet_at p first end l ss c ≡ record { instrs = or_nop (instrs p c first ss (where_in b (jump_by p l) [])) }
 same_packet p first end l c ss b e = ap (λ (x : Bool). let packet : Packet = record { instrs = or_nop (instrs p c first ss (where_in x (jump_by p l) [])) } in packet) e
 
-is_false : (a b : ℕ) → a ≢ b → nat_eq a b ≡ false
+pub is_false : (a b : ℕ) → a ≢ b → nat_eq a b ≡ false
 is_false a b h = grind (arith, h)
 
 pub runs : (t : Table) (p : Plan) (first total end stack l : ℕ) (memory : List (ℕ × ℕ)) (ss : List Step) (d c : ℕ) (u : PacketState) → Facts t p first total ss → Read p total l (end - 1) → c + suc d ≡ end → Stands p total c stack memory u
