@@ -193,7 +193,7 @@ only_choice x zero h = refl
 only_choice x (suc v) h = absurd (omega arith)
 
 -- what passes a filter
-filtered : (p : ℕ → Bool) (P : ℕ → Type 0) (xs : List ℕ) → AllByRecursion P xs → AllByRecursion (λ r. (p r ≡ true) × P r) (filter p xs)
+pub filtered : (p : ℕ → Bool) (P : ℕ → Type 0) (xs : List ℕ) → AllByRecursion P xs → AllByRecursion (λ r. (p r ≡ true) × P r) (filter p xs)
 filtered p P [] h = tt
 filtered p P (x ∷ xs) h =
     let go : (b : Bool) → p x ≡ b → AllByRecursion (λ r. (p r ≡ true) × P r) (if b then x ∷ filter p xs else filter p xs) =
@@ -202,7 +202,7 @@ filtered p P (x ∷ xs) h =
         | false ↦ λ e. filtered p P xs h.1 ] in
     go (p x) refl
 
-below_range : (a n : ℕ) → AllByRecursion (λ r. r < a + n) (range_with_len a n)
+pub below_range : (a n : ℕ) → AllByRecursion (λ r. r < a + n) (range_with_len a n)
 below_range a zero = tt
 below_range a (suc n) =
     let later = below_range (a + 1) n in
@@ -210,7 +210,7 @@ below_range a (suc n) =
     (omega arith, subst (λ (m : ℕ). AllByRecursion (λ r. r < m) (range_with_len (a + 1) n)) e later)
 
 -- one of them, by its place
-place_of : (P : ℕ → Type 0) (xs : List ℕ) (k d : ℕ) → AllByRecursion P xs → k < length xs → P (slice_index_or xs k d)
+pub place_of : (P : ℕ → Type 0) (xs : List ℕ) (k d : ℕ) → AllByRecursion P xs → k < length xs → P (slice_index_or xs k d)
 place_of P [] k d h lt = absurd (omega arith)
 place_of P (x ∷ xs) zero d h lt = h.0
 place_of P (x ∷ xs) (suc k) d h lt = place_of P xs k d h.1 (omega arith)

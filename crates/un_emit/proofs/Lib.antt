@@ -3,5 +3,6 @@ pub mod Holds
 pub mod Live
 pub mod Packets
 pub mod Scenes
+pub mod Simulates
 pub mod Source
 pub mod Walk

@@ -291,6 +291,7 @@ pub fn emit(
     requires registers { IfSome m.now.options.regs (λ n. n ≤ 29) }
     requires solution { IsSolution m.now s.now }
     ensures code { IfOk result (λ code. code ≡ emitted m.now s.now) }
+    ensures simulates { IfOk result (λ code. Simulates e.now.table f.now (start_place m.now s.now) code) }
     ensures cost { IfOk result (λ code. count_of f.now code ≡ cost_of m.now s.now) }
 {
     let _ = f;
