@@ -15,7 +15,7 @@ use Rattle.un_model.specs.declared.schedule.Hold.{Hold}
 use Rattle.un_model.specs.Cost.{value_of}
 use Rattle.un_model.specs.Pairs.{pairs_from}
 use Rattle.un_model.specs.Schedules.{chosen, cycle_for, last_read, last_reads, hold_by, hold_of, holds_of}
-use Rattle.un_model.specs.Solutions.{InDomain, IsHeld, LeavesGap, latency_gap, ReadsHome, IsHome, ShareNoCycle, IsApart}
+use Rattle.un_model.specs.Solutions.{InDomain, KeepsDomains, IsHeld, LeavesGap, latency_gap, ReadsHome, IsHome, ShareNoCycle, IsApart}
 use Rattle.un_model.specs.Variables.{choice_domain}
 use Rattle.un_emit.specs.Emission.{register_by}
 use Rattle.un_emit.proofs.Packets.{Plan, Read}
@@ -36,14 +36,17 @@ split_domains values first (x ∷ xs) ys h =
     let e : first + 1 + length xs ≡ first + suc (length xs) = omega arith in
     ((h.0, r.0), subst (λ (n : ℕ). InDomains values n ys) e r.1)
 
-pub in_domains : (values vs : List ℕ) (first : ℕ) (ds : List Domain) → ((i : ℕ) → slice_index values (first + i) ≡ slice_index vs i) → AllZip InDomain vs ds → InDomains values first ds
-in_domains values [] first [] e h = tt
-in_domains values [] first (d ∷ ds) e h = absurd h
-in_domains values (v ∷ vs) first [] e h = absurd h
-in_domains values (v ∷ vs) first (d ∷ ds) e h =
-    let here : v ≡ slice_index values first = sym (e 0) ∙ ap (slice_index values) (omega arith) in
-    let later : (i : ℕ) → slice_index values (first + 1 + i) ≡ slice_index vs i = λ i. ap (slice_index values) (omega arith) ∙ e (suc i) in
-    (subst (λ (n : ℕ). InDomain n d) here h.0, in_domains values vs (first + 1) ds later h.1)
+pub in_domains : (values : List ℕ) (first : ℕ) (ds : List Domain) → ((i : ℕ) (d : Domain) → i < length ds → InDomain (slice_index values (first + i)) (slice_index_or ds i d)) → InDomains values first ds
+in_domains values first [] h = tt
+in_domains values first (d ∷ ds) h =
+    let here : first + 0 ≡ first = omega arith in
+    let later : (i : ℕ) (e : Domain) → i < length ds → InDomain (slice_index values (first + 1 + i)) (slice_index_or ds i e) =
+        λ i e lt. let k : first + suc i ≡ first + 1 + i = omega arith in subst (λ (n : ℕ). InDomain (slice_index values n) (slice_index_or ds i e)) k (h (suc i) e (omega arith)) in
+    (subst (λ (n : ℕ). InDomain (slice_index values n) d) here (h 0 d (omega arith)), in_domains values (first + 1) ds later)
+
+pub kept_domains : (values : List ℕ) (ds : List Domain) → KeepsDomains ds values → InDomains values 0 ds
+kept_domains values ds h =
+    in_domains values 0 ds (λ i d lt. let long = h.0 in let k : i ≡ 0 + i = omega arith in subst (λ (n : ℕ). InDomain (slice_index values n) (slice_index_or ds i d)) k (h.1 i d (omega arith)))
 
 -- how a temporary is held
 abbrev pub held_by : List ℕ → List Issue → List Reading → ℕ → Option TempVars → Option Hold
@@ -156,6 +159,7 @@ within (y ∷ xs) (suc i) x h = let r = within xs i x h in omega arith
 
 apart_lt : (values : List ℕ) (issues : List Issue) (reads : List Reading) (temps : List TempVars) (value : ℕ → ℕ) (a b : ℕ) → AllPairs ShareNoCycle (holds_of values issues reads temps) → IsDefined values issues temps a → IsDefined values issues temps b → a < b
     → let p = plan_of values issues reads temps value in p.reg a ≡ p.reg b → (p.last a < p.from b) ⊎ (p.last b < p.from a)
+unfolding ShareNoCycle
 apart_lt values issues reads temps value a b h da db lt same =
     let ha = hold_from values reads a da.temp da.issue in
     let hb = hold_from values reads b db.temp db.issue in

@@ -24,7 +24,7 @@ use Rattle.un_ir.specs.declared.extended.ExtBlock.{ExtBlock}
 use Rattle.un_ir.specs.declared.extended.Ext.{Ext}
 use Rattle.un_domains.specs.declared.domain.Domain.{Domain}
 use Rattle.un_domains.specs.declared.domain.Domain.TheVariants.{Range}
-use Rattle.un_plain_ext.specs.PlainExt.{temp, plain_block, kept_registers, saved_count, no_temps, in_op, body_op, body_ops, current_after, out_op, saved_operands, assigned}
+use Rattle.un_plain_ext.specs.PlainExt.{kind_of, temp, plain_block, kept_registers, saved_count, no_temps, in_op, body_op, body_ops, current_after, out_op, saved_operands, assigned}
 use Rattle.un_model.specs.declared.model.Options.{Options}
 use Rattle.un_model.specs.declared.model.BlockVars.{BlockVars}
 use Rattle.un_model.specs.declared.model.TempVars.{TempVars}
@@ -35,18 +35,18 @@ use Rattle.un_model.specs.declared.schedule.Read.{Read as Reading}
 use Rattle.un_model.specs.declared.schedule.Hold.{Hold}
 use Rattle.un_model.specs.Cost.{value_of}
 use Rattle.un_model.specs.Pairs.{pairs_from}
-use Rattle.un_model.specs.Registers.{is_assignable, is_home, is_home_in, is_register, reads_value, saved_registers, entry_home}
+use Rattle.un_model.specs.Registers.{is_assignable, is_home, is_home_in, is_register, reads_value, kept_registers as model_kept, saved_registers, entry_home}
 use Rattle.un_model.specs.Schedules.{last_read, issue_of, issues_of, reads_of, block_reads, op_reads}
-use Rattle.un_model.specs.Solutions.{InDomain, IsSolution, IsHeld, LeavesGap, latency_gap, ReadsHome, IsWithin, IsLast}
+use Rattle.un_model.specs.Solutions.{InDomain, IsSolution, IsHeld, LeavesGap, latency_gap, ReadsHome, IsPlaced}
 use Rattle.un_model.specs.Variables.{model_of, block_vars, block_domains, own_horizon, op_domains, op_vars, ops_domains, ops_vars, ops_temps, op_temps, register_domain, register_domains}
 use Rattle.un_emit.specs.Emission.{register_by}
 use Rattle.un_emit.proofs.Packets.{Plan}
-use Rattle.un_emit.proofs.Holds.{split, InDomains, split_domains, in_domains, IsFitRead, IsDefined, held, held_at, held_is, hold_from, from_by, last_above}
+use Rattle.un_emit.proofs.Holds.{split, InDomains, split_domains, kept_domains, IsFitRead, IsDefined, held, held_at, held_is, hold_from, from_by, last_above}
 use Rattle.un_emit.proofs.Walk.{Scene, plan, vars_of, made, readings, Fit, Defined, Ahead, NotStack, ending}
 
 -- the extended function of one block
 abbrev pub ext_of : Table → Function → Block → Ext
-ext_of t f b = record { table = t; names = map (λ (n : List ℕ × Kind). n.1) f.names; blocks = plain_block t f b ∷ [] }
+ext_of t f b = record { table = t; names = map kind_of f.names; blocks = plain_block t (length f.names) b ∷ [] }
 
 -- a block that returns a name
 abbrev pub returning : Block → ℕ → Block
@@ -63,12 +63,17 @@ scene t f b o s value =
       s = s;
       t = t;
       o = o;
-      b = plain_block t f b;
-      end = value_of s.values (block_vars t o own_horizon 0 (plain_block t f b)).end;
+      b = plain_block t (length f.names) b;
+      end = value_of s.values (block_vars t o own_horizon 0 (plain_block t (length f.names) b)).end;
       issues = issues_of m s.values;
       reads = reads_of m s.values;
       value = value;
     }
+
+-- the saved registers: those that a function keeps, then the link register
+pub saved_is : (t : Table) → saved_registers t ≡ kept_registers t ++ 31 ∷ []
+unfolding model_kept
+saved_is t = refl
 
 append-nil : {A : Type 0} (xs : List A) → xs ++ [] ≡ xs
 append-nil [] = refl
@@ -111,10 +116,10 @@ start_register t o b values (x ∷ xs) r j (suc i) h lt =
 
 -- the operations after the first
 abbrev pub rest_of : Table → Function → Block → ℕ → List ExtOp
-rest_of t f b returned = body_ops (no_temps f) (saved_count t) b.ops ++ ending t (current_after (no_temps f) (saved_count t) b.ops) returned
+rest_of t f b returned = body_ops (no_temps (length f.names)) (saved_count t) b.ops ++ ending t (current_after (no_temps (length f.names)) (saved_count t) b.ops) returned
 
 abbrev pub first_of : Table → Function → Block → Options → ℕ
-first_of t f b o = 0 + length (op_domains t o (plain_block t f b) (plain_block t f b).horizon (in_op t))
+first_of t f b o = 0 + length (op_domains t o (plain_block t (length f.names) b) (plain_block t (length f.names) b).horizon (in_op t))
 
 results_count : (t : Table) → length (in_op t).results ≡ saved_count t
 results_count t = length-map-range_with_len temp 0 (saved_count t)
@@ -129,7 +134,7 @@ each_fits m s h =
         let e = held_at values issues reads m.temps r.temp.0 in
         record {
           active = subst (λ (x : Option Hold). IsHeld x) e (h.choices k d lt);
-          gap = subst (λ (x : Option Hold). LeavesGap latency_gap r x) e (h.latencies.2 k d lt);
+          gap = subst (λ (x : Option Hold). LeavesGap latency_gap r x) e (h.latencies.1 k d lt);
           home = subst (λ (x : Option Hold). ReadsHome r x) e (h.homes k d lt);
           last = All-from_recursion (λ (q : Reading). q.cycle ≤ last_read reads q.temp.0) reads (last_above reads) k d lt;
         })
@@ -147,7 +152,7 @@ ahead t f b o s value returned h =
     let later = ops_temps t o x.b x.b.horizon 1 first ops in
     let count : length starts ≡ saved_count t = length-op_temps 0 0 (in_op t).results ∙ results_count t in
     let own = issue_of t s.values 0 x.end (in_op t) (op_vars x.b.horizon 0 (in_op t)) in
-    let all = in_domains s.values s.values 0 m.domains (λ i. ap (slice_index s.values) (omega arith)) h.in_domains in
+    let all = kept_domains s.values m.domains h.in_domains in
     let blocks = (split_domains s.values 0 (block_domains t o own_horizon x.b ++ []) (Range 0 1 ∷ []) all).0 in
     let block = (split_domains s.values 0 (block_domains t o own_horizon x.b) [] blocks).0 in
     let whole = (split_domains s.values 0 (ops_domains t o x.b x.b.horizon x.b.ops) (Range 1 x.b.horizon ∷ []) block).0 in
@@ -157,8 +162,7 @@ ahead t f b o s value returned h =
       issues_at = λ i. let e : 1 + i ≡ suc i = omega arith in ap (slice_get issues) e ∙ ap (λ (xs : List Issue). slice_get xs i) (append-nil (made x 1 first ops));
       domains = (split_domains s.values 0 (op_domains t o x.b x.b.horizon (in_op t)) (ops_domains t o x.b x.b.horizon ops) whole).1;
       reads_fit = (split (Fit x) (readings x 1 first ops) [] (each_fits m s h)).0;
-      within = (split IsWithin (own ∷ made x 1 first ops) [] (recursion_from_All IsWithin issues h.latencies.0)).0.1;
-      lasts = (split (λ (i : Issue). IsLast i.role i) (own ∷ made x 1 first ops) [] (recursion_from_All (λ (i : Issue). IsLast i.role i) issues h.latencies.1)).0.1;
+      placed = (split IsPlaced (own ∷ made x 1 first ops) [] (recursion_from_All IsPlaced issues h.latencies.0)).0.1;
     }
 
 -- a value at the start
@@ -192,7 +196,7 @@ starts t f b o s value returned h i lt =
       block = refl;
       quick = omega arith;
     } in
-    let all = in_domains s.values s.values 0 m.domains (λ i. ap (slice_index s.values) (omega arith)) h.in_domains in
+    let all = kept_domains s.values m.domains h.in_domains in
     let blocks = (split_domains s.values 0 (block_domains t o own_horizon x.b ++ []) (Range 0 1 ∷ []) all).0 in
     let block = (split_domains s.values 0 (block_domains t o own_horizon x.b) [] blocks).0 in
     let whole = (split_domains s.values 0 (ops_domains t o x.b x.b.horizon x.b.ops) (Range 1 x.b.horizon ∷ []) block).0 in

@@ -31,7 +31,7 @@ use Rattle.un_packet.specs.declared.code.Code.{Code}
 use Rattle.un_packet.specs.Step.{PacketState, PacketStep, Stopped, Returned as ReturnedTo}
 use Rattle.un_packet.specs.Run.{PacketRun, packets_run, packet_run, first_state, NoneWaits, NeverWaits, never_after, leave as leave_packets, enter as enter_packets}
 use Rattle.un_plain.specs.Plain.{IsPlain, ArePlainOps}
-use Rattle.un_plain_ext.specs.PlainExt.{plain_ext, plain_block, kept_registers, saved_count, no_temps, in_op, reads, assigned, body_op, body_ops, current_after, return_op, out_op, saved_operands}
+use Rattle.un_plain_ext.specs.PlainExt.{kind_of, name_operand, plain_ext, plain_block, kept_registers, saved_count, no_temps, in_op, reads, assigned, body_op, body_ops, current_after, return_op, out_op, saved_operands}
 use Rattle.un_simulation.specs.Simulation.{Simulates, Agrees, Keeps, CanStart}
 use Rattle.un_model.specs.declared.model.Options.{Options}
 use Rattle.un_model.specs.declared.model.Model.{Model}
@@ -44,7 +44,7 @@ use Rattle.un_emit.proofs.Packets.{Plan, Read, IsApartPlan, Stands, Facts, Ends,
 use Rattle.un_emit.proofs.Holds.{filtered, below_range, place_of, apart_by, spans_by, quick_by}
 use Rattle.un_emit.proofs.Walk.{Scene, plan, Defined, NotStack, ending, Walked, walk, steps_of, code_in}
 use Rattle.un_emit.proofs.Source.{results, Gives, gives_by, Computes, computes, all_fit, Names}
-use Rattle.un_emit.proofs.Scenes.{ext_of, returning, model_for, scene, rest_of, first_of, ahead, Starts, starts}
+use Rattle.un_emit.proofs.Scenes.{saved_is, ext_of, returning, model_for, scene, rest_of, first_of, ahead, Starts, starts}
 use Rattle.un_emit.proofs.Live.{none_live}
 
 -- no home is the stack pointer
@@ -71,7 +71,7 @@ all_homes : (r : TempId) (ops : List ExtOp) → AllByRecursion NoHomes ops → A
 all_homes r [] h = tt
 all_homes r (o ∷ os) h = (none_passes (λ (y : Operand). reads_value y r && is_register y.home 29) o.operands (op_homes r o.operands h.0), all_homes r os h.1)
 
-source_homes : (current : List ℕ) (names : List NameId) → AllByRecursion NoHome (map (λ (name : NameId). reads (slice_index current name.0) None) names)
+source_homes : (current : List ℕ) (names : List NameId) → AllByRecursion NoHome (map (name_operand current) names)
 source_homes current [] = tt
 source_homes current (name ∷ names) = (refl, source_homes current names)
 
@@ -103,11 +103,11 @@ not_assignable (Some n) h = grind (arith, h)
 
 away : (t : Table) → IsFit t → (f : Function) (b : Block) (o : Options) (s : Solution) (value : ℕ → ℕ) (returned : ℕ) → IfSome o.regs (λ n. n ≤ 29) → NotStack (scene t f (returning b returned) o s value)
 away t fit f b o s value returned few r =
-    let current = current_after (no_temps f) (saved_count t) b.ops in
+    let current = current_after (no_temps (length f.names)) (saved_count t) b.ops in
     let tail = ending t current returned in
     let result_away : nat_eq t.result 29 ≡ false = ap (λ (n : ℕ). nat_eq n 29) fit.result in
     let ends : AllByRecursion NoHomes tail = ((refl, tt), ((result_away, saved_homes 0 (kept_registers t) (not_stack_all t fit (kept_registers t) (kept_all t))), tt)) in
-    let homes = all_homes r (in_op t ∷ rest_of t f b returned) (tt, body_homes (no_temps f) (saved_count t) b.ops tail ends) in
+    let homes = all_homes r (in_op t ∷ rest_of t f b returned) (tt, body_homes (no_temps (length f.names)) (saved_count t) b.ops tail ends) in
     ap (λ (c : Bool). c || is_home (in_op t ∷ rest_of t f b returned) r 29) (not_assignable o.regs few)
     ∙ none_passes (λ (p : ExtOp). is_home_in p r 29) (in_op t ∷ rest_of t f b returned) homes
 
@@ -140,7 +140,7 @@ abbrev values_of : Table → Function → Block → Start → ℕ → ℕ
 values_of t f b start = slice_index (map (slice_index start.regs) (saved_registers t) ++ results b.ops (first_values f start).values)
 
 saved_long : (t : Table) → length (saved_registers t) ≡ saved_count t
-saved_long t = length-append (kept_registers t) (31 ∷ [])
+saved_long t = ap length (saved_is t) ∙ length-append (kept_registers t) (31 ∷ [])
 
 start_value : (t : Table) (f : Function) (b : Block) (start : Start) (i : ℕ) → i < saved_count t → values_of t f b start i ≡ slice_index start.regs (slice_index (saved_registers t) i)
 start_value t f b start i lt =
@@ -159,10 +159,10 @@ first_long : (f : Function) (start : Start) → f.params ≡ [] → length (firs
 first_long f start params = let none : length f.params ≡ 0 = ap length params in simp (length-append, length-take, length-replicate) (omega arith)
 
 kept_register : (t : Table) (i : ℕ) → i < length (kept_registers t) → slice_index (saved_registers t) i ≡ slice_index (kept_registers t) i
-kept_register t i lt = get_or-append (kept_registers t) (31 ∷ []) 0 i lt
+kept_register t i lt = ap (λ (xs : List ℕ). slice_index xs i) (saved_is t) ∙ get_or-append (kept_registers t) (31 ∷ []) 0 i lt
 
 link_register : (t : Table) → slice_index (saved_registers t) (length (kept_registers t)) ≡ 31
-link_register t = get_or-append_seam (kept_registers t) 31 [] 0
+link_register t = ap (λ (xs : List ℕ). slice_index xs (length (kept_registers t))) (saved_is t) ∙ get_or-append_seam (kept_registers t) 31 [] 0
 
 saved_small : (t : Table) (i : ℕ) → i < saved_count t → slice_index (saved_registers t) i < 36
 saved_small t i lt =
@@ -198,7 +198,7 @@ record Both (t : Table) (f : Function) (b : Block) (returned : ℕ) (packets : L
 
 both : (t : Table) → IsFit t → (f : Function) (b : Block) (o : Options) (s : Solution) (returned : ℕ) → IfSome o.regs (λ n. n ≤ 29) → IsSolution (model_for t f (returning b returned) o) s
     → f.params ≡ [] → ArePlainOps 0 b.ops (length f.names) → returned < length f.names → (start : Start) → CanStart start 0
-    → Both t f b returned (block_code (model_for t f (returning b returned) o) s 0 (plain_block t f (returning b returned)) (block_vars t o own_horizon 0 (plain_block t f (returning b returned)))).packets start
+    → Both t f b returned (block_code (model_for t f (returning b returned) o) s 0 (plain_block t (length f.names) (returning b returned)) (block_vars t o own_horizon 0 (plain_block t (length f.names) (returning b returned)))).packets start
 both t fit f b o s returned few sol params plain lt start can =
     let bb = returning b returned in
     let m = model_for t f bb o in
@@ -208,7 +208,7 @@ both t fit f b o s returned few sol params plain lt start can =
     let kept = kept_registers t in
     let first = saved_count t in
     let total = first + length b.ops in
-    let current = no_temps f in
+    let current = no_temps (length f.names) in
     let names = length-replicate {A = ℕ} (length f.names) 0 in
     let steps = steps_of b.ops 0 (length f.names) first current plain in
     let w : Walked x total first 1 (first_of t f bb o) (slice_index (current_after current first b.ops) returned) (rest_of t f b returned) steps =
@@ -241,12 +241,12 @@ both t fit f b o s returned few sol params plain lt start can =
     let long_end = w.long in
     let d = end - 2 in
     let r = runs t p first total end (get_or start.regs 29 0) (length kept) start.memory steps d 1 (first_state 0 start) facts w.link (omega (arith, long_end)) opening in
-    let code : (k : ℕ) → packet_at p first end (length kept) steps k ≡ packet_in m s (plain_block t f bb) (block_vars t o own_horizon 0 (plain_block t f bb)) k =
+    let code : (k : ℕ) → packet_at p first end (length kept) steps k ≡ packet_in m s (plain_block t (length f.names) bb) (block_vars t o own_horizon 0 (plain_block t (length f.names) bb)) k =
         λ k. let same = no_code (nat_eq 0 k) (code_in x k 1 (first_of t f bb o) (rest_of t f b returned)) ∙ w.code k in
             ap (λ (is : List Instr). let packet : Packet = record { instrs = or_nop is } in packet) (sym same) in
     let n : suc d ≡ end - 1 = omega (arith, long_end) in
-    let packets = map_same (packet_at p first end (length kept) steps) (packet_in m s (plain_block t f bb) (block_vars t o own_horizon 0 (plain_block t f bb))) code (range_with_len 1 (suc d))
-        ∙ ap (λ (k : ℕ). map (packet_in m s (plain_block t f bb) (block_vars t o own_horizon 0 (plain_block t f bb))) (range_with_len 1 k)) n in
+    let packets = map_same (packet_at p first end (length kept) steps) (packet_in m s (plain_block t (length f.names) bb) (block_vars t o own_horizon 0 (plain_block t (length f.names) bb))) code (range_with_len 1 (suc d))
+        ∙ ap (λ (k : ℕ). map (packet_in m s (plain_block t (length f.names) bb) (block_vars t o own_horizon 0 (plain_block t (length f.names) bb))) (range_with_len 1 k)) n in
     let q = r.to in
     let at_end : (i : ℕ) → Read p total i end → get_or q.regs (p.reg i) 0 ≡ value i = λ i h. let k = apart.quick i h.below in let g = h.ready in r.stands.regs i h.below (omega (arith, k, g)) h.held in
     let rt = slice_index (current_after current first b.ops) returned in
@@ -288,7 +288,7 @@ both_return t f b returned packets start places code h source run es ep =
 
 -- the only block's code
 abbrev code_for : Table → Function → Block → Options → Solution → CodeBlock
-code_for t f b o s = block_code (model_for t f b o) s 0 (plain_block t f b) (block_vars t o own_horizon 0 (plain_block t f b))
+code_for t f b o s = block_code (model_for t f b o) s 0 (plain_block t (length f.names) b) (block_vars t o own_horizon 0 (plain_block t (length f.names) b))
 
 at_entry : (t : Table) (f : Function) (b : Block) (o : Options) (s : Solution) (returned : ℕ) (places : Places) (start : Start) → f.blocks ≡ returning b returned ∷ [] → ArePlainOps 0 b.ops (length f.names) → returned < length f.names
     → let code = emitted (model_for t f (returning b returned) o) s in Agrees t f places code start (source_run f start 0) (packet_run t code start 0)
@@ -337,7 +337,7 @@ emitted_simulates f h e m s he fit hm few sol =
     let returned = h.plain.returned in
     let blocks : f.blocks ≡ returning h.block returned ∷ [] = h.blocks ∙ ap (λ (term : Term). let block : Block = record h.block { term = term } in block ∷ []) h.plain.term in
     let ext : e ≡ ext_of t f (returning h.block returned) =
-        he ∙ ap (λ (bs : List Block). let x : Ext = record { table = t; names = map (λ (n : List ℕ × Kind). n.1) f.names; blocks = map (plain_block t f) bs } in x) blocks in
+        he ∙ ap (λ (bs : List Block). let x : Ext = record { table = t; names = map kind_of f.names; blocks = map (plain_block t (length f.names)) bs } in x) blocks in
     let model : m ≡ model_for t f (returning h.block returned) o = hm ∙ ap (λ (x : Ext). model_of x o) ext in
     let go : IsSolution (model_for t f (returning h.block returned) o) s → Simulates t f (start_place (model_for t f (returning h.block returned) o) s) (emitted (model_for t f (returning h.block returned) o) s) =
         λ k. simulates_for t fit f h.block o s returned (start_place (model_for t f (returning h.block returned) o) s) blocks few k h.params h.plain.ops h.plain.was_assigned in

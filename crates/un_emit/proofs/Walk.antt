@@ -29,13 +29,12 @@ use Rattle.un_model.specs.declared.model.TempVars.{TempVars}
 use Rattle.un_model.specs.declared.model.Model.{Model}
 use Rattle.un_model.specs.declared.model.Solution.{Solution}
 use Rattle.un_model.specs.declared.schedule.Issue.{Issue}
-use Rattle.un_model.specs.declared.schedule.Role.TheVariants.{Border, Transfer, Plain}
 use Rattle.un_model.specs.declared.schedule.Read.{Read as Reading}
 use Rattle.un_model.specs.declared.schedule.Hold.{Hold}
 use Rattle.un_model.specs.Pairs.{pairs_from}
 use Rattle.un_model.specs.Registers.{is_assignable, is_home, general_registers}
 use Rattle.un_model.specs.Schedules.{chosen, issue_of, op_reads, read_of as reading_of}
-use Rattle.un_model.specs.Solutions.{InDomain, IsWithin, IsLast}
+use Rattle.un_model.specs.Solutions.{InDomain, IsPlaced}
 use Rattle.un_model.specs.Variables.{op_domains, op_vars, ops_domains, ops_vars, ops_temps, register_place, register_domain, register_domains, choice_domain, var_at}
 use Rattle.un_emit.specs.Emission.{register_by, register_of, issued}
 use Rattle.un_emit.proofs.Packets.{Plan, Step, Constant, Sum, Read, instr, where_in, instrs, tail_in, jump_by, at, is_false}
@@ -80,8 +79,7 @@ pub record Ahead (x : Scene) (n q first : ℕ) (ops : List ExtOp) : Type 0 where
   pub issues_at : (i : ℕ) → slice_get x.issues (q + i) ≡ slice_get (made x q first ops) i
   pub domains : InDomains x.s.values first (ops_domains x.t x.o x.b x.b.horizon ops)
   pub reads_fit : AllByRecursion (Fit x) (readings x q first ops)
-  pub within : AllByRecursion IsWithin (made x q first ops)
-  pub lasts : AllByRecursion (λ (i : Issue). IsLast i.role i) (made x q first ops)
+  pub placed : AllByRecursion IsPlaced (made x q first ops)
 
 abbrev with_result : ExtKind → List Operand → TempId → ExtOp
 with_result kind operands r = record { kind = kind; operands = operands; results = r ∷ [] }
@@ -100,8 +98,7 @@ next x n q first kind operands r ops h =
       issues_at = λ i. ap (slice_get x.issues) (omega arith) ∙ h.issues_at (suc i);
       domains = (split_domains x.s.values first (op_domains x.t x.o x.b x.b.horizon op) (ops_domains x.t x.o x.b x.b.horizon ops) h.domains).1;
       reads_fit = (split (Fit x) (op_reads x.s.values x.end q op (op_vars x.b.horizon first op)) (readings x (q + 1) past ops) h.reads_fit).1;
-      within = h.within.1;
-      lasts = h.lasts.1;
+      placed = h.placed.1;
     }
 
 -- the temporary that an operation of the source defines
@@ -146,6 +143,7 @@ abbrev pub NotStack : Scene → Type 0
 NotStack x = (r : TempId) → (is_assignable x.o.regs 29 || is_home x.b.ops r 29) ≡ false
 
 good_register : (x : Scene) (r : TempId) (v : ℕ) → NotStack x → Contains (general_registers x.o.regs x.b.ops r) v → (v < 32) × (v ≢ 29)
+unfolding general_registers
 good_register x r v h c =
     let k = passes (λ (n : ℕ). is_assignable x.o.regs n || is_home x.b.ops r n) v c in
     (k.1, λ (e : v ≡ 29). let no = sym k.0 ∙ ap (λ (n : ℕ). is_assignable x.o.regs n || is_home x.b.ops r n) e ∙ h r in cc no)
@@ -189,7 +187,7 @@ one x fit away total n q first a current o ops (constant dst imm le fits) lt bel
       placed = body_lat x fit n q first o [] (temp n) ops h;
       defined = body_defined x fit n q first o [] (temp n) ops h;
       good = good_register x (temp n) ((plan x).reg n) away (body_domain x fit n q first o [] (temp n) ops h);
-      late = ⊎_elim (λ (e : Plain ≡ Border). absurd (cc e)) (λ (e : (0 < slice_index x.s.values (first + 0)) × (slice_index x.s.values (first + 0) < x.end)). let k = e.0 in omega (arith, from)) h.within.0;
+      late = let k = (h.placed.0.0 refl).0 in omega (arith, from, k);
       code = λ c rest e. joined (nat_eq (slice_index x.s.values (first + 0)) c) (instr (plan x) n (Constant imm)) (code_in x c (q + 1) (first + size x (body_op current n o)) ops) rest e
           ∙ ap (λ (v : ℕ). where_in (nat_eq v c) (instr (plan x) n (Constant imm)) rest) (sym from);
     }
@@ -221,7 +219,7 @@ one x fit away total n q first a current o ops (addition dst b c le lb lc) lt be
         read_of x.s.values x.issues x.reads x.m.temps value total (reading_of x.s.values (Body o) (slice_index x.s.values (first + 0)) 1 (reads tb None) (var_at (first + 0 + 1 + 1))) tb ((plan x).from n) r.1.0 (ap (λ (y : TempId). y.0) cb) (sym from) (let k = below c lc in omega arith));
       defined = body_defined x fit n q first o operands (temp n) ops h;
       good = good_register x (temp n) ((plan x).reg n) away (body_domain x fit n q first o operands (temp n) ops h);
-      late = ⊎_elim (λ (e : Plain ≡ Border). absurd (cc e)) (λ (e : (0 < slice_index x.s.values (first + 0)) × (slice_index x.s.values (first + 0) < x.end)). let k = e.0 in omega (arith, from)) h.within.0;
+      late = let k = (h.placed.0.0 refl).0 in omega (arith, from, k);
       code = λ k rest e.
           joined (nat_eq (slice_index x.s.values (first + 0)) k) (instr_at (reg (chosen (temp ta ∷ []) va)) (reg (chosen (temp tb ∷ []) vb))) (code_in x k (q + 1) (first + size x op) ops) rest e
           ∙ ap (λ (i : Instr). where_in (nat_eq (slice_index x.s.values (first + 0)) k) i rest) same
@@ -279,7 +277,7 @@ ended x total n q first returned current few lt h =
     let outs = split (Fit x) (op_reads values x.end (q + 1) out (op_vars horizon past out)) [] fits.1 in
     let cycle = slice_index values (first + 0) in
     let v = slice_index values (first + 0 + 1) in
-    let last : cycle + 1 ≡ x.end = h.lasts.0 in
+    let last : cycle + 1 ≡ x.end = h.placed.0.1 in
     let ev : slice_index values (first + 1) ≡ v = ap (slice_index values) (omega arith) in
     let zv : v ≤ 0 = let k : slice_index values (first + 1) ≤ 0 = parts.0.1.0.1 in omega arith in
     let cv = only_choice l v zv in
@@ -293,7 +291,7 @@ ended x total n q first returned current few lt h =
     let saved_domains = (split_domains values (past + 1) (map choice_domain (saved_operands 0 kept)) [] (split_domains values (past + 1) (map choice_domain (saved_operands 0 kept) ++ []) [] parts.1.1).0).0 in
     let first_saved : past + 1 ≡ past + 0 + 0 + 1 = omega arith in
     record {
-      long = ⊎_elim (λ (e : Transfer ≡ Border). absurd (cc e)) (λ (e : (0 < cycle) × (cycle < x.end)). let k = e.0 in omega arith) h.within.0;
+      long = let k = (h.placed.0.0 refl).0 in omega (arith, k, last);
       link = read_of values x.issues x.reads x.m.temps x.value total (reading_of values (back.kind) cycle 0 (reads l None) (var_at (first + 0 + 1))) l (x.end - 1) fits.0.0 (ap (λ (y : TempId). y.0) cv) (omega arith) few;
       result = read_of values x.issues x.reads x.m.temps x.value total result_reading rt x.end outs.0.0 (ap (λ (y : TempId). y.0) cw) refl lt;
       result_home = ap (λ (y : TempId). p.reg y.0) (sym cw) ∙ home_of values x.issues x.reads result_reading.temp.0 (slice_get x.m.temps result_reading.temp.0) result_reading x.t.result refl outs.0.0.home;

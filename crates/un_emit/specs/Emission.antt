@@ -1,7 +1,8 @@
 -- The code of a solution of the model of a plain function.
 use Rattle.std.specs.Prelude.{ℕ, ◌-◌, ◌==◌, ◌&&◌, pos, Bool, if◌then◌else◌, List, [], ◌∷◌, Option, Some, None, map, slice_get}
-use Rattle.std.specs.List.{flat_map, range_with_len}
+use Rattle.std.specs.List.{flat_map, range_with_len, position_or_len}
 use Rattle.std.specs.Option.{option_map, option_to_list}
+use Rattle.un_base.specs.declared.ids.NameId.{NameId}
 use Rattle.un_base.specs.declared.ids.VarId.{VarId}
 use Rattle.un_base.specs.declared.ids.TempId.{TempId}
 use Rattle.un_isa.specs.declared.op.Op.TheVariants.{Jumpr, Nop}
@@ -92,7 +93,15 @@ block_code m s b block vars = record {
 abbrev pub emitted : Model → Solution → Code
 emitted m s = record { frame = 0; blocks = pairs_from (block_code m s) 0 m.ext.blocks m.blocks }
 
--- the register in which a name that is live at the start of a block stands: that of the name's value there. In a plain
--- function no name is live at the start.
+-- the values at a block's start, which its first operation defines
+abbrev pub start_values : List ExtOp → List TempId
+start_values [] = []
+start_values (o ∷ os) = o.results
+
+-- the register of the value of a name at a block's start
+abbrev pub place_in : Model → Solution → Option ExtBlock → ℕ → ℕ
+place_in m s None name = 0
+place_in m s (Some block) name = (register_of m s (chosen (start_values block.ops) (position_or_len (λ (n : NameId). n.0 == name) block.live_in))).0
+
 abbrev pub start_place : Model → Solution → ℕ → ℕ → ℕ
-start_place m s b name = (register_of m s (record { 0 = name })).0
+start_place m s b name = place_in m s (slice_get m.ext.blocks b) name
