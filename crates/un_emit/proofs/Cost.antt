@@ -43,7 +43,7 @@ counted t m s f b v hf he hm =
     ∙ ap (λ (n : ℕ). 0 + b.freq * n) (under t m s f b v)
     ∙ single_cost (b.freq * (value_of s.values v.end - 1))
     ∙ sym (ap (λ (es : List ExtBlock). sum (pairs_from (block_cost s.values) 0 es m.blocks)) he
-        ∙ ap (λ (vs : List BlockVars). sum (pairs_from (block_cost s.values) 0 (plain_block t (length f.names) b ∷ []) vs)) hm)
+    ∙ ap (λ (vs : List BlockVars). sum (pairs_from (block_cost s.values) 0 (plain_block t (length f.names) b ∷ []) vs)) hm)
 
 -- the only block of the model and its variables
 pub ext_blocks : (f : Function) (h : IsPlain f) (e : Ext) (m : Model) → e ≡ plain_ext e.table f → m ≡ model_of e m.options → m.ext.blocks ≡ plain_block e.table (length f.names) h.block ∷ []

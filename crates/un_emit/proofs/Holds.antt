@@ -41,7 +41,7 @@ in_domains values first [] h = tt
 in_domains values first (d ∷ ds) h =
     let here : first + 0 ≡ first = omega arith in
     let later : (i : ℕ) (e : Domain) → i < length ds → InDomain (slice_index values (first + 1 + i)) (slice_index_or ds i e) =
-        λ i e lt. let k : first + suc i ≡ first + 1 + i = omega arith in subst (λ (n : ℕ). InDomain (slice_index values n) (slice_index_or ds i e)) k (h (suc i) e (omega arith)) in
+    λ i e lt. let k : first + suc i ≡ first + 1 + i = omega arith in subst (λ (n : ℕ). InDomain (slice_index values n) (slice_index_or ds i e)) k (h (suc i) e (omega arith)) in
     (subst (λ (n : ℕ). InDomain (slice_index values n) d) here (h 0 d (omega arith)), in_domains values (first + 1) ds later)
 
 pub kept_domains : (values : List ℕ) (ds : List Domain) → KeepsDomains ds values → InDomains values 0 ds
@@ -121,9 +121,10 @@ pub read_of : (values : List ℕ) (issues : List Issue) (reads : List Reading) (
     → Read (plan_of values issues reads temps value) total t c
 read_of values issues reads temps value total r t c h e g lt =
     let go : (o : Option TempVars) → IsHeld (held_by values issues reads r.temp.0 o) → LeavesGap latency_gap r (held_by values issues reads r.temp.0 o) → (from_by (held_by values issues reads r.temp.0 o) + lat_by (held_by values issues reads r.temp.0 o) ≤ r.cycle) × (r.cycle ≤ last_by (held_by values issues reads r.temp.0 o) + 1) =
-        λ o. elim o as (λ v. IsHeld (held_by values issues reads r.temp.0 v) → LeavesGap latency_gap r (held_by values issues reads r.temp.0 v) → (from_by (held_by values issues reads r.temp.0 v) + lat_by (held_by values issues reads r.temp.0 v) ≤ r.cycle) × (r.cycle ≤ last_by (held_by values issues reads r.temp.0 v) + 1)) [
-          None ↦ λ a b. absurd a
-        | Some x ↦ λ a b. gives r (last_read reads r.temp.0) values x (slice_get issues x.op.0) a b h.last ] in
+    λ o. elim o as (λ v. IsHeld (held_by values issues reads r.temp.0 v) → LeavesGap latency_gap r (held_by values issues reads r.temp.0 v) → (from_by (held_by values issues reads r.temp.0 v) + lat_by (held_by values issues reads r.temp.0 v) ≤ r.cycle) × (r.cycle ≤ last_by (held_by values issues reads r.temp.0 v) + 1)) [
+      | None ↦ λ a b. absurd a
+      | Some x ↦ λ a b. gives r (last_read reads r.temp.0) values x (slice_get issues x.op.0) a b h.last
+    ] in
     let facts = go (slice_get temps r.temp.0) h.active h.gap in
     let made : Read (plan_of values issues reads temps value) total r.temp.0 r.cycle = record { below = subst (λ (n : ℕ). n < total) (sym e) lt; ready = facts.0; held = facts.1 } in
     subst (λ (n : ℕ). Read (plan_of values issues reads temps value) total n c) e (subst (λ (n : ℕ). Read (plan_of values issues reads temps value) total r.temp.0 n) g made)
@@ -173,13 +174,13 @@ apart_lt values issues reads temps value a b h da db lt same =
     let regs : ha.reg ≡ hb.reg = sym (ap (λ (o : Option TempVars). (register_by values o).0) da.its) ∙ same ∙ ap (λ (o : Option TempVars). (register_by values o).0) db.its in
     let done = ready da.active db.active (da.block ∙ sym db.block) regs in
     subst (λ (x : Option Hold). (last_by x < from_by (held values issues reads temps b)) ⊎ (last_by (held values issues reads temps b) < from_by x)) (sym ga)
-        (subst (λ (x : Option Hold). (ha.last < from_by x) ⊎ (last_by x < ha.from)) (sym gb) done)
+    (subst (λ (x : Option Hold). (ha.last < from_by x) ⊎ (last_by x < ha.from)) (sym gb) done)
 
 pub apart_by : (values : List ℕ) (issues : List Issue) (reads : List Reading) (temps : List TempVars) (value : ℕ → ℕ) (a b : ℕ) → AllPairs ShareNoCycle (holds_of values issues reads temps) → IsDefined values issues temps a → IsDefined values issues temps b → a ≢ b
     → let p = plan_of values issues reads temps value in p.reg a ≡ p.reg b → (p.last a < p.from b) ⊎ (p.last b < p.from a)
 apart_by values issues reads temps value a b h da db apart same =
     ⊎_elim (λ (lt : a < b). apart_lt values issues reads temps value a b h da db lt same)
-        (λ (le : b ≤ a). ⊎_elim (λ x. inr x) (λ x. inl x) (apart_lt values issues reads temps value b a h db da (omega arith) (sym same))) (cases_lt a b)
+    (λ (le : b ≤ a). ⊎_elim (λ x. inr x) (λ x. inl x) (apart_lt values issues reads temps value b a h db da (omega arith) (sym same))) (cases_lt a b)
 
 pub spans_by : (values : List ℕ) (issues : List Issue) (reads : List Reading) (temps : List TempVars) (value : ℕ → ℕ) (t : ℕ) → IsDefined values issues temps t → let p = plan_of values issues reads temps value in p.from t ≤ p.last t
 spans_by values issues reads temps value t d =
@@ -201,9 +202,10 @@ pub filtered : (p : ℕ → Bool) (P : ℕ → Type 0) (xs : List ℕ) → AllBy
 filtered p P [] h = tt
 filtered p P (x ∷ xs) h =
     let go : (b : Bool) → p x ≡ b → AllByRecursion (λ r. (p r ≡ true) × P r) (if b then x ∷ filter p xs else filter p xs) =
-        λ b. elim b as (λ v. p x ≡ v → AllByRecursion (λ r. (p r ≡ true) × P r) (if v then x ∷ filter p xs else filter p xs)) [
-          true ↦ λ e. ((e, h.0), filtered p P xs h.1)
-        | false ↦ λ e. filtered p P xs h.1 ] in
+    λ b. elim b as (λ v. p x ≡ v → AllByRecursion (λ r. (p r ≡ true) × P r) (if v then x ∷ filter p xs else filter p xs)) [
+      | true ↦ λ e. ((e, h.0), filtered p P xs h.1)
+      | false ↦ λ e. filtered p P xs h.1
+    ] in
     go (p x) refl
 
 pub below_range : (a n : ℕ) → AllByRecursion (λ r. r < a + n) (range_with_len a n)
@@ -229,7 +231,8 @@ pub home_of : (values : List ℕ) (issues : List Issue) (reads : List Reading) (
 home_of values issues reads t None r g e h = absurd h
 home_of values issues reads t (Some x) r g e h =
     let go : (i : Option Issue) → ReadsHome r (Some (hold_by values x (last_read reads t) i)) → value_of values x.reg ≡ g =
-        λ i. elim i as (λ v. ReadsHome r (Some (hold_by values x (last_read reads t) v)) → value_of values x.reg ≡ g) [
-          None ↦ λ k. subst (λ (o : Option Reg). IsHome o (hold_by values x (last_read reads t) None)) e k
-        | Some j ↦ λ k. subst (λ (o : Option Reg). IsHome o (hold_by values x (last_read reads t) (Some j))) e k ] in
+    λ i. elim i as (λ v. ReadsHome r (Some (hold_by values x (last_read reads t) v)) → value_of values x.reg ≡ g) [
+      | None ↦ λ k. subst (λ (o : Option Reg). IsHome o (hold_by values x (last_read reads t) None)) e k
+      | Some j ↦ λ k. subst (λ (o : Option Reg). IsHome o (hold_by values x (last_read reads t) (Some j))) e k
+    ] in
     go (slice_get issues x.op.0) h

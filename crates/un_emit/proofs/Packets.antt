@@ -135,15 +135,16 @@ puts_own p f c n [] xs t le lt e small h = absurd (omega arith)
 puts_own p f c n (s ∷ ss) xs t le lt e small h =
     let long = length-put_at (nat_eq (p.from n) c) (p.reg n) (f n) xs in
     ⊎_elim (λ (same : n ≡ t). own_here p f c n s ss xs t same e small h) (λ (other : n ≢ t).
-        puts_own p f c (n + 1) ss (put_at (nat_eq (p.from n) c) (p.reg n) (f n) xs) t (omega arith) (omega arith) e (omega arith) (λ i a b g k. h i (omega arith) (omega arith) g k)) (cases_eq n t)
+    puts_own p f c (n + 1) ss (put_at (nat_eq (p.from n) c) (p.reg n) (f n) xs) t (omega arith) (omega arith) e (omega arith) (λ i a b g k. h i (omega arith) (omega arith) g k)) (cases_eq n t)
 
 -- what no operation changes
 skip : {X : Type 0} (f : List Instr → X) (p : Plan) (c n : ℕ) (ss : List Step) (tail : List Instr) → ((i : ℕ) (s : Step) (is : List Instr) → f (instr p i s ∷ is) ≡ f is) → f (instrs p c n ss tail) ≡ f tail
 skip f p c n [] tail h = refl
 skip f p c n (s ∷ ss) tail h =
     elim (nat_eq (p.from n) c) as (λ b. f (where_in b (instr p n s) (instrs p c (n + 1) ss tail)) ≡ f tail) [
-      true ↦ h n s (instrs p c (n + 1) ss tail) ∙ skip f p c (n + 1) ss tail h
-    | false ↦ skip f p c (n + 1) ss tail h ]
+      | true ↦ h n s (instrs p c (n + 1) ss tail) ∙ skip f p c (n + 1) ss tail h
+      | false ↦ skip f p c (n + 1) ss tail h
+    ]
 
 no_trap : (u : PacketState) (p : Plan) (i : ℕ) (s : Step) (is : List Instr) → list_any (traps u) (instr p i s ∷ is) ≡ list_any (traps u) is
 no_trap u p i (Constant imm) is = refl
@@ -189,9 +190,10 @@ regs_are : (t : Table) (p : Plan) (total c n : ℕ) (ss : List Step) (tail : Lis
 regs_are t p total c n [] tail u xs h k = refl
 regs_are t p total c n (s ∷ ss) tail u xs h k =
     let go : (b : Bool) → nat_eq (p.from n) c ≡ b → regs_after u (where_in b (instr p n s) (instrs p c (n + 1) ss tail)) xs ≡ regs_after u tail (puts p p.value c (n + 1) ss (put_at b (p.reg n) (p.value n) xs)) =
-        λ b. elim b as (λ v. nat_eq (p.from n) c ≡ v → regs_after u (where_in v (instr p n s) (instrs p c (n + 1) ss tail)) xs ≡ regs_after u tail (puts p p.value c (n + 1) ss (put_at v (p.reg n) (p.value n) xs))) [
-          true ↦ λ e. one_value t p total c n s (instrs p c (n + 1) ss tail) u xs h.0 k (is_true (p.from n) c e) ∙ regs_are t p total c (n + 1) ss tail u (set xs (p.reg n) (p.value n)) h.1 k
-        | false ↦ λ e. regs_are t p total c (n + 1) ss tail u xs h.1 k ] in
+    λ b. elim b as (λ v. nat_eq (p.from n) c ≡ v → regs_after u (where_in v (instr p n s) (instrs p c (n + 1) ss tail)) xs ≡ regs_after u tail (puts p p.value c (n + 1) ss (put_at v (p.reg n) (p.value n) xs))) [
+      | true ↦ λ e. one_value t p total c n s (instrs p c (n + 1) ss tail) u xs h.0 k (is_true (p.from n) c e) ∙ regs_are t p total c (n + 1) ss tail u (set xs (p.reg n) (p.value n)) h.1 k
+      | false ↦ λ e. regs_are t p total c (n + 1) ss tail u xs h.1 k
+    ] in
     go (nat_eq (p.from n) c) refl
 
 one_ready : (t : Table) (p : Plan) (total c n : ℕ) (s : Step) (is : List Instr) (u : PacketState) (xs : List ℕ) → Fits t p total n s
@@ -205,8 +207,9 @@ ready_is : (t : Table) (p : Plan) (total c n : ℕ) (ss : List Step) (tail : Lis
 ready_is t p total c n [] tail u xs h = refl
 ready_is t p total c n (s ∷ ss) tail u xs h =
     elim (nat_eq (p.from n) c) as (λ v. ready_after t c u (where_in v (instr p n s) (instrs p c (n + 1) ss tail)) xs ≡ ready_after t c u tail (puts p (λ i. c + p.lat i) c (n + 1) ss (put_at v (p.reg n) (c + p.lat n) xs))) [
-      true ↦ one_ready t p total c n s (instrs p c (n + 1) ss tail) u xs h.0 ∙ ready_is t p total c (n + 1) ss tail u (set xs (p.reg n) (c + p.lat n)) h.1
-    | false ↦ ready_is t p total c (n + 1) ss tail u xs h.1 ]
+      | true ↦ one_ready t p total c n s (instrs p c (n + 1) ss tail) u xs h.0 ∙ ready_is t p total c (n + 1) ss tail u (set xs (p.reg n) (c + p.lat n)) h.1
+      | false ↦ ready_is t p total c (n + 1) ss tail u xs h.1
+    ]
 
 -- how long a packet waits for what its instructions read
 abbrev waits_for : List ℕ → ℕ → List Instr → ℕ
@@ -226,9 +229,10 @@ in_time : (t : Table) (p : Plan) (total c n : ℕ) (ss : List Step) (tail : List
 in_time t p total c n [] tail u h k = refl
 in_time t p total c n (s ∷ ss) tail u h k =
     let go : (b : Bool) → nat_eq (p.from n) c ≡ b → waits_for u.ready c (where_in b (instr p n s) (instrs p c (n + 1) ss tail)) ≡ waits_for u.ready c tail =
-        λ b. elim b as (λ v. nat_eq (p.from n) c ≡ v → waits_for u.ready c (where_in v (instr p n s) (instrs p c (n + 1) ss tail)) ≡ waits_for u.ready c tail) [
-          true ↦ λ e. one_in_time t p total c n s (instrs p c (n + 1) ss tail) u h.0 k (is_true (p.from n) c e) ∙ in_time t p total c (n + 1) ss tail u h.1 k
-        | false ↦ λ e. in_time t p total c (n + 1) ss tail u h.1 k ] in
+    λ b. elim b as (λ v. nat_eq (p.from n) c ≡ v → waits_for u.ready c (where_in v (instr p n s) (instrs p c (n + 1) ss tail)) ≡ waits_for u.ready c tail) [
+      | true ↦ λ e. one_in_time t p total c n s (instrs p c (n + 1) ss tail) u h.0 k (is_true (p.from n) c e) ∙ in_time t p total c (n + 1) ss tail u h.1 k
+      | false ↦ λ e. in_time t p total c (n + 1) ss tail u h.1 k
+    ] in
     go (nat_eq (p.from n) c) refl
 
 -- a packet of instructions that compute
@@ -356,11 +360,11 @@ goes : (t : Table) (p : Plan) (first total c stack : ℕ) (memory : List (ℕ ×
     → packet_step t (instrs p c first ss []) u ≡ Went (after t c u (instrs p c first ss []))
 goes t p first total c stack memory ss u f h =
     computes t u (instrs p c first ss []) c
-        (skip (λ (is : List Instr). list_any (traps u) is) p c first ss [] (λ i s is. no_trap u p i s is))
-        (skip (λ (is : List Instr). find (λ (x : Instr). is_call x.op) is) p c first ss [] (λ i s is. no_call p i s is))
-        (issues_now t p first total c stack memory ss [] u f h refl)
-        (skip (λ (is : List Instr). find (λ (x : Instr). is_return x.op) is) p c first ss [] (λ i s is. no_return p i s is))
-        (skip (λ (is : List Instr). find (jumps u) is) p c first ss [] (λ i s is. no_jump u p i s is))
+    (skip (λ (is : List Instr). list_any (traps u) is) p c first ss [] (λ i s is. no_trap u p i s is))
+    (skip (λ (is : List Instr). find (λ (x : Instr). is_call x.op) is) p c first ss [] (λ i s is. no_call p i s is))
+    (issues_now t p first total c stack memory ss [] u f h refl)
+    (skip (λ (is : List Instr). find (λ (x : Instr). is_return x.op) is) p c first ss [] (λ i s is. no_return p i s is))
+    (skip (λ (is : List Instr). find (jumps u) is) p c first ss [] (λ i s is. no_jump u p i s is))
 
 jump_in_time : (p : Plan) (total c l : ℕ) (u : PacketState) → Read p total l c → InTime p total c u → waits_for u.ready c (jump_by p l ∷ []) ≡ c
 jump_in_time p total c l u r k = let g = k l r in let e : max c (get_or u.ready (p.reg l) 0) ≡ c = omega arith in e
@@ -371,10 +375,10 @@ ends : (t : Table) (p : Plan) (first total c stack l : ℕ) (memory : List (ℕ 
 ends t p first total c stack l memory ss u f h r =
     let tail = jump_by p l ∷ [] in
     returns_by t u (instrs p c first ss tail) c (jump_by p l)
-        (skip (λ (is : List Instr). list_any (traps u) is) p c first ss tail (λ i s is. no_trap u p i s is))
-        (skip (λ (is : List Instr). find (λ (x : Instr). is_call x.op) is) p c first ss tail (λ i s is. no_call p i s is))
-        (issues_now t p first total c stack memory ss tail u f h (jump_in_time p total c l u r (in_time_at t p first total c stack memory ss u f h)))
-        (skip (λ (is : List Instr). find (λ (x : Instr). is_return x.op) is) p c first ss tail (λ i s is. no_return p i s is))
+    (skip (λ (is : List Instr). list_any (traps u) is) p c first ss tail (λ i s is. no_trap u p i s is))
+    (skip (λ (is : List Instr). find (λ (x : Instr). is_call x.op) is) p c first ss tail (λ i s is. no_call p i s is))
+    (issues_now t p first total c stack memory ss tail u f h (jump_in_time p total c l u r (in_time_at t p first total c stack memory ss u f h)))
+    (skip (λ (is : List Instr). find (λ (x : Instr). is_return x.op) is) p c first ss tail (λ i s is. no_return p i s is))
 
 -- the packets from cycle c on, of which the last returns
 abbrev pub tail_in : Plan → ℕ → ℕ → ℕ → List Instr
@@ -411,9 +415,10 @@ runs t p first total end stack l memory ss zero c u f r e h =
     record {
       to = q;
       run = ap (λ (x : Packet). then_packets (packet_step t x.instrs u) (packets_run t [])) same ∙ ap (λ (x : PacketStep). then_packets x (packets_run t [])) step;
-      waits = subst (λ (x : Packet). NoneWaits t (x ∷ []) u) (sym same)
-          (nop_issue u is ∙ issues_now t p first total c stack memory ss tail u f h (jump_in_time p total c l u read (in_time_at t p first total c stack memory ss u f h)) ∙ sym h.cycle,
-           subst (λ (x : PacketStep). goes_on_unless x (NoneWaits t [])) (sym step) tt);
+      waits = subst (λ (x : Packet). NoneWaits t (x ∷ []) u) (sym same) (
+        nop_issue u is ∙ issues_now t p first total c stack memory ss tail u f h (jump_in_time p total c l u read (in_time_at t p first total c stack memory ss u f h)) ∙ sym h.cycle,
+        subst (λ (x : PacketStep). goes_on_unless x (NoneWaits t [])) (sym step) tt,
+      );
       stands = subst (λ (x : ℕ). Stands p total x stack memory q) last (stands_next t p first total c stack memory ss tail u f (jump_idle t p l) h);
     }
 runs t p first total end stack l memory ss (suc d) c u f r e h =
@@ -427,8 +432,9 @@ runs t p first total end stack l memory ss (suc d) c u f r e h =
     record {
       to = following.to;
       run = ap (λ (x : Packet). then_packets (packet_step t x.instrs u) (packets_run t rest)) same ∙ ap (λ (x : PacketStep). then_packets x (packets_run t rest)) step ∙ following.run;
-      waits = subst (λ (x : Packet). NoneWaits t (x ∷ rest) u) (sym same)
-          (nop_issue u is ∙ issues_now t p first total c stack memory ss [] u f h refl ∙ sym h.cycle,
-           subst (λ (x : PacketStep). goes_on_unless x (NoneWaits t rest)) (sym step) following.waits);
+      waits = subst (λ (x : Packet). NoneWaits t (x ∷ rest) u) (sym same) (
+        nop_issue u is ∙ issues_now t p first total c stack memory ss [] u f h refl ∙ sym h.cycle,
+        subst (λ (x : PacketStep). goes_on_unless x (NoneWaits t rest)) (sym step) following.waits,
+      );
       stands = following.stands;
     }

@@ -130,14 +130,14 @@ each_fits m s h =
     let issues = issues_of m values in
     let reads = reads_of m values in
     recursion_from_All (λ (r : Reading). IsFitRead values issues reads m.temps r) reads (λ k d lt.
-        let r = slice_index_or reads k d in
-        let e = held_at values issues reads m.temps r.temp.0 in
-        record {
-          active = subst (λ (x : Option Hold). IsHeld x) e (h.choices k d lt);
-          gap = subst (λ (x : Option Hold). LeavesGap latency_gap r x) e (h.latencies.1 k d lt);
-          home = subst (λ (x : Option Hold). ReadsHome r x) e (h.homes k d lt);
-          last = All-from_recursion (λ (q : Reading). q.cycle ≤ last_read reads q.temp.0) reads (last_above reads) k d lt;
-        })
+    let r = slice_index_or reads k d in
+    let e = held_at values issues reads m.temps r.temp.0 in
+    record {
+      active = subst (λ (x : Option Hold). IsHeld x) e (h.choices k d lt);
+      gap = subst (λ (x : Option Hold). LeavesGap latency_gap r x) e (h.latencies.1 k d lt);
+      home = subst (λ (x : Option Hold). ReadsHome r x) e (h.homes k d lt);
+      last = All-from_recursion (λ (q : Reading). q.cycle ≤ last_read reads q.temp.0) reads (last_above reads) k d lt;
+    })
 
 -- what stands before the operations of the source
 pub ahead : (t : Table) (f : Function) (b : Block) (o : Options) (s : Solution) (value : ℕ → ℕ) (returned : ℕ) → IsSolution (model_for t f (returning b returned) o) s

@@ -128,7 +128,7 @@ found : (p : ℕ → Bool) (n a r : ℕ) → a ≤ r → r < a + n → p r ≡ t
 found p zero a r le lt h = absurd (omega arith)
 found p (suc n) a r le lt h =
     ⊎_elim (λ (e : a ≡ r). subst (λ (x : ℕ). IsIn (filter p (range_with_len a (suc n))) x) e (in_head (p a) a (filter p (range_with_len (a + 1) n)) (ap p e ∙ h)))
-        (λ (e : a ≢ r). in_more (p a) a r (filter p (range_with_len (a + 1) n)) (found p n (a + 1) r (omega arith) (omega arith) h)) (cases_eq a r)
+    (λ (e : a ≢ r). in_more (p a) a r (filter p (range_with_len (a + 1) n)) (found p n (a + 1) r (omega arith) (omega arith) h)) (cases_eq a r)
 
 map_at : (f : ℕ → ℕ) (xs : List ℕ) (i : ℕ) → i < length xs → slice_index (map f xs) i ≡ f (slice_index xs i)
 map_at f [] i lt = absurd (omega arith)
@@ -167,9 +167,9 @@ link_register t = ap (λ (xs : List ℕ). slice_index xs (length (kept_registers
 saved_small : (t : Table) (i : ℕ) → i < saved_count t → slice_index (saved_registers t) i < 36
 saved_small t i lt =
     ⊎_elim (λ (below : i < length (kept_registers t)).
-            let k = place_of (IsKept t) (kept_registers t) i 0 (kept_all t) below in let e = kept_register t i below in let g = k.1 in omega (arith, e, g))
-        (λ (le : length (kept_registers t) ≤ i).
-            let same : i ≡ length (kept_registers t) = omega arith in let e = ap (slice_index (saved_registers t)) same ∙ link_register t in omega (arith, e)) (cases_lt i (length (kept_registers t)))
+    let k = place_of (IsKept t) (kept_registers t) i 0 (kept_all t) below in let e = kept_register t i below in let g = k.1 in omega (arith, e, g))
+    (λ (le : length (kept_registers t) ≤ i).
+    let same : i ≡ length (kept_registers t) = omega arith in let e = ap (slice_index (saved_registers t)) same ∙ link_register t in omega (arith, e)) (cases_lt i (length (kept_registers t)))
 
 zeros_read : (n r : ℕ) → slice_index (replicate n 0) r ≡ 0
 zeros_read zero r = refl
@@ -212,10 +212,10 @@ both t fit f b o s returned few sol params plain lt start can =
     let names = length-replicate {A = ℕ} (length f.names) 0 in
     let steps = steps_of b.ops 0 (length f.names) first current plain in
     let w : Walked x total first 1 (first_of t f bb o) (slice_index (current_after current first b.ops) returned) (rest_of t f b returned) steps =
-        walk x fit (away t fit f b o s value returned few) b.ops total first 1 (first_of t f bb o) 0 (length f.names) returned current plain refl (omega arith) (omega (arith, names)) lt (λ i no. absurd (omega arith)) (ahead t f b o s value returned sol) in
+    walk x fit (away t fit f b o s value returned few) b.ops total first 1 (first_of t f bb o) 0 (length f.names) returned current plain refl (omega arith) (omega (arith, names)) lt (λ i no. absurd (omega arith)) (ahead t f b o s value returned sol) in
     let long = first_long f start params in
     let c : Computes value (length f.names) first (first_values f start) b.ops (current_after current first b.ops) steps =
-        computes b.ops value 0 (length f.names) first (first_values f start) current plain (omega (arith, long)) (omega (arith, names)) (gives_by value first (results b.ops (first_values f start).values) (λ i. later_value t f b start i)) (λ i no. absurd (omega arith)) in
+    computes b.ops value 0 (length f.names) first (first_values f start) current plain (omega (arith, long)) (omega (arith, names)) (gives_by value first (results b.ops (first_values f start).values) (λ i. later_value t f b start i)) (λ i no. absurd (omega arith)) in
     let begins : (i : ℕ) → i < first → Starts x i (slice_index (saved_registers t) i) = λ i below. starts t f b o s value returned sol i below in
     let defined : (i : ℕ) → i < total → Defined x i = λ i below. ⊎_elim (λ (h : i < first). (begins i h).defined) (λ (h : first ≤ i). w.defined i h below) (cases_lt i first) in
     let apart : IsApartPlan p first total = record {
@@ -242,11 +242,11 @@ both t fit f b o s returned few sol params plain lt start can =
     let d = end - 2 in
     let r = runs t p first total end (get_or start.regs 29 0) (length kept) start.memory steps d 1 (first_state 0 start) facts w.link (omega (arith, long_end)) opening in
     let code : (k : ℕ) → packet_at p first end (length kept) steps k ≡ packet_in m s (plain_block t (length f.names) bb) (block_vars t o own_horizon 0 (plain_block t (length f.names) bb)) k =
-        λ k. let same = no_code (nat_eq 0 k) (code_in x k 1 (first_of t f bb o) (rest_of t f b returned)) ∙ w.code k in
-            ap (λ (is : List Instr). let packet : Packet = record { instrs = or_nop is } in packet) (sym same) in
+    λ k. let same = no_code (nat_eq 0 k) (code_in x k 1 (first_of t f bb o) (rest_of t f b returned)) ∙ w.code k in
+    ap (λ (is : List Instr). let packet : Packet = record { instrs = or_nop is } in packet) (sym same) in
     let n : suc d ≡ end - 1 = omega (arith, long_end) in
     let packets = map_same (packet_at p first end (length kept) steps) (packet_in m s (plain_block t (length f.names) bb) (block_vars t o own_horizon 0 (plain_block t (length f.names) bb))) code (range_with_len 1 (suc d))
-        ∙ ap (λ (k : ℕ). map (packet_in m s (plain_block t (length f.names) bb) (block_vars t o own_horizon 0 (plain_block t (length f.names) bb))) (range_with_len 1 k)) n in
+    ∙ ap (λ (k : ℕ). map (packet_in m s (plain_block t (length f.names) bb) (block_vars t o own_horizon 0 (plain_block t (length f.names) bb))) (range_with_len 1 k)) n in
     let q = r.to in
     let at_end : (i : ℕ) → Read p total i end → get_or q.regs (p.reg i) 0 ≡ value i = λ i h. let k = apart.quick i h.below in let g = h.ready in r.stands.regs i h.below (omega (arith, k, g)) h.held in
     let rt = slice_index (current_after current first b.ops) returned in
@@ -282,7 +282,7 @@ both_return : (t : Table) (f : Function) (b : Block) (returned : ℕ) (packets :
     → Agrees t f places code start source run
 both_return t f b returned packets start places code h source run es ep =
     let done : Agrees t f places code start (record { stop = Returned (Some (slice_index h.to.values returned)); state = h.to }) (record { stop = ReturnedTo (get_or h.goes.regs 0 0) (get_or start.regs 31 0); state = h.goes }) =
-        record { stop = (h.result, refl, h.keeps); memory = h.memory; calls = h.calls } in
+    record { stop = (h.result, refl, h.keeps); memory = h.memory; calls = h.calls } in
     let one = subst (λ (x : SourceRun). Agrees t f places code start x (record { stop = ReturnedTo (get_or h.goes.regs 0 0) (get_or start.regs 31 0); state = h.goes })) (sym es) done in
     subst (λ (x : PacketRun). Agrees t f places code start source x) (sym ep) one
 
@@ -295,7 +295,8 @@ at_entry : (t : Table) (f : Function) (b : Block) (o : Options) (s : Solution) (
 at_entry t f b o s returned places start blocks plain lt = record {
   stop = (
     ap (λ (bs : List Block). option_map (λ (x : Block). x.label) (slice_get bs 0)) blocks,
-    λ name kind is live. absurd (none_live (returning b returned) name (length f.names) returned plain refl lt (subst (λ (bs : List Block). IsLive bs name 0 0) blocks live)));
+    λ name kind is live. absurd (none_live (returning b returned) name (length f.names) returned plain refl lt (subst (λ (bs : List Block). IsLive bs name 0 0) blocks live)),
+  );
   memory = refl;
   calls = refl;
 }
@@ -309,7 +310,7 @@ agrees t fit f b o s returned places blocks few sol params plain lt start (suc n
     let code = emitted (model_for t f bb o) s in
     let h = both t fit f b o s returned few sol params plain lt start can in
     let es = ap (λ (bs : List Block). through (slice_get bs 0) 0 (first_values f start) (enter f.blocks n)) blocks
-        ∙ ap (λ (e : BlockEnd). leave_unless e.stop e.state 0 bb.term (enter f.blocks n)) h.source in
+    ∙ ap (λ (e : BlockEnd). leave_unless e.stop e.state 0 bb.term (enter f.blocks n)) h.source in
     let ep = ap (λ (x : PacketStep). leave_packets code.blocks 0 x (enter_packets t code.blocks n)) h.run in
     both_return t f b returned (code_for t f bb o s).packets start places code h _ _ es ep
 
@@ -337,8 +338,8 @@ emitted_simulates f h e m s he fit hm few sol =
     let returned = h.plain.returned in
     let blocks : f.blocks ≡ returning h.block returned ∷ [] = h.blocks ∙ ap (λ (term : Term). let block : Block = record h.block { term = term } in block ∷ []) h.plain.term in
     let ext : e ≡ ext_of t f (returning h.block returned) =
-        he ∙ ap (λ (bs : List Block). let x : Ext = record { table = t; names = map kind_of f.names; blocks = map (plain_block t (length f.names)) bs } in x) blocks in
+    he ∙ ap (λ (bs : List Block). let x : Ext = record { table = t; names = map kind_of f.names; blocks = map (plain_block t (length f.names)) bs } in x) blocks in
     let model : m ≡ model_for t f (returning h.block returned) o = hm ∙ ap (λ (x : Ext). model_of x o) ext in
     let go : IsSolution (model_for t f (returning h.block returned) o) s → Simulates t f (start_place (model_for t f (returning h.block returned) o) s) (emitted (model_for t f (returning h.block returned) o) s) =
-        λ k. simulates_for t fit f h.block o s returned (start_place (model_for t f (returning h.block returned) o) s) blocks few k h.params h.plain.ops h.plain.was_assigned in
+    λ k. simulates_for t fit f h.block o s returned (start_place (model_for t f (returning h.block returned) o) s) blocks few k h.params h.plain.ops h.plain.was_assigned in
     subst (λ (x : Model). IsSolution x s → Simulates t f (start_place x s) (emitted x s)) (sym model) go sol

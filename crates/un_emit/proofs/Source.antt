@@ -67,7 +67,7 @@ one_means value a n values current o (addition dst b c le lb lc) names e =
 set_names : (value : ℕ → ℕ) (a n v d : ℕ) (values current : List ℕ) → d ≤ a → d < length values → d < length current → Names value a values current → value n ≡ v → (i : ℕ) → i < max a (d + 1) → slice_index (set values d v) i ≡ value (slice_index (set current d n) i)
 set_names value a n v d values current le lv lc names e i lt =
     ⊎_elim (λ (k : i ≡ d). rw k (get_or-set_same values d v 0 lv ∙ sym e ∙ ap value (sym (get_or-set_same current d n 0 lc))))
-        (λ (k : i ≢ d). get_or-set_other values d i v 0 k ∙ names i (omega arith) ∙ ap value (sym (get_or-set_other current d i n 0 k))) (cases_eq i d)
+    (λ (k : i ≢ d). get_or-set_other values d i v 0 k ∙ names i (omega arith) ∙ ap value (sym (get_or-set_other current d i n 0 k))) (cases_eq i d)
 
 one_names : (value : ℕ → ℕ) (a n : ℕ) (values current : List ℕ) (o : SrcOp) → IsPlainOp a o → assigned_after a o.dst ≤ length values → assigned_after a o.dst ≤ length current → Names value a values current → value n ≡ computed o values
     → Names value (assigned_after a o.dst) (with_value values o.dst (computed o values)) (assigned current o.dst n)
@@ -97,7 +97,7 @@ computes (o ∷ os) value a m n s current h lv lc gives names =
     let long = length-with_value s.values o.dst (computed o s.values) in
     let long2 = length-assigned current o.dst n in
     let rest = computes os value (assigned_after a o.dst) m (n + 1) next (assigned current o.dst n) h.1 (omega (arith, long)) (omega (arith, long2)) gives.1
-        (one_names value a n s.values current o h.0 (omega arith) (omega arith) names gives.0) in
+    (one_names value a n s.values current o h.0 (omega arith) (omega arith) names gives.0) in
     record {
       to = rest.to;
       source = ap (λ (x : SourceStep). then_ops x s (ops_run os)) (one_step a o h.0 s) ∙ rest.source;

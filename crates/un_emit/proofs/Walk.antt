@@ -211,12 +211,13 @@ one x fit away total n q first a current o ops (addition dst b c le lb lc) lt be
     let reg : TempId → Reg = register_of x.m x.s in
     let instr_at : Reg → Reg → Instr = λ (y z : Reg). record (instr (plan x) n (Sum ta tb)) { srcs = y ∷ z ∷ [] } in
     let same : instr_at (reg (chosen (temp ta ∷ []) va)) (reg (chosen (temp tb ∷ []) vb)) ≡ instr (plan x) n (Sum ta tb) =
-        ap (λ (y : TempId). instr_at (reg y) (reg (chosen (temp tb ∷ []) vb))) ca ∙ ap (λ (y : TempId). instr_at (reg (temp ta)) (reg y)) cb in
+    ap (λ (y : TempId). instr_at (reg y) (reg (chosen (temp tb ∷ []) vb))) ca ∙ ap (λ (y : TempId). instr_at (reg (temp ta)) (reg y)) cb in
     record {
       placed = (
         body_lat x fit n q first o operands (temp n) ops h,
         read_of x.s.values x.issues x.reads x.m.temps value total (reading_of x.s.values (Body o) (slice_index x.s.values (first + 0)) 0 (reads ta None) (var_at (first + 0 + 1))) ta ((plan x).from n) r.0 (ap (λ (y : TempId). y.0) ca) (sym from) (let k = below b lb in omega arith),
-        read_of x.s.values x.issues x.reads x.m.temps value total (reading_of x.s.values (Body o) (slice_index x.s.values (first + 0)) 1 (reads tb None) (var_at (first + 0 + 1 + 1))) tb ((plan x).from n) r.1.0 (ap (λ (y : TempId). y.0) cb) (sym from) (let k = below c lc in omega arith));
+        read_of x.s.values x.issues x.reads x.m.temps value total (reading_of x.s.values (Body o) (slice_index x.s.values (first + 0)) 1 (reads tb None) (var_at (first + 0 + 1 + 1))) tb ((plan x).from n) r.1.0 (ap (λ (y : TempId). y.0) cb) (sym from) (let k = below c lc in omega arith),
+      );
       defined = body_defined x fit n q first o operands (temp n) ops h;
       good = good_register x (temp n) ((plan x).reg n) away (body_domain x fit n q first o operands (temp n) ops h);
       late = let k = (h.placed.0.0 refl).0 in omega (arith, from, k);
@@ -253,7 +254,7 @@ saved_reads x total (r ∷ rs) k j a d h few (suc i) lt =
 same_test : (cycle end c : ℕ) → cycle + 1 ≡ end → nat_eq cycle c ≡ nat_eq (c + 1) end
 same_test cycle end c e =
     ⊎_elim (λ (k : cycle ≡ c). let g : c + 1 ≡ end = omega arith in eq-eqb cycle c k ∙ sym (eq-eqb (c + 1) end g))
-        (λ (k : cycle ≢ c). let g : c + 1 ≢ end = omega arith in is_false cycle c k ∙ sym (is_false (c + 1) end g)) (cases_eq cycle c)
+    (λ (k : cycle ≢ c). let g : c + 1 ≢ end = omega arith in is_false cycle c k ∙ sym (is_false (c + 1) end g)) (cases_eq cycle c)
 
 none_in : (b : Bool) → let none : List Instr = [] in (if b then none else none) ++ none ≡ none
 none_in true = refl
@@ -320,10 +321,10 @@ pub record Walked (x : Scene) (total n q first rt : ℕ) (ops : List ExtOp) (ste
 assigned_below : (a n : ℕ) (current : List ℕ) (o : SrcOp) → IsPlainOp a o → assigned_after a o.dst ≤ length current → ((i : ℕ) → i < a → slice_index current i < n) → (i : ℕ) → i < assigned_after a o.dst → slice_index (assigned current o.dst n) i < n + 1
 assigned_below a n current o (constant dst imm le fits) within below i lt =
     ⊎_elim (λ (e : i ≡ dst). let g = get_or-set_same current dst n 0 (omega arith) in rw e (omega arith))
-        (λ (e : i ≢ dst). let g = get_or-set_other current dst i n 0 e in let k = below i (omega arith) in omega arith) (cases_eq i dst)
+    (λ (e : i ≢ dst). let g = get_or-set_other current dst i n 0 e in let k = below i (omega arith) in omega arith) (cases_eq i dst)
 assigned_below a n current o (addition dst b c le lb lc) within below i lt =
     ⊎_elim (λ (e : i ≡ dst). let g = get_or-set_same current dst n 0 (omega arith) in rw e (omega arith))
-        (λ (e : i ≢ dst). let g = get_or-set_other current dst i n 0 e in let k = below i (omega arith) in omega arith) (cases_eq i dst)
+    (λ (e : i ≢ dst). let g = get_or-set_other current dst i n 0 e in let k = below i (omega arith) in omega arith) (cases_eq i dst)
 
 pub length-assigned : (current : List ℕ) (dst : Option NameId) (n : ℕ) → length (assigned current dst n) ≡ length current
 length-assigned current None n = refl
@@ -364,7 +365,7 @@ walk x fit away (o ∷ os) total n q first a m returned current h all few named 
     let it = one x fit away total n q first a current o ops h.0 (omega arith) below ahead in
     let long = length-assigned current o.dst n in
     let rest = walk x fit away os total (n + 1) (q + 1) (first + size x (body_op current n o)) (assigned_after a o.dst) m returned (assigned current o.dst n) h.1 (omega arith) (omega arith) (omega arith) lt (assigned_below a n current o h.0 (omega arith) below)
-        (next x n q first (body_op current n o).kind (body_op current n o).operands (temp n) ops ahead) in
+    (next x n q first (body_op current n o).kind (body_op current n o).operands (temp n) ops ahead) in
     record {
       placed = (it.placed, rest.placed);
       defined = λ t le l. ⊎_elim (λ (e : n ≡ t). subst (λ (k : ℕ). Defined x k) e it.defined) (λ (e : n ≢ t). rest.defined t (omega arith) l) (cases_eq n t);

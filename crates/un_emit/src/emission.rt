@@ -32,11 +32,7 @@ use un_packet::code::{Code, CodeBlock, Packet};
 fn value(s: &Solution, v: VarId) -> u32
     ensures { result ≡ value_of s.now.values v }
 {
-    s.values
-        .as_slice()
-        .get(v.0 as usize)
-        .copied()
-        .unwrap_or(0)
+    s.values.as_slice().get(v.0 as usize).copied().unwrap_or(0)
 }
 
 /// The register of a temporary.
@@ -76,12 +72,7 @@ fn operand_registers(
     let n = op.operands.len().min(vars.choices.len());
     let mut regs = Few::new(alloc);
     for j in 0..n {
-        regs.push(operand_register(
-            m,
-            s,
-            op.operands.get(j),
-            *vars.choices.get(j),
-        ))?;
+        regs.push(operand_register(m, s, op.operands.get(j), *vars.choices.get(j)))?;
     }
     Ok(regs)
 }
@@ -277,13 +268,7 @@ fn code_of(alloc: Global, m: &Model, s: &Solution) -> Result<Code, NoMemory>
 /// block there is a packet for each cycle from 1 to the one before the block's end: the operations that issue in it, in
 /// the order of the extended function, on the registers that the solution gives to what they read and define, or `nop`
 /// where there is none. The answer is `NoMemory` where there is no memory for the code.
-pub fn emit(
-    alloc: Global,
-    f: &Function,
-    e: &Ext,
-    m: &Model,
-    s: &Solution,
-) -> Result<Code, NoMemory>
+pub fn emit(alloc: Global, f: &Function, e: &Ext, m: &Model, s: &Solution) -> Result<Code, NoMemory>
     requires plain { IsPlain f.now }
     requires extended { e.now ≡ plain_ext e.now.table f.now }
     requires fit { IsFit e.now.table }

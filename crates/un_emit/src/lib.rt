@@ -2,3 +2,5 @@
 #![tactic(auto)]
 
 pub mod emission;
+#[cfg(test)]
+mod tests;
