@@ -1,0 +1,6 @@
+//! The code of solutions.
+#![tactic(auto)]
+
+pub mod emission;
+#[cfg(test)]
+mod tests;
