@@ -1,10 +1,12 @@
 //! The model of a function: its variables with their domains, its solutions and their cost.
 #![tactic(auto)]
 
+pub mod build;
 pub mod cost;
 mod instructions;
 pub mod limits;
 pub mod model;
 pub mod placement;
+mod registers;
 pub mod schedule;
 pub mod verdict;
