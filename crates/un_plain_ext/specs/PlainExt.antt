@@ -39,11 +39,15 @@ abbrev pub assigned : List ℕ → Option NameId → ℕ → List ℕ
 assigned current None n = current
 assigned current (Some name) n = slice_set current name.0 n
 
+-- an operand that reads the temporary of a name
+abbrev pub name_operand : List ℕ → NameId → Operand
+name_operand current name = reads (slice_index current name.0) None
+
 -- an operation of the source, which defines temporary n, where `current` has the temporary of each name
 abbrev pub body_op : List ℕ → ℕ → SrcOp → ExtOp
 body_op current n o = record {
   kind = Body o;
-  operands = map (λ (name : NameId). reads (slice_index current name.0) None) o.srcs;
+  operands = map (name_operand current) o.srcs;
   results = temp n ∷ [];
 }
 
@@ -78,28 +82,32 @@ abbrev pub out_op : Table → List ℕ → Term → ExtOp
 out_op t current term = record { kind = Out; operands = result_operands t current term ++ saved_operands 0 (kept_registers t); results = [] }
 
 -- no name has a temporary at the start
-abbrev pub no_temps : Function → List ℕ
-no_temps f = replicate (length f.names) 0
+abbrev pub no_temps : ℕ → List ℕ
+no_temps names = replicate names 0
 
-abbrev pub plain_ops : Table → Function → Block → List ExtOp
-plain_ops t f block =
-    in_op t ∷ (body_ops (no_temps f) (saved_count t) block.ops
-    ++ return_op t block.term ∷ out_op t (current_after (no_temps f) (saved_count t) block.ops) block.term ∷ [])
+-- the operations of the block of a function with so many names
+abbrev pub plain_ops : Table → ℕ → Block → List ExtOp
+plain_ops t names block =
+    in_op t ∷ (body_ops (no_temps names) (saved_count t) block.ops
+    ++ return_op t block.term ∷ out_op t (current_after (no_temps names) (saved_count t) block.ops) block.term ∷ [])
 
-abbrev pub plain_block : Table → Function → Block → ExtBlock
-plain_block t f block = record {
+abbrev pub plain_block : Table → ℕ → Block → ExtBlock
+plain_block t names block = record {
   freq = block.freq;
   label = block.label;
   live_in = [];
   live_out = [];
-  ops = plain_ops t f block;
+  ops = plain_ops t names block;
   horizon = 2 * (length block.ops + 3) + 2;
 }
+
+abbrev pub kind_of : List ℕ × Kind → Kind
+kind_of name = name.1
 
 -- the extended function of a plain function under a table
 abbrev pub plain_ext : Table → Function → Ext
 plain_ext t f = record {
   table = t;
-  names = map (λ (n : List ℕ × Kind). n.1) f.names;
-  blocks = map (plain_block t f) f.blocks;
+  names = map kind_of f.names;
+  blocks = map (plain_block t (length f.names)) f.blocks;
 }

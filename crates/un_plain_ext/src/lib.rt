@@ -2,3 +2,5 @@
 #![tactic(auto)]
 
 pub mod extend;
+#[cfg(test)]
+mod tests;
