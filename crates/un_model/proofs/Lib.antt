@@ -1,2 +1,4 @@
 pub mod Singles
 pub mod PairSteps
+pub mod BuildSteps
+pub mod Verdicts

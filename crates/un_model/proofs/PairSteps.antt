@@ -26,7 +26,7 @@ pairs-nil : {A B C : Type 0} (f : ℕ → A → B → C) (i : ℕ) (xs : List A)
 pairs-nil f i [] = refl
 pairs-nil f i (x ∷ xs) = refl
 
-drop_past : {A : Type 0} (n : ℕ) (xs : List A) → length xs ≤ n → drop n xs ≡ []
+pub drop_past : {A : Type 0} (n : ℕ) (xs : List A) → length xs ≤ n → drop n xs ≡ []
 drop_past zero [] h = refl
 drop_past (suc n) [] h = refl
 drop_past zero (x ∷ xs) h = absurd (omega arith)

@@ -14,9 +14,13 @@ abbrev pub is_assignable : Option ℕ → ℕ → Bool
 is_assignable None r = nat_lt r 29 || r == 31
 is_assignable (Some n) r = nat_lt r n
 
+-- the registers that a function keeps, rising
+unfoldable pub kept_registers : Table → List ℕ
+kept_registers t = filter (in_mask t.saved) (range_with_len 0 32)
+
 -- the registers whose values a function hands back: those that it keeps, then the link register
 abbrev pub saved_registers : Table → List ℕ
-saved_registers t = filter (in_mask t.saved) (range_with_len 0 32) ++ 31 ∷ []
+saved_registers t = kept_registers t ++ 31 ∷ []
 
 -- the register of a value at the entry's start: a parameter's by its number, a saved value's after those of the names
 abbrev pub entry_home_by : Table → List NameId → ℕ → Option NameId → ℕ
@@ -41,7 +45,7 @@ abbrev pub is_home : List ExtOp → TempId → ℕ → Bool
 is_home ops x r = list_any (λ (o : ExtOp). is_home_in o x r) ops
 
 -- the assignable registers and the homes of x, rising
-abbrev pub general_registers : Option ℕ → List ExtOp → TempId → List ℕ
+unfoldable pub general_registers : Option ℕ → List ExtOp → TempId → List ℕ
 general_registers regs ops x = filter (λ (r : ℕ). is_assignable regs r || is_home ops x r) (range_with_len 0 32)
 
 -- p0 to p3

@@ -1,6 +1,6 @@
 -- A solution read as a schedule.
-use Rattle.std.specs.Prelude.{ℕ, ◌-◌, nat_lt, Bool, true, false, ◌==◌, if◌then◌else◌, List, [], Option, Some, None, unwrap_or, map, fold, max, length, slice_get}
-use Rattle.std.specs.List.{flat_map, range_with_len}
+use Rattle.std.specs.Prelude.{ℕ, ◌-◌, nat_lt, Bool, true, false, ◌==◌, ◌&&◌, if◌then◌else◌, List, [], Option, Some, None, unwrap_or, map, fold, max, length, slice_get}
+use Rattle.std.specs.List.{flat_map, list_all, range_with_len}
 use Rattle.un_base.specs.declared.ids.VarId.{VarId}
 use Rattle.un_base.specs.declared.ids.TempId.{TempId}
 use Rattle.un_isa.specs.declared.table.Table.{Table}
@@ -37,12 +37,17 @@ abbrev pub is_active : List ℕ → Option VarId → Bool
 is_active values None = true
 is_active values (Some v) = nat_lt 0 (value_of values v)
 
+-- whether the cycle and the choices of an operation are 0
+abbrev pub is_zero : List ℕ → OpVars → Bool
+is_zero values vars = value_by values vars.cycle == 0 && list_all (λ (v : VarId). value_of values v == 0) vars.choices
+
 -- an operation of block b, which has this end
 abbrev pub issue_of : Table → List ℕ → ℕ → ℕ → ExtOp → OpVars → Issue
 issue_of t values b end o vars = record {
   block = record { 0 = b };
   role = role_of o.kind;
   active = is_active values vars.instr;
+  zero = is_zero values vars;
   cycle = cycle_of values end o.kind vars;
   end = end;
   latency = latency_by t (instruction_of o.kind (value_by values vars.instr));

@@ -1,6 +1,5 @@
 -- What a solution is: the ten clauses, each on the schedule that the values make.
-use Rattle.std.specs.Prelude.{ℕ, ◌≡◌, ◌≢◌, ◌+◌, ◌-◌, ◌<◌, ◌≤◌, ◌↔◌, ◌⊎◌, Bool, true, false, ◌==◌, ◌&&◌, nat_eq, IsTrue, if◌then◌else◌, List, [], ◌∷◌, ◌++◌, Option, Some, None, All, AllPairs, Contains, IfSome, length, slice_get, sum_by}
-use Rattle.std.specs.List.{AllZip, flat_map}
+use Rattle.std.specs.Prelude.{ℕ, ◌≡◌, ◌≢◌, ◌+◌, ◌-◌, ◌<◌, ◌≤◌, ◌↔◌, ◌⊎◌, Bool, true, false, ◌==◌, ◌&&◌, nat_eq, IsTrue, if◌then◌else◌, List, [], ◌∷◌, ◌++◌, Option, Some, None, All, AllPairs, Contains, IfSome, length, slice_get, slice_index, slice_index_or, sum_by}
 use Rattle.un_base.specs.declared.ids.VarId.{VarId}
 use Rattle.un_isa.specs.declared.reg.Reg.{Reg}
 use Rattle.un_isa.specs.declared.reg.Space.{Space}
@@ -14,6 +13,8 @@ use Rattle.un_model.specs.declared.model.Model.{Model}
 use Rattle.un_model.specs.declared.model.Solution.{Solution}
 use Rattle.un_model.specs.declared.schedule.Role.{Role}
 use Rattle.un_model.specs.declared.schedule.Role.TheVariants.{Border, Transfer, Call, Plain}
+use Rattle.un_model.specs.declared.schedule.Resource.{Resource}
+use Rattle.un_model.specs.declared.schedule.Resource.TheVariants.{Instructions, Accesses, Stores, Products, Transfers}
 use Rattle.un_model.specs.declared.schedule.Issue.{Issue}
 use Rattle.un_model.specs.declared.schedule.Read.{Read}
 use Rattle.un_model.specs.declared.schedule.Hold.{Hold}
@@ -31,24 +32,19 @@ InDomain v (Range lo hi) = (lo ≤ v) × (v ≤ hi)
 InDomain v (Set values) = Contains values v
 
 abbrev pub KeepsDomains : List Domain → List ℕ → Type 0
-KeepsDomains domains values = AllZip InDomain values domains
+KeepsDomains domains values =
+    (length values ≡ length domains) × ((k : ℕ) (d : Domain) → k < length values → InDomain (slice_index values k) (slice_index_or domains k d))
 
 -- 2: the variables of an inactive operation are 0
 
-abbrev pub IsZero : List ℕ → Option VarId → Type 0
-IsZero values v = IfSome v (λ (w : VarId). value_of values w ≡ 0)
-
-abbrev pub IsIdle : List ℕ → OpVars → Type 0
-IsIdle values vars = IsZero values vars.cycle × All (λ (v : VarId). value_of values v ≡ 0) vars.choices
-
-abbrev pub RestsAtZero : List ℕ → Issue → OpVars → Type 0
-RestsAtZero values i vars = (i.active ≡ true) ⊎ IsIdle values vars
+abbrev pub IsIdleAtZero : Issue → Type 0
+IsIdleAtZero i = (i.active ≡ true) ⊎ (i.zero ≡ true)
 
 abbrev pub HoldsZero : Hold → Type 0
 HoldsZero h = (h.active ≡ true) ⊎ (h.reg ≡ 0)
 
-abbrev pub KeepsZeros : Model → List ℕ → Schedule → Type 0
-KeepsZeros m values t = AllZip (RestsAtZero values) t.issues (flat_map (λ (b : BlockVars). b.ops) m.blocks) × All HoldsZero t.holds
+abbrev pub KeepsZeros : Schedule → Type 0
+KeepsZeros t = All IsIdleAtZero t.issues × All HoldsZero t.holds
 
 -- 3: every operand of an active operation chooses an active temporary
 
@@ -81,8 +77,12 @@ abbrev pub IsLast : Role → Issue → Type 0
 IsLast Transfer i = i.cycle + 1 ≡ i.end
 IsLast _ i = Unit {0}
 
-abbrev pub IsWithin : Issue → Type 0
-IsWithin i = (i.role ≡ Border) ⊎ ((0 < i.cycle) × (i.cycle < i.end))
+abbrev pub IsWithin : Role → Issue → Type 0
+IsWithin Border i = Unit {0}
+IsWithin _ i = i.active ≡ true → (0 < i.cycle) × (i.cycle < i.end)
+
+abbrev pub IsPlaced : Issue → Type 0
+IsPlaced i = IsWithin i.role i × IsLast i.role i
 
 abbrev pub LeavesGap : (Hold → Read → ℕ) → Read → Option Hold → Type 0
 LeavesGap gap r None = ⊥
@@ -93,14 +93,14 @@ abbrev pub latency_gap : Hold → Read → ℕ
 latency_gap h r = h.latency
 
 abbrev pub KeepsLatencies : (Hold → Read → ℕ) → Schedule → Type 0
-KeepsLatencies gap t = All IsWithin t.issues × All (λ (i : Issue). IsLast i.role i) t.issues × All (λ (r : Read). LeavesGap gap r (slice_get t.holds r.temp.0)) t.reads
+KeepsLatencies gap t = All IsPlaced t.issues × All (λ (r : Read). LeavesGap gap r (slice_get t.holds r.temp.0)) t.reads
 
 -- 7: two active temporaries of a block with one register do not occupy it in one cycle
 
 abbrev pub IsApart : Hold → Hold → Type 0
 IsApart a b = (a.last < b.from) ⊎ (b.last < a.from)
 
-abbrev pub ShareNoCycle : Hold → Hold → Type 0
+unfoldable pub ShareNoCycle : Hold → Hold → Type 0
 ShareNoCycle a b = a.active ≡ true → b.active ≡ true → a.block.0 ≡ b.block.0 → a.reg ≡ b.reg → IsApart a b
 
 abbrev pub KeepsRegisters : Schedule → Type 0
@@ -111,19 +111,35 @@ KeepsRegisters t = AllPairs ShareNoCycle t.holds
 abbrev pub issues_at : ℕ → ℕ → Issue → Bool
 issues_at b c i = i.active && i.block.0 == b && i.cycle == c
 
--- how much of a resource the operations of block b in cycle c take together
-abbrev pub taken : (Issue → ℕ) → List Issue → ℕ → ℕ → ℕ
-taken share issues b c = sum_by (λ (i : Issue). if issues_at b c i then share i else 0) issues
+-- how much of a resource an operation takes
+abbrev pub share_of : Resource → Issue → ℕ
+share_of Instructions i = i.width
+share_of Accesses i = i.needs.mem
+share_of Stores i = i.needs.store
+share_of Products i = i.needs.xc
+share_of Transfers i = i.needs.control
 
-pub record HasRoom (issues : List Issue) (b c : ℕ) : Type 0 where
-  pub instructions : taken (λ (i : Issue). i.width) issues b c ≤ PACKET
-  pub accesses : taken (λ (i : Issue). i.needs.mem) issues b c ≤ MEM_PLACES
-  pub stores : taken (λ (i : Issue). i.needs.store) issues b c ≤ STORE_PLACES
-  pub products : taken (λ (i : Issue). i.needs.xc) issues b c ≤ XC_PLACES
-  pub transfers : taken (λ (i : Issue). i.needs.control) issues b c ≤ CONTROL_PLACES
+-- how much of it a packet has
+abbrev pub places_of : Resource → ℕ
+places_of Instructions = PACKET
+places_of Accesses = MEM_PLACES
+places_of Stores = STORE_PLACES
+places_of Products = XC_PLACES
+places_of Transfers = CONTROL_PLACES
+
+-- how much of it the operations of block b in cycle c take together
+abbrev pub taken : Resource → List Issue → ℕ → ℕ → ℕ
+taken resource issues b c = sum_by (λ (i : Issue). if issues_at b c i then share_of resource i else 0) issues
+
+abbrev pub Fits : List Issue → ℕ → ℕ → Resource → Type 0
+Fits issues b c resource = taken resource issues b c ≤ places_of resource
+
+unfoldable pub HasRoom : List Issue → Issue → Type 0
+HasRoom issues i =
+    Fits issues i.block.0 i.cycle Instructions × Fits issues i.block.0 i.cycle Accesses × Fits issues i.block.0 i.cycle Stores × Fits issues i.block.0 i.cycle Products × Fits issues i.block.0 i.cycle Transfers
 
 abbrev pub KeepsPackets : Schedule → Type 0
-KeepsPackets t = All (λ (i : Issue). HasRoom t.issues i.block.0 i.cycle) t.issues
+KeepsPackets t = All (HasRoom t.issues) t.issues
 
 -- 9: the temporaries that preassigned operands choose have their homes. A preassigned value has its home alone as domain.
 
@@ -146,7 +162,7 @@ KeepsFrame m values = value_of values m.flag ≡ 0
 -- makes none.
 pub record IsSchedule (gap : Hold → Read → ℕ) (domains : List Domain) (m : Model) (values : List ℕ) (t : Schedule) : Type 0 where
   pub in_domains : KeepsDomains domains values
-  pub zeros : KeepsZeros m values t
+  pub zeros : KeepsZeros t
   pub choices : KeepsChoices t
   pub spaces : KeepsSpaces t
   pub latencies : KeepsLatencies gap t
@@ -161,7 +177,7 @@ IsSolution m s = IsSchedule latency_gap m.domains m s.values (schedule_of m s.va
 -- the truth values say which clauses are kept
 pub record Tells (v : Verdict) (m : Model) (values : List ℕ) (t : Schedule) : Type 0 where
   pub in_domains : IsTrue v.domains ↔ KeepsDomains m.domains values
-  pub zeros : IsTrue v.zeros ↔ KeepsZeros m values t
+  pub zeros : IsTrue v.zeros ↔ KeepsZeros t
   pub choices : IsTrue v.choices ↔ KeepsChoices t
   pub spaces : IsTrue v.spaces ↔ KeepsSpaces t
   pub latencies : IsTrue v.latencies ↔ KeepsLatencies latency_gap t

@@ -1,5 +1,5 @@
 -- Extended functions of one block without copies.
-use Rattle.std.specs.Prelude.{ℕ, ◌≡◌, ◌≢◌, ◌<◌, ◌^◌, List, [], ◌∷◌, All, length}
+use Rattle.std.specs.Prelude.{ℕ, ◌≡◌, All, length}
 use Rattle.un_isa.specs.declared.op.Op.{Op}
 use Rattle.un_isa.specs.declared.op.Op.TheVariants.{Load, Store, Call}
 use Rattle.un_ir.specs.declared.function.SrcOp.{SrcOp}
@@ -16,8 +16,11 @@ use Rattle.un_model.specs.declared.model.Model.{Model}
 use Rattle.un_model.specs.Variables.{model_of}
 
 -- an operation of the source that touches no memory and calls nothing
-abbrev pub IsQuiet : SrcOp → Type 0
-IsQuiet o = (o.op ≢ Load) × (o.op ≢ Store) × (o.op ≢ Call)
+abbrev pub IsQuiet : Op → Type 0
+IsQuiet Load = ⊥
+IsQuiet Store = ⊥
+IsQuiet Call = ⊥
+IsQuiet _ = Unit {0}
 
 abbrev pub IsReturn : Term → Type 0
 IsReturn (Ret value) = Unit {0}
@@ -26,15 +29,18 @@ IsReturn _ = ⊥
 abbrev pub IsStraightKind : ExtKind → Type 0
 IsStraightKind In = Unit {0}
 IsStraightKind Out = Unit {0}
-IsStraightKind (Body o) = IsQuiet o
+IsStraightKind (Body o) = IsQuiet o.op
 IsStraightKind (End term) = IsReturn term
 IsStraightKind _ = ⊥
 
-abbrev pub IsStraightOp : ExtOp → Type 0
-IsStraightOp op = IsStraightKind op.kind × All (λ (x : Operand). length x.alts ≡ 1) op.operands
+abbrev pub HasOneAlternative : Operand → Type 0
+HasOneAlternative x = length x.alts ≡ 1
 
-abbrev pub IsStraightBlock : ExtBlock → Type 0
-IsStraightBlock block = All IsStraightOp block.ops × (block.live_in ≡ []) × (length block.ops < 2 ^ 32)
+unfoldable pub IsStraightOp : ExtOp → Type 0
+IsStraightOp op = IsStraightKind op.kind × All HasOneAlternative op.operands
+
+unfoldable pub IsStraightBlock : ExtBlock → Type 0
+IsStraightBlock block = (length block.live_in ≡ 0) × All IsStraightOp block.ops
 
 -- one block of operations that touch no memory and a return, without copies, Enter and Leave; each operand has one
 -- alternative

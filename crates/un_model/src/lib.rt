@@ -2,6 +2,7 @@
 #![tactic(auto)]
 
 pub mod build;
+mod clauses;
 pub mod cost;
 mod instructions;
 pub mod limits;
@@ -9,4 +10,6 @@ pub mod model;
 pub mod placement;
 mod registers;
 pub mod schedule;
+pub mod straight;
 pub mod verdict;
+pub mod violations;

@@ -1,9 +1,10 @@
 //! How a solution is read as a schedule.
 
-ghost use Rattle.std.specs.Prelude.{◌≡◌, ℕ, ◌+◌, ◌-◌, ◌<◌, ◌≤◌, List, [], ◌∷◌, ◌++◌, length, IfOk, OnOk, OnErr, max, map, slice_index};
-ghost use Rattle.std.specs.List.{range_with_len, flat_map};
+ghost use Rattle.std.specs.Prelude.{◌≡◌, ◌==◌, ℕ, ◌+◌, ◌-◌, ◌<◌, ◌≤◌, List, [], ◌∷◌, ◌++◌, length, IfOk, OnOk, OnErr, max, map, slice_index};
+ghost use Rattle.std.specs.List.{list_all, range_with_len, flat_map};
+ghost use Rattle.un_model.specs.Cost.{value_of};
 ghost use Rattle.un_model.specs.Pairs.{pairs_from};
-ghost use Rattle.un_model.specs.Schedules.{value_by, cycle_of, is_active, issue_of, block_issues, chosen, read_of, op_reads, block_reads, last_read, last_reads, cycle_for, hold_by, hold_of, holds_of, schedule_of};
+ghost use Rattle.un_model.specs.Schedules.{value_by, cycle_of, is_active, is_zero, issue_of, block_issues, chosen, read_of, op_reads, block_reads, last_read, last_reads, cycle_for, hold_by, hold_of, holds_of, schedule_of};
 ghost use Rattle.un_model.specs.Straight.{IsModel, IsStraightExt};
 
 use crate::cost::value;
@@ -50,6 +51,27 @@ fn is_active(values: &[u32], instr: Option<VarId>) -> bool
     }
 }
 
+/// Whether a variable is 0.
+fn is_variable_zero(values: &[u32], v: VarId) -> bool
+    ensures { result ≡ (value_of values.now v == 0) }
+{
+    value(values, v) == 0
+}
+
+/// Whether these variables are 0.
+fn are_zero(values: &[u32], vars: &[VarId]) -> bool
+    ensures { result ≡ list_all (λ v. value_of values.now v == 0) vars.now }
+{
+    vars.iter().all(|v| is_variable_zero(values, *v))
+}
+
+/// Whether the cycle and the choices of an operation are 0.
+fn is_zero(values: &[u32], vars: &OpVars) -> bool
+    ensures { result ≡ is_zero values.now vars.now }
+{
+    optional_value(values, vars.cycle) == 0 && are_zero(values, vars.choices.as_slice())
+}
+
 /// An operation as the values issue it.
 fn issue(t: &Table, values: &[u32], b: u32, end: u32, op: &ExtOp, vars: &OpVars) -> Issue
     ensures { result ≡ issue_of t.now values.now b end op.now vars.now }
@@ -59,6 +81,7 @@ fn issue(t: &Table, values: &[u32], b: u32, end: u32, op: &ExtOp, vars: &OpVars)
         block: BlockId(b),
         role: role(&op.kind),
         active: is_active(values, vars.instr),
+        zero: is_zero(values, vars),
         cycle: cycle(values, end, &op.kind, vars),
         end,
         latency: latency(t, instruction),

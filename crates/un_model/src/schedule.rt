@@ -14,6 +14,17 @@ pub enum Role {
     Plain,
 }
 
+/// What the operations of a packet share: its instructions, its loads and stores, its stores, its multiplications, shifts,
+/// predicate moves and control transfers, and its control transfers.
+#[derive(Clone, Copy, Debug, PartialEq, Eq)]
+pub enum Resource {
+    Instructions,
+    Accesses,
+    Stores,
+    Products,
+    Transfers,
+}
+
 /// An operation as a solution issues it: its block, whether it is active, its cycle, the block's end, and the latency,
 /// the instructions and the resources of a packet that it takes.
 #[derive(Clone, Copy, Debug, PartialEq, Eq)]
@@ -21,6 +32,8 @@ pub struct Issue {
     pub block: BlockId,
     pub role: Role,
     pub active: bool,
+    /// Whether its cycle and its choices are 0.
+    pub zero: bool,
     pub cycle: u32,
     pub end: u32,
     pub latency: u32,

@@ -1,0 +1,16 @@
+use Rattle.std.proofs.Common.{refl}
+use Rattle.un_model.proofs.violations.verdict.Goals as goal
+
+pub returns : goal.returns
+returns c = record {
+  in_domains = rw (c.as_slice.ensures) at c.keeps_domains.ensures;
+  zeros = rw (c.as_slice-issues.ensures, c.as_slice-holds.ensures) at c.keeps_zeros.ensures;
+  choices = rw (c.as_slice-reads.ensures, c.as_slice-holds.ensures) at c.keeps_choices.ensures;
+  spaces = rw (c.as_slice-reads.ensures, c.as_slice-holds.ensures) at c.keeps_spaces.ensures;
+  latencies = rw (c.as_slice-issues.ensures, c.as_slice-reads.ensures, c.as_slice-holds.ensures) at c.keeps_latencies.ensures;
+  memory = refl;
+  registers = rw (c.as_slice-holds.ensures) at c.keeps_registers.ensures;
+  packets = rw (c.as_slice-issues.ensures) at c.keeps_packets.ensures;
+  homes = rw (c.as_slice-reads.ensures, c.as_slice-holds.ensures) at c.keeps_homes.ensures;
+  frame = c.keeps_frame.ensures;
+}

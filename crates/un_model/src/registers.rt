@@ -1,0 +1,137 @@
+//! The registers that a value may have.
+
+ghost use Rattle.std.specs.Prelude.{◌≡◌, ℕ, ◌+◌, ◌-◌, ◌<◌, ◌||◌, ◌∷◌, [], length, IfOk, filter, slice_index};
+ghost use Rattle.std.specs.List.{range_with_len};
+ghost use Rattle.un_isa.specs.Tables.{in_mask};
+ghost use Rattle.un_model.specs.Registers.{is_assignable, kept_registers, saved_registers, entry_home, entry_home_by, is_register, reads_value, is_home_in, is_home, general_registers, predicate_registers};
+ghost use Rattle.un_model.specs.Variables.{register_domain, source_domain};
+
+use crate::instructions::is_comparison;
+use crate::model::Options;
+use std::alloc::Global;
+use un_base::ids::{NameId, TempId};
+use un_base::memory_error::NoMemory;
+use un_domains::domain::Domain;
+use un_ir::extended::{ExtBlock, ExtKind, ExtOp, Operand};
+use un_isa::reg::Reg;
+use un_isa::table::Table;
+use un_lists::items::Items;
+
+/// Whether a register may be assigned.
+fn is_assignable(regs: Option<u32>, r: u32) -> bool
+    ensures { result ≡ is_assignable regs r }
+{
+    match regs {
+        None => r < 29 || r == 31,
+        Some(n) => r < n,
+    }
+}
+
+/// Whether a register is in a mask.
+fn is_in(mask: u64, r: u32) -> bool
+    requires { r < 64 }
+    ensures { result ≡ in_mask mask r }
+{
+    (mask >> r) & 1 == 1
+}
+
+/// The registers that a function keeps.
+#[tactic(auto, unfolding(crate::specs::Registers::kept_registers))]
+fn kept(alloc: Global, t: &Table) -> Result<Vec<u32>, NoMemory>
+    ensures { IfOk result (λ registers. registers.items ≡ kept_registers t.now) }
+{
+    let registers = (0..32u32).filter(|r| is_in(t.saved, *r)).collect(alloc)?;
+    Ok(registers)
+}
+
+/// The registers whose values a function hands back: those that it keeps, then the link register.
+pub(crate) fn saved(alloc: Global, t: &Table) -> Result<Items<u32>, NoMemory>
+    ensures { IfOk result (λ registers. registers ≡ saved_registers t.now) }
+{
+    let mut registers = Items::from_vec(kept(alloc, t)?);
+    registers.push(31)?;
+    Ok(registers)
+}
+
+/// The home of the value at place `j` of those at the entry's start.
+fn home(t: &Table, saved: &Items<u32>, live_in: &Items<NameId>, j: usize) -> u32
+    requires { saved.now ≡ saved_registers t.now }
+    ensures { result ≡ entry_home t.now live_in.now j }
+{
+    let names = live_in.as_slice();
+    match names.get(j) {
+        None => saved.as_slice().get(j - names.len()).copied().unwrap_or(0),
+        Some(name) => t.args.get(name.0 as usize).copied().map_or(0, u32::from),
+    }
+}
+
+/// Whether an operand is preassigned to a register.
+fn is_register(home: Option<Reg>, r: u32) -> bool
+    ensures { result ≡ is_register home r }
+{
+    match home {
+        None => false,
+        Some(reg) => reg.0 == r,
+    }
+}
+
+/// Whether an operand may read a temporary.
+fn reads_value(operand: &Operand, x: TempId) -> bool
+    ensures { result ≡ reads_value operand.now x }
+{
+    operand.alts.as_slice().iter().any(|t| t.0 == x.0)
+}
+
+/// Whether an operand of an operation reads a temporary and is preassigned to a register.
+fn is_home_in(op: &ExtOp, x: TempId, r: u32) -> bool
+    ensures { result ≡ is_home_in op.now x r }
+{
+    op.operands.as_slice().iter().any(|operand| reads_value(operand, x)
+        && is_register(operand.home, r))
+}
+
+/// Whether a register is a home of a temporary.
+fn is_home(ops: &[ExtOp], x: TempId, r: u32) -> bool
+    ensures { result ≡ is_home ops.now x r }
+{
+    ops.iter().any(|op| is_home_in(op, x, r))
+}
+
+/// The assignable registers and the homes of a temporary.
+#[tactic(auto, unfolding(crate::specs::Registers::general_registers))]
+fn general(alloc: Global, regs: Option<u32>, ops: &[ExtOp], x: TempId) -> Result<Vec<u32>, NoMemory>
+    ensures { IfOk result (λ registers. registers.items ≡ general_registers regs ops.now x) }
+{
+    let registers = (0..32u32)
+        .filter(|r| is_assignable(regs, *r) || is_home(ops, x, *r))
+        .collect(alloc)?;
+    Ok(registers)
+}
+
+/// The registers of the result `x` at place `j` of an operation.
+pub(crate) fn domain(
+    alloc: Global,
+    t: &Table,
+    saved: &Items<u32>,
+    o: &Options,
+    block: &ExtBlock,
+    kind: &ExtKind,
+    j: usize,
+    x: TempId,
+) -> Result<Domain, NoMemory>
+    requires { saved.now ≡ saved_registers t.now }
+    ensures { IfOk result (λ d. d ≡ register_domain t.now o.now block.now kind.now j x) }
+{
+    let registers = match kind {
+        ExtKind::In => [home(t, saved, &block.live_in, j)].to_vec(alloc)?,
+        ExtKind::Body(source) => {
+            if is_comparison(source.op) {
+                [32, 33, 34, 35].to_vec(alloc)?
+            } else {
+                general(alloc, o.regs, block.ops.as_slice(), x)?
+            }
+        }
+        _ => Vec::new(alloc),
+    };
+    Ok(Domain::Set(Items::from_vec(registers)))
+}
