@@ -1,0 +1,10 @@
+pub mod Apart
+pub mod Readings
+pub mod Domains
+pub mod Placing
+pub mod Reading
+pub mod Holding
+pub mod Values
+pub mod Clauses
+pub mod Solved
+pub mod Straightness
