@@ -1,6 +1,0 @@
-pub mod BodyLemmas
-pub mod Building
-pub mod Exclusive
-pub mod Going
-pub mod TextLemmas
-pub mod Whole

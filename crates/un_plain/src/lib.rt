@@ -1,14 +1,4 @@
-//! Plain functions, one block of constants and additions: what they are, and reading them.
+//! Plain functions, one block of constants and additions, which are what is built today.
 #![tactic(auto)]
 
-mod body;
-mod body_line;
-pub mod error;
-mod head;
 pub mod limits;
-mod names;
-mod numbers;
-mod parts;
-pub mod reader;
-#[cfg(test)]
-mod tests;

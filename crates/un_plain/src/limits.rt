@@ -1,7 +1,4 @@
-//! Limits of the texts.
-
-/// How many bytes a function's text may have.
-pub const TEXT: usize = 65536;
+//! Limits of plain functions.
 
 /// How many names a plain function may have.
 pub const PLAIN_NAMES: usize = 12;

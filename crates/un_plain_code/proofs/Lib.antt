@@ -1,3 +1,0 @@
-pub mod Cost
-pub mod Live
-pub mod Runs
