@@ -1,14 +1,11 @@
 -- The schedule of an operation a cycle keeps the clauses.
-use Rattle.std.proofs.Common.{◌≡◌, ◌≢◌, ℕ, zero, suc, ◌+◌, ◌-◌, ◌<◌, ◌≤◌, max, ◌⊎◌, inl, inr, ⊎_elim, true, false, Bool, List, [], ◌∷◌, ◌++◌, length, get_or, Option, Some, None, refl, sym, ap, ◌∙◌, subst, arith}
-use Rattle.std.specs.Prelude.{All, slice_get, ◌==◌, ◌&&◌, if◌then◌else◌, IfSome}
-use Rattle.std.specs.List.{AllByRecursion, sum_by}
-use Rattle.std.proofs.lemmas.Bool.{cases_eq, cases_lt}
+use Rattle.std.proofs.Common.{◌≡◌, ℕ, zero, suc, ◌+◌, ◌<◌, ◌≤◌, inl, inr, ⊎_elim, true, false, Bool, List, [], ◌∷◌, ◌++◌, length, get_or, Some, None, refl, ap, ◌∙◌, arith}
+use Rattle.std.specs.Prelude.{All, slice_get, ◌==◌, ◌&&◌, if◌then◌else◌}
+use Rattle.std.specs.List.{AllByRecursion}
+use Rattle.std.proofs.lemmas.Bool.{cases_lt}
 use Rattle.std.proofs.lemmas.Bool.Decides.{nat_tests}
 use Rattle.std.proofs.lemmas.List.Elements.{All-nil}
 use Rattle.std.proofs.lemmas.List.Sums.{sum_by-cons}
-use Rattle.un_isa.specs.declared.op.Op.{Op}
-use Rattle.un_isa.specs.declared.reg.Reg.{Reg}
-use Rattle.un_isa.specs.declared.reg.Space.{Space}
 use Rattle.un_isa.specs.declared.reg.Space.TheVariants.{R}
 use Rattle.un_base.specs.declared.ids.NameId.{NameId}
 use Rattle.un_ir.specs.declared.function.SrcOp.{SrcOp}
@@ -17,14 +14,13 @@ use Rattle.un_model.specs.declared.schedule.Read.{Read}
 use Rattle.un_model.specs.declared.schedule.Hold.{Hold}
 use Rattle.un_model.specs.declared.schedule.Resource.{Resource}
 use Rattle.un_model.specs.declared.schedule.Resource.TheVariants.{Instructions, Accesses, Stores, Products, Transfers}
-use Rattle.un_model.specs.Solutions.{InSpace, IsHome, IsPlaced, IsIdleAtZero, HoldsZero, HasRoom, share_of, places_of, taken, issues_at}
+use Rattle.un_model.specs.Solutions.{InSpace, IsHome, IsPlaced, HasRoom, share_of, taken, issues_at}
 use Rattle.un_plain.specs.Plain.{IsPlainOp, constant, addition, ArePlainOps, assigned_after}
 use Rattle.un_plain_ext.specs.PlainExt.{assigned}
-use Rattle.un_plain_solution.specs.PlainSolution.{register_of}
 use Rattle.un_plain_solution.proofs.Apart.{saved_hold, saved_holds, body_hold, body_holds, Rising, AllBelow, register_returned, register_below}
-use Rattle.un_plain_solution.proofs.Readings.{IsGood, IsTimely, IsCurrent, AreCurrent, name_read, name_reads, body_reads, dsts_of}
+use Rattle.un_plain_solution.proofs.Readings.{IsGood, IsCurrent, name_reads, body_reads}
 use Rattle.un_plain_solution.proofs.Placing.{body_issue, body_issues, return_issue, border_issue}
-use Rattle.un_plain_solution.proofs.Reading.{home_read, home_reads, link_read, last_reads_of}
+use Rattle.un_plain_solution.proofs.Reading.{home_read, link_read, last_reads_of}
 
 -- the registers that are handed back
 abbrev pub handed_back : List ℕ

@@ -1,6 +1,6 @@
 -- Each value is in its domain.
-use Rattle.std.proofs.Common.{◌≡◌, ◌≢◌, ℕ, zero, suc, ◌+◌, ◌-◌, ◌*◌, ◌<◌, ◌≤◌, max, ◌⊎◌, inl, inr, ⊎_elim, true, false, Bool, List, [], ◌∷◌, ◌++◌, length, get_or, replicate, map, Option, Some, None, refl, sym, ap, ◌∙◌, subst, arith, cond}
-use Rattle.std.specs.Prelude.{Contains, ◌||◌, nat_lt, filter, slice_index_or, ◌==◌}
+use Rattle.std.proofs.Common.{◌≡◌, ℕ, zero, suc, ◌+◌, ◌-◌, ◌<◌, ◌≤◌, max, ◌⊎◌, inl, inr, ⊎_elim, true, false, Bool, List, [], ◌∷◌, ◌++◌, length, get_or, replicate, Some, None, refl, sym, ap, ◌∙◌, arith, cond}
+use Rattle.std.specs.Prelude.{Contains, ◌||◌, nat_lt, filter, slice_index_or}
 use Rattle.std.specs.List.{AllZip, range_with_len}
 use Rattle.std.proofs.lemmas.Bool.{cases_eq}
 use Rattle.std.proofs.lemmas.Bool.Decides.{nat_tests}
@@ -12,15 +12,13 @@ use Rattle.un_ir.specs.declared.extended.ExtBlock.{ExtBlock}
 use Rattle.un_base.specs.declared.ids.NameId.{NameId}
 use Rattle.un_base.specs.declared.ids.TempId.{TempId}
 use Rattle.un_domains.specs.declared.domain.Domain.{Domain}
-use Rattle.un_domains.specs.declared.domain.Domain.TheVariants.{Range, Set}
-use Rattle.un_model.specs.declared.model.Options.{Options}
 use Rattle.un_model.specs.Registers.{is_assignable, is_home, general_registers}
-use Rattle.un_model.specs.Variables.{op_domains, ops_domains}
+use Rattle.un_model.specs.Variables.{ops_domains}
 use Rattle.un_model.specs.Solutions.{InDomain, KeepsDomains}
 use Rattle.std.proofs.lemmas.Slice.Zip.{AllZip-long}
-use Rattle.un_plain.specs.Plain.{IsPlainOp, constant, addition, ArePlainOps, assigned_after}
-use Rattle.un_plain_ext.specs.PlainExt.{temp, assigned, body_op, body_ops, return_op, out_op, current_after}
-use Rattle.un_plain_solution.specs.PlainSolution.{register_of, op_values, ops_values}
+use Rattle.un_plain.specs.Plain.{constant, addition, ArePlainOps}
+use Rattle.un_plain_ext.specs.PlainExt.{temp, assigned, body_ops, return_op, out_op}
+use Rattle.un_plain_solution.specs.PlainSolution.{register_of, ops_values}
 use Rattle.un_plain_solution.proofs.Apart.{register_below}
 use Rattle.un_plain_solution.proofs.Readings.{adds}
 

@@ -1,10 +1,9 @@
 -- Which temporaries hold registers, as the values say.
-use Rattle.std.proofs.Common.{◌≡◌, ℕ, zero, suc, ◌+◌, ◌-◌, ◌<◌, ◌≤◌, max, true, false, Bool, List, [], ◌∷◌, ◌++◌, length, get_or, replicate, map, Option, Some, None, refl, sym, ap, ◌∙◌, subst, arith}
+use Rattle.std.proofs.Common.{◌≡◌, ℕ, zero, suc, ◌+◌, max, List, [], ◌∷◌, ◌++◌, length, get_or, map, Some, None, refl, sym, ap, ◌∙◌, arith}
 use Rattle.std.specs.Prelude.{slice_get}
 use Rattle.std.specs.List.{range_with_len}
 use Rattle.std.proofs.lemmas.List.{append_assoc, length-append}
 use Rattle.un_isa.specs.Hexagon.{HEXAGON}
-use Rattle.un_isa.specs.declared.reg.Space.TheVariants.{R}
 use Rattle.un_base.specs.declared.ids.NameId.{NameId}
 use Rattle.un_ir.specs.declared.function.SrcOp.{SrcOp}
 use Rattle.un_ir.specs.declared.extended.ExtOp.{ExtOp}
@@ -14,11 +13,11 @@ use Rattle.un_model.specs.declared.schedule.Issue.{Issue}
 use Rattle.un_model.specs.declared.schedule.Read.{Read}
 use Rattle.un_model.specs.declared.schedule.Hold.{Hold}
 use Rattle.un_model.specs.Pairs.{pairs_from}
-use Rattle.un_model.specs.Schedules.{hold_of, hold_by, last_read}
+use Rattle.un_model.specs.Schedules.{hold_of, last_read}
 use Rattle.un_model.specs.Variables.{ops_temps}
-use Rattle.un_plain.specs.Plain.{IsPlainOp, constant, addition, ArePlainOps, assigned_after}
+use Rattle.un_plain.specs.Plain.{constant, addition, ArePlainOps}
 use Rattle.un_plain_ext.specs.PlainExt.{assigned, body_ops}
-use Rattle.un_plain_solution.specs.PlainSolution.{register_of, op_values, ops_values}
+use Rattle.un_plain_solution.specs.PlainSolution.{register_of, ops_values}
 use Rattle.un_plain_solution.proofs.Apart.{body_holds, body_hold}
 use Rattle.un_plain_solution.proofs.Readings.{dsts_of}
 use Rattle.un_plain_solution.proofs.Placing.{Values, look, values_after, last_ops, last_values, body_issue, body_issues}

@@ -1,33 +1,24 @@
 -- The schedule that the values make: an operation a cycle.
-use Rattle.std.proofs.Common.{◌≡◌, ℕ, zero, suc, ◌+◌, ◌-◌, ◌<◌, ◌≤◌, max, true, false, Bool, List, [], ◌∷◌, ◌++◌, length, get_or, replicate, map, Option, Some, None, refl, sym, ap, ◌∙◌, subst, arith}
-use Rattle.std.specs.Prelude.{slice_get, ◌==◌}
+use Rattle.std.proofs.Common.{◌≡◌, ℕ, ◌+◌, ◌≤◌, max, true, false, Bool, List, [], ◌∷◌, ◌++◌, length, get_or, replicate, Some, None, refl, sym, ap, ◌∙◌, arith}
+use Rattle.std.specs.Prelude.{◌==◌}
 use Rattle.std.proofs.lemmas.Bool.Decides.{nat_tests}
-use Rattle.std.specs.List.{flat_map, range_with_len}
 use Rattle.std.proofs.lemmas.List.{append_assoc, get_or-append-add, length-append}
 use Rattle.un_isa.specs.Hexagon.{HEXAGON}
-use Rattle.un_isa.specs.declared.reg.Space.TheVariants.{R}
 use Rattle.un_base.specs.declared.ids.NameId.{NameId}
 use Rattle.un_ir.specs.declared.function.SrcOp.{SrcOp}
 use Rattle.un_ir.specs.declared.function.Term.TheVariants.{Ret}
-use Rattle.un_ir.specs.declared.extended.ExtKind.TheVariants.{In, Out, Body, End}
+use Rattle.un_ir.specs.declared.extended.ExtKind.TheVariants.{Body}
 use Rattle.un_ir.specs.declared.extended.ExtOp.{ExtOp}
 use Rattle.un_ir.specs.declared.extended.ExtBlock.{ExtBlock}
-use Rattle.un_model.specs.declared.model.Options.{Options}
-use Rattle.un_model.specs.declared.model.OpVars.{OpVars}
-use Rattle.un_model.specs.declared.model.TempVars.{TempVars}
 use Rattle.un_model.specs.declared.schedule.Issue.{Issue}
-use Rattle.un_model.specs.declared.schedule.Read.{Read}
-use Rattle.un_model.specs.declared.schedule.Hold.{Hold}
-use Rattle.un_model.specs.declared.schedule.Role.TheVariants.{Border, Transfer, Plain}
+use Rattle.un_model.specs.declared.schedule.Role.TheVariants.{Border, Transfer}
 use Rattle.un_model.specs.Instructions.{latency_by, needs_by, role_of, result_space, no_needs}
 use Rattle.un_model.specs.Pairs.{pairs_from}
-use Rattle.un_model.specs.Schedules.{issue_of, op_reads, read_of, hold_of, hold_by, last_read}
-use Rattle.un_model.specs.Variables.{op_domains, ops_domains, ops_vars, ops_temps, op_vars}
-use Rattle.un_plain.specs.Plain.{IsPlainOp, constant, addition, ArePlainOps, assigned_after}
-use Rattle.un_plain_ext.specs.PlainExt.{temp, reads, assigned, body_op, body_ops, return_op, out_op}
-use Rattle.un_plain_solution.specs.PlainSolution.{register_of, op_values, ops_values}
-use Rattle.un_plain_solution.proofs.Apart.{body_holds, body_hold}
-use Rattle.un_plain_solution.proofs.Readings.{body_reads, name_reads, name_read, dsts_of}
+use Rattle.un_model.specs.Schedules.{issue_of}
+use Rattle.un_model.specs.Variables.{ops_vars, op_vars}
+use Rattle.un_plain.specs.Plain.{constant, addition, ArePlainOps}
+use Rattle.un_plain_ext.specs.PlainExt.{assigned, body_op, body_ops, return_op, out_op}
+use Rattle.un_plain_solution.specs.PlainSolution.{op_values, ops_values}
 
 -- the value at a place of the second part of a list
 pub look : (vs pre ys : List ℕ) (k n : ℕ) → vs ≡ pre ++ ys → k ≡ length pre + n → get_or vs k 0 ≡ get_or ys n 0

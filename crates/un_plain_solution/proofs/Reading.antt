@@ -1,8 +1,7 @@
 -- What the operations read, and which temporaries hold registers, as the values say.
-use Rattle.std.proofs.Common.{◌≡◌, ℕ, zero, suc, ◌+◌, ◌-◌, ◌<◌, ◌≤◌, max, true, false, Bool, List, [], ◌∷◌, ◌++◌, length, get_or, replicate, map, Option, Some, None, refl, sym, ap, ◌∙◌, subst, arith}
-use Rattle.std.specs.Prelude.{slice_get}
+use Rattle.std.proofs.Common.{◌≡◌, ℕ, suc, ◌+◌, ◌<◌, max, List, [], ◌∷◌, ◌++◌, length, get_or, replicate, map, Option, Some, None, refl, sym, ap, ◌∙◌, arith}
 use Rattle.std.specs.List.{flat_map, range_with_len}
-use Rattle.std.proofs.lemmas.List.{append_assoc, get_or-append-add, get_or_append_left, get_or-replicate, length-append}
+use Rattle.std.proofs.lemmas.List.{get_or_append_left, get_or-replicate}
 use Rattle.un_isa.specs.Hexagon.{HEXAGON}
 use Rattle.un_isa.specs.declared.reg.Reg.{Reg}
 use Rattle.un_isa.specs.declared.reg.Space.TheVariants.{R}
@@ -11,18 +10,17 @@ use Rattle.un_base.specs.declared.ids.VarId.{VarId}
 use Rattle.un_ir.specs.declared.function.SrcOp.{SrcOp}
 use Rattle.un_ir.specs.declared.function.Term.TheVariants.{Ret}
 use Rattle.un_ir.specs.declared.extended.ExtKind.{ExtKind}
-use Rattle.un_ir.specs.declared.extended.ExtKind.TheVariants.{In, Out, Body, End}
+use Rattle.un_ir.specs.declared.extended.ExtKind.TheVariants.{Out}
 use Rattle.un_ir.specs.declared.extended.Operand.{Operand}
-use Rattle.un_ir.specs.declared.extended.ExtOp.{ExtOp}
 use Rattle.un_ir.specs.declared.extended.ExtBlock.{ExtBlock}
 use Rattle.un_model.specs.declared.schedule.Read.{Read}
 use Rattle.un_model.specs.Pairs.{pairs_from}
 use Rattle.un_model.specs.Schedules.{op_reads, read_of}
 use Rattle.un_model.specs.Variables.{ops_vars}
-use Rattle.un_plain.specs.Plain.{IsPlainOp, constant, addition, ArePlainOps, assigned_after}
-use Rattle.un_plain_ext.specs.PlainExt.{temp, reads, assigned, body_op, body_ops, return_op, out_op}
-use Rattle.un_plain_solution.specs.PlainSolution.{register_of, op_values, ops_values}
-use Rattle.un_plain_solution.proofs.Readings.{body_reads, name_reads, name_read}
+use Rattle.un_plain.specs.Plain.{constant, addition, ArePlainOps}
+use Rattle.un_plain_ext.specs.PlainExt.{temp, reads, assigned, body_ops, out_op}
+use Rattle.un_plain_solution.specs.PlainSolution.{ops_values}
+use Rattle.un_plain_solution.proofs.Readings.{body_reads, name_read}
 use Rattle.un_plain_solution.proofs.Placing.{Values, look, values_after, last_ops, last_values}
 
 -- a read of a value that is handed back

@@ -1,8 +1,8 @@
 -- The values are a solution.
-use Rattle.std.proofs.Common.{◌≡◌, ℕ, zero, suc, ◌+◌, ◌-◌, ◌*◌, ◌<◌, ◌≤◌, max, true, false, Bool, List, [], ◌∷◌, ◌++◌, length, get_or, replicate, map, Option, Some, None, refl, sym, ap, ◌∙◌, subst, inl, inr, arith}
-use Rattle.std.specs.Prelude.{All, AllPairs, slice_get, IfSome}
-use Rattle.std.specs.List.{sum_by, AllByRecursion, AllZip, flat_map, range_with_len}
-use Rattle.std.proofs.lemmas.List.{append_assoc, append-nil, length-append, length-replicate, get_or-replicate, get_or_append_left}
+use Rattle.std.proofs.Common.{◌≡◌, ℕ, zero, suc, ◌+◌, ◌-◌, ◌*◌, ◌<◌, ◌≤◌, max, true, Bool, List, [], ◌∷◌, ◌++◌, length, get_or, replicate, Option, Some, None, refl, sym, ap, ◌∙◌, subst, inl, arith}
+use Rattle.std.specs.Prelude.{All, slice_get}
+use Rattle.std.specs.List.{sum_by, AllZip, flat_map}
+use Rattle.std.proofs.lemmas.List.{append_assoc, append-nil, length-append, length-replicate}
 use Rattle.std.proofs.lemmas.Slice.Zip.{AllZip-long}
 use Rattle.un_base.specs.declared.ids.NameId.{NameId}
 use Rattle.un_isa.specs.Hexagon.{HEXAGON}
@@ -13,8 +13,7 @@ use Rattle.un_ir.specs.declared.function.Term.TheVariants.{Ret}
 use Rattle.un_ir.specs.declared.function.Block.{Block}
 use Rattle.un_ir.specs.declared.function.Function.{Function}
 use Rattle.un_ir.specs.declared.extended.ExtBlock.{ExtBlock}
-use Rattle.un_domains.specs.declared.domain.Domain.{Domain}
-use Rattle.un_domains.specs.declared.domain.Domain.TheVariants.{Range, Set}
+use Rattle.un_domains.specs.declared.domain.Domain.TheVariants.{Range}
 use Rattle.un_model.specs.declared.model.Model.{Model}
 use Rattle.un_model.specs.declared.model.Options.{Options}
 use Rattle.un_model.specs.declared.model.Solution.{Solution}
@@ -29,19 +28,19 @@ use Rattle.un_model.specs.Pairs.{pairs_from}
 use Rattle.un_model.specs.declared.model.OpVars.{OpVars}
 use Rattle.un_ir.specs.declared.extended.ExtOp.{ExtOp}
 use Rattle.un_model.specs.declared.model.TempVars.{TempVars}
-use Rattle.un_model.specs.Solutions.{IsSchedule, IsSolution, InDomain, share_of, IsHeld, ReadsInSpace, LeavesGap, ReadsHome, latency_gap, InSpace, ShareNoCycle, IsPlaced, IsIdleAtZero, HoldsZero, HasRoom, KeepsChoices, KeepsSpaces, KeepsLatencies, KeepsRegisters, KeepsPackets, KeepsHomes}
+use Rattle.un_model.specs.Solutions.{IsSchedule, IsSolution, InDomain, share_of, IsHeld, ReadsInSpace, LeavesGap, ReadsHome, latency_gap, InSpace, IsPlaced, IsIdleAtZero, HoldsZero, HasRoom, KeepsChoices, KeepsSpaces, KeepsLatencies, KeepsRegisters, KeepsPackets, KeepsHomes}
 use Rattle.un_model.specs.Variables.{model_of, op_domains, op_vars, ops_vars, ops_domains, ops_temps}
 use Rattle.un_model.specs.Registers.{kept_registers}
-use Rattle.un_plain.specs.Plain.{IsPlain, ArePlainOps, IsPlainOp, constant, addition, assigned_after}
+use Rattle.un_plain.specs.Plain.{IsPlain, ArePlainOps, constant, addition, assigned_after}
 use Rattle.un_plain_ext.specs.PlainExt.{plain_ext, plain_block, in_op, body_ops, current_after}
 use Rattle.un_plain_solution.specs.PlainSolution.{plain_cost, ops_values, return_values, block_values, plain_values}
 use Rattle.un_plain_solution.proofs.Apart.{AllBelow, all_apart, saved_holds}
-use Rattle.un_plain_solution.proofs.Readings.{IsGood, AreCurrent, IsCurrent, Reading, Suffix, readings, body_reads, dsts_of, all_timely, adds}
+use Rattle.un_plain_solution.proofs.Readings.{IsGood, AreCurrent, Suffix, readings, body_reads, dsts_of, all_timely, adds}
 use Rattle.un_plain_solution.proofs.Domains.{operations_fit, zip_append, keeps_domains}
 use Rattle.un_plain_solution.proofs.Placing.{Values, look, last_values, last_ops, issues_are, body_issues, return_issue, border_issue}
 use Rattle.un_plain_solution.proofs.Reading.{reads_are, last_reads_of}
 use Rattle.un_plain_solution.proofs.Holding.{Issues, holds_are}
-use Rattle.un_plain_solution.proofs.Clauses.{handed_back, all_from, both_parts, weaken, has_room, IsFine, AreFine, fine_all, IsServed, holds_by, served_body, served_last, good_last, all_holds, rises}
+use Rattle.un_plain_solution.proofs.Clauses.{handed_back, all_from, both_parts, weaken, has_room, IsFine, fine_all, IsServed, holds_by, served_body, served_last, good_last, all_holds, rises}
 
 -- the schedule, as lists
 abbrev issues_by : Bool → List SrcOp → ℕ → List Issue
@@ -197,12 +196,11 @@ issues_made : (slots : ℕ) (name : List ℕ) (params : List NameId) (names : Li
     → (z : Bool) × (issues_of (model_by (function_by name params names (block_by label freq os q)) slots) V ≡ issues_by z os q)
 issues_made slots name params names label freq os q V h values end =
     let m = length names in
-    let on = issues_are slots (ext_block_by m label freq os q) (2 * (length os + 3) + 2) q m (length os + 1) (length os + 1 + 1) (record { 0 = q }) (current_after (replicate m 0) 13 os) V os 0 1 13 1 13 (replicate m 0) h (omega arith) (omega arith) values in
-    (
+    let on = issues_are slots (ext_block_by m label freq os q) (2 * (length os + 3) + 2) q m (length os + 1) (length os + 1 + 1) (record { 0 = q }) (current_after (replicate m 0) 13 os) V os 0 1 13 1 13 (replicate m 0) h (omega arith) (omega arith) values in (
       on.0,
       ap (λ (v : ℕ). (issue_of HEXAGON V 0 v (in_op HEXAGON) (op_vars (2 * (length os + 3) + 2) 0 (in_op HEXAGON)) ∷ pairs_from (λ (k : ℕ). issue_of HEXAGON V 0 v) 1 (rest_ops m os q) (rest_vars slots m label freq os q)) ++ []) end
-      ∙ ap (λ (xs : List Issue). border_issue true (length os + 1 + 1) 0 ∷ (xs ++ [])) on.1
-      ∙ append-nil (issues_by on.0 os q),
+          ∙ ap (λ (xs : List Issue). border_issue true (length os + 1 + 1) 0 ∷ (xs ++ [])) on.1
+          ∙ append-nil (issues_by on.0 os q),
     )
 
 reads_made : (slots : ℕ) (name : List ℕ) (params : List NameId) (names : List (List ℕ × Kind)) (label : List ℕ) (freq : ℕ) (os : List SrcOp) (q : ℕ) (V : List ℕ) → ArePlainOps 0 os (length names) → Values V q (length os + 1) (length os + 1 + 1) 13 1 os

@@ -1,5 +1,5 @@
 -- The extended function of a plain function is straight.
-use Rattle.std.proofs.Common.{◌≡◌, ℕ, ◌+◌, List, [], ◌∷◌, ◌++◌, length, map, Some, refl, sym, ap, subst}
+use Rattle.std.proofs.Common.{ℕ, ◌+◌, List, [], ◌∷◌, ◌++◌, length, map, Some, refl, sym, ap, subst}
 use Rattle.std.specs.Prelude.{All}
 use Rattle.std.specs.List.{AllByRecursion}
 use Rattle.std.proofs.lemmas.List.Elements.{All-nil}
@@ -10,11 +10,9 @@ use Rattle.un_ir.specs.declared.function.Term.{Term}
 use Rattle.un_ir.specs.declared.function.Term.TheVariants.{Ret}
 use Rattle.un_ir.specs.declared.function.Block.{Block}
 use Rattle.un_ir.specs.declared.function.Function.{Function}
-use Rattle.un_ir.specs.declared.extended.Operand.{Operand}
-use Rattle.un_ir.specs.declared.extended.ExtBlock.{ExtBlock}
 use Rattle.un_model.specs.Straight.{HasOneAlternative, IsQuiet, IsStraightOp, IsStraightBlock, IsStraightExt}
 use Rattle.un_plain.specs.Plain.{IsPlain, IsPlainOp, constant, addition, ArePlainOps, assigned_after}
-use Rattle.un_plain_ext.specs.PlainExt.{kept_registers, saved_count, name_operand, saved_operands, assigned, body_op, body_ops, current_after, no_temps, in_op, return_op, out_op, result_operands, plain_ops, plain_block, plain_ext}
+use Rattle.un_plain_ext.specs.PlainExt.{kept_registers, saved_count, name_operand, saved_operands, assigned, body_ops, current_after, no_temps, in_op, return_op, out_op, plain_block, plain_ext}
 use Rattle.un_plain_solution.proofs.Clauses.{all_from, both_parts}
 
 name_operands : (current : List ℕ) (names : List NameId) → AllByRecursion HasOneAlternative (map (name_operand current) names)
