@@ -8,19 +8,20 @@ use Rattle.std.specs.Option.{IfSome}
 use Rattle.std.specs.Result.{IfErr, IfOk, OnOk}
 use Rattle.un_base.specs.declared.status.Status.{Status}
 use Rattle.un_base.specs.declared.status.Status.TheVariants.{Done, Infeasible, Spent, TextFault, Usage, ReadFault, WriteFault, NoMemory, No, BadReport}
-use Rattle.un_plain.specs.Faults.{IsFault, IsTextOf, too_long}
+use Rattle.un_reader.specs.Read.{too_long}
+use Rattle.un_reader.specs.declared.fault.Fault.TheVariants.{TooMany}
+use Rattle.un_top.specs.Faults.{IsFault, in_language}
 use Rattle.un_top.specs.Reports.{IsReportOf}
-use Rattle.un_plain.proofs.Exclusive.{text_has_no_fault}
 use Rattle.un_top.specs.Words.{IsBadWord}
 use Rattle.un_top.specs.Runs.{AnswersFault, IsRefusal}
-use Rattle.un_top.proofs.FaultLaws.{fault_unique}
+use Rattle.un_top.proofs.FaultLaws.{fault_unique, read_has_no_fault}
 
 -- a text that is too long has its fault
 pub too_long_fault : (told : Option (List ℕ)) (line code : ℕ) → 0 ≡ line → 13 ≡ code
     → IfSome told (λ (bs : List ℕ). 65536 < length bs) → IfSome told (λ (text : List ℕ). IsFault text line code)
 too_long_fault None line code p q h = tt
 too_long_fault (Some text) line code p q h =
-    subst (λ (l : ℕ). IsFault text l code) p (subst (λ (k : ℕ). IsFault text 0 k) q (too_long h))
+    subst (λ (l : ℕ). IsFault text l code) p (subst (λ (k : ℕ). IsFault text 0 k) q (in_language 0 TooMany (too_long h)))
 
 -- a status that is neither of those of writing comes from before it
 pub from_before : {T : Type 0} (outcome : Result T Status) (status s : Status) → IfErr outcome (λ e. status ≡ e)
@@ -50,6 +51,6 @@ pub answers_fault : (told : Option (List ℕ)) (outcome : Result (Vec ℕ Global
     → IfOk outcome (λ out. IfSome told (λ (text : List ℕ). IsReportOf text out.items))
     → IfSome told (λ (text : List ℕ). (line code : ℕ) → IsFault text line code → AnswersFault status line code)
 answers_fault None outcome status r e f o = tt
-answers_fault (Some text) (Ok out) status r e f o = λ line code h. absurd (text_has_no_fault text o.function line code o.spelled h)
+answers_fault (Some text) (Ok out) status r e f o = λ line code h. absurd (read_has_no_fault text o.function line code o.read o.plain h)
 answers_fault (Some text) (Err s) status r e f o = λ line code h.
     subst (λ (t : Status). AnswersFault t line code) (sym e) (refused_fault text line code s r (λ l c k. f l c (ap Err k)) h)

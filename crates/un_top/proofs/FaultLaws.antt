@@ -1,24 +1,98 @@
--- The fault of a text is one.
-use Rattle.std.proofs.Common.{ℕ, ◌≡◌, ◌+◌, ◌≤◌, ◌<◌, List, take, map, length, refl, sym, ap, ◌∙◌, subst, arith}
-use Rattle.un_base.specs.Lines.{pieces_of}
+-- A text is a function or has one fault.
+use Rattle.std.proofs.Common.{ℕ, zero, suc, ◌≡◌, ◌+◌, ◌<◌, ◌≤◌, ◌⊎◌, inl, inr, List, [], ◌∷◌, Some, None, Option, unwrap_or, length, slice_get, refl, sym, ap, ◌∙◌, subst, arith}
+use Rattle.std.proofs.lemmas.Bool.{cases_lt}
+use Rattle.std.specs.Option.{option_and_then}
 use Rattle.un_ir.specs.declared.function.Function.{Function}
-use Rattle.un_ir.specs.Text.{function_lines, ended}
-use Rattle.un_plain.specs.Faults.{BeginsWell, IsFirstBadLine, IsFault, too_long, not_built, TOO_MANY, NOT_BUILT}
-use Rattle.un_top.proofs.Firsts.{begin_alike, first_unique}
+use Rattle.un_plain.specs.Plain.{IsPlain}
+use Rattle.un_reader.specs.Codes.{code_of}
+use Rattle.un_reader.specs.Before.{before_of}
+use Rattle.un_reader.specs.LineFaults.{fault_at, line_fault, line_of}
+use Rattle.un_reader.specs.Lines.{HasNoLineFault, IsFirstLineFault, shapes_in}
+use Rattle.un_reader.specs.Pieces.{lines_in}
+use Rattle.un_reader.specs.Entry.{IsLiveAtEntry}
+use Rattle.un_reader.specs.Functions.{function_of}
+use Rattle.un_reader.specs.Read.{IsRead, IsTextFault, too_long, on_line, in_whole, at_entry}
+use Rattle.un_reader.specs.declared.fault.Fault.{Fault}
+use Rattle.un_reader.specs.declared.fault.Fault.TheVariants.{TooMany}
+use Rattle.un_top.proofs.BuiltLaws.{not_built_line_unique}
+use Rattle.un_top.specs.Faults.{IsFault, in_language, not_built}
 
-begins_less : (text : List ℕ) (j k : ℕ) → j ≤ k → BeginsWell text k → BeginsWell text j
-begins_less text j k h b = (b.0, b.1, begin_alike j k (pieces_of text) (map ended (function_lines b.0)) h b.2)
+nothing_there : {X : Type 0} (xs : List X) (k : ℕ) → length xs ≤ k → slice_get xs k ≡ None
+nothing_there [] k h = refl
+nothing_there (x ∷ xs) zero h = absurd (omega arith)
+nothing_there (x ∷ xs) (suc k) h = nothing_there xs k (omega arith)
 
-bad_line_unique : (text : List ℕ) (p q : ℕ) → IsFirstBadLine text p → IsFirstBadLine text q → p ≡ q
-bad_line_unique text p q a b =
-    let bad_a = subst (λ (l : ℕ). BeginsWell text l → ⊥) a.next a.bad in
-    let bad_b = subst (λ (l : ℕ). BeginsWell text l → ⊥) b.next b.bad in
-    let e = first_unique (BeginsWell text) (begins_less text) a.before b.before a.good bad_a b.good bad_b in
-    a.next ∙ (ap (λ (n : ℕ). n + 1) e ∙ sym b.next)
+-- a fault stands on a line that is there
+on_a_line : (lines : List (List ℕ)) (k : ℕ) (fault : Fault) → fault_at lines k ≡ Some fault → k < length lines
+on_a_line lines k fault here = by (cases_lt k (length lines))
+  where
+    by : (k < length lines) ⊎ (length lines ≤ k) → k < length lines
+    by (inl h) = h
+    by (inr h) = let none = nothing_there lines k h in absurd (let other : fault_at lines k ≡ None = rw none refl in cc)
+
+-- no line has a fault, and one has
+no_line_fault : (lines : List (List ℕ)) (line : ℕ) (fault : Fault) → HasNoLineFault lines → IsFirstLineFault lines line fault → ⊥
+no_line_fault lines line fault none first =
+    let other = none first.place (on_a_line lines first.place fault first.here) in
+    let here = first.here in cc
+
+first_line_unique : (lines : List (List ℕ)) (l line : ℕ) (f fault : Fault) → IsFirstLineFault lines l f → IsFirstLineFault lines line fault → (l ≡ line) × (f ≡ fault)
+first_line_unique lines l line f fault a b = by (cases_lt a.place b.place)
+  where
+    same : a.place ≡ b.place → (l ≡ line) × (f ≡ fault)
+    same e =
+        let here_a : fault_at lines b.place ≡ Some f = subst (λ (k : ℕ). fault_at lines k ≡ Some f) e a.here in
+        let here_b = b.here in
+        (a.number ∙ (ap (λ (k : ℕ). k + 1) e ∙ sym b.number), cc)
+
+    by : (a.place < b.place) ⊎ (b.place ≤ a.place) → (l ≡ line) × (f ≡ fault)
+    by (inl h) = absurd (let none = b.before a.place h in let here = a.here in cc)
+    by (inr h) = by_other (cases_lt b.place a.place)
+      where
+        by_other : (b.place < a.place) ⊎ (a.place ≤ b.place) → (l ≡ line) × (f ≡ fault)
+        by_other (inl k) = absurd (let none = a.before b.place k in let here = b.here in cc)
+        by_other (inr k) = same (omega arith)
+
+-- a text of the language has no fault of it
+language_or_fault : (text : List ℕ) (f : Function) (line : ℕ) (fault : Fault) → IsRead text f → IsTextFault text line fault → ⊥
+language_or_fault text f _ _ h (too_long long) = let within = h.within in omega arith
+language_or_fault text f _ _ h (on_line line fault within first) = no_line_fault (lines_in text) line fault h.lines first
+language_or_fault text f _ _ h (in_whole line fault within none whole) = let other = h.whole in cc
+language_or_fault text f _ _ h (at_entry name within none whole live) =
+    h.entry name (subst (λ (g : Function). IsLiveAtEntry g name) (sym h.is) live)
+
+same_pair : (l line : ℕ) (f fault : Fault) → ◌≡◌ {A = Option (ℕ × Fault)} (Some (l, f)) (Some (line, fault)) → (l ≡ line) × (f ≡ fault)
+same_pair l line f fault e =
+    (ap (λ (o : Option (ℕ × Fault)). (unwrap_or o (0, TooMany)).0) e, ap (λ (o : Option (ℕ × Fault)). (unwrap_or o (0, TooMany)).1) e)
+
+-- the first fault of the language is one
+language_unique : (text : List ℕ) (l line : ℕ) (f fault : Fault) → IsTextFault text l f → IsTextFault text line fault → (l ≡ line) × (f ≡ fault)
+language_unique text _ _ _ _ (too_long a) (too_long b) = (refl, refl)
+language_unique text _ _ _ _ (too_long a) (on_line line fault within first) = absurd (omega arith)
+language_unique text _ _ _ _ (too_long a) (in_whole line fault within none whole) = absurd (omega arith)
+language_unique text _ _ _ _ (too_long a) (at_entry name within none whole live) = absurd (omega arith)
+language_unique text _ _ _ _ (on_line l f within a) (too_long b) = absurd (omega arith)
+language_unique text _ _ _ _ (on_line l f within a) (on_line line fault within' b) = first_line_unique (lines_in text) l line f fault a b
+language_unique text _ _ _ _ (on_line l f within a) (in_whole line fault within' none whole) = absurd (no_line_fault (lines_in text) l f none a)
+language_unique text _ _ _ _ (on_line l f within a) (at_entry name within' none whole live) = absurd (no_line_fault (lines_in text) l f none a)
+language_unique text _ _ _ _ (in_whole l f within none a) (too_long b) = absurd (omega arith)
+language_unique text _ _ _ _ (in_whole l f within none a) (on_line line fault within' b) = absurd (no_line_fault (lines_in text) line fault none b)
+language_unique text _ _ _ _ (in_whole l f within none a) (in_whole line fault within' none' b) = same_pair l line f fault (sym a ∙ b)
+language_unique text _ _ _ _ (in_whole l f within none a) (at_entry name within' none' whole live) = absurd (cc)
+language_unique text _ _ _ _ (at_entry name within none whole live) (too_long b) = absurd (omega arith)
+language_unique text _ _ _ _ (at_entry name within none whole live) (on_line line fault within' b) = absurd (no_line_fault (lines_in text) line fault none b)
+language_unique text _ _ _ _ (at_entry name within none whole live) (in_whole line fault within' none' b) = absurd (cc)
+language_unique text _ _ _ _ (at_entry name within none whole live) (at_entry name' within' none' whole' live') = (refl, refl)
 
 -- a text has one fault
 pub fault_unique : (text : List ℕ) (l c line code : ℕ) → IsFault text l c → IsFault text line code → (l ≡ line) × (c ≡ code)
-fault_unique text l c line code (too_long h) (too_long k) = (refl, refl)
-fault_unique text l c line code (too_long h) (not_built line' within k) = absurd (omega arith)
-fault_unique text l c line code (not_built l' within h) (too_long k) = absurd (omega arith)
-fault_unique text l c line code (not_built l' within h) (not_built line' within' k) = (bad_line_unique text l' line' h k, refl)
+fault_unique text _ _ _ _ (in_language l f a) (in_language line fault b) =
+    let same = language_unique text l line f fault a b in (same.0, ap code_of same.1)
+fault_unique text _ _ _ _ (in_language l f a) (not_built function line read other odd) = absurd (language_or_fault text function l f read a)
+fault_unique text _ _ _ _ (not_built function l read other odd) (in_language line fault b) = absurd (language_or_fault text function line fault read b)
+fault_unique text _ _ _ _ (not_built f l read other odd) (not_built function line read' other' odd') = (not_built_line_unique text l line odd odd', refl)
+
+-- the text of a plain function has no fault
+pub read_has_no_fault : (text : List ℕ) (f : Function) (line code : ℕ) → IsRead text f → IsPlain f → IsFault text line code → ⊥
+read_has_no_fault text f _ _ read plain (in_language line fault h) = language_or_fault text f line fault read h
+read_has_no_fault text f _ _ read plain (not_built function line read' other odd) = other (subst IsPlain (read.is ∙ sym read'.is) plain)

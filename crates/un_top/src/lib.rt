@@ -1,6 +1,7 @@
 //! The whole program over any outside.
 #![tactic(auto)]
 
+pub mod code;
 pub mod faults;
 pub mod produce;
 pub mod run;

@@ -4,59 +4,81 @@ ghost use Rattle.std.specs.Prelude.{◌≡◌, ℕ, ◌+◌, ◌<◌, ◌≤◌,
 ghost use Rattle.std.specs.Io.KnownBytes.{IsAtEnd};
 ghost use Rattle.un_base.specs.Causes.{Rose};
 ghost use Rattle.un_plain.specs.Plain.{IsPlain};
-ghost use Rattle.un_plain.specs.Faults.{IsTextOf, IsFault};
+ghost use Rattle.un_built.specs.Built.{IsNotBuiltLine};
+ghost use Rattle.un_top.specs.Faults.{IsFault};
 ghost use Rattle.un_top.specs.Reports.{IsReportOf, full_packets};
 ghost use Rattle.un_top.specs.Words.{IsCommand, IsBadWord};
 ghost use Rattle.un_top.specs.Runs.{IsTextRefusal, IsRefusal};
 
+use crate::code::costed_code;
 use crate::words::check_words;
 use std::alloc::Global;
 use un_base::outside::Source;
 use un_base::status::Status;
 use un_base::transfer::{ReadAll, read_all};
 use un_base::words::Word;
+use un_built::odd_line::not_built_line;
+use un_built::plain::is_plain;
 use un_ir::function::Function;
 use un_listing::report::print_first_report;
-use un_plain::error::PlainError;
-use un_plain::limits::TEXT;
-use un_plain::reader::read_plain;
-use un_plain_code::plain_code::plain_code;
+use un_reader::error::ReadError;
+use un_reader::limits::TEXT;
+use un_reader::read::read_function;
 
 /// The code of a text that is too long.
 const TOO_MANY: u8 = 13;
 
-/// The cost of one operation a packet, the return among them, and the number of full packets, weighted by frequency.
-fn cost_and_bound(f: &Function) -> (u64, u64)
+/// The code of a function that is not built yet.
+const NOT_BUILT: u8 = 15;
+
+/// The number of full packets, weighted by frequency.
+fn bound(f: &Function) -> u64
     requires { IsPlain f.now }
-    ensures cost { result.0 ≡ sum_by (λ b. b.freq * (length b.ops + 1)) f.now.blocks }
-    ensures bound { result.1 ≡ full_packets f.now }
+    ensures { result ≡ full_packets f.now }
 {
     match f.blocks.as_slice() {
-        [block] => {
-            let freq = u64::from(block.freq);
-            let ops = block.ops.len() as u64;
-            (freq * (ops + 1), freq * ((ops + 4) / 4))
-        }
-        _ => (0, 0),
+        [block] => u64::from(block.freq) * ((block.ops.len() as u64 + 4) / 4),
+        _ => 0,
+    }
+}
+
+/// The fault of an accepted text whose function is not built yet.
+fn not_built(alloc: Global, text: &[u8]) -> Status
+    requires { length text.now ≤ TEXT }
+    ensures fault { (line code : ℕ) → result ≡ Status.TextFault line code
+        → IsNotBuiltLine text.now line × (code ≡ NOT_BUILT) }
+    ensures only { IsTextRefusal result }
+{
+    match not_built_line(alloc, text) {
+        Ok(line) => Status::TextFault {
+            line,
+            code: NOT_BUILT,
+        },
+        Err(_) => Status::NoMemory,
     }
 }
 
 /// The report of a text.
 fn report(alloc: Global, text: &[u8]) -> Result<Vec<u8>, Status>
+    requires { length text.now ≤ TEXT }
     ensures ok { IfOk result (λ out. IsReportOf text.now out.items) }
     ensures fault { (line code : ℕ) → result ≡ Err (Status.TextFault line code) → IsFault text.now line code }
     ensures only { IfErr result IsTextRefusal }
 {
-    let f = match read_plain(alloc, text) {
+    let f = match read_function(alloc, text) {
         Ok(f) => f,
-        Err(PlainError::NoMemory) => return Err(Status::NoMemory),
-        Err(PlainError::TextFault { line, code }) => return Err(Status::TextFault { line, code }),
+        Err(ReadError::NoMemory) => return Err(Status::NoMemory),
+        Err(ReadError::TextFault { line, code }) => {
+            return Err(Status::TextFault { line, code });
+        }
     };
-    let Ok(code) = plain_code(alloc, &f) else {
+    if !is_plain(&f) {
+        return Err(not_built(alloc, text));
+    }
+    let Ok(costed) = costed_code(alloc, &f) else {
         return Err(Status::NoMemory);
     };
-    let (cost, bound) = cost_and_bound(&f);
-    match print_first_report(alloc, cost, bound, &code) {
+    match print_first_report(alloc, costed.cost, bound(&f), &costed.code) {
         Ok(out) => Ok(out),
         Err(_) => Err(Status::NoMemory),
     }

@@ -3,7 +3,7 @@
 ghost use Rattle.std.specs.Prelude.{◌≡◌, ℕ, ◌⊎◌, ◌<◌, ◌≤◌, Ok, Err, IfSome, IfOk, IfErr, OnOk, OnErr};
 ghost use Rattle.std.specs.Io.KnownBytes.{Appends, IsAtEnd};
 ghost use Rattle.un_base.specs.Causes.{Rose, AppendsPrefix};
-ghost use Rattle.un_plain.specs.Faults.{IsFault};
+ghost use Rattle.un_top.specs.Faults.{IsFault};
 ghost use Rattle.un_top.specs.Words.{IsCommand, IsBadWord};
 ghost use Rattle.un_top.specs.Runs.{OutAfter, KeepsOut, AnswersFault, IsAnswer, IsRefusal, line_of};
 

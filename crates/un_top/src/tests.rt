@@ -11,7 +11,7 @@ const SUM: &[u8] =
     b"func f\nblock e freq 3\n  %a = imm #1\n  %b = imm #2\n  %c = add %a, %b\n  ret %c\n";
 
 const REPORT: &[u8] =
-    b"cost 12\nbound 3\nframe 0\nblock e\n{ r0 = #1 }\n{ r1 = #2 }\n{ r2 = add(r0,r1) }\n{ r0 = r2; jumpr r31 }\n";
+    b"cost 12\nbound 3\nframe 0\nblock e\n{ r1 = #1 }\n{ r2 = #2 }\n{ r0 = add(r1,r2) }\n{ jumpr r31 }\n";
 
 /// What a run left.
 #[derive(Drop)]
@@ -123,26 +123,50 @@ fn refuses_words(rt: HostRuntime) -> Result<(), Fail> {
 }
 
 #[test]
-fn refuses_texts_at_their_first_bad_line(rt: HostRuntime) -> Result<(), Fail> {
-    let table: [(&[u8], u32); 18] = [
-        (b"", 1),
-        (b"func f\n", 2),
-        (b"func f %a\nblock e freq 1\n", 1),
-        (b"func f\nblock e freq 0\n", 2),
-        (b"func f\nblock e freq 1000001\n", 2),
-        (b"func f\nblock e freq 03\n", 2),
-        (b"func f\nblock e freq 3\n  %a = imm #40000\n", 3),
-        (b"func f\nblock e freq 3\n  %a = imm #-32769\n", 3),
-        (b"func f\nblock e freq 3\n  %a = imm #-0\n", 3),
-        (b"func f\nblock e freq 3\n  %a = load %b, #0\n", 3),
-        (b"func f\nblock e freq 3\n  %a = add %a, %a\n", 3),
-        (b"func f\nblock e freq 3\n  %a = imm #1\r\n", 3),
-        (b"func f\nblock e freq 3\n\t%a = imm #1\n", 3),
-        (b"func f\nblock e freq 3\n  %a = imm #1\n  ret %b\n", 4),
-        (b"func f\nblock e freq 3\n  %a = imm #1\n  ret %a", 4),
-        (b"func f\nblock e freq 3\n  %a = imm #1\n  ret %a\n\n", 5),
-        (b"func f\nblock e freq 3\n  %a = imm #1\n", 4),
-        (b"func f\nblock e freq 3\n", 3),
+fn refuses_texts_at_their_first_fault(rt: HostRuntime) -> Result<(), Fail> {
+    let table: [(&[u8], u32, u8); 12] = [
+        (b"", 1, 6),
+        (b"func f\n", 2, 6),
+        (b"func f\nblock e freq 0\n  ret\n", 2, 14),
+        (b"func f\nblock e freq 1\n", 2, 8),
+        (b"func f\nblock e freq 3\n  %a = imm #40000\n", 3, 3),
+        (b"func f\nblock e freq 3\n  %a = imm #-32769\n", 3, 3),
+        (b"func f\nblock e freq 3\n  %a = cmpeq %b, %c\n", 3, 10),
+        (b"func f\nblock e freq 3\n---\n", 3, 2),
+        (b"func f\nblock e freq 3\n  jump e\n", 3, 9),
+        (b"func f\nblock e freq 3\n  jump g\n", 3, 5),
+        (b"func u\nblock a freq 1\n  ret %x\n", 2, 12),
+        (b"func f\nblock e freq 3\n  ret\n  ret\n", 4, 7),
+    ];
+    for (text, line, code) in table {
+        let left = alloc_of(rt.alloc(), text)?;
+        assert_eq!(rt; left.status, Status::TextFault { line, code });
+        assert_eq!(rt; left.out.len(), 0);
+    }
+    Ok(())
+}
+
+#[test]
+fn refuses_functions_that_are_not_built(rt: HostRuntime) -> Result<(), Fail> {
+    let table: [(&[u8], u32); 6] = [
+        (b"func f\nblock e freq 1\n  ret\n", 3),
+        (b"func f %a\nblock e freq 1\n  ret %a\n", 1),
+        (
+            b"func f\nblock e freq 1\n  %a = imm #1\n  %b = sub %a, %a\n  ret %b\n",
+            4,
+        ),
+        (
+            b"func f\nblock e freq 1\n  %a = imm #1\n\n  store %a, #0, %a\n  ret %a\n",
+            5,
+        ),
+        (
+            b"func f\nblock e freq 1\n  %a = imm #1\nblock g freq 2\n  ret %a\n",
+            4,
+        ),
+        (
+            b"func f\nblock e freq 1\n  %a = imm #1\n  $p = cmpeqi %a, #1\n  ret %a\n",
+            4,
+        ),
     ];
     for (text, line) in table {
         let left = alloc_of(rt.alloc(), text)?;
@@ -153,9 +177,19 @@ fn refuses_texts_at_their_first_bad_line(rt: HostRuntime) -> Result<(), Fail> {
 }
 
 #[test]
+fn reads_every_spelling(rt: HostRuntime) -> Result<(), Fail> {
+    let text =
+        b"; a sum\r\nfunc f\r\n\r\nblock e freq 003 ; often\r\n%a=imm #1\r\n\t%b =imm #02\r\n%c = add %a ,%b\r\nret %c";
+    let left = alloc_of(rt.alloc(), text)?;
+    assert_eq!(rt; left.status, Status::Done);
+    assert_eq!(rt; left.out.as_slice(), REPORT);
+    Ok(())
+}
+
+#[test]
 fn names_the_line_of_a_fault(rt: HostRuntime) -> Result<(), Fail> {
     let left = alloc_of(rt.alloc(), b"func f\nblock e freq 3\n  %a = imm #40000\n")?;
-    assert_eq!(rt; left.err.as_slice(), b"line 3: 15 NotBuilt\n".as_slice());
+    assert_eq!(rt; left.err.as_slice(), b"line 3: 3 WideLiteral\n".as_slice());
     Ok(())
 }
 
@@ -164,7 +198,7 @@ fn keeps_the_limits(rt: HostRuntime) -> Result<(), Fail> {
     let whole = alloc_of(rt.alloc(), long_text(rt.alloc(), b"a", 79)?.as_slice())?;
     assert_eq!(rt; whole.status, Status::Done);
     let ops = alloc_of(rt.alloc(), long_text(rt.alloc(), b"a", 80)?.as_slice())?;
-    assert_eq!(rt; ops.status, Status::TextFault { line: 83, code: 15 });
+    assert_eq!(rt; ops.status, Status::TextFault { line: 83, code: 13 });
     let twelve = alloc_of(
         rt.alloc(),
         long_text(rt.alloc(), b"abcdefghijkl", 1)?.as_slice(),
@@ -182,7 +216,7 @@ fn keeps_the_limits(rt: HostRuntime) -> Result<(), Fail> {
 fn refuses_a_text_that_is_too_long(rt: HostRuntime) -> Result<(), Fail> {
     let mut text = vec![in rt.alloc(); b'x'; 65536]?;
     let within = alloc_of(rt.alloc(), text.as_slice())?;
-    assert_eq!(rt; within.status, Status::TextFault { line: 1, code: 15 });
+    assert_eq!(rt; within.status, Status::TextFault { line: 1, code: 2 });
     text.push(b'x')?;
     let past = alloc_of(rt.alloc(), text.as_slice())?;
     assert_eq!(rt; past.status, Status::TextFault { line: 0, code: 13 });
@@ -238,7 +272,7 @@ fn a_fault_of_the_line_changes_no_status(rt: HostRuntime) -> Result<(), Fail> {
         ..SOUND
     };
     let left = run_in(rt.alloc(), &["alloc"], b"", outside)?;
-    assert_eq!(rt; left.status, Status::TextFault { line: 1, code: 15 });
+    assert_eq!(rt; left.status, Status::TextFault { line: 1, code: 6 });
     assert_eq!(rt; left.err.len(), 0);
     Ok(())
 }

@@ -1,0 +1,2 @@
+pub mod OddLaws
+pub mod PlainLaws

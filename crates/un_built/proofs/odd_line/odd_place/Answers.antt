@@ -1,0 +1,15 @@
+use Rattle.std.proofs.Common.{◌≡◌, ℕ, ◌≤◌, Bool, true, subst, refl, IsTrue}
+use Rattle.un_plain.specs.declared.limits.TheConstants.{PLAIN_NAMES}
+use Rattle.un_built.specs.Built.{is_built_line}
+use Rattle.un_built.proofs.OddLaws.{seen_more, With}
+use Rattle.un_built.proofs.odd_line.odd_place.Goals as goal
+
+pub loop-i-preserved : goal.loop-i-preserved
+loop-i-preserved c =
+    let lines = c.args.lines.now in
+    let w : With lines c.loop-i.i c.index-lines-i.result c.loop-i.names c.loop-i.blocks c.add_line.new.names c.blocks_with-blocks.result =
+    record { below = c.loop-i-test.true; here = c.index-lines-i.is; named = c.in_ok-add_line.ensures; counted = c.blocks_with-blocks.ensures } in
+    let passed : IsTrue c.is_built_among.result = c.if-not-is_built_among.false in
+    let good = c.is_built_among.ensures.0 passed in
+    seen_more lines c.loop-i.i c.index-lines-i.result c.loop-i.names c.loop-i.blocks c.add_line.new.names c.blocks_with-blocks.result c.loop-i.invariant w
+    (good.0, good.1, subst (λ (n : ℕ). n ≤ PLAIN_NAMES) c.len.ensures good.2)

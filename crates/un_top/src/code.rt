@@ -1,0 +1,46 @@
+//! Code by a solution of the model.
+
+ghost use Rattle.std.specs.Prelude.{◌≡◌, IfOk};
+ghost use Rattle.un_plain.specs.Plain.{IsPlain};
+ghost use Rattle.un_top.specs.Reports.{IsCodeOf};
+
+use std::alloc::Global;
+use un_base::memory_error::NoMemory;
+use un_emit::emission::emit;
+use un_ir::function::Function;
+use un_isa::reg::SLOTS;
+use un_isa::table::hexagon;
+use un_model::build::build;
+use un_model::cost::cost;
+use un_model::model::Options;
+use un_packet::code::Code;
+use un_plain_solution::plain_solution::plain_solution;
+use un_plain_solution::straight::straight_ext;
+
+/// Code with its cost.
+#[derive(Debug, Drop)]
+pub struct Costed {
+    pub code: Code,
+    pub cost: u64,
+}
+
+/// The code of a plain function, by the solution of its model that issues one operation a cycle, with its cost.
+///
+/// # Errors
+/// `NoMemory` where there is no memory for the function's model or its code.
+pub fn costed_code(alloc: Global, f: &Function) -> Result<Costed, NoMemory>
+    requires { IsPlain f.now }
+    ensures { IfOk result (λ c. IsCodeOf f.now c.code c.cost) }
+{
+    let table = hexagon();
+    let ext = straight_ext(alloc, f, &table)?;
+    let options = Options {
+        regs: None,
+        slots: SLOTS,
+    };
+    let model = build(alloc, &ext, &options)?;
+    let solution = plain_solution(alloc, f, &model)?;
+    let code = emit(alloc, f, &ext, &model, &solution)?;
+    let cost = cost(&model, &solution);
+    Ok(Costed { code, cost })
+}
