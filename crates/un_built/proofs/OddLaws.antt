@@ -1,7 +1,7 @@
 -- The lines before a place, which are built, one line more, and all.
-use Rattle.std.proofs.Common.{◌≡◌, ℕ, ◌+◌, ◌<◌, ◌≤◌, ◌++◌, Bool, true, false, cond, List, [], ◌∷◌, All, length, take, get_or, refl, sym, ap, ◌∙◌, subst, zero-add, arith, if◌then◌else◌}
+use Rattle.std.proofs.Common.{◌≡◌, ℕ, ◌+◌, ◌<◌, ◌≤◌, ◌++◌, true, cond, List, [], ◌∷◌, length, take, get_or, refl, sym, ap, ◌∙◌, subst, zero-add, arith, if◌then◌else◌}
 use Rattle.std.specs.List.{count_by}
-use Rattle.std.proofs.lemmas.List.{take_more, take_all, get_or-take, length-take-le}
+use Rattle.std.proofs.lemmas.List.{take_more}
 use Rattle.std.proofs.lemmas.List.Elements.{All-more}
 use Rattle.std.proofs.lemmas.List.Sums.{sum_by-append}
 use Rattle.un_ir.specs.Text.{Names}
@@ -11,7 +11,7 @@ use Rattle.un_reader.specs.declared.before.Before.{Before}
 use Rattle.un_reader.specs.Before.{names_on, names_of, numbered}
 use Rattle.un_reader.specs.TextFaults.{is_block}
 use Rattle.un_reader.proofs.BeforeLaws.{before_of_push}
-use Rattle.un_built.specs.Built.{is_built_line, AreBuilt, IsOddPlace}
+use Rattle.un_built.specs.Built.{is_built_line, AreBuilt}
 
 -- the lines before a place are built, with these names and so many blocks
 pub record Seen (lines : List Line) (place : ℕ) (names : Names) (blocks : ℕ) : Type 0 where
@@ -70,31 +70,3 @@ seen_more lines place line ns bs names blocks seen w good =
         few_names = subst (λ (all : Names). length all ≤ PLAIN_NAMES) named good.2;
       };
     }
-
--- the line is not
-pub odd_here : (lines : List Line) (place : ℕ) (line : Line) (ns : Names) (bs : ℕ) (names : Names) (blocks : ℕ)
-    → Seen lines place ns bs → With lines place line ns bs names blocks
-    → ((is_built_line line ≡ true) × (blocks ≤ 1) × (length names ≤ PLAIN_NAMES) → ⊥) → IsOddPlace lines place
-odd_here lines place line ns bs names blocks seen w bad = record {
-  within = let below = w.below in omega arith;
-  before = seen.built;
-  here = λ below built. bad (
-    subst (λ (l : Line). is_built_line l ≡ true) (sym w.here) (at_place built),
-    subst (λ (n : ℕ). n ≤ 1) (sym (counted_more lines place line ns bs names blocks seen w)) built.one_block,
-    subst (λ (all : Names). length all ≤ PLAIN_NAMES) (sym (named_more lines place line ns bs names blocks seen w)) built.few_names,
-  );
-}
-  where
-    long : length (take (place + 1) lines) ≡ place + 1
-    long = let below = w.below in length-take-le (place + 1) lines (omega arith)
-
-    at_place : AreBuilt (take (place + 1) lines) → is_built_line (get_or lines place line) ≡ true
-    at_place built = subst (λ (l : Line). is_built_line l ≡ true) (get_or-take (place + 1) lines place line (omega arith)) (built.kinds place line (omega (arith, long)))
-
--- no line is left
-pub odd_end : (lines : List Line) (place : ℕ) (ns : Names) (bs : ℕ) → Seen lines place ns bs → length lines ≤ place → IsOddPlace lines (length lines)
-odd_end lines place ns bs seen over = record {
-  within = omega arith;
-  before = subst AreBuilt (take_all place lines over ∙ sym (take_all (length lines) lines (omega arith))) seen.built;
-  here = λ below. absurd (omega arith);
-}

@@ -1,5 +1,5 @@
 -- The tests decide whether a function is plain.
-use Rattle.std.proofs.Common.{◌≡◌, ◌≢◌, ℕ, suc, ℤ, pos, negsuc, ◌<◌, ◌≤◌, ◌^◌, ◌&&◌, Bool, true, false, not, nat_lt, nat_le, List, [], ◌∷◌, Option, Some, None, is_none, All, length, refl, sym, ap, ◌∙◌, subst, arith}
+use Rattle.std.proofs.Common.{◌≡◌, ◌≢◌, ℕ, suc, ℤ, pos, negsuc, ◌<◌, ◌≤◌, ◌^◌, ◌&&◌, true, false, not, nat_lt, nat_le, List, [], ◌∷◌, Option, Some, None, is_none, All, length, refl, sym, ap, ◌∙◌, subst, arith}
 use Rattle.std.specs.Bool.{Decides}
 use Rattle.std.specs.List.{AllPairs, list_all}
 use Rattle.std.specs.Str.{bytes_eq}
@@ -22,7 +22,7 @@ use Rattle.un_ir.specs.declared.function.TheConstants.{OPS, FREQUENCY}
 use Rattle.un_ir.specs.Text.{Names}
 use Rattle.un_plain.specs.Plain.{IsS16, IsPlainOp, constant, addition, assigned_after, ArePlainOps, IsPlainBlock, IsGeneralName, IsPlain}
 use Rattle.un_plain.specs.declared.limits.TheConstants.{PLAIN_NAMES}
-use Rattle.un_built.specs.Tests.{is_general, is_general_name, is_new, are_distinct, assigns_near, is_s16, is_zero, reads_two, reads_none, is_plain_op, are_plain_ops, returns_one, is_plain_block, is_one_plain_block, are_plain_names, is_plain_function}
+use Rattle.un_built.specs.Tests.{is_general, is_general_name, is_new, are_distinct, assigns_near, is_s16, is_zero, reads_none, is_plain_op, are_plain_ops, returns_one, is_plain_block, is_one_plain_block, is_plain_function}
 
 decides_le : (a b : ℕ) → Decides (nat_le a b) (a ≤ b)
 decides_le a b = (λ e. grind (arith, nat_tests), λ h. grind (arith, nat_tests))

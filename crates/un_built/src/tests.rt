@@ -35,7 +35,7 @@ fn finds_the_first_line_that_is_not_built(rt: HostRuntime) {
         (PLAIN, 7),
         (b"func f %a\nblock e freq 1\n  ret %a\n", 1),
         (
-            b"; a\n\nfunc f\nblock e freq 1\n  %a = imm #1\n  $p = cmp.eq %a, %a\n",
+            b"; a\n\nfunc f\nblock e freq 1\n  %a = imm #1\n  $p = cmpeq %a, %a\n",
             6,
         ),
         (

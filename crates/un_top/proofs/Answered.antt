@@ -12,7 +12,6 @@ use Rattle.un_reader.specs.Read.{too_long}
 use Rattle.un_reader.specs.declared.fault.Fault.TheVariants.{TooMany}
 use Rattle.un_top.specs.Faults.{IsFault, in_language}
 use Rattle.un_top.specs.Reports.{IsReportOf}
-use Rattle.un_top.specs.Words.{IsBadWord}
 use Rattle.un_top.specs.Runs.{AnswersFault, IsRefusal}
 use Rattle.un_top.proofs.FaultLaws.{fault_unique, read_has_no_fault}
 

@@ -1,10 +1,10 @@
 -- The first line of a text that is not built is one.
-use Rattle.std.proofs.Common.{ℕ, ◌≡◌, ◌+◌, ◌<◌, ◌≤◌, ◌⊎◌, inl, inr, Bool, true, false, cond, List, [], ◌∷◌, ◌++◌, length, take, drop, map, refl, sym, ap, ◌∙◌, subst, arith, length-append}
+use Rattle.std.proofs.Common.{ℕ, ◌≡◌, ◌+◌, ◌<◌, ◌≤◌, ◌⊎◌, inl, inr, Bool, true, false, cond, List, [], ◌∷◌, ◌++◌, length, take, drop, refl, sym, ap, ◌∙◌, subst, arith, length-append}
 use Rattle.std.proofs.lemmas.Bool.{cases_lt}
 use Rattle.std.proofs.lemmas.Grind.{flat_map-append}
 use Rattle.std.proofs.lemmas.List.Sums.{fold-append, sum_by-append}
 use Rattle.std.proofs.lemmas.List.{get_or_append_left, take-append-drop}
-use Rattle.std.specs.List.{All, count_by, flat_map, fold, list_any}
+use Rattle.std.specs.List.{All, count_by, flat_map, list_any}
 use Rattle.un_ir.specs.declared.function.Kind.{Kind}
 use Rattle.un_reader.specs.Before.{names_of, names_on, numbered, add_name, same_name}
 use Rattle.un_reader.specs.TextFaults.{is_block}

@@ -1,16 +1,13 @@
 -- A text is a function or has one fault.
 use Rattle.std.proofs.Common.{ℕ, zero, suc, ◌≡◌, ◌+◌, ◌<◌, ◌≤◌, ◌⊎◌, inl, inr, List, [], ◌∷◌, Some, None, Option, unwrap_or, length, slice_get, refl, sym, ap, ◌∙◌, subst, arith}
 use Rattle.std.proofs.lemmas.Bool.{cases_lt}
-use Rattle.std.specs.Option.{option_and_then}
 use Rattle.un_ir.specs.declared.function.Function.{Function}
 use Rattle.un_plain.specs.Plain.{IsPlain}
 use Rattle.un_reader.specs.Codes.{code_of}
-use Rattle.un_reader.specs.Before.{before_of}
-use Rattle.un_reader.specs.LineFaults.{fault_at, line_fault, line_of}
-use Rattle.un_reader.specs.Lines.{HasNoLineFault, IsFirstLineFault, shapes_in}
+use Rattle.un_reader.specs.LineFaults.{fault_at}
+use Rattle.un_reader.specs.Lines.{HasNoLineFault, IsFirstLineFault}
 use Rattle.un_reader.specs.Pieces.{lines_in}
 use Rattle.un_reader.specs.Entry.{IsLiveAtEntry}
-use Rattle.un_reader.specs.Functions.{function_of}
 use Rattle.un_reader.specs.Read.{IsRead, IsTextFault, too_long, on_line, in_whole, at_entry}
 use Rattle.un_reader.specs.declared.fault.Fault.{Fault}
 use Rattle.un_reader.specs.declared.fault.Fault.TheVariants.{TooMany}

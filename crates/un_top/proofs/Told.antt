@@ -1,6 +1,5 @@
 -- What the reader tells of a text.
 use Rattle.std.proofs.Common.{ℕ, ◌≡◌, List, subst, sym, ◌∙◌}
-use Rattle.un_reader.specs.Codes.{code_of}
 use Rattle.un_reader.specs.Errors.{Tells}
 use Rattle.un_reader.specs.Read.{IsTextFault}
 use Rattle.un_reader.specs.declared.error.ReadError.{ReadError}

@@ -1,5 +1,5 @@
 -- The words of a command, and the place of the first bad one.
-use Rattle.std.proofs.Common.{ℕ, ◌≡◌, ◌+◌, ◌≤◌, List, take, refl, ap, codes, [], ◌∷◌}
+use Rattle.std.proofs.Common.{ℕ, ◌≡◌, ◌≤◌, List, refl}
 use Rattle.un_top.specs.Words.{IsCommand, BeginsCommand, IsBadWord}
 use Rattle.un_top.proofs.Firsts.{begin_alike, first_unique}
 

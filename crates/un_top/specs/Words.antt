@@ -1,5 +1,5 @@
 -- The grammar of the words of a command line.
-use Rattle.std.specs.Prelude.{ℕ, ◌≡◌, ◌+◌, List, [], ◌∷◌, ◌++◌, codes, take}
+use Rattle.std.specs.Prelude.{ℕ, ◌≡◌, ◌+◌, List, [], ◌∷◌, codes, take}
 
 -- the words of a line are those of a command
 abbrev pub IsCommand : List (List ℕ) → Type 0

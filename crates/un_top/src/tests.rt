@@ -242,7 +242,7 @@ fn tells_each_fault_of_reading(rt: HostRuntime) -> Result<(), Fail> {
 
 #[test]
 fn keeps_a_prefix_at_each_fault_of_writing(rt: HostRuntime) -> Result<(), Fail> {
-    for call in 0..7 {
+    for call in 0..6 {
         let outside = Outside {
             piece: 16,
             write_fails: Some(call),

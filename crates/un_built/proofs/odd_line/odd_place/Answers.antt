@@ -1,6 +1,5 @@
-use Rattle.std.proofs.Common.{◌≡◌, ℕ, ◌≤◌, Bool, true, subst, refl, IsTrue}
+use Rattle.std.proofs.Common.{ℕ, ◌≤◌, subst, IsTrue}
 use Rattle.un_plain.specs.declared.limits.TheConstants.{PLAIN_NAMES}
-use Rattle.un_built.specs.Built.{is_built_line}
 use Rattle.un_built.proofs.OddLaws.{seen_more, With}
 use Rattle.un_built.proofs.odd_line.odd_place.Goals as goal
 

@@ -1,5 +1,4 @@
-use Rattle.std.proofs.Common.{◌≡◌}
-use Rattle.un_base.specs.declared.status.Status.TheVariants.{Done, Usage, WriteFault}
+use Rattle.un_base.specs.declared.status.Status.TheVariants.{Usage}
 use Rattle.un_top.proofs.Answered.{from_before, answers_fault}
 use Rattle.un_top.proofs.run.run.Goals as goal
 
