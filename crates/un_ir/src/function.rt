@@ -18,6 +18,9 @@ pub const OPS: u32 = 80;
 /// How many names a function may have, of both kinds together.
 pub const NAMES: u32 = 40;
 
+/// How many parameters a function may have, and how many arguments a call.
+pub const PARAMS: u32 = 6;
+
 /// The largest frequency of a block.
 pub const FREQUENCY: u32 = 1_000_000;
 

@@ -1,0 +1,159 @@
+-- What every function of the input language keeps: no text with a fault could give it.
+use Rattle.std.specs.Prelude.{ℕ, ℤ, pos, ◌≡◌, ◌≢◌, ◌<◌, ◌≤◌, Bool, true, List, [], ◌∷◌, Option, Some, None, is_some, map, length, slice_get, All, AllPairs, Contains}
+use Rattle.std.specs.List.{flat_map}
+use Rattle.un_base.specs.Names.{is_name}
+use Rattle.un_base.specs.declared.ids.NameId.{NameId}
+use Rattle.un_isa.specs.Operands.{IsLiteral}
+use Rattle.un_isa.specs.declared.op.Op.{Op}
+use Rattle.un_isa.specs.declared.op.Op.TheVariants.{Imm, Mov, Add, Sub, And, Or, Xor, Addi, Andi, Ori, Mux, CmpEq, CmpGt, CmpGtu, CmpEqi, CmpGti, Mpyi, Asl, Asr, Lsr, Load, Store, Call}
+use Rattle.un_ir.specs.declared.function.Kind.{Kind}
+use Rattle.un_ir.specs.declared.function.Kind.TheVariants.{General, Pred}
+use Rattle.un_ir.specs.declared.function.SrcOp.{SrcOp}
+use Rattle.un_ir.specs.declared.function.Term.{Term}
+use Rattle.un_ir.specs.declared.function.Term.TheVariants.{Fall, Jump, Branch, Ret}
+use Rattle.un_ir.specs.declared.function.Block.{Block}
+use Rattle.un_ir.specs.declared.function.TheConstants.{BLOCKS, OPS, NAMES, PARAMS, FREQUENCY}
+use Rattle.un_ir.specs.Live.{IsLive, targets_of}
+use Rattle.un_ir.specs.Names.{AreNumbered, kind_of}
+
+-- the names of a function with their kinds
+abbrev pub Names : Type 0
+Names = List (List ℕ × Kind)
+
+abbrev pub IsName : List ℕ → Type 0
+IsName name = is_name name ≡ true
+
+abbrev pub IsOfKind : Names → Kind → NameId → Type 0
+IsOfKind names kind name = kind_of names name ≡ Some kind
+
+-- ---- operations
+
+-- the kinds of the operands of an operation, in order; a call takes any number of words
+abbrev pub operand_kinds : Op → List Kind
+operand_kinds Mov = General ∷ []
+operand_kinds Add = General ∷ General ∷ []
+operand_kinds Sub = General ∷ General ∷ []
+operand_kinds And = General ∷ General ∷ []
+operand_kinds Or = General ∷ General ∷ []
+operand_kinds Xor = General ∷ General ∷ []
+operand_kinds Addi = General ∷ []
+operand_kinds Andi = General ∷ []
+operand_kinds Ori = General ∷ []
+operand_kinds Mux = Pred ∷ General ∷ General ∷ []
+operand_kinds CmpEq = General ∷ General ∷ []
+operand_kinds CmpGt = General ∷ General ∷ []
+operand_kinds CmpGtu = General ∷ General ∷ []
+operand_kinds CmpEqi = General ∷ []
+operand_kinds CmpGti = General ∷ []
+operand_kinds Mpyi = General ∷ General ∷ []
+operand_kinds Asl = General ∷ []
+operand_kinds Asr = General ∷ []
+operand_kinds Lsr = General ∷ []
+operand_kinds Load = General ∷ []
+operand_kinds Store = General ∷ General ∷ []
+operand_kinds _ = []
+
+abbrev pub ReadsItsKinds : Names → Op → List NameId → Type 0
+ReadsItsKinds names Call srcs = All (IsOfKind names General) srcs × (length srcs ≤ PARAMS)
+ReadsItsKinds names op srcs = map (kind_of names) srcs ≡ map Some (operand_kinds op)
+
+-- the kind of an operation's result
+abbrev pub result_kind : Op → Kind
+result_kind CmpEq = Pred
+result_kind CmpGt = Pred
+result_kind CmpGtu = Pred
+result_kind CmpEqi = Pred
+result_kind CmpGti = Pred
+result_kind _ = General
+
+-- a Store has no result, a Call may have one, and every other operation has one
+abbrev pub AssignsItsKind : Names → Op → Option NameId → Type 0
+AssignsItsKind names Store dst = dst ≡ None
+AssignsItsKind names Call None = Unit {0}
+AssignsItsKind names op None = ⊥
+AssignsItsKind names op (Some name) = IsOfKind names (result_kind op) name
+
+-- only a Call has a callee
+abbrev pub NamesItsCallee : Op → Option (List ℕ) → Type 0
+NamesItsCallee Call None = ⊥
+NamesItsCallee Call (Some callee) = IsName callee
+NamesItsCallee op callee = callee ≡ None
+
+-- the operations that a text may have
+abbrev pub IsOfText : Op → Type 0
+IsOfText op = Contains (Imm ∷ Mov ∷ Add ∷ Sub ∷ And ∷ Or ∷ Xor ∷ Addi ∷ Andi ∷ Ori ∷ Mux ∷ CmpEq ∷ CmpGt ∷ CmpGtu ∷ CmpEqi ∷ CmpGti ∷ Mpyi ∷ Asl ∷ Asr ∷ Lsr ∷ Load ∷ Store ∷ Call ∷ []) op
+
+-- a literal in its operation's range; an operation without one has 0
+abbrev pub HasItsLiteral : Op → ℤ → Type 0
+HasItsLiteral Imm n = IsLiteral Imm n
+HasItsLiteral Addi n = IsLiteral Addi n
+HasItsLiteral Andi n = IsLiteral Andi n
+HasItsLiteral Ori n = IsLiteral Ori n
+HasItsLiteral CmpEqi n = IsLiteral CmpEqi n
+HasItsLiteral CmpGti n = IsLiteral CmpGti n
+HasItsLiteral Asl n = IsLiteral Asl n
+HasItsLiteral Asr n = IsLiteral Asr n
+HasItsLiteral Lsr n = IsLiteral Lsr n
+HasItsLiteral Load n = IsLiteral Load n
+HasItsLiteral Store n = IsLiteral Store n
+HasItsLiteral op n = n ≡ pos 0
+
+pub record IsGoodOp (names : Names) (o : SrcOp) : Type 0 where
+  pub op : IsOfText o.op
+  pub reads : ReadsItsKinds names o.op o.srcs
+  pub assigns : AssignsItsKind names o.op o.dst
+  pub literal : HasItsLiteral o.op o.imm
+  pub callee : NamesItsCallee o.op o.callee
+
+-- ---- terminators
+
+-- a branch goes by a truth value, a return gives a word
+abbrev pub TestsItsKind : Names → Term → Type 0
+TestsItsKind names Fall = Unit {0}
+TestsItsKind names (Jump to) = Unit {0}
+TestsItsKind names (Branch pred sense to) = IsOfKind names Pred pred
+TestsItsKind names (Ret None) = Unit {0}
+TestsItsKind names (Ret (Some name)) = IsOfKind names General name
+
+-- the terminator of block b leads to blocks of the function, and never to the entry; so the last block jumps or returns
+abbrev pub LeadsInside : List Block → ℕ → Term → Type 0
+LeadsInside blocks b term = All (λ (c : ℕ). (0 < c) × (c < length blocks)) (targets_of b term)
+
+-- whether a return gives a value
+abbrev pub gives_value : Term → Option Bool
+gives_value (Ret value) = Some (is_some value)
+gives_value _ = None
+
+-- both give a value or neither does, where both return
+abbrev pub ReturnAlike : Block → Block → Type 0
+ReturnAlike a b = (x y : Bool) → gives_value a.term ≡ Some x → gives_value b.term ≡ Some y → x ≡ y
+
+-- ---- blocks
+
+pub record IsGoodBlock (names : Names) (block : Block) : Type 0 where
+  pub label : IsName block.label
+  pub freq : (1 ≤ block.freq) × (block.freq ≤ FREQUENCY)
+  pub ops : All (IsGoodOp names) block.ops
+  pub tests : TestsItsKind names block.term
+
+-- ---- functions
+
+-- a function with this name, these parameters, names and blocks
+pub record IsWellFormed (name : List ℕ) (params : List NameId) (names : Names) (blocks : List Block) : Type 0 where
+  pub named : IsName name
+  pub params_are_words : All (IsOfKind names General) params
+  pub few_params : length params ≤ PARAMS
+  pub distinct_params : AllPairs (λ (a b : NameId). a ≢ b) params
+  pub all_named : All (λ (n : List ℕ × Kind). IsName n.0) names
+  pub few_names : length names ≤ NAMES
+  pub distinct_names : AllPairs (λ (a b : List ℕ × Kind). a ≢ b) names
+  pub numbered : AreNumbered (length names) params blocks
+  pub entry : 0 < length blocks
+  pub few_blocks : length blocks ≤ BLOCKS
+  pub distinct_labels : AllPairs (λ (a b : Block). a.label ≢ b.label) blocks
+  pub good_blocks : All (IsGoodBlock names) blocks
+  pub few_ops : length (flat_map (λ (b : Block). b.ops) blocks) ≤ OPS
+  pub leads : (b : ℕ) (block : Block) → slice_get blocks b ≡ Some block → LeadsInside blocks b block.term
+  pub alike : AllPairs ReturnAlike blocks
+  -- only parameters are live at the start of the entry
+  pub live : (name : NameId) → IsLive blocks name 0 0 → Contains params name
