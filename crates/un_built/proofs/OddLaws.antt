@@ -1,7 +1,7 @@
 -- The lines before a place, which are built, one line more, and all.
 use Rattle.std.proofs.Common.{◌≡◌, ℕ, ◌+◌, ◌<◌, ◌≤◌, ◌++◌, true, cond, List, [], ◌∷◌, length, take, get_or, refl, sym, ap, ◌∙◌, subst, zero-add, arith, if◌then◌else◌}
 use Rattle.std.specs.List.{count_by}
-use Rattle.std.proofs.lemmas.List.{take_more}
+use Rattle.std.proofs.lemmas.List.{take_more, get_or-take, length-take-le}
 use Rattle.std.proofs.lemmas.List.Elements.{All-more}
 use Rattle.std.proofs.lemmas.List.Sums.{sum_by-append}
 use Rattle.un_ir.specs.Text.{Names}
@@ -70,3 +70,18 @@ seen_more lines place line ns bs names blocks seen w good =
         few_names = subst (λ (all : Names). length all ≤ PLAIN_NAMES) named good.2;
       };
     }
+
+-- lines that are built up to this one make it a line that is built
+pub built_here : (lines : List Line) (place : ℕ) (line : Line) (ns : Names) (bs : ℕ) (names : Names) (blocks : ℕ)
+    → Seen lines place ns bs → With lines place line ns bs names blocks → AreBuilt (take (place + 1) lines)
+    → (is_built_line line ≡ true) × (blocks ≤ 1) × (length names ≤ PLAIN_NAMES)
+built_here lines place line ns bs names blocks seen w all =
+    let at : get_or (take (place + 1) lines) place line ≡ line = get_or-take (place + 1) lines place line (omega arith) ∙ sym w.here in
+    let long : length (take (place + 1) lines) ≡ place + 1 = length-take-le (place + 1) lines (below_more place (length lines) w.below) in (
+      subst (λ (l : Line). is_built_line l ≡ true) at (all.kinds place line (subst (λ (n : ℕ). place < n) (sym long) (omega arith))),
+      subst (λ (n : ℕ). n ≤ 1) (sym (counted_more lines place line ns bs names blocks seen w)) all.one_block,
+      subst (λ (kept : Names). length kept ≤ PLAIN_NAMES) (sym (named_more lines place line ns bs names blocks seen w)) all.few_names,
+    )
+  where
+    below_more : (a b : ℕ) → a < b → a + 1 ≤ b
+    below_more a b h = omega (arith, h)

@@ -14,6 +14,7 @@ use un_plain::limits::PLAIN_NAMES;
 use un_reader::before::add_line;
 use un_reader::limits::TEXT;
 use un_reader::line::{Line, TermLine};
+use un_reader::names::Names;
 use un_reader::pieces::{content, first_len};
 use un_reader::shape::read_line;
 use un_reader::text_fault::is_block;
@@ -62,7 +63,7 @@ fn blocks_with(blocks: usize, line: &Line) -> usize
 fn odd_place(alloc: Global, lines: &[Line]) -> Result<usize, NoMemory>
     ensures { IfOk result (IsOddPlace lines.now) }
 {
-    let mut names = Items::new(alloc);
+    let mut names = Names::new(alloc);
     let mut blocks = 0;
     for (i, line) in lines.iter().enumerate() {
         add_line(&mut names, line)?;

@@ -25,7 +25,7 @@ pub const PARAMS: u32 = 6;
 pub const FREQUENCY: u32 = 1_000_000;
 
 /// What a name stands for: a word, or a truth value.
-#[derive(Clone, Copy, Debug, PartialEq, Eq)]
+#[derive(Clone, Copy, Debug, Hash, PartialEq, Eq)]
 pub enum Kind {
     General,
     Pred,

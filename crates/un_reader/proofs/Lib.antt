@@ -1,7 +1,9 @@
 pub mod BeforeLaws
 pub mod CheckLaws
 pub mod EntryLaws
+pub mod NameEq
 pub mod NumberLaws
 pub mod PieceLaws
 pub mod ReadLaws
+pub mod RepeatLaws
 pub mod WordLaws

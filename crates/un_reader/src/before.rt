@@ -8,6 +8,7 @@ ghost use Rattle.un_reader.specs.Noted.{noted};
 
 use crate::forms::is_text;
 use crate::line::{Line, OpLine, TermLine};
+use crate::names::Names;
 use std::alloc::Global;
 use un_base::memory_error::NoMemory;
 use un_base::name::Name;
@@ -20,7 +21,7 @@ use un_lists::items::Items;
 pub struct Before {
     pub name: Option<Name>,
     pub labels: Items<Name>,
-    pub names: Items<(Name, Kind)>,
+    pub names: Names,
     pub ops: usize,
     pub ended: bool,
 }
@@ -42,53 +43,35 @@ pub fn same_name(a: &(Name, Kind), b: &(Name, Kind)) -> bool
     is_text(a.0.as_bytes(), b.0.as_bytes()) && same_kind(a.1, b.1)
 }
 
-/// Whether the name is in the list.
-pub fn has_name(names: &[(Name, Kind)], name: &(Name, Kind)) -> bool
-    ensures { result ≡ list_any (same_name name.now) names.now }
-{
-    names.iter().any(|n| same_name(name, n))
-}
-
-/// Gives the name the next place, where it has none.
-fn add_name(names: &mut Items<(Name, Kind)>, name: &(Name, Kind)) -> Result<(), NoMemory>
-    ensures { OnOk result (names.new ≡ add_name names.old name.now) }
-{
-    if has_name(names.as_slice(), name) {
-        return Ok(());
-    }
-    names.push(*name)?;
-    Ok(())
-}
-
-/// Gives each name of the list that has none a place, in their order.
-fn add_names(names: &mut Items<(Name, Kind)>, more: &[(Name, Kind)]) -> Result<(), NoMemory>
+/// Gives each name of the list that has none a number, in their order.
+fn add_names(names: &mut Names, more: &[(Name, Kind)]) -> Result<(), NoMemory>
     ensures { OnOk result (names.new ≡ numbered names.old more.now) }
 {
     for name in more {
-        add_name(names, name)?;
+        names.add(name)?;
     }
     Ok(())
 }
 
 /// The same for an operation's names: first its result's.
-fn add_op(names: &mut Items<(Name, Kind)>, o: &OpLine) -> Result<(), NoMemory>
+fn add_op(names: &mut Names, o: &OpLine) -> Result<(), NoMemory>
     ensures { OnOk result (names.new ≡ numbered names.old (names_on (Line.Operation o.now))) }
 {
     if let Some(dst) = &o.dst {
-        add_name(names, dst)?;
+        names.add(dst)?;
     }
     add_names(names, o.srcs.as_slice())
 }
 
 /// The same for a line's names.
-pub fn add_line(names: &mut Items<(Name, Kind)>, line: &Line) -> Result<(), NoMemory>
+pub fn add_line(names: &mut Names, line: &Line) -> Result<(), NoMemory>
     ensures { OnOk result (names.new ≡ numbered names.old (names_on line.now)) }
 {
     match line {
         Line::Func { params, .. } => add_names(names, params.as_slice()),
         Line::Operation(o) => add_op(names, o),
-        Line::Terminator(TermLine::Branch { pred, .. }) => add_name(names, pred),
-        Line::Terminator(TermLine::Ret(Some(name))) => add_name(names, name),
+        Line::Terminator(TermLine::Branch { pred, .. }) => names.add(pred),
+        Line::Terminator(TermLine::Ret(Some(name))) => names.add(name),
         _ => Ok(()),
     }
 }
@@ -143,7 +126,7 @@ impl Before {
         Before {
             name: None,
             labels: Items::new(alloc),
-            names: Items::new(alloc),
+            names: Names::new(alloc),
             ops: 0,
             ended: false,
         }

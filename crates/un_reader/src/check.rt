@@ -53,7 +53,7 @@ fn good_line(alloc: Global, before: &Before, bytes: &[u8], place: usize) -> Resu
     }
     match shape(alloc, bytes)? {
         None => Err(fault_of(place + 1, Fault::BadLine)),
-        Some(line) => match shaped_fault(before, &line)? {
+        Some(line) => match shaped_fault(alloc, before, &line)? {
             None => Ok(line),
             Some(fault) => Err(fault_of(place + 1, fault)),
         },

@@ -12,6 +12,8 @@ pub mod limits;
 pub mod line;
 pub mod line_fault;
 pub mod meeting;
+pub mod names;
+mod new_names;
 pub mod number;
 pub mod pieces;
 pub mod read;

@@ -5,11 +5,13 @@ ghost use Rattle.std.specs.List.{list_any, list_all};
 ghost use Rattle.std.specs.Str.{bytes_eq};
 ghost use Rattle.un_reader.specs.LineFaults.{is_plain_byte, has_repeat, is_misplaced, is_predicate, result_kind, operands_clash, result_clashes, term_clashes, has_clash, is_over_limit, has_too_many, fits_signed, fits_unsigned, fits_offset, literal_fits, is_wide, freq_fits, has_bad_freq, repeats_label, is_body, is_before_block, is_after_end, first_of, faults_on, line_fault, line_of};
 
-use crate::before::{Before, add_line, has_name, same_kind};
+use crate::before::{Before, same_kind};
 use crate::fault::Fault;
 use crate::forms::is_text;
 use crate::limits::PARAMS;
 use crate::line::{Line, OpLine, TermLine};
+use crate::names::Names;
+use crate::new_names::new_names;
 use crate::token::Number;
 use std::alloc::Global;
 use un_base::memory_error::NoMemory;
@@ -32,27 +34,33 @@ pub fn are_plain(bytes: &[u8]) -> bool
 }
 
 /// Whether a name stands in the list twice.
-fn has_repeat(names: &[(Name, Kind)]) -> bool
-    ensures { result ≡ has_repeat names.now }
+fn has_repeat(alloc: Global, names: &[(Name, Kind)]) -> Result<bool, NoMemory>
+    ensures { IfOk result (λ repeats. repeats ≡ has_repeat names.now) }
 {
-    let mut rest = names;
-    while let Some((name, more)) = rest.split_first() {
-        if has_name(more, name) {
-            return true;
+    let mut seen = Names::new(alloc);
+    for name in names {
+        if seen.has(name) {
+            return Ok(true);
         }
-        rest = more;
+        seen.add(name)?;
     }
-    false
+    Ok(false)
 }
 
 /// Whether a `func` line is not the first or repeats a parameter, or another line is the first.
-fn is_misplaced(before: &Before, line: &Line) -> bool
-    ensures { result ≡ is_misplaced before.now line.now }
+fn is_misplaced(alloc: Global, before: &Before, line: &Line) -> Result<bool, NoMemory>
+    ensures { IfOk result (λ misplaced. misplaced ≡ is_misplaced before.now line.now) }
 {
     match line {
-        Line::Blank => false,
-        Line::Func { params, .. } => before.name.is_some() || has_repeat(params.as_slice()),
-        _ => before.name.is_none(),
+        Line::Blank => Ok(false),
+        Line::Func { params, .. } => {
+            if before.name.is_some() {
+                Ok(true)
+            } else {
+                has_repeat(alloc, params.as_slice())
+            }
+        }
+        _ => Ok(before.name.is_none()),
     }
 }
 
@@ -149,15 +157,14 @@ fn is_over_limit(before: &Before, line: &Line) -> bool
 }
 
 /// Whether there is one of these, or a 41st name.
-fn has_too_many(before: &Before, line: &Line) -> Result<bool, NoMemory>
+fn has_too_many(alloc: Global, before: &Before, line: &Line) -> Result<bool, NoMemory>
     ensures { IfOk result (λ many. many ≡ has_too_many before.now line.now) }
 {
     if is_over_limit(before, line) {
         return Ok(true);
     }
-    let mut names = before.names.clone()?;
-    add_line(&mut names, line)?;
-    Ok((NAMES as usize) < names.len())
+    let new = new_names(alloc, &before.names, line)?;
+    Ok((NAMES as usize) < before.names.len() + new.len())
 }
 
 /// Whether the number is at least `-limit` and less than `limit`.
@@ -266,14 +273,14 @@ fn is_after_end(before: &Before, line: &Line) -> bool
 }
 
 /// The first fault of a line with a shape.
-pub fn shaped_fault(before: &Before, line: &Line) -> Result<Option<Fault>, NoMemory>
+pub fn shaped_fault(alloc: Global, before: &Before, line: &Line) -> Result<Option<Fault>, NoMemory>
     ensures { IfOk result (λ fault. fault ≡ first_of (faults_on before.now line.now)) }
 {
-    let fault = if is_misplaced(before, line) {
+    let fault = if is_misplaced(alloc, before, line)? {
         Some(Fault::BadLine)
     } else if has_clash(line) {
         Some(Fault::KindClash)
-    } else if has_too_many(before, line)? {
+    } else if has_too_many(alloc, before, line)? {
         Some(Fault::TooMany)
     } else {
         late_fault(before, line)

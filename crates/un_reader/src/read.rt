@@ -81,7 +81,10 @@ fn good_function(alloc: Global, lines: &[Line], before: Before) -> Result<Functi
     } = before;
     match name {
         None => Err(fault_of(lines.len() + 1, Fault::NoBlock)),
-        Some(name) => named_function(alloc, lines, name, names, labels.as_slice()),
+        Some(name) => {
+            let items = names.to_items(alloc)?;
+            named_function(alloc, lines, name, items, labels.as_slice())
+        }
     }
 }
 

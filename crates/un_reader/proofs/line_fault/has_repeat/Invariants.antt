@@ -1,10 +1,8 @@
--- no name so far stands behind itself
-use Rattle.std.proofs.Common.{◌≡◌, length}
+-- a name stands twice in the list where one that is left has been seen, or stands twice in what is left
+use Rattle.std.proofs.Common.{◌≡◌, drop}
 use Rattle.un_reader.specs.LineFaults.{has_repeat}
+use Rattle.un_reader.proofs.RepeatLaws.{repeats_after}
 use Rattle.un_reader.proofs.line_fault.has_repeat.Given as goal
 
 abbrev pub invariant-loop-name : goal.invariant-loop-name
-invariant-loop-name l = has_repeat l.names ≡ has_repeat l.rest
-
-abbrev pub decreases-loop-name : goal.decreases-loop-name
-decreases-loop-name l = length l.rest
+invariant-loop-name l = has_repeat l.names ≡ repeats_after l.seen (drop l.name-index l.names)
