@@ -5,3 +5,10 @@ pub mod NumberLaws
 pub mod PieceLaws
 pub mod ReadLaws
 pub mod WordLaws
+pub mod Each
+pub mod FirstNames
+pub mod TokenFacts
+pub mod SlotFacts
+pub mod OpShapes
+pub mod LineShapes
+pub mod Ranges
