@@ -12,3 +12,8 @@ pub mod SlotFacts
 pub mod OpShapes
 pub mod LineShapes
 pub mod Ranges
+pub mod OpFacts
+pub mod LineTests
+pub mod Stands
+pub mod BlockFacts
+pub mod Targets

@@ -2,6 +2,7 @@
 use Rattle.std.proofs.Common.{◌≡◌, ℕ, ℤ, pos, negsuc, zero, suc, ◌+◌, ◌-◌, ◌%◌, ◌^◌, ◌<◌, ◌≤◌, ◌≤ℤ◌, ◌&&◌, ◌||◌, ◌==◌, Bool, true, false, not, nat_lt, nat_le, min, List, [], ◌∷◌, if◌then◌else◌, refl, sym, ap, ◌∙◌, arith, subst}
 use Rattle.std.specs.Int.{int_rem_euclid}
 use Rattle.std.proofs.lemmas.Bool.Decides.{nat_tests, Decides-eqb, Decides-ltb}
+use Rattle.std.proofs.Math.Facts.{yes_leb}
 use Rattle.un_isa.specs.Operands.{IsSigned16, IsSigned10, IsUnsigned5, IsOffset}
 use Rattle.un_reader.specs.declared.token.Number.{Number}
 use Rattle.un_reader.specs.LineFaults.{fits_signed, fits_unsigned, fits_offset}
@@ -33,12 +34,12 @@ signed_size limit n h = by (nat_lt n.size limit) refl (n.size == limit) refl (or
         record { bound = omega arith; last = λ p. absurd (cc (sym p ∙ both.0)) }
 
 negative_low : (limit k : ℕ) → k ≤ suc limit → negsuc limit ≤ℤ negated k
-negative_low limit zero h = omega arith
-negative_low limit (suc k) h = omega arith
+negative_low limit zero h = omega (arith, yes_leb)
+negative_low limit (suc k) h = omega (arith, yes_leb)
 
 negative_high : (high k : ℕ) → negated k ≤ℤ pos high
-negative_high high zero = omega arith
-negative_high high (suc k) = omega arith
+negative_high high zero = omega (arith, yes_leb)
+negative_high high (suc k) = omega (arith, yes_leb)
 
 signed : (limit : ℕ) (n : Number) → suc limit < 2147483648 → fits_signed (suc limit) n ≡ true → (negsuc limit ≤ℤ literal_value n) × (literal_value n ≤ℤ pos limit)
 signed limit n small_limit h = by n.negative refl
@@ -58,10 +59,10 @@ signed limit n small_limit h = by n.negative refl
         rw is (low n.size, high n.size below)
       where
         low : (k : ℕ) → negsuc limit ≤ℤ pos k
-        low k = omega arith
+        low k = omega (arith, yes_leb)
 
         high : (k : ℕ) → k < suc limit → pos k ≤ℤ pos limit
-        high k h = omega arith
+        high k h = omega (arith, yes_leb)
 
 pub signed16 : (n : Number) → fits_signed 32768 n ≡ true → IsSigned16 (literal_value n)
 signed16 n h = signed 32767 n (omega arith) h
@@ -95,7 +96,7 @@ unsigned5 n h = by n.negative refl parts.1
         rw is (positive n.size below)
       where
         positive : (k : ℕ) → k < 32 → (pos 0 ≤ℤ pos k) × (pos k ≤ℤ pos 31)
-        positive k b = (omega arith, omega arith)
+        positive k b = (omega (arith, yes_leb), omega (arith, yes_leb))
 
 rem_negated : (k : ℕ) → k % 4 ≡ 0 → int_rem_euclid (negated k) (pos 4) ≡ pos 0
 rem_negated zero h = refl
@@ -122,13 +123,13 @@ offset n h = by n.negative refl
     by : (v : Bool) → n.negative ≡ v → IsOffset (literal_value n)
     by true f =
         let is : literal_value n ≡ negated n.size = e ∙ ap (λ (v : Bool). if v then negated n.size else pos n.size) f in
-        rw is (negative_low 4095 n.size size.bound, (negative_high 4092 n.size, rem_negated n.size four))
+        rw is (negative_low 4095 n.size size.bound, negative_high 4092 n.size, rem_negated n.size four)
     by false f =
         let is : literal_value n ≡ pos n.size = e ∙ ap (λ (v : Bool). if v then negated n.size else pos n.size) f in
-        rw is (low n.size, (high n.size (offset_high n.size (size.last f) four), ap pos four))
+        rw is (low n.size, high n.size (offset_high n.size (size.last f) four), ap pos four)
       where
         low : (k : ℕ) → negsuc 4095 ≤ℤ pos k
-        low k = omega arith
+        low k = omega (arith, yes_leb)
 
         high : (k : ℕ) → k ≤ 4092 → pos k ≤ℤ pos 4092
-        high k h = omega arith
+        high k h = omega (arith, yes_leb)
