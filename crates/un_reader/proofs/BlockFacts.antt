@@ -160,7 +160,7 @@ module _ (names : List Spelled) (labels : List (List ℕ)) where
   good_blocks (Func name params ∷ lines) f = good_blocks lines f.1
   good_blocks (Block label freq ∷ lines) f =
       let here : IsGoodBlock names (record { label = label; freq = freq.size; ops = ops_of names lines; term = term_by names labels (term_of lines) }) =
-          record { label = f.0.0; freq = (f.0.1, f.0.2); ops = Each-All (IsGoodOp names) (ops_of names lines) (good_ops lines f.1); tests = good_term lines f.1 } in
+      record { label = f.0.0; freq = (f.0.1, f.0.2); ops = Each-All (IsGoodOp names) (ops_of names lines) (good_ops lines f.1); tests = good_term lines f.1 } in
       (here, good_blocks lines f.1)
   good_blocks (Operation o ∷ lines) f = good_blocks lines f.1
   good_blocks (Terminator term ∷ lines) f = good_blocks lines f.1

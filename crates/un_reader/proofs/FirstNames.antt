@@ -201,7 +201,7 @@ numbers_from seen (x ∷ xs) names is = by (numbers_from seen xs names) (numbers
         let place : (name_id names x).0 ≡ length seen = ap (position_or_len (same_name x)) cut ∙ place_new (same_name x) seen x front.more e (name_itself x) in
         let lacks : list_any (nat_eq (name_id names x).0) (range_with_len 0 (length seen)) ≡ false = range_lacks 0 (length seen) (name_id names x).0 (omega (arith, place)) in
         let more : range_with_len 0 (length seen) ++ (name_id names x).0 ∷ [] ≡ range_with_len 0 (length (seen ++ x ∷ [])) =
-            range_push 0 (length seen) (name_id names x).0 (omega (arith, place)) ∙ ap (range_with_len 0) (sym (length_more seen x)) in
+        range_push 0 (length seen) (name_id names x).0 (omega (arith, place)) ∙ ap (range_with_len 0) (sym (length_more seen x)) in
         rw (lacks, more) (new whole)
 
 -- names have the numbers of their first appearance

@@ -17,3 +17,6 @@ pub mod LineTests
 pub mod Stands
 pub mod BlockFacts
 pub mod Targets
+pub mod Leads
+pub mod Counts
+pub mod WellFormed

@@ -70,121 +70,301 @@ Reads names op = (srcs : List Spelled) → Counted op (length srcs) → operands
     → ReadsItsKinds names op (map (name_id names) srcs)
 
 all_read : (names : List Spelled) → Each (Reads names) text_ops
-all_read names =
-    (λ srcs c clash few known. all_words names srcs (operand_kinds Imm) known clash c refl,
-    (λ srcs c clash few known. all_words names srcs (operand_kinds Mov) known clash c refl,
-    (λ srcs c clash few known. all_words names srcs (operand_kinds Add) known clash c refl,
-    (λ srcs c clash few known. all_words names srcs (operand_kinds Sub) known clash c refl,
-    (λ srcs c clash few known. all_words names srcs (operand_kinds And) known clash c refl,
-    (λ srcs c clash few known. all_words names srcs (operand_kinds Or) known clash c refl,
-    (λ srcs c clash few known. all_words names srcs (operand_kinds Xor) known clash c refl,
-    (λ srcs c clash few known. all_words names srcs (operand_kinds Addi) known clash c refl,
-    (λ srcs c clash few known. all_words names srcs (operand_kinds Andi) known clash c refl,
-    (λ srcs c clash few known. all_words names srcs (operand_kinds Ori) known clash c refl,
-    (λ srcs c clash few known. mux_words names srcs c clash known,
-    (λ srcs c clash few known. all_words names srcs (operand_kinds CmpEq) known clash c refl,
-    (λ srcs c clash few known. all_words names srcs (operand_kinds CmpGt) known clash c refl,
-    (λ srcs c clash few known. all_words names srcs (operand_kinds CmpGtu) known clash c refl,
-    (λ srcs c clash few known. all_words names srcs (operand_kinds CmpEqi) known clash c refl,
-    (λ srcs c clash few known. all_words names srcs (operand_kinds CmpGti) known clash c refl,
-    (λ srcs c clash few known. all_words names srcs (operand_kinds Mpyi) known clash c refl,
-    (λ srcs c clash few known. all_words names srcs (operand_kinds Asl) known clash c refl,
-    (λ srcs c clash few known. all_words names srcs (operand_kinds Asr) known clash c refl,
-    (λ srcs c clash few known. all_words names srcs (operand_kinds Lsr) known clash c refl,
-    (λ srcs c clash few known. all_words names srcs (operand_kinds Load) known clash c refl,
-    (λ srcs c clash few known. all_words names srcs (operand_kinds Store) known clash c refl,
-    (λ srcs c clash few known. (Each-All (IsOfKind names General) (map (name_id names) srcs) (are_words names srcs known clash), few),
-    tt)))))))))))))))))))))))
+all_read names = (
+  λ srcs c clash few known. all_words names srcs (operand_kinds Imm) known clash c refl,
+  (
+    λ srcs c clash few known. all_words names srcs (operand_kinds Mov) known clash c refl,
+    (
+      λ srcs c clash few known. all_words names srcs (operand_kinds Add) known clash c refl,
+      (
+        λ srcs c clash few known. all_words names srcs (operand_kinds Sub) known clash c refl,
+        (
+          λ srcs c clash few known. all_words names srcs (operand_kinds And) known clash c refl,
+          (
+            λ srcs c clash few known. all_words names srcs (operand_kinds Or) known clash c refl,
+            (
+              λ srcs c clash few known. all_words names srcs (operand_kinds Xor) known clash c refl,
+              (
+                λ srcs c clash few known. all_words names srcs (operand_kinds Addi) known clash c refl,
+                (
+                  λ srcs c clash few known. all_words names srcs (operand_kinds Andi) known clash c refl,
+                  (
+                    λ srcs c clash few known. all_words names srcs (operand_kinds Ori) known clash c refl,
+                    (
+                      λ srcs c clash few known. mux_words names srcs c clash known,
+                      (
+                        λ srcs c clash few known. all_words names srcs (operand_kinds CmpEq) known clash c refl,
+                        (
+                          λ srcs c clash few known. all_words names srcs (operand_kinds CmpGt) known clash c refl,
+                          (
+                            λ srcs c clash few known. all_words names srcs (operand_kinds CmpGtu) known clash c refl,
+                            (
+                              λ srcs c clash few known. all_words names srcs (operand_kinds CmpEqi) known clash c refl,
+                              (
+                                λ srcs c clash few known. all_words names srcs (operand_kinds CmpGti) known clash c refl,
+                                (
+                                  λ srcs c clash few known. all_words names srcs (operand_kinds Mpyi) known clash c refl,
+                                  (
+                                    λ srcs c clash few known. all_words names srcs (operand_kinds Asl) known clash c refl,
+                                    (
+                                      λ srcs c clash few known. all_words names srcs (operand_kinds Asr) known clash c refl,
+                                      (
+                                        λ srcs c clash few known. all_words names srcs (operand_kinds Lsr) known clash c refl,
+                                        (
+                                          λ srcs c clash few known. all_words names srcs (operand_kinds Load) known clash c refl,
+                                          (
+                                            λ srcs c clash few known. all_words names srcs (operand_kinds Store) known clash c refl,
+                                            (
+                                              λ srcs c clash few known. (Each-All (IsOfKind names General) (map (name_id names) srcs) (are_words names srcs known clash), few),
+                                              tt,
+                                            ),
+                                          ),
+                                        ),
+                                      ),
+                                    ),
+                                  ),
+                                ),
+                              ),
+                            ),
+                          ),
+                        ),
+                      ),
+                    ),
+                  ),
+                ),
+              ),
+            ),
+          ),
+        ),
+      ),
+    ),
+  ),
+)
 
 abbrev AssignsSome : List Spelled → Spelled → Op → Type 0
 AssignsSome names x op = result_fits op (Some x) ≡ true → result_clashes op (Some x) ≡ false → AssignsItsKind names op (Some (name_id names x))
 
 all_assign_some : (names : List Spelled) (x : Spelled) → IsKnown names x → Each (AssignsSome names x) text_ops
-all_assign_some names x known =
-    (λ f clash. known ∙ ap Some (kind_matches (result_kind Imm) x.1 clash),
-    (λ f clash. known ∙ ap Some (kind_matches (result_kind Mov) x.1 clash),
-    (λ f clash. known ∙ ap Some (kind_matches (result_kind Add) x.1 clash),
-    (λ f clash. known ∙ ap Some (kind_matches (result_kind Sub) x.1 clash),
-    (λ f clash. known ∙ ap Some (kind_matches (result_kind And) x.1 clash),
-    (λ f clash. known ∙ ap Some (kind_matches (result_kind Or) x.1 clash),
-    (λ f clash. known ∙ ap Some (kind_matches (result_kind Xor) x.1 clash),
-    (λ f clash. known ∙ ap Some (kind_matches (result_kind Addi) x.1 clash),
-    (λ f clash. known ∙ ap Some (kind_matches (result_kind Andi) x.1 clash),
-    (λ f clash. known ∙ ap Some (kind_matches (result_kind Ori) x.1 clash),
-    (λ f clash. known ∙ ap Some (kind_matches (result_kind Mux) x.1 clash),
-    (λ f clash. known ∙ ap Some (kind_matches (result_kind CmpEq) x.1 clash),
-    (λ f clash. known ∙ ap Some (kind_matches (result_kind CmpGt) x.1 clash),
-    (λ f clash. known ∙ ap Some (kind_matches (result_kind CmpGtu) x.1 clash),
-    (λ f clash. known ∙ ap Some (kind_matches (result_kind CmpEqi) x.1 clash),
-    (λ f clash. known ∙ ap Some (kind_matches (result_kind CmpGti) x.1 clash),
-    (λ f clash. known ∙ ap Some (kind_matches (result_kind Mpyi) x.1 clash),
-    (λ f clash. known ∙ ap Some (kind_matches (result_kind Asl) x.1 clash),
-    (λ f clash. known ∙ ap Some (kind_matches (result_kind Asr) x.1 clash),
-    (λ f clash. known ∙ ap Some (kind_matches (result_kind Lsr) x.1 clash),
-    (λ f clash. known ∙ ap Some (kind_matches (result_kind Load) x.1 clash),
-    (λ f clash. absurd (cc f),
-    (λ f clash. known ∙ ap Some (kind_matches (result_kind Call) x.1 clash),
-    tt)))))))))))))))))))))))
+all_assign_some names x known = (
+  λ f clash. known ∙ ap Some (kind_matches (result_kind Imm) x.1 clash),
+  (
+    λ f clash. known ∙ ap Some (kind_matches (result_kind Mov) x.1 clash),
+    (
+      λ f clash. known ∙ ap Some (kind_matches (result_kind Add) x.1 clash),
+      (
+        λ f clash. known ∙ ap Some (kind_matches (result_kind Sub) x.1 clash),
+        (
+          λ f clash. known ∙ ap Some (kind_matches (result_kind And) x.1 clash),
+          (
+            λ f clash. known ∙ ap Some (kind_matches (result_kind Or) x.1 clash),
+            (
+              λ f clash. known ∙ ap Some (kind_matches (result_kind Xor) x.1 clash),
+              (
+                λ f clash. known ∙ ap Some (kind_matches (result_kind Addi) x.1 clash),
+                (
+                  λ f clash. known ∙ ap Some (kind_matches (result_kind Andi) x.1 clash),
+                  (
+                    λ f clash. known ∙ ap Some (kind_matches (result_kind Ori) x.1 clash),
+                    (
+                      λ f clash. known ∙ ap Some (kind_matches (result_kind Mux) x.1 clash),
+                      (
+                        λ f clash. known ∙ ap Some (kind_matches (result_kind CmpEq) x.1 clash),
+                        (
+                          λ f clash. known ∙ ap Some (kind_matches (result_kind CmpGt) x.1 clash),
+                          (
+                            λ f clash. known ∙ ap Some (kind_matches (result_kind CmpGtu) x.1 clash),
+                            (
+                              λ f clash. known ∙ ap Some (kind_matches (result_kind CmpEqi) x.1 clash),
+                              (
+                                λ f clash. known ∙ ap Some (kind_matches (result_kind CmpGti) x.1 clash),
+                                (
+                                  λ f clash. known ∙ ap Some (kind_matches (result_kind Mpyi) x.1 clash),
+                                  (
+                                    λ f clash. known ∙ ap Some (kind_matches (result_kind Asl) x.1 clash),
+                                    (
+                                      λ f clash. known ∙ ap Some (kind_matches (result_kind Asr) x.1 clash),
+                                      (
+                                        λ f clash. known ∙ ap Some (kind_matches (result_kind Lsr) x.1 clash),
+                                        (
+                                          λ f clash. known ∙ ap Some (kind_matches (result_kind Load) x.1 clash),
+                                          (
+                                            λ f clash. absurd (cc f),
+                                            (
+                                              λ f clash. known ∙ ap Some (kind_matches (result_kind Call) x.1 clash),
+                                              tt,
+                                            ),
+                                          ),
+                                        ),
+                                      ),
+                                    ),
+                                  ),
+                                ),
+                              ),
+                            ),
+                          ),
+                        ),
+                      ),
+                    ),
+                  ),
+                ),
+              ),
+            ),
+          ),
+        ),
+      ),
+    ),
+  ),
+)
 
 abbrev AssignsNone : List Spelled → Op → Type 0
 AssignsNone names op = result_fits op None ≡ true → AssignsItsKind names op None
 
 all_assign_none : (names : List Spelled) → Each (AssignsNone names) text_ops
-all_assign_none names =
-    (λ f. absurd (cc f),
-    (λ f. absurd (cc f),
-    (λ f. absurd (cc f),
-    (λ f. absurd (cc f),
-    (λ f. absurd (cc f),
-    (λ f. absurd (cc f),
-    (λ f. absurd (cc f),
-    (λ f. absurd (cc f),
-    (λ f. absurd (cc f),
-    (λ f. absurd (cc f),
-    (λ f. absurd (cc f),
-    (λ f. absurd (cc f),
-    (λ f. absurd (cc f),
-    (λ f. absurd (cc f),
-    (λ f. absurd (cc f),
-    (λ f. absurd (cc f),
-    (λ f. absurd (cc f),
-    (λ f. absurd (cc f),
-    (λ f. absurd (cc f),
-    (λ f. absurd (cc f),
-    (λ f. absurd (cc f),
-    (λ f. refl,
-    (λ f. tt,
-    tt)))))))))))))))))))))))
+all_assign_none names = (
+  λ f. absurd (cc f),
+  (
+    λ f. absurd (cc f),
+    (
+      λ f. absurd (cc f),
+      (
+        λ f. absurd (cc f),
+        (
+          λ f. absurd (cc f),
+          (
+            λ f. absurd (cc f),
+            (
+              λ f. absurd (cc f),
+              (
+                λ f. absurd (cc f),
+                (
+                  λ f. absurd (cc f),
+                  (
+                    λ f. absurd (cc f),
+                    (
+                      λ f. absurd (cc f),
+                      (
+                        λ f. absurd (cc f),
+                        (
+                          λ f. absurd (cc f),
+                          (
+                            λ f. absurd (cc f),
+                            (
+                              λ f. absurd (cc f),
+                              (
+                                λ f. absurd (cc f),
+                                (
+                                  λ f. absurd (cc f),
+                                  (
+                                    λ f. absurd (cc f),
+                                    (
+                                      λ f. absurd (cc f),
+                                      (
+                                        λ f. absurd (cc f),
+                                        (
+                                          λ f. absurd (cc f),
+                                          (
+                                            λ f. refl,
+                                            (
+                                              λ f. tt,
+                                              tt,
+                                            ),
+                                          ),
+                                        ),
+                                      ),
+                                    ),
+                                  ),
+                                ),
+                              ),
+                            ),
+                          ),
+                        ),
+                      ),
+                    ),
+                  ),
+                ),
+              ),
+            ),
+          ),
+        ),
+      ),
+    ),
+  ),
+)
 
 abbrev FitsLiteral : Op → Type 0
 FitsLiteral op = (n : Number) → literal_fits op n ≡ true → LacksLiteral op n → HasItsLiteral op (literal_value n)
 
 all_literals : Each FitsLiteral text_ops
-all_literals =
-    (λ n f l. signed16 n f,
-    (λ n f l. ap literal_value l,
-    (λ n f l. ap literal_value l,
-    (λ n f l. ap literal_value l,
-    (λ n f l. ap literal_value l,
-    (λ n f l. ap literal_value l,
-    (λ n f l. ap literal_value l,
-    (λ n f l. signed16 n f,
-    (λ n f l. signed10 n f,
-    (λ n f l. signed10 n f,
-    (λ n f l. ap literal_value l,
-    (λ n f l. ap literal_value l,
-    (λ n f l. ap literal_value l,
-    (λ n f l. ap literal_value l,
-    (λ n f l. signed10 n f,
-    (λ n f l. signed10 n f,
-    (λ n f l. ap literal_value l,
-    (λ n f l. unsigned5 n f,
-    (λ n f l. unsigned5 n f,
-    (λ n f l. unsigned5 n f,
-    (λ n f l. offset n f,
-    (λ n f l. offset n f,
-    (λ n f l. ap literal_value l,
-    tt)))))))))))))))))))))))
+all_literals = (
+  λ n f l. signed16 n f,
+  (
+    λ n f l. ap literal_value l,
+    (
+      λ n f l. ap literal_value l,
+      (
+        λ n f l. ap literal_value l,
+        (
+          λ n f l. ap literal_value l,
+          (
+            λ n f l. ap literal_value l,
+            (
+              λ n f l. ap literal_value l,
+              (
+                λ n f l. signed16 n f,
+                (
+                  λ n f l. signed10 n f,
+                  (
+                    λ n f l. signed10 n f,
+                    (
+                      λ n f l. ap literal_value l,
+                      (
+                        λ n f l. ap literal_value l,
+                        (
+                          λ n f l. ap literal_value l,
+                          (
+                            λ n f l. ap literal_value l,
+                            (
+                              λ n f l. signed10 n f,
+                              (
+                                λ n f l. signed10 n f,
+                                (
+                                  λ n f l. ap literal_value l,
+                                  (
+                                    λ n f l. unsigned5 n f,
+                                    (
+                                      λ n f l. unsigned5 n f,
+                                      (
+                                        λ n f l. unsigned5 n f,
+                                        (
+                                          λ n f l. offset n f,
+                                          (
+                                            λ n f l. offset n f,
+                                            (
+                                              λ n f l. ap literal_value l,
+                                              tt,
+                                            ),
+                                          ),
+                                        ),
+                                      ),
+                                    ),
+                                  ),
+                                ),
+                              ),
+                            ),
+                          ),
+                        ),
+                      ),
+                    ),
+                  ),
+                ),
+              ),
+            ),
+          ),
+        ),
+      ),
+    ),
+  ),
+)
 
 -- ---- an operation
 

@@ -67,31 +67,76 @@ call_behind word (t ∷ ts) g h = by t g.0 h
     by Other good hyp = absurd (cc hyp)
 
 all_behind : Each IsBehind text_ops
-all_behind =
-    (λ word ts g h. record { count = count_names (slots_of Imm) ts (are_formed (slots_of Imm) ts h); literal = tt; callee = refl },
-    (λ word ts g h. record { count = count_names (slots_of Mov) ts (are_formed (slots_of Mov) ts h); literal = no_literal (slots_of Mov) ts (are_formed (slots_of Mov) ts h) refl; callee = refl },
-    (λ word ts g h. record { count = count_names (slots_of Add) ts (are_formed (slots_of Add) ts h); literal = no_literal (slots_of Add) ts (are_formed (slots_of Add) ts h) refl; callee = refl },
-    (λ word ts g h. record { count = count_names (slots_of Sub) ts (are_formed (slots_of Sub) ts h); literal = no_literal (slots_of Sub) ts (are_formed (slots_of Sub) ts h) refl; callee = refl },
-    (λ word ts g h. record { count = count_names (slots_of And) ts (are_formed (slots_of And) ts h); literal = no_literal (slots_of And) ts (are_formed (slots_of And) ts h) refl; callee = refl },
-    (λ word ts g h. record { count = count_names (slots_of Or) ts (are_formed (slots_of Or) ts h); literal = no_literal (slots_of Or) ts (are_formed (slots_of Or) ts h) refl; callee = refl },
-    (λ word ts g h. record { count = count_names (slots_of Xor) ts (are_formed (slots_of Xor) ts h); literal = no_literal (slots_of Xor) ts (are_formed (slots_of Xor) ts h) refl; callee = refl },
-    (λ word ts g h. record { count = count_names (slots_of Addi) ts (are_formed (slots_of Addi) ts h); literal = tt; callee = refl },
-    (λ word ts g h. record { count = count_names (slots_of Andi) ts (are_formed (slots_of Andi) ts h); literal = tt; callee = refl },
-    (λ word ts g h. record { count = count_names (slots_of Ori) ts (are_formed (slots_of Ori) ts h); literal = tt; callee = refl },
-    (λ word ts g h. record { count = count_names (slots_of Mux) ts (are_formed (slots_of Mux) ts h); literal = no_literal (slots_of Mux) ts (are_formed (slots_of Mux) ts h) refl; callee = refl },
-    (λ word ts g h. record { count = count_names (slots_of CmpEq) ts (are_formed (slots_of CmpEq) ts h); literal = no_literal (slots_of CmpEq) ts (are_formed (slots_of CmpEq) ts h) refl; callee = refl },
-    (λ word ts g h. record { count = count_names (slots_of CmpGt) ts (are_formed (slots_of CmpGt) ts h); literal = no_literal (slots_of CmpGt) ts (are_formed (slots_of CmpGt) ts h) refl; callee = refl },
-    (λ word ts g h. record { count = count_names (slots_of CmpGtu) ts (are_formed (slots_of CmpGtu) ts h); literal = no_literal (slots_of CmpGtu) ts (are_formed (slots_of CmpGtu) ts h) refl; callee = refl },
-    (λ word ts g h. record { count = count_names (slots_of CmpEqi) ts (are_formed (slots_of CmpEqi) ts h); literal = tt; callee = refl },
-    (λ word ts g h. record { count = count_names (slots_of CmpGti) ts (are_formed (slots_of CmpGti) ts h); literal = tt; callee = refl },
-    (λ word ts g h. record { count = count_names (slots_of Mpyi) ts (are_formed (slots_of Mpyi) ts h); literal = no_literal (slots_of Mpyi) ts (are_formed (slots_of Mpyi) ts h) refl; callee = refl },
-    (λ word ts g h. record { count = count_names (slots_of Asl) ts (are_formed (slots_of Asl) ts h); literal = tt; callee = refl },
-    (λ word ts g h. record { count = count_names (slots_of Asr) ts (are_formed (slots_of Asr) ts h); literal = tt; callee = refl },
-    (λ word ts g h. record { count = count_names (slots_of Lsr) ts (are_formed (slots_of Lsr) ts h); literal = tt; callee = refl },
-    (λ word ts g h. record { count = count_names (slots_of Load) ts (are_formed (slots_of Load) ts h); literal = tt; callee = refl },
-    (λ word ts g h. record { count = count_names (slots_of Store) ts (are_formed (slots_of Store) ts h); literal = tt; callee = refl },
-    (call_behind,
-    tt)))))))))))))))))))))))
+all_behind = (
+  λ word ts g h. record { count = count_names (slots_of Imm) ts (are_formed (slots_of Imm) ts h); literal = tt; callee = refl },
+  (
+    λ word ts g h. record { count = count_names (slots_of Mov) ts (are_formed (slots_of Mov) ts h); literal = no_literal (slots_of Mov) ts (are_formed (slots_of Mov) ts h) refl; callee = refl },
+    (
+      λ word ts g h. record { count = count_names (slots_of Add) ts (are_formed (slots_of Add) ts h); literal = no_literal (slots_of Add) ts (are_formed (slots_of Add) ts h) refl; callee = refl },
+      (
+        λ word ts g h. record { count = count_names (slots_of Sub) ts (are_formed (slots_of Sub) ts h); literal = no_literal (slots_of Sub) ts (are_formed (slots_of Sub) ts h) refl; callee = refl },
+        (
+          λ word ts g h. record { count = count_names (slots_of And) ts (are_formed (slots_of And) ts h); literal = no_literal (slots_of And) ts (are_formed (slots_of And) ts h) refl; callee = refl },
+          (
+            λ word ts g h. record { count = count_names (slots_of Or) ts (are_formed (slots_of Or) ts h); literal = no_literal (slots_of Or) ts (are_formed (slots_of Or) ts h) refl; callee = refl },
+            (
+              λ word ts g h. record { count = count_names (slots_of Xor) ts (are_formed (slots_of Xor) ts h); literal = no_literal (slots_of Xor) ts (are_formed (slots_of Xor) ts h) refl; callee = refl },
+              (
+                λ word ts g h. record { count = count_names (slots_of Addi) ts (are_formed (slots_of Addi) ts h); literal = tt; callee = refl },
+                (
+                  λ word ts g h. record { count = count_names (slots_of Andi) ts (are_formed (slots_of Andi) ts h); literal = tt; callee = refl },
+                  (
+                    λ word ts g h. record { count = count_names (slots_of Ori) ts (are_formed (slots_of Ori) ts h); literal = tt; callee = refl },
+                    (
+                      λ word ts g h. record { count = count_names (slots_of Mux) ts (are_formed (slots_of Mux) ts h); literal = no_literal (slots_of Mux) ts (are_formed (slots_of Mux) ts h) refl; callee = refl },
+                      (
+                        λ word ts g h. record { count = count_names (slots_of CmpEq) ts (are_formed (slots_of CmpEq) ts h); literal = no_literal (slots_of CmpEq) ts (are_formed (slots_of CmpEq) ts h) refl; callee = refl },
+                        (
+                          λ word ts g h. record { count = count_names (slots_of CmpGt) ts (are_formed (slots_of CmpGt) ts h); literal = no_literal (slots_of CmpGt) ts (are_formed (slots_of CmpGt) ts h) refl; callee = refl },
+                          (
+                            λ word ts g h. record { count = count_names (slots_of CmpGtu) ts (are_formed (slots_of CmpGtu) ts h); literal = no_literal (slots_of CmpGtu) ts (are_formed (slots_of CmpGtu) ts h) refl; callee = refl },
+                            (
+                              λ word ts g h. record { count = count_names (slots_of CmpEqi) ts (are_formed (slots_of CmpEqi) ts h); literal = tt; callee = refl },
+                              (
+                                λ word ts g h. record { count = count_names (slots_of CmpGti) ts (are_formed (slots_of CmpGti) ts h); literal = tt; callee = refl },
+                                (
+                                  λ word ts g h. record { count = count_names (slots_of Mpyi) ts (are_formed (slots_of Mpyi) ts h); literal = no_literal (slots_of Mpyi) ts (are_formed (slots_of Mpyi) ts h) refl; callee = refl },
+                                  (
+                                    λ word ts g h. record { count = count_names (slots_of Asl) ts (are_formed (slots_of Asl) ts h); literal = tt; callee = refl },
+                                    (
+                                      λ word ts g h. record { count = count_names (slots_of Asr) ts (are_formed (slots_of Asr) ts h); literal = tt; callee = refl },
+                                      (
+                                        λ word ts g h. record { count = count_names (slots_of Lsr) ts (are_formed (slots_of Lsr) ts h); literal = tt; callee = refl },
+                                        (
+                                          λ word ts g h. record { count = count_names (slots_of Load) ts (are_formed (slots_of Load) ts h); literal = tt; callee = refl },
+                                          (
+                                            λ word ts g h. record { count = count_names (slots_of Store) ts (are_formed (slots_of Store) ts h); literal = tt; callee = refl },
+                                            (
+                                              call_behind,
+                                              tt,
+                                            ),
+                                          ),
+                                        ),
+                                      ),
+                                    ),
+                                  ),
+                                ),
+                              ),
+                            ),
+                          ),
+                        ),
+                      ),
+                    ),
+                  ),
+                ),
+              ),
+            ),
+          ),
+        ),
+      ),
+    ),
+  ),
+)
 
 -- ---- the line of an operation
 
