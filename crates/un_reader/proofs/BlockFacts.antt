@@ -1,6 +1,6 @@
 -- Blocks of lines without a fault: what each keeps, and how many operations they have.
-use Rattle.std.proofs.Common.{◌≡◌, ◌≢◌, ℕ, zero, suc, ◌+◌, ◌<◌, ◌≤◌, ◌++◌, ◌&&◌, ◌||◌, Bool, true, false, not, cond, nat_lt, nat_le, List, [], ◌∷◌, Option, Some, None, is_some, map, length, slice_get, if◌then◌else◌, refl, sym, ap, ◌∙◌, arith, subst}
-use Rattle.std.specs.List.{list_any, flat_map, cons_option, count_by}
+use Rattle.std.proofs.Common.{◌≡◌, ◌≢◌, ℕ, suc, ◌+◌, ◌<◌, ◌≤◌, ◌++◌, ◌&&◌, Bool, true, false, not, cond, nat_lt, nat_le, List, [], ◌∷◌, Some, None, is_some, map, length, slice_get, refl, sym, ap, ◌∙◌, arith, subst}
+use Rattle.std.specs.List.{list_any, flat_map, count_by}
 use Rattle.std.specs.Option.{option_map, option_to_list}
 use Rattle.std.proofs.lemmas.Bool.Decides.{Decides-ltb}
 use Rattle.std.proofs.lemmas.Bool.{leb-true}
@@ -9,25 +9,23 @@ use Rattle.std.proofs.lemmas.List.Sums.{sum_by-cons}
 use Rattle.un_base.specs.declared.ids.NameId.{NameId}
 use Rattle.un_ir.specs.declared.function.Kind.{Kind}
 use Rattle.un_ir.specs.declared.function.Kind.TheVariants.{General, Pred}
-use Rattle.un_ir.specs.declared.function.SrcOp.{SrcOp}
 use Rattle.un_ir.specs.declared.function.Block.{Block as SourceBlock}
 use Rattle.un_ir.specs.WellFormed.{IsOfKind, IsGoodOp, IsGoodBlock, TestsItsKind}
 use Rattle.un_reader.specs.declared.token.Number.{Number}
-use Rattle.un_reader.specs.declared.line.OpLine.{OpLine}
 use Rattle.un_reader.specs.declared.line.TermLine.{TermLine}
 use Rattle.un_reader.specs.declared.line.TermLine.TheVariants.{Jump, Branch, Ret}
 use Rattle.un_reader.specs.declared.line.Line.{Line}
 use Rattle.un_reader.specs.declared.line.Line.TheVariants.{Blank, Func, Block, Operation, Terminator}
 use Rattle.un_reader.specs.declared.before.Before.{Before}
 use Rattle.un_reader.specs.Tokens.{Spelled}
-use Rattle.un_reader.specs.Before.{same_name, names_on, names_on_term, label_on, labels_of, is_operation}
+use Rattle.un_reader.specs.Before.{same_name, names_on, names_on_term, labels_of, is_operation}
 use Rattle.un_reader.specs.Noted.{noted}
-use Rattle.un_reader.specs.TextFaults.{term_or, term_of}
-use Rattle.un_reader.specs.LineFaults.{has_repeat, is_predicate, term_clashes, has_clash, is_over_limit, literal_fits, freq_fits, operands_clash, result_clashes}
-use Rattle.un_reader.specs.Functions.{name_id, op_of, op_or, term_by, ops_of, block_on, blocks_of}
+use Rattle.un_reader.specs.TextFaults.{term_of}
+use Rattle.un_reader.specs.LineFaults.{has_repeat, is_predicate, term_clashes, is_over_limit, literal_fits, freq_fits, operands_clash, result_clashes}
+use Rattle.un_reader.specs.Functions.{name_id, op_of, term_by, ops_of, blocks_of}
 use Rattle.un_reader.proofs.Each.{Each, Each-All, Each-weaken, Each-left, Each-right, EachPair, EachPair-map, Each-none, or_false}
 use Rattle.un_reader.proofs.FirstNames.{name_itself}
-use Rattle.un_reader.proofs.TokenFacts.{IsNameWord, IsSpelled}
+use Rattle.un_reader.proofs.TokenFacts.{IsNameWord}
 use Rattle.un_reader.proofs.OpFacts.{IsKnown, kind_matches, word_kind, are_words, op_good}
 use Rattle.un_reader.proofs.LineTests.{IsClean, AreClean}
 

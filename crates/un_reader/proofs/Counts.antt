@@ -1,18 +1,15 @@
 -- Counts of lines without a fault, their labels, and the names on them.
-use Rattle.std.proofs.Common.{◌≡◌, ◌≢◌, ℕ, zero, suc, ◌+◌, ◌<◌, ◌≤◌, ◌++◌, ◌||◌, Bool, true, false, cond, nat_le, List, [], ◌∷◌, Option, Some, None, map, length, if◌then◌else◌, refl, sym, ap, ◌∙◌, arith, subst, append_assoc, append-nil}
-use Rattle.std.specs.List.{list_any, flat_map, count_by, sum_by}
+use Rattle.std.proofs.Common.{◌≡◌, ◌≢◌, ℕ, ◌+◌, ◌<◌, ◌≤◌, ◌++◌, false, cond, nat_le, List, [], ◌∷◌, length, if◌then◌else◌, sym, ◌∙◌, arith, subst, append_assoc, append-nil}
+use Rattle.std.specs.List.{flat_map, count_by}
 use Rattle.std.specs.Str.{bytes_eq}
 use Rattle.std.proofs.lemmas.Bool.{le-leb}
 use Rattle.std.proofs.lemmas.List.{length-append}
 use Rattle.std.proofs.lemmas.List.Sums.{sum_by-cons}
 use Rattle.std.proofs.lemmas.Slice.Eq.{bytes_eq-Decides}
 use Rattle.un_reader.specs.declared.token.Number.{Number}
-use Rattle.un_reader.specs.declared.line.OpLine.{OpLine}
-use Rattle.un_reader.specs.declared.line.TermLine.{TermLine}
 use Rattle.un_reader.specs.declared.line.Line.{Line}
 use Rattle.un_reader.specs.declared.line.Line.TheVariants.{Blank, Func, Block, Operation, Terminator}
 use Rattle.un_reader.specs.declared.before.Before.{Before}
-use Rattle.un_reader.specs.Tokens.{Spelled}
 use Rattle.un_reader.specs.Before.{names_on, labels_of, is_operation}
 use Rattle.un_reader.specs.Noted.{noted}
 use Rattle.un_reader.specs.LineFaults.{is_over_limit}

@@ -1,7 +1,6 @@
 -- What holds of each element of a list, by recursion on the list.
-use Rattle.std.proofs.Common.{◌≡◌, ◌≢◌, ℕ, zero, suc, ◌<◌, ◌≤◌, ◌++◌, ◌||◌, Bool, true, false, List, [], ◌∷◌, Option, Some, None, map, length, slice_get, All, Contains, refl, sym, ap, ◌∙◌, arith, subst}
-use Rattle.std.specs.List.{AllPairs, flat_map, filter_map, cons_option, list_any, list_all, find}
-use Rattle.std.specs.Option.{option_to_list}
+use Rattle.std.proofs.Common.{◌≡◌, ℕ, zero, suc, ◌++◌, ◌||◌, Bool, true, false, List, [], ◌∷◌, Some, map, slice_get, All, Contains, refl, arith, subst}
+use Rattle.std.specs.List.{AllPairs, flat_map, list_any}
 use Rattle.std.proofs.lemmas.List.Elements.{All-nil, All-cons, All-head, All-tail}
 use Rattle.std.proofs.lemmas.List.Kept.{AllPairs-cons}
 

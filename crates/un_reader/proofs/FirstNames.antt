@@ -1,11 +1,10 @@
 -- Names at their first appearance: their places, and the numbers that follow from these.
-use Rattle.std.proofs.Common.{◌≡◌, ◌≢◌, ℕ, zero, suc, ◌+◌, ◌<◌, ◌≤◌, ◌++◌, ◌||◌, ◌&&◌, Bool, true, false, nat_eq, cond, List, [], ◌∷◌, Option, Some, None, map, length, slice_get, Contains, if◌then◌else◌, refl, sym, ap, ◌∙◌, arith, subst, append-nil, append_assoc, add-one, add-zero}
+use Rattle.std.proofs.Common.{◌≡◌, ◌≢◌, ℕ, zero, suc, ◌+◌, ◌<◌, ◌≤◌, ◌++◌, ◌||◌, ◌&&◌, Bool, true, false, nat_eq, List, [], ◌∷◌, Some, map, length, slice_get, if◌then◌else◌, refl, sym, ap, ◌∙◌, arith, subst, append-nil, append_assoc}
 use Rattle.std.proofs.Math.Numerals.{one-add}
 use Rattle.std.specs.List.{list_any, fold, position_or_len, range_with_len}
 use Rattle.std.specs.Str.{bytes_eq}
 use Rattle.std.proofs.lemmas.Bool.Decides.{Decides-eqb}
 use Rattle.std.proofs.lemmas.Slice.Eq.{bytes_eq-Decides}
-use Rattle.un_base.specs.declared.ids.NameId.{NameId}
 use Rattle.un_ir.specs.declared.function.Kind.{Kind}
 use Rattle.un_ir.specs.declared.function.Kind.TheVariants.{General, Pred}
 use Rattle.un_ir.specs.Names.{see, first_appearances}

@@ -1,13 +1,12 @@
 -- Where the blocks of lines lead, and that their returns are alike.
-use Rattle.std.proofs.Common.{◌≡◌, ◌≢◌, ℕ, zero, suc, ◌+◌, ◌<◌, ◌≤◌, ◌++◌, Bool, true, false, List, [], ◌∷◌, Option, Some, None, is_some, map, length, slice_get, refl, sym, ap, ◌∙◌, arith, subst, append_assoc, add-zero}
+use Rattle.std.proofs.Common.{◌≡◌, ℕ, zero, suc, ◌+◌, ◌<◌, ◌++◌, Bool, true, false, List, [], ◌∷◌, Option, Some, None, length, slice_get, refl, sym, ap, ◌∙◌, arith, subst, append_assoc, add-zero}
 use Rattle.std.specs.List.{position}
-use Rattle.std.specs.Option.{option_map, option_map_or, option_and_then, option_or}
+use Rattle.std.specs.Option.{option_map_or, option_and_then, option_or}
 use Rattle.un_ir.specs.declared.function.Term.{Term}
 use Rattle.un_ir.specs.declared.function.Block.{Block as SourceBlock}
 use Rattle.un_ir.specs.Live.{targets_of}
 use Rattle.un_ir.specs.WellFormed.{gives_value, ReturnAlike}
 use Rattle.un_reader.specs.declared.token.Number.{Number}
-use Rattle.un_reader.specs.declared.line.OpLine.{OpLine}
 use Rattle.un_reader.specs.declared.line.TermLine.{TermLine}
 use Rattle.un_reader.specs.declared.line.TermLine.TheVariants.{Jump, Branch, Ret}
 use Rattle.un_reader.specs.declared.line.Line.{Line}

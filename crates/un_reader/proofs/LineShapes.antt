@@ -1,5 +1,5 @@
 -- What the shape of a line says: its names and labels are spelled as such, and an operation has the words that it needs.
-use Rattle.std.proofs.Common.{◌≡◌, ℕ, zero, suc, ◌&&◌, ◌==◌, Bool, true, false, List, [], ◌∷◌, length, drop, Option, Some, None, unwrap_or, codes, slice_get, if◌then◌else◌, refl, sym, ap, ◌∙◌}
+use Rattle.std.proofs.Common.{ℕ, ◌&&◌, ◌==◌, Bool, true, false, List, length, drop, Option, Some, None, unwrap_or, codes, slice_get, if◌then◌else◌}
 use Rattle.std.specs.List.{list_all}
 use Rattle.std.specs.Option.{option_map, option_map_or, option_and_then}
 use Rattle.un_reader.specs.declared.token.Number.{Number}
@@ -7,8 +7,6 @@ use Rattle.un_reader.specs.declared.token.Token.{Token}
 use Rattle.un_reader.specs.declared.slot.Slot.TheVariants.{Equals as EqualsSlot, Named as NamedSlot}
 use Rattle.un_reader.specs.declared.slot.Head.{Head}
 use Rattle.un_reader.specs.declared.slot.Head.TheVariants.{Nothing, Func as FuncHead, Block as BlockHead, Jump as JumpHead, If as IfHead, Ret as RetHead, Assigned, Bare, Unknown}
-use Rattle.un_reader.specs.declared.line.OpLine.{OpLine}
-use Rattle.un_reader.specs.declared.line.TermLine.{TermLine}
 use Rattle.un_reader.specs.declared.line.TermLine.TheVariants.{Jump, Branch, Ret}
 use Rattle.un_reader.specs.declared.line.Line.{Line}
 use Rattle.un_reader.specs.declared.line.Line.TheVariants.{Blank, Func, Block, Operation, Terminator}
@@ -17,7 +15,7 @@ use Rattle.un_reader.specs.Shapes.{is_slot, is_word_at, word_at, plain_at, name_
 use Rattle.un_reader.specs.Before.{names_on_term}
 use Rattle.un_reader.specs.LineFaults.{line_of}
 use Rattle.un_reader.proofs.Each.{Each}
-use Rattle.un_reader.proofs.TokenFacts.{IfThere, IfThere-map, IfThere-then, IfThere-if, IsSpelled, IsNameWord, IsGoodToken, IsSpelledCondition, tokens_good, good_drop, word_there, name_there, condition_there, names_there}
+use Rattle.un_reader.proofs.TokenFacts.{IfThere, IfThere-then, IfThere-if, IsSpelled, IsNameWord, IsGoodToken, IsSpelledCondition, tokens_good, good_drop, word_there, name_there, condition_there, names_there}
 use Rattle.un_reader.proofs.OpShapes.{IsShapedOp, IsShapedLine, operation_shaped}
 
 abbrev pub IsShaped : Line → Type 0

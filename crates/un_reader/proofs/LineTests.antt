@@ -1,5 +1,5 @@
 -- Lines without a fault, each with what stands before it.
-use Rattle.std.proofs.Common.{◌≡◌, ℕ, zero, suc, ◌+◌, ◌<◌, ◌≤◌, ◌++◌, Bool, true, false, List, [], ◌∷◌, Option, Some, None, map, length, if◌then◌else◌, refl, sym, ap, ◌∙◌, arith, subst, append_assoc}
+use Rattle.std.proofs.Common.{◌≡◌, ℕ, ◌++◌, Bool, true, false, List, [], ◌∷◌, Option, Some, None, map, length, if◌then◌else◌, refl, sym, ap, ◌∙◌, arith, subst, append_assoc}
 use Rattle.std.specs.List.{list_all}
 use Rattle.std.proofs.lemmas.List.{map_push, length-append}
 use Rattle.un_reader.specs.declared.fault.Fault.{Fault}
@@ -10,7 +10,7 @@ use Rattle.un_reader.specs.Tokens.{tokens_of}
 use Rattle.un_reader.specs.Shapes.{shape_of}
 use Rattle.un_reader.specs.Before.{before_of}
 use Rattle.un_reader.specs.Noted.{noted}
-use Rattle.un_reader.specs.LineFaults.{is_plain_byte, is_misplaced, has_clash, has_too_many, is_wide, has_bad_freq, repeats_label, is_before_block, is_after_end, faults_on, first_of, shaped_fault, line_fault, line_of, fault_at}
+use Rattle.un_reader.specs.LineFaults.{is_plain_byte, is_misplaced, has_clash, has_too_many, is_wide, has_bad_freq, repeats_label, is_before_block, is_after_end, faults_on, first_of, shaped_fault, line_fault, line_of}
 use Rattle.un_reader.specs.Lines.{HasNoLineFault}
 use Rattle.un_reader.proofs.BeforeLaws.{before_of_push}
 use Rattle.un_reader.proofs.CheckLaws.{next_fault}

@@ -1,8 +1,7 @@
 -- An operation on a line without a fault keeps what every operation keeps, where its names have their places.
-use Rattle.std.proofs.Common.{◌≡◌, ℕ, ℤ, pos, zero, suc, ◌<◌, ◌≤◌, ◌||◌, ◌++◌, Bool, true, false, not, List, [], ◌∷◌, Option, Some, None, is_some, is_none, map, length, slice_get, All, Contains, refl, sym, ap, ◌∙◌, arith, subst}
+use Rattle.std.proofs.Common.{◌≡◌, suc, ◌≤◌, ◌++◌, true, false, not, List, [], ◌∷◌, Option, Some, None, map, length, Contains, refl, sym, ap, ◌∙◌, arith}
 use Rattle.std.specs.List.{list_any}
-use Rattle.std.specs.Option.{option_map, option_map_or, option_to_list}
-use Rattle.un_base.specs.declared.ids.NameId.{NameId}
+use Rattle.std.specs.Option.{option_map, option_to_list}
 use Rattle.un_isa.specs.declared.op.Op.{Op}
 use Rattle.un_isa.specs.declared.op.Op.TheVariants.{Imm, Mov, Add, Sub, And, Or, Xor, Addi, Andi, Ori, Mux, CmpEq, CmpGt, CmpGtu, CmpEqi, CmpGti, Mpyi, Asl, Asr, Lsr, Load, Store, Call}
 use Rattle.un_ir.specs.declared.function.Kind.{Kind}
@@ -12,7 +11,7 @@ use Rattle.un_ir.specs.WellFormed.{IsOfKind, operand_kinds, ReadsItsKinds, resul
 use Rattle.un_reader.specs.declared.token.Number.{Number}
 use Rattle.un_reader.specs.declared.line.OpLine.{OpLine}
 use Rattle.un_reader.specs.Tokens.{Spelled}
-use Rattle.un_reader.specs.Shapes.{zero_number, text_ops, result_fits}
+use Rattle.un_reader.specs.Shapes.{text_ops, result_fits}
 use Rattle.un_reader.specs.Before.{same_kind}
 use Rattle.un_reader.specs.LineFaults.{is_predicate, operands_clash, result_clashes, literal_fits}
 use Rattle.un_reader.specs.Functions.{name_id, literal_value, op_of}

@@ -1,6 +1,6 @@
 -- What the shape of an operation's line says of its operation: how many operands there are, and where a literal and a callee stand.
-use Rattle.std.proofs.Common.{◌≡◌, ℕ, zero, suc, ◌&&◌, ◌||◌, ◌==◌, Bool, true, false, List, [], ◌∷◌, ◌++◌, length, drop, Option, Some, None, is_some, is_none, Contains, slice_get, if◌then◌else◌, refl, sym, ap, ◌∙◌, arith}
-use Rattle.std.specs.List.{filter_map, cons_option, find}
+use Rattle.std.proofs.Common.{◌≡◌, ℕ, ◌&&◌, Bool, true, false, List, [], ◌∷◌, ◌++◌, length, Option, Some, None, Contains, if◌then◌else◌, refl, arith}
+use Rattle.std.specs.List.{find}
 use Rattle.std.specs.Option.{option_and_then, option_to_list}
 use Rattle.std.specs.Str.{bytes_eq}
 use Rattle.un_isa.specs.declared.op.Op.{Op}
@@ -14,9 +14,9 @@ use Rattle.un_reader.specs.declared.line.OpLine.{OpLine}
 use Rattle.un_reader.specs.declared.line.Line.{Line}
 use Rattle.un_reader.specs.declared.line.Line.TheVariants.{Operation}
 use Rattle.un_reader.specs.Tokens.{Spelled}
-use Rattle.un_reader.specs.Shapes.{word_in, word_at, names_at, zero_number, literal_at, text_ops, op_named, slots_of, result_fits, operands_fit, callee_of, op_line_of, op_shape, operation_shape, is_list}
-use Rattle.un_reader.proofs.Each.{Each, Each-in, Each-append, Contains-later}
-use Rattle.un_reader.proofs.TokenFacts.{IfThere, IsSpelled, IsNameWord, IsGoodToken, word_there, names_there}
+use Rattle.un_reader.specs.Shapes.{names_at, zero_number, literal_at, text_ops, op_named, slots_of, result_fits, operands_fit, callee_of, op_line_of, op_shape, operation_shape}
+use Rattle.un_reader.proofs.Each.{Each, Each-in, Contains-later}
+use Rattle.un_reader.proofs.TokenFacts.{IfThere, IsSpelled, IsGoodToken, names_there}
 use Rattle.un_reader.proofs.SlotFacts.{are_formed, count_names, no_literal, list_literal}
 
 -- as many operands as the operation reads; a call reads any number

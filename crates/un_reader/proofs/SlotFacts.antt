@@ -1,7 +1,7 @@
 -- Words that have given forms: how many names there are, and whether there is a literal.
-use Rattle.std.proofs.Common.{◌≡◌, ℕ, zero, suc, ◌&&◌, ◌||◌, ◌==◌, Bool, true, false, not, List, [], ◌∷◌, length, Option, Some, None, is_some, if◌then◌else◌, refl, sym, ap, ◌∙◌, arith}
+use Rattle.std.proofs.Common.{◌≡◌, ℕ, zero, suc, ◌&&◌, ◌||◌, ◌==◌, Bool, true, false, List, [], ◌∷◌, length, Option, Some, None, is_some, if◌then◌else◌, refl, ap, ◌∙◌, arith}
 use Rattle.std.proofs.lemmas.Bool.Decides.{Decides-eqb}
-use Rattle.std.specs.List.{filter_map, cons_option, list_all, list_any, zip}
+use Rattle.std.specs.List.{cons_option, list_all, list_any, zip}
 use Rattle.un_reader.specs.declared.token.Number.{Number}
 use Rattle.un_reader.specs.declared.token.Token.{Token}
 use Rattle.un_reader.specs.declared.token.Token.TheVariants.{Comma, Equals, Named, Negated, Literal, Plain, Word, Other}
@@ -9,7 +9,6 @@ use Rattle.un_reader.specs.declared.slot.Slot.{Slot}
 use Rattle.un_reader.specs.declared.slot.Slot.TheVariants.{Comma as CommaSlot, Equals as EqualsSlot, Named as NamedSlot, Literal as LiteralSlot, Plain as PlainSlot, Word as WordSlot}
 use Rattle.un_reader.specs.Tokens.{Spelled}
 use Rattle.un_reader.specs.Shapes.{is_slot, have_forms, alternate, is_list, name_in, names_at, zero_number, literal_or, literal_at}
-use Rattle.un_reader.proofs.Each.{Each}
 
 abbrev pub is_named : Slot → Bool
 is_named NamedSlot = true

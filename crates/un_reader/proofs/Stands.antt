@@ -1,9 +1,8 @@
 -- Where the lines without a fault stand: the names of the function appear in the order of the text.
-use Rattle.std.proofs.Common.{◌≡◌, ℕ, zero, suc, ◌+◌, ◌<◌, ◌≤◌, ◌++◌, ◌&&◌, ◌||◌, ◌==◌, Bool, true, false, List, [], ◌∷◌, Option, Some, None, is_some, is_none, map, length, if◌then◌else◌, refl, sym, ap, ◌∙◌, arith, subst, append_assoc, append-nil}
+use Rattle.std.proofs.Common.{◌≡◌, ℕ, ◌<◌, ◌++◌, Bool, true, false, List, [], ◌∷◌, Option, Some, None, is_some, map, length, refl, sym, ap, ◌∙◌, arith, subst, append_assoc, append-nil}
 use Rattle.std.specs.List.{flat_map}
 use Rattle.std.specs.Option.{option_map, option_or, option_to_list}
-use Rattle.std.proofs.lemmas.List.{map-append, length-append}
-use Rattle.std.proofs.lemmas.Bool.Decides.{Decides-eqb}
+use Rattle.std.proofs.lemmas.List.{map-append}
 use Rattle.un_base.specs.declared.ids.NameId.{NameId}
 use Rattle.un_ir.specs.Live.{read_by_term}
 use Rattle.un_ir.specs.Names.{names_on_op, names_in_block, appearances}
@@ -15,13 +14,12 @@ use Rattle.un_reader.specs.declared.line.Line.{Line}
 use Rattle.un_reader.specs.declared.line.Line.TheVariants.{Blank, Func, Block, Operation, Terminator}
 use Rattle.un_reader.specs.declared.before.Before.{Before}
 use Rattle.un_reader.specs.Tokens.{Spelled}
-use Rattle.un_reader.specs.Before.{names_on, names_on_term, before_of}
+use Rattle.un_reader.specs.Before.{names_on, names_on_term}
 use Rattle.un_reader.specs.Noted.{noted}
 use Rattle.un_reader.specs.TextFaults.{term_of}
-use Rattle.un_reader.specs.LineFaults.{is_body}
 use Rattle.un_reader.specs.Functions.{name_id, op_of, term_by, ops_of, blocks_of, params_of}
 use Rattle.un_reader.proofs.Each.{or_false}
-use Rattle.un_reader.proofs.LineTests.{IsClean, AreClean}
+use Rattle.un_reader.proofs.LineTests.{AreClean}
 
 -- lines behind a block line, by whether a terminator has ended the block
 pub data Follows : Bool → List Line → Type 0 where

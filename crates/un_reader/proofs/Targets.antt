@@ -1,28 +1,19 @@
 -- Jumps and returns of lines whose whole has no fault: where blocks lead, and that returns are alike.
-use Rattle.std.proofs.Common.{◌≡◌, ◌≢◌, ℕ, zero, suc, ◌+◌, ◌<◌, ◌≤◌, ◌++◌, ◌||◌, ◌==◌, Bool, true, false, not, cond, nat_lt, List, [], ◌∷◌, Option, Some, None, is_some, map, length, drop, slice_get, All, if◌then◌else◌, refl, sym, ap, ◌∙◌, arith, subst, append_assoc, append-nil, add-one}
-use Rattle.std.specs.List.{list_any, fold, position, position_or_len, enumerate_from, filter_map, cons_option}
-use Rattle.std.specs.Option.{option_map, option_map_or, option_and_then, option_or}
+use Rattle.std.proofs.Common.{◌≡◌, ℕ, suc, ◌+◌, ◌<◌, ◌≤◌, ◌++◌, ◌==◌, Bool, true, false, not, cond, nat_lt, List, [], ◌∷◌, Option, Some, None, length, drop, if◌then◌else◌, refl, sym, ap, ◌∙◌, arith, subst, add-one}
+use Rattle.std.specs.List.{list_any, fold, position, position_or_len, enumerate_from}
 use Rattle.std.specs.Str.{bytes_eq}
-use Rattle.std.proofs.Math.Numerals.{one-add}
 use Rattle.std.proofs.lemmas.Bool.Decides.{Decides-ltb, Decides-eqb}
 use Rattle.std.proofs.lemmas.Slice.Eq.{bytes_eq-Decides}
-use Rattle.un_base.specs.declared.ids.NameId.{NameId}
-use Rattle.un_ir.specs.declared.function.Term.{Term}
-use Rattle.un_ir.specs.declared.function.Block.{Block as SourceBlock}
-use Rattle.un_ir.specs.Live.{targets_of}
-use Rattle.un_ir.specs.WellFormed.{gives_value, ReturnAlike}
 use Rattle.un_reader.specs.declared.token.Number.{Number}
-use Rattle.un_reader.specs.declared.line.OpLine.{OpLine}
 use Rattle.un_reader.specs.declared.line.TermLine.{TermLine}
 use Rattle.un_reader.specs.declared.line.TermLine.TheVariants.{Jump, Branch, Ret}
 use Rattle.un_reader.specs.declared.line.Line.{Line}
 use Rattle.un_reader.specs.declared.line.Line.TheVariants.{Blank, Func, Block, Operation, Terminator}
-use Rattle.un_reader.specs.Tokens.{Spelled}
-use Rattle.un_reader.specs.Before.{labels_of, label_on}
-use Rattle.un_reader.specs.TextFaults.{is_block, term_or, term_of, later_block, last_block, ends_well, falls_off, target_of, target_on, jumps_outside, is_entry, jumps_to_entry, value_on_term, value_on, first_value, differs, returns_else, mixed_return}
-use Rattle.un_reader.specs.Functions.{name_id, block_id, term_by, ops_of, block_on, blocks_of}
-use Rattle.un_reader.proofs.Each.{Each, Each-All, Each-weaken, Each-both, EachPair, EachPair-alike, or_false}
-use Rattle.un_reader.proofs.FirstNames.{IsPlaced, placed}
+use Rattle.un_reader.specs.Before.{labels_of}
+use Rattle.un_reader.specs.TextFaults.{term_of, later_block, last_block, ends_well, falls_off, jumps_outside, is_entry, jumps_to_entry}
+use Rattle.un_reader.specs.Functions.{block_id}
+use Rattle.un_reader.proofs.Each.{Each, Each-weaken, Each-both}
+use Rattle.un_reader.proofs.FirstNames.{placed}
 
 -- ---- a test that no element passes
 

@@ -1,7 +1,7 @@
 -- Words of a line that have a form: names and labels are spelled as such.
-use Rattle.std.proofs.Common.{◌≡◌, ℕ, zero, suc, ◌&&◌, ◌||◌, ◌==◌, Bool, true, false, List, [], ◌∷◌, length, Option, Some, None, map, drop, slice_get, if◌then◌else◌, refl, sym, ap, ◌∙◌}
-use Rattle.std.specs.List.{filter_map, cons_option}
-use Rattle.std.specs.Option.{option_map, option_map_or, option_and_then}
+use Rattle.std.proofs.Common.{◌≡◌, ℕ, zero, suc, ◌||◌, ◌==◌, Bool, true, false, List, [], ◌∷◌, Option, Some, None, map, drop, slice_get, if◌then◌else◌, refl}
+use Rattle.std.specs.List.{cons_option}
+use Rattle.std.specs.Option.{option_map, option_and_then}
 use Rattle.un_base.specs.Names.{is_name}
 use Rattle.un_ir.specs.declared.function.Kind.{Kind}
 use Rattle.un_ir.specs.declared.function.Kind.TheVariants.{General, Pred}
@@ -9,8 +9,8 @@ use Rattle.un_reader.specs.declared.token.Number.{Number}
 use Rattle.un_reader.specs.declared.token.Token.{Token}
 use Rattle.un_reader.specs.declared.token.Token.TheVariants.{Comma, Equals, Named, Negated, Literal, Plain, Word, Other}
 use Rattle.un_reader.specs.Words.{words_of}
-use Rattle.un_reader.specs.Tokens.{Spelled, digits_of, number_of, with_kind, named_of, token_by, plain_of, token_of, tokens_of}
-use Rattle.un_reader.specs.Shapes.{word_in, word_at, plain_at, name_in, name_at, condition_in, condition_at, names_at}
+use Rattle.un_reader.specs.Tokens.{Spelled, number_of, with_kind, named_of, token_by, plain_of, token_of, tokens_of}
+use Rattle.un_reader.specs.Shapes.{word_in, word_at, name_in, name_at, condition_in, condition_at, names_at}
 use Rattle.un_reader.proofs.Each.{Each}
 
 -- what holds of a value, where there is one

@@ -1,29 +1,26 @@
 -- The function of lines without a fault is well formed.
-use Rattle.std.proofs.Common.{◌≡◌, ◌≢◌, ℕ, zero, suc, ◌+◌, ◌<◌, ◌≤◌, ◌++◌, ◌==◌, Bool, true, false, List, [], ◌∷◌, Option, Some, None, unwrap_or, map, length, slice_get, Contains, if◌then◌else◌, refl, sym, ap, ◌∙◌, arith, subst}
-use Rattle.std.specs.List.{AllPairs, list_any, flat_map, count_by, position, position_or_len}
-use Rattle.std.specs.Option.{option_map, option_or, option_to_list}
+use Rattle.std.proofs.Common.{◌≡◌, ◌≢◌, ℕ, ◌+◌, ◌<◌, ◌≤◌, ◌==◌, Bool, true, false, List, [], ◌∷◌, Option, Some, None, unwrap_or, map, length, slice_get, Contains, if◌then◌else◌, refl, sym, ap, ◌∙◌, arith, subst}
+use Rattle.std.specs.List.{list_any, flat_map, position}
+use Rattle.std.specs.Option.{option_or, option_to_list}
 use Rattle.std.proofs.lemmas.List.{length-map}
 use Rattle.un_base.specs.declared.ids.NameId.{NameId}
 use Rattle.un_ir.specs.declared.function.Kind.{Kind}
-use Rattle.un_ir.specs.declared.function.Kind.TheVariants.{General, Pred}
+use Rattle.un_ir.specs.declared.function.Kind.TheVariants.{General}
 use Rattle.un_ir.specs.declared.function.SrcOp.{SrcOp}
 use Rattle.un_ir.specs.declared.function.Block.{Block as SourceBlock}
 use Rattle.un_ir.specs.Live.{IsLive, targets_of, used, kept, read_by_term, read_by, read_at}
 use Rattle.un_ir.specs.Names.{names_on_op, names_in_block, appearances, first_appearances}
 use Rattle.un_ir.specs.WellFormed.{IsName, IsOfKind, IsGoodBlock, LeadsInside, ReturnAlike, IsWellFormed}
-use Rattle.un_reader.specs.declared.token.Number.{Number}
-use Rattle.un_reader.specs.declared.line.OpLine.{OpLine}
-use Rattle.un_reader.specs.declared.line.TermLine.{TermLine}
 use Rattle.un_reader.specs.declared.line.Line.{Line}
 use Rattle.un_reader.specs.declared.line.Line.TheVariants.{Blank, Func, Block, Operation, Terminator}
 use Rattle.un_reader.specs.declared.fault.Fault.{Fault}
 use Rattle.un_reader.specs.declared.fault.Fault.TheVariants.{NoBlock, FallsOff, UnknownLabel, JumpToEntry, MixedResult}
 use Rattle.un_reader.specs.Tokens.{Spelled}
-use Rattle.un_reader.specs.Before.{same_name, names_on, names_of, labels_of, name_of, before_of, is_operation}
+use Rattle.un_reader.specs.Before.{same_name, names_on, names_of, labels_of, name_of, before_of}
 use Rattle.un_reader.specs.LineFaults.{line_of}
 use Rattle.un_reader.specs.Lines.{HasNoLineFault}
-use Rattle.un_reader.specs.TextFaults.{falls_off, jumps_outside, jumps_to_entry, mixed_return, placed, no_block, shape_faults, first_there, shape_fault}
-use Rattle.un_reader.specs.Functions.{name_id, ops_of, blocks_of, params_of}
+use Rattle.un_reader.specs.TextFaults.{falls_off, jumps_outside, jumps_to_entry, mixed_return, placed, no_block, first_there, shape_fault}
+use Rattle.un_reader.specs.Functions.{name_id, blocks_of, params_of}
 use Rattle.un_reader.specs.Entry.{reads}
 use Rattle.un_reader.proofs.EntryLaws.{reads-Contains, Contains-reads}
 use Rattle.un_reader.proofs.ReadLaws.{kept_all}
@@ -33,7 +30,7 @@ use Rattle.un_reader.proofs.TokenFacts.{IsSpelled}
 use Rattle.un_reader.proofs.LineTests.{AreClean, all_clean}
 use Rattle.un_reader.proofs.Stands.{text_names}
 use Rattle.un_reader.proofs.BlockFacts.{IsKept, AreGoodParams, Fits, lines_fit, good_blocks, block_labels, block_ops}
-use Rattle.un_reader.proofs.Targets.{IsInside, LineTargets, all_targets}
+use Rattle.un_reader.proofs.Targets.{IsInside, all_targets}
 use Rattle.un_reader.proofs.Leads.{blocks_lead, blocks_alike}
 use Rattle.un_reader.proofs.Counts.{AreGoodLabels, good_labels, few_op_lines, lines_spelled}
 
