@@ -23,7 +23,7 @@ use Rattle.un_reader.specs.Noted.{noted}
 use Rattle.un_reader.specs.TextFaults.{term_of}
 use Rattle.un_reader.specs.LineFaults.{has_repeat, is_predicate, term_clashes, is_over_limit, literal_fits, freq_fits, operands_clash, result_clashes}
 use Rattle.un_reader.specs.Functions.{name_id, op_of, term_by, ops_of, blocks_of}
-use Rattle.un_reader.proofs.Each.{Each, Each-All, Each-weaken, Each-left, Each-right, EachPair, EachPair-map, Each-none, or_false}
+use Rattle.un_reader.proofs.Each.{Each, Each-All, Each-weaken, Each-left, Each-right, EachPair, EachPair-map, Each-none, or_false, and_both}
 use Rattle.un_reader.proofs.FirstNames.{name_itself}
 use Rattle.un_reader.proofs.TokenFacts.{IsNameWord}
 use Rattle.un_reader.proofs.OpFacts.{IsKnown, kind_matches, word_kind, are_words, op_good}
@@ -63,10 +63,6 @@ at_most n h = by (nat_lt 6 n) refl
     by : (v : Bool) → nat_lt 6 n ≡ v → n ≤ 6
     by true e = absurd (apart e)
     by false e = let within : (6 < n) → ⊥ = λ more. apart ((Decides-ltb 6 n).1 more) in omega (arith, within)
-
-and_both : (a b : Bool) → (a && b) ≡ true → (a ≡ true) × (b ≡ true)
-and_both true b h = (refl, h)
-and_both false b h = absurd (cc h)
 
 frequency : (freq : Number) → freq_fits freq ≡ true → (1 ≤ freq.size) × (freq.size ≤ 1000000)
 frequency freq h =

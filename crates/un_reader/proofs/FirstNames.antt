@@ -1,5 +1,5 @@
 -- Names at their first appearance: their places, and the numbers that follow from these.
-use Rattle.std.proofs.Common.{◌≡◌, ◌≢◌, ℕ, zero, suc, ◌+◌, ◌<◌, ◌≤◌, ◌++◌, ◌||◌, ◌&&◌, Bool, true, false, nat_eq, List, [], ◌∷◌, Some, map, length, slice_get, if◌then◌else◌, refl, sym, ap, ◌∙◌, arith, subst, append-nil, append_assoc}
+use Rattle.std.proofs.Common.{◌≡◌, ◌≢◌, ℕ, zero, suc, ◌+◌, ◌<◌, ◌≤◌, ◌++◌, ◌||◌, Bool, true, false, nat_eq, List, [], ◌∷◌, Some, map, length, slice_get, if◌then◌else◌, refl, sym, ap, ◌∙◌, arith, subst, append-nil, append_assoc}
 use Rattle.std.proofs.Math.Numerals.{one-add}
 use Rattle.std.specs.List.{list_any, fold, position_or_len, range_with_len}
 use Rattle.std.specs.Str.{bytes_eq}
@@ -11,7 +11,7 @@ use Rattle.un_ir.specs.Names.{see, first_appearances}
 use Rattle.un_reader.specs.Tokens.{Spelled}
 use Rattle.un_reader.specs.Before.{same_kind, same_name, add_name, numbered}
 use Rattle.un_reader.specs.Functions.{name_id}
-use Rattle.un_reader.proofs.Each.{Each, Each-weaken, Each-append, EachPair, EachPair-push, Each-none}
+use Rattle.un_reader.proofs.Each.{Each, Each-weaken, Each-append, EachPair, EachPair-push, Each-none, and_both}
 
 -- ---- the test for a name
 
@@ -24,10 +24,6 @@ kind_equal Pred Pred h = refl
 kind_itself : (a : Kind) → same_kind a a ≡ true
 kind_itself General = refl
 kind_itself Pred = refl
-
-and_both : (a b : Bool) → (a && b) ≡ true → (a ≡ true) × (b ≡ true)
-and_both true b h = (refl, h)
-and_both false b h = absurd (cc h)
 
 pub name_equal : (a b : Spelled) → same_name a b ≡ true → a ≡ b
 name_equal (x, k) (y, l) h =

@@ -20,3 +20,4 @@ pub mod Targets
 pub mod Leads
 pub mod Counts
 pub mod WellFormed
+pub mod TextOps

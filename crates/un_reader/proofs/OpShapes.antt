@@ -15,7 +15,8 @@ use Rattle.un_reader.specs.declared.line.Line.{Line}
 use Rattle.un_reader.specs.declared.line.Line.TheVariants.{Operation}
 use Rattle.un_reader.specs.Tokens.{Spelled}
 use Rattle.un_reader.specs.Shapes.{names_at, zero_number, literal_at, text_ops, op_named, slots_of, result_fits, operands_fit, callee_of, op_line_of, op_shape, operation_shape}
-use Rattle.un_reader.proofs.Each.{Each, Each-in, Contains-later}
+use Rattle.un_reader.proofs.Each.{Each, Contains-later}
+use Rattle.un_reader.proofs.TextOps.{OfEach, of_text}
 use Rattle.un_reader.proofs.TokenFacts.{IfThere, IsSpelled, IsGoodToken, names_there}
 use Rattle.un_reader.proofs.SlotFacts.{are_formed, count_names, no_literal, list_literal}
 
@@ -48,10 +49,6 @@ record Behind (op : Op) (word : List ℕ) (ts : List Token) : Type 0 where
 abbrev IsBehind : Op → Type 0
 IsBehind op = (word : List ℕ) (ts : List Token) → Each IsGoodToken ts → operands_fit op (Word word ∷ ts) ≡ true → Behind op word ts
 
-both_true : (a b : Bool) → (a && b) ≡ true → (a ≡ true) × (b ≡ true)
-both_true true b h = (refl, h)
-both_true false b h = absurd (cc h)
-
 call_behind : (word : List ℕ) (ts : List Token) → Each IsGoodToken ts → operands_fit Call (Word word ∷ ts) ≡ true → Behind Call word ts
 call_behind word [] g h = absurd (cc h)
 call_behind word (t ∷ ts) g h = by t g.0 h
@@ -66,77 +63,32 @@ call_behind word (t ∷ ts) g h = by t g.0 h
     by (Plain n) good hyp = absurd (cc hyp)
     by Other good hyp = absurd (cc hyp)
 
-all_behind : Each IsBehind text_ops
-all_behind = (
-  λ word ts g h. record { count = count_names (slots_of Imm) ts (are_formed (slots_of Imm) ts h); literal = tt; callee = refl },
-  (
-    λ word ts g h. record { count = count_names (slots_of Mov) ts (are_formed (slots_of Mov) ts h); literal = no_literal (slots_of Mov) ts (are_formed (slots_of Mov) ts h) refl; callee = refl },
-    (
-      λ word ts g h. record { count = count_names (slots_of Add) ts (are_formed (slots_of Add) ts h); literal = no_literal (slots_of Add) ts (are_formed (slots_of Add) ts h) refl; callee = refl },
-      (
-        λ word ts g h. record { count = count_names (slots_of Sub) ts (are_formed (slots_of Sub) ts h); literal = no_literal (slots_of Sub) ts (are_formed (slots_of Sub) ts h) refl; callee = refl },
-        (
-          λ word ts g h. record { count = count_names (slots_of And) ts (are_formed (slots_of And) ts h); literal = no_literal (slots_of And) ts (are_formed (slots_of And) ts h) refl; callee = refl },
-          (
-            λ word ts g h. record { count = count_names (slots_of Or) ts (are_formed (slots_of Or) ts h); literal = no_literal (slots_of Or) ts (are_formed (slots_of Or) ts h) refl; callee = refl },
-            (
-              λ word ts g h. record { count = count_names (slots_of Xor) ts (are_formed (slots_of Xor) ts h); literal = no_literal (slots_of Xor) ts (are_formed (slots_of Xor) ts h) refl; callee = refl },
-              (
-                λ word ts g h. record { count = count_names (slots_of Addi) ts (are_formed (slots_of Addi) ts h); literal = tt; callee = refl },
-                (
-                  λ word ts g h. record { count = count_names (slots_of Andi) ts (are_formed (slots_of Andi) ts h); literal = tt; callee = refl },
-                  (
-                    λ word ts g h. record { count = count_names (slots_of Ori) ts (are_formed (slots_of Ori) ts h); literal = tt; callee = refl },
-                    (
-                      λ word ts g h. record { count = count_names (slots_of Mux) ts (are_formed (slots_of Mux) ts h); literal = no_literal (slots_of Mux) ts (are_formed (slots_of Mux) ts h) refl; callee = refl },
-                      (
-                        λ word ts g h. record { count = count_names (slots_of CmpEq) ts (are_formed (slots_of CmpEq) ts h); literal = no_literal (slots_of CmpEq) ts (are_formed (slots_of CmpEq) ts h) refl; callee = refl },
-                        (
-                          λ word ts g h. record { count = count_names (slots_of CmpGt) ts (are_formed (slots_of CmpGt) ts h); literal = no_literal (slots_of CmpGt) ts (are_formed (slots_of CmpGt) ts h) refl; callee = refl },
-                          (
-                            λ word ts g h. record { count = count_names (slots_of CmpGtu) ts (are_formed (slots_of CmpGtu) ts h); literal = no_literal (slots_of CmpGtu) ts (are_formed (slots_of CmpGtu) ts h) refl; callee = refl },
-                            (
-                              λ word ts g h. record { count = count_names (slots_of CmpEqi) ts (are_formed (slots_of CmpEqi) ts h); literal = tt; callee = refl },
-                              (
-                                λ word ts g h. record { count = count_names (slots_of CmpGti) ts (are_formed (slots_of CmpGti) ts h); literal = tt; callee = refl },
-                                (
-                                  λ word ts g h. record { count = count_names (slots_of Mpyi) ts (are_formed (slots_of Mpyi) ts h); literal = no_literal (slots_of Mpyi) ts (are_formed (slots_of Mpyi) ts h) refl; callee = refl },
-                                  (
-                                    λ word ts g h. record { count = count_names (slots_of Asl) ts (are_formed (slots_of Asl) ts h); literal = tt; callee = refl },
-                                    (
-                                      λ word ts g h. record { count = count_names (slots_of Asr) ts (are_formed (slots_of Asr) ts h); literal = tt; callee = refl },
-                                      (
-                                        λ word ts g h. record { count = count_names (slots_of Lsr) ts (are_formed (slots_of Lsr) ts h); literal = tt; callee = refl },
-                                        (
-                                          λ word ts g h. record { count = count_names (slots_of Load) ts (are_formed (slots_of Load) ts h); literal = tt; callee = refl },
-                                          (
-                                            λ word ts g h. record { count = count_names (slots_of Store) ts (are_formed (slots_of Store) ts h); literal = tt; callee = refl },
-                                            (
-                                              call_behind,
-                                              tt,
-                                            ),
-                                          ),
-                                        ),
-                                      ),
-                                    ),
-                                  ),
-                                ),
-                              ),
-                            ),
-                          ),
-                        ),
-                      ),
-                    ),
-                  ),
-                ),
-              ),
-            ),
-          ),
-        ),
-      ),
-    ),
-  ),
-)
+all_behind : OfEach IsBehind
+all_behind = record {
+  imm = λ word ts g h. record { count = count_names (slots_of Imm) ts (are_formed (slots_of Imm) ts h); literal = tt; callee = refl };
+  mov = λ word ts g h. record { count = count_names (slots_of Mov) ts (are_formed (slots_of Mov) ts h); literal = no_literal (slots_of Mov) ts (are_formed (slots_of Mov) ts h) refl; callee = refl };
+  add = λ word ts g h. record { count = count_names (slots_of Add) ts (are_formed (slots_of Add) ts h); literal = no_literal (slots_of Add) ts (are_formed (slots_of Add) ts h) refl; callee = refl };
+  sub = λ word ts g h. record { count = count_names (slots_of Sub) ts (are_formed (slots_of Sub) ts h); literal = no_literal (slots_of Sub) ts (are_formed (slots_of Sub) ts h) refl; callee = refl };
+  and = λ word ts g h. record { count = count_names (slots_of And) ts (are_formed (slots_of And) ts h); literal = no_literal (slots_of And) ts (are_formed (slots_of And) ts h) refl; callee = refl };
+  or = λ word ts g h. record { count = count_names (slots_of Or) ts (are_formed (slots_of Or) ts h); literal = no_literal (slots_of Or) ts (are_formed (slots_of Or) ts h) refl; callee = refl };
+  xor = λ word ts g h. record { count = count_names (slots_of Xor) ts (are_formed (slots_of Xor) ts h); literal = no_literal (slots_of Xor) ts (are_formed (slots_of Xor) ts h) refl; callee = refl };
+  addi = λ word ts g h. record { count = count_names (slots_of Addi) ts (are_formed (slots_of Addi) ts h); literal = tt; callee = refl };
+  andi = λ word ts g h. record { count = count_names (slots_of Andi) ts (are_formed (slots_of Andi) ts h); literal = tt; callee = refl };
+  ori = λ word ts g h. record { count = count_names (slots_of Ori) ts (are_formed (slots_of Ori) ts h); literal = tt; callee = refl };
+  mux = λ word ts g h. record { count = count_names (slots_of Mux) ts (are_formed (slots_of Mux) ts h); literal = no_literal (slots_of Mux) ts (are_formed (slots_of Mux) ts h) refl; callee = refl };
+  cmp_eq = λ word ts g h. record { count = count_names (slots_of CmpEq) ts (are_formed (slots_of CmpEq) ts h); literal = no_literal (slots_of CmpEq) ts (are_formed (slots_of CmpEq) ts h) refl; callee = refl };
+  cmp_gt = λ word ts g h. record { count = count_names (slots_of CmpGt) ts (are_formed (slots_of CmpGt) ts h); literal = no_literal (slots_of CmpGt) ts (are_formed (slots_of CmpGt) ts h) refl; callee = refl };
+  cmp_gtu = λ word ts g h. record { count = count_names (slots_of CmpGtu) ts (are_formed (slots_of CmpGtu) ts h); literal = no_literal (slots_of CmpGtu) ts (are_formed (slots_of CmpGtu) ts h) refl; callee = refl };
+  cmp_eqi = λ word ts g h. record { count = count_names (slots_of CmpEqi) ts (are_formed (slots_of CmpEqi) ts h); literal = tt; callee = refl };
+  cmp_gti = λ word ts g h. record { count = count_names (slots_of CmpGti) ts (are_formed (slots_of CmpGti) ts h); literal = tt; callee = refl };
+  mpyi = λ word ts g h. record { count = count_names (slots_of Mpyi) ts (are_formed (slots_of Mpyi) ts h); literal = no_literal (slots_of Mpyi) ts (are_formed (slots_of Mpyi) ts h) refl; callee = refl };
+  asl = λ word ts g h. record { count = count_names (slots_of Asl) ts (are_formed (slots_of Asl) ts h); literal = tt; callee = refl };
+  asr = λ word ts g h. record { count = count_names (slots_of Asr) ts (are_formed (slots_of Asr) ts h); literal = tt; callee = refl };
+  lsr = λ word ts g h. record { count = count_names (slots_of Lsr) ts (are_formed (slots_of Lsr) ts h); literal = tt; callee = refl };
+  load = λ word ts g h. record { count = count_names (slots_of Load) ts (are_formed (slots_of Load) ts h); literal = tt; callee = refl };
+  store = λ word ts g h. record { count = count_names (slots_of Store) ts (are_formed (slots_of Store) ts h); literal = tt; callee = refl };
+  call = call_behind;
+}
 
 -- ---- the line of an operation
 
@@ -175,7 +127,7 @@ op_shaped dst d word ts g op is = by (result_fits op dst) refl (operands_fit op 
     by false e w f = tt
     by true e false f = tt
     by true e true f =
-        let b = Each-in IsBehind text_ops op all_behind is word ts g f in
+        let b = of_text IsBehind all_behind op is word ts g f in
         record { text = is; result = e; spelled = spelled_result dst (names_at ts) d (names_there ts g); count = b.count; literal = b.literal; callee = b.callee }
 
 pub operation_shaped : (dst : Option Spelled) → IfThere IsSpelled dst → (ts : List Token) → Each IsGoodToken ts → IfThere IsShapedLine (operation_shape dst ts)

@@ -7,6 +7,7 @@ use Rattle.un_isa.specs.Operands.{IsSigned16, IsSigned10, IsUnsigned5, IsOffset}
 use Rattle.un_reader.specs.declared.token.Number.{Number}
 use Rattle.un_reader.specs.LineFaults.{fits_signed, fits_unsigned, fits_offset}
 use Rattle.un_reader.specs.Functions.{negated, literal_value}
+use Rattle.un_reader.proofs.Each.{and_both}
 
 -- the value of a number that fits 31 bits
 small : (n : Number) → n.size < 2147483648 → literal_value n ≡ (if n.negative then negated n.size else pos n.size)
@@ -69,10 +70,6 @@ signed16 n h = signed 32767 n (omega arith) h
 
 pub signed10 : (n : Number) → fits_signed 512 n ≡ true → IsSigned10 (literal_value n)
 signed10 n h = signed 511 n (omega arith) h
-
-and_both : (a b : Bool) → (a && b) ≡ true → (a ≡ true) × (b ≡ true)
-and_both true b h = (refl, h)
-and_both false b h = absurd (cc h)
 
 pub unsigned5 : (n : Number) → fits_unsigned 32 n ≡ true → IsUnsigned5 (literal_value n)
 unsigned5 n h = by n.negative refl parts.1

@@ -1,5 +1,5 @@
 -- Words that have given forms: how many names there are, and whether there is a literal.
-use Rattle.std.proofs.Common.{◌≡◌, ℕ, zero, suc, ◌&&◌, ◌||◌, ◌==◌, Bool, true, false, List, [], ◌∷◌, length, Option, Some, None, is_some, if◌then◌else◌, refl, ap, ◌∙◌, arith}
+use Rattle.std.proofs.Common.{◌≡◌, ℕ, zero, suc, ◌&&◌, ◌==◌, Bool, true, false, List, [], ◌∷◌, length, Option, Some, None, is_some, if◌then◌else◌, refl, ap, ◌∙◌, arith}
 use Rattle.std.proofs.lemmas.Bool.Decides.{Decides-eqb}
 use Rattle.std.specs.List.{cons_option, list_all, list_any, zip}
 use Rattle.un_reader.specs.declared.token.Number.{Number}
@@ -9,6 +9,7 @@ use Rattle.un_reader.specs.declared.slot.Slot.{Slot}
 use Rattle.un_reader.specs.declared.slot.Slot.TheVariants.{Comma as CommaSlot, Equals as EqualsSlot, Named as NamedSlot, Literal as LiteralSlot, Plain as PlainSlot, Word as WordSlot}
 use Rattle.un_reader.specs.Tokens.{Spelled}
 use Rattle.un_reader.specs.Shapes.{is_slot, have_forms, alternate, is_list, name_in, names_at, zero_number, literal_or, literal_at}
+use Rattle.un_reader.proofs.Each.{and_both, or_false}
 
 abbrev pub is_named : Slot → Bool
 is_named NamedSlot = true
@@ -78,10 +79,6 @@ slot_token WordSlot (Plain n) h = absurd (cc h)
 slot_token WordSlot (Word word) h = record { named = refl; literal = λ n e. refl }
 slot_token WordSlot Other h = absurd (cc h)
 
-both_true : (a b : Bool) → (a && b) ≡ true → (a ≡ true) × (b ≡ true)
-both_true true b h = (refl, h)
-both_true false b h = absurd (cc h)
-
 nonzero : (n : ℕ) → (suc n == 0) ≡ false
 nonzero n = by (suc n == 0) refl
   where
@@ -108,8 +105,8 @@ are_formed [] [] h = tt
 are_formed [] (t ∷ ts) h = let differs = nonzero (length ts) in let wrong = rw differs at h in absurd (cc wrong)
 are_formed (s ∷ slots) [] h = let differs = zero_differs (length slots) in let wrong = rw differs at h in absurd (cc wrong)
 are_formed (s ∷ slots) (t ∷ ts) h =
-    let both = both_true (length (t ∷ ts) == length (s ∷ slots)) (is_slot s t && list_all (λ (p : Token × Slot). is_slot p.1 p.0) (zip ts slots)) h in
-    let parts = both_true (is_slot s t) (list_all (λ (p : Token × Slot). is_slot p.1 p.0) (zip ts slots)) both.1 in
+    let both = and_both (length (t ∷ ts) == length (s ∷ slots)) (is_slot s t && list_all (λ (p : Token × Slot). is_slot p.1 p.0) (zip ts slots)) h in
+    let parts = and_both (is_slot s t) (list_all (λ (p : Token × Slot). is_slot p.1 p.0) (zip ts slots)) both.1 in
     let same : length (t ∷ ts) ≡ length (s ∷ slots) = (Decides-eqb (length (t ∷ ts)) (length (s ∷ slots))).0 both.0 in
     let fewer : length ts ≡ length slots = omega (arith, same) in
     let again : (length ts == length slots) ≡ true = (Decides-eqb (length ts) (length slots)).1 fewer in
@@ -132,20 +129,16 @@ no_literal [] [] f h = refl
 no_literal [] (t ∷ ts) f h = absurd f
 no_literal (s ∷ slots) [] f h = absurd f
 no_literal (s ∷ slots) (t ∷ ts) (here, later) h =
-    let parts = neither (is_literal s) (list_any is_literal slots) h in
+    let parts = or_false (is_literal s) (list_any is_literal slots) h in
     (slot_token s t here).literal (literal_at ts) parts.0 ∙ no_literal slots ts later parts.1
-  where
-    neither : (a b : Bool) → (a || b) ≡ false → (a ≡ false) × (b ≡ false)
-    neither true b h = absurd (cc h)
-    neither false b h = (refl, h)
 
 alternate_literal : (named : Bool) (ts : List Token) → alternate named ts ≡ true → literal_at ts ≡ zero_number
 alternate_literal named [] h = refl
 alternate_literal true (t ∷ ts) h =
-    let parts = both_true (is_slot NamedSlot t) (alternate false ts) h in
+    let parts = and_both (is_slot NamedSlot t) (alternate false ts) h in
     (slot_token NamedSlot t parts.0).literal (literal_at ts) refl ∙ alternate_literal false ts parts.1
 alternate_literal false (t ∷ ts) h =
-    let parts = both_true (is_slot CommaSlot t) (alternate true ts) h in
+    let parts = and_both (is_slot CommaSlot t) (alternate true ts) h in
     (slot_token CommaSlot t parts.0).literal (literal_at ts) refl ∙ alternate_literal true ts parts.1
 
 -- a list of arguments has no literal

@@ -1,8 +1,8 @@
 -- Jumps and returns of lines whose whole has no fault: where blocks lead, and that returns are alike.
-use Rattle.std.proofs.Common.{◌≡◌, ℕ, suc, ◌+◌, ◌<◌, ◌≤◌, ◌++◌, ◌==◌, Bool, true, false, not, cond, nat_lt, List, [], ◌∷◌, Option, Some, None, length, drop, if◌then◌else◌, refl, sym, ap, ◌∙◌, arith, subst, add-one}
+use Rattle.std.proofs.Common.{◌≡◌, ℕ, suc, ◌+◌, ◌<◌, ◌≤◌, ◌++◌, Bool, true, false, not, cond, nat_lt, List, [], ◌∷◌, Option, Some, None, length, drop, if◌then◌else◌, refl, sym, ap, ◌∙◌, arith, subst, add-one}
 use Rattle.std.specs.List.{list_any, fold, position, position_or_len, enumerate_from}
 use Rattle.std.specs.Str.{bytes_eq}
-use Rattle.std.proofs.lemmas.Bool.Decides.{Decides-ltb, Decides-eqb}
+use Rattle.std.proofs.lemmas.Bool.Decides.{Decides-ltb}
 use Rattle.std.proofs.lemmas.Slice.Eq.{bytes_eq-Decides}
 use Rattle.un_reader.specs.declared.token.Number.{Number}
 use Rattle.un_reader.specs.declared.line.TermLine.{TermLine}
@@ -16,13 +16,6 @@ use Rattle.un_reader.proofs.Each.{Each, Each-weaken, Each-both}
 use Rattle.un_reader.proofs.FirstNames.{placed}
 
 -- ---- a test that no element passes
-
-zero_differs : (n : ℕ) → (0 == suc n) ≡ false
-zero_differs n = by (0 == suc n) refl
-  where
-    by : (v : Bool) → (0 == suc n) ≡ v → v ≡ false
-    by true e = let is : 0 ≡ suc n = (Decides-eqb 0 (suc n)).0 e in absurd (omega arith)
-    by false e = refl
 
 place_bound : {X : Type 0} (p : X → Bool) (xs : List X) → position p xs ≡ None → length xs ≤ position_or_len p xs
 place_bound p xs h = by (nat_lt (position_or_len p xs) (length xs)) refl h
