@@ -14,6 +14,8 @@ pub mod line_fault;
 pub mod meeting;
 pub mod number;
 pub mod pieces;
+#[cfg(test)]
+mod print_tests;
 pub mod read;
 pub mod shape;
 pub mod slot;
