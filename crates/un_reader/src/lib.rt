@@ -4,6 +4,7 @@
 pub mod before;
 pub mod build;
 pub mod check;
+pub mod draft;
 pub mod entry;
 pub mod error;
 pub mod fault;
