@@ -3,8 +3,10 @@ use Rattle.std.proofs.Common.{◌≡◌, ℕ, ◌+◌, ◌<◌, ◌≤◌, List,
 use Rattle.std.specs.List.{position_or_len}
 use Rattle.un_base.specs.declared.ids.NameId.{NameId}
 use Rattle.un_ir.specs.declared.function.Block.{Block as SourceBlock}
+use Rattle.un_ir.specs.declared.function.Function.{Function}
 use Rattle.un_ir.specs.Live.{IsLive}
 use Rattle.un_ir.specs.WellFormed.{IsWellFormed}
+use Rattle.un_ir.proofs.SameFunction.{same_function}
 use Rattle.un_reader.specs.declared.fault.Fault.TheVariants.{LiveAtEntry}
 use Rattle.un_reader.specs.declared.limits.TheConstants.{TEXT}
 use Rattle.un_reader.specs.declared.line.Line.{Line}
@@ -14,7 +16,7 @@ use Rattle.un_reader.specs.LineFaults.{line_of}
 use Rattle.un_reader.specs.Lines.{HasNoLineFault, shapes_in}
 use Rattle.un_reader.specs.Pieces.{lines_in}
 use Rattle.un_reader.specs.TextFaults.{is_block, shape_fault}
-use Rattle.un_reader.specs.Functions.{ArePartsOf, name_id, params_of, blocks_of, param_ids, source_blocks}
+use Rattle.un_reader.specs.Functions.{IsFunctionOf, ArePartsOf, name_id, params_of, blocks_of, param_ids, source_blocks}
 use Rattle.un_reader.specs.Entry.{IsLiveAtEntry, HasNoneLive}
 use Rattle.un_reader.specs.Read.{IsTextFault, at_entry}
 
@@ -47,7 +49,7 @@ live_in_lines lines its_name params names blocks name are live =
     (subst (λ (x : List SourceBlock). IsLiveAtEntry params names x name) are.blocks live))
 
 -- and the other way
-live_in_parts : (lines : List Line) (its_name : List ℕ) (params : List NameId) (names : List Spelled) (blocks : List SourceBlock) (name : NameId)
+pub live_in_parts : (lines : List Line) (its_name : List ℕ) (params : List NameId) (names : List Spelled) (blocks : List SourceBlock) (name : NameId)
     → ArePartsOf lines its_name params names blocks → IsLiveAtEntry (param_ids lines) (names_of lines) (source_blocks lines) name → IsLiveAtEntry params names blocks name
 live_in_parts lines its_name params names blocks name are live =
     subst (λ (x : List NameId). IsLiveAtEntry x names blocks name) (sym are.params)
@@ -78,3 +80,7 @@ parts_well_formed text its_name params names blocks parts none = moved
         (subst (λ (x : List NameId). IsWellFormed (unwrap_or (name_of lines) []) x names blocks) (sym parts.are.params)
         (subst (λ (x : List Spelled). IsWellFormed (unwrap_or (name_of lines) []) (param_ids lines) x blocks) (sym parts.are.names)
         (subst (λ (x : List SourceBlock). IsWellFormed (unwrap_or (name_of lines) []) (param_ids lines) (names_of lines) x) (sym parts.are.blocks) w)))
+
+-- lines are one function
+pub one_function : (lines : List Line) (f g : Function) → IsFunctionOf lines f → IsFunctionOf lines g → f ≡ g
+one_function lines f g a b = same_function f g (a.name ∙ sym b.name) (a.params ∙ sym b.params) (a.names ∙ sym b.names) (a.blocks ∙ sym b.blocks)
