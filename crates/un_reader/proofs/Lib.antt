@@ -3,6 +3,7 @@ pub mod CheckLaws
 pub mod EntryLaws
 pub mod NameEq
 pub mod NumberLaws
+pub mod PartLaws
 pub mod PieceLaws
 pub mod ReadLaws
 pub mod RepeatLaws

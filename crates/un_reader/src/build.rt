@@ -1,4 +1,4 @@
-//! The function that lines without a fault are.
+//! The parts of the function that lines without a fault are.
 
 ghost use Rattle.std.specs.Prelude.{◌≡◌, ◌+◌, ◌<◌, ◌^◌, ◌≤◌, IfOk, length, map, Some};
 ghost use Rattle.std.specs.Option.{option_map};
@@ -6,40 +6,28 @@ ghost use Rattle.std.specs.List.{position_or_len};
 ghost use Rattle.std.specs.Str.{bytes_eq};
 ghost use Rattle.un_reader.specs.Before.{same_name, names_of, labels_of, name_of};
 ghost use Rattle.un_reader.specs.TextFaults.{term_of};
-ghost use Rattle.un_reader.specs.Functions.{name_id, block_id, literal_value, op_of, term_by, ops_of, blocks_of, params_of, function_of};
+ghost use Rattle.un_reader.specs.Functions.{name_id, block_id, literal_value, op_of, term_by, ops_of, blocks_of, params_of, ArePartsOf};
 
-use crate::before::same_name;
+use crate::draft::Draft;
 use crate::forms::is_text;
 use crate::line::{Line, OpLine, TermLine};
+use crate::names::Names;
 use crate::text_fault::find_term;
 use crate::token::Number;
 use std::alloc::Global;
 use un_base::ids::{BlockId, NameId};
 use un_base::memory_error::NoMemory;
 use un_base::name::Name;
-use un_ir::function::{Block, Function, Kind, SrcOp, Term};
+use un_ir::function::{Block, Kind, SrcOp, Term};
 use un_lists::few::Few;
 use un_lists::items::Items;
 
-/// The place of a name, or the count where it has none.
-fn name_place(names: &[(Name, Kind)], name: &(Name, Kind)) -> usize
-    ensures place { result ≡ position_or_len (same_name name.now) names.now }
-    ensures bound { result ≤ length names.now }
-{
-    for (i, n) in names.iter().enumerate() {
-        if same_name(name, n) {
-            return i;
-        }
-    }
-    names.len()
-}
-
 /// The number of a name.
-fn name_id(names: &[(Name, Kind)], name: &(Name, Kind)) -> NameId
+fn name_id(names: &Names, name: &(Name, Kind)) -> NameId
     requires { length names.now < 2 ^ 32 }
     ensures { result ≡ name_id names.now name.now }
 {
-    NameId(name_place(names, name) as u32)
+    NameId(names.place(name) as u32)
 }
 
 /// The place of a label, or the count where it has none.
@@ -74,7 +62,7 @@ fn literal_value(n: Number) -> i32
 /// The numbers of names.
 fn operand_ids(
     alloc: Global,
-    names: &[(Name, Kind)],
+    names: &Names,
     list: &[(Name, Kind)],
 ) -> Result<Few<NameId>, NoMemory>
     requires { length names.now < 2 ^ 32 }
@@ -90,7 +78,7 @@ fn operand_ids(
 /// The numbers of parameters.
 fn param_ids(
     alloc: Global,
-    names: &[(Name, Kind)],
+    names: &Names,
     list: &[(Name, Kind)],
 ) -> Result<Items<NameId>, NoMemory>
     requires { length names.now < 2 ^ 32 }
@@ -104,7 +92,7 @@ fn param_ids(
 }
 
 /// The number of a name, where there is one.
-fn optional_id(names: &[(Name, Kind)], name: &Option<(Name, Kind)>) -> Option<NameId>
+fn optional_id(names: &Names, name: &Option<(Name, Kind)>) -> Option<NameId>
     requires { length names.now < 2 ^ 32 }
     ensures { result ≡ option_map (name_id names.now) name.now }
 {
@@ -115,7 +103,7 @@ fn optional_id(names: &[(Name, Kind)], name: &Option<(Name, Kind)>) -> Option<Na
 }
 
 /// The operation on a line.
-fn source_op(alloc: Global, names: &[(Name, Kind)], o: &OpLine) -> Result<SrcOp, NoMemory>
+fn source_op(alloc: Global, names: &Names, o: &OpLine) -> Result<SrcOp, NoMemory>
     requires { length names.now < 2 ^ 32 }
     ensures { IfOk result (λ op. op ≡ op_of names.now o.now) }
 {
@@ -132,7 +120,7 @@ fn source_op(alloc: Global, names: &[(Name, Kind)], o: &OpLine) -> Result<SrcOp,
 /// The operations of a block, by the lines behind its block line.
 fn source_ops(
     alloc: Global,
-    names: &[(Name, Kind)],
+    names: &Names,
     lines: &[Line],
 ) -> Result<Items<SrcOp>, NoMemory>
     requires { length names.now < 2 ^ 32 }
@@ -150,7 +138,7 @@ fn source_ops(
 }
 
 /// The terminator that a block's line is.
-fn source_term(names: &[(Name, Kind)], labels: &[Name], term: &Option<TermLine>) -> Term
+fn source_term(names: &Names, labels: &[Name], term: &Option<TermLine>) -> Term
     requires names { length names.now < 2 ^ 32 }
     requires labels { length labels.now < 2 ^ 32 }
     ensures { result ≡ term_by names.now labels.now term.now }
@@ -170,7 +158,7 @@ fn source_term(names: &[(Name, Kind)], labels: &[Name], term: &Option<TermLine>)
 /// The block with this label and frequency, by the lines behind its block line.
 fn source_block(
     alloc: Global,
-    names: &[(Name, Kind)],
+    names: &Names,
     labels: &[Name],
     label: Name,
     freq: u32,
@@ -193,7 +181,7 @@ fn source_block(
 /// The blocks of the lines.
 fn source_blocks(
     alloc: Global,
-    names: &[(Name, Kind)],
+    names: &Names,
     labels: &[Name],
     lines: &[Line],
 ) -> Result<Items<Block>, NoMemory>
@@ -213,7 +201,7 @@ fn source_blocks(
 /// The parameters on the `func` line.
 fn find_params(
     alloc: Global,
-    names: &[(Name, Kind)],
+    names: &Names,
     lines: &[Line],
 ) -> Result<Items<NameId>, NoMemory>
     requires { length names.now < 2 ^ 32 }
@@ -227,27 +215,27 @@ fn find_params(
     Ok(Items::new(alloc))
 }
 
-/// The function that lines without a fault are, by its name, their names and labels.
-pub fn source_function(
+/// The parts that lines without a fault give, by the name of the function, their names and labels.
+pub fn source_parts(
     alloc: Global,
     name: Name,
-    names: Items<(Name, Kind)>,
+    names: Names,
     labels: &[Name],
     lines: &[Line],
-) -> Result<Function, NoMemory>
+) -> Result<Draft, NoMemory>
     requires name { name_of lines.now ≡ Some name }
     requires names { names ≡ names_of lines.now }
     requires labels { labels.now ≡ labels_of lines.now }
     requires few_names { length names < 2 ^ 32 }
     requires few_labels { length labels.now < 2 ^ 32 }
-    ensures { IfOk result (λ f. f ≡ function_of lines.now) }
+    ensures { IfOk result (λ d. ArePartsOf lines.now d.name d.params d.names d.blocks) }
 {
-    let params = find_params(alloc, names.as_slice(), lines)?;
-    let blocks = source_blocks(alloc, names.as_slice(), labels, lines)?;
-    Ok(Function {
+    let params = find_params(alloc, &names, lines)?;
+    let blocks = source_blocks(alloc, &names, labels, lines)?;
+    Ok(Draft {
         name,
         params,
-        names,
+        names: names.to_items(alloc)?,
         blocks,
     })
 }

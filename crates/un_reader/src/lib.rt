@@ -4,6 +4,7 @@
 pub mod before;
 pub mod build;
 pub mod check;
+pub mod draft;
 pub mod entry;
 pub mod error;
 pub mod fault;
@@ -16,6 +17,8 @@ pub mod names;
 mod new_names;
 pub mod number;
 pub mod pieces;
+#[cfg(test)]
+mod print_tests;
 pub mod read;
 pub mod shape;
 pub mod slot;
