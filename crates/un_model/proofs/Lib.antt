@@ -4,5 +4,6 @@ pub mod BuildSteps
 pub mod Verdicts
 pub mod Orders
 pub mod Calls
+pub mod Rooms
 pub mod Symmetric
 pub mod Apart
