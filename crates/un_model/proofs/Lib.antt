@@ -5,5 +5,6 @@ pub mod Verdicts
 pub mod Orders
 pub mod Calls
 pub mod Rooms
+pub mod SameRoom
 pub mod Symmetric
 pub mod Apart
