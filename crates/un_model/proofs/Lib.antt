@@ -2,3 +2,9 @@ pub mod Singles
 pub mod PairSteps
 pub mod BuildSteps
 pub mod Verdicts
+pub mod Orders
+pub mod Calls
+pub mod Rooms
+pub mod SameRoom
+pub mod Symmetric
+pub mod Apart

@@ -1,5 +1,6 @@
 pub mod Cost
 pub mod Instructions
+pub mod Orders
 pub mod Pairs
 pub mod Registers
 pub mod Schedules

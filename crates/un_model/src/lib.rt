@@ -7,6 +7,8 @@ pub mod cost;
 mod instructions;
 pub mod limits;
 pub mod model;
+mod occupations;
+mod packets;
 pub mod placement;
 mod registers;
 pub mod schedule;
