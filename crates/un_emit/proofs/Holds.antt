@@ -115,7 +115,7 @@ last_above reads = above_each reads reads (λ t. 0) (λ t. refl)
 -- a read leaves the latency, and the temporary stands until then
 gives : (r : Reading) (last : ℕ) (values : List ℕ) (x : TempVars) (i : Option Issue) → let h : Option Hold = Some (hold_by values x last i) in IsHeld h → LeavesGap latency_gap r h → r.cycle ≤ last → (from_by h + lat_by h ≤ r.cycle) × (r.cycle ≤ last_by h + 1)
 gives r last values x None active gap le = absurd (cc active)
-gives r last values x (Some i) active gap le = (gap, omega arith)
+gives r last values x (Some i) active gap le = (gap active, omega arith)
 
 pub read_of : (values : List ℕ) (issues : List Issue) (reads : List Reading) (temps : List TempVars) (value : ℕ → ℕ) (total : ℕ) (r : Reading) (t c : ℕ) → IsFitRead values issues reads temps r → r.temp.0 ≡ t → r.cycle ≡ c → t < total
     → Read (plan_of values issues reads temps value) total t c

@@ -87,7 +87,7 @@ to_space : (holds : List Hold) (r : Read) → IsServed holds r → ReadsInSpace 
 to_space holds r h = subst (ReadsInSpace r) (sym h.found) h.space
 
 to_gap : (holds : List Hold) (r : Read) → IsServed holds r → LeavesGap latency_gap r (slice_get holds r.temp.0)
-to_gap holds r h = subst (LeavesGap latency_gap r) (sym h.found) h.gap
+to_gap holds r h = subst (LeavesGap latency_gap r) (sym h.found) (λ a. h.gap)
 
 to_home : (holds : List Hold) (r : Read) → IsServed holds r → ReadsHome r (slice_get holds r.temp.0)
 to_home holds r h = subst (ReadsHome r) (sym h.found) h.home
