@@ -4,3 +4,9 @@ pub mod BuildSteps
 pub mod HomeSteps
 pub mod HomeMasks
 pub mod Verdicts
+pub mod Orders
+pub mod Calls
+pub mod Rooms
+pub mod SameRoom
+pub mod Symmetric
+pub mod Apart

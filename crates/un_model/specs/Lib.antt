@@ -1,6 +1,7 @@
 pub mod Cost
 pub mod Homes
 pub mod Instructions
+pub mod Orders
 pub mod Pairs
 pub mod Registers
 pub mod Schedules

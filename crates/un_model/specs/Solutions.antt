@@ -4,6 +4,7 @@ use Rattle.un_base.specs.declared.ids.VarId.{VarId}
 use Rattle.un_isa.specs.declared.reg.Reg.{Reg}
 use Rattle.un_isa.specs.declared.reg.Space.{Space}
 use Rattle.un_isa.specs.declared.reg.Space.TheVariants.{R, P, M}
+use Rattle.un_isa.specs.Tables.{in_mask}
 use Rattle.un_ir.specs.declared.extended.ExtBlock.{ExtBlock}
 use Rattle.un_domains.specs.declared.domain.Domain.{Domain}
 use Rattle.un_domains.specs.declared.domain.Domain.TheVariants.{Range, Set}
@@ -95,18 +96,32 @@ latency_gap h r = h.latency
 abbrev pub KeepsLatencies : (Hold → Read → ℕ) → Schedule → Type 0
 KeepsLatencies gap t = All IsPlaced t.issues × All (λ (r : Read). LeavesGap gap r (slice_get t.holds r.temp.0)) t.reads
 
--- 7: two active temporaries of a block with one register do not occupy it in one cycle
+-- 7: two active temporaries of a block with one register do not occupy it in one cycle, and no active temporary but a
+-- call's own result occupies a clobbered register in the call's cycle
+
+-- a temporary occupies its register in cycle c
+abbrev pub Occupies : Hold → ℕ → Type 0
+Occupies h c = (h.from ≤ c) × (c ≤ h.last)
 
 abbrev pub IsApart : Hold → Hold → Type 0
-IsApart a b = (a.last < b.from) ⊎ (b.last < a.from)
+IsApart a b = (c : ℕ) → Occupies a c → Occupies b c → ⊥
 
 unfoldable pub ShareNoCycle : Hold → Hold → Type 0
 ShareNoCycle a b = a.active ≡ true → b.active ≡ true → a.block.0 ≡ b.block.0 → a.reg ≡ b.reg → IsApart a b
 
-abbrev pub KeepsRegisters : Schedule → Type 0
-KeepsRegisters t = AllPairs ShareNoCycle t.holds
+-- operation n, where it is an active call, finds the clobbered registers free of all but its own result
+unfoldable pub SparesCall : ℕ → ℕ → Issue → Hold → Type 0
+SparesCall clobbered n i h =
+    i.role ≡ Call → i.active ≡ true → h.active ≡ true → i.block.0 ≡ h.block.0 → in_mask clobbered h.reg ≡ true → Occupies h i.cycle → h.op.0 ≡ n
 
--- 8: the active operations of each cycle have room in one packet
+-- so does each operation
+abbrev pub SparesCalls : ℕ → List Issue → List Hold → Type 0
+SparesCalls clobbered issues holds = (n : ℕ) (i : Issue) → slice_get issues n ≡ Some i → All (SparesCall clobbered n i) holds
+
+abbrev pub KeepsRegisters : ℕ → Schedule → Type 0
+KeepsRegisters clobbered t = AllPairs ShareNoCycle t.holds × SparesCalls clobbered t.issues t.holds
+
+-- 8: in each cycle of each block the active operations have room in one packet
 
 abbrev pub issues_at : ℕ → ℕ → Issue → Bool
 issues_at b c i = i.active && i.block.0 == b && i.cycle == c
@@ -134,12 +149,11 @@ taken resource issues b c = sum_by (λ (i : Issue). if issues_at b c i then shar
 abbrev pub Fits : List Issue → ℕ → ℕ → Resource → Type 0
 Fits issues b c resource = taken resource issues b c ≤ places_of resource
 
-unfoldable pub HasRoom : List Issue → Issue → Type 0
-HasRoom issues i =
-    Fits issues i.block.0 i.cycle Instructions × Fits issues i.block.0 i.cycle Accesses × Fits issues i.block.0 i.cycle Stores × Fits issues i.block.0 i.cycle Products × Fits issues i.block.0 i.cycle Transfers
+unfoldable pub HasRoom : List Issue → ℕ → ℕ → Type 0
+HasRoom issues b c = Fits issues b c Instructions × Fits issues b c Accesses × Fits issues b c Stores × Fits issues b c Products × Fits issues b c Transfers
 
 abbrev pub KeepsPackets : Schedule → Type 0
-KeepsPackets t = All (HasRoom t.issues) t.issues
+KeepsPackets t = (b c : ℕ) → HasRoom t.issues b c
 
 -- 9: the temporaries that preassigned operands choose have their homes. A preassigned value has its home alone as domain.
 
@@ -166,7 +180,7 @@ pub record IsSchedule (gap : Hold → Read → ℕ) (domains : List Domain) (m :
   pub choices : KeepsChoices t
   pub spaces : KeepsSpaces t
   pub latencies : KeepsLatencies gap t
-  pub registers : KeepsRegisters t
+  pub registers : KeepsRegisters m.ext.table.clobbered t
   pub packets : KeepsPackets t
   pub homes : KeepsHomes t
   pub frame : KeepsFrame m values
@@ -182,7 +196,7 @@ pub record Tells (v : Verdict) (m : Model) (values : List ℕ) (t : Schedule) : 
   pub spaces : IsTrue v.spaces ↔ KeepsSpaces t
   pub latencies : IsTrue v.latencies ↔ KeepsLatencies latency_gap t
   pub memory : IsTrue v.memory
-  pub registers : IsTrue v.registers ↔ KeepsRegisters t
+  pub registers : IsTrue v.registers ↔ KeepsRegisters m.ext.table.clobbered t
   pub packets : IsTrue v.packets ↔ KeepsPackets t
   pub homes : IsTrue v.homes ↔ KeepsHomes t
   pub frame : IsTrue v.frame ↔ KeepsFrame m values

@@ -1,11 +1,9 @@
-//! Whether a schedule keeps each clause of a solution.
+//! Whether a schedule keeps the clauses of a solution that ask for one operation, read or temporary at a time.
 
-ghost use Rattle.std.specs.Prelude.{◌≡◌, ℕ, ◌+◌, ◌<◌, ◌≤◌, ◌↔◌, ◌⊎◌, slice_index_or, IsTrue, true, if◌then◌else◌, All, AllPairs, Contains, length, slice_get};
-ghost use Rattle.un_model.specs.declared.schedule.Hold.{Hold};
-ghost use Rattle.un_model.specs.Solutions.{InDomain, KeepsDomains, IsIdleAtZero, HoldsZero, KeepsZeros, IsHeld, KeepsChoices, InSpace, ReadsInSpace, KeepsSpaces, IsLast, IsWithin, IsPlaced, LeavesGap, latency_gap, KeepsLatencies, IsApart, ShareNoCycle, KeepsRegisters, issues_at, share_of, places_of, taken, Fits, HasRoom, KeepsPackets, IsHome, ReadsHome, KeepsHomes};
+ghost use Rattle.std.specs.Prelude.{◌≡◌, ℕ, ◌+◌, ◌<◌, ◌≤◌, ◌↔◌, ◌⊎◌, slice_index_or, IsTrue, true, All, Contains, length, slice_get};
+ghost use Rattle.un_model.specs.Solutions.{InDomain, KeepsDomains, IsIdleAtZero, HoldsZero, KeepsZeros, IsHeld, KeepsChoices, InSpace, ReadsInSpace, KeepsSpaces, IsLast, IsWithin, IsPlaced, LeavesGap, latency_gap, KeepsLatencies, IsHome, ReadsHome, KeepsHomes};
 
-use crate::limits::{CONTROL_PLACES, MEM_PLACES, PACKET, STORE_PLACES, XC_PLACES};
-use crate::schedule::{Hold, Issue, Read, Resource, Role, Schedule};
+use crate::schedule::{Hold, Issue, Read, Role};
 use un_domains::domain::Domain;
 use un_isa::reg::{Reg, Space};
 
@@ -164,134 +162,6 @@ pub(crate) fn keeps_latencies(issues: &[Issue], reads: &[Read], holds: &[Hold]) 
         return false;
     }
     reads.iter().all(|r| waits(r, holds))
-}
-
-/// Whether one of two temporaries is last read before the other is defined.
-fn is_apart(a: &Hold, b: &Hold) -> bool
-    ensures { IsTrue result ↔ IsApart a.now b.now }
-{
-    a.last < b.from || b.last < a.from
-}
-
-/// Whether two temporaries share no register in a cycle.
-#[tactic(auto, unfolding(crate::specs::Solutions::ShareNoCycle))]
-fn shares_no_cycle(a: &Hold, b: &Hold) -> bool
-    ensures { IsTrue result ↔ ShareNoCycle a.now b.now }
-{
-    if !a.active || !b.active {
-        return true;
-    }
-    if a.block.0 != b.block.0 || a.reg != b.reg {
-        return true;
-    }
-    is_apart(a, b)
-}
-
-/// Whether the temporary at place `i` shares its register in no cycle with a later one.
-fn is_apart_from_later(holds: &[Hold], i: usize) -> bool
-    requires { i < length holds.now }
-    ensures { IsTrue result
-        ↔ ((j : ℕ) (d : Hold) → i < j → j < length holds.now
-        → ShareNoCycle (slice_index_or holds.now i d) (slice_index_or holds.now j d)) }
-{
-    for j in i + 1..holds.len() {
-        if !shares_no_cycle(&holds[i], &holds[j]) {
-            return false;
-        }
-    }
-    true
-}
-
-/// Whether no two temporaries share a register in a cycle.
-pub(crate) fn keeps_registers(holds: &[Hold]) -> bool
-    ensures { IsTrue result ↔ AllPairs ShareNoCycle holds.now }
-{
-    for i in 0..holds.len() {
-        if !is_apart_from_later(holds, i) {
-            return false;
-        }
-    }
-    true
-}
-
-/// How much of a resource an operation takes.
-fn share(resource: Resource, i: &Issue) -> u32
-    ensures { result ≡ share_of resource i.now }
-{
-    match resource {
-        Resource::Instructions => i.width,
-        Resource::Accesses => u32::from(i.needs.mem),
-        Resource::Stores => u32::from(i.needs.store),
-        Resource::Products => u32::from(i.needs.xc),
-        Resource::Transfers => u32::from(i.needs.control),
-    }
-}
-
-/// How much of a resource a packet has.
-fn places(resource: Resource) -> u32
-    ensures { result ≡ places_of resource }
-{
-    match resource {
-        Resource::Instructions => PACKET,
-        Resource::Accesses => MEM_PLACES,
-        Resource::Stores => STORE_PLACES,
-        Resource::Products => XC_PLACES,
-        Resource::Transfers => CONTROL_PLACES,
-    }
-}
-
-/// Whether an active operation issues in this cycle of this block.
-fn is_at(b: u32, c: u32, i: &Issue) -> bool
-    ensures { result ≡ issues_at b c i.now }
-{
-    i.active && i.block.0 == b && i.cycle == c
-}
-
-/// How much of a resource an operation takes in this cycle of this block.
-fn share_at(resource: Resource, b: u32, c: u32, i: &Issue) -> u32
-    ensures { result ≡ (if issues_at b c i.now then share_of resource i.now else 0) }
-{
-    if is_at(b, c, i) {
-        share(resource, i)
-    } else {
-        0
-    }
-}
-
-/// Whether the operations in this cycle of this block take no more of a resource than a packet has.
-fn fits(issues: &[Issue], b: u32, c: u32, resource: Resource) -> bool
-    ensures { IsTrue result ↔ Fits issues.now b c resource }
-{
-    let mut left = places(resource);
-    for i in issues {
-        let taken = share_at(resource, b, c, i);
-        if taken > left {
-            return false;
-        }
-        left -= taken;
-    }
-    true
-}
-
-/// Whether the operations in the cycle of this one have room in one packet.
-#[tactic(auto, unfolding(crate::specs::Solutions::HasRoom))]
-fn has_room(issues: &[Issue], i: &Issue) -> bool
-    ensures { IsTrue result ↔ HasRoom issues.now i.now }
-{
-    let b = i.block.0;
-    let c = i.cycle;
-    fits(issues, b, c, Resource::Instructions)
-        && fits(issues, b, c, Resource::Accesses)
-        && fits(issues, b, c, Resource::Stores)
-        && fits(issues, b, c, Resource::Products)
-        && fits(issues, b, c, Resource::Transfers)
-}
-
-/// Whether the operations of each cycle have room in one packet.
-pub(crate) fn keeps_packets(issues: &[Issue]) -> bool
-    ensures { IsTrue result ↔ All (HasRoom issues.now) issues.now }
-{
-    issues.iter().all(|i| has_room(issues, i))
 }
 
 /// Whether a temporary has this home, where there is one.

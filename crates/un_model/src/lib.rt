@@ -8,6 +8,8 @@ mod homes;
 mod instructions;
 pub mod limits;
 pub mod model;
+mod occupations;
+mod packets;
 pub mod placement;
 mod registers;
 pub mod schedule;

@@ -7,11 +7,12 @@ ghost use Rattle.un_model.specs.Schedules.{schedule_of};
 ghost use Rattle.un_model.specs.Straight.{IsModel, IsStraightExt};
 
 use crate::clauses::{
-    keeps_choices, keeps_domains, keeps_homes, keeps_latencies, keeps_packets, keeps_registers,
-    keeps_spaces, keeps_zeros,
+    keeps_choices, keeps_domains, keeps_homes, keeps_latencies, keeps_spaces, keeps_zeros,
 };
 use crate::cost::value;
 use crate::model::{Model, Solution};
+use crate::occupations::keeps_registers;
+use crate::packets::keeps_packets;
 use crate::placement::schedule;
 use crate::schedule::Schedule;
 use crate::verdict::{Broken, Verdict};
@@ -27,24 +28,26 @@ fn keeps_frame(values: &[u32], flag: VarId) -> bool
 }
 
 /// Which clauses a schedule keeps.
-fn verdict(m: &Model, values: &[u32], t: &Schedule) -> Verdict
-    ensures { Tells result m.now values.now t.now }
+fn verdict(alloc: Global, m: &Model, values: &[u32], t: &Schedule) -> Result<Verdict, NoMemory>
+    ensures { IfOk result (λ v. Tells v m.now values.now t.now) }
 {
     let issues = t.issues.as_slice();
     let reads = t.reads.as_slice();
     let holds = t.holds.as_slice();
-    Verdict {
+    let registers = keeps_registers(alloc, m.ext.table.clobbered, issues, holds)?;
+    let packets = keeps_packets(alloc, issues)?;
+    Ok(Verdict {
         domains: keeps_domains(m.domains.as_slice(), values),
         zeros: keeps_zeros(issues, holds),
         choices: keeps_choices(reads, holds),
         spaces: keeps_spaces(reads, holds),
         latencies: keeps_latencies(issues, reads, holds),
         memory: true,
-        registers: keeps_registers(holds),
-        packets: keeps_packets(issues),
+        registers,
+        packets,
         homes: keeps_homes(reads, holds),
         frame: keeps_frame(values, m.flag),
-    }
+    })
 }
 
 /// A clause after those so far, where it is not kept.
@@ -91,7 +94,7 @@ pub fn violations(alloc: Global, m: &Model, s: &Solution) -> Result<Vec<Broken>,
     ensures solves { IfOk result (λ list. (list.items ≡ []) ↔ IsSolution m.now s.now) }
 {
     let t = schedule(alloc, m, s)?;
-    let found = verdict(m, s.values.as_slice(), &t);
+    let found = verdict(alloc, m, s.values.as_slice(), &t)?;
     let list = listed(alloc, found)?;
     Ok(list)
 }

@@ -9,8 +9,8 @@ returns c = record {
   spaces = rw (c.as_slice-reads.ensures, c.as_slice-holds.ensures) at c.keeps_spaces.ensures;
   latencies = rw (c.as_slice-issues.ensures, c.as_slice-reads.ensures, c.as_slice-holds.ensures) at c.keeps_latencies.ensures;
   memory = refl;
-  registers = rw (c.as_slice-holds.ensures) at c.keeps_registers.ensures;
-  packets = rw (c.as_slice-issues.ensures) at c.keeps_packets.ensures;
+  registers = rw (c.as_slice-issues.ensures, c.as_slice-holds.ensures) at c.in_ok-registers.ensures;
+  packets = rw (c.as_slice-issues.ensures) at c.in_ok-packets.ensures;
   homes = rw (c.as_slice-reads.ensures, c.as_slice-holds.ensures) at c.keeps_homes.ensures;
   frame = c.keeps_frame.ensures;
 }
