@@ -15,7 +15,7 @@ use Rattle.un_model.specs.declared.schedule.Hold.{Hold}
 use Rattle.un_model.specs.Cost.{value_of}
 use Rattle.un_model.specs.Pairs.{pairs_from}
 use Rattle.un_model.specs.Schedules.{chosen, cycle_for, last_read, last_reads, hold_by, hold_of, holds_of}
-use Rattle.un_model.specs.Solutions.{InDomain, KeepsDomains, IsHeld, LeavesGap, latency_gap, ReadsHome, IsHome, ShareNoCycle, IsApart}
+use Rattle.un_model.specs.Solutions.{InDomain, KeepsDomains, IsHeld, LeavesGap, latency_gap, ReadsHome, IsHome, ShareNoCycle}
 use Rattle.un_model.specs.Variables.{choice_domain}
 use Rattle.un_emit.specs.Emission.{register_by}
 use Rattle.un_emit.proofs.Packets.{Plan, Read}
@@ -115,7 +115,7 @@ last_above reads = above_each reads reads (λ t. 0) (λ t. refl)
 -- a read leaves the latency, and the temporary stands until then
 gives : (r : Reading) (last : ℕ) (values : List ℕ) (x : TempVars) (i : Option Issue) → let h : Option Hold = Some (hold_by values x last i) in IsHeld h → LeavesGap latency_gap r h → r.cycle ≤ last → (from_by h + lat_by h ≤ r.cycle) × (r.cycle ≤ last_by h + 1)
 gives r last values x None active gap le = absurd (cc active)
-gives r last values x (Some i) active gap le = (gap, omega arith)
+gives r last values x (Some i) active gap le = (gap active, omega arith)
 
 pub read_of : (values : List ℕ) (issues : List Issue) (reads : List Reading) (temps : List TempVars) (value : ℕ → ℕ) (total : ℕ) (r : Reading) (t c : ℕ) → IsFitRead values issues reads temps r → r.temp.0 ≡ t → r.cycle ≡ c → t < total
     → Read (plan_of values issues reads temps value) total t c
@@ -158,6 +158,11 @@ within [] i x h = absurd (cc h)
 within (y ∷ xs) zero x h = omega arith
 within (y ∷ xs) (suc i) x h = let r = within xs i x h in omega arith
 
+-- two spans that share no cycle stand one after the other
+one_after : (a b c d : ℕ) → a ≤ b → c ≤ d → ((n : ℕ) → (a ≤ n) × (n ≤ b) → (c ≤ n) × (n ≤ d) → ⊥) → (b < c) ⊎ (d < a)
+one_after a b c d ab cd h =
+    ⊎_elim (λ (lt : b < c). inl lt) (λ (le : c ≤ b). ⊎_elim (λ (lt : d < a). inr lt) (λ (le2 : a ≤ d). absurd (h (max a c) (omega arith, omega arith) (omega arith, omega arith))) (cases_lt d a)) (cases_lt b c)
+
 apart_lt : (values : List ℕ) (issues : List Issue) (reads : List Reading) (temps : List TempVars) (value : ℕ → ℕ) (a b : ℕ) → AllPairs ShareNoCycle (holds_of values issues reads temps) → IsDefined values issues temps a → IsDefined values issues temps b → a < b
     → let p = plan_of values issues reads temps value in p.reg a ≡ p.reg b → (p.last a < p.from b) ⊎ (p.last b < p.from a)
 unfolding ShareNoCycle
@@ -172,7 +177,7 @@ apart_lt values issues reads temps value a b h da db lt same =
     let raw = h a b ha lt (within holds b hb sb) in
     let ready : ShareNoCycle ha hb = subst (λ (x : Hold). ShareNoCycle ha x) (at_place holds b hb ha sb) (subst (λ (x : Hold). ShareNoCycle x (slice_index_or holds b ha)) (at_place holds a ha ha sa) raw) in
     let regs : ha.reg ≡ hb.reg = sym (ap (λ (o : Option TempVars). (register_by values o).0) da.its) ∙ same ∙ ap (λ (o : Option TempVars). (register_by values o).0) db.its in
-    let done = ready da.active db.active (da.block ∙ sym db.block) regs in
+    let done = one_after ha.from ha.last hb.from hb.last (omega arith) (omega arith) (ready da.active db.active (da.block ∙ sym db.block) regs) in
     subst (λ (x : Option Hold). (last_by x < from_by (held values issues reads temps b)) ⊎ (last_by (held values issues reads temps b) < from_by x)) (sym ga)
     (subst (λ (x : Option Hold). (ha.last < from_by x) ⊎ (last_by x < ha.from)) (sym gb) done)
 

@@ -219,7 +219,7 @@ both t fit f b o s returned few sol params plain lt start can =
     let begins : (i : ℕ) → i < first → Starts x i (slice_index (saved_registers t) i) = λ i below. starts t f b o s value returned sol i below in
     let defined : (i : ℕ) → i < total → Defined x i = λ i below. ⊎_elim (λ (h : i < first). (begins i h).defined) (λ (h : first ≤ i). w.defined i h below) (cases_lt i first) in
     let apart : IsApartPlan p first total = record {
-      apart = λ a d la ld ne same. apart_by s.values x.issues x.reads m.temps value a d sol.registers (defined a la) (defined d ld) ne same;
+      apart = λ a d la ld ne same. apart_by s.values x.issues x.reads m.temps value a d sol.registers.0 (defined a la) (defined d ld) ne same;
       spans = λ i below. spans_by s.values x.issues x.reads m.temps value i (defined i below);
       quick = λ i below. quick_by s.values x.issues x.reads m.temps value i (defined i below);
       small = λ i below. ⊎_elim (λ (h : i < first). let e = (begins i h).reg in let k = saved_small t i h in omega (arith, e, k)) (λ (h : first ≤ i). let k = (w.good i h below).0 in omega (arith, k)) (cases_lt i first);

@@ -215,8 +215,8 @@ one x fit away total n q first a current o ops (addition dst b c le lb lc) lt be
     record {
       placed = (
         body_lat x fit n q first o operands (temp n) ops h,
-        read_of x.s.values x.issues x.reads x.m.temps value total (reading_of x.s.values (Body o) (slice_index x.s.values (first + 0)) 0 (reads ta None) (var_at (first + 0 + 1))) ta ((plan x).from n) r.0 (ap (λ (y : TempId). y.0) ca) (sym from) (let k = below b lb in omega arith),
-        read_of x.s.values x.issues x.reads x.m.temps value total (reading_of x.s.values (Body o) (slice_index x.s.values (first + 0)) 1 (reads tb None) (var_at (first + 0 + 1 + 1))) tb ((plan x).from n) r.1.0 (ap (λ (y : TempId). y.0) cb) (sym from) (let k = below c lc in omega arith),
+        read_of x.s.values x.issues x.reads x.m.temps value total (reading_of x.s.values (Body o) 0 (slice_index x.s.values (first + 0)) 0 (reads ta None) (var_at (first + 0 + 1))) ta ((plan x).from n) r.0 (ap (λ (y : TempId). y.0) ca) (sym from) (let k = below b lb in omega arith),
+        read_of x.s.values x.issues x.reads x.m.temps value total (reading_of x.s.values (Body o) 0 (slice_index x.s.values (first + 0)) 1 (reads tb None) (var_at (first + 0 + 1 + 1))) tb ((plan x).from n) r.1.0 (ap (λ (y : TempId). y.0) cb) (sym from) (let k = below c lc in omega arith),
       );
       defined = body_defined x fit n q first o operands (temp n) ops h;
       good = good_register x (temp n) ((plan x).reg n) away (body_domain x fit n q first o operands (temp n) ops h);
@@ -240,12 +240,12 @@ pub record Ended (x : Scene) (total l q first rt : ℕ) (kept : List ℕ) (ops :
   pub code : (c : ℕ) → code_in x c q first ops ≡ tail_in (plan x) x.end l c
 
 saved_reads : (x : Scene) (total : ℕ) (rs : List ℕ) (k j a : ℕ) → InDomains x.s.values a (map choice_domain (saved_operands k rs))
-    → AllByRecursion (Fit x) (pairs_from (reading_of x.s.values Out x.end) j (saved_operands k rs) (map var_at (range_with_len a (length (saved_operands k rs))))) → k + length rs ≤ total
+    → AllByRecursion (Fit x) (pairs_from (reading_of x.s.values Out 0 x.end) j (saved_operands k rs) (map var_at (range_with_len a (length (saved_operands k rs))))) → k + length rs ≤ total
     → (i : ℕ) → i < length rs → Read (plan x) total (k + i) x.end
 saved_reads x total [] k j a d h few i lt = absurd (omega arith)
 saved_reads x total (r ∷ rs) k j a d h few zero lt =
     let here : k ≡ k + 0 = omega arith in
-    read_of x.s.values x.issues x.reads x.m.temps x.value total (reading_of x.s.values Out x.end j (reads k (Some (record { 0 = r }))) (var_at a)) (k + 0) x.end h.0 (ap (λ (y : TempId). y.0) (only_choice k (slice_index x.s.values a) d.0.1) ∙ here) refl (omega arith)
+    read_of x.s.values x.issues x.reads x.m.temps x.value total (reading_of x.s.values Out 0 x.end j (reads k (Some (record { 0 = r }))) (var_at a)) (k + 0) x.end h.0 (ap (λ (y : TempId). y.0) (only_choice k (slice_index x.s.values a) d.0.1) ∙ here) refl (omega arith)
 saved_reads x total (r ∷ rs) k j a d h few (suc i) lt =
     let e : k + 1 + i ≡ k + suc i = omega arith in
     subst (λ (n : ℕ). Read (plan x) total n x.end) e (saved_reads x total rs (k + 1) (j + 1) (a + 1) d.1 h.1 (omega arith) i (omega arith))
@@ -288,12 +288,12 @@ ended x total n q first returned current few lt h =
     let cw = only_choice rt w zw in
     let reg : TempId → Reg = register_of x.m x.s in
     let jump_at : Reg → Instr = λ (y : Reg). record (jump_by p l) { srcs = y ∷ [] } in
-    let result_reading = reading_of values Out x.end 0 (reads rt (Some (record { 0 = x.t.result }))) (var_at (past + 0 + 0)) in
+    let result_reading = reading_of values Out 0 x.end 0 (reads rt (Some (record { 0 = x.t.result }))) (var_at (past + 0 + 0)) in
     let saved_domains = (split_domains values (past + 1) (map choice_domain (saved_operands 0 kept)) [] (split_domains values (past + 1) (map choice_domain (saved_operands 0 kept) ++ []) [] parts.1.1).0).0 in
     let first_saved : past + 1 ≡ past + 0 + 0 + 1 = omega arith in
     record {
       long = let k = (h.placed.0.0 refl).0 in omega (arith, k, last);
-      link = read_of values x.issues x.reads x.m.temps x.value total (reading_of values (back.kind) cycle 0 (reads l None) (var_at (first + 0 + 1))) l (x.end - 1) fits.0.0 (ap (λ (y : TempId). y.0) cv) (omega arith) few;
+      link = read_of values x.issues x.reads x.m.temps x.value total (reading_of values (back.kind) 0 cycle 0 (reads l None) (var_at (first + 0 + 1))) l (x.end - 1) fits.0.0 (ap (λ (y : TempId). y.0) cv) (omega arith) few;
       result = read_of values x.issues x.reads x.m.temps x.value total result_reading rt x.end outs.0.0 (ap (λ (y : TempId). y.0) cw) refl lt;
       result_home = ap (λ (y : TempId). p.reg y.0) (sym cw) ∙ home_of values x.issues x.reads result_reading.temp.0 (slice_get x.m.temps result_reading.temp.0) result_reading x.t.result refl outs.0.0.home;
       saved = λ i below. let e : 0 + i ≡ i = omega arith in subst (λ (n : ℕ). Read p total n x.end) e (saved_reads x total kept 0 (0 + 1) (past + 0 + 0 + 1) (subst (λ (n : ℕ). InDomains values n (map choice_domain (saved_operands 0 kept))) first_saved saved_domains) outs.0.1 (omega arith) i below);

@@ -1,6 +1,8 @@
 pub mod Singles
 pub mod PairSteps
 pub mod BuildSteps
+pub mod HomeSteps
+pub mod HomeMasks
 pub mod Verdicts
 pub mod Orders
 pub mod Calls

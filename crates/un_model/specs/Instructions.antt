@@ -85,10 +85,29 @@ abbrev pub result_space_by : Bool → Space
 result_space_by true = P
 result_space_by false = R
 
--- the space of an operation's results: the values at a block's start may be in any
-abbrev pub result_space : ExtKind → Option Space
-result_space (Body o) = Some (result_space_by (gives_pred o.op))
-result_space _ = None
+-- the spaces of what a copy by this instruction reads and of what it gives
+abbrev pub copy_spaces : Option Op → Option (Space × Space)
+copy_spaces (Some Mov) = Some (R, R)
+copy_spaces (Some Spill) = Some (R, M)
+copy_spaces (Some Reload) = Some (M, R)
+copy_spaces (Some P2R) = Some (P, R)
+copy_spaces (Some R2P) = Some (R, P)
+copy_spaces _ = None
+
+abbrev pub first_space : Option (Space × Space) → Option Space
+first_space None = None
+first_space (Some spaces) = Some spaces.0
+
+abbrev pub second_space : Option (Space × Space) → Option Space
+second_space None = None
+second_space (Some spaces) = Some spaces.1
+
+-- the space of an operation's results, where its variable of the instruction has the value n: the values at a block's start
+-- may be in any
+abbrev pub result_space : ExtKind → ℕ → Option Space
+result_space (Body o) n = Some (result_space_by (gives_pred o.op))
+result_space (Copy node) n = second_space (copy_spaces (copy_of n))
+result_space _ n = None
 
 -- the space of the operand at place j of an operation of the source: only a Mux reads a truth value, at place 0
 abbrev pub source_space : Op → ℕ → Space
@@ -99,8 +118,10 @@ abbrev pub transfer_space : Term → Space
 transfer_space (Branch pred sense to) = P
 transfer_space _ = R
 
--- the space of the operand at place j: those at a block's end may be in any
-abbrev pub operand_space : ExtKind → ℕ → Option Space
-operand_space (Body o) j = Some (source_space o.op j)
-operand_space (End term) j = Some (transfer_space term)
-operand_space _ j = None
+-- the space of the operand at place j, where the variable of the instruction has the value n: those at a block's end may be
+-- in any
+abbrev pub operand_space : ExtKind → ℕ → ℕ → Option Space
+operand_space (Body o) n j = Some (source_space o.op j)
+operand_space (End term) n j = Some (transfer_space term)
+operand_space (Copy node) n j = first_space (copy_spaces (copy_of n))
+operand_space _ n j = None

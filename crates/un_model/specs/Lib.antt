@@ -1,4 +1,5 @@
 pub mod Cost
+pub mod Homes
 pub mod Instructions
 pub mod Orders
 pub mod Pairs

@@ -53,7 +53,7 @@ issue_of t values b end o vars = record {
   latency = latency_by t (instruction_of o.kind (value_by values vars.instr));
   width = width_by (instruction_of o.kind (value_by values vars.instr));
   needs = needs_by t (instruction_of o.kind (value_by values vars.instr));
-  space = result_space o.kind;
+  space = result_space o.kind (value_by values vars.instr);
 }
 
 abbrev pub block_issues : Table → List ℕ → ℕ → ExtBlock → BlockVars → List Issue
@@ -63,20 +63,20 @@ block_issues t values b block vars = pairs_from (λ (n : ℕ). issue_of t values
 abbrev pub chosen : List TempId → ℕ → TempId
 chosen alts c = unwrap_or (slice_get alts c) (record { 0 = 0 })
 
--- what the operand at place j of an operation reads in this cycle
-abbrev pub read_of : List ℕ → ExtKind → ℕ → ℕ → Operand → VarId → Read
-read_of values kind cycle j x choice = record {
+-- what the operand at place j of an operation, whose variable of the instruction has the value n, reads in this cycle
+abbrev pub read_of : List ℕ → ExtKind → ℕ → ℕ → ℕ → Operand → VarId → Read
+read_of values kind n cycle j x choice = record {
   temp = chosen x.alts (value_of values choice);
   cycle = cycle;
-  space = operand_space kind j;
+  space = operand_space kind n j;
   home = x.home;
 }
 
 -- what an operation reads, where it is active
 abbrev pub op_reads : List ℕ → ℕ → ℕ → ExtOp → OpVars → List Read
-op_reads values end n o vars =
+op_reads values end i o vars =
     if is_active values vars.instr
-    then pairs_from (read_of values o.kind (cycle_of values end o.kind vars)) 0 o.operands vars.choices
+    then pairs_from (read_of values o.kind (value_by values vars.instr) (cycle_of values end o.kind vars)) 0 o.operands vars.choices
     else []
 
 abbrev pub block_reads : List ℕ → ExtBlock → BlockVars → List Read

@@ -72,7 +72,7 @@ abbrev pub KeepsSpaces : Schedule → Type 0
 KeepsSpaces t = All (λ (r : Read). ReadsInSpace r (slice_get t.holds r.temp.0)) t.reads × All (λ (h : Hold). InSpace h.reg h.space) t.holds
 
 -- 5: an active operation issues in its block, a transfer in the block's last cycle, and a user leaves a gap after the
--- definer of what it reads
+-- definer of what it reads, where that is active
 
 abbrev pub IsLast : Role → Issue → Type 0
 IsLast Transfer i = i.cycle + 1 ≡ i.end
@@ -87,7 +87,7 @@ IsPlaced i = IsWithin i.role i × IsLast i.role i
 
 abbrev pub LeavesGap : (Hold → Read → ℕ) → Read → Option Hold → Type 0
 LeavesGap gap r None = ⊥
-LeavesGap gap r (Some h) = h.from + gap h r ≤ r.cycle
+LeavesGap gap r (Some h) = h.active ≡ true → h.from + gap h r ≤ r.cycle
 
 -- a user waits for its definer's latency
 abbrev pub latency_gap : Hold → Read → ℕ

@@ -2,28 +2,19 @@
 
 ghost use Rattle.std.specs.Prelude.{◌≡◌, ℕ, ◌+◌, ◌-◌, ◌<◌, ◌≤◌, ◌++◌, ◌∷◌, [], List, map, length, IfOk, OnOk};
 ghost use Rattle.std.specs.List.{range_with_len};
-ghost use Rattle.un_model.specs.Registers.{saved_registers};
+ghost use Rattle.un_model.specs.Homes.{IsScope};
 ghost use Rattle.un_model.specs.Straight.{IsModel, IsStraightExt};
 ghost use Rattle.un_model.specs.Variables.{instr_domain, cycle_domain, choice_domain, register_domains, some_domain, op_domains, var_for, var_at, cycle_place, choice_place, register_place, op_vars, op_temps, ops_domains, ops_vars, ops_temps, model_of};
 
+use crate::homes::homes;
 use crate::model::{BlockVars, Model, OpVars, Options, TempVars};
-use crate::registers::{domain, saved};
+use crate::registers::{Scope, domain, saved};
 use std::alloc::Global;
 use un_base::ids::{OpId, TempId, VarId};
 use un_base::memory_error::NoMemory;
 use un_domains::domain::Domain;
-use un_ir::extended::{Ext, ExtBlock, ExtKind, ExtOp, Operand};
-use un_isa::table::Table;
+use un_ir::extended::{Ext, ExtKind, ExtOp, Operand};
 use un_lists::items::Items;
-
-/// What the variables of a block are made by.
-#[derive(Clone, Copy)]
-struct Scope<'a> {
-    table: &'a Table,
-    saved: &'a Items<u32>,
-    options: &'a Options,
-    block: &'a ExtBlock,
-}
 
 /// The number of a thing, where it has one below 2^32: more things are not held in memory.
 fn number(n: usize) -> Result<u32, NoMemory>
@@ -118,7 +109,7 @@ fn add_results(
     n: u32,
     op: &ExtOp,
 ) -> Result<(), NoMemory>
-    requires { scope.now.saved.now ≡ saved_registers scope.now.table.now }
+    requires { IsScope scope.now.table.now scope.now.block.now.ops scope.now.saved.now scope.now.homes.now }
     ensures domains { OnOk result
         (domains.new ≡ domains.old ++ register_domains scope.now.table.now scope.now.options.now scope.now.block.now op.now.kind 0 op.now.results) }
     ensures temps { OnOk result
@@ -126,16 +117,7 @@ fn add_results(
 {
     for j in 0..op.results.len() {
         let x = *op.results.get(j);
-        let d = domain(
-            alloc,
-            scope.table,
-            scope.saved,
-            scope.options,
-            scope.block,
-            &op.kind,
-            j,
-            x,
-        )?;
+        let d = domain(alloc, scope, &op.kind, j, x)?;
         let reg = add(domains, d)?;
         temps.push(TempVars {
             op: OpId(n),
@@ -155,7 +137,7 @@ fn add_op(
     n: u32,
     op: &ExtOp,
 ) -> Result<OpVars, NoMemory>
-    requires { scope.now.saved.now ≡ saved_registers scope.now.table.now }
+    requires { IsScope scope.now.table.now scope.now.block.now.ops scope.now.saved.now scope.now.homes.now }
     ensures domains { OnOk result
         (domains.new ≡ domains.old ++ op_domains scope.now.table.now scope.now.options.now scope.now.block.now scope.now.block.now.horizon op.now) }
     ensures temps { OnOk result
@@ -181,7 +163,7 @@ fn add_ops(
     temps: &mut Items<TempVars>,
     scope: &Scope<'_>,
 ) -> Result<Items<OpVars>, NoMemory>
-    requires { scope.now.saved.now ≡ saved_registers scope.now.table.now }
+    requires { IsScope scope.now.table.now scope.now.block.now.ops scope.now.saved.now scope.now.homes.now }
     ensures domains { OnOk result
         (domains.new ≡ domains.old ++ ops_domains scope.now.table.now scope.now.options.now scope.now.block.now scope.now.block.now.horizon scope.now.block.now.ops) }
     ensures temps { OnOk result
@@ -208,9 +190,11 @@ pub fn build(alloc: Global, e: &Ext, o: &Options) -> Result<Model, NoMemory>
 {
     let saved = saved(alloc, &e.table)?;
     let block = e.blocks.get(0);
+    let homes = homes(alloc, &block.ops)?;
     let scope = Scope {
         table: &e.table,
         saved: &saved,
+        homes: &homes,
         options: o,
         block,
     };

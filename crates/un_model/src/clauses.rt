@@ -134,11 +134,12 @@ fn is_placed(i: &Issue) -> bool
     is_within(i) && is_last(i)
 }
 
-/// Whether a user issues no earlier than the latency after the definer of what it reads.
+/// Whether a user issues no earlier than the latency after the definer of what it reads, where that is active.
 fn is_ready(h: &Hold, r: &Read) -> bool
-    ensures { IsTrue result ↔ (h.now.from + h.now.latency ≤ r.now.cycle) }
+    ensures { IsTrue result
+        ↔ (h.now.active ≡ true → h.now.from + latency_gap h.now r.now ≤ r.now.cycle) }
 {
-    u64::from(h.from) + u64::from(h.latency) <= u64::from(r.cycle)
+    !h.active || u64::from(h.from) + u64::from(h.latency) <= u64::from(r.cycle)
 }
 
 /// Whether a user waits for the definer of what it reads.

@@ -1,15 +1,14 @@
 //! What the operations of an extended function are as instructions.
 
 ghost use Rattle.std.specs.Prelude.{◌≡◌, ◌+◌, ◌<◌};
-ghost use Rattle.un_isa.specs.Tables.{latency_of};
-ghost use Rattle.un_model.specs.Instructions.{transfer_of, copy_of, instruction_of, latency_by, width_by, needs_by, no_needs, role_of, role_by, gives_pred, result_space, source_space, transfer_space, operand_space};
+ghost use Rattle.un_model.specs.Instructions.{transfer_of, copy_of, instruction_of, latency_by, width_by, needs_by, no_needs, role_of, role_by, gives_pred, result_space, result_space_by, copy_spaces, first_space, second_space, source_space, transfer_space, operand_space};
 
 use crate::schedule::Role;
 use un_ir::extended::ExtKind;
 use un_ir::function::Term;
 use un_isa::op::Op;
 use un_isa::reg::Space;
-use un_isa::table::{Needs, Table};
+use un_isa::table::{self, Needs, Table};
 
 /// The instruction of a terminator.
 fn transfer(term: Term) -> Option<Op>
@@ -58,7 +57,7 @@ pub(crate) fn latency(t: &Table, op: Option<Op>) -> u32
 {
     match op {
         None => 1,
-        Some(instruction) => u32::from(t.lat[instruction as usize]),
+        Some(instruction) => table::latency(t, instruction),
     }
 }
 
@@ -83,7 +82,7 @@ pub(crate) fn needs(t: &Table, op: Option<Op>) -> Needs
             xc: 0,
             control: 0,
         },
-        Some(instruction) => t.uses[instruction as usize],
+        Some(instruction) => table::uses(t, instruction),
     }
 }
 
@@ -112,9 +111,23 @@ pub(crate) fn is_comparison(op: Op) -> bool
     }
 }
 
-/// The space of an operation's results, None where they may be in any.
-pub(crate) fn space_of_result(kind: &ExtKind) -> Option<Space>
-    ensures { result ≡ result_space kind.now }
+/// The spaces of what a copy by this instruction reads and of what it gives.
+fn copy_spaces(op: Option<Op>) -> Option<(Space, Space)>
+    ensures { result ≡ copy_spaces op }
+{
+    match op {
+        Some(Op::Mov) => Some((Space::R, Space::R)),
+        Some(Op::Spill) => Some((Space::R, Space::M)),
+        Some(Op::Reload) => Some((Space::M, Space::R)),
+        Some(Op::P2R) => Some((Space::P, Space::R)),
+        Some(Op::R2P) => Some((Space::R, Space::P)),
+        _ => None,
+    }
+}
+
+/// The space of an operation's results, whose variable of the instruction has the value `n`; None where they may be in any.
+pub(crate) fn space_of_result(kind: &ExtKind, n: u32) -> Option<Space>
+    ensures { result ≡ result_space kind.now n }
 {
     match kind {
         ExtKind::Body(source) => {
@@ -124,13 +137,18 @@ pub(crate) fn space_of_result(kind: &ExtKind) -> Option<Space>
                 Some(Space::R)
             }
         }
+        ExtKind::Copy(_) => match copy_spaces(copy(n)) {
+            None => None,
+            Some(spaces) => Some(spaces.1),
+        },
         _ => None,
     }
 }
 
-/// The space of the operand at place `j` of an operation, None where it may be in any.
-pub(crate) fn space_of_operand(kind: &ExtKind, j: usize) -> Option<Space>
-    ensures { result ≡ operand_space kind.now j }
+/// The space of the operand at place `j` of an operation, whose variable of the instruction has the value `n`; None where it
+/// may be in any.
+pub(crate) fn space_of_operand(kind: &ExtKind, n: u32, j: usize) -> Option<Space>
+    ensures { result ≡ operand_space kind.now n j }
 {
     match kind {
         ExtKind::Body(source) => {
@@ -143,6 +161,10 @@ pub(crate) fn space_of_operand(kind: &ExtKind, j: usize) -> Option<Space>
         ExtKind::End(term) => match term {
             Term::Branch { .. } => Some(Space::P),
             _ => Some(Space::R),
+        },
+        ExtKind::Copy(_) => match copy_spaces(copy(n)) {
+            None => None,
+            Some(spaces) => Some(spaces.0),
         },
         _ => None,
     }

@@ -4,6 +4,7 @@
 pub mod build;
 mod clauses;
 pub mod cost;
+mod homes;
 mod instructions;
 pub mod limits;
 pub mod model;

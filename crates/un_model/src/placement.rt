@@ -76,7 +76,8 @@ fn is_zero(values: &[u32], vars: &OpVars) -> bool
 fn issue(t: &Table, values: &[u32], b: u32, end: u32, op: &ExtOp, vars: &OpVars) -> Issue
     ensures { result ≡ issue_of t.now values.now b end op.now vars.now }
 {
-    let instruction = instruction(&op.kind, optional_value(values, vars.instr));
+    let n = optional_value(values, vars.instr);
+    let instruction = instruction(&op.kind, n);
     Issue {
         block: BlockId(b),
         role: role(&op.kind),
@@ -87,7 +88,7 @@ fn issue(t: &Table, values: &[u32], b: u32, end: u32, op: &ExtOp, vars: &OpVars)
         latency: latency(t, instruction),
         width: width(instruction),
         needs: needs(t, instruction),
-        space: space_of_result(&op.kind),
+        space: space_of_result(&op.kind, n),
     }
 }
 
@@ -111,16 +112,17 @@ fn block_issues(
     Ok(issues)
 }
 
-/// What the operand at place `j` of an operation reads.
+/// What the operand at place `j` of an operation reads, of which the variable of the instruction has the value `n`.
 fn read(
     values: &[u32],
     kind: &ExtKind,
+    n: u32,
     cycle: u32,
     j: usize,
     operand: &Operand,
     choice: VarId,
 ) -> Read
-    ensures { result ≡ read_of values.now kind.now cycle j operand.now choice }
+    ensures { result ≡ read_of values.now kind.now n cycle j operand.now choice }
 {
     let place = value(values, choice) as usize;
     Read {
@@ -131,7 +133,7 @@ fn read(
             .copied()
             .unwrap_or(TempId(0)),
         cycle,
-        space: space_of_operand(kind, j),
+        space: space_of_operand(kind, n, j),
         home: operand.home,
     }
 }
@@ -145,13 +147,14 @@ fn push_operands(
     vars: &OpVars,
 ) -> Result<(), NoMemory>
     ensures { OnOk result
-        (reads.new ≡ reads.old ++ pairs_from (read_of values.now op.now.kind cycle) 0 op.now.operands vars.now.choices) }
+        (reads.new ≡ reads.old ++ pairs_from (read_of values.now op.now.kind (value_by values.now vars.now.instr) cycle) 0 op.now.operands vars.now.choices) }
 {
-    let n = op.operands.len().min(vars.choices.len());
-    for j in 0..n {
+    let n = optional_value(values, vars.instr);
+    for j in 0..op.operands.len().min(vars.choices.len()) {
         reads.push(read(
             values,
             &op.kind,
+            n,
             cycle,
             j,
             op.operands.get(j),
@@ -170,7 +173,7 @@ fn push_reads(
     vars: &OpVars,
 ) -> Result<(), NoMemory>
     ensures { OnOk result
-        ((n : ℕ) → reads.new ≡ reads.old ++ op_reads values.now end n op.now vars.now) }
+        ((i : ℕ) → reads.new ≡ reads.old ++ op_reads values.now end i op.now vars.now) }
 {
     if is_active(values, vars.instr) {
         let cycle = cycle(values, end, &op.kind, vars);

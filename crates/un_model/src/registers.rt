@@ -3,17 +3,18 @@
 ghost use Rattle.std.specs.Prelude.{◌≡◌, ℕ, ◌+◌, ◌-◌, ◌<◌, ◌||◌, ◌∷◌, [], length, IfOk, filter, slice_index};
 ghost use Rattle.std.specs.List.{range_with_len};
 ghost use Rattle.un_isa.specs.Tables.{in_mask};
-ghost use Rattle.un_model.specs.Registers.{is_assignable, kept_registers, saved_registers, entry_home, entry_home_by, is_register, reads_value, is_home_in, is_home, general_registers, predicate_registers};
+ghost use Rattle.un_model.specs.Registers.{is_assignable, kept_registers, saved_registers, entry_home, entry_home_by, general_registers, predicate_registers};
+ghost use Rattle.un_model.specs.Homes.{IsScope};
 ghost use Rattle.un_model.specs.Variables.{register_domain, source_domain};
 
+use crate::homes::{Homes, mask};
 use crate::instructions::is_comparison;
 use crate::model::Options;
 use std::alloc::Global;
 use un_base::ids::{NameId, TempId};
 use un_base::memory_error::NoMemory;
 use un_domains::domain::Domain;
-use un_ir::extended::{ExtBlock, ExtKind, ExtOp, Operand};
-use un_isa::reg::Reg;
+use un_ir::extended::{ExtBlock, ExtKind};
 use un_isa::table::Table;
 use un_lists::items::Items;
 
@@ -65,70 +66,57 @@ fn home(t: &Table, saved: &Items<u32>, live_in: &Items<NameId>, j: usize) -> u32
     }
 }
 
-/// Whether an operand is preassigned to a register.
-fn is_register(home: Option<Reg>, r: u32) -> bool
-    ensures { result ≡ is_register home r }
+/// The assignable registers and those of a mask.
+fn assignable(alloc: Global, regs: Option<u32>, mask: u64) -> Result<Vec<u32>, NoMemory>
+    ensures { IfOk result
+        (λ registers. registers.items ≡ filter (λ r. is_assignable regs r || in_mask mask r) (range_with_len 0 32)) }
 {
-    match home {
-        None => false,
-        Some(reg) => reg.0 == r,
-    }
+    let registers = (0..32u32)
+        .filter(|r| is_assignable(regs, *r) || is_in(mask, *r))
+        .collect(alloc)?;
+    Ok(registers)
 }
 
-/// Whether an operand may read a temporary.
-fn reads_value(operand: &Operand, x: TempId) -> bool
-    ensures { result ≡ reads_value operand.now x }
-{
-    operand.alts.as_slice().iter().any(|t| t.0 == x.0)
-}
-
-/// Whether an operand of an operation reads a temporary and is preassigned to a register.
-fn is_home_in(op: &ExtOp, x: TempId, r: u32) -> bool
-    ensures { result ≡ is_home_in op.now x r }
-{
-    op.operands.as_slice().iter().any(|operand| reads_value(operand, x)
-        && is_register(operand.home, r))
-}
-
-/// Whether a register is a home of a temporary.
-fn is_home(ops: &[ExtOp], x: TempId, r: u32) -> bool
-    ensures { result ≡ is_home ops.now x r }
-{
-    ops.iter().any(|op| is_home_in(op, x, r))
+/// What the domains of a block's variables are made of.
+#[derive(Clone, Copy)]
+pub(crate) struct Scope<'a> {
+    pub(crate) table: &'a Table,
+    /// The registers whose values a function hands back.
+    pub(crate) saved: &'a Items<u32>,
+    /// The homes of the block's temporaries.
+    pub(crate) homes: &'a Homes,
+    pub(crate) options: &'a Options,
+    pub(crate) block: &'a ExtBlock,
 }
 
 /// The assignable registers and the homes of a temporary.
-#[tactic(auto, unfolding(crate::specs::Registers::general_registers))]
-fn general(alloc: Global, regs: Option<u32>, ops: &[ExtOp], x: TempId) -> Result<Vec<u32>, NoMemory>
-    ensures { IfOk result (λ registers. registers.items ≡ general_registers regs ops.now x) }
+fn general(alloc: Global, scope: &Scope<'_>, x: TempId) -> Result<Vec<u32>, NoMemory>
+    requires { IsScope scope.now.table.now scope.now.block.now.ops scope.now.saved.now scope.now.homes.now }
+    ensures { IfOk result
+        (λ registers. registers.items ≡ general_registers scope.now.options.now.regs scope.now.block.now.ops x) }
 {
-    let registers = (0..32u32)
-        .filter(|r| is_assignable(regs, *r) || is_home(ops, x, *r))
-        .collect(alloc)?;
-    Ok(registers)
+    assignable(alloc, scope.options.regs, mask(scope.homes, x))
 }
 
 /// The registers of the result `x` at place `j` of an operation.
 pub(crate) fn domain(
     alloc: Global,
-    t: &Table,
-    saved: &Items<u32>,
-    o: &Options,
-    block: &ExtBlock,
+    scope: &Scope<'_>,
     kind: &ExtKind,
     j: usize,
     x: TempId,
 ) -> Result<Domain, NoMemory>
-    requires { saved.now ≡ saved_registers t.now }
-    ensures { IfOk result (λ d. d ≡ register_domain t.now o.now block.now kind.now j x) }
+    requires { IsScope scope.now.table.now scope.now.block.now.ops scope.now.saved.now scope.now.homes.now }
+    ensures { IfOk result
+        (λ d. d ≡ register_domain scope.now.table.now scope.now.options.now scope.now.block.now kind.now j x) }
 {
     let registers = match kind {
-        ExtKind::In => [home(t, saved, &block.live_in, j)].to_vec(alloc)?,
+        ExtKind::In => [home(scope.table, scope.saved, &scope.block.live_in, j)].to_vec(alloc)?,
         ExtKind::Body(source) => {
             if is_comparison(source.op) {
                 [32, 33, 34, 35].to_vec(alloc)?
             } else {
-                general(alloc, o.regs, block.ops.as_slice(), x)?
+                general(alloc, scope, x)?
             }
         }
         _ => Vec::new(alloc),

@@ -1,5 +1,5 @@
 -- Two temporaries of one register are held at different times.
-use Rattle.std.proofs.Common.{◌≡◌, ◌≢◌, ℕ, zero, suc, ◌+◌, ◌-◌, ◌<◌, ◌≤◌, max, inl, ⊎_elim, true, List, [], ◌∷◌, ◌++◌, length, get_or, Some, None, sym, ◌∙◌, subst, arith}
+use Rattle.std.proofs.Common.{◌≡◌, ◌≢◌, ℕ, zero, suc, ◌+◌, ◌-◌, ◌<◌, ◌≤◌, max, ⊎_elim, true, List, [], ◌∷◌, ◌++◌, length, get_or, Some, None, sym, ◌∙◌, subst, arith}
 use Rattle.std.specs.Prelude.{All, AllPairs}
 use Rattle.std.proofs.lemmas.Bool.{cases_eq, cases_lt}
 use Rattle.std.proofs.lemmas.Bool.Decides.{nat_tests}
@@ -94,7 +94,7 @@ unfolding ShareNoCycle
 free_after reads q n c d m c' [] lt h = All-nil (ShareNoCycle (body_hold reads q n c d))
 free_after reads q n c d m c' (d' ∷ ds) lt h =
     all_cons (ShareNoCycle (body_hold reads q n c d)) (body_hold reads q m c' d') (body_holds reads q (m + 1) (c' + 1) ds)
-    (λ a b s e. let same : d ≡ d' = register_injective q d d' e in let done = h 0 (omega arith) (sym same) in inl (omega arith))
+    (λ a b s e k held taken. let same : d ≡ d' = register_injective q d d' e in let done = h 0 (omega arith) (sym same) in let until = held.1 in let since = taken.0 in omega arith)
     (free_after reads q n c d (m + 1) (c' + 1) ds (omega arith) (λ j within same. let done = h (suc j) (omega arith) same in omega arith))
 
 later : (reads : List Read) (n c d : ℕ) (ds : List ℕ) → Timely reads n c (d ∷ ds) → Timely reads (n + 1) (c + 1) ds

@@ -1,5 +1,5 @@
 -- The schedule of an operation a cycle keeps the clauses.
-use Rattle.std.proofs.Common.{◌≡◌, ℕ, zero, suc, ◌+◌, ◌<◌, ◌≤◌, inl, inr, ⊎_elim, true, false, Bool, List, [], ◌∷◌, ◌++◌, length, get_or, Some, None, refl, ap, ◌∙◌, arith}
+use Rattle.std.proofs.Common.{◌≡◌, ℕ, zero, suc, ◌+◌, ◌<◌, ◌≤◌, inl, inr, ⊎_elim, true, false, Bool, List, [], ◌∷◌, ◌++◌, length, get_or, Some, None, refl, ap, ◌∙◌, subst, arith}
 use Rattle.std.specs.Prelude.{All, slice_get, ◌==◌, ◌&&◌, if◌then◌else◌}
 use Rattle.std.specs.List.{AllByRecursion}
 use Rattle.std.proofs.lemmas.Bool.{cases_lt}
@@ -12,9 +12,10 @@ use Rattle.un_ir.specs.declared.function.SrcOp.{SrcOp}
 use Rattle.un_model.specs.declared.schedule.Issue.{Issue}
 use Rattle.un_model.specs.declared.schedule.Read.{Read}
 use Rattle.un_model.specs.declared.schedule.Hold.{Hold}
+use Rattle.un_model.specs.declared.schedule.Role.TheVariants.{Call}
 use Rattle.un_model.specs.declared.schedule.Resource.{Resource}
 use Rattle.un_model.specs.declared.schedule.Resource.TheVariants.{Instructions, Accesses, Stores, Products, Transfers}
-use Rattle.un_model.specs.Solutions.{InSpace, IsHome, IsPlaced, HasRoom, share_of, taken, issues_at}
+use Rattle.un_model.specs.Solutions.{InSpace, IsHome, IsPlaced, HasRoom, SparesCall, SparesCalls, share_of, taken, issues_at}
 use Rattle.un_plain.specs.Plain.{IsPlainOp, constant, addition, ArePlainOps, assigned_after}
 use Rattle.un_plain_ext.specs.PlainExt.{assigned}
 use Rattle.un_plain_solution.proofs.Apart.{saved_hold, saved_holds, body_hold, body_holds, Rising, AllBelow, register_returned, register_below}
@@ -90,14 +91,14 @@ one_at_most r (i ∷ is) b c low h ones =
         let one = ones.0 r in
         let sum = sum_by-cons (taken_by r b c) i is in omega arith
 
-pub has_room : (is : List Issue) (low : ℕ) → RisesFrom low is → AllByRecursion TakesOne is → (i : Issue) → HasRoom is i
+pub has_room : (is : List Issue) (low : ℕ) → RisesFrom low is → AllByRecursion TakesOne is → (b c : ℕ) → HasRoom is b c
 unfolding HasRoom
-has_room is low h ones i =
-    let a = one_at_most Instructions is i.block.0 i.cycle low h ones in
-    let b = one_at_most Accesses is i.block.0 i.cycle low h ones in
-    let c = one_at_most Stores is i.block.0 i.cycle low h ones in
-    let d = one_at_most Products is i.block.0 i.cycle low h ones in
-    let e = one_at_most Transfers is i.block.0 i.cycle low h ones in
+has_room is low h ones b c =
+    let instructions = one_at_most Instructions is b c low h ones in
+    let accesses = one_at_most Accesses is b c low h ones in
+    let stores = one_at_most Stores is b c low h ones in
+    let products = one_at_most Products is b c low h ones in
+    let transfers = one_at_most Transfers is b c low h ones in
     (omega arith, omega arith, omega arith, omega arith, omega arith)
 
 -- what the issues are
@@ -105,6 +106,7 @@ pub record IsFine (i : Issue) : Type 0 where
   pub placed : IsPlaced i
   pub ones : TakesOne i
   pub active : i.active ≡ true
+  pub no_call : i.role ≡ Call → ⊥
 
 no_share : (r : Resource) (o : SrcOp) (n c end : ℕ) → IsPlainOp n o → share_of r (body_issue end c o) ≤ 1
 no_share Instructions o n c end (constant dst imm ld is_s) = omega arith
@@ -119,8 +121,8 @@ no_share Products o n c end (addition dst x y ld lx ly) = omega arith
 no_share Transfers o n c end (addition dst x y ld lx ly) = omega arith
 
 fine_op : (o : SrcOp) (n c end : ℕ) → IsPlainOp n o → 1 ≤ c → c < end → IsFine (body_issue end c o)
-fine_op o n c end (constant dst imm ld is_s) le lt = record { placed = (λ a. (omega arith, lt), tt); ones = λ r. no_share r o n c end (constant dst imm ld is_s); active = refl }
-fine_op o n c end (addition dst x y ld lx ly) le lt = record { placed = (λ a. (omega arith, lt), tt); ones = λ r. no_share r o n c end (addition dst x y ld lx ly); active = refl }
+fine_op o n c end (constant dst imm ld is_s) le lt = record { placed = (λ a. (omega arith, lt), tt); ones = λ r. no_share r o n c end (constant dst imm ld is_s); active = refl; no_call = λ e. absurd (cc e) }
+fine_op o n c end (addition dst x y ld lx ly) le lt = record { placed = (λ a. (omega arith, lt), tt); ones = λ r. no_share r o n c end (addition dst x y ld lx ly); active = refl; no_call = λ e. absurd (cc e) }
 
 return_share : (r : Resource) (end c : ℕ) (name : NameId) → share_of r (return_issue end c name) ≤ 1
 return_share Instructions end c name = omega arith
@@ -137,10 +139,20 @@ border_share Products z end c = omega arith
 border_share Transfers z end c = omega arith
 
 fine_border : (z : Bool) (end c : ℕ) → IsFine (border_issue z end c)
-fine_border z end c = record { placed = (tt, tt); ones = λ r. border_share r z end c; active = refl }
+fine_border z end c = record { placed = (tt, tt); ones = λ r. border_share r z end c; active = refl; no_call = λ e. absurd (cc e) }
 
 fine_return : (end c : ℕ) (name : NameId) → 1 ≤ c → c + 1 ≡ end → IsFine (return_issue end c name)
-fine_return end c name le e = record { placed = (λ a. (omega arith, omega arith), e); ones = λ r. return_share r end c name; active = refl }
+fine_return end c name le e = record { placed = (λ a. (omega arith, omega arith), e); ones = λ r. return_share r end c name; active = refl; no_call = λ e. absurd (cc e) }
+
+fine_at : (is : List Issue) (n : ℕ) (i : Issue) → AllByRecursion IsFine is → slice_get is n ≡ Some i → IsFine i
+fine_at [] n i h e = absurd (cc e)
+fine_at (x ∷ is) zero i h e = let same : x ≡ i = cc in subst IsFine same h.0
+fine_at (x ∷ is) (suc n) i h e = fine_at is n i h.1 e
+
+-- there is no call that could clobber a register
+pub spares_calls : (clobbered : ℕ) (is : List Issue) (holds : List Hold) → AllByRecursion IsFine is → SparesCalls clobbered is holds
+unfolding SparesCall
+spares_calls clobbered is holds h n i at k d lt = λ call active held block mask there. absurd ((fine_at is n i h at).no_call call)
 
 -- the issues from cycle c on
 pub record AreFine (low : ℕ) (is : List Issue) : Type 0 where

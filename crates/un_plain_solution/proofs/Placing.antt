@@ -36,7 +36,7 @@ body_issue end c o = record {
   width = 1;
   needs = needs_by HEXAGON (Some o.op);
   zero = false;
-  space = result_space (Body o);
+  space = result_space (Body o) 0;
 }
 
 abbrev pub body_issues : ℕ → ℕ → List SrcOp → List Issue

@@ -40,36 +40,36 @@ abbrev pub last_reads_of : List ℕ → ℕ → ℕ → NameId → List Read
 last_reads_of cur e end name = link_read e ∷ home_read (get_or cur name.0 0) end 0 ∷ home_reads 0 end (16 ∷ 17 ∷ 18 ∷ 19 ∷ 20 ∷ 21 ∷ 22 ∷ 23 ∷ 24 ∷ 25 ∷ 26 ∷ 27 ∷ [])
 
 -- a read of an operand that has one temporary, by a variable that is 0
-one_read : (vs : List ℕ) (kind : ExtKind) (c j t : ℕ) (home : Option Reg) (k : ℕ) → get_or vs k 0 ≡ 0
-    → read_of vs kind c j (reads t home) (record { 0 = k }) ≡ read_of (0 ∷ []) kind c j (reads t home) (record { 0 = 0 })
-one_read vs kind c j t home k e = rw e refl
+one_read : (vs : List ℕ) (kind : ExtKind) (i c j t : ℕ) (home : Option Reg) (k : ℕ) → get_or vs k 0 ≡ 0
+    → read_of vs kind i c j (reads t home) (record { 0 = k }) ≡ read_of (0 ∷ []) kind i c j (reads t home) (record { 0 = 0 })
+one_read vs kind i c j t home k e = rw e refl
 
 -- what operations read by a list of choices that are 0
-abbrev zero_reads : ExtKind → ℕ → ℕ → List Operand → List Read
-zero_reads kind c j [] = []
-zero_reads kind c j (x ∷ xs) = read_of (0 ∷ []) kind c j x (record { 0 = 0 }) ∷ zero_reads kind c (j + 1) xs
+abbrev zero_reads : ExtKind → ℕ → ℕ → ℕ → List Operand → List Read
+zero_reads kind i c j [] = []
+zero_reads kind i c j (x ∷ xs) = read_of (0 ∷ []) kind i c j x (record { 0 = 0 }) ∷ zero_reads kind i c (j + 1) xs
 
 abbrev variable : ℕ → VarId
 variable n = record { 0 = n }
 
-all_reads : (vs : List ℕ) (kind : ExtKind) (c j k : ℕ) (xs : List Operand) → ((n : ℕ) → n < length xs → get_or vs (k + n) 0 ≡ 0)
-    → pairs_from (read_of vs kind c) j xs (map variable (range_with_len k (length xs))) ≡ zero_reads kind c j xs
-all_reads vs kind c j k [] h = refl
-all_reads vs kind c j k (x ∷ xs) h =
+all_reads : (vs : List ℕ) (kind : ExtKind) (i c j k : ℕ) (xs : List Operand) → ((n : ℕ) → n < length xs → get_or vs (k + n) 0 ≡ 0)
+    → pairs_from (read_of vs kind i c) j xs (map variable (range_with_len k (length xs))) ≡ zero_reads kind i c j xs
+all_reads vs kind i c j k [] h = refl
+all_reads vs kind i c j k (x ∷ xs) h =
     let here : k + 0 ≡ k = omega arith in
     let e : get_or vs k 0 ≡ 0 = ap (λ (n : ℕ). get_or vs n 0) (sym here) ∙ h 0 (omega arith) in
-    rw e (ap (λ (rs : List Read). read_of (0 ∷ []) kind c j x (record { 0 = 0 }) ∷ rs)
-    (all_reads vs kind c (j + 1) (k + 1) xs (λ n lt. let on : k + 1 + n ≡ k + suc n = omega arith in ap (λ (p : ℕ). get_or vs p 0) on ∙ h (suc n) (omega arith))))
+    rw e (ap (λ (rs : List Read). read_of (0 ∷ []) kind i c j x (record { 0 = 0 }) ∷ rs)
+    (all_reads vs kind i c (j + 1) (k + 1) xs (λ n lt. let on : k + 1 + n ≡ k + suc n = omega arith in ap (λ (p : ℕ). get_or vs p 0) on ∙ h (suc n) (omega arith))))
 
 zeros_here : (end n : ℕ) → n < 13 → get_or (replicate 13 0 ++ end ∷ 0 ∷ []) n 0 ≡ 0
 zeros_here end n lt = get_or_append_left (replicate 13 0) (end ∷ 0 ∷ []) 0 n lt ∙ get_or-replicate 13 n 0 0 lt
 
 -- the operands at the block's end
 out_reads : (vs : List ℕ) (e end first : ℕ) (cur : List ℕ) (name : NameId) (before : List ℕ) → vs ≡ before ++ last_values e end → first ≡ length before
-    → pairs_from (read_of vs Out end) 0 (out_op HEXAGON cur (Ret (Some name))).operands (map variable (range_with_len (first + 2 + 0 + 0) 13))
+    → pairs_from (read_of vs Out 0 end) 0 (out_op HEXAGON cur (Ret (Some name))).operands (map variable (range_with_len (first + 2 + 0 + 0) 13))
     ≡ home_read (get_or cur name.0 0) end 0 ∷ home_reads 0 end (16 ∷ 17 ∷ 18 ∷ 19 ∷ 20 ∷ 21 ∷ 22 ∷ 23 ∷ 24 ∷ 25 ∷ 26 ∷ 27 ∷ [])
 out_reads vs e end first cur name before whole size =
-    all_reads vs Out end 0 (first + 2 + 0 + 0) (out_op HEXAGON cur (Ret (Some name))).operands
+    all_reads vs Out 0 end 0 (first + 2 + 0 + 0) (out_op HEXAGON cur (Ret (Some name))).operands
     (λ n lt. look vs before (last_values e end) (first + 2 + 0 + 0 + n) (suc (suc n)) whole (omega arith) ∙ zeros_here end n lt)
 
 pub reads_are : (slots : ℕ) (b : ExtBlock) (horizon q m e end : ℕ) (name : NameId) (cur' vs : List ℕ) (os : List SrcOp) (n c t i first : ℕ) (cur : List ℕ) → ArePlainOps n os m → Values vs q e end first c os

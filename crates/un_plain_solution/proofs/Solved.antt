@@ -29,7 +29,7 @@ use Rattle.un_model.specs.Pairs.{pairs_from}
 use Rattle.un_model.specs.declared.model.OpVars.{OpVars}
 use Rattle.un_ir.specs.declared.extended.ExtOp.{ExtOp}
 use Rattle.un_model.specs.declared.model.TempVars.{TempVars}
-use Rattle.un_model.specs.Solutions.{IsSchedule, IsSolution, InDomain, share_of, IsHeld, ReadsInSpace, LeavesGap, ReadsHome, latency_gap, InSpace, IsPlaced, IsIdleAtZero, HoldsZero, HasRoom, KeepsChoices, KeepsSpaces, KeepsLatencies, KeepsRegisters, KeepsPackets, KeepsHomes}
+use Rattle.un_model.specs.Solutions.{IsSchedule, IsSolution, InDomain, share_of, IsHeld, ReadsInSpace, LeavesGap, ReadsHome, latency_gap, InSpace, IsPlaced, IsIdleAtZero, HoldsZero, KeepsChoices, KeepsSpaces, KeepsLatencies, KeepsRegisters, KeepsPackets, KeepsHomes}
 use Rattle.un_model.specs.Variables.{model_of, op_domains, op_vars, ops_vars, ops_domains, ops_temps}
 use Rattle.un_model.specs.Registers.{kept_registers}
 use Rattle.un_plain.specs.Plain.{IsPlain, ArePlainOps, constant, addition, assigned_after}
@@ -41,7 +41,7 @@ use Rattle.un_plain_solution.proofs.Domains.{operations_fit, zip_append, keeps_d
 use Rattle.un_plain_solution.proofs.Placing.{Values, look, last_values, last_ops, issues_are, body_issues, return_issue, border_issue}
 use Rattle.un_plain_solution.proofs.Reading.{reads_are, last_reads_of}
 use Rattle.un_plain_solution.proofs.Holding.{Issues, holds_are}
-use Rattle.un_plain_solution.proofs.Clauses.{handed_back, all_from, both_parts, weaken, has_room, IsFine, fine_all, IsServed, holds_by, served_body, served_last, good_last, all_holds, rises}
+use Rattle.un_plain_solution.proofs.Clauses.{handed_back, all_from, both_parts, weaken, has_room, spares_calls, IsFine, fine_all, IsServed, holds_by, served_body, served_last, good_last, all_holds, rises}
 
 -- the schedule, as lists
 abbrev issues_by : Bool → List SrcOp → ℕ → List Issue
@@ -77,7 +77,7 @@ record Kept (t : Schedule) : Type 0 where
   choices : KeepsChoices t
   spaces : KeepsSpaces t
   latencies : KeepsLatencies latency_gap t
-  registers : KeepsRegisters t
+  registers : (clobbered : ℕ) → KeepsRegisters clobbered t
   packets : KeepsPackets t
   homes : KeepsHomes t
 
@@ -88,7 +88,7 @@ to_space : (holds : List Hold) (r : Read) → IsServed holds r → ReadsInSpace 
 to_space holds r h = subst (ReadsInSpace r) (sym h.found) h.space
 
 to_gap : (holds : List Hold) (r : Read) → IsServed holds r → LeavesGap latency_gap r (slice_get holds r.temp.0)
-to_gap holds r h = subst (LeavesGap latency_gap r) (sym h.found) h.gap
+to_gap holds r h = subst (LeavesGap latency_gap r) (sym h.found) (λ a. h.gap)
 
 to_home : (holds : List Hold) (r : Read) → IsServed holds r → ReadsHome r (slice_get holds r.temp.0)
 to_home holds r h = subst (ReadsHome r) (sym h.found) h.home
@@ -121,8 +121,8 @@ kept z os m q h lq few =
         all_from IsPlaced (issues_by z os q) (weaken IsFine IsPlaced (issues_by z os q) (λ i f. f.placed) fine.fine),
         all_from (λ (r : Read). LeavesGap latency_gap r (slice_get (holds_by reads q ds) r.temp.0)) reads (weaken (IsServed (holds_by reads q ds)) (λ (r : Read). LeavesGap latency_gap r (slice_get (holds_by reads q ds) r.temp.0)) reads (to_gap (holds_by reads q ds)) served),
       );
-      registers = all_apart reads q m 0 16 13 1 handed_back ds lq below (omega arith) rises timely;
-      packets = all_from (HasRoom (issues_by z os q)) (issues_by z os q) (weaken IsFine (HasRoom (issues_by z os q)) (issues_by z os q) (λ i f. has_room (issues_by z os q) 0 fine.rising (weaken IsFine (λ (j : Issue). (r : Resource) → share_of r j ≤ 1) (issues_by z os q) (λ j g. g.ones) fine.fine) i) fine.fine);
+      registers = λ clobbered. (all_apart reads q m 0 16 13 1 handed_back ds lq below (omega arith) rises timely, spares_calls clobbered (issues_by z os q) (holds_by reads q ds) fine.fine);
+      packets = has_room (issues_by z os q) 0 fine.rising (weaken IsFine (λ (j : Issue). (r : Resource) → share_of r j ≤ 1) (issues_by z os q) (λ j g. g.ones) fine.fine);
       homes = all_from (λ (r : Read). ReadsHome r (slice_get (holds_by reads q ds) r.temp.0)) reads (weaken (IsServed (holds_by reads q ds)) (λ (r : Read). ReadsHome r (slice_get (holds_by reads q ds) r.temp.0)) reads (to_home (holds_by reads q ds)) served);
     }
 
@@ -296,7 +296,7 @@ solved slots name params names label freq os q h lq few =
       choices = k.choices;
       spaces = k.spaces;
       latencies = k.latencies;
-      registers = k.registers;
+      registers = k.registers HEXAGON.clobbered;
       packets = k.packets;
       homes = k.homes;
       frame = no_frame slots name params names label freq os q h lq few;
