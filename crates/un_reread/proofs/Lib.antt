@@ -1,0 +1,4 @@
+pub mod Appearances
+pub mod Labels
+pub mod Lists
+pub mod Spelling
