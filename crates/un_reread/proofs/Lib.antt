@@ -1,4 +1,6 @@
 pub mod Appearances
 pub mod Labels
 pub mod Lists
+pub mod Literals
+pub mod NamesBack
 pub mod Spelling
