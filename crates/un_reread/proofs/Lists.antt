@@ -1,7 +1,8 @@
 -- Facts on lists that the proofs share.
-use Rattle.std.proofs.Common.{◌≡◌, ℕ, zero, suc, ◌+◌, ◌<◌, ◌≤◌, ◌++◌, List, [], ◌∷◌, Option, Some, None, map, length, take, drop, slice_get, refl, sym, ap, ◌∙◌, arith}
+use Rattle.std.proofs.Common.{◌≡◌, ℕ, zero, suc, ◌++◌, List, [], ◌∷◌, Some, map, take, drop, slice_get, refl, ap, arith}
 use Rattle.std.specs.List.{All, AllPairs, flat_map}
-use Rattle.std.proofs.lemmas.List.Elements.{All-nil, All-cons, All-head, All-tail}
+use Rattle.std.proofs.lemmas.List.Elements.{All-nil, All-cons, All-head, All-tail, All-map}
+use Rattle.std.proofs.lemmas.List.Kept.{AllPairs-cons}
 
 -- what holds of joined lists holds of each
 pub all_parts : {X : Type 0} (P : X → Type 0) (xs ys : List X) → All P (xs ++ ys) → All P xs × All P ys
@@ -40,3 +41,11 @@ all_flat P f [] h = All-nil (λ x. All P (f x))
 all_flat P f (x ∷ xs) h =
     let t = all_parts P (f x) (flat_map f xs) h in
     All-cons (λ y. All P (f y)) x xs t.0 (all_flat P f xs t.1)
+
+-- what holds of the values of each two elements holds of each two values
+pub pairs_map : {X Y : Type 0} (R : Y → Y → Type 0) (f : X → Y) (xs : List X) → AllPairs (λ (a b : X). R (f a) (f b)) xs → AllPairs R (map f xs)
+pairs_map R f [] h = λ i j d low high. absurd (omega arith)
+pairs_map R f (x ∷ xs) h =
+    AllPairs-cons R (f x) (map f xs)
+    (All-map (R (f x)) f xs (pairs_head (λ a b. R (f a) (f b)) x xs h))
+    (pairs_map R f xs (pairs_tail (λ a b. R (f a) (f b)) x xs h))

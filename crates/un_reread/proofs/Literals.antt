@@ -1,15 +1,13 @@
 -- Literals as they are written fit their operations, and have their values back.
-use Rattle.std.proofs.Common.{◌≡◌, ℕ, zero, suc, ℤ, pos, negsuc, ◌+◌, ◌-◌, ◌^◌, ◌%◌, ◌<◌, ◌≤◌, ◌≤ℤ◌, ◌&&◌, ◌||◌, ◌==◌, min, Bool, true, false, not, nat_lt, nat_le, refl, sym, ap, ◌∙◌, arith}
-use Rattle.std.specs.Int.{int_rem_euclid}
+use Rattle.std.proofs.Common.{◌≡◌, ℕ, suc, ℤ, pos, negsuc, ◌+◌, ◌-◌, ◌^◌, ◌%◌, ◌<◌, ◌&&◌, ◌==◌, min, Bool, true, refl, arith}
 use Rattle.std.proofs.lemmas.Int.{ints}
 use Rattle.std.proofs.lemmas.Bool.Decides.{nat_tests}
-use Rattle.un_isa.specs.Operands.{IsSigned16, IsSigned10, IsUnsigned5, IsOffset, IsLiteral}
+use Rattle.un_isa.specs.Operands.{IsSigned16, IsSigned10, IsUnsigned5, IsOffset}
 use Rattle.un_isa.specs.declared.op.Op.{Op}
-use Rattle.un_isa.specs.declared.op.Op.TheVariants.{Imm, Mov, Add, Sub, And, Or, Xor, Addi, Andi, Ori, Mux, CmpEq, CmpGt, CmpGtu, CmpEqi, CmpGti, Mpyi, Asl, Asr, Lsr, Load, Store, Call}
+use Rattle.un_isa.specs.declared.op.Op.TheVariants.{Imm, Addi, Andi, Ori, CmpEqi, CmpGti, Asl, Asr, Lsr, Load, Store}
 use Rattle.un_ir.specs.WellFormed.{HasItsLiteral}
-use Rattle.un_reader.specs.declared.token.Number.{Number}
 use Rattle.un_reader.specs.LineFaults.{fits_signed, fits_unsigned, fits_offset, literal_fits}
-use Rattle.un_reader.specs.Functions.{negated, literal_value}
+use Rattle.un_reader.specs.Functions.{literal_value}
 use Rattle.un_reread.specs.Printed.{as_number}
 
 -- ---- ranges

@@ -1,14 +1,13 @@
 -- The names of the lines are those of the function, and each name that stands on a line has its number back.
-use Rattle.std.proofs.Common.{◌≡◌, ℕ, ◌+◌, ◌<◌, ◌++◌, List, [], ◌∷◌, map, length, refl, sym, ap, ◌∙◌, subst}
-use Rattle.std.specs.List.{All, flat_map, fold, range_with_len}
-use Rattle.std.proofs.lemmas.List.Elements.{All-nil, All-cons, All-head, All-tail}
+use Rattle.std.proofs.Common.{◌≡◌, ℕ, ◌<◌, List, [], ◌∷◌, map, length, refl, sym, ap, ◌∙◌, subst}
+use Rattle.std.specs.List.{All, flat_map}
+use Rattle.std.proofs.lemmas.List.Elements.{All-nil, All-head, All-tail}
 use Rattle.un_base.specs.declared.ids.NameId.{NameId}
 use Rattle.un_ir.specs.declared.function.Block.{Block as SourceBlock}
 use Rattle.un_ir.specs.Text.{Names}
-use Rattle.un_ir.specs.Names.{see, first_appearances, appearances, names_in_block}
+use Rattle.un_ir.specs.Names.{appearances, names_in_block}
 use Rattle.un_ir.specs.WellFormed.{IsWellFormed}
-use Rattle.un_reader.specs.Tokens.{Spelled}
-use Rattle.un_reader.specs.Before.{numbered, names_on, names_of}
+use Rattle.un_reader.specs.Before.{numbered, names_of}
 use Rattle.un_reader.specs.Functions.{name_id}
 use Rattle.un_reread.specs.Printed.{spelled_at, printed_lines}
 use Rattle.un_reread.proofs.Lists.{all_parts, all_flat}

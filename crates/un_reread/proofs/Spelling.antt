@@ -1,12 +1,10 @@
 -- Names as they are spelled, and their places.
-use Rattle.std.proofs.Common.{◌≡◌, ◌≢◌, ℕ, zero, suc, ◌+◌, ◌<◌, ◌≤◌, ◌⊎◌, inl, inr, ◌&&◌, Bool, true, false, nat_eq, List, [], ◌∷◌, Option, Some, None, map, length, slice_get, get_or, unwrap_or, refl, sym, ap, ◌∙◌, arith}
-use Rattle.std.specs.List.{AllPairs, All, position_or_len}
-use Rattle.std.specs.Bool.{Decides}
+use Rattle.std.proofs.Common.{◌≡◌, ◌≢◌, ℕ, ◌<◌, ◌⊎◌, inl, inr, ◌&&◌, Bool, true, false, nat_eq, List, [], length, get_or, refl, sym, ap, ◌∙◌, arith}
+use Rattle.std.specs.List.{AllPairs, position_or_len}
 use Rattle.std.specs.Str.{bytes_eq}
 use Rattle.std.proofs.lemmas.Bool.Decides.{nat_tests}
 use Rattle.std.proofs.lemmas.Slice.Eq.{bytes_eq-Decides}
 use Rattle.std.proofs.lemmas.Option.{unwrap_or-slice_get}
-use Rattle.std.proofs.lemmas.List.{get_or_default}
 use Rattle.std.proofs.lemmas.List.Sums.{position_or_len_is}
 use Rattle.un_base.specs.declared.ids.NameId.{NameId}
 use Rattle.un_ir.specs.declared.function.Kind.{Kind}
