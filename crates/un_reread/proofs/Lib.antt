@@ -1,8 +1,12 @@
 pub mod Appearances
+pub mod Counts
+pub mod GoodLines
 pub mod Jumps
 pub mod Labels
 pub mod Lists
 pub mod Literals
+pub mod NameKinds
 pub mod NamesBack
+pub mod Order
 pub mod Rebuilt
 pub mod Spelling

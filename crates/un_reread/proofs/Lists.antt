@@ -1,7 +1,7 @@
 -- Facts on lists that the proofs share.
 use Rattle.std.proofs.Common.{◌≡◌, ℕ, zero, suc, ◌++◌, List, [], ◌∷◌, Some, map, take, drop, slice_get, refl, ap, arith}
 use Rattle.std.specs.List.{All, AllPairs, flat_map}
-use Rattle.std.proofs.lemmas.List.Elements.{All-nil, All-cons, All-head, All-tail, All-map}
+use Rattle.std.proofs.lemmas.List.Elements.{All-nil, All-cons, All-head, All-tail, All-map, All-append}
 use Rattle.std.proofs.lemmas.List.Kept.{AllPairs-cons}
 
 -- what holds of joined lists holds of each
@@ -49,3 +49,9 @@ pairs_map R f (x ∷ xs) h =
     AllPairs-cons R (f x) (map f xs)
     (All-map (R (f x)) f xs (pairs_head (λ a b. R (f a) (f b)) x xs h))
     (pairs_map R f xs (pairs_tail (λ a b. R (f a) (f b)) x xs h))
+
+-- what holds of all pieces holds of the list that they make
+pub all_of_flat : {X Y : Type 0} (P : Y → Type 0) (f : X → List Y) (xs : List X) → All (λ x. All P (f x)) xs → All P (flat_map f xs)
+all_of_flat P f [] h = All-nil P
+all_of_flat P f (x ∷ xs) h =
+    All-append P (f x) (flat_map f xs) (All-head (λ y. All P (f y)) x xs h) (all_of_flat P f xs (All-tail (λ y. All P (f y)) x xs h))
