@@ -3,10 +3,12 @@ pub mod Counts
 pub mod GoodLines
 pub mod Jumps
 pub mod Labels
+pub mod LineFaultsOf
 pub mod Lists
 pub mod Literals
 pub mod NameKinds
 pub mod NamesBack
 pub mod Order
 pub mod Rebuilt
+pub mod Repeats
 pub mod Spelling

@@ -1,5 +1,5 @@
 -- The order of the printed lines: operations and terminators stand in a block that no terminator has ended.
-use Rattle.std.proofs.Common.{◌≡◌, ◌++◌, Bool, true, false, List, [], ◌∷◌, refl, append_assoc}
+use Rattle.std.proofs.Common.{◌≡◌, ◌<◌, ◌⊎◌, inl, inr, ◌++◌, Bool, true, false, List, [], ◌∷◌, length, refl, append_assoc, arith}
 use Rattle.std.specs.List.{fold}
 use Rattle.un_ir.specs.declared.function.SrcOp.{SrcOp}
 use Rattle.un_ir.specs.declared.function.Term.{Term}
@@ -8,6 +8,7 @@ use Rattle.un_ir.specs.declared.function.Block.{Block as SourceBlock}
 use Rattle.un_ir.specs.Text.{Names}
 use Rattle.un_reader.specs.declared.line.Line.{Line}
 use Rattle.un_reader.specs.declared.line.Line.TheVariants.{Blank, Func, Block, Operation, Terminator}
+use Rattle.un_reader.specs.Before.{labels_of, ended_after}
 use Rattle.un_reread.specs.Printed.{term_as_lines}
 use Rattle.un_reread.proofs.Labels.{op_lines, lines_of}
 
@@ -52,3 +53,23 @@ in_order blocks names (block ∷ some) here = (
 pub stands : (front : List Line) (line : Line) (rest : List Line) (here : Bool) → AreInOrder here (front ++ line ∷ rest) → MayStand (fold open_after here front) line
 stands [] line rest here (may, later) = may
 stands (first ∷ front) line rest here (may, later) = stands front line rest (open_after here first) later
+
+-- ---- where a block is open
+
+-- a label stands before, where none was open at first
+pub open_labelled : (front : List Line) (here : Bool) → fold open_after here front ≡ true → (here ≡ true) ⊎ (0 < length (labels_of front))
+open_labelled [] here h = inl h
+open_labelled (Blank ∷ front) here h = open_labelled front here h
+open_labelled (Func name params ∷ front) here h = open_labelled front here h
+open_labelled (Block label freq ∷ front) here h = inr (omega arith)
+open_labelled (Operation o ∷ front) here h = open_labelled front here h
+open_labelled (Terminator term ∷ front) here h = elim (open_labelled front false h) [ inl e ↦ absurd (cc e) | inr l ↦ inr l ]
+
+-- no terminator has ended it
+pub open_lasts : (front : List Line) (here ended : Bool) → (here ≡ true → ended ≡ false) → fold open_after here front ≡ true → fold ended_after ended front ≡ false
+open_lasts [] here ended lasts h = lasts h
+open_lasts (Blank ∷ front) here ended lasts h = open_lasts front here ended lasts h
+open_lasts (Func name params ∷ front) here ended lasts h = open_lasts front here ended lasts h
+open_lasts (Block label freq ∷ front) here ended lasts h = open_lasts front true false (λ e. refl) h
+open_lasts (Operation o ∷ front) here ended lasts h = open_lasts front here ended lasts h
+open_lasts (Terminator term ∷ front) here ended lasts h = open_lasts front false true (λ e. absurd (cc e)) h
