@@ -1,6 +1,7 @@
 pub mod Appearances
 pub mod Counts
 pub mod Ending
+pub mod Faultless
 pub mod GoodLines
 pub mod Jumps
 pub mod Labels
@@ -14,5 +15,6 @@ pub mod Order
 pub mod Rebuilt
 pub mod Repeats
 pub mod Returns
+pub mod Sizes
 pub mod Spelling
 pub mod TextFaultsOf
