@@ -1,0 +1,87 @@
+-- What is printed of a function is read as that function.
+use Rattle.std.proofs.Common.{◌≡◌, ℕ, List, map, refl, sym, ap, ◌∙◌, subst}
+use Rattle.std.specs.List.{All}
+use Rattle.std.proofs.lemmas.List.Elements.{All-weaker}
+use Rattle.un_ir.specs.declared.function.Function.{Function}
+use Rattle.un_base.specs.declared.ids.NameId.{NameId}
+use Rattle.un_ir.specs.declared.function.Block.{Block}
+use Rattle.un_ir.specs.Text.{Names, function_lines, function_text}
+use Rattle.un_ir.specs.WellFormed.{IsWellFormed}
+use Rattle.un_reader.specs.declared.line.Line.{Line}
+use Rattle.un_reader.specs.LineFaults.{line_of}
+use Rattle.un_reader.specs.Lines.{HasNoLineFault, shapes_in}
+use Rattle.un_reader.specs.Pieces.{lines_in}
+use Rattle.un_reader.specs.TextFaults.{shape_fault}
+use Rattle.un_reader.specs.Before.{names_of, labels_of}
+use Rattle.un_reader.specs.Functions.{name_id, params_of, blocks_of, function_of}
+use Rattle.un_reader.specs.Read.{IsRead}
+use Rattle.un_reread.specs.Printed.{printed_lines}
+use Rattle.un_reread.proofs.Bytes.{IsClean, clean_plain, lines_read}
+use Rattle.un_reread.proofs.Faultless.{AreReadAs, IsOfPlainBytes, lines_are, no_fault_at}
+use Rattle.un_reread.proofs.Labels.{labels_back}
+use Rattle.un_reread.proofs.LineFaultsOf.{no_line_faults}
+use Rattle.un_reread.proofs.LiveAtEntry.{none_live}
+use Rattle.un_reread.proofs.NamesBack.{names_back, params_again}
+use Rattle.un_reread.proofs.ReadLines.{OpRead, function_read}
+use Rattle.un_reread.proofs.Rebuilt.{blocks_again}
+use Rattle.un_reread.proofs.Sizes.{IsShort, text_within}
+use Rattle.un_reread.proofs.TextFaultsOf.{no_shape_fault}
+
+-- functions of the same four parts are the same
+same_function : (f g : Function) → f.name ≡ g.name → f.params ≡ g.params → f.names ≡ g.names → f.blocks ≡ g.blocks → f ≡ g
+same_function f g name params names blocks =
+    let build : List ℕ → List NameId → Names → List Block → Function = λ n p ns bs. record { name = n; params = p; names = ns; blocks = bs } in
+    ap (λ (n : List ℕ). build n f.params f.names f.blocks) name
+    ∙ ap (λ (p : List NameId). build g.name p f.names f.blocks) params
+    ∙ ap (λ (ns : Names). build g.name g.params ns f.blocks) names
+    ∙ ap (λ (bs : List Block). build g.name g.params g.names bs) blocks
+
+-- the printed lines are the function
+pub function_back : (f : Function) → IsWellFormed f.name f.params f.names f.blocks → f ≡ function_of (printed_lines f.name f.params f.names f.blocks)
+function_back f w = same_function f (function_of lines) refl params (sym names) blocks
+  where
+    lines : List Line
+    lines = printed_lines f.name f.params f.names f.blocks
+
+    names : names_of lines ≡ f.names
+    names = names_back f.name f.params f.names f.blocks w
+
+    params : f.params ≡ map (name_id (names_of lines)) (params_of lines)
+    params = sym (ap (λ (ns : Names). map (name_id ns) (params_of lines)) names ∙ params_again f.name f.params f.names f.blocks w)
+
+    blocks : f.blocks ≡ blocks_of (names_of lines) (labels_of lines) lines
+    blocks =
+        sym (ap (λ (ns : Names). blocks_of ns (labels_of lines) lines) names
+        ∙ ap (λ (ls : List (List ℕ)). blocks_of f.names ls lines) (labels_back f.name f.params f.names f.blocks)
+        ∙ blocks_again f.name f.params f.names f.blocks w)
+
+pub read_again : OpRead → ((f : Function) → IsWellFormed f.name f.params f.names f.blocks → All IsClean (function_lines f) × All IsShort (function_lines f))
+    → (f : Function) → IsWellFormed f.name f.params f.names f.blocks → IsRead (function_text f) f
+read_again op_read good f w = record {
+  within = text_within f w short;
+  lines = subst HasNoLineFault (sym split) (no_fault_at (function_lines f) lines read plain (no_line_faults f.name f.params f.names f.blocks w));
+  whole = ap shape_fault shapes ∙ no_shape_fault f.name f.params f.names f.blocks w;
+  is = function_back f w ∙ ap function_of (sym shapes);
+  entry = λ name live. none_live f.name f.params f.names f.blocks w name live.is_local live.live;
+}
+  where
+    lines : List Line
+    lines = printed_lines f.name f.params f.names f.blocks
+
+    clean : All IsClean (function_lines f)
+    clean = (good f w).0
+
+    short : All IsShort (function_lines f)
+    short = (good f w).1
+
+    plain : All IsOfPlainBytes (function_lines f)
+    plain = All-weaker IsClean IsOfPlainBytes clean_plain (function_lines f) clean
+
+    read : AreReadAs (function_lines f) lines
+    read = function_read op_read f w
+
+    split : lines_in (function_text f) ≡ function_lines f
+    split = lines_read (function_lines f) clean
+
+    shapes : shapes_in (function_text f) ≡ lines
+    shapes = ap (map line_of) split ∙ lines_are (function_lines f) lines read
