@@ -22,7 +22,7 @@ use Rattle.un_reread.proofs.Labels.{labels_back}
 use Rattle.un_reread.proofs.LineFaultsOf.{no_line_faults}
 use Rattle.un_reread.proofs.LiveAtEntry.{none_live}
 use Rattle.un_reread.proofs.NamesBack.{names_back, params_again}
-use Rattle.un_reread.proofs.ReadLines.{OpRead, function_read}
+use Rattle.un_reread.proofs.ReadLines.{function_read}
 use Rattle.un_reread.proofs.Rebuilt.{blocks_again}
 use Rattle.un_reread.proofs.Sizes.{IsShort, text_within}
 use Rattle.un_reread.proofs.TextFaultsOf.{no_shape_fault}
@@ -55,9 +55,9 @@ function_back f w = same_function f (function_of lines) refl params (sym names) 
         ∙ ap (λ (ls : List (List ℕ)). blocks_of f.names ls lines) (labels_back f.name f.params f.names f.blocks)
         ∙ blocks_again f.name f.params f.names f.blocks w)
 
-pub read_again : OpRead → ((f : Function) → IsWellFormed f.name f.params f.names f.blocks → All IsClean (function_lines f) × All IsShort (function_lines f))
+pub read_again : ((f : Function) → IsWellFormed f.name f.params f.names f.blocks → All IsClean (function_lines f) × All IsShort (function_lines f))
     → (f : Function) → IsWellFormed f.name f.params f.names f.blocks → IsRead (function_text f) f
-read_again op_read good f w = record {
+read_again good f w = record {
   within = text_within f w short;
   lines = subst HasNoLineFault (sym split) (no_fault_at (function_lines f) lines read plain (no_line_faults f.name f.params f.names f.blocks w));
   whole = ap shape_fault shapes ∙ no_shape_fault f.name f.params f.names f.blocks w;
@@ -78,7 +78,7 @@ read_again op_read good f w = record {
     plain = All-weaker IsClean IsOfPlainBytes clean_plain (function_lines f) clean
 
     read : AreReadAs (function_lines f) lines
-    read = function_read op_read f w
+    read = function_read f w
 
     split : lines_in (function_text f) ≡ function_lines f
     split = lines_read (function_lines f) clean
