@@ -67,15 +67,16 @@ word_says (b ∷ bs) h =
     record {
       some = p.some;
       inner = name_inner (b ∷ bs) h;
+      neat = record { clean = name_clean (b ∷ bs) h; short = omega (arith, p.short) };
       spelt = rw (other_byte is_first b 44 p.first refl, other_byte is_first b 61 p.first refl, other_byte is_first b 35 p.first refl, other_byte is_first b 33 p.first refl, other_byte is_first b 37 p.first refl, other_byte is_first b 36 p.first refl, h) refl;
     }
 
 -- a name with its sigil
 pub name_says : (name : List ℕ) (kind : Kind) → IsName name → Says (with_sigil kind name) (Named (name, kind))
-name_says name General h = record { some = omega arith; inner = name_inner name h; spelt = rw h refl }
-name_says name Pred h = record { some = omega arith; inner = name_inner name h; spelt = rw h refl }
+name_says name General h = record { some = omega arith; inner = name_inner name h; neat = record { clean = name_clean name h; short = omega (arith, (name_parts name h).short) }; spelt = rw h refl }
+name_says name Pred h = record { some = omega arith; inner = name_inner name h; neat = record { clean = name_clean name h; short = omega (arith, (name_parts name h).short) }; spelt = rw h refl }
 
 -- a name behind an exclamation mark
 pub negated_says : (name : List ℕ) (kind : Kind) → IsName name → Says (33 ∷ with_sigil kind name) (Negated (name, kind))
-negated_says name General h = record { some = omega arith; inner = name_inner name h; spelt = rw h refl }
-negated_says name Pred h = record { some = omega arith; inner = name_inner name h; spelt = rw h refl }
+negated_says name General h = record { some = omega arith; inner = name_inner name h; neat = record { clean = name_clean name h; short = omega (arith, (name_parts name h).short) }; spelt = rw h refl }
+negated_says name Pred h = record { some = omega arith; inner = name_inner name h; neat = record { clean = name_clean name h; short = omega (arith, (name_parts name h).short) }; spelt = rw h refl }

@@ -1,10 +1,10 @@
 -- The words that numbers are: bare, and behind a number sign.
-use Rattle.std.proofs.Common.{rules, ◌≡◌, ℕ, ℤ, pos, negsuc, suc, ◌-◌, ◌^◌, ◌<◌, min, Bool, true, false, ◌&&◌, nat_lt, nat_le, List, [], ◌∷◌, length, Some, refl, arith, lt-ltb, add-one, decimal, unsigned_abs}
+use Rattle.std.proofs.Common.{rules, ◌≡◌, ℕ, ℤ, pos, negsuc, suc, ◌-◌, ◌^◌, ◌<◌, ◌≤◌, min, Bool, true, false, ◌&&◌, nat_lt, nat_le, List, [], ◌∷◌, length, Some, refl, arith, lt-ltb, add-one, decimal, unsigned_abs}
 use Rattle.std.specs.Fmt.{signed_decimal}
 use Rattle.std.specs.Char.{is_ascii_digit}
 use Rattle.std.specs.List.{list_all}
 use Rattle.std.specs.Str.{all_ascii_digits}
-use Rattle.std.proofs.lemmas.Fmt.{decimal_nonempty, digits_decimal, digits_value-decimal}
+use Rattle.std.proofs.lemmas.Fmt.{length-decimal-le, decimal_nonempty, digits_decimal, digits_value-decimal}
 use Rattle.std.proofs.lemmas.Bool.Decides.{nat_tests}
 use Rattle.std.proofs.lemmas.Str.Parse.{IsNumeralModel, numerals_by_fold}
 use Rattle.un_base.specs.Names.{is_first, is_rest, is_name}
@@ -28,11 +28,12 @@ record Writes (text : List ℕ) (n : ℕ) : Type 0 where
   digits : all_ascii_digits text ≡ true
   value : value_of text ≡ n
   small : n < 2 ^ 32
+  few : length text ≤ 10
 
 decimal_writes : (n : ℕ) → n < 2 ^ 32 → Writes (decimal n) n
 decimal_writes n h =
     let wide : n < 2 ^ 64 = omega arith in
-    record { some = decimal_nonempty n wide; digits = digits_decimal own n wide; value = digits_value-decimal own n wide; small = h }
+    record { some = decimal_nonempty n wide; digits = digits_decimal own n wide; value = digits_value-decimal own n wide; small = h; few = length-decimal-le 10 n (omega arith) (omega arith) wide }
 
 all_digits : (text : List ℕ) → all_ascii_digits text ≡ true → list_all is_ascii_digit text ≡ true
 all_digits [] h = refl
@@ -81,13 +82,20 @@ number_read : (text : List ℕ) (n : ℕ) → Writes text n → number_of text �
 number_read [] n w = absurd (omega (arith, w.some))
 number_read (b ∷ bs) n w = rw (other_byte is_ascii_digit b 45 (first_digit b bs w.digits) refl) (digits_read false (b ∷ bs) n w)
 
+digits_clean : (text : List ℕ) (n : ℕ) → Writes text n → IsClean text
+digits_clean text n w = all_weaker is_ascii_digit is_clean_byte digit_clean text (all_digits text w.digits)
+
+digits_inner : (text : List ℕ) (n : ℕ) → Writes text n → list_all is_inner text ≡ true
+digits_inner text n w = all_weaker is_ascii_digit is_inner digit_inner text (all_digits text w.digits)
+
 number_says : (text : List ℕ) (n : ℕ) → Writes text n → Says text (Plain (record { negative = false; size = n }))
 number_says [] n w = absurd (omega (arith, w.some))
 number_says (b ∷ bs) n w =
     let d = first_digit b bs w.digits in
     record {
       some = w.some;
-      inner = all_weaker is_ascii_digit is_inner digit_inner (b ∷ bs) (all_digits (b ∷ bs) w.digits);
+      inner = digits_inner (b ∷ bs) n w;
+      neat = record { clean = digits_clean (b ∷ bs) n w; short = omega (arith, w.few) };
       spelt = rw (other_byte is_ascii_digit b 44 d refl, other_byte is_ascii_digit b 61 d refl, other_byte is_ascii_digit b 35 d refl, other_byte is_ascii_digit b 33 d refl, other_byte is_ascii_digit b 37 d refl, other_byte is_ascii_digit b 36 d refl, no_name b bs d, number_read (b ∷ bs) n w) refl;
     }
 
@@ -95,19 +103,21 @@ number_says (b ∷ bs) n w =
 pub plain_says : (n : ℕ) → n < 2 ^ 32 → Says (decimal n) (Plain (record { negative = false; size = n }))
 plain_says n h = number_says (decimal n) n (decimal_writes n h)
 
-pub decimal_clean : (n : ℕ) → n < 2 ^ 32 → IsClean (decimal n)
-decimal_clean n h = all_weaker is_ascii_digit is_clean_byte digit_clean (decimal n) (all_digits (decimal n) (decimal_writes n h).digits)
-
-decimal_inner : (n : ℕ) → n < 2 ^ 32 → list_all is_inner (decimal n) ≡ true
-decimal_inner n h = all_weaker is_ascii_digit is_inner digit_inner (decimal n) (all_digits (decimal n) (decimal_writes n h).digits)
-
 -- a number with its sign behind a number sign
 pub literal_says : (z : ℤ) → unsigned_abs z < 2 ^ 32 → Says (35 ∷ signed_decimal z) (Literal (as_number z))
-literal_says (pos n) h = record { some = omega arith; inner = decimal_inner n h; spelt = rw (number_read (decimal n) n (decimal_writes n h)) refl }
+literal_says (pos n) h =
+    let w = decimal_writes n h in
+    record {
+      some = omega arith;
+      inner = digits_inner (decimal n) n w;
+      neat = record { clean = digits_clean (decimal n) n w; short = omega (arith, w.few) };
+      spelt = rw (number_read (decimal n) n w) refl;
+    }
 literal_says (negsuc n) h =
     let w = decimal_writes (suc n) h in
-    record { some = omega arith; inner = decimal_inner (suc n) h; spelt = rw (digits_read true (decimal (suc n)) (suc n) w, add-one) refl }
-
-pub literal_clean : (z : ℤ) → unsigned_abs z < 2 ^ 32 → IsClean (35 ∷ signed_decimal z)
-literal_clean (pos n) h = decimal_clean n h
-literal_clean (negsuc n) h = decimal_clean (suc n) h
+    record {
+      some = omega arith;
+      inner = digits_inner (decimal (suc n)) (suc n) w;
+      neat = record { clean = digits_clean (decimal (suc n)) (suc n) w; short = omega (arith, w.few) };
+      spelt = rw (digits_read true (decimal (suc n)) (suc n) w, add-one) refl;
+    }

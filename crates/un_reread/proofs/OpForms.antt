@@ -6,23 +6,18 @@ use Rattle.un_isa.specs.declared.op.Op.{Op}
 use Rattle.un_ir.specs.declared.function.Kind.{Kind}
 use Rattle.un_ir.specs.declared.function.SrcOp.{SrcOp}
 use Rattle.un_ir.specs.Names.{kind_of}
-use Rattle.un_ir.specs.Text.{literal_text, Names, name_text, mnemonic, operand_texts, op_line}
+use Rattle.un_ir.specs.Text.{literal_text, Names, name_text, mnemonic, operand_texts}
 use Rattle.un_ir.specs.WellFormed.{IsOfKind}
 use Rattle.un_reader.specs.declared.token.Number.{Number}
 use Rattle.un_reader.specs.declared.token.Token.{Token}
 use Rattle.un_reader.specs.declared.token.Token.TheVariants.{Literal, Comma, Named, Word}
-use Rattle.un_reader.specs.declared.line.Line.TheVariants.{Operation}
-use Rattle.un_reader.specs.Tokens.{Spelled, tokens_of}
-use Rattle.un_reader.specs.Shapes.{result_fits, operands_fit, callee_of, zero_number, shape_of}
-use Rattle.un_reread.specs.Printed.{as_number, spelled_at, op_as_line}
+use Rattle.un_reader.specs.Tokens.{Spelled}
+use Rattle.un_reader.specs.Shapes.{result_fits, operands_fit, callee_of, zero_number}
+use Rattle.un_reread.specs.Printed.{as_number, spelled_at}
 use Rattle.un_reread.proofs.WordsOf.{AllSay}
 use Rattle.un_reread.proofs.NamesAt.{AreNames, name_at_says}
 use Rattle.un_reread.proofs.NumberWords.{literal_says}
-use Rattle.un_reread.proofs.OpShapes.{HasWord, fits_read}
-
--- the line of such an operation is read as the operation
-abbrev pub IsRead : Names → SrcOp → Type 0
-IsRead names o = shape_of (tokens_of (op_line names o)) ≡ Some (Operation (op_as_line names o))
+use Rattle.un_reread.proofs.OpShapes.{HasWord, IsRead, fits_read}
 
 abbrev pub operation : Op → Option NameId → List NameId → ℤ → Option (List ℕ) → SrcOp
 operation op dst srcs imm callee = record { op = op; dst = dst; srcs = srcs; imm = imm; callee = callee }
@@ -62,6 +57,7 @@ two_fit names op j k r d a b all takes is_d is_a is_b =
       word = takes.word;
       says = subst (λ (xs : List (List ℕ)). AllSay xs (Named (spelled_at names a) ∷ Named (spelled_at names b) ∷ [])) (sym (takes.texts o (name_text names a ∷ name_text names b ∷ []))) (name_at_says names j a all is_a, (name_at_says names k b all is_b, tt));
       kind = (r, is_d);
+      few = omega arith;
       callee = tt;
       result = takes.result (spelled_at names d);
       forms = takes.forms (spelled_at names a) (spelled_at names b);
@@ -104,6 +100,7 @@ literal_fit names op j r d a n all takes is_d is_a small =
       word = takes.word;
       says = subst (λ (xs : List (List ℕ)). AllSay xs (Named (spelled_at names a) ∷ Literal (as_number n) ∷ [])) (sym (takes.texts o (name_text names a ∷ []))) (name_at_says names j a all is_a, (literal_says n small, tt));
       kind = (r, is_d);
+      few = omega arith;
       callee = tt;
       result = takes.result (spelled_at names d);
       forms = takes.forms (spelled_at names a) (as_number n);

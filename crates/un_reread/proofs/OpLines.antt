@@ -1,5 +1,5 @@
 -- What is read of the line of an operation.
-use Rattle.std.proofs.Common.{◌≡◌, ℕ, ℤ, map, List, [], ◌∷◌, Option, Some, refl, All}
+use Rattle.std.proofs.Common.{◌≡◌, ℕ, ℤ, map, List, [], ◌∷◌, Option, Some, refl, All, arith}
 use Rattle.std.proofs.lemmas.List.Elements.{All-contains, All-cons, All-nil}
 use Rattle.un_base.specs.declared.ids.NameId.{NameId}
 use Rattle.un_isa.specs.declared.op.Op.{Op}
@@ -13,7 +13,9 @@ use Rattle.un_reader.specs.Tokens.{tokens_of}
 use Rattle.un_reader.specs.Shapes.{text_ops, op_named, shape_of}
 use Rattle.un_reread.specs.Printed.{op_as_line}
 use Rattle.un_reread.proofs.NamesAt.{AreNames}
-use Rattle.un_reread.proofs.OpForms.{IsRead, operation, TakesTwo, TakesLiteral, two_read, literal_read, signed16_small, signed10_small, unsigned5_small, offset_small}
+use Rattle.un_reread.proofs.OpForms.{operation, TakesTwo, TakesLiteral, two_read, literal_read, signed16_small, signed10_small, unsigned5_small, offset_small}
+use Rattle.un_reread.proofs.Neat.{IsNeat}
+use Rattle.un_reread.proofs.OpShapes.{IsRead}
 use Rattle.un_reread.proofs.OpSingles.{imm_read, mov_read, mux_read, store_read, call_read}
 
 -- ---- the operations that a text may have
@@ -32,58 +34,58 @@ own_word op text = All-contains HasOwnWord text_ops op (all_same (λ (o : Op). o
 -- ---- operations by their form
 
 add_takes : TakesTwo Add
-add_takes = record { word = record { name = refl; bare = refl; own = refl }; texts = λ o xs. refl; result = λ d. refl; forms = λ a b. refl; no_callee = λ ts. refl }
+add_takes = record { word = record { name = refl; bare = refl; own = refl; brief = omega arith }; texts = λ o xs. refl; result = λ d. refl; forms = λ a b. refl; no_callee = λ ts. refl }
 
 sub_takes : TakesTwo Sub
-sub_takes = record { word = record { name = refl; bare = refl; own = refl }; texts = λ o xs. refl; result = λ d. refl; forms = λ a b. refl; no_callee = λ ts. refl }
+sub_takes = record { word = record { name = refl; bare = refl; own = refl; brief = omega arith }; texts = λ o xs. refl; result = λ d. refl; forms = λ a b. refl; no_callee = λ ts. refl }
 
 and_takes : TakesTwo And
-and_takes = record { word = record { name = refl; bare = refl; own = refl }; texts = λ o xs. refl; result = λ d. refl; forms = λ a b. refl; no_callee = λ ts. refl }
+and_takes = record { word = record { name = refl; bare = refl; own = refl; brief = omega arith }; texts = λ o xs. refl; result = λ d. refl; forms = λ a b. refl; no_callee = λ ts. refl }
 
 or_takes : TakesTwo Or
-or_takes = record { word = record { name = refl; bare = refl; own = refl }; texts = λ o xs. refl; result = λ d. refl; forms = λ a b. refl; no_callee = λ ts. refl }
+or_takes = record { word = record { name = refl; bare = refl; own = refl; brief = omega arith }; texts = λ o xs. refl; result = λ d. refl; forms = λ a b. refl; no_callee = λ ts. refl }
 
 xor_takes : TakesTwo Xor
-xor_takes = record { word = record { name = refl; bare = refl; own = refl }; texts = λ o xs. refl; result = λ d. refl; forms = λ a b. refl; no_callee = λ ts. refl }
+xor_takes = record { word = record { name = refl; bare = refl; own = refl; brief = omega arith }; texts = λ o xs. refl; result = λ d. refl; forms = λ a b. refl; no_callee = λ ts. refl }
 
 cmpeq_takes : TakesTwo CmpEq
-cmpeq_takes = record { word = record { name = refl; bare = refl; own = refl }; texts = λ o xs. refl; result = λ d. refl; forms = λ a b. refl; no_callee = λ ts. refl }
+cmpeq_takes = record { word = record { name = refl; bare = refl; own = refl; brief = omega arith }; texts = λ o xs. refl; result = λ d. refl; forms = λ a b. refl; no_callee = λ ts. refl }
 
 cmpgt_takes : TakesTwo CmpGt
-cmpgt_takes = record { word = record { name = refl; bare = refl; own = refl }; texts = λ o xs. refl; result = λ d. refl; forms = λ a b. refl; no_callee = λ ts. refl }
+cmpgt_takes = record { word = record { name = refl; bare = refl; own = refl; brief = omega arith }; texts = λ o xs. refl; result = λ d. refl; forms = λ a b. refl; no_callee = λ ts. refl }
 
 cmpgtu_takes : TakesTwo CmpGtu
-cmpgtu_takes = record { word = record { name = refl; bare = refl; own = refl }; texts = λ o xs. refl; result = λ d. refl; forms = λ a b. refl; no_callee = λ ts. refl }
+cmpgtu_takes = record { word = record { name = refl; bare = refl; own = refl; brief = omega arith }; texts = λ o xs. refl; result = λ d. refl; forms = λ a b. refl; no_callee = λ ts. refl }
 
 mpyi_takes : TakesTwo Mpyi
-mpyi_takes = record { word = record { name = refl; bare = refl; own = refl }; texts = λ o xs. refl; result = λ d. refl; forms = λ a b. refl; no_callee = λ ts. refl }
+mpyi_takes = record { word = record { name = refl; bare = refl; own = refl; brief = omega arith }; texts = λ o xs. refl; result = λ d. refl; forms = λ a b. refl; no_callee = λ ts. refl }
 
 addi_takes : TakesLiteral Addi
-addi_takes = record { word = record { name = refl; bare = refl; own = refl }; texts = λ o xs. refl; result = λ d. refl; forms = λ a n. refl; no_callee = λ ts. refl }
+addi_takes = record { word = record { name = refl; bare = refl; own = refl; brief = omega arith }; texts = λ o xs. refl; result = λ d. refl; forms = λ a n. refl; no_callee = λ ts. refl }
 
 andi_takes : TakesLiteral Andi
-andi_takes = record { word = record { name = refl; bare = refl; own = refl }; texts = λ o xs. refl; result = λ d. refl; forms = λ a n. refl; no_callee = λ ts. refl }
+andi_takes = record { word = record { name = refl; bare = refl; own = refl; brief = omega arith }; texts = λ o xs. refl; result = λ d. refl; forms = λ a n. refl; no_callee = λ ts. refl }
 
 ori_takes : TakesLiteral Ori
-ori_takes = record { word = record { name = refl; bare = refl; own = refl }; texts = λ o xs. refl; result = λ d. refl; forms = λ a n. refl; no_callee = λ ts. refl }
+ori_takes = record { word = record { name = refl; bare = refl; own = refl; brief = omega arith }; texts = λ o xs. refl; result = λ d. refl; forms = λ a n. refl; no_callee = λ ts. refl }
 
 cmpeqi_takes : TakesLiteral CmpEqi
-cmpeqi_takes = record { word = record { name = refl; bare = refl; own = refl }; texts = λ o xs. refl; result = λ d. refl; forms = λ a n. refl; no_callee = λ ts. refl }
+cmpeqi_takes = record { word = record { name = refl; bare = refl; own = refl; brief = omega arith }; texts = λ o xs. refl; result = λ d. refl; forms = λ a n. refl; no_callee = λ ts. refl }
 
 cmpgti_takes : TakesLiteral CmpGti
-cmpgti_takes = record { word = record { name = refl; bare = refl; own = refl }; texts = λ o xs. refl; result = λ d. refl; forms = λ a n. refl; no_callee = λ ts. refl }
+cmpgti_takes = record { word = record { name = refl; bare = refl; own = refl; brief = omega arith }; texts = λ o xs. refl; result = λ d. refl; forms = λ a n. refl; no_callee = λ ts. refl }
 
 asl_takes : TakesLiteral Asl
-asl_takes = record { word = record { name = refl; bare = refl; own = refl }; texts = λ o xs. refl; result = λ d. refl; forms = λ a n. refl; no_callee = λ ts. refl }
+asl_takes = record { word = record { name = refl; bare = refl; own = refl; brief = omega arith }; texts = λ o xs. refl; result = λ d. refl; forms = λ a n. refl; no_callee = λ ts. refl }
 
 asr_takes : TakesLiteral Asr
-asr_takes = record { word = record { name = refl; bare = refl; own = refl }; texts = λ o xs. refl; result = λ d. refl; forms = λ a n. refl; no_callee = λ ts. refl }
+asr_takes = record { word = record { name = refl; bare = refl; own = refl; brief = omega arith }; texts = λ o xs. refl; result = λ d. refl; forms = λ a n. refl; no_callee = λ ts. refl }
 
 lsr_takes : TakesLiteral Lsr
-lsr_takes = record { word = record { name = refl; bare = refl; own = refl }; texts = λ o xs. refl; result = λ d. refl; forms = λ a n. refl; no_callee = λ ts. refl }
+lsr_takes = record { word = record { name = refl; bare = refl; own = refl; brief = omega arith }; texts = λ o xs. refl; result = λ d. refl; forms = λ a n. refl; no_callee = λ ts. refl }
 
 load_takes : TakesLiteral Load
-load_takes = record { word = record { name = refl; bare = refl; own = refl }; texts = λ o xs. refl; result = λ d. refl; forms = λ a n. refl; no_callee = λ ts. refl }
+load_takes = record { word = record { name = refl; bare = refl; own = refl; brief = omega arith }; texts = λ o xs. refl; result = λ d. refl; forms = λ a n. refl; no_callee = λ ts. refl }
 
 -- an operation of the text
 read_by : (names : Names) (op : Op) (dst : Option NameId) (srcs : List NameId) (imm : ℤ) (callee : Option (List ℕ)) → AreNames names → HasOwnWord op
@@ -110,7 +112,7 @@ read_by names Asr dst srcs imm callee all own reads assigns literal named = lite
 read_by names Lsr dst srcs imm callee all own reads assigns literal named = literal_read names Lsr General General dst srcs imm callee all lsr_takes reads assigns (unsigned5_small imm literal) named
 read_by names Load dst srcs imm callee all own reads assigns literal named = literal_read names Load General General dst srcs imm callee all load_takes reads assigns (offset_small imm literal) named
 read_by names Store dst srcs imm callee all own reads assigns literal named = store_read names dst srcs imm callee all reads assigns (offset_small imm literal) named
-read_by names Call dst srcs imm callee all own reads assigns literal named = call_read names dst srcs imm callee all reads.0 assigns literal named
+read_by names Call dst srcs imm callee all own reads assigns literal named = call_read names dst srcs imm callee all reads.0 reads.1 assigns literal named
 read_by names Jump dst srcs imm callee all own reads assigns literal named = absurd (cc own)
 read_by names JumpIf dst srcs imm callee all own reads assigns literal named = absurd (cc own)
 read_by names JumpIfNot dst srcs imm callee all own reads assigns literal named = absurd (cc own)
@@ -123,6 +125,13 @@ read_by names Enter dst srcs imm callee all own reads assigns literal named = ab
 read_by names Leave dst srcs imm callee all own reads assigns literal named = absurd (cc own)
 read_by names Nop dst srcs imm callee all own reads assigns literal named = absurd (cc own)
 
+op_told : (names : Names) (o : SrcOp) → AreNames names → IsGoodOp names o → IsRead names o
+op_told names o all good = read_by names o.op o.dst o.srcs o.imm o.callee all (own_word o.op good.op) good.reads good.assigns good.literal good.callee
+
 -- the line of an operation is read as the operation
 pub op_read : (names : Names) (o : SrcOp) → AreNames names → IsGoodOp names o → shape_of (tokens_of (op_line names o)) ≡ Some (Operation (op_as_line names o))
-op_read names o all good = read_by names o.op o.dst o.srcs o.imm o.callee all (own_word o.op good.op) good.reads good.assigns good.literal good.callee
+op_read names o all good = (op_told names o all good).told
+
+-- and is neat
+pub op_line_neat : (names : Names) (o : SrcOp) → AreNames names → IsGoodOp names o → IsNeat 300 (op_line names o)
+op_line_neat names o all good = (op_told names o all good).neat

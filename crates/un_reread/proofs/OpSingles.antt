@@ -1,5 +1,6 @@
 -- What is read of the lines of the operations whose form no other has.
-use Rattle.std.proofs.Common.{◌≡◌, ℕ, ℤ, pos, ◌^◌, ◌<◌, ◌||◌, Bool, true, false, List, [], ◌∷◌, map, Option, Some, None, unsigned_abs, refl, ap, All, IfSome}
+use Rattle.std.proofs.Common.{arith, length, ◌≤◌, ◌≡◌, ℕ, ℤ, pos, ◌^◌, ◌<◌, ◌||◌, Bool, true, false, List, [], ◌∷◌, map, Option, Some, None, unsigned_abs, refl, ap, All, IfSome}
+use Rattle.std.proofs.lemmas.List.{length-map}
 use Rattle.std.proofs.lemmas.List.Elements.{All-head, All-tail}
 use Rattle.un_base.specs.declared.ids.NameId.{NameId}
 use Rattle.un_isa.specs.declared.op.Op.TheVariants.{Imm, Mov, Mux, Store, Call}
@@ -15,8 +16,8 @@ use Rattle.un_reread.proofs.WordsOf.{AllSay}
 use Rattle.un_reread.proofs.NamesAt.{AreNames, name_at_says}
 use Rattle.un_reread.proofs.NumberWords.{literal_says}
 use Rattle.un_reread.proofs.OpTokens.{joined, IsOfSomeKind}
-use Rattle.un_reread.proofs.OpShapes.{fits_read}
-use Rattle.un_reread.proofs.OpForms.{IsRead, operation, HasResult}
+use Rattle.un_reread.proofs.OpShapes.{IsRead, fits_read}
+use Rattle.un_reread.proofs.OpForms.{operation, HasResult}
 
 -- ---- constants
 
@@ -26,9 +27,10 @@ imm_read names None srcs imm callee all kinds result small none = absurd result
 imm_read names (Some d) (a ∷ more) imm callee all kinds result small none = absurd (cc kinds)
 imm_read names (Some d) [] imm callee all kinds result small none =
     rw none (fits_read names (operation Imm (Some d) [] imm None) (Literal (as_number imm) ∷ []) all record {
-      word = record { name = refl; bare = refl; own = refl };
+      word = record { name = refl; bare = refl; own = refl; brief = omega arith };
       says = (literal_says imm small, tt);
       kind = (General, result);
+      few = omega arith;
       callee = tt;
       result = refl;
       forms = refl;
@@ -45,9 +47,10 @@ mov_read names (Some d) (a ∷ b ∷ more) imm callee all kinds result zero none
 mov_read names (Some d) (a ∷ []) imm callee all kinds result zero none =
     let is_a : IsOfKind names General a = cc kinds in
     rw (zero, none) (fits_read names (operation Mov (Some d) (a ∷ []) (pos 0) None) (Named (spelled_at names a) ∷ []) all record {
-      word = record { name = refl; bare = refl; own = refl };
+      word = record { name = refl; bare = refl; own = refl; brief = omega arith };
       says = (name_at_says names General a all is_a, tt);
       kind = (General, result);
+      few = omega arith;
       callee = tt;
       result = refl;
       forms = refl;
@@ -68,9 +71,10 @@ mux_read names (Some d) (p ∷ a ∷ b ∷ []) imm callee all kinds result zero 
     let is_a : IsOfKind names General a = cc kinds in
     let is_b : IsOfKind names General b = cc kinds in
     rw (zero, none) (fits_read names (operation Mux (Some d) (p ∷ a ∷ b ∷ []) (pos 0) None) (Named (spelled_at names p) ∷ Named (spelled_at names a) ∷ Named (spelled_at names b) ∷ []) all record {
-      word = record { name = refl; bare = refl; own = refl };
+      word = record { name = refl; bare = refl; own = refl; brief = omega arith };
       says = (name_at_says names Pred p all is_p, (name_at_says names General a all is_a, (name_at_says names General b all is_b, tt)));
       kind = (General, result);
+      few = omega arith;
       callee = tt;
       result = refl;
       forms = refl;
@@ -88,9 +92,10 @@ store_read names dst (a ∷ b ∷ []) imm callee all kinds result small none =
     let is_a : IsOfKind names General a = cc kinds in
     let is_b : IsOfKind names General b = cc kinds in
     rw (result, none) (fits_read names (operation Store None (a ∷ b ∷ []) imm None) (Named (spelled_at names a) ∷ Literal (as_number imm) ∷ Named (spelled_at names b) ∷ []) all record {
-      word = record { name = refl; bare = refl; own = refl };
+      word = record { name = refl; bare = refl; own = refl; brief = omega arith };
       says = (name_at_says names General a all is_a, (literal_says imm small, (name_at_says names General b all is_b, tt)));
       kind = tt;
+      few = omega arith;
       callee = tt;
       result = refl;
       forms = refl;
@@ -126,14 +131,15 @@ words_say names [] all kinds = tt
 words_say names (a ∷ srcs) all kinds =
     (name_at_says names General a all (All-head (IsOfKind names General) a srcs kinds), words_say names srcs all (All-tail (IsOfKind names General) a srcs kinds))
 
-call_fit : (names : Names) (dst : Option NameId) (srcs : List NameId) (callee : List ℕ) → AreNames names → All (IsOfKind names General) srcs → IfSome dst (IsOfSomeKind names) → IsName callee
+call_fit : (names : Names) (dst : Option NameId) (srcs : List NameId) (callee : List ℕ) → AreNames names → All (IsOfKind names General) srcs → length srcs ≤ 6 → IfSome dst (IsOfSomeKind names) → IsName callee
     → IsRead names (operation Call dst srcs (pos 0) (Some callee))
-call_fit names dst srcs callee all kinds result named =
+call_fit names dst srcs callee all kinds few result named =
     let ns : List Spelled = map (spelled_at names) srcs in
     fits_read names (operation Call dst srcs (pos 0) (Some callee)) (map Named ns) all record {
-      word = record { name = refl; bare = refl; own = refl };
+      word = record { name = refl; bare = refl; own = refl; brief = omega arith };
       says = words_say names srcs all kinds;
       kind = result;
+      few = rw (length-map ns Named, length-map srcs (spelled_at names)) few;
       callee = named;
       result = refl;
       forms = are_list ns;
@@ -141,7 +147,7 @@ call_fit names dst srcs callee all kinds result named =
     }
 
 pub call_read : (names : Names) (dst : Option NameId) (srcs : List NameId) (imm : ℤ) (callee : Option (List ℕ)) → AreNames names
-    → All (IsOfKind names General) srcs → AssignsItsKind names Call dst → imm ≡ pos 0 → NamesItsCallee Call callee → IsRead names (operation Call dst srcs imm callee)
-call_read names dst srcs imm None all kinds result zero named = absurd named
-call_read names None srcs imm (Some callee) all kinds result zero named = rw zero (call_fit names None srcs callee all kinds tt named)
-call_read names (Some d) srcs imm (Some callee) all kinds result zero named = rw zero (call_fit names (Some d) srcs callee all kinds (General, result) named)
+    → All (IsOfKind names General) srcs → length srcs ≤ 6 → AssignsItsKind names Call dst → imm ≡ pos 0 → NamesItsCallee Call callee → IsRead names (operation Call dst srcs imm callee)
+call_read names dst srcs imm None all kinds few result zero named = absurd named
+call_read names None srcs imm (Some callee) all kinds few result zero named = rw zero (call_fit names None srcs callee all kinds few tt named)
+call_read names (Some d) srcs imm (Some callee) all kinds few result zero named = rw zero (call_fit names (Some d) srcs callee all kinds few (General, result) named)

@@ -70,7 +70,7 @@ func_read f named all kinds =
 
 -- ---- terminators
 
-label_there : (blocks : List SourceBlock) (to : ℕ) → All (λ (b : SourceBlock). IsName b.label) blocks → to < length blocks → IsName (label_of blocks to)
+pub label_there : (blocks : List SourceBlock) (to : ℕ) → All (λ (b : SourceBlock). IsName b.label) blocks → to < length blocks → IsName (label_of blocks to)
 label_there [] to labels inside = absurd (omega arith)
 label_there (block ∷ blocks) zero labels inside = All-head (λ (b : SourceBlock). IsName b.label) block blocks labels
 label_there (block ∷ blocks) (suc to) labels inside = label_there blocks to (All-tail (λ (b : SourceBlock). IsName b.label) block blocks labels) (omega arith)

@@ -4,11 +4,13 @@ use Rattle.std.specs.List.{list_all, onto_first}
 use Rattle.un_reader.specs.declared.token.Token.{Token}
 use Rattle.un_reader.specs.Words.{is_blank, is_mark, is_inner, goes_on, words_of}
 use Rattle.un_reader.specs.Tokens.{token_of, tokens_of}
+use Rattle.un_reread.proofs.Neat.{IsNeat}
 
--- a longer word, which a reader takes for this token
+-- a longer word, which a reader takes for this token; a name with its sigil behind an exclamation mark is the longest
 pub record Says (word : List ℕ) (token : Token) : Type 0 where
   pub some : 0 < length word
   pub inner : list_all is_inner word ≡ true
+  pub neat : IsNeat 34 word
   pub spelt : token_of word ≡ token
 
 abbrev pub AllSay : List (List ℕ) → List Token → Type 0
