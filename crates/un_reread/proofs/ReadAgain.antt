@@ -22,9 +22,11 @@ use Rattle.un_reread.proofs.Labels.{labels_back}
 use Rattle.un_reread.proofs.LineFaultsOf.{no_line_faults}
 use Rattle.un_reread.proofs.LiveAtEntry.{none_live}
 use Rattle.un_reread.proofs.NamesBack.{names_back, params_again}
+use Rattle.un_reread.proofs.Neat.{IsNeat}
+use Rattle.un_reread.proofs.NeatLines.{function_neat}
 use Rattle.un_reread.proofs.ReadLines.{function_read}
 use Rattle.un_reread.proofs.Rebuilt.{blocks_again}
-use Rattle.un_reread.proofs.Sizes.{IsShort, text_within}
+use Rattle.un_reread.proofs.Sizes.{text_within}
 use Rattle.un_reread.proofs.TextFaultsOf.{no_shape_fault}
 
 -- functions of the same four parts are the same
@@ -55,10 +57,9 @@ function_back f w = same_function f (function_of lines) refl params (sym names) 
         ∙ ap (λ (ls : List (List ℕ)). blocks_of f.names ls lines) (labels_back f.name f.params f.names f.blocks)
         ∙ blocks_again f.name f.params f.names f.blocks w)
 
-pub read_again : ((f : Function) → IsWellFormed f.name f.params f.names f.blocks → All IsClean (function_lines f) × All IsShort (function_lines f))
-    → (f : Function) → IsWellFormed f.name f.params f.names f.blocks → IsRead (function_text f) f
-read_again good f w = record {
-  within = text_within f w short;
+pub read_again : (f : Function) → IsWellFormed f.name f.params f.names f.blocks → IsRead (function_text f) f
+read_again f w = record {
+  within = text_within f w neat;
   lines = subst HasNoLineFault (sym split) (no_fault_at (function_lines f) lines read plain (no_line_faults f.name f.params f.names f.blocks w));
   whole = ap shape_fault shapes ∙ no_shape_fault f.name f.params f.names f.blocks w;
   is = function_back f w ∙ ap function_of (sym shapes);
@@ -68,11 +69,11 @@ read_again good f w = record {
     lines : List Line
     lines = printed_lines f.name f.params f.names f.blocks
 
-    clean : All IsClean (function_lines f)
-    clean = (good f w).0
+    neat : All (IsNeat 300) (function_lines f)
+    neat = function_neat f w
 
-    short : All IsShort (function_lines f)
-    short = (good f w).1
+    clean : All IsClean (function_lines f)
+    clean = All-weaker (IsNeat 300) IsClean (λ l n. n.clean) (function_lines f) neat
 
     plain : All IsOfPlainBytes (function_lines f)
     plain = All-weaker IsClean IsOfPlainBytes clean_plain (function_lines f) clean

@@ -10,15 +10,13 @@ use Rattle.un_ir.specs.declared.function.Function.{Function}
 use Rattle.un_ir.specs.Text.{Names, op_line, term_lines, block_lines, function_lines, function_text, ended}
 use Rattle.un_ir.specs.WellFormed.{IsWellFormed}
 use Rattle.un_reader.specs.declared.limits.TheConstants.{TEXT}
+use Rattle.un_reread.proofs.Neat.{IsNeat}
 
-abbrev pub IsShort : List ℕ → Type 0
-IsShort line = length line ≤ 300
-
-joined_size : (lines : List (List ℕ)) → All IsShort lines → length (flat_map ended lines) ≤ 301 * length lines
+joined_size : (lines : List (List ℕ)) → All (IsNeat 300) lines → length (flat_map ended lines) ≤ 301 * length lines
 joined_size [] all = omega arith
 joined_size (line ∷ lines) all =
-    let here : length line ≤ 300 = All-head IsShort line lines all in
-    let later = joined_size lines (All-tail IsShort line lines all) in
+    let here : length line ≤ 300 = (All-head (IsNeat 300) line lines all).short in
+    let later = joined_size lines (All-tail (IsNeat 300) line lines all) in
     let with_end = length-append line (10 ∷ []) in
     let whole = length-append (ended line) (flat_map ended lines) in
     omega arith
@@ -43,7 +41,7 @@ line_count blocks names (block ∷ some) =
     let all = length-append block.ops (flat_map (λ (b : Block). b.ops) some) in
     omega arith
 
-pub text_within : (f : Function) → IsWellFormed f.name f.params f.names f.blocks → All IsShort (function_lines f) → length (function_text f) ≤ TEXT
+pub text_within : (f : Function) → IsWellFormed f.name f.params f.names f.blocks → All (IsNeat 300) (function_lines f) → length (function_text f) ≤ TEXT
 text_within f w short =
     let size = joined_size (function_lines f) short in
     let count = line_count f.blocks f.names f.blocks in
