@@ -1,5 +1,5 @@
 -- The values are a solution.
-use Rattle.std.proofs.Common.{◌≡◌, ℕ, zero, suc, ◌+◌, ◌-◌, ◌*◌, ◌<◌, ◌≤◌, max, true, Bool, List, [], ◌∷◌, ◌++◌, length, get_or, replicate, Option, Some, None, refl, sym, ap, ◌∙◌, subst, inl, arith}
+use Rattle.std.proofs.Common.{◌≡◌, ℕ, zero, suc, ◌+◌, ◌-◌, ◌*◌, ◌<◌, ◌≤◌, max, true, Bool, List, [], ◌∷◌, ◌++◌, length, map, get_or, replicate, Option, Some, None, refl, sym, ap, ◌∙◌, subst, inl, arith}
 use Rattle.std.specs.Prelude.{All, slice_get}
 use Rattle.std.specs.List.{sum_by, AllZip, flat_map}
 use Rattle.std.proofs.lemmas.List.{append_assoc, append-nil, length-append, length-replicate}
@@ -12,6 +12,7 @@ use Rattle.un_ir.specs.declared.function.Term.{Term}
 use Rattle.un_ir.specs.declared.function.Term.TheVariants.{Ret}
 use Rattle.un_ir.specs.declared.function.Block.{Block}
 use Rattle.un_ir.specs.declared.function.Function.{Function}
+use Rattle.un_ir.specs.declared.extended.Ext.{Ext}
 use Rattle.un_ir.specs.declared.extended.ExtBlock.{ExtBlock}
 use Rattle.un_domains.specs.declared.domain.Domain.TheVariants.{Range}
 use Rattle.un_model.specs.declared.model.Model.{Model}
@@ -32,7 +33,7 @@ use Rattle.un_model.specs.Solutions.{IsSchedule, IsSolution, InDomain, share_of,
 use Rattle.un_model.specs.Variables.{model_of, op_domains, op_vars, ops_vars, ops_domains, ops_temps}
 use Rattle.un_model.specs.Registers.{kept_registers}
 use Rattle.un_plain.specs.Plain.{IsPlain, ArePlainOps, constant, addition, assigned_after}
-use Rattle.un_plain_ext.specs.PlainExt.{plain_ext, plain_block, in_op, body_ops, current_after}
+use Rattle.un_plain_ext.specs.PlainExt.{plain_ext, plain_block, kind_of, in_op, body_ops, current_after}
 use Rattle.un_plain_solution.specs.PlainSolution.{plain_cost, ops_values, return_values, block_values, plain_values}
 use Rattle.un_plain_solution.proofs.Apart.{AllBelow, all_apart, saved_holds}
 use Rattle.un_plain_solution.proofs.Readings.{IsGood, AreCurrent, Suffix, readings, body_reads, dsts_of, all_timely, adds}
@@ -129,8 +130,13 @@ kept z os m q h lq few =
 abbrev block_by : List ℕ → ℕ → List SrcOp → ℕ → Block
 block_by label freq os q = record { label = label; freq = freq; ops = os; term = Ret (Some (record { 0 = q })) }
 
-abbrev function_by : List ℕ → List NameId → List (List ℕ × Kind) → Block → Function
-function_by name params names block = record { name = name; params = params; names = names; blocks = block ∷ [] }
+-- the extended function of these names and blocks
+abbrev ext_by : List (List ℕ × Kind) → List Block → Ext
+ext_by names blocks = record { table = HEXAGON; names = map kind_of names; blocks = map (plain_block HEXAGON (length names)) blocks }
+
+-- and of a function with these parts
+abbrev function_by : List ℕ → List NameId → List (List ℕ × Kind) → Block → Ext
+function_by name params names block = ext_by names (block ∷ [])
 
 -- the values of the only block, and that of the frame flag
 abbrev values_by : List SrcOp → ℕ → List ℕ
@@ -139,8 +145,8 @@ values_by os q = handed_back ++ (ops_values q 1 os ++ last_values (length os + 1
 abbrev options_by : ℕ → Options
 options_by slots = record { regs = None; slots = slots }
 
-abbrev model_by : Function → ℕ → Model
-model_by f slots = model_of (plain_ext HEXAGON f) (options_by slots)
+abbrev model_by : Ext → ℕ → Model
+model_by e slots = model_of e (options_by slots)
 
 abbrev ext_block_by : ℕ → List ℕ → ℕ → List SrcOp → ℕ → ExtBlock
 ext_block_by m label freq os q = plain_block HEXAGON m (block_by label freq os q)
@@ -324,7 +330,7 @@ plain_solved f o h regs =
       costs o.slots f.name f.params f.names b.label b.freq b.ops q h.plain.ops h.plain.was_assigned h.few_names,
     ) in
     let two = subst (λ (t : Term). SolvesAt c (model_by (function_by f.name f.params f.names (record { label = b.label; freq = b.freq; ops = b.ops; term = t })) o.slots) it) (sym h.plain.term) one in
-    let three = subst (λ (bs : List Block). SolvesAt c (model_by (record { name = f.name; params = f.params; names = f.names; blocks = bs }) o.slots) it) (sym h.blocks) two in
+    let three = subst (λ (bs : List Block). SolvesAt c (model_by (ext_by f.names bs) o.slots) it) (sym h.blocks) two in
     let four = subst (λ (r : Option ℕ). SolvesAt c (model_of (plain_ext HEXAGON f) (record { regs = r; slots = o.slots })) it) (sym regs) three in
     let e1 = defined b.ops q b.label b.freq in
     let e2 = ap (λ (t : Term). flat_map (block_values HEXAGON) (record { label = b.label; freq = b.freq; ops = b.ops; term = t } ∷ []) ++ 0 ∷ []) (sym h.plain.term) in

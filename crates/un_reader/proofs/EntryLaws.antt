@@ -9,8 +9,8 @@ use Rattle.un_ir.specs.declared.function.SrcOp.{SrcOp}
 use Rattle.un_ir.specs.declared.function.Term.{Term}
 use Rattle.un_ir.specs.declared.function.Term.TheVariants.{Fall, Jump, Branch, Ret}
 use Rattle.un_ir.specs.declared.function.Block.{Block}
-use Rattle.un_ir.specs.declared.function.Function.{Function}
 use Rattle.un_ir.specs.Live.{IsLive, used, kept, read_by_term, read_by, read_at, targets_of, assigned_by, assigned_at, next_by, next_of}
+use Rattle.un_reader.specs.Tokens.{Spelled}
 use Rattle.un_reader.specs.declared.meeting.Meeting.{Meeting}
 use Rattle.un_reader.specs.declared.meeting.Meeting.TheVariants.{Read, Assigned, Neither}
 use Rattle.un_reader.specs.Entry.{IsLiveAtEntry, reads, assigns, meeting, marked, leads, live_by, lives, lives_at, AreSound, AreClosed}
@@ -292,8 +292,8 @@ lives_here blocks name marks k block below is = let got : slice_get blocks k ≡
 
 -- ---- parameters
 
-pub param_reads : (f : Function) (name : NameId) → reads name f.params ≡ true → IsLiveAtEntry f name → ⊥
-param_reads f name h live = live.is_local (reads-Contains name f.params h)
+pub param_reads : (params : List NameId) (names : List Spelled) (blocks : List Block) (name : NameId) → reads name params ≡ true → IsLiveAtEntry params names blocks name → ⊥
+param_reads params names blocks name h live = live.is_local (reads-Contains name params h)
 
-pub no_param : (f : Function) (name : NameId) → reads name f.params ≡ false → Contains f.params name → ⊥
-no_param f name h has = absurd (cc (sym h ∙ Contains-reads name f.params has))
+pub no_param : (params : List NameId) (name : NameId) → reads name params ≡ false → Contains params name → ⊥
+no_param params name h has = absurd (cc (sym h ∙ Contains-reads name params has))

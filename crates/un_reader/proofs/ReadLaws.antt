@@ -1,13 +1,13 @@
 -- What lines without a fault have: few names, a `func` line where there is a block line, and few blocks.
 use Rattle.std.proofs.Common.{◌≡◌, ℕ, zero, suc, ◌+◌, ◌<◌, ◌≤◌, ◌||◌, ◌++◌, Bool, true, false, nat_lt, nat_eq, List, [], ◌∷◌, Option, Some, None, is_none, map, length, take, slice_get, get_or, if◌then◌else◌, append-nil, refl, sym, ap, ◌∙◌, arith, subst, add-one}
-use Rattle.std.specs.List.{list_all, filter_map, cons_option, position_or_len}
+use Rattle.std.specs.List.{list_all, filter_map, cons_option}
 use Rattle.std.specs.Option.{option_or, option_to_list}
 use Rattle.std.proofs.lemmas.List.{take_more, map_push, take_all}
 use Rattle.std.proofs.lemmas.Option.{slice_get-get_or}
 use Rattle.std.proofs.lemmas.Bool.Decides.{nat_tests}
 use Rattle.un_ir.specs.declared.function.Block.{Block as SourceBlock}
 use Rattle.un_reader.specs.declared.fault.Fault.{Fault}
-use Rattle.un_reader.specs.declared.fault.Fault.TheVariants.{BadByte, BadLine, KindClash, TooMany, WideLiteral, BadFreq, DupLabel, NoBlock, AfterEnd, LiveAtEntry}
+use Rattle.un_reader.specs.declared.fault.Fault.TheVariants.{BadByte, BadLine, KindClash, TooMany, WideLiteral, BadFreq, DupLabel, NoBlock, AfterEnd}
 use Rattle.un_reader.specs.declared.line.Line.{Line}
 use Rattle.un_reader.specs.declared.line.Line.TheVariants.{Blank, Func, Block, Operation, Terminator}
 use Rattle.un_reader.specs.declared.before.Before.{Before}
@@ -18,17 +18,14 @@ use Rattle.un_reader.specs.Noted.{noted}
 use Rattle.un_reader.specs.Named.{IsNamed}
 use Rattle.un_reader.specs.LineFaults.{is_plain_byte, is_misplaced, has_clash, is_over_limit, has_too_many, is_wide, has_bad_freq, repeats_label, is_before_block, is_after_end, faults_on, first_of, shaped_fault, line_fault, line_of, fault_at}
 use Rattle.un_reader.specs.Lines.{HasNoLineFault, IsFirstLineFault, shapes_in}
-use Rattle.un_reader.specs.TextFaults.{is_block, no_block, shape_fault}
-use Rattle.un_reader.specs.Functions.{block_on, blocks_of, function_of}
-use Rattle.un_base.specs.declared.ids.NameId.{NameId}
-use Rattle.un_ir.specs.declared.function.Function.{Function}
+use Rattle.un_reader.specs.TextFaults.{no_block, shape_fault}
+use Rattle.un_reader.specs.Functions.{block_on, blocks_of}
 use Rattle.un_reader.specs.declared.limits.TheConstants.{TEXT}
 use Rattle.un_reader.specs.declared.error.ReadError.{ReadError}
 use Rattle.un_reader.specs.declared.error.ReadError.TheVariants.{NoMemory, TextFault}
 use Rattle.un_reader.specs.Errors.{Tells}
 use Rattle.un_reader.specs.Pieces.{lines_in}
-use Rattle.un_reader.specs.Entry.{IsLiveAtEntry}
-use Rattle.un_reader.specs.Read.{IsTextFault, on_line, in_whole, at_entry}
+use Rattle.un_reader.specs.Read.{IsTextFault, on_line, in_whole}
 use Rattle.un_reader.proofs.BeforeLaws.{before_of_push}
 
 -- ---- a line without a fault
@@ -151,14 +148,6 @@ pub whole_told : (text : List ℕ) (lines : List Line) (e : ReadError) → lengt
     → Tells (λ line fault. shape_fault lines ≡ Some (line, fault)) e → Tells (IsTextFault text) e
 whole_told text lines NoMemory within good same t = tt
 whole_told text lines (TextFault line code) within good same (fault, is, there) = (fault, is, in_whole line fault within good (ap shape_fault (sym same) ∙ there))
-
-pub entry_fault : (text : List ℕ) (lines : List Line) (f : Function) (place : ℕ) → length text ≤ TEXT → HasNoLineFault (lines_in text) → lines ≡ shapes_in text
-    → shape_fault lines ≡ None → f ≡ function_of lines → place ≡ position_or_len is_block lines → (name : NameId) → IsLiveAtEntry f name
-    → IsTextFault text (place + 1) LiveAtEntry
-entry_fault text lines f place within good same none is at name live =
-    let p : place ≡ position_or_len is_block (shapes_in text) = at ∙ ap (position_or_len is_block) same in
-    subst (λ (k : ℕ). IsTextFault text (k + 1) LiveAtEntry) (sym p)
-    (at_entry name within good (ap shape_fault (sym same) ∙ none) (subst (λ (x : Function). IsLiveAtEntry x name) (is ∙ ap function_of same) live))
 
 -- what is kept, at the lines and what stands before a line behind them
 pub kept_here : (text : List ℕ) (lines : List Line) → HasNoLineFault (lines_in text) → lines ≡ shapes_in text → Kept lines

@@ -7,20 +7,20 @@ use Rattle.un_ir.specs.declared.function.SrcOp.{SrcOp}
 use Rattle.un_ir.specs.declared.function.Term.{Term}
 use Rattle.un_ir.specs.declared.function.Term.TheVariants.{Fall, Jump, Branch, Ret}
 use Rattle.un_ir.specs.declared.function.Block.{Block}
-use Rattle.un_ir.specs.declared.function.Function.{Function}
 use Rattle.un_ir.specs.Live.{IsLive, read_by_term, targets_of}
+use Rattle.un_reader.specs.Tokens.{Spelled}
 use Rattle.un_reader.specs.declared.meeting.Meeting.{Meeting}
 use Rattle.un_reader.specs.declared.meeting.Meeting.TheVariants.{Read, Assigned, Neither}
 
--- a name of the function that is no parameter and is live at the start of the entry
-pub record IsLiveAtEntry (f : Function) (name : NameId) : Type 0 where
-  pub number : name.0 < length f.names
-  pub is_local : Contains f.params name → ⊥
-  pub live : IsLive f.blocks name 0 0
+-- one of the names that is no parameter and is live at the start of the first block
+pub record IsLiveAtEntry (params : List NameId) (names : List Spelled) (blocks : List Block) (name : NameId) : Type 0 where
+  pub number : name.0 < length names
+  pub is_local : Contains params name → ⊥
+  pub live : IsLive blocks name 0 0
 
 -- there is none
-abbrev pub HasNoneLive : Function → Type 0
-HasNoneLive f = (name : NameId) → IsLiveAtEntry f name → ⊥
+abbrev pub HasNoneLive : List NameId → List Spelled → List Block → Type 0
+HasNoneLive params names blocks = (name : NameId) → IsLiveAtEntry params names blocks name → ⊥
 
 -- ---- what a block does to a name first
 

@@ -1,5 +1,5 @@
 -- The function that lines are.
-use Rattle.std.specs.Prelude.{ℕ, zero, suc, ℤ, pos, negsuc, ◌-◌, ◌^◌, min, List, [], ◌∷◌, Option, Some, None, map, unwrap_or, if◌then◌else◌}
+use Rattle.std.specs.Prelude.{ℕ, zero, suc, ℤ, pos, negsuc, ◌≡◌, ◌-◌, ◌^◌, min, List, [], ◌∷◌, Option, Some, None, map, unwrap_or, if◌then◌else◌}
 use Rattle.std.specs.List.{position_or_len, cons_option}
 use Rattle.std.specs.Option.{option_map}
 use Rattle.std.specs.Str.{bytes_eq}
@@ -74,11 +74,21 @@ abbrev pub params_of : List Line → List Spelled
 params_of [] = []
 params_of (line ∷ lines) = params_or line (params_of lines)
 
+-- the parameters by the numbers of their names
+abbrev pub param_ids : List Line → List NameId
+param_ids lines = map (name_id (names_of lines)) (params_of lines)
+
+-- the blocks by the numbers of their names and labels
+abbrev pub source_blocks : List Line → List SourceBlock
+source_blocks lines = blocks_of (names_of lines) (labels_of lines) lines
+
+-- the name, parameters, names and blocks that lines without a fault give
+pub record ArePartsOf (lines : List Line) (its_name : List ℕ) (its_params : List NameId) (its_names : List Spelled) (its_blocks : List SourceBlock) : Type 0 where
+  pub name : its_name ≡ unwrap_or (name_of lines) []
+  pub params : its_params ≡ param_ids lines
+  pub names : its_names ≡ names_of lines
+  pub blocks : its_blocks ≡ source_blocks lines
+
 -- the function that lines without a fault are
-abbrev pub function_of : List Line → Function
-function_of lines = record {
-  name = unwrap_or (name_of lines) [];
-  params = map (name_id (names_of lines)) (params_of lines);
-  names = names_of lines;
-  blocks = blocks_of (names_of lines) (labels_of lines) lines;
-}
+abbrev pub IsFunctionOf : List Line → Function → Type 0
+IsFunctionOf lines f = ArePartsOf lines f.name f.params f.names f.blocks

@@ -9,7 +9,8 @@ use Rattle.un_reader.specs.declared.fault.Fault.TheVariants.{TooMany, LiveAtEntr
 use Rattle.un_reader.specs.Pieces.{lines_in}
 use Rattle.un_reader.specs.Lines.{HasNoLineFault, IsFirstLineFault, shapes_in}
 use Rattle.un_reader.specs.TextFaults.{is_block, shape_fault}
-use Rattle.un_reader.specs.Functions.{function_of}
+use Rattle.un_reader.specs.Before.{names_of}
+use Rattle.un_reader.specs.Functions.{IsFunctionOf, param_ids, source_blocks}
 use Rattle.un_reader.specs.Entry.{IsLiveAtEntry, HasNoneLive}
 
 -- the text is within the limit, no line has a fault, and the whole has none: then it is this function
@@ -17,8 +18,8 @@ pub record IsRead (text : List ℕ) (f : Function) : Type 0 where
   pub within : length text ≤ TEXT
   pub lines : HasNoLineFault (lines_in text)
   pub whole : shape_fault (shapes_in text) ≡ None
-  pub is : f ≡ function_of (shapes_in text)
-  pub entry : HasNoneLive f
+  pub is : IsFunctionOf (shapes_in text) f
+  pub entry : HasNoneLive f.params f.names f.blocks
 
 -- the first fault of the text, with its line: too many bytes, the first line that has a fault, the first fault of the
 -- whole where no line has one, and last a name that is live at the entry's start, at the first block line
@@ -28,5 +29,6 @@ pub data IsTextFault (text : List ℕ) : ℕ → Fault → Type 0 where
   in_whole : (line : ℕ) (fault : Fault) → length text ≤ TEXT → HasNoLineFault (lines_in text)
       → shape_fault (shapes_in text) ≡ Some (line, fault) → IsTextFault text line fault
   at_entry : (name : NameId) → length text ≤ TEXT → HasNoLineFault (lines_in text)
-      → shape_fault (shapes_in text) ≡ None → IsLiveAtEntry (function_of (shapes_in text)) name
+      → shape_fault (shapes_in text) ≡ None
+      → IsLiveAtEntry (param_ids (shapes_in text)) (names_of (shapes_in text)) (source_blocks (shapes_in text)) name
       → IsTextFault text (position_or_len is_block (shapes_in text) + 1) LiveAtEntry

@@ -1,4 +1,4 @@
-//! The function that lines without a fault are.
+//! The parts of the function that lines without a fault are.
 
 ghost use Rattle.std.specs.Prelude.{◌≡◌, ◌+◌, ◌<◌, ◌^◌, ◌≤◌, IfOk, length, map, Some};
 ghost use Rattle.std.specs.Option.{option_map};
@@ -6,9 +6,10 @@ ghost use Rattle.std.specs.List.{position_or_len};
 ghost use Rattle.std.specs.Str.{bytes_eq};
 ghost use Rattle.un_reader.specs.Before.{same_name, names_of, labels_of, name_of};
 ghost use Rattle.un_reader.specs.TextFaults.{term_of};
-ghost use Rattle.un_reader.specs.Functions.{name_id, block_id, literal_value, op_of, term_by, ops_of, blocks_of, params_of, function_of};
+ghost use Rattle.un_reader.specs.Functions.{name_id, block_id, literal_value, op_of, term_by, ops_of, blocks_of, params_of, ArePartsOf};
 
 use crate::before::same_name;
+use crate::draft::Draft;
 use crate::forms::is_text;
 use crate::line::{Line, OpLine, TermLine};
 use crate::text_fault::find_term;
@@ -17,7 +18,7 @@ use std::alloc::Global;
 use un_base::ids::{BlockId, NameId};
 use un_base::memory_error::NoMemory;
 use un_base::name::Name;
-use un_ir::function::{Block, Function, Kind, SrcOp, Term};
+use un_ir::function::{Block, Kind, SrcOp, Term};
 use un_lists::few::Few;
 use un_lists::items::Items;
 
@@ -227,24 +228,24 @@ fn find_params(
     Ok(Items::new(alloc))
 }
 
-/// The function that lines without a fault are, by its name, their names and labels.
-pub fn source_function(
+/// The parts that lines without a fault give, by the name of the function, their names and labels.
+pub fn source_parts(
     alloc: Global,
     name: Name,
     names: Items<(Name, Kind)>,
     labels: &[Name],
     lines: &[Line],
-) -> Result<Function, NoMemory>
+) -> Result<Draft, NoMemory>
     requires name { name_of lines.now ≡ Some name }
     requires names { names ≡ names_of lines.now }
     requires labels { labels.now ≡ labels_of lines.now }
     requires few_names { length names < 2 ^ 32 }
     requires few_labels { length labels.now < 2 ^ 32 }
-    ensures { IfOk result (λ f. f ≡ function_of lines.now) }
+    ensures { IfOk result (λ d. ArePartsOf lines.now d.name d.params d.names d.blocks) }
 {
     let params = find_params(alloc, names.as_slice(), lines)?;
     let blocks = source_blocks(alloc, names.as_slice(), labels, lines)?;
-    Ok(Function {
+    Ok(Draft {
         name,
         params,
         names,

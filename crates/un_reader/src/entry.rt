@@ -6,11 +6,12 @@ ghost use Rattle.un_base.specs.declared.ids.NameId.{NameId};
 ghost use Rattle.un_ir.specs.Live.{IsLive, read_by_term};
 ghost use Rattle.un_reader.specs.Entry.{IsLiveAtEntry, HasNoneLive, reads, assigns, meeting, marked, leads, live_by, lives, lives_at, AreSound, AreClosed};
 
+use crate::draft::Draft;
 use crate::meeting::Meeting;
 use std::alloc::Global;
 use un_base::ids::NameId;
 use un_base::memory_error::NoMemory;
-use un_ir::function::{Block, Function, SrcOp, Term};
+use un_ir::function::{Block, SrcOp, Term};
 
 /// Whether the name is in the list.
 fn reads(name: NameId, names: &[NameId]) -> bool
@@ -151,27 +152,27 @@ fn is_live(alloc: Global, blocks: &[Block], name: NameId) -> Result<bool, NoMemo
 
 /// Whether the name is no parameter and is live at the start of the entry.
 #[tactic(auto, using(crate::proofs::EntryLaws::param_reads))]
-fn is_live_name(alloc: Global, f: &Function, name: NameId) -> Result<bool, NoMemory>
-    requires number { name.0 < length f.now.names }
-    requires few { length f.now.blocks < 2 ^ 32 }
-    ensures yes { IfOk result (λ live. live ≡ true → IsLiveAtEntry f.now name) }
-    ensures no { IfOk result (λ live. live ≡ false → IsLiveAtEntry f.now name → ⊥) }
+fn is_live_name(alloc: Global, parts: &Draft, name: NameId) -> Result<bool, NoMemory>
+    requires number { name.0 < length parts.now.names }
+    requires few { length parts.now.blocks < 2 ^ 32 }
+    ensures yes { IfOk result (λ live. live ≡ true → IsLiveAtEntry parts.now.params parts.now.names parts.now.blocks name) }
+    ensures no { IfOk result (λ live. live ≡ false → IsLiveAtEntry parts.now.params parts.now.names parts.now.blocks name → ⊥) }
 {
-    if reads(name, f.params.as_slice()) {
+    if reads(name, parts.params.as_slice()) {
         return Ok(false);
     }
-    is_live(alloc, f.blocks.as_slice(), name)
+    is_live(alloc, parts.blocks.as_slice(), name)
 }
 
 /// Whether a name that is no parameter is live at the start of the entry.
-pub fn has_live(alloc: Global, f: &Function) -> Result<bool, NoMemory>
-    requires names { length f.now.names < 2 ^ 32 }
-    requires blocks { length f.now.blocks < 2 ^ 32 }
-    ensures yes { IfOk result (λ live. live ≡ true → (name : NameId) × IsLiveAtEntry f.now name) }
-    ensures no { IfOk result (λ live. live ≡ false → HasNoneLive f.now) }
+pub fn has_live(alloc: Global, parts: &Draft) -> Result<bool, NoMemory>
+    requires names { length parts.now.names < 2 ^ 32 }
+    requires blocks { length parts.now.blocks < 2 ^ 32 }
+    ensures yes { IfOk result (λ live. live ≡ true → (name : NameId) × IsLiveAtEntry parts.now.params parts.now.names parts.now.blocks name) }
+    ensures no { IfOk result (λ live. live ≡ false → HasNoneLive parts.now.params parts.now.names parts.now.blocks) }
 {
-    for i in 0..f.names.len() {
-        if is_live_name(alloc, f, NameId(i as u32))? {
+    for i in 0..parts.names.len() {
+        if is_live_name(alloc, parts, NameId(i as u32))? {
             return Ok(true);
         }
     }

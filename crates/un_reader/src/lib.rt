@@ -4,6 +4,7 @@
 pub mod before;
 pub mod build;
 pub mod check;
+pub mod draft;
 pub mod entry;
 pub mod error;
 pub mod fault;
@@ -14,6 +15,8 @@ pub mod line_fault;
 pub mod meeting;
 pub mod number;
 pub mod pieces;
+#[cfg(test)]
+mod print_tests;
 pub mod read;
 pub mod shape;
 pub mod slot;

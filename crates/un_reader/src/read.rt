@@ -4,14 +4,16 @@ ghost use Rattle.std.specs.Prelude.{◌≡◌, ◌+◌, ◌<◌, ◌^◌, ◌≤
 ghost use Rattle.std.specs.List.{position_or_len};
 ghost use Rattle.un_reader.specs.Before.{before_of, name_of, names_of, labels_of};
 ghost use Rattle.un_reader.specs.Errors.{Tells};
-ghost use Rattle.un_reader.specs.Functions.{function_of};
+ghost use Rattle.un_ir.specs.WellFormed.{IsWellFormed};
+ghost use Rattle.un_reader.specs.Functions.{ArePartsOf};
 ghost use Rattle.un_reader.specs.Named.{IsNamed};
 ghost use Rattle.un_reader.specs.Read.{IsRead, IsTextFault};
 ghost use Rattle.un_reader.specs.TextFaults.{is_block, shape_fault};
 
 use crate::before::Before;
-use crate::build::source_function;
+use crate::build::source_parts;
 use crate::check::{Checked, check_lines, fault_of};
+use crate::draft::Draft;
 use crate::entry::has_live;
 use crate::error::ReadError;
 use crate::fault::Fault;
@@ -37,39 +39,39 @@ fn entry_place(lines: &[Line]) -> usize
 }
 
 /// The same for lines with this name, these names and labels.
-fn named_function(
+fn named_parts(
     alloc: Global,
     lines: &[Line],
     name: Name,
     names: Items<(Name, Kind)>,
     labels: &[Name],
-) -> Result<Function, ReadError>
+) -> Result<Draft, ReadError>
     requires name { name_of lines.now ≡ Some name }
     requires names { names ≡ names_of lines.now }
     requires labels { labels.now ≡ labels_of lines.now }
     requires few_names { length names ≤ 40 }
     requires few_labels { length labels.now ≤ 65536 }
     requires count { length lines.now ≤ 65536 }
-    ensures good { IfOk result (λ f. shape_fault lines.now ≡ None) }
-    ensures function { IfOk result (λ f. f ≡ function_of lines.now) }
+    ensures good { IfOk result (λ d. shape_fault lines.now ≡ None) }
+    ensures parts { IfOk result (λ d. ArePartsOf lines.now d.name d.params d.names d.blocks) }
     ensures bad { IfErr result (Tells (λ line fault. shape_fault lines.now ≡ Some (line, fault))) }
 {
     if let Some((line, fault)) = shape_fault(lines, labels) {
         return Err(fault_of(line, fault));
     }
-    let function = source_function(alloc, name, names, labels, lines)?;
-    Ok(function)
+    let parts = source_parts(alloc, name, names, labels, lines)?;
+    Ok(parts)
 }
 
-/// The function that lines without a fault are, where their whole has none, liveness left out.
-fn good_function(alloc: Global, lines: &[Line], before: Before) -> Result<Function, ReadError>
+/// The parts of the function that lines without a fault are, where their whole has none, liveness left out.
+fn good_parts(alloc: Global, lines: &[Line], before: Before) -> Result<Draft, ReadError>
     requires before { before ≡ before_of lines.now }
     requires few { length before.names ≤ 40 }
     requires named { IsNamed before }
     requires count { length lines.now ≤ 65536 }
     requires labels { length before.labels ≤ 65536 }
-    ensures good { IfOk result (λ f. shape_fault lines.now ≡ None) }
-    ensures function { IfOk result (λ f. f ≡ function_of lines.now) }
+    ensures good { IfOk result (λ d. shape_fault lines.now ≡ None) }
+    ensures parts { IfOk result (λ d. ArePartsOf lines.now d.name d.params d.names d.blocks) }
     ensures bad { IfErr result (Tells (λ line fault. shape_fault lines.now ≡ Some (line, fault))) }
 {
     let Before {
@@ -81,7 +83,29 @@ fn good_function(alloc: Global, lines: &[Line], before: Before) -> Result<Functi
     } = before;
     match name {
         None => Err(fault_of(lines.len() + 1, Fault::NoBlock)),
-        Some(name) => named_function(alloc, lines, name, names, labels.as_slice()),
+        Some(name) => named_parts(alloc, lines, name, names, labels.as_slice()),
+    }
+}
+
+/// The function that has these parts.
+fn whole(parts: Draft) -> Function
+    requires { IsWellFormed parts.name parts.params parts.names parts.blocks }
+    ensures name { result.name ≡ parts.name }
+    ensures params { result.params ≡ parts.params }
+    ensures names { result.names ≡ parts.names }
+    ensures blocks { result.blocks ≡ parts.blocks }
+{
+    let Draft {
+        name,
+        params,
+        names,
+        blocks,
+    } = parts;
+    Function {
+        name,
+        params,
+        names,
+        blocks,
     }
 }
 
@@ -98,9 +122,9 @@ pub fn read_function(alloc: Global, text: &[u8]) -> Result<Function, ReadError>
         return Err(fault_of(0, Fault::TooMany));
     }
     let Checked { lines, before } = check_lines(alloc, text)?;
-    let function = good_function(alloc, lines.as_slice(), before)?;
-    if has_live(alloc, &function)? {
+    let parts = good_parts(alloc, lines.as_slice(), before)?;
+    if has_live(alloc, &parts)? {
         return Err(fault_of(entry_place(lines.as_slice()) + 1, Fault::LiveAtEntry));
     }
-    Ok(function)
+    Ok(whole(parts))
 }

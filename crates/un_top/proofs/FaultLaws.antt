@@ -5,12 +5,12 @@ use Rattle.un_ir.specs.declared.function.Function.{Function}
 use Rattle.un_plain.specs.Plain.{IsPlain}
 use Rattle.un_reader.specs.Codes.{code_of}
 use Rattle.un_reader.specs.LineFaults.{fault_at}
-use Rattle.un_reader.specs.Lines.{HasNoLineFault, IsFirstLineFault}
+use Rattle.un_reader.specs.Lines.{HasNoLineFault, IsFirstLineFault, shapes_in}
 use Rattle.un_reader.specs.Pieces.{lines_in}
-use Rattle.un_reader.specs.Entry.{IsLiveAtEntry}
 use Rattle.un_reader.specs.Read.{IsRead, IsTextFault, too_long, on_line, in_whole, at_entry}
 use Rattle.un_reader.specs.declared.fault.Fault.{Fault}
 use Rattle.un_reader.specs.declared.fault.Fault.TheVariants.{TooMany}
+use Rattle.un_reader.proofs.PartLaws.{live_in_parts, one_function}
 use Rattle.un_top.proofs.BuiltLaws.{not_built_line_unique}
 use Rattle.un_top.specs.Faults.{IsFault, in_language, not_built}
 
@@ -56,7 +56,7 @@ language_or_fault text f _ _ h (too_long long) = let within = h.within in omega 
 language_or_fault text f _ _ h (on_line line fault within first) = no_line_fault (lines_in text) line fault h.lines first
 language_or_fault text f _ _ h (in_whole line fault within none whole) = let other = h.whole in cc
 language_or_fault text f _ _ h (at_entry name within none whole live) =
-    h.entry name (subst (λ (g : Function). IsLiveAtEntry g name) (sym h.is) live)
+    h.entry name (live_in_parts (shapes_in text) f.name f.params f.names f.blocks name h.is live)
 
 same_pair : (l line : ℕ) (f fault : Fault) → ◌≡◌ {A = Option (ℕ × Fault)} (Some (l, f)) (Some (line, fault)) → (l ≡ line) × (f ≡ fault)
 same_pair l line f fault e =
@@ -92,4 +92,4 @@ fault_unique text _ _ _ _ (not_built f l read other odd) (not_built function lin
 -- the text of a plain function has no fault
 pub read_has_no_fault : (text : List ℕ) (f : Function) (line code : ℕ) → IsRead text f → IsPlain f → IsFault text line code → ⊥
 read_has_no_fault text f _ _ read plain (in_language line fault h) = language_or_fault text f line fault read h
-read_has_no_fault text f _ _ read plain (not_built function line read' other odd) = other (subst IsPlain (read.is ∙ sym read'.is) plain)
+read_has_no_fault text f _ _ read plain (not_built function line read' other odd) = other (subst IsPlain (one_function (shapes_in text) f function read.is read'.is) plain)

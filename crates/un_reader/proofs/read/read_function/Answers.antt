@@ -1,5 +1,5 @@
 use Rattle.std.proofs.Common.{rules, arith, ◌≡◌, ◌+◌, ◌<◌, ◌≤◌, true, List, ℕ, Some, None, length, sym, ap, ◌∙◌, subst}
-use Rattle.un_ir.specs.declared.function.Function.{Function}
+use Rattle.un_ir.specs.declared.function.Block.{Block}
 use Rattle.un_reader.specs.declared.before.Before.{Before}
 use Rattle.un_reader.specs.declared.fault.Fault.TheVariants.{TooMany, LiveAtEntry}
 use Rattle.un_reader.specs.declared.error.ReadError.TheVariants.{TextFault}
@@ -9,11 +9,13 @@ use Rattle.std.specs.List.{position_or_len}
 use Rattle.un_reader.specs.Lines.{shapes_in}
 use Rattle.un_reader.specs.TextFaults.{is_block}
 use Rattle.un_reader.specs.Named.{IsNamed}
+use Rattle.un_reader.specs.Tokens.{Spelled}
 use Rattle.un_reader.specs.Before.{before_of, labels_of, names_of}
 use Rattle.un_reader.specs.Functions.{blocks_of}
 use Rattle.un_reader.specs.Read.{IsTextFault, too_long}
 use Rattle.un_reader.proofs.CheckLaws.{told}
-use Rattle.un_reader.proofs.ReadLaws.{kept_here, few_labels, few_blocks, line_told, whole_told, entry_fault}
+use Rattle.un_reader.proofs.ReadLaws.{kept_here, few_labels, few_blocks, line_told, whole_told}
+use Rattle.un_reader.proofs.PartLaws.{parts_of, entry_fault, parts_well_formed}
 use Rattle.std.proofs.lemmas.Result.{err_from_is_err_and}
 use Rattle.un_reader.proofs.read.read_function.Goals as goal
 
@@ -29,27 +31,27 @@ returns-in_err-lines-clause-fault c =
     let first = line_told c.args.text.now _ within c.in_err-lines.ensures.bad in
     rw (p.1, p.2) first
 
-pub good_function-requires-clause-few : goal.good_function-requires-clause-few
-good_function-requires-clause-few c =
+pub good_parts-requires-clause-few : goal.good_parts-requires-clause-few
+good_parts-requires-clause-few c =
     let kept = kept_here c.args.text.now c.in_ok-lines.field-0.lines c.in_ok-lines.ensures.good c.in_ok-lines.ensures.lines in
     subst (λ (b : Before). length b.names ≤ 40) (sym c.in_ok-lines.ensures.before) kept.few
 
-pub good_function-requires-clause-named : goal.good_function-requires-clause-named
-good_function-requires-clause-named c =
+pub good_parts-requires-clause-named : goal.good_parts-requires-clause-named
+good_parts-requires-clause-named c =
     let kept = kept_here c.args.text.now c.in_ok-lines.field-0.lines c.in_ok-lines.ensures.good c.in_ok-lines.ensures.lines in
     subst IsNamed (sym c.in_ok-lines.ensures.before) kept.named
 
-pub good_function-requires-clause-labels : goal.good_function-requires-clause-labels
-good_function-requires-clause-labels c =
+pub good_parts-requires-clause-labels : goal.good_parts-requires-clause-labels
+good_parts-requires-clause-labels c =
     let few : length (labels_of c.in_ok-lines.field-0.lines) ≤ 65536 = omega (arith, few_labels c.in_ok-lines.field-0.lines, c.in_ok-lines.ensures.count) in
     subst (λ (b : Before). length b.labels ≤ 65536) (sym c.in_ok-lines.ensures.before) few
 
-pub returns-in_err-function-clause-fault : goal.returns-in_err-function-clause-fault
-returns-in_err-function-clause-fault c =
+pub returns-in_err-parts-clause-fault : goal.returns-in_err-parts-clause-fault
+returns-in_err-parts-clause-fault c =
     let within : length c.args.text.now ≤ TEXT = omega arith in
-    let p = err_from_is_err_and c.from_residual-in_err-function.result c.from_residual-in_err-function.ensures.1 in
+    let p = err_from_is_err_and c.from_residual-in_err-parts.result c.from_residual-in_err-parts.ensures.1 in
     let same : c.as_slice.result.now ≡ shapes_in c.args.text.now = c.as_slice.ensures ∙ c.in_ok-lines.ensures.lines in
-    let whole = whole_told c.args.text.now c.as_slice.result.now _ within c.in_ok-lines.ensures.good same c.in_err-function.ensures.bad in
+    let whole = whole_told c.args.text.now c.as_slice.result.now _ within c.in_ok-lines.ensures.good same c.in_err-parts.ensures.bad in
     rw (p.1, p.2) whole
 
 pub has_live-requires-clause-names : goal.has_live-requires-clause-names
@@ -57,7 +59,7 @@ has_live-requires-clause-names c =
     let same : c.as_slice.result.now ≡ shapes_in c.args.text.now = c.as_slice.ensures ∙ c.in_ok-lines.ensures.lines in
     let kept = kept_here c.args.text.now c.as_slice.result.now c.in_ok-lines.ensures.good same in
     let few : length (names_of c.as_slice.result.now) < 4294967296 = omega (arith, kept.few) in
-    subst (λ (f : Function). length f.names < 4294967296) (sym c.in_ok-function.ensures.function) few
+    subst (λ (ns : List Spelled). length ns < 4294967296) (sym c.in_ok-parts.ensures.parts.names) few
 
 pub has_live-requires-clause-blocks : goal.has_live-requires-clause-blocks
 has_live-requires-clause-blocks c =
@@ -65,7 +67,7 @@ has_live-requires-clause-blocks c =
     let count : length lines ≡ length c.in_ok-lines.field-0.lines = ap length c.as_slice.ensures in
     let few : length (blocks_of (names_of lines) (labels_of lines) lines) < 4294967296 =
     omega (arith, few_blocks (names_of lines) (labels_of lines) lines, count, c.in_ok-lines.ensures.count) in
-    subst (λ (f : Function). length f.blocks < 4294967296) (sym c.in_ok-function.ensures.function) few
+    subst (λ (bs : List Block). length bs < 4294967296) (sym c.in_ok-parts.ensures.parts.blocks) few
 
 pub returns-then-branch-clause-fault : goal.returns-then-branch-clause-fault
 returns-then-branch-clause-fault c =
@@ -74,5 +76,13 @@ returns-then-branch-clause-fault c =
     let live = c.in_ok-has_live.ensures.yes c.if-branch.true in
     let place : c.entry_place.result ≡ position_or_len is_block c.as_slice.result.now = c.entry_place.ensures.place ∙ ap (position_or_len is_block) (c.as_slice-then-branch.ensures ∙ sym c.as_slice.ensures) in
     told (IsTextFault c.args.text.now) (c.entry_place.result + 1) LiveAtEntry c.fault_of-then-branch.result c.fault_of-then-branch.ensures
-    (entry_fault c.args.text.now c.as_slice.result.now c.in_ok-function.function c.entry_place.result within c.in_ok-lines.ensures.good
-    same c.in_ok-function.ensures.good c.in_ok-function.ensures.function place live.0 live.1)
+    (entry_fault c.args.text.now c.as_slice.result.now _ _ _ _ c.entry_place.result within
+    (parts_of c.args.text.now c.as_slice.result.now _ _ _ _ c.in_ok-lines.ensures.good same c.in_ok-parts.ensures.good c.in_ok-parts.ensures.parts)
+    same place live.0 live.1)
+
+pub whole-requires : goal.whole-requires
+whole-requires c =
+    let same : c.as_slice.result.now ≡ shapes_in c.args.text.now = c.as_slice.ensures ∙ c.in_ok-lines.ensures.lines in
+    parts_well_formed c.args.text.now _ _ _ _
+    (parts_of c.args.text.now c.as_slice.result.now _ _ _ _ c.in_ok-lines.ensures.good same c.in_ok-parts.ensures.good c.in_ok-parts.ensures.parts)
+    (c.in_ok-has_live.ensures.no c.if-branch.false)

@@ -7,7 +7,7 @@ use Rattle.un_reader.specs.Before.{labels_of}
 use Rattle.un_reader.specs.TextFaults.{shape_fault}
 use Rattle.un_reader.proofs.CheckLaws.{told}
 use Rattle.un_reader.proofs.ReadLaws.{unnamed}
-use Rattle.un_reader.proofs.read.good_function.Goals as goal
+use Rattle.un_reader.proofs.read.good_parts.Goals as goal
 
 pub returns-in-None-clause-bad : goal.returns-in-None-clause-bad
 returns-in-None-clause-bad c =

@@ -1,0 +1,86 @@
+-- What the parts of a function have, once its lines and the whole of them have no fault.
+use Rattle.std.proofs.Common.{◌≡◌, ℕ, ◌+◌, ◌<◌, ◌≤◌, List, [], ◌∷◌, None, map, length, unwrap_or, Contains, sym, ap, ◌∙◌, subst}
+use Rattle.std.specs.List.{position_or_len}
+use Rattle.un_base.specs.declared.ids.NameId.{NameId}
+use Rattle.un_ir.specs.declared.function.Block.{Block as SourceBlock}
+use Rattle.un_ir.specs.declared.function.Function.{Function}
+use Rattle.un_ir.specs.Live.{IsLive}
+use Rattle.un_ir.specs.WellFormed.{IsWellFormed}
+use Rattle.un_ir.proofs.SameFunction.{same_function}
+use Rattle.un_reader.specs.declared.fault.Fault.TheVariants.{LiveAtEntry}
+use Rattle.un_reader.specs.declared.limits.TheConstants.{TEXT}
+use Rattle.un_reader.specs.declared.line.Line.{Line}
+use Rattle.un_reader.specs.Tokens.{Spelled}
+use Rattle.un_reader.specs.Before.{name_of, names_of, labels_of}
+use Rattle.un_reader.specs.LineFaults.{line_of}
+use Rattle.un_reader.specs.Lines.{HasNoLineFault, shapes_in}
+use Rattle.un_reader.specs.Pieces.{lines_in}
+use Rattle.un_reader.specs.TextFaults.{is_block, shape_fault}
+use Rattle.un_reader.specs.Functions.{IsFunctionOf, ArePartsOf, name_id, params_of, blocks_of, param_ids, source_blocks}
+use Rattle.un_reader.specs.Entry.{IsLiveAtEntry, HasNoneLive}
+use Rattle.un_reader.specs.Read.{IsTextFault, at_entry}
+
+well_formed : (all : List (List ℕ)) → HasNoLineFault all → shape_fault (map line_of all) ≡ None
+    → ((name : NameId) → name.0 < length (names_of (map line_of all)) → (Contains (param_ids (map line_of all)) name → ⊥) → IsLive (source_blocks (map line_of all)) name 0 0 → ⊥)
+    → IsWellFormed (unwrap_or (name_of (map line_of all)) []) (param_ids (map line_of all)) (names_of (map line_of all)) (source_blocks (map line_of all))
+well_formed all good none live = ?
+
+-- the parts that a text gives
+pub record Parts (text : List ℕ) (name : List ℕ) (params : List NameId) (names : List Spelled) (blocks : List SourceBlock) : Type 0 where
+  pub lines : HasNoLineFault (lines_in text)
+  pub whole : shape_fault (shapes_in text) ≡ None
+  pub are : ArePartsOf (shapes_in text) name params names blocks
+
+-- the same, by other words for the lines
+pub parts_of : (text : List ℕ) (lines : List Line) (name : List ℕ) (params : List NameId) (names : List Spelled) (blocks : List SourceBlock)
+    → HasNoLineFault (lines_in text) → lines ≡ shapes_in text → shape_fault lines ≡ None → ArePartsOf lines name params names blocks → Parts text name params names blocks
+parts_of text lines name params names blocks good same none are = record {
+  lines = good;
+  whole = subst (λ (ls : List Line). shape_fault ls ≡ None) same none;
+  are = subst (λ (ls : List Line). ArePartsOf ls name params names blocks) same are;
+}
+
+-- a name that is live among the parts is live among those of the lines
+live_in_lines : (lines : List Line) (its_name : List ℕ) (params : List NameId) (names : List Spelled) (blocks : List SourceBlock) (name : NameId)
+    → ArePartsOf lines its_name params names blocks → IsLiveAtEntry params names blocks name → IsLiveAtEntry (param_ids lines) (names_of lines) (source_blocks lines) name
+live_in_lines lines its_name params names blocks name are live =
+    subst (λ (x : List NameId). IsLiveAtEntry x (names_of lines) (source_blocks lines) name) are.params
+    (subst (λ (x : List Spelled). IsLiveAtEntry params x (source_blocks lines) name) are.names
+    (subst (λ (x : List SourceBlock). IsLiveAtEntry params names x name) are.blocks live))
+
+-- and the other way
+pub live_in_parts : (lines : List Line) (its_name : List ℕ) (params : List NameId) (names : List Spelled) (blocks : List SourceBlock) (name : NameId)
+    → ArePartsOf lines its_name params names blocks → IsLiveAtEntry (param_ids lines) (names_of lines) (source_blocks lines) name → IsLiveAtEntry params names blocks name
+live_in_parts lines its_name params names blocks name are live =
+    subst (λ (x : List NameId). IsLiveAtEntry x names blocks name) (sym are.params)
+    (subst (λ (x : List Spelled). IsLiveAtEntry (param_ids lines) x blocks name) (sym are.names)
+    (subst (λ (x : List SourceBlock). IsLiveAtEntry (param_ids lines) (names_of lines) x name) (sym are.blocks) live))
+
+pub entry_fault : (text : List ℕ) (lines : List Line) (its_name : List ℕ) (params : List NameId) (names : List Spelled) (blocks : List SourceBlock) (place : ℕ)
+    → length text ≤ TEXT → Parts text its_name params names blocks → lines ≡ shapes_in text → place ≡ position_or_len is_block lines
+    → (name : NameId) → IsLiveAtEntry params names blocks name → IsTextFault text (place + 1) LiveAtEntry
+entry_fault text lines its_name params names blocks place within parts same at name live =
+    let p : place ≡ position_or_len is_block (shapes_in text) = at ∙ ap (position_or_len is_block) same in
+    subst (λ (k : ℕ). IsTextFault text (k + 1) LiveAtEntry) (sym p)
+    (at_entry name within parts.lines parts.whole (live_in_lines (shapes_in text) its_name params names blocks name parts.are live))
+
+-- parts without a live name are those of a function without a fault
+pub parts_well_formed : (text : List ℕ) (its_name : List ℕ) (params : List NameId) (names : List Spelled) (blocks : List SourceBlock)
+    → Parts text its_name params names blocks → HasNoneLive params names blocks → IsWellFormed its_name params names blocks
+parts_well_formed text its_name params names blocks parts none = moved
+    (well_formed (lines_in text) parts.lines parts.whole
+    (λ name number is_local live. none name (live_in_parts lines its_name params names blocks name parts.are (record { number = number; is_local = is_local; live = live }))))
+  where
+    lines : List Line
+    lines = shapes_in text
+
+    moved : IsWellFormed (unwrap_or (name_of lines) []) (param_ids lines) (names_of lines) (source_blocks lines) → IsWellFormed its_name params names blocks
+    moved w =
+        subst (λ (x : List ℕ). IsWellFormed x params names blocks) (sym parts.are.name)
+        (subst (λ (x : List NameId). IsWellFormed (unwrap_or (name_of lines) []) x names blocks) (sym parts.are.params)
+        (subst (λ (x : List Spelled). IsWellFormed (unwrap_or (name_of lines) []) (param_ids lines) x blocks) (sym parts.are.names)
+        (subst (λ (x : List SourceBlock). IsWellFormed (unwrap_or (name_of lines) []) (param_ids lines) (names_of lines) x) (sym parts.are.blocks) w)))
+
+-- lines are one function
+pub one_function : (lines : List Line) (f g : Function) → IsFunctionOf lines f → IsFunctionOf lines g → f ≡ g
+one_function lines f g a b = same_function f g (a.name ∙ sym b.name) (a.params ∙ sym b.params) (a.names ∙ sym b.names) (a.blocks ∙ sym b.blocks)
