@@ -4,9 +4,9 @@ use Rattle.std.proofs.lemmas.Option.{option_and_then_some, slice_get_within}
 use Rattle.un_ir.specs.declared.function.Function.{Function}
 use Rattle.un_reader.specs.Before.{before_of}
 use Rattle.un_reader.specs.LineFaults.{line_of, line_fault}
-use Rattle.un_reader.specs.Lines.{HasNoLineFault, IsFirstLineFault}
+use Rattle.un_reader.specs.Lines.{HasNoLineFault, IsFirstLineFault, shapes_in}
 use Rattle.un_reader.specs.Pieces.{lines_in}
-use Rattle.un_reader.specs.Entry.{IsLiveAtEntry}
+use Rattle.un_reader.proofs.PartLaws.{live_in_parts, one_function as of_lines}
 use Rattle.un_reader.specs.Errors.{Tells}
 use Rattle.un_reader.specs.Read.{IsRead, IsTextFault, too_long, on_line, in_whole, at_entry}
 use Rattle.un_reader.specs.declared.error.ReadError.{ReadError}
@@ -24,7 +24,7 @@ no_fault_too text f _ _ h (too_long long) = let within = h.within in omega arith
 no_fault_too text f _ _ h (on_line line fault within first) = no_line_fault (lines_in text) line fault h.lines first
 no_fault_too text f _ _ h (in_whole line fault within none whole) = let other = h.whole in cc
 no_fault_too text f _ _ h (at_entry name within none whole live) =
-    h.entry name (subst (λ (g : Function). IsLiveAtEntry g name) (sym h.is) live)
+    h.entry name (live_in_parts (shapes_in text) f.name f.params f.names f.blocks name h.is live)
 
 -- only want of memory keeps the function of a text from being read
 pub only_memory : (text : List ℕ) (f : Function) (e : ReadError) → IsRead text f → Tells (IsTextFault text) e → e ≡ NoMemory
@@ -33,4 +33,4 @@ only_memory text f (TextFault line code) h (fault, is, there) = absurd (no_fault
 
 -- a text is one function
 pub one_function : (text : List ℕ) (f g : Function) → IsRead text f → IsRead text g → g ≡ f
-one_function text f g a b = b.is ∙ sym a.is
+one_function text f g a b = of_lines (shapes_in text) g f b.is a.is

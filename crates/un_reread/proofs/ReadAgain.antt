@@ -13,7 +13,7 @@ use Rattle.un_reader.specs.Lines.{HasNoLineFault, shapes_in}
 use Rattle.un_reader.specs.Pieces.{lines_in}
 use Rattle.un_reader.specs.TextFaults.{shape_fault}
 use Rattle.un_reader.specs.Before.{names_of, labels_of}
-use Rattle.un_reader.specs.Functions.{name_id, params_of, blocks_of, function_of}
+use Rattle.un_reader.specs.Functions.{name_id, params_of, blocks_of, param_ids, source_blocks, IsFunctionOf}
 use Rattle.un_reader.specs.Read.{IsRead}
 use Rattle.un_reread.specs.Printed.{printed_lines}
 use Rattle.un_reread.proofs.Bytes.{IsClean, clean_plain, lines_read}
@@ -29,18 +29,9 @@ use Rattle.un_reread.proofs.Rebuilt.{blocks_again}
 use Rattle.un_reread.proofs.Sizes.{text_within}
 use Rattle.un_reread.proofs.TextFaultsOf.{no_shape_fault}
 
--- functions of the same four parts are the same
-same_function : (f g : Function) → f.name ≡ g.name → f.params ≡ g.params → f.names ≡ g.names → f.blocks ≡ g.blocks → f ≡ g
-same_function f g name params names blocks =
-    let build : List ℕ → List NameId → Names → List Block → Function = λ n p ns bs. record { name = n; params = p; names = ns; blocks = bs } in
-    ap (λ (n : List ℕ). build n f.params f.names f.blocks) name
-    ∙ ap (λ (p : List NameId). build g.name p f.names f.blocks) params
-    ∙ ap (λ (ns : Names). build g.name g.params ns f.blocks) names
-    ∙ ap (λ (bs : List Block). build g.name g.params g.names bs) blocks
-
 -- the printed lines are the function
-pub function_back : (f : Function) → IsWellFormed f.name f.params f.names f.blocks → f ≡ function_of (printed_lines f.name f.params f.names f.blocks)
-function_back f w = same_function f (function_of lines) refl params (sym names) blocks
+pub function_back : (f : Function) → IsWellFormed f.name f.params f.names f.blocks → IsFunctionOf (printed_lines f.name f.params f.names f.blocks) f
+function_back f w = record { name = refl; params = params; names = sym names; blocks = blocks }
   where
     lines : List Line
     lines = printed_lines f.name f.params f.names f.blocks
@@ -48,10 +39,10 @@ function_back f w = same_function f (function_of lines) refl params (sym names) 
     names : names_of lines ≡ f.names
     names = names_back f.name f.params f.names f.blocks w
 
-    params : f.params ≡ map (name_id (names_of lines)) (params_of lines)
+    params : f.params ≡ param_ids lines
     params = sym (ap (λ (ns : Names). map (name_id ns) (params_of lines)) names ∙ params_again f.name f.params f.names f.blocks w)
 
-    blocks : f.blocks ≡ blocks_of (names_of lines) (labels_of lines) lines
+    blocks : f.blocks ≡ source_blocks lines
     blocks =
         sym (ap (λ (ns : Names). blocks_of ns (labels_of lines) lines) names
         ∙ ap (λ (ls : List (List ℕ)). blocks_of f.names ls lines) (labels_back f.name f.params f.names f.blocks)
@@ -62,7 +53,7 @@ read_again f w = record {
   within = text_within f w neat;
   lines = subst HasNoLineFault (sym split) (no_fault_at (function_lines f) lines read plain (no_line_faults f.name f.params f.names f.blocks w));
   whole = ap shape_fault shapes ∙ no_shape_fault f.name f.params f.names f.blocks w;
-  is = function_back f w ∙ ap function_of (sym shapes);
+  is = subst (λ (ls : List Line). IsFunctionOf ls f) (sym shapes) (function_back f w);
   entry = λ name live. none_live f.name f.params f.names f.blocks w name live.is_local live.live;
 }
   where

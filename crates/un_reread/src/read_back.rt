@@ -1,7 +1,6 @@
 //! A function by way of its text.
 
 ghost use Rattle.std.specs.Prelude.{◌≡◌, IfOk};
-ghost use Rattle.un_ir.specs.WellFormed.{IsWellFormed};
 
 use std::alloc::Global;
 use un_base::memory_error::NoMemory;
@@ -15,7 +14,6 @@ use un_reader::read::read_function;
 /// # Errors
 /// `NoMemory` where there is no memory for the text or for what is read of it.
 pub fn read_back(alloc: Global, f: &Function) -> Result<Function, NoMemory>
-    requires well_formed { IsWellFormed f.now.name f.now.params f.now.names f.now.blocks }
     ensures same { IfOk result (λ g. g ≡ f.now) }
 {
     let text = print_function(alloc, f)?;
