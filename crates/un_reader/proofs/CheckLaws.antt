@@ -30,7 +30,7 @@ slice_get_at [] y ys = refl
 slice_get_at (x ∷ xs) y ys = slice_get_at xs y ys
 
 -- the fault of the line that comes next
-next_fault : (front : List (List ℕ)) (bytes : List ℕ) (rest : List (List ℕ))
+pub next_fault : (front : List (List ℕ)) (bytes : List ℕ) (rest : List (List ℕ))
     → fault_at (front ++ bytes ∷ rest) (length front) ≡ line_fault (before_of (map line_of front)) bytes
 next_fault front bytes rest = rw (slice_get_at front bytes rest, take_at front (bytes ∷ rest) (length front) refl) refl
 

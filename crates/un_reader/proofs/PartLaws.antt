@@ -1,29 +1,23 @@
 -- What the parts of a function have, once its lines and the whole of them have no fault.
-use Rattle.std.proofs.Common.{◌≡◌, ℕ, ◌+◌, ◌<◌, ◌≤◌, List, [], ◌∷◌, None, map, length, unwrap_or, Contains, sym, ap, ◌∙◌, subst}
+use Rattle.std.proofs.Common.{◌≡◌, ℕ, ◌+◌, ◌≤◌, List, [], None, length, unwrap_or, sym, ap, ◌∙◌, subst}
 use Rattle.std.specs.List.{position_or_len}
 use Rattle.un_base.specs.declared.ids.NameId.{NameId}
 use Rattle.un_ir.specs.declared.function.Block.{Block as SourceBlock}
 use Rattle.un_ir.specs.declared.function.Function.{Function}
-use Rattle.un_ir.specs.Live.{IsLive}
 use Rattle.un_ir.specs.WellFormed.{IsWellFormed}
 use Rattle.un_ir.proofs.SameFunction.{same_function}
 use Rattle.un_reader.specs.declared.fault.Fault.TheVariants.{LiveAtEntry}
 use Rattle.un_reader.specs.declared.limits.TheConstants.{TEXT}
 use Rattle.un_reader.specs.declared.line.Line.{Line}
 use Rattle.un_reader.specs.Tokens.{Spelled}
-use Rattle.un_reader.specs.Before.{name_of, names_of, labels_of}
-use Rattle.un_reader.specs.LineFaults.{line_of}
+use Rattle.un_reader.specs.Before.{name_of, names_of}
 use Rattle.un_reader.specs.Lines.{HasNoLineFault, shapes_in}
 use Rattle.un_reader.specs.Pieces.{lines_in}
 use Rattle.un_reader.specs.TextFaults.{is_block, shape_fault}
-use Rattle.un_reader.specs.Functions.{IsFunctionOf, ArePartsOf, name_id, params_of, blocks_of, param_ids, source_blocks}
+use Rattle.un_reader.specs.Functions.{IsFunctionOf, ArePartsOf, param_ids, source_blocks}
 use Rattle.un_reader.specs.Entry.{IsLiveAtEntry, HasNoneLive}
 use Rattle.un_reader.specs.Read.{IsTextFault, at_entry}
-
-well_formed : (all : List (List ℕ)) → HasNoLineFault all → shape_fault (map line_of all) ≡ None
-    → ((name : NameId) → name.0 < length (names_of (map line_of all)) → (Contains (param_ids (map line_of all)) name → ⊥) → IsLive (source_blocks (map line_of all)) name 0 0 → ⊥)
-    → IsWellFormed (unwrap_or (name_of (map line_of all)) []) (param_ids (map line_of all)) (names_of (map line_of all)) (source_blocks (map line_of all))
-well_formed all good none live = ?
+use Rattle.un_reader.proofs.WellFormed.{well_formed}
 
 -- the parts that a text gives
 pub record Parts (text : List ℕ) (name : List ℕ) (params : List NameId) (names : List Spelled) (blocks : List SourceBlock) : Type 0 where

@@ -1,7 +1,7 @@
 -- What lines without a fault have: few names, a `func` line where there is a block line, and few blocks.
-use Rattle.std.proofs.Common.{◌≡◌, ℕ, zero, suc, ◌+◌, ◌<◌, ◌≤◌, ◌||◌, ◌++◌, Bool, true, false, nat_lt, nat_eq, List, [], ◌∷◌, Option, Some, None, is_none, map, length, take, slice_get, get_or, if◌then◌else◌, append-nil, refl, sym, ap, ◌∙◌, arith, subst, add-one}
-use Rattle.std.specs.List.{list_all, filter_map, cons_option}
-use Rattle.std.specs.Option.{option_or, option_to_list}
+use Rattle.std.proofs.Common.{◌≡◌, ℕ, zero, suc, ◌+◌, ◌≤◌, ◌||◌, ◌++◌, Bool, true, false, nat_lt, List, [], ◌∷◌, Option, Some, None, is_none, map, length, take, slice_get, get_or, if◌then◌else◌, append-nil, refl, sym, ap, ◌∙◌, arith, subst, add-one}
+use Rattle.std.specs.List.{list_all, cons_option}
+use Rattle.std.specs.Option.{option_or}
 use Rattle.std.proofs.lemmas.List.{take_more, map_push, take_all}
 use Rattle.std.proofs.lemmas.Option.{slice_get-get_or}
 use Rattle.std.proofs.lemmas.Bool.Decides.{nat_tests}
@@ -13,12 +13,12 @@ use Rattle.un_reader.specs.declared.line.Line.TheVariants.{Blank, Func, Block, O
 use Rattle.un_reader.specs.declared.before.Before.{Before}
 use Rattle.un_reader.specs.Tokens.{Spelled, tokens_of}
 use Rattle.un_reader.specs.Shapes.{shape_of}
-use Rattle.un_reader.specs.Before.{numbered, names_on, name_on, label_on, names_of, labels_of, name_of, before_of}
+use Rattle.un_reader.specs.Before.{numbered, names_on, label_on, names_of, labels_of, before_of}
 use Rattle.un_reader.specs.Noted.{noted}
 use Rattle.un_reader.specs.Named.{IsNamed}
-use Rattle.un_reader.specs.LineFaults.{is_plain_byte, is_misplaced, has_clash, is_over_limit, has_too_many, is_wide, has_bad_freq, repeats_label, is_before_block, is_after_end, faults_on, first_of, shaped_fault, line_fault, line_of, fault_at}
+use Rattle.un_reader.specs.LineFaults.{is_plain_byte, is_misplaced, has_clash, is_over_limit, has_too_many, is_wide, has_bad_freq, repeats_label, is_before_block, is_after_end, first_of, shaped_fault, line_fault, line_of}
 use Rattle.un_reader.specs.Lines.{HasNoLineFault, IsFirstLineFault, shapes_in}
-use Rattle.un_reader.specs.TextFaults.{no_block, shape_fault}
+use Rattle.un_reader.specs.TextFaults.{shape_fault}
 use Rattle.un_reader.specs.Functions.{block_on, blocks_of}
 use Rattle.un_reader.specs.declared.limits.TheConstants.{TEXT}
 use Rattle.un_reader.specs.declared.error.ReadError.{ReadError}

@@ -15,7 +15,7 @@ use Rattle.un_reader.specs.declared.line.OpLine.{OpLine}
 use Rattle.un_reader.specs.declared.line.TermLine.{TermLine}
 use Rattle.un_reader.specs.declared.line.TermLine.TheVariants.{Jump, Branch, Ret}
 use Rattle.un_reader.specs.declared.line.Line.{Line}
-use Rattle.un_reader.specs.declared.line.Line.TheVariants.{Blank, Func, Block, Operation, Terminator}
+use Rattle.un_reader.specs.declared.line.Line.TheVariants.{Func, Block, Operation}
 use Rattle.un_reader.specs.Tokens.{Spelled}
 use Rattle.un_reader.specs.Before.{same_name, names_of, labels_of, name_of}
 use Rattle.un_reader.specs.TextFaults.{term_of}

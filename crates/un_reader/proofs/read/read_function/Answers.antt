@@ -1,16 +1,14 @@
-use Rattle.std.proofs.Common.{rules, arith, ◌≡◌, ◌+◌, ◌<◌, ◌≤◌, true, List, ℕ, Some, None, length, sym, ap, ◌∙◌, subst}
+use Rattle.std.proofs.Common.{arith, ◌≡◌, ◌+◌, ◌<◌, ◌≤◌, List, length, sym, ap, ◌∙◌, subst}
 use Rattle.un_ir.specs.declared.function.Block.{Block}
 use Rattle.un_reader.specs.declared.before.Before.{Before}
 use Rattle.un_reader.specs.declared.fault.Fault.TheVariants.{TooMany, LiveAtEntry}
-use Rattle.un_reader.specs.declared.error.ReadError.TheVariants.{TextFault}
 use Rattle.un_reader.specs.declared.limits.TheConstants.{TEXT}
-use Rattle.un_reader.specs.Codes.{code_of}
 use Rattle.std.specs.List.{position_or_len}
 use Rattle.un_reader.specs.Lines.{shapes_in}
 use Rattle.un_reader.specs.TextFaults.{is_block}
 use Rattle.un_reader.specs.Named.{IsNamed}
 use Rattle.un_reader.specs.Tokens.{Spelled}
-use Rattle.un_reader.specs.Before.{before_of, labels_of, names_of}
+use Rattle.un_reader.specs.Before.{labels_of, names_of}
 use Rattle.un_reader.specs.Functions.{blocks_of}
 use Rattle.un_reader.specs.Read.{IsTextFault, too_long}
 use Rattle.un_reader.proofs.CheckLaws.{told}

@@ -1,0 +1,208 @@
+-- Names at their first appearance: their places, and the numbers that follow from these.
+use Rattle.std.proofs.Common.{◌≡◌, ◌≢◌, ℕ, zero, suc, ◌+◌, ◌<◌, ◌≤◌, ◌++◌, ◌||◌, ◌&&◌, Bool, true, false, nat_eq, List, [], ◌∷◌, Some, map, length, slice_get, if◌then◌else◌, refl, sym, ap, ◌∙◌, arith, subst, append-nil, append_assoc}
+use Rattle.std.proofs.Math.Numerals.{one-add}
+use Rattle.std.specs.List.{list_any, fold, position_or_len, range_with_len}
+use Rattle.std.specs.Str.{bytes_eq}
+use Rattle.std.proofs.lemmas.Bool.Decides.{Decides-eqb}
+use Rattle.std.proofs.lemmas.Slice.Eq.{bytes_eq-Decides}
+use Rattle.un_ir.specs.declared.function.Kind.{Kind}
+use Rattle.un_ir.specs.declared.function.Kind.TheVariants.{General, Pred}
+use Rattle.un_ir.specs.Names.{see, first_appearances}
+use Rattle.un_reader.specs.Tokens.{Spelled}
+use Rattle.un_reader.specs.Before.{same_kind, same_name, add_name, numbered}
+use Rattle.un_reader.specs.Functions.{name_id}
+use Rattle.un_reader.proofs.Each.{Each, Each-weaken, Each-append, EachPair, EachPair-push, Each-none}
+
+-- ---- the test for a name
+
+kind_equal : (a b : Kind) → same_kind a b ≡ true → a ≡ b
+kind_equal General General h = refl
+kind_equal General Pred h = absurd (cc h)
+kind_equal Pred General h = absurd (cc h)
+kind_equal Pred Pred h = refl
+
+kind_itself : (a : Kind) → same_kind a a ≡ true
+kind_itself General = refl
+kind_itself Pred = refl
+
+and_both : (a b : Bool) → (a && b) ≡ true → (a ≡ true) × (b ≡ true)
+and_both true b h = (refl, h)
+and_both false b h = absurd (cc h)
+
+pub name_equal : (a b : Spelled) → same_name a b ≡ true → a ≡ b
+name_equal (x, k) (y, l) h =
+    let both = and_both (bytes_eq x y) (same_kind k l) h in
+    let names : x ≡ y = (bytes_eq-Decides x y).0 both.0 in
+    let kinds : k ≡ l = kind_equal k l both.1 in
+    ap (λ (z : List ℕ). (let r : Spelled = (z, k) in r)) names ∙ ap (λ (m : Kind). (let r : Spelled = (y, m) in r)) kinds
+
+pub name_itself : (a : Spelled) → same_name a a ≡ true
+name_itself (x, k) = rw ((bytes_eq-Decides x x).1 refl, kind_itself k) refl
+
+-- ---- places
+
+-- the place of a name that stands in a list
+pub record IsPlaced {X : Type 0} (p : X → Bool) (x : X) (xs : List X) : Type 0 where
+  pub below : position_or_len p xs < length xs
+  pub got : slice_get xs (position_or_len p xs) ≡ Some x
+
+pub placed : {X : Type 0} (p : X → Bool) (x : X) → ((y : X) → p y ≡ true → x ≡ y) → (xs : List X) → list_any p xs ≡ true → IsPlaced p x xs
+placed p x only [] h = absurd (cc h)
+placed p x only (y ∷ ys) h = by (λ t. placed p x only ys t) (p y) refl h
+  where
+    by : (list_any p ys ≡ true → IsPlaced p x ys) → (v : Bool) → p y ≡ v → (v || list_any p ys) ≡ true → IsPlaced p x (y ∷ ys)
+    by later true e hyp = record { below = rw e (omega arith); got = rw e (ap Some (sym (only y e))) }
+    by later false e hyp = let r = later hyp in record { below = rw e (omega (arith, r.below)); got = rw (e, one-add) r.got }
+
+-- further names change no place
+pub place_kept : {X : Type 0} (p : X → Bool) (xs ys : List X) → list_any p xs ≡ true → position_or_len p (xs ++ ys) ≡ position_or_len p xs
+place_kept p [] ys h = absurd (cc h)
+place_kept p (x ∷ xs) ys h = by (λ t. place_kept p xs ys t) (p x) refl h
+  where
+    by : (list_any p xs ≡ true → position_or_len p (xs ++ ys) ≡ position_or_len p xs) → (v : Bool) → p x ≡ v → (v || list_any p xs) ≡ true → position_or_len p ((x ∷ xs) ++ ys) ≡ position_or_len p (x ∷ xs)
+    by later true e hyp = rw e refl
+    by later false e hyp = let r = later hyp in rw e (omega (arith, r))
+
+-- a new name has the next place
+pub place_new : {X : Type 0} (p : X → Bool) (xs : List X) (y : X) (ys : List X) → list_any p xs ≡ false → p y ≡ true → position_or_len p (xs ++ (y ∷ ys)) ≡ length xs
+place_new p [] y ys h is = rw is refl
+place_new p (x ∷ xs) y ys h is = by (λ t. place_new p xs y ys t is) (p x) refl h
+  where
+    by : (list_any p xs ≡ false → position_or_len p (xs ++ (y ∷ ys)) ≡ length xs) → (v : Bool) → p x ≡ v → (v || list_any p xs) ≡ false → position_or_len p ((x ∷ xs) ++ (y ∷ ys)) ≡ length (x ∷ xs)
+    by later true e hyp = absurd (cc hyp)
+    by later false e hyp = let r = later hyp in rw e (omega (arith, r))
+
+any_append : {X : Type 0} (p : X → Bool) (xs ys : List X) → list_any p xs ≡ true → list_any p (xs ++ ys) ≡ true
+any_append p [] ys h = absurd (cc h)
+any_append p (x ∷ xs) ys h = by (λ t. any_append p xs ys t) (p x) h
+  where
+    by : (list_any p xs ≡ true → list_any p (xs ++ ys) ≡ true) → (v : Bool) → (v || list_any p xs) ≡ true → (v || list_any p (xs ++ ys)) ≡ true
+    by later true hyp = refl
+    by later false hyp = later hyp
+
+any_last : {X : Type 0} (p : X → Bool) (xs : List X) (y : X) → p y ≡ true → list_any p (xs ++ y ∷ []) ≡ true
+any_last p [] y h = rw h refl
+any_last p (x ∷ xs) y h = by (p x) (any_last p xs y h)
+  where
+    by : (v : Bool) → list_any p (xs ++ y ∷ []) ≡ true → (v || list_any p (xs ++ y ∷ [])) ≡ true
+    by true later = refl
+    by false later = later
+
+-- ---- numbered names
+
+-- the names so far stand in front
+pub record Front (seen xs : List Spelled) : Type 0 where
+  pub more : List Spelled
+  pub is : numbered seen xs ≡ seen ++ more
+
+pub numbered_front : (seen xs : List Spelled) → Front seen xs
+numbered_front seen [] = record { more = []; is = sym (append-nil seen) }
+numbered_front seen (x ∷ xs) = by (numbered_front seen xs) (numbered_front (seen ++ x ∷ []) xs) (list_any (same_name x) seen) refl
+  where
+    by : Front seen xs → Front (seen ++ x ∷ []) xs → (v : Bool) → list_any (same_name x) seen ≡ v → Front seen (x ∷ xs)
+    by old new true e = record { more = old.more; is = rw e old.is }
+    by old new false e = record { more = x ∷ new.more; is = rw e (new.is ∙ append_assoc seen (x ∷ []) new.more) }
+
+-- each name that was numbered is in the list
+pub in_numbered : (seen xs : List Spelled) → Each (λ (x : Spelled). list_any (same_name x) (numbered seen xs) ≡ true) xs
+in_numbered seen [] = tt
+in_numbered seen (x ∷ xs) = (here, in_numbered (add_name seen x) xs)
+  where
+    there : list_any (same_name x) (add_name seen x) ≡ true
+    there = by (list_any (same_name x) seen) refl
+      where
+        by : (v : Bool) → list_any (same_name x) seen ≡ v → list_any (same_name x) (if v then seen else seen ++ x ∷ []) ≡ true
+        by true e = e
+        by false e = any_last (same_name x) seen x (name_itself x)
+
+    here : list_any (same_name x) (numbered (add_name seen x) xs) ≡ true
+    here = let r = numbered_front (add_name seen x) xs in rw r.is (any_append (same_name x) (add_name seen x) r.more there)
+
+-- a name that was numbered has its place
+pub name_placed : (names : List Spelled) (x : Spelled) → list_any (same_name x) names ≡ true → IsPlaced (same_name x) x names
+name_placed names x h = placed (same_name x) x (λ y e. name_equal x y e) names h
+
+-- what holds of names holds of them when they are numbered
+pub Each-numbered : (P : Spelled → Type 0) (seen xs : List Spelled) → Each P seen → Each P xs → Each P (numbered seen xs)
+Each-numbered P seen [] s e = s
+Each-numbered P seen (x ∷ xs) s (here, later) = Each-numbered P (add_name seen x) xs (by (list_any (same_name x) seen)) later
+  where
+    by : (v : Bool) → Each P (if v then seen else seen ++ x ∷ [])
+    by true = s
+    by false = Each-append P seen (x ∷ []) s (here, tt)
+
+abbrev pub AreApart : List Spelled → Type 0
+AreApart names = EachPair (λ (a b : Spelled). a ≢ b) names
+
+-- no name has two places
+pub numbered_apart : (seen xs : List Spelled) → AreApart seen → AreApart (numbered seen xs)
+numbered_apart seen [] s = s
+numbered_apart seen (x ∷ xs) s = numbered_apart (add_name seen x) xs (by (list_any (same_name x) seen) refl)
+  where
+    other : (y : Spelled) → same_name x y ≡ false → y ≢ x
+    other y un is = let has : same_name x y ≡ true = subst (λ (z : Spelled). same_name x z ≡ true) (sym is) (name_itself x) in cc (sym un ∙ has)
+
+    by : (v : Bool) → list_any (same_name x) seen ≡ v → AreApart (if v then seen else seen ++ x ∷ [])
+    by true e = s
+    by false e = EachPair-push (λ (a b : Spelled). a ≢ b) seen x s
+        (Each-weaken (λ (y : Spelled). same_name x y ≡ false) (λ (y : Spelled). y ≢ x) other seen (Each-none (same_name x) seen e))
+
+-- ---- numbers
+
+range_has : (a n k : ℕ) → a ≤ k → k < a + n → list_any (nat_eq k) (range_with_len a n) ≡ true
+range_has a zero k low high = absurd (omega arith)
+range_has a (suc n) k low high = by (λ (t : a + 1 ≤ k). range_has (a + 1) n k t (omega arith)) (nat_eq k a) refl
+  where
+    by : (a + 1 ≤ k → list_any (nat_eq k) (range_with_len (a + 1) n) ≡ true) → (v : Bool) → nat_eq k a ≡ v → (v || list_any (nat_eq k) (range_with_len (a + 1) n)) ≡ true
+    by later true e = refl
+    by later false e = let apart : k ≢ a = λ is. cc (sym e ∙ same k a is) in later (omega arith)
+      where
+        same : (i j : ℕ) → i ≡ j → nat_eq i j ≡ true
+        same i j is = (Decides-eqb i j).1 is
+
+range_lacks : (a n k : ℕ) → a + n ≤ k → list_any (nat_eq k) (range_with_len a n) ≡ false
+range_lacks a zero k high = refl
+range_lacks a (suc n) k high = let differs : nat_eq k a ≡ false = by (nat_eq k a) refl in rw differs (range_lacks (a + 1) n k (omega arith))
+  where
+    by : (v : Bool) → nat_eq k a ≡ v → v ≡ false
+    by true e = let is : k ≡ a = (Decides-eqb k a).0 e in absurd (omega arith)
+    by false e = refl
+
+range_push : (a n k : ℕ) → a + n ≡ k → range_with_len a n ++ k ∷ [] ≡ range_with_len a (suc n)
+range_push a zero k e = let s : k ≡ a = omega arith in ap (λ (j : ℕ). j ∷ []) s
+range_push a (suc n) k e = ap (λ (ks : List ℕ). a ∷ ks) (range_push (a + 1) n k (omega arith))
+
+length_more : {X : Type 0} (xs : List X) (y : X) → length (xs ++ y ∷ []) ≡ suc (length xs)
+length_more [] y = refl
+length_more (x ∷ xs) y = ap suc (length_more xs y)
+
+-- the numbers of names, where those that were seen have the first
+numbers_from : (seen xs names : List Spelled) → names ≡ numbered seen xs
+    → fold see (range_with_len 0 (length seen)) (map (name_id names) xs) ≡ range_with_len 0 (length names)
+numbers_from seen [] names is = ap (λ (ns : List Spelled). range_with_len 0 (length ns)) (sym is)
+numbers_from seen (x ∷ xs) names is = by (numbers_from seen xs names) (numbers_from (seen ++ x ∷ []) xs names) (list_any (same_name x) seen) refl
+  where
+    by : (names ≡ numbered seen xs → fold see (range_with_len 0 (length seen)) (map (name_id names) xs) ≡ range_with_len 0 (length names))
+        → (names ≡ numbered (seen ++ x ∷ []) xs → fold see (range_with_len 0 (length (seen ++ x ∷ []))) (map (name_id names) xs) ≡ range_with_len 0 (length names))
+        → (v : Bool) → list_any (same_name x) seen ≡ v
+        → fold see (see (range_with_len 0 (length seen)) (name_id names x)) (map (name_id names) xs) ≡ range_with_len 0 (length names)
+    by old new true e =
+        let whole : names ≡ numbered seen xs = is ∙ ap (λ (v : Bool). numbered (if v then seen else seen ++ x ∷ []) xs) e in
+        let front = numbered_front seen xs in
+        let place : (name_id names x).0 ≡ position_or_len (same_name x) seen = ap (position_or_len (same_name x)) (whole ∙ front.is) ∙ place_kept (same_name x) seen front.more e in
+        let below : position_or_len (same_name x) seen < length seen = (name_placed seen x e).below in
+        let has : list_any (nat_eq (name_id names x).0) (range_with_len 0 (length seen)) ≡ true = range_has 0 (length seen) (name_id names x).0 (omega arith) (omega (arith, place, below)) in
+        rw has (old whole)
+    by old new false e =
+        let whole : names ≡ numbered (seen ++ x ∷ []) xs = is ∙ ap (λ (v : Bool). numbered (if v then seen else seen ++ x ∷ []) xs) e in
+        let front = numbered_front (seen ++ x ∷ []) xs in
+        let cut : names ≡ seen ++ (x ∷ front.more) = whole ∙ front.is ∙ append_assoc seen (x ∷ []) front.more in
+        let place : (name_id names x).0 ≡ length seen = ap (position_or_len (same_name x)) cut ∙ place_new (same_name x) seen x front.more e (name_itself x) in
+        let lacks : list_any (nat_eq (name_id names x).0) (range_with_len 0 (length seen)) ≡ false = range_lacks 0 (length seen) (name_id names x).0 (omega (arith, place)) in
+        let more : range_with_len 0 (length seen) ++ (name_id names x).0 ∷ [] ≡ range_with_len 0 (length (seen ++ x ∷ [])) =
+        range_push 0 (length seen) (name_id names x).0 (omega (arith, place)) ∙ ap (range_with_len 0) (sym (length_more seen x)) in
+        rw (lacks, more) (new whole)
+
+-- names have the numbers of their first appearance
+pub numbers_first : (xs : List Spelled) → first_appearances (map (name_id (numbered [] xs)) xs) ≡ range_with_len 0 (length (numbered [] xs))
+numbers_first xs = numbers_from [] xs (numbered [] xs) refl
