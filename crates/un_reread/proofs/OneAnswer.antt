@@ -1,5 +1,5 @@
 -- A text that is a function has no fault, and is one function.
-use Rattle.std.proofs.Common.{ℕ, ◌≡◌, List, map, take, slice_get, refl, sym, ◌∙◌, subst, arith}
+use Rattle.std.proofs.Common.{ℕ, ◌≡◌, List, map, take, slice_get, refl, arith}
 use Rattle.std.proofs.lemmas.Option.{option_and_then_some, slice_get_within}
 use Rattle.un_ir.specs.declared.function.Function.{Function}
 use Rattle.un_reader.specs.Before.{before_of}

@@ -3,8 +3,6 @@ use Rattle.std.proofs.Common.{◌≡◌, ℕ, List, map, refl, sym, ap, ◌∙�
 use Rattle.std.specs.List.{All}
 use Rattle.std.proofs.lemmas.List.Elements.{All-weaker}
 use Rattle.un_ir.specs.declared.function.Function.{Function}
-use Rattle.un_base.specs.declared.ids.NameId.{NameId}
-use Rattle.un_ir.specs.declared.function.Block.{Block}
 use Rattle.un_ir.specs.Text.{Names, function_lines, function_text}
 use Rattle.un_ir.specs.WellFormed.{IsWellFormed}
 use Rattle.un_reader.specs.declared.line.Line.{Line}
@@ -48,6 +46,7 @@ function_back f w = record { name = refl; params = params; names = sym names; bl
         ∙ ap (λ (ls : List (List ℕ)). blocks_of f.names ls lines) (labels_back f.name f.params f.names f.blocks)
         ∙ blocks_again f.name f.params f.names f.blocks w)
 
+-- the text of a function is read as the function
 pub read_again : (f : Function) → IsWellFormed f.name f.params f.names f.blocks → IsRead (function_text f) f
 read_again f w = record {
   within = text_within f w neat;
@@ -77,3 +76,7 @@ read_again f w = record {
 
     shapes : shapes_in (function_text f) ≡ lines
     shapes = ap (map line_of) split ∙ lines_are (function_lines f) lines read
+
+-- the same, of a text that is the function's
+pub text_read : (text : List ℕ) (f : Function) → text ≡ function_text f → IsWellFormed f.name f.params f.names f.blocks → IsRead text f
+text_read text f e w = subst (λ (t : List ℕ). IsRead t f) (sym e) (read_again f w)

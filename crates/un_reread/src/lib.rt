@@ -2,3 +2,5 @@
 #![tactic(auto)]
 
 pub mod read_back;
+#[cfg(test)]
+mod tests;
