@@ -6,14 +6,7 @@ top=$(cd "$(dirname "$0")/.." && pwd)
 binary=$top/crates/unison/out/unison
 [ -x "$binary" ] || { echo "build the program first: ./unison alloc examples/sum.uni" >&2; exit 1; }
 
-# A function of one block with so many operations.
-block() {
-  printf 'func f\nblock e freq 1\n  %%a = imm #1\n'
-  for ((i = 1; i < $1; i++)); do
-    printf '  %%%s = add %%a, %%a\n' "$(printf '%b' "\\$(printf '%03o' $((98 + i % 11)))")"
-  done
-  printf '  ret %%a\n'
-}
+. "$top/bench/block.sh"
 
 # The mean of 200 runs, in microseconds, and the peak memory of one, in KiB.
 measure() {
