@@ -57,6 +57,7 @@ function_back f w = same_function f (function_of lines) refl params (sym names) 
         ∙ ap (λ (ls : List (List ℕ)). blocks_of f.names ls lines) (labels_back f.name f.params f.names f.blocks)
         ∙ blocks_again f.name f.params f.names f.blocks w)
 
+-- the text of a function is read as the function
 pub read_again : (f : Function) → IsWellFormed f.name f.params f.names f.blocks → IsRead (function_text f) f
 read_again f w = record {
   within = text_within f w neat;
