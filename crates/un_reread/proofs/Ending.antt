@@ -16,6 +16,7 @@ use Rattle.un_reader.specs.declared.line.Line.{Line}
 use Rattle.un_reader.specs.declared.line.Line.TheVariants.{Func, Block}
 use Rattle.un_reader.specs.TextFaults.{is_block, term_of, later_block, last_block, ends_well, falls_off}
 use Rattle.un_reread.specs.Printed.{spelled_at, term_as_lines, block_as_lines, printed_lines}
+use Rattle.un_reread.proofs.Rebuilt.{term_behind}
 use Rattle.un_reread.proofs.Labels.{op_lines, body_lines, lines_of}
 
 -- ---- the place of the last block line
@@ -87,10 +88,6 @@ inside_term blocks names (JumpTo to) = All-cons IsInside _ [] refl (All-nil IsIn
 inside_term blocks names (BranchTo pred sense to) = All-cons IsInside _ [] refl (All-nil IsInside)
 inside_term blocks names (Return value) = All-cons IsInside _ [] refl (All-nil IsInside)
 
-behind_ops : (names : Names) (ops : List SrcOp) (rest : List Line) → term_of (op_lines names ops ++ rest) ≡ term_of rest
-behind_ops names [] rest = refl
-behind_ops names (o ∷ ops) rest = behind_ops names ops rest
-
 ends : (blocks : List SourceBlock) (names : Names) (b : ℕ) (term : Term) → length blocks ≡ b + 1 → LeadsInside blocks b term → ends_well (term_of (term_as_lines blocks names term)) ≡ true
 ends blocks names b Fall count h = let t = All-head (λ (c : ℕ). (0 < c) × (c < length blocks)) (b + 1) [] h in absurd (omega arith)
 ends blocks names b (JumpTo to) count h = refl
@@ -117,7 +114,7 @@ none_falls name params names blocks w = by (last_of blocks w.entry)
         ∙ ap (λ (ls : List Line). first ∷ ls) (flat_map-append (block_as_lines blocks names) l.front (l.block ∷ []))
         ∙ ap (λ (ls : List Line). front ++ line ∷ ls) (append-nil body) in
         let term : ends_well (term_of body) ≡ true =
-        ap ends_well (behind_ops names l.block.ops (term_as_lines blocks names l.block.term))
+        ap ends_well (term_behind names l.block.ops (term_as_lines blocks names l.block.term))
         ∙ ends blocks names (length l.front) l.block.term count (w.leads (length l.front) l.block got) in
         ap falls_off whole
         ∙ stays_none front line body refl

@@ -52,7 +52,8 @@ ops_back names distinct (o ∷ ops) all literals rest none =
 
 -- ---- terminators
 
-term_behind : (names : Names) (ops : List SrcOp) (rest : List Line) → term_of (op_lines names ops ++ rest) ≡ term_of rest
+-- the lines of operations are no terminator
+pub term_behind : (names : Names) (ops : List SrcOp) (rest : List Line) → term_of (op_lines names ops ++ rest) ≡ term_of rest
 term_behind names [] rest = refl
 term_behind names (o ∷ ops) rest = term_behind names ops rest
 
