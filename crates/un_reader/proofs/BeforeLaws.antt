@@ -1,12 +1,11 @@
 -- What stands before a line, one line further on.
-use Rattle.std.proofs.Common.{◌≡◌, ℕ, ◌+◌, ◌||◌, ◌++◌, Bool, true, false, cond, List, [], ◌∷◌, if◌then◌else◌, Option, Some, None, refl, sym, ap, ◌∙◌, zero-add, add-zero, append-nil, arith, ◌≤◌, length}
-use Rattle.std.specs.List.{list_any, filter_map, flat_map, count_by, sum_by, fold}
+use Rattle.std.proofs.Common.{◌≡◌, ◌+◌, ◌++◌, false, cond, List, [], ◌∷◌, if◌then◌else◌, Option, Some, None, refl, ap, ◌∙◌, zero-add, append-nil, ◌≤◌, length}
+use Rattle.std.specs.List.{filter_map, flat_map, count_by, fold}
 use Rattle.std.specs.Option.{option_to_list, option_or}
 use Rattle.std.proofs.lemmas.List.Elements.{filter_map-append}
 use Rattle.std.proofs.lemmas.Grind.{flat_map-append, fold-append}
 use Rattle.std.proofs.lemmas.List.Sums.{sum_by-append, count_by-le-length}
 use Rattle.un_reader.specs.declared.line.Line.{Line}
-use Rattle.un_reader.specs.declared.before.Before.{Before}
 use Rattle.un_reader.specs.Tokens.{Spelled}
 use Rattle.un_reader.specs.Before.{add_name, names_on, label_on, name_on, name_of, is_operation, ended_after, labels_of, names_of, before_of}
 use Rattle.un_reader.specs.Noted.{noted}

@@ -1,5 +1,5 @@
 -- The lines that were read, one more, and all.
-use Rattle.std.proofs.Common.{◌≡◌, ℕ, zero, suc, ◌+◌, ◌<◌, ◌≤◌, ◌++◌, List, [], ◌∷◌, Option, Some, None, map, length, take, drop, slice_get, refl, sym, ap, ◌∙◌, append_assoc, append-nil, below_more, arith, subst, Bool, true, false}
+use Rattle.std.proofs.Common.{◌≡◌, ℕ, ◌+◌, ◌<◌, ◌++◌, List, [], ◌∷◌, Some, None, map, length, slice_get, refl, sym, ap, ◌∙◌, append_assoc, append-nil, below_more, arith, subst, true, false}
 use Rattle.std.proofs.lemmas.List.{map_push, take_at, length_push, length-map}
 use Rattle.std.specs.List.{list_all}
 use Rattle.un_base.specs.Lines.{pieces_of}

@@ -1,5 +1,5 @@
 -- Numbers that are kept as the largest of 32 bits where they are too large.
-use Rattle.std.proofs.Common.{◌≡◌, ℕ, ◌+◌, ◌-◌, ◌*◌, ◌^◌, ◌<◌, ◌≤◌, min, List, [], ◌∷◌, refl, sym, ap, ◌∙◌, arith}
+use Rattle.std.proofs.Common.{◌≡◌, ℕ, ◌+◌, ◌-◌, ◌*◌, min, List, [], ◌∷◌, sym, ap, ◌∙◌, arith}
 use Rattle.un_base.specs.Decimals.{value_after}
 
 step : (n k c : ℕ) → min (10 * min n c + k) c ≡ min (10 * n + k) c

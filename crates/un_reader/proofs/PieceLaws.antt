@@ -1,5 +1,5 @@
 -- The first line of a text.
-use Rattle.std.proofs.Common.{◌≡◌, ℕ, Bool, true, false, not, cond, zero, suc, ◌==◌, ◌+◌, ◌<◌, ◌≤◌, min, List, [], ◌∷◌, if◌then◌else◌, refl, sym, ap, ◌∙◌, length, take, drop, arith, subst, get_or, drop-cons}
+use Rattle.std.proofs.Common.{◌≡◌, ℕ, Bool, true, false, not, cond, suc, ◌==◌, ◌+◌, ◌<◌, min, List, [], ◌∷◌, if◌then◌else◌, refl, sym, length, take, drop, arith, subst, get_or, drop-cons}
 use Rattle.std.specs.List.{onto_first, position_or_len}
 use Rattle.un_base.specs.Lines.{is_line_feed, pieces_of}
 

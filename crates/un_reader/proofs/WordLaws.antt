@@ -1,7 +1,7 @@
 -- The first word of a line.
-use Rattle.std.proofs.Common.{◌≡◌, ℕ, Bool, true, false, not, cond, zero, suc, ◌==◌, ◌||◌, ◌+◌, ◌<◌, ◌≤◌, min, List, [], ◌∷◌, if◌then◌else◌, refl, sym, ap, ◌∙◌, length, take, drop, get_or, arith, subst}
+use Rattle.std.proofs.Common.{◌≡◌, ℕ, Bool, true, false, not, zero, suc, ◌||◌, ◌<◌, List, [], ◌∷◌, refl, sym, ap, ◌∙◌, length, take, drop, get_or, arith, subst}
 use Rattle.std.specs.List.{onto_first, prefix_len}
-use Rattle.un_reader.specs.Words.{is_blank, is_mark, is_inner, goes_on, words_of}
+use Rattle.un_reader.specs.Words.{is_blank, is_mark, is_inner, words_of}
 
 -- a blank begins no word
 pub blank_word : (b : ℕ) (bs : List ℕ) → is_blank b ≡ true → words_of (b ∷ bs) ≡ words_of bs

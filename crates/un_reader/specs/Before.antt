@@ -1,6 +1,6 @@
 -- What stands before a line: the name on the `func` line, where there is one, the labels, the names in the order of their first
 -- appearance, how many operations there are, and whether the last block has ended.
-use Rattle.std.specs.Prelude.{ℕ, ◌+◌, ◌&&◌, ◌||◌, Bool, true, false, not, List, [], ◌∷◌, ◌++◌, Option, Some, None, if◌then◌else◌}
+use Rattle.std.specs.Prelude.{ℕ, ◌&&◌, Bool, true, false, List, [], ◌∷◌, ◌++◌, Option, Some, None, if◌then◌else◌}
 use Rattle.std.specs.List.{list_any, filter_map, flat_map, count_by, fold}
 use Rattle.std.specs.Option.{option_to_list, option_or}
 use Rattle.std.specs.Str.{bytes_eq}

@@ -1,5 +1,5 @@
 -- What stands before a line, one line further on.
-use Rattle.std.specs.Prelude.{◌+◌, ◌||◌, ◌++◌, ◌≡◌, List, [], ◌∷◌, if◌then◌else◌}
+use Rattle.std.specs.Prelude.{◌+◌, ◌++◌, if◌then◌else◌}
 use Rattle.std.specs.Option.{option_to_list, option_or}
 use Rattle.un_reader.specs.declared.line.Line.{Line}
 use Rattle.un_reader.specs.declared.before.Before.{Before}

@@ -1,20 +1,19 @@
 -- The shapes of a line: which words make a line of which kind.
-use Rattle.std.specs.Prelude.{ℕ, ◌==◌, ◌&&◌, ◌||◌, Bool, true, false, nat_eq, not, List, [], ◌∷◌, length, drop, Option, Some, None, is_some, is_none, codes, slice_get, map, if◌then◌else◌}
-use Rattle.std.specs.List.{list_all, list_any, filter_map, find, zip}
+use Rattle.std.specs.Prelude.{ℕ, ◌==◌, ◌&&◌, ◌||◌, Bool, true, false, not, List, [], ◌∷◌, length, drop, Option, Some, None, is_some, is_none, codes, slice_get, if◌then◌else◌}
+use Rattle.std.specs.List.{list_all, filter_map, find, zip}
 use Rattle.std.specs.Option.{option_map, option_map_or, option_and_then}
 use Rattle.std.specs.Str.{bytes_eq}
 use Rattle.un_isa.specs.declared.op.Op.{Op}
-use Rattle.un_isa.specs.declared.op.Op.TheVariants.{Imm, Mov, Add, Sub, And, Or, Xor, Addi, Andi, Ori, Mux, CmpEq, CmpGt, CmpGtu, CmpEqi, CmpGti, Mpyi, Asl, Asr, Lsr, Load, Store, Call, Jump as JumpOp, JumpIf, JumpIfNot, Jumpr, Spill, Reload, P2R, R2P, Enter, Leave, Nop}
+use Rattle.un_isa.specs.declared.op.Op.TheVariants.{Imm, Mov, Add, Sub, And, Or, Xor, Addi, Andi, Ori, Mux, CmpEq, CmpGt, CmpGtu, CmpEqi, CmpGti, Mpyi, Asl, Asr, Lsr, Load, Store, Call}
 use Rattle.un_ir.specs.Text.{mnemonic}
 use Rattle.un_reader.specs.declared.token.Number.{Number}
 use Rattle.un_reader.specs.declared.token.Token.{Token}
-use Rattle.un_reader.specs.declared.token.Token.TheVariants.{Comma, Equals, Named, Negated, Literal, Plain, Word, Other}
+use Rattle.un_reader.specs.declared.token.Token.TheVariants.{Comma, Equals, Named, Negated, Literal, Plain, Word}
 use Rattle.un_reader.specs.declared.slot.Slot.{Slot}
 use Rattle.un_reader.specs.declared.slot.Slot.TheVariants.{Comma as CommaSlot, Equals as EqualsSlot, Named as NamedSlot, Literal as LiteralSlot, Plain as PlainSlot, Word as WordSlot}
 use Rattle.un_reader.specs.declared.slot.Head.{Head}
 use Rattle.un_reader.specs.declared.slot.Head.TheVariants.{Nothing, Func as FuncHead, Block as BlockHead, Jump as JumpHead, If as IfHead, Ret as RetHead, Assigned, Bare, Unknown}
 use Rattle.un_reader.specs.declared.line.OpLine.{OpLine}
-use Rattle.un_reader.specs.declared.line.TermLine.{TermLine}
 use Rattle.un_reader.specs.declared.line.TermLine.TheVariants.{Jump, Branch, Ret}
 use Rattle.un_reader.specs.declared.line.Line.{Line}
 use Rattle.un_reader.specs.declared.line.Line.TheVariants.{Blank, Func, Block, Operation, Terminator}

@@ -1,5 +1,5 @@
 -- The words of a line. Blanks separate words, and a comma and an equals sign each stand alone.
-use Rattle.std.specs.Prelude.{ℕ, Bool, true, false, not, ◌||◌, ◌==◌, List, [], ◌∷◌, if◌then◌else◌}
+use Rattle.std.specs.Prelude.{ℕ, Bool, false, not, ◌||◌, ◌==◌, List, [], ◌∷◌, if◌then◌else◌}
 use Rattle.std.specs.List.{onto_first}
 
 -- a tab or a space

@@ -60,11 +60,7 @@ fn literal_value(n: Number) -> i32
 }
 
 /// The numbers of names.
-fn operand_ids(
-    alloc: Global,
-    names: &Names,
-    list: &[(Name, Kind)],
-) -> Result<Few<NameId>, NoMemory>
+fn operand_ids(alloc: Global, names: &Names, list: &[(Name, Kind)]) -> Result<Few<NameId>, NoMemory>
     requires { length names.now < 2 ^ 32 }
     ensures { IfOk result (λ ids. ids ≡ map (name_id names.now) list.now) }
 {
@@ -76,11 +72,7 @@ fn operand_ids(
 }
 
 /// The numbers of parameters.
-fn param_ids(
-    alloc: Global,
-    names: &Names,
-    list: &[(Name, Kind)],
-) -> Result<Items<NameId>, NoMemory>
+fn param_ids(alloc: Global, names: &Names, list: &[(Name, Kind)]) -> Result<Items<NameId>, NoMemory>
     requires { length names.now < 2 ^ 32 }
     ensures { IfOk result (λ ids. ids ≡ map (name_id names.now) list.now) }
 {
@@ -118,11 +110,7 @@ fn source_op(alloc: Global, names: &Names, o: &OpLine) -> Result<SrcOp, NoMemory
 }
 
 /// The operations of a block, by the lines behind its block line.
-fn source_ops(
-    alloc: Global,
-    names: &Names,
-    lines: &[Line],
-) -> Result<Items<SrcOp>, NoMemory>
+fn source_ops(alloc: Global, names: &Names, lines: &[Line]) -> Result<Items<SrcOp>, NoMemory>
     requires { length names.now < 2 ^ 32 }
     ensures { IfOk result (λ ops. ops ≡ ops_of names.now lines.now) }
 {
@@ -199,11 +187,7 @@ fn source_blocks(
 }
 
 /// The parameters on the `func` line.
-fn find_params(
-    alloc: Global,
-    names: &Names,
-    lines: &[Line],
-) -> Result<Items<NameId>, NoMemory>
+fn find_params(alloc: Global, names: &Names, lines: &[Line]) -> Result<Items<NameId>, NoMemory>
     requires { length names.now < 2 ^ 32 }
     ensures { IfOk result (λ ids. ids ≡ map (name_id names.now) (params_of lines.now)) }
 {

@@ -10,28 +10,10 @@ use Rattle.un_reader.specs.Pieces.{lines_in}
 use Rattle.un_reader.specs.Read.{IsRead, IsTextFault, too_long, on_line, in_whole, at_entry}
 use Rattle.un_reader.specs.declared.fault.Fault.{Fault}
 use Rattle.un_reader.specs.declared.fault.Fault.TheVariants.{TooMany}
-use Rattle.un_reader.proofs.PartLaws.{live_in_parts, one_function}
+use Rattle.un_reader.proofs.OneAnswer.{no_line_fault, language_or_fault}
+use Rattle.un_reader.proofs.PartLaws.{one_function}
 use Rattle.un_top.proofs.BuiltLaws.{not_built_line_unique}
 use Rattle.un_top.specs.Faults.{IsFault, in_language, not_built}
-
-nothing_there : {X : Type 0} (xs : List X) (k : ℕ) → length xs ≤ k → slice_get xs k ≡ None
-nothing_there [] k h = refl
-nothing_there (x ∷ xs) zero h = absurd (omega arith)
-nothing_there (x ∷ xs) (suc k) h = nothing_there xs k (omega arith)
-
--- a fault stands on a line that is there
-on_a_line : (lines : List (List ℕ)) (k : ℕ) (fault : Fault) → fault_at lines k ≡ Some fault → k < length lines
-on_a_line lines k fault here = by (cases_lt k (length lines))
-  where
-    by : (k < length lines) ⊎ (length lines ≤ k) → k < length lines
-    by (inl h) = h
-    by (inr h) = let none = nothing_there lines k h in absurd (let other : fault_at lines k ≡ None = rw none refl in cc)
-
--- no line has a fault, and one has
-no_line_fault : (lines : List (List ℕ)) (line : ℕ) (fault : Fault) → HasNoLineFault lines → IsFirstLineFault lines line fault → ⊥
-no_line_fault lines line fault none first =
-    let other = none first.place (on_a_line lines first.place fault first.here) in
-    let here = first.here in cc
 
 first_line_unique : (lines : List (List ℕ)) (l line : ℕ) (f fault : Fault) → IsFirstLineFault lines l f → IsFirstLineFault lines line fault → (l ≡ line) × (f ≡ fault)
 first_line_unique lines l line f fault a b = by (cases_lt a.place b.place)
@@ -49,14 +31,6 @@ first_line_unique lines l line f fault a b = by (cases_lt a.place b.place)
         by_other : (b.place < a.place) ⊎ (a.place ≤ b.place) → (l ≡ line) × (f ≡ fault)
         by_other (inl k) = absurd (let none = a.before b.place k in let here = b.here in cc)
         by_other (inr k) = same (omega arith)
-
--- a text of the language has no fault of it
-language_or_fault : (text : List ℕ) (f : Function) (line : ℕ) (fault : Fault) → IsRead text f → IsTextFault text line fault → ⊥
-language_or_fault text f _ _ h (too_long long) = let within = h.within in omega arith
-language_or_fault text f _ _ h (on_line line fault within first) = no_line_fault (lines_in text) line fault h.lines first
-language_or_fault text f _ _ h (in_whole line fault within none whole) = let other = h.whole in cc
-language_or_fault text f _ _ h (at_entry name within none whole live) =
-    h.entry name (live_in_parts (shapes_in text) f.name f.params f.names f.blocks name h.is live)
 
 same_pair : (l line : ℕ) (f fault : Fault) → ◌≡◌ {A = Option (ℕ × Fault)} (Some (l, f)) (Some (line, fault)) → (l ≡ line) × (f ≡ fault)
 same_pair l line f fault e =

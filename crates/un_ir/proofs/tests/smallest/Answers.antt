@@ -1,5 +1,5 @@
 -- The smallest function has no fault.
-use Rattle.std.proofs.Common.{rules, arith, ◌≡◌, ◌<◌, ℕ, zero, suc, List, [], ◌∷◌, Some, None, slice_get, slice_index_or, Contains, refl, ap, sym, subst}
+use Rattle.std.proofs.Common.{rules, arith, ◌≡◌, ◌<◌, ℕ, zero, suc, List, [], ◌∷◌, Some, None, slice_get, slice_index_or, Contains, refl, sym, subst}
 use Rattle.std.proofs.lemmas.List.Elements.{All-nil}
 use Rattle.std.proofs.lemmas.Grind.{merely}
 use Rattle.un_base.specs.declared.ids.NameId.{NameId}

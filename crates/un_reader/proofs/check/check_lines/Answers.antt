@@ -1,7 +1,6 @@
-use Rattle.std.proofs.Common.{rules, arith, ◌≡◌, ◌-◌, ◌≤◌, ◌+◌, length, take, drop, length-drop, ap, ◌∙◌, refl, List}
+use Rattle.std.proofs.Common.{arith, take, drop, length-drop, refl}
 use Rattle.std.proofs.lemmas.List.{take_rest, length_push}
 use Rattle.std.proofs.lemmas.Result.{err_from_is_err_and}
-use Rattle.un_reader.specs.declared.line.Line.{Line}
 use Rattle.un_reader.specs.LineFaults.{line_of}
 use Rattle.un_reader.specs.Pieces.{lines_in}
 use Rattle.un_reader.proofs.CheckLaws.{seen_step, fault_step}

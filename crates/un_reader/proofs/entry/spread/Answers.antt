@@ -1,6 +1,6 @@
-use Rattle.std.proofs.Common.{rules, arith, ◌≡◌, ◌∙◌, true, false, length-set}
+use Rattle.std.proofs.Common.{rules, ◌≡◌, ◌∙◌, true, false, length-set}
 use Rattle.un_reader.specs.Entry.{marked, AreClosed}
-use Rattle.un_reader.proofs.EntryLaws.{sound_step, fewer_unmarked, not_live}
+use Rattle.un_reader.proofs.EntryLaws.{sound_step, not_live}
 use Rattle.un_reader.proofs.entry.spread.Goals as goal
 
 pub loop-b-preserved : goal.loop-b-preserved

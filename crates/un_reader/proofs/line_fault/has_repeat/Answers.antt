@@ -1,4 +1,4 @@
-use Rattle.std.proofs.Common.{◌≡◌, ◌∙◌, sym}
+use Rattle.std.proofs.Common.{◌∙◌, sym}
 use Rattle.un_reader.proofs.RepeatLaws.{nothing_seen, go_on}
 use Rattle.un_reader.proofs.line_fault.has_repeat.Goals as goal
 

@@ -1,4 +1,4 @@
-use Rattle.std.proofs.Common.{arith, rules, sym, ap, ◌∙◌, ◌≡◌, ◌<◌, ◌^◌, ◌+◌, ◌-◌, ◌*◌, ℕ, List, min, length, drop, get_or}
+use Rattle.std.proofs.Common.{arith, sym, ap, ◌∙◌, ◌^◌, ◌+◌, ◌-◌, ◌*◌, ℕ, List, min, drop, get_or}
 use Rattle.std.proofs.lemmas.List.{at_drop_more}
 use Rattle.un_base.specs.Decimals.{value_after}
 use Rattle.un_reader.proofs.NumberLaws.{kept_size}

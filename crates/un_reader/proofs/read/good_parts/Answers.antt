@@ -1,4 +1,4 @@
-use Rattle.std.proofs.Common.{rules, ◌≡◌, ◌+◌, List, ℕ, [], Some, None, length, sym, ap, ◌∙◌}
+use Rattle.std.proofs.Common.{rules, ◌≡◌, ◌+◌, [], Some, length, sym, ap, ◌∙◌}
 use Rattle.un_reader.specs.declared.before.Before.{Before}
 use Rattle.un_reader.specs.declared.fault.Fault.TheVariants.{NoBlock}
 use Rattle.un_reader.specs.declared.error.ReadError.TheVariants.{TextFault}

@@ -1,4 +1,3 @@
-use Rattle.std.proofs.Common.{◌≡◌, ◌-◌, length, take, drop}
 use Rattle.std.proofs.lemmas.List.{take_rest}
 use Rattle.un_reader.proofs.WordLaws.{words_of-drop, is_blank-drop}
 use Rattle.un_reader.proofs.words.skip_blanks.Goals as goal

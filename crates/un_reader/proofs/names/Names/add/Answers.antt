@@ -1,4 +1,4 @@
-use Rattle.std.proofs.Common.{◌≡◌, ◌∙◌}
+use Rattle.std.proofs.Common.{◌∙◌}
 use Rattle.un_reader.proofs.NameEq.{add_same}
 use Rattle.un_reader.proofs.names.Names.add.Goals as goal
 use Rattle.un_reader.proofs.names.Names.add.Goals.{in-Ok, in-Err}

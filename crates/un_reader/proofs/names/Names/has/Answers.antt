@@ -1,4 +1,4 @@
-use Rattle.std.proofs.Common.{◌≡◌, ◌∙◌}
+use Rattle.std.proofs.Common.{◌∙◌}
 use Rattle.un_reader.proofs.NameEq.{any_same}
 use Rattle.un_reader.proofs.names.Names.has.Goals as goal
 

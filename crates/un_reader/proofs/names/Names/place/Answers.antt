@@ -1,4 +1,4 @@
-use Rattle.std.proofs.Common.{◌≡◌, ◌∙◌, sym}
+use Rattle.std.proofs.Common.{◌∙◌, sym}
 use Rattle.un_reader.proofs.NameEq.{place_found, place_missing}
 use Rattle.un_reader.proofs.names.Names.place.Goals as goal
 
