@@ -114,7 +114,7 @@ unfoldable pub SparesCall : ℕ → ℕ → Issue → Hold → Type 0
 SparesCall clobbered n i h =
     i.role ≡ Call → i.active ≡ true → h.active ≡ true → i.block.0 ≡ h.block.0 → in_mask clobbered h.reg ≡ true → Occupies h i.cycle → h.op.0 ≡ n
 
--- so does each operation
+-- every operation does
 abbrev pub SparesCalls : ℕ → List Issue → List Hold → Type 0
 SparesCalls clobbered issues holds = (n : ℕ) (i : Issue) → slice_get issues n ≡ Some i → All (SparesCall clobbered n i) holds
 

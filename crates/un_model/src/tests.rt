@@ -1,14 +1,16 @@
-//! One block tried by hand: two constants, their sum and its return.
+//! One block tried by hand: two constants, their sum and its return; and crowds of constants that nothing reads.
 
 use crate::build::build;
 use crate::cost::cost;
 use crate::model::{Options, Solution};
+use crate::occupations::keeps_registers;
+use crate::schedule::{Hold, Issue, Role};
 use crate::straight::is_straight;
 use crate::violations::violations;
 use std::alloc::Global;
 use std::process::Abort;
 use std::test::Fail;
-use un_base::ids::{NameId, TempId};
+use un_base::ids::{BlockId, NameId, OpId, TempId};
 use un_base::memory_error::NoMemory;
 use un_base::name::Name;
 use un_ir::extended::{Ext, ExtBlock, ExtKind, ExtOp, Operand};
@@ -130,16 +132,17 @@ fn example(alloc: Global) -> Result<Option<Ext>, NoMemory> {
     block(alloc, ops)
 }
 
-/// Five constants that nothing reads, and a return without a result.
-fn crowd(alloc: Global) -> Result<Option<Ext>, NoMemory> {
+/// So many constants that nothing reads, and a return without a result.
+fn crowd(alloc: Global, constants: u32) -> Result<Option<Ext>, NoMemory> {
     let mut ops = Items::new(alloc);
     ops.push(ExtOp {
         kind: ExtKind::In,
         operands: Items::new(alloc),
         results: temps(alloc, 0, 13)?,
     })?;
-    for i in 0..5u32 {
-        ops.push(op(alloc, source(alloc, Op::Imm, i, 1), &[], Some(13 + i))?)?;
+    for i in 0..constants {
+        let t = i.wrapping_add(13);
+        ops.push(op(alloc, source(alloc, Op::Imm, i, 1), &[], Some(t))?)?;
     }
     ops.push(op(alloc, ExtKind::End(Term::Ret(None)), &[12], None)?)?;
     ops.push(out(alloc, None)?)?;
@@ -215,16 +218,16 @@ fn values(alloc: Global, p: &Place) -> Result<Solution, NoMemory> {
     Ok(Solution { values })
 }
 
-/// The values of the crowd, of which the constants issue in these cycles.
-fn crowd_values(alloc: Global, cycles: [u32; 5]) -> Result<Solution, NoMemory> {
+/// The values of the crowd, of which the constants issue in these cycles and are in these registers.
+fn crowd_values(alloc: Global, places: &[(u32, u32)]) -> Result<Solution, NoMemory> {
     let mut values = Items::new(alloc);
     for r in 16..28u32 {
         values.push(r)?;
     }
     values.push(31)?;
-    for (i, c) in cycles.iter().enumerate() {
-        values.push(*c)?;
-        values.push(i as u32)?;
+    for (cycle, reg) in places {
+        values.push(*cycle)?;
+        values.push(*reg)?;
     }
     values.push(2)?;
     for _ in 0..13u32 {
@@ -322,22 +325,122 @@ fn each_fault_breaks_its_clause(rt: HostRuntime) -> Result<(), Fail> {
     Ok(())
 }
 
+/// The numbers of the clauses that a crowd of these constants breaks.
+fn broken_crowd(
+    rt: &impl Abort,
+    alloc: Global,
+    places: &[(u32, u32)],
+) -> Result<Vec<u8>, NoMemory> {
+    let constants = u32::try_from(places.len()).unwrap_or(0);
+    let e = crowd(alloc, constants)?.expect(rt, "the label is a name");
+    let s = crowd_values(alloc, places)?;
+    broken(rt, alloc, &e, &s)
+}
+
 #[test]
 fn a_packet_has_room_for_four(rt: HostRuntime) -> Result<(), Fail> {
     let alloc = rt.alloc();
-    let e = crowd(alloc)?.expect(&rt, "the label is a name");
-    let five = broken(&rt, alloc, &e, &crowd_values(alloc, [1, 1, 1, 1, 1])?)?;
+    let five = broken_crowd(&rt, alloc, &[(1, 0), (1, 1), (1, 2), (1, 3), (1, 4)])?;
     assert_eq!(rt; five.as_slice(), [8].as_slice());
-    let four = broken(&rt, alloc, &e, &crowd_values(alloc, [1, 1, 1, 1, 2])?)?;
+    let four = broken_crowd(&rt, alloc, &[(1, 0), (1, 1), (1, 2), (1, 3), (2, 4)])?;
     assert_eq!(rt; four.len(), 0);
+    Ok(())
+}
+
+#[test]
+fn a_packet_is_counted_where_other_cycles_stand_between(rt: HostRuntime) -> Result<(), Fail> {
+    let alloc = rt.alloc();
+    let five = broken_crowd(
+        &rt,
+        alloc,
+        &[
+            (1, 0),
+            (2, 1),
+            (1, 2),
+            (2, 3),
+            (1, 4),
+            (2, 5),
+            (1, 6),
+            (1, 7),
+        ],
+    )?;
+    assert_eq!(rt; five.as_slice(), [8].as_slice());
+    let four = broken_crowd(
+        &rt,
+        alloc,
+        &[(1, 0), (2, 1), (1, 2), (2, 3), (1, 4), (2, 5), (1, 6)],
+    )?;
+    assert_eq!(rt; four.len(), 0);
+    Ok(())
+}
+
+#[test]
+fn temporaries_far_apart_in_the_list_share_no_register(rt: HostRuntime) -> Result<(), Fail> {
+    let alloc = rt.alloc();
+    let clash = broken_crowd(&rt, alloc, &[(1, 0), (2, 1), (2, 2), (2, 3), (1, 0)])?;
+    assert_eq!(rt; clash.as_slice(), [7].as_slice());
+    let in_turn = broken_crowd(&rt, alloc, &[(2, 0), (1, 1), (1, 2), (1, 3), (1, 0)])?;
+    assert_eq!(rt; in_turn.len(), 0);
+    let saved = broken_crowd(&rt, alloc, &[(1, 0), (1, 1), (1, 2), (1, 3), (2, 16)])?;
+    assert_eq!(rt; saved.as_slice(), [7].as_slice());
+    Ok(())
+}
+
+/// A call, or an operation of another role, that issues in cycle 2.
+fn issue(role: Role) -> Issue {
+    Issue {
+        block: BlockId(0),
+        role,
+        active: true,
+        zero: false,
+        cycle: 2,
+        end: 5,
+        latency: 1,
+        width: 1,
+        needs: ALU,
+        space: None,
+    }
+}
+
+/// A result of operation `op` that occupies a register in these cycles.
+fn hold(op: u32, reg: u32, from: u32, last: u32) -> Hold {
+    Hold {
+        block: BlockId(0),
+        op: OpId(op),
+        active: true,
+        latency: 1,
+        space: None,
+        reg,
+        from,
+        last,
+    }
+}
+
+/// Whether a call that is operation 1 leaves a temporary its register.
+fn survives(alloc: Global, h: Hold) -> Result<bool, NoMemory> {
+    let issues = [issue(Role::Plain), issue(Role::Call)];
+    let saved = hold(0, 16, 0, 4);
+    keeps_registers(alloc, table().clobbered, &issues, &[saved, h])
+}
+
+#[test]
+fn a_call_clobbers_what_it_does_not_define(rt: HostRuntime) -> Result<(), Fail> {
+    let alloc = rt.alloc();
+    assert!(rt; !survives(alloc, hold(0, 5, 1, 2))?);
+    assert!(rt; !survives(alloc, hold(0, 32, 2, 4))?);
+    assert!(rt; survives(alloc, hold(1, 0, 2, 3))?);
+    assert!(rt; survives(alloc, hold(0, 5, 0, 1))?);
+    assert!(rt; survives(alloc, hold(0, 17, 1, 4))?);
+    assert!(rt; survives(alloc, hold(0, 100, 1, 4))?);
     Ok(())
 }
 
 #[test]
 fn there_are_as_many_values_as_variables(rt: HostRuntime) -> Result<(), Fail> {
     let alloc = rt.alloc();
-    let e = crowd(alloc)?.expect(&rt, "the label is a name");
-    let mut s = crowd_values(alloc, [1, 1, 1, 1, 2])?;
+    let e = crowd(alloc, 2)?.expect(&rt, "the label is a name");
+    let mut s = crowd_values(alloc, &[(1, 0), (2, 1)])?;
+    assert_eq!(rt; broken(&rt, alloc, &e, &s)?.len(), 0);
     s.values.push(0)?;
     assert_eq!(rt; broken(&rt, alloc, &e, &s)?.as_slice(), [1].as_slice());
     Ok(())

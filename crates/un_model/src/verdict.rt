@@ -21,7 +21,7 @@ pub struct Verdict {
     pub latencies: bool,
     /// 6: memory is accessed in order.
     pub memory: bool,
-    /// 7: temporaries that share a register do so at different times.
+    /// 7: temporaries that share a register do so at different times, and calls clobber none of them.
     pub registers: bool,
     /// 8: each packet has the resources for its instructions.
     pub packets: bool,
