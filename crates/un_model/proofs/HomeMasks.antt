@@ -1,7 +1,7 @@
 -- A mask with one more register, and the registers that the masks say.
-use Rattle.std.proofs.Common.{◌≡◌, ◌≢◌, ℕ, ◌+◌, ◌*◌, ◌^◌, ◌%◌, ◌<◌, ◌≤◌, Bool, true, false, nat_eq, ⊎_elim, List, Option, Some, None, bit_or, w64, refl, ap, ◌∙◌, sym, subst, arith}
-use Rattle.std.specs.Prelude.{◌==◌, ◌||◌, ◌&&◌, if◌then◌else◌, filter, unwrap_or}
-use Rattle.std.specs.BTreeMap.{BTreeMap, get, Updates, is_at}
+use Rattle.std.proofs.Common.{◌≡◌, ◌≢◌, ℕ, ◌*◌, ◌^◌, ◌%◌, ◌<◌, Bool, true, false, nat_eq, ⊎_elim, List, Option, Some, bit_or, w64, refl, ap, ◌∙◌, sym, subst, arith}
+use Rattle.std.specs.Prelude.{◌==◌, ◌||◌, ◌&&◌, filter, unwrap_or}
+use Rattle.std.specs.BTreeMap.{BTreeMap, get, Updates}
 use Rattle.std.specs.Cmp.{unsigned_tied}
 use Rattle.std.specs.Int.{bit_at}
 use Rattle.std.specs.List.{list_any, range_with_len}

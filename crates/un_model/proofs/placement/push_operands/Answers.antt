@@ -1,4 +1,4 @@
-use Rattle.std.proofs.Common.{ℕ, ◌++◌, ◌≡◌, ap, ◌∙◌, sym, arith}
+use Rattle.std.proofs.Common.{arith}
 use Rattle.un_model.specs.Schedules.{read_of}
 use Rattle.un_model.proofs.PairSteps.{pairs_more, pairs_all}
 use Rattle.un_model.proofs.placement.push_operands.Goals as goal

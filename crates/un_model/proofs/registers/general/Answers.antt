@@ -1,4 +1,3 @@
-use Rattle.std.proofs.Common.{◌≡◌, ℕ, List, subst, IfOk}
 use Rattle.un_model.proofs.HomeMasks.{general_are}
 use Rattle.un_model.proofs.registers.general.Goals as goal
 
