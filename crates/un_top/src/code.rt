@@ -8,14 +8,10 @@ use std::alloc::Global;
 use un_base::memory_error::NoMemory;
 use un_emit::emission::emit;
 use un_ir::function::Function;
-use un_isa::reg::SLOTS;
-use un_isa::table::hexagon;
-use un_model::build::build;
 use un_model::cost::cost;
-use un_model::model::Options;
 use un_packet::code::Code;
+use un_plain_solution::plain_model::plain_model;
 use un_plain_solution::plain_solution::plain_solution;
-use un_plain_solution::straight::straight_ext;
 
 /// Code with its cost.
 #[derive(Debug, Drop)]
@@ -32,15 +28,9 @@ pub fn costed_code(alloc: Global, f: &Function) -> Result<Costed, NoMemory>
     requires { IsPlain f.now }
     ensures { IfOk result (λ c. IsCodeOf f.now c.code c.cost) }
 {
-    let table = hexagon();
-    let ext = straight_ext(alloc, f, &table)?;
-    let options = Options {
-        regs: None,
-        slots: SLOTS,
-    };
-    let model = build(alloc, &ext, &options)?;
+    let model = plain_model(alloc, f)?;
     let solution = plain_solution(alloc, f, &model)?;
-    let code = emit(alloc, f, &ext, &model, &solution)?;
+    let code = emit(alloc, f, &model.ext, &model, &solution)?;
     let cost = cost(&model, &solution);
     Ok(Costed { code, cost })
 }

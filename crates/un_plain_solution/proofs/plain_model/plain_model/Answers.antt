@@ -21,6 +21,7 @@ returns c =
     record {
       model = own_options _ _ _ _ made ext;
       regs = ap (λ (k : Model). k.options.regs) made;
+      ext = ap (λ (k : Model). k.ext) made ∙ ext;
       slots = ap (λ (k : Model). k.options.slots) made;
       own = c.in_ok-m.ensures.model;
       straight = subst IsStraightExt (sym (ap (λ (k : Model). k.ext) made)) c.in_ok-ext.ensures.straight;
