@@ -83,10 +83,11 @@ pub struct Block {
 /// A function of the input language. A NameId is a place in `names`, which stand in the order of their first appearance in
 /// the text, so the parameters are the first. The first block is the entry.
 ///
-/// The type keeps that the function has no fault: the numbers of blocks, operations, names and parameters are within the
-/// limits above; no name, label or parameter stands twice; each operation reads and assigns names of its kinds, and its
-/// literal is in range; each terminator leads to a block of the function and never to the entry, so the last block
-/// jumps or returns; all returns give a value or none does; and only parameters are live at the start of the entry.
+/// The type keeps that the function has no fault: there is a block; the numbers of blocks, operations, names and
+/// parameters and the frequencies are within the limits above; no name of a kind, no label and no parameter stands twice;
+/// each operation reads and assigns names of its kinds, and its literal is in range; each terminator leads to a block of
+/// the function and never to the entry, so the last block jumps or returns; all returns give a value or none does; and
+/// only parameters are live at the start of the entry.
 #[derive(Debug, PartialEq, Eq, Drop)]
 pub struct Function {
     pub name: Name,
