@@ -1,5 +1,5 @@
 -- The loops that number variables: what is made so far, and what is made of the rest, are the whole.
-use Rattle.std.proofs.Common.{◌≡◌, ℕ, subst, ◌+◌, ◌<◌, ◌≤◌, zero, suc, List, [], ◌∷◌, ◌++◌, length, map, drop, Option, Some, None, slice_get, refl, ap, ◌∙◌, sym, append_assoc, length-append, zero-add, arith}
+use Rattle.std.proofs.Common.{◌≡◌, ℕ, subst, ◌+◌, List, [], ◌∷◌, ◌++◌, length, map, drop, Some, slice_get, refl, ap, ◌∙◌, sym, append_assoc, length-append, zero-add, arith}
 use Rattle.std.specs.List.{range_with_len}
 use Rattle.std.proofs.lemmas.List.FromFn.{map-range_with_len_more}
 use Rattle.un_base.specs.declared.ids.TempId.{TempId}
@@ -10,7 +10,7 @@ use Rattle.un_ir.specs.declared.extended.ExtOp.{ExtOp}
 use Rattle.un_ir.specs.declared.extended.ExtBlock.{ExtBlock}
 use Rattle.un_ir.specs.declared.extended.Ext.{Ext}
 use Rattle.un_domains.specs.declared.domain.Domain.{Domain}
-use Rattle.un_domains.specs.declared.domain.Domain.TheVariants.{Range, Set}
+use Rattle.un_domains.specs.declared.domain.Domain.TheVariants.{Range}
 use Rattle.un_model.specs.declared.model.Options.{Options}
 use Rattle.un_model.specs.declared.model.TempVars.{TempVars}
 use Rattle.un_model.specs.declared.model.OpVars.{OpVars}
@@ -18,7 +18,7 @@ use Rattle.un_model.specs.declared.model.BlockVars.{BlockVars}
 use Rattle.un_model.specs.declared.model.Model.{Model}
 use Rattle.un_model.specs.Straight.{IsModel}
 use Rattle.un_model.specs.Variables.{register_domain, register_domains, op_domains, register_place, op_vars, op_temps, ops_domains, ops_vars, ops_temps, block_domains, blocks_domains, blocks_temps, blocks_vars, own_horizon, var_at, model_of}
-use Rattle.un_model.proofs.PairSteps.{drop_at, drop_past, append-nil}
+use Rattle.un_model.proofs.PairSteps.{drop_at, append-nil}
 
 pub map_more : {A B : Type 0} (f : A → B) (i : ℕ) (xs : List A) (x : A) (made whole next : List B) (y : B) → made ++ map f (drop i xs) ≡ whole → slice_get xs i ≡ Some x → y ≡ f x → next ≡ made ++ y ∷ [] → next ++ map f (drop (i + 1) xs) ≡ whole
 map_more f i xs x made whole next y h p e g =

@@ -1,5 +1,5 @@
 -- Two lists, read together by a loop: what is made so far, and what is made of the rest, are the whole.
-use Rattle.std.proofs.Common.{◌≡◌, ℕ, ◌+◌, ◌<◌, ◌≤◌, ◌⊎◌, inl, inr, zero, suc, List, [], ◌∷◌, ◌++◌, length, drop, take, min, Some, None, slice_get, refl, ap, ◌∙◌, sym, append_assoc, add-one, arith}
+use Rattle.std.proofs.Common.{◌≡◌, ℕ, ◌+◌, ◌≤◌, ◌⊎◌, inl, inr, zero, suc, List, [], ◌∷◌, ◌++◌, length, drop, min, Some, slice_get, refl, ap, ◌∙◌, sym, append_assoc, add-one, arith}
 use Rattle.std.specs.List.{flat_map}
 use Rattle.std.proofs.lemmas.Bool.{cases_lt}
 use Rattle.un_model.specs.Pairs.{pairs_from}

@@ -1,5 +1,5 @@
 -- A function of one block.
-use Rattle.std.proofs.Common.{◌≡◌, ℕ, ◌+◌, ◌-◌, ◌*◌, zero, suc, List, [], ◌∷◌, ◌++◌, length, Some, None, slice_get, refl, ap, ◌∙◌, sym, arith}
+use Rattle.std.proofs.Common.{◌≡◌, ℕ, ◌+◌, ◌-◌, ◌*◌, suc, List, [], ◌∷◌, length, Some, slice_get, refl, ap, ◌∙◌, sym, arith}
 use Rattle.un_isa.specs.declared.table.Table.{Table}
 use Rattle.un_ir.specs.declared.extended.ExtBlock.{ExtBlock}
 use Rattle.un_model.specs.declared.model.Options.{Options}
@@ -14,7 +14,7 @@ use Rattle.un_model.specs.declared.schedule.Schedule.{Schedule}
 use Rattle.un_model.specs.Schedules.{block_issues, block_reads, issues_of, reads_of, holds_of, schedule_of}
 use Rattle.un_model.proofs.PairSteps.{append-nil}
 use Rattle.un_model.specs.Straight.{IsModel, IsStraightExt}
-use Rattle.un_model.specs.Variables.{blocks_vars, block_vars, block_domains, model_of, own_horizon}
+use Rattle.un_model.specs.Variables.{blocks_vars, block_domains, own_horizon}
 
 pub single : {A : Type 0} (xs : List A) (x : A) → length xs ≡ 1 → slice_get xs 0 ≡ Some x → xs ≡ x ∷ []
 single [] x h g = absurd (cc)

@@ -1,9 +1,7 @@
 -- A verdict that finds nothing broken is one on a solution.
-use Rattle.std.proofs.Common.{◌≡◌, ◌↔◌, ℕ, Bool, true, false, List, [], ◌∷◌, ◌++◌, map, if◌then◌else◌, refl, ap, ◌∙◌, sym}
+use Rattle.std.proofs.Common.{◌≡◌, ℕ, Bool, true, false, List, [], ◌∷◌, ◌++◌, map, if◌then◌else◌, refl}
 use Rattle.un_model.specs.declared.model.Model.{Model}
-use Rattle.un_model.specs.declared.model.Solution.{Solution}
 use Rattle.un_model.specs.declared.schedule.Schedule.{Schedule}
-use Rattle.un_model.specs.declared.verdict.Broken.{Broken}
 use Rattle.un_model.specs.declared.verdict.Verdict.{Verdict}
 use Rattle.un_model.specs.Solutions.{Tells, IsSchedule, latency_gap, broken, broken_after, broken_clauses}
 

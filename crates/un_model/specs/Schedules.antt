@@ -5,7 +5,7 @@ use Rattle.un_base.specs.declared.ids.VarId.{VarId}
 use Rattle.un_base.specs.declared.ids.TempId.{TempId}
 use Rattle.un_isa.specs.declared.table.Table.{Table}
 use Rattle.un_ir.specs.declared.extended.ExtKind.{ExtKind}
-use Rattle.un_ir.specs.declared.extended.ExtKind.TheVariants.{In, Out, Body, End, Copy, Enter, Leave}
+use Rattle.un_ir.specs.declared.extended.ExtKind.TheVariants.{In, Out}
 use Rattle.un_ir.specs.declared.extended.Operand.{Operand}
 use Rattle.un_ir.specs.declared.extended.ExtOp.{ExtOp}
 use Rattle.un_ir.specs.declared.extended.ExtBlock.{ExtBlock}
@@ -18,7 +18,7 @@ use Rattle.un_model.specs.declared.schedule.Read.{Read}
 use Rattle.un_model.specs.declared.schedule.Hold.{Hold}
 use Rattle.un_model.specs.declared.schedule.Schedule.{Schedule}
 use Rattle.un_model.specs.Cost.{value_of}
-use Rattle.un_model.specs.Instructions.{instruction_of, latency_by, width_by, needs_by, no_needs, role_of, result_space, operand_space}
+use Rattle.un_model.specs.Instructions.{instruction_of, latency_by, width_by, needs_by, role_of, result_space, operand_space}
 use Rattle.un_model.specs.Pairs.{pairs_from}
 
 -- the value of a variable that not every operation has

@@ -1,19 +1,15 @@
 -- What a solution is: the ten clauses, each on the schedule that the values make.
-use Rattle.std.specs.Prelude.{ℕ, ◌≡◌, ◌≢◌, ◌+◌, ◌-◌, ◌<◌, ◌≤◌, ◌↔◌, ◌⊎◌, Bool, true, false, ◌==◌, ◌&&◌, nat_eq, IsTrue, if◌then◌else◌, List, [], ◌∷◌, ◌++◌, Option, Some, None, All, AllPairs, Contains, IfSome, length, slice_get, slice_index, slice_index_or, sum_by}
-use Rattle.un_base.specs.declared.ids.VarId.{VarId}
+use Rattle.std.specs.Prelude.{ℕ, ◌≡◌, ◌+◌, ◌<◌, ◌≤◌, ◌↔◌, ◌⊎◌, Bool, true, false, ◌==◌, ◌&&◌, IsTrue, if◌then◌else◌, List, [], ◌∷◌, ◌++◌, Option, Some, None, All, AllPairs, Contains, IfSome, length, slice_get, slice_index, slice_index_or, sum_by}
 use Rattle.un_isa.specs.declared.reg.Reg.{Reg}
 use Rattle.un_isa.specs.declared.reg.Space.{Space}
 use Rattle.un_isa.specs.declared.reg.Space.TheVariants.{R, P, M}
 use Rattle.un_isa.specs.Tables.{in_mask}
-use Rattle.un_ir.specs.declared.extended.ExtBlock.{ExtBlock}
 use Rattle.un_domains.specs.declared.domain.Domain.{Domain}
 use Rattle.un_domains.specs.declared.domain.Domain.TheVariants.{Range, Set}
-use Rattle.un_model.specs.declared.model.OpVars.{OpVars}
-use Rattle.un_model.specs.declared.model.BlockVars.{BlockVars}
 use Rattle.un_model.specs.declared.model.Model.{Model}
 use Rattle.un_model.specs.declared.model.Solution.{Solution}
 use Rattle.un_model.specs.declared.schedule.Role.{Role}
-use Rattle.un_model.specs.declared.schedule.Role.TheVariants.{Border, Transfer, Call, Plain}
+use Rattle.un_model.specs.declared.schedule.Role.TheVariants.{Border, Transfer, Call}
 use Rattle.un_model.specs.declared.schedule.Resource.{Resource}
 use Rattle.un_model.specs.declared.schedule.Resource.TheVariants.{Instructions, Accesses, Stores, Products, Transfers}
 use Rattle.un_model.specs.declared.schedule.Issue.{Issue}
@@ -23,7 +19,6 @@ use Rattle.un_model.specs.declared.schedule.Schedule.{Schedule}
 use Rattle.un_model.specs.declared.verdict.Verdict.{Verdict}
 use Rattle.un_model.specs.declared.limits.TheConstants.{PACKET, MEM_PLACES, STORE_PLACES, XC_PLACES, CONTROL_PLACES}
 use Rattle.un_model.specs.Cost.{value_of}
-use Rattle.un_model.specs.Pairs.{pairs_from}
 use Rattle.un_model.specs.Schedules.{schedule_of}
 
 -- 1: each value is in its domain, and there are as many as variables

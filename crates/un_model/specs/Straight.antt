@@ -1,13 +1,11 @@
 -- Extended functions of one block without copies.
-use Rattle.std.specs.Prelude.{ℕ, ◌≡◌, All, length}
+use Rattle.std.specs.Prelude.{◌≡◌, All, length}
 use Rattle.un_isa.specs.declared.op.Op.{Op}
 use Rattle.un_isa.specs.declared.op.Op.TheVariants.{Load, Store, Call}
-use Rattle.un_ir.specs.declared.function.SrcOp.{SrcOp}
 use Rattle.un_ir.specs.declared.function.Term.{Term}
-use Rattle.un_ir.specs.declared.function.Term.TheVariants.{Fall, Jump, Branch, Ret}
-use Rattle.un_ir.specs.declared.extended.NodeCopy.{NodeCopy}
+use Rattle.un_ir.specs.declared.function.Term.TheVariants.{Ret}
 use Rattle.un_ir.specs.declared.extended.ExtKind.{ExtKind}
-use Rattle.un_ir.specs.declared.extended.ExtKind.TheVariants.{In, Out, Body, End, Copy, Enter, Leave}
+use Rattle.un_ir.specs.declared.extended.ExtKind.TheVariants.{In, Out, Body, End}
 use Rattle.un_ir.specs.declared.extended.Operand.{Operand}
 use Rattle.un_ir.specs.declared.extended.ExtOp.{ExtOp}
 use Rattle.un_ir.specs.declared.extended.ExtBlock.{ExtBlock}

@@ -3,10 +3,7 @@ use Rattle.std.specs.Prelude.{ℕ, ◌+◌, ◌-◌, Bool, true, false, List, []
 use Rattle.std.specs.List.{range_with_len}
 use Rattle.un_base.specs.declared.ids.TempId.{TempId}
 use Rattle.un_base.specs.declared.ids.VarId.{VarId}
-use Rattle.un_isa.specs.declared.op.Op.{Op}
 use Rattle.un_isa.specs.declared.table.Table.{Table}
-use Rattle.un_ir.specs.declared.extended.NodeCopy.{NodeCopy}
-use Rattle.un_ir.specs.declared.extended.NodeCopy.TheVariants.{D, D2, U, U2}
 use Rattle.un_ir.specs.declared.extended.ExtKind.{ExtKind}
 use Rattle.un_ir.specs.declared.extended.ExtKind.TheVariants.{In, Out, Body, End, Copy, Enter, Leave}
 use Rattle.un_ir.specs.declared.extended.Operand.{Operand}

@@ -1,5 +1,4 @@
 use Rattle.std.proofs.Common.{length}
-use Rattle.un_model.specs.Variables.{op_domains}
 use Rattle.un_model.proofs.BuildSteps.{ops_domains_more, ops_temps_more, ops_vars_more, longer}
 use Rattle.un_model.proofs.build.add_ops.Goals as goal
 

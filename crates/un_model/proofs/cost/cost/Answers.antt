@@ -1,4 +1,3 @@
-use Rattle.std.proofs.Common.{◌≡◌, [], ◌∷◌, rules}
 use Rattle.un_model.proofs.Singles.{single, one_block, cost-single}
 use Rattle.un_model.proofs.cost.cost.Goals as goal
 

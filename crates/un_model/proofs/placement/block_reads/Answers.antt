@@ -1,4 +1,4 @@
-use Rattle.std.proofs.Common.{ℕ, arith}
+use Rattle.std.proofs.Common.{arith}
 use Rattle.un_model.specs.Schedules.{op_reads}
 use Rattle.un_model.proofs.PairSteps.{joined_more, joined_all}
 use Rattle.un_model.proofs.placement.block_reads.Goals as goal

@@ -1,4 +1,4 @@
-use Rattle.std.proofs.Common.{ℕ, arith}
+use Rattle.std.proofs.Common.{arith}
 use Rattle.un_model.specs.Schedules.{hold_of}
 use Rattle.un_model.proofs.PairSteps.{pairs_more, pairs_all}
 use Rattle.un_model.proofs.placement.holds_until.Goals as goal

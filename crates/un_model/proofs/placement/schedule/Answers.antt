@@ -1,5 +1,5 @@
-use Rattle.std.proofs.Common.{◌≡◌, ◌∙◌, ap}
-use Rattle.un_model.specs.Schedules.{schedule_of, holds_of}
+use Rattle.std.proofs.Common.{◌∙◌, ap}
+use Rattle.un_model.specs.Schedules.{schedule_of}
 use Rattle.un_model.proofs.Singles.{single, one_block, schedule-single}
 use Rattle.un_model.proofs.placement.schedule.Goals as goal
 
