@@ -1,7 +1,7 @@
 -- What emitted code costs.
 use Rattle.std.proofs.Common.{◌≡◌, ℕ, ◌+◌, ◌*◌, ◌-◌, Bool, true, List, [], ◌∷◌, length, map, Some, None, refl, sym, ap, ◌∙◌, arith}
 use Rattle.std.specs.Prelude.{nat_eq, sum, if◌then◌else◌}
-use Rattle.std.specs.List.{sum_by, range_with_len}
+use Rattle.std.specs.List.{sum_by}
 use Rattle.std.proofs.lemmas.Bool.{eq-eqb}
 use Rattle.std.proofs.lemmas.List.FromFn.{length-map-range_with_len}
 use Rattle.un_lists.specs.Exactness.{list_reflexive}
@@ -10,11 +10,9 @@ use Rattle.un_ir.specs.declared.function.Block.{Block}
 use Rattle.un_ir.specs.declared.function.Function.{Function}
 use Rattle.un_ir.specs.declared.extended.Ext.{Ext}
 use Rattle.un_ir.specs.declared.extended.ExtBlock.{ExtBlock}
-use Rattle.un_packet.specs.declared.code.CodeBlock.{CodeBlock}
 use Rattle.un_plain.specs.Plain.{IsPlain}
 use Rattle.un_plain_ext.specs.PlainExt.{plain_ext, plain_block}
 use Rattle.un_simulation.specs.Count.{count_of, packets_in, packets_under}
-use Rattle.un_model.specs.declared.model.Options.{Options}
 use Rattle.un_model.specs.declared.model.BlockVars.{BlockVars}
 use Rattle.un_model.specs.declared.model.Model.{Model}
 use Rattle.un_model.specs.declared.model.Solution.{Solution}

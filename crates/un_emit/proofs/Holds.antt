@@ -1,22 +1,19 @@
 -- A solution's schedule as a plan: how long each temporary stands in its register, and what is read when.
-use Rattle.std.proofs.Common.{◌≡◌, ◌≢◌, ℕ, zero, suc, ◌+◌, ◌-◌, ◌<◌, ◌≤◌, max, ◌⊎◌, inl, inr, ⊎_elim, Bool, true, false, List, [], ◌∷◌, ◌++◌, length, map, get_or, Option, Some, None, refl, sym, ap, ◌∙◌, subst, arith}
-use Rattle.std.specs.Prelude.{slice_get, slice_index, slice_index_or, if◌then◌else◌, All, AllPairs, Contains, filter, unwrap_or}
-use Rattle.std.specs.List.{fold, flat_map, range_with_len, AllByRecursion, AllZip}
-use Rattle.std.proofs.lemmas.Bool.{cases_eq, cases_lt}
+use Rattle.std.proofs.Common.{◌≡◌, ◌≢◌, ℕ, zero, suc, ◌+◌, ◌<◌, ◌≤◌, max, ◌⊎◌, inl, inr, ⊎_elim, Bool, true, false, List, [], ◌∷◌, ◌++◌, length, map, Option, Some, None, refl, sym, ap, ◌∙◌, subst, arith}
+use Rattle.std.specs.Prelude.{slice_get, slice_index, slice_index_or, if◌then◌else◌, AllPairs, Contains, filter}
+use Rattle.std.specs.List.{fold, range_with_len, AllByRecursion}
+use Rattle.std.proofs.lemmas.Bool.{cases_lt}
 use Rattle.un_base.specs.declared.ids.TempId.{TempId}
 use Rattle.un_isa.specs.declared.reg.Reg.{Reg}
-use Rattle.un_ir.specs.declared.extended.Operand.{Operand}
 use Rattle.un_domains.specs.declared.domain.Domain.{Domain}
-use Rattle.un_domains.specs.declared.domain.Domain.TheVariants.{Range, Set}
 use Rattle.un_model.specs.declared.model.TempVars.{TempVars}
 use Rattle.un_model.specs.declared.schedule.Issue.{Issue}
 use Rattle.un_model.specs.declared.schedule.Read.{Read as Reading}
 use Rattle.un_model.specs.declared.schedule.Hold.{Hold}
 use Rattle.un_model.specs.Cost.{value_of}
 use Rattle.un_model.specs.Pairs.{pairs_from}
-use Rattle.un_model.specs.Schedules.{chosen, cycle_for, last_read, last_reads, hold_by, hold_of, holds_of}
+use Rattle.un_model.specs.Schedules.{chosen, cycle_for, last_read, hold_by, hold_of, holds_of}
 use Rattle.un_model.specs.Solutions.{InDomain, KeepsDomains, IsHeld, LeavesGap, latency_gap, ReadsHome, IsHome, ShareNoCycle}
-use Rattle.un_model.specs.Variables.{choice_domain}
 use Rattle.un_emit.specs.Emission.{register_by}
 use Rattle.un_emit.proofs.Packets.{Plan, Read}
 

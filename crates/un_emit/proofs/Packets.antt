@@ -1,7 +1,7 @@
 -- What packets do that hold the constants and additions of a schedule: a temporary stands in its register from its own cycle
 -- to its last read.
-use Rattle.std.proofs.Common.{◌≡◌, ◌≢◌, ℕ, ℤ, pos, zero, suc, ◌+◌, ◌-◌, ◌<◌, ◌≤◌, max, ◌⊎◌, inl, inr, ⊎_elim, Bool, true, false, ◌||◌, List, [], ◌∷◌, ◌++◌, length, map, get_or, set, Option, Some, None, refl, sym, ap, ◌∙◌, subst, arith}
-use Rattle.std.specs.Prelude.{slice_index, slice_set, nat_eq, if◌then◌else◌}
+use Rattle.std.proofs.Common.{◌≡◌, ◌≢◌, ℕ, ℤ, pos, zero, suc, ◌+◌, ◌-◌, ◌<◌, ◌≤◌, max, ◌⊎◌, ⊎_elim, Bool, true, false, List, [], ◌∷◌, length, map, get_or, set, Option, Some, None, refl, sym, ap, ◌∙◌, subst, arith}
+use Rattle.std.specs.Prelude.{slice_index, nat_eq, if◌then◌else◌}
 use Rattle.std.specs.List.{fold, flat_map, list_any, find, range_with_len}
 use Rattle.std.proofs.lemmas.Bool.{cases_eq, cases_lt, eq-eqb}
 use Rattle.std.proofs.lemmas.List.{get_or-set_same, get_or-set_other, length-set}
@@ -11,9 +11,8 @@ use Rattle.un_isa.specs.declared.op.Op.TheVariants.{Imm, Add, Jumpr}
 use Rattle.un_isa.specs.declared.reg.Reg.{Reg}
 use Rattle.un_isa.specs.declared.instr.Instr.{Instr}
 use Rattle.un_isa.specs.declared.table.Table.{Table}
-use Rattle.un_isa.specs.declared.outcome.CallRecord.{CallRecord}
 use Rattle.un_packet.specs.declared.code.Packet.{Packet}
-use Rattle.un_packet.specs.Step.{PacketState, PacketStep, Went, Stopped, Returned, Trapped, goes_on, packet_step, issue_cycle, after, reads_of, traps, is_call, is_return, jumps, regs_after, ready_after, memory_after, frame_after, with_call, leads, operand_in}
+use Rattle.un_packet.specs.Step.{PacketState, PacketStep, Went, Stopped, Returned, Trapped, goes_on, packet_step, issue_cycle, after, reads_of, traps, is_call, is_return, jumps, regs_after, ready_after, memory_after, with_call, leads, operand_in}
 use Rattle.un_packet.specs.Run.{packets_run, then_packets, goes_on_unless, NoneWaits}
 use Rattle.un_emit.specs.Emission.{or_nop}
 

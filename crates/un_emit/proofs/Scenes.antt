@@ -1,32 +1,21 @@
 -- A solution of the model of a plain function's extended function as a scene of one block.
-use Rattle.std.proofs.Common.{◌≡◌, ◌≢◌, ℕ, zero, suc, ◌+◌, ◌-◌, ◌<◌, ◌≤◌, max, ◌⊎◌, inl, inr, ⊎_elim, Bool, true, false, ◌||◌, ◌&&◌, List, [], ◌∷◌, ◌++◌, length, map, get_or, Option, Some, None, refl, sym, ap, ◌∙◌, subst, arith}
-use Rattle.std.specs.Prelude.{slice_get, slice_index, slice_index_or, nat_eq, nat_lt, nat_le, Contains, All, IfSome, filter, if◌then◌else◌, ◌==◌}
-use Rattle.std.specs.List.{flat_map, range_with_len, list_any, AllByRecursion}
-use Rattle.std.proofs.lemmas.Bool.{cases_eq, cases_lt, eq-eqb}
-use Rattle.std.proofs.lemmas.List.{length-append, length-map, get_or-append-add}
+use Rattle.std.proofs.Common.{◌≡◌, ℕ, zero, suc, ◌+◌, ◌<◌, ◌≤◌, List, [], ◌∷◌, ◌++◌, length, map, Option, Some, refl, sym, ap, ◌∙◌, subst, arith}
+use Rattle.std.specs.Prelude.{slice_get, slice_index, slice_index_or, Contains}
+use Rattle.std.specs.List.{AllByRecursion}
 use Rattle.std.proofs.lemmas.List.FromFn.{length-map-range_with_len}
 use Rattle.std.proofs.lemmas.List.Elements.{recursion_from_All, All-from_recursion}
 use Rattle.un_base.specs.declared.ids.TempId.{TempId}
-use Rattle.un_isa.specs.Fit.{IsFit}
-use Rattle.un_isa.specs.Tables.{in_mask}
-use Rattle.un_isa.specs.declared.reg.Reg.{Reg}
-use Rattle.un_isa.specs.declared.instr.Instr.{Instr}
 use Rattle.un_isa.specs.declared.table.Table.{Table}
-use Rattle.un_ir.specs.declared.function.SrcOp.{SrcOp}
 use Rattle.un_ir.specs.declared.function.Term.TheVariants.{Ret}
 use Rattle.un_ir.specs.declared.function.Block.{Block}
 use Rattle.un_ir.specs.declared.function.Function.{Function}
-use Rattle.un_ir.specs.declared.function.Kind.{Kind}
 use Rattle.un_ir.specs.declared.extended.ExtKind.TheVariants.{In}
-use Rattle.un_ir.specs.declared.extended.Operand.{Operand}
 use Rattle.un_ir.specs.declared.extended.ExtOp.{ExtOp}
 use Rattle.un_ir.specs.declared.extended.ExtBlock.{ExtBlock}
 use Rattle.un_ir.specs.declared.extended.Ext.{Ext}
-use Rattle.un_domains.specs.declared.domain.Domain.{Domain}
 use Rattle.un_domains.specs.declared.domain.Domain.TheVariants.{Range}
-use Rattle.un_plain_ext.specs.PlainExt.{kind_of, temp, plain_block, kept_registers, saved_count, no_temps, in_op, body_op, body_ops, current_after, out_op, saved_operands, assigned}
+use Rattle.un_plain_ext.specs.PlainExt.{kind_of, temp, plain_block, kept_registers, saved_count, no_temps, in_op, body_ops, current_after}
 use Rattle.un_model.specs.declared.model.Options.{Options}
-use Rattle.un_model.specs.declared.model.BlockVars.{BlockVars}
 use Rattle.un_model.specs.declared.model.TempVars.{TempVars}
 use Rattle.un_model.specs.declared.model.Model.{Model}
 use Rattle.un_model.specs.declared.model.Solution.{Solution}
@@ -34,15 +23,13 @@ use Rattle.un_model.specs.declared.schedule.Issue.{Issue}
 use Rattle.un_model.specs.declared.schedule.Read.{Read as Reading}
 use Rattle.un_model.specs.declared.schedule.Hold.{Hold}
 use Rattle.un_model.specs.Cost.{value_of}
-use Rattle.un_model.specs.Pairs.{pairs_from}
-use Rattle.un_model.specs.Registers.{is_assignable, is_home, is_home_in, is_register, reads_value, kept_registers as model_kept, saved_registers, entry_home}
-use Rattle.un_model.specs.Schedules.{last_read, issue_of, issues_of, reads_of, block_reads, op_reads}
-use Rattle.un_model.specs.Solutions.{InDomain, IsSolution, IsHeld, LeavesGap, latency_gap, ReadsHome, IsPlaced}
-use Rattle.un_model.specs.Variables.{model_of, block_vars, block_domains, own_horizon, op_domains, op_vars, ops_domains, ops_vars, ops_temps, op_temps, register_domain, register_domains}
+use Rattle.un_model.specs.Registers.{kept_registers as model_kept, saved_registers, entry_home}
+use Rattle.un_model.specs.Schedules.{last_read, issue_of, issues_of, reads_of}
+use Rattle.un_model.specs.Solutions.{IsSolution, IsHeld, LeavesGap, latency_gap, ReadsHome, IsPlaced}
+use Rattle.un_model.specs.Variables.{model_of, block_vars, block_domains, own_horizon, op_domains, op_vars, ops_domains, ops_temps, op_temps, register_domains}
 use Rattle.un_emit.specs.Emission.{register_by}
-use Rattle.un_emit.proofs.Packets.{Plan}
-use Rattle.un_emit.proofs.Holds.{split, InDomains, split_domains, kept_domains, IsFitRead, IsDefined, held, held_at, held_is, hold_from, from_by, last_above}
-use Rattle.un_emit.proofs.Walk.{Scene, plan, vars_of, made, readings, Fit, Defined, Ahead, NotStack, ending}
+use Rattle.un_emit.proofs.Holds.{split, InDomains, split_domains, kept_domains, IsFitRead, held_at, held_is, from_by, last_above}
+use Rattle.un_emit.proofs.Walk.{Scene, plan, made, readings, Fit, Defined, Ahead, ending}
 
 -- the extended function of one block
 abbrev pub ext_of : Table → Function → Block → Ext

@@ -1,6 +1,6 @@
 -- The code of a solution of a plain function's model does what the function does.
 use Rattle.std.proofs.Common.{◌≡◌, ◌≢◌, ℕ, zero, suc, ◌+◌, ◌-◌, ◌<◌, ◌≤◌, ⊎_elim, Bool, true, false, ◌||◌, ◌&&◌, List, [], ◌∷◌, ◌++◌, length, map, get_or, replicate, Option, Some, None, refl, sym, ap, ◌∙◌, subst, arith}
-use Rattle.std.specs.Prelude.{slice_get, slice_index, slice_index_or, nat_eq, IfSome, filter, if◌then◌else◌}
+use Rattle.std.specs.Prelude.{slice_get, slice_index, nat_eq, IfSome, filter, if◌then◌else◌}
 use Rattle.std.specs.Option.{option_map}
 use Rattle.std.specs.List.{range_with_len, list_any, AllByRecursion}
 use Rattle.std.proofs.lemmas.Bool.{cases_eq, cases_lt}
@@ -9,29 +9,27 @@ use Rattle.std.proofs.Math.ListN.{get_or-append}
 use Rattle.std.proofs.Math.Seq.{get_or-append_seam}
 use Rattle.un_base.specs.declared.ids.NameId.{NameId}
 use Rattle.un_base.specs.declared.ids.TempId.{TempId}
-use Rattle.un_isa.specs.Fit.{IsFit, may_be_saved}
+use Rattle.un_isa.specs.Fit.{IsFit}
 use Rattle.un_isa.specs.Tables.{in_mask}
 use Rattle.un_isa.specs.declared.start.Start.{Start}
 use Rattle.un_isa.specs.declared.instr.Instr.{Instr}
 use Rattle.un_isa.specs.declared.table.Table.{Table}
 use Rattle.un_ir.specs.declared.function.SrcOp.{SrcOp}
 use Rattle.un_ir.specs.declared.function.Term.{Term}
-use Rattle.un_ir.specs.declared.function.Term.TheVariants.{Ret}
 use Rattle.un_ir.specs.declared.function.Block.{Block}
 use Rattle.un_ir.specs.declared.function.Function.{Function}
-use Rattle.un_ir.specs.declared.function.Kind.{Kind}
 use Rattle.un_ir.specs.declared.extended.Operand.{Operand}
 use Rattle.un_ir.specs.declared.extended.ExtOp.{ExtOp}
 use Rattle.un_ir.specs.declared.extended.Ext.{Ext}
 use Rattle.un_ir.specs.Live.{IsLive}
-use Rattle.un_ir.specs.Source.{SourceState, SourceRun, BlockEnd, Returned, ops_run, leave, leave_unless, through, enter, source_run, first_state as first_values}
+use Rattle.un_ir.specs.Source.{SourceState, SourceRun, BlockEnd, Returned, ops_run, leave_unless, through, enter, source_run, first_state as first_values}
 use Rattle.un_packet.specs.declared.code.Packet.{Packet}
 use Rattle.un_packet.specs.declared.code.CodeBlock.{CodeBlock}
 use Rattle.un_packet.specs.declared.code.Code.{Code}
 use Rattle.un_packet.specs.Step.{PacketState, PacketStep, Stopped, Returned as ReturnedTo}
 use Rattle.un_packet.specs.Run.{PacketRun, packets_run, packet_run, first_state, NoneWaits, NeverWaits, never_after, leave as leave_packets, enter as enter_packets}
 use Rattle.un_plain.specs.Plain.{IsPlain, ArePlainOps}
-use Rattle.un_plain_ext.specs.PlainExt.{kind_of, name_operand, plain_ext, plain_block, kept_registers, saved_count, no_temps, in_op, reads, assigned, body_op, body_ops, current_after, return_op, out_op, saved_operands}
+use Rattle.un_plain_ext.specs.PlainExt.{kind_of, name_operand, plain_ext, plain_block, kept_registers, saved_count, no_temps, in_op, assigned, body_ops, current_after, saved_operands}
 use Rattle.un_simulation.specs.Simulation.{Simulates, Agrees, Keeps, CanStart}
 use Rattle.un_model.specs.declared.model.Options.{Options}
 use Rattle.un_model.specs.declared.model.Model.{Model}
@@ -39,11 +37,11 @@ use Rattle.un_model.specs.declared.model.Solution.{Solution}
 use Rattle.un_model.specs.Registers.{is_assignable, is_home, is_home_in, is_register, reads_value, saved_registers}
 use Rattle.un_model.specs.Solutions.{IsSolution}
 use Rattle.un_model.specs.Variables.{model_of, block_vars, own_horizon}
-use Rattle.un_emit.specs.Emission.{emitted, block_code, packet_in, instrs_in, or_nop, start_place}
-use Rattle.un_emit.proofs.Packets.{Plan, Read, IsApartPlan, Stands, Facts, Ends, runs, packet_at, instrs, tail_in, is_false}
+use Rattle.un_emit.specs.Emission.{emitted, block_code, packet_in, or_nop, start_place}
+use Rattle.un_emit.proofs.Packets.{Read, IsApartPlan, Stands, Facts, runs, packet_at, is_false}
 use Rattle.un_emit.proofs.Holds.{filtered, below_range, place_of, apart_by, spans_by, quick_by}
-use Rattle.un_emit.proofs.Walk.{Scene, plan, Defined, NotStack, ending, Walked, walk, steps_of, code_in}
-use Rattle.un_emit.proofs.Source.{results, Gives, gives_by, Computes, computes, all_fit, Names}
+use Rattle.un_emit.proofs.Walk.{plan, Defined, NotStack, ending, Walked, walk, steps_of, code_in}
+use Rattle.un_emit.proofs.Source.{results, gives_by, Computes, computes, all_fit}
 use Rattle.un_emit.proofs.Scenes.{saved_is, ext_of, returning, model_for, scene, rest_of, first_of, ahead, Starts, starts}
 use Rattle.un_emit.proofs.Live.{none_live}
 

@@ -1,8 +1,8 @@
 -- What a solution says of the operations of a plain function's extended block, one after another.
-use Rattle.std.proofs.Common.{◌≡◌, ◌≢◌, ℕ, zero, suc, ◌+◌, ◌-◌, ◌<◌, ◌≤◌, max, ◌⊎◌, inl, inr, ⊎_elim, Bool, true, false, ◌||◌, List, [], ◌∷◌, ◌++◌, length, map, get_or, set, Option, Some, None, refl, sym, ap, ◌∙◌, subst, arith}
+use Rattle.std.proofs.Common.{◌≡◌, ◌≢◌, ℕ, zero, suc, ◌+◌, ◌-◌, ◌<◌, ◌≤◌, ⊎_elim, Bool, true, false, ◌||◌, List, [], ◌∷◌, ◌++◌, length, map, Option, Some, None, refl, sym, ap, ◌∙◌, subst, arith}
 use Rattle.std.specs.Prelude.{slice_get, slice_index, nat_eq, Contains, if◌then◌else◌}
 use Rattle.std.specs.List.{flat_map, range_with_len, AllByRecursion}
-use Rattle.std.proofs.lemmas.Bool.{cases_eq, cases_lt, eq-eqb}
+use Rattle.std.proofs.lemmas.Bool.{cases_eq, eq-eqb}
 use Rattle.std.proofs.lemmas.List.{get_or-set_same, get_or-set_other, length-set, length-map}
 use Rattle.un_base.specs.declared.ids.NameId.{NameId}
 use Rattle.un_base.specs.declared.ids.TempId.{TempId}
@@ -13,14 +13,12 @@ use Rattle.un_isa.specs.declared.instr.Instr.{Instr}
 use Rattle.un_isa.specs.declared.reg.Reg.{Reg}
 use Rattle.un_isa.specs.declared.table.Table.{Table}
 use Rattle.un_ir.specs.declared.function.SrcOp.{SrcOp}
-use Rattle.un_ir.specs.declared.function.Term.{Term}
 use Rattle.un_ir.specs.declared.function.Term.TheVariants.{Ret}
 use Rattle.un_ir.specs.declared.extended.ExtKind.{ExtKind}
 use Rattle.un_ir.specs.declared.extended.ExtKind.TheVariants.{Body, Out}
 use Rattle.un_ir.specs.declared.extended.Operand.{Operand}
 use Rattle.un_ir.specs.declared.extended.ExtOp.{ExtOp}
 use Rattle.un_ir.specs.declared.extended.ExtBlock.{ExtBlock}
-use Rattle.un_domains.specs.declared.domain.Domain.{Domain}
 use Rattle.un_plain.specs.Plain.{IsPlainOp, constant, addition, ArePlainOps, assigned_after}
 use Rattle.un_plain_ext.specs.PlainExt.{temp, reads, assigned, body_op, body_ops, current_after, return_op, out_op, saved_operands, kept_registers}
 use Rattle.un_model.specs.declared.model.Options.{Options}
@@ -30,15 +28,14 @@ use Rattle.un_model.specs.declared.model.Model.{Model}
 use Rattle.un_model.specs.declared.model.Solution.{Solution}
 use Rattle.un_model.specs.declared.schedule.Issue.{Issue}
 use Rattle.un_model.specs.declared.schedule.Read.{Read as Reading}
-use Rattle.un_model.specs.declared.schedule.Hold.{Hold}
 use Rattle.un_model.specs.Pairs.{pairs_from}
 use Rattle.un_model.specs.Registers.{is_assignable, is_home, general_registers}
 use Rattle.un_model.specs.Schedules.{chosen, issue_of, op_reads, read_of as reading_of}
 use Rattle.un_model.specs.Solutions.{InDomain, IsPlaced}
-use Rattle.un_model.specs.Variables.{op_domains, op_vars, ops_domains, ops_vars, ops_temps, register_place, register_domain, register_domains, choice_domain, var_at}
+use Rattle.un_model.specs.Variables.{op_domains, op_vars, ops_domains, ops_vars, ops_temps, register_place, register_domain, choice_domain, var_at}
 use Rattle.un_emit.specs.Emission.{register_by, register_of, issued}
-use Rattle.un_emit.proofs.Packets.{Plan, Step, Constant, Sum, Read, instr, where_in, instrs, tail_in, jump_by, at, is_false}
-use Rattle.un_emit.proofs.Holds.{split, InDomains, split_domains, IsFitRead, IsDefined, plan_of, held_is, hold_from, from_by, lat_by, read_of, only_choice, passes, home_of}
+use Rattle.un_emit.proofs.Packets.{Plan, Step, Constant, Sum, Read, instr, where_in, instrs, tail_in, jump_by, is_false}
+use Rattle.un_emit.proofs.Holds.{split, InDomains, split_domains, IsFitRead, IsDefined, plan_of, held_is, from_by, lat_by, read_of, only_choice, passes, home_of}
 
 -- a solution of the model of one block
 pub record Scene : Type 0 where

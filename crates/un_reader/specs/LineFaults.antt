@@ -7,8 +7,7 @@ use Rattle.un_isa.specs.declared.op.Op.{Op}
 use Rattle.un_isa.specs.declared.op.Op.TheVariants.{Imm, Addi, Andi, Ori, Mux, CmpEq, CmpGt, CmpGtu, CmpEqi, CmpGti, Asl, Asr, Lsr, Load, Store}
 use Rattle.un_ir.specs.declared.function.Kind.{Kind}
 use Rattle.un_ir.specs.declared.function.Kind.TheVariants.{General, Pred}
-use Rattle.un_ir.specs.declared.function.TheConstants.{BLOCKS, OPS, NAMES, FREQUENCY}
-use Rattle.un_reader.specs.declared.limits.TheConstants.{PARAMS}
+use Rattle.un_ir.specs.declared.function.TheConstants.{BLOCKS, OPS, NAMES, FREQUENCY, PARAMS}
 use Rattle.un_reader.specs.declared.token.Number.{Number}
 use Rattle.un_reader.specs.declared.line.TermLine.{TermLine}
 use Rattle.un_reader.specs.declared.line.TermLine.TheVariants.{Jump, Branch, Ret}

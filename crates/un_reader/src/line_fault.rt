@@ -8,7 +8,6 @@ ghost use Rattle.un_reader.specs.LineFaults.{is_plain_byte, has_repeat, is_mispl
 use crate::before::{Before, same_kind};
 use crate::fault::Fault;
 use crate::forms::is_text;
-use crate::limits::PARAMS;
 use crate::line::{Line, OpLine, TermLine};
 use crate::names::Names;
 use crate::new_names::new_names;
@@ -16,7 +15,7 @@ use crate::token::Number;
 use std::alloc::Global;
 use un_base::memory_error::NoMemory;
 use un_base::name::Name;
-use un_ir::function::{BLOCKS, FREQUENCY, Kind, NAMES, OPS};
+use un_ir::function::{BLOCKS, FREQUENCY, Kind, NAMES, OPS, PARAMS};
 use un_isa::op::Op;
 
 /// Whether it is a tab, or a byte from a space to a tilde.
@@ -149,9 +148,9 @@ fn is_over_limit(before: &Before, line: &Line) -> bool
     ensures { result ≡ is_over_limit before.now line.now }
 {
     match line {
-        Line::Func { params, .. } => PARAMS < params.len(),
+        Line::Func { params, .. } => (PARAMS as usize) < params.len(),
         Line::Block { .. } => (BLOCKS as usize) <= before.labels.len(),
-        Line::Operation(o) => PARAMS < o.srcs.len() || (OPS as usize) <= before.ops,
+        Line::Operation(o) => (PARAMS as usize) < o.srcs.len() || (OPS as usize) <= before.ops,
         _ => false,
     }
 }

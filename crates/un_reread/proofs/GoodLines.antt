@@ -11,10 +11,9 @@ use Rattle.un_ir.specs.declared.function.SrcOp.{SrcOp}
 use Rattle.un_ir.specs.declared.function.Term.{Term}
 use Rattle.un_ir.specs.declared.function.Term.TheVariants.{Fall, Jump as JumpTo, Branch as BranchTo, Ret as Return}
 use Rattle.un_ir.specs.declared.function.Block.{Block as SourceBlock}
-use Rattle.un_ir.specs.declared.function.TheConstants.{FREQUENCY}
+use Rattle.un_ir.specs.declared.function.TheConstants.{FREQUENCY, PARAMS}
 use Rattle.un_ir.specs.Text.{Names, label_of}
 use Rattle.un_ir.specs.WellFormed.{IsWellFormed, IsGoodOp, IsGoodBlock, TestsItsKind}
-use Rattle.un_reader.specs.declared.limits.TheConstants.{PARAMS}
 use Rattle.un_reader.specs.declared.line.TermLine.TheVariants.{Jump, Branch, Ret}
 use Rattle.un_reader.specs.declared.line.Line.{Line}
 use Rattle.un_reader.specs.declared.line.Line.TheVariants.{Func, Block, Operation, Terminator}

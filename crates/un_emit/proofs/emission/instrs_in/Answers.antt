@@ -1,4 +1,4 @@
-use Rattle.std.proofs.Common.{◌++◌, ◌≡◌, ◌∙◌, ap, arith}
+use Rattle.std.proofs.Common.{arith}
 use Rattle.un_model.specs.Cost.{value_of}
 use Rattle.un_model.proofs.PairSteps.{joined_more, joined_all}
 use Rattle.un_emit.specs.Emission.{issued}
