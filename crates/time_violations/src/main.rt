@@ -2,6 +2,8 @@
 //! `bench/violations.sh` times it.
 #![tactic(auto)]
 
+ghost use Rattle.std.specs.Prelude.{IfSome};
+ghost use Rattle.un_plain.specs.Plain.{IsPlain};
 ghost use Rattle.un_model.specs.Straight.{IsModel, IsStraightExt};
 
 use std::alloc::Global;
@@ -10,6 +12,7 @@ use un_base::files::StdSource;
 use un_base::memory_error::NoMemory;
 use un_base::transfer::read_all;
 use un_built::plain::is_plain;
+use un_ir::function::Function;
 use un_model::model::{Model, Solution};
 use un_model::violations::violations;
 use un_plain_solution::plain_model::plain_model;
@@ -32,15 +35,21 @@ fn broken(alloc: Global, m: &Model, s: &Solution) -> Result<u64, NoMemory>
     Ok(count)
 }
 
-/// The same for the plain solution of the function that a text is, where it is a plain one.
-fn broken_by(alloc: Global, text: &[u8]) -> Option<u64> {
+/// The same for the plain solution of a plain function.
+fn broken_by(alloc: Global, f: &Function) -> Result<u64, NoMemory>
+    requires { IsPlain f.now }
+{
+    let m = plain_model(alloc, f)?;
+    let s = plain_solution(alloc, f, &m)?;
+    broken(alloc, &m, &s)
+}
+
+/// The plain function that a text is.
+fn plain(alloc: Global, text: &[u8]) -> Option<Function>
+    ensures { IfSome result (λ f. IsPlain f) }
+{
     let f = read_function(alloc, text).ok()?;
-    if !is_plain(&f) {
-        return None;
-    }
-    let m = plain_model(alloc, &f).ok()?;
-    let s = plain_solution(alloc, &f, &m).ok()?;
-    broken(alloc, &m, &s).ok()
+    if is_plain(&f) { Some(f) } else { None }
 }
 
 fn main(rt: HostRuntime) -> ExitCode {
@@ -48,11 +57,14 @@ fn main(rt: HostRuntime) -> ExitCode {
     let Ok(text) = read_all(rt.alloc(), &mut source, TEXT) else {
         return ExitCode::from(1);
     };
-    match broken_by(rt.alloc(), text.as_slice()) {
-        Some(count) => {
+    let Some(f) = plain(rt.alloc(), text.as_slice()) else {
+        return ExitCode::from(1);
+    };
+    match broken_by(rt.alloc(), &f) {
+        Ok(count) => {
             let _ = println!(rt; "{} broken", count);
             ExitCode::from(0)
         }
-        None => ExitCode::from(1),
+        Err(_) => ExitCode::from(1),
     }
 }
