@@ -10,3 +10,4 @@ pub mod Rooms
 pub mod SameRoom
 pub mod Symmetric
 pub mod Apart
+pub mod Congruent

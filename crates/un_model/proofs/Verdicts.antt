@@ -40,7 +40,8 @@ solves v m values t h e =
       latencies = h.latencies.0 (kept 5 v.latencies e5.1);
       registers = h.registers.0 (kept 7 v.registers e7.1);
       packets = h.packets.0 (kept 8 v.packets e8.1);
-      homes = h.homes.0 (kept 9 v.homes e9.1);
+      homes = (h.homes.0 (kept 9 v.homes e9.1)).0;
+      congruences = (h.homes.0 (kept 9 v.homes e9.1)).1;
       frame = h.frame.0 (kept 10 v.frame e10.1);
     }
 
@@ -54,6 +55,6 @@ unbroken v m values t h s =
     let f : v.memory ≡ true = h.memory in
     let g : v.registers ≡ true = h.registers.1 s.registers in
     let i : v.packets ≡ true = h.packets.1 s.packets in
-    let j : v.homes ≡ true = h.homes.1 s.homes in
+    let j : v.homes ≡ true = h.homes.1 (s.homes, s.congruences) in
     let k : v.frame ≡ true = h.frame.1 s.frame in
     rw (a, b, c, d, e, f, g, i, j, k) refl

@@ -1,3 +1,4 @@
+pub mod Congruences
 pub mod Cost
 pub mod Homes
 pub mod Instructions

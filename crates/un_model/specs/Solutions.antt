@@ -18,6 +18,7 @@ use Rattle.un_model.specs.declared.schedule.Hold.{Hold}
 use Rattle.un_model.specs.declared.schedule.Schedule.{Schedule}
 use Rattle.un_model.specs.declared.verdict.Verdict.{Verdict}
 use Rattle.un_model.specs.declared.limits.TheConstants.{PACKET, MEM_PLACES, STORE_PLACES, XC_PLACES, CONTROL_PLACES}
+use Rattle.un_model.specs.Congruences.{KeepsCongruences}
 use Rattle.un_model.specs.Cost.{value_of}
 use Rattle.un_model.specs.Schedules.{schedule_of}
 
@@ -150,7 +151,8 @@ HasRoom issues b c = Fits issues b c Instructions × Fits issues b c Accesses ×
 abbrev pub KeepsPackets : Schedule → Type 0
 KeepsPackets t = (b c : ℕ) → HasRoom t.issues b c
 
--- 9: the temporaries that preassigned operands choose have their homes. A preassigned value has its home alone as domain.
+-- 9: the temporaries that preassigned operands choose have their homes, and congruences hold. A preassigned value has its home
+-- alone as domain.
 
 abbrev pub IsHome : Option Reg → Hold → Type 0
 IsHome home h = IfSome home (λ (r : Reg). h.reg ≡ r.0)
@@ -178,6 +180,7 @@ pub record IsSchedule (gap : Hold → Read → ℕ) (domains : List Domain) (m :
   pub registers : KeepsRegisters m.ext.table.clobbered t
   pub packets : KeepsPackets t
   pub homes : KeepsHomes t
+  pub congruences : KeepsCongruences m values t.holds
   pub frame : KeepsFrame m values
 
 abbrev pub IsSolution : Model → Solution → Type 0
@@ -193,7 +196,7 @@ pub record Tells (v : Verdict) (m : Model) (values : List ℕ) (t : Schedule) : 
   pub memory : IsTrue v.memory
   pub registers : IsTrue v.registers ↔ KeepsRegisters m.ext.table.clobbered t
   pub packets : IsTrue v.packets ↔ KeepsPackets t
-  pub homes : IsTrue v.homes ↔ KeepsHomes t
+  pub homes : IsTrue v.homes ↔ (KeepsHomes t × KeepsCongruences m values t.holds)
   pub frame : IsTrue v.frame ↔ KeepsFrame m values
 
 abbrev pub broken : ℕ → Bool → List ℕ

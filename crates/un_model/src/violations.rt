@@ -29,6 +29,7 @@ fn keeps_frame(values: &[u32], flag: VarId) -> bool
 
 /// Which clauses a schedule keeps.
 fn verdict(alloc: Global, m: &Model, values: &[u32], t: &Schedule) -> Result<Verdict, NoMemory>
+    requires { IsStraightExt m.now.ext }
     ensures { IfOk result (λ v. Tells v m.now values.now t.now) }
 {
     let issues = t.issues.as_slice();

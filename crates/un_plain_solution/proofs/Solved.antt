@@ -29,6 +29,9 @@ use Rattle.un_model.specs.Pairs.{pairs_from}
 use Rattle.un_model.specs.declared.model.OpVars.{OpVars}
 use Rattle.un_ir.specs.declared.extended.ExtOp.{ExtOp}
 use Rattle.un_model.specs.declared.model.TempVars.{TempVars}
+use Rattle.un_model.proofs.Congruent.{straight_congruent}
+use Rattle.un_model.specs.Straight.{IsStraightBlock, IsStraightExt}
+use Rattle.un_plain_solution.proofs.Straightness.{straight_block}
 use Rattle.un_model.specs.Solutions.{IsSchedule, IsSolution, InDomain, share_of, IsHeld, ReadsInSpace, LeavesGap, ReadsHome, latency_gap, InSpace, IsPlaced, IsIdleAtZero, HoldsZero, KeepsChoices, KeepsSpaces, KeepsLatencies, KeepsRegisters, KeepsPackets, KeepsHomes}
 use Rattle.un_model.specs.Variables.{model_of, op_domains, op_vars, ops_vars, ops_domains, ops_temps}
 use Rattle.un_model.specs.Registers.{kept_registers}
@@ -282,6 +285,13 @@ no_frame slots name params names label freq os q h lq few =
     let l2 = length-append ds (Range 1 H ∷ []) in
     look (values_by os q) (handed_back ++ (ops_values q 1 os ++ (length os + 1) ∷ 0 ∷ replicate 13 0)) ((length os + 1 + 1) ∷ 0 ∷ []) (model_by (function_by name params names (block_by label freq os q)) slots).flag.0 1 (grouped os q) (omega arith)
 
+-- the extended function is straight
+is_straight : (name : List ℕ) (params : List NameId) (names : List (List ℕ × Kind)) (label : List ℕ) (freq : ℕ) (os : List SrcOp) (q : ℕ) → ArePlainOps 0 os (length names)
+    → IsStraightExt (function_by name params names (block_by label freq os q))
+is_straight name params names label freq os q h =
+    let m = length names in
+    record { one = refl; straight = all_from IsStraightBlock (plain_block HEXAGON m (block_by label freq os q) ∷ []) (straight_block HEXAGON m m q label freq os h, tt) }
+
 solved : (slots : ℕ) (name : List ℕ) (params : List NameId) (names : List (List ℕ × Kind)) (label : List ℕ) (freq : ℕ) (os : List SrcOp) (q : ℕ) → ArePlainOps 0 os (length names) → q < length names → length names ≤ 12
     → IsSolution (model_by (function_by name params names (block_by label freq os q)) slots) (record { values = values_by os q })
 solved slots name params names label freq os q h lq few =
@@ -299,6 +309,7 @@ solved slots name params names label freq os q h lq few =
       registers = k.registers HEXAGON.clobbered;
       packets = k.packets;
       homes = k.homes;
+      congruences = straight_congruent M V (schedule_by by.0 m os q).holds (is_straight name params names label freq os q h);
       frame = no_frame slots name params names label freq os q h lq few;
     } in
     subst (λ (t : Schedule). IsSchedule latency_gap M.domains M V t) (sym by.1) all

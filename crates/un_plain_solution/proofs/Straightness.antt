@@ -33,7 +33,7 @@ straight_body [] n m t current h = tt
 straight_body (o ∷ os) n m t current h =
     ((quiet n o h.0, all_from HasOneAlternative (map (name_operand current) o.srcs) (name_operands current o.srcs)), straight_body os (assigned_after n o.dst) m (t + 1) (assigned current o.dst t) h.1)
 
-straight_block : (t : Table) (names m q : ℕ) (label : List ℕ) (freq : ℕ) (os : List SrcOp) → ArePlainOps 0 os m → IsStraightBlock (plain_block t names (record { label = label; freq = freq; ops = os; term = Ret (Some (record { 0 = q })) }))
+pub straight_block : (t : Table) (names m q : ℕ) (label : List ℕ) (freq : ℕ) (os : List SrcOp) → ArePlainOps 0 os m → IsStraightBlock (plain_block t names (record { label = label; freq = freq; ops = os; term = Ret (Some (record { 0 = q })) }))
 unfolding IsStraightOp IsStraightBlock
 straight_block t names m q label freq os h =
     let term : Term = Ret (Some (record { 0 = q })) in
