@@ -1,5 +1,5 @@
-//! Linear functions and extended functions: every temporary is local to its block, as in the TOPLAS paper's linear SSA
-//! form with copy extension and alternative temporaries.
+//! Live names, linear functions and extended functions: every temporary is local to its block, as in the TOPLAS paper's
+//! linear SSA form with copy extension and alternative temporaries.
 
 ghost use Rattle.std.specs.Prelude.{◌≡◌};
 
@@ -10,6 +10,12 @@ use un_base::name::Name;
 use un_isa::reg::Reg;
 use un_isa::table::Table;
 use un_lists::items::Items;
+
+/// The names that are live at the start of each block, those of a block in the order of their first appearance.
+#[derive(Debug, PartialEq, Eq, Drop)]
+pub struct LiveSets {
+    pub at_start: Items<Items<NameId>>,
+}
 
 /// Which copy of a value or of an operand: the first or second of the value, the first or second of the operand.
 #[derive(Clone, Copy, Debug, PartialEq, Eq)]
