@@ -4,7 +4,7 @@
 
 ghost use Rattle.std.specs.Prelude.{IfSome};
 ghost use Rattle.un_plain.specs.Plain.{IsPlain};
-ghost use Rattle.un_model.specs.Straight.{IsModel, IsStraightExt};
+ghost use Rattle.un_plain_model.specs.Straight.{IsModel, IsStraightExt};
 
 use std::alloc::Global;
 use std::process::ExitCode;
@@ -13,8 +13,8 @@ use un_base::memory_error::NoMemory;
 use un_base::transfer::read_all;
 use un_built::plain::is_plain;
 use un_ir::function::Function;
-use un_model::model::{Model, Solution};
-use un_model::violations::violations;
+use un_plain_model::model::{Model, Solution};
+use un_plain_model::violations::violations;
 use un_plain_solution::plain_model::plain_model;
 use un_plain_solution::plain_solution::plain_solution;
 use un_reader::limits::TEXT;

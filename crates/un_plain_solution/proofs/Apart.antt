@@ -6,10 +6,10 @@ use Rattle.std.proofs.lemmas.Bool.Decides.{nat_tests}
 use Rattle.std.proofs.lemmas.List.Elements.{All-append, All-nil}
 use Rattle.std.proofs.lemmas.List.Kept.{AllPairs-cons}
 use Rattle.un_isa.specs.declared.reg.Space.TheVariants.{R}
-use Rattle.un_model.specs.declared.schedule.Read.{Read}
-use Rattle.un_model.specs.declared.schedule.Hold.{Hold}
-use Rattle.un_model.specs.Schedules.{last_read}
-use Rattle.un_model.specs.Solutions.{ShareNoCycle}
+use Rattle.un_plain_model.specs.declared.schedule.Read.{Read}
+use Rattle.un_plain_model.specs.declared.schedule.Hold.{Hold}
+use Rattle.un_plain_model.specs.Schedules.{last_read}
+use Rattle.un_plain_model.specs.Solutions.{ShareNoCycle}
 use Rattle.un_plain_solution.specs.PlainSolution.{register_of}
 
 -- the hold of the saved value of temporary k in register r

@@ -9,13 +9,13 @@ use Rattle.std.proofs.lemmas.List.Sums.{sum_by-cons}
 use Rattle.un_isa.specs.declared.reg.Space.TheVariants.{R}
 use Rattle.un_base.specs.declared.ids.NameId.{NameId}
 use Rattle.un_ir.specs.declared.function.SrcOp.{SrcOp}
-use Rattle.un_model.specs.declared.schedule.Issue.{Issue}
-use Rattle.un_model.specs.declared.schedule.Read.{Read}
-use Rattle.un_model.specs.declared.schedule.Hold.{Hold}
-use Rattle.un_model.specs.declared.schedule.Role.TheVariants.{Call}
-use Rattle.un_model.specs.declared.schedule.Resource.{Resource}
-use Rattle.un_model.specs.declared.schedule.Resource.TheVariants.{Instructions, Accesses, Stores, Products, Transfers}
-use Rattle.un_model.specs.Solutions.{InSpace, IsHome, IsPlaced, HasRoom, SparesCall, SparesCalls, share_of, taken, issues_at}
+use Rattle.un_plain_model.specs.declared.schedule.Issue.{Issue}
+use Rattle.un_plain_model.specs.declared.schedule.Read.{Read}
+use Rattle.un_plain_model.specs.declared.schedule.Hold.{Hold}
+use Rattle.un_plain_model.specs.declared.schedule.Role.TheVariants.{Call}
+use Rattle.un_plain_model.specs.declared.schedule.Resource.{Resource}
+use Rattle.un_plain_model.specs.declared.schedule.Resource.TheVariants.{Instructions, Accesses, Stores, Products, Transfers}
+use Rattle.un_plain_model.specs.Solutions.{InSpace, IsHome, IsPlaced, HasRoom, SparesCall, SparesCalls, share_of, taken, issues_at}
 use Rattle.un_plain.specs.Plain.{IsPlainOp, constant, addition, ArePlainOps, assigned_after}
 use Rattle.un_plain_ext.specs.PlainExt.{assigned}
 use Rattle.un_plain_solution.proofs.Apart.{saved_hold, saved_holds, body_hold, body_holds, Rising, AllBelow, register_returned, register_below}

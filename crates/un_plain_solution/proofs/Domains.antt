@@ -12,9 +12,9 @@ use Rattle.un_ir.specs.declared.extended.ExtBlock.{ExtBlock}
 use Rattle.un_base.specs.declared.ids.NameId.{NameId}
 use Rattle.un_base.specs.declared.ids.TempId.{TempId}
 use Rattle.un_domains.specs.declared.domain.Domain.{Domain}
-use Rattle.un_model.specs.Registers.{is_assignable, is_home, general_registers}
-use Rattle.un_model.specs.Variables.{ops_domains}
-use Rattle.un_model.specs.Solutions.{InDomain, KeepsDomains}
+use Rattle.un_plain_model.specs.Registers.{is_assignable, is_home, general_registers}
+use Rattle.un_plain_model.specs.Variables.{ops_domains}
+use Rattle.un_plain_model.specs.Solutions.{InDomain, KeepsDomains}
 use Rattle.std.proofs.lemmas.Slice.Zip.{AllZip-long}
 use Rattle.un_plain.specs.Plain.{constant, addition, ArePlainOps}
 use Rattle.un_plain_ext.specs.PlainExt.{temp, assigned, body_ops, return_op, out_op}

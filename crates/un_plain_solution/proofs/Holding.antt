@@ -8,13 +8,13 @@ use Rattle.un_base.specs.declared.ids.NameId.{NameId}
 use Rattle.un_ir.specs.declared.function.SrcOp.{SrcOp}
 use Rattle.un_ir.specs.declared.extended.ExtOp.{ExtOp}
 use Rattle.un_ir.specs.declared.extended.ExtBlock.{ExtBlock}
-use Rattle.un_model.specs.declared.model.TempVars.{TempVars}
-use Rattle.un_model.specs.declared.schedule.Issue.{Issue}
-use Rattle.un_model.specs.declared.schedule.Read.{Read}
-use Rattle.un_model.specs.declared.schedule.Hold.{Hold}
-use Rattle.un_model.specs.Pairs.{pairs_from}
-use Rattle.un_model.specs.Schedules.{hold_of, last_read}
-use Rattle.un_model.specs.Variables.{ops_temps}
+use Rattle.un_plain_model.specs.declared.model.TempVars.{TempVars}
+use Rattle.un_plain_model.specs.declared.schedule.Issue.{Issue}
+use Rattle.un_plain_model.specs.declared.schedule.Read.{Read}
+use Rattle.un_plain_model.specs.declared.schedule.Hold.{Hold}
+use Rattle.un_plain_model.specs.Pairs.{pairs_from}
+use Rattle.un_plain_model.specs.Schedules.{hold_of, last_read}
+use Rattle.un_plain_model.specs.Variables.{ops_temps}
 use Rattle.un_plain.specs.Plain.{constant, addition, ArePlainOps}
 use Rattle.un_plain_ext.specs.PlainExt.{assigned, body_ops}
 use Rattle.un_plain_solution.specs.PlainSolution.{register_of, ops_values}

@@ -10,12 +10,12 @@ use Rattle.un_ir.specs.declared.function.Term.TheVariants.{Ret}
 use Rattle.un_ir.specs.declared.extended.ExtKind.TheVariants.{Body}
 use Rattle.un_ir.specs.declared.extended.ExtOp.{ExtOp}
 use Rattle.un_ir.specs.declared.extended.ExtBlock.{ExtBlock}
-use Rattle.un_model.specs.declared.schedule.Issue.{Issue}
-use Rattle.un_model.specs.declared.schedule.Role.TheVariants.{Border, Transfer}
-use Rattle.un_model.specs.Instructions.{latency_by, needs_by, role_of, result_space, no_needs}
-use Rattle.un_model.specs.Pairs.{pairs_from}
-use Rattle.un_model.specs.Schedules.{issue_of}
-use Rattle.un_model.specs.Variables.{ops_vars, op_vars}
+use Rattle.un_plain_model.specs.declared.schedule.Issue.{Issue}
+use Rattle.un_plain_model.specs.declared.schedule.Role.TheVariants.{Border, Transfer}
+use Rattle.un_plain_model.specs.Instructions.{latency_by, needs_by, role_of, result_space, no_needs}
+use Rattle.un_plain_model.specs.Pairs.{pairs_from}
+use Rattle.un_plain_model.specs.Schedules.{issue_of}
+use Rattle.un_plain_model.specs.Variables.{ops_vars, op_vars}
 use Rattle.un_plain.specs.Plain.{constant, addition, ArePlainOps}
 use Rattle.un_plain_ext.specs.PlainExt.{assigned, body_op, body_ops, return_op, out_op}
 use Rattle.un_plain_solution.specs.PlainSolution.{op_values, ops_values}

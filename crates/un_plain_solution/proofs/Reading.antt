@@ -13,10 +13,10 @@ use Rattle.un_ir.specs.declared.extended.ExtKind.{ExtKind}
 use Rattle.un_ir.specs.declared.extended.ExtKind.TheVariants.{Out}
 use Rattle.un_ir.specs.declared.extended.Operand.{Operand}
 use Rattle.un_ir.specs.declared.extended.ExtBlock.{ExtBlock}
-use Rattle.un_model.specs.declared.schedule.Read.{Read}
-use Rattle.un_model.specs.Pairs.{pairs_from}
-use Rattle.un_model.specs.Schedules.{op_reads, read_of}
-use Rattle.un_model.specs.Variables.{ops_vars}
+use Rattle.un_plain_model.specs.declared.schedule.Read.{Read}
+use Rattle.un_plain_model.specs.Pairs.{pairs_from}
+use Rattle.un_plain_model.specs.Schedules.{op_reads, read_of}
+use Rattle.un_plain_model.specs.Variables.{ops_vars}
 use Rattle.un_plain.specs.Plain.{constant, addition, ArePlainOps}
 use Rattle.un_plain_ext.specs.PlainExt.{temp, reads, assigned, body_ops, out_op}
 use Rattle.un_plain_solution.specs.PlainSolution.{ops_values}

@@ -8,8 +8,8 @@ use Rattle.std.proofs.lemmas.List.{get_or-set_same, get_or-set_other, length-set
 use Rattle.un_base.specs.declared.ids.NameId.{NameId}
 use Rattle.un_isa.specs.declared.reg.Space.TheVariants.{R}
 use Rattle.un_ir.specs.declared.function.SrcOp.{SrcOp}
-use Rattle.un_model.specs.declared.schedule.Read.{Read}
-use Rattle.un_model.specs.Schedules.{last_read, cycle_for}
+use Rattle.un_plain_model.specs.declared.schedule.Read.{Read}
+use Rattle.un_plain_model.specs.Schedules.{last_read, cycle_for}
 use Rattle.un_plain.specs.Plain.{constant, addition, ArePlainOps, assigned_after}
 use Rattle.un_plain_ext.specs.PlainExt.{temp, assigned, current_after}
 

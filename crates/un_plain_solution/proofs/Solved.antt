@@ -15,26 +15,26 @@ use Rattle.un_ir.specs.declared.function.Function.{Function}
 use Rattle.un_ir.specs.declared.extended.Ext.{Ext}
 use Rattle.un_ir.specs.declared.extended.ExtBlock.{ExtBlock}
 use Rattle.un_domains.specs.declared.domain.Domain.TheVariants.{Range}
-use Rattle.un_model.specs.declared.model.Model.{Model}
-use Rattle.un_model.specs.declared.model.Options.{Options}
-use Rattle.un_model.specs.declared.model.Solution.{Solution}
-use Rattle.un_model.specs.declared.schedule.Issue.{Issue}
-use Rattle.un_model.specs.declared.schedule.Read.{Read}
-use Rattle.un_model.specs.declared.schedule.Hold.{Hold}
-use Rattle.un_model.specs.declared.schedule.Schedule.{Schedule}
-use Rattle.un_model.specs.declared.schedule.Resource.{Resource}
-use Rattle.un_model.specs.Cost.{cost_of}
-use Rattle.un_model.specs.Schedules.{schedule_of, issues_of, reads_of, holds_of, issue_of, op_reads}
-use Rattle.un_model.specs.Pairs.{pairs_from}
-use Rattle.un_model.specs.declared.model.OpVars.{OpVars}
+use Rattle.un_plain_model.specs.declared.model.Model.{Model}
+use Rattle.un_plain_model.specs.declared.model.Options.{Options}
+use Rattle.un_plain_model.specs.declared.model.Solution.{Solution}
+use Rattle.un_plain_model.specs.declared.schedule.Issue.{Issue}
+use Rattle.un_plain_model.specs.declared.schedule.Read.{Read}
+use Rattle.un_plain_model.specs.declared.schedule.Hold.{Hold}
+use Rattle.un_plain_model.specs.declared.schedule.Schedule.{Schedule}
+use Rattle.un_plain_model.specs.declared.schedule.Resource.{Resource}
+use Rattle.un_plain_model.specs.Cost.{cost_of}
+use Rattle.un_plain_model.specs.Schedules.{schedule_of, issues_of, reads_of, holds_of, issue_of, op_reads}
+use Rattle.un_plain_model.specs.Pairs.{pairs_from}
+use Rattle.un_plain_model.specs.declared.model.OpVars.{OpVars}
 use Rattle.un_ir.specs.declared.extended.ExtOp.{ExtOp}
-use Rattle.un_model.specs.declared.model.TempVars.{TempVars}
-use Rattle.un_model.proofs.Congruent.{straight_congruent}
-use Rattle.un_model.specs.Straight.{IsStraightBlock, IsStraightExt}
+use Rattle.un_plain_model.specs.declared.model.TempVars.{TempVars}
+use Rattle.un_plain_model.proofs.Congruent.{straight_congruent}
+use Rattle.un_plain_model.specs.Straight.{IsStraightBlock, IsStraightExt}
 use Rattle.un_plain_solution.proofs.Straightness.{straight_block}
-use Rattle.un_model.specs.Solutions.{IsSchedule, IsSolution, InDomain, share_of, IsHeld, ReadsInSpace, LeavesGap, ReadsHome, latency_gap, InSpace, IsPlaced, IsIdleAtZero, HoldsZero, KeepsChoices, KeepsSpaces, KeepsLatencies, KeepsRegisters, KeepsPackets, KeepsHomes}
-use Rattle.un_model.specs.Variables.{model_of, op_domains, op_vars, ops_vars, ops_domains, ops_temps}
-use Rattle.un_model.specs.Registers.{kept_registers}
+use Rattle.un_plain_model.specs.Solutions.{IsSchedule, IsSolution, InDomain, share_of, IsHeld, ReadsInSpace, LeavesGap, ReadsHome, latency_gap, InSpace, IsPlaced, IsIdleAtZero, HoldsZero, KeepsChoices, KeepsSpaces, KeepsLatencies, KeepsRegisters, KeepsPackets, KeepsHomes}
+use Rattle.un_plain_model.specs.Variables.{model_of, op_domains, op_vars, ops_vars, ops_domains, ops_temps}
+use Rattle.un_plain_model.specs.Registers.{kept_registers}
 use Rattle.un_plain.specs.Plain.{IsPlain, ArePlainOps, constant, addition, assigned_after}
 use Rattle.un_plain_ext.specs.PlainExt.{plain_ext, plain_block, kind_of, in_op, body_ops, current_after}
 use Rattle.un_plain_solution.specs.PlainSolution.{plain_cost, ops_values, return_values, block_values, plain_values}

@@ -10,7 +10,7 @@ use Rattle.un_ir.specs.declared.function.Term.{Term}
 use Rattle.un_ir.specs.declared.function.Term.TheVariants.{Ret}
 use Rattle.un_ir.specs.declared.function.Block.{Block}
 use Rattle.un_ir.specs.declared.function.Function.{Function}
-use Rattle.un_model.specs.Straight.{HasOneAlternative, IsQuiet, IsStraightOp, IsStraightBlock, IsStraightExt}
+use Rattle.un_plain_model.specs.Straight.{HasOneAlternative, IsQuiet, IsStraightOp, IsStraightBlock, IsStraightExt}
 use Rattle.un_plain.specs.Plain.{IsPlain, IsPlainOp, constant, addition, ArePlainOps, assigned_after}
 use Rattle.un_plain_ext.specs.PlainExt.{kept_registers, saved_count, name_operand, saved_operands, assigned, body_ops, current_after, no_temps, in_op, return_op, out_op, plain_block, plain_ext}
 use Rattle.un_plain_solution.proofs.Clauses.{all_from, both_parts}

@@ -4,8 +4,8 @@ ghost use Rattle.std.specs.Prelude.{◌≡◌, None, IfOk};
 ghost use Rattle.un_isa.specs.Hexagon.{HEXAGON};
 ghost use Rattle.un_plain.specs.Plain.{IsPlain};
 ghost use Rattle.un_plain_ext.specs.PlainExt.{plain_ext};
-ghost use Rattle.un_model.specs.Straight.{IsModel, IsStraightExt};
-ghost use Rattle.un_model.specs.Variables.{model_of};
+ghost use Rattle.un_plain_model.specs.Straight.{IsModel, IsStraightExt};
+ghost use Rattle.un_plain_model.specs.Variables.{model_of};
 
 use crate::straight::straight_ext;
 use std::alloc::Global;
@@ -13,8 +13,8 @@ use un_base::memory_error::NoMemory;
 use un_ir::function::Function;
 use un_isa::reg::SLOTS;
 use un_isa::table::hexagon;
-use un_model::build::build;
-use un_model::model::{Model, Options};
+use un_plain_model::build::build;
+use un_plain_model::model::{Model, Options};
 
 /// The model of a plain function for the processor's table under the default options: all registers may be assigned, and the
 /// frame has all its slots. The answer is `NoMemory` where there is no memory for it.

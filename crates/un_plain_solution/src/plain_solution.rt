@@ -5,9 +5,9 @@ ghost use Rattle.un_isa.specs.Hexagon.{HEXAGON};
 ghost use Rattle.un_ir.specs.declared.function.TheConstants.{OPS};
 ghost use Rattle.un_plain.specs.Plain.{IsPlain};
 ghost use Rattle.un_plain_ext.specs.PlainExt.{kept_registers, saved_count, plain_ext};
-ghost use Rattle.un_model.specs.Cost.{cost_of};
-ghost use Rattle.un_model.specs.Solutions.{IsSolution};
-ghost use Rattle.un_model.specs.Variables.{model_of};
+ghost use Rattle.un_plain_model.specs.Cost.{cost_of};
+ghost use Rattle.un_plain_model.specs.Solutions.{IsSolution};
+ghost use Rattle.un_plain_model.specs.Variables.{model_of};
 ghost use Rattle.un_plain_solution.specs.PlainSolution.{register_of, result_register, op_values, ops_values, returned_by, return_values, block_values, plain_values, plain_cost};
 
 use std::alloc::Global;
@@ -16,7 +16,7 @@ use un_base::memory_error::NoMemory;
 use un_ir::function::{Block, Function, SrcOp, Term};
 use un_isa::table::Table;
 use un_lists::items::Items;
-use un_model::model::{Model, Solution};
+use un_plain_model::model::{Model, Solution};
 use un_plain_ext::extend::kept_registers;
 
 /// The link register, which holds the address to return to.

@@ -3,7 +3,7 @@
 ghost use Rattle.std.specs.Prelude.{◌≡◌, IfOk};
 ghost use Rattle.un_plain.specs.Plain.{IsPlain};
 ghost use Rattle.un_plain_ext.specs.PlainExt.{plain_ext};
-ghost use Rattle.un_model.specs.Straight.{IsStraightExt};
+ghost use Rattle.un_plain_model.specs.Straight.{IsStraightExt};
 
 use std::alloc::Global;
 use un_base::memory_error::NoMemory;

@@ -8,8 +8,8 @@ use crate::plain_solution::plain_solution;
 use std::alloc::Global;
 use un_built::plain::is_plain;
 use un_ir::function::Function;
-use un_model::cost::cost;
-use un_model::violations::violations;
+use un_plain_model::cost::cost;
+use un_plain_model::violations::violations;
 use un_reader::read::read_function;
 
 /// The text of the example.

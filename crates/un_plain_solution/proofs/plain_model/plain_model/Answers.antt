@@ -1,10 +1,10 @@
 use Rattle.std.proofs.Common.{◌≡◌, sym, subst, ap, ◌∙◌}
 use Rattle.un_ir.specs.declared.extended.Ext.{Ext}
 use Rattle.un_isa.specs.declared.table.Table.{Table}
-use Rattle.un_model.specs.declared.model.Options.{Options}
-use Rattle.un_model.specs.declared.model.Model.{Model}
-use Rattle.un_model.specs.Straight.{IsStraightExt}
-use Rattle.un_model.specs.Variables.{model_of}
+use Rattle.un_plain_model.specs.declared.model.Options.{Options}
+use Rattle.un_plain_model.specs.declared.model.Model.{Model}
+use Rattle.un_plain_model.specs.Straight.{IsStraightExt}
+use Rattle.un_plain_model.specs.Variables.{model_of}
 use Rattle.un_plain_ext.specs.PlainExt.{plain_ext}
 use Rattle.un_plain_solution.proofs.plain_model.plain_model.Goals as goal
 

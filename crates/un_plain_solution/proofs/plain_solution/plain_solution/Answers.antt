@@ -1,6 +1,6 @@
 use Rattle.std.proofs.Common.{ℕ, List, ap, sym, subst}
 use Rattle.un_isa.specs.Hexagon.{HEXAGON}
-use Rattle.un_model.specs.declared.model.Model.{Model}
+use Rattle.un_plain_model.specs.declared.model.Model.{Model}
 use Rattle.un_plain_solution.specs.PlainSolution.{plain_cost, plain_values}
 use Rattle.un_plain_solution.proofs.Solved.{SolvesAt, plain_solved}
 use Rattle.un_plain_solution.proofs.Values.{values_are}

@@ -1,5 +1,5 @@
 use Rattle.std.proofs.Common.{sym, subst}
-use Rattle.un_model.specs.Straight.{IsStraightExt}
+use Rattle.un_plain_model.specs.Straight.{IsStraightExt}
 use Rattle.un_plain_solution.proofs.Straightness.{plain_straight}
 use Rattle.un_plain_solution.proofs.straight.straight_ext.Goals as goal
 
