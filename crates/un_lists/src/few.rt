@@ -1,10 +1,13 @@
 //! A short list, as of operands.
 
-ghost use Rattle.std.specs.Prelude.{◌≡◌, ◌<◌, ◌++◌, [], ◌∷◌, length, IfOk, OnOk, OnErr, slice_get, Some};
+ghost use Rattle.std.specs.Prelude.{◌≡◌, ◌^◌, ◌<◌, ◌++◌, ◌↔◌, [], ◌∷◌, length, IsTrue, IfOk, OnOk, OnErr, slice_get, Some};
+ghost use Rattle.std.specs.Iterator.Adapters.{IterYieldsInOrder, IterYieldsInReverse};
+ghost use Rattle.std.specs.Slice.Iter.{iter_rest};
 
 use smallvec::SmallVec;
 use std::alloc::{AllocError, Global};
 use std::marker::Model;
+use std::slice;
 
 /// A list that keeps up to six items without an allocation, which contracts see as the list of its items.
 #[derive(Debug, Drop)]
@@ -51,6 +54,23 @@ impl<T: Default + Drop> Few<T> {
         self.items.as_slice().len()
     }
 
+    /// Whether there is no item.
+    pub fn is_empty(&self) -> bool
+        ensures { IsTrue result ↔ (self.now ≡ []) }
+    {
+        self.items.as_slice().is_empty()
+    }
+
+    /// The items, lent one by one in order, or from the back by `rev`.
+    pub fn iter(&self) -> slice::Iter<'_, T>
+        ensures rest { iter_rest result ≡ self.now }
+        ensures bound { length (iter_rest result) < 2 ^ 64 }
+        ensures runs { IterYieldsInOrder T }
+        ensures runs_back { IterYieldsInReverse T }
+    {
+        self.items.as_slice().iter()
+    }
+
     /// The items, lent.
     pub fn as_slice(&self) -> &[T]
         ensures { result.now ≡ self.now }
@@ -65,6 +85,19 @@ impl<T: Default + Drop> Few<T> {
     {
         self.items.push(item)?;
         Ok(())
+    }
+}
+
+impl<'a, T: Default + Drop> IntoIterator for &'a Few<T> {
+    type Item = &'a T;
+
+    type IntoIter = slice::Iter<'a, T>;
+
+    ghost into_iter_gives = { λ list it. (iter_rest it ≡ list.now) × (length (iter_rest it) < 2 ^ 64)
+        × IterYieldsInOrder T × IterYieldsInReverse T };
+
+    fn into_iter(self) -> slice::Iter<'a, T> {
+        self.iter()
     }
 }
 
