@@ -17,6 +17,9 @@ rest_of n bs = take (length bs - n) (drop n bs)
 pub rest_of-drop : (n : ℕ) (bs : List ℕ) → rest_of n bs ≡ drop n bs
 rest_of-drop n bs = take_all (length bs - n) (drop n bs) (omega (arith, length-drop n bs))
 
+pub length-rest_of : (n : ℕ) (bs : List ℕ) → length (rest_of n bs) ≡ length bs - n
+length-rest_of n bs = ap length (rest_of-drop n bs) ∙ length-drop n bs
+
 -- a call that takes m more bytes appends the front that is so much longer
 pub front_longer : (a b c : Option (List ℕ)) (n m : ℕ) (bs : List ℕ) → Appends a b (take n bs) → Appends b c (take m (rest_of n bs)) → Appends a c (take (n + m) bs)
 front_longer a b c n m bs p q =

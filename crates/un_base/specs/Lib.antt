@@ -4,4 +4,5 @@ pub mod Lines
 pub mod LinesLeft
 pub mod Memory
 pub mod Names
+pub mod Pace
 pub mod Statuses

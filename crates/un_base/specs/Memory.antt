@@ -1,8 +1,20 @@
 -- What a source and a sink in memory were made of, and what their next call answers.
-use Rattle.std.specs.Prelude.{ℕ, Bool, ◌==◌, ◌-◌, min, List, length}
+use Rattle.std.specs.Prelude.{ℕ, Bool, ◌==◌, ◌-◌, min, List, Option, Some, length, drop}
 use Rattle.std.specs.List.{list_any}
 use Rattle.un_base.specs.declared.memory.MemSource.{MemSource}
 use Rattle.un_base.specs.declared.memory.MemSink.{MemSink}
+
+-- the bytes that a source has left
+abbrev pub source_left : MemSource → Option (List ℕ)
+source_left source = Some (drop source.at source.bytes.items)
+
+-- how often it has failed
+abbrev pub source_faults : MemSource → ℕ
+source_faults source = source.faults
+
+-- how often it was called, up to the count's last value
+abbrev pub source_calls : MemSource → ℕ
+source_calls source = source.calls
 
 -- how many bytes a call gives at most
 abbrev pub source_piece : MemSource → ℕ
@@ -33,8 +45,20 @@ abbrev pub sink_fails : MemSink → List ℕ
 sink_fails sink = sink.fails.items
 
 -- the bytes that a sink holds
-abbrev pub sink_bytes : MemSink → List ℕ
-sink_bytes sink = sink.bytes.items
+abbrev pub sink_held : MemSink → Option (List ℕ)
+sink_held sink = Some sink.bytes.items
+
+-- how often it has failed
+abbrev pub sink_faults : MemSink → ℕ
+sink_faults sink = sink.faults
+
+-- how often it was called, up to the count's last value
+abbrev pub sink_calls : MemSink → ℕ
+sink_calls sink = sink.calls
+
+-- whether it holds as many as it may
+abbrev pub sink_is_full : MemSink → Bool
+sink_is_full sink = length sink.bytes.items == sink.room
 
 -- whether the next call is one of those that fail
 abbrev pub sink_fails_next : MemSink → Bool

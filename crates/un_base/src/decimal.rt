@@ -67,32 +67,3 @@ pub fn write_decimal(_alloc: Global, out: &mut Vec<u8>, n: u64) -> Result<(), No
     out.extend_from_slice(buffer.format(n).as_bytes())?;
     Ok(())
 }
-
-#[cfg(test)]
-mod tests {
-    use super::*;
-    use std::test::Fail;
-
-    #[test]
-    fn reads_numbers(rt: HostRuntime) {
-        assert_eq!(rt; read_decimal(b"0"), Some(0));
-        assert_eq!(rt; read_decimal(b"4096"), Some(4096));
-        assert_eq!(rt; read_decimal(b"18446744073709551615"), Some(u64::MAX));
-        assert_eq!(rt; read_decimal(b"18446744073709551616"), None);
-        assert_eq!(rt; read_decimal(b"99999999999999999999999"), None);
-        assert_eq!(rt; read_decimal(b""), None);
-        assert_eq!(rt; read_decimal(b"007"), None);
-        assert_eq!(rt; read_decimal(b"00"), None);
-        assert_eq!(rt; read_decimal(b"+7"), None);
-        assert_eq!(rt; read_decimal(b"7 "), None);
-    }
-
-    #[test]
-    fn writes_numbers(rt: HostRuntime) -> Result<(), Fail> {
-        let mut out = Vec::from_slice(rt.alloc(), b"cost ")?;
-        write_decimal(rt.alloc(), &mut out, 0)?;
-        write_decimal(rt.alloc(), &mut out, u64::MAX)?;
-        assert_eq!(rt; out.as_slice(), b"cost 018446744073709551615".as_slice());
-        Ok(())
-    }
-}

@@ -1,9 +1,51 @@
 //! The outside over std's readers and writers: the trusted edge. They tell the bytes where the reader or writer does.
 
-ghost use Rattle.std.specs.Prelude.{◌≡◌};
+ghost use Rattle.std.specs.Prelude.{◌≡◌, ℕ, ◌<◌, Ok, Err, IsErr};
+ghost use Rattle.un_base.specs.Causes.{HasCause, HasWriteCause};
 
 use crate::outside::{Failed, Sink, Source};
+use std::io;
 use std::io::{Read, Write};
+
+/// What a reader answered, as a source answers it: its error is a failure, and the count rises there alone.
+fn read_answer(answer: io::Result<usize>, faults: &mut u64) -> Result<usize, Failed>
+    ensures given { (n : ℕ) → answer ≡ Ok n → result ≡ Ok n }
+    ensures failed { IsErr answer → IsErr result }
+    ensures cause { HasCause faults.old faults.new result }
+{
+    match answer {
+        Ok(count) => Ok(count),
+        Err(_) => {
+            *faults = faults.saturating_add(1);
+            Err(Failed)
+        }
+    }
+}
+
+/// What a writer answered to so many bytes, as a sink answers it: its error is a failure, and the count rises there and
+/// where it took nothing of some bytes.
+fn write_answer(
+    answer: io::Result<usize>,
+    offered: usize,
+    faults: &mut u64,
+) -> Result<usize, Failed>
+    ensures taken { (n : ℕ) → answer ≡ Ok n → result ≡ Ok n }
+    ensures failed { IsErr answer → IsErr result }
+    ensures cause { HasWriteCause faults.old faults.new result offered }
+{
+    match answer {
+        Ok(count) => {
+            if count == 0 && offered > 0 {
+                *faults = faults.saturating_add(1);
+            }
+            Ok(count)
+        }
+        Err(_) => {
+            *faults = faults.saturating_add(1);
+            Err(Failed)
+        }
+    }
+}
 
 /// A source over a reader of std. Each error of the reader is a fault; an answer of no bytes is the end.
 #[derive(Drop)]
@@ -30,13 +72,8 @@ impl<R: Read> Source for StdSource<R> {
     ghost calls = { λ s. 0 };
 
     fn read(&mut self, buf: &mut [u8]) -> Result<usize, Failed> {
-        match self.reader.read(buf) {
-            Ok(count) => Ok(count),
-            Err(_) => {
-                self.faults = self.faults.saturating_add(1);
-                Err(Failed)
-            }
-        }
+        let answer = self.reader.read(buf);
+        read_answer(answer, &mut self.faults)
     }
 }
 
@@ -65,37 +102,7 @@ impl<W: Write> Sink for StdSink<W> {
     ghost calls = { λ s. 0 };
 
     fn write(&mut self, bytes: &[u8]) -> Result<usize, Failed> {
-        match self.writer.write(bytes) {
-            Ok(count) => {
-                if count == 0 && bytes.len() > 0 {
-                    self.faults = self.faults.saturating_add(1);
-                }
-                Ok(count)
-            }
-            Err(_) => {
-                self.faults = self.faults.saturating_add(1);
-                Err(Failed)
-            }
-        }
-    }
-}
-
-#[cfg(test)]
-mod tests {
-    use super::*;
-    use crate::transfer::{read_all, write_all};
-    use std::test::Fail;
-
-    #[test]
-    fn passes_bytes_through(rt: HostRuntime) -> Result<(), Fail> {
-        let mut src = StdSource::new(b"block e freq 1".as_slice());
-        let text = read_all(rt.alloc(), &mut src, 99)?;
-        assert_eq!(rt; text.as_slice(), b"block e freq 1".as_slice());
-
-        let mut out = Vec::new(rt.alloc());
-        let mut sink = StdSink::new(&mut out);
-        write_all(&mut sink, text.as_slice())?;
-        assert_eq!(rt; out.as_slice(), b"block e freq 1".as_slice());
-        Ok(())
+        let answer = self.writer.write(bytes);
+        write_answer(answer, bytes.len(), &mut self.faults)
     }
 }

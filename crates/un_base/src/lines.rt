@@ -69,20 +69,3 @@ impl<'a> Iterator for LineIter<'a> {
         Some(line)
     }
 }
-
-#[cfg(test)]
-mod tests {
-    use super::*;
-
-    #[test]
-    fn lends_each_line(rt: HostRuntime) {
-        let mut left = lines(b"first\r\n\nlast");
-        assert_eq!(rt; left.next(), Some(b"first\r".as_slice()));
-        assert_eq!(rt; left.next(), Some(b"".as_slice()));
-        assert_eq!(rt; left.next(), Some(b"last".as_slice()));
-        assert_eq!(rt; left.next(), None);
-        assert_eq!(rt; lines(b"").count(), 0);
-        assert_eq!(rt; lines(b"one\n").count(), 1);
-        assert_eq!(rt; lines(b"\n\n").count(), 2);
-    }
-}

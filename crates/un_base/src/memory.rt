@@ -1,9 +1,9 @@
 //! The outside in memory, for tests and for callers that have the bytes at hand.
 
-ghost use Rattle.std.specs.Prelude.{◌≡◌, ℕ, ◌+◌, ◌-◌, ◌<◌, ◌≤◌, ◌^◌, ◌++◌, min, List, Option, Some, None, [], length, take, drop, true, false, IfOk, IsOk, IsErr, OnOk, OnErr, vec_capacity};
+ghost use Rattle.std.specs.Prelude.{◌≡◌, ℕ, ◌+◌, ◌-◌, ◌<◌, ◌≤◌, ◌^◌, ◌++◌, ◌⊎◌, min, List, Option, Some, None, [], length, take, drop, true, false, IfOk, IfSome, IsErr, vec_capacity};
 ghost use Rattle.std.specs.Io.{ReadsAtMost, WritesAtMost};
 ghost use Rattle.std.specs.Io.KnownBytes.{ReadConsumes, WriteAppends};
-ghost use Rattle.un_base.specs.Causes.{HasCause, Rose};
+ghost use Rattle.un_base.specs.Causes.{HasCause, HasWriteCause};
 
 use crate::memory_error::NoMemory;
 use crate::outside::{Failed, Sink, Source};
@@ -40,7 +40,7 @@ pub struct MemSource {
 }
 
 impl MemSource {
-    ghost use Rattle.un_base.specs.Memory.{source_piece, source_fails, source_fails_next, source_gives_next};
+    ghost use Rattle.un_base.specs.Memory.{source_piece, source_fails};
 
     /// The source that has these bytes left and was not called yet. `piece` is at least 1.
     pub fn new(bytes: Vec<u8>, piece: usize, fails: Vec<u64>) -> MemSource
@@ -60,15 +60,26 @@ impl MemSource {
             faults: 0,
         }
     }
+}
 
-    /// Does what `Source::read` does, and says exactly which calls fail and how many bytes the others give.
-    ///
-    /// # Errors
-    /// `Failed` exactly where this call's number was named.
-    pub fn give(&mut self, buf: &mut [u8]) -> Result<usize, Failed>
-        ensures bytes { ReadConsumes (⟦<MemSource as Source>⟧.left self.old) (⟦<MemSource as Source>⟧.left self.new) result buf.new }
-        ensures cause { HasCause (⟦<MemSource as Source>⟧.faults self.old) (⟦<MemSource as Source>⟧.faults self.new) result }
-        ensures call { ⟦<MemSource as Source>⟧.calls self.new ≡ min (⟦<MemSource as Source>⟧.calls self.old + 1) (2 ^ 64 - 1) }
+impl Source for MemSource {
+    ghost use Rattle.un_base.specs.Memory.{source_left, source_faults, source_calls, source_piece, source_fails, source_fails_next, source_gives_next};
+
+    ghost left = { source_left };
+
+    ghost faults = { source_faults };
+
+    ghost calls = { source_calls };
+
+    /// Fails exactly where the number of this call was named, and else gives as many bytes as the piece, what is left
+    /// and the buffer allow.
+    fn read(&mut self, buf: &mut [u8]) -> Result<usize, Failed>
+        ensures bound { ReadsAtMost result buf.new }
+        ensures bytes { ReadConsumes (source_left self.old) (source_left self.new) result buf.new }
+        ensures cause { HasCause (source_faults self.old) (source_faults self.new) result }
+        ensures call { source_calls self.new ≡ min (source_calls self.old + 1) (2 ^ 64 - 1) }
+
+        // Which calls fail, and how many bytes the others give.
         ensures fails { source_fails_next self.old ≡ true → IsErr result }
         ensures gives { source_fails_next self.old ≡ false → result ≡ Ok (source_gives_next self.old (length buf.old)) }
         ensures same_piece { source_piece self.new ≡ source_piece self.old }
@@ -83,18 +94,6 @@ impl MemSource {
         let count = copy_front(&self.bytes, self.at, self.piece, buf);
         self.at += count;
         Ok(count)
-    }
-}
-
-impl Source for MemSource {
-    ghost left = { λ s. Some (drop s.at s.bytes.items) };
-
-    ghost faults = { λ s. s.faults };
-
-    ghost calls = { λ s. s.calls };
-
-    fn read(&mut self, buf: &mut [u8]) -> Result<usize, Failed> {
-        self.give(buf)
     }
 }
 
@@ -145,7 +144,7 @@ pub struct MemSink {
 }
 
 impl MemSink {
-    ghost use Rattle.un_base.specs.Memory.{sink_room, sink_piece, sink_fails, sink_bytes, sink_fails_next, sink_takes_next};
+    ghost use Rattle.un_base.specs.Memory.{sink_room, sink_piece, sink_fails};
 
     /// The sink that holds nothing and was not called yet. It takes memory for `room` bytes at once, so a write takes
     /// none. `piece` is at least 1.
@@ -183,18 +182,34 @@ impl MemSink {
     {
         self.bytes.as_slice()
     }
+}
 
-    /// Does what `Sink::write` does, and says exactly which calls fail and how many bytes the others take.
-    ///
-    /// # Errors
-    /// `Failed` exactly where this call's number was named, or the sink is full.
-    pub fn take(&mut self, bytes: &[u8]) -> Result<usize, Failed>
-        ensures bytes { WriteAppends (⟦<MemSink as Sink>⟧.held self.old) (⟦<MemSink as Sink>⟧.held self.new) result bytes.now }
-        ensures cause { HasCause (⟦<MemSink as Sink>⟧.faults self.old) (⟦<MemSink as Sink>⟧.faults self.new) result }
-        ensures call { ⟦<MemSink as Sink>⟧.calls self.new ≡ min (⟦<MemSink as Sink>⟧.calls self.old + 1) (2 ^ 64 - 1) }
+impl Sink for MemSink {
+    ghost use Rattle.un_base.specs.Memory.{sink_held, sink_faults, sink_calls, sink_room, sink_piece, sink_fails, sink_is_full, sink_fails_next, sink_takes_next};
+
+    ghost held = { sink_held };
+
+    ghost faults = { sink_faults };
+
+    ghost calls = { sink_calls };
+
+    ghost piece = { λ s. Some s.piece };
+
+    ghost is_full = { sink_is_full };
+
+    /// Fails exactly where the number of this call was named or the sink is full, and else takes as many bytes as the
+    /// piece and the room allow.
+    fn write(&mut self, bytes: &[u8]) -> Result<usize, Failed>
+        ensures bound { WritesAtMost result bytes.now }
+        ensures bytes { WriteAppends (sink_held self.old) (sink_held self.new) result bytes.now }
+        ensures cause { HasWriteCause (sink_faults self.old) (sink_faults self.new) result (length bytes.now) }
+        ensures call { sink_calls self.new ≡ min (sink_calls self.old + 1) (2 ^ 64 - 1) }
+        ensures paced { IfOk result (λ n. (min (length bytes.now) (sink_piece self.old) ≤ n) ⊎ (sink_is_full self.new ≡ true)) }
+
+        // Which calls fail, and how many bytes the others take.
         ensures fails { sink_fails_next self.old ≡ true → IsErr result }
-        ensures full { length (sink_bytes self.old) ≡ sink_room self.old → IsErr result }
-        ensures takes { sink_fails_next self.old ≡ false → length (sink_bytes self.old) < sink_room self.old
+        ensures full { sink_is_full self.old ≡ true → IsErr result }
+        ensures takes { sink_fails_next self.old ≡ false → sink_is_full self.old ≡ false
             → result ≡ Ok (sink_takes_next self.old (length bytes.now)) }
         ensures same_room { sink_room self.new ≡ sink_room self.old }
         ensures same_piece { sink_piece self.new ≡ sink_piece self.old }
@@ -217,17 +232,5 @@ impl MemSink {
                 Err(Failed)
             }
         }
-    }
-}
-
-impl Sink for MemSink {
-    ghost held = { λ s. Some s.bytes.items };
-
-    ghost faults = { λ s. s.faults };
-
-    ghost calls = { λ s. s.calls };
-
-    fn write(&mut self, bytes: &[u8]) -> Result<usize, Failed> {
-        self.take(bytes)
     }
 }

@@ -1,16 +1,16 @@
 //! The outside: where bytes come from and where they go to.
 
-ghost use Rattle.std.specs.Prelude.{◌≡◌, ℕ, ◌+◌, ◌<◌, ◌≤◌, List, Option, length};
+ghost use Rattle.std.specs.Prelude.{◌≡◌, ℕ, Bool, true, false, ◌⊎◌, ◌+◌, ◌<◌, ◌≤◌, min, List, Option, None, IfSome, IfOk, IsErr, OnErr, length};
 ghost use Rattle.std.specs.Io.{ReadsAtMost, WritesAtMost};
 ghost use Rattle.std.specs.Io.KnownBytes.{ReadConsumes, WriteAppends};
-ghost use Rattle.un_base.specs.Causes.{HasCause, Rose};
+ghost use Rattle.un_base.specs.Causes.{HasCause, HasWriteCause};
 
 /// The outside has failed. Its count of faults says so too.
 #[derive(Clone, Copy, Debug, PartialEq, Eq)]
 pub struct Failed;
 
 /// Where bytes come from. Contracts see the bytes that are left, where it tells them, a count of faults that never
-/// falls, and a count of its calls.
+/// falls and rises exactly where a call fails, and a count of its calls.
 pub trait Source {
     /// The bytes that are left, where it tells them.
     ghost left: { Self → Option (List ℕ) };
@@ -25,7 +25,7 @@ pub trait Source {
     /// not empty comes exactly at the end of the bytes, where they are told.
     ///
     /// # Errors
-    /// `Failed` only where the count of faults rose; then nothing was taken.
+    /// `Failed` exactly where the count of faults rose; then nothing was taken.
     fn read(&mut self, buf: &mut [u8]) -> Result<usize, Failed>
         ensures bound { ReadsAtMost result buf.new }
         ensures bytes { ReadConsumes (left self.old) (left self.new) result buf.new }
@@ -33,8 +33,8 @@ pub trait Source {
         ensures call { calls self.new ≤ calls self.old + 1 };
 }
 
-/// Where bytes go to. Contracts see the bytes that it holds, where it tells them, a count of faults that never falls,
-/// and a count of its calls.
+/// Where bytes go to. Contracts see the bytes that it holds, where it tells them, a count of faults that never falls
+/// and rises exactly where a call fails or takes nothing of a piece that is not empty, and a count of its calls.
 pub trait Sink {
     /// The bytes that it holds, where it tells them.
     ghost held: { Self → Option (List ℕ) };
@@ -45,6 +45,12 @@ pub trait Sink {
     /// How often it was called. An implementation that does not count gives 0.
     ghost calls: { Self → ℕ };
 
+    /// How many bytes a call takes of as many or more, where it tells. It takes fewer only where it is full then.
+    ghost piece: { Self → Option ℕ } = { λ _. None };
+
+    /// Whether each call with bytes fails from now on.
+    ghost is_full: { Self → Bool } = { λ _. false };
+
     /// Appends a prefix of `bytes` and answers its length. An answer 0 on a piece that is not empty comes only where
     /// the count of faults rose.
     ///
@@ -53,7 +59,9 @@ pub trait Sink {
     fn write(&mut self, bytes: &[u8]) -> Result<usize, Failed>
         ensures bound { WritesAtMost result bytes.now }
         ensures bytes { WriteAppends (held self.old) (held self.new) result bytes.now }
-        ensures cause { HasCause (faults self.old) (faults self.new) result }
+        ensures cause { HasWriteCause (faults self.old) (faults self.new) result (length bytes.now) }
         ensures call { calls self.new ≤ calls self.old + 1 }
-        ensures stuck { result ≡ Ok 0 → 0 < length bytes.now → Rose (faults self.old) (faults self.new) };
+        ensures paced { IfSome (piece self.old) (λ p. IfOk result (λ n. (min (length bytes.now) p ≤ n) ⊎ (is_full self.new ≡ true))) }
+        ensures same_piece { piece self.new ≡ piece self.old }
+        ensures full { is_full self.old ≡ true → 0 < length bytes.now → IsErr result };
 }

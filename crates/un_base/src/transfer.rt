@@ -1,8 +1,9 @@
 //! Whole transfers: all the bytes of a source, and all of a text to a sink.
 
-ghost use Rattle.std.specs.Prelude.{◌≡◌, ℕ, ◌+◌, ◌<◌, ◌≤◌, ◌++◌, List, length, IfSome, IfOk, OnOk, OnErr};
+ghost use Rattle.std.specs.Prelude.{◌≡◌, ◌≢◌, ℕ, ◌+◌, ◌<◌, ◌≤◌, ◌++◌, List, length, IfSome, IfOk, OnOk, OnErr};
 ghost use Rattle.std.specs.Io.KnownBytes.{Consumes, Appends, IsAtEnd};
 ghost use Rattle.un_base.specs.Causes.{Rose, AppendsPrefix};
+ghost use Rattle.un_base.specs.Pace.{IsCallForEach};
 
 use crate::outside::{Failed, Sink, Source};
 use std::alloc::{AllocError, Global};
@@ -47,6 +48,7 @@ const CHUNK: usize = 4096;
 fn read_more<S: Source>(src: &mut S, bytes: &mut Vec<u8>, room: usize) -> Result<usize, ReadAll>
     requires { 0 < room }
     ensures later { S.faults src.old ≤ S.faults src.new }
+    ensures quiet { result ≢ Err ReadAll.ReadFault → S.faults src.new ≡ S.faults src.old }
     ensures call { S.calls src.new ≤ S.calls src.old + 1 }
     ensures fault { result ≡ Err ReadAll.ReadFault → Rose (S.faults src.old) (S.faults src.new) }
     ensures not_long { result ≡ Err ReadAll.TooLong → ⊥ }
@@ -65,13 +67,14 @@ fn read_more<S: Source>(src: &mut S, bytes: &mut Vec<u8>, room: usize) -> Result
 /// Reads all bytes to the end, where there are at most `max`. It calls the source at most `max + 2` times.
 ///
 /// # Errors
-/// - `ReadFault` only where the source's count of faults rose.
+/// - `ReadFault` exactly where the source's count of faults rose.
 /// - `TooLong` exactly where more than `max` bytes came. Then `max + 1` were taken from the source.
 /// - `NoMemory` where there was no memory for the bytes.
 ///
 /// After each of them the source has given what was read.
 pub fn read_all<S: Source>(alloc: Global, src: &mut S, max: usize) -> Result<Vec<u8>, ReadAll>
     ensures later { S.faults src.old ≤ S.faults src.new }
+    ensures quiet { result ≢ Err ReadAll.ReadFault → S.faults src.new ≡ S.faults src.old }
     ensures calls { S.calls src.new ≤ S.calls src.old + (max + 2) }
     ensures fault { result ≡ Err ReadAll.ReadFault → Rose (S.faults src.old) (S.faults src.new) }
     ensures all { IfOk result (λ v. Consumes (S.left src.old) (S.left src.new) v.items
@@ -94,13 +97,16 @@ pub fn read_all<S: Source>(alloc: Global, src: &mut S, max: usize) -> Result<Vec
     Err(ReadAll::TooLong)
 }
 
-/// Writes all bytes. It calls the sink at most as often as there are bytes, and takes no memory.
+/// Writes all bytes. It offers the whole rest at each call: so it calls the sink at most as often as there are bytes,
+/// and at most once for each piece of a sink that tells its piece. It takes no memory.
 ///
 /// # Errors
-/// `Failed` only where the sink's count of faults rose. Then the sink holds a prefix of the bytes more.
+/// `Failed` exactly where the sink's count of faults rose. Then the sink holds a prefix of the bytes more.
 pub fn write_all<K: Sink>(sink: &mut K, bytes: &[u8]) -> Result<(), Failed>
     ensures later { K.faults sink.old ≤ K.faults sink.new }
+    ensures quiet { OnOk result (K.faults sink.new ≡ K.faults sink.old) }
     ensures calls { K.calls sink.new ≤ K.calls sink.old + length bytes.now }
+    ensures whole_rest { OnOk result (IfSome (K.piece sink.old) (λ p. IsCallForEach p (length bytes.now) (K.calls sink.old) (K.calls sink.new))) }
     ensures all { OnOk result (Appends (K.held sink.old) (K.held sink.new) bytes.now) }
     ensures failed { OnErr result (Rose (K.faults sink.old) (K.faults sink.new)) }
     ensures prefix { OnErr result (AppendsPrefix (K.held sink.old) (K.held sink.new) bytes.now) }
@@ -114,74 +120,4 @@ pub fn write_all<K: Sink>(sink: &mut K, bytes: &[u8]) -> Result<(), Failed>
         }
     }
     Ok(())
-}
-
-#[cfg(test)]
-mod tests {
-    use super::*;
-    use crate::memory::{MemSink, MemSource, SureSource};
-    use std::test::Fail;
-
-    #[test]
-    fn reads_in_small_pieces(rt: HostRuntime) -> Result<(), Fail> {
-        let bytes = b"func f".to_vec(rt.alloc())?;
-        let mut src = MemSource::new(bytes, 1, Vec::new(rt.alloc()));
-        let text = read_all(rt.alloc(), &mut src, 6)?;
-        assert_eq!(rt; text.as_slice(), b"func f".as_slice());
-        let rest = read_all(rt.alloc(), &mut src, 0)?;
-        assert_eq!(rt; rest.as_slice(), b"".as_slice());
-        Ok(())
-    }
-
-    #[test]
-    fn refuses_one_byte_too_many(rt: HostRuntime) -> Result<(), Fail> {
-        let bytes = b"func f".to_vec(rt.alloc())?;
-        let mut src = SureSource::new(bytes);
-        assert_eq!(rt;
-            read_all(rt.alloc(), &mut src, 4).err(),
-            Some(ReadAll::TooLong)
-        );
-        let rest = read_all(rt.alloc(), &mut src, 1)?;
-        assert_eq!(rt; rest.as_slice(), b"f".as_slice());
-        Ok(())
-    }
-
-    #[test]
-    fn tells_a_read_fault(rt: HostRuntime) -> Result<(), Fail> {
-        let bytes = b"func f".to_vec(rt.alloc())?;
-        let mut src = MemSource::new(bytes, 4, [1].to_vec(rt.alloc())?);
-        assert_eq!(rt;
-            read_all(rt.alloc(), &mut src, 9).err(),
-            Some(ReadAll::ReadFault)
-        );
-        let rest = read_all(rt.alloc(), &mut src, 9)?;
-        assert_eq!(rt; rest.as_slice(), b" f".as_slice());
-        Ok(())
-    }
-
-    #[test]
-    fn writes_in_small_pieces(rt: HostRuntime) -> Result<(), Fail> {
-        let mut sink = MemSink::new(rt.alloc(), 9, 1, Vec::new(rt.alloc()))?;
-        write_all(&mut sink, b"cost 1")?;
-        write_all(&mut sink, b"")?;
-        assert_eq!(rt; sink.bytes(), b"cost 1".as_slice());
-        Ok(())
-    }
-
-    #[test]
-    fn keeps_a_prefix_where_the_room_ends(rt: HostRuntime) -> Result<(), Fail> {
-        let mut sink = MemSink::new(rt.alloc(), 4, 3, Vec::new(rt.alloc()))?;
-        assert_eq!(rt; write_all(&mut sink, b"cost 1"), Err(Failed));
-        assert_eq!(rt; sink.bytes(), b"cost".as_slice());
-        Ok(())
-    }
-
-    #[test]
-    fn keeps_a_prefix_where_a_call_fails(rt: HostRuntime) -> Result<(), Fail> {
-        let mut sink = MemSink::new(rt.alloc(), 640, 64, [2].to_vec(rt.alloc())?)?;
-        let text = [b'x'; 200];
-        assert_eq!(rt; write_all(&mut sink, &text), Err(Failed));
-        assert_eq!(rt; sink.bytes().len(), 128);
-        Ok(())
-    }
 }

@@ -46,18 +46,3 @@ impl Word {
         self.bytes.as_slice() == text
     }
 }
-
-#[cfg(test)]
-mod tests {
-    use super::*;
-    use std::test::Fail;
-
-    #[test]
-    fn keeps_the_bytes(rt: HostRuntime) -> Result<(), Fail> {
-        let word = Word::new(rt.alloc(), "--nodes")?;
-        assert_eq!(rt; word.as_bytes(), b"--nodes".as_slice());
-        assert!(rt; word.is(b"--nodes"));
-        assert!(rt; !word.is(b"--node"));
-        Ok(())
-    }
-}
