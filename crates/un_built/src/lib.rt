@@ -3,5 +3,3 @@
 
 pub mod odd_line;
 pub mod plain;
-#[cfg(test)]
-mod tests;

@@ -12,13 +12,13 @@ use un_isa::table::Table;
 use un_lists::items::Items;
 
 /// The names that are live at the start of each block, those of a block in the order of their first appearance.
-#[derive(Debug, PartialEq, Eq, Drop)]
+#[derive(PartialEq, Eq, Drop)]
 pub struct LiveSets {
     pub at_start: Items<Items<NameId>>,
 }
 
 /// Which copy of a value or of an operand: the first or second of the value, the first or second of the operand.
-#[derive(Clone, Copy, Debug, PartialEq, Eq)]
+#[derive(Clone, Copy, PartialEq, Eq)]
 pub enum NodeCopy {
     D,
     D2,
@@ -28,7 +28,7 @@ pub enum NodeCopy {
 
 /// What an operation of an extended block is: the values at its start, those at its end, an operation or terminator of the
 /// source, an optional copy, and the optional operations that move the stack pointer.
-#[derive(Debug, PartialEq, Eq, Drop)]
+#[derive(PartialEq, Eq, Drop)]
 pub enum ExtKind {
     In,
     Out,
@@ -57,7 +57,7 @@ impl Clone for ExtKind {
 }
 
 /// An operand: the temporaries that it may choose, in order, and the register to which it is preassigned.
-#[derive(Debug, PartialEq, Eq, Drop)]
+#[derive(PartialEq, Eq, Drop)]
 pub struct Operand {
     pub alts: Items<TempId>,
     pub home: Option<Reg>,
@@ -76,7 +76,7 @@ impl Clone for Operand {
 }
 
 /// An operation of an extended block, with the temporaries that it defines.
-#[derive(Debug, PartialEq, Eq, Drop)]
+#[derive(PartialEq, Eq, Drop)]
 pub struct ExtOp {
     pub kind: ExtKind,
     pub operands: Items<Operand>,
@@ -100,7 +100,7 @@ impl Clone for ExtOp {
 
 /// An extended block. `live_in` are the names of the first values of `In`, `live_out` those that `Out` reads before the
 /// saved values; no cycle of the block is past `horizon`.
-#[derive(Debug, PartialEq, Eq, Drop)]
+#[derive(PartialEq, Eq, Drop)]
 pub struct ExtBlock {
     pub freq: u32,
     pub label: Name,
@@ -129,7 +129,7 @@ impl Clone for ExtBlock {
 }
 
 /// An extended function with its table. `names` has the kind of each name of the function, by its number.
-#[derive(Debug, PartialEq, Eq, Drop)]
+#[derive(PartialEq, Eq, Drop)]
 pub struct Ext {
     pub table: Table,
     pub names: Items<Kind>,
@@ -151,18 +151,10 @@ impl Clone for Ext {
 }
 
 /// A block of a linear function: an extended block without copies, Enter and Leave, with one alternative per operand.
-#[derive(Debug, PartialEq, Eq, Drop)]
-pub struct LssaBlock {
-    pub freq: u32,
-    pub label: Name,
-    pub live_in: Items<NameId>,
-    pub live_out: Items<NameId>,
-    pub ops: Items<ExtOp>,
-    pub horizon: u32,
-}
+pub type LssaBlock = ExtBlock;
 
-/// A linear function with its table.
-#[derive(Debug, PartialEq, Eq, Drop)]
+/// A linear function with its table. `names` has the kind of each name of the function, by its number.
+#[derive(PartialEq, Eq, Drop)]
 pub struct Lssa {
     pub table: Table,
     pub names: Items<Kind>,

@@ -4,6 +4,4 @@
 pub mod extended;
 pub mod function;
 pub mod print;
-#[cfg(test)]
-mod tests;
 pub mod text;

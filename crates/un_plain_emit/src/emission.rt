@@ -25,8 +25,8 @@ use un_isa::op::Op;
 use un_isa::reg::Reg;
 use un_lists::few::Few;
 use un_lists::items::Items;
-use un_plain_model::model::{BlockVars, Model, OpVars, Solution};
 use un_packet::code::{Code, CodeBlock, Packet};
+use un_plain_model::model::{BlockVars, Model, OpVars, Solution};
 
 /// The value of a variable, 0 where there is none.
 fn value(s: &Solution, v: VarId) -> u32

@@ -2,5 +2,3 @@
 #![tactic(auto)]
 
 pub mod extend;
-#[cfg(test)]
-mod tests;

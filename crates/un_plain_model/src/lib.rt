@@ -14,7 +14,5 @@ pub mod placement;
 mod registers;
 pub mod schedule;
 pub mod straight;
-#[cfg(test)]
-mod tests;
 pub mod verdict;
 pub mod violations;

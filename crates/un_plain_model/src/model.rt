@@ -6,14 +6,14 @@ use un_ir::extended::Ext;
 use un_lists::items::Items;
 
 /// Which registers may be assigned, r0 to r(n − 1) or all of r0 to r28 and r31, and how many frame slots there are.
-#[derive(Clone, Copy, Debug, PartialEq, Eq)]
+#[derive(Clone, Copy, PartialEq, Eq)]
 pub struct Options {
     pub regs: Option<u32>,
     pub slots: u32,
 }
 
 /// A temporary: its definer, the value that it carries and the variable of its register.
-#[derive(Clone, Copy, Debug, Default, PartialEq, Eq)]
+#[derive(Clone, Copy, Default, PartialEq, Eq)]
 pub struct TempVars {
     pub op: OpId,
     pub value: TempId,
@@ -21,7 +21,7 @@ pub struct TempVars {
 }
 
 /// The variables of an operation: its instruction where it is optional, its cycle, and the choice of each operand.
-#[derive(Debug, PartialEq, Eq, Drop)]
+#[derive(PartialEq, Eq, Drop)]
 pub struct OpVars {
     pub instr: Option<VarId>,
     pub cycle: Option<VarId>,
@@ -29,14 +29,14 @@ pub struct OpVars {
 }
 
 /// The variables of a block: those of each operation, and its end.
-#[derive(Debug, PartialEq, Eq, Drop)]
+#[derive(PartialEq, Eq, Drop)]
 pub struct BlockVars {
     pub ops: Items<OpVars>,
     pub end: VarId,
 }
 
 /// The variables of an extended function under some options. OpIds and TempIds are numbered over the whole function.
-#[derive(Debug, PartialEq, Eq, Drop)]
+#[derive(PartialEq, Eq, Drop)]
 pub struct Model {
     pub ext: Ext,
     pub options: Options,
@@ -47,7 +47,7 @@ pub struct Model {
 }
 
 /// A value for each variable, in the order of the model.
-#[derive(Debug, PartialEq, Eq, Drop)]
+#[derive(PartialEq, Eq, Drop)]
 pub struct Solution {
     pub values: Items<u32>,
 }

@@ -6,7 +6,7 @@ use un_isa::table::Needs;
 use un_lists::items::Items;
 
 /// What an operation is in its block: the bounds of the block, a control transfer that ends it, a call, or any other.
-#[derive(Clone, Copy, Debug, PartialEq, Eq)]
+#[derive(Clone, Copy, PartialEq, Eq)]
 pub enum Role {
     Border,
     Transfer,
@@ -16,7 +16,7 @@ pub enum Role {
 
 /// What the operations of a packet share: its instructions, its loads and stores, its stores, its multiplications, shifts,
 /// predicate moves and control transfers, and its control transfers.
-#[derive(Clone, Copy, Debug, PartialEq, Eq)]
+#[derive(Clone, Copy, PartialEq, Eq)]
 pub enum Resource {
     Instructions,
     Accesses,
@@ -27,7 +27,7 @@ pub enum Resource {
 
 /// An operation as a solution issues it: its block, whether it is active, its cycle, the block's end, and the latency,
 /// the instructions and the resources of a packet that it takes.
-#[derive(Clone, Copy, Debug, PartialEq, Eq)]
+#[derive(Clone, Copy, PartialEq, Eq)]
 pub struct Issue {
     pub block: BlockId,
     pub role: Role,
@@ -44,7 +44,7 @@ pub struct Issue {
 }
 
 /// A temporary that an operand of an active operation chooses, and the cycle in which the operation issues.
-#[derive(Clone, Copy, Debug, PartialEq, Eq)]
+#[derive(Clone, Copy, PartialEq, Eq)]
 pub struct Read {
     pub temp: TempId,
     pub cycle: u32,
@@ -55,7 +55,7 @@ pub struct Read {
 }
 
 /// The register of a temporary, which it occupies from cycle `from` to cycle `last`, both inclusive.
-#[derive(Clone, Copy, Debug, PartialEq, Eq)]
+#[derive(Clone, Copy, PartialEq, Eq)]
 pub struct Hold {
     pub block: BlockId,
     pub op: OpId,
@@ -68,7 +68,7 @@ pub struct Hold {
 }
 
 /// A solution as a schedule: an issue for each operation and a hold for each temporary, by their numbers.
-#[derive(Debug, PartialEq, Eq, Drop)]
+#[derive(PartialEq, Eq, Drop)]
 pub struct Schedule {
     pub issues: Items<Issue>,
     pub reads: Items<Read>,

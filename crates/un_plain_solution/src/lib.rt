@@ -4,5 +4,3 @@
 pub mod plain_model;
 pub mod plain_solution;
 pub mod straight;
-#[cfg(test)]
-mod tests;

@@ -16,8 +16,8 @@ use un_base::memory_error::NoMemory;
 use un_ir::function::{Block, Function, SrcOp, Term};
 use un_isa::table::Table;
 use un_lists::items::Items;
-use un_plain_model::model::{Model, Solution};
 use un_plain_ext::extend::kept_registers;
+use un_plain_model::model::{Model, Solution};
 
 /// The link register, which holds the address to return to.
 const LINK: u32 = 31;

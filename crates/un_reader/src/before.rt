@@ -17,7 +17,7 @@ use un_lists::items::Items;
 
 /// What stands before a line: the name on the `func` line, the labels, the names in the order of their first
 /// appearance, how many operations there are, and whether a terminator has ended the last block.
-#[derive(Debug, Drop)]
+#[derive(Drop)]
 pub struct Before {
     pub name: Option<Name>,
     pub labels: Items<Name>,
@@ -136,7 +136,7 @@ impl Before {
     ///
     /// # Errors
     /// `NoMemory` where there is no memory for the line's names or label. Then no more is said of the value.
-    pub fn note(&mut self, line: &Line) -> Result<(), NoMemory>
+    pub(crate) fn note(&mut self, line: &Line) -> Result<(), NoMemory>
         requires { self.old.ops < 2 ^ 32 }
         ensures { OnOk result (self.new ≡ noted self.old line.now) }
     {

@@ -82,7 +82,7 @@ fn add_line(
 }
 
 /// The lines of a text, and what would stand before a line behind them.
-#[derive(Debug, Drop)]
+#[derive(Drop)]
 pub struct Checked {
     pub lines: Items<Line>,
     pub before: Before,

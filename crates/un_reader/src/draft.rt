@@ -6,7 +6,7 @@ use un_ir::function::{Block, Kind};
 use un_lists::items::Items;
 
 /// The parts of a function, as `Function` has them.
-#[derive(Debug, Drop)]
+#[derive(Drop)]
 pub struct Draft {
     pub name: Name,
     pub params: Items<NameId>,

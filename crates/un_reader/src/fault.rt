@@ -4,7 +4,7 @@ ghost use Rattle.std.specs.Prelude.{◌≡◌};
 ghost use Rattle.un_reader.specs.Codes.{code_of};
 
 /// A fault of a line or of a whole text.
-#[derive(Clone, Copy, Debug, PartialEq, Eq)]
+#[derive(Clone, Copy, PartialEq, Eq)]
 pub enum Fault {
     /// A byte before the comment is neither a tab nor 32 to 126.
     BadByte,

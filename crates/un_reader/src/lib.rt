@@ -17,13 +17,9 @@ pub mod names;
 mod new_names;
 pub mod number;
 pub mod pieces;
-#[cfg(test)]
-mod print_tests;
 pub mod read;
 pub mod shape;
 pub mod slot;
-#[cfg(test)]
-mod tests;
 pub mod text_fault;
 pub mod token;
 pub mod words;

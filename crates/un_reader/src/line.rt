@@ -8,7 +8,7 @@ use un_lists::items::Items;
 
 /// The line of an operation: its result, its operands in the order of the text, its literal or 0, and the function that
 /// a call calls.
-#[derive(Debug, Drop)]
+#[derive(Drop)]
 pub struct OpLine {
     pub op: Op,
     pub dst: Option<(Name, Kind)>,
@@ -18,7 +18,7 @@ pub struct OpLine {
 }
 
 /// The line of a terminator. A branch jumps where the predicate has the value `sense`.
-#[derive(Clone, Copy, Debug)]
+#[derive(Clone, Copy)]
 pub enum TermLine {
     Jump(Name),
     Branch {
@@ -30,7 +30,7 @@ pub enum TermLine {
 }
 
 /// A line of a text.
-#[derive(Debug, Drop)]
+#[derive(Drop)]
 pub enum Line {
     Blank,
     Func {

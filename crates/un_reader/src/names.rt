@@ -13,7 +13,7 @@ use un_ir::function::Kind;
 use un_lists::items::Items;
 
 /// Names with their kinds, each once. The number of a name is its place. Contracts see it as the list of the names.
-#[derive(Debug, Drop)]
+#[derive(Drop)]
 pub struct Names {
     places: IndexSet<(Name, Kind)>,
 }
@@ -63,7 +63,7 @@ impl Names {
     ///
     /// # Errors
     /// `NoMemory` where there is no memory for it.
-    pub fn add(&mut self, name: &(Name, Kind)) -> Result<(), NoMemory>
+    pub(crate) fn add(&mut self, name: &(Name, Kind)) -> Result<(), NoMemory>
         ensures { OnOk result (self.new ≡ add_name self.old name.now) }
     {
         match self.places.insert(*name) {

@@ -1,7 +1,7 @@
 //! The forms that words of a line have, and the lines that a first word begins.
 
 /// A form of a word: one for each kind of Token that a line may have in a fixed place.
-#[derive(Clone, Copy, Debug)]
+#[derive(Clone, Copy)]
 pub enum Slot {
     Comma,
     Equals,
@@ -12,7 +12,7 @@ pub enum Slot {
 }
 
 /// What kind of line the first word begins.
-#[derive(Clone, Copy, Debug)]
+#[derive(Clone, Copy)]
 pub enum Head {
     /// There is no word.
     Nothing,

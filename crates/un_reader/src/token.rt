@@ -9,7 +9,7 @@ use un_ir::function::Kind;
 
 /// A number of a text: its sign, and its size. Sizes past 2^32 - 1 are kept as that, which no range of the language
 /// reaches.
-#[derive(Clone, Copy, Debug, PartialEq, Eq)]
+#[derive(Clone, Copy, PartialEq, Eq)]
 pub struct Number {
     pub negative: bool,
     pub size: u32,
@@ -17,7 +17,7 @@ pub struct Number {
 
 /// A word: a comma, an equals sign, a name behind `%` or `$`, such a name behind `!`, a number behind `#`, a number, a
 /// name without a sigil, or none of these.
-#[derive(Clone, Copy, Debug)]
+#[derive(Clone, Copy)]
 pub enum Token {
     Comma,
     Equals,

@@ -2,5 +2,3 @@
 #![tactic(auto)]
 
 pub mod read_back;
-#[cfg(test)]
-mod tests;
