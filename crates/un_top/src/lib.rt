@@ -5,6 +5,4 @@ pub mod code;
 pub mod faults;
 pub mod produce;
 pub mod run;
-#[cfg(test)]
-mod tests;
 pub mod words;

@@ -91,6 +91,7 @@ pub fn produce<S: Source>(alloc: Global, words: &[Word], src: &mut S) -> Result<
     ensures read_all { IfOk result (λ out. IsAtEnd (S.left src.new)) }
     ensures usage { (place : ℕ) → result ≡ Err (Status.Usage place) → IsBadWord words.now place }
     ensures unread { (place : ℕ) → result ≡ Err (Status.Usage place) → S.left src.new ≡ S.left src.old }
+    ensures not_called { (place : ℕ) → result ≡ Err (Status.Usage place) → S.calls src.new ≡ S.calls src.old }
     ensures read { result ≡ Err Status.ReadFault → Rose (S.faults src.old) (S.faults src.new) }
     ensures fault { (line code : ℕ) → result ≡ Err (Status.TextFault line code) → IfSome (S.left src.old) (λ text. IsFault text line code) }
     ensures only { IfErr result IsRefusal }

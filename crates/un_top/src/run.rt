@@ -56,6 +56,7 @@ pub fn run<S: Source, K: Sink, E: Sink>(
     ensures answers { IsAnswer result }
     ensures usage { (place : ℕ) → result ≡ Status.Usage place → IsBadWord words.now place }
     ensures unread { (place : ℕ) → result ≡ Status.Usage place → S.left src.new ≡ S.left src.old }
+    ensures not_called { (place : ℕ) → result ≡ Status.Usage place → S.calls src.new ≡ S.calls src.old }
     ensures exactly_usage { (place : ℕ) → IsBadWord words.now place → result ≡ Status.Usage place }
     ensures read { result ≡ Status.ReadFault → Rose (S.faults src.old) (S.faults src.new) }
     ensures fault { (line code : ℕ) → result ≡ Status.TextFault line code
