@@ -5,6 +5,7 @@
 
 pub mod alu;
 pub mod exact;
+pub mod facts;
 pub mod instr;
 pub mod memory;
 pub mod op;
