@@ -4,6 +4,8 @@ pub mod Fit
 pub mod Hexagon
 pub mod Memories
 pub mod Operands
+pub mod PacketCounts
+pub mod RegSets
 pub mod Registers
 pub mod Starts
 pub mod Tables

@@ -10,7 +10,9 @@ pub mod instr;
 pub mod memory;
 pub mod op;
 pub mod outcome;
+pub mod packet_counts;
 pub mod reg;
+pub mod reg_set;
 pub mod start;
 pub mod table;
 #[cfg(test)]
