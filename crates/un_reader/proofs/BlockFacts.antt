@@ -11,21 +11,22 @@ use Rattle.un_ir.specs.declared.function.Kind.{Kind}
 use Rattle.un_ir.specs.declared.function.Kind.TheVariants.{General, Pred}
 use Rattle.un_ir.specs.declared.function.Block.{Block as SourceBlock}
 use Rattle.un_ir.specs.WellFormed.{IsOfKind, IsGoodOp, IsGoodBlock, TestsItsKind}
-use Rattle.un_reader.specs.declared.token.Number.{Number}
-use Rattle.un_reader.specs.declared.line.TermLine.{TermLine}
-use Rattle.un_reader.specs.declared.line.TermLine.TheVariants.{Jump, Branch, Ret}
-use Rattle.un_reader.specs.declared.line.Line.{Line}
-use Rattle.un_reader.specs.declared.line.Line.TheVariants.{Blank, Func, Block, Operation, Terminator}
+use Rattle.un_words.specs.declared.token.Number.{Number}
+use Rattle.un_words.specs.declared.line.TermLine.{TermLine}
+use Rattle.un_words.specs.declared.line.TermLine.TheVariants.{Jump, Branch, Ret}
+use Rattle.un_words.specs.declared.line.Line.{Line}
+use Rattle.un_words.specs.declared.line.Line.TheVariants.{Blank, Func, Block, Operation, Terminator}
 use Rattle.un_reader.specs.declared.before.Before.{Before}
-use Rattle.un_reader.specs.Tokens.{Spelled}
-use Rattle.un_reader.specs.Before.{same_name, names_on, names_on_term, labels_of, is_operation}
+use Rattle.un_words.specs.Tokens.{Spelled}
+use Rattle.un_reader.specs.Before.{same_name, labels_of, is_operation}
+use Rattle.un_words.specs.LineNames.{names_on, names_on_term}
 use Rattle.un_reader.specs.Noted.{noted}
 use Rattle.un_reader.specs.TextFaults.{term_of}
 use Rattle.un_reader.specs.LineFaults.{has_repeat, is_predicate, term_clashes, is_over_limit, literal_fits, freq_fits, operands_clash, result_clashes}
 use Rattle.un_reader.specs.Functions.{name_id, op_of, term_by, ops_of, blocks_of}
-use Rattle.un_reader.proofs.Each.{Each, Each-All, Each-weaken, Each-left, Each-right, EachPair, EachPair-map, Each-none, or_false, and_both}
+use Rattle.un_words.proofs.Each.{Each, Each-All, Each-weaken, Each-left, Each-right, EachPair, EachPair-map, Each-none, or_false, and_both}
 use Rattle.un_reader.proofs.FirstNames.{name_itself}
-use Rattle.un_reader.proofs.TokenFacts.{IsNameWord}
+use Rattle.un_words.proofs.TokenFacts.{IsNameWord}
 use Rattle.un_reader.proofs.OpFacts.{IsKnown, kind_matches, word_kind, are_words, op_good}
 use Rattle.un_reader.proofs.LineTests.{IsClean, AreClean}
 

@@ -6,16 +6,17 @@ use Rattle.std.proofs.lemmas.Bool.{le-leb}
 use Rattle.std.proofs.lemmas.List.{length-append}
 use Rattle.std.proofs.lemmas.List.Sums.{sum_by-cons}
 use Rattle.std.proofs.lemmas.Slice.Eq.{bytes_eq-Decides}
-use Rattle.un_reader.specs.declared.token.Number.{Number}
-use Rattle.un_reader.specs.declared.line.Line.{Line}
-use Rattle.un_reader.specs.declared.line.Line.TheVariants.{Blank, Func, Block, Operation, Terminator}
+use Rattle.un_words.specs.declared.token.Number.{Number}
+use Rattle.un_words.specs.declared.line.Line.{Line}
+use Rattle.un_words.specs.declared.line.Line.TheVariants.{Blank, Func, Block, Operation, Terminator}
 use Rattle.un_reader.specs.declared.before.Before.{Before}
-use Rattle.un_reader.specs.Before.{names_on, labels_of, is_operation}
+use Rattle.un_reader.specs.Before.{labels_of, is_operation}
+use Rattle.un_words.specs.LineNames.{names_on}
 use Rattle.un_reader.specs.Noted.{noted}
 use Rattle.un_reader.specs.LineFaults.{is_over_limit}
-use Rattle.un_reader.proofs.Each.{Each, Each-weaken, Each-append, Each-none, EachPair, EachPair-push, or_false}
-use Rattle.un_reader.proofs.TokenFacts.{IsSpelled}
-use Rattle.un_reader.proofs.LineShapes.{IsShaped}
+use Rattle.un_words.proofs.Each.{Each, Each-weaken, Each-append, Each-none, EachPair, EachPair-push, or_false}
+use Rattle.un_words.proofs.TokenFacts.{IsSpelled}
+use Rattle.un_words.proofs.LineShapes.{IsShaped}
 use Rattle.un_reader.proofs.LineTests.{IsClean, AreClean}
 
 below : (limit n : ℕ) → nat_le limit n ≡ false → n < limit

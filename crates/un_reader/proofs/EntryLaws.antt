@@ -9,7 +9,7 @@ use Rattle.un_ir.specs.declared.function.Term.{Term}
 use Rattle.un_ir.specs.declared.function.Term.TheVariants.{Fall, Jump, Branch, Ret}
 use Rattle.un_ir.specs.declared.function.Block.{Block}
 use Rattle.un_ir.specs.Live.{IsLive, used, kept, read_by_term, read_by, read_at, targets_of, assigned_by, assigned_at, next_by, next_of}
-use Rattle.un_reader.specs.Tokens.{Spelled}
+use Rattle.un_words.specs.Tokens.{Spelled}
 use Rattle.un_reader.specs.declared.meeting.Meeting.{Meeting}
 use Rattle.un_reader.specs.declared.meeting.Meeting.TheVariants.{Read, Assigned, Neither}
 use Rattle.un_reader.specs.Entry.{IsLiveAtEntry, reads, assigns, meeting, marked, leads, live_by, lives, lives_at, AreSound, AreClosed}

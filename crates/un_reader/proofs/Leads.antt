@@ -6,17 +6,17 @@ use Rattle.un_ir.specs.declared.function.Term.{Term}
 use Rattle.un_ir.specs.declared.function.Block.{Block as SourceBlock}
 use Rattle.un_ir.specs.Live.{targets_of}
 use Rattle.un_ir.specs.WellFormed.{gives_value, ReturnAlike}
-use Rattle.un_reader.specs.declared.token.Number.{Number}
-use Rattle.un_reader.specs.declared.line.TermLine.{TermLine}
-use Rattle.un_reader.specs.declared.line.TermLine.TheVariants.{Jump, Branch, Ret}
-use Rattle.un_reader.specs.declared.line.Line.{Line}
-use Rattle.un_reader.specs.declared.line.Line.TheVariants.{Blank, Func, Block, Operation, Terminator}
-use Rattle.un_reader.specs.Tokens.{Spelled}
+use Rattle.un_words.specs.declared.token.Number.{Number}
+use Rattle.un_words.specs.declared.line.TermLine.{TermLine}
+use Rattle.un_words.specs.declared.line.TermLine.TheVariants.{Jump, Branch, Ret}
+use Rattle.un_words.specs.declared.line.Line.{Line}
+use Rattle.un_words.specs.declared.line.Line.TheVariants.{Blank, Func, Block, Operation, Terminator}
+use Rattle.un_words.specs.Tokens.{Spelled}
 use Rattle.un_reader.specs.Before.{labels_of}
 use Rattle.un_reader.specs.TextFaults.{term_of, ends_well, falls_off, value_on_term, value_on, first_value, differs, returns_else, mixed_return}
 use Rattle.un_reader.specs.Functions.{term_by, ops_of, blocks_of}
-use Rattle.un_reader.proofs.Each.{Each, Each-weaken, EachPair, EachPair-alike}
-use Rattle.un_reader.proofs.TokenFacts.{IfThere}
+use Rattle.un_words.proofs.Each.{Each, Each-weaken, EachPair, EachPair-alike}
+use Rattle.un_words.proofs.TokenFacts.{IfThere}
 use Rattle.un_reader.proofs.Targets.{none_passes, IsInside, HasTarget, LineTargets, last_ends}
 
 -- ---- targets

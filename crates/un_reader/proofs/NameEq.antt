@@ -12,7 +12,7 @@ use Rattle.un_ir.specs.contracts.function.KindPartialEq.TheImpl.{ghosts as kind_
 use Rattle.un_ir.specs.declared.function.Kind.{Kind}
 use Rattle.un_ir.specs.declared.function.Kind.TheVariants.{General, Pred}
 use Rattle.un_reader.specs.Before.{same_kind, same_name, add_name}
-use Rattle.un_reader.specs.Tokens.{Spelled}
+use Rattle.un_words.specs.Tokens.{Spelled}
 
 -- the bytes of a name with zeros to their full number
 abbrev padded : List ℕ → List ℕ

@@ -8,16 +8,16 @@ use Rattle.un_ir.specs.declared.function.Kind.{Kind}
 use Rattle.un_ir.specs.declared.function.Kind.TheVariants.{General, Pred}
 use Rattle.un_ir.specs.Names.{kind_of}
 use Rattle.un_ir.specs.WellFormed.{IsOfKind, operand_kinds, ReadsItsKinds, result_kind, AssignsItsKind, HasItsLiteral, IsGoodOp}
-use Rattle.un_reader.specs.declared.token.Number.{Number}
-use Rattle.un_reader.specs.declared.line.OpLine.{OpLine}
-use Rattle.un_reader.specs.Tokens.{Spelled}
-use Rattle.un_reader.specs.Shapes.{text_ops, result_fits}
+use Rattle.un_words.specs.declared.token.Number.{Number}
+use Rattle.un_words.specs.declared.line.OpLine.{OpLine}
+use Rattle.un_words.specs.Tokens.{Spelled}
+use Rattle.un_words.specs.Shapes.{text_ops, result_fits}
 use Rattle.un_reader.specs.Before.{same_kind}
 use Rattle.un_reader.specs.LineFaults.{is_predicate, operands_clash, result_clashes, literal_fits}
 use Rattle.un_reader.specs.Functions.{name_id, literal_value, op_of}
-use Rattle.un_reader.proofs.Each.{Each, Each-All, Each-left, Each-right, or_false}
-use Rattle.un_reader.proofs.TextOps.{OfEach, of_text}
-use Rattle.un_reader.proofs.OpShapes.{Counted, LacksLiteral, IsShapedOp}
+use Rattle.un_words.proofs.Each.{Each, Each-All, Each-left, Each-right, or_false}
+use Rattle.un_words.proofs.TextOps.{OfEach, of_text}
+use Rattle.un_words.proofs.OpShapes.{Counted, LacksLiteral, IsShapedOp}
 use Rattle.un_reader.proofs.Ranges.{signed16, signed10, unsigned5, offset}
 
 -- the number of the name leads to its kind

@@ -8,11 +8,11 @@ use Rattle.un_ir.specs.WellFormed.{IsWellFormed}
 use Rattle.un_ir.proofs.SameFunction.{same_function}
 use Rattle.un_reader.specs.declared.fault.Fault.TheVariants.{LiveAtEntry}
 use Rattle.un_reader.specs.declared.limits.TheConstants.{TEXT}
-use Rattle.un_reader.specs.declared.line.Line.{Line}
-use Rattle.un_reader.specs.Tokens.{Spelled}
+use Rattle.un_words.specs.declared.line.Line.{Line}
+use Rattle.un_words.specs.Tokens.{Spelled}
 use Rattle.un_reader.specs.Before.{name_of, names_of}
 use Rattle.un_reader.specs.Lines.{HasNoLineFault, shapes_in}
-use Rattle.un_reader.specs.Pieces.{lines_in}
+use Rattle.un_words.specs.Pieces.{lines_in}
 use Rattle.un_reader.specs.TextFaults.{is_block, shape_fault}
 use Rattle.un_reader.specs.Functions.{IsFunctionOf, ArePartsOf, param_ids, source_blocks}
 use Rattle.un_reader.specs.Entry.{IsLiveAtEntry, HasNoneLive}

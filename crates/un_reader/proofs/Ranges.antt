@@ -4,10 +4,10 @@ use Rattle.std.specs.Int.{int_rem_euclid}
 use Rattle.std.proofs.lemmas.Bool.Decides.{Decides-eqb, Decides-ltb}
 use Rattle.std.proofs.Math.Facts.{yes_leb}
 use Rattle.un_isa.specs.Operands.{IsSigned16, IsSigned10, IsUnsigned5, IsOffset}
-use Rattle.un_reader.specs.declared.token.Number.{Number}
+use Rattle.un_words.specs.declared.token.Number.{Number}
 use Rattle.un_reader.specs.LineFaults.{fits_signed, fits_unsigned, fits_offset}
 use Rattle.un_reader.specs.Functions.{negated, literal_value}
-use Rattle.un_reader.proofs.Each.{and_both}
+use Rattle.un_words.proofs.Each.{and_both}
 
 -- the value of a number that fits 31 bits
 small : (n : Number) → n.size < 2147483648 → literal_value n ≡ (if n.negative then negated n.size else pos n.size)

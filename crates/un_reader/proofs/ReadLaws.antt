@@ -8,15 +8,16 @@ use Rattle.std.proofs.lemmas.Bool.Decides.{nat_tests}
 use Rattle.un_ir.specs.declared.function.Block.{Block as SourceBlock}
 use Rattle.un_reader.specs.declared.fault.Fault.{Fault}
 use Rattle.un_reader.specs.declared.fault.Fault.TheVariants.{BadByte, BadLine, KindClash, TooMany, WideLiteral, BadFreq, DupLabel, NoBlock, AfterEnd}
-use Rattle.un_reader.specs.declared.line.Line.{Line}
-use Rattle.un_reader.specs.declared.line.Line.TheVariants.{Blank, Func, Block, Operation, Terminator}
+use Rattle.un_words.specs.declared.line.Line.{Line}
+use Rattle.un_words.specs.declared.line.Line.TheVariants.{Blank, Func, Block, Operation, Terminator}
 use Rattle.un_reader.specs.declared.before.Before.{Before}
-use Rattle.un_reader.specs.Tokens.{Spelled, tokens_of}
-use Rattle.un_reader.specs.Shapes.{shape_of}
-use Rattle.un_reader.specs.Before.{numbered, names_on, label_on, names_of, labels_of, before_of}
+use Rattle.un_words.specs.Tokens.{Spelled, tokens_of}
+use Rattle.un_words.specs.Shapes.{shape_of, line_of}
+use Rattle.un_reader.specs.Before.{numbered, label_on, names_of, labels_of, before_of}
+use Rattle.un_words.specs.LineNames.{names_on}
 use Rattle.un_reader.specs.Noted.{noted}
 use Rattle.un_reader.specs.Named.{IsNamed}
-use Rattle.un_reader.specs.LineFaults.{is_plain_byte, is_misplaced, has_clash, is_over_limit, has_too_many, is_wide, has_bad_freq, repeats_label, is_before_block, is_after_end, first_of, shaped_fault, line_fault, line_of}
+use Rattle.un_reader.specs.LineFaults.{is_plain_byte, is_misplaced, has_clash, is_over_limit, has_too_many, is_wide, has_bad_freq, repeats_label, is_before_block, is_after_end, first_of, shaped_fault, line_fault}
 use Rattle.un_reader.specs.Lines.{HasNoLineFault, IsFirstLineFault, shapes_in}
 use Rattle.un_reader.specs.TextFaults.{shape_fault}
 use Rattle.un_reader.specs.Functions.{block_on, blocks_of}
@@ -24,7 +25,7 @@ use Rattle.un_reader.specs.declared.limits.TheConstants.{TEXT}
 use Rattle.un_reader.specs.declared.error.ReadError.{ReadError}
 use Rattle.un_reader.specs.declared.error.ReadError.TheVariants.{NoMemory, TextFault}
 use Rattle.un_reader.specs.Errors.{Tells}
-use Rattle.un_reader.specs.Pieces.{lines_in}
+use Rattle.un_words.specs.Pieces.{lines_in}
 use Rattle.un_reader.specs.Read.{IsTextFault, on_line, in_whole}
 use Rattle.un_reader.proofs.BeforeLaws.{before_of_push}
 

@@ -11,22 +11,23 @@ use Rattle.un_ir.specs.declared.function.Block.{Block as SourceBlock}
 use Rattle.un_ir.specs.Live.{IsLive, targets_of, used, kept, read_by_term, read_by, read_at}
 use Rattle.un_ir.specs.Names.{names_on_op, names_in_block, appearances, first_appearances}
 use Rattle.un_ir.specs.WellFormed.{IsName, IsOfKind, IsGoodBlock, LeadsInside, ReturnAlike, IsWellFormed}
-use Rattle.un_reader.specs.declared.line.Line.{Line}
-use Rattle.un_reader.specs.declared.line.Line.TheVariants.{Blank, Func, Block, Operation, Terminator}
+use Rattle.un_words.specs.declared.line.Line.{Line}
+use Rattle.un_words.specs.declared.line.Line.TheVariants.{Blank, Func, Block, Operation, Terminator}
 use Rattle.un_reader.specs.declared.fault.Fault.{Fault}
 use Rattle.un_reader.specs.declared.fault.Fault.TheVariants.{NoBlock, FallsOff, UnknownLabel, JumpToEntry, MixedResult}
-use Rattle.un_reader.specs.Tokens.{Spelled}
-use Rattle.un_reader.specs.Before.{same_name, names_on, names_of, labels_of, name_of, before_of}
-use Rattle.un_reader.specs.LineFaults.{line_of}
+use Rattle.un_words.specs.Tokens.{Spelled}
+use Rattle.un_reader.specs.Before.{same_name, names_of, labels_of, name_of, before_of}
+use Rattle.un_words.specs.LineNames.{names_on}
+use Rattle.un_words.specs.Shapes.{line_of}
 use Rattle.un_reader.specs.Lines.{HasNoLineFault}
 use Rattle.un_reader.specs.TextFaults.{falls_off, jumps_outside, jumps_to_entry, mixed_return, placed, no_block, first_there, shape_fault}
 use Rattle.un_reader.specs.Functions.{name_id, blocks_of, params_of}
 use Rattle.un_reader.specs.Entry.{reads}
 use Rattle.un_reader.proofs.EntryLaws.{reads-Contains, Contains-reads}
 use Rattle.un_reader.proofs.ReadLaws.{kept_all}
-use Rattle.un_reader.proofs.Each.{Each, Each-All, Each-weaken, Each-map, Each-left, Each-right, Each-unflat, Each-at, Each-in, EachPair, EachPair-AllPairs, EachPair-unmap}
+use Rattle.un_words.proofs.Each.{Each, Each-All, Each-weaken, Each-map, Each-left, Each-right, Each-unflat, Each-at, Each-in, EachPair, EachPair-AllPairs, EachPair-unmap}
 use Rattle.un_reader.proofs.FirstNames.{IsPlaced, in_numbered, name_placed, Each-numbered, numbered_apart, numbers_first}
-use Rattle.un_reader.proofs.TokenFacts.{IsSpelled}
+use Rattle.un_words.proofs.TokenFacts.{IsSpelled}
 use Rattle.un_reader.proofs.LineTests.{AreClean, all_clean}
 use Rattle.un_reader.proofs.Stands.{text_names}
 use Rattle.un_reader.proofs.BlockFacts.{IsKept, AreGoodParams, Fits, lines_fit, good_blocks, block_labels, block_ops}

@@ -8,7 +8,7 @@ use Rattle.un_ir.specs.declared.function.Term.{Term}
 use Rattle.un_ir.specs.declared.function.Term.TheVariants.{Fall, Jump, Branch, Ret}
 use Rattle.un_ir.specs.declared.function.Block.{Block}
 use Rattle.un_ir.specs.Live.{IsLive, read_by_term}
-use Rattle.un_reader.specs.Tokens.{Spelled}
+use Rattle.un_words.specs.Tokens.{Spelled}
 use Rattle.un_reader.specs.declared.meeting.Meeting.{Meeting}
 use Rattle.un_reader.specs.declared.meeting.Meeting.TheVariants.{Read, Assigned, Neither}
 

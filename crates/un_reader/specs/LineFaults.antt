@@ -1,5 +1,5 @@
 -- The faults of one line, given what stands before it.
-use Rattle.std.specs.Prelude.{ℕ, ◌==◌, ◌%◌, ◌&&◌, ◌||◌, Bool, true, false, not, nat_lt, nat_le, List, [], ◌∷◌, length, Option, Some, None, is_some, is_none, unwrap_or, map, take, slice_get, if◌then◌else◌}
+use Rattle.std.specs.Prelude.{ℕ, ◌==◌, ◌%◌, ◌&&◌, ◌||◌, Bool, true, false, not, nat_lt, nat_le, List, [], ◌∷◌, length, Option, Some, None, is_some, is_none, map, take, slice_get, if◌then◌else◌}
 use Rattle.std.specs.List.{list_all, list_any}
 use Rattle.std.specs.Option.{option_map_or, option_and_then}
 use Rattle.std.specs.Str.{bytes_eq}
@@ -8,17 +8,18 @@ use Rattle.un_isa.specs.declared.op.Op.TheVariants.{Imm, Addi, Andi, Ori, Mux, C
 use Rattle.un_ir.specs.declared.function.Kind.{Kind}
 use Rattle.un_ir.specs.declared.function.Kind.TheVariants.{General, Pred}
 use Rattle.un_ir.specs.declared.function.TheConstants.{BLOCKS, OPS, NAMES, FREQUENCY, PARAMS}
-use Rattle.un_reader.specs.declared.token.Number.{Number}
-use Rattle.un_reader.specs.declared.line.TermLine.{TermLine}
-use Rattle.un_reader.specs.declared.line.TermLine.TheVariants.{Jump, Branch, Ret}
-use Rattle.un_reader.specs.declared.line.Line.{Line}
-use Rattle.un_reader.specs.declared.line.Line.TheVariants.{Blank, Func, Block, Operation, Terminator}
+use Rattle.un_words.specs.declared.token.Number.{Number}
+use Rattle.un_words.specs.declared.line.TermLine.{TermLine}
+use Rattle.un_words.specs.declared.line.TermLine.TheVariants.{Jump, Branch, Ret}
+use Rattle.un_words.specs.declared.line.Line.{Line}
+use Rattle.un_words.specs.declared.line.Line.TheVariants.{Blank, Func, Block, Operation, Terminator}
 use Rattle.un_reader.specs.declared.before.Before.{Before}
 use Rattle.un_reader.specs.declared.fault.Fault.{Fault}
 use Rattle.un_reader.specs.declared.fault.Fault.TheVariants.{BadByte, BadLine, KindClash, TooMany, WideLiteral, BadFreq, DupLabel, NoBlock, AfterEnd}
-use Rattle.un_reader.specs.Tokens.{Spelled, tokens_of}
-use Rattle.un_reader.specs.Shapes.{shape_of}
-use Rattle.un_reader.specs.Before.{same_kind, same_name, numbered, names_on, before_of}
+use Rattle.un_words.specs.Tokens.{Spelled, tokens_of}
+use Rattle.un_words.specs.Shapes.{shape_of, line_of}
+use Rattle.un_reader.specs.Before.{same_kind, same_name, numbered, before_of}
+use Rattle.un_words.specs.LineNames.{names_on}
 
 -- a tab, or a byte from a space to a tilde
 abbrev pub is_plain_byte : ℕ → Bool
@@ -175,10 +176,6 @@ abbrev pub line_fault : Before → List ℕ → Option Fault
 line_fault before bytes = if list_all is_plain_byte bytes then shaped_fault before (shape_of (tokens_of bytes)) else Some BadByte
 
 -- ---- the lines of a text
-
--- the line that bytes are; those without a shape count as none
-abbrev pub line_of : List ℕ → Line
-line_of bytes = unwrap_or (shape_of (tokens_of bytes)) Blank
 
 -- the fault of the line at a place, counted from 0
 abbrev pub fault_at : List (List ℕ) → ℕ → Option Fault

@@ -4,23 +4,23 @@ ghost use Rattle.std.specs.Prelude.{◌≡◌, ◌+◌, ◌<◌, ◌≤◌, ◌^
 ghost use Rattle.un_reader.specs.Before.{before_of};
 ghost use Rattle.un_reader.specs.Codes.{code_of};
 ghost use Rattle.un_reader.specs.Errors.{Tells};
-ghost use Rattle.un_reader.specs.Tokens.{tokens_of};
-ghost use Rattle.un_reader.specs.Shapes.{shape_of};
-ghost use Rattle.un_reader.specs.LineFaults.{line_fault, line_of};
+ghost use Rattle.un_words.specs.Tokens.{tokens_of};
+ghost use Rattle.un_words.specs.Shapes.{shape_of, line_of};
+ghost use Rattle.un_reader.specs.LineFaults.{line_fault};
 ghost use Rattle.un_reader.specs.Lines.{HasNoLineFault, IsFirstLineFault, shapes_in};
-ghost use Rattle.un_reader.specs.Pieces.{lines_in};
+ghost use Rattle.un_words.specs.Pieces.{lines_in};
 
 use crate::before::Before;
 use crate::error::ReadError;
 use crate::fault::Fault;
-use crate::line::Line;
 use crate::line_fault::{are_plain, shaped_fault};
-use crate::pieces::{content, first_len};
-use crate::shape::read_line;
-use crate::words::tokens;
 use std::alloc::Global;
 use un_base::memory_error::NoMemory;
 use un_lists::items::Items;
+use un_words::line::Line;
+use un_words::pieces::{content, first_len};
+use un_words::shape::read_line;
+use un_words::words::tokens;
 
 /// The fault of a line, which is counted from 1.
 pub fn fault_of(line: usize, fault: Fault) -> ReadError

@@ -3,20 +3,21 @@
 ghost use Rattle.std.specs.Prelude.{◌≡◌, ◌==◌, ◌&&◌, ◌||◌, not, IfOk, length, drop};
 ghost use Rattle.std.specs.List.{list_any, list_all};
 ghost use Rattle.std.specs.Str.{bytes_eq};
-ghost use Rattle.un_reader.specs.LineFaults.{is_plain_byte, has_repeat, is_misplaced, is_predicate, result_kind, operands_clash, result_clashes, term_clashes, has_clash, is_over_limit, has_too_many, fits_signed, fits_unsigned, fits_offset, literal_fits, is_wide, freq_fits, has_bad_freq, repeats_label, is_body, is_before_block, is_after_end, first_of, faults_on, line_fault, line_of};
+ghost use Rattle.un_reader.specs.LineFaults.{is_plain_byte, has_repeat, is_misplaced, is_predicate, result_kind, operands_clash, result_clashes, term_clashes, has_clash, is_over_limit, has_too_many, fits_signed, fits_unsigned, fits_offset, literal_fits, is_wide, freq_fits, has_bad_freq, repeats_label, is_body, is_before_block, is_after_end, first_of, faults_on, line_fault};
+ghost use Rattle.un_words.specs.Shapes.{line_of};
 
 use crate::before::{Before, same_kind};
 use crate::fault::Fault;
-use crate::forms::is_text;
-use crate::line::{Line, OpLine, TermLine};
 use crate::names::Names;
 use crate::new_names::new_names;
-use crate::token::Number;
 use std::alloc::Global;
 use un_base::memory_error::NoMemory;
 use un_base::name::Name;
 use un_ir::function::{BLOCKS, FREQUENCY, Kind, NAMES, OPS, PARAMS};
 use un_isa::op::Op;
+use un_words::forms::is_text;
+use un_words::line::{Line, OpLine, TermLine};
+use un_words::token::Number;
 
 /// Whether it is a tab, or a byte from a space to a tilde.
 fn is_plain_byte(b: u8) -> bool

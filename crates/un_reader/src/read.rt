@@ -18,12 +18,12 @@ use crate::entry::has_live;
 use crate::error::ReadError;
 use crate::fault::Fault;
 use crate::limits::TEXT;
-use crate::line::Line;
 use crate::names::Names;
 use crate::text_fault::{is_block, shape_fault};
 use std::alloc::Global;
 use un_base::name::Name;
 use un_ir::function::Function;
+use un_words::line::Line;
 
 /// The place of the first block line, or the count where there is none.
 fn entry_place(lines: &[Line]) -> usize

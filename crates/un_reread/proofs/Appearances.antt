@@ -9,7 +9,7 @@ use Rattle.un_base.specs.declared.ids.NameId.{NameId}
 use Rattle.un_ir.specs.declared.function.Kind.TheVariants.{General}
 use Rattle.un_ir.specs.Text.{Names}
 use Rattle.un_ir.specs.Names.{see}
-use Rattle.un_reader.specs.Tokens.{Spelled}
+use Rattle.un_words.specs.Tokens.{Spelled}
 use Rattle.un_reader.specs.Before.{same_name, add_name, numbered}
 use Rattle.un_reread.specs.Printed.{spelled_at}
 use Rattle.un_reread.proofs.Spelling.{AreDistinct, IsPlace, at_place, spelled_is, same_places}

@@ -12,8 +12,8 @@ use Rattle.un_ir.specs.declared.function.Term.TheVariants.{Fall, Jump as JumpTo,
 use Rattle.un_ir.specs.declared.function.Block.{Block as SourceBlock}
 use Rattle.un_ir.specs.Text.{Names}
 use Rattle.un_ir.specs.WellFormed.{IsWellFormed, LeadsInside}
-use Rattle.un_reader.specs.declared.line.Line.{Line}
-use Rattle.un_reader.specs.declared.line.Line.TheVariants.{Func, Block}
+use Rattle.un_words.specs.declared.line.Line.{Line}
+use Rattle.un_words.specs.declared.line.Line.TheVariants.{Func, Block}
 use Rattle.un_reader.specs.TextFaults.{is_block, term_of, later_block, last_block, ends_well, falls_off}
 use Rattle.un_reread.specs.Printed.{spelled_at, term_as_lines, block_as_lines, printed_lines}
 use Rattle.un_reread.proofs.Rebuilt.{term_behind}

@@ -14,9 +14,9 @@ use Rattle.un_ir.specs.declared.function.Block.{Block as SourceBlock}
 use Rattle.un_ir.specs.declared.function.TheConstants.{FREQUENCY, PARAMS}
 use Rattle.un_ir.specs.Text.{Names, label_of}
 use Rattle.un_ir.specs.WellFormed.{IsWellFormed, IsGoodOp, IsGoodBlock, TestsItsKind}
-use Rattle.un_reader.specs.declared.line.TermLine.TheVariants.{Jump, Branch, Ret}
-use Rattle.un_reader.specs.declared.line.Line.{Line}
-use Rattle.un_reader.specs.declared.line.Line.TheVariants.{Func, Block, Operation, Terminator}
+use Rattle.un_words.specs.declared.line.TermLine.TheVariants.{Jump, Branch, Ret}
+use Rattle.un_words.specs.declared.line.Line.{Line}
+use Rattle.un_words.specs.declared.line.Line.TheVariants.{Func, Block, Operation, Terminator}
 use Rattle.un_reader.specs.LineFaults.{is_predicate, operands_clash, result_clashes, has_clash, is_wide, freq_fits, has_bad_freq, literal_fits}
 use Rattle.un_reread.specs.Printed.{spelled_at, as_number, op_as_line, term_as_lines, block_as_lines, printed_lines}
 use Rattle.un_reread.proofs.Lists.{all_of_flat}

@@ -13,10 +13,11 @@ use Rattle.un_ir.specs.declared.function.Block.{Block as SourceBlock}
 use Rattle.un_ir.specs.Live.{read_by_term}
 use Rattle.un_ir.specs.Names.{names_on_op, names_in_block, appearances}
 use Rattle.un_ir.specs.Text.{Names}
-use Rattle.un_reader.specs.declared.line.Line.{Line}
-use Rattle.un_reader.specs.declared.line.Line.TheVariants.{Operation}
-use Rattle.un_reader.specs.Tokens.{Spelled}
-use Rattle.un_reader.specs.Before.{names_on, label_on, labels_of, name_of}
+use Rattle.un_words.specs.declared.line.Line.{Line}
+use Rattle.un_words.specs.declared.line.Line.TheVariants.{Operation}
+use Rattle.un_words.specs.Tokens.{Spelled}
+use Rattle.un_reader.specs.Before.{label_on, labels_of, name_of}
+use Rattle.un_words.specs.LineNames.{names_on}
 use Rattle.un_reader.specs.Functions.{params_of}
 use Rattle.un_reread.specs.Printed.{spelled_at, op_as_line, term_as_lines, block_as_lines, printed_lines}
 

@@ -12,7 +12,7 @@ use Rattle.un_ir.specs.declared.function.Kind.TheVariants.{General, Pred}
 use Rattle.un_ir.specs.Names.{kind_of}
 use Rattle.un_ir.specs.Text.{Names}
 use Rattle.un_ir.specs.WellFormed.{IsOfKind, operand_kinds, ReadsItsKinds, result_kind, AssignsItsKind}
-use Rattle.un_reader.specs.Tokens.{Spelled}
+use Rattle.un_words.specs.Tokens.{Spelled}
 use Rattle.un_reader.specs.Before.{same_kind}
 use Rattle.un_reader.specs.LineFaults.{is_predicate, result_kind as kind_of_result, operands_clash, result_clashes}
 use Rattle.un_reread.specs.Printed.{spelled_at}

@@ -7,8 +7,8 @@ use Rattle.un_ir.specs.declared.function.Kind.{Kind}
 use Rattle.un_ir.specs.declared.function.Kind.TheVariants.{General, Pred}
 use Rattle.un_ir.specs.Text.{with_sigil}
 use Rattle.un_ir.specs.WellFormed.{IsName}
-use Rattle.un_reader.specs.declared.token.Token.TheVariants.{Named, Negated, Word}
-use Rattle.un_reader.specs.Words.{is_inner}
+use Rattle.un_words.specs.declared.token.Token.TheVariants.{Named, Negated, Word}
+use Rattle.un_words.specs.Words.{is_inner}
 use Rattle.un_reread.proofs.Bytes.{is_clean_byte, IsClean}
 use Rattle.un_reread.proofs.WordsOf.{Says}
 

@@ -6,7 +6,7 @@ use Rattle.un_ir.specs.declared.function.Kind.{Kind}
 use Rattle.un_ir.specs.declared.function.Kind.TheVariants.{General}
 use Rattle.un_ir.specs.Text.{Names, name_text, spelled}
 use Rattle.un_ir.specs.WellFormed.{IsName, IsOfKind}
-use Rattle.un_reader.specs.declared.token.Token.TheVariants.{Named, Negated}
+use Rattle.un_words.specs.declared.token.Token.TheVariants.{Named, Negated}
 use Rattle.un_reread.specs.Printed.{spelled_at}
 use Rattle.un_reread.proofs.WordsOf.{Says}
 use Rattle.un_reread.proofs.NameWords.{name_says, negated_says}

@@ -4,7 +4,7 @@ use Rattle.un_base.specs.declared.ids.NameId.{NameId}
 use Rattle.un_ir.specs.declared.function.SrcOp.{SrcOp}
 use Rattle.un_ir.specs.Text.{Names, name_text, result_text, comma_joined, mnemonic, spaced, callee_text, operand_texts, op_line}
 use Rattle.un_ir.specs.WellFormed.{IsName}
-use Rattle.un_reader.specs.declared.token.Token.{Token}
+use Rattle.un_words.specs.declared.token.Token.{Token}
 use Rattle.un_reread.proofs.Neat.{IsNeat, neat_append, neat_more}
 use Rattle.un_reread.proofs.WordsOf.{AllSay}
 use Rattle.un_reread.proofs.NameWords.{word_says}

@@ -8,11 +8,11 @@ use Rattle.un_ir.specs.declared.function.SrcOp.{SrcOp}
 use Rattle.un_ir.specs.Names.{kind_of}
 use Rattle.un_ir.specs.Text.{literal_text, Names, name_text, mnemonic, operand_texts}
 use Rattle.un_ir.specs.WellFormed.{IsOfKind}
-use Rattle.un_reader.specs.declared.token.Number.{Number}
-use Rattle.un_reader.specs.declared.token.Token.{Token}
-use Rattle.un_reader.specs.declared.token.Token.TheVariants.{Literal, Comma, Named, Word}
-use Rattle.un_reader.specs.Tokens.{Spelled}
-use Rattle.un_reader.specs.Shapes.{result_fits, operands_fit, callee_of, zero_number}
+use Rattle.un_words.specs.declared.token.Number.{Number}
+use Rattle.un_words.specs.declared.token.Token.{Token}
+use Rattle.un_words.specs.declared.token.Token.TheVariants.{Literal, Comma, Named, Word}
+use Rattle.un_words.specs.Tokens.{Spelled}
+use Rattle.un_words.specs.Shapes.{result_fits, operands_fit, callee_of, zero_number}
 use Rattle.un_reread.specs.Printed.{as_number, spelled_at}
 use Rattle.un_reread.proofs.WordsOf.{AllSay}
 use Rattle.un_reread.proofs.NamesAt.{AreNames, name_at_says}

@@ -8,9 +8,9 @@ use Rattle.un_ir.specs.declared.function.Kind.TheVariants.{General, Pred}
 use Rattle.un_ir.specs.declared.function.SrcOp.{SrcOp}
 use Rattle.un_ir.specs.Text.{Names, op_line, mnemonic}
 use Rattle.un_ir.specs.WellFormed.{IsGoodOp, IsOfText, ReadsItsKinds, AssignsItsKind, HasItsLiteral, NamesItsCallee}
-use Rattle.un_reader.specs.declared.line.Line.TheVariants.{Operation}
-use Rattle.un_reader.specs.Tokens.{tokens_of}
-use Rattle.un_reader.specs.Shapes.{text_ops, op_named, shape_of}
+use Rattle.un_words.specs.declared.line.Line.TheVariants.{Operation}
+use Rattle.un_words.specs.Tokens.{tokens_of}
+use Rattle.un_words.specs.Shapes.{text_ops, op_named, shape_of}
 use Rattle.un_reread.specs.Printed.{op_as_line}
 use Rattle.un_reread.proofs.NamesAt.{AreNames}
 use Rattle.un_reread.proofs.OpForms.{operation, TakesTwo, TakesLiteral, two_read, literal_read, signed16_small, signed10_small, unsigned5_small, offset_small}

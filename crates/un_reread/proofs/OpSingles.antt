@@ -8,9 +8,9 @@ use Rattle.un_ir.specs.declared.function.Kind.TheVariants.{General, Pred}
 use Rattle.un_ir.specs.Names.{kind_of}
 use Rattle.un_ir.specs.Text.{Names, name_text}
 use Rattle.un_ir.specs.WellFormed.{IsName, IsOfKind, AssignsItsKind, NamesItsCallee}
-use Rattle.un_reader.specs.declared.token.Token.TheVariants.{Named, Literal}
-use Rattle.un_reader.specs.Tokens.{Spelled}
-use Rattle.un_reader.specs.Shapes.{alternate, is_list, names_at, literal_at, zero_number}
+use Rattle.un_words.specs.declared.token.Token.TheVariants.{Named, Literal}
+use Rattle.un_words.specs.Tokens.{Spelled}
+use Rattle.un_words.specs.Shapes.{alternate, is_list, names_at, literal_at, zero_number}
 use Rattle.un_reread.specs.Printed.{spelled_at, as_number}
 use Rattle.un_reread.proofs.WordsOf.{AllSay}
 use Rattle.un_reread.proofs.NamesAt.{AreNames, name_at_says}

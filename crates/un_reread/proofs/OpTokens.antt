@@ -6,10 +6,10 @@ use Rattle.un_ir.specs.declared.function.Kind.{Kind}
 use Rattle.un_ir.specs.declared.function.SrcOp.{SrcOp}
 use Rattle.un_ir.specs.Text.{Names, name_text, result_text, comma_joined, mnemonic, spaced, callee_text, operand_texts, op_line}
 use Rattle.un_ir.specs.WellFormed.{IsName, IsOfKind}
-use Rattle.un_reader.specs.declared.token.Token.{Token}
-use Rattle.un_reader.specs.declared.token.Token.TheVariants.{Comma, Equals, Named, Word}
-use Rattle.un_reader.specs.Tokens.{Spelled, tokens_of}
-use Rattle.un_reader.specs.Words.{goes_on}
+use Rattle.un_words.specs.declared.token.Token.{Token}
+use Rattle.un_words.specs.declared.token.Token.TheVariants.{Comma, Equals, Named, Word}
+use Rattle.un_words.specs.Tokens.{Spelled, tokens_of}
+use Rattle.un_words.specs.Words.{goes_on}
 use Rattle.un_reread.specs.Printed.{spelled_at}
 use Rattle.un_reread.proofs.WordsOf.{AllSay, first_token, only_token}
 use Rattle.un_reread.proofs.NameWords.{word_says}

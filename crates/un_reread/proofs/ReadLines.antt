@@ -9,10 +9,10 @@ use Rattle.un_ir.specs.declared.function.Block.{Block as SourceBlock}
 use Rattle.un_ir.specs.declared.function.Function.{Function}
 use Rattle.un_ir.specs.Text.{Names, op_line, term_lines, block_line, block_lines, func_line, function_lines}
 use Rattle.un_ir.specs.WellFormed.{IsName, IsGoodOp, IsGoodBlock, LeadsInside, IsWellFormed}
-use Rattle.un_reader.specs.declared.line.Line.{Line}
-use Rattle.un_reader.specs.declared.line.Line.TheVariants.{Func, Block, Operation}
-use Rattle.un_reader.specs.Shapes.{shape_of}
-use Rattle.un_reader.specs.Tokens.{tokens_of}
+use Rattle.un_words.specs.declared.line.Line.{Line}
+use Rattle.un_words.specs.declared.line.Line.TheVariants.{Func, Block, Operation}
+use Rattle.un_words.specs.Shapes.{shape_of}
+use Rattle.un_words.specs.Tokens.{tokens_of}
 use Rattle.un_reread.specs.Printed.{spelled_at, op_as_line, term_as_lines, printed_lines}
 use Rattle.un_reread.proofs.Lists.{all_at}
 use Rattle.un_reread.proofs.Labels.{op_lines, body_lines, lines_of}

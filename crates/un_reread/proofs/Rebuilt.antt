@@ -12,7 +12,7 @@ use Rattle.un_ir.specs.Live.{read_by_term}
 use Rattle.un_ir.specs.Names.{names_on_op, names_in_block}
 use Rattle.un_ir.specs.Text.{Names}
 use Rattle.un_ir.specs.WellFormed.{IsWellFormed, HasItsLiteral}
-use Rattle.un_reader.specs.declared.line.Line.{Line}
+use Rattle.un_words.specs.declared.line.Line.{Line}
 use Rattle.un_reader.specs.TextFaults.{term_of}
 use Rattle.un_reader.specs.Functions.{name_id, literal_value, op_of, term_by, ops_of, blocks_of}
 use Rattle.un_reread.specs.Printed.{spelled_at, as_number, op_as_line, term_as_lines, printed_lines}

@@ -7,7 +7,7 @@ use Rattle.un_base.specs.declared.ids.NameId.{NameId}
 use Rattle.un_ir.specs.declared.function.Block.{Block as SourceBlock}
 use Rattle.un_ir.specs.Text.{Names}
 use Rattle.un_ir.specs.WellFormed.{IsWellFormed}
-use Rattle.un_reader.specs.Tokens.{Spelled}
+use Rattle.un_words.specs.Tokens.{Spelled}
 use Rattle.un_reader.specs.Before.{same_name}
 use Rattle.un_reader.specs.LineFaults.{has_repeat}
 use Rattle.un_reader.specs.Functions.{name_id}

@@ -9,7 +9,7 @@ use Rattle.un_ir.specs.declared.function.Term.TheVariants.{Fall, Jump as JumpTo,
 use Rattle.un_ir.specs.declared.function.Block.{Block as SourceBlock}
 use Rattle.un_ir.specs.Text.{Names}
 use Rattle.un_ir.specs.WellFormed.{gives_value, ReturnAlike}
-use Rattle.un_reader.specs.declared.line.Line.{Line}
+use Rattle.un_words.specs.declared.line.Line.{Line}
 use Rattle.un_reader.specs.TextFaults.{differs, first_value, returns_else}
 use Rattle.un_reread.specs.Printed.{term_as_lines, block_as_lines}
 use Rattle.un_reread.proofs.Lists.{pairs_head, pairs_tail}

@@ -10,7 +10,7 @@ use Rattle.un_base.specs.declared.ids.NameId.{NameId}
 use Rattle.un_ir.specs.declared.function.Kind.{Kind}
 use Rattle.un_ir.specs.declared.function.Kind.TheVariants.{General, Pred}
 use Rattle.un_ir.specs.Text.{Names}
-use Rattle.un_reader.specs.Tokens.{Spelled}
+use Rattle.un_words.specs.Tokens.{Spelled}
 use Rattle.un_reader.specs.Before.{same_kind, same_name}
 use Rattle.un_reader.specs.Functions.{name_id}
 use Rattle.un_reread.specs.Printed.{spelled_at}

@@ -9,12 +9,12 @@ use Rattle.un_ir.specs.declared.function.Term.{Term}
 use Rattle.un_ir.specs.declared.function.Term.TheVariants.{Fall, Jump as JumpTo, Branch as BranchTo, Ret as Return}
 use Rattle.un_ir.specs.declared.function.Block.{Block as SourceBlock}
 use Rattle.un_ir.specs.Text.{Names, label_of}
-use Rattle.un_reader.specs.declared.token.Number.{Number}
-use Rattle.un_reader.specs.declared.line.OpLine.{OpLine}
-use Rattle.un_reader.specs.declared.line.TermLine.TheVariants.{Jump, Branch, Ret}
-use Rattle.un_reader.specs.declared.line.Line.{Line}
-use Rattle.un_reader.specs.declared.line.Line.TheVariants.{Func, Block, Operation, Terminator}
-use Rattle.un_reader.specs.Tokens.{Spelled}
+use Rattle.un_words.specs.declared.token.Number.{Number}
+use Rattle.un_words.specs.declared.line.OpLine.{OpLine}
+use Rattle.un_words.specs.declared.line.TermLine.TheVariants.{Jump, Branch, Ret}
+use Rattle.un_words.specs.declared.line.Line.{Line}
+use Rattle.un_words.specs.declared.line.Line.TheVariants.{Func, Block, Operation, Terminator}
+use Rattle.un_words.specs.Tokens.{Spelled}
 
 -- a name as it is spelled
 abbrev pub spelled_at : Names → NameId → Spelled

@@ -6,10 +6,10 @@ ghost use Rattle.un_top.specs.Reports.{IsCodeOf};
 
 use std::alloc::Global;
 use un_base::memory_error::NoMemory;
-use un_plain_emit::emission::emit;
 use un_ir::function::Function;
-use un_plain_model::cost::cost;
 use un_packet::code::Code;
+use un_plain_emit::emission::emit;
+use un_plain_model::cost::cost;
 use un_plain_solution::plain_model::plain_model;
 use un_plain_solution::plain_solution::plain_solution;
 

@@ -7,7 +7,7 @@ use Rattle.std.specs.List.{position_or_len}
 use Rattle.un_reader.specs.Lines.{shapes_in}
 use Rattle.un_reader.specs.TextFaults.{is_block}
 use Rattle.un_reader.specs.Named.{IsNamed}
-use Rattle.un_reader.specs.Tokens.{Spelled}
+use Rattle.un_words.specs.Tokens.{Spelled}
 use Rattle.un_reader.specs.Before.{labels_of, names_of}
 use Rattle.un_reader.specs.Functions.{blocks_of}
 use Rattle.un_reader.specs.Read.{IsTextFault, too_long}

@@ -1,0 +1,9 @@
+pub mod Each
+pub mod LineShapes
+pub mod NumberLaws
+pub mod OpShapes
+pub mod PieceLaws
+pub mod SlotFacts
+pub mod TextOps
+pub mod TokenFacts
+pub mod WordLaws
