@@ -6,10 +6,8 @@ use Rattle.std.specs.Option.{option_or}
 use Rattle.std.specs.Str.{bytes_eq}
 use Rattle.un_ir.specs.declared.function.Kind.{Kind}
 use Rattle.un_ir.specs.declared.function.Kind.TheVariants.{General, Pred}
-use Rattle.un_words.specs.declared.line.TermLine.{TermLine}
-use Rattle.un_words.specs.declared.line.TermLine.TheVariants.{Jump, Branch, Ret}
 use Rattle.un_words.specs.declared.line.Line.{Line}
-use Rattle.un_words.specs.declared.line.Line.TheVariants.{Blank, Func, Block, Operation, Terminator}
+use Rattle.un_words.specs.declared.line.Line.TheVariants.{Func, Block, Operation, Terminator}
 use Rattle.un_reader.specs.declared.before.Before.{Before}
 use Rattle.un_words.specs.Tokens.{Spelled}
 use Rattle.un_words.specs.LineNames.{names_on}

@@ -4,6 +4,5 @@ pub mod NumberLaws
 pub mod OpShapes
 pub mod PieceLaws
 pub mod SlotFacts
-pub mod TextOps
 pub mod TokenFacts
 pub mod WordLaws

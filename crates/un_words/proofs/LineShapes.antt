@@ -30,10 +30,7 @@ operation_good dst d ts g = by (operation_shape dst ts) (operation_shaped dst d 
     by : (o : Option Line) → IfThere IsShapedLine o → IfThere IsShaped o
     by None h = tt
     by (Some (Operation o)) h = h
-    by (Some Blank) h = absurd h
-    by (Some (Func name params)) h = absurd h
-    by (Some (Block label freq)) h = absurd h
-    by (Some (Terminator term)) h = absurd h
+    by (Some _) h = absurd h
 
 func_good : (ts : List Token) → Each IsGoodToken ts → IfThere IsShaped (func_shape ts)
 func_good ts g =

@@ -7,7 +7,7 @@ use Rattle.un_ir.specs.declared.function.Kind.{Kind}
 use Rattle.un_ir.specs.declared.function.Kind.TheVariants.{General, Pred}
 use Rattle.un_words.specs.declared.token.Number.{Number}
 use Rattle.un_words.specs.declared.token.Token.{Token}
-use Rattle.un_words.specs.declared.token.Token.TheVariants.{Comma, Equals, Named, Negated, Literal, Plain, Word, Other}
+use Rattle.un_words.specs.declared.token.Token.TheVariants.{Comma, Equals, Named, Negated, Literal, Plain, Word}
 use Rattle.un_words.specs.Words.{words_of}
 use Rattle.un_words.specs.Tokens.{Spelled, number_of, with_kind, named_of, token_by, plain_of, token_of, tokens_of}
 use Rattle.un_words.specs.Shapes.{word_in, word_at, name_in, name_at, condition_in, condition_at, names_at}
@@ -121,23 +121,11 @@ good_at (suc i) (t ∷ ts) g = good_at i ts g.1
 
 word_good : (t : Token) → IsGoodToken t → IfThere IsNameWord (word_in t)
 word_good (Word word) g = g
-word_good Comma g = tt
-word_good Equals g = tt
-word_good (Named name) g = tt
-word_good (Negated name) g = tt
-word_good (Literal n) g = tt
-word_good (Plain n) g = tt
-word_good Other g = tt
+word_good _ g = tt
 
 pub name_good : (t : Token) → IsGoodToken t → IfThere IsSpelled (name_in t)
 name_good (Named name) g = g
-name_good (Word word) g = tt
-name_good Comma g = tt
-name_good Equals g = tt
-name_good (Negated name) g = tt
-name_good (Literal n) g = tt
-name_good (Plain n) g = tt
-name_good Other g = tt
+name_good _ g = tt
 
 abbrev pub IsSpelledCondition : Spelled × Bool → Type 0
 IsSpelledCondition c = IsSpelled c.0
@@ -145,12 +133,7 @@ IsSpelledCondition c = IsSpelled c.0
 condition_good : (t : Token) → IsGoodToken t → IfThere IsSpelledCondition (condition_in t)
 condition_good (Named name) g = g
 condition_good (Negated name) g = g
-condition_good (Word word) g = tt
-condition_good Comma g = tt
-condition_good Equals g = tt
-condition_good (Literal n) g = tt
-condition_good (Plain n) g = tt
-condition_good Other g = tt
+condition_good _ g = tt
 
 pub word_there : (i : ℕ) (ts : List Token) → Each IsGoodToken ts → IfThere IsNameWord (word_at i ts)
 word_there i ts g = IfThere-then IsGoodToken IsNameWord word_in (slice_get ts i) (good_at i ts g) word_good

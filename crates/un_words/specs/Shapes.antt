@@ -1,11 +1,14 @@
 -- The shapes of a line: which words make a line of which kind.
-use Rattle.std.specs.Prelude.{ℕ, ◌==◌, ◌&&◌, ◌||◌, Bool, true, false, not, List, [], ◌∷◌, length, drop, Option, Some, None, is_some, is_none, unwrap_or, codes, slice_get, if◌then◌else◌}
+use Rattle.std.specs.Prelude.{ℕ, ◌==◌, ◌&&◌, ◌||◌, Bool, true, false, not, List, [], ◌∷◌, map, filter, length, drop, Option, Some, None, is_some, is_none, unwrap_or, codes, slice_get, if◌then◌else◌}
 use Rattle.std.specs.List.{list_all, filter_map, find, zip}
 use Rattle.std.specs.Option.{option_map, option_map_or, option_and_then}
 use Rattle.std.specs.Str.{bytes_eq}
 use Rattle.un_isa.specs.declared.op.Op.{Op}
-use Rattle.un_isa.specs.declared.op.Op.TheVariants.{Imm, Mov, Add, Sub, And, Or, Xor, Addi, Andi, Ori, Mux, CmpEq, CmpGt, CmpGtu, CmpEqi, CmpGti, Mpyi, Asl, Asr, Lsr, Load, Store, Call}
-use Rattle.un_ir.specs.Text.{mnemonic}
+use Rattle.un_isa.specs.declared.reg.Space.{Space}
+use Rattle.un_isa.specs.declared.facts.Range.{Range}
+use Rattle.un_isa.specs.Facts.{all_ops, operand_spaces, result_space, literal_range, is_source, source_name}
+use Rattle.un_ir.specs.WellFormed.{is_call}
+use Rattle.un_ir.specs.Text.{with_literal}
 use Rattle.un_words.specs.declared.token.Number.{Number}
 use Rattle.un_words.specs.declared.token.Token.{Token}
 use Rattle.un_words.specs.declared.token.Token.TheVariants.{Comma, Equals, Named, Negated, Literal, Plain, Word}
@@ -99,55 +102,44 @@ literal_at (t ∷ ts) = literal_or (literal_at ts) t
 
 -- the operations that a text may have
 abbrev pub text_ops : List Op
-text_ops = Imm ∷ Mov ∷ Add ∷ Sub ∷ And ∷ Or ∷ Xor ∷ Addi ∷ Andi ∷ Ori ∷ Mux ∷ CmpEq ∷ CmpGt ∷ CmpGtu ∷ CmpEqi ∷ CmpGti ∷ Mpyi ∷ Asl ∷ Asr ∷ Lsr ∷ Load ∷ Store ∷ Call ∷ []
+text_ops = filter is_source all_ops
 
 -- the operation with this word
 abbrev pub op_named : List ℕ → Option Op
-op_named word = find (λ op. bytes_eq word (mnemonic op)) text_ops
+op_named word = find (λ op. bytes_eq word (source_name op)) text_ops
 
--- a name
-abbrev pub one_name : List Slot
-one_name = NamedSlot ∷ []
+-- with commas between them
+abbrev pub separated : List Slot → List Slot
+separated [] = []
+separated (s ∷ []) = s ∷ []
+separated (s ∷ t ∷ slots) = s ∷ CommaSlot ∷ separated (t ∷ slots)
 
--- a name, a comma, a name
-abbrev pub two_names : List Slot
-two_names = NamedSlot ∷ CommaSlot ∷ NamedSlot ∷ []
-
--- a name, a comma, a literal
-abbrev pub name_literal : List Slot
-name_literal = NamedSlot ∷ CommaSlot ∷ LiteralSlot ∷ []
+-- the forms of operands in these spaces, and of a literal where there is one
+abbrev pub slots_by : List Space → Option Range → List Slot
+slots_by spaces literal = separated (with_literal literal LiteralSlot (map (λ space. NamedSlot) spaces))
 
 -- the forms of the words behind an operation's own word; a call has another form
 abbrev pub slots_of : Op → List Slot
-slots_of Imm = LiteralSlot ∷ []
-slots_of Mov = one_name
-slots_of Addi = name_literal
-slots_of Andi = name_literal
-slots_of Ori = name_literal
-slots_of CmpEqi = name_literal
-slots_of CmpGti = name_literal
-slots_of Asl = name_literal
-slots_of Asr = name_literal
-slots_of Lsr = name_literal
-slots_of Load = name_literal
-slots_of Mux = NamedSlot ∷ CommaSlot ∷ NamedSlot ∷ CommaSlot ∷ NamedSlot ∷ []
-slots_of Store = NamedSlot ∷ CommaSlot ∷ LiteralSlot ∷ CommaSlot ∷ NamedSlot ∷ []
-slots_of _ = two_names
+slots_of op = slots_by (operand_spaces op) (literal_range op)
 
--- a Store has no result, a Call may have one, and every other operation has one
+-- a result stands where the operation has one; a call may leave it
+abbrev pub result_by : Bool → Option Space → Option Spelled → Bool
+result_by call None dst = is_none dst
+result_by call (Some space) dst = call || is_some dst
+
 abbrev pub result_fits : Op → Option Spelled → Bool
-result_fits Store dst = is_none dst
-result_fits Call dst = true
-result_fits _ dst = is_some dst
+result_fits op dst = result_by (is_call op) (result_space op) dst
 
--- the words from an operation's own word on: a Call has its callee and a list of arguments
+-- the words from a call's own word on: its callee and a list of arguments
+abbrev pub is_call_list : List Token → Bool
+is_call_list ts = is_some (word_at 1 ts) && is_list (drop 2 ts)
+
+-- the words from an operation's own word on are its operands
 abbrev pub operands_fit : Op → List Token → Bool
-operands_fit Call ts = is_some (word_at 1 ts) && is_list (drop 2 ts)
-operands_fit op ts = have_forms (slots_of op) (drop 1 ts)
+operands_fit op ts = if is_call op then is_call_list ts else have_forms (slots_of op) (drop 1 ts)
 
 abbrev pub callee_of : Op → List Token → Option (List ℕ)
-callee_of Call ts = word_at 1 ts
-callee_of _ ts = None
+callee_of op ts = if is_call op then word_at 1 ts else None
 
 abbrev pub op_line_of : Op → Option Spelled → List Token → OpLine
 op_line_of op dst ts = record { op = op; dst = dst; srcs = names_at ts; imm = literal_at ts; callee = callee_of op ts }

@@ -3,7 +3,7 @@
 ghost use Rattle.std.specs.Prelude.{◌≡◌, ◌==◌, ◌&&◌, codes, IfOk, drop, slice_get, false};
 ghost use Rattle.std.specs.Option.{option_and_then, option_map_or};
 ghost use Rattle.std.specs.Str.{bytes_eq};
-ghost use Rattle.un_ir.specs.Text.{mnemonic};
+ghost use Rattle.un_ir.specs.WellFormed.{is_call};
 ghost use Rattle.un_words.specs.Shapes.{is_slot, word_at, text_ops, op_named, slots_of, result_fits, operands_fit, callee_of, op_line_of, op_shape, operation_shape, func_shape, block_shape, jump_shape, branch_shape, return_shape, assigned_shape, head_word, head_of, shape_by, shape_of};
 
 use crate::forms::{
@@ -17,6 +17,7 @@ use std::alloc::Global;
 use un_base::memory_error::NoMemory;
 use un_base::name::Name;
 use un_ir::function::Kind;
+use un_isa::facts::{result_space, source_name};
 use un_isa::op::Op;
 
 /// The operations that a text may have.
@@ -46,37 +47,11 @@ const TEXT_OPS: [Op; 23] = [
     Op::Call,
 ];
 
-/// The word of an operation.
-fn mnemonic(op: Op) -> &'static [u8]
-    ensures { result.now ≡ mnemonic op }
-{
-    match op {
-        Op::Imm => b"imm",
-        Op::Mov => b"mov",
-        Op::Add => b"add",
-        Op::Sub => b"sub",
-        Op::And => b"and",
-        Op::Or => b"or",
-        Op::Xor => b"xor",
-        Op::Addi => b"addi",
-        Op::Andi => b"andi",
-        Op::Ori => b"ori",
-        Op::Mux => b"mux",
-        Op::CmpEq => b"cmpeq",
-        Op::CmpGt => b"cmpgt",
-        Op::CmpGtu => b"cmpgtu",
-        Op::CmpEqi => b"cmpeqi",
-        Op::CmpGti => b"cmpgti",
-        Op::Mpyi => b"mpyi",
-        Op::Asl => b"asl",
-        Op::Asr => b"asr",
-        Op::Lsr => b"lsr",
-        Op::Load => b"load",
-        Op::Store => b"store",
-        Op::Call => b"call",
-        _ => b"",
-    }
-}
+/// A name, a comma and a literal.
+const NAME_LITERAL: &[Slot] = &[Slot::Named, Slot::Comma, Slot::Literal];
+
+/// A name, a comma and a name.
+const TWO_NAMES: &[Slot] = &[Slot::Named, Slot::Comma, Slot::Named];
 
 /// The operation with this word.
 fn op_named(word: &[u8]) -> Option<Op>
@@ -85,25 +60,22 @@ fn op_named(word: &[u8]) -> Option<Op>
     TEXT_OPS
         .iter()
         .copied()
-        .find(|op| is_text(word, mnemonic(*op)))
+        .find(|op| is_text(word, source_name(*op)))
 }
 
-/// The forms of the words behind an operation's own word.
+/// The forms of the words behind an operation's own word: a name for each operand, a literal where there is one, and
+/// commas between them.
 fn slots(op: Op) -> &'static [Slot]
     ensures { result.now ≡ slots_of op }
 {
     match op {
-        Op::Imm => &[Slot::Literal],
-        Op::Mov => &[Slot::Named],
-        Op::Addi
-        | Op::Andi
-        | Op::Ori
-        | Op::CmpEqi
-        | Op::CmpGti
-        | Op::Asl
-        | Op::Asr
-        | Op::Lsr
-        | Op::Load => &[Slot::Named, Slot::Comma, Slot::Literal],
+        Op::Call | Op::Jump | Op::Enter | Op::Leave | Op::Nop => &[],
+        Op::Imm | Op::Reload => &[Slot::Literal],
+        Op::Mov | Op::JumpIf | Op::JumpIfNot | Op::Jumpr | Op::P2R | Op::R2P => &[Slot::Named],
+        Op::Addi | Op::Andi | Op::Ori | Op::CmpEqi | Op::CmpGti => NAME_LITERAL,
+        Op::Asl | Op::Asr | Op::Lsr | Op::Load | Op::Spill => NAME_LITERAL,
+        Op::Add | Op::Sub | Op::And | Op::Or | Op::Xor | Op::Mpyi => TWO_NAMES,
+        Op::CmpEq | Op::CmpGt | Op::CmpGtu => TWO_NAMES,
         Op::Mux => &[
             Slot::Named,
             Slot::Comma,
@@ -118,38 +90,51 @@ fn slots(op: Op) -> &'static [Slot]
             Slot::Comma,
             Slot::Named,
         ],
-        _ => &[Slot::Named, Slot::Comma, Slot::Named],
     }
 }
 
-/// Whether the operation has a result where it wants one, and none where it has none.
+/// Whether the operation calls a function.
+pub fn is_call(op: Op) -> bool
+    ensures { result ≡ is_call op }
+{
+    match op {
+        Op::Call => true,
+        Op::Imm | Op::Mov | Op::Add | Op::Sub | Op::And | Op::Or | Op::Xor | Op::Addi => false,
+        Op::Andi | Op::Ori | Op::Mux | Op::CmpEq | Op::CmpGt | Op::CmpGtu | Op::CmpEqi => false,
+        Op::CmpGti | Op::Mpyi | Op::Asl | Op::Asr | Op::Lsr | Op::Load | Op::Store => false,
+        Op::Jump | Op::JumpIf | Op::JumpIfNot | Op::Jumpr | Op::Spill | Op::Reload => false,
+        Op::P2R | Op::R2P | Op::Enter | Op::Leave | Op::Nop => false,
+    }
+}
+
+/// Whether the operation has a result where it wants one, and none where it has none. A call may leave its result.
 fn result_fits(op: Op, dst: &Option<(Name, Kind)>) -> bool
     ensures { result ≡ result_fits op dst.now }
 {
-    match op {
-        Op::Store => dst.is_none(),
-        Op::Call => true,
-        _ => dst.is_some(),
+    match result_space(op) {
+        None => dst.is_none(),
+        Some(_) => is_call(op) || dst.is_some(),
     }
 }
 
-/// Whether the words from the operation's own word on are its operands.
+/// Whether the words from the operation's own word on are its operands: for a call, its callee and a list of arguments.
 fn operands_fit(op: Op, tokens: &[Token]) -> bool
     ensures { result ≡ operands_fit op tokens.now }
 {
-    match op {
-        Op::Call => word_at(tokens, 1).is_some() && is_list(from_place(tokens, 2)),
-        _ => have_forms(slots(op), from_place(tokens, 1)),
+    if is_call(op) {
+        return word_at(tokens, 1).is_some() && is_list(from_place(tokens, 2));
     }
+    have_forms(slots(op), from_place(tokens, 1))
 }
 
 /// The function that an operation calls.
 fn callee(op: Op, tokens: &[Token]) -> Option<Name>
     ensures { result ≡ callee_of op tokens.now }
 {
-    match op {
-        Op::Call => word_at(tokens, 1),
-        _ => None,
+    if is_call(op) {
+        word_at(tokens, 1)
+    } else {
+        None
     }
 }
 
