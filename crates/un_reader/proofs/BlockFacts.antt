@@ -11,6 +11,7 @@ use Rattle.un_ir.specs.declared.function.Kind.{Kind}
 use Rattle.un_ir.specs.declared.function.Kind.TheVariants.{General, Pred}
 use Rattle.un_ir.specs.declared.function.Block.{Block as SourceBlock}
 use Rattle.un_ir.specs.WellFormed.{IsOfKind, IsGoodOp, IsGoodBlock, TestsItsKind}
+use Rattle.un_ir.specs.declared.function.TheConstants.{FREQUENCY, PARAMS}
 use Rattle.un_words.specs.declared.token.Number.{Number}
 use Rattle.un_words.specs.declared.line.TermLine.{TermLine}
 use Rattle.un_words.specs.declared.line.TermLine.TheVariants.{Jump, Branch, Ret}
@@ -40,14 +41,14 @@ kept_known names x k = ap (option_map (λ (n : List ℕ × Kind). n.1)) k
 -- what a function keeps of its parameters
 pub record AreGoodParams (names params : List Spelled) : Type 0 where
   pub words : Each (IsOfKind names General) (map (name_id names) params)
-  pub few : length params ≤ 6
+  pub few : length params ≤ PARAMS
   pub apart : EachPair (λ (a b : NameId). a ≢ b) (map (name_id names) params)
 
 -- what a line gives a function, by the numbers of its names
 abbrev pub Fits : List Spelled → List (List ℕ) → Line → Type 0
 Fits names labels Blank = Unit {0}
 Fits names labels (Func name params) = IsNameWord name × AreGoodParams names params
-Fits names labels (Block label freq) = IsNameWord label × (1 ≤ freq.size) × (freq.size ≤ 1000000)
+Fits names labels (Block label freq) = IsNameWord label × (1 ≤ freq.size) × (freq.size ≤ FREQUENCY)
 Fits names labels (Operation o) = IsGoodOp names (op_of names o)
 Fits names labels (Terminator term) = TestsItsKind names (term_by names labels (Some term))
 
@@ -55,21 +56,21 @@ not_false : (a : Bool) → not a ≡ false → a ≡ true
 not_false true h = refl
 not_false false h = absurd (cc h)
 
-at_most : (n : ℕ) → nat_lt 6 n ≡ false → n ≤ 6
-at_most n h = by (nat_lt 6 n) refl
+at_most : (n : ℕ) → nat_lt PARAMS n ≡ false → n ≤ PARAMS
+at_most n h = by (nat_lt PARAMS n) refl
   where
-    apart : nat_lt 6 n ≡ true → ⊥
+    apart : nat_lt PARAMS n ≡ true → ⊥
     apart e = cc (sym h ∙ e)
 
-    by : (v : Bool) → nat_lt 6 n ≡ v → n ≤ 6
+    by : (v : Bool) → nat_lt PARAMS n ≡ v → n ≤ PARAMS
     by true e = absurd (apart e)
-    by false e = let within : (6 < n) → ⊥ = λ more. apart ((Decides-ltb 6 n).1 more) in omega (arith, within)
+    by false e = let within : (PARAMS < n) → ⊥ = λ more. apart ((Decides-ltb PARAMS n).1 more) in omega (arith, within)
 
-frequency : (freq : Number) → freq_fits freq ≡ true → (1 ≤ freq.size) × (freq.size ≤ 1000000)
+frequency : (freq : Number) → freq_fits freq ≡ true → (1 ≤ freq.size) × (freq.size ≤ FREQUENCY)
 frequency freq h =
-    let outer = and_both (not freq.negative && nat_le 1 freq.size) (nat_le freq.size 1000000) h in
+    let outer = and_both (not freq.negative && nat_le 1 freq.size) (nat_le freq.size FREQUENCY) h in
     let inner = and_both (not freq.negative) (nat_le 1 freq.size) outer.0 in
-    (leb-true 1 freq.size inner.1, leb-true freq.size 1000000 outer.1)
+    (leb-true 1 freq.size inner.1, leb-true freq.size FREQUENCY outer.1)
 
 -- ---- parameters
 
@@ -90,7 +91,7 @@ params_differ names (x ∷ params) k h =
     let parts = or_false (list_any (same_name x) params) (has_repeat params) h in
     (one_differs names x k.0 params k.1 (Each-none (same_name x) params parts.0), params_differ names params k.1 parts.1)
 
-good_params : (names params : List Spelled) → Each (IsKept names) params → list_any is_predicate params ≡ false → has_repeat params ≡ false → length params ≤ 6 → AreGoodParams names params
+good_params : (names params : List Spelled) → Each (IsKept names) params → list_any is_predicate params ≡ false → has_repeat params ≡ false → length params ≤ PARAMS → AreGoodParams names params
 good_params names params k clash repeat few = record {
   words = are_words names params (Each-weaken (IsKept names) (IsKnown names) (kept_known names) params k) clash;
   few = few;
@@ -108,14 +109,14 @@ term_fits names labels (Ret (Some name)) k h = k.0 ∙ ap Some (word_kind name.1
 line_fits : (names : List Spelled) (labels : List (List ℕ)) (before : Before) (line : Line) → IsClean before line → Each (IsKept names) (names_on line) → Fits names labels line
 line_fits names labels before Blank c k = tt
 line_fits names labels before (Func name params) c k =
-    let few : nat_lt 6 (length params) ≡ false = (or_false (nat_lt 6 (length params)) _ c.few).0 in
+    let few : nat_lt PARAMS (length params) ≡ false = (or_false (nat_lt PARAMS (length params)) _ c.few).0 in
     (c.shaped.0, good_params names params k c.kinds (or_false (is_some before.name) (has_repeat params) c.placed).1 (at_most (length params) few))
 line_fits names labels before (Block label freq) c k =
     let f = frequency freq (not_false (freq_fits freq) c.freq) in (c.shaped, f.0, f.1)
 line_fits names labels before (Operation o) c k =
     let clash = or_false (result_clashes o.op o.dst) (operands_clash o.op o.srcs) c.kinds in
     let over : is_over_limit before (Operation o) ≡ false = (or_false (is_over_limit before (Operation o)) _ c.few).0 in
-    let few : nat_lt 6 (length o.srcs) ≡ false = (or_false (nat_lt 6 (length o.srcs)) _ over).0 in
+    let few : nat_lt PARAMS (length o.srcs) ≡ false = (or_false (nat_lt PARAMS (length o.srcs)) _ over).0 in
     op_good names o c.shaped (Each-weaken (IsKept names) (IsKnown names) (kept_known names) (option_to_list o.dst ++ o.srcs) k)
     clash.0 clash.1 (at_most (length o.srcs) few) (not_false (literal_fits o.op o.imm) c.literal)
 line_fits names labels before (Terminator term) c k = term_fits names labels term (Each-weaken (IsKept names) (IsKnown names) (kept_known names) (names_on_term term) k) c.kinds

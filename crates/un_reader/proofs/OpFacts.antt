@@ -12,6 +12,7 @@ use Rattle.un_ir.specs.declared.function.Kind.{Kind}
 use Rattle.un_ir.specs.declared.function.Kind.TheVariants.{General, Pred}
 use Rattle.un_ir.specs.Names.{kind_of}
 use Rattle.un_ir.specs.WellFormed.{kind_in, takes_arguments, IsOfKind, AreRead, IsAssigned, IsGoodOp}
+use Rattle.un_ir.specs.declared.function.TheConstants.{PARAMS}
 use Rattle.un_words.specs.declared.token.Number.{Number}
 use Rattle.un_words.specs.declared.line.OpLine.{OpLine}
 use Rattle.un_words.specs.Tokens.{Spelled}
@@ -61,7 +62,7 @@ fixed_read names (s ∷ spaces) (x ∷ srcs) count clash known =
 
 are_read : (names : List Spelled) (operands : Operands) (srcs : List Spelled) → Counted operands (length srcs)
     → (if takes_arguments operands then list_any is_predicate srcs else list_any (λ (p : Space × Spelled). misfits p.0 p.1) (zip (fixed_spaces operands) srcs)) ≡ false
-    → length srcs ≤ 6 → Each (IsKnown names) srcs → AreRead names operands (map (name_id names) srcs)
+    → length srcs ≤ PARAMS → Each (IsKnown names) srcs → AreRead names operands (map (name_id names) srcs)
 are_read names (Fixed spaces) srcs count clash few known = fixed_read names spaces srcs count clash known
 are_read names Arguments srcs count clash few known = (
   Each-All (IsOfKind names General) (map (name_id names) srcs) (are_words names srcs known clash),
@@ -90,7 +91,7 @@ has_literal (Some range) n fits lacks = in_range range n fits
 
 -- what an operation's line without a fault says of its operation
 pub op_good : (names : List Spelled) (o : OpLine) → IsShapedOp o → Each (IsKnown names) (option_to_list o.dst ++ o.srcs)
-    → result_clashes o.op o.dst ≡ false → operands_clash o.op o.srcs ≡ false → length o.srcs ≤ 6 → literal_fits o.op o.imm ≡ true
+    → result_clashes o.op o.dst ≡ false → operands_clash o.op o.srcs ≡ false → length o.srcs ≤ PARAMS → literal_fits o.op o.imm ≡ true
     → IsGoodOp names (op_of names o)
 op_good names o s known result operands few literal = record {
   op = s.text;

@@ -6,6 +6,7 @@ use Rattle.std.proofs.lemmas.List.{take_more, map_push, take_all}
 use Rattle.std.proofs.lemmas.Option.{slice_get-get_or}
 use Rattle.std.proofs.lemmas.Bool.Decides.{nat_tests}
 use Rattle.un_ir.specs.declared.function.Block.{Block as SourceBlock}
+use Rattle.un_ir.specs.declared.function.TheConstants.{NAMES}
 use Rattle.un_reader.specs.declared.fault.Fault.{Fault}
 use Rattle.un_reader.specs.declared.fault.Fault.TheVariants.{BadByte, BadLine, KindClash, TooMany, WideLiteral, BadFreq, DupLabel, NoBlock, AfterEnd}
 use Rattle.un_words.specs.declared.line.Line.{Line}
@@ -57,9 +58,9 @@ or_false_right : (a b : Bool) → (a || b) ≡ false → b ≡ false
 or_false_right true b h = absurd (cc h)
 or_false_right false b h = h
 
-few_names : (before : Before) (line : Line) → has_too_many before line ≡ false → length (numbered before.names (names_on line)) ≤ 40
+few_names : (before : Before) (line : Line) → has_too_many before line ≡ false → length (numbered before.names (names_on line)) ≤ NAMES
 few_names before line h =
-    let e : nat_lt 40 (length (numbered before.names (names_on line))) ≡ false = or_false_right (is_over_limit before line) _ h in
+    let e : nat_lt NAMES (length (numbered before.names (names_on line))) ≡ false = or_false_right (is_over_limit before line) _ h in
     grind (arith, nat_tests)
 
 is_none_false : {X : Type 0} (o : Option X) → is_none o ≡ false → o ≡ None → ⊥
@@ -84,7 +85,7 @@ still_named before (Terminator term) placed named none = append-nil before.label
 -- ---- all lines
 
 pub record Kept (lines : List Line) : Type 0 where
-  pub few : length (names_of lines) ≤ 40
+  pub few : length (names_of lines) ≤ NAMES
   pub named : IsNamed (before_of lines)
 
 kept_front : (all : List (List ℕ)) → HasNoLineFault all → (n : ℕ) → n ≤ length all → Kept (map line_of (take n all))
@@ -110,7 +111,7 @@ kept_front all good (suc n) h = by (kept_front all good n (omega arith))
     by k =
         let f = no_fault (before_of front) bytes none in
         record {
-          few = subst (λ (b : Before). length b.names ≤ 40) (sym after) (few_names (before_of front) (line_of bytes) f.few);
+          few = subst (λ (b : Before). length b.names ≤ NAMES) (sym after) (few_names (before_of front) (line_of bytes) f.few);
           named = subst IsNamed (sym after) (still_named (before_of front) (line_of bytes) f.placed k.named);
         }
 

@@ -11,6 +11,7 @@ use Rattle.un_ir.specs.declared.function.Block.{Block as SourceBlock}
 use Rattle.un_ir.specs.Live.{IsLive, targets_of, used, kept, read_by_term, read_by, read_at}
 use Rattle.un_ir.specs.Names.{names_on_op, names_in_block, appearances, first_appearances}
 use Rattle.un_ir.specs.WellFormed.{IsName, IsOfKind, IsGoodBlock, LeadsInside, ReturnAlike, IsWellFormed}
+use Rattle.un_ir.specs.declared.function.TheConstants.{OPS}
 use Rattle.un_words.specs.declared.line.Line.{Line}
 use Rattle.un_words.specs.declared.line.Line.TheVariants.{Blank, Func, Block, Operation, Terminator}
 use Rattle.un_reader.specs.declared.fault.Fault.{Fault}
@@ -174,7 +175,7 @@ module _ (all : List (List ℕ)) (good : HasNoLineFault all) (whole : shape_faul
       live_holds (λ (n : NameId). n.0 < length names) blocks name
       (Each-unflat (λ (n : NameId). n.0 < length names) names_in_block blocks (Each-right (λ (n : NameId). n.0 < length names) params (flat_map names_in_block blocks) below_count)) 0 0 live
 
-  few_block_ops : length (flat_map (λ (b : SourceBlock). b.ops) blocks) ≤ 80
+  few_block_ops : length (flat_map (λ (b : SourceBlock). b.ops) blocks) ≤ OPS
   few_block_ops =
       let counted = block_ops names labels lines in
       let few = few_op_lines (before_of []) lines clean (omega arith) in
