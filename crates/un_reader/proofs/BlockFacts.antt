@@ -101,10 +101,9 @@ good_params names params k clash repeat few = record {
 -- ---- lines
 
 term_fits : (names : List Spelled) (labels : List (List ℕ)) (term : TermLine) → Each (IsKnown names) (names_on_term term) → term_clashes term ≡ false → TestsItsKind names (term_by names labels (Some term))
-term_fits names labels (Jump to) k h = tt
 term_fits names labels (Branch pred sense to) k h = k.0 ∙ ap Some (kind_matches Pred pred.1 h)
-term_fits names labels (Ret None) k h = tt
 term_fits names labels (Ret (Some name)) k h = k.0 ∙ ap Some (word_kind name.1 h)
+term_fits names labels _ k h = tt
 
 line_fits : (names : List Spelled) (labels : List (List ℕ)) (before : Before) (line : Line) → IsClean before line → Each (IsKept names) (names_on line) → Fits names labels line
 line_fits names labels before Blank c k = tt
@@ -136,19 +135,15 @@ one_more a b c h = omega arith
 module _ (names : List Spelled) (labels : List (List ℕ)) where
   good_ops : (lines : List Line) → Each (Fits names labels) lines → Each (IsGoodOp names) (ops_of names lines)
   good_ops [] f = tt
-  good_ops (Blank ∷ lines) f = good_ops lines f.1
-  good_ops (Func name params ∷ lines) f = good_ops lines f.1
   good_ops (Block label freq ∷ lines) f = tt
   good_ops (Operation o ∷ lines) f = (f.0, good_ops lines f.1)
-  good_ops (Terminator term ∷ lines) f = good_ops lines f.1
+  good_ops (_ ∷ lines) f = good_ops lines f.1
 
   good_term : (lines : List Line) → Each (Fits names labels) lines → TestsItsKind names (term_by names labels (term_of lines))
   good_term [] f = tt
-  good_term (Blank ∷ lines) f = good_term lines f.1
-  good_term (Func name params ∷ lines) f = good_term lines f.1
   good_term (Block label freq ∷ lines) f = tt
-  good_term (Operation o ∷ lines) f = good_term lines f.1
   good_term (Terminator term ∷ lines) f = f.0
+  good_term (_ ∷ lines) f = good_term lines f.1
 
   pub good_blocks : (lines : List Line) → Each (Fits names labels) lines → Each (IsGoodBlock names) (blocks_of names labels lines)
   good_blocks [] f = tt
@@ -164,11 +159,8 @@ module _ (names : List Spelled) (labels : List (List ℕ)) where
   -- each block has its label
   pub block_labels : (lines : List Line) → map (λ (b : SourceBlock). b.label) (blocks_of names labels lines) ≡ labels_of lines
   block_labels [] = refl
-  block_labels (Blank ∷ lines) = block_labels lines
-  block_labels (Func name params ∷ lines) = block_labels lines
   block_labels (Block label freq ∷ lines) = ap (λ (ls : List (List ℕ)). label ∷ ls) (block_labels lines)
-  block_labels (Operation o ∷ lines) = block_labels lines
-  block_labels (Terminator term ∷ lines) = block_labels lines
+  block_labels (_ ∷ lines) = block_labels lines
 
   -- no more operations than lines of operations
   pub block_ops : (lines : List Line) → length (ops_of names lines) + length (flat_map (λ (b : SourceBlock). b.ops) (blocks_of names labels lines)) ≤ count_by is_operation lines

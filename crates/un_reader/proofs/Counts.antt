@@ -80,11 +80,10 @@ few_op_lines before (line ∷ lines) c h =
 -- ---- names
 
 line_spelled : (line : Line) → IsShaped line → Each IsSpelled (names_on line)
-line_spelled Blank s = tt
 line_spelled (Func name params) s = s.1
-line_spelled (Block label freq) s = tt
 line_spelled (Operation o) s = s.spelled
 line_spelled (Terminator term) s = s
+line_spelled _ s = tt
 
 pub lines_spelled : (before : Before) (lines : List Line) → AreClean before lines → Each IsSpelled (flat_map names_on lines)
 lines_spelled before [] c = tt

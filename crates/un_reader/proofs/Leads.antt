@@ -23,11 +23,9 @@ use Rattle.un_reader.proofs.Targets.{none_passes, IsInside, HasTarget, LineTarge
 
 term_target : (labels : List (List ℕ)) (lines : List Line) → Each (LineTargets labels) lines → IfThere (HasTarget labels) (term_of lines)
 term_target labels [] t = tt
-term_target labels (Blank ∷ lines) t = term_target labels lines t.1
-term_target labels (Func name params ∷ lines) t = term_target labels lines t.1
 term_target labels (Block label freq ∷ lines) t = tt
-term_target labels (Operation o ∷ lines) t = term_target labels lines t.1
 term_target labels (Terminator term ∷ lines) t = t.0
+term_target labels (_ ∷ lines) t = term_target labels lines t.1
 
 -- the targets of a terminator, where the next block is there unless it ends well
 term_leads : (names : List Spelled) (labels : List (List ℕ)) (b : ℕ) (term : Option TermLine) → IfThere (HasTarget labels) term
@@ -115,26 +113,20 @@ TermAlike v term = (x : Bool) → gives_value term ≡ Some x → x ≡ v
 
 module _ (names : List Spelled) (labels : List (List ℕ)) (v : Bool) where
   own_alike : (term : TermLine) → ((x : Bool) → value_on_term term ≡ Some x → x ≡ v) → TermAlike v (term_by names labels (Some term))
-  own_alike (Jump to) f x e = absurd (cc e)
-  own_alike (Branch pred sense to) f x e = absurd (cc e)
   own_alike (Ret None) f x e = f x e
   own_alike (Ret (Some name)) f x e = f x e
+  own_alike _ f x e = absurd (cc e)
 
   term_alike : (lines : List Line) → Each (AlikeWith v) lines → TermAlike v (term_by names labels (term_of lines))
   term_alike [] a x e = absurd (cc e)
-  term_alike (Blank ∷ lines) a x e = term_alike lines a.1 x e
-  term_alike (Func name params ∷ lines) a x e = term_alike lines a.1 x e
   term_alike (Block label freq ∷ lines) a x e = absurd (cc e)
-  term_alike (Operation o ∷ lines) a x e = term_alike lines a.1 x e
   term_alike (Terminator term ∷ lines) a x e = own_alike term a.0 x e
+  term_alike (_ ∷ lines) a x e = term_alike lines a.1 x e
 
   each_alike : (lines : List Line) → Each (AlikeWith v) lines → Each (λ (b : SourceBlock). TermAlike v b.term) (blocks_of names labels lines)
   each_alike [] a = tt
-  each_alike (Blank ∷ lines) a = each_alike lines a.1
-  each_alike (Func name params ∷ lines) a = each_alike lines a.1
   each_alike (Block label freq ∷ lines) a = (term_alike lines a.1, each_alike lines a.1)
-  each_alike (Operation o ∷ lines) a = each_alike lines a.1
-  each_alike (Terminator term ∷ lines) a = each_alike lines a.1
+  each_alike (_ ∷ lines) a = each_alike lines a.1
 
 -- the returns of all blocks are alike
 pub blocks_alike : (names : List Spelled) (labels : List (List ℕ)) (lines : List Line) → mixed_return lines ≡ None → EachPair ReturnAlike (blocks_of names labels lines)

@@ -79,8 +79,7 @@ is_assigned names operands None None known fits clash = refl
 is_assigned names operands None (Some x) known fits clash = absurd (cc fits)
 is_assigned names (Fixed spaces) (Some space) None known fits clash = absurd (cc fits)
 is_assigned names Arguments (Some space) None known fits clash = tt
-is_assigned names (Fixed spaces) (Some space) (Some x) known fits clash = known.0 ∙ ap Some (kind_matches (kind_in space) x.1 clash)
-is_assigned names Arguments (Some space) (Some x) known fits clash = known.0 ∙ ap Some (kind_matches (kind_in space) x.1 clash)
+is_assigned names _ (Some space) (Some x) known fits clash = known.0 ∙ ap Some (kind_matches (kind_in space) x.1 clash)
 
 -- ---- the literal
 

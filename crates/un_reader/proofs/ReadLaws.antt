@@ -72,15 +72,13 @@ or_none None b h = refl
 or_none (Some x) b h = absurd (cc h)
 
 still_named : (before : Before) (line : Line) → is_misplaced before line ≡ false → IsNamed before → IsNamed (noted before line)
-still_named before Blank placed named none = append-nil before.labels ∙ named (or_none before.name None none)
 still_named before (Func name params) placed named none = by before.name none
   where
     by : (o : Option (List ℕ)) → option_or o (Some name) ≡ None → before.labels ++ [] ≡ []
     by None h = absurd (cc h)
     by (Some x) h = absurd (cc h)
 still_named before (Block label freq) placed named none = absurd (is_none_false before.name placed (or_none before.name None none))
-still_named before (Operation o) placed named none = append-nil before.labels ∙ named (or_none before.name None none)
-still_named before (Terminator term) placed named none = append-nil before.labels ∙ named (or_none before.name None none)
+still_named before _ placed named none = append-nil before.labels ∙ named (or_none before.name None none)
 
 -- ---- all lines
 

@@ -68,13 +68,9 @@ LineTargets labels (Terminator term) = HasTarget labels term
 LineTargets labels _ = Unit {0}
 
 line_target : (labels : List (List ℕ)) (line : Line) → (jumps_outside labels line ≡ false) × (jumps_to_entry labels line ≡ false) → LineTargets labels line
-line_target labels Blank h = tt
-line_target labels (Func name params) h = tt
-line_target labels (Block label freq) h = tt
-line_target labels (Operation o) h = tt
 line_target labels (Terminator (Jump to)) h = target_inside labels to h.0 h.1
 line_target labels (Terminator (Branch pred sense to)) h = target_inside labels to h.0 h.1
-line_target labels (Terminator (Ret value)) h = tt
+line_target labels _ h = tt
 
 pub all_targets : (labels : List (List ℕ)) (lines : List Line) → position (jumps_outside labels) lines ≡ None → position (jumps_to_entry labels) lines ≡ None → Each (LineTargets labels) lines
 all_targets labels lines outside entry =
@@ -85,11 +81,8 @@ all_targets labels lines outside entry =
 
 no_later : (last : Option ℕ) (n : ℕ) (lines : List Line) → labels_of lines ≡ [] → fold later_block last (enumerate_from n lines) ≡ last
 no_later last n [] h = refl
-no_later last n (Blank ∷ lines) h = no_later last (n + 1) lines h
-no_later last n (Func name params ∷ lines) h = no_later last (n + 1) lines h
 no_later last n (Block label freq ∷ lines) h = absurd (cc h)
-no_later last n (Operation o ∷ lines) h = no_later last (n + 1) lines h
-no_later last n (Terminator term ∷ lines) h = no_later last (n + 1) lines h
+no_later last n (_ ∷ lines) h = no_later last (n + 1) lines h
 
 last_found : (last : Option ℕ) (n : ℕ) (front : List Line) (label : List ℕ) (freq : Number) (rest : List Line) → labels_of rest ≡ []
     → fold later_block last (enumerate_from n (front ++ Block label freq ∷ rest)) ≡ Some (n + length front)

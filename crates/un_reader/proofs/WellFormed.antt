@@ -83,19 +83,13 @@ is_whole lines h =
 
 params_good : (names : List Spelled) (labels : List (List ℕ)) (lines : List Line) → Each (Fits names labels) lines → AreGoodParams names (params_of lines)
 params_good names labels [] f = record { words = tt; few = omega arith; apart = tt }
-params_good names labels (Blank ∷ lines) f = params_good names labels lines f.1
 params_good names labels (Func name params ∷ lines) f = f.0.1
-params_good names labels (Block label freq ∷ lines) f = params_good names labels lines f.1
-params_good names labels (Operation o ∷ lines) f = params_good names labels lines f.1
-params_good names labels (Terminator term ∷ lines) f = params_good names labels lines f.1
+params_good names labels (_ ∷ lines) f = params_good names labels lines f.1
 
 func_named : (names : List Spelled) (labels : List (List ℕ)) (lines : List Line) → Each (Fits names labels) lines → name_of lines ≢ None → IsName (unwrap_or (name_of lines) [])
 func_named names labels [] f n = absurd (n refl)
-func_named names labels (Blank ∷ lines) f n = func_named names labels lines f.1 n
 func_named names labels (Func name params ∷ lines) f n = f.0.0
-func_named names labels (Block label freq ∷ lines) f n = func_named names labels lines f.1 n
-func_named names labels (Operation o ∷ lines) f n = func_named names labels lines f.1 n
-func_named names labels (Terminator term ∷ lines) f n = func_named names labels lines f.1 n
+func_named names labels (_ ∷ lines) f n = func_named names labels lines f.1 n
 
 -- ---- live names
 

@@ -84,15 +84,12 @@ inside_ops names (o ∷ ops) = All-cons IsInside _ (op_lines names ops) refl (in
 
 inside_term : (blocks : List SourceBlock) (names : Names) (term : Term) → All IsInside (term_as_lines blocks names term)
 inside_term blocks names Fall = All-nil IsInside
-inside_term blocks names (JumpTo to) = All-cons IsInside _ [] refl (All-nil IsInside)
-inside_term blocks names (BranchTo pred sense to) = All-cons IsInside _ [] refl (All-nil IsInside)
-inside_term blocks names (Return value) = All-cons IsInside _ [] refl (All-nil IsInside)
+inside_term blocks names _ = All-cons IsInside _ [] refl (All-nil IsInside)
 
 ends : (blocks : List SourceBlock) (names : Names) (b : ℕ) (term : Term) → length blocks ≡ b + 1 → LeadsInside blocks b term → ends_well (term_of (term_as_lines blocks names term)) ≡ true
 ends blocks names b Fall count h = let t = All-head (λ (c : ℕ). (0 < c) × (c < length blocks)) (b + 1) [] h in absurd (omega arith)
-ends blocks names b (JumpTo to) count h = refl
 ends blocks names b (BranchTo pred sense to) count h = let t = All-head (λ (c : ℕ). (0 < c) × (c < length blocks)) (b + 1) (to.0 ∷ []) h in absurd (omega arith)
-ends blocks names b (Return value) count h = refl
+ends blocks names b _ count h = refl
 
 -- the last block does not fall off the end
 pub none_falls : (name : List ℕ) (params : List NameId) (names : Names) (blocks : List SourceBlock) → IsWellFormed name params names blocks

@@ -87,12 +87,11 @@ GoesInside count (BranchTo pred sense to) = (0 < to.0) × (to.0 < count)
 GoesInside count (Return value) = Unit {0}
 
 goes_inside : (blocks : List SourceBlock) (b : ℕ) (term : Term) → LeadsInside blocks b term → GoesInside (length blocks) term
-goes_inside blocks b Fall h = tt
 goes_inside blocks b (JumpTo to) h = All-head (λ (c : ℕ). (0 < c) × (c < length blocks)) to.0 [] h
 goes_inside blocks b (BranchTo pred sense to) h =
     All-head (λ (c : ℕ). (0 < c) × (c < length blocks)) to.0 []
     (All-tail (λ (c : ℕ). (0 < c) × (c < length blocks)) (b + 1) (to.0 ∷ []) h)
-goes_inside blocks b (Return value) h = tt
+goes_inside blocks b _ h = tt
 
 pub go_inside : (name : List ℕ) (params : List NameId) (names : Names) (blocks : List SourceBlock) → IsWellFormed name params names blocks
     → All (λ (b : SourceBlock). GoesInside (length blocks) b.term) blocks

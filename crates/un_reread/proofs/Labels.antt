@@ -50,11 +50,8 @@ names_of_ops names (o ∷ ops) =
     ∙ sym (map-append (spelled_at names) (names_on_op o) (flat_map names_on_op ops))
 
 names_of_term : (blocks : List SourceBlock) (names : Names) (term : Term) → flat_map names_on (term_as_lines blocks names term) ≡ map (spelled_at names) (read_by_term term)
-names_of_term blocks names Fall = refl
-names_of_term blocks names (JumpTo to) = refl
-names_of_term blocks names (BranchTo pred sense to) = refl
-names_of_term blocks names (Return None) = refl
 names_of_term blocks names (Return (Some name)) = refl
+names_of_term blocks names _ = refl
 
 names_of_body : (blocks : List SourceBlock) (names : Names) (block : SourceBlock) → flat_map names_on (body_lines blocks names block) ≡ map (spelled_at names) (names_in_block block)
 names_of_body blocks names block =

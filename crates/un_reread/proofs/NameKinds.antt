@@ -79,11 +79,10 @@ module _ (names : Names) where
 
   result_by : (operands : Operands) (result : Option Space) (dst : Option NameId) → IsAssigned names operands result dst
       → option_map_or (λ (name : Spelled). option_map_or (λ (space : Space). misfits space name) result false) (option_map (spelled_at names) dst) false ≡ false
-  result_by operands None None h = refl
   result_by operands None (Some name) h = refl
-  result_by operands (Some space) None h = refl
   result_by (Fixed spaces) (Some space) (Some name) h = fits space name h
   result_by Arguments (Some space) (Some name) h = fits space name h
+  result_by operands _ None h = refl
 
   pub result_agrees : (op : Op) (dst : Option NameId) → AssignsItsKind names op dst → result_clashes op (option_map (spelled_at names) dst) ≡ false
   result_agrees op dst h = result_by (facts_of op).operands (result_space op) dst h

@@ -105,9 +105,8 @@ module _ (names : Names) where
   result_there operands None None h = refl
   result_there operands None (Some name) h = absurd (cc h)
   result_there (Fixed spaces) (Some space) None h = absurd h
-  result_there Arguments (Some space) None h = refl
   result_there (Fixed spaces) (Some space) (Some name) h = refl
-  result_there Arguments (Some space) (Some name) h = refl
+  result_there Arguments (Some space) _ h = refl
 
 callee_named : (operands : Operands) (callee : Option (List ℕ)) → IsCallee operands callee → IfSome callee IsName
 callee_named operands None h = tt

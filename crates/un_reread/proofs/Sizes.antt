@@ -22,11 +22,8 @@ joined_size (line ∷ lines) all =
     omega arith
 
 one_at_most : (blocks : List Block) (names : Names) (term : Term) → length (term_lines blocks names term) ≤ 1
-one_at_most blocks names Fall = omega arith
-one_at_most blocks names (Jump to) = omega arith
-one_at_most blocks names (Branch pred sense to) = omega arith
-one_at_most blocks names (Ret None) = omega arith
 one_at_most blocks names (Ret (Some name)) = omega arith
+one_at_most blocks names _ = omega arith
 
 -- each block has a line, one for each operation, and at most one more
 line_count : (blocks : List Block) (names : Names) (some : List Block)

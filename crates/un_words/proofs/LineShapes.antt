@@ -78,7 +78,6 @@ assigned_good ts g =
     (operation_good (name_at 0 ts) (name_there 0 ts g) (drop 2 ts) (good_drop 2 ts g))
 
 shape_good : (head : Head) (ts : List Token) → Each IsGoodToken ts → IfThere IsShaped (shape_by head ts)
-shape_good Nothing ts g = tt
 shape_good FuncHead ts g = func_good ts g
 shape_good BlockHead ts g = block_good ts g
 shape_good JumpHead ts g = jump_good ts
@@ -86,7 +85,7 @@ shape_good IfHead ts g = branch_good ts g
 shape_good RetHead ts g = return_good ts g
 shape_good Assigned ts g = assigned_good ts g
 shape_good Bare ts g = operation_good None tt ts g
-shape_good Unknown ts g = tt
+shape_good _ ts g = tt
 
 -- the line that bytes are
 pub line_shaped : (bytes : List ℕ) → IsShaped (line_of bytes)
