@@ -7,9 +7,7 @@ use Rattle.std.proofs.lemmas.List.{length-append}
 use Rattle.std.proofs.lemmas.List.Sums.{sum_by-cons}
 use Rattle.std.proofs.lemmas.Slice.Eq.{bytes_eq-Decides}
 use Rattle.un_ir.specs.declared.function.TheConstants.{BLOCKS, OPS}
-use Rattle.un_words.specs.declared.token.Number.{Number}
-use Rattle.un_words.specs.declared.line.Line.{Line}
-use Rattle.un_words.specs.declared.line.Line.TheVariants.{Blank, Func, Block, Operation, Terminator}
+use Rattle.un_reader.specs.Vocabulary.{Number, Line, Blank, Func, Block, Operation, Terminator}
 use Rattle.un_reader.specs.declared.before.Before.{Before}
 use Rattle.un_reader.specs.Before.{labels_of, is_operation}
 use Rattle.un_words.specs.LineNames.{names_on}

@@ -3,13 +3,10 @@ use Rattle.std.proofs.Common.{◌≡◌, ◌≢◌, ℕ, zero, suc, ◌+◌, ◌
 use Rattle.std.specs.Option.{option_map_or}
 use Rattle.std.proofs.lemmas.Bool.{eqb-true}
 use Rattle.std.proofs.lemmas.Option.{slice_get_past, slice_get-get_or}
-use Rattle.un_base.specs.declared.ids.NameId.{NameId}
-use Rattle.un_ir.specs.declared.function.SrcOp.{SrcOp}
-use Rattle.un_ir.specs.declared.function.Term.{Term}
-use Rattle.un_ir.specs.declared.function.Term.TheVariants.{Fall, Jump, Branch, Ret}
+use Rattle.un_reader.specs.Vocabulary.{NameId, SrcOp, Term, Fall, Spelled}
+use Rattle.un_ir.specs.declared.function.Term.TheVariants.{Jump, Branch, Ret}
 use Rattle.un_ir.specs.declared.function.Block.{Block}
 use Rattle.un_ir.specs.Live.{IsLive, used, kept, read_by_term, read_by, read_at, targets_of, assigned_by, assigned_at, next_by, next_of}
-use Rattle.un_words.specs.Tokens.{Spelled}
 use Rattle.un_reader.specs.declared.meeting.Meeting.{Meeting}
 use Rattle.un_reader.specs.declared.meeting.Meeting.TheVariants.{Read, Assigned, Neither}
 use Rattle.un_reader.specs.Entry.{IsLiveAtEntry, reads, assigns, meeting, marked, leads, live_by, lives, lives_at, AreSound, AreClosed}

@@ -5,10 +5,8 @@ use Rattle.std.specs.List.{list_any, fold, position_or_len, range_with_len}
 use Rattle.std.specs.Str.{bytes_eq}
 use Rattle.std.proofs.lemmas.Bool.Decides.{Decides-eqb}
 use Rattle.std.proofs.lemmas.Slice.Eq.{bytes_eq-Decides}
-use Rattle.un_ir.specs.declared.function.Kind.{Kind}
-use Rattle.un_ir.specs.declared.function.Kind.TheVariants.{General, Pred}
+use Rattle.un_reader.specs.Vocabulary.{Kind, General, Pred, Spelled}
 use Rattle.un_ir.specs.Names.{see, first_appearances}
-use Rattle.un_words.specs.Tokens.{Spelled}
 use Rattle.un_reader.specs.Before.{same_kind, same_name, add_name, numbered}
 use Rattle.un_reader.specs.Functions.{name_id}
 use Rattle.un_words.proofs.Each.{Each, Each-weaken, Each-append, EachPair, EachPair-push, Each-none, and_both}

@@ -2,16 +2,9 @@
 use Rattle.std.proofs.Common.{◌≡◌, ℕ, zero, suc, ◌+◌, ◌<◌, ◌++◌, Bool, true, false, List, [], ◌∷◌, Option, Some, None, length, slice_get, refl, sym, ap, ◌∙◌, arith, subst, append_assoc, add-zero}
 use Rattle.std.specs.List.{position}
 use Rattle.std.specs.Option.{option_map_or, option_and_then, option_or}
-use Rattle.un_ir.specs.declared.function.Term.{Term}
-use Rattle.un_ir.specs.declared.function.Block.{Block as SourceBlock}
+use Rattle.un_reader.specs.Vocabulary.{Term, SourceBlock, Number, TermLine, Jump, Branch, Ret, Line, Blank, Func, Block, Operation, Terminator, Spelled}
 use Rattle.un_ir.specs.Live.{targets_of}
 use Rattle.un_ir.specs.WellFormed.{gives_value, ReturnAlike}
-use Rattle.un_words.specs.declared.token.Number.{Number}
-use Rattle.un_words.specs.declared.line.TermLine.{TermLine}
-use Rattle.un_words.specs.declared.line.TermLine.TheVariants.{Jump, Branch, Ret}
-use Rattle.un_words.specs.declared.line.Line.{Line}
-use Rattle.un_words.specs.declared.line.Line.TheVariants.{Blank, Func, Block, Operation, Terminator}
-use Rattle.un_words.specs.Tokens.{Spelled}
 use Rattle.un_reader.specs.Before.{labels_of}
 use Rattle.un_reader.specs.TextFaults.{term_of, ends_well, falls_off, value_on_term, value_on, first_value, differs, returns_else, mixed_return}
 use Rattle.un_reader.specs.Functions.{term_by, ops_of, blocks_of}

@@ -9,10 +9,8 @@ use Rattle.std.proofs.lemmas.Slice.Eq.{bytes_eq-Decides}
 use Rattle.std.proofs.lemmas.Bool.Decides.{Decides-eqb}
 use Rattle.un_base.specs.contracts.name.NamePartialEq.TheImpl.{ghosts as name_ghosts}
 use Rattle.un_ir.specs.contracts.function.KindPartialEq.TheImpl.{ghosts as kind_ghosts}
-use Rattle.un_ir.specs.declared.function.Kind.{Kind}
-use Rattle.un_ir.specs.declared.function.Kind.TheVariants.{General, Pred}
+use Rattle.un_reader.specs.Vocabulary.{Kind, General, Pred, Spelled}
 use Rattle.un_reader.specs.Before.{same_kind, same_name, add_name}
-use Rattle.un_words.specs.Tokens.{Spelled}
 
 -- the bytes of a name with zeros to their full number
 abbrev padded : List ℕ → List ℕ

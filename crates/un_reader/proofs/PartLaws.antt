@@ -1,15 +1,12 @@
 -- What the parts of a function have, once its lines and the whole of them have no fault.
 use Rattle.std.proofs.Common.{◌≡◌, ℕ, ◌+◌, ◌≤◌, List, [], None, length, unwrap_or, sym, ap, ◌∙◌, subst}
 use Rattle.std.specs.List.{position_or_len}
-use Rattle.un_base.specs.declared.ids.NameId.{NameId}
-use Rattle.un_ir.specs.declared.function.Block.{Block as SourceBlock}
+use Rattle.un_reader.specs.Vocabulary.{NameId, SourceBlock, Line, Spelled}
 use Rattle.un_ir.specs.declared.function.Function.{Function}
 use Rattle.un_ir.specs.WellFormed.{IsWellFormed}
 use Rattle.un_ir.proofs.SameFunction.{same_function}
 use Rattle.un_reader.specs.declared.fault.Fault.TheVariants.{LiveAtEntry}
 use Rattle.un_reader.specs.declared.limits.TheConstants.{TEXT}
-use Rattle.un_words.specs.declared.line.Line.{Line}
-use Rattle.un_words.specs.Tokens.{Spelled}
 use Rattle.un_reader.specs.Before.{name_of, names_of}
 use Rattle.un_reader.specs.Lines.{HasNoLineFault, shapes_in}
 use Rattle.un_words.specs.Pieces.{lines_in}

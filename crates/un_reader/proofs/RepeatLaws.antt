@@ -4,9 +4,7 @@ use Rattle.std.specs.List.{list_any}
 use Rattle.std.specs.Str.{bytes_eq}
 use Rattle.std.proofs.Math.Seq.{drop-cons}
 use Rattle.std.proofs.lemmas.List.Folds.{list_any-append}
-use Rattle.un_ir.specs.declared.function.Kind.{Kind}
-use Rattle.un_ir.specs.declared.function.Kind.TheVariants.{General, Pred}
-use Rattle.un_words.specs.Tokens.{Spelled}
+use Rattle.un_reader.specs.Vocabulary.{Kind, General, Pred, Spelled}
 use Rattle.un_reader.specs.Before.{same_kind, same_name, add_name}
 use Rattle.un_reader.specs.LineFaults.{has_repeat}
 use Rattle.un_reader.proofs.NameEq.{same_truth}

@@ -3,17 +3,10 @@ use Rattle.std.proofs.Common.{◌≡◌, ℕ, ◌<◌, ◌++◌, Bool, true, fal
 use Rattle.std.specs.List.{flat_map}
 use Rattle.std.specs.Option.{option_map, option_or, option_to_list}
 use Rattle.std.proofs.lemmas.List.{map-append}
-use Rattle.un_base.specs.declared.ids.NameId.{NameId}
+use Rattle.un_reader.specs.Vocabulary.{NameId, Number, OpLine, TermLine, Ret, Line, Blank, Func, Block, Operation, Terminator, Spelled}
 use Rattle.un_ir.specs.Live.{read_by_term}
 use Rattle.un_ir.specs.Names.{names_on_op, names_in_block, appearances}
-use Rattle.un_words.specs.declared.token.Number.{Number}
-use Rattle.un_words.specs.declared.line.OpLine.{OpLine}
-use Rattle.un_words.specs.declared.line.TermLine.{TermLine}
-use Rattle.un_words.specs.declared.line.TermLine.TheVariants.{Jump, Branch, Ret}
-use Rattle.un_words.specs.declared.line.Line.{Line}
-use Rattle.un_words.specs.declared.line.Line.TheVariants.{Blank, Func, Block, Operation, Terminator}
 use Rattle.un_reader.specs.declared.before.Before.{Before}
-use Rattle.un_words.specs.Tokens.{Spelled}
 use Rattle.un_words.specs.LineNames.{names_on, names_on_term}
 use Rattle.un_reader.specs.Noted.{noted}
 use Rattle.un_reader.specs.TextFaults.{term_of}

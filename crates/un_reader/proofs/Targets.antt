@@ -4,11 +4,7 @@ use Rattle.std.specs.List.{list_any, fold, position, position_or_len, enumerate_
 use Rattle.std.specs.Str.{bytes_eq}
 use Rattle.std.proofs.lemmas.Bool.Decides.{Decides-ltb}
 use Rattle.std.proofs.lemmas.Slice.Eq.{bytes_eq-Decides}
-use Rattle.un_words.specs.declared.token.Number.{Number}
-use Rattle.un_words.specs.declared.line.TermLine.{TermLine}
-use Rattle.un_words.specs.declared.line.TermLine.TheVariants.{Jump, Branch, Ret}
-use Rattle.un_words.specs.declared.line.Line.{Line}
-use Rattle.un_words.specs.declared.line.Line.TheVariants.{Blank, Func, Block, Operation, Terminator}
+use Rattle.un_reader.specs.Vocabulary.{Number, TermLine, Jump, Branch, Ret, Line, Block, Terminator}
 use Rattle.un_reader.specs.Before.{labels_of}
 use Rattle.un_reader.specs.TextFaults.{term_of, later_block, last_block, ends_well, falls_off, jumps_outside, is_entry, jumps_to_entry}
 use Rattle.un_reader.specs.Functions.{block_id}

@@ -4,12 +4,8 @@ use Rattle.std.specs.Prelude.{ℕ, ◌&&◌, Bool, true, false, List, [], ◌∷
 use Rattle.std.specs.List.{list_any, filter_map, flat_map, count_by, fold}
 use Rattle.std.specs.Option.{option_or}
 use Rattle.std.specs.Str.{bytes_eq}
-use Rattle.un_ir.specs.declared.function.Kind.{Kind}
-use Rattle.un_ir.specs.declared.function.Kind.TheVariants.{General, Pred}
-use Rattle.un_words.specs.declared.line.Line.{Line}
-use Rattle.un_words.specs.declared.line.Line.TheVariants.{Func, Block, Operation, Terminator}
+use Rattle.un_reader.specs.Vocabulary.{Kind, General, Pred, Line, Func, Block, Operation, Terminator, Spelled}
 use Rattle.un_reader.specs.declared.before.Before.{Before}
-use Rattle.un_words.specs.Tokens.{Spelled}
 use Rattle.un_words.specs.LineNames.{names_on}
 
 -- ---- names

@@ -9,3 +9,4 @@ pub mod Named
 pub mod Noted
 pub mod Read
 pub mod TextFaults
+pub mod Vocabulary

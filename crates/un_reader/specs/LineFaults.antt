@@ -9,17 +9,12 @@ use Rattle.un_isa.specs.declared.facts.Range.{Range}
 use Rattle.un_isa.specs.declared.facts.Range.TheVariants.{Signed16, Signed10, Unsigned5, Offset, FrameOffset}
 use Rattle.un_isa.specs.Facts.{operand_spaces, result_space, literal_range}
 use Rattle.un_ir.specs.WellFormed.{kind_in, is_call}
-use Rattle.un_ir.specs.declared.function.Kind.TheVariants.{Pred}
+use Rattle.un_reader.specs.Vocabulary.{Pred, Number, TermLine, Jump, Branch, Ret, Line, Blank, Func, Block, Operation, Terminator, Spelled}
 use Rattle.un_ir.specs.declared.function.TheConstants.{BLOCKS, OPS, NAMES, FREQUENCY, PARAMS}
-use Rattle.un_words.specs.declared.token.Number.{Number}
-use Rattle.un_words.specs.declared.line.TermLine.{TermLine}
-use Rattle.un_words.specs.declared.line.TermLine.TheVariants.{Jump, Branch, Ret}
-use Rattle.un_words.specs.declared.line.Line.{Line}
-use Rattle.un_words.specs.declared.line.Line.TheVariants.{Blank, Func, Block, Operation, Terminator}
 use Rattle.un_reader.specs.declared.before.Before.{Before}
 use Rattle.un_reader.specs.declared.fault.Fault.{Fault}
 use Rattle.un_reader.specs.declared.fault.Fault.TheVariants.{BadByte, BadLine, KindClash, TooMany, WideLiteral, BadFreq, DupLabel, NoBlock, AfterEnd}
-use Rattle.un_words.specs.Tokens.{Spelled, tokens_of}
+use Rattle.un_words.specs.Tokens.{tokens_of}
 use Rattle.un_words.specs.Shapes.{shape_of, line_of}
 use Rattle.un_reader.specs.Before.{same_kind, same_name, numbered, before_of}
 use Rattle.un_words.specs.LineNames.{names_on}

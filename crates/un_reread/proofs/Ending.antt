@@ -5,15 +5,9 @@ use Rattle.std.specs.Option.{option_and_then}
 use Rattle.std.proofs.lemmas.List.{length-append}
 use Rattle.std.proofs.lemmas.List.Elements.{All-nil, All-cons, All-head, All-tail, All-append}
 use Rattle.std.proofs.lemmas.Grind.{flat_map-append}
-use Rattle.un_base.specs.declared.ids.NameId.{NameId}
-use Rattle.un_ir.specs.declared.function.SrcOp.{SrcOp}
-use Rattle.un_ir.specs.declared.function.Term.{Term}
-use Rattle.un_ir.specs.declared.function.Term.TheVariants.{Fall, Jump as JumpTo, Branch as BranchTo, Ret as Return}
-use Rattle.un_ir.specs.declared.function.Block.{Block as SourceBlock}
+use Rattle.un_reader.specs.Vocabulary.{NameId, SrcOp, Term, Fall, BranchTo, SourceBlock, Line, Func, Block}
 use Rattle.un_ir.specs.Text.{Names}
 use Rattle.un_ir.specs.WellFormed.{IsWellFormed, LeadsInside}
-use Rattle.un_words.specs.declared.line.Line.{Line}
-use Rattle.un_words.specs.declared.line.Line.TheVariants.{Func, Block}
 use Rattle.un_reader.specs.TextFaults.{is_block, term_of, later_block, last_block, ends_well, falls_off}
 use Rattle.un_reread.specs.Printed.{spelled_at, term_as_lines, block_as_lines, printed_lines}
 use Rattle.un_reread.proofs.Rebuilt.{term_behind}

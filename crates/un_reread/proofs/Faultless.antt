@@ -4,8 +4,7 @@ use Rattle.std.specs.List.{All, list_all}
 use Rattle.std.proofs.lemmas.List.{take-map}
 use Rattle.std.proofs.lemmas.Option.{slice_get-get_or}
 use Rattle.un_reader.specs.declared.fault.Fault.TheVariants.{BadByte}
-use Rattle.un_words.specs.declared.line.Line.{Line}
-use Rattle.un_words.specs.declared.line.Line.TheVariants.{Blank}
+use Rattle.un_reader.specs.Vocabulary.{Line, Blank}
 use Rattle.un_reader.specs.Before.{before_of}
 use Rattle.un_reader.specs.LineFaults.{is_plain_byte, faults_on, first_of, shaped_fault, fault_at}
 use Rattle.un_reader.specs.Lines.{HasNoLineFault}

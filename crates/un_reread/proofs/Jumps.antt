@@ -7,11 +7,7 @@ use Rattle.std.proofs.lemmas.List.{length-map}
 use Rattle.std.proofs.lemmas.List.Elements.{All-head, All-tail}
 use Rattle.std.proofs.lemmas.List.Sums.{position_or_len_is}
 use Rattle.std.proofs.lemmas.List.Folds.{list_any_at, list_any_none}
-use Rattle.un_base.specs.declared.ids.NameId.{NameId}
-use Rattle.un_base.specs.declared.ids.BlockId.{BlockId}
-use Rattle.un_ir.specs.declared.function.Term.{Term}
-use Rattle.un_ir.specs.declared.function.Term.TheVariants.{Fall, Jump as JumpTo, Branch as BranchTo, Ret as Return}
-use Rattle.un_ir.specs.declared.function.Block.{Block as SourceBlock}
+use Rattle.un_reader.specs.Vocabulary.{NameId, BlockId, Term, Fall, JumpTo, BranchTo, Return, SourceBlock}
 use Rattle.un_ir.specs.Text.{Names, label_of}
 use Rattle.un_ir.specs.WellFormed.{IsWellFormed, LeadsInside}
 use Rattle.un_reader.specs.TextFaults.{is_entry}

@@ -5,15 +5,10 @@ use Rattle.std.specs.Str.{bytes_eq}
 use Rattle.std.proofs.lemmas.List.{length-map}
 use Rattle.std.proofs.lemmas.List.Elements.{All-head}
 use Rattle.std.proofs.lemmas.Bool.Decides.{nat_tests}
-use Rattle.un_base.specs.declared.ids.NameId.{NameId}
-use Rattle.un_ir.specs.declared.function.Block.{Block as SourceBlock}
+use Rattle.un_reader.specs.Vocabulary.{NameId, SourceBlock, Number, OpLine, Line, Blank, Func, Block, Operation, Terminator}
 use Rattle.un_ir.specs.declared.function.TheConstants.{BLOCKS, OPS, NAMES}
 use Rattle.un_ir.specs.Text.{Names}
 use Rattle.un_ir.specs.WellFormed.{IsWellFormed}
-use Rattle.un_words.specs.declared.token.Number.{Number}
-use Rattle.un_words.specs.declared.line.OpLine.{OpLine}
-use Rattle.un_words.specs.declared.line.Line.{Line}
-use Rattle.un_words.specs.declared.line.Line.TheVariants.{Blank, Func, Block, Operation, Terminator}
 use Rattle.un_reader.specs.declared.before.Before.{Before}
 use Rattle.un_reader.specs.Before.{numbered, names_of, labels_of, is_operation, ended_after, before_of}
 use Rattle.un_words.specs.LineNames.{names_on}

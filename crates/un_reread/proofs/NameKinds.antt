@@ -4,17 +4,14 @@ use Rattle.std.specs.List.{All, list_any, zip}
 use Rattle.std.specs.Option.{option_map, option_map_or}
 use Rattle.std.proofs.lemmas.List.{length-map}
 use Rattle.std.proofs.lemmas.List.Elements.{All-head, All-tail}
-use Rattle.un_base.specs.declared.ids.NameId.{NameId}
+use Rattle.un_reader.specs.Vocabulary.{NameId, Kind, General, Pred, Spelled}
 use Rattle.un_isa.specs.declared.op.Op.{Op}
 use Rattle.un_isa.specs.declared.op.Op.TheVariants.{Mux}
 use Rattle.un_isa.specs.declared.reg.Space.{Space}
 use Rattle.un_isa.specs.Facts.{Operands, Fixed, Arguments, facts_of, fixed_spaces, operand_spaces, result_space}
-use Rattle.un_ir.specs.declared.function.Kind.{Kind}
-use Rattle.un_ir.specs.declared.function.Kind.TheVariants.{General, Pred}
 use Rattle.un_ir.specs.Names.{kind_of}
 use Rattle.un_ir.specs.Text.{Names}
 use Rattle.un_ir.specs.WellFormed.{kind_in, takes_arguments, IsOfKind, AreRead, ReadsItsKinds, IsAssigned, AssignsItsKind}
-use Rattle.un_words.specs.Tokens.{Spelled}
 use Rattle.un_reader.specs.Before.{same_kind}
 use Rattle.un_reader.specs.LineFaults.{is_predicate, misfits, operands_clash, result_clashes}
 use Rattle.un_reread.specs.Printed.{spelled_at}

@@ -1,11 +1,9 @@
 -- The bytes of the line of an operation.
 use Rattle.std.proofs.Common.{ℕ, ◌+◌, ◌*◌, ◌≤◌, List, [], ◌∷◌, ◌++◌, map, length, codes, Option, Some, None, IfSome, refl, arith}
-use Rattle.un_base.specs.declared.ids.NameId.{NameId}
+use Rattle.un_reader.specs.Vocabulary.{NameId, SrcOp, Token}
 use Rattle.un_isa.specs.Facts.{source_name}
-use Rattle.un_ir.specs.declared.function.SrcOp.{SrcOp}
 use Rattle.un_ir.specs.Text.{Names, name_text, result_text, comma_joined, spaced, callee_text, operand_texts, op_line}
 use Rattle.un_ir.specs.WellFormed.{IsName}
-use Rattle.un_words.specs.declared.token.Token.{Token}
 use Rattle.un_reread.proofs.Neat.{IsNeat, neat_append, neat_more}
 use Rattle.un_reread.proofs.WordsOf.{AllSay}
 use Rattle.un_reread.proofs.NameWords.{word_says}

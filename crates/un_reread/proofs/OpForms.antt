@@ -5,12 +5,10 @@ use Rattle.un_isa.specs.declared.reg.Space.{Space}
 use Rattle.un_isa.specs.declared.facts.Range.{Range}
 use Rattle.un_isa.specs.declared.facts.Range.TheVariants.{Offset}
 use Rattle.un_ir.specs.Text.{with_literal}
-use Rattle.un_words.specs.declared.token.Number.{Number}
-use Rattle.un_words.specs.declared.token.Token.{Token}
+use Rattle.un_reader.specs.Vocabulary.{Number, Token, Spelled}
 use Rattle.un_words.specs.declared.token.Token.TheVariants.{Named, Literal}
 use Rattle.un_words.specs.declared.slot.Slot.{Slot}
 use Rattle.un_words.specs.declared.slot.Slot.TheVariants.{Literal as LiteralSlot}
-use Rattle.un_words.specs.Tokens.{Spelled}
 use Rattle.std.specs.List.{cons_option}
 use Rattle.un_words.specs.Shapes.{alternate, is_list, name_in, names_at, literal_or, literal_at, zero_number, have_forms, separated, slots_by}
 use Rattle.un_words.proofs.SlotFacts.{AreFormed, formed_fit, places}

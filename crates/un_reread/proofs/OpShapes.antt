@@ -3,15 +3,12 @@ use Rattle.std.proofs.Common.{◌≡◌, ◌≤◌, length, true, List, ◌∷�
 use Rattle.un_base.specs.Names.{is_name}
 use Rattle.un_isa.specs.declared.op.Op.{Op}
 use Rattle.un_isa.specs.Facts.{source_name}
-use Rattle.un_ir.specs.declared.function.SrcOp.{SrcOp}
+use Rattle.un_reader.specs.Vocabulary.{SrcOp, Token, OpLine, Operation, Spelled}
 use Rattle.un_ir.specs.Text.{Names, name_text, operand_texts, op_line}
 use Rattle.un_ir.specs.WellFormed.{IsName}
-use Rattle.un_words.specs.declared.token.Token.{Token}
 use Rattle.un_words.specs.declared.token.Token.TheVariants.{Word}
 use Rattle.un_words.specs.declared.slot.Head.TheVariants.{Bare}
-use Rattle.un_words.specs.declared.line.OpLine.{OpLine}
-use Rattle.un_words.specs.declared.line.Line.TheVariants.{Operation}
-use Rattle.un_words.specs.Tokens.{Spelled, tokens_of}
+use Rattle.un_words.specs.Tokens.{tokens_of}
 use Rattle.un_words.specs.Shapes.{op_named, head_word, result_fits, operands_fit, op_line_of, op_shape, shape_of}
 use Rattle.un_reread.specs.Printed.{spelled_at, op_as_line}
 use Rattle.un_reread.proofs.WordsOf.{AllSay}

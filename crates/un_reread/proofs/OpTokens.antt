@@ -1,15 +1,12 @@
 -- The words of the line of an operation, by their form.
 use Rattle.std.proofs.Common.{◌≡◌, ℕ, true, false, List, [], ◌∷◌, ◌++◌, map, codes, Option, Some, None, IfSome, option_map, refl, ap, ◌∙◌, append_assoc}
-use Rattle.un_base.specs.declared.ids.NameId.{NameId}
+use Rattle.un_reader.specs.Vocabulary.{NameId, Kind, SrcOp, Token, Spelled}
 use Rattle.un_base.specs.Names.{is_name}
 use Rattle.un_isa.specs.Facts.{source_name}
-use Rattle.un_ir.specs.declared.function.Kind.{Kind}
-use Rattle.un_ir.specs.declared.function.SrcOp.{SrcOp}
 use Rattle.un_ir.specs.Text.{Names, name_text, result_text, comma_joined, spaced, callee_text, operand_texts, op_line}
 use Rattle.un_ir.specs.WellFormed.{IsName, IsOfKind}
-use Rattle.un_words.specs.declared.token.Token.{Token}
 use Rattle.un_words.specs.declared.token.Token.TheVariants.{Comma, Equals, Named, Word}
-use Rattle.un_words.specs.Tokens.{Spelled, tokens_of}
+use Rattle.un_words.specs.Tokens.{tokens_of}
 use Rattle.un_words.specs.Words.{goes_on}
 use Rattle.un_reread.specs.Printed.{spelled_at}
 use Rattle.un_reread.proofs.WordsOf.{AllSay, first_token, only_token}

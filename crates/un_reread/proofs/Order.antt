@@ -1,13 +1,8 @@
 -- The order of the printed lines: operations and terminators stand in a block that no terminator has ended.
 use Rattle.std.proofs.Common.{◌≡◌, ◌<◌, ◌⊎◌, inl, inr, ◌++◌, Bool, true, false, List, [], ◌∷◌, length, refl, append_assoc, arith}
 use Rattle.std.specs.List.{fold}
-use Rattle.un_ir.specs.declared.function.SrcOp.{SrcOp}
-use Rattle.un_ir.specs.declared.function.Term.{Term}
-use Rattle.un_ir.specs.declared.function.Term.TheVariants.{Fall, Jump as JumpTo, Branch as BranchTo, Ret as Return}
-use Rattle.un_ir.specs.declared.function.Block.{Block as SourceBlock}
+use Rattle.un_reader.specs.Vocabulary.{SrcOp, Term, Fall, SourceBlock, Line, Blank, Func, Block, Operation, Terminator}
 use Rattle.un_ir.specs.Text.{Names}
-use Rattle.un_words.specs.declared.line.Line.{Line}
-use Rattle.un_words.specs.declared.line.Line.TheVariants.{Blank, Func, Block, Operation, Terminator}
 use Rattle.un_reader.specs.Before.{labels_of, ended_after}
 use Rattle.un_reread.specs.Printed.{term_as_lines}
 use Rattle.un_reread.proofs.Labels.{op_lines, lines_of}

@@ -3,13 +3,9 @@ use Rattle.std.proofs.Common.{◌≡◌, ◌++◌, Bool, true, false, List, [], 
 use Rattle.std.specs.List.{All, AllPairs}
 use Rattle.std.specs.Option.{option_or}
 use Rattle.std.proofs.lemmas.List.Elements.{All-nil, All-cons}
-use Rattle.un_ir.specs.declared.function.SrcOp.{SrcOp}
-use Rattle.un_ir.specs.declared.function.Term.{Term}
-use Rattle.un_ir.specs.declared.function.Term.TheVariants.{Fall, Jump as JumpTo, Branch as BranchTo, Ret as Return}
-use Rattle.un_ir.specs.declared.function.Block.{Block as SourceBlock}
+use Rattle.un_reader.specs.Vocabulary.{SrcOp, Term, Fall, Return, SourceBlock, Line}
 use Rattle.un_ir.specs.Text.{Names}
 use Rattle.un_ir.specs.WellFormed.{gives_value, ReturnAlike}
-use Rattle.un_words.specs.declared.line.Line.{Line}
 use Rattle.un_reader.specs.TextFaults.{differs, first_value, returns_else}
 use Rattle.un_reread.specs.Printed.{term_as_lines, block_as_lines}
 use Rattle.un_reread.proofs.Lists.{pairs_head, pairs_tail}

@@ -6,11 +6,8 @@ use Rattle.std.proofs.lemmas.Bool.Decides.{nat_tests}
 use Rattle.std.proofs.lemmas.Slice.Eq.{bytes_eq-Decides}
 use Rattle.std.proofs.lemmas.Option.{unwrap_or-slice_get}
 use Rattle.std.proofs.lemmas.List.Sums.{position_or_len_is}
-use Rattle.un_base.specs.declared.ids.NameId.{NameId}
-use Rattle.un_ir.specs.declared.function.Kind.{Kind}
-use Rattle.un_ir.specs.declared.function.Kind.TheVariants.{General, Pred}
+use Rattle.un_reader.specs.Vocabulary.{NameId, Kind, General, Pred, Spelled}
 use Rattle.un_ir.specs.Text.{Names}
-use Rattle.un_words.specs.Tokens.{Spelled}
 use Rattle.un_reader.specs.Before.{same_kind, same_name}
 use Rattle.un_reader.specs.Functions.{name_id}
 use Rattle.un_reread.specs.Printed.{spelled_at}
