@@ -3,7 +3,7 @@ use Rattle.std.proofs.Common.{◌≡◌, ◌≢◌, ℕ, suc, ◌+◌, ◌<◌, 
 use Rattle.std.specs.List.{list_any, flat_map, count_by}
 use Rattle.std.specs.Option.{option_map, option_to_list}
 use Rattle.std.proofs.lemmas.Bool.Decides.{Decides-ltb}
-use Rattle.std.proofs.lemmas.Bool.{leb-true}
+use Rattle.std.proofs.lemmas.Bool.{leb-true, or_parts, and_parts, not-false, ltb-false}
 use Rattle.std.proofs.lemmas.List.{length-append}
 use Rattle.std.proofs.lemmas.List.Sums.{sum_by-cons}
 use Rattle.un_reader.specs.Vocabulary.{NameId, Kind, General, Pred, SourceBlock, Number, TermLine, Branch, Ret, Line, Blank, Func, Block, Operation, Terminator, Spelled}
@@ -16,7 +16,7 @@ use Rattle.un_reader.specs.Noted.{noted}
 use Rattle.un_reader.specs.TextFaults.{term_of}
 use Rattle.un_reader.specs.LineFaults.{has_repeat, is_predicate, term_clashes, is_over_limit, literal_fits, freq_fits, operands_clash, result_clashes}
 use Rattle.un_reader.specs.Functions.{name_id, op_of, term_by, ops_of, blocks_of}
-use Rattle.un_words.proofs.Each.{Each, Each-All, Each-weaken, Each-left, Each-right, EachPair, EachPair-map, Each-none, or_false, and_both}
+use Rattle.un_words.proofs.Each.{Each, Each-All, Each-weaken, Each-left, Each-right, EachPair, EachPair-map, Each-none}
 use Rattle.un_reader.proofs.FirstNames.{name_itself}
 use Rattle.un_words.proofs.TokenFacts.{IsNameWord}
 use Rattle.un_reader.proofs.OpFacts.{IsKnown, kind_matches, word_kind, are_words, op_good}
@@ -43,24 +43,13 @@ Fits names labels (Block label freq) = IsNameWord label × (1 ≤ freq.size) × 
 Fits names labels (Operation o) = IsGoodOp names (op_of names o)
 Fits names labels (Terminator term) = TestsItsKind names (term_by names labels (Some term))
 
-not_false : (a : Bool) → not a ≡ false → a ≡ true
-not_false true h = refl
-not_false false h = absurd (cc h)
-
 at_most : (n : ℕ) → nat_lt PARAMS n ≡ false → n ≤ PARAMS
-at_most n h = by (nat_lt PARAMS n) refl
-  where
-    apart : nat_lt PARAMS n ≡ true → ⊥
-    apart e = cc (sym h ∙ e)
-
-    by : (v : Bool) → nat_lt PARAMS n ≡ v → n ≤ PARAMS
-    by true e = absurd (apart e)
-    by false e = let within : (PARAMS < n) → ⊥ = λ more. apart ((Decides-ltb PARAMS n).1 more) in omega (arith, within)
+at_most n h = ltb-false PARAMS n h
 
 frequency : (freq : Number) → freq_fits freq ≡ true → (1 ≤ freq.size) × (freq.size ≤ FREQUENCY)
 frequency freq h =
-    let outer = and_both (not freq.negative && nat_le 1 freq.size) (nat_le freq.size FREQUENCY) h in
-    let inner = and_both (not freq.negative) (nat_le 1 freq.size) outer.0 in
+    let outer = and_parts (not freq.negative && nat_le 1 freq.size) (nat_le freq.size FREQUENCY) h in
+    let inner = and_parts (not freq.negative) (nat_le 1 freq.size) outer.0 in
     (leb-true 1 freq.size inner.1, leb-true freq.size FREQUENCY outer.1)
 
 -- ---- parameters
@@ -79,7 +68,7 @@ one_differs names x k (y ∷ params) ks h = (numbers_differ names x y k ks.0 h.0
 params_differ : (names params : List Spelled) → Each (IsKept names) params → has_repeat params ≡ false → EachPair (λ (a b : Spelled). name_id names a ≢ name_id names b) params
 params_differ names [] k h = tt
 params_differ names (x ∷ params) k h =
-    let parts = or_false (list_any (same_name x) params) (has_repeat params) h in
+    let parts = or_parts (list_any (same_name x) params) (has_repeat params) h in
     (one_differs names x k.0 params k.1 (Each-none (same_name x) params parts.0), params_differ names params k.1 parts.1)
 
 good_params : (names params : List Spelled) → Each (IsKept names) params → list_any is_predicate params ≡ false → has_repeat params ≡ false → length params ≤ PARAMS → AreGoodParams names params
@@ -99,16 +88,16 @@ term_fits names labels _ k h = tt
 line_fits : (names : List Spelled) (labels : List (List ℕ)) (before : Before) (line : Line) → IsClean before line → Each (IsKept names) (names_on line) → Fits names labels line
 line_fits names labels before Blank c k = tt
 line_fits names labels before (Func name params) c k =
-    let few : nat_lt PARAMS (length params) ≡ false = (or_false (nat_lt PARAMS (length params)) _ c.few).0 in
-    (c.shaped.0, good_params names params k c.kinds (or_false (is_some before.name) (has_repeat params) c.placed).1 (at_most (length params) few))
+    let few : nat_lt PARAMS (length params) ≡ false = (or_parts (nat_lt PARAMS (length params)) _ c.few).0 in
+    (c.shaped.0, good_params names params k c.kinds (or_parts (is_some before.name) (has_repeat params) c.placed).1 (at_most (length params) few))
 line_fits names labels before (Block label freq) c k =
-    let f = frequency freq (not_false (freq_fits freq) c.freq) in (c.shaped, f.0, f.1)
+    let f = frequency freq (not-false (freq_fits freq) c.freq) in (c.shaped, f.0, f.1)
 line_fits names labels before (Operation o) c k =
-    let clash = or_false (result_clashes o.op o.dst) (operands_clash o.op o.srcs) c.kinds in
-    let over : is_over_limit before (Operation o) ≡ false = (or_false (is_over_limit before (Operation o)) _ c.few).0 in
-    let few : nat_lt PARAMS (length o.srcs) ≡ false = (or_false (nat_lt PARAMS (length o.srcs)) _ over).0 in
+    let clash = or_parts (result_clashes o.op o.dst) (operands_clash o.op o.srcs) c.kinds in
+    let over : is_over_limit before (Operation o) ≡ false = (or_parts (is_over_limit before (Operation o)) _ c.few).0 in
+    let few : nat_lt PARAMS (length o.srcs) ≡ false = (or_parts (nat_lt PARAMS (length o.srcs)) _ over).0 in
     op_good names o c.shaped (Each-weaken (IsKept names) (IsKnown names) (kept_known names) (option_to_list o.dst ++ o.srcs) k)
-    clash.0 clash.1 (at_most (length o.srcs) few) (not_false (literal_fits o.op o.imm) c.literal)
+    clash.0 clash.1 (at_most (length o.srcs) few) (not-false (literal_fits o.op o.imm) c.literal)
 line_fits names labels before (Terminator term) c k = term_fits names labels term (Each-weaken (IsKept names) (IsKnown names) (kept_known names) (names_on_term term) k) c.kinds
 
 pub lines_fit : (names : List Spelled) (labels : List (List ℕ)) (before : Before) (lines : List Line) → AreClean before lines → Each (IsKept names) (flat_map names_on lines) → Each (Fits names labels) lines

@@ -2,7 +2,7 @@
 use Rattle.std.proofs.Common.{◌≡◌, ◌≢◌, ℕ, ◌+◌, ◌<◌, ◌≤◌, ◌++◌, false, cond, nat_le, List, [], ◌∷◌, length, if◌then◌else◌, sym, ◌∙◌, arith, subst, append_assoc, append-nil}
 use Rattle.std.specs.List.{flat_map, count_by}
 use Rattle.std.specs.Str.{bytes_eq}
-use Rattle.std.proofs.lemmas.Bool.{le-leb}
+use Rattle.std.proofs.lemmas.Bool.{le-leb, or_parts}
 use Rattle.std.proofs.lemmas.List.{length-append}
 use Rattle.std.proofs.lemmas.List.Sums.{sum_by-cons}
 use Rattle.std.proofs.lemmas.Slice.Eq.{bytes_eq-Decides}
@@ -13,7 +13,7 @@ use Rattle.un_reader.specs.Before.{labels_of, is_operation}
 use Rattle.un_words.specs.LineNames.{names_on}
 use Rattle.un_reader.specs.Noted.{noted}
 use Rattle.un_reader.specs.LineFaults.{is_over_limit}
-use Rattle.un_words.proofs.Each.{Each, Each-weaken, Each-append, Each-none, EachPair, EachPair-push, or_false}
+use Rattle.un_words.proofs.Each.{Each, Each-weaken, Each-append, Each-none, EachPair, EachPair-push}
 use Rattle.un_words.proofs.TokenFacts.{IsSpelled}
 use Rattle.un_words.proofs.LineShapes.{IsShaped}
 use Rattle.un_reader.proofs.LineTests.{IsClean, AreClean}
@@ -33,7 +33,7 @@ label_added before label freq c g = record {
   apart = EachPair-push (λ (a b : List ℕ). a ≢ b) before.labels label g.apart
       (Each-weaken (λ (l : List ℕ). bytes_eq label l ≡ false) (λ (l : List ℕ). l ≢ label) other before.labels (Each-none (bytes_eq label) before.labels c.label));
   few = let count = length-append before.labels (label ∷ []) in
-      let room = below BLOCKS (length before.labels) (or_false (is_over_limit before (Block label freq)) _ c.few).0 in
+      let room = below BLOCKS (length before.labels) (or_parts (is_over_limit before (Block label freq)) _ c.few).0 in
       omega (arith, count, room);
 }
   where
@@ -60,8 +60,8 @@ op_room before Blank c h = omega arith
 op_room before (Func name params) c h = omega arith
 op_room before (Block label freq) c h = omega arith
 op_room before (Operation o) c h =
-    let over = (or_false (is_over_limit before (Operation o)) _ c.few).0 in
-    let room = below OPS before.ops (or_false _ (nat_le OPS before.ops) over).1 in
+    let over = (or_parts (is_over_limit before (Operation o)) _ c.few).0 in
+    let room = below OPS before.ops (or_parts _ (nat_le OPS before.ops) over).1 in
     omega (arith, room)
 op_room before (Terminator term) c h = omega arith
 

@@ -1,8 +1,8 @@
 -- Marking the blocks at whose start a name is live.
 use Rattle.std.proofs.Common.{◌≡◌, ◌≢◌, ℕ, zero, suc, ◌+◌, ◌<◌, ◌≤◌, ◌||◌, ◌⊎◌, inl, inr, Bool, true, false, nat_eq, List, [], ◌∷◌, Option, Some, None, map, length, drop, set, replicate, slice_get, get_or, Contains, if◌then◌else◌, refl, sym, ap, add-one, ◌∙◌, arith, subst}
 use Rattle.std.specs.Option.{option_map_or}
-use Rattle.std.proofs.lemmas.Bool.{eqb-true}
-use Rattle.std.proofs.lemmas.Option.{slice_get_past, slice_get-get_or}
+use Rattle.std.proofs.lemmas.Bool.{eqb-true, or_cases, or_left, or_right, false_from_ne_true}
+use Rattle.std.proofs.lemmas.Option.{slice_get_past, slice_get-get_or, slice_get_within}
 use Rattle.un_reader.specs.Vocabulary.{NameId, SrcOp, Term, Fall, Spelled}
 use Rattle.un_ir.specs.declared.function.Term.TheVariants.{Jump, Branch, Ret}
 use Rattle.un_ir.specs.declared.function.Block.{Block}
@@ -19,10 +19,6 @@ same_id m n e = ap (λ (x : ℕ). (let r : NameId = record { 0 = x } in r)) (eqb
 own_id : (n : NameId) → nat_eq n.0 n.0 ≡ true
 own_id n = grind arith
 
-or_cases : (a b : Bool) → (a || b) ≡ true → (a ≡ true) ⊎ (b ≡ true)
-or_cases true b h = inl refl
-or_cases false b h = inr h
-
 pub reads-Contains : (name : NameId) (names : List NameId) → reads name names ≡ true → Contains names name
 reads-Contains name [] h = absurd (cc h)
 reads-Contains name (n ∷ names) h = elim (or_cases (nat_eq n.0 name.0) (reads name names) h) [
@@ -33,11 +29,7 @@ reads-Contains name (n ∷ names) h = elim (or_cases (nat_eq n.0 name.0) (reads 
 pub Contains-reads : (name : NameId) (names : List NameId) → Contains names name → reads name names ≡ true
 Contains-reads name [] (k, below, is) = absurd (omega arith)
 Contains-reads name (n ∷ names) (zero, below, is) = rw (is, own_id name) refl
-Contains-reads name (n ∷ names) (suc k, below, is) = or_true (nat_eq n.0 name.0) (reads name names) (Contains-reads name names (k, omega arith, is))
-  where
-    or_true : (a b : Bool) → b ≡ true → (a || b) ≡ true
-    or_true true b h = refl
-    or_true false b h = h
+Contains-reads name (n ∷ names) (suc k, below, is) = or_right (nat_eq n.0 name.0) (reads name names) (Contains-reads name names (k, omega arith, is))
 
 -- ---- places of a list
 
@@ -58,11 +50,6 @@ at_place (x ∷ xs) (suc k) h = elim (at_place xs k (omega arith)) [
   | inl e ↦ inl e
   | inr s ↦ inr (record { item = s.item; got = s.got; front = s.front })
 ]
-
-got_within : {X : Type 0} (xs : List X) (k : ℕ) (x : X) → slice_get xs k ≡ Some x → k + 1 ≤ length xs
-got_within [] k x e = absurd (cc e)
-got_within (y ∷ ys) zero x e = omega arith
-got_within (y ∷ ys) (suc k) x e = let r = got_within ys k x e in omega (arith, r)
 
 -- ---- places of a block
 
@@ -98,14 +85,6 @@ leads_target marks b (Branch pred sense to) h = elim (or_cases (marked marks (b 
 ]
 leads_target marks b (Ret value) h = absurd (cc h)
 
-or_left : (a b : Bool) → a ≡ true → (a || b) ≡ true
-or_left true b h = refl
-or_left false b h = absurd (cc h)
-
-or_right : (a b : Bool) → b ≡ true → (a || b) ≡ true
-or_right true b h = refl
-or_right false b h = h
-
 target_leads : (marks : List Bool) (b : ℕ) (term : Term) (c : ℕ) → Contains (targets_of b term) c → marked marks c ≡ true → leads marks b term ≡ true
 target_leads marks b Fall c has h = rw (only (b + 1) c has) h
 target_leads marks b (Jump to) c has h = rw (only to.0 c has) h
@@ -123,11 +102,7 @@ decided false m l h = h refl
 
 unassigned : (name : NameId) (dst : Option NameId) → dst ≢ Some name → assigns name dst ≡ false
 unassigned name None other = refl
-unassigned name (Some n) other = by (nat_eq n.0 name.0) refl
-  where
-    by : (v : Bool) → nat_eq n.0 name.0 ≡ v → v ≡ false
-    by true e = absurd (other (ap Some (same_id n name e)))
-    by false e = refl
+unassigned name (Some n) other = false_from_ne_true (nat_eq n.0 name.0) (λ e. other (ap Some (same_id n name e)))
 
 live_block : (blocks : List Block) (name : NameId) (b k : ℕ) → IsLive blocks name b k → (block : Block) × (slice_get blocks b ≡ Some block)
 live_block blocks name b k (used b2 k2 block g h has) = (block, g)
@@ -214,7 +189,7 @@ meets_live blocks name b block is l out (o ∷ os) k drops h hyp = elim (at_plac
       let rest : drop (suc k) block.ops ≡ os = cc e in
       let got : slice_get block.ops k ≡ Some o = s.got ∙ ap Some same in
       let later : drop (k + 1) block.ops ≡ os = rw add-one rest in
-      let bound : k + 1 ≤ length block.ops = got_within block.ops k o got in
+      let bound : k + 1 ≤ length block.ops = omega (arith, slice_get_within block.ops k o got) in
       by got bound (meets_live blocks name b block is l out os (k + 1) later bound) (reads name o.srcs) refl (assigns name o.dst) refl hyp
 ]
   where

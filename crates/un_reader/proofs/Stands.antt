@@ -3,6 +3,7 @@ use Rattle.std.proofs.Common.{◌≡◌, ℕ, ◌<◌, ◌++◌, Bool, true, fal
 use Rattle.std.specs.List.{flat_map}
 use Rattle.std.specs.Option.{option_map, option_or, option_to_list}
 use Rattle.std.proofs.lemmas.List.{map-append}
+use Rattle.std.proofs.lemmas.Bool.{or_parts}
 use Rattle.un_reader.specs.Vocabulary.{NameId, Number, OpLine, TermLine, Ret, Line, Blank, Func, Block, Operation, Terminator, Spelled}
 use Rattle.un_ir.specs.Live.{read_by_term}
 use Rattle.un_ir.specs.Names.{names_on_op, names_in_block, appearances}
@@ -11,7 +12,6 @@ use Rattle.un_words.specs.LineNames.{names_on, names_on_term}
 use Rattle.un_reader.specs.Noted.{noted}
 use Rattle.un_reader.specs.TextFaults.{term_of}
 use Rattle.un_reader.specs.Functions.{name_id, op_of, term_by, ops_of, blocks_of, params_of}
-use Rattle.un_words.proofs.Each.{or_false}
 use Rattle.un_reader.proofs.LineTests.{AreClean}
 
 -- lines behind a block line, by whether a terminator has ended the block
@@ -37,7 +37,7 @@ last_there (x ∷ xs) y = omega arith
 follows : (before : Before) (lines : List Line) → AreClean before lines → is_some before.name ≡ true → 0 < length before.labels → Follows before.ended lines
 follows before [] clean named begun = over
 follows before (Blank ∷ lines) (here, later) named begun = blank (follows (noted before Blank) lines later (still_some before.name None named) (longer before.labels [] begun))
-follows before (Func name params ∷ lines) (here, later) named begun = absurd (cc (sym named ∙ (or_false (is_some before.name) _ here.placed).0))
+follows before (Func name params ∷ lines) (here, later) named begun = absurd (cc (sym named ∙ (or_parts (is_some before.name) _ here.placed).0))
 follows before (Block label freq ∷ lines) (here, later) named begun =
     block (follows (noted before (Block label freq)) lines later (still_some before.name None named) (longer before.labels (label ∷ []) begun))
 follows before (Operation o ∷ lines) (here, later) named begun =
@@ -110,7 +110,7 @@ module _ (names : List Spelled) (labels : List (List ℕ)) where
   begun_names : (before : Before) (lines : List Line) → AreClean before lines → is_some before.name ≡ true → before.labels ≡ [] → later_names lines ≡ line_names lines
   begun_names before [] clean named none = refl
   begun_names before (Blank ∷ lines) (here, later) named none = begun_names (noted before Blank) lines later (still_some before.name None named) (append-nil before.labels ∙ none)
-  begun_names before (Func name params ∷ lines) (here, later) named none = absurd (cc (sym named ∙ (or_false (is_some before.name) _ here.placed).0))
+  begun_names before (Func name params ∷ lines) (here, later) named none = absurd (cc (sym named ∙ (or_parts (is_some before.name) _ here.placed).0))
   begun_names before (Block label freq ∷ lines) (here, later) named none =
       follows_names false lines (follows (noted before (Block label freq)) lines later (still_some before.name None named) (last_there before.labels label))
   begun_names before (_ ∷ lines) (here, later) named none = absurd (let first = here.inside in let wrong = rw none at first in cc wrong)

@@ -4,6 +4,7 @@ use Rattle.std.specs.List.{list_any, fold, position, position_or_len, enumerate_
 use Rattle.std.specs.Str.{bytes_eq}
 use Rattle.std.proofs.lemmas.Bool.Decides.{Decides-ltb}
 use Rattle.std.proofs.lemmas.Slice.Eq.{bytes_eq-Decides}
+use Rattle.std.proofs.lemmas.Bool.{not-false}
 use Rattle.un_reader.specs.Vocabulary.{Number, TermLine, Jump, Branch, Ret, Line, Block, Terminator}
 use Rattle.un_reader.specs.Before.{labels_of}
 use Rattle.un_reader.specs.TextFaults.{term_of, later_block, last_block, ends_well, falls_off, jumps_outside, is_entry, jumps_to_entry}
@@ -43,12 +44,8 @@ IsTarget labels to = IsInside (length labels) (block_id labels to).0
 
 target_inside : (labels : List (List ℕ)) (to : List ℕ) → not (list_any (bytes_eq to) labels) ≡ false → is_entry labels to ≡ false → IsTarget labels to
 target_inside [] to h e = absurd (cc h)
-target_inside (entry ∷ labels) to h e = (first (bytes_eq to entry) refl, (placed (bytes_eq to) to (λ y is. (bytes_eq-Decides to y).0 is) (entry ∷ labels) (some (list_any (bytes_eq to) (entry ∷ labels)) h)).below)
+target_inside (entry ∷ labels) to h e = (first (bytes_eq to entry) refl, (placed (bytes_eq to) to (λ y is. (bytes_eq-Decides to y).0 is) (entry ∷ labels) (not-false (list_any (bytes_eq to) (entry ∷ labels)) h)).below)
   where
-    some : (v : Bool) → not v ≡ false → v ≡ true
-    some true h = refl
-    some false h = absurd (cc h)
-
     first : (v : Bool) → bytes_eq to entry ≡ v → 0 < position_or_len (bytes_eq to) (entry ∷ labels)
     first true is = absurd (cc (sym e ∙ is))
     first false is = rw is (omega arith)

@@ -7,6 +7,7 @@ use Rattle.std.proofs.lemmas.List.{length-map}
 use Rattle.std.proofs.lemmas.List.Elements.{All-head, All-tail}
 use Rattle.std.proofs.lemmas.List.Sums.{position_or_len_is}
 use Rattle.std.proofs.lemmas.List.Folds.{list_any_at, list_any_none}
+use Rattle.std.proofs.lemmas.Bool.{false_from_ne_true}
 use Rattle.un_reader.specs.Vocabulary.{NameId, BlockId, Term, Fall, JumpTo, BranchTo, Return, SourceBlock}
 use Rattle.un_ir.specs.Text.{Names, label_of}
 use Rattle.un_ir.specs.WellFormed.{IsWellFormed, LeadsInside}
@@ -34,11 +35,7 @@ own_text : (a : List ℕ) → bytes_eq a a ≡ true
 own_text a = (bytes_eq-Decides a a).1 refl
 
 pub other_text : (a b : List ℕ) → a ≢ b → bytes_eq a b ≡ false
-other_text a b h = by (bytes_eq a b) refl
-  where
-    by : (v : Bool) → bytes_eq a b ≡ v → v ≡ false
-    by true e = absurd (h ((bytes_eq-Decides a b).0 e))
-    by false e = refl
+other_text a b h = false_from_ne_true (bytes_eq a b) (λ e. h ((bytes_eq-Decides a b).0 e))
 
 place_of : (texts : List (List ℕ)) → AreOnce texts → (k : ℕ) → k < length texts → position_or_len (bytes_eq (get_or texts k [])) texts ≡ k
 place_of texts once k h =

@@ -1,5 +1,6 @@
 -- What holds of each element of a list, by recursion on the list.
 use Rattle.std.proofs.Common.{◌≡◌, ℕ, zero, suc, ◌++◌, ◌&&◌, ◌||◌, Bool, true, false, List, [], ◌∷◌, Some, map, slice_get, All, Contains, refl, arith, subst}
+use Rattle.std.proofs.lemmas.Bool.{or_parts}
 use Rattle.std.specs.List.{AllPairs, flat_map, list_any}
 use Rattle.std.proofs.lemmas.List.Elements.{All-nil, All-cons, All-head, All-tail}
 use Rattle.std.proofs.lemmas.List.Kept.{AllPairs-cons}
@@ -97,14 +98,6 @@ EachPair-unmap R f (x ∷ xs) (here, later) = (unmap xs here, EachPair-unmap R f
 
 -- ---- tests
 
-pub or_false : (a b : Bool) → (a || b) ≡ false → (a ≡ false) × (b ≡ false)
-or_false true b h = absurd (cc h)
-or_false false b h = (refl, h)
-
-pub and_both : (a b : Bool) → (a && b) ≡ true → (a ≡ true) × (b ≡ true)
-and_both true b h = (refl, h)
-and_both false b h = absurd (cc h)
-
 pub Each-none : {X : Type 0} (p : X → Bool) (xs : List X) → list_any p xs ≡ false → Each (λ (x : X). p x ≡ false) xs
 Each-none p [] h = tt
-Each-none p (x ∷ xs) h = let b = or_false (p x) (list_any p xs) h in (b.0, Each-none p xs b.1)
+Each-none p (x ∷ xs) h = let b = or_parts (p x) (list_any p xs) h in (b.0, Each-none p xs b.1)
