@@ -122,46 +122,42 @@ read_meets name marks b k block h has = elim (at_place block.ops k h) [
       rw (s.front, Contains-reads name s.item.srcs srcs) refl
 ]
 
-kept_meets : (blocks : List Block) (name : NameId) (marks : List Bool) → AreClosed blocks name marks
-    → (b k : ℕ) (block : Block) → slice_get blocks b ≡ Some block → k ≤ length block.ops → assigned_at block k ≢ Some name
-    → (c l : ℕ) → Contains {X = ℕ × ℕ} (next_of b k block) (c, l) → (next : Block) → slice_get blocks c ≡ Some next
-    → ((other : Block) → slice_get blocks c ≡ Some other → Meets name marks c l other)
-    → Meets name marks b k block
-kept_meets blocks name marks closed b k block is h na c l nx next there ih = elim (at_place block.ops k h) [
-  | inl (none, empty) ↦
-      let places : Contains {X = ℕ × ℕ} (map (λ (n : ℕ). (n, 0)) (targets_of b block.term)) (c, l) = subst (λ (o : Option SrcOp). Contains {X = ℕ × ℕ} (next_by b k o block.term) (c, l)) none nx in
-      let has = pair_first (targets_of b block.term) c l places in
-      let start : Meets name marks c 0 next = subst (λ (n : ℕ). Meets name marks c n next) has.1 (ih next there) in
-      let live : lives_at blocks name marks c ≡ true = rw there start in
-      let led : leads marks b block.term ≡ true = target_leads marks b block.term c has.0 (closed c live) in
-      rw (empty, led) (decided (reads name (read_by_term block.term)) Neither true (λ no. refl))
-  | inr s ↦
-      let place : Contains {X = ℕ × ℕ} ((b, k + 1) ∷ []) (c, l) = subst (λ (o : Option SrcOp). Contains {X = ℕ × ℕ} (next_by b k o block.term) (c, l)) s.got nx in
-      let same : ◌≡◌ {A = ℕ × ℕ} (b, k + 1) (c, l) = only {X = ℕ × ℕ} (b, k + 1) (c, l) place in
-      let dst : s.item.dst ≢ Some name = subst (λ (o : Option SrcOp). assigned_by o ≢ Some name) s.got na in
-      let after : Meets name marks b (k + 1) block = subst (λ (p : ℕ × ℕ). (other : Block) → slice_get blocks p.0 ≡ Some other → Meets name marks p.0 p.1 other) (sym same) ih block is in
-      let later : Meets name marks b (suc k) block = rw add-one at after in
-      rw s.front (decided (reads name s.item.srcs) _ (leads marks b block.term) (λ no. rw (unassigned name s.item.dst dst) later))
-]
+module _ (blocks : List Block) (name : NameId) (marks : List Bool) (closed : AreClosed blocks name marks) where
+  kept_meets : (b : ℕ) (k : ℕ) (block : Block) → slice_get blocks b ≡ Some block → k ≤ length block.ops → assigned_at block k ≢ Some name → (c : ℕ) (l : ℕ) → Contains {X = ℕ × ℕ} (next_of b k block) (c, l) → (next : Block) → slice_get blocks c ≡ Some next → ((other : Block) → slice_get blocks c ≡ Some other → Meets name marks c l other) → Meets name marks b k block
+  kept_meets b k block is h na c l nx next there ih = elim (at_place block.ops k h) [
+    | inl (none, empty) ↦
+        let places : Contains {X = ℕ × ℕ} (map (λ (n : ℕ). (n, 0)) (targets_of b block.term)) (c, l) = subst (λ (o : Option SrcOp). Contains {X = ℕ × ℕ} (next_by b k o block.term) (c, l)) none nx in
+        let has = pair_first (targets_of b block.term) c l places in
+        let start : Meets name marks c 0 next = subst (λ (n : ℕ). Meets name marks c n next) has.1 (ih next there) in
+        let live : lives_at blocks name marks c ≡ true = rw there start in
+        let led : leads marks b block.term ≡ true = target_leads marks b block.term c has.0 (closed c live) in
+        rw (empty, led) (decided (reads name (read_by_term block.term)) Neither true (λ no. refl))
+    | inr s ↦
+        let place : Contains {X = ℕ × ℕ} ((b, k + 1) ∷ []) (c, l) = subst (λ (o : Option SrcOp). Contains {X = ℕ × ℕ} (next_by b k o block.term) (c, l)) s.got nx in
+        let same : ◌≡◌ {A = ℕ × ℕ} (b, k + 1) (c, l) = only {X = ℕ × ℕ} (b, k + 1) (c, l) place in
+        let dst : s.item.dst ≢ Some name = subst (λ (o : Option SrcOp). assigned_by o ≢ Some name) s.got na in
+        let after : Meets name marks b (k + 1) block = subst (λ (p : ℕ × ℕ). (other : Block) → slice_get blocks p.0 ≡ Some other → Meets name marks p.0 p.1 other) (sym same) ih block is in
+        let later : Meets name marks b (suc k) block = rw add-one at after in
+        rw s.front (decided (reads name s.item.srcs) _ (leads marks b block.term) (λ no. rw (unassigned name s.item.dst dst) later))
+  ]
 
-live_meets : (blocks : List Block) (name : NameId) (marks : List Bool) → AreClosed blocks name marks
-    → (b k : ℕ) → IsLive blocks name b k → (block : Block) → slice_get blocks b ≡ Some block → Meets name marks b k block
-live_meets blocks name marks closed b k (used b2 k2 own g h has) block is =
-    let e : own ≡ block = same_some own block (sym g ∙ is) in
-    read_meets name marks b2 k2 block (subst (λ (x : Block). k2 ≤ length x.ops) e h) (subst (λ (x : Block). Contains (read_at x k2) name) e has)
-live_meets blocks name marks closed b k (kept b2 k2 own c l g h na nx live) block is =
-    let e : own ≡ block = same_some own block (sym g ∙ is) in
-    let next = live_block blocks name c l live in
-    kept_meets blocks name marks closed b2 k2 block is (subst (λ (x : Block). k2 ≤ length x.ops) e h) (subst (λ (x : Block). assigned_at x k2 ≢ Some name) e na)
-    c l (subst (λ (x : Block). Contains {X = ℕ × ℕ} (next_of b2 k2 x) (c, l)) e nx) next.0 next.1 (live_meets blocks name marks closed c l live)
+  live_meets : (b : ℕ) (k : ℕ) → IsLive blocks name b k → (block : Block) → slice_get blocks b ≡ Some block → Meets name marks b k block
+  live_meets b k (used b2 k2 own g h has) block is =
+      let e : own ≡ block = same_some own block (sym g ∙ is) in
+      read_meets name marks b2 k2 block (subst (λ (x : Block). k2 ≤ length x.ops) e h) (subst (λ (x : Block). Contains (read_at x k2) name) e has)
+  live_meets b k (kept b2 k2 own c l g h na nx live) block is =
+      let e : own ≡ block = same_some own block (sym g ∙ is) in
+      let next = live_block blocks name c l live in
+      kept_meets b2 k2 block is (subst (λ (x : Block). k2 ≤ length x.ops) e h) (subst (λ (x : Block). assigned_at x k2 ≢ Some name) e na)
+      c l (subst (λ (x : Block). Contains {X = ℕ × ℕ} (next_of b2 k2 x) (c, l)) e nx) next.0 next.1 (live_meets c l live)
 
--- where no block is left to be marked and the entry is not marked, the name is not live there
-pub not_live : (blocks : List Block) (name : NameId) (marks : List Bool) → AreClosed blocks name marks → marked marks 0 ≡ false → IsLive blocks name 0 0 → ⊥
-not_live blocks name marks closed unmarked live =
-    let entry = live_block blocks name 0 0 live in
-    let meets : Meets name marks 0 0 entry.0 = live_meets blocks name marks closed 0 0 live entry.0 entry.1 in
-    let here : lives_at blocks name marks 0 ≡ true = rw entry.1 meets in
-    cc (closed 0 here)
+  -- where no block is left to be marked and the entry is not marked, the name is not live there
+  pub not_live : marked marks 0 ≡ false → IsLive blocks name 0 0 → ⊥
+  not_live unmarked live =
+      let entry = live_block blocks name 0 0 live in
+      let meets : Meets name marks 0 0 entry.0 = live_meets 0 0 live entry.0 entry.1 in
+      let here : lives_at blocks name marks 0 ≡ true = rw entry.1 meets in
+      cc (closed 0 here)
 
 -- ---- what is marked is live
 

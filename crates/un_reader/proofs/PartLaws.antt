@@ -31,21 +31,20 @@ parts_of text lines name params names blocks good same none are = record {
   are = subst (λ (ls : List Line). ArePartsOf ls name params names blocks) same are;
 }
 
--- a name that is live among the parts is live among those of the lines
-live_in_lines : (lines : List Line) (its_name : List ℕ) (params : List NameId) (names : List Spelled) (blocks : List SourceBlock) (name : NameId)
-    → ArePartsOf lines its_name params names blocks → IsLiveAtEntry params names blocks name → IsLiveAtEntry (param_ids lines) (names_of lines) (source_blocks lines) name
-live_in_lines lines its_name params names blocks name are live =
-    subst (λ (x : List NameId). IsLiveAtEntry x (names_of lines) (source_blocks lines) name) are.params
-    (subst (λ (x : List Spelled). IsLiveAtEntry params x (source_blocks lines) name) are.names
-    (subst (λ (x : List SourceBlock). IsLiveAtEntry params names x name) are.blocks live))
+module _ (lines : List Line) (its_name : List ℕ) (params : List NameId) (names : List Spelled) (blocks : List SourceBlock) (name : NameId) (are : ArePartsOf lines its_name params names blocks) where
+  -- a name that is live among the parts is live among those of the lines
+  live_in_lines : IsLiveAtEntry params names blocks name → IsLiveAtEntry (param_ids lines) (names_of lines) (source_blocks lines) name
+  live_in_lines live =
+      subst (λ (x : List NameId). IsLiveAtEntry x (names_of lines) (source_blocks lines) name) are.params
+      (subst (λ (x : List Spelled). IsLiveAtEntry params x (source_blocks lines) name) are.names
+      (subst (λ (x : List SourceBlock). IsLiveAtEntry params names x name) are.blocks live))
 
--- and the other way
-pub live_in_parts : (lines : List Line) (its_name : List ℕ) (params : List NameId) (names : List Spelled) (blocks : List SourceBlock) (name : NameId)
-    → ArePartsOf lines its_name params names blocks → IsLiveAtEntry (param_ids lines) (names_of lines) (source_blocks lines) name → IsLiveAtEntry params names blocks name
-live_in_parts lines its_name params names blocks name are live =
-    subst (λ (x : List NameId). IsLiveAtEntry x names blocks name) (sym are.params)
-    (subst (λ (x : List Spelled). IsLiveAtEntry (param_ids lines) x blocks name) (sym are.names)
-    (subst (λ (x : List SourceBlock). IsLiveAtEntry (param_ids lines) (names_of lines) x name) (sym are.blocks) live))
+  -- and the other way
+  pub live_in_parts : IsLiveAtEntry (param_ids lines) (names_of lines) (source_blocks lines) name → IsLiveAtEntry params names blocks name
+  live_in_parts live =
+      subst (λ (x : List NameId). IsLiveAtEntry x names blocks name) (sym are.params)
+      (subst (λ (x : List Spelled). IsLiveAtEntry (param_ids lines) x blocks name) (sym are.names)
+      (subst (λ (x : List SourceBlock). IsLiveAtEntry (param_ids lines) (names_of lines) x name) (sym are.blocks) live))
 
 pub entry_fault : (text : List ℕ) (lines : List Line) (its_name : List ℕ) (params : List NameId) (names : List Spelled) (blocks : List SourceBlock) (place : ℕ)
     → length text ≤ TEXT → Parts text its_name params names blocks → lines ≡ shapes_in text → place ≡ position_or_len is_block lines

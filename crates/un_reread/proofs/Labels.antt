@@ -93,17 +93,15 @@ labels_of_blocks blocks names (block ∷ some) =
     ∙ ap (λ (l : List (List ℕ)). (block.label ∷ l) ++ labels_of (lines_of blocks names some)) (labels_of_body blocks names block)
     ∙ ap (λ (l : List (List ℕ)). block.label ∷ l) (labels_of_blocks blocks names some)
 
--- the labels on the lines are the blocks'
-pub labels_back : (name : List ℕ) (params : List NameId) (names : Names) (blocks : List SourceBlock)
-    → labels_of (printed_lines name params names blocks) ≡ map (λ (b : SourceBlock). b.label) blocks
-labels_back name params names blocks = labels_of_blocks blocks names blocks
+module _ (name : List ℕ) (params : List NameId) (names : Names) (blocks : List SourceBlock) where
+  -- the labels on the lines are the blocks'
+  pub labels_back : labels_of (printed_lines name params names blocks) ≡ map (λ (b : SourceBlock). b.label) blocks
+  labels_back = labels_of_blocks blocks names blocks
 
--- ---- the first line
+  -- ---- the first line
 
-pub name_back : (name : List ℕ) (params : List NameId) (names : Names) (blocks : List SourceBlock)
-    → name_of (printed_lines name params names blocks) ≡ Some name
-name_back name params names blocks = refl
+  pub name_back : name_of (printed_lines name params names blocks) ≡ Some name
+  name_back = refl
 
-pub params_back : (name : List ℕ) (params : List NameId) (names : Names) (blocks : List SourceBlock)
-    → params_of (printed_lines name params names blocks) ≡ map (spelled_at names) params
-params_back name params names blocks = refl
+  pub params_back : params_of (printed_lines name params names blocks) ≡ map (spelled_at names) params
+  params_back = refl

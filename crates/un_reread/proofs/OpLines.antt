@@ -148,38 +148,39 @@ same_line : (op : Op) (dst : Option Spelled) (srcs srcs' : List Spelled) (imm im
     ≡ record { op = op; dst = dst; srcs = srcs'; imm = imm'; callee = callee' }
 same_line op dst srcs srcs' imm imm' callee callee' a b c = rw (a, b, c) refl
 
-op_fits : (names : Names) (o : SrcOp) → AreNames names → IsGoodOp names o → Fits names o (tokens names o)
-op_fits names o all good = record {
-  word = has_word o.op good.op;
-  says = says_literal literal (map (name_text names) o.srcs) (map Named ns) (literal_text o) (Literal (as_number o.imm))
-      (names_say names all o.srcs (all_spelled names operands o.srcs good.reads)) (literal_says o.imm (small_abs literal o.imm good.literal));
-  few = few_tokens names operands literal o.srcs (as_number o.imm) (has_room o.op) good.reads;
-  kind = assigned_kind names operands (result_space o.op) o.dst good.assigns;
-  callee = callee_named operands o.callee good.callee;
-  result = result_there names operands (result_space o.op) o.dst good.assigns;
-  forms = forms_by names operands literal o.callee o.srcs (as_number o.imm) (source_name o.op) (has_room o.op) good.callee good.reads;
-  line = same_line o.op (option_map (spelled_at names) o.dst) _ ns _ (as_number o.imm) _ o.callee
-      (names_behind o.callee (joined (tokens names o)) ∙ names_joined (tokens names o) ∙ names_there literal ns (as_number o.imm))
-      (literal_behind o.callee (joined (tokens names o)) ∙ literal_joined (tokens names o) ∙ literal_back literal ns o.imm good.literal)
-      (callee_back operands o.callee (source_name o.op) (joined (tokens names o)) good.callee);
-}
-  where
-    operands : Operands
-    operands = (facts_of o.op).operands
+module _ (names : Names) (o : SrcOp) (all : AreNames names) (good : IsGoodOp names o) where
+  op_fits : Fits names o (tokens names o)
+  op_fits = record {
+    word = has_word o.op good.op;
+    says = says_literal literal (map (name_text names) o.srcs) (map Named ns) (literal_text o) (Literal (as_number o.imm))
+        (names_say names all o.srcs (all_spelled names operands o.srcs good.reads)) (literal_says o.imm (small_abs literal o.imm good.literal));
+    few = few_tokens names operands literal o.srcs (as_number o.imm) (has_room o.op) good.reads;
+    kind = assigned_kind names operands (result_space o.op) o.dst good.assigns;
+    callee = callee_named operands o.callee good.callee;
+    result = result_there names operands (result_space o.op) o.dst good.assigns;
+    forms = forms_by names operands literal o.callee o.srcs (as_number o.imm) (source_name o.op) (has_room o.op) good.callee good.reads;
+    line = same_line o.op (option_map (spelled_at names) o.dst) _ ns _ (as_number o.imm) _ o.callee
+        (names_behind o.callee (joined (tokens names o)) ∙ names_joined (tokens names o) ∙ names_there literal ns (as_number o.imm))
+        (literal_behind o.callee (joined (tokens names o)) ∙ literal_joined (tokens names o) ∙ literal_back literal ns o.imm good.literal)
+        (callee_back operands o.callee (source_name o.op) (joined (tokens names o)) good.callee);
+  }
+    where
+      operands : Operands
+      operands = (facts_of o.op).operands
 
-    literal : Option Range
-    literal = literal_range o.op
+      literal : Option Range
+      literal = literal_range o.op
 
-    ns : List Spelled
-    ns = map (spelled_at names) o.srcs
+      ns : List Spelled
+      ns = map (spelled_at names) o.srcs
 
-op_told : (names : Names) (o : SrcOp) → AreNames names → IsGoodOp names o → IsRead names o
-op_told names o all good = fits_read names o (tokens names o) all (op_fits names o all good)
+  op_told : IsRead names o
+  op_told = fits_read names o (tokens names o) all (op_fits)
 
--- the line of an operation is read as the operation
-pub op_read : (names : Names) (o : SrcOp) → AreNames names → IsGoodOp names o → shape_of (tokens_of (op_line names o)) ≡ Some (Operation (op_as_line names o))
-op_read names o all good = (op_told names o all good).told
+  -- the line of an operation is read as the operation
+  pub op_read : shape_of (tokens_of (op_line names o)) ≡ Some (Operation (op_as_line names o))
+  op_read = (op_told).told
 
--- and is neat
-pub op_line_neat : (names : Names) (o : SrcOp) → AreNames names → IsGoodOp names o → IsNeat 300 (op_line names o)
-op_line_neat names o all good = (op_told names o all good).neat
+  -- and is neat
+  pub op_line_neat : IsNeat 300 (op_line names o)
+  op_line_neat = (op_told).neat
