@@ -6,9 +6,10 @@ use Rattle.std.proofs.lemmas.List.Elements.{All-more}
 use Rattle.std.proofs.lemmas.List.Sums.{sum_by-append}
 use Rattle.un_ir.specs.Text.{Names}
 use Rattle.un_plain.specs.declared.limits.TheConstants.{PLAIN_NAMES}
-use Rattle.un_reader.specs.declared.line.Line.{Line}
+use Rattle.un_words.specs.declared.line.Line.{Line}
 use Rattle.un_reader.specs.declared.before.Before.{Before}
-use Rattle.un_reader.specs.Before.{names_on, names_of, numbered}
+use Rattle.un_reader.specs.Before.{names_of, numbered}
+use Rattle.un_words.specs.LineNames.{names_on}
 use Rattle.un_reader.specs.TextFaults.{is_block}
 use Rattle.un_reader.proofs.BeforeLaws.{before_of_push}
 use Rattle.un_built.specs.Built.{is_built_line, AreBuilt}

@@ -4,10 +4,10 @@ use Rattle.un_isa.specs.declared.op.Op.{Op}
 use Rattle.un_isa.specs.declared.op.Op.TheVariants.{Imm, Add}
 use Rattle.un_ir.specs.Text.{Names}
 use Rattle.un_plain.specs.declared.limits.TheConstants.{PLAIN_NAMES}
-use Rattle.un_reader.specs.declared.line.TermLine.{TermLine}
-use Rattle.un_reader.specs.declared.line.TermLine.TheVariants.{Ret}
-use Rattle.un_reader.specs.declared.line.Line.{Line}
-use Rattle.un_reader.specs.declared.line.Line.TheVariants.{Blank, Func, Block, Operation, Terminator}
+use Rattle.un_words.specs.declared.line.TermLine.{TermLine}
+use Rattle.un_words.specs.declared.line.TermLine.TheVariants.{Ret}
+use Rattle.un_words.specs.declared.line.Line.{Line}
+use Rattle.un_words.specs.declared.line.Line.TheVariants.{Blank, Func, Block, Operation, Terminator}
 use Rattle.un_reader.specs.Before.{names_of}
 use Rattle.un_reader.specs.Lines.{shapes_in}
 use Rattle.un_reader.specs.TextFaults.{is_block}

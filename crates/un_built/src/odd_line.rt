@@ -1,7 +1,7 @@
 //! The first line of a text that is not built.
 
 ghost use Rattle.std.specs.Prelude.{◌≡◌, ◌+◌, ◌<◌, ◌≤◌, ◌^◌, ◌↔◌, IsTrue, IfOk, length, true, if◌then◌else◌};
-ghost use Rattle.un_reader.specs.LineFaults.{line_of};
+ghost use Rattle.un_words.specs.Shapes.{line_of};
 ghost use Rattle.un_reader.specs.Lines.{shapes_in};
 ghost use Rattle.un_reader.specs.TextFaults.{is_block};
 ghost use Rattle.un_built.specs.Built.{is_built_op, is_built_line, IsOddPlace, IsNotBuiltLine};
@@ -13,12 +13,12 @@ use un_lists::items::Items;
 use un_plain::limits::PLAIN_NAMES;
 use un_reader::before::add_line;
 use un_reader::limits::TEXT;
-use un_reader::line::{Line, TermLine};
 use un_reader::names::Names;
-use un_reader::pieces::{content, first_len};
-use un_reader::shape::read_line;
 use un_reader::text_fault::is_block;
-use un_reader::words::tokens;
+use un_words::line::{Line, TermLine};
+use un_words::pieces::{content, first_len};
+use un_words::shape::read_line;
+use un_words::words::tokens;
 
 /// Whether the operation is a constant or an addition.
 fn is_built_op(op: Op) -> bool

@@ -1,11 +1,10 @@
 -- Operands with commas between them.
-use Rattle.std.proofs.Common.{◌≡◌, ℕ, ◌-◌, ◌≤◌, List, [], ◌∷◌, ◌++◌, map, codes, length, get_or, take, drop, ap, sym, ◌∙◌, append_assoc, arith}
+use Rattle.std.proofs.Common.{◌≡◌, ℕ, ◌-◌, ◌≤◌, List, [], ◌∷◌, ◌++◌, Some, map, codes, length, get_or, take, drop, ap, sym, ◌∙◌, append_assoc, arith}
 use Rattle.std.proofs.lemmas.Grind.{common_steps}
 use Rattle.std.specs.List.{flat_map}
 use Rattle.std.proofs.lemmas.List.Concat.{flat_map-append}
-use Rattle.un_isa.specs.declared.op.Op.TheVariants.{Store}
-use Rattle.un_ir.specs.declared.function.SrcOp.{SrcOp}
-use Rattle.un_ir.specs.Text.{comma_joined, spaced, literal_text, operand_texts}
+use Rattle.un_isa.specs.declared.facts.Range.TheVariants.{Offset}
+use Rattle.un_ir.specs.Text.{comma_joined, spaced, with_literal}
 
 -- each after a comma
 abbrev pub after_commas : List (List ℕ) → List ℕ
@@ -39,8 +38,10 @@ spaced-map-literal f [] d literal long = absurd (omega arith)
 spaced-map-literal f (x ∷ xs) d literal long =
     rw (rest_of-cons x xs) (ap (λ z. codes " " ++ z) (comma_joined-cons (f x) (map f xs ++ literal ∷ []) ∙ ap (λ z. f x ++ z) (flat_map-append (λ y. codes ", " ++ y) (map f xs) (literal ∷ []) ∙ ap (λ z. after_commas (map f xs) ++ z) (sym (append-nil (codes ", " ++ literal))))))
 
--- with the literal of a Store after the base
-pub spaced-map-store : {X : Type 0} (f : X → List ℕ) (xs : List X) (d : X) (o : SrcOp) → 1 ≤ length xs → spaced (operand_texts Store o (map f xs)) ≡ codes " " ++ (f (get_or xs 0 d) ++ (codes ", " ++ (literal_text o ++ after_commas (map f (rest_of xs)))))
-spaced-map-store f [] d o long = absurd (omega arith)
-spaced-map-store f (x ∷ xs) d o long =
-    rw (rest_of-cons x xs) (ap (λ z. codes " " ++ z) (comma_joined-cons (f x) (literal_text o ∷ map f xs) ∙ ap (λ z. f x ++ z) (append_assoc (codes ", ") (literal_text o) (after_commas (map f xs)))))
+-- with an offset behind the base
+pub spaced-map-offset : {X : Type 0} (f : X → List ℕ) (xs : List X) (d : X) (literal : List ℕ) → 1 ≤ length xs
+    → spaced (with_literal (Some Offset) literal (map f xs)) ≡ codes " " ++ (f (get_or xs 0 d) ++ (codes ", " ++ (literal ++ after_commas (map f (rest_of xs)))))
+spaced-map-offset f [] d literal long = absurd (omega arith)
+spaced-map-offset f (x ∷ xs) d literal long =
+    rw (rest_of-cons x xs) (ap (λ z. codes " " ++ z) (comma_joined-cons (f x) (literal ∷ map f xs)
+    ∙ ap (λ z. f x ++ z) (append_assoc (codes ", ") literal (after_commas (map f xs)))))

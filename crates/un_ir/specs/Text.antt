@@ -5,7 +5,9 @@ use Rattle.std.specs.List.{flat_map}
 use Rattle.std.specs.Fmt.{decimal, signed_decimal}
 use Rattle.un_base.specs.declared.ids.NameId.{NameId}
 use Rattle.un_isa.specs.declared.op.Op.{Op}
-use Rattle.un_isa.specs.declared.op.Op.TheVariants.{Imm, Mov, Add, Sub, And, Or, Xor, Addi, Andi, Ori, Mux, CmpEq, CmpGt, CmpGtu, CmpEqi, CmpGti, Mpyi, Asl, Asr, Lsr, Load, Store, Call}
+use Rattle.un_isa.specs.declared.facts.Range.{Range}
+use Rattle.un_isa.specs.declared.facts.Range.TheVariants.{Offset}
+use Rattle.un_isa.specs.Facts.{literal_range, source_name}
 use Rattle.un_ir.specs.declared.function.Kind.{Kind}
 use Rattle.un_ir.specs.declared.function.Kind.TheVariants.{General, Pred}
 use Rattle.un_ir.specs.declared.function.SrcOp.{SrcOp}
@@ -41,52 +43,17 @@ abbrev pub result_text : Names → Option NameId → List ℕ
 result_text names None = []
 result_text names (Some name) = name_text names name ++ codes " = "
 
--- the word of an operation
-abbrev pub mnemonic : Op → List ℕ
-mnemonic Imm = codes "imm"
-mnemonic Mov = codes "mov"
-mnemonic Add = codes "add"
-mnemonic Sub = codes "sub"
-mnemonic And = codes "and"
-mnemonic Or = codes "or"
-mnemonic Xor = codes "xor"
-mnemonic Addi = codes "addi"
-mnemonic Andi = codes "andi"
-mnemonic Ori = codes "ori"
-mnemonic Mux = codes "mux"
-mnemonic CmpEq = codes "cmpeq"
-mnemonic CmpGt = codes "cmpgt"
-mnemonic CmpGtu = codes "cmpgtu"
-mnemonic CmpEqi = codes "cmpeqi"
-mnemonic CmpGti = codes "cmpgti"
-mnemonic Mpyi = codes "mpyi"
-mnemonic Asl = codes "asl"
-mnemonic Asr = codes "asr"
-mnemonic Lsr = codes "lsr"
-mnemonic Load = codes "load"
-mnemonic Store = codes "store"
-mnemonic Call = codes "call"
-mnemonic _ = []
-
--- what follows the operands of an operation with a literal
 abbrev pub literal_text : SrcOp → List ℕ
 literal_text o = codes "#" ++ signed_decimal o.imm
 
--- the operands, and last the literal of an operation that has one; a Store has its literal in the middle
+-- the literal of an operation that has one stands behind its operands, but an offset directly behind the base
+abbrev pub with_literal : {X : Type 0} → Option Range → X → List X → List X
+with_literal None literal xs = xs
+with_literal (Some Offset) literal (base ∷ xs) = base ∷ literal ∷ xs
+with_literal (Some range) literal xs = xs ++ literal ∷ []
+
 abbrev pub operand_texts : Op → SrcOp → List (List ℕ) → List (List ℕ)
-operand_texts Imm o xs = literal_text o ∷ []
-operand_texts Addi o xs = xs ++ literal_text o ∷ []
-operand_texts Andi o xs = xs ++ literal_text o ∷ []
-operand_texts Ori o xs = xs ++ literal_text o ∷ []
-operand_texts CmpEqi o xs = xs ++ literal_text o ∷ []
-operand_texts CmpGti o xs = xs ++ literal_text o ∷ []
-operand_texts Asl o xs = xs ++ literal_text o ∷ []
-operand_texts Asr o xs = xs ++ literal_text o ∷ []
-operand_texts Lsr o xs = xs ++ literal_text o ∷ []
-operand_texts Load o xs = xs ++ literal_text o ∷ []
-operand_texts Store o [] = literal_text o ∷ []
-operand_texts Store o (base ∷ xs) = base ∷ literal_text o ∷ xs
-operand_texts _ o xs = xs
+operand_texts op o xs = with_literal (literal_range op) (literal_text o) xs
 
 -- a space before the operands, where there are some
 abbrev pub spaced : List (List ℕ) → List ℕ
@@ -99,7 +66,7 @@ callee_text (Some name) = codes " " ++ name
 
 abbrev pub op_line : Names → SrcOp → List ℕ
 op_line names o =
-    codes "  " ++ (result_text names o.dst ++ (mnemonic o.op ++ (callee_text o.callee ++ spaced (operand_texts o.op o (map (name_text names) o.srcs)))))
+    codes "  " ++ (result_text names o.dst ++ (source_name o.op ++ (callee_text o.callee ++ spaced (operand_texts o.op o (map (name_text names) o.srcs)))))
 
 abbrev pub label_in : Option Block → List ℕ
 label_in None = []

@@ -1,11 +1,13 @@
 -- What every function of the input language keeps: no text with a fault could give it.
-use Rattle.std.specs.Prelude.{ℕ, ℤ, pos, ◌≡◌, ◌≢◌, ◌<◌, ◌≤◌, Bool, true, List, [], ◌∷◌, Option, Some, None, is_some, map, length, slice_get, All, AllPairs, Contains}
+use Rattle.std.specs.Prelude.{ℕ, ◌≡◌, ◌≢◌, ◌<◌, ◌≤◌, Bool, true, false, List, Option, Some, None, is_some, map, length, slice_get, All, AllPairs, Contains}
 use Rattle.std.specs.List.{flat_map}
 use Rattle.un_base.specs.Names.{is_name}
 use Rattle.un_base.specs.declared.ids.NameId.{NameId}
-use Rattle.un_isa.specs.Operands.{IsLiteral}
+use Rattle.un_isa.specs.Facts.{Operands, Fixed, Arguments, facts_of, is_source, result_space}
+use Rattle.un_isa.specs.Operands.{HasLiteral}
+use Rattle.un_isa.specs.declared.reg.Space.{Space}
+use Rattle.un_isa.specs.declared.reg.Space.TheVariants.{R, P, M}
 use Rattle.un_isa.specs.declared.op.Op.{Op}
-use Rattle.un_isa.specs.declared.op.Op.TheVariants.{Imm, Mov, Add, Sub, And, Or, Xor, Addi, Andi, Ori, Mux, CmpEq, CmpGt, CmpGtu, CmpEqi, CmpGti, Mpyi, Asl, Asr, Lsr, Load, Store, Call}
 use Rattle.un_ir.specs.declared.function.Kind.{Kind}
 use Rattle.un_ir.specs.declared.function.Kind.TheVariants.{General, Pred}
 use Rattle.un_ir.specs.declared.function.SrcOp.{SrcOp}
@@ -28,81 +30,52 @@ IsOfKind names kind name = kind_of names name ≡ Some kind
 
 -- ---- operations
 
--- the kinds of the operands of an operation, in order; a call takes any number of words
-abbrev pub operand_kinds : Op → List Kind
-operand_kinds Mov = General ∷ []
-operand_kinds Add = General ∷ General ∷ []
-operand_kinds Sub = General ∷ General ∷ []
-operand_kinds And = General ∷ General ∷ []
-operand_kinds Or = General ∷ General ∷ []
-operand_kinds Xor = General ∷ General ∷ []
-operand_kinds Addi = General ∷ []
-operand_kinds Andi = General ∷ []
-operand_kinds Ori = General ∷ []
-operand_kinds Mux = Pred ∷ General ∷ General ∷ []
-operand_kinds CmpEq = General ∷ General ∷ []
-operand_kinds CmpGt = General ∷ General ∷ []
-operand_kinds CmpGtu = General ∷ General ∷ []
-operand_kinds CmpEqi = General ∷ []
-operand_kinds CmpGti = General ∷ []
-operand_kinds Mpyi = General ∷ General ∷ []
-operand_kinds Asl = General ∷ []
-operand_kinds Asr = General ∷ []
-operand_kinds Lsr = General ∷ []
-operand_kinds Load = General ∷ []
-operand_kinds Store = General ∷ General ∷ []
-operand_kinds _ = []
+-- the kind of the names that stand in a space: truth values are predicates; all else is words
+abbrev pub kind_in : Space → Kind
+kind_in R = General
+kind_in P = Pred
+kind_in M = General
+
+-- the operation calls a function
+abbrev pub takes_arguments : Operands → Bool
+takes_arguments (Fixed spaces) = false
+takes_arguments Arguments = true
+
+abbrev pub is_call : Op → Bool
+is_call op = takes_arguments (facts_of op).operands
+
+-- the operands are of the kinds of their places; a call takes any few words
+abbrev pub AreRead : Names → Operands → List NameId → Type 0
+AreRead names (Fixed spaces) srcs = map (kind_of names) srcs ≡ map Some (map kind_in spaces)
+AreRead names Arguments srcs = All (IsOfKind names General) srcs × (length srcs ≤ PARAMS)
 
 abbrev pub ReadsItsKinds : Names → Op → List NameId → Type 0
-ReadsItsKinds names Call srcs = All (IsOfKind names General) srcs × (length srcs ≤ PARAMS)
-ReadsItsKinds names op srcs = map (kind_of names) srcs ≡ map Some (operand_kinds op)
+ReadsItsKinds names op srcs = AreRead names (facts_of op).operands srcs
 
--- the kind of an operation's result
-abbrev pub result_kind : Op → Kind
-result_kind CmpEq = Pred
-result_kind CmpGt = Pred
-result_kind CmpGtu = Pred
-result_kind CmpEqi = Pred
-result_kind CmpGti = Pred
-result_kind _ = General
+-- without a result no name is assigned; a call may leave its result, and no other operation may
+abbrev pub IsAssigned : Names → Operands → Option Space → Option NameId → Type 0
+IsAssigned names operands None dst = dst ≡ None
+IsAssigned names (Fixed spaces) (Some space) None = ⊥
+IsAssigned names Arguments (Some space) None = Unit {0}
+IsAssigned names operands (Some space) (Some name) = IsOfKind names (kind_in space) name
 
--- a Store has no result, a Call may have one, and every other operation has one
 abbrev pub AssignsItsKind : Names → Op → Option NameId → Type 0
-AssignsItsKind names Store dst = dst ≡ None
-AssignsItsKind names Call None = Unit {0}
-AssignsItsKind names op None = ⊥
-AssignsItsKind names op (Some name) = IsOfKind names (result_kind op) name
+AssignsItsKind names op dst = IsAssigned names (facts_of op).operands (result_space op) dst
 
--- only a Call has a callee
+-- only a call has a callee
+abbrev pub IsCallee : Operands → Option (List ℕ) → Type 0
+IsCallee (Fixed spaces) callee = callee ≡ None
+IsCallee Arguments None = ⊥
+IsCallee Arguments (Some callee) = IsName callee
+
 abbrev pub NamesItsCallee : Op → Option (List ℕ) → Type 0
-NamesItsCallee Call None = ⊥
-NamesItsCallee Call (Some callee) = IsName callee
-NamesItsCallee op callee = callee ≡ None
-
--- the operations that a text may have
-abbrev pub IsOfText : Op → Type 0
-IsOfText op = Contains (Imm ∷ Mov ∷ Add ∷ Sub ∷ And ∷ Or ∷ Xor ∷ Addi ∷ Andi ∷ Ori ∷ Mux ∷ CmpEq ∷ CmpGt ∷ CmpGtu ∷ CmpEqi ∷ CmpGti ∷ Mpyi ∷ Asl ∷ Asr ∷ Lsr ∷ Load ∷ Store ∷ Call ∷ []) op
-
--- a literal in its operation's range; an operation without one has 0
-abbrev pub HasItsLiteral : Op → ℤ → Type 0
-HasItsLiteral Imm n = IsLiteral Imm n
-HasItsLiteral Addi n = IsLiteral Addi n
-HasItsLiteral Andi n = IsLiteral Andi n
-HasItsLiteral Ori n = IsLiteral Ori n
-HasItsLiteral CmpEqi n = IsLiteral CmpEqi n
-HasItsLiteral CmpGti n = IsLiteral CmpGti n
-HasItsLiteral Asl n = IsLiteral Asl n
-HasItsLiteral Asr n = IsLiteral Asr n
-HasItsLiteral Lsr n = IsLiteral Lsr n
-HasItsLiteral Load n = IsLiteral Load n
-HasItsLiteral Store n = IsLiteral Store n
-HasItsLiteral op n = n ≡ pos 0
+NamesItsCallee op callee = IsCallee (facts_of op).operands callee
 
 pub record IsGoodOp (names : Names) (o : SrcOp) : Type 0 where
-  pub op : IsOfText o.op
+  pub op : is_source o.op ≡ true
   pub reads : ReadsItsKinds names o.op o.srcs
   pub assigns : AssignsItsKind names o.op o.dst
-  pub literal : HasItsLiteral o.op o.imm
+  pub literal : HasLiteral o.op o.imm
   pub callee : NamesItsCallee o.op o.callee
 
 -- ---- terminators

@@ -1,8 +1,8 @@
 //! Functions as text.
 
-ghost use Rattle.std.specs.Prelude.{◌≡◌, ◌++◌, [], ◌∷◌, OnOk, IfOk, codes, map, if◌then◌else◌};
+ghost use Rattle.std.specs.Prelude.{◌≡◌, ◌++◌, [], ◌∷◌, Some, OnOk, IfOk, codes, map, if◌then◌else◌};
 ghost use Rattle.std.specs.List.{flat_map};
-ghost use Rattle.un_ir.specs.Text.{name_text, spaced, result_text, mnemonic, callee_text, literal_text, operand_texts, op_line, label_of, term_lines, block_line, block_lines, func_line, function_text, ended};
+ghost use Rattle.un_ir.specs.Text.{name_text, spaced, result_text, callee_text, literal_text, with_literal, operand_texts, op_line, label_of, term_lines, block_line, block_lines, func_line, function_text, ended};
 
 use crate::function::{Block, Function, Kind, SrcOp, Term};
 use crate::text::{put_number, put_signed_number, put_text};
@@ -10,7 +10,7 @@ use std::alloc::Global;
 use un_base::ids::{BlockId, NameId};
 use un_base::memory_error::NoMemory;
 use un_base::name::Name;
-use un_isa::op::Op;
+use un_isa::facts::{Range, literal_range, source_name};
 
 /// Appends a name with its sigil.
 fn put_name(out: &mut Vec<u8>, names: &[(Name, Kind)], name: NameId) -> Result<(), NoMemory>
@@ -99,15 +99,15 @@ fn put_names_and_literal(
     }
 }
 
-/// Appends a space, and with commas between them names and after the first of them the literal of an operation.
-fn put_store_operands(
+/// Appends a space, and with commas between them names and behind the first of them, the base, the offset.
+fn put_base_and_offset(
     out: &mut Vec<u8>,
     names: &[(Name, Kind)],
     list: &[NameId],
     o: &SrcOp,
 ) -> Result<(), NoMemory>
     ensures { OnOk result (out.new.items ≡ out.old.items
-        ++ spaced (operand_texts Op.Store o.now (map (name_text names.now) list.now))) }
+        ++ spaced (with_literal (Some Range.Offset) (literal_text o.now) (map (name_text names.now) list.now))) }
 {
     match list {
         [] => {
@@ -130,49 +130,12 @@ fn put_operands(out: &mut Vec<u8>, names: &[(Name, Kind)], o: &SrcOp) -> Result<
         ++ spaced (operand_texts o.now.op o.now (map (name_text names.now) o.now.srcs))) }
 {
     let list = o.srcs.as_slice();
-    match o.op {
-        Op::Imm => {
-            put_text(out, b" ")?;
-            put_literal(out, o)
+    match literal_range(o.op) {
+        None => put_names(out, names, list),
+        Some(Range::Offset) => put_base_and_offset(out, names, list, o),
+        Some(Range::Signed16 | Range::Signed10 | Range::Unsigned5 | Range::FrameOffset) => {
+            put_names_and_literal(out, names, list, o)
         }
-        Op::Store => put_store_operands(out, names, list, o),
-        Op::Addi | Op::Andi | Op::Ori | Op::CmpEqi | Op::CmpGti => put_names_and_literal(
-            out, names, list, o,
-        ),
-        Op::Asl | Op::Asr | Op::Lsr | Op::Load => put_names_and_literal(out, names, list, o),
-        _ => put_names(out, names, list),
-    }
-}
-
-/// The word of an operation that stands in a function's text, else the empty text.
-fn mnemonic(op: Op) -> &'static [u8]
-    ensures { result.now ≡ mnemonic op }
-{
-    match op {
-        Op::Imm => b"imm",
-        Op::Mov => b"mov",
-        Op::Add => b"add",
-        Op::Sub => b"sub",
-        Op::And => b"and",
-        Op::Or => b"or",
-        Op::Xor => b"xor",
-        Op::Addi => b"addi",
-        Op::Andi => b"andi",
-        Op::Ori => b"ori",
-        Op::Mux => b"mux",
-        Op::CmpEq => b"cmpeq",
-        Op::CmpGt => b"cmpgt",
-        Op::CmpGtu => b"cmpgtu",
-        Op::CmpEqi => b"cmpeqi",
-        Op::CmpGti => b"cmpgti",
-        Op::Mpyi => b"mpyi",
-        Op::Asl => b"asl",
-        Op::Asr => b"asr",
-        Op::Lsr => b"lsr",
-        Op::Load => b"load",
-        Op::Store => b"store",
-        Op::Call => b"call",
-        _ => b"",
     }
 }
 
@@ -212,7 +175,7 @@ fn put_op(out: &mut Vec<u8>, names: &[(Name, Kind)], o: &SrcOp) -> Result<(), No
 {
     put_text(out, b"  ")?;
     put_result(out, names, o.dst)?;
-    put_text(out, mnemonic(o.op))?;
+    put_text(out, source_name(o.op))?;
     put_callee(out, &o.callee)?;
     put_operands(out, names, o)?;
     put_text(out, b"\n")

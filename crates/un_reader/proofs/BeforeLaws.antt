@@ -5,9 +5,9 @@ use Rattle.std.specs.Option.{option_to_list, option_or}
 use Rattle.std.proofs.lemmas.List.Elements.{filter_map-append}
 use Rattle.std.proofs.lemmas.Grind.{flat_map-append, fold-append}
 use Rattle.std.proofs.lemmas.List.Sums.{sum_by-append, count_by-le-length}
-use Rattle.un_reader.specs.declared.line.Line.{Line}
-use Rattle.un_reader.specs.Tokens.{Spelled}
-use Rattle.un_reader.specs.Before.{add_name, names_on, label_on, name_on, name_of, is_operation, ended_after, labels_of, names_of, before_of}
+use Rattle.un_reader.specs.Vocabulary.{Line, Spelled}
+use Rattle.un_reader.specs.Before.{add_name, label_on, name_on, name_of, is_operation, ended_after, labels_of, names_of, before_of}
+use Rattle.un_words.specs.LineNames.{names_on}
 use Rattle.un_reader.specs.Noted.{noted}
 
 option_or_none : {X : Type 0} (o : Option X) → option_or o None ≡ o

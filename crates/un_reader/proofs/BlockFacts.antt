@@ -1,31 +1,24 @@
 -- Blocks of lines without a fault: what each keeps, and how many operations they have.
-use Rattle.std.proofs.Common.{◌≡◌, ◌≢◌, ℕ, suc, ◌+◌, ◌<◌, ◌≤◌, ◌++◌, ◌&&◌, Bool, true, false, not, cond, nat_lt, nat_le, List, [], ◌∷◌, Some, None, is_some, map, length, slice_get, refl, sym, ap, ◌∙◌, arith, subst}
+use Rattle.std.proofs.Common.{◌≡◌, ◌≢◌, ℕ, suc, ◌+◌, ◌<◌, ◌≤◌, ◌++◌, ◌&&◌, Bool, true, false, not, cond, nat_lt, nat_le, List, [], ◌∷◌, Some, is_some, map, length, slice_get, refl, sym, ap, ◌∙◌, arith, subst}
 use Rattle.std.specs.List.{list_any, flat_map, count_by}
 use Rattle.std.specs.Option.{option_map, option_to_list}
 use Rattle.std.proofs.lemmas.Bool.Decides.{Decides-ltb}
-use Rattle.std.proofs.lemmas.Bool.{leb-true}
+use Rattle.std.proofs.lemmas.Bool.{leb-true, or_parts, and_parts, not-false, ltb-false}
 use Rattle.std.proofs.lemmas.List.{length-append}
 use Rattle.std.proofs.lemmas.List.Sums.{sum_by-cons}
-use Rattle.un_base.specs.declared.ids.NameId.{NameId}
-use Rattle.un_ir.specs.declared.function.Kind.{Kind}
-use Rattle.un_ir.specs.declared.function.Kind.TheVariants.{General, Pred}
-use Rattle.un_ir.specs.declared.function.Block.{Block as SourceBlock}
+use Rattle.un_reader.specs.Vocabulary.{NameId, Kind, General, Pred, SourceBlock, Number, TermLine, Branch, Ret, Line, Blank, Func, Block, Operation, Terminator, Spelled}
 use Rattle.un_ir.specs.WellFormed.{IsOfKind, IsGoodOp, IsGoodBlock, TestsItsKind}
-use Rattle.un_reader.specs.declared.token.Number.{Number}
-use Rattle.un_reader.specs.declared.line.TermLine.{TermLine}
-use Rattle.un_reader.specs.declared.line.TermLine.TheVariants.{Jump, Branch, Ret}
-use Rattle.un_reader.specs.declared.line.Line.{Line}
-use Rattle.un_reader.specs.declared.line.Line.TheVariants.{Blank, Func, Block, Operation, Terminator}
+use Rattle.un_ir.specs.declared.function.TheConstants.{FREQUENCY, PARAMS}
 use Rattle.un_reader.specs.declared.before.Before.{Before}
-use Rattle.un_reader.specs.Tokens.{Spelled}
-use Rattle.un_reader.specs.Before.{same_name, names_on, names_on_term, labels_of, is_operation}
+use Rattle.un_reader.specs.Before.{same_name, labels_of, is_operation}
+use Rattle.un_words.specs.LineNames.{names_on, names_on_term}
 use Rattle.un_reader.specs.Noted.{noted}
 use Rattle.un_reader.specs.TextFaults.{term_of}
 use Rattle.un_reader.specs.LineFaults.{has_repeat, is_predicate, term_clashes, is_over_limit, literal_fits, freq_fits, operands_clash, result_clashes}
 use Rattle.un_reader.specs.Functions.{name_id, op_of, term_by, ops_of, blocks_of}
-use Rattle.un_reader.proofs.Each.{Each, Each-All, Each-weaken, Each-left, Each-right, EachPair, EachPair-map, Each-none, or_false, and_both}
+use Rattle.un_words.proofs.Each.{Each, Each-All, Each-weaken, Each-left, Each-right, EachPair, EachPair-map, Each-none}
 use Rattle.un_reader.proofs.FirstNames.{name_itself}
-use Rattle.un_reader.proofs.TokenFacts.{IsNameWord}
+use Rattle.un_words.proofs.TokenFacts.{IsNameWord}
 use Rattle.un_reader.proofs.OpFacts.{IsKnown, kind_matches, word_kind, are_words, op_good}
 use Rattle.un_reader.proofs.LineTests.{IsClean, AreClean}
 
@@ -39,36 +32,25 @@ kept_known names x k = ap (option_map (λ (n : List ℕ × Kind). n.1)) k
 -- what a function keeps of its parameters
 pub record AreGoodParams (names params : List Spelled) : Type 0 where
   pub words : Each (IsOfKind names General) (map (name_id names) params)
-  pub few : length params ≤ 6
+  pub few : length params ≤ PARAMS
   pub apart : EachPair (λ (a b : NameId). a ≢ b) (map (name_id names) params)
 
 -- what a line gives a function, by the numbers of its names
 abbrev pub Fits : List Spelled → List (List ℕ) → Line → Type 0
 Fits names labels Blank = Unit {0}
 Fits names labels (Func name params) = IsNameWord name × AreGoodParams names params
-Fits names labels (Block label freq) = IsNameWord label × (1 ≤ freq.size) × (freq.size ≤ 1000000)
+Fits names labels (Block label freq) = IsNameWord label × (1 ≤ freq.size) × (freq.size ≤ FREQUENCY)
 Fits names labels (Operation o) = IsGoodOp names (op_of names o)
 Fits names labels (Terminator term) = TestsItsKind names (term_by names labels (Some term))
 
-not_false : (a : Bool) → not a ≡ false → a ≡ true
-not_false true h = refl
-not_false false h = absurd (cc h)
+at_most : (n : ℕ) → nat_lt PARAMS n ≡ false → n ≤ PARAMS
+at_most n h = ltb-false PARAMS n h
 
-at_most : (n : ℕ) → nat_lt 6 n ≡ false → n ≤ 6
-at_most n h = by (nat_lt 6 n) refl
-  where
-    apart : nat_lt 6 n ≡ true → ⊥
-    apart e = cc (sym h ∙ e)
-
-    by : (v : Bool) → nat_lt 6 n ≡ v → n ≤ 6
-    by true e = absurd (apart e)
-    by false e = let within : (6 < n) → ⊥ = λ more. apart ((Decides-ltb 6 n).1 more) in omega (arith, within)
-
-frequency : (freq : Number) → freq_fits freq ≡ true → (1 ≤ freq.size) × (freq.size ≤ 1000000)
+frequency : (freq : Number) → freq_fits freq ≡ true → (1 ≤ freq.size) × (freq.size ≤ FREQUENCY)
 frequency freq h =
-    let outer = and_both (not freq.negative && nat_le 1 freq.size) (nat_le freq.size 1000000) h in
-    let inner = and_both (not freq.negative) (nat_le 1 freq.size) outer.0 in
-    (leb-true 1 freq.size inner.1, leb-true freq.size 1000000 outer.1)
+    let outer = and_parts (not freq.negative && nat_le 1 freq.size) (nat_le freq.size FREQUENCY) h in
+    let inner = and_parts (not freq.negative) (nat_le 1 freq.size) outer.0 in
+    (leb-true 1 freq.size inner.1, leb-true freq.size FREQUENCY outer.1)
 
 -- ---- parameters
 
@@ -86,10 +68,10 @@ one_differs names x k (y ∷ params) ks h = (numbers_differ names x y k ks.0 h.0
 params_differ : (names params : List Spelled) → Each (IsKept names) params → has_repeat params ≡ false → EachPair (λ (a b : Spelled). name_id names a ≢ name_id names b) params
 params_differ names [] k h = tt
 params_differ names (x ∷ params) k h =
-    let parts = or_false (list_any (same_name x) params) (has_repeat params) h in
+    let parts = or_parts (list_any (same_name x) params) (has_repeat params) h in
     (one_differs names x k.0 params k.1 (Each-none (same_name x) params parts.0), params_differ names params k.1 parts.1)
 
-good_params : (names params : List Spelled) → Each (IsKept names) params → list_any is_predicate params ≡ false → has_repeat params ≡ false → length params ≤ 6 → AreGoodParams names params
+good_params : (names params : List Spelled) → Each (IsKept names) params → list_any is_predicate params ≡ false → has_repeat params ≡ false → length params ≤ PARAMS → AreGoodParams names params
 good_params names params k clash repeat few = record {
   words = are_words names params (Each-weaken (IsKept names) (IsKnown names) (kept_known names) params k) clash;
   few = few;
@@ -99,24 +81,23 @@ good_params names params k clash repeat few = record {
 -- ---- lines
 
 term_fits : (names : List Spelled) (labels : List (List ℕ)) (term : TermLine) → Each (IsKnown names) (names_on_term term) → term_clashes term ≡ false → TestsItsKind names (term_by names labels (Some term))
-term_fits names labels (Jump to) k h = tt
 term_fits names labels (Branch pred sense to) k h = k.0 ∙ ap Some (kind_matches Pred pred.1 h)
-term_fits names labels (Ret None) k h = tt
 term_fits names labels (Ret (Some name)) k h = k.0 ∙ ap Some (word_kind name.1 h)
+term_fits names labels _ k h = tt
 
 line_fits : (names : List Spelled) (labels : List (List ℕ)) (before : Before) (line : Line) → IsClean before line → Each (IsKept names) (names_on line) → Fits names labels line
 line_fits names labels before Blank c k = tt
 line_fits names labels before (Func name params) c k =
-    let few : nat_lt 6 (length params) ≡ false = (or_false (nat_lt 6 (length params)) _ c.few).0 in
-    (c.shaped.0, good_params names params k c.kinds (or_false (is_some before.name) (has_repeat params) c.placed).1 (at_most (length params) few))
+    let few : nat_lt PARAMS (length params) ≡ false = (or_parts (nat_lt PARAMS (length params)) _ c.few).0 in
+    (c.shaped.0, good_params names params k c.kinds (or_parts (is_some before.name) (has_repeat params) c.placed).1 (at_most (length params) few))
 line_fits names labels before (Block label freq) c k =
-    let f = frequency freq (not_false (freq_fits freq) c.freq) in (c.shaped, f.0, f.1)
+    let f = frequency freq (not-false (freq_fits freq) c.freq) in (c.shaped, f.0, f.1)
 line_fits names labels before (Operation o) c k =
-    let clash = or_false (result_clashes o.op o.dst) (operands_clash o.op o.srcs) c.kinds in
-    let over : is_over_limit before (Operation o) ≡ false = (or_false (is_over_limit before (Operation o)) _ c.few).0 in
-    let few : nat_lt 6 (length o.srcs) ≡ false = (or_false (nat_lt 6 (length o.srcs)) _ over).0 in
+    let clash = or_parts (result_clashes o.op o.dst) (operands_clash o.op o.srcs) c.kinds in
+    let over : is_over_limit before (Operation o) ≡ false = (or_parts (is_over_limit before (Operation o)) _ c.few).0 in
+    let few : nat_lt PARAMS (length o.srcs) ≡ false = (or_parts (nat_lt PARAMS (length o.srcs)) _ over).0 in
     op_good names o c.shaped (Each-weaken (IsKept names) (IsKnown names) (kept_known names) (option_to_list o.dst ++ o.srcs) k)
-    clash.0 clash.1 (at_most (length o.srcs) few) (not_false (literal_fits o.op o.imm) c.literal)
+    clash.0 clash.1 (at_most (length o.srcs) few) (not-false (literal_fits o.op o.imm) c.literal)
 line_fits names labels before (Terminator term) c k = term_fits names labels term (Each-weaken (IsKept names) (IsKnown names) (kept_known names) (names_on_term term) k) c.kinds
 
 pub lines_fit : (names : List Spelled) (labels : List (List ℕ)) (before : Before) (lines : List Line) → AreClean before lines → Each (IsKept names) (flat_map names_on lines) → Each (Fits names labels) lines
@@ -134,19 +115,15 @@ one_more a b c h = omega arith
 module _ (names : List Spelled) (labels : List (List ℕ)) where
   good_ops : (lines : List Line) → Each (Fits names labels) lines → Each (IsGoodOp names) (ops_of names lines)
   good_ops [] f = tt
-  good_ops (Blank ∷ lines) f = good_ops lines f.1
-  good_ops (Func name params ∷ lines) f = good_ops lines f.1
   good_ops (Block label freq ∷ lines) f = tt
   good_ops (Operation o ∷ lines) f = (f.0, good_ops lines f.1)
-  good_ops (Terminator term ∷ lines) f = good_ops lines f.1
+  good_ops (_ ∷ lines) f = good_ops lines f.1
 
   good_term : (lines : List Line) → Each (Fits names labels) lines → TestsItsKind names (term_by names labels (term_of lines))
   good_term [] f = tt
-  good_term (Blank ∷ lines) f = good_term lines f.1
-  good_term (Func name params ∷ lines) f = good_term lines f.1
   good_term (Block label freq ∷ lines) f = tt
-  good_term (Operation o ∷ lines) f = good_term lines f.1
   good_term (Terminator term ∷ lines) f = f.0
+  good_term (_ ∷ lines) f = good_term lines f.1
 
   pub good_blocks : (lines : List Line) → Each (Fits names labels) lines → Each (IsGoodBlock names) (blocks_of names labels lines)
   good_blocks [] f = tt
@@ -162,11 +139,8 @@ module _ (names : List Spelled) (labels : List (List ℕ)) where
   -- each block has its label
   pub block_labels : (lines : List Line) → map (λ (b : SourceBlock). b.label) (blocks_of names labels lines) ≡ labels_of lines
   block_labels [] = refl
-  block_labels (Blank ∷ lines) = block_labels lines
-  block_labels (Func name params ∷ lines) = block_labels lines
   block_labels (Block label freq ∷ lines) = ap (λ (ls : List (List ℕ)). label ∷ ls) (block_labels lines)
-  block_labels (Operation o ∷ lines) = block_labels lines
-  block_labels (Terminator term ∷ lines) = block_labels lines
+  block_labels (_ ∷ lines) = block_labels lines
 
   -- no more operations than lines of operations
   pub block_ops : (lines : List Line) → length (ops_of names lines) + length (flat_map (λ (b : SourceBlock). b.ops) (blocks_of names labels lines)) ≤ count_by is_operation lines

@@ -6,16 +6,16 @@ use Rattle.un_base.specs.Lines.{pieces_of}
 use Rattle.un_reader.specs.declared.fault.Fault.{Fault}
 use Rattle.un_reader.specs.declared.fault.Fault.TheVariants.{BadByte, BadLine}
 use Rattle.un_reader.specs.declared.before.Before.{Before}
-use Rattle.un_reader.specs.declared.line.Line.{Line}
+use Rattle.un_words.specs.declared.line.Line.{Line}
 use Rattle.un_reader.specs.declared.error.ReadError.{ReadError}
 use Rattle.un_reader.specs.declared.error.ReadError.TheVariants.{NoMemory, TextFault}
 use Rattle.un_reader.specs.Before.{before_of}
 use Rattle.un_reader.specs.Codes.{code_of}
 use Rattle.un_reader.specs.Errors.{Tells}
-use Rattle.un_reader.specs.Pieces.{without_end, without_comment, lines_in}
-use Rattle.un_reader.specs.Tokens.{tokens_of}
-use Rattle.un_reader.specs.Shapes.{shape_of}
-use Rattle.un_reader.specs.LineFaults.{is_plain_byte, line_fault, line_of, fault_at}
+use Rattle.un_words.specs.Pieces.{without_end, without_comment, lines_in}
+use Rattle.un_words.specs.Tokens.{tokens_of}
+use Rattle.un_words.specs.Shapes.{shape_of, line_of}
+use Rattle.un_reader.specs.LineFaults.{is_plain_byte, line_fault, fault_at}
 use Rattle.un_reader.specs.Lines.{HasNoLineFault, IsFirstLineFault}
 
 -- these lines were read without a fault, and these bytes are left
@@ -37,54 +37,49 @@ next_fault front bytes rest = rw (slice_get_at front bytes rest, take_at front (
 pub seen_none : (all : List (List ℕ)) → Seen all [] all
 seen_none all = record { front = []; split = refl; read = refl; good = λ k h. absurd (omega arith) }
 
--- the fault of the next line, by the lines that were read
-pub fault_next : (all : List (List ℕ)) (lines : List Line) (bytes : List ℕ) (rest : List (List ℕ)) (s : Seen all lines (bytes ∷ rest))
-    → fault_at all (length s.front) ≡ line_fault (before_of lines) bytes
-fault_next all lines bytes rest s = rw (s.split, s.read) (next_fault s.front bytes rest)
+module _ (all : List (List ℕ)) (lines : List Line) where
+  -- the fault of the next line, by the lines that were read
+  pub fault_next : (bytes : List ℕ) (rest : List (List ℕ)) (s : Seen all lines (bytes ∷ rest)) → fault_at all (length s.front) ≡ line_fault (before_of lines) bytes
+  fault_next bytes rest s = rw (s.split, s.read) (next_fault s.front bytes rest)
 
-pub seen_more : (all : List (List ℕ)) (lines : List Line) (bytes : List ℕ) (rest : List (List ℕ)) (line : Line)
-    → Seen all lines (bytes ∷ rest) → line_fault (before_of lines) bytes ≡ None → line ≡ line_of bytes
-    → Seen all (lines ++ line ∷ []) rest
-seen_more all lines bytes rest line s none is = record {
-  front = s.front ++ bytes ∷ [];
-  split = s.split ∙ sym (append_assoc s.front (bytes ∷ []) rest);
-  read = rw (s.read, is) (sym (map_push line_of s.front bytes));
-  good = λ k h. below_more_lem k h;
-}
-  where
-    count : length (s.front ++ bytes ∷ []) ≡ length s.front + 1
-    count = length_push s.front bytes
+  pub seen_more : (bytes : List ℕ) (rest : List (List ℕ)) (line : Line) → Seen all lines (bytes ∷ rest) → line_fault (before_of lines) bytes ≡ None → line ≡ line_of bytes → Seen all (lines ++ line ∷ []) rest
+  seen_more bytes rest line s none is = record {
+    front = s.front ++ bytes ∷ [];
+    split = s.split ∙ sym (append_assoc s.front (bytes ∷ []) rest);
+    read = rw (s.read, is) (sym (map_push line_of s.front bytes));
+    good = λ k h. below_more_lem k h;
+  }
+    where
+      count : length (s.front ++ bytes ∷ []) ≡ length s.front + 1
+      count = length_push s.front bytes
 
-    below_more_lem : (k : ℕ) → k < length (s.front ++ bytes ∷ []) → fault_at all k ≡ None
-    below_more_lem k h =
-        below_more (λ (j : ℕ). fault_at all j ≡ None) (length s.front) s.good (fault_next all lines bytes rest s ∙ none) k (omega (arith, count))
+      below_more_lem : (k : ℕ) → k < length (s.front ++ bytes ∷ []) → fault_at all k ≡ None
+      below_more_lem k h =
+          below_more (λ (j : ℕ). fault_at all j ≡ None) (length s.front) s.good (fault_next bytes rest s ∙ none) k (omega (arith, count))
 
--- no line is left
-pub seen_all : (all : List (List ℕ)) (lines : List Line) (rest : List (List ℕ)) → rest ≡ [] → Seen all lines rest → HasNoLineFault all
-seen_all all lines rest empty s k h = s.good k (omega (arith, whole))
-  where
-    whole : length all ≡ length s.front
-    whole = ap length (s.split ∙ ap (λ (r : List (List ℕ)). s.front ++ r) empty ∙ append-nil s.front)
+  -- no line is left
+  pub seen_all : (rest : List (List ℕ)) → rest ≡ [] → Seen all lines rest → HasNoLineFault all
+  seen_all rest empty s k h = s.good k (omega (arith, whole))
+    where
+      whole : length all ≡ length s.front
+      whole = ap length (s.split ∙ ap (λ (r : List (List ℕ)). s.front ++ r) empty ∙ append-nil s.front)
 
-pub seen_lines : (all : List (List ℕ)) (lines : List Line) (rest : List (List ℕ)) → rest ≡ [] → Seen all lines rest → lines ≡ map line_of all
-seen_lines all lines rest empty s = s.read ∙ ap (map line_of) (sym (s.split ∙ ap (λ (r : List (List ℕ)). s.front ++ r) empty ∙ append-nil s.front))
+  pub seen_lines : (rest : List (List ℕ)) → rest ≡ [] → Seen all lines rest → lines ≡ map line_of all
+  seen_lines rest empty s = s.read ∙ ap (map line_of) (sym (s.split ∙ ap (λ (r : List (List ℕ)). s.front ++ r) empty ∙ append-nil s.front))
 
--- the next line has the first fault
-pub seen_fault : (all : List (List ℕ)) (lines : List Line) (bytes : List ℕ) (rest : List (List ℕ)) (e : ReadError)
-    → Seen all lines (bytes ∷ rest)
-    → Tells (λ l fault. (l ≡ length lines + 1) × (line_fault (before_of lines) bytes ≡ Some fault)) e
-    → Tells (IsFirstLineFault all) e
-seen_fault all lines bytes rest NoMemory s t = tt
-seen_fault all lines bytes rest (TextFault line code) s (fault, is, (number, here)) = (
-  fault,
-  is,
-  record {
-    place = length s.front;
-    number = number ∙ ap (λ n. n + 1) (ap length s.read ∙ length-map s.front line_of);
-    here = fault_next all lines bytes rest s ∙ here;
-    before = s.good;
-  },
-)
+  -- the next line has the first fault
+  pub seen_fault : (bytes : List ℕ) (rest : List (List ℕ)) (e : ReadError) → Seen all lines (bytes ∷ rest) → Tells (λ l fault. (l ≡ length lines + 1) × (line_fault (before_of lines) bytes ≡ Some fault)) e → Tells (IsFirstLineFault all) e
+  seen_fault bytes rest NoMemory s t = tt
+  seen_fault bytes rest (TextFault line code) s (fault, is, (number, here)) = (
+    fault,
+    is,
+    record {
+      place = length s.front;
+      number = number ∙ ap (λ n. n + 1) (ap length s.read ∙ length-map s.front line_of);
+      here = fault_next bytes rest s ∙ here;
+      before = s.good;
+    },
+  )
 
 -- the first line of a text
 first_line : (piece old new bytes : List ℕ) → pieces_of old ≡ piece ∷ pieces_of new → bytes ≡ without_comment (without_end piece) → lines_in old ≡ bytes ∷ lines_in new

@@ -1,15 +1,12 @@
 -- Marking the blocks at whose start a name is live.
 use Rattle.std.proofs.Common.{◌≡◌, ◌≢◌, ℕ, zero, suc, ◌+◌, ◌<◌, ◌≤◌, ◌||◌, ◌⊎◌, inl, inr, Bool, true, false, nat_eq, List, [], ◌∷◌, Option, Some, None, map, length, drop, set, replicate, slice_get, get_or, Contains, if◌then◌else◌, refl, sym, ap, add-one, ◌∙◌, arith, subst}
 use Rattle.std.specs.Option.{option_map_or}
-use Rattle.std.proofs.lemmas.Bool.{eqb-true}
-use Rattle.std.proofs.lemmas.Option.{slice_get_past, slice_get-get_or}
-use Rattle.un_base.specs.declared.ids.NameId.{NameId}
-use Rattle.un_ir.specs.declared.function.SrcOp.{SrcOp}
-use Rattle.un_ir.specs.declared.function.Term.{Term}
-use Rattle.un_ir.specs.declared.function.Term.TheVariants.{Fall, Jump, Branch, Ret}
+use Rattle.std.proofs.lemmas.Bool.{eqb-true, or_cases, or_left, or_right, false_from_ne_true}
+use Rattle.std.proofs.lemmas.Option.{slice_get_past, slice_get-get_or, slice_get_within}
+use Rattle.un_reader.specs.Vocabulary.{NameId, SrcOp, Term, Fall, Spelled}
+use Rattle.un_ir.specs.declared.function.Term.TheVariants.{Jump, Branch, Ret}
 use Rattle.un_ir.specs.declared.function.Block.{Block}
 use Rattle.un_ir.specs.Live.{IsLive, used, kept, read_by_term, read_by, read_at, targets_of, assigned_by, assigned_at, next_by, next_of}
-use Rattle.un_reader.specs.Tokens.{Spelled}
 use Rattle.un_reader.specs.declared.meeting.Meeting.{Meeting}
 use Rattle.un_reader.specs.declared.meeting.Meeting.TheVariants.{Read, Assigned, Neither}
 use Rattle.un_reader.specs.Entry.{IsLiveAtEntry, reads, assigns, meeting, marked, leads, live_by, lives, lives_at, AreSound, AreClosed}
@@ -22,10 +19,6 @@ same_id m n e = ap (λ (x : ℕ). (let r : NameId = record { 0 = x } in r)) (eqb
 own_id : (n : NameId) → nat_eq n.0 n.0 ≡ true
 own_id n = grind arith
 
-or_cases : (a b : Bool) → (a || b) ≡ true → (a ≡ true) ⊎ (b ≡ true)
-or_cases true b h = inl refl
-or_cases false b h = inr h
-
 pub reads-Contains : (name : NameId) (names : List NameId) → reads name names ≡ true → Contains names name
 reads-Contains name [] h = absurd (cc h)
 reads-Contains name (n ∷ names) h = elim (or_cases (nat_eq n.0 name.0) (reads name names) h) [
@@ -36,11 +29,7 @@ reads-Contains name (n ∷ names) h = elim (or_cases (nat_eq n.0 name.0) (reads 
 pub Contains-reads : (name : NameId) (names : List NameId) → Contains names name → reads name names ≡ true
 Contains-reads name [] (k, below, is) = absurd (omega arith)
 Contains-reads name (n ∷ names) (zero, below, is) = rw (is, own_id name) refl
-Contains-reads name (n ∷ names) (suc k, below, is) = or_true (nat_eq n.0 name.0) (reads name names) (Contains-reads name names (k, omega arith, is))
-  where
-    or_true : (a b : Bool) → b ≡ true → (a || b) ≡ true
-    or_true true b h = refl
-    or_true false b h = h
+Contains-reads name (n ∷ names) (suc k, below, is) = or_right (nat_eq n.0 name.0) (reads name names) (Contains-reads name names (k, omega arith, is))
 
 -- ---- places of a list
 
@@ -61,11 +50,6 @@ at_place (x ∷ xs) (suc k) h = elim (at_place xs k (omega arith)) [
   | inl e ↦ inl e
   | inr s ↦ inr (record { item = s.item; got = s.got; front = s.front })
 ]
-
-got_within : {X : Type 0} (xs : List X) (k : ℕ) (x : X) → slice_get xs k ≡ Some x → k + 1 ≤ length xs
-got_within [] k x e = absurd (cc e)
-got_within (y ∷ ys) zero x e = omega arith
-got_within (y ∷ ys) (suc k) x e = let r = got_within ys k x e in omega (arith, r)
 
 -- ---- places of a block
 
@@ -101,14 +85,6 @@ leads_target marks b (Branch pred sense to) h = elim (or_cases (marked marks (b 
 ]
 leads_target marks b (Ret value) h = absurd (cc h)
 
-or_left : (a b : Bool) → a ≡ true → (a || b) ≡ true
-or_left true b h = refl
-or_left false b h = absurd (cc h)
-
-or_right : (a b : Bool) → b ≡ true → (a || b) ≡ true
-or_right true b h = refl
-or_right false b h = h
-
 target_leads : (marks : List Bool) (b : ℕ) (term : Term) (c : ℕ) → Contains (targets_of b term) c → marked marks c ≡ true → leads marks b term ≡ true
 target_leads marks b Fall c has h = rw (only (b + 1) c has) h
 target_leads marks b (Jump to) c has h = rw (only to.0 c has) h
@@ -126,11 +102,7 @@ decided false m l h = h refl
 
 unassigned : (name : NameId) (dst : Option NameId) → dst ≢ Some name → assigns name dst ≡ false
 unassigned name None other = refl
-unassigned name (Some n) other = by (nat_eq n.0 name.0) refl
-  where
-    by : (v : Bool) → nat_eq n.0 name.0 ≡ v → v ≡ false
-    by true e = absurd (other (ap Some (same_id n name e)))
-    by false e = refl
+unassigned name (Some n) other = false_from_ne_true (nat_eq n.0 name.0) (λ e. other (ap Some (same_id n name e)))
 
 live_block : (blocks : List Block) (name : NameId) (b k : ℕ) → IsLive blocks name b k → (block : Block) × (slice_get blocks b ≡ Some block)
 live_block blocks name b k (used b2 k2 block g h has) = (block, g)
@@ -150,46 +122,42 @@ read_meets name marks b k block h has = elim (at_place block.ops k h) [
       rw (s.front, Contains-reads name s.item.srcs srcs) refl
 ]
 
-kept_meets : (blocks : List Block) (name : NameId) (marks : List Bool) → AreClosed blocks name marks
-    → (b k : ℕ) (block : Block) → slice_get blocks b ≡ Some block → k ≤ length block.ops → assigned_at block k ≢ Some name
-    → (c l : ℕ) → Contains {X = ℕ × ℕ} (next_of b k block) (c, l) → (next : Block) → slice_get blocks c ≡ Some next
-    → ((other : Block) → slice_get blocks c ≡ Some other → Meets name marks c l other)
-    → Meets name marks b k block
-kept_meets blocks name marks closed b k block is h na c l nx next there ih = elim (at_place block.ops k h) [
-  | inl (none, empty) ↦
-      let places : Contains {X = ℕ × ℕ} (map (λ (n : ℕ). (n, 0)) (targets_of b block.term)) (c, l) = subst (λ (o : Option SrcOp). Contains {X = ℕ × ℕ} (next_by b k o block.term) (c, l)) none nx in
-      let has = pair_first (targets_of b block.term) c l places in
-      let start : Meets name marks c 0 next = subst (λ (n : ℕ). Meets name marks c n next) has.1 (ih next there) in
-      let live : lives_at blocks name marks c ≡ true = rw there start in
-      let led : leads marks b block.term ≡ true = target_leads marks b block.term c has.0 (closed c live) in
-      rw (empty, led) (decided (reads name (read_by_term block.term)) Neither true (λ no. refl))
-  | inr s ↦
-      let place : Contains {X = ℕ × ℕ} ((b, k + 1) ∷ []) (c, l) = subst (λ (o : Option SrcOp). Contains {X = ℕ × ℕ} (next_by b k o block.term) (c, l)) s.got nx in
-      let same : ◌≡◌ {A = ℕ × ℕ} (b, k + 1) (c, l) = only {X = ℕ × ℕ} (b, k + 1) (c, l) place in
-      let dst : s.item.dst ≢ Some name = subst (λ (o : Option SrcOp). assigned_by o ≢ Some name) s.got na in
-      let after : Meets name marks b (k + 1) block = subst (λ (p : ℕ × ℕ). (other : Block) → slice_get blocks p.0 ≡ Some other → Meets name marks p.0 p.1 other) (sym same) ih block is in
-      let later : Meets name marks b (suc k) block = rw add-one at after in
-      rw s.front (decided (reads name s.item.srcs) _ (leads marks b block.term) (λ no. rw (unassigned name s.item.dst dst) later))
-]
+module _ (blocks : List Block) (name : NameId) (marks : List Bool) (closed : AreClosed blocks name marks) where
+  kept_meets : (b : ℕ) (k : ℕ) (block : Block) → slice_get blocks b ≡ Some block → k ≤ length block.ops → assigned_at block k ≢ Some name → (c : ℕ) (l : ℕ) → Contains {X = ℕ × ℕ} (next_of b k block) (c, l) → (next : Block) → slice_get blocks c ≡ Some next → ((other : Block) → slice_get blocks c ≡ Some other → Meets name marks c l other) → Meets name marks b k block
+  kept_meets b k block is h na c l nx next there ih = elim (at_place block.ops k h) [
+    | inl (none, empty) ↦
+        let places : Contains {X = ℕ × ℕ} (map (λ (n : ℕ). (n, 0)) (targets_of b block.term)) (c, l) = subst (λ (o : Option SrcOp). Contains {X = ℕ × ℕ} (next_by b k o block.term) (c, l)) none nx in
+        let has = pair_first (targets_of b block.term) c l places in
+        let start : Meets name marks c 0 next = subst (λ (n : ℕ). Meets name marks c n next) has.1 (ih next there) in
+        let live : lives_at blocks name marks c ≡ true = rw there start in
+        let led : leads marks b block.term ≡ true = target_leads marks b block.term c has.0 (closed c live) in
+        rw (empty, led) (decided (reads name (read_by_term block.term)) Neither true (λ no. refl))
+    | inr s ↦
+        let place : Contains {X = ℕ × ℕ} ((b, k + 1) ∷ []) (c, l) = subst (λ (o : Option SrcOp). Contains {X = ℕ × ℕ} (next_by b k o block.term) (c, l)) s.got nx in
+        let same : ◌≡◌ {A = ℕ × ℕ} (b, k + 1) (c, l) = only {X = ℕ × ℕ} (b, k + 1) (c, l) place in
+        let dst : s.item.dst ≢ Some name = subst (λ (o : Option SrcOp). assigned_by o ≢ Some name) s.got na in
+        let after : Meets name marks b (k + 1) block = subst (λ (p : ℕ × ℕ). (other : Block) → slice_get blocks p.0 ≡ Some other → Meets name marks p.0 p.1 other) (sym same) ih block is in
+        let later : Meets name marks b (suc k) block = rw add-one at after in
+        rw s.front (decided (reads name s.item.srcs) _ (leads marks b block.term) (λ no. rw (unassigned name s.item.dst dst) later))
+  ]
 
-live_meets : (blocks : List Block) (name : NameId) (marks : List Bool) → AreClosed blocks name marks
-    → (b k : ℕ) → IsLive blocks name b k → (block : Block) → slice_get blocks b ≡ Some block → Meets name marks b k block
-live_meets blocks name marks closed b k (used b2 k2 own g h has) block is =
-    let e : own ≡ block = same_some own block (sym g ∙ is) in
-    read_meets name marks b2 k2 block (subst (λ (x : Block). k2 ≤ length x.ops) e h) (subst (λ (x : Block). Contains (read_at x k2) name) e has)
-live_meets blocks name marks closed b k (kept b2 k2 own c l g h na nx live) block is =
-    let e : own ≡ block = same_some own block (sym g ∙ is) in
-    let next = live_block blocks name c l live in
-    kept_meets blocks name marks closed b2 k2 block is (subst (λ (x : Block). k2 ≤ length x.ops) e h) (subst (λ (x : Block). assigned_at x k2 ≢ Some name) e na)
-    c l (subst (λ (x : Block). Contains {X = ℕ × ℕ} (next_of b2 k2 x) (c, l)) e nx) next.0 next.1 (live_meets blocks name marks closed c l live)
+  live_meets : (b : ℕ) (k : ℕ) → IsLive blocks name b k → (block : Block) → slice_get blocks b ≡ Some block → Meets name marks b k block
+  live_meets b k (used b2 k2 own g h has) block is =
+      let e : own ≡ block = same_some own block (sym g ∙ is) in
+      read_meets name marks b2 k2 block (subst (λ (x : Block). k2 ≤ length x.ops) e h) (subst (λ (x : Block). Contains (read_at x k2) name) e has)
+  live_meets b k (kept b2 k2 own c l g h na nx live) block is =
+      let e : own ≡ block = same_some own block (sym g ∙ is) in
+      let next = live_block blocks name c l live in
+      kept_meets b2 k2 block is (subst (λ (x : Block). k2 ≤ length x.ops) e h) (subst (λ (x : Block). assigned_at x k2 ≢ Some name) e na)
+      c l (subst (λ (x : Block). Contains {X = ℕ × ℕ} (next_of b2 k2 x) (c, l)) e nx) next.0 next.1 (live_meets c l live)
 
--- where no block is left to be marked and the entry is not marked, the name is not live there
-pub not_live : (blocks : List Block) (name : NameId) (marks : List Bool) → AreClosed blocks name marks → marked marks 0 ≡ false → IsLive blocks name 0 0 → ⊥
-not_live blocks name marks closed unmarked live =
-    let entry = live_block blocks name 0 0 live in
-    let meets : Meets name marks 0 0 entry.0 = live_meets blocks name marks closed 0 0 live entry.0 entry.1 in
-    let here : lives_at blocks name marks 0 ≡ true = rw entry.1 meets in
-    cc (closed 0 here)
+  -- where no block is left to be marked and the entry is not marked, the name is not live there
+  pub not_live : marked marks 0 ≡ false → IsLive blocks name 0 0 → ⊥
+  not_live unmarked live =
+      let entry = live_block blocks name 0 0 live in
+      let meets : Meets name marks 0 0 entry.0 = live_meets 0 0 live entry.0 entry.1 in
+      let here : lives_at blocks name marks 0 ≡ true = rw entry.1 meets in
+      cc (closed 0 here)
 
 -- ---- what is marked is live
 
@@ -217,7 +185,7 @@ meets_live blocks name b block is l out (o ∷ os) k drops h hyp = elim (at_plac
       let rest : drop (suc k) block.ops ≡ os = cc e in
       let got : slice_get block.ops k ≡ Some o = s.got ∙ ap Some same in
       let later : drop (k + 1) block.ops ≡ os = rw add-one rest in
-      let bound : k + 1 ≤ length block.ops = got_within block.ops k o got in
+      let bound : k + 1 ≤ length block.ops = omega (arith, slice_get_within block.ops k o got) in
       by got bound (meets_live blocks name b block is l out os (k + 1) later bound) (reads name o.srcs) refl (assigns name o.dst) refl hyp
 ]
   where

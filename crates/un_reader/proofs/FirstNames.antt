@@ -5,21 +5,20 @@ use Rattle.std.specs.List.{list_any, fold, position_or_len, range_with_len}
 use Rattle.std.specs.Str.{bytes_eq}
 use Rattle.std.proofs.lemmas.Bool.Decides.{Decides-eqb}
 use Rattle.std.proofs.lemmas.Slice.Eq.{bytes_eq-Decides}
-use Rattle.un_ir.specs.declared.function.Kind.{Kind}
-use Rattle.un_ir.specs.declared.function.Kind.TheVariants.{General, Pred}
+use Rattle.std.proofs.lemmas.Bool.{and_parts, or_left, or_right, ne_eqb, false_from_ne_true}
+use Rattle.std.proofs.lemmas.List.Folds.{list_any-append}
+use Rattle.un_reader.specs.Vocabulary.{Kind, General, Pred, Spelled}
 use Rattle.un_ir.specs.Names.{see, first_appearances}
-use Rattle.un_reader.specs.Tokens.{Spelled}
 use Rattle.un_reader.specs.Before.{same_kind, same_name, add_name, numbered}
 use Rattle.un_reader.specs.Functions.{name_id}
-use Rattle.un_reader.proofs.Each.{Each, Each-weaken, Each-append, EachPair, EachPair-push, Each-none, and_both}
+use Rattle.un_words.proofs.Each.{Each, Each-weaken, Each-append, EachPair, EachPair-push, Each-none}
 
 -- ---- the test for a name
 
 kind_equal : (a b : Kind) → same_kind a b ≡ true → a ≡ b
 kind_equal General General h = refl
-kind_equal General Pred h = absurd (cc h)
-kind_equal Pred General h = absurd (cc h)
 kind_equal Pred Pred h = refl
+kind_equal _ _ h = absurd (cc h)
 
 kind_itself : (a : Kind) → same_kind a a ≡ true
 kind_itself General = refl
@@ -27,13 +26,16 @@ kind_itself Pred = refl
 
 pub name_equal : (a b : Spelled) → same_name a b ≡ true → a ≡ b
 name_equal (x, k) (y, l) h =
-    let both = and_both (bytes_eq x y) (same_kind k l) h in
+    let both = and_parts (bytes_eq x y) (same_kind k l) h in
     let names : x ≡ y = (bytes_eq-Decides x y).0 both.0 in
     let kinds : k ≡ l = kind_equal k l both.1 in
-    ap (λ (z : List ℕ). (let r : Spelled = (z, k) in r)) names ∙ ap (λ (m : Kind). (let r : Spelled = (y, m) in r)) kinds
+    cc
 
 pub name_itself : (a : Spelled) → same_name a a ≡ true
 name_itself (x, k) = rw ((bytes_eq-Decides x x).1 refl, kind_itself k) refl
+
+pub name_differs : (a b : Spelled) → a ≢ b → same_name a b ≡ false
+name_differs a b h = false_from_ne_true (same_name a b) (λ e. h (name_equal a b e))
 
 -- ---- places
 
@@ -69,20 +71,10 @@ place_new p (x ∷ xs) y ys h is = by (λ t. place_new p xs y ys t is) (p x) ref
     by later false e hyp = let r = later hyp in rw e (omega (arith, r))
 
 any_append : {X : Type 0} (p : X → Bool) (xs ys : List X) → list_any p xs ≡ true → list_any p (xs ++ ys) ≡ true
-any_append p [] ys h = absurd (cc h)
-any_append p (x ∷ xs) ys h = by (λ t. any_append p xs ys t) (p x) h
-  where
-    by : (list_any p xs ≡ true → list_any p (xs ++ ys) ≡ true) → (v : Bool) → (v || list_any p xs) ≡ true → (v || list_any p (xs ++ ys)) ≡ true
-    by later true hyp = refl
-    by later false hyp = later hyp
+any_append p xs ys h = list_any-append p xs ys ∙ or_left (list_any p xs) (list_any p ys) h
 
 any_last : {X : Type 0} (p : X → Bool) (xs : List X) (y : X) → p y ≡ true → list_any p (xs ++ y ∷ []) ≡ true
-any_last p [] y h = rw h refl
-any_last p (x ∷ xs) y h = by (p x) (any_last p xs y h)
-  where
-    by : (v : Bool) → list_any p (xs ++ y ∷ []) ≡ true → (v || list_any p (xs ++ y ∷ [])) ≡ true
-    by true later = refl
-    by false later = later
+any_last p xs y h = list_any-append p xs (y ∷ []) ∙ or_right (list_any p xs) (p y || false) (or_left (p y) false h)
 
 -- ---- numbered names
 
@@ -158,11 +150,7 @@ range_has a (suc n) k low high = by (λ (t : a + 1 ≤ k). range_has (a + 1) n k
 
 range_lacks : (a n k : ℕ) → a + n ≤ k → list_any (nat_eq k) (range_with_len a n) ≡ false
 range_lacks a zero k high = refl
-range_lacks a (suc n) k high = let differs : nat_eq k a ≡ false = by (nat_eq k a) refl in rw differs (range_lacks (a + 1) n k (omega arith))
-  where
-    by : (v : Bool) → nat_eq k a ≡ v → v ≡ false
-    by true e = let is : k ≡ a = (Decides-eqb k a).0 e in absurd (omega arith)
-    by false e = refl
+range_lacks a (suc n) k high = rw (ne_eqb k a (λ is. omega arith)) (range_lacks (a + 1) n k (omega arith))
 
 range_push : (a n k : ℕ) → a + n ≡ k → range_with_len a n ++ k ∷ [] ≡ range_with_len a (suc n)
 range_push a zero k e = let s : k ≡ a = omega arith in ap (λ (j : ℕ). j ∷ []) s

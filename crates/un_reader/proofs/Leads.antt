@@ -2,32 +2,23 @@
 use Rattle.std.proofs.Common.{◌≡◌, ℕ, zero, suc, ◌+◌, ◌<◌, ◌++◌, Bool, true, false, List, [], ◌∷◌, Option, Some, None, length, slice_get, refl, sym, ap, ◌∙◌, arith, subst, append_assoc, add-zero}
 use Rattle.std.specs.List.{position}
 use Rattle.std.specs.Option.{option_map_or, option_and_then, option_or}
-use Rattle.un_ir.specs.declared.function.Term.{Term}
-use Rattle.un_ir.specs.declared.function.Block.{Block as SourceBlock}
+use Rattle.un_reader.specs.Vocabulary.{Term, SourceBlock, Number, TermLine, Jump, Branch, Ret, Line, Blank, Func, Block, Operation, Terminator, Spelled}
 use Rattle.un_ir.specs.Live.{targets_of}
 use Rattle.un_ir.specs.WellFormed.{gives_value, ReturnAlike}
-use Rattle.un_reader.specs.declared.token.Number.{Number}
-use Rattle.un_reader.specs.declared.line.TermLine.{TermLine}
-use Rattle.un_reader.specs.declared.line.TermLine.TheVariants.{Jump, Branch, Ret}
-use Rattle.un_reader.specs.declared.line.Line.{Line}
-use Rattle.un_reader.specs.declared.line.Line.TheVariants.{Blank, Func, Block, Operation, Terminator}
-use Rattle.un_reader.specs.Tokens.{Spelled}
 use Rattle.un_reader.specs.Before.{labels_of}
 use Rattle.un_reader.specs.TextFaults.{term_of, ends_well, falls_off, value_on_term, value_on, first_value, differs, returns_else, mixed_return}
 use Rattle.un_reader.specs.Functions.{term_by, ops_of, blocks_of}
-use Rattle.un_reader.proofs.Each.{Each, Each-weaken, EachPair, EachPair-alike}
-use Rattle.un_reader.proofs.TokenFacts.{IfThere}
+use Rattle.un_words.proofs.Each.{Each, Each-weaken, EachPair, EachPair-alike}
+use Rattle.un_words.proofs.TokenFacts.{IfThere}
 use Rattle.un_reader.proofs.Targets.{none_passes, IsInside, HasTarget, LineTargets, last_ends}
 
 -- ---- targets
 
 term_target : (labels : List (List ℕ)) (lines : List Line) → Each (LineTargets labels) lines → IfThere (HasTarget labels) (term_of lines)
 term_target labels [] t = tt
-term_target labels (Blank ∷ lines) t = term_target labels lines t.1
-term_target labels (Func name params ∷ lines) t = term_target labels lines t.1
 term_target labels (Block label freq ∷ lines) t = tt
-term_target labels (Operation o ∷ lines) t = term_target labels lines t.1
 term_target labels (Terminator term ∷ lines) t = t.0
+term_target labels (_ ∷ lines) t = term_target labels lines t.1
 
 -- the targets of a terminator, where the next block is there unless it ends well
 term_leads : (names : List Spelled) (labels : List (List ℕ)) (b : ℕ) (term : Option TermLine) → IfThere (HasTarget labels) term
@@ -115,26 +106,20 @@ TermAlike v term = (x : Bool) → gives_value term ≡ Some x → x ≡ v
 
 module _ (names : List Spelled) (labels : List (List ℕ)) (v : Bool) where
   own_alike : (term : TermLine) → ((x : Bool) → value_on_term term ≡ Some x → x ≡ v) → TermAlike v (term_by names labels (Some term))
-  own_alike (Jump to) f x e = absurd (cc e)
-  own_alike (Branch pred sense to) f x e = absurd (cc e)
   own_alike (Ret None) f x e = f x e
   own_alike (Ret (Some name)) f x e = f x e
+  own_alike _ f x e = absurd (cc e)
 
   term_alike : (lines : List Line) → Each (AlikeWith v) lines → TermAlike v (term_by names labels (term_of lines))
   term_alike [] a x e = absurd (cc e)
-  term_alike (Blank ∷ lines) a x e = term_alike lines a.1 x e
-  term_alike (Func name params ∷ lines) a x e = term_alike lines a.1 x e
   term_alike (Block label freq ∷ lines) a x e = absurd (cc e)
-  term_alike (Operation o ∷ lines) a x e = term_alike lines a.1 x e
   term_alike (Terminator term ∷ lines) a x e = own_alike term a.0 x e
+  term_alike (_ ∷ lines) a x e = term_alike lines a.1 x e
 
   each_alike : (lines : List Line) → Each (AlikeWith v) lines → Each (λ (b : SourceBlock). TermAlike v b.term) (blocks_of names labels lines)
   each_alike [] a = tt
-  each_alike (Blank ∷ lines) a = each_alike lines a.1
-  each_alike (Func name params ∷ lines) a = each_alike lines a.1
   each_alike (Block label freq ∷ lines) a = (term_alike lines a.1, each_alike lines a.1)
-  each_alike (Operation o ∷ lines) a = each_alike lines a.1
-  each_alike (Terminator term ∷ lines) a = each_alike lines a.1
+  each_alike (_ ∷ lines) a = each_alike lines a.1
 
 -- the returns of all blocks are alike
 pub blocks_alike : (names : List Spelled) (labels : List (List ℕ)) (lines : List Line) → mixed_return lines ≡ None → EachPair ReturnAlike (blocks_of names labels lines)

@@ -4,18 +4,18 @@ use Rattle.std.specs.List.{list_all}
 use Rattle.std.proofs.lemmas.List.{map_push, length-append}
 use Rattle.un_reader.specs.declared.fault.Fault.{Fault}
 use Rattle.un_reader.specs.declared.fault.Fault.TheVariants.{BadByte}
-use Rattle.un_reader.specs.declared.line.Line.{Line}
+use Rattle.un_words.specs.declared.line.Line.{Line}
 use Rattle.un_reader.specs.declared.before.Before.{Before}
-use Rattle.un_reader.specs.Tokens.{tokens_of}
-use Rattle.un_reader.specs.Shapes.{shape_of}
+use Rattle.un_words.specs.Tokens.{tokens_of}
+use Rattle.un_words.specs.Shapes.{shape_of, line_of}
 use Rattle.un_reader.specs.Before.{before_of}
 use Rattle.un_reader.specs.Noted.{noted}
-use Rattle.un_reader.specs.LineFaults.{is_plain_byte, is_misplaced, has_clash, has_too_many, is_wide, has_bad_freq, repeats_label, is_before_block, is_after_end, faults_on, first_of, shaped_fault, line_fault, line_of}
+use Rattle.un_reader.specs.LineFaults.{is_plain_byte, is_misplaced, has_clash, has_too_many, is_wide, has_bad_freq, repeats_label, is_before_block, is_after_end, faults_on, first_of, shaped_fault, line_fault}
 use Rattle.un_reader.specs.Lines.{HasNoLineFault}
 use Rattle.un_reader.proofs.BeforeLaws.{before_of_push}
 use Rattle.un_reader.proofs.CheckLaws.{next_fault}
-use Rattle.un_reader.proofs.Each.{Each}
-use Rattle.un_reader.proofs.LineShapes.{IsShaped, line_shaped}
+use Rattle.un_words.proofs.Each.{Each}
+use Rattle.un_words.proofs.LineShapes.{IsShaped, line_shaped}
 
 -- the line has a shape, and no test finds a fault
 pub record IsClean (before : Before) (line : Line) : Type 0 where

@@ -7,21 +7,15 @@ use Rattle.std.specs.Str.{bytes_eq}
 use Rattle.std.proofs.Math.Seq.{take-append_seam}
 use Rattle.std.proofs.lemmas.Slice.Eq.{bytes_eq-Decides}
 use Rattle.std.proofs.lemmas.Bool.Decides.{Decides-eqb}
+use Rattle.std.proofs.lemmas.Bool.{and_parts}
 use Rattle.un_base.specs.contracts.name.NamePartialEq.TheImpl.{ghosts as name_ghosts}
 use Rattle.un_ir.specs.contracts.function.KindPartialEq.TheImpl.{ghosts as kind_ghosts}
-use Rattle.un_ir.specs.declared.function.Kind.{Kind}
-use Rattle.un_ir.specs.declared.function.Kind.TheVariants.{General, Pred}
+use Rattle.un_reader.specs.Vocabulary.{Kind, General, Pred, Spelled}
 use Rattle.un_reader.specs.Before.{same_kind, same_name, add_name}
-use Rattle.un_reader.specs.Tokens.{Spelled}
 
 -- the bytes of a name with zeros to their full number
 abbrev padded : List ℕ → List ℕ
 padded bs = bs ++ replicate (32 - length bs) 0
-
-both : (a b : Bool) → (a && b) ≡ true → (a ≡ true) × (b ≡ true)
-both true true h = (refl, refl)
-both true false h = absurd (cc h)
-both false b h = absurd (cc h)
 
 pub same_truth : (p q : Bool) → (p ≡ true → q ≡ true) → (q ≡ true → p ≡ true) → p ≡ q
 same_truth true q f g = sym (f refl)
@@ -36,7 +30,7 @@ padded_eq : (a b : List ℕ) → (bytes_eq (padded a) (padded b) && nat_eq (leng
 padded_eq a b = same_truth _ _ forward backward
   where
     forward : (bytes_eq (padded a) (padded b) && nat_eq (length a) (length b)) ≡ true → bytes_eq a b ≡ true
-    forward h = let parts = both _ _ h in (bytes_eq-Decides a b).1 (front_of a b ((bytes_eq-Decides (padded a) (padded b)).0 parts.0) ((Decides-eqb (length a) (length b)).0 parts.1))
+    forward h = let parts = and_parts _ _ h in (bytes_eq-Decides a b).1 (front_of a b ((bytes_eq-Decides (padded a) (padded b)).0 parts.0) ((Decides-eqb (length a) (length b)).0 parts.1))
 
     backward : bytes_eq a b ≡ true → (bytes_eq (padded a) (padded b) && nat_eq (length a) (length b)) ≡ true
     backward h = let e = (bytes_eq-Decides a b).0 h in rw e (ap (λ (x : Bool). x && nat_eq (length b) (length b)) ((bytes_eq-Decides (padded b) (padded b)).1 refl) ∙ (Decides-eqb (length b) (length b)).1 refl)

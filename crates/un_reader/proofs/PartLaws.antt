@@ -1,18 +1,15 @@
 -- What the parts of a function have, once its lines and the whole of them have no fault.
 use Rattle.std.proofs.Common.{◌≡◌, ℕ, ◌+◌, ◌≤◌, List, [], None, length, unwrap_or, sym, ap, ◌∙◌, subst}
 use Rattle.std.specs.List.{position_or_len}
-use Rattle.un_base.specs.declared.ids.NameId.{NameId}
-use Rattle.un_ir.specs.declared.function.Block.{Block as SourceBlock}
+use Rattle.un_reader.specs.Vocabulary.{NameId, SourceBlock, Line, Spelled}
 use Rattle.un_ir.specs.declared.function.Function.{Function}
 use Rattle.un_ir.specs.WellFormed.{IsWellFormed}
 use Rattle.un_ir.proofs.SameFunction.{same_function}
 use Rattle.un_reader.specs.declared.fault.Fault.TheVariants.{LiveAtEntry}
 use Rattle.un_reader.specs.declared.limits.TheConstants.{TEXT}
-use Rattle.un_reader.specs.declared.line.Line.{Line}
-use Rattle.un_reader.specs.Tokens.{Spelled}
 use Rattle.un_reader.specs.Before.{name_of, names_of}
 use Rattle.un_reader.specs.Lines.{HasNoLineFault, shapes_in}
-use Rattle.un_reader.specs.Pieces.{lines_in}
+use Rattle.un_words.specs.Pieces.{lines_in}
 use Rattle.un_reader.specs.TextFaults.{is_block, shape_fault}
 use Rattle.un_reader.specs.Functions.{IsFunctionOf, ArePartsOf, param_ids, source_blocks}
 use Rattle.un_reader.specs.Entry.{IsLiveAtEntry, HasNoneLive}
@@ -34,21 +31,20 @@ parts_of text lines name params names blocks good same none are = record {
   are = subst (λ (ls : List Line). ArePartsOf ls name params names blocks) same are;
 }
 
--- a name that is live among the parts is live among those of the lines
-live_in_lines : (lines : List Line) (its_name : List ℕ) (params : List NameId) (names : List Spelled) (blocks : List SourceBlock) (name : NameId)
-    → ArePartsOf lines its_name params names blocks → IsLiveAtEntry params names blocks name → IsLiveAtEntry (param_ids lines) (names_of lines) (source_blocks lines) name
-live_in_lines lines its_name params names blocks name are live =
-    subst (λ (x : List NameId). IsLiveAtEntry x (names_of lines) (source_blocks lines) name) are.params
-    (subst (λ (x : List Spelled). IsLiveAtEntry params x (source_blocks lines) name) are.names
-    (subst (λ (x : List SourceBlock). IsLiveAtEntry params names x name) are.blocks live))
+module _ (lines : List Line) (its_name : List ℕ) (params : List NameId) (names : List Spelled) (blocks : List SourceBlock) (name : NameId) (are : ArePartsOf lines its_name params names blocks) where
+  -- a name that is live among the parts is live among those of the lines
+  live_in_lines : IsLiveAtEntry params names blocks name → IsLiveAtEntry (param_ids lines) (names_of lines) (source_blocks lines) name
+  live_in_lines live =
+      subst (λ (x : List NameId). IsLiveAtEntry x (names_of lines) (source_blocks lines) name) are.params
+      (subst (λ (x : List Spelled). IsLiveAtEntry params x (source_blocks lines) name) are.names
+      (subst (λ (x : List SourceBlock). IsLiveAtEntry params names x name) are.blocks live))
 
--- and the other way
-pub live_in_parts : (lines : List Line) (its_name : List ℕ) (params : List NameId) (names : List Spelled) (blocks : List SourceBlock) (name : NameId)
-    → ArePartsOf lines its_name params names blocks → IsLiveAtEntry (param_ids lines) (names_of lines) (source_blocks lines) name → IsLiveAtEntry params names blocks name
-live_in_parts lines its_name params names blocks name are live =
-    subst (λ (x : List NameId). IsLiveAtEntry x names blocks name) (sym are.params)
-    (subst (λ (x : List Spelled). IsLiveAtEntry (param_ids lines) x blocks name) (sym are.names)
-    (subst (λ (x : List SourceBlock). IsLiveAtEntry (param_ids lines) (names_of lines) x name) (sym are.blocks) live))
+  -- and the other way
+  pub live_in_parts : IsLiveAtEntry (param_ids lines) (names_of lines) (source_blocks lines) name → IsLiveAtEntry params names blocks name
+  live_in_parts live =
+      subst (λ (x : List NameId). IsLiveAtEntry x names blocks name) (sym are.params)
+      (subst (λ (x : List Spelled). IsLiveAtEntry (param_ids lines) x blocks name) (sym are.names)
+      (subst (λ (x : List SourceBlock). IsLiveAtEntry (param_ids lines) (names_of lines) x name) (sym are.blocks) live))
 
 pub entry_fault : (text : List ℕ) (lines : List Line) (its_name : List ℕ) (params : List NameId) (names : List Spelled) (blocks : List SourceBlock) (place : ℕ)
     → length text ≤ TEXT → Parts text its_name params names blocks → lines ≡ shapes_in text → place ≡ position_or_len is_block lines

@@ -1,132 +1,93 @@
--- Literals in the ranges of their operations, from the tests on the numbers as they are written.
-use Rattle.std.proofs.Common.{◌≡◌, ℕ, pos, negsuc, zero, suc, ◌-◌, ◌%◌, ◌^◌, ◌<◌, ◌≤◌, ◌≤ℤ◌, ◌&&◌, ◌||◌, ◌==◌, Bool, true, false, not, nat_lt, min, if◌then◌else◌, refl, sym, ap, ◌∙◌, arith}
+-- Literals in their ranges, from the tests on the numbers as they are written.
+use Rattle.std.proofs.Common.{◌≡◌, ℕ, pos, negsuc, zero, suc, ◌-◌, ◌%◌, ◌^◌, ◌<◌, ◌≤◌, ◌≤ℤ◌, ◌==◌, Bool, true, false, min, if◌then◌else◌, refl, ap, arith}
 use Rattle.std.specs.Int.{int_rem_euclid}
-use Rattle.std.proofs.lemmas.Bool.Decides.{Decides-eqb, Decides-ltb}
-use Rattle.std.proofs.Math.Facts.{yes_leb}
-use Rattle.un_isa.specs.Operands.{IsSigned16, IsSigned10, IsUnsigned5, IsOffset}
-use Rattle.un_reader.specs.declared.token.Number.{Number}
-use Rattle.un_reader.specs.LineFaults.{fits_signed, fits_unsigned, fits_offset}
+use Rattle.std.proofs.lemmas.Int.{ints}
+use Rattle.std.proofs.lemmas.Bool.{and_parts}
+use Rattle.std.proofs.lemmas.Bool.Decides.{Decides-eqb, nat_tests}
+use Rattle.un_isa.specs.declared.facts.Range.{Range}
+use Rattle.un_isa.specs.declared.facts.Range.TheVariants.{Signed16, Signed10, Unsigned5, Offset, FrameOffset}
+use Rattle.un_isa.specs.Operands.{InRange}
+use Rattle.un_words.specs.declared.token.Number.{Number}
+use Rattle.un_reader.specs.LineFaults.{fits_signed, fits_unsigned, fits_range}
 use Rattle.un_reader.specs.Functions.{negated, literal_value}
-use Rattle.un_reader.proofs.Each.{and_both}
+
+-- a number as it is written
+abbrev number : Bool → ℕ → Number
+number negative size = record { negative = negative; size = size }
 
 -- the value of a number that fits 31 bits
-small : (n : Number) → n.size < 2147483648 → literal_value n ≡ (if n.negative then negated n.size else pos n.size)
-small n h = let e : min n.size (2 ^ 31 - 1) ≡ n.size = omega arith in rw e refl
+small : (v : Bool) (k : ℕ) → k < 2147483648 → literal_value (number v k) ≡ (if v then negated k else pos k)
+small v k h = let e : min k (2 ^ 31 - 1) ≡ k = omega arith in rw e refl
 
-or_cases : (a b c : Bool) → (a || (b && c)) ≡ true → (a ≡ false → (b ≡ true) × (c ≡ true))
-or_cases true b c h e = absurd (cc e)
-or_cases false true true h e = (refl, refl)
-or_cases false true false h e = absurd (cc h)
-or_cases false false c h e = absurd (cc h)
+-- ---- sizes
 
--- a size in the range of a signed literal
-record SignedSize (limit : ℕ) (n : Number) : Type 0 where
-  bound : n.size ≤ limit
-  last : n.negative ≡ false → n.size < limit
+at_most : (limit : ℕ) (v : Bool) (k : ℕ) → fits_signed limit (number v k) ≡ true → k ≤ limit
+at_most limit v k h = grind (arith, nat_tests)
 
-signed_size : (limit : ℕ) (n : Number) → fits_signed limit n ≡ true → SignedSize limit n
-signed_size limit n h = by (nat_lt n.size limit) refl (n.size == limit) refl (or_cases (nat_lt n.size limit) n.negative (n.size == limit) h)
-  where
-    by : (v : Bool) → nat_lt n.size limit ≡ v → (w : Bool) → (n.size == limit) ≡ w → (v ≡ false → (n.negative ≡ true) × (w ≡ true)) → SignedSize limit n
-    by true e w f c = let below : n.size < limit = (Decides-ltb n.size limit).0 e in record { bound = omega arith; last = λ p. below }
-    by false e w f c =
-        let both = c refl in
-        let same : n.size ≡ limit = (Decides-eqb n.size limit).0 (f ∙ both.1) in
-        record { bound = omega arith; last = λ p. absurd (cc (sym p ∙ both.0)) }
+below : (limit k : ℕ) → fits_signed limit (number false k) ≡ true → k < limit
+below limit k h = grind (arith, nat_tests)
 
-negative_low : (limit k : ℕ) → k ≤ suc limit → negsuc limit ≤ℤ negated k
-negative_low limit zero h = omega (arith, yes_leb)
-negative_low limit (suc k) h = omega (arith, yes_leb)
+below_unsigned : (limit : ℕ) (v : Bool) (k : ℕ) → fits_unsigned limit (number v k) ≡ true → k < limit
+below_unsigned limit v k h = grind (arith, nat_tests)
 
-negative_high : (high k : ℕ) → negated k ≤ℤ pos high
-negative_high high zero = omega (arith, yes_leb)
-negative_high high (suc k) = omega (arith, yes_leb)
+no_sign : (limit k : ℕ) → fits_unsigned limit (number true k) ≡ true → k ≡ 0
+no_sign limit k h = grind (arith, nat_tests)
 
-signed : (limit : ℕ) (n : Number) → suc limit < 2147483648 → fits_signed (suc limit) n ≡ true → (negsuc limit ≤ℤ literal_value n) × (literal_value n ≤ℤ pos limit)
-signed limit n small_limit h = by n.negative refl
-  where
-    s : SignedSize (suc limit) n
-    s = signed_size (suc limit) n h
+-- ---- values
 
-    e : literal_value n ≡ (if n.negative then negated n.size else pos n.size)
-    e = let b = s.bound in small n (omega (arith, b))
+negated_between : (limit k : ℕ) → k ≤ suc limit → (negsuc limit ≤ℤ negated k) × (negated k ≤ℤ pos 0)
+negated_between limit zero h = (omega (arith, ints), omega (arith, ints))
+negated_between limit (suc k) h = (omega (arith, ints), omega (arith, ints))
 
-    by : (v : Bool) → n.negative ≡ v → (negsuc limit ≤ℤ literal_value n) × (literal_value n ≤ℤ pos limit)
-    by true f = let is : literal_value n ≡ negated n.size = e ∙ ap (λ (v : Bool). if v then negated n.size else pos n.size) f in
-        rw is (negative_low limit n.size s.bound, negative_high limit n.size)
-    by false f =
-        let is : literal_value n ≡ pos n.size = e ∙ ap (λ (v : Bool). if v then negated n.size else pos n.size) f in
-        let below : n.size < suc limit = s.last f in
-        rw is (low n.size, high n.size below)
-      where
-        low : (k : ℕ) → negsuc limit ≤ℤ pos k
-        low k = omega (arith, yes_leb)
+signed : (limit : ℕ) (v : Bool) (k : ℕ) → suc limit < 2147483648 → fits_signed (suc limit) (number v k) ≡ true
+    → (negsuc limit ≤ℤ literal_value (number v k)) × (literal_value (number v k) ≤ℤ pos limit)
+signed limit true k room h =
+    let most = at_most (suc limit) true k h in
+    let between = negated_between limit k most in
+    rw (small true k (omega arith)) (between.0, omega (arith, ints, between.1))
+signed limit false k room h =
+    let less = below (suc limit) k h in
+    rw (small false k (omega arith)) (omega (arith, ints), omega (arith, ints))
 
-        high : (k : ℕ) → k < suc limit → pos k ≤ℤ pos limit
-        high k h = omega (arith, yes_leb)
+unsigned : (limit : ℕ) (v : Bool) (k : ℕ) → suc limit < 2147483648 → fits_unsigned (suc limit) (number v k) ≡ true
+    → (pos 0 ≤ℤ literal_value (number v k)) × (literal_value (number v k) ≤ℤ pos limit)
+unsigned limit true k room h = rw (no_sign (suc limit) k h) (omega (arith, ints), omega (arith, ints))
+unsigned limit false k room h =
+    let less = below_unsigned (suc limit) false k h in
+    rw (small false k (omega arith)) (omega (arith, ints), omega (arith, ints))
 
-pub signed16 : (n : Number) → fits_signed 32768 n ≡ true → IsSigned16 (literal_value n)
-signed16 n h = signed 32767 n (omega arith) h
+negated_words : (k : ℕ) → k % 4 ≡ 0 → int_rem_euclid (negated k) (pos 4) ≡ pos 0
+negated_words zero h = refl
+negated_words (suc k) h = let none : 3 - k % 4 ≡ 0 = omega arith in ap pos none
 
-pub signed10 : (n : Number) → fits_signed 512 n ≡ true → IsSigned10 (literal_value n)
-signed10 n h = signed 511 n (omega arith) h
+words : (v : Bool) (k : ℕ) → k < 2147483648 → k % 4 ≡ 0 → int_rem_euclid (literal_value (number v k)) (pos 4) ≡ pos 0
+words true k room h = rw (small true k room) (negated_words k h)
+words false k room h = let e : min k (2 ^ 31 - 1) ≡ k = omega arith in rw e (ap pos h)
 
-pub unsigned5 : (n : Number) → fits_unsigned 32 n ≡ true → IsUnsigned5 (literal_value n)
-unsigned5 n h = by n.negative refl parts.1
-  where
-    parts : (nat_lt n.size 32 ≡ true) × ((not n.negative || n.size == 0) ≡ true)
-    parts = and_both (nat_lt n.size 32) (not n.negative || n.size == 0) h
+-- the last multiple of 4 below a bound
+to_word : (v : Bool) (k : ℕ) → k % 4 ≡ 0 → literal_value (number v k) ≤ℤ pos 4095 → k < 4097 → literal_value (number v k) ≤ℤ pos 4092
+to_word true k h most room =
+    let between = negated_between 4095 k (omega arith) in
+    rw (small true k (omega arith)) (omega (arith, ints, between.1))
+to_word false k h most room = rw (small false k (omega arith)) (let below : k ≤ 4095 = omega (arith, ints, rw (small false k (omega arith)) at most) in omega (arith, ints))
 
-    below : n.size < 32
-    below = (Decides-ltb n.size 32).0 parts.0
+by_parts : (range : Range) (v : Bool) (k : ℕ) → fits_range range (number v k) ≡ true → InRange range (literal_value (number v k))
+by_parts Signed16 v k h = signed 32767 v k (omega arith) h
+by_parts Signed10 v k h = signed 511 v k (omega arith) h
+by_parts Unsigned5 v k h = unsigned 31 v k (omega arith) h
+by_parts Offset v k h =
+    let parts = and_parts (fits_signed 4096 (number v k)) (k % 4 == 0) h in
+    let four : k % 4 ≡ 0 = (Decides-eqb (k % 4) 0).0 parts.1 in
+    let most = at_most 4096 v k parts.0 in
+    let between = signed 4095 v k (omega arith) parts.0 in
+    (between.0, to_word v k four between.1 (omega arith), words v k (omega arith) four)
+by_parts FrameOffset v k h =
+    let parts = and_parts (fits_unsigned 4096 (number v k)) (k % 4 == 0) h in
+    let four : k % 4 ≡ 0 = (Decides-eqb (k % 4) 0).0 parts.1 in
+    let most = below_unsigned 4096 v k parts.0 in
+    let between = unsigned 4095 v k (omega arith) parts.0 in
+    (between.0, to_word v k four between.1 (omega arith), words v k (omega arith) four)
 
-    e : literal_value n ≡ (if n.negative then negated n.size else pos n.size)
-    e = let b = below in small n (omega (arith, b))
-
-    by : (v : Bool) → n.negative ≡ v → (not v || n.size == 0) ≡ true → IsUnsigned5 (literal_value n)
-    by true f g =
-        let none : n.size ≡ 0 = (Decides-eqb n.size 0).0 g in
-        let is : literal_value n ≡ pos 0 = e ∙ ap (λ (v : Bool). if v then negated n.size else pos n.size) f ∙ ap negated none in
-        rw is (omega arith, omega arith)
-    by false f g =
-        let is : literal_value n ≡ pos n.size = e ∙ ap (λ (v : Bool). if v then negated n.size else pos n.size) f in
-        rw is (positive n.size below)
-      where
-        positive : (k : ℕ) → k < 32 → (pos 0 ≤ℤ pos k) × (pos k ≤ℤ pos 31)
-        positive k b = (omega (arith, yes_leb), omega (arith, yes_leb))
-
-rem_negated : (k : ℕ) → k % 4 ≡ 0 → int_rem_euclid (negated k) (pos 4) ≡ pos 0
-rem_negated zero h = refl
-rem_negated (suc k) h = let none : 3 - k % 4 ≡ 0 = omega arith in ap pos none
-
-offset_high : (k : ℕ) → k < 4096 → k % 4 ≡ 0 → k ≤ 4092
-offset_high k h m = omega arith
-
-pub offset : (n : Number) → fits_offset n ≡ true → IsOffset (literal_value n)
-offset n h = by n.negative refl
-  where
-    parts : (fits_signed 4096 n ≡ true) × ((n.size % 4 == 0) ≡ true)
-    parts = and_both (fits_signed 4096 n) (n.size % 4 == 0) h
-
-    size : SignedSize 4096 n
-    size = signed_size 4096 n parts.0
-
-    four : n.size % 4 ≡ 0
-    four = (Decides-eqb (n.size % 4) 0).0 parts.1
-
-    e : literal_value n ≡ (if n.negative then negated n.size else pos n.size)
-    e = let b = size.bound in small n (omega (arith, b))
-
-    by : (v : Bool) → n.negative ≡ v → IsOffset (literal_value n)
-    by true f =
-        let is : literal_value n ≡ negated n.size = e ∙ ap (λ (v : Bool). if v then negated n.size else pos n.size) f in
-        rw is (negative_low 4095 n.size size.bound, negative_high 4092 n.size, rem_negated n.size four)
-    by false f =
-        let is : literal_value n ≡ pos n.size = e ∙ ap (λ (v : Bool). if v then negated n.size else pos n.size) f in
-        rw is (low n.size, high n.size (offset_high n.size (size.last f) four), ap pos four)
-      where
-        low : (k : ℕ) → negsuc 4095 ≤ℤ pos k
-        low k = omega (arith, yes_leb)
-
-        high : (k : ℕ) → k ≤ 4092 → pos k ≤ℤ pos 4092
-        high k h = omega (arith, yes_leb)
+-- a literal that fits is in its range
+pub in_range : (range : Range) (n : Number) → fits_range range n ≡ true → InRange range (literal_value n)
+in_range range n h = by_parts range n.negative n.size h

@@ -5,18 +5,18 @@ use Rattle.std.specs.Option.{option_or}
 use Rattle.std.proofs.lemmas.List.{take_more, map_push, take_all}
 use Rattle.std.proofs.lemmas.Option.{slice_get-get_or}
 use Rattle.std.proofs.lemmas.Bool.Decides.{nat_tests}
-use Rattle.un_ir.specs.declared.function.Block.{Block as SourceBlock}
+use Rattle.un_reader.specs.Vocabulary.{SourceBlock, Line, Func, Block, Spelled}
+use Rattle.un_ir.specs.declared.function.TheConstants.{NAMES}
 use Rattle.un_reader.specs.declared.fault.Fault.{Fault}
 use Rattle.un_reader.specs.declared.fault.Fault.TheVariants.{BadByte, BadLine, KindClash, TooMany, WideLiteral, BadFreq, DupLabel, NoBlock, AfterEnd}
-use Rattle.un_reader.specs.declared.line.Line.{Line}
-use Rattle.un_reader.specs.declared.line.Line.TheVariants.{Blank, Func, Block, Operation, Terminator}
 use Rattle.un_reader.specs.declared.before.Before.{Before}
-use Rattle.un_reader.specs.Tokens.{Spelled, tokens_of}
-use Rattle.un_reader.specs.Shapes.{shape_of}
-use Rattle.un_reader.specs.Before.{numbered, names_on, label_on, names_of, labels_of, before_of}
+use Rattle.un_words.specs.Tokens.{tokens_of}
+use Rattle.un_words.specs.Shapes.{shape_of, line_of}
+use Rattle.un_reader.specs.Before.{numbered, label_on, names_of, labels_of, before_of}
+use Rattle.un_words.specs.LineNames.{names_on}
 use Rattle.un_reader.specs.Noted.{noted}
 use Rattle.un_reader.specs.Named.{IsNamed}
-use Rattle.un_reader.specs.LineFaults.{is_plain_byte, is_misplaced, has_clash, is_over_limit, has_too_many, is_wide, has_bad_freq, repeats_label, is_before_block, is_after_end, first_of, shaped_fault, line_fault, line_of}
+use Rattle.un_reader.specs.LineFaults.{is_plain_byte, is_misplaced, has_clash, is_over_limit, has_too_many, is_wide, has_bad_freq, repeats_label, is_before_block, is_after_end, first_of, shaped_fault, line_fault}
 use Rattle.un_reader.specs.Lines.{HasNoLineFault, IsFirstLineFault, shapes_in}
 use Rattle.un_reader.specs.TextFaults.{shape_fault}
 use Rattle.un_reader.specs.Functions.{block_on, blocks_of}
@@ -24,7 +24,7 @@ use Rattle.un_reader.specs.declared.limits.TheConstants.{TEXT}
 use Rattle.un_reader.specs.declared.error.ReadError.{ReadError}
 use Rattle.un_reader.specs.declared.error.ReadError.TheVariants.{NoMemory, TextFault}
 use Rattle.un_reader.specs.Errors.{Tells}
-use Rattle.un_reader.specs.Pieces.{lines_in}
+use Rattle.un_words.specs.Pieces.{lines_in}
 use Rattle.un_reader.specs.Read.{IsTextFault, on_line, in_whole}
 use Rattle.un_reader.proofs.BeforeLaws.{before_of_push}
 
@@ -56,9 +56,9 @@ or_false_right : (a b : Bool) → (a || b) ≡ false → b ≡ false
 or_false_right true b h = absurd (cc h)
 or_false_right false b h = h
 
-few_names : (before : Before) (line : Line) → has_too_many before line ≡ false → length (numbered before.names (names_on line)) ≤ 40
+few_names : (before : Before) (line : Line) → has_too_many before line ≡ false → length (numbered before.names (names_on line)) ≤ NAMES
 few_names before line h =
-    let e : nat_lt 40 (length (numbered before.names (names_on line))) ≡ false = or_false_right (is_over_limit before line) _ h in
+    let e : nat_lt NAMES (length (numbered before.names (names_on line))) ≡ false = or_false_right (is_over_limit before line) _ h in
     grind (arith, nat_tests)
 
 is_none_false : {X : Type 0} (o : Option X) → is_none o ≡ false → o ≡ None → ⊥
@@ -70,20 +70,18 @@ or_none None b h = refl
 or_none (Some x) b h = absurd (cc h)
 
 still_named : (before : Before) (line : Line) → is_misplaced before line ≡ false → IsNamed before → IsNamed (noted before line)
-still_named before Blank placed named none = append-nil before.labels ∙ named (or_none before.name None none)
 still_named before (Func name params) placed named none = by before.name none
   where
     by : (o : Option (List ℕ)) → option_or o (Some name) ≡ None → before.labels ++ [] ≡ []
     by None h = absurd (cc h)
     by (Some x) h = absurd (cc h)
 still_named before (Block label freq) placed named none = absurd (is_none_false before.name placed (or_none before.name None none))
-still_named before (Operation o) placed named none = append-nil before.labels ∙ named (or_none before.name None none)
-still_named before (Terminator term) placed named none = append-nil before.labels ∙ named (or_none before.name None none)
+still_named before _ placed named none = append-nil before.labels ∙ named (or_none before.name None none)
 
 -- ---- all lines
 
 pub record Kept (lines : List Line) : Type 0 where
-  pub few : length (names_of lines) ≤ 40
+  pub few : length (names_of lines) ≤ NAMES
   pub named : IsNamed (before_of lines)
 
 kept_front : (all : List (List ℕ)) → HasNoLineFault all → (n : ℕ) → n ≤ length all → Kept (map line_of (take n all))
@@ -109,7 +107,7 @@ kept_front all good (suc n) h = by (kept_front all good n (omega arith))
     by k =
         let f = no_fault (before_of front) bytes none in
         record {
-          few = subst (λ (b : Before). length b.names ≤ 40) (sym after) (few_names (before_of front) (line_of bytes) f.few);
+          few = subst (λ (b : Before). length b.names ≤ NAMES) (sym after) (few_names (before_of front) (line_of bytes) f.few);
           named = subst IsNamed (sym after) (still_named (before_of front) (line_of bytes) f.placed k.named);
         }
 

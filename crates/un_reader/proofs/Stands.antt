@@ -3,22 +3,15 @@ use Rattle.std.proofs.Common.{◌≡◌, ℕ, ◌<◌, ◌++◌, Bool, true, fal
 use Rattle.std.specs.List.{flat_map}
 use Rattle.std.specs.Option.{option_map, option_or, option_to_list}
 use Rattle.std.proofs.lemmas.List.{map-append}
-use Rattle.un_base.specs.declared.ids.NameId.{NameId}
+use Rattle.std.proofs.lemmas.Bool.{or_parts}
+use Rattle.un_reader.specs.Vocabulary.{NameId, Number, OpLine, TermLine, Ret, Line, Blank, Func, Block, Operation, Terminator, Spelled}
 use Rattle.un_ir.specs.Live.{read_by_term}
 use Rattle.un_ir.specs.Names.{names_on_op, names_in_block, appearances}
-use Rattle.un_reader.specs.declared.token.Number.{Number}
-use Rattle.un_reader.specs.declared.line.OpLine.{OpLine}
-use Rattle.un_reader.specs.declared.line.TermLine.{TermLine}
-use Rattle.un_reader.specs.declared.line.TermLine.TheVariants.{Jump, Branch, Ret}
-use Rattle.un_reader.specs.declared.line.Line.{Line}
-use Rattle.un_reader.specs.declared.line.Line.TheVariants.{Blank, Func, Block, Operation, Terminator}
 use Rattle.un_reader.specs.declared.before.Before.{Before}
-use Rattle.un_reader.specs.Tokens.{Spelled}
-use Rattle.un_reader.specs.Before.{names_on, names_on_term}
+use Rattle.un_words.specs.LineNames.{names_on, names_on_term}
 use Rattle.un_reader.specs.Noted.{noted}
 use Rattle.un_reader.specs.TextFaults.{term_of}
 use Rattle.un_reader.specs.Functions.{name_id, op_of, term_by, ops_of, blocks_of, params_of}
-use Rattle.un_reader.proofs.Each.{or_false}
 use Rattle.un_reader.proofs.LineTests.{AreClean}
 
 -- lines behind a block line, by whether a terminator has ended the block
@@ -44,7 +37,7 @@ last_there (x ∷ xs) y = omega arith
 follows : (before : Before) (lines : List Line) → AreClean before lines → is_some before.name ≡ true → 0 < length before.labels → Follows before.ended lines
 follows before [] clean named begun = over
 follows before (Blank ∷ lines) (here, later) named begun = blank (follows (noted before Blank) lines later (still_some before.name None named) (longer before.labels [] begun))
-follows before (Func name params ∷ lines) (here, later) named begun = absurd (cc (sym named ∙ (or_false (is_some before.name) _ here.placed).0))
+follows before (Func name params ∷ lines) (here, later) named begun = absurd (cc (sym named ∙ (or_parts (is_some before.name) _ here.placed).0))
 follows before (Block label freq ∷ lines) (here, later) named begun =
     block (follows (noted before (Block label freq)) lines later (still_some before.name None named) (longer before.labels (label ∷ []) begun))
 follows before (Operation o ∷ lines) (here, later) named begun =
@@ -73,10 +66,8 @@ module _ (names : List Spelled) (labels : List (List ℕ)) where
       by (Some x) = refl
 
   term_names : (term : TermLine) → read_by_term (term_by names labels (Some term)) ≡ map (name_id names) (names_on_term term)
-  term_names (Jump to) = refl
-  term_names (Branch pred sense to) = refl
-  term_names (Ret None) = refl
   term_names (Ret (Some name)) = refl
+  term_names _ = refl
 
   -- the names that a block reads and assigns, by the lines behind its block line
   abbrev body : Bool → List Line → List NameId
@@ -99,10 +90,7 @@ module _ (names : List Spelled) (labels : List (List ℕ)) where
   follows_names false (Blank ∷ lines) (blank f) = follows_names false lines f
   follows_names true (Block label freq ∷ lines) (block f) = follows_names false lines f
   follows_names false (Block label freq ∷ lines) (block f) = follows_names false lines f
-  follows_names true (Func name params ∷ lines) f = elim f [ ]
   follows_names false (Func name params ∷ lines) f = elim f [ ]
-  follows_names true (Operation o ∷ lines) f = elim f [ ]
-  follows_names true (Terminator term ∷ lines) f = elim f [ ]
   follows_names false (Operation o ∷ lines) (operation f) =
       let rest = follows_names false lines f in
       let front = op_names o in
@@ -115,17 +103,17 @@ module _ (names : List Spelled) (labels : List (List ℕ)) where
       let whole = line_more (Terminator term) lines in
       let bare : later_names lines ≡ line_names lines = subst (λ (os : List _). flat_map names_on_op os ++ later_names lines ≡ line_names lines) none rest in
       rw none (ap (λ (ns : List NameId). read_by_term (term_by names labels (Some term)) ++ ns) bare ∙ ap (λ (ns : List NameId). ns ++ line_names lines) (term_names term) ∙ sym whole)
+  follows_names true (_ ∷ lines) f = elim f [ ]
 
   -- ---- the names of a function
 
   begun_names : (before : Before) (lines : List Line) → AreClean before lines → is_some before.name ≡ true → before.labels ≡ [] → later_names lines ≡ line_names lines
   begun_names before [] clean named none = refl
   begun_names before (Blank ∷ lines) (here, later) named none = begun_names (noted before Blank) lines later (still_some before.name None named) (append-nil before.labels ∙ none)
-  begun_names before (Func name params ∷ lines) (here, later) named none = absurd (cc (sym named ∙ (or_false (is_some before.name) _ here.placed).0))
+  begun_names before (Func name params ∷ lines) (here, later) named none = absurd (cc (sym named ∙ (or_parts (is_some before.name) _ here.placed).0))
   begun_names before (Block label freq ∷ lines) (here, later) named none =
       follows_names false lines (follows (noted before (Block label freq)) lines later (still_some before.name None named) (last_there before.labels label))
-  begun_names before (Operation o ∷ lines) (here, later) named none = absurd (let first = here.inside in let wrong = rw none at first in cc wrong)
-  begun_names before (Terminator term ∷ lines) (here, later) named none = absurd (let first = here.inside in let wrong = rw none at first in cc wrong)
+  begun_names before (_ ∷ lines) (here, later) named none = absurd (let first = here.inside in let wrong = rw none at first in cc wrong)
 
   -- the names of the function are those of the lines, in their order
   pub text_names : (before : Before) (lines : List Line) → AreClean before lines → before.name ≡ None → before.labels ≡ []
@@ -135,6 +123,4 @@ module _ (names : List Spelled) (labels : List (List ℕ)) where
   text_names before (Func name params ∷ lines) (here, later) unnamed none =
       let rest = begun_names (noted before (Func name params)) lines later (rw unnamed refl) (append-nil before.labels ∙ none) in
       ap (λ (ns : List NameId). map (name_id names) params ++ ns) rest ∙ sym (line_more (Func name params) lines)
-  text_names before (Block label freq ∷ lines) (here, later) unnamed none = absurd (let first = here.placed in let wrong = rw unnamed at first in cc wrong)
-  text_names before (Operation o ∷ lines) (here, later) unnamed none = absurd (let first = here.placed in let wrong = rw unnamed at first in cc wrong)
-  text_names before (Terminator term ∷ lines) (here, later) unnamed none = absurd (let first = here.placed in let wrong = rw unnamed at first in cc wrong)
+  text_names before (_ ∷ lines) (here, later) unnamed none = absurd (let first = here.placed in let wrong = rw unnamed at first in cc wrong)

@@ -4,15 +4,12 @@ use Rattle.std.specs.List.{list_any, fold, position, position_or_len, enumerate_
 use Rattle.std.specs.Str.{bytes_eq}
 use Rattle.std.proofs.lemmas.Bool.Decides.{Decides-ltb}
 use Rattle.std.proofs.lemmas.Slice.Eq.{bytes_eq-Decides}
-use Rattle.un_reader.specs.declared.token.Number.{Number}
-use Rattle.un_reader.specs.declared.line.TermLine.{TermLine}
-use Rattle.un_reader.specs.declared.line.TermLine.TheVariants.{Jump, Branch, Ret}
-use Rattle.un_reader.specs.declared.line.Line.{Line}
-use Rattle.un_reader.specs.declared.line.Line.TheVariants.{Blank, Func, Block, Operation, Terminator}
+use Rattle.std.proofs.lemmas.Bool.{not-false}
+use Rattle.un_reader.specs.Vocabulary.{Number, TermLine, Jump, Branch, Ret, Line, Block, Terminator}
 use Rattle.un_reader.specs.Before.{labels_of}
 use Rattle.un_reader.specs.TextFaults.{term_of, later_block, last_block, ends_well, falls_off, jumps_outside, is_entry, jumps_to_entry}
 use Rattle.un_reader.specs.Functions.{block_id}
-use Rattle.un_reader.proofs.Each.{Each, Each-weaken, Each-both}
+use Rattle.un_words.proofs.Each.{Each, Each-weaken, Each-both}
 use Rattle.un_reader.proofs.FirstNames.{placed}
 
 -- ---- a test that no element passes
@@ -47,12 +44,8 @@ IsTarget labels to = IsInside (length labels) (block_id labels to).0
 
 target_inside : (labels : List (List ℕ)) (to : List ℕ) → not (list_any (bytes_eq to) labels) ≡ false → is_entry labels to ≡ false → IsTarget labels to
 target_inside [] to h e = absurd (cc h)
-target_inside (entry ∷ labels) to h e = (first (bytes_eq to entry) refl, (placed (bytes_eq to) to (λ y is. (bytes_eq-Decides to y).0 is) (entry ∷ labels) (some (list_any (bytes_eq to) (entry ∷ labels)) h)).below)
+target_inside (entry ∷ labels) to h e = (first (bytes_eq to entry) refl, (placed (bytes_eq to) to (λ y is. (bytes_eq-Decides to y).0 is) (entry ∷ labels) (not-false (list_any (bytes_eq to) (entry ∷ labels)) h)).below)
   where
-    some : (v : Bool) → not v ≡ false → v ≡ true
-    some true h = refl
-    some false h = absurd (cc h)
-
     first : (v : Bool) → bytes_eq to entry ≡ v → 0 < position_or_len (bytes_eq to) (entry ∷ labels)
     first true is = absurd (cc (sym e ∙ is))
     first false is = rw is (omega arith)
@@ -68,13 +61,9 @@ LineTargets labels (Terminator term) = HasTarget labels term
 LineTargets labels _ = Unit {0}
 
 line_target : (labels : List (List ℕ)) (line : Line) → (jumps_outside labels line ≡ false) × (jumps_to_entry labels line ≡ false) → LineTargets labels line
-line_target labels Blank h = tt
-line_target labels (Func name params) h = tt
-line_target labels (Block label freq) h = tt
-line_target labels (Operation o) h = tt
 line_target labels (Terminator (Jump to)) h = target_inside labels to h.0 h.1
 line_target labels (Terminator (Branch pred sense to)) h = target_inside labels to h.0 h.1
-line_target labels (Terminator (Ret value)) h = tt
+line_target labels _ h = tt
 
 pub all_targets : (labels : List (List ℕ)) (lines : List Line) → position (jumps_outside labels) lines ≡ None → position (jumps_to_entry labels) lines ≡ None → Each (LineTargets labels) lines
 all_targets labels lines outside entry =
@@ -85,11 +74,8 @@ all_targets labels lines outside entry =
 
 no_later : (last : Option ℕ) (n : ℕ) (lines : List Line) → labels_of lines ≡ [] → fold later_block last (enumerate_from n lines) ≡ last
 no_later last n [] h = refl
-no_later last n (Blank ∷ lines) h = no_later last (n + 1) lines h
-no_later last n (Func name params ∷ lines) h = no_later last (n + 1) lines h
 no_later last n (Block label freq ∷ lines) h = absurd (cc h)
-no_later last n (Operation o ∷ lines) h = no_later last (n + 1) lines h
-no_later last n (Terminator term ∷ lines) h = no_later last (n + 1) lines h
+no_later last n (_ ∷ lines) h = no_later last (n + 1) lines h
 
 last_found : (last : Option ℕ) (n : ℕ) (front : List Line) (label : List ℕ) (freq : Number) (rest : List Line) → labels_of rest ≡ []
     → fold later_block last (enumerate_from n (front ++ Block label freq ∷ rest)) ≡ Some (n + length front)

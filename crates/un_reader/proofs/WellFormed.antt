@@ -3,30 +3,25 @@ use Rattle.std.proofs.Common.{◌≡◌, ◌≢◌, ℕ, ◌+◌, ◌<◌, ◌�
 use Rattle.std.specs.List.{list_any, flat_map, position}
 use Rattle.std.specs.Option.{option_or, option_to_list}
 use Rattle.std.proofs.lemmas.List.{length-map}
-use Rattle.un_base.specs.declared.ids.NameId.{NameId}
-use Rattle.un_ir.specs.declared.function.Kind.{Kind}
-use Rattle.un_ir.specs.declared.function.Kind.TheVariants.{General}
-use Rattle.un_ir.specs.declared.function.SrcOp.{SrcOp}
-use Rattle.un_ir.specs.declared.function.Block.{Block as SourceBlock}
+use Rattle.un_reader.specs.Vocabulary.{NameId, Kind, General, SrcOp, SourceBlock, Line, Func, Spelled}
 use Rattle.un_ir.specs.Live.{IsLive, targets_of, used, kept, read_by_term, read_by, read_at}
 use Rattle.un_ir.specs.Names.{names_on_op, names_in_block, appearances, first_appearances}
 use Rattle.un_ir.specs.WellFormed.{IsName, IsOfKind, IsGoodBlock, LeadsInside, ReturnAlike, IsWellFormed}
-use Rattle.un_reader.specs.declared.line.Line.{Line}
-use Rattle.un_reader.specs.declared.line.Line.TheVariants.{Blank, Func, Block, Operation, Terminator}
+use Rattle.un_ir.specs.declared.function.TheConstants.{OPS}
 use Rattle.un_reader.specs.declared.fault.Fault.{Fault}
 use Rattle.un_reader.specs.declared.fault.Fault.TheVariants.{NoBlock, FallsOff, UnknownLabel, JumpToEntry, MixedResult}
-use Rattle.un_reader.specs.Tokens.{Spelled}
-use Rattle.un_reader.specs.Before.{same_name, names_on, names_of, labels_of, name_of, before_of}
-use Rattle.un_reader.specs.LineFaults.{line_of}
+use Rattle.un_reader.specs.Before.{same_name, names_of, labels_of, name_of, before_of}
+use Rattle.un_words.specs.LineNames.{names_on}
+use Rattle.un_words.specs.Shapes.{line_of}
 use Rattle.un_reader.specs.Lines.{HasNoLineFault}
 use Rattle.un_reader.specs.TextFaults.{falls_off, jumps_outside, jumps_to_entry, mixed_return, placed, no_block, first_there, shape_fault}
 use Rattle.un_reader.specs.Functions.{name_id, blocks_of, params_of}
 use Rattle.un_reader.specs.Entry.{reads}
 use Rattle.un_reader.proofs.EntryLaws.{reads-Contains, Contains-reads}
 use Rattle.un_reader.proofs.ReadLaws.{kept_all}
-use Rattle.un_reader.proofs.Each.{Each, Each-All, Each-weaken, Each-map, Each-left, Each-right, Each-unflat, Each-at, Each-in, EachPair, EachPair-AllPairs, EachPair-unmap}
+use Rattle.un_words.proofs.Each.{Each, Each-All, Each-weaken, Each-map, Each-left, Each-right, Each-unflat, Each-at, Each-in, EachPair, EachPair-AllPairs, EachPair-unmap}
 use Rattle.un_reader.proofs.FirstNames.{IsPlaced, in_numbered, name_placed, Each-numbered, numbered_apart, numbers_first}
-use Rattle.un_reader.proofs.TokenFacts.{IsSpelled}
+use Rattle.un_words.proofs.TokenFacts.{IsSpelled}
 use Rattle.un_reader.proofs.LineTests.{AreClean, all_clean}
 use Rattle.un_reader.proofs.Stands.{text_names}
 use Rattle.un_reader.proofs.BlockFacts.{IsKept, AreGoodParams, Fits, lines_fit, good_blocks, block_labels, block_ops}
@@ -81,19 +76,13 @@ is_whole lines h =
 
 params_good : (names : List Spelled) (labels : List (List ℕ)) (lines : List Line) → Each (Fits names labels) lines → AreGoodParams names (params_of lines)
 params_good names labels [] f = record { words = tt; few = omega arith; apart = tt }
-params_good names labels (Blank ∷ lines) f = params_good names labels lines f.1
 params_good names labels (Func name params ∷ lines) f = f.0.1
-params_good names labels (Block label freq ∷ lines) f = params_good names labels lines f.1
-params_good names labels (Operation o ∷ lines) f = params_good names labels lines f.1
-params_good names labels (Terminator term ∷ lines) f = params_good names labels lines f.1
+params_good names labels (_ ∷ lines) f = params_good names labels lines f.1
 
 func_named : (names : List Spelled) (labels : List (List ℕ)) (lines : List Line) → Each (Fits names labels) lines → name_of lines ≢ None → IsName (unwrap_or (name_of lines) [])
 func_named names labels [] f n = absurd (n refl)
-func_named names labels (Blank ∷ lines) f n = func_named names labels lines f.1 n
 func_named names labels (Func name params ∷ lines) f n = f.0.0
-func_named names labels (Block label freq ∷ lines) f n = func_named names labels lines f.1 n
-func_named names labels (Operation o ∷ lines) f n = func_named names labels lines f.1 n
-func_named names labels (Terminator term ∷ lines) f n = func_named names labels lines f.1 n
+func_named names labels (_ ∷ lines) f n = func_named names labels lines f.1 n
 
 -- ---- live names
 
@@ -173,7 +162,7 @@ module _ (all : List (List ℕ)) (good : HasNoLineFault all) (whole : shape_faul
       live_holds (λ (n : NameId). n.0 < length names) blocks name
       (Each-unflat (λ (n : NameId). n.0 < length names) names_in_block blocks (Each-right (λ (n : NameId). n.0 < length names) params (flat_map names_in_block blocks) below_count)) 0 0 live
 
-  few_block_ops : length (flat_map (λ (b : SourceBlock). b.ops) blocks) ≤ 80
+  few_block_ops : length (flat_map (λ (b : SourceBlock). b.ops) blocks) ≤ OPS
   few_block_ops =
       let counted = block_ops names labels lines in
       let few = few_op_lines (before_of []) lines clean (omega arith) in

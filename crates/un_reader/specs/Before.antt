@@ -2,16 +2,11 @@
 -- appearance, how many operations there are, and whether the last block has ended.
 use Rattle.std.specs.Prelude.{ℕ, ◌&&◌, Bool, true, false, List, [], ◌∷◌, ◌++◌, Option, Some, None, if◌then◌else◌}
 use Rattle.std.specs.List.{list_any, filter_map, flat_map, count_by, fold}
-use Rattle.std.specs.Option.{option_to_list, option_or}
+use Rattle.std.specs.Option.{option_or}
 use Rattle.std.specs.Str.{bytes_eq}
-use Rattle.un_ir.specs.declared.function.Kind.{Kind}
-use Rattle.un_ir.specs.declared.function.Kind.TheVariants.{General, Pred}
-use Rattle.un_reader.specs.declared.line.TermLine.{TermLine}
-use Rattle.un_reader.specs.declared.line.TermLine.TheVariants.{Jump, Branch, Ret}
-use Rattle.un_reader.specs.declared.line.Line.{Line}
-use Rattle.un_reader.specs.declared.line.Line.TheVariants.{Blank, Func, Block, Operation, Terminator}
+use Rattle.un_reader.specs.Vocabulary.{Kind, General, Pred, Line, Func, Block, Operation, Terminator, Spelled}
 use Rattle.un_reader.specs.declared.before.Before.{Before}
-use Rattle.un_reader.specs.Tokens.{Spelled}
+use Rattle.un_words.specs.LineNames.{names_on}
 
 -- ---- names
 
@@ -31,20 +26,6 @@ add_name names name = if list_any (same_name name) names then names else names +
 -- names, and then those of a list that are new, each at its first appearance
 abbrev pub numbered : List Spelled → List Spelled → List Spelled
 numbered names more = fold add_name names more
-
-abbrev pub names_on_term : TermLine → List Spelled
-names_on_term (Jump to) = []
-names_on_term (Branch pred sense to) = pred ∷ []
-names_on_term (Ret None) = []
-names_on_term (Ret (Some name)) = name ∷ []
-
--- the names on a line, from left to right
-abbrev pub names_on : Line → List Spelled
-names_on Blank = []
-names_on (Func name params) = params
-names_on (Block label freq) = []
-names_on (Operation o) = option_to_list o.dst ++ o.srcs
-names_on (Terminator term) = names_on_term term
 
 -- the names of lines, each at its first appearance
 abbrev pub names_of : List Line → List Spelled

@@ -2,13 +2,10 @@
 use Rattle.std.specs.Prelude.{ℕ, ◌+◌, ◌<◌, ◌||◌, ◌≡◌, Bool, true, false, nat_eq, List, [], ◌∷◌, length, Option, slice_get, unwrap_or, Contains, if◌then◌else◌}
 use Rattle.std.specs.List.{list_any}
 use Rattle.std.specs.Option.{option_map_or}
-use Rattle.un_base.specs.declared.ids.NameId.{NameId}
-use Rattle.un_ir.specs.declared.function.SrcOp.{SrcOp}
-use Rattle.un_ir.specs.declared.function.Term.{Term}
-use Rattle.un_ir.specs.declared.function.Term.TheVariants.{Fall, Jump, Branch, Ret}
+use Rattle.un_reader.specs.Vocabulary.{NameId, SrcOp, Term, Fall, Spelled}
+use Rattle.un_ir.specs.declared.function.Term.TheVariants.{Jump, Branch, Ret}
 use Rattle.un_ir.specs.declared.function.Block.{Block}
 use Rattle.un_ir.specs.Live.{IsLive, read_by_term}
-use Rattle.un_reader.specs.Tokens.{Spelled}
 use Rattle.un_reader.specs.declared.meeting.Meeting.{Meeting}
 use Rattle.un_reader.specs.declared.meeting.Meeting.TheVariants.{Read, Assigned, Neither}
 

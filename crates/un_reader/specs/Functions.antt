@@ -3,20 +3,8 @@ use Rattle.std.specs.Prelude.{ℕ, zero, suc, ℤ, pos, negsuc, ◌≡◌, ◌-�
 use Rattle.std.specs.List.{position_or_len, cons_option}
 use Rattle.std.specs.Option.{option_map}
 use Rattle.std.specs.Str.{bytes_eq}
-use Rattle.un_base.specs.declared.ids.NameId.{NameId}
-use Rattle.un_base.specs.declared.ids.BlockId.{BlockId}
-use Rattle.un_ir.specs.declared.function.SrcOp.{SrcOp}
-use Rattle.un_ir.specs.declared.function.Term.{Term}
-use Rattle.un_ir.specs.declared.function.Term.TheVariants.{Fall, Jump as JumpTo, Branch as BranchTo, Ret as Return}
-use Rattle.un_ir.specs.declared.function.Block.{Block as SourceBlock}
+use Rattle.un_reader.specs.Vocabulary.{NameId, BlockId, SrcOp, Term, Fall, JumpTo, BranchTo, Return, SourceBlock, Number, OpLine, TermLine, Jump, Branch, Ret, Line, Func, Block, Operation, Spelled}
 use Rattle.un_ir.specs.declared.function.Function.{Function}
-use Rattle.un_reader.specs.declared.token.Number.{Number}
-use Rattle.un_reader.specs.declared.line.OpLine.{OpLine}
-use Rattle.un_reader.specs.declared.line.TermLine.{TermLine}
-use Rattle.un_reader.specs.declared.line.TermLine.TheVariants.{Jump, Branch, Ret}
-use Rattle.un_reader.specs.declared.line.Line.{Line}
-use Rattle.un_reader.specs.declared.line.Line.TheVariants.{Func, Block, Operation}
-use Rattle.un_reader.specs.Tokens.{Spelled}
 use Rattle.un_reader.specs.Before.{same_name, names_of, labels_of, name_of}
 use Rattle.un_reader.specs.TextFaults.{term_of}
 

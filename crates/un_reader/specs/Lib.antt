@@ -7,9 +7,6 @@ pub mod LineFaults
 pub mod Lines
 pub mod Named
 pub mod Noted
-pub mod Pieces
 pub mod Read
-pub mod Shapes
 pub mod TextFaults
-pub mod Tokens
-pub mod Words
+pub mod Vocabulary

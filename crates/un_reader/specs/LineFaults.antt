@@ -1,24 +1,23 @@
 -- The faults of one line, given what stands before it.
-use Rattle.std.specs.Prelude.{ℕ, ◌==◌, ◌%◌, ◌&&◌, ◌||◌, Bool, true, false, not, nat_lt, nat_le, List, [], ◌∷◌, length, Option, Some, None, is_some, is_none, unwrap_or, map, take, slice_get, if◌then◌else◌}
-use Rattle.std.specs.List.{list_all, list_any}
+use Rattle.std.specs.Prelude.{ℕ, ◌==◌, ◌%◌, ◌&&◌, ◌||◌, Bool, true, false, not, nat_lt, nat_le, List, [], ◌∷◌, length, Option, Some, None, is_some, is_none, map, take, slice_get, if◌then◌else◌}
+use Rattle.std.specs.List.{list_all, list_any, zip}
 use Rattle.std.specs.Option.{option_map_or, option_and_then}
 use Rattle.std.specs.Str.{bytes_eq}
 use Rattle.un_isa.specs.declared.op.Op.{Op}
-use Rattle.un_isa.specs.declared.op.Op.TheVariants.{Imm, Addi, Andi, Ori, Mux, CmpEq, CmpGt, CmpGtu, CmpEqi, CmpGti, Asl, Asr, Lsr, Load, Store}
-use Rattle.un_ir.specs.declared.function.Kind.{Kind}
-use Rattle.un_ir.specs.declared.function.Kind.TheVariants.{General, Pred}
+use Rattle.un_isa.specs.declared.reg.Space.{Space}
+use Rattle.un_isa.specs.declared.facts.Range.{Range}
+use Rattle.un_isa.specs.declared.facts.Range.TheVariants.{Signed16, Signed10, Unsigned5, Offset, FrameOffset}
+use Rattle.un_isa.specs.Facts.{operand_spaces, result_space, literal_range}
+use Rattle.un_ir.specs.WellFormed.{kind_in, is_call}
+use Rattle.un_reader.specs.Vocabulary.{Pred, Number, TermLine, Jump, Branch, Ret, Line, Blank, Func, Block, Operation, Terminator, Spelled}
 use Rattle.un_ir.specs.declared.function.TheConstants.{BLOCKS, OPS, NAMES, FREQUENCY, PARAMS}
-use Rattle.un_reader.specs.declared.token.Number.{Number}
-use Rattle.un_reader.specs.declared.line.TermLine.{TermLine}
-use Rattle.un_reader.specs.declared.line.TermLine.TheVariants.{Jump, Branch, Ret}
-use Rattle.un_reader.specs.declared.line.Line.{Line}
-use Rattle.un_reader.specs.declared.line.Line.TheVariants.{Blank, Func, Block, Operation, Terminator}
 use Rattle.un_reader.specs.declared.before.Before.{Before}
 use Rattle.un_reader.specs.declared.fault.Fault.{Fault}
 use Rattle.un_reader.specs.declared.fault.Fault.TheVariants.{BadByte, BadLine, KindClash, TooMany, WideLiteral, BadFreq, DupLabel, NoBlock, AfterEnd}
-use Rattle.un_reader.specs.Tokens.{Spelled, tokens_of}
-use Rattle.un_reader.specs.Shapes.{shape_of}
-use Rattle.un_reader.specs.Before.{same_kind, same_name, numbered, names_on, before_of}
+use Rattle.un_words.specs.Tokens.{tokens_of}
+use Rattle.un_words.specs.Shapes.{shape_of, line_of}
+use Rattle.un_reader.specs.Before.{same_kind, same_name, numbered, before_of}
+use Rattle.un_words.specs.LineNames.{names_on}
 
 -- a tab, or a byte from a space to a tilde
 abbrev pub is_plain_byte : ℕ → Bool
@@ -43,23 +42,16 @@ is_misplaced before _ = is_none before.name
 abbrev pub is_predicate : Spelled → Bool
 is_predicate name = same_kind Pred name.1
 
--- the kind of an operation's result
-abbrev pub result_kind : Op → Kind
-result_kind CmpEq = Pred
-result_kind CmpGt = Pred
-result_kind CmpGtu = Pred
-result_kind CmpEqi = Pred
-result_kind CmpGti = Pred
-result_kind _ = General
+-- the name is not of the kind of this space
+abbrev pub misfits : Space → Spelled → Bool
+misfits space name = not (same_kind (kind_in space) name.1)
 
--- the first operand of a Mux is a predicate, and no other operand is one
+-- an operand is not of the kind of its place; a call takes words
 abbrev pub operands_clash : Op → List Spelled → Bool
-operands_clash Mux [] = false
-operands_clash Mux (pred ∷ srcs) = not (is_predicate pred) || list_any is_predicate srcs
-operands_clash _ srcs = list_any is_predicate srcs
+operands_clash op srcs = if is_call op then list_any is_predicate srcs else list_any (λ p. misfits p.0 p.1) (zip (operand_spaces op) srcs)
 
 abbrev pub result_clashes : Op → Option Spelled → Bool
-result_clashes op dst = option_map_or (λ name. not (same_kind (result_kind op) name.1)) dst false
+result_clashes op dst = option_map_or (λ name. option_map_or (λ space. misfits space name) (result_space op) false) dst false
 
 abbrev pub term_clashes : TermLine → Bool
 term_clashes (Jump to) = false
@@ -98,24 +90,17 @@ fits_signed limit n = nat_lt n.size limit || (n.negative && n.size == limit)
 abbrev pub fits_unsigned : ℕ → Number → Bool
 fits_unsigned limit n = nat_lt n.size limit && (not n.negative || n.size == 0)
 
--- an offset is a multiple of 4 of 13 bits with its sign
-abbrev pub fits_offset : Number → Bool
-fits_offset n = fits_signed 4096 n && n.size % 4 == 0
+-- a literal in a range; an offset is a multiple of 4
+abbrev pub fits_range : Range → Number → Bool
+fits_range Signed16 n = fits_signed 32768 n
+fits_range Signed10 n = fits_signed 512 n
+fits_range Unsigned5 n = fits_unsigned 32 n
+fits_range Offset n = fits_signed 4096 n && n.size % 4 == 0
+fits_range FrameOffset n = fits_unsigned 4096 n && n.size % 4 == 0
 
--- the literal is in the range of its operation: 16 or 10 bits with its sign, 5 bits without one, or an offset
+-- the literal is in the range of its operation, where that has one
 abbrev pub literal_fits : Op → Number → Bool
-literal_fits Imm n = fits_signed 32768 n
-literal_fits Addi n = fits_signed 32768 n
-literal_fits Andi n = fits_signed 512 n
-literal_fits Ori n = fits_signed 512 n
-literal_fits CmpEqi n = fits_signed 512 n
-literal_fits CmpGti n = fits_signed 512 n
-literal_fits Asl n = fits_unsigned 32 n
-literal_fits Asr n = fits_unsigned 32 n
-literal_fits Lsr n = fits_unsigned 32 n
-literal_fits Load n = fits_offset n
-literal_fits Store n = fits_offset n
-literal_fits _ n = true
+literal_fits op n = option_map_or (λ range. fits_range range n) (literal_range op) true
 
 abbrev pub is_wide : Line → Bool
 is_wide (Operation o) = not (literal_fits o.op o.imm)
@@ -175,10 +160,6 @@ abbrev pub line_fault : Before → List ℕ → Option Fault
 line_fault before bytes = if list_all is_plain_byte bytes then shaped_fault before (shape_of (tokens_of bytes)) else Some BadByte
 
 -- ---- the lines of a text
-
--- the line that bytes are; those without a shape count as none
-abbrev pub line_of : List ℕ → Line
-line_of bytes = unwrap_or (shape_of (tokens_of bytes)) Blank
 
 -- the fault of the line at a place, counted from 0
 abbrev pub fault_at : List (List ℕ) → ℕ → Option Fault

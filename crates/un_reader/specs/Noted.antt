@@ -1,9 +1,10 @@
 -- What stands before a line, one line further on.
 use Rattle.std.specs.Prelude.{◌+◌, ◌++◌, if◌then◌else◌}
 use Rattle.std.specs.Option.{option_to_list, option_or}
-use Rattle.un_reader.specs.declared.line.Line.{Line}
+use Rattle.un_words.specs.declared.line.Line.{Line}
 use Rattle.un_reader.specs.declared.before.Before.{Before}
-use Rattle.un_reader.specs.Before.{numbered, names_on, label_on, name_on, is_operation, ended_after}
+use Rattle.un_reader.specs.Before.{numbered, label_on, name_on, is_operation, ended_after}
+use Rattle.un_words.specs.LineNames.{names_on}
 
 abbrev pub noted : Before → Line → Before
 noted before line = record {

@@ -6,7 +6,7 @@ use Rattle.un_ir.specs.declared.function.Function.{Function}
 use Rattle.un_reader.specs.declared.limits.TheConstants.{TEXT}
 use Rattle.un_reader.specs.declared.fault.Fault.{Fault}
 use Rattle.un_reader.specs.declared.fault.Fault.TheVariants.{TooMany, LiveAtEntry}
-use Rattle.un_reader.specs.Pieces.{lines_in}
+use Rattle.un_words.specs.Pieces.{lines_in}
 use Rattle.un_reader.specs.Lines.{HasNoLineFault, IsFirstLineFault, shapes_in}
 use Rattle.un_reader.specs.TextFaults.{is_block, shape_fault}
 use Rattle.un_reader.specs.Before.{names_of}

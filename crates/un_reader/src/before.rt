@@ -2,18 +2,19 @@
 
 ghost use Rattle.std.specs.Prelude.{◌≡◌, ◌+◌, ◌^◌, ◌<◌, ◌++◌, OnOk, length, [], false, if◌then◌else◌};
 ghost use Rattle.std.specs.List.{list_any, fold};
-ghost use Rattle.un_reader.specs.Before.{same_kind, same_name, add_name, numbered, names_on, before_of, label_on, name_on, is_operation, ended_after};
+ghost use Rattle.un_reader.specs.Before.{same_kind, same_name, add_name, numbered, before_of, label_on, name_on, is_operation, ended_after};
+ghost use Rattle.un_words.specs.LineNames.{names_on};
 ghost use Rattle.std.specs.Option.{option_to_list, option_or};
 ghost use Rattle.un_reader.specs.Noted.{noted};
 
-use crate::forms::is_text;
-use crate::line::{Line, OpLine, TermLine};
 use crate::names::Names;
 use std::alloc::Global;
 use un_base::memory_error::NoMemory;
 use un_base::name::Name;
 use un_ir::function::Kind;
 use un_lists::items::Items;
+use un_words::forms::is_text;
+use un_words::line::{Line, OpLine, TermLine};
 
 /// What stands before a line: the name on the `func` line, the labels, the names in the order of their first
 /// appearance, how many operations there are, and whether a terminator has ended the last block.

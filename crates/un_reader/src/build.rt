@@ -9,11 +9,8 @@ ghost use Rattle.un_reader.specs.TextFaults.{term_of};
 ghost use Rattle.un_reader.specs.Functions.{name_id, block_id, literal_value, op_of, term_by, ops_of, blocks_of, params_of, ArePartsOf};
 
 use crate::draft::Draft;
-use crate::forms::is_text;
-use crate::line::{Line, OpLine, TermLine};
 use crate::names::Names;
 use crate::text_fault::find_term;
-use crate::token::Number;
 use std::alloc::Global;
 use un_base::ids::{BlockId, NameId};
 use un_base::memory_error::NoMemory;
@@ -21,6 +18,9 @@ use un_base::name::Name;
 use un_ir::function::{Block, Kind, SrcOp, Term};
 use un_lists::few::Few;
 use un_lists::items::Items;
+use un_words::forms::is_text;
+use un_words::line::{Line, OpLine, TermLine};
+use un_words::token::Number;
 
 /// The number of a name.
 fn name_id(names: &Names, name: &(Name, Kind)) -> NameId

@@ -3,24 +3,25 @@
 ghost use Rattle.std.specs.Prelude.{◌≡◌, ◌+◌, ◌<◌, ◌≤◌, ◌^◌, ◌++◌, ◌∷◌, [], OnOk, IfOk, IfErr, Some, None, length};
 ghost use Rattle.un_reader.specs.Before.{before_of};
 ghost use Rattle.un_reader.specs.Codes.{code_of};
+ghost use Rattle.un_reader.specs.declared.limits.TheConstants.{TEXT};
 ghost use Rattle.un_reader.specs.Errors.{Tells};
-ghost use Rattle.un_reader.specs.Tokens.{tokens_of};
-ghost use Rattle.un_reader.specs.Shapes.{shape_of};
-ghost use Rattle.un_reader.specs.LineFaults.{line_fault, line_of};
+ghost use Rattle.un_words.specs.Tokens.{tokens_of};
+ghost use Rattle.un_words.specs.Shapes.{shape_of, line_of};
+ghost use Rattle.un_reader.specs.LineFaults.{line_fault};
 ghost use Rattle.un_reader.specs.Lines.{HasNoLineFault, IsFirstLineFault, shapes_in};
-ghost use Rattle.un_reader.specs.Pieces.{lines_in};
+ghost use Rattle.un_words.specs.Pieces.{lines_in};
 
 use crate::before::Before;
 use crate::error::ReadError;
 use crate::fault::Fault;
-use crate::line::Line;
 use crate::line_fault::{are_plain, shaped_fault};
-use crate::pieces::{content, first_len};
-use crate::shape::read_line;
-use crate::words::tokens;
 use std::alloc::Global;
 use un_base::memory_error::NoMemory;
 use un_lists::items::Items;
+use un_words::line::Line;
+use un_words::pieces::{content, first_len};
+use un_words::shape::read_line;
+use un_words::words::tokens;
 
 /// The fault of a line, which is counted from 1.
 pub fn fault_of(line: usize, fault: Fault) -> ReadError
@@ -43,7 +44,7 @@ fn shape(alloc: Global, bytes: &[u8]) -> Result<Option<Line>, NoMemory>
 
 /// The line at a place, where it has no fault.
 fn good_line(alloc: Global, before: &Before, bytes: &[u8], place: usize) -> Result<Line, ReadError>
-    requires { place < 65536 }
+    requires { place < TEXT }
     ensures good { IfOk result (λ line. line_fault before.now bytes.now ≡ None) }
     ensures line { IfOk result (λ line. line ≡ line_of bytes.now) }
     ensures bad { IfErr result (Tells (λ l fault. (l ≡ place + 1) × (line_fault before.now bytes.now ≡ Some fault))) }
@@ -69,7 +70,7 @@ fn add_line(
     bytes: &[u8],
 ) -> Result<(), ReadError>
     requires before { before.old ≡ before_of lines.old }
-    requires count { length lines.old < 65536 }
+    requires count { length lines.old < TEXT }
     ensures good { OnOk result (line_fault before.old bytes.now ≡ None) }
     ensures lines { OnOk result (lines.new ≡ lines.old ++ line_of bytes.now ∷ []) }
     ensures before { OnOk result (before.new ≡ before_of lines.new) }
@@ -90,7 +91,7 @@ pub struct Checked {
 
 /// The lines of a text by their shapes, one for each, where none has a fault, or else the first fault.
 pub fn check_lines(alloc: Global, text: &[u8]) -> Result<Checked, ReadError>
-    requires { length text.now ≤ 65536 }
+    requires { length text.now ≤ TEXT }
     ensures good { IfOk result (λ checked. HasNoLineFault (lines_in text.now)) }
     ensures lines { IfOk result (λ checked. checked.lines ≡ shapes_in text.now) }
     ensures before { IfOk result (λ checked. checked.before ≡ before_of checked.lines) }

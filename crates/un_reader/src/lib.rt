@@ -1,4 +1,4 @@
-//! Reading functions: the words of a line, its shape, its faults, the faults of a whole text, and the function.
+//! Reading functions: the faults of a line given what stands before it, the faults of a whole text, and the function.
 #![tactic(auto)]
 
 pub mod before;
@@ -8,18 +8,10 @@ pub mod draft;
 pub mod entry;
 pub mod error;
 pub mod fault;
-pub mod forms;
 pub mod limits;
-pub mod line;
 pub mod line_fault;
 pub mod meeting;
 pub mod names;
 mod new_names;
-pub mod number;
-pub mod pieces;
 pub mod read;
-pub mod shape;
-pub mod slot;
 pub mod text_fault;
-pub mod token;
-pub mod words;

@@ -1,22 +1,27 @@
 //! The faults of one line, given what stands before it.
 
 ghost use Rattle.std.specs.Prelude.{◌≡◌, ◌==◌, ◌&&◌, ◌||◌, not, IfOk, length, drop};
-ghost use Rattle.std.specs.List.{list_any, list_all};
+ghost use Rattle.std.specs.List.{list_any, list_all, zip};
+ghost use Rattle.un_ir.specs.WellFormed.{kind_in};
 ghost use Rattle.std.specs.Str.{bytes_eq};
-ghost use Rattle.un_reader.specs.LineFaults.{is_plain_byte, has_repeat, is_misplaced, is_predicate, result_kind, operands_clash, result_clashes, term_clashes, has_clash, is_over_limit, has_too_many, fits_signed, fits_unsigned, fits_offset, literal_fits, is_wide, freq_fits, has_bad_freq, repeats_label, is_body, is_before_block, is_after_end, first_of, faults_on, line_fault, line_of};
+ghost use Rattle.un_reader.specs.LineFaults.{is_plain_byte, has_repeat, is_misplaced, is_predicate, misfits, operands_clash, result_clashes, term_clashes, has_clash, is_over_limit, has_too_many, fits_signed, fits_unsigned, fits_range, literal_fits, is_wide, freq_fits, has_bad_freq, repeats_label, is_body, is_before_block, is_after_end, first_of, faults_on, line_fault};
+ghost use Rattle.un_words.specs.Shapes.{line_of};
 
 use crate::before::{Before, same_kind};
 use crate::fault::Fault;
-use crate::forms::is_text;
-use crate::line::{Line, OpLine, TermLine};
 use crate::names::Names;
 use crate::new_names::new_names;
-use crate::token::Number;
 use std::alloc::Global;
 use un_base::memory_error::NoMemory;
 use un_base::name::Name;
 use un_ir::function::{BLOCKS, FREQUENCY, Kind, NAMES, OPS, PARAMS};
+use un_isa::facts::{Range, literal_range, operand_spaces, result_space};
 use un_isa::op::Op;
+use un_isa::reg::Space;
+use un_words::forms::is_text;
+use un_words::line::{Line, OpLine, TermLine};
+use un_words::shape::is_call;
+use un_words::token::Number;
 
 /// Whether it is a tab, or a byte from a space to a tilde.
 fn is_plain_byte(b: u8) -> bool
@@ -25,7 +30,7 @@ fn is_plain_byte(b: u8) -> bool
     b == b'\t' || (32 <= b && b <= 126)
 }
 
-/// Whether each byte is.
+/// Whether each byte is a tab, or stands from a space to a tilde.
 pub fn are_plain(bytes: &[u8]) -> bool
     ensures { result ≡ list_all is_plain_byte bytes.now }
 {
@@ -70,40 +75,46 @@ fn is_predicate(name: &(Name, Kind)) -> bool
     same_kind(Kind::Pred, name.1)
 }
 
-/// Whether one of the names is.
+/// Whether one of the names is that of a predicate.
 fn has_predicate(names: &[(Name, Kind)]) -> bool
     ensures { result ≡ list_any is_predicate names.now }
 {
     names.iter().any(|n| is_predicate(n))
 }
 
-/// The kind of an operation's result.
-fn result_kind(op: Op) -> Kind
-    ensures { result ≡ result_kind op }
+/// The kind of the names that stand in a space.
+fn kind_in(space: Space) -> Kind
+    ensures { result ≡ kind_in space }
 {
-    match op {
-        Op::CmpEq | Op::CmpGt | Op::CmpGtu | Op::CmpEqi | Op::CmpGti => Kind::Pred,
-        _ => Kind::General,
+    match space {
+        Space::R => Kind::General,
+        Space::P => Kind::Pred,
+        Space::M => Kind::General,
     }
 }
 
-/// Whether the first operand of a Mux is no predicate, or another one is.
-fn mux_clashes(srcs: &[(Name, Kind)]) -> bool
-    ensures { result ≡ operands_clash Op.Mux srcs.now }
+/// Whether the name is not of the kind of this space.
+fn misfits(space: Space, name: &(Name, Kind)) -> bool
+    ensures { result ≡ misfits space name.now }
 {
-    match srcs.split_first() {
-        None => false,
-        Some((pred, rest)) => !is_predicate(pred) || has_predicate(rest),
-    }
+    !same_kind(kind_in(space), name.1)
 }
 
-/// Whether an operand is not of the kind of its place.
+/// Whether an operand is not of the kind of its space.
+fn any_misfits(spaces: &[Space], srcs: &[(Name, Kind)]) -> bool
+    ensures { result ≡ list_any (λ p. misfits p.0 p.1) (zip spaces.now srcs.now) }
+{
+    spaces.iter().zip(srcs).any(|(s, n)| misfits(*s, n))
+}
+
+/// Whether an operand is not of the kind of its place. A call takes words.
 fn operands_clash(op: Op, srcs: &[(Name, Kind)]) -> bool
     ensures { result ≡ operands_clash op srcs.now }
 {
-    match op {
-        Op::Mux => mux_clashes(srcs),
-        _ => has_predicate(srcs),
+    if is_call(op) {
+        has_predicate(srcs)
+    } else {
+        any_misfits(operand_spaces(op), srcs)
     }
 }
 
@@ -112,8 +123,11 @@ fn result_clashes(op: Op, dst: &Option<(Name, Kind)>) -> bool
     ensures { result ≡ result_clashes op dst.now }
 {
     match dst {
-        Some(name) => !same_kind(result_kind(op), name.1),
         None => false,
+        Some(name) => match result_space(op) {
+            None => false,
+            Some(space) => misfits(space, name),
+        },
     }
 }
 
@@ -155,7 +169,7 @@ fn is_over_limit(before: &Before, line: &Line) -> bool
     }
 }
 
-/// Whether there is one of these, or a 41st name.
+/// Whether there is a 7th parameter or argument, a 17th block, an 81st operation or a 41st name.
 fn has_too_many(alloc: Global, before: &Before, line: &Line) -> Result<bool, NoMemory>
     ensures { IfOk result (λ many. many ≡ has_too_many before.now line.now) }
 {
@@ -180,23 +194,26 @@ fn fits_unsigned(limit: u32, n: Number) -> bool
     n.size < limit && (!n.negative || n.size == 0)
 }
 
-/// Whether the number is an offset: a multiple of 4 of 13 bits with its sign.
-fn fits_offset(n: Number) -> bool
-    ensures { result ≡ fits_offset n }
+/// Whether the number is in the range. An offset is a multiple of 4.
+fn fits_range(range: Range, n: Number) -> bool
+    ensures { result ≡ fits_range range n }
 {
-    fits_signed(4096, n) && n.size % 4 == 0
+    match range {
+        Range::Signed16 => fits_signed(32768, n),
+        Range::Signed10 => fits_signed(512, n),
+        Range::Unsigned5 => fits_unsigned(32, n),
+        Range::Offset => fits_signed(4096, n) && n.size % 4 == 0,
+        Range::FrameOffset => fits_unsigned(4096, n) && n.size % 4 == 0,
+    }
 }
 
-/// Whether the literal is in the range of its operation.
+/// Whether the literal is in the range of its operation, where that has one.
 fn literal_fits(op: Op, n: Number) -> bool
     ensures { result ≡ literal_fits op n }
 {
-    match op {
-        Op::Imm | Op::Addi => fits_signed(32768, n),
-        Op::Andi | Op::Ori | Op::CmpEqi | Op::CmpGti => fits_signed(512, n),
-        Op::Asl | Op::Asr | Op::Lsr => fits_unsigned(32, n),
-        Op::Load | Op::Store => fits_offset(n),
-        _ => true,
+    match literal_range(op) {
+        None => true,
+        Some(range) => fits_range(range, n),
     }
 }
 
@@ -257,14 +274,14 @@ fn is_body(line: &Line) -> bool
     }
 }
 
-/// Whether the line is one and stands before the first block line.
+/// Whether the line is an operation or a terminator and stands before the first block line.
 fn is_before_block(before: &Before, line: &Line) -> bool
     ensures { result ≡ is_before_block before.now line.now }
 {
     is_body(line) && before.labels.len() == 0
 }
 
-/// Whether the line is one and stands behind its block's terminator.
+/// Whether the line is an operation or a terminator and stands behind its block's terminator.
 fn is_after_end(before: &Before, line: &Line) -> bool
     ensures { result ≡ is_after_end before.now line.now }
 {

@@ -20,7 +20,7 @@ pub struct Names {
 
 impl Model for Names {
     ghost use Rattle.std.specs.Prelude.{ℕ, List};
-    ghost use Rattle.un_reader.specs.Tokens.{Spelled};
+    ghost use Rattle.un_words.specs.Tokens.{Spelled};
 
     ghost Value = { List Spelled };
 

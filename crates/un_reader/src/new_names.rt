@@ -2,16 +2,17 @@
 
 ghost use Rattle.std.specs.Prelude.{◌≡◌, ◌++◌, IfOk, OnOk};
 ghost use Rattle.std.specs.List.{list_any};
-ghost use Rattle.un_reader.specs.Before.{same_name, add_name, numbered, names_on};
+ghost use Rattle.un_reader.specs.Before.{same_name, add_name, numbered};
+ghost use Rattle.un_words.specs.LineNames.{names_on};
 
 use crate::before::same_name;
-use crate::line::{Line, OpLine, TermLine};
 use crate::names::Names;
 use std::alloc::Global;
 use un_base::memory_error::NoMemory;
 use un_base::name::Name;
 use un_ir::function::Kind;
 use un_lists::items::Items;
+use un_words::line::{Line, OpLine, TermLine};
 
 /// Whether the name is in the list.
 fn has_name(names: &[(Name, Kind)], name: &(Name, Kind)) -> bool

@@ -3,6 +3,8 @@
 ghost use Rattle.std.specs.Prelude.{◌≡◌, ◌+◌, ◌<◌, ◌^◌, ◌≤◌, IfOk, IfErr, Some, None, length};
 ghost use Rattle.std.specs.List.{position_or_len};
 ghost use Rattle.un_reader.specs.Before.{before_of, name_of, names_of, labels_of};
+ghost use Rattle.un_ir.specs.declared.function.TheConstants.{NAMES};
+ghost use Rattle.un_reader.specs.declared.limits.TheConstants.{TEXT};
 ghost use Rattle.un_reader.specs.Errors.{Tells};
 ghost use Rattle.un_ir.specs.WellFormed.{IsWellFormed};
 ghost use Rattle.un_reader.specs.Functions.{ArePartsOf};
@@ -18,12 +20,12 @@ use crate::entry::has_live;
 use crate::error::ReadError;
 use crate::fault::Fault;
 use crate::limits::TEXT;
-use crate::line::Line;
 use crate::names::Names;
 use crate::text_fault::{is_block, shape_fault};
 use std::alloc::Global;
 use un_base::name::Name;
 use un_ir::function::Function;
+use un_words::line::Line;
 
 /// The place of the first block line, or the count where there is none.
 fn entry_place(lines: &[Line]) -> usize
@@ -38,7 +40,8 @@ fn entry_place(lines: &[Line]) -> usize
     lines.len()
 }
 
-/// The same for lines with this name, these names and labels.
+/// The parts of the function that lines with this name, these names and labels are, where their whole has no fault,
+/// liveness left out.
 fn named_parts(
     alloc: Global,
     lines: &[Line],
@@ -49,9 +52,9 @@ fn named_parts(
     requires name { name_of lines.now ≡ Some name }
     requires names { names ≡ names_of lines.now }
     requires labels { labels.now ≡ labels_of lines.now }
-    requires few_names { length names ≤ 40 }
-    requires few_labels { length labels.now ≤ 65536 }
-    requires count { length lines.now ≤ 65536 }
+    requires few_names { length names ≤ NAMES }
+    requires few_labels { length labels.now ≤ TEXT }
+    requires count { length lines.now ≤ TEXT }
     ensures good { IfOk result (λ d. shape_fault lines.now ≡ None) }
     ensures parts { IfOk result (λ d. ArePartsOf lines.now d.name d.params d.names d.blocks) }
     ensures bad { IfErr result (Tells (λ line fault. shape_fault lines.now ≡ Some (line, fault))) }
@@ -66,10 +69,10 @@ fn named_parts(
 /// The parts of the function that lines without a fault are, where their whole has none, liveness left out.
 fn good_parts(alloc: Global, lines: &[Line], before: Before) -> Result<Draft, ReadError>
     requires before { before ≡ before_of lines.now }
-    requires few { length before.names ≤ 40 }
+    requires few { length before.names ≤ NAMES }
     requires named { IsNamed before }
-    requires count { length lines.now ≤ 65536 }
-    requires labels { length before.labels ≤ 65536 }
+    requires count { length lines.now ≤ TEXT }
+    requires labels { length before.labels ≤ TEXT }
     ensures good { IfOk result (λ d. shape_fault lines.now ≡ None) }
     ensures parts { IfOk result (λ d. ArePartsOf lines.now d.name d.params d.names d.blocks) }
     ensures bad { IfErr result (Tells (λ line fault. shape_fault lines.now ≡ Some (line, fault))) }

@@ -7,10 +7,10 @@ ghost use Rattle.un_reader.specs.Before.{labels_of};
 ghost use Rattle.un_reader.specs.TextFaults.{is_block, term_of, last_block, ends_well, falls_off, target_of, target_on, jumps_outside, is_entry, jumps_to_entry, value_on_term, value_on, first_value, returns_else, mixed_return, shape_fault};
 
 use crate::fault::Fault;
-use crate::forms::is_text;
-use crate::line::{Line, TermLine};
 use crate::line_fault::has_label;
 use un_base::name::Name;
+use un_words::forms::is_text;
+use un_words::line::{Line, TermLine};
 
 /// Whether it is a block line.
 pub fn is_block(line: &Line) -> bool

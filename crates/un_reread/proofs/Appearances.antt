@@ -5,11 +5,9 @@ use Rattle.std.proofs.lemmas.List.{map_push, ext_get_or}
 use Rattle.std.proofs.lemmas.List.Elements.{All-nil, All-cons, All-head, All-tail, All-push}
 use Rattle.std.proofs.lemmas.List.FromFn.{length-map-range_with_len, get_or-map-range_with_len, get_or-range_with_len, length-range_with_len}
 use Rattle.std.proofs.lemmas.Bool.Decides.{nat_tests}
-use Rattle.un_base.specs.declared.ids.NameId.{NameId}
-use Rattle.un_ir.specs.declared.function.Kind.TheVariants.{General}
+use Rattle.un_reader.specs.Vocabulary.{NameId, General, Spelled}
 use Rattle.un_ir.specs.Text.{Names}
 use Rattle.un_ir.specs.Names.{see}
-use Rattle.un_reader.specs.Tokens.{Spelled}
 use Rattle.un_reader.specs.Before.{same_name, add_name, numbered}
 use Rattle.un_reread.specs.Printed.{spelled_at}
 use Rattle.un_reread.proofs.Spelling.{AreDistinct, IsPlace, at_place, spelled_is, same_places}

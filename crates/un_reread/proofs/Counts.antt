@@ -5,17 +5,10 @@ use Rattle.std.proofs.lemmas.List.{length-append}
 use Rattle.std.proofs.lemmas.List.Elements.{filter_map-append}
 use Rattle.std.proofs.lemmas.List.Sums.{sum_by-append, sum_by-cons}
 use Rattle.std.proofs.lemmas.Grind.{flat_map-append, fold-append}
-use Rattle.un_ir.specs.declared.function.SrcOp.{SrcOp}
-use Rattle.un_ir.specs.declared.function.Term.{Term}
-use Rattle.un_ir.specs.declared.function.Term.TheVariants.{Fall, Jump as JumpTo, Branch as BranchTo, Ret as Return}
-use Rattle.un_ir.specs.declared.function.Block.{Block as SourceBlock}
+use Rattle.un_reader.specs.Vocabulary.{SrcOp, Term, Fall, JumpTo, BranchTo, Return, SourceBlock, OpLine, Number, Line, Block, Operation, Spelled}
 use Rattle.un_ir.specs.Text.{Names}
-use Rattle.un_reader.specs.declared.line.OpLine.{OpLine}
-use Rattle.un_reader.specs.declared.token.Number.{Number}
-use Rattle.un_reader.specs.declared.line.Line.{Line}
-use Rattle.un_reader.specs.declared.line.Line.TheVariants.{Block, Operation}
-use Rattle.un_reader.specs.Tokens.{Spelled}
-use Rattle.un_reader.specs.Before.{same_name, add_name, numbered, names_on, names_of, label_on, labels_of, is_operation}
+use Rattle.un_reader.specs.Before.{same_name, add_name, numbered, names_of, label_on, labels_of, is_operation}
+use Rattle.un_words.specs.LineNames.{names_on}
 use Rattle.un_reread.specs.Printed.{op_as_line, term_as_lines}
 use Rattle.un_reread.proofs.Labels.{op_lines, body_lines, lines_of}
 

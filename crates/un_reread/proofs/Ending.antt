@@ -5,15 +5,9 @@ use Rattle.std.specs.Option.{option_and_then}
 use Rattle.std.proofs.lemmas.List.{length-append}
 use Rattle.std.proofs.lemmas.List.Elements.{All-nil, All-cons, All-head, All-tail, All-append}
 use Rattle.std.proofs.lemmas.Grind.{flat_map-append}
-use Rattle.un_base.specs.declared.ids.NameId.{NameId}
-use Rattle.un_ir.specs.declared.function.SrcOp.{SrcOp}
-use Rattle.un_ir.specs.declared.function.Term.{Term}
-use Rattle.un_ir.specs.declared.function.Term.TheVariants.{Fall, Jump as JumpTo, Branch as BranchTo, Ret as Return}
-use Rattle.un_ir.specs.declared.function.Block.{Block as SourceBlock}
+use Rattle.un_reader.specs.Vocabulary.{NameId, SrcOp, Term, Fall, BranchTo, SourceBlock, Line, Func, Block}
 use Rattle.un_ir.specs.Text.{Names}
 use Rattle.un_ir.specs.WellFormed.{IsWellFormed, LeadsInside}
-use Rattle.un_reader.specs.declared.line.Line.{Line}
-use Rattle.un_reader.specs.declared.line.Line.TheVariants.{Func, Block}
 use Rattle.un_reader.specs.TextFaults.{is_block, term_of, later_block, last_block, ends_well, falls_off}
 use Rattle.un_reread.specs.Printed.{spelled_at, term_as_lines, block_as_lines, printed_lines}
 use Rattle.un_reread.proofs.Rebuilt.{term_behind}
@@ -84,15 +78,12 @@ inside_ops names (o ∷ ops) = All-cons IsInside _ (op_lines names ops) refl (in
 
 inside_term : (blocks : List SourceBlock) (names : Names) (term : Term) → All IsInside (term_as_lines blocks names term)
 inside_term blocks names Fall = All-nil IsInside
-inside_term blocks names (JumpTo to) = All-cons IsInside _ [] refl (All-nil IsInside)
-inside_term blocks names (BranchTo pred sense to) = All-cons IsInside _ [] refl (All-nil IsInside)
-inside_term blocks names (Return value) = All-cons IsInside _ [] refl (All-nil IsInside)
+inside_term blocks names _ = All-cons IsInside _ [] refl (All-nil IsInside)
 
 ends : (blocks : List SourceBlock) (names : Names) (b : ℕ) (term : Term) → length blocks ≡ b + 1 → LeadsInside blocks b term → ends_well (term_of (term_as_lines blocks names term)) ≡ true
 ends blocks names b Fall count h = let t = All-head (λ (c : ℕ). (0 < c) × (c < length blocks)) (b + 1) [] h in absurd (omega arith)
-ends blocks names b (JumpTo to) count h = refl
 ends blocks names b (BranchTo pred sense to) count h = let t = All-head (λ (c : ℕ). (0 < c) × (c < length blocks)) (b + 1) (to.0 ∷ []) h in absurd (omega arith)
-ends blocks names b (Return value) count h = refl
+ends blocks names b _ count h = refl
 
 -- the last block does not fall off the end
 pub none_falls : (name : List ℕ) (params : List NameId) (names : Names) (blocks : List SourceBlock) → IsWellFormed name params names blocks

@@ -4,13 +4,12 @@ use Rattle.std.specs.List.{All, list_all}
 use Rattle.std.proofs.lemmas.List.{take-map}
 use Rattle.std.proofs.lemmas.Option.{slice_get-get_or}
 use Rattle.un_reader.specs.declared.fault.Fault.TheVariants.{BadByte}
-use Rattle.un_reader.specs.declared.line.Line.{Line}
-use Rattle.un_reader.specs.declared.line.Line.TheVariants.{Blank}
+use Rattle.un_reader.specs.Vocabulary.{Line, Blank}
 use Rattle.un_reader.specs.Before.{before_of}
-use Rattle.un_reader.specs.LineFaults.{is_plain_byte, faults_on, first_of, shaped_fault, line_of, fault_at}
+use Rattle.un_reader.specs.LineFaults.{is_plain_byte, faults_on, first_of, shaped_fault, fault_at}
 use Rattle.un_reader.specs.Lines.{HasNoLineFault}
-use Rattle.un_reader.specs.Shapes.{shape_of}
-use Rattle.un_reader.specs.Tokens.{tokens_of}
+use Rattle.un_words.specs.Shapes.{shape_of, line_of}
+use Rattle.un_words.specs.Tokens.{tokens_of}
 
 -- each text has the shape of its line
 abbrev pub AreReadAs : List (List ℕ) → List Line → Type 0

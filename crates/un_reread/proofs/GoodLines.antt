@@ -5,18 +5,10 @@ use Rattle.std.specs.Option.{option_map}
 use Rattle.std.proofs.lemmas.List.{length-map}
 use Rattle.std.proofs.lemmas.List.Elements.{All-nil, All-cons, All-map, All-append, All-weaker}
 use Rattle.std.proofs.lemmas.Bool.Decides.{nat_tests}
-use Rattle.un_base.specs.declared.ids.NameId.{NameId}
-use Rattle.un_ir.specs.declared.function.Kind.TheVariants.{General, Pred}
-use Rattle.un_ir.specs.declared.function.SrcOp.{SrcOp}
-use Rattle.un_ir.specs.declared.function.Term.{Term}
-use Rattle.un_ir.specs.declared.function.Term.TheVariants.{Fall, Jump as JumpTo, Branch as BranchTo, Ret as Return}
-use Rattle.un_ir.specs.declared.function.Block.{Block as SourceBlock}
+use Rattle.un_reader.specs.Vocabulary.{NameId, General, Pred, SrcOp, Term, Fall, JumpTo, BranchTo, Return, SourceBlock, Jump, Branch, Ret, Line, Func, Block, Operation, Terminator}
 use Rattle.un_ir.specs.declared.function.TheConstants.{FREQUENCY, PARAMS}
 use Rattle.un_ir.specs.Text.{Names, label_of}
 use Rattle.un_ir.specs.WellFormed.{IsWellFormed, IsGoodOp, IsGoodBlock, TestsItsKind}
-use Rattle.un_reader.specs.declared.line.TermLine.TheVariants.{Jump, Branch, Ret}
-use Rattle.un_reader.specs.declared.line.Line.{Line}
-use Rattle.un_reader.specs.declared.line.Line.TheVariants.{Func, Block, Operation, Terminator}
 use Rattle.un_reader.specs.LineFaults.{is_predicate, operands_clash, result_clashes, has_clash, is_wide, freq_fits, has_bad_freq, literal_fits}
 use Rattle.un_reread.specs.Printed.{spelled_at, as_number, op_as_line, term_as_lines, block_as_lines, printed_lines}
 use Rattle.un_reread.proofs.Lists.{all_of_flat}

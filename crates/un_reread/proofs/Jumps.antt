@@ -7,11 +7,8 @@ use Rattle.std.proofs.lemmas.List.{length-map}
 use Rattle.std.proofs.lemmas.List.Elements.{All-head, All-tail}
 use Rattle.std.proofs.lemmas.List.Sums.{position_or_len_is}
 use Rattle.std.proofs.lemmas.List.Folds.{list_any_at, list_any_none}
-use Rattle.un_base.specs.declared.ids.NameId.{NameId}
-use Rattle.un_base.specs.declared.ids.BlockId.{BlockId}
-use Rattle.un_ir.specs.declared.function.Term.{Term}
-use Rattle.un_ir.specs.declared.function.Term.TheVariants.{Fall, Jump as JumpTo, Branch as BranchTo, Ret as Return}
-use Rattle.un_ir.specs.declared.function.Block.{Block as SourceBlock}
+use Rattle.std.proofs.lemmas.Bool.{false_from_ne_true}
+use Rattle.un_reader.specs.Vocabulary.{NameId, BlockId, Term, Fall, JumpTo, BranchTo, Return, SourceBlock}
 use Rattle.un_ir.specs.Text.{Names, label_of}
 use Rattle.un_ir.specs.WellFormed.{IsWellFormed, LeadsInside}
 use Rattle.un_reader.specs.TextFaults.{is_entry}
@@ -38,11 +35,7 @@ own_text : (a : List ℕ) → bytes_eq a a ≡ true
 own_text a = (bytes_eq-Decides a a).1 refl
 
 pub other_text : (a b : List ℕ) → a ≢ b → bytes_eq a b ≡ false
-other_text a b h = by (bytes_eq a b) refl
-  where
-    by : (v : Bool) → bytes_eq a b ≡ v → v ≡ false
-    by true e = absurd (h ((bytes_eq-Decides a b).0 e))
-    by false e = refl
+other_text a b h = false_from_ne_true (bytes_eq a b) (λ e. h ((bytes_eq-Decides a b).0 e))
 
 place_of : (texts : List (List ℕ)) → AreOnce texts → (k : ℕ) → k < length texts → position_or_len (bytes_eq (get_or texts k [])) texts ≡ k
 place_of texts once k h =
@@ -87,12 +80,11 @@ GoesInside count (BranchTo pred sense to) = (0 < to.0) × (to.0 < count)
 GoesInside count (Return value) = Unit {0}
 
 goes_inside : (blocks : List SourceBlock) (b : ℕ) (term : Term) → LeadsInside blocks b term → GoesInside (length blocks) term
-goes_inside blocks b Fall h = tt
 goes_inside blocks b (JumpTo to) h = All-head (λ (c : ℕ). (0 < c) × (c < length blocks)) to.0 [] h
 goes_inside blocks b (BranchTo pred sense to) h =
     All-head (λ (c : ℕ). (0 < c) × (c < length blocks)) to.0 []
     (All-tail (λ (c : ℕ). (0 < c) × (c < length blocks)) (b + 1) (to.0 ∷ []) h)
-goes_inside blocks b (Return value) h = tt
+goes_inside blocks b _ h = tt
 
 pub go_inside : (name : List ℕ) (params : List NameId) (names : Names) (blocks : List SourceBlock) → IsWellFormed name params names blocks
     → All (λ (b : SourceBlock). GoesInside (length blocks) b.term) blocks

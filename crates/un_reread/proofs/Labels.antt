@@ -5,18 +5,12 @@ use Rattle.std.specs.Option.{option_map, option_to_list}
 use Rattle.std.proofs.lemmas.List.{map-append}
 use Rattle.std.proofs.lemmas.List.Elements.{filter_map-append}
 use Rattle.std.proofs.lemmas.Grind.{flat_map-append}
-use Rattle.un_base.specs.declared.ids.NameId.{NameId}
-use Rattle.un_ir.specs.declared.function.SrcOp.{SrcOp}
-use Rattle.un_ir.specs.declared.function.Term.{Term}
-use Rattle.un_ir.specs.declared.function.Term.TheVariants.{Fall, Jump as JumpTo, Branch as BranchTo, Ret as Return}
-use Rattle.un_ir.specs.declared.function.Block.{Block as SourceBlock}
+use Rattle.un_reader.specs.Vocabulary.{NameId, SrcOp, Term, Fall, JumpTo, BranchTo, Return, SourceBlock, Line, Operation, Spelled}
 use Rattle.un_ir.specs.Live.{read_by_term}
 use Rattle.un_ir.specs.Names.{names_on_op, names_in_block, appearances}
 use Rattle.un_ir.specs.Text.{Names}
-use Rattle.un_reader.specs.declared.line.Line.{Line}
-use Rattle.un_reader.specs.declared.line.Line.TheVariants.{Operation}
-use Rattle.un_reader.specs.Tokens.{Spelled}
-use Rattle.un_reader.specs.Before.{names_on, label_on, labels_of, name_of}
+use Rattle.un_reader.specs.Before.{label_on, labels_of, name_of}
+use Rattle.un_words.specs.LineNames.{names_on}
 use Rattle.un_reader.specs.Functions.{params_of}
 use Rattle.un_reread.specs.Printed.{spelled_at, op_as_line, term_as_lines, block_as_lines, printed_lines}
 
@@ -49,11 +43,8 @@ names_of_ops names (o ∷ ops) =
     ∙ sym (map-append (spelled_at names) (names_on_op o) (flat_map names_on_op ops))
 
 names_of_term : (blocks : List SourceBlock) (names : Names) (term : Term) → flat_map names_on (term_as_lines blocks names term) ≡ map (spelled_at names) (read_by_term term)
-names_of_term blocks names Fall = refl
-names_of_term blocks names (JumpTo to) = refl
-names_of_term blocks names (BranchTo pred sense to) = refl
-names_of_term blocks names (Return None) = refl
 names_of_term blocks names (Return (Some name)) = refl
+names_of_term blocks names _ = refl
 
 names_of_body : (blocks : List SourceBlock) (names : Names) (block : SourceBlock) → flat_map names_on (body_lines blocks names block) ≡ map (spelled_at names) (names_in_block block)
 names_of_body blocks names block =
@@ -102,17 +93,15 @@ labels_of_blocks blocks names (block ∷ some) =
     ∙ ap (λ (l : List (List ℕ)). (block.label ∷ l) ++ labels_of (lines_of blocks names some)) (labels_of_body blocks names block)
     ∙ ap (λ (l : List (List ℕ)). block.label ∷ l) (labels_of_blocks blocks names some)
 
--- the labels on the lines are the blocks'
-pub labels_back : (name : List ℕ) (params : List NameId) (names : Names) (blocks : List SourceBlock)
-    → labels_of (printed_lines name params names blocks) ≡ map (λ (b : SourceBlock). b.label) blocks
-labels_back name params names blocks = labels_of_blocks blocks names blocks
+module _ (name : List ℕ) (params : List NameId) (names : Names) (blocks : List SourceBlock) where
+  -- the labels on the lines are the blocks'
+  pub labels_back : labels_of (printed_lines name params names blocks) ≡ map (λ (b : SourceBlock). b.label) blocks
+  labels_back = labels_of_blocks blocks names blocks
 
--- ---- the first line
+  -- ---- the first line
 
-pub name_back : (name : List ℕ) (params : List NameId) (names : Names) (blocks : List SourceBlock)
-    → name_of (printed_lines name params names blocks) ≡ Some name
-name_back name params names blocks = refl
+  pub name_back : name_of (printed_lines name params names blocks) ≡ Some name
+  name_back = refl
 
-pub params_back : (name : List ℕ) (params : List NameId) (names : Names) (blocks : List SourceBlock)
-    → params_of (printed_lines name params names blocks) ≡ map (spelled_at names) params
-params_back name params names blocks = refl
+  pub params_back : params_of (printed_lines name params names blocks) ≡ map (spelled_at names) params
+  params_back = refl

@@ -5,17 +5,13 @@ use Rattle.std.specs.Str.{bytes_eq}
 use Rattle.std.proofs.lemmas.List.{length-map}
 use Rattle.std.proofs.lemmas.List.Elements.{All-head}
 use Rattle.std.proofs.lemmas.Bool.Decides.{nat_tests}
-use Rattle.un_base.specs.declared.ids.NameId.{NameId}
-use Rattle.un_ir.specs.declared.function.Block.{Block as SourceBlock}
+use Rattle.un_reader.specs.Vocabulary.{NameId, SourceBlock, Number, OpLine, Line, Blank, Func, Block, Operation, Terminator}
 use Rattle.un_ir.specs.declared.function.TheConstants.{BLOCKS, OPS, NAMES}
 use Rattle.un_ir.specs.Text.{Names}
 use Rattle.un_ir.specs.WellFormed.{IsWellFormed}
-use Rattle.un_reader.specs.declared.token.Number.{Number}
-use Rattle.un_reader.specs.declared.line.OpLine.{OpLine}
-use Rattle.un_reader.specs.declared.line.Line.{Line}
-use Rattle.un_reader.specs.declared.line.Line.TheVariants.{Blank, Func, Block, Operation, Terminator}
 use Rattle.un_reader.specs.declared.before.Before.{Before}
-use Rattle.un_reader.specs.Before.{numbered, names_on, names_of, labels_of, is_operation, ended_after, before_of}
+use Rattle.un_reader.specs.Before.{numbered, names_of, labels_of, is_operation, ended_after, before_of}
+use Rattle.un_words.specs.LineNames.{names_on}
 use Rattle.un_reader.specs.LineFaults.{is_misplaced, has_clash, is_over_limit, has_too_many, is_wide, has_bad_freq, repeats_label, is_before_block, is_after_end, faults_on, first_of}
 use Rattle.un_reread.specs.Printed.{spelled_at, printed_lines}
 use Rattle.un_reread.proofs.Lists.{all_parts, around}

@@ -3,12 +3,11 @@ use Rattle.std.proofs.Common.{◌≡◌, ℕ, ◌<◌, ◌≤◌, ◌==◌, Bool
 use Rattle.std.specs.List.{list_all}
 use Rattle.std.proofs.lemmas.Bool.Decides.{nat_tests}
 use Rattle.un_base.specs.Names.{is_first, is_rest}
-use Rattle.un_ir.specs.declared.function.Kind.{Kind}
-use Rattle.un_ir.specs.declared.function.Kind.TheVariants.{General, Pred}
+use Rattle.un_reader.specs.Vocabulary.{Kind, General, Pred}
 use Rattle.un_ir.specs.Text.{with_sigil}
 use Rattle.un_ir.specs.WellFormed.{IsName}
-use Rattle.un_reader.specs.declared.token.Token.TheVariants.{Named, Negated, Word}
-use Rattle.un_reader.specs.Words.{is_inner}
+use Rattle.un_words.specs.declared.token.Token.TheVariants.{Named, Negated, Word}
+use Rattle.un_words.specs.Words.{is_inner}
 use Rattle.un_reread.proofs.Bytes.{is_clean_byte, IsClean}
 use Rattle.un_reread.proofs.WordsOf.{Says}
 

@@ -1,12 +1,10 @@
 -- The words of the names of a function.
 use Rattle.std.proofs.Common.{◌≡◌, ℕ, List, [], ◌∷◌, Option, Some, None, slice_get, unwrap_or, option_map, refl, subst, All}
 use Rattle.std.proofs.lemmas.Option.{slice_get_within, get_or_from_slice_get}
-use Rattle.un_base.specs.declared.ids.NameId.{NameId}
-use Rattle.un_ir.specs.declared.function.Kind.{Kind}
-use Rattle.un_ir.specs.declared.function.Kind.TheVariants.{General}
+use Rattle.un_reader.specs.Vocabulary.{NameId, Kind, General}
 use Rattle.un_ir.specs.Text.{Names, name_text, spelled}
 use Rattle.un_ir.specs.WellFormed.{IsName, IsOfKind}
-use Rattle.un_reader.specs.declared.token.Token.TheVariants.{Named, Negated}
+use Rattle.un_words.specs.declared.token.Token.TheVariants.{Named, Negated}
 use Rattle.un_reread.specs.Printed.{spelled_at}
 use Rattle.un_reread.proofs.WordsOf.{Says}
 use Rattle.un_reread.proofs.NameWords.{name_says, negated_says}

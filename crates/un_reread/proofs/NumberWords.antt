@@ -9,9 +9,9 @@ use Rattle.std.proofs.lemmas.Bool.Decides.{nat_tests}
 use Rattle.std.proofs.lemmas.Str.Parse.{IsNumeralModel, numerals_by_fold}
 use Rattle.un_base.specs.Names.{is_first, is_rest, is_name}
 use Rattle.un_base.specs.Decimals.{value_after, value_of}
-use Rattle.un_reader.specs.declared.token.Token.TheVariants.{Literal, Plain}
-use Rattle.un_reader.specs.Words.{is_inner}
-use Rattle.un_reader.specs.Tokens.{digits_of, number_of}
+use Rattle.un_words.specs.declared.token.Token.TheVariants.{Literal, Plain}
+use Rattle.un_words.specs.Words.{is_inner}
+use Rattle.un_words.specs.Tokens.{digits_of, number_of}
 use Rattle.un_reread.specs.Printed.{as_number}
 use Rattle.un_reread.proofs.Bytes.{is_clean_byte, IsClean}
 use Rattle.un_reread.proofs.WordsOf.{Says}

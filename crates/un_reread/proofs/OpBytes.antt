@@ -1,10 +1,9 @@
 -- The bytes of the line of an operation.
 use Rattle.std.proofs.Common.{ℕ, ◌+◌, ◌*◌, ◌≤◌, List, [], ◌∷◌, ◌++◌, map, length, codes, Option, Some, None, IfSome, refl, arith}
-use Rattle.un_base.specs.declared.ids.NameId.{NameId}
-use Rattle.un_ir.specs.declared.function.SrcOp.{SrcOp}
-use Rattle.un_ir.specs.Text.{Names, name_text, result_text, comma_joined, mnemonic, spaced, callee_text, operand_texts, op_line}
+use Rattle.un_reader.specs.Vocabulary.{NameId, SrcOp, Token}
+use Rattle.un_isa.specs.Facts.{source_name}
+use Rattle.un_ir.specs.Text.{Names, name_text, result_text, comma_joined, spaced, callee_text, operand_texts, op_line}
 use Rattle.un_ir.specs.WellFormed.{IsName}
-use Rattle.un_reader.specs.declared.token.Token.{Token}
 use Rattle.un_reread.proofs.Neat.{IsNeat, neat_append, neat_more}
 use Rattle.un_reread.proofs.WordsOf.{AllSay}
 use Rattle.un_reread.proofs.NameWords.{word_says}
@@ -44,14 +43,14 @@ result_neat names (Some name) all kind =
     neat_append 34 3 (name_text names name) (codes " = ") (name_at_says names kind.0 name all kind.1).neat mark
 
 -- the line of an operation with these operands
-pub op_neat : (names : Names) (o : SrcOp) (operands : List Token) → AreNames names → IsName (mnemonic o.op) → length (mnemonic o.op) ≤ 6
+pub op_neat : (names : Names) (o : SrcOp) (operands : List Token) → AreNames names → IsName (source_name o.op) → length (source_name o.op) ≤ 6
     → AllSay (operand_texts o.op o (map (name_text names) o.srcs)) operands → length operands ≤ 6 → IfSome o.dst (IsOfSomeKind names) → IfSome o.callee IsName
     → IsNeat 300 (op_line names o)
 op_neat names o operands all named brief says few kind callee =
     let words : List (List ℕ) = operand_texts o.op o (map (name_text names) o.srcs) in
     let indent : IsNeat 2 (codes "  ") = record { clean = refl; short = omega arith } in
-    let word : IsNeat 6 (mnemonic o.op) = record { clean = (word_says (mnemonic o.op) named).neat.clean; short = brief } in
+    let word : IsNeat 6 (source_name o.op) = record { clean = (word_says (source_name o.op) named).neat.clean; short = brief } in
     let last = neat_append 35 217 (callee_text o.callee) (spaced words) (callee_neat o.callee callee) (spaced_neat words operands says few) in
-    let more = neat_append 6 252 (mnemonic o.op) (callee_text o.callee ++ spaced words) word last in
-    let rest = neat_append 37 258 (result_text names o.dst) (mnemonic o.op ++ (callee_text o.callee ++ spaced words)) (result_neat names o.dst all kind) more in
-    neat_more 297 300 (op_line names o) (omega arith) (neat_append 2 295 (codes "  ") (result_text names o.dst ++ (mnemonic o.op ++ (callee_text o.callee ++ spaced words))) indent rest)
+    let more = neat_append 6 252 (source_name o.op) (callee_text o.callee ++ spaced words) word last in
+    let rest = neat_append 37 258 (result_text names o.dst) (source_name o.op ++ (callee_text o.callee ++ spaced words)) (result_neat names o.dst all kind) more in
+    neat_more 297 300 (op_line names o) (omega arith) (neat_append 2 295 (codes "  ") (result_text names o.dst ++ (source_name o.op ++ (callee_text o.callee ++ spaced words))) indent rest)

@@ -1,120 +1,129 @@
--- What is read of the line of an operation, by the form of its operands.
-use Rattle.std.proofs.Common.{◌++◌, ◌≡◌, ℕ, ℤ, pos, negsuc, ◌^◌, ◌<◌, true, List, [], ◌∷◌, map, Option, Some, None, unsigned_abs, sym, ap, arith, subst, leb→le}
-use Rattle.un_base.specs.declared.ids.NameId.{NameId}
-use Rattle.un_isa.specs.Operands.{IsSigned16, IsSigned10, IsUnsigned5, IsOffset}
-use Rattle.un_isa.specs.declared.op.Op.{Op}
-use Rattle.un_ir.specs.declared.function.Kind.{Kind}
-use Rattle.un_ir.specs.declared.function.SrcOp.{SrcOp}
-use Rattle.un_ir.specs.Names.{kind_of}
-use Rattle.un_ir.specs.Text.{literal_text, Names, name_text, mnemonic, operand_texts}
-use Rattle.un_ir.specs.WellFormed.{IsOfKind}
-use Rattle.un_reader.specs.declared.token.Number.{Number}
-use Rattle.un_reader.specs.declared.token.Token.{Token}
-use Rattle.un_reader.specs.declared.token.Token.TheVariants.{Literal, Comma, Named, Word}
-use Rattle.un_reader.specs.Tokens.{Spelled}
-use Rattle.un_reader.specs.Shapes.{result_fits, operands_fit, callee_of, zero_number}
-use Rattle.un_reread.specs.Printed.{as_number, spelled_at}
-use Rattle.un_reread.proofs.WordsOf.{AllSay}
-use Rattle.un_reread.proofs.NamesAt.{AreNames, name_at_says}
-use Rattle.un_reread.proofs.NumberWords.{literal_says}
-use Rattle.un_reread.proofs.OpShapes.{HasWord, IsRead, fits_read}
+-- What is read of operands that are printed with commas between them, and with a literal at its place.
+use Rattle.std.proofs.Common.{◌≡◌, ℕ, ◌+◌, ◌≤◌, ◌++◌, true, List, [], ◌∷◌, map, length, Option, Some, None, refl, ap, arith}
+use Rattle.std.proofs.lemmas.Bool.{or_right}
+use Rattle.un_isa.specs.declared.reg.Space.{Space}
+use Rattle.un_isa.specs.declared.facts.Range.{Range}
+use Rattle.un_isa.specs.declared.facts.Range.TheVariants.{Offset}
+use Rattle.un_ir.specs.Text.{with_literal}
+use Rattle.un_reader.specs.Vocabulary.{Number, Token, Spelled}
+use Rattle.un_words.specs.declared.token.Token.TheVariants.{Named, Literal}
+use Rattle.un_words.specs.declared.slot.Slot.{Slot}
+use Rattle.un_words.specs.declared.slot.Slot.TheVariants.{Literal as LiteralSlot}
+use Rattle.std.specs.List.{cons_option}
+use Rattle.un_words.specs.Shapes.{alternate, is_list, name_in, names_at, literal_or, literal_at, zero_number, have_forms, separated, slots_by}
+use Rattle.un_words.proofs.SlotFacts.{AreFormed, formed_fit, places}
+use Rattle.un_reread.proofs.WordsOf.{Says, AllSay}
+use Rattle.un_reread.proofs.OpTokens.{joined}
 
-abbrev pub operation : Op → Option NameId → List NameId → ℤ → Option (List ℕ) → SrcOp
-operation op dst srcs imm callee = record { op = op; dst = dst; srcs = srcs; imm = imm; callee = callee }
+-- ---- words
 
--- ---- literals
+says_last : (words : List (List ℕ)) (ts : List Token) (word : List ℕ) (t : Token) → AllSay words ts → Says word t → AllSay (words ++ word ∷ []) (ts ++ t ∷ [])
+says_last [] [] word t says last = (last, tt)
+says_last [] (u ∷ ts) word t says last = absurd says
+says_last (x ∷ words) [] word t says last = absurd says
+says_last (x ∷ words) (u ∷ ts) word t says last = (says.0, says_last words ts word t says.1 last)
 
-pub signed16_small : (n : ℤ) → IsSigned16 n → unsigned_abs n < 2 ^ 32
-signed16_small (pos n) h = omega (arith, leb→le n 32767 h.1.le)
-signed16_small (negsuc n) h = omega (arith, leb→le n 32767 h.0.le)
+pub says_literal : (literal : Option Range) (words : List (List ℕ)) (ts : List Token) (word : List ℕ) (t : Token) → AllSay words ts → Says word t
+    → AllSay (with_literal literal word words) (with_literal literal t ts)
+says_literal None words ts word t says last = says
+says_literal (Some Offset) [] [] word t says last = (last, tt)
+says_literal (Some Offset) [] (u ∷ ts) word t says last = absurd says
+says_literal (Some Offset) (x ∷ words) [] word t says last = absurd says
+says_literal (Some Offset) (x ∷ words) (u ∷ ts) word t says last = (says.0, (last, says.1))
+says_literal (Some _) words ts word t says last = says_last words ts word t says last
 
-pub signed10_small : (n : ℤ) → IsSigned10 n → unsigned_abs n < 2 ^ 32
-signed10_small (pos n) h = omega (arith, leb→le n 511 h.1.le)
-signed10_small (negsuc n) h = omega (arith, leb→le n 511 h.0.le)
+-- ---- forms
 
-pub unsigned5_small : (n : ℤ) → IsUnsigned5 n → unsigned_abs n < 2 ^ 32
-unsigned5_small (pos n) h = omega (arith, leb→le n 31 h.1.le)
-unsigned5_small (negsuc n) h = absurd h.0.le
+formed_last : (slots : List Slot) (ts : List Token) (n : Number) → AreFormed slots ts → AreFormed (slots ++ LiteralSlot ∷ []) (ts ++ Literal n ∷ [])
+formed_last [] [] n f = (refl, tt)
+formed_last [] (t ∷ ts) n f = absurd f
+formed_last (s ∷ slots) [] n f = absurd f
+formed_last (s ∷ slots) (t ∷ ts) n f = (f.0, formed_last slots ts n f.1)
 
-pub offset_small : (n : ℤ) → IsOffset n → unsigned_abs n < 2 ^ 32
-offset_small (pos n) h = omega (arith, leb→le n 4092 h.1.le)
-offset_small (negsuc n) h = omega (arith, leb→le n 4095 h.0.le)
+formed_literal : (literal : Option Range) (slots : List Slot) (ts : List Token) (n : Number) → AreFormed slots ts
+    → AreFormed (with_literal literal LiteralSlot slots) (with_literal literal (Literal n) ts)
+formed_literal None slots ts n f = f
+formed_literal (Some Offset) [] [] n f = (refl, tt)
+formed_literal (Some Offset) [] (t ∷ ts) n f = absurd f
+formed_literal (Some Offset) (s ∷ slots) [] n f = absurd f
+formed_literal (Some Offset) (s ∷ slots) (t ∷ ts) n f = (f.0, (refl, f.1))
+formed_literal (Some _) slots ts n f = formed_last slots ts n f
 
--- ---- two names
+formed_joined : (slots : List Slot) (ts : List Token) → AreFormed slots ts → AreFormed (separated slots) (joined ts)
+formed_joined [] [] f = tt
+formed_joined [] (t ∷ ts) f = absurd f
+formed_joined (s ∷ slots) [] f = absurd f
+formed_joined (s ∷ []) (t ∷ []) f = f
+formed_joined (s ∷ []) (t ∷ u ∷ ts) f = absurd f.1
+formed_joined (s ∷ r ∷ slots) (t ∷ []) f = absurd f.1
+formed_joined (s ∷ r ∷ slots) (t ∷ u ∷ ts) f = (f.0, (refl, formed_joined (r ∷ slots) (u ∷ ts) f.1))
 
--- an operation with two names and no literal
-pub record TakesTwo (op : Op) : Type 0 where
-  pub word : HasWord op
-  pub texts : (o : SrcOp) (xs : List (List ℕ)) → operand_texts op o xs ≡ xs
-  pub result : (d : Spelled) → result_fits op (Some d) ≡ true
-  pub forms : (a b : Spelled) → operands_fit op (Word (mnemonic op) ∷ Named a ∷ Comma ∷ Named b ∷ []) ≡ true
-  pub no_callee : (ts : List Token) → callee_of op ts ≡ None
+formed_names : (spaces : List Space) (ns : List Spelled) → length ns ≡ length spaces → AreFormed (places spaces) (map Named ns)
+formed_names [] [] e = tt
+formed_names [] (a ∷ ns) e = absurd (omega arith)
+formed_names (s ∷ spaces) [] e = absurd (omega arith)
+formed_names (s ∷ spaces) (a ∷ ns) e = (refl, formed_names spaces ns (omega arith))
 
-two_fit : (names : Names) (op : Op) (j k r : Kind) (d a b : NameId) → AreNames names → TakesTwo op → IsOfKind names r d → IsOfKind names j a → IsOfKind names k b
-    → IsRead names (operation op (Some d) (a ∷ b ∷ []) (pos 0) None)
-two_fit names op j k r d a b all takes is_d is_a is_b =
-    fits_read names o (Named (spelled_at names a) ∷ Named (spelled_at names b) ∷ []) all record {
-      word = takes.word;
-      says = subst (λ (xs : List (List ℕ)). AllSay xs (Named (spelled_at names a) ∷ Named (spelled_at names b) ∷ [])) (sym (takes.texts o (name_text names a ∷ name_text names b ∷ []))) (name_at_says names j a all is_a, (name_at_says names k b all is_b, tt));
-      kind = (r, is_d);
-      few = omega arith;
-      callee = tt;
-      result = takes.result (spelled_at names d);
-      forms = takes.forms (spelled_at names a) (spelled_at names b);
-      line = ap (λ (c : Option (List ℕ)). record { op = op; dst = Some (spelled_at names d); srcs = spelled_at names a ∷ spelled_at names b ∷ []; imm = zero_number; callee = c }) (takes.no_callee _);
-    }
-  where
-    o : SrcOp
-    o = operation op (Some d) (a ∷ b ∷ []) (pos 0) None
+pub slots_fit : (spaces : List Space) (literal : Option Range) (ns : List Spelled) (n : Number) → length ns ≡ length spaces
+    → have_forms (slots_by spaces literal) (joined (with_literal literal (Literal n) (map Named ns))) ≡ true
+slots_fit spaces literal ns n e =
+    formed_fit (slots_by spaces literal) (joined (with_literal literal (Literal n) (map Named ns)))
+    (formed_joined (with_literal literal LiteralSlot (places spaces)) (with_literal literal (Literal n) (map Named ns))
+    (formed_literal literal (places spaces) (map Named ns) n (formed_names spaces ns e)))
 
--- the operation has a result of this kind
-abbrev pub HasResult : Names → Kind → Option NameId → Type 0
-HasResult names kind None = ⊥
-HasResult names kind (Some name) = IsOfKind names kind name
+in_turn : (a : Spelled) (ns : List Spelled) → alternate true (joined (map Named (a ∷ ns))) ≡ true
+in_turn a [] = refl
+in_turn a (b ∷ ns) = in_turn b ns
 
-pub two_read : (names : Names) (op : Op) (j k r : Kind) (dst : Option NameId) (srcs : List NameId) (imm : ℤ) (callee : Option (List ℕ)) → AreNames names → TakesTwo op
-    → map (kind_of names) srcs ≡ Some j ∷ Some k ∷ [] → HasResult names r dst → imm ≡ pos 0 → callee ≡ None → IsRead names (operation op dst srcs imm callee)
-two_read names op j k r None srcs imm callee all takes kinds result zero none = absurd result
-two_read names op j k r (Some d) [] imm callee all takes kinds result zero none = absurd (cc kinds)
-two_read names op j k r (Some d) (a ∷ []) imm callee all takes kinds result zero none = absurd (cc kinds)
-two_read names op j k r (Some d) (a ∷ b ∷ c ∷ more) imm callee all takes kinds result zero none = absurd (cc kinds)
-two_read names op j k r (Some d) (a ∷ b ∷ []) imm callee all takes kinds result zero none =
-    let is_a : IsOfKind names j a = cc kinds in
-    let is_b : IsOfKind names k b = cc kinds in
-    rw (zero, none) (two_fit names op j k r d a b all takes result is_a is_b)
+pub are_list : (ns : List Spelled) → is_list (joined (map Named ns)) ≡ true
+are_list [] = refl
+are_list (a ∷ ns) = or_right _ _ (in_turn a ns)
 
--- ---- a name and a literal
+-- ---- what stands there
 
--- an operation with a name and a literal
-pub record TakesLiteral (op : Op) : Type 0 where
-  pub word : HasWord op
-  pub texts : (o : SrcOp) (xs : List (List ℕ)) → operand_texts op o xs ≡ xs ++ literal_text o ∷ []
-  pub result : (d : Spelled) → result_fits op (Some d) ≡ true
-  pub forms : (a : Spelled) (n : Number) → operands_fit op (Word (mnemonic op) ∷ Named a ∷ Comma ∷ Literal n ∷ []) ≡ true
-  pub no_callee : (ts : List Token) → callee_of op ts ≡ None
+pub names_joined : (ts : List Token) → names_at (joined ts) ≡ names_at ts
+names_joined [] = refl
+names_joined (t ∷ []) = refl
+names_joined (t ∷ u ∷ ts) = ap (cons_option (name_in t)) (names_joined (u ∷ ts))
 
-literal_fit : (names : Names) (op : Op) (j r : Kind) (d a : NameId) (n : ℤ) → AreNames names → TakesLiteral op → IsOfKind names r d → IsOfKind names j a → unsigned_abs n < 2 ^ 32
-    → IsRead names (operation op (Some d) (a ∷ []) n None)
-literal_fit names op j r d a n all takes is_d is_a small =
-    fits_read names o (Named (spelled_at names a) ∷ Literal (as_number n) ∷ []) all record {
-      word = takes.word;
-      says = subst (λ (xs : List (List ℕ)). AllSay xs (Named (spelled_at names a) ∷ Literal (as_number n) ∷ [])) (sym (takes.texts o (name_text names a ∷ []))) (name_at_says names j a all is_a, (literal_says n small, tt));
-      kind = (r, is_d);
-      few = omega arith;
-      callee = tt;
-      result = takes.result (spelled_at names d);
-      forms = takes.forms (spelled_at names a) (as_number n);
-      line = ap (λ (c : Option (List ℕ)). record { op = op; dst = Some (spelled_at names d); srcs = spelled_at names a ∷ []; imm = as_number n; callee = c }) (takes.no_callee _);
-    }
-  where
-    o : SrcOp
-    o = operation op (Some d) (a ∷ []) n None
+pub literal_joined : (ts : List Token) → literal_at (joined ts) ≡ literal_at ts
+literal_joined [] = refl
+literal_joined (t ∷ []) = refl
+literal_joined (t ∷ u ∷ ts) = ap (λ (n : Number). literal_or n t) (literal_joined (u ∷ ts))
 
-pub literal_read : (names : Names) (op : Op) (j r : Kind) (dst : Option NameId) (srcs : List NameId) (imm : ℤ) (callee : Option (List ℕ)) → AreNames names → TakesLiteral op
-    → map (kind_of names) srcs ≡ Some j ∷ [] → HasResult names r dst → unsigned_abs imm < 2 ^ 32 → callee ≡ None → IsRead names (operation op dst srcs imm callee)
-literal_read names op j r None srcs imm callee all takes kinds result small none = absurd result
-literal_read names op j r (Some d) [] imm callee all takes kinds result small none = absurd (cc kinds)
-literal_read names op j r (Some d) (a ∷ b ∷ more) imm callee all takes kinds result small none = absurd (cc kinds)
-literal_read names op j r (Some d) (a ∷ []) imm callee all takes kinds result small none =
-    let is_a : IsOfKind names j a = cc kinds in
-    rw none (literal_fit names op j r d a imm all takes result is_a small)
+names_back : (ns : List Spelled) → names_at (map Named ns) ≡ ns
+names_back [] = refl
+names_back (a ∷ ns) = ap (λ (rest : List Spelled). a ∷ rest) (names_back ns)
+
+names_last : (ns : List Spelled) (n : Number) → names_at (map Named ns ++ Literal n ∷ []) ≡ ns
+names_last [] n = refl
+names_last (a ∷ ns) n = ap (λ (rest : List Spelled). a ∷ rest) (names_last ns n)
+
+pub names_there : (literal : Option Range) (ns : List Spelled) (n : Number) → names_at (with_literal literal (Literal n) (map Named ns)) ≡ ns
+names_there None ns n = names_back ns
+names_there (Some Offset) [] n = refl
+names_there (Some Offset) (a ∷ ns) n = ap (λ (rest : List Spelled). a ∷ rest) (names_back ns)
+names_there (Some _) ns n = names_last ns n
+
+pub no_literal : (ns : List Spelled) → literal_at (map Named ns) ≡ zero_number
+no_literal [] = refl
+no_literal (a ∷ ns) = no_literal ns
+
+literal_last : (ns : List Spelled) (n : Number) → literal_at (map Named ns ++ Literal n ∷ []) ≡ n
+literal_last [] n = refl
+literal_last (a ∷ ns) n = literal_last ns n
+
+pub literal_there : (range : Range) (ns : List Spelled) (n : Number) → literal_at (with_literal (Some range) (Literal n) (map Named ns)) ≡ n
+literal_there Offset [] n = refl
+literal_there Offset (a ∷ ns) n = refl
+literal_there _ ns n = literal_last ns n
+
+length_last : {X : Type 0} (x : X) (xs : List X) → length (xs ++ x ∷ []) ≤ length xs + 1
+length_last x [] = omega arith
+length_last x (y ∷ xs) = let more = length_last x xs in omega (arith, more)
+
+pub length_literal : {X : Type 0} (literal : Option Range) (x : X) (xs : List X) → length (with_literal literal x xs) ≤ length xs + 1
+length_literal None x xs = omega arith
+length_literal (Some Offset) x [] = omega arith
+length_literal (Some Offset) x (y ∷ xs) = omega arith
+length_literal (Some _) x xs = length_last x xs

@@ -1,137 +1,186 @@
 -- What is read of the line of an operation.
-use Rattle.std.proofs.Common.{◌≡◌, ℕ, ℤ, map, List, [], ◌∷◌, Option, Some, refl, All, arith}
-use Rattle.std.proofs.lemmas.List.Elements.{All-contains, All-cons, All-nil}
-use Rattle.un_base.specs.declared.ids.NameId.{NameId}
+use Rattle.std.proofs.Common.{◌≡◌, ℕ, ℤ, ◌≤◌, ◌++◌, true, List, [], ◌∷◌, map, length, drop, Option, Some, None, option_map, IfSome, if◌then◌else◌, refl, sym, ap, ◌∙◌, arith}
+use Rattle.std.proofs.lemmas.List.{length-map}
+use Rattle.std.proofs.lemmas.List.Elements.{All-head, All-tail}
+use Rattle.un_reader.specs.Vocabulary.{NameId, SrcOp, Number, Token, OpLine, Operation, Spelled}
+use Rattle.un_base.specs.Names.{is_name}
 use Rattle.un_isa.specs.declared.op.Op.{Op}
-use Rattle.un_isa.specs.declared.op.Op.TheVariants.{Imm, Mov, Add, Sub, And, Or, Xor, Addi, Andi, Ori, Mux, CmpEq, CmpGt, CmpGtu, CmpEqi, CmpGti, Mpyi, Asl, Asr, Lsr, Load, Store, Call, Jump, JumpIf, JumpIfNot, Jumpr, Spill, Reload, P2R, R2P, Enter, Leave, Nop}
-use Rattle.un_ir.specs.declared.function.Kind.TheVariants.{General, Pred}
-use Rattle.un_ir.specs.declared.function.SrcOp.{SrcOp}
-use Rattle.un_ir.specs.Text.{Names, op_line, mnemonic}
-use Rattle.un_ir.specs.WellFormed.{IsGoodOp, IsOfText, ReadsItsKinds, AssignsItsKind, HasItsLiteral, NamesItsCallee}
-use Rattle.un_reader.specs.declared.line.Line.TheVariants.{Operation}
-use Rattle.un_reader.specs.Tokens.{tokens_of}
-use Rattle.un_reader.specs.Shapes.{text_ops, op_named, shape_of}
-use Rattle.un_reread.specs.Printed.{op_as_line}
-use Rattle.un_reread.proofs.NamesAt.{AreNames}
-use Rattle.un_reread.proofs.OpForms.{operation, TakesTwo, TakesLiteral, two_read, literal_read, signed16_small, signed10_small, unsigned5_small, offset_small}
+use Rattle.un_isa.specs.declared.op.Op.TheVariants.{Imm, Call}
+use Rattle.un_isa.specs.declared.reg.Space.{Space}
+use Rattle.un_isa.specs.declared.facts.Range.{Range}
+use Rattle.un_isa.specs.Facts.{Operands, Fixed, Arguments, facts_of, fixed_spaces, result_space, literal_range, is_source, source_name}
+use Rattle.un_isa.specs.Operands.{IsLiteralOf}
+use Rattle.un_ir.specs.Names.{kind_of}
+use Rattle.un_ir.specs.Text.{Names, op_line, name_text, literal_text, with_literal}
+use Rattle.un_ir.specs.WellFormed.{IsName, IsOfKind, kind_in, takes_arguments, AreRead, IsAssigned, IsCallee, IsGoodOp}
+use Rattle.un_words.specs.declared.token.Token.TheVariants.{Named, Literal, Word}
+use Rattle.un_words.specs.declared.slot.Head.TheVariants.{Bare}
+use Rattle.un_words.specs.Tokens.{tokens_of}
+use Rattle.un_words.specs.Shapes.{word_at, names_at, literal_at, have_forms, op_named, head_word, slots_by, result_by, is_call_list, shape_of}
+use Rattle.un_reread.specs.Printed.{spelled_at, as_number, op_as_line}
+use Rattle.un_reread.proofs.WordsOf.{AllSay}
+use Rattle.un_reread.proofs.NamesAt.{AreNames, name_at_says}
+use Rattle.un_reread.proofs.NumberWords.{literal_says}
+use Rattle.un_reread.proofs.Literals.{small_abs}
+use Rattle.un_reread.proofs.NameKinds.{same_count}
 use Rattle.un_reread.proofs.Neat.{IsNeat}
-use Rattle.un_reread.proofs.OpShapes.{IsRead}
-use Rattle.un_reread.proofs.OpSingles.{imm_read, mov_read, mux_read, store_read, call_read}
+use Rattle.un_reread.proofs.OpTokens.{joined, callee_tokens, IsOfSomeKind}
+use Rattle.un_reread.proofs.OpShapes.{HasWord, Fits, IsRead, fits_read}
+use Rattle.un_reread.proofs.OpForms.{says_literal, slots_fit, are_list, names_joined, literal_joined, names_there, no_literal, literal_there, length_literal}
 
--- ---- the operations that a text may have
+-- ---- the operation's word
 
--- the operation's word is its own
-abbrev HasOwnWord : Op → Type 0
-HasOwnWord op = op_named (mnemonic op) ≡ Some op
+has_word : (op : Op) → is_source op ≡ true → HasWord op
+has_word op text = record { name = name op text; bare = bare op; own = own op text; brief = brief op }
+  where
+    name : (op : Op) → is_source op ≡ true → is_name (source_name op) ≡ true
+    name Imm h = cc
+    name _ h = cc
 
-all_same : {X Y : Type 0} (f g : X → Y) (xs : List X) → map f xs ≡ map g xs → All (λ (x : X). f x ≡ g x) xs
-all_same f g [] same = All-nil (λ x. f x ≡ g x)
-all_same f g (x ∷ xs) same = All-cons (λ x. f x ≡ g x) x xs (cc same) (all_same f g xs (cc same))
+    bare : (op : Op) → head_word (source_name op) ≡ Bare
+    bare Imm = refl
+    bare _ = refl
 
-own_word : (op : Op) → IsOfText op → HasOwnWord op
-own_word op text = All-contains HasOwnWord text_ops op (all_same (λ (o : Op). op_named (mnemonic o)) Some text_ops refl) text
+    own : (op : Op) → is_source op ≡ true → op_named (source_name op) ≡ Some op
+    own Imm h = cc
+    own _ h = cc
 
--- ---- operations by their form
+    brief : (op : Op) → length (source_name op) ≤ 6
+    brief Imm = omega arith
+    brief _ = omega arith
 
-add_takes : TakesTwo Add
-add_takes = record { word = record { name = refl; bare = refl; own = refl; brief = omega arith }; texts = λ o xs. refl; result = λ d. refl; forms = λ a b. refl; no_callee = λ ts. refl }
+-- ---- what an operation reads and assigns
 
-sub_takes : TakesTwo Sub
-sub_takes = record { word = record { name = refl; bare = refl; own = refl; brief = omega arith }; texts = λ o xs. refl; result = λ d. refl; forms = λ a b. refl; no_callee = λ ts. refl }
+-- there is room for the operands and a literal; a call has no literal
+abbrev HasRoom : Operands → Option Range → Type 0
+HasRoom (Fixed spaces) literal = length spaces ≤ 5
+HasRoom Arguments literal = literal ≡ None
 
-and_takes : TakesTwo And
-and_takes = record { word = record { name = refl; bare = refl; own = refl; brief = omega arith }; texts = λ o xs. refl; result = λ d. refl; forms = λ a b. refl; no_callee = λ ts. refl }
+has_room : (op : Op) → HasRoom (facts_of op).operands (literal_range op)
+has_room Call = refl
+has_room _ = omega arith
 
-or_takes : TakesTwo Or
-or_takes = record { word = record { name = refl; bare = refl; own = refl; brief = omega arith }; texts = λ o xs. refl; result = λ d. refl; forms = λ a b. refl; no_callee = λ ts. refl }
+module _ (names : Names) where
+  abbrev AllSpelled : List NameId → Type 0
+  AllSpelled [] = Unit {0}
+  AllSpelled (name ∷ srcs) = IsOfSomeKind names name × AllSpelled srcs
 
-xor_takes : TakesTwo Xor
-xor_takes = record { word = record { name = refl; bare = refl; own = refl; brief = omega arith }; texts = λ o xs. refl; result = λ d. refl; forms = λ a b. refl; no_callee = λ ts. refl }
+  fixed_spelled : (spaces : List Space) (srcs : List NameId) → map (kind_of names) srcs ≡ map Some (map kind_in spaces) → AllSpelled srcs
+  fixed_spelled spaces [] h = tt
+  fixed_spelled [] (name ∷ srcs) h = absurd (cc h)
+  fixed_spelled (s ∷ spaces) (name ∷ srcs) h = ((kind_in s, cc h), fixed_spelled spaces srcs (cc h))
 
-cmpeq_takes : TakesTwo CmpEq
-cmpeq_takes = record { word = record { name = refl; bare = refl; own = refl; brief = omega arith }; texts = λ o xs. refl; result = λ d. refl; forms = λ a b. refl; no_callee = λ ts. refl }
+  all_spelled : (operands : Operands) (srcs : List NameId) → AreRead names operands srcs → AllSpelled srcs
+  all_spelled (Fixed spaces) srcs h = fixed_spelled spaces srcs h
+  all_spelled Arguments [] h = tt
+  all_spelled Arguments (name ∷ srcs) (words, few) =
+      ((_, All-head (IsOfKind names _) name srcs words), all_spelled Arguments srcs (All-tail (IsOfKind names _) name srcs words, omega arith))
 
-cmpgt_takes : TakesTwo CmpGt
-cmpgt_takes = record { word = record { name = refl; bare = refl; own = refl; brief = omega arith }; texts = λ o xs. refl; result = λ d. refl; forms = λ a b. refl; no_callee = λ ts. refl }
+  names_say : AreNames names → (srcs : List NameId) → AllSpelled srcs → AllSay (map (name_text names) srcs) (map Named (map (spelled_at names) srcs))
+  names_say all [] h = tt
+  names_say all (name ∷ srcs) h = (name_at_says names h.0.0 name all h.0.1, names_say all srcs h.1)
 
-cmpgtu_takes : TakesTwo CmpGtu
-cmpgtu_takes = record { word = record { name = refl; bare = refl; own = refl; brief = omega arith }; texts = λ o xs. refl; result = λ d. refl; forms = λ a b. refl; no_callee = λ ts. refl }
+  few_tokens : (operands : Operands) (literal : Option Range) (srcs : List NameId) (n : Number) → HasRoom operands literal → AreRead names operands srcs
+      → length (with_literal literal (Literal n) (map Named (map (spelled_at names) srcs))) ≤ 6
+  few_tokens (Fixed spaces) literal srcs n room h =
+      let most = length_literal literal (Literal n) (map Named (map (spelled_at names) srcs)) in
+      let count = same_count names spaces srcs h in
+      let same = length-map (map (spelled_at names) srcs) Named ∙ length-map srcs (spelled_at names) in
+      omega (arith, most, count, same, room)
+  few_tokens Arguments literal srcs n room h = rw (room, length-map (map (spelled_at names) srcs) Named, length-map srcs (spelled_at names)) h.1
 
-mpyi_takes : TakesTwo Mpyi
-mpyi_takes = record { word = record { name = refl; bare = refl; own = refl; brief = omega arith }; texts = λ o xs. refl; result = λ d. refl; forms = λ a b. refl; no_callee = λ ts. refl }
+  assigned_kind : (operands : Operands) (result : Option Space) (dst : Option NameId) → IsAssigned names operands result dst → IfSome dst (IsOfSomeKind names)
+  assigned_kind operands result None h = tt
+  assigned_kind operands None (Some name) h = absurd (cc h)
+  assigned_kind (Fixed spaces) (Some space) (Some name) h = (kind_in space, h)
+  assigned_kind Arguments (Some space) (Some name) h = (kind_in space, h)
 
-addi_takes : TakesLiteral Addi
-addi_takes = record { word = record { name = refl; bare = refl; own = refl; brief = omega arith }; texts = λ o xs. refl; result = λ d. refl; forms = λ a n. refl; no_callee = λ ts. refl }
+  result_there : (operands : Operands) (result : Option Space) (dst : Option NameId) → IsAssigned names operands result dst
+      → result_by (takes_arguments operands) result (option_map (spelled_at names) dst) ≡ true
+  result_there operands None None h = refl
+  result_there operands None (Some name) h = absurd (cc h)
+  result_there (Fixed spaces) (Some space) None h = absurd h
+  result_there (Fixed spaces) (Some space) (Some name) h = refl
+  result_there Arguments (Some space) _ h = refl
 
-andi_takes : TakesLiteral Andi
-andi_takes = record { word = record { name = refl; bare = refl; own = refl; brief = omega arith }; texts = λ o xs. refl; result = λ d. refl; forms = λ a n. refl; no_callee = λ ts. refl }
+callee_named : (operands : Operands) (callee : Option (List ℕ)) → IsCallee operands callee → IfSome callee IsName
+callee_named operands None h = tt
+callee_named (Fixed spaces) (Some name) h = absurd (cc h)
+callee_named Arguments (Some name) h = h
 
-ori_takes : TakesLiteral Ori
-ori_takes = record { word = record { name = refl; bare = refl; own = refl; brief = omega arith }; texts = λ o xs. refl; result = λ d. refl; forms = λ a n. refl; no_callee = λ ts. refl }
+callee_back : (operands : Operands) (callee : Option (List ℕ)) (word : List ℕ) (rest : List Token) → IsCallee operands callee
+    → (if takes_arguments operands then word_at 1 (Word word ∷ (callee_tokens callee ++ rest)) else None) ≡ callee
+callee_back (Fixed spaces) callee word rest h = sym h
+callee_back Arguments None word rest h = absurd h
+callee_back Arguments (Some name) word rest h = refl
 
-cmpeqi_takes : TakesLiteral CmpEqi
-cmpeqi_takes = record { word = record { name = refl; bare = refl; own = refl; brief = omega arith }; texts = λ o xs. refl; result = λ d. refl; forms = λ a n. refl; no_callee = λ ts. refl }
+-- ---- the whole line
 
-cmpgti_takes : TakesLiteral CmpGti
-cmpgti_takes = record { word = record { name = refl; bare = refl; own = refl; brief = omega arith }; texts = λ o xs. refl; result = λ d. refl; forms = λ a n. refl; no_callee = λ ts. refl }
+forms_by : (names : Names) (operands : Operands) (literal : Option Range) (callee : Option (List ℕ)) (srcs : List NameId) (n : Number) (word : List ℕ)
+    → HasRoom operands literal → IsCallee operands callee → AreRead names operands srcs
+    → (let ts : List Token = Word word ∷ (callee_tokens callee ++ joined (with_literal literal (Literal n) (map Named (map (spelled_at names) srcs)))) in
+    if takes_arguments operands then is_call_list ts else have_forms (slots_by (fixed_spaces operands) literal) (drop 1 ts)) ≡ true
+forms_by names (Fixed spaces) literal callee srcs n word room named h =
+    rw named (slots_fit spaces literal (map (spelled_at names) srcs) n (length-map srcs (spelled_at names) ∙ same_count names spaces srcs h))
+forms_by names Arguments literal None srcs n word room named h = absurd named
+forms_by names Arguments literal (Some callee) srcs n word room named h = rw room (are_list (map (spelled_at names) srcs))
 
-asl_takes : TakesLiteral Asl
-asl_takes = record { word = record { name = refl; bare = refl; own = refl; brief = omega arith }; texts = λ o xs. refl; result = λ d. refl; forms = λ a n. refl; no_callee = λ ts. refl }
+names_behind : (callee : Option (List ℕ)) (ts : List Token) → names_at (callee_tokens callee ++ ts) ≡ names_at ts
+names_behind None ts = refl
+names_behind (Some name) ts = refl
 
-asr_takes : TakesLiteral Asr
-asr_takes = record { word = record { name = refl; bare = refl; own = refl; brief = omega arith }; texts = λ o xs. refl; result = λ d. refl; forms = λ a n. refl; no_callee = λ ts. refl }
+literal_behind : (callee : Option (List ℕ)) (ts : List Token) → literal_at (callee_tokens callee ++ ts) ≡ literal_at ts
+literal_behind None ts = refl
+literal_behind (Some name) ts = refl
 
-lsr_takes : TakesLiteral Lsr
-lsr_takes = record { word = record { name = refl; bare = refl; own = refl; brief = omega arith }; texts = λ o xs. refl; result = λ d. refl; forms = λ a n. refl; no_callee = λ ts. refl }
+literal_back : (literal : Option Range) (ns : List Spelled) (z : ℤ) → IsLiteralOf literal z
+    → literal_at (with_literal literal (Literal (as_number z)) (map Named ns)) ≡ as_number z
+literal_back None ns z h = no_literal ns ∙ sym (ap as_number h)
+literal_back (Some range) ns z h = literal_there range ns (as_number z)
 
-load_takes : TakesLiteral Load
-load_takes = record { word = record { name = refl; bare = refl; own = refl; brief = omega arith }; texts = λ o xs. refl; result = λ d. refl; forms = λ a n. refl; no_callee = λ ts. refl }
+-- the operands and the literal as they are read
+abbrev tokens : Names → SrcOp → List Token
+tokens names o = with_literal (literal_range o.op) (Literal (as_number o.imm)) (map Named (map (spelled_at names) o.srcs))
 
--- an operation of the text
-read_by : (names : Names) (op : Op) (dst : Option NameId) (srcs : List NameId) (imm : ℤ) (callee : Option (List ℕ)) → AreNames names → HasOwnWord op
-    → ReadsItsKinds names op srcs → AssignsItsKind names op dst → HasItsLiteral op imm → NamesItsCallee op callee → IsRead names (operation op dst srcs imm callee)
-read_by names Imm dst srcs imm callee all own reads assigns literal named = imm_read names dst srcs imm callee all reads assigns (signed16_small imm literal) named
-read_by names Mov dst srcs imm callee all own reads assigns literal named = mov_read names dst srcs imm callee all reads assigns literal named
-read_by names Add dst srcs imm callee all own reads assigns literal named = two_read names Add General General General dst srcs imm callee all add_takes reads assigns literal named
-read_by names Sub dst srcs imm callee all own reads assigns literal named = two_read names Sub General General General dst srcs imm callee all sub_takes reads assigns literal named
-read_by names And dst srcs imm callee all own reads assigns literal named = two_read names And General General General dst srcs imm callee all and_takes reads assigns literal named
-read_by names Or dst srcs imm callee all own reads assigns literal named = two_read names Or General General General dst srcs imm callee all or_takes reads assigns literal named
-read_by names Xor dst srcs imm callee all own reads assigns literal named = two_read names Xor General General General dst srcs imm callee all xor_takes reads assigns literal named
-read_by names Addi dst srcs imm callee all own reads assigns literal named = literal_read names Addi General General dst srcs imm callee all addi_takes reads assigns (signed16_small imm literal) named
-read_by names Andi dst srcs imm callee all own reads assigns literal named = literal_read names Andi General General dst srcs imm callee all andi_takes reads assigns (signed10_small imm literal) named
-read_by names Ori dst srcs imm callee all own reads assigns literal named = literal_read names Ori General General dst srcs imm callee all ori_takes reads assigns (signed10_small imm literal) named
-read_by names Mux dst srcs imm callee all own reads assigns literal named = mux_read names dst srcs imm callee all reads assigns literal named
-read_by names CmpEq dst srcs imm callee all own reads assigns literal named = two_read names CmpEq General General Pred dst srcs imm callee all cmpeq_takes reads assigns literal named
-read_by names CmpGt dst srcs imm callee all own reads assigns literal named = two_read names CmpGt General General Pred dst srcs imm callee all cmpgt_takes reads assigns literal named
-read_by names CmpGtu dst srcs imm callee all own reads assigns literal named = two_read names CmpGtu General General Pred dst srcs imm callee all cmpgtu_takes reads assigns literal named
-read_by names CmpEqi dst srcs imm callee all own reads assigns literal named = literal_read names CmpEqi General Pred dst srcs imm callee all cmpeqi_takes reads assigns (signed10_small imm literal) named
-read_by names CmpGti dst srcs imm callee all own reads assigns literal named = literal_read names CmpGti General Pred dst srcs imm callee all cmpgti_takes reads assigns (signed10_small imm literal) named
-read_by names Mpyi dst srcs imm callee all own reads assigns literal named = two_read names Mpyi General General General dst srcs imm callee all mpyi_takes reads assigns literal named
-read_by names Asl dst srcs imm callee all own reads assigns literal named = literal_read names Asl General General dst srcs imm callee all asl_takes reads assigns (unsigned5_small imm literal) named
-read_by names Asr dst srcs imm callee all own reads assigns literal named = literal_read names Asr General General dst srcs imm callee all asr_takes reads assigns (unsigned5_small imm literal) named
-read_by names Lsr dst srcs imm callee all own reads assigns literal named = literal_read names Lsr General General dst srcs imm callee all lsr_takes reads assigns (unsigned5_small imm literal) named
-read_by names Load dst srcs imm callee all own reads assigns literal named = literal_read names Load General General dst srcs imm callee all load_takes reads assigns (offset_small imm literal) named
-read_by names Store dst srcs imm callee all own reads assigns literal named = store_read names dst srcs imm callee all reads assigns (offset_small imm literal) named
-read_by names Call dst srcs imm callee all own reads assigns literal named = call_read names dst srcs imm callee all reads.0 reads.1 assigns literal named
-read_by names Jump dst srcs imm callee all own reads assigns literal named = absurd (cc own)
-read_by names JumpIf dst srcs imm callee all own reads assigns literal named = absurd (cc own)
-read_by names JumpIfNot dst srcs imm callee all own reads assigns literal named = absurd (cc own)
-read_by names Jumpr dst srcs imm callee all own reads assigns literal named = absurd (cc own)
-read_by names Spill dst srcs imm callee all own reads assigns literal named = absurd (cc own)
-read_by names Reload dst srcs imm callee all own reads assigns literal named = absurd (cc own)
-read_by names P2R dst srcs imm callee all own reads assigns literal named = absurd (cc own)
-read_by names R2P dst srcs imm callee all own reads assigns literal named = absurd (cc own)
-read_by names Enter dst srcs imm callee all own reads assigns literal named = absurd (cc own)
-read_by names Leave dst srcs imm callee all own reads assigns literal named = absurd (cc own)
-read_by names Nop dst srcs imm callee all own reads assigns literal named = absurd (cc own)
+same_line : (op : Op) (dst : Option Spelled) (srcs srcs' : List Spelled) (imm imm' : Number) (callee callee' : Option (List ℕ))
+    → srcs ≡ srcs' → imm ≡ imm' → callee ≡ callee'
+    → (let l : OpLine = record { op = op; dst = dst; srcs = srcs; imm = imm; callee = callee } in l)
+    ≡ record { op = op; dst = dst; srcs = srcs'; imm = imm'; callee = callee' }
+same_line op dst srcs srcs' imm imm' callee callee' a b c = rw (a, b, c) refl
 
-op_told : (names : Names) (o : SrcOp) → AreNames names → IsGoodOp names o → IsRead names o
-op_told names o all good = read_by names o.op o.dst o.srcs o.imm o.callee all (own_word o.op good.op) good.reads good.assigns good.literal good.callee
+module _ (names : Names) (o : SrcOp) (all : AreNames names) (good : IsGoodOp names o) where
+  op_fits : Fits names o (tokens names o)
+  op_fits = record {
+    word = has_word o.op good.op;
+    says = says_literal literal (map (name_text names) o.srcs) (map Named ns) (literal_text o) (Literal (as_number o.imm))
+        (names_say names all o.srcs (all_spelled names operands o.srcs good.reads)) (literal_says o.imm (small_abs literal o.imm good.literal));
+    few = few_tokens names operands literal o.srcs (as_number o.imm) (has_room o.op) good.reads;
+    kind = assigned_kind names operands (result_space o.op) o.dst good.assigns;
+    callee = callee_named operands o.callee good.callee;
+    result = result_there names operands (result_space o.op) o.dst good.assigns;
+    forms = forms_by names operands literal o.callee o.srcs (as_number o.imm) (source_name o.op) (has_room o.op) good.callee good.reads;
+    line = same_line o.op (option_map (spelled_at names) o.dst) _ ns _ (as_number o.imm) _ o.callee
+        (names_behind o.callee (joined (tokens names o)) ∙ names_joined (tokens names o) ∙ names_there literal ns (as_number o.imm))
+        (literal_behind o.callee (joined (tokens names o)) ∙ literal_joined (tokens names o) ∙ literal_back literal ns o.imm good.literal)
+        (callee_back operands o.callee (source_name o.op) (joined (tokens names o)) good.callee);
+  }
+    where
+      operands : Operands
+      operands = (facts_of o.op).operands
 
--- the line of an operation is read as the operation
-pub op_read : (names : Names) (o : SrcOp) → AreNames names → IsGoodOp names o → shape_of (tokens_of (op_line names o)) ≡ Some (Operation (op_as_line names o))
-op_read names o all good = (op_told names o all good).told
+      literal : Option Range
+      literal = literal_range o.op
 
--- and is neat
-pub op_line_neat : (names : Names) (o : SrcOp) → AreNames names → IsGoodOp names o → IsNeat 300 (op_line names o)
-op_line_neat names o all good = (op_told names o all good).neat
+      ns : List Spelled
+      ns = map (spelled_at names) o.srcs
+
+  op_told : IsRead names o
+  op_told = fits_read names o (tokens names o) all (op_fits)
+
+  -- the line of an operation is read as the operation
+  pub op_read : shape_of (tokens_of (op_line names o)) ≡ Some (Operation (op_as_line names o))
+  op_read = (op_told).told
+
+  -- and is neat
+  pub op_line_neat : IsNeat 300 (op_line names o)
+  op_line_neat = (op_told).neat

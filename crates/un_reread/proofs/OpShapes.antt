@@ -2,16 +2,14 @@
 use Rattle.std.proofs.Common.{◌≡◌, ◌≤◌, length, true, List, ◌∷◌, ◌++◌, map, Option, Some, None, IfSome, option_map, refl, ap, ◌∙◌}
 use Rattle.un_base.specs.Names.{is_name}
 use Rattle.un_isa.specs.declared.op.Op.{Op}
-use Rattle.un_ir.specs.declared.function.SrcOp.{SrcOp}
-use Rattle.un_ir.specs.Text.{Names, name_text, mnemonic, operand_texts, op_line}
+use Rattle.un_isa.specs.Facts.{source_name}
+use Rattle.un_reader.specs.Vocabulary.{SrcOp, Token, OpLine, Operation, Spelled}
+use Rattle.un_ir.specs.Text.{Names, name_text, operand_texts, op_line}
 use Rattle.un_ir.specs.WellFormed.{IsName}
-use Rattle.un_reader.specs.declared.token.Token.{Token}
-use Rattle.un_reader.specs.declared.token.Token.TheVariants.{Word}
-use Rattle.un_reader.specs.declared.slot.Head.TheVariants.{Bare}
-use Rattle.un_reader.specs.declared.line.OpLine.{OpLine}
-use Rattle.un_reader.specs.declared.line.Line.TheVariants.{Operation}
-use Rattle.un_reader.specs.Tokens.{Spelled, tokens_of}
-use Rattle.un_reader.specs.Shapes.{op_named, head_word, result_fits, operands_fit, op_line_of, op_shape, shape_of}
+use Rattle.un_words.specs.declared.token.Token.TheVariants.{Word}
+use Rattle.un_words.specs.declared.slot.Head.TheVariants.{Bare}
+use Rattle.un_words.specs.Tokens.{tokens_of}
+use Rattle.un_words.specs.Shapes.{op_named, head_word, result_fits, operands_fit, op_line_of, op_shape, shape_of}
 use Rattle.un_reread.specs.Printed.{spelled_at, op_as_line}
 use Rattle.un_reread.proofs.WordsOf.{AllSay}
 use Rattle.un_reread.proofs.NamesAt.{AreNames}
@@ -21,14 +19,14 @@ use Rattle.un_reread.proofs.OpTokens.{joined, callee_tokens, result_tokens, IsOf
 
 -- the operation's word is a short name, begins no other line, and is no other operation's
 pub record HasWord (op : Op) : Type 0 where
-  pub name : is_name (mnemonic op) ≡ true
-  pub bare : head_word (mnemonic op) ≡ Bare
-  pub own : op_named (mnemonic op) ≡ Some op
-  pub brief : length (mnemonic op) ≤ 6
+  pub name : is_name (source_name op) ≡ true
+  pub bare : head_word (source_name op) ≡ Bare
+  pub own : op_named (source_name op) ≡ Some op
+  pub brief : length (source_name op) ≤ 6
 
 -- the words of an operation, its operands among them, as they are printed
 abbrev pub behind : SrcOp → List Token → List Token
-behind o operands = Word (mnemonic o.op) ∷ (callee_tokens o.callee ++ joined operands)
+behind o operands = Word (source_name o.op) ∷ (callee_tokens o.callee ++ joined operands)
 
 -- the operation's words say what it is
 pub record Fits (names : Names) (o : SrcOp) (operands : List Token) : Type 0 where
@@ -41,7 +39,7 @@ pub record Fits (names : Names) (o : SrcOp) (operands : List Token) : Type 0 whe
   pub forms : operands_fit o.op (behind o operands) ≡ true
   pub line : op_line_of o.op (option_map (spelled_at names) o.dst) (behind o operands) ≡ op_as_line names o
 
-by_word : (op : Op) (dst : Option Spelled) (rest : List Token) → HasWord op → shape_of (result_tokens dst ++ (Word (mnemonic op) ∷ rest)) ≡ op_shape dst (Word (mnemonic op) ∷ rest) op
+by_word : (op : Op) (dst : Option Spelled) (rest : List Token) → HasWord op → shape_of (result_tokens dst ++ (Word (source_name op) ∷ rest)) ≡ op_shape dst (Word (source_name op) ∷ rest) op
 by_word op None rest w = rw (w.bare, w.own) refl
 by_word op (Some d) rest w = rw w.own refl
 

@@ -1,15 +1,13 @@
 -- The words of the line of an operation, by their form.
 use Rattle.std.proofs.Common.{◌≡◌, ℕ, true, false, List, [], ◌∷◌, ◌++◌, map, codes, Option, Some, None, IfSome, option_map, refl, ap, ◌∙◌, append_assoc}
-use Rattle.un_base.specs.declared.ids.NameId.{NameId}
+use Rattle.un_reader.specs.Vocabulary.{NameId, Kind, SrcOp, Token, Spelled}
 use Rattle.un_base.specs.Names.{is_name}
-use Rattle.un_ir.specs.declared.function.Kind.{Kind}
-use Rattle.un_ir.specs.declared.function.SrcOp.{SrcOp}
-use Rattle.un_ir.specs.Text.{Names, name_text, result_text, comma_joined, mnemonic, spaced, callee_text, operand_texts, op_line}
+use Rattle.un_isa.specs.Facts.{source_name}
+use Rattle.un_ir.specs.Text.{Names, name_text, result_text, comma_joined, spaced, callee_text, operand_texts, op_line}
 use Rattle.un_ir.specs.WellFormed.{IsName, IsOfKind}
-use Rattle.un_reader.specs.declared.token.Token.{Token}
-use Rattle.un_reader.specs.declared.token.Token.TheVariants.{Comma, Equals, Named, Word}
-use Rattle.un_reader.specs.Tokens.{Spelled, tokens_of}
-use Rattle.un_reader.specs.Words.{goes_on}
+use Rattle.un_words.specs.declared.token.Token.TheVariants.{Comma, Equals, Named, Word}
+use Rattle.un_words.specs.Tokens.{tokens_of}
+use Rattle.un_words.specs.Words.{goes_on}
 use Rattle.un_reread.specs.Printed.{spelled_at}
 use Rattle.un_reread.proofs.WordsOf.{AllSay, first_token, only_token}
 use Rattle.un_reread.proofs.NameWords.{word_says}
@@ -80,12 +78,12 @@ before_tokens names (Some name) line all kind =
 -- ---- the line
 
 -- what is read of the line of an operation with these operands
-pub op_tokens : (names : Names) (o : SrcOp) (operands : List Token) → AreNames names → is_name (mnemonic o.op) ≡ true
+pub op_tokens : (names : Names) (o : SrcOp) (operands : List Token) → AreNames names → is_name (source_name o.op) ≡ true
     → AllSay (operand_texts o.op o (map (name_text names) o.srcs)) operands → IfSome o.dst (IsOfSomeKind names) → IfSome o.callee IsName
-    → tokens_of (op_line names o) ≡ result_tokens (option_map (spelled_at names) o.dst) ++ (Word (mnemonic o.op) ∷ (callee_tokens o.callee ++ joined operands))
+    → tokens_of (op_line names o) ≡ result_tokens (option_map (spelled_at names) o.dst) ++ (Word (source_name o.op) ∷ (callee_tokens o.callee ++ joined operands))
 op_tokens names o operands all named says kind callee =
     let words : List (List ℕ) = operand_texts o.op o (map (name_text names) o.srcs) in
     let behind = behind_tokens o.callee words operands callee says in
-    let word = first_token (mnemonic o.op) (Word (mnemonic o.op)) (word_says (mnemonic o.op) named) (callee_text o.callee ++ spaced words) (callee_stops o.callee words) in
-    before_tokens names o.dst (mnemonic o.op ++ (callee_text o.callee ++ spaced words)) all kind
-    ∙ ap (λ (ts : List Token). result_tokens (option_map (spelled_at names) o.dst) ++ ts) (word ∙ ap (λ (ts : List Token). Word (mnemonic o.op) ∷ ts) behind)
+    let word = first_token (source_name o.op) (Word (source_name o.op)) (word_says (source_name o.op) named) (callee_text o.callee ++ spaced words) (callee_stops o.callee words) in
+    before_tokens names o.dst (source_name o.op ++ (callee_text o.callee ++ spaced words)) all kind
+    ∙ ap (λ (ts : List Token). result_tokens (option_map (spelled_at names) o.dst) ++ ts) (word ∙ ap (λ (ts : List Token). Word (source_name o.op) ∷ ts) behind)

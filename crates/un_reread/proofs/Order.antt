@@ -1,13 +1,8 @@
 -- The order of the printed lines: operations and terminators stand in a block that no terminator has ended.
 use Rattle.std.proofs.Common.{◌≡◌, ◌<◌, ◌⊎◌, inl, inr, ◌++◌, Bool, true, false, List, [], ◌∷◌, length, refl, append_assoc, arith}
 use Rattle.std.specs.List.{fold}
-use Rattle.un_ir.specs.declared.function.SrcOp.{SrcOp}
-use Rattle.un_ir.specs.declared.function.Term.{Term}
-use Rattle.un_ir.specs.declared.function.Term.TheVariants.{Fall, Jump as JumpTo, Branch as BranchTo, Ret as Return}
-use Rattle.un_ir.specs.declared.function.Block.{Block as SourceBlock}
+use Rattle.un_reader.specs.Vocabulary.{SrcOp, Term, Fall, SourceBlock, Line, Blank, Func, Block, Operation, Terminator}
 use Rattle.un_ir.specs.Text.{Names}
-use Rattle.un_reader.specs.declared.line.Line.{Line}
-use Rattle.un_reader.specs.declared.line.Line.TheVariants.{Blank, Func, Block, Operation, Terminator}
 use Rattle.un_reader.specs.Before.{labels_of, ended_after}
 use Rattle.un_reread.specs.Printed.{term_as_lines}
 use Rattle.un_reread.proofs.Labels.{op_lines, lines_of}
@@ -36,9 +31,7 @@ order_ops names (o ∷ ops) rest h = (refl, order_ops names ops rest h)
 
 order_term : (blocks : List SourceBlock) (names : Names) (term : Term) (rest : List Line) → ((here : Bool) → AreInOrder here rest) → AreInOrder true (term_as_lines blocks names term ++ rest)
 order_term blocks names Fall rest h = h true
-order_term blocks names (JumpTo to) rest h = (refl, h false)
-order_term blocks names (BranchTo pred sense to) rest h = (refl, h false)
-order_term blocks names (Return value) rest h = (refl, h false)
+order_term blocks names _ rest h = (refl, h false)
 
 pub in_order : (blocks : List SourceBlock) (names : Names) (some : List SourceBlock) (here : Bool) → AreInOrder here (lines_of blocks names some)
 in_order blocks names [] here = tt
@@ -59,17 +52,13 @@ stands (first ∷ front) line rest here (may, later) = stands front line rest (o
 -- a label stands before, where none was open at first
 pub open_labelled : (front : List Line) (here : Bool) → fold open_after here front ≡ true → (here ≡ true) ⊎ (0 < length (labels_of front))
 open_labelled [] here h = inl h
-open_labelled (Blank ∷ front) here h = open_labelled front here h
-open_labelled (Func name params ∷ front) here h = open_labelled front here h
 open_labelled (Block label freq ∷ front) here h = inr (omega arith)
-open_labelled (Operation o ∷ front) here h = open_labelled front here h
 open_labelled (Terminator term ∷ front) here h = elim (open_labelled front false h) [ inl e ↦ absurd (cc e) | inr l ↦ inr l ]
+open_labelled (_ ∷ front) here h = open_labelled front here h
 
 -- no terminator has ended it
 pub open_lasts : (front : List Line) (here ended : Bool) → (here ≡ true → ended ≡ false) → fold open_after here front ≡ true → fold ended_after ended front ≡ false
 open_lasts [] here ended lasts h = lasts h
-open_lasts (Blank ∷ front) here ended lasts h = open_lasts front here ended lasts h
-open_lasts (Func name params ∷ front) here ended lasts h = open_lasts front here ended lasts h
 open_lasts (Block label freq ∷ front) here ended lasts h = open_lasts front true false (λ e. refl) h
-open_lasts (Operation o ∷ front) here ended lasts h = open_lasts front here ended lasts h
 open_lasts (Terminator term ∷ front) here ended lasts h = open_lasts front false true (λ e. absurd (cc e)) h
+open_lasts (_ ∷ front) here ended lasts h = open_lasts front here ended lasts h

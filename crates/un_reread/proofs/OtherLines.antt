@@ -2,22 +2,16 @@
 use Rattle.std.proofs.Common.{◌≡◌, ℕ, zero, suc, ◌<◌, ◌≤◌, true, false, List, [], ◌∷◌, ◌++◌, map, codes, length, Some, None, refl, ap, ◌∙◌, arith, All, flat_map, decimal}
 use Rattle.std.specs.List.{list_all}
 use Rattle.std.proofs.lemmas.List.Elements.{All-head, All-tail}
-use Rattle.un_base.specs.declared.ids.NameId.{NameId}
-use Rattle.un_ir.specs.declared.function.Kind.TheVariants.{General, Pred}
-use Rattle.un_ir.specs.declared.function.Block.{Block as SourceBlock}
+use Rattle.un_reader.specs.Vocabulary.{NameId, General, Pred, SourceBlock, Term, Fall, JumpTo, BranchTo, Return, Token, Func, Block, Spelled}
 use Rattle.un_ir.specs.declared.function.Function.{Function}
-use Rattle.un_ir.specs.declared.function.Term.{Term}
-use Rattle.un_ir.specs.declared.function.Term.TheVariants.{Fall, Jump as JumpTo, Branch as BranchTo, Ret as Return}
 use Rattle.un_ir.specs.declared.function.TheConstants.{FREQUENCY}
 use Rattle.un_ir.specs.Text.{Names, name_text, label_of, func_line, block_line, term_lines}
 use Rattle.un_ir.specs.WellFormed.{IsName, IsOfKind, TestsItsKind, LeadsInside}
-use Rattle.un_reader.specs.declared.token.Token.{Token}
-use Rattle.un_reader.specs.declared.token.Token.TheVariants.{Named, Negated, Word, Plain}
-use Rattle.un_reader.specs.declared.slot.Slot.TheVariants.{Named as NamedSlot}
-use Rattle.un_reader.specs.declared.line.Line.TheVariants.{Func, Block}
-use Rattle.un_reader.specs.Tokens.{Spelled, tokens_of}
-use Rattle.un_reader.specs.Words.{goes_on}
-use Rattle.un_reader.specs.Shapes.{shape_of, is_slot, names_at}
+use Rattle.un_words.specs.declared.token.Token.TheVariants.{Named, Negated, Word, Plain}
+use Rattle.un_words.specs.declared.slot.Slot.TheVariants.{Named as NamedSlot}
+use Rattle.un_words.specs.Tokens.{tokens_of}
+use Rattle.un_words.specs.Words.{goes_on}
+use Rattle.un_words.specs.Shapes.{shape_of, is_slot, names_at}
 use Rattle.un_reread.specs.Printed.{spelled_at, term_as_lines}
 use Rattle.un_reread.proofs.WordsOf.{Says, first_token, only_token}
 use Rattle.un_reread.proofs.NameWords.{word_says}

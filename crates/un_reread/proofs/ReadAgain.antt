@@ -5,10 +5,10 @@ use Rattle.std.proofs.lemmas.List.Elements.{All-weaker}
 use Rattle.un_ir.specs.declared.function.Function.{Function}
 use Rattle.un_ir.specs.Text.{Names, function_lines, function_text}
 use Rattle.un_ir.specs.WellFormed.{IsWellFormed}
-use Rattle.un_reader.specs.declared.line.Line.{Line}
-use Rattle.un_reader.specs.LineFaults.{line_of}
+use Rattle.un_words.specs.declared.line.Line.{Line}
+use Rattle.un_words.specs.Shapes.{line_of}
 use Rattle.un_reader.specs.Lines.{HasNoLineFault, shapes_in}
-use Rattle.un_reader.specs.Pieces.{lines_in}
+use Rattle.un_words.specs.Pieces.{lines_in}
 use Rattle.un_reader.specs.TextFaults.{shape_fault}
 use Rattle.un_reader.specs.Before.{names_of, labels_of}
 use Rattle.un_reader.specs.Functions.{name_id, params_of, blocks_of, param_ids, source_blocks, IsFunctionOf}

@@ -3,16 +3,12 @@ use Rattle.std.proofs.Common.{◌≡◌, ℕ, ◌++◌, List, [], ◌∷◌, fal
 use Rattle.std.specs.List.{All, flat_map}
 use Rattle.std.proofs.lemmas.List.{map-append}
 use Rattle.std.proofs.lemmas.List.Elements.{All-head, All-tail, All-weaker}
-use Rattle.un_base.specs.declared.ids.NameId.{NameId}
-use Rattle.un_ir.specs.declared.function.SrcOp.{SrcOp}
-use Rattle.un_ir.specs.declared.function.Block.{Block as SourceBlock}
+use Rattle.un_reader.specs.Vocabulary.{NameId, SrcOp, SourceBlock, Line, Func, Block, Operation}
 use Rattle.un_ir.specs.declared.function.Function.{Function}
 use Rattle.un_ir.specs.Text.{Names, op_line, term_lines, block_line, block_lines, func_line, function_lines}
 use Rattle.un_ir.specs.WellFormed.{IsName, IsGoodOp, IsGoodBlock, LeadsInside, IsWellFormed}
-use Rattle.un_reader.specs.declared.line.Line.{Line}
-use Rattle.un_reader.specs.declared.line.Line.TheVariants.{Func, Block, Operation}
-use Rattle.un_reader.specs.Shapes.{shape_of}
-use Rattle.un_reader.specs.Tokens.{tokens_of}
+use Rattle.un_words.specs.Shapes.{shape_of}
+use Rattle.un_words.specs.Tokens.{tokens_of}
 use Rattle.un_reread.specs.Printed.{spelled_at, op_as_line, term_as_lines, printed_lines}
 use Rattle.un_reread.proofs.Lists.{all_at}
 use Rattle.un_reread.proofs.Labels.{op_lines, body_lines, lines_of}

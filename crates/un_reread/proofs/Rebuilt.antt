@@ -3,16 +3,12 @@ use Rattle.std.proofs.Common.{◌≡◌, ℕ, ◌++◌, List, [], ◌∷◌, Opt
 use Rattle.std.specs.List.{All, flat_map}
 use Rattle.std.specs.Option.{option_map, option_to_list}
 use Rattle.std.proofs.lemmas.List.Elements.{All-head, All-tail}
-use Rattle.un_base.specs.declared.ids.NameId.{NameId}
-use Rattle.un_ir.specs.declared.function.SrcOp.{SrcOp}
-use Rattle.un_ir.specs.declared.function.Term.{Term}
-use Rattle.un_ir.specs.declared.function.Term.TheVariants.{Fall, Jump as JumpTo, Branch as BranchTo, Ret as Return}
-use Rattle.un_ir.specs.declared.function.Block.{Block as SourceBlock}
+use Rattle.un_reader.specs.Vocabulary.{NameId, SrcOp, Term, Fall, JumpTo, BranchTo, Return, SourceBlock, Line}
 use Rattle.un_ir.specs.Live.{read_by_term}
 use Rattle.un_ir.specs.Names.{names_on_op, names_in_block}
 use Rattle.un_ir.specs.Text.{Names}
-use Rattle.un_ir.specs.WellFormed.{IsWellFormed, HasItsLiteral}
-use Rattle.un_reader.specs.declared.line.Line.{Line}
+use Rattle.un_ir.specs.WellFormed.{IsWellFormed}
+use Rattle.un_isa.specs.Operands.{HasLiteral as IsLiteralIn}
 use Rattle.un_reader.specs.TextFaults.{term_of}
 use Rattle.un_reader.specs.Functions.{name_id, literal_value, op_of, term_by, ops_of, blocks_of}
 use Rattle.un_reread.specs.Printed.{spelled_at, as_number, op_as_line, term_as_lines, printed_lines}
@@ -26,7 +22,7 @@ use Rattle.un_reread.proofs.Jumps.{labels, AreOnce, labels_once, block_back, Goe
 -- ---- operations
 
 abbrev pub HasLiteral : SrcOp → Type 0
-HasLiteral o = HasItsLiteral o.op o.imm
+HasLiteral o = IsLiteralIn o.op o.imm
 
 result_back : (names : Names) → AreDistinct names → (dst : Option NameId) → All (IsPlace names) (option_to_list dst)
     → option_map (name_id names) (option_map (spelled_at names) dst) ≡ dst

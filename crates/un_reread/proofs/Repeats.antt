@@ -3,23 +3,22 @@ use Rattle.std.proofs.Common.{◌≡◌, ◌≢◌, ℕ, false, List, [], ◌∷
 use Rattle.std.specs.List.{All, AllPairs, list_any}
 use Rattle.std.proofs.lemmas.List.Elements.{All-head, All-tail, All-map}
 use Rattle.std.proofs.lemmas.List.Folds.{list_any_none}
-use Rattle.un_base.specs.declared.ids.NameId.{NameId}
-use Rattle.un_ir.specs.declared.function.Block.{Block as SourceBlock}
+use Rattle.un_reader.proofs.FirstNames.{name_differs}
+use Rattle.un_reader.specs.Vocabulary.{NameId, SourceBlock, Spelled}
 use Rattle.un_ir.specs.Text.{Names}
 use Rattle.un_ir.specs.WellFormed.{IsWellFormed}
-use Rattle.un_reader.specs.Tokens.{Spelled}
 use Rattle.un_reader.specs.Before.{same_name}
 use Rattle.un_reader.specs.LineFaults.{has_repeat}
 use Rattle.un_reader.specs.Functions.{name_id}
 use Rattle.un_reread.specs.Printed.{spelled_at}
 use Rattle.un_reread.proofs.Lists.{pairs_head, pairs_tail}
-use Rattle.un_reread.proofs.Spelling.{AreDistinct, IsPlace, not_same, place_back}
+use Rattle.un_reread.proofs.Spelling.{AreDistinct, IsPlace, place_back}
 use Rattle.un_reread.proofs.NamesBack.{params_named}
 
 -- two names are spelled in two ways
 spelled_apart : (names : Names) → AreDistinct names → (a b : NameId) → IsPlace names a → IsPlace names b → a ≢ b → same_name (spelled_at names a) (spelled_at names b) ≡ false
 spelled_apart names distinct a b ha hb h =
-    not_same (spelled_at names a) (spelled_at names b)
+    name_differs (spelled_at names a) (spelled_at names b)
     (λ e. h (sym (place_back names distinct a ha) ∙ ap (name_id names) e ∙ place_back names distinct b hb))
 
 none_repeated : (names : Names) → AreDistinct names → (params : List NameId) → All (IsPlace names) params → AllPairs (λ (a b : NameId). a ≢ b) params

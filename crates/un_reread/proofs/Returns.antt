@@ -3,13 +3,9 @@ use Rattle.std.proofs.Common.{◌≡◌, ◌++◌, Bool, true, false, List, [], 
 use Rattle.std.specs.List.{All, AllPairs}
 use Rattle.std.specs.Option.{option_or}
 use Rattle.std.proofs.lemmas.List.Elements.{All-nil, All-cons}
-use Rattle.un_ir.specs.declared.function.SrcOp.{SrcOp}
-use Rattle.un_ir.specs.declared.function.Term.{Term}
-use Rattle.un_ir.specs.declared.function.Term.TheVariants.{Fall, Jump as JumpTo, Branch as BranchTo, Ret as Return}
-use Rattle.un_ir.specs.declared.function.Block.{Block as SourceBlock}
+use Rattle.un_reader.specs.Vocabulary.{SrcOp, Term, Fall, Return, SourceBlock, Line}
 use Rattle.un_ir.specs.Text.{Names}
 use Rattle.un_ir.specs.WellFormed.{gives_value, ReturnAlike}
-use Rattle.un_reader.specs.declared.line.Line.{Line}
 use Rattle.un_reader.specs.TextFaults.{differs, first_value, returns_else}
 use Rattle.un_reread.specs.Printed.{term_as_lines, block_as_lines}
 use Rattle.un_reread.proofs.Lists.{pairs_head, pairs_tail}
@@ -25,11 +21,8 @@ value_behind names (o ∷ ops) rest = value_behind names ops rest
 
 value_there : (blocks : List SourceBlock) (names : Names) (term : Term) (rest : List Line)
     → first_value (term_as_lines blocks names term ++ rest) ≡ option_or (gives_value term) (first_value rest)
-value_there blocks names Fall rest = refl
-value_there blocks names (JumpTo to) rest = refl
-value_there blocks names (BranchTo pred sense to) rest = refl
-value_there blocks names (Return None) rest = refl
 value_there blocks names (Return (Some name)) rest = refl
+value_there blocks names _ rest = refl
 
 first_here : (blocks : List SourceBlock) (names : Names) (block : SourceBlock) (rest : List Line)
     → first_value (block_as_lines blocks names block ++ rest) ≡ option_or (gives_value block.term) (first_value rest)
@@ -63,9 +56,8 @@ same_agrees false false e = refl
 pub term_agrees : (blocks : List SourceBlock) (names : Names) (valued : Bool) (term : Term) → ((y : Bool) → gives_value term ≡ Some y → valued ≡ y)
     → All (λ (l : Line). returns_else valued l ≡ false) (term_as_lines blocks names term)
 term_agrees blocks names valued Fall h = All-nil (λ (l : Line). returns_else valued l ≡ false)
-term_agrees blocks names valued (JumpTo to) h = All-cons (λ (l : Line). returns_else valued l ≡ false) _ [] refl (All-nil (λ (l : Line). returns_else valued l ≡ false))
-term_agrees blocks names valued (BranchTo pred sense to) h = All-cons (λ (l : Line). returns_else valued l ≡ false) _ [] refl (All-nil (λ (l : Line). returns_else valued l ≡ false))
 term_agrees blocks names valued (Return None) h =
     All-cons (λ (l : Line). returns_else valued l ≡ false) _ [] (same_agrees valued false (h false refl)) (All-nil (λ (l : Line). returns_else valued l ≡ false))
 term_agrees blocks names valued (Return (Some name)) h =
     All-cons (λ (l : Line). returns_else valued l ≡ false) _ [] (same_agrees valued true (h true refl)) (All-nil (λ (l : Line). returns_else valued l ≡ false))
+term_agrees blocks names valued _ h = All-cons (λ (l : Line). returns_else valued l ≡ false) _ [] refl (All-nil (λ (l : Line). returns_else valued l ≡ false))

@@ -1,10 +1,10 @@
 -- The text of a function is within the limit of texts.
-use Rattle.std.proofs.Common.{ℕ, ◌+◌, ◌*◌, ◌≤◌, List, [], ◌∷◌, Some, None, map, length, arith}
+use Rattle.std.proofs.Common.{ℕ, ◌+◌, ◌*◌, ◌≤◌, List, [], ◌∷◌, Some, map, length, arith}
 use Rattle.std.specs.List.{All, flat_map}
 use Rattle.std.proofs.lemmas.List.{length-append, length-map}
 use Rattle.std.proofs.lemmas.List.Elements.{All-head, All-tail}
 use Rattle.un_ir.specs.declared.function.Term.{Term}
-use Rattle.un_ir.specs.declared.function.Term.TheVariants.{Fall, Jump, Branch, Ret}
+use Rattle.un_ir.specs.declared.function.Term.TheVariants.{Ret}
 use Rattle.un_ir.specs.declared.function.Block.{Block}
 use Rattle.un_ir.specs.declared.function.Function.{Function}
 use Rattle.un_ir.specs.Text.{Names, op_line, term_lines, block_lines, function_lines, function_text, ended}
@@ -22,11 +22,8 @@ joined_size (line ∷ lines) all =
     omega arith
 
 one_at_most : (blocks : List Block) (names : Names) (term : Term) → length (term_lines blocks names term) ≤ 1
-one_at_most blocks names Fall = omega arith
-one_at_most blocks names (Jump to) = omega arith
-one_at_most blocks names (Branch pred sense to) = omega arith
-one_at_most blocks names (Ret None) = omega arith
 one_at_most blocks names (Ret (Some name)) = omega arith
+one_at_most blocks names _ = omega arith
 
 -- each block has a line, one for each operation, and at most one more
 line_count : (blocks : List Block) (names : Names) (some : List Block)

@@ -1,9 +1,9 @@
 -- The words of a line that is put together from words, blanks and marks.
 use Rattle.std.proofs.Common.{◌≡◌, ℕ, ◌<◌, Bool, true, false, ◌&&◌, ◌||◌, not, List, [], ◌∷◌, ◌++◌, map, length, refl, sym, ap, ◌∙◌, arith, append-nil}
 use Rattle.std.specs.List.{list_all, onto_first}
-use Rattle.un_reader.specs.declared.token.Token.{Token}
-use Rattle.un_reader.specs.Words.{is_blank, is_mark, is_inner, goes_on, words_of}
-use Rattle.un_reader.specs.Tokens.{token_of, tokens_of}
+use Rattle.un_words.specs.declared.token.Token.{Token}
+use Rattle.un_words.specs.Words.{is_blank, is_mark, is_inner, goes_on, words_of}
+use Rattle.un_words.specs.Tokens.{token_of, tokens_of}
 use Rattle.un_reread.proofs.Neat.{IsNeat}
 
 -- a longer word, which a reader takes for this token; a name with its sigil behind an exclamation mark is the longest

@@ -2,19 +2,8 @@
 use Rattle.std.specs.Prelude.{ℕ, ℤ, pos, negsuc, ◌+◌, true, false, List, [], ◌∷◌, ◌++◌, map, slice_get, unwrap_or}
 use Rattle.std.specs.List.{flat_map}
 use Rattle.std.specs.Option.{option_map}
-use Rattle.un_base.specs.declared.ids.NameId.{NameId}
-use Rattle.un_ir.specs.declared.function.Kind.TheVariants.{General}
-use Rattle.un_ir.specs.declared.function.SrcOp.{SrcOp}
-use Rattle.un_ir.specs.declared.function.Term.{Term}
-use Rattle.un_ir.specs.declared.function.Term.TheVariants.{Fall, Jump as JumpTo, Branch as BranchTo, Ret as Return}
-use Rattle.un_ir.specs.declared.function.Block.{Block as SourceBlock}
+use Rattle.un_reader.specs.Vocabulary.{NameId, General, SrcOp, Term, Fall, JumpTo, BranchTo, Return, SourceBlock, Number, OpLine, Jump, Branch, Ret, Line, Func, Block, Operation, Terminator, Spelled}
 use Rattle.un_ir.specs.Text.{Names, label_of}
-use Rattle.un_reader.specs.declared.token.Number.{Number}
-use Rattle.un_reader.specs.declared.line.OpLine.{OpLine}
-use Rattle.un_reader.specs.declared.line.TermLine.TheVariants.{Jump, Branch, Ret}
-use Rattle.un_reader.specs.declared.line.Line.{Line}
-use Rattle.un_reader.specs.declared.line.Line.TheVariants.{Func, Block, Operation, Terminator}
-use Rattle.un_reader.specs.Tokens.{Spelled}
 
 -- a name as it is spelled
 abbrev pub spelled_at : Names → NameId → Spelled

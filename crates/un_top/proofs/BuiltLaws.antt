@@ -6,10 +6,11 @@ use Rattle.std.proofs.lemmas.List.Sums.{fold-append, sum_by-append}
 use Rattle.std.proofs.lemmas.List.{get_or_append_left, take-append-drop}
 use Rattle.std.specs.List.{All, count_by, flat_map, list_any}
 use Rattle.un_ir.specs.declared.function.Kind.{Kind}
-use Rattle.un_reader.specs.Before.{names_of, names_on, numbered, add_name, same_name}
+use Rattle.un_reader.specs.Before.{names_of, numbered, add_name, same_name}
+use Rattle.un_words.specs.LineNames.{names_on}
 use Rattle.un_reader.specs.TextFaults.{is_block}
 use Rattle.un_reader.specs.Lines.{shapes_in}
-use Rattle.un_reader.specs.declared.line.Line.{Line}
+use Rattle.un_words.specs.declared.line.Line.{Line}
 use Rattle.un_built.specs.Built.{AreBuilt, IsOddPlace, IsNotBuiltLine, is_built_line}
 use Rattle.un_top.proofs.Firsts.{take_less}
 

@@ -6,7 +6,7 @@ use Rattle.un_plain.specs.Plain.{IsPlain}
 use Rattle.un_reader.specs.Codes.{code_of}
 use Rattle.un_reader.specs.LineFaults.{fault_at}
 use Rattle.un_reader.specs.Lines.{HasNoLineFault, IsFirstLineFault, shapes_in}
-use Rattle.un_reader.specs.Pieces.{lines_in}
+use Rattle.un_words.specs.Pieces.{lines_in}
 use Rattle.un_reader.specs.Read.{IsRead, IsTextFault, too_long, on_line, in_whole, at_entry}
 use Rattle.un_reader.specs.declared.fault.Fault.{Fault}
 use Rattle.un_reader.specs.declared.fault.Fault.TheVariants.{TooMany}

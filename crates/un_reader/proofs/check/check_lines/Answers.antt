@@ -1,8 +1,8 @@
 use Rattle.std.proofs.Common.{arith, take, drop, length-drop, refl}
 use Rattle.std.proofs.lemmas.List.{take_rest, length_push}
 use Rattle.std.proofs.lemmas.Result.{err_from_is_err_and}
-use Rattle.un_reader.specs.LineFaults.{line_of}
-use Rattle.un_reader.specs.Pieces.{lines_in}
+use Rattle.un_words.specs.Shapes.{line_of}
+use Rattle.un_words.specs.Pieces.{lines_in}
 use Rattle.un_reader.proofs.CheckLaws.{seen_step, fault_step}
 use Rattle.un_reader.proofs.check.check_lines.Goals as goal
 

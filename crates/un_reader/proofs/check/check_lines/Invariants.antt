@@ -1,7 +1,7 @@
 -- the lines so far have no fault
 use Rattle.std.proofs.Common.{◌≡◌, ◌+◌, ◌≤◌, length}
 use Rattle.un_reader.specs.Before.{before_of}
-use Rattle.un_reader.specs.Pieces.{lines_in}
+use Rattle.un_words.specs.Pieces.{lines_in}
 use Rattle.un_reader.proofs.CheckLaws.{Seen}
 use Rattle.un_reader.proofs.check.check_lines.Given as goal
 

@@ -1,5 +1,6 @@
 use Rattle.std.proofs.Common.{arith, ◌≡◌, ◌+◌, ◌<◌, ◌≤◌, List, length, sym, ap, ◌∙◌, subst}
 use Rattle.un_ir.specs.declared.function.Block.{Block}
+use Rattle.un_ir.specs.declared.function.TheConstants.{NAMES}
 use Rattle.un_reader.specs.declared.before.Before.{Before}
 use Rattle.un_reader.specs.declared.fault.Fault.TheVariants.{TooMany, LiveAtEntry}
 use Rattle.un_reader.specs.declared.limits.TheConstants.{TEXT}
@@ -7,7 +8,7 @@ use Rattle.std.specs.List.{position_or_len}
 use Rattle.un_reader.specs.Lines.{shapes_in}
 use Rattle.un_reader.specs.TextFaults.{is_block}
 use Rattle.un_reader.specs.Named.{IsNamed}
-use Rattle.un_reader.specs.Tokens.{Spelled}
+use Rattle.un_words.specs.Tokens.{Spelled}
 use Rattle.un_reader.specs.Before.{labels_of, names_of}
 use Rattle.un_reader.specs.Functions.{blocks_of}
 use Rattle.un_reader.specs.Read.{IsTextFault, too_long}
@@ -32,7 +33,7 @@ returns-in_err-lines-clause-fault c =
 pub good_parts-requires-clause-few : goal.good_parts-requires-clause-few
 good_parts-requires-clause-few c =
     let kept = kept_here c.args.text.now c.in_ok-lines.field-0.lines c.in_ok-lines.ensures.good c.in_ok-lines.ensures.lines in
-    subst (λ (b : Before). length b.names ≤ 40) (sym c.in_ok-lines.ensures.before) kept.few
+    subst (λ (b : Before). length b.names ≤ NAMES) (sym c.in_ok-lines.ensures.before) kept.few
 
 pub good_parts-requires-clause-named : goal.good_parts-requires-clause-named
 good_parts-requires-clause-named c =
@@ -41,8 +42,8 @@ good_parts-requires-clause-named c =
 
 pub good_parts-requires-clause-labels : goal.good_parts-requires-clause-labels
 good_parts-requires-clause-labels c =
-    let few : length (labels_of c.in_ok-lines.field-0.lines) ≤ 65536 = omega (arith, few_labels c.in_ok-lines.field-0.lines, c.in_ok-lines.ensures.count) in
-    subst (λ (b : Before). length b.labels ≤ 65536) (sym c.in_ok-lines.ensures.before) few
+    let few : length (labels_of c.in_ok-lines.field-0.lines) ≤ TEXT = omega (arith, few_labels c.in_ok-lines.field-0.lines, c.in_ok-lines.ensures.count) in
+    subst (λ (b : Before). length b.labels ≤ TEXT) (sym c.in_ok-lines.ensures.before) few
 
 pub returns-in_err-parts-clause-fault : goal.returns-in_err-parts-clause-fault
 returns-in_err-parts-clause-fault c =

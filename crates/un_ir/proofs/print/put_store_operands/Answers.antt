@@ -1,9 +1,0 @@
-use Rattle.std.proofs.Common.{arith}
-use Rattle.std.proofs.lemmas.Grind.{common_steps}
-use Rattle.un_ir.specs.Text.{name_text}
-use Rattle.un_ir.proofs.Commas.{spaced-map-store}
-use Rattle.un_ir.proofs.print.put_store_operands.Goals as goal
-
-pub returns-in_ok-put_literal-in-len1-up : goal.returns-in_ok-put_literal-in-len1-up
-returns-in_ok-put_literal-in-len1-up c =
-    grind (arith, common_steps, spaced-map-store (name_text c.args.names.now) c.args.list.now (record { 0 = 0 }) c.args.o.now c.in-len1-up.len_at_least)

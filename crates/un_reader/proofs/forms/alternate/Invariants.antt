@@ -1,7 +1,0 @@
--- the words that are left decide
-use Rattle.std.proofs.Common.{◌≡◌, drop, true}
-use Rattle.un_reader.specs.Shapes.{alternate}
-use Rattle.un_reader.proofs.forms.alternate.Given as goal
-
-abbrev pub invariant-loop-token : goal.invariant-loop-token
-invariant-loop-token l = alternate true l.tokens ≡ alternate l.named (drop l.token-index l.tokens)

@@ -1,0 +1,8 @@
+-- only blanks so far
+use Rattle.std.proofs.Common.{◌≡◌, ◌+◌, drop}
+use Rattle.std.specs.List.{prefix_len}
+use Rattle.un_words.specs.Words.{is_blank}
+use Rattle.un_words.proofs.words.blanks_len.Given as goal
+
+abbrev pub invariant-loop-i : goal.invariant-loop-i
+invariant-loop-i l = prefix_len is_blank l.line ≡ l.i + prefix_len is_blank (drop l.i l.line)
