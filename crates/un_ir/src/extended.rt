@@ -151,17 +151,9 @@ impl Clone for Ext {
 }
 
 /// A block of a linear function: an extended block without copies, Enter and Leave, with one alternative per operand.
-#[derive(Debug, PartialEq, Eq, Drop)]
-pub struct LssaBlock {
-    pub freq: u32,
-    pub label: Name,
-    pub live_in: Items<NameId>,
-    pub live_out: Items<NameId>,
-    pub ops: Items<ExtOp>,
-    pub horizon: u32,
-}
+pub type LssaBlock = ExtBlock;
 
-/// A linear function with its table.
+/// A linear function with its table. `names` has the kind of each name of the function, by its number.
 #[derive(Debug, PartialEq, Eq, Drop)]
 pub struct Lssa {
     pub table: Table,

@@ -3,6 +3,7 @@ pub mod Fit
 pub mod Hexagon
 pub mod Memories
 pub mod Operands
+pub mod Registers
 pub mod Starts
 pub mod Tables
 pub mod Words
