@@ -1,3 +1,4 @@
 pub mod Commas
 pub mod SameFunction
 mod ExtendValues
+pub mod NameBounds
