@@ -2,3 +2,4 @@ pub mod Commas
 pub mod SameFunction
 mod ExtendValues
 pub mod NameBounds
+pub mod FunctionFacts
