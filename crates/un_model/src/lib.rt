@@ -1,0 +1,7 @@
+//! The model of a function: its variables with their domains, its solutions and their cost.
+#![tactic(auto)]
+
+pub mod limits;
+pub mod model;
+pub mod schedule;
+pub mod verdict;
