@@ -2,10 +2,11 @@
 use Rattle.std.proofs.Common.{ℕ, zero, suc, ◌≡◌, ◌<◌, Bool, true, false, ◌&&◌, not, slice_get, Some, IsSomeAnd, refl, arith, lit<, lit≤, ◌⊎◌, inl, inr}
 use Rattle.std.proofs.lemmas.Bool.{cases_lt}
 use Rattle.un_isa.specs.declared.op.Op.{Op}
-use Rattle.un_isa.specs.declared.op.Op.TheVariants.{Imm, Mov, Add, Sub, And, Or, Xor, Addi, Andi, Ori, Mux, CmpEq, CmpGt, CmpGtu, CmpEqi, CmpGti, Mpyi, Asl, Asr, Lsr, Load, Store, Call, Jump, JumpIf, JumpIfNot, Jumpr, Spill, Reload, P2R, R2P, Enter, Leave, Nop}
+use Rattle.un_isa.specs.declared.op.Op.TheVariants.{Imm, Store, Jump, JumpIf, JumpIfNot, Jumpr, Spill, Enter, Leave, Nop}
 use Rattle.un_isa.specs.Starts.{is_clobbered}
 use Rattle.un_isa.specs.Tables.{number_of, latency_of, in_mask}
-use Rattle.un_isa.specs.Hexagon.{HEXAGON, IsHexagon, class_of, needs_by, latency_by, is_saved}
+use Rattle.un_isa.specs.Facts.{class_of, latency_by}
+use Rattle.un_isa.specs.Hexagon.{HEXAGON, IsHexagon, needs_by, is_saved}
 use Rattle.un_isa.specs.Fit.{IsFit, IsFitLatency, AreFitNeeds, may_be_saved}
 
 -- a test that holds at each number below n
@@ -48,75 +49,11 @@ so_holds false b h e = absurd (cc e)
 
 latencies : (op : Op) → latency_of HEXAGON op ≡ latency_by op
 latencies Imm = refl
-latencies Mov = refl
-latencies Add = refl
-latencies Sub = refl
-latencies And = refl
-latencies Or = refl
-latencies Xor = refl
-latencies Addi = refl
-latencies Andi = refl
-latencies Ori = refl
-latencies Mux = refl
-latencies CmpEq = refl
-latencies CmpGt = refl
-latencies CmpGtu = refl
-latencies CmpEqi = refl
-latencies CmpGti = refl
-latencies Mpyi = refl
-latencies Asl = refl
-latencies Asr = refl
-latencies Lsr = refl
-latencies Load = refl
-latencies Store = refl
-latencies Call = refl
-latencies Jump = refl
-latencies JumpIf = refl
-latencies JumpIfNot = refl
-latencies Jumpr = refl
-latencies Spill = refl
-latencies Reload = refl
-latencies P2R = refl
-latencies R2P = refl
-latencies Enter = refl
-latencies Leave = refl
-latencies Nop = refl
+latencies _ = refl
 
 needs : (op : Op) → slice_get HEXAGON.uses (number_of op) ≡ Some (needs_by (class_of op))
 needs Imm = refl
-needs Mov = refl
-needs Add = refl
-needs Sub = refl
-needs And = refl
-needs Or = refl
-needs Xor = refl
-needs Addi = refl
-needs Andi = refl
-needs Ori = refl
-needs Mux = refl
-needs CmpEq = refl
-needs CmpGt = refl
-needs CmpGtu = refl
-needs CmpEqi = refl
-needs CmpGti = refl
-needs Mpyi = refl
-needs Asl = refl
-needs Asr = refl
-needs Lsr = refl
-needs Load = refl
-needs Store = refl
-needs Call = refl
-needs Jump = refl
-needs JumpIf = refl
-needs JumpIfNot = refl
-needs Jumpr = refl
-needs Spill = refl
-needs Reload = refl
-needs P2R = refl
-needs R2P = refl
-needs Enter = refl
-needs Leave = refl
-needs Nop = refl
+needs _ = refl
 
 pub hexagon_entries : IsHexagon HEXAGON
 hexagon_entries = record {
@@ -130,76 +67,20 @@ hexagon_entries = record {
 }
 
 fit_latencies : (op : Op) → IsFitLatency op (latency_of HEXAGON op)
-fit_latencies Imm = (lit≤ tt, lit≤ tt, tt)
-fit_latencies Mov = (lit≤ tt, lit≤ tt, tt)
-fit_latencies Add = (lit≤ tt, lit≤ tt, tt)
-fit_latencies Sub = (lit≤ tt, lit≤ tt, tt)
-fit_latencies And = (lit≤ tt, lit≤ tt, tt)
-fit_latencies Or = (lit≤ tt, lit≤ tt, tt)
-fit_latencies Xor = (lit≤ tt, lit≤ tt, tt)
-fit_latencies Addi = (lit≤ tt, lit≤ tt, tt)
-fit_latencies Andi = (lit≤ tt, lit≤ tt, tt)
-fit_latencies Ori = (lit≤ tt, lit≤ tt, tt)
-fit_latencies Mux = (lit≤ tt, lit≤ tt, tt)
-fit_latencies CmpEq = (lit≤ tt, lit≤ tt, tt)
-fit_latencies CmpGt = (lit≤ tt, lit≤ tt, tt)
-fit_latencies CmpGtu = (lit≤ tt, lit≤ tt, tt)
-fit_latencies CmpEqi = (lit≤ tt, lit≤ tt, tt)
-fit_latencies CmpGti = (lit≤ tt, lit≤ tt, tt)
-fit_latencies Mpyi = (lit≤ tt, lit≤ tt, tt)
-fit_latencies Asl = (lit≤ tt, lit≤ tt, tt)
-fit_latencies Asr = (lit≤ tt, lit≤ tt, tt)
-fit_latencies Lsr = (lit≤ tt, lit≤ tt, tt)
-fit_latencies Load = (lit≤ tt, lit≤ tt, tt)
 fit_latencies Store = (lit≤ tt, lit≤ tt, refl)
-fit_latencies Call = (lit≤ tt, lit≤ tt, tt)
 fit_latencies Jump = (lit≤ tt, lit≤ tt, refl)
 fit_latencies JumpIf = (lit≤ tt, lit≤ tt, refl)
 fit_latencies JumpIfNot = (lit≤ tt, lit≤ tt, refl)
 fit_latencies Jumpr = (lit≤ tt, lit≤ tt, refl)
 fit_latencies Spill = (lit≤ tt, lit≤ tt, refl)
-fit_latencies Reload = (lit≤ tt, lit≤ tt, tt)
-fit_latencies P2R = (lit≤ tt, lit≤ tt, tt)
-fit_latencies R2P = (lit≤ tt, lit≤ tt, tt)
 fit_latencies Enter = (lit≤ tt, lit≤ tt, refl)
 fit_latencies Leave = (lit≤ tt, lit≤ tt, refl)
 fit_latencies Nop = (lit≤ tt, lit≤ tt, refl)
+fit_latencies _ = (lit≤ tt, lit≤ tt, tt)
 
 fit_needs : (op : Op) → IsSomeAnd (slice_get HEXAGON.uses (number_of op)) (AreFitNeeds (needs_by (class_of op)))
 fit_needs Imm = record { mem = (lit≤ tt, lit≤ tt); store = (lit≤ tt, lit≤ tt); xc = (lit≤ tt, lit≤ tt); control = (lit≤ tt, lit≤ tt) }
-fit_needs Mov = record { mem = (lit≤ tt, lit≤ tt); store = (lit≤ tt, lit≤ tt); xc = (lit≤ tt, lit≤ tt); control = (lit≤ tt, lit≤ tt) }
-fit_needs Add = record { mem = (lit≤ tt, lit≤ tt); store = (lit≤ tt, lit≤ tt); xc = (lit≤ tt, lit≤ tt); control = (lit≤ tt, lit≤ tt) }
-fit_needs Sub = record { mem = (lit≤ tt, lit≤ tt); store = (lit≤ tt, lit≤ tt); xc = (lit≤ tt, lit≤ tt); control = (lit≤ tt, lit≤ tt) }
-fit_needs And = record { mem = (lit≤ tt, lit≤ tt); store = (lit≤ tt, lit≤ tt); xc = (lit≤ tt, lit≤ tt); control = (lit≤ tt, lit≤ tt) }
-fit_needs Or = record { mem = (lit≤ tt, lit≤ tt); store = (lit≤ tt, lit≤ tt); xc = (lit≤ tt, lit≤ tt); control = (lit≤ tt, lit≤ tt) }
-fit_needs Xor = record { mem = (lit≤ tt, lit≤ tt); store = (lit≤ tt, lit≤ tt); xc = (lit≤ tt, lit≤ tt); control = (lit≤ tt, lit≤ tt) }
-fit_needs Addi = record { mem = (lit≤ tt, lit≤ tt); store = (lit≤ tt, lit≤ tt); xc = (lit≤ tt, lit≤ tt); control = (lit≤ tt, lit≤ tt) }
-fit_needs Andi = record { mem = (lit≤ tt, lit≤ tt); store = (lit≤ tt, lit≤ tt); xc = (lit≤ tt, lit≤ tt); control = (lit≤ tt, lit≤ tt) }
-fit_needs Ori = record { mem = (lit≤ tt, lit≤ tt); store = (lit≤ tt, lit≤ tt); xc = (lit≤ tt, lit≤ tt); control = (lit≤ tt, lit≤ tt) }
-fit_needs Mux = record { mem = (lit≤ tt, lit≤ tt); store = (lit≤ tt, lit≤ tt); xc = (lit≤ tt, lit≤ tt); control = (lit≤ tt, lit≤ tt) }
-fit_needs CmpEq = record { mem = (lit≤ tt, lit≤ tt); store = (lit≤ tt, lit≤ tt); xc = (lit≤ tt, lit≤ tt); control = (lit≤ tt, lit≤ tt) }
-fit_needs CmpGt = record { mem = (lit≤ tt, lit≤ tt); store = (lit≤ tt, lit≤ tt); xc = (lit≤ tt, lit≤ tt); control = (lit≤ tt, lit≤ tt) }
-fit_needs CmpGtu = record { mem = (lit≤ tt, lit≤ tt); store = (lit≤ tt, lit≤ tt); xc = (lit≤ tt, lit≤ tt); control = (lit≤ tt, lit≤ tt) }
-fit_needs CmpEqi = record { mem = (lit≤ tt, lit≤ tt); store = (lit≤ tt, lit≤ tt); xc = (lit≤ tt, lit≤ tt); control = (lit≤ tt, lit≤ tt) }
-fit_needs CmpGti = record { mem = (lit≤ tt, lit≤ tt); store = (lit≤ tt, lit≤ tt); xc = (lit≤ tt, lit≤ tt); control = (lit≤ tt, lit≤ tt) }
-fit_needs Mpyi = record { mem = (lit≤ tt, lit≤ tt); store = (lit≤ tt, lit≤ tt); xc = (lit≤ tt, lit≤ tt); control = (lit≤ tt, lit≤ tt) }
-fit_needs Asl = record { mem = (lit≤ tt, lit≤ tt); store = (lit≤ tt, lit≤ tt); xc = (lit≤ tt, lit≤ tt); control = (lit≤ tt, lit≤ tt) }
-fit_needs Asr = record { mem = (lit≤ tt, lit≤ tt); store = (lit≤ tt, lit≤ tt); xc = (lit≤ tt, lit≤ tt); control = (lit≤ tt, lit≤ tt) }
-fit_needs Lsr = record { mem = (lit≤ tt, lit≤ tt); store = (lit≤ tt, lit≤ tt); xc = (lit≤ tt, lit≤ tt); control = (lit≤ tt, lit≤ tt) }
-fit_needs Load = record { mem = (lit≤ tt, lit≤ tt); store = (lit≤ tt, lit≤ tt); xc = (lit≤ tt, lit≤ tt); control = (lit≤ tt, lit≤ tt) }
-fit_needs Store = record { mem = (lit≤ tt, lit≤ tt); store = (lit≤ tt, lit≤ tt); xc = (lit≤ tt, lit≤ tt); control = (lit≤ tt, lit≤ tt) }
-fit_needs Call = record { mem = (lit≤ tt, lit≤ tt); store = (lit≤ tt, lit≤ tt); xc = (lit≤ tt, lit≤ tt); control = (lit≤ tt, lit≤ tt) }
-fit_needs Jump = record { mem = (lit≤ tt, lit≤ tt); store = (lit≤ tt, lit≤ tt); xc = (lit≤ tt, lit≤ tt); control = (lit≤ tt, lit≤ tt) }
-fit_needs JumpIf = record { mem = (lit≤ tt, lit≤ tt); store = (lit≤ tt, lit≤ tt); xc = (lit≤ tt, lit≤ tt); control = (lit≤ tt, lit≤ tt) }
-fit_needs JumpIfNot = record { mem = (lit≤ tt, lit≤ tt); store = (lit≤ tt, lit≤ tt); xc = (lit≤ tt, lit≤ tt); control = (lit≤ tt, lit≤ tt) }
-fit_needs Jumpr = record { mem = (lit≤ tt, lit≤ tt); store = (lit≤ tt, lit≤ tt); xc = (lit≤ tt, lit≤ tt); control = (lit≤ tt, lit≤ tt) }
-fit_needs Spill = record { mem = (lit≤ tt, lit≤ tt); store = (lit≤ tt, lit≤ tt); xc = (lit≤ tt, lit≤ tt); control = (lit≤ tt, lit≤ tt) }
-fit_needs Reload = record { mem = (lit≤ tt, lit≤ tt); store = (lit≤ tt, lit≤ tt); xc = (lit≤ tt, lit≤ tt); control = (lit≤ tt, lit≤ tt) }
-fit_needs P2R = record { mem = (lit≤ tt, lit≤ tt); store = (lit≤ tt, lit≤ tt); xc = (lit≤ tt, lit≤ tt); control = (lit≤ tt, lit≤ tt) }
-fit_needs R2P = record { mem = (lit≤ tt, lit≤ tt); store = (lit≤ tt, lit≤ tt); xc = (lit≤ tt, lit≤ tt); control = (lit≤ tt, lit≤ tt) }
-fit_needs Enter = record { mem = (lit≤ tt, lit≤ tt); store = (lit≤ tt, lit≤ tt); xc = (lit≤ tt, lit≤ tt); control = (lit≤ tt, lit≤ tt) }
-fit_needs Leave = record { mem = (lit≤ tt, lit≤ tt); store = (lit≤ tt, lit≤ tt); xc = (lit≤ tt, lit≤ tt); control = (lit≤ tt, lit≤ tt) }
-fit_needs Nop = record { mem = (lit≤ tt, lit≤ tt); store = (lit≤ tt, lit≤ tt); xc = (lit≤ tt, lit≤ tt); control = (lit≤ tt, lit≤ tt) }
+fit_needs _ = record { mem = (lit≤ tt, lit≤ tt); store = (lit≤ tt, lit≤ tt); xc = (lit≤ tt, lit≤ tt); control = (lit≤ tt, lit≤ tt) }
 
 pub hexagon_fit : IsFit HEXAGON
 hexagon_fit = record {

@@ -1,3 +1,4 @@
 pub mod HexagonTable
 pub mod MemoryWords
+pub mod RegisterBits
 pub mod Shifts

@@ -1,41 +1,15 @@
 -- A literal in its range shifts by 0 to 31.
-use Rattle.std.proofs.Common.{ℤ}
+use Rattle.std.proofs.Common.{ℤ, Option, Some, None}
 use Rattle.un_isa.specs.declared.op.Op.{Op}
-use Rattle.un_isa.specs.declared.op.Op.TheVariants.{Imm, Mov, Add, Sub, And, Or, Xor, Addi, Andi, Ori, Mux, CmpEq, CmpGt, CmpGtu, CmpEqi, CmpGti, Mpyi, Asl, Asr, Lsr, Load, Store, Call, Jump, JumpIf, JumpIfNot, Jumpr, Spill, Reload, P2R, R2P, Enter, Leave, Nop}
-use Rattle.un_isa.specs.Operands.{IsLiteral, IsShift}
+use Rattle.un_isa.specs.declared.facts.Range.{Range}
+use Rattle.un_isa.specs.declared.facts.Range.TheVariants.{Unsigned5}
+use Rattle.un_isa.specs.Facts.{literal_range}
+use Rattle.un_isa.specs.Operands.{IsLiteral, IsInRangeOf, IsShift, IsShiftOf}
+
+of_range : (range : Option Range) (n : ℤ) → IsInRangeOf range n → IsShiftOf range n
+of_range None n h = tt
+of_range (Some Unsigned5) n h = h
+of_range (Some _) n h = tt
 
 pub literal_shift : (op : Op) (n : ℤ) → IsLiteral op n → IsShift op n
-literal_shift Imm n h = tt
-literal_shift Mov n h = tt
-literal_shift Add n h = tt
-literal_shift Sub n h = tt
-literal_shift And n h = tt
-literal_shift Or n h = tt
-literal_shift Xor n h = tt
-literal_shift Addi n h = tt
-literal_shift Andi n h = tt
-literal_shift Ori n h = tt
-literal_shift Mux n h = tt
-literal_shift CmpEq n h = tt
-literal_shift CmpGt n h = tt
-literal_shift CmpGtu n h = tt
-literal_shift CmpEqi n h = tt
-literal_shift CmpGti n h = tt
-literal_shift Mpyi n h = tt
-literal_shift Asl n h = h
-literal_shift Asr n h = h
-literal_shift Lsr n h = h
-literal_shift Load n h = tt
-literal_shift Store n h = tt
-literal_shift Call n h = tt
-literal_shift Jump n h = tt
-literal_shift JumpIf n h = tt
-literal_shift JumpIfNot n h = tt
-literal_shift Jumpr n h = tt
-literal_shift Spill n h = tt
-literal_shift Reload n h = tt
-literal_shift P2R n h = tt
-literal_shift R2P n h = tt
-literal_shift Enter n h = tt
-literal_shift Leave n h = tt
-literal_shift Nop n h = tt
+literal_shift op n h = of_range (literal_range op) n h

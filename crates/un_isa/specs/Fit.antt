@@ -1,26 +1,17 @@
 -- Which tables the compiler works for: HEXAGON, and those that differ from it in these ways alone.
-use Rattle.std.specs.Prelude.{ℕ, ◌≡◌, ◌<◌, ◌≤◌, ◌^◌, Bool, true, false, ◌&&◌, not, nat_le, slice_get, IsSomeAnd}
+use Rattle.std.specs.Prelude.{ℕ, ◌≡◌, ◌<◌, ◌≤◌, ◌^◌, Bool, true, ◌&&◌, not, is_none, nat_le, slice_get, IsSomeAnd}
 use Rattle.std.specs.Bool.{OnTrue}
 use Rattle.un_isa.specs.declared.op.Op.{Op}
-use Rattle.un_isa.specs.declared.op.Op.TheVariants.{Store, Jump, JumpIf, JumpIfNot, Jumpr, Spill, Enter, Leave, Nop}
 use Rattle.un_isa.specs.declared.table.Needs.{Needs}
 use Rattle.un_isa.specs.declared.table.Table.{Table}
 use Rattle.un_isa.specs.Tables.{number_of, latency_of, in_mask}
 use Rattle.un_isa.specs.Starts.{is_clobbered}
-use Rattle.un_isa.specs.Hexagon.{HEXAGON, class_of, needs_by, is_saved}
+use Rattle.un_isa.specs.Facts.{class_of, result_space}
+use Rattle.un_isa.specs.Hexagon.{HEXAGON, needs_by, is_saved}
 
--- the operations whose latency is always 1
+-- the operations whose latency is always 1: those without a result
 abbrev pub is_quick : Op → Bool
-is_quick Store = true
-is_quick Spill = true
-is_quick Enter = true
-is_quick Leave = true
-is_quick Jump = true
-is_quick JumpIf = true
-is_quick JumpIfNot = true
-is_quick Jumpr = true
-is_quick Nop = true
-is_quick _ = false
+is_quick op = is_none (result_space op)
 
 -- at most 1, and at least so many
 abbrev pub IsAtMostOne : ℕ → ℕ → Type 0

@@ -1,8 +1,12 @@
 pub mod Exactness
+pub mod Facts
 pub mod Fit
 pub mod Hexagon
 pub mod Memories
 pub mod Operands
+pub mod PacketCounts
+pub mod RegSets
+pub mod Registers
 pub mod Starts
 pub mod Tables
 pub mod Words

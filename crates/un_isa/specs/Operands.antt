@@ -1,45 +1,14 @@
 -- Which operands and literals the operations take.
-use Rattle.std.specs.Prelude.{ℕ, ℤ, pos, negsuc, ◌≡◌, ◌<◌, ◌≤ℤ◌, Bool, true, false, List, length, slice_index}
+use Rattle.std.specs.Prelude.{ℕ, ℤ, pos, negsuc, ◌≡◌, ◌<◌, ◌≤ℤ◌, Bool, true, false, ◌&&◌, is_some, List, [], ◌∷◌, length, Option, Some, None}
 use Rattle.std.specs.Int.{int_rem_euclid}
 use Rattle.un_isa.specs.declared.op.Op.{Op}
-use Rattle.un_isa.specs.declared.op.Op.TheVariants.{Imm, Mov, Add, Sub, And, Or, Xor, Addi, Andi, Ori, Mux, CmpEq, CmpGt, CmpGtu, CmpEqi, CmpGti, Mpyi, Asl, Asr, Lsr, Load, Store, Call, Jump, JumpIf, JumpIfNot, Jumpr, Spill, Reload, P2R, R2P, Enter, Leave, Nop}
-
--- how many operands an operation has; a call's depend on its callee, and are not counted here
-abbrev pub operand_count : Op → ℕ
-operand_count Imm = 0
-operand_count Mov = 1
-operand_count Add = 2
-operand_count Sub = 2
-operand_count And = 2
-operand_count Or = 2
-operand_count Xor = 2
-operand_count Addi = 1
-operand_count Andi = 1
-operand_count Ori = 1
-operand_count Mux = 3
-operand_count CmpEq = 2
-operand_count CmpGt = 2
-operand_count CmpGtu = 2
-operand_count CmpEqi = 1
-operand_count CmpGti = 1
-operand_count Mpyi = 2
-operand_count Asl = 1
-operand_count Asr = 1
-operand_count Lsr = 1
-operand_count Load = 1
-operand_count Store = 2
-operand_count Call = 0
-operand_count Jump = 0
-operand_count JumpIf = 1
-operand_count JumpIfNot = 1
-operand_count Jumpr = 1
-operand_count Spill = 1
-operand_count Reload = 0
-operand_count P2R = 1
-operand_count R2P = 1
-operand_count Enter = 0
-operand_count Leave = 0
-operand_count Nop = 0
+use Rattle.un_isa.specs.declared.reg.Space.{Space}
+use Rattle.un_isa.specs.declared.reg.Space.TheVariants.{R, P, M}
+use Rattle.un_isa.specs.declared.facts.Class.{Class}
+use Rattle.un_isa.specs.declared.facts.Class.TheVariants.{Alu32, Xtype, Loading, Storing, Control, Nothing}
+use Rattle.un_isa.specs.declared.facts.Range.{Range}
+use Rattle.un_isa.specs.declared.facts.Range.TheVariants.{Signed16, Signed10, Unsigned5, Offset, FrameOffset}
+use Rattle.un_isa.specs.Facts.{class_of, operand_spaces, operand_count, result_space, literal_range}
 
 -- the ranges of literals: signed ones of 16 and 10 bits, unsigned ones of 5 bits, and offsets, which are multiples of 4
 abbrev pub IsSigned16 : ℤ → Type 0
@@ -54,49 +23,69 @@ IsUnsigned5 n = (pos 0 ≤ℤ n) × (n ≤ℤ pos 31)
 abbrev pub IsOffset : ℤ → Type 0
 IsOffset n = (negsuc 4095 ≤ℤ n) × (n ≤ℤ pos 4092) × (int_rem_euclid n (pos 4) ≡ pos 0)
 
+-- the offset of a frame word, from the start of the frame
+abbrev pub IsFrameOffset : ℤ → Type 0
+IsFrameOffset n = (pos 0 ≤ℤ n) × (n ≤ℤ pos 4092) × (int_rem_euclid n (pos 4) ≡ pos 0)
+
+abbrev pub InRange : Range → ℤ → Type 0
+InRange Signed16 n = IsSigned16 n
+InRange Signed10 n = IsSigned10 n
+InRange Unsigned5 n = IsUnsigned5 n
+InRange Offset n = IsOffset n
+InRange FrameOffset n = IsFrameOffset n
+
+abbrev pub IsInRangeOf : Option Range → ℤ → Type 0
+IsInRangeOf None n = Unit {0}
+IsInRangeOf (Some range) n = InRange range n
+
 -- a literal in the range of its operation; an operation that has none takes every number
 abbrev pub IsLiteral : Op → ℤ → Type 0
-IsLiteral Imm n = IsSigned16 n
-IsLiteral Addi n = IsSigned16 n
-IsLiteral Andi n = IsSigned10 n
-IsLiteral Ori n = IsSigned10 n
-IsLiteral CmpEqi n = IsSigned10 n
-IsLiteral CmpGti n = IsSigned10 n
-IsLiteral Asl n = IsUnsigned5 n
-IsLiteral Asr n = IsUnsigned5 n
-IsLiteral Lsr n = IsUnsigned5 n
-IsLiteral Load n = IsOffset n
-IsLiteral Store n = IsOffset n
-IsLiteral _ n = Unit {0}
+IsLiteral op n = IsInRangeOf (literal_range op) n
+
+abbrev pub IsLiteralOf : Option Range → ℤ → Type 0
+IsLiteralOf None n = n ≡ pos 0
+IsLiteralOf (Some range) n = InRange range n
+
+-- a literal in the range of its operation; an operation that has none has 0
+abbrev pub HasLiteral : Op → ℤ → Type 0
+HasLiteral op n = IsLiteralOf (literal_range op) n
+
+abbrev pub IsShiftOf : Option Range → ℤ → Type 0
+IsShiftOf (Some Unsigned5) n = IsUnsigned5 n
+IsShiftOf _ n = Unit {0}
 
 -- a shift by 0 to 31; no other operation shifts
 abbrev pub IsShift : Op → ℤ → Type 0
-IsShift Asl n = IsUnsigned5 n
-IsShift Asr n = IsUnsigned5 n
-IsShift Lsr n = IsUnsigned5 n
-IsShift _ n = Unit {0}
+IsShift op n = IsShiftOf (literal_range op) n
 
--- the operations of the classes ALU32 and XTYPE, but for those that move the stack pointer
+-- the classes whose instructions compute
+abbrev pub computes : Class → Bool
+computes Alu32 = true
+computes Xtype = true
+computes Loading = false
+computes Storing = false
+computes Control = false
+computes Nothing = false
+
+-- the operations that compute a result from their operands: those of the classes ALU32 and XTYPE, but for those that move the
+-- stack pointer, which have no result of their own
 abbrev pub is_alu : Op → Bool
-is_alu Load = false
-is_alu Store = false
-is_alu Call = false
-is_alu Jump = false
-is_alu JumpIf = false
-is_alu JumpIfNot = false
-is_alu Jumpr = false
-is_alu Spill = false
-is_alu Reload = false
-is_alu Enter = false
-is_alu Leave = false
-is_alu Nop = false
-is_alu _ = true
+is_alu op = computes (class_of op) && is_some (result_space op)
+
+-- a value that may stand in a space: a predicate is 0 or 1
+abbrev pub IsValueIn : Space → ℕ → Type 0
+IsValueIn R x = Unit {0}
+IsValueIn P x = x < 2
+IsValueIn M x = Unit {0}
+
+abbrev pub AreValuesIn : List Space → List ℕ → Type 0
+AreValuesIn [] xs = Unit {0}
+AreValuesIn (s ∷ ss) [] = Unit {0}
+AreValuesIn (s ∷ ss) (x ∷ xs) = IsValueIn s x × AreValuesIn ss xs
 
 -- the operand that is a predicate is 0 or 1
 abbrev pub HasTruth : Op → List ℕ → Type 0
-HasTruth Mux xs = slice_index xs 0 < 2
-HasTruth P2R xs = slice_index xs 0 < 2
-HasTruth _ xs = Unit {0}
+HasTruth op xs = AreValuesIn (operand_spaces op) xs
 
 -- an operation that computes a value of these operands and this literal
 pub record CanEval (op : Op) (xs : List ℕ) (n : ℤ) : Type 0 where

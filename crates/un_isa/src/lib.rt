@@ -5,11 +5,14 @@
 
 pub mod alu;
 pub mod exact;
+pub mod facts;
 pub mod instr;
 pub mod memory;
 pub mod op;
 pub mod outcome;
+pub mod packet_counts;
 pub mod reg;
+pub mod reg_set;
 pub mod start;
 pub mod table;
 #[cfg(test)]

@@ -1,5 +1,26 @@
 //! Registers and the spaces that they lie in.
 
+ghost use Rattle.std.specs.Prelude.{◌≡◌};
+ghost use Rattle.un_isa.specs.Registers.{space_of};
+
+/// The number of the stack pointer.
+pub const STACK: u32 = 29;
+
+/// The number of the link register, which holds the address to return to.
+pub const LINK: u32 = 31;
+
+/// How many general registers there are; the number of the first predicate.
+pub const GENERALS: u32 = 32;
+
+/// How many predicates there are.
+pub const PREDICATES: u32 = 4;
+
+/// How many registers there are, general ones and predicates.
+pub const REGISTERS: u32 = 36;
+
+/// The number of the first frame slot.
+pub const FIRST_SLOT: u32 = 36;
+
 /// How many slots a frame may have.
 pub const SLOTS: u32 = 64;
 
@@ -16,4 +37,17 @@ pub enum Space {
     R,
     P,
     M,
+}
+
+/// The space of the register or slot with this number.
+pub fn space_of(r: u32) -> Space
+    ensures { result ≡ space_of r }
+{
+    if r < GENERALS {
+        Space::R
+    } else if r < FIRST_SLOT {
+        Space::P
+    } else {
+        Space::M
+    }
 }
