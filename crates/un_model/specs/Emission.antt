@@ -8,6 +8,7 @@ use Rattle.un_base.specs.declared.ids.NameId.{NameId}
 use Rattle.un_base.specs.declared.ids.TempId.{TempId}
 use Rattle.un_isa.specs.declared.op.Op.{Op}
 use Rattle.un_isa.specs.declared.op.Op.TheVariants.{Call, Spill, Reload, Nop}
+use Rattle.un_isa.specs.declared.reg.TheConstants.{FIRST_SLOT}
 use Rattle.un_isa.specs.declared.reg.Reg.{Reg}
 use Rattle.un_isa.specs.declared.instr.Instr.{Instr}
 use Rattle.un_ir.specs.declared.function.SrcOp.{SrcOp}
@@ -50,7 +51,7 @@ result_register m values op = option_map (temp_register m values) (slice_get op.
 
 -- the larger of h and the slot of a temporary that is active and has one
 abbrev pub larger_slot : ℕ → LiveRange → ℕ
-larger_slot h range = if range.active && nat_le 36 range.reg then max h (range.reg - 36) else h
+larger_slot h range = if range.active && nat_le FIRST_SLOT range.reg then max h (range.reg - FIRST_SLOT) else h
 
 abbrev pub largest_slot : List LiveRange → ℕ
 largest_slot ranges = fold larger_slot 0 ranges
@@ -65,7 +66,7 @@ frame_of m values = if value_of values m.flag == 0 then 0 else frame_bytes (larg
 -- the byte of the frame at which a slot begins
 abbrev pub slot_offset : Option Reg → ℤ
 slot_offset None = pos 0
-slot_offset (Some r) = pos (4 * (r.0 - 36))
+slot_offset (Some r) = pos (4 * (r.0 - FIRST_SLOT))
 
 -- ---- instructions
 

@@ -6,6 +6,7 @@ use Rattle.std.specs.List.{list_any}
 use Rattle.std.specs.Ordering.{nat_cmp}
 use Rattle.un_base.specs.declared.ids.NameId.{NameId}
 use Rattle.un_base.specs.declared.ids.TempId.{TempId}
+use Rattle.un_isa.specs.Registers.{saved_registers}
 use Rattle.un_isa.specs.Tables.{in_mask}
 use Rattle.un_isa.specs.declared.reg.Reg.{Reg}
 use Rattle.un_ir.specs.declared.extended.ExtBlock.{ExtBlock}
@@ -13,7 +14,7 @@ use Rattle.un_ir.specs.declared.extended.Ext.{Ext}
 use Rattle.un_ir.specs.declared.extended.ExtOp.{ExtOp}
 use Rattle.un_ir.specs.declared.extended.Operand.{Operand}
 use Rattle.un_model.specs.Pairs.{any_from}
-use Rattle.un_model.specs.Registers.{is_register, reads_value, result_home, gives_truth_at, is_home, is_truth, saved_registers}
+use Rattle.un_model.specs.Registers.{is_register, reads_value, result_home, gives_truth_at, is_home, is_truth}
 
 -- the mask of a temporary, 0 where there is none
 abbrev pub mask_of : BTreeMap ℕ ℕ → TempId → ℕ

@@ -1,11 +1,13 @@
 -- What the operations of an extended function are as instructions.
 use Rattle.std.specs.Prelude.{ℕ, Bool, true, false, ◌==◌, if◌then◌else◌, Option, Some, None, slice_get, unwrap_or}
-use Rattle.std.specs.Option.{option_map}
+use Rattle.un_isa.specs.Facts.{class_of, operand_space, result_space}
+use Rattle.un_isa.specs.declared.facts.Class.{Class}
+use Rattle.un_isa.specs.declared.facts.Class.TheVariants.{Control}
 use Rattle.un_isa.specs.Tables.{number_of, latency_of}
 use Rattle.un_isa.specs.declared.op.Op.{Op}
-use Rattle.un_isa.specs.declared.op.Op.TheVariants.{Mov, Mux, CmpEq, CmpGt, CmpGtu, CmpEqi, CmpGti, Jump as JumpOp, JumpIf, JumpIfNot, Jumpr, Spill, Reload, P2R, R2P, Enter as EnterOp, Leave as LeaveOp}
+use Rattle.un_isa.specs.declared.op.Op.TheVariants.{Mov, Call as CallOp, Jump as JumpOp, JumpIf, JumpIfNot, Jumpr, Spill, Reload, P2R, R2P, Enter as EnterOp, Leave as LeaveOp}
 use Rattle.un_isa.specs.declared.reg.Space.{Space}
-use Rattle.un_isa.specs.declared.reg.Space.TheVariants.{R, P, M}
+use Rattle.un_isa.specs.declared.reg.Space.TheVariants.{P, M}
 use Rattle.un_isa.specs.declared.table.Needs.{Needs}
 use Rattle.un_isa.specs.declared.table.Table.{Table}
 use Rattle.un_ir.specs.declared.function.Term.{Term}
@@ -60,45 +62,38 @@ abbrev pub width_by : Option Op → ℕ
 width_by None = 0
 width_by (Some op) = 1
 
+abbrev pub is_control : Class → Bool
+is_control Control = true
+is_control _ = false
+
 -- a control transfer that ends its block
 abbrev pub is_transfer : Op → Bool
-is_transfer JumpOp = true
-is_transfer JumpIf = true
-is_transfer JumpIfNot = true
-is_transfer Jumpr = true
-is_transfer _ = false
+is_transfer CallOp = false
+is_transfer op = is_control (class_of op)
 
--- the space of the operand at place j
-abbrev pub operand_space : Op → ℕ → Space
-operand_space Mux j = if j == 0 then P else R
-operand_space JumpIf j = P
-operand_space JumpIfNot j = P
-operand_space Reload j = M
-operand_space P2R j = P
-operand_space _ j = R
+-- the space of the operand at place j: a Reload's is a slot
+abbrev pub operand_space_in : Op → ℕ → Option Space
+operand_space_in Reload j = Some M
+operand_space_in op j = operand_space op j
 
--- the space of the result
-abbrev pub result_space : Op → Space
-result_space CmpEq = P
-result_space CmpGt = P
-result_space CmpGtu = P
-result_space CmpEqi = P
-result_space CmpGti = P
-result_space R2P = P
-result_space Spill = M
-result_space _ = R
+-- the space of the result: a Spill's is a slot
+abbrev pub result_space_in : Op → Option Space
+result_space_in Spill = Some M
+result_space_in op = result_space op
 
-abbrev pub is_predicate_space : Space → Bool
-is_predicate_space P = true
+-- the space that an instruction asks of its operand at place j, and of its result; the bounds of a block ask for none
+abbrev pub space_read : Option Op → ℕ → Option Space
+space_read None j = None
+space_read (Some op) j = operand_space_in op j
+
+abbrev pub space_given : Option Op → Option Space
+space_given None = None
+space_given (Some op) = result_space_in op
+
+abbrev pub is_predicate_space : Option Space → Bool
+is_predicate_space (Some P) = true
 is_predicate_space _ = false
 
 -- whether an operation of the source gives a truth value
 abbrev pub gives_truth : Op → Bool
 gives_truth op = is_predicate_space (result_space op)
-
--- the space that an instruction asks of its operand at place j, and of its result; the bounds of a block ask for none
-abbrev pub space_read : Option Op → ℕ → Option Space
-space_read instr j = option_map (λ (op : Op). operand_space op j) instr
-
-abbrev pub space_given : Option Op → Option Space
-space_given instr = option_map result_space instr

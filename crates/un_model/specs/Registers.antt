@@ -4,7 +4,8 @@ use Rattle.std.specs.List.{range_with_len, list_any}
 use Rattle.std.specs.Option.{option_map}
 use Rattle.un_base.specs.declared.ids.NameId.{NameId}
 use Rattle.un_base.specs.declared.ids.TempId.{TempId}
-use Rattle.un_isa.specs.Tables.{in_mask}
+use Rattle.un_isa.specs.Registers.{saved_registers}
+use Rattle.un_isa.specs.declared.reg.TheConstants.{GENERALS, FIRST_SLOT}
 use Rattle.un_isa.specs.declared.op.Op.{Op}
 use Rattle.un_isa.specs.declared.op.Op.TheVariants.{Call}
 use Rattle.un_isa.specs.declared.reg.Reg.{Reg}
@@ -27,21 +28,13 @@ abbrev pub is_assignable : Option ℕ → ℕ → Bool
 is_assignable None r = nat_lt r 29 || r == 31
 is_assignable (Some n) r = nat_lt r n
 
--- the registers that a function keeps, rising
-unfoldable pub kept_registers : Table → List ℕ
-kept_registers t = filter (in_mask t.saved) (range_with_len 0 32)
-
--- the registers whose values a function hands back: those that it keeps, then the link register
-abbrev pub saved_registers : Table → List ℕ
-saved_registers t = kept_registers t ++ 31 ∷ []
-
 -- p0 to p3
 abbrev pub predicate_registers : List ℕ
 predicate_registers = 32 ∷ 33 ∷ 34 ∷ 35 ∷ []
 
 -- the slots of a frame that has so many
 abbrev pub slots_of : ℕ → List ℕ
-slots_of n = range_with_len 36 n
+slots_of n = range_with_len FIRST_SLOT n
 
 -- ---- homes
 
@@ -114,7 +107,7 @@ is_truth names block x = list_any (λ (op : ExtOp). is_truth_of names block.live
 
 -- the general registers of value x: the assignable ones and its homes, rising
 unfoldable pub general_registers : Ext → Option ℕ → Bool → ExtBlock → TempId → List ℕ
-general_registers e regs is_entry block x = filter (λ (r : ℕ). is_assignable regs r || is_home e.table is_entry block x r) (range_with_len 0 32)
+general_registers e regs is_entry block x = filter (λ (r : ℕ). is_assignable regs r || is_home e.table is_entry block x r) (range_with_len 0 GENERALS)
 
 -- those, p0 to p3 where x is a truth value, and the slots
 abbrev pub value_registers : Ext → Option ℕ → ℕ → Bool → ExtBlock → TempId → List ℕ

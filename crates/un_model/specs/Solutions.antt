@@ -5,7 +5,8 @@ use Rattle.un_isa.specs.declared.op.Op.{Op}
 use Rattle.un_isa.specs.declared.op.Op.TheVariants.{Load, Store, Call, Spill, Reload, Enter, Leave}
 use Rattle.un_isa.specs.declared.reg.Reg.{Reg}
 use Rattle.un_isa.specs.declared.reg.Space.{Space}
-use Rattle.un_isa.specs.declared.reg.Space.TheVariants.{R, P, M}
+use Rattle.un_isa.specs.declared.reg.TheConstants.{FIRST_SLOT}
+use Rattle.un_isa.specs.Registers.{space_of}
 use Rattle.un_isa.specs.declared.table.Table.{Table}
 use Rattle.un_isa.specs.Tables.{in_mask}
 use Rattle.un_domains.specs.declared.domain.Domain.{Domain}
@@ -19,7 +20,7 @@ use Rattle.un_model.specs.declared.schedule.Read.{Read}
 use Rattle.un_model.specs.declared.schedule.LiveRange.{LiveRange}
 use Rattle.un_model.specs.declared.schedule.Schedule.{Schedule}
 use Rattle.un_model.specs.declared.verdict.Verdict.{Verdict}
-use Rattle.un_model.specs.declared.limits.TheConstants.{PACKET, MEM_PLACES, STORE_PLACES, XC_PLACES, CONTROL_PLACES}
+use Rattle.un_isa.specs.declared.packet_counts.TheConstants.{PACKET, MEM_PLACES, STORE_PLACES, XC_PLACES, CONTROL_PLACES}
 use Rattle.un_model.specs.Congruences.{KeepsCongruences}
 use Rattle.un_model.specs.Cost.{value_of}
 use Rattle.un_model.specs.Instructions.{latency_by, needs_by, width_by, is_transfer, space_read, space_given}
@@ -66,9 +67,7 @@ KeepsChoices t = All (λ (r : Read). IsLive (slice_get t.ranges r.temp.0)) t.rea
 
 abbrev pub InSpace : ℕ → Option Space → Type 0
 InSpace reg None = Unit {0}
-InSpace reg (Some R) = reg < 32
-InSpace reg (Some P) = (32 ≤ reg) × (reg < 36)
-InSpace reg (Some M) = 36 ≤ reg
+InSpace reg (Some space) = space_of reg ≡ space
 
 abbrev pub ReadsInSpace : Read → Option LiveRange → Type 0
 ReadsInSpace r None = ⊥
@@ -216,7 +215,7 @@ is_frame_access _ = false
 
 -- a value at a block's start, which alone is active without an instruction, has a slot
 abbrev pub starts_in_slot : LiveRange → Bool
-starts_in_slot h = h.active && is_none h.instr && nat_le 36 h.reg
+starts_in_slot h = h.active && is_none h.instr && nat_le FIRST_SLOT h.reg
 
 -- an active copy is a Spill or a Reload, or a value at a block's start has a slot
 abbrev pub uses_frame : Schedule → Bool
