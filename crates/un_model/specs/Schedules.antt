@@ -89,24 +89,28 @@ chosen alts c = unwrap_or (slice_get alts c) (record { 0 = 0 })
 abbrev pub choice_of : List ℕ → OpVars → ℕ → Operand → TempId
 choice_of values vars j operand = chosen operand.alts (value_by values (slice_get vars.choices j))
 
--- the operand at place j of operation n in block b, which has this end
-abbrev pub read_of : List ℕ → ℕ → ℕ → ℕ → ExtOp → OpVars → ℕ → Operand → Read
-read_of values b end n op vars j operand = record {
-  block = record { 0 = b };
-  user = record { 0 = n };
-  instr = instr_of values op vars;
+-- the operand at place j of an operation that issues so
+abbrev pub read_of : List ℕ → Issue → OpVars → ℕ → Operand → Read
+read_of values i vars j operand = record {
+  block = i.block;
+  user = i.op;
+  instr = i.instr;
   operand = j;
   temp = choice_of values vars j operand;
-  cycle = cycle_of values end op vars;
+  cycle = i.cycle;
   home = operand.home;
 }
 
--- what operation n reads, where it is active
-abbrev pub op_reads : List ℕ → ℕ → ℕ → ℕ → ExtOp → OpVars → List Read
-op_reads values b end n op vars = if is_active values op vars then places_from (read_of values b end n op vars) 0 op.operands else []
+-- what an operation that issues so reads, where it is active
+abbrev pub op_reads : List ℕ → Issue → ExtOp → OpVars → List Read
+op_reads values i op vars = if i.active then places_from (read_of values i vars) 0 op.operands else []
+
+-- what operation n reads, in block b, which has this end
+abbrev pub reads_at : List ℕ → ℕ → ℕ → ℕ → ExtOp → OpVars → List Read
+reads_at values b end n op vars = op_reads values (issue_of values b end n op vars) op vars
 
 abbrev pub block_reads : List ℕ → ℕ → ℕ → ExtBlock → BlockVars → List Read
-block_reads values b n block vars = joined (pairs_from (op_reads values b (value_of values vars.end)) n block.ops vars.ops)
+block_reads values b n block vars = joined (pairs_from (reads_at values b (value_of values vars.end)) n block.ops vars.ops)
 
 abbrev pub reads_of : Model → List ℕ → List Read
 reads_of m values = over_blocks (block_reads values) 0 0 m.ext.blocks m.blocks

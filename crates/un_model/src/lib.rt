@@ -4,5 +4,7 @@
 pub mod cost;
 mod instructions;
 pub mod model;
+mod numbers;
+pub mod placement;
 pub mod schedule;
 pub mod verdict;
