@@ -6,3 +6,5 @@ pub mod SameRoom
 pub mod Symmetric
 pub mod Orders
 pub mod Apart
+pub mod Calls
+pub mod Zeros

@@ -150,7 +150,7 @@ ShareNoCycle a b = a.active ≡ true → b.active ≡ true → a.block.0 ≡ b.b
 -- an operation, where it is a call, finds the clobbered registers free of all but its own result
 unfoldable pub SparesRange : ℕ → Issue → LiveRange → Type 0
 SparesRange clobbered i h =
-    i.instr ≡ Some Call → h.active ≡ true → i.block.0 ≡ h.block.0 → in_mask clobbered h.reg ≡ true → Occupies h i.cycle → h.op.0 ≡ i.op.0
+    i.instr ≡ Some Call → h.active ≡ true → i.block.0 ≡ h.block.0 → in_mask clobbered h.reg ≡ true → Occupies h i.cycle → i.op.0 ≡ h.op.0
 
 unfoldable pub IsSpared : ℕ → List Issue → LiveRange → Type 0
 IsSpared clobbered issues h = All (λ (i : Issue). SparesRange clobbered i h) issues

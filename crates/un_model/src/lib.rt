@@ -6,6 +6,7 @@ pub mod cost;
 mod instructions;
 pub mod model;
 mod numbers;
+mod occupations;
 mod packets;
 pub mod placement;
 pub mod schedule;
