@@ -1,6 +1,8 @@
 pub mod Steps
 pub mod Costs
 pub mod Domains
+pub mod Edges
+pub mod Apartness
 pub mod Rooms
 pub mod SameRoom
 pub mod Symmetric
@@ -8,3 +10,5 @@ pub mod Orders
 pub mod Apart
 pub mod Calls
 pub mod Zeros
+pub mod Places
+pub mod Verdicts

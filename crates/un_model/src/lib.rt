@@ -2,7 +2,10 @@
 #![tactic(auto)]
 
 mod clauses;
+mod congruences;
 pub mod cost;
+mod distances;
+mod frame;
 mod instructions;
 pub mod model;
 mod numbers;
@@ -11,3 +14,4 @@ mod packets;
 pub mod placement;
 pub mod schedule;
 pub mod verdict;
+pub mod violations;
