@@ -1,0 +1,14 @@
+pub mod Steps
+pub mod Costs
+pub mod Domains
+pub mod Edges
+pub mod Apartness
+pub mod Rooms
+pub mod SameRoom
+pub mod Symmetric
+pub mod Orders
+pub mod Apart
+pub mod Calls
+pub mod Zeros
+pub mod Places
+pub mod Verdicts

@@ -1,0 +1,58 @@
+-- Words of private contracts: the homes of values, and which are truth values, as masks. Bit r below 32 is the home r, bit 32
+-- says that the value is a truth value.
+use Rattle.std.specs.Prelude.{ℕ, ◌≡◌, ◌≤◌, ◌<◌, Bool, false, ◌==◌, ◌||◌, ◌&&◌, if◌then◌else◌, List, Option, unwrap_or}
+use Rattle.std.specs.BTreeMap.{BTreeMap, get}
+use Rattle.std.specs.List.{list_any}
+use Rattle.std.specs.Ordering.{nat_cmp}
+use Rattle.un_base.specs.declared.ids.NameId.{NameId}
+use Rattle.un_base.specs.declared.ids.TempId.{TempId}
+use Rattle.un_isa.specs.Registers.{saved_registers}
+use Rattle.un_isa.specs.Tables.{in_mask}
+use Rattle.un_isa.specs.declared.reg.Reg.{Reg}
+use Rattle.un_ir.specs.declared.extended.ExtBlock.{ExtBlock}
+use Rattle.un_ir.specs.declared.extended.Ext.{Ext}
+use Rattle.un_ir.specs.declared.extended.ExtOp.{ExtOp}
+use Rattle.un_ir.specs.declared.extended.Operand.{Operand}
+use Rattle.un_model.specs.Pairs.{any_from}
+use Rattle.un_model.specs.Registers.{is_register, reads_value, result_home, gives_truth_at, is_home, is_truth}
+
+-- the mask of a temporary, 0 where there is none
+abbrev pub mask_of : BTreeMap ℕ ℕ → TempId → ℕ
+mask_of masks x = unwrap_or (get nat_cmp masks x.0) 0
+
+-- the new masks have the bits that are new, and those of the old masks
+abbrev pub AddsMarks : (TempId → ℕ → Bool) → BTreeMap ℕ ℕ → BTreeMap ℕ ℕ → Type 0
+AddsMarks is_new old new = (x : TempId) (r : ℕ) → r ≤ 32 → in_mask (mask_of new x) r ≡ (in_mask (mask_of old x) r || is_new x r)
+
+-- bit r of a value with this home, which is a truth value or not
+abbrev pub is_mark : Bool → Option Reg → ℕ → Bool
+is_mark truth home r = if r == 32 then truth else is_register home r
+
+abbrev pub is_operand_mark : Operand → TempId → ℕ → Bool
+is_operand_mark operand x r = reads_value operand x && is_mark false operand.home r
+
+abbrev pub is_operands_mark : ExtOp → TempId → ℕ → Bool
+is_operands_mark op x r = list_any (λ (operand : Operand). is_operand_mark operand x r) op.operands
+
+abbrev pub is_result_mark : Ext → Bool → List NameId → ExtOp → TempId → ℕ → ℕ → TempId → Bool
+is_result_mark e is_entry live_in op x r j y =
+    y.0 == x.0 && is_mark (gives_truth_at e.names live_in op.kind j) (result_home e.table is_entry live_in op.kind j) r
+
+abbrev pub is_results_mark : Ext → Bool → List NameId → ExtOp → TempId → ℕ → Bool
+is_results_mark e is_entry live_in op x r = any_from (is_result_mark e is_entry live_in op x r) 0 op.results
+
+abbrev pub is_op_mark : Ext → Bool → List NameId → TempId → ℕ → ExtOp → Bool
+is_op_mark e is_entry live_in x r op = is_operands_mark op x r || is_results_mark e is_entry live_in op x r
+
+abbrev pub is_block_mark : Ext → Bool → ExtBlock → TempId → ℕ → Bool
+is_block_mark e is_entry block x r = list_any (is_op_mark e is_entry block.live_in x r) block.ops
+
+-- the masks have the homes of each value of the block, and say which are truth values
+pub record TellsHomes (e : Ext) (is_entry : Bool) (block : ExtBlock) (masks : BTreeMap ℕ ℕ) : Type 0 where
+  pub homes : (x : TempId) (r : ℕ) → r < 32 → in_mask (mask_of masks x) r ≡ is_home e.table is_entry block x r
+  pub truths : (x : TempId) → in_mask (mask_of masks x) 32 ≡ is_truth e.names block x
+
+-- the registers that a function hands back, and the homes of the values of a block
+pub record IsScope (e : Ext) (is_entry : Bool) (block : ExtBlock) (saved : List ℕ) (masks : BTreeMap ℕ ℕ) : Type 0 where
+  pub saved_are : saved ≡ saved_registers e.table
+  pub homes_are : TellsHomes e is_entry block masks

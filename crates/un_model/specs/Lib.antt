@@ -1,0 +1,13 @@
+pub mod Congruences
+pub mod Cost
+pub mod Emission
+pub mod Extended
+pub mod Homes
+pub mod Instructions
+pub mod Options
+pub mod Orders
+pub mod Pairs
+pub mod Registers
+pub mod Schedules
+pub mod Solutions
+pub mod Variables

@@ -1,0 +1,134 @@
+//! What the operations of an extended function are as instructions.
+
+ghost use Rattle.std.specs.Prelude.{◌≡◌};
+ghost use Rattle.un_model.specs.Instructions.{transfer_of, copy_of, frame_instr, instruction_of, latency_by, width_by, needs_by, no_needs, is_control, is_transfer, operand_space_in, result_space_in, space_read, space_given, is_predicate_space, gives_truth};
+
+use un_ir::extended::ExtKind;
+use un_ir::function::Term;
+use un_isa::facts::{Class, class_of, operand_space, result_space};
+use un_isa::op::Op;
+use un_isa::reg::Space;
+use un_isa::table::{self, Needs, Table};
+
+/// The instruction of a terminator.
+fn transfer(term: Term) -> Option<Op>
+    ensures { result ≡ transfer_of term }
+{
+    match term {
+        Term::Fall => None,
+        Term::Jump(_) => Some(Op::Jump),
+        Term::Branch { sense: true, .. } => Some(Op::JumpIf),
+        Term::Branch { sense: false, .. } => Some(Op::JumpIfNot),
+        Term::Ret(_) => Some(Op::Jumpr),
+    }
+}
+
+/// The instruction of a copy whose variable of the instruction has this value.
+fn copy(n: u32) -> Option<Op>
+    ensures { result ≡ copy_of n }
+{
+    match n {
+        1 => Some(Op::Mov),
+        2 => Some(Op::Spill),
+        3 => Some(Op::Reload),
+        4 => Some(Op::P2R),
+        5 => Some(Op::R2P),
+        _ => None,
+    }
+}
+
+/// The instruction of Enter or Leave whose variable of the instruction has this value.
+fn frame_instruction(op: Op, n: u32) -> Option<Op>
+    ensures { result ≡ frame_instr op n }
+{
+    if n == 0 { None } else { Some(op) }
+}
+
+/// The instruction that an operation issues, whose variable of the instruction has the value `n`: None at the bounds of a
+/// block and where it is inactive.
+pub(crate) fn instruction(kind: &ExtKind, n: u32) -> Option<Op>
+    ensures { result ≡ instruction_of kind.now n }
+{
+    match kind {
+        ExtKind::In | ExtKind::Out => None,
+        ExtKind::Body(source) => Some(source.op),
+        ExtKind::End(term) => transfer(*term),
+        ExtKind::Copy(_) => copy(n),
+        ExtKind::Enter => frame_instruction(Op::Enter, n),
+        ExtKind::Leave => frame_instruction(Op::Leave, n),
+    }
+}
+
+/// The latency of an instruction, and 1 for the values at a block's start.
+pub(crate) fn latency(t: &Table, op: Option<Op>) -> u32
+    ensures { result ≡ latency_by t.now op }
+{
+    match op {
+        None => 1,
+        Some(instruction) => table::latency(t, instruction),
+    }
+}
+
+/// How many instructions an operation is.
+pub(crate) fn width(op: Option<Op>) -> u32
+    ensures { result ≡ width_by op }
+{
+    match op {
+        None => 0,
+        Some(_) => 1,
+    }
+}
+
+/// What an instruction needs of a packet.
+pub(crate) fn needs(t: &Table, op: Option<Op>) -> Needs
+    ensures { result ≡ needs_by t.now op }
+{
+    match op {
+        None => Needs {
+            mem: 0,
+            store: 0,
+            xc: 0,
+            control: 0,
+        },
+        Some(instruction) => table::uses(t, instruction),
+    }
+}
+
+/// Whether an instruction is a control transfer that ends its block.
+pub(crate) fn is_transfer(op: Op) -> bool
+    ensures { result ≡ is_transfer op }
+{
+    match op {
+        Op::Call => false,
+        _ => matches!(class_of(op), Class::Control),
+    }
+}
+
+/// Whether an operation of the source gives a truth value.
+pub(crate) fn gives_truth(op: Op) -> bool
+    ensures { result ≡ gives_truth op }
+{
+    matches!(result_space(op), Some(Space::P))
+}
+
+/// The space that an instruction asks of its operand at place `j`; None where it may be in any.
+pub(crate) fn space_read(instruction: Option<Op>, j: u32) -> Option<Space>
+    ensures { result ≡ space_read instruction j }
+{
+    match instruction {
+        None => None,
+        Some(Op::Reload) => Some(Space::M),
+        Some(op) => operand_space(op, j as usize),
+    }
+}
+
+/// The space that an instruction asks of its result; None where it may be in any.
+pub(crate) fn space_given(instruction: Option<Op>) -> Option<Space>
+    ensures { result ≡ space_given instruction }
+{
+    match instruction {
+        None => None,
+        Some(Op::Spill) => Some(Space::M),
+        Some(op) => result_space(op),
+    }
+}

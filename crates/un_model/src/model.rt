@@ -1,0 +1,57 @@
+//! Models and solutions.
+
+use un_base::ids::{OpId, TempId, VarId};
+use un_domains::domain::Domain;
+use un_ir::extended::Ext;
+use un_lists::items::Items;
+
+/// The largest number of registers that an option may name: r0 to r28 may be assigned.
+pub const ASSIGNABLE: u32 = 29;
+
+/// Which registers may be assigned, r0 to r(n − 1) or all of r0 to r28 and r31, and how many frame slots there are.
+#[derive(Clone, Copy, PartialEq, Eq)]
+pub struct Options {
+    pub regs: Option<u32>,
+    pub slots: u32,
+}
+
+/// A temporary: its definer, the value that it carries and the variable of its register.
+#[derive(Clone, Copy, Default, PartialEq, Eq)]
+pub struct TempVars {
+    pub op: OpId,
+    pub value: TempId,
+    pub reg: VarId,
+}
+
+/// The variables of an operation: its instruction where it is optional, its cycle, and the choice of each operand. The operand
+/// of a copy d has one alternative and no choice.
+#[derive(PartialEq, Eq, Drop)]
+pub struct OpVars {
+    pub instr: Option<VarId>,
+    pub cycle: Option<VarId>,
+    pub choices: Items<VarId>,
+}
+
+/// The variables of a block: those of each operation, and its end.
+#[derive(PartialEq, Eq, Drop)]
+pub struct BlockVars {
+    pub ops: Items<OpVars>,
+    pub end: VarId,
+}
+
+/// The variables of an extended function under some options. OpIds and TempIds are numbered over the whole function.
+#[derive(PartialEq, Eq, Drop)]
+pub struct Model {
+    pub ext: Ext,
+    pub options: Options,
+    pub domains: Items<Domain>,
+    pub temps: Items<TempVars>,
+    pub blocks: Items<BlockVars>,
+    pub flag: VarId,
+}
+
+/// A value for each variable, in the order of the model.
+#[derive(PartialEq, Eq, Drop)]
+pub struct Solution {
+    pub values: Items<u32>,
+}
