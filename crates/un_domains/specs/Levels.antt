@@ -42,4 +42,5 @@ pub record IsLevel (n : ℕ) (l : Level) : Type 0 where
 -- the level after the word at i is saved, if it was not
 pub record IsSave (n i old : ℕ) (before after : Level) : Type 0 where
   pub level : IsLevel n after
-  pub same : (ws : List ℕ) (w : ℕ) → slice_index ws i ≡ old → i < length ws → unwind after.entries.items (slice_set ws i w) ≡ unwind before.entries.items ws
+  pub same : (ws : List ℕ) (w : ℕ) → slice_index ws i ≡ old → i < length ws
+      → unwind after.entries.items (slice_set ws i w) ≡ unwind before.entries.items ws

@@ -43,13 +43,15 @@ has_later y x xs h = by (nat_eq x y) refl
 -- tests that agree on the values keep the same
 pub filter_agree_on : (p q : ℕ → Bool) (xs : List ℕ) → ((x : ℕ) → has xs x ≡ true → p x ≡ q x) → filter p xs ≡ filter q xs
 filter_agree_on p q [] h = refl
-filter_agree_on p q (x ∷ xs) h = ap (λ (b : Bool). cond b (x ∷ filter p xs) (filter p xs)) (h x (has_here x xs)) ∙ cons_at (q x) x (filter p xs) (filter q xs) (filter_agree_on p q xs (λ y k. h y (has_later x y xs k)))
+filter_agree_on p q (x ∷ xs) h = ap (λ (b : Bool). cond b (x ∷ filter p xs) (filter p xs)) (h x (has_here x xs))
+    ∙ cons_at (q x) x (filter p xs) (filter q xs) (filter_agree_on p q xs (λ y k. h y (has_later x y xs k)))
 
 pub filter_all : (xs : List ℕ) (p : ℕ → Bool) → ((x : ℕ) → has xs x ≡ true → p x ≡ true) → filter p xs ≡ xs
 filter_all [] p h = refl
 filter_all (x ∷ xs) p h = rw (h x (has_here x xs)) (ap (λ (ys : List ℕ). x ∷ ys) (filter_all xs p (λ y k. h y (has_later x y xs k))))
 
-filter_twice : (x : ℕ) (qs both : List ℕ) (p : ℕ → Bool) (b c : Bool) → p x ≡ c → filter p qs ≡ both → filter p (cond b (x ∷ qs) qs) ≡ cond (c && b) (x ∷ both) both
+filter_twice : (x : ℕ) (qs both : List ℕ) (p : ℕ → Bool) (b c : Bool) → p x ≡ c → filter p qs ≡ both
+    → filter p (cond b (x ∷ qs) qs) ≡ cond (c && b) (x ∷ both) both
 filter_twice x qs both p true true e h = rw e (ap (λ (ys : List ℕ). x ∷ ys) h)
 filter_twice x qs both p true false e h = rw e h
 filter_twice x qs both p false true e h = h
@@ -64,18 +66,22 @@ has_passes p xs x h = and_true (p x) (has xs x) (sym (has-filter p x xs) ∙ h)
 
 -- what a filter leaves is what it has of the whole
 pub filter_own : (p : ℕ → Bool) (xs : List ℕ) → filter p xs ≡ filter (has (filter p xs)) xs
-filter_own p xs = filter_agree_on p (has (filter p xs)) xs (λ x h. sym (has-filter p x xs ∙ (ap (λ (b : Bool). p x && b) h ∙ and_one (p x))))
+filter_own p xs =
+    filter_agree_on p (has (filter p xs)) xs (λ x h. sym (has-filter p x xs ∙ (ap (λ (b : Bool). p x && b) h ∙ and_one (p x))))
   where
     and_one : (b : Bool) → (b && true) ≡ b
     and_one true = refl
     and_one false = refl
 
 -- a smaller set by a stricter test
-pub filter_below : (p q : ℕ → Bool) (ys xs : List ℕ) → ys ≡ filter (has ys) xs → ((x : ℕ) → has ys x ≡ true → p x ≡ true → q x ≡ true) → filter p ys ≡ filter (has (filter p ys)) (filter q xs)
+pub filter_below : (p q : ℕ → Bool) (ys xs : List ℕ) → ys ≡ filter (has ys) xs → ((x : ℕ) → has ys x ≡ true → p x ≡ true → q x ≡ true)
+    → filter p ys ≡ filter (has (filter p ys)) (filter q xs)
 filter_below p q ys xs e h =
     let left : filter p ys ≡ filter (λ x. p x && has ys x) xs = ap (filter p) e ∙ filter-filter p (has ys) xs in
-    let right : filter (has (filter p ys)) (filter q xs) ≡ filter (λ x. has (filter p ys) x && q x) xs = filter-filter (has (filter p ys)) q xs in
-    left ∙ (filter_agree_on (λ x. p x && has ys x) (λ x. has (filter p ys) x && q x) xs (λ x k. same_test (p x && has ys x) (has (filter p ys) x && q x) (to x) (from x)) ∙ sym right)
+    let right : filter (has (filter p ys)) (filter q xs) ≡ filter (λ x. has (filter p ys) x && q x) xs =
+    filter-filter (has (filter p ys)) q xs in
+    left ∙ (filter_agree_on (λ x. p x && has ys x) (λ x. has (filter p ys) x && q x) xs
+    (λ x k. same_test (p x && has ys x) (has (filter p ys) x && q x) (to x) (from x)) ∙ sym right)
   where
     to : (x : ℕ) → (p x && has ys x) ≡ true → (has (filter p ys) x && q x) ≡ true
     to x k = let two = and_true (p x) (has ys x) k in both_true (has (filter p ys) x) (q x) (has-filter p x ys ∙ k) (h x two.1 two.0)
@@ -94,10 +100,15 @@ Below-refl s = record { long = refl; each = λ v. sym (filter_all (set_at s v) (
 -- a filter of a filter
 own_trans : (zs ys xs : List ℕ) → zs ≡ filter (has zs) ys → ys ≡ filter (has ys) xs → zs ≡ filter (has zs) xs
 own_trans zs ys xs p q =
-    p ∙ (ap (filter (has zs)) q ∙ (filter-filter (has zs) (has ys) xs ∙ filter_agree_on (λ x. has zs x && has ys x) (has zs) xs (λ x h. same_test (has zs x && has ys x) (has zs x) (λ k. (and_true (has zs x) (has ys x) k).0) (λ k. both_true (has zs x) (has ys x) k (has_passes (has zs) ys x (subst (λ (ws : List ℕ). has ws x ≡ true) p k)).1))))
+    p ∙ (ap (filter (has zs)) q
+    ∙ (filter-filter (has zs) (has ys) xs
+    ∙ filter_agree_on (λ x. has zs x && has ys x) (has zs) xs
+    (λ x h. same_test (has zs x && has ys x) (has zs x) (λ k. (and_true (has zs x) (has ys x) k).0)
+    (λ k. both_true (has zs x) (has ys x) k (has_passes (has zs) ys x (subst (λ (ws : List ℕ). has ws x ≡ true) p k)).1))))
 
 pub Below-trans : (a b c : Sets) → Below a b → Below b c → Below a c
-Below-trans a b c p q = record { long = p.long ∙ q.long; each = λ v. own_trans (set_at a v) (set_at b v) (set_at c v) (p.each v) (q.each v) }
+Below-trans a b c p q =
+    record { long = p.long ∙ q.long; each = λ v. own_trans (set_at a v) (set_at b v) (set_at c v) (p.each v) (q.each v) }
 
 pub Below-same : (a b : Sets) → Below a b → Below b a → a ≡ b
 Below-same a b p q = ext_get_or [] a b p.long (λ v lt. p.each v ∙ filter_all (set_at b v) (has (set_at a v)) (λ x h. has_below b a v x q h))
@@ -133,17 +144,20 @@ total_same (ys ∷ t) (xs ∷ s) b e =
     let rest = total_below t s tail in
     let as_long : length ys ≡ length xs = omega (arith, e, first, rest, total-cons ys t, total-cons xs s) in
     let same : ys ≡ xs = set_same (ys ∷ t) (xs ∷ s) 0 b as_long in
-    ap (λ (zs : List ℕ). zs ∷ t) same ∙ ap (λ (u : Sets). xs ∷ u) (total_same t s tail (omega (arith, e, first, rest, total-cons ys t, total-cons xs s)))
+    ap (λ (zs : List ℕ). zs ∷ t) same
+    ∙ ap (λ (u : Sets). xs ∷ u) (total_same t s tail (omega (arith, e, first, rest, total-cons ys t, total-cons xs s)))
 
 -- What tests read
 
 fold_min-ge : (a n : ℕ) (xs : List ℕ) → n ≤ a → ((x : ℕ) → has xs x ≡ true → n ≤ x) → n ≤ fold min a xs
 fold_min-ge a n [] le all = le
-fold_min-ge a n (x ∷ xs) le all = fold_min-ge (min a x) n xs (let here = all x (has_here x xs) in omega (arith, le, here)) (λ y h. all y (has_later x y xs h))
+fold_min-ge a n (x ∷ xs) le all =
+    fold_min-ge (min a x) n xs (let here = all x (has_here x xs) in omega (arith, le, here)) (λ y h. all y (has_later x y xs h))
 
 pub fold_max-le : (a n : ℕ) (xs : List ℕ) → a ≤ n → ((x : ℕ) → has xs x ≡ true → x ≤ n) → fold max a xs ≤ n
 fold_max-le a n [] le all = le
-fold_max-le a n (x ∷ xs) le all = fold_max-le (max a x) n xs (let here = all x (has_here x xs) in omega (arith, le, here)) (λ y h. all y (has_later x y xs h))
+fold_max-le a n (x ∷ xs) le all =
+    fold_max-le (max a x) n xs (let here = all x (has_here x xs) in omega (arith, le, here)) (λ y h. all y (has_later x y xs h))
 
 pub le_least : (n : ℕ) (xs : List ℕ) → 0 < length xs → ((x : ℕ) → has xs x ≡ true → n ≤ x) → n ≤ least xs
 le_least n [] some all = absurd (omega arith)
@@ -153,7 +167,8 @@ pub least_below : (t s : Sets) (v : ℕ) → Below t s → 0 < length (set_at t 
 least_below t s v b some = le_least (least (set_at s v)) (set_at t v) some (λ x h. least-le (set_at s v) x (has_below t s v x b h))
 
 pub greatest_below : (t s : Sets) (v : ℕ) → Below t s → greatest (set_at t v) ≤ greatest (set_at s v)
-greatest_below t s v b = fold_max-le 0 (greatest (set_at s v)) (set_at t v) (omega arith) (λ x h. has-fold_max 0 (set_at s v) x (has_below t s v x b h))
+greatest_below t s v b =
+    fold_max-le 0 (greatest (set_at s v)) (set_at t v) (omega arith) (λ x h. has-fold_max 0 (set_at s v) x (has_below t s v x b h))
 
 -- what has one value and keeps one keeps it
 pub single_below : (t s : Sets) (v : ℕ) → Below t s → 0 < length (set_at t v) → length (set_at s v) ≡ 1 → set_at t v ≡ set_at s v

@@ -22,7 +22,8 @@ fold_min-le a (x ∷ xs) = omega (arith, fold_min-le (min a x) xs)
 
 pub fold_min-has : (a : ℕ) (xs : List ℕ) (x : ℕ) → has xs x ≡ true → fold min a xs ≤ x
 fold_min-has a [] x h = absurd (cc h)
-fold_min-has a (y ∷ ys) x h = elim (has-cons y x ys h) [ inl e ↦ omega (arith, fold_min-le (min a y) ys) | inr t ↦ fold_min-has (min a y) ys x t ]
+fold_min-has a (y ∷ ys) x h =
+    elim (has-cons y x ys h) [ inl e ↦ omega (arith, fold_min-le (min a y) ys) | inr t ↦ fold_min-has (min a y) ys x t ]
 
 -- a value is at least the least
 pub least-le : (xs : List ℕ) (x : ℕ) → has xs x ≡ true → least xs ≤ x
@@ -35,7 +36,8 @@ le-fold_max a (x ∷ xs) = omega (arith, le-fold_max (max a x) xs)
 
 pub has-fold_max : (a : ℕ) (xs : List ℕ) (x : ℕ) → has xs x ≡ true → x ≤ fold max a xs
 has-fold_max a [] x h = absurd (cc h)
-has-fold_max a (y ∷ ys) x h = elim (has-cons y x ys h) [ inl e ↦ omega (arith, le-fold_max (max a y) ys) | inr t ↦ has-fold_max (max a y) ys x t ]
+has-fold_max a (y ∷ ys) x h =
+    elim (has-cons y x ys h) [ inl e ↦ omega (arith, le-fold_max (max a y) ys) | inr t ↦ has-fold_max (max a y) ys x t ]
 
 pub same_or_not : (a b : ℕ) → (a ≡ b) ⊎ (a ≢ b)
 same_or_not a b = by (nat_eq a b) refl
@@ -48,13 +50,16 @@ same_or_not a b = by (nat_eq a b) refl
 pub IsIn-kept : (p : ℕ → Bool) (x : List ℕ) (s : Sets) (v : ℕ) → v < length s → IsIn x s → p (get_or x v 0) ≡ true → IsIn x (kept p s v)
 IsIn-kept p x s v within h hp = record {
   long = h.long ∙ sym (length-set s v _);
-  each = λ w below. elim (same_or_not w v) [ inl e ↦ at_same w e | inr ne ↦ at_other w ne (omega (arith, below, length-set s v (filter p (set_at s v)))) ];
+  each = λ w below. elim (same_or_not w v)
+      [ inl e ↦ at_same w e | inr ne ↦ at_other w ne (omega (arith, below, length-set s v (filter p (set_at s v)))) ];
 }
   where
     at_same : (w : ℕ) → w ≡ v → has (set_at (kept p s v) w) (get_or x w 0) ≡ true
     at_same w e =
         let at : set_at (kept p s v) v ≡ filter p (set_at s v) = get_or-set_same s v _ [] within in
-        let there : has (set_at (kept p s v) v) (get_or x v 0) ≡ true = rw at (has-filter p (get_or x v 0) (set_at s v) ∙ ap (λ (b : Bool). b && has (set_at s v) (get_or x v 0)) hp ∙ h.each v within) in
+        let there : has (set_at (kept p s v) v) (get_or x v 0) ≡ true =
+        rw at (has-filter p (get_or x v 0) (set_at s v) ∙ ap (λ (b : Bool). b && has (set_at s v) (get_or x v 0)) hp
+        ∙ h.each v within) in
         subst (λ (u : ℕ). has (set_at (kept p s v) u) (get_or x u 0) ≡ true) (sym e) there
 
     at_other : (w : ℕ) → w ≢ v → w < length s → has (set_at (kept p s v) w) (get_or x w 0) ≡ true

@@ -92,7 +92,9 @@ pub filter-map : (p : ℕ → Bool) (f : ℕ → ℕ) (xs : List ℕ) → filter
 filter-map p f [] = refl
 filter-map p f (x ∷ xs) = by (p (f x)) (filter-map p f xs)
   where
-    by : (b : Bool) → filter p (map f xs) ≡ map f (filter (λ i. p (f i)) xs) → cond b (f x ∷ filter p (map f xs)) (filter p (map f xs)) ≡ map f (cond b (x ∷ filter (λ i. p (f i)) xs) (filter (λ i. p (f i)) xs))
+    by : (b : Bool) → filter p (map f xs) ≡ map f (filter (λ i. p (f i)) xs)
+        → cond b (f x ∷ filter p (map f xs)) (filter p (map f xs)) ≡ map f
+        (cond b (x ∷ filter (λ i. p (f i)) xs) (filter (λ i. p (f i)) xs))
     by true e = ap (λ (ys : List ℕ). f x ∷ ys) e
     by false e = e
 
@@ -149,7 +151,8 @@ pub by_values : (q p : ℕ → Bool) (h : Shape) (ws : List ℕ) → IsLaid ws h
     → ((i : ℕ) → i < length (values_of h.first) → q i ≡ p (value_at h.first i))
     → filter q (places_of ws h.at h.n) ≡ filter (λ i. p (value_at h.first i)) (places_of ws h.at h.n)
 by_values q p h ws laid agree = filter_agree_on q (λ i. p (value_at h.first i)) (places_of ws h.at h.n)
-    (λ i there. agree i (let high = (members_has (row_of ws h.at h.n) (get_or ws h.at 0) (get_or ws (h.at + 1) 0) laid.tight i there).high in
+    (λ i there. agree i
+    (let high = (members_has (row_of ws h.at h.n) (get_or ws h.at 0) (get_or ws (h.at + 1) 0) laid.tight i there).high in
     omega (arith, high, laid.counted)))
 
 -- what the bounds say of the set
@@ -181,7 +184,8 @@ module _ (hs : List Shape) (ws us : List ℕ) (marked marked' : List (List ℕ))
   laid = laid_at hs ws marked store v h below at
 
   left : set_of us h ≡ filter p (set_of ws h)
-  left = ap (map (value_at h.first)) (cut.left ∙ by_values q p h ws laid agree) ∙ sym (filter-map p (value_at h.first) (places_of ws h.at h.n))
+  left = ap (map (value_at h.first)) (cut.left ∙ by_values q p h ws laid agree)
+      ∙ sym (filter-map p (value_at h.first) (places_of ws h.at h.n))
 
   there : IsLaid us h
   there = record {
@@ -212,16 +216,19 @@ module _ (hs : List Shape) (ws us : List ℕ) (marked marked' : List (List ℕ))
   old_size = old_long hs ws marked store v h below at
 
   some : get_or us h.at 0 ≢ get_or us (h.at + 1) 0 → 0 < length (set_at (sets_of hs us) v)
-  some ne = let lt = bounds_some (row_of us h.at h.n) (get_or us h.at 0) (get_or us (h.at + 1) 0) cut.tight ne in omega (arith, lt, new_long)
+  some ne = let lt = bounds_some (row_of us h.at h.n) (get_or us h.at 0) (get_or us (h.at + 1) 0) cut.tight ne in
+      omega (arith, lt, new_long)
 
   pub cut_is : IsCut p v (record { sets = sets_of hs ws; marked = map (sets_of hs) marked })
       (record { sets = sets_of hs us; marked = map (sets_of hs) marked' }) answer
   cut_is = by answer cut.says
     where
       by : (a : Cut) → AnswerOf (get_or us h.at 0) (get_or us (h.at + 1) 0) (places_of us h.at h.n) (places_of ws h.at h.n) a
-          → IsCut p v (record { sets = sets_of hs ws; marked = map (sets_of hs) marked }) (record { sets = sets_of hs us; marked = map (sets_of hs) marked' }) a
+          → IsCut p v (record { sets = sets_of hs ws; marked = map (sets_of hs) marked })
+          (record { sets = sets_of hs us; marked = map (sets_of hs) marked' }) a
       by Emptied e =
-          let none : length (set_at (sets_of hs us) v) ≡ 0 = new_long ∙ bounds_empty (row_of us h.at h.n) (get_or us h.at 0) (get_or us (h.at + 1) 0) cut.tight e in
+          let none : length (set_at (sets_of hs us) v) ≡ 0 =
+          new_long ∙ bounds_empty (row_of us h.at h.n) (get_or us h.at 0) (get_or us (h.at + 1) 0) cut.tight e in
           record {
             sets = moved.0;
             marked = ap (map (sets_of hs)) cut.marked;
@@ -242,7 +249,11 @@ module _ (hs : List Shape) (ws us : List ℕ) (marked marked' : List (List ℕ))
             sets = moved.0;
             marked = ap (map (sets_of hs)) cut.marked;
             emptied = (λ x. absurd (cc x), λ none. absurd (omega (arith, more, none)));
-            same = (λ x. absurd (cc x), λ x. absurd (e.1 (cut.left ∙ filter_whole q (places_of ws h.at h.n) (ap length (sym cut.left) ∙ (sym new_long ∙ (x.1 ∙ old_size))))));
+            same = (
+              λ x. absurd (cc x),
+              λ x. absurd
+                  (e.1 (cut.left ∙ filter_whole q (places_of ws h.at h.n) (ap length (sym cut.left) ∙ (sym new_long ∙ (x.1 ∙ old_size))))),
+            );
           }
 
 -- the places after the bounds are written
@@ -255,7 +266,8 @@ pub bounds_cut : (q : ℕ → Bool) (at n lo end : ℕ) (old new : MarkedWords) 
 bounds_cut q at n lo end old new answer within tight tight' fewer left written marked says = record {
   outside = record { long = long; same = λ j away. ap (λ (us : List ℕ). get_or us j 0) written ∙ out j away };
   marked = marked;
-  tight = tight_by (row_of new.words at n) (row_of old.words at n) (get_or new.words at 0) lo (get_or new.words (at + 1) 0) end row lo_is end_is tight';
+  tight = tight_by (row_of new.words at n) (row_of old.words at n) (get_or new.words at 0) lo (get_or new.words (at + 1) 0) end row lo_is
+      end_is tight';
   fewer = omega (arith, end_is, fewer);
   left = places ∙ left;
   says = by answer says;
@@ -265,7 +277,8 @@ bounds_cut q at n lo end old new answer within tight tight' fewer left written m
     long = ap length written ∙ (length-set (set old.words at lo) (at + 1) end ∙ length-set old.words at lo)
 
     out : (j : ℕ) → (j < at) ⊎ (at + 2 + n ≤ j) → get_or (set (set old.words at lo) (at + 1) end) j 0 ≡ get_or old.words j 0
-    out j away = get_or-set_other (set old.words at lo) (at + 1) j end 0 (apart j away) ∙ get_or-set_other old.words at j lo 0 (apart' j away)
+    out j away = get_or-set_other (set old.words at lo) (at + 1) j end 0 (apart j away)
+        ∙ get_or-set_other old.words at j lo 0 (apart' j away)
       where
         apart : (j : ℕ) → (j < at) ⊎ (at + 2 + n ≤ j) → j ≢ at + 1
         apart j (inl a) e = omega (arith, a, e)
@@ -282,7 +295,8 @@ bounds_cut q at n lo end old new answer within tight tight' fewer left written m
 
     lo_is : get_or new.words at 0 ≡ lo
     lo_is = ap (λ (us : List ℕ). get_or us at 0) written
-        ∙ (get_or-set_other (set old.words at lo) (at + 1) at end 0 (λ e. omega (arith, e)) ∙ get_or-set_same old.words at lo 0 (omega (arith, within)))
+        ∙ (get_or-set_other (set old.words at lo) (at + 1) at end 0 (λ e. omega (arith, e))
+        ∙ get_or-set_same old.words at lo 0 (omega (arith, within)))
 
     end_is : get_or new.words (at + 1) 0 ≡ end
     end_is = ap (λ (us : List ℕ). get_or us (at + 1) 0) written
@@ -290,18 +304,21 @@ bounds_cut q at n lo end old new answer within tight tight' fewer left written m
 
     places : places_of new.words at n ≡ members (row_of old.words at n) lo end
     places = ap (λ (r : List ℕ). members r (get_or new.words at 0) (get_or new.words (at + 1) 0)) row
-        ∙ (ap (λ (a : ℕ). members (row_of old.words at n) a (get_or new.words (at + 1) 0)) lo_is ∙ ap (members (row_of old.words at n) lo) end_is)
+        ∙ (ap (λ (a : ℕ). members (row_of old.words at n) a (get_or new.words (at + 1) 0)) lo_is
+        ∙ ap (members (row_of old.words at n) lo) end_is)
 
     by : (a : Cut) → BoundsAnswer (get_or old.words at 0) (get_or old.words (at + 1) 0) lo end a
         → AnswerOf (get_or new.words at 0) (get_or new.words (at + 1) 0) (places_of new.words at n) (places_of old.words at n) a
     by Emptied e = lo_is ∙ (e ∙ sym end_is)
     by Same e = (
       λ x. e.0 (sym lo_is ∙ (x ∙ end_is)),
-      places ∙ (ap (λ (a : ℕ). members (row_of old.words at n) a end) e.1 ∙ ap (members (row_of old.words at n) (get_or old.words at 0)) e.2),
+      places ∙ (ap (λ (a : ℕ). members (row_of old.words at n) a end) e.1
+          ∙ ap (members (row_of old.words at n) (get_or old.words at 0)) e.2),
     )
     by Changed e = (
       λ x. e.0 (sym lo_is ∙ (x ∙ end_is)),
-      λ x. let u = bounds_unique (row_of old.words at n) (get_or old.words at 0) (get_or old.words (at + 1) 0) lo end tight tight' e.0 (sym places ∙ x) in e.1 u.0 u.1,
+      λ x. let u = bounds_unique (row_of old.words at n) (get_or old.words at 0) (get_or old.words (at + 1) 0) lo end tight tight' e.0
+          (sym places ∙ x) in e.1 u.0 u.1,
     )
 
 -- the same, by what the code reads
@@ -313,9 +330,11 @@ pub code_cut : (q : ℕ → Bool) (at n : ℕ) (old new : MarkedWords) (answer :
     → IsPlacesCut q at n old new answer
 code_cut q at n old new answer all row lo0 end0 lo end within tight all_is lo_is end_is row_is left tight' fewer written marked says =
     bounds_cut q at n lo end old new answer within tight (subst (λ (r : List ℕ). IsTight r lo end) r tight') (omega (arith, fewer, e))
-    (subst (λ (x : ℕ). members (row_of old.words at n) lo end ≡ filter q (members (row_of old.words at n) (get_or old.words at 0) x)) e (subst (λ (x : ℕ). members (row_of old.words at n) lo end ≡ filter q (members (row_of old.words at n) x end0)) l
+    (subst (λ (x : ℕ). members (row_of old.words at n) lo end ≡ filter q (members (row_of old.words at n) (get_or old.words at 0) x)) e
+    (subst (λ (x : ℕ). members (row_of old.words at n) lo end ≡ filter q (members (row_of old.words at n) x end0)) l
     (subst (λ (x : List ℕ). members x lo end ≡ filter q (members x lo0 end0)) r left))) written marked
-    (subst (λ (x : ℕ). BoundsAnswer (get_or old.words at 0) x lo end answer) e (subst (λ (x : ℕ). BoundsAnswer x end0 lo end answer) l says))
+    (subst (λ (x : ℕ). BoundsAnswer (get_or old.words at 0) x lo end answer) e
+    (subst (λ (x : ℕ). BoundsAnswer x end0 lo end answer) l says))
   where
     r : row ≡ (row_of old.words at n)
     r = row_is ∙ ap (λ (us : List ℕ). row_of us at n) all_is
@@ -331,8 +350,10 @@ pub turned : (a b c d : ℕ) → nat_lt a b ≡ nat_le c d → nat_le b a ≡ na
 turned a b c d e = by (nat_lt a b) refl
   where
     by : (t : Bool) → nat_lt a b ≡ t → nat_le b a ≡ nat_lt d c
-    by true h = let h' : nat_le c d ≡ true = sym e ∙ h in let x : nat_le b a ≡ false = grind (arith, nat_tests) in let y : nat_lt d c ≡ false = grind (arith, nat_tests) in x ∙ sym y
-    by false h = let h' : nat_le c d ≡ false = sym e ∙ h in let x : nat_le b a ≡ true = grind (arith, nat_tests) in let y : nat_lt d c ≡ true = grind (arith, nat_tests) in x ∙ sym y
+    by true h = let h' : nat_le c d ≡ true = sym e ∙ h in let x : nat_le b a ≡ false = grind (arith, nat_tests) in
+        let y : nat_lt d c ≡ false = grind (arith, nat_tests) in x ∙ sym y
+    by false h = let h' : nat_le c d ≡ false = sym e ∙ h in let x : nat_le b a ≡ true = grind (arith, nat_tests) in
+        let y : nat_lt d c ≡ true = grind (arith, nat_tests) in x ∙ sym y
 
 -- Look-ups
 
@@ -351,11 +372,13 @@ map-has f (x ∷ xs) y h = elim (has-cons (f x) y (map f xs) h) [
 ]
 
 equal_either : (a b : ℕ) → nat_eq a b ≡ nat_eq b a
-equal_either a b = same_test (nat_eq a b) (nat_eq b a) (λ h. (let e : a ≡ b = grind (arith, nat_tests) in grind (arith, nat_tests))) (λ h. (let e : b ≡ a = grind (arith, nat_tests) in grind (arith, nat_tests)))
+equal_either a b = same_test (nat_eq a b) (nat_eq b a) (λ h. (let e : a ≡ b = grind (arith, nat_tests) in grind (arith, nat_tests)))
+    (λ h. (let e : b ≡ a = grind (arith, nat_tests) in grind (arith, nat_tests)))
 
 any_agree : (p q : ℕ → Bool) (xs : List ℕ) → ((i : ℕ) → has xs i ≡ true → p i ≡ q i) → list_any p xs ≡ list_any q xs
 any_agree p q [] h = refl
-any_agree p q (x ∷ xs) h = ap (λ (b : Bool). b || list_any p xs) (h x (has_here x xs)) ∙ ap (λ (b : Bool). q x || b) (any_agree p q xs (λ i t. h i (has_later x i xs t)))
+any_agree p q (x ∷ xs) h = ap (λ (b : Bool). b || list_any p xs) (h x (has_here x xs))
+    ∙ ap (λ (b : Bool). q x || b) (any_agree p q xs (λ i t. h i (has_later x i xs t)))
 
 any_map : (p : ℕ → Bool) (f : ℕ → ℕ) (xs : List ℕ) → list_any p (map f xs) ≡ list_any (λ i. p (f i)) xs
 any_map p f [] = refl
@@ -382,30 +405,33 @@ module _ (h : Shape) (ws : List ℕ) (laid : IsLaid ws h) (domain : IsDomain h.f
   value_le : (i j : ℕ) → i ≤ j → j < get_or ws (h.at + 1) 0 → value_at h.first i ≤ value_at h.first j
   value_le i j le lt = elim (same_or_not i j) [
     | inl e ↦ (let same = ap (value_at h.first) e in omega (arith, same))
-    | inr ne ↦ (let less = value_rises h.first i j domain.rises (omega (arith, le, ne)) (omega (arith, lt, laid.counted)) in omega (arith, less))
+    | inr ne ↦ (let less = value_rises h.first i j domain.rises (omega (arith, le, ne)) (omega (arith, lt, laid.counted)) in
+        omega (arith, less))
   ]
 
   pub least_value : 0 < length (set_of ws h) → least (set_of ws h) ≡ value_at h.first (get_or ws h.at 0)
   least_value some =
       let lt = bounds_lt some in
-      let a = least-le (set_of ws h) (value_at h.first (get_or ws h.at 0)) (has-map (value_at h.first) (places_of ws h.at h.n) (get_or ws h.at 0) (first_has lt)) in
+      let a = least-le (set_of ws h) (value_at h.first (get_or ws h.at 0))
+      (has-map (value_at h.first) (places_of ws h.at h.n) (get_or ws h.at 0) (first_has lt)) in
       let b = le_least (value_at h.first (get_or ws h.at 0)) (set_of ws h) some (λ y t.
-          let r = map-has (value_at h.first) (places_of ws h.at h.n) y t in
-          let i = inside_of_has r.0 r.1 in
-          let le = value_le (get_or ws h.at 0) r.0 i.low i.high in
-          omega (arith, le, r.2)) in
+      let r = map-has (value_at h.first) (places_of ws h.at h.n) y t in
+      let i = inside_of_has r.0 r.1 in
+      let le = value_le (get_or ws h.at 0) r.0 i.low i.high in
+      omega (arith, le, r.2)) in
       omega (arith, a, b)
 
   pub greatest_value : 0 < length (set_of ws h) → greatest (set_of ws h) ≡ value_at h.first (get_or ws (h.at + 1) 0 - 1)
   greatest_value some =
       let lt = bounds_lt some in
-      let a = has-fold_max 0 (set_of ws h) (value_at h.first (get_or ws (h.at + 1) 0 - 1)) (has-map (value_at h.first) (places_of ws h.at h.n) (get_or ws (h.at + 1) 0 - 1) (last_has lt)) in
+      let a = has-fold_max 0 (set_of ws h) (value_at h.first (get_or ws (h.at + 1) 0 - 1))
+      (has-map (value_at h.first) (places_of ws h.at h.n) (get_or ws (h.at + 1) 0 - 1) (last_has lt)) in
       let b = fold_max-le 0 (value_at h.first (get_or ws (h.at + 1) 0 - 1)) (set_of ws h) (omega arith) (λ y t.
-          let r = map-has (value_at h.first) (places_of ws h.at h.n) y t in
-          let i = inside_of_has r.0 r.1 in
-          let high = i.high in
-          let le = value_le r.0 (get_or ws (h.at + 1) 0 - 1) (omega (arith, high)) (omega (arith, lt)) in
-          omega (arith, le, r.2)) in
+      let r = map-has (value_at h.first) (places_of ws h.at h.n) y t in
+      let i = inside_of_has r.0 r.1 in
+      let high = i.high in
+      let le = value_le r.0 (get_or ws (h.at + 1) 0 - 1) (omega (arith, high)) (omega (arith, lt)) in
+      omega (arith, le, r.2)) in
       omega (arith, a, b)
 
   pub has_value : (x k : ℕ) → ((i : ℕ) → i < length (values_of h.first) → nat_eq i k ≡ nat_eq (value_at h.first i) x)
@@ -413,8 +439,8 @@ module _ (h : Shape) (ws : List ℕ) (laid : IsLaid ws h) (domain : IsDomain h.f
   has_value x k agree =
       any_map (nat_eq x) (value_at h.first) (places_of ws h.at h.n)
       ∙ (any_agree (λ i. nat_eq x (value_at h.first i)) (nat_eq k) (places_of ws h.at h.n) (λ i t.
-          let high = (inside_of_has i t).high in
-          equal_either x (value_at h.first i) ∙ (sym (agree i (omega (arith, high, laid.counted))) ∙ equal_either i k))
+      let high = (inside_of_has i t).high in
+      equal_either x (value_at h.first i) ∙ (sym (agree i (omega (arith, high, laid.counted))) ∙ equal_either i k))
       ∙ has_is (row_of ws h.at h.n) (get_or ws h.at 0) (get_or ws (h.at + 1) 0) laid.tight k)
 
 -- a set has one value where its bounds are next to each other
@@ -441,48 +467,52 @@ bounds_single row lo end tight = same_test (nat_eq (lo + 1) end) (nat_eq (length
 
 module _ (hs : List Shape) (ws : List ℕ) (marked : List (List ℕ)) (store : IsStore hs ws marked) (v : ℕ) (h : Shape)
     (below : v < length hs) (at : h ≡ get_or hs v h) (sets : Sets) (view : sets_of hs ws ≡ sets)
-    (words : List ℕ) (words_is : words ≡ ws) (lo end : ℕ) (lo_is : lo ≡ get_or words h.at 0) (end_is : end ≡ get_or words (h.at + 1) 0) where
-  set_is : set_at sets v ≡ set_of ws h
-  set_is = ap (λ (s : Sets). set_at s v) (sym view) ∙ old_set hs ws marked store v h below at
+    (words : List ℕ) (words_is : words ≡ ws) (lo end : ℕ) (lo_is : lo ≡ get_or words h.at 0) (end_is : end ≡ get_or words (h.at + 1) 0)
+  where
+    set_is : set_at sets v ≡ set_of ws h
+    set_is = ap (λ (s : Sets). set_at s v) (sym view) ∙ old_set hs ws marked store v h below at
 
-  laid_now : IsLaid ws h
-  laid_now = laid_at hs ws marked store v h below at
+    laid_now : IsLaid ws h
+    laid_now = laid_at hs ws marked store v h below at
 
-  domain_now : IsDomain h.first
-  domain_now = domain_at hs ws marked store v h below at
+    domain_now : IsDomain h.first
+    domain_now = domain_at hs ws marked store v h below at
 
-  lo_at : lo ≡ get_or ws h.at 0
-  lo_at = lo_is ∙ ap (λ (us : List ℕ). get_or us h.at 0) words_is
+    lo_at : lo ≡ get_or ws h.at 0
+    lo_at = lo_is ∙ ap (λ (us : List ℕ). get_or us h.at 0) words_is
 
-  end_at : end ≡ get_or ws (h.at + 1) 0
-  end_at = end_is ∙ ap (λ (us : List ℕ). get_or us (h.at + 1) 0) words_is
+    end_at : end ≡ get_or ws (h.at + 1) 0
+    end_at = end_is ∙ ap (λ (us : List ℕ). get_or us (h.at + 1) 0) words_is
 
-  some_of : 0 < length (set_at sets v) → 0 < length (set_of ws h)
-  some_of some = subst (λ (xs : List ℕ). 0 < length xs) set_is some
+    some_of : 0 < length (set_at sets v) → 0 < length (set_of ws h)
+    some_of some = subst (λ (xs : List ℕ). 0 < length xs) set_is some
 
-  pub bounds_in : 0 < length (set_at sets v) → (lo < end) × (end ≤ length (values_of h.first))
-  bounds_in some =
-      let lt = bounds_lt h ws laid_now domain_now (some_of some) in
-      (omega (arith, lt, lo_at, end_at), omega (arith, end_at, laid_now.counted))
+    pub bounds_in : 0 < length (set_at sets v) → (lo < end) × (end ≤ length (values_of h.first))
+    bounds_in some =
+        let lt = bounds_lt h ws laid_now domain_now (some_of some) in
+        (omega (arith, lt, lo_at, end_at), omega (arith, end_at, laid_now.counted))
 
-  pub min_is : 0 < length (set_at sets v) → value_at h.first lo ≡ least (set_at sets v)
-  min_is some = ap (value_at h.first) lo_at ∙ (sym (least_value h ws laid_now domain_now (some_of some)) ∙ ap least (sym set_is))
+    pub min_is : 0 < length (set_at sets v) → value_at h.first lo ≡ least (set_at sets v)
+    min_is some = ap (value_at h.first) lo_at ∙ (sym (least_value h ws laid_now domain_now (some_of some)) ∙ ap least (sym set_is))
 
-  pub max_is : 0 < length (set_at sets v) → value_at h.first (end - 1) ≡ greatest (set_at sets v)
-  max_is some = ap (λ (n : ℕ). value_at h.first (n - 1)) end_at ∙ (sym (greatest_value h ws laid_now domain_now (some_of some)) ∙ ap greatest (sym set_is))
+    pub max_is : 0 < length (set_at sets v) → value_at h.first (end - 1) ≡ greatest (set_at sets v)
+    max_is some = ap (λ (n : ℕ). value_at h.first (n - 1)) end_at
+        ∙ (sym (greatest_value h ws laid_now domain_now (some_of some)) ∙ ap greatest (sym set_is))
 
-  pub single_is : nat_eq (lo + 1) end ≡ nat_eq (length (set_at sets v)) 1
-  single_is =
-      ap (λ (n : ℕ). nat_eq (n + 1) end) lo_at ∙ (ap (nat_eq (get_or ws h.at 0 + 1)) end_at
-      ∙ (bounds_single (row_of ws h.at h.n) (get_or ws h.at 0) (get_or ws (h.at + 1) 0) laid_now.tight
-      ∙ ap (λ (n : ℕ). nat_eq n 1) (sym (length-map (places_of ws h.at h.n) (value_at h.first)) ∙ ap length (sym set_is))))
+    pub single_is : nat_eq (lo + 1) end ≡ nat_eq (length (set_at sets v)) 1
+    single_is =
+        ap (λ (n : ℕ). nat_eq (n + 1) end) lo_at ∙ (ap (nat_eq (get_or ws h.at 0 + 1)) end_at
+        ∙ (bounds_single (row_of ws h.at h.n) (get_or ws h.at 0) (get_or ws (h.at + 1) 0) laid_now.tight
+        ∙ ap (λ (n : ℕ). nat_eq n 1) (sym (length-map (places_of ws h.at h.n) (value_at h.first)) ∙ ap length (sym set_is))))
 
-  pub has_in : (row : List ℕ) (x k : ℕ) → row ≡ row_of words h.at h.n
-      → ((i : ℕ) → i < length (values_of h.first) → nat_eq i k ≡ nat_eq (value_at h.first i) x) → inside row lo end k ≡ has (set_at sets v) x
-  has_in row x k row_is agree =
-      ap (λ (r : List ℕ). inside r lo end k) (row_is ∙ ap (λ (us : List ℕ). row_of us h.at h.n) words_is)
-      ∙ (ap (λ (a : ℕ). inside (row_of ws h.at h.n) a end k) lo_at ∙ (ap (λ (b : ℕ). inside (row_of ws h.at h.n) (get_or ws h.at 0) b k) end_at
-      ∙ (sym (has_value h ws laid_now domain_now x k agree) ∙ ap (λ (xs : List ℕ). has xs x) (sym set_is))))
+    pub has_in : (row : List ℕ) (x k : ℕ) → row ≡ row_of words h.at h.n
+        → ((i : ℕ) → i < length (values_of h.first) → nat_eq i k ≡ nat_eq (value_at h.first i) x)
+        → inside row lo end k ≡ has (set_at sets v) x
+    has_in row x k row_is agree =
+        ap (λ (r : List ℕ). inside r lo end k) (row_is ∙ ap (λ (us : List ℕ). row_of us h.at h.n) words_is)
+        ∙ (ap (λ (a : ℕ). inside (row_of ws h.at h.n) a end k) lo_at
+        ∙ (ap (λ (b : ℕ). inside (row_of ws h.at h.n) (get_or ws h.at 0) b k) end_at
+        ∙ (sym (has_value h ws laid_now domain_now x k agree) ∙ ap (λ (xs : List ℕ). has xs x) (sym set_is))))
 
 module _ (hs : List Shape) (ws : List ℕ) (marked : List (List ℕ)) (store : IsStore hs ws marked) (v : ℕ) (h : Shape)
     (below : v < length hs) (at : h ≡ get_or hs v h) (sets : Sets) (view : sets_of hs ws ≡ sets) where
@@ -499,9 +529,10 @@ module _ (hs : List Shape) (ws : List ℕ) (marked : List (List ℕ)) (store : I
       let lo = get_or ws h.at 0 in
       let end = get_or ws (h.at + 1) 0 in
       let wide : lo + (end - lo) ≡ end = omega (arith, laid.tight.order) in
-      let most : length (members (row_of ws h.at h.n) lo (lo + (end - lo))) ≤ end - lo = le_width (row_of ws h.at h.n) lo (end - lo) (omega (arith, wide, laid.tight.within)) in
-      let small : length (places_of ws h.at h.n) ≤ end - lo = subst (λ (e : ℕ). length (members (row_of ws h.at h.n) lo e) ≤ end - lo) wide most in
-      (
+      let most : length (members (row_of ws h.at h.n) lo (lo + (end - lo))) ≤ end - lo =
+      le_width (row_of ws h.at h.n) lo (end - lo) (omega (arith, wide, laid.tight.within)) in
+      let small : length (places_of ws h.at h.n) ≤ end - lo =
+      subst (λ (e : ℕ). length (members (row_of ws h.at h.n) lo e) ≤ end - lo) wide most in (
         same ∙ (sym (old_long hs ws marked store v h below at) ∙ ap (λ (s : Sets). length (set_at s v)) view),
         omega (arith, same, small, laid.counted, domain.few),
       )
@@ -511,12 +542,15 @@ module _ (hs : List Shape) (ws : List ℕ) (marked : List (List ℕ)) (store : I
 pub row_set : (ws : List ℕ) (at n i x : ℕ) → at + 2 + n ≤ length ws → i < n → row_of (set ws (at + 2 + i) x) at n ≡ set (row_of ws at n) i x
 row_set ws at n i x within lt =
     let long : length (row_of ws at n) ≡ n = length-row ws at n within in
-    let long' : length (row_of (set ws (at + 2 + i) x) at n) ≡ n = length-row (set ws (at + 2 + i) x) at n (omega (arith, within, length-set ws (at + 2 + i) x)) in
-    ext_get_or 0 (row_of (set ws (at + 2 + i) x) at n) (set (row_of ws at n) i x) (long' ∙ (sym long ∙ sym (length-set (row_of ws at n) i x))) (λ j lt'.
+    let long' : length (row_of (set ws (at + 2 + i) x) at n) ≡ n =
+    length-row (set ws (at + 2 + i) x) at n (omega (arith, within, length-set ws (at + 2 + i) x)) in
+    ext_get_or 0 (row_of (set ws (at + 2 + i) x) at n) (set (row_of ws at n) i x)
+    (long' ∙ (sym long ∙ sym (length-set (row_of ws at n) i x))) (λ j lt'.
     let below : j < n = omega (arith, lt', long') in
     get_row (set ws (at + 2 + i) x) at n j below ∙ elim (same_or_not j i) [
       | inl e ↦ subst (λ (k : ℕ). get_or (set ws (at + 2 + i) x) (at + 2 + k) 0 ≡ get_or (set (row_of ws at n) i x) k 0) (sym e)
-          (get_or-set_same ws (at + 2 + i) x 0 (omega (arith, within, lt)) ∙ sym (get_or-set_same (row_of ws at n) i x 0 (omega (arith, long, lt))))
+          (get_or-set_same ws (at + 2 + i) x 0 (omega (arith, within, lt))
+          ∙ sym (get_or-set_same (row_of ws at n) i x 0 (omega (arith, long, lt))))
       | inr ne ↦ get_or-set_other ws (at + 2 + i) (at + 2 + j) x 0 (λ e. ne (omega (arith, e)))
           ∙ (sym (get_row ws at n j below) ∙ sym (get_or-set_other (row_of ws at n) i j x 0 ne))
     ])
@@ -531,20 +565,22 @@ pub cleared_cut : (at n k lo0 end0 lo end : ℕ) (old mid new : MarkedWords) (an
     → members (row_of mid.words at n) lo end ≡ members (row_of mid.words at n) lo0 end0
     → new.words ≡ set (set mid.words at lo) (at + 1) end → new.marked ≡ mid.marked → ClearedAnswer lo end answer
     → IsPlacesCut (λ i. not (nat_eq i k)) at n old new answer
-cleared_cut at n k lo0 end0 lo end old mid new answer within place tight lo_is end_is there cleared but mid_marked tight' fewer left written marked says = record {
-  outside = record {
-    long = ap length written ∙ (length-set (set mid.words at lo) (at + 1) end ∙ (length-set mid.words at lo ∙ but.long));
-    same = λ j away. ap (λ (us : List ℕ). get_or us j 0) written
-        ∙ (get_or-set_other (set mid.words at lo) (at + 1) j end 0 (apart j away (at + 1) (omega arith) (omega arith))
-        ∙ (get_or-set_other mid.words at j lo 0 (apart j away at (omega arith) (omega arith))
-        ∙ but.same j (apart j away (at + 2 + k / 64) (omega arith) (omega (arith, place)))));
-  };
-  marked = marked ∙ mid_marked;
-  tight = tight_by (row_of new.words at n) (row_of mid.words at n) (get_or new.words at 0) lo (get_or new.words (at + 1) 0) end row lo_new end_new tight';
-  fewer = omega (arith, end_new, fewer, end_is);
-  left = places ∙ (left ∙ gone);
-  says = by answer says;
-}
+cleared_cut at n k lo0 end0 lo end old mid new answer within place tight lo_is end_is there cleared but mid_marked tight' fewer left
+    written marked says = record {
+      outside = record {
+        long = ap length written ∙ (length-set (set mid.words at lo) (at + 1) end ∙ (length-set mid.words at lo ∙ but.long));
+        same = λ j away. ap (λ (us : List ℕ). get_or us j 0) written
+            ∙ (get_or-set_other (set mid.words at lo) (at + 1) j end 0 (apart j away (at + 1) (omega arith) (omega arith))
+            ∙ (get_or-set_other mid.words at j lo 0 (apart j away at (omega arith) (omega arith))
+            ∙ but.same j (apart j away (at + 2 + k / 64) (omega arith) (omega (arith, place)))));
+      };
+      marked = marked ∙ mid_marked;
+      tight = tight_by (row_of new.words at n) (row_of mid.words at n) (get_or new.words at 0) lo (get_or new.words (at + 1) 0) end row lo_new
+          end_new tight';
+      fewer = omega (arith, end_new, fewer, end_is);
+      left = places ∙ (left ∙ gone);
+      says = by answer says;
+    }
   where
     apart : (j : ℕ) → (j < at) ⊎ (at + 2 + n ≤ j) → (i : ℕ) → at ≤ i → i < at + 2 + n → j ≢ i
     apart j (inl a) i low high e = omega (arith, a, e, low)
@@ -554,14 +590,16 @@ cleared_cut at n k lo0 end0 lo end old mid new answer within place tight lo_is e
     mid_within = omega (arith, within, but.long)
 
     row : row_of new.words at n ≡ row_of mid.words at n
-    row = row_same mid.words new.words at n (ap length written ∙ (length-set (set mid.words at lo) (at + 1) end ∙ length-set mid.words at lo)) mid_within
+    row = row_same mid.words new.words at n
+        (ap length written ∙ (length-set (set mid.words at lo) (at + 1) end ∙ length-set mid.words at lo)) mid_within
         (λ i lt. ap (λ (us : List ℕ). get_or us (at + 2 + i) 0) written
         ∙ (get_or-set_other (set mid.words at lo) (at + 1) (at + 2 + i) end 0 (λ e. omega (arith, e))
         ∙ get_or-set_other mid.words at (at + 2 + i) lo 0 (λ e. omega (arith, e))))
 
     lo_new : get_or new.words at 0 ≡ lo
     lo_new = ap (λ (us : List ℕ). get_or us at 0) written
-        ∙ (get_or-set_other (set mid.words at lo) (at + 1) at end 0 (λ e. omega (arith, e)) ∙ get_or-set_same mid.words at lo 0 (omega (arith, mid_within)))
+        ∙ (get_or-set_other (set mid.words at lo) (at + 1) at end 0 (λ e. omega (arith, e))
+        ∙ get_or-set_same mid.words at lo 0 (omega (arith, mid_within)))
 
     end_new : get_or new.words (at + 1) 0 ≡ end
     end_new = ap (λ (us : List ℕ). get_or us (at + 1) 0) written
@@ -569,10 +607,12 @@ cleared_cut at n k lo0 end0 lo end old mid new answer within place tight lo_is e
 
     places : places_of new.words at n ≡ members (row_of mid.words at n) lo end
     places = ap (λ (r : List ℕ). members r (get_or new.words at 0) (get_or new.words (at + 1) 0)) row
-        ∙ (ap (λ (a : ℕ). members (row_of mid.words at n) a (get_or new.words (at + 1) 0)) lo_new ∙ ap (members (row_of mid.words at n) lo) end_new)
+        ∙ (ap (λ (a : ℕ). members (row_of mid.words at n) a (get_or new.words (at + 1) 0)) lo_new
+        ∙ ap (members (row_of mid.words at n) lo) end_new)
 
     old_tight : IsTight (row_of old.words at n) lo0 end0
-    old_tight = tight_by (row_of old.words at n) (row_of old.words at n) lo0 (get_or old.words at 0) end0 (get_or old.words (at + 1) 0) refl lo_is end_is tight
+    old_tight = tight_by (row_of old.words at n) (row_of old.words at n) lo0 (get_or old.words at 0) end0 (get_or old.words (at + 1) 0)
+        refl lo_is end_is tight
 
     gone : members (row_of mid.words at n) lo0 end0 ≡ filter (λ i. not (nat_eq i k)) (places_of old.words at n)
     gone = drop_inner (row_of old.words at n) lo0 end0 k old_tight (row_of mid.words at n)
@@ -587,9 +627,12 @@ cleared_cut at n k lo0 end0 lo end old mid new answer within place tight lo_is e
 
     lost : has (places_of new.words at n) k ≡ true → ⊥
     lost h =
-        let e : (not (nat_eq k k) && has (places_of old.words at n) k) ≡ true = sym (has-filter (λ i. not (nat_eq i k)) k (places_of old.words at n)) ∙ subst (λ (xs : List ℕ). has xs k ≡ true) (places ∙ (left ∙ gone)) h in
+        let e : (not (nat_eq k k) && has (places_of old.words at n) k) ≡ true =
+        sym (has-filter (λ i. not (nat_eq i k)) k (places_of old.words at n))
+        ∙ subst (λ (xs : List ℕ). has xs k ≡ true) (places ∙ (left ∙ gone)) h in
         let same : nat_eq k k ≡ true = grind (arith, nat_tests) in
-        let bad : (not true && has (places_of old.words at n) k) ≡ true = subst (λ (b : Bool). (not b && has (places_of old.words at n) k) ≡ true) same e in
+        let bad : (not true && has (places_of old.words at n) k) ≡ true =
+        subst (λ (b : Bool). (not b && has (places_of old.words at n) k) ≡ true) same e in
         cc bad
 
     by : (a : Cut) → ClearedAnswer lo end a
@@ -598,7 +641,8 @@ cleared_cut at n k lo0 end0 lo end old mid new answer within place tight lo_is e
     by Same e = absurd e
     by Changed e = (λ x. e (sym lo_new ∙ (x ∙ end_new)), λ x. lost (subst (λ (xs : List ℕ). has xs k ≡ true) (sym x) had))
 
-pub inside_code : (at n k lo0 end0 : ℕ) (all row : List ℕ) (words : List ℕ) → all ≡ words → lo0 ≡ get_or all at 0 → end0 ≡ get_or all (at + 1) 0
+pub inside_code : (at n k lo0 end0 : ℕ) (all row : List ℕ) (words : List ℕ) → all ≡ words → lo0 ≡ get_or all at 0
+    → end0 ≡ get_or all (at + 1) 0
     → row ≡ row_of all at n → inside row lo0 end0 k ≡ inside (row_of words at n) (get_or words at 0) (get_or words (at + 1) 0) k
 inside_code at n k lo0 end0 all row words all_is lo_is end_is row_is =
     ap (λ (r : List ℕ). inside r lo0 end0 k) (row_is ∙ ap (λ (us : List ℕ). row_of us at n) all_is)
@@ -616,14 +660,19 @@ drop_nothing at n k old tight some out = record {
   tight = tight;
   fewer = omega arith;
   left = drop_none (row_of old.words at n) (get_or old.words at 0) (get_or old.words (at + 1) 0) k tight out;
-  says = (λ e. (let none = bounds_empty (row_of old.words at n) (get_or old.words at 0) (get_or old.words (at + 1) 0) tight e in omega (arith, some, none)), refl);
+  says = (
+    λ e. (let none = bounds_empty (row_of old.words at n) (get_or old.words at 0) (get_or old.words (at + 1) 0) tight e in
+        omega (arith, some, none)),
+    refl,
+  );
 }
 
 all_one_more : {A : Type 0} (P : A → Type 0) (xs : List A) (x : A) → AllByRecursion P xs → P x → AllByRecursion P (xs ++ x ∷ [])
 all_one_more P [] x all h = (h, tt)
 all_one_more P (y ∷ ys) x all h = (all.0, all_one_more P ys x all.1 h)
 
-pub full_map : (hs : List Shape) (marked : List (List ℕ)) → All (λ us. NoneEmpty (sets_of hs us)) marked → All NoneEmpty (map (sets_of hs) marked)
+pub full_map : (hs : List Shape) (marked : List (List ℕ)) → All (λ us. NoneEmpty (sets_of hs us)) marked
+    → All NoneEmpty (map (sets_of hs) marked)
 full_map hs marked full = All-from_recursion _ _ (by marked (recursion_from_All _ _ full))
   where
     by : (ms : List (List ℕ)) → AllByRecursion (λ us. NoneEmpty (sets_of hs us)) ms → AllByRecursion NoneEmpty (map (sets_of hs) ms)
@@ -648,12 +697,17 @@ filter_front p a zero (suc m) passes fails le =
     ap (λ (b : Bool). cond b (a ∷ filter p (range_with_len (a + 1) m)) (filter p (range_with_len (a + 1) m))) (fails a (omega arith))
     ∙ filter_front p (a + 1) zero m (λ i low high. absurd (omega (arith, low, high))) (λ i low. fails i (omega (arith, low))) (omega arith)
 filter_front p a (suc k) (suc m) passes fails le =
-    ap (λ (b : Bool). cond b (a ∷ filter p (range_with_len (a + 1) m)) (filter p (range_with_len (a + 1) m))) (passes a (omega arith) (omega arith))
-    ∙ ap (λ (xs : List ℕ). a ∷ xs) (filter_front p (a + 1) k m (λ i low high. passes i (omega (arith, low)) (omega (arith, high))) (λ i low. fails i (omega (arith, low))) (omega (arith, le)))
+    ap (λ (b : Bool). cond b (a ∷ filter p (range_with_len (a + 1) m)) (filter p (range_with_len (a + 1) m)))
+    (passes a (omega arith) (omega arith))
+    ∙ ap (λ (xs : List ℕ). a ∷ xs)
+    (filter_front p (a + 1) k m (λ i low high. passes i (omega (arith, low)) (omega (arith, high)))
+    (λ i low. fails i (omega (arith, low))) (omega (arith, le)))
 
 -- the words of a variable more
-pub is_added : (d : Domain) (old new : List ℕ) (at end n : ℕ) → IsDomain d → at ≡ length old → end ≡ length (values_of d) → n ≡ (end + 63) / 64
-    → new ≡ ((old ++ 0 ∷ []) ++ end ∷ []) ++ replicate n (2 ^ 64 - 1) → length new < 2 ^ 64 → IsAdded d (record { at = at; n = n; first = d }) old new
+pub is_added : (d : Domain) (old new : List ℕ) (at end n : ℕ) → IsDomain d → at ≡ length old → end ≡ length (values_of d)
+    → n ≡ (end + 63) / 64
+    → new ≡ ((old ++ 0 ∷ []) ++ end ∷ []) ++ replicate n (2 ^ 64 - 1) → length new < 2 ^ 64
+    → IsAdded d (record { at = at; n = n; first = d }) old new
 is_added d old new at end n domain at_is end_is n_is new_is small = record {
   first = refl;
   at = at_is;
@@ -671,7 +725,8 @@ is_added d old new at end n domain at_is end_is n_is new_is small = record {
     });
     counted = omega (arith, last_is, end_is);
   };
-  values = ap (λ (a : ℕ). map (value_at d) (members (row_of new at n) a (get_or new (at + 1) 0))) lo_is ∙ (ap (λ (b : ℕ). map (value_at d) (members (row_of new at n) 0 b)) last_is
+  values = ap (λ (a : ℕ). map (value_at d) (members (row_of new at n) a (get_or new (at + 1) 0))) lo_is
+      ∙ (ap (λ (b : ℕ). map (value_at d) (members (row_of new at n) 0 b)) last_is
       ∙ (ap (map (value_at d)) (filter_front (inside (row_of new at n) 0 end) 0 end (64 * length (row_of new at n))
       (λ i low high. of_inside (row_of new at n) 0 end i low (omega (arith, high)) (set_at_place i (omega (arith, high, n_is))))
       (λ i low. not_inside i low (inside (row_of new at n) 0 end i) refl) (omega (arith, row_long, n_is)))
@@ -679,13 +734,17 @@ is_added d old new at end n domain at_is end_is n_is new_is small = record {
 }
   where
     whole : new ≡ old ++ (0 ∷ end ∷ replicate n (2 ^ 64 - 1))
-    whole = new_is ∙ (ap (λ (us : List ℕ). us ++ replicate n (2 ^ 64 - 1)) (append_assoc old (0 ∷ []) (end ∷ [])) ∙ append_assoc old (0 ∷ end ∷ []) (replicate n (2 ^ 64 - 1)))
+    whole = new_is
+        ∙ (ap (λ (us : List ℕ). us ++ replicate n (2 ^ 64 - 1)) (append_assoc old (0 ∷ []) (end ∷ []))
+        ∙ append_assoc old (0 ∷ end ∷ []) (replicate n (2 ^ 64 - 1)))
 
     long : length new ≡ length old + 2 + n
-    long = let a = ap length whole in let b = length-append old (0 ∷ end ∷ replicate n (2 ^ 64 - 1)) in let c = length-replicate n (2 ^ 64 - 1) in omega (arith, a, b, c)
+    long = let a = ap length whole in let b = length-append old (0 ∷ end ∷ replicate n (2 ^ 64 - 1)) in let c =
+        length-replicate n (2 ^ 64 - 1) in omega (arith, a, b, c)
 
     later : (i : ℕ) → get_or new (at + i) 0 ≡ get_or (0 ∷ end ∷ replicate n (2 ^ 64 - 1)) i 0
-    later i = ap (λ (k : ℕ). get_or new (k + i) 0) at_is ∙ (ap (λ (us : List ℕ). get_or us (length old + i) 0) whole ∙ get_or-append-add old (0 ∷ end ∷ replicate n (2 ^ 64 - 1)) i 0)
+    later i = ap (λ (k : ℕ). get_or new (k + i) 0) at_is
+        ∙ (ap (λ (us : List ℕ). get_or us (length old + i) 0) whole ∙ get_or-append-add old (0 ∷ end ∷ replicate n (2 ^ 64 - 1)) i 0)
 
     lo_is : get_or new at 0 ≡ 0
     lo_is = ap (λ (k : ℕ). get_or new k 0) (omega arith) ∙ later 0
@@ -697,11 +756,13 @@ is_added d old new at end n domain at_is end_is n_is new_is small = record {
     row_long = length-row new at n (omega (arith, long, at_is))
 
     word : (i : ℕ) → i < n → get_or (row_of new at n) i 0 ≡ 2 ^ 64 - 1
-    word i lt = get_row new at n i lt ∙ (ap (λ (k : ℕ). get_or new k 0) (omega arith) ∙ (later (suc (suc i)) ∙ get_or-replicate n i (2 ^ 64 - 1) 0 lt))
+    word i lt = get_row new at n i lt
+        ∙ (ap (λ (k : ℕ). get_or new k 0) (omega arith) ∙ (later (suc (suc i)) ∙ get_or-replicate n i (2 ^ 64 - 1) 0 lt))
 
     set_at_place : (i : ℕ) → i < 64 * n → bit (row_of new at n) i ≡ true
     set_at_place i lt =
-        let one : bit_at (get_or (row_of new at n) (i / 64) 0) (i % 64) ≡ 1 = ap (λ (w : ℕ). bit_at w (i % 64)) (word (i / 64) (omega (arith, lt))) ∙ bit_at_ones 64 (i % 64) (omega arith) in
+        let one : bit_at (get_or (row_of new at n) (i / 64) 0) (i % 64) ≡ 1 =
+        ap (λ (w : ℕ). bit_at w (i % 64)) (word (i / 64) (omega (arith, lt))) ∙ bit_at_ones 64 (i % 64) (omega arith) in
         rw one refl
 
     not_inside : (i : ℕ) → 0 + end ≤ i → (b : Bool) → inside (row_of new at n) 0 end i ≡ b → inside (row_of new at n) 0 end i ≡ false
@@ -716,8 +777,7 @@ grown (h ∷ hs) old new same long all =
     let rest = grown hs old new same long all.1 in
     let lo : get_or new h.at 0 ≡ get_or old h.at 0 = same h.at (omega (arith, laid.within)) in
     let end : get_or new (h.at + 1) 0 ≡ get_or old (h.at + 1) 0 = same (h.at + 1) (omega (arith, laid.within)) in
-    let row : row_of new h.at h.n ≡ row_of old h.at h.n = longer h laid in
-    (
+    let row : row_of new h.at h.n ≡ row_of old h.at h.n = longer h laid in (
       ap (λ (xs : List ℕ). xs ∷ sets_of hs new) (set_by h old new row lo end) ∙ ap (λ (xss : Sets). set_of old h ∷ xss) rest.0,
       (laid_by h old new long row lo end laid, rest.1),
     )
@@ -736,12 +796,15 @@ add_store hs old new d h few domain store added = (
   record {
     few = omega (arith, few, length_push hs h);
     apart = λ v w e lv lw ne. apart v w e (omega (arith, lv, length_push hs h)) (omega (arith, lw, length_push hs h)) ne;
-    domains = All-from_recursion _ _ (all_one_more (λ (g : Shape). IsDomain g.first) hs h (recursion_from_All _ _ store.domains) (subst IsDomain (sym added.first) domain));
+    domains = All-from_recursion _ _
+        (all_one_more (λ (g : Shape). IsDomain g.first) hs h (recursion_from_All _ _ store.domains)
+        (subst IsDomain (sym added.first) domain));
     now = All-from_recursion _ _ (all_one_more (IsLaid new) hs h more.1 added.laid);
     before = λ i x lt. absurd (omega (arith, lt));
     full = λ i x lt. absurd (omega (arith, lt));
   },
-  map-append (set_of new) hs (h ∷ []) ∙ (ap (λ (xss : Sets). xss ++ set_of new h ∷ []) more.0 ∙ ap (λ (xs : List ℕ). sets_of hs old ++ xs ∷ []) added.values),
+  map-append (set_of new) hs (h ∷ [])
+      ∙ (ap (λ (xss : Sets). xss ++ set_of new h ∷ []) more.0 ∙ ap (λ (xs : List ℕ). sets_of hs old ++ xs ∷ []) added.values),
 )
   where
     more : (sets_of hs new ≡ sets_of hs old) × AllByRecursion (IsLaid new) hs
@@ -759,9 +822,11 @@ add_store hs old new d h few domain store added = (
     apart v w e lv lw ne = elim (cases_lt v (length hs)) [
       | inl a ↦ elim (cases_lt w (length hs)) [
         | inl b ↦ rw (before_at v e a, before_at w e b) (store.apart v w e a b ne)
-        | inr b ↦ rw (before_at v e a, last_at w e (omega (arith, b, lw))) (inl (let l = (store.now v e a).within in omega (arith, l, added.at)))
+        | inr b ↦ rw (before_at v e a, last_at w e (omega (arith, b, lw)))
+            (inl (let l = (store.now v e a).within in omega (arith, l, added.at)))
       ]
-      | inr a ↦ rw (last_at v e (omega (arith, a, lv)), before_at w e (omega (arith, a, lv, lw, ne))) (inr (let l = (store.now w e (omega (arith, a, lv, lw, ne))).within in omega (arith, l, added.at)))
+      | inr a ↦ rw (last_at v e (omega (arith, a, lv)), before_at w e (omega (arith, a, lv, lw, ne)))
+          (inr (let l = (store.now w e (omega (arith, a, lv, lw, ne))).within in omega (arith, l, added.at)))
     ]
 
 -- Marks
@@ -770,7 +835,8 @@ all_split : {A : Type 0} (P : A → Type 0) (xs : List A) (x : A) → AllByRecur
 all_split P [] x all = (tt, all.0)
 all_split P (y ∷ ys) x all = let rest = all_split P ys x all.1 in ((all.0, rest.0), rest.1)
 
-pub mark_store : {X E : Type 0} (hs : List Shape) (old new : MarkedWords) (r : Result X E) → OnOk r (new.marked ≡ old.marked ++ old.words ∷ [])
+pub mark_store : {X E : Type 0} (hs : List Shape) (old new : MarkedWords) (r : Result X E)
+    → OnOk r (new.marked ≡ old.marked ++ old.words ∷ [])
     → new.words ≡ old.words → OnErr r (new ≡ old) → NoneEmpty (sets_of hs old.words) → IsStore hs old.words old.marked
     → IsStore hs new.words new.marked
 mark_store hs old new (Ok x) ok words err live h = record {
@@ -788,9 +854,10 @@ mark_store hs old new (Err e) ok words err live h = subst (λ (c : MarkedWords).
 pub undo_store : (hs : List Shape) (old new : MarkedWords) → old.marked ≡ new.marked ++ new.words ∷ [] → IsStore hs old.words old.marked
     → IsStore hs new.words new.marked × NoneEmpty (sets_of hs new.words)
 undo_store hs old new is h =
-    let laid = all_split (λ us. All (IsLaid us) hs) new.marked new.words (recursion_from_All _ _ (subst (All (λ us. All (IsLaid us) hs)) is h.before)) in
-    let full = all_split (λ us. NoneEmpty (sets_of hs us)) new.marked new.words (recursion_from_All _ _ (subst (All (λ us. NoneEmpty (sets_of hs us))) is h.full)) in
-    (
+    let laid = all_split (λ us. All (IsLaid us) hs) new.marked new.words
+    (recursion_from_All _ _ (subst (All (λ us. All (IsLaid us) hs)) is h.before)) in
+    let full = all_split (λ us. NoneEmpty (sets_of hs us)) new.marked new.words
+    (recursion_from_All _ _ (subst (All (λ us. NoneEmpty (sets_of hs us))) is h.full)) in (
       record {
         few = h.few;
         apart = h.apart;

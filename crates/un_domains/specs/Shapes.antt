@@ -85,4 +85,5 @@ pub record IsPlacesCut (q : ℕ → Bool) (at n : ℕ) (old new : MarkedWords) (
   pub tight : IsTight (row_of new.words at n) (slice_index new.words at) (slice_index new.words (at + 1))
   pub fewer : slice_index new.words (at + 1) ≤ slice_index old.words (at + 1)
   pub left : places_of new.words at n ≡ filter q (places_of old.words at n)
-  pub says : AnswerOf (slice_index new.words at) (slice_index new.words (at + 1)) (places_of new.words at n) (places_of old.words at n) answer
+  pub says : AnswerOf (slice_index new.words at) (slice_index new.words (at + 1)) (places_of new.words at n) (places_of old.words at n)
+      answer

@@ -4,9 +4,9 @@ ghost use Rattle.std.specs.Prelude.{◌≡◌, ℕ, ◌+◌, ◌*◌, ◌/◌, �
 ghost use Rattle.un_domains.specs.Bits.{bit, members, IsTight};
 ghost use Rattle.un_domains.specs.Shapes.{row_of, places_of, BoundsAnswer, IsPlacesCut, IsCleared, SameBut};
 
-use crate::bounds::{before, from, has, only, tighten, Bounds};
+use crate::bounds::{Bounds, before, from, has, only, tighten};
 use crate::cut::Cut;
-use crate::scan::{count, WORD};
+use crate::scan::{WORD, count};
 use crate::trail::Words;
 
 /// A variable's words of bits.

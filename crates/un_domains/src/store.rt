@@ -202,7 +202,6 @@ impl Store {
         has(row(words, shape.at, shape.n), bounds_at(words, shape.at), k)
     }
 
-
     /// Keeps the values of `v` that are at most `x`. It takes no memory.
     pub fn keep_le(&mut self, v: VarId, x: u32) -> Cut
         requires { v.0 < length self.old.sets }

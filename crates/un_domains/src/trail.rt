@@ -2,7 +2,7 @@
 
 ghost use Rattle.std.specs.Prelude.{◌≡◌, ℕ, ◌+◌, ◌<◌, ◌≤◌, List, [], ◌∷◌, ◌++◌, length, slice_index, slice_set, OnOk, OnErr, All};
 
-use crate::levels::{new_level, note, restore, Level};
+use crate::levels::{Level, new_level, note, restore};
 use std::alloc::{AllocError, Global};
 use std::marker::Model;
 

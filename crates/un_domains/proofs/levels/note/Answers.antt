@@ -10,4 +10,5 @@ returns-then-depth-gt0-clause-marked c ws w is lt =
     let k = c.len-depth.result - 1 in
     let top = c.index_mut.result.now in
     let long : length ls ≡ k + 1 = omega (arith, c.len-depth.ensures, c.if-depth-gt0.true) in
-    marked_noted ls k c.save.new.level top ws (set ws c.args.i w) long (c.save.ensures.same ws w is lt ∙ ap (λ (l : Level). unwind l.entries.items ws) c.index_mut.ensures.value)
+    marked_noted ls k c.save.new.level top ws (set ws c.args.i w) long
+    (c.save.ensures.same ws w is lt ∙ ap (λ (l : Level). unwind l.entries.items ws) c.index_mut.ensures.value)

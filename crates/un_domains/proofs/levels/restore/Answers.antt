@@ -11,6 +11,8 @@ loop-entry-preserved c =
     let e = c.in-Some.entry in
     let ws = c.loop-entry.words.items in
     record {
-      there = subst (λ (n : ℕ). All (λ (x : Saved). x.at < n) c.pop.new.self.items) (sym (length-set ws e.at e.old)) (there_popped (length ws) c.loop-entry.entries.items c.pop.new.self.items e items c.loop-entry.invariant.there);
-      words = sym (unwind_one c.pop.new.self.items e ws) ∙ (ap (λ (es : List Saved). unwind es ws) (sym items) ∙ c.loop-entry.invariant.words);
+      there = subst (λ (n : ℕ). All (λ (x : Saved). x.at < n) c.pop.new.self.items) (sym (length-set ws e.at e.old))
+          (there_popped (length ws) c.loop-entry.entries.items c.pop.new.self.items e items c.loop-entry.invariant.there);
+      words = sym (unwind_one c.pop.new.self.items e ws)
+          ∙ (ap (λ (es : List Saved). unwind es ws) (sym items) ∙ c.loop-entry.invariant.words);
     }

@@ -17,8 +17,9 @@ returns-clause-row c =
     let within : k / 64 < n = omega (arith, c.requires.place) in
     let word : c.get-word.result ≡ get_or row (k / 64) 0 = c.get-word.ensures ∙ sym (get_row ws at n (k / 64) within) in
     let new : row_of c.set.new.self.words at n ≡ set row (k / 64) (bit_and (get_or row (k / 64) 0) mask) =
-        ap (λ (us : List ℕ). row_of us at n) c.set.ensures.words
-        ∙ (row_set ws at n (k / 64) (bit_and c.get-word.result mask) c.requires.within within ∙ ap (λ (w : ℕ). set row (k / 64) (bit_and w mask)) word) in
+    ap (λ (us : List ℕ). row_of us at n) c.set.ensures.words
+    ∙ (row_set ws at n (k / 64) (bit_and c.get-word.result mask) c.requires.within within
+    ∙ ap (λ (w : ℕ). set row (k / 64) (bit_and w mask)) word) in
     let lt : k < 64 * length row = omega (arith, c.requires.place, length-row ws at n c.requires.within) in
     subst (IsCleared k row) (sym new) (record {
       there = clear_same row k lt;

@@ -54,7 +54,8 @@ loop-at-preserved c =
     record {
       high = omega (arith, c.loop-at.invariant.high);
       passed = λ i le lt. elim (cases_lt i c.loop-at.at) [
-        | inl before ↦ word_clear c.args.words.now last i (let e = c.low_bits-rest.ensures in let z = c.if-rest-ne0.false in omega (arith, e, z)) le (omega (arith, before))
+        | inl before ↦ word_clear c.args.words.now last i (let e = c.low_bits-rest.ensures in let z = c.if-rest-ne0.false in
+            omega (arith, e, z)) le (omega (arith, before))
         | inr after ↦ c.loop-at.invariant.passed i after lt
       ];
     }

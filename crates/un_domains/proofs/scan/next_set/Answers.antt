@@ -6,7 +6,13 @@ use Rattle.un_domains.specs.BitLaws.{word_found, word_passed}
 use Rattle.un_domains.proofs.scan.next_set.Goals as goal
 
 pub overflow_add-place : goal.overflow_add-place
-overflow_add-place c = omega (arith, trailing_le 64 (get_or c.args.words.now (c.loop-at.at / 64) 0 / 2 ^ (c.loop-at.at % 64)), c.loop-at-test.true, c.requires.small)
+overflow_add-place c =
+    omega (
+      arith,
+      trailing_le 64 (get_or c.args.words.now (c.loop-at.at / 64) 0 / 2 ^ (c.loop-at.at % 64)),
+      c.loop-at-test.true,
+      c.requires.small,
+    )
 
 pub returns-then-rest-ne0-clause-passed : goal.returns-then-rest-ne0-clause-passed
 returns-then-rest-ne0-clause-passed c i le lt =

@@ -22,7 +22,8 @@ loop-domain-preserved c =
     let pushed = c.in_ok-push.ensures.items in
     let long : length (into_iter_items c.loop-domain.domain-iterator) ≡ length rest + 1 = ap length step.0 ∙ omega arith in
     let few = c.loop-domain.invariant.few in
-    let added = add_store hs old new d h (omega (arith, few, long)) (each 0 d (omega arith)) c.loop-domain.invariant.store c.in_ok-shape.ensures in
+    let added = add_store hs old new d h (omega (arith, few, long)) (each 0 d (omega arith)) c.loop-domain.invariant.store
+    c.in_ok-shape.ensures in
     record {
       store = subst (λ (gs : List Shape). IsStore gs new []) (sym pushed) added.0;
       few = (let more = ap length pushed in omega (arith, few, long, more, length_push hs h));

@@ -11,7 +11,10 @@ returns c =
     let a = c.self.inside in
     let h = c.index-shape.result.now in
     let sets = ap (λ (s : Contents). s.sets) c.self.view_is in
-    let below : c.args.v.0 < length a.shapes.items = omega (arith, c.requires, ap length sets, length-map a.shapes.items (set_of a.words.words)) in
-    c.has.ensures ∙ has_in a.shapes.items a.words.words a.words.marked c.self.invariant c.args.v.0 h below c.index-shape.ensures c.args.self.now.sets sets
-    c.as_slice-words.result.now c.as_slice-words.ensures c.bounds_at.result.lo c.bounds_at.result.end c.bounds_at.ensures.lo c.bounds_at.ensures.end
+    let below : c.args.v.0 < length a.shapes.items =
+    omega (arith, c.requires, ap length sets, length-map a.shapes.items (set_of a.words.words)) in
+    c.has.ensures ∙ has_in a.shapes.items a.words.words a.words.marked c.self.invariant c.args.v.0 h below c.index-shape.ensures
+    c.args.self.now.sets sets
+    c.as_slice-words.result.now c.as_slice-words.ensures c.bounds_at.result.lo c.bounds_at.result.end c.bounds_at.ensures.lo
+    c.bounds_at.ensures.end
     c.row.result.now c.args.x c.place_of-k.result c.row.ensures c.place_of-k.ensures.agree

@@ -11,6 +11,9 @@ returns c =
     let a = c.self.inside in
     let h = c.index-shape.result.now in
     let sets = ap (λ (s : Contents). s.sets) c.self.view_is in
-    let below : c.args.v.0 < length a.shapes.items = omega (arith, c.requires, ap length sets, length-map a.shapes.items (set_of a.words.words)) in
-    single_is a.shapes.items a.words.words a.words.marked c.self.invariant c.args.v.0 h below c.index-shape.ensures c.args.self.now.sets sets
-    c.as_slice.result.now c.as_slice.ensures c.bounds_at-bounds.result.lo c.bounds_at-bounds.result.end c.bounds_at-bounds.ensures.lo c.bounds_at-bounds.ensures.end
+    let below : c.args.v.0 < length a.shapes.items =
+    omega (arith, c.requires, ap length sets, length-map a.shapes.items (set_of a.words.words)) in
+    single_is a.shapes.items a.words.words a.words.marked c.self.invariant c.args.v.0 h below c.index-shape.ensures c.args.self.now.sets
+    sets
+    c.as_slice.result.now c.as_slice.ensures c.bounds_at-bounds.result.lo c.bounds_at-bounds.result.end c.bounds_at-bounds.ensures.lo
+    c.bounds_at-bounds.ensures.end

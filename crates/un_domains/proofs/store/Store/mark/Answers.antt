@@ -8,4 +8,5 @@ pub invariant_of-self-2 : goal.invariant_of-self-2
 invariant_of-self-2 c =
     let a = c.self.inside in
     let live = subst NoneEmpty (sym (ap (λ (s : Contents). s.sets) c.self.view_is)) c.requires in
-    mark_store a.shapes.items a.words c.mark.new.self c.mark.result c.mark.ensures.ok c.mark.ensures.words c.mark.ensures.err live c.self.invariant
+    mark_store a.shapes.items a.words c.mark.new.self c.mark.result c.mark.ensures.ok c.mark.ensures.words c.mark.ensures.err live
+    c.self.invariant

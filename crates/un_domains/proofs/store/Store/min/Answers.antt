@@ -11,9 +11,12 @@ value_at-requires c =
     let a = c.self.inside in
     let h = c.index-shape.result.now in
     let sets = ap (λ (s : Contents). s.sets) c.self.view_is in
-    let below : c.args.v.0 < length a.shapes.items = omega (arith, c.requires.there, ap length sets, length-map a.shapes.items (set_of a.words.words)) in
-    let lt = bounds_in a.shapes.items a.words.words a.words.marked c.self.invariant c.args.v.0 h below c.index-shape.ensures c.args.self.now.sets sets
-    c.as_slice.result.now c.as_slice.ensures c.bounds_at-bounds.result.lo c.bounds_at-bounds.result.end c.bounds_at-bounds.ensures.lo c.bounds_at-bounds.ensures.end c.requires.some in
+    let below : c.args.v.0 < length a.shapes.items =
+    omega (arith, c.requires.there, ap length sets, length-map a.shapes.items (set_of a.words.words)) in
+    let lt = bounds_in a.shapes.items a.words.words a.words.marked c.self.invariant c.args.v.0 h below c.index-shape.ensures
+    c.args.self.now.sets sets
+    c.as_slice.result.now c.as_slice.ensures c.bounds_at-bounds.result.lo c.bounds_at-bounds.result.end c.bounds_at-bounds.ensures.lo
+    c.bounds_at-bounds.ensures.end c.requires.some in
     omega (arith, lt.0, lt.1)
 
 pub returns : goal.returns
@@ -21,6 +24,9 @@ returns c =
     let a = c.self.inside in
     let h = c.index-shape.result.now in
     let sets = ap (λ (s : Contents). s.sets) c.self.view_is in
-    let below : c.args.v.0 < length a.shapes.items = omega (arith, c.requires.there, ap length sets, length-map a.shapes.items (set_of a.words.words)) in
-    c.value_at.ensures ∙ min_is a.shapes.items a.words.words a.words.marked c.self.invariant c.args.v.0 h below c.index-shape.ensures c.args.self.now.sets sets
-    c.as_slice.result.now c.as_slice.ensures c.bounds_at-bounds.result.lo c.bounds_at-bounds.result.end c.bounds_at-bounds.ensures.lo c.bounds_at-bounds.ensures.end c.requires.some
+    let below : c.args.v.0 < length a.shapes.items =
+    omega (arith, c.requires.there, ap length sets, length-map a.shapes.items (set_of a.words.words)) in
+    c.value_at.ensures ∙ min_is a.shapes.items a.words.words a.words.marked c.self.invariant c.args.v.0 h below c.index-shape.ensures
+    c.args.self.now.sets sets
+    c.as_slice.result.now c.as_slice.ensures c.bounds_at-bounds.result.lo c.bounds_at-bounds.result.end c.bounds_at-bounds.ensures.lo
+    c.bounds_at-bounds.ensures.end c.requires.some

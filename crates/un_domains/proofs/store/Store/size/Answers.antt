@@ -11,8 +11,10 @@ overflow_cast-result c =
     let a = c.self.inside in
     let h = c.index-shape.result.now in
     let sets = ap (λ (s : Contents). s.sets) c.self.view_is in
-    let below : c.args.v.0 < length a.shapes.items = omega (arith, c.requires, ap length sets, length-map a.shapes.items (set_of a.words.words)) in
-    let is = size_is a.shapes.items a.words.words a.words.marked c.self.invariant c.args.v.0 h below c.index-shape.ensures c.args.self.now.sets sets c.as_slice.result.now c.count_at.result c.as_slice.ensures c.count_at.ensures in
+    let below : c.args.v.0 < length a.shapes.items =
+    omega (arith, c.requires, ap length sets, length-map a.shapes.items (set_of a.words.words)) in
+    let is = size_is a.shapes.items a.words.words a.words.marked c.self.invariant c.args.v.0 h below c.index-shape.ensures
+    c.args.self.now.sets sets c.as_slice.result.now c.count_at.result c.as_slice.ensures c.count_at.ensures in
     omega (arith, is.1)
 
 pub returns : goal.returns
@@ -20,5 +22,7 @@ returns c =
     let a = c.self.inside in
     let h = c.index-shape.result.now in
     let sets = ap (λ (s : Contents). s.sets) c.self.view_is in
-    let below : c.args.v.0 < length a.shapes.items = omega (arith, c.requires, ap length sets, length-map a.shapes.items (set_of a.words.words)) in
-    (size_is a.shapes.items a.words.words a.words.marked c.self.invariant c.args.v.0 h below c.index-shape.ensures c.args.self.now.sets sets c.as_slice.result.now c.count_at.result c.as_slice.ensures c.count_at.ensures).0
+    let below : c.args.v.0 < length a.shapes.items =
+    omega (arith, c.requires, ap length sets, length-map a.shapes.items (set_of a.words.words)) in
+    (size_is a.shapes.items a.words.words a.words.marked c.self.invariant c.args.v.0 h below c.index-shape.ensures c.args.self.now.sets
+    sets c.as_slice.result.now c.count_at.result c.as_slice.ensures c.count_at.ensures).0
