@@ -1,0 +1,16 @@
+pub mod Bits
+pub mod BitLaws
+pub mod CountLaws
+pub mod CutLaws
+pub mod Cuts
+pub mod DomainLaws
+pub mod Domains
+pub mod LevelLaws
+pub mod Levels
+pub mod MemberLaws
+pub mod Order
+pub mod OrderLaws
+pub mod SetLaws
+pub mod Sets
+pub mod ShapeLaws
+pub mod Shapes

@@ -1,4 +1,14 @@
-//! Finite sets of numbers.
+//! Finite sets of numbers, one for each variable, with marks that can be taken back.
 #![tactic(auto)]
 
+pub mod bounds;
+pub mod cut;
 pub mod domain;
+pub mod levels;
+pub mod places;
+pub mod rows;
+pub mod scan;
+pub mod shape;
+pub mod store;
+pub mod trail;
+pub mod window;

@@ -1,0 +1,11 @@
+use Rattle.std.proofs.Common.{nat_le, nat_lt, nat_eq}
+use Rattle.un_domains.specs.ShapeLaws.{code_cut}
+use Rattle.un_domains.proofs.rows.keep_from.Goals as goal
+
+pub returns : goal.returns
+returns c =
+    code_cut (λ i. nat_le c.args.k i) c.args.at c.args.n c.args.words.now c.write.new.words c.answer.result c.as_slice-all.result.now
+    c.row.result.now
+    c.bounds_at-old.result.lo c.bounds_at-old.result.end c.from-new.result.lo c.from-new.result.end c.requires.within c.requires.tight
+    c.as_slice-all.ensures c.bounds_at-old.ensures.lo c.bounds_at-old.ensures.end c.row.ensures c.from-new.ensures.set
+    c.from-new.ensures.tight c.from-new.ensures.within c.write.ensures.words c.write.ensures.marked c.answer.ensures

@@ -1,0 +1,33 @@
+use Rattle.std.proofs.Common.{◌<◌, arith, ap, subst, length, map, nat_le, nat_lt, nat_eq}
+use Rattle.std.proofs.lemmas.List.{length-map}
+use Rattle.un_domains.specs.Cuts.{Contents, IsCut}
+use Rattle.un_domains.specs.Domains.{value_at}
+use Rattle.un_domains.specs.Shapes.{set_of, sets_of}
+use Rattle.un_domains.specs.ShapeLaws.{cut_store, cut_is, turned}
+use Rattle.un_domains.proofs.store.Store.keep_eq.Goals as goal
+
+pub invariant_of-self : goal.invariant_of-self
+invariant_of-self c =
+    let a = c.self.inside in
+    let h = c.index-shape.result.now in
+    let below : c.args.v.0 < length a.shapes.items =
+    omega (arith, c.requires, ap (λ (s : Contents). length s.sets) c.self.view_is, length-map a.shapes.items (set_of a.words.words)) in
+    cut_store a.shapes.items a.words.words c.keep_only.new.words.words a.words.marked c.keep_only.new.words.marked c.self.invariant
+    c.args.v.0 h below c.index-shape.ensures
+    (λ i. nat_eq i c.place_of-k.result) (λ y. nat_eq y c.args.x) c.keep_only.result c.place_of-k.ensures.agree c.keep_only.ensures
+
+pub returns : goal.returns
+returns c =
+    let a = c.self.inside in
+    let h = c.index-shape.result.now in
+    let below : c.args.v.0 < length a.shapes.items =
+    omega (arith, c.requires, ap (λ (s : Contents). length s.sets) c.self.view_is, length-map a.shapes.items (set_of a.words.words)) in
+    let cut = cut_is a.shapes.items a.words.words c.keep_only.new.words.words a.words.marked c.keep_only.new.words.marked c.self.invariant
+    c.args.v.0 h below c.index-shape.ensures
+    (λ i. nat_eq i c.place_of-k.result) (λ y. nat_eq y c.args.x) c.keep_only.result c.place_of-k.ensures.agree c.keep_only.ensures in
+    subst (λ (s : Contents). IsCut (λ y. nat_eq y c.args.x) c.args.v.0 s
+    (record {
+      sets = sets_of a.shapes.items c.keep_only.new.words.words;
+      marked =
+          map (sets_of a.shapes.items) c.keep_only.new.words.marked;
+    }) c.keep_only.result) c.self.view_is cut

@@ -1,0 +1,7 @@
+-- those so far wait
+use Rattle.std.proofs.Common.{◌≡◌, ℕ, ◌<◌, true}
+use Rattle.un_prop.specs.Queues.{waits}
+use Rattle.un_prop.proofs.queue.wake_all.Given as goal
+
+abbrev pub invariant-loop-w : goal.invariant-loop-w
+invariant-loop-w l = (k : ℕ) → k < l.w-index → waits l.waiting k ≡ true

@@ -1,0 +1,9 @@
+pub mod Fixes
+pub mod Lawful
+pub mod Nodes
+pub mod Parts
+pub mod Pruning
+pub mod QueueLaws
+pub mod Queues
+pub mod Rounds
+pub mod Steps

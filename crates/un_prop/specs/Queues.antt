@@ -1,0 +1,39 @@
+-- What a queue of propagators keeps.
+use Rattle.std.specs.Prelude.{ℕ, ◌≡◌, ◌<◌, ◌⊎◌, Bool, true, false, List, length, slice_index, slice_index_or, All, Some}
+use Rattle.std.specs.declared.option.Option.{Option}
+use Rattle.un_base.specs.declared.ids.VarId.{VarId}
+use Rattle.un_domains.specs.Sets.{Sets, set_at, has}
+
+-- the row of each variable has the places of the propagators that read it
+pub record IsTable {P : Type 0} (scope : P → List VarId) (ps : List P) (vars : ℕ) (table : Sets) : Type 0 where
+  pub long : length table ≡ vars
+  pub there : (i : ℕ) (d : P) → i < length ps → All (λ v. has (set_at table v.0) i ≡ true) (scope (slice_index_or ps i d))
+  pub within : (v i : ℕ) → has (set_at table v) i ≡ true → i < length ps
+
+-- the place i stands in the rows of these variables, and else the rows are as they were
+pub record Entered (vs : List VarId) (i : ℕ) (old new : Sets) : Type 0 where
+  pub long : length new ≡ length old
+  pub there : All (λ v. has (set_at new v.0) i ≡ true) vs
+  pub grows : (v j : ℕ) → has (set_at old v) j ≡ true → has (set_at new v) j ≡ true
+  pub alone : (v j : ℕ) → has (set_at new v) j ≡ true → (has (set_at old v) j ≡ true) ⊎ (j ≡ i)
+
+-- whether the propagator at i waits
+abbrev pub waits : List Bool → ℕ → Bool
+waits ws i = slice_index_or ws i false
+
+-- each propagator that does not wait leaves the store as it is
+abbrev pub IsReady : {P : Type 0} → (P → Sets → Option Sets) → List P → List Bool → Sets → Type 0
+IsReady {P = P} cut ps ws s = (i : ℕ) (d : P) → i < length ps → waits ws i ≡ false → cut (slice_index_or ps i d) s ≡ Some s
+
+-- how many values each variable has
+pub record IsSizes (sizes : List ℕ) (s : Sets) : Type 0 where
+  pub long : length sizes ≡ length s
+  pub each : (v : ℕ) → v < length s → slice_index sizes v ≡ length (set_at s v)
+
+-- nothing stops waiting
+abbrev pub Grows : List Bool → List Bool → Type 0
+Grows old new = (i : ℕ) → waits old i ≡ true → waits new i ≡ true
+
+-- all that read variable v wait
+abbrev pub AllWait : Sets → List Bool → ℕ → Type 0
+AllWait table ws v = (i : ℕ) → has (set_at table v) i ≡ true → waits ws i ≡ true

@@ -1,0 +1,8 @@
+//! Propagators: their laws, and rounds of them.
+#![tactic(auto)]
+
+pub mod changed;
+pub mod propagator;
+pub mod queue;
+pub mod readers;
+pub mod run;
