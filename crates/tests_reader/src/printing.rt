@@ -1,0 +1,109 @@
+//! Functions that are read, printed in the one spelling, and read again.
+
+use std::alloc::Global;
+use std::test::Fail;
+use un_ir::print::print_function;
+use un_reader::read::read_function;
+use un_reread::read_back::read_back;
+
+/// The sum of the products of the words at two addresses, in the one spelling.
+const LOOP: &[u8] = b"func dot %x %y %n
+block entry freq 1
+  %s = imm #0
+block loop freq 100
+  %u = load %x, #0
+  %v = load %y, #0
+  %m = mpyi %u, %v
+  %s = add %s, %m
+  %x = addi %x, #4
+  %y = addi %y, #4
+  %n = addi %n, #-1
+  $c = cmpgti %n, #0
+  if $c jump loop
+block exit freq 1
+  ret %s
+";
+
+/// The same in another spelling.
+const SPELLED: &[u8] = b"; the dot product
+func dot %x\t%y  %n
+
+block entry freq 01
+%s=imm #-0
+  block loop freq 100
+    %u = load %x,#00 ; the next words
+    %v = load %y,#0
+    %m = mpyi %u , %v
+    %s = add %s, %m
+    %x = addi %x, #4
+    %y = addi %y, #4
+    %n = addi %n, #-01
+    $c = cmpgti %n, #0
+    if $c jump loop
+block exit freq 1
+  ret %s";
+
+/// A function with the forms that the loop lacks, in the one spelling.
+const CALLS: &[u8] = b"func calls %a
+block e freq 1000000
+  %b = mov %a
+  $b = cmpgtu %a, %b
+  %b = mux $b, %a, %b
+  store %a, #-4096, %b
+  %b = call h %a, %b
+  call h
+  if !$b jump g
+block f freq 2
+  jump g
+block g freq 3
+  ret
+";
+
+/// Texts of which each name, number and jump is to come out in its place.
+const PARTS: &[u8] =
+    b"func g %a\nblock e freq 0010\n$p = cmpeqi %a, #-0512 ; c\nif !$p jump x\nblock w freq 2\nstore %a,#-4,%a\n%b = call h %a\nblock x freq 3\nret %a";
+
+/// The same in the one spelling.
+const PRINTED_PARTS: &[u8] = b"func g %a
+block e freq 10
+  $p = cmpeqi %a, #-512
+  if !$p jump x
+block w freq 2
+  store %a, #-4, %a
+  %b = call h %a
+block x freq 3
+  ret %a
+";
+
+/// Texts, and the one spelling of each.
+static SPELLINGS: [(&[u8], &[u8]); 4] = [
+    (SPELLED, LOOP),
+    (LOOP, LOOP),
+    (CALLS, CALLS),
+    (PARTS, PRINTED_PARTS),
+];
+
+/// Whether a text is printed in this spelling, and again after its function was printed and read.
+fn prints(alloc: Global, text: &[u8], printed: &[u8]) -> Result<bool, Fail> {
+    let f = read_function(alloc, text)?;
+    let first = print_function(alloc, &f)?;
+    let back = print_function(alloc, &read_back(alloc, &f)?)?;
+    Ok(first.as_slice() == printed && back.as_slice() == printed)
+}
+
+/// Whether each text is printed in its one spelling.
+fn all_are_printed(alloc: Global) -> Result<bool, Fail> {
+    for (text, printed) in SPELLINGS.iter() {
+        if !prints(alloc, text, printed)? {
+            return Ok(false);
+        }
+    }
+    Ok(true)
+}
+
+#[test]
+fn prints_in_one_spelling(rt: HostRuntime) -> Result<(), Fail> {
+    let well = all_are_printed(rt.alloc())?;
+    assert!(rt; well);
+    Ok(())
+}

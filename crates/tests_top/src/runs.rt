@@ -1,0 +1,385 @@
+//! `run` over sources and sinks in memory.
+
+use std::alloc::Global;
+use std::test::Fail;
+use un_base::memory::{MemSink, MemSource};
+use un_base::status::Status;
+use un_base::words::Word;
+use un_top::run::run;
+
+/// A sum of two constants.
+const SUM: &[u8] =
+    b"func f\nblock e freq 3\n  %a = imm #1\n  %b = imm #2\n  %c = add %a, %b\n  ret %c\n";
+
+/// The same in another spelling.
+const SPELLED: &[u8] =
+    b"; a sum\r\nfunc f\r\n\r\nblock e freq 003 ; often\r\n%a=imm #1\r\n\t%b =imm #02\r\n%c = add %a ,%b\r\nret %c";
+
+/// The report of both.
+const REPORT: &[u8] =
+    b"cost 12\nbound 3\nframe 0\nblock e\n{ r1 = #1 }\n{ r2 = #2 }\n{ r0 = add(r1,r2) }\n{ jumpr r31 }\n";
+
+/// How many bytes a call of the source or of `out` moves, how many bytes `out` holds, and the numbers of the calls that
+/// fail, where 99 is none.
+#[derive(Clone, Copy)]
+struct Outside {
+    piece: usize,
+    room: usize,
+    read_fails: u64,
+    write_fails: u64,
+    err_fails: u64,
+}
+
+/// An outside that does not fail.
+const SOUND: Outside = Outside {
+    piece: 4096,
+    room: 65536,
+    read_fails: 99,
+    write_fails: 99,
+    err_fails: 99,
+};
+
+/// What a run is to leave: its status, and what `out` and `err` hold.
+#[derive(Clone, Copy)]
+struct Want<'a> {
+    status: Status,
+    out: &'a [u8],
+    err: &'a [u8],
+}
+
+/// The words of a command line.
+fn words_of(alloc: Global, texts: &[&str]) -> Result<Vec<Word>, Fail> {
+    let mut words = Vec::new(alloc);
+    for text in texts {
+        words.push(Word::new(alloc, text)?)?;
+    }
+    Ok(words)
+}
+
+/// The source over a text.
+fn source(alloc: Global, text: &[u8], outside: Outside) -> Result<MemSource, Fail> {
+    let fails = [outside.read_fails].to_vec(alloc)?;
+    Ok(MemSource::new(text.to_vec(alloc)?, outside.piece.max(1), fails))
+}
+
+/// A sink with so much room, whose call of this number fails.
+fn sink(alloc: Global, room: usize, piece: usize, fails: u64) -> Result<MemSink, Fail> {
+    let fails = [fails].to_vec(alloc)?;
+    Ok(MemSink::new(alloc, room, piece.max(1), fails)?)
+}
+
+/// Whether a run with these words leaves what is wanted.
+fn leaves(
+    alloc: Global,
+    words: &[&str],
+    text: &[u8],
+    outside: Outside,
+    want: Want<'_>,
+) -> Result<bool, Fail> {
+    let words = words_of(alloc, words)?;
+    let mut src = source(alloc, text, outside)?;
+    let mut out = sink(alloc, outside.room, outside.piece, outside.write_fails)?;
+    let mut err = sink(alloc, 4096, 4096, outside.err_fails)?;
+    let status = run(alloc, words.as_slice(), &mut src, &mut out, &mut err);
+    Ok(status == want.status && out.bytes() == want.out && err.bytes() == want.err)
+}
+
+/// What is left where the sum's report was written.
+const DONE: Want<'static> = Want {
+    status: Status::Done,
+    out: REPORT,
+    err: b"",
+};
+
+/// Whether the report of a sum is written, by pieces of any size and in any spelling.
+fn sums_are_reported(alloc: Global) -> Result<bool, Fail> {
+    let slow = Outside { piece: 1, ..SOUND };
+    Ok(
+        leaves(alloc, &["alloc"], SUM, SOUND, DONE)?
+            && leaves(alloc, &["alloc"], SUM, slow, DONE)?
+            && leaves(alloc, &["alloc"], SPELLED, SOUND, DONE)?,
+    )
+}
+
+/// Words that are no command, with their place and the line on `err`.
+static WORDS: [(&[&str], u32, &[u8]); 4] = [
+    (&[], 0, b"usage: word 0\n"),
+    (&["check"], 0, b"usage: word 0\n"),
+    (&["alloc", "x"], 1, b"usage: word 1\n"),
+    (&["x", "alloc", "x"], 0, b"usage: word 0\n"),
+];
+
+/// Whether words that are no command are refused.
+fn words_are_refused(alloc: Global) -> Result<bool, Fail> {
+    for (words, word, line) in WORDS.iter() {
+        let want = Want {
+            status: Status::Usage { word: *word },
+            out: b"",
+            err: line,
+        };
+        if !leaves(alloc, words, SUM, SOUND, want)? {
+            return Ok(false);
+        }
+    }
+    Ok(true)
+}
+
+/// Texts with a fault of the input language, or of a function that is not built, with the line on `err`.
+static FAULTS: [(&[u8], u32, u8, &[u8]); 20] = [
+    (b"", 1, 6, b"line 1: 6 NoBlock\n"),
+    (
+        b"func f\nblock e freq 0\n  ret\n",
+        2,
+        14,
+        b"line 2: 14 BadFreq\n",
+    ),
+    (b"func f\nblock e freq 1\n", 2, 8, b"line 2: 8 FallsOff\n"),
+    (
+        b"func f\nblock e freq 3\n  %a = imm #40000\n",
+        3,
+        3,
+        b"line 3: 3 WideLiteral\n",
+    ),
+    (
+        b"func f\nblock e freq 3\n  %a = cmpeq %b, %c\n",
+        3,
+        10,
+        b"line 3: 10 KindClash\n",
+    ),
+    (
+        b"func f\nblock e freq 3\n---\n",
+        3,
+        2,
+        b"line 3: 2 BadLine\n",
+    ),
+    (
+        b"func f\nblock e freq 3\n  jump e\n",
+        3,
+        9,
+        b"line 3: 9 JumpToEntry\n",
+    ),
+    (
+        b"func f\nblock e freq 3\n  jump g\n",
+        3,
+        5,
+        b"line 3: 5 UnknownLabel\n",
+    ),
+    (
+        b"func u\nblock a freq 1\n  ret %x\n",
+        2,
+        12,
+        b"line 2: 12 LiveAtEntry\n",
+    ),
+    (
+        b"func f\nblock e freq 3\n  ret\n  ret\n",
+        4,
+        7,
+        b"line 4: 7 AfterEnd\n",
+    ),
+    (
+        b"func f\nblock e freq 3\n  ret\nblock e freq 3\n",
+        4,
+        4,
+        b"line 4: 4 DupLabel\n",
+    ),
+    (
+        b"func f %a\nblock e freq 3\n  ret\nblock g freq 3\n  ret %a\n",
+        5,
+        11,
+        b"line 5: 11 MixedResult\n",
+    ),
+    (b"func f\x01\n", 1, 1, b"line 1: 1 BadByte\n"),
+    (
+        b"func f %a %b %c %d %e %f %g\n",
+        1,
+        13,
+        b"line 1: 13 TooMany\n",
+    ),
+    (
+        b"func f\nblock e freq 1\n  ret\n",
+        3,
+        15,
+        b"line 3: 15 NotBuilt\n",
+    ),
+    (
+        b"func f %a\nblock e freq 1\n  ret %a\n",
+        1,
+        15,
+        b"line 1: 15 NotBuilt\n",
+    ),
+    (
+        b"func f\nblock e freq 1\n  %a = imm #1\n  %b = sub %a, %a\n  ret %b\n",
+        4,
+        15,
+        b"line 4: 15 NotBuilt\n",
+    ),
+    (
+        b"func f\nblock e freq 1\n  %a = imm #1\n\n  store %a, #0, %a\n  ret %a\n",
+        5,
+        15,
+        b"line 5: 15 NotBuilt\n",
+    ),
+    (
+        b"func f\nblock e freq 1\n  %a = imm #1\nblock g freq 2\n  ret %a\n",
+        4,
+        15,
+        b"line 4: 15 NotBuilt\n",
+    ),
+    (
+        b"func f\nblock e freq 1\n  %a = imm #1\n  $p = cmpeqi %a, #1\n  ret %a\n",
+        4,
+        15,
+        b"line 4: 15 NotBuilt\n",
+    ),
+];
+
+/// Whether texts are refused at their first fault.
+fn texts_are_refused(alloc: Global) -> Result<bool, Fail> {
+    for (text, line, code, err) in FAULTS.iter() {
+        let want = Want {
+            status: Status::TextFault {
+                line: *line,
+                code: *code,
+            },
+            out: b"",
+            err,
+        };
+        if !leaves(alloc, &["alloc"], text, SOUND, want)? {
+            return Ok(false);
+        }
+    }
+    Ok(true)
+}
+
+/// Whether a text may have 65,536 bytes and no more.
+fn long_texts_are_refused(alloc: Global) -> Result<bool, Fail> {
+    let bytes = vec![in alloc; b'x'; 65537]?;
+    let within = Want {
+        status: Status::TextFault { line: 1, code: 2 },
+        out: b"",
+        err: b"line 1: 2 BadLine\n",
+    };
+    let past = Want {
+        status: Status::TextFault { line: 0, code: 13 },
+        out: b"",
+        err: b"line 0: 13 TooMany\n",
+    };
+    let text = bytes.as_slice();
+    Ok(
+        leaves(alloc, &["alloc"], &text[1..], SOUND, within)?
+            && leaves(alloc, &["alloc"], text, SOUND, past)?,
+    )
+}
+
+/// Whether each of the first calls of the source may fail.
+fn faults_of_reading_are_told(alloc: Global) -> Result<bool, Fail> {
+    let want = Want {
+        status: Status::ReadFault,
+        out: b"",
+        err: b"read fault\n",
+    };
+    for call in 0..6 {
+        let outside = Outside {
+            piece: 16,
+            read_fails: call,
+            ..SOUND
+        };
+        if !leaves(alloc, &["alloc"], SUM, outside, want)? {
+            return Ok(false);
+        }
+    }
+    Ok(true)
+}
+
+/// Whether each of the first calls of `out` may fail, and leaves the pieces before it.
+fn faults_of_writing_are_told(alloc: Global) -> Result<bool, Fail> {
+    for (call, front) in REPORT.chunks(16).enumerate().take(5) {
+        let outside = Outside {
+            piece: 16,
+            write_fails: call as u64,
+            ..SOUND
+        };
+        let before = front.len().saturating_mul(call).min(REPORT.len());
+        let want = Want {
+            status: Status::WriteFault,
+            out: &REPORT[..before],
+            err: b"write fault\n",
+        };
+        if !leaves(alloc, &["alloc"], SUM, outside, want)? {
+            return Ok(false);
+        }
+    }
+    Ok(true)
+}
+
+/// Whether `out` keeps what has room, and a fault of `err` changes no status.
+fn full_sinks_are_told(alloc: Global) -> Result<bool, Fail> {
+    let little = Outside { room: 10, ..SOUND };
+    let full = Want {
+        status: Status::WriteFault,
+        out: b"cost 12\nbo",
+        err: b"write fault\n",
+    };
+    let silent = Outside {
+        err_fails: 0,
+        ..SOUND
+    };
+    let unheard = Want {
+        status: Status::TextFault { line: 1, code: 6 },
+        out: b"",
+        err: b"",
+    };
+    Ok(
+        leaves(alloc, &["alloc"], SUM, little, full)?
+            && leaves(alloc, &["alloc"], b"", silent, unheard)?,
+    )
+}
+
+#[test]
+fn reports_a_sum(rt: HostRuntime) -> Result<(), Fail> {
+    let well = sums_are_reported(rt.alloc())?;
+    assert!(rt; well);
+    Ok(())
+}
+
+#[test]
+fn refuses_words(rt: HostRuntime) -> Result<(), Fail> {
+    let well = words_are_refused(rt.alloc())?;
+    assert!(rt; well);
+    Ok(())
+}
+
+#[test]
+fn refuses_texts(rt: HostRuntime) -> Result<(), Fail> {
+    let well = texts_are_refused(rt.alloc())?;
+    assert!(rt; well);
+    Ok(())
+}
+
+#[test]
+fn refuses_long_texts(rt: HostRuntime) -> Result<(), Fail> {
+    let well = long_texts_are_refused(rt.alloc())?;
+    assert!(rt; well);
+    Ok(())
+}
+
+#[test]
+fn tells_faults_of_reading(rt: HostRuntime) -> Result<(), Fail> {
+    let well = faults_of_reading_are_told(rt.alloc())?;
+    assert!(rt; well);
+    Ok(())
+}
+
+#[test]
+fn tells_faults_of_writing(rt: HostRuntime) -> Result<(), Fail> {
+    let well = faults_of_writing_are_told(rt.alloc())?;
+    assert!(rt; well);
+    Ok(())
+}
+
+#[test]
+fn tells_full_sinks(rt: HostRuntime) -> Result<(), Fail> {
+    let well = full_sinks_are_told(rt.alloc())?;
+    assert!(rt; well);
+    Ok(())
+}
