@@ -2,5 +2,3 @@
 #![tactic(auto)]
 
 pub mod emission;
-#[cfg(test)]
-mod tests;
