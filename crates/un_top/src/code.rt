@@ -14,7 +14,7 @@ use un_plain_solution::plain_model::plain_model;
 use un_plain_solution::plain_solution::plain_solution;
 
 /// Code with its cost.
-#[derive(Debug, Drop)]
+#[derive(Drop)]
 pub struct Costed {
     pub code: Code,
     pub cost: u64,
