@@ -1,4 +1,6 @@
+pub mod Described
 pub mod HexagonTable
 pub mod MemoryWords
 pub mod RegisterBits
+pub mod Rows
 pub mod Shifts

@@ -15,5 +15,3 @@ pub mod reg;
 pub mod reg_set;
 pub mod start;
 pub mod table;
-#[cfg(test)]
-mod tests;

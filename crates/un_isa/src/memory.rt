@@ -1,6 +1,6 @@
 //! Memory: words under addresses.
 
-ghost use Rattle.std.specs.Prelude.{◌≡◌, ◌↔◌, true, IsSome, IfSome, IfOk, IfErr};
+ghost use Rattle.std.specs.Prelude.{◌≡◌, ◌↔◌, true, length, IsSome, IfSome, IfOk, IfErr};
 ghost use Rattle.un_isa.specs.Memories.{is_memory, word_at, set_word, set_words, IsAddressAt, IsGapAt};
 
 use std::alloc::AllocError;
@@ -109,5 +109,25 @@ impl Clone for Memory {
     fn clone(&self) -> Result<Self, AllocError> {
         let words = self.words.clone()?;
         Ok(Memory { words })
+    }
+}
+
+/// Writes these words over as many others.
+fn copy_words(to: &mut Items<(u32, u32)>, from: &[(u32, u32)])
+    requires { length to.old ≡ length from.now }
+    ensures { to.new ≡ from.now }
+{
+    for i in 0..from.len() {
+        to.set(i, from[i]);
+    }
+}
+
+impl Memory {
+    /// Takes over the words of another memory of as many words. It takes no memory of the machine.
+    pub fn copy_from(&mut self, other: &Memory)
+        requires { length self.old ≡ length other.now }
+        ensures { self.new ≡ other.now }
+    {
+        copy_words(&mut self.words, other.words());
     }
 }

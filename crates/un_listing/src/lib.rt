@@ -5,5 +5,3 @@ pub mod form;
 pub mod pieces;
 pub mod print;
 pub mod report;
-#[cfg(test)]
-mod tests;

@@ -1,12 +1,14 @@
 -- The bound of the cycles from which registers can be read.
-use Rattle.std.proofs.Common.{ℕ, zero, suc, ◌+◌, ◌≤◌, max, List, [], ◌∷◌, map, set, replicate, slice_index, arith}
+use Rattle.std.proofs.Common.{ℕ, zero, suc, ◌+◌, ◌≤◌, max, Bool, true, false, List, [], ◌∷◌, map, set, replicate, slice_index, arith}
+use Rattle.std.specs.Prelude.{if◌then◌else◌}
 use Rattle.std.specs.List.{fold, flat_map}
+use Rattle.un_isa.specs.declared.op.Op.TheVariants.{Call}
 use Rattle.un_isa.specs.declared.instr.Instr.{Instr}
 use Rattle.un_isa.specs.declared.table.Table.{Table}
-use Rattle.un_isa.specs.Tables.{latency_of}
+use Rattle.un_isa.specs.Tables.{latency_of, in_mask}
 use Rattle.un_isa.specs.Fit.{IsFit}
 use Rattle.un_packet.specs.Cycles.{IsReadyBy}
-use Rattle.un_packet.specs.Step.{PacketState, put_all, writes_of, ready_after, issue_cycle, reads_of}
+use Rattle.un_packet.specs.Step.{PacketState, put_all, writes_of, ready_after, issue_cycle, reads_of, each_from, call_ready}
 
 set_by : (b : ℕ) (xs : List ℕ) (k v : ℕ) → IsReadyBy b xs → v ≤ b → IsReadyBy b (set xs k v)
 set_by b [] k v h small r = h r
@@ -58,3 +60,15 @@ pub none_waits : (b n : ℕ) → IsReadyBy b (replicate n 0)
 none_waits b zero r = omega arith
 none_waits b (suc n) zero = omega arith
 none_waits b (suc n) (suc r) = none_waits b n r
+
+each_by : (b : ℕ) (f : ℕ → ℕ → ℕ) → ((r v : ℕ) → v ≤ b → f r v ≤ b) → (r : ℕ) (xs : List ℕ) → IsReadyBy b xs → IsReadyBy b (each_from f r xs)
+each_by b f h r [] small k = omega arith
+each_by b f h r (x ∷ xs) small zero = h r x (small zero)
+each_by b f h r (x ∷ xs) small (suc k) = each_by b f h (r + 1) xs (λ q. small (suc q)) k
+
+call_by : (t : Table) (c v : ℕ) (is_in : Bool) → latency_of t Call ≤ 2 → v ≤ c + 2 → (if is_in then c + latency_of t Call else v) ≤ c + 2
+call_by t c v true short h = omega arith
+call_by t c v false short h = h
+
+pub ready_by_call : (t : Table) (c : ℕ) (xs : List ℕ) → IsFit t → IsReadyBy (c + 2) xs → IsReadyBy (c + 2) (each_from (call_ready t c) 0 xs)
+ready_by_call t c xs fit h = each_by (c + 2) (call_ready t c) (λ r v small. call_by t c v (in_mask t.clobbered r) ((fit.latencies Call).1) small) 0 xs h

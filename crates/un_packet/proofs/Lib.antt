@@ -1,3 +1,10 @@
+pub mod Assembly
 pub mod Cycles
+pub mod Drawn
+pub mod Each
+pub mod Found
+pub mod Lengths
+pub mod Rules
 pub mod Runs
-pub mod StraightPackets
+pub mod Steps
+pub mod Worked

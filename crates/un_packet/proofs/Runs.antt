@@ -1,6 +1,9 @@
 -- Steps of the machine through a block.
-use Rattle.std.proofs.Common.{ℕ, zero, suc, ◌≡◌, ◌+◌, ◌<◌, ◌≤◌, List, [], ◌∷◌, length, drop, get_or, slice_get, Option, Some, None, IsSomeAnd, MatchOption, refl, sym, ap, subst, ◌∙◌, arith, add-one}
+use Rattle.std.proofs.Common.{ℕ, zero, suc, ◌≡◌, ◌+◌, ◌-◌, ◌<◌, ◌≤◌, List, [], ◌∷◌, length, drop, get_or, slice_get, Option, Some, None, IsSomeAnd, MatchOption, refl, sym, ap, subst, ◌∙◌, arith, add-one, ◌^◌, inl, inr}
+use Rattle.std.proofs.lemmas.Option.{slice_get_within}
 use Rattle.un_base.specs.declared.ids.BlockId.{BlockId}
+use Rattle.un_base.specs.declared.ids.NameId.{NameId}
+use Rattle.un_isa.specs.declared.outcome.End.TheVariants as EndOf
 use Rattle.un_isa.specs.declared.table.Table.{Table}
 use Rattle.un_isa.specs.declared.outcome.End.{End}
 use Rattle.un_packet.specs.declared.code.Packet.{Packet}
@@ -10,8 +13,12 @@ use Rattle.un_packet.specs.declared.machine.Stepped.{Stepped}
 use Rattle.un_packet.specs.declared.machine.Stepped.TheVariants.{Left, Ended}
 use Rattle.un_packet.specs.declared.machine.Stepped.TheVariants
 use Rattle.un_packet.specs.Step.{PacketState, PacketStep, Went, Jumped, Stopped, packet_step}
-use Rattle.un_packet.specs.Run.{then_packets, packets_run}
-use Rattle.un_packet.specs.Machine.{MachineState, moved, GoesOn, WhereItGoesOn, LeadsTo, EndsBy}
+use Rattle.un_packet.specs.Run.{PacketRun, then_packets, packets_run, leave, through, enter}
+use Rattle.un_packet.specs.Ends.{IsEnd, EndsBy, EndsRun}
+use Rattle.un_packet.specs.CodeRules.{KeepsRules}
+use Rattle.un_packet.specs.Machine.{MachineState, moved, GoesOn, WhereItGoesOn, LeadsTo, IsInCode, IsPlace}
+use Rattle.un_packet.proofs.Rules.{few_packets, stays}
+use Rattle.un_packet.proofs.Steps.{read_at}
 use Rattle.un_packet.specs.Outcomes.{IsPacketStep, IsEmptyStep, IsBlockStep, IsStep, IsBlockRun}
 
 pub drop_some : {A : Type 0} (xs : List A) (k : ℕ) (x : A) → slice_get xs k ≡ Some x → drop k xs ≡ x ∷ drop (suc k) xs
@@ -88,6 +95,7 @@ module _ (blocks : List CodeBlock) (m new : MachineState) (b : CodeBlock) where
 pub record IsHalfway (c : Code) (first m : MachineState) : Type 0 where
   pub table : m.table ≡ first.table
   pub block : m.block ≡ first.block
+  pub ended : m.ended ≡ first.ended
   pub rest : IsSomeAnd (slice_get c.blocks first.block) (λ b. packets_run first.table (drop m.place b.packets) m.state ≡ packets_run first.table b.packets first.state)
 
 -- what the step says of the block
@@ -101,6 +109,7 @@ of_rest c first m half o e = subst (λ (x : Option CodeBlock). IsSomeAnd x (λ b
 pub record HasGone (c : Code) (first m new : MachineState) : Type 0 where
   pub half : IsHalfway c first new
   pub place : new.place ≡ m.place + 1
+  pub going : new.ended ≡ m.ended
   pub short : IsSomeAnd (slice_get c.blocks first.block) (λ b. m.place + 1 < length b.packets)
 
 gone_by : (c : Code) (first m new : MachineState) → IsHalfway c first m → (o : Option CodeBlock) → slice_get c.blocks first.block ≡ o → IsSomeAnd o (λ block. IsBlockStep c.blocks block m new TheVariants.Went) → IsSomeAnd o (λ b. packets_run first.table (drop m.place b.packets) m.state ≡ packets_run first.table b.packets first.state) → HasGone c first m new
@@ -113,9 +122,11 @@ gone_by c first m new half (Some b) e step rest =
       half = record {
         table = table;
         block = ap (λ (x : MachineState). x.block) facts.1 ∙ half.block;
+        ended = ap (λ (x : MachineState). x.ended) facts.1 ∙ half.ended;
         rest = rw (e, place, ← half.table) (facts.2 ∙ (rw half.table rest));
       };
       place = place;
+      going = ap (λ (x : MachineState). x.ended) facts.1;
       short = rw e facts.0;
     }
 
@@ -129,7 +140,7 @@ left_by : (c : Code) (first m new : MachineState) (to : BlockId) → IsHalfway c
 left_by c first m new to half None e step rest = absurd step
 left_by c first m new to half (Some b) e step rest =
     let facts = left_in c.blocks m new b to (slice_get b.packets m.place) refl step in
-    rw e (rw (← rest, ← half.table, ← half.block) facts.0, rw (← half.table) facts.1)
+    rw e (rw (← rest, ← half.table, ← half.block) facts.0, rw (← half.table, ← half.ended) facts.1)
 
 pub left : (c : Code) (first m new : MachineState) (to : BlockId) → IsHalfway c first m → IsStep c m new (Left to) → IsBlockRun c first new (Left to)
 left c first m new to half h =
@@ -158,9 +169,98 @@ finished c first m new TheVariants.Went half h long = absurd (too_far c first m 
 finished c first m new (Left to) half h long = left c first m new to half h
 finished c first m new (Ended end) half h long = ended c first m new end half h
 
-pub only_block : (blocks : List CodeBlock) (b : CodeBlock) → length blocks ≡ 1 → b ≡ get_or blocks 0 b → slice_get blocks 0 ≡ Some b
-only_block [] b long e = absurd (omega (arith, long))
-only_block (x ∷ xs) b long e = ap Some (sym e)
+pub whole : (c : Code) (first : MachineState) → first.block < length c.blocks → first.place ≡ 0 → IsHalfway c first first
+whole c first below place = record { table = refl; block = refl; ended = refl; rest = there c.blocks first.block below }
+  where
+    there : (bs : List CodeBlock) (k : ℕ) → k < length bs → IsSomeAnd (slice_get bs k) (λ b. packets_run first.table (drop first.place b.packets) first.state ≡ packets_run first.table b.packets first.state)
+    there [] k lt = absurd (omega (arith, lt))
+    there (b ∷ bs) zero lt = rw place refl
+    there (b ∷ bs) (suc k) lt = there bs k (omega (arith, lt))
 
-pub whole : (c : Code) (first : MachineState) (b : CodeBlock) → slice_get c.blocks first.block ≡ Some b → first.place ≡ 0 → IsHalfway c first first
-whole c first b e place = record { table = refl; block = refl; rest = rw (e, place) refl }
+-- the machine stays in the code
+stays_by : (new m : MachineState) (o : Option CodeBlock) → new.place ≡ m.place + 1 → IsSomeAnd o (λ b. m.place + 1 < length b.packets) → IsSomeAnd o (λ b. IsPlace b.packets new.place)
+stays_by new m None e h = absurd h
+stays_by new m (Some b) e h = inr (omega (arith, e, h))
+
+pub stays_in : (c : Code) (first m new : MachineState) → HasGone c first m new → IsInCode c new
+stays_in c first m new g = rw (g.half.block) (stays_by new m (slice_get c.blocks first.block) g.place g.short)
+
+small_by : (blocks : List CodeBlock) (frame k : ℕ) (rules : ∥ KeepsRules frame blocks ∥₁) (b : ℕ) (o : Option CodeBlock) → slice_get blocks b ≡ o → IsSomeAnd o (λ b. IsPlace b.packets k) → k < 2 ^ 28
+small_by blocks frame k rules b None e h = absurd h
+small_by blocks frame k rules b (Some block) e h = let few = few_packets frame blocks rules b block e in elim h [ inl none ↦ omega (arith, none) | inr lt ↦ omega (arith, lt, few) ]
+
+pub place_small : (c : Code) (m : MachineState) → IsInCode c m → m.place < 2 ^ 28
+place_small c m h = small_by c.blocks c.frame m.place c.rules m.block (slice_get c.blocks m.block) refl h
+
+in_by : (blocks : List CodeBlock) (b : ℕ) → b < length blocks → (k : ℕ) → k ≡ 0 → IsSomeAnd (slice_get blocks b) (λ b. IsPlace b.packets k)
+in_by [] b lt k e = absurd (omega (arith, lt))
+in_by (x ∷ xs) zero lt k e = inl e
+in_by (x ∷ xs) (suc b) lt k e = in_by xs b (omega (arith, lt)) k e
+
+pub at_start : (c : Code) (m : MachineState) → m.block < length c.blocks → m.place ≡ 0 → IsInCode c m
+at_start c m lt e = in_by c.blocks m.block lt m.place e
+
+-- the block whose packets were counted
+pub counted : (c : Code) (m : MachineState) (shown : List CodeBlock) (k n : ℕ) (b : CodeBlock) → shown ≡ c.blocks → k ≡ m.block → m.block < length c.blocks → b ≡ get_or shown k b → length b.packets ≤ n → IsSomeAnd (slice_get c.blocks m.block) (λ b. length b.packets ≤ n)
+counted c m shown k n b blocks at below e few = rw (read_at c.blocks shown m.block k b blocks at below e) few
+
+-- ---- label by label
+
+module _ (t : Table) (blocks : List CodeBlock) (b : ℕ) (s : PacketState) where
+  led_on : (go : ℕ → PacketState → PacketRun) (step : PacketStep) (to : ℕ) (new : PacketState) → LeadsTo blocks b step to new → leave blocks b step go ≡ go to new
+  led_on go (Went q) to new h = rw (h.0, h.1) refl
+  led_on go (Jumped label q) to new h = rw (h.0, h.1) refl
+  led_on go (Stopped stop q) to new h = absurd h
+
+  ended_on : (go : ℕ → PacketState → PacketRun) (step : PacketStep) (end : End) (new : PacketState) → EndsBy blocks step end new → EndsRun blocks (leave blocks b step go) end new
+  ended_on go (Went q) end new h = absurd h
+  ended_on go (Jumped label q) end new h = absurd h
+  ended_on go (Stopped stop q) end new h = h
+
+  -- a block that leads on, and one that ends the run
+  pub entered : (k to : ℕ) (new : PacketState) → IsSomeAnd (slice_get blocks b) (λ block. LeadsTo blocks b (packets_run t block.packets s) to new) → enter t blocks (suc k) b s ≡ enter t blocks k to new
+  entered k to new h = by (slice_get blocks b) h
+    where
+      by : (o : Option CodeBlock) → IsSomeAnd o (λ block. LeadsTo blocks b (packets_run t block.packets s) to new) → through t blocks o b s (enter t blocks k) ≡ enter t blocks k to new
+      by None g = absurd g
+      by (Some block) g = led_on (enter t blocks k) (packets_run t block.packets s) to new g
+
+  pub finished_run : (k : ℕ) (end : End) (new : PacketState) → IsSomeAnd (slice_get blocks b) (λ block. EndsBy blocks (packets_run t block.packets s) end new) → EndsRun blocks (enter t blocks (suc k) b s) end new
+  finished_run k end new h = by (slice_get blocks b) h
+    where
+      by : (o : Option CodeBlock) → IsSomeAnd o (λ block. EndsBy blocks (packets_run t block.packets s) end new) → EndsRun blocks (through t blocks o b s (enter t blocks k)) end new
+      by None g = absurd g
+      by (Some block) g = ended_on (enter t blocks k) (packets_run t block.packets s) end new g
+
+-- a block that was left for another one
+pub record HasLed (c : Code) (old new : MachineState) (to : ℕ) : Type 0 where
+  pub leads : IsSomeAnd (slice_get c.blocks old.block) (λ block. LeadsTo c.blocks old.block (packets_run old.table block.packets old.state) to new.state)
+  pub moves : new ≡ moved old new.state to 0
+  pub inside : to < length c.blocks
+
+led_by : (c : Code) (old new : MachineState) (to : ℕ) (o : Option CodeBlock) → slice_get c.blocks old.block ≡ o → IsSomeAnd o (λ block. LeadsTo c.blocks old.block (packets_run old.table block.packets old.state) to new.state × (new ≡ moved old new.state to 0)) → HasLed c old new to
+led_by c old new to None e h = absurd h
+led_by c old new to (Some block) e h = record {
+  leads = rw e (h.0);
+  moves = h.1;
+  inside = stays c.frame c.blocks c.rules old.table old.block block old.state to new.state e (slice_get_within c.blocks old.block block e) h.0;
+}
+
+pub has_led : (c : Code) (old new : MachineState) (to : BlockId) → IsBlockRun c old new (Left to) → HasLed c old new to.0
+has_led c old new to h = led_by c old new to.0 (slice_get c.blocks old.block) refl h
+
+-- what is left of a run after a block
+pub run_goes : (t : Table) (c : Code) (n i : ℕ) (old new : MachineState) (to : ℕ) (all : PacketRun) → i < n → old.table ≡ t → HasLed c old new to → enter t c.blocks (n - i) old.block old.state ≡ all → enter t c.blocks (n - (i + 1)) new.block new.state ≡ all
+run_goes t c n i old new to all lt table h e =
+    let left : n - i ≡ suc (n - (i + 1)) = omega arith in
+    let block : new.block ≡ to = ap (λ (m : MachineState). m.block) h.moves in
+    let one = entered old.table c.blocks old.block old.state (n - (i + 1)) to new.state h.leads in
+    rw block (ap (λ (x : Table). enter x c.blocks (n - (i + 1)) to new.state) (sym table) ∙ sym one ∙ ap (λ (x : Table). enter x c.blocks (suc (n - (i + 1))) old.block old.state) table ∙ ap (λ (k : ℕ). enter t c.blocks k old.block old.state) (sym left) ∙ e)
+
+-- a run that is cut off
+pub run_left : (t : Table) (blocks shown : List CodeBlock) (n i k : ℕ) (m : MachineState) (b : CodeBlock) (label : List ℕ) (values : List (NameId × ℕ)) (all : PacketRun) → n ≤ i → enter t blocks (n - i) m.block m.state ≡ all → shown ≡ blocks → k ≡ m.block → m.block < length blocks
+    → b ≡ get_or shown k b → label ≡ b.label → values ≡ [] → EndsRun blocks all (EndOf.Running label values) m.state
+run_left t blocks shown n i k m b label values all done e same at below read named none =
+    let left : n - i ≡ 0 = omega arith in
+    let cut : enter t blocks 0 m.block m.state ≡ all = ap (λ (j : ℕ). enter t blocks j m.block m.state) (sym left) ∙ e in
+    rw (← cut) (rw (read_at blocks shown m.block k b same at below read) (rw (named, none) refl), refl)

@@ -4,7 +4,7 @@ use Rattle.un_isa.specs.declared.outcome.End.{End}
 use Rattle.un_isa.specs.declared.outcome.End.TheVariants
 use Rattle.un_isa.specs.declared.outcome.Outcome.{Outcome}
 use Rattle.un_packet.specs.declared.code.CodeBlock.{CodeBlock}
-use Rattle.un_packet.specs.Step.{PacketState, PacketStop, Returned, Trapped, Waiting, Running}
+use Rattle.un_packet.specs.Step.{PacketState, PacketStop, PacketStep, Went, Jumped, Stopped, Returned, Trapped, Waiting, Running}
 use Rattle.un_packet.specs.Run.{PacketRun}
 
 -- a run that goes on is told by the label of the next block, and without values
@@ -13,6 +13,12 @@ IsEnd blocks (Returned result target) e = e ≡ TheVariants.Returned (Some resul
 IsEnd blocks Trapped e = e ≡ TheVariants.Trapped
 IsEnd blocks (Waiting call) e = e ≡ TheVariants.Waiting call
 IsEnd blocks (Running b) e = IsSomeAnd (slice_get blocks b) (λ block. e ≡ TheVariants.Running block.label [])
+
+-- packets end the run
+abbrev pub EndsBy : List CodeBlock → PacketStep → End → PacketState → Type 0
+EndsBy blocks (Went s) e new = ⊥
+EndsBy blocks (Jumped label s) e new = ⊥
+EndsBy blocks (Stopped stop s) e new = IsEnd blocks stop e × (new ≡ s)
 
 -- a run ends so, in this state
 abbrev pub EndsRun : List CodeBlock → PacketRun → End → PacketState → Type 0

@@ -1,7 +1,9 @@
+pub mod CodeRules
 pub mod Cycles
 pub mod Ends
 pub mod Machine
 pub mod Outcomes
+pub mod Passes
 pub mod Run
+pub mod Runnable
 pub mod Step
-pub mod Straight

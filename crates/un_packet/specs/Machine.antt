@@ -1,25 +1,28 @@
 -- The machine: a state of packets, with the table that it runs by and the place of the next packet.
-use Rattle.std.specs.Prelude.{ℕ, ◌≡◌, ◌+◌, ◌<◌, ◌⊎◌, List, length, slice_get, IsSomeAnd}
+use Rattle.std.specs.Prelude.{ℕ, ◌≡◌, ◌+◌, ◌<◌, ◌⊎◌, Bool, true, false, List, length, slice_get, IsSomeAnd}
 use Rattle.un_isa.specs.declared.table.Table.{Table}
-use Rattle.un_isa.specs.declared.outcome.End.{End}
 use Rattle.un_isa.specs.declared.start.Start.{Start}
 use Rattle.un_packet.specs.declared.code.Packet.{Packet}
 use Rattle.un_packet.specs.declared.code.CodeBlock.{CodeBlock}
 use Rattle.un_packet.specs.declared.code.Code.{Code}
 use Rattle.un_packet.specs.Step.{PacketState, PacketStep, Went, Jumped, Stopped}
 use Rattle.un_packet.specs.Run.{label_place, first_state}
-use Rattle.un_packet.specs.Ends.{IsEnd}
 
--- the next packet is the one at `place` of the block with the number `block`
+-- the next packet is the one at `place` of the block with the number `block`, unless the run has ended
 pub record MachineState : Type 0 where
   pub table : Table
   pub state : PacketState
   pub block : ℕ
   pub place : ℕ
+  pub ended : Bool
 
 -- the machine with another state, at another packet
 abbrev pub moved : MachineState → PacketState → ℕ → ℕ → MachineState
-moved m s b k = record { table = m.table; state = s; block = b; place = k }
+moved m s b k = record { table = m.table; state = s; block = b; place = k; ended = m.ended }
+
+-- the machine where its run ended, in this state
+abbrev pub halted : MachineState → PacketState → MachineState
+halted m s = record { table = m.table; state = s; block = m.block; place = m.place; ended = true }
 
 -- a packet goes on to the next one
 abbrev pub GoesOn : PacketStep → PacketState → Type 0
@@ -39,12 +42,6 @@ LeadsTo blocks b (Went s) to new = (to ≡ b + 1) × (new ≡ s)
 LeadsTo blocks b (Jumped label s) to new = (to ≡ label_place blocks label) × (new ≡ s)
 LeadsTo blocks b (Stopped stop s) to new = ⊥
 
--- packets end the run
-abbrev pub EndsBy : List CodeBlock → PacketStep → End → PacketState → Type 0
-EndsBy blocks (Went s) e new = ⊥
-EndsBy blocks (Jumped label s) e new = ⊥
-EndsBy blocks (Stopped stop s) e new = IsEnd blocks stop e × (new ≡ s)
-
 -- the place of the machine is in the code: at a packet, or at the start of a block without packets
 abbrev pub IsPlace : List Packet → ℕ → Type 0
 IsPlace packets k = (k ≡ 0) ⊎ (k < length packets)
@@ -54,4 +51,4 @@ IsInCode c m = IsSomeAnd (slice_get c.blocks m.block) (λ b. IsPlace b.packets m
 
 -- the machine at the first packet of the code
 abbrev pub first_machine : Table → Code → Start → MachineState
-first_machine t c start = record { table = t; state = first_state c.frame start; block = 0; place = 0 }
+first_machine t c start = record { table = t; state = first_state c.frame start; block = 0; place = 0; ended = false }

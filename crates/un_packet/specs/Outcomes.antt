@@ -4,15 +4,18 @@ use Rattle.un_packet.specs.declared.code.CodeBlock.{CodeBlock}
 use Rattle.un_packet.specs.declared.code.Code.{Code}
 use Rattle.un_packet.specs.declared.machine.Stepped.{Stepped}
 use Rattle.un_packet.specs.declared.machine.Stepped.TheVariants.{Went, Left, Ended}
+use Rattle.un_packet.specs.declared.pass.Passed.{Passed}
+use Rattle.un_packet.specs.declared.pass.Passed.TheVariants as PassedOf
 use Rattle.un_packet.specs.Step.{PacketStep, packet_step}
 use Rattle.un_packet.specs.Run.{packets_run}
-use Rattle.un_packet.specs.Machine.{MachineState, moved, GoesOn, WhereItGoesOn, LeadsTo, EndsBy}
+use Rattle.un_packet.specs.Ends.{EndsBy}
+use Rattle.un_packet.specs.Machine.{MachineState, moved, halted, GoesOn, WhereItGoesOn, LeadsTo}
 
 -- one packet of a block of so many packets: the machine goes on to the next packet, leaves the block, or ends
 abbrev pub IsPacketStep : List CodeBlock → ℕ → MachineState → PacketStep → MachineState → Stepped → Type 0
 IsPacketStep blocks packets old step new Went = (old.place + 1 < packets) × GoesOn step new.state × (new ≡ moved old new.state old.block (old.place + 1))
 IsPacketStep blocks packets old step new (Left to) = WhereItGoesOn step (packets ≡ old.place + 1) × LeadsTo blocks old.block step to.0 new.state × (new ≡ moved old new.state to.0 0)
-IsPacketStep blocks packets old step new (Ended e) = EndsBy blocks step e new.state × (new ≡ moved old new.state old.block old.place)
+IsPacketStep blocks packets old step new (Ended e) = EndsBy blocks step e new.state × (new ≡ halted old new.state)
 
 -- behind a packet: the next one of a block of so many packets, or the next block
 abbrev pub IsNext : ℕ → MachineState → MachineState → Stepped → Type 0
@@ -42,3 +45,9 @@ IsRunOf blocks old run new (Ended e) = EndsBy blocks run e new.state
 abbrev pub IsBlockRun : Code → MachineState → MachineState → Stepped → Type 0
 IsBlockRun c old new answer =
     IsSomeAnd (slice_get c.blocks old.block) (λ block. IsRunOf c.blocks old (packets_run old.table block.packets old.state) new answer)
+
+-- a packet of the machine ran: it ended, or stands where it stood
+abbrev pub StandsAfter : Passed → MachineState → MachineState → Type 0
+StandsAfter PassedOf.Went old new = new ≡ moved old new.state old.block old.place
+StandsAfter (PassedOf.Jumped label) old new = new ≡ moved old new.state old.block old.place
+StandsAfter (PassedOf.Stopped e) old new = new ≡ halted old new.state

@@ -2,12 +2,13 @@
 use Rattle.std.specs.Prelude.{ℕ, zero, suc, ◌≡◌, ◌+◌, ◌-◌, ◌/◌, nat_eq, List, [], ◌∷◌, Option, Some, None, slice_get, slice_index, replicate}
 use Rattle.std.specs.List.{position_or_len}
 use Rattle.std.specs.Cmp.Lexicographic.{pointwise}
+use Rattle.un_isa.specs.declared.reg.TheConstants.{STACK}
 use Rattle.un_isa.specs.declared.table.Table.{Table}
 use Rattle.un_isa.specs.declared.start.Start.{Start}
 use Rattle.un_packet.specs.declared.code.Packet.{Packet}
 use Rattle.un_packet.specs.declared.code.CodeBlock.{CodeBlock}
 use Rattle.un_packet.specs.declared.code.Code.{Code}
-use Rattle.un_packet.specs.Step.{PacketState, PacketStop, PacketStep, Running, Went, Jumped, Stopped, packet_step, issue_cycle, STACK}
+use Rattle.un_packet.specs.Step.{PacketState, PacketStop, PacketStep, Running, Went, Jumped, Stopped, packet_step, issue_cycle}
 
 pub record PacketRun : Type 0 where
   pub stop : PacketStop

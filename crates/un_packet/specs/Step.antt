@@ -8,6 +8,7 @@ use Rattle.un_isa.specs.Tables.{latency_of, in_mask}
 use Rattle.un_isa.specs.declared.op.Op.{Op}
 use Rattle.un_isa.specs.declared.op.Op.TheVariants.{Load, Store, Call, Jump, JumpIf, JumpIfNot, Jumpr, Spill, Reload, Enter, Leave}
 use Rattle.un_isa.specs.declared.reg.Reg.{Reg}
+use Rattle.un_isa.specs.declared.reg.TheConstants.{STACK}
 use Rattle.un_isa.specs.declared.instr.Instr.{Instr}
 use Rattle.un_isa.specs.declared.table.Table.{Table}
 use Rattle.un_isa.specs.declared.outcome.CallRecord.{CallRecord}
@@ -44,16 +45,13 @@ reg_in s r = slice_index s.regs r.0
 abbrev pub operand_in : PacketState → Instr → ℕ → ℕ
 operand_in s i k = slice_index (map (reg_in s) i.srcs) k
 
--- the stack pointer
-abbrev pub STACK : ℕ
-STACK = 29
+-- the place of a word with this address, among so many words from `start` on
+abbrev pub word_place : ℕ → ℕ → ℕ → Option ℕ
+word_place start words a = if nat_le start a && nat_lt ((a - start) / 4) words && nat_eq (a % 4) 0 then Some ((a - start) / 4) else None
 
 -- the place in the frame of an access, where it is one of its words
 abbrev pub frame_place : PacketState → Instr → Option ℕ
-frame_place s i =
-    let a = address_of (slice_index s.regs STACK) i.imm in
-    if nat_le s.frame_start a && nat_lt ((a - s.frame_start) / 4) (length s.frame) && nat_eq (a % 4) 0
-    then Some ((a - s.frame_start) / 4) else None
+frame_place s i = word_place s.frame_start (length s.frame) (address_of (slice_index s.regs STACK) i.imm)
 
 -- an access to an address that is not there
 abbrev pub traps_by : Op → PacketState → Instr → Bool
@@ -145,28 +143,30 @@ after t c s is = record {
   ready = ready_after t c s is s.ready;
 }
 
--- register by register from r: the result, junk in the other clobbered ones, and the rest as they are
-abbrev pub replied_from : Table → Reply → ℕ → List ℕ → List ℕ
-replied_from t reply r [] = []
-replied_from t reply r (v ∷ vs) =
-    (if in_mask t.clobbered r then (if nat_eq r t.result then reply.result else slice_index reply.junk r) else v) ∷ replied_from t reply (r + 1) vs
+-- what f makes of each number of a list and its place, of which the first is r
+abbrev pub each_from : (ℕ → ℕ → ℕ) → ℕ → List ℕ → List ℕ
+each_from f r [] = []
+each_from f r (v ∷ vs) = f r v ∷ each_from f (r + 1) vs
 
--- register by register from r: a call in cycle c writes each clobbered one
-abbrev pub call_ready_from : Table → ℕ → ℕ → List ℕ → List ℕ
-call_ready_from t c r [] = []
-call_ready_from t c r (v ∷ vs) = (if in_mask t.clobbered r then c + latency_of t Call else v) ∷ call_ready_from t c (r + 1) vs
+-- a register after a call: the result, junk in the other clobbered ones, and the rest as they are
+abbrev pub replied : Table → Reply → ℕ → ℕ → ℕ
+replied t reply r v = if in_mask t.clobbered r then (if nat_eq r t.result then reply.result else slice_index reply.junk r) else v
+
+-- from when on a register can be read: a call in cycle c writes each clobbered one
+abbrev pub call_ready : Table → ℕ → ℕ → ℕ → ℕ
+call_ready t c r v = if in_mask t.clobbered r then c + latency_of t Call else v
 
 -- the state once a call's reply has come
 abbrev pub answered : Table → CallRecord → Reply → List Reply → PacketState → PacketState
 answered t call reply rest s = record {
-  regs = replied_from t reply 0 s.regs;
+  regs = each_from (replied t reply) 0 s.regs;
   memory = set_words reply.changed s.memory;
   frame = s.frame;
   frame_start = s.frame_start;
   calls = s.calls ++ call ∷ [];
   replies = rest;
   cycle = s.cycle;
-  ready = call_ready_from t s.cycle 0 s.ready;
+  ready = each_from (call_ready t s.cycle) 0 s.ready;
 }
 
 abbrev pub is_call : Op → Bool

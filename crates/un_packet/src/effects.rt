@@ -1,17 +1,19 @@
 //! What the instructions of a packet read and write, all by the state before it.
 
-ghost use Rattle.std.specs.Prelude.{◌≡◌, ◌<◌, ◌≤◌, ◌+◌, ◌-◌, ◌^◌, true, max, map, slice_index, find};
-ghost use Rattle.std.specs.List.{fold};
+ghost use Rattle.std.specs.Prelude.{◌≡◌, ◌<◌, ◌≤◌, ◌+◌, ◌-◌, ◌^◌, ℕ, List, length, true, false, max, map, slice_index, find, MatchOption, Some, None};
+ghost use Rattle.std.specs.List.{fold, list_any};
 ghost use Rattle.std.specs.Option.{option_to_list, option_map};
-ghost use Rattle.un_packet.specs.Step.{reg_in, operand_in, value_of, writes_of, reads_of, issue_cycle, regs_after, ready_after, is_return, packet_step};
-ghost use Rattle.un_isa.specs.Fit.{IsFit};
-ghost use Rattle.un_packet.specs.Straight.{is_straight, AreStraight, passed};
+ghost use Rattle.un_isa.specs.Operands.{IsShift};
+ghost use Rattle.un_isa.specs.Words.{address_of};
+ghost use Rattle.un_packet.specs.Runnable.{IsRunnable, AreRunnable};
+ghost use Rattle.un_packet.specs.Step.{reg_in, operand_in, word_place, frame_place, traps, value_of, writes_of, reads_of, issue_cycle, regs_after, ready_after, is_return, is_call, jumps};
 
 use crate::state::{State, at, put, put_ready, ready_at};
+use un_base::name::Name;
 use un_isa::alu::value;
 use un_isa::instr::Instr;
 use un_isa::op::Op;
-use un_isa::reg::Reg;
+use un_isa::reg::{Reg, STACK};
 use un_isa::table::{Table, latency};
 
 /// The latest of a cycle and of those from which registers can be read.
@@ -26,7 +28,7 @@ fn latest(ready: &[u64; 36], regs: &[Reg], cycle: u64) -> u64
 }
 
 /// Whether an operation returns.
-pub(crate) fn is_return(op: Op) -> bool
+fn is_return(op: Op) -> bool
     ensures { result ≡ is_return op }
 {
     match op {
@@ -35,9 +37,50 @@ pub(crate) fn is_return(op: Op) -> bool
     }
 }
 
+/// Whether an operation calls.
+fn is_call(op: Op) -> bool
+    ensures { result ≡ is_call op }
+{
+    match op {
+        Op::Call => true,
+        _ => false,
+    }
+}
+
+/// The address of an access: a base and an offset, which wrap at 32 bits.
+pub(crate) fn address(base: u32, offset: i32) -> u32
+    ensures { result ≡ address_of base offset }
+{
+    base.wrapping_add(offset.cast_unsigned())
+}
+
+/// The place of the word with an address, among so many words from `start` on.
+pub(crate) fn word_place(start: u32, words: usize, address: u32) -> Option<usize>
+    ensures { result ≡ word_place start words address }
+{
+    if address < start || address % 4 != 0 {
+        return None;
+    }
+    let place = ((address - start) / 4) as usize;
+    if place < words { Some(place) } else { None }
+}
+
+/// The first call of a packet.
+pub(crate) fn call_in(packet: &[Instr]) -> Option<&Instr>
+    ensures { MatchOption result (find (λ i. is_call i.op) packet.now ≡ None)
+        (λ i. find (λ i. is_call i.op) packet.now ≡ Some i.now) }
+{
+    for i in packet {
+        if is_call(i.op) {
+            return Some(i);
+        }
+    }
+    None
+}
+
 impl State {
     /// The value of an operand, 0 where there is none.
-    fn operand(&self, i: &Instr, k: usize) -> u32
+    pub(crate) fn operand(&self, i: &Instr, k: usize) -> u32
         ensures { result ≡ operand_in self.now i.now k }
     {
         let srcs = i.srcs.as_slice();
@@ -48,34 +91,86 @@ impl State {
         }
     }
 
+    /// The place in the frame of an access, where it is one of its words.
+    fn frame_place(&self, i: &Instr) -> Option<usize>
+        ensures { result ≡ frame_place self.now i.now }
+    {
+        let a = address(at(&self.regs, STACK), i.imm);
+        word_place(self.frame_start, self.frame.len(), a)
+    }
+
+    /// Whether an instruction accesses an address that is not there.
+    fn traps(&self, i: &Instr) -> bool
+        ensures { result ≡ traps self.now i.now }
+    {
+        match i.op {
+            Op::Load | Op::Store => {
+                let word = self.memory.get(address(self.operand(i, 0), i.imm));
+                word.is_none()
+            }
+            Op::Spill | Op::Reload => self.frame_place(i).is_none(),
+            _ => false,
+        }
+    }
+
+    /// Whether some instruction of a packet does.
+    pub(crate) fn any_traps(&self, packet: &[Instr]) -> bool
+        ensures { result ≡ list_any (traps self.now) packet.now }
+    {
+        for i in packet {
+            if self.traps(i) {
+                return true;
+            }
+        }
+        false
+    }
+
+    /// The word of the frame at a place, 0 where there is none.
+    fn frame_word(&self, place: usize) -> u32
+        ensures { result ≡ slice_index self.now.frame place }
+    {
+        let frame = self.frame.as_slice();
+        if place < frame.len() { frame[place] } else { 0 }
+    }
+
     /// The value that an instruction writes to its register.
     fn value(&self, i: &Instr) -> u32
-        requires { is_straight i.now.op ≡ true }
+        requires { IsShift i.now.op i.now.imm }
         ensures { result ≡ value_of self.now i.now }
     {
-        value(
-            i.op,
-            self.operand(i, 0),
-            self.operand(i, 1),
-            self.operand(i, 2),
-            i.imm,
-        )
+        match i.op {
+            Op::Load => self
+                .memory
+                .get(address(self.operand(i, 0), i.imm))
+                .unwrap_or(0),
+            Op::Reload => self.frame_word(self.frame_place(i).unwrap_or(0)),
+            _ => value(
+                i.op,
+                self.operand(i, 0),
+                self.operand(i, 1),
+                self.operand(i, 2),
+                i.imm,
+            ),
+        }
     }
 
     /// The register that an instruction writes, with its value.
     fn writes(&self, i: &Instr) -> Option<(u32, u32)>
-        requires { is_straight i.now.op ≡ true }
+        requires { IsShift i.now.op i.now.imm }
         ensures { writes_of self.now i.now ≡ option_to_list result }
     {
-        match i.dst {
-            Some(r) => Some((r.0, self.value(i))),
-            None => None,
+        match i.op {
+            Op::Enter | Op::Leave => Some((STACK, address(at(&self.regs, STACK), i.imm))),
+            _ => match i.dst {
+                Some(r) => Some((r.0, self.value(i))),
+                None => None,
+            },
         }
     }
 
     /// The registers after the writes of a packet.
     pub(crate) fn regs_after(&self, packet: &[Instr]) -> [u32; 36]
-        requires { AreStraight packet.now }
+        requires { AreRunnable packet.now }
         ensures { result ≡ regs_after self.now packet.now self.now.regs }
     {
         let mut regs = self.regs;
@@ -87,17 +182,22 @@ impl State {
         regs
     }
 
-    /// The cycle from which all operands of an instruction can be read, `cycle` at least.
+    /// The cycle from which all that an instruction reads can be read, `cycle` at least.
     fn readable_from(&self, i: &Instr, cycle: u64) -> u64
-        requires { is_straight i.now.op ≡ true }
         ensures { result ≡ fold max cycle (map (slice_index self.now.ready) (reads_of i.now)) }
     {
-        latest(&self.ready, i.srcs.as_slice(), cycle)
+        match i.op {
+            Op::Enter | Op::Leave => cycle.max(ready_at(&self.ready, STACK)),
+            Op::Spill | Op::Reload => {
+                let stack = cycle.max(ready_at(&self.ready, STACK));
+                latest(&self.ready, i.srcs.as_slice(), stack)
+            }
+            _ => latest(&self.ready, i.srcs.as_slice(), cycle),
+        }
     }
 
     /// The cycle in which a packet issues: the one after the last packet, or later, when all that it reads can be read.
     pub(crate) fn issue_cycle(&self, packet: &[Instr]) -> u64
-        requires straight { AreStraight packet.now }
         requires counter { self.now.cycle < 2 ^ 63 }
         ensures { result ≡ issue_cycle self.now packet.now }
     {
@@ -110,7 +210,7 @@ impl State {
 
     /// The cycles from which the registers can be read, after a packet that issues in this cycle.
     pub(crate) fn ready_after(&self, t: &Table, cycle: u64, packet: &[Instr]) -> [u64; 36]
-        requires straight { AreStraight packet.now }
+        requires runnable { AreRunnable packet.now }
         requires room { cycle < 2 ^ 64 - 2 ^ 32 }
         ensures { result ≡ ready_after t.now cycle self.now packet.now self.now.ready }
     {
@@ -135,21 +235,29 @@ impl State {
         None
     }
 
-    /// Runs a packet: all its writes come together. Some with the address to which it returns, where it does.
-    pub(crate) fn pass(&mut self, t: &Table, packet: &[Instr]) -> Option<u32>
-        requires straight { AreStraight packet.now }
-        requires fit { IsFit t.now }
-        requires counter { self.old.cycle < 2 ^ 63 }
-        ensures step { packet_step t.now packet.now self.old ≡ passed result self.new }
-        ensures counter { self.new.cycle ≤ self.old.cycle + 2 }
+    /// Whether an instruction jumps.
+    fn jumps(&self, i: &Instr) -> bool
+        ensures { result ≡ jumps self.now i.now }
     {
-        let target = self.return_target(packet);
-        let cycle = self.issue_cycle(packet);
-        let regs = self.regs_after(packet);
-        let ready = self.ready_after(t, cycle, packet);
-        self.regs = regs;
-        self.ready = ready;
-        self.cycle = cycle;
-        target
+        match i.op {
+            Op::Jump => true,
+            Op::JumpIf => self.operand(i, 0) != 0,
+            Op::JumpIfNot => self.operand(i, 0) == 0,
+            _ => false,
+        }
+    }
+
+    /// The label to which a packet jumps, where it does.
+    pub(crate) fn jump_label(&self, packet: &[Instr]) -> Option<Name>
+        requires { AreRunnable packet.now }
+        ensures { MatchOption result (find (jumps self.now) packet.now ≡ None)
+            (λ label. option_map (λ i. i.label) (find (jumps self.now) packet.now) ≡ Some (Some label)) }
+    {
+        for i in packet {
+            if self.jumps(i) {
+                return i.label;
+            }
+        }
+        None
     }
 }

@@ -2,10 +2,9 @@
 #![tactic(auto)]
 
 pub mod code;
-pub mod effects;
+mod effects;
 pub mod machine;
+pub mod pass;
 pub mod run;
 pub mod state;
-pub mod straight;
-#[cfg(test)]
-mod tests;
+mod writes;

@@ -1,8 +1,7 @@
 //! Runs of code from a start.
 
-ghost use Rattle.std.specs.Prelude.{◌≡◌, ◌<◌, ◌^◌, IfOk};
+ghost use Rattle.std.specs.Prelude.{◌≡◌, ◌<◌, ◌≤◌, ◌+◌, ◌^◌, false, length, IfOk};
 ghost use Rattle.un_isa.specs.Fit.{IsFit};
-ghost use Rattle.un_packet.specs.Straight.{IsStraight};
 ghost use Rattle.un_packet.specs.Run.{packet_run, enter};
 ghost use Rattle.un_packet.specs.Ends.{IsOutcome, EndsRun};
 ghost use Rattle.un_packet.specs.Outcomes.{IsBlockRun};
@@ -18,12 +17,14 @@ use un_lists::items::Items;
 
 /// Runs the packets of the machine's block from its start, until they leave it or the run ends.
 fn run_block(machine: &mut Machine, c: &Code) -> Stepped
-    requires straight { IsStraight c.now }
-    requires start { (machine.old.block ≡ 0) × (machine.old.place ≡ 0) }
-    requires counter { machine.old.state.cycle < 2 ^ 32 }
-    ensures { IsBlockRun c.now machine.old machine.new result }
+    requires going { machine.old.ended ≡ false }
+    requires place { machine.old.place ≡ 0 }
+    requires block { machine.old.block < length c.now.blocks }
+    requires counter { machine.old.state.cycle < 2 ^ 62 }
+    ensures run { IsBlockRun c.now machine.old machine.new result }
+    ensures counter { machine.new.state.cycle ≤ machine.old.state.cycle + 2 ^ 29 }
 {
-    let packets = c.blocks.as_slice()[0].packets.len();
+    let packets = c.blocks.as_slice()[machine.block() as usize].packets.len();
     for place in 1..packets {
         match machine.step(c) {
             Stepped::Went => {}
@@ -36,26 +37,29 @@ fn run_block(machine: &mut Machine, c: &Code) -> Stepped
 
 /// Runs code from the first packet, where at most `n` labels are entered.
 fn run(alloc: Global, machine: &mut Machine, c: &Code, n: u32) -> End
-    requires straight { IsStraight c.now }
+    requires going { machine.old.ended ≡ false }
     requires start { (machine.old.block ≡ 0) × (machine.old.place ≡ 0) }
-    requires counter { machine.old.state.cycle < 2 ^ 32 }
+    requires counter { machine.old.state.cycle ≡ 0 }
     ensures { EndsRun c.now.blocks (enter machine.old.table c.now.blocks n 0 machine.old.state) result machine.new.state }
 {
-    if n == 0 {
-        return End::Running {
-            label: c.blocks.as_slice()[0].label,
-            values: Items::new(alloc),
-        };
+    for _i in 0..n {
+        match run_block(machine, c) {
+            Stepped::Ended(end) => return end,
+            Stepped::Left(_) => {}
+            Stepped::Went => unreachable!(),
+        }
     }
-    match run_block(machine, c) {
-        Stepped::Ended(end) => end,
-        Stepped::Left(_) => unreachable!(),
-        Stepped::Went => unreachable!(),
+    End::Running {
+        label: c.blocks.as_slice()[machine.block() as usize].label,
+        values: Items::new(alloc),
     }
 }
 
 /// Runs code from a start, where at most `n` labels are entered, the first block's among them. Where a further one would be
 /// entered, the outcome is Running with its label.
+///
+/// # Errors
+/// `NoMemory` where there is no memory for the state.
 pub fn run_packets(
     alloc: Global,
     c: &Code,
@@ -63,8 +67,7 @@ pub fn run_packets(
     start: &Start,
     n: u32,
 ) -> Result<Outcome, NoMemory>
-    requires straight { IsStraight c.now }
-    requires fit { IsFit t.now }
+    requires { IsFit t.now }
     ensures { IfOk result (IsOutcome c.now.blocks (packet_run t.now c.now start.now n)) }
 {
     let mut machine = Machine::new(alloc, c, t, start)?;

@@ -9,22 +9,21 @@ use std::marker::Model;
 use un_base::memory_error::NoMemory;
 use un_isa::memory::Memory;
 use un_isa::outcome::{CallRecord, End, Outcome};
-use un_isa::reg::Reg;
+use un_isa::reg::STACK;
 use un_isa::start::{Reply, Start};
 use un_lists::items::Items;
 
-/// The number of the stack pointer.
-pub(crate) const STACK: u32 = 29;
-
-/// A state of the packet machine, which contracts see as a record of its parts.
-#[derive(Debug, Drop)]
+/// A state of the packet machine, which contracts see as a record of its parts. Its list of calls has room for one record a
+/// reply that is left.
+#[derive(Drop)]
 pub struct State {
     pub(crate) regs: [u32; 36],
     pub(crate) memory: Memory,
     pub(crate) frame: Items<u32>,
     pub(crate) frame_start: u32,
-    pub(crate) calls: Items<CallRecord>,
+    pub(crate) calls: Vec<CallRecord>,
     pub(crate) replies: Items<Reply>,
+    pub(crate) answered: usize,
     pub(crate) cycle: u64,
     pub(crate) ready: [u64; 36],
 }
@@ -32,13 +31,20 @@ pub struct State {
 impl Model for State {
     ghost use Rattle.un_packet.specs.Step.{PacketState};
     ghost use Rattle.un_packet.specs.Cycles.{IsReadyBy};
-    ghost use Rattle.std.specs.Prelude.{◌+◌};
+    ghost use Rattle.std.specs.Prelude.{◌+◌, ◌≤◌, drop, length, vec_len, vec_capacity};
 
     ghost Value = { PacketState };
 
-    ghost view = { λ s. record { regs = s.regs; memory = s.memory; frame = s.frame; frame_start = s.frame_start; calls = s.calls; replies = s.replies; cycle = s.cycle; ready = s.ready } };
+    ghost view = { λ s. record { regs = s.regs; memory = s.memory; frame = s.frame; frame_start = s.frame_start; calls = s.calls.items; replies = drop s.answered s.replies; cycle = s.cycle; ready = s.ready } };
 
-    ghost invariant = { λ s. IsReadyBy (s.cycle + 2) s.ready };
+    ghost invariant = { λ s. IsReadyBy (s.cycle + 2) s.ready × (s.answered ≤ length s.replies) × (vec_len s.calls + length s.replies ≤ vec_capacity s.calls + s.answered) };
+}
+
+/// Room for the record of a call to come: for its arguments and its memory.
+#[derive(Drop)]
+pub struct Spare {
+    pub(crate) args: Vec<u32>,
+    pub(crate) memory: Memory,
 }
 
 impl State {
@@ -49,13 +55,15 @@ impl State {
         let words = vec![in alloc; 0; c.frame as usize / 4]?;
         let memory = start.memory.clone()?;
         let replies = start.replies.clone()?;
+        let calls = Vec::with_capacity(alloc, replies.len())?;
         Ok(State {
             regs: start.regs,
             memory,
             frame: Items::from_vec(words),
             frame_start: at(&start.regs, STACK).saturating_sub(c.frame),
-            calls: Items::new(alloc),
+            calls,
             replies,
+            answered: 0,
             cycle: 0,
             ready: read_at_once(),
         })
@@ -69,9 +77,7 @@ impl State {
     {
         at(&self.regs, r)
     }
-}
 
-impl State {
     /// The outcome of a run that ended so in this state.
     pub(crate) fn outcome(self, end: End) -> Outcome
         ensures { result ≡ record { end = end; memory = self.memory; calls = self.calls; cycles = Some self.cycle } }
@@ -79,7 +85,7 @@ impl State {
         Outcome {
             end,
             memory: self.memory,
-            calls: self.calls,
+            calls: Items::from_vec(self.calls),
             cycles: Some(self.cycle),
         }
     }

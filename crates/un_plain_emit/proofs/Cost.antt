@@ -19,7 +19,9 @@ use Rattle.un_plain_model.specs.declared.model.Solution.{Solution}
 use Rattle.un_plain_model.specs.Cost.{value_of, cost_of, block_cost}
 use Rattle.un_plain_model.specs.Pairs.{pairs_from}
 use Rattle.un_plain_model.specs.Variables.{model_of, block_vars, blocks_vars, own_horizon}
-use Rattle.un_plain_emit.specs.Emission.{emitted, block_code, packet_in}
+use Rattle.un_packet.specs.declared.code.CodeBlock.{CodeBlock}
+use Rattle.un_packet.specs.declared.code.Code.{Code}
+use Rattle.un_plain_emit.specs.Emission.{emitted_blocks, IsEmitted, block_code, packet_in}
 
 same_number : (n : ℕ) → nat_eq n n ≡ true
 same_number n = eq-eqb n n refl
@@ -33,9 +35,9 @@ under t m s f b v =
 single_cost : (n : ℕ) → 0 + n ≡ sum (n ∷ [])
 single_cost n = omega arith
 
-counted : (t : Table) (m : Model) (s : Solution) (f : Function) (b : Block) (v : BlockVars) → f.blocks ≡ b ∷ [] → m.ext.blocks ≡ plain_block t (length f.names) b ∷ [] → m.blocks ≡ v ∷ [] → count_of f (emitted m s) ≡ cost_of m s
+counted : (t : Table) (m : Model) (s : Solution) (f : Function) (b : Block) (v : BlockVars) → f.blocks ≡ b ∷ [] → m.ext.blocks ≡ plain_block t (length f.names) b ∷ [] → m.blocks ≡ v ∷ [] → sum_by (λ (x : Block). x.freq * packets_under (emitted_blocks m s) x.label) f.blocks ≡ cost_of m s
 counted t m s f b v hf he hm =
-    ap (λ (bs : List Block). sum_by (λ (x : Block). x.freq * packets_under (emitted m s).blocks x.label) bs) hf
+    ap (λ (bs : List Block). sum_by (λ (x : Block). x.freq * packets_under (emitted_blocks m s) x.label) bs) hf
     ∙ ap (λ (es : List ExtBlock). 0 + b.freq * packets_under (pairs_from (block_code m s) 0 es m.blocks) b.label) he
     ∙ ap (λ (vs : List BlockVars). 0 + b.freq * packets_under (pairs_from (block_code m s) 0 (plain_block t (length f.names) b ∷ []) vs) b.label) hm
     ∙ ap (λ (n : ℕ). 0 + b.freq * n) (under t m s f b v)
@@ -53,6 +55,8 @@ model_blocks f h e m he hm =
     ap (λ (x : Model). x.blocks) hm
     ∙ ap (λ (bs : List ExtBlock). blocks_vars e.table m.options own_horizon 0 bs) (ap (λ (x : Ext). x.blocks) he ∙ ap (map (plain_block e.table (length f.names))) h.blocks)
 
-pub emitted_cost : (f : Function) → IsPlain f → (e : Ext) (m : Model) (s : Solution) → e ≡ plain_ext e.table f → m ≡ model_of e m.options → count_of f (emitted m s) ≡ cost_of m s
-emitted_cost f h e m s he hm =
-    counted e.table m s f h.block (block_vars e.table m.options own_horizon 0 (plain_block e.table (length f.names) h.block)) h.blocks (ext_blocks f h e m he hm) (model_blocks f h e m he hm)
+pub emitted_cost : (f : Function) → IsPlain f → (e : Ext) (m : Model) (s : Solution) (blocks : List CodeBlock) → blocks ≡ emitted_blocks m s → e ≡ plain_ext e.table f → m ≡ model_of e m.options
+    → sum_by (λ (x : Block). x.freq * packets_under blocks x.label) f.blocks ≡ cost_of m s
+emitted_cost f h e m s blocks is_code he hm =
+    ap (λ (bs : List CodeBlock). sum_by (λ (x : Block). x.freq * packets_under bs x.label) f.blocks) is_code
+    ∙ counted e.table m s f h.block (block_vars e.table m.options own_horizon 0 (plain_block e.table (length f.names) h.block)) h.blocks (ext_blocks f h e m he hm) (model_blocks f h e m he hm)

@@ -6,3 +6,4 @@ pub mod Scenes
 pub mod Simulates
 pub mod Source
 pub mod Walk
+pub mod Keeps

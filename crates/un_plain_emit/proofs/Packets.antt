@@ -137,7 +137,7 @@ puts_own p f c n (s ∷ ss) xs t le lt e small h =
     puts_own p f c (n + 1) ss (put_at (nat_eq (p.from n) c) (p.reg n) (f n) xs) t (omega arith) (omega arith) e (omega arith) (λ i a b g k. h i (omega arith) (omega arith) g k)) (cases_eq n t)
 
 -- what no operation changes
-skip : {X : Type 0} (f : List Instr → X) (p : Plan) (c n : ℕ) (ss : List Step) (tail : List Instr) → ((i : ℕ) (s : Step) (is : List Instr) → f (instr p i s ∷ is) ≡ f is) → f (instrs p c n ss tail) ≡ f tail
+pub skip : {X : Type 0} (f : List Instr → X) (p : Plan) (c n : ℕ) (ss : List Step) (tail : List Instr) → ((i : ℕ) (s : Step) (is : List Instr) → f (instr p i s ∷ is) ≡ f is) → f (instrs p c n ss tail) ≡ f tail
 skip f p c n [] tail h = refl
 skip f p c n (s ∷ ss) tail h =
     elim (nat_eq (p.from n) c) as (λ b. f (where_in b (instr p n s) (instrs p c (n + 1) ss tail)) ≡ f tail) [

@@ -30,6 +30,7 @@ use Rattle.un_packet.specs.Step.{PacketState, PacketStep, Stopped, Returned as R
 use Rattle.un_packet.specs.Run.{PacketRun, packets_run, packet_run, first_state, NoneWaits, NeverWaits, never_after, leave as leave_packets, enter as enter_packets}
 use Rattle.un_plain.specs.Plain.{IsPlain, ArePlainOps}
 use Rattle.un_plain_ext.specs.PlainExt.{kind_of, name_operand, plain_ext, plain_block, kept_registers, saved_count, no_temps, in_op, assigned, body_ops, current_after, saved_operands}
+use Rattle.un_simulation.proofs.Startable.{start_for}
 use Rattle.un_simulation.specs.Simulation.{Simulates, Agrees, Keeps, CanStart}
 use Rattle.un_plain_model.specs.declared.model.Options.{Options}
 use Rattle.un_plain_model.specs.declared.model.Model.{Model}
@@ -37,7 +38,7 @@ use Rattle.un_plain_model.specs.declared.model.Solution.{Solution}
 use Rattle.un_plain_model.specs.Registers.{is_assignable, is_home, is_home_in, is_register, reads_value, saved_registers}
 use Rattle.un_plain_model.specs.Solutions.{IsSolution}
 use Rattle.un_plain_model.specs.Variables.{model_of, block_vars, own_horizon}
-use Rattle.un_plain_emit.specs.Emission.{emitted, block_code, packet_in, or_nop, start_place}
+use Rattle.un_plain_emit.specs.Emission.{emitted_blocks, IsEmitted, block_code, packet_in, or_nop, start_place}
 use Rattle.un_plain_emit.proofs.Packets.{Read, IsApartPlan, Stands, Facts, runs, packet_at, is_false}
 use Rattle.un_plain_emit.proofs.Holds.{filtered, below_range, place_of, apart_by, spans_by, quick_by}
 use Rattle.un_plain_emit.proofs.Walk.{plan, Defined, NotStack, ending, Walked, walk, steps_of, code_in}
@@ -99,7 +100,7 @@ not_assignable : (regs : Option ℕ) → IfSome regs (λ n. n ≤ 29) → is_ass
 not_assignable None h = refl
 not_assignable (Some n) h = grind (arith, h)
 
-away : (t : Table) → IsFit t → (f : Function) (b : Block) (o : Options) (s : Solution) (value : ℕ → ℕ) (returned : ℕ) → IfSome o.regs (λ n. n ≤ 29) → NotStack (scene t f (returning b returned) o s value)
+pub away : (t : Table) → IsFit t → (f : Function) (b : Block) (o : Options) (s : Solution) (value : ℕ → ℕ) (returned : ℕ) → IfSome o.regs (λ n. n ≤ 29) → NotStack (scene t f (returning b returned) o s value)
 away t fit f b o s value returned few r =
     let current = current_after (no_temps (length f.names)) (saved_count t) b.ops in
     let tail = ending t current returned in
@@ -159,10 +160,10 @@ first_long f start params = let none : length f.params ≡ 0 = ap length params 
 kept_register : (t : Table) (i : ℕ) → i < length (kept_registers t) → slice_index (saved_registers t) i ≡ slice_index (kept_registers t) i
 kept_register t i lt = ap (λ (xs : List ℕ). slice_index xs i) (saved_is t) ∙ get_or-append (kept_registers t) (31 ∷ []) 0 i lt
 
-link_register : (t : Table) → slice_index (saved_registers t) (length (kept_registers t)) ≡ 31
+pub link_register : (t : Table) → slice_index (saved_registers t) (length (kept_registers t)) ≡ 31
 link_register t = ap (λ (xs : List ℕ). slice_index xs (length (kept_registers t))) (saved_is t) ∙ get_or-append_seam (kept_registers t) 31 [] 0
 
-saved_small : (t : Table) (i : ℕ) → i < saved_count t → slice_index (saved_registers t) i < 36
+pub saved_small : (t : Table) (i : ℕ) → i < saved_count t → slice_index (saved_registers t) i < 32
 saved_small t i lt =
     ⊎_elim (λ (below : i < length (kept_registers t)).
     let k = place_of (IsKept t) (kept_registers t) i 0 (kept_all t) below in let e = kept_register t i below in let g = k.1 in omega (arith, e, g))
@@ -174,11 +175,11 @@ zeros_read zero r = refl
 zeros_read (suc n) zero = refl
 zeros_read (suc n) (suc r) = zeros_read n r
 
-map_same : {A B : Type 0} (f g : A → B) → ((x : A) → f x ≡ g x) → (xs : List A) → map f xs ≡ map g xs
+pub map_same : {A B : Type 0} (f g : A → B) → ((x : A) → f x ≡ g x) → (xs : List A) → map f xs ≡ map g xs
 map_same f g h [] = refl
 map_same f g h (x ∷ xs) = ap (λ y. y ∷ map f xs) (h x) ∙ ap (λ ys. g x ∷ ys) (map_same f g h xs)
 
-no_code : (b : Bool) (xs : List Instr) → let none : List Instr = [] in (if b then none else none) ++ xs ≡ xs
+pub no_code : (b : Bool) (xs : List Instr) → let none : List Instr = [] in (if b then none else none) ++ xs ≡ xs
 no_code true xs = refl
 no_code false xs = refl
 
@@ -285,59 +286,75 @@ both_return t f b returned packets start places code h source run es ep =
     subst (λ (x : PacketRun). Agrees t f places code start source x) (sym ep) one
 
 -- the only block's code
-abbrev code_for : Table → Function → Block → Options → Solution → CodeBlock
+abbrev pub code_for : Table → Function → Block → Options → Solution → CodeBlock
 code_for t f b o s = block_code (model_for t f b o) s 0 (plain_block t (length f.names) b) (block_vars t o own_horizon 0 (plain_block t (length f.names) b))
 
-at_entry : (t : Table) (f : Function) (b : Block) (o : Options) (s : Solution) (returned : ℕ) (places : Places) (start : Start) → f.blocks ≡ returning b returned ∷ [] → ArePlainOps 0 b.ops (length f.names) → returned < length f.names
-    → let code = emitted (model_for t f (returning b returned) o) s in Agrees t f places code start (source_run f start 0) (packet_run t code start 0)
-at_entry t f b o s returned places start blocks plain lt = record {
+at_entry : (t : Table) (f : Function) (b : Block) (o : Options) (s : Solution) (returned : ℕ) (places : Places) (code : Code) (start : Start) → IsEmitted (model_for t f (returning b returned) o) s code → f.blocks ≡ returning b returned ∷ [] → ArePlainOps 0 b.ops (length f.names) → returned < length f.names
+    → Agrees t f places code start (source_run f start 0) (packet_run t code start 0)
+at_entry t f b o s returned places code start is_code blocks plain lt = record {
   stop = (
-    ap (λ (bs : List Block). option_map (λ (x : Block). x.label) (slice_get bs 0)) blocks,
+    ap (λ (bs : List Block). option_map (λ (x : Block). x.label) (slice_get bs 0)) blocks ∙ sym (ap (λ (bs : List CodeBlock). option_map (λ (x : CodeBlock). x.label) (slice_get bs 0)) is_code.blocks),
     λ name kind is live. absurd (none_live (returning b returned) name (length f.names) returned plain refl lt (subst (λ (bs : List Block). IsLive bs name 0 0) blocks live)),
   );
   memory = refl;
   calls = refl;
 }
 
-agrees : (t : Table) → IsFit t → (f : Function) (b : Block) (o : Options) (s : Solution) (returned : ℕ) (places : Places) → f.blocks ≡ returning b returned ∷ [] → IfSome o.regs (λ n. n ≤ 29) → IsSolution (model_for t f (returning b returned) o) s
+agrees : (t : Table) → IsFit t → (f : Function) (b : Block) (o : Options) (s : Solution) (returned : ℕ) (places : Places) (code : Code) → IsEmitted (model_for t f (returning b returned) o) s code → f.blocks ≡ returning b returned ∷ [] → IfSome o.regs (λ n. n ≤ 29) → IsSolution (model_for t f (returning b returned) o) s
     → f.params ≡ [] → ArePlainOps 0 b.ops (length f.names) → returned < length f.names → (start : Start) (n : ℕ) → CanStart start 0
-    → let code = emitted (model_for t f (returning b returned) o) s in Agrees t f places code start (source_run f start n) (packet_run t code start n)
-agrees t fit f b o s returned places blocks few sol params plain lt start zero can = at_entry t f b o s returned places start blocks plain lt
-agrees t fit f b o s returned places blocks few sol params plain lt start (suc n) can =
+    → Agrees t f places code start (source_run f start n) (packet_run t code start n)
+agrees t fit f b o s returned places code is_code blocks few sol params plain lt start zero can = at_entry t f b o s returned places code start is_code blocks plain lt
+agrees t fit f b o s returned places code is_code blocks few sol params plain lt start (suc n) can =
     let bb = returning b returned in
-    let code = emitted (model_for t f bb o) s in
     let h = both t fit f b o s returned few sol params plain lt start can in
     let es = ap (λ (bs : List Block). through (slice_get bs 0) 0 (first_values f start) (enter f.blocks n)) blocks
     ∙ ap (λ (e : BlockEnd). leave_unless e.stop e.state 0 bb.term (enter f.blocks n)) h.source in
-    let ep = ap (λ (x : PacketStep). leave_packets code.blocks 0 x (enter_packets t code.blocks n)) h.run in
+    let goal_blocks = emitted_blocks (model_for t f bb o) s in
+    let ep = ap (λ (bs : List CodeBlock). enter_packets t bs (suc n) 0 (first_state code.frame start)) is_code.blocks ∙ ap (λ (k : ℕ). enter_packets t goal_blocks (suc n) 0 (first_state k start)) is_code.frame
+    ∙ ap (λ (x : PacketStep). leave_packets goal_blocks 0 x (enter_packets t goal_blocks n)) h.run in
     both_return t f b returned (code_for t f bb o s).packets start places code h _ _ es ep
 
 waits_not : (t : Table) → IsFit t → (f : Function) (b : Block) (o : Options) (s : Solution) (returned : ℕ) → IfSome o.regs (λ n. n ≤ 29) → IsSolution (model_for t f (returning b returned) o) s
     → f.params ≡ [] → ArePlainOps 0 b.ops (length f.names) → returned < length f.names → (start : Start) (n : ℕ) → CanStart start 0
-    → NeverWaits t (emitted (model_for t f (returning b returned) o) s).blocks n 0 (first_state 0 start)
+    → NeverWaits t (emitted_blocks (model_for t f (returning b returned) o) s) n 0 (first_state 0 start)
 waits_not t fit f b o s returned few sol params plain lt start zero can = tt
 waits_not t fit f b o s returned few sol params plain lt start (suc n) can =
-    let code = emitted (model_for t f (returning b returned) o) s in
+    let blocks = emitted_blocks (model_for t f (returning b returned) o) s in
     let h = both t fit f b o s returned few sol params plain lt start can in
-    (h.waits, subst (λ (x : PacketStep). never_after code.blocks 0 x (NeverWaits t code.blocks n)) (sym h.run) tt)
+    (h.waits, subst (λ (x : PacketStep). never_after blocks 0 x (NeverWaits t blocks n)) (sym h.run) tt)
 
-simulates_for : (t : Table) → IsFit t → (f : Function) (b : Block) (o : Options) (s : Solution) (returned : ℕ) (places : Places) → f.blocks ≡ returning b returned ∷ [] → IfSome o.regs (λ n. n ≤ 29) → IsSolution (model_for t f (returning b returned) o) s
-    → f.params ≡ [] → ArePlainOps 0 b.ops (length f.names) → returned < length f.names → Simulates t f places (emitted (model_for t f (returning b returned) o) s)
-simulates_for t fit f b o s returned places blocks few sol params plain lt = record {
-  agrees = λ start n can. agrees t fit f b o s returned places blocks few sol params plain lt start n can;
-  never_waits = λ start n can. waits_not t fit f b o s returned few sol params plain lt start n can;
+simulates_for : (t : Table) → IsFit t → (f : Function) (b : Block) (o : Options) (s : Solution) (returned : ℕ) (places : Places) (code : Code) → IsEmitted (model_for t f (returning b returned) o) s code → f.blocks ≡ returning b returned ∷ []
+    → IfSome o.regs (λ n. n ≤ 29) → IsSolution (model_for t f (returning b returned) o) s → f.params ≡ [] → ArePlainOps 0 b.ops (length f.names) → returned < length f.names → Simulates t f places code
+simulates_for t fit f b o s returned places code is_code blocks few sol params plain lt = record {
+  has_start = start_for code.frame (let e = is_code.frame in omega (arith, e));
+  agrees = λ start n can. agrees t fit f b o s returned places code is_code blocks few sol params plain lt start n (can_start start can);
+  never_waits = λ start n can.
+      subst (λ (k : ℕ). NeverWaits t code.blocks n 0 (first_state k start)) (sym is_code.frame)
+      (subst (λ (bs : List CodeBlock). NeverWaits t bs n 0 (first_state 0 start)) (sym is_code.blocks) (waits_not t fit f b o s returned few sol params plain lt start n (can_start start can)));
 }
+  where
+    can_start : (start : Start) → CanStart start code.frame → CanStart start 0
+    can_start start can = subst (CanStart start) is_code.frame can
 
-pub emitted_simulates : (f : Function) → IsPlain f → (e : Ext) (m : Model) (s : Solution) → e ≡ plain_ext e.table f → IsFit e.table → m ≡ model_of e m.options → IfSome m.options.regs (λ n. n ≤ 29) → IsSolution m s
-    → Simulates e.table f (start_place m s) (emitted m s)
-emitted_simulates f h e m s he fit hm few sol =
+-- the only block and the model of a plain function
+pub the_model : (f : Function) (h : IsPlain f) (e : Ext) (m : Model) → e ≡ plain_ext e.table f → m ≡ model_of e m.options → (f.blocks ≡ returning h.block h.plain.returned ∷ []) × (m ≡ model_for e.table f (returning h.block h.plain.returned) m.options)
+the_model f h e m he hm =
     let t = e.table in
     let o = m.options in
     let returned = h.plain.returned in
     let blocks : f.blocks ≡ returning h.block returned ∷ [] = h.blocks ∙ ap (λ (term : Term). let block : Block = record h.block { term = term } in block ∷ []) h.plain.term in
     let ext : e ≡ ext_of t f (returning h.block returned) =
     he ∙ ap (λ (bs : List Block). let x : Ext = record { table = t; names = map kind_of f.names; blocks = map (plain_block t (length f.names)) bs } in x) blocks in
-    let model : m ≡ model_for t f (returning h.block returned) o = hm ∙ ap (λ (x : Ext). model_of x o) ext in
-    let go : IsSolution (model_for t f (returning h.block returned) o) s → Simulates t f (start_place (model_for t f (returning h.block returned) o) s) (emitted (model_for t f (returning h.block returned) o) s) =
-    λ k. simulates_for t fit f h.block o s returned (start_place (model_for t f (returning h.block returned) o) s) blocks few k h.params h.plain.ops h.plain.was_assigned in
-    subst (λ (x : Model). IsSolution x s → Simulates t f (start_place x s) (emitted x s)) (sym model) go sol
+    (blocks, hm ∙ ap (λ (x : Ext). model_of x o) ext)
+
+pub emitted_simulates : (f : Function) → IsPlain f → (e : Ext) (m : Model) (s : Solution) (code : Code) → IsEmitted m s code → e ≡ plain_ext e.table f → IsFit e.table → m ≡ model_of e m.options → IfSome m.options.regs (λ n. n ≤ 29) → IsSolution m s
+    → Simulates e.table f (start_place m s) code
+emitted_simulates f h e m s code is_code he fit hm few sol =
+    let t = e.table in
+    let o = m.options in
+    let returned = h.plain.returned in
+    let parts = the_model f h e m he hm in
+    let own = model_for t f (returning h.block returned) o in
+    let go : IsSolution own s → IsEmitted own s code → Simulates t f (start_place own s) code =
+    λ k is. simulates_for t fit f h.block o s returned (start_place own s) code is parts.0 few k h.params h.plain.ops h.plain.was_assigned in
+    subst (λ (x : Model). IsSolution x s → IsEmitted x s code → Simulates t f (start_place x s) code) (sym parts.1) go sol is_code

@@ -1,5 +1,5 @@
 -- The code of a solution of the model of a plain function.
-use Rattle.std.specs.Prelude.{ℕ, ◌-◌, ◌==◌, ◌&&◌, pos, Bool, if◌then◌else◌, List, [], ◌∷◌, Option, Some, None, map, slice_get}
+use Rattle.std.specs.Prelude.{ℕ, ◌≡◌, ◌-◌, ◌==◌, ◌&&◌, pos, Bool, if◌then◌else◌, List, [], ◌∷◌, Option, Some, None, map, slice_get}
 use Rattle.std.specs.List.{flat_map, range_with_len, position_or_len}
 use Rattle.std.specs.Option.{option_map, option_to_list}
 use Rattle.un_base.specs.declared.ids.NameId.{NameId}
@@ -90,8 +90,13 @@ block_code m s b block vars = record {
   packets = map (packet_in m s block vars) (range_with_len 1 (value_of s.values vars.end - 1));
 }
 
-abbrev pub emitted : Model → Solution → Code
-emitted m s = record { frame = 0; blocks = pairs_from (block_code m s) 0 m.ext.blocks m.blocks }
+abbrev pub emitted_blocks : Model → Solution → List CodeBlock
+emitted_blocks m s = pairs_from (block_code m s) 0 m.ext.blocks m.blocks
+
+-- the code of a solution
+pub record IsEmitted (m : Model) (s : Solution) (code : Code) : Type 0 where
+  pub frame : code.frame ≡ 0
+  pub blocks : code.blocks ≡ emitted_blocks m s
 
 -- the values at a block's start, which its first operation defines
 abbrev pub start_values : List ExtOp → List TempId

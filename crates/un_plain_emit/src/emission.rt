@@ -13,7 +13,7 @@ ghost use Rattle.un_plain.specs.Plain.{IsPlain};
 ghost use Rattle.un_plain_ext.specs.PlainExt.{plain_ext};
 ghost use Rattle.un_simulation.specs.Count.{count_of};
 ghost use Rattle.un_simulation.specs.Simulation.{Simulates};
-ghost use Rattle.un_plain_emit.specs.Emission.{register_of, operand_register, operand_registers, result_register, transfer_instr, instr_by, instr_of, issues_in, issued, nop, or_nop, instrs_in, packet_in, block_code, emitted, start_place};
+ghost use Rattle.un_plain_emit.specs.Emission.{register_of, operand_register, operand_registers, result_register, transfer_instr, instr_by, instr_of, issues_in, issued, nop, or_nop, instrs_in, packet_in, block_code, emitted_blocks, IsEmitted, start_place};
 
 use std::alloc::Global;
 use un_base::ids::{TempId, VarId};
@@ -250,8 +250,8 @@ fn block_code(
 }
 
 /// The code of each block.
-fn code_of(alloc: Global, m: &Model, s: &Solution) -> Result<Code, NoMemory>
-    ensures { IfOk result (λ code. code ≡ emitted m.now s.now) }
+fn code_of(alloc: Global, m: &Model, s: &Solution) -> Result<Items<CodeBlock>, NoMemory>
+    ensures { IfOk result (λ blocks. blocks ≡ emitted_blocks m.now s.now) }
 {
     let n = m.ext.blocks.len().min(m.blocks.len());
     let mut blocks = Items::new(alloc);
@@ -261,7 +261,7 @@ fn code_of(alloc: Global, m: &Model, s: &Solution) -> Result<Code, NoMemory>
         let code = block_code(alloc, m, s, block, vars)?;
         blocks.push(code)?;
     }
-    Ok(Code { frame: 0, blocks })
+    Ok(blocks)
 }
 
 /// The code of a solution of the model of a plain function's extended function. It uses no frame. Under the label of the
@@ -275,12 +275,12 @@ pub fn emit(alloc: Global, f: &Function, e: &Ext, m: &Model, s: &Solution) -> Re
     requires model { m.now ≡ model_of e.now m.now.options }
     requires registers { IfSome m.now.options.regs (λ n. n ≤ 29) }
     requires solution { IsSolution m.now s.now }
-    ensures code { IfOk result (λ code. code ≡ emitted m.now s.now) }
+    ensures code { IfOk result (IsEmitted m.now s.now) }
     ensures simulates { IfOk result (λ code. Simulates e.now.table f.now (start_place m.now s.now) code) }
     ensures cost { IfOk result (λ code. count_of f.now code ≡ cost_of m.now s.now) }
 {
     let _ = f;
     let _ = e;
-    let code = code_of(alloc, m, s)?;
-    Ok(code)
+    let blocks = code_of(alloc, m, s)?;
+    Ok(Code { frame: 0, blocks })
 }

@@ -3,6 +3,7 @@ use Rattle.std.specs.Prelude.{ℕ, ◌≡◌, ◌-◌, ◌*◌, ◌%◌, ◌<◌
 use Rattle.std.specs.Option.{option_map}
 use Rattle.un_base.specs.declared.ids.NameId.{NameId}
 use Rattle.un_isa.specs.Starts.{is_start}
+use Rattle.un_isa.specs.declared.reg.TheConstants.{STACK, LINK, GENERALS, FIRST_SLOT, REGISTERS}
 use Rattle.un_isa.specs.Tables.{in_mask}
 use Rattle.un_isa.specs.declared.start.Start.{Start}
 use Rattle.un_isa.specs.declared.start.Reply.{Reply}
@@ -15,12 +16,8 @@ use Rattle.un_ir.specs.Live.{IsLive}
 use Rattle.un_ir.specs.Source.{SourceStop, SourceRun, SourceState, Returned, Trapped, Waiting, Running, source_run}
 use Rattle.un_packet.specs.declared.code.CodeBlock.{CodeBlock}
 use Rattle.un_packet.specs.declared.code.Code.{Code}
-use Rattle.un_packet.specs.Step.{PacketState, PacketStop, STACK, Returned as ReturnedTo, Trapped as TrappedAt, Waiting as WaitingFor, Running as RunningAt}
+use Rattle.un_packet.specs.Step.{PacketState, PacketStop, Returned as ReturnedTo, Trapped as TrappedAt, Waiting as WaitingFor, Running as RunningAt}
 use Rattle.un_packet.specs.Run.{PacketRun, packet_run, first_state, NeverWaits}
-
--- the link register, which holds the address to return to
-abbrev pub LINK : ℕ
-LINK = 31
 
 abbrev pub IsWord : ℕ → Type 0
 IsWord v = v < 2 ^ 32
@@ -32,11 +29,11 @@ pub record IsReply (reply : Reply) : Type 0 where
   pub result : IsWord reply.result
   pub changed : All IsEntry reply.changed
   pub junk : All IsWord reply.junk
-  pub junk_len : length reply.junk ≡ 36
+  pub junk_len : length reply.junk ≡ REGISTERS
 
 -- a start whose numbers are words, and whose stack pointer has room for a frame of so many bytes
 pub record CanStart (s : Start) (frame : ℕ) : Type 0 where
-  pub regs_len : length s.regs ≡ 36
+  pub regs_len : length s.regs ≡ REGISTERS
   pub regs : All IsWord s.regs
   pub memory : All IsEntry s.memory
   pub replies : All IsReply s.replies
@@ -46,17 +43,17 @@ pub record CanStart (s : Start) (frame : ℕ) : Type 0 where
 
 -- the registers that a function keeps, and the stack pointer, are as at the start
 pub record Keeps (t : Table) (s : Start) (p : PacketState) : Type 0 where
-  pub saved : (r : ℕ) → r < 32 → in_mask t.saved r ≡ true → slice_index p.regs r ≡ slice_index s.regs r
+  pub saved : (r : ℕ) → r < GENERALS → in_mask t.saved r ≡ true → slice_index p.regs r ≡ slice_index s.regs r
   pub stack : slice_index p.regs STACK ≡ slice_index s.regs STACK
 
 -- what a place of the register array holds: a register, or from 36 on a word of the frame
 abbrev pub held_at : PacketState → ℕ → ℕ
-held_at p place = if nat_lt place 36 then slice_index p.regs place else slice_index p.frame (place - 36)
+held_at p place = if nat_lt place FIRST_SLOT then slice_index p.regs place else slice_index p.frame (place - FIRST_SLOT)
 
 -- a predicate in a general register or a slot stands there as 255 or 0
 abbrev pub as_held : Kind → ℕ → ℕ → ℕ
 as_held General place v = v
-as_held Pred place v = if nat_le 32 place && nat_lt place 36 then v else v * 255
+as_held Pred place v = if nat_le GENERALS place && nat_lt place FIRST_SLOT then v else v * 255
 
 -- each name that is live at the start of block b stands in its place
 abbrev pub LiveStand : Function → (ℕ → ℕ → ℕ) → ℕ → SourceState → PacketState → Type 0
@@ -79,7 +76,9 @@ pub record Agrees (t : Table) (f : Function) (places : ℕ → ℕ → ℕ) (cod
   pub memory : source.state.memory ≡ packets.state.memory
   pub calls : source.state.calls ≡ packets.state.calls
 
--- from each start and for each number of blocks entered the packets do what the function does, and none waits
+-- From each start and for each number of blocks entered the packets do what the function does, and none waits. There is a start
+-- with room for the code's frame, so this is never empty.
 pub record Simulates (t : Table) (f : Function) (places : ℕ → ℕ → ℕ) (code : Code) : Type 0 where
+  pub has_start : (s : Start) × CanStart s code.frame
   pub agrees : (s : Start) (n : ℕ) → CanStart s code.frame → Agrees t f places code s (source_run f s n) (packet_run t code s n)
   pub never_waits : (s : Start) (n : ℕ) → CanStart s code.frame → NeverWaits t code.blocks n 0 (first_state code.frame s)

@@ -1,26 +1,61 @@
-use Rattle.std.proofs.Common.{◌≡◌, Some, slice_get, subst, ap, arith, length, get_or}
+use Rattle.std.proofs.Common.{◌≡◌, ◌+◌, ◌<◌, ◌≤◌, Some, slice_get, ap, arith, length, refl, ◌∙◌}
 use Rattle.un_packet.specs.declared.code.CodeBlock.{CodeBlock}
-use Rattle.un_packet.proofs.Runs.{gone, left, ended, finished, only_block}
+use Rattle.un_packet.proofs.Runs.{whole, gone, left, ended, finished, stays_in, place_small, at_start, counted}
 use Rattle.un_packet.proofs.run.run_block.Goals as goal
 
-pub returns-in-Left : goal.returns-in-Left
-returns-in-Left c = left c.args.c.now c.args.machine.now c.loop-place.machine c.step.new.self c.in-Left.to c.loop-place.invariant.half c.in-Left.ensures.step
+pub loop-place-init : goal.loop-place-init
+loop-place-init c = record {
+  half = whole c.args.c.now c.args.machine.now c.requires.block c.requires.place;
+  inside = at_start c.args.c.now c.args.machine.now c.requires.block c.requires.place;
+  place = omega (arith, c.requires.place);
+  cycle = omega arith;
+}
 
-pub returns-in-Ended : goal.returns-in-Ended
-returns-in-Ended c = ended c.args.c.now c.args.machine.now c.loop-place.machine c.step.new.self c.in-Ended.end c.loop-place.invariant.half c.in-Ended.ensures.step
+pub step-requires-clause-going : goal.step-requires-clause-going
+step-requires-clause-going c = c.loop-place.invariant.half.ended ∙ c.requires.going
+
+pub step-requires-clause-counter : goal.step-requires-clause-counter
+step-requires-clause-counter c = let small = place_small c.args.c.now c.loop-place.machine c.loop-place.invariant.inside in omega (arith, small, c.loop-place.invariant.cycle, c.requires.counter)
+
+pub step-requires-clause-place : goal.step-requires-clause-place
+step-requires-clause-place c = c.loop-place.invariant.inside
+
+pub returns-in-Left-clause-run : goal.returns-in-Left-clause-run
+returns-in-Left-clause-run c = left c.args.c.now c.args.machine.now c.loop-place.machine c.step.new.self c.in-Left.to c.loop-place.invariant.half c.in-Left.ensures.step
+
+pub returns-in-Left-clause-counter : goal.returns-in-Left-clause-counter
+returns-in-Left-clause-counter c = let small = place_small c.args.c.now c.loop-place.machine c.loop-place.invariant.inside in omega (arith, small, c.loop-place.invariant.cycle, c.in-Left.ensures.counter)
+
+pub returns-in-Ended-clause-run : goal.returns-in-Ended-clause-run
+returns-in-Ended-clause-run c = ended c.args.c.now c.args.machine.now c.loop-place.machine c.step.new.self c.in-Ended.end c.loop-place.invariant.half c.in-Ended.ensures.step
+
+pub returns-in-Ended-clause-counter : goal.returns-in-Ended-clause-counter
+returns-in-Ended-clause-counter c = let small = place_small c.args.c.now c.loop-place.machine c.loop-place.invariant.inside in omega (arith, small, c.loop-place.invariant.cycle, c.in-Ended.ensures.counter)
 
 pub loop-place-preserved : goal.loop-place-preserved
 loop-place-preserved c =
     let on = gone c.args.c.now c.args.machine.now c.loop-place.machine c.step.new.self c.loop-place.invariant.half c.in-Went.ensures.step in
     record {
       half = on.half;
+      inside = stays_in c.args.c.now c.args.machine.now c.loop-place.machine c.step.new.self on;
       place = omega (arith, on.place, c.loop-place.invariant.place);
       cycle = omega (arith, on.place, c.in-Went.ensures.counter, c.loop-place.invariant.cycle);
     }
 
-pub returns : goal.returns
-returns c =
-    let b = c.index-as_slice-0.result in
-    let read = subst (λ bs. b ≡ get_or bs 0 b) c.as_slice.ensures c.index-as_slice-0.is in
-    let at : slice_get c.args.c.now.blocks c.args.machine.now.block ≡ Some b = rw c.requires.start.0 (only_block c.args.c.now.blocks b c.requires.straight.one read) in
-    finished c.args.c.now c.args.machine.now c.loop-place.machine c.step-2.new.self c.step-2.result c.loop-place.invariant.half c.step-2.ensures.step (rw at (omega (arith, ap (λ (x : CodeBlock). length x.packets) c.index-as_slice-0.is, c.len-packets.ensures, c.loop-place-test.false, c.loop-place.invariant.place)))
+pub step-requires-2-clause-going : goal.step-requires-2-clause-going
+step-requires-2-clause-going c = c.loop-place.invariant.half.ended ∙ c.requires.going
+
+pub step-requires-2-clause-counter : goal.step-requires-2-clause-counter
+step-requires-2-clause-counter c = let small = place_small c.args.c.now c.loop-place.machine c.loop-place.invariant.inside in omega (arith, small, c.loop-place.invariant.cycle, c.requires.counter)
+
+pub step-requires-2-clause-place : goal.step-requires-2-clause-place
+step-requires-2-clause-place c = c.loop-place.invariant.inside
+
+pub returns-clause-run : goal.returns-clause-run
+returns-clause-run c =
+    let long : length c.index-as_slice-block.result.packets ≤ c.loop-place.machine.place + 1 = omega (arith, c.len-packets.ensures, ap (λ (b : CodeBlock). length b.packets) c.index-as_slice-block.is, c.loop-place-test.false, c.loop-place.invariant.place) in
+    finished c.args.c.now c.args.machine.now c.loop-place.machine c.step-2.new.self c.step-2.result c.loop-place.invariant.half c.step-2.ensures.step
+    (counted c.args.c.now c.args.machine.now c.as_slice.result.now c.block.result (c.loop-place.machine.place + 1) c.index-as_slice-block.result c.as_slice.ensures c.block.ensures c.requires.block c.index-as_slice-block.is long)
+
+pub returns-clause-counter : goal.returns-clause-counter
+returns-clause-counter c = let small = place_small c.args.c.now c.loop-place.machine c.loop-place.invariant.inside in omega (arith, small, c.loop-place.invariant.cycle, c.step-2.ensures.counter)

@@ -1,4 +1,4 @@
-use Rattle.std.proofs.Common.{ℕ, ◌≡◌, [], replicate, subst, refl, ◌∙◌, sym}
+use Rattle.std.proofs.Common.{ℕ, ◌≡◌, [], replicate, subst, refl, ◌∙◌, sym, ap, drop, arith}
 use Rattle.std.specs.List.{each_same}
 use Rattle.un_isa.specs.declared.start.Start.{Start}
 use Rattle.un_packet.specs.Cycles.{IsReadyBy}
@@ -12,14 +12,18 @@ told : (size : ℕ) (start : Start) (u : PacketState) → u.regs ≡ start.regs 
 told size start u a b c d e f g h = rw (a, b, c, d, e, f, g, h) refl
 
 pub invariant_of-result : goal.invariant_of-result
-invariant_of-result c = subst (IsReadyBy 2) (sym c.read_at_once.ensures) (none_waits 2 36)
+invariant_of-result c = (
+  subst (IsReadyBy 2) (sym c.read_at_once.ensures) (none_waits 2 36),
+  omega arith,
+  omega (arith, c.in_ok-calls.ensures.len, c.in_ok-calls.ensures.exact, c.len.ensures),
+)
 
 pub returns : goal.returns
 returns c =
     told c.args.c.now.frame c.args.start.now _ refl c.in_ok-memory.ensures.cases
     (c.from_vec.ensures ∙ c.in_ok-words.ensures.items_if_clones_equal (λ y e. e))
     (c.saturating_sub.ensures ∙ rw c.at.ensures refl)
-    c.new.ensures
+    c.in_ok-calls.ensures.items
     (each_same _ _ c.in_ok-replies.ensures.cases)
     refl
     c.read_at_once.ensures

@@ -1,0 +1,98 @@
+-- The table of the processor, entry by entry, as written down from its description.
+use Rattle.std.specs.Prelude.{ℕ, ◌≡◌, Bool, true, false, List, [], ◌∷◌, ◌++◌, map, filter, codes, replicate, Option, Some, None, length, slice_index, slice_get}
+use Rattle.std.specs.List.{range_with_len}
+use Rattle.std.proofs.Common.{refl}
+use Rattle.un_isa.specs.declared.op.Op.{Op}
+use Rattle.un_isa.specs.declared.packet_counts.TheConstants.{PACKET, MEM_PLACES, STORE_PLACES, XC_PLACES, CONTROL_PLACES}
+use Rattle.un_isa.specs.declared.reg.Space.TheVariants.{R, P, M}
+use Rattle.un_isa.specs.declared.table.Needs.{Needs}
+use Rattle.un_isa.specs.Facts.{all_ops, source_name, printed_name}
+use Rattle.un_isa.specs.Hexagon.{HEXAGON}
+use Rattle.un_isa.specs.Registers.{space_of, callee_saved, saved_registers}
+use Rattle.un_isa.specs.RegSets.{members}
+use Rattle.un_isa.specs.Starts.{is_junk_from, is_clobbered, are_predicates}
+use Rattle.un_isa.specs.Tables.{number_of, latency_of}
+
+-- by the number of the operation
+numbers : map number_of all_ops ≡ range_with_len 0 34
+numbers = refl
+
+latencies : map (latency_of HEXAGON) all_ops ≡
+    1 ∷ 1 ∷ 1 ∷ 1 ∷ 1 ∷ 1 ∷ 1 ∷ 1 ∷ 1 ∷ 1 ∷ 1 ∷ 1 ∷ 1 ∷ 1 ∷ 1 ∷ 1 ∷ 2 ∷
+    1 ∷ 1 ∷ 1 ∷ 2 ∷ 1 ∷ 1 ∷ 1 ∷ 1 ∷ 1 ∷ 1 ∷ 1 ∷ 2 ∷ 1 ∷ 1 ∷ 1 ∷ 1 ∷ 1 ∷ []
+latencies = refl
+
+-- accesses to memory, stores, products and transfers together, transfers
+abbrev counts_of : Option Needs → List ℕ
+counts_of None = []
+counts_of (Some n) = n.mem ∷ n.store ∷ n.xc ∷ n.control ∷ []
+
+abbrev alu : List ℕ
+alu = 0 ∷ 0 ∷ 0 ∷ 0 ∷ []
+
+abbrev xtype : List ℕ
+xtype = 0 ∷ 0 ∷ 1 ∷ 0 ∷ []
+
+abbrev load : List ℕ
+load = 1 ∷ 0 ∷ 0 ∷ 0 ∷ []
+
+abbrev store : List ℕ
+store = 1 ∷ 1 ∷ 0 ∷ 0 ∷ []
+
+abbrev control : List ℕ
+control = 0 ∷ 0 ∷ 1 ∷ 1 ∷ []
+
+needs : map (λ (op : Op). counts_of (slice_get HEXAGON.uses (number_of op))) all_ops ≡
+    alu ∷ alu ∷ alu ∷ alu ∷ alu ∷ alu ∷ alu ∷ alu ∷ alu ∷ alu ∷ alu ∷ alu ∷
+    alu ∷ alu ∷ alu ∷ alu ∷ xtype ∷ xtype ∷ xtype ∷ xtype ∷ load ∷ store ∷ control ∷ control ∷
+    control ∷ control ∷ control ∷ store ∷ load ∷ xtype ∷ xtype ∷ alu ∷ alu ∷ alu ∷ []
+needs = refl
+
+counts : PACKET ∷ MEM_PLACES ∷ STORE_PLACES ∷ XC_PLACES ∷ CONTROL_PLACES ∷ [] ≡ 4 ∷ 2 ∷ 1 ∷ 2 ∷ 1 ∷ []
+counts = refl
+
+clobbered : members HEXAGON.clobbered ≡
+    0 ∷ 1 ∷ 2 ∷ 3 ∷ 4 ∷ 5 ∷ 6 ∷ 7 ∷ 8 ∷ 9 ∷ 10 ∷ 11 ∷ 12 ∷ 13 ∷ 14 ∷ 15 ∷ 28 ∷ 31 ∷ 32 ∷ 33 ∷ 34 ∷ 35 ∷ []
+clobbered = refl
+
+saved : callee_saved HEXAGON ≡ 16 ∷ 17 ∷ 18 ∷ 19 ∷ 20 ∷ 21 ∷ 22 ∷ 23 ∷ 24 ∷ 25 ∷ 26 ∷ 27 ∷ []
+saved = refl
+
+kept_with_link : saved_registers HEXAGON ≡ 16 ∷ 17 ∷ 18 ∷ 19 ∷ 20 ∷ 21 ∷ 22 ∷ 23 ∷ 24 ∷ 25 ∷ 26 ∷ 27 ∷ 31 ∷ []
+kept_with_link = refl
+
+convention : HEXAGON.args ++ HEXAGON.result ∷ [] ≡ 0 ∷ 1 ∷ 2 ∷ 3 ∷ 4 ∷ 5 ∷ 0 ∷ []
+convention = refl
+
+spaces : map space_of (0 ∷ 31 ∷ 32 ∷ 35 ∷ 36 ∷ 99 ∷ []) ≡ R ∷ R ∷ P ∷ P ∷ M ∷ M ∷ []
+spaces = refl
+
+-- junk in one register alone: it may stand in each clobbered register but r0
+abbrev junk_in : ℕ → Bool
+junk_in r = is_junk_from 0 (replicate r 0 ++ 7 ∷ [])
+
+junk : filter junk_in (range_with_len 0 36) ≡
+    1 ∷ 2 ∷ 3 ∷ 4 ∷ 5 ∷ 6 ∷ 7 ∷ 8 ∷ 9 ∷ 10 ∷ 11 ∷ 12 ∷ 13 ∷ 14 ∷ 15 ∷ 28 ∷ 31 ∷ 32 ∷ 33 ∷ 34 ∷ 35 ∷ []
+junk = refl
+
+predicates : are_predicates (replicate 32 9 ++ 0 ∷ 1 ∷ 1 ∷ 0 ∷ []) ≡ true
+predicates = refl
+
+no_predicates : are_predicates (replicate 35 0 ++ 2 ∷ []) ≡ false
+no_predicates = refl
+
+source_names : map source_name all_ops ≡
+    codes "imm" ∷ codes "mov" ∷ codes "add" ∷ codes "sub" ∷ codes "and" ∷ codes "or" ∷ codes "xor" ∷
+    codes "addi" ∷ codes "andi" ∷ codes "ori" ∷ codes "mux" ∷ codes "cmpeq" ∷ codes "cmpgt" ∷ codes "cmpgtu" ∷
+    codes "cmpeqi" ∷ codes "cmpgti" ∷ codes "mpyi" ∷ codes "asl" ∷ codes "asr" ∷ codes "lsr" ∷ codes "load" ∷
+    codes "store" ∷ codes "call" ∷ [] ∷ [] ∷ [] ∷ [] ∷ [] ∷
+    [] ∷ [] ∷ [] ∷ [] ∷ [] ∷ [] ∷ []
+source_names = refl
+
+printed_names : map printed_name all_ops ≡
+    [] ∷ [] ∷ codes "add" ∷ codes "sub" ∷ codes "and" ∷ codes "or" ∷ codes "xor" ∷
+    codes "add" ∷ codes "and" ∷ codes "or" ∷ codes "mux" ∷ codes "cmp.eq" ∷ codes "cmp.gt" ∷ codes "cmp.gtu" ∷
+    codes "cmp.eq" ∷ codes "cmp.gt" ∷ codes "mpyi" ∷ codes "asl" ∷ codes "asr" ∷ codes "lsr" ∷ codes "memw" ∷
+    codes "memw" ∷ codes "call" ∷ codes "jump" ∷ codes "jump" ∷ codes "jump" ∷ codes "jumpr" ∷ codes "memw" ∷
+    codes "memw" ∷ [] ∷ [] ∷ codes "add" ∷ codes "add" ∷ codes "nop" ∷ []
+printed_names = refl
