@@ -303,11 +303,7 @@ fn put_block(
 }
 
 /// Appends each parameter after a space.
-fn put_params(
-    out: &mut Vec<u8>,
-    names: &[(Name, Kind)],
-    params: &[NameId],
-) -> Result<(), NoMemory>
+fn put_params(out: &mut Vec<u8>, names: &[(Name, Kind)], params: &[NameId]) -> Result<(), NoMemory>
     ensures { OnOk result (out.new.items ≡ out.old.items
         ++ flat_map (λ p. codes " " ++ name_text names.now p) params.now) }
 {
