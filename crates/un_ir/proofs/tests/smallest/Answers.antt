@@ -1,5 +1,6 @@
 -- The smallest function has no fault.
-use Rattle.std.proofs.Common.{rules, arith, ◌≡◌, ◌<◌, ℕ, zero, suc, List, [], ◌∷◌, Some, None, slice_get, slice_index_or, Contains, refl, sym, subst}
+use Rattle.std.proofs.Common.{rules, arith, ◌≡◌, ◌<◌, ℕ, zero, suc, List, [], ◌∷◌, Some, None, slice_get, slice_index_or, Contains, refl}
+use Rattle.std.proofs.Common.{sym, subst}
 use Rattle.std.proofs.lemmas.List.Elements.{All-nil}
 use Rattle.std.proofs.lemmas.Grind.{merely}
 use Rattle.un_base.specs.declared.ids.NameId.{NameId}
@@ -43,7 +44,9 @@ well_formed = record {
   distinct_labels = λ i j d lt below. absurd (omega arith);
   good_blocks = one_good;
   few_ops = omega arith;
-  leads = λ b block got. subst (λ (x : Block). LeadsInside (its_block ∷ []) b x.term) (only_block b block got) (All-nil (λ (c : ℕ). (0 < c) × (c < 1)));
+  leads =
+      λ b block got. subst (λ (x : Block). LeadsInside (its_block ∷ []) b x.term) (only_block b block got)
+      (All-nil (λ (c : ℕ). (0 < c) × (c < 1)));
   alike = λ i j d lt below. absurd (omega arith);
   live = λ name live. absurd (none_live name 0 0 live);
 }
@@ -52,7 +55,8 @@ well_formed = record {
     one_good zero d lt = record { label = refl; freq = (omega arith, omega arith); ops = All-nil (IsGoodOp []); tests = tt }
     one_good (suc k) d lt = absurd (omega arith)
 
-equal : (name : List ℕ) (params : List NameId) (names : Names) (blocks : List Block) → name ≡ 102 ∷ [] → params ≡ [] → names ≡ [] → blocks ≡ its_block ∷ [] → IsWellFormed name params names blocks
+equal : (name : List ℕ) (params : List NameId) (names : Names) (blocks : List Block) → name ≡ 102 ∷ [] → params ≡ [] → names ≡ []
+    → blocks ≡ its_block ∷ [] → IsWellFormed name params names blocks
 equal name params names blocks e1 e2 e3 e4 = rw (e1, e2, e3, e4) well_formed
 
 pub invariant_of-result : goal.invariant_of-result
