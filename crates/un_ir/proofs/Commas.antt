@@ -1,5 +1,6 @@
 -- Operands with commas between them.
-use Rattle.std.proofs.Common.{◌≡◌, ℕ, ◌-◌, ◌≤◌, List, [], ◌∷◌, ◌++◌, Some, map, codes, length, get_or, take, drop, ap, sym, ◌∙◌, append_assoc, arith}
+use Rattle.std.proofs.Common.{◌≡◌, ℕ, ◌-◌, ◌≤◌, List, [], ◌∷◌, ◌++◌, Some, map, codes, length, get_or, take, drop, ap, sym, ◌∙◌}
+use Rattle.std.proofs.Common.{append_assoc, arith}
 use Rattle.std.proofs.lemmas.Grind.{common_steps}
 use Rattle.std.specs.List.{flat_map}
 use Rattle.std.proofs.lemmas.List.Concat.{flat_map-append}
@@ -27,20 +28,26 @@ comma_joined-cons x (y ∷ ys) =
     ap (λ z. x ++ codes ", " ++ z) (comma_joined-cons y ys) ∙ append_assoc x (codes ", ") (y ++ after_commas ys)
 
 -- the same for the texts of a list
-pub spaced-map : {X : Type 0} (f : X → List ℕ) (xs : List X) (d : X) → 1 ≤ length xs → spaced (map f xs) ≡ codes " " ++ (f (get_or xs 0 d) ++ after_commas (map f (rest_of xs)))
+pub spaced-map : {X : Type 0} (f : X → List ℕ) (xs : List X) (d : X) → 1 ≤ length xs
+    → spaced (map f xs) ≡ codes " " ++ (f (get_or xs 0 d) ++ after_commas (map f (rest_of xs)))
 spaced-map f [] d long = absurd (omega arith)
 spaced-map f (x ∷ xs) d long =
     rw (rest_of-cons x xs) (ap (λ z. codes " " ++ z) (comma_joined-cons (f x) (map f xs)))
 
 -- with a literal at the end
-pub spaced-map-literal : {X : Type 0} (f : X → List ℕ) (xs : List X) (d : X) (literal : List ℕ) → 1 ≤ length xs → spaced (map f xs ++ literal ∷ []) ≡ codes " " ++ (f (get_or xs 0 d) ++ (after_commas (map f (rest_of xs)) ++ (codes ", " ++ literal)))
+pub spaced-map-literal : {X : Type 0} (f : X → List ℕ) (xs : List X) (d : X) (literal : List ℕ) → 1 ≤ length xs
+    → spaced (map f xs ++ literal ∷ []) ≡ codes " " ++ (f (get_or xs 0 d) ++ (after_commas (map f (rest_of xs)) ++ (codes ", " ++ literal)))
 spaced-map-literal f [] d literal long = absurd (omega arith)
 spaced-map-literal f (x ∷ xs) d literal long =
-    rw (rest_of-cons x xs) (ap (λ z. codes " " ++ z) (comma_joined-cons (f x) (map f xs ++ literal ∷ []) ∙ ap (λ z. f x ++ z) (flat_map-append (λ y. codes ", " ++ y) (map f xs) (literal ∷ []) ∙ ap (λ z. after_commas (map f xs) ++ z) (sym (append-nil (codes ", " ++ literal))))))
+    rw (rest_of-cons x xs) (ap (λ z. codes " " ++ z)
+    (comma_joined-cons (f x) (map f xs ++ literal ∷ [])
+    ∙ ap (λ z. f x ++ z) (flat_map-append (λ y. codes ", " ++ y) (map f xs) (literal ∷ [])
+    ∙ ap (λ z. after_commas (map f xs) ++ z) (sym (append-nil (codes ", " ++ literal))))))
 
 -- with an offset behind the base
 pub spaced-map-offset : {X : Type 0} (f : X → List ℕ) (xs : List X) (d : X) (literal : List ℕ) → 1 ≤ length xs
-    → spaced (with_literal (Some Offset) literal (map f xs)) ≡ codes " " ++ (f (get_or xs 0 d) ++ (codes ", " ++ (literal ++ after_commas (map f (rest_of xs)))))
+    → spaced (with_literal (Some Offset) literal (map f xs))
+    ≡ codes " " ++ (f (get_or xs 0 d) ++ (codes ", " ++ (literal ++ after_commas (map f (rest_of xs)))))
 spaced-map-offset f [] d literal long = absurd (omega arith)
 spaced-map-offset f (x ∷ xs) d literal long =
     rw (rest_of-cons x xs) (ap (λ z. codes " " ++ z) (comma_joined-cons (f x) (literal ∷ map f xs)

@@ -14,8 +14,10 @@ abbrev made : (name : List ℕ) (params : List NameId) (names : Names) (blocks :
 made name params names blocks kept = record { name = name; params = params; names = names; blocks = blocks; well_formed = kept }
 
 -- one function is made of the parts, and another of equal ones
-same_made : (name : List ℕ) (params : List NameId) (names : Names) (blocks : List Block) (name' : List ℕ) (params' : List NameId) (names' : Names) (blocks' : List Block)
-    → name ≡ name' → params ≡ params' → names ≡ names' → blocks ≡ blocks' → (kept : Keeps name params names blocks) (kept' : Keeps name' params' names' blocks')
+same_made : (name : List ℕ) (params : List NameId) (names : Names) (blocks : List Block) (name' : List ℕ) (params' : List NameId)
+    (names' : Names) (blocks' : List Block)
+    → name ≡ name' → params ≡ params' → names ≡ names' → blocks ≡ blocks'
+    → (kept : Keeps name params names blocks) (kept' : Keeps name' params' names' blocks')
     → made name params names blocks kept ≡ made name' params' names' blocks' kept'
 same_made name params names blocks name' params' names' blocks' n p m b kept =
     subst (λ (x : List ℕ). (k : Keeps x params' names' blocks') → made name params names blocks kept ≡ made x params' names' blocks' k) n

@@ -66,7 +66,8 @@ callee_text (Some name) = codes " " ++ name
 
 abbrev pub op_line : Names → SrcOp → List ℕ
 op_line names o =
-    codes "  " ++ (result_text names o.dst ++ (source_name o.op ++ (callee_text o.callee ++ spaced (operand_texts o.op o (map (name_text names) o.srcs)))))
+    codes "  " ++ (result_text names o.dst ++
+    (source_name o.op ++ (callee_text o.callee ++ spaced (operand_texts o.op o (map (name_text names) o.srcs)))))
 
 abbrev pub label_in : Option Block → List ℕ
 label_in None = []

@@ -1,5 +1,6 @@
 -- What every function of the input language keeps: no text with a fault could give it.
-use Rattle.std.specs.Prelude.{ℕ, ◌≡◌, ◌≢◌, ◌<◌, ◌≤◌, Bool, true, false, List, Option, Some, None, is_some, map, length, slice_get, All, AllPairs, Contains}
+use Rattle.std.specs.Prelude.{ℕ, ◌≡◌, ◌≢◌, ◌<◌, ◌≤◌, Bool, true, false, List, Option, Some, None, is_some, map, length, slice_get, All}
+use Rattle.std.specs.Prelude.{AllPairs, Contains}
 use Rattle.std.specs.List.{flat_map}
 use Rattle.un_base.specs.Names.{is_name}
 use Rattle.un_base.specs.declared.ids.NameId.{NameId}

@@ -198,6 +198,51 @@ fn put_sense(out: &mut Vec<u8>, sense: bool) -> Result<(), NoMemory>
     if sense { Ok(()) } else { put_text(out, b"!") }
 }
 
+/// Appends the line of a jump.
+fn put_jump(out: &mut Vec<u8>, blocks: &[Block], to: BlockId) -> Result<(), NoMemory>
+    ensures { OnOk result
+        (out.new.items ≡ out.old.items ++ ended (codes "  jump " ++ label_of blocks.now to.0)) }
+{
+    put_text(out, b"  jump ")?;
+    put_label(out, blocks, to)?;
+    put_text(out, b"\n")
+}
+
+/// Appends the condition of a branch, from the indent on.
+fn put_condition(
+    out: &mut Vec<u8>,
+    names: &[(Name, Kind)],
+    pred: NameId,
+    sense: bool,
+) -> Result<(), NoMemory>
+    ensures { OnOk result (out.new.items ≡ out.old.items
+        ++ (codes "  if " ++ ((if sense then [] else codes "!") ++ name_text names.now pred))) }
+{
+    put_text(out, b"  if ")?;
+    put_sense(out, sense)?;
+    put_name(out, names, pred)
+}
+
+/// Appends the target of a branch and the end of its line.
+fn put_target(out: &mut Vec<u8>, blocks: &[Block], to: BlockId) -> Result<(), NoMemory>
+    ensures { OnOk result
+        (out.new.items ≡ out.old.items ++ ended (codes " jump " ++ label_of blocks.now to.0)) }
+{
+    put_text(out, b" jump ")?;
+    put_label(out, blocks, to)?;
+    put_text(out, b"\n")
+}
+
+/// Appends the line of a return with a value.
+fn put_value(out: &mut Vec<u8>, names: &[(Name, Kind)], name: NameId) -> Result<(), NoMemory>
+    ensures { OnOk result
+        (out.new.items ≡ out.old.items ++ ended (codes "  ret " ++ name_text names.now name)) }
+{
+    put_text(out, b"  ret ")?;
+    put_name(out, names, name)?;
+    put_text(out, b"\n")
+}
+
 /// Appends the line of a terminator, where it has one.
 fn put_term(
     out: &mut Vec<u8>,
@@ -210,25 +255,13 @@ fn put_term(
 {
     match term {
         Term::Fall => Ok(()),
-        Term::Jump(to) => {
-            put_text(out, b"  jump ")?;
-            put_label(out, blocks, to)?;
-            put_text(out, b"\n")
-        }
+        Term::Jump(to) => put_jump(out, blocks, to),
         Term::Branch { pred, sense, to } => {
-            put_text(out, b"  if ")?;
-            put_sense(out, sense)?;
-            put_name(out, names, pred)?;
-            put_text(out, b" jump ")?;
-            put_label(out, blocks, to)?;
-            put_text(out, b"\n")
+            put_condition(out, names, pred, sense)?;
+            put_target(out, blocks, to)
         }
         Term::Ret(None) => put_text(out, b"  ret\n"),
-        Term::Ret(Some(name)) => {
-            put_text(out, b"  ret ")?;
-            put_name(out, names, name)?;
-            put_text(out, b"\n")
-        }
+        Term::Ret(Some(name)) => put_value(out, names, name),
     }
 }
 
@@ -269,16 +302,25 @@ fn put_block(
     put_term(out, blocks, names, block.term)
 }
 
+/// Appends each parameter after a space.
+fn put_params(out: &mut Vec<u8>, names: &[(Name, Kind)], params: &[NameId]) -> Result<(), NoMemory>
+    ensures { OnOk result (out.new.items ≡ out.old.items
+        ++ flat_map (λ p. codes " " ++ name_text names.now p) params.now) }
+{
+    for param in params {
+        put_text(out, b" ")?;
+        put_name(out, names, *param)?;
+    }
+    Ok(())
+}
+
 /// Appends the line of a function.
 fn put_func_line(out: &mut Vec<u8>, f: &Function) -> Result<(), NoMemory>
     ensures { OnOk result (out.new.items ≡ out.old.items ++ ended (func_line f.now)) }
 {
     put_text(out, b"func ")?;
     put_text(out, f.name.as_bytes())?;
-    for param in f.params.as_slice() {
-        put_text(out, b" ")?;
-        put_name(out, f.names.as_slice(), *param)?;
-    }
+    put_params(out, f.names.as_slice(), f.params.as_slice())?;
     put_text(out, b"\n")
 }
 

@@ -1,5 +1,6 @@
 -- What stands before a line, one line further on.
-use Rattle.std.proofs.Common.{◌≡◌, ◌+◌, ◌++◌, false, cond, List, [], ◌∷◌, if◌then◌else◌, Option, Some, None, refl, ap, ◌∙◌, zero-add, append-nil, ◌≤◌, length}
+use Rattle.std.proofs.Common.{◌≡◌, ◌+◌, ◌++◌, false, cond, List, [], ◌∷◌, if◌then◌else◌, Option, Some, None, refl, ap, ◌∙◌, zero-add}
+use Rattle.std.proofs.Common.{append-nil, ◌≤◌, length}
 use Rattle.std.specs.List.{filter_map, flat_map, count_by, fold}
 use Rattle.std.specs.Option.{option_to_list, option_or}
 use Rattle.std.proofs.lemmas.List.Elements.{filter_map-append}
@@ -20,7 +21,8 @@ option_or_assoc (Some x) b c = refl
 
 name-push : (lines : List Line) (line : Line) → name_of (lines ++ line ∷ []) ≡ option_or (name_of lines) (name_on line)
 name-push [] line = option_or_none (name_on line)
-name-push (first ∷ lines) line = ap (λ o. option_or (name_on first) o) (name-push lines line) ∙ option_or_assoc (name_on first) (name_of lines) (name_on line)
+name-push (first ∷ lines) line =
+    ap (λ o. option_or (name_on first) o) (name-push lines line) ∙ option_or_assoc (name_on first) (name_of lines) (name_on line)
 
 to_list : {X : Type 0} (o : Option X) → filter_map (λ (y : Option X). y) (o ∷ []) ≡ option_to_list o
 to_list None = refl
@@ -31,14 +33,18 @@ labels-push lines line = filter_map-append label_on lines (line ∷ []) ∙ ap (
 
 names-push : (lines : List Line) (line : Line) → names_of (lines ++ line ∷ []) ≡ fold add_name (names_of lines) (names_on line)
 names-push lines line =
-    ap (λ (ns : List Spelled). fold add_name [] ns) (flat_map-append names_on lines (line ∷ []) ∙ ap (λ (ns : List Spelled). flat_map names_on lines ++ ns) (append-nil (names_on line)))
+    ap (λ (ns : List Spelled). fold add_name [] ns)
+    (flat_map-append names_on lines (line ∷ [])
+    ∙ ap (λ (ns : List Spelled). flat_map names_on lines ++ ns) (append-nil (names_on line)))
     ∙ fold-append add_name [] (flat_map names_on lines) (names_on line)
 
-ops-push : (lines : List Line) (line : Line) → count_by is_operation (lines ++ line ∷ []) ≡ count_by is_operation lines + (if is_operation line then 1 else 0)
+ops-push : (lines : List Line) (line : Line)
+    → count_by is_operation (lines ++ line ∷ []) ≡ count_by is_operation lines + (if is_operation line then 1 else 0)
 ops-push lines line =
     sum_by-append (λ x. cond (is_operation x) 1 0) lines (line ∷ []) ∙ ap (λ n. count_by is_operation lines + n) (zero-add _)
 
-ended-push : (lines : List Line) (line : Line) → fold ended_after false (lines ++ line ∷ []) ≡ ended_after (fold ended_after false lines) line
+ended-push : (lines : List Line) (line : Line)
+    → fold ended_after false (lines ++ line ∷ []) ≡ ended_after (fold ended_after false lines) line
 ended-push lines line = fold-append ended_after false lines (line ∷ [])
 
 pub before_of_push : (lines : List Line) (line : Line) → before_of (lines ++ line ∷ []) ≡ noted (before_of lines) line

@@ -1,5 +1,6 @@
 -- The lines that were read, one more, and all.
-use Rattle.std.proofs.Common.{◌≡◌, ℕ, ◌+◌, ◌<◌, ◌++◌, List, [], ◌∷◌, Some, None, map, length, slice_get, refl, sym, ap, ◌∙◌, append_assoc, append-nil, below_more, arith, subst, true, false}
+use Rattle.std.proofs.Common.{◌≡◌, ℕ, ◌+◌, ◌<◌, ◌++◌, List, [], ◌∷◌, Some, None, map, length, slice_get, refl, sym, ap, ◌∙◌, append_assoc}
+use Rattle.std.proofs.Common.{append-nil, below_more, arith, subst, true, false}
 use Rattle.std.proofs.lemmas.List.{map_push, take_at, length_push, length-map}
 use Rattle.std.specs.List.{list_all}
 use Rattle.un_base.specs.Lines.{pieces_of}
@@ -39,10 +40,12 @@ seen_none all = record { front = []; split = refl; read = refl; good = λ k h. a
 
 module _ (all : List (List ℕ)) (lines : List Line) where
   -- the fault of the next line, by the lines that were read
-  pub fault_next : (bytes : List ℕ) (rest : List (List ℕ)) (s : Seen all lines (bytes ∷ rest)) → fault_at all (length s.front) ≡ line_fault (before_of lines) bytes
+  pub fault_next : (bytes : List ℕ) (rest : List (List ℕ)) (s : Seen all lines (bytes ∷ rest))
+      → fault_at all (length s.front) ≡ line_fault (before_of lines) bytes
   fault_next bytes rest s = rw (s.split, s.read) (next_fault s.front bytes rest)
 
-  pub seen_more : (bytes : List ℕ) (rest : List (List ℕ)) (line : Line) → Seen all lines (bytes ∷ rest) → line_fault (before_of lines) bytes ≡ None → line ≡ line_of bytes → Seen all (lines ++ line ∷ []) rest
+  pub seen_more : (bytes : List ℕ) (rest : List (List ℕ)) (line : Line) → Seen all lines (bytes ∷ rest)
+      → line_fault (before_of lines) bytes ≡ None → line ≡ line_of bytes → Seen all (lines ++ line ∷ []) rest
   seen_more bytes rest line s none is = record {
     front = s.front ++ bytes ∷ [];
     split = s.split ∙ sym (append_assoc s.front (bytes ∷ []) rest);
@@ -68,7 +71,8 @@ module _ (all : List (List ℕ)) (lines : List Line) where
   seen_lines rest empty s = s.read ∙ ap (map line_of) (sym (s.split ∙ ap (λ (r : List (List ℕ)). s.front ++ r) empty ∙ append-nil s.front))
 
   -- the next line has the first fault
-  pub seen_fault : (bytes : List ℕ) (rest : List (List ℕ)) (e : ReadError) → Seen all lines (bytes ∷ rest) → Tells (λ l fault. (l ≡ length lines + 1) × (line_fault (before_of lines) bytes ≡ Some fault)) e → Tells (IsFirstLineFault all) e
+  pub seen_fault : (bytes : List ℕ) (rest : List (List ℕ)) (e : ReadError) → Seen all lines (bytes ∷ rest)
+      → Tells (λ l fault. (l ≡ length lines + 1) × (line_fault (before_of lines) bytes ≡ Some fault)) e → Tells (IsFirstLineFault all) e
   seen_fault bytes rest NoMemory s t = tt
   seen_fault bytes rest (TextFault line code) s (fault, is, (number, here)) = (
     fault,
@@ -82,7 +86,8 @@ module _ (all : List (List ℕ)) (lines : List Line) where
   )
 
 -- the first line of a text
-first_line : (piece old new bytes : List ℕ) → pieces_of old ≡ piece ∷ pieces_of new → bytes ≡ without_comment (without_end piece) → lines_in old ≡ bytes ∷ lines_in new
+first_line : (piece old new bytes : List ℕ) → pieces_of old ≡ piece ∷ pieces_of new → bytes ≡ without_comment (without_end piece)
+    → lines_in old ≡ bytes ∷ lines_in new
 first_line piece old new bytes cut is = rw (cut, is) refl
 
 -- one line further on, by what is left of the text
@@ -103,11 +108,13 @@ fault_step all lines before piece old new bytes e s cut is same tells =
 
 -- ---- the faults that come before a shape
 
-pub told : (P : ℕ → Fault → Type 0) (line : ℕ) (fault : Fault) (e : ReadError) → e ≡ TextFault line (code_of fault) → P line fault → Tells P e
+pub told : (P : ℕ → Fault → Type 0) (line : ℕ) (fault : Fault) (e : ReadError) → e ≡ TextFault line (code_of fault) → P line fault
+    → Tells P e
 told P line fault e is p = subst (Tells P) (sym is) (fault, refl, p)
 
 pub bad_byte : (before : Before) (bytes : List ℕ) → list_all is_plain_byte bytes ≡ false → line_fault before bytes ≡ Some BadByte
 bad_byte before bytes h = rw h refl
 
-pub bad_line : (before : Before) (bytes : List ℕ) → list_all is_plain_byte bytes ≡ true → shape_of (tokens_of bytes) ≡ None → line_fault before bytes ≡ Some BadLine
+pub bad_line : (before : Before) (bytes : List ℕ) → list_all is_plain_byte bytes ≡ true → shape_of (tokens_of bytes) ≡ None
+    → line_fault before bytes ≡ Some BadLine
 bad_line before bytes h none = rw (h, none) refl

@@ -1,5 +1,6 @@
 -- Counts of lines without a fault, their labels, and the names on them.
-use Rattle.std.proofs.Common.{◌≡◌, ◌≢◌, ℕ, ◌+◌, ◌<◌, ◌≤◌, ◌++◌, false, cond, nat_le, List, [], ◌∷◌, length, if◌then◌else◌, sym, ◌∙◌, arith, subst, append_assoc, append-nil}
+use Rattle.std.proofs.Common.{◌≡◌, ◌≢◌, ℕ, ◌+◌, ◌<◌, ◌≤◌, ◌++◌, false, cond, nat_le, List, [], ◌∷◌, length, if◌then◌else◌, sym, ◌∙◌, arith}
+use Rattle.std.proofs.Common.{subst, append_assoc, append-nil}
 use Rattle.std.specs.List.{flat_map, count_by}
 use Rattle.std.specs.Str.{bytes_eq}
 use Rattle.std.proofs.lemmas.Bool.{le-leb, or_parts}
@@ -28,10 +29,12 @@ pub record AreGoodLabels (labels : List (List ℕ)) : Type 0 where
   pub apart : EachPair (λ (a b : List ℕ). a ≢ b) labels
   pub few : length labels ≤ BLOCKS
 
-label_added : (before : Before) (label : List ℕ) (freq : Number) → IsClean before (Block label freq) → AreGoodLabels before.labels → AreGoodLabels (before.labels ++ label ∷ [])
+label_added : (before : Before) (label : List ℕ) (freq : Number) → IsClean before (Block label freq) → AreGoodLabels before.labels
+    → AreGoodLabels (before.labels ++ label ∷ [])
 label_added before label freq c g = record {
   apart = EachPair-push (λ (a b : List ℕ). a ≢ b) before.labels label g.apart
-      (Each-weaken (λ (l : List ℕ). bytes_eq label l ≡ false) (λ (l : List ℕ). l ≢ label) other before.labels (Each-none (bytes_eq label) before.labels c.label));
+      (Each-weaken (λ (l : List ℕ). bytes_eq label l ≡ false) (λ (l : List ℕ). l ≢ label) other before.labels
+      (Each-none (bytes_eq label) before.labels c.label));
   few = let count = length-append before.labels (label ∷ []) in
       let room = below BLOCKS (length before.labels) (or_parts (is_over_limit before (Block label freq)) _ c.few).0 in
       omega (arith, count, room);
@@ -41,17 +44,23 @@ label_added before label freq c g = record {
     other l differs is = cc (sym differs ∙ (bytes_eq-Decides label l).1 (sym is))
 
 -- a line without a label changes nothing
-bare : (labels more : List (List ℕ)) → (AreGoodLabels (labels ++ []) → AreGoodLabels ((labels ++ []) ++ more)) → AreGoodLabels labels → AreGoodLabels (labels ++ more)
-bare labels more f g = subst (λ (ls : List (List ℕ)). AreGoodLabels (ls ++ more)) (append-nil labels) (f (subst AreGoodLabels (sym (append-nil labels)) g))
+bare : (labels more : List (List ℕ)) → (AreGoodLabels (labels ++ []) → AreGoodLabels ((labels ++ []) ++ more)) → AreGoodLabels labels
+    → AreGoodLabels (labels ++ more)
+bare labels more f g =
+    subst (λ (ls : List (List ℕ)). AreGoodLabels (ls ++ more)) (append-nil labels) (f (subst AreGoodLabels (sym (append-nil labels)) g))
 
-pub good_labels : (before : Before) (lines : List Line) → AreClean before lines → AreGoodLabels before.labels → AreGoodLabels (before.labels ++ labels_of lines)
+pub good_labels : (before : Before) (lines : List Line) → AreClean before lines → AreGoodLabels before.labels
+    → AreGoodLabels (before.labels ++ labels_of lines)
 good_labels before [] c g = rw (append-nil before.labels) g
 good_labels before (Blank ∷ lines) c g = bare before.labels (labels_of lines) (good_labels (noted before Blank) lines c.1) g
-good_labels before (Func name params ∷ lines) c g = bare before.labels (labels_of lines) (good_labels (noted before (Func name params)) lines c.1) g
+good_labels before (Func name params ∷ lines) c g =
+    bare before.labels (labels_of lines) (good_labels (noted before (Func name params)) lines c.1) g
 good_labels before (Block label freq ∷ lines) c g =
-    subst AreGoodLabels (append_assoc before.labels (label ∷ []) (labels_of lines)) (good_labels (noted before (Block label freq)) lines c.1 (label_added before label freq c.0 g))
+    subst AreGoodLabels (append_assoc before.labels (label ∷ []) (labels_of lines))
+    (good_labels (noted before (Block label freq)) lines c.1 (label_added before label freq c.0 g))
 good_labels before (Operation o ∷ lines) c g = bare before.labels (labels_of lines) (good_labels (noted before (Operation o)) lines c.1) g
-good_labels before (Terminator term ∷ lines) c g = bare before.labels (labels_of lines) (good_labels (noted before (Terminator term)) lines c.1) g
+good_labels before (Terminator term ∷ lines) c g =
+    bare before.labels (labels_of lines) (good_labels (noted before (Terminator term)) lines c.1) g
 
 -- ---- operations
 
@@ -65,11 +74,13 @@ op_room before (Operation o) c h =
     omega (arith, room)
 op_room before (Terminator term) c h = omega arith
 
-pub few_op_lines : (before : Before) (lines : List Line) → AreClean before lines → before.ops ≤ OPS → before.ops + count_by is_operation lines ≤ OPS
+pub few_op_lines : (before : Before) (lines : List Line) → AreClean before lines → before.ops ≤ OPS
+    → before.ops + count_by is_operation lines ≤ OPS
 few_op_lines before [] c h = omega arith
 few_op_lines before (line ∷ lines) c h =
     let rest = few_op_lines (noted before line) lines c.1 (op_room before line c.0 h) in
-    let count : count_by is_operation (line ∷ lines) ≡ (if is_operation line then 1 else 0) + count_by is_operation lines = sum_by-cons (λ (l : Line). cond (is_operation l) 1 0) line lines in
+    let count : count_by is_operation (line ∷ lines) ≡ (if is_operation line then 1 else 0) + count_by is_operation lines =
+    sum_by-cons (λ (l : Line). cond (is_operation l) 1 0) line lines in
     rw count (moved before.ops (if is_operation line then 1 else 0) (count_by is_operation lines) rest)
   where
     moved : (a b c : ℕ) → a + b + c ≤ OPS → a + (b + c) ≤ OPS
@@ -85,4 +96,6 @@ line_spelled _ s = tt
 
 pub lines_spelled : (before : Before) (lines : List Line) → AreClean before lines → Each IsSpelled (flat_map names_on lines)
 lines_spelled before [] c = tt
-lines_spelled before (line ∷ lines) c = Each-append IsSpelled (names_on line) (flat_map names_on lines) (line_spelled line c.0.shaped) (lines_spelled (noted before line) lines c.1)
+lines_spelled before (line ∷ lines) c =
+    Each-append IsSpelled (names_on line) (flat_map names_on lines) (line_spelled line c.0.shaped)
+    (lines_spelled (noted before line) lines c.1)

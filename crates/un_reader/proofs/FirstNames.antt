@@ -1,5 +1,6 @@
 -- Names at their first appearance: their places, and the numbers that follow from these.
-use Rattle.std.proofs.Common.{◌≡◌, ◌≢◌, ℕ, zero, suc, ◌+◌, ◌<◌, ◌≤◌, ◌++◌, ◌||◌, Bool, true, false, nat_eq, List, [], ◌∷◌, Some, map, length, slice_get, if◌then◌else◌, refl, sym, ap, ◌∙◌, arith, subst, append-nil, append_assoc}
+use Rattle.std.proofs.Common.{◌≡◌, ◌≢◌, ℕ, zero, suc, ◌+◌, ◌<◌, ◌≤◌, ◌++◌, ◌||◌, Bool, true, false, nat_eq, List, [], ◌∷◌, Some, map}
+use Rattle.std.proofs.Common.{length, slice_get, if◌then◌else◌, refl, sym, ap, ◌∙◌, arith, subst, append-nil, append_assoc}
 use Rattle.std.proofs.Math.Numerals.{one-add}
 use Rattle.std.specs.List.{list_any, fold, position_or_len, range_with_len}
 use Rattle.std.specs.Str.{bytes_eq}
@@ -57,16 +58,19 @@ pub place_kept : {X : Type 0} (p : X → Bool) (xs ys : List X) → list_any p x
 place_kept p [] ys h = absurd (cc h)
 place_kept p (x ∷ xs) ys h = by (λ t. place_kept p xs ys t) (p x) refl h
   where
-    by : (list_any p xs ≡ true → position_or_len p (xs ++ ys) ≡ position_or_len p xs) → (v : Bool) → p x ≡ v → (v || list_any p xs) ≡ true → position_or_len p ((x ∷ xs) ++ ys) ≡ position_or_len p (x ∷ xs)
+    by : (list_any p xs ≡ true → position_or_len p (xs ++ ys) ≡ position_or_len p xs) → (v : Bool) → p x ≡ v → (v || list_any p xs) ≡ true
+        → position_or_len p ((x ∷ xs) ++ ys) ≡ position_or_len p (x ∷ xs)
     by later true e hyp = rw e refl
     by later false e hyp = let r = later hyp in rw e (omega (arith, r))
 
 -- a new name has the next place
-pub place_new : {X : Type 0} (p : X → Bool) (xs : List X) (y : X) (ys : List X) → list_any p xs ≡ false → p y ≡ true → position_or_len p (xs ++ (y ∷ ys)) ≡ length xs
+pub place_new : {X : Type 0} (p : X → Bool) (xs : List X) (y : X) (ys : List X) → list_any p xs ≡ false → p y ≡ true
+    → position_or_len p (xs ++ (y ∷ ys)) ≡ length xs
 place_new p [] y ys h is = rw is refl
 place_new p (x ∷ xs) y ys h is = by (λ t. place_new p xs y ys t is) (p x) refl h
   where
-    by : (list_any p xs ≡ false → position_or_len p (xs ++ (y ∷ ys)) ≡ length xs) → (v : Bool) → p x ≡ v → (v || list_any p xs) ≡ false → position_or_len p ((x ∷ xs) ++ (y ∷ ys)) ≡ length (x ∷ xs)
+    by : (list_any p xs ≡ false → position_or_len p (xs ++ (y ∷ ys)) ≡ length xs) → (v : Bool) → p x ≡ v → (v || list_any p xs) ≡ false
+        → position_or_len p ((x ∷ xs) ++ (y ∷ ys)) ≡ length (x ∷ xs)
     by later true e hyp = absurd (cc hyp)
     by later false e hyp = let r = later hyp in rw e (omega (arith, r))
 
@@ -128,7 +132,8 @@ numbered_apart seen [] s = s
 numbered_apart seen (x ∷ xs) s = numbered_apart (add_name seen x) xs (by (list_any (same_name x) seen) refl)
   where
     other : (y : Spelled) → same_name x y ≡ false → y ≢ x
-    other y un is = let has : same_name x y ≡ true = subst (λ (z : Spelled). same_name x z ≡ true) (sym is) (name_itself x) in cc (sym un ∙ has)
+    other y un is =
+        let has : same_name x y ≡ true = subst (λ (z : Spelled). same_name x z ≡ true) (sym is) (name_itself x) in cc (sym un ∙ has)
 
     by : (v : Bool) → list_any (same_name x) seen ≡ v → AreApart (if v then seen else seen ++ x ∷ [])
     by true e = s
@@ -141,7 +146,8 @@ range_has : (a n k : ℕ) → a ≤ k → k < a + n → list_any (nat_eq k) (ran
 range_has a zero k low high = absurd (omega arith)
 range_has a (suc n) k low high = by (λ (t : a + 1 ≤ k). range_has (a + 1) n k t (omega arith)) (nat_eq k a) refl
   where
-    by : (a + 1 ≤ k → list_any (nat_eq k) (range_with_len (a + 1) n) ≡ true) → (v : Bool) → nat_eq k a ≡ v → (v || list_any (nat_eq k) (range_with_len (a + 1) n)) ≡ true
+    by : (a + 1 ≤ k → list_any (nat_eq k) (range_with_len (a + 1) n) ≡ true) → (v : Bool) → nat_eq k a ≡ v
+        → (v || list_any (nat_eq k) (range_with_len (a + 1) n)) ≡ true
     by later true e = refl
     by later false e = let apart : k ≢ a = λ is. cc (sym e ∙ same k a is) in later (omega arith)
       where
@@ -164,25 +170,31 @@ length_more (x ∷ xs) y = ap suc (length_more xs y)
 numbers_from : (seen xs names : List Spelled) → names ≡ numbered seen xs
     → fold see (range_with_len 0 (length seen)) (map (name_id names) xs) ≡ range_with_len 0 (length names)
 numbers_from seen [] names is = ap (λ (ns : List Spelled). range_with_len 0 (length ns)) (sym is)
-numbers_from seen (x ∷ xs) names is = by (numbers_from seen xs names) (numbers_from (seen ++ x ∷ []) xs names) (list_any (same_name x) seen) refl
+numbers_from seen (x ∷ xs) names is =
+    by (numbers_from seen xs names) (numbers_from (seen ++ x ∷ []) xs names) (list_any (same_name x) seen) refl
   where
     by : (names ≡ numbered seen xs → fold see (range_with_len 0 (length seen)) (map (name_id names) xs) ≡ range_with_len 0 (length names))
-        → (names ≡ numbered (seen ++ x ∷ []) xs → fold see (range_with_len 0 (length (seen ++ x ∷ []))) (map (name_id names) xs) ≡ range_with_len 0 (length names))
+        → (names ≡ numbered (seen ++ x ∷ []) xs
+        → fold see (range_with_len 0 (length (seen ++ x ∷ []))) (map (name_id names) xs) ≡ range_with_len 0 (length names))
         → (v : Bool) → list_any (same_name x) seen ≡ v
         → fold see (see (range_with_len 0 (length seen)) (name_id names x)) (map (name_id names) xs) ≡ range_with_len 0 (length names)
     by old new true e =
         let whole : names ≡ numbered seen xs = is ∙ ap (λ (v : Bool). numbered (if v then seen else seen ++ x ∷ []) xs) e in
         let front = numbered_front seen xs in
-        let place : (name_id names x).0 ≡ position_or_len (same_name x) seen = ap (position_or_len (same_name x)) (whole ∙ front.is) ∙ place_kept (same_name x) seen front.more e in
+        let place : (name_id names x).0 ≡ position_or_len (same_name x) seen =
+        ap (position_or_len (same_name x)) (whole ∙ front.is) ∙ place_kept (same_name x) seen front.more e in
         let below : position_or_len (same_name x) seen < length seen = (name_placed seen x e).below in
-        let has : list_any (nat_eq (name_id names x).0) (range_with_len 0 (length seen)) ≡ true = range_has 0 (length seen) (name_id names x).0 (omega arith) (omega (arith, place, below)) in
+        let has : list_any (nat_eq (name_id names x).0) (range_with_len 0 (length seen)) ≡ true =
+        range_has 0 (length seen) (name_id names x).0 (omega arith) (omega (arith, place, below)) in
         rw has (old whole)
     by old new false e =
         let whole : names ≡ numbered (seen ++ x ∷ []) xs = is ∙ ap (λ (v : Bool). numbered (if v then seen else seen ++ x ∷ []) xs) e in
         let front = numbered_front (seen ++ x ∷ []) xs in
         let cut : names ≡ seen ++ (x ∷ front.more) = whole ∙ front.is ∙ append_assoc seen (x ∷ []) front.more in
-        let place : (name_id names x).0 ≡ length seen = ap (position_or_len (same_name x)) cut ∙ place_new (same_name x) seen x front.more e (name_itself x) in
-        let lacks : list_any (nat_eq (name_id names x).0) (range_with_len 0 (length seen)) ≡ false = range_lacks 0 (length seen) (name_id names x).0 (omega (arith, place)) in
+        let place : (name_id names x).0 ≡ length seen =
+        ap (position_or_len (same_name x)) cut ∙ place_new (same_name x) seen x front.more e (name_itself x) in
+        let lacks : list_any (nat_eq (name_id names x).0) (range_with_len 0 (length seen)) ≡ false =
+        range_lacks 0 (length seen) (name_id names x).0 (omega (arith, place)) in
         let more : range_with_len 0 (length seen) ++ (name_id names x).0 ∷ [] ≡ range_with_len 0 (length (seen ++ x ∷ [])) =
         range_push 0 (length seen) (name_id names x).0 (omega (arith, place)) ∙ ap (range_with_len 0) (sym (length_more seen x)) in
         rw (lacks, more) (new whole)

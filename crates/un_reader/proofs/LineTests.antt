@@ -1,5 +1,6 @@
 -- Lines without a fault, each with what stands before it.
-use Rattle.std.proofs.Common.{◌≡◌, ℕ, ◌++◌, Bool, true, false, List, [], ◌∷◌, Option, Some, None, map, length, if◌then◌else◌, refl, sym, ap, ◌∙◌, arith, subst, append_assoc}
+use Rattle.std.proofs.Common.{◌≡◌, ℕ, ◌++◌, Bool, true, false, List, [], ◌∷◌, Option, Some, None, map, length, if◌then◌else◌, refl, sym, ap}
+use Rattle.std.proofs.Common.{◌∙◌, arith, subst, append_assoc}
 use Rattle.std.specs.List.{list_all}
 use Rattle.std.proofs.lemmas.List.{map_push, length-append}
 use Rattle.un_reader.specs.declared.fault.Fault.{Fault}
@@ -10,7 +11,8 @@ use Rattle.un_words.specs.Tokens.{tokens_of}
 use Rattle.un_words.specs.Shapes.{shape_of, line_of}
 use Rattle.un_reader.specs.Before.{before_of}
 use Rattle.un_reader.specs.Noted.{noted}
-use Rattle.un_reader.specs.LineFaults.{is_plain_byte, is_misplaced, has_clash, has_too_many, is_wide, has_bad_freq, repeats_label, is_before_block, is_after_end, faults_on, first_of, shaped_fault, line_fault}
+use Rattle.un_reader.specs.LineFaults.{is_plain_byte, is_misplaced, has_clash, has_too_many, is_wide, has_bad_freq, repeats_label}
+use Rattle.un_reader.specs.LineFaults.{is_before_block, is_after_end, faults_on, first_of, shaped_fault, line_fault}
 use Rattle.un_reader.specs.Lines.{HasNoLineFault}
 use Rattle.un_reader.proofs.BeforeLaws.{before_of_push}
 use Rattle.un_reader.proofs.CheckLaws.{next_fault}
@@ -57,7 +59,8 @@ line_clean before bytes h = by (list_all is_plain_byte bytes) (shape_of (tokens_
           unended = t.1.1.1.1.1.1.1.0;
         }
 
-    by : (plain : Bool) (shape : Option Line) → shape_of (tokens_of bytes) ≡ shape → (if plain then shaped_fault before shape else Some BadByte) ≡ None → IsClean before (line_of bytes)
+    by : (plain : Bool) (shape : Option Line) → shape_of (tokens_of bytes) ≡ shape
+        → (if plain then shaped_fault before shape else Some BadByte) ≡ None → IsClean before (line_of bytes)
     by false shape e hyp = absurd (cc hyp)
     by true None e hyp = absurd (cc hyp)
     by true (Some line) e hyp = let shaped = line_shaped bytes in let same = rw e at shaped in rw e (tested line same hyp)
@@ -65,7 +68,8 @@ line_clean before bytes h = by (list_all is_plain_byte bytes) (shape_of (tokens_
 -- the lines behind a front
 clean_from : (front rest : List (List ℕ)) → HasNoLineFault (front ++ rest) → AreClean (before_of (map line_of front)) (map line_of rest)
 clean_from front [] good = tt
-clean_from front (bytes ∷ rest) good = by (clean_from (front ++ bytes ∷ []) rest (subst HasNoLineFault (sym (append_assoc front (bytes ∷ []) rest)) good))
+clean_from front (bytes ∷ rest) good =
+    by (clean_from (front ++ bytes ∷ []) rest (subst HasNoLineFault (sym (append_assoc front (bytes ∷ []) rest)) good))
   where
     none : line_fault (before_of (map line_of front)) bytes ≡ None
     none = sym (next_fault front bytes rest) ∙ good (length front) (let count = length-append front (bytes ∷ rest) in omega (arith, count))
@@ -73,7 +77,8 @@ clean_from front (bytes ∷ rest) good = by (clean_from (front ++ bytes ∷ []) 
     after : before_of (map line_of (front ++ bytes ∷ [])) ≡ noted (before_of (map line_of front)) (line_of bytes)
     after = ap before_of (map_push line_of front bytes) ∙ before_of_push (map line_of front) (line_of bytes)
 
-    by : AreClean (before_of (map line_of (front ++ bytes ∷ []))) (map line_of rest) → AreClean (before_of (map line_of front)) (line_of bytes ∷ map line_of rest)
+    by : AreClean (before_of (map line_of (front ++ bytes ∷ []))) (map line_of rest)
+        → AreClean (before_of (map line_of front)) (line_of bytes ∷ map line_of rest)
     by later = (line_clean (before_of (map line_of front)) bytes none, subst (λ (b : Before). AreClean b (map line_of rest)) after later)
 
 pub all_clean : (all : List (List ℕ)) → HasNoLineFault all → AreClean (before_of []) (map line_of all)

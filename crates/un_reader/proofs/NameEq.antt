@@ -1,5 +1,6 @@
 -- Equality of names as the index of names has it.
-use Rattle.std.proofs.Common.{◌≡◌, ℕ, ◌+◌, ◌-◌, ◌≤◌, ◌++◌, ◌&&◌, ◌||◌, not, Bool, true, false, nat_eq, nat_lt, cond, if◌then◌else◌, List, [], ◌∷◌, Some, None, length, take, replicate, arith, refl, sym, ap, ◌∙◌}
+use Rattle.std.proofs.Common.{◌≡◌, ℕ, ◌+◌, ◌-◌, ◌≤◌, ◌++◌, ◌&&◌, ◌||◌, not, Bool, true, false, nat_eq, nat_lt, cond, if◌then◌else◌, List}
+use Rattle.std.proofs.Common.{[], ◌∷◌, Some, None, length, take, replicate, arith, refl, sym, ap, ◌∙◌}
 use Rattle.std.specs.List.{list_any, position_or_len, position}
 use Rattle.std.proofs.lemmas.Bool.Decides.{nat_tests}
 use Rattle.std.proofs.lemmas.List.Sums.{prefix_len-le-length}
@@ -24,16 +25,23 @@ same_truth false false f g = refl
 
 front_of : (a b : List ℕ) → padded a ≡ padded b → length a ≡ length b → a ≡ b
 front_of a b same long =
-    sym (take-append_seam a (replicate (32 - length a) 0)) ∙ ap (take (length a)) same ∙ ap (λ (n : ℕ). take n (padded b)) long ∙ take-append_seam b (replicate (32 - length b) 0)
+    sym (take-append_seam a (replicate (32 - length a) 0)) ∙ ap (take (length a)) same ∙ ap (λ (n : ℕ). take n (padded b)) long
+    ∙ take-append_seam b (replicate (32 - length b) 0)
 
 padded_eq : (a b : List ℕ) → (bytes_eq (padded a) (padded b) && nat_eq (length a) (length b)) ≡ bytes_eq a b
 padded_eq a b = same_truth _ _ forward backward
   where
     forward : (bytes_eq (padded a) (padded b) && nat_eq (length a) (length b)) ≡ true → bytes_eq a b ≡ true
-    forward h = let parts = and_parts _ _ h in (bytes_eq-Decides a b).1 (front_of a b ((bytes_eq-Decides (padded a) (padded b)).0 parts.0) ((Decides-eqb (length a) (length b)).0 parts.1))
+    forward h =
+        let parts = and_parts _ _ h in
+        (bytes_eq-Decides a b).1 (front_of a b ((bytes_eq-Decides (padded a) (padded b)).0 parts.0)
+        ((Decides-eqb (length a) (length b)).0 parts.1))
 
     backward : bytes_eq a b ≡ true → (bytes_eq (padded a) (padded b) && nat_eq (length a) (length b)) ≡ true
-    backward h = let e = (bytes_eq-Decides a b).0 h in rw e (ap (λ (x : Bool). x && nat_eq (length b) (length b)) ((bytes_eq-Decides (padded b) (padded b)).1 refl) ∙ (Decides-eqb (length b) (length b)).1 refl)
+    backward h =
+        let e = (bytes_eq-Decides a b).0 h in
+        rw e (ap (λ (x : Bool). x && nat_eq (length b) (length b)) ((bytes_eq-Decides (padded b) (padded b)).1 refl)
+        ∙ (Decides-eqb (length b) (length b)).1 refl)
 
 kind_eq : (a b : Kind) → kind_ghosts.eq a b ≡ same_kind a b
 kind_eq General General = refl
@@ -42,19 +50,23 @@ kind_eq Pred General = refl
 kind_eq Pred Pred = refl
 
 pub spelled_eq : (a b : Spelled) → (name_ghosts.eq a.0 b.0 && kind_ghosts.eq a.1 b.1) ≡ same_name a b
-spelled_eq a b = ap (λ (x : Bool). x && kind_ghosts.eq a.1 b.1) (padded_eq a.0 b.0) ∙ ap (λ (x : Bool). bytes_eq a.0 b.0 && x) (kind_eq a.1 b.1)
+spelled_eq a b =
+    ap (λ (x : Bool). x && kind_ghosts.eq a.1 b.1) (padded_eq a.0 b.0) ∙ ap (λ (x : Bool). bytes_eq a.0 b.0 && x) (kind_eq a.1 b.1)
 
 -- the set's test of a name
 abbrev set_eq : Spelled → Spelled → Bool
 set_eq name y = name_ghosts.eq name.0 y.0 && kind_ghosts.eq name.1 y.1
 
-pub any_same : (name : Spelled) (names : List Spelled) → list_any (λ (y : Spelled). name_ghosts.eq name.0 y.0 && kind_ghosts.eq name.1 y.1) names ≡ list_any (same_name name) names
+pub any_same : (name : Spelled) (names : List Spelled)
+    → list_any (λ (y : Spelled). name_ghosts.eq name.0 y.0 && kind_ghosts.eq name.1 y.1) names ≡ list_any (same_name name) names
 any_same name [] = refl
 any_same name (n ∷ names) =
-    ap (λ (x : Bool). x || list_any (set_eq name) names) (spelled_eq name n) ∙ ap (λ (x : Bool). same_name name n || x) (any_same name names)
+    ap (λ (x : Bool). x || list_any (set_eq name) names) (spelled_eq name n)
+    ∙ ap (λ (x : Bool). same_name name n || x) (any_same name names)
 
 pub add_same : (names : List Spelled) (name : Spelled)
-    → (if list_any (λ (y : Spelled). name_ghosts.eq name.0 y.0 && kind_ghosts.eq name.1 y.1) names then names else names ++ name ∷ []) ≡ add_name names name
+    → (if list_any (λ (y : Spelled). name_ghosts.eq name.0 y.0 && kind_ghosts.eq name.1 y.1) names then names else names ++ name ∷ [])
+    ≡ add_name names name
 add_same names name = ap (λ (b : Bool). if b then names else names ++ name ∷ []) (any_same name names)
 
 place_same : (name : Spelled) (names : List Spelled) → position_or_len (set_eq name) names ≡ position_or_len (same_name name) names
@@ -63,16 +75,23 @@ place_same name (n ∷ names) =
     ap (λ (b : Bool). cond (not b) (1 + position_or_len (set_eq name) names) 0) (spelled_eq name n)
     ∙ ap (λ (k : ℕ). cond (not (same_name name n)) (1 + k) 0) (place_same name names)
 
-pub place_found : (name : Spelled) (names : List Spelled) (i : ℕ) → Some i ≡ position (λ (y : Spelled). name_ghosts.eq name.0 y.0 && kind_ghosts.eq name.1 y.1) names → i ≡ position_or_len (same_name name) names
+pub place_found : (name : Spelled) (names : List Spelled) (i : ℕ)
+    → Some i ≡ position (λ (y : Spelled). name_ghosts.eq name.0 y.0 && kind_ghosts.eq name.1 y.1) names
+    → i ≡ position_or_len (same_name name) names
 place_found name names i found = by (nat_lt (position_or_len (set_eq name) names) (length names)) found ∙ place_same name names
   where
     by : (v : Bool) → Some i ≡ cond v (Some (position_or_len (set_eq name) names)) None → i ≡ position_or_len (set_eq name) names
     by true e = cc
     by false e = absurd (cc e)
 
-pub place_missing : (name : Spelled) (names : List Spelled) → None ≡ position (λ (y : Spelled). name_ghosts.eq name.0 y.0 && kind_ghosts.eq name.1 y.1) names → length names ≡ position_or_len (same_name name) names
+pub place_missing : (name : Spelled) (names : List Spelled)
+    → None ≡ position (λ (y : Spelled). name_ghosts.eq name.0 y.0 && kind_ghosts.eq name.1 y.1) names
+    → length names ≡ position_or_len (same_name name) names
 place_missing name names none = by (nat_lt (position_or_len (set_eq name) names) (length names)) refl none ∙ place_same name names
   where
-    by : (v : Bool) → nat_lt (position_or_len (set_eq name) names) (length names) ≡ v → None ≡ cond v (Some (position_or_len (set_eq name) names)) None → length names ≡ position_or_len (set_eq name) names
+    by : (v : Bool) → nat_lt (position_or_len (set_eq name) names) (length names) ≡ v
+        → None ≡ cond v (Some (position_or_len (set_eq name) names)) None → length names ≡ position_or_len (set_eq name) names
     by true e f = absurd (cc f)
-    by false e f = let bound : position_or_len (set_eq name) names ≤ length names = prefix_len-le-length (λ (b : Spelled). not (set_eq name b)) names in grind (arith, nat_tests)
+    by false e f =
+        let bound : position_or_len (set_eq name) names ≤ length names =
+        prefix_len-le-length (λ (b : Spelled). not (set_eq name b)) names in grind (arith, nat_tests)

@@ -1,5 +1,6 @@
 -- An operation on a line without a fault keeps what every operation keeps, where its names have their places.
-use Rattle.std.proofs.Common.{◌≡◌, ◌≤◌, ◌++◌, true, false, not, List, [], ◌∷◌, Option, Some, None, map, length, if◌then◌else◌, refl, ap, ◌∙◌, arith}
+use Rattle.std.proofs.Common.{◌≡◌, ◌≤◌, ◌++◌, true, false, not, List, [], ◌∷◌, Option, Some, None, map, length, if◌then◌else◌, refl, ap}
+use Rattle.std.proofs.Common.{◌∙◌, arith}
 use Rattle.std.specs.List.{list_any, zip}
 use Rattle.std.specs.Option.{option_map, option_map_or, option_to_list}
 use Rattle.std.proofs.lemmas.Bool.{or_parts}
@@ -36,7 +37,8 @@ pub word_kind : (k : Kind) → same_kind Pred k ≡ false → k ≡ General
 word_kind General h = refl
 word_kind Pred h = absurd (cc h)
 
-pub are_words : (names srcs : List Spelled) → Each (IsKnown names) srcs → list_any is_predicate srcs ≡ false → Each (IsOfKind names General) (map (name_id names) srcs)
+pub are_words : (names srcs : List Spelled) → Each (IsKnown names) srcs → list_any is_predicate srcs ≡ false
+    → Each (IsOfKind names General) (map (name_id names) srcs)
 are_words names [] known clash = tt
 are_words names (x ∷ srcs) known clash =
     let one = or_parts (is_predicate x) (list_any is_predicate srcs) clash in
@@ -53,11 +55,13 @@ fixed_read names (s ∷ spaces) [] count clash known = absurd (omega arith)
 fixed_read names (s ∷ spaces) (x ∷ srcs) count clash known =
     let one = or_parts (misfits s x) (list_any (λ (p : Space × Spelled). misfits p.0 p.1) (zip spaces srcs)) clash in
     let here : kind_of names (name_id names x) ≡ Some (kind_in s) = known.0 ∙ ap Some (kind_matches (kind_in s) x.1 one.0) in
-    let later : map (kind_of names) (map (name_id names) srcs) ≡ map Some (map kind_in spaces) = fixed_read names spaces srcs (omega (arith, count)) one.1 known.1 in
+    let later : map (kind_of names) (map (name_id names) srcs) ≡ map Some (map kind_in spaces) =
+    fixed_read names spaces srcs (omega (arith, count)) one.1 known.1 in
     cc
 
 are_read : (names : List Spelled) (operands : Operands) (srcs : List Spelled) → Counted operands (length srcs)
-    → (if takes_arguments operands then list_any is_predicate srcs else list_any (λ (p : Space × Spelled). misfits p.0 p.1) (zip (fixed_spaces operands) srcs)) ≡ false
+    → (if takes_arguments operands then list_any is_predicate srcs else list_any (λ (p : Space × Spelled). misfits p.0 p.1)
+    (zip (fixed_spaces operands) srcs)) ≡ false
     → length srcs ≤ PARAMS → Each (IsKnown names) srcs → AreRead names operands (map (name_id names) srcs)
 are_read names (Fixed spaces) srcs count clash few known = fixed_read names spaces srcs count clash known
 are_read names Arguments srcs count clash few known = (
@@ -67,7 +71,8 @@ are_read names Arguments srcs count clash few known = (
 
 -- ---- the result
 
-is_assigned : (names : List Spelled) (operands : Operands) (result : Option Space) (dst : Option Spelled) → Each (IsKnown names) (option_to_list dst)
+is_assigned : (names : List Spelled) (operands : Operands) (result : Option Space) (dst : Option Spelled)
+    → Each (IsKnown names) (option_to_list dst)
     → result_by (takes_arguments operands) result dst ≡ true
     → option_map_or (λ (name : Spelled). option_map_or (λ (space : Space). misfits space name) result false) dst false ≡ false
     → IsAssigned names operands result (option_map (name_id names) dst)
@@ -79,7 +84,8 @@ is_assigned names _ (Some space) (Some x) known fits clash = known.0 ∙ ap Some
 
 -- ---- the literal
 
-has_literal : (literal : Option Range) (n : Number) → option_map_or (λ (range : Range). fits_range range n) literal true ≡ true → LacksLiteral literal n
+has_literal : (literal : Option Range) (n : Number) → option_map_or (λ (range : Range). fits_range range n) literal true ≡ true
+    → LacksLiteral literal n
     → IsLiteralOf literal (literal_value n)
 has_literal None n fits lacks = ap literal_value lacks
 has_literal (Some range) n fits lacks = in_range range n fits
@@ -90,8 +96,11 @@ pub op_good : (names : List Spelled) (o : OpLine) → IsShapedOp o → Each (IsK
     → IsGoodOp names (op_of names o)
 op_good names o s known result operands few literal = record {
   op = s.text;
-  reads = are_read names (facts_of o.op).operands o.srcs s.count operands few (Each-right (IsKnown names) (option_to_list o.dst) o.srcs known);
-  assigns = is_assigned names (facts_of o.op).operands (result_space o.op) o.dst (Each-left (IsKnown names) (option_to_list o.dst) o.srcs known) s.result result;
+  reads =
+      are_read names (facts_of o.op).operands o.srcs s.count operands few (Each-right (IsKnown names) (option_to_list o.dst) o.srcs known);
+  assigns =
+      is_assigned names (facts_of o.op).operands (result_space o.op) o.dst
+      (Each-left (IsKnown names) (option_to_list o.dst) o.srcs known) s.result result;
   literal = has_literal (literal_range o.op) o.imm literal s.literal;
   callee = s.callee;
 }

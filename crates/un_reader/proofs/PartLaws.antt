@@ -24,7 +24,8 @@ pub record Parts (text : List ℕ) (name : List ℕ) (params : List NameId) (nam
 
 -- the same, by other words for the lines
 pub parts_of : (text : List ℕ) (lines : List Line) (name : List ℕ) (params : List NameId) (names : List Spelled) (blocks : List SourceBlock)
-    → HasNoLineFault (lines_in text) → lines ≡ shapes_in text → shape_fault lines ≡ None → ArePartsOf lines name params names blocks → Parts text name params names blocks
+    → HasNoLineFault (lines_in text) → lines ≡ shapes_in text → shape_fault lines ≡ None → ArePartsOf lines name params names blocks
+    → Parts text name params names blocks
 parts_of text lines name params names blocks good same none are = record {
   lines = good;
   whole = subst (λ (ls : List Line). shape_fault ls ≡ None) same none;
@@ -46,7 +47,8 @@ module _ (lines : List Line) (its_name : List ℕ) (params : List NameId) (names
       (subst (λ (x : List Spelled). IsLiveAtEntry (param_ids lines) x blocks name) (sym are.names)
       (subst (λ (x : List SourceBlock). IsLiveAtEntry (param_ids lines) (names_of lines) x name) (sym are.blocks) live))
 
-pub entry_fault : (text : List ℕ) (lines : List Line) (its_name : List ℕ) (params : List NameId) (names : List Spelled) (blocks : List SourceBlock) (place : ℕ)
+pub entry_fault : (text : List ℕ) (lines : List Line) (its_name : List ℕ) (params : List NameId) (names : List Spelled)
+    (blocks : List SourceBlock) (place : ℕ)
     → length text ≤ TEXT → Parts text its_name params names blocks → lines ≡ shapes_in text → place ≡ position_or_len is_block lines
     → (name : NameId) → IsLiveAtEntry params names blocks name → IsTextFault text (place + 1) LiveAtEntry
 entry_fault text lines its_name params names blocks place within parts same at name live =
@@ -59,18 +61,22 @@ pub parts_well_formed : (text : List ℕ) (its_name : List ℕ) (params : List N
     → Parts text its_name params names blocks → HasNoneLive params names blocks → IsWellFormed its_name params names blocks
 parts_well_formed text its_name params names blocks parts none = moved
     (well_formed (lines_in text) parts.lines parts.whole
-    (λ name number is_local live. none name (live_in_parts lines its_name params names blocks name parts.are (record { number = number; is_local = is_local; live = live }))))
+    (λ name number is_local live. none name
+    (live_in_parts lines its_name params names blocks name parts.are (record { number = number; is_local = is_local; live = live }))))
   where
     lines : List Line
     lines = shapes_in text
 
-    moved : IsWellFormed (unwrap_or (name_of lines) []) (param_ids lines) (names_of lines) (source_blocks lines) → IsWellFormed its_name params names blocks
+    moved : IsWellFormed (unwrap_or (name_of lines) []) (param_ids lines) (names_of lines) (source_blocks lines)
+        → IsWellFormed its_name params names blocks
     moved w =
         subst (λ (x : List ℕ). IsWellFormed x params names blocks) (sym parts.are.name)
         (subst (λ (x : List NameId). IsWellFormed (unwrap_or (name_of lines) []) x names blocks) (sym parts.are.params)
         (subst (λ (x : List Spelled). IsWellFormed (unwrap_or (name_of lines) []) (param_ids lines) x blocks) (sym parts.are.names)
-        (subst (λ (x : List SourceBlock). IsWellFormed (unwrap_or (name_of lines) []) (param_ids lines) (names_of lines) x) (sym parts.are.blocks) w)))
+        (subst (λ (x : List SourceBlock). IsWellFormed (unwrap_or (name_of lines) []) (param_ids lines) (names_of lines) x)
+        (sym parts.are.blocks) w)))
 
 -- lines are one function
 pub one_function : (lines : List Line) (f g : Function) → IsFunctionOf lines f → IsFunctionOf lines g → f ≡ g
-one_function lines f g a b = same_function f g (a.name ∙ sym b.name) (a.params ∙ sym b.params) (a.names ∙ sym b.names) (a.blocks ∙ sym b.blocks)
+one_function lines f g a b =
+    same_function f g (a.name ∙ sym b.name) (a.params ∙ sym b.params) (a.names ∙ sym b.names) (a.blocks ∙ sym b.blocks)

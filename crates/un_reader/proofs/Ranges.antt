@@ -1,5 +1,6 @@
 -- Literals in their ranges, from the tests on the numbers as they are written.
-use Rattle.std.proofs.Common.{◌≡◌, ℕ, pos, negsuc, zero, suc, ◌-◌, ◌%◌, ◌^◌, ◌<◌, ◌≤◌, ◌≤ℤ◌, ◌==◌, Bool, true, false, min, if◌then◌else◌, refl, ap, arith}
+use Rattle.std.proofs.Common.{◌≡◌, ℕ, pos, negsuc, zero, suc, ◌-◌, ◌%◌, ◌^◌, ◌<◌, ◌≤◌, ◌≤ℤ◌, ◌==◌, Bool, true, false, min, if◌then◌else◌}
+use Rattle.std.proofs.Common.{refl, ap, arith}
 use Rattle.std.specs.Int.{int_rem_euclid}
 use Rattle.std.proofs.lemmas.Int.{ints}
 use Rattle.std.proofs.lemmas.Bool.{and_parts}
@@ -69,7 +70,9 @@ to_word : (v : Bool) (k : ℕ) → k % 4 ≡ 0 → literal_value (number v k) �
 to_word true k h most room =
     let between = negated_between 4095 k (omega arith) in
     rw (small true k (omega arith)) (omega (arith, ints, between.1))
-to_word false k h most room = rw (small false k (omega arith)) (let below : k ≤ 4095 = omega (arith, ints, rw (small false k (omega arith)) at most) in omega (arith, ints))
+to_word false k h most room =
+    rw (small false k (omega arith)) (let below : k ≤ 4095 =
+    omega (arith, ints, rw (small false k (omega arith)) at most) in omega (arith, ints))
 
 by_parts : (range : Range) (v : Bool) (k : ℕ) → fits_range range (number v k) ≡ true → InRange range (literal_value (number v k))
 by_parts Signed16 v k h = signed 32767 v k (omega arith) h

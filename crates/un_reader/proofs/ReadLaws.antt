@@ -1,5 +1,7 @@
 -- What lines without a fault have: few names, a `func` line where there is a block line, and few blocks.
-use Rattle.std.proofs.Common.{◌≡◌, ℕ, zero, suc, ◌+◌, ◌≤◌, ◌||◌, ◌++◌, Bool, true, false, nat_lt, List, [], ◌∷◌, Option, Some, None, is_none, map, length, take, slice_get, get_or, if◌then◌else◌, append-nil, refl, sym, ap, ◌∙◌, arith, subst, add-one}
+use Rattle.std.proofs.Common.{◌≡◌, ℕ, zero, suc, ◌+◌, ◌≤◌, ◌||◌, ◌++◌, Bool, true, false, nat_lt, List, [], ◌∷◌, Option, Some, None}
+use Rattle.std.proofs.Common.{is_none, map, length, take, slice_get, get_or, if◌then◌else◌, append-nil, refl, sym, ap, ◌∙◌, arith, subst}
+use Rattle.std.proofs.Common.{add-one}
 use Rattle.std.specs.List.{list_all, cons_option}
 use Rattle.std.specs.Option.{option_or}
 use Rattle.std.proofs.lemmas.List.{take_more, map_push, take_all}
@@ -8,7 +10,8 @@ use Rattle.std.proofs.lemmas.Bool.Decides.{nat_tests}
 use Rattle.un_reader.specs.Vocabulary.{SourceBlock, Line, Func, Block, Spelled}
 use Rattle.un_ir.specs.declared.function.TheConstants.{NAMES}
 use Rattle.un_reader.specs.declared.fault.Fault.{Fault}
-use Rattle.un_reader.specs.declared.fault.Fault.TheVariants.{BadByte, BadLine, KindClash, TooMany, WideLiteral, BadFreq, DupLabel, NoBlock, AfterEnd}
+use Rattle.un_reader.specs.declared.fault.Fault.TheVariants.{BadByte, BadLine, KindClash, TooMany, WideLiteral, BadFreq, DupLabel, NoBlock}
+use Rattle.un_reader.specs.declared.fault.Fault.TheVariants.{AfterEnd}
 use Rattle.un_reader.specs.declared.before.Before.{Before}
 use Rattle.un_words.specs.Tokens.{tokens_of}
 use Rattle.un_words.specs.Shapes.{shape_of, line_of}
@@ -16,7 +19,8 @@ use Rattle.un_reader.specs.Before.{numbered, label_on, names_of, labels_of, befo
 use Rattle.un_words.specs.LineNames.{names_on}
 use Rattle.un_reader.specs.Noted.{noted}
 use Rattle.un_reader.specs.Named.{IsNamed}
-use Rattle.un_reader.specs.LineFaults.{is_plain_byte, is_misplaced, has_clash, is_over_limit, has_too_many, is_wide, has_bad_freq, repeats_label, is_before_block, is_after_end, first_of, shaped_fault, line_fault}
+use Rattle.un_reader.specs.LineFaults.{is_plain_byte, is_misplaced, has_clash, is_over_limit, has_too_many, is_wide, has_bad_freq}
+use Rattle.un_reader.specs.LineFaults.{repeats_label, is_before_block, is_after_end, first_of, shaped_fault, line_fault}
 use Rattle.un_reader.specs.Lines.{HasNoLineFault, IsFirstLineFault, shapes_in}
 use Rattle.un_reader.specs.TextFaults.{shape_fault}
 use Rattle.un_reader.specs.Functions.{block_on, blocks_of}
@@ -35,7 +39,8 @@ record NoFault (before : Before) (line : Line) : Type 0 where
   placed : is_misplaced before line ≡ false
   few : has_too_many before line ≡ false
 
-first_tests : (a b c : Bool) (rest : List (Bool × Fault)) → first_of ((a, BadLine) ∷ (b, KindClash) ∷ (c, TooMany) ∷ rest) ≡ None → (a ≡ false) × (c ≡ false)
+first_tests : (a b c : Bool) (rest : List (Bool × Fault)) → first_of ((a, BadLine) ∷ (b, KindClash) ∷ (c, TooMany) ∷ rest) ≡ None
+    → (a ≡ false) × (c ≡ false)
 first_tests true b c rest h = absurd (cc h)
 first_tests false true c rest h = absurd (cc h)
 first_tests false false true rest h = absurd (cc h)
@@ -44,12 +49,14 @@ first_tests false false false rest h = (refl, refl)
 no_fault : (before : Before) (bytes : List ℕ) → line_fault before bytes ≡ None → NoFault before (line_of bytes)
 no_fault before bytes h = by (list_all is_plain_byte bytes) (shape_of (tokens_of bytes)) refl h
   where
-    by : (plain : Bool) (shape : Option Line) → shape_of (tokens_of bytes) ≡ shape → (if plain then shaped_fault before shape else Some BadByte) ≡ None → NoFault before (line_of bytes)
+    by : (plain : Bool) (shape : Option Line) → shape_of (tokens_of bytes) ≡ shape
+        → (if plain then shaped_fault before shape else Some BadByte) ≡ None → NoFault before (line_of bytes)
     by false shape e hyp = absurd (cc hyp)
     by true None e hyp = absurd (cc hyp)
     by true (Some line) e hyp =
         let t = first_tests (is_misplaced before line) (has_clash line) (has_too_many before line)
-        ((is_wide line, WideLiteral) ∷ (has_bad_freq line, BadFreq) ∷ (repeats_label before line, DupLabel) ∷ (is_before_block before line, NoBlock) ∷ (is_after_end before line, AfterEnd) ∷ []) hyp in
+        ((is_wide line, WideLiteral) ∷ (has_bad_freq line, BadFreq) ∷ (repeats_label before line, DupLabel) ∷
+        (is_before_block before line, NoBlock) ∷ (is_after_end before line, AfterEnd) ∷ []) hyp in
         rw e (record { placed = t.0; few = t.1 })
 
 or_false_right : (a b : Bool) → (a || b) ≡ false → b ≡ false
@@ -98,7 +105,9 @@ kept_front all good (suc n) h = by (kept_front all good n (omega arith))
     none = let got : slice_get all n ≡ Some bytes = slice_get-get_or all n [] (omega arith) in let g = good n (omega arith) in rw got at g
 
     whole : map line_of (take (suc n) all) ≡ front ++ line_of bytes ∷ []
-    whole = let more : take (n + 1) all ≡ take n all ++ bytes ∷ [] = take_more all n [] (omega arith) in let more' = rw add-one at more in ap (map line_of) more' ∙ map_push line_of (take n all) bytes
+    whole =
+        let more : take (n + 1) all ≡ take n all ++ bytes ∷ [] = take_more all n [] (omega arith) in let more' = rw add-one at more in
+        ap (map line_of) more' ∙ map_push line_of (take n all) bytes
 
     after : before_of (map line_of (take (suc n) all)) ≡ noted (before_of front) (line_of bytes)
     after = ap before_of whole ∙ before_of_push front (line_of bytes)
@@ -128,7 +137,8 @@ pub few_blocks : (names : List Spelled) (labels : List (List ℕ)) (lines : List
 few_blocks names labels [] = omega arith
 few_blocks names labels (line ∷ lines) = by (block_on names labels line lines) (few_blocks names labels lines)
   where
-    by : (o : Option SourceBlock) → length (blocks_of names labels lines) ≤ length lines → length (cons_option o (blocks_of names labels lines)) ≤ suc (length lines)
+    by : (o : Option SourceBlock) → length (blocks_of names labels lines) ≤ length lines
+        → length (cons_option o (blocks_of names labels lines)) ≤ suc (length lines)
     by None h = omega (arith, h)
     by (Some label) h = omega (arith, h)
 
@@ -138,14 +148,17 @@ unnamed lines none = rw none refl
 
 -- ---- faults of a text
 
-pub line_told : (text : List ℕ) (e : ReadError) → length text ≤ TEXT → Tells (IsFirstLineFault (lines_in text)) e → Tells (IsTextFault text) e
+pub line_told : (text : List ℕ) (e : ReadError) → length text ≤ TEXT → Tells (IsFirstLineFault (lines_in text)) e
+    → Tells (IsTextFault text) e
 line_told text NoMemory within t = tt
 line_told text (TextFault line code) within (fault, is, first) = (fault, is, on_line line fault within first)
 
-pub whole_told : (text : List ℕ) (lines : List Line) (e : ReadError) → length text ≤ TEXT → HasNoLineFault (lines_in text) → lines ≡ shapes_in text
+pub whole_told : (text : List ℕ) (lines : List Line) (e : ReadError) → length text ≤ TEXT → HasNoLineFault (lines_in text)
+    → lines ≡ shapes_in text
     → Tells (λ line fault. shape_fault lines ≡ Some (line, fault)) e → Tells (IsTextFault text) e
 whole_told text lines NoMemory within good same t = tt
-whole_told text lines (TextFault line code) within good same (fault, is, there) = (fault, is, in_whole line fault within good (ap shape_fault (sym same) ∙ there))
+whole_told text lines (TextFault line code) within good same (fault, is, there) =
+    (fault, is, in_whole line fault within good (ap shape_fault (sym same) ∙ there))
 
 -- what is kept, at the lines and what stands before a line behind them
 pub kept_here : (text : List ℕ) (lines : List Line) → HasNoLineFault (lines_in text) → lines ≡ shapes_in text → Kept lines

@@ -1,5 +1,6 @@
 -- Whether a list has a name twice, with the names before a place seen.
-use Rattle.std.proofs.Common.{◌≡◌, ℕ, ◌+◌, ◌<◌, ◌++◌, ◌||◌, ◌&&◌, Bool, true, false, List, [], ◌∷◌, length, drop, get_or, add-one, refl, sym, ap, ◌∙◌, subst}
+use Rattle.std.proofs.Common.{◌≡◌, ℕ, ◌+◌, ◌<◌, ◌++◌, ◌||◌, ◌&&◌, Bool, true, false, List, [], ◌∷◌, length, drop, get_or, add-one, refl}
+use Rattle.std.proofs.Common.{sym, ap, ◌∙◌, subst}
 use Rattle.std.specs.List.{list_any}
 use Rattle.std.specs.Str.{bytes_eq}
 use Rattle.std.proofs.Math.Seq.{drop-cons}
@@ -54,8 +55,11 @@ or_again : (a b c : Bool) → ((a || b) || c) ≡ (a || (b || c))
 or_again true b c = refl
 or_again false b c = refl
 
-pub one_more : (seen : List Spelled) (n : Spelled) (names : List Spelled) → is_seen seen n ≡ false → repeats_after seen (n ∷ names) ≡ repeats_after (add_name seen n) names
-one_more seen n names new = rw new (sym (ap (λ (x : Bool). x || has_repeat names) (with_more seen n names) ∙ or_again (list_any (is_seen seen) names) (list_any (same_name n) names) (has_repeat names)))
+pub one_more : (seen : List Spelled) (n : Spelled) (names : List Spelled) → is_seen seen n ≡ false
+    → repeats_after seen (n ∷ names) ≡ repeats_after (add_name seen n) names
+one_more seen n names new =
+    rw new (sym (ap (λ (x : Bool). x || has_repeat names) (with_more seen n names)
+    ∙ or_again (list_any (is_seen seen) names) (list_any (same_name n) names) (has_repeat names)))
 
 pub found : (seen : List Spelled) (n : Spelled) (names : List Spelled) → is_seen seen n ≡ true → repeats_after seen (n ∷ names) ≡ true
 found seen n names old = rw old refl
@@ -63,7 +67,8 @@ found seen n names old = rw old refl
 pub go_on : (names seen : List Spelled) (i : ℕ) (n : Spelled) → i < length names → n ≡ get_or names i n → is_seen seen n ≡ false
     → has_repeat names ≡ repeats_after seen (drop i names) → has_repeat names ≡ repeats_after (add_name seen n) (drop (i + 1) names)
 go_on names seen i n below at new so_far =
-    so_far ∙ ap (repeats_after seen) (cut ∙ ap (λ (x : Spelled). x ∷ drop (i + 1) names) (sym at)) ∙ one_more seen n (drop (i + 1) names) new
+    so_far ∙ ap (repeats_after seen) (cut ∙ ap (λ (x : Spelled). x ∷ drop (i + 1) names) (sym at))
+    ∙ one_more seen n (drop (i + 1) names) new
   where
     cut : drop i names ≡ get_or names i n ∷ drop (i + 1) names
     cut = rw add-one (drop-cons names i n below)

@@ -1,5 +1,6 @@
 -- Where the lines without a fault stand: the names of the function appear in the order of the text.
-use Rattle.std.proofs.Common.{◌≡◌, ℕ, ◌<◌, ◌++◌, Bool, true, false, List, [], ◌∷◌, Option, Some, None, is_some, map, length, refl, sym, ap, ◌∙◌, arith, subst, append_assoc, append-nil}
+use Rattle.std.proofs.Common.{◌≡◌, ℕ, ◌<◌, ◌++◌, Bool, true, false, List, [], ◌∷◌, Option, Some, None, is_some, map, length, refl, sym, ap}
+use Rattle.std.proofs.Common.{◌∙◌, arith, subst, append_assoc, append-nil}
 use Rattle.std.specs.List.{flat_map}
 use Rattle.std.specs.Option.{option_map, option_or, option_to_list}
 use Rattle.std.proofs.lemmas.List.{map-append}
@@ -34,18 +35,24 @@ last_there : {X : Type 0} (xs : List X) (y : X) → 0 < length (xs ++ y ∷ [])
 last_there [] y = omega arith
 last_there (x ∷ xs) y = omega arith
 
-follows : (before : Before) (lines : List Line) → AreClean before lines → is_some before.name ≡ true → 0 < length before.labels → Follows before.ended lines
+follows : (before : Before) (lines : List Line) → AreClean before lines → is_some before.name ≡ true → 0 < length before.labels
+    → Follows before.ended lines
 follows before [] clean named begun = over
-follows before (Blank ∷ lines) (here, later) named begun = blank (follows (noted before Blank) lines later (still_some before.name None named) (longer before.labels [] begun))
-follows before (Func name params ∷ lines) (here, later) named begun = absurd (cc (sym named ∙ (or_parts (is_some before.name) _ here.placed).0))
+follows before (Blank ∷ lines) (here, later) named begun =
+    blank (follows (noted before Blank) lines later (still_some before.name None named) (longer before.labels [] begun))
+follows before (Func name params ∷ lines) (here, later) named begun =
+    absurd (cc (sym named ∙ (or_parts (is_some before.name) _ here.placed).0))
 follows before (Block label freq ∷ lines) (here, later) named begun =
-    block (follows (noted before (Block label freq)) lines later (still_some before.name None named) (longer before.labels (label ∷ []) begun))
+    block (follows (noted before (Block label freq)) lines later (still_some before.name None named)
+    (longer before.labels (label ∷ []) begun))
 follows before (Operation o ∷ lines) (here, later) named begun =
-    let rest : Follows before.ended lines = follows (noted before (Operation o)) lines later (still_some before.name None named) (longer before.labels [] begun) in
+    let rest : Follows before.ended lines =
+    follows (noted before (Operation o)) lines later (still_some before.name None named) (longer before.labels [] begun) in
     let unended : before.ended ≡ false = here.unended in
     subst (λ (e : Bool). Follows e (Operation o ∷ lines)) (sym unended) (operation (subst (λ (e : Bool). Follows e lines) unended rest))
 follows before (Terminator term ∷ lines) (here, later) named begun =
-    let rest : Follows true lines = follows (noted before (Terminator term)) lines later (still_some before.name None named) (longer before.labels [] begun) in
+    let rest : Follows true lines =
+    follows (noted before (Terminator term)) lines later (still_some before.name None named) (longer before.labels [] begun) in
     let unended : before.ended ≡ false = here.unended in
     subst (λ (e : Bool). Follows e (Terminator term ∷ lines)) (sym unended) (terminator rest)
 
@@ -61,7 +68,9 @@ module _ (names : List Spelled) (labels : List (List ℕ)) where
   op_names : (o : OpLine) → names_on_op (op_of names o) ≡ map (name_id names) (option_to_list o.dst ++ o.srcs)
   op_names o = by o.dst
     where
-      by : (dst : Option Spelled) → option_to_list (option_map (name_id names) dst) ++ map (name_id names) o.srcs ≡ map (name_id names) (option_to_list dst ++ o.srcs)
+      by : (dst : Option Spelled)
+          → option_to_list (option_map (name_id names) dst) ++ map (name_id names) o.srcs
+          ≡ map (name_id names) (option_to_list dst ++ o.srcs)
       by None = refl
       by (Some x) = refl
 
@@ -95,31 +104,41 @@ module _ (names : List Spelled) (labels : List (List ℕ)) where
       let rest = follows_names false lines f in
       let front = op_names o in
       let whole = line_more (Operation o) lines in
-      rw (append_assoc (names_on_op (op_of names o)) (flat_map names_on_op (ops_of names lines)) (read_by_term (term_by names labels (term_of lines))))
-      (append_assoc (names_on_op (op_of names o)) (body false lines) (later_names lines) ∙ ap (λ (ns : List NameId). names_on_op (op_of names o) ++ ns) rest ∙ ap (λ (ns : List NameId). ns ++ line_names lines) front ∙ sym whole)
+      rw (append_assoc (names_on_op (op_of names o)) (flat_map names_on_op (ops_of names lines))
+      (read_by_term (term_by names labels (term_of lines))))
+      (append_assoc (names_on_op (op_of names o)) (body false lines) (later_names lines)
+      ∙ ap (λ (ns : List NameId). names_on_op (op_of names o) ++ ns) rest ∙ ap (λ (ns : List NameId). ns ++ line_names lines) front
+      ∙ sym whole)
   follows_names false (Terminator term ∷ lines) (terminator f) =
       let rest = follows_names true lines f in
       let none = ended_ops f in
       let whole = line_more (Terminator term) lines in
-      let bare : later_names lines ≡ line_names lines = subst (λ (os : List _). flat_map names_on_op os ++ later_names lines ≡ line_names lines) none rest in
-      rw none (ap (λ (ns : List NameId). read_by_term (term_by names labels (Some term)) ++ ns) bare ∙ ap (λ (ns : List NameId). ns ++ line_names lines) (term_names term) ∙ sym whole)
+      let bare : later_names lines ≡ line_names lines =
+      subst (λ (os : List _). flat_map names_on_op os ++ later_names lines ≡ line_names lines) none rest in
+      rw none (ap (λ (ns : List NameId). read_by_term (term_by names labels (Some term)) ++ ns) bare
+      ∙ ap (λ (ns : List NameId). ns ++ line_names lines) (term_names term) ∙ sym whole)
   follows_names true (_ ∷ lines) f = elim f [ ]
 
   -- ---- the names of a function
 
-  begun_names : (before : Before) (lines : List Line) → AreClean before lines → is_some before.name ≡ true → before.labels ≡ [] → later_names lines ≡ line_names lines
+  begun_names : (before : Before) (lines : List Line) → AreClean before lines → is_some before.name ≡ true → before.labels ≡ []
+      → later_names lines ≡ line_names lines
   begun_names before [] clean named none = refl
-  begun_names before (Blank ∷ lines) (here, later) named none = begun_names (noted before Blank) lines later (still_some before.name None named) (append-nil before.labels ∙ none)
-  begun_names before (Func name params ∷ lines) (here, later) named none = absurd (cc (sym named ∙ (or_parts (is_some before.name) _ here.placed).0))
+  begun_names before (Blank ∷ lines) (here, later) named none =
+      begun_names (noted before Blank) lines later (still_some before.name None named) (append-nil before.labels ∙ none)
+  begun_names before (Func name params ∷ lines) (here, later) named none =
+      absurd (cc (sym named ∙ (or_parts (is_some before.name) _ here.placed).0))
   begun_names before (Block label freq ∷ lines) (here, later) named none =
-      follows_names false lines (follows (noted before (Block label freq)) lines later (still_some before.name None named) (last_there before.labels label))
+      follows_names false lines (follows (noted before (Block label freq)) lines later (still_some before.name None named)
+      (last_there before.labels label))
   begun_names before (_ ∷ lines) (here, later) named none = absurd (let first = here.inside in let wrong = rw none at first in cc wrong)
 
   -- the names of the function are those of the lines, in their order
   pub text_names : (before : Before) (lines : List Line) → AreClean before lines → before.name ≡ None → before.labels ≡ []
       → appearances (map (name_id names) (params_of lines)) (blocks_of names labels lines) ≡ map (name_id names) (flat_map names_on lines)
   text_names before [] clean unnamed none = refl
-  text_names before (Blank ∷ lines) (here, later) unnamed none = text_names (noted before Blank) lines later (rw unnamed refl) (append-nil before.labels ∙ none)
+  text_names before (Blank ∷ lines) (here, later) unnamed none =
+      text_names (noted before Blank) lines later (rw unnamed refl) (append-nil before.labels ∙ none)
   text_names before (Func name params ∷ lines) (here, later) unnamed none =
       let rest = begun_names (noted before (Func name params)) lines later (rw unnamed refl) (append-nil before.labels ∙ none) in
       ap (λ (ns : List NameId). map (name_id names) params ++ ns) rest ∙ sym (line_more (Func name params) lines)

@@ -1,7 +1,8 @@
 -- The numbers of the faults.
 use Rattle.std.specs.Prelude.{ℕ}
 use Rattle.un_reader.specs.declared.fault.Fault.{Fault}
-use Rattle.un_reader.specs.declared.fault.Fault.TheVariants.{BadByte, BadLine, WideLiteral, DupLabel, UnknownLabel, NoBlock, AfterEnd, FallsOff, JumpToEntry, KindClash, MixedResult, LiveAtEntry, TooMany, BadFreq}
+use Rattle.un_reader.specs.declared.fault.Fault.TheVariants.{BadByte, BadLine, WideLiteral, DupLabel, UnknownLabel, NoBlock, AfterEnd}
+use Rattle.un_reader.specs.declared.fault.Fault.TheVariants.{FallsOff, JumpToEntry, KindClash, MixedResult, LiveAtEntry, TooMany, BadFreq}
 
 abbrev pub code_of : Fault → ℕ
 code_of BadByte = 1

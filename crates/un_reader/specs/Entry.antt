@@ -1,5 +1,6 @@
 -- Liveness at the start of the entry.
-use Rattle.std.specs.Prelude.{ℕ, ◌+◌, ◌<◌, ◌||◌, ◌≡◌, Bool, true, false, nat_eq, List, [], ◌∷◌, length, Option, slice_get, unwrap_or, Contains, if◌then◌else◌}
+use Rattle.std.specs.Prelude.{ℕ, ◌+◌, ◌<◌, ◌||◌, ◌≡◌, Bool, true, false, nat_eq, List, [], ◌∷◌, length, Option, slice_get, unwrap_or}
+use Rattle.std.specs.Prelude.{Contains, if◌then◌else◌}
 use Rattle.std.specs.List.{list_any}
 use Rattle.std.specs.Option.{option_map_or}
 use Rattle.un_reader.specs.Vocabulary.{NameId, SrcOp, Term, Fall, Spelled}

@@ -1,9 +1,11 @@
 -- The function that lines are.
-use Rattle.std.specs.Prelude.{ℕ, zero, suc, ℤ, pos, negsuc, ◌≡◌, ◌-◌, ◌^◌, min, List, [], ◌∷◌, Option, Some, None, map, unwrap_or, if◌then◌else◌}
+use Rattle.std.specs.Prelude.{ℕ, zero, suc, ℤ, pos, negsuc, ◌≡◌, ◌-◌, ◌^◌, min, List, [], ◌∷◌, Option, Some, None, map, unwrap_or}
+use Rattle.std.specs.Prelude.{if◌then◌else◌}
 use Rattle.std.specs.List.{position_or_len, cons_option}
 use Rattle.std.specs.Option.{option_map}
 use Rattle.std.specs.Str.{bytes_eq}
-use Rattle.un_reader.specs.Vocabulary.{NameId, BlockId, SrcOp, Term, Fall, JumpTo, BranchTo, Return, SourceBlock, Number, OpLine, TermLine, Jump, Branch, Ret, Line, Func, Block, Operation, Spelled}
+use Rattle.un_reader.specs.Vocabulary.{NameId, BlockId, SrcOp, Term, Fall, JumpTo, BranchTo, Return, SourceBlock, Number, OpLine, TermLine}
+use Rattle.un_reader.specs.Vocabulary.{Jump, Branch, Ret, Line, Func, Block, Operation, Spelled}
 use Rattle.un_ir.specs.declared.function.Function.{Function}
 use Rattle.un_reader.specs.Before.{same_name, names_of, labels_of, name_of}
 use Rattle.un_reader.specs.TextFaults.{term_of}
@@ -25,7 +27,15 @@ abbrev pub literal_value : Number → ℤ
 literal_value n = if n.negative then negated (min n.size (2 ^ 31 - 1)) else pos (min n.size (2 ^ 31 - 1))
 
 abbrev pub op_of : List Spelled → OpLine → SrcOp
-op_of names o = record { op = o.op; dst = option_map (name_id names) o.dst; srcs = map (name_id names) o.srcs; imm = literal_value o.imm; callee = o.callee }
+op_of names o =
+    record {
+      op =
+          o.op;
+      dst = option_map (name_id names) o.dst;
+      srcs = map (name_id names) o.srcs;
+      imm = literal_value o.imm;
+      callee = o.callee;
+    }
 
 abbrev pub term_by : List Spelled → List (List ℕ) → Option TermLine → Term
 term_by names labels None = Fall
@@ -71,7 +81,8 @@ abbrev pub source_blocks : List Line → List SourceBlock
 source_blocks lines = blocks_of (names_of lines) (labels_of lines) lines
 
 -- the name, parameters, names and blocks that lines without a fault give
-pub record ArePartsOf (lines : List Line) (its_name : List ℕ) (its_params : List NameId) (its_names : List Spelled) (its_blocks : List SourceBlock) : Type 0 where
+pub record ArePartsOf (lines : List Line) (its_name : List ℕ) (its_params : List NameId) (its_names : List Spelled)
+    (its_blocks : List SourceBlock) : Type 0 where
   pub name : its_name ≡ unwrap_or (name_of lines) []
   pub params : its_params ≡ param_ids lines
   pub names : its_names ≡ names_of lines

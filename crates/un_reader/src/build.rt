@@ -203,23 +203,24 @@ fn find_params(alloc: Global, names: &Names, lines: &[Line]) -> Result<Items<Nam
 pub fn source_parts(
     alloc: Global,
     name: Name,
-    names: Names,
+    names: &Names,
     labels: &[Name],
     lines: &[Line],
 ) -> Result<Draft, NoMemory>
     requires name { name_of lines.now ≡ Some name }
-    requires names { names ≡ names_of lines.now }
+    requires names { names.now ≡ names_of lines.now }
     requires labels { labels.now ≡ labels_of lines.now }
-    requires few_names { length names < 2 ^ 32 }
+    requires few_names { length names.now < 2 ^ 32 }
     requires few_labels { length labels.now < 2 ^ 32 }
     ensures { IfOk result (λ d. ArePartsOf lines.now d.name d.params d.names d.blocks) }
 {
-    let params = find_params(alloc, &names, lines)?;
-    let blocks = source_blocks(alloc, &names, labels, lines)?;
+    let params = find_params(alloc, names, lines)?;
+    let blocks = source_blocks(alloc, names, labels, lines)?;
+    let names = names.to_items(alloc)?;
     Ok(Draft {
         name,
         params,
-        names: names.to_items(alloc)?,
+        names,
         blocks,
     })
 }

@@ -46,13 +46,13 @@ fn named_parts(
     alloc: Global,
     lines: &[Line],
     name: Name,
-    names: Names,
+    names: &Names,
     labels: &[Name],
 ) -> Result<Draft, ReadError>
     requires name { name_of lines.now ≡ Some name }
-    requires names { names ≡ names_of lines.now }
+    requires names { names.now ≡ names_of lines.now }
     requires labels { labels.now ≡ labels_of lines.now }
-    requires few_names { length names ≤ NAMES }
+    requires few_names { length names.now ≤ NAMES }
     requires few_labels { length labels.now ≤ TEXT }
     requires count { length lines.now ≤ TEXT }
     ensures good { IfOk result (λ d. shape_fault lines.now ≡ None) }
@@ -86,7 +86,7 @@ fn good_parts(alloc: Global, lines: &[Line], before: Before) -> Result<Draft, Re
     } = before;
     match name {
         None => Err(fault_of(lines.len() + 1, Fault::NoBlock)),
-        Some(name) => named_parts(alloc, lines, name, names, labels.as_slice()),
+        Some(name) => named_parts(alloc, lines, name, &names, labels.as_slice()),
     }
 }
 

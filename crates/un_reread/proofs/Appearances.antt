@@ -1,9 +1,11 @@
 -- The names of a text, each at its first appearance, are the names by their numbers.
-use Rattle.std.proofs.Common.{◌≡◌, ℕ, ◌+◌, ◌<◌, ◌||◌, ◌++◌, Bool, true, false, nat_eq, List, [], ◌∷◌, map, length, get_or, if◌then◌else◌, refl, sym, ap, ◌∙◌, arith}
+use Rattle.std.proofs.Common.{◌≡◌, ℕ, ◌+◌, ◌<◌, ◌||◌, ◌++◌, Bool, true, false, nat_eq, List, [], ◌∷◌, map, length, get_or, if◌then◌else◌}
+use Rattle.std.proofs.Common.{refl, sym, ap, ◌∙◌, arith}
 use Rattle.std.specs.List.{All, list_any, fold, range_with_len}
 use Rattle.std.proofs.lemmas.List.{map_push, ext_get_or}
 use Rattle.std.proofs.lemmas.List.Elements.{All-nil, All-cons, All-head, All-tail, All-push}
-use Rattle.std.proofs.lemmas.List.FromFn.{length-map-range_with_len, get_or-map-range_with_len, get_or-range_with_len, length-range_with_len}
+use Rattle.std.proofs.lemmas.List.FromFn.{length-map-range_with_len, get_or-map-range_with_len, get_or-range_with_len}
+use Rattle.std.proofs.lemmas.List.FromFn.{length-range_with_len}
 use Rattle.std.proofs.lemmas.Bool.Decides.{nat_tests}
 use Rattle.un_reader.specs.Vocabulary.{NameId, General, Spelled}
 use Rattle.un_ir.specs.Text.{Names}
@@ -29,13 +31,15 @@ found_below count m (n ∷ seen) h all = by (nat_eq m n) refl h (λ e. found_bel
 see_below : (count : ℕ) (seen : List ℕ) (name : NameId) → AreBelow count (see seen name) → AreBelow count seen × (name.0 < count)
 see_below count seen name h = by (list_any (nat_eq name.0) seen) refl h
   where
-    by : (v : Bool) → list_any (nat_eq name.0) seen ≡ v → AreBelow count (if v then seen else seen ++ name.0 ∷ []) → AreBelow count seen × (name.0 < count)
+    by : (v : Bool) → list_any (nat_eq name.0) seen ≡ v → AreBelow count (if v then seen else seen ++ name.0 ∷ [])
+        → AreBelow count seen × (name.0 < count)
     by true e hyp = (hyp, found_below count name.0 seen e hyp)
     by false e hyp =
         let t = all_parts (λ (k : ℕ). k < count) seen (name.0 ∷ []) hyp in
         (t.0, All-head (λ (k : ℕ). k < count) name.0 [] t.1)
 
-pub seen_below : (count : ℕ) (seen : List ℕ) (xs : List NameId) → AreBelow count (fold see seen xs) → AreBelow count seen × All (λ (x : NameId). x.0 < count) xs
+pub seen_below : (count : ℕ) (seen : List ℕ) (xs : List NameId) → AreBelow count (fold see seen xs)
+    → AreBelow count seen × All (λ (x : NameId). x.0 < count) xs
 seen_below count seen [] h = (h, All-nil (λ (x : NameId). x.0 < count))
 seen_below count seen (x ∷ xs) h =
     let t = seen_below count (see seen x) xs h in
@@ -63,7 +67,9 @@ add_is : (names : Names) → AreDistinct names → (seen : List ℕ) (name : Nam
     → add_name (map (at_place names) seen) (at_place names name.0) ≡ map (at_place names) (see seen name)
 add_is names distinct seen name all h = rw (any_same names distinct name.0 h seen all) (by (list_any (nat_eq name.0) seen))
   where
-    by : (v : Bool) → (if v then map (at_place names) seen else map (at_place names) seen ++ at_place names name.0 ∷ []) ≡ map (at_place names) (if v then seen else seen ++ name.0 ∷ [])
+    by : (v : Bool)
+        → (if v then map (at_place names) seen else map (at_place names) seen ++ at_place names name.0 ∷ [])
+        ≡ map (at_place names) (if v then seen else seen ++ name.0 ∷ [])
     by true = refl
     by false = sym (map_push (at_place names) seen name.0)
 
@@ -74,12 +80,14 @@ see_stays count seen name all h = by (list_any (nat_eq name.0) seen)
     by true = all
     by false = All-push (λ (k : ℕ). k < count) seen name.0 all h
 
-pub numbered_is : (names : Names) → AreDistinct names → (seen : List ℕ) (xs : List NameId) → AreBelow (length names) seen → All (IsPlace names) xs
+pub numbered_is : (names : Names) → AreDistinct names → (seen : List ℕ) (xs : List NameId) → AreBelow (length names) seen
+    → All (IsPlace names) xs
     → numbered (map (at_place names) seen) (map (spelled_at names) xs) ≡ map (at_place names) (fold see seen xs)
 numbered_is names distinct seen [] all places = refl
 numbered_is names distinct seen (x ∷ xs) all places =
     let h : IsPlace names x = All-head (IsPlace names) x xs places in
-    let step : add_name (map (at_place names) seen) (spelled_at names x) ≡ map (at_place names) (see seen x) = rw (spelled_is names x) (add_is names distinct seen x all h) in
+    let step : add_name (map (at_place names) seen) (spelled_at names x) ≡ map (at_place names) (see seen x) =
+    rw (spelled_is names x) (add_is names distinct seen x all h) in
     ap (λ (l : List Spelled). numbered l (map (spelled_at names) xs)) step
     ∙ numbered_is names distinct (see seen x) xs (see_stays (length names) seen x all h) (All-tail (IsPlace names) x xs places)
 

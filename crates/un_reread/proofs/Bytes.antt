@@ -1,5 +1,7 @@
 -- Lines without a line end, a comment or a byte that no text may have, and how they are cut from a text.
-use Rattle.std.proofs.Common.{◌≡◌, ◌≢◌, ℕ, zero, suc, ◌+◌, ◌-◌, ◌<◌, ◌≤◌, ◌==◌, Bool, true, false, ◌&&◌, ◌||◌, not, nat_lt, nat_le, List, [], ◌∷◌, ◌++◌, map, length, take, refl, ap, ◌∙◌, arith, All, flat_map, append_assoc, get_or, length-append, ne_eqb, one-add, lt-ltb}
+use Rattle.std.proofs.Common.{◌≡◌, ◌≢◌, ℕ, zero, suc, ◌+◌, ◌-◌, ◌<◌, ◌≤◌, ◌==◌, Bool, true, false, ◌&&◌, ◌||◌, not, nat_lt, nat_le, List}
+use Rattle.std.proofs.Common.{[], ◌∷◌, ◌++◌, map, length, take, refl, ap, ◌∙◌, arith, All, flat_map, append_assoc, get_or, length-append}
+use Rattle.std.proofs.Common.{ne_eqb, one-add, lt-ltb}
 use Rattle.std.specs.List.{list_all}
 use Rattle.std.proofs.lemmas.Bool.Decides.{nat_tests}
 use Rattle.std.proofs.lemmas.List.Elements.{All-cons, All-nil, All-head, All-tail}
@@ -62,7 +64,8 @@ clean_plain (b ∷ bs) h =
     let rest = clean_plain bs (clean_tail b bs h) in
     by (b == 9) low high rest
   where
-    by : (t : Bool) → nat_le 32 b ≡ true → nat_le b 126 ≡ true → list_all is_plain_byte bs ≡ true → ((t || (nat_le 32 b && nat_le b 126)) && list_all is_plain_byte bs) ≡ true
+    by : (t : Bool) → nat_le 32 b ≡ true → nat_le b 126 ≡ true → list_all is_plain_byte bs ≡ true
+        → ((t || (nat_le 32 b && nat_le b 126)) && list_all is_plain_byte bs) ≡ true
     by true low high rest = rest
     by false low high rest = rw (low, high, rest) refl
 
@@ -123,7 +126,9 @@ lines_read [] h = refl
 lines_read (line ∷ lines) h =
     let clean : IsClean line = All-head IsClean line lines h in
     let rest = lines_read lines (All-tail IsClean line lines h) in
-    let whole : (line ++ 10 ∷ []) ++ flat_map ended lines ≡ line ++ 10 ∷ flat_map ended lines = append_assoc line (10 ∷ []) (flat_map ended lines) in
-    let pieces : pieces_of (flat_map ended (line ∷ lines)) ≡ (line ++ 10 ∷ []) ∷ pieces_of (flat_map ended lines) = ap pieces_of whole ∙ pieces_of-line line (flat_map ended lines) (no_feed line clean) in
+    let whole : (line ++ 10 ∷ []) ++ flat_map ended lines ≡ line ++ 10 ∷ flat_map ended lines =
+    append_assoc line (10 ∷ []) (flat_map ended lines) in
+    let pieces : pieces_of (flat_map ended (line ∷ lines)) ≡ (line ++ 10 ∷ []) ∷ pieces_of (flat_map ended lines) =
+    ap pieces_of whole ∙ pieces_of-line line (flat_map ended lines) (no_feed line clean) in
     let first : cut (ended line) ≡ line = ap without_comment (end_cut line clean) ∙ no_comment line clean in
     ap (map cut) pieces ∙ ap (λ (l : List ℕ). l ∷ lines_in (flat_map ended lines)) first ∙ ap (λ (ls : List (List ℕ)). line ∷ ls) rest

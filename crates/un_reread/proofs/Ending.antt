@@ -1,5 +1,6 @@
 -- The last block ends with a jump or a return.
-use Rattle.std.proofs.Common.{◌≡◌, ℕ, suc, ◌+◌, ◌<◌, ◌++◌, true, false, List, [], ◌∷◌, Option, Some, None, map, length, drop, slice_get, if◌then◌else◌, refl, ap, ◌∙◌, arith, append-nil, add-one}
+use Rattle.std.proofs.Common.{◌≡◌, ℕ, suc, ◌+◌, ◌<◌, ◌++◌, true, false, List, [], ◌∷◌, Option, Some, None, map, length, drop, slice_get}
+use Rattle.std.proofs.Common.{if◌then◌else◌, refl, ap, ◌∙◌, arith, append-nil, add-one}
 use Rattle.std.specs.List.{All, fold, enumerate_from}
 use Rattle.std.specs.Option.{option_and_then}
 use Rattle.std.proofs.lemmas.List.{length-append}
@@ -23,7 +24,8 @@ later_stays n last [] all = refl
 later_stays n last (line ∷ lines) all =
     let e : is_block line ≡ false = All-head IsInside line lines all in
     let step : (if is_block line then Some n else last) ≡ last = rw e refl in
-    ap (λ (o : Option ℕ). fold later_block o (enumerate_from (n + 1) lines)) step ∙ later_stays (n + 1) last lines (All-tail IsInside line lines all)
+    ap (λ (o : Option ℕ). fold later_block o (enumerate_from (n + 1) lines)) step
+    ∙ later_stays (n + 1) last lines (All-tail IsInside line lines all)
 
 last_there : (n : ℕ) (last : Option ℕ) (front : List Line) (line : Line) (rest : List Line) → is_block line ≡ true → All IsInside rest
     → fold later_block last (enumerate_from n (front ++ line ∷ rest)) ≡ Some (n + length front)
@@ -39,7 +41,8 @@ drop_past : (front : List Line) (line : Line) (rest : List Line) → drop (suc (
 drop_past [] line rest = refl
 drop_past (first ∷ front) line rest = drop_past front line rest
 
-stays_none : (front : List Line) (line : Line) (rest : List Line) → is_block line ≡ true → All IsInside rest → ends_well (term_of rest) ≡ true → falls_off (front ++ line ∷ rest) ≡ None
+stays_none : (front : List Line) (line : Line) (rest : List Line) → is_block line ≡ true → All IsInside rest
+    → ends_well (term_of rest) ≡ true → falls_off (front ++ line ∷ rest) ≡ None
 stays_none front line rest is all well = by (last_block (front ++ line ∷ rest)) place
   where
     place : last_block (front ++ line ∷ rest) ≡ Some (length front)
@@ -80,9 +83,11 @@ inside_term : (blocks : List SourceBlock) (names : Names) (term : Term) → All 
 inside_term blocks names Fall = All-nil IsInside
 inside_term blocks names _ = All-cons IsInside _ [] refl (All-nil IsInside)
 
-ends : (blocks : List SourceBlock) (names : Names) (b : ℕ) (term : Term) → length blocks ≡ b + 1 → LeadsInside blocks b term → ends_well (term_of (term_as_lines blocks names term)) ≡ true
+ends : (blocks : List SourceBlock) (names : Names) (b : ℕ) (term : Term) → length blocks ≡ b + 1 → LeadsInside blocks b term
+    → ends_well (term_of (term_as_lines blocks names term)) ≡ true
 ends blocks names b Fall count h = let t = All-head (λ (c : ℕ). (0 < c) × (c < length blocks)) (b + 1) [] h in absurd (omega arith)
-ends blocks names b (BranchTo pred sense to) count h = let t = All-head (λ (c : ℕ). (0 < c) × (c < length blocks)) (b + 1) (to.0 ∷ []) h in absurd (omega arith)
+ends blocks names b (BranchTo pred sense to) count h =
+    let t = All-head (λ (c : ℕ). (0 < c) × (c < length blocks)) (b + 1) (to.0 ∷ []) h in absurd (omega arith)
 ends blocks names b _ count h = refl
 
 -- the last block does not fall off the end
@@ -99,7 +104,8 @@ none_falls name params names blocks w = by (last_of blocks w.entry)
         let body : List Line = body_lines blocks names l.block in
         let front : List Line = first ∷ lines_of blocks names l.front in
         let count : length blocks ≡ length l.front + 1 = ap length l.split ∙ length-append l.front (l.block ∷ []) in
-        let got : slice_get blocks (length l.front) ≡ Some l.block = ap (λ (bs : List SourceBlock). slice_get bs (length l.front)) l.split ∙ got_last l.front l.block in
+        let got : slice_get blocks (length l.front) ≡ Some l.block =
+        ap (λ (bs : List SourceBlock). slice_get bs (length l.front)) l.split ∙ got_last l.front l.block in
         let whole : first ∷ lines_of blocks names blocks ≡ front ++ line ∷ body =
         ap (λ (bs : List SourceBlock). first ∷ lines_of blocks names bs) l.split
         ∙ ap (λ (ls : List Line). first ∷ ls) (flat_map-append (block_as_lines blocks names) l.front (l.block ∷ []))
@@ -109,5 +115,6 @@ none_falls name params names blocks w = by (last_of blocks w.entry)
         ∙ ends blocks names (length l.front) l.block.term count (w.leads (length l.front) l.block got) in
         ap falls_off whole
         ∙ stays_none front line body refl
-        (All-append IsInside (op_lines names l.block.ops) (term_as_lines blocks names l.block.term) (inside_ops names l.block.ops) (inside_term blocks names l.block.term))
+        (All-append IsInside (op_lines names l.block.ops) (term_as_lines blocks names l.block.term) (inside_ops names l.block.ops)
+        (inside_term blocks names l.block.term))
         term

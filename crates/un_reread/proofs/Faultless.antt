@@ -1,5 +1,6 @@
 -- Texts of lines that have no fault are lines of a text without a fault.
-use Rattle.std.proofs.Common.{◌≡◌, ℕ, zero, suc, Bool, true, List, [], ◌∷◌, Option, Some, None, map, take, slice_get, get_or, unwrap_or, if◌then◌else◌, refl, sym, ap, ◌∙◌}
+use Rattle.std.proofs.Common.{◌≡◌, ℕ, zero, suc, Bool, true, List, [], ◌∷◌, Option, Some, None, map, take, slice_get, get_or, unwrap_or}
+use Rattle.std.proofs.Common.{if◌then◌else◌, refl, sym, ap, ◌∙◌}
 use Rattle.std.specs.List.{All, list_all}
 use Rattle.std.proofs.lemmas.List.{take-map}
 use Rattle.std.proofs.lemmas.Option.{slice_get-get_or}
@@ -46,7 +47,8 @@ line_there (t ∷ texts) (line ∷ lines) h (suc k) text got =
     let rest : map (λ (l : List ℕ). shape_of (tokens_of l)) texts ≡ map Some lines = cc h in
     line_there texts lines rest k text got
 
-pub no_fault_at : (texts : List (List ℕ)) (lines : List Line) → AreReadAs texts lines → All IsOfPlainBytes texts → HaveNoFault lines → HasNoLineFault texts
+pub no_fault_at : (texts : List (List ℕ)) (lines : List Line) → AreReadAs texts lines → All IsOfPlainBytes texts → HaveNoFault lines
+    → HasNoLineFault texts
 no_fault_at texts lines read plain none k h = by (line_there texts lines read k text got)
   where
     text : List ℕ
@@ -64,7 +66,8 @@ no_fault_at texts lines read plain none k h = by (line_there texts lines read k 
     by : (line : Line) × (slice_get lines k ≡ Some line) × (shape_of (tokens_of text) ≡ Some line) → fault_at texts k ≡ None
     by (line, there, shape) =
         rw got
-        (ap (λ (b : Bool). if b then shaped_fault (before_of (map line_of (take k texts))) (shape_of (tokens_of text)) else Some BadByte) bytes
+        (ap (λ (b : Bool). if b then shaped_fault (before_of (map line_of (take k texts))) (shape_of (tokens_of text)) else
+        Some BadByte) bytes
         ∙ ap (λ (o : Option Line). shaped_fault (before_of (map line_of (take k texts))) o) shape
         ∙ ap (λ (ls : List Line). first_of (faults_on (before_of ls) line)) front
         ∙ none k line there)

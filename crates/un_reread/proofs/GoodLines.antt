@@ -5,11 +5,13 @@ use Rattle.std.specs.Option.{option_map}
 use Rattle.std.proofs.lemmas.List.{length-map}
 use Rattle.std.proofs.lemmas.List.Elements.{All-nil, All-cons, All-map, All-append, All-weaker}
 use Rattle.std.proofs.lemmas.Bool.Decides.{nat_tests}
-use Rattle.un_reader.specs.Vocabulary.{NameId, General, Pred, SrcOp, Term, Fall, JumpTo, BranchTo, Return, SourceBlock, Jump, Branch, Ret, Line, Func, Block, Operation, Terminator}
+use Rattle.un_reader.specs.Vocabulary.{NameId, General, Pred, SrcOp, Term, Fall, JumpTo, BranchTo, Return, SourceBlock, Jump, Branch, Ret}
+use Rattle.un_reader.specs.Vocabulary.{Line, Func, Block, Operation, Terminator}
 use Rattle.un_ir.specs.declared.function.TheConstants.{FREQUENCY, PARAMS}
 use Rattle.un_ir.specs.Text.{Names, label_of}
 use Rattle.un_ir.specs.WellFormed.{IsWellFormed, IsGoodOp, IsGoodBlock, TestsItsKind}
-use Rattle.un_reader.specs.LineFaults.{is_predicate, operands_clash, result_clashes, has_clash, is_wide, freq_fits, has_bad_freq, literal_fits}
+use Rattle.un_reader.specs.LineFaults.{is_predicate, operands_clash, result_clashes, has_clash, is_wide, freq_fits, has_bad_freq}
+use Rattle.un_reader.specs.LineFaults.{literal_fits}
 use Rattle.un_reread.specs.Printed.{spelled_at, as_number, op_as_line, term_as_lines, block_as_lines, printed_lines}
 use Rattle.un_reread.proofs.Lists.{all_of_flat}
 use Rattle.un_reread.proofs.Labels.{op_lines, body_lines, lines_of}
@@ -51,10 +53,12 @@ op_good names o good = record {
   often = refl;
 }
 
-easy : (line : Line) → has_clash line ≡ false → operands_over line ≡ false → is_wide line ≡ false → has_bad_freq line ≡ false → All IsGoodLine (line ∷ [])
+easy : (line : Line) → has_clash line ≡ false → operands_over line ≡ false → is_wide line ≡ false → has_bad_freq line ≡ false
+    → All IsGoodLine (line ∷ [])
 easy line a b c d = All-cons IsGoodLine line [] (record { agrees = a; few = b; fits = c; often = d }) (All-nil IsGoodLine)
 
-term_good : (blocks : List SourceBlock) (names : Names) (term : Term) → TestsItsKind names term → All IsGoodLine (term_as_lines blocks names term)
+term_good : (blocks : List SourceBlock) (names : Names) (term : Term) → TestsItsKind names term
+    → All IsGoodLine (term_as_lines blocks names term)
 term_good blocks names Fall h = All-nil IsGoodLine
 term_good blocks names (JumpTo to) h = easy (Terminator (Jump (label_of blocks to.0))) refl refl refl refl
 term_good blocks names (BranchTo pred sense to) h =
@@ -70,7 +74,8 @@ term_good blocks names (Return (Some name)) h =
 freq_good : (n : ℕ) → 1 ≤ n → n ≤ FREQUENCY → not (freq_fits (record { negative = false; size = n })) ≡ false
 freq_good n low high = grind (arith, nat_tests)
 
-block_good : (blocks : List SourceBlock) (names : Names) (block : SourceBlock) → IsGoodBlock names block → All IsGoodLine (block_as_lines blocks names block)
+block_good : (blocks : List SourceBlock) (names : Names) (block : SourceBlock) → IsGoodBlock names block
+    → All IsGoodLine (block_as_lines blocks names block)
 block_good blocks names block good =
     All-cons IsGoodLine (Block block.label (record { negative = false; size = block.freq })) (body_lines blocks names block)
     (record { agrees = refl; few = refl; fits = refl; often = freq_good block.freq good.freq.0 good.freq.1 })
@@ -85,4 +90,5 @@ lines_good name params names blocks w =
     All-cons IsGoodLine (Func name (map (spelled_at names) params)) (lines_of blocks names blocks)
     (func_good name params names blocks w)
     (all_of_flat IsGoodLine (block_as_lines blocks names) blocks
-    (All-weaker (IsGoodBlock names) (λ (b : SourceBlock). All IsGoodLine (block_as_lines blocks names b)) (block_good blocks names) blocks w.good_blocks))
+    (All-weaker (IsGoodBlock names) (λ (b : SourceBlock). All IsGoodLine (block_as_lines blocks names b))
+    (block_good blocks names) blocks w.good_blocks))

@@ -1,5 +1,6 @@
 -- Labels and their places: the targets of jumps are blocks of the function, and never the entry.
-use Rattle.std.proofs.Common.{◌≡◌, ◌≢◌, ℕ, zero, suc, ◌+◌, ◌<◌, ◌++◌, Bool, true, false, List, [], ◌∷◌, map, length, get_or, refl, sym, ap, arith}
+use Rattle.std.proofs.Common.{◌≡◌, ◌≢◌, ℕ, zero, suc, ◌+◌, ◌<◌, ◌++◌, Bool, true, false, List, [], ◌∷◌, map, length, get_or, refl, sym, ap}
+use Rattle.std.proofs.Common.{arith}
 use Rattle.std.specs.List.{All, AllPairs, list_any, position_or_len}
 use Rattle.std.specs.Str.{bytes_eq}
 use Rattle.std.proofs.lemmas.Slice.Eq.{bytes_eq-Decides}
@@ -21,7 +22,8 @@ labels blocks = map (λ (b : SourceBlock). b.label) blocks
 abbrev pub AreOnce : List (List ℕ) → Type 0
 AreOnce texts = AllPairs (λ (a b : List ℕ). a ≢ b) texts
 
-pub labels_once : (name : List ℕ) (params : List NameId) (names : Names) (blocks : List SourceBlock) → IsWellFormed name params names blocks → AreOnce (labels blocks)
+pub labels_once : (name : List ℕ) (params : List NameId) (names : Names) (blocks : List SourceBlock) → IsWellFormed name params names blocks
+    → AreOnce (labels blocks)
 labels_once name params names blocks w = pairs_map (λ (a b : List ℕ). a ≢ b) (λ (b : SourceBlock). b.label) blocks w.distinct_labels
 
 pub label_at : (blocks : List SourceBlock) (k : ℕ) → label_of blocks k ≡ get_or (labels blocks) k []
@@ -44,7 +46,8 @@ place_of texts once k h =
     (λ below. own_text (get_or texts k []))
 
 -- the place of a block's label
-pub block_back : (blocks : List SourceBlock) → AreOnce (labels blocks) → (to : BlockId) → to.0 < length blocks → block_id (labels blocks) (label_of blocks to.0) ≡ to
+pub block_back : (blocks : List SourceBlock) → AreOnce (labels blocks) → (to : BlockId) → to.0 < length blocks
+    → block_id (labels blocks) (label_of blocks to.0) ≡ to
 block_back blocks once to h =
     let len = length-map blocks (λ (b : SourceBlock). b.label) in
     let place = place_of (labels blocks) once to.0 (omega arith) in
@@ -57,7 +60,8 @@ label_known blocks k h =
     rw (label_at blocks k)
     (list_any_at (bytes_eq (get_or (labels blocks) k [])) (labels blocks) k [] (omega arith) (own_text (get_or (labels blocks) k [])))
 
-pub not_entry : (blocks : List SourceBlock) → AreOnce (labels blocks) → (k : ℕ) → 0 < k → k < length blocks → is_entry (labels blocks) (label_of blocks k) ≡ false
+pub not_entry : (blocks : List SourceBlock) → AreOnce (labels blocks) → (k : ℕ) → 0 < k → k < length blocks
+    → is_entry (labels blocks) (label_of blocks k) ≡ false
 not_entry [] once k low high = absurd (omega arith)
 not_entry (b ∷ blocks) once k low high =
     let len = length-map (b ∷ blocks) (λ (x : SourceBlock). x.label) in
@@ -65,7 +69,8 @@ not_entry (b ∷ blocks) once k low high =
     (other_text (get_or (labels (b ∷ blocks)) k []) b.label (λ e. once 0 k [] low (omega arith) (sym e)))
 
 -- a label has not stood before
-pub label_new : (front : List (List ℕ)) (label : List ℕ) (rest : List (List ℕ)) → AreOnce (front ++ label ∷ rest) → list_any (bytes_eq label) front ≡ false
+pub label_new : (front : List (List ℕ)) (label : List ℕ) (rest : List (List ℕ)) → AreOnce (front ++ label ∷ rest)
+    → list_any (bytes_eq label) front ≡ false
 label_new front label rest once =
     list_any_none (bytes_eq label) front
     (λ k d h. other_text label (get_or front k d) (λ e. pairs_across (λ (a b : List ℕ). a ≢ b) front label rest once k d h (sym e)))
@@ -89,4 +94,5 @@ goes_inside blocks b _ h = tt
 pub go_inside : (name : List ℕ) (params : List NameId) (names : Names) (blocks : List SourceBlock) → IsWellFormed name params names blocks
     → All (λ (b : SourceBlock). GoesInside (length blocks) b.term) blocks
 go_inside name params names blocks w =
-    all_at (λ (b : SourceBlock). GoesInside (length blocks) b.term) blocks (λ k block got. goes_inside blocks k block.term (w.leads k block got))
+    all_at (λ (b : SourceBlock). GoesInside (length blocks) b.term) blocks
+    (λ k block got. goes_inside blocks k block.term (w.leads k block got))

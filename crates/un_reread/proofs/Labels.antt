@@ -28,32 +28,37 @@ lines_of blocks names some = flat_map (block_as_lines blocks names) some
 
 -- ---- names
 
-result_names : (names : Names) (dst : Option NameId) → option_to_list (option_map (spelled_at names) dst) ≡ map (spelled_at names) (option_to_list dst)
+result_names : (names : Names) (dst : Option NameId)
+    → option_to_list (option_map (spelled_at names) dst) ≡ map (spelled_at names) (option_to_list dst)
 result_names names None = refl
 result_names names (Some name) = refl
 
 names_of_op : (names : Names) (o : SrcOp) → names_on (Operation (op_as_line names o)) ≡ map (spelled_at names) (names_on_op o)
 names_of_op names o = rw result_names (sym (map-append (spelled_at names) (option_to_list o.dst) o.srcs))
 
-names_of_ops : (names : Names) (ops : List SrcOp) → flat_map names_on (op_lines names ops) ≡ map (spelled_at names) (flat_map names_on_op ops)
+names_of_ops : (names : Names) (ops : List SrcOp)
+    → flat_map names_on (op_lines names ops) ≡ map (spelled_at names) (flat_map names_on_op ops)
 names_of_ops names [] = refl
 names_of_ops names (o ∷ ops) =
     ap (λ (l : List Spelled). l ++ flat_map names_on (op_lines names ops)) (names_of_op names o)
     ∙ ap (λ (l : List Spelled). map (spelled_at names) (names_on_op o) ++ l) (names_of_ops names ops)
     ∙ sym (map-append (spelled_at names) (names_on_op o) (flat_map names_on_op ops))
 
-names_of_term : (blocks : List SourceBlock) (names : Names) (term : Term) → flat_map names_on (term_as_lines blocks names term) ≡ map (spelled_at names) (read_by_term term)
+names_of_term : (blocks : List SourceBlock) (names : Names) (term : Term)
+    → flat_map names_on (term_as_lines blocks names term) ≡ map (spelled_at names) (read_by_term term)
 names_of_term blocks names (Return (Some name)) = refl
 names_of_term blocks names _ = refl
 
-names_of_body : (blocks : List SourceBlock) (names : Names) (block : SourceBlock) → flat_map names_on (body_lines blocks names block) ≡ map (spelled_at names) (names_in_block block)
+names_of_body : (blocks : List SourceBlock) (names : Names) (block : SourceBlock)
+    → flat_map names_on (body_lines blocks names block) ≡ map (spelled_at names) (names_in_block block)
 names_of_body blocks names block =
     let ops = names_of_ops names block.ops in
     let term = names_of_term blocks names block.term in
     flat_map-append names_on (op_lines names block.ops) (term_as_lines blocks names block.term)
     ∙ rw (ops, term) (sym (map-append (spelled_at names) (flat_map names_on_op block.ops) (read_by_term block.term)))
 
-names_of_blocks : (blocks : List SourceBlock) (names : Names) (some : List SourceBlock) → flat_map names_on (lines_of blocks names some) ≡ map (spelled_at names) (flat_map names_in_block some)
+names_of_blocks : (blocks : List SourceBlock) (names : Names) (some : List SourceBlock)
+    → flat_map names_on (lines_of blocks names some) ≡ map (spelled_at names) (flat_map names_in_block some)
 names_of_blocks blocks names [] = refl
 names_of_blocks blocks names (block ∷ some) =
     flat_map-append names_on (block_as_lines blocks names block) (lines_of blocks names some)
@@ -86,7 +91,8 @@ labels_of_body blocks names block =
     let term = labels_of_term blocks names block.term in
     filter_map-append label_on (op_lines names block.ops) (term_as_lines blocks names block.term) ∙ rw (ops, term) refl
 
-pub labels_of_blocks : (blocks : List SourceBlock) (names : Names) (some : List SourceBlock) → labels_of (lines_of blocks names some) ≡ map (λ (b : SourceBlock). b.label) some
+pub labels_of_blocks : (blocks : List SourceBlock) (names : Names) (some : List SourceBlock)
+    → labels_of (lines_of blocks names some) ≡ map (λ (b : SourceBlock). b.label) some
 labels_of_blocks blocks names [] = refl
 labels_of_blocks blocks names (block ∷ some) =
     filter_map-append label_on (block_as_lines blocks names block) (lines_of blocks names some)

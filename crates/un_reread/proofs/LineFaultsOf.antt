@@ -1,5 +1,6 @@
 -- No printed line has a fault, by what stands before it.
-use Rattle.std.proofs.Common.{◌≡◌, ℕ, suc, ◌<◌, ◌≤◌, inl, inr, ◌||◌, ◌==◌, ◌++◌, Bool, true, false, nat_lt, nat_le, List, [], ◌∷◌, Some, None, map, length, take, drop, slice_get, refl, sym, ap, ◌∙◌, arith, subst}
+use Rattle.std.proofs.Common.{◌≡◌, ℕ, suc, ◌<◌, ◌≤◌, inl, inr, ◌||◌, ◌==◌, ◌++◌, Bool, true, false, nat_lt, nat_le, List, [], ◌∷◌, Some}
+use Rattle.std.proofs.Common.{None, map, length, take, drop, slice_get, refl, sym, ap, ◌∙◌, arith, subst}
 use Rattle.std.specs.List.{All, flat_map, list_any, count_by, fold}
 use Rattle.std.specs.Str.{bytes_eq}
 use Rattle.std.proofs.lemmas.List.{length-map}
@@ -12,7 +13,8 @@ use Rattle.un_ir.specs.WellFormed.{IsWellFormed}
 use Rattle.un_reader.specs.declared.before.Before.{Before}
 use Rattle.un_reader.specs.Before.{numbered, names_of, labels_of, is_operation, ended_after, before_of}
 use Rattle.un_words.specs.LineNames.{names_on}
-use Rattle.un_reader.specs.LineFaults.{is_misplaced, has_clash, is_over_limit, has_too_many, is_wide, has_bad_freq, repeats_label, is_before_block, is_after_end, faults_on, first_of}
+use Rattle.un_reader.specs.LineFaults.{is_misplaced, has_clash, is_over_limit, has_too_many, is_wide, has_bad_freq, repeats_label}
+use Rattle.un_reader.specs.LineFaults.{is_before_block, is_after_end, faults_on, first_of}
 use Rattle.un_reread.specs.Printed.{spelled_at, printed_lines}
 use Rattle.un_reread.proofs.Lists.{all_parts, around}
 use Rattle.un_reread.proofs.Labels.{lines_of, labels_back}
@@ -25,7 +27,8 @@ use Rattle.un_reread.proofs.Repeats.{params_once}
 
 -- ---- a line that passes all tests
 
-no_fault : (before : Before) (line : Line) → is_misplaced before line ≡ false → has_clash line ≡ false → has_too_many before line ≡ false → is_wide line ≡ false
+no_fault : (before : Before) (line : Line) → is_misplaced before line ≡ false → has_clash line ≡ false → has_too_many before line ≡ false
+    → is_wide line ≡ false
     → has_bad_freq line ≡ false → repeats_label before line ≡ false → is_before_block before line ≡ false → is_after_end before line ≡ false
     → first_of (faults_on before line) ≡ None
 no_fault before line a b c d e f g h = rw (a, b, c, d, e, f, g, h) refl
@@ -33,7 +36,8 @@ no_fault before line a b c d e f g h = rw (a, b, c, d, e, f, g, h) refl
 neither : (a b : Bool) → a ≡ false → b ≡ false → (a || b) ≡ false
 neither a b e f = rw (e, f) refl
 
-few : (before : Before) (line : Line) → is_over_limit before line ≡ false → length (numbered before.names (names_on line)) ≤ 40 → has_too_many before line ≡ false
+few : (before : Before) (line : Line) → is_over_limit before line ≡ false → length (numbered before.names (names_on line)) ≤ 40
+    → has_too_many before line ≡ false
 few before line a h =
     let b : nat_lt NAMES (length (numbered before.names (names_on line))) ≡ false = grind (arith, nat_tests) in
     neither (is_over_limit before line) (nat_lt NAMES (length (numbered before.names (names_on line)))) a b
@@ -41,24 +45,29 @@ few before line a h =
 -- ---- lines around a line
 
 module _ (name : List ℕ) (params : List NameId) (names : Names) (blocks : List SourceBlock) (w : IsWellFormed name params names blocks) where
-  good_at : (front : List Line) (line : Line) (rest : List Line) → printed_lines name params names blocks ≡ front ++ line ∷ rest → IsGoodLine line
+  good_at : (front : List Line) (line : Line) (rest : List Line) → printed_lines name params names blocks ≡ front ++ line ∷ rest
+      → IsGoodLine line
   good_at front line rest e =
-      All-head IsGoodLine line rest (all_parts IsGoodLine front (line ∷ rest) (subst (All IsGoodLine) e (lines_good name params names blocks w))).1
+      All-head IsGoodLine line rest (all_parts IsGoodLine front (line ∷ rest)
+      (subst (All IsGoodLine) e (lines_good name params names blocks w))).1
 
   names_few : (front : List Line) (line : Line) (rest : List Line) → printed_lines name params names blocks ≡ front ++ line ∷ rest
       → length (numbered (names_of front) (names_on line)) ≤ 40
   names_few front line rest e =
       let fewer = fewer_names front line rest in
-      let all : length (names_of (front ++ line ∷ rest)) ≡ length names = ap (λ (ls : List Line). length (names_of ls)) (sym e) ∙ ap length (names_back name params names blocks w) in
+      let all : length (names_of (front ++ line ∷ rest)) ≡ length names =
+      ap (λ (ls : List Line). length (names_of ls)) (sym e) ∙ ap length (names_back name params names blocks w) in
       let limit : length names ≤ 40 = w.few_names in
       omega arith
 
-  labels_few : (front : List Line) (label : List ℕ) (freq : Number) (rest : List Line) → printed_lines name params names blocks ≡ front ++ Block label freq ∷ rest
+  labels_few : (front : List Line) (label : List ℕ) (freq : Number) (rest : List Line)
+      → printed_lines name params names blocks ≡ front ++ Block label freq ∷ rest
       → length (labels_of front) < 16
   labels_few front label freq rest e =
       let fewer = fewer_labels front label freq rest in
       let all : length (labels_of (front ++ Block label freq ∷ rest)) ≡ length blocks =
-      ap (λ (ls : List Line). length (labels_of ls)) (sym e) ∙ ap length (labels_back name params names blocks) ∙ length-map blocks (λ (b : SourceBlock). b.label) in
+      ap (λ (ls : List Line). length (labels_of ls)) (sym e) ∙ ap length (labels_back name params names blocks)
+      ∙ length-map blocks (λ (b : SourceBlock). b.label) in
       let limit : length blocks ≤ 16 = w.few_blocks in
       omega arith
 
@@ -71,7 +80,8 @@ module _ (name : List ℕ) (params : List NameId) (names : Names) (blocks : List
       let limit : length (flat_map (λ (b : SourceBlock). b.ops) blocks) ≤ 80 = w.few_ops in
       omega arith
 
-  label_once : (front : List Line) (label : List ℕ) (freq : Number) (rest : List Line) → printed_lines name params names blocks ≡ front ++ Block label freq ∷ rest
+  label_once : (front : List Line) (label : List ℕ) (freq : Number) (rest : List Line)
+      → printed_lines name params names blocks ≡ front ++ Block label freq ∷ rest
       → list_any (bytes_eq label) (labels_of front) ≡ false
   label_once front label freq rest e =
       let there : labels_of front ++ label ∷ labels_of rest ≡ labels blocks =
@@ -98,7 +108,8 @@ module _ (name : List ℕ) (params : List NameId) (names : Names) (blocks : List
       before : Before
       before = before_of (first ∷ front)
 
-      whole : (l : Line) → lines_of blocks names blocks ≡ front ++ l ∷ rest → printed_lines name params names blocks ≡ (first ∷ front) ++ l ∷ rest
+      whole : (l : Line) → lines_of blocks names blocks ≡ front ++ l ∷ rest
+          → printed_lines name params names blocks ≡ (first ∷ front) ++ l ∷ rest
       whole l f = ap (λ (ls : List Line). first ∷ ls) f
 
       good : IsGoodLine line
@@ -113,7 +124,8 @@ module _ (name : List ℕ) (params : List NameId) (names : Names) (blocks : List
       lasts : fold open_after false front ≡ true → fold ended_after false front ≡ false
       lasts h = open_lasts front false false (λ f. refl) h
 
-      by : (l : Line) → lines_of blocks names blocks ≡ front ++ l ∷ rest → IsGoodLine l → MayStand (fold open_after false front) l → first_of (faults_on before l) ≡ None
+      by : (l : Line) → lines_of blocks names blocks ≡ front ++ l ∷ rest → IsGoodLine l → MayStand (fold open_after false front) l
+          → first_of (faults_on before l) ≡ None
       by Blank f g m = absurd m
       by (Func n ps) f g m = absurd m
       by (Block label freq) f g m =
@@ -126,7 +138,8 @@ module _ (name : List ℕ) (params : List NameId) (names : Names) (blocks : List
           let low = ops_few (first ∷ front) o rest (whole (Operation o) f) in
           let limit : nat_le OPS (count_by is_operation (first ∷ front)) ≡ false = grind (arith, nat_tests) in
           no_fault before (Operation o) refl g.agrees
-          (few before (Operation o) (neither (operands_over (Operation o)) (nat_le OPS (count_by is_operation (first ∷ front))) g.few limit) (names_few (first ∷ front) (Operation o) rest (whole (Operation o) f)))
+          (few before (Operation o) (neither (operands_over (Operation o)) (nat_le OPS (count_by is_operation (first ∷ front))) g.few limit)
+          (names_few (first ∷ front) (Operation o) rest (whole (Operation o) f)))
           g.fits refl refl (labelled m) (lasts m)
       by (Terminator term) f g m =
           no_fault before (Terminator term) refl g.agrees

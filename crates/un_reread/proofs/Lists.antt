@@ -43,7 +43,8 @@ all_flat P f (x ∷ xs) h =
     All-cons (λ y. All P (f y)) x xs t.0 (all_flat P f xs t.1)
 
 -- what holds of the values of each two elements holds of each two values
-pub pairs_map : {X Y : Type 0} (R : Y → Y → Type 0) (f : X → Y) (xs : List X) → AllPairs (λ (a b : X). R (f a) (f b)) xs → AllPairs R (map f xs)
+pub pairs_map : {X Y : Type 0} (R : Y → Y → Type 0) (f : X → Y) (xs : List X) → AllPairs (λ (a b : X). R (f a) (f b)) xs
+    → AllPairs R (map f xs)
 pairs_map R f [] h = λ i j d low high. absurd (omega arith)
 pairs_map R f (x ∷ xs) h =
     AllPairs-cons R (f x) (map f xs)

@@ -1,5 +1,6 @@
 -- Literals as they are written fit their operations, and have their values back.
-use Rattle.std.proofs.Common.{◌≡◌, ℕ, suc, ℤ, pos, negsuc, ◌+◌, ◌-◌, ◌^◌, ◌%◌, ◌<◌, ◌&&◌, ◌==◌, min, Bool, true, Option, Some, None, unsigned_abs, refl, arith}
+use Rattle.std.proofs.Common.{◌≡◌, ℕ, suc, ℤ, pos, negsuc, ◌+◌, ◌-◌, ◌^◌, ◌%◌, ◌<◌, ◌&&◌, ◌==◌, min, Bool, true, Option, Some, None}
+use Rattle.std.proofs.Common.{unsigned_abs, refl, arith}
 use Rattle.std.specs.Option.{option_map_or}
 use Rattle.std.proofs.lemmas.Int.{ints}
 use Rattle.std.proofs.lemmas.Bool.Decides.{nat_tests}
@@ -37,7 +38,8 @@ range_fits Offset (negsuc n) (low, high, words) = word_fits _ (n + 1) (above_fit
 range_fits FrameOffset (pos n) (low, high, words) = word_fits _ n (unsigned_fits 4096 n (omega (arith, ints))) (omega (arith, ints))
 range_fits _ (negsuc n) h = absurd (omega (arith, ints))
 
-fit_by : (literal : Option Range) (z : ℤ) → IsLiteralOf literal z → option_map_or (λ (range : Range). fits_range range (as_number z)) literal true ≡ true
+fit_by : (literal : Option Range) (z : ℤ) → IsLiteralOf literal z
+    → option_map_or (λ (range : Range). fits_range range (as_number z)) literal true ≡ true
 fit_by None z h = refl
 fit_by (Some range) z h = range_fits range z h
 

@@ -1,5 +1,6 @@
 -- The names of good operations and terminators are of the kinds of their places.
-use Rattle.std.proofs.Common.{◌≡◌, ℕ, ◌≤◌, false, not, List, [], ◌∷◌, Option, Some, None, map, length, slice_get, unwrap_or, if◌then◌else◌, refl, sym, ap, ◌∙◌, arith}
+use Rattle.std.proofs.Common.{◌≡◌, ℕ, ◌≤◌, false, not, List, [], ◌∷◌, Option, Some, None, map, length, slice_get, unwrap_or, if◌then◌else◌}
+use Rattle.std.proofs.Common.{refl, sym, ap, ◌∙◌, arith}
 use Rattle.std.specs.List.{All, list_any, zip}
 use Rattle.std.specs.Option.{option_map, option_map_or}
 use Rattle.std.proofs.lemmas.List.{length-map}
@@ -25,7 +26,8 @@ kind_is names name kind h = by (slice_get names name.0) h
     by None e = absurd (cc e)
     by (Some n) e = cc e
 
-pub words_only : (names : Names) (ids : List NameId) → All (IsOfKind names General) ids → list_any is_predicate (map (spelled_at names) ids) ≡ false
+pub words_only : (names : Names) (ids : List NameId) → All (IsOfKind names General) ids
+    → list_any is_predicate (map (spelled_at names) ids) ≡ false
 words_only names [] all = refl
 words_only names (id ∷ ids) all =
     let here : (spelled_at names id).1 ≡ General = kind_is names id General (All-head (IsOfKind names General) id ids all) in
@@ -54,12 +56,15 @@ module _ (names : Names) where
   agree_by (Fixed spaces) srcs h = fixed_agree spaces srcs h
   agree_by Arguments srcs h = words_only names srcs h.0
 
-  pub operands_agree : (op : Op) (srcs : List NameId) → ReadsItsKinds names op srcs → operands_clash op (map (spelled_at names) srcs) ≡ false
+  pub operands_agree : (op : Op) (srcs : List NameId) → ReadsItsKinds names op srcs
+      → operands_clash op (map (spelled_at names) srcs) ≡ false
   operands_agree op srcs h = agree_by (facts_of op).operands srcs h
 
-  pub same_count : (spaces : List Space) (srcs : List NameId) → map (kind_of names) srcs ≡ map Some (map kind_in spaces) → length srcs ≡ length spaces
+  pub same_count : (spaces : List Space) (srcs : List NameId) → map (kind_of names) srcs ≡ map Some (map kind_in spaces)
+      → length srcs ≡ length spaces
   same_count spaces srcs h =
-      sym (length-map srcs (kind_of names)) ∙ ap length h ∙ length-map (map kind_in spaces) (λ (k : Kind). Some k) ∙ length-map spaces kind_in
+      sym (length-map srcs (kind_of names)) ∙ ap length h ∙ length-map (map kind_in spaces) (λ (k : Kind). Some k)
+      ∙ length-map spaces kind_in
 
   few_by : (operands : Operands) (srcs : List NameId) → length (fixed_spaces operands) ≤ 5 → AreRead names operands srcs → length srcs ≤ 6
   few_by (Fixed spaces) srcs few h = let e = same_count spaces srcs h in omega (arith, e)
@@ -75,11 +80,13 @@ module _ (names : Names) where
   -- ---- results
 
   result_by : (operands : Operands) (result : Option Space) (dst : Option NameId) → IsAssigned names operands result dst
-      → option_map_or (λ (name : Spelled). option_map_or (λ (space : Space). misfits space name) result false) (option_map (spelled_at names) dst) false ≡ false
+      → option_map_or (λ (name : Spelled). option_map_or (λ (space : Space). misfits space name) result false)
+      (option_map (spelled_at names) dst) false ≡ false
   result_by operands None (Some name) h = refl
   result_by (Fixed spaces) (Some space) (Some name) h = fits space name h
   result_by Arguments (Some space) (Some name) h = fits space name h
   result_by operands _ None h = refl
 
-  pub result_agrees : (op : Op) (dst : Option NameId) → AssignsItsKind names op dst → result_clashes op (option_map (spelled_at names) dst) ≡ false
+  pub result_agrees : (op : Op) (dst : Option NameId) → AssignsItsKind names op dst
+      → result_clashes op (option_map (spelled_at names) dst) ≡ false
   result_agrees op dst h = result_by (facts_of op).operands (result_space op) dst h

@@ -1,5 +1,6 @@
 -- The words that names are: without a sigil, with one, and behind an exclamation mark.
-use Rattle.std.proofs.Common.{◌≡◌, ℕ, ◌<◌, ◌≤◌, ◌==◌, Bool, true, false, ◌&&◌, nat_lt, nat_le, List, [], ◌∷◌, length, slice_index, refl, sym, ap, ◌∙◌, arith, ne_eqb, true≢false}
+use Rattle.std.proofs.Common.{◌≡◌, ℕ, ◌<◌, ◌≤◌, ◌==◌, Bool, true, false, ◌&&◌, nat_lt, nat_le, List, [], ◌∷◌, length, slice_index, refl}
+use Rattle.std.proofs.Common.{sym, ap, ◌∙◌, arith, ne_eqb, true≢false}
 use Rattle.std.specs.List.{list_all}
 use Rattle.std.proofs.lemmas.Bool.Decides.{nat_tests}
 use Rattle.un_base.specs.Names.{is_first, is_rest}
@@ -26,7 +27,8 @@ all_weaker p q h (b ∷ bs) e = by (all_weaker p q h bs) (p b) refl e
     by more false d k = absurd (cc k)
 
 rest_inner : (b : ℕ) → is_rest b ≡ true → is_inner b ≡ true
-rest_inner b h = rw (other_byte is_rest b 9 h refl, other_byte is_rest b 32 h refl, other_byte is_rest b 44 h refl, other_byte is_rest b 61 h refl) refl
+rest_inner b h =
+    rw (other_byte is_rest b 9 h refl, other_byte is_rest b 32 h refl, other_byte is_rest b 44 h refl, other_byte is_rest b 61 h refl) refl
 
 rest_clean : (b : ℕ) → is_rest b ≡ true → is_clean_byte b ≡ true
 rest_clean b h =
@@ -43,9 +45,11 @@ pub record NameParts (name : List ℕ) : Type 0 where
   pub rest : list_all is_rest name ≡ true
 
 pub name_parts : (name : List ℕ) → IsName name → NameParts name
-name_parts name h = by (nat_lt 0 (length name)) (nat_le (length name) 32) (is_first (slice_index name 0)) (list_all is_rest name) refl refl refl refl h
+name_parts name h =
+    by (nat_lt 0 (length name)) (nat_le (length name) 32) (is_first (slice_index name 0)) (list_all is_rest name) refl refl refl refl h
   where
-    by : (s t u v : Bool) → nat_lt 0 (length name) ≡ s → nat_le (length name) 32 ≡ t → is_first (slice_index name 0) ≡ u → list_all is_rest name ≡ v → (s && t && u && v) ≡ true → NameParts name
+    by : (s t u v : Bool) → nat_lt 0 (length name) ≡ s → nat_le (length name) 32 ≡ t → is_first (slice_index name 0) ≡ u
+        → list_all is_rest name ≡ v → (s && t && u && v) ≡ true → NameParts name
     by true true true true a b c d k = record { some = grind (arith, nat_tests); short = grind (arith, nat_tests); first = c; rest = d }
     by true true true false a b c d k = absurd (cc k)
     by true true false v a b c d k = absurd (cc k)
@@ -67,15 +71,60 @@ word_says (b ∷ bs) h =
       some = p.some;
       inner = name_inner (b ∷ bs) h;
       neat = record { clean = name_clean (b ∷ bs) h; short = omega (arith, p.short) };
-      spelt = rw (other_byte is_first b 44 p.first refl, other_byte is_first b 61 p.first refl, other_byte is_first b 35 p.first refl, other_byte is_first b 33 p.first refl, other_byte is_first b 37 p.first refl, other_byte is_first b 36 p.first refl, h) refl;
+      spelt =
+          rw (
+            other_byte is_first b 44 p.first refl,
+            other_byte is_first b 61 p.first refl,
+            other_byte is_first b 35 p.first refl,
+            other_byte is_first b 33 p.first refl,
+            other_byte is_first b 37 p.first refl,
+            other_byte is_first b 36 p.first refl,
+            h,
+          ) refl;
     }
 
 -- a name with its sigil
 pub name_says : (name : List ℕ) (kind : Kind) → IsName name → Says (with_sigil kind name) (Named (name, kind))
-name_says name General h = record { some = omega arith; inner = name_inner name h; neat = record { clean = name_clean name h; short = omega (arith, (name_parts name h).short) }; spelt = rw h refl }
-name_says name Pred h = record { some = omega arith; inner = name_inner name h; neat = record { clean = name_clean name h; short = omega (arith, (name_parts name h).short) }; spelt = rw h refl }
+name_says name General h =
+    record {
+      some =
+          omega arith;
+      inner =
+          name_inner name h;
+      neat =
+          record { clean = name_clean name h; short = omega (arith, (name_parts name h).short) };
+      spelt = rw h refl;
+    }
+name_says name Pred h =
+    record {
+      some =
+          omega arith;
+      inner =
+          name_inner name h;
+      neat =
+          record { clean = name_clean name h; short = omega (arith, (name_parts name h).short) };
+      spelt = rw h refl;
+    }
 
 -- a name behind an exclamation mark
 pub negated_says : (name : List ℕ) (kind : Kind) → IsName name → Says (33 ∷ with_sigil kind name) (Negated (name, kind))
-negated_says name General h = record { some = omega arith; inner = name_inner name h; neat = record { clean = name_clean name h; short = omega (arith, (name_parts name h).short) }; spelt = rw h refl }
-negated_says name Pred h = record { some = omega arith; inner = name_inner name h; neat = record { clean = name_clean name h; short = omega (arith, (name_parts name h).short) }; spelt = rw h refl }
+negated_says name General h =
+    record {
+      some =
+          omega arith;
+      inner =
+          name_inner name h;
+      neat =
+          record { clean = name_clean name h; short = omega (arith, (name_parts name h).short) };
+      spelt = rw h refl;
+    }
+negated_says name Pred h =
+    record {
+      some =
+          omega arith;
+      inner =
+          name_inner name h;
+      neat =
+          record { clean = name_clean name h; short = omega (arith, (name_parts name h).short) };
+      spelt = rw h refl;
+    }

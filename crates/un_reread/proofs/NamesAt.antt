@@ -17,17 +17,22 @@ there : {X : Type 0} (P : X → Type 0) (xs : List X) (i : ℕ) (x : X) → All 
 there P xs i x all e = subst P (get_or_from_slice_get xs i x x e) (all i x (slice_get_within xs i x e))
 
 -- the word of a name of a kind
-pub name_at_says : (names : Names) (kind : Kind) (name : NameId) → AreNames names → IsOfKind names kind name → Says (name_text names name) (Named (spelled_at names name))
+pub name_at_says : (names : Names) (kind : Kind) (name : NameId) → AreNames names → IsOfKind names kind name
+    → Says (name_text names name) (Named (spelled_at names name))
 name_at_says names kind name all h = by (slice_get names name.0) (λ n e. there (λ (n : List ℕ × Kind). IsName n.0) names name.0 n all e) h
   where
-    by : (o : Option (List ℕ × Kind)) → ((n : List ℕ × Kind) → o ≡ Some n → IsName n.0) → option_map (λ (n : List ℕ × Kind). n.1) o ≡ Some kind → Says (spelled o) (Named (unwrap_or o ([], General)))
+    by : (o : Option (List ℕ × Kind)) → ((n : List ℕ × Kind) → o ≡ Some n → IsName n.0)
+        → option_map (λ (n : List ℕ × Kind). n.1) o ≡ Some kind → Says (spelled o) (Named (unwrap_or o ([], General)))
     by None is k = absurd (cc k)
     by (Some n) is k = name_says n.0 n.1 (is n refl)
 
 -- and behind an exclamation mark
-pub negated_at_says : (names : Names) (kind : Kind) (name : NameId) → AreNames names → IsOfKind names kind name → Says (33 ∷ name_text names name) (Negated (spelled_at names name))
-negated_at_says names kind name all h = by (slice_get names name.0) (λ n e. there (λ (n : List ℕ × Kind). IsName n.0) names name.0 n all e) h
+pub negated_at_says : (names : Names) (kind : Kind) (name : NameId) → AreNames names → IsOfKind names kind name
+    → Says (33 ∷ name_text names name) (Negated (spelled_at names name))
+negated_at_says names kind name all h =
+    by (slice_get names name.0) (λ n e. there (λ (n : List ℕ × Kind). IsName n.0) names name.0 n all e) h
   where
-    by : (o : Option (List ℕ × Kind)) → ((n : List ℕ × Kind) → o ≡ Some n → IsName n.0) → option_map (λ (n : List ℕ × Kind). n.1) o ≡ Some kind → Says (33 ∷ spelled o) (Negated (unwrap_or o ([], General)))
+    by : (o : Option (List ℕ × Kind)) → ((n : List ℕ × Kind) → o ≡ Some n → IsName n.0)
+        → option_map (λ (n : List ℕ × Kind). n.1) o ≡ Some kind → Says (33 ∷ spelled o) (Negated (unwrap_or o ([], General)))
     by None is k = absurd (cc k)
     by (Some n) is k = negated_says n.0 n.1 (is n refl)

@@ -13,7 +13,8 @@ use Rattle.un_reread.proofs.Neat.{IsNeat}
 use Rattle.un_reread.proofs.OpLines.{op_line_neat}
 use Rattle.un_reread.proofs.OtherBytes.{func_neat, block_neat, term_neat}
 
-block_lines_neat : (names : Names) (blocks : List Block) (place : ℕ) (block : Block) → AreNames names → All (λ (b : Block). IsName b.label) blocks
+block_lines_neat : (names : Names) (blocks : List Block) (place : ℕ) (block : Block) → AreNames names
+    → All (λ (b : Block). IsName b.label) blocks
     → IsGoodBlock names block → LeadsInside blocks place block.term → All (IsNeat 300) (block_lines blocks names block)
 block_lines_neat names blocks place block named labelled good leads =
     All-cons (IsNeat 300) (block_line block) (map (op_line names) block.ops ++ term_lines blocks names block.term)

@@ -1,5 +1,6 @@
 -- The words that numbers are: bare, and behind a number sign.
-use Rattle.std.proofs.Common.{rules, ◌≡◌, ℕ, ℤ, pos, negsuc, suc, ◌-◌, ◌^◌, ◌<◌, ◌≤◌, min, Bool, true, false, ◌&&◌, nat_lt, nat_le, List, [], ◌∷◌, length, Some, refl, arith, lt-ltb, add-one, decimal, unsigned_abs}
+use Rattle.std.proofs.Common.{rules, ◌≡◌, ℕ, ℤ, pos, negsuc, suc, ◌-◌, ◌^◌, ◌<◌, ◌≤◌, min, Bool, true, false, ◌&&◌, nat_lt, nat_le, List}
+use Rattle.std.proofs.Common.{[], ◌∷◌, length, Some, refl, arith, lt-ltb, add-one, decimal, unsigned_abs}
 use Rattle.std.specs.Fmt.{signed_decimal}
 use Rattle.std.specs.Char.{is_ascii_digit}
 use Rattle.std.specs.List.{list_all}
@@ -33,18 +34,34 @@ record Writes (text : List ℕ) (n : ℕ) : Type 0 where
 decimal_writes : (n : ℕ) → n < 2 ^ 32 → Writes (decimal n) n
 decimal_writes n h =
     let wide : n < 2 ^ 64 = omega arith in
-    record { some = decimal_nonempty n wide; digits = digits_decimal own n wide; value = digits_value-decimal own n wide; small = h; few = length-decimal-le 10 n (omega arith) (omega arith) wide }
+    record {
+      some =
+          decimal_nonempty n wide;
+      digits =
+          digits_decimal own n wide;
+      value =
+          digits_value-decimal own n wide;
+      small = h;
+      few = length-decimal-le 10 n (omega arith) (omega arith) wide;
+    }
 
 all_digits : (text : List ℕ) → all_ascii_digits text ≡ true → list_all is_ascii_digit text ≡ true
 all_digits [] h = refl
 all_digits (b ∷ bs) h = by (all_digits bs) (is_ascii_digit b) refl h
   where
-    by : (all_ascii_digits bs ≡ true → list_all is_ascii_digit bs ≡ true) → (v : Bool) → is_ascii_digit b ≡ v → (v && all_ascii_digits bs) ≡ true → (is_ascii_digit b && list_all is_ascii_digit bs) ≡ true
+    by : (all_ascii_digits bs ≡ true → list_all is_ascii_digit bs ≡ true) → (v : Bool) → is_ascii_digit b ≡ v
+        → (v && all_ascii_digits bs) ≡ true → (is_ascii_digit b && list_all is_ascii_digit bs) ≡ true
     by more true e k = rw (e, more k) refl
     by more false e k = absurd (cc k)
 
 digit_inner : (b : ℕ) → is_ascii_digit b ≡ true → is_inner b ≡ true
-digit_inner b h = rw (other_byte is_ascii_digit b 9 h refl, other_byte is_ascii_digit b 32 h refl, other_byte is_ascii_digit b 44 h refl, other_byte is_ascii_digit b 61 h refl) refl
+digit_inner b h =
+    rw (
+      other_byte is_ascii_digit b 9 h refl,
+      other_byte is_ascii_digit b 32 h refl,
+      other_byte is_ascii_digit b 44 h refl,
+      other_byte is_ascii_digit b 61 h refl,
+    ) refl
 
 digit_clean : (b : ℕ) → is_ascii_digit b ≡ true → is_clean_byte b ≡ true
 digit_clean b h =
@@ -61,7 +78,8 @@ and_no true false c d h = refl
 and_no false b c d h = refl
 
 no_name : (b : ℕ) (bs : List ℕ) → is_ascii_digit b ≡ true → is_name (b ∷ bs) ≡ false
-no_name b bs h = and_no (nat_lt 0 (length (b ∷ bs))) (nat_le (length (b ∷ bs)) 32) (is_first b) (list_all is_rest (b ∷ bs)) (digit_not_first b h)
+no_name b bs h =
+    and_no (nat_lt 0 (length (b ∷ bs))) (nat_le (length (b ∷ bs)) 32) (is_first b) (list_all is_rest (b ∷ bs)) (digit_not_first b h)
 
 first_digit : (b : ℕ) (bs : List ℕ) → all_ascii_digits (b ∷ bs) ≡ true → is_ascii_digit b ≡ true
 first_digit b bs h = by (is_ascii_digit b) h
@@ -72,7 +90,8 @@ first_digit b bs h = by (is_ascii_digit b) h
 
 -- ---- numbers
 
-digits_read : (negative : Bool) (text : List ℕ) (n : ℕ) → Writes text n → digits_of negative text ≡ Some (record { negative = negative; size = n })
+digits_read : (negative : Bool) (text : List ℕ) (n : ℕ) → Writes text n
+    → digits_of negative text ≡ Some (record { negative = negative; size = n })
 digits_read negative text n w =
     let some : nat_lt 0 (length text) ≡ true = lt-ltb _ _ w.some in
     let kept : min n (2 ^ 32 - 1) ≡ n = omega (arith, w.small) in
@@ -96,7 +115,17 @@ number_says (b ∷ bs) n w =
       some = w.some;
       inner = digits_inner (b ∷ bs) n w;
       neat = record { clean = digits_clean (b ∷ bs) n w; short = omega (arith, w.few) };
-      spelt = rw (other_byte is_ascii_digit b 44 d refl, other_byte is_ascii_digit b 61 d refl, other_byte is_ascii_digit b 35 d refl, other_byte is_ascii_digit b 33 d refl, other_byte is_ascii_digit b 37 d refl, other_byte is_ascii_digit b 36 d refl, no_name b bs d, number_read (b ∷ bs) n w) refl;
+      spelt =
+          rw (
+            other_byte is_ascii_digit b 44 d refl,
+            other_byte is_ascii_digit b 61 d refl,
+            other_byte is_ascii_digit b 35 d refl,
+            other_byte is_ascii_digit b 33 d refl,
+            other_byte is_ascii_digit b 37 d refl,
+            other_byte is_ascii_digit b 36 d refl,
+            no_name b bs d,
+            number_read (b ∷ bs) n w,
+          ) refl;
     }
 
 -- a number

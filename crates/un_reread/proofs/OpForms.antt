@@ -10,20 +10,23 @@ use Rattle.un_words.specs.declared.token.Token.TheVariants.{Named, Literal}
 use Rattle.un_words.specs.declared.slot.Slot.{Slot}
 use Rattle.un_words.specs.declared.slot.Slot.TheVariants.{Literal as LiteralSlot}
 use Rattle.std.specs.List.{cons_option}
-use Rattle.un_words.specs.Shapes.{alternate, is_list, name_in, names_at, literal_or, literal_at, zero_number, have_forms, separated, slots_by}
+use Rattle.un_words.specs.Shapes.{alternate, is_list, name_in, names_at, literal_or, literal_at, zero_number, have_forms, separated}
+use Rattle.un_words.specs.Shapes.{slots_by}
 use Rattle.un_words.proofs.SlotFacts.{AreFormed, formed_fit, places}
 use Rattle.un_reread.proofs.WordsOf.{Says, AllSay}
 use Rattle.un_reread.proofs.OpTokens.{joined}
 
 -- ---- words
 
-says_last : (words : List (List ℕ)) (ts : List Token) (word : List ℕ) (t : Token) → AllSay words ts → Says word t → AllSay (words ++ word ∷ []) (ts ++ t ∷ [])
+says_last : (words : List (List ℕ)) (ts : List Token) (word : List ℕ) (t : Token) → AllSay words ts → Says word t
+    → AllSay (words ++ word ∷ []) (ts ++ t ∷ [])
 says_last [] [] word t says last = (last, tt)
 says_last [] (u ∷ ts) word t says last = absurd says
 says_last (x ∷ words) [] word t says last = absurd says
 says_last (x ∷ words) (u ∷ ts) word t says last = (says.0, says_last words ts word t says.1 last)
 
-pub says_literal : (literal : Option Range) (words : List (List ℕ)) (ts : List Token) (word : List ℕ) (t : Token) → AllSay words ts → Says word t
+pub says_literal : (literal : Option Range) (words : List (List ℕ)) (ts : List Token) (word : List ℕ) (t : Token) → AllSay words ts
+    → Says word t
     → AllSay (with_literal literal word words) (with_literal literal t ts)
 says_literal None words ts word t says last = says
 says_literal (Some Offset) [] [] word t says last = (last, tt)
@@ -34,7 +37,8 @@ says_literal (Some _) words ts word t says last = says_last words ts word t says
 
 -- ---- forms
 
-formed_last : (slots : List Slot) (ts : List Token) (n : Number) → AreFormed slots ts → AreFormed (slots ++ LiteralSlot ∷ []) (ts ++ Literal n ∷ [])
+formed_last : (slots : List Slot) (ts : List Token) (n : Number) → AreFormed slots ts
+    → AreFormed (slots ++ LiteralSlot ∷ []) (ts ++ Literal n ∷ [])
 formed_last [] [] n f = (refl, tt)
 formed_last [] (t ∷ ts) n f = absurd f
 formed_last (s ∷ slots) [] n f = absurd f
@@ -99,7 +103,8 @@ names_last : (ns : List Spelled) (n : Number) → names_at (map Named ns ++ Lite
 names_last [] n = refl
 names_last (a ∷ ns) n = ap (λ (rest : List Spelled). a ∷ rest) (names_last ns n)
 
-pub names_there : (literal : Option Range) (ns : List Spelled) (n : Number) → names_at (with_literal literal (Literal n) (map Named ns)) ≡ ns
+pub names_there : (literal : Option Range) (ns : List Spelled) (n : Number)
+    → names_at (with_literal literal (Literal n) (map Named ns)) ≡ ns
 names_there None ns n = names_back ns
 names_there (Some Offset) [] n = refl
 names_there (Some Offset) (a ∷ ns) n = ap (λ (rest : List Spelled). a ∷ rest) (names_back ns)

@@ -1,5 +1,6 @@
 -- What is read of the line of an operation.
-use Rattle.std.proofs.Common.{◌≡◌, ℕ, ℤ, ◌≤◌, ◌++◌, true, List, [], ◌∷◌, map, length, drop, Option, Some, None, option_map, IfSome, if◌then◌else◌, refl, sym, ap, ◌∙◌, arith}
+use Rattle.std.proofs.Common.{◌≡◌, ℕ, ℤ, ◌≤◌, ◌++◌, true, List, [], ◌∷◌, map, length, drop, Option, Some, None, option_map, IfSome}
+use Rattle.std.proofs.Common.{if◌then◌else◌, refl, sym, ap, ◌∙◌, arith}
 use Rattle.std.proofs.lemmas.List.{length-map}
 use Rattle.std.proofs.lemmas.List.Elements.{All-head, All-tail}
 use Rattle.un_reader.specs.Vocabulary.{NameId, SrcOp, Number, Token, OpLine, Operation, Spelled}
@@ -16,7 +17,8 @@ use Rattle.un_ir.specs.WellFormed.{IsName, IsOfKind, kind_in, takes_arguments, A
 use Rattle.un_words.specs.declared.token.Token.TheVariants.{Named, Literal, Word}
 use Rattle.un_words.specs.declared.slot.Head.TheVariants.{Bare}
 use Rattle.un_words.specs.Tokens.{tokens_of}
-use Rattle.un_words.specs.Shapes.{word_at, names_at, literal_at, have_forms, op_named, head_word, slots_by, result_by, is_call_list, shape_of}
+use Rattle.un_words.specs.Shapes.{word_at, names_at, literal_at, have_forms, op_named, head_word, slots_by, result_by, is_call_list}
+use Rattle.un_words.specs.Shapes.{shape_of}
 use Rattle.un_reread.specs.Printed.{spelled_at, as_number, op_as_line}
 use Rattle.un_reread.proofs.WordsOf.{AllSay}
 use Rattle.un_reread.proofs.NamesAt.{AreNames, name_at_says}
@@ -26,7 +28,8 @@ use Rattle.un_reread.proofs.NameKinds.{same_count}
 use Rattle.un_reread.proofs.Neat.{IsNeat}
 use Rattle.un_reread.proofs.OpTokens.{joined, callee_tokens, IsOfSomeKind}
 use Rattle.un_reread.proofs.OpShapes.{HasWord, Fits, IsRead, fits_read}
-use Rattle.un_reread.proofs.OpForms.{says_literal, slots_fit, are_list, names_joined, literal_joined, names_there, no_literal, literal_there, length_literal}
+use Rattle.un_reread.proofs.OpForms.{says_literal, slots_fit, are_list, names_joined, literal_joined, names_there, no_literal}
+use Rattle.un_reread.proofs.OpForms.{literal_there, length_literal}
 
 -- ---- the operation's word
 
@@ -73,23 +76,30 @@ module _ (names : Names) where
   all_spelled : (operands : Operands) (srcs : List NameId) → AreRead names operands srcs → AllSpelled srcs
   all_spelled (Fixed spaces) srcs h = fixed_spelled spaces srcs h
   all_spelled Arguments [] h = tt
-  all_spelled Arguments (name ∷ srcs) (words, few) =
-      ((_, All-head (IsOfKind names _) name srcs words), all_spelled Arguments srcs (All-tail (IsOfKind names _) name srcs words, omega arith))
+  all_spelled Arguments (name ∷ srcs) (words, few) = (
+    (_, All-head (IsOfKind names _) name srcs words),
+    all_spelled Arguments srcs
+        (All-tail (IsOfKind names _) name srcs words, omega arith),
+  )
 
-  names_say : AreNames names → (srcs : List NameId) → AllSpelled srcs → AllSay (map (name_text names) srcs) (map Named (map (spelled_at names) srcs))
+  names_say : AreNames names → (srcs : List NameId) → AllSpelled srcs
+      → AllSay (map (name_text names) srcs) (map Named (map (spelled_at names) srcs))
   names_say all [] h = tt
   names_say all (name ∷ srcs) h = (name_at_says names h.0.0 name all h.0.1, names_say all srcs h.1)
 
-  few_tokens : (operands : Operands) (literal : Option Range) (srcs : List NameId) (n : Number) → HasRoom operands literal → AreRead names operands srcs
+  few_tokens : (operands : Operands) (literal : Option Range) (srcs : List NameId) (n : Number) → HasRoom operands literal
+      → AreRead names operands srcs
       → length (with_literal literal (Literal n) (map Named (map (spelled_at names) srcs))) ≤ 6
   few_tokens (Fixed spaces) literal srcs n room h =
       let most = length_literal literal (Literal n) (map Named (map (spelled_at names) srcs)) in
       let count = same_count names spaces srcs h in
       let same = length-map (map (spelled_at names) srcs) Named ∙ length-map srcs (spelled_at names) in
       omega (arith, most, count, same, room)
-  few_tokens Arguments literal srcs n room h = rw (room, length-map (map (spelled_at names) srcs) Named, length-map srcs (spelled_at names)) h.1
+  few_tokens Arguments literal srcs n room h =
+      rw (room, length-map (map (spelled_at names) srcs) Named, length-map srcs (spelled_at names)) h.1
 
-  assigned_kind : (operands : Operands) (result : Option Space) (dst : Option NameId) → IsAssigned names operands result dst → IfSome dst (IsOfSomeKind names)
+  assigned_kind : (operands : Operands) (result : Option Space) (dst : Option NameId) → IsAssigned names operands result dst
+      → IfSome dst (IsOfSomeKind names)
   assigned_kind operands result None h = tt
   assigned_kind operands None (Some name) h = absurd (cc h)
   assigned_kind (Fixed spaces) (Some space) (Some name) h = (kind_in space, h)
@@ -116,12 +126,15 @@ callee_back Arguments (Some name) word rest h = refl
 
 -- ---- the whole line
 
-forms_by : (names : Names) (operands : Operands) (literal : Option Range) (callee : Option (List ℕ)) (srcs : List NameId) (n : Number) (word : List ℕ)
+forms_by : (names : Names) (operands : Operands) (literal : Option Range) (callee : Option (List ℕ)) (srcs : List NameId) (n : Number)
+    (word : List ℕ)
     → HasRoom operands literal → IsCallee operands callee → AreRead names operands srcs
-    → (let ts : List Token = Word word ∷ (callee_tokens callee ++ joined (with_literal literal (Literal n) (map Named (map (spelled_at names) srcs)))) in
+    → (let ts : List Token = Word word ∷
+    (callee_tokens callee ++ joined (with_literal literal (Literal n) (map Named (map (spelled_at names) srcs)))) in
     if takes_arguments operands then is_call_list ts else have_forms (slots_by (fixed_spaces operands) literal) (drop 1 ts)) ≡ true
 forms_by names (Fixed spaces) literal callee srcs n word room named h =
-    rw named (slots_fit spaces literal (map (spelled_at names) srcs) n (length-map srcs (spelled_at names) ∙ same_count names spaces srcs h))
+    rw named (slots_fit spaces literal (map (spelled_at names) srcs) n
+    (length-map srcs (spelled_at names) ∙ same_count names spaces srcs h))
 forms_by names Arguments literal None srcs n word room named h = absurd named
 forms_by names Arguments literal (Some callee) srcs n word room named h = rw room (are_list (map (spelled_at names) srcs))
 
@@ -153,7 +166,8 @@ module _ (names : Names) (o : SrcOp) (all : AreNames names) (good : IsGoodOp nam
   op_fits = record {
     word = has_word o.op good.op;
     says = says_literal literal (map (name_text names) o.srcs) (map Named ns) (literal_text o) (Literal (as_number o.imm))
-        (names_say names all o.srcs (all_spelled names operands o.srcs good.reads)) (literal_says o.imm (small_abs literal o.imm good.literal));
+        (names_say names all o.srcs (all_spelled names operands o.srcs good.reads))
+        (literal_says o.imm (small_abs literal o.imm good.literal));
     few = few_tokens names operands literal o.srcs (as_number o.imm) (has_room o.op) good.reads;
     kind = assigned_kind names operands (result_space o.op) o.dst good.assigns;
     callee = callee_named operands o.callee good.callee;

@@ -39,11 +39,13 @@ pub record Fits (names : Names) (o : SrcOp) (operands : List Token) : Type 0 whe
   pub forms : operands_fit o.op (behind o operands) ≡ true
   pub line : op_line_of o.op (option_map (spelled_at names) o.dst) (behind o operands) ≡ op_as_line names o
 
-by_word : (op : Op) (dst : Option Spelled) (rest : List Token) → HasWord op → shape_of (result_tokens dst ++ (Word (source_name op) ∷ rest)) ≡ op_shape dst (Word (source_name op) ∷ rest) op
+by_word : (op : Op) (dst : Option Spelled) (rest : List Token) → HasWord op
+    → shape_of (result_tokens dst ++ (Word (source_name op) ∷ rest)) ≡ op_shape dst (Word (source_name op) ∷ rest) op
 by_word op None rest w = rw (w.bare, w.own) refl
 by_word op (Some d) rest w = rw w.own refl
 
-by_fit : (op : Op) (dst : Option Spelled) (ts : List Token) → result_fits op dst ≡ true → operands_fit op ts ≡ true → op_shape dst ts op ≡ Some (Operation (op_line_of op dst ts))
+by_fit : (op : Op) (dst : Option Spelled) (ts : List Token) → result_fits op dst ≡ true → operands_fit op ts ≡ true
+    → op_shape dst ts op ≡ Some (Operation (op_line_of op dst ts))
 by_fit op dst ts h k = rw (h, k) refl
 
 -- the line of an operation is neat, and is read as the operation

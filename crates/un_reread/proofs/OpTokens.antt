@@ -1,5 +1,6 @@
 -- The words of the line of an operation, by their form.
-use Rattle.std.proofs.Common.{◌≡◌, ℕ, true, false, List, [], ◌∷◌, ◌++◌, map, codes, Option, Some, None, IfSome, option_map, refl, ap, ◌∙◌, append_assoc}
+use Rattle.std.proofs.Common.{◌≡◌, ℕ, true, false, List, [], ◌∷◌, ◌++◌, map, codes, Option, Some, None, IfSome, option_map, refl, ap, ◌∙◌}
+use Rattle.std.proofs.Common.{append_assoc}
 use Rattle.un_reader.specs.Vocabulary.{NameId, Kind, SrcOp, Token, Spelled}
 use Rattle.un_base.specs.Names.{is_name}
 use Rattle.un_isa.specs.Facts.{source_name}
@@ -56,7 +57,8 @@ behind_tokens : (callee : Option (List ℕ)) (words : List (List ℕ)) (tokens :
     → tokens_of (callee_text callee ++ spaced words) ≡ callee_tokens callee ++ joined tokens
 behind_tokens None words tokens named says = spaced_tokens words tokens says
 behind_tokens (Some name) words tokens named says =
-    first_token name (Word name) (word_says name named) (spaced words) (spaced_stops words) ∙ ap (λ (ts : List Token). Word name ∷ ts) (spaced_tokens words tokens says)
+    first_token name (Word name) (word_says name named) (spaced words) (spaced_stops words)
+    ∙ ap (λ (ts : List Token). Word name ∷ ts) (spaced_tokens words tokens says)
 
 -- ---- the result
 
@@ -73,17 +75,22 @@ before_tokens : (names : Names) (dst : Option NameId) (line : List ℕ) → AreN
 before_tokens names None line all kind = refl
 before_tokens names (Some name) line all kind =
     ap tokens_of (append_assoc (name_text names name) (codes " = ") line)
-    ∙ first_token (name_text names name) (Named (spelled_at names name)) (name_at_says names kind.0 name all kind.1) (codes " = " ++ line) refl
+    ∙ first_token (name_text names name) (Named (spelled_at names name)) (name_at_says names kind.0 name all kind.1)
+    (codes " = " ++ line) refl
 
 -- ---- the line
 
 -- what is read of the line of an operation with these operands
 pub op_tokens : (names : Names) (o : SrcOp) (operands : List Token) → AreNames names → is_name (source_name o.op) ≡ true
     → AllSay (operand_texts o.op o (map (name_text names) o.srcs)) operands → IfSome o.dst (IsOfSomeKind names) → IfSome o.callee IsName
-    → tokens_of (op_line names o) ≡ result_tokens (option_map (spelled_at names) o.dst) ++ (Word (source_name o.op) ∷ (callee_tokens o.callee ++ joined operands))
+    → tokens_of (op_line names o) ≡ result_tokens (option_map (spelled_at names) o.dst) ++
+    (Word (source_name o.op) ∷ (callee_tokens o.callee ++ joined operands))
 op_tokens names o operands all named says kind callee =
     let words : List (List ℕ) = operand_texts o.op o (map (name_text names) o.srcs) in
     let behind = behind_tokens o.callee words operands callee says in
-    let word = first_token (source_name o.op) (Word (source_name o.op)) (word_says (source_name o.op) named) (callee_text o.callee ++ spaced words) (callee_stops o.callee words) in
+    let word =
+    first_token (source_name o.op) (Word (source_name o.op)) (word_says (source_name o.op) named) (callee_text o.callee ++ spaced words)
+    (callee_stops o.callee words) in
     before_tokens names o.dst (source_name o.op ++ (callee_text o.callee ++ spaced words)) all kind
-    ∙ ap (λ (ts : List Token). result_tokens (option_map (spelled_at names) o.dst) ++ ts) (word ∙ ap (λ (ts : List Token). Word (source_name o.op) ∷ ts) behind)
+    ∙ ap (λ (ts : List Token). result_tokens (option_map (spelled_at names) o.dst) ++ ts)
+    (word ∙ ap (λ (ts : List Token). Word (source_name o.op) ∷ ts) behind)

@@ -29,11 +29,13 @@ order_ops : (names : Names) (ops : List SrcOp) (rest : List Line) → AreInOrder
 order_ops names [] rest h = h
 order_ops names (o ∷ ops) rest h = (refl, order_ops names ops rest h)
 
-order_term : (blocks : List SourceBlock) (names : Names) (term : Term) (rest : List Line) → ((here : Bool) → AreInOrder here rest) → AreInOrder true (term_as_lines blocks names term ++ rest)
+order_term : (blocks : List SourceBlock) (names : Names) (term : Term) (rest : List Line) → ((here : Bool) → AreInOrder here rest)
+    → AreInOrder true (term_as_lines blocks names term ++ rest)
 order_term blocks names Fall rest h = h true
 order_term blocks names _ rest h = (refl, h false)
 
-pub in_order : (blocks : List SourceBlock) (names : Names) (some : List SourceBlock) (here : Bool) → AreInOrder here (lines_of blocks names some)
+pub in_order : (blocks : List SourceBlock) (names : Names) (some : List SourceBlock) (here : Bool)
+    → AreInOrder here (lines_of blocks names some)
 in_order blocks names [] here = tt
 in_order blocks names (block ∷ some) here = (
   tt,
@@ -43,7 +45,8 @@ in_order blocks names (block ∷ some) here = (
 )
 
 -- a line in order may stand behind those before it
-pub stands : (front : List Line) (line : Line) (rest : List Line) (here : Bool) → AreInOrder here (front ++ line ∷ rest) → MayStand (fold open_after here front) line
+pub stands : (front : List Line) (line : Line) (rest : List Line) (here : Bool) → AreInOrder here (front ++ line ∷ rest)
+    → MayStand (fold open_after here front) line
 stands [] line rest here (may, later) = may
 stands (first ∷ front) line rest here (may, later) = stands front line rest (open_after here first) later
 
@@ -57,7 +60,8 @@ open_labelled (Terminator term ∷ front) here h = elim (open_labelled front fal
 open_labelled (_ ∷ front) here h = open_labelled front here h
 
 -- no terminator has ended it
-pub open_lasts : (front : List Line) (here ended : Bool) → (here ≡ true → ended ≡ false) → fold open_after here front ≡ true → fold ended_after ended front ≡ false
+pub open_lasts : (front : List Line) (here ended : Bool) → (here ≡ true → ended ≡ false) → fold open_after here front ≡ true
+    → fold ended_after ended front ≡ false
 open_lasts [] here ended lasts h = lasts h
 open_lasts (Block label freq ∷ front) here ended lasts h = open_lasts front true false (λ e. refl) h
 open_lasts (Terminator term ∷ front) here ended lasts h = open_lasts front false true (λ e. absurd (cc e)) h

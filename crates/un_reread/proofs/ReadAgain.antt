@@ -28,7 +28,8 @@ use Rattle.un_reread.proofs.Sizes.{text_within}
 use Rattle.un_reread.proofs.TextFaultsOf.{no_shape_fault}
 
 -- the printed lines are the function
-pub function_back : (f : Function) → IsWellFormed f.name f.params f.names f.blocks → IsFunctionOf (printed_lines f.name f.params f.names f.blocks) f
+pub function_back : (f : Function) → IsWellFormed f.name f.params f.names f.blocks
+    → IsFunctionOf (printed_lines f.name f.params f.names f.blocks) f
 function_back f w = record { name = refl; params = params; names = sym names; blocks = blocks }
   where
     lines : List Line
@@ -50,7 +51,9 @@ function_back f w = record { name = refl; params = params; names = sym names; bl
 pub read_again : (f : Function) → IsWellFormed f.name f.params f.names f.blocks → IsRead (function_text f) f
 read_again f w = record {
   within = text_within f w neat;
-  lines = subst HasNoLineFault (sym split) (no_fault_at (function_lines f) lines read plain (no_line_faults f.name f.params f.names f.blocks w));
+  lines =
+      subst HasNoLineFault (sym split) (no_fault_at (function_lines f) lines read plain
+      (no_line_faults f.name f.params f.names f.blocks w));
   whole = ap shape_fault shapes ∙ no_shape_fault f.name f.params f.names f.blocks w;
   is = subst (λ (ls : List Line). IsFunctionOf ls f) (sym shapes) (function_back f w);
   entry = λ name live. none_live f.name f.params f.names f.blocks w name live.is_local live.live;

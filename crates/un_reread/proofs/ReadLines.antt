@@ -20,7 +20,8 @@ use Rattle.un_reread.proofs.OtherLines.{func_read, block_read, term_read}
 shapes : List (List ℕ) → List (Option Line)
 shapes texts = map (λ (l : List ℕ). shape_of (tokens_of l)) texts
 
-read_more : (text : List ℕ) (line : Line) (texts : List (List ℕ)) (lines : List Line) → shape_of (tokens_of text) ≡ Some line → AreReadAs texts lines
+read_more : (text : List ℕ) (line : Line) (texts : List (List ℕ)) (lines : List Line) → shape_of (tokens_of text) ≡ Some line
+    → AreReadAs texts lines
     → AreReadAs (text ∷ texts) (line ∷ lines)
 read_more text line texts lines here later = rw (here, later) refl
 
@@ -29,7 +30,8 @@ read_joined xs ys ls ms a b =
     map-append (λ (l : List ℕ). shape_of (tokens_of l)) xs ys
     ∙ rw (a, b) (sym (map-append (λ (l : Line). Some l) ls ms))
 
-ops_read : (names : Names) (ops : List SrcOp) → AreNames names → All (IsGoodOp names) ops → AreReadAs (map (op_line names) ops) (op_lines names ops)
+ops_read : (names : Names) (ops : List SrcOp) → AreNames names → All (IsGoodOp names) ops
+    → AreReadAs (map (op_line names) ops) (op_lines names ops)
 ops_read names [] named good = refl
 ops_read names (o ∷ ops) named good =
     read_more (op_line names o) (Operation (op_as_line names o)) (map (op_line names) ops) (op_lines names ops)
@@ -42,19 +44,23 @@ record IsReadable (names : Names) (blocks : List SourceBlock) (block : SourceBlo
   place : ℕ
   leads : LeadsInside blocks place block.term
 
-block_lines_read : (names : Names) (blocks : List SourceBlock) (block : SourceBlock) → AreNames names → All (λ (b : SourceBlock). IsName b.label) blocks
+block_lines_read : (names : Names) (blocks : List SourceBlock) (block : SourceBlock) → AreNames names
+    → All (λ (b : SourceBlock). IsName b.label) blocks
     → IsReadable names blocks block
-    → AreReadAs (block_lines blocks names block) (Block block.label (record { negative = false; size = block.freq }) ∷ body_lines blocks names block)
+    → AreReadAs (block_lines blocks names block)
+    (Block block.label (record { negative = false; size = block.freq }) ∷ body_lines blocks names block)
 block_lines_read names blocks block named labelled r =
     read_more (block_line block) (Block block.label (record { negative = false; size = block.freq }))
     (map (op_line names) block.ops ++ term_lines blocks names block.term) (body_lines blocks names block)
     (block_read block r.good.label r.good.freq.0 r.good.freq.1)
-    (read_joined (map (op_line names) block.ops) (term_lines blocks names block.term) (op_lines names block.ops) (term_as_lines blocks names block.term)
+    (read_joined (map (op_line names) block.ops) (term_lines blocks names block.term) (op_lines names block.ops)
+    (term_as_lines blocks names block.term)
     (ops_read names block.ops named r.good.ops)
     (term_read blocks names r.place block.term named r.good.tests r.leads labelled))
 
 blocks_read : (names : Names) (blocks : List SourceBlock) → AreNames names → All (λ (b : SourceBlock). IsName b.label) blocks
-    → (some : List SourceBlock) → All (IsReadable names blocks) some → AreReadAs (flat_map (block_lines blocks names) some) (lines_of blocks names some)
+    → (some : List SourceBlock) → All (IsReadable names blocks) some
+    → AreReadAs (flat_map (block_lines blocks names) some) (lines_of blocks names some)
 blocks_read names blocks named labelled [] all = refl
 blocks_read names blocks named labelled (block ∷ some) all =
     read_joined (block_lines blocks names block) (flat_map (block_lines blocks names) some)
@@ -62,14 +68,17 @@ blocks_read names blocks named labelled (block ∷ some) all =
     (block_lines_read names blocks block named labelled (All-head (IsReadable names blocks) block some all))
     (blocks_read names blocks named labelled some (All-tail (IsReadable names blocks) block some all))
 
-all_readable : (name : List ℕ) (params : List NameId) (names : Names) (blocks : List SourceBlock) → IsWellFormed name params names blocks → All (IsReadable names blocks) blocks
+all_readable : (name : List ℕ) (params : List NameId) (names : Names) (blocks : List SourceBlock) → IsWellFormed name params names blocks
+    → All (IsReadable names blocks) blocks
 all_readable name params names blocks w k d h = (all_at (λ (b : SourceBlock). IsGoodBlock names b → IsReadable names blocks b) blocks
     (λ k block got good. record { good = good; place = k; leads = w.leads k block got })) k d h (w.good_blocks k d h)
 
 pub function_read : (f : Function) → IsWellFormed f.name f.params f.names f.blocks
     → AreReadAs (function_lines f) (printed_lines f.name f.params f.names f.blocks)
 function_read f w =
-    read_more (func_line f) (Func f.name (map (spelled_at f.names) f.params)) (flat_map (block_lines f.blocks f.names) f.blocks) (lines_of f.blocks f.names f.blocks)
+    read_more (func_line f) (Func f.name (map (spelled_at f.names) f.params)) (flat_map (block_lines f.blocks f.names) f.blocks)
+    (lines_of f.blocks f.names f.blocks)
     (func_read f w.named w.all_named w.params_are_words)
-    (blocks_read f.names f.blocks w.all_named (All-weaker (IsGoodBlock f.names) (λ (b : SourceBlock). IsName b.label) (λ b g. g.label) f.blocks w.good_blocks)
+    (blocks_read f.names f.blocks w.all_named
+    (All-weaker (IsGoodBlock f.names) (λ (b : SourceBlock). IsName b.label) (λ b g. g.label) f.blocks w.good_blocks)
     f.blocks (all_readable f.name f.params f.names f.blocks w))

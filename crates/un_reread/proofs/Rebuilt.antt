@@ -29,7 +29,8 @@ result_back : (names : Names) → AreDistinct names → (dst : Option NameId) �
 result_back names distinct None all = refl
 result_back names distinct (Some name) all = ap Some (place_back names distinct name (All-head (IsPlace names) name [] all))
 
-op_back : (names : Names) → AreDistinct names → (o : SrcOp) → All (IsPlace names) (names_on_op o) → HasLiteral o → op_of names (op_as_line names o) ≡ o
+op_back : (names : Names) → AreDistinct names → (o : SrcOp) → All (IsPlace names) (names_on_op o) → HasLiteral o
+    → op_of names (op_as_line names o) ≡ o
 op_back names distinct o all literal =
     let t = all_parts (IsPlace names) (option_to_list o.dst) o.srcs all in
     let dst : option_map (name_id names) (option_map (spelled_at names) o.dst) ≡ o.dst = result_back names distinct o.dst t.0 in
@@ -53,7 +54,8 @@ pub term_behind : (names : Names) (ops : List SrcOp) (rest : List Line) → term
 term_behind names [] rest = refl
 term_behind names (o ∷ ops) rest = term_behind names ops rest
 
-term_back : (names : Names) (blocks : List SourceBlock) → AreDistinct names → AreOnce (labels blocks) → (term : Term) → All (IsPlace names) (read_by_term term)
+term_back : (names : Names) (blocks : List SourceBlock) → AreDistinct names → AreOnce (labels blocks) → (term : Term)
+    → All (IsPlace names) (read_by_term term)
     → GoesInside (length blocks) term → (rest : List Line) → term_of rest ≡ None
     → term_by names (labels blocks) (term_of (term_as_lines blocks names term ++ rest)) ≡ term
 term_back names blocks distinct once Fall all inside rest none = rw none refl
@@ -67,7 +69,8 @@ term_back names blocks distinct once (Return (Some name)) all inside rest none =
     let p = place_back names distinct name (All-head (IsPlace names) name [] all) in
     rw p refl
 
-no_ops : (blocks : List SourceBlock) (names : Names) (term : Term) (rest : List Line) → ops_of names rest ≡ [] → ops_of names (term_as_lines blocks names term ++ rest) ≡ []
+no_ops : (blocks : List SourceBlock) (names : Names) (term : Term) (rest : List Line) → ops_of names rest ≡ []
+    → ops_of names (term_as_lines blocks names term ++ rest) ≡ []
 no_ops blocks names Fall rest none = none
 no_ops blocks names (JumpTo to) rest none = none
 no_ops blocks names (BranchTo pred sense to) rest none = none
@@ -84,7 +87,8 @@ term_end : (blocks : List SourceBlock) (names : Names) (some : List SourceBlock)
 term_end blocks names [] = refl
 term_end blocks names (block ∷ some) = refl
 
-past_ops : (names : Names) (ls : List (List ℕ)) (ops : List SrcOp) (rest : List Line) → blocks_of names ls (op_lines names ops ++ rest) ≡ blocks_of names ls rest
+past_ops : (names : Names) (ls : List (List ℕ)) (ops : List SrcOp) (rest : List Line)
+    → blocks_of names ls (op_lines names ops ++ rest) ≡ blocks_of names ls rest
 past_ops names ls [] rest = refl
 past_ops names ls (o ∷ ops) rest = past_ops names ls ops rest
 
@@ -109,14 +113,16 @@ blocks_kept name params names blocks w k d h = record {
   inside = go_inside name params names blocks w k d h;
 }
 
-block_again : (names : Names) (blocks : List SourceBlock) → AreDistinct names → AreOnce (labels blocks) → (block : SourceBlock) → IsKept names (length blocks) block
+block_again : (names : Names) (blocks : List SourceBlock) → AreDistinct names → AreOnce (labels blocks) → (block : SourceBlock)
+    → IsKept names (length blocks) block
     → (some : List SourceBlock) → blocks_of names (labels blocks) (lines_of blocks names some) ≡ some
     → blocks_of names (labels blocks) (lines_of blocks names (block ∷ some)) ≡ block ∷ some
 block_again names blocks distinct once block k some later =
     let rest = lines_of blocks names some in
     let terms = term_as_lines blocks names block.term in
     let t = all_parts (IsPlace names) (flat_map names_on_op block.ops) (read_by_term block.term) k.named in
-    let split : body_lines blocks names block ++ rest ≡ op_lines names block.ops ++ (terms ++ rest) = append_assoc (op_lines names block.ops) terms rest in
+    let split : body_lines blocks names block ++ rest ≡ op_lines names block.ops ++ (terms ++ rest) =
+    append_assoc (op_lines names block.ops) terms rest in
     let ops : ops_of names (op_lines names block.ops ++ (terms ++ rest)) ≡ block.ops =
     ops_back names distinct block.ops t.0 k.literals (terms ++ rest) (no_ops blocks names block.term rest (ops_end blocks names some)) in
     let term : term_by names (labels blocks) (term_of (op_lines names block.ops ++ (terms ++ rest))) ≡ block.term =
@@ -134,7 +140,8 @@ blocks_back names blocks distinct once (block ∷ some) all =
     (blocks_back names blocks distinct once some (All-tail (IsKept names (length blocks)) block some all))
 
 -- the blocks of the lines are the function's
-pub blocks_again : (name : List ℕ) (params : List NameId) (names : Names) (blocks : List SourceBlock) → IsWellFormed name params names blocks
+pub blocks_again : (name : List ℕ) (params : List NameId) (names : Names) (blocks : List SourceBlock)
+    → IsWellFormed name params names blocks
     → blocks_of names (map (λ (b : SourceBlock). b.label) blocks) (printed_lines name params names blocks) ≡ blocks
 blocks_again name params names blocks w =
     blocks_back names blocks w.distinct_names (labels_once name params names blocks w) blocks (blocks_kept name params names blocks w)

@@ -53,11 +53,15 @@ same_agrees true false e = absurd (cc e)
 same_agrees false true e = absurd (cc e)
 same_agrees false false e = refl
 
-pub term_agrees : (blocks : List SourceBlock) (names : Names) (valued : Bool) (term : Term) → ((y : Bool) → gives_value term ≡ Some y → valued ≡ y)
+pub term_agrees : (blocks : List SourceBlock) (names : Names) (valued : Bool) (term : Term)
+    → ((y : Bool) → gives_value term ≡ Some y → valued ≡ y)
     → All (λ (l : Line). returns_else valued l ≡ false) (term_as_lines blocks names term)
 term_agrees blocks names valued Fall h = All-nil (λ (l : Line). returns_else valued l ≡ false)
 term_agrees blocks names valued (Return None) h =
-    All-cons (λ (l : Line). returns_else valued l ≡ false) _ [] (same_agrees valued false (h false refl)) (All-nil (λ (l : Line). returns_else valued l ≡ false))
+    All-cons (λ (l : Line). returns_else valued l ≡ false) _ [] (same_agrees valued false (h false refl))
+    (All-nil (λ (l : Line). returns_else valued l ≡ false))
 term_agrees blocks names valued (Return (Some name)) h =
-    All-cons (λ (l : Line). returns_else valued l ≡ false) _ [] (same_agrees valued true (h true refl)) (All-nil (λ (l : Line). returns_else valued l ≡ false))
-term_agrees blocks names valued _ h = All-cons (λ (l : Line). returns_else valued l ≡ false) _ [] refl (All-nil (λ (l : Line). returns_else valued l ≡ false))
+    All-cons (λ (l : Line). returns_else valued l ≡ false) _ [] (same_agrees valued true (h true refl))
+    (All-nil (λ (l : Line). returns_else valued l ≡ false))
+term_agrees blocks names valued _ h =
+    All-cons (λ (l : Line). returns_else valued l ≡ false) _ [] refl (All-nil (λ (l : Line). returns_else valued l ≡ false))

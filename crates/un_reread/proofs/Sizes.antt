@@ -38,7 +38,8 @@ line_count blocks names (block ∷ some) =
     let all = length-append block.ops (flat_map (λ (b : Block). b.ops) some) in
     omega arith
 
-pub text_within : (f : Function) → IsWellFormed f.name f.params f.names f.blocks → All (IsNeat 300) (function_lines f) → length (function_text f) ≤ TEXT
+pub text_within : (f : Function) → IsWellFormed f.name f.params f.names f.blocks → All (IsNeat 300) (function_lines f)
+    → length (function_text f) ≤ TEXT
 text_within f w short =
     let size = joined_size (function_lines f) short in
     let count = line_count f.blocks f.names f.blocks in

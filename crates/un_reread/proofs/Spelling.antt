@@ -1,5 +1,6 @@
 -- Names as they are spelled, and their places.
-use Rattle.std.proofs.Common.{◌≡◌, ◌≢◌, ℕ, ◌<◌, ◌⊎◌, inl, inr, ◌&&◌, Bool, true, false, nat_eq, List, [], length, get_or, refl, sym, ap, ◌∙◌, arith}
+use Rattle.std.proofs.Common.{◌≡◌, ◌≢◌, ℕ, ◌<◌, ◌⊎◌, inl, inr, ◌&&◌, Bool, true, false, nat_eq, List, [], length, get_or, refl, sym, ap}
+use Rattle.std.proofs.Common.{◌∙◌, arith}
 use Rattle.std.specs.List.{AllPairs, position_or_len}
 use Rattle.std.specs.Str.{bytes_eq}
 use Rattle.std.proofs.lemmas.Bool.Decides.{nat_tests}
@@ -34,18 +35,22 @@ lt_or : (m n : ℕ) → m ≢ n → (m < n) ⊎ (n < m)
 lt_or m n h = grind (arith)
 
 -- names at two places are two names
-pub places_differ : (names : Names) → AreDistinct names → (m n : ℕ) → m < length names → n < length names → m ≢ n → at_place names m ≢ at_place names n
+pub places_differ : (names : Names) → AreDistinct names → (m n : ℕ) → m < length names → n < length names → m ≢ n
+    → at_place names m ≢ at_place names n
 places_differ names distinct m n hm hn differ e = elim (lt_or m n differ) [
   | inl l ↦ distinct m n ([], General) l hn e
   | inr l ↦ distinct n m ([], General) l hm (sym e)
 ]
 
-pub same_places : (names : Names) → AreDistinct names → (m n : ℕ) → m < length names → n < length names → same_name (at_place names m) (at_place names n) ≡ nat_eq m n
+pub same_places : (names : Names) → AreDistinct names → (m n : ℕ) → m < length names → n < length names
+    → same_name (at_place names m) (at_place names n) ≡ nat_eq m n
 same_places names distinct m n hm hn = by (nat_eq m n) refl
   where
     by : (v : Bool) → nat_eq m n ≡ v → same_name (at_place names m) (at_place names n) ≡ v
     by true e = let s : m ≡ n = grind (arith, nat_tests) in rw s (name_itself (at_place names n))
-    by false e = let s : m ≢ n = grind (arith, nat_tests) in name_differs (at_place names m) (at_place names n) (places_differ names distinct m n hm hn s)
+    by false e =
+        let s : m ≢ n = grind (arith, nat_tests) in
+        name_differs (at_place names m) (at_place names n) (places_differ names distinct m n hm hn s)
 
 -- the place of a spelled name
 pub place_back : (names : Names) → AreDistinct names → (name : NameId) → IsPlace names name → name_id names (spelled_at names name) ≡ name

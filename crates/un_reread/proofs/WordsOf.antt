@@ -1,5 +1,6 @@
 -- The words of a line that is put together from words, blanks and marks.
-use Rattle.std.proofs.Common.{◌≡◌, ℕ, ◌<◌, Bool, true, false, ◌&&◌, ◌||◌, not, List, [], ◌∷◌, ◌++◌, map, length, refl, sym, ap, ◌∙◌, arith, append-nil}
+use Rattle.std.proofs.Common.{◌≡◌, ℕ, ◌<◌, Bool, true, false, ◌&&◌, ◌||◌, not, List, [], ◌∷◌, ◌++◌, map, length, refl, sym, ap, ◌∙◌, arith}
+use Rattle.std.proofs.Common.{append-nil}
 use Rattle.std.specs.List.{list_all, onto_first}
 use Rattle.un_words.specs.declared.token.Token.{Token}
 use Rattle.un_words.specs.Words.{is_blank, is_mark, is_inner, goes_on, words_of}
@@ -38,7 +39,8 @@ goes_in : (c : ℕ) → Inner c → is_inner c ≡ true
 goes_in c i = rw (i.blank, i.mark) refl
 
 -- a word ends where no byte of a word follows
-pub first_word : (word rest : List ℕ) → 0 < length word → list_all is_inner word ≡ true → goes_on rest ≡ false → words_of (word ++ rest) ≡ word ∷ words_of rest
+pub first_word : (word rest : List ℕ) → 0 < length word → list_all is_inner word ≡ true → goes_on rest ≡ false
+    → words_of (word ++ rest) ≡ word ∷ words_of rest
 first_word [] rest some inner stops = absurd (omega arith)
 first_word (b ∷ []) rest some inner stops =
     let i = inner_byte b true inner in
@@ -49,7 +51,8 @@ first_word (b ∷ c ∷ more) rest some inner stops =
     one_more b c (more ++ rest) i.0 (goes_in c j.0) ∙ ap (onto_first b) (first_word (c ∷ more) rest (omega arith) i.1 stops)
 
 -- so the first token is the word's
-pub first_token : (word : List ℕ) (token : Token) → Says word token → (rest : List ℕ) → goes_on rest ≡ false → tokens_of (word ++ rest) ≡ token ∷ tokens_of rest
+pub first_token : (word : List ℕ) (token : Token) → Says word token → (rest : List ℕ) → goes_on rest ≡ false
+    → tokens_of (word ++ rest) ≡ token ∷ tokens_of rest
 first_token word token says rest stops =
     ap (map token_of) (first_word word rest says.some says.inner stops) ∙ ap (λ (t : Token). t ∷ tokens_of rest) says.spelt
 

@@ -2,7 +2,8 @@
 use Rattle.std.specs.Prelude.{ℕ, ℤ, pos, negsuc, ◌+◌, true, false, List, [], ◌∷◌, ◌++◌, map, slice_get, unwrap_or}
 use Rattle.std.specs.List.{flat_map}
 use Rattle.std.specs.Option.{option_map}
-use Rattle.un_reader.specs.Vocabulary.{NameId, General, SrcOp, Term, Fall, JumpTo, BranchTo, Return, SourceBlock, Number, OpLine, Jump, Branch, Ret, Line, Func, Block, Operation, Terminator, Spelled}
+use Rattle.un_reader.specs.Vocabulary.{NameId, General, SrcOp, Term, Fall, JumpTo, BranchTo, Return, SourceBlock, Number, OpLine, Jump}
+use Rattle.un_reader.specs.Vocabulary.{Branch, Ret, Line, Func, Block, Operation, Terminator, Spelled}
 use Rattle.un_ir.specs.Text.{Names, label_of}
 
 -- a name as it is spelled

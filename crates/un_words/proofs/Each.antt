@@ -1,5 +1,6 @@
 -- What holds of each element of a list, by recursion on the list.
-use Rattle.std.proofs.Common.{◌≡◌, ℕ, zero, suc, ◌++◌, ◌&&◌, ◌||◌, Bool, true, false, List, [], ◌∷◌, Some, map, slice_get, All, Contains, refl, arith, subst}
+use Rattle.std.proofs.Common.{◌≡◌, ℕ, zero, suc, ◌++◌, ◌&&◌, ◌||◌, Bool, true, false, List, [], ◌∷◌, Some, map, slice_get, All, Contains}
+use Rattle.std.proofs.Common.{refl, arith, subst}
 use Rattle.std.proofs.lemmas.Bool.{or_parts}
 use Rattle.std.specs.List.{AllPairs, flat_map, list_any}
 use Rattle.std.proofs.lemmas.List.Elements.{All-nil, All-cons, All-head, All-tail}
@@ -45,7 +46,8 @@ pub Each-flat : {X Y : Type 0} (P : Y → Type 0) (f : X → List Y) (xs : List 
 Each-flat P f [] e = tt
 Each-flat P f (x ∷ xs) (here, later) = Each-append P (f x) (flat_map f xs) here (Each-flat P f xs later)
 
-pub Each-unflat : {X Y : Type 0} (P : Y → Type 0) (f : X → List Y) (xs : List X) → Each P (flat_map f xs) → Each (λ (x : X). Each P (f x)) xs
+pub Each-unflat : {X Y : Type 0} (P : Y → Type 0) (f : X → List Y) (xs : List X) → Each P (flat_map f xs)
+    → Each (λ (x : X). Each P (f x)) xs
 Each-unflat P f [] e = tt
 Each-unflat P f (x ∷ xs) e = (Each-left P (f x) (flat_map f xs) e, Each-unflat P f xs (Each-right P (f x) (flat_map f xs) e))
 
@@ -65,7 +67,8 @@ Contains-later xs y x (k, below, is) = (suc k, omega arith, is)
 -- each element stands in the list
 pub Each-itself : {X : Type 0} (xs : List X) → Each (Contains xs) xs
 Each-itself [] = tt
-Each-itself (x ∷ xs) = ((0, omega arith, refl), Each-weaken (Contains xs) (Contains (x ∷ xs)) (λ y c. Contains-later xs x y c) xs (Each-itself xs))
+Each-itself (x ∷ xs) =
+    ((0, omega arith, refl), Each-weaken (Contains xs) (Contains (x ∷ xs)) (λ y c. Contains-later xs x y c) xs (Each-itself xs))
 
 -- a relation of each element and each later one
 abbrev pub EachPair : {X : Type 0} → (X → X → Type 0) → List X → Type 0
@@ -76,19 +79,23 @@ pub EachPair-AllPairs : {X : Type 0} (R : X → X → Type 0) (xs : List X) → 
 EachPair-AllPairs R [] e = λ i j d before below. absurd (omega arith)
 EachPair-AllPairs R (x ∷ xs) (here, later) = AllPairs-cons R x xs (Each-All (R x) xs here) (EachPair-AllPairs R xs later)
 
-pub EachPair-push : {X : Type 0} (R : X → X → Type 0) (xs : List X) (y : X) → EachPair R xs → Each (λ (x : X). R x y) xs → EachPair R (xs ++ y ∷ [])
+pub EachPair-push : {X : Type 0} (R : X → X → Type 0) (xs : List X) (y : X) → EachPair R xs → Each (λ (x : X). R x y) xs
+    → EachPair R (xs ++ y ∷ [])
 EachPair-push R [] y e f = (tt, tt)
 EachPair-push R (x ∷ xs) y (here, later) (last, rest) = (Each-append (R x) xs (y ∷ []) here (last, tt), EachPair-push R xs y later rest)
 
-pub EachPair-alike : {X : Type 0} (P : X → Type 0) (R : X → X → Type 0) → ((a b : X) → P a → P b → R a b) → (xs : List X) → Each P xs → EachPair R xs
+pub EachPair-alike : {X : Type 0} (P : X → Type 0) (R : X → X → Type 0) → ((a b : X) → P a → P b → R a b) → (xs : List X) → Each P xs
+    → EachPair R xs
 EachPair-alike P R f [] e = tt
 EachPair-alike P R f (x ∷ xs) (here, later) = (Each-weaken P (R x) (λ b p. f x b here p) xs later, EachPair-alike P R f xs later)
 
-pub EachPair-map : {X Y : Type 0} (R : Y → Y → Type 0) (f : X → Y) (xs : List X) → EachPair (λ (a b : X). R (f a) (f b)) xs → EachPair R (map f xs)
+pub EachPair-map : {X Y : Type 0} (R : Y → Y → Type 0) (f : X → Y) (xs : List X) → EachPair (λ (a b : X). R (f a) (f b)) xs
+    → EachPair R (map f xs)
 EachPair-map R f [] e = tt
 EachPair-map R f (x ∷ xs) (here, later) = (Each-map (R (f x)) f xs here, EachPair-map R f xs later)
 
-pub EachPair-unmap : {X Y : Type 0} (R : Y → Y → Type 0) (f : X → Y) (xs : List X) → EachPair R (map f xs) → EachPair (λ (a b : X). R (f a) (f b)) xs
+pub EachPair-unmap : {X Y : Type 0} (R : Y → Y → Type 0) (f : X → Y) (xs : List X) → EachPair R (map f xs)
+    → EachPair (λ (a b : X). R (f a) (f b)) xs
 EachPair-unmap R f [] e = tt
 EachPair-unmap R f (x ∷ xs) (here, later) = (unmap xs here, EachPair-unmap R f xs later)
   where

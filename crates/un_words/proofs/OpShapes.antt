@@ -1,5 +1,6 @@
 -- What the shape of an operation's line says of its operation: how many operands there are, and where a literal and a callee stand.
-use Rattle.std.proofs.Common.{◌≡◌, ℕ, ◌&&◌, Bool, true, false, List, [], ◌∷◌, ◌++◌, length, filter, Option, Some, None, if◌then◌else◌, refl, ◌∙◌}
+use Rattle.std.proofs.Common.{◌≡◌, ℕ, ◌&&◌, Bool, true, false, List, [], ◌∷◌, ◌++◌, length, filter, Option, Some, None, if◌then◌else◌, refl}
+use Rattle.std.proofs.Common.{◌∙◌}
 use Rattle.std.specs.List.{find}
 use Rattle.std.specs.Option.{option_and_then, option_to_list}
 use Rattle.std.specs.Str.{bytes_eq}
@@ -14,7 +15,8 @@ use Rattle.un_words.specs.declared.line.OpLine.{OpLine}
 use Rattle.un_words.specs.declared.line.Line.{Line}
 use Rattle.un_words.specs.declared.line.Line.TheVariants.{Operation}
 use Rattle.un_words.specs.Tokens.{Spelled}
-use Rattle.un_words.specs.Shapes.{word_at, names_at, zero_number, literal_at, have_forms, op_named, slots_by, result_fits, is_call_list, operands_fit, op_line_of, op_shape, operation_shape}
+use Rattle.un_words.specs.Shapes.{word_at, names_at, zero_number, literal_at, have_forms, op_named, slots_by, result_fits, is_call_list}
+use Rattle.un_words.specs.Shapes.{operands_fit, op_line_of, op_shape, operation_shape}
 use Rattle.un_words.proofs.Each.{Each}
 use Rattle.un_words.proofs.TokenFacts.{IfThere, IsSpelled, IsGoodToken, names_there}
 use Rattle.un_words.proofs.SlotFacts.{are_formed, count_names, no_literal, count_slots, names_alone, list_literal}
@@ -83,11 +85,13 @@ abbrev pub IsShapedLine : Line → Type 0
 IsShapedLine (Operation o) = IsShapedOp o
 IsShapedLine _ = ⊥
 
-spelled_result : (dst : Option Spelled) (srcs : List Spelled) → IfThere IsSpelled dst → Each IsSpelled srcs → Each IsSpelled (option_to_list dst ++ srcs)
+spelled_result : (dst : Option Spelled) (srcs : List Spelled) → IfThere IsSpelled dst → Each IsSpelled srcs
+    → Each IsSpelled (option_to_list dst ++ srcs)
 spelled_result None srcs d s = s
 spelled_result (Some name) srcs d s = (d, s)
 
-op_shaped : (dst : Option Spelled) → IfThere IsSpelled dst → (word : List ℕ) (ts : List Token) → Each IsGoodToken ts → (op : Op) → is_source op ≡ true
+op_shaped : (dst : Option Spelled) → IfThere IsSpelled dst → (word : List ℕ) (ts : List Token) → Each IsGoodToken ts → (op : Op)
+    → is_source op ≡ true
     → IfThere IsShapedLine (op_shape dst (Word word ∷ ts) op)
 op_shaped dst d word ts g op is = by (result_fits op dst) refl (operands_fit op (Word word ∷ ts)) refl
   where
@@ -97,13 +101,24 @@ op_shaped dst d word ts g op is = by (result_fits op dst) refl (operands_fit op 
     by true e false f = tt
     by true e true f =
         let b = behind (facts_of op).operands (literal_range op) word ts g f in
-        record { text = is; result = e; spelled = spelled_result dst (names_at ts) d (names_there ts g); count = b.count; literal = b.lacks; callee = b.callee }
+        record {
+          text =
+              is;
+          result =
+              e;
+          spelled = spelled_result dst (names_at ts) d (names_there ts g);
+          count = b.count;
+          literal = b.lacks;
+          callee = b.callee;
+        }
 
-pub operation_shaped : (dst : Option Spelled) → IfThere IsSpelled dst → (ts : List Token) → Each IsGoodToken ts → IfThere IsShapedLine (operation_shape dst ts)
+pub operation_shaped : (dst : Option Spelled) → IfThere IsSpelled dst → (ts : List Token) → Each IsGoodToken ts
+    → IfThere IsShapedLine (operation_shape dst ts)
 operation_shaped dst d [] g = tt
 operation_shaped dst d (Word word ∷ ts) g = named (op_named word) (found is_source (λ (op : Op). bytes_eq word (source_name op)) all_ops)
   where
-    named : (o : Option Op) → IfThere (λ (op : Op). is_source op ≡ true) o → IfThere IsShapedLine (option_and_then (op_shape dst (Word word ∷ ts)) o)
+    named : (o : Option Op) → IfThere (λ (op : Op). is_source op ≡ true) o
+        → IfThere IsShapedLine (option_and_then (op_shape dst (Word word ∷ ts)) o)
     named None h = tt
     named (Some op) h = op_shaped dst d word ts g.1 op h
 operation_shaped dst d (_ ∷ ts) g = tt

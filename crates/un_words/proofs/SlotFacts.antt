@@ -1,5 +1,6 @@
 -- Words that have given forms: how many names there are, and whether there is a literal.
-use Rattle.std.proofs.Common.{◌≡◌, ℕ, zero, suc, ◌==◌, ◌++◌, Bool, true, false, List, [], ◌∷◌, length, map, Option, Some, None, is_some, if◌then◌else◌, refl, ap, ◌∙◌, arith}
+use Rattle.std.proofs.Common.{◌≡◌, ℕ, zero, suc, ◌==◌, ◌++◌, Bool, true, false, List, [], ◌∷◌, length, map, Option, Some, None, is_some}
+use Rattle.std.proofs.Common.{if◌then◌else◌, refl, ap, ◌∙◌, arith}
 use Rattle.std.proofs.lemmas.Bool.{and_parts, or_parts, or_cases}
 use Rattle.std.proofs.lemmas.Bool.Decides.{Decides-eqb}
 use Rattle.std.proofs.Math.Logic.{⊎_elim}
@@ -12,9 +13,11 @@ use Rattle.un_words.specs.declared.token.Number.{Number}
 use Rattle.un_words.specs.declared.token.Token.{Token}
 use Rattle.un_words.specs.declared.token.Token.TheVariants.{Comma, Equals, Named, Literal, Plain, Word}
 use Rattle.un_words.specs.declared.slot.Slot.{Slot}
-use Rattle.un_words.specs.declared.slot.Slot.TheVariants.{Comma as CommaSlot, Equals as EqualsSlot, Named as NamedSlot, Literal as LiteralSlot, Plain as PlainSlot, Word as WordSlot}
+use Rattle.un_words.specs.declared.slot.Slot.TheVariants.{Comma as CommaSlot, Equals as EqualsSlot, Named as NamedSlot}
+use Rattle.un_words.specs.declared.slot.Slot.TheVariants.{Literal as LiteralSlot, Plain as PlainSlot, Word as WordSlot}
 use Rattle.un_words.specs.Tokens.{Spelled}
-use Rattle.un_words.specs.Shapes.{is_slot, have_forms, alternate, is_list, name_in, names_at, zero_number, literal_or, literal_at, separated, slots_by}
+use Rattle.un_words.specs.Shapes.{is_slot, have_forms, alternate, is_list, name_in, names_at, zero_number, literal_or, literal_at}
+use Rattle.un_words.specs.Shapes.{separated, slots_by}
 
 abbrev pub is_named : Slot → Bool
 is_named NamedSlot = true
@@ -57,7 +60,8 @@ each_formed : (slots : List Slot) (ts : List Token) → length ts ≡ length slo
 each_formed [] [] e h = tt
 each_formed [] (t ∷ ts) e h = absurd (omega arith)
 each_formed (s ∷ slots) [] e h = absurd (omega arith)
-each_formed (s ∷ slots) (t ∷ ts) e h = let parts = and_parts (is_slot s t) (agree slots ts) h in (parts.0, each_formed slots ts (omega arith) parts.1)
+each_formed (s ∷ slots) (t ∷ ts) e h =
+    let parts = and_parts (is_slot s t) (agree slots ts) h in (parts.0, each_formed slots ts (omega arith) parts.1)
 
 pub are_formed : (slots : List Slot) (ts : List Token) → have_forms slots ts ≡ true → AreFormed slots ts
 are_formed slots ts h =
@@ -92,7 +96,8 @@ count_names (s ∷ slots) (t ∷ ts) (here, later) = by (name_in t) (is_named s)
     by (Some name) true e r = ap suc r
     by (Some name) false e r = absurd (cc e)
 
-pub no_literal : (slots : List Slot) (ts : List Token) → AreFormed slots ts → list_any is_literal slots ≡ false → literal_at ts ≡ zero_number
+pub no_literal : (slots : List Slot) (ts : List Token) → AreFormed slots ts → list_any is_literal slots ≡ false
+    → literal_at ts ≡ zero_number
 no_literal [] [] f h = refl
 no_literal [] (t ∷ ts) f h = absurd f
 no_literal (s ∷ slots) [] f h = absurd f
@@ -149,5 +154,6 @@ alternate_literal false (t ∷ ts) h =
 pub list_literal : (ts : List Token) → is_list ts ≡ true → literal_at ts ≡ zero_number
 list_literal [] h = refl
 list_literal (t ∷ ts) h =
-    ⊎_elim (λ e. let none : length (t ∷ ts) ≡ 0 = (Decides-eqb (length (t ∷ ts)) 0).0 e in absurd (omega arith)) (alternate_literal true (t ∷ ts))
+    ⊎_elim (λ e. let none : length (t ∷ ts) ≡ 0 = (Decides-eqb (length (t ∷ ts)) 0).0 e in absurd (omega arith))
+    (alternate_literal true (t ∷ ts))
     (or_cases (length (t ∷ ts) == 0) (alternate true (t ∷ ts)) h)

@@ -1,5 +1,6 @@
 -- Words of a line that have a form: names and labels are spelled as such.
-use Rattle.std.proofs.Common.{◌≡◌, ℕ, zero, suc, ◌||◌, ◌==◌, Bool, true, false, List, [], ◌∷◌, Option, Some, None, map, drop, slice_get, if◌then◌else◌, refl}
+use Rattle.std.proofs.Common.{◌≡◌, ℕ, zero, suc, ◌||◌, ◌==◌, Bool, true, false, List, [], ◌∷◌, Option, Some, None, map, drop, slice_get}
+use Rattle.std.proofs.Common.{if◌then◌else◌, refl}
 use Rattle.std.specs.List.{cons_option}
 use Rattle.std.specs.Option.{option_map, option_and_then}
 use Rattle.un_base.specs.Names.{is_name}
@@ -22,7 +23,8 @@ pub IfThere-map : {X Y : Type 0} (Q : Y → Type 0) (f : X → Y) (o : Option X)
 IfThere-map Q f None h = tt
 IfThere-map Q f (Some x) h = h
 
-pub IfThere-then : {X Y : Type 0} (P : X → Type 0) (Q : Y → Type 0) (f : X → Option Y) (o : Option X) → IfThere P o → ((x : X) → P x → IfThere Q (f x)) → IfThere Q (option_and_then f o)
+pub IfThere-then : {X Y : Type 0} (P : X → Type 0) (Q : Y → Type 0) (f : X → Option Y) (o : Option X) → IfThere P o
+    → ((x : X) → P x → IfThere Q (f x)) → IfThere Q (option_and_then f o)
 IfThere-then P Q f None h g = tt
 IfThere-then P Q f (Some x) h g = g x h
 

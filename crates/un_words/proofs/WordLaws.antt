@@ -1,5 +1,6 @@
 -- The first word of a line.
-use Rattle.std.proofs.Common.{◌≡◌, ℕ, Bool, true, false, not, zero, suc, ◌||◌, ◌<◌, List, [], ◌∷◌, refl, sym, ap, ◌∙◌, length, take, drop, get_or, arith, subst}
+use Rattle.std.proofs.Common.{◌≡◌, ℕ, Bool, true, false, not, zero, suc, ◌||◌, ◌<◌, List, [], ◌∷◌, refl, sym, ap, ◌∙◌, length, take, drop}
+use Rattle.std.proofs.Common.{get_or, arith, subst}
 use Rattle.std.specs.List.{onto_first, prefix_len}
 use Rattle.un_words.specs.Words.{is_blank, is_mark, is_inner, words_of}
 
@@ -36,12 +37,14 @@ inner_word (b ∷ c ∷ more) some inner = by (λ e. inner_word (c ∷ more) (om
     plain = inner_plain b inner
 
     by : (is_inner c ≡ true → words_of (c ∷ more) ≡ take n (c ∷ more) ∷ words_of (drop n (c ∷ more)))
-        → (v : Bool) → is_inner c ≡ v → words_of (b ∷ c ∷ more) ≡ take (prefix_len is_inner (b ∷ c ∷ more)) (b ∷ c ∷ more) ∷ words_of (drop (prefix_len is_inner (b ∷ c ∷ more)) (b ∷ c ∷ more))
+        → (v : Bool) → is_inner c ≡ v → words_of (b ∷ c ∷ more)
+        ≡ take (prefix_len is_inner (b ∷ c ∷ more)) (b ∷ c ∷ more) ∷ words_of (drop (prefix_len is_inner (b ∷ c ∷ more)) (b ∷ c ∷ more))
     by later true e =
         let rest = later e in
         let here : words_of (b ∷ c ∷ more) ≡ onto_first b (words_of (c ∷ more)) = rw (plain.0, plain.1, e) refl in
         let k : prefix_len is_inner (b ∷ c ∷ more) ≡ suc n = rw inner (omega arith) in
-        subst (λ (k : ℕ). words_of (b ∷ c ∷ more) ≡ take k (b ∷ c ∷ more) ∷ words_of (drop k (b ∷ c ∷ more))) (sym k) (here ∙ ap (onto_first b) rest)
+        subst (λ (k : ℕ). words_of (b ∷ c ∷ more) ≡ take k (b ∷ c ∷ more) ∷ words_of (drop k (b ∷ c ∷ more))) (sym k)
+        (here ∙ ap (onto_first b) rest)
     by later false e =
         let none : n ≡ 0 = rw e refl in
         let here : words_of (b ∷ c ∷ more) ≡ (b ∷ []) ∷ words_of (c ∷ more) = rw (plain.0, plain.1, e) refl in
@@ -53,19 +56,23 @@ pub words_of-drop : (line : List ℕ) → words_of (drop (prefix_len is_blank li
 words_of-drop [] = refl
 words_of-drop (b ∷ bs) = by (words_of-drop bs) (is_blank b) refl
   where
-    by : words_of (drop (prefix_len is_blank bs) bs) ≡ words_of bs → (v : Bool) → is_blank b ≡ v → words_of (drop (prefix_len is_blank (b ∷ bs)) (b ∷ bs)) ≡ words_of (b ∷ bs)
+    by : words_of (drop (prefix_len is_blank bs) bs) ≡ words_of bs → (v : Bool) → is_blank b ≡ v
+        → words_of (drop (prefix_len is_blank (b ∷ bs)) (b ∷ bs)) ≡ words_of (b ∷ bs)
     by rest true e =
         let k : prefix_len is_blank (b ∷ bs) ≡ suc (prefix_len is_blank bs) = rw e (omega arith) in
         rw k (rest ∙ sym (blank_word b bs e))
     by rest false e = let k : prefix_len is_blank (b ∷ bs) ≡ zero = rw e refl in rw k refl
 
 -- and behind them no blank stands
-pub is_blank-drop : (line : List ℕ) → 0 < length (drop (prefix_len is_blank line) line) → is_blank (get_or (drop (prefix_len is_blank line) line) 0 0) ≡ false
+pub is_blank-drop : (line : List ℕ) → 0 < length (drop (prefix_len is_blank line) line)
+    → is_blank (get_or (drop (prefix_len is_blank line) line) 0 0) ≡ false
 is_blank-drop [] some = absurd (omega arith)
 is_blank-drop (b ∷ bs) some = by (is_blank-drop bs) (is_blank b) refl some
   where
-    by : (0 < length (drop (prefix_len is_blank bs) bs) → is_blank (get_or (drop (prefix_len is_blank bs) bs) 0 0) ≡ false) → (v : Bool) → is_blank b ≡ v
-        → 0 < length (drop (prefix_len is_blank (b ∷ bs)) (b ∷ bs)) → is_blank (get_or (drop (prefix_len is_blank (b ∷ bs)) (b ∷ bs)) 0 0) ≡ false
+    by : (0 < length (drop (prefix_len is_blank bs) bs) → is_blank (get_or (drop (prefix_len is_blank bs) bs) 0 0) ≡ false) → (v : Bool)
+        → is_blank b ≡ v
+        → 0 < length (drop (prefix_len is_blank (b ∷ bs)) (b ∷ bs))
+        → is_blank (get_or (drop (prefix_len is_blank (b ∷ bs)) (b ∷ bs)) 0 0) ≡ false
     by rest true e some =
         let k : prefix_len is_blank (b ∷ bs) ≡ suc (prefix_len is_blank bs) = rw e (omega arith) in
         let more : 0 < length (drop (prefix_len is_blank bs) bs) = rw k at some in

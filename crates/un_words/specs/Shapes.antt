@@ -1,5 +1,6 @@
 -- The shapes of a line: which words make a line of which kind.
-use Rattle.std.specs.Prelude.{ℕ, ◌==◌, ◌&&◌, ◌||◌, Bool, true, false, not, List, [], ◌∷◌, map, filter, length, drop, Option, Some, None, is_some, is_none, unwrap_or, codes, slice_get, if◌then◌else◌}
+use Rattle.std.specs.Prelude.{ℕ, ◌==◌, ◌&&◌, ◌||◌, Bool, true, false, not, List, [], ◌∷◌, map, filter, length, drop, Option, Some, None}
+use Rattle.std.specs.Prelude.{is_some, is_none, unwrap_or, codes, slice_get, if◌then◌else◌}
 use Rattle.std.specs.List.{list_all, filter_map, find, zip}
 use Rattle.std.specs.Option.{option_map, option_map_or, option_and_then}
 use Rattle.std.specs.Str.{bytes_eq}
@@ -13,9 +14,11 @@ use Rattle.un_words.specs.declared.token.Number.{Number}
 use Rattle.un_words.specs.declared.token.Token.{Token}
 use Rattle.un_words.specs.declared.token.Token.TheVariants.{Comma, Equals, Named, Negated, Literal, Plain, Word}
 use Rattle.un_words.specs.declared.slot.Slot.{Slot}
-use Rattle.un_words.specs.declared.slot.Slot.TheVariants.{Comma as CommaSlot, Equals as EqualsSlot, Named as NamedSlot, Literal as LiteralSlot, Plain as PlainSlot, Word as WordSlot}
+use Rattle.un_words.specs.declared.slot.Slot.TheVariants.{Comma as CommaSlot, Equals as EqualsSlot, Named as NamedSlot}
+use Rattle.un_words.specs.declared.slot.Slot.TheVariants.{Literal as LiteralSlot, Plain as PlainSlot, Word as WordSlot}
 use Rattle.un_words.specs.declared.slot.Head.{Head}
-use Rattle.un_words.specs.declared.slot.Head.TheVariants.{Nothing, Func as FuncHead, Block as BlockHead, Jump as JumpHead, If as IfHead, Ret as RetHead, Assigned, Bare, Unknown}
+use Rattle.un_words.specs.declared.slot.Head.TheVariants.{Nothing, Func as FuncHead, Block as BlockHead, Jump as JumpHead, If as IfHead}
+use Rattle.un_words.specs.declared.slot.Head.TheVariants.{Ret as RetHead, Assigned, Bare, Unknown}
 use Rattle.un_words.specs.declared.line.OpLine.{OpLine}
 use Rattle.un_words.specs.declared.line.TermLine.TheVariants.{Jump, Branch, Ret}
 use Rattle.un_words.specs.declared.line.Line.{Line}

@@ -9,5 +9,6 @@ returns-in_ok-put_literal-in-len1-up c =
     grind (
       arith,
       common_steps,
-      spaced-map-offset (name_text c.args.names.now) c.args.list.now (record { 0 = 0 }) (literal_text c.args.o.now) c.in-len1-up.len_at_least,
+      spaced-map-offset (name_text c.args.names.now) c.args.list.now (record { 0 = 0 })
+          (literal_text c.args.o.now) c.in-len1-up.len_at_least,
     )

@@ -6,4 +6,9 @@ use Rattle.un_ir.proofs.print.put_names_and_literal.Goals as goal
 
 pub returns-in_ok-put_comma-in-len1-up : goal.returns-in_ok-put_comma-in-len1-up
 returns-in_ok-put_comma-in-len1-up c =
-    grind (arith, common_steps, spaced-map-literal (name_text c.args.names.now) c.args.list.now (record { 0 = 0 }) (literal_text c.args.o.now) c.in-len1-up.len_at_least)
+    grind (
+      arith,
+      common_steps,
+      spaced-map-literal (name_text c.args.names.now) c.args.list.now (record { 0 = 0 })
+          (literal_text c.args.o.now) c.in-len1-up.len_at_least,
+    )

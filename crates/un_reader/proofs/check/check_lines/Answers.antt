@@ -9,7 +9,10 @@ use Rattle.un_reader.proofs.check.check_lines.Goals as goal
 pub returns-in_err-add_line-clause-bad : goal.returns-in_err-add_line-clause-bad
 returns-in_err-add_line-clause-bad c =
     let p = err_from_is_err_and c.from_residual.result c.from_residual.ensures.1 in
-    let told = fault_step (lines_in c.args.text.now) c.loop-rest.lines c.loop-rest.before (take c.first_len-len.result c.loop-rest.rest.now) c.loop-rest.rest.now (drop c.first_len-len.result c.loop-rest.rest.now) c.content.result.now _
+    let told =
+    fault_step (lines_in c.args.text.now) c.loop-rest.lines c.loop-rest.before
+    (take c.first_len-len.result c.loop-rest.rest.now) c.loop-rest.rest.now
+    (drop c.first_len-len.result c.loop-rest.rest.now) c.content.result.now _
     c.loop-rest.invariant.seen c.first_len-len.ensures.cut c.content.ensures c.loop-rest.invariant.before c.in_err-add_line.ensures.bad in
     rw (p.1, p.2) told
 
@@ -21,8 +24,12 @@ loop-rest-preserved c =
     let one = length_push c.loop-rest.lines (line_of c.content.result.now) in
     let shorter = length-drop n rest in
     record {
-      seen = rw (take_rest rest n, more) (seen_step (lines_in c.args.text.now) c.loop-rest.lines (line_of c.content.result.now) c.loop-rest.before (take n rest) rest (drop n rest) c.content.result.now
+      seen = rw (take_rest rest n, more)
+          (seen_step (lines_in c.args.text.now) c.loop-rest.lines (line_of c.content.result.now) c.loop-rest.before (take n rest) rest
+          (drop n rest) c.content.result.now
           c.loop-rest.invariant.seen c.first_len-len.ensures.cut c.content.ensures c.loop-rest.invariant.before c.in_ok-add_line.ensures.good refl);
       before = c.in_ok-add_line.ensures.before;
-      count = rw (take_rest rest n, more, one, shorter) (omega (arith, c.loop-rest.invariant.count, c.first_len-len.ensures.some, c.first_len-len.ensures.bound));
+      count =
+          rw (take_rest rest n, more, one, shorter)
+          (omega (arith, c.loop-rest.invariant.count, c.first_len-len.ensures.some, c.first_len-len.ensures.bound));
     }

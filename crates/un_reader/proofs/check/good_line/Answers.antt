@@ -16,4 +16,5 @@ pub returns-in-None-clause-bad : goal.returns-in-None-clause-bad
 returns-in-None-clause-bad c =
     let good : list_all is_plain_byte c.args.bytes.now ≡ true = search rules in
     let none : shape_of (tokens_of c.args.bytes.now) ≡ None = sym c.in_ok-shape.ensures ∙ c.in-None.is in
-    told _ (c.args.place + 1) BadLine c.fault_of-in-None.result c.fault_of-in-None.ensures (refl, bad_line c.args.before.now c.args.bytes.now good none)
+    told _ (c.args.place + 1) BadLine c.fault_of-in-None.result c.fault_of-in-None.ensures
+    (refl, bad_line c.args.before.now c.args.bytes.now good none)

@@ -10,4 +10,5 @@ loop-name-init c = rw c.new-seen.ensures (nothing_seen c.args.names.now)
 pub loop-name-preserved : goal.loop-name-preserved
 loop-name-preserved c =
     rw c.in_ok-add.ensures
-    (go_on c.args.names.now c.loop-name.seen c.loop-name.name-index c.name-item.result c.loop-name-test.true c.name-item.is (sym c.has.ensures ∙ c.if-has.false) c.loop-name.invariant)
+    (go_on c.args.names.now c.loop-name.seen c.loop-name.name-index c.name-item.result c.loop-name-test.true c.name-item.is
+    (sym c.has.ensures ∙ c.if-has.false) c.loop-name.invariant)

@@ -13,4 +13,5 @@ pub returns-in-None-clause-bad : goal.returns-in-None-clause-bad
 returns-in-None-clause-bad c =
     let none : labels_of c.args.lines.now ≡ [] = sym (ap (λ (b : Before). b.labels) c.requires.before) ∙ c.requires.named c.in-None.is in
     let is : c.fault_of.result ≡ TextFault (length c.args.lines.now + 1) (code_of NoBlock) = search rules in
-    told (λ line fault. shape_fault c.args.lines.now ≡ Some (line, fault)) (length c.args.lines.now + 1) NoBlock c.fault_of.result is (unnamed c.args.lines.now none)
+    told (λ line fault. shape_fault c.args.lines.now ≡ Some (line, fault)) (length c.args.lines.now + 1) NoBlock c.fault_of.result is
+    (unnamed c.args.lines.now none)

@@ -42,7 +42,8 @@ good_parts-requires-clause-named c =
 
 pub good_parts-requires-clause-labels : goal.good_parts-requires-clause-labels
 good_parts-requires-clause-labels c =
-    let few : length (labels_of c.in_ok-lines.field-0.lines) ≤ TEXT = omega (arith, few_labels c.in_ok-lines.field-0.lines, c.in_ok-lines.ensures.count) in
+    let few : length (labels_of c.in_ok-lines.field-0.lines) ≤ TEXT =
+    omega (arith, few_labels c.in_ok-lines.field-0.lines, c.in_ok-lines.ensures.count) in
     subst (λ (b : Before). length b.labels ≤ TEXT) (sym c.in_ok-lines.ensures.before) few
 
 pub returns-in_err-parts-clause-fault : goal.returns-in_err-parts-clause-fault
@@ -73,7 +74,8 @@ returns-then-branch-clause-fault c =
     let within : length c.args.text.now ≤ TEXT = omega arith in
     let same : c.as_slice.result.now ≡ shapes_in c.args.text.now = c.as_slice.ensures ∙ c.in_ok-lines.ensures.lines in
     let live = c.in_ok-has_live.ensures.yes c.if-branch.true in
-    let place : c.entry_place.result ≡ position_or_len is_block c.as_slice.result.now = c.entry_place.ensures.place ∙ ap (position_or_len is_block) (c.as_slice-then-branch.ensures ∙ sym c.as_slice.ensures) in
+    let place : c.entry_place.result ≡ position_or_len is_block c.as_slice.result.now =
+    c.entry_place.ensures.place ∙ ap (position_or_len is_block) (c.as_slice-then-branch.ensures ∙ sym c.as_slice.ensures) in
     told (IsTextFault c.args.text.now) (c.entry_place.result + 1) LiveAtEntry c.fault_of-then-branch.result c.fault_of-then-branch.ensures
     (entry_fault c.args.text.now c.as_slice.result.now _ _ _ _ c.entry_place.result within
     (parts_of c.args.text.now c.as_slice.result.now _ _ _ _ c.in_ok-lines.ensures.good same c.in_ok-parts.ensures.good c.in_ok-parts.ensures.parts)
