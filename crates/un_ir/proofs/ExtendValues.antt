@@ -4,6 +4,7 @@ use Rattle.std.specs.List.{sum_by}
 use Rattle.un_base.specs.declared.ids.BlockId.{BlockId}
 use Rattle.un_base.specs.declared.ids.NameId.{NameId}
 use Rattle.un_isa.specs.Hexagon.{HEXAGON}
+use Rattle.un_isa.specs.Registers.{callee_saved}
 use Rattle.un_isa.specs.declared.op.Op.{Op}
 use Rattle.un_isa.specs.declared.op.Op.TheVariants.{Add, Addi, Andi, Call, CmpEq, Imm, Load, Lsr, Ori, Store, Sub}
 use Rattle.un_ir.specs.declared.function.Kind.{Kind}
@@ -61,6 +62,7 @@ smallest = linear (General ∷ []) ([] ∷ [])
     ∷ [])
 
 smallest_variables : variables (extend_of smallest) ≡ 124
+unfolding callee_saved
 smallest_variables = refl
 
 abbrev branch_and_call_ops0 : List SrcOp
@@ -87,6 +89,7 @@ branch_and_call = linear (General ∷ General ∷ Pred ∷ Pred ∷ []) ((name 0
     ∷ [])
 
 branch_and_call_variables : variables (extend_of branch_and_call) ≡ 296
+unfolding callee_saved
 branch_and_call_variables = refl
 
 abbrev fall_or_jump_ops0 : List SrcOp
@@ -111,6 +114,7 @@ fall_or_jump = linear (General ∷ General ∷ General ∷ General ∷ Pred ∷ 
     ∷ [])
 
 fall_or_jump_variables : variables (extend_of fall_or_jump) ≡ 330
+unfolding callee_saved
 fall_or_jump_variables = refl
 
 abbrev two_branches_ops0 : List SrcOp
@@ -143,4 +147,5 @@ two_branches = linear (General ∷ General ∷ General ∷ General ∷ Pred ∷ 
     ∷ [])
 
 two_branches_variables : variables (extend_of two_branches) ≡ 432
+unfolding callee_saved
 two_branches_variables = refl
