@@ -11,4 +11,6 @@ pub mod Apart
 pub mod Calls
 pub mod Zeros
 pub mod Places
+pub mod HomeSteps
+pub mod HomeMasks
 pub mod Verdicts

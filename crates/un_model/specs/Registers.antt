@@ -41,12 +41,19 @@ slots_of n = range_with_len FIRST_SLOT n
 abbrev pub reg_at : ℕ → Reg
 reg_at r = record { 0 = r }
 
+-- a parameter's home, by its number; other names have none
+abbrev pub name_home : Table → Bool → NameId → Option Reg
+name_home t true name = Some (reg_at (slice_index t.args name.0))
+name_home t false name = None
+
+abbrev pub saved_home : Table → ℕ → Option Reg
+saved_home t k = option_map reg_at (slice_get (saved_registers t) k)
+
 -- the home of the value at place j of those at a block's start, which have these names: a parameter's by its number, a saved
 -- value's its register
 abbrev pub start_home : Table → Bool → List NameId → ℕ → Option NameId → Option Reg
-start_home t is_entry live_in j None = option_map reg_at (slice_get (saved_registers t) (j - length live_in))
-start_home t true live_in j (Some name) = Some (reg_at (slice_index t.args name.0))
-start_home t false live_in j (Some name) = None
+start_home t is_entry live_in j None = saved_home t (j - length live_in)
+start_home t is_entry live_in j (Some name) = name_home t is_entry name
 
 abbrev pub call_home : Table → Op → Option Reg
 call_home t Call = Some (reg_at t.result)
@@ -114,7 +121,10 @@ abbrev pub value_registers : Ext → Option ℕ → ℕ → Bool → ExtBlock �
 value_registers e regs slots is_entry block x =
     general_registers e regs is_entry block x ++ (if is_truth e.names block x then predicate_registers else []) ++ slots_of slots
 
+abbrev pub begins_with_zero : List ℕ → Bool
+begins_with_zero [] = false
+begins_with_zero (r ∷ rs) = r == 0
+
 -- 0 is in front, where it is not there
 abbrev pub with_zero : List ℕ → List ℕ
-with_zero [] = 0 ∷ []
-with_zero (r ∷ rs) = if r == 0 then r ∷ rs else 0 ∷ r ∷ rs
+with_zero registers = if begins_with_zero registers then registers else 0 ∷ registers

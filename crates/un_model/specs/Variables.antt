@@ -23,7 +23,7 @@ use Rattle.un_model.specs.declared.model.BlockVars.{BlockVars}
 use Rattle.un_model.specs.declared.model.Model.{Model}
 use Rattle.un_model.specs.Instructions.{gives_truth}
 use Rattle.un_model.specs.Pairs.{places_from}
-use Rattle.un_model.specs.Registers.{result_home, is_truth, predicate_registers, general_registers, value_registers, with_zero}
+use Rattle.un_model.specs.Registers.{result_home, is_truth, predicate_registers, general_registers, value_registers, with_zero, reg_at}
 
 -- ---- which variables there are
 
@@ -166,16 +166,27 @@ home_domain home = Set (map (λ (r : Reg). r.0) (option_to_list home))
 
 -- the registers of a result of the source: a call's its home alone, a truth value's p0 to p3
 abbrev pub source_domain : Ext → Options → Bool → ExtBlock → Op → TempId → Domain
-source_domain e o is_entry block Call x = Set (e.table.result ∷ [])
+source_domain e o is_entry block Call x = home_domain (Some (reg_at e.table.result))
 source_domain e o is_entry block op x = Set (if gives_truth op then predicate_registers else general_registers e o.regs is_entry block x)
 
--- the registers of the result x at place j of an operation of a block
-abbrev pub register_domain : Ext → Options → Bool → ExtBlock → ExtOp → ExtKind → ℕ → TempId → Domain
-register_domain e o true block op In j x = home_domain (result_home e.table true block.live_in In j)
-register_domain e o false block op In j x = Set (value_registers e o.regs o.slots false block x)
-register_domain e o is_entry block op (Body source) j x = source_domain e o is_entry block source.op x
-register_domain e o is_entry block op (Copy node) j x = Set (with_zero (value_registers e o.regs o.slots is_entry block (carried op x)))
-register_domain e o is_entry block op _ j x = Set []
+-- the registers of value x at place j of those at a block's start: its home alone in the entry
+abbrev pub start_domain : Ext → Options → Bool → ExtBlock → ℕ → TempId → Domain
+start_domain e o true block j x = home_domain (result_home e.table true block.live_in In j)
+start_domain e o false block j x = Set (value_registers e o.regs o.slots false block x)
+
+-- the registers of a copy of value y; an inactive one has 0
+abbrev pub copy_registers : Ext → Options → Bool → ExtBlock → TempId → Domain
+copy_registers e o is_entry block y = Set (with_zero (value_registers e o.regs o.slots is_entry block y))
+
+-- the registers of the result x at place j of an operation of a block, which carries value y
+abbrev pub register_domain : Ext → Options → Bool → ExtBlock → ExtKind → ℕ → TempId → TempId → Domain
+register_domain e o is_entry block In j x y = start_domain e o is_entry block j x
+register_domain e o is_entry block (Body source) j x y = source_domain e o is_entry block source.op x
+register_domain e o is_entry block (Copy node) j x y = copy_registers e o is_entry block y
+register_domain e o is_entry block _ j x y = Set []
+
+abbrev pub result_domain : Ext → Options → Bool → ExtBlock → ExtOp → ℕ → TempId → Domain
+result_domain e o is_entry block op j x = register_domain e o is_entry block op.kind j x (carried op x)
 
 -- what an operation carries that has a first result: the value of that
 abbrev pub carries_truth : Ext → ExtBlock → ExtOp → List TempId → Bool
@@ -185,7 +196,7 @@ carries_truth e block op (x ∷ xs) = is_truth e.names block (carried op x)
 -- the domains of an operation's variables: its instruction, its cycle, its choices, the registers of its results
 abbrev pub op_domains : Ext → Options → Bool → ExtBlock → ℕ → ExtOp → List Domain
 op_domains e o is_entry block horizon op =
-    option_to_list (instr_domain (carries_truth e block op op.results) op.kind) ++ option_to_list (cycle_domain horizon op.kind) ++ map choice_domain (chosen_operands op) ++ places_from (register_domain e o is_entry block op op.kind) 0 op.results
+    option_to_list (instr_domain (carries_truth e block op op.results) op.kind) ++ option_to_list (cycle_domain horizon op.kind) ++ map choice_domain (chosen_operands op) ++ places_from (result_domain e o is_entry block op) 0 op.results
 
 abbrev pub ops_domains : Ext → Options → Bool → ExtBlock → ℕ → List ExtOp → List Domain
 ops_domains e o is_entry block horizon [] = []

@@ -1,0 +1,160 @@
+//! The registers to which the values of a block are preassigned, and which values are truth values, in one pass.
+
+ghost use Rattle.std.specs.Prelude.{◌≡◌, ℕ, ◌<◌, ◌≤◌, ◌==◌, ◌&&◌, ◌||◌, false, IfOk, OnOk};
+ghost use Rattle.std.specs.List.{list_any};
+ghost use Rattle.un_base.specs.declared.ids.TempId.{TempId};
+ghost use Rattle.un_isa.specs.Registers.{saved_registers};
+ghost use Rattle.un_isa.specs.Tables.{in_mask};
+ghost use Rattle.un_model.specs.Homes.{mask_of, AddsMarks, is_mark, is_operand_mark, is_operands_mark, is_result_mark, is_results_mark, is_op_mark, is_block_mark, TellsHomes};
+
+use crate::registers::{gives_truth_at, result_home};
+use std::alloc::Global;
+use std::collections::BTreeMap;
+use un_base::ids::{NameId, TempId};
+use un_base::memory_error::NoMemory;
+use un_ir::extended::{Ext, ExtBlock, ExtOp, Operand};
+use un_isa::reg::{GENERALS, Reg};
+use un_lists::items::Items;
+
+/// A mask for each value, by its number: bit `r` below 32 is set where register `r` is a home of it, bit 32 where it is a
+/// truth value.
+pub(crate) type Homes = BTreeMap<u32, u64>;
+
+/// The mask of a value, 0 where it has no home and is no truth value.
+pub(crate) fn mask(homes: &Homes, x: TempId) -> u64
+    ensures { result ≡ mask_of homes.now x }
+{
+    homes.get(&x.0).copied().unwrap_or(0)
+}
+
+/// Bit `r` of a value.
+fn add_mark(homes: &mut Homes, x: TempId, r: u32) -> Result<(), NoMemory>
+    requires { r ≤ 32 }
+    ensures { OnOk result (AddsMarks (λ y i. x.0 == y.0 && r == i) homes.old homes.new) }
+{
+    let old = mask(homes, x);
+    match homes.insert(x.0, old | (1 << r)) {
+        Ok(_) => Ok(()),
+        Err(_) => Err(NoMemory),
+    }
+}
+
+/// Bit `r` of each of these values.
+fn add_alternatives(homes: &mut Homes, alts: &Items<TempId>, r: u32) -> Result<(), NoMemory>
+    requires { r ≤ 32 }
+    ensures { OnOk result
+        (AddsMarks (λ y i. list_any (λ t. t.0 == y.0 && r == i) alts.now) homes.old homes.new) }
+{
+    for j in 0..alts.len() {
+        add_mark(homes, *alts.get(j), r)?;
+    }
+    Ok(())
+}
+
+/// The home of an operand, for each value that it may read.
+fn add_operand(homes: &mut Homes, operand: &Operand) -> Result<(), NoMemory>
+    ensures { OnOk result (AddsMarks (λ y i. is_operand_mark operand.now y i) homes.old homes.new) }
+{
+    if let Some(reg) = operand.home {
+        if reg.0 < GENERALS {
+            add_alternatives(homes, &operand.alts, reg.0)?;
+        }
+    }
+    Ok(())
+}
+
+/// The homes of the operands of an operation.
+fn add_operands(homes: &mut Homes, op: &ExtOp) -> Result<(), NoMemory>
+    ensures { OnOk result (AddsMarks (λ y i. is_operands_mark op.now y i) homes.old homes.new) }
+{
+    for j in 0..op.operands.len() {
+        add_operand(homes, op.operands.get(j))?;
+    }
+    Ok(())
+}
+
+/// That a value is a truth value, where it is.
+fn add_truth(homes: &mut Homes, x: TempId, truth: bool) -> Result<(), NoMemory>
+    ensures { OnOk result (AddsMarks (λ y i. x.0 == y.0 && (truth && 32 == i)) homes.old homes.new) }
+{
+    if truth {
+        add_mark(homes, x, GENERALS)?;
+    }
+    Ok(())
+}
+
+/// The home of a value, where it has one.
+fn add_own_home(homes: &mut Homes, x: TempId, home: Option<Reg>) -> Result<(), NoMemory>
+    ensures { OnOk result (AddsMarks (λ y i. x.0 == y.0 && is_mark false home i) homes.old homes.new) }
+{
+    if let Some(reg) = home {
+        if reg.0 < GENERALS {
+            add_mark(homes, x, reg.0)?;
+        }
+    }
+    Ok(())
+}
+
+/// The home of a value, where it has one, and whether it is a truth value.
+fn add_result(homes: &mut Homes, x: TempId, truth: bool, home: Option<Reg>) -> Result<(), NoMemory>
+    ensures { OnOk result (AddsMarks (λ y i. x.0 == y.0 && is_mark truth home i) homes.old homes.new) }
+{
+    add_truth(homes, x, truth)?;
+    add_own_home(homes, x, home)?;
+    Ok(())
+}
+
+/// The homes of the results of an operation, and which are truth values.
+fn add_results(
+    homes: &mut Homes,
+    e: &Ext,
+    saved: &Items<u32>,
+    is_entry: bool,
+    live_in: &Items<NameId>,
+    op: &ExtOp,
+) -> Result<(), NoMemory>
+    requires { saved.now ≡ saved_registers e.now.table }
+    ensures { OnOk result (AddsMarks (λ y i. is_results_mark e.now is_entry live_in.now op.now y i) homes.old homes.new) }
+{
+    for j in 0..op.results.len() {
+        let truth = gives_truth_at(&e.names, live_in, &op.kind, j);
+        let home = result_home(&e.table, saved, is_entry, live_in, &op.kind, j);
+        add_result(homes, *op.results.get(j), truth, home)?;
+    }
+    Ok(())
+}
+
+/// The homes of the operands and of the results of an operation, and which results are truth values.
+fn add_op(
+    homes: &mut Homes,
+    e: &Ext,
+    saved: &Items<u32>,
+    is_entry: bool,
+    live_in: &Items<NameId>,
+    op: &ExtOp,
+) -> Result<(), NoMemory>
+    requires { saved.now ≡ saved_registers e.now.table }
+    ensures { OnOk result (AddsMarks (λ y i. is_op_mark e.now is_entry live_in.now y i op.now) homes.old homes.new) }
+{
+    add_operands(homes, op)?;
+    add_results(homes, e, saved, is_entry, live_in, op)?;
+    Ok(())
+}
+
+/// The homes of all values of a block, and which are truth values.
+pub(crate) fn homes(
+    alloc: Global,
+    e: &Ext,
+    saved: &Items<u32>,
+    is_entry: bool,
+    block: &ExtBlock,
+) -> Result<Homes, NoMemory>
+    requires { saved.now ≡ saved_registers e.now.table }
+    ensures { IfOk result (λ homes. TellsHomes e.now is_entry block.now homes) }
+{
+    let mut homes = BTreeMap::new(alloc);
+    for i in 0..block.ops.len() {
+        add_op(&mut homes, e, saved, is_entry, &block.live_in, block.ops.get(i))?;
+    }
+    Ok(homes)
+}
