@@ -1,4 +1,8 @@
 pub mod Fixes
+pub mod Going
+pub mod GoingLaws
+pub mod Last
+pub mod LastLaws
 pub mod Lawful
 pub mod Nodes
 pub mod Parts

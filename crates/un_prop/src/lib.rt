@@ -2,7 +2,9 @@
 #![tactic(auto)]
 
 pub mod changed;
+pub mod last;
 pub mod propagator;
 pub mod queue;
 pub mod readers;
 pub mod run;
+pub mod step;
