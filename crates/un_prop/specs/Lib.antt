@@ -1,3 +1,4 @@
+pub mod Acts
 pub mod Fixes
 pub mod Going
 pub mod GoingLaws
@@ -5,6 +6,7 @@ pub mod Last
 pub mod LastLaws
 pub mod Lawful
 pub mod Nodes
+pub mod PartLaws
 pub mod Parts
 pub mod Pruning
 pub mod QueueLaws

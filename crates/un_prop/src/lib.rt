@@ -1,6 +1,7 @@
 //! Propagators: their laws, and rounds of them.
 #![tactic(auto)]
 
+pub mod act;
 pub mod changed;
 pub mod last;
 pub mod propagator;
