@@ -1,4 +1,6 @@
 pub mod Acts
+pub mod Among
+pub mod AmongLaws
 pub mod Fixes
 pub mod Going
 pub mod GoingLaws

@@ -7,6 +7,12 @@ use Rattle.un_base.specs.declared.ids.VarId.{VarId}
 use Rattle.un_domains.specs.Sets.{Sets, set_at, IsIn, NoneEmpty, Kept}
 use Rattle.un_domains.specs.Order.{Below}
 use Rattle.un_domains.specs.OrderLaws.{single_below, Below-same, Below-trans}
+use Rattle.un_domains.specs.Cuts.{Contents}
+use Rattle.un_prop.specs.Pruning.{IsPrune}
+use Rattle.un_prop.specs.Going.{Goes}
+use Rattle.un_prop.specs.GoingLaws.{starts}
+use Rattle.un_prop.specs.declared.propagator.Pruned.{Pruned}
+use Rattle.un_prop.specs.declared.propagator.Pruned.TheVariants.{Same}
 use Rattle.un_prop.specs.Rounds.{HasVars}
 use Rattle.un_prop.specs.Parts.{Part, all_meet, SameAt, ChecksForward}
 use Rattle.un_prop.specs.Lawful.{Lawful}
@@ -69,3 +75,8 @@ module _ (vs : List VarId) (t : List ℕ → Bool) (looks : (x y : List ℕ) →
           let km : HasVars vs m = λ i d lt. rw h.0.long (k i d lt) in
           let down : Below s m = (let less = (last_lawful vs t looks).shrinks m km h.1 in (subst (λ (c : Option Sets). MatchOption c ⊤ (λ u. Below u m × NoneEmpty u)) is less).0) in
           ap (λ (u : Sets). Some u) (Below-same m s h.0 down)
+
+-- a pruning that is the check alone, or some steps and then the check
+pub checked : (vs us : List VarId) (f : Sets → Option Sets) (old new : Contents) (answer : Pruned) → vs ≡ us → NoneEmpty old.sets → Goes vs f old new Same answer
+    → IsPrune us (f old.sets) old new answer
+checked vs us f old new answer e live goes = subst (λ (ws : List VarId). IsPrune ws (f old.sets) old new answer) e (goes (Some old.sets) old (starts vs old live))

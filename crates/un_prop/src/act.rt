@@ -1,8 +1,7 @@
 //! Activities, times, users and temporaries, as propagators name them.
 
-ghost use Rattle.std.specs.Prelude.{◌≡◌, ◌<◌, ℕ, length, All};
-ghost use Rattle.un_base.specs.declared.ids.VarId.{VarId};
-ghost use Rattle.un_prop.specs.Acts.{act_vars, act_number, is_active, at_vars, at_value};
+ghost use Rattle.std.specs.Prelude.{◌≡◌, slice_index};
+ghost use Rattle.un_prop.specs.Acts.{act_number, is_active, at_value};
 
 use un_base::ids::VarId;
 use un_lists::items::Items;
@@ -41,20 +40,26 @@ pub struct Temp {
     pub users: Items<UserOf>,
 }
 
+/// The value of a variable; 0 for a variable that the assignment does not have.
+pub fn value(fixed: &[u32], v: VarId) -> u32
+    ensures { result ≡ slice_index fixed.now v.0 }
+{
+    let i = v.0 as usize;
+    if i < fixed.len() { fixed[i] } else { 0 }
+}
+
 /// The number of an activity: 1 for always, and else the variable's value.
 pub fn number(fixed: &[u32], on: Act) -> u32
-    requires { All (λ v. v.0 < length fixed.now) (act_vars on) }
     ensures { result ≡ act_number on fixed.now }
 {
     match on {
         Act::Always => 1,
-        Act::Var(v) => fixed[v.0 as usize],
+        Act::Var(v) => value(fixed, v),
     }
 }
 
 /// Whether an activity is on.
 pub fn active(fixed: &[u32], on: Act) -> bool
-    requires { All (λ v. v.0 < length fixed.now) (act_vars on) }
     ensures { result ≡ is_active on fixed.now }
 {
     number(fixed, on) != 0
@@ -62,11 +67,10 @@ pub fn active(fixed: &[u32], on: Act) -> bool
 
 /// The value of a time.
 pub fn time(fixed: &[u32], at: At) -> u32
-    requires { All (λ v. v.0 < length fixed.now) (at_vars at) }
     ensures { result ≡ at_value at fixed.now }
 {
     match at {
-        At::Const(value) => value,
-        At::Var(v) => fixed[v.0 as usize],
+        At::Const(n) => n,
+        At::Var(v) => value(fixed, v),
     }
 }
