@@ -75,5 +75,5 @@ impl Propagator for Chosen {
 
     ghost forward = { λ p. forward_one p.vars (chosen_holds p.user p.choice p.alts) (chosen_looks p.vars p.user p.choice p.alts p.among) p.ascend };
 
-    ghost strength = { λ p s k full e. tt };
+    ghost strength = { λ p s k full words grounded e. tt };
 }

@@ -72,5 +72,5 @@ impl Propagator for Home {
 
     ghost forward = { λ p. forward_one p.vars (home_holds p.choice p.regs p.home.0) (home_looks p.vars p.choice p.regs p.home.0 p.among) p.ascend };
 
-    ghost strength = { λ p s k full e. tt };
+    ghost strength = { λ p s k full words grounded e. tt };
 }

@@ -73,5 +73,5 @@ impl Propagator for Same {
 
     ghost forward = { λ p. forward_one p.vars (same_holds p.choice p.regs p.to) (same_looks p.vars p.choice p.regs p.to p.among) p.ascend };
 
-    ghost strength = { λ p s k full e. tt };
+    ghost strength = { λ p s k full words grounded e. tt };
 }

@@ -99,5 +99,5 @@ impl Propagator for Spaces {
 
     ghost forward = { λ p. forward_one p.vars (spaces_holds p.on p.choice p.regs p.sets) (spaces_looks p.vars p.on p.choice p.regs p.sets p.among) p.ascend };
 
-    ghost strength = { λ p s k full e. tt };
+    ghost strength = { λ p s k full words grounded e. tt };
 }

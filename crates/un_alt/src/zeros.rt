@@ -84,5 +84,5 @@ impl Propagator for Zeros {
 
     ghost forward = { λ p. forward_one p.vars (zeros_holds p.instr p.others) (zeros_looks p.vars p.instr p.others p.among) p.ascend };
 
-    ghost strength = { λ p s k full e. tt };
+    ghost strength = { λ p s k full words grounded e. tt };
 }

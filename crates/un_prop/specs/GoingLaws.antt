@@ -12,7 +12,7 @@ use Rattle.un_domains.specs.CutLaws.{filter_whole, kept_full}
 use Rattle.un_domains.specs.OrderLaws.{total_below, total_same}
 use Rattle.un_domains.specs.declared.cut.Cut.{Cut}
 use Rattle.un_domains.specs.declared.cut.Cut.TheVariants.{Same as CutSame, Changed, Emptied}
-use Rattle.un_prop.specs.Going.{Goes, answer_of}
+use Rattle.un_prop.specs.Going.{Goes, Stepped, answer_of}
 use Rattle.un_prop.specs.Steps.{kept_below}
 use Rattle.un_prop.specs.Pruning.{IsPrune, Ends, Answers, Untouched, join}
 use Rattle.un_prop.specs.declared.propagator.Pruned.{Pruned}
@@ -134,3 +134,55 @@ goes_same vs f old before e = goes_by vs f (λ s. Some s) old old before before 
 -- where a pruning starts
 pub starts : (vs : List VarId) (s : Contents) → NoneEmpty s.sets → IsPrune vs (Some s.sets) s s Same
 starts vs s live = record { ends = record { sets = refl; live = live; answers = refl }; untouched = untouched_refl vs s }
+
+-- Steps
+
+ends_live : (c : Option Sets) (old new : Sets) (answer : Pruned) → Ends c old new answer → answer ≢ Failed → NoneEmpty new
+ends_live None old new answer e other = absurd (other e.0)
+ends_live (Some left) old new answer e other = subst NoneEmpty (sym e.sets) e.live
+
+pub stepped_then : (vs : List VarId) (f : Sets → Option Sets) (old new : Contents) (before did after : Pruned) → before ≢ Failed → after ≡ join before did
+    → length new.sets ≡ length old.sets → (NoneEmpty old.sets → Ends (f old.sets) old.sets new.sets did × Untouched vs old new) → Stepped vs f old new before after
+stepped_then vs f old new before did after other is long h = record {
+  goes = subst (λ (a : Pruned). Goes vs f old new before a) (sym is) (goes_then vs f old new before did other h);
+  long = long;
+  live = λ full still. ends_live (f old.sets) old.sets new.sets did ((h (full other)).0) (λ e. still (is ∙ (ap (join before) e ∙ join_failed before)));
+}
+
+pub stepped_failed : (vs : List VarId) (f : Sets → Option Sets) (old : Contents) (before : Pruned) → before ≡ Failed → Stepped vs f old old before before
+stepped_failed vs f old before e = record {
+  goes = subst (λ (a : Pruned). Goes vs f old old a a) (sym e) (goes_failed vs f old);
+  long = refl;
+  live = λ full still. absurd (still e);
+}
+
+pub stepped_same : (vs : List VarId) (f : Sets → Option Sets) (old : Contents) (before : Pruned) → (NoneEmpty old.sets → f old.sets ≡ Some old.sets)
+    → Stepped vs f old old before before
+stepped_same vs f old before e = record { goes = goes_same vs f old before e; long = refl; live = λ full still. full still }
+
+pub stepped_by : (vs : List VarId) (f g : Sets → Option Sets) (old new : Contents) (before after : Pruned) → (NoneEmpty old.sets → f old.sets ≡ g old.sets)
+    → Stepped vs g old new before after → Stepped vs f old new before after
+stepped_by vs f g old new before after e h = record { goes = goes_by vs f g old new before after e h.goes; long = h.long; live = h.live }
+
+pub stepped_chain : (vs : List VarId) (f g : Sets → Option Sets) (old mid new : Contents) (a b c : Pruned) → Stepped vs f old mid a b → Stepped vs g mid new b c
+    → Stepped vs (λ s. option_and_then g (f s)) old new a c
+stepped_chain vs f g old mid new a b c p q = record {
+  goes = λ o start so_far. by o start (q.goes (option_and_then f o) start (p.goes o start so_far));
+  long = q.long ∙ p.long;
+  live = λ full still. q.live (p.live full) still;
+}
+  where
+    by : (o : Option Sets) (start : Contents) → IsPrune vs (option_and_then g (option_and_then f o)) start new c
+        → IsPrune vs (option_and_then (λ s. option_and_then g (f s)) o) start new c
+    by None start h = h
+    by (Some s) start h = h
+
+-- some steps, and then the check of the last variable
+pub goes_chain : (vs : List VarId) (f g : Sets → Option Sets) (old mid new : Contents) (a b c : Pruned) → Stepped vs f old mid a b → Goes vs g mid new b c
+    → Goes vs (λ s. option_and_then g (f s)) old new a c
+goes_chain vs f g old mid new a b c p q o start so_far = by o (q (option_and_then f o) start (p.goes o start so_far))
+  where
+    by : (o : Option Sets) → IsPrune vs (option_and_then g (option_and_then f o)) start new c
+        → IsPrune vs (option_and_then (λ s. option_and_then g (f s)) o) start new c
+    by None h = h
+    by (Some s) h = h

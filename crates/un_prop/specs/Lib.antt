@@ -7,6 +7,7 @@ pub mod GoingLaws
 pub mod Last
 pub mod LastLaws
 pub mod Lawful
+pub mod Looks
 pub mod Nodes
 pub mod PartLaws
 pub mod Parts

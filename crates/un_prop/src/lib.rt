@@ -4,6 +4,7 @@
 pub mod act;
 pub mod changed;
 pub mod last;
+pub mod look;
 pub mod propagator;
 pub mod queue;
 pub mod readers;
