@@ -1,6 +1,15 @@
+pub mod Acts
+pub mod Among
+pub mod AmongLaws
 pub mod Fixes
+pub mod Going
+pub mod GoingLaws
+pub mod Last
+pub mod LastLaws
 pub mod Lawful
+pub mod Looks
 pub mod Nodes
+pub mod PartLaws
 pub mod Parts
 pub mod Pruning
 pub mod QueueLaws

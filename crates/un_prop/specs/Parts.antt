@@ -19,7 +19,9 @@ all_meet (p ∷ ps) x = p.meets x && all_meet ps x
 abbrev pub SameAt : List VarId → List ℕ → List ℕ → Type 0
 SameAt vs x y = All (λ v. slice_index x v.0 ≡ slice_index y v.0) vs
 
--- where all variables of the part but v have one value, each value of v that is left meets the part
+-- where all variables of the part but v have one value, each value of v that is left meets the part. A part of a predicate
+-- that reads no variable is met
 abbrev pub ChecksForward : Part → List VarId → (Sets → Option Sets) → Type 0
 ChecksForward part scope cut = (s t : Sets) (v : ℕ) (x : List ℕ) → HasVars scope s → NoneEmpty s
+    → (length scope ≡ 0 → (y : List ℕ) → part.meets y ≡ true)
     → All (λ w. w.0 ≢ v → length (set_at s w.0) ≡ 1) part.vars → cut s ≡ Some t → IsIn x t → part.meets x ≡ true

@@ -64,7 +64,7 @@ agree_set vs s t v ys ws wt a i d lt = elim (same_or_not (get_or vs i d).0 v) [
 ]
 
 -- the same test of the same values
-cut_agree : (vs : List VarId) (p q : ℕ → Bool) (v : ℕ) (s t : Sets) → v < length s → v < length t → set_at s v ≡ set_at t v → ((y : ℕ) → p y ≡ q y) → Agree vs s t → AgreeOption vs (cut_by p v s) (cut_by q v t)
+pub cut_agree : (vs : List VarId) (p q : ℕ → Bool) (v : ℕ) (s t : Sets) → v < length s → v < length t → set_at s v ≡ set_at t v → ((y : ℕ) → p y ≡ q y) → Agree vs s t → AgreeOption vs (cut_by p v s) (cut_by q v t)
 cut_agree vs p q v s t ws wt e h a = subst (λ (ys : List ℕ). AgreeOption vs (cond (nat_eq (length ys) 0) None (Some (set s v ys))) (cut_by q v t)) (sym same) (by (nat_eq (length (filter q (set_at t v))) 0))
   where
     same : filter p (set_at s v) ≡ filter q (set_at t v)
@@ -80,14 +80,14 @@ kept_full p s v within full some w below = elim (same_or_not w v) [
   | inr ne ↦ rw (get_or-set_other s v w (filter p (set_at s v)) [] ne) (full w (omega (arith, below, length-set s v (filter p (set_at s v)))))
 ]
 
-cut_shrinks : (p : ℕ → Bool) (v : ℕ) (s : Sets) → v < length s → NoneEmpty s → MatchOption (cut_by p v s) ⊤ (λ t. Below t s × NoneEmpty t)
+pub cut_shrinks : (p : ℕ → Bool) (v : ℕ) (s : Sets) → v < length s → NoneEmpty s → MatchOption (cut_by p v s) ⊤ (λ t. Below t s × NoneEmpty t)
 cut_shrinks p v s within full = by (nat_eq (length (filter p (set_at s v))) 0) refl
   where
     by : (b : Bool) → nat_eq (length (filter p (set_at s v))) 0 ≡ b → MatchOption (cond b None (Some (kept p s v))) ⊤ (λ t. Below t s × NoneEmpty t)
     by true e = tt
     by false e = (kept_below p s v within, kept_full p s v within full (let ne : length (filter p (set_at s v)) ≢ 0 = grind (arith, nat_tests) in omega (arith, ne)))
 
-cut_outside : (p : ℕ → Bool) (v : ℕ) (s : Sets) (w : ℕ) → w ≢ v → MatchOption (cut_by p v s) ⊤ (λ t. set_at t w ≡ set_at s w)
+pub cut_outside : (p : ℕ → Bool) (v : ℕ) (s : Sets) (w : ℕ) → w ≢ v → MatchOption (cut_by p v s) ⊤ (λ t. set_at t w ≡ set_at s w)
 cut_outside p v s w ne = by (nat_eq (length (filter p (set_at s v))) 0)
   where
     by : (b : Bool) → MatchOption (cond b None (Some (kept p s v))) ⊤ (λ t. set_at t w ≡ set_at s w)

@@ -1,8 +1,12 @@
 //! Propagators: their laws, and rounds of them.
 #![tactic(auto)]
 
+pub mod act;
 pub mod changed;
+pub mod last;
+pub mod look;
 pub mod propagator;
 pub mod queue;
 pub mod readers;
 pub mod run;
+pub mod step;

@@ -5,6 +5,7 @@ ghost use Rattle.un_base.specs.declared.ids.VarId.{VarId};
 ghost use Rattle.un_domains.specs.Sets.{Sets, IsIn, NoneEmpty, Kept};
 ghost use Rattle.un_prop.specs.Rounds.{HasVars};
 ghost use Rattle.un_prop.specs.Lawful.{Lawful};
+ghost use Rattle.un_prop.specs.Looks.{InWords};
 ghost use Rattle.un_prop.specs.Parts.{Part, all_meet, SameAt, ChecksForward};
 
 use std::alloc::{AllocError, Global};
@@ -126,6 +127,7 @@ pub trait Propagator: Predicate {
     /// A part with one variable left is checked at each of its values.
     ghost forward: { (p : Self) (part : Part) → Contains (parts p) part → ChecksForward part (Self.scope p) (cut p) };
 
-    /// What is so of a store that it leaves as it is.
-    ghost strength: { (p : Self) (s : Sets) → HasVars (Self.scope p) s → NoneEmpty s → cut p s ≡ Some s → strong p s };
+    /// What is so of a store that it leaves as it is. A propagator that reads no variable holds.
+    ghost strength: { (p : Self) (s : Sets) → HasVars (Self.scope p) s → NoneEmpty s → InWords s
+        → (length (Self.scope p) ≡ 0 → (x : List ℕ) → Self.holds p x ≡ true) → cut p s ≡ Some s → strong p s };
 }

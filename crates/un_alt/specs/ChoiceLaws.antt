@@ -1,0 +1,31 @@
+-- Laws of entries at a chosen place.
+use Rattle.std.proofs.Common.{ℕ, zero, suc, ◌≡◌, ◌<◌, None, Some, Bool, true, false, ◌≤◌, List, [], ◌∷◌, length, get_or, All, refl, ap, arith, ◌∙◌}
+use Rattle.std.specs.List.{AllByRecursion, slice_get}
+use Rattle.un_alt.specs.Choices.{passes_at}
+
+-- the entry at a place within the list
+pub passes_within : {A : Type 0} (p : A → Bool) (xs : List A) (i : ℕ) (d : A) → i < length xs → passes_at p xs i ≡ p (get_or xs i d)
+passes_within p [] i d lt = absurd (omega (arith, lt))
+passes_within p (x ∷ xs) zero d lt = refl
+passes_within p (x ∷ xs) (suc i) d lt = passes_within p xs i d (omega (arith, lt))
+
+pub passes_past : {A : Type 0} (p : A → Bool) (xs : List A) (i : ℕ) → length xs ≤ i → passes_at p xs i ≡ false
+passes_past p [] i le = refl
+passes_past p (x ∷ xs) zero le = absurd (omega (arith, le))
+passes_past p (x ∷ xs) (suc i) le = passes_past p xs i (omega (arith, le))
+
+-- tests that agree at each entry agree at a place
+pub passes_agree : {A : Type 0} (p q : A → Bool) (xs : List A) (i : ℕ) → AllByRecursion (λ a. p a ≡ q a) xs → passes_at p xs i ≡ passes_at q xs i
+passes_agree p q [] i all = refl
+passes_agree p q (x ∷ xs) zero all = all.0
+passes_agree p q (x ∷ xs) (suc i) all = passes_agree p q xs i all.1
+
+pub passes_get : {A : Type 0} (p : A → Bool) (xs : List A) (i : ℕ) (a : A) → slice_get xs i ≡ Some a → passes_at p xs i ≡ p a
+passes_get p [] i a e = absurd (cc e)
+passes_get p (x ∷ xs) zero a e = let same : x ≡ a = cc e in ap p same
+passes_get p (x ∷ xs) (suc i) a e = passes_get p xs i a e
+
+pub passes_none : {A : Type 0} (p : A → Bool) (xs : List A) (i : ℕ) → slice_get xs i ≡ None → passes_at p xs i ≡ false
+passes_none p [] i e = refl
+passes_none p (x ∷ xs) zero e = absurd (cc e)
+passes_none p (x ∷ xs) (suc i) e = passes_none p xs i e

@@ -1,0 +1,14 @@
+pub mod ChoiceLaws
+pub mod Choices
+pub mod Chosen
+pub mod ChosenLaws
+pub mod Same
+pub mod SameLaws
+pub mod Home
+pub mod HomeLaws
+pub mod Zeros
+pub mod ZerosLaws
+pub mod Registers
+pub mod RegisterLaws
+pub mod Spaces
+pub mod SpacesLaws

@@ -1,0 +1,35 @@
+use Rattle.std.proofs.Common.{ℕ, List, Bool, ◌≡◌, ◌≢◌, ◌<◌, ◌+◌, ◌||◌, ◌∙◌, not, nat_eq, nat_le, set, length, arith, refl, sym, ap, subst, option_and_then, Some, None}
+use Rattle.std.specs.declared.option.Option.{Option}
+use Rattle.un_base.specs.declared.ids.VarId.{VarId}
+use Rattle.un_domains.specs.Sets.{Sets, set_at, cut_by, least, greatest, NoneEmpty}
+use Rattle.un_prop.specs.Steps.{has_var}
+use Rattle.un_prop.specs.Last.{point, last_of, last_cut, last_cut_at}
+use Rattle.un_prop.specs.GoingLaws.{starts, goes_then, goes_by, goes_same}
+use Rattle.un_prop.specs.Going.{Goes}
+use Rattle.un_prop.specs.LastLaws.{try_first, try_next, try_last, same_tried, last_single}
+use Rattle.un_prop.specs.Pruning.{IsPrune, join}
+use Rattle.un_prop.specs.declared.propagator.Pruned.{Pruned}
+use Rattle.un_prop.specs.declared.propagator.Pruned.TheVariants.{Same, Failed}
+use Rattle.un_prop.proofs.RoundLaws.{left_of}
+use Rattle.un_prop.proofs.last.check_last.Goals as goal
+
+pub try_all-did-requires-clause-lent : goal.try_all-did-requires-clause-lent
+try_all-did-requires-clause-lent g c =
+    let vs = g.P.Predicate.scope c.args.p.now in
+    let s = c.args.w.now.store.now.sets in
+    let is : last_of vs s ≡ Some c.in-Some.v = ap (λ (us : List VarId). last_of us s) (sym c.reads.ensures) ∙ sym c.in-Some.ensures in
+    (last_single vs s c.in-Some.v is).0
+
+pub returns-in-Some-clause-goes : goal.returns-in-Some-clause-goes
+returns-in-Some-clause-goes g c =
+    let P = g.P.Predicate in
+    let p = c.args.p.now in
+    let vs = c.args.w.now.vars.now in
+    let s = c.args.w.now.store.now in
+    let new = c.try_all-did.new.w.store.now in
+    let v = c.in-Some.v in
+    let is : last_of (P.scope p) s.sets ≡ Some v = ap (λ (us : List VarId). last_of us s.sets) (sym c.reads.ensures) ∙ sym c.in-Some.ensures in
+    let cut = λ (u : Sets). last_cut (P.scope p) (P.holds p) u in
+    subst (λ (a : Pruned). Goes vs cut s new c.args.before a) (sym c.joined.ensures)
+    (goes_then vs cut s new c.args.before c.try_all-did.result (λ e. let h = rw e at c.if-eq.ensures in cc h)
+    (λ live. let done = subst (λ (o : Option Sets). IsPrune vs o s new c.try_all-did.result) (sym (ap (last_cut_at (P.holds p) s.sets) is)) c.try_all-did.ensures.prune in (done.ends, done.untouched)))
