@@ -3,6 +3,7 @@ pub mod Cycles
 pub mod Drawn
 pub mod Each
 pub mod Found
+pub mod Kept
 pub mod Lengths
 pub mod Rules
 pub mod Runs

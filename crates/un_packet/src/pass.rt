@@ -117,9 +117,9 @@ impl State {
         ensures words { length self.new.memory ≡ length self.old.memory }
         ensures replies { self.new.replies ≡ self.old.replies }
     {
-        let transfer = self.transfer(packet);
+        let leads = self.transfer(packet);
         self.apply(t, packet);
-        self.arrive(transfer)
+        self.arrive(leads)
     }
 
     /// Runs a packet with its reply, where there is one, and with the record of its call.

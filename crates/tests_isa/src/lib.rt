@@ -1,0 +1,6 @@
+//! Tests of the processor and of the machine of packets.
+#![tactic(auto)]
+
+pub mod framed;
+#[cfg(test)]
+mod tests;
