@@ -60,16 +60,6 @@ module _ (all : List (List ℕ)) (lines : List Line) where
       below_more_lem k h =
           below_more (λ (j : ℕ). fault_at all j ≡ None) (length s.front) s.good (fault_next bytes rest s ∙ none) k (omega (arith, count))
 
-  -- no line is left
-  pub seen_all : (rest : List (List ℕ)) → rest ≡ [] → Seen all lines rest → HasNoLineFault all
-  seen_all rest empty s k h = s.good k (omega (arith, whole))
-    where
-      whole : length all ≡ length s.front
-      whole = ap length (s.split ∙ ap (λ (r : List (List ℕ)). s.front ++ r) empty ∙ append-nil s.front)
-
-  pub seen_lines : (rest : List (List ℕ)) → rest ≡ [] → Seen all lines rest → lines ≡ map line_of all
-  seen_lines rest empty s = s.read ∙ ap (map line_of) (sym (s.split ∙ ap (λ (r : List (List ℕ)). s.front ++ r) empty ∙ append-nil s.front))
-
   -- the next line has the first fault
   pub seen_fault : (bytes : List ℕ) (rest : List (List ℕ)) (e : ReadError) → Seen all lines (bytes ∷ rest)
       → Tells (λ l fault. (l ≡ length lines + 1) × (line_fault (before_of lines) bytes ≡ Some fault)) e → Tells (IsFirstLineFault all) e

@@ -103,11 +103,3 @@ module _ (name : List ℕ) (params : List NameId) (names : Names) (blocks : List
   -- the labels on the lines are the blocks'
   pub labels_back : labels_of (printed_lines name params names blocks) ≡ map (λ (b : SourceBlock). b.label) blocks
   labels_back = labels_of_blocks blocks names blocks
-
-  -- ---- the first line
-
-  pub name_back : name_of (printed_lines name params names blocks) ≡ Some name
-  name_back = refl
-
-  pub params_back : params_of (printed_lines name params names blocks) ≡ map (spelled_at names) params
-  params_back = refl
