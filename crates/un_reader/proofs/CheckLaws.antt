@@ -1,6 +1,6 @@
 -- The lines that were read, one more, and all.
 use Rattle.std.proofs.Common.{◌≡◌, ℕ, ◌+◌, ◌<◌, ◌++◌, List, [], ◌∷◌, Some, None, map, length, slice_get, refl, sym, ap, ◌∙◌, append_assoc}
-use Rattle.std.proofs.Common.{append-nil, below_more, arith, subst, true, false}
+use Rattle.std.proofs.Common.{below_more, arith, subst, true, false}
 use Rattle.std.proofs.lemmas.List.{map_push, take_at, length_push, length-map}
 use Rattle.std.specs.List.{list_all}
 use Rattle.un_base.specs.Lines.{pieces_of}
@@ -17,7 +17,7 @@ use Rattle.un_words.specs.Pieces.{without_end, without_comment, lines_in}
 use Rattle.un_words.specs.Tokens.{tokens_of}
 use Rattle.un_words.specs.Shapes.{shape_of, line_of}
 use Rattle.un_reader.specs.LineFaults.{is_plain_byte, line_fault, fault_at}
-use Rattle.un_reader.specs.Lines.{HasNoLineFault, IsFirstLineFault}
+use Rattle.un_reader.specs.Lines.{IsFirstLineFault}
 
 -- these lines were read without a fault, and these bytes are left
 pub record Seen (all : List (List ℕ)) (lines : List Line) (rest : List (List ℕ)) : Type 0 where

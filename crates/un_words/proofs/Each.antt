@@ -1,6 +1,6 @@
 -- What holds of each element of a list, by recursion on the list: more on std's word for it.
-use Rattle.std.proofs.Common.{◌≡◌, ℕ, zero, suc, ◌++◌, ◌&&◌, ◌||◌, Bool, true, false, List, [], ◌∷◌, Some, map, slice_get, All, Contains}
-use Rattle.std.proofs.Common.{refl, arith, subst}
+use Rattle.std.proofs.Common.{◌≡◌, ℕ, zero, suc, ◌++◌, Bool, false, List, [], ◌∷◌, Some, map, slice_get, Contains}
+use Rattle.std.proofs.Common.{arith, subst}
 use Rattle.std.proofs.lemmas.Bool.{or_parts}
 use Rattle.std.specs.List.{AllByRecursion as Each, AllPairs, flat_map, list_any}
 use Rattle.std.proofs.lemmas.List.Elements.{All-from_recursion as Each-All}

@@ -7,8 +7,8 @@ use Rattle.un_words.specs.declared.token.Number.{Number}
 use Rattle.un_words.specs.declared.token.Token.{Token}
 use Rattle.un_words.specs.declared.slot.Slot.TheVariants.{Equals as EqualsSlot, Named as NamedSlot}
 use Rattle.un_words.specs.declared.slot.Head.{Head}
-use Rattle.un_words.specs.declared.slot.Head.TheVariants.{Nothing, Func as FuncHead, Block as BlockHead, Jump as JumpHead, If as IfHead}
-use Rattle.un_words.specs.declared.slot.Head.TheVariants.{Ret as RetHead, Assigned, Bare, Unknown}
+use Rattle.un_words.specs.declared.slot.Head.TheVariants.{Func as FuncHead, Block as BlockHead, Jump as JumpHead, If as IfHead}
+use Rattle.un_words.specs.declared.slot.Head.TheVariants.{Ret as RetHead, Assigned, Bare}
 use Rattle.un_words.specs.declared.line.TermLine.TheVariants.{Jump, Branch, Ret}
 use Rattle.un_words.specs.declared.line.Line.{Line}
 use Rattle.un_words.specs.declared.line.Line.TheVariants.{Blank, Func, Block, Operation, Terminator}
