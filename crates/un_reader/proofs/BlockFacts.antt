@@ -1,12 +1,12 @@
 -- Blocks of lines without a fault: what each keeps, and how many operations they have.
-use Rattle.std.proofs.Common.{◌≡◌, ◌≢◌, ℕ, suc, ◌+◌, ◌<◌, ◌≤◌, ◌++◌, ◌&&◌, Bool, true, false, not, cond, nat_lt, nat_le, List, [], ◌∷◌}
+use Rattle.std.proofs.Common.{◌≡◌, ◌≢◌, ℕ, suc, ◌+◌, ◌≤◌, ◌++◌, ◌&&◌, true, false, not, cond, nat_lt, nat_le, List, [], ◌∷◌}
 use Rattle.std.proofs.Common.{Some, is_some, map, length, slice_get, refl, sym, ap, ◌∙◌, arith, subst}
-use Rattle.std.specs.List.{list_any, flat_map, count_by}
+use Rattle.std.specs.List.{AllByRecursion as Each, list_any, flat_map, count_by}
 use Rattle.std.specs.Option.{option_map, option_to_list}
-use Rattle.std.proofs.lemmas.Bool.Decides.{Decides-ltb}
 use Rattle.std.proofs.lemmas.Bool.{leb-true, or_parts, and_parts, not-false, ltb-false}
 use Rattle.std.proofs.lemmas.List.{length-append}
 use Rattle.std.proofs.lemmas.List.Sums.{sum_by-cons}
+use Rattle.std.proofs.lemmas.List.Elements.{All-from_recursion as Each-All}
 use Rattle.un_reader.specs.Vocabulary.{NameId, Kind, General, Pred, SourceBlock, Number, TermLine, Branch, Ret, Line, Blank, Func, Block}
 use Rattle.un_reader.specs.Vocabulary.{Operation, Terminator, Spelled}
 use Rattle.un_ir.specs.WellFormed.{IsOfKind, IsGoodOp, IsGoodBlock, TestsItsKind}
@@ -19,7 +19,7 @@ use Rattle.un_reader.specs.TextFaults.{term_of}
 use Rattle.un_reader.specs.LineFaults.{has_repeat, is_predicate, term_clashes, is_over_limit, literal_fits, freq_fits, operands_clash}
 use Rattle.un_reader.specs.LineFaults.{result_clashes}
 use Rattle.un_reader.specs.Functions.{name_id, op_of, term_by, ops_of, blocks_of}
-use Rattle.un_words.proofs.Each.{Each, Each-All, Each-weaken, Each-left, Each-right, EachPair, EachPair-map, Each-none}
+use Rattle.un_words.proofs.Each.{Each-weaken, Each-left, Each-right, EachPair, EachPair-map, Each-none}
 use Rattle.un_reader.proofs.FirstNames.{name_itself}
 use Rattle.un_words.proofs.TokenFacts.{IsNameWord}
 use Rattle.un_reader.proofs.OpFacts.{IsKnown, kind_matches, word_kind, are_words, op_good}

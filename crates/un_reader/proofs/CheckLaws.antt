@@ -1,6 +1,6 @@
 -- The lines that were read, one more, and all.
 use Rattle.std.proofs.Common.{◌≡◌, ℕ, ◌+◌, ◌<◌, ◌++◌, List, [], ◌∷◌, Some, None, map, length, slice_get, refl, sym, ap, ◌∙◌, append_assoc}
-use Rattle.std.proofs.Common.{append-nil, below_more, arith, subst, true, false}
+use Rattle.std.proofs.Common.{below_more, arith, subst, true, false}
 use Rattle.std.proofs.lemmas.List.{map_push, take_at, length_push, length-map}
 use Rattle.std.specs.List.{list_all}
 use Rattle.un_base.specs.Lines.{pieces_of}
@@ -17,7 +17,7 @@ use Rattle.un_words.specs.Pieces.{without_end, without_comment, lines_in}
 use Rattle.un_words.specs.Tokens.{tokens_of}
 use Rattle.un_words.specs.Shapes.{shape_of, line_of}
 use Rattle.un_reader.specs.LineFaults.{is_plain_byte, line_fault, fault_at}
-use Rattle.un_reader.specs.Lines.{HasNoLineFault, IsFirstLineFault}
+use Rattle.un_reader.specs.Lines.{IsFirstLineFault}
 
 -- these lines were read without a fault, and these bytes are left
 pub record Seen (all : List (List ℕ)) (lines : List Line) (rest : List (List ℕ)) : Type 0 where
@@ -59,16 +59,6 @@ module _ (all : List (List ℕ)) (lines : List Line) where
       below_more_lem : (k : ℕ) → k < length (s.front ++ bytes ∷ []) → fault_at all k ≡ None
       below_more_lem k h =
           below_more (λ (j : ℕ). fault_at all j ≡ None) (length s.front) s.good (fault_next bytes rest s ∙ none) k (omega (arith, count))
-
-  -- no line is left
-  pub seen_all : (rest : List (List ℕ)) → rest ≡ [] → Seen all lines rest → HasNoLineFault all
-  seen_all rest empty s k h = s.good k (omega (arith, whole))
-    where
-      whole : length all ≡ length s.front
-      whole = ap length (s.split ∙ ap (λ (r : List (List ℕ)). s.front ++ r) empty ∙ append-nil s.front)
-
-  pub seen_lines : (rest : List (List ℕ)) → rest ≡ [] → Seen all lines rest → lines ≡ map line_of all
-  seen_lines rest empty s = s.read ∙ ap (map line_of) (sym (s.split ∙ ap (λ (r : List (List ℕ)). s.front ++ r) empty ∙ append-nil s.front))
 
   -- the next line has the first fault
   pub seen_fault : (bytes : List ℕ) (rest : List (List ℕ)) (e : ReadError) → Seen all lines (bytes ∷ rest)

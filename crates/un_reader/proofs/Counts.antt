@@ -1,7 +1,7 @@
 -- Counts of lines without a fault, their labels, and the names on them.
 use Rattle.std.proofs.Common.{◌≡◌, ◌≢◌, ℕ, ◌+◌, ◌<◌, ◌≤◌, ◌++◌, false, cond, nat_le, List, [], ◌∷◌, length, if◌then◌else◌, sym, ◌∙◌, arith}
 use Rattle.std.proofs.Common.{subst, append_assoc, append-nil}
-use Rattle.std.specs.List.{flat_map, count_by}
+use Rattle.std.specs.List.{AllByRecursion as Each, flat_map, count_by}
 use Rattle.std.specs.Str.{bytes_eq}
 use Rattle.std.proofs.lemmas.Bool.{le-leb, or_parts}
 use Rattle.std.proofs.lemmas.List.{length-append}
@@ -14,7 +14,7 @@ use Rattle.un_reader.specs.Before.{labels_of, is_operation}
 use Rattle.un_words.specs.LineNames.{names_on}
 use Rattle.un_reader.specs.Noted.{noted}
 use Rattle.un_reader.specs.LineFaults.{is_over_limit}
-use Rattle.un_words.proofs.Each.{Each, Each-weaken, Each-append, Each-none, EachPair, EachPair-push}
+use Rattle.un_words.proofs.Each.{Each-weaken, Each-append, Each-none, EachPair, EachPair-push}
 use Rattle.un_words.proofs.TokenFacts.{IsSpelled}
 use Rattle.un_words.proofs.LineShapes.{IsShaped}
 use Rattle.un_reader.proofs.LineTests.{IsClean, AreClean}

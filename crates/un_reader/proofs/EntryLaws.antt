@@ -1,5 +1,5 @@
 -- Marking the blocks at whose start a name is live.
-use Rattle.std.proofs.Common.{◌≡◌, ◌≢◌, ℕ, zero, suc, ◌+◌, ◌<◌, ◌≤◌, ◌||◌, ◌⊎◌, inl, inr, Bool, true, false, nat_eq, List, [], ◌∷◌, Option}
+use Rattle.std.proofs.Common.{◌≡◌, ◌≢◌, ℕ, zero, suc, ◌+◌, ◌<◌, ◌≤◌, ◌⊎◌, inl, inr, Bool, true, false, nat_eq, List, [], ◌∷◌, Option}
 use Rattle.std.proofs.Common.{Some, None, map, length, drop, set, replicate, slice_get, get_or, Contains, if◌then◌else◌, refl, sym, ap}
 use Rattle.std.proofs.Common.{add-one, ◌∙◌, arith, subst}
 use Rattle.std.specs.Option.{option_map_or}

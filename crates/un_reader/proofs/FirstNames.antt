@@ -2,7 +2,7 @@
 use Rattle.std.proofs.Common.{◌≡◌, ◌≢◌, ℕ, zero, suc, ◌+◌, ◌<◌, ◌≤◌, ◌++◌, ◌||◌, Bool, true, false, nat_eq, List, [], ◌∷◌, Some, map}
 use Rattle.std.proofs.Common.{length, slice_get, if◌then◌else◌, refl, sym, ap, ◌∙◌, arith, subst, append-nil, append_assoc}
 use Rattle.std.proofs.Math.Numerals.{one-add}
-use Rattle.std.specs.List.{list_any, fold, position_or_len, range_with_len}
+use Rattle.std.specs.List.{AllByRecursion as Each, list_any, fold, position_or_len, range_with_len}
 use Rattle.std.specs.Str.{bytes_eq}
 use Rattle.std.proofs.lemmas.Bool.Decides.{Decides-eqb}
 use Rattle.std.proofs.lemmas.Slice.Eq.{bytes_eq-Decides}
@@ -12,7 +12,7 @@ use Rattle.un_reader.specs.Vocabulary.{Kind, General, Pred, Spelled}
 use Rattle.un_ir.specs.Names.{see, first_appearances}
 use Rattle.un_reader.specs.Before.{same_kind, same_name, add_name, numbered}
 use Rattle.un_reader.specs.Functions.{name_id}
-use Rattle.un_words.proofs.Each.{Each, Each-weaken, Each-append, EachPair, EachPair-push, Each-none}
+use Rattle.un_words.proofs.Each.{Each-weaken, Each-append, EachPair, EachPair-push, Each-none}
 
 -- ---- the test for a name
 

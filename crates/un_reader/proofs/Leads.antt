@@ -1,7 +1,7 @@
 -- Where the blocks of lines lead, and that their returns are alike.
 use Rattle.std.proofs.Common.{◌≡◌, ℕ, zero, suc, ◌+◌, ◌<◌, ◌++◌, Bool, true, false, List, [], ◌∷◌, Option, Some, None, length, slice_get}
 use Rattle.std.proofs.Common.{refl, sym, ap, ◌∙◌, arith, subst, append_assoc, add-zero}
-use Rattle.std.specs.List.{position}
+use Rattle.std.specs.List.{AllByRecursion as Each, position}
 use Rattle.std.specs.Option.{option_map_or, option_and_then, option_or}
 use Rattle.un_reader.specs.Vocabulary.{Term, SourceBlock, Number, TermLine, Jump, Branch, Ret, Line, Blank, Func, Block, Operation}
 use Rattle.un_reader.specs.Vocabulary.{Terminator, Spelled}
@@ -11,7 +11,7 @@ use Rattle.un_reader.specs.Before.{labels_of}
 use Rattle.un_reader.specs.TextFaults.{term_of, ends_well, falls_off, value_on_term, value_on, first_value, differs, returns_else}
 use Rattle.un_reader.specs.TextFaults.{mixed_return}
 use Rattle.un_reader.specs.Functions.{term_by, ops_of, blocks_of}
-use Rattle.un_words.proofs.Each.{Each, Each-weaken, EachPair, EachPair-alike}
+use Rattle.un_words.proofs.Each.{Each-weaken, EachPair, EachPair-alike}
 use Rattle.un_words.proofs.TokenFacts.{IfThere}
 use Rattle.un_reader.proofs.Targets.{none_passes, IsInside, HasTarget, LineTargets, last_ends}
 

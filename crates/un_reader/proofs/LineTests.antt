@@ -1,7 +1,7 @@
 -- Lines without a fault, each with what stands before it.
 use Rattle.std.proofs.Common.{◌≡◌, ℕ, ◌++◌, Bool, true, false, List, [], ◌∷◌, Option, Some, None, map, length, if◌then◌else◌, refl, sym, ap}
 use Rattle.std.proofs.Common.{◌∙◌, arith, subst, append_assoc}
-use Rattle.std.specs.List.{list_all}
+use Rattle.std.specs.List.{AllByRecursion as Each, list_all}
 use Rattle.std.proofs.lemmas.List.{map_push, length-append}
 use Rattle.un_reader.specs.declared.fault.Fault.{Fault}
 use Rattle.un_reader.specs.declared.fault.Fault.TheVariants.{BadByte}
@@ -16,7 +16,6 @@ use Rattle.un_reader.specs.LineFaults.{is_before_block, is_after_end, faults_on,
 use Rattle.un_reader.specs.Lines.{HasNoLineFault}
 use Rattle.un_reader.proofs.BeforeLaws.{before_of_push}
 use Rattle.un_reader.proofs.CheckLaws.{next_fault}
-use Rattle.un_words.proofs.Each.{Each}
 use Rattle.un_words.proofs.LineShapes.{IsShaped, line_shaped}
 
 -- the line has a shape, and no test finds a fault

@@ -1,10 +1,11 @@
 -- An operation on a line without a fault keeps what every operation keeps, where its names have their places.
 use Rattle.std.proofs.Common.{◌≡◌, ◌≤◌, ◌++◌, true, false, not, List, [], ◌∷◌, Option, Some, None, map, length, if◌then◌else◌, refl, ap}
 use Rattle.std.proofs.Common.{◌∙◌, arith}
-use Rattle.std.specs.List.{list_any, zip}
+use Rattle.std.specs.List.{AllByRecursion as Each, list_any, zip}
 use Rattle.std.specs.Option.{option_map, option_map_or, option_to_list}
 use Rattle.std.proofs.lemmas.Bool.{or_parts}
 use Rattle.std.proofs.lemmas.List.{length-map}
+use Rattle.std.proofs.lemmas.List.Elements.{All-from_recursion as Each-All}
 use Rattle.un_isa.specs.declared.reg.Space.{Space}
 use Rattle.un_isa.specs.declared.facts.Range.{Range}
 use Rattle.un_isa.specs.Facts.{Operands, Fixed, Arguments, facts_of, fixed_spaces, result_space, literal_range}
@@ -17,7 +18,7 @@ use Rattle.un_words.specs.Shapes.{result_by}
 use Rattle.un_reader.specs.Before.{same_kind}
 use Rattle.un_reader.specs.LineFaults.{is_predicate, misfits, operands_clash, result_clashes, fits_range, literal_fits}
 use Rattle.un_reader.specs.Functions.{name_id, literal_value, op_of}
-use Rattle.un_words.proofs.Each.{Each, Each-All, Each-left, Each-right}
+use Rattle.un_words.proofs.Each.{Each-left, Each-right}
 use Rattle.un_words.proofs.OpShapes.{Counted, LacksLiteral, IsShapedOp}
 use Rattle.un_reader.proofs.Ranges.{in_range}
 

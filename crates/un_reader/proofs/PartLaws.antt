@@ -32,7 +32,8 @@ parts_of text lines name params names blocks good same none are = record {
   are = subst (λ (ls : List Line). ArePartsOf ls name params names blocks) same are;
 }
 
-module _ (lines : List Line) (its_name : List ℕ) (params : List NameId) (names : List Spelled) (blocks : List SourceBlock) (name : NameId) (are : ArePartsOf lines its_name params names blocks) where
+module _ (lines : List Line) (its_name : List ℕ) (params : List NameId) (names : List Spelled) (blocks : List SourceBlock)
+    (name : NameId) (are : ArePartsOf lines its_name params names blocks) where
   -- a name that is live among the parts is live among those of the lines
   live_in_lines : IsLiveAtEntry params names blocks name → IsLiveAtEntry (param_ids lines) (names_of lines) (source_blocks lines) name
   live_in_lines live =

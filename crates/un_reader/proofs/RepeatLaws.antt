@@ -1,16 +1,14 @@
 -- Whether a list has a name twice, with the names before a place seen.
-use Rattle.std.proofs.Common.{◌≡◌, ℕ, ◌+◌, ◌<◌, ◌++◌, ◌||◌, ◌&&◌, Bool, true, false, List, [], ◌∷◌, length, drop, get_or, add-one, refl}
+use Rattle.std.proofs.Common.{◌≡◌, ℕ, ◌+◌, ◌<◌, ◌++◌, ◌||◌, Bool, true, false, List, [], ◌∷◌, length, drop, get_or, add-one, refl}
 use Rattle.std.proofs.Common.{sym, ap, ◌∙◌, subst}
 use Rattle.std.specs.List.{list_any}
-use Rattle.std.specs.Str.{bytes_eq}
 use Rattle.std.proofs.Math.Seq.{drop-cons}
 use Rattle.std.proofs.lemmas.List.Folds.{list_any-append}
-use Rattle.un_reader.specs.Vocabulary.{Kind, General, Pred, Spelled}
-use Rattle.un_reader.specs.Before.{same_kind, same_name, add_name}
+use Rattle.un_reader.specs.Vocabulary.{Spelled}
+use Rattle.un_reader.specs.Before.{same_name, add_name}
 use Rattle.un_reader.specs.LineFaults.{has_repeat}
 use Rattle.un_reader.proofs.FirstNames.{name_equal, name_itself}
 use Rattle.un_reader.proofs.NameEq.{same_truth}
-use Rattle.std.proofs.lemmas.Slice.Eq.{bytes_eq-Decides}
 
 -- the name has been seen
 abbrev pub is_seen : List Spelled → Spelled → Bool

@@ -1,7 +1,7 @@
 -- Jumps and returns of lines whose whole has no fault: where blocks lead, and that returns are alike.
 use Rattle.std.proofs.Common.{◌≡◌, ℕ, suc, ◌+◌, ◌<◌, ◌≤◌, ◌++◌, Bool, true, false, not, cond, nat_lt, List, [], ◌∷◌, Option, Some, None}
 use Rattle.std.proofs.Common.{length, drop, if◌then◌else◌, refl, sym, ap, ◌∙◌, arith, subst, add-one}
-use Rattle.std.specs.List.{list_any, fold, position, position_or_len, enumerate_from}
+use Rattle.std.specs.List.{AllByRecursion as Each, list_any, fold, position, position_or_len, enumerate_from}
 use Rattle.std.specs.Str.{bytes_eq}
 use Rattle.std.proofs.lemmas.Bool.Decides.{Decides-ltb}
 use Rattle.std.proofs.lemmas.Slice.Eq.{bytes_eq-Decides}
@@ -10,7 +10,7 @@ use Rattle.un_reader.specs.Vocabulary.{Number, TermLine, Jump, Branch, Ret, Line
 use Rattle.un_reader.specs.Before.{labels_of}
 use Rattle.un_reader.specs.TextFaults.{term_of, later_block, last_block, ends_well, falls_off, jumps_outside, is_entry, jumps_to_entry}
 use Rattle.un_reader.specs.Functions.{block_id}
-use Rattle.un_words.proofs.Each.{Each, Each-weaken, Each-both}
+use Rattle.un_words.proofs.Each.{Each-weaken, Each-both}
 use Rattle.un_reader.proofs.FirstNames.{placed}
 
 -- ---- a test that no element passes

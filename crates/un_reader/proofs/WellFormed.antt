@@ -1,9 +1,10 @@
 -- The function of lines without a fault is well formed.
 use Rattle.std.proofs.Common.{◌≡◌, ◌≢◌, ℕ, ◌+◌, ◌<◌, ◌≤◌, ◌==◌, Bool, true, false, List, [], ◌∷◌, Option, Some, None, unwrap_or, map}
 use Rattle.std.proofs.Common.{length, slice_get, Contains, if◌then◌else◌, refl, sym, ap, ◌∙◌, arith, subst}
-use Rattle.std.specs.List.{list_any, flat_map, position}
+use Rattle.std.specs.List.{AllByRecursion as Each, list_any, flat_map, position}
 use Rattle.std.specs.Option.{option_or, option_to_list}
 use Rattle.std.proofs.lemmas.List.{length-map}
+use Rattle.std.proofs.lemmas.List.Elements.{All-from_recursion as Each-All}
 use Rattle.un_reader.specs.Vocabulary.{NameId, Kind, General, SrcOp, SourceBlock, Line, Func, Spelled}
 use Rattle.un_ir.specs.Live.{IsLive, targets_of, used, kept, read_by_term, read_by, read_at}
 use Rattle.un_ir.specs.Names.{names_on_op, names_in_block, appearances, first_appearances}
@@ -20,8 +21,8 @@ use Rattle.un_reader.specs.Functions.{name_id, blocks_of, params_of}
 use Rattle.un_reader.specs.Entry.{reads}
 use Rattle.un_reader.proofs.EntryLaws.{reads-Contains, Contains-reads}
 use Rattle.un_reader.proofs.ReadLaws.{kept_all}
-use Rattle.un_words.proofs.Each.{Each, Each-All, Each-weaken, Each-map, Each-left, Each-right, Each-unflat, Each-at, Each-in, EachPair}
-use Rattle.un_words.proofs.Each.{EachPair-AllPairs, EachPair-unmap}
+use Rattle.un_words.proofs.Each.{Each-weaken, Each-map, Each-left, Each-right, Each-unflat, Each-at, Each-in, EachPair, EachPair-AllPairs}
+use Rattle.un_words.proofs.Each.{EachPair-unmap}
 use Rattle.un_reader.proofs.FirstNames.{IsPlaced, in_numbered, name_placed, Each-numbered, numbered_apart, numbers_first}
 use Rattle.un_words.proofs.TokenFacts.{IsSpelled}
 use Rattle.un_reader.proofs.LineTests.{AreClean, all_clean}

@@ -1,5 +1,5 @@
 -- Labels and their places: the targets of jumps are blocks of the function, and never the entry.
-use Rattle.std.proofs.Common.{◌≡◌, ◌≢◌, ℕ, zero, suc, ◌+◌, ◌<◌, ◌++◌, Bool, true, false, List, [], ◌∷◌, map, length, get_or, refl, sym, ap}
+use Rattle.std.proofs.Common.{◌≡◌, ◌≢◌, ℕ, zero, suc, ◌+◌, ◌<◌, ◌++◌, true, false, List, [], ◌∷◌, map, length, get_or, refl, sym, ap}
 use Rattle.std.proofs.Common.{arith}
 use Rattle.std.specs.List.{All, AllPairs, list_any, position_or_len}
 use Rattle.std.specs.Str.{bytes_eq}

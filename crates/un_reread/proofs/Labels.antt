@@ -9,9 +9,8 @@ use Rattle.un_reader.specs.Vocabulary.{NameId, SrcOp, Term, Fall, JumpTo, Branch
 use Rattle.un_ir.specs.Live.{read_by_term}
 use Rattle.un_ir.specs.Names.{names_on_op, names_in_block, appearances}
 use Rattle.un_ir.specs.Text.{Names}
-use Rattle.un_reader.specs.Before.{label_on, labels_of, name_of}
+use Rattle.un_reader.specs.Before.{label_on, labels_of}
 use Rattle.un_words.specs.LineNames.{names_on}
-use Rattle.un_reader.specs.Functions.{params_of}
 use Rattle.un_reread.specs.Printed.{spelled_at, op_as_line, term_as_lines, block_as_lines, printed_lines}
 
 -- the lines of operations
@@ -103,11 +102,3 @@ module _ (name : List ℕ) (params : List NameId) (names : Names) (blocks : List
   -- the labels on the lines are the blocks'
   pub labels_back : labels_of (printed_lines name params names blocks) ≡ map (λ (b : SourceBlock). b.label) blocks
   labels_back = labels_of_blocks blocks names blocks
-
-  -- ---- the first line
-
-  pub name_back : name_of (printed_lines name params names blocks) ≡ Some name
-  name_back = refl
-
-  pub params_back : params_of (printed_lines name params names blocks) ≡ map (spelled_at names) params
-  params_back = refl

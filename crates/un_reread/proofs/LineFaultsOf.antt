@@ -44,7 +44,8 @@ few before line a h =
 
 -- ---- lines around a line
 
-module _ (name : List ℕ) (params : List NameId) (names : Names) (blocks : List SourceBlock) (w : IsWellFormed name params names blocks) where
+module _ (name : List ℕ) (params : List NameId) (names : Names) (blocks : List SourceBlock)
+    (w : IsWellFormed name params names blocks) where
   good_at : (front : List Line) (line : Line) (rest : List Line) → printed_lines name params names blocks ≡ front ++ line ∷ rest
       → IsGoodLine line
   good_at front line rest e =

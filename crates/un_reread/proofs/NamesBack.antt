@@ -14,7 +14,8 @@ use Rattle.un_reread.proofs.Spelling.{AreDistinct, IsPlace, at_place, place_back
 use Rattle.un_reread.proofs.Appearances.{AreBelow, seen_below, range_below, numbered_is, all_places}
 use Rattle.un_reread.proofs.Labels.{names_there}
 
-module _ (name : List ℕ) (params : List NameId) (names : Names) (blocks : List SourceBlock) (w : IsWellFormed name params names blocks) where
+module _ (name : List ℕ) (params : List NameId) (names : Names) (blocks : List SourceBlock)
+    (w : IsWellFormed name params names blocks) where
   -- every name that stands in the text has a place
   pub appearances_named : All (IsPlace names) (appearances params blocks)
   appearances_named =

@@ -1,16 +1,14 @@
 -- Names as they are spelled, and their places.
-use Rattle.std.proofs.Common.{◌≡◌, ◌≢◌, ℕ, ◌<◌, ◌⊎◌, inl, inr, ◌&&◌, Bool, true, false, nat_eq, List, [], length, get_or, refl, sym, ap}
+use Rattle.std.proofs.Common.{◌≡◌, ◌≢◌, ℕ, ◌<◌, ◌⊎◌, inl, inr, Bool, true, false, nat_eq, List, [], length, get_or, refl, sym, ap}
 use Rattle.std.proofs.Common.{◌∙◌, arith}
 use Rattle.std.specs.List.{AllPairs, position_or_len}
-use Rattle.std.specs.Str.{bytes_eq}
 use Rattle.std.proofs.lemmas.Bool.Decides.{nat_tests}
-use Rattle.std.proofs.lemmas.Slice.Eq.{bytes_eq-Decides}
 use Rattle.std.proofs.lemmas.Option.{unwrap_or-slice_get}
 use Rattle.std.proofs.lemmas.List.Sums.{position_or_len_is}
 use Rattle.un_reader.proofs.FirstNames.{name_itself, name_differs}
-use Rattle.un_reader.specs.Vocabulary.{NameId, Kind, General, Pred, Spelled}
+use Rattle.un_reader.specs.Vocabulary.{NameId, Kind, General, Spelled}
 use Rattle.un_ir.specs.Text.{Names}
-use Rattle.un_reader.specs.Before.{same_kind, same_name}
+use Rattle.un_reader.specs.Before.{same_name}
 use Rattle.un_reader.specs.Functions.{name_id}
 use Rattle.un_reread.specs.Printed.{spelled_at}
 

@@ -92,7 +92,8 @@ none_there : (a b c d e : Option (ℕ × Fault)) → a ≡ None → b ≡ None �
     → first_there (a ∷ b ∷ c ∷ d ∷ e ∷ []) ≡ None
 none_there a b c d e p q r s t = rw (p, q, r, s, t) refl
 
-module _ (name : List ℕ) (params : List NameId) (names : Names) (blocks : List SourceBlock) (w : IsWellFormed name params names blocks) where
+module _ (name : List ℕ) (params : List NameId) (names : Names) (blocks : List SourceBlock)
+    (w : IsWellFormed name params names blocks) where
   has_block : no_block (printed_lines name params names blocks) ≡ None
   has_block =
       let count : length (labels_of (printed_lines name params names blocks)) ≡ length blocks =

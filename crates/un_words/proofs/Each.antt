@@ -1,22 +1,10 @@
--- What holds of each element of a list, by recursion on the list.
-use Rattle.std.proofs.Common.{◌≡◌, ℕ, zero, suc, ◌++◌, ◌&&◌, ◌||◌, Bool, true, false, List, [], ◌∷◌, Some, map, slice_get, All, Contains}
-use Rattle.std.proofs.Common.{refl, arith, subst}
+-- What holds of each element of a list, by recursion on the list: more on std's word for it.
+use Rattle.std.proofs.Common.{◌≡◌, ℕ, zero, suc, ◌++◌, Bool, false, List, [], ◌∷◌, Some, map, slice_get, Contains}
+use Rattle.std.proofs.Common.{arith, subst}
 use Rattle.std.proofs.lemmas.Bool.{or_parts}
-use Rattle.std.specs.List.{AllPairs, flat_map, list_any}
-use Rattle.std.proofs.lemmas.List.Elements.{All-nil, All-cons, All-head, All-tail}
+use Rattle.std.specs.List.{AllByRecursion as Each, AllPairs, flat_map, list_any}
+use Rattle.std.proofs.lemmas.List.Elements.{All-from_recursion as Each-All}
 use Rattle.std.proofs.lemmas.List.Kept.{AllPairs-cons}
-
-abbrev pub Each : {X : Type 0} → (X → Type 0) → List X → Type 0
-Each P [] = Unit {0}
-Each P (x ∷ xs) = P x × Each P xs
-
-pub Each-All : {X : Type 0} (P : X → Type 0) (xs : List X) → Each P xs → All P xs
-Each-All P [] e = All-nil P
-Each-All P (x ∷ xs) (here, later) = All-cons P x xs here (Each-All P xs later)
-
-pub All-Each : {X : Type 0} (P : X → Type 0) (xs : List X) → All P xs → Each P xs
-All-Each P [] a = tt
-All-Each P (x ∷ xs) a = (All-head P x xs a, All-Each P xs (All-tail P x xs a))
 
 pub Each-weaken : {X : Type 0} (P Q : X → Type 0) → ((x : X) → P x → Q x) → (xs : List X) → Each P xs → Each Q xs
 Each-weaken P Q f [] e = tt
@@ -42,10 +30,6 @@ pub Each-map : {X Y : Type 0} (P : Y → Type 0) (f : X → Y) (xs : List X) →
 Each-map P f [] e = tt
 Each-map P f (x ∷ xs) (here, later) = (here, Each-map P f xs later)
 
-pub Each-flat : {X Y : Type 0} (P : Y → Type 0) (f : X → List Y) (xs : List X) → Each (λ (x : X). Each P (f x)) xs → Each P (flat_map f xs)
-Each-flat P f [] e = tt
-Each-flat P f (x ∷ xs) (here, later) = Each-append P (f x) (flat_map f xs) here (Each-flat P f xs later)
-
 pub Each-unflat : {X Y : Type 0} (P : Y → Type 0) (f : X → List Y) (xs : List X) → Each P (flat_map f xs)
     → Each (λ (x : X). Each P (f x)) xs
 Each-unflat P f [] e = tt
@@ -60,15 +44,6 @@ pub Each-in : {X : Type 0} (P : X → Type 0) (xs : List X) (x : X) → Each P x
 Each-in P [] x e (k, below, is) = absurd (omega arith)
 Each-in P (y ∷ ys) x (here, later) (zero, below, is) = subst P is here
 Each-in P (y ∷ ys) x (here, later) (suc k, below, is) = Each-in P ys x later (k, omega arith, is)
-
-pub Contains-later : {X : Type 0} (xs : List X) (y x : X) → Contains xs x → Contains (y ∷ xs) x
-Contains-later xs y x (k, below, is) = (suc k, omega arith, is)
-
--- each element stands in the list
-pub Each-itself : {X : Type 0} (xs : List X) → Each (Contains xs) xs
-Each-itself [] = tt
-Each-itself (x ∷ xs) =
-    ((0, omega arith, refl), Each-weaken (Contains xs) (Contains (x ∷ xs)) (λ y c. Contains-later xs x y c) xs (Each-itself xs))
 
 -- a relation of each element and each later one
 abbrev pub EachPair : {X : Type 0} → (X → X → Type 0) → List X → Type 0

@@ -1,14 +1,14 @@
 -- What the shape of a line says: its names and labels are spelled as such, and an operation has the words that it needs.
 use Rattle.std.proofs.Common.{ℕ, ◌&&◌, ◌==◌, Bool, true, false, List, length, drop, Option, Some, None, unwrap_or, codes, slice_get}
 use Rattle.std.proofs.Common.{if◌then◌else◌}
-use Rattle.std.specs.List.{list_all}
+use Rattle.std.specs.List.{AllByRecursion as Each, list_all}
 use Rattle.std.specs.Option.{option_map, option_map_or, option_and_then}
 use Rattle.un_words.specs.declared.token.Number.{Number}
 use Rattle.un_words.specs.declared.token.Token.{Token}
 use Rattle.un_words.specs.declared.slot.Slot.TheVariants.{Equals as EqualsSlot, Named as NamedSlot}
 use Rattle.un_words.specs.declared.slot.Head.{Head}
-use Rattle.un_words.specs.declared.slot.Head.TheVariants.{Nothing, Func as FuncHead, Block as BlockHead, Jump as JumpHead, If as IfHead}
-use Rattle.un_words.specs.declared.slot.Head.TheVariants.{Ret as RetHead, Assigned, Bare, Unknown}
+use Rattle.un_words.specs.declared.slot.Head.TheVariants.{Func as FuncHead, Block as BlockHead, Jump as JumpHead, If as IfHead}
+use Rattle.un_words.specs.declared.slot.Head.TheVariants.{Ret as RetHead, Assigned, Bare}
 use Rattle.un_words.specs.declared.line.TermLine.TheVariants.{Jump, Branch, Ret}
 use Rattle.un_words.specs.declared.line.Line.{Line}
 use Rattle.un_words.specs.declared.line.Line.TheVariants.{Blank, Func, Block, Operation, Terminator}
@@ -16,7 +16,6 @@ use Rattle.un_words.specs.Tokens.{Spelled, tokens_of}
 use Rattle.un_words.specs.Shapes.{is_slot, is_word_at, word_at, plain_at, name_at, condition_at, names_at, operation_shape, func_shape}
 use Rattle.un_words.specs.Shapes.{block_shape, jump_shape, branch_shape, return_shape, assigned_shape, head_of, shape_by, shape_of, line_of}
 use Rattle.un_words.specs.LineNames.{names_on_term}
-use Rattle.un_words.proofs.Each.{Each}
 use Rattle.un_words.proofs.TokenFacts.{IfThere, IfThere-then, IfThere-if, IsSpelled, IsNameWord, IsGoodToken, IsSpelledCondition}
 use Rattle.un_words.proofs.TokenFacts.{tokens_good, good_drop, word_there, name_there, condition_there, names_there}
 use Rattle.un_words.proofs.OpShapes.{IsShapedOp, IsShapedLine, operation_shaped}

@@ -1,7 +1,7 @@
 -- What the shape of an operation's line says of its operation: how many operands there are, and where a literal and a callee stand.
 use Rattle.std.proofs.Common.{◌≡◌, ℕ, ◌&&◌, Bool, true, false, List, [], ◌∷◌, ◌++◌, length, filter, Option, Some, None, if◌then◌else◌, refl}
 use Rattle.std.proofs.Common.{◌∙◌}
-use Rattle.std.specs.List.{find}
+use Rattle.std.specs.List.{AllByRecursion as Each, find}
 use Rattle.std.specs.Option.{option_and_then, option_to_list}
 use Rattle.std.specs.Str.{bytes_eq}
 use Rattle.un_isa.specs.declared.op.Op.{Op}
@@ -17,7 +17,6 @@ use Rattle.un_words.specs.declared.line.Line.TheVariants.{Operation}
 use Rattle.un_words.specs.Tokens.{Spelled}
 use Rattle.un_words.specs.Shapes.{word_at, names_at, zero_number, literal_at, have_forms, op_named, slots_by, result_fits, is_call_list}
 use Rattle.un_words.specs.Shapes.{operands_fit, op_line_of, op_shape, operation_shape}
-use Rattle.un_words.proofs.Each.{Each}
 use Rattle.un_words.proofs.TokenFacts.{IfThere, IsSpelled, IsGoodToken, names_there}
 use Rattle.un_words.proofs.SlotFacts.{are_formed, count_names, no_literal, count_slots, names_alone, list_literal}
 

@@ -4,9 +4,6 @@ use Rattle.std.proofs.Common.{length, take, drop, arith, subst, get_or, drop-con
 use Rattle.std.specs.List.{onto_first, position_or_len}
 use Rattle.un_base.specs.Lines.{is_line_feed, pieces_of}
 
-abbrev Cut : List ℕ → ℕ → Type 0
-Cut text n = pieces_of text ≡ take n text ∷ pieces_of (drop n text)
-
 -- the first line ends behind the first line feed, or with the text
 pub first_piece : (text : List ℕ) (n : ℕ) → 0 < length text → n ≡ min (position_or_len is_line_feed text + 1) (length text)
     → pieces_of text ≡ take n text ∷ pieces_of (drop n text)

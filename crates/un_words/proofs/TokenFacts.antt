@@ -1,8 +1,8 @@
 -- Words of a line that have a form: names and labels are spelled as such.
 use Rattle.std.proofs.Common.{◌≡◌, ℕ, zero, suc, ◌||◌, ◌==◌, Bool, true, false, List, [], ◌∷◌, Option, Some, None, map, drop, slice_get}
 use Rattle.std.proofs.Common.{if◌then◌else◌, refl}
-use Rattle.std.specs.List.{cons_option}
-use Rattle.std.specs.Option.{option_map, option_and_then}
+use Rattle.std.specs.List.{AllByRecursion as Each, cons_option}
+use Rattle.std.specs.Option.{option_and_then}
 use Rattle.un_base.specs.Names.{is_name}
 use Rattle.un_ir.specs.declared.function.Kind.{Kind}
 use Rattle.un_ir.specs.declared.function.Kind.TheVariants.{General, Pred}
@@ -12,16 +12,11 @@ use Rattle.un_words.specs.declared.token.Token.TheVariants.{Comma, Equals, Named
 use Rattle.un_words.specs.Words.{words_of}
 use Rattle.un_words.specs.Tokens.{Spelled, number_of, with_kind, named_of, token_by, plain_of, token_of, tokens_of}
 use Rattle.un_words.specs.Shapes.{word_in, word_at, name_in, name_at, condition_in, condition_at, names_at}
-use Rattle.un_words.proofs.Each.{Each}
 
 -- what holds of a value, where there is one
 abbrev pub IfThere : {X : Type 0} → (X → Type 0) → Option X → Type 0
 IfThere P None = Unit {0}
 IfThere P (Some x) = P x
-
-pub IfThere-map : {X Y : Type 0} (Q : Y → Type 0) (f : X → Y) (o : Option X) → IfThere (λ (x : X). Q (f x)) o → IfThere Q (option_map f o)
-IfThere-map Q f None h = tt
-IfThere-map Q f (Some x) h = h
 
 pub IfThere-then : {X Y : Type 0} (P : X → Type 0) (Q : Y → Type 0) (f : X → Option Y) (o : Option X) → IfThere P o
     → ((x : X) → P x → IfThere Q (f x)) → IfThere Q (option_and_then f o)

@@ -78,12 +78,14 @@ returns-then-branch-clause-fault c =
     c.entry_place.ensures.place ∙ ap (position_or_len is_block) (c.as_slice-then-branch.ensures ∙ sym c.as_slice.ensures) in
     told (IsTextFault c.args.text.now) (c.entry_place.result + 1) LiveAtEntry c.fault_of-then-branch.result c.fault_of-then-branch.ensures
     (entry_fault c.args.text.now c.as_slice.result.now _ _ _ _ c.entry_place.result within
-    (parts_of c.args.text.now c.as_slice.result.now _ _ _ _ c.in_ok-lines.ensures.good same c.in_ok-parts.ensures.good c.in_ok-parts.ensures.parts)
+    (parts_of c.args.text.now c.as_slice.result.now _ _ _ _ c.in_ok-lines.ensures.good same
+    c.in_ok-parts.ensures.good c.in_ok-parts.ensures.parts)
     same place live.0 live.1)
 
 pub whole-requires : goal.whole-requires
 whole-requires c =
     let same : c.as_slice.result.now ≡ shapes_in c.args.text.now = c.as_slice.ensures ∙ c.in_ok-lines.ensures.lines in
     parts_well_formed c.args.text.now _ _ _ _
-    (parts_of c.args.text.now c.as_slice.result.now _ _ _ _ c.in_ok-lines.ensures.good same c.in_ok-parts.ensures.good c.in_ok-parts.ensures.parts)
+    (parts_of c.args.text.now c.as_slice.result.now _ _ _ _ c.in_ok-lines.ensures.good same
+    c.in_ok-parts.ensures.good c.in_ok-parts.ensures.parts)
     (c.in_ok-has_live.ensures.no c.if-branch.false)
