@@ -17,29 +17,12 @@ use Rattle.un_ir.specs.declared.extended.ExtOp.{ExtOp}
 use Rattle.un_ir.specs.declared.extended.ExtBlock.{ExtBlock}
 use Rattle.un_ir.specs.declared.extended.Ext.{Ext}
 use Rattle.un_ir.specs.declared.extended.Lssa.{Lssa}
+use Rattle.un_ir.specs.declared.extended.Sort.{Sort}
+use Rattle.un_ir.specs.declared.extended.Value.{Value}
+use Rattle.un_ir.specs.declared.extended.Growth.{Growth}
 use Rattle.un_ir.specs.Extended.{temp, in_kinds, is_end, is_return, returns}
 use Rattle.un_ir.specs.Linear.{first_of}
 use Rattle.un_ir.specs.WellFormed.{result_kind}
-
--- what is known of a value: its temporary and its own copies, all temporaries so far that carry it, its kind, and whether
--- it and the operands that read it have copies
-pub record Value : Type 0 where
-  pub own : List TempId
-  pub all : List TempId
-  pub kind : Kind
-  pub copied : Bool
-
--- how far the extended function has come: the operations of the block, the values by their numbers in the linear function,
--- and the number of the next temporary
-pub record Growth : Type 0 where
-  pub ops : List ExtOp
-  pub values : List Value
-  pub next : ℕ
-
--- what a value of the linear function is to have
-pub record Trait : Type 0 where
-  pub kind : Kind
-  pub copied : Bool
 
 -- ---- copies
 
@@ -58,12 +41,15 @@ abbrev pub with_copy : NodeCopy → List TempId → Growth → Growth
 with_copy node alts g = record { ops = g.ops ++ copy_op node alts g.next ∷ []; values = g.values; next = g.next + 1 }
 
 -- how many copies there are of a value, and of an operand that reads it
-abbrev pub copy_count : Kind → Bool → ℕ
-copy_count kind false = 0
-copy_count General true = 1
-copy_count Pred true = 2
+abbrev pub copy_count_by : Kind → Bool → ℕ
+copy_count_by kind false = 0
+copy_count_by General true = 1
+copy_count_by Pred true = 2
 
--- the copies of a value of this kind, or of an operand that reads it, where there are any: the first may read these
+abbrev pub copy_count : Sort → ℕ
+copy_count sort = copy_count_by sort.kind sort.copied
+
+-- the copies of a value of this sort, or of an operand that reads it, where there are any: the first may read these
 -- temporaries, and the second the first besides
 abbrev pub with_copies : NodeCopy → NodeCopy → Kind → Bool → List TempId → Growth → Growth
 with_copies first second kind false alts g = g
@@ -77,17 +63,20 @@ new_temps g count = map temp (range_with_len g.next count)
 -- ---- values
 
 -- a value with temporary n, with its copies
-abbrev pub with_value : ℕ → Trait → Growth → Growth
-with_value n trait g =
-    let count = copy_count trait.kind trait.copied in
-    let own = temp n ∷ new_temps g count in
-    let grown = with_copies D D2 trait.kind trait.copied (temp n ∷ []) g in
-    record grown { values = g.values ++ record { own = own; all = own; kind = trait.kind; copied = trait.copied } ∷ [] }
+abbrev pub own_temps : ℕ → Sort → Growth → List TempId
+own_temps n sort g = temp n ∷ new_temps g (copy_count sort)
+
+abbrev pub value_of : ℕ → Sort → Growth → Value
+value_of n sort g = record { own = own_temps n sort g; all = own_temps n sort g; sort = sort }
+
+abbrev pub with_value : ℕ → Sort → Growth → Growth
+with_value n sort g =
+    let grown = with_copies D D2 sort.kind sort.copied (temp n ∷ []) g in record { ops = grown.ops; values = g.values ++ value_of n sort g ∷ []; next = grown.next }
 
 -- values whose temporaries begin with n
-abbrev pub with_values : ℕ → List Trait → Growth → Growth
+abbrev pub with_values : ℕ → List Sort → Growth → Growth
 with_values n [] g = g
-with_values n (trait ∷ traits) g = with_values (n + 1) traits (with_value n trait g)
+with_values n (sort ∷ sorts) g = with_values (n + 1) sorts (with_value n sort g)
 
 -- ---- operands
 
@@ -95,9 +84,8 @@ with_values n (trait ∷ traits) g = with_values (n + 1) traits (with_value n tr
 abbrev pub with_operand_by : ℕ → Option Value → Growth → Growth
 with_operand_by x None g = g
 with_operand_by x (Some v) g =
-    let count = copy_count v.kind v.copied in
-    let grown = with_copies U U2 v.kind v.copied v.own g in
-    record grown { values = slice_set g.values x (record v { all = v.all ++ new_temps g count }) }
+    let grown = with_copies U U2 v.sort.kind v.sort.copied v.own g in
+    record { ops = grown.ops; values = slice_set g.values x (record v { all = v.all ++ new_temps g (copy_count v.sort) }); next = grown.next }
 
 abbrev pub with_operand : Operand → Growth → Growth
 with_operand x g = with_operand_by (first_of x.alts) (slice_get g.values (first_of x.alts)) g
@@ -121,13 +109,17 @@ new_operands (x ∷ xs) g = chosen_from x (with_operand x g) ∷ new_operands xs
 
 -- ---- operations
 
--- the traits of the values that an operation defines, where saved values have copies or not
-abbrev pub traits_of : List Kind → List NameId → Bool → ExtKind → ℕ → List Trait
-traits_of names live_in saved In count =
-    map (λ (name : NameId). record { kind = unwrap_or (slice_get names name.0) General; copied = true }) live_in
+-- a name's value has copies
+abbrev pub sort_of_name : List Kind → NameId → Sort
+sort_of_name names name = record { kind = unwrap_or (slice_get names name.0) General; copied = true }
+
+-- the sorts of the values that an operation defines, where saved values have copies or not
+abbrev pub sorts_of : List Kind → List NameId → Bool → ExtKind → ℕ → List Sort
+sorts_of names live_in saved In count =
+    map (sort_of_name names) live_in
     ++ replicate (count - length live_in) (record { kind = General; copied = saved })
-traits_of names live_in saved (Body o) count = replicate count (record { kind = result_kind o.op; copied = true })
-traits_of names live_in saved _ count = []
+sorts_of names live_in saved (Body o) count = replicate count (record { kind = result_kind o.op; copied = true })
+sorts_of names live_in saved _ count = []
 
 abbrev pub with_results : ExtKind → List Operand → ℕ → Growth → Growth
 with_results kind operands count g = record {
@@ -152,7 +144,7 @@ with_extended names live_in is_entry saved op g =
     let read = with_operands op.operands before in
     let count = length op.results in
     let here = with_results op.kind (new_operands op.operands before) count read in
-    with_enter is_entry op.kind (with_values read.next (traits_of names live_in saved op.kind count) here)
+    with_enter is_entry op.kind (with_values read.next (sorts_of names live_in saved op.kind count) here)
 
 abbrev pub with_all_extended : List Kind → List NameId → Bool → Bool → List ExtOp → Growth → Growth
 with_all_extended names live_in is_entry saved [] g = g

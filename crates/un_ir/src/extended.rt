@@ -160,3 +160,29 @@ pub struct Lssa {
     pub names: Items<Kind>,
     pub blocks: Items<LssaBlock>,
 }
+
+/// What a value of a linear function is to have in the extended one: its kind, and whether it and the operands that read
+/// it have copies.
+#[derive(Clone, Copy)]
+pub struct Sort {
+    pub kind: Kind,
+    pub copied: bool,
+}
+
+/// A value of a linear function as the extended one has it: its temporary and its own copies, all temporaries so far that
+/// carry it, and its sort.
+#[derive(Drop)]
+pub struct Value {
+    pub own: Items<TempId>,
+    pub all: Items<TempId>,
+    pub sort: Sort,
+}
+
+/// How far an extended function has come: the operations of the block, the values by their numbers in the linear function,
+/// and the number of the next temporary.
+#[derive(Drop)]
+pub struct Growth {
+    pub ops: Items<ExtOp>,
+    pub values: Items<Value>,
+    pub next: u32,
+}
