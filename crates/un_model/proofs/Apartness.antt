@@ -1,6 +1,6 @@
 -- The first cycles in which operations may issue after others, and whether they do.
 use Rattle.std.proofs.Common.{◌≡◌, ◌≢◌, ◌↔◌, ◌⊎◌, inl, inr, ℕ, zero, suc, ◌+◌, ◌<◌, ◌≤◌, Bool, true, false, ◌==◌, IsTrue, Option, Some, None, List, [], ◌∷◌, ◌++◌, length, length-set, length-take, get_or, take, max, set, All, AllPairs, refl, sym, ap, subst, ◌∙◌, arith}
-use Rattle.std.specs.Prelude.{IfSome, if◌then◌else◌, fold}
+use Rattle.std.specs.Prelude.{IfSome, fold}
 use Rattle.std.proofs.lemmas.Bool.{cases_lt, cases_eq, eqb-true, eq-eqb}
 use Rattle.std.proofs.lemmas.List.{get_or_default, get_or-take, take_more, get_or-set_same, get_or-set_other}
 use Rattle.un_isa.specs.declared.op.Op.{Op}
@@ -10,7 +10,7 @@ use Rattle.un_model.specs.declared.distances.Rule.TheVariants.{Memory, Frame}
 use Rattle.un_model.specs.declared.distances.Bounds.{Bounds}
 use Rattle.un_model.specs.declared.schedule.Issue.{Issue}
 use Rattle.un_model.specs.Orders.{cycle_after, after_issue, earliest, distance_of, bound_for, AreBounds, HaveBounds, IsAfter}
-use Rattle.un_model.specs.Solutions.{Distance, Precedes, after_write, after_load, after_enter, before_leave, KeepsFrameOrder}
+use Rattle.un_model.specs.Solutions.{Precedes, after_write, after_load, after_enter, before_leave, KeepsFrameOrder}
 
 -- ---- instructions that nothing keeps apart
 

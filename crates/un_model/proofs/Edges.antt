@@ -1,5 +1,5 @@
 -- What goes over an edge, found by loops.
-use Rattle.std.proofs.Common.{◌≡◌, ◌↔◌, ℕ, zero, suc, ◌+◌, ◌<◌, ◌≤◌, Bool, true, false, IsTrue, Option, Some, None, List, [], ◌∷◌, length, drop, slice_get, get_or, Contains, refl, sym, ap, ◌∙◌, subst, arith}
+use Rattle.std.proofs.Common.{◌≡◌, ◌↔◌, ℕ, ◌+◌, ◌<◌, Bool, true, false, IsTrue, Option, Some, None, List, [], ◌∷◌, length, drop, slice_get, get_or, refl, sym, ap, ◌∙◌, subst}
 use Rattle.std.specs.Prelude.{unwrap_or, if◌then◌else◌, ◌==◌, ◌&&◌, is_none}
 use Rattle.std.specs.List.{filter}
 use Rattle.std.proofs.lemmas.Option.{slice_get_within, get_or_from_slice_get, slice_get-get_or}
@@ -11,7 +11,7 @@ use Rattle.un_model.specs.Orders.{HandsAll, AllHandOn}
 use Rattle.un_base.specs.declared.ids.TempId.{TempId}
 use Rattle.un_ir.specs.declared.function.Term.{Term}
 use Rattle.un_ir.specs.declared.extended.ExtOp.{ExtOp}
-use Rattle.un_model.specs.Congruences.{term_or, term_of, results_of_start, live_in_temps, is_live_out, live_out_reads, HandsOver, HandsOn, KeepsCongruences}
+use Rattle.un_model.specs.Congruences.{term_or, term_of, results_of_start, live_in_temps, live_out_reads, HandsOver, HandsOn, KeepsCongruences}
 use Rattle.un_model.proofs.Steps.{drop_at}
 
 pub term_found : (ops : List ExtOp) (k : ℕ) (op : ExtOp) (o : Option Term) (found : Term) → slice_get ops k ≡ Some op → ((later : Term) → unwrap_or o later ≡ term_or op.kind later) → o ≡ Some found → term_of (drop k ops) ≡ term_of ops → found ≡ term_of ops
@@ -71,8 +71,10 @@ hand_on_told blocks t ends b e told = (λ y. keeps (told.0 y), λ all. told.1 (h
         subst (λ (rs : List Read). HandsAll blocks t.ranges rs k x) (sym (handed k)) ((hands_on blocks t k x).1 (h k x (slice_get-get_or blocks k a lt)))
 
 pub not_on : (blocks : List ExtBlock) (ranges : List LiveRange) (ends handed slice : List Read) (k : ℕ) (x : ExtBlock) (t : Bool) → k < length blocks → x ≡ get_or blocks k x → handed ≡ filter (λ (r : Read). r.block.0 == k) ends → slice ≡ handed → IsTrue t ↔ HandsAll blocks ranges slice k x → t ≡ false → IsTrue false ↔ AllHandOn blocks ranges ends
-not_on blocks ranges ends handed slice k x t lt at h s told e =
-    (λ no. absurd (cc no), λ all.
+not_on blocks ranges ends handed slice k x t lt at h s told e = (
+  λ no. absurd (cc no),
+  λ all.
       let here : HandsAll blocks ranges (filter (λ (r : Read). r.block.0 == k) ends) k x = subst (λ (y : ExtBlock). HandsAll blocks ranges (filter (λ (r : Read). r.block.0 == k) ends) k y) (sym at) (all k x lt) in
       let y : t ≡ true = told.1 (subst (λ (rs : List Read). HandsAll blocks ranges rs k x) (sym (s ∙ h)) here) in
-      absurd (cc (y, e)))
+      absurd (cc (y, e)),
+)

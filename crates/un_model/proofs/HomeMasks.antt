@@ -15,7 +15,7 @@ use Rattle.un_isa.specs.Tables.{in_mask}
 use Rattle.un_isa.specs.declared.reg.Reg.{Reg}
 use Rattle.un_ir.specs.declared.extended.ExtOp.{ExtOp}
 use Rattle.un_ir.specs.declared.extended.Operand.{Operand}
-use Rattle.un_model.specs.Homes.{mask_of, AddsMarks, is_mark, is_operand_mark, is_operands_mark, is_result_mark, is_results_mark, is_op_mark, is_block_mark, TellsHomes}
+use Rattle.un_model.specs.Homes.{mask_of, AddsMarks, is_mark, is_operand_mark, is_result_mark, is_results_mark, is_op_mark, is_block_mark, TellsHomes}
 use Rattle.un_ir.specs.declared.extended.Ext.{Ext}
 use Rattle.un_ir.specs.declared.extended.ExtBlock.{ExtBlock}
 use Rattle.un_model.specs.Pairs.{any_from}
@@ -163,13 +163,13 @@ mark_below truth home r lt = let e : (r == 32) ≡ false = grind (arith, nat_tes
 home_marks : (e : Ext) (is_entry : Bool) (block : ExtBlock) (x : TempId) (r : ℕ) → r < 32 → is_block_mark e is_entry block x r ≡ is_home e.table is_entry block x r
 home_marks e is_entry block x r lt =
     any_same (is_op_mark e is_entry block.live_in x r) (λ (op : ExtOp). is_operand_home op x r || is_result_home e.table is_entry block.live_in op x r) block.ops (λ op.
-      ap (λ (b : Bool). b || is_results_mark e is_entry block.live_in op x r) (any_same (λ (o : Operand). is_operand_mark o x r) (λ (o : Operand). reads_value o x && is_register o.home r) op.operands (λ o. ap (λ (b : Bool). reads_value o x && b) (mark_below false o.home r lt)))
-      ∙ ap (λ (b : Bool). is_operand_home op x r || b) (any_from_same (is_result_mark e is_entry block.live_in op x r) (λ (j : ℕ) (y : TempId). y.0 == x.0 && is_register (result_home e.table is_entry block.live_in op.kind j) r) 0 op.results (λ j y. ap (λ (b : Bool). y.0 == x.0 && b) (mark_below (gives_truth_at e.names block.live_in op.kind j) (result_home e.table is_entry block.live_in op.kind j) r lt))))
+    ap (λ (b : Bool). b || is_results_mark e is_entry block.live_in op x r) (any_same (λ (o : Operand). is_operand_mark o x r) (λ (o : Operand). reads_value o x && is_register o.home r) op.operands (λ o. ap (λ (b : Bool). reads_value o x && b) (mark_below false o.home r lt)))
+    ∙ ap (λ (b : Bool). is_operand_home op x r || b) (any_from_same (is_result_mark e is_entry block.live_in op x r) (λ (j : ℕ) (y : TempId). y.0 == x.0 && is_register (result_home e.table is_entry block.live_in op.kind j) r) 0 op.results (λ j y. ap (λ (b : Bool). y.0 == x.0 && b) (mark_below (gives_truth_at e.names block.live_in op.kind j) (result_home e.table is_entry block.live_in op.kind j) r lt))))
 
 truth_marks : (e : Ext) (is_entry : Bool) (block : ExtBlock) (x : TempId) → is_block_mark e is_entry block x 32 ≡ is_truth e.names block x
 truth_marks e is_entry block x =
     any_same (is_op_mark e is_entry block.live_in x 32) (λ (op : ExtOp). is_truth_of e.names block.live_in op x) block.ops (λ op.
-      ap (λ (b : Bool). b || is_results_mark e is_entry block.live_in op x 32) (none_from (λ (o : Operand). is_operand_mark o x 32) op.operands (λ o. and_last (reads_value o x))))
+    ap (λ (b : Bool). b || is_results_mark e is_entry block.live_in op x 32) (none_from (λ (o : Operand). is_operand_mark o x 32) op.operands (λ o. and_last (reads_value o x))))
 
 pub homes_told : (e : Ext) (is_entry : Bool) (block : ExtBlock) (masks : BTreeMap ℕ ℕ) → ((x : TempId) (r : ℕ) → r ≤ 32 → in_mask (mask_of masks x) r ≡ is_block_mark e is_entry block x r) → TellsHomes e is_entry block masks
 homes_told e is_entry block masks h = record {

@@ -1,8 +1,7 @@
 -- The loops that gather homes: what is gathered so far, and what is in the rest, are the whole.
-use Rattle.std.proofs.Common.{◌≡◌, ℕ, zero, suc, ◌+◌, ◌<◌, ◌≤◌, Bool, true, false, List, [], ◌∷◌, length, drop, Some, slice_get, refl, ap, ◌∙◌, sym, arith}
+use Rattle.std.proofs.Common.{◌≡◌, ℕ, zero, suc, ◌+◌, ◌<◌, ◌≤◌, Bool, true, false, List, [], ◌∷◌, refl, ap, ◌∙◌, arith}
 use Rattle.std.specs.Prelude.{◌||◌, ◌&&◌, if◌then◌else◌, filter}
 use Rattle.std.specs.List.{AllByRecursion, list_any, range_with_len}
-use Rattle.un_model.proofs.Steps.{or_false}
 
 pub and_false : (a : Bool) → (a && false) ≡ false
 and_false true = refl

@@ -1,5 +1,5 @@
 -- The operations of a schedule are in the blocks of its function.
-use Rattle.std.proofs.Common.{◌≡◌, ℕ, ◌+◌, ◌<◌, ◌≤◌, List, [], ◌∷◌, length, All, subst, arith}
+use Rattle.std.proofs.Common.{◌≡◌, ℕ, ◌+◌, ◌<◌, ◌≤◌, List, [], ◌∷◌, length, All, arith}
 use Rattle.std.proofs.lemmas.List.Elements.{All-cons, All-append}
 use Rattle.un_ir.specs.declared.extended.ExtBlock.{ExtBlock}
 use Rattle.un_model.specs.declared.model.BlockVars.{BlockVars}
@@ -8,7 +8,7 @@ use Rattle.un_model.specs.declared.schedule.Issue.{Issue}
 use Rattle.un_model.specs.declared.schedule.Schedule.{Schedule}
 use Rattle.un_model.specs.Cost.{value_of}
 use Rattle.un_model.specs.Pairs.{pairs_from, over_blocks}
-use Rattle.un_model.specs.Schedules.{issue_of, block_issues, issues_of, schedule_of}
+use Rattle.un_model.specs.Schedules.{issue_of, block_issues, schedule_of}
 
 none : {A : Type 0} (P : A → Type 0) → All P []
 none P k d lt = absurd (omega (arith, lt))

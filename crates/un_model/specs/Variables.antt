@@ -120,9 +120,13 @@ carried_by _ operands x = x
 abbrev pub carried : ExtOp → TempId → TempId
 carried op x = carried_by op.kind op.operands x
 
+-- the temporary x that operation n defines, with register variable k
+abbrev pub temp_of : ℕ → ExtOp → ℕ → TempId → TempVars
+temp_of n op k x = record { op = record { 0 = n }; value = carried op x; reg = var_at k }
+
 -- the temporaries that operation n defines, the first with this register variable
 abbrev pub op_temps : ℕ → ℕ → ExtOp → List TempVars
-op_temps n reg op = places_from (λ (k : ℕ) (x : TempId). record { op = record { 0 = n }; value = carried op x; reg = var_at k }) reg op.results
+op_temps n reg op = places_from (temp_of n op) reg op.results
 
 -- those of operations of which the first has the number n and its first variable this number
 abbrev pub ops_temps : ℕ → ℕ → List ExtOp → List TempVars

@@ -1,5 +1,5 @@
 use Rattle.un_model.proofs.Costs.{cost_more, cost_all, fits}
-use Rattle.std.proofs.Common.{◌∙◌, arith}
+use Rattle.std.proofs.Common.{arith}
 use Rattle.un_model.proofs.cost.cost.Goals as goal
 
 pub overflow_add-sum : goal.overflow_add-sum

@@ -1,4 +1,3 @@
-use Rattle.std.proofs.Common.{arith}
 use Rattle.un_model.proofs.Apartness.{have_more}
 use Rattle.un_model.proofs.distances.add_issue.Goals as goal
 

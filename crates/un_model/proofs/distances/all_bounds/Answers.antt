@@ -1,4 +1,4 @@
-use Rattle.std.proofs.Common.{get_or, sym, ap, subst, ◌∙◌, List, take, ◌++◌, ◌∷◌, [], arith}
+use Rattle.std.proofs.Common.{sym, subst, List, take, arith}
 use Rattle.std.proofs.lemmas.List.{take_more}
 use Rattle.un_model.specs.declared.schedule.Issue.{Issue}
 use Rattle.un_model.specs.Orders.{HaveBounds}

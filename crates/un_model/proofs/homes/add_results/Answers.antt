@@ -1,5 +1,5 @@
 use Rattle.un_model.specs.Homes.{is_result_mark}
-use Rattle.un_model.proofs.Steps.{any_from_more, any_from_all}
+use Rattle.un_model.proofs.Steps.{any_from_more}
 use Rattle.un_model.proofs.homes.add_results.Goals as goal
 
 pub loop-j-preserved : goal.loop-j-preserved

@@ -1,4 +1,4 @@
-use Rattle.std.proofs.Common.{◌≡◌, ◌+◌, ◌++◌, drop}
+use Rattle.std.proofs.Common.{◌≡◌, ◌++◌, drop}
 use Rattle.un_model.specs.Pairs.{pairs_from, joined}
 use Rattle.un_model.specs.Schedules.{issue_of, reads_at}
 use Rattle.un_model.proofs.placement.push_block.Given as goal

@@ -1,4 +1,4 @@
-use Rattle.std.proofs.Common.{arith, ◌+◌, ap, ◌∙◌}
+use Rattle.std.proofs.Common.{arith}
 use Rattle.un_model.specs.Schedules.{block_issues, block_reads}
 use Rattle.un_model.proofs.Steps.{blocks_more, blocks_all}
 use Rattle.un_model.proofs.placement.push_blocks.Goals as goal
