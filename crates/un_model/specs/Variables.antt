@@ -135,7 +135,8 @@ ops_temps n first (op ∷ ops) = op_temps n (first + register_place op) op ++ op
 
 abbrev pub blocks_temps : ℕ → ℕ → List ExtBlock → List TempVars
 blocks_temps n first [] = []
-blocks_temps n first (block ∷ blocks) = ops_temps n first block.ops ++ blocks_temps (n + length block.ops) (first + block_count block) blocks
+blocks_temps n first (block ∷ blocks) = ops_temps n first block.ops ++ blocks_temps (n + length block.ops) (first + block_count block)
+    blocks
 
 -- ---- domains
 
@@ -200,7 +201,8 @@ carries_truth e block op (x ∷ xs) = is_truth e.names block (carried op x)
 -- the domains of an operation's variables: its instruction, its cycle, its choices, the registers of its results
 abbrev pub op_domains : Ext → Options → Bool → ExtBlock → ℕ → ExtOp → List Domain
 op_domains e o is_entry block horizon op =
-    option_to_list (instr_domain (carries_truth e block op op.results) op.kind) ++ option_to_list (cycle_domain horizon op.kind) ++ map choice_domain (chosen_operands op) ++ places_from (result_domain e o is_entry block op) 0 op.results
+    option_to_list (instr_domain (carries_truth e block op op.results) op.kind) ++ option_to_list (cycle_domain horizon op.kind) ++ map
+    choice_domain (chosen_operands op) ++ places_from (result_domain e o is_entry block op) 0 op.results
 
 abbrev pub ops_domains : Ext → Options → Bool → ExtBlock → ℕ → List ExtOp → List Domain
 ops_domains e o is_entry block horizon [] = []
@@ -213,7 +215,8 @@ block_domains e o is_entry horizon block = ops_domains e o is_entry block horizo
 -- the first block is the entry
 abbrev pub blocks_domains : Ext → Options → (ExtBlock → ℕ) → Bool → List ExtBlock → List Domain
 blocks_domains e o horizon is_entry [] = []
-blocks_domains e o horizon is_entry (block ∷ blocks) = block_domains e o is_entry (horizon block) block ++ blocks_domains e o horizon false blocks
+blocks_domains e o horizon is_entry (block ∷ blocks) = block_domains e o is_entry (horizon block) block ++ blocks_domains e o horizon
+    false blocks
 
 -- no cycle of a block is past its horizon
 abbrev pub own_horizon : ExtBlock → ℕ
