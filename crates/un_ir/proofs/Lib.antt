@@ -1,2 +1,5 @@
 pub mod Commas
 pub mod SameFunction
+mod ExtendValues
+pub mod NameBounds
+pub mod FunctionFacts

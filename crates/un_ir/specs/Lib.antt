@@ -1,3 +1,7 @@
+pub mod Extended
+pub mod ExtendOf
+pub mod LinearOf
+pub mod Linear
 pub mod Live
 pub mod Names
 pub mod Source

@@ -151,20 +151,38 @@ impl Clone for Ext {
 }
 
 /// A block of a linear function: an extended block without copies, Enter and Leave, with one alternative per operand.
-#[derive(Debug, PartialEq, Eq, Drop)]
-pub struct LssaBlock {
-    pub freq: u32,
-    pub label: Name,
-    pub live_in: Items<NameId>,
-    pub live_out: Items<NameId>,
-    pub ops: Items<ExtOp>,
-    pub horizon: u32,
-}
+pub type LssaBlock = ExtBlock;
 
-/// A linear function with its table.
+/// A linear function with its table. `names` has the kind of each name of the function, by its number.
 #[derive(Debug, PartialEq, Eq, Drop)]
 pub struct Lssa {
     pub table: Table,
     pub names: Items<Kind>,
     pub blocks: Items<LssaBlock>,
+}
+
+/// What a value of a linear function is to have in the extended one: its kind, and whether it and the operands that read
+/// it have copies.
+#[derive(Clone, Copy)]
+pub struct Sort {
+    pub kind: Kind,
+    pub copied: bool,
+}
+
+/// A value of a linear function as the extended one has it: its temporary and its own copies, all temporaries so far that
+/// carry it, and its sort.
+#[derive(Drop)]
+pub struct Value {
+    pub own: Items<TempId>,
+    pub all: Items<TempId>,
+    pub sort: Sort,
+}
+
+/// How far an extended function has come: the operations of the block, the values by their numbers in the linear function,
+/// and the number of the next temporary.
+#[derive(Drop)]
+pub struct Growth {
+    pub ops: Items<ExtOp>,
+    pub values: Items<Value>,
+    pub next: u32,
 }

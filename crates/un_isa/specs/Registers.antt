@@ -12,7 +12,7 @@ abbrev pub space_of : ℕ → Space
 space_of r = if nat_lt r GENERALS then R else if nat_lt r FIRST_SLOT then P else M
 
 -- the general registers that a function keeps, rising
-abbrev pub callee_saved : Table → List ℕ
+unfoldable pub callee_saved : Table → List ℕ
 callee_saved t = filter (in_mask t.saved) (range_with_len 0 GENERALS)
 
 -- the registers whose values at a function's entry are wanted at its return: those that it keeps, and the link register

@@ -84,6 +84,7 @@ impl RegSet {
 ///
 /// # Errors
 /// `NoMemory` where there is no memory for the list.
+#[tactic(auto, unfolding(crate::specs::Registers::callee_saved))]
 pub fn callee_saved(alloc: Global, t: &Table) -> Result<Vec<u32>, NoMemory>
     ensures registers { IfOk result (λ registers. registers.items ≡ callee_saved t.now) }
     ensures few { IfOk result (λ registers. length registers.items ≤ GENERALS) }

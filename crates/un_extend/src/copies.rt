@@ -1,0 +1,134 @@
+//! Copies.
+
+ghost use Rattle.std.specs.Prelude.{◌≡◌, ◌+◌, ◌++◌, [], ◌∷◌, map, IfOk, OnOk, None};
+ghost use Rattle.std.specs.List.{range_with_len};
+ghost use Rattle.un_ir.specs.Extended.{temp};
+ghost use Rattle.un_ir.specs.ExtendOf.{copy_op, frame_op, with_op, with_copy, with_copies, copy_count};
+
+use std::alloc::Global;
+use un_base::ids::TempId;
+use un_base::memory_error::NoMemory;
+use un_ir::extended::{ExtKind, ExtOp, Growth, NodeCopy, Operand, Sort};
+use un_ir::function::Kind;
+use un_lists::items::Items;
+
+/// Temporaries, as a list of its own.
+fn copied(alloc: Global, temps: &[TempId]) -> Result<Items<TempId>, NoMemory>
+    ensures { IfOk result (λ own. own ≡ temps.now) }
+{
+    let own = Vec::from_slice(alloc, temps)?;
+    Ok(Items::from_vec(own))
+}
+
+/// The number that is `k` past `n`.
+pub fn number_past(n: u32, k: u32) -> Result<u32, NoMemory>
+    ensures { IfOk result (λ m. m ≡ n + k) }
+{
+    match n.checked_add(k) {
+        Some(m) => Ok(m),
+        None => Err(NoMemory),
+    }
+}
+
+/// So many temporaries from number `first` on, behind those so far.
+pub fn push_temps(temps: &mut Items<TempId>, first: u32, count: u32) -> Result<(), NoMemory>
+    ensures { OnOk result (temps.new ≡ temps.old ++ map temp (range_with_len first count)) }
+{
+    for k in 0..count {
+        temps.push(TempId(number_past(first, k)?))?;
+    }
+    Ok(())
+}
+
+/// A copy that may read these temporaries, which defines temporary `n`.
+fn copy_op(alloc: Global, node: NodeCopy, alts: &[TempId], n: u32) -> Result<ExtOp, NoMemory>
+    ensures { IfOk result (λ op. op ≡ copy_op node alts.now n) }
+{
+    let alts = copied(alloc, alts)?;
+    let mut operands = Items::new(alloc);
+    operands.push(Operand { alts, home: None })?;
+    let mut results = Items::new(alloc);
+    results.push(TempId(n))?;
+    Ok(ExtOp {
+        kind: ExtKind::Copy(node),
+        operands,
+        results,
+    })
+}
+
+/// Adds the operation that moves the stack pointer, Enter or Leave.
+pub fn push_frame_op(alloc: Global, g: &mut Growth, kind: ExtKind) -> Result<(), NoMemory>
+    ensures { OnOk result (g.new ≡ with_op g.old (frame_op kind)) }
+{
+    g.ops.push(ExtOp {
+        kind,
+        operands: Items::new(alloc),
+        results: Items::new(alloc),
+    })?;
+    Ok(())
+}
+
+/// Adds a copy that may read these temporaries.
+fn push_copy(
+    alloc: Global,
+    g: &mut Growth,
+    node: NodeCopy,
+    alts: &[TempId],
+) -> Result<(), NoMemory>
+    ensures { OnOk result (g.new ≡ with_copy node alts.now g.old) }
+{
+    let op = copy_op(alloc, node, alts, g.next)?;
+    g.ops.push(op)?;
+    g.next = number_past(g.next, 1)?;
+    Ok(())
+}
+
+/// Adds two copies: the first may read these temporaries, and the second the first besides.
+fn push_two_copies(
+    alloc: Global,
+    g: &mut Growth,
+    first: NodeCopy,
+    second: NodeCopy,
+    alts: &[TempId],
+) -> Result<(), NoMemory>
+    ensures { OnOk result (g.new ≡ with_copy second (alts.now ++ temp g.old.next ∷ []) (with_copy first alts.now g.old)) }
+{
+    let mut more = copied(alloc, alts)?;
+    more.push(TempId(g.next))?;
+    push_copy(alloc, g, first, alts)?;
+    push_copy(alloc, g, second, more.as_slice())
+}
+
+/// Adds the copies of a value of this sort, or of an operand that reads it, where there are any: the first may read these
+/// temporaries, and the second the first besides.
+pub fn push_copies(
+    alloc: Global,
+    g: &mut Growth,
+    first: NodeCopy,
+    second: NodeCopy,
+    sort: Sort,
+    alts: &[TempId],
+) -> Result<(), NoMemory>
+    ensures { OnOk result (g.new ≡ with_copies first second sort.kind sort.copied alts.now g.old) }
+{
+    if !sort.copied {
+        return Ok(());
+    }
+    match sort.kind {
+        Kind::General => push_copy(alloc, g, first, alts),
+        Kind::Pred => push_two_copies(alloc, g, first, second, alts),
+    }
+}
+
+/// How many copies there are of a value of this sort, and of an operand that reads it.
+pub fn copy_count(sort: Sort) -> u32
+    ensures { result ≡ copy_count sort }
+{
+    if !sort.copied {
+        return 0;
+    }
+    match sort.kind {
+        Kind::General => 1,
+        Kind::Pred => 2,
+    }
+}

@@ -1,0 +1,122 @@
+//! Values with their copies, and operands that read them.
+
+ghost use Rattle.std.specs.Prelude.{◌≡◌, ◌++◌, [], ◌∷◌, ◌<◌, map, length, slice_get, IfOk, OnOk};
+ghost use Rattle.std.specs.List.{range_with_len};
+ghost use Rattle.un_ir.specs.Extended.{temp};
+ghost use Rattle.un_ir.specs.Linear.{first_of};
+ghost use Rattle.un_ir.specs.ExtendOf.{with_value, with_values, with_operand, chosen_from, with_operand_by, alternatives, with_operands, new_operands, copy_count};
+
+use crate::copies::{copy_count, number_past, push_copies, push_temps};
+use std::alloc::Global;
+use un_base::ids::TempId;
+use un_base::memory_error::NoMemory;
+use un_ir::extended::{Growth, NodeCopy, Operand, Sort, Value};
+use un_lists::items::Items;
+
+/// The temporary `n` of a value of this sort and its own copies, which begin with temporary `next`.
+fn own_temps(alloc: Global, n: u32, sort: Sort, next: u32) -> Result<Items<TempId>, NoMemory>
+    ensures { IfOk result (λ own. own ≡ temp n ∷ map temp (range_with_len next (copy_count sort))) }
+{
+    let mut own = Items::new(alloc);
+    own.push(TempId(n))?;
+    push_temps(&mut own, next, copy_count(sort))?;
+    Ok(own)
+}
+
+/// Adds a value with temporary `n`, with its copies.
+fn push_value(alloc: Global, g: &mut Growth, n: u32, sort: Sort) -> Result<(), NoMemory>
+    ensures { OnOk result (g.new ≡ with_value n sort g.old) }
+{
+    let own = own_temps(alloc, n, sort, g.next)?;
+    let all = own.clone()?;
+    push_copies(alloc, g, NodeCopy::D, NodeCopy::D2, sort, &[TempId(n)])?;
+    g.values.push(Value { own, all, sort })?;
+    Ok(())
+}
+
+/// Adds values of these sorts whose temporaries begin with `first`, each with its copies.
+pub fn push_values(
+    alloc: Global,
+    g: &mut Growth,
+    first: u32,
+    sorts: &[Sort],
+) -> Result<(), NoMemory>
+    ensures { OnOk result (g.new ≡ with_values first sorts.now g.old) }
+{
+    let mut n = first;
+    for sort in sorts {
+        push_value(alloc, g, n, *sort)?;
+        n = number_past(n, 1)?;
+    }
+    Ok(())
+}
+
+/// The number of the first alternative of an operand.
+fn first_of(x: &Operand) -> u32
+    ensures { result ≡ first_of x.now.alts }
+{
+    match x.alts.as_slice().first() {
+        Some(temp) => temp.0,
+        None => 0,
+    }
+}
+
+/// The copies of an operand that reads a value, behind the value's temporaries so far. The next temporary is `next`.
+fn all_temps(alloc: Global, v: &Value, next: u32) -> Result<Items<TempId>, NoMemory>
+    ensures { IfOk result (λ all. all ≡ v.now.all ++ map temp (range_with_len next (copy_count v.now.sort))) }
+{
+    let mut all = v.all.clone()?;
+    push_temps(&mut all, next, copy_count(v.sort))?;
+    Ok(all)
+}
+
+/// Adds the copies of an operand that reads this value, which has number `x`, and answers all its alternatives.
+fn read_value(
+    alloc: Global,
+    g: &mut Growth,
+    x: usize,
+) -> Result<Items<TempId>, NoMemory>
+    requires { x < length g.old.values }
+    ensures grown { OnOk result (g.new ≡ with_operand_by x (slice_get g.old.values x) g.old) }
+    ensures alternatives { IfOk result (λ alts. alts ≡ alternatives (slice_get (let grown = with_operand_by x (slice_get g.old.values x) g.old in grown.values) x)) }
+{
+    let v = g.values.get(x);
+    let sort = v.sort;
+    let own = v.own.clone()?;
+    let all = all_temps(alloc, v, g.next)?;
+    let alts = all.clone()?;
+    push_copies(alloc, g, NodeCopy::U, NodeCopy::U2, sort, own.as_slice())?;
+    g.values.set(x, Value { own, all, sort });
+    Ok(alts)
+}
+
+/// Adds the copies of an operand, and answers the operand with its alternatives.
+fn push_operand(alloc: Global, g: &mut Growth, x: &Operand) -> Result<Operand, NoMemory>
+    ensures grown { OnOk result (g.new ≡ with_operand x.now g.old) }
+    ensures operand { IfOk result (λ y. y ≡ chosen_from x.now (with_operand x.now g.old)) }
+{
+    let first = first_of(x) as usize;
+    let alts = if first < g.values.len() {
+        read_value(alloc, g, first)?
+    } else {
+        Items::new(alloc)
+    };
+    Ok(Operand { alts, home: x.home })
+}
+
+/// Adds the copies of operands, and answers the operands with their alternatives.
+pub fn push_operands(
+    alloc: Global,
+    g: &mut Growth,
+    xs: &[Operand],
+) -> Result<Items<Operand>, NoMemory>
+    ensures grown { OnOk result (g.new ≡ with_operands xs.now g.old) }
+    ensures operands { IfOk result (λ ys. ys ≡ new_operands xs.now g.old) }
+{
+    let mut operands = Items::new(alloc);
+    for x in xs {
+        let operand = push_operand(alloc, g, x)?;
+        operands.push(operand)?;
+    }
+    Ok(operands)
+}

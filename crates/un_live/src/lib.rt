@@ -1,0 +1,7 @@
+//! Which names are live at the start of each block of a function.
+#![tactic(auto)]
+
+pub mod live;
+mod marks;
+mod meeting;
+mod tables;

@@ -1,0 +1,4 @@
+pub mod BlockLaws
+pub mod FunctionSizes
+pub mod Marks
+pub mod Operands

@@ -1,0 +1,208 @@
+//! Blocks of a linear function.
+
+ghost use Rattle.std.specs.Prelude.{◌≡◌, ◌+◌, ◌<◌, ◌≤◌, ◌^◌, ◌++◌, [], ◌∷◌, length, replicate, IfOk, All};
+ghost use Rattle.un_isa.specs.Registers.{callee_saved};
+ghost use Rattle.un_ir.specs.LinearOf.{first_temps, live_at, live_after, in_op, body_ops, current_after, end_ops, out_op, past_all, linear_ops, linear_block, linear_blocks, past_block};
+ghost use Rattle.un_ir.specs.declared.function.Block.{Block};
+ghost use Rattle.un_lssa.specs.Making.{past_blocks};
+
+use crate::names::{assign_all, live_after, live_at};
+use crate::ops::{in_op, out_op, push_body, push_end};
+use std::alloc::Global;
+use un_base::ids::NameId;
+use un_base::memory_error::NoMemory;
+use un_ir::extended::{ExtBlock, ExtOp, LiveSets, LssaBlock};
+use un_ir::function::{Block, SrcOp, Term};
+use un_isa::table::Table;
+use un_lists::items::Items;
+
+/// The operations of a block up to its terminator, the temporary of each name behind them, and the next temporary.
+#[derive(Drop)]
+struct Body {
+    ops: Items<ExtOp>,
+    current: Vec<u32>,
+    next: u32,
+}
+
+/// The operations of a block, and the next temporary.
+#[derive(Drop)]
+pub struct BlockOps {
+    pub ops: Items<ExtOp>,
+    pub next: u32,
+}
+
+/// A block, and the next temporary.
+#[derive(Drop)]
+pub struct Numbered {
+    pub block: LssaBlock,
+    pub next: u32,
+}
+
+/// The temporary of each of so many names at a block's start, whose first temporary is `n`.
+fn first_current(
+    alloc: Global,
+    names: usize,
+    n: u32,
+    live_in: &[NameId],
+) -> Result<Vec<u32>, NoMemory>
+    requires { n + length live_in.now < 2 ^ 32 }
+    ensures { IfOk result (λ current. current.items ≡ first_temps (replicate names 0) n live_in.now) }
+{
+    let mut current = vec![in alloc; 0; names]?;
+    assign_all(&mut current, n, live_in);
+    Ok(current)
+}
+
+/// A block's values at its start, of which the first is temporary `n`, and its operations behind them.
+#[tactic(auto, using(crate::proofs::Operands::past_all_grows))]
+fn make_body(
+    alloc: Global,
+    t: &Table,
+    current: Vec<u32>,
+    n: u32,
+    count: u32,
+    source: &[SrcOp],
+) -> Result<Body, NoMemory>
+    requires { past_all (n + count) source.now < 2 ^ 32 }
+    ensures ops { IfOk result (λ b. b.ops ≡ in_op n count ∷ body_ops t.now current.items (n + count) source.now) }
+    ensures current { IfOk result (λ b. b.current.items ≡ current_after current.items (n + count) source.now) }
+    ensures next { IfOk result (λ b. b.next ≡ past_all (n + count) source.now) }
+{
+    let mut current = current;
+    let mut ops = Items::new(alloc);
+    ops.push(in_op(alloc, n, count)?)?;
+    let next = push_body(alloc, t, &mut ops, &mut current, n + count, source)?;
+    Ok(Body { ops, current, next })
+}
+
+/// The terminator and the values at the block's end, behind the operations. The first saved value is temporary `saved`.
+fn finish(
+    alloc: Global,
+    t: &Table,
+    registers: &[u32],
+    body: Body,
+    saved: u32,
+    live_out: &[NameId],
+    term: Term,
+) -> Result<BlockOps, NoMemory>
+    requires kept { registers.now ≡ callee_saved t.now }
+    requires fit { saved + length registers.now + 1 < 2 ^ 32 }
+    ensures ops { IfOk result (λ r. r.ops ≡ body.ops ++ (end_ops body.current.items (saved + length registers.now) term
+        ++ out_op t.now body.current.items saved live_out.now term ∷ [])) }
+    ensures next { IfOk result (λ r. r.next ≡ body.next) }
+{
+    let Body {
+        mut ops,
+        current,
+        next,
+    } = body;
+    let link = saved + registers.len() as u32;
+    push_end(alloc, &mut ops, &current, link, term)?;
+    ops.push(out_op(
+        alloc, t, registers, &current, saved, live_out, term,
+    )?)?;
+    Ok(BlockOps { ops, next })
+}
+
+/// The operations of a block whose first temporary is `n`, of a function with so many names.
+fn block_ops(
+    alloc: Global,
+    t: &Table,
+    registers: &[u32],
+    names: usize,
+    n: u32,
+    live_in: &[NameId],
+    live_out: &[NameId],
+    block: &Block,
+) -> Result<BlockOps, NoMemory>
+    requires kept { registers.now ≡ callee_saved t.now }
+    requires room { n + (length live_in.now + length registers.now + 1) < 2 ^ 32 }
+    requires fit { past_all (n + (length live_in.now + length registers.now + 1)) block.now.ops < 2 ^ 32 }
+    ensures ops { IfOk result (λ r. r.ops ≡ linear_ops t.now names n live_in.now live_out.now block.now) }
+    ensures few { IfOk result (λ r. length r.ops ≤ length block.now.ops + 3) }
+    ensures next { IfOk result (λ r. r.next ≡ past_all (n + (length live_in.now + length registers.now + 1)) block.now.ops) }
+{
+    let current = first_current(alloc, names, n, live_in)?;
+    let saved = n + live_in.len() as u32;
+    let count = live_in.len() as u32 + registers.len() as u32 + 1;
+    let body = make_body(alloc, t, current, n, count, block.ops.as_slice())?;
+    let made = finish(alloc, t, registers, body, saved, live_out, block.term)?;
+    Ok(made)
+}
+
+/// The block at place `b` of a function with so many names, whose first temporary is `n`.
+fn linear_block(
+    alloc: Global,
+    t: &Table,
+    registers: &[u32],
+    live: &LiveSets,
+    names: usize,
+    b: usize,
+    n: u32,
+    block: &Block,
+) -> Result<Numbered, NoMemory>
+    requires kept { registers.now ≡ callee_saved t.now }
+    requires place { b < 2 ^ 32 }
+    requires names { names < 2 ^ 32 }
+    requires few { length block.now.ops < 2 ^ 30 }
+    requires fit { past_block t.now live.now.at_start b n block.now < 2 ^ 32 }
+    ensures block { IfOk result (λ r. r.block ≡ linear_block t.now names live.now.at_start b n block.now) }
+    ensures next { IfOk result (λ r. r.next ≡ past_block t.now live.now.at_start b n block.now) }
+{
+    let names_in = live_at(live, b);
+    let live_out = live_after(alloc, live, names, b, &block.term)?;
+    let made = block_ops(
+        alloc,
+        t,
+        registers,
+        names,
+        n,
+        names_in,
+        live_out.as_slice(),
+        block,
+    )?;
+    let BlockOps { ops, next } = made;
+    let copied = Vec::from_slice(alloc, names_in)?;
+    let live_in = Items::from_vec(copied);
+    let horizon = 2 * ops.len() as u32 + 2;
+    Ok(Numbered {
+        block: LssaBlock {
+            freq: block.freq,
+            label: block.label,
+            live_in,
+            live_out,
+            ops,
+            horizon,
+        },
+        next,
+    })
+}
+
+/// The blocks of a function with so many names.
+#[tactic(auto, using(crate::proofs::BlockLaws::blocks_end))]
+pub fn linear_blocks(
+    alloc: Global,
+    t: &Table,
+    registers: &[u32],
+    live: &LiveSets,
+    names: usize,
+    blocks: &[Block],
+) -> Result<Items<LssaBlock>, NoMemory>
+    requires kept { registers.now ≡ callee_saved t.now }
+    requires names { names < 2 ^ 32 }
+    requires blocks { length blocks.now < 2 ^ 32 }
+    requires few { All (λ (block : Block). length block.ops < 2 ^ 30) blocks.now }
+    requires fit { past_blocks t.now live.now.at_start 0 0 blocks.now < 2 ^ 32 }
+    ensures { IfOk result (λ bs. bs ≡ linear_blocks t.now names live.now.at_start 0 0 blocks.now) }
+{
+    let mut made = Items::new(alloc);
+    let mut n = 0;
+    for (b, block) in blocks.iter().enumerate() {
+        let Numbered { block, next } = linear_block(
+            alloc, t, registers, live, names, b, n, block,
+        )?;
+        made.push(block)?;
+        n = next;
+    }
+    Ok(made)
+}

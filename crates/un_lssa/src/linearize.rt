@@ -1,0 +1,56 @@
+//! Making a linear function.
+
+ghost use Rattle.std.specs.Prelude.{◌≡◌, map, IfOk};
+ghost use Rattle.un_ir.specs.LinearOf.{AreLive, kind_of_pair, lin_of};
+
+use crate::blocks::linear_blocks;
+use std::alloc::Global;
+use un_base::memory_error::NoMemory;
+use un_base::name::Name;
+use un_ir::extended::{LiveSets, Lssa};
+use un_ir::function::{Function, Kind};
+use un_isa::reg_set::callee_saved;
+use un_isa::table::Table;
+use un_lists::items::Items;
+
+/// The kind of each name.
+fn kinds(alloc: Global, names: &[(Name, Kind)]) -> Result<Items<Kind>, NoMemory>
+    ensures { IfOk result (λ kinds. kinds ≡ map kind_of_pair names.now) }
+{
+    let mut kinds = Items::new(alloc);
+    for name in names {
+        kinds.push(name.1)?;
+    }
+    Ok(kinds)
+}
+
+/// The linear function of a function with these live names, under a table: every block defines its own temporaries, first
+/// one for each name that is live at its start and for each saved value.
+///
+/// # Errors
+/// `NoMemory` where there is no memory for it.
+pub fn linearize(
+    alloc: Global,
+    f: &Function,
+    live: &LiveSets,
+    t: &Table,
+) -> Result<Lssa, NoMemory>
+    requires { AreLive f.now.blocks live.now.at_start }
+    ensures { IfOk result (λ l. l ≡ lin_of f.now live.now.at_start t.now) }
+{
+    let names = kinds(alloc, f.names.as_slice())?;
+    let registers = callee_saved(alloc, t)?;
+    let blocks = linear_blocks(
+        alloc,
+        t,
+        &registers,
+        live,
+        f.names.len(),
+        f.blocks.as_slice(),
+    )?;
+    Ok(Lssa {
+        table: *t,
+        names,
+        blocks,
+    })
+}
