@@ -1,5 +1,5 @@
 -- What goes over an edge, found by loops.
-use Rattle.std.proofs.Common.{◌≡◌, ◌↔◌, ℕ, zero, suc, ◌+◌, ◌<◌, ◌≤◌, Bool, true, false, IsTrue, Option, Some, None, List, [], ◌∷◌, length, drop, slice_get, get_or, Contains, refl, sym, ap, ◌∙◌, subst, arith}
+use Rattle.std.proofs.Common.{◌≡◌, ◌↔◌, ℕ, ◌+◌, ◌<◌, Bool, true, false, IsTrue, Option, Some, None, List, [], ◌∷◌, length, drop, slice_get, get_or, refl, sym, ap, ◌∙◌, subst}
 use Rattle.std.specs.Prelude.{unwrap_or, if◌then◌else◌, ◌==◌, ◌&&◌, is_none}
 use Rattle.std.specs.List.{filter}
 use Rattle.std.proofs.lemmas.Option.{slice_get_within, get_or_from_slice_get, slice_get-get_or}
@@ -11,49 +11,67 @@ use Rattle.un_model.specs.Orders.{HandsAll, AllHandOn}
 use Rattle.un_base.specs.declared.ids.TempId.{TempId}
 use Rattle.un_ir.specs.declared.function.Term.{Term}
 use Rattle.un_ir.specs.declared.extended.ExtOp.{ExtOp}
-use Rattle.un_model.specs.Congruences.{term_or, term_of, results_of_start, live_in_temps, is_live_out, live_out_reads, HandsOver, HandsOn, KeepsCongruences}
+use Rattle.un_model.specs.Congruences.{term_or, term_of, results_of_start, live_in_temps, live_out_reads, HandsOver, HandsOn, KeepsCongruences}
 use Rattle.un_model.proofs.Steps.{drop_at}
 
-pub term_found : (ops : List ExtOp) (k : ℕ) (op : ExtOp) (o : Option Term) (found : Term) → slice_get ops k ≡ Some op → ((later : Term) → unwrap_or o later ≡ term_or op.kind later) → o ≡ Some found → term_of (drop k ops) ≡ term_of ops → found ≡ term_of ops
+pub term_found : (ops : List ExtOp) (k : ℕ) (op : ExtOp) (o : Option Term) (found : Term) → slice_get ops k ≡ Some op
+    → ((later : Term) → unwrap_or o later ≡ term_or op.kind later) → o ≡ Some found → term_of (drop k ops) ≡ term_of ops
+    → found ≡ term_of ops
 term_found ops k op o found at h e so =
     let s : term_of (drop k ops) ≡ term_or op.kind (term_of (drop (k + 1) ops)) = ap term_of (drop_at ops k op at) in
-    let f : found ≡ term_or op.kind (term_of (drop (k + 1) ops)) = sym (ap (λ (p : Option Term). unwrap_or p (term_of (drop (k + 1) ops))) e) ∙ h (term_of (drop (k + 1) ops)) in
+    let f : found ≡ term_or op.kind (term_of (drop (k + 1) ops)) = sym
+    (ap (λ (p : Option Term). unwrap_or p (term_of (drop (k + 1) ops))) e) ∙ h (term_of (drop (k + 1) ops)) in
     f ∙ sym s ∙ so
 
-pub term_on : (ops : List ExtOp) (k : ℕ) (op : ExtOp) (o : Option Term) → slice_get ops k ≡ Some op → ((later : Term) → unwrap_or o later ≡ term_or op.kind later) → o ≡ None → term_of (drop k ops) ≡ term_of ops → term_of (drop (k + 1) ops) ≡ term_of ops
+pub term_on : (ops : List ExtOp) (k : ℕ) (op : ExtOp) (o : Option Term) → slice_get ops k ≡ Some op
+    → ((later : Term) → unwrap_or o later ≡ term_or op.kind later) → o ≡ None → term_of (drop k ops) ≡ term_of ops
+    → term_of (drop (k + 1) ops) ≡ term_of ops
 term_on ops k op o at h e so =
     let s : term_of (drop k ops) ≡ term_or op.kind (term_of (drop (k + 1) ops)) = ap term_of (drop_at ops k op at) in
     sym (ap (λ (p : Option Term). unwrap_or p (term_of (drop (k + 1) ops))) e) ∙ h (term_of (drop (k + 1) ops)) ∙ sym s ∙ so
 
-pub start_found : (ops : List ExtOp) (k : ℕ) (op : ExtOp) (t : Bool) → slice_get ops k ≡ Some op → ((results later : List TempId) → (if t then results else later) ≡ results_of_start op.kind results later) → t ≡ true → live_in_temps (drop k ops) ≡ live_in_temps ops → op.results ≡ live_in_temps ops
+pub start_found : (ops : List ExtOp) (k : ℕ) (op : ExtOp) (t : Bool) → slice_get ops k ≡ Some op
+    → ((results later : List TempId) → (if t then results else later) ≡ results_of_start op.kind results later) → t ≡ true
+    → live_in_temps (drop k ops) ≡ live_in_temps ops → op.results ≡ live_in_temps ops
 start_found ops k op t at h e so =
-    let s : live_in_temps (drop k ops) ≡ results_of_start op.kind op.results (live_in_temps (drop (k + 1) ops)) = ap live_in_temps (drop_at ops k op at) in
-    sym (ap (λ (b : Bool). if b then op.results else live_in_temps (drop (k + 1) ops)) e) ∙ h op.results (live_in_temps (drop (k + 1) ops)) ∙ sym s ∙ so
+    let s : live_in_temps (drop k ops) ≡ results_of_start op.kind op.results (live_in_temps (drop (k + 1) ops)) = ap live_in_temps
+    (drop_at ops k op at) in
+    sym (ap (λ (b : Bool). if b then op.results else live_in_temps (drop (k + 1) ops)) e) ∙ h op.results
+    (live_in_temps (drop (k + 1) ops)) ∙ sym s ∙ so
 
-pub start_on : (ops : List ExtOp) (k : ℕ) (op : ExtOp) (t : Bool) → slice_get ops k ≡ Some op → ((results later : List TempId) → (if t then results else later) ≡ results_of_start op.kind results later) → t ≡ false → live_in_temps (drop k ops) ≡ live_in_temps ops → live_in_temps (drop (k + 1) ops) ≡ live_in_temps ops
+pub start_on : (ops : List ExtOp) (k : ℕ) (op : ExtOp) (t : Bool) → slice_get ops k ≡ Some op
+    → ((results later : List TempId) → (if t then results else later) ≡ results_of_start op.kind results later) → t ≡ false
+    → live_in_temps (drop k ops) ≡ live_in_temps ops → live_in_temps (drop (k + 1) ops) ≡ live_in_temps ops
 start_on ops k op t at h e so =
-    let s : live_in_temps (drop k ops) ≡ results_of_start op.kind op.results (live_in_temps (drop (k + 1) ops)) = ap live_in_temps (drop_at ops k op at) in
-    sym (ap (λ (b : Bool). if b then op.results else live_in_temps (drop (k + 1) ops)) e) ∙ h op.results (live_in_temps (drop (k + 1) ops)) ∙ sym s ∙ so
+    let s : live_in_temps (drop k ops) ≡ results_of_start op.kind op.results (live_in_temps (drop (k + 1) ops)) = ap live_in_temps
+    (drop_at ops k op at) in
+    sym (ap (λ (b : Bool). if b then op.results else live_in_temps (drop (k + 1) ops)) e) ∙ h op.results
+    (live_in_temps (drop (k + 1) ops)) ∙ sym s ∙ so
 
 -- two tests, one after the other
 both_filters : {A : Type 0} (p q : A → Bool) (xs : List A) → filter p (filter q xs) ≡ filter (λ (x : A). p x && q x) xs
 both_filters p q [] = refl
 both_filters {A} p q (x ∷ xs) = by (both_filters p q xs) (p x) (q x) refl refl
   where
-    by : filter p (filter q xs) ≡ filter (λ (y : A). p y && q y) xs → (a b : Bool) → p x ≡ a → q x ≡ b → filter p (filter q (x ∷ xs)) ≡ filter (λ (y : A). p y && q y) (x ∷ xs)
+    by : filter p (filter q xs) ≡ filter (λ (y : A). p y && q y) xs → (a b : Bool) → p x ≡ a → q x ≡ b
+        → filter p (filter q (x ∷ xs)) ≡ filter (λ (y : A). p y && q y) (x ∷ xs)
     by rest true true e f = rw (f, e) (ap (λ (ys : List A). x ∷ ys) rest)
     by rest false true e f = rw (f, e) rest
     by rest true false e f = rw (f, e) rest
     by rest false false e f = rw (f, e) rest
 
-handed_are : (k : ℕ) (reads : List Read) → filter (λ (r : Read). r.block.0 == k) (filter (λ (r : Read). is_none r.instr) reads) ≡ live_out_reads k reads
+handed_are : (k : ℕ) (reads : List Read)
+    → filter (λ (r : Read). r.block.0 == k) (filter (λ (r : Read). is_none r.instr) reads) ≡ live_out_reads k reads
 handed_are k reads = both_filters (λ (r : Read). r.block.0 == k) (λ (r : Read). is_none r.instr) reads
 
-hands_on : (blocks : List ExtBlock) (t : Schedule) (k : ℕ) (a : ExtBlock) → HandsAll blocks t.ranges (live_out_reads k t.reads) k a ↔ HandsOn blocks t k a
+hands_on : (blocks : List ExtBlock) (t : Schedule) (k : ℕ) (a : ExtBlock)
+    → HandsAll blocks t.ranges (live_out_reads k t.reads) k a ↔ HandsOn blocks t k a
 unfolding HandsOn HandsOver
 hands_on blocks t k a = (λ h. h, λ h. h)
 
-pub hand_on_told : (blocks : List ExtBlock) (t : Schedule) (ends : List Read) (b : Bool) → ends ≡ filter (λ (r : Read). is_none r.instr) t.reads → IsTrue b ↔ AllHandOn blocks t.ranges ends → IsTrue b ↔ KeepsCongruences blocks t
+pub hand_on_told : (blocks : List ExtBlock) (t : Schedule) (ends : List Read) (b : Bool)
+    → ends ≡ filter (λ (r : Read). is_none r.instr) t.reads → IsTrue b ↔ AllHandOn blocks t.ranges ends
+    → IsTrue b ↔ KeepsCongruences blocks t
 hand_on_told blocks t ends b e told = (λ y. keeps (told.0 y), λ all. told.1 (hands all))
   where
     handed : (k : ℕ) → filter (λ (r : Read). r.block.0 == k) ends ≡ live_out_reads k t.reads
@@ -62,17 +80,25 @@ hand_on_told blocks t ends b e told = (λ y. keeps (told.0 y), λ all. told.1 (h
     keeps : AllHandOn blocks t.ranges ends → KeepsCongruences blocks t
     keeps h k a at =
         let lt = slice_get_within blocks k a at in
-        let here : HandsAll blocks t.ranges (filter (λ (r : Read). r.block.0 == k) ends) k a = subst (λ (x : ExtBlock). HandsAll blocks t.ranges (filter (λ (r : Read). r.block.0 == k) ends) k x) (get_or_from_slice_get blocks k a a at) (h k a lt) in
+        let here : HandsAll blocks t.ranges (filter (λ (r : Read). r.block.0 == k) ends) k a = subst
+        (λ (x : ExtBlock). HandsAll blocks t.ranges (filter (λ (r : Read). r.block.0 == k) ends) k x)
+        (get_or_from_slice_get blocks k a a at) (h k a lt) in
         (hands_on blocks t k a).0 (subst (λ (rs : List Read). HandsAll blocks t.ranges rs k a) (handed k) here)
 
     hands : KeepsCongruences blocks t → AllHandOn blocks t.ranges ends
     hands h k a lt =
         let x = get_or blocks k a in
-        subst (λ (rs : List Read). HandsAll blocks t.ranges rs k x) (sym (handed k)) ((hands_on blocks t k x).1 (h k x (slice_get-get_or blocks k a lt)))
+        subst (λ (rs : List Read). HandsAll blocks t.ranges rs k x) (sym (handed k))
+        ((hands_on blocks t k x).1 (h k x (slice_get-get_or blocks k a lt)))
 
-pub not_on : (blocks : List ExtBlock) (ranges : List LiveRange) (ends handed slice : List Read) (k : ℕ) (x : ExtBlock) (t : Bool) → k < length blocks → x ≡ get_or blocks k x → handed ≡ filter (λ (r : Read). r.block.0 == k) ends → slice ≡ handed → IsTrue t ↔ HandsAll blocks ranges slice k x → t ≡ false → IsTrue false ↔ AllHandOn blocks ranges ends
-not_on blocks ranges ends handed slice k x t lt at h s told e =
-    (λ no. absurd (cc no), λ all.
-      let here : HandsAll blocks ranges (filter (λ (r : Read). r.block.0 == k) ends) k x = subst (λ (y : ExtBlock). HandsAll blocks ranges (filter (λ (r : Read). r.block.0 == k) ends) k y) (sym at) (all k x lt) in
+pub not_on : (blocks : List ExtBlock) (ranges : List LiveRange) (ends handed slice : List Read) (k : ℕ) (x : ExtBlock) (t : Bool)
+    → k < length blocks → x ≡ get_or blocks k x → handed ≡ filter (λ (r : Read). r.block.0 == k) ends → slice ≡ handed
+    → IsTrue t ↔ HandsAll blocks ranges slice k x → t ≡ false → IsTrue false ↔ AllHandOn blocks ranges ends
+not_on blocks ranges ends handed slice k x t lt at h s told e = (
+  λ no. absurd (cc no),
+  λ all.
+      let here : HandsAll blocks ranges (filter (λ (r : Read). r.block.0 == k) ends) k x = subst
+      (λ (y : ExtBlock). HandsAll blocks ranges (filter (λ (r : Read). r.block.0 == k) ends) k y) (sym at) (all k x lt) in
       let y : t ≡ true = told.1 (subst (λ (rs : List Read). HandsAll blocks ranges rs k x) (sym (s ∙ h)) here) in
-      absurd (cc (y, e)))
+      absurd (cc (y, e)),
+)

@@ -11,6 +11,9 @@ pub mod Apart
 pub mod Calls
 pub mod Zeros
 pub mod Places
+pub mod Pins
+pub mod Copies
+pub mod Numbering
 pub mod HomeSteps
 pub mod HomeMasks
 pub mod Verdicts

@@ -26,10 +26,14 @@ module _ (gap : Gap) (domains : List Domain) (m : Model) (values : List ℕ) (t 
   pub solves : (v : Verdict) → Tells gap domains m values t v → broken_clauses v ≡ [] → IsSchedule gap domains m values t
   solves v h e =
       let d = if_empty v.domains (broken_after v) e in
-      let e10 = both_empty (broken 2 v.zeros ++ broken 3 v.choices ++ broken 4 v.spaces ++ broken 5 v.latencies ++ broken 6 v.memory ++ broken 7 v.registers ++ broken 8 v.packets ++ broken 9 v.homes) (broken 10 v.frame) d.1 in
-      let e9 = both_empty (broken 2 v.zeros ++ broken 3 v.choices ++ broken 4 v.spaces ++ broken 5 v.latencies ++ broken 6 v.memory ++ broken 7 v.registers ++ broken 8 v.packets) (broken 9 v.homes) e10.0 in
-      let e8 = both_empty (broken 2 v.zeros ++ broken 3 v.choices ++ broken 4 v.spaces ++ broken 5 v.latencies ++ broken 6 v.memory ++ broken 7 v.registers) (broken 8 v.packets) e9.0 in
-      let e7 = both_empty (broken 2 v.zeros ++ broken 3 v.choices ++ broken 4 v.spaces ++ broken 5 v.latencies ++ broken 6 v.memory) (broken 7 v.registers) e8.0 in
+      let e10 = both_empty (broken 2 v.zeros ++ broken 3 v.choices ++ broken 4 v.spaces ++ broken 5 v.latencies ++ broken 6 v.memory ++
+      broken 7 v.registers ++ broken 8 v.packets ++ broken 9 v.homes) (broken 10 v.frame) d.1 in
+      let e9 = both_empty (broken 2 v.zeros ++ broken 3 v.choices ++ broken 4 v.spaces ++ broken 5 v.latencies ++ broken 6 v.memory ++
+      broken 7 v.registers ++ broken 8 v.packets) (broken 9 v.homes) e10.0 in
+      let e8 = both_empty (broken 2 v.zeros ++ broken 3 v.choices ++ broken 4 v.spaces ++ broken 5 v.latencies ++ broken 6 v.memory ++
+      broken 7 v.registers) (broken 8 v.packets) e9.0 in
+      let e7 = both_empty (broken 2 v.zeros ++ broken 3 v.choices ++ broken 4 v.spaces ++ broken 5 v.latencies ++ broken 6 v.memory)
+      (broken 7 v.registers) e8.0 in
       let e6 = both_empty (broken 2 v.zeros ++ broken 3 v.choices ++ broken 4 v.spaces ++ broken 5 v.latencies) (broken 6 v.memory) e7.0 in
       let e5 = both_empty (broken 2 v.zeros ++ broken 3 v.choices ++ broken 4 v.spaces) (broken 5 v.latencies) e6.0 in
       let e4 = both_empty (broken 2 v.zeros ++ broken 3 v.choices) (broken 4 v.spaces) e5.0 in

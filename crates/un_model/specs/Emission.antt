@@ -42,7 +42,8 @@ temp_register m values x = register_by values (slice_get m.temps x.0)
 
 -- the registers of the temporaries that the operands choose
 abbrev pub operand_registers : Model → List ℕ → ExtOp → OpVars → List Reg
-operand_registers m values op vars = places_from (λ (j : ℕ) (operand : Operand). temp_register m values (choice_of values vars j operand)) 0 op.operands
+operand_registers m values op vars = places_from
+    (λ (j : ℕ) (operand : Operand). temp_register m values (choice_of values vars j operand)) 0 op.operands
 
 abbrev pub result_register : Model → List ℕ → ExtOp → Option Reg
 result_register m values op = option_map (temp_register m values) (slice_get op.results 0)
@@ -139,7 +140,8 @@ or_nop (i ∷ is) = i ∷ is
 
 -- the packets of a block: one for each cycle from 1 to the one before the block's end
 abbrev pub block_packets : Model → List ℕ → ExtBlock → BlockVars → List (List Instr)
-block_packets m values block vars = map (λ (c : ℕ). or_nop (instrs_in m values block vars c)) (range_with_len 1 (value_of values vars.end - 1))
+block_packets m values block vars = map (λ (c : ℕ). or_nop (instrs_in m values block vars c))
+    (range_with_len 1 (value_of values vars.end - 1))
 
 -- those of all blocks, in their order
 abbrev pub packets_of : Model → List ℕ → List (List (List Instr))

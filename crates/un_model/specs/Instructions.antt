@@ -27,7 +27,8 @@ transfer_of (Ret value) = Some Jumpr
 abbrev pub copy_of : ℕ → Option Op
 copy_of n =
     if n == 1 then Some Mov
-    else (if n == 2 then Some Spill else (if n == 3 then Some Reload else (if n == 4 then Some P2R else (if n == 5 then Some R2P else None))))
+    else (if n == 2 then Some Spill else
+    (if n == 3 then Some Reload else (if n == 4 then Some P2R else (if n == 5 then Some R2P else None))))
 
 -- the instruction of Enter or Leave that has the number n; 0 is inactive
 abbrev pub frame_instr : Op → ℕ → Option Op

@@ -114,7 +114,8 @@ is_truth names block x = list_any (λ (op : ExtOp). is_truth_of names block.live
 
 -- the general registers of value x: the assignable ones and its homes, rising
 unfoldable pub general_registers : Ext → Option ℕ → Bool → ExtBlock → TempId → List ℕ
-general_registers e regs is_entry block x = filter (λ (r : ℕ). is_assignable regs r || is_home e.table is_entry block x r) (range_with_len 0 GENERALS)
+general_registers e regs is_entry block x = filter (λ (r : ℕ). is_assignable regs r || is_home e.table is_entry block x r)
+    (range_with_len 0 GENERALS)
 
 -- those, p0 to p3 where x is a truth value, and the slots
 abbrev pub value_registers : Ext → Option ℕ → ℕ → Bool → ExtBlock → TempId → List ℕ

@@ -127,8 +127,18 @@ last_read reads t = fold (λ (a : ℕ) (r : Read). max a (cycle_for t r)) 0 read
 
 -- a temporary occupies its register from its definer's cycle to the one before its last read, and at least in the first
 abbrev pub range_by : List ℕ → TempVars → ℕ → Option Issue → LiveRange
-range_by values t last None = record { block = record { 0 = 0 }; op = t.op; instr = None; active = false; reg = value_of values t.reg; from = 0; last = 0 }
-range_by values t last (Some i) = record { block = i.block; op = t.op; instr = i.instr; active = i.active; reg = value_of values t.reg; from = i.cycle; last = max i.cycle (last - 1) }
+range_by values t last None = record
+    { block = record { 0 = 0 }; op = t.op; instr = None; active = false; reg = value_of values t.reg; from = 0; last = 0 }
+range_by values t last (Some i) = record {
+  block = i.block;
+  op = t.op;
+  instr = i.instr;
+  active = i.active;
+  reg = value_of values t.reg;
+  from = i.cycle;
+  last = max i.cycle
+      (last - 1);
+}
 
 -- the live range of temporary k
 abbrev pub range_of : List ℕ → List Issue → List Read → ℕ → TempVars → LiveRange

@@ -295,11 +295,13 @@ broken k false = k ∷ []
 -- the numbers of the clauses that are not kept, rising; where a value is in no domain the other clauses are not asked
 abbrev pub broken_after : Verdict → List ℕ
 broken_after v =
-    broken 2 v.zeros ++ broken 3 v.choices ++ broken 4 v.spaces ++ broken 5 v.latencies ++ broken 6 v.memory ++ broken 7 v.registers ++ broken 8 v.packets ++ broken 9 v.homes ++ broken 10 v.frame
+    broken 2 v.zeros ++ broken 3 v.choices ++ broken 4 v.spaces ++ broken 5 v.latencies ++ broken 6 v.memory ++ broken 7 v.registers ++
+    broken 8 v.packets ++ broken 9 v.homes ++ broken 10 v.frame
 
 abbrev pub broken_clauses : Verdict → List ℕ
 broken_clauses v = if v.domains then broken_after v else 1 ∷ []
 
 -- the list has the number of each clause that the values break, once, rising
 abbrev pub ListsBroken : Gap → List Domain → Model → List ℕ → List ℕ → Type 0
-ListsBroken gap domains m values clauses = (v : Verdict) × (Tells gap domains m values (schedule_of m values) v × (clauses ≡ broken_clauses v))
+ListsBroken gap domains m values clauses = (v : Verdict) ×
+    (Tells gap domains m values (schedule_of m values) v × (clauses ≡ broken_clauses v))

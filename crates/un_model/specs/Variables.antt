@@ -120,9 +120,13 @@ carried_by _ operands x = x
 abbrev pub carried : ExtOp → TempId → TempId
 carried op x = carried_by op.kind op.operands x
 
+-- the temporary x that operation n defines, with register variable k
+abbrev pub temp_of : ℕ → ExtOp → ℕ → TempId → TempVars
+temp_of n op k x = record { op = record { 0 = n }; value = carried op x; reg = var_at k }
+
 -- the temporaries that operation n defines, the first with this register variable
 abbrev pub op_temps : ℕ → ℕ → ExtOp → List TempVars
-op_temps n reg op = places_from (λ (k : ℕ) (x : TempId). record { op = record { 0 = n }; value = carried op x; reg = var_at k }) reg op.results
+op_temps n reg op = places_from (temp_of n op) reg op.results
 
 -- those of operations of which the first has the number n and its first variable this number
 abbrev pub ops_temps : ℕ → ℕ → List ExtOp → List TempVars
@@ -131,7 +135,8 @@ ops_temps n first (op ∷ ops) = op_temps n (first + register_place op) op ++ op
 
 abbrev pub blocks_temps : ℕ → ℕ → List ExtBlock → List TempVars
 blocks_temps n first [] = []
-blocks_temps n first (block ∷ blocks) = ops_temps n first block.ops ++ blocks_temps (n + length block.ops) (first + block_count block) blocks
+blocks_temps n first (block ∷ blocks) = ops_temps n first block.ops ++ blocks_temps (n + length block.ops) (first + block_count block)
+    blocks
 
 -- ---- domains
 
@@ -196,7 +201,8 @@ carries_truth e block op (x ∷ xs) = is_truth e.names block (carried op x)
 -- the domains of an operation's variables: its instruction, its cycle, its choices, the registers of its results
 abbrev pub op_domains : Ext → Options → Bool → ExtBlock → ℕ → ExtOp → List Domain
 op_domains e o is_entry block horizon op =
-    option_to_list (instr_domain (carries_truth e block op op.results) op.kind) ++ option_to_list (cycle_domain horizon op.kind) ++ map choice_domain (chosen_operands op) ++ places_from (result_domain e o is_entry block op) 0 op.results
+    option_to_list (instr_domain (carries_truth e block op op.results) op.kind) ++ option_to_list (cycle_domain horizon op.kind) ++ map
+    choice_domain (chosen_operands op) ++ places_from (result_domain e o is_entry block op) 0 op.results
 
 abbrev pub ops_domains : Ext → Options → Bool → ExtBlock → ℕ → List ExtOp → List Domain
 ops_domains e o is_entry block horizon [] = []
@@ -209,7 +215,8 @@ block_domains e o is_entry horizon block = ops_domains e o is_entry block horizo
 -- the first block is the entry
 abbrev pub blocks_domains : Ext → Options → (ExtBlock → ℕ) → Bool → List ExtBlock → List Domain
 blocks_domains e o horizon is_entry [] = []
-blocks_domains e o horizon is_entry (block ∷ blocks) = block_domains e o is_entry (horizon block) block ++ blocks_domains e o horizon false blocks
+blocks_domains e o horizon is_entry (block ∷ blocks) = block_domains e o is_entry (horizon block) block ++ blocks_domains e o horizon
+    false blocks
 
 -- no cycle of a block is past its horizon
 abbrev pub own_horizon : ExtBlock → ℕ

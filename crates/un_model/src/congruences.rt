@@ -121,11 +121,21 @@ fn is_one(a: Option<u32>, b: Option<u32>) -> bool
 
 /// Whether the value that block `b` takes at place `j` stands in one register where block `a` hands it over in one of these
 /// reads, and where `b` takes it as `x`.
-fn is_congruent(ranges: &[LiveRange], handed: &[Read], a: &ExtBlock, b: &ExtBlock, j: usize, x: TempId) -> bool
+fn is_congruent(
+    ranges: &[LiveRange],
+    handed: &[Read],
+    a: &ExtBlock,
+    b: &ExtBlock,
+    j: usize,
+    x: TempId,
+) -> bool
     requires { j < 2 ^ 62 }
     ensures { IsTrue result ↔ (register_read ranges.now (slice_get handed.now (place_over a.now b.now j)) ≡ register_of ranges.now x) }
 {
-    is_one(register_at(ranges, handed, place(a, b, j)), register_of(ranges, x))
+    is_one(
+        register_at(ranges, handed, place(a, b, j)),
+        register_of(ranges, x),
+    )
 }
 
 /// Whether block `a`, which hands over what these reads read, hands all its values over to block `b`.
@@ -142,7 +152,13 @@ fn hands_over(ranges: &[LiveRange], handed: &[Read], a: &ExtBlock, b: &ExtBlock)
 }
 
 /// Whether block `a` hands its values over to block `l`, where there is one.
-fn hands_to(blocks: &[ExtBlock], ranges: &[LiveRange], handed: &[Read], a: &ExtBlock, l: usize) -> bool
+fn hands_to(
+    blocks: &[ExtBlock],
+    ranges: &[LiveRange],
+    handed: &[Read],
+    a: &ExtBlock,
+    l: usize,
+) -> bool
     ensures { IsTrue result ↔ ((b : ExtBlock) → slice_get blocks.now l ≡ Some b → AllCongruent ranges.now handed.now a.now b) }
 {
     match blocks.get(l) {
@@ -152,7 +168,13 @@ fn hands_to(blocks: &[ExtBlock], ranges: &[LiveRange], handed: &[Read], a: &ExtB
 }
 
 /// Whether block `a`, number `k`, hands its values over to each block to which it may lead.
-fn hands_on(blocks: &[ExtBlock], ranges: &[LiveRange], handed: &[Read], k: usize, a: &ExtBlock) -> bool
+fn hands_on(
+    blocks: &[ExtBlock],
+    ranges: &[LiveRange],
+    handed: &[Read],
+    k: usize,
+    a: &ExtBlock,
+) -> bool
     requires { k < length blocks.now }
     ensures { IsTrue result ↔ HandsAll blocks.now ranges.now handed.now k a.now }
 {
@@ -160,7 +182,8 @@ fn hands_on(blocks: &[ExtBlock], ranges: &[LiveRange], handed: &[Read], k: usize
         Term::Fall => hands_to(blocks, ranges, handed, a, k + 1),
         Term::Jump(to) => hands_to(blocks, ranges, handed, a, to.0 as usize),
         Term::Branch { to, .. } => {
-            hands_to(blocks, ranges, handed, a, k + 1) && hands_to(blocks, ranges, handed, a, to.0 as usize)
+            hands_to(blocks, ranges, handed, a, k + 1)
+                && hands_to(blocks, ranges, handed, a, to.0 as usize)
         }
         Term::Ret(_) => true,
     }
@@ -193,7 +216,12 @@ fn handed_by(alloc: Global, k: usize, ends: &[Read]) -> Result<Items<Read>, NoMe
 }
 
 /// Whether each block hands its values over to each block to which it may lead.
-fn all_hand_on(alloc: Global, blocks: &[ExtBlock], ranges: &[LiveRange], ends: &[Read]) -> Result<bool, NoMemory>
+fn all_hand_on(
+    alloc: Global,
+    blocks: &[ExtBlock],
+    ranges: &[LiveRange],
+    ends: &[Read],
+) -> Result<bool, NoMemory>
     ensures { IfOk result (λ kept. IsTrue kept ↔ AllHandOn blocks.now ranges.now ends.now) }
 {
     for k in 0..blocks.len() {
@@ -206,7 +234,11 @@ fn all_hand_on(alloc: Global, blocks: &[ExtBlock], ranges: &[LiveRange], ends: &
 }
 
 /// Whether values stand in one register where a block hands them over and where the next one takes them.
-pub(crate) fn keeps_congruences(alloc: Global, blocks: &[ExtBlock], t: &Schedule) -> Result<bool, NoMemory>
+pub(crate) fn keeps_congruences(
+    alloc: Global,
+    blocks: &[ExtBlock],
+    t: &Schedule,
+) -> Result<bool, NoMemory>
     ensures { IfOk result (λ kept. IsTrue kept ↔ KeepsCongruences blocks.now t.now) }
 {
     let ends = end_reads(alloc, t.reads.as_slice())?;

@@ -176,7 +176,12 @@ fn add_issue(rule: Rule, table: &mut Vec<Bounds>, i: &Issue)
 }
 
 /// Whether each operation is far enough after those before it, in the blocks below `n`.
-pub(crate) fn keeps_order(alloc: Global, n: usize, rule: Rule, issues: &[Issue]) -> Result<bool, NoMemory>
+pub(crate) fn keeps_order(
+    alloc: Global,
+    n: usize,
+    rule: Rule,
+    issues: &[Issue],
+) -> Result<bool, NoMemory>
     requires { All (λ i. i.block.0 < n) issues.now }
     ensures { IfOk result (λ kept. IsTrue kept ↔ AllPairs (Precedes (distance_of rule)) issues.now) }
 {
@@ -191,7 +196,12 @@ pub(crate) fn keeps_order(alloc: Global, n: usize, rule: Rule, issues: &[Issue])
 }
 
 /// The bounds of the blocks below `n` after all operations.
-fn all_bounds(alloc: Global, n: usize, rule: Rule, issues: &[Issue]) -> Result<Vec<Bounds>, NoMemory>
+fn all_bounds(
+    alloc: Global,
+    n: usize,
+    rule: Rule,
+    issues: &[Issue],
+) -> Result<Vec<Bounds>, NoMemory>
     requires { All (λ i. i.block.0 < n) issues.now }
     ensures { IfOk result (λ table. HaveBounds rule issues.now n table.items) }
 {

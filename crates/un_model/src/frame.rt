@@ -75,7 +75,12 @@ fn is_framed(alloc: Global, n: usize, issues: &[Issue]) -> Result<bool, NoMemory
 }
 
 /// Whether a schedule, whose operations are in the blocks below `n`, agrees with this frame flag.
-pub(crate) fn keeps_frame(alloc: Global, n: usize, flag: u32, t: &Schedule) -> Result<bool, NoMemory>
+pub(crate) fn keeps_frame(
+    alloc: Global,
+    n: usize,
+    flag: u32,
+    t: &Schedule,
+) -> Result<bool, NoMemory>
     requires { All (λ i. i.block.0 < n) t.now.issues }
     ensures { IfOk result (λ kept. IsTrue kept ↔ KeepsFrame flag t.now) }
 {

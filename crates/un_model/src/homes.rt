@@ -154,7 +154,14 @@ pub(crate) fn homes(
 {
     let mut homes = BTreeMap::new(alloc);
     for i in 0..block.ops.len() {
-        add_op(&mut homes, e, saved, is_entry, &block.live_in, block.ops.get(i))?;
+        add_op(
+            &mut homes,
+            e,
+            saved,
+            is_entry,
+            &block.live_in,
+            block.ops.get(i),
+        )?;
     }
     Ok(homes)
 }

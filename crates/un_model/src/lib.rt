@@ -1,6 +1,7 @@
 //! The model of a function: its variables with their domains, its solutions and their cost.
 #![tactic(auto)]
 
+pub mod build;
 mod clauses;
 mod congruences;
 pub mod cost;
@@ -12,8 +13,8 @@ pub mod model;
 mod numbers;
 mod occupations;
 mod packets;
-mod registers;
 pub mod placement;
+mod registers;
 pub mod schedule;
 pub mod verdict;
 pub mod violations;

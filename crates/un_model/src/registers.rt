@@ -19,7 +19,8 @@ use un_domains::domain::Domain;
 use un_ir::extended::{Ext, ExtBlock, ExtKind, ExtOp, Operand};
 use un_ir::function::Kind;
 use un_isa::op::Op;
-use un_isa::reg::{FIRST_SLOT, GENERALS, PREDICATES, Reg, SLOTS};
+use un_isa::reg::{FIRST_SLOT, GENERALS, LINK, PREDICATES, Reg, SLOTS};
+use un_isa::reg_set::callee_saved;
 use un_isa::table::Table;
 use un_lists::items::Items;
 
@@ -61,6 +62,15 @@ fn reg_at(numbers: &Items<u32>, k: usize) -> Option<Reg>
         None => None,
         Some(r) => Some(Reg(*r)),
     }
+}
+
+/// The registers whose values a function hands back: those that it keeps, then the link register.
+pub(crate) fn saved(alloc: Global, t: &Table) -> Result<Items<u32>, NoMemory>
+    ensures { IfOk result (λ registers. registers ≡ saved_registers t.now) }
+{
+    let mut registers = Items::from_vec(callee_saved(alloc, t)?);
+    registers.push(LINK)?;
+    Ok(registers)
 }
 
 /// The name at place `j`, where there is one.
@@ -135,7 +145,12 @@ fn is_pred_name(names: &Items<Kind>, name: Option<NameId>) -> bool
 }
 
 /// Whether the result at place `j` of an operation of the source, or of a block's start, is a truth value.
-pub(crate) fn gives_truth_at(names: &Items<Kind>, live_in: &Items<NameId>, kind: &ExtKind, j: usize) -> bool
+pub(crate) fn gives_truth_at(
+    names: &Items<Kind>,
+    live_in: &Items<NameId>,
+    kind: &ExtKind,
+    j: usize,
+) -> bool
     ensures { result ≡ gives_truth_at names.now live_in.now kind.now j }
 {
     match kind {
@@ -293,7 +308,14 @@ fn start_domain(alloc: Global, scope: &Scope<'_>, j: usize, x: TempId) -> Result
         (λ d. d ≡ start_domain scope.now.ext.now scope.now.options.now scope.now.is_entry scope.now.block.now j x) }
 {
     if scope.is_entry {
-        let home = result_home(&scope.ext.table, scope.saved, true, &scope.block.live_in, &ExtKind::In, j);
+        let home = result_home(
+            &scope.ext.table,
+            scope.saved,
+            true,
+            &scope.block.live_in,
+            &ExtKind::In,
+            j,
+        );
         let d = home_domain(alloc, home)?;
         return Ok(d);
     }
@@ -341,7 +363,13 @@ fn copy_domain(alloc: Global, scope: &Scope<'_>, y: TempId) -> Result<Domain, No
 }
 
 /// The registers of the result `x` at place `j` of an operation.
-pub(crate) fn domain(alloc: Global, scope: &Scope<'_>, op: &ExtOp, j: usize, x: TempId) -> Result<Domain, NoMemory>
+pub(crate) fn domain(
+    alloc: Global,
+    scope: &Scope<'_>,
+    op: &ExtOp,
+    j: usize,
+    x: TempId,
+) -> Result<Domain, NoMemory>
     requires scope { IsScope scope.now.ext.now scope.now.is_entry scope.now.block.now scope.now.saved.now scope.now.homes.now }
     requires slots { scope.now.options.now.slots ≤ SLOTS }
     ensures { IfOk result

@@ -8,7 +8,12 @@ returns-then-domains-values c = fewer c.args.domains.now c.args.values.now (λ e
 
 pub returns-then-not-in_domain : goal.returns-then-not-in_domain
 returns-then-not-in_domain c =
-    outside c.args.domains.now c.args.values.now c.loop-k.k _ c.index-domains-k.result c.in_domain.result c.loop-k-test.true refl c.index-domains-k.is c.in_domain.ensures c.if-not-in_domain.true
+    outside c.args.domains.now c.args.values.now c.loop-k.k _ c.index-domains-k.result c.in_domain.result c.loop-k-test.true refl
+    c.index-domains-k.is c.in_domain.ensures c.if-not-in_domain.true
 
 pub returns : goal.returns
-returns c = (λ t. kept c.args.domains.now c.args.values.now (sym c.if-domains-values.false) (λ n d lt. c.loop-k.invariant n d (omega (arith, lt, c.loop-k-test.false))), λ k. refl)
+returns c = (
+  λ t. kept c.args.domains.now c.args.values.now (sym c.if-domains-values.false)
+      (λ n d lt. c.loop-k.invariant n d (omega (arith, lt, c.loop-k-test.false))),
+  λ k. refl,
+)

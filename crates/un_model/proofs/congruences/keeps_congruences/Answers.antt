@@ -1,7 +1,3 @@
-use Rattle.std.proofs.Common.{◌∙◌, ap}
-use Rattle.std.specs.Prelude.{is_none}
-use Rattle.std.specs.List.{filter}
-use Rattle.un_model.specs.declared.schedule.Read.{Read}
 use Rattle.un_model.proofs.Edges.{hand_on_told}
 use Rattle.un_model.proofs.congruences.keeps_congruences.Goals as goal
 

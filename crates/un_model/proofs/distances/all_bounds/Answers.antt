@@ -1,4 +1,4 @@
-use Rattle.std.proofs.Common.{get_or, sym, ap, subst, ◌∙◌, List, take, ◌++◌, ◌∷◌, [], arith}
+use Rattle.std.proofs.Common.{sym, subst, List, take, arith}
 use Rattle.std.proofs.lemmas.List.{take_more}
 use Rattle.un_model.specs.declared.schedule.Issue.{Issue}
 use Rattle.un_model.specs.Orders.{HaveBounds}
@@ -13,4 +13,6 @@ add_issue-requires c =
 
 pub loop-i-preserved : goal.loop-i-preserved
 loop-i-preserved c =
-    subst (λ (xs : List Issue). HaveBounds c.args.rule xs c.args.n c.add_issue.new.table.items) (sym (take_more c.args.issues.now c.loop-i.i-index zero_issue c.loop-i-test.true)) (c.add_issue.ensures (take c.loop-i.i-index c.args.issues.now) c.args.n c.loop-i.invariant)
+    subst (λ (xs : List Issue). HaveBounds c.args.rule xs c.args.n c.add_issue.new.table.items)
+    (sym (take_more c.args.issues.now c.loop-i.i-index zero_issue c.loop-i-test.true))
+    (c.add_issue.ensures (take c.loop-i.i-index c.args.issues.now) c.args.n c.loop-i.invariant)

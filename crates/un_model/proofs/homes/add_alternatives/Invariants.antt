@@ -8,4 +8,6 @@ use Rattle.un_model.proofs.homes.add_alternatives.Given as goal
 
 abbrev pub invariant-loop-j : goal.invariant-loop-j
 invariant-loop-j l =
-    (x : TempId) (i : ℕ) → i ≤ 32 → (in_mask (mask_of l.homes x) i || list_any (λ (t : TempId). t.0 == x.0 && l.r == i) (drop l.j l.alts)) ≡ (in_mask (mask_of l.initial.homes x) i || list_any (λ (t : TempId). t.0 == x.0 && l.r == i) l.alts)
+    (x : TempId) (i : ℕ) → i ≤ 32
+    → (in_mask (mask_of l.homes x) i || list_any (λ (t : TempId). t.0 == x.0 && l.r == i) (drop l.j l.alts)) ≡
+    (in_mask (mask_of l.initial.homes x) i || list_any (λ (t : TempId). t.0 == x.0 && l.r == i) l.alts)

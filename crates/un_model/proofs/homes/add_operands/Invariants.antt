@@ -9,4 +9,6 @@ use Rattle.un_model.proofs.homes.add_operands.Given as goal
 
 abbrev pub invariant-loop-j : goal.invariant-loop-j
 invariant-loop-j l =
-    (x : TempId) (i : ℕ) → i ≤ 32 → (in_mask (mask_of l.homes x) i || list_any (λ (o : Operand). is_operand_mark o x i) (drop l.j l.op.operands)) ≡ (in_mask (mask_of l.initial.homes x) i || list_any (λ (o : Operand). is_operand_mark o x i) l.op.operands)
+    (x : TempId) (i : ℕ) → i ≤ 32
+    → (in_mask (mask_of l.homes x) i || list_any (λ (o : Operand). is_operand_mark o x i) (drop l.j l.op.operands)) ≡
+    (in_mask (mask_of l.initial.homes x) i || list_any (λ (o : Operand). is_operand_mark o x i) l.op.operands)

@@ -8,4 +8,6 @@ use Rattle.un_model.proofs.homes.add_results.Given as goal
 
 abbrev pub invariant-loop-j : goal.invariant-loop-j
 invariant-loop-j l =
-    (x : TempId) (i : ℕ) → i ≤ 32 → (in_mask (mask_of l.homes x) i || any_from (is_result_mark l.e l.is_entry l.live_in l.op x i) l.j (drop l.j l.op.results)) ≡ (in_mask (mask_of l.initial.homes x) i || any_from (is_result_mark l.e l.is_entry l.live_in l.op x i) 0 l.op.results)
+    (x : TempId) (i : ℕ) → i ≤ 32
+    → (in_mask (mask_of l.homes x) i || any_from (is_result_mark l.e l.is_entry l.live_in l.op x i) l.j (drop l.j l.op.results)) ≡
+    (in_mask (mask_of l.initial.homes x) i || any_from (is_result_mark l.e l.is_entry l.live_in l.op x i) 0 l.op.results)

@@ -8,4 +8,6 @@ use Rattle.un_model.proofs.homes.homes.Given as goal
 
 abbrev pub invariant-loop-i : goal.invariant-loop-i
 invariant-loop-i l =
-    (x : TempId) (r : ℕ) → r ≤ 32 → (in_mask (mask_of l.homes x) r || list_any (is_op_mark l.e l.is_entry l.block.live_in x r) (drop l.i l.block.ops)) ≡ is_block_mark l.e l.is_entry l.block x r
+    (x : TempId) (r : ℕ) → r ≤ 32
+    → (in_mask (mask_of l.homes x) r || list_any (is_op_mark l.e l.is_entry l.block.live_in x r) (drop l.i l.block.ops)) ≡
+    is_block_mark l.e l.is_entry l.block x r

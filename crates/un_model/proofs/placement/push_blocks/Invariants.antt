@@ -5,6 +5,8 @@ use Rattle.un_model.proofs.placement.push_blocks.Given as goal
 
 abbrev pub invariant-loop-k : goal.invariant-loop-k
 invariant-loop-k l = record {
-  issues : l.issues ++ over_blocks (block_issues l.values) l.k l.n (drop l.k l.m.ext.blocks) (drop l.k l.m.blocks) ≡ l.initial.issues ++ issues_of l.m l.values;
-  reads : l.reads ++ over_blocks (block_reads l.values) l.k l.n (drop l.k l.m.ext.blocks) (drop l.k l.m.blocks) ≡ l.initial.reads ++ reads_of l.m l.values;
+  issues : l.issues ++ over_blocks (block_issues l.values) l.k l.n (drop l.k l.m.ext.blocks) (drop l.k l.m.blocks) ≡ l.initial.issues ++
+      issues_of l.m l.values;
+  reads : l.reads ++ over_blocks (block_reads l.values) l.k l.n (drop l.k l.m.ext.blocks) (drop l.k l.m.blocks) ≡ l.initial.reads ++
+      reads_of l.m l.values;
 }

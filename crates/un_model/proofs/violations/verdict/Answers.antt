@@ -4,12 +4,14 @@ use Rattle.un_model.proofs.violations.verdict.Goals as goal
 
 pub keeps_order-requires : goal.keeps_order-requires
 keeps_order-requires c =
-    let below = issues_placed c.args.m.now c.args.values.now c.args.t.now (length c.as_slice-blocks.result.now) c.requires (ap length c.as_slice-blocks.ensures) in
+    let below = issues_placed c.args.m.now c.args.values.now c.args.t.now (length c.as_slice-blocks.result.now) c.requires
+    (ap length c.as_slice-blocks.ensures) in
     rw c.as_slice-issues.ensures below
 
 pub keeps_frame-requires : goal.keeps_frame-requires
 keeps_frame-requires c =
-    issues_placed c.args.m.now c.args.values.now c.args.t.now (length c.as_slice-blocks.result.now) c.requires (ap length c.as_slice-blocks.ensures)
+    issues_placed c.args.m.now c.args.values.now c.args.t.now (length c.as_slice-blocks.result.now) c.requires
+    (ap length c.as_slice-blocks.ensures)
 
 pub returns : goal.returns
 returns c = record {

@@ -18,5 +18,6 @@ returns-clause-solves c =
     let t = schedule_of m values in
     let clause_of : Broken → ℕ = λ b. b.clause in (
       λ e. solves (latency_gap m.ext.table) m.domains m values t c.in_ok-found.found h (sym c.in_ok-list.ensures ∙ ap (map clause_of) e),
-      λ s. map_empty clause_of c.in_ok-list.list.items (c.in_ok-list.ensures ∙ unbroken (latency_gap m.ext.table) m.domains m values t c.in_ok-found.found h s),
+      λ s. map_empty clause_of c.in_ok-list.list.items
+          (c.in_ok-list.ensures ∙ unbroken (latency_gap m.ext.table) m.domains m values t c.in_ok-found.found h s),
     )
