@@ -1,0 +1,5 @@
+//! Propagators of precedence: one time at least so much after another, and the cost of ends.
+#![tactic(auto)]
+
+pub mod link;
+pub mod rules;
