@@ -1,2 +1,5 @@
 pub mod LinkLaws
 pub mod Links
+pub mod StepLaws
+pub mod Before
+pub mod BeforeLaws

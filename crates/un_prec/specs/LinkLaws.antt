@@ -161,7 +161,7 @@ module _ (vs : List VarId) (l : Link) (h : LinkVars vs l) where
   both_alike s t a = ap (λ (b : Bool). b && sure l.to_on s) (sure_alike vs s t a l.from_on h.of_from_on) ∙ ap (λ (b : Bool). sure l.from_on t && b) (sure_alike vs s t a l.to_on h.of_to_on)
 
   -- what holds of a link whose ends are sure
-  sure_holds : (s : Sets) (x : List ℕ) → HasVars vs s → IsIn x s → link_holds l x ≡ true → both_sure l s ≡ true → at_value l.from x + l.gap ≤ at_value l.to x
+  pub sure_holds : (s : Sets) (x : List ℕ) → HasVars vs s → IsIn x s → link_holds l x ≡ true → both_sure l s ≡ true → at_value l.from x + l.gap ≤ at_value l.to x
   sure_holds s x k there e b =
       let two = firsts (sure l.from_on s) (sure l.to_on s) b in
       let active = both (is_active l.from_on x) (is_active l.to_on x) (sure_active vs s x there k l.from_on h.of_from_on two.0) (sure_active vs s x there k l.to_on h.of_to_on two.1) in

@@ -1,10 +1,11 @@
 -- Links of times, and what they let a store keep.
-use Rattle.std.specs.Prelude.{ℕ, ◌≡◌, ◌+◌, ◌-◌, ◌^◌, ◌≤◌, Bool, true, not, ◌&&◌, ◌||◌, List, [], ◌∷◌, ◌++◌, min, nat_le, nat_lt, Some}
+use Rattle.std.specs.Prelude.{ℕ, ◌≡◌, ◌+◌, ◌-◌, ◌^◌, ◌≤◌, Bool, true, not, ◌&&◌, ◌||◌, List, [], ◌∷◌, ◌++◌, min, nat_le, nat_lt, Some, option_and_then}
 use Rattle.std.specs.declared.option.Option.{Option}
 use Rattle.un_base.specs.declared.ids.VarId.{VarId}
 use Rattle.un_domains.specs.Sets.{Sets, cut_by, least, greatest}
 use Rattle.un_prop.specs.Among.{AllAmong}
 use Rattle.un_prop.specs.Acts.{act_vars, is_active, at_vars, at_value}
+use Rattle.un_prop.specs.Failing.{first_cut}
 use Rattle.un_prop.specs.Looks.{at_set, sure}
 use Rattle.un_prop.specs.declared.act.At.{At}
 use Rattle.un_prop.specs.declared.act.At.TheVariants.{Const, Var}
@@ -45,3 +46,11 @@ apart_test l s y = not (both_sure l s && nat_lt (greatest (at_set l.to s)) (leas
 -- the first is no more than the gap before the least of the second
 abbrev pub close_test : Link → Sets → ℕ → Bool
 close_test l s y = not (both_sure l s) || nat_le (least (at_set l.to s)) (y + l.gap)
+
+-- all that a link lets a store keep
+abbrev pub link_steps : List VarId → Link → Sets → Option Sets
+link_steps vs l s = option_and_then (at_cut (earlier_test l) l.from) (option_and_then (at_cut (later_test l) l.to) (first_cut (apart_test l) vs s))
+
+-- what is so of a link that lets all of a store stay
+abbrev pub LinkStrong : Link → Sets → Type 0
+LinkStrong l s = sure l.from_on s ≡ true → sure l.to_on s ≡ true → least (at_set l.from s) + l.gap ≤ least (at_set l.to s)

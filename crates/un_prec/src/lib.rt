@@ -3,3 +3,4 @@
 
 pub mod link;
 pub mod rules;
+pub mod before;

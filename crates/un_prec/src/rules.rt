@@ -6,7 +6,7 @@ ghost use Rattle.un_prop.specs.Rounds.{HasVars};
 ghost use Rattle.un_prop.specs.Failing.{first_cut};
 ghost use Rattle.un_prop.specs.Going.{Stepped};
 ghost use Rattle.un_prop.specs.declared.propagator.Pruned.TheVariants.{Failed};
-ghost use Rattle.un_prec.specs.Links.{LinkVars, both_sure, at_cut, later_test, earlier_test, apart_test};
+ghost use Rattle.un_prec.specs.Links.{LinkVars, both_sure, at_cut, later_test, earlier_test, apart_test, link_steps};
 
 use crate::link::Link;
 use un_domains::window::Window;
@@ -104,4 +104,18 @@ pub fn apart(w: &mut Window<'_>, before: Pruned, link: Link) -> Pruned
         return before;
     }
     fail(w, before)
+}
+
+/// All that a link lets a store keep.
+pub fn keep_link(w: &mut Window<'_>, before: Pruned, link: Link) -> Pruned
+    requires vars { LinkVars w.old.vars.now link }
+    requires known { HasVars w.old.vars.now w.old.store.now.sets }
+    requires live { before ≢ Failed → NoneEmpty w.old.store.now.sets }
+    ensures step { Stepped w.old.vars.now (link_steps w.old.vars.now link) w.old.store.now w.new.store.now before result }
+    ensures same_reference { w.new.store.ghost_name ≡ w.old.store.ghost_name }
+    ensures vars { w.new.vars ≡ w.old.vars }
+{
+    let first = apart(w, before, link);
+    let second = later(w, first, link);
+    earlier(w, second, link)
 }
