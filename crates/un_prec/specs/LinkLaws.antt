@@ -138,6 +138,15 @@ pub at_keeps : (vs : List VarId) (q : Sets → ℕ → Bool) (at : At) → AllAm
 at_keeps vs q (Const n) all s x k there h = there
 at_keeps vs q (Var v) all s x k there h = cut_by_kept (q s) v.0 s x (has_among vs v s (all 0 v (omega arith)) k) there h
 
+-- the test of a close link as the code has it
+pub close_is : (l : Link) (s : Sets) (low below y : ℕ) → both_sure l s ≡ true → low ≡ least (at_set l.to s) → l.gap < low → below ≡ low - l.gap - 1 → close_test l s y ≡ nat_lt below y
+close_is l s low below y b low_is more below_is =
+    is_sure_or (both_sure l s) (nat_le (least (at_set l.to s)) (y + l.gap)) b
+    ∙ same_test (nat_le (least (at_set l.to s)) (y + l.gap)) (nat_lt below y) (λ h. grind (arith, nat_tests)) (λ h. grind (arith, nat_tests))
+
+pub close_all : (l : Link) (s : Sets) (low y : ℕ) → both_sure l s ≡ true → low ≡ least (at_set l.to s) → low ≤ l.gap → close_test l s y ≡ true
+close_all l s low y b low_is few = is_sure_or (both_sure l s) (nat_le (least (at_set l.to s)) (y + l.gap)) b ∙ grind (arith, nat_tests)
+
 pub apart_unsure : (l : Link) (s : Sets) (y : ℕ) → both_sure l s ≡ false → apart_test l s y ≡ true
 apart_unsure l s y e = not_from (both_sure l s && nat_lt (greatest (at_set l.to s)) (least (at_set l.from s) + l.gap)) (λ bad.
     cc (sym e ∙ (firsts (both_sure l s) (nat_lt (greatest (at_set l.to s)) (least (at_set l.from s) + l.gap)) bad).0))
@@ -244,3 +253,8 @@ module _ (vs : List VarId) (l : Link) (h : LinkVars vs l) where
     local = λ s t y a. ap (λ (b : Bool). not b || nat_le (least (at_set l.to s)) (y + l.gap)) (both_alike s t a)
         ∙ ap (λ (xs : List ℕ). not (both_sure l t) || nat_le (least xs) (y + l.gap)) (at_alike vs s t a l.to h.of_to);
   }
+
+  pub close_keeps : (s : Sets) (x : List ℕ) → HasVars vs s → IsIn x s → at_value l.to x ≤ at_value l.from x + l.gap → close_test l s (at_value l.from x) ≡ true
+  close_keeps s x k there le = not_or (both_sure l s) (nat_le (least (at_set l.to s)) (at_value l.from x + l.gap)) (λ b.
+      let low = (value_in vs s x there k l.to h.of_to).0 in
+      grind (arith, nat_tests, low, le))

@@ -4,3 +4,4 @@
 pub mod link;
 pub mod rules;
 pub mod before;
+pub mod inside;

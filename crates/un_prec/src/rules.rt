@@ -6,7 +6,7 @@ ghost use Rattle.un_prop.specs.Rounds.{HasVars};
 ghost use Rattle.un_prop.specs.Failing.{first_cut};
 ghost use Rattle.un_prop.specs.Going.{Stepped};
 ghost use Rattle.un_prop.specs.declared.propagator.Pruned.TheVariants.{Failed};
-ghost use Rattle.un_prec.specs.Links.{LinkVars, both_sure, at_cut, later_test, earlier_test, apart_test, link_steps};
+ghost use Rattle.un_prec.specs.Links.{LinkVars, both_sure, at_cut, later_test, earlier_test, apart_test, close_test, link_steps};
 
 use crate::link::Link;
 use un_domains::window::Window;
@@ -77,6 +77,34 @@ pub fn earlier(w: &mut Window<'_>, before: Pruned, link: Link) -> Pruned
     match link.from {
         At::Const(_) => before,
         At::Var(v) => keep_le(w, before, v, high),
+    }
+}
+
+/// Where both operations are sure, the first is no more than the gap before the least time of the second.
+pub fn close(w: &mut Window<'_>, before: Pruned, link: Link) -> Pruned
+    requires vars { LinkVars w.old.vars.now link }
+    requires known { HasVars w.old.vars.now w.old.store.now.sets }
+    requires live { before ≢ Failed → NoneEmpty w.old.store.now.sets }
+    ensures step { Stepped w.old.vars.now (at_cut (close_test link) link.from) w.old.store.now w.new.store.now before result }
+    ensures same_reference { w.new.store.ghost_name ≡ w.old.store.ghost_name }
+    ensures vars { w.new.vars ≡ w.old.vars }
+{
+    if before == Pruned::Failed {
+        return before;
+    }
+    if !are_sure(w, link) {
+        return before;
+    }
+    let low = least_time(w, link.to);
+    match link.from {
+        At::Const(_) => before,
+        At::Var(v) => {
+            if low <= link.gap {
+                before
+            } else {
+                keep_gt(w, before, v, low - link.gap - 1)
+            }
+        }
     }
 }
 
