@@ -5,3 +5,5 @@ pub mod Before
 pub mod BeforeLaws
 pub mod Inside
 pub mod InsideLaws
+pub mod Last
+pub mod LastLaws

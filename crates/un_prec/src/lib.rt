@@ -5,3 +5,4 @@ pub mod link;
 pub mod rules;
 pub mod before;
 pub mod inside;
+pub mod last;
