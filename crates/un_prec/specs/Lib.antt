@@ -7,3 +7,5 @@ pub mod Inside
 pub mod InsideLaws
 pub mod Last
 pub mod LastLaws
+pub mod Below
+pub mod BelowLaws

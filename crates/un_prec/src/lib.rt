@@ -6,3 +6,4 @@ pub mod rules;
 pub mod before;
 pub mod inside;
 pub mod last;
+pub mod below;
