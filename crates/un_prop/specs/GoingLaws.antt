@@ -1,5 +1,5 @@
 -- Laws of steps.
-use Rattle.std.proofs.Common.{ℕ, ◌≡◌, ◌≢◌, ◌<◌, Bool, true, false, List, [], length, filter, set, nat_eq, None, Some, option_and_then, All, refl, sym, ap, ◌∙◌, subst, arith}
+use Rattle.std.proofs.Common.{ℕ, ◌≡◌, ◌≢◌, ◌<◌, Bool, true, false, cond, List, [], ◌∷◌, length, filter, set, nat_eq, nat_le, nat_lt, None, Some, option_and_then, All, refl, sym, ap, ◌∙◌, subst, arith}
 use Rattle.std.specs.declared.option.Option.{Option}
 use Rattle.std.specs.List.{Contains}
 use Rattle.std.proofs.lemmas.Bool.Decides.{nat_tests}
@@ -65,7 +65,7 @@ untouched_then vs a b c p q = record {
 pub untouched_refl : (vs : List VarId) (a : Contents) → Untouched vs a a
 untouched_refl vs a = record { long = refl; marked = refl; others = λ w other. refl }
 
-join_failed : (first : Pruned) → join first Failed ≡ Failed
+pub join_failed : (first : Pruned) → join first Failed ≡ Failed
 join_failed Same = refl
 join_failed Tighter = refl
 join_failed Failed = refl
@@ -186,3 +186,47 @@ goes_chain vs f g old mid new a b c p q o start so_far = by o (q (option_and_the
         → IsPrune vs (option_and_then (λ s. option_and_then g (f s)) o) start new c
     by None h = h
     by (Some s) h = h
+
+-- Failing
+
+pub untouched_cut : (p : ℕ → Bool) (vs : List VarId) (v : VarId) (old new : Contents) → Contains vs v → new.sets ≡ kept p old.sets v.0 → new.marked ≡ old.marked → Untouched vs old new
+untouched_cut p vs v old new there sets marked = record {
+  long = ap length sets ∙ length-set old.sets v.0 (filter p (set_at old.sets v.0));
+  marked = marked;
+  others = λ w other. ap (λ (s : Sets). set_at s w) sets ∙ get_or-set_other old.sets v.0 w (filter p (set_at old.sets v.0)) [] (λ same. All-contains (λ u. w ≢ u.0) vs v other there same);
+}
+
+-- no number is both
+none_both : (xs : List ℕ) → filter (λ y. nat_lt 0 y) (filter (λ y. nat_le y 0) xs) ≡ []
+none_both [] = refl
+none_both (x ∷ xs) = by (nat_le x 0) refl (none_both xs)
+  where
+    by : (b : Bool) → nat_le x 0 ≡ b → filter (λ y. nat_lt 0 y) (filter (λ y. nat_le y 0) xs) ≡ [] → filter (λ y. nat_lt 0 y) (cond b (x ∷ filter (λ y. nat_le y 0) xs) (filter (λ y. nat_le y 0) xs)) ≡ []
+    by true e rest = let no : nat_lt 0 x ≡ false = grind (arith, nat_tests) in ap (λ (b : Bool). cond b (x ∷ filter (λ y. nat_lt 0 y) (filter (λ y. nat_le y 0) xs)) (filter (λ y. nat_lt 0 y) (filter (λ y. nat_le y 0) xs))) no ∙ rest
+    by false e rest = rest
+
+none_left : (xs : List ℕ) → filter (λ y. false) xs ≡ []
+none_left [] = refl
+none_left (x ∷ xs) = none_left xs
+
+-- one variable without a value
+pub all_cut : (vs : List VarId) (v : VarId) (old mid new : Contents) → Contains vs v → v.0 < length old.sets → mid.sets ≡ kept (λ y. nat_le y 0) old.sets v.0 → mid.marked ≡ old.marked
+    → new.sets ≡ kept (λ y. nat_lt 0 y) mid.sets v.0 → new.marked ≡ mid.marked → Ends (cut_by (λ y. false) v.0 old.sets) old.sets new.sets Failed × Untouched vs old new
+all_cut vs v old mid new there within sets marked sets' marked' = (
+  ends,
+  untouched_then vs old mid new (untouched_cut (λ y. nat_le y 0) vs v old mid there sets marked) (untouched_cut (λ y. nat_lt 0 y) vs v mid new there sets' marked'),
+)
+  where
+    long : v.0 < length mid.sets
+    long = let e = ap length sets in let f = length-set old.sets v.0 (filter (λ y. nat_le y 0) (set_at old.sets v.0)) in omega (arith, within, e, f)
+
+    at_mid : set_at mid.sets v.0 ≡ filter (λ y. nat_le y 0) (set_at old.sets v.0)
+    at_mid = ap (λ (s : Sets). set_at s v.0) sets ∙ get_or-set_same old.sets v.0 (filter (λ y. nat_le y 0) (set_at old.sets v.0)) [] within
+
+    at_new : set_at new.sets v.0 ≡ []
+    at_new = ap (λ (s : Sets). set_at s v.0) sets' ∙ (get_or-set_same mid.sets v.0 (filter (λ y. nat_lt 0 y) (set_at mid.sets v.0)) [] long
+        ∙ (ap (filter (λ y. nat_lt 0 y)) at_mid ∙ none_both (set_at old.sets v.0)))
+
+    ends : Ends (cut_by (λ y. false) v.0 old.sets) old.sets new.sets Failed
+    ends = subst (λ (xs : List ℕ). Ends (cond (nat_eq (length xs) 0) None (Some (set old.sets v.0 xs))) old.sets new.sets Failed) (sym (none_left (set_at old.sets v.0)))
+        (refl, λ full. (let some = full v.0 (let e = ap length sets' in let f = length-set mid.sets v.0 (filter (λ y. nat_lt 0 y) (set_at mid.sets v.0)) in omega (arith, long, e, f)) in let none = ap length at_new in omega (arith, some, none)))

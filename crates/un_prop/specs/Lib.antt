@@ -1,6 +1,8 @@
 pub mod Acts
 pub mod Among
 pub mod AmongLaws
+pub mod FailLaws
+pub mod Failing
 pub mod Fixes
 pub mod Going
 pub mod GoingLaws

@@ -4,6 +4,8 @@
 ghost use Rattle.std.specs.Prelude.{◌≡◌, ◌≢◌, ◌<◌, ℕ, length, nat_le, nat_lt, nat_eq, true};
 ghost use Rattle.un_domains.specs.Sets.{set_at, cut_by};
 ghost use Rattle.un_prop.specs.Pruning.{join};
+ghost use Rattle.un_prop.specs.Rounds.{HasVars};
+ghost use Rattle.un_prop.specs.Failing.{fail_cut};
 ghost use Rattle.un_prop.specs.Among.{among};
 ghost use Rattle.un_prop.specs.Going.{Stepped, answer_of};
 ghost use Rattle.un_prop.specs.declared.propagator.Pruned.TheVariants.{Failed};
@@ -73,4 +75,23 @@ pub fn keep_eq(w: &mut Window<'_>, before: Pruned, v: VarId, x: u32) -> Pruned
 {
     let did = answer(w.keep_eq(v, x));
     joined(before, did)
+}
+
+/// Takes every value from the first variable of the window, if it has one.
+pub fn fail(w: &mut Window<'_>, before: Pruned) -> Pruned
+    requires known { HasVars w.old.vars.now w.old.store.now.sets }
+    requires going { before ≢ Failed }
+    ensures step { Stepped w.old.vars.now (fail_cut w.old.vars.now) w.old.store.now w.new.store.now before result }
+    ensures same_reference { w.new.store.ghost_name ≡ w.old.store.ghost_name }
+    ensures vars { w.new.vars ≡ w.old.vars }
+{
+    let vars = w.vars;
+    match vars.first() {
+        None => before,
+        Some(v) => {
+            w.keep_le(*v, 0);
+            w.keep_gt(*v, 0);
+            Pruned::Failed
+        }
+    }
 }

@@ -1,0 +1,11 @@
+pub mod LinkLaws
+pub mod Links
+pub mod StepLaws
+pub mod Before
+pub mod BeforeLaws
+pub mod Inside
+pub mod InsideLaws
+pub mod Last
+pub mod LastLaws
+pub mod Below
+pub mod BelowLaws

@@ -1,0 +1,91 @@
+//! A precedence: one operation at least so much after another.
+
+ghost use Rattle.std.specs.Prelude.{◌≡◌};
+ghost use Rattle.un_prop.specs.LastLaws.{Ascend};
+ghost use Rattle.un_prec.specs.Before.{BeforeVars};
+
+use crate::link::{keeps_gap, Link};
+use crate::rules::keep_link;
+use un_prop::act::{Act, At};
+use un_base::ids::VarId;
+use un_domains::window::Window;
+use un_lists::items::Items;
+use un_prop::last::check_last;
+use un_prop::propagator::{Predicate, Propagator, Pruned, Scratch};
+
+/// Both operations are active and `b` is at least `gap` after `a`, or one is inactive.
+#[derive(Drop)]
+pub struct Before {
+    pub a: At,
+    pub a_on: Act,
+    pub b: At,
+    pub b_on: Act,
+    pub gap: u32,
+    pub vars: Items<VarId>,
+    ghost ascend: { Ascend vars },
+    ghost among: { BeforeVars vars a a_on b b_on gap },
+}
+
+impl Predicate for Before {
+    ghost use Rattle.un_prec.specs.Before.{before_link, before_holds, before_steps, BeforeVars, BeforeStrong};
+    ghost use Rattle.un_prec.specs.BeforeLaws.{before_looks, before_lawful, before_keeps, before_strong};
+
+    ghost scope = { λ p. p.vars };
+
+    ghost holds = { λ p x. before_holds p.a p.a_on p.b p.b_on p.gap x };
+
+    fn reads(&self) -> &[VarId] {
+        self.vars.as_slice()
+    }
+
+    fn test(&self, fixed: &[u32]) -> bool {
+        let link = Link {
+            from: self.a,
+            from_on: self.a_on,
+            to: self.b,
+            to_on: self.b_on,
+            gap: self.gap,
+        };
+        keeps_gap(fixed, link)
+    }
+
+    ghost looks = { λ p x y same. before_looks p.vars p.a p.a_on p.b p.b_on p.gap p.among x y same };
+}
+
+impl Propagator for Before {
+    ghost use Rattle.un_prop.specs.Last.{last_cut};
+    ghost use Rattle.un_prop.specs.PartLaws.{one_part, one_whole, lawful_checked, keeps_checked, forward_checked, stable_first};
+    ghost use Rattle.std.specs.Prelude.{option_and_then};
+    ghost use Rattle.un_prec.specs.Before.{before_link, before_holds, before_steps, BeforeVars, BeforeStrong};
+    ghost use Rattle.un_prec.specs.BeforeLaws.{before_looks, before_lawful, before_keeps, before_strong};
+
+    ghost cut = { λ p s. option_and_then (last_cut p.vars (before_holds p.a p.a_on p.b p.b_on p.gap)) (before_steps p.vars p.a p.a_on p.b p.b_on p.gap s) };
+
+    ghost parts = { λ p. one_part p.vars (before_holds p.a p.a_on p.b p.b_on p.gap) };
+
+    ghost strong = { λ p s. BeforeStrong p.a p.a_on p.b p.b_on p.gap s };
+
+    ghost span = { λ p. 0 };
+
+    fn prune_in(&self, w: &mut Window<'_>, scratch: &mut Scratch) -> Pruned {
+        let link = Link {
+            from: self.a,
+            from_on: self.a_on,
+            to: self.b,
+            to_on: self.b_on,
+            gap: self.gap,
+        };
+        let did = keep_link(w, Pruned::Same, link);
+        check_last(self, w, scratch, did)
+    }
+
+    ghost keeps = { λ p s x k full there holds. keeps_checked p.vars (before_holds p.a p.a_on p.b p.b_on p.gap) (before_looks p.vars p.a p.a_on p.b p.b_on p.gap p.among) p.ascend (before_steps p.vars p.a p.a_on p.b p.b_on p.gap) (before_lawful p.vars p.a p.a_on p.b p.b_on p.gap p.among) s x k (before_keeps p.vars p.a p.a_on p.b p.b_on p.gap p.among s x k there holds) there.long holds };
+
+    ghost lawful = { λ p. lawful_checked p.vars (before_holds p.a p.a_on p.b p.b_on p.gap) (before_looks p.vars p.a p.a_on p.b p.b_on p.gap p.among) p.ascend (before_steps p.vars p.a p.a_on p.b p.b_on p.gap) (before_lawful p.vars p.a p.a_on p.b p.b_on p.gap p.among) };
+
+    ghost whole = { λ p x. one_whole p.vars (before_holds p.a p.a_on p.b p.b_on p.gap) x };
+
+    ghost forward = { λ p. forward_checked p.vars (before_holds p.a p.a_on p.b p.b_on p.gap) (before_looks p.vars p.a p.a_on p.b p.b_on p.gap p.among) p.ascend (before_steps p.vars p.a p.a_on p.b p.b_on p.gap) (before_lawful p.vars p.a p.a_on p.b p.b_on p.gap p.among) };
+
+    ghost strength = { λ p s k full words grounded e. before_strong p.vars p.a p.a_on p.b p.b_on p.gap p.among s k full words grounded (stable_first p.vars (before_holds p.a p.a_on p.b p.b_on p.gap) (before_looks p.vars p.a p.a_on p.b p.b_on p.gap p.among) p.ascend (before_steps p.vars p.a p.a_on p.b p.b_on p.gap) (before_lawful p.vars p.a p.a_on p.b p.b_on p.gap p.among) s k full e) };
+}

@@ -1,0 +1,132 @@
+//! The cost is less than a limit.
+
+ghost use Rattle.std.specs.Prelude.{◌≡◌, ◌+◌, ◌-◌, ◌*◌, ◌^◌, min};
+ghost use Rattle.un_domains.specs.Sets.{NoneEmpty};
+ghost use Rattle.un_prop.specs.Rounds.{HasVars};
+ghost use Rattle.un_prop.specs.Going.{Stepped};
+ghost use Rattle.un_prop.specs.LastLaws.{Ascend};
+ghost use Rattle.un_prop.specs.declared.propagator.Pruned.TheVariants.{Same};
+ghost use Rattle.un_prec.specs.Below.{BelowVars, cost_at, least_cost, below_steps};
+
+use un_prop::act::value;
+use un_prop::step::fail;
+use un_base::ids::VarId;
+use un_domains::window::Window;
+use un_lists::items::Items;
+use un_prop::last::check_last;
+use un_prop::propagator::{Predicate, Propagator, Pruned, Scratch};
+
+/// The end of a block, and how often the block is run.
+#[derive(Clone, Copy)]
+pub struct Weighted {
+    pub end: VarId,
+    pub freq: u32,
+}
+
+/// One block's cost more, up to the greatest number.
+fn add(total: u64, freq: u32, end: u32) -> u64
+    ensures { result ≡ min (total + freq * (end - 1)) (2 ^ 64 - 1) }
+{
+    let length = u64::from(end.saturating_sub(1));
+    total.saturating_add(u64::from(freq).saturating_mul(length))
+}
+
+/// The cost of an assignment, up to the greatest number.
+fn cost(ends: &[Weighted], fixed: &[u32]) -> u64
+    ensures { result ≡ min (cost_at ends.now fixed.now) (2 ^ 64 - 1) }
+{
+    let mut total = 0;
+    for e in ends {
+        total = add(total, e.freq, value(fixed, e.end));
+    }
+    total
+}
+
+/// The cost of the least ends, up to the greatest number.
+fn cost_in(w: &Window<'_>, ends: &[Weighted]) -> u64
+    requires vars { BelowVars w.now.vars.now ends.now }
+    requires known { HasVars w.now.vars.now w.now.store.now.sets }
+    requires live { NoneEmpty w.now.store.now.sets }
+    ensures { result ≡ min (least_cost ends.now w.now.store.now.sets) (2 ^ 64 - 1) }
+{
+    let mut total = 0;
+    for e in ends {
+        total = add(total, e.freq, w.min(e.end));
+    }
+    total
+}
+
+/// Fails where the least ends cost the limit or more.
+fn keep_cost(w: &mut Window<'_>, ends: &[Weighted], limit: u64) -> Pruned
+    requires vars { BelowVars w.old.vars.now ends.now }
+    requires known { HasVars w.old.vars.now w.old.store.now.sets }
+    requires live { NoneEmpty w.old.store.now.sets }
+    ensures step { Stepped w.old.vars.now (below_steps w.old.vars.now ends.now limit) w.old.store.now w.new.store.now Same result }
+    ensures same_reference { w.new.store.ghost_name ≡ w.old.store.ghost_name }
+    ensures vars { w.new.vars ≡ w.old.vars }
+{
+    if cost_in(w, ends) < limit {
+        return Pruned::Same;
+    }
+    fail(w, Pruned::Same)
+}
+
+/// The sum over the blocks of frequency times the block end less 1 is less than `limit`.
+#[derive(Drop)]
+pub struct Below {
+    pub ends: Items<Weighted>,
+    pub limit: u64,
+    pub vars: Items<VarId>,
+    ghost ascend: { Ascend vars },
+    ghost among: { BelowVars vars ends },
+}
+
+impl Predicate for Below {
+    ghost use Rattle.un_prec.specs.Below.{below_holds, below_steps, BelowVars, BelowStrong};
+    ghost use Rattle.un_prec.specs.BelowLaws.{below_looks, below_lawful, below_keeps, below_strong};
+
+    ghost scope = { λ p. p.vars };
+
+    ghost holds = { λ p x. below_holds p.ends p.limit x };
+
+    fn reads(&self) -> &[VarId] {
+        self.vars.as_slice()
+    }
+
+    fn test(&self, fixed: &[u32]) -> bool {
+        cost(self.ends.as_slice(), fixed) < self.limit
+    }
+
+    ghost looks = { λ p x y same. below_looks p.vars p.ends p.limit p.among x y same };
+}
+
+impl Propagator for Below {
+    ghost use Rattle.un_prop.specs.Last.{last_cut};
+    ghost use Rattle.un_prop.specs.PartLaws.{one_part, one_whole, lawful_checked, keeps_checked, forward_checked, stable_first};
+    ghost use Rattle.std.specs.Prelude.{option_and_then};
+    ghost use Rattle.un_prec.specs.Below.{below_holds, below_steps, BelowVars, BelowStrong};
+    ghost use Rattle.un_prec.specs.BelowLaws.{below_looks, below_lawful, below_keeps, below_strong};
+
+    ghost cut = { λ p s. option_and_then (last_cut p.vars (below_holds p.ends p.limit)) (below_steps p.vars p.ends p.limit s) };
+
+    ghost parts = { λ p. one_part p.vars (below_holds p.ends p.limit) };
+
+    ghost strong = { λ p s. BelowStrong p.ends p.limit s };
+
+    ghost span = { λ p. 0 };
+
+    fn prune_in(&self, w: &mut Window<'_>, scratch: &mut Scratch) -> Pruned {
+        let did = keep_cost(w, self.ends.as_slice(), self.limit);
+        check_last(self, w, scratch, did)
+    }
+
+    ghost keeps = { λ p s x k full there holds. keeps_checked p.vars (below_holds p.ends p.limit) (below_looks p.vars p.ends p.limit p.among) p.ascend (below_steps p.vars p.ends p.limit) (below_lawful p.vars p.ends p.limit p.among) s x k (below_keeps p.vars p.ends p.limit p.among s x k there holds) there.long holds };
+
+    ghost lawful = { λ p. lawful_checked p.vars (below_holds p.ends p.limit) (below_looks p.vars p.ends p.limit p.among) p.ascend (below_steps p.vars p.ends p.limit) (below_lawful p.vars p.ends p.limit p.among) };
+
+    ghost whole = { λ p x. one_whole p.vars (below_holds p.ends p.limit) x };
+
+    ghost forward = { λ p. forward_checked p.vars (below_holds p.ends p.limit) (below_looks p.vars p.ends p.limit p.among) p.ascend (below_steps p.vars p.ends p.limit) (below_lawful p.vars p.ends p.limit p.among) };
+
+    ghost strength = { λ p s k full words grounded e. below_strong p.vars p.ends p.limit p.among s k full words grounded (stable_first p.vars (below_holds p.ends p.limit) (below_looks p.vars p.ends p.limit p.among) p.ascend (below_steps p.vars p.ends p.limit) (below_lawful p.vars p.ends p.limit p.among) s k full e) };
+}
