@@ -1,5 +1,5 @@
 -- The table of the processor, entry by entry, as written down from its description.
-use Rattle.std.specs.Prelude.{ℕ, ◌≡◌, Bool, true, false, List, [], ◌∷◌, ◌++◌, map, filter, codes, replicate, Option, Some, None, length, slice_index, slice_get}
+use Rattle.std.specs.Prelude.{ℕ, ◌≡◌, Bool, true, false, List, [], ◌∷◌, ◌++◌, map, filter, codes, replicate, Option, Some, None, slice_get}
 use Rattle.std.specs.List.{range_with_len}
 use Rattle.std.proofs.Common.{refl}
 use Rattle.un_isa.specs.declared.op.Op.{Op}
@@ -10,7 +10,7 @@ use Rattle.un_isa.specs.Facts.{all_ops, source_name, printed_name}
 use Rattle.un_isa.specs.Hexagon.{HEXAGON}
 use Rattle.un_isa.specs.Registers.{space_of, callee_saved, saved_registers}
 use Rattle.un_isa.specs.RegSets.{members}
-use Rattle.un_isa.specs.Starts.{is_junk_from, is_clobbered, are_predicates}
+use Rattle.un_isa.specs.Starts.{is_junk_from, are_predicates}
 use Rattle.un_isa.specs.Tables.{number_of, latency_of}
 
 -- by the number of the operation

@@ -1,5 +1,5 @@
 -- One datum an operation. What any table says of an operation is read off it.
-use Rattle.std.specs.Prelude.{ℕ, ℤ, pos, ◌≡◌, ◌<◌, Bool, true, false, ◌&&◌, not, is_none, is_some, List, [], ◌∷◌, Option, Some, None, length, codes, slice_get, unwrap_or}
+use Rattle.std.specs.Prelude.{ℕ, Bool, is_some, List, [], ◌∷◌, Option, Some, None, length, codes, slice_get, unwrap_or}
 use Rattle.un_isa.specs.declared.op.Op.{Op}
 use Rattle.un_isa.specs.declared.op.Op.TheVariants.{Imm, Mov, Add, Sub, And, Or, Xor, Addi, Andi, Ori, Mux, CmpEq, CmpGt, CmpGtu, CmpEqi, CmpGti, Mpyi, Asl, Asr, Lsr, Load, Store, Call, Jump, JumpIf, JumpIfNot, Jumpr, Spill, Reload, P2R, R2P, Enter, Leave, Nop}
 use Rattle.un_isa.specs.declared.reg.Space.{Space}
@@ -28,13 +28,25 @@ pub record Facts : Type 0 where
 -- an operation that a function's text may have, whose word is printed too or not
 abbrev in_text : Class → ℕ → List Space → Option Space → Option Range → List ℕ → List ℕ → Facts
 in_text class latency spaces result literal word printed = record {
-  class = class; latency = latency; operands = Fixed spaces; result = result; literal = literal; source = Some word; printed = printed;
+  class = class;
+  latency = latency;
+  operands = Fixed spaces;
+  result = result;
+  literal = literal;
+  source = Some word;
+  printed = printed;
 }
 
 -- an operation that stands in code alone
 abbrev in_code : Class → ℕ → List Space → Option Space → Option Range → List ℕ → Facts
 in_code class latency spaces result literal printed = record {
-  class = class; latency = latency; operands = Fixed spaces; result = result; literal = literal; source = None; printed = printed;
+  class = class;
+  latency = latency;
+  operands = Fixed spaces;
+  result = result;
+  literal = literal;
+  source = None;
+  printed = printed;
 }
 
 abbrev none : {A : Type 0} → List A
@@ -70,7 +82,13 @@ facts_of Lsr = in_text Xtype 1 (one R) (Some R) (Some Unsigned5) (codes "lsr") (
 facts_of Load = in_text Loading 2 (one R) (Some R) (Some Offset) (codes "load") (codes "memw")
 facts_of Store = in_text Storing 1 (two R R) None (Some Offset) (codes "store") (codes "memw")
 facts_of Call = record {
-  class = Control; latency = 1; operands = Arguments; result = Some R; literal = None; source = Some (codes "call"); printed = codes "call";
+  class = Control;
+  latency = 1;
+  operands = Arguments;
+  result = Some R;
+  literal = None;
+  source = Some (codes "call");
+  printed = codes "call";
 }
 facts_of Jump = in_code Control 1 none None None (codes "jump")
 facts_of JumpIf = in_code Control 1 (one P) None None (codes "jump")

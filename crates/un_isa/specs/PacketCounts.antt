@@ -1,5 +1,5 @@
 -- What one packet holds.
-use Rattle.std.specs.Prelude.{ℕ, ◌≤◌, List, length, sum_by}
+use Rattle.std.specs.Prelude.{◌≤◌, List, length, sum_by}
 use Rattle.un_isa.specs.declared.packet_counts.TheConstants.{PACKET, MEM_PLACES, STORE_PLACES, XC_PLACES, CONTROL_PLACES}
 use Rattle.un_isa.specs.declared.table.Needs.{Needs}
 

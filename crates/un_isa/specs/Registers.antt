@@ -1,5 +1,5 @@
 -- Registers by their numbers.
-use Rattle.std.specs.Prelude.{ℕ, ◌<◌, ◌≤◌, Bool, nat_lt, List, [], ◌∷◌, ◌++◌, filter, if◌then◌else◌}
+use Rattle.std.specs.Prelude.{ℕ, nat_lt, List, [], ◌∷◌, ◌++◌, filter, if◌then◌else◌}
 use Rattle.std.specs.List.{range_with_len}
 use Rattle.un_isa.specs.declared.reg.TheConstants.{LINK, GENERALS, FIRST_SLOT}
 use Rattle.un_isa.specs.declared.reg.Space.{Space}

@@ -73,9 +73,7 @@ impl RegSet {
     pub fn members(&self, alloc: Global) -> Result<Vec<u32>, NoMemory>
         ensures { IfOk result (λ registers. registers.items ≡ members self.now) }
     {
-        let registers = (0..REGISTERS)
-            .filter(|r| self.contains(*r))
-            .collect(alloc)?;
+        let registers = (0..REGISTERS).filter(|r| self.contains(*r)).collect(alloc)?;
         Ok(registers)
     }
 }
@@ -90,8 +88,6 @@ pub fn callee_saved(alloc: Global, t: &Table) -> Result<Vec<u32>, NoMemory>
     ensures few { IfOk result (λ registers. length registers.items ≤ GENERALS) }
 {
     let saved = RegSet::of_mask(t.saved);
-    let registers = (0..GENERALS)
-        .filter(|r| saved.contains(*r))
-        .collect(alloc)?;
+    let registers = (0..GENERALS).filter(|r| saved.contains(*r)).collect(alloc)?;
     Ok(registers)
 }

@@ -1,8 +1,6 @@
 -- Code and starts written shortly.
-use Rattle.std.specs.Prelude.{ℕ, ℤ, pos, negsuc, ◌≡◌, List, [], ◌∷◌, ◌++◌, Option, Some, None, codes, map, replicate}
-use Rattle.std.proofs.Common.{refl}
+use Rattle.std.specs.Prelude.{ℕ, ℤ, List, Option, Some, map}
 use Rattle.un_isa.specs.declared.op.Op.{Op}
-use Rattle.un_isa.specs.declared.op.Op.TheVariants.{Imm, Mov, Add, Sub, And, Or, Xor, Addi, Andi, Ori, Mux, CmpEq, CmpGt, CmpGtu, CmpEqi, CmpGti, Mpyi, Asl, Asr, Lsr, Load, Store, Call, Jump, JumpIf, JumpIfNot, Jumpr, Spill, Reload, P2R, R2P, Enter, Leave, Nop}
 use Rattle.un_isa.specs.declared.reg.Reg.{Reg}
 use Rattle.un_isa.specs.declared.instr.Instr.{Instr}
 use Rattle.un_isa.specs.declared.outcome.CallRecord.{CallRecord}
@@ -11,7 +9,7 @@ use Rattle.un_isa.specs.declared.start.Start.{Start}
 use Rattle.un_isa.specs.Hexagon.{HEXAGON}
 use Rattle.un_packet.specs.declared.code.Packet.{Packet}
 use Rattle.un_packet.specs.declared.code.CodeBlock.{CodeBlock}
-use Rattle.un_packet.specs.Step.{PacketStop, Returned, Trapped, Waiting, Running}
+use Rattle.un_packet.specs.Step.{PacketStop}
 use Rattle.un_packet.specs.Run.{PacketRun, enter, first_state}
 
 abbrev pub r : ℕ → Option Reg

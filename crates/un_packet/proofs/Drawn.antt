@@ -1,55 +1,49 @@
 -- Runs of code that was drawn at random, with outcomes from a machine of another's making.
-use Rattle.std.specs.Prelude.{ℕ, ℤ, pos, negsuc, ◌≡◌, List, [], ◌∷◌, ◌++◌, Option, Some, None, codes, map, replicate}
+use Rattle.std.specs.Prelude.{ℕ, pos, negsuc, ◌≡◌, List, [], ◌∷◌, ◌++◌, None, codes, replicate}
 use Rattle.std.proofs.Common.{refl}
-use Rattle.un_isa.specs.declared.op.Op.{Op}
-use Rattle.un_isa.specs.declared.op.Op.TheVariants.{Imm, Mov, Add, Sub, And, Or, Xor, Addi, Andi, Ori, Mux, CmpEq, CmpGt, CmpGtu, CmpEqi, CmpGti, Mpyi, Asl, Asr, Lsr, Load, Store, Call, Jump, JumpIf, JumpIfNot, Jumpr, Spill, Reload, P2R, R2P, Enter, Leave, Nop}
-use Rattle.un_isa.specs.declared.reg.Reg.{Reg}
-use Rattle.un_isa.specs.declared.instr.Instr.{Instr}
-use Rattle.un_isa.specs.declared.outcome.CallRecord.{CallRecord}
-use Rattle.un_isa.specs.declared.start.Reply.{Reply}
+use Rattle.un_isa.specs.declared.op.Op.TheVariants.{Imm, Add, Sub, And, Or, Xor, Addi, Ori, Mux, CmpGtu, CmpEqi, CmpGti, Mpyi, Asl, Lsr, Load, Store, Call, Jump, JumpIf, JumpIfNot, Jumpr, Spill, P2R, R2P, Enter, Leave, Nop}
 use Rattle.un_isa.specs.declared.start.Start.{Start}
-use Rattle.un_isa.specs.Hexagon.{HEXAGON}
-use Rattle.un_packet.specs.declared.code.Packet.{Packet}
 use Rattle.un_packet.specs.declared.code.CodeBlock.{CodeBlock}
-use Rattle.un_packet.specs.Step.{PacketStop, Returned, Trapped, Waiting, Running}
-use Rattle.un_packet.specs.Run.{PacketRun, enter, first_state}
+use Rattle.un_packet.specs.Step.{Returned, Trapped, Running}
 use Rattle.un_packet.proofs.Assembly.{r, named, i, packet, block, record_of, reply, told, run_of}
 
 -- A loop that is cut off.
 abbrev run_00_blocks : List CodeBlock
 run_00_blocks =
     block (codes "l0") (
-      packet (i Nop None ([]) (pos 0) None ∷ [])
-      ∷
-      packet (i Imm (r 16) ([]) (negsuc 0) None
-      ∷ i Asl (r 0) (1 ∷ []) (pos 30) None ∷ [])
-      ∷
-      packet (i R2P (r 32) (2 ∷ []) (pos 0) None
-      ∷ i Mux (r 31) (32 ∷ 31 ∷ 3 ∷ []) (pos 0) None
-      ∷ i JumpIfNot None (32 ∷ []) (pos 0) (named (codes "l0")) ∷ [])
-      ∷ [])
+    packet (i Nop None ([]) (pos 0) None ∷ [])
+    ∷
+    packet (i Imm (r 16) ([]) (negsuc 0) None
+    ∷ i Asl (r 0) (1 ∷ []) (pos 30) None ∷ [])
+    ∷
+    packet (i R2P (r 32) (2 ∷ []) (pos 0) None
+    ∷ i Mux (r 31) (32 ∷ 31 ∷ 3 ∷ []) (pos 0) None
+    ∷ i JumpIfNot None (32 ∷ []) (pos 0) (named (codes "l0")) ∷ [])
+    ∷ [])
     ∷
     block (codes "l1") (
-      packet (i R2P (r 33) (16 ∷ []) (pos 0) None ∷ [])
-      ∷
-      packet (i Imm (r 6) ([]) (pos 19) None
-      ∷ i R2P (r 32) (2 ∷ []) (pos 0) None ∷ [])
-      ∷
-      packet (i Asl (r 1) (0 ∷ []) (pos 0) None
-      ∷ i Store None (6 ∷ 31 ∷ []) (pos 116) None ∷ [])
-      ∷
-      packet (i Xor (r 3) (2 ∷ 16 ∷ []) (pos 0) None ∷ [])
-      ∷
-      packet (i Or (r 16) (1 ∷ 31 ∷ []) (pos 0) None
-      ∷ i Sub (r 1) (6 ∷ 16 ∷ []) (pos 0) None
-      ∷ i Jumpr None (6 ∷ []) (pos 0) None ∷ [])
-      ∷ [])
+    packet (i R2P (r 33) (16 ∷ []) (pos 0) None ∷ [])
+    ∷
+    packet (i Imm (r 6) ([]) (pos 19) None
+    ∷ i R2P (r 32) (2 ∷ []) (pos 0) None ∷ [])
+    ∷
+    packet (i Asl (r 1) (0 ∷ []) (pos 0) None
+    ∷ i Store None (6 ∷ 31 ∷ []) (pos 116) None ∷ [])
+    ∷
+    packet (i Xor (r 3) (2 ∷ 16 ∷ []) (pos 0) None ∷ [])
+    ∷
+    packet (i Or (r 16) (1 ∷ 31 ∷ []) (pos 0) None
+    ∷ i Sub (r 1) (6 ∷ 16 ∷ []) (pos 0) None
+    ∷ i Jumpr None (6 ∷ []) (pos 0) None ∷ [])
+    ∷ [])
     ∷ []
 
 abbrev run_00_memory : List (ℕ × ℕ)
 run_00_memory =
-    (0, 136) ∷ (4, 80) ∷ (8, 1) ∷ (12, 36) ∷ (16, 120) ∷ (20, 40) ∷ (24, 20) ∷ (28, 0) ∷ (32, 2147483647) ∷ (36, 88) ∷ (40, 144) ∷ (44,
-    44) ∷ []
+    (0, 136) ∷ (4, 80) ∷ (8, 1) ∷ (12, 36) ∷ (16, 120) ∷ (20, 40) ∷ (24, 20) ∷ (28, 0) ∷ (32, 2147483647) ∷ (36, 88) ∷ (40, 144) ∷ (
+      44,
+      44,
+    ) ∷ []
 
 abbrev run_00_start : Start
 run_00_start = record {
@@ -59,8 +53,8 @@ run_00_start = record {
   memory = run_00_memory;
   replies =
       reply 20 ([]) ((0 ∷ 1041415184 ∷ 1614225857 ∷ 1302973974 ∷ 141287893 ∷ 4046780527 ∷ 3388284539 ∷ 3236814298 ∷ 3703430359 ∷ 4222100429 ∷
-        3865470124 ∷ 3630869538 ∷ 3325168193 ∷ 3539048529 ∷ 134061787 ∷ 852209017 ∷ []) ++ replicate 12 0 ++ (1891146472 ∷ 0 ∷ 0 ∷
-        2785943476 ∷ []) ++ replicate 4 0)
+      3865470124 ∷ 3630869538 ∷ 3325168193 ∷ 3539048529 ∷ 134061787 ∷ 852209017 ∷ []) ++ replicate 12 0 ++ (1891146472 ∷ 0 ∷ 0 ∷
+      2785943476 ∷ []) ++ replicate 4 0)
       ∷ reply 120 ([]) (replicate 36 0) ∷ [];
   well = refl;
 }
@@ -72,26 +66,26 @@ run_00 = refl
 abbrev run_01_blocks : List CodeBlock
 run_01_blocks =
     block (codes "l0") (
-      packet (i Nop None ([]) (pos 0) None ∷ [])
-      ∷
-      packet (i Mpyi (r 6) (31 ∷ 6 ∷ []) (pos 0) None ∷ [])
-      ∷
-      packet (i Addi (r 1) (6 ∷ []) (pos 7) None
-      ∷ i Enter None ([]) (negsuc 15) None ∷ [])
-      ∷
-      packet (i Spill None (31 ∷ []) (pos 12) None
-      ∷ i JumpIfNot None (32 ∷ []) (pos 0) (named (codes "l1")) ∷ [])
-      ∷ [])
+    packet (i Nop None ([]) (pos 0) None ∷ [])
+    ∷
+    packet (i Mpyi (r 6) (31 ∷ 6 ∷ []) (pos 0) None ∷ [])
+    ∷
+    packet (i Addi (r 1) (6 ∷ []) (pos 7) None
+    ∷ i Enter None ([]) (negsuc 15) None ∷ [])
+    ∷
+    packet (i Spill None (31 ∷ []) (pos 12) None
+    ∷ i JumpIfNot None (32 ∷ []) (pos 0) (named (codes "l1")) ∷ [])
+    ∷ [])
     ∷
     block (codes "l1") (
-      packet (i Nop None ([]) (pos 0) None ∷ [])
-      ∷
-      packet (i Nop None ([]) (pos 0) None ∷ [])
-      ∷
-      packet (i Ori (r 6) (0 ∷ []) (pos 63) None ∷ [])
-      ∷
-      packet (i Jumpr None (16 ∷ []) (pos 0) None ∷ [])
-      ∷ [])
+    packet (i Nop None ([]) (pos 0) None ∷ [])
+    ∷
+    packet (i Nop None ([]) (pos 0) None ∷ [])
+    ∷
+    packet (i Ori (r 6) (0 ∷ []) (pos 63) None ∷ [])
+    ∷
+    packet (i Jumpr None (16 ∷ []) (pos 0) None ∷ [])
+    ∷ [])
     ∷ []
 
 abbrev run_01_memory : List (ℕ × ℕ)
@@ -108,8 +102,8 @@ run_01_start = record {
   replies =
       reply 72 ([]) (replicate 36 0)
       ∷ reply 1451455414 ([]) ((0 ∷ 1370870635 ∷ 2652104171 ∷ 2350778396 ∷ 4108885327 ∷ 2433616606 ∷ 637961498 ∷ 3003207012 ∷ 870819751 ∷ 1593411395 ∷
-        3733276605 ∷ 1926661251 ∷ 868694242 ∷ 1538632194 ∷ 264725656 ∷ 1528982201 ∷ []) ++ replicate 12 0 ++ (471771180 ∷ 0 ∷ 0 ∷
-        4013612145 ∷ 1 ∷ 0 ∷ 0 ∷ 1 ∷ [])) ∷ [];
+      3733276605 ∷ 1926661251 ∷ 868694242 ∷ 1538632194 ∷ 264725656 ∷ 1528982201 ∷ []) ++ replicate 12 0 ++ (471771180 ∷ 0 ∷ 0 ∷
+      4013612145 ∷ 1 ∷ 0 ∷ 0 ∷ 1 ∷ [])) ∷ [];
   well = refl;
 }
 
@@ -120,43 +114,45 @@ run_01 = refl
 abbrev run_03_blocks : List CodeBlock
 run_03_blocks =
     block (codes "l0") (
-      packet (i Call None ([]) (pos 0) (named (codes "f")) ∷ [])
-      ∷
-      packet (i Add (r 2) (16 ∷ 6 ∷ []) (pos 0) None
-      ∷ i Mux (r 16) (32 ∷ 3 ∷ 2 ∷ []) (pos 0) None
-      ∷ i Add (r 1) (3 ∷ 3 ∷ []) (pos 0) None ∷ [])
-      ∷
-      packet (i Imm (r 1) ([]) (pos 70) None ∷ [])
-      ∷
-      packet (i Nop None ([]) (pos 0) None ∷ [])
-      ∷ [])
+    packet (i Call None ([]) (pos 0) (named (codes "f")) ∷ [])
+    ∷
+    packet (i Add (r 2) (16 ∷ 6 ∷ []) (pos 0) None
+    ∷ i Mux (r 16) (32 ∷ 3 ∷ 2 ∷ []) (pos 0) None
+    ∷ i Add (r 1) (3 ∷ 3 ∷ []) (pos 0) None ∷ [])
+    ∷
+    packet (i Imm (r 1) ([]) (pos 70) None ∷ [])
+    ∷
+    packet (i Nop None ([]) (pos 0) None ∷ [])
+    ∷ [])
     ∷
     block (codes "l1") (
-      packet (i Mpyi (r 16) (3 ∷ 1 ∷ []) (pos 0) None
-      ∷ i CmpGtu (r 32) (6 ∷ 3 ∷ []) (pos 0) None
-      ∷ i R2P (r 33) (0 ∷ []) (pos 0) None ∷ [])
-      ∷
-      packet (i JumpIfNot None (33 ∷ []) (pos 0) (named (codes "l1")) ∷ [])
-      ∷ [])
+    packet (i Mpyi (r 16) (3 ∷ 1 ∷ []) (pos 0) None
+    ∷ i CmpGtu (r 32) (6 ∷ 3 ∷ []) (pos 0) None
+    ∷ i R2P (r 33) (0 ∷ []) (pos 0) None ∷ [])
+    ∷
+    packet (i JumpIfNot None (33 ∷ []) (pos 0) (named (codes "l1")) ∷ [])
+    ∷ [])
     ∷
     block (codes "l2") (
-      packet (i Or (r 3) (31 ∷ 1 ∷ []) (pos 0) None
-      ∷ i Mpyi (r 1) (6 ∷ 31 ∷ []) (pos 0) None ∷ [])
-      ∷
-      packet (i Or (r 31) (3 ∷ 31 ∷ []) (pos 0) None ∷ [])
-      ∷
-      packet (i Nop None ([]) (pos 0) None ∷ [])
-      ∷
-      packet (i Store None (16 ∷ 31 ∷ []) (pos 92) None
-      ∷ i Mux (r 2) (32 ∷ 2 ∷ 3 ∷ []) (pos 0) None
-      ∷ i Jumpr None (2 ∷ []) (pos 0) None ∷ [])
-      ∷ [])
+    packet (i Or (r 3) (31 ∷ 1 ∷ []) (pos 0) None
+    ∷ i Mpyi (r 1) (6 ∷ 31 ∷ []) (pos 0) None ∷ [])
+    ∷
+    packet (i Or (r 31) (3 ∷ 31 ∷ []) (pos 0) None ∷ [])
+    ∷
+    packet (i Nop None ([]) (pos 0) None ∷ [])
+    ∷
+    packet (i Store None (16 ∷ 31 ∷ []) (pos 92) None
+    ∷ i Mux (r 2) (32 ∷ 2 ∷ 3 ∷ []) (pos 0) None
+    ∷ i Jumpr None (2 ∷ []) (pos 0) None ∷ [])
+    ∷ [])
     ∷ []
 
 abbrev run_03_memory : List (ℕ × ℕ)
 run_03_memory =
-    (0, 132) ∷ (4, 2) ∷ (12, 84) ∷ (24, 2147483647) ∷ (40, 1) ∷ (44, 156) ∷ (48, 96) ∷ (52, 132) ∷ (60, 64) ∷ (64, 160) ∷ (68, 0) ∷ (72,
-    68) ∷ []
+    (0, 132) ∷ (4, 2) ∷ (12, 84) ∷ (24, 2147483647) ∷ (40, 1) ∷ (44, 156) ∷ (48, 96) ∷ (52, 132) ∷ (60, 64) ∷ (64, 160) ∷ (68, 0) ∷ (
+      72,
+      68,
+    ) ∷ []
 
 abbrev run_03_start : Start
 run_03_start = record {
@@ -166,11 +162,11 @@ run_03_start = record {
   memory = run_03_memory;
   replies =
       reply 0 ([]) ((0 ∷ 1838472404 ∷ 3585311712 ∷ 4011113788 ∷ 1052582232 ∷ 773819770 ∷ 1461711783 ∷ 1260178197 ∷ 1849595721 ∷ 853272243 ∷
-        249091299 ∷ 4152824017 ∷ 3496122787 ∷ 1238469330 ∷ 1738095069 ∷ 3259473504 ∷ []) ++ replicate 12 0 ++ (3540966945 ∷ 0 ∷ 0 ∷
-        1629038375 ∷ 0 ∷ 1 ∷ 1 ∷ 1 ∷ []))
+      249091299 ∷ 4152824017 ∷ 3496122787 ∷ 1238469330 ∷ 1738095069 ∷ 3259473504 ∷ []) ++ replicate 12 0 ++ (3540966945 ∷ 0 ∷ 0 ∷
+      1629038375 ∷ 0 ∷ 1 ∷ 1 ∷ 1 ∷ []))
       ∷ reply 152 ([]) ((0 ∷ 3670130883 ∷ 3299152588 ∷ 301785432 ∷ 85939736 ∷ 1473914041 ∷ 2540888424 ∷ 639139008 ∷ 1987821668 ∷ 3907060489 ∷ 1324929597
-        ∷ 2601499813 ∷ 961147310 ∷ 2350090851 ∷ 2385657829 ∷ 1051014541 ∷ []) ++ replicate 12 0 ++ (3480173221 ∷ 0 ∷ 0 ∷ 2301363022 ∷ 1
-        ∷ 0 ∷ 0 ∷ 1 ∷ [])) ∷ [];
+      ∷ 2601499813 ∷ 961147310 ∷ 2350090851 ∷ 2385657829 ∷ 1051014541 ∷ []) ++ replicate 12 0 ++ (3480173221 ∷ 0 ∷ 0 ∷ 2301363022 ∷ 1
+      ∷ 0 ∷ 0 ∷ 1 ∷ [])) ∷ [];
   well = refl;
 }
 
@@ -181,19 +177,21 @@ run_03 = refl
 abbrev run_07_blocks : List CodeBlock
 run_07_blocks =
     block (codes "l0") (
-      packet (i Call None ([]) (pos 0) (named (codes "f"))
-      ∷ i Leave None ([]) (pos 8) None ∷ [])
-      ∷
-      packet (i Addi (r 1) (16 ∷ []) (pos 17) None
-      ∷ i Enter None ([]) (negsuc 7) None
-      ∷ i Jumpr None (16 ∷ []) (pos 0) None ∷ [])
-      ∷ [])
+    packet (i Call None ([]) (pos 0) (named (codes "f"))
+    ∷ i Leave None ([]) (pos 8) None ∷ [])
+    ∷
+    packet (i Addi (r 1) (16 ∷ []) (pos 17) None
+    ∷ i Enter None ([]) (negsuc 7) None
+    ∷ i Jumpr None (16 ∷ []) (pos 0) None ∷ [])
+    ∷ [])
     ∷ []
 
 abbrev run_07_memory : List (ℕ × ℕ)
 run_07_memory =
-    (0, 92) ∷ (4, 72) ∷ (8, 76) ∷ (12, 144) ∷ (16, 156) ∷ (24, 52) ∷ (28, 92) ∷ (32, 116) ∷ (36, 20) ∷ (40, 112) ∷ (44, 164) ∷ (48,
-    2147483648) ∷ []
+    (0, 92) ∷ (4, 72) ∷ (8, 76) ∷ (12, 144) ∷ (16, 156) ∷ (24, 52) ∷ (28, 92) ∷ (32, 116) ∷ (36, 20) ∷ (40, 112) ∷ (44, 164) ∷ (
+      48,
+      2147483648,
+    ) ∷ []
 
 abbrev run_07_start : Start
 run_07_start = record {
@@ -213,45 +211,45 @@ run_07 = refl
 abbrev run_10_blocks : List CodeBlock
 run_10_blocks =
     block (codes "l0") (
-      packet (i Spill None (3 ∷ []) (pos 8) None
-      ∷ i JumpIf None (33 ∷ []) (pos 0) (named (codes "l1")) ∷ [])
-      ∷ [])
+    packet (i Spill None (3 ∷ []) (pos 8) None
+    ∷ i JumpIf None (33 ∷ []) (pos 0) (named (codes "l1")) ∷ [])
+    ∷ [])
     ∷
     block (codes "l1") (
-      packet (i CmpGtu (r 32) (16 ∷ 6 ∷ []) (pos 0) None
-      ∷ i CmpGti (r 33) (2 ∷ []) (pos 48) None
-      ∷ i P2R (r 3) (32 ∷ []) (pos 0) None ∷ [])
-      ∷
-      packet (i CmpEqi (r 32) (2 ∷ []) (pos 25) None
-      ∷ i CmpGtu (r 33) (31 ∷ 6 ∷ []) (pos 0) None
-      ∷ i Ori (r 0) (6 ∷ []) (pos 21) None ∷ [])
-      ∷
-      packet (i Mux (r 31) (32 ∷ 0 ∷ 6 ∷ []) (pos 0) None ∷ [])
-      ∷ [])
+    packet (i CmpGtu (r 32) (16 ∷ 6 ∷ []) (pos 0) None
+    ∷ i CmpGti (r 33) (2 ∷ []) (pos 48) None
+    ∷ i P2R (r 3) (32 ∷ []) (pos 0) None ∷ [])
+    ∷
+    packet (i CmpEqi (r 32) (2 ∷ []) (pos 25) None
+    ∷ i CmpGtu (r 33) (31 ∷ 6 ∷ []) (pos 0) None
+    ∷ i Ori (r 0) (6 ∷ []) (pos 21) None ∷ [])
+    ∷
+    packet (i Mux (r 31) (32 ∷ 0 ∷ 6 ∷ []) (pos 0) None ∷ [])
+    ∷ [])
     ∷
     block (codes "l2") (
-      packet (i Add (r 6) (1 ∷ 1 ∷ []) (pos 0) None
-      ∷ i And (r 16) (0 ∷ 31 ∷ []) (pos 0) None ∷ [])
-      ∷
-      packet (i Nop None ([]) (pos 0) None ∷ [])
-      ∷
-      packet (i Store None (6 ∷ 0 ∷ []) (pos 64) None
-      ∷ i Jumpr None (6 ∷ []) (pos 0) None ∷ [])
-      ∷ [])
+    packet (i Add (r 6) (1 ∷ 1 ∷ []) (pos 0) None
+    ∷ i And (r 16) (0 ∷ 31 ∷ []) (pos 0) None ∷ [])
+    ∷
+    packet (i Nop None ([]) (pos 0) None ∷ [])
+    ∷
+    packet (i Store None (6 ∷ 0 ∷ []) (pos 64) None
+    ∷ i Jumpr None (6 ∷ []) (pos 0) None ∷ [])
+    ∷ [])
     ∷
     block (codes "l3") (
-      packet (i Load (r 6) (2 ∷ []) (pos 12) None
-      ∷ i And (r 0) (6 ∷ 31 ∷ []) (pos 0) None ∷ [])
-      ∷
-      packet (i CmpEqi (r 32) (6 ∷ []) (pos 2) None
-      ∷ i Lsr (r 3) (0 ∷ []) (pos 26) None ∷ [])
-      ∷
-      packet (i Addi (r 16) (31 ∷ []) (pos 70) None ∷ [])
-      ∷
-      packet (i CmpEqi (r 33) (2 ∷ []) (pos 19) None
-      ∷ i Or (r 31) (0 ∷ 6 ∷ []) (pos 0) None
-      ∷ i Jumpr None (0 ∷ []) (pos 0) None ∷ [])
-      ∷ [])
+    packet (i Load (r 6) (2 ∷ []) (pos 12) None
+    ∷ i And (r 0) (6 ∷ 31 ∷ []) (pos 0) None ∷ [])
+    ∷
+    packet (i CmpEqi (r 32) (6 ∷ []) (pos 2) None
+    ∷ i Lsr (r 3) (0 ∷ []) (pos 26) None ∷ [])
+    ∷
+    packet (i Addi (r 16) (31 ∷ []) (pos 70) None ∷ [])
+    ∷
+    packet (i CmpEqi (r 33) (2 ∷ []) (pos 19) None
+    ∷ i Or (r 31) (0 ∷ 6 ∷ []) (pos 0) None
+    ∷ i Jumpr None (0 ∷ []) (pos 0) None ∷ [])
+    ∷ [])
     ∷ []
 
 abbrev run_10_memory : List (ℕ × ℕ)
@@ -267,11 +265,11 @@ run_10_start = record {
   memory = run_10_memory;
   replies =
       reply 108 ([]) ((0 ∷ 404977710 ∷ 1223574633 ∷ 1939274948 ∷ 3825190025 ∷ 2510706526 ∷ 1765277041 ∷ 4020994072 ∷ 227859508 ∷ 141815543 ∷
-        1115071980 ∷ 2003785583 ∷ 2697363211 ∷ 1124695301 ∷ 733112390 ∷ 672633049 ∷ []) ++ replicate 12 0 ++ (1658286733 ∷ 0 ∷ 0 ∷
-        1641033613 ∷ 1 ∷ 0 ∷ 0 ∷ 1 ∷ []))
+      1115071980 ∷ 2003785583 ∷ 2697363211 ∷ 1124695301 ∷ 733112390 ∷ 672633049 ∷ []) ++ replicate 12 0 ++ (1658286733 ∷ 0 ∷ 0 ∷
+      1641033613 ∷ 1 ∷ 0 ∷ 0 ∷ 1 ∷ []))
       ∷ reply 28 ([]) ((0 ∷ 755998902 ∷ 1779585904 ∷ 713201008 ∷ 2040360670 ∷ 1049277814 ∷ 2136171197 ∷ 3664876018 ∷ 1757995950 ∷ 3979041065 ∷
-        4063739392 ∷ 1229427107 ∷ 2705267833 ∷ 2627278789 ∷ 2068058577 ∷ 1845785625 ∷ []) ++ replicate 12 0 ++ (2825819052 ∷ 0 ∷ 0 ∷
-        2678442288 ∷ 1 ∷ 0 ∷ 1 ∷ 0 ∷ [])) ∷ [];
+      4063739392 ∷ 1229427107 ∷ 2705267833 ∷ 2627278789 ∷ 2068058577 ∷ 1845785625 ∷ []) ++ replicate 12 0 ++ (2825819052 ∷ 0 ∷ 0 ∷
+      2678442288 ∷ 1 ∷ 0 ∷ 1 ∷ 0 ∷ [])) ∷ [];
   well = refl;
 }
 
@@ -282,19 +280,19 @@ run_10 = refl
 abbrev run_12_blocks : List CodeBlock
 run_12_blocks =
     block (codes "l0") (
-      packet (i Xor (r 0) (2 ∷ 3 ∷ []) (pos 0) None
-      ∷ i Lsr (r 16) (1 ∷ []) (pos 2) None ∷ [])
-      ∷
-      packet (i Call None ([]) (pos 0) (named (codes "f"))
-      ∷ i Lsr (r 6) (16 ∷ []) (pos 7) None ∷ [])
-      ∷
-      packet (i Lsr (r 3) (0 ∷ []) (pos 5) None ∷ [])
-      ∷
-      packet (i Spill None (2 ∷ []) (pos 0) None
-      ∷ i Addi (r 16) (1 ∷ []) (negsuc 6) None
-      ∷ i Asl (r 1) (1 ∷ []) (pos 21) None
-      ∷ i Jump None ([]) (pos 0) (named (codes "l0")) ∷ [])
-      ∷ [])
+    packet (i Xor (r 0) (2 ∷ 3 ∷ []) (pos 0) None
+    ∷ i Lsr (r 16) (1 ∷ []) (pos 2) None ∷ [])
+    ∷
+    packet (i Call None ([]) (pos 0) (named (codes "f"))
+    ∷ i Lsr (r 6) (16 ∷ []) (pos 7) None ∷ [])
+    ∷
+    packet (i Lsr (r 3) (0 ∷ []) (pos 5) None ∷ [])
+    ∷
+    packet (i Spill None (2 ∷ []) (pos 0) None
+    ∷ i Addi (r 16) (1 ∷ []) (negsuc 6) None
+    ∷ i Asl (r 1) (1 ∷ []) (pos 21) None
+    ∷ i Jump None ([]) (pos 0) (named (codes "l0")) ∷ [])
+    ∷ [])
     ∷ []
 
 abbrev run_12_memory : List (ℕ × ℕ)
@@ -310,8 +308,8 @@ run_12_start = record {
   memory = run_12_memory;
   replies =
       reply 24 ((0, 8) ∷ []) ((0 ∷ 782591959 ∷ 2608279602 ∷ 3629021003 ∷ 2401125549 ∷ 5867949 ∷ 31716746 ∷ 4177201252 ∷ 2882675257 ∷ 659072600 ∷ 3327224357 ∷
-        934411864 ∷ 688757176 ∷ 2360575346 ∷ 3668537610 ∷ 2471021043 ∷ []) ++ replicate 12 0 ++ (4067145052 ∷ 0 ∷ 0 ∷ 3435913162 ∷ 1 ∷ 1
-        ∷ 0 ∷ 1 ∷ []))
+      934411864 ∷ 688757176 ∷ 2360575346 ∷ 3668537610 ∷ 2471021043 ∷ []) ++ replicate 12 0 ++ (4067145052 ∷ 0 ∷ 0 ∷ 3435913162 ∷ 1 ∷ 1
+      ∷ 0 ∷ 1 ∷ []))
       ∷ reply 36 ([]) (replicate 36 0) ∷ [];
   well = refl;
 }
@@ -323,25 +321,25 @@ run_12 = refl
 abbrev run_14_blocks : List CodeBlock
 run_14_blocks =
     block (codes "l0") (
-      packet (i Add (r 6) (3 ∷ 2 ∷ []) (pos 0) None ∷ [])
-      ∷
-      packet (i Spill None (31 ∷ []) (pos 0) None ∷ [])
-      ∷
-      packet (i Nop None ([]) (pos 0) None ∷ [])
-      ∷
-      packet (i CmpEqi (r 33) (2 ∷ []) (pos 22) None ∷ [])
-      ∷ [])
+    packet (i Add (r 6) (3 ∷ 2 ∷ []) (pos 0) None ∷ [])
+    ∷
+    packet (i Spill None (31 ∷ []) (pos 0) None ∷ [])
+    ∷
+    packet (i Nop None ([]) (pos 0) None ∷ [])
+    ∷
+    packet (i CmpEqi (r 33) (2 ∷ []) (pos 22) None ∷ [])
+    ∷ [])
     ∷
     block (codes "l1") (
-      packet (i Lsr (r 1) (0 ∷ []) (pos 17) None
-      ∷ i P2R (r 31) (32 ∷ []) (pos 0) None ∷ [])
-      ∷
-      packet (i P2R (r 31) (33 ∷ []) (pos 0) None
-      ∷ i Addi (r 6) (16 ∷ []) (pos 4) None ∷ [])
-      ∷
-      packet (i CmpGti (r 33) (3 ∷ []) (pos 55) None
-      ∷ i Jumpr None (6 ∷ []) (pos 0) None ∷ [])
-      ∷ [])
+    packet (i Lsr (r 1) (0 ∷ []) (pos 17) None
+    ∷ i P2R (r 31) (32 ∷ []) (pos 0) None ∷ [])
+    ∷
+    packet (i P2R (r 31) (33 ∷ []) (pos 0) None
+    ∷ i Addi (r 6) (16 ∷ []) (pos 4) None ∷ [])
+    ∷
+    packet (i CmpGti (r 33) (3 ∷ []) (pos 55) None
+    ∷ i Jumpr None (6 ∷ []) (pos 0) None ∷ [])
+    ∷ [])
     ∷ []
 
 abbrev run_14_memory : List (ℕ × ℕ)
@@ -357,8 +355,8 @@ run_14_start = record {
   memory = run_14_memory;
   replies =
       reply 949413588 ((52, 2) ∷ []) ((0 ∷ 3850648970 ∷ 2900368627 ∷ 1734050093 ∷ 4074429719 ∷ 3366859696 ∷ 4074433973 ∷ 849973087 ∷ 1186891739 ∷ 3572498118 ∷
-        3504999996 ∷ 2043001479 ∷ 1551294411 ∷ 1060969471 ∷ 1554788253 ∷ 3389593978 ∷ []) ++ replicate 12 0 ++ (1741070801 ∷ 0 ∷ 0 ∷
-        3245913310 ∷ 0 ∷ 0 ∷ 1 ∷ 1 ∷ [])) ∷ [];
+      3504999996 ∷ 2043001479 ∷ 1551294411 ∷ 1060969471 ∷ 1554788253 ∷ 3389593978 ∷ []) ++ replicate 12 0 ++ (1741070801 ∷ 0 ∷ 0 ∷
+      3245913310 ∷ 0 ∷ 0 ∷ 1 ∷ 1 ∷ [])) ∷ [];
   well = refl;
 }
 

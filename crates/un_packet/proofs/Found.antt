@@ -1,5 +1,5 @@
 -- What a search in a list finds, and the next of a list.
-use Rattle.std.proofs.Common.{ℕ, zero, suc, ◌≡◌, ◌+◌, ◌<◌, Bool, true, false, List, [], ◌∷◌, length, drop, slice_get, Option, Some, None, All, find, refl, ap, sym, ◌∙◌, arith, add-one}
+use Rattle.std.proofs.Common.{ℕ, zero, suc, ◌≡◌, ◌+◌, Bool, true, false, List, [], ◌∷◌, drop, slice_get, Some, All, find, refl, ap, sym, ◌∙◌, arith, add-one}
 
 found_by : {X : Type 0} (p : X → Bool) (P : X → Type 0) (y : X) (ys : List X) (x : X) (b : Bool) → p y ≡ b → All P (y ∷ ys) → find p (y ∷ ys) ≡ Some x → (find p ys ≡ Some x → P x × (p x ≡ true)) → P x × (p x ≡ true)
 found_by p P y ys x true e h f more = let k = rw e at f in let same : y ≡ x = cc k in rw (← same) (h 0 y (omega arith), e)

@@ -12,7 +12,6 @@ use Rattle.un_packet.proofs.Assembly.{i, packet, block}
 one_only : {X : Type 0} (R : X → X → Type 0) (x : X) → AllPairs R (x ∷ [])
 one_only R x j k d lt short = absurd (omega arith)
 
-
 abbrev back : Instr
 back = i Jumpr None (31 ∷ []) (pos 0) None
 
@@ -101,13 +100,16 @@ kept_with_frame = record {
           idle = tt;
           one_writer = one_only (λ (a b : ℕ). a ≢ b) 29;
         },
-        (record {
-          some = lit< tt;
-          instrs = All-from_recursion (IsGoodInstr 256) (up ∷ back ∷ []) (good_up, (good_back 256, tt));
-          counts = record { instructions = lit≤ tt; mem = lit≤ tt; store = lit≤ tt; xc = lit≤ tt; control = lit≤ tt };
-          idle = tt;
-          one_writer = one_only (λ (a b : ℕ). a ≢ b) 29;
-        }, tt),
+        (
+          record {
+            some = lit< tt;
+            instrs = All-from_recursion (IsGoodInstr 256) (up ∷ back ∷ []) (good_up, (good_back 256, tt));
+            counts = record { instructions = lit≤ tt; mem = lit≤ tt; store = lit≤ tt; xc = lit≤ tt; control = lit≤ tt };
+            idle = tt;
+            one_writer = one_only (λ (a b : ℕ). a ≢ b) 29;
+          },
+          tt,
+        ),
       );
       transfers_last = λ k lt. early k lt;
       targets = All-from_recursion (λ (p : Packet). All (LeadsToOneOf (labels_of with_frame)) p.instrs) (entering ∷ leaving ∷ []) (

@@ -1,5 +1,5 @@
 -- What a packet leaves of the length of a memory.
-use Rattle.std.proofs.Common.{ℕ, suc, ◌≡◌, Bool, true, false, nat_eq, List, [], ◌∷◌, length, refl, ap, ◌∙◌}
+use Rattle.std.proofs.Common.{ℕ, suc, ◌≡◌, Bool, true, false, nat_eq, List, [], ◌∷◌, length, refl, ◌∙◌}
 use Rattle.std.specs.Prelude.{if◌then◌else◌}
 use Rattle.un_isa.specs.declared.op.Op.{Op}
 use Rattle.un_isa.specs.declared.op.Op.TheVariants.{Store}

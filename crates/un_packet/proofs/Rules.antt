@@ -1,13 +1,13 @@
 -- What the rules of code give to the machine.
-use Rattle.std.proofs.Common.{ℕ, ℤ, zero, suc, pos, ◌≡◌, ◌≢◌, ◌+◌, ◌<◌, ◌≤◌, Bool, true, false, List, [], ◌∷◌, length, map, get_or, slice_get, Option, Some, None, IsSomeAnd, All, find, refl, ap, sym, ◌∙◌, subst, arith, ◌^◌}
-use Rattle.std.specs.Prelude.{◌||◌, not, sum_by, unwrap_or, Contains, nat_eq, if◌then◌else◌}
+use Rattle.std.proofs.Common.{ℕ, ℤ, zero, suc, ◌≡◌, ◌+◌, ◌<◌, ◌≤◌, Bool, true, false, List, [], ◌∷◌, length, map, get_or, slice_get, Option, Some, None, IsSomeAnd, All, find, refl, ap, subst, arith, ◌^◌}
+use Rattle.std.specs.Prelude.{◌||◌, sum_by, unwrap_or, Contains, nat_eq, if◌then◌else◌}
 use Rattle.std.specs.Bool.{OnTrue}
-use Rattle.std.specs.List.{list_any, position_or_len}
+use Rattle.std.specs.List.{list_any}
 use Rattle.std.specs.Cmp.Lexicographic.{pointwise}
 use Rattle.std.proofs.Math.Logic.{∥∥₁_elim}
 use Rattle.std.proofs.Math.Bridge.{le_prop}
 use Rattle.std.proofs.Math.Dec.{T_prop}
-use Rattle.std.proofs.lemmas.Bool.{OnTrue_at, and_parts}
+use Rattle.std.proofs.lemmas.Bool.{OnTrue_at}
 use Rattle.std.proofs.lemmas.Bool.Decides.{nat_tests}
 use Rattle.std.proofs.lemmas.List.{length-map}
 use Rattle.std.proofs.lemmas.List.Sums.{get_or-le-sum_by}
@@ -31,7 +31,7 @@ use Rattle.un_packet.specs.CodeRules.{KeepsRules, IsGoodCodeBlock, IsGoodPacket,
 use Rattle.un_packet.specs.Machine.{LeadsTo}
 use Rattle.un_packet.specs.Run.{packets_run, then_packets, label_place}
 use Rattle.un_packet.specs.Runnable.{IsRunnable, AreRunnable}
-use Rattle.un_packet.specs.Step.{PacketState, PacketStep, Went, Jumped, Stopped, Trapped, traps, packet_step, with_call, leads, goes_on, jumps, jumps_by, is_call, is_return, after, answered, issue_cycle, record_of}
+use Rattle.un_packet.specs.Step.{PacketState, PacketStep, Went, Jumped, Stopped, Trapped, traps, packet_step, with_call, leads, jumps, jumps_by, is_call, is_return, after, answered, issue_cycle, record_of}
 
 pub at_all : {X : Type 0} (P : X → Type 0) (xs : List X) (k : ℕ) (x : X) → All P xs → slice_get xs k ≡ Some x → P x
 at_all P [] k x h e = absurd (cc e)

@@ -14,7 +14,7 @@ use Rattle.un_packet.specs.declared.machine.Stepped.TheVariants.{Left, Ended}
 use Rattle.un_packet.specs.declared.machine.Stepped.TheVariants
 use Rattle.un_packet.specs.Step.{PacketState, PacketStep, Went, Jumped, Stopped, packet_step}
 use Rattle.un_packet.specs.Run.{PacketRun, then_packets, packets_run, leave, through, enter}
-use Rattle.un_packet.specs.Ends.{IsEnd, EndsBy, EndsRun}
+use Rattle.un_packet.specs.Ends.{EndsBy, EndsRun}
 use Rattle.un_packet.specs.CodeRules.{KeepsRules}
 use Rattle.un_packet.specs.Machine.{MachineState, moved, GoesOn, WhereItGoesOn, LeadsTo, IsInCode, IsPlace}
 use Rattle.un_packet.proofs.Rules.{few_packets, stays}

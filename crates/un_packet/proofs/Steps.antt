@@ -1,7 +1,6 @@
 -- How a step of the machine is told.
 use Rattle.std.proofs.Common.{ℕ, zero, suc, ◌≡◌, ◌+◌, ◌<◌, ◌≤◌, List, [], ◌∷◌, length, get_or, slice_get, Option, Some, None, IsSomeAnd, refl, ap, sym, ◌∙◌, subst, arith}
 use Rattle.std.proofs.lemmas.Option.{slice_get_past, slice_get_within}
-use Rattle.un_base.specs.declared.ids.BlockId.{BlockId}
 use Rattle.un_isa.specs.declared.outcome.End.{End}
 use Rattle.un_packet.specs.declared.code.Packet.{Packet}
 use Rattle.un_packet.specs.declared.code.CodeBlock.{CodeBlock}
@@ -10,7 +9,7 @@ use Rattle.un_packet.specs.declared.machine.Stepped.{Stepped}
 use Rattle.un_packet.specs.declared.machine.Stepped.TheVariants.{Left, Ended}
 use Rattle.un_packet.specs.declared.machine.Stepped.TheVariants
 use Rattle.un_packet.specs.Ends.{EndsBy}
-use Rattle.un_packet.specs.Step.{PacketState, PacketStep, Went, Jumped, Stopped, packet_step}
+use Rattle.un_packet.specs.Step.{PacketState, PacketStep, Went, Jumped, packet_step}
 use Rattle.un_packet.specs.Run.{label_place}
 use Rattle.un_packet.specs.Machine.{MachineState, moved, halted, IsInCode, IsPlace}
 use Rattle.un_packet.specs.Outcomes.{IsPacketStep, IsStep, IsNext}

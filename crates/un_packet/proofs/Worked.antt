@@ -1,38 +1,30 @@
 -- Runs of code that were worked out by hand.
-use Rattle.std.specs.Prelude.{ℕ, ℤ, pos, negsuc, ◌≡◌, List, [], ◌∷◌, ◌++◌, Option, Some, None, codes, map, replicate}
+use Rattle.std.specs.Prelude.{ℕ, pos, negsuc, ◌≡◌, List, [], ◌∷◌, ◌++◌, None, codes, replicate}
 use Rattle.std.proofs.Common.{refl}
-use Rattle.un_isa.specs.declared.op.Op.{Op}
-use Rattle.un_isa.specs.declared.op.Op.TheVariants.{Imm, Mov, Add, Sub, And, Or, Xor, Addi, Andi, Ori, Mux, CmpEq, CmpGt, CmpGtu, CmpEqi, CmpGti, Mpyi, Asl, Asr, Lsr, Load, Store, Call, Jump, JumpIf, JumpIfNot, Jumpr, Spill, Reload, P2R, R2P, Enter, Leave, Nop}
-use Rattle.un_isa.specs.declared.reg.Reg.{Reg}
-use Rattle.un_isa.specs.declared.instr.Instr.{Instr}
-use Rattle.un_isa.specs.declared.outcome.CallRecord.{CallRecord}
-use Rattle.un_isa.specs.declared.start.Reply.{Reply}
+use Rattle.un_isa.specs.declared.op.Op.TheVariants.{Imm, Mov, Add, Addi, CmpEq, CmpGti, Mpyi, Load, Store, Call, JumpIf, Jumpr, Spill, Reload, P2R, Enter, Leave, Nop}
 use Rattle.un_isa.specs.declared.start.Start.{Start}
-use Rattle.un_isa.specs.Hexagon.{HEXAGON}
-use Rattle.un_packet.specs.declared.code.Packet.{Packet}
 use Rattle.un_packet.specs.declared.code.CodeBlock.{CodeBlock}
-use Rattle.un_packet.specs.Step.{PacketStop, Returned, Trapped, Waiting, Running}
-use Rattle.un_packet.specs.Run.{PacketRun, enter, first_state}
+use Rattle.un_packet.specs.Step.{Returned, Trapped, Waiting, Running}
 use Rattle.un_packet.proofs.Assembly.{r, named, i, packet, block, record_of, reply, told, run_of}
 
 -- Two registers are exchanged in one packet; the call sees both, and the link register comes back.
 abbrev exchange_blocks : List CodeBlock
 exchange_blocks =
     block (codes "e") (
-      packet (i Enter None ([]) (negsuc 7) None
-      ∷ i Mov (r 0) (1 ∷ []) (pos 0) None
-      ∷ i Mov (r 1) (0 ∷ []) (pos 0) None ∷ [])
-      ∷
-      packet (i Spill None (16 ∷ []) (pos 0) None
-      ∷ i Mov (r 16) (31 ∷ []) (pos 0) None
-      ∷ i Call None (0 ∷ 1 ∷ []) (pos 0) (named (codes "h")) ∷ [])
-      ∷
-      packet (i Leave None ([]) (pos 8) None
-      ∷ i Mov (r 31) (16 ∷ []) (pos 0) None
-      ∷ i Reload (r 16) ([]) (pos 0) None ∷ [])
-      ∷
-      packet (i Jumpr None (31 ∷ []) (pos 0) None ∷ [])
-      ∷ [])
+    packet (i Enter None ([]) (negsuc 7) None
+    ∷ i Mov (r 0) (1 ∷ []) (pos 0) None
+    ∷ i Mov (r 1) (0 ∷ []) (pos 0) None ∷ [])
+    ∷
+    packet (i Spill None (16 ∷ []) (pos 0) None
+    ∷ i Mov (r 16) (31 ∷ []) (pos 0) None
+    ∷ i Call None (0 ∷ 1 ∷ []) (pos 0) (named (codes "h")) ∷ [])
+    ∷
+    packet (i Leave None ([]) (pos 8) None
+    ∷ i Mov (r 31) (16 ∷ []) (pos 0) None
+    ∷ i Reload (r 16) ([]) (pos 0) None ∷ [])
+    ∷
+    packet (i Jumpr None (31 ∷ []) (pos 0) None ∷ [])
+    ∷ [])
     ∷ []
 
 abbrev exchange_memory : List (ℕ × ℕ)
@@ -56,30 +48,30 @@ exchange = refl
 abbrev dot_product_blocks : List CodeBlock
 dot_product_blocks =
     block (codes "entry") (
-      packet (i Imm (r 3) ([]) (pos 0) None ∷ [])
-      ∷ [])
+    packet (i Imm (r 3) ([]) (pos 0) None ∷ [])
+    ∷ [])
     ∷
     block (codes "loop") (
-      packet (i Load (r 4) (0 ∷ []) (pos 0) None
-      ∷ i Load (r 5) (1 ∷ []) (pos 0) None
-      ∷ i Addi (r 0) (0 ∷ []) (pos 4) None
-      ∷ i Addi (r 1) (1 ∷ []) (pos 4) None ∷ [])
-      ∷
-      packet (i Addi (r 2) (2 ∷ []) (negsuc 0) None ∷ [])
-      ∷
-      packet (i Mpyi (r 4) (4 ∷ 5 ∷ []) (pos 0) None
-      ∷ i CmpGti (r 32) (2 ∷ []) (pos 0) None ∷ [])
-      ∷
-      packet (i Nop None ([]) (pos 0) None ∷ [])
-      ∷
-      packet (i Add (r 3) (3 ∷ 4 ∷ []) (pos 0) None
-      ∷ i JumpIf None (32 ∷ []) (pos 0) (named (codes "loop")) ∷ [])
-      ∷ [])
+    packet (i Load (r 4) (0 ∷ []) (pos 0) None
+    ∷ i Load (r 5) (1 ∷ []) (pos 0) None
+    ∷ i Addi (r 0) (0 ∷ []) (pos 4) None
+    ∷ i Addi (r 1) (1 ∷ []) (pos 4) None ∷ [])
+    ∷
+    packet (i Addi (r 2) (2 ∷ []) (negsuc 0) None ∷ [])
+    ∷
+    packet (i Mpyi (r 4) (4 ∷ 5 ∷ []) (pos 0) None
+    ∷ i CmpGti (r 32) (2 ∷ []) (pos 0) None ∷ [])
+    ∷
+    packet (i Nop None ([]) (pos 0) None ∷ [])
+    ∷
+    packet (i Add (r 3) (3 ∷ 4 ∷ []) (pos 0) None
+    ∷ i JumpIf None (32 ∷ []) (pos 0) (named (codes "loop")) ∷ [])
+    ∷ [])
     ∷
     block (codes "exit") (
-      packet (i Mov (r 0) (3 ∷ []) (pos 0) None
-      ∷ i Jumpr None (31 ∷ []) (pos 0) None ∷ [])
-      ∷ [])
+    packet (i Mov (r 0) (3 ∷ []) (pos 0) None
+    ∷ i Jumpr None (31 ∷ []) (pos 0) None ∷ [])
+    ∷ [])
     ∷ []
 
 abbrev dot_product_memory : List (ℕ × ℕ)
@@ -103,30 +95,30 @@ dot_product = refl
 abbrev dot_product_cut_blocks : List CodeBlock
 dot_product_cut_blocks =
     block (codes "entry") (
-      packet (i Imm (r 3) ([]) (pos 0) None ∷ [])
-      ∷ [])
+    packet (i Imm (r 3) ([]) (pos 0) None ∷ [])
+    ∷ [])
     ∷
     block (codes "loop") (
-      packet (i Load (r 4) (0 ∷ []) (pos 0) None
-      ∷ i Load (r 5) (1 ∷ []) (pos 0) None
-      ∷ i Addi (r 0) (0 ∷ []) (pos 4) None
-      ∷ i Addi (r 1) (1 ∷ []) (pos 4) None ∷ [])
-      ∷
-      packet (i Addi (r 2) (2 ∷ []) (negsuc 0) None ∷ [])
-      ∷
-      packet (i Mpyi (r 4) (4 ∷ 5 ∷ []) (pos 0) None
-      ∷ i CmpGti (r 32) (2 ∷ []) (pos 0) None ∷ [])
-      ∷
-      packet (i Nop None ([]) (pos 0) None ∷ [])
-      ∷
-      packet (i Add (r 3) (3 ∷ 4 ∷ []) (pos 0) None
-      ∷ i JumpIf None (32 ∷ []) (pos 0) (named (codes "loop")) ∷ [])
-      ∷ [])
+    packet (i Load (r 4) (0 ∷ []) (pos 0) None
+    ∷ i Load (r 5) (1 ∷ []) (pos 0) None
+    ∷ i Addi (r 0) (0 ∷ []) (pos 4) None
+    ∷ i Addi (r 1) (1 ∷ []) (pos 4) None ∷ [])
+    ∷
+    packet (i Addi (r 2) (2 ∷ []) (negsuc 0) None ∷ [])
+    ∷
+    packet (i Mpyi (r 4) (4 ∷ 5 ∷ []) (pos 0) None
+    ∷ i CmpGti (r 32) (2 ∷ []) (pos 0) None ∷ [])
+    ∷
+    packet (i Nop None ([]) (pos 0) None ∷ [])
+    ∷
+    packet (i Add (r 3) (3 ∷ 4 ∷ []) (pos 0) None
+    ∷ i JumpIf None (32 ∷ []) (pos 0) (named (codes "loop")) ∷ [])
+    ∷ [])
     ∷
     block (codes "exit") (
-      packet (i Mov (r 0) (3 ∷ []) (pos 0) None
-      ∷ i Jumpr None (31 ∷ []) (pos 0) None ∷ [])
-      ∷ [])
+    packet (i Mov (r 0) (3 ∷ []) (pos 0) None
+    ∷ i Jumpr None (31 ∷ []) (pos 0) None ∷ [])
+    ∷ [])
     ∷ []
 
 abbrev dot_product_cut_memory : List (ℕ × ℕ)
@@ -150,23 +142,23 @@ dot_product_cut = refl
 abbrev call_once_blocks : List CodeBlock
 call_once_blocks =
     block (codes "e") (
-      packet (i Enter None ([]) (negsuc 7) None ∷ [])
-      ∷
-      packet (i Spill None (16 ∷ []) (pos 0) None
-      ∷ i Mov (r 16) (31 ∷ []) (pos 0) None ∷ [])
-      ∷
-      packet (i Mov (r 17) (0 ∷ []) (pos 0) None
-      ∷ i Spill None (17 ∷ []) (pos 4) None
-      ∷ i Call None (0 ∷ []) (pos 0) (named (codes "h")) ∷ [])
-      ∷
-      packet (i Add (r 0) (0 ∷ 17 ∷ []) (pos 0) None
-      ∷ i Mov (r 31) (16 ∷ []) (pos 0) None
-      ∷ i Reload (r 16) ([]) (pos 0) None
-      ∷ i Reload (r 17) ([]) (pos 4) None ∷ [])
-      ∷
-      packet (i Leave None ([]) (pos 8) None
-      ∷ i Jumpr None (31 ∷ []) (pos 0) None ∷ [])
-      ∷ [])
+    packet (i Enter None ([]) (negsuc 7) None ∷ [])
+    ∷
+    packet (i Spill None (16 ∷ []) (pos 0) None
+    ∷ i Mov (r 16) (31 ∷ []) (pos 0) None ∷ [])
+    ∷
+    packet (i Mov (r 17) (0 ∷ []) (pos 0) None
+    ∷ i Spill None (17 ∷ []) (pos 4) None
+    ∷ i Call None (0 ∷ []) (pos 0) (named (codes "h")) ∷ [])
+    ∷
+    packet (i Add (r 0) (0 ∷ 17 ∷ []) (pos 0) None
+    ∷ i Mov (r 31) (16 ∷ []) (pos 0) None
+    ∷ i Reload (r 16) ([]) (pos 0) None
+    ∷ i Reload (r 17) ([]) (pos 4) None ∷ [])
+    ∷
+    packet (i Leave None ([]) (pos 8) None
+    ∷ i Jumpr None (31 ∷ []) (pos 0) None ∷ [])
+    ∷ [])
     ∷ []
 
 abbrev call_once_memory : List (ℕ × ℕ)
@@ -190,23 +182,23 @@ call_once = refl
 abbrev call_waits_blocks : List CodeBlock
 call_waits_blocks =
     block (codes "e") (
-      packet (i Enter None ([]) (negsuc 7) None ∷ [])
-      ∷
-      packet (i Spill None (16 ∷ []) (pos 0) None
-      ∷ i Mov (r 16) (31 ∷ []) (pos 0) None ∷ [])
-      ∷
-      packet (i Mov (r 17) (0 ∷ []) (pos 0) None
-      ∷ i Spill None (17 ∷ []) (pos 4) None
-      ∷ i Call None (0 ∷ []) (pos 0) (named (codes "h")) ∷ [])
-      ∷
-      packet (i Add (r 0) (0 ∷ 17 ∷ []) (pos 0) None
-      ∷ i Mov (r 31) (16 ∷ []) (pos 0) None
-      ∷ i Reload (r 16) ([]) (pos 0) None
-      ∷ i Reload (r 17) ([]) (pos 4) None ∷ [])
-      ∷
-      packet (i Leave None ([]) (pos 8) None
-      ∷ i Jumpr None (31 ∷ []) (pos 0) None ∷ [])
-      ∷ [])
+    packet (i Enter None ([]) (negsuc 7) None ∷ [])
+    ∷
+    packet (i Spill None (16 ∷ []) (pos 0) None
+    ∷ i Mov (r 16) (31 ∷ []) (pos 0) None ∷ [])
+    ∷
+    packet (i Mov (r 17) (0 ∷ []) (pos 0) None
+    ∷ i Spill None (17 ∷ []) (pos 4) None
+    ∷ i Call None (0 ∷ []) (pos 0) (named (codes "h")) ∷ [])
+    ∷
+    packet (i Add (r 0) (0 ∷ 17 ∷ []) (pos 0) None
+    ∷ i Mov (r 31) (16 ∷ []) (pos 0) None
+    ∷ i Reload (r 16) ([]) (pos 0) None
+    ∷ i Reload (r 17) ([]) (pos 4) None ∷ [])
+    ∷
+    packet (i Leave None ([]) (pos 8) None
+    ∷ i Jumpr None (31 ∷ []) (pos 0) None ∷ [])
+    ∷ [])
     ∷ []
 
 abbrev call_waits_memory : List (ℕ × ℕ)
@@ -230,11 +222,11 @@ call_waits = refl
 abbrev trapped_store_blocks : List CodeBlock
 trapped_store_blocks =
     block (codes "e") (
-      packet (i Store None (0 ∷ 2 ∷ []) (pos 0) None
-      ∷ i Load (r 3) (1 ∷ []) (pos 0) None ∷ [])
-      ∷
-      packet (i Jumpr None (31 ∷ []) (pos 0) None ∷ [])
-      ∷ [])
+    packet (i Store None (0 ∷ 2 ∷ []) (pos 0) None
+    ∷ i Load (r 3) (1 ∷ []) (pos 0) None ∷ [])
+    ∷
+    packet (i Jumpr None (31 ∷ []) (pos 0) None ∷ [])
+    ∷ [])
     ∷ []
 
 abbrev trapped_store_memory : List (ℕ × ℕ)
@@ -258,12 +250,12 @@ trapped_store = refl
 abbrev load_and_store_blocks : List CodeBlock
 load_and_store_blocks =
     block (codes "e") (
-      packet (i Load (r 3) (0 ∷ []) (pos 0) None
-      ∷ i Store None (0 ∷ 2 ∷ []) (pos 0) None ∷ [])
-      ∷
-      packet (i Mov (r 0) (3 ∷ []) (pos 0) None
-      ∷ i Jumpr None (31 ∷ []) (pos 0) None ∷ [])
-      ∷ [])
+    packet (i Load (r 3) (0 ∷ []) (pos 0) None
+    ∷ i Store None (0 ∷ 2 ∷ []) (pos 0) None ∷ [])
+    ∷
+    packet (i Mov (r 0) (3 ∷ []) (pos 0) None
+    ∷ i Jumpr None (31 ∷ []) (pos 0) None ∷ [])
+    ∷ [])
     ∷ []
 
 abbrev load_and_store_memory : List (ℕ × ℕ)
@@ -287,21 +279,21 @@ load_and_store = refl
 abbrev branch_by_old_blocks : List CodeBlock
 branch_by_old_blocks =
     block (codes "e") (
-      packet (i CmpEq (r 32) (0 ∷ 0 ∷ []) (pos 0) None
-      ∷ i JumpIf None (32 ∷ []) (pos 0) (named (codes "f")) ∷ [])
-      ∷ [])
+    packet (i CmpEq (r 32) (0 ∷ 0 ∷ []) (pos 0) None
+    ∷ i JumpIf None (32 ∷ []) (pos 0) (named (codes "f")) ∷ [])
+    ∷ [])
     ∷
     block (codes "g") (
-      packet (i P2R (r 1) (32 ∷ []) (pos 0) None ∷ [])
-      ∷
-      packet (i Mov (r 0) (1 ∷ []) (pos 0) None
-      ∷ i Jumpr None (31 ∷ []) (pos 0) None ∷ [])
-      ∷ [])
+    packet (i P2R (r 1) (32 ∷ []) (pos 0) None ∷ [])
+    ∷
+    packet (i Mov (r 0) (1 ∷ []) (pos 0) None
+    ∷ i Jumpr None (31 ∷ []) (pos 0) None ∷ [])
+    ∷ [])
     ∷
     block (codes "f") (
-      packet (i Imm (r 0) ([]) (pos 7) None
-      ∷ i Jumpr None (31 ∷ []) (pos 0) None ∷ [])
-      ∷ [])
+    packet (i Imm (r 0) ([]) (pos 7) None
+    ∷ i Jumpr None (31 ∷ []) (pos 0) None ∷ [])
+    ∷ [])
     ∷ []
 
 abbrev branch_by_old_memory : List (ℕ × ℕ)
@@ -325,12 +317,12 @@ branch_by_old = refl
 abbrev reply_writes_blocks : List CodeBlock
 reply_writes_blocks =
     block (codes "e") (
-      packet (i Call None (0 ∷ []) (pos 0) (named (codes "h")) ∷ [])
-      ∷
-      packet (i Add (r 0) (1 ∷ 16 ∷ []) (pos 0) None ∷ [])
-      ∷
-      packet (i Jumpr None (28 ∷ []) (pos 0) None ∷ [])
-      ∷ [])
+    packet (i Call None (0 ∷ []) (pos 0) (named (codes "h")) ∷ [])
+    ∷
+    packet (i Add (r 0) (1 ∷ 16 ∷ []) (pos 0) None ∷ [])
+    ∷
+    packet (i Jumpr None (28 ∷ []) (pos 0) None ∷ [])
+    ∷ [])
     ∷ []
 
 abbrev reply_writes_memory : List (ℕ × ℕ)

@@ -1,5 +1,5 @@
 -- What the machine asks of single instructions and of the room for its records.
-use Rattle.std.specs.Prelude.{ℕ, ◌≡◌, ◌≤◌, Bool, true, ◌||◌, List, [], Option, Some, None, All, length, vec_capacity}
+use Rattle.std.specs.Prelude.{ℕ, ◌≡◌, ◌≤◌, ◌||◌, List, [], All, length, vec_capacity}
 use Rattle.std.specs.Bool.{OnTrue}
 use Rattle.std.specs.List.{find}
 use Rattle.std.specs.Option.{option_to_list}

@@ -4,7 +4,6 @@ ghost use Rattle.std.specs.Prelude.{◌≡◌, ◌<◌, ◌≤◌, ◌+◌, ◌^
 ghost use Rattle.un_isa.specs.Fit.{IsFit};
 ghost use Rattle.un_isa.specs.declared.instr.Instr.{Instr};
 ghost use Rattle.un_isa.specs.declared.start.Reply.{Reply};
-
 ghost use Rattle.un_packet.specs.Passes.{IsPassed, led, HasSpare, UsesReplies};
 ghost use Rattle.un_packet.specs.Runnable.{AreRunnable, calls_in};
 ghost use Rattle.un_packet.specs.Step.{PacketState, after, answered, issue_cycle, is_return, leads, record_of, with_call, packet_step};

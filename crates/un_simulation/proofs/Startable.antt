@@ -1,6 +1,6 @@
 -- There is a start for each frame that code may have.
-use Rattle.std.proofs.Common.{ℕ, zero, suc, ◌≡◌, ◌<◌, ◌≤◌, ◌^◌, Bool, true, false, List, [], ◌∷◌, ◌++◌, length, replicate, All, refl, arith, lit<}
-use Rattle.std.specs.Prelude.{◌&&◌, nat_lt}
+use Rattle.std.proofs.Common.{ℕ, zero, suc, ◌≡◌, ◌≤◌, ◌^◌, true, List, [], ◌∷◌, ◌++◌, replicate, All, refl, arith}
+use Rattle.std.specs.Prelude.{nat_lt}
 use Rattle.std.specs.List.{list_all}
 use Rattle.std.proofs.lemmas.Bool.{and_parts}
 use Rattle.std.proofs.lemmas.Bool.Decides.{nat_tests}

@@ -1,4 +1,4 @@
-use Rattle.std.proofs.Common.{◌≡◌, ◌+◌, ◌<◌, ◌≤◌, Some, slice_get, ap, arith, length, refl, ◌∙◌}
+use Rattle.std.proofs.Common.{◌+◌, ◌≤◌, ap, arith, length, ◌∙◌}
 use Rattle.un_packet.specs.declared.code.CodeBlock.{CodeBlock}
 use Rattle.un_packet.proofs.Runs.{whole, gone, left, ended, finished, stays_in, place_small, at_start, counted}
 use Rattle.un_packet.proofs.run.run_block.Goals as goal

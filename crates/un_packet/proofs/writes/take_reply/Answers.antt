@@ -1,4 +1,4 @@
-use Rattle.std.proofs.Common.{◌<◌, arith}
+use Rattle.std.proofs.Common.{arith}
 use Rattle.un_packet.specs.Step.{replied}
 use Rattle.un_packet.proofs.Each.{is_each}
 use Rattle.un_packet.proofs.writes.take_reply.Goals as goal

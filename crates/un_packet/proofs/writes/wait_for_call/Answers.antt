@@ -1,4 +1,4 @@
-use Rattle.std.proofs.Common.{◌<◌, arith}
+use Rattle.std.proofs.Common.{arith}
 use Rattle.un_packet.specs.Step.{call_ready}
 use Rattle.un_packet.proofs.Each.{is_each}
 use Rattle.un_packet.proofs.writes.wait_for_call.Goals as goal

@@ -1,4 +1,4 @@
-use Rattle.std.proofs.Common.{◌≡◌, ℕ, ◌||◌, nat_eq, ap, ◌∙◌}
+use Rattle.std.proofs.Common.{ℕ, ◌||◌, nat_eq, ap, ◌∙◌}
 use Rattle.un_isa.specs.RegSets.{has}
 use Rattle.un_isa.proofs.RegisterBits.{inserted}
 use Rattle.un_isa.proofs.reg_set.RegSet.insert.Goals as goal

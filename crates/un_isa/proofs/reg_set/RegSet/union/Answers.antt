@@ -1,4 +1,4 @@
-use Rattle.std.proofs.Common.{◌≡◌, ℕ, refl, ◌∙◌}
+use Rattle.std.proofs.Common.{refl, ◌∙◌}
 use Rattle.un_isa.proofs.RegisterBits.{joined}
 use Rattle.un_isa.proofs.reg_set.RegSet.union.Goals as goal
 

@@ -1,4 +1,4 @@
-use Rattle.std.proofs.Common.{ℕ, ◌≡◌, ◌+◌, ◌<◌, ◌≤◌, ◌^◌, List, length, get_or, slice_get, Some, ap, sym, subst, refl, ◌∙◌, arith}
+use Rattle.std.proofs.Common.{◌≡◌, List, length, ap, sym, subst, refl, ◌∙◌, arith}
 use Rattle.std.proofs.lemmas.Option.{slice_get_within}
 use Rattle.un_isa.specs.declared.instr.Instr.{Instr}
 use Rattle.un_packet.specs.declared.code.Packet.{Packet}
@@ -72,8 +72,8 @@ returns-in-Went-clause-step c =
     let step = ap (λ (is : List Instr). packet_step old.table is old.state) (sym instrs) ∙ c.in-Went.ensures.passed in
     let all : c.as_slice-packets.result.now ≡ b.packets = c.as_slice-packets.ensures ∙ ap (λ (x : CodeBlock). x.packets) (sym c.index-blocks-block.is) in
     one_step code old c.go_on.new.self c.go_on.result b p at inside (
-      went_step code.blocks (length b.packets) old c.run_packet.new.self c.go_on.new.self c.go_on.result (packet_step old.table p.instrs old.state) step c.in-Went.ensures.stands
-      (subst (λ (ps : List Packet). IsNext (length ps) c.run_packet.new.self c.go_on.new.self c.go_on.result) all c.go_on.ensures))
+    went_step code.blocks (length b.packets) old c.run_packet.new.self c.go_on.new.self c.go_on.result (packet_step old.table p.instrs old.state) step c.in-Went.ensures.stands
+    (subst (λ (ps : List Packet). IsNext (length ps) c.run_packet.new.self c.go_on.new.self c.go_on.result) all c.go_on.ensures))
 
 pub returns-in-Jumped-clause-step : goal.returns-in-Jumped-clause-step
 returns-in-Jumped-clause-step c =
@@ -86,8 +86,8 @@ returns-in-Jumped-clause-step c =
     let instrs = c.as_slice.ensures ∙ ap (λ (x : Packet). x.instrs) (sym c.index-packets-place.is) in
     let step = ap (λ (is : List Instr). packet_step old.table is old.state) (sym instrs) ∙ c.in-Jumped.ensures.passed in
     one_step code old c.leave-in-Jumped.new.self c.leave-in-Jumped.result b p at inside (
-      jumped_step code.blocks (length b.packets) old c.run_packet.new.self c.leave-in-Jumped.new.self c.leave-in-Jumped.result (packet_step old.table p.instrs old.state) c.in-Jumped.label c.label_place.result step
-      c.in-Jumped.ensures.stands (c.label_place.ensures ∙ rw c.as_slice-blocks.ensures refl) c.leave-in-Jumped.ensures.left c.leave-in-Jumped.ensures.new)
+    jumped_step code.blocks (length b.packets) old c.run_packet.new.self c.leave-in-Jumped.new.self c.leave-in-Jumped.result (packet_step old.table p.instrs old.state) c.in-Jumped.label c.label_place.result step
+    c.in-Jumped.ensures.stands (c.label_place.ensures ∙ rw c.as_slice-blocks.ensures refl) c.leave-in-Jumped.ensures.left c.leave-in-Jumped.ensures.new)
 
 pub returns-in-Stopped-clause-step : goal.returns-in-Stopped-clause-step
 returns-in-Stopped-clause-step c =
@@ -99,6 +99,5 @@ returns-in-Stopped-clause-step c =
     let inside = at_packet b _ c.as_slice-packets.result.now _ old p c.self.view_is c.index-blocks-block.is c.as_slice-packets.ensures c.if-place-packets.false c.index-packets-place.is in
     let instrs = c.as_slice.ensures ∙ ap (λ (x : Packet). x.instrs) (sym c.index-packets-place.is) in
     one_step code old c.run_packet.new.self _ b p at inside (
-      stopped_step code.blocks (length b.packets) old c.run_packet.new.self c.in-Stopped.end (packet_step old.table p.instrs old.state)
-      (rw (← instrs) (c.in-Stopped.ensures.passed code.blocks)) c.in-Stopped.ensures.stands)
-
+    stopped_step code.blocks (length b.packets) old c.run_packet.new.self c.in-Stopped.end (packet_step old.table p.instrs old.state)
+    (rw (← instrs) (c.in-Stopped.ensures.passed code.blocks)) c.in-Stopped.ensures.stands)

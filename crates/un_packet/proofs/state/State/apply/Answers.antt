@@ -1,4 +1,4 @@
-use Rattle.std.proofs.Common.{◌≡◌, ◌+◌, ap, sym, subst, arith, refl, length, ◌∙◌}
+use Rattle.std.proofs.Common.{◌+◌, ap, sym, subst, arith, length, ◌∙◌}
 use Rattle.un_packet.specs.Cycles.{IsReadyBy}
 use Rattle.un_packet.specs.Step.{PacketState}
 use Rattle.un_packet.proofs.Cycles.{soon, still_ready}

@@ -1,4 +1,4 @@
-use Rattle.std.proofs.Common.{ℕ, ◌≡◌, [], replicate, subst, refl, ◌∙◌, sym, ap, drop, arith}
+use Rattle.std.proofs.Common.{ℕ, ◌≡◌, [], replicate, subst, refl, ◌∙◌, sym, arith}
 use Rattle.std.specs.List.{each_same}
 use Rattle.un_isa.specs.declared.start.Start.{Start}
 use Rattle.un_packet.specs.Cycles.{IsReadyBy}
