@@ -6,3 +6,4 @@ pub mod StepSim
 pub mod BodySim
 pub mod EnterSim
 pub mod RunSim
+pub mod FunctionRuns

@@ -36,12 +36,16 @@ use Rattle.un_lssa.proofs.EnterSim.{range_value, first_temp, first_length, body_
 abbrev value_at : List ℕ → NameId → ℕ
 value_at values name = get_or values name.0 0
 
--- the linear block at a place
-record HasBlock (t : Table) (names : ℕ) (lists : List (List NameId)) (bs : List ExtBlock) (k b : ℕ) (block : Block) : Type 0 where
-  first : ℕ
-  got : slice_get bs k ≡ Some (linear_block t names lists b first block)
+pub map_same_values : (f g : ℕ → ℕ) (names : List NameId) → ((k : ℕ) (d : NameId) → k < length names → (let name = get_or names k d in f name.0 ≡ g name.0))
+    → map (λ (name : NameId). f name.0) names ≡ map (λ (name : NameId). g name.0) names
+map_same_values f g names h = map_same (λ (name : NameId). f name.0) (λ (name : NameId). g name.0) names h
 
-block_at : (t : Table) (names : ℕ) (lists : List (List NameId)) (b n : ℕ) (blocks : List Block) (k : ℕ) (block : Block) → slice_get blocks k ≡ Some block
+-- the linear block at a place
+pub record HasBlock (t : Table) (names : ℕ) (lists : List (List NameId)) (bs : List ExtBlock) (k b : ℕ) (block : Block) : Type 0 where
+  pub first : ℕ
+  pub got : slice_get bs k ≡ Some (linear_block t names lists b first block)
+
+pub block_at : (t : Table) (names : ℕ) (lists : List (List NameId)) (b n : ℕ) (blocks : List Block) (k : ℕ) (block : Block) → slice_get blocks k ≡ Some block
     → HasBlock t names lists (linear_blocks t names lists b n blocks) k (b + k) block
 block_at t names lists b n [] k block e = absurd (cc e)
 block_at t names lists b n (own ∷ blocks) zero block e =
@@ -335,7 +339,7 @@ module _ (blocks : List Block) (names : ℕ) (small : NamesAreSmall names blocks
 
   -- ---- the whole run
 
-  enter_sim : (n b : ℕ) (s : SourceState) (taken : List ℕ) → b < length blocks → length s.values ≡ names → taken ≡ values_at t start lists b s.values
+  pub enter_sim : (n b : ℕ) (s : SourceState) (taken : List ℕ) → b < length blocks → length s.values ≡ names → taken ≡ values_at t start lists b s.values
       → enter lin n b taken (world_of s) ≡ as_linear t start lists (enter_source blocks n b s)
   enter_sim zero b s taken h wide is = ap (λ (xs : List ℕ). (let z : LinearRun = record { stop = RunningWith b xs; world = world_of s } in z)) is
   enter_sim (suc n) b s taken h wide is =
