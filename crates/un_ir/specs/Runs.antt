@@ -1,12 +1,14 @@
 -- What the run of a linear function comes to, by the run of the source.
-use Rattle.std.specs.Prelude.{ℕ, ◌≡◌, List, [], ◌++◌, Option, map, slice_index}
+use Rattle.std.specs.Prelude.{ℕ, ◌≡◌, List, [], ◌++◌, Option, map, length, slice_index}
 use Rattle.un_base.specs.declared.ids.NameId.{NameId}
 use Rattle.un_isa.specs.Registers.{callee_saved}
-use Rattle.un_isa.specs.declared.reg.TheConstants.{LINK}
+use Rattle.un_isa.specs.declared.reg.TheConstants.{LINK, REGISTERS}
 use Rattle.un_isa.specs.declared.start.Start.{Start}
 use Rattle.un_isa.specs.declared.table.Table.{Table}
-use Rattle.un_ir.specs.Source.{SourceState, SourceStop, SourceRun, Returned, Trapped, Waiting, Running}
-use Rattle.un_ir.specs.Linear.{World, LinearStop, LinearRun, first_saved, Returned as ReturnedTo, Trapped as Traps, Waiting as Waits, Running as RunningWith}
+use Rattle.un_ir.specs.declared.function.Function.{Function}
+use Rattle.un_ir.specs.declared.extended.Lssa.{Lssa}
+use Rattle.un_ir.specs.Source.{SourceState, SourceStop, SourceRun, Returned, Trapped, Waiting, Running, source_run}
+use Rattle.un_ir.specs.Linear.{World, LinearStop, LinearRun, first_saved, linear_run, Returned as ReturnedTo, Trapped as Traps, Waiting as Waits, Running as RunningWith}
 use Rattle.un_ir.specs.LinearOf.{live_at}
 
 abbrev pub world_of : SourceState → World
@@ -27,3 +29,7 @@ stop_with t start lists values (Running b) = RunningWith b (values_at t start li
 -- the same stop, with the memory, the calls and the replies that are left
 abbrev pub as_linear : Table → Start → List (List NameId) → SourceRun → LinearRun
 as_linear t start lists run = let s = run.state in record { stop = stop_with t start lists s.values run.stop; world = world_of s }
+
+-- from each start, and where at most n blocks are entered, the linear function comes to what the function comes to
+abbrev pub RunsAsSource : Function → List (List NameId) → Table → Lssa → Type 0
+RunsAsSource f lists t l = (start : Start) (n : ℕ) → length start.regs ≡ REGISTERS → linear_run l.table l.blocks start n ≡ as_linear t start lists (source_run f start n)
