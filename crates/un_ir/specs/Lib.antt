@@ -4,6 +4,7 @@ pub mod LinearOf
 pub mod Linear
 pub mod Live
 pub mod Names
+pub mod Runs
 pub mod Source
 pub mod Text
 pub mod WellFormed

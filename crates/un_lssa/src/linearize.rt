@@ -1,6 +1,7 @@
 //! Making a linear function.
 
 ghost use Rattle.std.specs.Prelude.{◌≡◌, map, IfOk};
+ghost use Rattle.un_ir.specs.Runs.{RunsAsSource};
 ghost use Rattle.un_ir.specs.LinearOf.{AreLive, kind_of_pair, lin_of};
 
 use crate::blocks::linear_blocks;
@@ -25,7 +26,8 @@ fn kinds(alloc: Global, names: &[(Name, Kind)]) -> Result<Items<Kind>, NoMemory>
 }
 
 /// The linear function of a function with these live names, under a table: every block defines its own temporaries, first
-/// one for each name that is live at its start and for each saved value.
+/// one for each name that is live at its start and for each saved value. From each start it comes to what the function comes
+/// to, for any number of blocks entered.
 ///
 /// # Errors
 /// `NoMemory` where there is no memory for it.
@@ -36,7 +38,8 @@ pub fn linearize(
     t: &Table,
 ) -> Result<Lssa, NoMemory>
     requires { AreLive f.now.blocks live.now.at_start }
-    ensures { IfOk result (λ l. l ≡ lin_of f.now live.now.at_start t.now) }
+    ensures linear { IfOk result (λ l. l ≡ lin_of f.now live.now.at_start t.now) }
+    ensures runs { IfOk result (RunsAsSource f.now live.now.at_start t.now) }
 {
     let names = kinds(alloc, f.names.as_slice())?;
     let registers = callee_saved(alloc, t)?;
