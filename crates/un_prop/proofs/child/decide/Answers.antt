@@ -16,7 +16,7 @@ returns-in-AtMost c =
     let v = c.args.v.0 in
     let ends = cut_ends q v s new c.requires.there c.requires.live c.keep_le.result c.keep_le.ensures in
     let as_side = subst (λ (d : Side). Ends (cut_by (side_test d c.args.x) v s.sets) s.sets new.sets c.answer.result) (sym c.in-AtMost.is)
-        (subst (λ (a : Pruned). Ends (cut_by q v s.sets) s.sets new.sets a) (sym c.answer.ensures) ends) in
+    (subst (λ (a : Pruned). Ends (cut_by q v s.sets) s.sets new.sets a) (sym c.answer.ensures) ends) in
     record { ends = as_side; marked = c.keep_le.ensures.marked; long = ap length c.keep_le.ensures.sets ∙ length-set _ _ _ }
 
 pub returns-in-Above : goal.returns-in-Above
@@ -27,5 +27,5 @@ returns-in-Above c =
     let v = c.args.v.0 in
     let ends = cut_ends q v s new c.requires.there c.requires.live c.keep_gt.result c.keep_gt.ensures in
     let as_side = subst (λ (d : Side). Ends (cut_by (side_test d c.args.x) v s.sets) s.sets new.sets c.answer-in-Above.result) (sym c.in-Above.is)
-        (subst (λ (a : Pruned). Ends (cut_by q v s.sets) s.sets new.sets a) (sym c.answer-in-Above.ensures) ends) in
+    (subst (λ (a : Pruned). Ends (cut_by q v s.sets) s.sets new.sets a) (sym c.answer-in-Above.ensures) ends) in
     record { ends = as_side; marked = c.keep_gt.ensures.marked; long = ap length c.keep_gt.ensures.sets ∙ length-set _ _ _ }
