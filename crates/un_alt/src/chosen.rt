@@ -8,7 +8,7 @@ ghost use Rattle.un_alt.specs.Chosen.{ChosenVars};
 use un_base::ids::VarId;
 use un_domains::window::Window;
 use un_lists::items::Items;
-use un_prop::act::{active, value, Act};
+use un_prop::act::{Act, active, value};
 use un_prop::last::check_last;
 use un_prop::propagator::{Predicate, Propagator, Pruned, Scratch};
 

@@ -5,9 +5,9 @@ ghost use Rattle.un_prop.specs.LastLaws.{Ascend};
 ghost use Rattle.un_alt.specs.Home.{HomeVars};
 
 use crate::registers::chosen;
-use un_isa::reg::Reg;
 use un_base::ids::VarId;
 use un_domains::window::Window;
+use un_isa::reg::Reg;
 use un_lists::items::Items;
 use un_prop::last::check_last;
 use un_prop::propagator::{Predicate, Propagator, Pruned, Scratch};

@@ -2,8 +2,8 @@
 #![tactic(auto)]
 
 pub mod chosen;
-pub mod same;
 pub mod home;
-pub mod zeros;
 mod registers;
+pub mod same;
 pub mod spaces;
+pub mod zeros;

@@ -5,10 +5,10 @@ ghost use Rattle.un_prop.specs.LastLaws.{Ascend};
 ghost use Rattle.un_alt.specs.Same.{SameVars};
 
 use crate::registers::chosen;
-use un_prop::act::value;
 use un_base::ids::VarId;
 use un_domains::window::Window;
 use un_lists::items::Items;
+use un_prop::act::value;
 use un_prop::last::check_last;
 use un_prop::propagator::{Predicate, Propagator, Pruned, Scratch};
 

@@ -7,10 +7,10 @@ ghost use Rattle.un_domains.specs.Sets.{has};
 ghost use Rattle.un_alt.specs.Choices.{passes_at};
 
 use crate::registers::chosen;
-use un_prop::act::{number, Act};
 use un_base::ids::VarId;
 use un_domains::window::Window;
 use un_lists::items::Items;
+use un_prop::act::{Act, number};
 use un_prop::last::check_last;
 use un_prop::propagator::{Predicate, Propagator, Pruned, Scratch};
 

@@ -131,8 +131,8 @@ module _ (vs : List VarId) (l : Link) (h : LinkVars vs l) where
           let stays' = subst (λ (t : At). at_cut (later_test l) t s ≡ Some s) is stays in
           let some = full v.0 within in
           let low = le_least (min (least (at_set l.from s) + l.gap) (2 ^ 32)) (set_at s v.0) some (λ y there.
-              let pass = or_not (both_sure l s) (nat_le (min (least (at_set l.from s) + l.gap) (2 ^ 32)) y) (passes_all (later_test l s) v.0 s within stays' y there) sures in
-              grind (arith, nat_tests, pass)) in
+          let pass = or_not (both_sure l s) (nat_le (min (least (at_set l.from s) + l.gap) (2 ^ 32)) y) (passes_all (later_test l s) v.0 s within stays' y there) sures in
+          grind (arith, nat_tests, pass)) in
           let small = words v.0 (least (set_at s v.0)) (least_in (set_at s v.0) some) in
           let b = ap (λ (t : At). least (at_set t s)) is in
           omega (arith, low, small, b)

@@ -8,13 +8,13 @@ ghost use Rattle.un_prop.specs.LastLaws.{Ascend};
 ghost use Rattle.un_prop.specs.declared.propagator.Pruned.TheVariants.{Same};
 ghost use Rattle.un_prec.specs.Below.{BelowVars, cost_at, least_cost, below_steps};
 
-use un_prop::act::value;
-use un_prop::step::fail;
 use un_base::ids::VarId;
 use un_domains::window::Window;
 use un_lists::items::Items;
+use un_prop::act::value;
 use un_prop::last::check_last;
 use un_prop::propagator::{Predicate, Propagator, Pruned, Scratch};
+use un_prop::step::fail;
 
 /// The end of a block, and how often the block is run.
 #[derive(Clone, Copy)]

@@ -4,12 +4,12 @@ ghost use Rattle.std.specs.Prelude.{◌≡◌};
 ghost use Rattle.un_prop.specs.LastLaws.{Ascend};
 ghost use Rattle.un_prec.specs.Inside.{InsideVars};
 
-use crate::link::{keeps_gap, Link};
+use crate::link::{Link, keeps_gap};
 use crate::rules::keep_link;
-use un_prop::act::{Act, At};
 use un_base::ids::VarId;
 use un_domains::window::Window;
 use un_lists::items::Items;
+use un_prop::act::{Act, At};
 use un_prop::last::check_last;
 use un_prop::propagator::{Predicate, Propagator, Pruned, Scratch};
 

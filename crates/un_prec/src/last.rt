@@ -6,10 +6,10 @@ ghost use Rattle.un_prec.specs.Last.{LastVars};
 
 use crate::link::Link;
 use crate::rules::{close, keep_link};
-use un_prop::act::{value, Act, At};
 use un_base::ids::VarId;
 use un_domains::window::Window;
 use un_lists::items::Items;
+use un_prop::act::{Act, At, value};
 use un_prop::last::check_last;
 use un_prop::propagator::{Predicate, Propagator, Pruned, Scratch};
 

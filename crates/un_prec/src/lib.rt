@@ -1,9 +1,9 @@
 //! Propagators of precedence: one time at least so much after another, and the cost of ends.
 #![tactic(auto)]
 
-pub mod link;
-pub mod rules;
 pub mod before;
+pub mod below;
 pub mod inside;
 pub mod last;
-pub mod below;
+pub mod link;
+pub mod rules;

@@ -3,7 +3,7 @@
 ghost use Rattle.std.specs.Prelude.{◌≡◌};
 ghost use Rattle.un_prec.specs.Links.{link_holds};
 
-use un_prop::act::{active, time, Act, At};
+use un_prop::act::{Act, At, active, time};
 
 /// The time `to` is at least `gap` after the time `from`, where both `from_on` and `to_on` are active.
 #[derive(Clone, Copy)]

@@ -1,3 +1,4 @@
+pub mod ChildLaws
 pub mod RoundLaws
 pub mod RunLaws
 pub mod WakeLaws

@@ -73,14 +73,14 @@ module _ {P : Type 0} (scope : P → List VarId) (cut : P → Sets → Option Se
         → round cut (drop (i + 1) ps) t ≡ round cut (drop i ps) s
     round_step i p s t below at e =
         let cons : drop i ps ≡ p ∷ drop (i + 1) ps =
-            subst (λ (n : ℕ). drop i ps ≡ p ∷ drop n ps) (sym (add-one i)) (drop-cons ps i p below ∙ ap (λ (q : P). q ∷ drop (suc i) ps) (sym at)) in
+        subst (λ (n : ℕ). drop i ps ≡ p ∷ drop n ps) (sym (add-one i)) (drop-cons ps i p below ∙ ap (λ (q : P). q ∷ drop (suc i) ps) (sym at)) in
         sym (ap (λ (qs : List P). round cut qs s) cons ∙ ap (option_and_then (round cut (drop (i + 1) ps))) e)
 
     pub round_failed : (i : ℕ) (p : P) (s : Contents) (changed : Bool) → SoFar i s changed → i < length ps → p ≡ get_or ps i p
         → cut p s.sets ≡ None → round cut ps first.sets ≡ None
     round_failed i p s changed sofar below at e =
         let cons : drop i ps ≡ p ∷ drop (i + 1) ps =
-            subst (λ (n : ℕ). drop i ps ≡ p ∷ drop n ps) (sym (add-one i)) (drop-cons ps i p below ∙ ap (λ (q : P). q ∷ drop (suc i) ps) (sym at)) in
+        subst (λ (n : ℕ). drop i ps ≡ p ∷ drop n ps) (sym (add-one i)) (drop-cons ps i p below ∙ ap (λ (q : P). q ∷ drop (suc i) ps) (sym at)) in
         sym sofar.rest ∙ (ap (λ (qs : List P). round cut qs s.sets) cons ∙ ap (option_and_then (round cut (drop (i + 1) ps))) e)
 
     module _ (i : ℕ) (p : P) (s t : Contents) (changed : Bool) (sofar : SoFar i s changed) (known : HasVars (scope p) s.sets) (below : i < length ps)
@@ -90,7 +90,7 @@ module _ {P : Type 0} (scope : P → List VarId) (cut : P → Sets → Option Se
       went answer other h changed' f =
           let left = left_of (cut p s.sets) s.sets t.sets answer h.ends other in
           let fewer : Below t.sets s.sets × NoneEmpty t.sets =
-              subst (λ (c : Option Sets). MatchOption c ⊤ (λ u. Below u s.sets × NoneEmpty u)) left.0 ((lawful p).shrinks s.sets known sofar.full) in
+          subst (λ (c : Option Sets). MatchOption c ⊤ (λ u. Below u s.sets × NoneEmpty u)) left.0 ((lawful p).shrinks s.sets known sofar.full) in
           record {
             rest = round_step i p s.sets t.sets below at left.0 ∙ sofar.rest;
             full = left.1;

@@ -72,7 +72,7 @@ module _ {P : Type 0} (scope : P → List VarId) (cut : P → Sets → Option Se
       -- one that changed nothing waits no more
       pub run_same : (t : Sets) → cut p s ≡ Some t → t ≡ s → SoFar t (set ws i false) sizes
       run_same t e same = record {
-          full = subst NoneEmpty (sym same) h.full;
+        full = subst NoneEmpty (sym same) h.full;
         below = subst (λ (x : Sets). Below x first) (sym same) h.below;
         above = λ u b fu stable. subst (Below u) (sym same) (h.above u b fu stable);
         ready = subst (IsReady cut ps (set ws i false)) (sym same) (λ j d below rests. elim (same_or_not j i) [
@@ -89,7 +89,7 @@ module _ {P : Type 0} (scope : P → List VarId) (cut : P → Sets → Option Se
           → All (λ v. get_or sizes' v.0 0 ≡ length (set_at t v.0)) vs → ((w : ℕ) → All (λ v. (w ≡ v.0) → ⊥) vs → get_or sizes' w 0 ≡ get_or sizes w 0) → ((w : ℕ) → (get_or sizes' w 0 ≡ get_or sizes w 0) ⊎ AllWait table ws' w)
           → SoFar t ws' sizes'
       run_tighter t table vs ws' sizes' e tab is flags long grows counted others woken = record {
-          full = less.1;
+        full = less.1;
         below = Below-trans t s first less.0 h.below;
         above = λ u b fu stable. subst (BelowOption (Some u)) e (stays_below scope cut lawful p u s known_at fu h.full (h.above u b fu stable) (stable_at u i p lt at stable));
         ready = ready_after scope cut lawful ps (length first) table ws ws' s t tab (known_now s ws sizes h) h.full less.1 less.0.long (λ v below. elim (woken v) [

@@ -88,10 +88,10 @@ pub two_open : (s : Sets) (vs : List VarId) (k : ℕ) (u : VarId) → k < length
 two_open s vs k u lt wide one =
     let v = get_or vs k u in
     let rest : filter (is_open s) (drop k vs) ≡ v ∷ filter (is_open s) (drop (suc k) vs) =
-        ap (filter (is_open s)) (drop-cons vs k u lt) ∙ ap (λ (b : Bool). cond b (v ∷ filter (is_open s) (drop (suc k) vs)) (filter (is_open s) (drop (suc k) vs))) wide in
+    ap (filter (is_open s)) (drop-cons vs k u lt) ∙ ap (λ (b : Bool). cond b (v ∷ filter (is_open s) (drop (suc k) vs)) (filter (is_open s) (drop (suc k) vs))) wide in
     let whole : open_of vs s ≡ u ∷ v ∷ filter (is_open s) (drop (suc k) vs) =
-        ap (filter (is_open s)) (take_drop k vs) ∙ (filter-append (is_open s) (take k vs) (drop k vs)
-        ∙ (ap (λ (ys : List VarId). ys ++ filter (is_open s) (drop k vs)) one ∙ ap (λ (ys : List VarId). u ∷ ys) rest)) in
+    ap (filter (is_open s)) (take_drop k vs) ∙ (filter-append (is_open s) (take k vs) (drop k vs)
+    ∙ (ap (λ (ys : List VarId). ys ++ filter (is_open s) (drop k vs)) one ∙ ap (λ (ys : List VarId). u ∷ ys) rest)) in
     ap (λ (ys : List VarId). last_among ys vs) whole
 
 pub second_open : (s : Sets) (vs : List VarId) (k : ℕ) (d : VarId) (o : Option VarId) → k < length vs → nat_eq (length (set_at s (get_or vs k d).0)) 1 ≡ false
@@ -364,14 +364,13 @@ module _ (vs : List VarId) (t : List ℕ → Bool) (looks : (x y : List ℕ) →
         λ one. elim (rest.1 (sym (skip s e) ∙ one)) [ inl x ↦ inl (skip a (shut e) ∙ x) | inr x ↦ inr (skip a (shut e) ∙ x) ],
       )
       by true e rest =
-          let here : open_of (w ∷ ws) s ≡ w ∷ open_of ws s = ap (λ (b : Bool). cond b (w ∷ open_of ws s) (open_of ws s)) e in
-          (
+          let here : open_of (w ∷ ws) s ≡ w ∷ open_of ws s = ap (λ (b : Bool). cond b (w ∷ open_of ws s) (open_of ws s)) e in (
             λ none. absurd (let bad : w ∷ open_of ws s ≡ [] = sym here ∙ none in cc bad),
             λ one. (
-              let whole : w ∷ open_of ws s ≡ v ∷ [] = sym here ∙ one in
-              let first : w ≡ v = cc whole in
-              let last : open_of ws s ≡ [] = cc whole in
-              head (is_open a w) refl first (rest.0 last)),
+                let whole : w ∷ open_of ws s ≡ v ∷ [] = sym here ∙ one in
+                let first : w ≡ v = cc whole in
+                let last : open_of ws s ≡ [] = cc whole in
+                head (is_open a w) refl first (rest.0 last)),
           )
         where
           head : (b : Bool) → is_open a w ≡ b → w ≡ v → open_of ws a ≡ [] → (open_of (w ∷ ws) a ≡ []) ⊎ (open_of (w ∷ ws) a ≡ v ∷ [])
@@ -396,8 +395,8 @@ module _ (vs : List VarId) (t : List ℕ → Bool) (looks : (x y : List ℕ) →
       let one = last_single vs s v e in
       let ka = known_below a s le.long k in
       let opens : (open_of vs a ≡ []) ⊎ (open_of vs a ≡ v ∷ []) = (
-          let both = open_below a s v k fa le vs (recursion_from_All _ _ k) in
-          elim (open_cases s v e) [ inl none ↦ inl (both.0 none) | inr only ↦ both.1 only ]) in
+      let both = open_below a s v k fa le vs (recursion_from_All _ _ k) in
+      elim (open_cases s v e) [ inl none ↦ inl (both.0 none) | inr only ↦ both.1 only ]) in
       let same : All (λ w. w.0 ≢ v.0 → set_at a w.0 ≡ set_at s w.0) vs = λ i d lt ne. single_below a s (get_or vs i d).0 le (fa (get_or vs i d).0 (ka i d lt)) (one.1 i d lt ne) in
       subst (λ (c : Option Sets). BelowOption c (cut_by (λ y. t (set (point s) v.0 y)) v.0 s)) (sym (last_at a v ka fa one.0 opens))
       (cut_below (λ y. t (set (point a) v.0 y)) (λ y. t (set (point s) v.0 y)) v.0 a s (has_var vs v s one.0 k) le (λ y h. sym (same_test_at a s v y ka k same) ∙ h))

@@ -17,4 +17,5 @@ pub mod Pruning
 pub mod QueueLaws
 pub mod Queues
 pub mod Rounds
+pub mod Sides
 pub mod Steps

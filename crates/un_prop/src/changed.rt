@@ -6,11 +6,11 @@ ghost use Rattle.un_prop.specs.Rounds.{HasVars, fix_of};
 ghost use Rattle.un_prop.specs.Pruning.{IsFix, HasRoom};
 ghost use Rattle.un_prop.specs.Queues.{IsTable, IsReady, IsSizes, waits};
 
+use crate::propagator::{Propagator, Pruned, Scratch};
 use crate::queue::{next_waiting, wake_changed};
 use crate::readers::Readers;
-use un_domains::store::Store;
-use crate::propagator::{Propagator, Pruned, Scratch};
 use crate::run::Fix;
+use un_domains::store::Store;
 
 /// Runs the propagators that wait, and those that read what they change, until one fails or none waits.
 pub fn run_from<P: Propagator>(

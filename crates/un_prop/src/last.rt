@@ -100,7 +100,12 @@ fn try_all<P: Predicate>(p: &P, w: &mut Window<'_>, v: VarId, fixed: &mut [u32])
 }
 
 /// Takes each value from the last variable of the predicate for which it does not hold.
-pub fn check_last<P: Predicate>(p: &P, w: &mut Window<'_>, scratch: &mut Scratch, before: Pruned) -> Pruned
+pub fn check_last<P: Predicate>(
+    p: &P,
+    w: &mut Window<'_>,
+    scratch: &mut Scratch,
+    before: Pruned,
+) -> Pruned
     requires vars { w.old.vars.now ≡ P.scope p.now }
     requires known { HasVars (P.scope p.now) w.old.store.now.sets }
     requires live { before ≢ Failed → NoneEmpty w.old.store.now.sets }

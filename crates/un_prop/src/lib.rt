@@ -3,10 +3,12 @@
 
 pub mod act;
 pub mod changed;
+pub mod child;
 pub mod last;
 pub mod look;
 pub mod propagator;
 pub mod queue;
 pub mod readers;
 pub mod run;
+pub mod side;
 pub mod step;

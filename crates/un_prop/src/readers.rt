@@ -4,10 +4,10 @@ ghost use Rattle.std.specs.Prelude.{◌≡◌, ℕ, ◌<◌, ◌⊎◌, List, []
 ghost use Rattle.un_domains.specs.Sets.{set_at, has};
 ghost use Rattle.un_prop.specs.Queues.{IsTable, Entered};
 
-use un_base::ids::VarId;
-use un_lists::items::Items;
 use crate::propagator::Predicate;
 use std::alloc::{AllocError, Global};
+use un_base::ids::VarId;
+use un_lists::items::Items;
 
 /// The places of the propagators that read each variable, a row for each.
 #[derive(Drop)]
@@ -38,11 +38,7 @@ fn enter(vars: &[VarId], i: usize, rows: &mut Vec<Items<usize>>) -> Result<(), A
 
 impl Readers {
     /// The table of these propagators over so many variables.
-    pub fn new<P: Predicate>(
-        alloc: Global,
-        props: &[P],
-        vars: usize,
-    ) -> Result<Readers, AllocError>
+    pub fn new<P: Predicate>(alloc: Global, props: &[P], vars: usize) -> Result<Readers, AllocError>
         requires { All (λ p. All (λ v. v.0 < vars) (P.scope p)) props.now }
         ensures { IfOk result (λ r. IsTable P.scope props.now vars r.rows.items) }
     {

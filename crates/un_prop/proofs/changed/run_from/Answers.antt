@@ -81,7 +81,7 @@ loop-i-preserved g c =
     let e = c.wake_changed.ensures in
     record {
       so_far = run_tighter g.P.Predicate.scope g.P.Propagator.cut g.met.P.Propagator.lawful c.args.props.now c.args.store.now.sets c.requires.known c.requires.live s c.loop-i.waiting c.loop-i.sizes inv c.in-Some.i p within c.index-props-i.is t c.args.readers.now.rows.items c.reads.result.now c.wake_changed.new.waiting c.wake_changed.new.sizes left.0 c.requires.table c.reads.ensures c.wake_changed.auto.waiting c.wake_changed.auto.sizes e.grows e.noted e.others
-    (λ w. subst (λ (table : Sets). (get_or c.wake_changed.new.sizes w 0 ≡ get_or c.loop-i.sizes w 0) ⊎ AllWait table c.wake_changed.new.waiting w) c.as_slice.ensures.value (e.woken w));
+          (λ w. subst (λ (table : Sets). (get_or c.wake_changed.new.sizes w 0 ≡ get_or c.loop-i.sizes w 0) ⊎ AllWait table c.wake_changed.new.waiting w) c.as_slice.ensures.value (e.woken w));
       marked = c.prune.ensures.prune.untouched.marked ∙ c.loop-i.invariant.marked;
       fixed = c.prune.ensures.fixed ∙ c.loop-i.invariant.fixed;
       cycles = c.prune.ensures.cycles ∙ c.loop-i.invariant.cycles;

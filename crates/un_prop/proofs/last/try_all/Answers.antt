@@ -51,7 +51,7 @@ loop-y-preserved g c =
     let step = did.ensures.goes now s (subst (λ (us : List VarId). IsPrune us now s c.loop-y.w.store.now c.loop-y.did) (sym e) inv.prune) in
     let is : tried ≡ q y = same_tried (P.scope p) (P.holds p) looks s.sets v y c.loop-y.fixed c.requires.known within (omega (arith, within, c.requires.room, c.loop-y.auto.fixed)) inv.written in
     let next : option_and_then (cut_by (λ z. not (nat_eq z y) || tried) v.0) now ≡ cut_by (λ z. nat_le (y + 1) z || q z) v.0 s.sets =
-        ap (λ (b : Bool). option_and_then (cut_by (λ z. not (nat_eq z y) || b) v.0) now) is ∙ try_next (P.scope p) (P.holds p) looks s.sets v y q within in
+    ap (λ (b : Bool). option_and_then (cut_by (λ z. not (nat_eq z y) || b) v.0) now) is ∙ try_next (P.scope p) (P.holds p) looks s.sets v y q within in
     record {
       prune = subst (λ (o : Option Sets). IsPrune vs o s did.new.w.store.now did.result) next (subst (λ (us : List VarId). IsPrune us (option_and_then (cut_by (λ z. not (nat_eq z y) || tried) v.0) now) s did.new.w.store.now did.result) e step);
       written = λ i d lt ne. did.ensures.fixed _ ne ∙ inv.written i d lt ne;

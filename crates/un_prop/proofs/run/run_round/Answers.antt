@@ -26,7 +26,7 @@ loop-p-preserved g c =
     let inv = c.loop-p.invariant in
     let sofar = inv.so_far in
     let known = item_known P.Predicate.scope c.args.props.now c.loop-p.p-index c.p-item.result c.args.store.now.sets c.loop-p.store.sets
-        c.requires.known c.loop-p-test.true c.p-item.is sofar.below.long in
+    c.requires.known c.loop-p-test.true c.p-item.is sofar.below.long in
     record {
       so_far = elim c.match-prune.branch [
         | in-Same w ↦ rw w.changed-is (goes_same P.Predicate.scope P.Propagator.cut g.met.P.Propagator.lawful c.args.props.now c.args.store.now
