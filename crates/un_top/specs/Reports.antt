@@ -16,7 +16,7 @@ use Rattle.un_plain_model.specs.declared.model.Solution.{Solution}
 use Rattle.un_plain_model.specs.Cost.{cost_of}
 use Rattle.un_plain_model.specs.Solutions.{IsSolution}
 use Rattle.un_plain_model.specs.Variables.{model_of}
-use Rattle.un_plain_emit.specs.Emission.{emitted, start_place}
+use Rattle.un_plain_emit.specs.Emission.{IsEmitted, start_place}
 use Rattle.un_reader.specs.Read.{IsRead}
 use Rattle.un_listing.specs.Report.{first_report_text}
 
@@ -35,7 +35,7 @@ pub record IsCodeOf (t : Table) (f : Function) (code : Code) (cost : ℕ) : Type
   pub is_model : model ≡ model_of (plain_ext t f) default_options
   pub solution : Solution
   pub is_solution : IsSolution model solution
-  pub is_emitted : code ≡ emitted model solution
+  pub is_emitted : IsEmitted model solution code
   pub is_cost : cost ≡ cost_of model solution
   pub counted : cost ≡ count_of f code
   pub simulates : Simulates t f (start_place model solution) code
