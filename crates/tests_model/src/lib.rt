@@ -1,0 +1,7 @@
+//! Tests of models with values from outside.
+#![tactic(auto)]
+
+#[cfg(test)]
+mod cases;
+#[cfg(test)]
+mod tests;
