@@ -1,6 +1,6 @@
 -- Blocks one after another, and how many temporaries they define.
-use Rattle.std.proofs.Common.{◌≡◌, ℕ, zero, suc, ◌+◌, ◌*◌, ◌<◌, ◌≤◌, ◌++◌, ◌^◌, List, [], ◌∷◌, Option, Some, None, length, drop, replicate, get_or, slice_get, All, AllPairs, refl, sym, ap, ◌∙◌, arith, subst, append_assoc, mul-suc}
-use Rattle.std.specs.List.{flat_map, sum_by}
+use Rattle.std.proofs.Common.{◌≡◌, ℕ, suc, ◌+◌, ◌*◌, ◌<◌, ◌≤◌, ◌++◌, ◌^◌, List, [], ◌∷◌, Option, Some, None, length, drop, replicate, get_or, All, AllPairs, refl, sym, ap, ◌∙◌, arith, append_assoc, mul-suc}
+use Rattle.std.specs.List.{flat_map}
 use Rattle.std.proofs.lemmas.List.{drop_more, drop_all, length-append}
 use Rattle.std.proofs.lemmas.List.Elements.{All-head, All-tail}
 use Rattle.un_base.specs.declared.ids.NameId.{NameId}

@@ -1,5 +1,5 @@
 -- The operations of a block: each name that is live has its value in its temporary.
-use Rattle.std.proofs.Common.{◌≡◌, ◌≢◌, ◌⊎◌, inl, inr, ℕ, zero, suc, ◌+◌, ◌<◌, ◌≤◌, ◌++◌, Bool, true, false, nat_eq, List, [], ◌∷◌, Option, Some, None, map, length, drop, get_or, slice_get, Contains, if◌then◌else◌, refl, sym, ap, ◌∙◌, arith, subst, add-one, length-set}
+use Rattle.std.proofs.Common.{◌≡◌, ◌≢◌, ℕ, zero, suc, ◌+◌, ◌<◌, ◌≤◌, ◌++◌, Bool, true, false, nat_eq, List, [], ◌∷◌, Option, Some, None, map, length, drop, get_or, slice_get, Contains, if◌then◌else◌, refl, sym, ap, ◌∙◌, arith, subst, add-one, length-set}
 use Rattle.std.specs.Option.{option_to_list}
 use Rattle.std.proofs.lemmas.Bool.{eqb-true}
 use Rattle.std.proofs.lemmas.List.{get_or-set_same, get_or-set_other}
@@ -13,10 +13,10 @@ use Rattle.un_ir.specs.declared.function.SrcOp.{SrcOp}
 use Rattle.un_ir.specs.declared.function.Block.{Block}
 use Rattle.un_ir.specs.declared.extended.ExtOp.{ExtOp}
 use Rattle.un_ir.specs.Extended.{temp}
-use Rattle.un_ir.specs.Live.{IsLive, used, kept, read_by, read_at, assigned_by, assigned_at, next_by, next_of}
-use Rattle.un_ir.specs.Source.{SourceState, SourceStep, SourceStop, BlockEnd, Went, Stopped, op_step, ops_run, then_ops, value_in, assigned as valued}
-use Rattle.un_ir.specs.Linear.{World, Effect, Values, value_of, effect_of, defined, defined_all, after_effect, LinearStop, LinearState, LinearEnd, then_ops as then_linear, ops_run as linear_run_ops}
-use Rattle.un_ir.specs.LinearOf.{assigned, past, body_op, body_ops, current_after, past_all, source_operands}
+use Rattle.un_ir.specs.Live.{IsLive, used, kept, read_by, read_at, assigned_by, next_by}
+use Rattle.un_ir.specs.Source.{SourceState, SourceStep, SourceStop, BlockEnd, op_step, ops_run, then_ops, value_in, assigned as valued}
+use Rattle.un_ir.specs.Linear.{World, Effect, Values, effect_of, defined, defined_all, after_effect, LinearStop, LinearEnd, then_ops as then_linear, ops_run as linear_run_ops}
+use Rattle.un_ir.specs.LinearOf.{assigned, past, body_ops, current_after, past_all}
 use Rattle.un_ir.specs.Runs.{world_of, stop_with}
 use Rattle.un_ir.proofs.NameBounds.{NamesAreSmall}
 use Rattle.un_lssa.proofs.StepSim.{gone, StepSim, goes, traps, waits, step_sim, AreValues, operands_values}
@@ -41,7 +41,6 @@ at_end (y ∷ ys) (suc k) e h = ap suc (at_end ys k e (omega arith))
 module _ (blocks : List Block) (names : ℕ) (small : NamesAreSmall names blocks)
     (stores : (b k : ℕ) (block : Block) (o : SrcOp) → slice_get blocks b ≡ Some block → slice_get block.ops k ≡ Some o → o.op ≡ Store → o.dst ≡ None)
     (t : Table) (start : Start) (lists : List (List NameId)) (b : ℕ) (block : Block) (here : slice_get blocks b ≡ Some block) where
-
   -- each name that is live at place k has its value in its temporary, which is below n
   pub record Agrees (k : ℕ) (current : List ℕ) (n : ℕ) (v : Values) (values : List ℕ) : Type 0 where
     pub long : length current ≡ names
@@ -150,11 +149,11 @@ module _ (blocks : List Block) (names : ℕ) (small : NamesAreSmall names blocks
 
   by_step : (o : SrcOp) (os : List SrcOp) (current : List ℕ) (n : ℕ) (v : Values) (s : SourceState) (rest : List ExtOp)
       → ((x : ℕ) (w : World) → BodySim (past o.dst n) (After o.dst v n x) (current_after (assigned current o.dst n) (past o.dst n) os) (past_all (past o.dst n) os) rest
-          (ops_run os (gone o s x w)) (linear_run_ops (body_ops t (assigned current o.dst n) (past o.dst n) os ++ rest) (record { values = After o.dst v n x; world = w })))
+      (ops_run os (gone o s x w)) (linear_run_ops (body_ops t (assigned current o.dst n) (past o.dst n) os ++ rest) (record { values = After o.dst v n x; world = w })))
       → (q : SourceStep) (r : Effect) → StepSim o s q r
       → BodySim n v (current_after current n (o ∷ os)) (past_all n (o ∷ os)) rest (then_ops q s (ops_run os))
-          (then_linear (after_effect (map (λ (name : NameId). temp n) (option_to_list o.dst)) (record { values = v; world = world_of s }) r) (record { values = v; world = world_of s })
-          (linear_run_ops (body_ops t (assigned current o.dst n) (past o.dst n) os ++ rest)))
+      (then_linear (after_effect (map (λ (name : NameId). temp n) (option_to_list o.dst)) (record { values = v; world = world_of s }) r) (record { values = v; world = world_of s })
+      (linear_run_ops (body_ops t (assigned current o.dst n) (past o.dst n) os ++ rest)))
   by_step o os current n v s rest ih q r (goes x w) =
       weaken n (past o.dst n) v (After o.dst v n x) _ _ rest _ _ (past_least o.dst n) (λ y h. after_old o.dst v n x y h) (ih x w)
   by_step o os current n v s rest ih q r traps = stops _ _ s v (λ values. refl)
@@ -171,6 +170,6 @@ module _ (blocks : List Block) (names : ℕ) (small : NamesAreSmall names blocks
       let sim = step_sim o s (stores b k block o here st.got) in
       let later : drop (k + 1) block.ops ≡ os = rw add-one st.later in
       rw xs (by_step o os current n v s rest
-          (λ x w. body_sim os (k + 1) (assigned current o.dst n) (past o.dst n) (After o.dst v n x) (gone o s x w) rest later inside
-              (agrees_by o.dst k o current n v s.values x refl st.got a))
-          (op_step o s) (effect_of o (map (value_in s) o.srcs) (world_of s)) sim)
+      (λ x w. body_sim os (k + 1) (assigned current o.dst n) (past o.dst n) (After o.dst v n x) (gone o s x w) rest later inside
+      (agrees_by o.dst k o current n v s.values x refl st.got a))
+      (op_step o s) (effect_of o (map (value_in s) o.srcs) (world_of s)) sim)

@@ -1,5 +1,5 @@
 -- The names that are live where a block ends, by marks.
-use Rattle.std.proofs.Common.{◌≡◌, ◌≢◌, ℕ, zero, suc, ◌+◌, ◌<◌, ◌≤◌, ◌||◌, ◌++◌, Bool, true, false, nat_eq, List, [], ◌∷◌, map, filter, length, set, drop, replicate, get_or, if◌then◌else◌, refl, sym, ap, ◌∙◌, arith, subst, length-set}
+use Rattle.std.proofs.Common.{◌≡◌, ◌≢◌, ℕ, suc, ◌+◌, ◌<◌, ◌≤◌, ◌||◌, ◌++◌, Bool, true, false, nat_eq, List, [], ◌∷◌, map, filter, length, set, drop, replicate, get_or, if◌then◌else◌, refl, sym, ap, ◌∙◌, arith, length-set}
 use Rattle.std.specs.List.{range_with_len, list_any}
 use Rattle.std.proofs.lemmas.Bool.{eqb-true}
 use Rattle.std.proofs.lemmas.List.{drop_more, drop_all, get_or-set_same, get_or-set_other, length-replicate, get_or-replicate}
@@ -75,10 +75,10 @@ marks_live lists names b term marks is =
     let all = marked_at lists none (targets_of b term) in
     let long : length all ≡ names = at_length lists none (targets_of b term) ∙ length-replicate names false in
     let each : (i : ℕ) → i < length all → at all i ≡ p (0 + i) = λ i h.
-        (let below : i < names = rw (← long) h in
-        let inside : i < length none = rw (length-replicate names false) below in
-        let z : 0 + i ≡ i = omega arith in
-        at_at lists none (targets_of b term) i inside ∙ ap (λ (v : Bool). p i || v) (get_or-replicate names i false false below) ∙ or_false (p i) ∙ ap p (sym z)) in
+    (let below : i < names = rw (← long) h in
+    let inside : i < length none = rw (length-replicate names false) below in
+    let z : 0 + i ≡ i = omega arith in
+    at_at lists none (targets_of b term) i inside ∙ ap (λ (v : Bool). p i || v) (get_or-replicate names i false false below) ∙ or_false (p i) ∙ ap p (sym z)) in
     ap (names_of_marks 0) is ∙ names_filter p 0 all each ∙ ap (λ (n : ℕ). map name_of (filter p (range_with_len 0 n))) long
 
 -- ---- a loop over marks

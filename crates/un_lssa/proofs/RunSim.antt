@@ -1,16 +1,13 @@
 -- The run of the linear function is the run of the source.
-use Rattle.std.proofs.Common.{◌≡◌, ◌≢◌, ℕ, zero, suc, ◌+◌, ◌-◌, ◌==◌, ◌<◌, ◌≤◌, ◌++◌, Bool, true, false, nat_eq, List, [], ◌∷◌, Option, Some, None, map, min, length, drop, take, replicate, get_or, slice_get, slice_index, All, Contains, if◌then◌else◌, refl, sym, ap, ◌∙◌, arith, subst, append-nil}
+use Rattle.std.proofs.Common.{◌≡◌, ◌≢◌, ℕ, zero, suc, ◌+◌, ◌-◌, ◌==◌, ◌<◌, ◌≤◌, ◌++◌, Bool, true, false, nat_eq, List, [], ◌∷◌, Option, Some, None, map, length, drop, replicate, get_or, slice_get, slice_index, All, Contains, if◌then◌else◌, refl, sym, ap, ◌∙◌, arith, subst, append-nil}
 use Rattle.std.specs.List.{list_any, range_with_len, position_or_len}
-use Rattle.std.proofs.Math.Bridge.{le_prop}
-use Rattle.std.proofs.Math.Logic.{∥∥₁_elim}
 use Rattle.std.proofs.lemmas.List.{map-append, length-map, length-append, length-replicate, drop_at, get_or-map, get_or_append_left, get_or-append_right, length_push, get_or_push}
-use Rattle.std.proofs.lemmas.List.Elements.{All-contains, Contains-get_or}
-use Rattle.std.proofs.lemmas.Option.{slice_get_within, slice_get_past, slice_get-get_or}
+use Rattle.std.proofs.lemmas.List.Elements.{Contains-get_or}
+use Rattle.std.proofs.lemmas.Option.{slice_get_past, slice_get-get_or}
 use Rattle.un_base.specs.declared.ids.NameId.{NameId}
 use Rattle.un_base.specs.declared.ids.TempId.{TempId}
 use Rattle.un_isa.specs.Registers.{callee_saved, saved_registers}
 use Rattle.un_isa.specs.declared.reg.TheConstants.{LINK}
-use Rattle.un_isa.specs.declared.op.Op.{Op}
 use Rattle.un_isa.specs.declared.op.Op.TheVariants.{Store}
 use Rattle.un_isa.specs.declared.start.Start.{Start}
 use Rattle.un_isa.specs.declared.table.Table.{Table}
@@ -18,16 +15,15 @@ use Rattle.un_ir.specs.declared.function.SrcOp.{SrcOp}
 use Rattle.un_ir.specs.declared.function.Term.{Term}
 use Rattle.un_ir.specs.declared.function.Term.TheVariants.{Fall, Jump, Branch, Ret}
 use Rattle.un_ir.specs.declared.function.Block.{Block}
-use Rattle.un_ir.specs.declared.function.Function.{Function}
 use Rattle.un_ir.specs.declared.extended.Operand.{Operand}
 use Rattle.un_ir.specs.declared.extended.ExtOp.{ExtOp}
 use Rattle.un_ir.specs.declared.extended.ExtBlock.{ExtBlock}
 use Rattle.un_ir.specs.Extended.{temp}
-use Rattle.un_ir.specs.Live.{IsLive, used, kept, read_by, read_by_term, read_at, assigned_by, targets_of, next_by}
-use Rattle.un_ir.specs.Source.{SourceState, SourceRun, BlockEnd, ops_run as source_ops, leave as leave_source, leave_unless as leave_source_unless, through as through_source, enter as enter_source, value_in}
-use Rattle.un_ir.specs.Linear.{World, Values, value_of, defined_all, LinearRun, LinearEnd, LinearState, in_temps, out_operands, ending_of, Ending, ops_run, entered, leave, leave_block, leave_unless, hand_over, taken_by, taken_over, through, enter, first_saved, Returned as ReturnedTo, Running as RunningWith, LinearStop}
-use Rattle.un_ir.specs.LinearOf.{AreLive, live_at, is_among, name_of, live_after, first_temps, body_ops, current_after, past_all, past_block, end_ops, out_op, out_operands_of, kept_operands, in_op, name_operand, reads, linear_ops, linear_block, linear_blocks}
-use Rattle.un_ir.specs.Runs.{world_of, values_at, stop_with, as_linear}
+use Rattle.un_ir.specs.Live.{IsLive, used, kept, read_by, read_by_term, assigned_by, targets_of, next_by}
+use Rattle.un_ir.specs.Source.{SourceState, SourceRun, BlockEnd, leave as leave_source, leave_unless as leave_source_unless, through as through_source, enter as enter_source}
+use Rattle.un_ir.specs.Linear.{World, Values, value_of, defined_all, LinearRun, LinearEnd, in_temps, out_operands, ending_of, Ending, ops_run, leave, leave_block, leave_unless, hand_over, taken_by, taken_over, through, enter, first_saved, Returned as ReturnedTo, Running as RunningWith, LinearStop}
+use Rattle.un_ir.specs.LinearOf.{AreLive, live_at, is_among, live_after, first_temps, body_ops, current_after, past_all, past_block, end_ops, out_op, out_operands_of, kept_operands, name_operand, reads, linear_block, linear_blocks}
+use Rattle.un_ir.specs.Runs.{world_of, values_at, as_linear}
 use Rattle.un_ir.proofs.NameBounds.{NamesAreSmall}
 use Rattle.un_lssa.proofs.StepSim.{names_values}
 use Rattle.un_lssa.proofs.BodySim.{Agrees, BodySim, stops, ends, body_sim}
@@ -62,7 +58,6 @@ module _ (blocks : List Block) (names : ℕ) (small : NamesAreSmall names blocks
     (live_small : (name : NameId) (b : ℕ) → IsLive blocks name b 0 → name.0 < names)
     (inside : (b : ℕ) (block : Block) (c : ℕ) → slice_get blocks b ≡ Some block → Contains (targets_of b block.term) c → c < length blocks)
     (t : Table) (start : Start) (lists : List (List NameId)) (live : AreLive blocks lists) where
-
   abbrev lin : List ExtBlock
   lin = linear_blocks t names lists 0 0 blocks
 
@@ -205,8 +200,8 @@ module _ (blocks : List Block) (names : ℕ) (small : NamesAreSmall names blocks
           let c = saved_len in
           let names_part = names_values w after s.values names_out (λ k d h. a.same (get_or names_out k d) (out_live k d h)) in
           let saved_part : map (value_of w) (map (λ (n : ℕ). reads n None) (range_with_len saved (length (saved_registers t)))) ≡ first_saved t start =
-              ap (λ (k : ℕ). map (value_of w) (map (λ (n : ℕ). reads n None) (range_with_len saved k))) (sym c)
-              ∙ saved_values w saved (first_saved t start) (λ j h. kept_saved j (omega (arith, h, c))) in
+          ap (λ (k : ℕ). map (value_of w) (map (λ (n : ℕ). reads n None) (range_with_len saved k))) (sym c)
+          ∙ saved_values w saved (first_saved t start) (λ j h. kept_saved j (omega (arith, h, c))) in
           map-append (value_of w) (map (name_operand after None) names_out) (map (λ (n : ℕ). reads n None) (range_with_len saved (length (saved_registers t))))
           ∙ ap (λ (xs : List ℕ). xs ++ map (value_of w) (map (λ (n : ℕ). reads n None) (range_with_len saved (length (saved_registers t))))) names_part
           ∙ ap (λ (xs : List ℕ). map (value_at s.values) names_out ++ xs) saved_part
@@ -216,11 +211,11 @@ module _ (blocks : List Block) (names : ℕ) (small : NamesAreSmall names blocks
           → taken_by lblock given (linear_block t names lists c k next) ≡ values_at t start lists c s.values
       next_taken c k next target given is =
           let by_name = map_same (λ (name : NameId). get_or given (position_or_len (λ (n : NameId). n.0 == name.0) names_out) 0) (value_at s.values) (live_at lists c)
-              (λ j d h. (let name = get_or (live_at lists c) j d in
-                  ap (λ (xs : List ℕ). get_or xs (position_or_len (λ (n : NameId). n.0 == name.0) names_out) 0) is
-                  ∙ value_by_place (value_at s.values) names_out (first_saved t start) name (out_has c name target (Contains-get_or (live_at lists c) j d h)))) in
+          (λ j d h. (let name = get_or (live_at lists c) j d in
+          ap (λ (xs : List ℕ). get_or xs (position_or_len (λ (n : NameId). n.0 == name.0) names_out) 0) is
+          ∙ value_by_place (value_at s.values) names_out (first_saved t start) name (out_has c name target (Contains-get_or (live_at lists c) j d h)))) in
           let by_order : drop (length names_out) given ≡ first_saved t start =
-              ap (drop (length names_out)) is ∙ drop_at (map (value_at s.values) names_out) (first_saved t start) (length names_out) (length-map names_out (value_at s.values)) in
+          ap (drop (length names_out)) is ∙ drop_at (map (value_at s.values) names_out) (first_saved t start) (length names_out) (length-map names_out (value_at s.values)) in
           ap (λ (xs : List ℕ). xs ++ drop (length names_out) given) by_name ∙ ap (λ (xs : List ℕ). map (value_at s.values) (live_at lists c) ++ xs) by_order
 
       abbrev returned : Option ℕ → ℕ → List ℕ → LinearRun
@@ -277,7 +272,7 @@ module _ (blocks : List Block) (names : ℕ) (small : NamesAreSmall names blocks
 
         leave_by : (term : Term) → block.term ≡ term
             → leave b term (map (value_of w) (end_operands after link term)) (map (value_of w) (out_operands_of t after saved names_out term)) (world_of s)
-                (hand_over lin lblock (map (value_of w) (out_operands_of t after saved names_out term)) (world_of s) go)
+            (hand_over lin lblock (map (value_of w) (out_operands_of t after saved names_out term)) (world_of s) go)
             ≡ as_linear t start lists (leave_source b term s go_source)
         leave_by Fall e = next (b + 1) (target Fall (b + 1) e (0, omega arith, refl)) given next_values
         leave_by (Jump to) e = next to.0 (target (Jump to) to.0 e (0, omega arith, refl)) given next_values

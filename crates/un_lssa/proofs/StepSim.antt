@@ -1,15 +1,13 @@
 -- One operation of the source, and what it comes to of the values of its operands.
-use Rattle.std.proofs.Common.{◌≡◌, ◌≢◌, ℕ, zero, suc, ◌+◌, ◌<◌, ◌≤◌, ◌++◌, List, [], ◌∷◌, Option, Some, None, map, length, get_or, refl, sym, ap, ◌∙◌, arith, subst}
+use Rattle.std.proofs.Common.{◌≡◌, ℕ, suc, ◌<◌, ◌++◌, List, [], ◌∷◌, Option, Some, None, map, length, get_or, refl, ap, arith, subst}
 use Rattle.un_base.specs.declared.ids.NameId.{NameId}
 use Rattle.un_isa.specs.Memories.{word_at, set_word, set_words}
-use Rattle.un_isa.specs.Words.{address_of}
 use Rattle.un_isa.specs.declared.op.Op.{Op}
 use Rattle.un_isa.specs.declared.op.Op.TheVariants.{Load, Store, Call}
 use Rattle.un_isa.specs.declared.outcome.CallRecord.{CallRecord}
 use Rattle.un_isa.specs.declared.start.Reply.{Reply}
 use Rattle.un_isa.specs.declared.table.Table.{Table}
 use Rattle.un_ir.specs.declared.function.SrcOp.{SrcOp}
-use Rattle.un_ir.specs.declared.extended.Operand.{Operand}
 use Rattle.un_ir.specs.Source.{SourceState, SourceStep, Went, Stopped, op_step, step_by, value_in, assigned, loads, stores, calls_with, record_of, address_in, Trapped, Waiting}
 use Rattle.un_ir.specs.Linear.{World, Effect, Gives, Stops, effect_of, effect_by, Values, value_of, loads as loads_value, stores as stores_value, calls_with as calls_value, record_of as record_for, Trapped as Traps, Waiting as Waits}
 use Rattle.un_ir.specs.LinearOf.{name_operand, argument_operands, source_operands}
