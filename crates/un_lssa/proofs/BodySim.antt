@@ -48,7 +48,8 @@ module _ (blocks : List Block) (names : ℕ) (small : NamesAreSmall names blocks
     pub same : (name : NameId) → IsLive blocks name b k → v (get_or current name.0 0) ≡ get_or values name.0 0
     pub below : (name : NameId) → IsLive blocks name b k → get_or current name.0 0 < n
 
-  live_before : (k : ℕ) (o : SrcOp) (name : NameId) → slice_get block.ops k ≡ Some o → IsLive blocks name b (k + 1) → o.dst ≢ Some name → IsLive blocks name b k
+  live_before : (k : ℕ) (o : SrcOp) (name : NameId) → slice_get block.ops k ≡ Some o → IsLive blocks name b (k + 1) → o.dst ≢ Some name
+      → IsLive blocks name b k
   live_before k o name got live other =
       let h : k ≤ length block.ops = let r = slice_get_within block.ops k o got in omega (arith, r) in
       kept b k block b (k + 1) here h
@@ -56,7 +57,8 @@ module _ (blocks : List Block) (names : ℕ) (small : NamesAreSmall names blocks
       (subst (λ (x : Option SrcOp). Contains {X = ℕ × ℕ} (next_by b k x block.term) (b, k + 1)) (sym got) (0, omega arith, refl))
       live
 
-  read_values : (k : ℕ) (o : SrcOp) (current : List ℕ) (n : ℕ) (v : Values) (values : List ℕ) → slice_get block.ops k ≡ Some o → Agrees k current n v values → AreValues v current values o.srcs
+  read_values : (k : ℕ) (o : SrcOp) (current : List ℕ) (n : ℕ) (v : Values) (values : List ℕ) → slice_get block.ops k ≡ Some o
+      → Agrees k current n v values → AreValues v current values o.srcs
   read_values k o current n v values got a j d below =
       let name = get_or o.srcs j d in
       let h : k ≤ length block.ops = let r = slice_get_within block.ops k o got in omega (arith, r) in
@@ -77,7 +79,8 @@ module _ (blocks : List Block) (names : ℕ) (small : NamesAreSmall names blocks
   abbrev After : Option NameId → Values → ℕ → ℕ → Values
   After dst v n x = defined_all v (map (λ (name : NameId). temp n) (option_to_list dst)) (x ∷ [])
 
-  agrees_by : (dst : Option NameId) (k : ℕ) (o : SrcOp) (current : List ℕ) (n : ℕ) (v : Values) (values : List ℕ) (x : ℕ) → o.dst ≡ dst → slice_get block.ops k ≡ Some o
+  agrees_by : (dst : Option NameId) (k : ℕ) (o : SrcOp) (current : List ℕ) (n : ℕ) (v : Values) (values : List ℕ) (x : ℕ) → o.dst ≡ dst
+      → slice_get block.ops k ≡ Some o
       → Agrees k current n v values → Agrees (k + 1) (assigned current dst n) (past dst n) (After dst v n x) (valued values dst x)
   agrees_by None k o current n v values x e got a = record {
     long = a.long;
@@ -121,7 +124,8 @@ module _ (blocks : List Block) (names : ℕ) (small : NamesAreSmall names blocks
           ap (defined v (temp n) x) (kept_temp name off) ∙ other_value v n (get_or current name.0 0) x (a.below name old) ∙ a.same name old
           ∙ sym (get_or-set_other values d.0 name.0 x 0 (other name off))
 
-      below : (name : NameId) → IsLive blocks name b (k + 1) → (w : Bool) → nat_eq d.0 name.0 ≡ w → get_or (assigned current (Some d) n) name.0 0 < n + 1
+      below : (name : NameId) → IsLive blocks name b (k + 1) → (w : Bool) → nat_eq d.0 name.0 ≡ w
+          → get_or (assigned current (Some d) n) name.0 0 < n + 1
       below name live true on = let e = new_temp name on in omega (arith, e)
       below name live false off = let e = kept_temp name off in let l = a.below name (before name live off) in omega (arith, e, l)
 
@@ -134,7 +138,8 @@ module _ (blocks : List Block) (names : ℕ) (small : NamesAreSmall names blocks
     ends : (s : SourceState) (w : Values) → Agrees (length block.ops) after last w s.values → ((x : ℕ) → x < n → w x ≡ v x)
         → BodySim n v after last rest (record { stop = None; state = s }) (linear_run_ops rest (record { values = w; world = world_of s }))
 
-  weaken : (n m : ℕ) (v w : Values) (after : List ℕ) (last : ℕ) (rest : List ExtOp) (q : BlockEnd) (r : LinearEnd) → n ≤ m → ((x : ℕ) → x < n → w x ≡ v x)
+  weaken : (n m : ℕ) (v w : Values) (after : List ℕ) (last : ℕ) (rest : List ExtOp) (q : BlockEnd) (r : LinearEnd) → n ≤ m
+      → ((x : ℕ) → x < n → w x ≡ v x)
       → BodySim m w after last rest q r → BodySim n v after last rest q r
   weaken n m v w after last rest q r h old (stops e l s u same) = stops e l s u same
   weaken n m v w after last rest q r h old (ends s u a stay) = ends s u a (λ x below. stay x (omega arith) ∙ old x below)
@@ -159,7 +164,8 @@ module _ (blocks : List Block) (names : ℕ) (small : NamesAreSmall names blocks
   by_step o os current n v s rest ih q r traps = stops _ _ s v (λ values. refl)
   by_step o os current n v s rest ih q r (waits c) = stops _ _ s v (λ values. refl)
 
-  pub body_sim : (os : List SrcOp) (k : ℕ) (current : List ℕ) (n : ℕ) (v : Values) (s : SourceState) (rest : List ExtOp) → drop k block.ops ≡ os → k ≤ length block.ops
+  pub body_sim : (os : List SrcOp) (k : ℕ) (current : List ℕ) (n : ℕ) (v : Values) (s : SourceState) (rest : List ExtOp)
+      → drop k block.ops ≡ os → k ≤ length block.ops
       → Agrees k current n v s.values
       → BodySim n v (current_after current n os) (past_all n os) rest (ops_run os s) (linear_run_ops (body_ops t current n os ++ rest) (record { values = v; world = world_of s }))
   body_sim [] k current n v s rest e h a = ends s v (subst (λ (m : ℕ). Agrees m current n v s.values) (at_end block.ops k e h) a) (λ x below. refl)

@@ -39,7 +39,8 @@ small_names f = record {
 }
 
 -- a Store has no result
-stores_none : (f : Function) (b k : ℕ) (block : Block) (o : SrcOp) → slice_get f.blocks b ≡ Some block → slice_get block.ops k ≡ Some o → o.op ≡ Store → o.dst ≡ None
+stores_none : (f : Function) (b k : ℕ) (block : Block) (o : SrcOp) → slice_get f.blocks b ≡ Some block → slice_get block.ops k ≡ Some o
+    → o.op ≡ Store → o.dst ≡ None
 stores_none f b k block o at here is = by o.dst refl
   where
     not_some : (name : NameId) → AssignsItsKind f.names Store (Some name) → ⊥
@@ -75,7 +76,8 @@ any_push : (x y : ℕ) (seen : List ℕ) → list_any (nat_eq x) seen ≡ false 
 any_push x y [] h e = rw e refl
 any_push x y (z ∷ seen) h e = by (any_push x y seen) (nat_eq x z) refl h
   where
-    by : (list_any (nat_eq x) seen ≡ false → nat_eq x y ≡ false → list_any (nat_eq x) (seen ++ y ∷ []) ≡ false) → (v : Bool) → nat_eq x z ≡ v → (v || list_any (nat_eq x) seen) ≡ false
+    by : (list_any (nat_eq x) seen ≡ false → nat_eq x y ≡ false → list_any (nat_eq x) (seen ++ y ∷ []) ≡ false) → (v : Bool)
+        → nat_eq x z ≡ v → (v || list_any (nat_eq x) seen) ≡ false
         → (nat_eq x z || list_any (nat_eq x) (seen ++ y ∷ [])) ≡ false
     by ih true q h = absurd (cc h)
     by ih false q h = rw q (ih h e)
@@ -84,7 +86,8 @@ record Begins (seen : List ℕ) (params rest : List NameId) : Type 0 where
   more : List ℕ
   is : fold see seen (params ++ rest) ≡ (seen ++ numbers params) ++ more
 
-begins : (seen : List ℕ) (params rest : List NameId) → AllPairs (λ (a b : NameId). a ≢ b) params → AreNew seen params → Begins seen params rest
+begins : (seen : List ℕ) (params rest : List NameId) → AllPairs (λ (a b : NameId). a ≢ b) params → AreNew seen params
+    → Begins seen params rest
 begins seen [] rest apart new = let g = grows seen rest in record { more = g.more; is = g.is ∙ ap (λ (xs : List ℕ). xs ++ g.more) (sym (append-nil seen)) }
 begins seen (p ∷ params) rest apart new =
     let first : list_any (nat_eq p.0) seen ≡ false = new 0 p (omega arith) in
@@ -104,7 +107,8 @@ record Numbered (params : List NameId) (count : ℕ) : Type 0 where
   few : length params ≤ count
   below : (name : NameId) → Contains params name → name.0 < length params
 
-numbered : (params rest : List NameId) (count : ℕ) → AllPairs (λ (a b : NameId). a ≢ b) params → first_appearances (params ++ rest) ≡ range_with_len 0 count → Numbered params count
+numbered : (params rest : List NameId) (count : ℕ) → AllPairs (λ (a b : NameId). a ≢ b) params
+    → first_appearances (params ++ rest) ≡ range_with_len 0 count → Numbered params count
 numbered params rest count apart is = record { few = few; below = below }
   where
     all : Begins [] params rest
@@ -145,7 +149,8 @@ entry_param f name l = ∥∥₁_elim f.well_formed le_prop
 -- ---- the theorem
 
 -- at most as many blocks are entered as for the source; the start has 36 registers
-pub linear_runs : (f : Function) (lists : List (List NameId)) (t : Table) (start : Start) (n : ℕ) → AreLive f.blocks lists → length start.regs ≡ 36
+pub linear_runs : (f : Function) (lists : List (List NameId)) (t : Table) (start : Start) (n : ℕ) → AreLive f.blocks lists
+    → length start.regs ≡ 36
     → linear_run t (linear_blocks t (length f.names) lists 0 0 f.blocks) start n ≡ as_linear t start lists (source_run f start n)
 linear_runs f lists t start n live regs =
     let entry = get_or f.blocks 0 no_block in
@@ -160,14 +165,16 @@ linear_runs f lists t start n live regs =
     let g = length-replicate {A = ℕ} (length f.names - length f.params) 0 in
     let wide : length first.values ≡ length f.names = omega (arith, a, c, d, e, g, regs) in
     let taken : first_taken t (slice_get (linear_blocks t (length f.names) lists 0 0 f.blocks) 0) start ≡ values_at t start lists 0 first.values =
-    ap (λ (x : Option ExtBlock). first_taken t x start) got ∙ ap (λ (xs : List ℕ). xs ++ first_saved t start) (map_same_values (slice_index start.regs) (slice_index first.values) (live_at lists 0) value) in
+    ap (λ (x : Option ExtBlock). first_taken t x start) got
+    ∙ ap (λ (xs : List ℕ). xs ++ first_saved t start) (map_same_values (slice_index start.regs) (slice_index first.values) (live_at lists 0) value) in
     enter_sim f.blocks (length f.names) (small_names f) (stores_none f) (λ name b l. live_name_small f name b 0 l) (λ b block c at has. (leads_inside f b block c at has).1)
     t start lists live n 0 first (first_taken t (slice_get (linear_blocks t (length f.names) lists 0 0 f.blocks) 0) start) (entry_there f) wide taken
   where
     no_block : Block
     no_block = record { label = []; freq = 0; ops = []; term = Fall }
 
-    value : (k : ℕ) (x : NameId) → k < length (live_at lists 0) → (let name = get_or (live_at lists 0) k x in slice_index start.regs name.0 ≡ (let s = first_state f start in slice_index s.values name.0))
+    value : (k : ℕ) (x : NameId) → k < length (live_at lists 0)
+        → (let name = get_or (live_at lists 0) k x in slice_index start.regs name.0 ≡ (let s = first_state f start in slice_index s.values name.0))
     value k x h =
         let name = get_or (live_at lists 0) k x in
         let l = (live.exact 0 name).0 (Contains-get_or (live_at lists 0) k x h) in

@@ -35,7 +35,8 @@ saved_few t =
     let c = length-range_with_len 0 32 in
     omega (arith, a, b, c)
 
-within_all : (blocks : List Block) (k : ℕ) (d : Block) → k < length blocks → (let block = get_or blocks k d in length block.ops) ≤ length (flat_map (λ (block : Block). block.ops) blocks)
+within_all : (blocks : List Block) (k : ℕ) (d : Block) → k < length blocks
+    → (let block = get_or blocks k d in length block.ops) ≤ length (flat_map (λ (block : Block). block.ops) blocks)
 within_all [] k d h = absurd (omega arith)
 within_all (block ∷ blocks) zero d h = let e = length-append block.ops (flat_map (λ (block : Block). block.ops) blocks) in rw e (omega arith)
 within_all (block ∷ blocks) (suc k) d h =

@@ -32,7 +32,8 @@ use Rattle.un_lssa.proofs.EnterSim.{range_value, first_temp, first_length, body_
 abbrev value_at : List ℕ → NameId → ℕ
 value_at values name = get_or values name.0 0
 
-pub map_same_values : (f g : ℕ → ℕ) (names : List NameId) → ((k : ℕ) (d : NameId) → k < length names → (let name = get_or names k d in f name.0 ≡ g name.0))
+pub map_same_values : (f g : ℕ → ℕ) (names : List NameId)
+    → ((k : ℕ) (d : NameId) → k < length names → (let name = get_or names k d in f name.0 ≡ g name.0))
     → map (λ (name : NameId). f name.0) names ≡ map (λ (name : NameId). g name.0) names
 map_same_values f g names h = map_same (λ (name : NameId). f name.0) (λ (name : NameId). g name.0) names h
 
@@ -41,7 +42,8 @@ pub record HasBlock (t : Table) (names : ℕ) (lists : List (List NameId)) (bs :
   pub first : ℕ
   pub got : slice_get bs k ≡ Some (linear_block t names lists b first block)
 
-pub block_at : (t : Table) (names : ℕ) (lists : List (List NameId)) (b n : ℕ) (blocks : List Block) (k : ℕ) (block : Block) → slice_get blocks k ≡ Some block
+pub block_at : (t : Table) (names : ℕ) (lists : List (List NameId)) (b n : ℕ) (blocks : List Block) (k : ℕ) (block : Block)
+    → slice_get blocks k ≡ Some block
     → HasBlock t names lists (linear_blocks t names lists b n blocks) k (b + k) block
 block_at t names lists b n [] k block e = absurd (cc e)
 block_at t names lists b n (own ∷ blocks) zero block e =
@@ -113,7 +115,8 @@ module _ (blocks : List Block) (names : ℕ) (small : NamesAreSmall names blocks
         → (i : ℕ) × (i < length names_in) × (get_or names_in i name ≡ name)
     in_value values name l = (live.exact b name).1 l
 
-    start_agrees : (values : List ℕ) → length values ≡ names → Agrees blocks names small stores t start lists b block here 0 current first (v0 (values_at t start lists b values)) values
+    start_agrees : (values : List ℕ) → length values ≡ names
+        → Agrees blocks names small stores t start lists b block here 0 current first (v0 (values_at t start lists b values)) values
     start_agrees values wide = record {
       long = first_length (replicate names 0) m names_in ∙ length-replicate names 0;
       wide = wide;
@@ -130,7 +133,8 @@ module _ (blocks : List Block) (names : ℕ) (small : NamesAreSmall names blocks
         its_temp name l =
             let i = in_value values name l in
             let wide_enough : All (λ (n : NameId). n.0 < length {A = ℕ} (replicate names 0)) names_in = λ k d below. (let r = live_small (get_or names_in k d) b ((live.exact b (get_or names_in k d)).0 (Contains-get_or names_in k d below)) in let e = length-replicate {A = ℕ} names 0 in omega (arith, r, e)) in
-            ap (λ (n : NameId). get_or current n.0 0) (sym i.2) ∙ first_temp (replicate names 0) m names_in i.0 name (live.rising b) wide_enough i.1
+            ap (λ (n : NameId). get_or current n.0 0) (sym i.2)
+            ∙ first_temp (replicate names 0) m names_in i.0 name (live.rising b) wide_enough i.1
 
         its_place : (name : NameId) (l : IsLive blocks name b 0) → (in_value values name l).0 < count
         its_place name l = let i = in_value values name l in let h = i.1 in omega (arith, h)
@@ -138,7 +142,8 @@ module _ (blocks : List Block) (names : ℕ) (small : NamesAreSmall names blocks
         its_mapped : (name : NameId) (l : IsLive blocks name b 0) → (in_value values name l).0 < length (map (value_at values) names_in)
         its_mapped name l = let i = in_value values name l in let h = i.1 in let e = length-map names_in (value_at values) in omega (arith, h, e)
 
-    saved0 : (values : List ℕ) (j : ℕ) → j < length (saved_registers t) → v0 (values_at t start lists b values) (saved + j) ≡ get_or (first_saved t start) j 0
+    saved0 : (values : List ℕ) (j : ℕ) → j < length (saved_registers t)
+        → v0 (values_at t start lists b values) (saved + j) ≡ get_or (first_saved t start) j 0
     saved0 values j h =
         let z : saved + j ≡ m + (length names_in + j) = omega arith in
         let c : length names_in + j < count = omega arith in
@@ -156,7 +161,8 @@ module _ (blocks : List Block) (names : ℕ) (small : NamesAreSmall names blocks
     no_op = slice_get_past block.ops (length block.ops) (omega arith)
 
     -- a name that is live where a next block starts is live at the end of this one
-    end_live : (c : ℕ) (name : NameId) → Contains (targets_of b block.term) c → IsLive blocks name c 0 → IsLive blocks name b (length block.ops)
+    end_live : (c : ℕ) (name : NameId) → Contains (targets_of b block.term) c → IsLive blocks name c 0
+        → IsLive blocks name b (length block.ops)
     end_live c name target l =
         kept b (length block.ops) block c 0 here (omega arith)
         (subst (λ (x : Option SrcOp). assigned_by x ≢ Some name) (sym no_op) (λ e. cc e))
@@ -207,7 +213,8 @@ module _ (blocks : List Block) (names : ℕ) (small : NamesAreSmall names blocks
           ∙ ap (λ (xs : List ℕ). map (value_at s.values) names_out ++ xs) saved_part
 
       -- what a next block takes over
-      next_taken : (c k : ℕ) (next : Block) → Contains (targets_of b block.term) c → (given : List ℕ) → given ≡ map (value_at s.values) names_out ++ first_saved t start
+      next_taken : (c k : ℕ) (next : Block) → Contains (targets_of b block.term) c → (given : List ℕ)
+          → given ≡ map (value_at s.values) names_out ++ first_saved t start
           → taken_by lblock given (linear_block t names lists c k next) ≡ values_at t start lists c s.values
       next_taken c k next target given is =
           let by_name = map_same (λ (name : NameId). get_or given (position_or_len (λ (n : NameId). n.0 == name.0) names_out) 0) (value_at s.values) (live_at lists c)
@@ -215,8 +222,10 @@ module _ (blocks : List Block) (names : ℕ) (small : NamesAreSmall names blocks
           ap (λ (xs : List ℕ). get_or xs (position_or_len (λ (n : NameId). n.0 == name.0) names_out) 0) is
           ∙ value_by_place (value_at s.values) names_out (first_saved t start) name (out_has c name target (Contains-get_or (live_at lists c) j d h)))) in
           let by_order : drop (length names_out) given ≡ first_saved t start =
-          ap (drop (length names_out)) is ∙ drop_at (map (value_at s.values) names_out) (first_saved t start) (length names_out) (length-map names_out (value_at s.values)) in
-          ap (λ (xs : List ℕ). xs ++ drop (length names_out) given) by_name ∙ ap (λ (xs : List ℕ). map (value_at s.values) (live_at lists c) ++ xs) by_order
+          ap (drop (length names_out)) is
+          ∙ drop_at (map (value_at s.values) names_out) (first_saved t start) (length names_out) (length-map names_out (value_at s.values)) in
+          ap (λ (xs : List ℕ). xs ++ drop (length names_out) given) by_name
+          ∙ ap (λ (xs : List ℕ). map (value_at s.values) (live_at lists c) ++ xs) by_order
 
       abbrev returned : Option ℕ → ℕ → List ℕ → LinearRun
       returned v target xs = record { stop = ReturnedTo v target xs; world = world_of s }
@@ -236,14 +245,16 @@ module _ (blocks : List Block) (names : ℕ) (small : NamesAreSmall names blocks
 
       module _ (go : ℕ → List ℕ → World → LinearRun) (go_source : ℕ → SourceState → SourceRun)
           (goes : (c : ℕ) → c < length blocks → go c (values_at t start lists c s.values) (world_of s) ≡ as_linear t start lists (go_source c s)) where
-        next : (c : ℕ) → Contains (targets_of b block.term) c → (given : List ℕ) → given ≡ map (value_at s.values) names_out ++ first_saved t start
+        next : (c : ℕ) → Contains (targets_of b block.term) c → (given : List ℕ)
+            → given ≡ map (value_at s.values) names_out ++ first_saved t start
             → hand_over lin lblock given (world_of s) go c ≡ as_linear t start lists (go_source c s)
         next c target given is =
             let h = inside b block c here target in
             let block_c = get_or blocks c block in
             let there = block_at t names lists 0 0 blocks c block_c (slice_get-get_or blocks c block h) in
             let z : 0 + c ≡ c = omega arith in
-            let got : slice_get lin c ≡ Some (linear_block t names lists c there.first block_c) = there.got ∙ ap (λ (k : ℕ). Some (linear_block t names lists k there.first block_c)) z in
+            let got : slice_get lin c ≡ Some (linear_block t names lists c there.first block_c) = there.got
+            ∙ ap (λ (k : ℕ). Some (linear_block t names lists k there.first block_c)) z in
             ap (λ (x : Option ExtBlock). go c (taken_over lblock given x) (world_of s)) got
             ∙ ap (λ (xs : List ℕ). go c xs (world_of s)) (next_taken c there.first block_c target given is)
             ∙ goes c h
@@ -264,7 +275,8 @@ module _ (blocks : List Block) (names : ℕ) (small : NamesAreSmall names blocks
         branch x y is c d one two =
             ap (λ (n : ℕ). if nat_eq n 0 then hand_over lin lblock given (world_of s) go c else hand_over lin lblock given (world_of s) go d) is ∙ pick (nat_eq y 0) c d one two
 
-        read_value : (name : NameId) (term : Term) → block.term ≡ term → Contains (read_by_term term) name → w (get_or after name.0 0) ≡ get_or s.values name.0 0
+        read_value : (name : NameId) (term : Term) → block.term ≡ term → Contains (read_by_term term) name
+            → w (get_or after name.0 0) ≡ get_or s.values name.0 0
         read_value name term e has = a.same name (term_live name (subst (λ (x : Term). Contains (read_by_term x) name) (sym e) has))
 
         target : (term : Term) (c : ℕ) → block.term ≡ term → Contains (targets_of b term) c → Contains (targets_of b block.term) c
@@ -334,7 +346,8 @@ module _ (blocks : List Block) (names : ℕ) (small : NamesAreSmall names blocks
 
   -- ---- the whole run
 
-  pub enter_sim : (n b : ℕ) (s : SourceState) (taken : List ℕ) → b < length blocks → length s.values ≡ names → taken ≡ values_at t start lists b s.values
+  pub enter_sim : (n b : ℕ) (s : SourceState) (taken : List ℕ) → b < length blocks → length s.values ≡ names
+      → taken ≡ values_at t start lists b s.values
       → enter lin n b taken (world_of s) ≡ as_linear t start lists (enter_source blocks n b s)
   enter_sim zero b s taken h wide is = ap (λ (xs : List ℕ). (let z : LinearRun = record { stop = RunningWith b xs; world = world_of s } in z)) is
   enter_sim (suc n) b s taken h wide is =
@@ -342,7 +355,8 @@ module _ (blocks : List Block) (names : ℕ) (small : NamesAreSmall names blocks
       let here = slice_get-get_or blocks b no_block h in
       let there = block_at t names lists 0 0 blocks b block here in
       let z : 0 + b ≡ b = omega arith in
-      let got : slice_get lin b ≡ Some (linear_block t names lists b there.first block) = there.got ∙ ap (λ (k : ℕ). Some (linear_block t names lists k there.first block)) z in
+      let got : slice_get lin b ≡ Some (linear_block t names lists b there.first block) = there.got
+      ∙ ap (λ (k : ℕ). Some (linear_block t names lists k there.first block)) z in
       ap (λ (x : Option ExtBlock). through lin x b taken (world_of s) (enter lin n)) got
       ∙ ap (λ (xs : List ℕ). through lin (Some (linear_block t names lists b there.first block)) b xs (world_of s) (enter lin n)) is
       ∙ block_sim b there.first block here (enter lin n) (enter_source blocks n) (λ c u below same. enter_sim n c u (values_at t start lists c u.values) below same refl) s wide

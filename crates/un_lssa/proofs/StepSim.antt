@@ -34,11 +34,13 @@ module _ (o : SrcOp) (s : SourceState) where
       subst (λ (values : List ℕ). StepSim o s (Went (record { values = values; memory = set_word a v s.memory; calls = s.calls; replies = s.replies })) (Gives 0 (record { memory = set_word a v s.memory; calls = s.calls; replies = s.replies })))
       same (goes 0 (record { memory = set_word a v s.memory; calls = s.calls; replies = s.replies }))
 
-  call_sim : (replies : List Reply) → StepSim o s (calls_with o s replies) (calls_value (record_for o (map (value_in s) o.srcs) (world_of s)) (world_of s) replies)
+  call_sim : (replies : List Reply)
+      → StepSim o s (calls_with o s replies) (calls_value (record_for o (map (value_in s) o.srcs) (world_of s)) (world_of s) replies)
   call_sim [] = waits (record_of o s)
   call_sim (r ∷ rs) = goes r.result (record { memory = set_words r.changed s.memory; calls = s.calls ++ record_of o s ∷ []; replies = rs })
 
-  sim_by : (op : Op) → o.op ≡ op → (op ≡ Store → o.dst ≡ None) → StepSim o s (step_by op o s) (effect_by op o (map (value_in s) o.srcs) (world_of s))
+  sim_by : (op : Op) → o.op ≡ op → (op ≡ Store → o.dst ≡ None)
+      → StepSim o s (step_by op o s) (effect_by op o (map (value_in s) o.srcs) (world_of s))
   sim_by Load e none = load_sim (word_at (address_in o s) s.memory)
   sim_by Store e none = store_sim (address_in o s) (get_or (map (value_in s) o.srcs) 1 0) (word_at (address_in o s) s.memory) (none refl)
   sim_by Call e none = call_sim s.replies
@@ -51,9 +53,11 @@ module _ (o : SrcOp) (s : SourceState) where
 -- ---- operands
 
 abbrev pub AreValues : Values → List ℕ → List ℕ → List NameId → Type 0
-AreValues v current values names = (k : ℕ) (d : NameId) → k < length names → (let name = get_or names k d in v (get_or current name.0 0) ≡ get_or values name.0 0)
+AreValues v current values names = (k : ℕ) (d : NameId) → k < length names
+    → (let name = get_or names k d in v (get_or current name.0 0) ≡ get_or values name.0 0)
 
-are_later : (v : Values) (current values : List ℕ) (name : NameId) (names : List NameId) → AreValues v current values (name ∷ names) → AreValues v current values names
+are_later : (v : Values) (current values : List ℕ) (name : NameId) (names : List NameId) → AreValues v current values (name ∷ names)
+    → AreValues v current values names
 are_later v current values name names h k d below = h (suc k) d (omega arith)
 
 abbrev value_at : List ℕ → NameId → ℕ
