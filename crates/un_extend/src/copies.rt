@@ -69,12 +69,7 @@ pub fn push_frame_op(alloc: Global, g: &mut Growth, kind: ExtKind) -> Result<(),
 }
 
 /// Adds a copy that may read these temporaries.
-fn push_copy(
-    alloc: Global,
-    g: &mut Growth,
-    node: NodeCopy,
-    alts: &[TempId],
-) -> Result<(), NoMemory>
+fn push_copy(alloc: Global, g: &mut Growth, node: NodeCopy, alts: &[TempId]) -> Result<(), NoMemory>
     ensures { OnOk result (g.new ≡ with_copy node alts.now g.old) }
 {
     let op = copy_op(alloc, node, alts, g.next)?;

@@ -42,12 +42,7 @@ fn push_leave(alloc: Global, g: &mut Growth, kind: &ExtKind) -> Result<(), NoMem
 }
 
 /// Adds Enter behind the first values of the entry.
-fn push_enter(
-    alloc: Global,
-    g: &mut Growth,
-    is_entry: bool,
-    kind: &ExtKind,
-) -> Result<(), NoMemory>
+fn push_enter(alloc: Global, g: &mut Growth, is_entry: bool, kind: &ExtKind) -> Result<(), NoMemory>
     ensures { OnOk result (g.new ≡ with_enter is_entry kind.now g.old) }
 {
     match kind {
@@ -115,11 +110,7 @@ fn name_kind(names: &[Kind], name: NameId) -> Kind
 }
 
 /// The sorts of names, which all have copies.
-fn name_sorts(
-    alloc: Global,
-    names: &[Kind],
-    live_in: &[NameId],
-) -> Result<Items<Sort>, NoMemory>
+fn name_sorts(alloc: Global, names: &[Kind], live_in: &[NameId]) -> Result<Items<Sort>, NoMemory>
     ensures { IfOk result (λ sorts. sorts ≡ map (sort_of_name names.now) live_in.now) }
 {
     let mut sorts = Items::new(alloc);

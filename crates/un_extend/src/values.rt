@@ -71,11 +71,7 @@ fn all_temps(alloc: Global, v: &Value, next: u32) -> Result<Items<TempId>, NoMem
 }
 
 /// Adds the copies of an operand that reads this value, which has number `x`, and answers all its alternatives.
-fn read_value(
-    alloc: Global,
-    g: &mut Growth,
-    x: usize,
-) -> Result<Items<TempId>, NoMemory>
+fn read_value(alloc: Global, g: &mut Growth, x: usize) -> Result<Items<TempId>, NoMemory>
     requires { x < length g.old.values }
     ensures grown { OnOk result (g.new ≡ with_operand_by x (slice_get g.old.values x) g.old) }
     ensures alternatives { IfOk result (λ alts. alts ≡ alternatives (slice_get (let grown = with_operand_by x (slice_get g.old.values x) g.old in grown.values) x)) }

@@ -93,7 +93,8 @@ only x y (suc k, below, is) = absurd (omega arith)
 
 -- ---- marks
 
-leads_target : (marks : List Bool) (b : ℕ) (term : Term) → leads marks b term ≡ true → (c : ℕ) × Contains (targets_of b term) c × (marked marks c ≡ true)
+leads_target : (marks : List Bool) (b : ℕ) (term : Term) → leads marks b term ≡ true
+    → (c : ℕ) × Contains (targets_of b term) c × (marked marks c ≡ true)
 leads_target marks b Fall h = (b + 1, (0, omega arith, refl), h)
 leads_target marks b (Jump to) h = (to.0, (0, omega arith, refl), h)
 leads_target marks b (Branch pred sense to) h = elim (or_cases (marked marks (b + 1)) (marked marks to.0) h) [
@@ -110,7 +111,8 @@ or_right : (a b : Bool) → b ≡ true → (a || b) ≡ true
 or_right true b h = refl
 or_right false b h = h
 
-target_leads : (marks : List Bool) (b : ℕ) (term : Term) (c : ℕ) → Contains (targets_of b term) c → marked marks c ≡ true → leads marks b term ≡ true
+target_leads : (marks : List Bool) (b : ℕ) (term : Term) (c : ℕ) → Contains (targets_of b term) c → marked marks c ≡ true
+    → leads marks b term ≡ true
 target_leads marks b Fall c has h = rw (only (b + 1) c has) h
 target_leads marks b (Jump to) c has h = rw (only to.0 c has) h
 target_leads marks b (Branch pred sense to) c (zero, below, is) h = or_left (marked marks (b + 1)) (marked marks to.0) (rw is h)
@@ -141,7 +143,8 @@ live_block blocks name b k (kept b2 k2 block c l g h na nx live) = (block, g)
 abbrev Meets : NameId → List Bool → ℕ → ℕ → Block → Type 0
 Meets name marks b k block = live_by (meeting name (drop k block.ops) block.term) (leads marks b block.term) ≡ true
 
-read_meets : (name : NameId) (marks : List Bool) (b k : ℕ) (block : Block) → k ≤ length block.ops → Contains (read_at block k) name → Meets name marks b k block
+read_meets : (name : NameId) (marks : List Bool) (b k : ℕ) (block : Block) → k ≤ length block.ops → Contains (read_at block k) name
+    → Meets name marks b k block
 read_meets name marks b k block h has = elim (at_place block.ops k h) [
   | inl (none, empty) ↦
       let term : Contains (read_by_term block.term) name = subst (λ (o : Option SrcOp). Contains (read_by o block.term) name) none has in
@@ -185,27 +188,31 @@ live_meets blocks name marks closed b k (kept b2 k2 own c l g h na nx live) bloc
     c l (subst (λ (x : Block). Contains {X = ℕ × ℕ} (next_of b2 k2 x) (c, l)) e nx) next.0 next.1 (live_meets blocks name marks closed c l live)
 
 -- where no block is left to be marked, each block at whose start the name is live is marked
-pub live_marked : (blocks : List Block) (name : NameId) (marks : List Bool) → AreClosed blocks name marks → (b : ℕ) → IsLive blocks name b 0 → marked marks b ≡ true
+pub live_marked : (blocks : List Block) (name : NameId) (marks : List Bool) → AreClosed blocks name marks → (b : ℕ)
+    → IsLive blocks name b 0 → marked marks b ≡ true
 live_marked blocks name marks closed b live =
     let block = live_block blocks name b 0 live in
     let meets : Meets name marks b 0 block.0 = live_meets blocks name marks closed b 0 live block.0 block.1 in
     let here : lives_at blocks name marks b ≡ true = rw block.1 meets in
     closed b here
 
-pub is_column : (blocks : List Block) (name : NameId) (marks : List Bool) → length marks ≡ length blocks → AreSound blocks name marks → AreClosed blocks name marks → IsColumn blocks name marks
+pub is_column : (blocks : List Block) (name : NameId) (marks : List Bool) → length marks ≡ length blocks → AreSound blocks name marks
+    → AreClosed blocks name marks → IsColumn blocks name marks
 is_column blocks name marks long sound closed = record { long = long; exact = λ b. (sound b, live_marked blocks name marks closed b) }
 
 -- ---- what is marked is live
 
 meets_live : (blocks : List Block) (name : NameId) (b : ℕ) (block : Block) → slice_get blocks b ≡ Some block → (l : Bool)
     → (l ≡ true → (c : ℕ) × Contains (targets_of b block.term) c × IsLive blocks name c 0)
-    → (os : List SrcOp) (k : ℕ) → drop k block.ops ≡ os → k ≤ length block.ops → live_by (meeting name os block.term) l ≡ true → IsLive blocks name b k
+    → (os : List SrcOp) (k : ℕ) → drop k block.ops ≡ os → k ≤ length block.ops → live_by (meeting name os block.term) l ≡ true
+        → IsLive blocks name b k
 meets_live blocks name b block is l out [] k drops h hyp = elim (at_place block.ops k h) [
   | inl (none, empty) ↦ by none (reads name (read_by_term block.term)) refl hyp
   | inr s ↦ absurd (cc (sym s.front ∙ drops))
 ]
   where
-    by : slice_get block.ops k ≡ None → (v : Bool) → reads name (read_by_term block.term) ≡ v → live_by (if v then Read else Neither) l ≡ true → IsLive blocks name b k
+    by : slice_get block.ops k ≡ None → (v : Bool) → reads name (read_by_term block.term) ≡ v
+        → live_by (if v then Read else Neither) l ≡ true → IsLive blocks name b k
     by none true e hyp = used b k block is h (subst (λ (o : Option SrcOp). Contains (read_by o block.term) name) (sym none) (reads-Contains name (read_by_term block.term) e))
     by none false e hyp =
         let t = out hyp in
@@ -240,7 +247,8 @@ meets_live blocks name b block is l out (o ∷ os) k drops h hyp = elim (at_plac
         not_assigned : o.dst ≡ Some name → ⊥
         not_assigned d = let yes : assigns name o.dst ≡ true = rw d (own_id name) in cc (sym f ∙ yes)
 
-block_live : (blocks : List Block) (name : NameId) (marks : List Bool) → AreSound blocks name marks → (b : ℕ) → lives_at blocks name marks b ≡ true → IsLive blocks name b 0
+block_live : (blocks : List Block) (name : NameId) (marks : List Bool) → AreSound blocks name marks → (b : ℕ)
+    → lives_at blocks name marks b ≡ true → IsLive blocks name b 0
 block_live blocks name marks sound b h = by (slice_get blocks b) refl h
   where
     by : (o : Option Block) → slice_get blocks b ≡ o → option_map_or (lives name marks b) o false ≡ true → IsLive blocks name b 0
@@ -257,7 +265,8 @@ marked_set (m ∷ marks) zero (suc c) h = inr h
 marked_set (m ∷ marks) (suc b) zero h = inr h
 marked_set (m ∷ marks) (suc b) (suc c) h = elim (marked_set marks b c h) [ inl e ↦ inl (ap suc e) | inr e ↦ inr e ]
 
-pub sound_step : (blocks : List Block) (name : NameId) (marks : List Bool) (b : ℕ) → AreSound blocks name marks → lives_at blocks name marks b ≡ true → AreSound blocks name (set marks b true)
+pub sound_step : (blocks : List Block) (name : NameId) (marks : List Bool) (b : ℕ) → AreSound blocks name marks
+    → lives_at blocks name marks b ≡ true → AreSound blocks name (set marks b true)
 sound_step blocks name marks b sound lives c h = elim (marked_set marks b c h) [
   | inl e ↦ rw e (block_live blocks name marks sound b lives)
   | inr e ↦ sound c e
@@ -305,7 +314,8 @@ noted_dst_length table (Some name) = noted_length table name Assigned
 abbrev if_so : Bool → Meeting → Meeting
 if_so v m = if v then m else Neither
 
-noted_met : (table : List Meeting) (name : NameId) (m : Meeting) (i : ℕ) → i < length table → met (noted table name m) i ≡ meet (met table i) (if_so (nat_eq name.0 i) m)
+noted_met : (table : List Meeting) (name : NameId) (m : Meeting) (i : ℕ) → i < length table
+    → met (noted table name m) i ≡ meet (met table i) (if_so (nat_eq name.0 i) m)
 noted_met table name m i h = by (nat_eq name.0 i) refl
   where
     by : (v : Bool) → nat_eq name.0 i ≡ v → met (noted table name m) i ≡ meet (met table i) (if_so v m)
@@ -323,7 +333,8 @@ meet_twice true true Neither Neither = refl
 meet_twice true false k m = meet_neither (meet k m)
 meet_twice false w k m = ap (λ (x : Meeting). meet x (if_so w m)) (meet_neither k)
 
-noted_all_met : (table : List Meeting) (names : List NameId) (m : Meeting) (i : ℕ) → i < length table → met (noted_all table names m) i ≡ meet (met table i) (if_so (reads (name_of i) names) m)
+noted_all_met : (table : List Meeting) (names : List NameId) (m : Meeting) (i : ℕ) → i < length table
+    → met (noted_all table names m) i ≡ meet (met table i) (if_so (reads (name_of i) names) m)
 noted_all_met table [] m i h = sym (meet_neither (met table i))
 noted_all_met table (name ∷ names) m i h =
     let below : i < length (noted table name m) = rw (noted_length table name m) h in
@@ -331,11 +342,13 @@ noted_all_met table (name ∷ names) m i h =
     ∙ ap (λ (x : Meeting). meet x (if_so (reads (name_of i) names) m)) (noted_met table name m i h)
     ∙ meet_twice (nat_eq name.0 i) (reads (name_of i) names) (met table i) m
 
-noted_dst_met : (table : List Meeting) (dst : Option NameId) (i : ℕ) → i < length table → met (noted_dst table dst) i ≡ meet (met table i) (if_so (assigns (name_of i) dst) Assigned)
+noted_dst_met : (table : List Meeting) (dst : Option NameId) (i : ℕ) → i < length table
+    → met (noted_dst table dst) i ≡ meet (met table i) (if_so (assigns (name_of i) dst) Assigned)
 noted_dst_met table None i h = sym (meet_neither (met table i))
 noted_dst_met table (Some name) i h = noted_met table name Assigned i h
 
-meet_op : (v w : Bool) (k m : Meeting) → meet (meet (meet k (if_so v Read)) (if_so w Assigned)) m ≡ meet k (if v then Read else (if w then Assigned else m))
+meet_op : (v w : Bool) (k m : Meeting)
+    → meet (meet (meet k (if_so v Read)) (if_so w Assigned)) m ≡ meet k (if v then Read else (if w then Assigned else m))
 meet_op true w Read m = refl
 meet_op true w Assigned m = refl
 meet_op true w Neither m = refl
@@ -346,7 +359,8 @@ meet_op false false Read m = refl
 meet_op false false Assigned m = refl
 meet_op false false Neither m = refl
 
-block_met : (table : List Meeting) (os : List SrcOp) (term : Term) (i : ℕ) → i < length table → met (noted_term (noted_ops table os) term) i ≡ meet (met table i) (meeting (name_of i) os term)
+block_met : (table : List Meeting) (os : List SrcOp) (term : Term) (i : ℕ) → i < length table
+    → met (noted_term (noted_ops table os) term) i ≡ meet (met table i) (meeting (name_of i) os term)
 block_met table [] term i h = noted_all_met table (read_by_term term) Read i h
 block_met table (o ∷ os) term i h =
     let after = noted_dst (noted_all table o.srcs Read) o.dst in
@@ -356,7 +370,8 @@ block_met table (o ∷ os) term i h =
     let v = reads (name_of i) o.srcs in
     let w = assigns (name_of i) o.dst in
     let here : met after i ≡ meet (meet (met table i) (if_so v Read)) (if_so w Assigned) =
-    noted_dst_met (noted_all table o.srcs Read) o.dst i inner ∙ ap (λ (x : Meeting). meet x (if_so w Assigned)) (noted_all_met table o.srcs Read i h) in
+    noted_dst_met (noted_all table o.srcs Read) o.dst i inner
+        ∙ ap (λ (x : Meeting). meet x (if_so w Assigned)) (noted_all_met table o.srcs Read i h) in
     block_met after os term i below
     ∙ ap (λ (x : Meeting). meet x (meeting (name_of i) os term)) here
     ∙ meet_op v w (met table i) (meeting (name_of i) os term)
@@ -371,7 +386,8 @@ table_met names block i h =
 abbrev pub List2 : Type 0
 List2 = List (List Meeting)
 
-map_got : {X Y : Type 0} (f : X → Y) (xs : List X) (b : ℕ) (x : X) (y : Y) → slice_get xs b ≡ Some x → slice_get (map f xs) b ≡ Some y → f x ≡ y
+map_got : {X Y : Type 0} (f : X → Y) (xs : List X) (b : ℕ) (x : X) (y : Y) → slice_get xs b ≡ Some x → slice_get (map f xs) b ≡ Some y
+    → f x ≡ y
 map_got f [] b x y e g = absurd (cc e)
 map_got f (a ∷ xs) zero x y e g = cc
 map_got f (a ∷ xs) (suc b) x y e g = map_got f xs b x y e g
@@ -384,7 +400,8 @@ lives_by_table blocks name names b d table marks h below got =
     let block = get_or blocks b d in
     let here : slice_get blocks b ≡ Some block = slice_get-get_or blocks b d below in
     let same : table_of names block ≡ table = map_got (table_of names) blocks b block table here got in
-    let m : met table name ≡ meeting (name_of name) block.ops block.term = ap (λ (t : List Meeting). met t name) (sym same) ∙ table_met names block name h in
+    let m : met table name ≡ meeting (name_of name) block.ops block.term = ap (λ (t : List Meeting). met t name) (sym same)
+        ∙ table_met names block name h in
     rw (here, m) refl
 
 -- ---- a pass over the blocks
@@ -425,8 +442,10 @@ pass_start blocks name marks long sound = record {
   closed = λ e. closed_past blocks name marks;
 }
 
-pub pass_marked : (blocks : List Block) (name : NameId) (first marks : List Bool) (changed : Bool) (rest : ℕ) → IsPass blocks name first marks changed rest → 0 < rest
-    → marked marks (rest - 1) ≡ false → lives_at blocks name marks (rest - 1) ≡ true → IsPass blocks name first (set marks (rest - 1) true) true (rest - 1)
+pub pass_marked : (blocks : List Block) (name : NameId) (first marks : List Bool) (changed : Bool) (rest : ℕ)
+    → IsPass blocks name first marks changed rest → 0 < rest
+    → marked marks (rest - 1) ≡ false → lives_at blocks name marks (rest - 1) ≡ true
+        → IsPass blocks name first (set marks (rest - 1) true) true (rest - 1)
 pass_marked blocks name first marks changed rest p more un lives =
     let within = p.within in
     let long = p.long in
@@ -442,7 +461,8 @@ pass_marked blocks name first marks changed rest p more un lives =
       closed = λ e. absurd (cc e);
     }
 
-pub pass_same : (blocks : List Block) (name : NameId) (first marks : List Bool) (changed : Bool) (rest : ℕ) → IsPass blocks name first marks changed rest → 0 < rest
+pub pass_same : (blocks : List Block) (name : NameId) (first marks : List Bool) (changed : Bool) (rest : ℕ)
+    → IsPass blocks name first marks changed rest → 0 < rest
     → (lives_at blocks name marks (rest - 1) ≡ true → marked marks (rest - 1) ≡ true) → IsPass blocks name first marks changed (rest - 1)
 pass_same blocks name first marks changed rest p more here =
     let within = p.within in
@@ -456,5 +476,6 @@ pass_same blocks name first marks changed rest p more here =
       closed = λ e. closed_more blocks name marks (rest - 1) rest one (p.closed e) here;
     }
 
-pub pass_end : (blocks : List Block) (name : NameId) (first marks : List Bool) (rest : ℕ) → IsPass blocks name first marks false rest → rest ≤ 0 → AreClosed blocks name marks
+pub pass_end : (blocks : List Block) (name : NameId) (first marks : List Bool) (rest : ℕ) → IsPass blocks name first marks false rest
+    → rest ≤ 0 → AreClosed blocks name marks
 pass_end blocks name first marks rest p none b = p.closed refl b (omega arith)

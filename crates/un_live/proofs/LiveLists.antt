@@ -36,7 +36,8 @@ record HasMarks (k : ℕ) (columns : List (List Bool)) (b : ℕ) (name : NameId)
 shift : (k j : ℕ) → name_of ((k + 1) + j) ≡ name_of (k + suc j)
 shift k j = ap name_of (let e : (k + 1) + j ≡ k + suc j = omega arith in e)
 
-names_marks : (k : ℕ) (columns : List (List Bool)) (b : ℕ) (name : NameId) → Contains (names_from k columns b) name → HasMarks k columns b name
+names_marks : (k : ℕ) (columns : List (List Bool)) (b : ℕ) (name : NameId) → Contains (names_from k columns b) name
+    → HasMarks k columns b name
 names_marks k [] b name (i, below, is) = absurd (omega arith)
 names_marks k (marks ∷ columns) b name has = by (names_marks (k + 1) columns b name) (marked marks b) refl has
   where
@@ -47,14 +48,16 @@ names_marks k (marks ∷ columns) b name has = by (names_marks (k + 1) columns b
     here v e t is = record { place = 0; marks = marks; got = refl; number = sym is ∙ ap name_of (let z : k ≡ k + 0 = omega arith in z); yes = e ∙ t }
 
     by : (Contains (names_from (k + 1) columns b) name → HasMarks (k + 1) columns b name) → (v : Bool) → marked marks b ≡ v
-        → Contains (if v then name_of k ∷ names_from (k + 1) columns b else names_from (k + 1) columns b) name → HasMarks k (marks ∷ columns) b name
+        → Contains (if v then name_of k ∷ names_from (k + 1) columns b else names_from (k + 1) columns b) name
+            → HasMarks k (marks ∷ columns) b name
     by ih true e has = elim (contains_cases (name_of k) name (names_from (k + 1) columns b) has) [
       | inl is ↦ here true e refl is
       | inr rest ↦ later (ih rest)
     ]
     by ih false e has = later (ih has)
 
-marks_names : (k : ℕ) (columns : List (List Bool)) (b place : ℕ) (marks : List Bool) → slice_get columns place ≡ Some marks → marked marks b ≡ true
+marks_names : (k : ℕ) (columns : List (List Bool)) (b place : ℕ) (marks : List Bool) → slice_get columns place ≡ Some marks
+    → marked marks b ≡ true
     → Contains (names_from k columns b) (name_of (k + place))
 marks_names k [] b place marks got is = absurd (cc got)
 marks_names k (own ∷ columns) b zero marks got is =
@@ -100,7 +103,8 @@ names_rise : (k : ℕ) (columns : List (List Bool)) (b : ℕ) → Rises (names_f
 names_rise k [] b = none_rise
 names_rise k (marks ∷ columns) b = by (names_rise (k + 1) columns b) (marked marks b)
   where
-    by : Rises (names_from (k + 1) columns b) → (v : Bool) → Rises (if v then name_of k ∷ names_from (k + 1) columns b else names_from (k + 1) columns b)
+    by : Rises (names_from (k + 1) columns b) → (v : Bool)
+        → Rises (if v then name_of k ∷ names_from (k + 1) columns b else names_from (k + 1) columns b)
     by rest true = rises_cons (name_of k) (names_from (k + 1) columns b) (names_above (k + 1) columns b) rest
     by rest false = rest
 
@@ -184,7 +188,8 @@ columns_more blocks names columns marks are column = record {
   ];
 }
   where
-    push_cases : (xs : List (List Bool)) (x : List Bool) (k : ℕ) (y : List Bool) → slice_get (xs ++ x ∷ []) k ≡ Some y → (slice_get xs k ≡ Some y) ⊎ ((k ≡ length xs) × (x ≡ y))
+    push_cases : (xs : List (List Bool)) (x : List Bool) (k : ℕ) (y : List Bool) → slice_get (xs ++ x ∷ []) k ≡ Some y
+        → (slice_get xs k ≡ Some y) ⊎ ((k ≡ length xs) × (x ≡ y))
     push_cases [] x zero y e = inr (refl, cc e)
     push_cases [] x (suc k) y e = absurd (cc e)
     push_cases (z ∷ xs) x zero y e = inl e
@@ -207,7 +212,8 @@ pub names_end : (columns : List (List Bool)) (k b : ℕ) → length columns ≤ 
 names_end columns k b h = rw (drop_all k columns h) refl
 
 -- the same of lists and columns under other names
-pub live_lists_at : (own blocks : List Block) (n names : ℕ) (columns : List (List Bool)) (lists : List (List NameId)) → own ≡ blocks → n ≡ names
+pub live_lists_at : (own blocks : List Block) (n names : ℕ) (columns : List (List Bool)) (lists : List (List NameId)) → own ≡ blocks
+    → n ≡ names
     → AreColumns own n columns → lists ≡ map (names_from 0 columns) (range_with_len 0 (length own))
     → ((name : NameId) (b : ℕ) → IsLive blocks name b 0 → name.0 < names) → AreLive blocks lists
 live_lists_at own blocks n names columns lists same count are is small =

@@ -1,6 +1,6 @@
 -- Blocks one after another, and how many temporaries they define.
-use Rattle.std.proofs.Common.{◌≡◌, ℕ, zero, suc, ◌+◌, ◌*◌, ◌<◌, ◌≤◌, ◌++◌, ◌^◌, List, [], ◌∷◌, Option, Some, None, length, drop, replicate, get_or, slice_get, All, AllPairs, refl, sym, ap, ◌∙◌, arith, subst, append_assoc, mul-suc}
-use Rattle.std.specs.List.{flat_map, sum_by}
+use Rattle.std.proofs.Common.{◌≡◌, ℕ, suc, ◌+◌, ◌*◌, ◌<◌, ◌≤◌, ◌++◌, ◌^◌, List, [], ◌∷◌, Option, Some, None, length, drop, replicate, get_or, All, AllPairs, refl, sym, ap, ◌∙◌, arith, append_assoc, mul-suc}
+use Rattle.std.specs.List.{flat_map}
 use Rattle.std.proofs.lemmas.List.{drop_more, drop_all, length-append}
 use Rattle.std.proofs.lemmas.List.Elements.{All-head, All-tail}
 use Rattle.un_base.specs.declared.ids.NameId.{NameId}
@@ -34,7 +34,8 @@ module _ (t : Table) (names n : ℕ) (live_in live_out : List NameId) (block : B
       let first : n + (length live_in + length registers + 1) ≡ n + length live_in + length (saved_registers t) = first_is in
       e4 ∙ by (length live_in + length registers + 1) (n + (length live_in + length registers + 1)) (length registers) cur after ops count first k e1 e2 e3
     where
-      by : (count first kept_count : ℕ) (cur after : List ℕ) (ops : List ExtOp) → count ≡ length live_in + length (saved_registers t) → first ≡ n + length live_in + length (saved_registers t)
+      by : (count first kept_count : ℕ) (cur after : List ℕ) (ops : List ExtOp) → count ≡ length live_in + length (saved_registers t)
+          → first ≡ n + length live_in + length (saved_registers t)
           → kept_count ≡ length (callee_saved t) → cur ≡ first_temps (replicate names 0) n live_in
           → ops ≡ in_op n count ∷ body_ops t cur first block.ops → after ≡ current_after cur first block.ops
           → ops ++ (end_ops after (n + length live_in + kept_count) block.term ++ out_op t after (n + length live_in) live_out block.term ∷ []) ≡ linear_ops t names n live_in live_out block
@@ -54,7 +55,8 @@ end_length current link (Branch pred sense to) = omega arith
 end_length current link (Ret value) = omega arith
 
 -- a block has few operations besides those of the source
-pub ops_few : (t : Table) (names n : ℕ) (live_in live_out : List NameId) (block : Block) (ops : List ExtOp) → ops ≡ linear_ops t names n live_in live_out block → length ops ≤ length block.ops + 3
+pub ops_few : (t : Table) (names n : ℕ) (live_in live_out : List NameId) (block : Block) (ops : List ExtOp)
+    → ops ≡ linear_ops t names n live_in live_out block → length ops ≤ length block.ops + 3
 ops_few t names n live_in live_out block ops is =
     let saved = n + length live_in in
     let first = saved + length (saved_registers t) in
@@ -94,7 +96,8 @@ pub past_step : (t : Table) (lists : List (List NameId)) (b n : ℕ) (blocks : L
     → past_blocks t lists b n (drop b blocks) ≡ past_blocks t lists (b + 1) (past_block t lists b n (get_or blocks b d)) (drop (b + 1) blocks)
 past_step t lists b n blocks d h = rw (drop_more blocks b d h) refl
 
-pub blocks_end : (t : Table) (names : ℕ) (lists : List (List NameId)) (b n : ℕ) (blocks : List Block) → length blocks ≤ b → linear_blocks t names lists b n (drop b blocks) ≡ []
+pub blocks_end : (t : Table) (names : ℕ) (lists : List (List NameId)) (b n : ℕ) (blocks : List Block) → length blocks ≤ b
+    → linear_blocks t names lists b n (drop b blocks) ≡ []
 blocks_end t names lists b n blocks h = rw (drop_all b blocks h) refl
 
 -- ---- a block among others
@@ -102,7 +105,8 @@ blocks_end t names lists b n blocks h = rw (drop_all b blocks h) refl
 module _ (t : Table) (lists : List (List NameId)) (b n : ℕ) (block : Block) (registers : List ℕ) (names_in : List NameId)
     (kept : registers ≡ callee_saved t) (live : names_in ≡ live_at lists b) where
   pub past_is : past_all (n + (length names_in + length registers + 1)) block.ops ≡ past_block t lists b n block
-  past_is = next_made t 0 n names_in [] block registers kept ∙ ap (λ (xs : List NameId). past_all (n + length xs + length (saved_registers t)) block.ops) live
+  past_is = next_made t 0 n names_in [] block registers kept
+      ∙ ap (λ (xs : List NameId). past_all (n + length xs + length (saved_registers t)) block.ops) live
 
   pub block_fit : past_block t lists b n block < 2 ^ 32 → past_all (n + (length names_in + length registers + 1)) block.ops < 2 ^ 32
   block_fit h = rw past_is h
@@ -111,7 +115,8 @@ module _ (t : Table) (lists : List (List NameId)) (b n : ℕ) (block : Block) (r
   block_room h = let f = block_fit h in let g = past_all_grows (n + (length names_in + length registers + 1)) block.ops in omega (arith, f, g)
 
 pub linear_block_made : (t : Table) (names : ℕ) (lists : List (List NameId)) (b n : ℕ) (block : Block) (live_in live_out copy : List NameId) (ops : List ExtOp)
-    → live_in ≡ live_at lists b → live_out ≡ live_after lists names b block.term → copy ≡ live_in → ops ≡ linear_ops t names n live_in live_out block
+    → live_in ≡ live_at lists b → live_out ≡ live_after lists names b block.term → copy ≡ live_in
+    → ops ≡ linear_ops t names n live_in live_out block
     → block_of block copy live_out ops ≡ linear_block t names lists b n block
 linear_block_made t names lists b n block live_in live_out copy ops e1 e2 e3 e4 = rw (e3, e4, e1, e2) refl
 
@@ -127,14 +132,18 @@ blocks_more t names lists b n next blocks own made whole new h is so_far e1 e2 =
     ∙ ap (λ (xs : List ExtBlock). made ++ xs) (sym (blocks_step t names lists b n blocks own h))
     ∙ so_far
 
-pub past_more : (t : Table) (lists : List (List NameId)) (b n next count : ℕ) (blocks : List Block) (own : Block) → b < length blocks → own ≡ get_or blocks b own
-    → past_blocks t lists b n (drop b blocks) ≡ count → next ≡ past_block t lists b n own → past_blocks t lists (b + 1) next (drop (b + 1) blocks) ≡ count
+pub past_more : (t : Table) (lists : List (List NameId)) (b n next count : ℕ) (blocks : List Block) (own : Block) → b < length blocks
+    → own ≡ get_or blocks b own
+    → past_blocks t lists b n (drop b blocks) ≡ count → next ≡ past_block t lists b n own
+    → past_blocks t lists (b + 1) next (drop (b + 1) blocks) ≡ count
 past_more t lists b n next count blocks own h is so_far e =
     ap (λ (m : ℕ). past_blocks t lists (b + 1) m (drop (b + 1) blocks)) (e ∙ ap (past_block t lists b n) is)
     ∙ sym (past_step t lists b n blocks own h) ∙ so_far
 
-pub next_below : (t : Table) (lists : List (List NameId)) (b n limit : ℕ) (blocks : List Block) (own : Block) → b < length blocks → own ≡ get_or blocks b own
-    → past_blocks t lists b n (drop b blocks) ≡ past_blocks t lists 0 0 blocks → past_blocks t lists 0 0 blocks < limit → past_block t lists b n own < limit
+pub next_below : (t : Table) (lists : List (List NameId)) (b n limit : ℕ) (blocks : List Block) (own : Block) → b < length blocks
+    → own ≡ get_or blocks b own
+    → past_blocks t lists b n (drop b blocks) ≡ past_blocks t lists 0 0 blocks → past_blocks t lists 0 0 blocks < limit
+    → past_block t lists b n own < limit
 next_below t lists b n limit blocks own h is so_far small =
     let r = block_below t lists b n (past_blocks t lists 0 0 blocks) blocks own h so_far in
     let e : past_block t lists b n own ≡ past_block t lists b n (get_or blocks b own) = ap (past_block t lists b n) is in
@@ -143,7 +152,8 @@ next_below t lists b n limit blocks own h is so_far small =
 -- ---- few temporaries
 
 -- rising names below a number are at most so many
-rising_length : (k n : ℕ) (names : List NameId) → AllPairs (λ (a b : NameId). a.0 < b.0) names → All (λ (a : NameId). k ≤ a.0) names → All (λ (a : NameId). a.0 < n) names → k ≤ n → k + length names ≤ n
+rising_length : (k n : ℕ) (names : List NameId) → AllPairs (λ (a b : NameId). a.0 < b.0) names → All (λ (a : NameId). k ≤ a.0) names
+    → All (λ (a : NameId). a.0 < n) names → k ≤ n → k + length names ≤ n
 rising_length k n [] rising low high h = omega arith
 rising_length k n (a ∷ names) rising low high h =
     let first = All-head (λ (a : NameId). k ≤ a.0) a names low in
@@ -153,7 +163,8 @@ rising_length k n (a ∷ names) rising low high h =
     let r = rising_length (k + 1) n names rest above (All-tail (λ (a : NameId). a.0 < n) a names high) (omega (arith, first, last)) in
     omega (arith, r)
 
-pub few_names : (n : ℕ) (names : List NameId) → AllPairs (λ (a b : NameId). a.0 < b.0) names → All (λ (a : NameId). a.0 < n) names → length names ≤ n
+pub few_names : (n : ℕ) (names : List NameId) → AllPairs (λ (a b : NameId). a.0 < b.0) names → All (λ (a : NameId). a.0 < n) names
+    → length names ≤ n
 few_names n names rising high = let r = rising_length 0 n names rising (λ j d below. omega arith) high (omega arith) in omega (arith, r)
 
 past_few : (dst : Option NameId) (n : ℕ) → past dst n ≤ n + 1
@@ -165,8 +176,10 @@ past_all_few n [] = omega arith
 past_all_few n (o ∷ os) = let a = past_few o.dst n in let r = past_all_few (past o.dst n) os in omega (arith, a, r)
 
 -- blocks define few temporaries
-pub past_blocks_few : (t : Table) (lists : List (List NameId)) (names saved : ℕ) → length (saved_registers t) ≤ saved → ((b : ℕ) → length (live_at lists b) ≤ names)
-    → (b n : ℕ) (blocks : List Block) → past_blocks t lists b n blocks ≤ n + (names + saved) * length blocks + length (flat_map (λ (block : Block). block.ops) blocks)
+pub past_blocks_few : (t : Table) (lists : List (List NameId)) (names saved : ℕ) → length (saved_registers t) ≤ saved
+    → ((b : ℕ) → length (live_at lists b) ≤ names)
+    → (b n : ℕ) (blocks : List Block)
+    → past_blocks t lists b n blocks ≤ n + (names + saved) * length blocks + length (flat_map (λ (block : Block). block.ops) blocks)
 past_blocks_few t lists names saved few live b n [] = omega arith
 past_blocks_few t lists names saved few live b n (block ∷ blocks) =
     let l = live b in

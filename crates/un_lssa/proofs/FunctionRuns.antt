@@ -1,10 +1,10 @@
 -- The linear function of every function runs as the function does.
-use Rattle.std.proofs.Common.{◌≡◌, ◌≢◌, ℕ, zero, suc, ◌+◌, ◌-◌, ◌<◌, ◌≤◌, ◌++◌, ◌||◌, Bool, true, false, nat_eq, List, [], ◌∷◌, Option, Some, None, map, min, length, drop, take, replicate, get_or, slice_get, slice_index, AllPairs, Contains, if◌then◌else◌, refl, sym, ap, ◌∙◌, arith, subst, append_assoc, append-nil}
+use Rattle.std.proofs.Common.{◌≡◌, ◌≢◌, ℕ, suc, ◌+◌, ◌-◌, ◌<◌, ◌≤◌, ◌++◌, ◌||◌, Bool, true, false, nat_eq, List, [], ◌∷◌, Option, Some, None, map, length, take, replicate, get_or, slice_get, slice_index, AllPairs, Contains, if◌then◌else◌, refl, sym, ap, ◌∙◌, arith, subst, append_assoc, append-nil}
 use Rattle.std.specs.List.{flat_map, fold, list_any, range_with_len}
 use Rattle.std.proofs.Math.Bridge.{le_prop}
 use Rattle.std.proofs.Math.Logic.{∥∥₁_elim}
 use Rattle.std.proofs.lemmas.Bool.{eqb-true}
-use Rattle.std.proofs.lemmas.List.{length-map, length-append, length-replicate, length-take, get_or-take, get_or_append_left, get_or-map, drop_at, length-set}
+use Rattle.std.proofs.lemmas.List.{length-map, length-append, length-replicate, length-take, get_or-take, get_or_append_left, get_or-map}
 use Rattle.std.proofs.lemmas.List.Elements.{Contains-get_or}
 use Rattle.std.proofs.lemmas.List.FromFn.{length-range_with_len, get_or-range_with_len}
 use Rattle.std.proofs.lemmas.Option.{slice_get-get_or}
@@ -18,11 +18,11 @@ use Rattle.un_ir.specs.declared.function.Term.TheVariants.{Fall}
 use Rattle.un_ir.specs.declared.function.Block.{Block}
 use Rattle.un_ir.specs.declared.function.Function.{Function}
 use Rattle.un_ir.specs.declared.extended.ExtBlock.{ExtBlock}
-use Rattle.un_ir.specs.Live.{IsLive, read_at, targets_of}
-use Rattle.un_ir.specs.Names.{see, first_appearances, appearances, names_in_block}
+use Rattle.un_ir.specs.Live.{IsLive}
+use Rattle.un_ir.specs.Names.{see, first_appearances, names_in_block}
 use Rattle.un_ir.specs.Source.{source_run, first_state}
-use Rattle.un_ir.specs.Linear.{linear_run, enter, first_world, first_saved, first_taken, first_values}
-use Rattle.un_ir.specs.LinearOf.{AreLive, live_at, linear_block, linear_blocks, lin_of}
+use Rattle.un_ir.specs.Linear.{linear_run, first_saved, first_taken}
+use Rattle.un_ir.specs.LinearOf.{AreLive, live_at, linear_block, linear_blocks}
 use Rattle.un_ir.specs.Runs.{as_linear, values_at}
 use Rattle.un_ir.specs.WellFormed.{IsWellFormed, IsGoodOp, IsGoodBlock, AssignsItsKind}
 use Rattle.un_ir.proofs.NameBounds.{NamesAreSmall, names_small, live_name_small, at_all}
@@ -39,7 +39,8 @@ small_names f = record {
 }
 
 -- a Store has no result
-stores_none : (f : Function) (b k : ℕ) (block : Block) (o : SrcOp) → slice_get f.blocks b ≡ Some block → slice_get block.ops k ≡ Some o → o.op ≡ Store → o.dst ≡ None
+stores_none : (f : Function) (b k : ℕ) (block : Block) (o : SrcOp) → slice_get f.blocks b ≡ Some block → slice_get block.ops k ≡ Some o
+    → o.op ≡ Store → o.dst ≡ None
 stores_none f b k block o at here is = by o.dst refl
   where
     not_some : (name : NameId) → AssignsItsKind f.names Store (Some name) → ⊥
@@ -75,7 +76,8 @@ any_push : (x y : ℕ) (seen : List ℕ) → list_any (nat_eq x) seen ≡ false 
 any_push x y [] h e = rw e refl
 any_push x y (z ∷ seen) h e = by (any_push x y seen) (nat_eq x z) refl h
   where
-    by : (list_any (nat_eq x) seen ≡ false → nat_eq x y ≡ false → list_any (nat_eq x) (seen ++ y ∷ []) ≡ false) → (v : Bool) → nat_eq x z ≡ v → (v || list_any (nat_eq x) seen) ≡ false
+    by : (list_any (nat_eq x) seen ≡ false → nat_eq x y ≡ false → list_any (nat_eq x) (seen ++ y ∷ []) ≡ false) → (v : Bool)
+        → nat_eq x z ≡ v → (v || list_any (nat_eq x) seen) ≡ false
         → (nat_eq x z || list_any (nat_eq x) (seen ++ y ∷ [])) ≡ false
     by ih true q h = absurd (cc h)
     by ih false q h = rw q (ih h e)
@@ -84,13 +86,14 @@ record Begins (seen : List ℕ) (params rest : List NameId) : Type 0 where
   more : List ℕ
   is : fold see seen (params ++ rest) ≡ (seen ++ numbers params) ++ more
 
-begins : (seen : List ℕ) (params rest : List NameId) → AllPairs (λ (a b : NameId). a ≢ b) params → AreNew seen params → Begins seen params rest
+begins : (seen : List ℕ) (params rest : List NameId) → AllPairs (λ (a b : NameId). a ≢ b) params → AreNew seen params
+    → Begins seen params rest
 begins seen [] rest apart new = let g = grows seen rest in record { more = g.more; is = g.is ∙ ap (λ (xs : List ℕ). xs ++ g.more) (sym (append-nil seen)) }
 begins seen (p ∷ params) rest apart new =
     let first : list_any (nat_eq p.0) seen ≡ false = new 0 p (omega arith) in
     let later = begins (seen ++ p.0 ∷ []) params rest
-        (λ i j d lt below. apart (suc i) (suc j) d (omega arith) (omega arith))
-        (λ j d below. (let q = get_or params j d in any_push q.0 p.0 seen (new (suc j) d (omega arith)) (differ q (apart 0 (suc j) d (omega arith) (omega arith))))) in
+    (λ i j d lt below. apart (suc i) (suc j) d (omega arith) (omega arith))
+    (λ j d below. (let q = get_or params j d in any_push q.0 p.0 seen (new (suc j) d (omega arith)) (differ q (apart 0 (suc j) d (omega arith) (omega arith))))) in
     record { more = later.more; is = ap (λ (v : Bool). fold see (if v then seen else seen ++ p.0 ∷ []) (params ++ rest)) first ∙ later.is ∙ ap (λ (xs : List ℕ). xs ++ later.more) (append_assoc seen (p.0 ∷ []) (numbers params)) }
   where
     differ : (q : NameId) → p ≢ q → nat_eq q.0 p.0 ≡ false
@@ -104,7 +107,8 @@ record Numbered (params : List NameId) (count : ℕ) : Type 0 where
   few : length params ≤ count
   below : (name : NameId) → Contains params name → name.0 < length params
 
-numbered : (params rest : List NameId) (count : ℕ) → AllPairs (λ (a b : NameId). a ≢ b) params → first_appearances (params ++ rest) ≡ range_with_len 0 count → Numbered params count
+numbered : (params rest : List NameId) (count : ℕ) → AllPairs (λ (a b : NameId). a ≢ b) params
+    → first_appearances (params ++ rest) ≡ range_with_len 0 count → Numbered params count
 numbered params rest count apart is = record { few = few; below = below }
   where
     all : Begins [] params rest
@@ -126,9 +130,9 @@ numbered params rest count apart is = record { few = few; below = below }
         let b = length-map params (λ (n : NameId). n.0) in
         let inside : i < length (numbers params) = omega (arith, b, h) in
         let e : name.0 ≡ i =
-            ap (λ (n : NameId). n.0) (sym at) ∙ sym (get_or-map (λ (n : NameId). n.0) params i name 0 h)
-            ∙ sym (get_or_append_left (numbers params) all.more 0 i inside) ∙ ap (λ (xs : List ℕ). get_or xs i 0) same
-            ∙ get_or-range_with_len 0 count i 0 (omega (arith, few)) ∙ (let z : 0 + i ≡ i = omega arith in z) in
+        ap (λ (n : NameId). n.0) (sym at) ∙ sym (get_or-map (λ (n : NameId). n.0) params i name 0 h)
+        ∙ sym (get_or_append_left (numbers params) all.more 0 i inside) ∙ ap (λ (xs : List ℕ). get_or xs i 0) same
+        ∙ get_or-range_with_len 0 count i 0 (omega (arith, few)) ∙ (let z : 0 + i ≡ i = omega arith in z) in
         omega (arith, e, h)
 
 params_few : (f : Function) → length f.params ≤ 6
@@ -145,7 +149,8 @@ entry_param f name l = ∥∥₁_elim f.well_formed le_prop
 -- ---- the theorem
 
 -- at most as many blocks are entered as for the source; the start has 36 registers
-pub linear_runs : (f : Function) (lists : List (List NameId)) (t : Table) (start : Start) (n : ℕ) → AreLive f.blocks lists → length start.regs ≡ 36
+pub linear_runs : (f : Function) (lists : List (List NameId)) (t : Table) (start : Start) (n : ℕ) → AreLive f.blocks lists
+    → length start.regs ≡ 36
     → linear_run t (linear_blocks t (length f.names) lists 0 0 f.blocks) start n ≡ as_linear t start lists (source_run f start n)
 linear_runs f lists t start n live regs =
     let entry = get_or f.blocks 0 no_block in
@@ -160,14 +165,16 @@ linear_runs f lists t start n live regs =
     let g = length-replicate {A = ℕ} (length f.names - length f.params) 0 in
     let wide : length first.values ≡ length f.names = omega (arith, a, c, d, e, g, regs) in
     let taken : first_taken t (slice_get (linear_blocks t (length f.names) lists 0 0 f.blocks) 0) start ≡ values_at t start lists 0 first.values =
-        ap (λ (x : Option ExtBlock). first_taken t x start) got ∙ ap (λ (xs : List ℕ). xs ++ first_saved t start) (map_same_values (slice_index start.regs) (slice_index first.values) (live_at lists 0) value) in
+    ap (λ (x : Option ExtBlock). first_taken t x start) got
+    ∙ ap (λ (xs : List ℕ). xs ++ first_saved t start) (map_same_values (slice_index start.regs) (slice_index first.values) (live_at lists 0) value) in
     enter_sim f.blocks (length f.names) (small_names f) (stores_none f) (λ name b l. live_name_small f name b 0 l) (λ b block c at has. (leads_inside f b block c at has).1)
     t start lists live n 0 first (first_taken t (slice_get (linear_blocks t (length f.names) lists 0 0 f.blocks) 0) start) (entry_there f) wide taken
   where
     no_block : Block
     no_block = record { label = []; freq = 0; ops = []; term = Fall }
 
-    value : (k : ℕ) (x : NameId) → k < length (live_at lists 0) → (let name = get_or (live_at lists 0) k x in slice_index start.regs name.0 ≡ (let s = first_state f start in slice_index s.values name.0))
+    value : (k : ℕ) (x : NameId) → k < length (live_at lists 0)
+        → (let name = get_or (live_at lists 0) k x in slice_index start.regs name.0 ≡ (let s = first_state f start in slice_index s.values name.0))
     value k x h =
         let name = get_or (live_at lists 0) k x in
         let l = (live.exact 0 name).0 (Contains-get_or (live_at lists 0) k x h) in

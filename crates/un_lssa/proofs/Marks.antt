@@ -1,5 +1,5 @@
 -- The names that are live where a block ends, by marks.
-use Rattle.std.proofs.Common.{◌≡◌, ◌≢◌, ℕ, zero, suc, ◌+◌, ◌<◌, ◌≤◌, ◌||◌, ◌++◌, Bool, true, false, nat_eq, List, [], ◌∷◌, map, filter, length, set, drop, replicate, get_or, if◌then◌else◌, refl, sym, ap, ◌∙◌, arith, subst, length-set}
+use Rattle.std.proofs.Common.{◌≡◌, ◌≢◌, ℕ, suc, ◌+◌, ◌<◌, ◌≤◌, ◌||◌, ◌++◌, Bool, true, false, nat_eq, List, [], ◌∷◌, map, filter, length, set, drop, replicate, get_or, if◌then◌else◌, refl, sym, ap, ◌∙◌, arith, length-set}
 use Rattle.std.specs.List.{range_with_len, list_any}
 use Rattle.std.proofs.lemmas.Bool.{eqb-true}
 use Rattle.std.proofs.lemmas.List.{drop_more, drop_all, get_or-set_same, get_or-set_other, length-replicate, get_or-replicate}
@@ -25,7 +25,8 @@ or_assoc true false c = refl
 or_assoc false true c = refl
 or_assoc false false c = refl
 
-with_at : (marks : List Bool) (names : List NameId) (n : ℕ) → n < length marks → at (marked_with marks names) n ≡ (is_among names n || at marks n)
+with_at : (marks : List Bool) (names : List NameId) (n : ℕ) → n < length marks
+    → at (marked_with marks names) n ≡ (is_among names n || at marks n)
 with_at marks [] n h = refl
 with_at marks (name ∷ names) n h =
     let long : n < length (set marks name.0 true) = rw (length-set marks name.0 true) h in
@@ -55,7 +56,8 @@ or_false true = refl
 or_false false = refl
 
 -- names whose marks pass a test
-names_filter : (p : ℕ → Bool) (k : ℕ) (marks : List Bool) → ((i : ℕ) → i < length marks → at marks i ≡ p (k + i)) → names_of_marks k marks ≡ map name_of (filter p (range_with_len k (length marks)))
+names_filter : (p : ℕ → Bool) (k : ℕ) (marks : List Bool) → ((i : ℕ) → i < length marks → at marks i ≡ p (k + i))
+    → names_of_marks k marks ≡ map name_of (filter p (range_with_len k (length marks)))
 names_filter p k [] h = refl
 names_filter p k (mark ∷ marks) h =
     let first : mark ≡ p k = h 0 (omega arith) ∙ ap p (let z : k + 0 ≡ k = omega arith in z) in
@@ -67,7 +69,8 @@ names_filter p k (mark ∷ marks) h =
     by true = refl
     by false = refl
 
-pub marks_live : (lists : List (List NameId)) (names b : ℕ) (term : Term) (marks : List Bool) → marks ≡ marked_at lists (replicate names false) (targets_of b term)
+pub marks_live : (lists : List (List NameId)) (names b : ℕ) (term : Term) (marks : List Bool)
+    → marks ≡ marked_at lists (replicate names false) (targets_of b term)
     → names_of_marks 0 marks ≡ live_after lists names b term
 marks_live lists names b term marks is =
     let p : ℕ → Bool = λ (n : ℕ). list_any (λ (c : ℕ). is_among (live_at lists c) n) (targets_of b term) in
@@ -75,15 +78,17 @@ marks_live lists names b term marks is =
     let all = marked_at lists none (targets_of b term) in
     let long : length all ≡ names = at_length lists none (targets_of b term) ∙ length-replicate names false in
     let each : (i : ℕ) → i < length all → at all i ≡ p (0 + i) = λ i h.
-        (let below : i < names = rw (← long) h in
-        let inside : i < length none = rw (length-replicate names false) below in
-        let z : 0 + i ≡ i = omega arith in
-        at_at lists none (targets_of b term) i inside ∙ ap (λ (v : Bool). p i || v) (get_or-replicate names i false false below) ∙ or_false (p i) ∙ ap p (sym z)) in
+    (let below : i < names = rw (← long) h in
+    let inside : i < length none = rw (length-replicate names false) below in
+    let z : 0 + i ≡ i = omega arith in
+    at_at lists none (targets_of b term) i inside ∙ ap (λ (v : Bool). p i || v) (get_or-replicate names i false false below)
+    ∙ or_false (p i) ∙ ap p (sym z)) in
     ap (names_of_marks 0) is ∙ names_filter p 0 all each ∙ ap (λ (n : ℕ). map name_of (filter p (range_with_len 0 n))) long
 
 -- ---- a loop over marks
 
-pub mark_step : (marks : List Bool) (k : ℕ) (d : Bool) → k < length marks → names_of_marks k (drop k marks) ≡ (if get_or marks k d then name_of k ∷ [] else []) ++ names_of_marks (k + 1) (drop (k + 1) marks)
+pub mark_step : (marks : List Bool) (k : ℕ) (d : Bool) → k < length marks
+    → names_of_marks k (drop k marks) ≡ (if get_or marks k d then name_of k ∷ [] else []) ++ names_of_marks (k + 1) (drop (k + 1) marks)
 mark_step marks k d h = rw (drop_more marks k d h) refl
 
 pub mark_end : (marks : List Bool) (k : ℕ) → length marks ≤ k → names_of_marks k (drop k marks) ≡ []

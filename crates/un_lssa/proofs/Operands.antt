@@ -1,5 +1,5 @@
 -- Operands of calls, and numbers of temporaries.
-use Rattle.std.proofs.Common.{◌≡◌, ◌⊎◌, inl, inr, ℕ, zero, suc, ◌+◌, ◌<◌, ◌≤◌, ◌++◌, ◌^◌, Bool, List, [], ◌∷◌, Option, Some, None, Result, IfOk, map, subst, length, drop, get_or, slice_get, refl, sym, ap, ◌∙◌, arith, append_assoc}
+use Rattle.std.proofs.Common.{◌≡◌, ◌⊎◌, inl, inr, ℕ, zero, suc, ◌+◌, ◌<◌, ◌≤◌, ◌++◌, ◌^◌, Bool, List, [], ◌∷◌, Option, Some, None, Result, IfOk, map, subst, length, drop, get_or, refl, sym, ap, ◌∙◌, arith, append_assoc}
 use Rattle.std.specs.List.{range_with_len}
 use Rattle.std.proofs.lemmas.List.{drop_more, drop_all, length_push}
 use Rattle.std.proofs.lemmas.Option.{slice_get_past, slice_get-get_or}
@@ -43,7 +43,8 @@ past_all_grows n [] = omega arith
 past_all_grows n (o ∷ os) = let a = past_grows o.dst n in let b = past_all_grows (past o.dst n) os in omega (arith, a, b)
 
 -- a temporary that an operation defines is below what the operations do not define
-pub dst_below : (n count : ℕ) (o : SrcOp) (os : List SrcOp) (name : NameId) → o.dst ≡ Some name → past_all n (o ∷ os) < count → n + 1 < count
+pub dst_below : (n count : ℕ) (o : SrcOp) (os : List SrcOp) (name : NameId) → o.dst ≡ Some name → past_all n (o ∷ os) < count
+    → n + 1 < count
 dst_below n count o os name is h =
     let grows = past_all_grows (past o.dst n) os in
     let here : past o.dst n ≡ n + 1 = rw is refl in
@@ -57,7 +58,8 @@ body_below n first k source o name h is past small dst =
     dst_below n (2 ^ 32) o (drop (k + 1) source) name dst (rw same small)
 
 pub arguments_more : (operands : List Operand) (current registers : List ℕ) (names : List NameId) (k : ℕ) (d : NameId) (whole : List Operand) (operand : Operand) → k < length names
-    → operands ++ argument_operands current (drop k registers) (drop k names) ≡ whole → operand ≡ name_operand current (home_at registers k) (get_or names k d)
+    → operands ++ argument_operands current (drop k registers) (drop k names) ≡ whole
+    → operand ≡ name_operand current (home_at registers k) (get_or names k d)
     → (operands ++ operand ∷ []) ++ argument_operands current (drop (k + 1) registers) (drop (k + 1) names) ≡ whole
 arguments_more operands current registers names k d whole operand h so_far is =
     append_assoc operands (operand ∷ []) (argument_operands current (drop (k + 1) registers) (drop (k + 1) names))
@@ -75,7 +77,8 @@ module _ (t : Table) (current : List ℕ) (first saved : ℕ) (live_out : List N
   abbrev Are : Term → Result (List Operand) NoMemory → Type 0
   Are term r = IfOk r (λ (operands : List Operand). operands ≡ out_operands_of t current first live_out term)
 
-  pub returned : (term : Term) (value : Option NameId) (r : Result (List Operand) NoMemory) → term ≡ Ret value → Are (Ret value) r → Are term r
+  pub returned : (term : Term) (value : Option NameId) (r : Result (List Operand) NoMemory) → term ≡ Ret value → Are (Ret value) r
+      → Are term r
   returned term value r e h = rw e h
 
   count : registers ≡ callee_saved t → saved ≡ length registers + 1 → saved ≡ length (saved_registers t)
@@ -84,12 +87,15 @@ module _ (t : Table) (current : List ℕ) (first saved : ℕ) (live_out : List N
   abbrev AreNext : Result (List Operand) NoMemory → Type 0
   AreNext r = IfOk r (λ (operands : List Operand). operands ≡ map (name_operand current None) live_out ++ map (λ (n : ℕ). reads n None) (range_with_len first saved))
 
-  pub falls : (term : Term) (r : Result (List Operand) NoMemory) → registers ≡ callee_saved t → saved ≡ length registers + 1 → term ≡ Fall → AreNext r → Are term r
+  pub falls : (term : Term) (r : Result (List Operand) NoMemory) → registers ≡ callee_saved t → saved ≡ length registers + 1
+      → term ≡ Fall → AreNext r → Are term r
   falls term r kept e is h = rw is (subst (λ (n : ℕ). IfOk r (λ (operands : List Operand). operands ≡ map (name_operand current None) live_out ++ map (λ (n : ℕ). reads n None) (range_with_len first n))) (count kept e) h)
 
-  pub jumps : (term : Term) (r : Result (List Operand) NoMemory) (to : BlockId) → registers ≡ callee_saved t → saved ≡ length registers + 1 → term ≡ Jump to → AreNext r → Are term r
+  pub jumps : (term : Term) (r : Result (List Operand) NoMemory) (to : BlockId) → registers ≡ callee_saved t
+      → saved ≡ length registers + 1 → term ≡ Jump to → AreNext r → Are term r
   jumps term r to kept e is h = rw is (subst (λ (n : ℕ). IfOk r (λ (operands : List Operand). operands ≡ map (name_operand current None) live_out ++ map (λ (n : ℕ). reads n None) (range_with_len first n))) (count kept e) h)
 
-  pub branches : (term : Term) (r : Result (List Operand) NoMemory) (pred : NameId) (sense : Bool) (to : BlockId) → registers ≡ callee_saved t → saved ≡ length registers + 1
+  pub branches : (term : Term) (r : Result (List Operand) NoMemory) (pred : NameId) (sense : Bool) (to : BlockId)
+      → registers ≡ callee_saved t → saved ≡ length registers + 1
       → term ≡ Branch pred sense to → AreNext r → Are term r
   branches term r pred sense to kept e is h = rw is (subst (λ (n : ℕ). IfOk r (λ (operands : List Operand). operands ≡ map (name_operand current None) live_out ++ map (λ (n : ℕ). reads n None) (range_with_len first n))) (count kept e) h)

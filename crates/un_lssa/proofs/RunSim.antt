@@ -1,16 +1,13 @@
 -- The run of the linear function is the run of the source.
-use Rattle.std.proofs.Common.{◌≡◌, ◌≢◌, ℕ, zero, suc, ◌+◌, ◌-◌, ◌==◌, ◌<◌, ◌≤◌, ◌++◌, Bool, true, false, nat_eq, List, [], ◌∷◌, Option, Some, None, map, min, length, drop, take, replicate, get_or, slice_get, slice_index, All, Contains, if◌then◌else◌, refl, sym, ap, ◌∙◌, arith, subst, append-nil}
+use Rattle.std.proofs.Common.{◌≡◌, ◌≢◌, ℕ, zero, suc, ◌+◌, ◌-◌, ◌==◌, ◌<◌, ◌≤◌, ◌++◌, Bool, true, false, nat_eq, List, [], ◌∷◌, Option, Some, None, map, length, drop, replicate, get_or, slice_get, slice_index, All, Contains, if◌then◌else◌, refl, sym, ap, ◌∙◌, arith, subst, append-nil}
 use Rattle.std.specs.List.{list_any, range_with_len, position_or_len}
-use Rattle.std.proofs.Math.Bridge.{le_prop}
-use Rattle.std.proofs.Math.Logic.{∥∥₁_elim}
 use Rattle.std.proofs.lemmas.List.{map-append, length-map, length-append, length-replicate, drop_at, get_or-map, get_or_append_left, get_or-append_right, length_push, get_or_push}
-use Rattle.std.proofs.lemmas.List.Elements.{All-contains, Contains-get_or}
-use Rattle.std.proofs.lemmas.Option.{slice_get_within, slice_get_past, slice_get-get_or}
+use Rattle.std.proofs.lemmas.List.Elements.{Contains-get_or}
+use Rattle.std.proofs.lemmas.Option.{slice_get_past, slice_get-get_or}
 use Rattle.un_base.specs.declared.ids.NameId.{NameId}
 use Rattle.un_base.specs.declared.ids.TempId.{TempId}
 use Rattle.un_isa.specs.Registers.{callee_saved, saved_registers}
 use Rattle.un_isa.specs.declared.reg.TheConstants.{LINK}
-use Rattle.un_isa.specs.declared.op.Op.{Op}
 use Rattle.un_isa.specs.declared.op.Op.TheVariants.{Store}
 use Rattle.un_isa.specs.declared.start.Start.{Start}
 use Rattle.un_isa.specs.declared.table.Table.{Table}
@@ -18,16 +15,15 @@ use Rattle.un_ir.specs.declared.function.SrcOp.{SrcOp}
 use Rattle.un_ir.specs.declared.function.Term.{Term}
 use Rattle.un_ir.specs.declared.function.Term.TheVariants.{Fall, Jump, Branch, Ret}
 use Rattle.un_ir.specs.declared.function.Block.{Block}
-use Rattle.un_ir.specs.declared.function.Function.{Function}
 use Rattle.un_ir.specs.declared.extended.Operand.{Operand}
 use Rattle.un_ir.specs.declared.extended.ExtOp.{ExtOp}
 use Rattle.un_ir.specs.declared.extended.ExtBlock.{ExtBlock}
 use Rattle.un_ir.specs.Extended.{temp}
-use Rattle.un_ir.specs.Live.{IsLive, used, kept, read_by, read_by_term, read_at, assigned_by, targets_of, next_by}
-use Rattle.un_ir.specs.Source.{SourceState, SourceRun, BlockEnd, ops_run as source_ops, leave as leave_source, leave_unless as leave_source_unless, through as through_source, enter as enter_source, value_in}
-use Rattle.un_ir.specs.Linear.{World, Values, value_of, defined_all, LinearRun, LinearEnd, LinearState, in_temps, out_operands, ending_of, Ending, ops_run, entered, leave, leave_block, leave_unless, hand_over, taken_by, taken_over, through, enter, first_saved, Returned as ReturnedTo, Running as RunningWith, LinearStop}
-use Rattle.un_ir.specs.LinearOf.{AreLive, live_at, is_among, name_of, live_after, first_temps, body_ops, current_after, past_all, past_block, end_ops, out_op, out_operands_of, kept_operands, in_op, name_operand, reads, linear_ops, linear_block, linear_blocks}
-use Rattle.un_ir.specs.Runs.{world_of, values_at, stop_with, as_linear}
+use Rattle.un_ir.specs.Live.{IsLive, used, kept, read_by, read_by_term, assigned_by, targets_of, next_by}
+use Rattle.un_ir.specs.Source.{SourceState, SourceRun, BlockEnd, leave as leave_source, leave_unless as leave_source_unless, through as through_source, enter as enter_source}
+use Rattle.un_ir.specs.Linear.{World, Values, value_of, defined_all, LinearRun, LinearEnd, in_temps, out_operands, ending_of, Ending, ops_run, leave, leave_block, leave_unless, hand_over, taken_by, taken_over, through, enter, first_saved, Returned as ReturnedTo, Running as RunningWith, LinearStop}
+use Rattle.un_ir.specs.LinearOf.{AreLive, live_at, is_among, live_after, first_temps, body_ops, current_after, past_all, past_block, end_ops, out_op, out_operands_of, kept_operands, name_operand, reads, linear_block, linear_blocks}
+use Rattle.un_ir.specs.Runs.{world_of, values_at, as_linear}
 use Rattle.un_ir.proofs.NameBounds.{NamesAreSmall}
 use Rattle.un_lssa.proofs.StepSim.{names_values}
 use Rattle.un_lssa.proofs.BodySim.{Agrees, BodySim, stops, ends, body_sim}
@@ -36,7 +32,8 @@ use Rattle.un_lssa.proofs.EnterSim.{range_value, first_temp, first_length, body_
 abbrev value_at : List ℕ → NameId → ℕ
 value_at values name = get_or values name.0 0
 
-pub map_same_values : (f g : ℕ → ℕ) (names : List NameId) → ((k : ℕ) (d : NameId) → k < length names → (let name = get_or names k d in f name.0 ≡ g name.0))
+pub map_same_values : (f g : ℕ → ℕ) (names : List NameId)
+    → ((k : ℕ) (d : NameId) → k < length names → (let name = get_or names k d in f name.0 ≡ g name.0))
     → map (λ (name : NameId). f name.0) names ≡ map (λ (name : NameId). g name.0) names
 map_same_values f g names h = map_same (λ (name : NameId). f name.0) (λ (name : NameId). g name.0) names h
 
@@ -45,7 +42,8 @@ pub record HasBlock (t : Table) (names : ℕ) (lists : List (List NameId)) (bs :
   pub first : ℕ
   pub got : slice_get bs k ≡ Some (linear_block t names lists b first block)
 
-pub block_at : (t : Table) (names : ℕ) (lists : List (List NameId)) (b n : ℕ) (blocks : List Block) (k : ℕ) (block : Block) → slice_get blocks k ≡ Some block
+pub block_at : (t : Table) (names : ℕ) (lists : List (List NameId)) (b n : ℕ) (blocks : List Block) (k : ℕ) (block : Block)
+    → slice_get blocks k ≡ Some block
     → HasBlock t names lists (linear_blocks t names lists b n blocks) k (b + k) block
 block_at t names lists b n [] k block e = absurd (cc e)
 block_at t names lists b n (own ∷ blocks) zero block e =
@@ -62,7 +60,6 @@ module _ (blocks : List Block) (names : ℕ) (small : NamesAreSmall names blocks
     (live_small : (name : NameId) (b : ℕ) → IsLive blocks name b 0 → name.0 < names)
     (inside : (b : ℕ) (block : Block) (c : ℕ) → slice_get blocks b ≡ Some block → Contains (targets_of b block.term) c → c < length blocks)
     (t : Table) (start : Start) (lists : List (List NameId)) (live : AreLive blocks lists) where
-
   abbrev lin : List ExtBlock
   lin = linear_blocks t names lists 0 0 blocks
 
@@ -118,7 +115,8 @@ module _ (blocks : List Block) (names : ℕ) (small : NamesAreSmall names blocks
         → (i : ℕ) × (i < length names_in) × (get_or names_in i name ≡ name)
     in_value values name l = (live.exact b name).1 l
 
-    start_agrees : (values : List ℕ) → length values ≡ names → Agrees blocks names small stores t start lists b block here 0 current first (v0 (values_at t start lists b values)) values
+    start_agrees : (values : List ℕ) → length values ≡ names
+        → Agrees blocks names small stores t start lists b block here 0 current first (v0 (values_at t start lists b values)) values
     start_agrees values wide = record {
       long = first_length (replicate names 0) m names_in ∙ length-replicate names 0;
       wide = wide;
@@ -135,7 +133,8 @@ module _ (blocks : List Block) (names : ℕ) (small : NamesAreSmall names blocks
         its_temp name l =
             let i = in_value values name l in
             let wide_enough : All (λ (n : NameId). n.0 < length {A = ℕ} (replicate names 0)) names_in = λ k d below. (let r = live_small (get_or names_in k d) b ((live.exact b (get_or names_in k d)).0 (Contains-get_or names_in k d below)) in let e = length-replicate {A = ℕ} names 0 in omega (arith, r, e)) in
-            ap (λ (n : NameId). get_or current n.0 0) (sym i.2) ∙ first_temp (replicate names 0) m names_in i.0 name (live.rising b) wide_enough i.1
+            ap (λ (n : NameId). get_or current n.0 0) (sym i.2)
+            ∙ first_temp (replicate names 0) m names_in i.0 name (live.rising b) wide_enough i.1
 
         its_place : (name : NameId) (l : IsLive blocks name b 0) → (in_value values name l).0 < count
         its_place name l = let i = in_value values name l in let h = i.1 in omega (arith, h)
@@ -143,7 +142,8 @@ module _ (blocks : List Block) (names : ℕ) (small : NamesAreSmall names blocks
         its_mapped : (name : NameId) (l : IsLive blocks name b 0) → (in_value values name l).0 < length (map (value_at values) names_in)
         its_mapped name l = let i = in_value values name l in let h = i.1 in let e = length-map names_in (value_at values) in omega (arith, h, e)
 
-    saved0 : (values : List ℕ) (j : ℕ) → j < length (saved_registers t) → v0 (values_at t start lists b values) (saved + j) ≡ get_or (first_saved t start) j 0
+    saved0 : (values : List ℕ) (j : ℕ) → j < length (saved_registers t)
+        → v0 (values_at t start lists b values) (saved + j) ≡ get_or (first_saved t start) j 0
     saved0 values j h =
         let z : saved + j ≡ m + (length names_in + j) = omega arith in
         let c : length names_in + j < count = omega arith in
@@ -161,7 +161,8 @@ module _ (blocks : List Block) (names : ℕ) (small : NamesAreSmall names blocks
     no_op = slice_get_past block.ops (length block.ops) (omega arith)
 
     -- a name that is live where a next block starts is live at the end of this one
-    end_live : (c : ℕ) (name : NameId) → Contains (targets_of b block.term) c → IsLive blocks name c 0 → IsLive blocks name b (length block.ops)
+    end_live : (c : ℕ) (name : NameId) → Contains (targets_of b block.term) c → IsLive blocks name c 0
+        → IsLive blocks name b (length block.ops)
     end_live c name target l =
         kept b (length block.ops) block c 0 here (omega arith)
         (subst (λ (x : Option SrcOp). assigned_by x ≢ Some name) (sym no_op) (λ e. cc e))
@@ -205,23 +206,26 @@ module _ (blocks : List Block) (names : ℕ) (small : NamesAreSmall names blocks
           let c = saved_len in
           let names_part = names_values w after s.values names_out (λ k d h. a.same (get_or names_out k d) (out_live k d h)) in
           let saved_part : map (value_of w) (map (λ (n : ℕ). reads n None) (range_with_len saved (length (saved_registers t)))) ≡ first_saved t start =
-              ap (λ (k : ℕ). map (value_of w) (map (λ (n : ℕ). reads n None) (range_with_len saved k))) (sym c)
-              ∙ saved_values w saved (first_saved t start) (λ j h. kept_saved j (omega (arith, h, c))) in
+          ap (λ (k : ℕ). map (value_of w) (map (λ (n : ℕ). reads n None) (range_with_len saved k))) (sym c)
+          ∙ saved_values w saved (first_saved t start) (λ j h. kept_saved j (omega (arith, h, c))) in
           map-append (value_of w) (map (name_operand after None) names_out) (map (λ (n : ℕ). reads n None) (range_with_len saved (length (saved_registers t))))
           ∙ ap (λ (xs : List ℕ). xs ++ map (value_of w) (map (λ (n : ℕ). reads n None) (range_with_len saved (length (saved_registers t))))) names_part
           ∙ ap (λ (xs : List ℕ). map (value_at s.values) names_out ++ xs) saved_part
 
       -- what a next block takes over
-      next_taken : (c k : ℕ) (next : Block) → Contains (targets_of b block.term) c → (given : List ℕ) → given ≡ map (value_at s.values) names_out ++ first_saved t start
+      next_taken : (c k : ℕ) (next : Block) → Contains (targets_of b block.term) c → (given : List ℕ)
+          → given ≡ map (value_at s.values) names_out ++ first_saved t start
           → taken_by lblock given (linear_block t names lists c k next) ≡ values_at t start lists c s.values
       next_taken c k next target given is =
           let by_name = map_same (λ (name : NameId). get_or given (position_or_len (λ (n : NameId). n.0 == name.0) names_out) 0) (value_at s.values) (live_at lists c)
-              (λ j d h. (let name = get_or (live_at lists c) j d in
-                  ap (λ (xs : List ℕ). get_or xs (position_or_len (λ (n : NameId). n.0 == name.0) names_out) 0) is
-                  ∙ value_by_place (value_at s.values) names_out (first_saved t start) name (out_has c name target (Contains-get_or (live_at lists c) j d h)))) in
+          (λ j d h. (let name = get_or (live_at lists c) j d in
+          ap (λ (xs : List ℕ). get_or xs (position_or_len (λ (n : NameId). n.0 == name.0) names_out) 0) is
+          ∙ value_by_place (value_at s.values) names_out (first_saved t start) name (out_has c name target (Contains-get_or (live_at lists c) j d h)))) in
           let by_order : drop (length names_out) given ≡ first_saved t start =
-              ap (drop (length names_out)) is ∙ drop_at (map (value_at s.values) names_out) (first_saved t start) (length names_out) (length-map names_out (value_at s.values)) in
-          ap (λ (xs : List ℕ). xs ++ drop (length names_out) given) by_name ∙ ap (λ (xs : List ℕ). map (value_at s.values) (live_at lists c) ++ xs) by_order
+          ap (drop (length names_out)) is
+          ∙ drop_at (map (value_at s.values) names_out) (first_saved t start) (length names_out) (length-map names_out (value_at s.values)) in
+          ap (λ (xs : List ℕ). xs ++ drop (length names_out) given) by_name
+          ∙ ap (λ (xs : List ℕ). map (value_at s.values) (live_at lists c) ++ xs) by_order
 
       abbrev returned : Option ℕ → ℕ → List ℕ → LinearRun
       returned v target xs = record { stop = ReturnedTo v target xs; world = world_of s }
@@ -241,14 +245,16 @@ module _ (blocks : List Block) (names : ℕ) (small : NamesAreSmall names blocks
 
       module _ (go : ℕ → List ℕ → World → LinearRun) (go_source : ℕ → SourceState → SourceRun)
           (goes : (c : ℕ) → c < length blocks → go c (values_at t start lists c s.values) (world_of s) ≡ as_linear t start lists (go_source c s)) where
-        next : (c : ℕ) → Contains (targets_of b block.term) c → (given : List ℕ) → given ≡ map (value_at s.values) names_out ++ first_saved t start
+        next : (c : ℕ) → Contains (targets_of b block.term) c → (given : List ℕ)
+            → given ≡ map (value_at s.values) names_out ++ first_saved t start
             → hand_over lin lblock given (world_of s) go c ≡ as_linear t start lists (go_source c s)
         next c target given is =
             let h = inside b block c here target in
             let block_c = get_or blocks c block in
             let there = block_at t names lists 0 0 blocks c block_c (slice_get-get_or blocks c block h) in
             let z : 0 + c ≡ c = omega arith in
-            let got : slice_get lin c ≡ Some (linear_block t names lists c there.first block_c) = there.got ∙ ap (λ (k : ℕ). Some (linear_block t names lists k there.first block_c)) z in
+            let got : slice_get lin c ≡ Some (linear_block t names lists c there.first block_c) = there.got
+            ∙ ap (λ (k : ℕ). Some (linear_block t names lists k there.first block_c)) z in
             ap (λ (x : Option ExtBlock). go c (taken_over lblock given x) (world_of s)) got
             ∙ ap (λ (xs : List ℕ). go c xs (world_of s)) (next_taken c there.first block_c target given is)
             ∙ goes c h
@@ -269,7 +275,8 @@ module _ (blocks : List Block) (names : ℕ) (small : NamesAreSmall names blocks
         branch x y is c d one two =
             ap (λ (n : ℕ). if nat_eq n 0 then hand_over lin lblock given (world_of s) go c else hand_over lin lblock given (world_of s) go d) is ∙ pick (nat_eq y 0) c d one two
 
-        read_value : (name : NameId) (term : Term) → block.term ≡ term → Contains (read_by_term term) name → w (get_or after name.0 0) ≡ get_or s.values name.0 0
+        read_value : (name : NameId) (term : Term) → block.term ≡ term → Contains (read_by_term term) name
+            → w (get_or after name.0 0) ≡ get_or s.values name.0 0
         read_value name term e has = a.same name (term_live name (subst (λ (x : Term). Contains (read_by_term x) name) (sym e) has))
 
         target : (term : Term) (c : ℕ) → block.term ≡ term → Contains (targets_of b term) c → Contains (targets_of b block.term) c
@@ -277,7 +284,7 @@ module _ (blocks : List Block) (names : ℕ) (small : NamesAreSmall names blocks
 
         leave_by : (term : Term) → block.term ≡ term
             → leave b term (map (value_of w) (end_operands after link term)) (map (value_of w) (out_operands_of t after saved names_out term)) (world_of s)
-                (hand_over lin lblock (map (value_of w) (out_operands_of t after saved names_out term)) (world_of s) go)
+            (hand_over lin lblock (map (value_of w) (out_operands_of t after saved names_out term)) (world_of s) go)
             ≡ as_linear t start lists (leave_source b term s go_source)
         leave_by Fall e = next (b + 1) (target Fall (b + 1) e (0, omega arith, refl)) given next_values
         leave_by (Jump to) e = next to.0 (target (Jump to) to.0 e (0, omega arith, refl)) given next_values
@@ -339,7 +346,8 @@ module _ (blocks : List Block) (names : ℕ) (small : NamesAreSmall names blocks
 
   -- ---- the whole run
 
-  pub enter_sim : (n b : ℕ) (s : SourceState) (taken : List ℕ) → b < length blocks → length s.values ≡ names → taken ≡ values_at t start lists b s.values
+  pub enter_sim : (n b : ℕ) (s : SourceState) (taken : List ℕ) → b < length blocks → length s.values ≡ names
+      → taken ≡ values_at t start lists b s.values
       → enter lin n b taken (world_of s) ≡ as_linear t start lists (enter_source blocks n b s)
   enter_sim zero b s taken h wide is = ap (λ (xs : List ℕ). (let z : LinearRun = record { stop = RunningWith b xs; world = world_of s } in z)) is
   enter_sim (suc n) b s taken h wide is =
@@ -347,7 +355,8 @@ module _ (blocks : List Block) (names : ℕ) (small : NamesAreSmall names blocks
       let here = slice_get-get_or blocks b no_block h in
       let there = block_at t names lists 0 0 blocks b block here in
       let z : 0 + b ≡ b = omega arith in
-      let got : slice_get lin b ≡ Some (linear_block t names lists b there.first block) = there.got ∙ ap (λ (k : ℕ). Some (linear_block t names lists k there.first block)) z in
+      let got : slice_get lin b ≡ Some (linear_block t names lists b there.first block) = there.got
+      ∙ ap (λ (k : ℕ). Some (linear_block t names lists k there.first block)) z in
       ap (λ (x : Option ExtBlock). through lin x b taken (world_of s) (enter lin n)) got
       ∙ ap (λ (xs : List ℕ). through lin (Some (linear_block t names lists b there.first block)) b xs (world_of s) (enter lin n)) is
       ∙ block_sim b there.first block here (enter lin n) (enter_source blocks n) (λ c u below same. enter_sim n c u (values_at t start lists c u.values) below same refl) s wide

@@ -1,15 +1,13 @@
 -- One operation of the source, and what it comes to of the values of its operands.
-use Rattle.std.proofs.Common.{◌≡◌, ◌≢◌, ℕ, zero, suc, ◌+◌, ◌<◌, ◌≤◌, ◌++◌, List, [], ◌∷◌, Option, Some, None, map, length, get_or, refl, sym, ap, ◌∙◌, arith, subst}
+use Rattle.std.proofs.Common.{◌≡◌, ℕ, suc, ◌<◌, ◌++◌, List, [], ◌∷◌, Option, Some, None, map, length, get_or, refl, ap, arith, subst}
 use Rattle.un_base.specs.declared.ids.NameId.{NameId}
 use Rattle.un_isa.specs.Memories.{word_at, set_word, set_words}
-use Rattle.un_isa.specs.Words.{address_of}
 use Rattle.un_isa.specs.declared.op.Op.{Op}
 use Rattle.un_isa.specs.declared.op.Op.TheVariants.{Load, Store, Call}
 use Rattle.un_isa.specs.declared.outcome.CallRecord.{CallRecord}
 use Rattle.un_isa.specs.declared.start.Reply.{Reply}
 use Rattle.un_isa.specs.declared.table.Table.{Table}
 use Rattle.un_ir.specs.declared.function.SrcOp.{SrcOp}
-use Rattle.un_ir.specs.declared.extended.Operand.{Operand}
 use Rattle.un_ir.specs.Source.{SourceState, SourceStep, Went, Stopped, op_step, step_by, value_in, assigned, loads, stores, calls_with, record_of, address_in, Trapped, Waiting}
 use Rattle.un_ir.specs.Linear.{World, Effect, Gives, Stops, effect_of, effect_by, Values, value_of, loads as loads_value, stores as stores_value, calls_with as calls_value, record_of as record_for, Trapped as Traps, Waiting as Waits}
 use Rattle.un_ir.specs.LinearOf.{name_operand, argument_operands, source_operands}
@@ -36,11 +34,13 @@ module _ (o : SrcOp) (s : SourceState) where
       subst (λ (values : List ℕ). StepSim o s (Went (record { values = values; memory = set_word a v s.memory; calls = s.calls; replies = s.replies })) (Gives 0 (record { memory = set_word a v s.memory; calls = s.calls; replies = s.replies })))
       same (goes 0 (record { memory = set_word a v s.memory; calls = s.calls; replies = s.replies }))
 
-  call_sim : (replies : List Reply) → StepSim o s (calls_with o s replies) (calls_value (record_for o (map (value_in s) o.srcs) (world_of s)) (world_of s) replies)
+  call_sim : (replies : List Reply)
+      → StepSim o s (calls_with o s replies) (calls_value (record_for o (map (value_in s) o.srcs) (world_of s)) (world_of s) replies)
   call_sim [] = waits (record_of o s)
   call_sim (r ∷ rs) = goes r.result (record { memory = set_words r.changed s.memory; calls = s.calls ++ record_of o s ∷ []; replies = rs })
 
-  sim_by : (op : Op) → o.op ≡ op → (op ≡ Store → o.dst ≡ None) → StepSim o s (step_by op o s) (effect_by op o (map (value_in s) o.srcs) (world_of s))
+  sim_by : (op : Op) → o.op ≡ op → (op ≡ Store → o.dst ≡ None)
+      → StepSim o s (step_by op o s) (effect_by op o (map (value_in s) o.srcs) (world_of s))
   sim_by Load e none = load_sim (word_at (address_in o s) s.memory)
   sim_by Store e none = store_sim (address_in o s) (get_or (map (value_in s) o.srcs) 1 0) (word_at (address_in o s) s.memory) (none refl)
   sim_by Call e none = call_sim s.replies
@@ -53,9 +53,11 @@ module _ (o : SrcOp) (s : SourceState) where
 -- ---- operands
 
 abbrev pub AreValues : Values → List ℕ → List ℕ → List NameId → Type 0
-AreValues v current values names = (k : ℕ) (d : NameId) → k < length names → (let name = get_or names k d in v (get_or current name.0 0) ≡ get_or values name.0 0)
+AreValues v current values names = (k : ℕ) (d : NameId) → k < length names
+    → (let name = get_or names k d in v (get_or current name.0 0) ≡ get_or values name.0 0)
 
-are_later : (v : Values) (current values : List ℕ) (name : NameId) (names : List NameId) → AreValues v current values (name ∷ names) → AreValues v current values names
+are_later : (v : Values) (current values : List ℕ) (name : NameId) (names : List NameId) → AreValues v current values (name ∷ names)
+    → AreValues v current values names
 are_later v current values name names h k d below = h (suc k) d (omega arith)
 
 abbrev value_at : List ℕ → NameId → ℕ

@@ -98,9 +98,7 @@ fn finish(
     } = body;
     let link = saved + registers.len() as u32;
     push_end(alloc, &mut ops, &current, link, term)?;
-    ops.push(out_op(
-        alloc, t, registers, &current, saved, live_out, term,
-    )?)?;
+    ops.push(out_op(alloc, t, registers, &current, saved, live_out, term)?)?;
     Ok(BlockOps { ops, next })
 }
 
@@ -198,9 +196,7 @@ pub fn linear_blocks(
     let mut made = Items::new(alloc);
     let mut n = 0;
     for (b, block) in blocks.iter().enumerate() {
-        let Numbered { block, next } = linear_block(
-            alloc, t, registers, live, names, b, n, block,
-        )?;
+        let Numbered { block, next } = linear_block(alloc, t, registers, live, names, b, n, block)?;
         made.push(block)?;
         n = next;
     }

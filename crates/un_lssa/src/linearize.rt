@@ -31,12 +31,7 @@ fn kinds(alloc: Global, names: &[(Name, Kind)]) -> Result<Items<Kind>, NoMemory>
 ///
 /// # Errors
 /// `NoMemory` where there is no memory for it.
-pub fn linearize(
-    alloc: Global,
-    f: &Function,
-    live: &LiveSets,
-    t: &Table,
-) -> Result<Lssa, NoMemory>
+pub fn linearize(alloc: Global, f: &Function, live: &LiveSets, t: &Table) -> Result<Lssa, NoMemory>
     requires { AreLive f.now.blocks live.now.at_start }
     ensures linear { IfOk result (λ l. l ≡ lin_of f.now live.now.at_start t.now) }
     ensures runs { IfOk result (RunsAsSource f.now live.now.at_start t.now) }

@@ -101,13 +101,7 @@ fn source_operands(
 }
 
 /// An operation of the source, which defines temporary `n` where it has a result.
-fn body_op(
-    alloc: Global,
-    t: &Table,
-    current: &[u32],
-    n: u32,
-    o: &SrcOp,
-) -> Result<ExtOp, NoMemory>
+fn body_op(alloc: Global, t: &Table, current: &[u32], n: u32, o: &SrcOp) -> Result<ExtOp, NoMemory>
     ensures { IfOk result (λ op. op ≡ body_op t.now current.now n o.now) }
 {
     let operands = source_operands(alloc, t, current, o)?;

@@ -12,13 +12,16 @@ use Rattle.un_source.specs.declared.blocks.Left.{Left}
 use Rattle.un_source.specs.declared.state.Stop.{Stop}
 use Rattle.un_source.specs.States.{IsStep, stored, called, values_of, led}
 
-pub load_step : (o : SrcOp) (old new : SourceState) (r : Option Stop) → o.op ≡ Load → IsStep (loads o old (word_at (address_in o old) old.memory)) old new r → IsStep (op_step o old) old new r
+pub load_step : (o : SrcOp) (old new : SourceState) (r : Option Stop) → o.op ≡ Load
+    → IsStep (loads o old (word_at (address_in o old) old.memory)) old new r → IsStep (op_step o old) old new r
 load_step o old new r e h = rw e h
 
-pub store_step : (o : SrcOp) (old new : SourceState) (r : Option Stop) → o.op ≡ Store → IsStep (stored o old) old new r → IsStep (op_step o old) old new r
+pub store_step : (o : SrcOp) (old new : SourceState) (r : Option Stop) → o.op ≡ Store → IsStep (stored o old) old new r
+    → IsStep (op_step o old) old new r
 store_step o old new r e h = rw e h
 
-pub call_step : (o : SrcOp) (old new : SourceState) (r : Option Stop) → o.op ≡ Call → IsStep (called o old) old new r → IsStep (op_step o old) old new r
+pub call_step : (o : SrcOp) (old new : SourceState) (r : Option Stop) → o.op ≡ Call → IsStep (called o old) old new r
+    → IsStep (op_step o old) old new r
 call_step o old new r e h = rw e h
 
 other_by : (op : Op) (o : SrcOp) (s : SourceState) → op ≢ Load → op ≢ Store → op ≢ Call → step_by op o s ≡ computes o s
@@ -27,8 +30,10 @@ other_by Store o s l st c = absurd (st refl)
 other_by Call o s l st c = absurd (c refl)
 other_by _ o s l st c = refl
 
-pub other_step : (o : SrcOp) (old : SourceState) (given values : List ℕ) (v : ℕ) → o.op ≢ Load → o.op ≢ Store → o.op ≢ Call → given ≡ old.values
-    → v ≡ eval o.op (values_of given o.srcs) o.imm → values ≡ assigned old.values o.dst v → op_step o old ≡ Went (record old { values = values })
+pub other_step : (o : SrcOp) (old : SourceState) (given values : List ℕ) (v : ℕ) → o.op ≢ Load → o.op ≢ Store → o.op ≢ Call
+    → given ≡ old.values
+    → v ≡ eval o.op (values_of given o.srcs) o.imm → values ≡ assigned old.values o.dst v
+        → op_step o old ≡ Went (record old { values = values })
 other_step o old given values v l st c same computed is =
     let e : computes o old ≡ Went (record old { values = values }) = rw (is, computed, same) refl in
     other_by o.op o old l st c ∙ e
@@ -38,13 +43,16 @@ pub take_least : (values : List ℕ) (n count : ℕ) → n ≡ min count (length
 take_least values n count e = rw e (take_min count values)
 
 -- where another block may be entered, it is
-pub enter_step : (blocks : List Block) (n b : ℕ) (s : SourceState) → 0 < n → enter blocks n b s ≡ through (slice_get blocks b) b s (enter blocks (n - 1))
+pub enter_step : (blocks : List Block) (n b : ℕ) (s : SourceState) → 0 < n
+    → enter blocks n b s ≡ through (slice_get blocks b) b s (enter blocks (n - 1))
 enter_step blocks zero b s h = absurd (omega arith)
 enter_step blocks (suc n) b s h = let e : suc n - 1 ≡ n = omega arith in rw e refl
 
 -- a run that enters one more block
-pub run_step : (blocks : List Block) (n i b : ℕ) (old new : SourceState) (block : Block) (left : Left) → i < n → slice_get blocks b ≡ Some block
-    → ((go : ℕ → SourceState → SourceRun) → through (Some block) b old go ≡ led left new go) → enter blocks (n - i) b old ≡ led left new (enter blocks (n - (i + 1)))
+pub run_step : (blocks : List Block) (n i b : ℕ) (old new : SourceState) (block : Block) (left : Left) → i < n
+    → slice_get blocks b ≡ Some block
+    → ((go : ℕ → SourceState → SourceRun) → through (Some block) b old go ≡ led left new go)
+        → enter blocks (n - i) b old ≡ led left new (enter blocks (n - (i + 1)))
 run_step blocks n i b old new block left h here pass =
     let e : (n - i) - 1 ≡ n - (i + 1) = omega arith in
     enter_step blocks (n - i) b old (omega arith)

@@ -1,4 +1,4 @@
-use Rattle.std.proofs.Common.{◌≡◌, ◌+◌, ◌++◌, ◌^◌, List, [], ◌∷◌, drop, sym, subst}
+use Rattle.std.proofs.Common.{◌≡◌, ◌+◌, ◌++◌, ◌^◌, List, drop, sym, subst}
 use Rattle.un_ir.specs.declared.extended.ExtBlock.{ExtBlock}
 use Rattle.un_ir.specs.LinearOf.{linear_blocks}
 use Rattle.un_lssa.proofs.BlockLaws.{blocks_more, past_more, next_below}

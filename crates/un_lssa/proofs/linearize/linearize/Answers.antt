@@ -27,6 +27,6 @@ returns-clause-runs c = λ start n regs.
     let t = c.args.t.now in
     let lists = c.args.live.now.at_start in
     let made : c.in_ok-blocks.blocks ≡ linear_blocks t (length f.names) lists 0 0 f.blocks =
-        c.in_ok-blocks.ensures ∙ ap (λ (k : ℕ). linear_blocks t k lists 0 0 c.as_slice-2.result.now) c.len.ensures
-        ∙ ap (linear_blocks t (length f.names) lists 0 0) c.as_slice-2.ensures in
+    c.in_ok-blocks.ensures ∙ ap (λ (k : ℕ). linear_blocks t k lists 0 0 c.as_slice-2.result.now) c.len.ensures
+    ∙ ap (linear_blocks t (length f.names) lists 0 0) c.as_slice-2.ensures in
     ap (λ (bs : List ExtBlock). linear_run t bs start n) made ∙ linear_runs f lists t start n c.requires regs

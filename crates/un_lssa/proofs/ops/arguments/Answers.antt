@@ -1,4 +1,4 @@
-use Rattle.std.proofs.Common.{◌≡◌, List, [], ◌∷◌, sym, subst, refl, ap, ◌∙◌, drop, get_or, ◌+◌, ◌++◌}
+use Rattle.std.proofs.Common.{◌≡◌, List, [], ◌∷◌, sym, subst, drop, get_or, ◌+◌, ◌++◌}
 use Rattle.un_ir.specs.declared.extended.Operand.{Operand}
 use Rattle.un_ir.specs.LinearOf.{argument_operands, name_operand}
 use Rattle.un_lssa.specs.Making.{home_at}
