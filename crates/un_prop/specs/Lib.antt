@@ -18,4 +18,5 @@ pub mod QueueLaws
 pub mod Queues
 pub mod Rounds
 pub mod Sides
+pub mod SingleLaws
 pub mod Steps

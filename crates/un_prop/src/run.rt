@@ -1,8 +1,9 @@
 //! Rounds of propagators.
 
-ghost use Rattle.std.specs.Prelude.{◌≡◌, ◌≢◌, ℕ, ◌<◌, ◌≤◌, List, length, All, true, Some, MatchOption, Contains};
-ghost use Rattle.un_domains.specs.Sets.{Sets, IsIn, NoneEmpty};
+ghost use Rattle.std.specs.Prelude.{◌≡◌, ◌≢◌, ℕ, ◌<◌, ◌≤◌, List, length, All, true, Some, MatchOption, Contains, None, false, ◌↔◌};
+ghost use Rattle.un_domains.specs.Sets.{Sets, IsIn, IsSingle, NoneEmpty};
 ghost use Rattle.un_prop.specs.Rounds.{HasVars, round, fix_of};
+ghost use Rattle.un_prop.specs.Parts.{Part};
 ghost use Rattle.un_prop.specs.Pruning.{IsFix, Ends, HasRoom};
 ghost use Rattle.un_prop.specs.Fixes.{IsGreatest};
 
@@ -78,4 +79,12 @@ pub fn same_in_any_order<P: Propagator>(props: &[P], others: &[P])
 {
     let _ = props;
     let _ = others;
+}
+
+/// On a store of single values, a propagator that reads some variable fails exactly where it does not hold.
+pub fn exact_on_single_values<P: Propagator>(p: &P)
+    ensures { (s : Sets) (x : List ℕ) → HasVars (P.scope p.now) s → All (λ (q : Part). HasVars q.vars s) (P.parts p.now) → IsSingle x s
+        → 0 < length (P.scope p.now) → (P.cut p.now s ≡ None) ↔ (P.holds p.now x ≡ false) }
+{
+    let _ = p;
 }
