@@ -12,7 +12,9 @@ use un_base::ids::NameId;
 use un_base::memory_error::NoMemory;
 use un_ir::extended::{ExtKind, ExtOp, Growth, Operand, Sort};
 use un_ir::function::{Kind, Term};
+use un_isa::facts::result_space;
 use un_isa::op::Op;
+use un_isa::reg::Space;
 use un_lists::items::Items;
 
 /// Whether the terminator is a return.
@@ -127,8 +129,8 @@ fn name_sorts(alloc: Global, names: &[Kind], live_in: &[NameId]) -> Result<Items
 fn result_kind(op: Op) -> Kind
     ensures { result ≡ result_kind op }
 {
-    match op {
-        Op::CmpEq | Op::CmpGt | Op::CmpGtu | Op::CmpEqi | Op::CmpGti => Kind::Pred,
+    match result_space(op) {
+        Some(Space::P) => Kind::Pred,
         _ => Kind::General,
     }
 }

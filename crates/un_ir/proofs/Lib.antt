@@ -3,3 +3,4 @@ pub mod SameFunction
 mod ExtendValues
 pub mod NameBounds
 pub mod FunctionFacts
+mod SourceRows

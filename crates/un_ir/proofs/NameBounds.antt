@@ -6,8 +6,8 @@ use Rattle.std.proofs.Math.Logic.{∥∥₁_elim}
 use Rattle.std.proofs.lemmas.List.Elements.{All-contains}
 use Rattle.std.proofs.lemmas.Option.{slice_get_within, get_or_from_slice_get}
 use Rattle.un_base.specs.declared.ids.NameId.{NameId}
-use Rattle.un_isa.specs.declared.op.Op.{Op}
-use Rattle.un_isa.specs.declared.op.Op.TheVariants.{Store, Call}
+use Rattle.un_isa.specs.Facts.{Operands, Fixed, Arguments, facts_of, result_space}
+use Rattle.un_isa.specs.declared.reg.Space.{Space}
 use Rattle.un_ir.specs.declared.function.Kind.{Kind}
 use Rattle.un_ir.specs.declared.function.Kind.TheVariants.{General, Pred}
 use Rattle.un_ir.specs.declared.function.SrcOp.{SrcOp}
@@ -17,7 +17,7 @@ use Rattle.un_ir.specs.declared.function.Block.{Block}
 use Rattle.un_ir.specs.declared.function.Function.{Function}
 use Rattle.un_ir.specs.Names.{kind_of}
 use Rattle.un_ir.specs.Live.{IsLive, used, kept, read_by_term, read_by, read_at}
-use Rattle.un_ir.specs.WellFormed.{Names, IsOfKind, IsGoodOp, IsGoodBlock, IsWellFormed, ReadsItsKinds, AssignsItsKind, TestsItsKind, operand_kinds, result_kind}
+use Rattle.un_ir.specs.WellFormed.{Names, IsOfKind, IsGoodOp, IsGoodBlock, IsWellFormed, AreRead, IsAssigned, AssignsItsKind, TestsItsKind, kind_in}
 
 -- what all of a list keep, the item at a place keeps
 pub at_all : {X : Type 0} (P : X → Type 0) (xs : List X) (k : ℕ) (x : X) → All P xs → slice_get xs k ≡ Some x → P x
@@ -40,13 +40,16 @@ some_kind names (s ∷ srcs) (kind ∷ kinds) name e (suc k, below, is) =
     let rest : map (kind_of names) srcs ≡ map Some kinds = cc e in some_kind names srcs kinds name rest (k, omega arith, is)
 
 -- the names that an operation reads, by its kinds
-srcs_small : (names : Names) (op : Op) (srcs : List NameId) (name : NameId) → ReadsItsKinds names op srcs → Contains srcs name → name.0 < length names
-srcs_small names Call srcs name h has = kind_small names General name (All-contains (IsOfKind names General) srcs name h.0 has)
-srcs_small names op srcs name h has = some_kind names srcs (operand_kinds op) name h has
+srcs_small : (names : Names) (operands : Operands) (srcs : List NameId) (name : NameId)
+    → AreRead names operands srcs → Contains srcs name → name.0 < length names
+srcs_small names Arguments srcs name h has = kind_small names General name (All-contains (IsOfKind names General) srcs name h.0 has)
+srcs_small names (Fixed spaces) srcs name h has = some_kind names srcs (map kind_in spaces) name h has
 
-dst_small : (names : Names) (op : Op) (name : NameId) → AssignsItsKind names op (Some name) → name.0 < length names
-dst_small names Store name h = absurd (cc h)
-dst_small names op name h = kind_small names (result_kind op) name h
+dst_small : (names : Names) (operands : Operands) (space : Option Space) (name : NameId)
+    → IsAssigned names operands space (Some name) → name.0 < length names
+dst_small names operands None name h = absurd (cc h)
+dst_small names (Fixed spaces) (Some space) name h = kind_small names (kind_in space) name h
+dst_small names Arguments (Some space) name h = kind_small names (kind_in space) name h
 
 term_small : (names : Names) (term : Term) (name : NameId) → TestsItsKind names term → Contains (read_by_term term) name → name.0 < length names
 term_small names Fall name h (k, below, is) = absurd (omega arith)
@@ -73,12 +76,13 @@ names_small names blocks good = record { reads = reads; assigns = assigns }
       where
         by : (o : Option SrcOp) → slice_get block.ops k ≡ o → Contains (read_by o block.term) name → name.0 < length names
         by None e has = let g = at_all (IsGoodBlock names) blocks b block good at in term_small names block.term name g.tests has
-        by (Some o) e has = let g = op_at b k block o at e in srcs_small names o.op o.srcs name g.reads has
+        by (Some o) e has = let g = op_at b k block o at e in let f = facts_of o.op in srcs_small names f.operands o.srcs name g.reads has
 
     assigns : (b k : ℕ) (block : Block) (o : SrcOp) (name : NameId) → slice_get blocks b ≡ Some block → slice_get block.ops k ≡ Some o → o.dst ≡ Some name → name.0 < length names
     assigns b k block o name at here is =
         let g = op_at b k block o at here in
-        dst_small names o.op name (subst (λ (d : Option NameId). AssignsItsKind names o.op d) is g.assigns)
+        let f = facts_of o.op in
+        dst_small names f.operands (result_space o.op) name (subst (λ (d : Option NameId). AssignsItsKind names o.op d) is g.assigns)
 
 -- so is each name that is live
 pub live_small : (count : ℕ) (blocks : List Block) → NamesAreSmall count blocks → (name : NameId) (b k : ℕ) → IsLive blocks name b k → name.0 < count

@@ -4,6 +4,8 @@ use Rattle.std.specs.List.{flat_map, range_with_len, AllZip}
 use Rattle.std.specs.Option.{option_to_list}
 use Rattle.un_base.specs.declared.ids.NameId.{NameId}
 use Rattle.un_base.specs.declared.ids.TempId.{TempId}
+use Rattle.un_isa.specs.Facts.{is_source}
+use Rattle.un_isa.specs.Operands.{HasLiteral}
 use Rattle.un_isa.specs.Registers.{callee_saved, saved_registers}
 use Rattle.un_isa.specs.declared.op.Op.{Op}
 use Rattle.un_isa.specs.declared.op.Op.TheVariants.{Store, Call}
@@ -26,7 +28,7 @@ use Rattle.un_ir.specs.declared.extended.Ext.{Ext}
 use Rattle.un_ir.specs.declared.extended.Lssa.{Lssa}
 use Rattle.un_ir.specs.Linear.{first_of, ending_of, is_in, is_out}
 use Rattle.un_ir.specs.Live.{targets_of}
-use Rattle.un_ir.specs.WellFormed.{IsName, IsOfText, HasItsLiteral, NamesItsCallee, operand_kinds, result_kind}
+use Rattle.un_ir.specs.WellFormed.{IsName, NamesItsCallee, operand_kinds, result_kind}
 
 abbrev pub temp : ℕ → TempId
 temp n = record { 0 = n }
@@ -139,8 +141,8 @@ HasItsResult op (Some name) = Unit {0}
 
 -- an operation that a text may have
 pub record IsSourceOp (o : SrcOp) : Type 0 where
-  pub op : IsOfText o.op
-  pub literal : HasItsLiteral o.op o.imm
+  pub op : is_source o.op ≡ true
+  pub literal : HasLiteral o.op o.imm
   pub callee : NamesItsCallee o.op o.callee
   pub result : HasItsResult o.op o.dst
 

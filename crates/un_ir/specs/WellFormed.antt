@@ -4,7 +4,7 @@ use Rattle.std.specs.Prelude.{AllPairs, Contains}
 use Rattle.std.specs.List.{flat_map}
 use Rattle.un_base.specs.Names.{is_name}
 use Rattle.un_base.specs.declared.ids.NameId.{NameId}
-use Rattle.un_isa.specs.Facts.{Operands, Fixed, Arguments, facts_of, is_source, result_space}
+use Rattle.un_isa.specs.Facts.{Operands, Fixed, Arguments, facts_of, is_source, operand_spaces, result_space}
 use Rattle.un_isa.specs.Operands.{HasLiteral}
 use Rattle.un_isa.specs.declared.reg.Space.{Space}
 use Rattle.un_isa.specs.declared.reg.Space.TheVariants.{R, P, M}
@@ -36,6 +36,18 @@ abbrev pub kind_in : Space → Kind
 kind_in R = General
 kind_in P = Pred
 kind_in M = General
+
+-- the kinds of the operands, in order; those of a call are not listed
+abbrev pub operand_kinds : Op → List Kind
+operand_kinds op = map kind_in (operand_spaces op)
+
+abbrev pub kind_given : Option Space → Kind
+kind_given None = General
+kind_given (Some space) = kind_in space
+
+-- the kind of the result
+abbrev pub result_kind : Op → Kind
+result_kind op = kind_given (result_space op)
 
 -- the operation calls a function
 abbrev pub takes_arguments : Operands → Bool
