@@ -16,3 +16,4 @@ pub mod RepeatLaws
 pub mod Stands
 pub mod Targets
 pub mod WellFormed
+mod FaultRows

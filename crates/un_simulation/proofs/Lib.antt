@@ -1,1 +1,2 @@
 pub mod Startable
+mod Places
