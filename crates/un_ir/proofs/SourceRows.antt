@@ -48,15 +48,15 @@ abbrev dot_product : List Block
 dot_product =
     block (codes "entry") (op Imm (Some 3) [] (pos 0) ∷ []) Fall
     ∷ block (codes "loop")
-      (op Load (Some 4) (0 ∷ []) (pos 0)
-      ∷ op Load (Some 5) (1 ∷ []) (pos 0)
-      ∷ op Mpyi (Some 6) (4 ∷ 5 ∷ []) (pos 0)
-      ∷ op Add (Some 3) (3 ∷ 6 ∷ []) (pos 0)
-      ∷ op Addi (Some 0) (0 ∷ []) (pos 4)
-      ∷ op Addi (Some 1) (1 ∷ []) (pos 4)
-      ∷ op Addi (Some 2) (2 ∷ []) (negsuc 0)
-      ∷ op CmpGti (Some 7) (2 ∷ []) (pos 0) ∷ [])
-      (Branch (name 7) true (record { 0 = 1 }))
+    (op Load (Some 4) (0 ∷ []) (pos 0)
+    ∷ op Load (Some 5) (1 ∷ []) (pos 0)
+    ∷ op Mpyi (Some 6) (4 ∷ 5 ∷ []) (pos 0)
+    ∷ op Add (Some 3) (3 ∷ 6 ∷ []) (pos 0)
+    ∷ op Addi (Some 0) (0 ∷ []) (pos 4)
+    ∷ op Addi (Some 1) (1 ∷ []) (pos 4)
+    ∷ op Addi (Some 2) (2 ∷ []) (negsuc 0)
+    ∷ op CmpGti (Some 7) (2 ∷ []) (pos 0) ∷ [])
+    (Branch (name 7) true (record { 0 = 1 }))
     ∷ block (codes "exit") [] (Ret (Some (name 3)))
     ∷ []
 
@@ -81,8 +81,8 @@ dot_product_leaves = refl
 abbrev sum_after_call : List Block
 sum_after_call =
     block (codes "e")
-      (op Store None (0 ∷ 1 ∷ []) (pos 4) ∷ call_h (Some (name 2)) (1 ∷ 0 ∷ []) ∷ op Add (Some 3) (2 ∷ 1 ∷ []) (pos 0) ∷ [])
-      (Ret (Some (name 3)))
+    (op Store None (0 ∷ 1 ∷ []) (pos 4) ∷ call_h (Some (name 2)) (1 ∷ 0 ∷ []) ∷ op Add (Some 3) (2 ∷ 1 ∷ []) (pos 0) ∷ [])
+    (Ret (Some (name 3)))
     ∷ []
 
 abbrev call_memory : List (ℕ × ℕ)
@@ -104,8 +104,8 @@ call_waits = refl
 abbrev loads_and_stores : List Block
 loads_and_stores =
     block (codes "e")
-      (op Load (Some 2) (0 ∷ []) (pos 0) ∷ op Store None (0 ∷ 1 ∷ []) (pos 0) ∷ op Load (Some 3) (1 ∷ []) (pos 0) ∷ op Store None (1 ∷ 0 ∷ []) (pos 4) ∷ [])
-      (Ret (Some (name 2)))
+    (op Load (Some 2) (0 ∷ []) (pos 0) ∷ op Store None (0 ∷ 1 ∷ []) (pos 0) ∷ op Load (Some 3) (1 ∷ []) (pos 0) ∷ op Store None (1 ∷ 0 ∷ []) (pos 4) ∷ [])
+    (Ret (Some (name 2)))
     ∷ []
 
 -- 258 is no address of a word

@@ -205,7 +205,7 @@ is_column blocks name marks long sound closed = record { long = long; exact = λ
 meets_live : (blocks : List Block) (name : NameId) (b : ℕ) (block : Block) → slice_get blocks b ≡ Some block → (l : Bool)
     → (l ≡ true → (c : ℕ) × Contains (targets_of b block.term) c × IsLive blocks name c 0)
     → (os : List SrcOp) (k : ℕ) → drop k block.ops ≡ os → k ≤ length block.ops → live_by (meeting name os block.term) l ≡ true
-        → IsLive blocks name b k
+    → IsLive blocks name b k
 meets_live blocks name b block is l out [] k drops h hyp = elim (at_place block.ops k h) [
   | inl (none, empty) ↦ by none (reads name (read_by_term block.term)) refl hyp
   | inr s ↦ absurd (cc (sym s.front ∙ drops))
@@ -371,7 +371,7 @@ block_met table (o ∷ os) term i h =
     let w = assigns (name_of i) o.dst in
     let here : met after i ≡ meet (meet (met table i) (if_so v Read)) (if_so w Assigned) =
     noted_dst_met (noted_all table o.srcs Read) o.dst i inner
-        ∙ ap (λ (x : Meeting). meet x (if_so w Assigned)) (noted_all_met table o.srcs Read i h) in
+    ∙ ap (λ (x : Meeting). meet x (if_so w Assigned)) (noted_all_met table o.srcs Read i h) in
     block_met after os term i below
     ∙ ap (λ (x : Meeting). meet x (meeting (name_of i) os term)) here
     ∙ meet_op v w (met table i) (meeting (name_of i) os term)
@@ -401,7 +401,7 @@ lives_by_table blocks name names b d table marks h below got =
     let here : slice_get blocks b ≡ Some block = slice_get-get_or blocks b d below in
     let same : table_of names block ≡ table = map_got (table_of names) blocks b block table here got in
     let m : met table name ≡ meeting (name_of name) block.ops block.term = ap (λ (t : List Meeting). met t name) (sym same)
-        ∙ table_met names block name h in
+    ∙ table_met names block name h in
     rw (here, m) refl
 
 -- ---- a pass over the blocks
@@ -445,7 +445,7 @@ pass_start blocks name marks long sound = record {
 pub pass_marked : (blocks : List Block) (name : NameId) (first marks : List Bool) (changed : Bool) (rest : ℕ)
     → IsPass blocks name first marks changed rest → 0 < rest
     → marked marks (rest - 1) ≡ false → lives_at blocks name marks (rest - 1) ≡ true
-        → IsPass blocks name first (set marks (rest - 1) true) true (rest - 1)
+    → IsPass blocks name first (set marks (rest - 1) true) true (rest - 1)
 pass_marked blocks name first marks changed rest p more un lives =
     let within = p.within in
     let long = p.long in

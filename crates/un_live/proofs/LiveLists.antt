@@ -49,7 +49,7 @@ names_marks k (marks ∷ columns) b name has = by (names_marks (k + 1) columns b
 
     by : (Contains (names_from (k + 1) columns b) name → HasMarks (k + 1) columns b name) → (v : Bool) → marked marks b ≡ v
         → Contains (if v then name_of k ∷ names_from (k + 1) columns b else names_from (k + 1) columns b) name
-            → HasMarks k (marks ∷ columns) b name
+        → HasMarks k (marks ∷ columns) b name
     by ih true e has = elim (contains_cases (name_of k) name (names_from (k + 1) columns b) has) [
       | inl is ↦ here true e refl is
       | inr rest ↦ later (ih rest)

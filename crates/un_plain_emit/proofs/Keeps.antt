@@ -419,11 +419,11 @@ keeps_for t fit f b o s returned few sol plain lt short =
     let all_code : (c : ℕ) → instrs_in m s block vars c ≡ instrs p c first steps (tail_in p end l c) =
     λ c. no_code (nat_eq 0 c) (code_in x c 1 (first_of t f bb o) (rest_of t f b returned)) ∙ w.code c in
     let room : (c : ℕ) → length (instrs p c first steps (tail_in p end l c)) ≤ 4 = λ c.
-        let e = ap length (all_code c) in
-        let count = code_few t m s end c 0 block.ops vars.ops in
-        let fits = room_is (issues_of m s.values) c (sol.packets 0 c) in
-        let same = ap (sum_by (share c)) (append-nil (pairs_from (λ (n : ℕ). issue_of t s.values 0 end) 0 block.ops vars.ops)) in
-        omega (arith, e, count, fits, same) in
+    let e = ap length (all_code c) in
+    let count = code_few t m s end c 0 block.ops vars.ops in
+    let fits = room_is (issues_of m s.values) c (sol.packets 0 c) in
+    let same = ap (sum_by (share c)) (append-nil (pairs_from (λ (n : ℕ). issue_of t s.values 0 end) 0 block.ops vars.ops)) in
+    omega (arith, e, count, fits, same) in
     let planned : Planned t p first total end l steps = record {
       apart = apart;
       registers = record { general = general; not_stack = λ i h below. (w.good i h below).1 };

@@ -33,7 +33,7 @@ other_by _ o s l st c = refl
 pub other_step : (o : SrcOp) (old : SourceState) (given values : List ℕ) (v : ℕ) → o.op ≢ Load → o.op ≢ Store → o.op ≢ Call
     → given ≡ old.values
     → v ≡ eval o.op (values_of given o.srcs) o.imm → values ≡ assigned old.values o.dst v
-        → op_step o old ≡ Went (record old { values = values })
+    → op_step o old ≡ Went (record old { values = values })
 other_step o old given values v l st c same computed is =
     let e : computes o old ≡ Went (record old { values = values }) = rw (is, computed, same) refl in
     other_by o.op o old l st c ∙ e
@@ -52,7 +52,7 @@ enter_step blocks (suc n) b s h = let e : suc n - 1 ≡ n = omega arith in rw e 
 pub run_step : (blocks : List Block) (n i b : ℕ) (old new : SourceState) (block : Block) (left : Left) → i < n
     → slice_get blocks b ≡ Some block
     → ((go : ℕ → SourceState → SourceRun) → through (Some block) b old go ≡ led left new go)
-        → enter blocks (n - i) b old ≡ led left new (enter blocks (n - (i + 1)))
+    → enter blocks (n - i) b old ≡ led left new (enter blocks (n - (i + 1)))
 run_step blocks n i b old new block left h here pass =
     let e : (n - i) - 1 ≡ n - (i + 1) = omega arith in
     enter_step blocks (n - i) b old (omega arith)
