@@ -56,9 +56,11 @@ clobbered : members HEXAGON.clobbered ≡
 clobbered = refl
 
 saved : callee_saved HEXAGON ≡ 16 ∷ 17 ∷ 18 ∷ 19 ∷ 20 ∷ 21 ∷ 22 ∷ 23 ∷ 24 ∷ 25 ∷ 26 ∷ 27 ∷ []
+unfolding callee_saved
 saved = refl
 
 kept_with_link : saved_registers HEXAGON ≡ 16 ∷ 17 ∷ 18 ∷ 19 ∷ 20 ∷ 21 ∷ 22 ∷ 23 ∷ 24 ∷ 25 ∷ 26 ∷ 27 ∷ 31 ∷ []
+unfolding callee_saved
 kept_with_link = refl
 
 convention : HEXAGON.args ++ HEXAGON.result ∷ [] ≡ 0 ∷ 1 ∷ 2 ∷ 3 ∷ 4 ∷ 5 ∷ 0 ∷ []
