@@ -5,16 +5,16 @@ use Rattle.std.proofs.Math.Logic.{∥∥₁_elim}
 use Rattle.std.proofs.lemmas.List.Elements.{All-contains}
 use lib.Dec.{T_prop}
 use Rattle.un_isa.specs.Facts.{literal_range}
-use Rattle.un_isa.specs.Operands.{IsLiteral, IsShift, IsShiftOf, IsUnsigned5}
+use Rattle.un_isa.specs.Operands.{IsLiteralOf, IsShift, IsShiftOf, IsUnsigned5}
 use Rattle.un_isa.specs.declared.facts.Range.{Range}
 use Rattle.un_isa.specs.declared.facts.Range.TheVariants.{Unsigned5}
 use Rattle.un_isa.specs.declared.op.Op.{Op}
-use Rattle.un_isa.specs.declared.op.Op.TheVariants.{Asl, Asr, Lsr, Call}
+use Rattle.un_isa.specs.declared.op.Op.TheVariants.{Call}
 use Rattle.un_ir.specs.declared.function.SrcOp.{SrcOp}
 use Rattle.un_ir.specs.declared.function.Block.{Block}
 use Rattle.un_ir.specs.declared.function.Function.{Function}
 use Rattle.un_ir.specs.Live.{targets_of}
-use Rattle.un_ir.specs.WellFormed.{IsGoodOp, IsGoodBlock, IsWellFormed, HasItsLiteral, NamesItsCallee}
+use Rattle.un_ir.specs.WellFormed.{IsGoodOp, IsGoodBlock, IsWellFormed, NamesItsCallee}
 use Rattle.un_ir.proofs.NameBounds.{at_all}
 
 abbrev IsKept : Function → Type 0
@@ -42,16 +42,15 @@ shift_prop None n x y = refl
 shift_prop (Some Unsigned5) n x y = five_prop n x y
 shift_prop (Some _) n x y = refl
 
-shift_by : (op : Op) (n : ℤ) → HasItsLiteral op n → IsShift op n
-shift_by Asl n h = h
-shift_by Asr n h = h
-shift_by Lsr n h = h
-shift_by _ n h = tt
+shift_by : (r : Option Range) (n : ℤ) → IsLiteralOf r n → IsShiftOf r n
+shift_by None n h = tt
+shift_by (Some Unsigned5) n h = h
+shift_by (Some _) n h = tt
 
 -- a shift is by 0 to 31
 pub shifts : (f : Function) (b k : ℕ) (block : Block) (o : SrcOp) → slice_get f.blocks b ≡ Some block → slice_get block.ops k ≡ Some o → IsShift o.op o.imm
 shifts f b k block o at here =
-    ∥∥₁_elim f.well_formed (shift_prop (literal_range o.op) o.imm) (λ (w : IsKept f). let g = op_good f w b k block o at here in shift_by o.op o.imm g.literal)
+    ∥∥₁_elim f.well_formed (shift_prop (literal_range o.op) o.imm) (λ (w : IsKept f). let g = op_good f w b k block o at here in shift_by (literal_range o.op) o.imm g.literal)
 
 -- a call has a callee
 pub calls_one : (f : Function) (b k : ℕ) (block : Block) (o : SrcOp) → slice_get f.blocks b ≡ Some block → slice_get block.ops k ≡ Some o → o.op ≡ Call → IsSome o.callee

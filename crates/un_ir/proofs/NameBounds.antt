@@ -6,8 +6,9 @@ use Rattle.std.proofs.Math.Logic.{∥∥₁_elim}
 use Rattle.std.proofs.lemmas.List.Elements.{All-contains}
 use Rattle.std.proofs.lemmas.Option.{slice_get_within, get_or_from_slice_get}
 use Rattle.un_base.specs.declared.ids.NameId.{NameId}
+use Rattle.un_isa.specs.Facts.{Operands, Fixed, Arguments, facts_of, result_space}
 use Rattle.un_isa.specs.declared.op.Op.{Op}
-use Rattle.un_isa.specs.declared.op.Op.TheVariants.{Store, Call}
+use Rattle.un_isa.specs.declared.reg.Space.{Space}
 use Rattle.un_ir.specs.declared.function.Kind.{Kind}
 use Rattle.un_ir.specs.declared.function.Kind.TheVariants.{General, Pred}
 use Rattle.un_ir.specs.declared.function.SrcOp.{SrcOp}
@@ -17,7 +18,7 @@ use Rattle.un_ir.specs.declared.function.Block.{Block}
 use Rattle.un_ir.specs.declared.function.Function.{Function}
 use Rattle.un_ir.specs.Names.{kind_of}
 use Rattle.un_ir.specs.Live.{IsLive, used, kept, read_by_term, read_by, read_at}
-use Rattle.un_ir.specs.WellFormed.{Names, IsOfKind, IsGoodOp, IsGoodBlock, IsWellFormed, ReadsItsKinds, AssignsItsKind, TestsItsKind, operand_kinds, result_kind}
+use Rattle.un_ir.specs.WellFormed.{Names, IsOfKind, IsGoodOp, IsGoodBlock, IsWellFormed, ReadsItsKinds, AssignsItsKind, TestsItsKind, AreRead, IsAssigned, kind_in}
 
 -- what all of a list keep, the item at a place keeps
 pub at_all : {X : Type 0} (P : X → Type 0) (xs : List X) (k : ℕ) (x : X) → All P xs → slice_get xs k ≡ Some x → P x
@@ -41,12 +42,20 @@ some_kind names (s ∷ srcs) (kind ∷ kinds) name e (suc k, below, is) =
 
 -- the names that an operation reads, by its kinds
 srcs_small : (names : Names) (op : Op) (srcs : List NameId) (name : NameId) → ReadsItsKinds names op srcs → Contains srcs name → name.0 < length names
-srcs_small names Call srcs name h has = kind_small names General name (All-contains (IsOfKind names General) srcs name h.0 has)
-srcs_small names op srcs name h has = some_kind names srcs (operand_kinds op) name h has
+srcs_small names op srcs name h has = by (facts_of op).operands h
+  where
+    by : (operands : Operands) → AreRead names operands srcs → name.0 < length names
+    by (Fixed spaces) h = some_kind names srcs (map kind_in spaces) name h has
+    by Arguments h = kind_small names General name (All-contains (IsOfKind names General) srcs name h.0 has)
 
 dst_small : (names : Names) (op : Op) (name : NameId) → AssignsItsKind names op (Some name) → name.0 < length names
-dst_small names Store name h = absurd (cc h)
-dst_small names op name h = kind_small names (result_kind op) name h
+dst_small names op name h = by (facts_of op).operands (result_space op) h
+  where
+    by : (operands : Operands) (space : Option Space) → IsAssigned names operands space (Some name) → name.0 < length names
+    by (Fixed spaces) None h = absurd (cc h)
+    by Arguments None h = absurd (cc h)
+    by (Fixed spaces) (Some space) h = kind_small names (kind_in space) name h
+    by Arguments (Some space) h = kind_small names (kind_in space) name h
 
 term_small : (names : Names) (term : Term) (name : NameId) → TestsItsKind names term → Contains (read_by_term term) name → name.0 < length names
 term_small names Fall name h (k, below, is) = absurd (omega arith)

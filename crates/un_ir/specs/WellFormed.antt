@@ -1,14 +1,15 @@
 -- What every function of the input language keeps: no text with a fault could give it.
-use Rattle.std.specs.Prelude.{ℕ, ◌≡◌, ◌≢◌, ◌<◌, ◌≤◌, Bool, true, false, List, Option, Some, None, is_some, map, length, slice_get, All}
+use Rattle.std.specs.Prelude.{ℕ, ℤ, pos, ◌≡◌, ◌≢◌, ◌<◌, ◌≤◌, Bool, true, false, List, [], ◌∷◌, Option, Some, None, is_some, map, length, slice_get, All}
 use Rattle.std.specs.Prelude.{AllPairs, Contains}
 use Rattle.std.specs.List.{flat_map}
 use Rattle.un_base.specs.Names.{is_name}
 use Rattle.un_base.specs.declared.ids.NameId.{NameId}
 use Rattle.un_isa.specs.Facts.{Operands, Fixed, Arguments, facts_of, is_source, result_space}
-use Rattle.un_isa.specs.Operands.{HasLiteral}
+use Rattle.un_isa.specs.Operands.{IsLiteral, HasLiteral}
 use Rattle.un_isa.specs.declared.reg.Space.{Space}
 use Rattle.un_isa.specs.declared.reg.Space.TheVariants.{R, P, M}
 use Rattle.un_isa.specs.declared.op.Op.{Op}
+use Rattle.un_isa.specs.declared.op.Op.TheVariants.{Imm, Mov, Add, Sub, And, Or, Xor, Addi, Andi, Ori, Mux, CmpEq, CmpGt, CmpGtu, CmpEqi, CmpGti, Mpyi, Asl, Asr, Lsr, Load, Store, Call}
 use Rattle.un_ir.specs.declared.function.Kind.{Kind}
 use Rattle.un_ir.specs.declared.function.Kind.TheVariants.{General, Pred}
 use Rattle.un_ir.specs.declared.function.SrcOp.{SrcOp}
@@ -71,6 +72,61 @@ IsCallee Arguments (Some callee) = IsName callee
 
 abbrev pub NamesItsCallee : Op → Option (List ℕ) → Type 0
 NamesItsCallee op callee = IsCallee (facts_of op).operands callee
+
+-- ---- the same, operation by operation
+
+-- the kinds of the operands of an operation, in order; a call takes any number of words
+abbrev pub operand_kinds : Op → List Kind
+operand_kinds Mov = General ∷ []
+operand_kinds Add = General ∷ General ∷ []
+operand_kinds Sub = General ∷ General ∷ []
+operand_kinds And = General ∷ General ∷ []
+operand_kinds Or = General ∷ General ∷ []
+operand_kinds Xor = General ∷ General ∷ []
+operand_kinds Addi = General ∷ []
+operand_kinds Andi = General ∷ []
+operand_kinds Ori = General ∷ []
+operand_kinds Mux = Pred ∷ General ∷ General ∷ []
+operand_kinds CmpEq = General ∷ General ∷ []
+operand_kinds CmpGt = General ∷ General ∷ []
+operand_kinds CmpGtu = General ∷ General ∷ []
+operand_kinds CmpEqi = General ∷ []
+operand_kinds CmpGti = General ∷ []
+operand_kinds Mpyi = General ∷ General ∷ []
+operand_kinds Asl = General ∷ []
+operand_kinds Asr = General ∷ []
+operand_kinds Lsr = General ∷ []
+operand_kinds Load = General ∷ []
+operand_kinds Store = General ∷ General ∷ []
+operand_kinds _ = []
+
+-- the kind of an operation's result
+abbrev pub result_kind : Op → Kind
+result_kind CmpEq = Pred
+result_kind CmpGt = Pred
+result_kind CmpGtu = Pred
+result_kind CmpEqi = Pred
+result_kind CmpGti = Pred
+result_kind _ = General
+
+-- the operations that a text may have
+abbrev pub IsOfText : Op → Type 0
+IsOfText op = Contains (Imm ∷ Mov ∷ Add ∷ Sub ∷ And ∷ Or ∷ Xor ∷ Addi ∷ Andi ∷ Ori ∷ Mux ∷ CmpEq ∷ CmpGt ∷ CmpGtu ∷ CmpEqi ∷ CmpGti ∷ Mpyi ∷ Asl ∷ Asr ∷ Lsr ∷ Load ∷ Store ∷ Call ∷ []) op
+
+-- a literal in its operation's range; an operation without one has 0
+abbrev pub HasItsLiteral : Op → ℤ → Type 0
+HasItsLiteral Imm n = IsLiteral Imm n
+HasItsLiteral Addi n = IsLiteral Addi n
+HasItsLiteral Andi n = IsLiteral Andi n
+HasItsLiteral Ori n = IsLiteral Ori n
+HasItsLiteral CmpEqi n = IsLiteral CmpEqi n
+HasItsLiteral CmpGti n = IsLiteral CmpGti n
+HasItsLiteral Asl n = IsLiteral Asl n
+HasItsLiteral Asr n = IsLiteral Asr n
+HasItsLiteral Lsr n = IsLiteral Lsr n
+HasItsLiteral Load n = IsLiteral Load n
+HasItsLiteral Store n = IsLiteral Store n
+HasItsLiteral op n = n ≡ pos 0
 
 pub record IsGoodOp (names : Names) (o : SrcOp) : Type 0 where
   pub op : is_source o.op ≡ true
