@@ -7,3 +7,5 @@ pub mod BodySim
 pub mod EnterSim
 pub mod RunSim
 pub mod FunctionRuns
+pub mod LinearNumbers
+pub mod KeptBlocks
