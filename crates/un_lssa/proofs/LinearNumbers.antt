@@ -5,7 +5,7 @@ use Rattle.std.specs.Option.{option_to_list}
 use Rattle.std.proofs.lemmas.Grind.{flat_map-append}
 use Rattle.std.proofs.lemmas.List.{length-append, length-map, length-replicate}
 use Rattle.std.proofs.lemmas.List.Elements.{All-nil, All-cons, All-head, All-tail, All-append, All-map}
-use Rattle.std.proofs.lemmas.List.FromFn.{length-range_with_len}
+use Rattle.std.proofs.lemmas.List.FromFn.{length-map-range_with_len}
 use Rattle.std.proofs.lemmas.Option.{unwrap_or-slice_get}
 use Rattle.un_base.specs.declared.ids.NameId.{NameId}
 use Rattle.un_base.specs.declared.ids.TempId.{TempId}
@@ -25,7 +25,7 @@ use Rattle.un_ir.specs.declared.extended.ExtKind.TheVariants.{In, Out, Body, End
 use Rattle.un_ir.specs.declared.extended.Operand.{Operand}
 use Rattle.un_ir.specs.declared.extended.ExtOp.{ExtOp}
 use Rattle.un_ir.specs.declared.extended.ExtBlock.{ExtBlock}
-use Rattle.un_ir.specs.Extended.{temp, carried, carried_by, all_carried, results_of, all_results, defined_kinds, all_kinds, in_kinds, is_linear_kind, IsPlainOp}
+use Rattle.un_ir.specs.Extended.{temp, carried, carried_by, all_carried, results_of, all_results, defined_kinds, all_kinds, in_kinds, is_linear_kind, is_inner, AllAre, IsPlainOp}
 use Rattle.un_ir.specs.LinearOf.{live_at, live_after, reads, name_operand, argument_operands, source_operands, kept_operands, out_operands_of, first_temps, assigned, past, body_ops, current_after, in_op, end_ops, out_op, past_all, past_block, linear_ops, linear_block, linear_blocks}
 use Rattle.un_ir.proofs.GoodOps.{temps, Numbers, numbers_none, numbers_row, numbers_append, numbers_whole, results_append}
 use Rattle.un_lssa.specs.Making.{past_blocks}
@@ -227,3 +227,29 @@ module _ (kinds : List Kind) (owner : ExtBlock) where
       let b = length-map names (λ (name : NameId). unwrap_or (slice_get kinds name.0) General) in
       let c = length-replicate (count - length names) General in
       omega (arith, a, b, c, h)
+
+  -- a linear block defines as many kinds as temporaries
+  pub ops_kinds : (t : Table) (names n : ℕ) (live_in live_out : List NameId) (block : Block) → owner.live_in ≡ live_in
+      → n + length (kinds_of kinds owner (linear_ops t names n live_in live_out block)) ≡ past_all (n + length live_in + length (saved_registers t)) block.ops
+  ops_kinds t names n live_in live_out block same =
+      let width = length live_in + length (saved_registers t) in
+      let first = n + length live_in + length (saved_registers t) in
+      let body = body_ops t (first_names t names n live_in live_out block) first block.ops in
+      let tail = rest_ops t names n live_in live_out block in
+      let starts = in_kinds kinds owner.live_in (length (temps n width)) in
+      let w = length-map-range_with_len temp n width in
+      let s : length owner.live_in ≡ length live_in = ap (λ (xs : List NameId). length xs) same in
+      let c = in_count owner.live_in (length (temps n width)) (omega (arith, w, s)) in
+      let e : kinds_of kinds owner (body ++ tail) ≡ kinds_of kinds owner body ++ [] =
+      flat_map-append (λ (op : ExtOp). defined_kinds kinds owner op.kind op) body tail
+      ∙ ap (λ (xs : List Kind). kinds_of kinds owner body ++ xs) (rest_kinds t (last_names t names n live_in live_out block) (link_temp t names n live_in live_out block) (n + length live_in) live_out block.term block.term) in
+      let l : length (kinds_of kinds owner (body ++ tail)) ≡ length (kinds_of kinds owner body) + 0 =
+      ap (λ (xs : List Kind). length xs) e ∙ length-append (kinds_of kinds owner body) [] in
+      let a = length-append starts (kinds_of kinds owner (body ++ tail)) in
+      let b = body_kinds t (first_names t names n live_in live_out block) first block.ops in
+      omega (arith, a, b, c, l, w)
+
+pub inner_body : (t : Table) (current : List ℕ) (n : ℕ) (os : List SrcOp) → AllAre is_inner (body_ops t current n os)
+inner_body t current n [] = All-nil (λ (op : ExtOp). is_inner op.kind ≡ true)
+inner_body t current n (o ∷ os) =
+    All-cons (λ (op : ExtOp). is_inner op.kind ≡ true) _ (body_ops t (assigned current o.dst n) (past o.dst n) os) refl (inner_body t (assigned current o.dst n) (past o.dst n) os)
