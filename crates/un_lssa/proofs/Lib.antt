@@ -9,3 +9,4 @@ pub mod RunSim
 pub mod FunctionRuns
 pub mod LinearNumbers
 pub mod KeptBlocks
+pub mod KeptFunctions
