@@ -135,14 +135,14 @@ numbered params rest count apart is = record { few = few; below = below }
         ∙ get_or-range_with_len 0 count i 0 (omega (arith, few)) ∙ (let z : 0 + i ≡ i = omega arith in z) in
         omega (arith, e, h)
 
-params_few : (f : Function) → length f.params ≤ 6
+pub params_few : (f : Function) → length f.params ≤ 6
 params_few f = ∥∥₁_elim f.well_formed le_prop (λ (w : Kept f). w.few_params)
 
 params_names : (f : Function) → length f.params ≤ length f.names
 params_names f = ∥∥₁_elim f.well_formed le_prop
     (λ (w : Kept f). (let n = numbered f.params (flat_map names_in_block f.blocks) (length f.names) w.distinct_params w.numbered in n.few))
 
-entry_param : (f : Function) (name : NameId) → IsLive f.blocks name 0 0 → name.0 < length f.params
+pub entry_param : (f : Function) (name : NameId) → IsLive f.blocks name 0 0 → name.0 < length f.params
 entry_param f name l = ∥∥₁_elim f.well_formed le_prop
     (λ (w : Kept f). (let n = numbered f.params (flat_map names_in_block f.blocks) (length f.names) w.distinct_params w.numbered in n.below name (w.live name l)))
 

@@ -19,7 +19,7 @@ use Rattle.un_ir.proofs.NameBounds.{live_name_small}
 use Rattle.un_lssa.specs.Making.{past_blocks}
 use Rattle.un_lssa.proofs.BlockLaws.{few_names, past_blocks_few}
 
-filter_few : (p : ℕ → Bool) (xs : List ℕ) → length (filter p xs) ≤ length xs
+pub filter_few : (p : ℕ → Bool) (xs : List ℕ) → length (filter p xs) ≤ length xs
 filter_few p [] = omega arith
 filter_few p (x ∷ xs) = by (filter_few p xs) (p x)
   where
@@ -27,7 +27,7 @@ filter_few p (x ∷ xs) = by (filter_few p xs) (p x)
     by ih true = omega (arith, ih)
     by ih false = omega (arith, ih)
 
-saved_few : (t : Table) → length (saved_registers t) ≤ 33
+pub saved_few : (t : Table) → length (saved_registers t) ≤ 33
 unfolding callee_saved
 saved_few t =
     let a = filter_few (in_mask t.saved) (range_with_len 0 32) in
@@ -45,16 +45,16 @@ within_all (block ∷ blocks) (suc k) d h =
 abbrev Kept : Function → Type 0
 Kept f = IsWellFormed f.name f.params f.names f.blocks
 
-all_ops_few : (f : Function) → length (flat_map (λ (block : Block). block.ops) f.blocks) ≤ 80
+pub all_ops_few : (f : Function) → length (flat_map (λ (block : Block). block.ops) f.blocks) ≤ 80
 all_ops_few f = ∥∥₁_elim f.well_formed le_prop (λ (w : Kept f). w.few_ops)
 
 pub ops_few : (f : Function) → All (λ (block : Block). length block.ops < 2 ^ 30) f.blocks
 ops_few f k d h = let a = all_ops_few f in let b = within_all f.blocks k d h in omega (arith, a, b)
 
-blocks_few : (f : Function) → length f.blocks ≤ 16
+pub blocks_few : (f : Function) → length f.blocks ≤ 16
 blocks_few f = ∥∥₁_elim f.well_formed le_prop (λ (w : Kept f). w.few_blocks)
 
-names_few : (f : Function) → length f.names ≤ 40
+pub names_few : (f : Function) → length f.names ≤ 40
 names_few f = ∥∥₁_elim f.well_formed le_prop (λ (w : Kept f). w.few_names)
 
 pub few_blocks : (f : Function) → length f.blocks < 2 ^ 32
@@ -63,7 +63,7 @@ few_blocks f = let a = blocks_few f in omega (arith, a)
 pub few_function_names : (f : Function) → length f.names < 2 ^ 32
 few_function_names f = let a = names_few f in omega (arith, a)
 
-live_few : (f : Function) (lists : List (List NameId)) → AreLive f.blocks lists → (b : ℕ) → length (live_at lists b) ≤ 40
+pub live_few : (f : Function) (lists : List (List NameId)) → AreLive f.blocks lists → (b : ℕ) → length (live_at lists b) ≤ 40
 live_few f lists live b =
     let high : All (λ (name : NameId). name.0 < length f.names) (live_at lists b) = λ k d h.
     live_name_small f (get_or (live_at lists b) k d) b 0 ((live.exact b (get_or (live_at lists b) k d)).0 (Contains-get_or (live_at lists b) k d h)) in
