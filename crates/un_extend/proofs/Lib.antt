@@ -1,0 +1,3 @@
+pub mod RunTails
+pub mod RunGrowth
+pub mod RunBlocks
