@@ -1,5 +1,5 @@
 -- Blocks that run alike make functions that run alike, and a block extended runs as the block does.
-use Rattle.std.proofs.Common.{◌≡◌, ℕ, zero, suc, ◌+◌, ◌<◌, ◌≤◌, ◌==◌, ◌||◌, ◌++◌, Bool, true, false, nat_eq, List, [], ◌∷◌, Option, Some, None, map, length, drop, get_or, slice_get, slice_index, if◌then◌else◌, refl, sym, ap, ◌∙◌, arith, subst, append-nil}
+use Rattle.std.proofs.Common.{◌≡◌, ℕ, zero, suc, ◌+◌, ◌≤◌, ◌==◌, ◌||◌, ◌++◌, Bool, true, false, nat_eq, List, [], ◌∷◌, Option, Some, None, map, length, drop, slice_get, slice_index, if◌then◌else◌, refl, sym, ap, ◌∙◌, arith, subst, append-nil}
 use Rattle.std.specs.List.{range_with_len, AllZip, position_or_len}
 use Rattle.std.proofs.lemmas.List.{length-append}
 use Rattle.std.proofs.lemmas.List.FromFn.{length-range_with_len}
@@ -17,7 +17,7 @@ use Rattle.un_ir.specs.declared.extended.Value.{Value}
 use Rattle.un_ir.specs.declared.extended.Growth.{Growth}
 use Rattle.un_ir.specs.Extended.{temp, results_of, returns}
 use Rattle.un_ir.specs.ExtendOf.{with_extended, with_all_extended, grown_block, with_ops, extended_blocks}
-use Rattle.un_ir.specs.Linear.{Values, World, LinearEnd, LinearRun, defined_all, value_of, in_temps, out_operands, ending_of, ops_run, leave, leave_block, leave_unless, entered, hand_over, taken_by, taken_over, through, enter, first_taken, first_values, first_world, linear_run}
+use Rattle.un_ir.specs.Linear.{Values, World, LinearEnd, LinearRun, defined_all, value_of, in_temps, out_operands, ending_of, ops_run, leave, leave_unless, entered, hand_over, taken_over, through, enter, first_taken, first_values, first_world, linear_run}
 use Rattle.un_extend.proofs.RunTails.{Agree, Ends, stops, goes, agree_all}
 use Rattle.un_extend.proofs.RunGrowth.{Knows, FitsOps, ops_step, start_step}
 

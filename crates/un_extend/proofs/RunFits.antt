@@ -1,10 +1,10 @@
 -- The blocks of a linear function fit: what each operation reads is defined before, and temporaries are numbered in order.
-use Rattle.std.proofs.Common.{◌≡◌, ℕ, zero, suc, ◌+◌, ◌<◌, ◌≤◌, ◌++◌, ◌^◌, Bool, true, false, List, [], ◌∷◌, Option, Some, None, map, take, length, get_or, slice_get, All, Contains, refl, sym, ap, ◌∙◌, arith, subst, append_assoc, append-nil}
-use Rattle.std.specs.List.{flat_map, range_with_len, AllZip}
+use Rattle.std.proofs.Common.{◌≡◌, ℕ, suc, ◌+◌, ◌<◌, ◌≤◌, ◌++◌, true, false, List, [], ◌∷◌, Option, Some, None, map, take, length, get_or, slice_get, All, Contains, refl, sym, ap, ◌∙◌, arith, subst, append_assoc, append-nil}
+use Rattle.std.specs.List.{range_with_len, AllZip}
 use Rattle.std.specs.Option.{option_to_list}
 use Rattle.std.proofs.lemmas.List.{length-append}
 use Rattle.std.proofs.lemmas.List.Elements.{All-head, All-tail, All-cons, All-nil, All-append, All-weaker}
-use Rattle.std.proofs.lemmas.List.FromFn.{length-map-range_with_len, get_or-map-range_with_len}
+use Rattle.std.proofs.lemmas.List.FromFn.{get_or-map-range_with_len}
 use Rattle.un_base.specs.declared.ids.NameId.{NameId}
 use Rattle.un_base.specs.declared.ids.TempId.{TempId}
 use Rattle.un_isa.specs.declared.start.Start.{Start}
@@ -17,9 +17,9 @@ use Rattle.un_ir.specs.declared.extended.ExtOp.{ExtOp}
 use Rattle.un_ir.specs.declared.extended.ExtBlock.{ExtBlock}
 use Rattle.un_ir.specs.declared.extended.Lssa.{Lssa}
 use Rattle.un_ir.specs.Linear.{first_of, is_in, is_out, linear_run}
-use Rattle.un_ir.specs.Extended.{temp, Want, IsGoodOperand, IsGoodExtOp, IsGoodExtBlock, Parts, IsMadeOf, AllAre, is_inner, is_end, is_copy, result_count, wants_of, results_of, all_results, IsPlainOp, IsLinear, is_linear_kind}
+use Rattle.un_ir.specs.Extended.{temp, Want, IsGoodOperand, IsGoodExtOp, IsGoodExtBlock, Parts, IsMadeOf, is_inner, is_end, is_copy, result_count, wants_of, results_of, all_results, IsPlainOp, IsLinear, is_linear_kind}
 use Rattle.un_ir.specs.ExtendOf.{extended_blocks}
-use Rattle.un_extend.proofs.RunGrowth.{AreWithin, Defines, FitsOp, FitsOps}
+use Rattle.un_extend.proofs.RunGrowth.{AreWithin, Defines, FitsOps}
 use Rattle.un_extend.proofs.RunBlocks.{FitsBlock, FitsBlocks, blocks_alike, run_alike}
 
 -- ---- temporaries in order
@@ -140,13 +140,15 @@ module _ (t : Table) (names : List Kind) (blocks : List ExtBlock) (block : ExtBl
         let more = results_append front (op ∷ []) in
         let alone : op.results ++ [] ≡ op.results = append-nil op.results in
         let longer : length (results_of (front ++ op ∷ [])) ≡ length (results_of front) + length op.results =
-        ap (λ (xs : List TempId). length xs) (more ∙ ap (λ (xs : List TempId). results_of front ++ xs) alone) ∙ length-append (results_of front) op.results in
-        (record {
-          read = within m n (results_of front) op.operands (wants_of t names blocks block op.kind op) inside g.operands;
-          results = s.front;
-          count = defines t block op.kind (length op.results) own.kind kind g.results;
-        }, fits_ops (front ++ op ∷ []) rest m (n + length op.results) (append_assoc front (op ∷ []) rest ∙ e) (omega (arith, longer, long))
-        (joined front op m n long before s.front) s.back (All-tail IsPlainOp op rest plain) (All-tail NotIn op rest other))
+        ap (λ (xs : List TempId). length xs) (more ∙ ap (λ (xs : List TempId). results_of front ++ xs) alone) ∙ length-append (results_of front) op.results in (
+          record {
+            read = within m n (results_of front) op.operands (wants_of t names blocks block op.kind op) inside g.operands;
+            results = s.front;
+            count = defines t block op.kind (length op.results) own.kind kind g.results;
+          },
+          fits_ops (front ++ op ∷ []) rest m (n + length op.results) (append_assoc front (op ∷ []) rest ∙ e) (omega (arith, longer, long))
+              (joined front op m n long before s.front) s.back (All-tail IsPlainOp op rest plain) (All-tail NotIn op rest other),
+        )
       where
         join : (m : ℕ) (xs ys : List TempId) → Numbered m xs → Numbered (m + length xs) ys → Numbered m (xs ++ ys)
         join m [] ys e f = let z : m + 0 ≡ m = omega arith in f ∙ ap (λ (k : ℕ). map temp (range_with_len k (length ys))) z
@@ -223,9 +225,10 @@ fits_blocks : (t : Table) (names : List Kind) (all : List ExtBlock) (m : ℕ) (b
     → All HasPlainOps blocks → Numbered m (all_results blocks) → FitsBlocks m blocks
 fits_blocks t names all m [] good plain numbered = tt
 fits_blocks t names all m (block ∷ blocks) good plain numbered =
-    let s = split m (results_of block.ops) (all_results blocks) numbered in
-    (fits_block t names all block m (All-head (IsGoodExtBlock t names all) block blocks good) (All-head HasPlainOps block blocks plain) s.front,
-    fits_blocks t names all (m + length (results_of block.ops)) blocks (All-tail (IsGoodExtBlock t names all) block blocks good) (All-tail HasPlainOps block blocks plain) s.back)
+    let s = split m (results_of block.ops) (all_results blocks) numbered in (
+      fits_block t names all block m (All-head (IsGoodExtBlock t names all) block blocks good) (All-head HasPlainOps block blocks plain) s.front,
+      fits_blocks t names all (m + length (results_of block.ops)) blocks (All-tail (IsGoodExtBlock t names all) block blocks good) (All-tail HasPlainOps block blocks plain) s.back,
+    )
 
 -- extending changes no run
 pub extend_runs : (l : Lssa) (s : Start) (n : ℕ) → IsLinear l

@@ -17,7 +17,7 @@ use Rattle.un_ir.specs.declared.extended.Sort.{Sort}
 use Rattle.un_ir.specs.declared.extended.Value.{Value}
 use Rattle.un_ir.specs.declared.extended.Growth.{Growth}
 use Rattle.un_ir.specs.Extended.{temp, is_return, results_of}
-use Rattle.un_ir.specs.ExtendOf.{copy_op, frame_op, with_op, with_copy, with_copies, copy_count, new_temps, with_value, with_values, with_operand_by, with_operand, alternatives, chosen_from, with_operands, new_operands, sort_of_name, sorts_of, with_results, with_leave, with_enter, with_extended, with_all_extended}
+use Rattle.un_ir.specs.ExtendOf.{copy_op, frame_op, with_op, with_copy, with_copies, copy_count, new_temps, with_value, with_values, with_operand_by, with_operand, alternatives, with_operands, new_operands, sort_of_name, sorts_of, with_results, with_leave, with_enter, with_extended, with_all_extended}
 use Rattle.un_ir.specs.Linear.{first_of}
 use Rattle.un_extend.proofs.RunTails.{Reads, Tail, tail_done, tail_copy, tail_enter, tail_leave, op_with, tail_body, tail_end, tail_out}
 

@@ -1,5 +1,5 @@
 -- The rest of a block and of the block extended run alike, where the first temporaries of the values so far have the values.
-use Rattle.std.proofs.Common.{◌≡◌, ℕ, zero, suc, ◌+◌, ◌<◌, ◌≤◌, ◌⊎◌, inl, inr, ◌++◌, Bool, true, false, nat_eq, List, [], ◌∷◌, Option, Some, None, map, length, get_or, if◌then◌else◌, refl, sym, ap, ◌∙◌, arith, subst, append_assoc, append-nil}
+use Rattle.std.proofs.Common.{◌≡◌, ℕ, zero, suc, ◌+◌, ◌<◌, ◌≤◌, ◌⊎◌, inl, inr, ◌++◌, Bool, true, false, nat_eq, List, [], ◌∷◌, Some, None, map, length, get_or, if◌then◌else◌, refl, sym, ap, ◌∙◌, arith, subst, append_assoc, append-nil}
 use Rattle.std.specs.List.{range_with_len, AllZip}
 use Rattle.std.proofs.lemmas.Bool.{eqb-true}
 use Rattle.std.proofs.lemmas.List.{map-append, length-append, get_or_append_left, get_or_push, length_push}
