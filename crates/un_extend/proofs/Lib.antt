@@ -1,0 +1,4 @@
+pub mod RunTails
+pub mod RunGrowth
+pub mod RunBlocks
+pub mod RunFits

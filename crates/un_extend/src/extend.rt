@@ -2,6 +2,8 @@
 
 ghost use Rattle.std.specs.Prelude.{◌≡◌, ◌+◌, ◌*◌, [], true, IfOk};
 ghost use Rattle.un_extend.specs.Returns.{returns_by};
+ghost use Rattle.un_extend.specs.Runs.{RunsAsLinear};
+ghost use Rattle.un_ir.specs.Extended.{IsLinear};
 ghost use Rattle.un_ir.specs.ExtendOf.{grown_block, with_ops, extended_blocks, extend_of};
 
 use crate::ops::{is_return, push_all_extended};
@@ -107,12 +109,13 @@ fn extended_all(
 }
 
 /// The extended function of a linear function: optional copies of values and operands, with the alternatives of each
-/// operand.
+/// operand. From each start it comes to what the linear function comes to, for any number of blocks entered.
 ///
 /// # Errors
 /// `NoMemory` where there is no memory for it, or where its temporaries are too many to be numbered.
 pub fn extend(alloc: Global, l: &Lssa) -> Result<Ext, NoMemory>
-    ensures { IfOk result (λ e. e ≡ extend_of l.now) }
+    ensures extended { IfOk result (λ e. e ≡ extend_of l.now) }
+    ensures runs { IsLinear l.now → IfOk result (RunsAsLinear l.now) }
 {
     let names = l.names.clone()?;
     let blocks = extended_all(alloc, l.names.as_slice(), l.blocks.as_slice())?;

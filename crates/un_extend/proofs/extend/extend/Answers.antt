@@ -1,0 +1,16 @@
+use Rattle.std.proofs.Common.{◌≡◌, ◌∙◌, [], true, List, ap}
+use Rattle.un_ir.specs.declared.function.Kind.{Kind}
+use Rattle.un_ir.specs.declared.extended.ExtBlock.{ExtBlock}
+use Rattle.un_ir.specs.ExtendOf.{extended_blocks}
+use Rattle.un_ir.specs.Linear.{linear_run}
+use Rattle.un_extend.proofs.RunFits.{extend_runs}
+use Rattle.un_extend.proofs.extend.extend.Goals as goal
+
+pub returns-clause-runs : goal.returns-clause-runs
+returns-clause-runs c = λ linear start n.
+    let l = c.args.l.now in
+    let made : c.in_ok-blocks.blocks ≡ extended_blocks l.names true [] 0 l.blocks =
+    c.in_ok-blocks.ensures
+    ∙ ap (λ (names : List Kind). extended_blocks names true [] 0 c.as_slice-2.result.now) c.as_slice.ensures
+    ∙ ap (extended_blocks l.names true [] 0) c.as_slice-2.ensures in
+    ap (λ (blocks : List ExtBlock). linear_run l.table blocks start n) made ∙ extend_runs l start n linear
