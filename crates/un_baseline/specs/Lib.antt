@@ -1,0 +1,4 @@
+pub mod Plans
+pub mod RoomyOptions
+pub mod SpilledCost
+pub mod SpillEverywhere

@@ -1,0 +1,7 @@
+//! Spill everywhere: a solution for every function, which keeps each name in a frame slot of its own.
+#![tactic(auto)]
+
+mod copies;
+mod numbers;
+pub mod plan;
+pub mod spill;
