@@ -107,6 +107,8 @@ module _ (t : Table) (names : List Kind) (blocks : List ExtBlock) (block : ExtBl
   pub good_append : (before : List TempId) (xs ys : List ExtOp) → AreGoodOps t names blocks block before xs
       → AreGoodOps t names blocks block (before ++ results_of xs) ys → AreGoodOps t names blocks block before (xs ++ ys)
   good_append before [] ys g h = subst (λ (zs : List TempId). AreGoodOps t names blocks block zs ys) (append-nil before) h
-  good_append before (op ∷ xs) ys g h =
-      (g.0, good_append (before ++ op.results) xs ys g.1
-      (subst (λ (zs : List TempId). AreGoodOps t names blocks block zs ys) (sym (append_assoc before op.results (results_of xs))) h))
+  good_append before (op ∷ xs) ys g h = (
+    g.0,
+    good_append (before ++ op.results) xs ys g.1
+        (subst (λ (zs : List TempId). AreGoodOps t names blocks block zs ys) (sym (append_assoc before op.results (results_of xs))) h),
+  )

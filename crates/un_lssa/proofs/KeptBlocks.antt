@@ -185,20 +185,22 @@ module _ (f : Function) (lists : List (List NameId)) (t : Table) (live : AreLive
       names_read (name ∷ names) [] l e = absurd (cc e)
       names_read (name ∷ names) (kind ∷ ks) l e =
           let first : kind_of f.names name ≡ Some kind = cc e in
-          let rest : map (kind_of f.names) names ≡ map Some ks = cc e in
-          (name_read k current n before name None kind a numbers (l name (0, omega arith, refl)) (kind_is f.names kind name first),
-          names_read names ks (λ other has. l other (suc has.0, (let h = has.1 in omega arith), has.2)) rest)
+          let rest : map (kind_of f.names) names ≡ map Some ks = cc e in (
+            name_read k current n before name None kind a numbers (l name (0, omega arith, refl)) (kind_is f.names kind name first),
+            names_read names ks (λ other has. l other (suc has.0, (let h = has.1 in omega arith), has.2)) rest,
+          )
 
       arguments_read : (registers : List ℕ) (names : List NameId) → ((name : NameId) → Contains names name → IsLive f.blocks name b k)
           → All (IsOfKind f.names General) names → length names ≤ length registers
           → AllZip (IsGoodOperand kinds whole before) (argument_operands current registers names) (map word_in (take (length names) registers))
       arguments_read registers [] l g h = tt
       arguments_read [] (name ∷ names) l g h = absurd (omega arith)
-      arguments_read (r ∷ rs) (name ∷ names) l g h =
-          (name_read k current n before name (at_register r) General a numbers (l name (0, omega arith, refl))
-          (kind_is f.names General name (All-head (IsOfKind f.names General) name names g)),
-          arguments_read rs names (λ other has. l other (suc has.0, (let h = has.1 in omega arith), has.2))
-          (All-tail (IsOfKind f.names General) name names g) (omega arith))
+      arguments_read (r ∷ rs) (name ∷ names) l g h = (
+        name_read k current n before name (at_register r) General a numbers (l name (0, omega arith, refl))
+            (kind_is f.names General name (All-head (IsOfKind f.names General) name names g)),
+        arguments_read rs names (λ other has. l other (suc has.0, (let h = has.1 in omega arith), has.2))
+            (All-tail (IsOfKind f.names General) name names g) (omega arith),
+      )
 
       sources_read : (o : SrcOp) → slice_get block.ops k ≡ Some o
           → AllZip (IsGoodOperand kinds whole before) (source_operands t current o.op o.srcs) (wants_of_op t o o.op)
@@ -235,10 +237,11 @@ module _ (f : Function) (lists : List (List NameId)) (t : Table) (live : AreLive
         let g = op_good k o got in
         let its : IsOfKind f.names (result_kind o.op) d = assigns_kind f.names o.op d g.op (subst (λ (x : Option NameId). AssignsItsKind f.names o.op x) e g.assigns) in
         let made : every ≡ front ++ (result_kind o.op ∷ rest) = is ∙ ap (λ (x : Option NameId). front ++ (map (λ (y : TempId). result_kind o.op) (map (λ (name : NameId). temp n) (option_to_list x)) ++ rest)) e in
-        let z : n ≡ length front + 0 = omega (arith, long) in
-        (small d (result_kind o.op) its,
-        ap (slice_get every) z ∙ ap (λ (xs : List Kind). slice_get xs (length front + 0)) made ∙ got_right front (result_kind o.op ∷ rest) 0
-        ∙ ap Some (sym (kind_is f.names (result_kind o.op) d its)))
+        let z : n ≡ length front + 0 = omega (arith, long) in (
+          small d (result_kind o.op) its,
+          ap (slice_get every) z ∙ ap (λ (xs : List Kind). slice_get xs (length front + 0)) made ∙ got_right front (result_kind o.op ∷ rest) 0
+              ∙ ap Some (sym (kind_is f.names (result_kind o.op) d its)),
+        )
 
     body_good : (os : List SrcOp) (k : ℕ) (current : List ℕ) (n : ℕ) (before : List TempId) (front more : List Kind)
         → drop k block.ops ≡ os → k ≤ length block.ops → m ≤ n → Agrees k current n → Numbers m before n → length front ≡ n
@@ -396,9 +399,10 @@ module _ (f : Function) (lists : List (List NameId)) (t : Table) (live : AreLive
             → AllZip (IsGoodOperand kinds whole before) (kept_operands (saved + j) rs) (map word_in rs)
         kept_read j [] h = tt
         kept_read j (r ∷ rs) h =
-            let z : (saved + j) + 1 ≡ saved + (j + 1) = omega arith in
-            (saved_read j (at_register r) (omega (arith, h)),
-            subst (λ (k : ℕ). AllZip (IsGoodOperand kinds whole before) (kept_operands k rs) (map word_in rs)) (sym z) (kept_read (j + 1) rs (omega (arith, h))))
+            let z : (saved + j) + 1 ≡ saved + (j + 1) = omega arith in (
+              saved_read j (at_register r) (omega (arith, h)),
+              subst (λ (k : ℕ). AllZip (IsGoodOperand kinds whole before) (kept_operands k rs) (map word_in rs)) (sym z) (kept_read (j + 1) rs (omega (arith, h))),
+            )
 
         all_kept_read : AllZip (IsGoodOperand kinds whole before) (kept_operands saved (callee_saved t)) (map word_in (callee_saved t))
         all_kept_read =
@@ -410,16 +414,18 @@ module _ (f : Function) (lists : List (List NameId)) (t : Table) (live : AreLive
             → AllZip (IsGoodOperand kinds whole before) (map (λ (n : ℕ). reads n None) (range_with_len (saved + j) (length rs))) (map (λ (r : ℕ). anywhere General) rs)
         handed_read j [] h = tt
         handed_read j (r ∷ rs) h =
-            let z : (saved + j) + 1 ≡ saved + (j + 1) = omega arith in
-            (saved_read j None (omega (arith, h)),
-            subst (λ (k : ℕ). AllZip (IsGoodOperand kinds whole before) (map (λ (n : ℕ). reads n None) (range_with_len k (length rs))) (map (λ (r : ℕ). anywhere General) rs)) (sym z) (handed_read (j + 1) rs (omega (arith, h))))
+            let z : (saved + j) + 1 ≡ saved + (j + 1) = omega arith in (
+              saved_read j None (omega (arith, h)),
+              subst (λ (k : ℕ). AllZip (IsGoodOperand kinds whole before) (map (λ (n : ℕ). reads n None) (range_with_len k (length rs))) (map (λ (r : ℕ). anywhere General) rs)) (sym z) (handed_read (j + 1) rs (omega (arith, h))),
+            )
 
         out_names_read : (names : List NameId) → ((k : ℕ) (d : NameId) → k < length names → IsLive f.blocks (get_or names k d) b (length block.ops))
             → AllZip (IsGoodOperand kinds whole before) (map (name_operand after None) names) (map (λ (name : NameId). anywhere (name_kind kinds name)) names)
         out_names_read [] l = tt
-        out_names_read (name ∷ names) l =
-            (name_read (length block.ops) after last before name None (name_kind kinds name) a numbers (l 0 name (omega arith)) refl,
-            out_names_read names (λ k d h. l (suc k) d (omega arith)))
+        out_names_read (name ∷ names) l = (
+          name_read (length block.ops) after last before name None (name_kind kinds name) a numbers (l 0 name (omega arith)) refl,
+          out_names_read names (λ k d h. l (suc k) d (omega arith)),
+        )
 
         next_read : AllZip (IsGoodOperand kinds whole before)
             (map (name_operand after None) names_out ++ map (λ (n : ℕ). reads n None) (range_with_len saved (length (saved_registers t))))
@@ -449,14 +455,17 @@ module _ (f : Function) (lists : List (List NameId)) (t : Table) (live : AreLive
         tests = let g = good_block f b block here in g.tests
 
         out_good : (xs : List TempId) → xs ≡ before → AreGoodOps t kinds whole own xs (out_op t after saved names_out block.term ∷ [])
-        out_good xs e = (record {
-          kind = tt;
-          operands = subst (λ (ys : List TempId). AllZip (IsGoodOperand kinds whole ys) (out_operands_of t after saved names_out block.term)
-              (wants_of_out t kinds names_out (let ending = ending_of own.ops in ending.term))) (sym e)
-              (subst (λ (x : Term). AllZip (IsGoodOperand kinds whole before) (out_operands_of t after saved names_out block.term) (wants_of_out t kinds names_out x)) (sym ending_is)
-              (out_read block.term refl tests));
-          results = refl;
-        }, tt)
+        out_good xs e = (
+          record {
+            kind = tt;
+            operands = subst (λ (ys : List TempId). AllZip (IsGoodOperand kinds whole ys) (out_operands_of t after saved names_out block.term)
+                (wants_of_out t kinds names_out (let ending = ending_of own.ops in ending.term))) (sym e)
+                (subst (λ (x : Term). AllZip (IsGoodOperand kinds whole before) (out_operands_of t after saved names_out block.term) (wants_of_out t kinds names_out x)) (sym ending_is)
+                (out_read block.term refl tests));
+            results = refl;
+          },
+          tt,
+        )
 
         link_read : IsGoodOperand kinds whole before (reads link None) (record { kind = General; home = None })
         link_read = let s = saved_count t in saved_read (length (callee_saved t)) None (omega (arith, s))
@@ -465,12 +474,14 @@ module _ (f : Function) (lists : List (List NameId)) (t : Table) (live : AreLive
         end_good Fall e h = tt
         end_good (Jump to) e h = (record { kind = tt; operands = tt; results = refl }, tt)
         end_good (Branch pred sense to) e h =
-            let l = term_live pred (subst (λ (x : Term). Contains (read_by_term x) pred) (sym e) (0, omega arith, refl)) in
-            (record {
-              kind = tt;
-              operands = (name_read (length block.ops) after last before pred None Pred a numbers l (kind_is f.names Pred pred h), tt);
-              results = refl;
-            }, tt)
+            let l = term_live pred (subst (λ (x : Term). Contains (read_by_term x) pred) (sym e) (0, omega arith, refl)) in (
+              record {
+                kind = tt;
+                operands = (name_read (length block.ops) after last before pred None Pred a numbers l (kind_is f.names Pred pred h), tt);
+                results = refl;
+              },
+              tt,
+            )
         end_good (Ret value) e h = (record { kind = tt; operands = (link_read, tt); results = refl }, tt)
 
         no_results : (term : Term) → before ++ results_of (end_ops after link term) ≡ before
@@ -500,32 +511,42 @@ module _ (f : Function) (lists : List (List NameId)) (t : Table) (live : AreLive
       ops_good =
           let body = body_ops t current first block.ops in
           let k = body_kept in
-          let all = numbers_append m first last (temps m width) (results_of body) start_numbers (numbers_body t current first block.ops) in
-          (record { kind = tt; operands = tt; results = width_is },
-          good_append t kinds whole own (temps m width) body rest k.ops (rest_good (temps m width ++ results_of body) all k.agrees))
+          let all = numbers_append m first last (temps m width) (results_of body) start_numbers (numbers_body t current first block.ops) in (
+            record { kind = tt; operands = tt; results = width_is },
+            good_append t kinds whole own (temps m width) body rest k.ops (rest_good (temps m width ++ results_of body) all k.agrees),
+          )
 
       ending_parts : (term : Term) → (e : Option ExtOp) × (end_ops after link term ≡ option_to_list e) × AllAre is_end (option_to_list e)
       ending_parts Fall = (None, refl, All-nil (λ (op : ExtOp). is_end op.kind ≡ true))
-      ending_parts (Jump to) = (Some (record { kind = End (Jump to); operands = []; results = [] }), refl,
-          All-cons (λ (op : ExtOp). is_end op.kind ≡ true) _ [] refl (All-nil (λ (op : ExtOp). is_end op.kind ≡ true)))
-      ending_parts (Branch pred sense to) =
-          (Some (record { kind = End (Branch pred sense to); operands = name_operand after None pred ∷ []; results = [] }), refl,
-          All-cons (λ (op : ExtOp). is_end op.kind ≡ true) _ [] refl (All-nil (λ (op : ExtOp). is_end op.kind ≡ true)))
-      ending_parts (Ret value) = (Some (record { kind = End (Ret value); operands = reads link None ∷ []; results = [] }), refl,
-          All-cons (λ (op : ExtOp). is_end op.kind ≡ true) _ [] refl (All-nil (λ (op : ExtOp). is_end op.kind ≡ true)))
+      ending_parts (Jump to) = (
+        Some (record { kind = End (Jump to); operands = []; results = [] }),
+        refl,
+        All-cons (λ (op : ExtOp). is_end op.kind ≡ true) _ [] refl (All-nil (λ (op : ExtOp). is_end op.kind ≡ true)),
+      )
+      ending_parts (Branch pred sense to) = (
+        Some (record { kind = End (Branch pred sense to); operands = name_operand after None pred ∷ []; results = [] }),
+        refl,
+        All-cons (λ (op : ExtOp). is_end op.kind ≡ true) _ [] refl (All-nil (λ (op : ExtOp). is_end op.kind ≡ true)),
+      )
+      ending_parts (Ret value) = (
+        Some (record { kind = End (Ret value); operands = reads link None ∷ []; results = [] }),
+        refl,
+        All-cons (λ (op : ExtOp). is_end op.kind ≡ true) _ [] refl (All-nil (λ (op : ExtOp). is_end op.kind ≡ true)),
+      )
 
       parts : (p : Parts) × IsMadeOf own.ops p
       parts =
-          let e = ending_parts block.term in
-          (record { start = in_op m width; inner = body_ops t current first block.ops; ending = e.0; late = []; out = out_op t after saved names_out block.term },
-          record {
-            whole = ap (λ (xs : List ExtOp). in_op m width ∷ (body_ops t current first block.ops ++ (xs ++ out_op t after saved names_out block.term ∷ []))) e.1;
-            start = refl;
-            inner = inner_body t current first block.ops;
-            ending = e.2;
-            late = All-nil (λ (op : ExtOp). is_copy op.kind ≡ true);
-            out = refl;
-          })
+          let e = ending_parts block.term in (
+            record { start = in_op m width; inner = body_ops t current first block.ops; ending = e.0; late = []; out = out_op t after saved names_out block.term },
+            record {
+              whole = ap (λ (xs : List ExtOp). in_op m width ∷ (body_ops t current first block.ops ++ (xs ++ out_op t after saved names_out block.term ∷ []))) e.1;
+              start = refl;
+              inner = inner_body t current first block.ops;
+              ending = e.2;
+              late = All-nil (λ (op : ExtOp). is_copy op.kind ≡ true);
+              out = refl;
+            },
+          )
 
       pub block_kept : IsGoodExtBlock t kinds whole own
       block_kept =

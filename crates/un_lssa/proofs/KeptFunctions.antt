@@ -241,8 +241,8 @@ module _ (f : Function) (lists : List (List NameId)) (t : Table) (live : AreLive
       let block = m.block in
       subst (λ (term : Term). All (λ (c : ℕ). (0 < c) × (c < length lin)) (targets_of b term)) (sym (own_term b own m))
       (λ k d below. (let c = get_or (targets_of b block.term) k d in
-          let r = leads_inside f b block c m.at (Contains-get_or (targets_of b block.term) k d below) in
-          (r.0, (let high = r.1 in let e = lin_length in omega (arith, high, e)))))
+      let r = leads_inside f b block c m.at (Contains-get_or (targets_of b block.term) k d below) in
+      (r.0, (let high = r.1 in let e = lin_length in omega (arith, high, e)))))
 
   hands_over : HandsNamesOver lin
   hands_over k l a b at_a at_b target =
