@@ -1,5 +1,6 @@
 -- Blocks that run alike make functions that run alike, and a block extended runs as the block does.
-use Rattle.std.proofs.Common.{◌≡◌, ℕ, zero, suc, ◌+◌, ◌≤◌, ◌==◌, ◌||◌, ◌++◌, Bool, true, false, nat_eq, List, [], ◌∷◌, Option, Some, None, map, length, drop, slice_get, slice_index, if◌then◌else◌, refl, sym, ap, ◌∙◌, arith, subst, append-nil}
+use Rattle.std.proofs.Common.{◌≡◌, ℕ, zero, suc, ◌+◌, ◌≤◌, ◌==◌, ◌||◌, ◌++◌, Bool, true, false, nat_eq, List, [], ◌∷◌, Option, Some, None}
+use Rattle.std.proofs.Common.{map, length, drop, slice_get, slice_index, if◌then◌else◌, refl, sym, ap, ◌∙◌, arith, subst, append-nil}
 use Rattle.std.specs.List.{range_with_len, AllZip, position_or_len}
 use Rattle.std.proofs.lemmas.List.{length-append}
 use Rattle.std.proofs.lemmas.List.FromFn.{length-range_with_len}
@@ -17,8 +18,10 @@ use Rattle.un_ir.specs.declared.extended.Value.{Value}
 use Rattle.un_ir.specs.declared.extended.Growth.{Growth}
 use Rattle.un_ir.specs.Extended.{temp, results_of, returns}
 use Rattle.un_ir.specs.ExtendOf.{with_extended, with_all_extended, grown_block, with_ops, extended_blocks}
-use Rattle.un_ir.specs.Linear.{Values, World, LinearEnd, LinearRun, defined_all, value_of, in_temps, out_operands, ending_of, ops_run, leave, leave_unless, entered, hand_over, taken_over, through, enter, first_taken, first_values, first_world, linear_run}
-use Rattle.un_extend.proofs.RunTails.{Agree, Ends, stops, goes, agree_all}
+use Rattle.un_ir.specs.Linear.{Values, World, LinearEnd, LinearRun, defined_all, value_of, in_temps, out_operands, ending_of, ops_run}
+use Rattle.un_ir.specs.Linear.{leave, leave_unless, entered, hand_over, taken_over, through, enter, first_taken, first_values, first_world}
+use Rattle.un_ir.specs.Linear.{linear_run}
+use Rattle.un_extend.proofs.RunTails.{temps, holding, Agree, Ends, stops, goes, agree_all}
 use Rattle.un_extend.proofs.RunGrowth.{Knows, FitsOps, ops_step, start_step}
 
 -- ---- blocks that run alike
@@ -30,7 +33,8 @@ pub record AlikeBlocks (a b : ExtBlock) : Type 0 where
   pub base : ℕ
   pub firsts : List ℕ
   pub run : (taken : List ℕ) (w : World)
-      → Ends base firsts (out_operands b.ops) (out_operands a.ops) (ending_of b.ops) (ending_of a.ops) (ops_run a.ops (entered a taken w)) (ops_run b.ops (entered b taken w))
+      → Ends base firsts (out_operands b.ops) (out_operands a.ops) (ending_of b.ops) (ending_of a.ops)
+      (ops_run a.ops (entered a taken w)) (ops_run b.ops (entered b taken w))
 
 abbrev pub AlikeOptions : Option ExtBlock → Option ExtBlock → Type 0
 AlikeOptions None None = Unit {0}
@@ -88,13 +92,16 @@ module _ (made bs : List ExtBlock) (alike : AllZip AlikeBlocks made bs) where
     left k a b base firsts e l same_out (stops stop w v u) = refl
     left k a b base firsts e l same_out (goes w v u stay q) =
         let p = ending_of b.ops in
-        let q2 = ending_of a.ops in
+        let last = ending_of a.ops in
         let read = map (value_of u) p.operands in
         let handed = map (value_of u) (out_operands b.ops) in
-        ap (λ (term : Term). leave k term (map (value_of v) q2.operands) (map (value_of v) (out_operands a.ops)) w (hand_over made a (map (value_of v) (out_operands a.ops)) w f)) q.term
-        ∙ ap (λ (xs : List ℕ). leave k p.term xs (map (value_of v) (out_operands a.ops)) w (hand_over made a (map (value_of v) (out_operands a.ops)) w f)) q.read
+        let given = map (value_of v) (out_operands a.ops) in
+        let go = hand_over made a given w f in
+        ap (λ (term : Term). leave k term (map (value_of v) last.operands) given w go) q.term
+        ∙ ap (λ (xs : List ℕ). leave k p.term xs given w go) q.read
         ∙ ap (λ (xs : List ℕ). leave k p.term read xs w (hand_over made a xs w f)) q.handed
-        ∙ leave_alike k p.term read handed w (hand_over made a handed w f) (hand_over bs b handed w g) (λ c. hand_alike a b handed w c same_out)
+        ∙ leave_alike k p.term read handed w (hand_over made a handed w f) (hand_over bs b handed w g)
+        (λ c. hand_alike a b handed w c same_out)
 
     through_alike : (k : ℕ) (taken : List ℕ) (w : World) (x y : Option ExtBlock) → AlikeOptions x y
         → through made x k taken w f ≡ through bs y k taken w g
@@ -106,7 +113,8 @@ module _ (made bs : List ExtBlock) (alike : AllZip AlikeBlocks made bs) where
   enter_alike : (n k : ℕ) (taken : List ℕ) (w : World) → enter made n k taken w ≡ enter bs n k taken w
   enter_alike zero k taken w = refl
   enter_alike (suc n) k taken w =
-      through_alike (enter made n) (enter bs n) (λ c values v. enter_alike n c values v) k taken w (slice_get made k) (slice_get bs k) (alike_at made bs k alike)
+      through_alike (enter made n) (enter bs n) (λ c values v. enter_alike n c values v) k taken w
+      (slice_get made k) (slice_get bs k) (alike_at made bs k alike)
 
   first_alike : (t : Table) (s : Start) (x y : Option ExtBlock) → AlikeOptions x y → first_taken t x s ≡ first_taken t y s
   first_alike t s None None h = refl
@@ -117,7 +125,8 @@ module _ (made bs : List ExtBlock) (alike : AllZip AlikeBlocks made bs) where
   pub run_alike : (t : Table) (s : Start) (n : ℕ) → linear_run t made s n ≡ linear_run t bs s n
   run_alike t s n =
       enter_alike n 0 (first_taken t (slice_get made 0) s) (first_world s)
-      ∙ ap (λ (taken : List ℕ). enter bs n 0 taken (first_world s)) (first_alike t s (slice_get made 0) (slice_get bs 0) (alike_at made bs 0 alike))
+      ∙ ap (λ (taken : List ℕ). enter bs n 0 taken (first_world s))
+      (first_alike t s (slice_get made 0) (slice_get bs 0) (alike_at made bs 0 alike))
 
 -- ---- a block extended
 
@@ -142,34 +151,42 @@ record OpsAlike (base m : ℕ) (ops : List ExtOp) (g : Growth) : Type 0 where
   firsts : List ℕ
   run : (taken : List ℕ) (w : World)
       → Ends base firsts (out_operands ops) (out_operands g.ops) (ending_of ops) (ending_of g.ops)
-      (ops_run g.ops (record { values = start_values g.ops taken; world = w })) (ops_run ops (record { values = start_values ops taken; world = w }))
+      (ops_run g.ops (holding (start_values g.ops taken) w)) (ops_run ops (holding (start_values ops taken) w))
   last : List ℕ
   long : length last ≡ m + length (results_of ops)
   knows : Knows g.values last
+
+abbrev in_op : List TempId → ExtOp
+in_op results = record { kind = In; operands = []; results = results }
+
+-- a block that has no operations yet
+abbrev fresh : List Value → ℕ → Growth
+fresh values next = record { ops = []; values = values; next = next }
 
 module _ (names : List Kind) (live_in : List NameId) (is_entry saved : Bool) where
   ops_alike : (m : ℕ) (firsts : List ℕ) (values : List Value) (next : ℕ) (results : List TempId) (rest : List ExtOp) → m ≡ length firsts
       → length live_in ≤ length results → results ≡ map temp (range_with_len m (length results)) → FitsOps m (m + length results) rest
       → Knows values firsts
-      → OpsAlike m m (record { kind = In; operands = []; results = results } ∷ rest)
-      (with_all_extended names live_in is_entry saved (record { kind = In; operands = []; results = results } ∷ rest) (record { ops = []; values = values; next = next }))
+      → OpsAlike m m (in_op results ∷ rest)
+      (with_all_extended names live_in is_entry saved (in_op results ∷ rest) (fresh values next))
   ops_alike m firsts values next results rest e named numbered later k =
       let count = length results in
       let s = start_step m names live_in is_entry saved firsts values next results named k in
-      let g1 = with_extended names live_in is_entry saved (record { kind = In; operands = []; results = results }) (record { ops = []; values = values; next = next }) in
+      let g1 = with_extended names live_in is_entry saved (in_op results) (fresh values next) in
       let known = firsts ++ range_with_len next count in
       let many = length-append firsts (range_with_len next count) in
       let counted = length-range_with_len next count in
       let longer : m + count ≡ length known = omega (arith, many, counted, e) in
       let r = ops_step m names live_in is_entry saved rest g1 (m + count) known longer later s.knows in
       let t = s.tail rest r.added r.tail in
-      let made : List ExtOp = record { kind = In; operands = []; results = map temp (range_with_len next count) } ∷ (s.added ++ r.added) in
+      let made : List ExtOp = record { kind = In; operands = []; results = temps next count } ∷ (s.added ++ r.added) in
       let h = with_all_extended names live_in is_entry saved rest g1 in
       let is : h.ops ≡ made = r.made ∙ ap (λ (xs : List ExtOp). xs ++ r.added) s.ops in
-      let in_made : map temp (range_with_len next count) ++ in_temps (s.added ++ r.added) ≡ map temp (range_with_len next count) =
-      ap (λ (xs : List TempId). map temp (range_with_len next count) ++ xs) t.in_made ∙ append-nil (map temp (range_with_len next count)) in
-      let in_ops : results ++ in_temps rest ≡ map temp (range_with_len m count) =
+      let in_made : temps next count ++ in_temps (s.added ++ r.added) ≡ temps next count =
+      ap (λ (xs : List TempId). temps next count ++ xs) t.in_made ∙ append-nil (temps next count) in
+      let in_ops : results ++ in_temps rest ≡ temps m count =
       ap (λ (xs : List TempId). results ++ xs) t.in_ops ∙ append-nil results ∙ numbered in
+      let later_ops = s.added ++ r.added in
       let zeros : Values = λ x. 0 in
       let none : Agree m firsts next zeros zeros = record {
         same = λ x low below. refl;
@@ -178,15 +195,15 @@ module _ (names : List Kind) (live_in : List NameId) (is_entry saved : Bool) whe
       record {
         firsts = known;
         run = λ taken w. subst (λ (ops : List ExtOp). Ends m known (out_operands rest) (out_operands ops) (ending_of rest) (ending_of ops)
-            (ops_run ops (record { values = start_values ops taken; world = w }))
-            (ops_run rest (record { values = defined_all zeros (results ++ in_temps rest) taken; world = w }))) (sym is)
-            (subst (λ (xs : List TempId). Ends m known (out_operands rest) (out_operands (s.added ++ r.added)) (ending_of rest) (ending_of (s.added ++ r.added))
-            (ops_run (s.added ++ r.added) (record { values = start_values made taken; world = w }))
-            (ops_run rest (record { values = defined_all zeros xs taken; world = w }))) (sym in_ops)
-            (subst (λ (xs : List TempId). Ends m known (out_operands rest) (out_operands (s.added ++ r.added)) (ending_of rest) (ending_of (s.added ++ r.added))
-            (ops_run (s.added ++ r.added) (record { values = defined_all zeros xs taken; world = w }))
-            (ops_run rest (record { values = defined_all zeros (map temp (range_with_len m count)) taken; world = w }))) (sym in_made)
-            (t.run (defined_all zeros (map temp (range_with_len next count)) taken) (defined_all zeros (map temp (range_with_len m count)) taken) w
+            (ops_run ops (holding (start_values ops taken) w))
+            (ops_run rest (holding (defined_all zeros (results ++ in_temps rest) taken) w))) (sym is)
+            (subst (λ (xs : List TempId). Ends m known (out_operands rest) (out_operands later_ops) (ending_of rest) (ending_of later_ops)
+            (ops_run later_ops (holding (start_values made taken) w))
+            (ops_run rest (holding (defined_all zeros xs taken) w))) (sym in_ops)
+            (subst (λ (xs : List TempId). Ends m known (out_operands rest) (out_operands later_ops) (ending_of rest) (ending_of later_ops)
+            (ops_run later_ops (holding (defined_all zeros xs taken) w))
+            (ops_run rest (holding (defined_all zeros (temps m count) taken) w))) (sym in_made)
+            (t.run (defined_all zeros (temps next count) taken) (defined_all zeros (temps m count) taken) w
             (agree_all m count taken firsts next m zeros zeros none e (λ j low below. refl)))));
         last = r.last;
         long = let a = r.long in let b = length-append results (results_of rest) in omega (arith, a, b, longer);
@@ -200,7 +217,8 @@ pub record BlockStep (m : ℕ) (block : ExtBlock) (g : Growth) : Type 0 where
   pub long : length last ≡ m + length (results_of block.ops)
   pub knows : Knows g.values last
 
-block_step : (names : List Kind) (is_entry : Bool) (values : List Value) (next m : ℕ) (firsts : List ℕ) (block : ExtBlock) → m ≡ length firsts
+block_step : (names : List Kind) (is_entry : Bool) (values : List Value) (next m : ℕ) (firsts : List ℕ) (block : ExtBlock)
+    → m ≡ length firsts
     → FitsBlock m block → Knows values firsts → BlockStep m block (grown_block names is_entry values next block)
 block_step names is_entry values next m firsts block e fits k =
     let g0 : Growth = record { ops = []; values = values; next = next } in
@@ -214,7 +232,8 @@ block_step names is_entry values next m firsts block e fits k =
       knows = a.knows;
     }
 
-pub blocks_alike : (names : List Kind) (is_entry : Bool) (values : List Value) (next m : ℕ) (firsts : List ℕ) (blocks : List ExtBlock) → m ≡ length firsts
+pub blocks_alike : (names : List Kind) (is_entry : Bool) (values : List Value) (next m : ℕ) (firsts : List ℕ) (blocks : List ExtBlock)
+    → m ≡ length firsts
     → FitsBlocks m blocks → Knows values firsts → AllZip AlikeBlocks (extended_blocks names is_entry values next blocks) blocks
 blocks_alike names is_entry values next m firsts [] e fits k = tt
 blocks_alike names is_entry values next m firsts (block ∷ blocks) e fits k =

@@ -1,5 +1,6 @@
 -- The blocks of a linear function fit: what each operation reads is defined before, and temporaries are numbered in order.
-use Rattle.std.proofs.Common.{◌≡◌, ℕ, suc, ◌+◌, ◌<◌, ◌≤◌, ◌++◌, true, false, List, [], ◌∷◌, Option, Some, None, map, take, length, get_or, slice_get, All, Contains, refl, sym, ap, ◌∙◌, arith, subst, append_assoc, append-nil}
+use Rattle.std.proofs.Common.{◌≡◌, ℕ, suc, ◌+◌, ◌<◌, ◌≤◌, ◌++◌, true, false, List, [], ◌∷◌, Option, Some, None, map, take, length, get_or}
+use Rattle.std.proofs.Common.{slice_get, All, Contains, refl, sym, ap, ◌∙◌, arith, subst, append_assoc, append-nil}
 use Rattle.std.specs.List.{range_with_len, AllZip}
 use Rattle.std.specs.Option.{option_to_list}
 use Rattle.std.proofs.lemmas.List.{length-append}
@@ -17,7 +18,8 @@ use Rattle.un_ir.specs.declared.extended.ExtOp.{ExtOp}
 use Rattle.un_ir.specs.declared.extended.ExtBlock.{ExtBlock}
 use Rattle.un_ir.specs.declared.extended.Lssa.{Lssa}
 use Rattle.un_ir.specs.Linear.{first_of, is_in, is_out, linear_run}
-use Rattle.un_ir.specs.Extended.{temp, Want, IsGoodOperand, IsGoodExtOp, IsGoodExtBlock, Parts, IsMadeOf, is_inner, is_end, is_copy, result_count, wants_of, results_of, all_results, IsPlainOp, IsLinear, is_linear_kind}
+use Rattle.un_ir.specs.Extended.{temp, Want, IsGoodOperand, IsGoodExtOp, IsGoodExtBlock, Parts, IsMadeOf, is_inner, is_end, is_copy}
+use Rattle.un_ir.specs.Extended.{result_count, wants_of, results_of, all_results, IsPlainOp, IsLinear, is_linear_kind}
 use Rattle.un_ir.specs.ExtendOf.{extended_blocks}
 use Rattle.un_extend.proofs.RunGrowth.{AreWithin, Defines, FitsOps}
 use Rattle.un_extend.proofs.RunBlocks.{FitsBlock, FitsBlocks, blocks_alike, run_alike}
@@ -32,7 +34,9 @@ record Split (m : ℕ) (xs ys : List TempId) : Type 0 where
   back : Numbered (m + length xs) ys
 
 split : (m : ℕ) (xs ys : List TempId) → Numbered m (xs ++ ys) → Split m xs ys
-split m [] ys e = let z : m ≡ m + 0 = omega arith in record { front = refl; back = e ∙ ap (λ (k : ℕ). map temp (range_with_len k (length ys))) z }
+split m [] ys e =
+    let z : m ≡ m + 0 = omega arith in
+    record { front = refl; back = e ∙ ap (λ (k : ℕ). map temp (range_with_len k (length ys))) z }
 split m (x ∷ xs) ys e =
     let first : x ≡ temp m = cc e in
     let rest : Numbered (m + 1) (xs ++ ys) = cc e in
@@ -47,7 +51,8 @@ split m (x ∷ xs) ys e =
 among : (m : ℕ) (xs : List TempId) (y : TempId) → Numbered m xs → Contains xs y → (m ≤ y.0) × (y.0 < m + length xs)
 among m xs y e (k, below, is) =
     let c = length xs in
-    let same : temp (m + k) ≡ y = sym (get_or-map-range_with_len temp m c k (m + k) y below refl) ∙ ap (λ (zs : List TempId). get_or zs k y) (sym e) ∙ is in
+    let same : temp (m + k) ≡ y =
+    sym (get_or-map-range_with_len temp m c k (m + k) y below refl) ∙ ap (λ (zs : List TempId). get_or zs k y) (sym e) ∙ is in
     let number : m + k ≡ y.0 = ap (λ (z : TempId). z.0) same in
     (omega (arith, number), omega (arith, number, below))
 
@@ -77,8 +82,8 @@ few_results : (o : Option NameId) → length (option_to_list o) ≤ 1
 few_results None = omega arith
 few_results (Some name) = omega arith
 
-defines : (t : Table) (block : ExtBlock) (kind : ExtKind) (c : ℕ) → is_linear_kind kind ≡ true → is_in kind ≡ false → c ≡ result_count t block kind
-    → Defines kind c
+defines : (t : Table) (block : ExtBlock) (kind : ExtKind) (c : ℕ) → is_linear_kind kind ≡ true → is_in kind ≡ false
+    → c ≡ result_count t block kind → Defines kind c
 defines t block In c plain other e = absurd (cc other)
 defines t block Out c plain other e = e
 defines t block (Body o) c plain other e = let few = few_results o.dst in omega (arith, few, e)
@@ -140,7 +145,8 @@ module _ (t : Table) (names : List Kind) (blocks : List ExtBlock) (block : ExtBl
         let more = results_append front (op ∷ []) in
         let alone : op.results ++ [] ≡ op.results = append-nil op.results in
         let longer : length (results_of (front ++ op ∷ [])) ≡ length (results_of front) + length op.results =
-        ap (λ (xs : List TempId). length xs) (more ∙ ap (λ (xs : List TempId). results_of front ++ xs) alone) ∙ length-append (results_of front) op.results in (
+        ap (λ (xs : List TempId). length xs) (more ∙ ap (λ (xs : List TempId). results_of front ++ xs) alone)
+        ∙ length-append (results_of front) op.results in (
           record {
             read = within m n (results_of front) op.operands (wants_of t names blocks block op.kind op) inside g.operands;
             results = s.front;
@@ -159,12 +165,13 @@ module _ (t : Table) (names : List Kind) (blocks : List ExtBlock) (block : ExtBl
             let r = join (m + 1) xs ys later (f ∙ ap (λ (k : ℕ). map temp (range_with_len k (length ys))) z) in
             ap (λ (y : TempId). y ∷ (xs ++ ys)) first ∙ ap (λ (zs : List TempId). temp m ∷ zs) r
 
-        joined : (front : List ExtOp) (op : ExtOp) (m n : ℕ) → n ≡ m + length (results_of front) → Numbered m (results_of front) → Numbered n op.results
-            → Numbered m (results_of (front ++ op ∷ []))
+        joined : (front : List ExtOp) (op : ExtOp) (m n : ℕ) → n ≡ m + length (results_of front)
+            → Numbered m (results_of front) → Numbered n op.results → Numbered m (results_of (front ++ op ∷ []))
         joined front op m n long before own =
             let e : results_of (front ++ op ∷ []) ≡ results_of front ++ op.results =
             results_append front (op ∷ []) ∙ ap (λ (xs : List TempId). results_of front ++ xs) (append-nil op.results) in
-            subst (Numbered m) (sym e) (join m (results_of front) op.results before (own ∙ ap (λ (k : ℕ). map temp (range_with_len k (length op.results))) long))
+            subst (Numbered m) (sym e) (join m (results_of front) op.results before
+            (own ∙ ap (λ (k : ℕ). map temp (range_with_len k (length op.results))) long))
 
   -- ---- a block
 
@@ -181,7 +188,8 @@ module _ (t : Table) (names : List Kind) (blocks : List ExtBlock) (block : ExtBl
   starts Enter xs results before is g = absurd (cc is)
   starts Leave xs results before is g = absurd (cc is)
 
-  fits_block : (m : ℕ) → IsGoodExtBlock t names blocks block → All IsPlainOp block.ops → Numbered m (results_of block.ops) → FitsBlock m block
+  fits_block : (m : ℕ) → IsGoodExtBlock t names blocks block → All IsPlainOp block.ops
+      → Numbered m (results_of block.ops) → FitsBlock m block
   fits_block m good plain numbered =
       let p = good.parts.0 in
       let made = good.parts.1 in
@@ -203,7 +211,8 @@ module _ (t : Table) (names : List Kind) (blocks : List ExtBlock) (block : ExtBl
         named = s.2;
         numbered = halves.front;
         later = fits_ops block.ops good.ops (start ∷ []) tail m (m + length start.results) (sym whole)
-            (ap (λ (xs : List TempId). m + length xs) (sym none)) (subst (Numbered m) (sym none) halves.front) halves.back plain_tail (others p made);
+            (ap (λ (xs : List TempId). m + length xs) (sym none)) (subst (Numbered m) (sym none) halves.front)
+            halves.back plain_tail (others p made);
       }
     where
       others : (p : Parts) → IsMadeOf block.ops p → All NotIn (p.inner ++ (option_to_list p.ending ++ (p.late ++ p.out ∷ [])))
@@ -221,14 +230,17 @@ module _ (t : Table) (names : List Kind) (blocks : List ExtBlock) (block : ExtBl
 abbrev HasPlainOps : ExtBlock → Type 0
 HasPlainOps block = All IsPlainOp block.ops
 
-fits_blocks : (t : Table) (names : List Kind) (all : List ExtBlock) (m : ℕ) (blocks : List ExtBlock) → All (IsGoodExtBlock t names all) blocks
+fits_blocks : (t : Table) (names : List Kind) (all : List ExtBlock) (m : ℕ) (blocks : List ExtBlock)
+    → All (IsGoodExtBlock t names all) blocks
     → All HasPlainOps blocks → Numbered m (all_results blocks) → FitsBlocks m blocks
 fits_blocks t names all m [] good plain numbered = tt
 fits_blocks t names all m (block ∷ blocks) good plain numbered =
-    let s = split m (results_of block.ops) (all_results blocks) numbered in (
-      fits_block t names all block m (All-head (IsGoodExtBlock t names all) block blocks good) (All-head HasPlainOps block blocks plain) s.front,
-      fits_blocks t names all (m + length (results_of block.ops)) blocks (All-tail (IsGoodExtBlock t names all) block blocks good) (All-tail HasPlainOps block blocks plain) s.back,
-    )
+    let s = split m (results_of block.ops) (all_results blocks) numbered in
+    let good_blocks = All-tail (IsGoodExtBlock t names all) block blocks good in
+    let plain_blocks = All-tail HasPlainOps block blocks plain in
+    let first = All-head (IsGoodExtBlock t names all) block blocks good in
+    let rest = fits_blocks t names all (m + length (results_of block.ops)) blocks good_blocks plain_blocks s.back in
+    (fits_block t names all block m first (All-head HasPlainOps block blocks plain) s.front, rest)
 
 -- extending changes no run
 pub extend_runs : (l : Lssa) (s : Start) (n : ℕ) → IsLinear l

@@ -1,5 +1,7 @@
 -- A block's operations extended: the first temporary of each value stays the same, and the copies are read by no operand.
-use Rattle.std.proofs.Common.{◌≡◌, ℕ, zero, suc, ◌+◌, ◌-◌, ◌<◌, ◌≤◌, ◌++◌, Bool, true, false, List, [], ◌∷◌, Option, Some, None, map, length, replicate, get_or, slice_get, slice_set, if◌then◌else◌, refl, sym, ap, ◌∙◌, arith, subst, append_assoc, append-nil}
+use Rattle.std.proofs.Common.{◌≡◌, ℕ, zero, suc, ◌+◌, ◌-◌, ◌<◌, ◌≤◌, ◌++◌, Bool, true, false, List, [], ◌∷◌, Option, Some, None, map}
+use Rattle.std.proofs.Common.{length, replicate, get_or, slice_get, slice_set, if◌then◌else◌, refl, sym, ap, ◌∙◌, arith, subst}
+use Rattle.std.proofs.Common.{append_assoc, append-nil}
 use Rattle.std.specs.List.{range_with_len, AllZip}
 use Rattle.std.proofs.lemmas.List.{length-append, length-replicate, length-map}
 use Rattle.std.proofs.lemmas.List.FromFn.{length-range_with_len}
@@ -17,9 +19,12 @@ use Rattle.un_ir.specs.declared.extended.Sort.{Sort}
 use Rattle.un_ir.specs.declared.extended.Value.{Value}
 use Rattle.un_ir.specs.declared.extended.Growth.{Growth}
 use Rattle.un_ir.specs.Extended.{temp, is_return, results_of}
-use Rattle.un_ir.specs.ExtendOf.{copy_op, frame_op, with_op, with_copy, with_copies, copy_count, new_temps, with_value, with_values, with_operand_by, with_operand, alternatives, with_operands, new_operands, sort_of_name, sorts_of, with_results, with_leave, with_enter, with_extended, with_all_extended}
+use Rattle.un_ir.specs.ExtendOf.{copy_op, frame_op, with_op, with_copy, with_copies, copy_count, new_temps, with_value, with_values}
+use Rattle.un_ir.specs.ExtendOf.{with_operand_by, with_operand, alternatives, with_operands, new_operands, sort_of_name, sorts_of}
+use Rattle.un_ir.specs.ExtendOf.{with_results, with_leave, with_enter, with_extended, with_all_extended}
 use Rattle.un_ir.specs.Linear.{first_of}
-use Rattle.un_extend.proofs.RunTails.{Reads, Tail, tail_done, tail_copy, tail_enter, tail_leave, op_with, tail_body, tail_end, tail_out}
+use Rattle.un_extend.proofs.RunTails.{Reads, Tail, tail_done, tail_copy, tail_enter, tail_leave, op_with, bare_op, tail_body, tail_end}
+use Rattle.un_extend.proofs.RunTails.{tail_out}
 
 -- ---- the first temporaries of values
 
@@ -87,7 +92,8 @@ knows_values n [] g firsts k = subst (Knows g.values) (sym (append-nil firsts)) 
 knows_values n (sort ∷ sorts) g firsts k =
     let h = with_values (n + 1) sorts (with_value n sort g) in
     subst (Knows h.values) (append_assoc firsts (n ∷ []) (range_with_len (n + 1) (length sorts)))
-    (knows_values (n + 1) sorts (with_value n sort g) (firsts ++ n ∷ []) (knows_push g.values firsts _ n k (new_temps g (copy_count sort), refl)))
+    (knows_values (n + 1) sorts (with_value n sort g) (firsts ++ n ∷ [])
+    (knows_push g.values firsts _ n k (new_temps g (copy_count sort), refl)))
 
 knows_leave : (kind : ExtKind) (g : Growth) (firsts : List ℕ) → Knows g.values firsts → (let h = with_leave kind g in Knows h.values firsts)
 knows_leave (End term) g firsts k = by (is_return term)
@@ -149,7 +155,8 @@ module _ (base : ℕ) where
   idle_then f g h s t = record {
     added = s.added ++ t.added;
     ops = t.ops ∙ ap (λ (xs : List ExtOp). xs ++ t.added) s.ops ∙ append_assoc f.ops s.added t.added;
-    tail = λ firsts rest made k. subst (Tail base firsts f.next rest) (sym (append_assoc s.added t.added made)) (s.tail firsts rest (t.added ++ made) (t.tail firsts rest made k));
+    tail = λ firsts rest made k. subst (Tail base firsts f.next rest) (sym (append_assoc s.added t.added made))
+        (s.tail firsts rest (t.added ++ made) (t.tail firsts rest made k));
   }
 
   idle_copy : (node : NodeCopy) (alts : List TempId) (g : Growth) → Idle g (with_copy node alts g)
@@ -175,14 +182,17 @@ module _ (base : ℕ) where
   idle_operands : (xs : List Operand) (g : Growth) → Idle g (with_operands xs g)
   idle_operands [] g = idle_none g
   idle_operands (x ∷ xs) g =
-      idle_then g (with_operand x g) _ (idle_operand_by (first_of x.alts) (slice_get g.values (first_of x.alts)) g) (idle_operands xs (with_operand x g))
+      let k = first_of x.alts in
+      idle_then g (with_operand x g) _ (idle_operand_by k (slice_get g.values k) g) (idle_operands xs (with_operand x g))
 
   idle_value : (n : ℕ) (sort : Sort) (g : Growth) → Idle g (with_value n sort g)
-  idle_value n sort g = let s = idle_copies D D2 sort.kind sort.copied (temp n ∷ []) g in record { added = s.added; ops = s.ops; tail = s.tail }
+  idle_value n sort g =
+      let s = idle_copies D D2 sort.kind sort.copied (temp n ∷ []) g in record { added = s.added; ops = s.ops; tail = s.tail }
 
   idle_values : (n : ℕ) (sorts : List Sort) (g : Growth) → Idle g (with_values n sorts g)
   idle_values n [] g = idle_none g
-  idle_values n (sort ∷ sorts) g = idle_then g (with_value n sort g) _ (idle_value n sort g) (idle_values (n + 1) sorts (with_value n sort g))
+  idle_values n (sort ∷ sorts) g =
+      idle_then g (with_value n sort g) _ (idle_value n sort g) (idle_values (n + 1) sorts (with_value n sort g))
 
   idle_leave : (kind : ExtKind) (g : Growth) → Idle g (with_leave kind g)
   idle_leave (End term) g = by (is_return term)
@@ -193,7 +203,11 @@ module _ (base : ℕ) where
   idle_leave _ g = idle_none g
 
   idle_enter : (b : Bool) (kind : ExtKind) (g : Growth) → Idle g (with_enter b kind g)
-  idle_enter true In g = record { added = frame_op Enter ∷ []; ops = refl; tail = λ firsts rest made t. tail_enter base firsts g.next rest made t }
+  idle_enter true In g = record {
+    added = frame_op Enter ∷ [];
+    ops = refl;
+    tail = λ firsts rest made t. tail_enter base firsts g.next rest made t;
+  }
   idle_enter true _ g = idle_none g
   idle_enter false kind g = idle_none g
 
@@ -227,46 +241,54 @@ module _ (base : ℕ) where
     abbrev extended : ExtOp → Growth → Growth
     extended op g = with_extended names live_in is_entry saved op g
 
-    op_step : (kind : ExtKind) (xs : List Operand) (results : List TempId) (g : Growth) (firsts : List ℕ) → AreWithin base (length firsts) xs
+    abbrev op_of : ExtKind → List Operand → List TempId → ExtOp
+    op_of kind xs results = record { kind = kind; operands = xs; results = results }
+
+    op_step : (kind : ExtKind) (xs : List Operand) (results : List TempId) (g : Growth) (firsts : List ℕ)
+        → AreWithin base (length firsts) xs
         → results ≡ map temp (range_with_len (length firsts) (length results)) → Defines kind (length results) → Knows g.values firsts
-        → OpStep firsts g (record { kind = kind; operands = xs; results = results }) (extended (record { kind = kind; operands = xs; results = results }) g)
+        → OpStep firsts g (op_of kind xs results) (extended (op_of kind xs results) g)
     op_step (Body o) xs results g firsts within numbered few k =
         let c = length results in
         let read = with_operands xs g in
-        let here = with_results (Body o) (new_operands xs g) c read in
+        let ys = new_operands xs g in
+        let own = op_with base (Body o) ys read.next c in
+        let here = with_results (Body o) ys c read in
         let sorts = sorts_of names live_in saved (Body o) c in
         let valued = with_values read.next sorts here in
         let last = firsts ++ range_with_len read.next c in
         let many : length sorts ≡ c = length-replicate c _ in
         let known : Knows valued.values last = subst (λ (n : ℕ). Knows valued.values (firsts ++ range_with_len read.next n)) many
         (knows_values read.next sorts here firsts (knows_operands xs g firsts k)) in
-        around firsts last g read here (with_enter is_entry (Body o) valued) _ (op_with base (Body o) (new_operands xs g) read.next c)
+        around firsts last g read here (with_enter is_entry (Body o) valued) _ own
         (idle_operands xs g) refl (idle_then here valued _ (idle_values read.next sorts here) (idle_enter is_entry (Body o) valued))
         (length-append firsts (range_with_len read.next c) ∙ ap (λ (n : ℕ). length firsts + n) (length-range_with_len read.next c))
-        (λ rest made t. subst (λ (rs : List TempId). Tail base firsts read.next (record { kind = Body o; operands = xs; results = rs } ∷ rest) (op_with base (Body o) (new_operands xs g) read.next c ∷ made)) (sym numbered)
-        (tail_body base firsts read.next (length firsts) c rest made o xs (new_operands xs g) refl few (reads_operands base firsts xs g k within) t))
+        (λ rest made t. subst (λ (rs : List TempId). Tail base firsts read.next (op_of (Body o) xs rs ∷ rest) (own ∷ made)) (sym numbered)
+        (tail_body base firsts read.next (length firsts) c rest made o xs ys refl few (reads_operands base firsts xs g k within) t))
         (knows_enter is_entry (Body o) valued last known)
     op_step (End term) xs [] g firsts within numbered few k =
         let before = with_leave (End term) g in
         let known = knows_leave (End term) g firsts k in
         let read = with_operands xs before in
-        let here = with_results (End term) (new_operands xs before) 0 read in
+        let ys = new_operands xs before in
+        let here = with_results (End term) ys 0 read in
         let z : read.next + 0 ≡ read.next = omega arith in
-        around firsts firsts g read here (with_enter is_entry (End term) here) _ (record { kind = End term; operands = new_operands xs before; results = [] })
+        around firsts firsts g read here (with_enter is_entry (End term) here) _ (bare_op base (End term) ys)
         (idle_then g before read (idle_leave (End term) g) (idle_operands xs before)) refl (idle_enter is_entry (End term) here)
         (omega arith)
-        (λ rest made t. tail_end base firsts read.next rest made term xs (new_operands xs before) (reads_operands base firsts xs before known within)
+        (λ rest made t. tail_end base firsts read.next rest made term xs ys (reads_operands base firsts xs before known within)
         (subst (λ (n : ℕ). Tail base firsts n rest made) z t))
         (knows_enter is_entry (End term) here firsts (knows_operands xs before firsts known))
     op_step (End term) xs (r ∷ rs) g firsts within numbered few k = absurd (omega (arith, few))
     op_step Out xs [] g firsts within numbered few k =
         let read = with_operands xs g in
-        let here = with_results Out (new_operands xs g) 0 read in
+        let ys = new_operands xs g in
+        let here = with_results Out ys 0 read in
         let z : read.next + 0 ≡ read.next = omega arith in
-        around firsts firsts g read here (with_enter is_entry Out here) _ (record { kind = Out; operands = new_operands xs g; results = [] })
+        around firsts firsts g read here (with_enter is_entry Out here) _ (bare_op base Out ys)
         (idle_operands xs g) refl (idle_enter is_entry Out here)
         (omega arith)
-        (λ rest made t. tail_out base firsts read.next rest made xs (new_operands xs g) (reads_operands base firsts xs g k within)
+        (λ rest made t. tail_out base firsts read.next rest made xs ys (reads_operands base firsts xs g k within)
         (subst (λ (n : ℕ). Tail base firsts n rest made) z t))
         (knows_enter is_entry Out here firsts (knows_operands xs g firsts k))
     op_step Out xs (r ∷ rs) g firsts within numbered few k = absurd (omega (arith, few))
@@ -282,8 +304,8 @@ module _ (base : ℕ) where
       pub tail : Tail base firsts g.next ops added
       pub knows : Knows h.values last
 
-    pub ops_step : (ops : List ExtOp) (g : Growth) (m : ℕ) (firsts : List ℕ) → m ≡ length firsts → FitsOps base m ops → Knows g.values firsts
-        → OpsStep firsts g ops (with_all_extended names live_in is_entry saved ops g)
+    pub ops_step : (ops : List ExtOp) (g : Growth) (m : ℕ) (firsts : List ℕ) → m ≡ length firsts → FitsOps base m ops
+        → Knows g.values firsts → OpsStep firsts g ops (with_all_extended names live_in is_entry saved ops g)
     ops_step [] g m firsts e h k = record {
       added = [];
       made = sym (append-nil g.ops);
@@ -338,7 +360,8 @@ module _ (base : ℕ) where
         let valued = with_values next sorts here in
         let last = firsts ++ range_with_len next count in
         let idle = idle_then here valued _ (idle_values next sorts here) (idle_enter is_entry In valued) in
-        let known : Knows valued.values last = subst (λ (n : ℕ). Knows valued.values (firsts ++ range_with_len next n)) (sorts_count count enough)
+        let known : Knows valued.values last =
+        subst (λ (n : ℕ). Knows valued.values (firsts ++ range_with_len next n)) (sorts_count count enough)
         (knows_values next sorts here firsts k) in
         record {
           added = idle.added;

@@ -1,5 +1,6 @@
 -- The rest of a block and of the block extended run alike, where the first temporaries of the values so far have the values.
-use Rattle.std.proofs.Common.{◌≡◌, ℕ, zero, suc, ◌+◌, ◌<◌, ◌≤◌, ◌⊎◌, inl, inr, ◌++◌, Bool, true, false, nat_eq, List, [], ◌∷◌, Some, None, map, length, get_or, if◌then◌else◌, refl, sym, ap, ◌∙◌, arith, subst, append_assoc, append-nil}
+use Rattle.std.proofs.Common.{◌≡◌, ℕ, zero, suc, ◌+◌, ◌<◌, ◌≤◌, ◌⊎◌, inl, inr, ◌++◌, Bool, true, false, nat_eq, List, [], ◌∷◌, Some, None}
+use Rattle.std.proofs.Common.{map, length, get_or, if◌then◌else◌, refl, sym, ap, ◌∙◌, arith, subst, append_assoc, append-nil}
 use Rattle.std.specs.List.{range_with_len, AllZip}
 use Rattle.std.proofs.lemmas.Bool.{eqb-true}
 use Rattle.std.proofs.lemmas.List.{map-append, length-append, get_or_append_left, get_or_push, length_push}
@@ -13,7 +14,20 @@ use Rattle.un_ir.specs.declared.extended.Operand.{Operand}
 use Rattle.un_ir.specs.declared.extended.ExtOp.{ExtOp}
 use Rattle.un_ir.specs.Extended.{temp}
 use Rattle.un_ir.specs.ExtendOf.{copy_op, frame_op}
-use Rattle.un_ir.specs.Linear.{Values, World, LinearStop, LinearEnd, Effect, Gives, Stops, Ending, first_of, value_of, defined, defined_all, effect_of, after_effect, then_ops, ops_run, in_temps, out_operands, ending_of}
+use Rattle.un_ir.specs.Linear.{Values, World, LinearState, LinearStop, LinearEnd, Effect, Gives, Stops, Ending, first_of, value_of, defined}
+use Rattle.un_ir.specs.Linear.{defined_all, effect_of, after_effect, then_ops, ops_run, in_temps, out_operands, ending_of}
+
+abbrev pub temps : ℕ → ℕ → List TempId
+temps n c = map temp (range_with_len n c)
+
+abbrev pub holding : Values → World → LinearState
+holding v w = record { values = v; world = w }
+
+abbrev pub stopped : LinearStop → Values → World → LinearEnd
+stopped stop v w = record { stop = Some stop; state = holding v w }
+
+abbrev pub passed : Values → World → LinearEnd
+passed v w = record { stop = None; state = holding v w }
 
 -- each value from `base` on has in its first temporary what it has in the linear run
 abbrev pub Stays : ℕ → List ℕ → Values → Values → Type 0
@@ -37,15 +51,15 @@ pub record AlikeEnds (xs ys : List Operand) (p q : Ending) (v u : Values) : Type
 -- the extended run of operations, and the linear one
 pub data Ends (base : ℕ) (firsts : List ℕ) (xs ys : List Operand) (p q : Ending) : LinearEnd → LinearEnd → Type 0 where
   stops : (stop : LinearStop) (w : World) (v u : Values)
-      → Ends base firsts xs ys p q (record { stop = Some stop; state = record { values = v; world = w } }) (record { stop = Some stop; state = record { values = u; world = w } })
+      → Ends base firsts xs ys p q (stopped stop v w) (stopped stop u w)
   goes : (w : World) (v u : Values) → Stays base firsts v u → AlikeEnds xs ys p q v u
-      → Ends base firsts xs ys p q (record { stop = None; state = record { values = v; world = w } }) (record { stop = None; state = record { values = u; world = w } })
+      → Ends base firsts xs ys p q (passed v w) (passed u w)
 
 -- the rest of a block, and what it is made: neither takes over values
 pub record Tail (base : ℕ) (firsts : List ℕ) (n : ℕ) (ops made : List ExtOp) : Type 0 where
   pub run : (v u : Values) (w : World) → Agree base firsts n v u
       → Ends base firsts (out_operands ops) (out_operands made) (ending_of ops) (ending_of made)
-      (ops_run made (record { values = v; world = w })) (ops_run ops (record { values = u; world = w }))
+      (ops_run made (holding v w)) (ops_run ops (holding u w))
   pub in_ops : in_temps ops ≡ []
   pub in_made : in_temps made ≡ []
 
@@ -103,7 +117,7 @@ module _ (base : ℕ) where
   -- values of consecutive temporaries: those that are given no value are to agree already
   pub agree_all : (c : ℕ) (vs : List ℕ) (firsts : List ℕ) (n m : ℕ) (v u : Values) → Agree base firsts n v u → m ≡ length firsts
       → ((j : ℕ) → length vs ≤ j → j < c → v (n + j) ≡ u (m + j))
-      → Agree base (firsts ++ range_with_len n c) (n + c) (defined_all v (map temp (range_with_len n c)) vs) (defined_all u (map temp (range_with_len m c)) vs)
+      → Agree base (firsts ++ range_with_len n c) (n + c) (defined_all v (temps n c) vs) (defined_all u (temps m c) vs)
   agree_all zero vs firsts n m v u a e h =
       let z : n ≡ n + 0 = omega arith in
       subst (λ (xs : List ℕ). Agree base xs (n + 0) v u) (sym (append-nil firsts)) (subst (λ (k : ℕ). Agree base firsts k v u) z a)
@@ -118,14 +132,15 @@ module _ (base : ℕ) where
       ∙ ap u (let q : m + suc j ≡ (m + 1) + j = omega arith in q)) in
       let last : (n + 1) + c ≡ n + suc c = omega arith in
       let whole = append_assoc firsts (n ∷ []) (range_with_len (n + 1) c) in
-      let bare = subst (λ (f : Values). Agree base ((firsts ++ n ∷ []) ++ range_with_len (n + 1) c) ((n + 1) + c) f (defined_all u (map temp (range_with_len (m + 1) c)) []))
-      (none_defined v (map temp (range_with_len (n + 1) c))) rest in
-      let barer = subst (λ (f : Values). Agree base ((firsts ++ n ∷ []) ++ range_with_len (n + 1) c) ((n + 1) + c) v f)
-      (none_defined u (map temp (range_with_len (m + 1) c))) bare in
+      let all = (firsts ++ n ∷ []) ++ range_with_len (n + 1) c in
+      let bare =
+      subst (λ (f : Values). Agree base all ((n + 1) + c) f (defined_all u (temps (m + 1) c) [])) (none_defined v (temps (n + 1) c)) rest in
+      let barer = subst (λ (f : Values). Agree base all ((n + 1) + c) v f) (none_defined u (temps (m + 1) c)) bare in
       subst (λ (xs : List ℕ). Agree base xs (n + suc c) v u) whole
-      (subst (λ (k : ℕ). Agree base ((firsts ++ n ∷ []) ++ range_with_len (n + 1) c) k v u) last barer)
+      (subst (λ (k : ℕ). Agree base all k v u) last barer)
   agree_all (suc c) (x ∷ vs) firsts n m v u a e h =
-      let first : defined v (temp n) x n ≡ defined u (temp m) x (length firsts) = new_value v n x ∙ sym (new_value u m x) ∙ ap (defined u (temp m) x) e in
+      let first : defined v (temp n) x n ≡ defined u (temp m) x (length firsts) =
+      new_value v n x ∙ sym (new_value u m x) ∙ ap (defined u (temp m) x) e in
       let pushed = agree_push firsts n v u (defined v (temp n) x) (defined u (temp m) x) a (λ y below. old_value v n x y below)
       (λ y below. old_value u m x y (omega (arith, e, below))) first in
       let longer : m + 1 ≡ length (firsts ++ n ∷ []) = let l = length_push firsts n in omega (arith, l, e) in
@@ -134,8 +149,10 @@ module _ (base : ℕ) where
       ∙ ap u (let q : m + suc j ≡ (m + 1) + j = omega arith in q) ∙ sym (later_u j)) in
       let last : (n + 1) + c ≡ n + suc c = omega arith in
       let whole = append_assoc firsts (n ∷ []) (range_with_len (n + 1) c) in
-      subst (λ (xs : List ℕ). Agree base xs (n + suc c) (defined_all (defined v (temp n) x) (map temp (range_with_len (n + 1) c)) vs) (defined_all (defined u (temp m) x) (map temp (range_with_len (m + 1) c)) vs)) whole
-      (subst (λ (k : ℕ). Agree base ((firsts ++ n ∷ []) ++ range_with_len (n + 1) c) k (defined_all (defined v (temp n) x) (map temp (range_with_len (n + 1) c)) vs) (defined_all (defined u (temp m) x) (map temp (range_with_len (m + 1) c)) vs)) last rest)
+      let v2 = defined_all (defined v (temp n) x) (temps (n + 1) c) vs in
+      let u2 = defined_all (defined u (temp m) x) (temps (m + 1) c) vs in
+      subst (λ (xs : List ℕ). Agree base xs (n + suc c) v2 u2) whole
+      (subst (λ (k : ℕ). Agree base ((firsts ++ n ∷ []) ++ range_with_len (n + 1) c) k v2 u2) last rest)
     where
       above : (f : Values) (k j : ℕ) → defined f (temp k) x ((k + 1) + j) ≡ f ((k + 1) + j)
       above f k j = by (nat_eq ((k + 1) + j) k) refl
@@ -175,7 +192,8 @@ module _ (base : ℕ) where
     in_made = refl;
   }
 
-  pub tail_copy : (firsts : List ℕ) (n : ℕ) (ops made : List ExtOp) (node : NodeCopy) (alts : List TempId) → Tail base firsts (n + 1) ops made
+  pub tail_copy : (firsts : List ℕ) (n : ℕ) (ops made : List ExtOp) (node : NodeCopy) (alts : List TempId)
+      → Tail base firsts (n + 1) ops made
       → Tail base firsts n ops (copy_op node alts n ∷ made)
   tail_copy firsts n ops made node alts t = record {
     run = λ v u w a. t.run (defined v (temp n) (v (first_of alts))) u w (more v u (v (first_of alts)) a);
@@ -189,15 +207,17 @@ module _ (base : ℕ) where
         below = λ y low h. (let l = a.below y low h in omega (arith, l));
       }
 
-  pub tail_enter : (firsts : List ℕ) (n : ℕ) (ops made : List ExtOp) → Tail base firsts n ops made → Tail base firsts n ops (frame_op Enter ∷ made)
+  pub tail_enter : (firsts : List ℕ) (n : ℕ) (ops made : List ExtOp) → Tail base firsts n ops made
+      → Tail base firsts n ops (frame_op Enter ∷ made)
   tail_enter firsts n ops made t = record { run = t.run; in_ops = t.in_ops; in_made = t.in_made }
 
-  pub tail_leave : (firsts : List ℕ) (n : ℕ) (ops made : List ExtOp) → Tail base firsts n ops made → Tail base firsts n ops (frame_op Leave ∷ made)
+  pub tail_leave : (firsts : List ℕ) (n : ℕ) (ops made : List ExtOp) → Tail base firsts n ops made
+      → Tail base firsts n ops (frame_op Leave ∷ made)
   tail_leave firsts n ops made t = record { run = t.run; in_ops = t.in_ops; in_made = t.in_made }
 
   -- an operation that has these operands and results
   abbrev pub op_with : ExtKind → List Operand → ℕ → ℕ → ExtOp
-  op_with kind xs n c = record { kind = kind; operands = xs; results = map temp (range_with_len n c) }
+  op_with kind xs n c = record { kind = kind; operands = xs; results = temps n c }
 
   pub tail_body : (firsts : List ℕ) (n m c : ℕ) (ops made : List ExtOp) (o : SrcOp) (xs ys : List Operand) → m ≡ length firsts → c ≤ 1
       → AllZip (Reads base firsts) xs ys
@@ -205,8 +225,8 @@ module _ (base : ℕ) where
       → Tail base firsts n (op_with (Body o) xs m c ∷ ops) (op_with (Body o) ys n c ∷ made)
   tail_body firsts n m c ops made o xs ys e few reads t = record {
     run = λ v u w a. subst (λ (vs : List ℕ). Ends base firsts (out_operands ops) (out_operands made) (ending_of ops) (ending_of made)
-        (then_ops (after_effect (map temp (range_with_len n c)) (record { values = v; world = w }) (effect_of o vs w)) (record { values = v; world = w }) (ops_run made))
-        (ops_run (op_with (Body o) xs m c ∷ ops) (record { values = u; world = w })))
+        (then_ops (after_effect (temps n c) (holding v w) (effect_of o vs w)) (holding v w) (ops_run made))
+        (ops_run (op_with (Body o) xs m c ∷ ops) (holding u w)))
         (sym (reads_same firsts v u xs ys a.same reads)) (by v u w a (effect_of o (map (value_of u) xs) w));
     in_ops = t.in_ops;
     in_made = t.in_made;
@@ -214,16 +234,20 @@ module _ (base : ℕ) where
     where
       by : (v u : Values) (w : World) → Agree base firsts n v u → (r : Effect)
           → Ends base firsts (out_operands ops) (out_operands made) (ending_of ops) (ending_of made)
-          (then_ops (after_effect (map temp (range_with_len n c)) (record { values = v; world = w }) r) (record { values = v; world = w }) (ops_run made))
-          (then_ops (after_effect (map temp (range_with_len m c)) (record { values = u; world = w }) r) (record { values = u; world = w }) (ops_run ops))
+          (then_ops (after_effect (temps n c) (holding v w) r) (holding v w) (ops_run made))
+          (then_ops (after_effect (temps m c) (holding u w) r) (holding u w) (ops_run ops))
       by v u w a (Gives x w2) = ends_less firsts (range_with_len n c) _ _ _ _ _ _
-          (t.run (defined_all v (map temp (range_with_len n c)) (x ∷ [])) (defined_all u (map temp (range_with_len m c)) (x ∷ [])) w2
+          (t.run (defined_all v (temps n c) (x ∷ [])) (defined_all u (temps m c) (x ∷ [])) w2
           (agree_all c (x ∷ []) firsts n m v u a e (λ j low below. absurd (omega arith))))
       by v u w a (Stops stop) = stops stop w v u
 
+  -- an operation without a result
+  abbrev pub bare_op : ExtKind → List Operand → ExtOp
+  bare_op kind xs = record { kind = kind; operands = xs; results = [] }
+
   pub tail_end : (firsts : List ℕ) (n : ℕ) (ops made : List ExtOp) (term : Term) (xs ys : List Operand) → AllZip (Reads base firsts) xs ys
       → Tail base firsts n ops made
-      → Tail base firsts n (record { kind = End term; operands = xs; results = [] } ∷ ops) (record { kind = End term; operands = ys; results = [] } ∷ made)
+      → Tail base firsts n (bare_op (End term) xs ∷ ops) (bare_op (End term) ys ∷ made)
   tail_end firsts n ops made term xs ys reads t = record {
     run = λ v u w a. by _ _ (t.run v u w a);
     in_ops = t.in_ops;
@@ -231,13 +255,14 @@ module _ (base : ℕ) where
   }
     where
       by : (e l : LinearEnd) → Ends base firsts (out_operands ops) (out_operands made) (ending_of ops) (ending_of made) e l
-          → Ends base firsts (out_operands ops) (out_operands made) (record { term = term; operands = xs }) (record { term = term; operands = ys }) e l
+          → Ends base firsts (out_operands ops) (out_operands made)
+          (record { term = term; operands = xs }) (record { term = term; operands = ys }) e l
       by e l (stops stop w v u) = stops stop w v u
       by e l (goes w v u s a) = goes w v u s (record { handed = a.handed; term = refl; read = reads_same firsts v u xs ys s reads })
 
   pub tail_out : (firsts : List ℕ) (n : ℕ) (ops made : List ExtOp) (xs ys : List Operand) → AllZip (Reads base firsts) xs ys
       → Tail base firsts n ops made
-      → Tail base firsts n (record { kind = Out; operands = xs; results = [] } ∷ ops) (record { kind = Out; operands = ys; results = [] } ∷ made)
+      → Tail base firsts n (bare_op Out xs ∷ ops) (bare_op Out ys ∷ made)
   tail_out firsts n ops made xs ys reads t = record {
     run = λ v u w a. by _ _ (t.run v u w a);
     in_ops = t.in_ops;
