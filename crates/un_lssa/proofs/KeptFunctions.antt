@@ -28,6 +28,7 @@ use Rattle.un_ir.specs.declared.function.TheConstants.{PARAMS}
 use Rattle.un_ir.specs.declared.extended.Operand.{Operand}
 use Rattle.un_ir.specs.declared.extended.ExtOp.{ExtOp}
 use Rattle.un_ir.specs.declared.extended.ExtBlock.{ExtBlock}
+use Rattle.un_ir.specs.declared.extended.Lssa.{Lssa}
 use Rattle.un_ir.specs.Extended.{temp, all_results, name_kind, size_of, LeadsOn, HandsNamesOver, AreGoodBlocks, IsLinear}
 use Rattle.un_ir.specs.Linear.{ending_of, Ending}
 use Rattle.un_ir.specs.Live.{IsLive, targets_of}
@@ -311,11 +312,15 @@ module _ (f : Function) (lists : List (List NameId)) (t : Table) (live : AreLive
   entry : 0 < length lin
   entry = let a = entry_there f in let b = lin_length in omega (arith, a, b)
 
+  few : length lin ≤ 16
+  few = let a = blocks_few f in let b = lin_length in omega (arith, a, b)
+
   -- the linear function of every function, under a fit table
   pub linear_kept : IsLinear (lin_of f lists t)
   linear_kept = record {
     good = record {
       entry = entry;
+      few = few;
       each = all_kept f lists t live args_there;
       numbered = numbers_whole (past_blocks t lists 0 0 f.blocks) (all_results lin) (numbers_blocks t count lists 0 0 f.blocks);
       leads = leads;
@@ -327,6 +332,9 @@ module _ (f : Function) (lists : List (List NameId)) (t : Table) (live : AreLive
     plain = blocks_plain t count lists 0 0 f.blocks;
   }
 
-  -- as many blocks as the function has
-  pub linear_length : length lin ≡ length f.blocks
-  linear_length = lin_length
+  -- so is what has its parts
+  pub made_kept : (names : List Kind) (blocks : List ExtBlock) → names ≡ map kind_of_pair f.names → blocks ≡ lin
+      → IsLinear (let l : Lssa = record { table = t; names = names; blocks = blocks } in l)
+  made_kept names blocks e1 e2 =
+      subst (λ (ns : List Kind). IsLinear (let l : Lssa = record { table = t; names = ns; blocks = blocks } in l)) (sym e1)
+      (subst (λ (bs : List ExtBlock). IsLinear (let l : Lssa = record { table = t; names = map kind_of_pair f.names; blocks = bs } in l)) (sym e2) linear_kept)

@@ -1,8 +1,10 @@
 //! Making a linear function.
 
 ghost use Rattle.std.specs.Prelude.{◌≡◌, map, IfOk};
+ghost use Rattle.un_ir.specs.Extended.{IsLinear};
 ghost use Rattle.un_ir.specs.Runs.{RunsAsSource};
 ghost use Rattle.un_ir.specs.LinearOf.{AreLive, kind_of_pair, lin_of};
+ghost use Rattle.un_isa.specs.Fit.{IsFit};
 
 use crate::blocks::linear_blocks;
 use std::alloc::Global;
@@ -35,6 +37,7 @@ pub fn linearize(alloc: Global, f: &Function, live: &LiveSets, t: &Table) -> Res
     requires { AreLive f.now.blocks live.now.at_start }
     ensures linear { IfOk result (λ l. l ≡ lin_of f.now live.now.at_start t.now) }
     ensures runs { IfOk result (RunsAsSource f.now live.now.at_start t.now) }
+    ensures kept { IsFit t.now → IfOk result IsLinear }
 {
     let names = kinds(alloc, f.names.as_slice())?;
     let registers = callee_saved(alloc, t)?;
