@@ -1,5 +1,7 @@
 //! Which clauses values from outside break.
 
+ghost use Rattle.un_model.specs.Variables.{IsModel};
+
 use crate::cases::CASES;
 use std::alloc::Global;
 use std::process::Abort;
@@ -41,7 +43,9 @@ fn broken(alloc: Global, f: &Function, values: Items<u32>) -> Result<Vec<u8>, No
 }
 
 /// The numbers of the clauses that a solution breaks.
-fn clauses(alloc: Global, m: &Model, s: Solution) -> Result<Vec<u8>, NoMemory> {
+fn clauses(alloc: Global, m: &Model, s: Solution) -> Result<Vec<u8>, NoMemory>
+    requires { IsModel m.now }
+{
     let mut list = Items::new(alloc);
     for b in violations(alloc, m, &s)?.as_slice() {
         list.push(b.clause)?;

@@ -43,7 +43,7 @@ use Rattle.un_lssa.specs.Making.{past_blocks}
 use Rattle.un_lssa.proofs.BlockLaws.{few_names}
 use Rattle.un_lssa.proofs.EnterSim.{body_ending, rest_ending, any_true, contains_among, filter_has}
 use Rattle.un_lssa.proofs.FunctionRuns.{params_few, entry_param}
-use Rattle.un_lssa.proofs.FunctionSizes.{filter_few, saved_few, all_ops_few, blocks_few, names_few, live_few}
+use Rattle.un_lssa.proofs.FunctionSizes.{filter_few, saved_few, all_ops_few, names_few, live_few}
 use Rattle.un_lssa.proofs.KeptBlocks.{kinds, all_kept}
 use Rattle.un_lssa.proofs.LinearNumbers.{blocks_plain, numbers_blocks}
 
@@ -312,15 +312,11 @@ module _ (f : Function) (lists : List (List NameId)) (t : Table) (live : AreLive
   entry : 0 < length lin
   entry = let a = entry_there f in let b = lin_length in omega (arith, a, b)
 
-  few : length lin ≤ 16
-  few = let a = blocks_few f in let b = lin_length in omega (arith, a, b)
-
   -- the linear function of every function, under a fit table
   pub linear_kept : IsLinear (lin_of f lists t)
   linear_kept = record {
     good = record {
       entry = entry;
-      few = few;
       each = all_kept f lists t live args_there;
       numbered = numbers_whole (past_blocks t lists 0 0 f.blocks) (all_results lin) (numbers_blocks t count lists 0 0 f.blocks);
       leads = leads;
