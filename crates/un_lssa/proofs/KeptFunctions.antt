@@ -43,7 +43,7 @@ use Rattle.un_lssa.specs.Making.{past_blocks}
 use Rattle.un_lssa.proofs.BlockLaws.{few_names}
 use Rattle.un_lssa.proofs.EnterSim.{body_ending, rest_ending, any_true, contains_among, filter_has}
 use Rattle.un_lssa.proofs.FunctionRuns.{params_few, entry_param}
-use Rattle.un_lssa.proofs.FunctionSizes.{filter_few, saved_few, all_ops_few, names_few, live_few}
+use Rattle.un_lssa.proofs.FunctionSizes.{filter_few, saved_few, all_ops_few, blocks_few, names_few, live_few}
 use Rattle.un_lssa.proofs.KeptBlocks.{kinds, all_kept}
 use Rattle.un_lssa.proofs.LinearNumbers.{blocks_plain, numbers_blocks}
 
