@@ -2,3 +2,9 @@ pub mod RunTails
 pub mod RunGrowth
 pub mod RunBlocks
 pub mod RunFits
+pub mod ExtendKept
+pub mod ExtendShape
+pub mod ExtendParts
+pub mod ExtendFunction
+pub mod ExtendSize
+pub mod ExtendLinear

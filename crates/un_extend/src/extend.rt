@@ -3,7 +3,7 @@
 ghost use Rattle.std.specs.Prelude.{◌≡◌, ◌+◌, ◌*◌, [], true, IfOk};
 ghost use Rattle.un_extend.specs.Returns.{returns_by};
 ghost use Rattle.un_extend.specs.Runs.{RunsAsLinear};
-ghost use Rattle.un_ir.specs.Extended.{IsLinear};
+ghost use Rattle.un_ir.specs.Extended.{IsExtended, IsLinear};
 ghost use Rattle.un_ir.specs.ExtendOf.{grown_block, with_ops, extended_blocks, extend_of};
 
 use crate::ops::{is_return, push_all_extended};
@@ -116,6 +116,7 @@ fn extended_all(
 pub fn extend(alloc: Global, l: &Lssa) -> Result<Ext, NoMemory>
     ensures extended { IfOk result (λ e. e ≡ extend_of l.now) }
     ensures runs { IsLinear l.now → IfOk result (RunsAsLinear l.now) }
+    ensures kept { IsLinear l.now → IfOk result IsExtended }
 {
     let names = l.names.clone()?;
     let blocks = extended_all(alloc, l.names.as_slice(), l.blocks.as_slice())?;

@@ -4,3 +4,5 @@ mod ExtendValues
 pub mod NameBounds
 pub mod FunctionFacts
 mod SourceRows
+pub mod SourceFacts
+pub mod GoodOps

@@ -16,7 +16,7 @@ use Rattle.un_ir.specs.declared.function.Kind.TheVariants.{General, Pred}
 use Rattle.un_ir.specs.declared.function.SrcOp.{SrcOp}
 use Rattle.un_ir.specs.declared.function.Term.{Term}
 use Rattle.un_ir.specs.declared.function.Term.TheVariants.{Fall, Jump, Branch, Ret}
-use Rattle.un_ir.specs.declared.function.TheConstants.{PARAMS, FREQUENCY}
+use Rattle.un_ir.specs.declared.function.TheConstants.{BLOCKS, PARAMS, FREQUENCY}
 use Rattle.un_ir.specs.declared.extended.NodeCopy.{NodeCopy}
 use Rattle.un_ir.specs.declared.extended.NodeCopy.TheVariants.{D}
 use Rattle.un_ir.specs.declared.extended.ExtKind.{ExtKind}
@@ -236,6 +236,7 @@ HandsNamesOver blocks = (k l : ℕ) (a b : ExtBlock) → slice_get blocks k ≡ 
 -- the blocks of a linear or an extended function, under a limit of its size
 pub record AreGoodBlocks (t : Table) (names : List Kind) (blocks : List ExtBlock) (limit : ℕ) : Type 0 where
   pub entry : 0 < length blocks
+  pub few : length blocks ≤ BLOCKS
   pub each : All (IsGoodExtBlock t names blocks) blocks
   -- the temporaries are numbered in the order in which they are defined
   pub numbered : all_results blocks ≡ map temp (range_with_len 0 (length (all_results blocks)))

@@ -33,9 +33,9 @@ use Rattle.un_ir.specs.Live.{IsLive, used, kept, read_by, read_at, read_by_term,
 use Rattle.un_ir.specs.LinearOf.{AreLive, live_at, is_among, live_after, name_of, kind_of_pair, reads, name_operand, argument_operands, source_operands, kept_operands, out_operands_of, first_temps, assigned, past, body_op, body_ops, current_after, in_op, end_ops, out_op, past_all, past_block, linear_ops, linear_block, linear_blocks}
 use Rattle.un_ir.specs.Names.{kind_of}
 use Rattle.un_ir.specs.WellFormed.{IsOfKind, IsGoodOp, IsGoodBlock, AssignsItsKind, TestsItsKind, operand_kinds, result_kind}
-use Rattle.un_lssa.proofs.GoodOps.{zip_append, got_left, got_right, temps, Numbers, numbers_none, numbers_row, numbers_append, numbers_has, numbers_length, AreGoodOps, good_append, all_good, results_append}
+use Rattle.un_ir.proofs.GoodOps.{zip_append, got_left, got_right, temps, Numbers, numbers_none, numbers_row, numbers_append, numbers_has, numbers_length, AreGoodOps, good_append, all_good, results_append}
 use Rattle.un_ir.proofs.NameBounds.{at_all, live_name_small}
-use Rattle.un_lssa.proofs.SourceFacts.{good_block, source_op, Reads, reads_kinds, assigns_kind, kind_is}
+use Rattle.un_ir.proofs.SourceFacts.{good_block, source_op, Reads, reads_kinds, assigns_kind, kind_is}
 use Rattle.un_lssa.specs.Making.{past_blocks}
 use Rattle.un_lssa.proofs.Operands.{past_all_grows, saved_count}
 use Rattle.un_lssa.proofs.EnterSim.{first_temp, first_length, body_ending, rest_ending, any_found, among_contains, filter_all}

@@ -36,9 +36,9 @@ use Rattle.un_ir.specs.LinearOf.{AreLive, live_at, is_among, live_after, name_of
 use Rattle.un_ir.specs.Names.{kind_of}
 use Rattle.un_ir.specs.WellFormed.{IsOfKind, IsWellFormed, IsGoodOp, operand_kinds}
 use Rattle.un_ir.proofs.FunctionFacts.{entry_there, leads_inside}
-use Rattle.un_lssa.proofs.GoodOps.{temps, numbers_whole}
+use Rattle.un_ir.proofs.GoodOps.{temps, numbers_whole}
 use Rattle.un_ir.proofs.NameBounds.{at_all, live_name_small}
-use Rattle.un_lssa.proofs.SourceFacts.{good_block, Reads, reads_kinds, kind_is}
+use Rattle.un_ir.proofs.SourceFacts.{good_block, Reads, reads_kinds, kind_is}
 use Rattle.un_lssa.specs.Making.{past_blocks}
 use Rattle.un_lssa.proofs.BlockLaws.{few_names}
 use Rattle.un_lssa.proofs.EnterSim.{body_ending, rest_ending, any_true, contains_among, filter_has}
@@ -312,11 +312,15 @@ module _ (f : Function) (lists : List (List NameId)) (t : Table) (live : AreLive
   entry : 0 < length lin
   entry = let a = entry_there f in let b = lin_length in omega (arith, a, b)
 
+  few : length lin ≤ 16
+  few = let a = blocks_few f in let b = lin_length in omega (arith, a, b)
+
   -- the linear function of every function, under a fit table
   pub linear_kept : IsLinear (lin_of f lists t)
   linear_kept = record {
     good = record {
       entry = entry;
+      few = few;
       each = all_kept f lists t live args_there;
       numbered = numbers_whole (past_blocks t lists 0 0 f.blocks) (all_results lin) (numbers_blocks t count lists 0 0 f.blocks);
       leads = leads;

@@ -7,8 +7,6 @@ pub mod BodySim
 pub mod EnterSim
 pub mod RunSim
 pub mod FunctionRuns
-pub mod GoodOps
-pub mod SourceFacts
 pub mod LinearNumbers
 pub mod KeptBlocks
 pub mod KeptFunctions

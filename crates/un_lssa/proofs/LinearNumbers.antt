@@ -27,7 +27,7 @@ use Rattle.un_ir.specs.declared.extended.ExtOp.{ExtOp}
 use Rattle.un_ir.specs.declared.extended.ExtBlock.{ExtBlock}
 use Rattle.un_ir.specs.Extended.{temp, carried, carried_by, all_carried, results_of, all_results, defined_kinds, all_kinds, in_kinds, is_linear_kind, is_inner, AllAre, IsPlainOp}
 use Rattle.un_ir.specs.LinearOf.{live_at, live_after, reads, name_operand, argument_operands, source_operands, kept_operands, out_operands_of, first_temps, assigned, past, body_ops, current_after, in_op, end_ops, out_op, past_all, past_block, linear_ops, linear_block, linear_blocks}
-use Rattle.un_lssa.proofs.GoodOps.{temps, Numbers, numbers_none, numbers_row, numbers_append, numbers_whole, results_append}
+use Rattle.un_ir.proofs.GoodOps.{temps, Numbers, numbers_none, numbers_row, numbers_append, numbers_whole, results_append}
 use Rattle.un_lssa.specs.Making.{past_blocks}
 
 -- ---- one alternative an operand, and no copies

@@ -1,0 +1,2 @@
+//! The code of a solution, and the proof that its packets do what the extended function does.
+#![tactic(auto)]
