@@ -112,6 +112,16 @@ loads_and_stores =
 load_traps : told (enter loads_and_stores 5 0 (state (256 ∷ 258 ∷ 0 ∷ 0 ∷ []) ((256, 17) ∷ []) [])) ≡ (Trapped, (256, 258) ∷ [], [])
 load_traps = refl
 
+abbrev load_alone : List Block
+load_alone = block (codes "e") (op Load (Some 1) (0 ∷ []) (pos 0) ∷ []) (Ret (Some (name 1))) ∷ []
+
+-- nothing behind this load could trap in its place; a load of a word that is there returns it
+load_of_no_word_traps : told (enter load_alone 5 0 (state (260 ∷ 0 ∷ []) ((256, 17) ∷ []) [])) ≡ (Trapped, (256, 17) ∷ [], [])
+load_of_no_word_traps = refl
+
+load_of_a_word_returns : told (enter load_alone 5 0 (state (256 ∷ 0 ∷ []) ((256, 17) ∷ []) [])) ≡ (Returned (Some 17), (256, 17) ∷ [], [])
+load_of_a_word_returns = refl
+
 -- there is a word at 256 and none at 260
 store_traps : told (enter loads_and_stores 5 0 (state (256 ∷ 256 ∷ 0 ∷ 0 ∷ []) ((256, 17) ∷ []) [])) ≡ (Trapped, (256, 256) ∷ [], [])
 store_traps = refl
