@@ -8,11 +8,12 @@ use Rattle.std.specs.Option.{IfSome}
 use Rattle.std.specs.Result.{IfErr, IfOk, OnOk}
 use Rattle.un_base.specs.declared.status.Status.{Status}
 use Rattle.un_base.specs.declared.status.Status.TheVariants.{Done, Infeasible, Spent, TextFault, Usage, ReadFault, WriteFault, NoMemory, No, BadReport}
-use Rattle.un_reader.specs.Read.{too_long}
+use Rattle.un_ir.specs.declared.function.Function.{Function}
+use Rattle.un_reader.specs.Read.{IsRead, IsTextFault, too_long}
 use Rattle.un_reader.specs.declared.fault.Fault.TheVariants.{TooMany}
-use Rattle.un_top.specs.Faults.{IsFault, in_language}
+use Rattle.un_top.specs.Faults.{IsFault}
 use Rattle.un_top.specs.Reports.{IsReportOf}
-use Rattle.un_top.specs.Runs.{AnswersFault, IsRefusal}
+use Rattle.un_top.specs.Runs.{AnswersFault, AnswersAccepted, IsRefusal}
 use Rattle.un_top.proofs.FaultLaws.{fault_unique, read_has_no_fault}
 
 -- a text that is too long has its fault
@@ -20,7 +21,7 @@ pub too_long_fault : (told : Option (List ℕ)) (line code : ℕ) → 0 ≡ line
     → IfSome told (λ (bs : List ℕ). 65536 < length bs) → IfSome told (λ (text : List ℕ). IsFault text line code)
 too_long_fault None line code p q h = tt
 too_long_fault (Some text) line code p q h =
-    subst (λ (l : ℕ). IsFault text l code) p (subst (λ (k : ℕ). IsFault text 0 k) q (in_language 0 TooMany (too_long h)))
+    record { fault = TooMany; is = subst (λ (l : ℕ). IsTextFault text l TooMany) p (too_long h); coded = sym q }
 
 -- a status that is neither of those of writing comes from before it
 pub from_before : {T : Type 0} (outcome : Result T Status) (status s : Status) → IfErr outcome (λ e. status ≡ e)
@@ -50,6 +51,26 @@ pub answers_fault : (told : Option (List ℕ)) (outcome : Result (Vec ℕ Global
     → IfOk outcome (λ out. IfSome told (λ (text : List ℕ). IsReportOf text out.items))
     → IfSome told (λ (text : List ℕ). (line code : ℕ) → IsFault text line code → AnswersFault status line code)
 answers_fault None outcome status r e f o = tt
-answers_fault (Some text) (Ok out) status r e f o = λ line code h. absurd (read_has_no_fault text o.function line code o.read o.plain h)
+answers_fault (Some text) (Ok out) status r e f o = λ line code h. absurd (read_has_no_fault text o.function line code o.read h)
 answers_fault (Some text) (Err s) status r e f o = λ line code h.
     subst (λ (t : Status). AnswersFault t line code) (sym e) (refused_fault text line code s r (λ l c k. f l c (ap Err k)) h)
+
+-- a status that tells a fault only where the text has one is no fault for an accepted text
+pub accepted_by : (text : List ℕ) (f : Function) (status : Status) → IsRead text f
+    → ((line code : ℕ) → status ≡ TextFault line code → IsFault text line code) → AnswersAccepted status
+accepted_by text f (TextFault line code) read told = read_has_no_fault text f line code read (told line code refl)
+accepted_by text f Done read told = tt
+accepted_by text f Infeasible read told = tt
+accepted_by text f Spent read told = tt
+accepted_by text f (Usage place) read told = tt
+accepted_by text f ReadFault read told = tt
+accepted_by text f WriteFault read told = tt
+accepted_by text f NoMemory read told = tt
+accepted_by text f (No cause) read told = tt
+accepted_by text f (BadReport line) read told = tt
+
+pub answers_accepted : (told : Option (List ℕ)) (status : Status)
+    → ((line code : ℕ) → status ≡ TextFault line code → IfSome told (λ (text : List ℕ). IsFault text line code))
+    → IfSome told (λ (text : List ℕ). (f : Function) → IsRead text f → AnswersAccepted status)
+answers_accepted None status fault = tt
+answers_accepted (Some text) status fault = λ f read. accepted_by text f status read fault

@@ -2,7 +2,6 @@
 use Rattle.std.proofs.Common.{ℕ, zero, suc, ◌≡◌, ◌+◌, ◌<◌, ◌≤◌, ◌⊎◌, inl, inr, List, [], ◌∷◌, Some, None, Option, unwrap_or, length, slice_get, refl, sym, ap, ◌∙◌, subst, arith}
 use Rattle.std.proofs.lemmas.Bool.{cases_lt}
 use Rattle.un_ir.specs.declared.function.Function.{Function}
-use Rattle.un_plain.specs.Plain.{IsPlain}
 use Rattle.un_reader.specs.Codes.{code_of}
 use Rattle.un_reader.specs.LineFaults.{fault_at}
 use Rattle.un_reader.specs.Lines.{HasNoLineFault, IsFirstLineFault, shapes_in}
@@ -11,9 +10,7 @@ use Rattle.un_reader.specs.Read.{IsRead, IsTextFault, too_long, on_line, in_whol
 use Rattle.un_reader.specs.declared.fault.Fault.{Fault}
 use Rattle.un_reader.specs.declared.fault.Fault.TheVariants.{TooMany}
 use Rattle.un_reader.proofs.OneAnswer.{no_line_fault, language_or_fault}
-use Rattle.un_reader.proofs.PartLaws.{one_function}
-use Rattle.un_top.proofs.BuiltLaws.{not_built_line_unique}
-use Rattle.un_top.specs.Faults.{IsFault, in_language, not_built}
+use Rattle.un_top.specs.Faults.{IsFault}
 
 first_line_unique : (lines : List (List ℕ)) (l line : ℕ) (f fault : Fault) → IsFirstLineFault lines l f → IsFirstLineFault lines line fault → (l ≡ line) × (f ≡ fault)
 first_line_unique lines l line f fault a b = by (cases_lt a.place b.place)
@@ -57,13 +54,9 @@ language_unique text _ _ _ _ (at_entry name within none whole live) (at_entry na
 
 -- a text has one fault
 pub fault_unique : (text : List ℕ) (l c line code : ℕ) → IsFault text l c → IsFault text line code → (l ≡ line) × (c ≡ code)
-fault_unique text _ _ _ _ (in_language l f a) (in_language line fault b) =
-    let same = language_unique text l line f fault a b in (same.0, ap code_of same.1)
-fault_unique text _ _ _ _ (in_language l f a) (not_built function line read other odd) = absurd (language_or_fault text function l f read a)
-fault_unique text _ _ _ _ (not_built function l read other odd) (in_language line fault b) = absurd (language_or_fault text function line fault read b)
-fault_unique text _ _ _ _ (not_built f l read other odd) (not_built function line read' other' odd') = (not_built_line_unique text l line odd odd', refl)
+fault_unique text l c line code a b =
+    let same = language_unique text l line a.fault b.fault a.is b.is in (same.0, a.coded ∙ (ap code_of same.1 ∙ sym b.coded))
 
--- the text of a plain function has no fault
-pub read_has_no_fault : (text : List ℕ) (f : Function) (line code : ℕ) → IsRead text f → IsPlain f → IsFault text line code → ⊥
-read_has_no_fault text f _ _ read plain (in_language line fault h) = language_or_fault text f line fault read h
-read_has_no_fault text f _ _ read plain (not_built function line read' other odd) = other (subst IsPlain (one_function (shapes_in text) f function read.is read'.is) plain)
+-- the text of a function has no fault
+pub read_has_no_fault : (text : List ℕ) (f : Function) (line code : ℕ) → IsRead text f → IsFault text line code → ⊥
+read_has_no_fault text f line code read h = language_or_fault text f line h.fault read h.is

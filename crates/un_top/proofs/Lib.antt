@@ -1,5 +1,6 @@
 pub mod Answered
-pub mod BuiltLaws
+pub mod BoundLaws
+pub mod CodeLaws
 pub mod FaultLaws
 pub mod Firsts
 pub mod Parts

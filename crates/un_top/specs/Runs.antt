@@ -30,6 +30,11 @@ AnswersFault ReadFault line code = Unit {0}
 AnswersFault NoMemory line code = Unit {0}
 AnswersFault _ line code = ⊥
 
+-- an accepted text is refused with no fault
+abbrev pub AnswersAccepted : Status → Type 0
+AnswersAccepted (TextFault line code) = ⊥
+AnswersAccepted _ = Unit {0}
+
 -- the statuses of today's command
 abbrev pub IsAnswer : Status → Type 0
 IsAnswer Infeasible = ⊥
@@ -52,7 +57,7 @@ IsRefusal ReadFault = Unit {0}
 IsRefusal NoMemory = Unit {0}
 IsRefusal _ = ⊥
 
--- the name of a fault of a text
+-- the name of a fault of a text, and none for another number
 abbrev pub fault_name : ℕ → List ℕ
 fault_name code =
     if nat_eq code 1 then codes "BadByte" else
@@ -68,7 +73,7 @@ fault_name code =
     if nat_eq code 11 then codes "MixedResult" else
     if nat_eq code 12 then codes "LiveAtEntry" else
     if nat_eq code 13 then codes "TooMany" else
-    if nat_eq code 14 then codes "BadFreq" else codes "NotBuilt"
+    if nat_eq code 14 then codes "BadFreq" else []
 
 -- a text, a number and a line feed
 abbrev pub numbered : List ℕ → ℕ → List ℕ

@@ -2,21 +2,21 @@
 
 ghost use Rattle.std.specs.Prelude.{◌≡◌, IfOk};
 ghost use Rattle.un_isa.specs.Hexagon.{HEXAGON};
-ghost use Rattle.un_plain.specs.Plain.{IsPlain};
-ghost use Rattle.un_plain_ext.specs.PlainExt.{plain_ext};
-ghost use Rattle.un_plain_model.specs.Straight.{IsModel, IsStraightExt};
-ghost use Rattle.un_plain_model.specs.Variables.{model_of};
-ghost use Rattle.un_top.specs.Reports.{IsCodeOf, default_options};
+ghost use Rattle.un_model.specs.Extended.{HasSmallCounts};
+ghost use Rattle.un_model.specs.Solutions.{IsSolution};
+ghost use Rattle.un_model.specs.Variables.{IsModel};
+ghost use Rattle.un_problem.specs.Problems.{IsModelOf, default_options};
+ghost use Rattle.un_top.specs.Reports.{IsCodeOf};
 
+use un_problem::problem::{default_options, model};
 use std::alloc::Global;
 use un_base::memory_error::NoMemory;
+use un_baseline::spill::spill_everywhere;
+use un_emit::emission::emit;
 use un_ir::function::Function;
+use un_model::cost::cost;
+use un_model::model::{Model, Solution};
 use un_packet::code::Code;
-use un_plain_emit::emission::emit;
-use un_plain_model::cost::cost;
-use un_plain_model::model::Model;
-use un_plain_solution::plain_model::plain_model;
-use un_plain_solution::plain_solution::plain_solution;
 
 /// Code with its cost.
 #[derive(Drop)]
@@ -25,29 +25,44 @@ pub struct Costed {
     pub cost: u64,
 }
 
-/// The code of a solution of a plain function's model, the one that issues one operation a cycle, with its cost.
-fn code_by(alloc: Global, f: &Function, model: &Model) -> Result<Costed, NoMemory>
-    requires plain { IsPlain f.now }
-    requires model { model.now ≡ model_of (plain_ext HEXAGON f.now) default_options }
-    requires ext { model.now.ext ≡ plain_ext HEXAGON f.now }
+/// The code of a solution of a function's model, with its cost.
+fn code_by(
+    alloc: Global,
+    f: &Function,
+    model: &Model,
+    solution: &Solution,
+) -> Result<Costed, NoMemory>
+    requires model { IsModelOf HEXAGON f.now default_options model.now }
     requires own { IsModel model.now }
-    requires straight { IsStraightExt model.now.ext }
+    requires counts { HasSmallCounts model.now.ext }
+    requires solution { IsSolution model.now solution.now }
     ensures { IfOk result (λ c. IsCodeOf HEXAGON f.now c.code c.cost) }
 {
-    let solution = plain_solution(alloc, f, model)?;
-    let code = emit(alloc, f, &model.ext, model, &solution)?;
-    let cost = cost(model, &solution);
+    let code = emit(alloc, f, &model.ext, model, solution)?;
+    let cost = cost(model, solution);
     Ok(Costed { code, cost })
 }
 
-/// The code of a plain function, by the solution of its model that issues one operation a cycle, with its cost.
+/// The code of the solution of a function's model that keeps each name in a frame slot, with its cost.
+fn spilled_code(alloc: Global, f: &Function, model: &Model) -> Result<Costed, NoMemory>
+    requires model { IsModelOf HEXAGON f.now default_options model.now }
+    requires own { IsModel model.now }
+    requires counts { HasSmallCounts model.now.ext }
+    ensures { IfOk result (λ c. IsCodeOf HEXAGON f.now c.code c.cost) }
+{
+    let solution = spill_everywhere(alloc, model)?;
+    let costed = code_by(alloc, f, model, &solution)?;
+    Ok(costed)
+}
+
+/// The code of a function, by the solution of its model that keeps each name in a frame slot of its own, with its cost.
 ///
 /// # Errors
 /// `NoMemory` where there is no memory for the function's model or its code.
 pub fn costed_code(alloc: Global, f: &Function) -> Result<Costed, NoMemory>
-    requires { IsPlain f.now }
     ensures { IfOk result (λ c. IsCodeOf HEXAGON f.now c.code c.cost) }
 {
-    let model = plain_model(alloc, f)?;
-    code_by(alloc, f, &model)
+    let model = model(alloc, f, &default_options())?;
+    let costed = spilled_code(alloc, f, &model)?;
+    Ok(costed)
 }

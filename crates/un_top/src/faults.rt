@@ -11,7 +11,7 @@ use un_base::outside::{Failed, Sink};
 use un_base::status::Status;
 use un_base::transfer::write_all;
 
-/// The name of a fault of a text.
+/// The name of a fault of a text, and none for another number.
 fn fault_name(code: u8) -> &'static [u8]
     ensures { result.now ≡ fault_name code }
 {
@@ -30,7 +30,7 @@ fn fault_name(code: u8) -> &'static [u8]
         12 => b"LiveAtEntry",
         13 => b"TooMany",
         14 => b"BadFreq",
-        _ => b"NotBuilt",
+        _ => b"",
     }
 }
 

@@ -1,24 +1,23 @@
 //! The whole output, before anything is written.
 
-ghost use Rattle.std.specs.Prelude.{◌≡◌, ℕ, ◌+◌, ◌<◌, ◌≤◌, ◌*◌, ◌/◌, ◌^◌, Ok, Err, IfSome, IfOk, IfErr, length, sum_by, slice_get, Some};
+ghost use Rattle.std.specs.Prelude.{◌≡◌, ℕ, ◌≤◌, Ok, Err, IfSome, IfOk, IfErr, length};
 ghost use Rattle.std.specs.Io.KnownBytes.{IsAtEnd};
 ghost use Rattle.un_base.specs.Causes.{Rose};
-ghost use Rattle.un_plain.specs.Plain.{IsPlain};
-ghost use Rattle.un_built.specs.Built.{IsNotBuiltLine};
+ghost use Rattle.un_reader.specs.Read.{IsRead};
 ghost use Rattle.un_top.specs.Faults.{IsFault};
-ghost use Rattle.un_top.specs.Reports.{IsReportOf, full_packets};
+ghost use Rattle.un_top.specs.Reports.{IsReportOf};
 ghost use Rattle.un_top.specs.Words.{IsCommand, IsBadWord};
 ghost use Rattle.un_top.specs.Runs.{IsTextRefusal, IsRefusal};
 
+use crate::bound::full_packets;
 use crate::code::costed_code;
 use crate::words::check_words;
 use std::alloc::Global;
+use un_base::memory_error::NoMemory;
 use un_base::outside::Source;
 use un_base::status::Status;
 use un_base::transfer::{ReadAll, read_all};
 use un_base::words::Word;
-use un_built::odd_line::not_built_line;
-use un_built::plain::is_plain;
 use un_ir::function::Function;
 use un_listing::report::print_first_report;
 use un_reader::error::ReadError;
@@ -28,34 +27,15 @@ use un_reader::read::read_function;
 /// The code of a text that is too long.
 const TOO_MANY: u8 = 13;
 
-/// The code of a function that is not built yet.
-const NOT_BUILT: u8 = 15;
-
-/// The number of full packets, weighted by frequency.
-fn bound(f: &Function) -> u64
-    requires { IsPlain f.now }
-    ensures { result ≡ full_packets f.now }
+/// The report of a function's text.
+fn report_of(alloc: Global, text: &[u8], f: &Function) -> Result<Vec<u8>, NoMemory>
+    requires { IsRead text.now f.now }
+    ensures { IfOk result (λ out. IsReportOf text.now out.items) }
 {
-    match f.blocks.as_slice() {
-        [block] => u64::from(block.freq) * ((block.ops.len() as u64 + 4) / 4),
-        _ => 0,
-    }
-}
-
-/// The fault of an accepted text whose function is not built yet.
-fn not_built(alloc: Global, text: &[u8]) -> Status
-    requires { length text.now ≤ TEXT }
-    ensures fault { (line code : ℕ) → result ≡ Status.TextFault line code
-        → IsNotBuiltLine text.now line × (code ≡ NOT_BUILT) }
-    ensures only { IsTextRefusal result }
-{
-    match not_built_line(alloc, text) {
-        Ok(line) => Status::TextFault {
-            line,
-            code: NOT_BUILT,
-        },
-        Err(_) => Status::NoMemory,
-    }
+    let _ = text;
+    let costed = costed_code(alloc, f)?;
+    let report = print_first_report(alloc, costed.cost, full_packets(f), &costed.code)?;
+    Ok(report)
 }
 
 /// The report of a text.
@@ -72,13 +52,7 @@ fn report(alloc: Global, text: &[u8]) -> Result<Vec<u8>, Status>
             return Err(Status::TextFault { line, code });
         }
     };
-    if !is_plain(&f) {
-        return Err(not_built(alloc, text));
-    }
-    let Ok(costed) = costed_code(alloc, &f) else {
-        return Err(Status::NoMemory);
-    };
-    match print_first_report(alloc, costed.cost, bound(&f), &costed.code) {
+    match report_of(alloc, text, &f) {
         Ok(out) => Ok(out),
         Err(_) => Err(Status::NoMemory),
     }

@@ -3,9 +3,11 @@
 ghost use Rattle.std.specs.Prelude.{◌≡◌, ℕ, ◌⊎◌, ◌<◌, ◌≤◌, Ok, Err, IfSome, IfOk, IfErr, OnOk, OnErr};
 ghost use Rattle.std.specs.Io.KnownBytes.{Appends, IsAtEnd};
 ghost use Rattle.un_base.specs.Causes.{Rose, AppendsPrefix};
+ghost use Rattle.un_ir.specs.declared.function.Function.{Function};
+ghost use Rattle.un_reader.specs.Read.{IsRead};
 ghost use Rattle.un_top.specs.Faults.{IsFault};
 ghost use Rattle.un_top.specs.Words.{IsCommand, IsBadWord};
-ghost use Rattle.un_top.specs.Runs.{OutAfter, KeepsOut, AnswersFault, IsAnswer, IsRefusal, line_of};
+ghost use Rattle.un_top.specs.Runs.{OutAfter, KeepsOut, AnswersFault, AnswersAccepted, IsAnswer, IsRefusal, line_of};
 
 use crate::faults::write_line;
 use crate::produce::produce;
@@ -63,6 +65,7 @@ pub fn run<S: Source, K: Sink, E: Sink>(
         → IfSome (S.left src.old) (λ text. IsFault text line code) }
     ensures exactly_fault { IfSome (S.left src.old) (λ text. (line code : ℕ) → IsFault text line code
         → AnswersFault result line code) }
+    ensures accepted { IfSome (S.left src.old) (λ text. (f : Function) → IsRead text f → AnswersAccepted result) }
     ensures write { result ≡ Status.WriteFault → Rose (K.faults out.old) (K.faults out.new) }
 
     // The line for the status goes to `err`, whole where its count did not rise.

@@ -1,9 +1,17 @@
-use Rattle.std.proofs.Common.{sym, subst}
-use Rattle.un_ir.specs.declared.extended.Ext.{Ext}
-use Rattle.un_isa.proofs.HexagonTable.{hexagon_fit}
-use Rattle.un_isa.specs.Fit.{IsFit}
+use Rattle.un_top.proofs.CodeLaws.{own_options, code_is}
+use Rattle.un_isa.specs.Hexagon.{HEXAGON}
+use Rattle.un_problem.proofs.ProblemLaws.{of_function, fit_table}
 use Rattle.un_top.proofs.code.code_by.Goals as goal
 
--- the processor's table is one that the compiler works for
-pub emit-requires-clause-fit : goal.emit-requires-clause-fit
-emit-requires-clause-fit c = subst (λ (e : Ext). IsFit e.table) (sym c.requires.ext) hexagon_fit
+pub emit-requires : goal.emit-requires
+emit-requires c =
+    let f = c.args.f.now in
+    let m = c.args.model.now in
+    let is = c.requires.model in
+    record {
+      extended = of_function HEXAGON f m.ext is.ext;
+      fit = fit_table f m.ext is.ext;
+      options = own_options HEXAGON f m is;
+      model = c.requires.own;
+      solution = c.requires.solution;
+    }

@@ -1,2 +1,0 @@
-pub mod OddLaws
-pub mod PlainLaws

@@ -1,4 +1,0 @@
-//! The code of solutions.
-#![tactic(auto)]
-
-pub mod emission;

@@ -1,5 +1,0 @@
-use Rattle.un_plain_model.proofs.HomeMasks.{added}
-use Rattle.un_plain_model.proofs.homes.add_home.Goals as goal
-
-pub returns-in-Ok : goal.returns-in-Ok
-returns-in-Ok c = λ y r lt. added c.args.homes.now c.insert.new.self c.args.x y c.args.r r c.mask-old.result c.mask-old.ensures c.in-Ok.ensures.updates c.requires

@@ -1,0 +1,65 @@
+-- What the code of a function rests on.
+use Rattle.std.proofs.Common.{ℕ, ◌≡◌, List, refl, sym, ap, ◌∙◌, subst}
+use Rattle.un_base.specs.declared.ids.NameId.{NameId}
+use Rattle.un_isa.specs.Fit.{IsFit}
+use Rattle.un_isa.specs.Hexagon.{HEXAGON}
+use Rattle.un_isa.specs.declared.table.Table.{Table}
+use Rattle.un_ir.specs.declared.extended.Ext.{Ext}
+use Rattle.un_ir.specs.declared.function.Function.{Function}
+use Rattle.un_ir.specs.ExtendOf.{extend_of}
+use Rattle.un_ir.specs.LinearOf.{AreLive, lin_of}
+use Rattle.un_model.specs.Cost.{cost_of}
+use Rattle.un_model.specs.Options.{AreOptions}
+use Rattle.un_model.specs.Solutions.{IsSolution}
+use Rattle.un_model.specs.Variables.{model_of}
+use Rattle.un_model.specs.declared.model.Model.{Model}
+use Rattle.un_model.specs.declared.model.Options.{Options}
+use Rattle.un_model.specs.declared.model.Solution.{Solution}
+use Rattle.un_packet.specs.declared.code.Code.{Code}
+use Rattle.un_problem.specs.Problems.{IsExtOf, IsModelOf, default_options}
+use Rattle.un_problem.proofs.ProblemLaws.{small_names, default_are, of_function, fit_table, table_is, options_are, own_model}
+use Rattle.un_simulation.specs.Count.{count_of}
+use Rattle.un_simulation.specs.Simulation.{Simulates}
+use Rattle.un_baseline.specs.RoomyOptions.{AreRoomy, IsOfFunction, IsSpillable}
+use Rattle.un_emit.specs.Emitted.{IsEmitted, start_register}
+use Rattle.un_top.specs.Reports.{IsCodeOf}
+
+-- default options leave each name a slot, and one more
+roomy : (t : Table) (f : Function) (m : Model) → IsModelOf t f default_options m → AreRoomy m.ext m.options
+roomy t f m is =
+    subst (λ (o : Options). AreRoomy m.ext o) (sym (options_are t f default_options m is))
+    (record { options = default_are; regs = tt; slots = small_names t f m.ext is.ext })
+
+is_of_function : (f : Function) (e : Ext) → IsExtOf HEXAGON f e → IsOfFunction e
+is_of_function f e is = let h = of_function HEXAGON f e is in record { function = f; lists = h.0; live = h.1; extended = h.2 }
+
+-- so all of its names can be spilled
+pub spillable : (f : Function) (m : Model) → IsModelOf HEXAGON f default_options m → IsSpillable m
+spillable f m is = record {
+  model = own_model HEXAGON f default_options m is;
+  table = fit_table f m.ext is.ext;
+  function = is_of_function f m.ext is.ext;
+  roomy = roomy HEXAGON f m is;
+}
+
+pub own_options : (t : Table) (f : Function) (m : Model) → IsModelOf t f default_options m → AreOptions m.options
+own_options t f m is = subst AreOptions (sym (options_are t f default_options m is)) default_are
+
+-- the code of a solution, with its cost
+pub code_is : (f : Function) (m : Model) (s : Solution) (code : Code) (cost : ℕ) → IsModelOf HEXAGON f default_options m → IsSolution m s
+    → IsEmitted m s code → Simulates m.ext.table f (start_register m s) code → count_of f code ≡ cost_of m s → cost ≡ cost_of m s
+    → IsCodeOf HEXAGON f code cost
+code_is f m s code cost is solves emitted simulates counted costs =
+    let e = is.ext in
+    record {
+      live = e.live;
+      are_live = e.are_live;
+      model = m;
+      is_model = is.is_model ∙ ap (λ (x : Ext). model_of x default_options) e.is_extended;
+      solution = s;
+      is_solution = solves;
+      is_emitted = emitted;
+      is_cost = costs;
+      counted = costs ∙ sym counted;
+      simulates = subst (λ (t : Table). Simulates t f (start_register m s) code) (table_is HEXAGON f m.ext e) simulates;
+    }

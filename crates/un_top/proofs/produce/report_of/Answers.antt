@@ -1,0 +1,15 @@
+use Rattle.std.proofs.Common.{ℕ, ap, ◌∙◌}
+use Rattle.un_listing.specs.Report.{first_report_text}
+use Rattle.un_top.proofs.produce.report_of.Goals as goal
+
+pub returns : goal.returns
+returns c =
+    let costed = c.in_ok-costed.costed in
+    record {
+      function = c.args.f.now;
+      read = c.requires;
+      code = costed.code;
+      cost = costed.cost;
+      built = c.in_ok-costed.ensures;
+      printed = c.in_ok-report.ensures ∙ ap (λ (n : ℕ). first_report_text costed.cost n costed.code) c.full_packets.ensures;
+    }
