@@ -4,8 +4,8 @@
 set -eu
 top=$(cd "$(dirname "$0")/.." && pwd)
 . "$top/bench/block.sh"
-binary=$top/crates/time_violations/out/time_violations
-[ -x "$binary" ] || (cd "$top/crates/time_violations" && rt run <stdin >/dev/null)
+binary=$top/crates/time_model/out/time_model
+[ -x "$binary" ] || (cd "$top/crates/time_model" && rt run <stdin >/dev/null)
 
 text=$(mktemp)
 trap 'rm -f "$text"' EXIT
@@ -14,5 +14,5 @@ for ops in 10 20 40 80; do
   start=$(date +%s%N)
   "$binary" <"$text" >/dev/null
   end=$(date +%s%N)
-  printf '%-24s %8d ns\n' "$ops operations" $(((end - start) / 1000))
+  printf '%-24s %8d ns\n' "$ops operations" $(((end - start) / 200))
 done

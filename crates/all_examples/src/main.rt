@@ -11,15 +11,20 @@ use un_base::words::Word;
 use un_top::run::run;
 
 /// The names of the examples: `NAME.uni` has the function, `NAME.out` what is written.
-static EXAMPLES: [&str; 9] = [
+static EXAMPLES: [&str; 14] = [
     "absolute",
-    "call",
-    "constant",
+    "checksum",
+    "copy",
     "dot",
-    "fibonacci",
+    "gcd",
+    "grade",
     "loop",
     "maximum",
+    "pass",
+    "population",
+    "search",
     "sum",
+    "total",
     "wide",
 ];
 
