@@ -1,7 +1,5 @@
-//! Tests of the whole program over sources and sinks in memory, and of the plain form's parts.
+//! Tests of the whole program over sources and sinks in memory.
 #![tactic(auto)]
 
-#[cfg(test)]
-mod plain;
 #[cfg(test)]
 mod runs;

@@ -7,17 +7,21 @@ use un_base::status::Status;
 use un_base::words::Word;
 use un_top::run::run;
 
-/// A sum of two constants.
-const SUM: &[u8] =
-    b"func f\nblock e freq 3\n  %a = imm #1\n  %b = imm #2\n  %c = add %a, %b\n  ret %c\n";
+/// The smallest function.
+const SMALLEST: &[u8] = b"func f\nblock e freq 1\n  ret\n";
 
 /// The same in another spelling.
 const SPELLED: &[u8] =
-    b"; a sum\r\nfunc f\r\n\r\nblock e freq 003 ; often\r\n%a=imm #1\r\n\t%b =imm #02\r\n%c = add %a ,%b\r\nret %c";
+    b"; the smallest\r\n\r\nfunc f\r\n\tblock e freq 001 ; once\r\n\r\nret ; at once";
 
 /// The report of both.
 const REPORT: &[u8] =
-    b"cost 12\nbound 3\nframe 0\nblock e\n{ r1 = #1 }\n{ r2 = #2 }\n{ r0 = add(r1,r2) }\n{ jumpr r31 }\n";
+    b"cost 6\nbound 1\nframe 8\nblock e\n{ r29 = add(r29,#-8) }\n{ memw(r29+#0) = r31 }\n{ r31 = memw(r29+#0) }\n{ nop }\n{ r29 = add(r29,#8) }\n{ jumpr r31 }\n";
+
+/// A sum of two parameters that runs often, and the first two lines of its report.
+const SUM: &[u8] = b"func g %a %b\nblock e freq 10\n  %c = add %a, %b\n  ret %c\n";
+
+const SUM_COSTS: &[u8] = b"cost 160\nbound 10\n";
 
 /// How many bytes a call of the source or of `out` moves, how many bytes `out` holds, and the numbers of the calls that
 /// fail, where 99 is none.
@@ -84,19 +88,19 @@ fn leaves(
     Ok(status == want.status && out.bytes() == want.out && err.bytes() == want.err)
 }
 
-/// What is left where the sum's report was written.
+/// What is left where the smallest function's report was written.
 const DONE: Want<'static> = Want {
     status: Status::Done,
     out: REPORT,
     err: b"",
 };
 
-/// Whether the report of a sum is written, by pieces of any size and in any spelling.
-fn sums_are_reported(alloc: Global) -> Result<bool, Fail> {
+/// Whether the report of the smallest function is written, by pieces of any size and in any spelling.
+fn the_smallest_is_reported(alloc: Global) -> Result<bool, Fail> {
     let slow = Outside { piece: 1, ..SOUND };
     Ok(
-        leaves(alloc, &["alloc"], SUM, SOUND, DONE)?
-            && leaves(alloc, &["alloc"], SUM, slow, DONE)?
+        leaves(alloc, &["alloc"], SMALLEST, SOUND, DONE)?
+            && leaves(alloc, &["alloc"], SMALLEST, slow, DONE)?
             && leaves(alloc, &["alloc"], SPELLED, SOUND, DONE)?,
     )
 }
@@ -117,15 +121,15 @@ fn words_are_refused(alloc: Global) -> Result<bool, Fail> {
             out: b"",
             err: line,
         };
-        if !leaves(alloc, words, SUM, SOUND, want)? {
+        if !leaves(alloc, words, SMALLEST, SOUND, want)? {
             return Ok(false);
         }
     }
     Ok(true)
 }
 
-/// Texts with a fault of the input language, or of a function that is not built, with the line on `err`.
-static FAULTS: [(&[u8], u32, u8, &[u8]); 20] = [
+/// Texts with a fault of the input language, with its line and its code, and the line on `err`.
+static FAULTS: [(&[u8], u32, u8, &[u8]); 14] = [
     (b"", 1, 6, b"line 1: 6 NoBlock\n"),
     (
         b"func f\nblock e freq 0\n  ret\n",
@@ -195,42 +199,6 @@ static FAULTS: [(&[u8], u32, u8, &[u8]); 20] = [
         13,
         b"line 1: 13 TooMany\n",
     ),
-    (
-        b"func f\nblock e freq 1\n  ret\n",
-        3,
-        15,
-        b"line 3: 15 NotBuilt\n",
-    ),
-    (
-        b"func f %a\nblock e freq 1\n  ret %a\n",
-        1,
-        15,
-        b"line 1: 15 NotBuilt\n",
-    ),
-    (
-        b"func f\nblock e freq 1\n  %a = imm #1\n  %b = sub %a, %a\n  ret %b\n",
-        4,
-        15,
-        b"line 4: 15 NotBuilt\n",
-    ),
-    (
-        b"func f\nblock e freq 1\n  %a = imm #1\n\n  store %a, #0, %a\n  ret %a\n",
-        5,
-        15,
-        b"line 5: 15 NotBuilt\n",
-    ),
-    (
-        b"func f\nblock e freq 1\n  %a = imm #1\nblock g freq 2\n  ret %a\n",
-        4,
-        15,
-        b"line 4: 15 NotBuilt\n",
-    ),
-    (
-        b"func f\nblock e freq 1\n  %a = imm #1\n  $p = cmpeqi %a, #1\n  ret %a\n",
-        4,
-        15,
-        b"line 4: 15 NotBuilt\n",
-    ),
 ];
 
 /// Whether texts are refused at their first fault.
@@ -284,7 +252,7 @@ fn faults_of_reading_are_told(alloc: Global) -> Result<bool, Fail> {
             read_fails: call,
             ..SOUND
         };
-        if !leaves(alloc, &["alloc"], SUM, outside, want)? {
+        if !leaves(alloc, &["alloc"], SMALLEST, outside, want)? {
             return Ok(false);
         }
     }
@@ -305,7 +273,7 @@ fn faults_of_writing_are_told(alloc: Global) -> Result<bool, Fail> {
             out: &REPORT[..before],
             err: b"write fault\n",
         };
-        if !leaves(alloc, &["alloc"], SUM, outside, want)? {
+        if !leaves(alloc, &["alloc"], SMALLEST, outside, want)? {
             return Ok(false);
         }
     }
@@ -317,7 +285,7 @@ fn full_sinks_are_told(alloc: Global) -> Result<bool, Fail> {
     let little = Outside { room: 10, ..SOUND };
     let full = Want {
         status: Status::WriteFault,
-        out: b"cost 12\nbo",
+        out: b"cost 6\nbou",
         err: b"write fault\n",
     };
     let silent = Outside {
@@ -330,9 +298,26 @@ fn full_sinks_are_told(alloc: Global) -> Result<bool, Fail> {
         err: b"",
     };
     Ok(
-        leaves(alloc, &["alloc"], SUM, little, full)?
+        leaves(alloc, &["alloc"], SMALLEST, little, full)?
             && leaves(alloc, &["alloc"], b"", silent, unheard)?,
     )
+}
+
+/// Whether the report of a sum begins with its costs: each operand is reloaded, each result is spilled.
+fn sums_are_reported(alloc: Global) -> Result<bool, Fail> {
+    let words = words_of(alloc, &["alloc"])?;
+    let mut src = source(alloc, SUM, SOUND)?;
+    let mut out = sink(alloc, 4096, 4096, 99)?;
+    let mut err = sink(alloc, 4096, 4096, 99)?;
+    let status = run(alloc, words.as_slice(), &mut src, &mut out, &mut err);
+    Ok(status == Status::Done && out.bytes().starts_with(SUM_COSTS))
+}
+
+#[test]
+fn reports_the_smallest_function(rt: HostRuntime) -> Result<(), Fail> {
+    let well = the_smallest_is_reported(rt.alloc())?;
+    assert!(rt; well);
+    Ok(())
 }
 
 #[test]
