@@ -1,7 +1,11 @@
 //! Runs the program on each example beside it, and compares what it writes, on `out` and then on `err`, with the file that
-//! is expected.
+//! is expected, and what the function and its code do from some starts with what a twin in C does.
 #![tactic(auto)]
 
+mod rows;
+mod runs;
+
+use crate::runs::wrong_runs;
 use std::alloc::Global;
 use std::rt::Files;
 use std::{fs, io};
@@ -43,24 +47,36 @@ fn written(alloc: Global, text: &[u8]) -> Result<Vec<u8>, NoMemory> {
     Ok(all)
 }
 
-/// Whether an example's output is the expected one.
-fn is_as_expected(rt: &(impl Files + AllocGlobal), name: &str) -> io::Result<bool> {
+/// Whether what is written for a text is the expected one.
+fn is_as_expected(alloc: Global, text: &[u8], want: &[u8]) -> Result<bool, NoMemory> {
+    let all = written(alloc, text)?;
+    Ok(all.as_slice() == want)
+}
+
+/// What is said of an example's output.
+fn verdict(expected: Result<bool, NoMemory>) -> &'static str {
+    match expected {
+        Ok(true) => "as expected",
+        Ok(false) => "otherwise",
+        Err(_) => "no memory",
+    }
+}
+
+/// Says of an example whether its output is the expected one, and how many of its runs are not as its twin's.
+fn tell(rt: &(impl Files + Stdout + AllocGlobal), name: &str) -> io::Result<()> {
     let text = fs::read_to_string(rt, format!(in rt.alloc(); "{name}.uni")?.as_str())?;
     let want = fs::read_to_string(rt, format!(in rt.alloc(); "{name}.out")?.as_str())?;
-    match written(rt.alloc(), text.as_str().as_bytes()) {
-        Ok(all) => Ok(all.as_slice() == want.as_str().as_bytes()),
-        Err(_) => Ok(false),
+    let bytes = text.as_str().as_bytes();
+    let said = verdict(is_as_expected(rt.alloc(), bytes, want.as_str().as_bytes()));
+    match wrong_runs(rt.alloc(), name, bytes) {
+        Ok((wrong, all)) => println!(rt; "{name}: {said}, {wrong} of {all} runs otherwise"),
+        Err(_) => println!(rt; "{name}: {said}, no memory for its runs"),
     }
 }
 
 fn main(rt: HostRuntime) -> io::Result<()> {
     for name in EXAMPLES {
-        let answer = if is_as_expected(&rt, name)? {
-            "as expected"
-        } else {
-            "otherwise"
-        };
-        println!(rt; "{name}: {answer}")?;
+        tell(&rt, name)?;
     }
     Ok(())
 }

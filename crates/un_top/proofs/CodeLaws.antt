@@ -21,7 +21,7 @@ use Rattle.un_problem.proofs.ProblemLaws.{small_names, default_are, of_function,
 use Rattle.un_simulation.specs.Count.{count_of}
 use Rattle.un_simulation.specs.Simulation.{Simulates}
 use Rattle.un_baseline.specs.RoomyOptions.{AreRoomy, IsOfFunction, IsSpillable}
-use Rattle.un_emit.specs.Emitted.{IsEmitted, start_register}
+use Rattle.un_emit.specs.Emitted.{IsEmitted, start_places}
 use Rattle.un_top.specs.Reports.{IsCodeOf}
 
 -- default options leave each name a slot, and one more
@@ -47,7 +47,7 @@ own_options t f m is = subst AreOptions (sym (options_are t f default_options m 
 
 -- the code of a solution, with its cost
 pub code_is : (f : Function) (m : Model) (s : Solution) (code : Code) (cost : ℕ) → IsModelOf HEXAGON f default_options m → IsSolution m s
-    → IsEmitted m s code → Simulates m.ext.table f (start_register m s) code → count_of f code ≡ cost_of m s → cost ≡ cost_of m s
+    → IsEmitted m s.values code → Simulates m.ext.table f (start_places m s.values) code → count_of f code ≡ cost_of m s → cost ≡ cost_of m s
     → IsCodeOf HEXAGON f code cost
 code_is f m s code cost is solves emitted simulates counted costs =
     let e = is.ext in
@@ -61,5 +61,5 @@ code_is f m s code cost is solves emitted simulates counted costs =
       is_emitted = emitted;
       is_cost = costs;
       counted = costs ∙ sym counted;
-      simulates = subst (λ (t : Table). Simulates t f (start_register m s) code) (table_is HEXAGON f m.ext e) simulates;
+      simulates = subst (λ (t : Table). Simulates t f (start_places m s.values) code) (table_is HEXAGON f m.ext e) simulates;
     }

@@ -17,7 +17,7 @@ use Rattle.un_model.specs.declared.model.Solution.{Solution}
 use Rattle.un_model.specs.Cost.{cost_of}
 use Rattle.un_model.specs.Solutions.{IsSolution}
 use Rattle.un_model.specs.Variables.{model_of}
-use Rattle.un_emit.specs.Emitted.{IsEmitted, start_register}
+use Rattle.un_emit.specs.Emitted.{IsEmitted, start_places}
 use Rattle.un_reader.specs.Read.{IsRead}
 use Rattle.un_listing.specs.Report.{first_report_text}
 use Rattle.un_problem.specs.Problems.{default_options}
@@ -44,10 +44,10 @@ pub record IsCodeOf (t : Table) (f : Function) (code : Code) (cost : ℕ) : Type
   pub is_model : model ≡ model_of (extend_of (lin_of f live t)) default_options
   pub solution : Solution
   pub is_solution : IsSolution model solution
-  pub is_emitted : IsEmitted model solution code
+  pub is_emitted : IsEmitted model solution.values code
   pub is_cost : cost ≡ cost_of model solution
   pub counted : cost ≡ count_of f code
-  pub simulates : Simulates t f (start_register model solution) code
+  pub simulates : Simulates t f (start_places model solution.values) code
 
 -- the report has the code, with its cost, of the function that the text is
 pub record IsReportOf (text report : List ℕ) : Type 0 where
