@@ -37,3 +37,5 @@ pub mod Settled
 pub mod Stack
 pub mod Timed
 pub mod Values
+mod BodyLists
+mod BodyBounds
