@@ -12,6 +12,10 @@ pub map_twice : {A B C : Type 0} (g : B → C) (f : A → B) (xs : List A) → m
 map_twice g f [] = refl
 map_twice g f (x ∷ xs) = ap (λ ys. g (f x) ∷ ys) (map_twice g f xs)
 
+pub map_alike : {A B : Type 0} (f g : A → B) (xs : List A) → ((x : A) → f x ≡ g x) → map f xs ≡ map g xs
+map_alike f g [] h = refl
+map_alike f g (x ∷ xs) h = ap (λ y. y ∷ map f xs) (h x) ∙ ap (λ ys. g x ∷ ys) (map_alike f g xs h)
+
 pub map_same : {A : Type 0} (xs : List A) → map (λ (x : A). x) xs ≡ xs
 map_same [] = refl
 map_same (x ∷ xs) = ap (λ ys. x ∷ ys) (map_same xs)
@@ -20,7 +24,31 @@ pub map_empty : {A : Type 0} (a n : ℕ) → replicate n [] ≡ map (λ (k : ℕ
 map_empty a zero = refl
 map_empty a (suc n) = ap (λ ys. [] ∷ ys) (map_empty (a + 1) n)
 
+pub get_there : {A : Type 0} (xs : List A) (k : ℕ) (x d : A) → slice_get xs k ≡ Some x → get_or xs k d ≡ x
+get_there [] k x d h = absurd (cc h)
+get_there (y ∷ xs) zero x d h = cc h
+get_there (y ∷ xs) (suc k) x d h = get_there xs k x d h
+
+pub take_front : {A : Type 0} (xs ys : List A) (n : ℕ) → n ≡ length xs → take n (xs ++ ys) ≡ xs
+take_front [] ys zero h = refl
+take_front [] ys (suc n) h = absurd (omega arith)
+take_front (x ∷ xs) ys zero h = absurd (omega arith)
+take_front (x ∷ xs) ys (suc n) h = ap (λ zs. x ∷ zs) (take_front xs ys n (omega arith))
+
+pub drop_front : {A : Type 0} (xs ys : List A) (n : ℕ) → n ≡ length xs → drop n (xs ++ ys) ≡ ys
+drop_front [] ys zero h = refl
+drop_front [] ys (suc n) h = absurd (omega arith)
+drop_front (x ∷ xs) ys zero h = absurd (omega arith)
+drop_front (x ∷ xs) ys (suc n) h = drop_front xs ys n (omega arith)
+
 -- what is made of the first k, and of one more
+pub map_more : {A B : Type 0} (g : A → B) (xs : List A) (k : ℕ) (x : A) → slice_get xs k ≡ Some x → map g (take (k + 1) xs) ≡ map g (take k xs) ++ g x ∷ []
+map_more g [] k x h = absurd (cc h)
+map_more g (y ∷ xs) zero x h = let e : y ≡ x = cc h in ap (λ z. g z ∷ []) e
+map_more g (y ∷ xs) (suc k) x h =
+    let next : suc k + 1 ≡ suc (k + 1) = omega arith in
+    ap (λ n. map g (take n (y ∷ xs))) next ∙ ap (λ ys. g y ∷ ys) (map_more g xs k x h)
+
 pub joined_more : {A B : Type 0} (g : A → List B) (xs : List A) (k : ℕ) (x : A) → slice_get xs k ≡ Some x → joined (map g (take (k + 1) xs)) ≡ joined (map g (take k xs)) ++ g x
 joined_more g [] k x h = absurd (cc h)
 joined_more g (y ∷ xs) zero x h = let e : y ≡ x = cc h in ap (λ z. g z ++ []) e ∙ append-nil (g x)

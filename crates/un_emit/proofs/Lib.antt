@@ -39,3 +39,4 @@ pub mod Timed
 pub mod Values
 mod BodyLists
 mod BodyBounds
+mod BodyPackets

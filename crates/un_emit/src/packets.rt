@@ -89,7 +89,7 @@ fn cycles(
         ≡ map (instrs_in m.now values.now block.now vars.now) (range_with_len 1 (value_of values.now vars.now.end - 1))) }
 {
     let mut cycles = idle_cycles(alloc, value(values, vars.end).saturating_sub(1))?;
-    for k in 0..block.ops.len().min(vars.ops.len()) {
+    for k in 0..issues.len() {
         let issue = &issues[k];
         let op = block.ops.get(k);
         let i = emitted(alloc, m, values, frame, issue.instr, op, vars.ops.get(k))?;
