@@ -30,11 +30,13 @@ use Rattle.un_packet.specs.Step.{PacketState, PacketStop, Returned as ReturnedTo
 use Rattle.un_packet.specs.Run.{PacketRun, NeverWaits, first_state, enter, packet_run}
 use Rattle.un_simulation.specs.Simulation.{CanStart, Agrees, StopsAgree, Simulates}
 use Rattle.un_emit.specs.Emitted.{code_block, code_blocks, IsEmitted, start_places}
+use Rattle.un_emit.specs.OfSource.{IsOfSource}
 use Rattle.un_emit.proofs.Lists.{Member, member_filter}
 use Rattle.un_emit.proofs.Readings.{Solved}
 use Rattle.un_emit.proofs.Runs.{RunsAlike, StopsAlike}
 use Rattle.un_emit.proofs.Emission.{runs_alike}
-use Rattle.un_emit.proofs.LiveStands.{IsOfSource, live_stand}
+use Rattle.un_emit.proofs.LiveStands.{live_stand}
+use Rattle.un_emit.proofs.OfSource.{labels_at}
 
 member_range : (a n r : ℕ) → a ≤ r → r < a + n → Member r (range_with_len a n)
 member_range a zero r le lt = absurd (omega arith)
@@ -94,7 +96,7 @@ module _ (e : Ext) (o : Options) (values : List ℕ) (h : Solved e o values) (f 
     stops (Running b) st TrappedAt p a = absurd a
     stops (Running b) st (WaitingFor d) p a = absurd a
     stops (Running b) st (RunningAt d) p a = (
-      of.labels b ∙ sym (labels_are (model_of e o) values 0 e.blocks b)
+      labels_at f lists e of b ∙ sym (labels_are (model_of e o) values 0 e.blocks b)
           ∙ ap (λ n. option_map (λ (c : CodeBlock). c.label) (slice_get (code_blocks (model_of e o) values) n)) a.0
           ∙ ap (λ (bs : List CodeBlock). option_map (λ (c : CodeBlock). c.label) (slice_get bs d)) (sym is.blocks),
       live_stand e o values h f lists of start b st p a.1,

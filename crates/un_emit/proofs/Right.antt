@@ -1,0 +1,85 @@
+-- The code of a solution is right for each source of the extended function.
+use Rattle.std.proofs.Common.{ℕ, ◌≡◌, ◌≢◌, ◌+◌, List, [], ◌∷◌, map, inl, inr, refl, sym, ap, ◌∙◌, subst}
+use Rattle.std.specs.List.{zip}
+use Rattle.un_base.specs.declared.ids.NameId.{NameId}
+use Rattle.un_isa.specs.Fit.{IsFit}
+use Rattle.un_ir.specs.declared.extended.Ext.{Ext}
+use Rattle.un_ir.specs.declared.extended.ExtBlock.{ExtBlock}
+use Rattle.un_ir.specs.declared.function.Function.{Function}
+use Rattle.un_ir.specs.Extended.{IsExtended}
+use Rattle.un_model.specs.declared.model.BlockVars.{BlockVars}
+use Rattle.un_model.specs.declared.model.Model.{Model}
+use Rattle.un_model.specs.declared.model.Options.{Options}
+use Rattle.un_model.specs.declared.model.Solution.{Solution}
+use Rattle.un_model.specs.Cost.{blocks_cost, cost_of}
+use Rattle.un_model.specs.Options.{AreOptions}
+use Rattle.un_model.specs.Schedules.{schedule_of}
+use Rattle.un_model.specs.Solutions.{IsSchedule, IsSolution, latency_gap}
+use Rattle.un_model.specs.Variables.{IsModel, model_of, blocks_vars, block_count}
+use Rattle.un_packet.specs.declared.code.Code.{Code}
+use Rattle.un_packet.specs.declared.code.CodeBlock.{CodeBlock}
+use Rattle.un_simulation.specs.Count.{count_of}
+use Rattle.un_simulation.specs.Simulation.{Simulates}
+use Rattle.un_emit.specs.Emitted.{code_block, code_blocks, packet_cost, IsEmitted, start_places}
+use Rattle.un_emit.specs.OfSource.{IsOfSource, IsRightFor}
+use Rattle.un_emit.proofs.Costs.{cost_is}
+use Rattle.un_emit.proofs.Counts.{Apart, counted}
+use Rattle.un_emit.proofs.Lists.{Each, Pairwise, Member, each_of, pairwise_all, pairwise_map, pairwise_of_map}
+use Rattle.un_emit.proofs.Readings.{Solved}
+use Rattle.un_emit.proofs.Simulating.{simulates}
+
+-- the code's blocks have the labels of the extended function's
+labels_kept : (m : Model) (values : List ℕ) (first : ℕ) (blocks : List ExtBlock)
+    → map (λ (c : CodeBlock). c.label) (map (λ (b : ExtBlock × BlockVars). code_block m values b.0 b.1) (zip blocks (blocks_vars first blocks))) ≡ map (λ (b : ExtBlock). b.label) blocks
+labels_kept m values first [] = refl
+labels_kept m values first (block ∷ blocks) = ap (λ xs. block.label ∷ xs) (labels_kept m values (first + block_count block) blocks)
+
+-- a solution of a model that is its own function's model
+pub solved : (m : Model) (s : Solution) → IsModel m → IsExtended m.ext → IsFit m.ext.table → AreOptions m.options → IsSolution m s → Solved m.ext m.options s.values
+solved m s own extended fit options solution = record {
+  extended = extended;
+  fit = fit;
+  options = options;
+  schedule = subst (λ (x : Model). IsSchedule (latency_gap m.ext.table) x.domains x s.values (schedule_of x s.values)) own solution;
+}
+
+module _ (m : Model) (s : Solution) (own : IsModel m) (code : Code) (is : IsEmitted m s.values code) where
+  made : Model
+  made = model_of m.ext m.options
+
+  emitted : IsEmitted (model_of m.ext m.options) s.values code
+  emitted = subst (λ (x : Model). IsEmitted x s.values code) own is
+
+  -- what the solution costs is the number of the code's packets, each as often as its block runs
+  pub costs_packets : cost_of m s ≡ packet_cost m.ext.blocks code.blocks
+  costs_packets =
+      ap (λ (x : Model). blocks_cost s.values m.ext.blocks x.blocks) own
+      ∙ sym (cost_is m.ext m.options s.values)
+      ∙ ap (packet_cost m.ext.blocks) (let k = emitted in sym k.blocks)
+
+  code_labels : map (λ (c : CodeBlock). c.label) code.blocks ≡ map (λ (b : ExtBlock). b.label) m.ext.blocks
+  code_labels =
+      ap (map (λ (c : CodeBlock). c.label)) (let k = emitted in k.blocks)
+      ∙ labels_kept (model_of m.ext m.options) s.values 0 m.ext.blocks
+
+  apart : IsExtended m.ext → Pairwise Apart code.blocks
+  apart extended =
+      let g = extended.good in
+      let here = pairwise_map (λ (x y : List ℕ). x ≢ y) (λ (b : ExtBlock). b.label) m.ext.blocks (pairwise_all (λ (a b : ExtBlock). a.label ≢ b.label) m.ext.blocks g.distinct_labels) in
+      pairwise_of_map (λ (x y : List ℕ). x ≢ y) (λ (c : CodeBlock). c.label) code.blocks (subst (Pairwise (λ (x y : List ℕ). x ≢ y)) (sym code_labels) here)
+
+  -- and so it is what the packets come to under the source's labels
+  pub counts_packets : IsExtended m.ext → (f : Function) (lists : List (List NameId)) → IsOfSource f lists m.ext → count_of f code ≡ cost_of m s
+  counts_packets extended f lists of =
+      counted code.blocks (apart extended) f.blocks m.ext.blocks code.blocks (each_of (λ (c : CodeBlock). Member c code.blocks) code.blocks (λ c mem. mem))
+          of.frequencies of.labels code_labels
+      ∙ sym costs_packets
+
+  -- the code does what the source does and has the solution's cost
+  pub right : IsExtended m.ext → IsFit m.ext.table → AreOptions m.options → IsSolution m s → IsRightFor m s code
+  right extended fit options solution = record {
+    simulates = λ f lists of.
+        subst (λ (x : Model). Simulates m.ext.table f (start_places x s.values) code) (sym own)
+        (simulates m.ext m.options s.values (solved m s own extended fit options solution) f lists of code emitted);
+    counted = counts_packets extended;
+  }
