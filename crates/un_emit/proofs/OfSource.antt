@@ -1,11 +1,10 @@
 -- The extended function that is made of a function is one of that source, and what a block of it has of the source.
-use Rattle.std.proofs.Common.{ℕ, zero, suc, ◌≡◌, ◌+◌, Bool, true, false, List, [], ◌∷◌, ◌++◌, length, map, refl, sym, ap, ◌∙◌, subst, arith, append_assoc}
-use Rattle.std.specs.Prelude.{Option, Some, None, slice_get, unwrap_or}
+use Rattle.std.proofs.Common.{ℕ, ◌≡◌, ◌+◌, Bool, true, false, List, [], ◌∷◌, ◌++◌, length, map, refl, sym, ap, ◌∙◌, subst, arith, append_assoc}
+use Rattle.std.specs.Prelude.{Option, Some, slice_get, unwrap_or}
 use Rattle.std.specs.Option.{option_map}
 use Rattle.std.proofs.lemmas.List.{length-append}
 use Rattle.std.proofs.lemmas.Option.{slice_get-map}
 use Rattle.un_base.specs.declared.ids.NameId.{NameId}
-use Rattle.un_isa.specs.declared.reg.TheConstants.{REGISTERS}
 use Rattle.un_isa.specs.declared.start.Start.{Start}
 use Rattle.un_isa.specs.declared.table.Table.{Table}
 use Rattle.un_ir.specs.declared.function.Kind.{Kind}
@@ -29,6 +28,12 @@ next_at : {X : Type 0} (front rest : List X) (x : X) → slice_get (front ++ x �
 next_at [] rest x = refl
 next_at (y ∷ front) rest x = next_at front rest x
 
+abbrev label_of : ExtBlock → List ℕ
+label_of block = block.label
+
+abbrev names_of : ExtBlock → List NameId
+names_of block = block.live_in
+
 -- extending a block changes its operations alone
 extended_keep : {X : Type 0} (g : ExtBlock → X) → ((block : ExtBlock) (ops : List ExtOp) → g (with_ops block ops) ≡ g block)
     → (names : List Kind) (is_entry : Bool) (values : List Value) (next : ℕ) (blocks : List ExtBlock)
@@ -41,29 +46,33 @@ extended_keep g keeps names is_entry values next (block ∷ blocks) =
 
 module _ (t : Table) (names : ℕ) where
   linear_labels : (lists : List (List NameId)) (b n : ℕ) (blocks : List Block)
-      → map (λ (x : ExtBlock). x.label) (linear_blocks t names lists b n blocks) ≡ map (λ (x : Block). x.label) blocks
+      → map label_of (linear_blocks t names lists b n blocks) ≡ map (λ (x : Block). x.label) blocks
   linear_labels lists b n [] = refl
-  linear_labels lists b n (block ∷ blocks) = ap (λ xs. block.label ∷ xs) (linear_labels lists (b + 1) (past_block t lists b n block) blocks)
+  linear_labels lists b n (block ∷ blocks) =
+      ap (λ xs. block.label ∷ xs) (linear_labels lists (b + 1) (past_block t lists b n block) blocks)
 
   linear_frequencies : (lists : List (List NameId)) (b n : ℕ) (blocks : List Block)
       → map (λ (x : ExtBlock). x.freq) (linear_blocks t names lists b n blocks) ≡ map (λ (x : Block). x.freq) blocks
   linear_frequencies lists b n [] = refl
-  linear_frequencies lists b n (block ∷ blocks) = ap (λ xs. block.freq ∷ xs) (linear_frequencies lists (b + 1) (past_block t lists b n block) blocks)
+  linear_frequencies lists b n (block ∷ blocks) =
+      ap (λ xs. block.freq ∷ xs) (linear_frequencies lists (b + 1) (past_block t lists b n block) blocks)
 
   -- the blocks behind as many as there are lists in front begin with the names of the lists behind them
-  linear_names : (front rest lists : List (List NameId)) (n : ℕ) (blocks : List Block) → lists ≡ front ++ rest → length rest ≡ length blocks
-      → map (λ (x : ExtBlock). x.live_in) (linear_blocks t names lists (length front) n blocks) ≡ rest
+  linear_names : (front rest lists : List (List NameId)) (n : ℕ) (blocks : List Block) → lists ≡ front ++ rest
+      → length rest ≡ length blocks → map names_of (linear_blocks t names lists (length front) n blocks) ≡ rest
   linear_names front [] lists n [] is long = refl
   linear_names front (x ∷ rest) lists n [] is long = absurd (omega arith)
   linear_names front [] lists n (block ∷ blocks) is long = absurd (omega arith)
   linear_names front (x ∷ rest) lists n (block ∷ blocks) is long =
       let here : live_at lists (length front) ≡ x =
-          ap (λ (ls : List (List NameId)). live_at ls (length front)) is ∙ ap (λ (z : Option (List NameId)). unwrap_or z []) (next_at front rest x) in
+          ap (λ (ls : List (List NameId)). live_at ls (length front)) is
+          ∙ ap (λ (z : Option (List NameId)). unwrap_or z []) (next_at front rest x) in
       let past = past_block t lists (length front) n block in
       let more : length front + 1 ≡ length (front ++ x ∷ []) = sym (length-append front (x ∷ [])) in
-      ap (λ y. y ∷ map (λ (x : ExtBlock). x.live_in) (linear_blocks t names lists (length front + 1) past blocks)) here
-      ∙ ap (λ (b : ℕ). x ∷ map (λ (x : ExtBlock). x.live_in) (linear_blocks t names lists b past blocks)) more
-      ∙ ap (λ ys. x ∷ ys) (linear_names (front ++ x ∷ []) rest lists past blocks (is ∙ sym (append_assoc front (x ∷ []) rest)) (omega (arith, long)))
+      ap (λ y. y ∷ map names_of (linear_blocks t names lists (length front + 1) past blocks)) here
+      ∙ ap (λ (b : ℕ). x ∷ map names_of (linear_blocks t names lists b past blocks)) more
+      ∙ ap (λ ys. x ∷ ys)
+          (linear_names (front ++ x ∷ []) rest lists past blocks (is ∙ sym (append_assoc front (x ∷ []) rest)) (omega (arith, long)))
 
 -- the extended function of the linear function of a function is one of that source, where the runs are the same
 pub of_source : (f : Function) (lists : List (List NameId)) (t : Table) (l : Lssa) (e : Ext) → AreLive f.blocks lists
@@ -76,11 +85,12 @@ of_source f lists t l e live linear source extended runs =
     let names = length f.names in
     subst (λ (x : Ext). IsOfSource f lists x) (sym is) (record {
       runs = λ start n long. ap (λ (x : Ext). linear_run x.table x.blocks start n) (sym is) ∙ runs start n ∙ source start n long;
-      labels = extended_keep (λ (x : ExtBlock). x.label) (λ block ops. refl) made.names true [] 0 made.blocks ∙ linear_labels t names lists 0 0 f.blocks;
-      frequencies = extended_keep (λ (x : ExtBlock). x.freq) (λ block ops. refl) made.names true [] 0 made.blocks ∙ linear_frequencies t names lists 0 0 f.blocks;
+      labels = extended_keep label_of (λ block ops. refl) made.names true [] 0 made.blocks ∙ linear_labels t names lists 0 0 f.blocks;
+      frequencies = extended_keep (λ (x : ExtBlock). x.freq) (λ block ops. refl) made.names true [] 0 made.blocks
+          ∙ linear_frequencies t names lists 0 0 f.blocks;
       kinds = refl;
       live = live;
-      live_in = extended_keep (λ (x : ExtBlock). x.live_in) (λ block ops. refl) made.names true [] 0 made.blocks
+      live_in = extended_keep names_of (λ block ops. refl) made.names true [] 0 made.blocks
           ∙ linear_names t names [] lists lists 0 f.blocks refl live.whole;
     })
 
@@ -91,9 +101,10 @@ module _ (f : Function) (lists : List (List NameId)) (e : Ext) (of : IsOfSource 
   pub lists_are : (b : ℕ) (block : ExtBlock) → slice_get e.blocks b ≡ Some block → live_at lists b ≡ block.live_in
   lists_are b block at =
       ap (λ (ls : List (List NameId)). live_at ls b) (sym of.live_in)
-      ∙ ap (λ (z : Option (List NameId)). unwrap_or z []) (slice_get-map (λ (x : ExtBlock). x.live_in) e.blocks b ∙ ap (option_map (λ (x : ExtBlock). x.live_in)) at)
+      ∙ ap (λ (z : Option (List NameId)). unwrap_or z []) (slice_get-map names_of e.blocks b ∙ ap (option_map names_of) at)
 
   -- its label
-  pub labels_at : (b : ℕ) → option_map (λ (x : Block). x.label) (slice_get f.blocks b) ≡ option_map (λ (x : ExtBlock). x.label) (slice_get e.blocks b)
+  pub labels_at : (b : ℕ) → option_map (λ (x : Block). x.label) (slice_get f.blocks b) ≡ option_map label_of (slice_get e.blocks b)
   labels_at b =
-      sym (slice_get-map (λ (x : Block). x.label) f.blocks b) ∙ ap (λ ls. slice_get ls b) (sym of.labels) ∙ slice_get-map (λ (x : ExtBlock). x.label) e.blocks b
+      sym (slice_get-map (λ (x : Block). x.label) f.blocks b) ∙ ap (λ ls. slice_get ls b) (sym of.labels)
+      ∙ slice_get-map label_of e.blocks b

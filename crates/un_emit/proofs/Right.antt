@@ -30,12 +30,16 @@ use Rattle.un_emit.proofs.Simulating.{simulates}
 
 -- the code's blocks have the labels of the extended function's
 labels_kept : (m : Model) (values : List ℕ) (first : ℕ) (blocks : List ExtBlock)
-    → map (λ (c : CodeBlock). c.label) (map (λ (b : ExtBlock × BlockVars). code_block m values b.0 b.1) (zip blocks (blocks_vars first blocks))) ≡ map (λ (b : ExtBlock). b.label) blocks
+    → map (λ (c : CodeBlock). c.label)
+        (map (λ (b : ExtBlock × BlockVars). code_block m values b.0 b.1) (zip blocks (blocks_vars first blocks)))
+    ≡ map (λ (b : ExtBlock). b.label) blocks
 labels_kept m values first [] = refl
-labels_kept m values first (block ∷ blocks) = ap (λ xs. block.label ∷ xs) (labels_kept m values (first + block_count block) blocks)
+labels_kept m values first (block ∷ blocks) =
+    ap (λ xs. block.label ∷ xs) (labels_kept m values (first + block_count block) blocks)
 
 -- a solution of a model that is its own function's model
-pub solved : (m : Model) (s : Solution) → IsModel m → IsExtended m.ext → IsFit m.ext.table → AreOptions m.options → IsSolution m s → Solved m.ext m.options s.values
+pub solved : (m : Model) (s : Solution) → IsModel m → IsExtended m.ext → IsFit m.ext.table → AreOptions m.options → IsSolution m s
+    → Solved m.ext m.options s.values
 solved m s own extended fit options solution = record {
   extended = extended;
   fit = fit;
@@ -62,17 +66,22 @@ module _ (m : Model) (s : Solution) (own : IsModel m) (code : Code) (is : IsEmit
       ap (map (λ (c : CodeBlock). c.label)) (let k = emitted in k.blocks)
       ∙ labels_kept (model_of m.ext m.options) s.values 0 m.ext.blocks
 
+  abbrev Differs : List ℕ → List ℕ → Type 0
+  Differs x y = x ≢ y
+
   apart : IsExtended m.ext → Pairwise Apart code.blocks
   apart extended =
       let g = extended.good in
-      let here = pairwise_map (λ (x y : List ℕ). x ≢ y) (λ (b : ExtBlock). b.label) m.ext.blocks (pairwise_all (λ (a b : ExtBlock). a.label ≢ b.label) m.ext.blocks g.distinct_labels) in
-      pairwise_of_map (λ (x y : List ℕ). x ≢ y) (λ (c : CodeBlock). c.label) code.blocks (subst (Pairwise (λ (x y : List ℕ). x ≢ y)) (sym code_labels) here)
+      let blocks = pairwise_all (λ (a b : ExtBlock). a.label ≢ b.label) m.ext.blocks g.distinct_labels in
+      let labels = pairwise_map Differs (λ (b : ExtBlock). b.label) m.ext.blocks blocks in
+      pairwise_of_map Differs (λ (c : CodeBlock). c.label) code.blocks (subst (Pairwise Differs) (sym code_labels) labels)
 
   -- and so it is what the packets come to under the source's labels
-  pub counts_packets : IsExtended m.ext → (f : Function) (lists : List (List NameId)) → IsOfSource f lists m.ext → count_of f code ≡ cost_of m s
+  pub counts_packets : IsExtended m.ext → (f : Function) (lists : List (List NameId)) → IsOfSource f lists m.ext
+      → count_of f code ≡ cost_of m s
   counts_packets extended f lists of =
-      counted code.blocks (apart extended) f.blocks m.ext.blocks code.blocks (each_of (λ (c : CodeBlock). Member c code.blocks) code.blocks (λ c mem. mem))
-          of.frequencies of.labels code_labels
+      counted code.blocks (apart extended) f.blocks m.ext.blocks code.blocks
+          (each_of (λ (c : CodeBlock). Member c code.blocks) code.blocks (λ c mem. mem)) of.frequencies of.labels code_labels
       ∙ sym costs_packets
 
   -- the code does what the source does and has the solution's cost

@@ -33,5 +33,6 @@ pub record IsOfSource (f : Function) (lists : List (List NameId)) (e : Ext) : Ty
 -- For each source of the model's extended function the code does what the source does, with the names in the places that the
 -- solution gives them, and its packets, as often as they run, are what the solution costs.
 pub record IsRightFor (m : Model) (s : Solution) (code : Code) : Type 0 where
-  pub simulates : (f : Function) (lists : List (List NameId)) → IsOfSource f lists m.ext → Simulates m.ext.table f (start_places m s.values) code
+  pub simulates : (f : Function) (lists : List (List NameId)) → IsOfSource f lists m.ext
+      → Simulates m.ext.table f (start_places m s.values) code
   pub counted : (f : Function) (lists : List (List NameId)) → IsOfSource f lists m.ext → count_of f code ≡ cost_of m s
