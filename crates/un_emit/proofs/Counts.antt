@@ -19,14 +19,15 @@ abbrev found_by : Bool → CodeBlock → List CodeBlock → List ℕ → ℕ
 found_by b d cs label = packets_in (if b then Some d else find (λ (x : CodeBlock). pointwise nat_eq x.label label) cs)
 
 -- under the label of a block stand its packets, where no two blocks have one label
-pub under_own : (cs : List CodeBlock) (c : CodeBlock) → Pairwise Apart cs → Member c cs → packets_under cs c.label ≡ length c.packets
+pub under_own : (cs : List CodeBlock) (c : CodeBlock) → Pairwise Apart cs → Member c cs
+    → packets_under cs c.label ≡ length c.packets
 under_own [] c apart m = elim m [ ]
 under_own (d ∷ cs) c apart (inl same) =
     let found : pointwise nat_eq d.label c.label ≡ true = (bytes_decides d.label c.label).1 (ap (λ (x : CodeBlock). x.label) same) in
     ap (λ (b : Bool). found_by b d cs c.label) found ∙ ap (λ (x : CodeBlock). length x.packets) same
 under_own (d ∷ cs) c apart (inr m) =
     by (pointwise nat_eq d.label c.label) refl (λ same. each_member (Apart d) cs c apart.0 m ((bytes_decides d.label c.label).0 same))
-        (under_own cs c apart.1 m)
+    (under_own cs c apart.1 m)
   where
     by : (b : Bool) → pointwise nat_eq d.label c.label ≡ b → (pointwise nat_eq d.label c.label ≡ true → ⊥)
         → packets_under cs c.label ≡ length c.packets → packets_under (d ∷ cs) c.label ≡ length c.packets
@@ -59,7 +60,7 @@ counted all apart (s ∷ ss) (b ∷ bs) (c ∷ cs) inside freqs labels own =
     let freq = same_head b.freq s.freq _ _ freqs in
     let label : s.label ≡ c.label = sym (same_head b.label s.label _ _ labels) ∙ sym (same_head c.label b.label _ _ own) in
     let rest = counted all apart ss bs cs inside.1
-        (same_tail b.freq s.freq _ _ freqs) (same_tail b.label s.label _ _ labels) (same_tail c.label b.label _ _ own) in
+    (same_tail b.freq s.freq _ _ freqs) (same_tail b.label s.label _ _ labels) (same_tail c.label b.label _ _ own) in
     sum_by-cons (weighted all) s ss
     ∙ ap (λ n. n * packets_under all s.label + sum_by (weighted all) ss) (sym freq)
     ∙ ap (λ n. b.freq * n + sum_by (weighted all) ss) (ap (packets_under all) label ∙ under_own all c apart inside.0)

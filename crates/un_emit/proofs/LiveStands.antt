@@ -14,10 +14,9 @@ use Rattle.un_ir.specs.declared.extended.ExtBlock.{ExtBlock}
 use Rattle.un_ir.specs.declared.extended.Ext.{Ext}
 use Rattle.un_ir.specs.Extended.{name_kind}
 use Rattle.un_ir.specs.Live.{IsLive, used, kept}
-use Rattle.un_ir.specs.LinearOf.{live_at, AreLive}
-use Rattle.un_ir.specs.Linear.{linear_run, in_temps, first_saved}
-use Rattle.un_ir.specs.Runs.{as_linear, values_at}
-use Rattle.un_ir.specs.Source.{SourceState, source_run}
+use Rattle.un_ir.specs.Linear.{in_temps, first_saved}
+use Rattle.un_ir.specs.Runs.{values_at}
+use Rattle.un_ir.specs.Source.{SourceState}
 use Rattle.un_model.specs.declared.model.Options.{Options}
 use Rattle.un_model.specs.Emission.{temp_register, temp_at_start, place_in}
 use Rattle.un_model.specs.Variables.{model_of}

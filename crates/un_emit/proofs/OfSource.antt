@@ -65,14 +65,14 @@ module _ (t : Table) (names : ℕ) where
   linear_names front [] lists n (block ∷ blocks) is long = absurd (omega arith)
   linear_names front (x ∷ rest) lists n (block ∷ blocks) is long =
       let here : live_at lists (length front) ≡ x =
-          ap (λ (ls : List (List NameId)). live_at ls (length front)) is
-          ∙ ap (λ (z : Option (List NameId)). unwrap_or z []) (next_at front rest x) in
+      ap (λ (ls : List (List NameId)). live_at ls (length front)) is
+      ∙ ap (λ (z : Option (List NameId)). unwrap_or z []) (next_at front rest x) in
       let past = past_block t lists (length front) n block in
       let more : length front + 1 ≡ length (front ++ x ∷ []) = sym (length-append front (x ∷ [])) in
       ap (λ y. y ∷ map names_of (linear_blocks t names lists (length front + 1) past blocks)) here
       ∙ ap (λ (b : ℕ). x ∷ map names_of (linear_blocks t names lists b past blocks)) more
       ∙ ap (λ ys. x ∷ ys)
-          (linear_names (front ++ x ∷ []) rest lists past blocks (is ∙ sym (append_assoc front (x ∷ []) rest)) (omega (arith, long)))
+      (linear_names (front ++ x ∷ []) rest lists past blocks (is ∙ sym (append_assoc front (x ∷ []) rest)) (omega (arith, long)))
 
 -- the extended function of the linear function of a function is one of that source, where the runs are the same
 pub of_source : (f : Function) (lists : List (List NameId)) (t : Table) (l : Lssa) (e : Ext) → AreLive f.blocks lists

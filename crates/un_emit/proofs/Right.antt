@@ -1,15 +1,13 @@
 -- The code of a solution is right for each source of the extended function.
-use Rattle.std.proofs.Common.{ℕ, ◌≡◌, ◌≢◌, ◌+◌, List, [], ◌∷◌, map, inl, inr, refl, sym, ap, ◌∙◌, subst}
+use Rattle.std.proofs.Common.{ℕ, ◌≡◌, ◌≢◌, ◌+◌, List, [], ◌∷◌, map, refl, sym, ap, ◌∙◌, subst}
 use Rattle.std.specs.List.{zip}
 use Rattle.un_base.specs.declared.ids.NameId.{NameId}
 use Rattle.un_isa.specs.Fit.{IsFit}
-use Rattle.un_ir.specs.declared.extended.Ext.{Ext}
 use Rattle.un_ir.specs.declared.extended.ExtBlock.{ExtBlock}
 use Rattle.un_ir.specs.declared.function.Function.{Function}
 use Rattle.un_ir.specs.Extended.{IsExtended}
 use Rattle.un_model.specs.declared.model.BlockVars.{BlockVars}
 use Rattle.un_model.specs.declared.model.Model.{Model}
-use Rattle.un_model.specs.declared.model.Options.{Options}
 use Rattle.un_model.specs.declared.model.Solution.{Solution}
 use Rattle.un_model.specs.Cost.{blocks_cost, cost_of}
 use Rattle.un_model.specs.Options.{AreOptions}
@@ -20,18 +18,18 @@ use Rattle.un_packet.specs.declared.code.Code.{Code}
 use Rattle.un_packet.specs.declared.code.CodeBlock.{CodeBlock}
 use Rattle.un_simulation.specs.Count.{count_of}
 use Rattle.un_simulation.specs.Simulation.{Simulates}
-use Rattle.un_emit.specs.Emitted.{code_block, code_blocks, packet_cost, IsEmitted, start_places}
+use Rattle.un_emit.specs.Emitted.{code_block, packet_cost, IsEmitted, start_places}
 use Rattle.un_emit.specs.OfSource.{IsOfSource, IsRightFor}
 use Rattle.un_emit.proofs.Costs.{cost_is}
 use Rattle.un_emit.proofs.Counts.{Apart, counted}
-use Rattle.un_emit.proofs.Lists.{Each, Pairwise, Member, each_of, pairwise_all, pairwise_map, pairwise_of_map}
+use Rattle.un_emit.proofs.Lists.{Pairwise, Member, each_of, pairwise_all, pairwise_map, pairwise_of_map}
 use Rattle.un_emit.proofs.Readings.{Solved}
 use Rattle.un_emit.proofs.Simulating.{simulates}
 
 -- the code's blocks have the labels of the extended function's
 labels_kept : (m : Model) (values : List ℕ) (first : ℕ) (blocks : List ExtBlock)
     → map (λ (c : CodeBlock). c.label)
-        (map (λ (b : ExtBlock × BlockVars). code_block m values b.0 b.1) (zip blocks (blocks_vars first blocks)))
+    (map (λ (b : ExtBlock × BlockVars). code_block m values b.0 b.1) (zip blocks (blocks_vars first blocks)))
     ≡ map (λ (b : ExtBlock). b.label) blocks
 labels_kept m values first [] = refl
 labels_kept m values first (block ∷ blocks) =
@@ -81,7 +79,7 @@ module _ (m : Model) (s : Solution) (own : IsModel m) (code : Code) (is : IsEmit
       → count_of f code ≡ cost_of m s
   counts_packets extended f lists of =
       counted code.blocks (apart extended) f.blocks m.ext.blocks code.blocks
-          (each_of (λ (c : CodeBlock). Member c code.blocks) code.blocks (λ c mem. mem)) of.frequencies of.labels code_labels
+      (each_of (λ (c : CodeBlock). Member c code.blocks) code.blocks (λ c mem. mem)) of.frequencies of.labels code_labels
       ∙ sym costs_packets
 
   -- the code does what the source does and has the solution's cost
