@@ -34,6 +34,7 @@ pub mod LiveStands
 pub mod Simulating
 pub mod Costs
 pub mod Counts
+pub mod SolvedModels
 pub mod Right
 pub mod Schedule
 pub mod Settled

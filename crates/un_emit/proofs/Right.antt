@@ -11,8 +11,7 @@ use Rattle.un_model.specs.declared.model.Model.{Model}
 use Rattle.un_model.specs.declared.model.Solution.{Solution}
 use Rattle.un_model.specs.Cost.{blocks_cost, cost_of}
 use Rattle.un_model.specs.Options.{AreOptions}
-use Rattle.un_model.specs.Schedules.{schedule_of}
-use Rattle.un_model.specs.Solutions.{IsSchedule, IsSolution, latency_gap}
+use Rattle.un_model.specs.Solutions.{IsSolution}
 use Rattle.un_model.specs.Variables.{IsModel, model_of, blocks_vars, block_count}
 use Rattle.un_packet.specs.declared.code.Code.{Code}
 use Rattle.un_packet.specs.declared.code.CodeBlock.{CodeBlock}
@@ -23,8 +22,8 @@ use Rattle.un_emit.specs.OfSource.{IsOfSource, IsRightFor}
 use Rattle.un_emit.proofs.Costs.{cost_is}
 use Rattle.un_emit.proofs.Counts.{Apart, counted}
 use Rattle.un_emit.proofs.Lists.{Pairwise, Member, each_of, pairwise_all, pairwise_map, pairwise_of_map}
-use Rattle.un_emit.proofs.Readings.{Solved}
 use Rattle.un_emit.proofs.Simulating.{simulates}
+use Rattle.un_emit.proofs.SolvedModels.{solved}
 
 -- the code's blocks have the labels of the extended function's
 labels_kept : (m : Model) (values : List ℕ) (first : ℕ) (blocks : List ExtBlock)
@@ -35,20 +34,7 @@ labels_kept m values first [] = refl
 labels_kept m values first (block ∷ blocks) =
     ap (λ xs. block.label ∷ xs) (labels_kept m values (first + block_count block) blocks)
 
--- a solution of a model that is its own function's model
-pub solved : (m : Model) (s : Solution) → IsModel m → IsExtended m.ext → IsFit m.ext.table → AreOptions m.options → IsSolution m s
-    → Solved m.ext m.options s.values
-solved m s own extended fit options solution = record {
-  extended = extended;
-  fit = fit;
-  options = options;
-  schedule = subst (λ (x : Model). IsSchedule (latency_gap m.ext.table) x.domains x s.values (schedule_of x s.values)) own solution;
-}
-
 module _ (m : Model) (s : Solution) (own : IsModel m) (code : Code) (is : IsEmitted m s.values code) where
-  made : Model
-  made = model_of m.ext m.options
-
   emitted : IsEmitted (model_of m.ext m.options) s.values code
   emitted = subst (λ (x : Model). IsEmitted x s.values code) own is
 
