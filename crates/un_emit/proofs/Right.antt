@@ -1,38 +1,28 @@
 -- The code of a solution is right for each source of the extended function.
-use Rattle.std.proofs.Common.{ℕ, ◌≡◌, ◌≢◌, ◌+◌, List, [], ◌∷◌, map, refl, sym, ap, ◌∙◌, subst}
-use Rattle.std.specs.List.{zip}
+use Rattle.std.proofs.Common.{ℕ, ◌≡◌, ◌≢◌, List, map, sym, ap, ◌∙◌, subst}
 use Rattle.un_base.specs.declared.ids.NameId.{NameId}
 use Rattle.un_isa.specs.Fit.{IsFit}
 use Rattle.un_ir.specs.declared.extended.ExtBlock.{ExtBlock}
 use Rattle.un_ir.specs.declared.function.Function.{Function}
 use Rattle.un_ir.specs.Extended.{IsExtended}
-use Rattle.un_model.specs.declared.model.BlockVars.{BlockVars}
 use Rattle.un_model.specs.declared.model.Model.{Model}
 use Rattle.un_model.specs.declared.model.Solution.{Solution}
 use Rattle.un_model.specs.Cost.{blocks_cost, cost_of}
 use Rattle.un_model.specs.Options.{AreOptions}
 use Rattle.un_model.specs.Solutions.{IsSolution}
-use Rattle.un_model.specs.Variables.{IsModel, model_of, blocks_vars, block_count}
+use Rattle.un_model.specs.Variables.{IsModel, model_of}
 use Rattle.un_packet.specs.declared.code.Code.{Code}
 use Rattle.un_packet.specs.declared.code.CodeBlock.{CodeBlock}
 use Rattle.un_simulation.specs.Count.{count_of}
 use Rattle.un_simulation.specs.Simulation.{Simulates}
-use Rattle.un_emit.specs.Emitted.{code_block, packet_cost, IsEmitted, start_places}
+use Rattle.un_emit.specs.Emitted.{packet_cost, IsEmitted, start_places}
 use Rattle.un_emit.specs.OfSource.{IsOfSource, IsRightFor}
+use Rattle.un_emit.proofs.Codes.{labels_kept}
 use Rattle.un_emit.proofs.Costs.{cost_is}
 use Rattle.un_emit.proofs.Counts.{Apart, counted}
 use Rattle.un_emit.proofs.Lists.{Pairwise, Member, each_of, pairwise_all, pairwise_map, pairwise_of_map}
 use Rattle.un_emit.proofs.Simulating.{simulates}
 use Rattle.un_emit.proofs.SolvedModels.{solved}
-
--- the code's blocks have the labels of the extended function's
-labels_kept : (m : Model) (values : List ℕ) (first : ℕ) (blocks : List ExtBlock)
-    → map (λ (c : CodeBlock). c.label)
-    (map (λ (b : ExtBlock × BlockVars). code_block m values b.0 b.1) (zip blocks (blocks_vars first blocks)))
-    ≡ map (λ (b : ExtBlock). b.label) blocks
-labels_kept m values first [] = refl
-labels_kept m values first (block ∷ blocks) =
-    ap (λ xs. block.label ∷ xs) (labels_kept m values (first + block_count block) blocks)
 
 module _ (m : Model) (s : Solution) (own : IsModel m) (code : Code) (is : IsEmitted m s.values code) where
   emitted : IsEmitted (model_of m.ext m.options) s.values code
