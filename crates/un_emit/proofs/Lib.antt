@@ -42,5 +42,6 @@ pub mod Stack
 pub mod Timed
 pub mod Values
 mod BodyLists
-mod BodyBounds
+mod BodyPlaces
 mod BodyPackets
+mod BodyRules
