@@ -3,6 +3,10 @@ use Rattle.std.proofs.Common.{ℕ, ◌≡◌, ◌≤◌, ◌+◌, ◌-◌, List,
 use Rattle.std.specs.Prelude.{◌==◌, if◌then◌else◌, Option, Some, slice_get}
 use Rattle.std.specs.List.{range_with_len, zip}
 use Rattle.std.specs.Option.{option_to_list}
+use Rattle.std.proofs.Math.Seq.{take-append_seam, drop-append_seam}
+use Rattle.std.proofs.lemmas.List.{take_all}
+use Rattle.std.proofs.lemmas.Simd.{map-map}
+use Rattle.std.proofs.lemmas.Slice.Zip.{length-zip}
 use Rattle.un_isa.specs.declared.instr.Instr.{Instr}
 use Rattle.un_isa.specs.declared.op.Op.{Op}
 use Rattle.un_ir.specs.declared.extended.ExtOp.{ExtOp}
@@ -19,7 +23,8 @@ use Rattle.un_model.proofs.Steps.{drop_at}
 use Rattle.un_packet.specs.declared.code.CodeBlock.{CodeBlock}
 use Rattle.un_packet.specs.declared.code.Packet.{Packet}
 use Rattle.un_emit.specs.Emitted.{packet_with, code_block, code_blocks}
-use Rattle.un_emit.proofs.BodyLists.{map_alike, map_twice, map_empty, map_more, joined_more, get_there, take_front, drop_front, zip_get, zip_whole, pairs_get, length-pairs}
+use Rattle.un_emit.proofs.BodyLists.{map_alike, map_empty, map_more, joined_more, zip_get, pairs_get, length-pairs}
+use Rattle.un_emit.proofs.Lists.{index_get}
 
 module _ (m : Model) (values : List ℕ) (block : ExtBlock) (vars : BlockVars) where
   abbrev end : ℕ
@@ -49,7 +54,7 @@ module _ (m : Model) (values : List ℕ) (block : ExtBlock) (vars : BlockVars) w
       → cycles ≡ map (so_far k) (range_with_len 1 (end - 1)) → next ≡ map (so_far (k + 1)) (range_with_len 1 (end - 1))
   one_more b n k issues d op v i cycles next are p q e push h =
       let j = get_or issues k d in
-      let here : j ≡ issue_of values b end (n + k) op v = ap (λ is. get_or is k d) are ∙ get_there (own b n) k (issue_of values b end (n + k) op v) d (pairs_get (issue_of values b end) n k block.ops vars.ops op v p q) in
+      let here : j ≡ issue_of values b end (n + k) op v = ap (λ is. get_or is k d) are ∙ index_get (own b n) k d (issue_of values b end (n + k) op v) (pairs_get (issue_of values b end) n k block.ops vars.ops op v p q) in
       push (so_far k) (end - 1) h ∙ map_alike (λ c. so_far k c ++ (if j.cycle == c then option_to_list i else [])) (so_far (k + 1)) (range_with_len 1 (end - 1)) (λ c.
           ap (λ (x : Option Instr). so_far k c ++ (if j.cycle == c then option_to_list x else [])) e
           ∙ ap (λ (x : Issue). so_far k c ++ (if x.cycle == c then option_to_list (instr_if m values op v x.instr) else [])) here
@@ -57,12 +62,12 @@ module _ (m : Model) (values : List ℕ) (block : ExtBlock) (vars : BlockVars) w
 
   pub all_issued : (k : ℕ) → min (length block.ops) (length vars.ops) ≤ k → map (so_far k) (range_with_len 1 (end - 1)) ≡ map (instrs_in m values block vars) (range_with_len 1 (end - 1))
   all_issued k le = map_alike (so_far k) (instrs_in m values block vars) (range_with_len 1 (end - 1)) (λ c.
-      ap (λ os. joined (map (issued c) os)) (zip_whole block.ops vars.ops k le))
+      ap (λ os. joined (map (issued c) os)) (take_all k (zip block.ops vars.ops) (let n = length-zip block.ops vars.ops in omega arith)))
 
   pub packets_are : map (λ (is : List Instr). packet_with (or_nop is)) (map (instrs_in m values block vars) (range_with_len 1 (end - 1))) ≡ map packet_with (block_packets m values block vars)
   packets_are =
       let cs = range_with_len 1 (end - 1) in
-      map_twice (λ (is : List Instr). packet_with (or_nop is)) (instrs_in m values block vars) cs ∙ sym (map_twice packet_with (λ (c : ℕ). or_nop (instrs_in m values block vars c)) cs)
+      map-map (λ (is : List Instr). packet_with (or_nop is)) (instrs_in m values block vars) cs ∙ sym (map-map packet_with (λ (c : ℕ). or_nop (instrs_in m values block vars c)) cs)
 
   -- the issues of the block stand before those of the later ones
   module _ (blocks : List ExtBlock) (all : List BlockVars) (k n : ℕ) (rest : List Issue) (p : slice_get blocks k ≡ Some block) (q : slice_get all k ≡ Some vars)
@@ -78,10 +83,10 @@ module _ (m : Model) (values : List ℕ) (block : ExtBlock) (vars : BlockVars) w
     long l e = let a = ap length parted ∙ length-append (own k n) later in let b = length-own k n in omega arith
 
     pub own_first : (l : ℕ) → l ≡ min (length block.ops) (length vars.ops) → take l rest ≡ own k n
-    own_first l e = ap (take l) parted ∙ take_front (own k n) later l (e ∙ sym (length-own k n))
+    own_first l e = ap (take l) parted ∙ ap (λ i. take i (own k n ++ later)) (e ∙ sym (length-own k n)) ∙ take-append_seam (own k n) later
 
     pub later_last : (l : ℕ) → l ≡ min (length block.ops) (length vars.ops) → drop l rest ≡ later
-    later_last l e = ap (drop l) parted ∙ drop_front (own k n) later l (e ∙ sym (length-own k n))
+    later_last l e = ap (drop l) parted ∙ ap (λ i. drop i (own k n ++ later)) (e ∙ sym (length-own k n)) ∙ drop-append_seam (own k n) later
 
 module _ (m : Model) (values : List ℕ) where
   abbrev code_of : ExtBlock × BlockVars → CodeBlock
@@ -96,4 +101,4 @@ module _ (m : Model) (values : List ℕ) where
       g ∙ ap (λ cs. cs ++ code ∷ []) h ∙ ap (λ c. map code_of (take k pairs) ++ c ∷ []) e ∙ sym (map_more code_of pairs k (block, vars) (zip_get m.ext.blocks m.blocks k block vars p q))
 
   pub blocks_whole : (k : ℕ) (made : List CodeBlock) → made ≡ map code_of (take k pairs) → min (length m.ext.blocks) (length m.blocks) ≤ k → made ≡ code_blocks m values
-  blocks_whole k made h le = h ∙ ap (map code_of) (zip_whole m.ext.blocks m.blocks k le)
+  blocks_whole k made h le = h ∙ ap (map code_of) (take_all k pairs (let n = length-zip m.ext.blocks m.blocks in omega arith))
