@@ -56,9 +56,9 @@ module _ (m : Model) (values : List ℕ) (block : ExtBlock) (vars : BlockVars) w
       let j = get_or issues k d in
       let here : j ≡ issue_of values b end (n + k) op v = ap (λ is. get_or is k d) are ∙ index_get (own b n) k d (issue_of values b end (n + k) op v) (pairs_get (issue_of values b end) n k block.ops vars.ops op v p q) in
       push (so_far k) (end - 1) h ∙ map_alike (λ c. so_far k c ++ (if j.cycle == c then option_to_list i else [])) (so_far (k + 1)) (range_with_len 1 (end - 1)) (λ c.
-          ap (λ (x : Option Instr). so_far k c ++ (if j.cycle == c then option_to_list x else [])) e
-          ∙ ap (λ (x : Issue). so_far k c ++ (if x.cycle == c then option_to_list (instr_if m values op v x.instr) else [])) here
-          ∙ sym (joined_more (issued c) (zip block.ops vars.ops) k (op, v) (zip_get block.ops vars.ops k op v p q)))
+      ap (λ (x : Option Instr). so_far k c ++ (if j.cycle == c then option_to_list x else [])) e
+      ∙ ap (λ (x : Issue). so_far k c ++ (if x.cycle == c then option_to_list (instr_if m values op v x.instr) else [])) here
+      ∙ sym (joined_more (issued c) (zip block.ops vars.ops) k (op, v) (zip_get block.ops vars.ops k op v p q)))
 
   pub all_issued : (k : ℕ) → min (length block.ops) (length vars.ops) ≤ k → map (so_far k) (range_with_len 1 (end - 1)) ≡ map (instrs_in m values block vars) (range_with_len 1 (end - 1))
   all_issued k le = map_alike (so_far k) (instrs_in m values block vars) (range_with_len 1 (end - 1)) (λ c.

@@ -1,4 +1,4 @@
-use Rattle.std.proofs.Common.{◌≡◌, ◌∙◌, ℕ, zero, suc, ◌+◌, ◌<◌, List, [], ◌∷◌, length, get_or, ap, sym, subst, All, arith}
+use Rattle.std.proofs.Common.{ℕ, zero, suc, ◌+◌, ◌<◌, List, [], ◌∷◌, length, get_or, sym, subst, All, arith}
 use Rattle.un_isa.specs.declared.reg.Reg.{Reg}
 use Rattle.un_ir.specs.declared.extended.Operand.{Operand}
 use Rattle.un_model.specs.Emission.{temp_register}

@@ -17,8 +17,8 @@ code_block-requires-clause-issues c =
       c.loop-k.k,
       n,
       c.split_at.ensures.front ∙ own_first c.args.m.now c.args.values.now c.get-block.result.now c.get-vars.result.now
-      c.args.m.now.ext.blocks c.args.m.now.blocks c.loop-k.k n c.loop-k.rest.now c.get-block.ensures c.get-vars.ensures are
-      c.min.result (omega arith),
+          c.args.m.now.ext.blocks c.args.m.now.blocks c.loop-k.k n c.loop-k.rest.now c.get-block.ensures c.get-vars.ensures are
+          c.min.result (omega arith),
     )
 
 pub loop-k-preserved : goal.loop-k-preserved
@@ -31,8 +31,8 @@ loop-k-preserved c =
       rest = (
         n + length c.get-block.result.now.ops,
         c.split_at.ensures.back ∙ later_last c.args.m.now c.args.values.now c.get-block.result.now c.get-vars.result.now
-        c.args.m.now.ext.blocks c.args.m.now.blocks c.loop-k.k n c.loop-k.rest.now c.get-block.ensures c.get-vars.ensures are
-        c.min.result (omega arith),
+            c.args.m.now.ext.blocks c.args.m.now.blocks c.loop-k.k n c.loop-k.rest.now c.get-block.ensures c.get-vars.ensures are
+            c.min.result (omega arith),
       );
     }
 
