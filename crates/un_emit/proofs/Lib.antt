@@ -41,3 +41,4 @@ pub mod Settled
 pub mod Stack
 pub mod Timed
 pub mod Values
+pub mod OfFunction
