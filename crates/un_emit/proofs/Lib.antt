@@ -45,3 +45,4 @@ mod BodyLists
 mod BodyPlaces
 mod BodyPackets
 mod BodyRules
+pub mod OfFunction
