@@ -63,7 +63,7 @@ fn verdict(expected: Result<bool, NoMemory>) -> &'static str {
 }
 
 /// Says of an example whether its output is the expected one, and how many of its runs are not as its twin's.
-fn tell(rt: &(impl Files + Stdout + AllocGlobal), name: &str) -> io::Result<()> {
+fn tell(rt: &(impl Files + Print + AllocGlobal), name: &str) -> io::Result<()> {
     let text = fs::read_to_string(rt, format!(in rt.alloc(); "{name}.uni")?.as_str())?;
     let want = fs::read_to_string(rt, format!(in rt.alloc(); "{name}.out")?.as_str())?;
     let bytes = text.as_str().as_bytes();

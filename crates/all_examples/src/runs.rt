@@ -5,7 +5,7 @@ ghost use Rattle.std.specs.List.{list_all};
 ghost use Rattle.un_isa.specs.Starts.{is_reply};
 
 use crate::rows::{ROWS, Row};
-use std::alloc::Global;
+use std::alloc::{AllocError, Global};
 use un_base::memory_error::NoMemory;
 use un_ir::function::Function;
 use un_isa::memory::Memory;
@@ -27,15 +27,20 @@ static GIVEN: [u32; 3] = [10, 4294967295, 30];
 /// How many blocks are entered at most.
 const ENTERED: u32 = 1000;
 
-/// The memory with these words.
-fn memory_of(alloc: Global, words: &[u32]) -> Result<Memory, NoMemory> {
+/// The words with their addresses.
+fn addressed(alloc: Global, words: &[u32]) -> Result<Vec<(u32, u32)>, AllocError> {
     let mut pairs = Vec::new(alloc);
     let mut address = BASE;
     for word in words {
         pairs.push((address, *word))?;
         address = address.saturating_add(4);
     }
-    match Memory::new(pairs) {
+    Ok(pairs)
+}
+
+/// The memory with these words.
+fn memory_of(alloc: Global, words: &[u32]) -> Result<Memory, NoMemory> {
+    match Memory::new(addressed(alloc, words)?) {
         Some(memory) => Ok(memory),
         None => Err(NoMemory),
     }

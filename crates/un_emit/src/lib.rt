@@ -1,8 +1,9 @@
 //! The code of a solution, and the proof that its packets do what the extended function does.
 #![tactic(auto)]
 
-pub mod emit;
+pub mod emission;
 mod frame;
 mod instructions;
 mod packets;
 mod registers;
+mod solution_code;

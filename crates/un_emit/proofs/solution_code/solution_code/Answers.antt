@@ -4,7 +4,7 @@ use Rattle.un_model.specs.Emission.{frame_of}
 use Rattle.un_emit.specs.Emitted.{code_blocks}
 use Rattle.un_emit.proofs.BodyRules.{places, frame_small, rules_kept}
 use Rattle.un_emit.proofs.Right.{right}
-use Rattle.un_emit.proofs.emit.emit.Goals as goal
+use Rattle.un_emit.proofs.solution_code.solution_code.Goals as goal
 
 pub frame-frame-requires-clause-small : goal.frame-frame-requires-clause-small
 frame-frame-requires-clause-small c =

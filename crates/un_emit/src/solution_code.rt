@@ -22,7 +22,7 @@ use un_packet::code::Code;
 /// function, on the registers and slots that the solution gives to what they read and define, or `nop` where there is none.
 /// The code does what each source of the extended function does, and costs what the solution costs. The answer is `NoMemory`
 /// where there is no memory for the code.
-pub fn emit(alloc: Global, m: &Model, s: &Solution) -> Result<Code, NoMemory>
+pub(crate) fn solution_code(alloc: Global, m: &Model, s: &Solution) -> Result<Code, NoMemory>
     requires model { IsModel m.now }
     requires extended { IsExtended m.now.ext }
     requires fit { IsFit m.now.ext.table }
