@@ -13,7 +13,7 @@ use Rattle.un_model.specs.declared.model.Model.{Model}
 use Rattle.un_model.specs.declared.model.Options.{Options}
 use Rattle.un_model.specs.Cost.{value_of}
 use Rattle.un_model.specs.Emission.{instrs_in, or_nop, block_packets}
-use Rattle.un_model.specs.Variables.{model_of, block_vars, blocks_vars, var_at, ops_count}
+use Rattle.un_model.specs.Variables.{model_of, block_vars, blocks_vars, block_count, var_at, ops_count}
 use Rattle.un_packet.specs.declared.code.CodeBlock.{CodeBlock}
 use Rattle.un_packet.specs.Run.{label_place}
 use Rattle.un_emit.specs.Emitted.{packet_with, code_block, code_blocks}
@@ -54,6 +54,15 @@ label_first (b ∷ cs) (suc k) c q f = go (label_first cs k c q (λ i d lt g. f 
     go z true s = absurd (f 0 b (omega arith) refl (same_list b.label c.label s))
     go z false s =
         ap (λ (t : Bool). cond (not t) (1 + label_place cs c.label) 0) s ∙ omega (arith, z)
+
+-- the code's blocks have the labels of the extended function's
+pub labels_kept : (m : Model) (values : List ℕ) (first : ℕ) (blocks : List ExtBlock)
+    → map (λ (c : CodeBlock). c.label)
+    (map (λ (b : ExtBlock × BlockVars). code_block m values b.0 b.1) (zip blocks (blocks_vars first blocks)))
+    ≡ map (λ (b : ExtBlock). b.label) blocks
+labels_kept m values first [] = refl
+labels_kept m values first (block ∷ blocks) =
+    ap (λ xs. block.label ∷ xs) (labels_kept m values (first + block_count block) blocks)
 
 -- ---- the block at a place
 

@@ -40,7 +40,7 @@ use Rattle.un_model.specs.Solutions.{InSpace, InDomain}
 use Rattle.un_domains.specs.declared.domain.Domain.TheVariants.{Set}
 use Rattle.un_model.specs.Variables.{model_of, result_domain, carried as value_carried, register_domain, source_domain, register_place}
 use Rattle.un_simulation.specs.Simulation.{as_held}
-use Rattle.un_emit.proofs.Lists.{Each, Member, each_member, slice_get-map, member_map}
+use Rattle.un_emit.proofs.Lists.{Each, Member, slice_get-map, member_map}
 use Rattle.un_emit.proofs.FramePlace.{held_pred}
 use Rattle.un_emit.proofs.Packet.{moves_stack}
 use Rattle.un_emit.proofs.Timed.{Temps, IsReadAt, IsPlain, numbers, is_copy, is_transfer, ReadsAll, Gives, GivesReg, GivesResult, Copies, IsInSlot, Deed, computes, moves, spills, reloads, from_pred, to_pred, loads, stores, calls, shifts, leaves}

@@ -29,9 +29,13 @@ pub mod Starts
 pub mod Codes
 pub mod Runs
 pub mod Emission
+pub mod OfSource
 pub mod LiveStands
 pub mod Simulating
 pub mod Costs
+pub mod Counts
+pub mod SolvedModels
+pub mod Right
 pub mod Schedule
 pub mod Settled
 pub mod Stack

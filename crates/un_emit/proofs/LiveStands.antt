@@ -14,17 +14,18 @@ use Rattle.un_ir.specs.declared.extended.ExtBlock.{ExtBlock}
 use Rattle.un_ir.specs.declared.extended.Ext.{Ext}
 use Rattle.un_ir.specs.Extended.{name_kind}
 use Rattle.un_ir.specs.Live.{IsLive, used, kept}
-use Rattle.un_ir.specs.LinearOf.{live_at, AreLive}
-use Rattle.un_ir.specs.Linear.{linear_run, in_temps, first_saved}
-use Rattle.un_ir.specs.Runs.{as_linear, values_at}
-use Rattle.un_ir.specs.Source.{SourceState, source_run}
+use Rattle.un_ir.specs.Linear.{in_temps, first_saved}
+use Rattle.un_ir.specs.Runs.{values_at}
+use Rattle.un_ir.specs.Source.{SourceState}
 use Rattle.un_model.specs.declared.model.Options.{Options}
 use Rattle.un_model.specs.Emission.{temp_register, temp_at_start, place_in}
 use Rattle.un_model.specs.Variables.{model_of}
 use Rattle.un_packet.specs.Step.{PacketState}
 use Rattle.un_simulation.specs.Simulation.{LiveStand, held_at, as_held}
 use Rattle.un_emit.specs.Emitted.{place_number, start_places}
+use Rattle.un_emit.specs.OfSource.{IsOfSource}
 use Rattle.un_emit.proofs.Lists.{get_below, length_get, member_map}
+use Rattle.un_emit.proofs.OfSource.{lists_are, labels_at}
 use Rattle.un_emit.proofs.Operations.{contains_member}
 use Rattle.un_emit.proofs.Placed.{spot, spots_of}
 use Rattle.un_emit.proofs.Schedule.{all, range_at, member_joined, member_places}
@@ -36,14 +37,6 @@ use Rattle.un_emit.proofs.BlockValues.{of_all}
 use Rattle.un_emit.proofs.InOps.{in_op, start_count, start_kind}
 use Rattle.un_emit.proofs.Edges.{length-mapped, index_left, index_of_map, get_left, get_map, named_at}
 use Rattle.un_emit.proofs.Runs.{region, StandAt}
-
--- the extended function is one of this source: its runs are those of the source, and it has the labels of the source
-pub record IsOfSource (f : Function) (lists : List (List NameId)) (e : Ext) : Type 0 where
-  pub runs : (start : Start) (n : ℕ) → length start.regs ≡ 36 → linear_run e.table e.blocks start n ≡ as_linear e.table start lists (source_run f start n)
-  pub labels : (b : ℕ) → option_map (λ (block : Block). block.label) (slice_get f.blocks b) ≡ option_map (λ (block : ExtBlock). block.label) (slice_get e.blocks b)
-  pub kinds : e.names ≡ map (λ (n : List ℕ × Kind). n.1) f.names
-  pub live : AreLive f.blocks lists
-  pub lists_are : (b : ℕ) (block : ExtBlock) → slice_get e.blocks b ≡ Some block → live_at lists b ≡ block.live_in
 
 block_of : (blocks : List Block) (name : NameId) (b k : ℕ) → IsLive blocks name b k → (block : Block) × (slice_get blocks b ≡ Some block)
 block_of blocks name b k (used b2 k2 block q le m) = (block, q)
@@ -61,7 +54,7 @@ module _ (e : Ext) (o : Options) (values : List ℕ) (h : Solved e o values) (f 
       go : (x : Option ExtBlock) → slice_get e.blocks b ≡ x → (x : ExtBlock) × (slice_get e.blocks b ≡ Some x)
       go (Some x) s = (x, s)
       go None s =
-          let z : Some block.label ≡ None = ap (option_map (λ (block : Block). block.label)) (sym q) ∙ of.labels b ∙ ap (option_map (λ (block : ExtBlock). block.label)) s in
+          let z : Some block.label ≡ None = ap (option_map (λ (block : Block). block.label)) (sym q) ∙ labels_at f lists e of b ∙ ap (option_map (λ (block : ExtBlock). block.label)) s in
           absurd (cc z)
 
   pub live_stand : (start : Start) (b : ℕ) (s : SourceState) (p : PacketState) → StandAt e o values h b (values_at e.table start lists b s.values) p → LiveStand f (start_places (model_of e o) values) b s p
@@ -71,7 +64,7 @@ module _ (e : Ext) (o : Options) (values : List ℕ) (h : Solved e o values) (f 
       there (block, at) =
           let r = region e o values h b block at in
           let lv = of.live in
-          let same = of.lists_are b block at in
+          let same = lists_are f lists e of b block at in
           let mem : Contains block.live_in name = subst (λ (ns : List NameId). Contains ns name) same ((lv.exact b name).1 live) in
           let nm = named_at block.live_in name (contains_member block.live_in name mem) in
           let j = position_or_len (λ (n : NameId). n.0 == name.0) block.live_in in

@@ -1,5 +1,5 @@
 -- The packets that a solution comes to do what the source does, where the extended function's runs are those of the source.
-use Rattle.std.proofs.Common.{ℕ, zero, suc, ◌≡◌, ◌≢◌, ◌<◌, ◌≤◌, ◌+◌, true, List, [], ◌∷◌, map, inl, inr, ⊎_elim, refl, sym, ap, ◌∙◌, subst, arith}
+use Rattle.std.proofs.Common.{ℕ, zero, suc, ◌≡◌, ◌≢◌, ◌<◌, ◌≤◌, ◌+◌, true, List, [], ◌∷◌, map, inl, inr, ⊎_elim, sym, ap, ◌∙◌, subst, arith}
 use Rattle.std.specs.Prelude.{slice_get, slice_index}
 use Rattle.std.specs.Option.{option_map}
 use Rattle.std.proofs.lemmas.Bool.{cases_eq}
@@ -23,18 +23,21 @@ use Rattle.un_model.specs.declared.model.BlockVars.{BlockVars}
 use Rattle.un_model.specs.declared.model.Model.{Model}
 use Rattle.un_model.specs.declared.model.Options.{Options}
 use Rattle.un_model.specs.Emission.{frame_of}
-use Rattle.un_model.specs.Variables.{model_of, blocks_vars, block_count}
+use Rattle.un_model.specs.Variables.{model_of, blocks_vars}
 use Rattle.un_packet.specs.declared.code.Code.{Code}
 use Rattle.un_packet.specs.declared.code.CodeBlock.{CodeBlock}
 use Rattle.un_packet.specs.Step.{PacketState, PacketStop, Returned as ReturnedTo, Trapped as TrappedAt, Waiting as WaitingFor, Running as RunningAt}
 use Rattle.un_packet.specs.Run.{PacketRun, NeverWaits, first_state, enter, packet_run}
 use Rattle.un_simulation.specs.Simulation.{CanStart, Agrees, StopsAgree, Simulates}
 use Rattle.un_emit.specs.Emitted.{code_block, code_blocks, IsEmitted, start_places}
-use Rattle.un_emit.proofs.Lists.{Member, member_filter}
+use Rattle.un_emit.specs.OfSource.{IsOfSource}
+use Rattle.un_emit.proofs.Codes.{labels_kept}
+use Rattle.un_emit.proofs.Lists.{Member, member_filter, slice_get-map}
 use Rattle.un_emit.proofs.Readings.{Solved}
 use Rattle.un_emit.proofs.Runs.{RunsAlike, StopsAlike}
 use Rattle.un_emit.proofs.Emission.{runs_alike}
-use Rattle.un_emit.proofs.LiveStands.{IsOfSource, live_stand}
+use Rattle.un_emit.proofs.LiveStands.{live_stand}
+use Rattle.un_emit.proofs.OfSource.{labels_at}
 
 member_range : (a n r : ℕ) → a ≤ r → r < a + n → Member r (range_with_len a n)
 member_range a zero r le lt = absurd (omega arith)
@@ -62,11 +65,13 @@ same_at f g (y ∷ xs) x q (inr m) = same_at f g xs x (ap rest q) m
     rest (x ∷ xs) = xs
 
 -- the labels of the code are those of the extended function
-labels_are : (m : Model) (values : List ℕ) (first : ℕ) (blocks : List ExtBlock) (b : ℕ)
-    → option_map (λ (c : CodeBlock). c.label) (slice_get (map (λ (b : ExtBlock × BlockVars). code_block m values b.0 b.1) (zip blocks (blocks_vars first blocks))) b) ≡ option_map (λ (c : ExtBlock). c.label) (slice_get blocks b)
-labels_are m values first [] b = refl
-labels_are m values first (block ∷ blocks) zero = refl
-labels_are m values first (block ∷ blocks) (suc b) = labels_are m values (first + block_count block) blocks b
+labels_are : (m : Model) (values : List ℕ) (blocks : List ExtBlock) (b : ℕ)
+    → option_map (λ (c : CodeBlock). c.label) (slice_get (map (λ (b : ExtBlock × BlockVars). code_block m values b.0 b.1) (zip blocks (blocks_vars 0 blocks))) b)
+    ≡ option_map (λ (c : ExtBlock). c.label) (slice_get blocks b)
+labels_are m values blocks b =
+    let cs = map (λ (b : ExtBlock × BlockVars). code_block m values b.0 b.1) (zip blocks (blocks_vars 0 blocks)) in
+    sym (slice_get-map (λ (c : CodeBlock). c.label) cs b) ∙ ap (λ ls. slice_get ls b) (labels_kept m values 0 blocks)
+    ∙ slice_get-map (λ (c : ExtBlock). c.label) blocks b
 
 module _ (e : Ext) (o : Options) (values : List ℕ) (h : Solved e o values) (f : Function) (lists : List (List NameId)) (of : IsOfSource f lists e) (code : Code) (is : IsEmitted (model_of e o) values code) where
   module _ (start : Start) (can : CanStart start code.frame) where
@@ -94,7 +99,7 @@ module _ (e : Ext) (o : Options) (values : List ℕ) (h : Solved e o values) (f 
     stops (Running b) st TrappedAt p a = absurd a
     stops (Running b) st (WaitingFor d) p a = absurd a
     stops (Running b) st (RunningAt d) p a = (
-      of.labels b ∙ sym (labels_are (model_of e o) values 0 e.blocks b)
+      labels_at f lists e of b ∙ sym (labels_are (model_of e o) values e.blocks b)
           ∙ ap (λ n. option_map (λ (c : CodeBlock). c.label) (slice_get (code_blocks (model_of e o) values) n)) a.0
           ∙ ap (λ (bs : List CodeBlock). option_map (λ (c : CodeBlock). c.label) (slice_get bs d)) (sym is.blocks),
       live_stand e o values h f lists of start b st p a.1,
