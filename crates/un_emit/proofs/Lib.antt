@@ -41,3 +41,11 @@ pub mod Settled
 pub mod Stack
 pub mod Timed
 pub mod Values
+pub mod RulesLists
+pub mod RulesFrame
+pub mod RulesCounts
+pub mod RulesInstrs
+pub mod RulesRoom
+pub mod RulesWriters
+pub mod RulesEnds
+pub mod Rules

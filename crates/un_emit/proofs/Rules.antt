@@ -1,7 +1,7 @@
 -- The emitted code of a solution keeps the rules of code, which the type `Code` asks of its parts. What emits it needs this alone:
 --   keeps_rules : (e : Ext) (o : Options) (values : List ℕ) → Solved e o values
 --       → KeepsRules (frame_of (model_of e o) values) (code_blocks (model_of e o) values)
-use Rattle.std.proofs.Common.{ℕ, zero, suc, ◌≡◌, ◌≢◌, ◌<◌, ◌≤◌, ◌+◌, ◌-◌, List, [], ◌∷◌, length, map, refl, sym, ap, ◌∙◌, subst, arith, All, AllPairs, Contains}
+use Rattle.std.proofs.Common.{ℕ, true, ◌≡◌, ◌≢◌, ◌<◌, ◌≤◌, ◌+◌, ◌-◌, List, [], ◌∷◌, length, map, refl, sym, ap, ◌∙◌, subst, arith, All, AllPairs, Contains}
 use Rattle.std.specs.Prelude.{Option, Some, None, slice_get, IsSomeAnd}
 use Rattle.std.specs.List.{range_with_len, zip}
 use Rattle.std.specs.Option.{option_map}

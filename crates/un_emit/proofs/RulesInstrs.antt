@@ -3,6 +3,7 @@ use Rattle.std.proofs.Common.{ℕ, ℤ, zero, suc, pos, neg_ℤ, negsuc, ◌≡�
 use Rattle.std.specs.Prelude.{Option, Some, None, slice_get, is_some, ◌==◌, ◌||◌, if◌then◌else◌, IfSome}
 use Rattle.std.specs.List.{range_with_len}
 use Rattle.std.specs.Option.{option_map, option_to_list}
+use Rattle.std.proofs.Math.Dec.{le→leb}
 use Rattle.std.proofs.lemmas.Bool.{eqb-true}
 use Rattle.un_base.specs.declared.ids.BlockId.{BlockId}
 use Rattle.un_base.specs.declared.ids.NameId.{NameId}
@@ -101,8 +102,8 @@ source_label _ callee s h = h
 
 -- the offset of a slot
 offset_fits : (frame : ℕ) (place : Option Reg) → IfSome place (λ (r : Reg). IsLow r.0) → HasItsNumber frame Spill (slot_offset place)
-offset_fits frame None h = (omega arith, omega arith, refl)
-offset_fits frame (Some r) h = (omega arith, omega arith, ap pos (omega arith))
+offset_fits frame None h = (record { le = tt }, record { le = tt }, refl)
+offset_fits frame (Some r) h = (record { le = le→leb 0 (4 * (r.0 - 36)) (omega arith) }, record { le = le→leb (4 * (r.0 - 36)) 4092 (omega arith) }, ap pos (omega arith))
 
 minus_is : (n : ℕ) → neg_ℤ (pos n) ≡ minus n
 minus_is zero = refl
@@ -228,9 +229,9 @@ module _ (e : Ext) (o : Options) (values : List ℕ) (h : Solved e o values) whe
         let g = f.register in
         (λ z. s (sym g ∙ z), subst IsLow (sym g) l)
 
-    each_reg : (P : Reg → Type 0) (xs : List Operand) (k : ℕ) → ((j : ℕ) (x : Operand) → slice_get xs j ≡ Some x → P (reg_of (k + j) x)) → Each P (places_from reg_of k xs)
-    each_reg P [] k f = tt
-    each_reg P (x ∷ xs) k f = (subst (λ n. P (reg_of n x)) (omega arith) (f 0 x refl), each_reg P xs (k + 1) (λ j y q. subst (λ n. P (reg_of n y)) (omega arith) (f (suc j) y q)))
+    each_reg : (Q : Reg → Type 0) (xs : List Operand) (k : ℕ) → ((j : ℕ) (x : Operand) → slice_get xs j ≡ Some x → Q (reg_of (k + j) x)) → Each Q (places_from reg_of k xs)
+    each_reg Q [] k f = tt
+    each_reg Q (x ∷ xs) k f = (subst (λ n. Q (reg_of n x)) (omega arith) (f 0 x refl), each_reg Q xs (k + 1) (λ j y q. subst (λ n. Q (reg_of n y)) (omega arith) (f (suc j) y q)))
 
     srcs_safe : Acts → Each (λ (r : Reg). r.0 ≢ STACK) srcs
     srcs_safe act = each_reg (λ (r : Reg). r.0 ≢ STACK) p.op.operands 0 (λ j x q. subst (λ n. (reg_of n x).0 ≢ STACK) (omega arith) (meant_at act j x q).0)
@@ -280,7 +281,7 @@ module _ (e : Ext) (o : Options) (values : List ℕ) (h : Solved e o values) whe
         let f = operand_facts e o values h p m j x rd.0 rd.2 in
         let n = length so.srcs in
         let wants : wants_of e.table e.names e.blocks p.owner p.op.kind p.op ≡ map word_in (take n (range_with_len 0 6)) =
-        ap (λ (x : ExtKind). wants_of e.table e.names e.blocks p.owner x p.op) k ∙ ap (wants_of_op e.table so) c ∙ ap (λ as. map word_in (take n as)) args_are in
+        ap (λ (x : ExtKind). wants_of e.table e.names e.blocks p.owner x p.op) k ∙ ap (wants_of_op e.table so) c ∙ ap (λ rs. map word_in (take n rs)) args_are in
         let got : option_map word_in (slice_get (take n (range_with_len 0 6)) j) ≡ Some rd.0 = sym (slice_get-map word_in (take n (range_with_len 0 6)) j) ∙ ap (λ ws. slice_get ws j) (sym wants) ∙ rd.1 in
         let r = rd.2 in
         let home : HasHome (let w = rd.0 in w.home) (range_at e o values (choice_of values (vars_of p) j x).0) = subst (λ (t : TempId). HasHome (let w = rd.0 in w.home) (range_at e o values t.0)) r.is r.home in
@@ -323,7 +324,7 @@ module _ (e : Ext) (o : Options) (values : List ℕ) (h : Solved e o values) whe
             let g = ok in
             let long = length-places reg_of 0 p.op.operands in
             let few = take_few (length so.srcs) 6 0 in
-            let wants = ap (wants_of_op e.table so) q ∙ ap (λ as. map word_in (take (length so.srcs) as)) args_are in
+            let wants = ap (wants_of_op e.table so) q ∙ ap (λ rs. map word_in (take (length so.srcs) rs)) args_are in
             let count = count_by (Body so) k ∙ ap length wants ∙ length-mapped word_in (take (length so.srcs) (range_with_len 0 6)) in
             record {
               reads = (

@@ -129,14 +129,11 @@ module _ (e : Ext) (o : Options) (values : List ℕ) (h : Solved e o values) (k 
     at_most [] g = omega arith
     at_most (p ∷ ps) g = by_instr (instr_at (model_of e o) values p) refl (at_most ps g.1)
       where
-        abbrev rest : List Job
-        rest = jobs_at (jobs_of (model_of e o) values ps) c
-
-        by_instr : (x : Option Instr) → instr_at (model_of e o) values p ≡ x → total uses rest ≤ total takes ps → total uses (jobs_at (job_by values p x ++ jobs_of (model_of e o) values ps) c) ≤ takes p + total takes ps
+        by_instr : (x : Option Instr) → instr_at (model_of e o) values p ≡ x → total uses (jobs_at (jobs_of (model_of e o) values ps) c) ≤ total takes ps → total uses (jobs_at (job_by values p x ++ jobs_of (model_of e o) values ps) c) ≤ takes p + total takes ps
         by_instr None q le = omega arith
         by_instr (Some i) q le = by_cycle (nat_eq (issue_at values p).cycle c) refl
           where
-            by_cycle : (b : Bool) → nat_eq (issue_at values p).cycle c ≡ b → total uses (cond b (job_with values p i ∷ rest) rest) ≤ takes p + total takes ps
+            by_cycle : (b : Bool) → nat_eq (issue_at values p).cycle c ≡ b → total uses (cond b (job_with values p i ∷ jobs_at (jobs_of (model_of e o) values ps) c) (jobs_at (jobs_of (model_of e o) values ps) c)) ≤ takes p + total takes ps
             by_cycle true s =
                 let j = job_is e o values h p (Some i) (job_with values p i) q (inl refl) in
                 let now : issues_in k c (issue_at values p) ≡ true = and_from (p.block == k) ((issue_at values p).cycle == c) (eq-eqb p.block k g.0) s in
