@@ -45,3 +45,11 @@ mod BodyLists
 mod BodyPlaces
 mod BodyPackets
 mod BodyRules
+pub mod RulesLists
+pub mod RulesFrame
+pub mod RulesCounts
+pub mod RulesInstrs
+pub mod RulesRoom
+pub mod RulesWriters
+pub mod RulesEnds
+pub mod Rules
