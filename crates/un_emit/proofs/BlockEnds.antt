@@ -144,7 +144,7 @@ module _ (e : Ext) (o : Options) (values : List ℕ) (h : Solved e o values) (k 
   -- ---- the control transfer
 
   -- a job that transfers control is of the terminator
-  transfer_kind : (p : Placed) (op : Op) → Member p own_ops → instr_of values p.op (vars_of p) ≡ Some op → is_transfer op ≡ true → (term : Term) × (p.op.kind ≡ End term) × (transfer_op_of term ≡ Some op)
+  pub transfer_kind : (p : Placed) (op : Op) → Member p own_ops → instr_of values p.op (vars_of p) ≡ Some op → is_transfer op ≡ true → (term : Term) × (p.op.kind ≡ End term) × (transfer_op_of term ≡ Some op)
   transfer_kind p op m q t = by_kind p.op.kind refl q
     where
       Goal : Type 0

@@ -1,5 +1,6 @@
 -- Lists that the body of the emission makes: what it has so far, and what is left.
-use Rattle.std.proofs.Common.{ℕ, zero, suc, ◌≡◌, ◌<◌, ◌≤◌, ◌+◌, ◌-◌, true, false, Bool, List, [], ◌∷◌, ◌++◌, length, map, take, min, set, get_or, replicate, ◌⊎◌, inl, inr, refl, sym, ap, ◌∙◌, append_assoc, arith}
+use Rattle.std.proofs.Common.{ℕ, zero, suc, ◌≡◌, ◌<◌, ◌≤◌, ◌+◌, ◌-◌, Bool, true, false, ◌⊎◌, inl, inr, refl, sym, ap, ◌∙◌, arith}
+use Rattle.std.proofs.Common.{List, [], ◌∷◌, ◌++◌, length, map, take, min, set, get_or, replicate, append_assoc}
 use Rattle.std.specs.Prelude.{◌==◌, if◌then◌else◌, Some, slice_get}
 use Rattle.std.specs.List.{range_with_len, zip}
 use Rattle.std.proofs.lemmas.Bool.Decides.{nat_tests}

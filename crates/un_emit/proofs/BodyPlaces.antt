@@ -20,11 +20,14 @@ use Rattle.un_emit.proofs.RulesFrame.{low}
 use Rattle.un_emit.proofs.Schedule.{idle_range, range_at, the_ranges, the_reads}
 
 module _ (e : Ext) (o : Options) (values : List ℕ) (h : Solved e o values) where
+  abbrev temps : List TempVars
+  temps = let m = model_of e o in m.temps
+
   abbrev range : ℕ → TempVars → LiveRange
   range k t = range_of values (issues_of (model_of e o) values) (the_reads e o values) k t
 
-  range_there : (k : ℕ) (t : TempVars) → slice_get (let m = model_of e o in m.temps) k ≡ Some t → slice_get (the_ranges e o values) k ≡ Some (range k t)
-  range_there k t q = get_places e o values range (let m = model_of e o in m.temps) 0 k k t (omega arith) q
+  range_there : (k : ℕ) (t : TempVars) → slice_get temps k ≡ Some t → slice_get (the_ranges e o values) k ≡ Some (range k t)
+  range_there k t q = get_places e o values range temps 0 k k t (omega arith) q
 
   register_is : (k : ℕ) (t : TempVars) → (range k t).reg ≡ value_of values t.reg
   register_is k t = by (slice_get (issues_of (model_of e o) values) t.op.0)
@@ -34,20 +37,21 @@ module _ (e : Ext) (o : Options) (values : List ℕ) (h : Solved e o values) whe
       by (Some i) = refl
 
   -- an active temporary's register is in its domain, and an inactive one's is 0
-  is_place : (k : ℕ) (t : TempVars) → slice_get (let m = model_of e o in m.temps) k ≡ Some t → value_of values t.reg < 100
+  is_place : (k : ℕ) (t : TempVars) → slice_get temps k ≡ Some t → value_of values t.reg < 100
   is_place k t q =
       let there = range_there k t q in
       let same = index_get (the_ranges e o values) k idle_range (range k t) there in
       let s = h.schedule in
       let zeros = s.zeros in
-      let zero = each_member IsZeroRange (the_ranges e o values) (range k t) (each_all IsZeroRange (the_ranges e o values) zeros.1) (member_at (the_ranges e o values) k (range k t) there) in
-      subst (λ (n : ℕ). n < 100) (register_is k t)
-      (⊎_elim (λ (a : (range k t).active ≡ true). subst (λ (r : LiveRange). r.reg < 100) same (low e o values h k (subst (λ (r : LiveRange). r.active ≡ true) (sym same) a)))
-      (λ (z : (range k t).reg ≡ 0). omega (arith, z)) zero)
+      let all = each_all IsZeroRange (the_ranges e o values) zeros.1 in
+      let own = each_member IsZeroRange (the_ranges e o values) (range k t) all (member_at (the_ranges e o values) k (range k t) there) in
+      let active : (range k t).active ≡ true → (range k t).reg < 100 = λ a. subst (λ (r : LiveRange). r.reg < 100) same
+      (low e o values h k (subst (λ (r : LiveRange). r.active ≡ true) (sym same) a)) in
+      subst (λ (n : ℕ). n < 100) (register_is k t) (⊎_elim active (λ (z : (range k t).reg ≡ 0). omega (arith, z)) own)
 
   pub have_places : HavePlaces (model_of e o) values
-  have_places x = by (slice_get (let m = model_of e o in m.temps) x.0) refl
+  have_places x = by (slice_get temps x.0) refl
     where
-      by : (t : Option TempVars) → slice_get (let m = model_of e o in m.temps) x.0 ≡ t → IsPlace (register_by values t)
+      by : (t : Option TempVars) → slice_get temps x.0 ≡ t → IsPlace (register_by values t)
       by None q = omega arith
       by (Some t) q = is_place x.0 t q

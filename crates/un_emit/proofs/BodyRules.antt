@@ -32,7 +32,8 @@ module _ (m : Model) (s : Solution) (values : List ℕ) (are : values ≡ s.valu
   pub frame_small : frame_of m values ≤ FRAME
   frame_small = of_model (λ x vs. frame_of x vs ≤ FRAME) (small m.ext m.options s.values)
 
-  pub rules_kept : (frame : ℕ) (blocks : List CodeBlock) → frame ≡ frame_of m values → blocks ≡ code_blocks m values → KeepsRules frame blocks
+  pub rules_kept : (frame : ℕ) (blocks : List CodeBlock) → frame ≡ frame_of m values → blocks ≡ code_blocks m values
+      → KeepsRules frame blocks
   rules_kept frame blocks f b =
       let rules = of_model (λ x vs. KeepsRules (frame_of x vs) (code_blocks x vs)) (keeps_rules m.ext m.options s.values) in
       subst (KeepsRules frame) (sym b) (subst (λ (n : ℕ). KeepsRules n (code_blocks m values)) (sym f) rules)

@@ -21,7 +21,7 @@ length-range : (a n : ℕ) → length (range_with_len a n) ≡ n
 length-range a zero = refl
 length-range a (suc n) = ap suc (length-range (a + 1) n)
 
-packet_count : (m : Model) (values : List ℕ) (block : ExtBlock) (vars : BlockVars) → length (map packet_with (block_packets m values block vars)) ≡ value_of values vars.end - 1
+pub packet_count : (m : Model) (values : List ℕ) (block : ExtBlock) (vars : BlockVars) → length (map packet_with (block_packets m values block vars)) ≡ value_of values vars.end - 1
 packet_count m values block vars =
     let cs = range_with_len 1 (value_of values vars.end - 1) in
     length-mapped packet_with (block_packets m values block vars) ∙ length-mapped (λ (c : ℕ). or_nop (instrs_in m values block vars c)) cs ∙ length-range 1 (value_of values vars.end - 1)

@@ -159,7 +159,7 @@ module _ (e : Ext) (o : Options) (values : List ℕ) where
       let l = length-op_domains ie owner (own_horizon owner) op in
       (record { all = sits_left values here rest first h; close = le }, placed_sit ie b owner close (n + 1) (first + var_count op) ops (sits_right values here rest first (first + var_count op) (omega arith) h) le)
 
-  length-ops_domains : (ie : Bool) (block : ExtBlock) (h : ℕ) (ops : List ExtOp) → length (ops_domains e o ie block h ops) ≡ ops_count ops
+  pub length-ops_domains : (ie : Bool) (block : ExtBlock) (h : ℕ) (ops : List ExtOp) → length (ops_domains e o ie block h ops) ≡ ops_count ops
   length-ops_domains ie block h [] = refl
   length-ops_domains ie block h (op ∷ ops) = length-append (op_domains e o ie block h op) (ops_domains e o ie block h ops) ∙ ap (λ n. n + length (ops_domains e o ie block h ops)) (length-op_domains ie block h op) ∙ ap (λ n. var_count op + n) (length-ops_domains ie block h ops)
 
@@ -173,7 +173,7 @@ module _ (e : Ext) (o : Options) (values : List ℕ) where
       let le : 1 ≤ slice_index values (first + ops_count block.ops) = subst (λ k. 1 ≤ slice_index values k) e0 range.0 in
       placed_sit ie b block (var_at (first + ops_count block.ops)) n first block.ops (sits_left values ds (Range 1 (own_horizon block) ∷ []) first h) le
 
-  length-block : (ie : Bool) (block : ExtBlock) → length (block_domains e o ie (own_horizon block) block) ≡ block_count block
+  pub length-block : (ie : Bool) (block : ExtBlock) → length (block_domains e o ie (own_horizon block) block) ≡ block_count block
   length-block ie block = length-append (ops_domains e o ie block (own_horizon block) block.ops) (Range 1 (own_horizon block) ∷ []) ∙ ap (λ n. n + 1) (length-ops_domains ie block (own_horizon block) block.ops)
 
   -- whether an operation is of the entry

@@ -266,7 +266,7 @@ module _ (e : Ext) (o : Options) (values : List ℕ) (h : Solved e o values) whe
 
     -- ---- results
 
-    result_spot : (y : TempId) → p.op.results ≡ y ∷ [] → Member (spot p 0 y) (spots e o values)
+    pub result_spot : (y : TempId) → p.op.results ≡ y ∷ [] → Member (spot p 0 y) (spots e o values)
     result_spot y q =
         member_joined (map spots_of (all e o values)) (spots_of p) (spot p 0 y) (member_map spots_of (all e o values) p m)
         (subst (λ ys. Member (spot p 0 y) (places_from (spot p) 0 ys)) (sym q) (inl refl))
@@ -287,7 +287,7 @@ module _ (e : Ext) (o : Options) (values : List ℕ) (h : Solved e o values) whe
     result_place : (y : TempId) → p.op.results ≡ y ∷ [] → option_map (λ (r : Reg). r.0) (result_register (model_of e o) values p.op) ≡ Some (let T = temps_of p.block in T.place y.0)
     result_place y q = ap (λ ys. option_map (λ (r : Reg). r.0) (option_map (temp_register (model_of e o) values) (slice_get ys 0))) q ∙ ap Some (register_is e o values h (spot p 0 y) (result_spot y q))
 
-    result_space : (y : TempId) (op : Op) (s : Space) → p.op.results ≡ y ∷ [] → (issue_at values p).instr ≡ Some op → result_space_in op ≡ Some s → space_of (let T = temps_of p.block in T.place y.0) ≡ s
+    pub result_space : (y : TempId) (op : Op) (s : Space) → p.op.results ≡ y ∷ [] → (issue_at values p).instr ≡ Some op → result_space_in op ≡ Some s → space_of (let T = temps_of p.block in T.place y.0) ≡ s
     result_space y op s q ins f =
         let r = result_range y q in
         let g = given_space e o values (numbered e o values h) (spot p 0 y) (result_spot y q) h.schedule in
@@ -301,7 +301,7 @@ module _ (e : Ext) (o : Options) (values : List ℕ) (h : Solved e o values) whe
         go [] q l = ap (λ ys. option_map (λ (x : TempId). x.0) (slice_get ys 0)) (sym q)
         go (y ∷ ys) q l = let k = ap length q in absurd (omega arith)
 
-    one_result : length p.op.results ≡ 1 → (y : TempId) × (p.op.results ≡ y ∷ [])
+    pub one_result : length p.op.results ≡ 1 → (y : TempId) × (p.op.results ≡ y ∷ [])
     one_result l = go p.op.results refl l
       where
         go : (ys : List TempId) → ys ≡ p.op.results → length p.op.results ≡ 1 → (y : TempId) × (p.op.results ≡ y ∷ [])
@@ -353,7 +353,7 @@ module _ (e : Ext) (o : Options) (values : List ℕ) (h : Solved e o values) whe
         own_kind e o values (numbered e o values h) (fit_kinds e o values h) (spot p 0 y) (result_spot y q) (ap (λ (x : ExtKind). carried_at x (spot p 0 y)) k)
         ∙ ap (λ (x : ExtKind). kind_or (defined_kinds e.names p.owner x p.op) 0) k ∙ ap (λ ys. kind_or (map (λ (y : TempId). result_kind so.op) ys) 0) q
 
-    has_result : (op : Op) (d : Option NameId) → HasItsResult op d → (op ≡ Store → ⊥) → (op ≡ Call → ⊥) → length (option_to_list d) ≡ 1
+    pub has_result : (op : Op) (d : Option NameId) → HasItsResult op d → (op ≡ Store → ⊥) → (op ≡ Call → ⊥) → length (option_to_list d) ≡ 1
     has_result Store d r s c = absurd (s refl)
     has_result Call d r s c = absurd (c refl)
     has_result _ None r s c = absurd r

@@ -4,45 +4,53 @@ pub mod BlockJobs
 pub mod BlockStarts
 pub mod BlockTimed
 pub mod BlockValues
+mod BodyLists
+mod BodyPackets
+mod BodyPlaces
+mod BodyRules
+pub mod Codes
+pub mod Costs
+pub mod Counts
 pub mod Cycles
 pub mod Deeds
 pub mod Domains
+mod EdgeReads
 pub mod Edges
 pub mod Effects
-pub mod InOps
-mod EdgeReads
+pub mod Emission
 pub mod Exits
 pub mod FramePlace
 pub mod Holds
+pub mod InOps
 pub mod InTime
-pub mod TempKinds
 pub mod JobDeeds
-pub mod Jobs
 pub mod JobValues
+pub mod Jobs
 pub mod Lists
+pub mod LiveStands
+pub mod OfFunction
+pub mod OfSource
 pub mod Operations
 pub mod Packet
 pub mod Placed
 pub mod Places
 pub mod Readings
-pub mod Starts
-pub mod Codes
-pub mod Runs
-pub mod Emission
-pub mod OfSource
-pub mod LiveStands
-pub mod Simulating
-pub mod Costs
-pub mod Counts
-pub mod SolvedModels
 pub mod Right
+pub mod Rules
+pub mod RulesCounts
+pub mod RulesEnds
+pub mod RulesFrame
+pub mod RulesInstrs
+pub mod RulesLists
+pub mod RulesRoom
+pub mod RulesWriters
+pub mod Runs
 pub mod Schedule
 pub mod Settled
+pub mod Simulating
+pub mod SolvedModels
 pub mod Stack
+pub mod Starts
+pub mod TempKinds
 pub mod Timed
 pub mod Values
-mod BodyLists
-mod BodyPlaces
-mod BodyPackets
-mod BodyRules
-pub mod OfFunction

@@ -3,7 +3,8 @@
 ghost use Rattle.std.specs.Prelude.{◌≡◌, ◌≤◌, IfOk, IfSome, All};
 ghost use Rattle.un_emit.specs.Bounds.{IsPlace, HavePlaces};
 ghost use Rattle.un_isa.specs.declared.reg.TheConstants.{FRAME};
-ghost use Rattle.un_model.specs.Emission.{slot_offset, source_instr, label_at, label_of, term_instr, copy_instr, stack_instr, instr_by, instr_if, frame_of};
+ghost use Rattle.un_model.specs.Emission.{slot_offset, source_instr, label_at, label_of, term_instr, copy_instr, stack_instr};
+ghost use Rattle.un_model.specs.Emission.{instr_by, instr_if, frame_of};
 
 use crate::registers::{operand_registers, result_register};
 use std::alloc::Global;

@@ -8,32 +8,29 @@ loop-k-init c = record { made = c.new-blocks.ensures; rest = (0, c.requires.issu
 pub split_at-requires : goal.split_at-requires
 split_at-requires c =
     let (n, are) = c.loop-k.invariant.rest in
-    long c.args.m.now c.args.values.now c.get-block.result.now c.get-vars.result.now c.args.m.now.ext.blocks c.args.m.now.blocks c.loop-k.k n
-    c.loop-k.rest.now c.get-block.ensures c.get-vars.ensures are c.min.result (omega arith)
+    let m = c.args.m.now in
+    long m c.args.values.now c.get-block.result.now c.get-vars.result.now m.ext.blocks m.blocks c.loop-k.k n c.loop-k.rest.now
+    c.get-block.ensures c.get-vars.ensures are c.min.result (omega arith)
 
 pub code_block-requires-clause-issues : goal.code_block-requires-clause-issues
 code_block-requires-clause-issues c =
-    let (n, are) = c.loop-k.invariant.rest in (
-      c.loop-k.k,
-      n,
-      c.split_at.ensures.front ∙ own_first c.args.m.now c.args.values.now c.get-block.result.now c.get-vars.result.now
-          c.args.m.now.ext.blocks c.args.m.now.blocks c.loop-k.k n c.loop-k.rest.now c.get-block.ensures c.get-vars.ensures are
-          c.min.result (omega arith),
-    )
+    let (n, are) = c.loop-k.invariant.rest in
+    let m = c.args.m.now in
+    let first = own_first m c.args.values.now c.get-block.result.now c.get-vars.result.now m.ext.blocks m.blocks c.loop-k.k n
+    c.loop-k.rest.now c.get-block.ensures c.get-vars.ensures are c.min.result (omega arith) in
+    (c.loop-k.k, n, c.split_at.ensures.front ∙ first)
 
 pub loop-k-preserved : goal.loop-k-preserved
 loop-k-preserved c =
     let (n, are) = c.loop-k.invariant.rest in
+    let m = c.args.m.now in
+    let last = later_last m c.args.values.now c.get-block.result.now c.get-vars.result.now m.ext.blocks m.blocks c.loop-k.k n
+    c.loop-k.rest.now c.get-block.ensures c.get-vars.ensures are c.min.result (omega arith) in
     record {
-      made = block_more c.args.m.now c.args.values.now c.loop-k.k c.get-block.result.now c.get-vars.result.now c.loop-k.blocks c.push.new.self
+      made = block_more m c.args.values.now c.loop-k.k c.get-block.result.now c.get-vars.result.now c.loop-k.blocks c.push.new.self
           c.in_ok-code_block.field-0 c.get-block.ensures c.get-vars.ensures c.loop-k.invariant.made c.in_ok-code_block.ensures
           c.in_ok-push.ensures.ok;
-      rest = (
-        n + length c.get-block.result.now.ops,
-        c.split_at.ensures.back ∙ later_last c.args.m.now c.args.values.now c.get-block.result.now c.get-vars.result.now
-            c.args.m.now.ext.blocks c.args.m.now.blocks c.loop-k.k n c.loop-k.rest.now c.get-block.ensures c.get-vars.ensures are
-            c.min.result (omega arith),
-      );
+      rest = (n + length c.get-block.result.now.ops, c.split_at.ensures.back ∙ last);
     }
 
 pub returns : goal.returns
