@@ -1,7 +1,7 @@
 //! The code of a solution, and the proof that its packets do what the extended function does.
 #![tactic(auto)]
 
-pub mod emission;
+pub mod emit;
 mod frame;
 mod instructions;
 mod packets;

@@ -12,7 +12,7 @@ use un_problem::problem::{default_options, model};
 use std::alloc::Global;
 use un_base::memory_error::NoMemory;
 use un_baseline::spill::spill_everywhere;
-use un_emit::emission::emit;
+use un_emit::emit::emit;
 use un_ir::function::Function;
 use un_model::cost::cost;
 use un_model::model::{Model, Solution};

@@ -42,5 +42,6 @@ pub fn emit(alloc: Global, f: &Function, e: &Ext, m: &Model, s: &Solution) -> Re
 {
     let _ = f;
     let _ = e;
-    solution_code(alloc, m, s)
+    let code = solution_code(alloc, m, s)?;
+    Ok(code)
 }
