@@ -158,14 +158,14 @@ pub(crate) fn code_blocks(
     requires issues { issues.now ≡ issues_of m.now values.now }
     ensures { IfOk result (λ blocks. blocks ≡ code_blocks m.now values.now) }
 {
-    let mut blocks = Items::new(alloc);
+    let mut code = Items::new(alloc);
     let mut rest = issues;
     for k in 0..m.ext.blocks.len().min(m.blocks.len()) {
         let block = m.ext.blocks.get(k);
         let vars = m.blocks.get(k);
         let (own, later) = rest.split_at(block.ops.len().min(vars.ops.len()));
-        blocks.push(code_block(alloc, m, values, frame, own, block, vars)?)?;
+        code.push(code_block(alloc, m, values, frame, own, block, vars)?)?;
         rest = later;
     }
-    Ok(blocks)
+    Ok(code)
 }

@@ -29,14 +29,14 @@ invariant_of-result c =
     let k = c.requires in
     record {
       rules = ∣ rules_kept c.args.m.now c.args.s.now c.as_slice-values.result.now c.as_slice-values.ensures k.model k.extended k.fit
-          k.options k.solution c.frame-frame.result c.in_ok-blocks.blocks c.frame-frame.ensures c.in_ok-blocks.ensures ∣₁;
+          k.options k.solution c.frame-frame.result c.in_ok-code.code c.frame-frame.ensures c.in_ok-code.ensures ∣₁;
     }
 
 pub returns : goal.returns
 returns c =
     let k = c.requires in
     let frame = c.frame-frame.ensures ∙ ap (frame_of c.args.m.now) c.as_slice-values.ensures in
-    let blocks = c.in_ok-blocks.ensures ∙ ap (code_blocks c.args.m.now) c.as_slice-values.ensures in
+    let blocks = c.in_ok-code.ensures ∙ ap (code_blocks c.args.m.now) c.as_slice-values.ensures in
     record {
       emitted = record { frame = frame; blocks = blocks };
       right = right c.args.m.now c.args.s.now k.model _ (record { frame = frame; blocks = blocks }) k.extended k.fit k.options k.solution;
