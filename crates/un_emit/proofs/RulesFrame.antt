@@ -149,7 +149,7 @@ module _ (e : Ext) (o : Options) (values : List ℕ) (h : Solved e o values) whe
       let p = u.definer in
       let ie = in_entry e o values p in
       let f = domain_low ie p.owner p.op.kind u.place u.temp (carried p.op u.temp) (value_of values (record { 0 = p.first + register_place p.op + u.place }))
-      (register_sits e o values ie p u.place u.temp (placed_domains e o values h p d.0) d.1) in
+          (register_sits e o values ie p u.place u.temp (placed_domains e o values h p d.0) d.1) in
       subst (λ (x : LiveRange). IsLow x.reg) s.3 f
 
   -- the place of an active temporary
