@@ -44,6 +44,7 @@ pub mod Values
 pub mod RulesLists
 pub mod RulesFrame
 pub mod RulesCounts
+pub mod RulesOps
 pub mod RulesInstrs
 pub mod RulesRoom
 pub mod RulesWriters

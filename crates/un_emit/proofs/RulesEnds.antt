@@ -28,8 +28,9 @@ use Rattle.un_emit.proofs.Lists.{Each, Member, each_member, each_of, each_map, a
 use Rattle.un_emit.proofs.Placed.{Placed, region_placed}
 use Rattle.un_emit.proofs.Places.{words, placing, any_true}
 use Rattle.un_emit.proofs.Readings.{Solved, good}
-use Rattle.un_emit.proofs.RulesInstrs.{LeadsIn, there, end_leads}
+use Rattle.un_emit.proofs.RulesInstrs.{end_leads}
 use Rattle.un_emit.proofs.RulesLists.{all_each, some_and}
+use Rattle.un_emit.proofs.RulesOps.{LeadsIn, there}
 use Rattle.un_emit.proofs.Schedule.{all, get_range}
 use Rattle.un_emit.proofs.Timed.{Job, instrs, issues_at, jobs_at, or_rest, packet_jobs, is_transfer as transfers_by, together}
 
