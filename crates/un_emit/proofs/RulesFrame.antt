@@ -1,9 +1,8 @@
 -- The frame of the emitted code has at most as many bytes as code may have: no register is past the slots that the options give.
-use Rattle.std.proofs.Common.{ℕ, zero, suc, pos, ◌≡◌, ◌<◌, ◌≤◌, ◌+◌, ◌-◌, ◌*◌, ◌/◌, max, Bool, true, false, ◌&&◌, List, [], ◌∷◌, ◌++◌, map, length, inl, inr, refl, sym, ap, ◌∙◌, subst, arith}
+use Rattle.std.proofs.Common.{ℕ, zero, suc, ◌≡◌, ◌<◌, ◌≤◌, ◌+◌, ◌-◌, max, Bool, true, false, ◌&&◌, List, [], ◌∷◌, ◌++◌, map, length, sym, subst, arith}
 use Rattle.std.specs.Prelude.{Option, Some, None, slice_get, slice_index, nat_le, ◌==◌, ◌||◌, if◌then◌else◌, IfSome, fold}
 use Rattle.std.specs.List.{range_with_len}
 use Rattle.std.specs.Option.{option_map, option_to_list}
-use Rattle.std.proofs.lemmas.Bool.{and_parts}
 use Rattle.un_base.specs.declared.ids.NameId.{NameId}
 use Rattle.un_base.specs.declared.ids.TempId.{TempId}
 use Rattle.un_isa.specs.Fit.{IsFit}
@@ -29,9 +28,8 @@ use Rattle.un_model.specs.Solutions.{InDomain}
 use Rattle.un_model.specs.Variables.{model_of, register_domain, source_domain, register_place, carried}
 use Rattle.un_emit.proofs.BlockTimed.{definer_of, range_in}
 use Rattle.un_emit.proofs.Domains.{register_sits, in_entry}
-use Rattle.un_emit.proofs.Lists.{Each, Member, each_member, each_of, each_more, each_join, member_at, member_of_filter, place_of}
+use Rattle.un_emit.proofs.Lists.{Each, each_member, each_of, each_join, member_of_filter, place_of}
 use Rattle.un_emit.proofs.Operations.{contains_member}
-use Rattle.un_emit.proofs.Placed.{Placed}
 use Rattle.un_emit.proofs.Readings.{Solved, numbered, placed_domains}
 use Rattle.un_emit.proofs.RulesLists.{range_below}
 use Rattle.un_emit.proofs.Schedule.{the_ranges, range_at, active_spot}

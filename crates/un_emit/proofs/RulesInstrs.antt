@@ -30,7 +30,7 @@ use Rattle.un_model.specs.declared.model.Options.{Options}
 use Rattle.un_model.specs.declared.schedule.LiveRange.{LiveRange}
 use Rattle.un_model.specs.Cost.{value_of}
 use Rattle.un_model.specs.Emission.{temp_register, operand_registers, result_register, source_instr, term_instr, copy_instr, stack_instr, instr_by, instr_if, frame_of, frame_bytes, largest_slot}
-use Rattle.un_model.specs.Instructions.{instruction_of, transfer_of, copy_of, frame_instr, result_space_in}
+use Rattle.un_model.specs.Instructions.{instruction_of, transfer_of, frame_instr, result_space_in}
 use Rattle.un_model.specs.Pairs.{places_from}
 use Rattle.un_model.specs.Schedules.{choice_of, instr_of, value_by, is_frame_op}
 use Rattle.un_model.specs.Solutions.{HasFrame, HasHome}
@@ -191,8 +191,8 @@ module _ (e : Ext) (o : Options) (values : List ℕ) (h : Solved e o values) whe
         go None q = tt
         go (Some y) q =
             let s = spot p 0 y in
-            let placed = member_map spots_of (all e o values) p m in
-            let ms = member_joined (map spots_of (all e o values)) (spots_of p) s placed (member_places (spot p) p.op.results 0 0 0 y (omega arith) q) in
+            let own = member_places (spot p) p.op.results 0 0 0 y (omega arith) q in
+            let ms = member_joined (map spots_of (all e o values)) (spots_of p) s (member_map spots_of (all e o values) p m) own in
             let range = range_here e o values (numbered e o values h) s ms in
             let a : (range_at e o values y.0).active ≡ true = ap (λ (v : LiveRange). v.active) range ∙ act in
             let reg = register_is e o values h s ms in
@@ -268,7 +268,8 @@ module _ (e : Ext) (o : Options) (values : List ℕ) (h : Solved e o values) whe
           label = source_label so.op so.callee g.op g.callee;
         })
 
-        giving : (s : Space) → (so.op ≡ Store → ⊥) → (so.op ≡ Call → ⊥) → result_space_in so.op ≡ Some s → Good (source_instr so so.op srcs dst)
+        giving : (s : Space) → (so.op ≡ Store → ⊥) → (so.op ≡ Call → ⊥) → result_space_in so.op ≡ Some s
+            → Good (source_instr so so.op srcs dst)
         giving s st n f =
             let g = ok in
             let r = one_result e o values h p m (counted ∙ has_result e o values h p m so.op so.dst g.result st n) in
@@ -304,7 +305,8 @@ module _ (e : Ext) (o : Options) (values : List ℕ) (h : Solved e o values) whe
 
         by_class : TextClass so.op → Good (source_instr so so.op srcs dst)
         by_class (alu a s) =
-            giving (space_for (result_kind so.op)) (told_apart is_alu so.op Store a refl) (told_apart is_alu so.op Call a refl) (result_in so.op a s)
+            let apart : (op : Op) → is_alu op ≡ false → so.op ≡ op → ⊥ = λ op f. told_apart is_alu so.op op a f in
+            giving (space_for (result_kind so.op)) (apart Store refl) (apart Call refl) (result_in so.op a s)
         by_class (loading q) = giving R (λ c. absurd (cc (q, c))) (λ c. absurd (cc (q, c))) (ap result_space_in q)
         by_class (storing q) = stores q
         by_class (calling q) = subst (λ (op : Op). Good (source_instr so op srcs dst)) (sym q) (calls q)
@@ -322,7 +324,8 @@ module _ (e : Ext) (o : Options) (values : List ℕ) (h : Solved e o values) whe
         let gb = good e o values h in
         subst (LeadsIn e.blocks p.block) t (gb.leads p.block p.owner g.here)
 
-    good_end : (term : Term) (op : Op) → p.op.kind ≡ End term → Acts → Issues op → transfer_of term ≡ Some op → Good (term_instr e.blocks term op srcs)
+    good_end : (term : Term) (op : Op) → p.op.kind ≡ End term → Acts → Issues op → transfer_of term ≡ Some op
+        → Good (term_instr e.blocks term op srcs)
     good_end term op k act ins q =
         let f = end_facts frame e.blocks p.block term op q in
         record {

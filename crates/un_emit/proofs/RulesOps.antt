@@ -108,35 +108,26 @@ pub data IsCopyOp (op : Op) : Type 0 where
   p2r : op ≡ P2R → IsCopyOp op
   r2p : op ≡ R2P → IsCopyOp op
 
+abbrev late_op : ℕ → Option Op
+late_op n = if n == 3 then Some Reload else (if n == 4 then Some P2R else (if n == 5 then Some R2P else None))
+
 pub copy_is : (n : ℕ) (op : Op) → copy_of n ≡ Some op → IsCopyOp op
 copy_is n op q = first (n == 1) q
   where
     some : (x : Op) → Some x ≡ Some op → op ≡ x
     some x q = let k : x ≡ op = cc q in sym k
 
-    fifth : (b : Bool) → (if b then Some R2P else None) ≡ Some op → IsCopyOp op
-    fifth true q = r2p (some R2P q)
-    fifth false q = absurd (cc q)
+    third : (b c d : Bool) → (if b then Some Reload else (if c then Some P2R else (if d then Some R2P else None))) ≡ Some op → IsCopyOp op
+    third true c d q = reload (some Reload q)
+    third false true d q = p2r (some P2R q)
+    third false false true q = r2p (some R2P q)
+    third false false false q = absurd (cc q)
 
-    fourth : (b : Bool) → (if b then Some P2R else (if n == 5 then Some R2P else None)) ≡ Some op → IsCopyOp op
-    fourth true q = p2r (some P2R q)
-    fourth false q = fifth (n == 5) q
-
-    third : (b : Bool) → (if b then Some Reload else (if n == 4 then Some P2R else (if n == 5 then Some R2P else None))) ≡ Some op
-        → IsCopyOp op
-    third true q = reload (some Reload q)
-    third false q = fourth (n == 4) q
-
-    second : (b : Bool)
-        → (if b then Some Spill else (if n == 3 then Some Reload else (if n == 4 then Some P2R else (if n == 5 then Some R2P else None)))) ≡ Some op
-        → IsCopyOp op
+    second : (b : Bool) → (if b then Some Spill else late_op n) ≡ Some op → IsCopyOp op
     second true q = spill (some Spill q)
-    second false q = third (n == 3) q
+    second false q = third (n == 3) (n == 4) (n == 5) q
 
-    first : (b : Bool)
-        → (if b then Some Mov else
-        (if n == 2 then Some Spill else (if n == 3 then Some Reload else (if n == 4 then Some P2R else (if n == 5 then Some R2P else None))))) ≡ Some op
-        → IsCopyOp op
+    first : (b : Bool) → (if b then Some Mov else (if n == 2 then Some Spill else late_op n)) ≡ Some op → IsCopyOp op
     first true q = mov (some Mov q)
     first false q = second (n == 2) q
 
@@ -167,28 +158,28 @@ pub record EndFacts (frame : ℕ) (blocks : List ExtBlock) (b : ℕ) (term : Ter
 pub end_facts : (frame : ℕ) (blocks : List ExtBlock) (b : ℕ) (term : Term) (op : Op) → transfer_of term ≡ Some op
     → EndFacts frame blocks b term op
 end_facts frame blocks b Fall op q = absurd (cc q)
-end_facts frame blocks b (Jump to) op q = let k : JumpOp ≡ op = cc q in subst (EndFacts frame blocks b (Jump to)) k (record {
+end_facts frame blocks b (Jump to) op q = let k : JumpOp ≡ op = cc q in subst (EndFacts frame blocks b _) k (record {
   count = refl;
   plain = λ z. absurd (cc z);
   result = refl;
   literal = refl;
   label = λ l. label_there blocks to (l 0 0 (omega arith)).1;
 })
-end_facts frame blocks b (Branch pred true to) op q = let k : JumpIf ≡ op = cc q in subst (EndFacts frame blocks b (Branch pred true to)) k (record {
+end_facts frame blocks b (Branch pred true to) op q = let k : JumpIf ≡ op = cc q in subst (EndFacts frame blocks b _) k (record {
   count = refl;
   plain = λ z. absurd (cc z);
   result = refl;
   literal = refl;
   label = λ l. label_there blocks to (l 1 0 (omega arith)).1;
 })
-end_facts frame blocks b (Branch pred false to) op q = let k : JumpIfNot ≡ op = cc q in subst (EndFacts frame blocks b (Branch pred false to)) k (record {
+end_facts frame blocks b (Branch pred false to) op q = let k : JumpIfNot ≡ op = cc q in subst (EndFacts frame blocks b _) k (record {
   count = refl;
   plain = λ z. absurd (cc z);
   result = refl;
   literal = refl;
   label = λ l. label_there blocks to (l 1 0 (omega arith)).1;
 })
-end_facts frame blocks b (Ret value) op q = let k : Jumpr ≡ op = cc q in subst (EndFacts frame blocks b (Ret value)) k (record {
+end_facts frame blocks b (Ret value) op q = let k : Jumpr ≡ op = cc q in subst (EndFacts frame blocks b _) k (record {
   count = refl;
   plain = λ z. absurd (cc z);
   result = refl;

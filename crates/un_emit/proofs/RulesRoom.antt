@@ -1,5 +1,5 @@
 -- The instructions of a packet have room in it, and a nop stands alone.
-use Rattle.std.proofs.Common.{ℕ, ◌≡◌, ◌<◌, ◌≤◌, ◌+◌, Bool, true, false, cond, List, [], ◌∷◌, ◌++◌, length, map, filter, inl, refl, sym, ap, ◌∙◌, subst, arith}
+use Rattle.std.proofs.Common.{ℕ, ◌≡◌, ◌≤◌, ◌+◌, Bool, true, false, cond, List, [], ◌∷◌, ◌++◌, length, map, inl, refl, sym, ap, ◌∙◌, subst, arith}
 use Rattle.std.specs.Prelude.{Option, Some, None, slice_get, unwrap_or, nat_eq, ◌==◌, if◌then◌else◌, sum_by, IsSomeAnd}
 use Rattle.std.specs.Bool.{OnTrue}
 use Rattle.std.specs.List.{list_any}
@@ -21,7 +21,7 @@ use Rattle.un_ir.specs.declared.extended.ExtKind.{ExtKind}
 use Rattle.un_ir.specs.declared.extended.ExtKind.TheVariants.{In, Out, Body, End, Copy, Enter, Leave}
 use Rattle.un_ir.specs.declared.extended.ExtOp.{ExtOp}
 use Rattle.un_ir.specs.declared.extended.Ext.{Ext}
-use Rattle.un_ir.specs.Extended.{IsGoodKind, IsSourceOp}
+use Rattle.un_ir.specs.Extended.{IsGoodKind}
 use Rattle.un_model.specs.declared.model.Options.{Options}
 use Rattle.un_model.specs.declared.schedule.Issue.{Issue}
 use Rattle.un_model.specs.declared.schedule.Resource.{Resource}
@@ -31,7 +31,7 @@ use Rattle.un_model.specs.Schedules.{issues_of, value_by}
 use Rattle.un_model.specs.Solutions.{HasRoom, share_of, taken, issues_at as issues_in, places_of}
 use Rattle.un_model.specs.Variables.{model_of}
 use Rattle.un_packet.specs.CodeRules.{needs_of, is_nop}
-use Rattle.un_emit.proofs.BlockJobs.{InRegion, IsJob, job_is, each_job}
+use Rattle.un_emit.proofs.BlockJobs.{InRegion, job_is, each_job}
 use Rattle.un_emit.proofs.BlockTimed.{own_jobs, its_block, here, job_op}
 use Rattle.un_emit.proofs.Jobs.{job_with, job_by, instr_at, jobs_of}
 use Rattle.un_emit.proofs.Lists.{Each, Member, each_of, each_map, each_filter, any_none}
