@@ -1,7 +1,8 @@
 -- The emitted code of a solution keeps the rules of code, which the type `Code` asks of its parts. What emits it needs this alone:
 --   keeps_rules : (e : Ext) (o : Options) (values : List ℕ) → Solved e o values
 --       → KeepsRules (frame_of (model_of e o) values) (code_blocks (model_of e o) values)
-use Rattle.std.proofs.Common.{ℕ, ◌≡◌, ◌≢◌, ◌<◌, ◌≤◌, ◌+◌, ◌-◌, List, [], ◌∷◌, length, map, refl, sym, ap, ◌∙◌, subst, arith, All, AllPairs, Contains}
+use Rattle.std.proofs.Common.{ℕ, ◌≡◌, ◌≢◌, ◌<◌, ◌≤◌, ◌+◌, ◌-◌, List, [], ◌∷◌, length, map, refl, sym, ap, ◌∙◌, subst, arith, All}
+use Rattle.std.proofs.Common.{AllPairs, Contains}
 use Rattle.std.specs.Prelude.{Some, slice_get, IsSomeAnd}
 use Rattle.std.specs.List.{range_with_len}
 use Rattle.std.specs.Option.{option_map}
@@ -21,7 +22,8 @@ use Rattle.un_emit.proofs.Costs.{block_number, frame_whole}
 use Rattle.un_emit.proofs.Cycles.{packet_of, each_packet}
 use Rattle.un_emit.proofs.Emission.{is_code}
 use Rattle.un_emit.proofs.JobDeeds.{temps_of}
-use Rattle.un_emit.proofs.Lists.{Pairwise, each_of, each_map, get_below, slice_get-map, length_get, pairwise_all, pairwise_map, pairwise_of_map}
+use Rattle.un_emit.proofs.Lists.{Pairwise, each_of, each_map, get_below, slice_get-map, length_get, pairwise_all, pairwise_map}
+use Rattle.un_emit.proofs.Lists.{pairwise_of_map}
 use Rattle.un_emit.proofs.Placed.{region_placed}
 use Rattle.un_emit.proofs.Places.{words, placing}
 use Rattle.un_emit.proofs.Readings.{Solved, good}

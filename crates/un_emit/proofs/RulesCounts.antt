@@ -9,7 +9,8 @@ use Rattle.un_ir.specs.Extended.{IsGoodExtBlock}
 use Rattle.un_domains.specs.declared.domain.Domain.TheVariants.{Range}
 use Rattle.un_model.specs.declared.model.BlockVars.{BlockVars}
 use Rattle.un_model.specs.declared.model.Options.{Options}
-use Rattle.un_model.specs.Variables.{model_of, block_vars, blocks_vars, block_count, ops_count, ops_domains, block_domains, blocks_domains, own_horizon, domains_of}
+use Rattle.un_model.specs.Variables.{model_of, block_vars, blocks_vars, block_count, ops_count, ops_domains, block_domains}
+use Rattle.un_model.specs.Variables.{blocks_domains, own_horizon, domains_of}
 use Rattle.un_packet.specs.declared.code.CodeBlock.{CodeBlock}
 use Rattle.un_packet.specs.declared.code.TheConstants.{PACKETS}
 use Rattle.un_emit.specs.Emitted.{code_block, code_blocks}

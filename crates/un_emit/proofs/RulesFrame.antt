@@ -1,5 +1,6 @@
 -- The frame of the emitted code has at most as many bytes as code may have: no register is past the slots that the options give.
-use Rattle.std.proofs.Common.{ℕ, zero, suc, ◌≡◌, ◌<◌, ◌≤◌, ◌+◌, ◌-◌, max, Bool, true, false, ◌&&◌, List, [], ◌∷◌, ◌++◌, map, length, sym, subst, arith}
+use Rattle.std.proofs.Common.{ℕ, zero, suc, ◌≡◌, ◌<◌, ◌≤◌, ◌+◌, ◌-◌, max, Bool, true, false, ◌&&◌, List, [], ◌∷◌, ◌++◌, map, length, sym}
+use Rattle.std.proofs.Common.{subst, arith}
 use Rattle.std.specs.Prelude.{Option, Some, None, slice_get, slice_index, nat_le, ◌==◌, ◌||◌, if◌then◌else◌, IfSome, fold}
 use Rattle.std.specs.List.{range_with_len}
 use Rattle.std.specs.Option.{option_map, option_to_list}
@@ -23,7 +24,8 @@ use Rattle.un_model.specs.declared.schedule.LiveRange.{LiveRange}
 use Rattle.un_model.specs.Cost.{value_of}
 use Rattle.un_model.specs.Emission.{larger_slot, largest_slot, frame_of, frame_bytes}
 use Rattle.un_model.specs.Instructions.{gives_truth}
-use Rattle.un_model.specs.Registers.{is_assignable, predicate_registers, slots_of, reg_at, start_home, is_home, general_registers, value_registers, with_zero, is_truth}
+use Rattle.un_model.specs.Registers.{is_assignable, predicate_registers, slots_of, reg_at, start_home, is_home, general_registers}
+use Rattle.un_model.specs.Registers.{value_registers, with_zero, is_truth}
 use Rattle.un_model.specs.Solutions.{InDomain}
 use Rattle.un_model.specs.Variables.{model_of, register_domain, source_domain, register_place, carried}
 use Rattle.un_emit.proofs.BlockTimed.{definer_of, range_in}

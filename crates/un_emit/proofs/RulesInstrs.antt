@@ -1,5 +1,6 @@
 -- Each instruction of the emitted code has the operands, the result, the literal and the label that its operation asks for.
-use Rattle.std.proofs.Common.{ℕ, zero, suc, pos, neg_ℤ, ◌≡◌, ◌≢◌, ◌<◌, ◌≤◌, ◌+◌, Bool, true, false, List, [], ◌∷◌, length, map, take, refl, sym, ap, ◌∙◌, subst, arith}
+use Rattle.std.proofs.Common.{ℕ, zero, suc, pos, neg_ℤ, ◌≡◌, ◌≢◌, ◌<◌, ◌≤◌, ◌+◌, Bool, true, false, List, [], ◌∷◌, length, map, take}
+use Rattle.std.proofs.Common.{refl, sym, ap, ◌∙◌, subst, arith}
 use Rattle.std.specs.Prelude.{Option, Some, None, slice_get, ◌==◌, if◌then◌else◌, IfSome}
 use Rattle.std.specs.List.{range_with_len}
 use Rattle.std.specs.Option.{option_map, option_to_list}
@@ -29,7 +30,8 @@ use Rattle.un_ir.specs.WellFormed.{NamesItsCallee, result_kind}
 use Rattle.un_model.specs.declared.model.Options.{Options}
 use Rattle.un_model.specs.declared.schedule.LiveRange.{LiveRange}
 use Rattle.un_model.specs.Cost.{value_of}
-use Rattle.un_model.specs.Emission.{temp_register, operand_registers, result_register, source_instr, term_instr, copy_instr, stack_instr, instr_by, instr_if, frame_of, frame_bytes, largest_slot}
+use Rattle.un_model.specs.Emission.{temp_register, operand_registers, result_register, source_instr, term_instr, copy_instr, stack_instr}
+use Rattle.un_model.specs.Emission.{instr_by, instr_if, frame_of, frame_bytes, largest_slot}
 use Rattle.un_model.specs.Instructions.{instruction_of, transfer_of, frame_instr, result_space_in}
 use Rattle.un_model.specs.Pairs.{places_from}
 use Rattle.un_model.specs.Schedules.{choice_of, instr_of, value_by, is_frame_op}
@@ -38,14 +40,18 @@ use Rattle.un_model.specs.Variables.{model_of}
 use Rattle.un_packet.specs.CodeRules.{IsGoodInstr, number}
 use Rattle.un_emit.proofs.BlockEdges.{ends_by}
 use Rattle.un_emit.proofs.BlockJobs.{IsJob, active_of, some_active}
-use Rattle.un_emit.proofs.JobDeeds.{TextClass, text_class, alu, load as loading, store as storing, call as calling, space_for, result_in, operand_facts, read_space, result_spot, result_space as given_in, one_result, has_result, CopyParts, copy_parts}
+use Rattle.un_emit.proofs.JobDeeds.{TextClass, text_class, alu, load as loading, store as storing, call as calling, space_for, result_in}
+use Rattle.un_emit.proofs.JobDeeds.{operand_facts, read_space, result_spot, result_space as given_in, one_result, has_result, CopyParts}
+use Rattle.un_emit.proofs.JobDeeds.{copy_parts}
 use Rattle.un_emit.proofs.Lists.{Each, Member, each_member, each_more, member_at, member_map, slice_get-map}
 use Rattle.un_emit.proofs.Placed.{Placed, vars_of, issue_at, spot, spots_of}
 use Rattle.un_emit.proofs.Places.{not_stack}
 use Rattle.un_emit.proofs.Readings.{Solved, good, numbered, placed_good, reading, register_is}
 use Rattle.un_emit.proofs.RulesFrame.{IsLow, low}
 use Rattle.un_emit.proofs.RulesLists.{zip_length}
-use Rattle.un_emit.proofs.RulesOps.{spaces_of, space_at, told_apart, space_listed, reads_plain, writes_plain, base_of, offset_fits, minus_is, source_count, source_gives, source_number, source_label, IsCopyOp, mov, spill, reload, p2r, r2p, copy_is, LeadsIn, end_facts, only_end}
+use Rattle.un_emit.proofs.RulesOps.{spaces_of, space_at, told_apart, space_listed, reads_plain, writes_plain, base_of, offset_fits}
+use Rattle.un_emit.proofs.RulesOps.{minus_is, source_count, source_gives, source_number, source_label, IsCopyOp, mov, spill, reload, p2r}
+use Rattle.un_emit.proofs.RulesOps.{r2p, copy_is, LeadsIn, end_facts, only_end}
 use Rattle.un_emit.proofs.Schedule.{all, the_ranges, range_at, range_here, each_issue, member_joined, member_places}
 use Rattle.un_emit.proofs.Timed.{Job}
 

@@ -1,5 +1,6 @@
 -- What holds of all elements of a list, of its pairs and of its sums, for the rules of code.
-use Rattle.std.proofs.Common.{ℕ, zero, suc, ◌≡◌, ◌≢◌, ◌<◌, ◌≤◌, ◌+◌, Bool, true, ◌&&◌, List, [], ◌∷◌, ◌++◌, length, map, inl, inr, ⊎_elim, refl, sym, ap, ◌∙◌, subst, arith, All, AllPairs, Contains, slice_index_or}
+use Rattle.std.proofs.Common.{ℕ, zero, suc, ◌≡◌, ◌≢◌, ◌<◌, ◌≤◌, ◌+◌, Bool, true, ◌&&◌, List, [], ◌∷◌, ◌++◌, length, map, inl, inr, ⊎_elim}
+use Rattle.std.proofs.Common.{refl, sym, ap, ◌∙◌, subst, arith, All, AllPairs, Contains, slice_index_or}
 use Rattle.std.specs.Prelude.{Option, Some, slice_get, sum_by, nat_lt, IsSomeAnd}
 use Rattle.std.specs.List.{flat_map, range_with_len, list_all, AllZip}
 use Rattle.std.proofs.lemmas.Bool.{and_parts, ltb-true}

@@ -1,5 +1,6 @@
 -- What the rules of code ask of an instruction, operation by operation.
-use Rattle.std.proofs.Common.{ℕ, ℤ, zero, suc, pos, neg_ℤ, ◌≡◌, ◌≢◌, ◌<◌, ◌-◌, ◌*◌, Bool, true, false, List, [], ◌∷◌, length, map, refl, sym, ap, ◌∙◌, subst, arith, All, le→leb}
+use Rattle.std.proofs.Common.{ℕ, ℤ, zero, suc, pos, neg_ℤ, ◌≡◌, ◌≢◌, ◌<◌, ◌-◌, ◌*◌, Bool, true, false, List, [], ◌∷◌, length, map, refl}
+use Rattle.std.proofs.Common.{sym, ap, ◌∙◌, subst, arith, All, le→leb}
 use Rattle.std.specs.Prelude.{Option, Some, None, slice_get, ◌==◌, if◌then◌else◌, IfSome}
 use Rattle.std.specs.Option.{option_map}
 use Rattle.un_base.specs.declared.ids.BlockId.{BlockId}
@@ -7,7 +8,8 @@ use Rattle.un_isa.specs.Facts.{is_source, operand_spaces, result_space}
 use Rattle.un_isa.specs.Operands.{HasLiteral}
 use Rattle.un_isa.specs.Registers.{space_of}
 use Rattle.un_isa.specs.declared.op.Op.{Op}
-use Rattle.un_isa.specs.declared.op.Op.TheVariants.{Mov, Load, Store, Call, Jump as JumpOp, JumpIf, JumpIfNot, Jumpr, Spill, Reload, P2R, R2P, Enter, Leave}
+use Rattle.un_isa.specs.declared.op.Op.TheVariants.{Mov, Load, Store, Call, Jump as JumpOp, JumpIf, JumpIfNot, Jumpr, Spill, Reload, P2R}
+use Rattle.un_isa.specs.declared.op.Op.TheVariants.{R2P, Enter, Leave}
 use Rattle.un_isa.specs.declared.reg.Reg.{Reg}
 use Rattle.un_isa.specs.declared.reg.Space.{Space}
 use Rattle.un_isa.specs.declared.reg.TheConstants.{STACK}

@@ -1,5 +1,6 @@
 -- No two instructions of a packet write one register, where a call writes all that calls may write.
-use Rattle.std.proofs.Common.{ℕ, ◌≡◌, ◌≢◌, ◌<◌, Bool, true, false, not, ◌&&◌, List, [], ◌∷◌, map, ◌⊎◌, inl, inr, ⊎_elim, refl, sym, ap, ◌∙◌, subst, arith, AllPairs}
+use Rattle.std.proofs.Common.{ℕ, ◌≡◌, ◌≢◌, ◌<◌, Bool, true, false, not, ◌&&◌, List, [], ◌∷◌, map, ◌⊎◌, inl, inr, ⊎_elim, refl, sym, ap}
+use Rattle.std.proofs.Common.{◌∙◌, subst, arith, AllPairs}
 use Rattle.std.specs.Prelude.{Option, Some, None, nat_eq, nat_lt}
 use Rattle.std.specs.List.{flat_map}
 use Rattle.std.specs.Option.{option_map, option_to_list}
