@@ -25,6 +25,15 @@ pub mod Packet
 pub mod Placed
 pub mod Places
 pub mod Readings
+pub mod RulesLists
+pub mod RulesFrame
+pub mod RulesCounts
+pub mod RulesOps
+pub mod RulesInstrs
+pub mod RulesRoom
+pub mod RulesWriters
+pub mod RulesEnds
+pub mod Rules
 pub mod Starts
 pub mod Codes
 pub mod Runs
@@ -45,11 +54,3 @@ mod BodyLists
 mod BodyPlaces
 mod BodyPackets
 mod BodyRules
-pub mod RulesLists
-pub mod RulesFrame
-pub mod RulesCounts
-pub mod RulesInstrs
-pub mod RulesRoom
-pub mod RulesWriters
-pub mod RulesEnds
-pub mod Rules
