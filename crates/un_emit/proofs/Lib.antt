@@ -54,3 +54,4 @@ mod BodyLists
 mod BodyPlaces
 mod BodyPackets
 mod BodyRules
+pub mod OfFunction
