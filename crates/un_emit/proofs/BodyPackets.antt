@@ -1,5 +1,5 @@
 -- What the loops over the operations of a block, and over the blocks, have made so far.
-use Rattle.std.proofs.Common.{ℕ, ◌≡◌, ◌≤◌, ◌+◌, ◌-◌, refl, sym, ap, ◌∙◌, arith}
+use Rattle.std.proofs.Common.{ℕ, ◌≡◌, ◌≤◌, ◌+◌, ◌-◌, sym, ap, ◌∙◌, arith}
 use Rattle.std.proofs.Common.{List, [], ◌∷◌, ◌++◌, length, map, take, drop, min, get_or, replicate, length-append}
 use Rattle.std.specs.Prelude.{◌==◌, if◌then◌else◌, Option, Some, slice_get}
 use Rattle.std.specs.List.{range_with_len, zip}
@@ -9,7 +9,6 @@ use Rattle.std.proofs.lemmas.List.{take_all}
 use Rattle.std.proofs.lemmas.Simd.{map-map}
 use Rattle.std.proofs.lemmas.Slice.Zip.{length-zip}
 use Rattle.un_isa.specs.declared.instr.Instr.{Instr}
-use Rattle.un_isa.specs.declared.op.Op.{Op}
 use Rattle.un_ir.specs.declared.extended.ExtOp.{ExtOp}
 use Rattle.un_ir.specs.declared.extended.ExtBlock.{ExtBlock}
 use Rattle.un_model.specs.declared.model.BlockVars.{BlockVars}
@@ -22,7 +21,6 @@ use Rattle.un_model.specs.Pairs.{joined, over_blocks}
 use Rattle.un_model.specs.Schedules.{issue_of, block_issues}
 use Rattle.un_model.proofs.Steps.{drop_at}
 use Rattle.un_packet.specs.declared.code.CodeBlock.{CodeBlock}
-use Rattle.un_packet.specs.declared.code.Packet.{Packet}
 use Rattle.un_emit.specs.Emitted.{packet_with, code_block, code_blocks}
 use Rattle.un_emit.proofs.BodyLists.{map_alike, map_empty, map_more, joined_more, zip_get, pairs_get, length-pairs}
 use Rattle.un_emit.proofs.Lists.{index_get}

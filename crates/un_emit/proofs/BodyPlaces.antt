@@ -1,7 +1,6 @@
 -- The values of a solution give each temporary a register or one of the slots that a frame may have.
-use Rattle.std.proofs.Common.{ℕ, ◌≡◌, ◌<◌, Bool, true, List, ⊎_elim, refl, sym, ap, subst, arith}
+use Rattle.std.proofs.Common.{ℕ, ◌≡◌, ◌<◌, true, List, ⊎_elim, refl, sym, subst, arith}
 use Rattle.std.specs.Prelude.{Option, Some, None, slice_get}
-use Rattle.un_base.specs.declared.ids.TempId.{TempId}
 use Rattle.un_ir.specs.declared.extended.Ext.{Ext}
 use Rattle.un_model.specs.declared.model.Options.{Options}
 use Rattle.un_model.specs.declared.model.TempVars.{TempVars}
@@ -17,7 +16,7 @@ use Rattle.un_emit.proofs.Domains.{get_places}
 use Rattle.un_emit.proofs.Lists.{each_all, each_member, index_get, member_at}
 use Rattle.un_emit.proofs.Readings.{Solved}
 use Rattle.un_emit.proofs.RulesFrame.{low}
-use Rattle.un_emit.proofs.Schedule.{idle_range, range_at, the_ranges, the_reads}
+use Rattle.un_emit.proofs.Schedule.{idle_range, the_ranges, the_reads}
 
 module _ (e : Ext) (o : Options) (values : List ℕ) (h : Solved e o values) where
   abbrev temps : List TempVars

@@ -12,7 +12,7 @@ use Rattle.un_model.specs.Solutions.{IsSolution}
 use Rattle.un_model.specs.Variables.{IsModel, model_of}
 use Rattle.un_packet.specs.CodeRules.{KeepsRules}
 use Rattle.un_packet.specs.declared.code.CodeBlock.{CodeBlock}
-use Rattle.un_emit.specs.Bounds.{HavePlaces}
+use Rattle.un_emit.specs.Bounds.{HavePlaces, FitFrame}
 use Rattle.un_emit.specs.Emitted.{code_blocks}
 use Rattle.un_emit.proofs.BodyPlaces.{have_places}
 use Rattle.un_emit.proofs.Readings.{Solved}
@@ -26,11 +26,15 @@ module _ (m : Model) (s : Solution) (values : List ℕ) (are : values ≡ s.valu
   of_model : (P : Model → List ℕ → Type 0) → (Solved m.ext m.options s.values → P (model_of m.ext m.options) s.values) → P m values
   of_model P h = subst (P m) (sym are) (subst (λ (x : Model). P x s.values) (sym own) (h (solved m s own extended fit options solution)))
 
-  pub places : HavePlaces m values
-  places = of_model HavePlaces (have_places m.ext m.options s.values)
-
   pub frame_small : frame_of m values ≤ FRAME
   frame_small = of_model (λ x vs. frame_of x vs ≤ FRAME) (small m.ext m.options s.values)
+
+  pub frame_fits : (frame : ℕ) → frame ≡ frame_of m values → FitFrame m values frame
+  frame_fits frame f = record {
+    is = f;
+    small = subst (λ (n : ℕ). n ≤ FRAME) (sym f) frame_small;
+    places = of_model HavePlaces (have_places m.ext m.options s.values);
+  }
 
   pub rules_kept : (frame : ℕ) (blocks : List CodeBlock) → frame ≡ frame_of m values → blocks ≡ code_blocks m values
       → KeepsRules frame blocks

@@ -42,6 +42,7 @@ pub mod RulesEnds
 pub mod RulesFrame
 pub mod RulesInstrs
 pub mod RulesLists
+pub mod RulesOps
 pub mod RulesRoom
 pub mod RulesWriters
 pub mod Runs

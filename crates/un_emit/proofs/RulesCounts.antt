@@ -1,16 +1,18 @@
 -- How many packets the emitted code has: a block's end is at most its horizon, and all horizons together are few.
-use Rattle.std.proofs.Common.{ℕ, ◌≡◌, ◌<◌, ◌≤◌, ◌+◌, ◌-◌, ◌*◌, ◌^◌, Bool, true, false, List, [], ◌∷◌, ◌++◌, length, map, refl, ap, ◌∙◌, subst, arith}
+use Rattle.std.proofs.Common.{ℕ, ◌≡◌, ◌<◌, ◌≤◌, ◌+◌, ◌*◌, Bool, true, false, List, [], ◌∷◌, length, map, refl, subst, arith}
 use Rattle.std.specs.Prelude.{slice_index, sum_by}
 use Rattle.std.specs.List.{zip}
 use Rattle.un_ir.specs.declared.extended.ExtOp.{ExtOp}
 use Rattle.un_ir.specs.declared.extended.ExtBlock.{ExtBlock}
 use Rattle.un_ir.specs.declared.extended.Ext.{Ext}
-use Rattle.un_ir.specs.Extended.{size_of, IsGoodExtBlock}
+use Rattle.un_ir.specs.Extended.{IsGoodExtBlock}
 use Rattle.un_domains.specs.declared.domain.Domain.TheVariants.{Range}
 use Rattle.un_model.specs.declared.model.BlockVars.{BlockVars}
 use Rattle.un_model.specs.declared.model.Options.{Options}
-use Rattle.un_model.specs.Variables.{model_of, block_vars, blocks_vars, block_count, ops_count, ops_domains, block_domains, blocks_domains, own_horizon, domains_of}
+use Rattle.un_model.specs.Variables.{model_of, block_vars, blocks_vars, block_count, ops_count, ops_domains, block_domains}
+use Rattle.un_model.specs.Variables.{blocks_domains, own_horizon, domains_of}
 use Rattle.un_packet.specs.declared.code.CodeBlock.{CodeBlock}
+use Rattle.un_packet.specs.declared.code.TheConstants.{PACKETS}
 use Rattle.un_emit.specs.Emitted.{code_block, code_blocks}
 use Rattle.un_emit.proofs.Costs.{packet_count}
 use Rattle.un_emit.proofs.Domains.{Sits, keeps_sits, sits_left, sits_right, length-ops_domains, length-block}
@@ -39,9 +41,18 @@ few_ops (block ∷ blocks) =
 abbrev packets_in : CodeBlock → ℕ
 packets_in block = length block.packets
 
+abbrev HasHorizon : ExtBlock → Type 0
+HasHorizon block = block.horizon ≡ 2 * length block.ops + 2
+
 module _ (e : Ext) (o : Options) (values : List ℕ) where
+  -- the code of blocks of which the first variable has this number
+  abbrev blocks_from : ℕ → List ExtBlock → List CodeBlock
+  blocks_from first blocks =
+      map (λ (b : ExtBlock × BlockVars). code_block (model_of e o) values b.0 b.1) (zip blocks (blocks_vars first blocks))
+
   -- the end of a block
-  end_sits : (ie : Bool) (first : ℕ) (block : ExtBlock) → Sits values (block_domains e o ie (own_horizon block) block) first → slice_index values (first + ops_count block.ops) ≤ own_horizon block
+  end_sits : (ie : Bool) (first : ℕ) (block : ExtBlock) → Sits values (block_domains e o ie (own_horizon block) block) first
+      → slice_index values (first + ops_count block.ops) ≤ own_horizon block
   end_sits ie first block h =
       let ds = ops_domains e o ie block (own_horizon block) block.ops in
       let l = length-ops_domains e o values ie block (own_horizon block) block.ops in
@@ -50,8 +61,8 @@ module _ (e : Ext) (o : Options) (values : List ℕ) where
       let z : first + ops_count block.ops + 0 ≡ first + ops_count block.ops = omega arith in
       subst (λ k. slice_index values k ≤ own_horizon block) z range.1
 
-  packets_few : (ie : Bool) (first : ℕ) (blocks : List ExtBlock) → Sits values (blocks_domains e o own_horizon ie blocks) first → Each (λ (b : ExtBlock). b.horizon ≡ 2 * length b.ops + 2) blocks
-      → total packets_in (map (λ (b : ExtBlock × BlockVars). code_block (model_of e o) values b.0 b.1) (zip blocks (blocks_vars first blocks))) ≤ 2 * total op_count blocks + 2 * length blocks
+  packets_few : (ie : Bool) (first : ℕ) (blocks : List ExtBlock) → Sits values (blocks_domains e o own_horizon ie blocks) first
+      → Each HasHorizon blocks → total packets_in (blocks_from first blocks) ≤ 2 * total op_count blocks + 2 * length blocks
   packets_few ie first [] h g = omega arith
   packets_few ie first (block ∷ blocks) h g =
       let here = block_domains e o ie (own_horizon block) block in
@@ -59,16 +70,19 @@ module _ (e : Ext) (o : Options) (values : List ℕ) where
       let l = length-block e o values ie block in
       let count = packet_count (model_of e o) values block (block_vars first block) in
       let end = end_sits ie first block (sits_left values here rest first h) in
-      let later = packets_few false (first + block_count block) blocks (sits_right values here rest first (first + block_count block) (omega (arith, l)) h) g.1 in
+      let sits = sits_right values here rest first (first + block_count block) (omega (arith, l)) h in
+      let later = packets_few false (first + block_count block) blocks sits g.1 in
       let horizon = g.0 in
       omega (arith, count, end, later, horizon)
 
-  pub few_packets : Solved e o values → sum_by (λ (b : CodeBlock). length b.packets) (code_blocks (model_of e o) values) < 2 ^ 28
+  pub few_packets : Solved e o values → sum_by (λ (b : CodeBlock). length b.packets) (code_blocks (model_of e o) values) < PACKETS
   few_packets h =
       let s = h.schedule in
       let g = good e o values h in
-      let horizons = each_more (IsGoodExtBlock e.table e.names e.blocks) (λ (b : ExtBlock). b.horizon ≡ 2 * length b.ops + 2) e.blocks (λ b x. x.horizon) (each_all (IsGoodExtBlock e.table e.names e.blocks) e.blocks g.each) in
-      let few = packets_few true 0 e.blocks (sits_left values _ _ 0 (keeps_sits values (domains_of own_horizon e o) s.in_domains)) horizons in
+      let IsGood : ExtBlock → Type 0 = IsGoodExtBlock e.table e.names e.blocks in
+      let horizons = each_more IsGood HasHorizon e.blocks (λ b x. x.horizon) (each_all IsGood e.blocks g.each) in
+      let sits = sits_left values _ _ 0 (keeps_sits values (domains_of own_horizon e o) s.in_domains) in
+      let few = packets_few true 0 e.blocks sits horizons in
       let ops = few_ops e.blocks in
       let sizes = sum_total (λ (block : ExtBlock). sum_by op_size block.ops) e.blocks in
       let size = g.small in

@@ -1,10 +1,12 @@
 -- What holds of all elements of a list, of its pairs and of its sums, for the rules of code.
-use Rattle.std.proofs.Common.{ℕ, zero, suc, ◌≡◌, ◌≢◌, ◌<◌, ◌≤◌, ◌+◌, Bool, true, false, cond, ◌&&◌, List, [], ◌∷◌, ◌++◌, length, map, filter, ◌⊎◌, inl, inr, ⊎_elim, refl, sym, ap, ◌∙◌, subst, arith, All, AllPairs, Contains, slice_index_or}
-use Rattle.std.specs.Prelude.{Option, Some, None, slice_get, sum_by, nat_lt, IsSomeAnd}
+use Rattle.std.proofs.Common.{ℕ, zero, suc, ◌≡◌, ◌≢◌, ◌<◌, ◌≤◌, ◌+◌, Bool, true, ◌&&◌, List, [], ◌∷◌, ◌++◌, length, map, inl, inr, ⊎_elim}
+use Rattle.std.proofs.Common.{refl, sym, ap, ◌∙◌, subst, arith, All, AllPairs, Contains, slice_index_or}
+use Rattle.std.specs.Prelude.{Option, Some, slice_get, sum_by, nat_lt, IsSomeAnd}
 use Rattle.std.specs.List.{flat_map, range_with_len, list_all, AllZip}
 use Rattle.std.proofs.lemmas.Bool.{and_parts, ltb-true}
 use Rattle.std.proofs.lemmas.List.Sums.{sum_by-cons}
 use Rattle.un_emit.proofs.Lists.{Each, Pairwise, Member, each_member, each_of, each_more, each_join, index_get, get_below, length_get}
+use Rattle.un_emit.proofs.Schedule.{split_member}
 
 -- ---- all, and all pairs
 
@@ -16,7 +18,8 @@ each_at P (x ∷ xs) h (suc k) d lt = each_at P xs h.1 k d (omega arith)
 pub all_each : {X : Type 0} (P : X → Type 0) (xs : List X) → Each P xs → All P xs
 all_each P xs h = each_at P xs h
 
-pair_at : {X : Type 0} (R : X → X → Type 0) (xs : List X) → Pairwise R xs → (i j : ℕ) (d : X) → i < j → j < length xs → R (slice_index_or xs i d) (slice_index_or xs j d)
+pair_at : {X : Type 0} (R : X → X → Type 0) (xs : List X) → Pairwise R xs → (i j : ℕ) (d : X) → i < j → j < length xs
+    → R (slice_index_or xs i d) (slice_index_or xs j d)
 pair_at R [] h i j d lt l = absurd (omega arith)
 pair_at R (x ∷ xs) h zero zero d lt l = absurd (omega arith)
 pair_at R (x ∷ xs) h zero (suc j) d lt l = each_at (R x) xs h.0 j d (omega arith)
@@ -45,23 +48,36 @@ zip_length R [] (y ∷ ys) h = absurd h
 zip_length R (x ∷ xs) [] h = absurd h
 zip_length R (x ∷ xs) (y ∷ ys) h = ap suc (zip_length R xs ys h.1)
 
+-- two relations at once
+pub pairwise_both : {X : Type 0} (R S : X → X → Type 0) (xs : List X) → Pairwise R xs → Pairwise S xs
+    → Pairwise (λ x y. R x y × S x y) xs
+pairwise_both R S [] p q = tt
+pairwise_both R S (x ∷ xs) p q = (
+  each_of (λ y. R x y × S x y) xs (λ y m. (each_member (R x) xs y p.0 m, each_member (S x) xs y q.0 m)),
+  pairwise_both R S xs p.1 q.1,
+)
+
 -- ---- joined lists
 
-pub either : {X : Type 0} (xs ys : List X) (x : X) → Member x (xs ++ ys) → Member x xs ⊎ Member x ys
-either [] ys x m = inr m
-either (z ∷ zs) ys x (inl e) = inl (inl e)
-either (z ∷ zs) ys x (inr m) = ⊎_elim (λ (k : Member x zs). inl (inr k)) (λ (k : Member x ys). inr k) (either zs ys x m)
-
-flat_member : {X Y : Type 0} (f : X → List Y) (xs : List X) (y : Y) → Member y (flat_map f xs) → (x : X) × (Member x xs) × (Member y (f x))
+flat_member : {X Y : Type 0} (f : X → List Y) (xs : List X) (y : Y) → Member y (flat_map f xs)
+    → (x : X) × (Member x xs) × (Member y (f x))
 flat_member f [] y m = elim m [ ]
-flat_member f (x ∷ xs) y m = ⊎_elim (λ (k : Member y (f x)). (x, inl refl, k)) (λ (k : Member y (flat_map f xs)). let r = flat_member f xs y k in (r.0, inr r.1, r.2)) (either (f x) (flat_map f xs) y m)
+flat_member f (x ∷ xs) y m = ⊎_elim
+    (λ (k : Member y (f x)). (x, inl refl, k))
+    (λ (k : Member y (flat_map f xs)). let r = flat_member f xs y k in (r.0, inr r.1, r.2))
+    (split_member (f x) (flat_map f xs) y m)
 
-pairwise_join : {X : Type 0} (R : X → X → Type 0) (xs ys : List X) → Pairwise R xs → Pairwise R ys → ((a b : X) → Member a xs → Member b ys → R a b) → Pairwise R (xs ++ ys)
+pairwise_join : {X : Type 0} (R : X → X → Type 0) (xs ys : List X) → Pairwise R xs → Pairwise R ys
+    → ((a b : X) → Member a xs → Member b ys → R a b) → Pairwise R (xs ++ ys)
 pairwise_join R [] ys p q f = q
-pairwise_join R (x ∷ xs) ys p q f = (each_join (R x) xs ys p.0 (each_of (R x) ys (λ b n. f x b (inl refl) n)), pairwise_join R xs ys p.1 q (λ a b m n. f a b (inr m) n))
+pairwise_join R (x ∷ xs) ys p q f = (
+  each_join (R x) xs ys p.0 (each_of (R x) ys (λ b n. f x b (inl refl) n)),
+  pairwise_join R xs ys p.1 q (λ a b m n. f a b (inr m) n),
+)
 
 -- the elements of all lists that f gives, where those of one list and those of each two are related
-pub pairwise_flat : {X Y : Type 0} (R : Y → Y → Type 0) (f : X → List Y) (xs : List X) → Each (λ x. Pairwise R (f x)) xs → Pairwise (λ x y. (a b : Y) → Member a (f x) → Member b (f y) → R a b) xs → Pairwise R (flat_map f xs)
+pub pairwise_flat : {X Y : Type 0} (R : Y → Y → Type 0) (f : X → List Y) (xs : List X) → Each (λ x. Pairwise R (f x)) xs
+    → Pairwise (λ x y. (a b : Y) → Member a (f x) → Member b (f y) → R a b) xs → Pairwise R (flat_map f xs)
 pairwise_flat R f [] own apart = tt
 pairwise_flat R f (x ∷ xs) own apart =
     pairwise_join R (f x) (flat_map f xs) own.0 (pairwise_flat R f xs own.1 apart.1) (λ a b m n.
@@ -84,7 +100,8 @@ pub rising_apart : (xs : List ℕ) → is_rising xs ≡ true → Pairwise (λ (a
 rising_apart [] h = tt
 rising_apart (x ∷ xs) h =
     let r = and_parts (list_all (nat_lt x) xs) (is_rising xs) h in
-    (each_more (λ y. nat_lt x y ≡ true) (λ y. x ≢ y) xs (λ y q e. let z = ltb-true x y q in absurd (omega arith)) (each_pass (nat_lt x) xs r.0), rising_apart xs r.1)
+    let below : (y : ℕ) → nat_lt x y ≡ true → x ≢ y = λ y q e. let z = ltb-true x y q in absurd (omega arith) in
+    (each_more (λ y. nat_lt x y ≡ true) (λ y. x ≢ y) xs below (each_pass (nat_lt x) xs r.0), rising_apart xs r.1)
 
 -- ---- sums
 
@@ -103,13 +120,3 @@ total_map f g (x ∷ xs) = ap (λ n. f (g x) + n) (total_map f g xs)
 pub total_append : {X : Type 0} (f : X → ℕ) (xs ys : List X) → total f (xs ++ ys) ≡ total f xs + total f ys
 total_append f [] ys = omega arith
 total_append f (x ∷ xs) ys = let z = total_append f xs ys in omega (arith, z)
-
-pub total_length : {X : Type 0} (xs : List X) → total (λ x. 1) xs ≡ length xs
-total_length [] = refl
-total_length (x ∷ xs) = let z = total_length xs in omega (arith, z)
-
--- ---- two relations at once
-
-pub pairwise_both : {X : Type 0} (R S : X → X → Type 0) (xs : List X) → Pairwise R xs → Pairwise S xs → Pairwise (λ x y. R x y × S x y) xs
-pairwise_both R S [] p q = tt
-pairwise_both R S (x ∷ xs) p q = (each_of (λ y. R x y × S x y) xs (λ y m. (each_member (R x) xs y p.0 m, each_member (S x) xs y q.0 m)), pairwise_both R S xs p.1 q.1)

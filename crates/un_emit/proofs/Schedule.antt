@@ -30,7 +30,7 @@ member_joined [] xs x m n = elim m [ ]
 member_joined (ys ∷ yss) xs x (inl e) n = member_append_left ys (joined yss) x (subst (Member x) (sym e) n)
 member_joined (ys ∷ yss) xs x (inr m) n = member_append_right ys (joined yss) x (member_joined yss xs x m n)
 
-split_member : {A : Type 0} (xs ys : List A) (x : A) → Member x (xs ++ ys) → Member x xs ⊎ Member x ys
+pub split_member : {A : Type 0} (xs ys : List A) (x : A) → Member x (xs ++ ys) → Member x xs ⊎ Member x ys
 split_member [] ys x m = inr m
 split_member (z ∷ zs) ys x (inl e) = inl (inl e)
 split_member (z ∷ zs) ys x (inr m) = ⊎_elim (λ (k : Member x zs). inl (inr k)) (λ (k : Member x ys). inr k) (split_member zs ys x m)

@@ -1,10 +1,10 @@
 //! The instruction of each operation.
 
 ghost use Rattle.std.specs.Prelude.{◌≡◌, ◌≤◌, IfOk, IfSome, All};
-ghost use Rattle.un_emit.specs.Bounds.{IsPlace, HavePlaces};
+ghost use Rattle.un_emit.specs.Bounds.{IsPlace, FitFrame};
 ghost use Rattle.un_isa.specs.declared.reg.TheConstants.{FRAME};
 ghost use Rattle.un_model.specs.Emission.{slot_offset, source_instr, label_at, label_of, term_instr, copy_instr, stack_instr};
-ghost use Rattle.un_model.specs.Emission.{instr_by, instr_if, frame_of};
+ghost use Rattle.un_model.specs.Emission.{instr_by, instr_if};
 
 use crate::registers::{operand_registers, result_register};
 use std::alloc::Global;
@@ -158,9 +158,7 @@ pub(crate) fn emitted(
     op: &ExtOp,
     vars: &OpVars,
 ) -> Result<Option<Instr>, NoMemory>
-    requires frame { frame ≡ frame_of m.now values.now }
-    requires small { frame ≤ FRAME }
-    requires places { HavePlaces m.now values.now }
+    requires { FitFrame m.now values.now frame }
     ensures { IfOk result (λ i. i ≡ instr_if m.now values.now op.now vars.now issued) }
 {
     let Some(instruction) = issued else {

@@ -1,14 +1,13 @@
 //! The packets of each block.
 
-ghost use Rattle.std.specs.Prelude.{◌≡◌, ◌==◌, ◌≤◌, ◌-◌, ◌++◌, ◌∷◌, ℕ, List, [], IfOk, OnOk, if◌then◌else◌, map, replicate, length, zip};
+ghost use Rattle.std.specs.Prelude.{◌≡◌, ◌==◌, ◌-◌, ◌++◌, ◌∷◌, ℕ, List, [], IfOk, OnOk, if◌then◌else◌, map, replicate};
 ghost use Rattle.std.specs.List.{range_with_len};
 ghost use Rattle.std.specs.Option.{option_to_list};
-ghost use Rattle.un_emit.specs.Bounds.{HavePlaces};
+ghost use Rattle.un_emit.specs.Bounds.{FitFrame};
 ghost use Rattle.un_emit.specs.Emitted.{packet_with, code_block, code_blocks};
 ghost use Rattle.un_isa.specs.declared.instr.Instr.{Instr};
-ghost use Rattle.un_isa.specs.declared.reg.TheConstants.{FRAME};
 ghost use Rattle.un_model.specs.Cost.{value_of};
-ghost use Rattle.un_model.specs.Emission.{nop, or_nop, frame_of, instrs_in};
+ghost use Rattle.un_model.specs.Emission.{nop, or_nop, instrs_in};
 ghost use Rattle.un_model.specs.Schedules.{block_issues, issues_of};
 
 use crate::instructions::emitted;
@@ -81,9 +80,7 @@ fn cycles(
     block: &ExtBlock,
     vars: &BlockVars,
 ) -> Result<Vec<Items<Instr>>, NoMemory>
-    requires frame { frame ≡ frame_of m.now values.now }
-    requires small { frame ≤ FRAME }
-    requires places { HavePlaces m.now values.now }
+    requires frame { FitFrame m.now values.now frame }
     requires issues { (b : ℕ) × (n : ℕ) × (issues.now ≡ block_issues values.now b n block.now vars.now) }
     ensures { IfOk result (λ cycles. cycles.items
         ≡ map (instrs_in m.now values.now block.now vars.now) (range_with_len 1 (value_of values.now vars.now.end - 1))) }
@@ -130,9 +127,7 @@ fn code_block(
     block: &ExtBlock,
     vars: &BlockVars,
 ) -> Result<CodeBlock, NoMemory>
-    requires frame { frame ≡ frame_of m.now values.now }
-    requires small { frame ≤ FRAME }
-    requires places { HavePlaces m.now values.now }
+    requires frame { FitFrame m.now values.now frame }
     requires issues { (b : ℕ) × (n : ℕ) × (issues.now ≡ block_issues values.now b n block.now vars.now) }
     ensures { IfOk result (λ code. code ≡ code_block m.now values.now block.now vars.now) }
 {
@@ -152,20 +147,18 @@ pub(crate) fn code_blocks(
     frame: u32,
     issues: &[Issue],
 ) -> Result<Items<CodeBlock>, NoMemory>
-    requires frame { frame ≡ frame_of m.now values.now }
-    requires small { frame ≤ FRAME }
-    requires places { HavePlaces m.now values.now }
+    requires frame { FitFrame m.now values.now frame }
     requires issues { issues.now ≡ issues_of m.now values.now }
     ensures { IfOk result (λ blocks. blocks ≡ code_blocks m.now values.now) }
 {
-    let mut blocks = Items::new(alloc);
+    let mut code = Items::new(alloc);
     let mut rest = issues;
     for k in 0..m.ext.blocks.len().min(m.blocks.len()) {
         let block = m.ext.blocks.get(k);
         let vars = m.blocks.get(k);
         let (own, later) = rest.split_at(block.ops.len().min(vars.ops.len()));
-        blocks.push(code_block(alloc, m, values, frame, own, block, vars)?)?;
+        code.push(code_block(alloc, m, values, frame, own, block, vars)?)?;
         rest = later;
     }
-    Ok(blocks)
+    Ok(code)
 }

@@ -10,6 +10,6 @@ use Rattle.un_emit.proofs.packets.code_blocks.Given as goal
 
 abbrev pub invariant-loop-k : goal.invariant-loop-k
 invariant-loop-k l = record {
-  made : l.blocks ≡ map (λ (b : ExtBlock × BlockVars). code_block l.m l.values b.0 b.1) (take l.k (zip l.m.ext.blocks l.m.blocks));
+  made : l.code ≡ map (λ (b : ExtBlock × BlockVars). code_block l.m l.values b.0 b.1) (take l.k (zip l.m.ext.blocks l.m.blocks));
   rest : (n : ℕ) × (l.rest ≡ over_blocks (block_issues l.values) l.k n (drop l.k l.m.ext.blocks) (drop l.k l.m.blocks));
 }
