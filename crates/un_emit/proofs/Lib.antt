@@ -50,3 +50,4 @@ pub mod Settled
 pub mod Stack
 pub mod Timed
 pub mod Values
+pub mod OfFunction
