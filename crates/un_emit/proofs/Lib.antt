@@ -51,3 +51,7 @@ pub mod Stack
 pub mod Timed
 pub mod Values
 pub mod OfFunction
+mod BodyLists
+mod BodyPlaces
+mod BodyPackets
+mod BodyRules
