@@ -23,8 +23,11 @@ const SUM: &[u8] = b"func g %a %b\nblock e freq 10\n  %c = add %a, %b\n  ret %c\
 
 const SUM_COSTS: &[u8] = b"cost 160\nbound 10\n";
 
+/// The number of a call that is never made.
+const NEVER: u64 = u64::MAX;
+
 /// How many bytes a call of the source or of `out` moves, how many bytes `out` holds, and the numbers of the calls that
-/// fail, where 99 is none.
+/// fail, where `NEVER` is none.
 #[derive(Clone, Copy)]
 struct Outside {
     piece: usize,
@@ -38,9 +41,9 @@ struct Outside {
 const SOUND: Outside = Outside {
     piece: 4096,
     room: 65536,
-    read_fails: 99,
-    write_fails: 99,
-    err_fails: 99,
+    read_fails: NEVER,
+    write_fails: NEVER,
+    err_fails: NEVER,
 };
 
 /// What a run is to leave: its status, and what `out` and `err` hold.
@@ -239,14 +242,14 @@ fn long_texts_are_refused(alloc: Global) -> Result<bool, Fail> {
     )
 }
 
-/// Whether each of the first calls of the source may fail.
+/// Whether each call of the source may fail: two that give bytes, and one that gives none.
 fn faults_of_reading_are_told(alloc: Global) -> Result<bool, Fail> {
     let want = Want {
         status: Status::ReadFault,
         out: b"",
         err: b"read fault\n",
     };
-    for call in 0..6 {
+    for call in 0..3 {
         let outside = Outside {
             piece: 16,
             read_fails: call,
@@ -307,8 +310,8 @@ fn full_sinks_are_told(alloc: Global) -> Result<bool, Fail> {
 fn sums_are_reported(alloc: Global) -> Result<bool, Fail> {
     let words = words_of(alloc, &["alloc"])?;
     let mut src = source(alloc, SUM, SOUND)?;
-    let mut out = sink(alloc, 4096, 4096, 99)?;
-    let mut err = sink(alloc, 4096, 4096, 99)?;
+    let mut out = sink(alloc, 4096, 4096, NEVER)?;
+    let mut err = sink(alloc, 4096, 4096, NEVER)?;
     let status = run(alloc, words.as_slice(), &mut src, &mut out, &mut err);
     Ok(status == Status::Done && out.bytes().starts_with(SUM_COSTS))
 }
