@@ -11,6 +11,7 @@ use Rattle.un_isa.specs.declared.reg.Reg.{Reg}
 use Rattle.un_isa.specs.declared.reg.Space.{Space}
 use Rattle.un_isa.specs.declared.reg.Space.TheVariants.{R, P, M}
 use Rattle.un_isa.specs.Hexagon.{HEXAGON}
+use Rattle.un_isa.specs.Registers.{callee_saved}
 use Rattle.un_ir.specs.declared.function.SrcOp.{SrcOp}
 use Rattle.un_ir.specs.declared.function.Term.TheVariants.{Fall, Jump as JumpTo, Branch, Ret}
 use Rattle.un_ir.specs.declared.extended.ExtKind.TheVariants.{In, Body, Out}
@@ -54,10 +55,12 @@ home r = Some (record { 0 = r })
 entry_homes : map (result_home HEXAGON true names In) (range_with_len 0 15) ≡
     home 0 ∷ home 1 ∷ home 16 ∷ home 17 ∷ home 18 ∷ home 19 ∷ home 20 ∷ home 21 ∷ home 22 ∷ home 23 ∷ home 24 ∷ home 25 ∷ home 26 ∷
     home 27 ∷ home 31 ∷ []
+unfolding callee_saved
 entry_homes = refl
 
 -- in a later block the names have none
 later_homes : map (result_home HEXAGON false names In) (0 ∷ 1 ∷ 2 ∷ 14 ∷ []) ≡ None ∷ None ∷ home 16 ∷ home 31 ∷ []
+unfolding callee_saved
 later_homes = refl
 
 abbrev source : Op → SrcOp

@@ -1,16 +1,16 @@
 -- Stops of a source run and of a packet run that agree, and pairs that do not; where the values of a start go.
-use Rattle.std.specs.Prelude.{ℕ, ◌≡◌, ◌≢◌, List, [], ◌∷◌, ◌++◌, Some, None, codes, replicate, length, map}
-use Rattle.std.proofs.Common.{refl, ap}
+use Rattle.std.specs.Prelude.{ℕ, ◌≡◌, List, [], ◌∷◌, ◌++◌, Some, None, codes, replicate, length, map, slice_index, slice_index_or}
+use Rattle.std.proofs.Common.{refl, ap, arith, lit<}
 use Rattle.un_isa.specs.declared.outcome.CallRecord.{CallRecord}
 use Rattle.un_isa.specs.declared.start.Start.{Start}
-use Rattle.un_isa.specs.declared.table.Table.{Table}
 use Rattle.un_isa.specs.Hexagon.{HEXAGON}
 use Rattle.un_ir.specs.declared.function.Function.{Function}
-use Rattle.un_ir.specs.Source.{SourceState, Returned, Trapped, Waiting, Running, first_state as first_values}
+use Rattle.un_ir.specs.Source.{SourceRun, SourceState, Returned, Trapped, Waiting, Running, first_state as first_values}
 use Rattle.un_packet.specs.declared.code.CodeBlock.{CodeBlock}
 use Rattle.un_packet.specs.declared.code.Code.{Code}
-use Rattle.un_packet.specs.Step.{PacketState, Returned as ReturnedTo, Trapped as TrappedAt, Waiting as WaitingFor, Running as RunningAt}
-use Rattle.un_simulation.specs.Simulation.{Keeps, StopsAgree, held_at}
+use Rattle.un_packet.specs.Run.{PacketRun}
+use Rattle.un_packet.specs.Step.{PacketState, Returned as ReturnedTo, Trapped as TrappedAt, Waiting as WaitingFor}
+use Rattle.un_simulation.specs.Simulation.{StopsAgree, Agrees, held_at}
 use Rattle.un_simulation.specs.Count.{packets_under}
 
 abbrev seen : List ℕ → ℕ → List (ℕ × ℕ) → CallRecord
@@ -42,13 +42,13 @@ module _ (f : Function) (places : ℕ → ℕ → ℕ) (code : Code) (s : Source
   same_call = refl
 
   other_callee : StopsAgree HEXAGON f places code start (Waiting (seen (codes "h") 5 [])) s (WaitingFor (seen (codes "g") 5 [])) (state []) → ⊥
-  other_callee h = let parts : codes "h" ≡ codes "g" = ap (λ (c : CallRecord). c.name) h in cc parts
+  other_callee h = let letter : 104 ≡ 103 = ap (λ (c : CallRecord). slice_index c.name 0) h in omega (arith, letter)
 
   other_argument : StopsAgree HEXAGON f places code start (Waiting (seen (codes "h") 5 [])) s (WaitingFor (seen (codes "h") 6 [])) (state []) → ⊥
-  other_argument h = let parts : (5 ∷ []) ≡ (6 ∷ []) = ap (λ (c : CallRecord). c.args) h in cc parts
+  other_argument h = let argument : 5 ≡ 6 = ap (λ (c : CallRecord). slice_index c.args 0) h in omega (arith, argument)
 
   other_memory : StopsAgree HEXAGON f places code start (Waiting (seen (codes "h") 5 ((8, 1) ∷ []))) s (WaitingFor (seen (codes "h") 5 [])) (state []) → ⊥
-  other_memory h = let parts : ((8, 1) ∷ []) ≡ [] = ap (λ (c : CallRecord). c.memory) h in cc parts
+  other_memory h = let words : 1 ≡ 0 = ap (λ (c : CallRecord). length c.memory) h in omega (arith, words)
 
   -- ---- one kind of stop
 
@@ -64,16 +64,31 @@ module _ (f : Function) (places : ℕ → ℕ → ℕ) (code : Code) (s : Source
   -- ---- returns: the result in r0, to the link register of the start, with r16 and the stack pointer as they were
 
   other_result : StopsAgree HEXAGON f places code start (Returned (Some 5)) s (ReturnedTo 6 100) (state (regs_with 44 4096)) → ⊥
-  other_result h = let result : 6 ≡ 5 = h.0 in cc result
+  other_result h = let result : 6 ≡ 5 = h.0 in omega (arith, result)
 
   other_target : StopsAgree HEXAGON f places code start (Returned (Some 5)) s (ReturnedTo 5 101) (state (regs_with 44 4096)) → ⊥
-  other_target h = let target : 101 ≡ 100 = h.1 in cc target
+  other_target h = let target : 101 ≡ 100 = h.1 in omega (arith, target)
 
   other_saved : StopsAgree HEXAGON f places code start (Returned None) s (ReturnedTo 5 100) (state (regs_with 45 4096)) → ⊥
-  other_saved h = let saved : 45 ≡ 44 = h.2.saved 16 (lit< tt) refl in cc saved
+  other_saved h = let saved : 45 ≡ 44 = h.2.saved 16 (lit< tt) refl in omega (arith, saved)
 
   other_stack : StopsAgree HEXAGON f places code start (Returned None) s (ReturnedTo 5 100) (state (regs_with 44 4088)) → ⊥
-  other_stack h = let stack : 4088 ≡ 4096 = h.2.stack in cc stack
+  other_stack h = let stack : 4088 ≡ 4096 = h.2.stack in omega (arith, stack)
+
+-- ---- the same memory and the same calls, whatever the stop
+
+abbrev source_at : List (ℕ × ℕ) → List CallRecord → SourceRun
+source_at memory calls = record { stop = Trapped; state = record { values = []; memory = memory; calls = calls; replies = [] } }
+
+abbrev packets_at : List (ℕ × ℕ) → List CallRecord → PacketRun
+packets_at memory calls = record { stop = TrappedAt; state = record (state []) { memory = memory; calls = calls } }
+
+module _ (f : Function) (places : ℕ → ℕ → ℕ) (code : Code) where
+  other_words : Agrees HEXAGON f places code start (source_at ((8, 1) ∷ []) []) (packets_at ((8, 2) ∷ []) []) → ⊥
+  other_words h = let word : 1 ≡ 2 = ap (λ (ws : List (ℕ × ℕ)). (slice_index_or ws 0 (0, 0)).1) h.memory in omega (arith, word)
+
+  more_calls : Agrees HEXAGON f places code start (source_at [] (seen (codes "h") 5 [] ∷ [])) (packets_at [] []) → ⊥
+  more_calls h = let count : 1 ≡ 0 = ap length h.calls in omega (arith, count)
 
 -- registers, and behind them the words of the frame
 places_hold : map (held_at (state (regs_with 44 4096))) (1 ∷ 16 ∷ 31 ∷ 36 ∷ 37 ∷ []) ≡ 9 ∷ 44 ∷ 100 ∷ 7 ∷ 8 ∷ []
