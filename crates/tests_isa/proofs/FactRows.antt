@@ -1,6 +1,6 @@
 -- What the operations read, write and take as a literal, and memory, replies and starts: values written down from the
 -- description of the processor and of starts.
-use Rattle.std.specs.Prelude.{ℕ, pos, negsuc, ◌≡◌, Bool, true, false, List, [], ◌∷◌, ◌++◌, map, replicate, Option, Some, None}
+use Rattle.std.specs.Prelude.{ℕ, pos, negsuc, ◌≡◌, true, false, List, [], ◌∷◌, ◌++◌, map, replicate, Option, Some, None}
 use Rattle.std.proofs.Common.{refl}
 use Rattle.un_isa.specs.declared.facts.Range.{Range}
 use Rattle.un_isa.specs.declared.facts.Range.TheVariants.{Signed16, Signed10, Unsigned5, Offset, FrameOffset}

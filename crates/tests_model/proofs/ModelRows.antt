@@ -1,25 +1,21 @@
 -- The words of models at values that were written down from their description: registers, instructions, distances, spaces.
-use Rattle.std.specs.Prelude.{ℕ, pos, ◌≡◌, true, false, List, [], ◌∷◌, ◌++◌, map, filter, Option, Some, None, length}
+use Rattle.std.specs.Prelude.{ℕ, pos, ◌≡◌, true, false, List, [], ◌∷◌, map, filter, Option, Some, None}
 use Rattle.std.specs.List.{range_with_len}
 use Rattle.std.proofs.Common.{refl}
 use Rattle.un_base.specs.declared.ids.NameId.{NameId}
-use Rattle.un_base.specs.declared.ids.TempId.{TempId}
-use Rattle.un_base.specs.declared.ids.VarId.{VarId}
 use Rattle.un_isa.specs.declared.op.Op.{Op}
-use Rattle.un_isa.specs.declared.op.Op.TheVariants.{Mov, Add, Addi, Mux, CmpGti, Mpyi, Load, Store, Call, Jump, JumpIf, JumpIfNot, Jumpr, Spill, Reload, P2R, R2P, Enter, Leave}
+use Rattle.un_isa.specs.declared.op.Op.TheVariants.{Mov, Add, Mux, CmpGti, Mpyi, Load, Store, Call, Jump, JumpIf, JumpIfNot, Jumpr, Spill, Reload, P2R, R2P, Enter, Leave}
 use Rattle.un_isa.specs.declared.reg.Reg.{Reg}
-use Rattle.un_isa.specs.declared.reg.Space.{Space}
 use Rattle.un_isa.specs.declared.reg.Space.TheVariants.{R, P, M}
 use Rattle.un_isa.specs.Hexagon.{HEXAGON}
 use Rattle.un_isa.specs.Registers.{callee_saved}
 use Rattle.un_ir.specs.declared.function.SrcOp.{SrcOp}
 use Rattle.un_ir.specs.declared.function.Term.TheVariants.{Fall, Jump as JumpTo, Branch, Ret}
-use Rattle.un_ir.specs.declared.extended.ExtKind.TheVariants.{In, Body, Out}
-use Rattle.un_model.specs.declared.schedule.Resource.{Resource}
+use Rattle.un_ir.specs.declared.extended.ExtKind.TheVariants.{In, Body}
 use Rattle.un_model.specs.declared.schedule.Resource.TheVariants.{Instructions, Memory, Stores, MultiplyOrControl, Control}
 use Rattle.un_model.specs.Emission.{frame_bytes, slot_offset}
 use Rattle.un_model.specs.Instructions.{copy_of, frame_instr, transfer_of, latency_by, width_by, is_transfer, space_read, space_given}
-use Rattle.un_model.specs.Registers.{is_assignable, predicate_registers, slots_of, with_zero, result_home, reg_at}
+use Rattle.un_model.specs.Registers.{is_assignable, predicate_registers, slots_of, with_zero, result_home}
 use Rattle.un_model.specs.Solutions.{latency_gap, memory_distance, frame_distance, places_of, broken_clauses}
 
 -- ---- registers
@@ -159,20 +155,44 @@ offsets = refl
 -- ---- the list of broken clauses
 
 nothing_broken : broken_clauses (record {
-  domains = true; zeros = true; choices = true; spaces = true; latencies = true; memory = true; registers = true; packets = true;
-  homes = true; frame = true;
+  domains = true;
+  zeros = true;
+  choices = true;
+  spaces = true;
+  latencies = true;
+  memory = true;
+  registers = true;
+  packets = true;
+  homes = true;
+  frame = true;
 }) ≡ []
 nothing_broken = refl
 
 all_but_domains : broken_clauses (record {
-  domains = true; zeros = false; choices = false; spaces = false; latencies = false; memory = false; registers = false;
-  packets = false; homes = false; frame = false;
+  domains = true;
+  zeros = false;
+  choices = false;
+  spaces = false;
+  latencies = false;
+  memory = false;
+  registers = false;
+  packets = false;
+  homes = false;
+  frame = false;
 }) ≡ 2 ∷ 3 ∷ 4 ∷ 5 ∷ 6 ∷ 7 ∷ 8 ∷ 9 ∷ 10 ∷ []
 all_but_domains = refl
 
 -- a value in no domain is told alone
 domains_broken : broken_clauses (record {
-  domains = false; zeros = false; choices = true; spaces = true; latencies = true; memory = true; registers = true; packets = true;
-  homes = true; frame = true;
+  domains = false;
+  zeros = false;
+  choices = true;
+  spaces = true;
+  latencies = true;
+  memory = true;
+  registers = true;
+  packets = true;
+  homes = true;
+  frame = true;
 }) ≡ 1 ∷ []
 domains_broken = refl

@@ -1,12 +1,11 @@
 -- Schedules that keep and that break each clause of a solution, worked out by hand.
-use Rattle.std.specs.Prelude.{ℕ, ◌≡◌, ◌+◌, ◌≤◌, ◌<◌, Bool, true, false, List, [], ◌∷◌, Option, Some, None, Contains}
+use Rattle.std.specs.Prelude.{ℕ, ◌≡◌, ◌+◌, ◌≤◌, Bool, true, false, List, [], ◌∷◌, Option, Some, None, codes, map, unwrap_or}
 use Rattle.std.proofs.Common.{refl, ap, arith, lit<, lit≤, inl, inr}
 use Rattle.un_base.specs.declared.ids.TempId.{TempId}
 use Rattle.un_isa.specs.declared.op.Op.{Op}
 use Rattle.un_isa.specs.declared.op.Op.TheVariants.{Mov, Add, Mpyi, Load, Store, Call, Jump, Spill, Reload, Enter, Leave}
 use Rattle.un_isa.specs.declared.reg.Reg.{Reg}
-use Rattle.un_isa.specs.declared.reg.Space.{Space}
-use Rattle.un_isa.specs.declared.reg.Space.TheVariants.{R, P, M}
+use Rattle.un_isa.specs.declared.reg.Space.TheVariants.{R, M}
 use Rattle.un_isa.specs.Hexagon.{HEXAGON}
 use Rattle.un_model.specs.declared.model.OpVars.{OpVars}
 use Rattle.un_model.specs.declared.schedule.Resource.TheVariants.{Instructions, Memory, Stores, MultiplyOrControl, Control}
@@ -14,9 +13,17 @@ use Rattle.un_model.specs.declared.schedule.Issue.{Issue}
 use Rattle.un_model.specs.declared.schedule.Read.{Read}
 use Rattle.un_model.specs.declared.schedule.LiveRange.{LiveRange}
 use Rattle.un_model.specs.declared.schedule.Schedule.{Schedule}
+use Rattle.un_base.specs.declared.ids.NameId.{NameId}
+use Rattle.un_ir.specs.declared.function.Term.TheVariants.{Ret}
+use Rattle.un_ir.specs.declared.extended.ExtKind.{ExtKind}
+use Rattle.un_ir.specs.declared.extended.ExtKind.TheVariants.{In, Out, End}
+use Rattle.un_ir.specs.declared.extended.Operand.{Operand}
+use Rattle.un_ir.specs.declared.extended.ExtOp.{ExtOp}
+use Rattle.un_ir.specs.declared.extended.ExtBlock.{ExtBlock}
+use Rattle.un_model.specs.Congruences.{IsCongruent, HandsOn, HandsOver, KeepsCongruences, place_over}
 use Rattle.un_domains.specs.declared.domain.Domain.TheVariants.{Range, Set}
 use Rattle.un_model.specs.Schedules.{is_zero, last_read}
-use Rattle.un_model.specs.Solutions.{Precedes, memory_distance, InDomain, KeepsZeros, KeepsChoices, KeepsSpaces, KeepsLatencies, latency_gap, KeepsMemory, ShareNoCycle, SparesRange, IsSpared, KeepsRegisters, HasRoom, KeepsPackets, KeepsHomes, KeepsFrame, uses_frame, frame_distance}
+use Rattle.un_model.specs.Solutions.{Precedes, InDomain, KeepsZeros, KeepsChoices, KeepsSpaces, KeepsLatencies, latency_gap, KeepsMemory, ShareNoCycle, SparesRange, IsSpared, KeepsRegisters, HasRoom, KeepsPackets, KeepsHomes, KeepsFrame, uses_frame}
 
 -- ---- schedules in few words: of one block, whose end is 9
 
@@ -206,6 +213,56 @@ five h = let few : 5 ≤ 4 = h 0 2 Instructions in omega (arith, few)
 
 away : KeepsHomes (schedule [] (read (Some Call) 0 3 (Some (record { 0 = 0 })) ∷ []) (range 0 None true 4 0 4 ∷ [])) → ⊥
 away h = let same : 4 ≡ 0 = h 0 (read None 0 0 None) (lit< tt) in omega (arith, same)
+
+-- ---- 9: congruences: block 0 falls through to block 1, and name 0 is handed over
+
+abbrev names : List ℕ → List NameId
+names ns = map (λ (n : ℕ). let name : NameId = record { 0 = n } in name) ns
+
+abbrev op : ExtKind → List ℕ → List ℕ → ExtOp
+op kind operands results = record {
+  kind = kind;
+  operands = map (λ (n : ℕ). let operand : Operand = record { alts = record { 0 = n } ∷ []; home = None } in operand) operands;
+  results = map (λ (n : ℕ). let temp : TempId = record { 0 = n } in temp) results;
+}
+
+abbrev from : ExtBlock
+from = record {
+  freq = 1;
+  label = codes "a";
+  live_in = [];
+  live_out = names (0 ∷ []);
+  ops = op In [] (0 ∷ []) ∷ op Out (0 ∷ []) [] ∷ [];
+  horizon = 8;
+}
+
+abbrev to : ExtBlock
+to = record {
+  freq = 1;
+  label = codes "b";
+  live_in = names (0 ∷ []);
+  live_out = [];
+  ops = op In [] (1 ∷ []) ∷ op (End (Ret None)) [] [] ∷ [];
+  horizon = 8;
+}
+
+-- temporary 0 is in this register, and temporary 1 in r5
+abbrev handed_in : ℕ → Schedule
+handed_in reg = schedule [] (read None 0 9 None ∷ []) (range 0 None true reg 0 8 ∷ range 9 None true 5 0 0 ∷ [])
+
+handed : (j : ℕ) → j ≡ 0 → IsCongruent (handed_in 5) 0 from to j (record { 0 = 1 })
+handed j e = rw e refl
+
+moved : KeepsCongruences (from ∷ to ∷ []) (handed_in 4) → ⊥
+unfolding HandsOn HandsOver
+moved h =
+    let same : Some 4 ≡ Some 5 = h 0 from refl 1 to (0, lit< tt, refl) refl 0 (record { 0 = 1 }) refl in
+    let registers : 4 ≡ 5 = ap (λ (o : Option ℕ). unwrap_or o 0) same in
+    omega (arith, registers)
+
+-- by name, and by order behind the names
+over : map (place_over (record from { live_out = names (3 ∷ 0 ∷ []) }) to) (0 ∷ 1 ∷ 13 ∷ []) ≡ 1 ∷ 2 ∷ 14 ∷ []
+over = refl
 
 -- ---- 10: the frame
 
