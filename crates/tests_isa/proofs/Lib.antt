@@ -1,0 +1,2 @@
+mod FactRows
+mod PacketRows

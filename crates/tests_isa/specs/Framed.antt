@@ -1,7 +1,6 @@
 -- Code that enters and leaves the largest frame.
-use Rattle.std.specs.Prelude.{ℕ, pos, negsuc, List, [], ◌∷◌, Option, None, codes}
+use Rattle.std.specs.Prelude.{pos, negsuc, List, [], ◌∷◌, None, codes}
 use Rattle.un_isa.specs.declared.op.Op.TheVariants.{Jumpr, Enter, Leave}
-use Rattle.un_isa.specs.declared.reg.Reg.{Reg}
 use Rattle.un_isa.specs.declared.instr.Instr.{Instr}
 use Rattle.un_packet.specs.declared.code.Packet.{Packet}
 use Rattle.un_packet.specs.declared.code.CodeBlock.{CodeBlock}

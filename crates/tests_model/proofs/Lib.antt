@@ -1,0 +1,5 @@
+mod ModelRows
+mod RunRows
+mod ScheduleRows
+mod SimulationRows
+mod WorkedModel
