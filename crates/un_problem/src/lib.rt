@@ -1,0 +1,4 @@
+//! The problem of a function: its extended function, and the model of that.
+#![tactic(auto)]
+
+pub mod problem;
