@@ -1,6 +1,5 @@
 //! The linear and the extended function of a function, on the processor's own table.
 
-
 use std::alloc::Global;
 use un_base::memory_error::NoMemory;
 use un_extend::extend::extend;

@@ -6,8 +6,8 @@ use crate::outside::OUTSIDE;
 use crate::starts::{Answer, Given, start};
 use std::alloc::Global;
 use std::test::Fail;
-use un_isa::outcome::Outcome;
 use un_ir::function::Function;
+use un_isa::outcome::Outcome;
 use un_reader::read::read_function;
 use un_source::run::run_source;
 
@@ -156,7 +156,13 @@ static BLOCKS: [(&[u8], u32, u32, u32, &[u8]); 15] = [
     (EMPTY, 7, 0, 3, b"returned 7\n"),
     (ONE_TARGET, 0, 0, 1, b"running x\nvalue %a 0\n"),
     (ONE_TARGET, 1, 0, 2, b"returned 1\n"),
-    (PREDICATES, 2, 0, 3, b"running l\nvalue %n 1\nvalue $f 0\nvalue $c 0\n"),
+    (
+        PREDICATES,
+        2,
+        0,
+        3,
+        b"running l\nvalue %n 1\nvalue $f 0\nvalue $c 0\n",
+    ),
     (PREDICATES, 0, 0, 2, b"running z\nvalue %n 0\nvalue $f 1\n"),
     (ONE_WAY, 6, 6, 1, b"running y\nvalue %b 6\n"),
 ];
