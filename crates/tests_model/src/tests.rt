@@ -1,65 +1,138 @@
 //! Which clauses values from outside break.
 
+ghost use Rattle.std.specs.Prelude.{IfOk};
 ghost use Rattle.un_model.specs.Variables.{IsModel};
 
-use crate::cases::CASES;
+use crate::cases::{CASES, Case};
+use crate::ways::{
+    CALLING, CALLING_WAYS, FRAMELESS, FRAMELESS_WAYS, SPILLED, SPILLED_WAYS, Solved, Way,
+};
 use std::alloc::Global;
-use std::process::Abort;
 use std::test::Fail;
 use un_base::decimal::read_decimal;
 use un_base::memory_error::NoMemory;
-use un_extend::extend::extend;
-use un_ir::function::Function;
-use un_isa::table::hexagon;
 use un_lists::items::Items;
-use un_live::live::live_in;
-use un_lssa::linearize::linearize;
-use un_model::build::build;
-use un_model::model::{Model, Options, Solution};
+use un_model::model::{Model, Solution};
+use un_model::verdict::Broken;
 use un_model::violations::violations;
+use un_problem::problem::{default_options, model};
 use un_reader::read::read_function;
 
-/// The numbers of a text that single spaces separate.
-fn numbers(rt: &impl Abort, alloc: Global, text: &str) -> Result<Items<u32>, NoMemory> {
+/// The numbers of a text that blanks separate.
+fn numbers(alloc: Global, text: &str) -> Result<Items<u32>, Fail> {
     let mut list = Items::new(alloc);
     for word in text.split_whitespace() {
-        let n = read_decimal(word.as_bytes()).expect(rt, "a number");
-        list.push(u32::try_from(n).expect(rt, "a number of 32 bits"))?;
+        let n = read_decimal(word.as_bytes()).ok_or("no number")?;
+        list.push(u32::try_from(n)?)?;
     }
     Ok(list)
 }
 
-/// The clauses that values of the variables of a function's model break.
-fn broken(alloc: Global, f: &Function, values: Items<u32>) -> Result<Vec<u8>, NoMemory> {
-    let live = live_in(alloc, f)?;
-    let linear = linearize(alloc, f, &live, &hexagon())?;
-    let e = extend(alloc, &linear)?;
-    let o = Options {
-        regs: None,
-        slots: 64,
-    };
-    let m = build(alloc, &e, &o)?;
-    clauses(alloc, &m, Solution { values })
+/// The model of the function that a text is.
+fn model_of(alloc: Global, function: &[u8]) -> Result<Model, Fail>
+    ensures { IfOk result IsModel }
+{
+    let f = read_function(alloc, function)?;
+    Ok(model(alloc, &f, &default_options())?)
 }
 
-/// The numbers of the clauses that a solution breaks.
-fn clauses(alloc: Global, m: &Model, s: Solution) -> Result<Vec<u8>, NoMemory>
+/// Whether these are the broken clauses.
+fn are(found: &[Broken], clauses: &[u8]) -> bool {
+    found.len() == clauses.len() && found.iter().zip(clauses).all(|(b, n)| b.clause == *n)
+}
+
+/// Whether values break exactly these clauses.
+fn breaks(alloc: Global, m: &Model, s: &Solution, clauses: &[u8]) -> Result<bool, NoMemory>
     requires { IsModel m.now }
 {
-    let mut list = Items::new(alloc);
-    for b in violations(alloc, m, &s)?.as_slice() {
-        list.push(b.clause)?;
+    let found = violations(alloc, m, s)?;
+    Ok(are(found.as_slice(), clauses))
+}
+
+/// Whether the values of a case break the clauses that stand there.
+fn case_breaks(alloc: Global, case: &Case) -> Result<bool, Fail> {
+    let m = model_of(alloc, case.function.as_bytes())?;
+    let values = numbers(alloc, case.values)?;
+    Ok(breaks(alloc, &m, &Solution { values }, case.broken)?)
+}
+
+/// Whether the values of each case break the clauses that stand there.
+fn cases_break(alloc: Global) -> Result<bool, Fail> {
+    for case in CASES.iter() {
+        if !case_breaks(alloc, case)? {
+            return Ok(false);
+        }
     }
-    Ok(list.into_vec())
+    Ok(true)
 }
 
 #[test]
 fn finds_the_clauses_that_values_break(rt: HostRuntime) -> Result<(), Fail> {
-    let alloc = rt.alloc();
-    for case in CASES.iter() {
-        let f = read_function(alloc, case.function.as_bytes()).expect(&rt, "a function");
-        let values = numbers(&rt, alloc, case.values)?;
-        assert_eq!(rt; broken(alloc, &f, values)?.as_slice(), case.broken);
+    assert!(rt; cases_break(rt.alloc())?);
+    Ok(())
+}
+
+/// The values with others at these places.
+fn changed(values: &Items<u32>, changes: &[(usize, u32)]) -> Result<Items<u32>, NoMemory> {
+    let mut list = values.clone()?;
+    for (place, value) in changes {
+        if *place < list.len() {
+            list.set(*place, *value);
+        }
     }
+    Ok(list)
+}
+
+/// Whether values with the changes of a way break the clauses that stand there.
+fn way_breaks(alloc: Global, m: &Model, values: &Items<u32>, way: &Way) -> Result<bool, NoMemory>
+    requires { IsModel m.now }
+{
+    let values = changed(values, way.changes)?;
+    breaks(alloc, m, &Solution { values }, way.broken)
+}
+
+/// Whether values with the changes of each way break the clauses that stand there.
+fn each_breaks(
+    alloc: Global,
+    m: &Model,
+    values: &Items<u32>,
+    ways: &[Way],
+) -> Result<bool, NoMemory>
+    requires { IsModel m.now }
+{
+    for way in ways {
+        if !way_breaks(alloc, m, values, way)? {
+            return Ok(false);
+        }
+    }
+    Ok(true)
+}
+
+/// The same for the values of a solution.
+fn ways_break(alloc: Global, solved: &Solved, ways: &[Way]) -> Result<bool, Fail> {
+    let m = model_of(alloc, solved.function)?;
+    let values = numbers(alloc, solved.values)?;
+    Ok(each_breaks(alloc, &m, &values, ways)?)
+}
+
+#[test]
+fn finds_each_way_to_break_a_clause(rt: HostRuntime) -> Result<(), Fail> {
+    assert!(rt; ways_break(rt.alloc(), &SPILLED, &SPILLED_WAYS)?);
+    assert!(rt; ways_break(rt.alloc(), &CALLING, &CALLING_WAYS)?);
+    assert!(rt; ways_break(rt.alloc(), &FRAMELESS, &FRAMELESS_WAYS)?);
+    Ok(())
+}
+
+/// Whether a solution with one value more breaks the first clause alone.
+fn one_more_breaks(alloc: Global, solved: &Solved) -> Result<bool, Fail> {
+    let m = model_of(alloc, solved.function)?;
+    let mut values = numbers(alloc, solved.values)?;
+    values.push(0)?;
+    Ok(breaks(alloc, &m, &Solution { values }, &[1])?)
+}
+
+#[test]
+fn counts_values(rt: HostRuntime) -> Result<(), Fail> {
+    assert!(rt; one_more_breaks(rt.alloc(), &FRAMELESS)?);
     Ok(())
 }

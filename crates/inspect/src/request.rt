@@ -1,0 +1,169 @@
+//! What the words of the command line ask for.
+
+ghost use Rattle.std.specs.Prelude.{◌≤◌, ◌<◌, ◌^◌, IfOk, IfSome};
+ghost use Rattle.un_model.specs.Options.{AreOptions, IsCountOfRegisters};
+
+use un_base::decimal::read_decimal;
+use un_base::words::Word;
+use un_isa::reg::SLOTS;
+use un_model::model::{ASSIGNABLE, Options};
+
+/// Which part of a function's problem is shown.
+#[derive(Clone, Copy)]
+pub enum Part {
+    /// The names live at each block's start.
+    Live,
+    /// The extended function.
+    Extended,
+    /// The variables of its model with their domains.
+    Variables,
+    /// The solution that keeps each name in a frame slot.
+    Baseline,
+    /// The cost of a solution, or the clauses that values break.
+    Violations,
+}
+
+/// A part under options of the model.
+#[derive(Clone, Copy)]
+pub struct Request {
+    pub part: Part,
+    pub options: Options,
+}
+
+/// The words, and the part that each names.
+static PARTS: [(&[u8], Part); 5] = [
+    (b"live", Part::Live),
+    (b"extended", Part::Extended),
+    (b"variables", Part::Variables),
+    (b"baseline", Part::Baseline),
+    (b"violations", Part::Violations),
+];
+
+/// The part that a word names.
+fn named_part(word: &Word) -> Option<Part> {
+    for (name, part) in PARTS.iter() {
+        if word.is(name) {
+            return Some(*part);
+        }
+    }
+    None
+}
+
+/// The number that a word is, where it is one from `low` to `high`.
+fn number_in(word: &Word, low: u32, high: u32) -> Option<u32>
+    ensures low { IfSome result (λ n. low ≤ n) }
+    ensures high { IfSome result (λ n. n ≤ high) }
+{
+    match read_decimal(word.as_bytes()) {
+        Some(n) if n >= u64::from(low) && n <= u64::from(high) => Some(n as u32),
+        _ => None,
+    }
+}
+
+/// The number that stands at a place of the words, where it is one from `low` to `high`.
+///
+/// # Errors
+/// The place, where it is none.
+fn number_at(words: &[Word], place: u32, low: u32, high: u32) -> Result<u32, u32>
+    ensures low { IfOk result (λ n. low ≤ n) }
+    ensures high { IfOk result (λ n. n ≤ high) }
+{
+    match words.get(place as usize) {
+        None => Err(place),
+        Some(word) => match number_in(word, low, high) {
+            Some(n) => Ok(n),
+            None => Err(place),
+        },
+    }
+}
+
+/// The options so far, each once.
+#[derive(Clone, Copy)]
+struct Given {
+    regs: Option<u32>,
+    slots: Option<u32>,
+}
+
+/// The options with the one at a place of the words, and its number behind it.
+///
+/// # Errors
+/// The place at which no accepted list of words goes on so.
+fn with_option(words: &[Word], place: u32, given: Given) -> Result<Given, u32>
+    requires place { place < 2 ^ 31 }
+    requires regs { IfSome given.regs IsCountOfRegisters }
+    requires slots { IfSome given.slots (λ n. n ≤ SLOTS) }
+    ensures regs { IfOk result (λ g. IfSome g.regs IsCountOfRegisters) }
+    ensures slots { IfOk result (λ g. IfSome g.slots (λ n. n ≤ SLOTS)) }
+{
+    match words.get(place as usize) {
+        Some(word) if word.is(b"--regs") && given.regs.is_none() => {
+            let regs = number_at(words, place + 1, 1, ASSIGNABLE)?;
+            Ok(Given {
+                regs: Some(regs),
+                slots: given.slots,
+            })
+        }
+        Some(word) if word.is(b"--slots") && given.slots.is_none() => {
+            let slots = number_at(words, place + 1, 0, SLOTS)?;
+            Ok(Given {
+                regs: given.regs,
+                slots: Some(slots),
+            })
+        }
+        _ => Err(place),
+    }
+}
+
+/// The options that the words behind the first give: two pairs of words at most.
+///
+/// # Errors
+/// The least place at which no accepted list of words begins so.
+fn options(words: &[Word]) -> Result<Options, u32>
+    ensures { IfOk result AreOptions }
+{
+    let mut given = Given {
+        regs: None,
+        slots: None,
+    };
+    for pair in 0..3u32 {
+        let place = 1 + 2 * pair;
+        if words.len() <= place as usize {
+            return Ok(Options {
+                regs: given.regs,
+                slots: given.slots.unwrap_or(SLOTS),
+            });
+        }
+        given = with_option(words, place, given)?;
+    }
+    Err(5)
+}
+
+/// The options that words behind the first give for a part. The solution that keeps each name in a slot is the same under all
+/// options under which it is one, so it takes none.
+///
+/// # Errors
+/// The least place at which no accepted list of words begins so.
+fn options_of(part: Part, words: &[Word]) -> Result<Options, u32>
+    ensures { IfOk result AreOptions }
+{
+    match part {
+        Part::Baseline if words.len() > 1 => Err(1),
+        _ => options(words),
+    }
+}
+
+/// What the words ask for.
+///
+/// # Errors
+/// The least place, from 0, at which no accepted list of words begins with the words up to and with that place.
+pub fn asked_for(words: &[Word]) -> Result<Request, u32>
+    ensures { IfOk result (λ r. AreOptions r.options) }
+{
+    let Some(part) = words.first().and_then(named_part) else {
+        return Err(0);
+    };
+    match options_of(part, words) {
+        Ok(options) => Ok(Request { part, options }),
+        Err(place) => Err(place),
+    }
+}

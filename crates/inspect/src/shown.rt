@@ -1,0 +1,99 @@
+//! From the input to the text that is asked for.
+
+ghost use Rattle.un_model.specs.Options.{AreOptions};
+
+use crate::input::{Parts, numbers, split_input};
+use crate::part::part_text;
+use crate::request::{Part, Request};
+use std::alloc::Global;
+use un_base::outside::Source;
+use un_base::status::Status;
+use un_base::transfer::{ReadAll, read_all};
+use un_ir::function::Function;
+use un_lists::items::Items;
+use un_model::model::Solution;
+use un_reader::error::ReadError;
+use un_reader::limits::TEXT;
+use un_reader::read::read_function;
+
+/// How many bytes an input of two parts may have.
+const INPUT: usize = 16_777_216;
+
+/// The code of a text that is too long.
+const TOO_MANY: u8 = 13;
+
+/// The status of a text that is too long.
+fn too_long() -> Status {
+    Status::TextFault {
+        line: 0,
+        code: TOO_MANY,
+    }
+}
+
+/// The function that a text is.
+fn function(alloc: Global, text: &[u8]) -> Result<Function, Status> {
+    if text.len() > TEXT {
+        return Err(too_long());
+    }
+    match read_function(alloc, text) {
+        Ok(f) => Ok(f),
+        Err(ReadError::NoMemory) => Err(Status::NoMemory),
+        Err(ReadError::TextFault { line, code }) => Err(Status::TextFault { line, code }),
+    }
+}
+
+/// Whether values stand behind the function.
+fn takes_values(part: Part) -> bool {
+    match part {
+        Part::Violations => true,
+        Part::Live | Part::Extended | Part::Variables | Part::Baseline => false,
+    }
+}
+
+/// An input in its parts.
+fn input_of(part: Part, text: &[u8]) -> Parts<'_> {
+    if takes_values(part) {
+        split_input(text)
+    } else {
+        Parts {
+            function: text,
+            rest: b"",
+        }
+    }
+}
+
+/// The values that a text writes.
+fn solution(alloc: Global, text: &[u8]) -> Result<Solution, Status> {
+    let values = numbers(alloc, text)?;
+    Ok(Solution {
+        values: Items::from_vec(values),
+    })
+}
+
+/// The text of the part that is asked for, of an input.
+fn text_of(alloc: Global, asked: &Request, text: &[u8]) -> Result<Vec<u8>, Status>
+    requires { AreOptions asked.now.options }
+{
+    let input = input_of(asked.part, text);
+    let f = function(alloc, input.function)?;
+    let s = solution(alloc, input.rest)?;
+    part_text(alloc, asked, &f, &s).map_err(|_| Status::NoMemory)
+}
+
+/// The bytes of a source.
+fn read<S: Source>(alloc: Global, src: &mut S) -> Result<Vec<u8>, Status> {
+    match read_all(alloc, src, INPUT) {
+        Ok(input) => Ok(input),
+        Err(ReadAll::ReadFault) => Err(Status::ReadFault),
+        Err(ReadAll::TooLong) => Err(too_long()),
+        Err(ReadAll::NoMemory) => Err(Status::NoMemory),
+    }
+}
+
+/// Reads the input, and gives the text of the part that is asked for.
+pub fn text_for<S: Source>(alloc: Global, asked: &Request, src: &mut S) -> Result<Vec<u8>, Status>
+    requires { AreOptions asked.now.options }
+{
+    let input = read(alloc, src)?;
+    text_of(alloc, asked, input.as_slice())
+}
