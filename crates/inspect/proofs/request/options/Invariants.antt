@@ -1,0 +1,12 @@
+-- the options so far may be had
+use Rattle.std.proofs.Common.{◌≤◌}
+use Rattle.std.specs.Option.{IfSome}
+use Rattle.un_isa.specs.declared.reg.TheConstants.{SLOTS}
+use Rattle.un_model.specs.Options.{IsCountOfRegisters}
+use Rattle.inspect.proofs.request.options.Given as goal
+
+abbrev pub invariant-loop-pair : goal.invariant-loop-pair
+invariant-loop-pair l = record {
+  regs : IfSome l.given.regs IsCountOfRegisters;
+  slots : IfSome l.given.slots (λ n. n ≤ SLOTS);
+}
