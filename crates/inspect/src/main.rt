@@ -4,6 +4,7 @@
 #![tactic(auto)]
 
 mod domains;
+mod emission;
 mod input;
 mod part;
 mod refusal;

@@ -2,6 +2,7 @@
 
 ghost use Rattle.un_model.specs.Options.{AreOptions};
 
+use crate::emission::listing_text;
 use crate::request::{Part, Request};
 use crate::solution::{values_text, verdict_text};
 use crate::variables::variables_text;
@@ -60,6 +61,19 @@ fn verdict(
     verdict_text(alloc, &m, s)
 }
 
+/// The code of values of the model's variables.
+fn code(
+    alloc: Global,
+    f: &Function,
+    options: &Options,
+    s: &Solution,
+) -> Result<Vec<u8>, NoMemory>
+    requires { AreOptions options.now }
+{
+    let m = model(alloc, f, options)?;
+    listing_text(alloc, f, options, &m, s)
+}
+
 /// The text of the part that is asked for, of a function and the values that stand behind it.
 pub fn part_text(
     alloc: Global,
@@ -75,5 +89,6 @@ pub fn part_text(
         Part::Variables => variables(alloc, f, &asked.options),
         Part::Baseline => baseline(alloc, f),
         Part::Violations => verdict(alloc, f, &asked.options, s),
+        Part::Emit => code(alloc, f, &asked.options, s),
     }
 }

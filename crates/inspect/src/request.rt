@@ -21,6 +21,8 @@ pub enum Part {
     Baseline,
     /// The cost of a solution, or the clauses that values break.
     Violations,
+    /// The code of a solution, or the clauses that values break.
+    Emit,
 }
 
 /// A part under options of the model.
@@ -31,12 +33,13 @@ pub struct Request {
 }
 
 /// The words, and the part that each names.
-static PARTS: [(&[u8], Part); 5] = [
+static PARTS: [(&[u8], Part); 6] = [
     (b"live", Part::Live),
     (b"extended", Part::Extended),
     (b"variables", Part::Variables),
     (b"baseline", Part::Baseline),
     (b"violations", Part::Violations),
+    (b"emit", Part::Emit),
 ];
 
 /// The part that a word names.

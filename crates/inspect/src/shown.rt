@@ -45,7 +45,7 @@ fn function(alloc: Global, text: &[u8]) -> Result<Function, Status> {
 /// Whether values stand behind the function.
 fn takes_values(part: Part) -> bool {
     match part {
-        Part::Violations => true,
+        Part::Violations | Part::Emit => true,
         Part::Live | Part::Extended | Part::Variables | Part::Baseline => false,
     }
 }

@@ -12,7 +12,7 @@ use un_model::verdict::Broken;
 use un_model::violations::violations;
 
 /// The line for broken clauses.
-fn broken_text(alloc: Global, broken: &[Broken]) -> Result<Vec<u8>, NoMemory> {
+pub fn broken_text(alloc: Global, broken: &[Broken]) -> Result<Vec<u8>, NoMemory> {
     let mut out = Vec::new(alloc);
     put_text(&mut out, b"broken")?;
     for clause in broken {
