@@ -67,7 +67,8 @@ addresses : address_of 256 (negsuc 3) ∷ address_of 4294967292 (pos 8) ∷ addr
 addresses = refl
 
 -- addresses rise and are multiples of 4
-memories : is_memory [] ∷ is_memory ((0, 9) ∷ (4, 9) ∷ []) ∷ is_memory ((4, 9) ∷ (4, 9) ∷ []) ∷ is_memory ((8, 9) ∷ (4, 9) ∷ []) ∷ is_memory ((2, 9) ∷ []) ∷ []
+memories : is_memory [] ∷ is_memory ((0, 9) ∷ (4, 9) ∷ []) ∷ is_memory ((4, 9) ∷ (4, 9) ∷ [])
+    ∷ is_memory ((8, 9) ∷ (4, 9) ∷ []) ∷ is_memory ((2, 9) ∷ []) ∷ []
     ≡ true ∷ true ∷ false ∷ false ∷ false ∷ []
 memories = refl
 

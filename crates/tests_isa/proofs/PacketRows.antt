@@ -89,12 +89,16 @@ leave_does_not : told (run_of 8 (after_load (up ∷ [])) start 5) ≡ (Returned 
 leave_does_not = refl
 
 -- a call writes the link register too, in cycle 1, and the reply has 0 there
-link_of_call : told (run_of 0 (block (codes "e") (packet (i Call None [] (pos 0) (named (codes "h")) ∷ []) ∷ packet (back ∷ []) ∷ []) ∷ []) start 5)
+abbrev call_and_return : List CodeBlock
+call_and_return = block (codes "e") (packet (i Call None [] (pos 0) (named (codes "h")) ∷ []) ∷ packet (back ∷ []) ∷ []) ∷ []
+
+link_of_call : told (run_of 0 call_and_return start 5)
     ≡ (Returned 7 0, memory, record_of (codes "h") [] memory ∷ [], 2)
 link_of_call = refl
 
 -- what instructions read: accesses to the frame, Enter and Leave read the stack pointer
-reads : map reads_of (i Spill None (1 ∷ []) (pos 0) None ∷ i Reload (r 0) [] (pos 0) None ∷ down ∷ up ∷ back ∷ i Store None (0 ∷ 2 ∷ []) (pos 0) None ∷ [])
+reads : map reads_of
+    (i Spill None (1 ∷ []) (pos 0) None ∷ i Reload (r 0) [] (pos 0) None ∷ down ∷ up ∷ back ∷ i Store None (0 ∷ 2 ∷ []) (pos 0) None ∷ [])
     ≡ (29 ∷ 1 ∷ []) ∷ (29 ∷ []) ∷ (29 ∷ []) ∷ (29 ∷ []) ∷ (31 ∷ []) ∷ (0 ∷ 2 ∷ []) ∷ []
 reads = refl
 
@@ -112,7 +116,11 @@ latency_of_call = refl
 
 -- ---- a packet reads what was before it, and a return gives r0 as it is after it
 
-return_after_write : told (run_of 0 (block (codes "e") (packet (i Imm (r 0) [] (pos 3) None ∷ i Mov (r 31) (1 ∷ []) (pos 0) None ∷ back ∷ []) ∷ []) ∷ []) start 5)
+abbrev written_and_read : List CodeBlock
+written_and_read =
+    block (codes "e") (packet (i Imm (r 0) [] (pos 3) None ∷ i Mov (r 31) (1 ∷ []) (pos 0) None ∷ back ∷ []) ∷ []) ∷ []
+
+return_after_write : told (run_of 0 written_and_read start 5)
     ≡ (Returned 3 100, memory, [], 1)
 return_after_write = refl
 

@@ -4,7 +4,8 @@ use Rattle.std.specs.List.{range_with_len}
 use Rattle.std.proofs.Common.{refl}
 use Rattle.un_base.specs.declared.ids.NameId.{NameId}
 use Rattle.un_isa.specs.declared.op.Op.{Op}
-use Rattle.un_isa.specs.declared.op.Op.TheVariants.{Mov, Add, Mux, CmpGti, Mpyi, Load, Store, Call, Jump, JumpIf, JumpIfNot, Jumpr, Spill, Reload, P2R, R2P, Enter, Leave}
+use Rattle.un_isa.specs.declared.op.Op.TheVariants.{Mov, Add, Mux, CmpGti, Mpyi, Load, Store, Call, Jump, JumpIf, JumpIfNot, Jumpr}
+use Rattle.un_isa.specs.declared.op.Op.TheVariants.{Spill, Reload, P2R, R2P, Enter, Leave}
 use Rattle.un_isa.specs.declared.reg.Reg.{Reg}
 use Rattle.un_isa.specs.declared.reg.Space.TheVariants.{R, P, M}
 use Rattle.un_isa.specs.Hexagon.{HEXAGON}
@@ -62,7 +63,8 @@ later_homes = refl
 abbrev source : Op → SrcOp
 source op = record { op = op; dst = None; srcs = []; imm = pos 0; callee = None }
 
-result_homes : result_home HEXAGON false names (Body (source Call)) 0 ∷ result_home HEXAGON false names (Body (source Add)) 0 ∷ [] ≡ home 0 ∷ None ∷ []
+result_homes : result_home HEXAGON false names (Body (source Call)) 0 ∷ result_home HEXAGON false names (Body (source Add)) 0 ∷ []
+    ≡ home 0 ∷ None ∷ []
 result_homes = refl
 
 -- ---- instructions
@@ -80,14 +82,17 @@ second = transfer_of Fall ∷ transfer_of (JumpTo (record { 0 = 1 })) ∷ transf
 transfers : second ≡ None ∷ Some Jump ∷ Some JumpIf ∷ Some JumpIfNot ∷ Some Jumpr ∷ []
 transfers = refl
 
-transferring : filter is_transfer (Add ∷ Call ∷ Jump ∷ JumpIf ∷ JumpIfNot ∷ Jumpr ∷ Enter ∷ Leave ∷ []) ≡ Jump ∷ JumpIf ∷ JumpIfNot ∷ Jumpr ∷ []
+transferring : filter is_transfer (Add ∷ Call ∷ Jump ∷ JumpIf ∷ JumpIfNot ∷ Jumpr ∷ Enter ∷ Leave ∷ [])
+    ≡ Jump ∷ JumpIf ∷ JumpIfNot ∷ Jumpr ∷ []
 transferring = refl
 
 -- a value at a block's start has the latency 1
-latencies : map (latency_by HEXAGON) (None ∷ Some Load ∷ Some Reload ∷ Some Mpyi ∷ Some Mov ∷ Some Spill ∷ Some Call ∷ []) ≡ 1 ∷ 2 ∷ 2 ∷ 2 ∷ 1 ∷ 1 ∷ 1 ∷ []
+latencies : map (latency_by HEXAGON) (None ∷ Some Load ∷ Some Reload ∷ Some Mpyi ∷ Some Mov ∷ Some Spill ∷ Some Call ∷ [])
+    ≡ 1 ∷ 2 ∷ 2 ∷ 2 ∷ 1 ∷ 1 ∷ 1 ∷ []
 latencies = refl
 
-gaps : latency_gap HEXAGON (Some Load) (Some Add) ∷ latency_gap HEXAGON (Some Add) (Some Load) ∷ latency_gap HEXAGON None None ∷ [] ≡ 2 ∷ 1 ∷ 1 ∷ []
+gaps : latency_gap HEXAGON (Some Load) (Some Add) ∷ latency_gap HEXAGON (Some Add) (Some Load) ∷ latency_gap HEXAGON None None ∷ []
+    ≡ 2 ∷ 1 ∷ 1 ∷ []
 gaps = refl
 
 widths : width_by None ∷ width_by (Some Enter) ∷ [] ≡ 0 ∷ 1 ∷ []
@@ -98,10 +103,12 @@ widths = refl
 abbrev moves : List Op
 moves = Mov ∷ Spill ∷ Reload ∷ P2R ∷ R2P ∷ CmpGti ∷ Jumpr ∷ JumpIf ∷ Call ∷ Store ∷ []
 
-spaces_read : map (λ (op : Op). space_read (Some op) 0) moves ≡ Some R ∷ Some R ∷ Some M ∷ Some P ∷ Some R ∷ Some R ∷ Some R ∷ Some P ∷ Some R ∷ Some R ∷ []
+spaces_read : map (λ (op : Op). space_read (Some op) 0) moves
+    ≡ Some R ∷ Some R ∷ Some M ∷ Some P ∷ Some R ∷ Some R ∷ Some R ∷ Some P ∷ Some R ∷ Some R ∷ []
 spaces_read = refl
 
-spaces_given : map (λ (op : Op). space_given (Some op)) moves ≡ Some R ∷ Some M ∷ Some R ∷ Some R ∷ Some P ∷ Some P ∷ None ∷ None ∷ Some R ∷ None ∷ []
+spaces_given : map (λ (op : Op). space_given (Some op)) moves
+    ≡ Some R ∷ Some M ∷ Some R ∷ Some R ∷ Some P ∷ Some P ∷ None ∷ None ∷ Some R ∷ None ∷ []
 spaces_given = refl
 
 spaces_of_mux : map (space_read (Some Mux)) (0 ∷ 1 ∷ 2 ∷ []) ≡ Some P ∷ Some R ∷ Some R ∷ []
@@ -125,7 +132,8 @@ after_store = refl
 after_call : map (memory_distance (Some Call)) accesses ≡ Some 1 ∷ Some 1 ∷ Some 1 ∷ None ∷ None ∷ []
 after_call = refl
 
-after_others : memory_distance (Some Add) (Some Store) ∷ memory_distance (Some Spill) (Some Load) ∷ memory_distance None (Some Call) ∷ [] ≡ None ∷ None ∷ None ∷ []
+after_others : memory_distance (Some Add) (Some Store) ∷ memory_distance (Some Spill) (Some Load) ∷ memory_distance None (Some Call) ∷ []
+    ≡ None ∷ None ∷ None ∷ []
 after_others = refl
 
 abbrev frame_uses : List (Option Op)
@@ -135,7 +143,8 @@ after_enter : map (frame_distance (Some Enter)) frame_uses ≡ None ∷ Some 1 �
 after_enter = refl
 
 -- a Spill or a Reload may be in the cycle of Leave, a Call may not
-before_leave : map (λ (op : Option Op). frame_distance op (Some Leave)) frame_uses ≡ Some 1 ∷ Some 0 ∷ Some 0 ∷ Some 1 ∷ None ∷ None ∷ None ∷ []
+before_leave : map (λ (op : Option Op). frame_distance op (Some Leave)) frame_uses
+    ≡ Some 1 ∷ Some 0 ∷ Some 0 ∷ Some 1 ∷ None ∷ None ∷ None ∷ []
 before_leave = refl
 
 -- ---- packets

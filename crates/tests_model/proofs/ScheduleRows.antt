@@ -23,7 +23,9 @@ use Rattle.un_ir.specs.declared.extended.ExtBlock.{ExtBlock}
 use Rattle.un_model.specs.Congruences.{IsCongruent, HandsOn, HandsOver, KeepsCongruences, place_over}
 use Rattle.un_domains.specs.declared.domain.Domain.TheVariants.{Range, Set}
 use Rattle.un_model.specs.Schedules.{is_zero, last_read}
-use Rattle.un_model.specs.Solutions.{Precedes, InDomain, KeepsZeros, KeepsChoices, KeepsSpaces, KeepsLatencies, latency_gap, KeepsMemory, ShareNoCycle, SparesRange, IsSpared, KeepsRegisters, HasRoom, KeepsPackets, KeepsHomes, KeepsFrame, uses_frame}
+use Rattle.un_model.specs.Solutions.{Precedes, InDomain, KeepsZeros, KeepsChoices, KeepsSpaces, KeepsLatencies, latency_gap}
+use Rattle.un_model.specs.Solutions.{KeepsMemory, ShareNoCycle, SparesRange, IsSpared, KeepsRegisters, HasRoom, KeepsPackets}
+use Rattle.un_model.specs.Solutions.{KeepsHomes, KeepsFrame, uses_frame}
 
 -- ---- schedules in few words: of one block, whose end is 9
 
@@ -268,7 +270,8 @@ over = refl
 
 -- a Spill, a Reload, or a value at a block's start in a slot uses it; a value of an operation in a slot does not
 uses : uses_frame (schedule (issue 0 Spill 2 ∷ []) [] []) ∷ uses_frame (schedule (issue 0 Reload 2 ∷ []) [] [])
-    ∷ uses_frame (schedule [] [] (in_slot ∷ [])) ∷ uses_frame (schedule (issue 0 Load 2 ∷ []) [] (range 0 (Some Mov) true 36 1 2 ∷ range 0 None false 36 0 0 ∷ []))
+    ∷ uses_frame (schedule [] [] (in_slot ∷ []))
+    ∷ uses_frame (schedule (issue 0 Load 2 ∷ []) [] (range 0 (Some Mov) true 36 1 2 ∷ range 0 None false 36 0 0 ∷ []))
     ∷ [] ≡ true ∷ true ∷ true ∷ false ∷ []
 uses = refl
 
@@ -294,5 +297,6 @@ reloads_after_leave h = let later : 4 + 0 ≤ 3 = h.ordered refl 0 (idle true) (
 
 -- ---- the last read
 
-last : last_read (read None 0 3 None ∷ read None 0 7 None ∷ read None 0 5 None ∷ []) 0 ∷ last_read (read None 0 3 None ∷ []) 1 ∷ [] ≡ 7 ∷ 0 ∷ []
+last : last_read (read None 0 3 None ∷ read None 0 7 None ∷ read None 0 5 None ∷ []) 0 ∷ last_read (read None 0 3 None ∷ []) 1 ∷ []
+    ≡ 7 ∷ 0 ∷ []
 last = refl

@@ -38,16 +38,19 @@ state regs = record {
 module _ (f : Function) (places : ℕ → ℕ → ℕ) (code : Code) (s : SourceState) where
   -- ---- both wait: for one call
 
-  same_call : StopsAgree HEXAGON f places code start (Waiting (seen (codes "h") 5 [])) s (WaitingFor (seen (codes "h") 5 [])) (state [])
+  abbrev WaitFor : CallRecord → CallRecord → Type 0
+  WaitFor call other = StopsAgree HEXAGON f places code start (Waiting call) s (WaitingFor other) (state [])
+
+  same_call : WaitFor (seen (codes "h") 5 []) (seen (codes "h") 5 [])
   same_call = refl
 
-  other_callee : StopsAgree HEXAGON f places code start (Waiting (seen (codes "h") 5 [])) s (WaitingFor (seen (codes "g") 5 [])) (state []) → ⊥
+  other_callee : WaitFor (seen (codes "h") 5 []) (seen (codes "g") 5 []) → ⊥
   other_callee h = let letter : 104 ≡ 103 = ap (λ (c : CallRecord). slice_index c.name 0) h in omega (arith, letter)
 
-  other_argument : StopsAgree HEXAGON f places code start (Waiting (seen (codes "h") 5 [])) s (WaitingFor (seen (codes "h") 6 [])) (state []) → ⊥
+  other_argument : WaitFor (seen (codes "h") 5 []) (seen (codes "h") 6 []) → ⊥
   other_argument h = let argument : 5 ≡ 6 = ap (λ (c : CallRecord). slice_index c.args 0) h in omega (arith, argument)
 
-  other_memory : StopsAgree HEXAGON f places code start (Waiting (seen (codes "h") 5 ((8, 1) ∷ []))) s (WaitingFor (seen (codes "h") 5 [])) (state []) → ⊥
+  other_memory : WaitFor (seen (codes "h") 5 ((8, 1) ∷ [])) (seen (codes "h") 5 []) → ⊥
   other_memory h = let words : 1 ≡ 0 = ap (λ (c : CallRecord). length c.memory) h in omega (arith, words)
 
   -- ---- one kind of stop
@@ -101,7 +104,10 @@ parameters f params names = rw (params, names) refl
 -- ---- counts
 
 abbrev blocks : List CodeBlock
-blocks = record { label = codes "e"; packets = [] } ∷ record { label = codes "k"; packets = record { instrs = [] } ∷ record { instrs = [] } ∷ [] } ∷ []
+blocks =
+    record { label = codes "e"; packets = [] }
+    ∷ record { label = codes "k"; packets = record { instrs = [] } ∷ record { instrs = [] } ∷ [] }
+    ∷ []
 
 counts : packets_under blocks (codes "e") ∷ packets_under blocks (codes "k") ∷ packets_under blocks (codes "x") ∷ [] ≡ 0 ∷ 2 ∷ 0 ∷ []
 counts = refl

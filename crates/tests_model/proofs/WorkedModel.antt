@@ -86,7 +86,9 @@ later = record {
 
 -- r0 and r1 may be assigned, and there is one slot
 abbrev model : Model
-model = model_of (record { table = HEXAGON; names = General ∷ Pred ∷ []; blocks = entry ∷ later ∷ [] }) (record { regs = Some 2; slots = 1 })
+model =
+    model_of (record { table = HEXAGON; names = General ∷ Pred ∷ []; blocks = entry ∷ later ∷ [] })
+    (record { regs = Some 2; slots = 1 })
 
 -- ---- its variables
 
@@ -215,7 +217,13 @@ frame : frame_of model values ≡ 8
 frame = refl
 
 abbrev instr : Op → Option Reg → List ℕ → ℤ → Instr
-instr o dst srcs imm = record { op = o; dst = dst; srcs = map (λ (n : ℕ). let reg : Reg = record { 0 = n } in reg) srcs; imm = imm; label = None }
+instr o dst srcs imm = record {
+  op = o;
+  dst = dst;
+  srcs = map (λ (n : ℕ). let reg : Reg = record { 0 = n } in reg) srcs;
+  imm = imm;
+  label = None;
+}
 
 abbrev reg : ℕ → Option Reg
 reg n = Some (record { 0 = n })

@@ -26,7 +26,13 @@ full = record {
 
 -- an Imm of this number to a name that is new, or not
 abbrev imm : List ℕ → ℕ → Line
-imm name n = Operation (record { op = Imm; dst = Some (name, General); srcs = []; imm = record { negative = false; size = n }; callee = None })
+imm name n = Operation (record {
+  op = Imm;
+  dst = Some (name, General);
+  srcs = [];
+  imm = record { negative = false; size = n };
+  callee = None;
+})
 
 a_name_too_many : shaped_fault full (Some (imm (codes "new") 4)) ≡ Some TooMany
 a_name_too_many = refl
@@ -52,16 +58,23 @@ falls_off = codes "func f" ∷ codes "block e freq 1" ∷ codes "jump y" ∷ cod
 falls_before_unknown : shape_fault (map line_of falls_off) ≡ Some (4, FallsOff)
 falls_before_unknown = refl
 
-unknown_before_entry : shape_fault (map line_of (codes "func f" ∷ codes "block e freq 1" ∷ codes "jump e" ∷ codes "block x freq 1" ∷ codes "jump y" ∷ [])) ≡ Some (5, UnknownLabel)
+abbrev entry_and_unknown : List (List ℕ)
+entry_and_unknown = codes "func f" ∷ codes "block e freq 1" ∷ codes "jump e" ∷ codes "block x freq 1" ∷ codes "jump y" ∷ []
+
+unknown_before_entry : shape_fault (map line_of entry_and_unknown) ≡ Some (5, UnknownLabel)
 unknown_before_entry = refl
 
 -- the second return, of another form than the first, stands before the jump to the entry
 abbrev mixed_and_entry : List (List ℕ)
 mixed_and_entry =
-    codes "func f %a" ∷ codes "block e freq 1" ∷ codes "ret" ∷ codes "block x freq 1" ∷ codes "ret %a" ∷ codes "block y freq 1" ∷ codes "jump e" ∷ []
+    codes "func f %a" ∷ codes "block e freq 1" ∷ codes "ret" ∷ codes "block x freq 1" ∷ codes "ret %a"
+    ∷ codes "block y freq 1" ∷ codes "jump e" ∷ []
 
 entry_before_mixed : shape_fault (map line_of mixed_and_entry) ≡ Some (7, JumpToEntry)
 entry_before_mixed = refl
 
-mixed : shape_fault (map line_of (codes "func f %a" ∷ codes "block e freq 1" ∷ codes "ret" ∷ codes "block x freq 1" ∷ codes "ret %a" ∷ [])) ≡ Some (5, MixedResult)
+abbrev two_returns : List (List ℕ)
+two_returns = codes "func f %a" ∷ codes "block e freq 1" ∷ codes "ret" ∷ codes "block x freq 1" ∷ codes "ret %a" ∷ []
+
+mixed : shape_fault (map line_of two_returns) ≡ Some (5, MixedResult)
 mixed = refl
