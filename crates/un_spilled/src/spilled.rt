@@ -3,6 +3,7 @@
 ghost use Rattle.std.specs.Prelude.{◌≡◌, IfOk};
 ghost use Rattle.un_isa.specs.Hexagon.{HEXAGON};
 ghost use Rattle.un_baseline.specs.SpillEverywhere.{spilled_values};
+ghost use Rattle.un_model.specs.Solutions.{IsSolution};
 ghost use Rattle.un_problem.specs.Problems.{IsModelOf, default_options};
 
 use std::alloc::Global;
@@ -17,7 +18,8 @@ use un_model::model::{Model, Solution};
 /// `NoMemory` where there is no memory for them.
 pub fn spilled(alloc: Global, f: &Function, m: &Model) -> Result<Solution, NoMemory>
     requires { IsModelOf HEXAGON f.now default_options m.now }
-    ensures { IfOk result (λ s. s.values ≡ spilled_values m.now.ext) }
+    ensures solution { IfOk result (IsSolution m.now) }
+    ensures values { IfOk result (λ s. s.values ≡ spilled_values m.now.ext) }
 {
     let _ = f;
     let s = spill_everywhere(alloc, m)?;

@@ -17,31 +17,13 @@ use Rattle.un_model.specs.declared.model.Options.{Options}
 use Rattle.un_model.specs.declared.model.Solution.{Solution}
 use Rattle.un_packet.specs.declared.code.Code.{Code}
 use Rattle.un_problem.specs.Problems.{IsExtOf, IsModelOf, default_options}
-use Rattle.un_problem.proofs.ProblemLaws.{small_names, default_are, of_function, fit_table, table_is, options_are, own_model}
+use Rattle.un_problem.proofs.ProblemLaws.{default_are, table_is, options_are}
 use Rattle.un_simulation.specs.Count.{count_of}
 use Rattle.un_simulation.specs.Simulation.{Simulates}
-use Rattle.un_baseline.specs.RoomyOptions.{AreRoomy, IsOfFunction, IsSpillable}
 use Rattle.un_emit.specs.Emitted.{IsEmitted, start_places}
 use Rattle.un_top.specs.Reports.{IsCodeOf}
 
--- default options leave each name a slot, and one more
-roomy : (t : Table) (f : Function) (m : Model) → IsModelOf t f default_options m → AreRoomy m.ext m.options
-roomy t f m is =
-    subst (λ (o : Options). AreRoomy m.ext o) (sym (options_are t f default_options m is))
-    (record { options = default_are; regs = tt; slots = small_names t f m.ext is.ext })
-
-is_of_function : (f : Function) (e : Ext) → IsExtOf HEXAGON f e → IsOfFunction e
-is_of_function f e is = let h = of_function HEXAGON f e is in record { function = f; lists = h.0; live = h.1; extended = h.2 }
-
--- so all of its names can be spilled
-pub spillable : (f : Function) (m : Model) → IsModelOf HEXAGON f default_options m → IsSpillable m
-spillable f m is = record {
-  model = own_model HEXAGON f default_options m is;
-  table = fit_table f m.ext is.ext;
-  function = is_of_function f m.ext is.ext;
-  roomy = roomy HEXAGON f m is;
-}
-
+-- the options of such a model are options
 pub own_options : (t : Table) (f : Function) (m : Model) → IsModelOf t f default_options m → AreOptions m.options
 own_options t f m is = subst AreOptions (sym (options_are t f default_options m is)) default_are
 

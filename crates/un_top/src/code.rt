@@ -11,12 +11,12 @@ ghost use Rattle.un_top.specs.Reports.{IsCodeOf};
 use un_problem::problem::{default_options, model};
 use std::alloc::Global;
 use un_base::memory_error::NoMemory;
-use un_baseline::spill::spill_everywhere;
 use un_emit::emit::emit;
 use un_ir::function::Function;
 use un_model::cost::cost;
 use un_model::model::{Model, Solution};
 use un_packet::code::Code;
+use un_spilled::spilled::spilled;
 
 /// Code with its cost.
 #[derive(Drop)]
@@ -50,7 +50,7 @@ fn spilled_code(alloc: Global, f: &Function, model: &Model) -> Result<Costed, No
     requires counts { HasSmallCounts model.now.ext }
     ensures { IfOk result (λ c. IsCodeOf HEXAGON f.now c.code c.cost) }
 {
-    let solution = spill_everywhere(alloc, model)?;
+    let solution = spilled(alloc, f, model)?;
     let costed = code_by(alloc, f, model, &solution)?;
     Ok(costed)
 }
