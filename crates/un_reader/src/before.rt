@@ -65,7 +65,7 @@ fn add_op(names: &mut Names, o: &OpLine) -> Result<(), NoMemory>
 }
 
 /// The same for a line's names.
-pub fn add_line(names: &mut Names, line: &Line) -> Result<(), NoMemory>
+pub(crate) fn add_line(names: &mut Names, line: &Line) -> Result<(), NoMemory>
     ensures { OnOk result (names.new ≡ numbered names.old (names_on line.now)) }
 {
     match line {
