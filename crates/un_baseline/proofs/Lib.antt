@@ -1,16 +1,25 @@
+pub mod Arrivals
 pub mod BlockShapes
+pub mod Bodies
+pub mod Carried
 pub mod Each
 pub mod FrameOps
 pub mod Fronts
+pub mod Grown
 pub mod Holding
 pub mod Kept
 pub mod Layouts
+pub mod Made
 pub mod OneAtATime
 pub mod PlanSchedules
 pub mod Purposes
 pub mod Pushing
 pub mod Shapes
 mod SmallFunctions
+pub mod Sound
 pub mod SpillSteps
+pub mod Sources
+pub mod Standing
 pub mod Tails
 pub mod Timing
+pub mod Walk
