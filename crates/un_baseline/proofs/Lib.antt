@@ -5,6 +5,7 @@ pub mod Carried
 pub mod Each
 pub mod FrameOps
 pub mod Fronts
+pub mod Going
 pub mod Grown
 pub mod Holding
 pub mod Kept
