@@ -12,6 +12,7 @@ pub mod Kept
 pub mod Layouts
 pub mod Made
 pub mod OneAtATime
+pub mod Outs
 pub mod PlanSchedules
 pub mod Purposes
 pub mod Pushing
@@ -21,6 +22,7 @@ pub mod Sound
 pub mod SpillSteps
 pub mod Sources
 pub mod Standing
+pub mod Tailing
 pub mod Tails
 pub mod Timing
 pub mod Walk

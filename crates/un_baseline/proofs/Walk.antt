@@ -165,13 +165,13 @@ module _ (c : ℕ) (H : Seen → List Read → Type 0) (b end : ℕ) where
       definer = p.definer;
     }
 
-    abbrev GoodCopy : ℕ → Progress → Seen → NodeCopy → List TempId → ℕ → List ExtOp → Purpose → Move → Type 0
+    abbrev pub GoodCopy : ℕ → Progress → Seen → NodeCopy → List TempId → ℕ → List ExtOp → Purpose → Move → Type 0
     GoodCopy n p seen node alts k rest purpose m =
         let op = copy_op node alts k in
         let st = copy_step m op in
         IsGoodStep seen n op st × AreGoodSteps (n + 1) (with_step seen n op st) rest (steps_of e block s (behind_copy p purpose node m) rest)
 
-    good_copy : (n : ℕ) (p : Progress) (seen : Seen) (node : NodeCopy) (alts : List TempId) (k : ℕ) (rest : List ExtOp) (purpose : Purpose) (m : Move)
+    pub good_copy : (n : ℕ) (p : Progress) (seen : Seen) (node : NodeCopy) (alts : List TempId) (k : ℕ) (rest : List ExtOp) (purpose : Purpose) (m : Move)
         → purpose_at s.term rest ≡ purpose → copy_move e block.live_in s p purpose alts node ≡ m
         → GoodCopy n p seen node alts k rest purpose m → Good n p seen (copy_op node alts k ∷ rest)
     good_copy n p seen node alts k rest purpose m for is h =
