@@ -3,6 +3,7 @@ pub mod BlockShapes
 pub mod Bodies
 pub mod Carried
 pub mod Each
+pub mod Ends
 pub mod FrameOps
 pub mod Fronts
 pub mod Going
