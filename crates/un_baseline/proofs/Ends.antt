@@ -79,7 +79,7 @@ module _ (c : ℕ) (H : Seen → List Read → Type 0) (b end : ℕ) (e : Ext) (
 
   -- ---- what is added
 
-  out_shape : (xs : List Operand) (g : Growth)
+  pub out_shape : (xs : List Operand) (g : Growth)
       → all_ops e.names live_in entry saved (record { kind = Out; operands = xs; results = [] } ∷ []) g
       ≡ operands_ops xs g ++ record { kind = Out; operands = new_operands xs g; results = [] } ∷ []
   out_shape xs g = by entry
@@ -89,14 +89,14 @@ module _ (c : ℕ) (H : Seen → List Read → Type 0) (b end : ℕ) (e : Ext) (
       by true = append_nil (operands_ops xs g ++ record { kind = Out; operands = new_operands xs g; results = [] } ∷ [])
       by false = append_nil (operands_ops xs g ++ record { kind = Out; operands = new_operands xs g; results = [] } ∷ [])
 
-  abbrev ended : Term → List Operand → Growth → Growth
+  abbrev pub ended : Term → List Operand → Growth → Growth
   ended term xs g = with_results (End term) (new_operands xs g) 0 (with_operands xs g)
 
-  enter_end : (t : Bool) (term : Term) (g : Growth) → with_enter t (End term) g ≡ g
+  pub enter_end : (t : Bool) (term : Term) (g : Growth) → with_enter t (End term) g ≡ g
   enter_end true term g = refl
   enter_end false term g = refl
 
-  no_enter : (t : Bool) (term : Term) → enter_ops t (End term) ≡ []
+  pub no_enter : (t : Bool) (term : Term) → enter_ops t (End term) ≡ []
   no_enter true term = refl
   no_enter false term = refl
 
@@ -210,7 +210,7 @@ module _ (c : ℕ) (H : Seen → List Read → Type 0) (b end : ℕ) (e : Ext) (
           )
 
     -- saved values at a return
-    kept_out : (count i j : ℕ) (regs : List ℕ) → ((m r : ℕ) → slice_get regs m ≡ Some r → SavedHere g seen (kept0 + (i + m)) r)
+    pub kept_out : (count i j : ℕ) (regs : List ℕ) → ((m r : ℕ) → slice_get regs m ≡ Some r → SavedHere g seen (kept0 + (i + m)) r)
         → ((n : ℕ) (y : Operand) → j ≤ n → out_place e.names block.live_out s count s.term n y ≡ 0)
         → Outs g seen count j (kept_operands (kept0 + i) regs) regs
     kept_out count i j [] saved_at zeros = tt
@@ -237,14 +237,14 @@ module _ (c : ℕ) (H : Seen → List Read → Type 0) (b end : ℕ) (e : Ext) (
 
   -- ---- a block that goes on
 
-  new_size : (xs : List Operand) (g : Growth) → length (new_operands xs g) ≡ length xs
+  pub new_size : (xs : List Operand) (g : Growth) → length (new_operands xs g) ≡ length xs
   new_size [] g = refl
   new_size (x ∷ xs) g = ap suc (new_size xs (with_operand x g))
 
-  abbrev OutAsks : List ℕ → Type 0
+  abbrev pub OutAsks : List ℕ → Type 0
   OutAsks rs = (seen' : Seen) (qs : List Read) → AllZip (ReadsFrom seen') qs rs → H seen' qs
 
-  out_after : (n : ℕ) (p : Progress) (seen : Seen) (g : Growth) (xs : List Operand) (rs : List ℕ) → Outs g seen (length xs) 0 xs rs
+  pub out_after : (n : ℕ) (p : Progress) (seen : Seen) (g : Growth) (xs : List Operand) (rs : List ℕ) → Outs g seen (length xs) 0 xs rs
       → purpose_of_out s.term ≡ Unread → OutAsks rs → G n p seen (all_ops e.names live_in entry saved (record { kind = Out; operands = xs; results = [] } ∷ []) g)
   out_after n p seen g xs rs h quiet wanted =
       subst (G n p seen) (sym (out_shape xs g))
@@ -339,7 +339,7 @@ module _ (c : ℕ) (H : Seen → List Read → Type 0) (b end : ℕ) (e : Ext) (
     AreLiveHere ns = (m : ℕ) (name : NameId) → slice_get ns m ≡ Some name → IsLive f.blocks name b (length source.ops)
 
     -- a block that falls through
-    fall_good : (n : ℕ) (ns : List NameId) → block.live_out ≡ ns → AreLiveHere ns → HandsOut ns → purpose_of_out s.term ≡ Unread → OutAsks (handed_rooms ns)
+    pub fall_good : (n : ℕ) (ns : List NameId) → block.live_out ≡ ns → AreLiveHere ns → HandsOut ns → purpose_of_out s.term ≡ Unread → OutAsks (handed_rooms ns)
         → G n p seen (All' (out_of ns ∷ []) g)
     fall_good n ns is live hands quiet wanted =
         out_after n p seen g (onward_operands ns) (handed_rooms ns) (onward_outs ns (length (onward_operands ns)) is (onward_size ns) live (hands (length (onward_operands ns)))) quiet wanted
@@ -367,7 +367,7 @@ module _ (c : ℕ) (H : Seen → List Read → Type 0) (b end : ℕ) (e : Ext) (
         ap (λ (es : List ExtOp). (operands_ops xs g ++ (end_at term (new_operands xs g) ∷ es)) ++ rest) (no_enter entry term)
         ∙ append_assoc (operands_ops xs g) (end_at term (new_operands xs g) ∷ []) rest
 
-    jump_good : (n : ℕ) (to : BlockId) (ns : List NameId) → block.live_out ≡ ns → AreLiveHere ns → HandsOut ns → purpose_of_out s.term ≡ Unread → OutAsks (handed_rooms ns)
+    pub jump_good : (n : ℕ) (to : BlockId) (ns : List NameId) → block.live_out ≡ ns → AreLiveHere ns → HandsOut ns → purpose_of_out s.term ≡ Unread → OutAsks (handed_rooms ns)
         → G n p seen (All' (end_at (Jump to) [] ∷ out_of ns ∷ []) g)
     jump_good n to ns is live hands quiet wanted =
         let rest = All' (out_of ns ∷ []) (with_enter entry (End (Jump to)) (ended (Jump to) [] g)) in
@@ -392,7 +392,7 @@ module _ (c : ℕ) (H : Seen → List Read → Type 0) (b end : ℕ) (e : Ext) (
         (λ seen' passed. behind_good (m + 1) (other_progress (after_end e.table term q.cycle) Other) seen' term xs ns
         (λ i r high other st. passed.stands i r (a.stands i r high other st)) is live hands quiet wanted)))
 
-    branch_good : (sense : Bool) (n : ℕ) (pred : NameId) (to : BlockId) (ns : List NameId) → kind_of f.names pred ≡ Some Pred → IsLive f.blocks pred b (length source.ops)
+    pub branch_good : (sense : Bool) (n : ℕ) (pred : NameId) (to : BlockId) (ns : List NameId) → kind_of f.names pred ≡ Some Pred → IsLive f.blocks pred b (length source.ops)
         → block.live_out ≡ ns → AreLiveHere ns → HandsOut ns → purpose_of_out s.term ≡ Unread → OutAsks (handed_rooms ns)
         → G n p seen (All' (end_at (Branch pred sense to) (name_operand current None pred ∷ []) ∷ out_of ns ∷ []) g)
     branch_good true n pred to ns = branch_by true n pred to JumpIf ns refl (λ z. cc z) refl

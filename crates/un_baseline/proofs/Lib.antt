@@ -17,6 +17,7 @@ pub mod Outs
 pub mod PlanSchedules
 pub mod Purposes
 pub mod Pushing
+pub mod Returning
 pub mod Shapes
 mod SmallFunctions
 pub mod Sound
