@@ -24,6 +24,7 @@ pub mod Sound
 pub mod SpillSteps
 pub mod Sources
 pub mod Standing
+pub mod Starts
 pub mod Tailing
 pub mod Tails
 pub mod Timing
