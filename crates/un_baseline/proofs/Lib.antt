@@ -13,6 +13,7 @@ pub mod Kept
 pub mod Layouts
 pub mod Made
 pub mod OneAtATime
+pub mod Openings
 pub mod Outs
 pub mod PlanSchedules
 pub mod Purposes

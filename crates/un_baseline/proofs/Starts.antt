@@ -147,7 +147,7 @@ module _ (c : ℕ) (H : Seen → List Read → Type 0) (b end : ℕ) (e : Ext) (
       };
     }
 
-  abbrev start_at : ℕ → TempId → ℕ
+  abbrev pub start_at : ℕ → TempId → ℕ
   start_at j x = start_register e.table s block.live_in j (slice_get block.live_in j)
 
   pub start_good : (n : ℕ) (p : Progress) (seen : Seen) (results : List TempId) (rest : List ExtOp) (rs : List ℕ)
