@@ -2,6 +2,7 @@
 use Rattle.std.proofs.Common.{◌≡◌, ◌≢◌, ℕ, zero, suc, ◌+◌, ◌-◌, ◌<◌, ◌≤◌, ◌⊎◌, inl, inr, Bool, true, false, List, [], ◌∷◌, ◌++◌, length, map, replicate, get_or, Option, Some, None, refl, sym, ap, subst, ◌∙◌, append_assoc, length-set, arith}
 use Rattle.std.specs.Prelude.{◌==◌, nat_lt, if◌then◌else◌, slice_get, slice_index, slice_set, unwrap_or, IfSome, All, AllPairs, Contains}
 use Rattle.std.specs.List.{range_with_len}
+use Rattle.std.proofs.lemmas.Bool.{cases_lt}
 use Rattle.std.proofs.lemmas.Bool.Decides.{nat_tests}
 use Rattle.std.proofs.lemmas.Option.{slice_get_within, slice_get_past, get_or_from_slice_get, slice_get-get_or}
 use Rattle.std.proofs.lemmas.List.{length-append, length-map, length-replicate, get_or-set_same, get_or-set_other}
@@ -527,3 +528,189 @@ module _ (c : ℕ) (H : Seen → List Read → Type 0) (b end : ℕ) (e : Ext) (
         where
           omega' : length seen.made ≡ g0.next → length start_rooms ≡ total → length seen.made + length start_rooms ≡ g0.next + total
           omega' a d = omega arith
+
+      -- ---- the entry
+
+      -- each value of the entry has one copy
+      one_copy_each : entry ≡ true → saved ≡ true → (i : ℕ) (t : Sort) → slice_get sorts i ≡ Some t → copy_count t ≡ 1
+      one_copy_each in_entry copied i t got = by (cases_lt i (length ns))
+        where
+          by : (i < length ns) ⊎ (length ns ≤ i) → copy_count t ≡ 1
+          by (inl lt) =
+              let name = get_or ns i (record { 0 = 0 }) in
+              let there : slice_get ns i ≡ Some name = slice_get-get_or ns i (record { 0 = 0 }) lt in
+              let same : sort_by (name_kind e.names name) ≡ t = (let e' = sym (name_sort i name there) ∙ got in cc e') in
+              ap copy_count (sym same) ∙ ap (λ (k : Kind). copy_count (sort_by k)) (params in_entry i name there).1
+          by (inr le) =
+              let j = i - length ns in
+              let at_j : i ≡ length ns + j = omega arith in
+              let here' : slice_get sorts (length ns + j) ≡ Some t = ap (slice_get sorts) (sym at_j) ∙ got in
+              let lt = slice_get_within sorts i t got in
+              let many = sorts_size in
+              let same : saved_value ≡ t = (let e' = sym (saved_sort_at j (omega arith)) ∙ here' in cc e') in
+              ap copy_count (sym same) ∙ ap (λ (x : Bool). copy_count (record { kind = General; copied = x })) copied
+
+      entry_opened : (g : Growth) (p : Progress) (seen seen' : Seen) → g.values ≡ known.values → known.next ≤ g.next
+          → (stays : (j r : ℕ) → slice_get regs j ≡ Some r → Stands c b (g0.next + (length ns + j)) r seen')
+          → (slots : (j : ℕ) (name : NameId) → slice_get ns j ≡ Some name → Stands c b (g0.next + total + j) (slot_of name) seen')
+          → (link_slot : Stands c b (g0.next + total + (length ns + length regs)) s.link seen')
+          → entry ≡ true → saved ≡ true → s.placed ≡ 0 → length seen'.made ≡ g.next → Front c b p.cycle seen' → 1 ≤ p.cycle → p.operands ≡ 0
+          → Opened g p seen'
+      entry_opened g p seen seen' same_values next stays slots link_slot in_entry copied placed size front started none = record {
+        size = size;
+        values = ap length same_values ∙ known_size;
+        front = front;
+        started = started;
+        operands = none;
+        placed = omega arith;
+        names = λ j name got.
+            let kind = name_kind e.names name in
+            let word : kind ≡ General = (params in_entry j name got).1 in
+            let v = known_at j (sort_by kind) (name_sort j name got) in
+            let own = own_temps (g0.next + j) (sort_by kind) v.before in
+            let n = v.next (λ i t at' lt. one_copy_each in_entry copied i t at') in
+            let last_is : (chosen own (kept_place s own)).0 ≡ g0.next + total + j =
+            ap (λ (t : Bool). (chosen own (if t then 0 else last_place own)).0) (not_placed c H b end e block s fit (g0.next + j) s.placed (omega arith))
+            ∙ ap (λ (k : Kind). last_of (own_temps (g0.next + j) (sort_by k) v.before)) word ∙ n in
+            record {
+              kept = record {
+                own = own;
+                carries = carries_same known g (first_number + j) own (sort_by kind) same_values v.carries;
+                size = own_size c H b end e block s fit kind (g0.next + j) v.before;
+                room = slot_of name;
+                slot = omega arith;
+                stands = subst (λ (k : ℕ). Stands c b k (slot_of name) seen') (sym last_is) (slots j name got);
+              };
+              room = refl;
+            };
+        saved_at = λ j r got.
+            let lt = slice_get_within regs j r got in
+            let v = known_at (length ns + j) saved_value (saved_sort_at j (omega arith)) in
+            let k = reg_kept j r got in
+            let x : first_number + (length ns + j) ≡ first_number + length ns + j = omega arith in
+            let high = k.high in
+            let low = k.low in
+            let own = own_temps (g0.next + (length ns + j)) saved_value v.before in
+            record {
+              own = own;
+              carries = subst (λ (i : ℕ). Carries g i own saved_value) x (carries_same known g (first_number + (length ns + j)) own saved_value same_values v.carries);
+              within = omega arith;
+              stands = stays j r got;
+              safe = record { high = k.high; other = λ z. omega arith; spared = k.spared };
+              low = omega arith;
+            };
+        link =
+            let j = length ns + length regs in
+            let v = known_at j saved_value (saved_sort_at (length regs) (omega arith)) in
+            let x : first_number + j ≡ first_number + length ns + length regs = omega arith in
+            let own = own_temps (g0.next + j) saved_value v.before in
+            let n = v.next (λ i t at' lt. one_copy_each in_entry copied i t at') in
+            let no_place = not_placed c H b end e block s fit (g0.next + j) s.placed (omega arith) in
+            let two : length own ≡ 2 = ap (λ (t : Bool). length (own_temps (g0.next + j) (record { kind = General; copied = t }) v.before)) copied in
+            let one_is : kept_place s own ≡ 1 = ap (λ (t : Bool). if t then 0 else last_place own) no_place ∙ (let z : length own - 1 ≡ 1 = omega arith in z) in
+            let last_is : (chosen own (kept_place s own)).0 ≡ g0.next + total + j =
+            ap (λ (i : ℕ). (chosen own i).0) one_is
+            ∙ ap (λ (t : Bool). (chosen (own_temps (g0.next + j) (record { kind = General; copied = t }) v.before) 1).0) copied ∙ n in
+            record {
+              own = own;
+              carries = subst (λ (i : ℕ). Carries g i own saved_value) x (carries_same known g (first_number + j) own saved_value same_values v.carries);
+              place = one_is ∙ ap (λ (t : Bool). zero_or t) (sym no_place);
+              within = omega arith;
+              stands = subst (λ (k : ℕ). Stands c b k s.link seen') (sym last_is) link_slot;
+            };
+      }
+        where
+          zero_or : Bool → ℕ
+          zero_or t = if t then 0 else 1
+
+          last_of : List TempId → ℕ
+          last_of xs = (chosen xs (last_place xs)).0
+
+      ones_next : (m : ℕ) (vs : List Sort) (g : Growth) → ((i : ℕ) (t : Sort) → slice_get vs i ≡ Some t → copy_count t ≡ 1) → (with_values m vs g).next ≡ g.next + length vs
+      ones_next m [] g ones = omega arith
+      ones_next m (t ∷ vs) g ones =
+          let one = ones 0 t refl in
+          let here' = value_next m t g in
+          let rest = ones_next (m + 1) vs (with_value m t g) (λ i u got. ones (suc i) u got) in
+          omega arith
+
+      pub opens_entry : (n : ℕ) (p : Progress) (seen : Seen) (rest : List ExtOp) → entry ≡ true → saved ≡ true → s.placed ≡ 0
+          → Fresh c H b end e block s fit seen → length seen.made ≡ g0.next → 1 ≤ p.cycle
+          → ((n' : ℕ) (p' : Progress) (seen' : Seen) → Goes (first_number + length ns) (first_number + length ns + length regs) 0
+          (with_extended e.names ns entry saved start_op g0) current0 (first_number + total) p' seen' → G n' p' seen' rest)
+          → G n p seen (extended_ops e.names ns entry saved start_op g0 ++ rest)
+      opens_entry n p seen rest in_entry copied placed fresh size le go =
+          let m = g0.next in
+          let h0 = here total in
+          let name_sorts = map (sort_of_name e.names) ns in
+          let saved_sorts = replicate (suc (length regs)) saved_value in
+          let words = replicate (suc (length regs)) (sort_by General) in
+          let h1 = with_values m name_sorts h0 in
+          let us = values_ops m name_sorts h0 in
+          let ds = values_ops (m + length ns) words h1 in
+          let start : ExtOp = record { kind = In; operands = []; results = new_temps g0 total } in
+          let more = frame_op Enter ∷ rest in
+          let split : values_ops m sorts h0 ≡ us ++ ds =
+          values_ops_append c H b end e block s fit m (m + length ns) name_sorts saved_sorts h0 (let a = names_sorts in omega arith)
+          ∙ ap (λ (t : Bool). us ++ values_ops (m + length ns) (replicate (suc (length regs)) (record { kind = General; copied = t })) h1) copied in
+          let shape : extended_ops e.names ns entry saved start_op g0 ++ rest ≡ start ∷ (us ++ (ds ++ more)) =
+          ap (λ (os : List ExtOp). os ++ rest) (ops_are ∙ ap (λ (t : Bool). start ∷ (values_ops m sorts h0 ++ enter_ops t In)) in_entry
+          ∙ ap (λ (os : List ExtOp). start ∷ (os ++ frame_op Enter ∷ [])) split)
+          ∙ ap (λ (os : List ExtOp). start ∷ os) (append_assoc (us ++ ds) (frame_op Enter ∷ []) rest ∙ append_assoc us ds more) in
+          let g1 = with_extended e.names ns entry saved start_op g0 in
+          let same_values : g1.values ≡ known.values = ap (λ (x : Growth). x.values) grown_is ∙ (enter_values entry known).0 in
+          let same_next : g1.next ≡ known.next = ap (λ (x : Growth). x.next) grown_is ∙ (enter_values entry known).1 in
+          let known_next : known.next ≡ m + total + total = ones_next m sorts h0 (one_copy_each in_entry copied) ∙ ap (λ (k : ℕ). m + total + k) sorts_size in
+          let names_next : h1.next ≡ m + total + length ns =
+          ones_next m name_sorts h0 (λ i t got. one_copy_each in_entry copied i t (get_left name_sorts saved_sorts i t got)) ∙ ap (λ (k : ℕ). m + total + k) names_sorts in
+          let count : length (new_temps g0 total) ≡ length ns + suc (length regs) = length-map-range_with_len temp m total in
+          let rooms_count : length start_rooms ≡ total =
+          length-append (map name_room ns) (regs ++ last_room ∷ []) ∙ (let a = length-map ns name_room in let d = length-append regs (last_room ∷ []) in omega arith) in
+          let first : (if s.is_entry then Start else Other) ≡ Start = ap (λ (t : Bool). if t then Start else Other) (is_entry ∙ in_entry) in
+          let last : last_room ≡ LINK = ap last_by_entry in_entry in
+          subst (G n p seen) (sym shape)
+          (start_good c H b end e block s fit n p seen (new_temps g0 total) (us ++ (ds ++ more)) start_rooms (rooms_are (new_temps g0 total) count) rooms_apart fresh le
+          (λ mid0 st.
+          let stand : (j r : ℕ) → slice_get start_rooms j ≡ Some r → Stands c b (m + j) r mid0 = λ j r got. subst (λ (k : ℕ). Stands c b (k + j) r mid0) size (st.stands j r got) in
+          let size0 : length mid0.made ≡ m + total = (let a = st.longer in omega arith) in
+          params_spill c H b end e block s fit ns 0 m (n + 1) (other_progress p.cycle (if s.is_entry then Start else Other)) mid0 h0 (ds ++ more) first refl
+          (λ i name got. let z : 0 + i ≡ i = omega arith in ap (slice_get ns) z ∙ got)
+          (λ i name got. (params in_entry i name got).1)
+          (λ i name got. record {
+            room = name_room name;
+            low = (let a = room_low in_entry name (params in_entry i name got).0 in omega arith);
+            stands = stand i (name_room name) (name_room_at i name got);
+          })
+          (λ i k x y lt a d z. let w = names_apart i k x y lt a d in omega arith)
+          st.front size0
+          (λ n1 p1 mid1 le1 d1 v1 o1 sp.
+          let link_there : Stands c b (m + (length ns + length regs)) LINK mid1 =
+          sp.others (m + (length ns + length regs)) LINK (λ i name got z. omega arith)
+          (subst (λ (r : ℕ). Stands c b (m + (length ns + length regs)) r mid0) last (stand (length ns + length regs) last_room last_room_at)) in
+          let place : m + (length ns + length regs) ≡ m + length ns + length regs = omega arith in
+          link_spills c H b end e block s fit (length regs) (length ns) (m + length ns) n1 p1 mid1 h1 more d1 (v1 ∙ (let z : 0 + length ns ≡ length ns = omega arith in z))
+          (λ i. slice_get_past ns (length ns + i) (omega arith)) (omega arith) (omega arith)
+          (record { room = LINK; low = omega arith; stands = subst (λ (k : ℕ). Stands c b k LINK mid1) place link_there })
+          sp.front (let a = sp.size in omega arith)
+          (λ n2 p2 mid2 le2 o2 ls.
+          enter_good c H b end e block s fit n2 p2 mid2 rest
+          (λ seen' idle.
+          go (n2 + 1) (other_progress p2.cycle Other) seen'
+          (opened g1 (other_progress p2.cycle Other) seen'
+          (entry_opened g1 (other_progress p2.cycle Other) seen seen' same_values (omega arith)
+          (λ j r got.
+          let k = reg_kept j r got in
+          let low = k.low in
+          idle.stands (m + (length ns + j)) r (ls.others (m + (length ns + j)) r (λ z. omega arith)
+          (sp.others (m + (length ns + j)) r (λ i name got' z. omega arith) (stand (length ns + j) r (reg_room_at j r got)))))
+          (λ j name got.
+          let lt = small j name got in
+          idle.stands (m + total + j) (slot_of name) (ls.others (m + total + j) (slot_of name) (λ z. omega arith) (sp.new j name got)))
+          (subst (λ (k : ℕ). Stands c b k s.link seen') (link_number names_next) (idle.stands (h1.next + length regs) s.link ls.new))
+          in_entry copied placed (let a = idle.longer in let d = ls.size in omega arith) (idle.front p2.cycle ls.front) (omega arith) refl)))))))
+        where
+          room_low : entry ≡ true → (name : NameId) → name.0 < 6 → name_room name < 32
+          room_low in_entry name lt = let a = ap (λ (t : Bool). room_by t name) in_entry ∙ args_at name.0 lt in omega arith
+
+          link_number : {h : ℕ} → h ≡ g0.next + total + length ns → h + length regs ≡ g0.next + total + (length ns + length regs)
+          link_number q = omega arith
