@@ -12,10 +12,12 @@ pub mod Grown
 pub mod Holding
 pub mod Kept
 pub mod Layouts
+pub mod Lives
 pub mod Made
 pub mod OneAtATime
 pub mod Openings
 pub mod Outs
+pub mod Parameters
 pub mod PlanSchedules
 pub mod Purposes
 pub mod Pushing
