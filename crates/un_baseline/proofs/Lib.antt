@@ -33,3 +33,4 @@ pub mod Tailing
 pub mod Tails
 pub mod Timing
 pub mod Walk
+pub mod Whole
