@@ -1,9 +1,9 @@
 -- What `extend` adds has as many temporaries as it counts, and ends as the block of the source does.
-use Rattle.std.proofs.Common.{◌≡◌, ℕ, zero, suc, ◌+◌, ◌<◌, Bool, true, false, List, [], ◌∷◌, ◌++◌, length, Option, Some, None, refl, sym, ap, ◌∙◌, append_assoc, arith}
-use Rattle.std.specs.Prelude.{slice_get, map, if◌then◌else◌}
+use Rattle.std.proofs.Common.{◌≡◌, ℕ, zero, suc, ◌+◌, ◌-◌, ◌<◌, ◌≤◌, Bool, true, false, List, [], ◌∷◌, ◌++◌, length, Option, Some, None, refl, sym, ap, ◌∙◌, append_assoc, arith}
+use Rattle.std.specs.Prelude.{slice_get, map, replicate, if◌then◌else◌}
 use Rattle.std.specs.List.{AllZip, range_with_len}
 use Rattle.std.specs.Option.{option_to_list}
-use Rattle.std.proofs.lemmas.List.{length-append, length-map}
+use Rattle.std.proofs.lemmas.List.{length-append, length-map, length-replicate}
 use Rattle.std.proofs.lemmas.List.FromFn.{length-map-range_with_len}
 use Rattle.un_base.specs.declared.ids.NameId.{NameId}
 use Rattle.un_base.specs.declared.ids.TempId.{TempId}
@@ -24,10 +24,12 @@ use Rattle.un_ir.specs.declared.extended.Value.{Value}
 use Rattle.un_ir.specs.declared.extended.Sort.{Sort}
 use Rattle.un_ir.specs.Extended.{temp, is_return}
 use Rattle.un_ir.specs.Linear.{first_of, ending_of}
-use Rattle.un_ir.specs.ExtendOf.{copy_count, copy_count_by, new_temps, with_value, with_values, with_operand_by, with_operand, with_operands, sorts_of, with_leave, with_enter, with_extended, with_all_extended}
-use Rattle.un_ir.specs.LinearOf.{assigned, past, body_op, body_ops}
+use Rattle.un_ir.specs.ExtendOf.{copy_count, copy_count_by, new_temps, value_of, sort_of_name, with_value, with_values, with_operand_by, with_operand, with_operands, sorts_of, with_leave, with_enter, with_extended, with_all_extended}
+use Rattle.un_ir.specs.LinearOf.{assigned, past, past_all, body_op, body_ops}
+use Rattle.un_ir.specs.WellFormed.{result_kind}
 use Rattle.un_model.specs.Congruences.{term_of}
 use Rattle.un_baseline.specs.SpillEverywhere.{first_number}
+use Rattle.un_baseline.proofs.Carried.{operands_onward}
 use Rattle.un_baseline.proofs.Grown.{copy_ops, value_ops, values_ops, value_next, operand_ops_by, operand_ops, operands_ops, operand_next_by, leave_ops, enter_ops, made_op, behind_op, extended_ops, all_ops}
 
 -- how many temporaries operations define
@@ -245,3 +247,85 @@ ending_bodies t current first (o ∷ os) tail = ending_bodies t (assigned curren
 pub first_number_of : (n k : ℕ) → 0 < k → first_number (map temp (range_with_len n k)) ≡ n
 first_number_of n zero lt = absurd (omega arith)
 first_number_of n (suc k) lt = refl
+
+-- ---- how many values a growth knows
+
+values_longer : (m : ℕ) (sorts : List Sort) (g : Growth) → length (with_values m sorts g).values ≡ length g.values + length sorts
+values_longer m [] g = omega arith
+values_longer m (t ∷ sorts) g =
+    let here = length-append g.values (value_of m t g ∷ []) in
+    let rest = values_longer (m + 1) sorts (with_value m t g) in
+    omega arith
+
+leave_values_by : (t : Bool) (g g' : Growth) → g'.values ≡ g.values → (if t then g' else g).values ≡ g.values
+leave_values_by true g g' h = h
+leave_values_by false g g' h = refl
+
+leave_values : (kind : ExtKind) (g : Growth) → (with_leave kind g).values ≡ g.values
+leave_values (End term) g = leave_values_by (is_return term) g _ refl
+leave_values In g = refl
+leave_values Out g = refl
+leave_values (Body o) g = refl
+leave_values (Copy node) g = refl
+leave_values Enter g = refl
+leave_values Leave g = refl
+
+enter_values : (entry : Bool) (kind : ExtKind) (g : Growth) → (with_enter entry kind g).values ≡ g.values
+enter_values true In g = refl
+enter_values true Out g = refl
+enter_values true (Body o) g = refl
+enter_values true (End term) g = refl
+enter_values true (Copy node) g = refl
+enter_values true Enter g = refl
+enter_values true Leave g = refl
+enter_values false kind g = refl
+
+module _ (names : List Kind) (live_in : List NameId) (entry saved : Bool) where
+  extended_values : (op : ExtOp) (g : Growth) → length (with_extended names live_in entry saved op g).values ≡ length g.values + length (sorts_of names live_in saved op.kind (length op.results))
+  extended_values op g =
+      let before = with_leave op.kind g in
+      let read = with_operands op.operands before in
+      let here = behind_op names live_in entry saved op before in
+      let sorts = sorts_of names live_in saved op.kind (length op.results) in
+      let on = operands_onward op.operands before in
+      let same = on.values in
+      ap length (enter_values entry op.kind (with_values read.next sorts here))
+      ∙ values_longer read.next sorts here ∙ ap (λ (k : ℕ). k + length sorts) (same ∙ ap length (leave_values op.kind g))
+
+  past_is : (dst : Option NameId) (n : ℕ) → past dst n ≡ n + length (option_to_list dst)
+  past_is None n = omega arith
+  past_is (Some name) n = refl
+
+  pub bodies_values : (t : Table) (current : List ℕ) (first : ℕ) (os : List SrcOp) (tail : List ExtOp) (g : Growth) → length g.values ≡ first
+      → ((g' : Growth) → length (with_all_extended names live_in entry saved tail g').values ≡ length g'.values)
+      → length (with_all_extended names live_in entry saved (body_ops t current first os ++ tail) g).values ≡ past_all first os
+  bodies_values t current first [] tail g long rest = rest g ∙ long
+  bodies_values t current first (o ∷ os) tail g long rest =
+      let op = body_op t current first o in
+      let here = extended_values op g in
+      let sort : Sort = record { kind = result_kind o.op; copied = true } in
+      let a = length-replicate (length op.results) sort in
+      let d = length-map (option_to_list o.dst) (λ (name : NameId). temp first) in
+      let p = past_is o.dst first in
+      bodies_values t (assigned current o.dst first) (past o.dst first) os tail (with_extended names live_in entry saved op g) (omega arith) rest
+
+  -- what is no value's definition adds none
+  pub others_values : (ops : List ExtOp) (g : Growth) → ((i : ℕ) (op : ExtOp) → slice_get ops i ≡ Some op → sorts_of names live_in saved op.kind (length op.results) ≡ [])
+      → length (with_all_extended names live_in entry saved ops g).values ≡ length g.values
+  others_values [] g none = refl
+  others_values (op ∷ ops) g none =
+      others_values ops (with_extended names live_in entry saved op g) (λ i x got. none (suc i) x got)
+      ∙ extended_values op g ∙ ap (λ (xs : List Sort). length g.values + length xs) (none 0 op refl) ∙ (let z : length g.values + 0 ≡ length g.values = omega arith in z)
+
+  pub start_values : (n count : ℕ) (g : Growth) → length live_in ≤ count
+      → length (with_extended names live_in entry saved (record { kind = In; operands = []; results = map temp (range_with_len n count) }) g).values ≡ length g.values + count
+  start_values n count g le =
+      let start : ExtOp = record { kind = In; operands = []; results = map temp (range_with_len n count) } in
+      let size : length start.results ≡ count = length-map-range_with_len temp n count in
+      let sorts = sorts_of names live_in saved In (length start.results) in
+      let sort : Sort = record { kind = General; copied = saved } in
+      let a = length-append (map (sort_of_name names) live_in) (replicate (length start.results - length live_in) sort) in
+      let d = length-map live_in (sort_of_name names) in
+      let r = length-replicate (length start.results - length live_in) sort in
+      let here = extended_values start g in
+      omega arith

@@ -33,4 +33,5 @@ pub mod Tailing
 pub mod Tails
 pub mod Timing
 pub mod Walk
+pub mod Walked
 pub mod Whole
