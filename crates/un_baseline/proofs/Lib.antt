@@ -2,6 +2,7 @@ pub mod Arrivals
 pub mod BlockShapes
 pub mod Bodies
 pub mod Carried
+pub mod Clauses
 pub mod Counts
 pub mod Each
 pub mod Ends
