@@ -3,6 +3,7 @@ pub mod BlockShapes
 pub mod Bodies
 pub mod Carried
 pub mod Clauses
+pub mod Congruent
 pub mod Counts
 pub mod Each
 pub mod Ends
@@ -12,6 +13,7 @@ pub mod Going
 pub mod Grown
 pub mod Holding
 pub mod Kept
+pub mod Lasts
 pub mod Layouts
 pub mod Lives
 pub mod Made
