@@ -11,7 +11,7 @@ ghost use Rattle.un_ir.specs.declared.extended.ExtKind.TheVariants.{In, Out, Bod
 ghost use Rattle.un_ir.specs.declared.function.Term.{Term};
 ghost use Rattle.un_ir.specs.Extended.{is_copy};
 ghost use Rattle.un_ir.specs.Linear.{is_in};
-ghost use Rattle.un_model.specs.Congruences.{term_or, term_of, live_in_temps};
+ghost use Rattle.un_model.specs.Congruences.{term_or, term_of, live_in_temps, KeepsCongruences};
 ghost use Rattle.un_model.specs.Instructions.{gives_truth, transfer_of, latency_by};
 ghost use Rattle.un_model.specs.Pairs.{places_from};
 ghost use Rattle.un_model.specs.Schedules.{schedule_of};
@@ -709,6 +709,7 @@ pub fn spill_everywhere(alloc: Global, m: &Model) -> Result<Solution, NoMemory>
     ensures registers { IfOk result (λ s. KeepsRegisters m.now.ext.table.clobbered (schedule_of m.now s.values)) }
     ensures packets { IfOk result (λ s. KeepsPackets m.now.ext.table (schedule_of m.now s.values)) }
     ensures homes { IfOk result (λ s. KeepsHomes (schedule_of m.now s.values)) }
+    ensures congruences { IfOk result (λ s. KeepsCongruences m.now.ext.blocks (schedule_of m.now s.values)) }
     ensures flag { IfOk result (λ s. value_of s.values m.now.flag ≡ 1) }
     ensures frame { IfOk result (λ s. All (HasFrame true) (schedule_of m.now s.values).issues) }
     ensures values { IfOk result (λ s. s.values ≡ spilled_values m.now.ext) }
