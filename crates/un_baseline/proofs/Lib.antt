@@ -1,9 +1,14 @@
 pub mod BlockShapes
+pub mod BlockTimes
+pub mod Definers
 pub mod Each
+pub mod Ends
 pub mod FrameOps
+pub mod FrameOrder
 pub mod Fronts
 pub mod Holding
 pub mod Kept
+pub mod Latencies
 pub mod Layouts
 pub mod OneAtATime
 pub mod PlanSchedules
@@ -14,3 +19,4 @@ mod SmallFunctions
 pub mod SpillSteps
 pub mod Tails
 pub mod Timing
+pub mod UsesFrame
