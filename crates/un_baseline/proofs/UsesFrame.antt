@@ -1,11 +1,15 @@
 -- The plan that spills every name uses the frame: the entry spills the link register's value.
-use Rattle.std.proofs.Common.{◌≡◌, ℕ, zero, suc, ◌+◌, ◌-◌, ◌≤◌, Bool, true, false, List, [], ◌∷◌, ◌++◌, length, map, replicate, Option, Some, None, refl, sym, ap, subst, ◌∙◌, append_assoc, append-nil, arith}
+use Rattle.std.proofs.Common.{◌≡◌, ℕ, zero, suc, ◌+◌, ◌-◌, ◌<◌, ◌≤◌, Bool, true, false, List, [], ◌∷◌, ◌++◌, length, map, drop, replicate, Option, Some, None, refl, sym, ap, subst, ◌∙◌, append_assoc, append-nil, arith}
 use Rattle.std.specs.Prelude.{◌==◌, ◌||◌, if◌then◌else◌, slice_get}
 use Rattle.std.specs.List.{list_any}
 use Rattle.std.proofs.lemmas.Bool.Decides.{nat_tests}
 use Rattle.std.proofs.lemmas.List.{length-append, length-map, length-replicate}
+use Rattle.std.proofs.lemmas.List.FromFn.{length-map-range_with_len}
 use Rattle.un_base.specs.declared.ids.NameId.{NameId}
 use Rattle.un_base.specs.declared.ids.TempId.{TempId}
+use Rattle.un_isa.specs.Registers.{callee_saved, saved_registers}
+use Rattle.un_isa.specs.declared.reg.TheConstants.{LINK}
+use Rattle.un_isa.specs.declared.table.Table.{Table}
 use Rattle.un_isa.specs.declared.op.Op.{Op}
 use Rattle.un_isa.specs.declared.op.Op.TheVariants.{Spill}
 use Rattle.un_ir.specs.Extended.{temp, is_return}
@@ -20,17 +24,22 @@ use Rattle.un_ir.specs.declared.extended.ExtBlock.{ExtBlock}
 use Rattle.un_ir.specs.declared.extended.Ext.{Ext}
 use Rattle.un_ir.specs.declared.extended.Growth.{Growth}
 use Rattle.un_ir.specs.declared.extended.Sort.{Sort}
+use Rattle.un_ir.specs.declared.extended.Value.{Value}
+use Rattle.un_ir.specs.declared.function.Block.{Block}
+use Rattle.un_ir.specs.declared.function.Function.{Function}
+use Rattle.un_ir.specs.LinearOf.{in_op, lin_of, linear_block, linear_blocks, live_at, kind_of_pair}
 use Rattle.un_model.specs.declared.schedule.Issue.{Issue}
 use Rattle.un_model.specs.Instructions.{copy_of, instruction_of}
-use Rattle.un_model.specs.Solutions.{is_frame_access, uses_frame}
-use Rattle.un_ir.specs.ExtendOf.{frame_op, copy_op, with_op, with_copies, with_value, with_values, with_leave, with_enter, with_operand, with_operands, new_operands, sorts_of, sort_of_name, with_results, with_extended, with_all_extended, new_temps}
+use Rattle.un_model.specs.Congruences.{live_in_temps, results_of_start}
+use Rattle.un_model.specs.Solutions.{is_frame_access, starts_in_slot, uses_frame}
+use Rattle.un_ir.specs.ExtendOf.{frame_op, copy_op, with_op, with_copies, with_value, with_values, with_leave, with_enter, with_operand, with_operands, new_operands, sorts_of, sort_of_name, with_results, with_extended, with_all_extended, grown_block, with_ops, extended_blocks, extend_of, new_temps}
 use Rattle.un_baseline.specs.declared.plan.Purpose.{Purpose}
 use Rattle.un_baseline.specs.declared.plan.Definer.{Definer}
 use Rattle.un_baseline.specs.declared.plan.Definer.TheVariants.{Start}
 use Rattle.un_baseline.specs.declared.plan.Setting.{Setting}
 use Rattle.un_baseline.specs.declared.plan.Progress.{Progress}
-use Rattle.un_baseline.specs.Plans.{Step, planned_issue}
-use Rattle.un_baseline.specs.SpillEverywhere.{purpose_at, spilled_to, slot_at_start, first_copy, step_of, progress_of}
+use Rattle.un_baseline.specs.Plans.{Step, planned_issue, planned_issues, over_plans, planned_schedule}
+use Rattle.un_baseline.specs.SpillEverywhere.{purpose_at, spilled_to, slot_at_start, first_copy, step_of, progress_of, setting_of, first_progress, block_plan, block_plans}
 use Rattle.un_baseline.proofs.Fronts.{issues_from}
 use Rattle.un_baseline.proofs.Shapes.{Adds, adds_nothing, adds_then, operands_add, values_add}
 
@@ -153,6 +162,7 @@ module _ (e : Ext) (block : ExtBlock) (s : Setting) (b end : ℕ) where
   start_spills : (k n : ℕ) (p : Progress) (ops : List ExtOp) → BeginsWith k ops → 1 ≤ k → p.definer ≡ Start → p.values + k ≡ s.values
       → spills (issues_from e block s b end n p ops) ≡ true
   start_spills zero n p ops no_value le def count = absurd (omega arith)
+  start_spills (suc k) n p [] begun le def count = elim begun [ ]
   start_spills (suc k) n p (op ∷ ops) (one_copy is rest) le def count =
       let purpose = purpose_at s.term (op ∷ ops) in
       let next = progress_of e block s p purpose op op.kind in
@@ -254,3 +264,79 @@ record StartsWith (count : ℕ) (ops : List ExtOp) : Type 0 where
   is : start.kind ≡ In
   results : length start.results ≡ count
   begins : BeginsWith count rest
+
+starts : (names : List Kind) (live_in : List NameId) (n c : ℕ) (more : List ExtOp) (values : List Value) (next : ℕ) → length live_in ≤ c
+    → StartsWith c (with_all_extended names live_in true true (in_op n c ∷ more) (record { ops = []; values = values; next = next })).ops
+starts names live_in n c more values next le =
+    let g : Growth = record { ops = []; values = values; next = next } in
+    let op = in_op n c in
+    let count = length op.results in
+    let size : count ≡ c = length-map-range_with_len temp n c in
+    let here = with_results In [] count g in
+    let saved_sort : Sort = record { kind = General; copied = true } in
+    let sorts = sorts_of names live_in true In count in
+    let all = with_values g.next sorts here in
+    let copies = values_begin g.next sorts here (copied_append (map (sort_of_name names) live_in) (replicate (count - length live_in)
+    saved_sort) (copied_names names live_in) (copied_saved (count - length live_in) General)) in
+    let behind = all_grows names live_in true true more (with_op all (frame_op Enter)) in
+    let start : ExtOp = record { kind = In; operands = []; results = new_temps g count } in
+    let long : length sorts ≡ c = length-append (map (sort_of_name names) live_in) (replicate (count - length live_in)
+    saved_sort) ∙ (let a = length-map live_in (sort_of_name names) in
+    let b = length-replicate (count - length live_in) saved_sort in omega arith) in
+    let zero_more : c ≡ length sorts + 0 = omega arith in
+    record {
+      start = start;
+      rest = copies.more ++ (frame_op Enter ∷ behind.more);
+      whole = (behind.adds).ops ∙ ap (λ (xs : List ExtOp). (xs ++ frame_op Enter ∷ []) ++ behind.more) (copies.adds).ops
+          ∙ ap (λ (xs : List ExtOp). start ∷ xs) (append_assoc copies.more (frame_op Enter ∷ []) behind.more);
+      is = refl;
+      results = length-map-range_with_len temp next count ∙ size;
+      begins = copies.begin 0 c (frame_op Enter ∷ behind.more) zero_more no_value;
+    }
+
+entry_spills : (e : Ext) (block : ExtBlock) (b n count : ℕ) → StartsWith count block.ops → 1 ≤ count
+    → spills (planned_issues b n block (block_plan e true block)) ≡ true
+entry_spills e block b n count h le =
+    let s = setting_of e true block in
+    let end = (block_plan e true block).end in
+    let first = first_progress e true in
+    let purpose = purpose_at s.term (h.start ∷ h.rest) in
+    let next = progress_of e block s first purpose h.start h.start.kind in
+    let values : next.values ≡ 0 = ap (λ (x : ExtKind). (progress_of e block s first purpose h.start x).values) h.is in
+    let definer : next.definer ≡ Start = ap (λ (x : ExtKind). (progress_of e block s first purpose h.start x).definer) h.is in
+    let size : s.values ≡ count = ap (λ (ops : List ExtOp). length (live_in_temps ops)) h.whole
+    ∙ ap (λ (x : ExtKind). length (results_of_start x h.start.results (live_in_temps h.rest))) h.is ∙ h.results in
+    subst (λ (ops : List ExtOp). spills (issues_from e block s b end n first ops) ≡ true) (sym h.whole)
+    (tail_spills (planned_issue b end n h.start (step_of e block s first purpose h.start h.start.kind))
+    (issues_from e block s b end (n + 1) next h.rest)
+    (start_spills e block s b end count (n + 1) next h.rest h.begins le definer (omega arith)))
+
+abbrev of_blocks : List Kind → Table → ℕ → List (List NameId) → List Block → Ext
+of_blocks names t count lists blocks = record {
+  table = t;
+  names = names;
+  blocks = extended_blocks names true [] 0 (linear_blocks t count lists 0 0 blocks);
+}
+
+blocks_spill : (names : List Kind) (t : Table) (count : ℕ) (lists : List (List NameId)) (blocks : List Block)
+    → (let e = of_blocks names t count lists blocks in
+    0 < length e.blocks → uses_frame (planned_schedule e.blocks (block_plans e true e.blocks)) ≡ true)
+blocks_spill names t count lists [] some = absurd (omega arith)
+blocks_spill names t count lists (block ∷ blocks) some =
+    let e = of_blocks names t count lists (block ∷ blocks) in
+    let lin = linear_block t count lists 0 0 block in
+    let live_in = live_at lists 0 in
+    let c = length live_in + length (saved_registers t) in
+    let link = length-append (callee_saved t) (LINK ∷ []) in
+    let more = drop 1 lin.ops in
+    let g = grown_block names true [] 0 lin in
+    let first = with_ops lin g.ops in
+    let rest = over_plans planned_issues 1 (0 + length g.ops) (drop 1 e.blocks) (block_plans e false (drop 1 e.blocks)) in
+    let here = any_left (planned_issues 0 0 first (block_plan e true first)) rest
+    (entry_spills e first 0 0 c (starts names live_in 0 c more [] 0 (omega arith)) (omega arith)) in
+    ap (λ (b : Bool). b || list_any starts_in_slot (planned_schedule e.blocks (block_plans e true e.blocks)).ranges) here
+
+-- a copy spills the link register's value
+pub spilled_uses : (f : Function) (lists : List (List NameId)) (t : Table) → (let e = extend_of (lin_of f lists t) in
+    0 < length e.blocks → uses_frame (planned_schedule e.blocks (block_plans e true e.blocks)) ≡ true)
+spilled_uses f lists t some = blocks_spill (map kind_of_pair f.names) t (length f.names) lists f.blocks some
