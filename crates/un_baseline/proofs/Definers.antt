@@ -25,6 +25,14 @@ row_number n zero i x h = absurd (cc h)
 row_number n (suc count) zero x h = let e : temp n ≡ x = cc h in let z : n ≡ n + 0 = omega arith in ap (λ (y : TempId). y.0) (sym e) ∙ z
 row_number n (suc count) (suc i) x h = let r = row_number (n + 1) count i x h in omega arith
 
+-- temporaries are numbered in the order of their definition
+pub temp_number : (blocks : List ExtBlock) → all_results blocks ≡ map temp (range_with_len 0 (length (all_results blocks))) → (i : ℕ)
+    (x : TempId) → slice_get (all_results blocks) i ≡ Some x → x.0 ≡ i
+temp_number blocks numbered i x at =
+    let temps = all_results blocks in
+    let r = row_number 0 (length temps) i x (ap (λ (xs : List TempId). slice_get xs i) (sym numbered) ∙ at) in
+    omega arith
+
 slice_get-places : {A B : Type 0} (f : ℕ → A → B) (k i : ℕ) (xs : List A) (x : A) → slice_get xs i ≡ Some x
     → slice_get (places_from f k xs) i ≡ Some (f (k + i) x)
 slice_get-places f k i [] x h = absurd (cc h)
@@ -142,7 +150,7 @@ all_defined blocks plans fit numbered =
     let places = plan_places 0 blocks plans in
     let temps = all_results blocks in
     blocks_defined issues reads places temps
-    (λ i x at. let r = row_number 0 (length temps) i x (ap (λ (xs : List TempId). slice_get xs i) (sym numbered) ∙ at) in omega arith)
+    (temp_number blocks numbered)
     0 0 0 blocks plans fit (has_whole temps) (has_whole places) (has_whole issues)
 
 -- ---- operations of a block, by their places
@@ -243,9 +251,3 @@ each_size R n [] [] h = refl
 each_size R n [] (s ∷ steps) h = absurd h
 each_size R n (op ∷ ops) [] h = absurd h
 each_size R n (op ∷ ops) (s ∷ steps) h = ap suc (each_size R (n + 1) ops steps h.1)
-
-pub same_item : {A : Type 0} (xs : List A) (k : ℕ) (x y : A) → slice_get xs k ≡ Some x → slice_get xs k ≡ Some y → x ≡ y
-same_item xs k x y a b = let e : Some x ≡ Some y = sym a ∙ b in cc e
-
-pub contains_at : {A : Type 0} (xs : List A) (k : ℕ) (x : A) → slice_get xs k ≡ Some x → Contains xs x
-contains_at xs k x at = (k, slice_get_within xs k x at, get_or_from_slice_get xs k x x at)

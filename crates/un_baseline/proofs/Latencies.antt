@@ -1,19 +1,23 @@
 -- In the plan that spills every name each instruction issues in its block, and what reads a temporary waits for its definer.
-use Rattle.std.proofs.Common.{◌≡◌, ◌≢◌, ℕ, zero, suc, ◌+◌, ◌<◌, ◌≤◌, ◌⊎◌, ⊎_elim, Bool, true, false, List, [], ◌∷◌, ◌++◌, length, get_or, take, Option, Some, None, refl, sym, ap, subst, ◌∙◌, arith}
+use Rattle.std.proofs.Common.{◌≡◌, ◌≢◌, ℕ, zero, suc, ◌+◌, ◌<◌, ◌≤◌, ◌⊎◌, inl, inr, ⊎_elim, Bool, true, false, List, [], ◌∷◌, ◌++◌, length, get_or, take, Option, Some, None, refl, sym, ap, subst, ◌∙◌, arith}
 use Rattle.std.specs.Prelude.{◌||◌, ◌==◌, if◌then◌else◌, is_some, All, AllPairs, Contains, IfSome, slice_get, slice_index, unwrap_or}
 use Rattle.std.specs.List.{AllZip}
+use Rattle.std.specs.Option.{option_to_list}
 use Rattle.std.proofs.lemmas.List.Elements.{All-append, All-nil, All-cons, All-weaker, All-contains, Contains-get_or}
+use Rattle.std.proofs.lemmas.Bool.{cases_lt}
+use Rattle.std.proofs.lemmas.List.{length-append}
 use Rattle.std.proofs.lemmas.Option.{slice_get-get_or, slice_get_within}
-use Rattle.un_base.specs.declared.ids.NameId.{NameId}
 use Rattle.un_base.specs.declared.ids.TempId.{TempId}
 use Rattle.un_isa.specs.Facts.{is_source}
 use Rattle.un_isa.specs.Fit.{IsFit}
 use Rattle.un_isa.specs.declared.op.Op.{Op}
 use Rattle.un_isa.specs.declared.op.Op.TheVariants.{Mov, Spill, Reload, P2R, R2P, Jump as JumpOp, JumpIf, JumpIfNot, Jumpr, Enter as EnterOp, Leave as LeaveOp}
+use Rattle.un_isa.specs.Registers.{callee_saved, saved_registers}
+use Rattle.un_isa.specs.declared.reg.Space.TheVariants.{R, M}
+use Rattle.un_isa.specs.declared.reg.TheConstants.{LINK}
 use Rattle.un_isa.specs.declared.table.Table.{Table}
 use Rattle.un_isa.specs.Tables.{latency_of}
 use Rattle.un_ir.specs.declared.function.Kind.{Kind}
-use Rattle.un_ir.specs.declared.function.Kind.TheVariants.{General, Pred}
 use Rattle.un_ir.specs.declared.function.SrcOp.{SrcOp}
 use Rattle.un_ir.specs.declared.function.Term.{Term}
 use Rattle.un_ir.specs.declared.function.Term.TheVariants.{Fall, Jump, Branch, Ret}
@@ -25,31 +29,27 @@ use Rattle.un_ir.specs.declared.extended.Operand.{Operand}
 use Rattle.un_ir.specs.declared.extended.ExtOp.{ExtOp}
 use Rattle.un_ir.specs.declared.extended.ExtBlock.{ExtBlock}
 use Rattle.un_ir.specs.declared.extended.Ext.{Ext}
-use Rattle.un_ir.specs.Extended.{results_of, name_kind, wants_of, result_count, Want, IsGoodOperand, IsGoodExtOp, IsGoodExtBlock, IsExtended}
+use Rattle.un_ir.specs.Extended.{results_of, all_results, wants_of, result_count, Want, IsGoodOperand, IsGoodExtOp, IsGoodExtBlock, IsExtended}
+use Rattle.un_ir.specs.Linear.{is_in}
+use Rattle.un_ir.proofs.GoodOps.{got_left}
 use Rattle.un_ir.proofs.NameBounds.{at_all}
 use Rattle.un_model.specs.declared.schedule.Issue.{Issue}
 use Rattle.un_model.specs.declared.schedule.Read.{Read}
 use Rattle.un_model.specs.declared.schedule.LiveRange.{LiveRange}
-use Rattle.un_model.specs.Instructions.{copy_of, transfer_of, instruction_of, latency_by, is_transfer}
+use Rattle.un_model.specs.Instructions.{copy_of, space_read, space_given, transfer_of, instruction_of, latency_by, is_transfer}
 use Rattle.un_model.specs.Pairs.{pairs_from}
 use Rattle.un_model.specs.Schedules.{is_delimiter, chosen, last_read}
-use Rattle.un_model.specs.Solutions.{IsWithin, IsLast, IsPlacedAs, IsPlaced, LeavesGap, latency_gap, KeepsLatencies}
-use Rattle.un_baseline.specs.declared.plan.Purpose.{Purpose}
-use Rattle.un_baseline.specs.declared.plan.Purpose.TheVariants.{Operands, Link, Returned, Unread}
-use Rattle.un_baseline.specs.declared.plan.Definer.{Definer}
-use Rattle.un_baseline.specs.declared.plan.Definer.TheVariants.{Start, Assigns, Other}
-use Rattle.un_baseline.specs.declared.plan.Setting.{Setting}
-use Rattle.un_baseline.specs.declared.plan.Progress.{Progress}
+use Rattle.un_model.specs.Solutions.{IsWithin, IsLast, IsPlacedAs, IsPlaced, InSpace, ReadsInSpace, IsGivenInSpace, KeepsSpaces, LeavesGap, latency_gap, KeepsLatencies}
 use Rattle.un_baseline.specs.Plans.{Step, BlockPlan, planned_issue, planned_issues, planned_cycle, planned_read, over_plans, place_at, planned_range, planned_schedule}
-use Rattle.un_baseline.specs.SpillEverywhere.{slot_at_start, spilled_to, kept_by_kind, first_copy, second_copy, truth_copy, first_alts, step_of, steps_of, setting_of, first_progress, first_cycle, block_plan, block_plans}
+use Rattle.un_baseline.specs.SpillEverywhere.{first_cycle, block_plan, block_plans}
 use Rattle.un_baseline.proofs.OneAtATime.{AreSeparated}
 use Rattle.un_baseline.proofs.Timing.{pairs_append}
 use Rattle.un_baseline.proofs.Layouts.{in_block}
-use Rattle.un_baseline.proofs.Ends.{IsSourceKind, SourceOp, source_kind, source_stays, source_never_enters}
+use Rattle.un_baseline.proofs.Ends.{IsSourceKind, source_kind, source_stays, source_never_enters}
 use Rattle.un_baseline.proofs.BlockTimes.{IsInTurn, IsTimed, none_there, entered, early, reloads, leaves, returns, BlockTimes, AreTimed, behind_first, no_op, differ}
-use Rattle.un_baseline.proofs.Definers.{AreDefined, step_at, each_step, each_size, same_item, contains_at, definer_of, pair_at, slice_get-pairs, all_defined}
+use Rattle.un_baseline.proofs.Definers.{AreDefined, step_at, each_step, each_size, Definer, definer_of, pair_at, slice_get-pairs, temp_number, all_defined}
 use Rattle.un_baseline.proofs.Each.{EachStep, EachPlan, reads_each}
-use Rattle.un_baseline.proofs.SpillSteps.{EachOp, EachBlockOp, steps_each_of, plan_suits}
+use Rattle.un_baseline.proofs.SpillSteps.{plan_suits}
 
 -- ---- placing
 
@@ -262,6 +262,10 @@ use_of b end n op s (hands_over is) source active = at_end (ap (λ (k : ExtKind)
 
 module _ (t : Table) (fit : IsFit t) (first now left end : ℕ) (positive : 1 ≤ first) (entered_by : first ≤ now) (now_left : now ≤ left)
     (now_end : now ≤ end) where
+  used_after : (j : Issue) → IsTimed t first now left end j → Use end j → 1 ≤ j.cycle
+  used_after j timed (at_end at) = omega arith
+  used_after j timed (issuing q jq a b) = let f = behind_first t first now left end entered_by now_left j q timed jq a in omega arith
+
   done_by_end : (i : Issue) (o : Op) → IsTimed t first now left end i → i.instr ≡ Some o → Computes o → i.cycle + latency_of t o ≤ end
   done_by_end i o (none_there e) is c = absurd (no_op i o e is)
   done_by_end i o (entered e one lt) is c = absurd (differ i o EnterOp is e c.enter)
@@ -276,11 +280,9 @@ module _ (t : Table) (fit : IsFit t) (first now left end : ℕ) (positive : 1 �
 
   waits : (i j : Issue) → IsTimed t first now left end i → IsTimed t first now left end j → IsDoneBy t i j → i.block.0 ≡ j.block.0
       → Definition i → Use end j → (i.instr ≡ Some Reload → j.instr ≡ Some Reload → ⊥) → i.cycle + latency_by t i.instr ≤ j.cycle
-  waits i j ti tj done same (at_start none zero_cycle) (at_end at) other =
-      let l : latency_by t i.instr ≡ 1 = ap (latency_by t) none in omega arith
-  waits i j ti tj done same (at_start none zero_cycle) (issuing q jq a b) other =
+  waits i j ti tj done same (at_start none zero_cycle) used other =
       let l : latency_by t i.instr ≡ 1 = ap (latency_by t) none in
-      let f = behind_first t first now left end entered_by now_left j q tj jq a in
+      let f = used_after j tj used in
       omega arith
   waits i j ti tj done same (issued o io c) (at_end at) other =
       let l : latency_by t i.instr ≡ latency_of t o = ap (latency_by t) io in
@@ -291,80 +293,22 @@ module _ (t : Table) (fit : IsFit t) (first now left end : ℕ) (positive : 1 �
       let d = done o q same io jq c.enter c.leave c.return a b (λ x y. other (io ∙ ap (λ (z : Op). Some z) x) (jq ∙ ap (λ (z : Op). Some z) y)) in
       omega arith
 
--- ---- reloads
-
-spilled_stays : (slot : Option ℕ) (now : ℕ) → copy_of (spilled_to slot now).instr ≢ Some Reload
-spilled_stays None now h = cc h
-spilled_stays (Some slot) now h = cc h
-
-kept_stays : (kind : Kind) (name : NameId) (now : ℕ) → copy_of (kept_by_kind kind name now).instr ≢ Some Reload
-kept_stays General name now h = cc h
-kept_stays Pred name now h = cc h
-
-first_stays : (names : List Kind) (live_in : List NameId) (s : Setting) (p : Progress) (d : Definer) → copy_of (first_copy names live_in s p d).instr ≢ Some Reload
-first_stays names live_in s p Start h = spilled_stays (slot_at_start s p.values (slice_get live_in p.values)) p.cycle h
-first_stays names live_in s p (Assigns name) h = kept_stays (name_kind names name) name p.cycle h
-first_stays names live_in s p Other h = cc h
-
-second_stays : (p : Progress) (alts : List TempId) (d : Definer) → copy_of (second_copy p alts d).instr ≢ Some Reload
-second_stays p alts Start h = cc h
-second_stays p alts (Assigns name) h = cc h
-second_stays p alts Other h = cc h
-
-truth_stays : (p : Progress) (alts : List TempId) (purpose : Purpose) → copy_of (truth_copy p alts purpose).instr ≢ Some Reload
-truth_stays p alts Operands h = cc h
-truth_stays p alts Link h = cc h
-truth_stays p alts Returned h = cc h
-truth_stays p alts Unread h = cc h
-
-end_stays : (term : Term) → transfer_of term ≢ Some Reload
-end_stays Fall h = cc h
-end_stays (Jump to) h = cc h
-end_stays (Branch pred true to) h = cc h
-end_stays (Branch pred false to) h = cc h
-end_stays (Ret value) h = cc h
-
--- only copies u reload
-reload_by : (e : Ext) (block : ExtBlock) (s : Setting) (p : Progress) (purpose : Purpose) (op : ExtOp) (kind : ExtKind) → IsSourceKind kind
-    → instruction_of kind (step_of e block s p purpose op kind).instr ≡ Some Reload → kind ≡ Copy U
-reload_by e block s p purpose op In source h = absurd (cc h)
-reload_by e block s p purpose op Out source h = absurd (cc h)
-reload_by e block s p purpose op (Body o) source h =
-    let q : o.op ≡ Reload = cc h in
-    let f : is_source Reload ≡ true = ap is_source (sym q) ∙ source in
-    absurd (cc f)
-reload_by e block s p purpose op (End term) source h = absurd (end_stays term h)
-reload_by e block s p purpose op (Copy D) source h = absurd (first_stays e.names block.live_in s p p.definer h)
-reload_by e block s p purpose op (Copy D2) source h = absurd (second_stays p (first_alts op.operands) p.definer h)
-reload_by e block s p purpose op (Copy U) source h = refl
-reload_by e block s p purpose op (Copy U2) source h = absurd (truth_stays p (first_alts op.operands) purpose h)
-reload_by e block s p purpose op Enter source h = absurd (cc h)
-reload_by e block s p purpose op Leave source h = absurd (cc h)
-
-record IsReload (op : ExtOp) (s : Step) : Type 0 where
-  kind : instruction_of op.kind s.instr ≡ Some Reload → op.kind ≡ Copy U
-
-reload_steps : (e : Ext) (block : ExtBlock) (s : Setting) (n : ℕ) (p : Progress) (ops : List ExtOp) → EachOp SourceOp ops
-    → EachStep (λ m. IsReload) n ops (steps_of e block s p ops)
-reload_steps e block s n p ops source =
-    steps_each_of SourceOp (λ m. IsReload) e block s (λ m q purpose op src. record { kind = reload_by e block s q purpose op op.kind src })
-    n p ops source
-
 -- ---- reads
 
--- each operand chooses one of its alternatives
-pub record ChoosesOne (op : ExtOp) (s : Step) : Type 0 where
-  pub at : (j : ℕ) (x : Operand) → slice_get op.operands j ≡ Some x → slice_index s.choices j < length x.alts
+-- a read leaves a gap where it is in its space
+abbrev Waits : Table → List LiveRange → Read → Type 0
+Waits t ranges r = ReadsInSpace r (slice_get ranges r.temp.0) → LeavesGap (latency_gap t) r (slice_get ranges r.temp.0)
 
--- no copy u may read what a copy u defines
-pub record ReadsOwn (ops : List ExtOp) : Type 0 where
-  pub apart : (j k i : ℕ) (a c : ExtOp) (x : Operand) (y : TempId) → slice_get ops j ≡ Some a → slice_get ops k ≡ Some c
-      → a.kind ≡ Copy U → c.kind ≡ Copy U → slice_get c.operands i ≡ Some x → Contains x.alts y → Contains a.results y → ⊥
-
-record Waits (t : Table) (ranges : List LiveRange) (b end n : ℕ) (op : ExtOp) (s : Step) : Type 0 where
+record AllWait (t : Table) (ranges : List LiveRange) (b end n : ℕ) (op : ExtOp) (s : Step) : Type 0 where
   at : (planned_issue b end n op s).active ≡ true → (j : ℕ) (x : Operand) → slice_get op.operands j ≡ Some x
-      → LeavesGap (latency_gap t) (planned_read (planned_issue b end n op s) s j x)
-      (slice_get ranges (chosen x.alts (slice_index s.choices j)).0)
+      → Waits t ranges (planned_read (planned_issue b end n op s) s j x)
+
+-- the first of all temporaries is there from its block's start on
+record BeginsAll (ranges : List LiveRange) : Type 0 where
+  range : LiveRange
+  at : slice_get ranges 0 ≡ Some range
+  none : range.instr ≡ None
+  from : range.from ≡ 0
 
 definer_kind : (t : Table) (block : ExtBlock) (kind : ExtKind) (results : List TempId) (m : ℕ) (x : TempId)
     → length results ≡ result_count t block kind → slice_get results m ≡ Some x → IsDefiner kind
@@ -376,9 +320,9 @@ definer_kind t block (End term) results m x size at = let lt = slice_get_within 
 definer_kind t block Enter results m x size at = let lt = slice_get_within results m x at in absurd (omega arith)
 definer_kind t block Leave results m x size at = let lt = slice_get_within results m x at in absurd (omega arith)
 
-none_read : (R : Operand → Want → Type 0) (xs : List Operand) (j : ℕ) (x : Operand) → AllZip R xs [] → slice_get xs j ≡ Some x → ⊥
-none_read R [] j x h at = cc at
-none_read R (y ∷ xs) j x h at = h
+none_read : (Q : Operand → Want → Type 0) (xs : List Operand) (j : ℕ) (x : Operand) → AllZip Q xs [] → slice_get xs j ≡ Some x → ⊥
+none_read Q [] j x h at = cc at
+none_read Q (y ∷ xs) j x h at = h
 
 user_kind : (t : Table) (names : List Kind) (blocks : List ExtBlock) (block : ExtBlock) (op : ExtOp) (before : List TempId) (kind : ExtKind)
     (j : ℕ) (x : Operand) → AllZip (IsGoodOperand names blocks before) op.operands (wants_of t names blocks block kind op)
@@ -391,121 +335,201 @@ user_kind t names blocks block op before In j x h at = absurd (none_read (IsGood
 user_kind t names blocks block op before Enter j x h at = absurd (none_read (IsGoodOperand names blocks before) op.operands j x h at)
 user_kind t names blocks block op before Leave j x h at = absurd (none_read (IsGoodOperand names blocks before) op.operands j x h at)
 
-record Zipped {A B : Type 0} (R : A → B → Type 0) (x : A) : Type 0 where
+record Zipped {A B : Type 0} (Q : A → B → Type 0) (x : A) : Type 0 where
   other : B
-  holds : R x other
+  holds : Q x other
 
-zip_at : {A B : Type 0} (R : A → B → Type 0) (xs : List A) (ys : List B) (j : ℕ) (x : A) → AllZip R xs ys → slice_get xs j ≡ Some x → Zipped R x
-zip_at R [] ys j x h at = absurd (cc at)
-zip_at R (a ∷ xs) [] j x h at = absurd h
-zip_at R (a ∷ xs) (b ∷ ys) zero x h at = let e : a ≡ x = cc at in record { other = b; holds = subst (λ (z : _). R z b) e h.0 }
-zip_at R (a ∷ xs) (b ∷ ys) (suc j) x h at = zip_at R xs ys j x h.1 at
+zip_at : {A B : Type 0} (Q : A → B → Type 0) (xs : List A) (ys : List B) (j : ℕ) (x : A) → AllZip Q xs ys → slice_get xs j ≡ Some x → Zipped Q x
+zip_at Q [] ys j x h at = absurd (cc at)
+zip_at Q (a ∷ xs) [] j x h at = absurd h
+zip_at {A} Q (a ∷ xs) (b ∷ ys) zero x h at = let e : a ≡ x = cc at in record { other = b; holds = subst (λ (z : A). Q z b) e h.0 }
+zip_at Q (a ∷ xs) (b ∷ ys) (suc j) x h at = zip_at Q xs ys j x h.1 at
 
-module _ (e : Ext) (fit : IsFit e.table) (ranges : List LiveRange) (reads : List Read) (entry : Bool) (block : ExtBlock) (b n : ℕ) where
+-- no register is both what a reload gives and what a reload reads
+never_both : (reg : ℕ) → InSpace reg (Some R) → InSpace reg (Some M) → ⊥
+never_both reg a b = let e : R ≡ M = sym a ∙ b in cc e
+
+abbrev nowhere : TempId
+nowhere = record { 0 = 0 }
+
+past_end : {A : Type 0} (xs : List A) (c : ℕ) → length xs ≤ c → slice_get xs c ≡ None
+past_end [] c le = refl
+past_end (x ∷ xs) zero le = absurd (omega arith)
+past_end (x ∷ xs) (suc c) le = past_end xs c (omega arith)
+
+module _ (e : Ext) (fit : IsFit e.table) (ranges : List LiveRange) (reads : List Read) (given : All IsGivenInSpace ranges)
+    (begins : BeginsAll ranges) (entry : Bool) (block : ExtBlock) (b n : ℕ) where
   abbrev plan : BlockPlan
   plan = block_plan e entry block
 
-  block_waits : BlockTimes e.table (first_cycle e.table entry) plan.end (planned_issues b n block plan)
-      → EachStep (AreDefined ranges reads b plan.end) n block.ops plan.steps
-      → EachStep (λ m. IsReload) n block.ops plan.steps → EachStep (λ m. ChoosesOne) n block.ops plan.steps
-      → ((k : ℕ) (op : ExtOp) → slice_get block.ops k ≡ Some op
-      → IsGoodExtOp e.table e.names e.blocks block (results_of (take k block.ops)) op)
-      → ReadsOwn block.ops → EachStep (Waits e.table ranges b plan.end) n block.ops plan.steps
-  block_waits times defined reload choose good own =
-      each_step (Waits e.table ranges b plan.end) n block.ops plan.steps (each_size (λ m. IsReload) n block.ops plan.steps reload)
-      (λ k op s at there. record { at = λ active j x is. by k op s at there active j x is })
-    where
-      timed : All (IsTimed e.table (first_cycle e.table entry) times.now times.left plan.end) (planned_issues b n block plan)
-      timed = subst (λ (is : List Issue). All (IsTimed e.table (first_cycle e.table entry) times.now times.left plan.end) is)
-          (sym times.whole) (All-append (IsTimed e.table (first_cycle e.table entry) times.now times.left plan.end) times.front times.tail
-          times.front_timed times.tail_timed)
+  abbrev first : ℕ
+  first = first_cycle e.table entry
 
-      by : (k : ℕ) (op : ExtOp) (s : Step) → slice_get block.ops k ≡ Some op → slice_get plan.steps k ≡ Some s
-          → (planned_issue b plan.end (n + k) op s).active ≡ true → (j : ℕ) (x : Operand) → slice_get op.operands j ≡ Some x
-          → LeavesGap (latency_gap e.table) (planned_read (planned_issue b plan.end (n + k) op s) s j x)
-          (slice_get ranges (chosen x.alts (slice_index s.choices j)).0)
-      by k op s at there active j x is =
-          let first = first_cycle e.table entry in
-          let list = planned_issues b n block plan in
+  abbrev list : List Issue
+  list = planned_issues b n block plan
+
+  module _ (times : BlockTimes e.table first plan.end list) (defined : EachStep (AreDefined ranges reads b plan.end) n block.ops plan.steps)
+      (good : (k : ℕ) (op : ExtOp) → slice_get block.ops k ≡ Some op
+      → IsGoodExtOp e.table e.names e.blocks block (results_of (take k block.ops)) op) where
+    timed : All (IsTimed e.table first times.now times.left plan.end) list
+    timed = subst (λ (is : List Issue). All (IsTimed e.table first times.now times.left plan.end) is) (sym times.whole) (All-append (IsTimed
+        e.table first times.now times.left plan.end) times.front times.tail times.front_timed times.tail_timed)
+
+    module _ (k : ℕ) (op : ExtOp) (s : Step) (at : slice_get block.ops k ≡ Some op) (there : slice_get plan.steps k ≡ Some s)
+        (active : (planned_issue b plan.end (n + k) op s).active ≡ true) (j : ℕ) (x : Operand) (is : slice_get op.operands j ≡ Some x) where
+      abbrev user : Issue
+      user = planned_issue b plan.end (n + k) op s
+
+      abbrev read : Read
+      read = planned_read user s j x
+
+      user_at : slice_get list k ≡ Some user
+      user_at = slice_get-pairs (planned_issue b plan.end) n k block.ops plan.steps op s at there
+
+      is_used : Use plan.end user
+      is_used =
           let g = good k op at in
-          let here = step_at (λ m. ChoosesOne) n k block.ops plan.steps op choose at in
-          let own_step = step_at (λ m. IsReload) n k block.ops plan.steps op reload at in
-          let same_step : here.step ≡ s = same_item plan.steps k here.step s here.at there in
-          let same_own : own_step.step ≡ s = same_item plan.steps k own_step.step s own_step.at there in
-          let fits = subst (ChoosesOne op) same_step here.holds in
-          let reload_here = subst (IsReload op) same_own own_step.holds in
-          let c = slice_index s.choices j in
-          let lt = fits.at j x is in
-          let y = get_or x.alts c (record { 0 = 0 }) in
-          let chosen_is : chosen x.alts c ≡ y = ap (λ (o : Option TempId). unwrap_or o (record { 0 = 0 }))
-          (slice_get-get_or x.alts c (record { 0 = 0 }) lt) in
-          let operand = zip_at (IsGoodOperand e.names e.blocks (results_of (take k block.ops))) op.operands
-          (wants_of e.table e.names e.blocks block op.kind op) j x g.operands is in
-          let d = definer_of block.ops k y ((operand.holds).known c (record { 0 = 0 }) lt) in
+          use_of b plan.end (n + k) op s (user_kind e.table e.names e.blocks block op (results_of (take k block.ops)) op.kind j x g.operands is)
+          (source_kind op.kind op g.kind) active
+
+      -- what is there from the start on
+      begun : LeavesGap (latency_gap e.table) read (slice_get ranges 0)
+      begun = subst (LeavesGap (latency_gap e.table) read) (sym begins.at) (λ here.
+          let l : latency_by e.table begins.range.instr ≡ 1 = ap (latency_by e.table) begins.none in
+          let z = begins.from in
+          let p = used_after e.table fit first times.now times.left plan.end (first_positive e.table entry) times.entered_by times.now_left
+          times.now_end user (at_all (IsTimed e.table first times.now times.left plan.end) list k user timed user_at) is_used in
+          omega arith)
+
+      -- a result of an operation before
+      behind : (y : TempId) → Definer block.ops k y → ReadsInSpace read (slice_get ranges y.0)
+          → LeavesGap (latency_gap e.table) read (slice_get ranges y.0)
+      behind y d space =
           let before = d.before in
           let gd = good d.place d.op d.at in
           let def = step_at (AreDefined ranges reads b plan.end) n d.place block.ops plan.steps d.op defined d.at in
           let range = (def.holds).at d.result y d.is in
-          let from = step_at (λ m. IsReload) n d.place block.ops plan.steps d.op reload d.at in
-          let same_from : from.step ≡ def.step = same_item plan.steps d.place from.step def.step from.at def.at in
-          let reload_there = subst (IsReload d.op) same_from from.holds in
           let i = planned_issue b plan.end (n + d.place) d.op def.step in
-          let l = planned_issue b plan.end (n + k) op s in
-          let at_i : slice_get list d.place ≡ Some i = slice_get-pairs (planned_issue b plan.end) n d.place block.ops plan.steps d.op def.step d.at
-          def.at in
-          let at_l : slice_get list k ≡ Some l = slice_get-pairs (planned_issue b plan.end) n k block.ops plan.steps op s at there in
-          let r = planned_read l s j x in
-          let found : slice_get ranges (chosen x.alts c).0 ≡ Some (planned_range (place_at (n + d.place) range.reg) (last_read reads y.0) (Some i)) =
-          ap (λ (z : TempId). slice_get ranges z.0) chosen_is ∙ range.there in
-          let apart = own.apart d.place k j d.op op x y d.at at in
-          let among = Contains-get_or x.alts c (record { 0 = 0 }) lt in
-          let result : Contains d.op.results y = contains_at d.op.results d.result y d.is in
-          subst (λ (o : Option LiveRange). LeavesGap (latency_gap e.table) r o) (sym found) (λ there_active.
-          waits e.table fit first times.now times.left plan.end (first_positive e.table entry) times.entered_by times.now_left times.now_end i l
-          (at_all (IsTimed e.table first times.now times.left plan.end) list d.place i timed at_i)
-          (at_all (IsTimed e.table first times.now times.left plan.end) list k l timed at_l)
-          (pair_at (IsDoneBy e.table) list d.place k i l (block_done e.table fit first plan.end list times) before at_i at_l) refl
+          let h = planned_range (place_at (n + d.place) range.reg) (last_read reads y.0) (Some i) in
+          let at_i : slice_get list d.place ≡ Some i = slice_get-pairs (planned_issue b plan.end) n d.place block.ops plan.steps d.op def.step
+          d.at def.at in
+          let in_space : ReadsInSpace read (Some h) = subst (ReadsInSpace read) range.there space in
+          let is_given : IsGivenInSpace h = at_all IsGivenInSpace ranges y.0 h given range.there in
+          subst (LeavesGap (latency_gap e.table) read) (sym range.there) (λ here.
+          waits e.table fit first times.now times.left plan.end (first_positive e.table entry) times.entered_by times.now_left times.now_end i
+          user (at_all (IsTimed e.table first times.now times.left plan.end) list d.place i timed at_i)
+          (at_all (IsTimed e.table first times.now times.left plan.end) list k user timed user_at)
+          (pair_at (IsDoneBy e.table) list d.place k i user (block_done e.table fit first plan.end list times) before at_i user_at) refl
           (definition b plan.end (n + d.place) d.op def.step (definer_kind e.table block d.op.kind d.op.results d.result y gd.results d.is)
-          (source_kind d.op.kind d.op gd.kind) there_active)
-          (use_of b plan.end (n + k) op s (user_kind e.table e.names e.blocks block op (results_of (take k block.ops)) op.kind j x g.operands is)
-          (source_kind op.kind op g.kind) active)
-          (λ p q. apart (reload_there.kind p) (reload_here.kind q) is among result))
+          (source_kind d.op.kind d.op gd.kind) here) is_used
+          (λ p q. never_both h.reg (subst (λ (o : Option Op). InSpace h.reg (space_given o)) p is_given)
+          (subst (λ (o : Option Op). InSpace h.reg (space_read o j)) q in_space)))
+
+      read_waits : Waits e.table ranges read
+      read_waits = by (cases_lt c (length x.alts))
+        where
+          c : ℕ
+          c = slice_index s.choices j
+
+          by : (c < length x.alts) ⊎ (length x.alts ≤ c) → Waits e.table ranges read
+          by (inl lt) =
+              let g = good k op at in
+              let y = get_or x.alts c nowhere in
+              let is_y : chosen x.alts c ≡ y = ap (λ (o : Option TempId). unwrap_or o nowhere) (slice_get-get_or x.alts c nowhere lt) in
+              let operand = zip_at (IsGoodOperand e.names e.blocks (results_of (take k block.ops))) op.operands
+              (wants_of e.table e.names e.blocks block op.kind op) j x g.operands is in
+              let d = definer_of block.ops k y ((operand.holds).known c nowhere lt) in
+              subst (λ (z : TempId). ReadsInSpace read (slice_get ranges z.0) → LeavesGap (latency_gap e.table) read (slice_get ranges z.0))
+              (sym is_y) (behind y d)
+          by (inr le) =
+              let is_first : chosen x.alts c ≡ nowhere = ap (λ (o : Option TempId). unwrap_or o nowhere) (past_end x.alts c le) in
+              subst (λ (z : TempId). ReadsInSpace read (slice_get ranges z.0) → LeavesGap (latency_gap e.table) read (slice_get ranges z.0))
+              (sym is_first) (λ space. begun)
+
+    block_waits : EachStep (AllWait e.table ranges b plan.end) n block.ops plan.steps
+    block_waits = each_step (AllWait e.table ranges b plan.end) n block.ops plan.steps (each_size (AreDefined ranges reads b plan.end) n
+        block.ops plan.steps defined) (λ k op s at there. record { at = λ active j x is. read_waits k op s at there active j x is })
 
 -- ---- all blocks
 
-abbrev pub OwnBlocks : List ExtBlock → Type 0
-OwnBlocks [] = Unit {0}
-OwnBlocks (block ∷ blocks) = ReadsOwn block.ops × OwnBlocks blocks
-
-module _ (e : Ext) (fit : IsFit e.table) (ranges : List LiveRange) (reads : List Read) where
+module _ (e : Ext) (fit : IsFit e.table) (ranges : List LiveRange) (reads : List Read) (given : All IsGivenInSpace ranges)
+    (begins : BeginsAll ranges) where
   all_wait : (entry : Bool) (b n : ℕ) (blocks : List ExtBlock) → AreTimed e entry b n blocks
       → EachPlan (AreDefined ranges reads) b n blocks (block_plans e entry blocks)
-      → EachPlan (λ c end m. ChoosesOne) b n blocks (block_plans e entry blocks)
       → ((block : ExtBlock) → Contains blocks block → IsGoodExtBlock e.table e.names e.blocks block)
-      → EachBlockOp SourceOp blocks → OwnBlocks blocks
-      → EachPlan (Waits e.table ranges) b n blocks (block_plans e entry blocks)
-  all_wait entry b n [] times defined choose good source own = tt
-  all_wait entry b n (block ∷ blocks) times defined choose good source own =
-      let first = first_progress e entry in
-      let s = setting_of e entry block in
+      → EachPlan (AllWait e.table ranges) b n blocks (block_plans e entry blocks)
+  all_wait entry b n [] times defined good = tt
+  all_wait entry b n (block ∷ blocks) times defined good =
       let g = good block (0, omega arith, refl) in (
-        block_waits e fit ranges reads entry block b n times.0 defined.0 (reload_steps e block s n first block.ops source.0) choose.0 g.ops own.0,
-        all_wait false (b + 1) (n + length block.ops) blocks times.1 defined.1 choose.1
-            (λ c h. good c (suc h.0, (let lt = h.1 in omega arith), h.2)) source.1 own.1,
+        block_waits e fit ranges reads given begins entry block b n times.0 defined.0 g.ops,
+        all_wait false (b + 1) (n + length block.ops) blocks times.1 defined.1
+            (λ c h. good c (suc h.0, (let lt = h.1 in omega arith), h.2)),
       )
 
+-- the first operation of all defines a temporary
+begins_all : (ranges : List LiveRange) (reads : List Read) (b end n : ℕ) (op : ExtOp) (s : Step) (x : TempId) → AreDefined ranges reads b end n op s
+    → op.kind ≡ In → slice_get op.results 0 ≡ Some x → x.0 ≡ 0 → BeginsAll ranges
+begins_all ranges reads b end n op s x h is at number =
+    let r = h.at 0 x at in
+    record {
+      range = planned_range (place_at n r.reg) (last_read reads x.0) (Some (planned_issue b end n op s));
+      at = ap (slice_get ranges) (sym number) ∙ r.there;
+      none = ap (λ (k : ExtKind). instruction_of k s.instr) is;
+      from = ap (λ (k : ExtKind). planned_cycle end k s.cycle) is;
+    }
+
+some_result : (live : ℕ) (saved : List ℕ) (results : List TempId) → length results ≡ live + length (saved ++ LINK ∷ [])
+    → (x : TempId) × (slice_get results 0 ≡ Some x)
+some_result live saved [] size = absurd (let l = length-append saved (LINK ∷ []) in omega arith)
+some_result live saved (x ∷ xs) size = (x, refl)
+
+in_is : (kind : ExtKind) → is_in kind ≡ true → kind ≡ In
+in_is In h = refl
+in_is Out h = absurd (cc h)
+in_is (Body o) h = absurd (cc h)
+in_is (End term) h = absurd (cc h)
+in_is (Copy node) h = absurd (cc h)
+in_is Enter h = absurd (cc h)
+in_is Leave h = absurd (cc h)
+
+module _ (e : Ext) (ranges : List LiveRange) (reads : List Read) where
+  starts_all : (blocks : List ExtBlock) → blocks ≡ e.blocks → IsExtended e → EachPlan (AreDefined ranges reads) 0 0 blocks (block_plans e true blocks)
+      → BeginsAll ranges
+  starts_all [] same h defined = absurd (let z : length e.blocks ≡ 0 = ap (λ (bs : List ExtBlock). length bs) (sym same) in
+      let p = h.good.entry in omega arith)
+  starts_all (block ∷ blocks) same h defined =
+      let plan = block_plan e true block in
+      let g = All-contains (IsGoodExtBlock e.table e.names e.blocks) e.blocks block h.good.each (subst (λ (bs : List ExtBlock). Contains bs
+      block) same (0, omega arith, refl)) in
+      let parts = g.parts.0 in
+      let made = g.parts.1 in
+      let op = parts.start in
+      let first : slice_get block.ops 0 ≡ Some op = ap (λ (ops : List ExtOp). slice_get ops 0) made.whole in
+      let good = g.ops 0 op first in
+      let is = in_is op.kind made.start in
+      let size : length op.results ≡ length block.live_in + length (saved_registers e.table) = good.results
+      ∙ ap (result_count e.table block) is in
+      let x = some_result (length block.live_in) (callee_saved e.table) op.results size in
+      let d = step_at (AreDefined ranges reads 0 plan.end) 0 0 block.ops plan.steps op defined.0 first in
+      let rest = parts.inner ++ (option_to_list parts.ending ++ (parts.late ++ parts.out ∷ [])) in
+      let in_block : slice_get (results_of block.ops) 0 ≡ Some x.0 = ap (λ (ops : List ExtOp). slice_get (results_of ops) 0) made.whole
+      ∙ got_left op.results (results_of rest) 0 x.0 x.1 in
+      let in_all : slice_get (all_results e.blocks) 0 ≡ Some x.0 = ap (λ (bs : List ExtBlock). slice_get (all_results bs) 0) (sym same)
+      ∙ got_left (results_of block.ops) (all_results blocks) 0 x.0 in_block in
+      begins_all ranges reads 0 plan.end (0 + 0) op d.step x.0 d.holds is x.1 (temp_number e.blocks h.good.numbered 0 x.0 in_all)
+
 -- each instruction issues in its block, and users wait for definers
-pub keeps_latencies : (e : Ext) → IsFit e.table → IsExtended e → AreTimed e true 0 0 e.blocks → EachBlockOp SourceOp e.blocks
-    → EachPlan (λ b end n. ChoosesOne) 0 0 e.blocks (block_plans e true e.blocks) → OwnBlocks e.blocks
-    → KeepsLatencies (latency_gap e.table) (planned_schedule e.blocks (block_plans e true e.blocks))
-keeps_latencies e fit extended times source choose own =
+pub keeps_latencies : (e : Ext) → IsFit e.table → IsExtended e → AreTimed e true 0 0 e.blocks
+    → (let t = planned_schedule e.blocks (block_plans e true e.blocks) in KeepsSpaces t → KeepsLatencies (latency_gap e.table) t)
+keeps_latencies e fit extended times spaces =
     let plans = block_plans e true e.blocks in
     let t = planned_schedule e.blocks plans in
     let good = extended.good in
-    let defined = all_defined e.blocks plans (plan_suits e) good.numbered in (
+    let defined = all_defined e.blocks plans (plan_suits e) good.numbered in
+    let begins = starts_all e t.ranges t.reads e.blocks refl extended defined in
+    let each = reads_each (Waits e.table t.ranges) (AllWait e.table t.ranges) (λ b end n op s h active j x at. h.at active j x at) 0 0 e.blocks
+    plans (all_wait e fit t.ranges t.reads spaces.1 begins true 0 0 e.blocks times defined (λ block c. All-contains
+    (IsGoodExtBlock e.table e.names e.blocks) e.blocks block good.each c)) in (
       all_placed e fit true 0 0 e.blocks times,
-      reads_each (λ (r : Read). LeavesGap (latency_gap e.table) r (slice_get t.ranges r.temp.0)) (Waits e.table t.ranges)
-          (λ b end n op s h active j x at. h.at active j x at) 0 0 e.blocks plans
-          (all_wait e fit t.ranges t.reads true 0 0 e.blocks times defined choose (λ block c. All-contains
-          (IsGoodExtBlock e.table e.names e.blocks) e.blocks block good.each c) source own),
+      (λ k d lt. each k d lt (spaces.0 k d lt)),
     )
