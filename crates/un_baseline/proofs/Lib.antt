@@ -3,6 +3,7 @@ pub mod BlockTimes
 pub mod Definers
 pub mod Each
 pub mod Ends
+pub mod FrameKept
 pub mod FrameOps
 pub mod FrameOrder
 pub mod Fronts

@@ -4,6 +4,7 @@ use Rattle.un_base.specs.declared.ids.NameId.{NameId}
 use Rattle.un_isa.specs.Fit.{IsFit}
 use Rattle.un_ir.specs.declared.function.Function.{Function}
 use Rattle.un_ir.specs.declared.extended.Ext.{Ext}
+use Rattle.un_ir.specs.Extended.{IsExtended}
 use Rattle.un_ir.specs.ExtendOf.{extend_of}
 use Rattle.un_ir.specs.LinearOf.{AreLive, lin_of}
 use Rattle.un_model.specs.declared.model.Options.{Options}
@@ -29,4 +30,5 @@ pub record IsSpillable (m : Model) : Type 0 where
   pub model : IsModel m
   pub table : IsFit m.ext.table
   pub function : IsOfFunction m.ext
+  pub kept : IsExtended m.ext
   pub roomy : AreRoomy m.ext m.options

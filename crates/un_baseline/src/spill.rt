@@ -15,7 +15,7 @@ ghost use Rattle.un_model.specs.Congruences.{term_or, term_of, live_in_temps};
 ghost use Rattle.un_model.specs.Instructions.{gives_truth, transfer_of, latency_by};
 ghost use Rattle.un_model.specs.Pairs.{places_from};
 ghost use Rattle.un_model.specs.Schedules.{schedule_of};
-ghost use Rattle.un_model.specs.Solutions.{KeepsZeros, KeepsMemory, KeepsPackets, HasFrame};
+ghost use Rattle.un_model.specs.Solutions.{KeepsZeros, KeepsMemory, KeepsPackets, KeepsFrame};
 ghost use Rattle.un_model.specs.Cost.{value_of};
 ghost use Rattle.un_model.specs.Variables.{chosen_operands};
 ghost use Rattle.un_baseline.specs.RoomyOptions.{IsSpillable};
@@ -705,8 +705,7 @@ pub fn spill_everywhere(alloc: Global, m: &Model) -> Result<Solution, NoMemory>
     ensures zeros { IfOk result (λ s. KeepsZeros (schedule_of m.now s.values)) }
     ensures memory { IfOk result (λ s. KeepsMemory (schedule_of m.now s.values)) }
     ensures packets { IfOk result (λ s. KeepsPackets m.now.ext.table (schedule_of m.now s.values)) }
-    ensures flag { IfOk result (λ s. value_of s.values m.now.flag ≡ 1) }
-    ensures frame { IfOk result (λ s. All (HasFrame true) (schedule_of m.now s.values).issues) }
+    ensures frame { IfOk result (λ s. KeepsFrame (value_of s.values m.now.flag) (schedule_of m.now s.values)) }
     ensures values { IfOk result (λ s. s.values ≡ spilled_values m.now.ext) }
 {
     let saved = saved_registers(alloc, &m.ext.table)?;

@@ -1,6 +1,7 @@
 use Rattle.std.proofs.Common.{◌≡◌, rules}
 use Rattle.un_baseline.specs.SpillEverywhere.{spilled_values}
-use Rattle.un_baseline.proofs.Kept.{zeros_of_model, memory_of_model, packets_of_model, flag_of_model, frame_ops_of_model}
+use Rattle.un_baseline.proofs.Kept.{zeros_of_model, memory_of_model, packets_of_model}
+use Rattle.un_baseline.proofs.FrameKept.{frame_of_model}
 use Rattle.un_baseline.proofs.spill.spill_everywhere.Goals as goal
 
 pub returns-clause-zeros : goal.returns-clause-zeros
@@ -18,12 +19,7 @@ returns-clause-packets c =
     let same : c.push.new.self ≡ spilled_values c.args.m.now.ext = search rules in packets_of_model c.args.m.now c.requires
     c.push.new.self same
 
-pub returns-clause-flag : goal.returns-clause-flag
-returns-clause-flag c =
-    let same : c.push.new.self ≡ spilled_values c.args.m.now.ext = search rules in flag_of_model c.args.m.now c.requires c.push.new.self
-    same
-
 pub returns-clause-frame : goal.returns-clause-frame
 returns-clause-frame c =
-    let same : c.push.new.self ≡ spilled_values c.args.m.now.ext = search rules in frame_ops_of_model c.args.m.now c.requires
+    let same : c.push.new.self ≡ spilled_values c.args.m.now.ext = search rules in frame_of_model c.args.m.now c.requires
     c.push.new.self same
