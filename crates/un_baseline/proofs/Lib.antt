@@ -15,6 +15,7 @@ pub mod OneAtATime
 pub mod PlanSchedules
 pub mod Purposes
 pub mod Pushing
+pub mod Roomy
 pub mod Shapes
 mod SmallFunctions
 pub mod SpillSteps
