@@ -190,7 +190,7 @@ in_by t now end i (inside r e lo hi) o io = lo
 
 -- ---- from Leave on the cycle stays
 
-abbrev IsTailKind : ExtKind → Type 0
+abbrev pub IsTailKind : ExtKind → Type 0
 IsTailKind Leave = Unit {0}
 IsTailKind (Copy U) = Unit {0}
 IsTailKind (Copy U2) = Unit {0}
@@ -198,7 +198,7 @@ IsTailKind (End (Ret value)) = Unit {0}
 IsTailKind Out = Unit {0}
 IsTailKind _ = ⊥
 
-abbrev TailOp : ExtOp → Type 0
+abbrev pub TailOp : ExtOp → Type 0
 TailOp op = IsTailKind op.kind
 
 abbrev IsTailPurpose : Purpose → Type 0
@@ -274,7 +274,7 @@ module _ (e : Ext) (block : ExtBlock) (s : Setting) (b end : ℕ) where
       ∙ progress_split (progress_of e block s p part op op.kind) ops more h
 
 -- from Leave on
-tail_ops : (leave : ExtOp) (us : List ExtOp) (op : ExtOp) (late : List ExtOp) (out : ExtOp) (value : Option NameId) → leave.kind ≡ Leave
+pub tail_ops : (leave : ExtOp) (us : List ExtOp) (op : ExtOp) (late : List ExtOp) (out : ExtOp) (value : Option NameId) → leave.kind ≡ Leave
     → AreForLink us → op.kind ≡ End (Ret value) → EachOp (λ (o : ExtOp). IsReading o.kind) late → out.kind ≡ Out
     → EachOp TailOp (leave ∷ (us ++ (op ∷ (late ++ out ∷ []))))
 tail_ops leave us op late out value is_leave for is_return is_late is_out =

@@ -8,6 +8,7 @@ pub mod FrameOps
 pub mod FrameOrder
 pub mod Fronts
 pub mod Holding
+pub mod Horizons
 pub mod Kept
 pub mod Latencies
 pub mod Layouts

@@ -235,7 +235,7 @@ abbrev pub IsReal : ExtKind → Type 0
 IsReal (End Fall) = ⊥
 IsReal _ = Unit {0}
 
-transfers : (term : Term) → IsReal (End term) → is_some (transfer_of term) ≡ true
+pub transfers : (term : Term) → IsReal (End term) → is_some (transfer_of term) ≡ true
 transfers Fall h = absurd h
 transfers (Jump to) h = refl
 transfers (Branch pred true to) h = refl
