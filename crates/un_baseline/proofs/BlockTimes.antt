@@ -35,7 +35,7 @@ use Rattle.un_baseline.proofs.Tails.{IsReading, first_one, second_one, AreForLin
 use Rattle.un_baseline.proofs.Layouts.{GoesOn, Returns, IsLaidOut, AreLaidOut, onward, back, purpose_split, issues_split, each_weaker, each_of_all, are_calm, early_by}
 use Rattle.un_baseline.proofs.Shapes.{each_append, link_reads}
 use Rattle.un_baseline.proofs.BlockShapes.{goes_by, unread_out}
-use Rattle.un_baseline.proofs.Ends.{IsLate, IsSourceKind, SourceOp, source_stays, AreEnded, LeavesLast, none_ends, none_leave, jumps_last, each_left}
+use Rattle.un_baseline.proofs.Terminators.{IsLate, IsSourceKind, SourceOp, source_stays, AreEnded, LeavesLast, none_ends, none_leave, jumps_last, each_left}
 
 -- ---- in turn
 

@@ -17,7 +17,7 @@ use Rattle.un_baseline.specs.Plans.{planned_schedule}
 use Rattle.un_baseline.specs.RoomyOptions.{IsSpillable}
 use Rattle.un_baseline.specs.SpillEverywhere.{block_plans, spilled_values}
 use Rattle.un_baseline.proofs.SpillSteps.{EachBlockOp}
-use Rattle.un_baseline.proofs.Ends.{SourceOp, source_kind, each_of_at, made_ended}
+use Rattle.un_baseline.proofs.Terminators.{SourceOp, source_kind, each_of_at, made_ended}
 use Rattle.un_baseline.proofs.BlockTimes.{AreEndedBlocks, AreTimed, are_timed}
 use Rattle.un_baseline.proofs.FrameOrder.{keeps_frame_order}
 use Rattle.un_baseline.proofs.UsesFrame.{spilled_uses}

@@ -45,7 +45,7 @@ use Rattle.un_baseline.specs.SpillEverywhere.{first_cycle, block_plan, block_pla
 use Rattle.un_baseline.proofs.OneAtATime.{AreSeparated}
 use Rattle.un_baseline.proofs.Timing.{pairs_append}
 use Rattle.un_baseline.proofs.Layouts.{in_block}
-use Rattle.un_baseline.proofs.Ends.{IsSourceKind, source_kind, source_stays, source_never_enters}
+use Rattle.un_baseline.proofs.Terminators.{IsSourceKind, source_kind, source_stays, source_never_enters}
 use Rattle.un_baseline.proofs.BlockTimes.{IsInTurn, IsTimed, none_there, entered, early, reloads, leaves, returns, BlockTimes, AreTimed, behind_first, no_op, differ}
 use Rattle.un_baseline.proofs.Definers.{AreDefined, step_at, each_step, each_size, Definer, definer_of, pair_at, slice_get-pairs, temp_number, all_defined}
 use Rattle.un_baseline.proofs.Each.{EachStep, EachPlan, reads_each}
@@ -97,7 +97,7 @@ module _ (t : Table) (fit : IsFit t) (first now left end : ℕ) (positive : 1 �
   placed : (i : Issue) → IsTimed t first now left end i → i.end ≡ end → IsPlaced i
   placed i timed at = subst (λ (c : ℕ). IfSome i.instr (IsPlacedAs i.cycle c)) (sym at) (placed_by i i.instr timed refl)
 
-first_positive : (t : Table) (entry : Bool) → 1 ≤ first_cycle t entry
+pub first_positive : (t : Table) (entry : Bool) → 1 ≤ first_cycle t entry
 first_positive t true = omega arith
 first_positive t false = omega arith
 
@@ -107,21 +107,24 @@ ends_there b end n (op ∷ ops) [] = All-nil (λ (i : Issue). i.end ≡ end)
 ends_there b end n (op ∷ ops) (s ∷ steps) = All-cons (λ (i : Issue). i.end ≡ end) (planned_issue b end n op s)
     (pairs_from (planned_issue b end) (n + 1) ops steps) refl (ends_there b end (n + 1) ops steps)
 
+pub block_placed : (e : Ext) → IsFit e.table → (entry : Bool) (b n : ℕ) (block : ExtBlock)
+    → (let p = block_plan e entry block in BlockTimes e.table (first_cycle e.table entry) p.end (planned_issues b n block p)
+    → All IsPlaced (planned_issues b n block p))
+block_placed e fit entry b n block times =
+    let p = block_plan e entry block in
+    let first = first_cycle e.table entry in
+    let timed = subst (λ (is : List Issue). All (IsTimed e.table first times.now times.left p.end) is) (sym times.whole)
+    (All-append (IsTimed e.table first times.now times.left p.end) times.front times.tail times.front_timed times.tail_timed) in
+    let ends = ends_there b p.end n block.ops p.steps in
+    λ k d lt. placed e.table fit first times.now times.left p.end (first_positive e.table entry) times.entered_by times.now_left times.now_end
+    (get_or (planned_issues b n block p) k d) (timed k d lt) (ends k d lt)
+
 all_placed : (e : Ext) → IsFit e.table → (entry : Bool) (b n : ℕ) (blocks : List ExtBlock) → AreTimed e entry b n blocks
     → All IsPlaced (over_plans planned_issues b n blocks (block_plans e entry blocks))
 all_placed e fit entry b n [] h = All-nil IsPlaced
 all_placed e fit entry b n (block ∷ blocks) h =
-    let p = block_plan e entry block in
-    let here = planned_issues b n block p in
-    let times = h.0 in
-    let timed = subst (λ (is : List Issue). All (IsTimed e.table (first_cycle e.table entry) times.now times.left p.end) is) (sym times.whole)
-    (All-append (IsTimed e.table (first_cycle e.table entry) times.now times.left p.end) times.front times.tail times.front_timed
-    times.tail_timed) in
-    let ends = ends_there b p.end n block.ops p.steps in
-    All-append IsPlaced here (over_plans planned_issues (b + 1) (n + length block.ops) blocks (block_plans e false blocks))
-    (λ k d lt. placed e.table fit (first_cycle e.table entry) times.now times.left p.end (first_positive e.table entry) times.entered_by
-    times.now_left times.now_end (get_or here k d) (timed k d lt) (ends k d lt))
-    (all_placed e fit false (b + 1) (n + length block.ops) blocks h.1)
+    All-append IsPlaced (planned_issues b n block (block_plan e entry block)) (over_plans planned_issues (b + 1) (n + length block.ops) blocks
+    (block_plans e false blocks)) (block_placed e fit entry b n block h.0) (all_placed e fit false (b + 1) (n + length block.ops) blocks h.1)
 
 -- ---- waiting
 

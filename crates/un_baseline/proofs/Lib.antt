@@ -2,13 +2,13 @@ pub mod BlockShapes
 pub mod BlockTimes
 pub mod Definers
 pub mod Each
-pub mod Ends
 pub mod FrameKept
 pub mod FrameOps
 pub mod FrameOrder
 pub mod Fronts
 pub mod Holding
 pub mod Horizons
+pub mod InDomains
 pub mod Kept
 pub mod Latencies
 pub mod Layouts
@@ -21,5 +21,6 @@ pub mod Shapes
 mod SmallFunctions
 pub mod SpillSteps
 pub mod Tails
+pub mod Terminators
 pub mod Timing
 pub mod UsesFrame
