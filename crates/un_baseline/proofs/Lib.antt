@@ -3,6 +3,7 @@ pub mod BlockShapes
 pub mod BlockTimes
 pub mod Bodies
 pub mod Carried
+pub mod CopiesIn
 pub mod Definers
 pub mod Each
 pub mod FrameKept
@@ -23,6 +24,7 @@ pub mod Outs
 pub mod PlanSchedules
 pub mod Purposes
 pub mod Pushing
+pub mod RegistersIn
 pub mod Roomy
 pub mod Shapes
 mod SmallFunctions
