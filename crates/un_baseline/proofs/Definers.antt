@@ -251,3 +251,6 @@ each_size R n [] [] h = refl
 each_size R n [] (s ∷ steps) h = absurd h
 each_size R n (op ∷ ops) [] h = absurd h
 each_size R n (op ∷ ops) (s ∷ steps) h = ap suc (each_size R (n + 1) ops steps h.1)
+
+pub contains_at : {A : Type 0} (xs : List A) (k : ℕ) (x : A) → slice_get xs k ≡ Some x → Contains xs x
+contains_at xs k x at = (k, slice_get_within xs k x at, get_or_from_slice_get xs k x x at)

@@ -37,4 +37,5 @@ pub mod Tails
 pub mod Terminators
 pub mod Timing
 pub mod UsesFrame
+pub mod ValueKinds
 pub mod Walk
