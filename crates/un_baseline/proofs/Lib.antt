@@ -38,4 +38,6 @@ pub mod Terminators
 pub mod Timing
 pub mod UsesFrame
 pub mod ValueKinds
+pub mod ValuesOk
 pub mod Walk
+pub mod WalkIn
