@@ -20,6 +20,7 @@ pub mod Latencies
 pub mod Layouts
 pub mod Made
 pub mod OneAtATime
+pub mod OpsIn
 pub mod Outs
 pub mod PlanSchedules
 pub mod Purposes
