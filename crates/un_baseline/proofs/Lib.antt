@@ -22,6 +22,7 @@ pub mod Made
 pub mod OneAtATime
 pub mod OpsIn
 pub mod Outs
+pub mod OutsIn
 pub mod PlanSchedules
 pub mod Purposes
 pub mod Pushing

@@ -71,7 +71,7 @@ last_choices : (ys : List Operand) → AllZip InDomain (map operand_place ys) (m
 last_choices [] = tt
 last_choices (y ∷ ys) = ((omega arith, omega arith), last_choices ys)
 
-placed_choices : (f : ℕ → Operand → ℕ) (k : ℕ) (ys : List Operand)
+pub placed_choices : (f : ℕ → Operand → ℕ) (k : ℕ) (ys : List Operand)
     → ((j : ℕ) (y : Operand) → slice_get ys j ≡ Some y → f (k + j) y ≤ length y.alts - 1)
     → AllZip InDomain (places_from f k ys) (map choice_domain ys)
 placed_choices f k [] each = tt
