@@ -1,8 +1,10 @@
 pub mod Arrivals
+pub mod BlockIn
 pub mod BlockShapes
 pub mod BlockTimes
 pub mod Bodies
 pub mod Carried
+pub mod CloseIn
 pub mod CopiesIn
 pub mod Definers
 pub mod Each
@@ -34,6 +36,7 @@ pub mod Sound
 pub mod Sources
 pub mod SpillSteps
 pub mod Standing
+pub mod StartIn
 pub mod Tailing
 pub mod Tails
 pub mod Terminators

@@ -27,7 +27,7 @@ push_cases (y ∷ xs) x zero w h = inl h
 push_cases (y ∷ xs) x (suc k) w h = ⊎_elim (λ (a : slice_get xs k ≡ Some w). inl a) (λ (a : (k ≡ length xs) × (x ≡ w)). inr (ap suc a.0, a.1))
     (push_cases xs x k w h)
 
-set_cases : {A : Type 0} (xs : List A) (i : ℕ) (y : A) (k : ℕ) (w : A) → slice_get (set xs i y) k ≡ Some w
+pub set_cases : {A : Type 0} (xs : List A) (i : ℕ) (y : A) (k : ℕ) (w : A) → slice_get (set xs i y) k ≡ Some w
     → ((k ≡ i) × (y ≡ w)) ⊎ (slice_get xs k ≡ Some w)
 set_cases [] i y k w h = absurd (cc h)
 set_cases (x ∷ xs) zero y zero w h = inl (refl, (let e : y ≡ w = cc h in e))
