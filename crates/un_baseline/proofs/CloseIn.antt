@@ -124,9 +124,9 @@ module _ (e : Ext) (o : Options) (roomy : AreRoomy e o) (fit : IsFit e.table) (e
   all ops g = all_ops e.names block.live_in entry saved ops g
 
   -- what is known behind some operations
-  record Known (g : Growth) : Type 0 where
-    values : ValuesOk e block s.placed from g
-    begins : Begins link home g
+  pub record Known (g : Growth) : Type 0 where
+    pub values : ValuesOk e block s.placed from g
+    pub begins : Begins link home g
 
   good_op : (op : ExtOp) → (k : Contains block.ops op) → IsGoodExtOp e.table e.names e.blocks block (results_of (take k.0 block.ops)) op
   good_op op k = (good_block e o roomy fit extended b entry block at_b).ops k.0 op (place_of e o roomy fit extended b entry block at_b op k)
@@ -163,7 +163,7 @@ module _ (e : Ext) (o : Options) (roomy : AreRoomy e o) (fit : IsFit e.table) (e
   out_free (Ret None) k y = tt
   out_free (Ret (Some name)) k y = tt
 
-  out_good : (xs : List Operand) (g : Growth) (p : Progress) → Known g → ReadsFrom e o entry block from xs → p.operands ≡ 0
+  pub out_good : (xs : List Operand) (g : Growth) (p : Progress) → Known g → ReadsFrom e o entry block from xs → p.operands ≡ 0
       → (let op : ExtOp = record { kind = Out; operands = xs; results = [] } in Within (all (op ∷ []) g) → Steps p (all (op ∷ []) g))
   out_good xs g p known reads none inside =
       let op : ExtOp = record { kind = Out; operands = xs; results = [] } in
@@ -231,10 +231,10 @@ module _ (e : Ext) (o : Options) (roomy : AreRoomy e o) (fit : IsFit e.table) (e
     tt,
   )
 
-  abbrev EachReads : List ExtOp → Type 0
+  abbrev pub EachReads : List ExtOp → Type 0
   EachReads ops = EachOp (λ (op : ExtOp). ReadsFrom e o entry block from op.operands) ops
 
-  ends_good : (term : Term) (current : List ℕ) (g : Growth) (p : Progress) (rest : List ExtOp) → Known g → EachReads (end_ops current link term)
+  pub ends_good : (term : Term) (current : List ℕ) (g : Growth) (p : Progress) (rest : List ExtOp) → Known g → EachReads (end_ops current link term)
       → p.operands ≡ 0 → Within (all (end_ops current link term ++ rest) g)
       → ((h : Growth) (q : Progress) → Known h → q.operands ≡ 0 → Within (all rest h) → Steps q (all rest h))
       → Steps p (all (end_ops current link term ++ rest) g)
@@ -274,11 +274,11 @@ module _ (e : Ext) (o : Options) (roomy : AreRoomy e o) (fit : IsFit e.table) (e
 
   -- ---- operations of the source
 
-  abbrev AreSources : List SrcOp → Type 0
+  abbrev pub AreSources : List SrcOp → Type 0
   AreSources [] = Unit {0}
   AreSources (src ∷ srcs) = SourceOk e o roomy fit extended b entry block at_b src × AreSources srcs
 
-  bodies_good : (t : Table) (srcs : List SrcOp) (current : List ℕ) (first : ℕ) (g : Growth) (p : Progress) (rest : List ExtOp) → AreSources srcs
+  pub bodies_good : (t : Table) (srcs : List SrcOp) (current : List ℕ) (first : ℕ) (g : Growth) (p : Progress) (rest : List ExtOp) → AreSources srcs
       → EachReads (body_ops t current first srcs) → Known g → p.operands ≡ 0 → Within (all (body_ops t current first srcs ++ rest) g)
       → ((h : Growth) (q : Progress) → Known h → q.operands ≡ 0 → Within (all rest h) → Steps q (all rest h))
       → Steps p (all (body_ops t current first srcs ++ rest) g)

@@ -12,6 +12,7 @@ pub mod FrameKept
 pub mod FrameOps
 pub mod FrameOrder
 pub mod Fronts
+pub mod FunctionIn
 pub mod Going
 pub mod Grown
 pub mod Holding
