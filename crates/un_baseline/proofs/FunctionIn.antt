@@ -83,9 +83,9 @@ less_stable : (a b : ℕ) → ((a < b → ⊥) → ⊥) → a < b
 less_stable a b h = ⊎_elim (λ (lt : a < b). lt) (λ (ge : b ≤ a). absurd (h (λ lt. omega arith))) (cases_lt a b)
 
 -- a name that an operation assigns is one of the function's, of the result's kind
-record AssignsWell (f : Function) (src : SrcOp) : Type 0 where
-  within : (name : NameId) → src.dst ≡ Some name → name.0 < length f.names
-  kind : (name : NameId) → src.dst ≡ Some name → name_kind (map kind_of_pair f.names) name ≡ result_kind src.op
+pub record AssignsWell (f : Function) (src : SrcOp) : Type 0 where
+  pub within : (name : NameId) → src.dst ≡ Some name → name.0 < length f.names
+  pub kind : (name : NameId) → src.dst ≡ Some name → name_kind (map kind_of_pair f.names) name ≡ result_kind src.op
 
 module _ (f : Function) (b k : ℕ) (block : Block) (src : SrcOp) (at : slice_get f.blocks b ≡ Some block) (here : slice_get block.ops k ≡ Some src) where
   kind_is : IsWellFormed f.name f.params f.names f.blocks → (name : NameId) → src.dst ≡ Some name → kind_of f.names name ≡ Some (result_kind src.op)
@@ -95,7 +95,7 @@ module _ (f : Function) (b k : ℕ) (block : Block) (src : SrcOp) (at : slice_ge
       assigned_kind f.names (facts_of src.op).operands (result_space src.op) name (subst (IsAssigned f.names (facts_of src.op).operands (result_space
       src.op)) dst good.assigns)
 
-  assigns_well : AssignsWell f src
+  pub assigns_well : AssignsWell f src
   assigns_well = record {
     within = λ name dst. less_stable name.0 (length f.names) (λ not. ∥∥₁_elim f.well_formed (λ (x y : ⊥). absurd x)
         (λ (w : IsWellFormed f.name f.params f.names f.blocks). not (kind_within f.names name (result_kind src.op) (kind_is w name dst))));
@@ -144,7 +144,7 @@ enter_count true Leave g = refl
 enter_count false kind g = refl
 
 module _ (names : List Kind) (live_in : List NameId) (entry saved : Bool) where
-  op_count : (op : ExtOp) (g : Growth) → length (with_extended names live_in entry saved op g).values ≡ length g.values + length (sorts_of names
+  pub op_count : (op : ExtOp) (g : Growth) → length (with_extended names live_in entry saved op g).values ≡ length g.values + length (sorts_of names
       live_in saved op.kind (length op.results))
   op_count op g =
       let before = with_leave op.kind g in
@@ -164,7 +164,7 @@ module _ (names : List Kind) (live_in : List NameId) (entry saved : Bool) where
   dst_count None first n sort = omega arith
   dst_count (Some name) first n sort = omega arith
 
-  bodies_count : (t : Table) (srcs : List SrcOp) (current : List ℕ) (first : ℕ) (rest : List ExtOp) (g : Growth) (n : ℕ) → length g.values ≡ n
+  pub bodies_count : (t : Table) (srcs : List SrcOp) (current : List ℕ) (first : ℕ) (rest : List ExtOp) (g : Growth) (n : ℕ) → length g.values ≡ n
       → ((h : Growth) → length h.values ≡ past_all n srcs → length (with_all_extended names live_in entry saved rest h).values ≡ past_all n srcs)
       → length (with_all_extended names live_in entry saved (body_ops t current first srcs ++ rest) g).values ≡ past_all n srcs
   bodies_count t [] current first rest g n size go = go g size
@@ -186,7 +186,7 @@ module _ (names : List Kind) (live_in : List NameId) (entry saved : Bool) where
       ≡ length g.values
   end_count term xs g = let a = op_count (record { kind = End term; operands = xs; results = [] }) g in omega arith
 
-  ends_count : (term : Term) (current : List ℕ) (link : ℕ) (out : ExtOp) (g : Growth) → out.kind ≡ Out
+  pub ends_count : (term : Term) (current : List ℕ) (link : ℕ) (out : ExtOp) (g : Growth) → out.kind ≡ Out
       → length (with_all_extended names live_in entry saved (end_ops current link term ++ out ∷ []) g).values ≡ length g.values
   ends_count Fall current link out g is = out_count out g is
   ends_count (Jump to) current link out g is =
@@ -202,15 +202,15 @@ module _ (names : List Kind) (live_in : List NameId) (entry saved : Bool) where
 
 -- ---- what a linear block reads is its own
 
-abbrev LowResults : ℕ → ExtOp → Type 0
+abbrev pub LowResults : ℕ → ExtOp → Type 0
 LowResults n op = (m : ℕ) (y : TempId) → slice_get op.results m ≡ Some y → n ≤ y.0
 
-row_low : (n c : ℕ) (m : ℕ) (y : TempId) → slice_get (map temp (range_with_len n c)) m ≡ Some y → n ≤ y.0
+pub row_low : (n c : ℕ) (m : ℕ) (y : TempId) → slice_get (map temp (range_with_len n c)) m ≡ Some y → n ≤ y.0
 row_low n zero m y at = absurd (cc at)
 row_low n (suc c) zero y at = let e : temp n ≡ y = cc at in let z = ap (λ (x : TempId). x.0) e in omega arith
 row_low n (suc c) (suc m) y at = let r = row_low (n + 1) c m y at in omega arith
 
-bodies_low : (t : Table) (n : ℕ) (srcs : List SrcOp) (current : List ℕ) (first : ℕ) → n ≤ first → EachOp (LowResults n) (body_ops t current first srcs)
+pub bodies_low : (t : Table) (n : ℕ) (srcs : List SrcOp) (current : List ℕ) (first : ℕ) → n ≤ first → EachOp (LowResults n) (body_ops t current first srcs)
 bodies_low t n [] current first le = tt
 bodies_low t n (src ∷ srcs) current first le =
     let le' = past_more src.dst in (
@@ -227,7 +227,7 @@ bodies_low t n (src ∷ srcs) current first le =
     by (Some name) zero y at = let e : temp first ≡ y = cc at in let z = ap (λ (x : TempId). x.0) e in omega arith
     by (Some name) (suc m) y at = absurd (cc at)
 
-ends_low : (n : ℕ) (term : Term) (current : List ℕ) (link : ℕ) → EachOp (LowResults n) (end_ops current link term)
+pub ends_low : (n : ℕ) (term : Term) (current : List ℕ) (link : ℕ) → EachOp (LowResults n) (end_ops current link term)
 ends_low n Fall current link = tt
 ends_low n (Jump to) current link = ((λ m y at. absurd (cc at)), tt)
 ends_low n (Branch pred sense to) current link = ((λ m y at. absurd (cc at)), tt)
@@ -260,6 +260,6 @@ module _ (t : Table) (names : List Kind) (blocks : List ExtBlock) (lin : ExtBloc
             let z : first_of x.alts ≡ y.0 = ap first_of is in
             omega arith
 
-    reads_own : EachOp (λ (op : ExtOp). ReadsFrom e o entry block n op.operands) lin.ops
+    pub reads_own : EachOp (λ (op : ExtOp). ReadsFrom e o entry block n op.operands) lin.ops
     reads_own = each_place (λ (op : ExtOp). ReadsFrom e o entry block n op.operands) lin.ops (λ k op at.
         reads_by k op.operands (wants_of t names blocks lin op.kind op) (good.ops k op at).operands)

@@ -1,3 +1,4 @@
+pub mod AllIn
 pub mod Arrivals
 pub mod BlockIn
 pub mod BlockShapes

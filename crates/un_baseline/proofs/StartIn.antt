@@ -46,7 +46,7 @@ use Rattle.un_baseline.proofs.BlockIn.{row_is, good_block, live, starts, sorts_a
 
 -- ---- sorts of values at a block's start
 
-abbrev saved_sort : Bool → Sort
+abbrev pub saved_sort : Bool → Sort
 saved_sort saved = record { kind = General; copied = saved }
 
 abbrev start_sorts : List Kind → List NameId → Bool → ℕ → List Sort
