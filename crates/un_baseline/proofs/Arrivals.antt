@@ -92,7 +92,7 @@ module _ (c : ℕ) (H : Seen → List Read → Type 0) (b end : ℕ) (e : Ext) (
   -- ---- one operand
 
   -- the copies of an operand that reads a value of this kind
-  ops_of : (x : Operand) (g : Growth) (own : List TempId) (kind : Kind) → Carries g (first_of x.alts) own (sort_by kind)
+  pub ops_of : (x : Operand) (g : Growth) (own : List TempId) (kind : Kind) → Carries g (first_of x.alts) own (sort_by kind)
       → operand_ops x g ≡ copy_ops U U2 kind true own g.next
   ops_of x g own kind h =
       ap (λ (v : Option Value). operand_ops_by v g.next) h.at

@@ -181,14 +181,14 @@ module _ (c : ℕ) (H : Seen → List Read → Type 0) (b end : ℕ) (e : Ext) (
   register_is (Some P) = refl
   register_is (Some M) = refl
 
-  not_placed : (m placed : ℕ) → placed ≤ m → nat_lt m placed ≡ false
+  pub not_placed : (m placed : ℕ) → placed ≤ m → nat_lt m placed ≡ false
   not_placed m placed le = grind (arith, nat_tests)
 
-  own_size : (kind : Kind) (m : ℕ) (here : Growth) → length (own_temps m (sort_by kind) here) ≡ 1 + copies_of kind
+  pub own_size : (kind : Kind) (m : ℕ) (here : Growth) → length (own_temps m (sort_by kind) here) ≡ 1 + copies_of kind
   own_size General m here = refl
   own_size Pred m here = refl
 
-  own_last : (kind : Kind) (m : ℕ) (here : Growth) → here.next ≡ m + 1
+  pub own_last : (kind : Kind) (m : ℕ) (here : Growth) → here.next ≡ m + 1
       → (chosen (own_temps m (sort_by kind) here) (last_place (own_temps m (sort_by kind) here))).0 ≡ m + copies_of kind
   own_last General m here e = e
   own_last Pred m here e = omega arith

@@ -1,4 +1,4 @@
--- The plan that spills every name keeps the clauses on latencies, on the frame and on what is active in it.
+-- The plan that spills every name keeps the clauses on domains, latencies and the frame.
 use Rattle.std.proofs.Common.{◌≡◌, ◌≢◌, ℕ, ◌<◌, Bool, true, List, [], ◌∷◌, length, refl, sym, ap, subst, ◌∙◌}
 use Rattle.std.specs.Prelude.{All}
 use Rattle.std.proofs.lemmas.List.Elements.{All-head, All-tail}
@@ -12,9 +12,9 @@ use Rattle.un_model.specs.declared.model.Model.{Model}
 use Rattle.un_model.specs.declared.schedule.Schedule.{Schedule}
 use Rattle.un_model.specs.Cost.{value_of}
 use Rattle.un_model.specs.Schedules.{schedule_of}
-use Rattle.un_model.specs.Solutions.{HasFrame, uses_frame, KeepsFrameOrder, KeepsFrame, KeepsSpaces, KeepsLatencies, latency_gap}
+use Rattle.un_model.specs.Solutions.{KeepsDomains, HasFrame, uses_frame, KeepsFrameOrder, KeepsFrame, KeepsSpaces, KeepsLatencies, latency_gap}
 use Rattle.un_baseline.specs.Plans.{planned_schedule}
-use Rattle.un_baseline.specs.RoomyOptions.{IsSpillable}
+use Rattle.un_baseline.specs.RoomyOptions.{AreRoomy, IsSpillable}
 use Rattle.un_baseline.specs.SpillEverywhere.{block_plans, spilled_values}
 use Rattle.un_baseline.proofs.SpillSteps.{EachBlockOp}
 use Rattle.un_baseline.proofs.Terminators.{SourceOp, source_kind, each_of_at, made_ended}
@@ -22,7 +22,9 @@ use Rattle.un_baseline.proofs.BlockTimes.{AreEndedBlocks, AreTimed, are_timed}
 use Rattle.un_baseline.proofs.FrameOrder.{keeps_frame_order}
 use Rattle.un_baseline.proofs.UsesFrame.{spilled_uses}
 use Rattle.un_baseline.proofs.Latencies.{keeps_latencies}
-use Rattle.un_baseline.proofs.Kept.{schedule_is, are_laid_out, same_schedule, frame_ops_of_model, flag_of_model}
+use Rattle.un_baseline.proofs.InDomains.{AreIn, keeps_domains}
+use Rattle.un_baseline.proofs.AllIn.{function_in}
+use Rattle.un_baseline.proofs.Kept.{schedule_is, are_laid_out, same_schedule, all_real, spaces_of_model, frame_ops_of_model, flag_of_model}
 
 -- ---- what every extended function keeps
 
@@ -55,10 +57,10 @@ module _ (m : Model) (h : IsSpillable m) (values : List ℕ) (same : values ≡ 
   pub planned_of_model : planned_schedule m.ext.blocks (block_plans m.ext true m.ext.blocks) ≡ schedule_of m values
   planned_of_model = sym (schedule_is m.ext m.options) ∙ same_schedule m h values same
 
-  pub latencies_of_model : KeepsSpaces (schedule_of m values) → KeepsLatencies (latency_gap m.ext.table) (schedule_of m values)
+  pub latencies_of_model : KeepsLatencies (latency_gap m.ext.table) (schedule_of m values)
   latencies_of_model =
       subst (λ (t : Schedule). KeepsSpaces t → KeepsLatencies (latency_gap m.ext.table) t) planned_of_model
-      (keeps_latencies m.ext h.table h.kept times_of_model)
+      (keeps_latencies m.ext h.table h.kept times_of_model) (spaces_of_model m h values same)
 
   frame_order : KeepsFrameOrder (schedule_of m values).issues
   frame_order = subst (λ (t : Schedule). KeepsFrameOrder t.issues) planned_of_model (keeps_frame_order m.ext h.table times_of_model)
@@ -79,3 +81,15 @@ module _ (m : Model) (h : IsSpillable m) (values : List ℕ) (same : values ≡ 
         with_frame = λ flag. frame_ops_of_model m h values same;
         ordered = λ flag. frame_order;
       }
+
+  each_in : AreIn m.ext m.options true m.ext.blocks
+  each_in =
+      let of = h.function in
+      subst (λ (e : Ext). AreRoomy e m.options → IsExtended e → AreIn e m.options true e.blocks) (sym of.extended)
+      (λ roomy kept. function_in of.function of.lists m.ext.table m.options h.table roomy kept of.linear) h.roomy h.kept
+
+  pub domains_of_model : KeepsDomains m.domains values
+  domains_of_model =
+      let laid = are_laid_out m h values same in
+      let kept = keeps_domains m.ext m.options h.table laid h.kept.good.each times_of_model (all_real true m.ext.blocks laid) each_in in
+      subst (KeepsDomains m.domains) (sym same) (subst (λ (n : Model). KeepsDomains n.domains (spilled_values m.ext)) (sym h.model) kept)

@@ -59,7 +59,7 @@ module _ (c : ℕ) (H : Seen → List Read → Type 0) (b end : ℕ) (e : Ext) (
     pub within : 0 < length own
     pub stands : Stands c b (chosen own 0).0 r seen
     pub safe : Safe c H b end e block s fit r
-    pub low : r < 32
+    pub low : r < 31
 
   -- the link register's value is in its slot
   pub record LinkAt (g : Growth) (seen : Seen) (x : ℕ) : Type 0 where
@@ -106,7 +106,7 @@ module _ (c : ℕ) (H : Seen → List Read → Type 0) (b end : ℕ) (e : Ext) (
           room = h.room;
         }
 
-    saved_later : (x r : ℕ) → ((k : ℕ) → Safe c H b end e block s fit r → r < 32 → Stands c b k r seen → Stands c b k r seen') → SavedAt g seen x r → SavedAt g' seen' x r
+    saved_later : (x r : ℕ) → ((k : ℕ) → Safe c H b end e block s fit r → r < 31 → Stands c b k r seen → Stands c b k r seen') → SavedAt g seen x r → SavedAt g' seen' x r
     saved_later x r stands h = record {
       own = h.own;
       carries = carries x h.own saved_sort h.carries;
@@ -150,7 +150,7 @@ module _ (c : ℕ) (H : Seen → List Read → Type 0) (b end : ℕ) (e : Ext) (
         (few : IfSome dst (λ (name : NameId). name.0 < length e.names)) (now : List ℕ) (next : ℕ) (whole : length now ≡ length current)
         (values : length g'.values ≡ next)
         (names : (name : NameId) → IsLive f.blocks name b (k + 1) → Named c H b end e block s fit g' seen' (slice_index now name.0) name) where
-      not_low : (r : ℕ) → r < 32 → (d : Option NameId) → IfSome d (λ (name : NameId). r ≢ slot_of name)
+      not_low : (r : ℕ) → r < 31 → (d : Option NameId) → IfSome d (λ (name : NameId). r ≢ slot_of name)
       not_low r low None = tt
       not_low r low (Some name) = λ z. omega arith
 

@@ -34,13 +34,14 @@ use Rattle.un_model.specs.Cost.{value_of}
 use Rattle.un_model.specs.declared.schedule.Schedule.{Schedule}
 use Rattle.un_model.specs.Schedules.{schedule_of}
 use Rattle.un_baseline.proofs.FrameOps.{frame_ops_active}
-use Rattle.un_model.specs.Solutions.{KeepsZeros, KeepsMemory, KeepsPackets, HasFrame}
+use Rattle.un_model.specs.Solutions.{KeepsZeros, KeepsChoices, KeepsSpaces, KeepsMemory, KeepsRegisters, KeepsPackets, KeepsHomes, HasFrame}
 use Rattle.un_model.specs.Variables.{model_of}
 use Rattle.un_baseline.specs.Plans.{planned_schedule}
 use Rattle.un_baseline.specs.RoomyOptions.{IsSpillable}
 use Rattle.un_baseline.specs.SpillEverywhere.{block_plans, spilled_values}
 use Rattle.un_baseline.proofs.PlanSchedules.{schedule_of_plan, flag_of_plan}
 use Rattle.un_baseline.proofs.SpillSteps.{EachOp, EachBlockOp, IsReal, plan_suits, keeps_zeros}
+use Rattle.un_baseline.proofs.Clauses.{keeps_choices, keeps_spaces, keeps_homes, keeps_registers}
 use Rattle.un_baseline.proofs.Fronts.{IsFrontKind, AreFront}
 use Rattle.un_baseline.proofs.Layouts.{IsLaidOut, onward, back, AreLaidOut, each_weaker, laid_out_keep_memory, laid_out_keep_packets}
 use Rattle.un_baseline.proofs.Tails.{IsReading, first_one, second_one}
@@ -157,7 +158,7 @@ laid_real entry block (back h) =
     subst (EachOp RealOp) (sym h.whole) (each_append RealOp h.front (h.leave ∷ (h.us ++ (h.op ∷ tail)))
     (fronts_real entry h.front h.is_front) (subst IsReal (sym h.is_leave) tt, ending))
 
-all_real : (entry : Bool) (blocks : List ExtBlock) → AreLaidOut entry blocks → EachBlockOp RealOp blocks
+pub all_real : (entry : Bool) (blocks : List ExtBlock) → AreLaidOut entry blocks → EachBlockOp RealOp blocks
 all_real entry [] h = tt
 all_real entry (block ∷ blocks) h = (laid_real entry block h.0, all_real false blocks h.1)
 
@@ -203,3 +204,23 @@ module _ (m : Model) (h : IsSpillable m) (values : List ℕ) (same : values ≡ 
   flag_of_model =
       ap (λ (xs : List ℕ). value_of xs m.flag) same ∙ ap (λ (n : Model). value_of (spilled_values m.ext) n.flag) h.model
       ∙ flag_of_plan m.ext m.options (block_plans m.ext true m.ext.blocks) 1 (plan_suits m.ext)
+
+  -- what the plan keeps for the extended function of a function under this table
+  for_function : (P : Schedule → Type 0) → (let x = extend_of (lin_of h.function.function h.function.lists m.ext.table) in P (planned_schedule x.blocks
+      (block_plans x true x.blocks))) → P (schedule_of m values)
+  for_function P kept =
+      subst P (sym (schedule_is m.ext m.options) ∙ same_schedule)
+      (subst (λ (x : Ext). P (planned_schedule x.blocks (block_plans x true x.blocks))) (sym h.function.extended) kept)
+
+  pub choices_of_model : KeepsChoices (schedule_of m values)
+  choices_of_model = for_function KeepsChoices (keeps_choices h.function.function h.function.lists m.ext.table h.table h.function.live)
+
+  pub spaces_of_model : KeepsSpaces (schedule_of m values)
+  spaces_of_model = for_function KeepsSpaces (keeps_spaces h.function.function h.function.lists m.ext.table h.table h.function.live)
+
+  pub homes_of_model : KeepsHomes (schedule_of m values)
+  homes_of_model = for_function KeepsHomes (keeps_homes h.function.function h.function.lists m.ext.table h.table h.function.live)
+
+  pub registers_of_model : KeepsRegisters m.ext.table.clobbered (schedule_of m values)
+  registers_of_model = for_function (KeepsRegisters m.ext.table.clobbered)
+      (keeps_registers h.function.function h.function.lists m.ext.table h.table h.function.live)

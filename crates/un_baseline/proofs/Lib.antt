@@ -5,10 +5,13 @@ pub mod BlockShapes
 pub mod BlockTimes
 pub mod Bodies
 pub mod Carried
+pub mod Clauses
 pub mod CloseIn
 pub mod CopiesIn
+pub mod Counts
 pub mod Definers
 pub mod Each
+pub mod Ends
 pub mod FrameKept
 pub mod FrameOps
 pub mod FrameOrder
@@ -22,15 +25,19 @@ pub mod InDomains
 pub mod Kept
 pub mod Latencies
 pub mod Layouts
+pub mod Lives
 pub mod Made
 pub mod OneAtATime
+pub mod Openings
 pub mod OpsIn
 pub mod Outs
 pub mod OutsIn
+pub mod Parameters
 pub mod PlanSchedules
 pub mod Purposes
 pub mod Pushing
 pub mod RegistersIn
+pub mod Returning
 pub mod Roomy
 pub mod Shapes
 mod SmallFunctions
@@ -39,6 +46,7 @@ pub mod Sources
 pub mod SpillSteps
 pub mod Standing
 pub mod StartIn
+pub mod Starts
 pub mod Tailing
 pub mod Tails
 pub mod Terminators
@@ -48,3 +56,5 @@ pub mod ValueKinds
 pub mod ValuesOk
 pub mod Walk
 pub mod WalkIn
+pub mod Walked
+pub mod Whole

@@ -142,9 +142,9 @@ module _ (c : ℕ) (H : Seen → List Read → Type 0) (b end : ℕ) (e : Ext) (
   AreOutReads seen count j (y ∷ ys) (r ∷ rs) =
       (Stands c b (chosen y.alts (out_place e.names block.live_out s count s.term j y)).0 r seen × IfSome y.home (λ (h : Reg). r ≡ h.0)) × AreOutReads seen count (j + 1) ys rs
 
-  out_later : (g g' : Growth) (seen seen' : Seen) (count j : ℕ) (xs : List Operand) (rs : List ℕ)
+  pub out_later : (g g' : Growth) (seen seen' : Seen) (count j : ℕ) (xs : List Operand) (rs : List ℕ)
       → ((x : ℕ) (own : List TempId) (sort : Sort) → Carries g x own sort → Carries g' x own sort)
-      → ((k r : ℕ) → Stands c b k r seen → Stands c b k r seen') → AreOut g seen count j xs rs → AreOut g' seen' count j xs rs
+      → All (λ (r : ℕ). (k : ℕ) → Stands c b k r seen → Stands c b k r seen') rs → AreOut g seen count j xs rs → AreOut g' seen' count j xs rs
   out_later g g' seen seen' count j [] [] f stands h = tt
   out_later g g' seen seen' count j [] (r ∷ rs) f stands h = absurd h
   out_later g g' seen seen' count j (x ∷ xs) [] f stands h = absurd h
@@ -157,16 +157,12 @@ module _ (c : ℕ) (H : Seen → List Read → Type 0) (b end : ℕ) (e : Ext) (
           carries = f (first_of x.alts) k.own k.sort k.carries;
           place = k.place;
           within = k.within;
-          stands = stands (chosen k.own k.place).0 r k.stands;
+          stands = stands 0 r (omega arith) (chosen k.own k.place).0 k.stands;
           home = k.home;
           chooses = k.chooses;
         },
-        out_later g g' seen seen' count (j + 1) xs rs f stands h.1,
+        out_later g g' seen seen' count (j + 1) xs rs f (λ m d lt. stands (suc m) d (omega arith)) h.1,
       )
-
-  pub out_seen : (g : Growth) (seen seen' : Seen) (count j : ℕ) (xs : List Operand) (rs : List ℕ)
-      → ((k r : ℕ) → Stands c b k r seen → Stands c b k r seen') → AreOut g seen count j xs rs → AreOut g seen' count j xs rs
-  out_seen g seen seen' count j xs rs stands h = out_later g g seen seen' count j xs rs (λ x own sort k. k) stands h
 
   first_own : (xs more : List TempId) (place : ℕ) → place < length xs → first_of (xs ++ more) ≡ first_of xs
   first_own [] more place lt = absurd (omega arith)
@@ -194,7 +190,7 @@ module _ (c : ℕ) (H : Seen → List Read → Type 0) (b end : ℕ) (e : Ext) (
           k.home,
         ),
         out_reads (with_operand x g) seen count (j + 1) xs rs
-            (out_later g (with_operand x g) seen seen count (j + 1) xs rs (λ v own sort q. carries_operand x g v own sort q) (λ n q st. st) h.1),
+            (out_later g (with_operand x g) seen seen count (j + 1) xs rs (λ v own sort q. carries_operand x g v own sort q) (λ m d lt n st. st) h.1),
       )
 
   -- ---- the block's end

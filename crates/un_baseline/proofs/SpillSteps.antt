@@ -108,7 +108,7 @@ length-places f k (x ∷ xs) = ap suc (length-places f (k + 1) xs)
 all_choices : (op : ExtOp) (kind : ExtKind) → op.kind ≡ kind → has_choices kind ≡ true → length op.operands ≡ length (chosen_operands op)
 all_choices op kind e h = rw (e, h) refl
 
-suits_by : (e : Ext) (block : ExtBlock) (s : Setting) (p : Progress) (purpose : Purpose) (op : ExtOp) (kind : ExtKind)
+pub suits_by : (e : Ext) (block : ExtBlock) (s : Setting) (p : Progress) (purpose : Purpose) (op : ExtOp) (kind : ExtKind)
     → op.kind ≡ kind → Suits op (step_of e block s p purpose op kind)
 suits_by e block s p purpose op In is = record {
   choices = length-replicate (length op.operands) 0 ∙ all_choices op In is refl;

@@ -1,0 +1,154 @@
+-- Which names are live at the bounds of blocks.
+use Rattle.std.proofs.Common.{◌≡◌, ◌≢◌, ℕ, zero, suc, ◌+◌, ◌<◌, ◌≤◌, ◌++◌, ◌||◌, Bool, true, false, nat_eq, List, [], ◌∷◌, Option, Some, None, map, filter, length, get_or, slice_get, AllPairs, Contains, if◌then◌else◌, refl, sym, ap, subst, ◌∙◌, arith}
+use Rattle.std.specs.Prelude.{◌==◌}
+use Rattle.std.specs.List.{range_with_len, list_any, position_or_len}
+use Rattle.std.proofs.Math.Numerals.{one-add}
+use Rattle.std.proofs.lemmas.Bool.{eqb-true}
+use Rattle.std.proofs.lemmas.Option.{slice_get-get_or, slice_get_past, slice_get_within, get_or_from_slice_get}
+use Rattle.std.proofs.lemmas.List.Elements.{Contains-get_or}
+use Rattle.un_base.specs.declared.ids.NameId.{NameId}
+use Rattle.un_ir.specs.declared.function.SrcOp.{SrcOp}
+use Rattle.un_ir.specs.declared.function.Block.{Block}
+use Rattle.un_ir.specs.declared.function.Function.{Function}
+use Rattle.un_ir.specs.declared.function.Term.{Term}
+use Rattle.un_ir.specs.LinearOf.{AreLive, live_at, live_after, is_among, name_of}
+use Rattle.un_ir.specs.Live.{IsLive, used, kept, read_by, read_by_term, next_by, assigned_by, targets_of}
+use Rattle.un_ir.proofs.NameBounds.{live_name_small}
+
+pub among_contains : (names : List NameId) (n : ℕ) → is_among names n ≡ true → Contains names (name_of n)
+among_contains [] n h = absurd (cc h)
+among_contains (name ∷ names) n h = by (among_contains names n) (nat_eq name.0 n) refl h
+  where
+    by : (is_among names n ≡ true → Contains names (name_of n)) → (w : Bool) → nat_eq name.0 n ≡ w → (w || is_among names n) ≡ true
+        → Contains (name ∷ names) (name_of n)
+    by ih true e h = (0, omega arith, ap name_of (eqb-true name.0 n e))
+    by ih false e h = (λ (r : Contains names (name_of n)). (let q : Contains (name ∷ names) (name_of n) = (suc r.0, (let below = r.1 in omega arith), r.2) in q)) (ih h)
+
+pub contains_among : (names : List NameId) (name : NameId) → Contains names name → is_among names name.0 ≡ true
+contains_among [] name (k, below, is) = absurd (omega arith)
+contains_among (m ∷ names) name (zero, below, is) = let e : nat_eq m.0 name.0 ≡ true = rw is (grind arith) in rw e refl
+contains_among (m ∷ names) name (suc k, below, is) = by (nat_eq m.0 name.0) (contains_among names name (k, omega arith, is))
+  where
+    by : (w : Bool) → is_among names name.0 ≡ true → (w || is_among names name.0) ≡ true
+    by true h = refl
+    by false h = h
+
+pub any_found : (p : ℕ → Bool) (xs : List ℕ) → list_any p xs ≡ true → (c : ℕ) × Contains xs c × (p c ≡ true)
+any_found p [] h = absurd (cc h)
+any_found p (x ∷ xs) h = by (any_found p xs) (p x) refl h
+  where
+    by : (list_any p xs ≡ true → (c : ℕ) × Contains xs c × (p c ≡ true)) → (w : Bool) → p x ≡ w → (w || list_any p xs) ≡ true
+        → (c : ℕ) × Contains (x ∷ xs) c × (p c ≡ true)
+    by ih true e h = (x, (0, omega arith, refl), e)
+    by ih false e h = (λ (r : (c : ℕ) × Contains xs c × (p c ≡ true)). (let q : (c : ℕ) × Contains (x ∷ xs) c × (p c ≡ true) = (r.0, (suc r.1.0, (let below = r.1.1 in omega arith), r.1.2), r.2) in q)) (ih h)
+
+pub any_true : (p : ℕ → Bool) (xs : List ℕ) (c : ℕ) → Contains xs c → p c ≡ true → list_any p xs ≡ true
+any_true p [] c (k, below, is) h = absurd (omega arith)
+any_true p (x ∷ xs) c (zero, below, is) h = let e : p x ≡ true = rw is h in rw e refl
+any_true p (x ∷ xs) c (suc k, below, is) h = by (p x) (any_true p xs c (k, omega arith, is) h)
+  where
+    by : (w : Bool) → list_any p xs ≡ true → (w || list_any p xs) ≡ true
+    by true h = refl
+    by false h = h
+
+pub filter_has : (p : ℕ → Bool) (k n x : ℕ) → k ≤ x → x < k + n → p x ≡ true
+    → Contains (map name_of (filter p (range_with_len k n))) (name_of x)
+filter_has p k zero x low high h = absurd (omega arith)
+filter_has p k (suc n) x low high h = by (λ up less. filter_has p (k + 1) n x up less h) (nat_eq k x) refl
+  where
+    later : Contains (map name_of (filter p (range_with_len (k + 1) n))) (name_of x) → (w : Bool)
+        → Contains (map name_of (if w then k ∷ filter p (range_with_len (k + 1) n) else filter p (range_with_len (k + 1) n))) (name_of x)
+    later r true = (suc r.0, (let below = r.1 in omega arith), r.2)
+    later r false = r
+
+    by : (k + 1 ≤ x → x < (k + 1) + n → Contains (map name_of (filter p (range_with_len (k + 1) n))) (name_of x)) → (w : Bool)
+        → nat_eq k x ≡ w
+        → Contains (map name_of (filter p (range_with_len k (suc n)))) (name_of x)
+    by ih true e = let same : k ≡ x = eqb-true k x e in let q : p k ≡ true = rw same h in rw q (0, omega arith, ap name_of same)
+    by ih false e =
+        let other : k ≢ x = λ same. (let yes : nat_eq k x ≡ true = rw same (grind arith) in cc (sym e ∙ yes)) in
+        later (ih (omega arith) (omega arith)) (p k)
+
+-- ---- lists
+
+at_map : {A B : Type 0} (f : A → B) (xs : List A) (j : ℕ) (y : B) → slice_get (map f xs) j ≡ Some y → (x : A) × (slice_get xs j ≡ Some x) × (f x ≡ y)
+at_map f [] j y h = absurd (cc h)
+at_map f (x ∷ xs) zero y h = (x, refl, (let e : f x ≡ y = cc h in e))
+at_map f (x ∷ xs) (suc j) y h = at_map f xs j y h
+
+filtered : (p : ℕ → Bool) (xs : List ℕ) (j x : ℕ) → slice_get (filter p xs) j ≡ Some x → p x ≡ true
+filtered p [] j x h = absurd (cc h)
+filtered p (y ∷ xs) j x h = by (p y) refl j h (λ i got. filtered p xs i x got)
+  where
+    by : (t : Bool) → p y ≡ t → (i : ℕ) → slice_get (if t then y ∷ filter p xs else filter p xs) i ≡ Some x
+        → ((i : ℕ) → slice_get (filter p xs) i ≡ Some x → p x ≡ true) → p x ≡ true
+    by true e zero h ih = let same : y ≡ x = cc h in ap p (sym same) ∙ e
+    by true e (suc i) h ih = ih i h
+    by false e i h ih = ih i h
+
+-- the first place of a name
+pub place_found : (names : List NameId) (name : NameId) → Contains names name
+    → slice_get names (position_or_len (λ (n : NameId). n.0 == name.0) names) ≡ Some name
+place_found [] name (k, below, is) = absurd (omega arith)
+place_found (m ∷ names) name has = by (nat_eq m.0 name.0) refl has (λ q. place_found names name q)
+  where
+    same_name : (x y : NameId) → x.0 ≡ y.0 → x ≡ y
+    same_name x y h = ap name_of h
+
+    later : Contains (m ∷ names) name → nat_eq m.0 name.0 ≡ false → Contains names name
+    later (zero, below, is) e = let yes : nat_eq m.0 name.0 ≡ true = rw is (grind arith) in absurd (cc (sym e ∙ yes))
+    later (suc k, below, is) e = (k, omega arith, is)
+
+    by : (t : Bool) → nat_eq m.0 name.0 ≡ t → Contains (m ∷ names) name
+        → (Contains names name → slice_get names (position_or_len (λ (n : NameId). n.0 == name.0) names) ≡ Some name)
+        → slice_get (m ∷ names) (position_or_len (λ (n : NameId). n.0 == name.0) (m ∷ names)) ≡ Some name
+    by true e has ih = rw e (ap (λ (x : NameId). Some x) (same_name m name (eqb-true m.0 name.0 e)))
+    by false e has ih = rw (e, one-add) (ih (later has e))
+
+-- ---- names over an edge
+
+module _ (f : Function) (lists : List (List NameId)) (live : AreLive f.blocks lists) (b : ℕ) (source : Block) (at : slice_get f.blocks b ≡ Some source) where
+  pub live_in : (name : NameId) → IsLive f.blocks name b 0 → Contains (live_at lists b) name
+  live_in name l = (live.exact b name).1 l
+
+  pub live_in_small : (i : ℕ) (name : NameId) → slice_get (live_at lists b) i ≡ Some name → name.0 < length f.names
+  live_in_small i name got =
+      live_name_small f name b 0 ((live.exact b name).0 (subst (Contains (live_at lists b)) (get_or_from_slice_get (live_at lists b) i name name got)
+      (Contains-get_or (live_at lists b) i name (slice_get_within (live_at lists b) i name got))))
+
+  past_ops : slice_get source.ops (length source.ops) ≡ None
+  past_ops = slice_get_past source.ops (length source.ops) (omega arith)
+
+  -- what the terminator reads is live before it
+  pub live_term : (name : NameId) → Contains (read_by_term source.term) name → IsLive f.blocks name b (length source.ops)
+  live_term name has = used b (length source.ops) source at (omega arith) (subst (λ (o : Option SrcOp). Contains (read_by o source.term) name) (sym past_ops) has)
+
+  abbrev start_of : ℕ → ℕ × ℕ
+  start_of c = (c, 0)
+
+  contains_map : (cs : List ℕ) (l : ℕ) → Contains cs l → Contains {X = ℕ × ℕ} (map start_of cs) (l, 0)
+  contains_map [] l (k, below, is) = absurd (omega arith)
+  contains_map (c ∷ cs) l (zero, below, is) = (0, omega arith, ap start_of is)
+  contains_map (c ∷ cs) l (suc k, below, is) = let r = contains_map cs l (k, omega arith, is) in (suc r.0, (let lt = r.1 in omega arith), r.2)
+
+  live_over : (name : NameId) (l : ℕ) → Contains (targets_of b source.term) l → IsLive f.blocks name l 0 → IsLive f.blocks name b (length source.ops)
+  live_over name l to there =
+      kept b (length source.ops) source l 0 at (omega arith) (λ same. let e : None ≡ Some name = ap assigned_by (sym past_ops) ∙ same in cc e)
+      (subst (λ (o : Option SrcOp). Contains (next_by b (length source.ops) o source.term) (l, 0)) (sym past_ops) (contains_map (targets_of b source.term) l to)) there
+
+  -- each name that is live behind the block is live at its end
+  pub live_out : (m : ℕ) (name : NameId) → slice_get (live_after lists (length f.names) b source.term) m ≡ Some name → IsLive f.blocks name b (length source.ops)
+  live_out m name got =
+      let p = λ (n : ℕ). list_any (λ (c : ℕ). is_among (live_at lists c) n) (targets_of b source.term) in
+      let x = at_map name_of (filter p (range_with_len 0 (length f.names))) m name got in
+      let found = any_found (λ (c : ℕ). is_among (live_at lists c) x.0) (targets_of b source.term) (filtered p (range_with_len 0 (length f.names)) m x.0 x.1) in
+      let has = among_contains (live_at lists found.0) x.0 found.2 in
+      live_over name found.0 found.1 (subst (λ (y : NameId). IsLive f.blocks y found.0 0) x.2 ((live.exact found.0 (name_of x.0)).0 has))
+
+  -- each name that is live where the block leads is live behind it
+  pub out_has : (l : ℕ) → Contains (targets_of b source.term) l → (name : NameId) → Contains (live_at lists l) name
+      → Contains (live_after lists (length f.names) b source.term) name
+  out_has l to name has =
+      let h = live_name_small f name l 0 ((live.exact l name).0 has) in
+      filter_has (λ (n : ℕ). list_any (λ (c : ℕ). is_among (live_at lists c) n) (targets_of b source.term)) 0 (length f.names) name.0 (omega arith) (omega (arith, h))
+      (any_true (λ (c : ℕ). is_among (live_at lists c) name.0) (targets_of b source.term) l to (contains_among (live_at lists l) name has))
