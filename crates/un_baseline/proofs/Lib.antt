@@ -41,6 +41,7 @@ pub mod Returning
 pub mod Roomy
 pub mod Shapes
 mod SmallFunctions
+pub mod Solved
 pub mod Sound
 pub mod Sources
 pub mod SpillSteps
