@@ -33,9 +33,11 @@ pub mod OpsIn
 pub mod Outs
 pub mod OutsIn
 pub mod Parameters
+pub mod PlanCosts
 pub mod PlanSchedules
 pub mod Purposes
 pub mod Pushing
+pub mod Reaching
 pub mod RegistersIn
 pub mod Returning
 pub mod Roomy
