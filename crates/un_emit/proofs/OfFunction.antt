@@ -6,33 +6,26 @@ use Rattle.un_isa.specs.Fit.{IsFit}
 use Rattle.un_isa.specs.declared.table.Table.{Table}
 use Rattle.un_ir.specs.declared.extended.Ext.{Ext}
 use Rattle.un_ir.specs.declared.function.Function.{Function}
-use Rattle.un_ir.specs.Extended.{IsLinear, IsExtended}
-use Rattle.un_ir.specs.ExtendOf.{extended_blocks, extend_of}
-use Rattle.un_ir.specs.LinearOf.{AreLive, kind_of_pair, linear_blocks, lin_of}
+use Rattle.un_ir.specs.Extended.{IsExtended}
+use Rattle.un_ir.specs.ExtendOf.{extend_of}
+use Rattle.un_ir.specs.LinearOf.{AreLive, lin_of}
 use Rattle.un_lssa.proofs.FunctionRuns.{linear_runs}
-use Rattle.un_lssa.proofs.KeptFunctions.{made_kept}
-use Rattle.un_extend.proofs.ExtendLinear.{made_kept as extended_kept}
 use Rattle.un_extend.proofs.RunFits.{extend_runs}
+use Rattle.un_problem.proofs.ProblemLaws.{linear_kept, extended_kept}
 use Rattle.un_emit.specs.OfSource.{IsOfSource}
 use Rattle.un_emit.proofs.OfSource.{of_source}
 
 module _ (f : Function) (lists : List (List NameId)) (t : Table) (live : AreLive f.blocks lists) (fit : IsFit t) where
-  linear : IsLinear (lin_of f lists t)
-  linear = made_kept f lists t live fit (map kind_of_pair f.names) (linear_blocks t (length f.names) lists 0 0 f.blocks) refl refl
-
-  extended : IsExtended (extend_of (lin_of f lists t))
-  extended = let l = lin_of f lists t in extended_kept l linear l.names (extended_blocks l.names true [] 0 l.blocks) refl refl
-
   of : IsOfSource f lists (extend_of (lin_of f lists t))
   of =
       let l = lin_of f lists t in
       of_source f lists t l (extend_of l) live refl (λ start n long. linear_runs f lists t start n live long)
-      refl (λ start n. extend_runs l start n linear)
+      refl (λ start n. extend_runs l start n (linear_kept t f lists live fit))
 
 -- the same where it is given by an equation
 module _ (f : Function) (lists : List (List NameId)) (e : Ext) (live : AreLive f.blocks lists) (fit : IsFit e.table) (is : e ≡ extend_of (lin_of f lists e.table)) where
   pub is_extended : IsExtended e
-  is_extended = subst IsExtended (sym is) (extended f lists e.table live fit)
+  is_extended = subst IsExtended (sym is) (extended_kept e.table f lists live fit)
 
   pub is_of_source : IsOfSource f lists e
   is_of_source = subst (IsOfSource f lists) (sym is) (of f lists e.table live fit)

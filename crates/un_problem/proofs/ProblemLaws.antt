@@ -17,9 +17,11 @@ use Rattle.un_ir.specs.declared.extended.ExtBlock.{ExtBlock}
 use Rattle.un_ir.specs.declared.extended.Growth.{Growth}
 use Rattle.un_ir.specs.declared.extended.Value.{Value}
 use Rattle.un_ir.specs.ExtendOf.{extended_blocks, extend_of, grown_block}
-use Rattle.un_ir.specs.Extended.{returns}
+use Rattle.un_ir.specs.Extended.{returns, IsLinear, IsExtended}
 use Rattle.un_ir.specs.LinearOf.{AreLive, linear_blocks, past_block, kind_of_pair, lin_of}
 use Rattle.un_ir.specs.WellFormed.{IsGoodBlock, IsWellFormed}
+use Rattle.un_lssa.proofs.KeptFunctions.{made_kept}
+use Rattle.un_extend.proofs.ExtendLinear.{made_kept as made_extended}
 use Rattle.un_model.specs.Extended.{HasSmallCounts}
 use Rattle.un_model.specs.Options.{AreOptions}
 use Rattle.un_model.specs.Variables.{IsModel, model_of}
@@ -122,3 +124,15 @@ options_are t f o m is = ap (λ (x : Model). x.options) is.is_model
 pub own_model : (t : Table) (f : Function) (o : Options) (m : Model) → IsModelOf t f o m → IsModel m
 own_model t f o m is =
     let same : o ≡ m.options = sym (options_are t f o m is) in subst (λ (p : Options). m ≡ model_of m.ext p) same is.is_model
+
+-- for a table that the compiler works for, the linear and the extended function keep what such functions keep
+pub linear_kept : (t : Table) (f : Function) (lists : List (List NameId)) → AreLive f.blocks lists → IsFit t
+    → IsLinear (lin_of f lists t)
+linear_kept t f lists live fit =
+    made_kept f lists t live fit (map kind_of_pair f.names) (linear_blocks t (length f.names) lists 0 0 f.blocks) refl refl
+
+pub extended_kept : (t : Table) (f : Function) (lists : List (List NameId)) → AreLive f.blocks lists → IsFit t
+    → IsExtended (extend_of (lin_of f lists t))
+extended_kept t f lists live fit =
+    let l = lin_of f lists t in
+    made_extended l (linear_kept t f lists live fit) l.names (extended_blocks l.names true [] 0 l.blocks) refl refl
