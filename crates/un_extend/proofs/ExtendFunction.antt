@@ -27,10 +27,11 @@ good_from : (t : Table) (names : List Kind) (blocks : List ExtBlock) (block : Ex
     → ((k : ℕ) (op : ExtOp) → slice_get ops k ≡ Some op → IsGoodExtOp t names blocks block (before ++ results_of (take k ops)) op)
     → AreGoodOps t names blocks block before ops
 good_from t names blocks block before [] g = tt
-good_from t names blocks block before (op ∷ ops) g =
-    (subst (λ (xs : List TempId). IsGoodExtOp t names blocks block xs op) (append-nil before) (g 0 op refl),
-    good_from t names blocks block (before ++ op.results) ops
-    (λ k other h. subst (λ (xs : List TempId). IsGoodExtOp t names blocks block xs other) (sym (append_assoc before op.results (results_of (take k ops)))) (g (suc k) other h)))
+good_from t names blocks block before (op ∷ ops) g = (
+  subst (λ (xs : List TempId). IsGoodExtOp t names blocks block xs op) (append-nil before) (g 0 op refl),
+  good_from t names blocks block (before ++ op.results) ops
+      (λ k other h. subst (λ (xs : List TempId). IsGoodExtOp t names blocks block xs other) (sym (append_assoc before op.results (results_of (take k ops)))) (g (suc k) other h)),
+)
 
 defined_length : (t : Table) (names : List Kind) (block : ExtBlock) (kind : ExtKind) (op : ExtOp) → length op.results ≡ result_count t block kind
     → length (defined_kinds names block kind op) ≡ length op.results

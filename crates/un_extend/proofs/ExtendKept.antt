@@ -381,9 +381,9 @@ module _ (t : Table) (names : List Kind) (old new : List ExtBlock) (owner : ExtB
       (value_step n sort g (values_grow (n + 1) sorts (with_value n sort g) h) f below (omega (arith, above)) itself kind was)
       (omega (arith, below)) (omega (arith, above, up))
       (λ j other got. (let e = each (suc j) other got in
-          let a : n + suc j ≡ (n + 1) + j = omega arith in
-          let b : length g.values + suc j ≡ length (let grown = with_value n sort g in grown.values) + j = omega (arith, k) in
-          subst (λ (i : ℕ). IsNew ((n + 1) + j) i other) b (subst (λ (m : ℕ). IsNew m (length g.values + suc j) other) a e)))
+      let a : n + suc j ≡ (n + 1) + j = omega arith in
+      let b : length g.values + suc j ≡ length (let grown = with_value n sort g in grown.values) + j = omega (arith, k) in
+      subst (λ (i : ℕ). IsNew ((n + 1) + j) i other) b (subst (λ (m : ℕ). IsNew m (length g.values + suc j) other) a e)))
 
   -- ---- operands
 
@@ -474,10 +474,12 @@ module _ (t : Table) (names : List Kind) (old new : List ExtBlock) (owner : ExtB
         facts = rest.facts;
         next = omega (arith, up, more);
         count = rest.count ∙ one.count;
-        good = λ before numbers. (subst (λ (home : Option Reg). IsGoodOperand names new before (chosen_from x (with_operand x g)) (record { kind = w.kind; home = home })) o.home
-            (good_alts before top one.x (alternatives (slice_get (let grown = with_operand x g in grown.values) i)) x.home w.kind numbers
-            (alts_more (let grown = with_operand x g in grown.next) top one.x _ more one.alts) one.kind_is),
-            rest.good before numbers);
+        good = λ before numbers. (
+          subst (λ (home : Option Reg). IsGoodOperand names new before (chosen_from x (with_operand x g)) (record { kind = w.kind; home = home })) o.home
+              (good_alts before top one.x (alternatives (slice_get (let grown = with_operand x g in grown.values) i)) x.home w.kind numbers
+              (alts_more (let grown = with_operand x g in grown.next) top one.x _ more one.alts) one.kind_is),
+          rest.good before numbers,
+        );
       }
 
   -- ---- Leave and Enter

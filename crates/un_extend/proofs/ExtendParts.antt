@@ -86,33 +86,38 @@ module _ (names : List Kind) (live_in : List NameId) (is_entry saved : Bool) whe
   own_term op out term is = ap (λ (k : ExtKind). (let e = ending_or k op.operands (ending_of (out ∷ [])) in e.term)) is
 
   end_part : (o : Option ExtOp) (g : Growth) → AllAre is_end (option_to_list o) → (term : Term) × EndPart o term g (all (option_to_list o) g)
-  end_part None g h = (Fall, record {
-    front = g.ops;
-    before = record { more = []; is = sym (append-nil g.ops); all = All-nil (λ (op : ExtOp). is_inner op.kind ≡ true); enter = refl; leave = refl };
-    ending = None;
-    are_ends = h;
-    whole = sym (append-nil g.ops);
-    term_was = fall_term;
-    term_is = fall_term;
-    enters = refl;
-    leaves = refl;
-  })
+  end_part None g h = (
+    Fall,
+    record {
+      front = g.ops;
+      before = record { more = []; is = sym (append-nil g.ops); all = All-nil (λ (op : ExtOp). is_inner op.kind ≡ true); enter = refl; leave = refl };
+      ending = None;
+      are_ends = h;
+      whole = sym (append-nil g.ops);
+      term_was = fall_term;
+      term_is = fall_term;
+      enters = refl;
+      leaves = refl;
+    },
+  )
   end_part (Some op) g h =
       let k = end_term op.kind (All-head (λ (op : ExtOp). is_end op.kind ≡ true) op [] h) in
       let e : Ended names live_in is_entry saved k.0 g (with_extended names live_in is_entry saved op g) =
       subst (λ (kind : ExtKind). Ended names live_in is_entry saved k.0 g (with_extended names live_in is_entry saved (record { kind = kind; operands = op.operands; results = op.results }) g)) (sym k.1)
-      (end_add names live_in is_entry saved k.0 op.operands op.results g) in
-      (k.0, record {
-        front = e.front;
-        before = e.before;
-        ending = Some e.last;
-        are_ends = All-cons (λ (op : ExtOp). is_end op.kind ≡ true) e.last [] (ap is_end e.is_last) (All-nil (λ (op : ExtOp). is_end op.kind ≡ true));
-        whole = e.whole;
-        term_was = λ out q. own_term op out k.0 k.1;
-        term_is = λ out q. own_term e.last out k.0 e.is_last;
-        enters = count_one is_enter e.last (End k.0) e.is_last refl;
-        leaves = count_one is_leave e.last (End k.0) e.is_last refl;
-      })
+      (end_add names live_in is_entry saved k.0 op.operands op.results g) in (
+        k.0,
+        record {
+          front = e.front;
+          before = e.before;
+          ending = Some e.last;
+          are_ends = All-cons (λ (op : ExtOp). is_end op.kind ≡ true) e.last [] (ap is_end e.is_last) (All-nil (λ (op : ExtOp). is_end op.kind ≡ true));
+          whole = e.whole;
+          term_was = λ out q. own_term op out k.0 k.1;
+          term_is = λ out q. own_term e.last out k.0 e.is_last;
+          enters = count_one is_enter e.last (End k.0) e.is_last refl;
+          leaves = count_one is_leave e.last (End k.0) e.is_last refl;
+        },
+      )
 
   pub record Shaped (ops was : List ExtOp) : Type 0 where
     pub parts : Parts

@@ -263,11 +263,6 @@ end_term (Copy node) h = absurd (cc h)
 end_term Enter h = absurd (cc h)
 end_term Leave h = absurd (cc h)
 
-
-
-
-
-
 pub parts_end : (ops : List ExtOp) (p : Parts) → IsMadeOf ops p → ending_of ops ≡ ending_of (option_to_list p.ending ++ p.out ∷ [])
 parts_end ops p m =
     let out_list = p.late ++ p.out ∷ [] in
