@@ -1,7 +1,7 @@
 #!/usr/bin/env bash
-# Prints the mean times of a call of `live_in`, `linearize`, `extend`, `build` and `violations` on functions of 5 to 80
-# operations in 1 to 16 blocks, a fifth of the operations calls, with how many variables each function's model has. Run it by
-# hand; the gate does not run it. A number as its word says how often each call is made: 200 without it.
+# Prints how long the processor takes in the mean for a call of `live_in`, `linearize`, `extend`, `build` and `violations` on
+# functions of 5 to 80 operations in 1 to 16 blocks, a fifth of the operations calls, with how many variables each function's
+# model has. Run it by hand; the gate does not run it. A number as its word says how often each call is made: 200 without it.
 set -eu
 top=$(cd "$(dirname "$0")/.." && pwd)
 rounds=${1-200}

@@ -1,5 +1,6 @@
 //! Times the parts of a function's problem. Reads a function; with a number as its word it calls each part so often and prints
-//! the mean time of a call, and without a word it prints how many variables the function's model has. `bench/model.sh` runs it.
+//! how long the processor took for a call in the mean, and without a word it prints how many variables the function's model has.
+//! `bench/model.sh` runs it.
 #![tactic(auto)]
 
 mod parts;

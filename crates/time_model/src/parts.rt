@@ -4,10 +4,9 @@
 ghost use Rattle.un_ir.specs.LinearOf.{AreLive};
 ghost use Rattle.un_model.specs.Variables.{IsModel};
 
-use crate::times::{mean, write_time};
+use crate::times::{mean, now, write_time};
 use std::alloc::Global;
-use std::rt::Clock;
-use std::time::Instant;
+use std::time::CpuClock;
 use un_extend::extend::extend;
 use un_ir::extended::{Ext, LiveSets, Lssa};
 use un_ir::function::Function;
@@ -27,8 +26,8 @@ pub fn variables(alloc: Global, f: &Function) -> Option<usize> {
 }
 
 /// The mean time of finding live names.
-fn time_live(rt: &impl Clock, alloc: Global, f: &Function, rounds: u32) -> Option<u64> {
-    let start = Instant::now(rt).ok()?;
+fn time_live(rt: &impl CpuClock, alloc: Global, f: &Function, rounds: u32) -> Option<u64> {
+    let start = now(rt)?;
     for _ in 0..rounds {
         live_in(alloc, f).ok()?;
     }
@@ -37,7 +36,7 @@ fn time_live(rt: &impl Clock, alloc: Global, f: &Function, rounds: u32) -> Optio
 
 /// The mean time of making the linear function.
 fn time_linear(
-    rt: &impl Clock,
+    rt: &impl CpuClock,
     alloc: Global,
     f: &Function,
     live: &LiveSets,
@@ -45,7 +44,7 @@ fn time_linear(
 ) -> Option<u64>
     requires { AreLive f.now.blocks live.now.at_start }
 {
-    let start = Instant::now(rt).ok()?;
+    let start = now(rt)?;
     for _ in 0..rounds {
         linearize(alloc, f, live, &hexagon()).ok()?;
     }
@@ -53,8 +52,8 @@ fn time_linear(
 }
 
 /// The mean time of making the extended function.
-fn time_extended(rt: &impl Clock, alloc: Global, l: &Lssa, rounds: u32) -> Option<u64> {
-    let start = Instant::now(rt).ok()?;
+fn time_extended(rt: &impl CpuClock, alloc: Global, l: &Lssa, rounds: u32) -> Option<u64> {
+    let start = now(rt)?;
     for _ in 0..rounds {
         extend(alloc, l).ok()?;
     }
@@ -62,8 +61,8 @@ fn time_extended(rt: &impl Clock, alloc: Global, l: &Lssa, rounds: u32) -> Optio
 }
 
 /// The mean time of building the model.
-fn time_model(rt: &impl Clock, alloc: Global, e: &Ext, rounds: u32) -> Option<u64> {
-    let start = Instant::now(rt).ok()?;
+fn time_model(rt: &impl CpuClock, alloc: Global, e: &Ext, rounds: u32) -> Option<u64> {
+    let start = now(rt)?;
     for _ in 0..rounds {
         build(alloc, e, &default_options()).ok()?;
     }
@@ -72,7 +71,7 @@ fn time_model(rt: &impl Clock, alloc: Global, e: &Ext, rounds: u32) -> Option<u6
 
 /// The mean time of finding the clauses that a solution breaks.
 fn time_violations(
-    rt: &impl Clock,
+    rt: &impl CpuClock,
     alloc: Global,
     m: &Model,
     s: &Solution,
@@ -80,7 +79,7 @@ fn time_violations(
 ) -> Option<u64>
     requires { IsModel m.now }
 {
-    let start = Instant::now(rt).ok()?;
+    let start = now(rt)?;
     for _ in 0..rounds {
         violations(alloc, m, s).ok()?;
     }
@@ -94,25 +93,30 @@ fn linear_of(alloc: Global, f: &Function) -> Option<Lssa> {
 }
 
 /// The time of the linear function, behind that of live names.
-fn time_behind_live(rt: &impl Clock, alloc: Global, f: &Function, rounds: u32) -> Option<u64> {
+fn time_behind_live(rt: &impl CpuClock, alloc: Global, f: &Function, rounds: u32) -> Option<u64> {
     let live = live_in(alloc, f).ok()?;
     time_linear(rt, alloc, f, &live, rounds)
 }
 
 /// The time of the extended function, behind that of the linear one.
-fn time_behind_linear(rt: &impl Clock, alloc: Global, f: &Function, rounds: u32) -> Option<u64> {
+fn time_behind_linear(rt: &impl CpuClock, alloc: Global, f: &Function, rounds: u32) -> Option<u64> {
     let linear = linear_of(alloc, f)?;
     time_extended(rt, alloc, &linear, rounds)
 }
 
 /// The time of the model, behind that of the extended function.
-fn time_behind_extended(rt: &impl Clock, alloc: Global, f: &Function, rounds: u32) -> Option<u64> {
+fn time_behind_extended(
+    rt: &impl CpuClock,
+    alloc: Global,
+    f: &Function,
+    rounds: u32,
+) -> Option<u64> {
     let ext = extended(alloc, f).ok()?;
     time_model(rt, alloc, &ext, rounds)
 }
 
 /// The time of the clauses that the solution which spills every name breaks, behind that of the model.
-fn time_behind_model(rt: &impl Clock, alloc: Global, f: &Function, rounds: u32) -> Option<u64> {
+fn time_behind_model(rt: &impl CpuClock, alloc: Global, f: &Function, rounds: u32) -> Option<u64> {
     let m = model(alloc, f, &default_options()).ok()?;
     let s = spilled(alloc, f, &m).ok()?;
     time_violations(rt, alloc, &m, &s, rounds)
@@ -120,7 +124,7 @@ fn time_behind_model(rt: &impl Clock, alloc: Global, f: &Function, rounds: u32) 
 
 /// Prints the mean time of a call of each part, in the order in which one stands on another.
 pub fn write_times(
-    rt: &(impl Clock + Print),
+    rt: &(impl CpuClock + Print),
     alloc: Global,
     f: &Function,
     rounds: u32,
