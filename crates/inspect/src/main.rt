@@ -7,13 +7,11 @@ mod domains;
 mod emission;
 mod input;
 mod part;
-mod refusal;
 mod request;
 mod shown;
 mod solution;
 mod variables;
 
-use crate::refusal::write_line;
 use crate::request::asked_for;
 use crate::shown::text_for;
 use std::alloc::AllocError;
@@ -24,6 +22,7 @@ use un_base::files::{StdSink, StdSource};
 use un_base::status::Status;
 use un_base::transfer::write_all;
 use un_base::words::Word;
+use un_top::faults::write_line;
 
 /// The arguments without the program's own name.
 fn words(rt: &(impl Env + AllocGlobal)) -> io::Result<Vec<Word>> {

@@ -62,12 +62,7 @@ fn verdict(
 }
 
 /// The code of values of the model's variables.
-fn code(
-    alloc: Global,
-    f: &Function,
-    options: &Options,
-    s: &Solution,
-) -> Result<Vec<u8>, NoMemory>
+fn code(alloc: Global, f: &Function, options: &Options, s: &Solution) -> Result<Vec<u8>, NoMemory>
     requires { AreOptions options.now }
 {
     let m = model(alloc, f, options)?;

@@ -178,8 +178,11 @@ module _ (e : Ext) (o : Options) (roomy : AreRoomy e o) (fit : IsFit e.table) (e
       subst (Steps p) (sym whole)
       (operands_good e o roomy entry block (live e o roomy fit extended b entry block at_b) xs g 0 p (made ∷ [])
       (ready_free (purpose_of_out s.term) (out_free s.term) 0 xs g known.values reads) (omega arith)
-      (λ q. (out_in e o entry block ys (results_of (take among.0 block.ops)) (news_have e o entry block from xs g known.values reads) zip q
-      (purpose_at s.term (made ∷ [])), tt)))
+      (λ q. (
+        out_in e o entry block ys (results_of (take among.0 block.ops)) (news_have e o entry block from xs g known.values reads) zip q
+            (purpose_at s.term (made ∷ [])),
+        tt,
+      )))
 
   -- ---- terminators
 
@@ -190,8 +193,10 @@ module _ (e : Ext) (o : Options) (roomy : AreRoomy e o) (fit : IsFit e.table) (e
   end_steps term xs g p tail ready none rest =
       let made : ExtOp = record { kind = End term; operands = new_operands xs g; results = [] } in
       operands_good e o roomy entry block (live e o roomy fit extended b entry block at_b) xs g 0 p (made ∷ tail) ready (omega arith)
-      (λ q. (end_in e o roomy fit entry block q (purpose_at s.term (made ∷ tail)) term (new_operands xs g),
-      rest (progress_of e block s q (purpose_at s.term (made ∷ tail)) made (End term)) refl))
+      (λ q. (
+        end_in e o roomy fit entry block q (purpose_at s.term (made ∷ tail)) term (new_operands xs g),
+        rest (progress_of e block s q (purpose_at s.term (made ∷ tail)) made (End term)) refl,
+      ))
 
   end_whole : (term : Term) (lead us tail : List ExtOp) (made : ExtOp)
       → (lead ++ (us ++ (made ∷ ([] ++ enter_ops entry (End term))))) ++ tail ≡ lead ++ (us ++ (made ∷ tail))
@@ -223,11 +228,11 @@ module _ (e : Ext) (o : Options) (roomy : AreRoomy e o) (fit : IsFit e.table) (e
       → AreReady e o roomy entry block (live e o roomy fit extended b entry block at_b) Link 0 (reads_of link None ∷ []) g
   ready_link value g known = (
     (λ v is.
-    let ok = known.values.at link v link_from is in
-    let f = known.begins.first v is in
-    let lists : temp home ∷ f.0 ≡ temp ok.first ∷ ok.more = sym f.1 ∙ ok.own in
-    let same : temp home ≡ temp ok.first = cc lists in
-    record { ok = ok; operand = subst (λ (y : TempId). is_home e.table entry block y LINK ≡ true) same is_link }),
+        let ok = known.values.at link v link_from is in
+        let f = known.begins.first v is in
+        let lists : temp home ∷ f.0 ≡ temp ok.first ∷ ok.more = sym f.1 ∙ ok.own in
+        let same : temp home ≡ temp ok.first = cc lists in
+        record { ok = ok; operand = subst (λ (y : TempId). is_home e.table entry block y LINK ≡ true) same is_link }),
     tt,
   )
 

@@ -52,11 +52,11 @@ module _ (e : Ext) (o : Options) (roomy : AreRoomy e o) (entry : Bool) (block : 
 
   pub copy_in : (node : NodeCopy) (alts : List TempId) (n cycle : ℕ) (m : Move) → MoveIn alts n m
       → StepIn e o entry block (copy_op node alts n) (record {
-    instr = m.instr;
-    cycle = cycle;
-    choices = replicate (length (chosen_operands (copy_op node alts n))) m.place;
-    registers = m.register ∷ [];
-  })
+        instr = m.instr;
+        cycle = cycle;
+        choices = replicate (length (chosen_operands (copy_op node alts n))) m.place;
+        registers = m.register ∷ [];
+      })
   copy_in D alts n cycle m h = record { instr = (h.instr, tt); choices = tt; registers = (h.register, tt) }
   copy_in D2 alts n cycle m h = record { instr = (h.instr, tt); choices = ((omega arith, h.place), tt); registers = (h.register, tt) }
   copy_in U alts n cycle m h = record { instr = (h.instr, tt); choices = ((omega arith, h.place), tt); registers = (h.register, tt) }

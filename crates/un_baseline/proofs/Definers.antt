@@ -185,7 +185,7 @@ each_step R n (op ∷ ops) (s ∷ steps) e h =
     let z : n + 0 ≡ n = omega arith in (
       subst (λ (m : ℕ). R m op s) z (h 0 op s refl refl),
       each_step R (n + 1) ops steps (omega arith) (λ k o t at there.
-      let q : n + suc k ≡ n + 1 + k = omega arith in subst (λ (m : ℕ). R m o t) q (h (suc k) o t at there)),
+          let q : n + suc k ≡ n + 1 + k = omega arith in subst (λ (m : ℕ). R m o t) q (h (suc k) o t at there)),
     )
 
 -- the operation before place k that defines a temporary

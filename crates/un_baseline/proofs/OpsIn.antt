@@ -59,7 +59,7 @@ places_zip f h k (x ∷ xs) each =
     let z : k + 0 ≡ k = omega arith in (
       subst (λ (m : ℕ). InDomain (f m x) (h m x)) z (each 0 x refl),
       places_zip f h (k + 1) xs (λ j y at.
-      let q : k + suc j ≡ k + 1 + j = omega arith in subst (λ (m : ℕ). InDomain (f m y) (h m y)) q (each (suc j) y at)),
+          let q : k + suc j ≡ k + 1 + j = omega arith in subst (λ (m : ℕ). InDomain (f m y) (h m y)) q (each (suc j) y at)),
     )
 
 same_zip : {A : Type 0} (r : ℕ) (h : ℕ → A → Domain) (k : ℕ) (xs : List A) → ((j : ℕ) (x : A) → InDomain r (h j x))
@@ -80,7 +80,7 @@ placed_choices f k (y ∷ ys) each =
     let here = subst (λ (m : ℕ). f m y ≤ length y.alts - 1) z (each 0 y refl) in (
       (omega arith, here),
       placed_choices f (k + 1) ys (λ j x at.
-      let q : k + suc j ≡ k + 1 + j = omega arith in subst (λ (m : ℕ). f m x ≤ length x.alts - 1) q (each (suc j) x at)),
+          let q : k + suc j ≡ k + 1 + j = omega arith in subst (λ (m : ℕ). f m x ≤ length x.alts - 1) q (each (suc j) x at)),
     )
 
 pub any_from_at : {A : Type 0} (test : ℕ → A → Bool) (k : ℕ) (xs : List A) (m : ℕ) (x : A) → slice_get xs m ≡ Some x → test (k + m) x ≡ true

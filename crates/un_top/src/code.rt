@@ -8,7 +8,6 @@ ghost use Rattle.un_model.specs.Variables.{IsModel};
 ghost use Rattle.un_problem.specs.Problems.{IsModelOf, default_options};
 ghost use Rattle.un_top.specs.Reports.{IsCodeOf};
 
-use un_problem::problem::{default_options, model};
 use std::alloc::Global;
 use un_base::memory_error::NoMemory;
 use un_emit::emit::emit;
@@ -16,6 +15,7 @@ use un_ir::function::Function;
 use un_model::cost::cost;
 use un_model::model::{Model, Solution};
 use un_packet::code::Code;
+use un_problem::problem::{default_options, model};
 use un_spilled::spilled::spilled;
 
 /// Code with its cost.
