@@ -1,6 +1,6 @@
 -- The end of a block reads what stands where it is kept; the copies of its operands do nothing.
-use Rattle.std.proofs.Common.{◌≡◌, ◌≢◌, ℕ, zero, suc, ◌+◌, ◌-◌, ◌<◌, ◌≤◌, ◌⊎◌, ⊎_elim, inl, inr, Bool, true, false, List, [], ◌∷◌, ◌++◌, length, map, Option, Some, None, refl, sym, ap, subst, ◌∙◌, append_assoc, arith}
-use Rattle.std.specs.Prelude.{◌==◌, if◌then◌else◌, slice_get, slice_index, IfSome, All}
+use Rattle.std.proofs.Common.{◌≡◌, ℕ, zero, suc, ◌+◌, ◌<◌, ◌≤◌, ◌⊎◌, inl, inr, Bool, true, false, List, [], ◌∷◌, ◌++◌, length, Option, Some, None, refl, sym, ap, subst, ◌∙◌, append_assoc, arith}
+use Rattle.std.specs.Prelude.{◌==◌, slice_get, slice_index, IfSome, All}
 use Rattle.std.specs.List.{AllZip}
 use Rattle.std.proofs.lemmas.Bool.Decides.{nat_tests}
 use Rattle.std.proofs.lemmas.List.Elements.{All-nil, All-cons}
@@ -31,14 +31,14 @@ use Rattle.un_model.specs.Pairs.{places_from}
 use Rattle.un_model.specs.Schedules.{chosen}
 use Rattle.un_model.specs.Solutions.{InSpace}
 use Rattle.un_baseline.specs.declared.plan.Purpose.{Purpose}
-use Rattle.un_baseline.specs.declared.plan.Purpose.TheVariants.{Operands, Link, Returned, Unread}
+use Rattle.un_baseline.specs.declared.plan.Purpose.TheVariants.{Returned, Unread}
 use Rattle.un_baseline.specs.declared.plan.Setting.{Setting}
 use Rattle.un_baseline.specs.declared.plan.Progress.{Progress}
 use Rattle.un_baseline.specs.Plans.{Step, planned_issue, planned_read}
-use Rattle.un_baseline.specs.SpillEverywhere.{purpose_at, no_move, operand_copy, truth_copy, out_place, is_placed}
+use Rattle.un_baseline.specs.SpillEverywhere.{purpose_at, no_move, operand_copy, truth_copy, out_place}
 use Rattle.un_baseline.proofs.Carried.{Carries, carries_operand, chosen_own}
 use Rattle.un_baseline.proofs.Grown.{copy_ops, operand_ops_by, operand_ops, operands_ops}
-use Rattle.un_baseline.proofs.Sound.{Seen, after, GoodRead, NewOk, Differ, Avoids}
+use Rattle.un_baseline.proofs.Sound.{Seen, GoodRead, NewOk, Differ}
 use Rattle.un_baseline.proofs.Standing.{Stands, good_read}
 use Rattle.un_baseline.proofs.Timing.{pairs_nil}
 use Rattle.un_baseline.proofs.Walk.{Good, Idle, idle_none, idle_then, past_copy, idle_copy}
@@ -149,8 +149,7 @@ module _ (c : ℕ) (H : Seen → List Read → Type 0) (b end : ℕ) (e : Ext) (
   out_later g g' seen seen' count j [] (r ∷ rs) f stands h = absurd h
   out_later g g' seen seen' count j (x ∷ xs) [] f stands h = absurd h
   out_later g g' seen seen' count j (x ∷ xs) (r ∷ rs) f stands h =
-      let k = h.0 in
-      (
+      let k = h.0 in (
         record {
           own = k.own;
           sort = k.sort;
@@ -182,8 +181,7 @@ module _ (c : ℕ) (H : Seen → List Read → Type 0) (b end : ℕ) (e : Ext) (
   out_reads g seen count j (x ∷ xs) (r ∷ rs) h =
       let k = h.0 in
       let y = chosen_from x (with_operand x g) in
-      let place = k.chooses y (first_alternative x g k.own k.sort k.place k.within k.carries) in
-      (
+      let place = k.chooses y (first_alternative x g k.own k.sort k.place k.within k.carries) in (
         (
           subst (λ (n : ℕ). Stands c b n r seen) (sym (ap (λ (i : ℕ). (chosen y.alts i).0) place
               ∙ ap (λ (z : TempId). z.0) (chosen_own x g k.own k.sort k.place k.carries k.within))) k.stands,
@@ -217,8 +215,7 @@ module _ (c : ℕ) (H : Seen → List Read → Type 0) (b end : ℕ) (e : Ext) (
         let st' = h.0.0 in
         let good = good_read c b k r seen st' q temp_is block_is (subst (λ (x : Option Op). InSpace r (space_read x j)) (sym free) tt) h.0.1 in
         let rest = ends_good (j + 1) ys rs (λ m z got. (let n : j + 1 + m ≡ j + suc m = omega arith in
-        ap (slice_index st.choices) n ∙ places (suc m) z got ∙ ap (λ (x : ℕ). out_place e.names block.live_out s count s.term x z) (sym n))) h.1 in
-        (
+        ap (slice_index st.choices) n ∙ places (suc m) z got ∙ ap (λ (x : ℕ). out_place e.names block.live_out s count s.term x z) (sym n))) h.1 in (
           All-cons (GoodRead c seen) q (places_from (planned_read i st) (j + 1) ys) good rest.0,
           (record { temp = st'.temp; there = ap (slice_get seen.made) temp_is ∙ st'.there; reg = st'.reg }, rest.1),
         )
@@ -233,8 +230,7 @@ module _ (c : ℕ) (H : Seen → List Read → Type 0) (b end : ℕ) (e : Ext) (
       let i = planned_issue b end n op st in
       let reads = places_from (planned_read i st) 0 ys in
       let good = ends_good seen i st (length ys) refl refl 0 ys rs (λ m y got. (let at : 0 + m ≡ m = omega arith in ap (slice_index (places_from f 0 ys)) at ∙ place_of f 0 m ys y got)) h in
-      let no_call : i.instr ≡ Some Call → ⊥ = λ call. cc call in
-      (
+      let no_call : i.instr ≡ Some Call → ⊥ = λ call. cc call in (
         (
           record {
             reads = good.0;
