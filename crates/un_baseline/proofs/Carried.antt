@@ -15,9 +15,8 @@ use Rattle.un_ir.specs.Linear.{first_of}
 use Rattle.un_ir.specs.ExtendOf.{copy_count, new_temps, own_temps, value_of, with_value, with_values, with_operand_by, with_operand, with_operands, alternatives, chosen_from}
 use Rattle.un_model.specs.Schedules.{chosen}
 use Rattle.un_baseline.specs.SpillEverywhere.{last_place}
-use Rattle.un_baseline.proofs.Grown.{append_nil, operand_next_by}
-use Rattle.un_baseline.proofs.Sound.{there_append}
-use Rattle.un_baseline.proofs.Standing.{there_last, there_left}
+use Rattle.un_baseline.proofs.Grown.{operand_next_by}
+use Rattle.un_baseline.proofs.Items.{get_left, there_last, there_left, append_nil}
 
 set_same : {X : Type 0} (xs : List X) (i : ℕ) (y : X) → i < length xs → slice_get (set xs i y) i ≡ Some y
 set_same [] i y h = absurd (omega arith)
@@ -55,7 +54,7 @@ pub carries_value : (n : ℕ) (sort' : Sort) (g : Growth) (x : ℕ) (own : List 
     → Carries (with_value n sort' g) x own sort
 carries_value n sort' g x own sort h = record {
   value = h.value;
-  at = there_append g.values (value_of n sort' g ∷ []) x h.value h.at;
+  at = get_left g.values (value_of n sort' g ∷ []) x h.value h.at;
   is_own = h.is_own;
   is_sort = h.is_sort;
   more = h.more;

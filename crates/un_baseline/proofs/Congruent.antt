@@ -39,17 +39,16 @@ use Rattle.un_model.specs.Pairs.{places_from, pairs_from, joined}
 use Rattle.un_baseline.specs.Plans.{Step, BlockPlan, planned_issue, planned_issues, planned_read, planned_reads, planned_reads_by, over_plans}
 use Rattle.un_baseline.specs.SpillEverywhere.{slot_of, setting_of, block_plan, block_plans}
 use Rattle.un_baseline.proofs.Counts.{results_count}
-use Rattle.un_baseline.proofs.Grown.{append_nil}
 use Rattle.un_baseline.proofs.Lasts.{EndsOut, ends_start, ends_bodies, ends_tail, handed_at, filter_none, filter_parts}
 use Rattle.un_baseline.proofs.Lives.{place_found, out_has}
 use Rattle.un_baseline.proofs.Made.{lasting_at, place_there, planned_made}
-use Rattle.un_baseline.proofs.Openings.{get_left, get_right, get_map}
 use Rattle.un_baseline.proofs.Outs.{ReadsFrom}
-use Rattle.un_baseline.proofs.Sound.{Seen, there_append}
+use Rattle.un_baseline.proofs.Sound.{Seen}
 use Rattle.un_baseline.proofs.Starts.{Fresh}
 use Rattle.un_baseline.proofs.Walk.{AreGoodSteps, seen_after, seen_is}
 use Rattle.un_baseline.proofs.Walked.{no_slot_clobbered, regs_kept, regs_apart, IsBelow, steps_below, steps_size, below_weaker, suits_of, more, more_more, E, made_block, ext_from, grown_values, grown_next}
 use Rattle.un_baseline.proofs.Whole.{bound_rooms, Handed, ops_are, term_is, starts, start_size, whole_good, start_made}
+use Rattle.un_baseline.proofs.Items.{get_left, get_right, get_map, append_nil}
 
 -- ---- reads of other blocks
 
@@ -235,7 +234,7 @@ module _ (f : Function) (lists : List (List NameId)) (t : Table) (fit : IsFit t)
       module _ (F : Seen) (is' : List Issue) (rs' : List Read) (ms' : List LiveRange) (final : F ≡ more seen1 is' rs' ms')
           (past : All (λ (q : Read). b + 1 ≤ q.block.0) rs') where
         longer : Longer seen1 F
-        longer k m got = subst (λ (z : Seen). slice_get z.made k ≡ Some m) (sym final) (there_append seen1.made ms' k m got)
+        longer k m got = subst (λ (z : Seen). slice_get z.made k ≡ Some m) (sym final) (get_left seen1.made ms' k m got)
 
         reads_are : filter (is_live_out b) F.reads ≡ filter (is_live_out b) (planned_reads b n B p)
         reads_are =

@@ -44,7 +44,7 @@ use Rattle.un_baseline.specs.declared.plan.Progress.{Progress}
 use Rattle.un_baseline.specs.declared.plan.TheConstants.{PREDICATE}
 use Rattle.un_baseline.specs.SpillEverywhere.{purpose_of_out, slot_of, is_placed, kept_place, copies_of, out_place, handed_place, after_end, other_progress}
 use Rattle.un_baseline.proofs.Carried.{carries_same, carries_operands}
-use Rattle.un_baseline.proofs.Grown.{append_nil, operands_ops, enter_ops, all_ops}
+use Rattle.un_baseline.proofs.Grown.{operands_ops, enter_ops, all_ops}
 use Rattle.un_baseline.proofs.Sound.{Seen}
 use Rattle.un_baseline.proofs.Standing.{Stands}
 use Rattle.un_baseline.proofs.Walk.{Good}
@@ -52,6 +52,7 @@ use Rattle.un_baseline.proofs.Arrivals.{truth, operands_arrive, sort_by}
 use Rattle.un_baseline.proofs.Going.{SavedAt, LinkAt, Going, kept_as}
 use Rattle.un_baseline.proofs.Outs.{ReadsFrom, AreOut, AreOutReads, operands_rest, out_later, out_reads, out_good}
 use Rattle.un_baseline.proofs.Tailing.{transfer_good}
+use Rattle.un_baseline.proofs.Items.{append_nil}
 
 module _ (c : ℕ) (H : Seen → List Read → Type 0) (b end : ℕ) (e : Ext) (block : ExtBlock) (s : Setting) (fit : IsFit e.table)
     (free : (r : ℕ) → 36 ≤ r → in_mask c r ≡ false) (f : Function) (source : Block) (at : slice_get f.blocks b ≡ Some source)

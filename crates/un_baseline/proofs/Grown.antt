@@ -17,10 +17,7 @@ use Rattle.un_ir.specs.declared.extended.Sort.{Sort}
 use Rattle.un_ir.specs.Extended.{temp, is_return}
 use Rattle.un_ir.specs.Linear.{first_of}
 use Rattle.un_ir.specs.ExtendOf.{copy_op, frame_op, with_op, with_copies, copy_count_by, copy_count, new_temps, with_value, with_values, with_operand_by, with_operand, with_operands, new_operands, sorts_of, with_results, with_leave, with_enter, with_extended, with_all_extended}
-
-pub append_nil : {A : Type 0} (xs : List A) → xs ++ [] ≡ xs
-append_nil [] = refl
-append_nil {A} (x ∷ xs) = ap (λ (ys : List A). x ∷ ys) (append_nil xs)
+use Rattle.un_baseline.proofs.Items.{append_nil}
 
 -- ---- copies
 

@@ -34,8 +34,9 @@ use Rattle.un_model.specs.Pairs.{places_from, pairs_from, joined}
 use Rattle.un_model.specs.Schedules.{is_delimiter}
 use Rattle.un_baseline.specs.Plans.{Step, planned_issue, planned_read, planned_reads_by}
 use Rattle.un_baseline.proofs.Grown.{copy_ops, value_ops, values_ops, operand_ops_by, operand_ops, operands_ops, leave_ops, enter_ops, made_op, behind_op, extended_ops, all_ops}
-use Rattle.un_baseline.proofs.Sound.{Seen, after, there_append}
+use Rattle.un_baseline.proofs.Sound.{Seen, after}
 use Rattle.un_baseline.proofs.Walk.{AreGoodSteps, Wanted, with_step, seen_after}
+use Rattle.un_baseline.proofs.Items.{get_left}
 
 -- an operation that is no block's end, and reads nothing where it is a block's start
 pub record IsInside (op : ExtOp) : Type 0 where
@@ -161,9 +162,9 @@ module _ (names : List Kind) (live_in : List NameId) (entry saved : Bool) where
 
 -- ---- what passes
 
-filter-append : {A : Type 0} (p : A → Bool) (xs ys : List A) → filter p (xs ++ ys) ≡ filter p xs ++ filter p ys
-filter-append p [] ys = refl
-filter-append {A} p (x ∷ xs) ys = by (p x) (filter-append p xs ys)
+pub filter_parts : {A : Type 0} (p : A → Bool) (xs ys : List A) → filter p (xs ++ ys) ≡ filter p xs ++ filter p ys
+filter_parts p [] ys = refl
+filter_parts {A} p (x ∷ xs) ys = by (p x) (filter_parts p xs ys)
   where
     by : (t : Bool) → filter p (xs ++ ys) ≡ filter p xs ++ filter p ys
         → (if t then x ∷ filter p (xs ++ ys) else filter p (xs ++ ys)) ≡ (if t then x ∷ filter p xs else filter p xs) ++ filter p ys
@@ -178,9 +179,6 @@ pub filter_whole : {A : Type 0} (p : A → Bool) (xs : List A) → All (λ (x : 
 filter_whole p [] h = refl
 filter_whole {A} p (x ∷ xs) h = rw (h 0 x (omega arith)) (ap (λ (ys : List A). x ∷ ys)
     (filter_whole p xs (λ k d lt. h (suc k) d (omega arith))))
-
-pub filter_parts : {A : Type 0} (p : A → Bool) (xs ys : List A) → filter p (xs ++ ys) ≡ filter p xs ++ filter p ys
-filter_parts p xs ys = filter-append p xs ys
 
 all_places : {A B : Type 0} (P : B → Type 0) (f : ℕ → A → B) (j : ℕ) (xs : List A) → ((k : ℕ) (x : A) → P (f k x))
     → All P (places_from f j xs)
@@ -272,7 +270,7 @@ module _ (c : ℕ) (H : Seen → List Read → Type 0) (b end : ℕ) where
   made_later n seen (op ∷ ops) [] k m h = h
   made_later n seen (op ∷ ops) (s ∷ steps) k m h =
       let seen' = with_step c H b end seen n op s in
-      made_later (n + 1) seen' ops steps k m (there_append seen.made _ k m h)
+      made_later (n + 1) seen' ops steps k m (get_left seen.made _ k m h)
 
   nil_behind : (xs : List Read) → xs ++ [] ≡ xs
   nil_behind [] = refl
@@ -300,7 +298,7 @@ module _ (c : ℕ) (H : Seen → List Read → Type 0) (b end : ℕ) where
       let none = filter_none (is_live_out b) rs (inside_none n op s op.kind refl inside) in
       record {
         mid = rest.mid;
-        holds = subst (H rest.mid) (sym (filter-append (is_live_out b) rs (reads_by (n + 1) ops steps)
+        holds = subst (H rest.mid) (sym (filter_parts (is_live_out b) rs (reads_by (n + 1) ops steps)
             ∙ ap (λ (xs : List Read). xs ++ filter (is_live_out b) (reads_by (n + 1) ops steps)) none)) rest.holds;
         later = rest.later;
       }

@@ -12,6 +12,7 @@ pub mod Fronts
 pub mod Going
 pub mod Grown
 pub mod Holding
+pub mod Items
 pub mod Kept
 pub mod Lasts
 pub mod Layouts

@@ -37,7 +37,7 @@ use Rattle.un_baseline.specs.declared.plan.Setting.{Setting}
 use Rattle.un_baseline.specs.declared.plan.Progress.{Progress}
 use Rattle.un_baseline.specs.SpillEverywhere.{slot_of, is_placed, last_place, kept_place, start_register, other_progress}
 use Rattle.un_baseline.proofs.Carried.{Carries, carries_same}
-use Rattle.un_baseline.proofs.Grown.{append_nil, enter_ops, values_ops, value_next, extended_ops}
+use Rattle.un_baseline.proofs.Grown.{enter_ops, values_ops, value_next, extended_ops}
 use Rattle.un_baseline.proofs.Sound.{Seen}
 use Rattle.un_baseline.proofs.Standing.{Stands, Front}
 use Rattle.un_baseline.proofs.Timing.{pairs_append, pairs_nil}
@@ -47,33 +47,9 @@ use Rattle.un_baseline.proofs.Bodies.{Named, own_size, not_placed}
 use Rattle.un_baseline.proofs.Going.{SavedAt, LinkAt, Going}
 use Rattle.un_baseline.proofs.Tailing.{enter_good}
 use Rattle.un_baseline.proofs.Starts.{AreApart, Fresh, start_at, start_good, value_at, values_size, values_ops_append, values_rest, params_spill, link_spills}
+use Rattle.un_baseline.proofs.Items.{get_left, get_right, get_map, get_replicate, append_nil}
 
 -- ---- lists
-
-pub get_left : {A : Type 0} (xs ys : List A) (j : ℕ) (x : A) → slice_get xs j ≡ Some x → slice_get (xs ++ ys) j ≡ Some x
-get_left [] ys j x h = absurd (cc h)
-get_left (y ∷ xs) ys zero x h = h
-get_left (y ∷ xs) ys (suc j) x h = get_left xs ys j x h
-
-pub get_right : {A : Type 0} (xs ys : List A) (n j : ℕ) → n ≡ length xs + j → slice_get (xs ++ ys) n ≡ slice_get ys j
-get_right [] ys n j e = let z : n ≡ j = omega arith in ap (slice_get ys) z
-get_right (x ∷ xs) ys zero j e = absurd (omega arith)
-get_right (x ∷ xs) ys (suc n) j e = get_right xs ys n j (omega arith)
-
-pub get_map : {A B : Type 0} (f : A → B) (xs : List A) (j : ℕ) (x : A) → slice_get xs j ≡ Some x → slice_get (map f xs) j ≡ Some (f x)
-get_map f [] j x h = absurd (cc h)
-get_map {B = B} f (y ∷ xs) zero x h = let same : y ≡ x = cc h in ap (λ (z : B). Some z) (ap f same)
-get_map f (y ∷ xs) (suc j) x h = get_map f xs j x h
-
-pub get_replicate : {A : Type 0} (n j : ℕ) (x : A) → j < n → slice_get (replicate n x) j ≡ Some x
-get_replicate zero j x lt = absurd (omega arith)
-get_replicate (suc n) zero x lt = refl
-get_replicate (suc n) (suc j) x lt = get_replicate n j x (omega arith)
-
-get_replicated : {A : Type 0} (n j : ℕ) (x y : A) → slice_get (replicate n x) j ≡ Some y → x ≡ y
-get_replicated zero j x y h = absurd (cc h)
-get_replicated (suc n) zero x y h = cc h
-get_replicated (suc n) (suc j) x y h = get_replicated n j x y h
 
 -- ---- the temporaries of names at a block's start
 
@@ -394,12 +370,12 @@ module _ (c : ℕ) (H : Seen → List Read → Type 0) (b end : ℕ) (e : Ext) (
       enter_values false g = (refl, refl)
 
       -- value j, behind the start
-      pub record Known' (g : Growth) (j : ℕ) (sort : Sort) : Type 0 where
+      pub record StartValue (g : Growth) (j : ℕ) (sort : Sort) : Type 0 where
         pub before : Growth
         pub carries : Carries g (first_number + j) (own_temps (g0.next + j) sort before) sort
         pub next : ((i : ℕ) (t : Sort) → slice_get sorts i ≡ Some t → i < j → copy_count t ≡ 1) → before.next ≡ g0.next + total + j
 
-      known_at : (j : ℕ) (sort : Sort) → slice_get sorts j ≡ Some sort → Known' known j sort
+      known_at : (j : ℕ) (sort : Sort) → slice_get sorts j ≡ Some sort → StartValue known j sort
       known_at j sort got =
           let v = value_at c H b end e block s fit g0.next sorts (here total) j sort got in
           record {

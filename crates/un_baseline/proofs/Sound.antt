@@ -20,6 +20,7 @@ use Rattle.un_model.specs.Solutions.{IsLive, KeepsChoices, InSpace, ReadsInSpace
 use Rattle.un_baseline.proofs.Made.{lasting, lasting_at, place_there, place_back}
 use Rattle.un_baseline.proofs.OneAtATime.{AreFresh, AreSpared, fresh_keep_registers}
 use Rattle.un_baseline.proofs.Timing.{pairs_append}
+use Rattle.un_baseline.proofs.Items.{get_left, all_one}
 
 -- what operations have issued, read and made so far
 pub record Seen : Type 0 where
@@ -49,14 +50,6 @@ IsSparedBy c q a i =
 -- a temporary other than a call's result does not begin when the call issues
 abbrev pub Avoids : LiveRange → Issue → Type 0
 Avoids m i = m.active ≡ true → i.instr ≡ Some Call → i.block.0 ≡ m.block.0 → (m.op.0 ≡ i.op.0) ⊎ (m.from ≢ i.cycle)
-
-pub there_append : {A : Type 0} (xs ys : List A) (k : ℕ) (a : A) → slice_get xs k ≡ Some a → slice_get (xs ++ ys) k ≡ Some a
-there_append [] ys k a e = absurd (cc e)
-there_append (x ∷ xs) ys zero a e = e
-there_append (x ∷ xs) ys (suc k) a e = there_append xs ys k a e
-
-pub all_one : {A : Type 0} (P : A → Type 0) (x : A) → P x → All P (x ∷ [])
-all_one P x h = All-cons P x [] h (All-nil P)
 
 module _ (c : ℕ) where
   -- a read of an active temporary of its block that is not yet overwritten
@@ -100,7 +93,7 @@ module _ (c : ℕ) where
       → All (IsOver q g.temp) ms → IsSparedBy c q g.temp i → GoodRead (after seen i rs ms) q
   good_later seen i rs ms q g over spared = record {
     temp = g.temp;
-    there = there_append seen.made ms q.temp.0 g.temp g.there;
+    there = get_left seen.made ms q.temp.0 g.temp g.there;
     active = g.active;
     block = g.block;
     space = g.space;

@@ -15,23 +15,11 @@ use Rattle.un_model.specs.declared.schedule.LiveRange.{LiveRange}
 use Rattle.un_model.specs.Instructions.{space_read, space_given}
 use Rattle.un_model.specs.Solutions.{InSpace, IsGivenInSpace, HasHome}
 use Rattle.un_baseline.proofs.Made.{made_at}
-use Rattle.un_baseline.proofs.Sound.{Seen, after, IsOver, Differ, Avoids, there_append, all_one, GoodRead, NewOk, StepOk}
+use Rattle.un_baseline.proofs.Sound.{Seen, after, IsOver, Differ, Avoids, GoodRead, NewOk, StepOk}
 use Rattle.un_baseline.proofs.Timing.{pairs_nil}
+use Rattle.un_baseline.proofs.Items.{get_left, there_last, there_left, all_map, all_one}
 
 -- ---- lists
-
-pub there_last : {A : Type 0} (xs : List A) (x : A) → slice_get (xs ++ x ∷ []) (length xs) ≡ Some x
-there_last [] x = refl
-there_last (y ∷ xs) x = there_last xs x
-
-pub there_left : {A : Type 0} (xs ys : List A) (k : ℕ) → k < length xs → slice_get (xs ++ ys) k ≡ slice_get xs k
-there_left [] ys k lt = absurd (omega arith)
-there_left (x ∷ xs) ys zero lt = refl
-there_left (x ∷ xs) ys (suc k) lt = there_left xs ys k (omega arith)
-
-all_map : {A B : Type 0} (P : B → Type 0) (f : A → B) (xs : List A) → ((x : A) → P (f x)) → All P (map f xs)
-all_map P f [] h = All-nil P
-all_map P f (x ∷ xs) h = All-cons P (f x) (map f xs) (h x) (all_map P f xs h)
 
 pairs_one : {A : Type 0} (R : A → A → Type 0) (x : A) → AllPairs R (x ∷ [])
 pairs_one R x i j d lt within = absurd (omega arith)
@@ -102,7 +90,7 @@ module _ (c b : ℕ) where
       → Stands k r (after seen i rs ms)
   stands_later k r seen i rs ms s others call = record {
     temp = s.temp;
-    there = there_append seen.made ms k s.temp s.there;
+    there = get_left seen.made ms k s.temp s.there;
     active = s.active;
     block = s.block;
     reg = s.reg;

@@ -38,11 +38,12 @@ use Rattle.un_baseline.specs.SpillEverywhere.{purpose_at, slot_of, slot_at_start
 use Rattle.un_baseline.proofs.Made.{made_at}
 use Rattle.un_baseline.proofs.Carried.{Carries, carries_values, carries_new}
 use Rattle.un_baseline.proofs.Grown.{copy_ops, value_ops, values_ops, value_next}
-use Rattle.un_baseline.proofs.Sound.{Seen, after, GoodRead, NewOk, StepOk, IsOver, Differ, Avoids, all_one}
-use Rattle.un_baseline.proofs.Standing.{Stands, Known, Front, IsCalled, known_later, there_left}
+use Rattle.un_baseline.proofs.Sound.{Seen, after, GoodRead, NewOk, StepOk, IsOver, Differ, Avoids}
+use Rattle.un_baseline.proofs.Standing.{Stands, Known, Front, IsCalled, known_later}
 use Rattle.un_baseline.proofs.Timing.{pairs_nil}
 use Rattle.un_baseline.proofs.Walk.{AreGoodSteps, Good, Idle, idle_none, idle_then, past_copy, idle_copy, moving_copy}
 use Rattle.un_baseline.proofs.Arrivals.{general_space, slot_space, sort_by}
+use Rattle.un_baseline.proofs.Items.{get_right, get_map, there_left, all_map, all_one}
 
 abbrev pub AreApart : List ℕ → Type 0
 AreApart rs = AllPairs (λ (x y : ℕ). x ≢ y) rs
@@ -61,20 +62,6 @@ module _ (c : ℕ) (H : Seen → List Read → Type 0) (b end : ℕ) (e : Ext) (
     pub longer : length seen'.made ≡ length seen.made + length rs
     pub front : Front c b now seen'
     pub stands : (j r : ℕ) → slice_get rs j ≡ Some r → Stands c b (length seen.made + j) r seen'
-
-  there_right : {A : Type 0} (xs ys : List A) (j : ℕ) → slice_get (xs ++ ys) (length xs + j) ≡ slice_get ys j
-  there_right [] ys j = let z : 0 + j ≡ j = omega arith in ap (slice_get ys) z
-  there_right (x ∷ xs) ys j = let z : suc (length xs) + j ≡ suc (length xs + j) = omega arith in ap (slice_get (x ∷ (xs ++ ys))) z
-      ∙ there_right xs ys j
-
-  mapped : {A B : Type 0} (f : A → B) (xs : List A) (j : ℕ) (x : A) → slice_get xs j ≡ Some x → slice_get (map f xs) j ≡ Some (f x)
-  mapped f [] j x h = absurd (cc h)
-  mapped {B = B} f (y ∷ xs) zero x h = let same : y ≡ x = cc h in ap (λ (z : B). Some z) (ap f same)
-  mapped f (y ∷ xs) (suc j) x h = mapped f xs j x h
-
-  all_of_map : {A B : Type 0} (P : B → Type 0) (f : A → B) (xs : List A) → ((x : A) → P (f x)) → All P (map f xs)
-  all_of_map P f [] h = All-nil P
-  all_of_map P f (x ∷ xs) h = All-cons P (f x) (map f xs) (h x) (all_of_map P f xs h)
 
   module _ (seen : Seen) (i : Issue) (rs : List ℕ) (fresh : Fresh seen) (block_is : i.block.0 ≡ b) (free : i.instr ≡ None)
       (active : i.active ≡ true) (zero_cycle : i.cycle ≡ 0) where
@@ -101,7 +88,7 @@ module _ (c : ℕ) (H : Seen → List Read → Type 0) (b end : ℕ) (e : Ext) (
     start_ok : AreApart rs → StepOk c seen i [] ms
     start_ok apart = record {
       reads = All-nil (GoodRead c seen);
-      new = all_of_map (NewOk c seen i []) (made_at i) rs (λ r. record {
+      new = all_map (NewOk c seen i []) (made_at i) rs (λ r. record {
         given = subst (λ (x : Option Op). InSpace r (space_given x)) (sym free) tt;
         over_old = λ k d lt a there one block. absurd (old_range (get_or seen.reads k d).temp.0 a there (block ∙ block_is));
         over_own = All-nil (λ (q : Read). (a : LiveRange) → slice_get seen.made q.temp.0 ≡ Some a → IsOver q a (made_at i r));
@@ -129,7 +116,7 @@ module _ (c : ℕ) (H : Seen → List Read → Type 0) (b end : ℕ) (e : Ext) (
               → q.cycle ≤ now));
           made = All-append (λ (d : LiveRange). d.active ≡ true → d.block.0 ≡ b → d.reg ≡ r → d.from < now) seen.made ms
               (λ k d lt one block. absurd (fresh.made k d lt block))
-              (all_of_map (λ (d : LiveRange). d.active ≡ true → d.block.0 ≡ b → d.reg ≡ r → d.from < now) (made_at i) rs
+              (all_map (λ (d : LiveRange). d.active ≡ true → d.block.0 ≡ b → d.reg ≡ r → d.from < now) (made_at i) rs
               (λ x one block reg. omega arith));
         };
         calls = All-append (IsCalled c b now) seen.issues (i ∷ []) (λ k d lt call block. absurd (fresh.issues k d lt block))
@@ -138,13 +125,13 @@ module _ (c : ℕ) (H : Seen → List Read → Type 0) (b end : ℕ) (e : Ext) (
       };
       stands = λ j r got. record {
         temp = made_at i r;
-        there = there_right seen.made ms j ∙ mapped (made_at i) rs j r got;
+        there = get_right seen.made ms (length seen.made + j) j refl ∙ get_map (made_at i) rs j r got;
         active = active;
         block = block_is;
         reg = refl;
         latest = All-append (λ (d : LiveRange). d.active ≡ true → d.block.0 ≡ b → d.reg ≡ r → d.from ≤ i.cycle) seen.made ms
             (λ k d lt one block. absurd (fresh.made k d lt block))
-            (all_of_map (λ (d : LiveRange). d.active ≡ true → d.block.0 ≡ b → d.reg ≡ r → d.from ≤ i.cycle) (made_at i) rs
+            (all_map (λ (d : LiveRange). d.active ≡ true → d.block.0 ≡ b → d.reg ≡ r → d.from ≤ i.cycle) (made_at i) rs
             (λ x one block reg. omega arith));
         called = λ mask. All-append (λ (k : Issue). k.instr ≡ Some Call → k.block.0 ≡ b → (i.op.0 ≡ k.op.0) ⊎ (k.cycle < i.cycle))
             seen.issues (i ∷ [])

@@ -30,11 +30,12 @@ use Rattle.un_baseline.specs.declared.plan.TheConstants.{RELOAD}
 use Rattle.un_baseline.specs.Plans.{Step, planned_issue, planned_read, planned_reads_by}
 use Rattle.un_baseline.specs.SpillEverywhere.{purpose_at, move, copy_move, next_cycle, leave_cycle, end_cycle, after_end, operand_place, other_progress, steps_of}
 use Rattle.un_baseline.proofs.Made.{made_at}
-use Rattle.un_baseline.proofs.Sound.{Seen, after, GoodRead, NewOk, StepOk, IsOver, Differ, Avoids, all_one}
+use Rattle.un_baseline.proofs.Sound.{Seen, after, GoodRead, NewOk, StepOk, IsOver, Differ, Avoids}
 use Rattle.un_baseline.proofs.Standing.{Stands, Timely, Known, IsCalled, good_read, stands_later, stands_new, timely_later, known_later, calls_later}
 use Rattle.un_baseline.proofs.Timing.{pairs_nil}
 use Rattle.un_baseline.proofs.Walk.{AreGoodSteps, Good, Idle, copy_step, good_copy}
 use Rattle.un_baseline.proofs.Arrivals.{AreArrived, AreFor, reads_good, last_places, general_space, slot_space}
+use Rattle.un_baseline.proofs.Items.{all_one}
 
 module _ (c : ℕ) (H : Seen → List Read → Type 0) (b end : ℕ) (e : Ext) (block : ExtBlock) (s : Setting) (fit : IsFit e.table) where
   abbrev G : ℕ → Progress → Seen → List ExtOp → Type 0

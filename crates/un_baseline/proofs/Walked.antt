@@ -36,16 +36,17 @@ use Rattle.un_model.specs.Congruences.{term_of}
 use Rattle.un_baseline.specs.Plans.{Step, Suits, SuitsBlock, planned_issue, planned_issues, planned_reads, planned_reads_by, over_plans}
 use Rattle.un_baseline.specs.SpillEverywhere.{setting_of, first_progress, block_plan, block_plans}
 use Rattle.un_baseline.proofs.Counts.{results_count, count_all, bodies_values, others_values, start_values}
-use Rattle.un_baseline.proofs.Grown.{append_nil, all_add}
+use Rattle.un_baseline.proofs.Grown.{all_add}
 use Rattle.un_baseline.proofs.Made.{made_at, planned_made}
 use Rattle.un_baseline.proofs.Openings.{IsKept}
-use Rattle.un_baseline.proofs.Sound.{Seen, after, GoodRead, Sound, all_one}
+use Rattle.un_baseline.proofs.Sound.{Seen, after, GoodRead, Sound}
 use Rattle.un_baseline.proofs.SpillSteps.{steps_zip, suits_by}
 use Rattle.un_baseline.proofs.Standing.{known_later}
 use Rattle.un_baseline.proofs.Starts.{AreApart, Fresh}
 use Rattle.un_baseline.proofs.Timing.{pairs_nil}
 use Rattle.un_baseline.proofs.Walk.{AreGoodSteps, with_step, seen_after, sound_steps, seen_is}
 use Rattle.un_baseline.proofs.Whole.{Handed, whole_good}
+use Rattle.un_baseline.proofs.Items.{all_one, append_nil}
 
 -- ---- masks
 

@@ -46,13 +46,14 @@ use Rattle.un_baseline.proofs.Ends.{fall_good, jump_good, branch_good}
 use Rattle.un_baseline.proofs.Going.{Going, bodies_good}
 use Rattle.un_baseline.proofs.Grown.{all_add, all_ops, extended_ops}
 use Rattle.un_baseline.proofs.Lives.{live_in, live_in_small, live_term, live_out}
-use Rattle.un_baseline.proofs.Openings.{get_left, get_map, rooms_are, IsKept, opens_onward, opens_entry}
+use Rattle.un_baseline.proofs.Openings.{rooms_are, IsKept, opens_onward, opens_entry}
 use Rattle.un_baseline.proofs.Outs.{ReadsFrom}
 use Rattle.un_baseline.proofs.Parameters.{dst_small, entry_low, entry_word}
 use Rattle.un_baseline.proofs.Returning.{return_none, return_some}
 use Rattle.un_baseline.proofs.Sound.{Seen}
 use Rattle.un_baseline.proofs.Starts.{AreApart, Fresh, start_at}
 use Rattle.un_baseline.proofs.Walk.{Good}
+use Rattle.un_baseline.proofs.Items.{get_left, get_map}
 
 -- the registers in which values of these live names, and the saved values, stand at the bounds of blocks
 abbrev pub bound_rooms : Ext → List NameId → List ℕ
