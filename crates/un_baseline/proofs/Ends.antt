@@ -52,7 +52,7 @@ use Rattle.un_baseline.proofs.Arrivals.{truth, operands_arrive, sort_by}
 use Rattle.un_baseline.proofs.Going.{SavedAt, LinkAt, Going, kept_as}
 use Rattle.un_baseline.proofs.Outs.{ReadsFrom, AreOut, AreOutReads, operands_rest, out_later, out_reads, out_good}
 use Rattle.un_baseline.proofs.Tailing.{transfer_good}
-use Rattle.un_baseline.proofs.Items.{append_nil}
+use Rattle.un_baseline.proofs.Items.{all_at, append_nil}
 
 module _ (c : ℕ) (H : Seen → List Read → Type 0) (b end : ℕ) (e : Ext) (block : ExtBlock) (s : Setting) (fit : IsFit e.table)
     (free : (r : ℕ) → 36 ≤ r → in_mask c r ≡ false) (f : Function) (source : Block) (at : slice_get f.blocks b ≡ Some source)
@@ -273,10 +273,6 @@ module _ (c : ℕ) (H : Seen → List Read → Type 0) (b end : ℕ) (e : Ext) (
   all_map_high [] = All-nil IsHigh
   all_map_high (name ∷ ns) = All-cons IsHigh (slot_of name) (map slot_of ns) (omega arith, λ z. omega arith) (all_map_high ns)
 
-  from_places : (P : ℕ → Type 0) (regs : List ℕ) → ((j r : ℕ) → slice_get regs j ≡ Some r → P r) → All P regs
-  from_places P [] h = All-nil P
-  from_places P (r ∷ regs) h = All-cons P r regs (h 0 r refl) (from_places P regs (λ j q got. h (suc j) q got))
-
   -- all but low registers stands behind what comes before the end
   abbrev KeepsHigh : Seen → Seen → Type 0
   KeepsHigh seen seen' = (k r : ℕ) → 6 ≤ r → r ≢ PREDICATE → Stands c b k r seen → Stands c b k r seen'
@@ -291,7 +287,7 @@ module _ (c : ℕ) (H : Seen → List Read → Type 0) (b end : ℕ) (e : Ext) (
     rooms_high ns =
         All-append IsHigh (map slot_of ns) (callee_saved e.table ++ s.link ∷ []) (all_map_high ns)
         (All-append IsHigh (callee_saved e.table) (s.link ∷ [])
-        (from_places IsHigh (callee_saved e.table) (λ j r got. let q = h.saved_at j r got in (q.safe.high, q.safe.other)))
+        (all_at IsHigh (callee_saved e.table) (λ j r got. let q = h.saved_at j r got in (q.safe.high, q.safe.other)))
         (All-cons IsHigh s.link [] (omega arith, λ z. omega arith) (All-nil IsHigh)))
 
     abbrev onward_operands : List NameId → List Operand

@@ -1,5 +1,5 @@
 -- The end of a block that returns: the address and the result are reloaded.
-use Rattle.std.proofs.Common.{◌≡◌, ◌≢◌, ℕ, suc, ◌+◌, ◌≤◌, inr, Bool, true, false, List, [], ◌∷◌, ◌++◌, length, map, Option, Some, None, refl, sym, ap, subst, ◌∙◌, append_assoc, arith}
+use Rattle.std.proofs.Common.{◌≡◌, ◌≢◌, ℕ, ◌+◌, ◌≤◌, inr, Bool, true, false, List, [], ◌∷◌, ◌++◌, length, map, Option, Some, None, refl, sym, ap, subst, ◌∙◌, append_assoc, arith}
 use Rattle.std.specs.Prelude.{◌==◌, if◌then◌else◌, slice_get, slice_index, All}
 use Rattle.std.proofs.lemmas.Bool.Decides.{nat_tests}
 use Rattle.std.proofs.lemmas.List.Elements.{All-nil, All-cons}
@@ -45,6 +45,7 @@ use Rattle.un_baseline.proofs.Going.{SavedAt, LinkAt, Going, kept_as}
 use Rattle.un_baseline.proofs.Ends.{out_shape, ended, enter_end, no_enter, OutAsks, out_after, kept_out, new_size}
 use Rattle.un_baseline.proofs.Outs.{AreOut, operands_rest, out_later, out_reads, out_good}
 use Rattle.un_baseline.proofs.Tailing.{leave_good, transfer_good, late_copy, timely_weaker, calls_weaker}
+use Rattle.un_baseline.proofs.Items.{all_at}
 
 module _ (c : ℕ) (H : Seen → List Read → Type 0) (b end : ℕ) (e : Ext) (block : ExtBlock) (s : Setting) (fit : IsFit e.table)
     (free : (r : ℕ) → 36 ≤ r → in_mask c r ≡ false) (f : Function) (source : Block) (at : slice_get f.blocks b ≡ Some source)
@@ -77,10 +78,6 @@ module _ (c : ℕ) (H : Seen → List Read → Type 0) (b end : ℕ) (e : Ext) (
 
   abbrev out_at : List Operand → ExtOp
   out_at xs = record { kind = Out; operands = xs; results = [] }
-
-  all_of : (P : ℕ → Type 0) (regs : List ℕ) → ((j r : ℕ) → slice_get regs j ≡ Some r → P r) → All P regs
-  all_of P [] h = All-nil P
-  all_of P (r ∷ regs) h = All-cons P r regs (h 0 r refl) (all_of P regs (λ j q got. h (suc j) q got))
 
   module _ (kept0 link0 : ℕ) (g : Growth) (current : List ℕ) (first : ℕ) (p : Progress) (seen : Seen)
       (h : Goes kept0 link0 (length source.ops) g current first p seen) (copied : saved ≡ true) (value : Option NameId) where
@@ -164,7 +161,7 @@ module _ (c : ℕ) (H : Seen → List Read → Type 0) (b end : ℕ) (e : Ext) (
     regs = callee_saved e.table
 
     regs_stay : (seen' : Seen) → Stays seen seen' → All (λ (r : ℕ). (k : ℕ) → Stands c b k r seen → Stands c b k r seen') regs
-    regs_stay seen' stays = all_of (λ (r : ℕ). (k : ℕ) → Stands c b k r seen → Stands c b k r seen') regs
+    regs_stay seen' stays = all_at (λ (r : ℕ). (k : ℕ) → Stands c b k r seen → Stands c b k r seen') regs
         (λ j r got k st. let q = h.saved_at j r got in let low = q.low in stays k r q.safe.high (λ z. omega arith) st)
 
     regs_out : (count j : ℕ) → ((n : ℕ) (y : Operand) → j ≤ n → out_place e.names block.live_out s count s.term n y ≡ 0)
