@@ -19,7 +19,7 @@ use Rattle.un_ir.specs.Linear.{first_of}
 use Rattle.un_ir.specs.ExtendOf.{copy_count, new_temps, own_temps, value_of, with_value, with_values, with_operand_by, with_operand, with_operands, with_results}
 use Rattle.un_model.specs.Registers.{is_truth}
 
-push_cases : {A : Type 0} (xs : List A) (x : A) (k : ℕ) (w : A) → slice_get (xs ++ x ∷ []) k ≡ Some w
+pub push_cases : {A : Type 0} (xs : List A) (x : A) (k : ℕ) (w : A) → slice_get (xs ++ x ∷ []) k ≡ Some w
     → (slice_get xs k ≡ Some w) ⊎ ((k ≡ length xs) × (x ≡ w))
 push_cases [] x zero w h = inr (refl, (let e : x ≡ w = cc h in e))
 push_cases [] x (suc k) w h = absurd (cc h)
