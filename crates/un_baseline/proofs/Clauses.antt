@@ -14,9 +14,11 @@ use Rattle.un_model.specs.declared.schedule.Issue.{Issue}
 use Rattle.un_model.specs.declared.schedule.Read.{Read}
 use Rattle.un_model.specs.declared.schedule.LiveRange.{LiveRange}
 use Rattle.un_model.specs.declared.schedule.Schedule.{Schedule}
+use Rattle.un_model.specs.Congruences.{KeepsCongruences}
 use Rattle.un_model.specs.Solutions.{IsGivenInSpace, KeepsChoices, KeepsSpaces, KeepsHomes, KeepsRegisters}
 use Rattle.un_baseline.specs.Plans.{planned_issues, planned_reads, over_plans, planned_schedule}
 use Rattle.un_baseline.specs.SpillEverywhere.{block_plans}
+use Rattle.un_baseline.proofs.Congruent.{EachFacts, facts_of, congruences_kept}
 use Rattle.un_baseline.proofs.Made.{planned_made, ranges_made}
 use Rattle.un_baseline.proofs.Sound.{Seen, GoodRead, Sound, Differ, Avoids, choices_kept, spaces_kept, homes_kept, registers_kept}
 use Rattle.un_baseline.proofs.SpillSteps.{plan_suits}
@@ -72,3 +74,11 @@ module _ (f : Function) (lists : List (List NameId)) (t : Table) (fit : IsFit t)
 
   pub keeps_registers : KeepsRegisters t.clobbered schedule
   keeps_registers = registers_kept t.clobbered schedule all all_sound refl refl (ranges_made e.blocks (block_plans e true e.blocks) (plan_suits e))
+
+  facts : EachFacts f lists t fit live 0 e.blocks all
+  facts =
+      facts_of f lists t fit live f.blocks true 0 0 0 0 [] nothing all (λ i x got. let z : 0 + i ≡ i = omega arith in ap (slice_get f.blocks) z ∙ got) (λ z. refl) refl refl
+      nothing_below (All-nil (λ (q : Read). q.block.0 < 0)) refl
+
+  pub keeps_congruences : KeepsCongruences e.blocks schedule
+  keeps_congruences = congruences_kept f lists t fit live schedule all refl (ranges_made e.blocks (block_plans e true e.blocks) (plan_suits e)) e.blocks facts

@@ -34,6 +34,7 @@ use Rattle.un_model.specs.Cost.{value_of}
 use Rattle.un_model.specs.declared.schedule.Schedule.{Schedule}
 use Rattle.un_model.specs.Schedules.{schedule_of}
 use Rattle.un_baseline.proofs.FrameOps.{frame_ops_active}
+use Rattle.un_model.specs.Congruences.{KeepsCongruences}
 use Rattle.un_model.specs.Solutions.{KeepsZeros, KeepsChoices, KeepsSpaces, KeepsMemory, KeepsRegisters, KeepsPackets, KeepsHomes, HasFrame}
 use Rattle.un_model.specs.Variables.{model_of}
 use Rattle.un_baseline.specs.Plans.{planned_schedule}
@@ -41,7 +42,7 @@ use Rattle.un_baseline.specs.RoomyOptions.{IsSpillable}
 use Rattle.un_baseline.specs.SpillEverywhere.{block_plans, spilled_values}
 use Rattle.un_baseline.proofs.PlanSchedules.{schedule_of_plan, flag_of_plan}
 use Rattle.un_baseline.proofs.SpillSteps.{EachOp, EachBlockOp, IsReal, plan_suits, keeps_zeros}
-use Rattle.un_baseline.proofs.Clauses.{keeps_choices, keeps_spaces, keeps_homes, keeps_registers}
+use Rattle.un_baseline.proofs.Clauses.{keeps_choices, keeps_congruences, keeps_spaces, keeps_homes, keeps_registers}
 use Rattle.un_baseline.proofs.Fronts.{IsFrontKind, AreFront}
 use Rattle.un_baseline.proofs.Layouts.{IsLaidOut, onward, back, AreLaidOut, each_weaker, laid_out_keep_memory, laid_out_keep_packets}
 use Rattle.un_baseline.proofs.Tails.{IsReading, first_one, second_one}
@@ -224,3 +225,9 @@ module _ (m : Model) (h : IsSpillable m) (values : List ℕ) (same : values ≡ 
   pub registers_of_model : KeepsRegisters m.ext.table.clobbered (schedule_of m values)
   registers_of_model = for_function (KeepsRegisters m.ext.table.clobbered)
       (keeps_registers h.function.function h.function.lists m.ext.table h.table h.function.live)
+
+  pub congruences_of_model : KeepsCongruences m.ext.blocks (schedule_of m values)
+  congruences_of_model =
+      subst (λ (t : Schedule). KeepsCongruences m.ext.blocks t) (sym (schedule_is m.ext m.options) ∙ same_schedule)
+      (subst (λ (x : Ext). KeepsCongruences x.blocks (planned_schedule x.blocks (block_plans x true x.blocks))) (sym h.function.extended)
+      (keeps_congruences h.function.function h.function.lists m.ext.table h.table h.function.live))

@@ -7,6 +7,7 @@ pub mod Bodies
 pub mod Carried
 pub mod Clauses
 pub mod CloseIn
+pub mod Congruent
 pub mod CopiesIn
 pub mod Counts
 pub mod Definers
@@ -23,6 +24,7 @@ pub mod Holding
 pub mod Horizons
 pub mod InDomains
 pub mod Kept
+pub mod Lasts
 pub mod Latencies
 pub mod Layouts
 pub mod Lives

@@ -150,7 +150,7 @@ module _ (c : ℕ) (H : Seen → List Read → Type 0) (b end : ℕ) where
       let r = suits.0.registers in
       omega arith
 
-below_weaker : (c b : ℕ) (seen : Seen) → IsBelow c b seen → IsBelow c (b + 1) seen
+pub below_weaker : (c b : ℕ) (seen : Seen) → IsBelow c b seen → IsBelow c (b + 1) seen
 below_weaker c b seen h = record {
   made = All-weaker (λ (m : LiveRange). m.block.0 < b) (λ (m : LiveRange). m.block.0 < b + 1) (λ m lt. omega arith) seen.made h.made;
   issues = All-weaker (λ (i : Issue). i.block.0 < b) (λ (i : Issue). i.block.0 < b + 1) (λ i lt. omega arith) seen.issues h.issues;
@@ -166,7 +166,7 @@ suits_of x entry block = steps_zip Suits x block (setting_of x entry block) (λ 
 abbrev pub more : Seen → List Issue → List Read → List LiveRange → Seen
 more seen is rs ms = record { issues = seen.issues ++ is; reads = seen.reads ++ rs; made = seen.made ++ ms }
 
-more_more : (seen : Seen) (is is' : List Issue) (rs rs' : List Read) (ms ms' : List LiveRange)
+pub more_more : (seen : Seen) (is is' : List Issue) (rs rs' : List Read) (ms ms' : List LiveRange)
     → more (more seen is rs ms) is' rs' ms' ≡ more seen (is ++ is') (rs ++ rs') (ms ++ ms')
 more_more seen is is' rs rs' ms ms' =
     ap (λ (x : List Issue). record { issues = x; reads = (seen.reads ++ rs) ++ rs'; made = (seen.made ++ ms) ++ ms' }) (append_assoc seen.issues is is')
@@ -212,11 +212,11 @@ module _ (f : Function) (lists : List (List NameId)) (t : Table) (fit : IsFit t)
   abbrev c : ℕ
   c = t.clobbered
 
-  abbrev made_block : Bool → ℕ → ℕ → List Value → ℕ → Block → ExtBlock
+  abbrev pub made_block : Bool → ℕ → ℕ → List Value → ℕ → Block → ExtBlock
   made_block entry b first values next source =
       let lin = linear_block t (length f.names) lists b first source in with_ops lin (grown_block E.names entry values next lin).ops
 
-  abbrev ext_from : Bool → ℕ → ℕ → List Value → ℕ → List Block → List ExtBlock
+  abbrev pub ext_from : Bool → ℕ → ℕ → List Value → ℕ → List Block → List ExtBlock
   ext_from entry b first values next blocks = extended_blocks E.names entry values next (linear_blocks t (length f.names) lists b first blocks)
 
   module _ (entry : Bool) (b first : ℕ) (values : List Value) (next : ℕ) (source : Block) where
@@ -232,7 +232,7 @@ module _ (f : Function) (lists : List (List NameId)) (t : Table) (fit : IsFit t)
     ns_size : length (live_at lists b) ≤ length (live_at lists b) + length (saved_registers t)
     ns_size = omega arith
 
-    grown_values : length values ≡ first → length g.values ≡ past_block t lists b first source
+    pub grown_values : length values ≡ first → length g.values ≡ past_block t lists b first source
     grown_values long =
         let ns = live_at lists b in
         let count = length ns + length (saved_registers t) in
@@ -249,7 +249,7 @@ module _ (f : Function) (lists : List (List NameId)) (t : Table) (fit : IsFit t)
         (λ g'. others_values E.names ns entry saved (end_ops after link source.term ++ out_op t after kept0 nout source.term ∷ []) g'
         (λ i op got. tail_none t after link kept0 nout source.term E.names ns saved i op got))
 
-    grown_next : g.next ≡ next + results_count (made_block entry b first values next source).ops
+    pub grown_next : g.next ≡ next + results_count (made_block entry b first values next source).ops
     grown_next =
         let ns = live_at lists b in
         let g0 : Growth = record { ops = []; values = values; next = next } in

@@ -1,6 +1,6 @@
 -- The plan of a whole block.
 use Rattle.std.proofs.Common.{◌≡◌, ◌≢◌, ℕ, zero, suc, ◌+◌, ◌<◌, ◌≤◌, ◌||◌, Bool, true, false, List, [], ◌∷◌, ◌++◌, length, map, replicate, Option, Some, None, refl, sym, ap, subst, ◌∙◌, append_assoc, arith}
-use Rattle.std.specs.Prelude.{slice_get, if◌then◌else◌, IfSome, All, AllPairs, Contains}
+use Rattle.std.specs.Prelude.{slice_get, slice_index, if◌then◌else◌, IfSome, All, AllPairs, Contains}
 use Rattle.std.specs.List.{AllZip, range_with_len}
 use Rattle.std.proofs.lemmas.List.{length-append, length-map, length-replicate}
 use Rattle.std.proofs.lemmas.List.FromFn.{length-map-range_with_len}
@@ -19,6 +19,7 @@ use Rattle.un_ir.specs.declared.function.Block.{Block}
 use Rattle.un_ir.specs.declared.function.Function.{Function}
 use Rattle.un_ir.specs.declared.function.Term.{Term}
 use Rattle.un_ir.specs.declared.function.Term.TheVariants.{Fall, Jump, Branch, Ret}
+use Rattle.un_ir.specs.declared.extended.ExtKind.TheVariants.{In}
 use Rattle.un_ir.specs.declared.extended.ExtOp.{ExtOp}
 use Rattle.un_ir.specs.declared.extended.ExtBlock.{ExtBlock}
 use Rattle.un_ir.specs.declared.extended.Ext.{Ext}
@@ -34,22 +35,26 @@ use Rattle.un_ir.specs.Names.{kind_of}
 use Rattle.un_ir.specs.WellFormed.{TestsItsKind}
 use Rattle.un_ir.proofs.SourceFacts.{good_block}
 use Rattle.un_model.specs.declared.schedule.Read.{Read}
+use Rattle.un_model.specs.declared.schedule.LiveRange.{LiveRange}
+use Rattle.un_model.specs.Pairs.{places_from}
+use Rattle.un_baseline.specs.Plans.{Step, planned_issue}
+use Rattle.un_baseline.proofs.Made.{made_at, steps_made}
 use Rattle.un_model.specs.Congruences.{term_of, live_in_temps}
 use Rattle.un_baseline.specs.declared.plan.Setting.{Setting}
 use Rattle.un_baseline.specs.declared.plan.Progress.{Progress}
-use Rattle.un_baseline.specs.SpillEverywhere.{purpose_of_out, slot_of, out_place, handed_place, first_number, setting_of, first_progress, first_cycle, block_end, progress_after, block_plan}
+use Rattle.un_baseline.specs.SpillEverywhere.{purpose_of_out, slot_of, out_place, handed_place, first_number, setting_of, first_progress, first_cycle, block_end, progress_after, block_plan, steps_of}
 use Rattle.un_baseline.proofs.Counts.{term_start, term_bodies, term_out, term_jump, term_branch, term_return, ending_bodies, first_number_of}
 use Rattle.un_baseline.proofs.Ends.{handed_rooms, fall_good, jump_good, branch_good}
 use Rattle.un_baseline.proofs.Going.{Going, bodies_good}
 use Rattle.un_baseline.proofs.Grown.{all_add, all_ops, extended_ops}
 use Rattle.un_baseline.proofs.Lives.{live_in, live_in_small, live_term, live_out}
-use Rattle.un_baseline.proofs.Openings.{IsKept, opens_onward, opens_entry}
+use Rattle.un_baseline.proofs.Openings.{get_left, get_map, rooms_are, IsKept, opens_onward, opens_entry}
 use Rattle.un_baseline.proofs.Outs.{ReadsFrom}
 use Rattle.un_baseline.proofs.Parameters.{dst_small, entry_low, entry_word}
 use Rattle.un_baseline.proofs.Returning.{return_none, return_some}
 use Rattle.un_baseline.proofs.Sound.{Seen}
-use Rattle.un_baseline.proofs.Starts.{AreApart, Fresh}
-use Rattle.un_baseline.proofs.Walk.{AreGoodSteps, Good}
+use Rattle.un_baseline.proofs.Starts.{AreApart, Fresh, start_at}
+use Rattle.un_baseline.proofs.Walk.{Good}
 
 -- the registers in which values of these live names, and the saved values, stand at the bounds of blocks
 abbrev pub bound_rooms : Ext → List NameId → List ℕ
@@ -154,7 +159,7 @@ module _ (f : Function) (lists : List (List NameId)) (t : Table) (fit : IsFit t)
     saved_size : length (saved_registers t) ≡ suc (length regs)
     saved_size = length-append regs (LINK ∷ []) ∙ (let z : length regs + 1 ≡ suc (length regs) = omega arith in z)
 
-    start_size : length start.results ≡ length ns + suc (length regs)
+    pub start_size : length start.results ≡ length ns + suc (length regs)
     start_size = length-map-range_with_len temp first (length ns + length (saved_registers t)) ∙ ap (λ (k : ℕ). length ns + k) saved_size
 
     values_are : s.values ≡ length ns + suc (length regs)
@@ -299,3 +304,30 @@ module _ (f : Function) (lists : List (List NameId)) (t : Table) (fit : IsFit t)
               opens_onward t.clobbered H b end e block s fit free f source at refl link_is entry saved regs_kept regs_apart refl values_are live_in_here (live.rising b) small_here
               (params_here first_block) first g0 long n (first_progress e entry) seen (ops_of (body_ops t current0 first' source.ops ++ tail source.term) g1)
               is (placed_onward is) fresh size (started entry) (λ n' p' seen' h. ops_good n' p' seen' (goes_from p' seen' h))
+
+      -- what the start of a block other than the entry makes
+      pub record MadeAt (n j r : ℕ) : Type 0 where
+        pub temp : LiveRange
+        pub there : slice_get (steps_made b end n block.ops (steps_of e block s (first_progress e entry) block.ops)) j ≡ Some temp
+        pub reg : temp.reg ≡ r
+
+      start_rooms_are : (entry ≡ true → b ≡ 0) → entry ≡ false
+          → places_from (start_at t.clobbered H b end e block s fit) 0 (new_temps g0 (length start.results)) ≡ bound_rooms e ns
+      start_rooms_are first_block not_entry =
+          rooms_are t.clobbered H b end e block s fit free f source at refl link_is entry saved regs_kept regs_apart refl values_are live_in_here (live.rising b) small_here
+          (new_temps g0 (length start.results)) (length-map-range_with_len temp next (length start.results) ∙ start_size)
+          ∙ ap (λ (x : Bool). map (λ (name : NameId). if x then slice_index t.args name.0 else slot_of name) ns ++ (regs ++ (if x then LINK else s.link) ∷ [])) not_entry
+
+      pub start_made : (entry ≡ true → b ≡ 0) → entry ≡ false → (n j r : ℕ) → slice_get (bound_rooms e ns) j ≡ Some r → MadeAt n j r
+      start_made first_block not_entry n j r got =
+          let op : ExtOp = record { kind = In; operands = []; results = new_temps g0 (length start.results) } in
+          let rs = places_from (start_at t.clobbered H b end e block s fit) 0 op.results in
+          let st : Step = record { instr = 0; cycle = 0; choices = []; registers = rs } in
+          let i = planned_issue b end n op st in
+          let there : slice_get rs j ≡ Some r = ap (λ (xs : List ℕ). slice_get xs j) (start_rooms_are first_block not_entry) ∙ got in
+          record {
+            temp = made_at i r;
+            there = ap (λ (os : List ExtOp). slice_get (steps_made b end n os (steps_of e block s (first_progress e entry) os)) j) ops_are
+                ∙ get_left (map (made_at i) rs) _ j (made_at i r) (get_map (made_at i) rs j r there);
+            reg = refl;
+          }

@@ -11,11 +11,11 @@ ghost use Rattle.un_ir.specs.declared.extended.ExtKind.TheVariants.{In, Out, Bod
 ghost use Rattle.un_ir.specs.declared.function.Term.{Term};
 ghost use Rattle.un_ir.specs.Extended.{is_copy};
 ghost use Rattle.un_ir.specs.Linear.{is_in};
-ghost use Rattle.un_model.specs.Congruences.{term_or, term_of, live_in_temps};
+ghost use Rattle.un_model.specs.Congruences.{term_or, term_of, live_in_temps, KeepsCongruences};
 ghost use Rattle.un_model.specs.Instructions.{gives_truth, transfer_of, latency_by};
 ghost use Rattle.un_model.specs.Pairs.{places_from};
 ghost use Rattle.un_model.specs.Schedules.{schedule_of};
-ghost use Rattle.un_model.specs.Solutions.{KeepsDomains, KeepsZeros, KeepsChoices, KeepsSpaces, KeepsLatencies, latency_gap, KeepsMemory, KeepsRegisters, KeepsPackets, KeepsHomes, KeepsFrame};
+ghost use Rattle.un_model.specs.Solutions.{IsSolution};
 ghost use Rattle.un_model.specs.Cost.{value_of};
 ghost use Rattle.un_model.specs.Variables.{chosen_operands};
 ghost use Rattle.un_baseline.specs.RoomyOptions.{IsSpillable};
@@ -702,16 +702,7 @@ fn saved_registers(alloc: Global, t: &Table) -> Result<Items<u32>, NoMemory>
 /// is spilled after it, and one instruction issues in a packet. The answer is `NoMemory` where there is no memory for it.
 pub fn spill_everywhere(alloc: Global, m: &Model) -> Result<Solution, NoMemory>
     requires { IsSpillable m.now }
-    ensures domains { IfOk result (λ s. KeepsDomains m.now.domains s.values) }
-    ensures zeros { IfOk result (λ s. KeepsZeros (schedule_of m.now s.values)) }
-    ensures choices { IfOk result (λ s. KeepsChoices (schedule_of m.now s.values)) }
-    ensures spaces { IfOk result (λ s. KeepsSpaces (schedule_of m.now s.values)) }
-    ensures latencies { IfOk result (λ s. KeepsLatencies (latency_gap m.now.ext.table) (schedule_of m.now s.values)) }
-    ensures memory { IfOk result (λ s. KeepsMemory (schedule_of m.now s.values)) }
-    ensures registers { IfOk result (λ s. KeepsRegisters m.now.ext.table.clobbered (schedule_of m.now s.values)) }
-    ensures packets { IfOk result (λ s. KeepsPackets m.now.ext.table (schedule_of m.now s.values)) }
-    ensures homes { IfOk result (λ s. KeepsHomes (schedule_of m.now s.values)) }
-    ensures frame { IfOk result (λ s. KeepsFrame (value_of s.values m.now.flag) (schedule_of m.now s.values)) }
+    ensures solution { IfOk result (IsSolution m.now) }
     ensures values { IfOk result (λ s. s.values ≡ spilled_values m.now.ext) }
 {
     let saved = saved_registers(alloc, &m.ext.table)?;
