@@ -8,6 +8,7 @@ pub mod Carried
 pub mod Clauses
 pub mod CloseIn
 pub mod Congruent
+pub mod CopiedNames
 pub mod CopiesIn
 pub mod Counts
 pub mod Definers
