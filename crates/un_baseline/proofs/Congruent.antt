@@ -289,8 +289,7 @@ module _ (f : Function) (lists : List (List NameId)) (t : Table) (fit : IsFit t)
       final ∙ sym (ap (λ (z : Seen). more z is' rs' ms') same' ∙ more_more seen (planned_issues b n B' p') is' (planned_reads b n B' p') rs' (planned_made b n B' p') ms') in
       let next' : length s1.made ≡ G'.next =
       steps_size t.clobbered (Handed x B' (term_of B'.ops)) b p'.end n seen B'.ops p'.steps (suits_of x entry B') ∙ ap (λ (k : ℕ). k + results_count B'.ops) size
-      ∙ sym (grown_next f lists t fit live entry b first values next source) in
-      (
+      ∙ sym (grown_next f lists t fit live entry b first values next source) in (
         block_facts entry b first values next source at n seen first_block long size below reads_below F is' rs' ms' final' (reads_past (b + 1) n' ext plans),
         facts_of blocks false (b + 1) n' (past_block t lists b first source) G'.next G'.values s1 F
             (λ i y got. let z : b + 1 + i ≡ b + suc i = omega arith in ap (slice_get f.blocks) z ∙ there (suc i) y got)

@@ -53,7 +53,8 @@ copied_value n i m sort g copied h le w is =
 pub copied_row : (n i m count : ℕ) (sort : Sort) (g : Growth) → sort.copied ≡ true → CopiedAt n g i
     → CopiedAt n (with_values m (replicate count sort) g) i
 copied_row n i m zero sort g copied h = h
-copied_row n i m (suc count) sort g copied h = copied_row n i (m + 1) count sort (with_value m sort g) copied (copied_value n i m sort g copied h)
+copied_row n i m (suc count) sort g copied h = copied_row n i (m + 1) count sort (with_value m sort g) copied (copied_value n i m sort g
+    copied h)
 
 -- no value is there yet
 pub copied_past : (n i : ℕ) (g : Growth) → length g.values ≤ i → CopiedAt n g i
@@ -71,7 +72,8 @@ set_index (x ∷ xs) zero y (suc k) = inr refl
 set_index (x ∷ xs) (suc m) y zero = inr refl
 set_index (x ∷ xs) (suc m) y (suc k) = set_index xs m y k
 
-pub names_assigned : (n : ℕ) (current : List ℕ) (dst : Option NameId) (first : ℕ) (g : Growth) → NamesCopied n current g → CopiedAt n g first
+pub names_assigned : (n : ℕ) (current : List ℕ) (dst : Option NameId) (first : ℕ) (g : Growth) → NamesCopied n current g
+    → CopiedAt n g first
     → NamesCopied n (assigned current dst first) g
 names_assigned n current None first g h here = h
 names_assigned n current (Some name) first g h here = record {
@@ -85,7 +87,8 @@ pub names_first : (n : ℕ) (current : List ℕ) (m : ℕ) (live_in : List NameI
 names_first n current m [] g h each = h
 names_first n current m (name ∷ live_in) g h each =
     let z : m + 0 ≡ m = omega arith in
-    names_first n (assigned current (Some name) m) (m + 1) live_in g (names_assigned n current (Some name) m g h (subst (CopiedAt n g) z (each 0
+    names_first n (assigned current (Some name) m) (m + 1) live_in g (names_assigned n current (Some name) m g h (subst (CopiedAt n g) z
+    (each 0
     (omega arith))))
     (λ j lt. let q : m + suc j ≡ m + 1 + j = omega arith in subst (CopiedAt n g) q (each (suc j) (omega arith)))
 
@@ -108,7 +111,11 @@ module _ (e : Ext) (o : Options) (entry : Bool) (block : ExtBlock) where
 
   copied_here : (before : List TempId) (x : Operand) (g : Growth) (w : Want) (n : ℕ) → ValuesOk e block s.placed n g → n ≤ first_of x.alts
       → CopiedAt n g (first_of x.alts)
-      → IsGoodOperand e.names e.blocks before (record { alts = alternatives (slice_get (with_operand x g).values (first_of x.alts)); home = x.home }) w
+      → IsGoodOperand e.names e.blocks before (record {
+        alts = alternatives (slice_get (with_operand x g).values (first_of x.alts));
+        home
+            = x.home;
+      }) w
       → (v : Option Value) → slice_get g.values (first_of x.alts) ≡ v → (u : Option Value)
       → slice_get (with_operand x g).values (first_of x.alts) ≡ u → Copied e block s w.kind v
   copied_here before x g w n ok le copied good v at None now =
@@ -125,7 +132,8 @@ module _ (e : Ext) (o : Options) (entry : Bool) (block : ExtBlock) where
       let alts : alternatives (slice_get (with_operand x g).values (first_of x.alts)) ≡ (temp after.first ∷ after.more) ++ after.rest =
       ap alternatives now ∙ after.all ∙ ap (λ (xs : List TempId). xs ++ after.rest) after.own in
       let first : first_of (alternatives (slice_get (with_operand x g).values (first_of x.alts))) ≡ after.first = ap first_of alts in
-      let kinds : Some u.sort.kind ≡ Some w.kind = sym after.kind ∙ ap (λ (k : ℕ). kind_of_temp e.names e.blocks (temp k)) (sym first) ∙ good.kind in
+      let kinds : Some u.sort.kind ≡ Some w.kind = sym after.kind ∙ ap (λ (k : ℕ). kind_of_temp e.names e.blocks (temp k)) (sym first) ∙
+      good.kind in
       let sorts : u.sort ≡ v.sort = sort_kept v u at now in
       record {
         value = v;
@@ -134,7 +142,8 @@ module _ (e : Ext) (o : Options) (entry : Bool) (block : ExtBlock) where
         copied = copied le v at;
       }
     where
-      sort_kept : (v u : Value) → slice_get g.values (first_of x.alts) ≡ Some v → slice_get (with_operand x g).values (first_of x.alts) ≡ Some u
+      sort_kept : (v u : Value) → slice_get g.values (first_of x.alts) ≡ Some v
+          → slice_get (with_operand x g).values (first_of x.alts) ≡ Some u
           → u.sort ≡ v.sort
       sort_kept v u at now =
           let new : Value = record v { all = v.all ++ new_temps g (copy_count v.sort) } in
@@ -152,7 +161,8 @@ module _ (e : Ext) (o : Options) (entry : Bool) (block : ExtBlock) where
   operands_copied before n [] (w ∷ ws) g ok reads copied zip = absurd zip
   operands_copied before n (x ∷ xs) [] g ok reads copied zip = absurd zip
   operands_copied before n (x ∷ xs) (w ∷ ws) g ok reads copied zip = (
-    copied_here before x g w n ok reads.0 (copied 0 x refl) zip.0 (slice_get g.values (first_of x.alts)) refl (slice_get (with_operand x g).values
+    copied_here before x g w n ok reads.0 (copied 0 x refl) zip.0 (slice_get g.values (first_of x.alts)) refl (slice_get (with_operand x
+        g).values
         (first_of x.alts)) refl,
     operands_copied before n xs ws (with_operand x g) (values_operand e block s.placed n x g ok) reads.1
         (λ j y at. copied_operand n (first_of y.alts) x g (copied (suc j) y at)) zip.1,

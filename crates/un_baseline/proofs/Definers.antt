@@ -101,7 +101,8 @@ module _ (issues : List Issue) (reads : List Read) (places : List Place) (temps 
             (has_right issues n (n + 1) (issue ∷ []) rest refl hi),
       )
 
-  step_count : (n : ℕ) (ops : List ExtOp) (steps : List Step) → AllZip Suits ops steps → length (step_places n steps) ≡ length (results_of ops)
+  step_count : (n : ℕ) (ops : List ExtOp) (steps : List Step) → AllZip Suits ops steps
+      → length (step_places n steps) ≡ length (results_of ops)
   step_count n [] [] fit = refl
   step_count n [] (s ∷ steps) fit = absurd fit
   step_count n (op ∷ ops) [] fit = absurd fit
@@ -185,7 +186,7 @@ each_step R n (op ∷ ops) (s ∷ steps) e h =
     let z : n + 0 ≡ n = omega arith in (
       subst (λ (m : ℕ). R m op s) z (h 0 op s refl refl),
       each_step R (n + 1) ops steps (omega arith) (λ k o t at there.
-      let q : n + suc k ≡ n + 1 + k = omega arith in subst (λ (m : ℕ). R m o t) q (h (suc k) o t at there)),
+          let q : n + suc k ≡ n + 1 + k = omega arith in subst (λ (m : ℕ). R m o t) q (h (suc k) o t at there)),
     )
 
 -- the operation before place k that defines a temporary

@@ -130,8 +130,7 @@ module _ (c : ℕ) (H : Seen → List Read → Type 0) (b end : ℕ) (e : Ext) (
       names_out j (name ∷ ns) there live =
           let n = h.names name (live 0 name refl) in
           let q = n.kept in
-          let at_j : slice_get block.live_out j ≡ Some name = (let z : j ≡ j + 0 = omega arith in ap (slice_get block.live_out) z ∙ there 0 name refl) in
-          (
+          let at_j : slice_get block.live_out j ≡ Some name = (let z : j ≡ j + 0 = omega arith in ap (slice_get block.live_out) z ∙ there 0 name refl) in (
             record {
               own = q.own;
               sort = sort_by (name_kind e.names name);
@@ -169,8 +168,7 @@ module _ (c : ℕ) (H : Seen → List Read → Type 0) (b end : ℕ) (e : Ext) (
       saved_out i j [] saved_at link none size =
           let z : kept0 + (i + 0) ≡ kept0 + i = omega arith in
           let q = subst (LinkHere g seen) z link in
-          let at_j : slice_get block.live_out j ≡ None = (let n : j ≡ j + 0 = omega arith in ap (slice_get block.live_out) n ∙ none 0) in
-          (
+          let at_j : slice_get block.live_out j ≡ None = (let n : j ≡ j + 0 = omega arith in ap (slice_get block.live_out) n ∙ none 0) in (
             record {
               own = q.own;
               sort = record { kind = General; copied = saved };
@@ -189,8 +187,7 @@ module _ (c : ℕ) (H : Seen → List Read → Type 0) (b end : ℕ) (e : Ext) (
           let z : kept0 + (i + 0) ≡ kept0 + i = omega arith in
           let q = subst (λ (x : ℕ). SavedHere g seen x r) z (saved_at 0 r refl) in
           let at_j : slice_get block.live_out j ≡ None = (let n : j ≡ j + 0 = omega arith in ap (slice_get block.live_out) n ∙ none 0) in
-          let next : kept0 + (i + 1) ≡ kept0 + i + 1 = omega arith in
-          (
+          let next : kept0 + (i + 1) ≡ kept0 + i + 1 = omega arith in (
             record {
               own = q.own;
               sort = record { kind = General; copied = saved };
@@ -217,8 +214,7 @@ module _ (c : ℕ) (H : Seen → List Read → Type 0) (b end : ℕ) (e : Ext) (
     kept_out count i j (r ∷ regs) saved_at zeros =
         let z : kept0 + (i + 0) ≡ kept0 + i = omega arith in
         let q = subst (λ (x : ℕ). SavedHere g seen x r) z (saved_at 0 r refl) in
-        let next : kept0 + (i + 1) ≡ kept0 + i + 1 = omega arith in
-        (
+        let next : kept0 + (i + 1) ≡ kept0 + i + 1 = omega arith in (
           record {
             own = q.own;
             sort = record { kind = General; copied = saved };

@@ -94,15 +94,14 @@ module _ (issues : List Issue) (reads : List Read) where
       let here = map (place_at n) s.registers in
       let made = map (made_at i) s.registers in
       let size = map_length i n s.registers in
-      let rest = steps_ranges b end (n + 1) (k + length here) ops steps h.1 (has_right issues n (n + 1) (i ∷ []) (pairs_from (planned_issue b end) (n + 1) ops steps) refl has) in
-      (
+      let rest = steps_ranges b end (n + 1) (k + length here) ops steps h.1 (has_right issues n (n + 1) (i ∷ []) (pairs_from (planned_issue b end) (n + 1) ops steps) refl has) in (
         places-append (range_at issues reads) k (k + length here) here (step_places (n + 1) steps) refl
-        ∙ ap (λ (xs : List LiveRange). xs ++ places_from (range_at issues reads) (k + length here) (step_places (n + 1) steps))
-        (registers_made i n (has_first issues n i (pairs_from (planned_issue b end) (n + 1) ops steps) has) refl k s.registers)
-        ∙ ap (λ (xs : List LiveRange). places_from (lasting_at reads) k made ++ xs) rest.0
-        ∙ sym (places-append (lasting_at reads) k (k + length here) made (steps_made b end (n + 1) ops steps) (omega arith)),
+            ∙ ap (λ (xs : List LiveRange). xs ++ places_from (range_at issues reads) (k + length here) (step_places (n + 1) steps))
+            (registers_made i n (has_first issues n i (pairs_from (planned_issue b end) (n + 1) ops steps) has) refl k s.registers)
+            ∙ ap (λ (xs : List LiveRange). places_from (lasting_at reads) k made ++ xs) rest.0
+            ∙ sym (places-append (lasting_at reads) k (k + length here) made (steps_made b end (n + 1) ops steps) (omega arith)),
         (let a = length-append here (step_places (n + 1) steps) in let b' = length-append made (steps_made b end (n + 1) ops steps) in
-        let c = rest.1 in omega arith),
+            let c = rest.1 in omega arith),
       )
 
   blocks_ranges : (b n k : ℕ) (blocks : List ExtBlock) (plans : List BlockPlan) → SuitsAll blocks plans

@@ -149,8 +149,7 @@ module _ (c : ℕ) (H : Seen → List Read → Type 0) (b end : ℕ) (e : Ext) (
   out_later g g' seen seen' count j [] (r ∷ rs) f stands h = absurd h
   out_later g g' seen seen' count j (x ∷ xs) [] f stands h = absurd h
   out_later g g' seen seen' count j (x ∷ xs) (r ∷ rs) f stands h =
-      let k = h.0 in
-      (
+      let k = h.0 in (
         record {
           own = k.own;
           sort = k.sort;
@@ -182,8 +181,7 @@ module _ (c : ℕ) (H : Seen → List Read → Type 0) (b end : ℕ) (e : Ext) (
   out_reads g seen count j (x ∷ xs) (r ∷ rs) h =
       let k = h.0 in
       let y = chosen_from x (with_operand x g) in
-      let place = k.chooses y (first_alternative x g k.own k.sort k.place k.within k.carries) in
-      (
+      let place = k.chooses y (first_alternative x g k.own k.sort k.place k.within k.carries) in (
         (
           subst (λ (n : ℕ). Stands c b n r seen) (sym (ap (λ (i : ℕ). (chosen y.alts i).0) place
               ∙ ap (λ (z : TempId). z.0) (chosen_own x g k.own k.sort k.place k.carries k.within))) k.stands,
@@ -217,8 +215,7 @@ module _ (c : ℕ) (H : Seen → List Read → Type 0) (b end : ℕ) (e : Ext) (
         let st' = h.0.0 in
         let good = good_read c b k r seen st' q temp_is block_is (subst (λ (x : Option Op). InSpace r (space_read x j)) (sym free) tt) h.0.1 in
         let rest = ends_good (j + 1) ys rs (λ m z got. (let n : j + 1 + m ≡ j + suc m = omega arith in
-        ap (slice_index st.choices) n ∙ places (suc m) z got ∙ ap (λ (x : ℕ). out_place e.names block.live_out s count s.term x z) (sym n))) h.1 in
-        (
+        ap (slice_index st.choices) n ∙ places (suc m) z got ∙ ap (λ (x : ℕ). out_place e.names block.live_out s count s.term x z) (sym n))) h.1 in (
           All-cons (GoodRead c seen) q (places_from (planned_read i st) (j + 1) ys) good rest.0,
           (record { temp = st'.temp; there = ap (slice_get seen.made) temp_is ∙ st'.there; reg = st'.reg }, rest.1),
         )
@@ -233,8 +230,7 @@ module _ (c : ℕ) (H : Seen → List Read → Type 0) (b end : ℕ) (e : Ext) (
       let i = planned_issue b end n op st in
       let reads = places_from (planned_read i st) 0 ys in
       let good = ends_good seen i st (length ys) refl refl 0 ys rs (λ m y got. (let at : 0 + m ≡ m = omega arith in ap (slice_index (places_from f 0 ys)) at ∙ place_of f 0 m ys y got)) h in
-      let no_call : i.instr ≡ Some Call → ⊥ = λ call. cc call in
-      (
+      let no_call : i.instr ≡ Some Call → ⊥ = λ call. cc call in (
         (
           record {
             reads = good.0;

@@ -250,8 +250,7 @@ module _ (c : ℕ) (H : Seen → List Read → Type 0) (b end : ℕ) (e : Ext) (
       ap (λ (i : ℕ). (chosen y.alts i).0) first_place ∙ ap (λ (z : TempId). z.0) (arrived_general x g' k.own k.carries) ∙ sym left.size in
       let zeros : (j : ℕ) (z : Operand) → 1 ≤ j → out_place e.names block.live_out s (length ys) s.term j z ≡ 0 =
       λ j z le. ap (λ (t : Term). out_place e.names block.live_out s (length ys) t j z) term ∙ not_first j (last_place z.alts) le in
-      out_good c H b end e block s fit m' q seen5 ys (0 ∷ rs)
-      (
+      out_good c H b end e block s fit m' q seen5 ys (0 ∷ rs) (
         (subst (λ (i : ℕ). Stands c b i 0 seen5) (sym temp_is) (idle.stands (length seen3.made) 0 re.new), sym fit.result),
         out_reads c H b end e block s fit g'' seen5 (length ys) 1 ks rs
             (out_later c H b end e block s fit g g'' seen seen5 (length ys) 1 ks rs

@@ -241,8 +241,7 @@ module _ (c : ℕ) (H : Seen → List Read → Type 0) (b end : ℕ) (e : Ext) (
         known = known_later c b seen i rs ms known in';
         calls = λ now h. calls_later c b now now seen.issues i (omega arith) h (λ call same. absurd (not_call call));
       } in
-      good_copy c H b end e block s fit n p seen U alts k rest purpose m for is
-      (
+      good_copy c H b end e block s fit n p seen U alts k rest purpose m for is (
         (ok, tt),
         subst (λ (x : ℕ). AreGoodSteps c H b end (n + 1) seen' rest (steps_of e block s (record { cycle = x; values = p.values; operands = p.operands + 1; definer = p.definer }) rest))
             (sym later) (go seen' reloaded),

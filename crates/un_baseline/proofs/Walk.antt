@@ -211,8 +211,7 @@ module _ (c : ℕ) (H : Seen → List Read → Type 0) (b end : ℕ) where
           known = λ kn. idle_known c b seen i registers refl refl kn;
           calls = λ now f. idle_calls c b seen i registers refl refl now f;
         } in
-        good_copy n p seen node alts k rest purpose no_move for is
-        (
+        good_copy n p seen node alts k rest purpose no_move for is (
           (idle_ok c b seen i registers refl refl, tt),
           subst (λ (x : ℕ). AreGoodSteps (n + 1) seen' rest (steps_of e block s (record { cycle = x; values = next_value p.values node; operands = next_operand p.operands node; definer = p.definer }) rest))
               (sym (still_next e.table p.cycle purpose node)) (go seen' idle),
@@ -256,8 +255,7 @@ module _ (c : ℕ) (H : Seen → List Read → Type 0) (b end : ℕ) where
         } in
         good_copy n p seen node alts k rest purpose m for is
         (subst (λ (xs : List Read). (StepOk c seen i xs (map (made_at i) (register ∷ [])) × Unit {0}) × AreGoodSteps (n + 1) (after seen i xs (map (made_at i) (register ∷ []))) rest
-        (steps_of e block s (behind_copy p purpose node m) rest)) (sym same)
-        (
+        (steps_of e block s (behind_copy p purpose node m) rest)) (sym same) (
           (goes_ok c b seen i rs (register ∷ []) p.cycle (one_item register) refl front (omega arith) times goods given', tt),
           subst (λ (x : ℕ). AreGoodSteps (n + 1) seen' rest (steps_of e block s (record { cycle = x; values = next_value p.values node; operands = next_operand p.operands node; definer = p.definer }) rest))
               (sym later) (go seen' moved),
