@@ -19,6 +19,7 @@ use Rattle.un_ir.specs.Linear.{first_of}
 use Rattle.un_ir.specs.LinearOf.{reads, name_operand, body_ops, in_op, end_ops, out_op}
 use Rattle.un_ir.specs.ExtendOf.{frame_op, with_op, with_operand, with_operands, new_operands, with_results, with_extended, with_all_extended, new_temps}
 use Rattle.un_model.specs.Congruences.{term_or, term_of}
+use Rattle.un_baseline.specs.declared.plan.Purpose.TheVariants.{Unread}
 use Rattle.un_baseline.specs.SpillEverywhere.{purpose_of_out, block_end}
 use Rattle.un_baseline.proofs.SpillSteps.{EachOp}
 use Rattle.un_baseline.proofs.Fronts.{IsCalm, IsEnter, IsFrontKind, EntersOnce, AreFront}
@@ -170,7 +171,7 @@ front_onward entry [] (y ∷ ys) front h = (onward_front_kind entry y.kind h.0, 
 front_onward entry (x ∷ xs) ys front h = (front.0, (once_more x.kind xs ys front.1.0 h, front_onward entry xs ys front.1.1 h))
 
 -- a terminator that does not return
-abbrev GoesBy : Term → Type 0
+abbrev pub GoesBy : Term → Type 0
 GoesBy (Ret value) = ⊥
 GoesBy _ = Unit {0}
 
@@ -186,7 +187,7 @@ goes_or entry (Copy node) later h k = k
 goes_or entry Enter later h k = k
 goes_or entry Leave later h k = absurd h
 
-goes_by : (entry : Bool) (ops : List ExtOp) → AreFront entry ops → GoesBy (term_of ops)
+pub goes_by : (entry : Bool) (ops : List ExtOp) → AreFront entry ops → GoesBy (term_of ops)
 goes_by entry [] h = tt
 goes_by entry (op ∷ ops) h = goes_or entry op.kind (term_of ops) h.0 (goes_by entry ops h.1.1)
 
@@ -195,6 +196,12 @@ calm_by Fall h = tt
 calm_by (Jump to) h = tt
 calm_by (Branch pred sense to) h = tt
 calm_by (Ret value) h = absurd h
+
+pub unread_out : (term : Term) → GoesBy term → purpose_of_out term ≡ Unread
+unread_out Fall h = refl
+unread_out (Jump to) h = refl
+unread_out (Branch pred sense to) h = refl
+unread_out (Ret value) h = absurd h
 
 ends_by : (term : Term) → GoesBy term → (now : ℕ) (t : Table) → block_end t term now ≡ now
 ends_by Fall h now t = refl

@@ -199,6 +199,7 @@ module _ (e : Ext) (block : ExtBlock) (s : Setting) (b end : ℕ) where
         (first_alts op.operands) node calm) h
     front_step n p purpose op Enter is kind front calm early once h =
         enters (ap (λ (k : ExtKind). instruction_of k 1) kind)
+        (let at : planned_cycle end op.kind 1 ≡ 1 = ap (λ (k : ExtKind). planned_cycle end k 1) kind in omega arith)
         (let at : planned_cycle end op.kind 1 ≡ 1 = ap (λ (k : ExtKind). planned_cycle end k 1) kind in let le = early front in omega arith)
         (once tt) h
     front_step n p purpose op Leave is kind front calm early once h = absurd front

@@ -157,7 +157,7 @@ laid_real entry block (back h) =
     subst (EachOp RealOp) (sym h.whole) (each_append RealOp h.front (h.leave ∷ (h.us ++ (h.op ∷ tail)))
     (fronts_real entry h.front h.is_front) (subst IsReal (sym h.is_leave) tt, ending))
 
-all_real : (entry : Bool) (blocks : List ExtBlock) → AreLaidOut entry blocks → EachBlockOp RealOp blocks
+pub all_real : (entry : Bool) (blocks : List ExtBlock) → AreLaidOut entry blocks → EachBlockOp RealOp blocks
 all_real entry [] h = tt
 all_real entry (block ∷ blocks) h = (laid_real entry block h.0, all_real false blocks h.1)
 

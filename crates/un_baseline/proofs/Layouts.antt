@@ -88,12 +88,12 @@ calm_at term entry [] front outs = tt
 calm_at term entry (op ∷ ops) front outs = calm_of term entry op.kind (purpose_at term ops) front.0 outs.0
     (calm_at term entry ops front.1.1 outs.1)
 
-are_calm : (term : Term) (entry : Bool) (ops : List ExtOp) → AreFront entry ops → EachOp (λ (o : ExtOp). o.kind ≡ Out
+pub are_calm : (term : Term) (entry : Bool) (ops : List ExtOp) → AreFront entry ops → EachOp (λ (o : ExtOp). o.kind ≡ Out
     → IsCalm (purpose_of_out term)) ops → AreCalm term ops
 are_calm term entry [] front outs = tt
 are_calm term entry (op ∷ ops) front outs = (calm_at term entry (op ∷ ops) front outs, are_calm term entry ops front.1.1 outs.1)
 
-each_of_all : (Q : ExtOp → Type 0) → ((op : ExtOp) → Q op) → (ops : List ExtOp) → EachOp Q ops
+pub each_of_all : (Q : ExtOp → Type 0) → ((op : ExtOp) → Q op) → (ops : List ExtOp) → EachOp Q ops
 each_of_all Q f [] = tt
 each_of_all Q f (op ∷ ops) = (f op, each_of_all Q f ops)
 
@@ -104,7 +104,7 @@ each_weaker Q R f (op ∷ ops) h = (f op h.0, each_weaker Q R f ops h.1)
 -- ---- two parts of a block
 
 module _ (e : Ext) (block : ExtBlock) (s : Setting) (b end : ℕ) where
-  purpose_split : (ops more : List ExtOp) → purpose_at s.term more ≡ Unread → purpose_at s.term (ops ++ more) ≡ purpose_at s.term ops
+  pub purpose_split : (ops more : List ExtOp) → purpose_at s.term more ≡ Unread → purpose_at s.term (ops ++ more) ≡ purpose_at s.term ops
   purpose_split [] more h = h
   purpose_split (op ∷ ops) more h = ap (purpose_of s.term op.kind) (purpose_split ops more h)
 
@@ -131,13 +131,13 @@ pub record HasTimes (t : Table) (is : List Issue) : Type 0 where
   pub separated : AllPairs (AreSeparated t) is
   pub ordered : AllPairs AreInOrder is
 
-early_by : (t : Table) (entry : Bool) → entry ≡ true → 1 + latency_of t EnterOp ≤ first_cycle t entry
+pub early_by : (t : Table) (entry : Bool) → entry ≡ true → 1 + latency_of t EnterOp ≤ first_cycle t entry
 early_by t true h = omega arith
 early_by t false h = absurd (cc h)
 
 between_in : (t : Table) (first low middle : ℕ) (i : Issue) → first ≤ middle → IsBetween t first low middle i → IsIn t 0 middle i
 between_in t first low middle i le (idle n) = free n
-between_in t first low middle i le (entering n lt) = inside EnterOp n (omega arith) (omega arith)
+between_in t first low middle i le (entering n one lt) = inside EnterOp n (omega arith) (omega arith)
 between_in t first low middle i le (within o n ne lo hi) = inside o n (omega arith) hi
 
 none_before_reload : (x : Option Op) → memory_distance x (Some Reload) ≡ None
@@ -237,14 +237,14 @@ module _ (e : Ext) (fit : IsFit e.table) where
 
 -- ---- all blocks
 
-in_block : (b end n : ℕ) (ops : List ExtOp) (steps : List Step)
+pub in_block : (b end n : ℕ) (ops : List ExtOp) (steps : List Step)
     → All (λ (i : Issue). i.block.0 ≡ b) (pairs_from (planned_issue b end) n ops steps)
 in_block b end n [] steps = All-nil (λ (i : Issue). i.block.0 ≡ b)
 in_block b end n (op ∷ ops) [] = All-nil (λ (i : Issue). i.block.0 ≡ b)
 in_block b end n (op ∷ ops) (s ∷ steps) = All-cons (λ (i : Issue). i.block.0 ≡ b) (planned_issue b end n op s) (pairs_from
     (planned_issue b end) (n + 1) ops steps) refl (in_block b end (n + 1) ops steps)
 
-past_block : (b n : ℕ) (blocks : List ExtBlock) (plans : List BlockPlan)
+pub past_block : (b n : ℕ) (blocks : List ExtBlock) (plans : List BlockPlan)
     → All (λ (i : Issue). b ≤ i.block.0) (over_plans planned_issues b n blocks plans)
 past_block b n [] plans = All-nil (λ (i : Issue). b ≤ i.block.0)
 past_block b n (block ∷ blocks) [] = All-nil (λ (i : Issue). b ≤ i.block.0)

@@ -199,7 +199,7 @@ block_size block p fit =
     let b = steps_size block.ops p.steps fit in
     omega arith
 
-end_is : (values : List ℕ) (first : ℕ) (block : ExtBlock) (p : BlockPlan) → SuitsBlock block p
+pub end_is : (values : List ℕ) (first : ℕ) (block : ExtBlock) (p : BlockPlan) → SuitsBlock block p
     → Holds values first (block_values block p) → value_of values (block_vars first block).end ≡ p.end
 end_is values first block p fit h =
     let size = steps_size block.ops p.steps fit in

@@ -31,7 +31,7 @@ use Rattle.un_baseline.proofs.Tails.{IsReading, first_one, second_one, AreForLin
 pub record Adds (g g' : Growth) (more : List ExtOp) : Type 0 where
   pub ops : g'.ops ≡ g.ops ++ more
 
-adds_nothing : (g : Growth) → Adds g g []
+pub adds_nothing : (g : Growth) → Adds g g []
 adds_nothing g = record { ops = sym (append-nil g.ops) }
   where
     append-nil : (xs : List ExtOp) → xs ++ [] ≡ xs
@@ -93,7 +93,7 @@ operand_copies Pred true alts g = (
   two_copies refl refl,
 )
 
-values_add : (n : ℕ) (sorts : List Sort) (g : Growth) → AddsSome g (with_values n sorts g) IsValueCopy
+pub values_add : (n : ℕ) (sorts : List Sort) (g : Growth) → AddsSome g (with_values n sorts g) IsValueCopy
 values_add n [] g = some_none IsValueCopy g
 values_add n (sort ∷ sorts) g =
     let here = value_copies sort.kind sort.copied _ g in

@@ -235,14 +235,14 @@ abbrev pub IsReal : ExtKind → Type 0
 IsReal (End Fall) = ⊥
 IsReal _ = Unit {0}
 
-transfers : (term : Term) → IsReal (End term) → is_some (transfer_of term) ≡ true
+pub transfers : (term : Term) → IsReal (End term) → is_some (transfer_of term) ≡ true
 transfers Fall h = absurd h
 transfers (Jump to) h = refl
 transfers (Branch pred true to) h = refl
 transfers (Branch pred false to) h = refl
 transfers (Ret value) h = refl
 
-rests_by : (e : Ext) (block : ExtBlock) (s : Setting) (p : Progress) (purpose : Purpose) (op : ExtOp) (kind : ExtKind)
+pub rests_by : (e : Ext) (block : ExtBlock) (s : Setting) (p : Progress) (purpose : Purpose) (op : ExtOp) (kind : ExtKind)
     → op.kind ≡ kind → IsReal kind → Rests op (step_of e block s p purpose op kind)
 rests_by e block s p purpose op In is real = active_rests op _ (rw is refl)
 rests_by e block s p purpose op Out is real = active_rests op _ (rw is refl)

@@ -28,11 +28,12 @@ pairs_nil R i j d lt within = absurd (omega arith)
 
 -- ---- rising issues
 
--- the active issues, but for Enter, rise from cycle `low` on and are done by `high`; Enter is done by `first`
+-- the active issues, but for Enter, rise from cycle `low` on and are done by `high`; Enter comes in cycle 1 or later and is done
+-- by `first`
 pub data Rise (t : Table) (first high : ℕ) : ℕ → List Issue → Type 0 where
   nothing : {low : ℕ} → low ≤ high → Rise t first high low []
   still : {low : ℕ} {i : Issue} {is : List Issue} → i.instr ≡ None → Rise t first high low is → Rise t first high low (i ∷ is)
-  enters : {low : ℕ} {i : Issue} {is : List Issue} → i.instr ≡ Some Enter → i.cycle + latency_of t Enter ≤ first
+  enters : {low : ℕ} {i : Issue} {is : List Issue} → i.instr ≡ Some Enter → 1 ≤ i.cycle → i.cycle + latency_of t Enter ≤ first
       → All (λ (j : Issue). j.instr ≢ Some Enter) is → Rise t first high low is
       → Rise t first high low (i ∷ is)
   issues : {low : ℕ} {i : Issue} {is : List Issue} (o : Op) → i.instr ≡ Some o → o ≢ Enter → low ≤ i.cycle
@@ -41,24 +42,24 @@ pub data Rise (t : Table) (first high : ℕ) : ℕ → List Issue → Type 0 whe
 -- Enter is done by `first`, every other active issue comes between `low` and `high`
 pub data IsBetween (t : Table) (first low high : ℕ) (i : Issue) : Type 0 where
   idle : i.instr ≡ None → IsBetween t first low high i
-  entering : i.instr ≡ Some Enter → i.cycle + latency_of t Enter ≤ first → IsBetween t first low high i
+  entering : i.instr ≡ Some Enter → 1 ≤ i.cycle → i.cycle + latency_of t Enter ≤ first → IsBetween t first low high i
   within : (o : Op) → i.instr ≡ Some o → o ≢ Enter → low ≤ i.cycle → i.cycle + latency_of t o ≤ high → IsBetween t first low high i
 
 between_from : (t : Table) (first low next high : ℕ) (i : Issue) → low ≤ next → IsBetween t first next high i → IsBetween t first low high i
 between_from t first low next high i le (idle e) = idle e
-between_from t first low next high i le (entering e lt) = entering e lt
+between_from t first low next high i le (entering e one lt) = entering e one lt
 between_from t first low next high i le (within o e ne lo hi) = within o e ne (omega arith) hi
 
 pub rise_bound : (t : Table) (first high low : ℕ) (is : List Issue) → Rise t first high low is → low ≤ high
 rise_bound t first high low [] (nothing le) = le
 rise_bound t first high low (i ∷ is) (still e h) = rise_bound t first high low is h
-rise_bound t first high low (i ∷ is) (enters e lt other h) = rise_bound t first high low is h
+rise_bound t first high low (i ∷ is) (enters e one lt other h) = rise_bound t first high low is h
 rise_bound t first high low (i ∷ is) (issues o e ne le h) = let b = rise_bound t first high (i.cycle + latency_of t o) is h in omega arith
 
 pub all_between : (t : Table) (first high low : ℕ) (is : List Issue) → Rise t first high low is → All (IsBetween t first low high) is
 all_between t first high low [] h = All-nil (IsBetween t first low high)
 all_between t first high low (i ∷ is) (still e h) = All-cons (IsBetween t first low high) i is (idle e) (all_between t first high low is h)
-all_between t first high low (i ∷ is) (enters e lt other h) = All-cons (IsBetween t first low high) i is (entering e lt)
+all_between t first high low (i ∷ is) (enters e one lt other h) = All-cons (IsBetween t first low high) i is (entering e one lt)
     (all_between t first high low is h)
 all_between t first high low (i ∷ is) (issues o e ne le h) =
     All-cons (IsBetween t first low high) i is (within o e ne le (rise_bound t first high (i.cycle + latency_of t o) is h))
@@ -80,7 +81,7 @@ module _ (t : Table) (first : ℕ) where
   enter_separated : (low high : ℕ) (i j : Issue) → first ≤ low → i.instr ≡ Some Enter → i.cycle + latency_of t Enter ≤ first
       → j.instr ≢ Some Enter → IsBetween t first low high j → AreSeparated t i j
   enter_separated low high i j le e lt other (idle n) o q block io jq = absurd (no_op j q n jq)
-  enter_separated low high i j le e lt other (entering n m) o q block io jq = absurd (other n)
+  enter_separated low high i j le e lt other (entering n one m) o q block io jq = absurd (other n)
   enter_separated low high i j le e lt other (within p n ne lo hi) o q block io jq =
       let same = same_op i o Enter io e in
       inl (subst (λ (x : Op). i.cycle + latency_of t x ≤ j.cycle) (sym same) (omega arith))
@@ -89,7 +90,7 @@ module _ (t : Table) (first : ℕ) where
   issue_separated : (low high : ℕ) (i j : Issue) (p : Op) → first ≤ i.cycle → i.instr ≡ Some p → i.cycle + latency_of t p ≤ low
       → IsBetween t first low high j → AreSeparated t i j
   issue_separated low high i j p le e lt (idle n) o q block io jq = absurd (no_op j q n jq)
-  issue_separated low high i j p le e lt (entering n m) o q block io jq =
+  issue_separated low high i j p le e lt (entering n one m) o q block io jq =
       let same = same_op j q Enter jq n in
       inr (subst (λ (x : Op). j.cycle + latency_of t x ≤ i.cycle) (sym same) (omega arith))
   issue_separated low high i j p le e lt (within r n ne lo hi) o q block io jq =
@@ -100,7 +101,7 @@ module _ (t : Table) (first : ℕ) where
   rise_separated high low [] le h = pairs_nil (AreSeparated t)
   rise_separated high low (i ∷ is) le (still e h) =
       AllPairs-cons (AreSeparated t) i is (λ k d lt. still_separated i (get_or is k d) e) (rise_separated high low is le h)
-  rise_separated high low (i ∷ is) le (enters e lt other h) =
+  rise_separated high low (i ∷ is) le (enters e one lt other h) =
       AllPairs-cons (AreSeparated t) i is (λ k d in'. enter_separated low high i (get_or is k d) le e lt (other k d in')
       (all_between t first high low is h k d in')) (rise_separated high low is le h)
   rise_separated high low (i ∷ is) le (issues o e ne lo h) =
@@ -145,14 +146,14 @@ before_enter i j e n block some = absurd (not_some (memory_distance i.instr j.in
 module _ (t : Table) (fit : IsFit t) (first : ℕ) where
   behind_ordered : (low high : ℕ) (i j : Issue) → i.cycle < low → IsBetween t first low high j → AreInOrder i j
   behind_ordered low high i j lt (idle e) = before_idle i j e
-  behind_ordered low high i j lt (entering e m) = before_enter i j e
+  behind_ordered low high i j lt (entering e one m) = before_enter i j e
   behind_ordered low high i j lt (within o e ne lo hi) = λ n block some. omega arith
 
   pub rise_ordered : (high low : ℕ) (is : List Issue) → Rise t first high low is → AllPairs AreInOrder is
   rise_ordered high low [] h = pairs_nil AreInOrder
   rise_ordered high low (i ∷ is) (still e h) = AllPairs-cons AreInOrder i is (λ k d in'. idle_ordered i (get_or is k d) e)
       (rise_ordered high low is h)
-  rise_ordered high low (i ∷ is) (enters e lt none h) = AllPairs-cons AreInOrder i is (λ k d in'. enter_ordered i (get_or is k d) e)
+  rise_ordered high low (i ∷ is) (enters e one lt none h) = AllPairs-cons AreInOrder i is (λ k d in'. enter_ordered i (get_or is k d) e)
       (rise_ordered high low is h)
   rise_ordered high low (i ∷ is) (issues o e ne lo h) =
       let positive = (fit.latencies o).0 in

@@ -4,6 +4,7 @@ use Rattle.un_base.specs.declared.ids.NameId.{NameId}
 use Rattle.un_isa.specs.Fit.{IsFit}
 use Rattle.un_ir.specs.declared.function.Function.{Function}
 use Rattle.un_ir.specs.declared.extended.Ext.{Ext}
+use Rattle.un_ir.specs.Extended.{IsLinear, IsExtended}
 use Rattle.un_ir.specs.ExtendOf.{extend_of}
 use Rattle.un_ir.specs.LinearOf.{AreLive, lin_of}
 use Rattle.un_model.specs.declared.model.Options.{Options}
@@ -22,6 +23,7 @@ pub record IsOfFunction (e : Ext) : Type 0 where
   pub function : Function
   pub lists : List (List NameId)
   pub live : AreLive function.blocks lists
+  pub linear : IsLinear (lin_of function lists e.table)
   pub extended : e ≡ extend_of (lin_of function lists e.table)
 
 -- the model of a function's extended function under roomy options, for a table that the compiler works for
@@ -29,4 +31,5 @@ pub record IsSpillable (m : Model) : Type 0 where
   pub model : IsModel m
   pub table : IsFit m.ext.table
   pub function : IsOfFunction m.ext
+  pub kept : IsExtended m.ext
   pub roomy : AreRoomy m.ext m.options

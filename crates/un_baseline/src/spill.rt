@@ -15,7 +15,7 @@ ghost use Rattle.un_model.specs.Congruences.{term_or, term_of, live_in_temps, Ke
 ghost use Rattle.un_model.specs.Instructions.{gives_truth, transfer_of, latency_by};
 ghost use Rattle.un_model.specs.Pairs.{places_from};
 ghost use Rattle.un_model.specs.Schedules.{schedule_of};
-ghost use Rattle.un_model.specs.Solutions.{KeepsZeros, KeepsChoices, KeepsSpaces, KeepsMemory, KeepsRegisters, KeepsPackets, KeepsHomes, HasFrame};
+ghost use Rattle.un_model.specs.Solutions.{IsSolution};
 ghost use Rattle.un_model.specs.Cost.{value_of};
 ghost use Rattle.un_model.specs.Variables.{chosen_operands};
 ghost use Rattle.un_baseline.specs.RoomyOptions.{IsSpillable};
@@ -702,16 +702,7 @@ fn saved_registers(alloc: Global, t: &Table) -> Result<Items<u32>, NoMemory>
 /// is spilled after it, and one instruction issues in a packet. The answer is `NoMemory` where there is no memory for it.
 pub fn spill_everywhere(alloc: Global, m: &Model) -> Result<Solution, NoMemory>
     requires { IsSpillable m.now }
-    ensures zeros { IfOk result (λ s. KeepsZeros (schedule_of m.now s.values)) }
-    ensures choices { IfOk result (λ s. KeepsChoices (schedule_of m.now s.values)) }
-    ensures spaces { IfOk result (λ s. KeepsSpaces (schedule_of m.now s.values)) }
-    ensures memory { IfOk result (λ s. KeepsMemory (schedule_of m.now s.values)) }
-    ensures registers { IfOk result (λ s. KeepsRegisters m.now.ext.table.clobbered (schedule_of m.now s.values)) }
-    ensures packets { IfOk result (λ s. KeepsPackets m.now.ext.table (schedule_of m.now s.values)) }
-    ensures homes { IfOk result (λ s. KeepsHomes (schedule_of m.now s.values)) }
-    ensures congruences { IfOk result (λ s. KeepsCongruences m.now.ext.blocks (schedule_of m.now s.values)) }
-    ensures flag { IfOk result (λ s. value_of s.values m.now.flag ≡ 1) }
-    ensures frame { IfOk result (λ s. All (HasFrame true) (schedule_of m.now s.values).issues) }
+    ensures solution { IfOk result (IsSolution m.now) }
     ensures values { IfOk result (λ s. s.values ≡ spilled_values m.now.ext) }
 {
     let saved = saved_registers(alloc, &m.ext.table)?;
