@@ -46,7 +46,7 @@ use Rattle.un_baseline.proofs.Outs.{ReadsFrom}
 use Rattle.un_baseline.proofs.Sound.{Seen}
 use Rattle.un_baseline.proofs.Starts.{Fresh}
 use Rattle.un_baseline.proofs.Walk.{AreGoodSteps, seen_after, seen_is}
-use Rattle.un_baseline.proofs.Walked.{no_slot_clobbered, regs_kept, regs_apart, IsBelow, steps_below, steps_size, below_weaker, suits_of, more, more_more, E, made_block, ext_from, grown_values, grown_next}
+use Rattle.un_baseline.proofs.Walked.{no_slot_clobbered, regs_kept, regs_apart, IsBelow, steps_below, steps_size, below_weaker, suits_of, more, more_behind, E, made_block, ext_from, grown_values, grown_next}
 use Rattle.un_baseline.proofs.Whole.{bound_rooms, Handed, ops_are, term_is, starts, start_size, whole_good, start_made}
 use Rattle.un_baseline.proofs.Items.{get_left, get_right, get_map, append_nil}
 
@@ -315,8 +315,7 @@ module _ (f : Function) (lists : List (List NameId)) (t : Table) (fit : IsFit t)
       let rs' = over_plans planned_reads (b + 1) n' ext plans in
       let ms' = over_plans planned_made (b + 1) n' ext plans in
       let final' : F ≡ more s1 is' rs' ms' =
-      final ∙ sym (ap (λ (z : Seen). more z is' rs' ms') same' ∙ more_more seen (planned_issues b n B' p') is'
-      (planned_reads b n B' p') rs' (planned_made b n B' p') ms') in
+      final ∙ sym (more_behind seen s1 (planned_issues b n B' p') is' (planned_reads b n B' p') rs' (planned_made b n B' p') ms' same') in
       let next' : length s1.made ≡ G'.next =
       steps_size t.clobbered (Handed x B' (term_of B'.ops)) b p'.end n seen B'.ops p'.steps (suits_of x entry B')
       ∙ ap (λ (k : ℕ). k + results_count B'.ops) size

@@ -173,7 +173,7 @@ suits_of x entry block = steps_zip Suits x block (setting_of x entry block) (λ 
 abbrev pub more : Seen → List Issue → List Read → List LiveRange → Seen
 more seen is rs ms = record { issues = seen.issues ++ is; reads = seen.reads ++ rs; made = seen.made ++ ms }
 
-pub more_more : (seen : Seen) (is is' : List Issue) (rs rs' : List Read) (ms ms' : List LiveRange)
+more_more : (seen : Seen) (is is' : List Issue) (rs rs' : List Read) (ms ms' : List LiveRange)
     → more (more seen is rs ms) is' rs' ms' ≡ more seen (is ++ is') (rs ++ rs') (ms ++ ms')
 more_more seen is is' rs rs' ms ms' =
     ap (λ (x : List Issue). record { issues = x; reads = (seen.reads ++ rs) ++ rs'; made = (seen.made ++ ms) ++ ms' })
@@ -182,6 +182,11 @@ more_more seen is is' rs rs' ms ms' =
     (append_assoc seen.reads rs rs')
     ∙ ap (λ (x : List LiveRange). record { issues = seen.issues ++ (is ++ is'); reads = seen.reads ++ (rs ++ rs'); made = x })
     (append_assoc seen.made ms ms')
+
+pub more_behind : (seen seen1 : Seen) (is is' : List Issue) (rs rs' : List Read) (ms ms' : List LiveRange) → seen1 ≡ more seen is rs ms
+    → more seen1 is' rs' ms' ≡ more seen (is ++ is') (rs ++ rs') (ms ++ ms')
+more_behind seen seen1 is is' rs rs' ms ms' same =
+    ap (λ (x : Seen). more x is' rs' ms') same ∙ more_more seen is is' rs rs' ms ms'
 
 more_none : (seen : Seen) → seen ≡ more seen [] [] []
 more_none seen =
@@ -321,4 +326,5 @@ module _ (f : Function) (lists : List (List NameId)) (t : Table) (fit : IsFit t)
       let is' = over_plans planned_issues (b + 1) n' ext plans in
       let rs' = over_plans planned_reads (b + 1) n' ext plans in
       let ms' = over_plans planned_made (b + 1) n' ext plans in
-      subst (Sound c) (ap (λ (x : Seen). more x is' rs' ms') same ∙ more_more seen is is' rs rs' ms ms') rest
+      subst (Sound c) {x = more seen1 is' rs' ms'} {y = more seen (is ++ is') (rs ++ rs') (ms ++ ms')}
+      (more_behind seen seen1 is is' rs rs' ms ms' same) rest
