@@ -121,7 +121,8 @@ module _ (e : Ext) (o : Options) (roomy : AreRoomy e o) (fit : IsFit e.table) (e
   pub low_results : EachOp (LowResults n) lin.ops
   low_results = (
     (λ m y at. row_low n c m y at),
-    each_append (LowResults n) (body_ops e.table current first blk.ops) (ends ++ out ∷ []) (bodies_low e.table n blk.ops current first (omega arith))
+    each_append (LowResults n) (body_ops e.table current first blk.ops) (ends ++ out ∷ []) (bodies_low e.table n blk.ops current first
+        (omega arith))
         (each_append (LowResults n) ends (out ∷ []) (ends_low n blk.term after link) ((λ m y at. absurd (cc at)), tt)),
   )
 
@@ -140,7 +141,8 @@ module _ (e : Ext) (o : Options) (roomy : AreRoomy e o) (fit : IsFit e.table) (e
           let g = results_size in
           omega arith
 
-  module _ (at_b : slice_get e.blocks b ≡ Some made_block) (sources : (below : n ≤ link) (is_link : is_home e.table entry made_block (temp home) LINK ≡ true)
+  module _ (at_b : slice_get e.blocks b ≡ Some made_block) (sources : (below : n ≤ link) (is_link : is_home e.table entry made_block
+      (temp home) LINK ≡ true)
       → AreSources e o roomy fit extended b entry made_block at_b saved n link home below is_link blk.ops)
       (reads : EachOp (λ (op : ExtOp). ReadsFrom e o entry made_block n op.operands) lin.ops) where
     abbrev tail : List ExtOp
@@ -155,25 +157,34 @@ module _ (e : Ext) (o : Options) (roomy : AreRoomy e o) (fit : IsFit e.table) (e
         let is_link = link_home e o roomy fit extended b entry made_block at_b g0 saved results results_size begins is_saved among in
         let place : length values + (length live_in + length (callee_saved e.table)) ≡ link = omega arith in
         let known : Known e o roomy fit extended b entry made_block at_b saved n link home (omega arith) is_link g1 = record {
-          values = start_values e o roomy fit extended b entry made_block at_b g0 saved results results_size begins is_saved n none_yet among;
-          begins = subst (λ (k : ℕ). Begins k home g1) place (link_begins e o roomy fit extended b entry made_block at_b g0 saved results results_size
+          values = start_values e o roomy fit extended b entry made_block at_b g0 saved results results_size begins is_saved n none_yet
+              among;
+          begins = subst (λ (k : ℕ). Begins k home g1) place (link_begins e o roomy fit extended b entry made_block at_b g0 saved results
+              results_size
               begins is_saved);
         } in
-        let bodies = each_left (λ (op : ExtOp). ReadsFrom e o entry made_block n op.operands) (body_ops e.table current first blk.ops) (ends ++ out ∷ [])
+        let bodies = each_left (λ (op : ExtOp). ReadsFrom e o entry made_block n op.operands) (body_ops e.table current first blk.ops)
+        (ends ++ out ∷ [])
         reads.1 in
-        let closing = each_right (λ (op : ExtOp). ReadsFrom e o entry made_block n op.operands) (body_ops e.table current first blk.ops) (ends ++ out ∷ [])
+        let closing = each_right (λ (op : ExtOp). ReadsFrom e o entry made_block n op.operands) (body_ops e.table current first blk.ops)
+        (ends ++ out ∷ [])
         reads.1 in
         let endings = each_left (λ (op : ExtOp). ReadsFrom e o entry made_block n op.operands) ends (out ∷ []) closing in
         let outs = each_right (λ (op : ExtOp). ReadsFrom e o entry made_block n op.operands) ends (out ∷ []) closing in
-        let later : Inside e o roomy fit extended b entry made_block at_b tail = λ x h. inside x (Contains-append_right (extended_ops e.names live_in
+        let later : Inside e o roomy fit extended b entry made_block at_b tail = λ x h. inside x (Contains-append_right (extended_ops
+        e.names live_in
         entry saved (in_op n c) g0) tail x h) in
         subst (Walk e o roomy fit extended b entry made_block at_b (first_progress e entry)) (sym whole)
-        (start_good e o roomy fit extended b entry made_block at_b g0 saved results results_size begins is_saved tail (first_progress e entry) inside
-        (λ r z. bodies_good e o roomy fit extended b entry made_block at_b saved n link home (omega arith) is_link e.table blk.ops current first g1 r
+        (start_good e o roomy fit extended b entry made_block at_b g0 saved results results_size begins is_saved tail (first_progress e
+        entry) inside
+        (λ r z. bodies_good e o roomy fit extended b entry made_block at_b saved n link home (omega arith) is_link e.table blk.ops
+        current first g1 r
         (ends ++ out ∷ []) (sources (omega arith) is_link) bodies known z later
-        (λ h q k z' within. ends_good e o roomy fit extended b entry made_block at_b saved n link home (omega arith) is_link blk.term after h q (out ∷ []) k
+        (λ h q k z' within. ends_good e o roomy fit extended b entry made_block at_b saved n link home (omega arith) is_link blk.term
+        after h q (out ∷ []) k
         endings z' within
-        (λ h' q' k' z'' within'. out_good e o roomy fit extended b entry made_block at_b saved n link home (omega arith) is_link out.operands h' q' k'
+        (λ h' q' k' z'' within'. out_good e o roomy fit extended b entry made_block at_b saved n link home (omega arith) is_link
+        out.operands h' q' k'
         outs.0 z'' within'))))
 
 -- ---- all blocks
@@ -217,7 +228,8 @@ module _ (f : Function) (lists : List (List NameId)) (t : Table) (o : Options) (
         → SourceOk e o roomy fit extended b entry block at_b src
     source_ok b entry block at_b src h = record {
       named = record {
-        named = λ name is. let lt = h.within name (assigning_is src.dst name is) in let size = length-map f.names kind_of_pair in omega arith;
+        named = λ name is. let lt = h.within name (assigning_is src.dst name is) in let size = length-map f.names kind_of_pair in omega
+            arith;
       };
       kind = λ name is. h.kind name (assigning_is src.dst name is);
     }

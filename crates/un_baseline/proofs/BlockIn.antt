@@ -53,7 +53,8 @@ use Rattle.un_baseline.proofs.WalkIn.{Good, Ready, AreReady, operands_good, AreT
 pub row_is : (n c m : ℕ) → m < c → slice_get (map temp (range_with_len n c)) m ≡ Some (temp (n + m))
 row_is n zero m lt = absurd (omega arith)
 row_is n (suc c) zero lt = let z : n ≡ n + 0 = omega arith in ap (λ (k : ℕ). Some (temp k)) z
-row_is n (suc c) (suc m) lt = let z : n + 1 + m ≡ n + suc m = omega arith in row_is (n + 1) c m (omega arith) ∙ ap (λ (k : ℕ). Some (temp k)) z
+row_is n (suc c) (suc m) lt = let z : n + 1 + m ≡ n + suc m = omega arith in row_is (n + 1) c m (omega arith) ∙ ap (λ (k : ℕ). Some (temp
+    k)) z
 
 replicate_at : {A : Type 0} (n : ℕ) (x : A) (m : ℕ) (w : A) → slice_get (replicate n x) m ≡ Some w → (w ≡ x) × (m < n)
 replicate_at zero x m w at = absurd (cc at)
@@ -66,7 +67,8 @@ truth_given (Some R) h = absurd (cc h)
 truth_given (Some P) h = refl
 truth_given (Some M) h = absurd (cc h)
 
-module _ (e : Ext) (o : Options) (roomy : AreRoomy e o) (fit : IsFit e.table) (extended : IsExtended e) (b : ℕ) (entry : Bool) (block : ExtBlock)
+module _ (e : Ext) (o : Options) (roomy : AreRoomy e o) (fit : IsFit e.table) (extended : IsExtended e) (b : ℕ) (entry : Bool) (block :
+    ExtBlock)
     (at_b : slice_get e.blocks b ≡ Some block) where
   abbrev s : Setting
   s = setting_of e entry block
@@ -81,7 +83,8 @@ module _ (e : Ext) (o : Options) (roomy : AreRoomy e o) (fit : IsFit e.table) (e
   starts c h op k is =
       let g = All-contains (IsGoodExtBlock e.table e.names e.blocks) e.blocks c extended.good.each h in
       let at = slice_get-get_or c.ops k.0 op k.1 ∙ ap (λ (x : ExtOp). Some x) k.2 in
-      let size : length op.results ≡ length c.live_in + length (saved_registers e.table) = (g.ops k.0 op at).results ∙ ap (result_count e.table c) is in
+      let size : length op.results ≡ length c.live_in + length (saved_registers e.table) = (g.ops k.0 op at).results ∙ ap (result_count
+      e.table c) is in
       omega arith
 
   -- ---- sorts
@@ -95,7 +98,8 @@ module _ (e : Ext) (o : Options) (roomy : AreRoomy e o) (fit : IsFit e.table) (e
   sorts_at n (sort ∷ sorts) h =
       let z : n + 0 ≡ n = omega arith in (
         subst (λ (k : ℕ). ValueSort k sort) z (h 0 sort refl),
-        sorts_at (n + 1) sorts (λ m t at. let q : n + suc m ≡ n + 1 + m = omega arith in subst (λ (k : ℕ). ValueSort k t) q (h (suc m) t at)),
+        sorts_at (n + 1) sorts (λ m t at. let q : n + suc m ≡ n + 1 + m = omega arith in subst (λ (k : ℕ). ValueSort k t) q (h (suc m) t
+            at)),
       )
 
   -- a result of an operation in the block is a truth value where the operation gives one there
@@ -124,7 +128,8 @@ module _ (e : Ext) (o : Options) (roomy : AreRoomy e o) (fit : IsFit e.table) (e
     body_sorts among = sorts_at n (replicate count sort) (λ m t at.
         let r = replicate_at count sort m t at in
         let there = row_is n count m r.1 in
-        let kinds = kind_defined e.names e.blocks extended.good.numbered starts b among.0 m block made (temp (n + m)) at_b (place_of made among)
+        let kinds = kind_defined e.names e.blocks extended.good.numbered starts b among.0 m block made (temp (n + m)) at_b (place_of made
+        among)
         there refl ∙ slice_get-map (λ (y : TempId). result_kind src.op) (map temp (range_with_len n count)) m
         ∙ ap (option_map (λ (y : TempId). result_kind src.op)) there in
         subst (ValueSort (n + m)) (sym r.0) (record {
@@ -134,7 +139,8 @@ module _ (e : Ext) (o : Options) (roomy : AreRoomy e o) (fit : IsFit e.table) (e
         }))
 
   truths_row : (d : Definer) (n count : ℕ) (sort : Sort) → SortsOk e block s.placed n (replicate count sort)
-      → ((name : NameId) → d ≡ Assigns name → name_kind e.names name ≡ sort.kind) → AreTruths e o roomy entry block live d n (replicate count sort)
+      → ((name : NameId) → d ≡ Assigns name → name_kind e.names name ≡ sort.kind)
+      → AreTruths e o roomy entry block live d n (replicate count sort)
   truths_row d n zero sort ok kinds = tt
   truths_row d n (suc count) sort ok kinds =
       ((λ name is pred. (ok.0).truth (sym (kinds name is) ∙ pred)), truths_row d (n + 1) count sort ok.1 kinds)
@@ -211,7 +217,8 @@ module _ (e : Ext) (o : Options) (roomy : AreRoomy e o) (fit : IsFit e.table) (e
         let among = body_among tail inside in
         let ds = values_ops read.next sorts here in
         subst (Walk p) (sym (body_whole tail))
-        (operands_good e o roomy entry block live xs g 0 p (body ∷ (ds ++ tail)) (ready_operands from 0 xs g ok reads (omega arith)) (omega arith)
+        (operands_good e o roomy entry block live xs g 0 p (body ∷ (ds ++ tail)) (ready_operands from 0 xs g ok reads (omega arith))
+        (omega arith)
         (λ q.
         let purpose = purpose_at s.term (body ∷ (ds ++ tail)) in
         let next = progress_of e block s q purpose body (Body src) in (

@@ -244,8 +244,10 @@ module _ (e : Ext) (block : ExtBlock) (s : Setting) (b end : ℕ) where
   tail_stays_by : (p : Progress) (purpose : Purpose) (op : ExtOp) (kind : ExtKind) → IsTailKind kind → IsTailPurpose purpose
       → (progress_of e block s p purpose op kind).cycle ≡ p.cycle
   tail_stays_by p purpose op Leave tail h = refl
-  tail_stays_by p purpose op (Copy U) tail h = (copy_stays_at p purpose (copy_move e block.live_in s p purpose (first_alts op.operands) U) h).0
-  tail_stays_by p purpose op (Copy U2) tail h = (copy_stays_at p purpose (copy_move e block.live_in s p purpose (first_alts op.operands) U2) h).1
+  tail_stays_by p purpose op (Copy U) tail h = (copy_stays_at p purpose (copy_move e block.live_in s p purpose (first_alts op.operands)
+      U) h).0
+  tail_stays_by p purpose op (Copy U2) tail h = (copy_stays_at p purpose (copy_move e block.live_in s p purpose (first_alts op.operands)
+      U2) h).1
   tail_stays_by p purpose op (End (Ret value)) tail h = refl
   tail_stays_by p purpose op Out tail h = refl
   tail_stays_by p purpose op (Copy D) tail h = absurd tail
@@ -330,7 +332,8 @@ module _ (e : Ext) (fit : IsFit e.table) where
       }
 
   back_times : (entry : Bool) (block : ExtBlock) (b end n : ℕ) → Returns entry block → EachOp SourceOp block.ops → AreEnded block.ops
-      → block_end e.table (term_of block.ops) (progress_after e block (setting_of e entry block) (first_progress e entry) block.ops).cycle ≡ end
+      → block_end e.table (term_of block.ops) (progress_after e block (setting_of e entry block) (first_progress e entry)
+      block.ops).cycle ≡ end
       → BlockTimes e.table (first_cycle e.table entry) end (block_issues entry block b end n)
   back_times entry block b end n h source ended at =
       let s = setting_of e entry block in
@@ -351,7 +354,8 @@ module _ (e : Ext) (fit : IsFit e.table) where
       (h.late ++ h.out ∷ []))))) h.is_leave in
       let stays = tail_stays e block s b end behind more (tail_ops h.leave h.us h.op h.late h.out h.value h.is_leave h.for_link h.is_return
       h.is_late h.is_out) in
-      let past : (progress_after e block s first block.ops).cycle ≡ now = ap (λ (ops : List ExtOp). (progress_after e block s first ops).cycle)
+      let past : (progress_after e block s first block.ops).cycle ≡ now = ap (λ (ops : List ExtOp). (progress_after e block s first
+      ops).cycle)
       h.whole ∙ ap (λ (p : Progress). p.cycle) (progress_split e block s b end first h.front more unread) ∙ stays in
       let final : block_end e.table (Ret h.value) now ≡ end = sym (ap (λ (t : Term). block_end e.table t now) h.term)
       ∙ sym (ap (block_end e.table (term_of block.ops)) past) ∙ at in
@@ -384,7 +388,8 @@ module _ (e : Ext) (fit : IsFit e.table) where
       }
 
   pub block_times_of : (entry : Bool) (block : ExtBlock) (b n : ℕ) → IsLaidOut entry block → EachOp SourceOp block.ops → AreEnded block.ops
-      → BlockTimes e.table (first_cycle e.table entry) (block_plan e entry block).end (block_issues entry block b (block_plan e entry block).end n)
+      → BlockTimes e.table (first_cycle e.table entry) (block_plan e entry block).end (block_issues entry block b (block_plan e entry
+      block).end n)
   block_times_of entry block b n (onward h) source ended =
       onward_times entry block b (block_plan e entry block).end n h source ended (sym (h.ends (progress_after e block (setting_of e entry
       block) (first_progress e entry) block.ops).cycle e.table))

@@ -105,7 +105,8 @@ few_wants t fit src Call =
     omega arith
 few_wants t fit src op = let a = few_kinds op in let b = length-map (operand_kinds op) anywhere in omega arith
 
-module _ (e : Ext) (o : Options) (roomy : AreRoomy e o) (fit : IsFit e.table) (extended : IsExtended e) (b : ℕ) (entry : Bool) (block : ExtBlock)
+module _ (e : Ext) (o : Options) (roomy : AreRoomy e o) (fit : IsFit e.table) (extended : IsExtended e) (b : ℕ) (entry : Bool) (block :
+    ExtBlock)
     (at_b : slice_get e.blocks b ≡ Some block) (saved : Bool) (from link home : ℕ)
     (link_from : from ≤ link) (is_link : is_home e.table entry block (temp home) LINK ≡ true) where
   abbrev s : Setting
@@ -147,7 +148,8 @@ module _ (e : Ext) (o : Options) (roomy : AreRoomy e o) (fit : IsFit e.table) (e
 
   -- ---- the block's end
 
-  ready_free : (purpose : Purpose) → ((k : ℕ) (y : TempId) → OperandOk e o roomy entry block purpose k y) → (k : ℕ) (xs : List Operand) (g : Growth)
+  ready_free : (purpose : Purpose) → ((k : ℕ) (y : TempId) → OperandOk e o roomy entry block purpose k y)
+      → (k : ℕ) (xs : List Operand) (g : Growth)
       → ValuesOk e block s.placed from g → ReadsFrom e o entry block from xs
       → AreReady e o roomy entry block (live e o roomy fit extended b entry block at_b) purpose k xs g
   ready_free purpose free k [] g ok reads = tt
@@ -171,9 +173,15 @@ module _ (e : Ext) (o : Options) (roomy : AreRoomy e o) (fit : IsFit e.table) (e
       let made : ExtOp = record { kind = Out; operands = ys; results = [] } in
       let us = operands_ops xs g in
       let whole : all (op ∷ []) g ≡ us ++ (made ∷ []) =
-      append_assoc us (made ∷ ([] ++ enter_ops entry Out)) [] ∙ ap (λ (zs : List ExtOp). us ++ (made ∷ (zs ++ []))) (enter_none entry Out (λ h. cc h)) in
-      let among = inside made (subst (λ (zs : List ExtOp). Contains zs made) (sym whole) (Contains-append_right us (made ∷ []) made (0, omega arith, refl))) in
-      let zip = subst (λ (t : Term). AllZip (IsGoodOperand e.names e.blocks (results_of (take among.0 block.ops))) ys (wants_of_out e.table e.names
+      append_assoc us (made ∷ ([] ++ enter_ops entry Out)) [] ∙ ap (λ (zs : List ExtOp). us ++ (made ∷ (zs ++ []))) (enter_none entry Out
+      (λ h. cc h)) in
+      let among = inside made (subst (λ (zs : List ExtOp). Contains zs made) (sym whole) (Contains-append_right us (made ∷ []) made (
+        0,
+        omega arith,
+        refl,
+      ))) in
+      let zip = subst (λ (t : Term). AllZip (IsGoodOperand e.names e.blocks (results_of (take among.0 block.ops))) ys (wants_of_out
+      e.table e.names
       block.live_out t)) (term_same block.ops) (good_op made among).operands in
       subst (Steps p) (sym whole)
       (operands_good e o roomy entry block (live e o roomy fit extended b entry block at_b) xs g 0 p (made ∷ [])
@@ -209,13 +217,15 @@ module _ (e : Ext) (o : Options) (roomy : AreRoomy e o) (fit : IsFit e.table) (e
   enter_values false term h = refl
 
   known_end : (term : Term) (xs : List Operand) (g before : Growth) → before.values ≡ g.values → Known g
-      → (let here = with_results (End term) (new_operands xs before) 0 (with_operands xs before) in Known (with_enter entry (End term) here))
+      → (let here = with_results (End term) (new_operands xs before) 0 (with_operands xs before) in Known (with_enter entry (End term)
+      here))
   known_end term xs g before same known =
       let read = with_operands xs before in
       let here = with_results (End term) (new_operands xs before) 0 read in
       let last : (with_enter entry (End term) here).values ≡ read.values = enter_values entry term here in
       record {
-        values = values_same e block s.placed from read (with_enter entry (End term) here) last (values_operands e block s.placed from xs before
+        values = values_same e block s.placed from read (with_enter entry (End term) here) last (values_operands e block s.placed from xs
+            before
             (values_same e block s.placed from g before same known.values));
         begins = begins_same link home read (with_enter entry (End term) here) last (begins_operands link home xs before
             (begins_same link home g before same known.begins));
@@ -239,7 +249,8 @@ module _ (e : Ext) (o : Options) (roomy : AreRoomy e o) (fit : IsFit e.table) (e
   abbrev pub EachReads : List ExtOp → Type 0
   EachReads ops = EachOp (λ (op : ExtOp). ReadsFrom e o entry block from op.operands) ops
 
-  pub ends_good : (term : Term) (current : List ℕ) (g : Growth) (p : Progress) (rest : List ExtOp) → Known g → EachReads (end_ops current link term)
+  pub ends_good : (term : Term) (current : List ℕ) (g : Growth) (p : Progress) (rest : List ExtOp) → Known g
+      → EachReads (end_ops current link term)
       → p.operands ≡ 0 → Within (all (end_ops current link term ++ rest) g)
       → ((h : Growth) (q : Progress) → Known h → q.operands ≡ 0 → Within (all rest h) → Steps q (all rest h))
       → Steps p (all (end_ops current link term ++ rest) g)
@@ -257,7 +268,8 @@ module _ (e : Ext) (o : Options) (roomy : AreRoomy e o) (fit : IsFit e.table) (e
       let next = grown op g in
       let made : ExtOp = record { kind = End (Branch pred sense to); operands = new_operands xs g; results = [] } in
       subst (Steps p) (sym (end_whole (Branch pred sense to) [] (operands_ops xs g) (all rest next) made))
-      (end_steps (Branch pred sense to) xs g p (all rest next) (ready_operands e o roomy fit extended b entry block at_b from 0 xs g known.values
+      (end_steps (Branch pred sense to) xs g p (all rest next) (ready_operands e o roomy fit extended b entry block at_b from 0 xs g
+      known.values
       reads.0 (omega arith)) none (λ q z. go next q (known_end (Branch pred sense to) xs g g refl known) z
       (later (extended_ops e.names block.live_in entry saved op g) (all rest next) inside)))
   ends_good (Ret value) current g p rest known reads none inside go =
@@ -268,7 +280,11 @@ module _ (e : Ext) (o : Options) (roomy : AreRoomy e o) (fit : IsFit e.table) (e
       let made : ExtOp = record { kind = End (Ret value); operands = new_operands xs before; results = [] } in
       let us = operands_ops xs before in
       let tail = all rest next in
-      let known' : Known before = record { values = values_same e block s.placed from g before refl known.values; begins = begins_same link home g before refl known.begins } in
+      let known' : Known before = record {
+        values = values_same e block s.placed from g before refl known.values;
+        begins = begins_same
+            link home g before refl known.begins;
+      } in
       let purpose = purpose_at s.term (frame_op Leave ∷ (us ++ (made ∷ tail))) in
       subst (Steps p) (sym (end_whole (Ret value) (frame_op Leave ∷ []) us tail made)) (
         leave_in e o roomy fit entry block p purpose,
@@ -283,7 +299,8 @@ module _ (e : Ext) (o : Options) (roomy : AreRoomy e o) (fit : IsFit e.table) (e
   AreSources [] = Unit {0}
   AreSources (src ∷ srcs) = SourceOk e o roomy fit extended b entry block at_b src × AreSources srcs
 
-  pub bodies_good : (t : Table) (srcs : List SrcOp) (current : List ℕ) (first : ℕ) (g : Growth) (p : Progress) (rest : List ExtOp) → AreSources srcs
+  pub bodies_good : (t : Table) (srcs : List SrcOp) (current : List ℕ) (first : ℕ) (g : Growth) (p : Progress) (rest : List ExtOp)
+      → AreSources srcs
       → EachReads (body_ops t current first srcs) → Known g → p.operands ≡ 0 → Within (all (body_ops t current first srcs ++ rest) g)
       → ((h : Growth) (q : Progress) → Known h → q.operands ≡ 0 → Within (all rest h) → Steps q (all rest h))
       → Steps p (all (body_ops t current first srcs ++ rest) g)
@@ -297,7 +314,8 @@ module _ (e : Ext) (o : Options) (roomy : AreRoomy e o) (fit : IsFit e.table) (e
       let among = body_among e o roomy fit extended b entry block at_b src xs rs from g saved known.values reads.0 tail inside in
       let body : ExtOp = record { kind = Body src; operands = new_operands xs g; results = new_temps (with_operands xs g) (length rs) } in
       let zip = (good_op body among).operands in
-      let size = zip_length (IsGoodOperand e.names e.blocks (results_of (take among.0 block.ops))) (new_operands xs g) (wants_of e.table e.names
+      let size = zip_length (IsGoodOperand e.names e.blocks (results_of (take among.0 block.ops))) (new_operands xs g) (wants_of e.table
+      e.names
       e.blocks block (Body src) body) zip in
       let few = few_wants e.table fit src src.op in
       let same = news_length xs g in
@@ -306,7 +324,8 @@ module _ (e : Ext) (o : Options) (roomy : AreRoomy e o) (fit : IsFit e.table) (e
       let sorts = replicate (length rs) (record { kind = result_kind src.op; copied = true }) in
       let known' : Known next = record {
         values = body_values e o roomy fit extended b entry block at_b src xs rs from g saved known.values reads.0 among;
-        begins = subst (Begins link home) (sym (enter_same entry src (with_values read.next sorts here))) (begins_values link home read.next sorts here
+        begins = subst (Begins link home) (sym (enter_same entry src (with_values read.next sorts here))) (begins_values link home
+            read.next sorts here
             (begins_same link home read here refl (begins_operands link home xs g known.begins)));
       } in
       body_good e o roomy fit extended b entry block at_b src xs rs from g saved known.values reads.0 tail p ok.0 (omega arith) none inside

@@ -80,7 +80,8 @@ module _ (e : Ext) (o : Options) (roomy : AreRoomy e o) (entry : Bool) (block : 
 
   -- ---- values
 
-  named_slot : (y : TempId) (name : NameId) → name.0 < length e.names → Contains (value_registers e o.regs o.slots entry block y) (slot_of name)
+  named_slot : (y : TempId) (name : NameId) → name.0 < length e.names → Contains (value_registers e o.regs o.slots entry block y)
+      (slot_of name)
   named_slot y name lt = slot_in e o entry block y name.0 (let slots = roomy.slots in omega arith)
 
   spilled_in : (s : Setting) → s.link ≡ FIRST_SLOT + length e.names → (alts : List TempId) (n i now : ℕ) (name : Option NameId)
@@ -158,7 +159,8 @@ module _ (e : Ext) (o : Options) (roomy : AreRoomy e o) (entry : Bool) (block : 
       m = record { instr = 3; cycle = p.cycle; place = kept_place s alts; register = 0 }
 
       by : (b : Bool) → MoveIn alts n (if b then m else no_move)
-      by true = goes_in alts n m (omega arith) (kept_place_in s alts) (low_in e o entry block (value_read alts n) 0 roomy.regs (omega arith))
+      by true = goes_in alts n m (omega arith) (kept_place_in s alts) (low_in e o entry block (value_read alts n) 0 roomy.regs (omega
+          arith))
       by false = rests_in alts n
   operand_in s p alts n Unread ok = rests_in alts n
 

@@ -101,7 +101,8 @@ module _ (issues : List Issue) (reads : List Read) (places : List Place) (temps 
             (has_right issues n (n + 1) (issue ∷ []) rest refl hi),
       )
 
-  step_count : (n : ℕ) (ops : List ExtOp) (steps : List Step) → AllZip Suits ops steps → length (step_places n steps) ≡ length (results_of ops)
+  step_count : (n : ℕ) (ops : List ExtOp) (steps : List Step) → AllZip Suits ops steps
+      → length (step_places n steps) ≡ length (results_of ops)
   step_count n [] [] fit = refl
   step_count n [] (s ∷ steps) fit = absurd fit
   step_count n (op ∷ ops) [] fit = absurd fit

@@ -51,12 +51,14 @@ module _ (t : Table) (fit : IsFit t) (first now left end : ℕ) (entered_by : fi
   leave_behind j (leaves e lo hi) is = lo
   leave_behind j (returns e lo hi) is = absurd (differ j Jumpr Leave e is (λ h. cc h))
 
-  from : (i j : Issue) (o : Op) (n : ℕ) → i.instr ≡ Some o → frame_distance i.instr j.instr ≡ Some n → frame_distance (Some o) j.instr ≡ Some n
+  from : (i j : Issue) (o : Op) (n : ℕ) → i.instr ≡ Some o → frame_distance i.instr j.instr ≡ Some n
+      → frame_distance (Some o) j.instr ≡ Some n
   from i j o n e h = ap (λ (x : Option Op). frame_distance x j.instr) (sym e) ∙ h
 
   distance_kept : (i j : Issue) → IsTimed t first now left end i → IsTimed t first now left end j → (n : ℕ)
       → frame_distance i.instr j.instr ≡ Some n → i.cycle + n ≤ j.cycle
-  distance_kept i j (none_there e) at n h = let z : None ≡ Some n = ap (λ (x : Option Op). frame_distance x j.instr) (sym e) ∙ h in absurd (cc z)
+  distance_kept i j (none_there e) at n h = let z : None ≡ Some n = ap (λ (x : Option Op). frame_distance x j.instr) (sym e) ∙ h in
+      absurd (cc z)
   distance_kept i j (entered e one le) at n h =
       let a = after_is j.instr n (from i j Enter n e h) in
       let b = behind_first t first now left end entered_by now_left j a.0 at a.1 a.2 in
@@ -112,8 +114,10 @@ frame_ordered e fit entry b n (block ∷ blocks) h =
     let of_block = in_block b p.end n block.ops p.steps in
     let past = past_block (b + 1) (n + length block.ops) blocks (block_plans e false blocks) in
     across_append here rest (block_ordered e.table fit (first_cycle e.table entry) p.end here h.0)
-    (λ k d lt m c lt'. other_block (get_or here k d) (get_or rest m c) (λ same. let x = of_block k d lt in let y = past m c lt' in omega arith))
-    (λ m c lt' k d lt. other_block (get_or rest m c) (get_or here k d) (λ same. let x = of_block k d lt in let y = past m c lt' in omega arith))
+    (λ k d lt m c lt'. other_block (get_or here k d) (get_or rest m c) (λ same. let x = of_block k d lt in let y = past m c lt' in omega
+    arith))
+    (λ m c lt' k d lt. other_block (get_or rest m c) (get_or here k d) (λ same. let x = of_block k d lt in let y = past m c lt' in omega
+    arith))
     (frame_ordered e fit false (b + 1) (n + length block.ops) blocks h.1)
 
 pub keeps_frame_order : (e : Ext) → IsFit e.table → AreTimed e true 0 0 e.blocks

@@ -60,7 +60,8 @@ use Rattle.un_baseline.proofs.CloseIn.{Known, bodies_good, ends_good, out_good}
 
 -- ---- names that operations of the source assign
 
-assigned_kind : (names : Names) (operands : OperandSpaces) (space : Option Space) (name : NameId) → IsAssigned names operands space (Some name)
+assigned_kind : (names : Names) (operands : OperandSpaces) (space : Option Space) (name : NameId)
+    → IsAssigned names operands space (Some name)
     → kind_of names name ≡ Some (kind_given space)
 assigned_kind names operands None name h = absurd (cc h)
 assigned_kind names (Fixed spaces) (Some space) name h = h
@@ -69,7 +70,8 @@ assigned_kind names Arguments (Some space) name h = h
 kind_within : (names : Names) (name : NameId) (kind : Kind) → kind_of names name ≡ Some kind → name.0 < length names
 kind_within names name kind h = by (slice_get names name.0) refl h
   where
-    by : (x : Option (List ℕ × Kind)) → slice_get names name.0 ≡ x → option_map (λ (n : List ℕ × Kind). n.1) x ≡ Some kind → name.0 < length names
+    by : (x : Option (List ℕ × Kind)) → slice_get names name.0 ≡ x → option_map (λ (n : List ℕ × Kind). n.1) x ≡ Some kind
+        → name.0 < length names
     by None at e = absurd (cc e)
     by (Some n) at e = slice_get_within names name.0 n at
 
@@ -87,12 +89,15 @@ pub record AssignsWell (f : Function) (src : SrcOp) : Type 0 where
   pub within : (name : NameId) → src.dst ≡ Some name → name.0 < length f.names
   pub kind : (name : NameId) → src.dst ≡ Some name → name_kind (map kind_of_pair f.names) name ≡ result_kind src.op
 
-module _ (f : Function) (b k : ℕ) (block : Block) (src : SrcOp) (at : slice_get f.blocks b ≡ Some block) (here : slice_get block.ops k ≡ Some src) where
-  kind_is : IsWellFormed f.name f.params f.names f.blocks → (name : NameId) → src.dst ≡ Some name → kind_of f.names name ≡ Some (result_kind src.op)
+module _ (f : Function) (b k : ℕ) (block : Block) (src : SrcOp) (at : slice_get f.blocks b ≡ Some block) (here : slice_get block.ops k ≡
+    Some src) where
+  kind_is : IsWellFormed f.name f.params f.names f.blocks → (name : NameId) → src.dst ≡ Some name
+      → kind_of f.names name ≡ Some (result_kind src.op)
   kind_is w name dst =
       let g = at_all (IsGoodBlock f.names) f.blocks b block w.good_blocks at in
       let good = at_all (IsGoodOp f.names) block.ops k src g.ops here in
-      assigned_kind f.names (facts_of src.op).operands (result_space src.op) name (subst (IsAssigned f.names (facts_of src.op).operands (result_space
+      assigned_kind f.names (facts_of src.op).operands (result_space src.op) name (subst (IsAssigned f.names (facts_of src.op).operands
+      (result_space
       src.op)) dst good.assigns)
 
   pub assigns_well : AssignsWell f src
@@ -144,7 +149,8 @@ enter_count true Leave g = refl
 enter_count false kind g = refl
 
 module _ (names : List Kind) (live_in : List NameId) (entry saved : Bool) where
-  pub op_count : (op : ExtOp) (g : Growth) → length (with_extended names live_in entry saved op g).values ≡ length g.values + length (sorts_of names
+  pub op_count : (op : ExtOp) (g : Growth) → length (with_extended names live_in entry saved op g).values ≡ length g.values + length
+      (sorts_of names
       live_in saved op.kind (length op.results))
   op_count op g =
       let before = with_leave op.kind g in
@@ -160,29 +166,38 @@ module _ (names : List Kind) (live_in : List NameId) (entry saved : Bool) where
   grown_all : List ExtOp → Growth → ℕ
   grown_all ops g = length (with_all_extended names live_in entry saved ops g).values
 
-  dst_count : (dst : Option NameId) (first n : ℕ) (sort : Sort) → n + length (replicate (length (map (λ (name : NameId). temp first) (option_to_list dst))) sort) ≡ past dst n
+  dst_count : (dst : Option NameId) (first n : ℕ) (sort : Sort) → n + length (replicate (length (map (λ (name : NameId). temp first)
+      (option_to_list dst))) sort) ≡ past dst n
   dst_count None first n sort = omega arith
   dst_count (Some name) first n sort = omega arith
 
-  pub bodies_count : (t : Table) (srcs : List SrcOp) (current : List ℕ) (first : ℕ) (rest : List ExtOp) (g : Growth) (n : ℕ) → length g.values ≡ n
-      → ((h : Growth) → length h.values ≡ past_all n srcs → length (with_all_extended names live_in entry saved rest h).values ≡ past_all n srcs)
+  pub bodies_count : (t : Table) (srcs : List SrcOp) (current : List ℕ) (first : ℕ) (rest : List ExtOp) (g : Growth) (n : ℕ)
+      → length g.values ≡ n
+      → ((h : Growth) → length h.values ≡ past_all n srcs → length (with_all_extended names live_in entry saved rest h).values ≡ past_all
+      n srcs)
       → length (with_all_extended names live_in entry saved (body_ops t current first srcs ++ rest) g).values ≡ past_all n srcs
   bodies_count t [] current first rest g n size go = go g size
   bodies_count t (src ∷ srcs) current first rest g n size go =
       let op = body_op t current first src in
       let here = op_count op g in
       let dst = dst_count src.dst first n (record { kind = result_kind src.op; copied = true }) in
-      bodies_count t srcs (assigned current src.dst first) (past src.dst first) rest (with_extended names live_in entry saved op g) (past src.dst n)
+      bodies_count t srcs (assigned current src.dst first) (past src.dst first) rest (with_extended names live_in entry saved op g) (past
+      src.dst n)
       (omega arith) go
 
   out_count : (out : ExtOp) (g : Growth) → out.kind ≡ Out → length (with_extended names live_in entry saved out g).values ≡ length g.values
   out_count out g is =
       let a = op_count out g in
-      let z : length (sorts_of names live_in saved out.kind (length out.results)) ≡ 0 = ap (λ (k : ExtKind). length (sorts_of names live_in saved k
+      let z : length (sorts_of names live_in saved out.kind (length out.results)) ≡ 0 = ap (λ (k : ExtKind). length (sorts_of names
+      live_in saved k
       (length out.results))) is in
       omega arith
 
-  end_count : (term : Term) (xs : List Operand) (g : Growth) → length (with_extended names live_in entry saved (record { kind = End term; operands = xs; results = [] }) g).values
+  end_count : (term : Term) (xs : List Operand) (g : Growth) → length (with_extended names live_in entry saved (record {
+    kind = End term;
+    operands = xs;
+    results = [];
+  }) g).values
       ≡ length g.values
   end_count term xs g = let a = op_count (record { kind = End term; operands = xs; results = [] }) g in omega arith
 
@@ -190,10 +205,12 @@ module _ (names : List Kind) (live_in : List NameId) (entry saved : Bool) where
       → length (with_all_extended names live_in entry saved (end_ops current link term ++ out ∷ []) g).values ≡ length g.values
   ends_count Fall current link out g is = out_count out g is
   ends_count (Jump to) current link out g is =
-      out_count out (with_extended names live_in entry saved (record { kind = End (Jump to); operands = []; results = [] }) g) is ∙ end_count (Jump to) [] g
+      out_count out (with_extended names live_in entry saved (record { kind = End (Jump to); operands = []; results = [] }) g) is ∙
+      end_count (Jump to) [] g
   ends_count (Branch pred sense to) current link out g is =
       let xs = name_operand current None pred ∷ [] in
-      out_count out (with_extended names live_in entry saved (record { kind = End (Branch pred sense to); operands = xs; results = [] }) g) is
+      out_count out (with_extended names live_in entry saved (record { kind = End (Branch pred sense to); operands = xs; results = [] })
+      g) is
       ∙ end_count (Branch pred sense to) xs g
   ends_count (Ret value) current link out g is =
       let xs = reads_of link None ∷ [] in
@@ -210,7 +227,8 @@ row_low n zero m y at = absurd (cc at)
 row_low n (suc c) zero y at = let e : temp n ≡ y = cc at in let z = ap (λ (x : TempId). x.0) e in omega arith
 row_low n (suc c) (suc m) y at = let r = row_low (n + 1) c m y at in omega arith
 
-pub bodies_low : (t : Table) (n : ℕ) (srcs : List SrcOp) (current : List ℕ) (first : ℕ) → n ≤ first → EachOp (LowResults n) (body_ops t current first srcs)
+pub bodies_low : (t : Table) (n : ℕ) (srcs : List SrcOp) (current : List ℕ) (first : ℕ) → n ≤ first
+    → EachOp (LowResults n) (body_ops t current first srcs)
 bodies_low t n [] current first le = tt
 bodies_low t n (src ∷ srcs) current first le =
     let le' = past_more src.dst in (
@@ -222,7 +240,8 @@ bodies_low t n (src ∷ srcs) current first le =
     past_more None = omega arith
     past_more (Some name) = omega arith
 
-    by : (dst : Option NameId) (m : ℕ) (y : TempId) → slice_get (map (λ (name : NameId). temp first) (option_to_list dst)) m ≡ Some y → n ≤ y.0
+    by : (dst : Option NameId) (m : ℕ) (y : TempId) → slice_get (map (λ (name : NameId). temp first) (option_to_list dst)) m ≡ Some y
+        → n ≤ y.0
     by None m y at = absurd (cc at)
     by (Some name) zero y at = let e : temp first ≡ y = cc at in let z = ap (λ (x : TempId). x.0) e in omega arith
     by (Some name) (suc m) y at = absurd (cc at)

@@ -81,12 +81,14 @@ module _ (t : Table) (fit : IsFit t) where
   first_small false = omega arith
 
 module _ (e : Ext) (fit : IsFit e.table) (block : ExtBlock) (s : Setting) where
-  step_small : (p : Progress) (purpose : Purpose) (op : ExtOp) (kind : ExtKind) → (progress_of e block s p purpose op kind).cycle ≤ p.cycle + 2
+  step_small : (p : Progress) (purpose : Purpose) (op : ExtOp) (kind : ExtKind)
+      → (progress_of e block s p purpose op kind).cycle ≤ p.cycle + 2
   step_small p purpose op In = omega arith
   step_small p purpose op Out = omega arith
   step_small p purpose op (Body o) = let l = (fit.latencies o.op).1 in omega arith
   step_small p purpose op (End term) = end_small e.table fit term p.cycle
-  step_small p purpose op (Copy node) = copy_small e.table fit p.cycle (copy_move e block.live_in s p purpose (first_alts op.operands) node) purpose node
+  step_small p purpose op (Copy node) = copy_small e.table fit p.cycle (copy_move e block.live_in s p purpose (first_alts op.operands)
+      node) purpose node
   step_small p purpose op Enter = omega arith
   step_small p purpose op Leave = omega arith
 
@@ -113,12 +115,15 @@ module _ (e : Ext) (fit : IsFit e.table) where
       let late = h.op ∷ (h.late ++ h.out ∷ []) in
       let more = h.leave ∷ (h.us ++ late) in
       let behind = progress_after e block s first h.front in
-      let unread : purpose_at s.term more ≡ Unread = ap (λ (x : ExtKind). purpose_of s.term x (purpose_at s.term (h.us ++ late))) h.is_leave in
+      let unread : purpose_at s.term more ≡ Unread = ap (λ (x : ExtKind). purpose_of s.term x (purpose_at s.term (h.us ++ late)))
+      h.is_leave in
       let stays = tail_stays e block s 0 0 behind more (tail_ops h.leave h.us h.op h.late h.out h.value h.is_leave h.for_link h.is_return
       h.is_late h.is_out) in
-      let past : (progress_after e block s first block.ops).cycle ≡ behind.cycle = ap (λ (ops : List ExtOp). (progress_after e block s first ops).cycle)
+      let past : (progress_after e block s first block.ops).cycle ≡ behind.cycle = ap (λ (ops : List ExtOp). (progress_after e block s
+      first ops).cycle)
       h.whole ∙ ap (λ (p : Progress). p.cycle) (progress_split e block s 0 0 first h.front more unread) ∙ stays in
-      let final : (block_plan e entry block).end ≡ block_end e.table (Ret h.value) behind.cycle = ap (block_end e.table (term_of block.ops)) past
+      let final : (block_plan e entry block).end ≡ block_end e.table (Ret h.value) behind.cycle = ap (block_end e.table (term_of
+      block.ops)) past
       ∙ ap (λ (t : Term). block_end e.table t behind.cycle) h.term in
       let small = first_small e.table fit entry in
       let rest = steps_small e fit block s first h.front in
@@ -148,12 +153,14 @@ zero_cycle c b h = by (c == 0) refl h
     by true e k = grind (arith, nat_tests)
     by false e k = absurd (cc k)
 
-module _ (horizon end : ℕ) (le : end ≤ horizon) (b n : ℕ) (op : ExtOp) (s : Step) (placed : IsPlaced (planned_issue b end n op s)) (rests : Rests op s) where
+module _ (horizon end : ℕ) (le : end ≤ horizon) (b n : ℕ) (op : ExtOp) (s : Step) (placed : IsPlaced (planned_issue b end n op s)) (rests
+    : Rests op s) where
   -- an operation with an instruction
   active_in : (kind : ExtKind) → op.kind ≡ kind → planned_cycle end kind s.cycle ≡ s.cycle → is_some (instruction_of kind s.instr) ≡ true
       → (1 ≤ s.cycle) × (s.cycle ≤ horizon - 1)
   active_in kind is at active =
-      let p = some_in (instruction_of op.kind s.instr) (planned_cycle end op.kind s.cycle) end (ap (λ (k : ExtKind). is_some (instruction_of k
+      let p = some_in (instruction_of op.kind s.instr) (planned_cycle end op.kind s.cycle) end (ap (λ (k : ExtKind). is_some
+      (instruction_of k
       s.instr)) is ∙ active) placed in
       let c : planned_cycle end op.kind s.cycle ≡ s.cycle = ap (λ (k : ExtKind). planned_cycle end k s.cycle) is ∙ at in
       let lo = p.0 in
@@ -161,7 +168,8 @@ module _ (horizon end : ℕ) (le : end ≤ horizon) (b n : ℕ) (op : ExtOp) (s 
       (omega arith, omega arith)
 
   -- one that may rest
-  may_rest : (kind : ExtKind) → op.kind ≡ kind → planned_cycle end kind s.cycle ≡ s.cycle → is_delimiter kind ≡ false → has_cycle kind ≡ true
+  may_rest : (kind : ExtKind) → op.kind ≡ kind → planned_cycle end kind s.cycle ≡ s.cycle → is_delimiter kind ≡ false
+      → has_cycle kind ≡ true
       → (0 ≤ s.cycle) × (s.cycle ≤ horizon - 1)
   may_rest kind is at inner timed =
       ⊎_elim (λ (a : (is_delimiter op.kind || is_some (instruction_of op.kind s.instr)) ≡ true).

@@ -27,20 +27,23 @@ use Rattle.un_baseline.proofs.Layouts.{AreLaidOut, IsLaidOut}
 
 -- what an operation has but for its cycle lies in its domain
 pub record StepIn (e : Ext) (o : Options) (entry : Bool) (block : ExtBlock) (op : ExtOp) (s : Step) : Type 0 where
-  pub instr : AllZip InDomain (value_if (is_optional op.kind) s.instr) (option_to_list (instr_domain (carries_truth e block op op.results) op.kind))
+  pub instr : AllZip InDomain (value_if (is_optional op.kind) s.instr) (option_to_list (instr_domain (carries_truth e block op
+      op.results) op.kind))
   pub choices : AllZip InDomain s.choices (map choice_domain (chosen_operands op))
   pub registers : AllZip InDomain s.registers (places_from (result_domain e o entry block op) 0 op.results)
 
 -- of all blocks, of which the first is the entry or none is
 abbrev pub AreIn : Ext → Options → Bool → List ExtBlock → Type 0
 AreIn e o entry [] = Unit {0}
-AreIn e o entry (block ∷ blocks) = EachStep (λ m. StepIn e o entry block) 0 block.ops (block_plan e entry block).steps × AreIn e o false blocks
+AreIn e o entry (block ∷ blocks) = EachStep (λ m. StepIn e o entry block) 0 block.ops (block_plan e entry block).steps × AreIn e o false
+    blocks
 
 block_rests : (e : Ext) (entry : Bool) (block : ExtBlock) (n : ℕ) → EachOp (λ (op : ExtOp). IsReal op.kind) block.ops
     → EachStep (λ m. Rests) n block.ops (block_plan e entry block).steps
 block_rests e entry block n real =
     let s = setting_of e entry block in
-    steps_each_of (λ (op : ExtOp). IsReal op.kind) (λ m. Rests) e block s (λ m p purpose op h. rests_by e block s p purpose op op.kind refl h) n
+    steps_each_of (λ (op : ExtOp). IsReal op.kind) (λ m. Rests) e block s (λ m p purpose op h. rests_by e block s p purpose op op.kind
+    refl h) n
     (first_progress e entry) block.ops real
 
 module _ (e : Ext) (o : Options) where
@@ -54,7 +57,8 @@ module _ (e : Ext) (o : Options) where
       let grouped : op_domains e o entry block horizon op ≡ instrs ++ (cycles ++ (choices ++ registers)) =
       append_assoc (instrs ++ cycles) choices registers ∙ append_assoc instrs cycles (choices ++ registers) in
       subst (AllZip InDomain (step_values op s)) (sym grouped)
-      (zip_append InDomain (value_if (is_optional op.kind) s.instr) (value_if (has_cycle op.kind) s.cycle ++ (s.choices ++ s.registers)) instrs
+      (zip_append InDomain (value_if (is_optional op.kind) s.instr) (value_if (has_cycle op.kind) s.cycle ++ (s.choices ++ s.registers))
+      instrs
       (cycles ++ (choices ++ registers)) h.instr
       (zip_append InDomain (value_if (has_cycle op.kind) s.cycle) (s.choices ++ s.registers) cycles (choices ++ registers) c.cycle
       (zip_append InDomain s.choices s.registers choices registers h.choices h.registers)))
@@ -66,12 +70,14 @@ module _ (e : Ext) (o : Options) where
   steps_in entry block horizon n m [] (s ∷ steps) h c = absurd h
   steps_in entry block horizon n m (op ∷ ops) [] h c = absurd h
   steps_in entry block horizon n m (op ∷ ops) (s ∷ steps) h c =
-      zip_append InDomain (step_values op s) (steps_values ops steps) (op_domains e o entry block horizon op) (ops_domains e o entry block horizon ops)
+      zip_append InDomain (step_values op s) (steps_values ops steps) (op_domains e o entry block horizon op) (ops_domains e o entry
+      block horizon ops)
       (step_in entry block horizon op s h.0 c.0) (steps_in entry block horizon (n + 1) (m + 1) ops steps h.1 c.1)
 
   module _ (fit : IsFit e.table) where
     block_in : (entry : Bool) (b n : ℕ) (block : ExtBlock) → IsLaidOut entry block → block.horizon ≡ 2 * length block.ops + 2
-        → BlockTimes e.table (first_cycle e.table entry) (block_plan e entry block).end (planned_issues b n block (block_plan e entry block))
+        → BlockTimes e.table (first_cycle e.table entry) (block_plan e entry block).end (planned_issues b n block (block_plan e entry
+        block))
         → EachOp (λ (op : ExtOp). IsReal op.kind) block.ops → EachStep (λ m. Rests) n block.ops (block_plan e entry block).steps
         → EachStep (λ m. StepIn e o entry block) 0 block.ops (block_plan e entry block).steps
         → AllZip InDomain (block_values block (block_plan e entry block)) (block_domains e o entry (own_horizon block) block)
@@ -83,17 +89,20 @@ module _ (e : Ext) (o : Options) where
         let now = times.entered_by in
         let last = times.now_end in
         let cycles = cycles_in horizon p.end (omega arith) b n block.ops p.steps (block_placed e fit entry b n block times) rests real in
-        zip_append InDomain (steps_values block.ops p.steps) (p.end ∷ []) (ops_domains e o entry block horizon block.ops) (Range 1 horizon ∷ [])
+        zip_append InDomain (steps_values block.ops p.steps) (p.end ∷ []) (ops_domains e o entry block horizon block.ops) (Range 1
+        horizon ∷ [])
         (steps_in entry block horizon 0 n block.ops p.steps h cycles) ((omega arith, omega arith), tt)
 
-    blocks_in : (entry : Bool) (b n : ℕ) (blocks : List ExtBlock) → AreLaidOut entry blocks → All (IsGoodExtBlock e.table e.names e.blocks) blocks
+    blocks_in : (entry : Bool) (b n : ℕ) (blocks : List ExtBlock) → AreLaidOut entry blocks
+        → All (IsGoodExtBlock e.table e.names e.blocks) blocks
         → AreTimed e entry b n blocks → EachBlockOp (λ (op : ExtOp). IsReal op.kind) blocks → AreIn e o entry blocks
         → AllZip InDomain (blocks_values blocks (block_plans e entry blocks)) (blocks_domains e o own_horizon entry blocks)
     blocks_in entry b n [] laid good times real h = tt
     blocks_in entry b n (block ∷ blocks) laid good times real h =
         let p = block_plan e entry block in
         let g = All-head (IsGoodExtBlock e.table e.names e.blocks) block blocks good in
-        zip_append InDomain (block_values block p) (blocks_values blocks (block_plans e false blocks)) (block_domains e o entry (own_horizon block)
+        zip_append InDomain (block_values block p) (blocks_values blocks (block_plans e false blocks)) (block_domains e o entry
+        (own_horizon block)
         block) (blocks_domains e o own_horizon false blocks)
         (block_in entry b n block laid.0 g.horizon times.0 real.0 (block_rests e entry block n real.0) h.0)
         (blocks_in false (b + 1) (n + length block.ops) blocks laid.1 (All-tail (IsGoodExtBlock e.table e.names e.blocks) block blocks good)

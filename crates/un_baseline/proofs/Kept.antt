@@ -2,12 +2,10 @@
 use Rattle.std.proofs.Common.{◌≡◌, ◌≢◌, ℕ, suc, ◌+◌, Bool, true, false, List, [], ◌∷◌, ◌++◌, length, map, replicate, Some, refl, sym, ap, subst, ◌∙◌}
 use Rattle.std.specs.Prelude.{◌||◌, slice_get, All}
 use Rattle.std.proofs.Math.Logic.{∥∥₁_elim}
-use Rattle.std.proofs.lemmas.List.Elements.{All-contains, All-from_recursion}
 use Rattle.un_base.specs.declared.ids.NameId.{NameId}
 use Rattle.un_isa.specs.Facts.{is_source}
 use Rattle.un_isa.specs.Fit.{IsFit}
 use Rattle.un_isa.specs.declared.op.Op.{Op}
-use Rattle.un_isa.specs.declared.op.Op.TheVariants.{Imm, Mov, Add, Sub, And, Or, Xor, Addi, Andi, Ori, Mux, CmpEq, CmpGt, CmpGtu, CmpEqi, CmpGti, Mpyi, Asl, Asr, Lsr, Load, Store, Call}
 use Rattle.un_isa.specs.declared.op.Op.TheVariants.{Enter as EnterOp}
 use Rattle.un_isa.specs.declared.table.Table.{Table}
 use Rattle.un_ir.specs.declared.function.Kind.{Kind}
@@ -207,7 +205,8 @@ module _ (m : Model) (h : IsSpillable m) (values : List ℕ) (same : values ≡ 
       ∙ flag_of_plan m.ext m.options (block_plans m.ext true m.ext.blocks) 1 (plan_suits m.ext)
 
   -- what the plan keeps for the extended function of a function under this table
-  for_function : (P : Schedule → Type 0) → (let x = extend_of (lin_of h.function.function h.function.lists m.ext.table) in P (planned_schedule x.blocks
+  for_function : (P : Schedule → Type 0) → (let x = extend_of (lin_of h.function.function h.function.lists m.ext.table) in P
+      (planned_schedule x.blocks
       (block_plans x true x.blocks))) → P (schedule_of m values)
   for_function P kept =
       subst P (sym (schedule_is m.ext m.options) ∙ same_schedule)

@@ -60,7 +60,8 @@ module _ (t : Table) (fit : IsFit t) (first now left end : ℕ) (positive : 1 �
     pub before : i.cycle < end
     pub last : is_transfer o ≡ true → i.cycle + 1 ≡ end
 
-  calm_last : (i : Issue) (p o : Op) → i.instr ≡ Some p → i.instr ≡ Some o → is_transfer p ≡ false → is_transfer o ≡ true → i.cycle + 1 ≡ end
+  calm_last : (i : Issue) (p o : Op) → i.instr ≡ Some p → i.instr ≡ Some o → is_transfer p ≡ false → is_transfer o ≡ true
+      → i.cycle + 1 ≡ end
   calm_last i p o a c f h =
       let e : Some p ≡ Some o = sym a ∙ c in
       let q : p ≡ o = cc e in
@@ -101,7 +102,8 @@ pub first_positive : (t : Table) (entry : Bool) → 1 ≤ first_cycle t entry
 first_positive t true = omega arith
 first_positive t false = omega arith
 
-ends_there : (b end n : ℕ) (ops : List ExtOp) (steps : List Step) → All (λ (i : Issue). i.end ≡ end) (pairs_from (planned_issue b end) n ops steps)
+ends_there : (b end n : ℕ) (ops : List ExtOp) (steps : List Step) → All (λ (i : Issue). i.end ≡ end) (pairs_from (planned_issue b end) n
+    ops steps)
 ends_there b end n [] steps = All-nil (λ (i : Issue). i.end ≡ end)
 ends_there b end n (op ∷ ops) [] = All-nil (λ (i : Issue). i.end ≡ end)
 ends_there b end n (op ∷ ops) (s ∷ steps) = All-cons (λ (i : Issue). i.end ≡ end) (planned_issue b end n op s)
@@ -116,15 +118,18 @@ block_placed e fit entry b n block times =
     let timed = subst (λ (is : List Issue). All (IsTimed e.table first times.now times.left p.end) is) (sym times.whole)
     (All-append (IsTimed e.table first times.now times.left p.end) times.front times.tail times.front_timed times.tail_timed) in
     let ends = ends_there b p.end n block.ops p.steps in
-    λ k d lt. placed e.table fit first times.now times.left p.end (first_positive e.table entry) times.entered_by times.now_left times.now_end
+    λ k d lt. placed e.table fit first times.now times.left p.end (first_positive e.table entry) times.entered_by times.now_left
+    times.now_end
     (get_or (planned_issues b n block p) k d) (timed k d lt) (ends k d lt)
 
 all_placed : (e : Ext) → IsFit e.table → (entry : Bool) (b n : ℕ) (blocks : List ExtBlock) → AreTimed e entry b n blocks
     → All IsPlaced (over_plans planned_issues b n blocks (block_plans e entry blocks))
 all_placed e fit entry b n [] h = All-nil IsPlaced
 all_placed e fit entry b n (block ∷ blocks) h =
-    All-append IsPlaced (planned_issues b n block (block_plan e entry block)) (over_plans planned_issues (b + 1) (n + length block.ops) blocks
-    (block_plans e false blocks)) (block_placed e fit entry b n block h.0) (all_placed e fit false (b + 1) (n + length block.ops) blocks h.1)
+    All-append IsPlaced (planned_issues b n block (block_plan e entry block)) (over_plans planned_issues (b + 1) (n + length block.ops)
+    blocks
+    (block_plans e false blocks)) (block_placed e fit entry b n block h.0) (all_placed e fit false (b + 1) (n + length block.ops) blocks
+    h.1)
 
 -- ---- waiting
 
@@ -193,11 +198,34 @@ source_computes o h = record {
 
 copy_computes : (a b c d f : Bool) (o : Op) → (if a then Some Mov else (if b then Some Spill else (if c then Some Reload else
     (if d then Some P2R else (if f then Some R2P else None))))) ≡ Some o → Computes o
-copy_computes true b c d f o h = let e : Mov ≡ o = cc h in subst Computes e (record { enter = λ q. cc q; leave = λ q. cc q; return = λ q. cc q })
-copy_computes false true c d f o h = let e : Spill ≡ o = cc h in subst Computes e (record { enter = λ q. cc q; leave = λ q. cc q; return = λ q. cc q })
-copy_computes false false true d f o h = let e : Reload ≡ o = cc h in subst Computes e (record { enter = λ q. cc q; leave = λ q. cc q; return = λ q. cc q })
-copy_computes false false false true f o h = let e : P2R ≡ o = cc h in subst Computes e (record { enter = λ q. cc q; leave = λ q. cc q; return = λ q. cc q })
-copy_computes false false false false true o h = let e : R2P ≡ o = cc h in subst Computes e (record { enter = λ q. cc q; leave = λ q. cc q; return = λ q. cc q })
+copy_computes true b c d f o h = let e : Mov ≡ o = cc h in subst Computes e (record {
+  enter = λ q. cc q;
+  leave = λ q. cc q;
+  return = λ q.
+      cc q;
+})
+copy_computes false true c d f o h = let e : Spill ≡ o = cc h in subst Computes e (record {
+  enter = λ q. cc q;
+  leave = λ q. cc q;
+  return
+      = λ q. cc q;
+})
+copy_computes false false true d f o h = let e : Reload ≡ o = cc h in subst Computes e (record {
+  enter = λ q. cc q;
+  leave = λ q. cc q;
+  return = λ q. cc q;
+})
+copy_computes false false false true f o h = let e : P2R ≡ o = cc h in subst Computes e (record {
+  enter = λ q. cc q;
+  leave = λ q. cc q;
+  return = λ q. cc q;
+})
+copy_computes false false false false true o h = let e : R2P ≡ o = cc h in subst Computes e (record {
+  enter = λ q. cc q;
+  leave = λ q. cc
+      q;
+  return = λ q. cc q;
+})
 copy_computes false false false false false o h = absurd (cc h)
 
 -- the operations that define temporaries
@@ -293,7 +321,8 @@ module _ (t : Table) (fit : IsFit t) (first now left end : ℕ) (positive : 1 �
       omega arith
   waits i j ti tj done same (issued o io c) (issuing q jq a b) other =
       let l : latency_by t i.instr ≡ latency_of t o = ap (latency_by t) io in
-      let d = done o q same io jq c.enter c.leave c.return a b (λ x y. other (io ∙ ap (λ (z : Op). Some z) x) (jq ∙ ap (λ (z : Op). Some z) y)) in
+      let d = done o q same io jq c.enter c.leave c.return a b (λ x y. other (io ∙ ap (λ (z : Op). Some z) x) (jq ∙ ap (λ (z : Op). Some
+      z) y)) in
       omega arith
 
 -- ---- reads
@@ -342,7 +371,8 @@ record Zipped {A B : Type 0} (Q : A → B → Type 0) (x : A) : Type 0 where
   other : B
   holds : Q x other
 
-zip_at : {A B : Type 0} (Q : A → B → Type 0) (xs : List A) (ys : List B) (j : ℕ) (x : A) → AllZip Q xs ys → slice_get xs j ≡ Some x → Zipped Q x
+zip_at : {A B : Type 0} (Q : A → B → Type 0) (xs : List A) (ys : List B) (j : ℕ) (x : A) → AllZip Q xs ys → slice_get xs j ≡ Some x
+    → Zipped Q x
 zip_at Q [] ys j x h at = absurd (cc at)
 zip_at Q (a ∷ xs) [] j x h at = absurd h
 zip_at {A} Q (a ∷ xs) (b ∷ ys) zero x h at = let e : a ≡ x = cc at in record { other = b; holds = subst (λ (z : A). Q z b) e h.0 }
@@ -392,7 +422,8 @@ module _ (e : Ext) (fit : IsFit e.table) (ranges : List LiveRange) (reads : List
       is_used : Use plan.end user
       is_used =
           let g = good k op at in
-          use_of b plan.end (n + k) op s (user_kind e.table e.names e.blocks block op (results_of (take k block.ops)) op.kind j x g.operands is)
+          use_of b plan.end (n + k) op s (user_kind e.table e.names e.blocks block op (results_of (take k block.ops)) op.kind j x
+          g.operands is)
           (source_kind op.kind op g.kind) active
 
       -- what is there from the start on
@@ -414,12 +445,14 @@ module _ (e : Ext) (fit : IsFit e.table) (ranges : List LiveRange) (reads : List
           let range = (def.holds).at d.result y d.is in
           let i = planned_issue b plan.end (n + d.place) d.op def.step in
           let h = planned_range (place_at (n + d.place) range.reg) (last_read reads y.0) (Some i) in
-          let at_i : slice_get list d.place ≡ Some i = slice_get-pairs (planned_issue b plan.end) n d.place block.ops plan.steps d.op def.step
+          let at_i : slice_get list d.place ≡ Some i = slice_get-pairs (planned_issue b plan.end) n d.place block.ops plan.steps d.op
+          def.step
           d.at def.at in
           let in_space : ReadsInSpace read (Some h) = subst (ReadsInSpace read) range.there space in
           let is_given : IsGivenInSpace h = at_all IsGivenInSpace ranges y.0 h given range.there in
           subst (LeavesGap (latency_gap e.table) read) (sym range.there) (λ here.
-          waits e.table fit first times.now times.left plan.end (first_positive e.table entry) times.entered_by times.now_left times.now_end i
+          waits e.table fit first times.now times.left plan.end (first_positive e.table entry) times.entered_by times.now_left
+          times.now_end i
           user (at_all (IsTimed e.table first times.now times.left plan.end) list d.place i timed at_i)
           (at_all (IsTimed e.table first times.now times.left plan.end) list k user timed user_at)
           (pair_at (IsDoneBy e.table) list d.place k i user (block_done e.table fit first plan.end list times) before at_i user_at) refl
@@ -470,7 +503,8 @@ module _ (e : Ext) (fit : IsFit e.table) (ranges : List LiveRange) (reads : List
       )
 
 -- the first operation of all defines a temporary
-begins_all : (ranges : List LiveRange) (reads : List Read) (b end n : ℕ) (op : ExtOp) (s : Step) (x : TempId) → AreDefined ranges reads b end n op s
+begins_all : (ranges : List LiveRange) (reads : List Read) (b end n : ℕ) (op : ExtOp) (s : Step) (x : TempId)
+    → AreDefined ranges reads b end n op s
     → op.kind ≡ In → slice_get op.results 0 ≡ Some x → x.0 ≡ 0 → BeginsAll ranges
 begins_all ranges reads b end n op s x h is at number =
     let r = h.at 0 x at in
@@ -496,7 +530,8 @@ in_is Enter h = absurd (cc h)
 in_is Leave h = absurd (cc h)
 
 module _ (e : Ext) (ranges : List LiveRange) (reads : List Read) where
-  starts_all : (blocks : List ExtBlock) → blocks ≡ e.blocks → IsExtended e → EachPlan (AreDefined ranges reads) 0 0 blocks (block_plans e true blocks)
+  starts_all : (blocks : List ExtBlock) → blocks ≡ e.blocks → IsExtended e
+      → EachPlan (AreDefined ranges reads) 0 0 blocks (block_plans e true blocks)
       → BeginsAll ranges
   starts_all [] same h defined = absurd (let z : length e.blocks ≡ 0 = ap (λ (bs : List ExtBlock). length bs) (sym same) in
       let p = h.good.entry in omega arith)
@@ -530,7 +565,8 @@ keeps_latencies e fit extended times spaces =
     let good = extended.good in
     let defined = all_defined e.blocks plans (plan_suits e) good.numbered in
     let begins = starts_all e t.ranges t.reads e.blocks refl extended defined in
-    let each = reads_each (Waits e.table t.ranges) (AllWait e.table t.ranges) (λ b end n op s h active j x at. h.at active j x at) 0 0 e.blocks
+    let each = reads_each (Waits e.table t.ranges) (AllWait e.table t.ranges) (λ b end n op s h active j x at. h.at active j x at) 0 0
+    e.blocks
     plans (all_wait e fit t.ranges t.reads spaces.1 begins true 0 0 e.blocks times defined (λ block c. All-contains
     (IsGoodExtBlock e.table e.names e.blocks) e.blocks block good.each c)) in (
       all_placed e fit true 0 0 e.blocks times,

@@ -6,8 +6,9 @@ pub mod BlockTimes
 pub mod Bodies
 pub mod Carried
 pub mod Clauses
-pub mod Congruent
 pub mod CloseIn
+pub mod Congruent
+pub mod CopiedNames
 pub mod CopiesIn
 pub mod Counts
 pub mod Definers
@@ -23,6 +24,7 @@ pub mod Grown
 pub mod Holding
 pub mod Horizons
 pub mod InDomains
+pub mod Items
 pub mod Kept
 pub mod Lasts
 pub mod Latencies

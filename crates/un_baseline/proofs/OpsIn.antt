@@ -156,7 +156,8 @@ module _ (e : Ext) (o : Options) (roomy : AreRoomy e o) (fit : IsFit e.table) (e
   body_in p purpose src ys results = record {
     instr = tt;
     choices = last_choices ys;
-    registers = same_zip (if gives_truth src.op then PREDICATE else 0) (λ (j : ℕ) (x : TempId). source_domain e o entry block src.op x) 0 results
+    registers = same_zip (if gives_truth src.op then PREDICATE else 0) (λ (j : ℕ) (x : TempId). source_domain e o entry block src.op x) 0
+        results
         (λ j x. body_register src.op x);
   }
 
@@ -165,10 +166,12 @@ module _ (e : Ext) (o : Options) (roomy : AreRoomy e o) (fit : IsFit e.table) (e
       StepIn e o entry block op (step_of e block s p purpose op (End term)))
   end_in p purpose term ys = record { instr = tt; choices = last_choices ys; registers = tt }
 
-  pub enter_in : (p : Progress) (purpose : Purpose) → StepIn e o entry block (frame_op Enter) (step_of e block s p purpose (frame_op Enter) Enter)
+  pub enter_in : (p : Progress) (purpose : Purpose) → StepIn e o entry block (frame_op Enter) (step_of e block s p purpose (frame_op
+      Enter) Enter)
   enter_in p purpose = record { instr = ((omega arith, omega arith), tt); choices = tt; registers = tt }
 
-  pub leave_in : (p : Progress) (purpose : Purpose) → StepIn e o entry block (frame_op Leave) (step_of e block s p purpose (frame_op Leave) Leave)
+  pub leave_in : (p : Progress) (purpose : Purpose) → StepIn e o entry block (frame_op Leave) (step_of e block s p purpose (frame_op
+      Leave) Leave)
   leave_in p purpose = record { instr = ((omega arith, omega arith), tt); choices = tt; registers = tt }
 
   -- ---- the values at a block's start
@@ -183,11 +186,13 @@ module _ (e : Ext) (o : Options) (roomy : AreRoomy e o) (fit : IsFit e.table) (e
 
     -- the saved value at place j behind the names
     saved_at : (j : ℕ) (x : TempId) → slice_get results j ≡ Some x → slice_get block.live_in j ≡ None
-        → slice_get (saved_registers e.table) (j - length block.live_in) ≡ Some (slice_index (saved_registers e.table) (j - length block.live_in))
+        → slice_get (saved_registers e.table) (j - length block.live_in) ≡ Some (slice_index (saved_registers e.table) (j - length
+        block.live_in))
     saved_at j x at none =
         let lt = slice_get_within results j x at in
         let past : length block.live_in ≤ j = ⊎_elim (λ (l : j < length block.live_in).
-        let z : Some (get_or block.live_in j (record { 0 = 0 })) ≡ None = sym (slice_get-get_or block.live_in j (record { 0 = 0 }) l) ∙ none in
+        let z : Some (get_or block.live_in j (record { 0 = 0 })) ≡ None = sym (slice_get-get_or block.live_in j (record { 0 = 0 }) l) ∙
+        none in
         absurd (cc z)) (λ (l : length block.live_in ≤ j). l) (cases_lt j (length block.live_in)) in
         slice_get-get_or (saved_registers e.table) (j - length block.live_in) 0 (omega arith)
 
@@ -198,19 +203,23 @@ module _ (e : Ext) (o : Options) (roomy : AreRoomy e o) (fit : IsFit e.table) (e
         let test : ℕ → TempId → Bool = λ k y. (y.0 == x.0) && is_register (result_home e.table entry block.live_in In k) r in
         let zero_more : 0 + j ≡ j = omega arith in
         let here : test (0 + j) x ≡ true =
-        ap (λ (k : ℕ). test k x) zero_more ∙ ap (λ (b : Bool). b && is_register (result_home e.table entry block.live_in In j) r) (same_number x.0)
+        ap (λ (k : ℕ). test k x) zero_more ∙ ap (λ (b : Bool). b && is_register (result_home e.table entry block.live_in In j) r)
+        (same_number x.0)
         ∙ ap (λ (h : Option Reg). is_register h r) home ∙ same_number r in
         any_contains (λ (op : ExtOp). is_operand_home op x r || is_result_home e.table entry block.live_in op x r) block.ops start among
         (any_from_at test 0 results j x at here)
 
     entry_register : (j : ℕ) (x : TempId) (name : Option NameId) → slice_get block.live_in j ≡ name → slice_get results j ≡ Some x
-        → entry ≡ true → InDomain (start_register e.table s block.live_in j name) (home_domain (start_home e.table true block.live_in j name))
+        → entry ≡ true → InDomain (start_register e.table s block.live_in j name) (home_domain (start_home e.table true block.live_in j
+        name))
     entry_register j x (Some name) is at first =
-        subst (λ (b : Bool). Contains (slice_index e.table.args name.0 ∷ []) (if b then slice_index e.table.args name.0 else slot_of name)) (sym first)
+        subst (λ (b : Bool). Contains (slice_index e.table.args name.0 ∷ []) (if b then slice_index e.table.args name.0 else slot_of
+        name)) (sym first)
         (contains_first (slice_index e.table.args name.0) [])
     entry_register j x None is at first =
         let r = slice_index (saved_registers e.table) (j - length block.live_in) in
-        subst (λ (b : Bool). InDomain (if b then r else (if j + 1 == s.values then s.link else r)) (home_domain (saved_home e.table (j - length
+        subst (λ (b : Bool). InDomain (if b then r else (if j + 1 == s.values then s.link else r)) (home_domain (saved_home e.table (j -
+        length
         block.live_in)))) (sym first)
         (subst (λ (x : Option ℕ). InDomain r (home_domain (option_map reg_at x))) (sym (saved_at j x at is)) (contains_first r []))
 
@@ -218,19 +227,22 @@ module _ (e : Ext) (o : Options) (roomy : AreRoomy e o) (fit : IsFit e.table) (e
         → slice_get results j ≡ Some x → entry ≡ false
         → Contains (value_registers e o.regs o.slots entry block x) (start_register e.table s block.live_in j name)
     other_start among j x (Some name) is at later =
-        subst (λ (b : Bool). Contains (value_registers e o.regs o.slots entry block x) (if b then slice_index e.table.args name.0 else slot_of name))
+        subst (λ (b : Bool). Contains (value_registers e o.regs o.slots entry block x) (if b then slice_index e.table.args name.0 else
+        slot_of name))
         (sym later) (slot_in e o entry block x name.0 (let lt = name_small j name is in let slots = roomy.slots in omega arith))
     other_start among j x None is at later =
         let r = slice_index (saved_registers e.table) (j - length block.live_in) in
         let there = saved_at j x at is in
         let home : start_home e.table entry block.live_in j (slice_get block.live_in j) ≡ Some (reg_at r) =
         ap (start_home e.table entry block.live_in j) is ∙ ap (option_map reg_at) there in
-        subst (λ (b : Bool). Contains (value_registers e o.regs o.slots entry block x) (if b then r else (if j + 1 == s.values then s.link else r)))
+        subst (λ (b : Bool). Contains (value_registers e o.regs o.slots entry block x) (if b then r else (if j + 1 == s.values then
+        s.link else r)))
         (sym later)
         (by (j + 1 == s.values) (home_in e o entry block x r (saved_small e.table (j - length block.live_in) r there)
         (start_home_in among j r x at home)))
       where
-        by : (b : Bool) → Contains (value_registers e o.regs o.slots entry block x) (slice_index (saved_registers e.table) (j - length block.live_in))
+        by : (b : Bool) → Contains (value_registers e o.regs o.slots entry block x) (slice_index (saved_registers e.table) (j - length
+            block.live_in))
             → Contains (value_registers e o.regs o.slots entry block x) (if b then s.link else slice_index (saved_registers e.table)
             (j - length block.live_in))
         by true h = slot_in e o entry block x (length e.names) roomy.slots
@@ -251,6 +263,7 @@ module _ (e : Ext) (o : Options) (roomy : AreRoomy e o) (fit : IsFit e.table) (e
       registers = places_zip (λ (j : ℕ) (x : TempId). start_register e.table s block.live_in j (slice_get block.live_in j))
           (λ (j : ℕ) (x : TempId). start_domain e o entry block j x) 0 results (λ j x at.
           let z : j ≡ 0 + j = omega arith in
-          subst (λ (k : ℕ). InDomain (start_register e.table s block.live_in k (slice_get block.live_in k)) (start_domain e o entry block k x)) z
+          subst (λ (k : ℕ). InDomain (start_register e.table s block.live_in k (slice_get block.live_in k)) (start_domain e o entry block
+          k x)) z
           (start_by among entry refl j x at));
     }

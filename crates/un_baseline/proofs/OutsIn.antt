@@ -39,7 +39,8 @@ use Rattle.un_baseline.proofs.ValuesOk.{ValueOk, ValuesOk, values_operand}
 
 -- ---- lists
 
-pub zip_both : {A B : Type 0} (Q : A → B → Type 0) (xs : List A) (ys : List B) (j : ℕ) (x : A) (y : B) → AllZip Q xs ys → slice_get xs j ≡ Some x
+pub zip_both : {A B : Type 0} (Q : A → B → Type 0) (xs : List A) (ys : List B) (j : ℕ) (x : A) (y : B) → AllZip Q xs ys
+    → slice_get xs j ≡ Some x
     → slice_get ys j ≡ Some y → Q x y
 zip_both Q [] ys j x y h at there = absurd (cc at)
 zip_both Q (a ∷ xs) [] j x y h at there = absurd h
@@ -49,7 +50,8 @@ zip_both {A} {B} Q (a ∷ xs) (b ∷ ys) zero x y h at there =
     subst (λ (z : A). Q z y) e (subst (λ (z : B). Q a z) f h.0)
 zip_both Q (a ∷ xs) (b ∷ ys) (suc j) x y h at there = zip_both Q xs ys j x y h.1 at there
 
-pub zip_some : {A B : Type 0} (Q : A → B → Type 0) (P : A → Type 0) (xs : List A) (ys : List B) (j : ℕ) (x : A) → ((a : A) (b : B) → Q a b → P a)
+pub zip_some : {A B : Type 0} (Q : A → B → Type 0) (P : A → Type 0) (xs : List A) (ys : List B) (j : ℕ) (x : A) → ((a : A) (b : B)
+    → Q a b → P a)
     → AllZip Q xs ys → slice_get xs j ≡ Some x → P x
 zip_some Q P [] ys j x f h at = absurd (cc at)
 zip_some Q P (a ∷ xs) [] j x f h at = absurd h
@@ -103,7 +105,8 @@ module _ (e : Ext) (o : Options) (entry : Bool) (block : ExtBlock) where
   abbrev pub MayHave : Operand → Type 0
   MayHave y = (y.alts ≡ []) ⊎ OperandHas y
 
-  may_have : (v : Option Value) (y : Operand) → y.alts ≡ alternatives v → ((w : Value) → v ≡ Some w → ValueOk e block s.placed w) → MayHave y
+  may_have : (v : Option Value) (y : Operand) → y.alts ≡ alternatives v → ((w : Value) → v ≡ Some w → ValueOk e block s.placed w)
+      → MayHave y
   may_have None y is ok = inl is
   may_have (Some v) y is ok = inr (has_by v y is (ok v refl))
 
@@ -118,7 +121,8 @@ module _ (e : Ext) (o : Options) (entry : Bool) (block : ExtBlock) where
       let next = with_operand x g in
       let ok' = values_operand e block s.placed from x g ok in
       let same : record { alts = alternatives (slice_get next.values (first_of x.alts)); home = x.home } ≡ y = cc at in
-      may_have (slice_get next.values (first_of x.alts)) y (ap (λ (z : Operand). z.alts) (sym same)) (λ w is. ok'.at (first_of x.alts) w reads.0 is)
+      may_have (slice_get next.values (first_of x.alts)) y (ap (λ (z : Operand). z.alts) (sym same)) (λ w is. ok'.at (first_of x.alts) w
+      reads.0 is)
   news_have from (x ∷ xs) g ok reads (suc j) y at =
       news_have from xs (with_operand x g) (values_operand e block s.placed from x g ok) reads.1 j y at
 
@@ -146,7 +150,8 @@ module _ (e : Ext) (o : Options) (entry : Bool) (block : ExtBlock) where
   one_copy General = omega arith
   one_copy Pred = omega arith
 
-  handed_in : (count j : ℕ) (y : Operand) (h : OperandHas y) (name : Option NameId) → IfSome name (λ (n : NameId). h.sort.kind ≡ name_kind e.names n)
+  handed_in : (count j : ℕ) (y : Operand) (h : OperandHas y) (name : Option NameId)
+      → IfSome name (λ (n : NameId). h.sort.kind ≡ name_kind e.names n)
       → handed_place e.names s count j y name ≤ length y.alts - 1
   handed_in count j y h (Some name) kind = by (is_placed s y.alts) refl
     where
@@ -190,10 +195,12 @@ module _ (e : Ext) (o : Options) (entry : Bool) (block : ExtBlock) where
         cc same
 
     wants_named : (j : ℕ) (n : NameId) → slice_get block.live_out j ≡ Some n
-        → slice_get (map (λ (name : NameId). anywhere (name_kind e.names name)) block.live_out ++ map (λ (r : ℕ). anywhere General) (saved_registers e.table)) j
+        → slice_get (map (λ (name : NameId). anywhere (name_kind e.names name)) block.live_out ++ map (λ (r : ℕ). anywhere General)
+        (saved_registers e.table)) j
         ≡ Some (anywhere (name_kind e.names n))
     wants_named j n is =
-        got_left (map (λ (name : NameId). anywhere (name_kind e.names name)) block.live_out) (map (λ (r : ℕ). anywhere General) (saved_registers e.table)) j
+        got_left (map (λ (name : NameId). anywhere (name_kind e.names name)) block.live_out) (map (λ (r : ℕ). anywhere General)
+        (saved_registers e.table)) j
         (anywhere (name_kind e.names n))
         (slice_get-map (λ (name : NameId). anywhere (name_kind e.names name)) block.live_out j ∙ ap (option_map (λ (name : NameId). anywhere
         (name_kind e.names name))) is)
@@ -208,18 +215,24 @@ module _ (e : Ext) (o : Options) (entry : Bool) (block : ExtBlock) where
     place_in (Ret None) is count j y at = omega arith
     place_in Fall is count j y at =
         let h = surely j y at in
-        let zip = subst (λ (t : Term). AllZip (IsGoodOperand e.names e.blocks before) ys (wants_of_out e.table e.names block.live_out t)) is good in
-        handed_in count j y h (slice_get block.live_out j) (named_by (wants_of_out e.table e.names block.live_out Fall) zip wants_named j y h at
+        let zip = subst (λ (t : Term). AllZip (IsGoodOperand e.names e.blocks before) ys (wants_of_out e.table e.names block.live_out t))
+        is good in
+        handed_in count j y h (slice_get block.live_out j) (named_by (wants_of_out e.table e.names block.live_out Fall) zip wants_named j
+        y h at
         (slice_get block.live_out j) refl)
     place_in (Jump to) is count j y at =
         let h = surely j y at in
-        let zip = subst (λ (t : Term). AllZip (IsGoodOperand e.names e.blocks before) ys (wants_of_out e.table e.names block.live_out t)) is good in
-        handed_in count j y h (slice_get block.live_out j) (named_by (wants_of_out e.table e.names block.live_out (Jump to)) zip wants_named j y h at
+        let zip = subst (λ (t : Term). AllZip (IsGoodOperand e.names e.blocks before) ys (wants_of_out e.table e.names block.live_out t))
+        is good in
+        handed_in count j y h (slice_get block.live_out j) (named_by (wants_of_out e.table e.names block.live_out (Jump to)) zip
+        wants_named j y h at
         (slice_get block.live_out j) refl)
     place_in (Branch pred sense to) is count j y at =
         let h = surely j y at in
-        let zip = subst (λ (t : Term). AllZip (IsGoodOperand e.names e.blocks before) ys (wants_of_out e.table e.names block.live_out t)) is good in
-        handed_in count j y h (slice_get block.live_out j) (named_by (wants_of_out e.table e.names block.live_out (Branch pred sense to)) zip
+        let zip = subst (λ (t : Term). AllZip (IsGoodOperand e.names e.blocks before) ys (wants_of_out e.table e.names block.live_out t))
+        is good in
+        handed_in count j y h (slice_get block.live_out j) (named_by (wants_of_out e.table e.names block.live_out (Branch pred sense to))
+        zip
         wants_named j y h at (slice_get block.live_out j) refl)
 
     pub out_in : (p : Progress) (purpose : Purpose) → (let op : ExtOp = record { kind = Out; operands = ys; results = [] } in

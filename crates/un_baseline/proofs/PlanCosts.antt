@@ -24,13 +24,16 @@ costs_are values first (block ∷ blocks) [] fit h = absurd fit
 costs_are values first (block ∷ blocks) (p ∷ plans) fit h =
     let size = block_size block p fit.0 in
     let here = holds_left values first (block_values block p) (blocks_values blocks plans) h in
-    let rest = costs_are values (first + block_count block) blocks plans fit.1 (holds_right values first (first + block_count block) (block_values
+    let rest = costs_are values (first + block_count block) blocks plans fit.1 (holds_right values first (first + block_count block)
+    (block_values
     block p) (blocks_values blocks plans) (omega arith) h) in
-    ap (λ (end : ℕ). block.freq * (end - 1) + blocks_cost values blocks (blocks_vars (first + block_count block) blocks)) (end_is values first block p
+    ap (λ (end : ℕ). block.freq * (end - 1) + blocks_cost values blocks (blocks_vars (first + block_count block) blocks)) (end_is values
+    first block p
     fit.0 here)
     ∙ ap (λ (n : ℕ). block.freq * (p.end - 1) + n) rest
 
-pub cost_is : (e : Ext) (o : Options) → cost_of (model_of e o) (record { values = spilled_values e }) ≡ plans_cost e.blocks (block_plans e true e.blocks)
+pub cost_is : (e : Ext) (o : Options) → cost_of (model_of e o) (record { values = spilled_values e }) ≡ plans_cost e.blocks (block_plans
+    e true e.blocks)
 cost_is e o =
     let plans = block_plans e true e.blocks in
     costs_are (spilled_values e) 0 e.blocks plans (plan_suits e) (holds_left (spilled_values e) 0 (blocks_values e.blocks plans) (1 ∷ [])

@@ -42,7 +42,8 @@ module _ (e : Ext) (block : ExtBlock) (s : Setting) where
   -- ---- operands
 
   reads_reach : (kind : Kind) (own : List TempId) (n : ℕ) (p : Progress) (tail : List ExtOp) (fin : ℕ) → purpose_at s.term tail ≡ Operands
-      → ((q : Progress) → q.cycle ≡ p.cycle + operand_packets t kind → Reach q tail fin) → Reach p (copy_ops U U2 kind true own n ++ tail) fin
+      → ((q : Progress) → q.cycle ≡ p.cycle + operand_packets t kind → Reach q tail fin)
+      → Reach p (copy_ops U U2 kind true own n ++ tail) fin
   reads_reach General own n p tail fin for rest =
       let step : Purpose → Progress = λ x. progress_of e block s p x (copy_op U own n) (Copy U) in
       rest (step (purpose_at s.term tail)) (ap (λ (x : Purpose). (step x).cycle) for)
@@ -79,7 +80,8 @@ module _ (e : Ext) (block : ExtBlock) (s : Setting) where
   operand_for None n tail = refl
   operand_for (Some v) n tail = copies_for v.sort.kind v.sort.copied v.own n tail
 
-  pub operands_for : (xs : List Operand) (g : Growth) (tail : List ExtOp) → purpose_at s.term (operands_ops xs g ++ tail) ≡ purpose_at s.term tail
+  pub operands_for : (xs : List Operand) (g : Growth) (tail : List ExtOp)
+      → purpose_at s.term (operands_ops xs g ++ tail) ≡ purpose_at s.term tail
   operands_for [] g tail = refl
   operands_for (x ∷ xs) g tail =
       ap (purpose_at s.term) (append_assoc (operand_ops x g) (operands_ops xs (with_operand x g)) tail)
@@ -93,7 +95,8 @@ module _ (e : Ext) (block : ExtBlock) (s : Setting) where
   AreCopied (x ∷ xs) [] g = ⊥
   AreCopied (x ∷ xs) (kind ∷ kinds) g = Copied kind (slice_get g.values (first_of x.alts)) × AreCopied xs kinds (with_operand x g)
 
-  pub operands_reach : (xs : List Operand) (kinds : List Kind) (g : Growth) (p : Progress) (tail : List ExtOp) (fin : ℕ) → AreCopied xs kinds g
+  pub operands_reach : (xs : List Operand) (kinds : List Kind) (g : Growth) (p : Progress) (tail : List ExtOp) (fin : ℕ)
+      → AreCopied xs kinds g
       → purpose_at s.term tail ≡ Operands → ((q : Progress) → q.cycle ≡ p.cycle + sum_by (operand_packets t) kinds → Reach q tail fin)
       → Reach p (operands_ops xs g ++ tail) fin
   operands_reach [] [] g p tail fin h for rest = rest p (omega arith)
@@ -103,7 +106,8 @@ module _ (e : Ext) (block : ExtBlock) (s : Setting) where
       let more = operands_ops xs (with_operand x g) in
       let split = sum_by-cons (operand_packets t) kind kinds in
       subst (λ (ops : List ExtOp). Reach p ops fin) (sym (append_assoc (operand_ops x g) more tail))
-      (operand_reach kind (slice_get g.values (first_of x.alts)) g.next p (more ++ tail) fin h.0 (operands_for xs (with_operand x g) tail ∙ for)
+      (operand_reach kind (slice_get g.values (first_of x.alts)) g.next p (more ++ tail) fin h.0 (operands_for xs (with_operand x g) tail
+      ∙ for)
       (λ q at. operands_reach xs kinds (with_operand x g) q tail fin h.1 for (λ r there. rest r (omega arith))))
 
   -- ---- a result
@@ -119,7 +123,8 @@ module _ (e : Ext) (block : ExtBlock) (s : Setting) where
       let purpose = purpose_at s.term tail in
       let alts = (temp n ∷ []) ++ temp m ∷ [] in
       let q = progress_of e block s p purpose (copy_op D (temp n ∷ []) m) (Copy D) in
-      let first : q.cycle ≡ p.cycle + latency_of t P2R = ap (λ (d : Definer). after_move t p.cycle (first_copy e.names block.live_in s p d)) is
+      let first : q.cycle ≡ p.cycle + latency_of t P2R = ap (λ (d : Definer). after_move t p.cycle (first_copy e.names block.live_in s p
+      d)) is
       ∙ ap (λ (k : Kind). after_move t p.cycle (kept_by_kind k name p.cycle)) kind in
       let r = progress_of e block s q purpose (copy_op D2 alts (m + 1)) (Copy D2) in
       let second : r.cycle ≡ q.cycle + latency_of t Spill = ap (λ (d : Definer). after_move t q.cycle (second_copy q alts d)) is in

@@ -67,7 +67,8 @@ module _ (e : Ext) (o : Options) (entry : Bool) (block : ExtBlock) (y : TempId) 
       contains_filter (λ (k : ℕ). is_assignable o.regs k || is_home e.table entry block y k) (range_with_len 0 GENERALS) r h
       (subst (Contains (range_with_len 0 GENERALS)) z (contains_range 0 GENERALS r lt))
 
-  from_general : (r : ℕ) → Contains (general_registers e o.regs entry block y) r → Contains (value_registers e o.regs o.slots entry block y) r
+  from_general : (r : ℕ) → Contains (general_registers e o.regs entry block y) r
+      → Contains (value_registers e o.regs o.slots entry block y) r
   from_general r h = Contains-append_left (general_registers e o.regs entry block y ++ preds) (slots_of o.slots) r
       (Contains-append_left (general_registers e o.regs entry block y) preds r h)
 
@@ -90,7 +91,8 @@ module _ (e : Ext) (o : Options) (entry : Bool) (block : ExtBlock) (y : TempId) 
   pub home_general : (r : ℕ) → r < GENERALS → is_home e.table entry block y r ≡ true → Contains (general_registers e o.regs entry block y) r
   home_general r lt home = general_in r lt (ap (λ (b : Bool). is_assignable o.regs r || b) home ∙ or_true (is_assignable o.regs r))
 
-  pub home_in : (r : ℕ) → r < GENERALS → is_home e.table entry block y r ≡ true → Contains (value_registers e o.regs o.slots entry block y) r
+  pub home_in : (r : ℕ) → r < GENERALS → is_home e.table entry block y r ≡ true
+      → Contains (value_registers e o.regs o.slots entry block y) r
   home_in r lt home = from_general r (home_general r lt home)
 
   -- p0, of a truth value

@@ -29,7 +29,8 @@ few_names f =
     (cases_lt (length f.names) SLOTS)
 
 -- what is asked of a model is met for every function
-pub every_function : (f : Function) (lists : List (List NameId)) (t : Table) → IsFit t → AreLive f.blocks lists → IsLinear (lin_of f lists t)
+pub every_function : (f : Function) (lists : List (List NameId)) (t : Table) → IsFit t → AreLive f.blocks lists
+    → IsLinear (lin_of f lists t)
     → (let e = extend_of (lin_of f lists t) in IsExtended e → IsSpillable (model_of e all_room))
 every_function f lists t fit live linear kept = record {
   model = refl;

@@ -1,8 +1,6 @@
 -- The plan that spills every name is a solution.
 use Rattle.std.proofs.Common.{◌≡◌, ℕ, List}
 use Rattle.un_model.specs.declared.model.Model.{Model}
-use Rattle.un_model.specs.Congruences.{KeepsCongruences}
-use Rattle.un_model.specs.Schedules.{schedule_of}
 use Rattle.un_model.specs.Solutions.{IsSolution}
 use Rattle.un_baseline.specs.RoomyOptions.{IsSpillable}
 use Rattle.un_baseline.specs.SpillEverywhere.{spilled_values}
@@ -10,8 +8,8 @@ use Rattle.un_baseline.proofs.Kept.{zeros_of_model, memory_of_model, packets_of_
 use Rattle.un_baseline.proofs.FrameKept.{latencies_of_model, frame_of_model, domains_of_model}
 
 module _ (m : Model) (h : IsSpillable m) (values : List ℕ) (same : values ≡ spilled_values m.ext) where
-  pub is_solution : IsSolution m (record { values = values })
-  is_solution = record {
+  pub solution_of_model : IsSolution m (record { values = values })
+  solution_of_model = record {
     in_domains = domains_of_model m h values same;
     zeros = zeros_of_model m h values same;
     choices = choices_of_model m h values same;

@@ -63,7 +63,8 @@ kinds_at : (names : List Kind) (live_in : List NameId) (saved : Bool) (count m :
 kinds_at names [] saved zero m sort at = absurd (cc at)
 kinds_at names [] saved (suc count) zero sort at = let e : saved_sort saved ≡ sort = cc at in ap (λ (t : Sort). Some t.kind) e
 kinds_at names [] saved (suc count) (suc m) sort at = kinds_at names [] saved count m sort at
-kinds_at names (name ∷ live_in) saved count zero sort at = let e : sort_of_name names name ≡ sort = cc at in ap (λ (t : Sort). Some t.kind) e
+kinds_at names (name ∷ live_in) saved count zero sort at = let e : sort_of_name names name ≡ sort = cc at in ap (λ (t : Sort). Some
+    t.kind) e
 kinds_at names (name ∷ live_in) saved count (suc m) sort at = kinds_at names live_in saved count m sort at
 
 pred_named : (kind : Option Kind) → unwrap_or kind General ≡ Pred → is_pred kind ≡ true
@@ -126,7 +127,8 @@ new_begins zero n (sort ∷ sorts) g lt =
     let i : length g.values ≡ length g.values + 0 = omega arith in
     let m : n ≡ n + 0 = omega arith in
     begins_values (length g.values + 0) (n + 0) (n + 1) sorts (with_value n sort g)
-    (subst (λ (k : ℕ). Begins k (n + 0) (with_value n sort g)) i (subst (λ (k : ℕ). Begins (length g.values) k (with_value n sort g)) m (record {
+    (subst (λ (k : ℕ). Begins k (n + 0) (with_value n sort g)) i (subst (λ (k : ℕ). Begins (length g.values) k (with_value n sort g)) m
+    (record {
       within = omega arith;
       first = λ w at. (_, ap (λ (u : Value). u.own) (sym (got_last g.values v w at)));
     })))
@@ -138,7 +140,8 @@ new_begins (suc j) n (sort ∷ sorts) g lt =
     (subst (λ (k : ℕ). Begins (length (g.values ++ value_of n sort g ∷ []) + j) k (with_values (n + 1) sorts (with_value n sort g))) m
     (new_begins j (n + 1) sorts (with_value n sort g) (omega arith)))
 
-module _ (e : Ext) (o : Options) (roomy : AreRoomy e o) (fit : IsFit e.table) (extended : IsExtended e) (b : ℕ) (entry : Bool) (block : ExtBlock)
+module _ (e : Ext) (o : Options) (roomy : AreRoomy e o) (fit : IsFit e.table) (extended : IsExtended e) (b : ℕ) (entry : Bool) (block :
+    ExtBlock)
     (at_b : slice_get e.blocks b ≡ Some block) where
   abbrev s : Setting
   s = setting_of e entry block
@@ -146,7 +149,8 @@ module _ (e : Ext) (o : Options) (roomy : AreRoomy e o) (fit : IsFit e.table) (e
   abbrev live_names : All (λ (x : NameId). x.0 < length e.names) block.live_in
   live_names = live e o roomy fit extended b entry block at_b
 
-  module _ (g : Growth) (saved : Bool) (results : List TempId) (size : length results ≡ length block.live_in + length (saved_registers e.table))
+  module _ (g : Growth) (saved : Bool) (results : List TempId) (size : length results ≡ length block.live_in + length (saved_registers
+      e.table))
       (begins : live_in_temps block.ops ≡ map temp (range_with_len g.next (length results))) (is_saved : entry ≡ true → saved ≡ true) where
     abbrev count : ℕ
     count = length results
@@ -187,7 +191,8 @@ module _ (e : Ext) (o : Options) (roomy : AreRoomy e o) (fit : IsFit e.table) (e
         let total = sorts_size in
         let there = row_is g.next count m (omega arith) in
         let long = length-map-range_with_len temp g.next count in
-        let kinds = kind_defined e.names e.blocks extended.good.numbered (starts e o roomy fit extended b entry block at_b) b among.0 m block made
+        let kinds = kind_defined e.names e.blocks extended.good.numbered (starts e o roomy fit extended b entry block at_b) b among.0 m
+        block made
         (temp (g.next + m)) at_b (place_of e o roomy fit extended b entry block at_b made among) there refl
         ∙ ap (λ (c : ℕ). slice_get (in_kinds e.names block.live_in c) m) long
         ∙ kinds_at e.names block.live_in saved (count - length block.live_in) m sort at in
@@ -195,7 +200,8 @@ module _ (e : Ext) (o : Options) (roomy : AreRoomy e o) (fit : IsFit e.table) (e
           kind = kinds;
           truth = λ is. truth_there e o roomy fit extended b entry block at_b made m (temp (g.next + m)) among there
               (truth_at e.names block.live_in saved (count - length block.live_in) m sort at is);
-          copied = λ not. is_placed_by entry refl (copied_at e.names block.live_in saved (count - length block.live_in) m sort at not) m (omega arith);
+          copied = λ not. is_placed_by entry refl (copied_at e.names block.live_in saved (count - length block.live_in) m sort at not) m
+              (omega arith);
         })
 
     abbrev op : ExtOp
@@ -210,7 +216,8 @@ module _ (e : Ext) (o : Options) (roomy : AreRoomy e o) (fit : IsFit e.table) (e
     pub start_among : (tail : List ExtOp) → Inside e o roomy fit extended b entry block at_b (list ++ tail) → Contains block.ops made
     start_among tail inside = inside made (subst (λ (zs : List ExtOp). Contains zs made) (sym (start_whole tail)) (0, omega arith, refl))
 
-    enter_values : (first : Bool) (h : Growth) (from : ℕ) → ValuesOk e block s.placed from h → ValuesOk e block s.placed from (with_enter first In h)
+    enter_values : (first : Bool) (h : Growth) (from : ℕ) → ValuesOk e block s.placed from h
+        → ValuesOk e block s.placed from (with_enter first In h)
     enter_values true h from ok = values_same e block s.placed from h (with_enter true In h) refl ok
     enter_values false h from ok = ok
 
@@ -233,7 +240,8 @@ module _ (e : Ext) (o : Options) (roomy : AreRoomy e o) (fit : IsFit e.table) (e
         (g.next + (length block.live_in + length (callee_saved e.table))) (with_values g.next sorts here)
         (new_begins (length block.live_in + length (callee_saved e.table)) g.next sorts here (omega arith))
 
-    start_free : (d : Definer) (n : ℕ) (ts : List Sort) → ((name : NameId) → d ≡ Assigns name → ⊥) → AreTruths e o roomy entry block live_names d n ts
+    start_free : (d : Definer) (n : ℕ) (ts : List Sort) → ((name : NameId) → d ≡ Assigns name → ⊥)
+        → AreTruths e o roomy entry block live_names d n ts
     start_free d n [] never = tt
     start_free d n (t ∷ ts) never = ((λ name is pred. absurd (never name is)), start_free d (n + 1) ts never)
 
@@ -253,7 +261,8 @@ module _ (e : Ext) (o : Options) (roomy : AreRoomy e o) (fit : IsFit e.table) (e
         let there = row_is g.next count j (omega arith) in
         let none : slice_get block.live_in j ≡ None = past block.live_in j (omega arith) in
         let place : j - length block.live_in ≡ length (callee_saved e.table) = omega arith in
-        start_home_in e o roomy fit entry block (map temp (range_with_len g.next count)) live_names made_size among j LINK (temp (g.next + j)) there
+        start_home_in e o roomy fit entry block (map temp (range_with_len g.next count)) live_names made_size among j LINK (temp (g.next
+        + j)) there
         (ap (start_home e.table entry block.live_in j) none
         ∙ ap (λ (k : ℕ). option_map reg_at (slice_get (saved_registers e.table) k)) place
         ∙ ap (option_map reg_at) (last_saved (callee_saved e.table)))

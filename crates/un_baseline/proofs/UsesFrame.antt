@@ -180,7 +180,8 @@ module _ (e : Ext) (block : ExtBlock) (s : Setting) (b end : ℕ) where
       let same : last.values ≡ next.values = ap (λ (x : ExtKind). (progress_of e block s next behind o x).values) second in
       let still : last.definer ≡ next.definer = ap (λ (x : ExtKind). (progress_of e block s next behind o x).definer) second in
       spills_or n p purpose op (issues_from e block s b end (n + 1) next (o ∷ ops)) k is def count (λ more.
-      tail_spills (planned_issue b end (n + 1) o (step_of e block s next behind o o.kind)) (issues_from e block s b end (n + 1 + 1) last ops)
+      tail_spills (planned_issue b end (n + 1) o (step_of e block s next behind o o.kind)) (issues_from e block s b end (n + 1 + 1) last
+      ops)
       (start_spills k (n + 1 + 1) last ops rest more (still ∙ definer ∙ def) (omega arith)))
 
 -- ---- the entry

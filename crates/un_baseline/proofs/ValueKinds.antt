@@ -115,14 +115,17 @@ kinds_size names block Enter op le = length-map op.results (λ (y : TempId). Gen
 kinds_size names block Leave op le = length-map op.results (λ (y : TempId). General)
 
 -- the kind of a temporary that no copy defines is that of its definer's result
-pub kind_defined : (names : List Kind) (blocks : List ExtBlock) → all_results blocks ≡ map temp (range_with_len 0 (length (all_results blocks)))
-    → ((block : ExtBlock) → Contains blocks block → (op : ExtOp) → Contains block.ops op → op.kind ≡ In → length block.live_in ≤ length op.results)
+pub kind_defined : (names : List Kind) (blocks : List ExtBlock) → all_results blocks ≡ map temp (range_with_len 0 (length (all_results
+    blocks)))
+    → ((block : ExtBlock) → Contains blocks block → (op : ExtOp) → Contains block.ops op → op.kind ≡ In
+    → length block.live_in ≤ length op.results)
     → (b k m : ℕ) (block : ExtBlock) (op : ExtOp) (y : TempId) → slice_get blocks b ≡ Some block → slice_get block.ops k ≡ Some op
     → slice_get op.results m ≡ Some y → carried_by op.kind op ≡ op.results
     → kind_of_temp names blocks y ≡ slice_get (defined_kinds names block op.kind op) m
 kind_defined names blocks numbered starts b k m block op y at_b at_k at_m own =
     let c : slice_get (all_carried blocks) y.0 ≡ Some y =
-    at_number blocks numbered (λ (c : ExtBlock) (o : ExtOp). carried_by o.kind o) (λ c h o g. carried_size o.kind o) b k m block op y at_b at_k at_m
+    at_number blocks numbered (λ (c : ExtBlock) (o : ExtOp). carried_by o.kind o) (λ c h o g. carried_size o.kind o) b k m block op y
+    at_b at_k at_m
     ∙ ap (λ (xs : List TempId). slice_get xs m) own ∙ at_m in
     let same : carried blocks y ≡ y = ap (λ (x : Option TempId). unwrap_or x y) c in
     ap (λ (x : TempId). slice_get (all_kinds names blocks) x.0) same

@@ -19,12 +19,15 @@ use Rattle.un_ir.specs.Linear.{first_of}
 use Rattle.un_ir.specs.ExtendOf.{copy_count, new_temps, own_temps, value_of, with_value, with_values, with_operand_by, with_operand, with_operands, with_results}
 use Rattle.un_model.specs.Registers.{is_truth}
 
-push_cases : {A : Type 0} (xs : List A) (x : A) (k : ℕ) (w : A) → slice_get (xs ++ x ∷ []) k ≡ Some w
+pub push_cases : {A : Type 0} (xs : List A) (x : A) (k : ℕ) (w : A) → slice_get (xs ++ x ∷ []) k ≡ Some w
     → (slice_get xs k ≡ Some w) ⊎ ((k ≡ length xs) × (x ≡ w))
 push_cases [] x zero w h = inr (refl, (let e : x ≡ w = cc h in e))
 push_cases [] x (suc k) w h = absurd (cc h)
 push_cases (y ∷ xs) x zero w h = inl h
-push_cases (y ∷ xs) x (suc k) w h = ⊎_elim (λ (a : slice_get xs k ≡ Some w). inl a) (λ (a : (k ≡ length xs) × (x ≡ w)). inr (ap suc a.0, a.1))
+push_cases (y ∷ xs) x (suc k) w h = ⊎_elim (λ (a : slice_get xs k ≡ Some w). inl a) (λ (a : (k ≡ length xs) × (x ≡ w)). inr (
+  ap suc a.0,
+  a.1,
+))
     (push_cases xs x k w h)
 
 pub set_cases : {A : Type 0} (xs : List A) (i : ℕ) (y : A) (k : ℕ) (w : A) → slice_get (set xs i y) k ≡ Some w
@@ -33,7 +36,8 @@ set_cases [] i y k w h = absurd (cc h)
 set_cases (x ∷ xs) zero y zero w h = inl (refl, (let e : y ≡ w = cc h in e))
 set_cases (x ∷ xs) zero y (suc k) w h = inr h
 set_cases (x ∷ xs) (suc i) y zero w h = inr h
-set_cases (x ∷ xs) (suc i) y (suc k) w h = ⊎_elim (λ (a : (k ≡ i) × (y ≡ w)). inl (ap suc a.0, a.1)) (λ (a : slice_get xs k ≡ Some w). inr a)
+set_cases (x ∷ xs) (suc i) y (suc k) w h = ⊎_elim (λ (a : (k ≡ i) × (y ≡ w)). inl (ap suc a.0, a.1)) (λ (a : slice_get xs k ≡ Some w).
+    inr a)
     (set_cases xs i y k w h)
 
 module _ (e : Ext) (block : ExtBlock) (placed : ℕ) where
@@ -69,7 +73,8 @@ module _ (e : Ext) (block : ExtBlock) (placed : ℕ) where
     copied = h.copied;
   }
 
-  read_by : (from x : ℕ) (o : Option Value) (g : Growth) → slice_get g.values x ≡ o → ValuesOk from g → ValuesOk from (with_operand_by x o g)
+  read_by : (from x : ℕ) (o : Option Value) (g : Growth) → slice_get g.values x ≡ o → ValuesOk from g
+      → ValuesOk from (with_operand_by x o g)
   read_by from x None g at h = h
   read_by from x (Some v) g at h =
       let ys = new_temps g (copy_count v.sort) in

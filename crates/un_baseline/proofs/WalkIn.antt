@@ -123,7 +123,8 @@ module _ (e : Ext) (o : Options) (roomy : AreRoomy e o) (entry : Bool) (block : 
   operand_for None n tail = refl
   operand_for (Some v) n tail = copies_for v.sort.kind v.sort.copied v.own n tail
 
-  operands_for : (xs : List Operand) (g : Growth) (tail : List ExtOp) → purpose_at s.term (operands_ops xs g ++ tail) ≡ purpose_at s.term tail
+  operands_for : (xs : List Operand) (g : Growth) (tail : List ExtOp) → purpose_at s.term (operands_ops xs g ++ tail) ≡ purpose_at s.term
+      tail
   operands_for [] g tail = refl
   operands_for (x ∷ xs) g tail =
       ap (purpose_at s.term) (append_assoc (operand_ops x g) (operands_ops xs (with_operand x g)) tail)
@@ -151,7 +152,8 @@ module _ (e : Ext) (o : Options) (roomy : AreRoomy e o) (entry : Bool) (block : 
   abbrev pub AreTruths : Definer → ℕ → List Sort → Type 0
   AreTruths d n [] = Unit {0}
   AreTruths d n (sort ∷ sorts) =
-      ((name : NameId) → d ≡ Assigns name → name_kind e.names name ≡ Pred → is_truth e.names block (temp n) ≡ true) × AreTruths d (n + 1) sorts
+      ((name : NameId) → d ≡ Assigns name → name_kind e.names name ≡ Pred
+      → is_truth e.names block (temp n) ≡ true) × AreTruths d (n + 1) sorts
 
   value_good : (kind : Kind) (copied : Bool) (n m : ℕ) (p : Progress) (tail : List ExtOp) → DefinerOk e o roomy entry block p.definer
       → ((name : NameId) → p.definer ≡ Assigns name → name_kind e.names name ≡ Pred → is_truth e.names block (temp n) ≡ true)

@@ -11,10 +11,12 @@ ghost use Rattle.un_ir.specs.declared.extended.ExtKind.TheVariants.{In, Out, Bod
 ghost use Rattle.un_ir.specs.declared.function.Term.{Term};
 ghost use Rattle.un_ir.specs.Extended.{is_copy};
 ghost use Rattle.un_ir.specs.Linear.{is_in};
-ghost use Rattle.un_model.specs.Congruences.{term_or, term_of, live_in_temps};
+ghost use Rattle.un_model.specs.Congruences.{term_or, term_of, live_in_temps, KeepsCongruences};
 ghost use Rattle.un_model.specs.Instructions.{gives_truth, transfer_of, latency_by};
 ghost use Rattle.un_model.specs.Pairs.{places_from};
+ghost use Rattle.un_model.specs.Schedules.{schedule_of};
 ghost use Rattle.un_model.specs.Solutions.{IsSolution};
+ghost use Rattle.un_model.specs.Cost.{value_of};
 ghost use Rattle.un_model.specs.Variables.{chosen_operands};
 ghost use Rattle.un_baseline.specs.RoomyOptions.{IsSpillable};
 ghost use Rattle.un_baseline.specs.Plans.{step_values, steps_values, block_values, blocks_values};
