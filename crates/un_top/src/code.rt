@@ -26,7 +26,7 @@ pub struct Costed {
 }
 
 /// The code of a solution of a function's model, with its cost.
-fn code_by(
+pub fn code_by(
     alloc: Global,
     f: &Function,
     model: &Model,
