@@ -1,21 +1,20 @@
 -- The operands of an operation are reloaded into registers, and the operation reads them there.
-use Rattle.std.proofs.Common.{◌≡◌, ◌≢◌, ℕ, zero, suc, ◌+◌, ◌-◌, ◌<◌, ◌≤◌, ◌⊎◌, ⊎_elim, inl, inr, Bool, true, false, ltb, List, [], ◌∷◌, ◌++◌, length, map, replicate, get_or, Option, Some, None, refl, sym, ap, subst, ◌∙◌, append_assoc, arith}
-use Rattle.std.specs.Prelude.{◌==◌, nat_lt, is_some, if◌then◌else◌, slice_get, slice_index, IfSome, All}
+use Rattle.std.proofs.Common.{◌≡◌, ◌≢◌, ℕ, zero, suc, ◌+◌, ◌<◌, ◌≤◌, ◌⊎◌, ⊎_elim, inl, inr, Bool, true, false, List, [], ◌∷◌, ◌++◌, length, map, Option, Some, None, refl, sym, ap, subst, ◌∙◌, append_assoc, arith}
+use Rattle.std.specs.Prelude.{nat_lt, if◌then◌else◌, slice_get, slice_index, IfSome, All}
 use Rattle.std.proofs.lemmas.Bool.Decides.{nat_tests}
 use Rattle.std.proofs.lemmas.List.Elements.{All-nil, All-cons}
 use Rattle.un_base.specs.declared.ids.TempId.{TempId}
 use Rattle.un_isa.specs.declared.op.Op.{Op}
-use Rattle.un_isa.specs.declared.op.Op.TheVariants.{Call, Reload, Spill, P2R, R2P}
+use Rattle.un_isa.specs.declared.op.Op.TheVariants.{Reload, R2P}
 use Rattle.un_isa.specs.declared.reg.Reg.{Reg}
-use Rattle.un_isa.specs.declared.reg.Space.{Space}
 use Rattle.un_isa.specs.declared.reg.Space.TheVariants.{R, P, M}
 use Rattle.un_isa.specs.Fit.{IsFit}
 use Rattle.un_isa.specs.Registers.{space_of}
-use Rattle.un_isa.specs.Tables.{latency_of, in_mask}
+use Rattle.un_isa.specs.Tables.{latency_of}
 use Rattle.un_ir.specs.declared.function.Kind.{Kind}
 use Rattle.un_ir.specs.declared.function.Kind.TheVariants.{General, Pred}
 use Rattle.un_ir.specs.declared.extended.NodeCopy.{NodeCopy}
-use Rattle.un_ir.specs.declared.extended.NodeCopy.TheVariants.{D, D2, U, U2}
+use Rattle.un_ir.specs.declared.extended.NodeCopy.TheVariants.{U, U2}
 use Rattle.un_ir.specs.declared.extended.Operand.{Operand}
 use Rattle.un_ir.specs.declared.extended.ExtOp.{ExtOp}
 use Rattle.un_ir.specs.declared.extended.ExtBlock.{ExtBlock}
@@ -28,15 +27,14 @@ use Rattle.un_ir.specs.Linear.{first_of}
 use Rattle.un_ir.specs.ExtendOf.{copy_op, copy_count, with_operand_by, with_operand, with_operands, new_operands, chosen_from}
 use Rattle.un_model.specs.declared.schedule.Issue.{Issue}
 use Rattle.un_model.specs.declared.schedule.Read.{Read}
-use Rattle.un_model.specs.Instructions.{space_read, space_given}
+use Rattle.un_model.specs.Instructions.{space_read}
 use Rattle.un_model.specs.Pairs.{places_from}
 use Rattle.un_model.specs.Schedules.{chosen}
 use Rattle.un_model.specs.Solutions.{InSpace}
-use Rattle.un_baseline.specs.declared.plan.Purpose.{Purpose}
-use Rattle.un_baseline.specs.declared.plan.Purpose.TheVariants.{Operands, Link, Returned, Unread}
+use Rattle.un_baseline.specs.declared.plan.Purpose.TheVariants.{Operands}
 use Rattle.un_baseline.specs.declared.plan.Setting.{Setting}
 use Rattle.un_baseline.specs.declared.plan.Progress.{Progress}
-use Rattle.un_baseline.specs.declared.plan.TheConstants.{SPILL, RELOAD, FROM_PREDICATE, TO_PREDICATE, PREDICATE}
+use Rattle.un_baseline.specs.declared.plan.TheConstants.{RELOAD, TO_PREDICATE, PREDICATE}
 use Rattle.un_baseline.specs.Plans.{Step, planned_read}
 use Rattle.un_baseline.specs.SpillEverywhere.{purpose_at, last_place, kept_place, operand_place, copies_of}
 use Rattle.un_baseline.proofs.Carried.{Carries, carries_operand, chosen_last, arrived_general, arrived_pred}

@@ -1,6 +1,6 @@
 -- An operation of the source: its operands are reloaded, it issues, and its result is spilled.
-use Rattle.std.proofs.Common.{◌≡◌, ◌≢◌, ℕ, zero, suc, ◌+◌, ◌-◌, ◌<◌, ◌≤◌, ◌⊎◌, ⊎_elim, inl, inr, Bool, true, false, ltb, List, [], ◌∷◌, ◌++◌, length, map, replicate, get_or, Option, Some, None, refl, sym, ap, subst, ◌∙◌, append_assoc, arith}
-use Rattle.std.specs.Prelude.{◌==◌, nat_lt, is_some, if◌then◌else◌, slice_get, slice_index, IfSome, All}
+use Rattle.std.proofs.Common.{◌≡◌, ◌≢◌, ℕ, ◌+◌, ◌≤◌, Bool, true, false, List, [], ◌∷◌, ◌++◌, length, map, replicate, Option, Some, None, refl, sym, ap, subst, ◌∙◌, append_assoc, arith}
+use Rattle.std.specs.Prelude.{nat_lt, if◌then◌else◌, slice_index, IfSome, All}
 use Rattle.std.specs.Option.{option_to_list}
 use Rattle.std.proofs.lemmas.Bool.Decides.{nat_tests}
 use Rattle.std.proofs.lemmas.List.{length-append, length-map}
@@ -8,50 +8,44 @@ use Rattle.std.proofs.lemmas.List.Elements.{All-nil, All-cons}
 use Rattle.un_base.specs.declared.ids.NameId.{NameId}
 use Rattle.un_base.specs.declared.ids.TempId.{TempId}
 use Rattle.un_isa.specs.declared.op.Op.{Op}
-use Rattle.un_isa.specs.declared.op.Op.TheVariants.{Call, Reload, Spill, P2R, R2P}
+use Rattle.un_isa.specs.declared.op.Op.TheVariants.{Call, Spill, P2R}
 use Rattle.un_isa.specs.declared.reg.Space.{Space}
 use Rattle.un_isa.specs.declared.reg.Space.TheVariants.{R, P, M}
 use Rattle.un_isa.specs.Facts.{result_space}
 use Rattle.un_isa.specs.Fit.{IsFit}
-use Rattle.un_isa.specs.Registers.{space_of}
 use Rattle.un_isa.specs.Tables.{latency_of, in_mask}
 use Rattle.un_ir.specs.declared.function.Kind.{Kind}
 use Rattle.un_ir.specs.declared.function.Kind.TheVariants.{General, Pred}
 use Rattle.un_ir.specs.declared.function.SrcOp.{SrcOp}
-use Rattle.un_ir.specs.declared.extended.NodeCopy.TheVariants.{D, D2, U, U2}
+use Rattle.un_ir.specs.declared.extended.NodeCopy.TheVariants.{D, D2}
 use Rattle.un_ir.specs.declared.extended.ExtKind.TheVariants.{Body}
 use Rattle.un_ir.specs.declared.extended.Operand.{Operand}
 use Rattle.un_ir.specs.declared.extended.ExtOp.{ExtOp}
 use Rattle.un_ir.specs.declared.extended.ExtBlock.{ExtBlock}
 use Rattle.un_ir.specs.declared.extended.Ext.{Ext}
 use Rattle.un_ir.specs.declared.extended.Growth.{Growth}
-use Rattle.un_ir.specs.declared.extended.Value.{Value}
 use Rattle.un_ir.specs.declared.extended.Sort.{Sort}
 use Rattle.un_ir.specs.Extended.{temp, name_kind}
-use Rattle.un_ir.specs.Linear.{first_of}
-use Rattle.un_ir.specs.ExtendOf.{copy_op, copy_count, copy_count_by, new_temps, own_temps, with_value, with_values, with_operand, with_operands, new_operands, with_results, sorts_of, with_enter, with_extended}
+use Rattle.un_ir.specs.ExtendOf.{copy_op, copy_count_by, own_temps, with_value, with_operands, new_operands, with_results, with_enter, with_extended}
 use Rattle.un_ir.specs.WellFormed.{kind_given, result_kind}
 use Rattle.un_model.specs.declared.schedule.Read.{Read}
 use Rattle.un_model.specs.Instructions.{space_given, gives_truth, is_predicate_space}
 use Rattle.un_model.specs.Pairs.{places_from}
 use Rattle.un_model.specs.Schedules.{chosen}
 use Rattle.un_model.specs.Solutions.{InSpace}
-use Rattle.un_baseline.specs.declared.plan.Purpose.{Purpose}
-use Rattle.un_baseline.specs.declared.plan.Purpose.TheVariants.{Operands}
-use Rattle.un_baseline.specs.declared.plan.Definer.{Definer}
-use Rattle.un_baseline.specs.declared.plan.Definer.TheVariants.{Start, Assigns, Other}
+use Rattle.un_baseline.specs.declared.plan.Definer.TheVariants.{Assigns}
 use Rattle.un_baseline.specs.declared.plan.Setting.{Setting}
 use Rattle.un_baseline.specs.declared.plan.Progress.{Progress}
-use Rattle.un_baseline.specs.declared.plan.TheConstants.{SPILL, RELOAD, FROM_PREDICATE, TO_PREDICATE, PREDICATE}
-use Rattle.un_baseline.specs.Plans.{Step, planned_issue, planned_read, planned_reads_by}
-use Rattle.un_baseline.specs.SpillEverywhere.{purpose_at, slot_of, is_placed, last_place, kept_place, kept_by_kind, first_copy, second_copy, operand_place, copies_of, other_progress, assigning}
+use Rattle.un_baseline.specs.declared.plan.TheConstants.{SPILL, FROM_PREDICATE, PREDICATE}
+use Rattle.un_baseline.specs.Plans.{Step, planned_issue, planned_read}
+use Rattle.un_baseline.specs.SpillEverywhere.{purpose_at, slot_of, last_place, kept_place, kept_by_kind, first_copy, second_copy, operand_place, copies_of, other_progress, assigning}
 use Rattle.un_baseline.proofs.Made.{made_at}
 use Rattle.un_baseline.proofs.Carried.{Carries, carries_same, carries_operands, carries_value, carries_new, operands_onward}
-use Rattle.un_baseline.proofs.Grown.{append_nil, copy_ops, value_ops, values_ops, operands_ops, enter_ops, extended_ops, made_op, behind_op, value_next}
-use Rattle.un_baseline.proofs.Sound.{Seen, after, GoodRead}
+use Rattle.un_baseline.proofs.Grown.{append_nil, copy_ops, operands_ops, enter_ops, extended_ops, value_next}
+use Rattle.un_baseline.proofs.Sound.{Seen, after}
 use Rattle.un_baseline.proofs.Standing.{IsFew, no_item, one_item, Stands, Front, goes_front, goes_ok, goes_stands, goes_new_stands}
-use Rattle.un_baseline.proofs.Walk.{Good, Moved, moving_copy}
-use Rattle.un_baseline.proofs.Arrivals.{Kept, AreArrived, AreFor, AreReady, Operated, operands_arrive, operands_purpose, reads_good, reads_timed, last_places, general_space, slot_space, sort_by}
+use Rattle.un_baseline.proofs.Walk.{Good, moving_copy}
+use Rattle.un_baseline.proofs.Arrivals.{Kept, AreArrived, AreFor, AreReady, operands_arrive, reads_good, reads_timed, last_places, slot_space, sort_by}
 
 module _ (c : ℕ) (H : Seen → List Read → Type 0) (b end : ℕ) (e : Ext) (block : ExtBlock) (s : Setting) (fit : IsFit e.table) where
   abbrev G : ℕ → Progress → Seen → List ExtOp → Type 0

@@ -1,11 +1,10 @@
 -- The plan of the extended function of a function keeps clauses of a solution.
-use Rattle.std.proofs.Common.{◌≡◌, ℕ, ◌+◌, ◌<◌, Bool, true, List, [], Some, refl, ap, ◌∙◌, arith}
-use Rattle.std.specs.Prelude.{slice_get, All, AllPairs}
+use Rattle.std.proofs.Common.{◌≡◌, ◌+◌, ◌<◌, true, List, [], refl, ap, ◌∙◌, arith}
+use Rattle.std.specs.Prelude.{slice_get, All}
 use Rattle.std.proofs.lemmas.List.Elements.{All-nil}
 use Rattle.un_base.specs.declared.ids.NameId.{NameId}
 use Rattle.un_isa.specs.declared.table.Table.{Table}
 use Rattle.un_isa.specs.Fit.{IsFit}
-use Rattle.un_ir.specs.declared.function.Block.{Block}
 use Rattle.un_ir.specs.declared.function.Function.{Function}
 use Rattle.un_ir.specs.declared.extended.Ext.{Ext}
 use Rattle.un_ir.specs.ExtendOf.{extend_of}

@@ -1,5 +1,5 @@
 -- What a block hands over stands in the registers in which the next block takes it.
-use Rattle.std.proofs.Common.{◌≡◌, ◌≢◌, ℕ, zero, suc, ◌+◌, ◌-◌, ◌<◌, ◌≤◌, ◌⊎◌, inl, inr, ◌||◌, ◌&&◌, nat_eq, Bool, true, false, List, [], ◌∷◌, ◌++◌, length, map, filter, replicate, get_or, Option, Some, None, refl, sym, ap, subst, ◌∙◌, append_assoc, arith}
+use Rattle.std.proofs.Common.{◌≡◌, ◌≢◌, ℕ, zero, suc, ◌+◌, ◌-◌, ◌<◌, ◌≤◌, ◌⊎◌, inl, inr, ◌||◌, ◌&&◌, Bool, true, false, List, [], ◌∷◌, ◌++◌, length, map, filter, replicate, get_or, Option, Some, None, refl, sym, ap, subst, ◌∙◌, arith}
 use Rattle.std.specs.Prelude.{◌==◌, is_none, if◌then◌else◌, slice_get, All, Contains}
 use Rattle.std.specs.List.{AllZip, range_with_len}
 use Rattle.std.specs.Option.{option_map}
@@ -8,7 +8,7 @@ use Rattle.std.proofs.lemmas.Bool.Decides.{nat_tests}
 use Rattle.std.proofs.lemmas.List.{length-append, length-map}
 use Rattle.std.proofs.lemmas.List.FromFn.{length-map-range_with_len}
 use Rattle.std.proofs.lemmas.List.Elements.{All-append, All-nil, All-cons, All-weaker, Contains-get_or}
-use Rattle.std.proofs.lemmas.Option.{slice_get_within, slice_get_past, slice_get-get_or, get_or_from_slice_get}
+use Rattle.std.proofs.lemmas.Option.{slice_get_within, slice_get_past, slice_get-get_or}
 use Rattle.un_base.specs.declared.ids.NameId.{NameId}
 use Rattle.un_base.specs.declared.ids.TempId.{TempId}
 use Rattle.un_isa.specs.declared.table.Table.{Table}
@@ -26,8 +26,8 @@ use Rattle.un_ir.specs.declared.extended.Ext.{Ext}
 use Rattle.un_ir.specs.declared.extended.Growth.{Growth}
 use Rattle.un_ir.specs.declared.extended.Value.{Value}
 use Rattle.un_ir.specs.Extended.{temp, returns}
-use Rattle.un_ir.specs.ExtendOf.{extend_of, grown_block, with_ops, new_temps, with_extended}
-use Rattle.un_ir.specs.LinearOf.{AreLive, live_at, live_after, linear_block, past_block, in_op, first_temps, current_after, body_ops, end_ops, out_op, lin_of}
+use Rattle.un_ir.specs.ExtendOf.{grown_block, new_temps, with_extended}
+use Rattle.un_ir.specs.LinearOf.{AreLive, live_at, live_after, linear_block, past_block, in_op, first_temps, current_after, end_ops, out_op}
 use Rattle.un_ir.specs.Live.{targets_of}
 use Rattle.un_ir.proofs.FunctionFacts.{leads_inside}
 use Rattle.un_model.specs.declared.schedule.Issue.{Issue}
@@ -36,14 +36,13 @@ use Rattle.un_model.specs.declared.schedule.LiveRange.{LiveRange}
 use Rattle.un_model.specs.declared.schedule.Schedule.{Schedule}
 use Rattle.un_model.specs.Congruences.{term_of, live_in_temps, is_live_out, live_out_reads, place_by, place_over, register_of, register_read, HandsOver, HandsOn, KeepsCongruences}
 use Rattle.un_model.specs.Pairs.{places_from, pairs_from, joined}
-use Rattle.un_model.specs.Schedules.{last_read}
 use Rattle.un_baseline.specs.Plans.{Step, BlockPlan, planned_issue, planned_issues, planned_read, planned_reads, planned_reads_by, over_plans}
-use Rattle.un_baseline.specs.SpillEverywhere.{slot_of, setting_of, first_progress, block_plan, block_plans}
+use Rattle.un_baseline.specs.SpillEverywhere.{slot_of, setting_of, block_plan, block_plans}
 use Rattle.un_baseline.proofs.Counts.{results_count}
 use Rattle.un_baseline.proofs.Grown.{append_nil}
-use Rattle.un_baseline.proofs.Lasts.{EndsOut, ends_start, ends_bodies, ends_tail, HandedAt, handed_at, filter_none, filter_parts}
+use Rattle.un_baseline.proofs.Lasts.{EndsOut, ends_start, ends_bodies, ends_tail, handed_at, filter_none, filter_parts}
 use Rattle.un_baseline.proofs.Lives.{place_found, out_has}
-use Rattle.un_baseline.proofs.Made.{lasting, lasting_at, place_there, planned_made}
+use Rattle.un_baseline.proofs.Made.{lasting_at, place_there, planned_made}
 use Rattle.un_baseline.proofs.Openings.{get_left, get_right, get_map}
 use Rattle.un_baseline.proofs.Outs.{ReadsFrom}
 use Rattle.un_baseline.proofs.Sound.{Seen, there_append}

@@ -1,7 +1,7 @@
 -- What `extend` adds has as many temporaries as it counts, and ends as the block of the source does.
-use Rattle.std.proofs.Common.{◌≡◌, ℕ, zero, suc, ◌+◌, ◌-◌, ◌<◌, ◌≤◌, Bool, true, false, List, [], ◌∷◌, ◌++◌, length, Option, Some, None, refl, sym, ap, ◌∙◌, append_assoc, arith}
+use Rattle.std.proofs.Common.{◌≡◌, ℕ, zero, suc, ◌+◌, ◌-◌, ◌<◌, ◌≤◌, Bool, true, false, List, [], ◌∷◌, ◌++◌, length, Option, Some, None, refl, ap, ◌∙◌, append_assoc, arith}
 use Rattle.std.specs.Prelude.{slice_get, map, replicate, if◌then◌else◌}
-use Rattle.std.specs.List.{AllZip, range_with_len}
+use Rattle.std.specs.List.{range_with_len}
 use Rattle.std.specs.Option.{option_to_list}
 use Rattle.std.proofs.lemmas.List.{length-append, length-map, length-replicate}
 use Rattle.std.proofs.lemmas.List.FromFn.{length-map-range_with_len}
@@ -24,7 +24,7 @@ use Rattle.un_ir.specs.declared.extended.Value.{Value}
 use Rattle.un_ir.specs.declared.extended.Sort.{Sort}
 use Rattle.un_ir.specs.Extended.{temp, is_return}
 use Rattle.un_ir.specs.Linear.{first_of, ending_of}
-use Rattle.un_ir.specs.ExtendOf.{copy_count, copy_count_by, new_temps, value_of, sort_of_name, with_value, with_values, with_operand_by, with_operand, with_operands, sorts_of, with_leave, with_enter, with_extended, with_all_extended}
+use Rattle.un_ir.specs.ExtendOf.{copy_count_by, value_of, sort_of_name, with_value, with_values, with_operand_by, with_operand, with_operands, sorts_of, with_leave, with_enter, with_extended, with_all_extended}
 use Rattle.un_ir.specs.LinearOf.{assigned, past, past_all, body_op, body_ops}
 use Rattle.un_ir.specs.WellFormed.{result_kind}
 use Rattle.un_model.specs.Congruences.{term_of}

@@ -1,7 +1,6 @@
 -- The operations of a block of the source, one after another: each name that is live has its value in its slot.
-use Rattle.std.proofs.Common.{◌≡◌, ◌≢◌, ℕ, zero, suc, ◌+◌, ◌<◌, ◌≤◌, nat_eq, Bool, true, false, List, [], ◌∷◌, ◌++◌, length, map, get_or, set, Option, Some, None, refl, sym, ap, subst, ◌∙◌, length-set, arith}
-use Rattle.std.specs.Prelude.{slice_get, slice_index, slice_set, if◌then◌else◌, IfSome, All, Contains}
-use Rattle.std.specs.Option.{option_to_list}
+use Rattle.std.proofs.Common.{◌≡◌, ◌≢◌, ℕ, suc, ◌+◌, ◌<◌, ◌≤◌, nat_eq, Bool, true, false, List, [], ◌∷◌, ◌++◌, length, map, Option, Some, None, refl, sym, ap, subst, ◌∙◌, length-set, arith}
+use Rattle.std.specs.Prelude.{slice_get, slice_index, slice_set, if◌then◌else◌, IfSome, Contains}
 use Rattle.std.proofs.lemmas.Bool.{eqb-true}
 use Rattle.std.proofs.lemmas.List.{get_or-set_same, get_or-set_other}
 use Rattle.std.proofs.lemmas.Option.{slice_get_within}
@@ -11,7 +10,7 @@ use Rattle.un_isa.specs.Fit.{IsFit}
 use Rattle.un_isa.specs.Registers.{callee_saved}
 use Rattle.un_isa.specs.Tables.{in_mask}
 use Rattle.un_ir.specs.declared.function.Kind.{Kind}
-use Rattle.un_ir.specs.declared.function.Kind.TheVariants.{General, Pred}
+use Rattle.un_ir.specs.declared.function.Kind.TheVariants.{General}
 use Rattle.un_ir.specs.declared.function.SrcOp.{SrcOp}
 use Rattle.un_ir.specs.declared.function.Block.{Block}
 use Rattle.un_ir.specs.declared.function.Function.{Function}
@@ -23,7 +22,7 @@ use Rattle.un_ir.specs.declared.extended.Sort.{Sort}
 use Rattle.un_ir.specs.Extended.{name_kind}
 use Rattle.un_ir.specs.ExtendOf.{with_extended}
 use Rattle.un_ir.specs.LinearOf.{kind_of_pair, assigned, past, source_operands, body_op, body_ops, current_after, past_all}
-use Rattle.un_ir.specs.Live.{IsLive, used, kept, read_by, assigned_by, next_by, read_at, assigned_at, next_of}
+use Rattle.un_ir.specs.Live.{IsLive, used, kept, read_by, assigned_by, next_by}
 use Rattle.un_ir.specs.Names.{kind_of}
 use Rattle.un_ir.specs.WellFormed.{IsGoodOp}
 use Rattle.un_ir.proofs.NameBounds.{at_all}
@@ -32,7 +31,6 @@ use Rattle.un_model.specs.declared.schedule.Read.{Read}
 use Rattle.un_model.specs.Schedules.{chosen}
 use Rattle.un_baseline.specs.declared.plan.Setting.{Setting}
 use Rattle.un_baseline.specs.declared.plan.Progress.{Progress}
-use Rattle.un_baseline.specs.declared.plan.TheConstants.{PREDICATE}
 use Rattle.un_baseline.specs.SpillEverywhere.{slot_of, is_placed, kept_place}
 use Rattle.un_baseline.proofs.Carried.{Carries}
 use Rattle.un_baseline.proofs.Grown.{all_ops}

@@ -1,7 +1,6 @@
 -- Behind the start of a block each live name has its value in its slot, and the saved values stand where they are kept.
-use Rattle.std.proofs.Common.{◌≡◌, ◌≢◌, ℕ, zero, suc, ◌+◌, ◌-◌, ◌<◌, ◌≤◌, ◌⊎◌, inl, inr, Bool, true, false, List, [], ◌∷◌, ◌++◌, length, map, replicate, get_or, Option, Some, None, refl, sym, ap, subst, ◌∙◌, append_assoc, length-set, arith}
-use Rattle.std.specs.Prelude.{◌==◌, nat_lt, if◌then◌else◌, slice_get, slice_index, slice_set, unwrap_or, IfSome, All, AllPairs, Contains}
-use Rattle.std.specs.List.{range_with_len}
+use Rattle.std.proofs.Common.{◌≡◌, ◌≢◌, ℕ, zero, suc, ◌+◌, ◌-◌, ◌<◌, ◌≤◌, ◌⊎◌, inl, inr, Bool, true, false, List, [], ◌∷◌, ◌++◌, length, map, replicate, get_or, Some, None, refl, sym, ap, subst, ◌∙◌, append_assoc, length-set, arith}
+use Rattle.std.specs.Prelude.{◌==◌, nat_lt, if◌then◌else◌, slice_get, slice_index, slice_set, All, AllPairs, Contains}
 use Rattle.std.proofs.lemmas.Bool.{cases_lt}
 use Rattle.std.proofs.lemmas.Bool.Decides.{nat_tests}
 use Rattle.std.proofs.lemmas.Option.{slice_get_within, slice_get_past, get_or_from_slice_get, slice_get-get_or}
@@ -16,7 +15,7 @@ use Rattle.un_isa.specs.Fit.{IsFit}
 use Rattle.un_isa.specs.Registers.{callee_saved, saved_registers}
 use Rattle.un_isa.specs.Tables.{in_mask}
 use Rattle.un_ir.specs.declared.function.Kind.{Kind}
-use Rattle.un_ir.specs.declared.function.Kind.TheVariants.{General, Pred}
+use Rattle.un_ir.specs.declared.function.Kind.TheVariants.{General}
 use Rattle.un_ir.specs.declared.function.Block.{Block}
 use Rattle.un_ir.specs.declared.function.Function.{Function}
 use Rattle.un_ir.specs.declared.extended.ExtKind.TheVariants.{In, Enter}
@@ -26,7 +25,7 @@ use Rattle.un_ir.specs.declared.extended.Ext.{Ext}
 use Rattle.un_ir.specs.declared.extended.Growth.{Growth}
 use Rattle.un_ir.specs.declared.extended.Sort.{Sort}
 use Rattle.un_ir.specs.Extended.{temp, name_kind}
-use Rattle.un_ir.specs.ExtendOf.{frame_op, copy_count, new_temps, own_temps, with_op, with_value, with_values, sort_of_name, with_results, with_enter, with_extended}
+use Rattle.un_ir.specs.ExtendOf.{frame_op, copy_count, new_temps, own_temps, with_value, with_values, sort_of_name, with_results, with_enter, with_extended}
 use Rattle.un_ir.specs.LinearOf.{kind_of_pair, first_temps, in_op}
 use Rattle.un_ir.specs.Live.{IsLive}
 use Rattle.un_ir.proofs.NameBounds.{at_all}
@@ -36,19 +35,18 @@ use Rattle.un_model.specs.Pairs.{places_from}
 use Rattle.un_baseline.specs.declared.plan.Definer.TheVariants.{Start, Other}
 use Rattle.un_baseline.specs.declared.plan.Setting.{Setting}
 use Rattle.un_baseline.specs.declared.plan.Progress.{Progress}
-use Rattle.un_baseline.specs.declared.plan.TheConstants.{PREDICATE}
-use Rattle.un_baseline.specs.SpillEverywhere.{purpose_at, slot_of, is_placed, last_place, kept_place, copies_of, start_register, other_progress}
+use Rattle.un_baseline.specs.SpillEverywhere.{slot_of, is_placed, last_place, kept_place, start_register, other_progress}
 use Rattle.un_baseline.proofs.Carried.{Carries, carries_same}
 use Rattle.un_baseline.proofs.Grown.{append_nil, enter_ops, values_ops, value_next, extended_ops}
 use Rattle.un_baseline.proofs.Sound.{Seen}
-use Rattle.un_baseline.proofs.Standing.{Stands, Known, Front}
+use Rattle.un_baseline.proofs.Standing.{Stands, Front}
 use Rattle.un_baseline.proofs.Timing.{pairs_append, pairs_nil}
-use Rattle.un_baseline.proofs.Walk.{Good, Idle}
-use Rattle.un_baseline.proofs.Arrivals.{Kept, sort_by}
-use Rattle.un_baseline.proofs.Bodies.{Safe, Named, own_size, own_last, not_placed}
+use Rattle.un_baseline.proofs.Walk.{Good}
+use Rattle.un_baseline.proofs.Arrivals.{sort_by}
+use Rattle.un_baseline.proofs.Bodies.{Named, own_size, not_placed}
 use Rattle.un_baseline.proofs.Going.{SavedAt, LinkAt, Going}
 use Rattle.un_baseline.proofs.Tailing.{enter_good}
-use Rattle.un_baseline.proofs.Starts.{AreApart, Fresh, Started, start_at, start_good, ValueAt, value_at, values_size, values_ops_append, values_append, Rested, values_rest, Spread, InLow, params_spill, LinkSpilled, link_spills}
+use Rattle.un_baseline.proofs.Starts.{AreApart, Fresh, start_at, start_good, value_at, values_size, values_ops_append, values_rest, params_spill, link_spills}
 
 -- ---- lists
 

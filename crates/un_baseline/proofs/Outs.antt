@@ -1,6 +1,6 @@
 -- The end of a block reads what stands where it is kept; the copies of its operands do nothing.
-use Rattle.std.proofs.Common.{◌≡◌, ◌≢◌, ℕ, zero, suc, ◌+◌, ◌-◌, ◌<◌, ◌≤◌, ◌⊎◌, ⊎_elim, inl, inr, Bool, true, false, List, [], ◌∷◌, ◌++◌, length, map, Option, Some, None, refl, sym, ap, subst, ◌∙◌, append_assoc, arith}
-use Rattle.std.specs.Prelude.{◌==◌, if◌then◌else◌, slice_get, slice_index, IfSome, All}
+use Rattle.std.proofs.Common.{◌≡◌, ℕ, zero, suc, ◌+◌, ◌<◌, ◌≤◌, ◌⊎◌, inl, inr, Bool, true, false, List, [], ◌∷◌, ◌++◌, length, Option, Some, None, refl, sym, ap, subst, ◌∙◌, append_assoc, arith}
+use Rattle.std.specs.Prelude.{◌==◌, slice_get, slice_index, IfSome, All}
 use Rattle.std.specs.List.{AllZip}
 use Rattle.std.proofs.lemmas.Bool.Decides.{nat_tests}
 use Rattle.std.proofs.lemmas.List.Elements.{All-nil, All-cons}
@@ -31,14 +31,14 @@ use Rattle.un_model.specs.Pairs.{places_from}
 use Rattle.un_model.specs.Schedules.{chosen}
 use Rattle.un_model.specs.Solutions.{InSpace}
 use Rattle.un_baseline.specs.declared.plan.Purpose.{Purpose}
-use Rattle.un_baseline.specs.declared.plan.Purpose.TheVariants.{Operands, Link, Returned, Unread}
+use Rattle.un_baseline.specs.declared.plan.Purpose.TheVariants.{Returned, Unread}
 use Rattle.un_baseline.specs.declared.plan.Setting.{Setting}
 use Rattle.un_baseline.specs.declared.plan.Progress.{Progress}
 use Rattle.un_baseline.specs.Plans.{Step, planned_issue, planned_read}
-use Rattle.un_baseline.specs.SpillEverywhere.{purpose_at, no_move, operand_copy, truth_copy, out_place, is_placed}
+use Rattle.un_baseline.specs.SpillEverywhere.{purpose_at, no_move, operand_copy, truth_copy, out_place}
 use Rattle.un_baseline.proofs.Carried.{Carries, carries_operand, chosen_own}
 use Rattle.un_baseline.proofs.Grown.{copy_ops, operand_ops_by, operand_ops, operands_ops}
-use Rattle.un_baseline.proofs.Sound.{Seen, after, GoodRead, NewOk, Differ, Avoids}
+use Rattle.un_baseline.proofs.Sound.{Seen, GoodRead, NewOk, Differ}
 use Rattle.un_baseline.proofs.Standing.{Stands, good_read}
 use Rattle.un_baseline.proofs.Timing.{pairs_nil}
 use Rattle.un_baseline.proofs.Walk.{Good, Idle, idle_none, idle_then, past_copy, idle_copy}

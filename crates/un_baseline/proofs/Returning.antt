@@ -1,64 +1,50 @@
 -- The end of a block that returns: the address and the result are reloaded.
-use Rattle.std.proofs.Common.{◌≡◌, ◌≢◌, ℕ, zero, suc, ◌+◌, ◌-◌, ◌<◌, ◌≤◌, ◌⊎◌, inl, inr, Bool, true, false, List, [], ◌∷◌, ◌++◌, length, map, Option, Some, None, refl, sym, ap, subst, ◌∙◌, append_assoc, arith}
-use Rattle.std.specs.Prelude.{◌==◌, nat_lt, if◌then◌else◌, slice_get, slice_index, unwrap_or, IfSome, All, Contains}
-use Rattle.std.specs.List.{AllZip, range_with_len}
+use Rattle.std.proofs.Common.{◌≡◌, ◌≢◌, ℕ, suc, ◌+◌, ◌≤◌, inr, Bool, true, false, List, [], ◌∷◌, ◌++◌, length, map, Option, Some, None, refl, sym, ap, subst, ◌∙◌, append_assoc, arith}
+use Rattle.std.specs.Prelude.{◌==◌, if◌then◌else◌, slice_get, slice_index, All}
 use Rattle.std.proofs.lemmas.Bool.Decides.{nat_tests}
-use Rattle.std.proofs.lemmas.List.{length-append, length-map}
-use Rattle.std.proofs.lemmas.List.Elements.{All-append, All-nil, All-cons}
-use Rattle.std.proofs.lemmas.List.FromFn.{length-range_with_len}
-use Rattle.std.proofs.lemmas.Option.{slice_get_past}
-use Rattle.un_base.specs.declared.ids.BlockId.{BlockId}
+use Rattle.std.proofs.lemmas.List.Elements.{All-nil, All-cons}
 use Rattle.un_base.specs.declared.ids.NameId.{NameId}
 use Rattle.un_base.specs.declared.ids.TempId.{TempId}
-use Rattle.un_isa.specs.declared.op.Op.{Op}
-use Rattle.un_isa.specs.declared.op.Op.TheVariants.{Call, Reload, Jump as JumpOp, JumpIf, JumpIfNot, Jumpr}
+use Rattle.un_isa.specs.declared.op.Op.TheVariants.{Jumpr}
 use Rattle.un_isa.specs.declared.reg.TheConstants.{LINK}
 use Rattle.un_isa.specs.Fit.{IsFit}
-use Rattle.un_isa.specs.Registers.{callee_saved, saved_registers}
-use Rattle.un_isa.specs.Tables.{latency_of, in_mask}
-use Rattle.un_ir.specs.declared.function.Kind.{Kind}
-use Rattle.un_ir.specs.declared.function.Kind.TheVariants.{General, Pred}
+use Rattle.un_isa.specs.Registers.{callee_saved}
+use Rattle.un_isa.specs.Tables.{in_mask}
+use Rattle.un_ir.specs.declared.function.Kind.TheVariants.{General}
 use Rattle.un_ir.specs.declared.function.Block.{Block}
 use Rattle.un_ir.specs.declared.function.Function.{Function}
 use Rattle.un_ir.specs.declared.function.Term.{Term}
-use Rattle.un_ir.specs.declared.function.Term.TheVariants.{Fall, Jump, Branch, Ret}
-use Rattle.un_ir.specs.declared.extended.NodeCopy.TheVariants.{U, U2}
-use Rattle.un_ir.specs.declared.extended.ExtKind.{ExtKind}
+use Rattle.un_ir.specs.declared.function.Term.TheVariants.{Ret}
+use Rattle.un_ir.specs.declared.extended.NodeCopy.TheVariants.{U}
 use Rattle.un_ir.specs.declared.extended.ExtKind.TheVariants.{Out, End, Leave}
 use Rattle.un_ir.specs.declared.extended.Operand.{Operand}
 use Rattle.un_ir.specs.declared.extended.ExtOp.{ExtOp}
 use Rattle.un_ir.specs.declared.extended.ExtBlock.{ExtBlock}
 use Rattle.un_ir.specs.declared.extended.Ext.{Ext}
 use Rattle.un_ir.specs.declared.extended.Growth.{Growth}
-use Rattle.un_ir.specs.declared.extended.Value.{Value}
 use Rattle.un_ir.specs.declared.extended.Sort.{Sort}
-use Rattle.un_ir.specs.Extended.{temp, name_kind, at_register}
-use Rattle.un_ir.specs.Linear.{first_of}
-use Rattle.un_ir.specs.ExtendOf.{copy_op, frame_op, copy_count, with_op, with_operand, with_operands, new_operands, chosen_from, with_results, with_enter, with_extended}
-use Rattle.un_ir.specs.LinearOf.{kind_of_pair, reads, name_operand, kept_operands, out_op, end_op}
+use Rattle.un_ir.specs.Extended.{at_register}
+use Rattle.un_ir.specs.ExtendOf.{copy_op, frame_op, with_op, with_operand, with_operands, new_operands, chosen_from}
+use Rattle.un_ir.specs.LinearOf.{kind_of_pair, reads, name_operand, kept_operands}
 use Rattle.un_ir.specs.Live.{IsLive}
 use Rattle.un_ir.specs.Names.{kind_of}
 use Rattle.un_model.specs.declared.schedule.Read.{Read}
-use Rattle.un_model.specs.Instructions.{space_read, transfer_of}
-use Rattle.un_model.specs.Solutions.{InSpace}
 use Rattle.un_model.specs.Schedules.{chosen}
-use Rattle.un_baseline.specs.declared.plan.Purpose.TheVariants.{Operands, Link, Returned, Unread}
+use Rattle.un_baseline.specs.declared.plan.Purpose.TheVariants.{Link, Returned}
 use Rattle.un_baseline.specs.declared.plan.Definer.TheVariants.{Other}
 use Rattle.un_baseline.specs.declared.plan.Setting.{Setting}
 use Rattle.un_baseline.specs.declared.plan.Progress.{Progress}
-use Rattle.un_baseline.specs.declared.plan.TheConstants.{PREDICATE}
-use Rattle.un_baseline.specs.SpillEverywhere.{purpose_at, purpose_of_out, slot_of, is_placed, last_place, kept_place, copies_of, result_wait, out_place, handed_place, after_end, other_progress}
+use Rattle.un_baseline.specs.SpillEverywhere.{purpose_at, purpose_of_out, last_place, kept_place, result_wait, out_place, other_progress}
 use Rattle.un_baseline.proofs.Carried.{Carries, carries_same, carries_operand, carries_operands, arrived_general}
-use Rattle.un_baseline.proofs.Grown.{append_nil, copy_ops, operand_ops_by, operand_ops, operands_ops, enter_ops, all_ops, extended_ops, operand_next_by}
+use Rattle.un_baseline.proofs.Grown.{operand_ops, operands_ops, all_ops, extended_ops}
 use Rattle.un_baseline.proofs.Sound.{Seen}
-use Rattle.un_baseline.proofs.Standing.{Stands, Timely, Known, Front, IsCalled}
-use Rattle.un_baseline.proofs.Walk.{Good, Idle}
-use Rattle.un_baseline.proofs.Arrivals.{Kept, kept_later, AreReady, truth, operands_arrive, operands_purpose, next_of, ops_of, sort_by}
-use Rattle.un_baseline.proofs.Bodies.{Safe, Named}
+use Rattle.un_baseline.proofs.Standing.{Stands, Timely, Known, IsCalled}
+use Rattle.un_baseline.proofs.Walk.{Good}
+use Rattle.un_baseline.proofs.Arrivals.{kept_later, operands_purpose, next_of, ops_of, sort_by}
 use Rattle.un_baseline.proofs.Going.{SavedAt, LinkAt, Going, kept_as}
 use Rattle.un_baseline.proofs.Ends.{out_shape, ended, enter_end, no_enter, OutAsks, out_after, kept_out, new_size}
-use Rattle.un_baseline.proofs.Outs.{ReadsFrom, AreOut, OutKept, AreOutReads, operands_rest, out_later, out_reads, out_good}
-use Rattle.un_baseline.proofs.Tailing.{Passed, Reloaded, leave_good, transfer_good, late_copy, timely_weaker, calls_weaker}
+use Rattle.un_baseline.proofs.Outs.{AreOut, operands_rest, out_later, out_reads, out_good}
+use Rattle.un_baseline.proofs.Tailing.{leave_good, transfer_good, late_copy, timely_weaker, calls_weaker}
 
 module _ (c : ℕ) (H : Seen → List Read → Type 0) (b end : ℕ) (e : Ext) (block : ExtBlock) (s : Setting) (fit : IsFit e.table)
     (free : (r : ℕ) → 36 ≤ r → in_mask c r ≡ false) (f : Function) (source : Block) (at : slice_get f.blocks b ≡ Some source)

@@ -1,5 +1,5 @@
 -- Temporaries that stand in their registers, and what operations in the order of their cycles leave of them.
-use Rattle.std.proofs.Common.{◌≡◌, ◌≢◌, ℕ, zero, suc, ◌+◌, ◌<◌, ◌≤◌, ◌⊎◌, ⊎_elim, inl, inr, Bool, true, false, List, [], ◌∷◌, ◌++◌, length, map, get_or, Option, Some, None, refl, sym, ap, subst, ◌∙◌, arith}
+use Rattle.std.proofs.Common.{◌≡◌, ◌≢◌, ℕ, zero, suc, ◌<◌, ◌≤◌, ◌⊎◌, ⊎_elim, inl, inr, true, false, List, [], ◌∷◌, ◌++◌, length, map, get_or, Option, Some, None, refl, sym, ap, subst, ◌∙◌, arith}
 use Rattle.std.specs.Prelude.{slice_get, IfSome, All, AllPairs}
 use Rattle.std.proofs.lemmas.Option.{slice_get_within}
 use Rattle.std.proofs.lemmas.List.{length-append}
@@ -15,7 +15,7 @@ use Rattle.un_model.specs.declared.schedule.LiveRange.{LiveRange}
 use Rattle.un_model.specs.Instructions.{space_read, space_given}
 use Rattle.un_model.specs.Solutions.{InSpace, IsGivenInSpace, HasHome}
 use Rattle.un_baseline.proofs.Made.{made_at}
-use Rattle.un_baseline.proofs.Sound.{Seen, after, IsOver, Differ, IsSparedBy, Avoids, there_append, all_one, GoodRead, NewOk, StepOk}
+use Rattle.un_baseline.proofs.Sound.{Seen, after, IsOver, Differ, Avoids, there_append, all_one, GoodRead, NewOk, StepOk}
 use Rattle.un_baseline.proofs.Timing.{pairs_nil}
 
 -- ---- lists

@@ -1,17 +1,16 @@
 -- The start of a block: its values are there, and in the entry parameters and the link register's value are spilled.
-use Rattle.std.proofs.Common.{◌≡◌, ◌≢◌, ℕ, zero, suc, ◌+◌, ◌-◌, ◌<◌, ◌≤◌, ◌⊎◌, inl, inr, Bool, true, false, List, [], ◌∷◌, ◌++◌, length, map, replicate, get_or, Option, Some, None, refl, sym, ap, subst, ◌∙◌, append_assoc, arith}
-use Rattle.std.specs.Prelude.{◌==◌, nat_lt, if◌then◌else◌, slice_get, slice_index, unwrap_or, IfSome, All, AllPairs}
+use Rattle.std.proofs.Common.{◌≡◌, ◌≢◌, ℕ, zero, suc, ◌+◌, ◌<◌, ◌≤◌, ◌⊎◌, Bool, true, false, List, [], ◌∷◌, ◌++◌, length, map, replicate, get_or, Option, Some, None, refl, sym, ap, subst, ◌∙◌, append_assoc, arith}
+use Rattle.std.specs.Prelude.{◌==◌, if◌then◌else◌, slice_get, All, AllPairs}
 use Rattle.std.proofs.lemmas.Bool.Decides.{nat_tests}
-use Rattle.std.proofs.lemmas.Option.{slice_get_within}
 use Rattle.std.proofs.lemmas.List.{length-append, length-map}
-use Rattle.std.proofs.lemmas.List.Elements.{All-append, All-nil, All-cons, All-weaker}
+use Rattle.std.proofs.lemmas.List.Elements.{All-append, All-nil, All-cons}
 use Rattle.std.proofs.lemmas.List.Kept.{AllPairs-cons}
 use Rattle.un_base.specs.declared.ids.NameId.{NameId}
 use Rattle.un_base.specs.declared.ids.TempId.{TempId}
 use Rattle.un_isa.specs.declared.op.Op.{Op}
 use Rattle.un_isa.specs.declared.op.Op.TheVariants.{Call, Spill}
 use Rattle.un_isa.specs.Fit.{IsFit}
-use Rattle.un_isa.specs.Tables.{latency_of, in_mask}
+use Rattle.un_isa.specs.Tables.{latency_of}
 use Rattle.un_ir.specs.declared.function.Kind.{Kind}
 use Rattle.un_ir.specs.declared.function.Kind.TheVariants.{General, Pred}
 use Rattle.un_ir.specs.declared.extended.NodeCopy.TheVariants.{D, D2}
@@ -20,7 +19,6 @@ use Rattle.un_ir.specs.declared.extended.ExtOp.{ExtOp}
 use Rattle.un_ir.specs.declared.extended.ExtBlock.{ExtBlock}
 use Rattle.un_ir.specs.declared.extended.Ext.{Ext}
 use Rattle.un_ir.specs.declared.extended.Growth.{Growth}
-use Rattle.un_ir.specs.declared.extended.Value.{Value}
 use Rattle.un_ir.specs.declared.extended.Sort.{Sort}
 use Rattle.un_ir.specs.Extended.{temp, name_kind}
 use Rattle.un_ir.specs.ExtendOf.{copy_op, copy_count, own_temps, value_of, with_value, with_values, sort_of_name}
@@ -31,20 +29,19 @@ use Rattle.un_ir.proofs.NameBounds.{at_all}
 use Rattle.un_model.specs.Instructions.{space_given}
 use Rattle.un_model.specs.Pairs.{places_from}
 use Rattle.un_model.specs.Solutions.{InSpace}
-use Rattle.un_baseline.specs.declared.plan.Definer.{Definer}
 use Rattle.un_baseline.specs.declared.plan.Definer.TheVariants.{Start, Other}
 use Rattle.un_baseline.specs.declared.plan.Setting.{Setting}
 use Rattle.un_baseline.specs.declared.plan.Progress.{Progress}
-use Rattle.un_baseline.specs.declared.plan.TheConstants.{SPILL, PREDICATE}
+use Rattle.un_baseline.specs.declared.plan.TheConstants.{SPILL}
 use Rattle.un_baseline.specs.Plans.{Step, planned_issue}
 use Rattle.un_baseline.specs.SpillEverywhere.{purpose_at, slot_of, slot_at_start, start_register, spilled_to, first_copy, second_copy, no_move, other_progress, steps_of}
 use Rattle.un_baseline.proofs.Made.{made_at}
 use Rattle.un_baseline.proofs.Carried.{Carries, carries_values, carries_new}
 use Rattle.un_baseline.proofs.Grown.{copy_ops, value_ops, values_ops, value_next}
-use Rattle.un_baseline.proofs.Sound.{Seen, after, GoodRead, NewOk, StepOk, IsOver, Differ, Avoids, there_append, all_one}
-use Rattle.un_baseline.proofs.Standing.{Stands, Timely, Known, Front, IsCalled, known_later, there_left}
+use Rattle.un_baseline.proofs.Sound.{Seen, after, GoodRead, NewOk, StepOk, IsOver, Differ, Avoids, all_one}
+use Rattle.un_baseline.proofs.Standing.{Stands, Known, Front, IsCalled, known_later, there_left}
 use Rattle.un_baseline.proofs.Timing.{pairs_nil}
-use Rattle.un_baseline.proofs.Walk.{AreGoodSteps, Good, Idle, idle_none, idle_then, Moved, past_copy, idle_copy, moving_copy}
+use Rattle.un_baseline.proofs.Walk.{AreGoodSteps, Good, Idle, idle_none, idle_then, past_copy, idle_copy, moving_copy}
 use Rattle.un_baseline.proofs.Arrivals.{general_space, slot_space, sort_by}
 
 abbrev pub AreApart : List ℕ → Type 0

@@ -1,18 +1,16 @@
 -- Steps at the end of a block: transfers, and reloads that issue later than what stands behind them.
-use Rattle.std.proofs.Common.{◌≡◌, ◌≢◌, ℕ, zero, suc, ◌+◌, ◌<◌, ◌≤◌, ◌⊎◌, inl, inr, Bool, true, false, List, [], ◌∷◌, ◌++◌, length, map, get_or, Option, Some, None, refl, sym, ap, subst, ◌∙◌, arith}
-use Rattle.std.specs.Prelude.{◌||◌, is_some, if◌then◌else◌, slice_get, slice_index, All}
+use Rattle.std.proofs.Common.{◌≡◌, ◌≢◌, ℕ, suc, ◌+◌, ◌<◌, ◌≤◌, inl, inr, Bool, true, List, [], ◌∷◌, ◌++◌, length, map, get_or, Some, None, refl, sym, ap, subst, ◌∙◌, arith}
+use Rattle.std.specs.Prelude.{is_some, if◌then◌else◌, slice_get, slice_index, All}
 use Rattle.std.proofs.lemmas.Option.{slice_get_within}
 use Rattle.std.proofs.lemmas.List.{length-append}
-use Rattle.std.proofs.lemmas.List.Elements.{All-append, All-nil, All-cons, All-weaker}
+use Rattle.std.proofs.lemmas.List.Elements.{All-append, All-nil, All-cons}
 use Rattle.un_base.specs.declared.ids.TempId.{TempId}
 use Rattle.un_isa.specs.declared.op.Op.{Op}
-use Rattle.un_isa.specs.declared.op.Op.TheVariants.{Call, Reload}
-use Rattle.un_isa.specs.declared.op.Op.TheVariants.{Enter as EnterOp, Leave as LeaveOp}
+use Rattle.un_isa.specs.declared.op.Op.TheVariants.{Call}
 use Rattle.un_isa.specs.Fit.{IsFit}
-use Rattle.un_isa.specs.Tables.{in_mask}
 use Rattle.un_ir.specs.declared.function.Term.{Term}
 use Rattle.un_ir.specs.declared.extended.NodeCopy.TheVariants.{U}
-use Rattle.un_ir.specs.declared.extended.ExtKind.TheVariants.{End, Copy, Enter, Leave}
+use Rattle.un_ir.specs.declared.extended.ExtKind.TheVariants.{End, Enter, Leave}
 use Rattle.un_ir.specs.declared.extended.Operand.{Operand}
 use Rattle.un_ir.specs.declared.extended.ExtOp.{ExtOp}
 use Rattle.un_ir.specs.declared.extended.ExtBlock.{ExtBlock}
@@ -21,10 +19,9 @@ use Rattle.un_ir.specs.ExtendOf.{copy_op, frame_op}
 use Rattle.un_model.specs.declared.schedule.Issue.{Issue}
 use Rattle.un_model.specs.declared.schedule.Read.{Read}
 use Rattle.un_model.specs.declared.schedule.LiveRange.{LiveRange}
-use Rattle.un_model.specs.Instructions.{space_given, transfer_of}
+use Rattle.un_model.specs.Instructions.{transfer_of}
 use Rattle.un_model.specs.Pairs.{places_from}
 use Rattle.un_model.specs.Schedules.{chosen}
-use Rattle.un_model.specs.Solutions.{InSpace}
 use Rattle.un_baseline.specs.declared.plan.Purpose.{Purpose}
 use Rattle.un_baseline.specs.declared.plan.Definer.TheVariants.{Other}
 use Rattle.un_baseline.specs.declared.plan.Setting.{Setting}
@@ -34,9 +31,9 @@ use Rattle.un_baseline.specs.Plans.{Step, planned_issue, planned_read, planned_r
 use Rattle.un_baseline.specs.SpillEverywhere.{purpose_at, move, copy_move, next_cycle, leave_cycle, end_cycle, after_end, operand_place, other_progress, steps_of}
 use Rattle.un_baseline.proofs.Made.{made_at}
 use Rattle.un_baseline.proofs.Sound.{Seen, after, GoodRead, NewOk, StepOk, IsOver, Differ, Avoids, all_one}
-use Rattle.un_baseline.proofs.Standing.{Stands, Timely, Known, Front, IsCalled, good_read, stands_later, stands_new, timely_later, known_later, calls_later}
+use Rattle.un_baseline.proofs.Standing.{Stands, Timely, Known, IsCalled, good_read, stands_later, stands_new, timely_later, known_later, calls_later}
 use Rattle.un_baseline.proofs.Timing.{pairs_nil}
-use Rattle.un_baseline.proofs.Walk.{AreGoodSteps, Good, Idle, copy_step, behind_copy, good_copy}
+use Rattle.un_baseline.proofs.Walk.{AreGoodSteps, Good, Idle, copy_step, good_copy}
 use Rattle.un_baseline.proofs.Arrivals.{AreArrived, AreFor, reads_good, last_places, general_space, slot_space}
 
 module _ (c : ℕ) (H : Seen → List Read → Type 0) (b end : ℕ) (e : Ext) (block : ExtBlock) (s : Setting) (fit : IsFit e.table) where

@@ -1,31 +1,28 @@
 -- The steps of a plan, one after another: what each asks of what was made and read before.
-use Rattle.std.proofs.Common.{◌≡◌, ◌≢◌, ℕ, zero, suc, ◌+◌, ◌<◌, ◌≤◌, Bool, true, false, List, [], ◌∷◌, ◌++◌, length, map, replicate, get_or, Option, Some, None, refl, sym, ap, subst, ◌∙◌, append_assoc, arith}
-use Rattle.std.specs.Prelude.{◌||◌, is_some, if◌then◌else◌, slice_get, slice_index, IfSome, All, AllPairs}
+use Rattle.std.proofs.Common.{◌≡◌, ◌≢◌, ℕ, ◌+◌, Bool, true, List, [], ◌∷◌, ◌++◌, length, map, replicate, Option, Some, None, refl, sym, ap, subst, ◌∙◌, append_assoc, arith}
+use Rattle.std.specs.Prelude.{is_some, if◌then◌else◌, slice_index, All}
 use Rattle.std.specs.List.{AllZip}
 use Rattle.std.proofs.lemmas.List.{length-append}
-use Rattle.std.proofs.lemmas.List.Elements.{All-append, All-nil, All-cons, All-weaker}
+use Rattle.std.proofs.lemmas.List.Elements.{All-nil, All-cons}
 use Rattle.un_base.specs.declared.ids.TempId.{TempId}
 use Rattle.un_isa.specs.declared.op.Op.{Op}
 use Rattle.un_isa.specs.declared.op.Op.TheVariants.{Call}
-use Rattle.un_isa.specs.declared.reg.Reg.{Reg}
 use Rattle.un_isa.specs.declared.table.Table.{Table}
 use Rattle.un_isa.specs.Fit.{IsFit}
-use Rattle.un_isa.specs.Tables.{latency_of, in_mask}
-use Rattle.un_ir.specs.declared.function.SrcOp.{SrcOp}
+use Rattle.un_isa.specs.Tables.{latency_of}
 use Rattle.un_ir.specs.declared.extended.NodeCopy.{NodeCopy}
 use Rattle.un_ir.specs.declared.extended.NodeCopy.TheVariants.{D, D2, U, U2}
 use Rattle.un_ir.specs.declared.extended.ExtKind.{ExtKind}
-use Rattle.un_ir.specs.declared.extended.ExtKind.TheVariants.{In, Out, Body, End, Copy, Enter, Leave}
-use Rattle.un_ir.specs.declared.extended.Operand.{Operand}
+use Rattle.un_ir.specs.declared.extended.ExtKind.TheVariants.{Out}
 use Rattle.un_ir.specs.declared.extended.ExtOp.{ExtOp}
 use Rattle.un_ir.specs.declared.extended.ExtBlock.{ExtBlock}
 use Rattle.un_ir.specs.declared.extended.Ext.{Ext}
-use Rattle.un_ir.specs.ExtendOf.{copy_op, frame_op}
+use Rattle.un_ir.specs.ExtendOf.{copy_op}
 use Rattle.un_model.specs.declared.schedule.Issue.{Issue}
 use Rattle.un_model.specs.declared.schedule.Read.{Read}
 use Rattle.un_model.specs.declared.schedule.LiveRange.{LiveRange}
 use Rattle.un_model.specs.Instructions.{copy_of, space_read, space_given}
-use Rattle.un_model.specs.Pairs.{places_from, pairs_from, joined}
+use Rattle.un_model.specs.Pairs.{pairs_from, joined}
 use Rattle.un_model.specs.Schedules.{chosen}
 use Rattle.un_model.specs.Solutions.{InSpace}
 use Rattle.un_model.specs.Variables.{chosen_operands}
@@ -35,11 +32,10 @@ use Rattle.un_baseline.specs.declared.plan.Setting.{Setting}
 use Rattle.un_baseline.specs.declared.plan.Progress.{Progress}
 use Rattle.un_baseline.specs.declared.plan.Move.{Move}
 use Rattle.un_baseline.specs.Plans.{Step, Suits, planned_issue, planned_read, planned_reads_by}
-use Rattle.un_baseline.specs.SpillEverywhere.{purpose_at, no_move, move, copy_move, after_move, next_cycle, next_value, next_operand, operand_place, steps_of}
+use Rattle.un_baseline.specs.SpillEverywhere.{purpose_at, no_move, move, copy_move, next_cycle, next_value, next_operand, steps_of}
 use Rattle.un_baseline.proofs.Made.{made_at, steps_made}
-use Rattle.un_baseline.proofs.Sound.{Seen, after, Differ, GoodRead, Sound, NewOk, StepOk, sound_step}
-use Rattle.un_baseline.proofs.Standing.{IsFew, no_item, one_item, Stands, Timely, Known, Front, IsCalled, good_read, stands_later, timely_later, known_later, calls_later, idle_stands, idle_timely, idle_known, idle_calls, idle_front, idle_ok, goes_front, goes_ok, goes_stands, goes_new_stands}
-use Rattle.un_baseline.proofs.Timing.{pairs_nil}
+use Rattle.un_baseline.proofs.Sound.{Seen, after, GoodRead, Sound, StepOk, sound_step}
+use Rattle.un_baseline.proofs.Standing.{one_item, Stands, Timely, Known, Front, IsCalled, good_read, idle_stands, idle_timely, idle_known, idle_calls, idle_front, idle_ok, goes_front, goes_ok, goes_stands, goes_new_stands}
 
 module _ (c : ℕ) (H : Seen → List Read → Type 0) (b end : ℕ) where
   -- ---- steps

@@ -1,8 +1,7 @@
 -- The plan of all blocks keeps the clauses on choices, spaces, registers and homes.
-use Rattle.std.proofs.Common.{◌≡◌, ◌≢◌, ℕ, zero, suc, ◌+◌, ◌<◌, ◌≤◌, ◌||◌, ◌&&◌, Bool, true, false, nat_le, List, [], ◌∷◌, ◌++◌, length, map, filter, replicate, get_or, Option, Some, None, refl, sym, ap, subst, ◌∙◌, append_assoc, arith}
-use Rattle.std.specs.Prelude.{◌==◌, nat_lt, nat_eq, not, is_some, slice_get, if◌then◌else◌, All, AllPairs, Contains}
+use Rattle.std.proofs.Common.{◌≡◌, ◌≢◌, ℕ, zero, suc, ◌+◌, ◌<◌, ◌≤◌, ◌||◌, ◌&&◌, Bool, true, false, nat_le, List, [], ◌∷◌, ◌++◌, length, map, filter, replicate, get_or, Some, None, refl, sym, ap, subst, ◌∙◌, append_assoc, arith}
+use Rattle.std.specs.Prelude.{nat_eq, not, slice_get, if◌then◌else◌, All}
 use Rattle.std.specs.List.{AllZip, range_with_len}
-use Rattle.std.proofs.lemmas.Bool.{cases_lt}
 use Rattle.std.proofs.lemmas.Bool.Decides.{nat_tests}
 use Rattle.std.proofs.lemmas.List.{length-append, length-map}
 use Rattle.std.proofs.lemmas.List.Elements.{All-append, All-nil, All-cons, All-weaker}
@@ -10,9 +9,8 @@ use Rattle.std.proofs.lemmas.List.Kept.{AllPairs-cons, AllPairs-filter}
 use Rattle.std.proofs.lemmas.Nat.Bits.{bit_at_above}
 use Rattle.std.proofs.lemmas.Option.{slice_get_within}
 use Rattle.un_base.specs.declared.ids.NameId.{NameId}
-use Rattle.un_base.specs.declared.ids.TempId.{TempId}
 use Rattle.un_isa.specs.declared.table.Table.{Table}
-use Rattle.un_isa.specs.Fit.{IsFit, may_be_saved}
+use Rattle.un_isa.specs.Fit.{IsFit}
 use Rattle.un_isa.specs.Starts.{is_clobbered}
 use Rattle.un_isa.specs.Registers.{callee_saved, saved_registers}
 use Rattle.un_isa.specs.Tables.{in_mask}
@@ -29,24 +27,24 @@ use Rattle.un_ir.specs.declared.extended.Ext.{Ext}
 use Rattle.un_ir.specs.declared.extended.Growth.{Growth}
 use Rattle.un_ir.specs.declared.extended.Value.{Value}
 use Rattle.un_ir.specs.Extended.{returns}
-use Rattle.un_ir.specs.ExtendOf.{sorts_of, extend_of, grown_block, with_ops, extended_blocks, with_all_extended, with_extended}
+use Rattle.un_ir.specs.ExtendOf.{sorts_of, extend_of, grown_block, with_ops, extended_blocks, with_extended}
 use Rattle.un_ir.specs.LinearOf.{AreLive, live_at, live_after, linear_block, linear_blocks, past_block, in_op, first_temps, current_after, reads, name_operand, end_ops, out_op, lin_of}
 use Rattle.un_model.specs.declared.schedule.Issue.{Issue}
 use Rattle.un_model.specs.declared.schedule.Read.{Read}
 use Rattle.un_model.specs.declared.schedule.LiveRange.{LiveRange}
 use Rattle.un_model.specs.Congruences.{term_of}
-use Rattle.un_baseline.specs.Plans.{Step, BlockPlan, Suits, SuitsBlock, planned_issue, planned_issues, planned_reads, planned_reads_by, over_plans}
+use Rattle.un_baseline.specs.Plans.{Step, Suits, SuitsBlock, planned_issue, planned_issues, planned_reads, planned_reads_by, over_plans}
 use Rattle.un_baseline.specs.SpillEverywhere.{setting_of, first_progress, block_plan, block_plans}
 use Rattle.un_baseline.proofs.Counts.{results_count, count_all, bodies_values, others_values, start_values}
 use Rattle.un_baseline.proofs.Grown.{append_nil, all_add}
 use Rattle.un_baseline.proofs.Made.{made_at, planned_made}
 use Rattle.un_baseline.proofs.Openings.{IsKept}
-use Rattle.un_baseline.proofs.Sound.{Seen, after, GoodRead, Sound, StepOk, all_one}
+use Rattle.un_baseline.proofs.Sound.{Seen, after, GoodRead, Sound, all_one}
 use Rattle.un_baseline.proofs.SpillSteps.{steps_zip, suits_by}
-use Rattle.un_baseline.proofs.Standing.{Known, known_later}
+use Rattle.un_baseline.proofs.Standing.{known_later}
 use Rattle.un_baseline.proofs.Starts.{AreApart, Fresh}
 use Rattle.un_baseline.proofs.Timing.{pairs_nil}
-use Rattle.un_baseline.proofs.Walk.{AreGoodSteps, with_step, seen_after, added, sound_steps, seen_is}
+use Rattle.un_baseline.proofs.Walk.{AreGoodSteps, with_step, seen_after, sound_steps, seen_is}
 use Rattle.un_baseline.proofs.Whole.{Handed, whole_good}
 
 -- ---- masks

@@ -1,8 +1,8 @@
 -- The plan of a whole block.
-use Rattle.std.proofs.Common.{◌≡◌, ◌≢◌, ℕ, zero, suc, ◌+◌, ◌<◌, ◌≤◌, ◌||◌, Bool, true, false, List, [], ◌∷◌, ◌++◌, length, map, replicate, Option, Some, None, refl, sym, ap, subst, ◌∙◌, append_assoc, arith}
-use Rattle.std.specs.Prelude.{slice_get, slice_index, if◌then◌else◌, IfSome, All, AllPairs, Contains}
-use Rattle.std.specs.List.{AllZip, range_with_len}
-use Rattle.std.proofs.lemmas.List.{length-append, length-map, length-replicate}
+use Rattle.std.proofs.Common.{◌≡◌, ℕ, suc, ◌+◌, ◌<◌, ◌≤◌, ◌||◌, Bool, true, false, List, [], ◌∷◌, ◌++◌, length, map, replicate, Option, Some, None, refl, sym, ap, subst, ◌∙◌, arith}
+use Rattle.std.specs.Prelude.{slice_get, slice_index, if◌then◌else◌, IfSome, All, Contains}
+use Rattle.std.specs.List.{AllZip}
+use Rattle.std.proofs.lemmas.List.{length-append, length-map}
 use Rattle.std.proofs.lemmas.List.FromFn.{length-map-range_with_len}
 use Rattle.std.proofs.lemmas.Option.{slice_get_within, get_or_from_slice_get}
 use Rattle.std.proofs.lemmas.List.Elements.{Contains-get_or}
@@ -13,8 +13,7 @@ use Rattle.un_isa.specs.declared.table.Table.{Table}
 use Rattle.un_isa.specs.Fit.{IsFit}
 use Rattle.un_isa.specs.Registers.{callee_saved, saved_registers}
 use Rattle.un_isa.specs.Tables.{in_mask}
-use Rattle.un_ir.specs.declared.function.Kind.TheVariants.{General, Pred}
-use Rattle.un_ir.specs.declared.function.SrcOp.{SrcOp}
+use Rattle.un_ir.specs.declared.function.Kind.TheVariants.{General}
 use Rattle.un_ir.specs.declared.function.Block.{Block}
 use Rattle.un_ir.specs.declared.function.Function.{Function}
 use Rattle.un_ir.specs.declared.function.Term.{Term}
@@ -31,7 +30,6 @@ use Rattle.un_ir.specs.Linear.{Ending, ending_of}
 use Rattle.un_ir.specs.ExtendOf.{new_temps, with_extended, grown_block, with_ops, extend_of}
 use Rattle.un_ir.specs.LinearOf.{AreLive, live_at, live_after, kind_of_pair, first_temps, current_after, past_all, in_op, body_ops, reads, name_operand, out_operands_of, end_ops, out_op, linear_block, lin_of}
 use Rattle.un_ir.specs.Live.{IsLive, read_by_term}
-use Rattle.un_ir.specs.Names.{kind_of}
 use Rattle.un_ir.specs.WellFormed.{TestsItsKind}
 use Rattle.un_ir.proofs.SourceFacts.{good_block}
 use Rattle.un_model.specs.declared.schedule.Read.{Read}
@@ -42,9 +40,9 @@ use Rattle.un_baseline.proofs.Made.{made_at, steps_made}
 use Rattle.un_model.specs.Congruences.{term_of, live_in_temps}
 use Rattle.un_baseline.specs.declared.plan.Setting.{Setting}
 use Rattle.un_baseline.specs.declared.plan.Progress.{Progress}
-use Rattle.un_baseline.specs.SpillEverywhere.{purpose_of_out, slot_of, out_place, handed_place, first_number, setting_of, first_progress, first_cycle, block_end, progress_after, block_plan, steps_of}
+use Rattle.un_baseline.specs.SpillEverywhere.{purpose_of_out, slot_of, out_place, handed_place, first_number, setting_of, first_progress, first_cycle, steps_of}
 use Rattle.un_baseline.proofs.Counts.{term_start, term_bodies, term_out, term_jump, term_branch, term_return, ending_bodies, first_number_of}
-use Rattle.un_baseline.proofs.Ends.{handed_rooms, fall_good, jump_good, branch_good}
+use Rattle.un_baseline.proofs.Ends.{fall_good, jump_good, branch_good}
 use Rattle.un_baseline.proofs.Going.{Going, bodies_good}
 use Rattle.un_baseline.proofs.Grown.{all_add, all_ops, extended_ops}
 use Rattle.un_baseline.proofs.Lives.{live_in, live_in_small, live_term, live_out}
