@@ -74,13 +74,13 @@ begins_same i n g g' same h = record {
 
 -- ---- few operands
 
-zip_length : {A B : Type 0} (Q : A → B → Type 0) (xs : List A) (ys : List B) → AllZip Q xs ys → length xs ≡ length ys
+pub zip_length : {A B : Type 0} (Q : A → B → Type 0) (xs : List A) (ys : List B) → AllZip Q xs ys → length xs ≡ length ys
 zip_length Q [] [] h = refl
 zip_length Q [] (y ∷ ys) h = absurd h
 zip_length Q (x ∷ xs) [] h = absurd h
 zip_length Q (x ∷ xs) (y ∷ ys) h = ap suc (zip_length Q xs ys h.1)
 
-news_length : (xs : List Operand) (g : Growth) → length (new_operands xs g) ≡ length xs
+pub news_length : (xs : List Operand) (g : Growth) → length (new_operands xs g) ≡ length xs
 news_length [] g = refl
 news_length (x ∷ xs) g = ap suc (news_length xs (with_operand x g))
 

@@ -99,7 +99,7 @@ operand_count : (x : ℕ) (v : Option Value) (g : Growth) → length (with_opera
 operand_count x None g = refl
 operand_count x (Some v) g = length-set g.values x _
 
-operands_count : (xs : List Operand) (g : Growth) → length (with_operands xs g).values ≡ length g.values
+pub operands_count : (xs : List Operand) (g : Growth) → length (with_operands xs g).values ≡ length g.values
 operands_count [] g = refl
 operands_count (x ∷ xs) g = operands_count xs (with_operand x g) ∙ operand_count (first_of x.alts) (slice_get g.values (first_of x.alts)) g
 
@@ -150,7 +150,7 @@ module _ (names : List Kind) (live_in : List NameId) (entry saved : Bool) where
   grown_all : List ExtOp → Growth → ℕ
   grown_all ops g = length (with_all_extended names live_in entry saved ops g).values
 
-  dst_count : (dst : Option NameId) (first n : ℕ) (sort : Sort) → n + length (replicate (length (map (λ (name : NameId). temp first)
+  pub dst_count : (dst : Option NameId) (first n : ℕ) (sort : Sort) → n + length (replicate (length (map (λ (name : NameId). temp first)
       (option_to_list dst))) sort) ≡ past dst n
   dst_count None first n sort = omega arith
   dst_count (Some name) first n sort = omega arith

@@ -4,6 +4,7 @@ pub mod BlockIn
 pub mod BlockShapes
 pub mod BlockTimes
 pub mod Bodies
+pub mod BodiesReach
 pub mod Carried
 pub mod Clauses
 pub mod CloseIn
