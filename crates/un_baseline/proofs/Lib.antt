@@ -53,6 +53,7 @@ pub mod Sources
 pub mod SpillSteps
 pub mod Standing
 pub mod StartIn
+pub mod StartReach
 pub mod Starts
 pub mod Tailing
 pub mod Tails
