@@ -76,7 +76,8 @@ module _ (c : ℕ) (H : Seen → List Read → Type 0) (b end : ℕ) (e : Ext) (
     pub slot : 36 ≤ room
     pub stands : Stands c b (chosen own (kept_place s own)).0 room seen
 
-  pub kept_later : (g g' : Growth) (seen seen' : Seen) (x : ℕ) (kind : Kind) → ((own : List TempId) (sort : Sort) → Carries g x own sort → Carries g' x own sort)
+  pub kept_later : (g g' : Growth) (seen seen' : Seen) (x : ℕ) (kind : Kind) → ((own : List TempId) (sort : Sort) → Carries g x own sort
+      → Carries g' x own sort)
       → ((k r : ℕ) → 36 ≤ r → Stands c b k r seen → Stands c b k r seen') → Kept g seen x kind → Kept g' seen' x kind
   kept_later g g' seen seen' x kind f stands h = record {
     own = h.own;
@@ -107,15 +108,22 @@ module _ (c : ℕ) (H : Seen → List Read → Type 0) (b end : ℕ) (e : Ext) (
       with_operand_by' y v g = (with_operand_by (first_of y.alts) v g).next
 
   -- a word is reloaded
-  general_arrives : (n : ℕ) (p : Progress) (seen : Seen) (g : Growth) (x : Operand) (rest : List ExtOp) → Kept g seen (first_of x.alts) General
+  general_arrives : (n : ℕ) (p : Progress) (seen : Seen) (g : Growth) (x : Operand) (rest : List ExtOp)
+      → Kept g seen (first_of x.alts) General
       → p.operands < 32 → Front c b p.cycle seen → purpose_at s.term rest ≡ Operands
       → ((seen' : Seen) → Moved c H b end p.operands (p.cycle + latency_of e.table Reload) seen seen'
-      → G (n + 1) (record { cycle = p.cycle + latency_of e.table Reload; values = p.values; operands = p.operands + 1; definer = p.definer }) seen' rest)
+      → G (n + 1) (record {
+        cycle = p.cycle + latency_of e.table Reload;
+        values = p.values;
+        operands = p.operands + 1;
+        definer = p.definer;
+      }) seen' rest)
       → G n p seen (operand_ops x g ++ rest)
   general_arrives n p seen g x rest kept low front for go =
       subst (λ (os : List ExtOp). G n p seen (os ++ rest)) (sym (ops_of x g kept.own General kept.carries))
       (moving_copy c H b end e block s fit n p seen U kept.own g.next rest Operands RELOAD (kept_place s kept.own) p.operands Reload
-      (chosen kept.own (kept_place s kept.own)).0 kept.room for refl refl (λ z. cc z) refl refl kept.stands front (slot_space kept.room kept.slot)
+      (chosen kept.own (kept_place s kept.own)).0 kept.room for refl refl (λ z. cc z) refl refl kept.stands front
+      (slot_space kept.room kept.slot)
       (general_space p.operands low) go)
 
   -- a truth value is reloaded and moved to a predicate
@@ -123,18 +131,31 @@ module _ (c : ℕ) (H : Seen → List Read → Type 0) (b end : ℕ) (e : Ext) (
       → p.operands < 32 → Front c b p.cycle seen → length seen.made ≡ g.next → purpose_at s.term rest ≡ Operands
       → ((mid seen' : Seen) → Moved c H b end p.operands (p.cycle + latency_of e.table Reload) seen mid
       → Moved c H b end PREDICATE (p.cycle + latency_of e.table Reload + latency_of e.table R2P) mid seen'
-      → G (n + 1 + 1) (record { cycle = p.cycle + latency_of e.table Reload + latency_of e.table R2P; values = p.values; operands = p.operands + 1; definer = p.definer }) seen' rest)
+      → G (n + 1 + 1) (record {
+        cycle = p.cycle + latency_of e.table Reload + latency_of e.table R2P;
+        values = p.values;
+        operands = p.operands + 1;
+        definer = p.definer;
+      }) seen' rest)
       → G n p seen (operand_ops x g ++ rest)
   pred_arrives n p seen g x rest kept low front size for go =
       let alts = kept.own ++ temp g.next ∷ [] in
-      let next : Progress = record { cycle = p.cycle + latency_of e.table Reload; values = p.values; operands = p.operands + 1; definer = p.definer } in
+      let next : Progress = record {
+        cycle = p.cycle + latency_of e.table Reload;
+        values = p.values;
+        operands = p.operands + 1;
+        definer = p.definer;
+      } in
       subst (λ (os : List ExtOp). G n p seen (os ++ rest)) (sym (ops_of x g kept.own Pred kept.carries))
-      (moving_copy c H b end e block s fit n p seen U kept.own g.next (copy_op U2 alts (g.next + 1) ∷ rest) Operands RELOAD (kept_place s kept.own) p.operands Reload
-      (chosen kept.own (kept_place s kept.own)).0 kept.room for refl refl (λ z. cc z) refl refl kept.stands front (slot_space kept.room kept.slot)
+      (moving_copy c H b end e block s fit n p seen U kept.own g.next (copy_op U2 alts (g.next + 1) ∷ rest) Operands RELOAD
+      (kept_place s kept.own) p.operands Reload
+      (chosen kept.own (kept_place s kept.own)).0 kept.room for refl refl (λ z. cc z) refl refl kept.stands front
+      (slot_space kept.room kept.slot)
       (general_space p.operands low)
       (λ mid moved.
       moving_copy c H b end e block s fit (n + 1) next mid U2 alts (g.next + 1) rest Operands TO_PREDICATE (last_place alts) PREDICATE R2P
-      (length seen.made) p.operands for refl refl (λ z. cc z) refl (ap (λ (y : TempId). y.0) (chosen_last kept.own (temp g.next)) ∙ sym size)
+      (length seen.made) p.operands for refl refl (λ z. cc z) refl (ap (λ (y : TempId). y.0) (chosen_last kept.own (temp g.next))
+      ∙ sym size)
       moved.new moved.front (general_space p.operands low) refl
       (λ seen' moved'. go mid seen' moved moved')))
 
@@ -156,11 +177,15 @@ module _ (c : ℕ) (H : Seen → List Read → Type 0) (b end : ℕ) (e : Ext) (
   AreKept g seen [] = Unit {0}
   AreKept g seen (x ∷ xs) = Kept g seen (first_of x.alts) General × AreKept g seen xs
 
-  kept_all_later : (g g' : Growth) (seen seen' : Seen) (xs : List Operand) → ((x : ℕ) (own : List TempId) (sort : Sort) → Carries g x own sort → Carries g' x own sort)
+  kept_all_later : (g g' : Growth) (seen seen' : Seen) (xs : List Operand) → ((x : ℕ) (own : List TempId) (sort : Sort)
+      → Carries g x own sort → Carries g' x own sort)
       → ((k r : ℕ) → 36 ≤ r → Stands c b k r seen → Stands c b k r seen') → AreKept g seen xs → AreKept g' seen' xs
   kept_all_later g g' seen seen' [] f stands h = tt
-  kept_all_later g g' seen seen' (x ∷ xs) f stands h =
-      (kept_later g g' seen seen' (first_of x.alts) General (f (first_of x.alts)) stands h.0, kept_all_later g g' seen seen' xs f stands h.1)
+  kept_all_later g g' seen seen' (x ∷ xs) f stands h = (
+    kept_later g g' seen seen' (first_of x.alts) General (f (first_of x.alts)) stands h.0,
+    kept_all_later g g' seen seen' xs f stands
+        h.1,
+  )
 
   -- what the copies of operands leave: the operands in registers, and all else but low registers as it was
   pub record Arrived (low : ℕ) (rooms : List ℕ) (ys : List Operand) (next now : ℕ) (seen seen' : Seen) : Type 0 where
@@ -169,12 +194,17 @@ module _ (c : ℕ) (H : Seen → List Read → Type 0) (b end : ℕ) (e : Ext) (
     pub front : Front c b now seen'
     pub stands : (k r : ℕ) → (r < low) ⊎ (6 ≤ r) → Stands c b k r seen → Stands c b k r seen'
 
-  arrived_later : (rooms : List ℕ) (ys : List Operand) (seen seen' : Seen) → All (λ (r : ℕ). (k : ℕ) → Stands c b k r seen → Stands c b k r seen') rooms
+  arrived_later : (rooms : List ℕ) (ys : List Operand) (seen seen' : Seen) → All
+      (λ (r : ℕ). (k : ℕ) → Stands c b k r seen → Stands c b k r seen') rooms
       → AreArrived rooms ys seen → AreArrived rooms ys seen'
   arrived_later [] [] seen seen' f h = tt
   arrived_later [] (y ∷ ys) seen seen' f h = absurd h
   arrived_later (r ∷ rs) [] seen seen' f h = absurd h
-  arrived_later (r ∷ rs) (y ∷ ys) seen seen' f h = (f 0 r (omega arith) (chosen y.alts (last_place y.alts)).0 h.0, arrived_later rs ys seen seen' (λ k d lt. f (suc k) d (omega arith)) h.1)
+  arrived_later (r ∷ rs) (y ∷ ys) seen seen' f h = (
+    f 0 r (omega arith) (chosen y.alts (last_place y.alts)).0 h.0,
+    arrived_later rs ys
+        seen seen' (λ k d lt. f (suc k) d (omega arith)) h.1,
+  )
 
   copies_purpose : (first second : NodeCopy) (kind : Kind) (copied : Bool) (alts : List TempId) (k : ℕ) (rest : List ExtOp)
       → purpose_at s.term (copy_ops first second kind copied alts k ++ rest) ≡ purpose_at s.term rest
@@ -187,7 +217,8 @@ module _ (c : ℕ) (H : Seen → List Read → Type 0) (b end : ℕ) (e : Ext) (
   operand_purpose (Some v) k rest = copies_purpose U U2 v.sort.kind v.sort.copied v.own k rest
 
   -- copies of operands are for what follows
-  pub operands_purpose : (xs : List Operand) (g : Growth) (rest : List ExtOp) → purpose_at s.term (operands_ops xs g ++ rest) ≡ purpose_at s.term rest
+  pub operands_purpose : (xs : List Operand) (g : Growth) (rest : List ExtOp) → purpose_at s.term (operands_ops xs g ++ rest)
+      ≡ purpose_at s.term rest
   operands_purpose [] g rest = refl
   operands_purpose (x ∷ xs) g rest =
       ap (purpose_at s.term) (append_assoc (operand_ops x g) (operands_ops xs (with_operand x g)) rest)
@@ -205,15 +236,22 @@ module _ (c : ℕ) (H : Seen → List Read → Type 0) (b end : ℕ) (e : Ext) (
   words_arrive (x ∷ xs) n p seen g rest kept few front size for go =
       let g' = with_operand x g in
       let j = p.operands in
-      let p' : Progress = record { cycle = p.cycle + latency_of e.table Reload; values = p.values; operands = p.operands + 1; definer = p.definer } in
+      let p' : Progress = record {
+        cycle = p.cycle + latency_of e.table Reload;
+        values = p.values;
+        operands = p.operands + 1;
+        definer = p.definer;
+      } in
       let y = chosen_from x g' in
       let more = operands_ops xs g' ++ rest in
       subst (G n p seen) (sym (append_assoc (operand_ops x g) (operands_ops xs g') rest))
       (general_arrives n p seen g x more kept.0 (omega arith) front (operands_purpose xs g' rest ∙ for)
       (λ mid moved.
-      let size' : length mid.made ≡ g'.next = moved.longer ∙ ap (λ (k : ℕ). k + 1) size ∙ sym (next_of x g kept.0.own General kept.0.carries) in
+      let size' : length mid.made ≡ g'.next = moved.longer ∙ ap (λ (k : ℕ). k + 1) size
+      ∙ sym (next_of x g kept.0.own General kept.0.carries) in
       words_arrive xs (n + 1) p' mid g' rest
-      (kept_all_later g g' seen mid xs (λ v own sort h. carries_operand x g v own sort h) (λ k r le st. moved.stands k r (λ z. omega arith) st) kept.1)
+      (kept_all_later g g' seen mid xs (λ v own sort h. carries_operand x g v own sort h)
+      (λ k r le st. moved.stands k r (λ z. omega arith) st) kept.1)
       (omega arith) moved.front size' for
       (λ m q seen' le a. go m q seen' (omega arith) (record {
         arrived = (
@@ -242,7 +280,8 @@ module _ (c : ℕ) (H : Seen → List Read → Type 0) (b end : ℕ) (e : Ext) (
     pub stands : (k r : ℕ) → 6 ≤ r → r ≢ PREDICATE → Stands c b k r seen → Stands c b k r seen'
 
   pub operands_arrive : (xs : List Operand) (rooms : List ℕ) (n : ℕ) (p : Progress) (seen : Seen) (g : Growth) (rest : List ExtOp)
-      → AreReady g seen xs rooms → p.operands ≡ 0 → length xs ≤ 6 → Front c b p.cycle seen → length seen.made ≡ g.next → purpose_at s.term rest ≡ Operands
+      → AreReady g seen xs rooms → p.operands ≡ 0 → length xs ≤ 6 → Front c b p.cycle seen → length seen.made ≡ g.next
+      → purpose_at s.term rest ≡ Operands
       → ((m : ℕ) (p' : Progress) (seen' : Seen) → p.cycle ≤ p'.cycle
       → Operated rooms (new_operands xs g) (with_operands xs g).next p'.cycle seen seen' → G m p' seen' rest)
       → G n p seen (operands_ops xs g ++ rest)
@@ -267,11 +306,13 @@ module _ (c : ℕ) (H : Seen → List Read → Type 0) (b end : ℕ) (e : Ext) (
       let keep : (k r : ℕ) → 6 ≤ r → r ≢ PREDICATE → Stands c b k r seen → Stands c b k r seen1 =
       λ k r ge ne st. moved'.stands k r ne (moved.stands k r (λ z. omega arith) st) in
       words_arrive xs (n + 1 + 1) p' seen1 g' rest
-      (kept_all_later g g' seen seen1 xs (λ v own sort h. carries_operand x g v own sort h) (λ k r le st. keep k r (omega arith) (λ z. omega arith) st) more_kept)
+      (kept_all_later g g' seen seen1 xs (λ v own sort h. carries_operand x g v own sort h)
+      (λ k r le st. keep k r (omega arith) (λ z. omega arith) st) more_kept)
       (omega arith) moved'.front size' for
       (λ m q seen' le a. go m q seen' (omega arith) (record {
         arrived = (
-          subst (λ (k : ℕ). Stands c b k PREDICATE seen') (moved.longer ∙ ap (λ (k : ℕ). k + 1) size ∙ ap (λ (z : TempId). z.0) (sym (arrived_pred x g kept.own kept.carries)))
+          subst (λ (k : ℕ). Stands c b k PREDICATE seen') (moved.longer ∙ ap (λ (k : ℕ). k + 1) size
+              ∙ ap (λ (z : TempId). z.0) (sym (arrived_pred x g kept.own kept.carries)))
               (a.stands (length mid.made) PREDICATE (inr (omega arith)) moved'.new),
           subst (λ (j : ℕ). AreArrived (rooms_from j xs) (new_operands xs g') seen') (ap (λ (j : ℕ). j + 1) none) a.arrived,
         );
@@ -289,7 +330,8 @@ module _ (c : ℕ) (H : Seen → List Read → Type 0) (b end : ℕ) (e : Ext) (
   AreFor o j (r ∷ rs) [] = ⊥
   AreFor o j (r ∷ rs) (y ∷ ys) = InSpace r (space_read (Some o) j) × IfSome y.home (λ (h : Reg). r ≡ h.0) × AreFor o (j + 1) rs ys
 
-  pub reads_good : (i : Issue) (st : Step) (o : Op) (seen : Seen) → i.block.0 ≡ b → i.instr ≡ Some o → (rooms : List ℕ) (ys : List Operand) (j : ℕ)
+  pub reads_good : (i : Issue) (st : Step) (o : Op) (seen : Seen) → i.block.0 ≡ b → i.instr ≡ Some o
+      → (rooms : List ℕ) (ys : List Operand) (j : ℕ)
       → ((m : ℕ) (y : Operand) → slice_get ys m ≡ Some y → slice_index st.choices (j + m) ≡ operand_place y)
       → AreArrived rooms ys seen → AreFor o j rooms ys → All (GoodRead c seen) (places_from (planned_read i st) j ys)
   reads_good i st o seen block instr [] [] j places arrived for = All-nil (GoodRead c seen)
@@ -305,11 +347,14 @@ module _ (c : ℕ) (H : Seen → List Read → Type 0) (b end : ℕ) (e : Ext) (
       (reads_good i st o seen block instr rs ys (j + 1)
       (λ m z got. let n : j + 1 + m ≡ j + suc m = omega arith in ap (slice_index st.choices) n ∙ places (suc m) z got) arrived.1 for.2)
 
-  pub reads_timed : (i : Issue) (st : Step) (j : ℕ) (ys : List Operand) → All (λ (q : Read). q.cycle ≡ i.cycle) (places_from (planned_read i st) j ys)
+  pub reads_timed : (i : Issue) (st : Step) (j : ℕ) (ys : List Operand) → All (λ (q : Read). q.cycle ≡ i.cycle)
+      (places_from (planned_read i st) j ys)
   reads_timed i st j [] = All-nil (λ (q : Read). q.cycle ≡ i.cycle)
-  reads_timed i st j (y ∷ ys) = All-cons (λ (q : Read). q.cycle ≡ i.cycle) (planned_read i st j y) (places_from (planned_read i st) (j + 1) ys) refl (reads_timed i st (j + 1) ys)
+  reads_timed i st j (y ∷ ys) = All-cons (λ (q : Read). q.cycle ≡ i.cycle) (planned_read i st j y)
+      (places_from (planned_read i st) (j + 1) ys) refl (reads_timed i st (j + 1) ys)
 
-  pub last_places : (ys : List Operand) (m : ℕ) (y : Operand) → slice_get ys m ≡ Some y → slice_index (map operand_place ys) m ≡ operand_place y
+  pub last_places : (ys : List Operand) (m : ℕ) (y : Operand) → slice_get ys m ≡ Some y → slice_index (map operand_place ys) m
+      ≡ operand_place y
   last_places [] m y got = absurd (cc got)
   last_places (z ∷ ys) zero y got = let same : z ≡ y = cc got in ap operand_place same
   last_places (z ∷ ys) (suc m) y got = last_places ys m y got

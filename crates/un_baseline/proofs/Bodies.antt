@@ -41,11 +41,12 @@ use Rattle.un_baseline.specs.Plans.{Step, planned_issue, planned_read}
 use Rattle.un_baseline.specs.SpillEverywhere.{purpose_at, slot_of, last_place, kept_place, kept_by_kind, first_copy, second_copy, operand_place, copies_of, other_progress, assigning}
 use Rattle.un_baseline.proofs.Made.{made_at}
 use Rattle.un_baseline.proofs.Carried.{Carries, carries_same, carries_operands, carries_value, carries_new, operands_onward}
-use Rattle.un_baseline.proofs.Grown.{append_nil, copy_ops, operands_ops, enter_ops, extended_ops, value_next}
+use Rattle.un_baseline.proofs.Grown.{copy_ops, operands_ops, enter_ops, extended_ops, value_next}
 use Rattle.un_baseline.proofs.Sound.{Seen, after}
 use Rattle.un_baseline.proofs.Standing.{IsFew, no_item, one_item, Stands, Front, goes_front, goes_ok, goes_stands, goes_new_stands}
 use Rattle.un_baseline.proofs.Walk.{Good, moving_copy}
 use Rattle.un_baseline.proofs.Arrivals.{Kept, AreArrived, AreFor, AreReady, operands_arrive, reads_good, reads_timed, last_places, slot_space, sort_by}
+use Rattle.un_baseline.proofs.Items.{append_nil}
 
 module _ (c : ℕ) (H : Seen → List Read → Type 0) (b end : ℕ) (e : Ext) (block : ExtBlock) (s : Setting) (fit : IsFit e.table) where
   abbrev G : ℕ → Progress → Seen → List ExtOp → Type 0
@@ -57,7 +58,8 @@ module _ (c : ℕ) (H : Seen → List Read → Type 0) (b end : ℕ) (e : Ext) (
     pub longer : length seen'.made ≡ length seen.made + length registers
     pub front : Front c b now seen'
     pub new : (r : ℕ) → registers ≡ r ∷ [] → Stands c b (length seen.made) r seen'
-    pub stands : (k q : ℕ) → All (λ (x : ℕ). x ≢ q) registers → (o ≡ Call → in_mask c q ≡ false) → Stands c b k q seen → Stands c b k q seen'
+    pub stands : (k q : ℕ) → All (λ (x : ℕ). x ≢ q) registers → (o ≡ Call → in_mask c q ≡ false) → Stands c b k q seen
+        → Stands c b k q seen'
 
   abbrev body : SrcOp → List Operand → List TempId → ExtOp
   body o ys results = record { kind = Body o; operands = ys; results = results }
@@ -65,7 +67,8 @@ module _ (c : ℕ) (H : Seen → List Read → Type 0) (b end : ℕ) (e : Ext) (
   abbrev pub body_register : Op → ℕ
   body_register o = if gives_truth o then PREDICATE else 0
 
-  pub body_runs : (n : ℕ) (p : Progress) (seen : Seen) (o : SrcOp) (ys : List Operand) (results : List TempId) (rest : List ExtOp) (rooms : List ℕ)
+  pub body_runs : (n : ℕ) (p : Progress) (seen : Seen) (o : SrcOp) (ys : List Operand) (results : List TempId) (rest : List ExtOp)
+      (rooms : List ℕ)
       → AreArrived c H b end e block s fit rooms ys seen → AreFor c H b end e block s fit o.op 0 rooms ys → Front c b p.cycle seen
       → IsFew (replicate (length results) (body_register o.op))
       → All (λ (r : ℕ). InSpace r (space_given (Some o.op))) (replicate (length results) (body_register o.op))
@@ -78,17 +81,22 @@ module _ (c : ℕ) (H : Seen → List Read → Type 0) (b end : ℕ) (e : Ext) (
       let st : Step = record { instr = 0; cycle = p.cycle; choices = map operand_place ys; registers = registers } in
       let i = planned_issue b end n op st in
       let rs = places_from (planned_read i st) 0 ys in
-      let good = reads_good c H b end e block s fit i st o.op seen refl refl rooms ys 0 (λ m y got. (let at : 0 + m ≡ m = omega arith in ap (slice_index (map operand_place ys)) at) ∙ last_places c H b end e block s fit ys m y got) arrived for in
+      let good = reads_good c H b end e block s fit i st o.op seen refl refl rooms ys 0
+      (λ m y got. (let at : 0 + m ≡ m = omega arith in ap (slice_index (map operand_place ys)) at)
+      ∙ last_places c H b end e block s fit ys m y got) arrived for in
       let times = reads_timed c H b end e block s fit i st 0 ys in
       let seen' = after seen i rs (map (made_at i) registers) in
       let positive = (fit.latencies o.op).0 in
       let same_op : (call : Some o.op ≡ Some Call) → o.op ≡ Call = λ call. cc call in
       let ran : Ran o.op registers (p.cycle + latency_of e.table o.op) seen seen' = record {
-        longer = length-append seen.made (map (made_at i) registers) ∙ ap (λ (k : ℕ). length seen.made + k) (length-map registers (made_at i));
-        front = goes_front c b seen i rs registers p.cycle few refl front (omega arith) times good (p.cycle + latency_of e.table o.op) (omega arith);
+        longer = length-append seen.made (map (made_at i) registers) ∙ ap (λ (k : ℕ). length seen.made + k)
+            (length-map registers (made_at i));
+        front = goes_front c b seen i rs registers p.cycle few refl front (omega arith) times good (p.cycle + latency_of e.table o.op)
+            (omega arith);
         new = λ r is. subst (λ (xs : List ℕ). Stands c b (length seen.made) r (after seen i rs (map (made_at i) xs))) (sym is)
             (goes_new_stands c b seen i rs registers p.cycle few refl front (omega arith) times good r refl);
-        stands = λ k q others call st'. goes_stands c b seen i rs registers p.cycle few refl front (omega arith) times good k q st' others (λ is. call (same_op is));
+        stands = λ k q others call st'. goes_stands c b seen i rs registers p.cycle few refl front (omega arith) times good k q st' others
+            (λ is. call (same_op is));
       } in
       ((goes_ok c b seen i rs registers p.cycle few refl front (omega arith) times good given, tt), go seen' ran)
 
@@ -111,12 +119,19 @@ module _ (c : ℕ) (H : Seen → List Read → Type 0) (b end : ℕ) (e : Ext) (
 
   pub result_spills : (kind : Kind) (n m : ℕ) (p : Progress) (seen : Seen) (name : NameId) (rest : List ExtOp) → p.definer ≡ Assigns name
       → name_kind e.names name ≡ kind → Stands c b m (register_by kind) seen → length seen.made ≡ m + 1 → Front c b p.cycle seen
-      → ((k : ℕ) (p' : Progress) (seen' : Seen) → p.cycle ≤ p'.cycle → p'.operands ≡ p.operands → Spilled name kind m p'.cycle seen seen' → G k p' seen' rest)
+      → ((k : ℕ) (p' : Progress) (seen' : Seen) → p.cycle ≤ p'.cycle → p'.operands ≡ p.operands → Spilled name kind m p'.cycle seen seen'
+      → G k p' seen' rest)
       → G n p seen (copy_ops D D2 kind true (temp m ∷ []) (m + 1) ++ rest)
   result_spills General n m p seen name rest d is stands size front go =
-      moving_copy c H b end e block s fit n p seen D (temp m ∷ []) (m + 1) rest (purpose_at s.term rest) SPILL 0 (slot_of name) Spill m 0 refl
+      moving_copy c H b end e block s fit n p seen D (temp m ∷ []) (m + 1) rest (purpose_at s.term rest) SPILL 0
+      (slot_of name) Spill m 0 refl
       (first_by p name General d is) refl (λ z. cc z) refl refl stands front refl (slot_space (slot_of name) (omega arith))
-      (λ seen' moved. go (n + 1) (record { cycle = p.cycle + latency_of e.table Spill; values = p.values + 1; operands = p.operands; definer = p.definer }) seen' (omega arith) refl (record {
+      (λ seen' moved. go (n + 1) (record {
+        cycle = p.cycle + latency_of e.table Spill;
+        values = p.values + 1;
+        operands = p.operands;
+        definer = p.definer;
+      }) seen' (omega arith) refl (record {
         longer = moved.longer ∙ ap (λ (k : ℕ). k + 1) size;
         front = moved.front;
         new = subst (λ (k : ℕ). Stands c b k (slot_of name) seen') size moved.new;
@@ -124,13 +139,25 @@ module _ (c : ℕ) (H : Seen → List Read → Type 0) (b end : ℕ) (e : Ext) (
       }))
   result_spills Pred n m p seen name rest d is stands size front go =
       let alts = (temp m ∷ []) ++ temp (m + 1) ∷ [] in
-      let p' : Progress = record { cycle = p.cycle + latency_of e.table P2R; values = p.values + 1; operands = p.operands; definer = p.definer } in
-      moving_copy c H b end e block s fit n p seen D (temp m ∷ []) (m + 1) (copy_op D2 alts (m + 1 + 1) ∷ rest) (purpose_at s.term rest) FROM_PREDICATE 0 0 P2R m PREDICATE refl
+      let p' : Progress = record {
+        cycle = p.cycle + latency_of e.table P2R;
+        values = p.values + 1;
+        operands = p.operands;
+        definer = p.definer;
+      } in
+      moving_copy c H b end e block s fit n p seen D (temp m ∷ []) (m + 1) (copy_op D2 alts (m + 1 + 1) ∷ rest)
+      (purpose_at s.term rest) FROM_PREDICATE 0 0 P2R m PREDICATE refl
       (first_by p name Pred d is) refl (λ z. cc z) refl refl stands front refl refl
       (λ mid moved.
-      moving_copy c H b end e block s fit (n + 1) p' mid D2 alts (m + 1 + 1) rest (purpose_at s.term rest) SPILL (last_place alts) (slot_of name) Spill (length seen.made) 0 refl
+      moving_copy c H b end e block s fit (n + 1) p' mid D2 alts (m + 1 + 1) rest (purpose_at s.term rest) SPILL (last_place alts)
+      (slot_of name) Spill (length seen.made) 0 refl
       (ap (second_copy p' alts) d) refl (λ z. cc z) refl (sym size) moved.new moved.front refl (slot_space (slot_of name) (omega arith))
-      (λ seen' moved'. go (n + 1 + 1) (record { cycle = p'.cycle + latency_of e.table Spill; values = p'.values; operands = p'.operands; definer = p'.definer }) seen' (omega arith) refl (record {
+      (λ seen' moved'. go (n + 1 + 1) (record {
+        cycle = p'.cycle + latency_of e.table Spill;
+        values = p'.values;
+        operands = p'.operands;
+        definer = p'.definer;
+      }) seen' (omega arith) refl (record {
         longer = (let l = moved.longer in let l' = moved'.longer in omega arith);
         front = moved'.front;
         new = subst (λ (k : ℕ). Stands c b k (slot_of name) seen') (let l = moved.longer in omega arith) moved'.new;
@@ -208,7 +235,8 @@ module _ (c : ℕ) (H : Seen → List Read → Type 0) (b end : ℕ) (e : Ext) (
     abbrev grown : ExtOp → Growth → Growth
     grown op g = with_extended e.names live_in entry saved op g
 
-    body_with : (o : SrcOp) (xs : List Operand) (dst : Option NameId) (first n : ℕ) (p : Progress) (seen : Seen) (g : Growth) (rest : List ExtOp)
+    body_with : (o : SrcOp) (xs : List Operand) (dst : Option NameId) (first n : ℕ) (p : Progress) (seen : Seen) (g : Growth)
+        (rest : List ExtOp)
         → o.dst ≡ dst → IsReadyOp o xs g seen → s.placed ≤ g.next → p.operands ≡ 0 → Front c b p.cycle seen → length seen.made ≡ g.next
         → ((m : ℕ) (p' : Progress) (seen' : Seen) → p.cycle ≤ p'.cycle → p'.operands ≡ 0
         → Grew dst g (grown (body_at o xs dst first) g) p'.cycle seen seen' → G m p' seen' rest)
@@ -224,14 +252,16 @@ module _ (c : ℕ) (H : Seen → List Read → Type 0) (b end : ℕ) (e : Ext) (
         (subst (G n p seen) (sym (append_assoc (operands_ops xs g) (made ∷ []) rest))
         (operands_arrive c H b end e block s fit xs ready.rooms n p seen g (made ∷ rest) ready.ready none ready.few front size refl
         (λ m q mid le a.
-        body_runs m q mid o (new_operands xs g) [] rest ready.rooms a.arrived ready.for a.front no_item (All-nil (λ (r : ℕ). InSpace r (space_given (Some o.op))))
+        body_runs m q mid o (new_operands xs g) [] rest ready.rooms a.arrived ready.for a.front no_item
+        (All-nil (λ (r : ℕ). InSpace r (space_given (Some o.op))))
         (λ seen' ran. go (m + 1) (other_progress (q.cycle + latency_of e.table o.op) (assigning o.dst)) seen' (omega arith) refl
         (subst (λ (g' : Growth). Grew None g g' (q.cycle + latency_of e.table o.op) seen seen') (sym (enter_same entry o here))
         (record {
           size = ran.longer ∙ ap (λ (k : ℕ). k + 0) a.longer;
           grows = omega arith;
           front = ran.front;
-          stands = λ k r safe other st. ran.stands k r (All-nil (λ (x : ℕ). x ≢ r)) (λ call. safe.spared) (a.stands k r safe.high safe.other st);
+          stands = λ k r safe other st. ran.stands k r (All-nil (λ (x : ℕ). x ≢ r)) (λ call. safe.spared)
+              (a.stands k r safe.high safe.other st);
           carries = λ x own sort h. carries_same read here x own sort refl (carries_operands xs g x own sort h);
           values = omega arith;
           new = tt;
@@ -249,20 +279,26 @@ module _ (c : ℕ) (H : Seen → List Read → Type 0) (b end : ℕ) (e : Ext) (
         let next = on.next in
         let register = body_register o.op in
         let same : register_by kind ≡ register = register_is (result_space o.op) in
-        let kind_is : name_kind e.names name ≡ kind = subst (λ (d : Option NameId). IfSome d (λ (x : NameId). name_kind e.names x ≡ kind)) is ready.kind in
-        let given : InSpace register (space_given (Some o.op)) = subst (λ (d : Option NameId). IfSome d (λ (x : NameId). InSpace register (space_given (Some o.op)))) is ready.given in
+        let kind_is : name_kind e.names name ≡ kind = subst (λ (d : Option NameId). IfSome d (λ (x : NameId). name_kind e.names x ≡ kind))
+        is ready.kind in
+        let given : InSpace register (space_given (Some o.op)) = subst (λ (d : Option NameId). IfSome d
+        (λ (x : NameId). InSpace register (space_given (Some o.op)))) is ready.given in
         let tail : ((ds ++ []) ++ []) ++ rest ≡ ds ++ rest = ap (λ (os : List ExtOp). os ++ rest) (append_nil (ds ++ []) ∙ append_nil ds) in
         subst (λ (es : List ExtOp). G n p seen ((operands_ops xs g ++ (made ∷ ((ds ++ []) ++ es))) ++ rest)) (sym (enter_none entry o))
         (subst (G n p seen) (sym (append_assoc (operands_ops xs g) (made ∷ ((ds ++ []) ++ [])) rest))
-        (operands_arrive c H b end e block s fit xs ready.rooms n p seen g (made ∷ (((ds ++ []) ++ []) ++ rest)) ready.ready none ready.few front size refl
+        (operands_arrive c H b end e block s fit xs ready.rooms n p seen g (made ∷ (((ds ++ []) ++ []) ++ rest)) ready.ready none
+        ready.few front size refl
         (λ m q mid le a.
         let after_body = other_progress (q.cycle + latency_of e.table o.op) (assigning o.dst) in
-        body_runs m q mid o (new_operands xs g) (temp read.next ∷ []) (((ds ++ []) ++ []) ++ rest) ready.rooms a.arrived ready.for a.front (one_item register)
-        (All-cons (λ (r : ℕ). InSpace r (space_given (Some o.op))) register [] given (All-nil (λ (r : ℕ). InSpace r (space_given (Some o.op)))))
+        body_runs m q mid o (new_operands xs g) (temp read.next ∷ []) (((ds ++ []) ++ []) ++ rest) ready.rooms a.arrived ready.for a.front
+        (one_item register)
+        (All-cons (λ (r : ℕ). InSpace r (space_given (Some o.op))) register [] given
+        (All-nil (λ (r : ℕ). InSpace r (space_given (Some o.op)))))
         (λ seen1 ran.
         subst (λ (os : List ExtOp). G (m + 1) after_body seen1 os) (sym tail)
         (result_spills kind (m + 1) read.next after_body seen1 name rest (ap assigning is) kind_is
-        (subst (λ (k : ℕ). Stands c b k (register_by kind) seen1) a.longer (subst (λ (r : ℕ). Stands c b (length mid.made) r seen1) (sym same) (ran.new register refl)))
+        (subst (λ (k : ℕ). Stands c b k (register_by kind) seen1) a.longer (subst (λ (r : ℕ). Stands c b (length mid.made) r seen1)
+        (sym same) (ran.new register refl)))
         (ran.longer ∙ ap (λ (k : ℕ). k + 1) a.longer) ran.front
         (λ k q' seen' le' ops sp. go k q' seen' (omega arith) ops
         (subst (λ (x : Growth). Grew (Some name) g x q'.cycle seen seen') (sym (enter_same entry o g'))
@@ -274,15 +310,18 @@ module _ (c : ℕ) (H : Seen → List Read → Type 0) (b end : ℕ) (e : Ext) (
               let high = safe.high in
               let not_p = safe.other in
               sp.stands k' r (λ z. omega arith) other
-              (ran.stands k' r (All-cons (λ (x : ℕ). x ≢ r) register [] (register_other r safe.high safe.other (gives_truth o.op)) (All-nil (λ (x : ℕ). x ≢ r))) (λ call. safe.spared)
+              (ran.stands k' r (All-cons (λ (x : ℕ). x ≢ r) register [] (register_other r safe.high safe.other (gives_truth o.op))
+              (All-nil (λ (x : ℕ). x ≢ r))) (λ call. safe.spared)
               (a.stands k' r safe.high safe.other st));
-          carries = λ x own t h. carries_value read.next sort here x own t (carries_same read here x own t refl (carries_operands xs g x own t h));
+          carries = λ x own t h. carries_value read.next sort here x own t (carries_same read here x own t refl
+              (carries_operands xs g x own t h));
           values = length-append here.values _ ∙ ap (λ (k' : ℕ). k' + 1) values;
           new = record {
             kept = record {
               own = own_temps read.next sort here;
               carries = subst (λ (x : ℕ). Carries g' x (own_temps read.next sort here) (sort_by (name_kind e.names name))) values
-                  (subst (λ (x : Kind). Carries g' (length here.values) (own_temps read.next sort here) (sort_by x)) (sym kind_is) (carries_new read.next sort here));
+                  (subst (λ (x : Kind). Carries g' (length here.values) (own_temps read.next sort here) (sort_by x)) (sym kind_is)
+                  (carries_new read.next sort here));
               size = own_size kind read.next here ∙ ap (λ (x : Kind). 1 + copies_of x) (sym kind_is);
               room = slot_of name;
               slot = omega arith;

@@ -15,9 +15,8 @@ use Rattle.un_ir.specs.Linear.{first_of}
 use Rattle.un_ir.specs.ExtendOf.{copy_count, new_temps, own_temps, value_of, with_value, with_values, with_operand_by, with_operand, with_operands, alternatives, chosen_from}
 use Rattle.un_model.specs.Schedules.{chosen}
 use Rattle.un_baseline.specs.SpillEverywhere.{last_place}
-use Rattle.un_baseline.proofs.Grown.{append_nil, operand_next_by}
-use Rattle.un_baseline.proofs.Sound.{there_append}
-use Rattle.un_baseline.proofs.Standing.{there_last, there_left}
+use Rattle.un_baseline.proofs.Grown.{operand_next_by}
+use Rattle.un_baseline.proofs.Items.{get_left, there_last, there_left, append_nil}
 
 set_same : {X : Type 0} (xs : List X) (i : ℕ) (y : X) → i < length xs → slice_get (set xs i y) i ≡ Some y
 set_same [] i y h = absurd (omega arith)
@@ -40,7 +39,8 @@ pub record Carries (g : Growth) (x : ℕ) (own : List TempId) (sort : Sort) : Ty
   pub more : List TempId
   pub all : value.all ≡ own ++ more
 
-pub carries_same : (g g' : Growth) (x : ℕ) (own : List TempId) (sort : Sort) → g'.values ≡ g.values → Carries g x own sort → Carries g' x own sort
+pub carries_same : (g g' : Growth) (x : ℕ) (own : List TempId) (sort : Sort) → g'.values ≡ g.values → Carries g x own sort
+    → Carries g' x own sort
 carries_same g g' x own sort same h = record {
   value = h.value;
   at = ap (λ (vs : List Value). slice_get vs x) same ∙ h.at;
@@ -54,7 +54,7 @@ pub carries_value : (n : ℕ) (sort' : Sort) (g : Growth) (x : ℕ) (own : List 
     → Carries (with_value n sort' g) x own sort
 carries_value n sort' g x own sort h = record {
   value = h.value;
-  at = there_append g.values (value_of n sort' g ∷ []) x h.value h.at;
+  at = get_left g.values (value_of n sort' g ∷ []) x h.value h.at;
   is_own = h.is_own;
   is_sort = h.is_sort;
   more = h.more;
@@ -64,7 +64,8 @@ carries_value n sort' g x own sort h = record {
 pub carries_values : (n : ℕ) (sorts : List Sort) (g : Growth) (x : ℕ) (own : List TempId) (sort : Sort) → Carries g x own sort
     → Carries (with_values n sorts g) x own sort
 carries_values n [] g x own sort h = h
-carries_values n (sort' ∷ sorts) g x own sort h = carries_values (n + 1) sorts (with_value n sort' g) x own sort (carries_value n sort' g x own sort h)
+carries_values n (sort' ∷ sorts) g x own sort h = carries_values (n + 1) sorts (with_value n sort' g) x own sort
+    (carries_value n sort' g x own sort h)
 
 pub carries_new : (n : ℕ) (sort : Sort) (g : Growth) → Carries (with_value n sort g) (length g.values) (own_temps n sort g) sort
 carries_new n sort g = record {
@@ -76,7 +77,8 @@ carries_new n sort g = record {
   all = sym (append_nil (own_temps n sort g));
 }
 
-carries_by : (y : ℕ) (v : Option Value) (g : Growth) (x : ℕ) (own : List TempId) (sort : Sort) → slice_get g.values y ≡ v → Carries g x own sort
+carries_by : (y : ℕ) (v : Option Value) (g : Growth) (x : ℕ) (own : List TempId) (sort : Sort) → slice_get g.values y ≡ v
+    → Carries g x own sort
     → Carries (with_operand_by y v g) x own sort
 carries_by y None g x own sort e h = h
 carries_by y (Some v) g x own sort e h = by (nat_eq x y) refl
@@ -94,7 +96,8 @@ carries_by y (Some v) g x own sort e h = by (nat_eq x y) refl
           is_own = ap (λ (u : Value). u.own) (sym is) ∙ h.is_own;
           is_sort = ap (λ (u : Value). u.sort) (sym is) ∙ h.is_sort;
           more = h.more ++ new_temps g (copy_count v.sort);
-          all = ap (λ (xs : List TempId). xs ++ new_temps g (copy_count v.sort)) (ap (λ (u : Value). u.all) (sym is) ∙ h.all) ∙ append_assoc own h.more (new_temps g (copy_count v.sort));
+          all = ap (λ (xs : List TempId). xs ++ new_temps g (copy_count v.sort)) (ap (λ (u : Value). u.all) (sym is) ∙ h.all)
+              ∙ append_assoc own h.more (new_temps g (copy_count v.sort));
         }
     by false t =
         let other : x ≢ y = λ same. (let yes : nat_eq x y ≡ true = rw same (grind arith) in cc (sym t ∙ yes)) in
@@ -107,10 +110,12 @@ carries_by y (Some v) g x own sort e h = by (nat_eq x y) refl
           all = h.all;
         }
 
-pub carries_operand : (y : Operand) (g : Growth) (x : ℕ) (own : List TempId) (sort : Sort) → Carries g x own sort → Carries (with_operand y g) x own sort
+pub carries_operand : (y : Operand) (g : Growth) (x : ℕ) (own : List TempId) (sort : Sort) → Carries g x own sort
+    → Carries (with_operand y g) x own sort
 carries_operand y g x own sort h = carries_by (first_of y.alts) (slice_get g.values (first_of y.alts)) g x own sort refl h
 
-pub carries_operands : (ys : List Operand) (g : Growth) (x : ℕ) (own : List TempId) (sort : Sort) → Carries g x own sort → Carries (with_operands ys g) x own sort
+pub carries_operands : (ys : List Operand) (g : Growth) (x : ℕ) (own : List TempId) (sort : Sort) → Carries g x own sort
+    → Carries (with_operands ys g) x own sort
 carries_operands [] g x own sort h = h
 carries_operands (y ∷ ys) g x own sort h = carries_operands ys (with_operand y g) x own sort (carries_operand y g x own sort h)
 
@@ -141,7 +146,8 @@ chosen_left : (xs ys : List TempId) (i : ℕ) → i < length xs → chosen (xs +
 chosen_left xs ys i lt = ap (λ (o : Option TempId). unwrap_or o (record { 0 = 0 })) (there_left xs ys i lt)
 
 -- an operand may choose the value's own temporaries at their places
-pub chosen_own : (y : Operand) (g : Growth) (own : List TempId) (sort : Sort) (i : ℕ) → Carries g (first_of y.alts) own sort → i < length own
+pub chosen_own : (y : Operand) (g : Growth) (own : List TempId) (sort : Sort) (i : ℕ) → Carries g (first_of y.alts) own sort
+    → i < length own
     → chosen (chosen_from y (with_operand y g)).alts i ≡ chosen own i
 chosen_own y g own sort i h lt =
     let k = carries_operand y g (first_of y.alts) own sort h in
@@ -157,7 +163,8 @@ alts_end y g own sort h =
     ∙ ap alternatives (set_same g.values x new (slice_get_within g.values x h.value h.at))
     ∙ ap (λ (s : Sort). h.value.all ++ new_temps g (copy_count s)) h.is_sort
 
-pub arrived_general : (y : Operand) (g : Growth) (own : List TempId) → Carries g (first_of y.alts) own (record { kind = General; copied = true })
+pub arrived_general : (y : Operand) (g : Growth) (own : List TempId) → Carries g (first_of y.alts) own
+    (record { kind = General; copied = true })
     → (let alts = (chosen_from y (with_operand y g)).alts in chosen alts (last_place alts)) ≡ temp g.next
 arrived_general y g own h =
     ap (λ (alts : List TempId). chosen alts (last_place alts)) (alts_end y g own (record { kind = General; copied = true }) h)

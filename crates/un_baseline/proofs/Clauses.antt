@@ -59,25 +59,31 @@ module _ (f : Function) (lists : List (List NameId)) (t : Table) (fit : IsFit t)
 
   pub all_sound : Sound t.clobbered all
   all_sound =
-      walk f lists t fit live f.blocks true 0 0 0 0 [] nothing (λ i x got. let z : 0 + i ≡ i = omega arith in ap (slice_get f.blocks) z ∙ got) (λ z. refl) refl refl
+      walk f lists t fit live f.blocks true 0 0 0 0 [] nothing (λ i x got. let z : 0 + i ≡ i = omega arith in ap (slice_get f.blocks) z
+      ∙ got) (λ z. refl) refl refl
       nothing_below nothing_sound
 
   pub keeps_choices : KeepsChoices schedule
-  keeps_choices = choices_kept t.clobbered schedule all all_sound refl refl (ranges_made e.blocks (block_plans e true e.blocks) (plan_suits e))
+  keeps_choices = choices_kept t.clobbered schedule all all_sound refl refl (ranges_made e.blocks (block_plans e true e.blocks)
+      (plan_suits e))
 
   pub keeps_spaces : KeepsSpaces schedule
-  keeps_spaces = spaces_kept t.clobbered schedule all all_sound refl refl (ranges_made e.blocks (block_plans e true e.blocks) (plan_suits e))
+  keeps_spaces = spaces_kept t.clobbered schedule all all_sound refl refl (ranges_made e.blocks (block_plans e true e.blocks)
+      (plan_suits e))
 
   pub keeps_homes : KeepsHomes schedule
   keeps_homes = homes_kept t.clobbered schedule all all_sound refl refl (ranges_made e.blocks (block_plans e true e.blocks) (plan_suits e))
 
   pub keeps_registers : KeepsRegisters t.clobbered schedule
-  keeps_registers = registers_kept t.clobbered schedule all all_sound refl refl (ranges_made e.blocks (block_plans e true e.blocks) (plan_suits e))
+  keeps_registers = registers_kept t.clobbered schedule all all_sound refl refl (ranges_made e.blocks (block_plans e true e.blocks)
+      (plan_suits e))
 
   facts : EachFacts f lists t fit live 0 e.blocks all
   facts =
-      facts_of f lists t fit live f.blocks true 0 0 0 0 [] nothing all (λ i x got. let z : 0 + i ≡ i = omega arith in ap (slice_get f.blocks) z ∙ got) (λ z. refl) refl refl
+      facts_of f lists t fit live f.blocks true 0 0 0 0 [] nothing all (λ i x got. let z : 0 + i
+      ≡ i = omega arith in ap (slice_get f.blocks) z ∙ got) (λ z. refl) refl refl
       nothing_below (All-nil (λ (q : Read). q.block.0 < 0)) refl
 
   pub keeps_congruences : KeepsCongruences e.blocks schedule
-  keeps_congruences = congruences_kept f lists t fit live schedule all refl (ranges_made e.blocks (block_plans e true e.blocks) (plan_suits e)) e.blocks facts
+  keeps_congruences = congruences_kept f lists t fit live schedule all refl (ranges_made e.blocks (block_plans e true e.blocks)
+      (plan_suits e)) e.blocks facts

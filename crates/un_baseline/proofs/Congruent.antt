@@ -39,17 +39,16 @@ use Rattle.un_model.specs.Pairs.{places_from, pairs_from, joined}
 use Rattle.un_baseline.specs.Plans.{Step, BlockPlan, planned_issue, planned_issues, planned_read, planned_reads, planned_reads_by, over_plans}
 use Rattle.un_baseline.specs.SpillEverywhere.{slot_of, setting_of, block_plan, block_plans}
 use Rattle.un_baseline.proofs.Counts.{results_count}
-use Rattle.un_baseline.proofs.Grown.{append_nil}
 use Rattle.un_baseline.proofs.Lasts.{EndsOut, ends_start, ends_bodies, ends_tail, handed_at, filter_none, filter_parts}
 use Rattle.un_baseline.proofs.Lives.{place_found, out_has}
 use Rattle.un_baseline.proofs.Made.{lasting_at, place_there, planned_made}
-use Rattle.un_baseline.proofs.Openings.{get_left, get_right, get_map}
 use Rattle.un_baseline.proofs.Outs.{ReadsFrom}
-use Rattle.un_baseline.proofs.Sound.{Seen, there_append}
+use Rattle.un_baseline.proofs.Sound.{Seen}
 use Rattle.un_baseline.proofs.Starts.{Fresh}
 use Rattle.un_baseline.proofs.Walk.{AreGoodSteps, seen_after, seen_is}
-use Rattle.un_baseline.proofs.Walked.{no_slot_clobbered, regs_kept, regs_apart, IsBelow, steps_below, steps_size, below_weaker, suits_of, more, more_more, E, made_block, ext_from, grown_values, grown_next}
+use Rattle.un_baseline.proofs.Walked.{no_slot_clobbered, regs_kept, regs_apart, IsBelow, steps_below, steps_size, below_weaker, suits_of, more, more_behind, E, made_block, ext_from, grown_values, grown_next}
 use Rattle.un_baseline.proofs.Whole.{bound_rooms, Handed, ops_are, term_is, starts, start_size, whole_good, start_made}
+use Rattle.un_baseline.proofs.Items.{get_left, get_right, get_map, append_nil}
 
 -- ---- reads of other blocks
 
@@ -59,12 +58,15 @@ no_read b qs h = filter_none (is_live_out b) qs (λ k d lt. other (get_or qs k d
     other : (q : Read) → q.block.0 ≢ b → is_live_out b q ≡ false
     other q ne = let z : (q.block.0 == b) ≡ false = grind (arith, nat_tests) in ap (λ (t : Bool). t && is_none q.instr) z
 
-places_in : (b : ℕ) (i : Issue) (s : Step) (j : ℕ) (xs : List Operand) → i.block.0 ≡ b → All (λ (q : Read). q.block.0 ≡ b) (places_from (planned_read i s) j xs)
+places_in : (b : ℕ) (i : Issue) (s : Step) (j : ℕ) (xs : List Operand) → i.block.0 ≡ b
+    → All (λ (q : Read). q.block.0 ≡ b) (places_from (planned_read i s) j xs)
 places_in b i s j [] is = All-nil (λ (q : Read). q.block.0 ≡ b)
-places_in b i s j (x ∷ xs) is = All-cons (λ (q : Read). q.block.0 ≡ b) (planned_read i s j x) (places_from (planned_read i s) (j + 1) xs) is (places_in b i s (j + 1) xs is)
+places_in b i s j (x ∷ xs) is = All-cons (λ (q : Read). q.block.0 ≡ b) (planned_read i s j x)
+    (places_from (planned_read i s) (j + 1) xs) is (places_in b i s (j + 1) xs is)
 
 reads_in : (b end n : ℕ) (ops : List ExtOp) (steps : List Step)
-    → All (λ (q : Read). q.block.0 ≡ b) (joined (pairs_from (λ (k : ℕ) (op : ExtOp) (s : Step). planned_reads_by (planned_issue b end k op s) op s) n ops steps))
+    → All (λ (q : Read). q.block.0 ≡ b) (joined (pairs_from (λ (k : ℕ) (op : ExtOp) (s : Step). planned_reads_by
+    (planned_issue b end k op s) op s) n ops steps))
 reads_in b end n [] steps = All-nil (λ (q : Read). q.block.0 ≡ b)
 reads_in b end n (op ∷ ops) [] = All-nil (λ (q : Read). q.block.0 ≡ b)
 reads_in b end n (op ∷ ops) (s ∷ steps) =
@@ -72,17 +74,22 @@ reads_in b end n (op ∷ ops) (s ∷ steps) =
     (joined (pairs_from (λ (k : ℕ) (o : ExtOp) (t : Step). planned_reads_by (planned_issue b end k o t) o t) (n + 1) ops steps))
     (by (planned_issue b end n op s).active) (reads_in b end (n + 1) ops steps)
   where
-    by : (t : Bool) → All (λ (q : Read). q.block.0 ≡ b) (if t then places_from (planned_read (planned_issue b end n op s) s) 0 op.operands else [])
+    by : (t : Bool) → All (λ (q : Read). q.block.0 ≡ b) (if t then places_from (planned_read (planned_issue b end n op s) s) 0 op.operands
+        else [])
     by true = places_in b (planned_issue b end n op s) s 0 op.operands refl
     by false = All-nil (λ (q : Read). q.block.0 ≡ b)
 
-reads_past : (b n : ℕ) (blocks : List ExtBlock) (plans : List BlockPlan) → All (λ (q : Read). b ≤ q.block.0) (over_plans planned_reads b n blocks plans)
+reads_past : (b n : ℕ) (blocks : List ExtBlock) (plans : List BlockPlan) → All (λ (q : Read). b ≤ q.block.0)
+    (over_plans planned_reads b n blocks plans)
 reads_past b n [] plans = All-nil (λ (q : Read). b ≤ q.block.0)
 reads_past b n (block ∷ blocks) [] = All-nil (λ (q : Read). b ≤ q.block.0)
 reads_past b n (block ∷ blocks) (p ∷ plans) =
-    All-append (λ (q : Read). b ≤ q.block.0) (planned_reads b n block p) (over_plans planned_reads (b + 1) (n + length block.ops) blocks plans)
-    (All-weaker (λ (q : Read). q.block.0 ≡ b) (λ (q : Read). b ≤ q.block.0) (λ q h. omega arith) (planned_reads b n block p) (reads_in b p.end n block.ops p.steps))
-    (All-weaker (λ (q : Read). b + 1 ≤ q.block.0) (λ (q : Read). b ≤ q.block.0) (λ q h. omega arith) (over_plans planned_reads (b + 1) (n + length block.ops) blocks plans)
+    All-append (λ (q : Read). b ≤ q.block.0) (planned_reads b n block p) (over_plans planned_reads (b + 1)
+    (n + length block.ops) blocks plans)
+    (All-weaker (λ (q : Read). q.block.0 ≡ b) (λ (q : Read). b ≤ q.block.0) (λ q h. omega arith) (planned_reads b n block p)
+    (reads_in b p.end n block.ops p.steps))
+    (All-weaker (λ (q : Read). b + 1 ≤ q.block.0) (λ (q : Read). b ≤ q.block.0) (λ q h. omega arith)
+    (over_plans planned_reads (b + 1) (n + length block.ops) blocks plans)
     (reads_past (b + 1) (n + length block.ops) blocks plans))
 
 -- ---- what stays
@@ -94,9 +101,14 @@ zip_longer : (mid F : Seen) → Longer mid F → (qs : List Read) (rs : List ℕ
 zip_longer mid F f [] [] h = tt
 zip_longer mid F f [] (r ∷ rs) h = absurd h
 zip_longer mid F f (q ∷ qs) [] h = absurd h
-zip_longer mid F f (q ∷ qs) (r ∷ rs) h = (record { temp = h.0.temp; there = f q.temp.0 h.0.temp h.0.there; reg = h.0.reg }, zip_longer mid F f qs rs h.1)
+zip_longer mid F f (q ∷ qs) (r ∷ rs) h = (
+  record { temp = h.0.temp; there = f q.temp.0 h.0.temp h.0.there; reg = h.0.reg },
+  zip_longer mid
+      F f qs rs h.1,
+)
 
-handed_longer : (e : Ext) (block : ExtBlock) (term : Term) (mid F : Seen) (qs : List Read) → Longer mid F → Handed e block term mid qs → Handed e block term F qs
+handed_longer : (e : Ext) (block : ExtBlock) (term : Term) (mid F : Seen) (qs : List Read) → Longer mid F → Handed e block term mid qs
+    → Handed e block term F qs
 handed_longer e block Fall mid F qs f h = zip_longer mid F f qs (bound_rooms e block.live_out) h
 handed_longer e block (Jump to) mid F qs f h = zip_longer mid F f qs (bound_rooms e block.live_out) h
 handed_longer e block (Branch pred sense to) mid F qs f h = zip_longer mid F f qs (bound_rooms e block.live_out) h
@@ -110,7 +122,8 @@ zip_at F (q ∷ qs) [] i r h got = absurd h
 zip_at F (q ∷ qs) (x ∷ rs) zero r h got = (q, refl, (let same : x ≡ r = cc got in subst (ReadsFrom F q) same h.0))
 zip_at F (q ∷ qs) (x ∷ rs) (suc i) r h got = zip_at F qs rs i r h.1 got
 
-handed_zip : (e : Ext) (block : ExtBlock) (term : Term) (F : Seen) (qs : List Read) (k l : ℕ) → Contains (targets_of k term) l → Handed e block term F qs
+handed_zip : (e : Ext) (block : ExtBlock) (term : Term) (F : Seen) (qs : List Read) (k l : ℕ) → Contains (targets_of k term) l
+    → Handed e block term F qs
     → AllZip (ReadsFrom F) qs (bound_rooms e block.live_out)
 handed_zip e block Fall F qs k l to h = h
 handed_zip e block (Jump x) F qs k l to h = h
@@ -119,7 +132,8 @@ handed_zip e block (Ret value) F qs k l (i, below, is) h = absurd (omega arith)
 
 temps_at : (n k j : ℕ) (x : TempId) → slice_get (map temp (range_with_len n k)) j ≡ Some x → x.0 ≡ n + j
 temps_at n zero j x got = absurd (cc got)
-temps_at n (suc k) zero x got = let same : temp n ≡ x = cc got in ap (λ (y : TempId). y.0) (sym same) ∙ (let z : n ≡ n + 0 = omega arith in z)
+temps_at n (suc k) zero x got = let same : temp n ≡ x = cc got in ap (λ (y : TempId). y.0) (sym same)
+    ∙ (let z : n ≡ n + 0 = omega arith in z)
 temps_at n (suc k) (suc j) x got = temps_at (n + 1) k j x got ∙ (let z : n + 1 + j ≡ n + suc j = omega arith in z)
 
 module _ (f : Function) (lists : List (List NameId)) (t : Table) (fit : IsFit t) (live : AreLive f.blocks lists) where
@@ -144,13 +158,15 @@ module _ (f : Function) (lists : List (List NameId)) (t : Table) (fit : IsFit t)
   EachFacts b [] F = Unit {0}
   EachFacts b (block ∷ blocks) F = BlockFacts F b block × EachFacts (b + 1) blocks F
 
-  pub facts_at : (b k : ℕ) (blocks : List ExtBlock) (F : Seen) (a : ExtBlock) → EachFacts b blocks F → slice_get blocks k ≡ Some a → BlockFacts F (b + k) a
+  pub facts_at : (b k : ℕ) (blocks : List ExtBlock) (F : Seen) (a : ExtBlock) → EachFacts b blocks F → slice_get blocks k ≡ Some a
+      → BlockFacts F (b + k) a
   facts_at b k [] F a h got = absurd (cc got)
   facts_at b zero (block ∷ blocks) F a h got =
       let same : block ≡ a = cc got in
       let z : b ≡ b + 0 = omega arith in
       subst (λ (n : ℕ). BlockFacts F n a) z (subst (BlockFacts F b) same h.0)
-  facts_at b (suc k) (block ∷ blocks) F a h got = let z : b + 1 + k ≡ b + suc k = omega arith in subst (λ (n : ℕ). BlockFacts F n a) z (facts_at (b + 1) k blocks F a h.1 got)
+  facts_at b (suc k) (block ∷ blocks) F a h got = let z : b + 1 + k ≡ b + suc k = omega arith in subst (λ (n : ℕ). BlockFacts F n a) z
+      (facts_at (b + 1) k blocks F a h.1 got)
 
   -- ---- the facts of all blocks
 
@@ -172,7 +188,8 @@ module _ (f : Function) (lists : List (List NameId)) (t : Table) (fit : IsFit t)
         let nout = live_after lists (length f.names) b source.term in
         let saved = entry || returns (linear_block t (length f.names) lists b first source) in
         let tail = end_ops after link source.term ++ out_op t after kept0 nout source.term ∷ [] in
-        subst EndsOut (sym (ops_are f lists t fit live (no_slot_clobbered t fit) (regs_kept t fit) (regs_apart t) b first source at entry values next))
+        subst EndsOut (sym (ops_are f lists t fit live (no_slot_clobbered t fit) (regs_kept t fit)
+        (regs_apart t) b first source at entry values next))
         (ends_start x.names ns entry saved start.results g0 _
         (ends_bodies x.names ns entry saved t current0 first' source.ops tail (with_extended x.names ns entry saved start g0)
         (λ g'. ends_tail x.names ns entry saved t after link kept0 nout source.term g')))
@@ -187,13 +204,15 @@ module _ (f : Function) (lists : List (List NameId)) (t : Table) (fit : IsFit t)
 
       fresh : Fresh t.clobbered H b p.end x B (setting_of x entry B) fit seen
       fresh = record {
-        made = All-weaker (λ (m : LiveRange). m.block.0 < b) (λ (m : LiveRange). m.block.0 ≢ b) (λ m lt z. omega arith) seen.made below.made;
+        made = All-weaker (λ (m : LiveRange). m.block.0 < b) (λ (m : LiveRange). m.block.0 ≢ b)
+            (λ m lt z. omega arith) seen.made below.made;
         issues = All-weaker (λ (i : Issue). i.block.0 < b) (λ (i : Issue). i.block.0 ≢ b) (λ i lt z. omega arith) seen.issues below.issues;
         known = record { reads = below.known };
       }
 
       good : AreGoodSteps t.clobbered H b p.end n seen B.ops p.steps
-      good = whole_good f lists t fit live (no_slot_clobbered t fit) (regs_kept t fit) (regs_apart t) b first source at entry values next p.end n seen first_block long size fresh
+      good = whole_good f lists t fit live (no_slot_clobbered t fit) (regs_kept t fit)
+          (regs_apart t) b first source at entry values next p.end n seen first_block long size fresh
 
       abbrev seen1 : Seen
       seen1 = seen_after t.clobbered H b p.end n seen B.ops p.steps
@@ -209,21 +228,26 @@ module _ (f : Function) (lists : List (List NameId)) (t : Table) (fit : IsFit t)
           subst (λ (z : Seen). All (λ (q : Read). q.block.0 < b + 1) z.reads) (sym same)
           (All-append (λ (q : Read). q.block.0 < b + 1) seen.reads (planned_reads b n B p)
           (All-weaker (λ (q : Read). q.block.0 < b) (λ (q : Read). q.block.0 < b + 1) (λ q lt. omega arith) seen.reads reads_below)
-          (All-weaker (λ (q : Read). q.block.0 ≡ b) (λ (q : Read). q.block.0 < b + 1) (λ q is. omega arith) (planned_reads b n B p) (reads_in b p.end n B.ops p.steps)))
+          (All-weaker (λ (q : Read). q.block.0 ≡ b) (λ (q : Read). q.block.0 < b + 1) (λ q is. omega arith) (planned_reads b n B p)
+          (reads_in b p.end n B.ops p.steps)))
 
-      module _ (F : Seen) (is' : List Issue) (rs' : List Read) (ms' : List LiveRange) (final : F ≡ more seen1 is' rs' ms') (past : All (λ (q : Read). b + 1 ≤ q.block.0) rs') where
+      module _ (F : Seen) (is' : List Issue) (rs' : List Read) (ms' : List LiveRange) (final : F ≡ more seen1 is' rs' ms')
+          (past : All (λ (q : Read). b + 1 ≤ q.block.0) rs') where
         longer : Longer seen1 F
-        longer k m got = subst (λ (z : Seen). slice_get z.made k ≡ Some m) (sym final) (there_append seen1.made ms' k m got)
+        longer k m got = subst (λ (z : Seen). slice_get z.made k ≡ Some m) (sym final) (get_left seen1.made ms' k m got)
 
         reads_are : filter (is_live_out b) F.reads ≡ filter (is_live_out b) (planned_reads b n B p)
         reads_are =
             ap (λ (z : Seen). filter (is_live_out b) z.reads) final
             ∙ filter_parts (is_live_out b) seen1.reads rs'
-            ∙ ap (λ (qs : List Read). filter (is_live_out b) seen1.reads ++ qs) (no_read b rs' (All-weaker (λ (q : Read). b + 1 ≤ q.block.0) (λ (q : Read). q.block.0 ≢ b) (λ q le z. omega arith) rs' past))
+            ∙ ap (λ (qs : List Read). filter (is_live_out b) seen1.reads ++ qs) (no_read b rs'
+            (All-weaker (λ (q : Read). b + 1 ≤ q.block.0) (λ (q : Read). q.block.0 ≢ b) (λ q le z. omega arith) rs' past))
             ∙ append_nil (filter (is_live_out b) seen1.reads)
             ∙ ap (λ (z : Seen). filter (is_live_out b) z.reads) same
             ∙ filter_parts (is_live_out b) seen.reads (planned_reads b n B p)
-            ∙ ap (λ (qs : List Read). qs ++ filter (is_live_out b) (planned_reads b n B p)) (no_read b seen.reads (All-weaker (λ (q : Read). q.block.0 < b) (λ (q : Read). q.block.0 ≢ b) (λ q lt z. omega arith) seen.reads reads_below))
+            ∙ ap (λ (qs : List Read). qs ++ filter (is_live_out b) (planned_reads b n B p))
+            (no_read b seen.reads (All-weaker (λ (q : Read). q.block.0 < b) (λ (q : Read). q.block.0 ≢ b)
+            (λ q lt z. omega arith) seen.reads reads_below))
 
         block_facts : BlockFacts F b B
         block_facts =
@@ -231,10 +255,12 @@ module _ (f : Function) (lists : List (List NameId)) (t : Table) (fit : IsFit t)
             record {
               source = source;
               at = at;
-              term = term_is f lists t fit live (no_slot_clobbered t fit) (regs_kept t fit) (regs_apart t) b first source at entry values next;
+              term = term_is f lists t fit live (no_slot_clobbered t fit) (regs_kept t fit)
+                  (regs_apart t) b first source at entry values next;
               live_in = refl;
               live_out = refl;
-              outs = handed_longer x B (term_of B.ops) h.mid F (filter (is_live_out b) F.reads) (λ k m got. longer k m (h.later k m got)) (subst (H h.mid) (sym reads_are) h.holds);
+              outs = handed_longer x B (term_of B.ops) h.mid F (filter (is_live_out b) F.reads) (λ k m got. longer k m (h.later k m got))
+                  (subst (H h.mid) (sym reads_are) h.holds);
               ins = λ positive j y got. taken entry refl positive j y got;
             }
           where
@@ -244,18 +270,21 @@ module _ (f : Function) (lists : List (List NameId)) (t : Table) (fit : IsFit t)
                 let g0 : Growth = record { ops = []; values = values; next = next } in
                 let count = length (live_at lists b) + length (saved_registers t) in
                 let start = in_op first count in
-                let there = ap (λ (xs : List TempId). slice_get xs j) (sym (starts f lists t fit live (no_slot_clobbered t fit) (regs_kept t fit) (regs_apart t) b first source at entry values next)) ∙ got in
+                let there = ap (λ (xs : List TempId). slice_get xs j) (sym (starts f lists t fit live (no_slot_clobbered t fit)
+                (regs_kept t fit) (regs_apart t) b first source at entry values next)) ∙ got in
                 let number : y.0 ≡ next + j = temps_at next (length start.results) j y there in
                 let rooms = bound_rooms x (live_at lists b) in
                 let temps_size = length-map-range_with_len temp next (length start.results) in
-                let total = start_size f lists t fit live (no_slot_clobbered t fit) (regs_kept t fit) (regs_apart t) b first source at entry values next in
+                let total = start_size f lists t fit live (no_slot_clobbered t fit) (regs_kept t fit)
+                (regs_apart t) b first source at entry values next in
                 let rooms_size = length-append (map slot_of (live_at lists b)) (callee_saved t ++ (FIRST_SLOT + length x.names) ∷ []) in
                 let names_size = length-map (live_at lists b) slot_of in
                 let last_size = length-append (callee_saved t) ((FIRST_SLOT + length x.names) ∷ []) in
                 let within = slice_get_within (new_temps g0 (length start.results)) j y there in
                 let r = get_or rooms j 0 in
                 let room : slice_get rooms j ≡ Some r = slice_get-get_or rooms j 0 (omega arith) in
-                let made = start_made f lists t fit live (no_slot_clobbered t fit) (regs_kept t fit) (regs_apart t) b first source at entry values next p.end first_block is n j r room in
+                let made = start_made f lists t fit live (no_slot_clobbered t fit) (regs_kept t fit)
+                (regs_apart t) b first source at entry values next p.end first_block is n j r room in
                 record {
                   temp = made.temp;
                   there = ap (slice_get F.made) number
@@ -268,7 +297,8 @@ module _ (f : Function) (lists : List (List NameId)) (t : Table) (fit : IsFit t)
       → ((i : ℕ) (y : Block) → slice_get blocks i ≡ Some y → slice_get f.blocks (b + i) ≡ Some y) → (entry ≡ true → b ≡ 0)
       → length values ≡ first → length seen.made ≡ next → IsBelow t.clobbered b seen → All (λ (q : Read). q.block.0 < b) seen.reads
       → (let ext = ext_from f lists t fit live entry b first values next blocks in let plans = block_plans x entry ext in
-      F ≡ more seen (over_plans planned_issues b n ext plans) (over_plans planned_reads b n ext plans) (over_plans planned_made b n ext plans) → EachFacts b ext F)
+      F ≡ more seen (over_plans planned_issues b n ext plans) (over_plans planned_reads b n ext plans)
+      (over_plans planned_made b n ext plans) → EachFacts b ext F)
   facts_of [] entry b n first next values seen F there first_block long size below reads_below final = tt
   facts_of (source ∷ blocks) entry b n first next values seen F there first_block long size below reads_below final =
       let B' = made_block f lists t fit live entry b first values next source in
@@ -285,11 +315,13 @@ module _ (f : Function) (lists : List (List NameId)) (t : Table) (fit : IsFit t)
       let rs' = over_plans planned_reads (b + 1) n' ext plans in
       let ms' = over_plans planned_made (b + 1) n' ext plans in
       let final' : F ≡ more s1 is' rs' ms' =
-      final ∙ sym (ap (λ (z : Seen). more z is' rs' ms') same' ∙ more_more seen (planned_issues b n B' p') is' (planned_reads b n B' p') rs' (planned_made b n B' p') ms') in
+      final ∙ sym (more_behind seen s1 (planned_issues b n B' p') is' (planned_reads b n B' p') rs' (planned_made b n B' p') ms' same') in
       let next' : length s1.made ≡ G'.next =
-      steps_size t.clobbered (Handed x B' (term_of B'.ops)) b p'.end n seen B'.ops p'.steps (suits_of x entry B') ∙ ap (λ (k : ℕ). k + results_count B'.ops) size
+      steps_size t.clobbered (Handed x B' (term_of B'.ops)) b p'.end n seen B'.ops p'.steps (suits_of x entry B')
+      ∙ ap (λ (k : ℕ). k + results_count B'.ops) size
       ∙ sym (grown_next f lists t fit live entry b first values next source) in (
-        block_facts entry b first values next source at n seen first_block long size below reads_below F is' rs' ms' final' (reads_past (b + 1) n' ext plans),
+        block_facts entry b first values next source at n seen first_block long size below reads_below F is' rs' ms' final'
+            (reads_past (b + 1) n' ext plans),
         facts_of blocks false (b + 1) n' (past_block t lists b first source) G'.next G'.values s1 F
             (λ i y got. let z : b + 1 + i ≡ b + suc i = omega arith in ap (slice_get f.blocks) z ∙ there (suc i) y got)
             (λ z. absurd (cc z)) (grown_values f lists t fit live entry b first values next source long) next'
@@ -315,12 +347,16 @@ module _ (f : Function) (lists : List (List NameId)) (t : Table) (fit : IsFit t)
             let name = get_or b'.live_in j (record { 0 = 0 }) in
             let there : slice_get b'.live_in j ≡ Some name = slice_get-get_or b'.live_in j (record { 0 = 0 }) lt in
             let tail = callee_saved t ++ (FIRST_SLOT + length x.names) ∷ [] in
-            let room : slot_of name ≡ r = (let q = sym (get_left (map slot_of b'.live_in) tail j (slot_of name) (get_map slot_of b'.live_in j name there)) ∙ got in cc q) in
-            let in_b : Contains (live_at lists l) name = subst (λ (ns : List NameId). Contains ns name) hb.live_in (Contains-get_or b'.live_in j (record { 0 = 0 }) lt) in
-            let in_a : Contains a.live_out name = subst (λ (ns : List NameId). Contains ns name) (sym ha.live_out) (out_has f lists live k ha.source ha.at l to name in_b) in
+            let room : slot_of name ≡ r = (let q = sym (get_left (map slot_of b'.live_in) tail j (slot_of name)
+            (get_map slot_of b'.live_in j name there)) ∙ got in cc q) in
+            let in_b : Contains (live_at lists l) name = subst (λ (ns : List NameId). Contains ns name) hb.live_in
+            (Contains-get_or b'.live_in j (record { 0 = 0 }) lt) in
+            let in_a : Contains a.live_out name = subst (λ (ns : List NameId). Contains ns name) (sym ha.live_out)
+            (out_has f lists live k ha.source ha.at l to name in_b) in
             let found = place_found a.live_out name in_a in
             ap (λ (o : Option NameId). slice_get (bound_rooms x a.live_out) (place_by a b' j o)) there
-            ∙ get_left (map slot_of a.live_out) tail (place_by a b' j (Some name)) (slot_of name) (get_map slot_of a.live_out (place_by a b' j (Some name)) name found)
+            ∙ get_left (map slot_of a.live_out) tail (place_by a b' j (Some name)) (slot_of name)
+            (get_map slot_of a.live_out (place_by a b' j (Some name)) name found)
             ∙ ap (λ (n : ℕ). Some n) room
         by (inr le) =
             let tail = callee_saved t ++ (FIRST_SLOT + length x.names) ∷ [] in
@@ -332,14 +368,16 @@ module _ (f : Function) (lists : List (List NameId)) (t : Table) (fit : IsFit t)
             ∙ get_right (map slot_of a.live_out) tail (length a.live_out + d) d (omega arith)
             ∙ sym (get_right (map slot_of b'.live_in) tail j d (omega arith)) ∙ got
 
-    hands_over : (k l : ℕ) (a b' : ExtBlock) (ha : BlockFacts F k a) (hb : BlockFacts F l b') → Contains (targets_of k (term_of a.ops)) l → HandsOver S k a b'
+    hands_over : (k l : ℕ) (a b' : ExtBlock) (ha : BlockFacts F k a) (hb : BlockFacts F l b') → Contains (targets_of k (term_of a.ops)) l
+        → HandsOver S k a b'
     unfolding HandsOver
     hands_over k l a b' ha hb to j y got =
         let to' : Contains (targets_of k ha.source.term) l = subst (λ (term : Term). Contains (targets_of k term) l) ha.term to in
         let inside = leads_inside f k ha.source l ha.at to' in
         let taken = hb.ins inside.0 j y got in
         let zip = handed_zip x a (term_of a.ops) F (filter (is_live_out k) F.reads) k l to ha.outs in
-        let found = zip_at F (filter (is_live_out k) F.reads) (bound_rooms x a.live_out) (place_over a b' j) taken.temp.reg zip (place_room k l a b' ha hb to' j taken.temp.reg taken.room) in
+        let found = zip_at F (filter (is_live_out k) F.reads) (bound_rooms x a.live_out) (place_over a b' j) taken.temp.reg zip
+        (place_room k l a b' ha hb to' j taken.temp.reg taken.room) in
         let q = found.0 in
         ap (λ (rs : List Read). register_read S.ranges (slice_get (live_out_reads k rs) (place_over a b' j))) reads
         ∙ ap (register_read S.ranges) found.1

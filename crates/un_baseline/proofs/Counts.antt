@@ -41,7 +41,8 @@ count_append : (xs ys : List ExtOp) → results_count (xs ++ ys) ≡ results_cou
 count_append [] ys = omega arith
 count_append (x ∷ xs) ys = let a = count_append xs ys in omega arith
 
-count_copies : (first second : NodeCopy) (kind : Kind) (copied : Bool) (alts : List TempId) (n : ℕ) → results_count (copy_ops first second kind copied alts n) ≡ copy_count_by kind copied
+count_copies : (first second : NodeCopy) (kind : Kind) (copied : Bool) (alts : List TempId) (n : ℕ)
+    → results_count (copy_ops first second kind copied alts n) ≡ copy_count_by kind copied
 count_copies first second kind false alts n = refl
 count_copies first second General true alts n = refl
 count_copies first second Pred true alts n = refl
@@ -119,7 +120,8 @@ enter_count true Leave = refl
 enter_count false kind = refl
 
 module _ (names : List Kind) (live_in : List NameId) (entry saved : Bool) where
-  count_extended : (op : ExtOp) (g : Growth) → (with_extended names live_in entry saved op g).next ≡ g.next + results_count (extended_ops names live_in entry saved op g)
+  count_extended : (op : ExtOp) (g : Growth) → (with_extended names live_in entry saved op g).next
+      ≡ g.next + results_count (extended_ops names live_in entry saved op g)
   count_extended op g =
       let before = with_leave op.kind g in
       let read = with_operands op.operands before in
@@ -141,7 +143,8 @@ module _ (names : List Kind) (live_in : List NameId) (entry saved : Bool) where
       let ec = enter_count entry op.kind in
       omega arith
 
-  pub count_all : (ops : List ExtOp) (g : Growth) → (with_all_extended names live_in entry saved ops g).next ≡ g.next + results_count (all_ops names live_in entry saved ops g)
+  pub count_all : (ops : List ExtOp) (g : Growth) → (with_all_extended names live_in entry saved ops g).next
+      ≡ g.next + results_count (all_ops names live_in entry saved ops g)
   count_all [] g = omega arith
   count_all (op ∷ ops) g =
       let g' = with_extended names live_in entry saved op g in
@@ -205,29 +208,38 @@ module _ (names : List Kind) (live_in : List NameId) (entry saved : Bool) where
       let op = body_op t current first o in
       let read = with_operands op.operands g in
       let g' = with_extended names live_in entry saved op g in
-      term_past (Body o) read.next op.operands g (behind_op names live_in entry saved op g) (sorts_of names live_in saved (Body o) (length op.results))
-      (made_op names live_in entry saved op g) (all_ops names live_in entry saved (body_ops t (assigned current o.dst first) (past o.dst first) os ++ tail) g') (λ more. refl)
+      term_past (Body o) read.next op.operands g (behind_op names live_in entry saved op g)
+      (sorts_of names live_in saved (Body o) (length op.results))
+      (made_op names live_in entry saved op g) (all_ops names live_in entry saved
+      (body_ops t (assigned current o.dst first) (past o.dst first) os ++ tail) g') (λ more. refl)
       ∙ term_bodies t (assigned current o.dst first) (past o.dst first) os tail g' term h
 
   pub term_start : (op : ExtOp) (g : Growth) (rest : List ExtOp) → op.kind ≡ In → op.operands ≡ []
-      → term_of (extended_ops names live_in entry saved (record { kind = In; operands = []; results = op.results }) g ++ rest) ≡ term_of rest
+      → term_of (extended_ops names live_in entry saved (record { kind = In; operands = []; results = op.results }) g ++ rest)
+      ≡ term_of rest
   term_start op g rest is none =
       let start : ExtOp = record { kind = In; operands = []; results = op.results } in
-      term_past In g.next [] g (behind_op names live_in entry saved start g) (sorts_of names live_in saved In (length op.results)) (made_op names live_in entry saved start g) rest (λ more. refl)
+      term_past In g.next [] g (behind_op names live_in entry saved start g) (sorts_of names live_in saved In (length op.results))
+      (made_op names live_in entry saved start g) rest (λ more. refl)
 
-  pub term_out : (xs : List Operand) (g : Growth) → term_of (all_ops names live_in entry saved (record { kind = Out; operands = xs; results = [] } ∷ []) g) ≡ Fall
+  pub term_out : (xs : List Operand) (g : Growth) → term_of (all_ops names live_in entry saved
+      (record { kind = Out; operands = xs; results = [] } ∷ []) g) ≡ Fall
   term_out xs g =
       let out : ExtOp = record { kind = Out; operands = xs; results = [] } in
-      term_past Out (with_operands xs g).next xs g (behind_op names live_in entry saved out g) [] (made_op names live_in entry saved out g) [] (λ more. refl)
+      term_past Out (with_operands xs g).next xs g (behind_op names live_in entry saved out g) []
+      (made_op names live_in entry saved out g) [] (λ more. refl)
 
-  pub term_jump : (to : _) (rest : List ExtOp) (g : Growth) → term_of (all_ops names live_in entry saved (record { kind = End (Jump to); operands = []; results = [] } ∷ rest) g) ≡ Jump to
+  pub term_jump : (to : _) (rest : List ExtOp) (g : Growth) → term_of (all_ops names live_in entry saved
+      (record { kind = End (Jump to); operands = []; results = [] } ∷ rest) g) ≡ Jump to
   term_jump to rest g = refl
 
   pub term_branch : (pred : NameId) (sense : Bool) (to : _) (xs : List Operand) (rest : List ExtOp) (g : Growth)
-      → term_of (all_ops names live_in entry saved (record { kind = End (Branch pred sense to); operands = xs; results = [] } ∷ rest) g) ≡ Branch pred sense to
+      → term_of (all_ops names live_in entry saved (record { kind = End (Branch pred sense to); operands = xs; results = [] } ∷ rest) g)
+      ≡ Branch pred sense to
   term_branch pred sense to xs rest g =
       let op : ExtOp = record { kind = End (Branch pred sense to); operands = xs; results = [] } in
-      ap term_of (append_assoc (operands_ops xs g) (made_op names live_in entry saved op g ∷ enter_ops entry (End (Branch pred sense to))) (all_ops names live_in entry saved rest (with_extended names live_in entry saved op g)))
+      ap term_of (append_assoc (operands_ops xs g) (made_op names live_in entry saved op g ∷ enter_ops entry (End (Branch pred sense to)))
+      (all_ops names live_in entry saved rest (with_extended names live_in entry saved op g)))
       ∙ term_operands xs g _
 
   pub term_return : (value : Option NameId) (xs : List Operand) (rest : List ExtOp) (g : Growth)
@@ -235,12 +247,14 @@ module _ (names : List Kind) (live_in : List NameId) (entry saved : Bool) where
   term_return value xs rest g =
       let op : ExtOp = record { kind = End (Ret value); operands = xs; results = [] } in
       let before = with_leave (End (Ret value)) g in
-      ap term_of (append_assoc (operands_ops xs before) (made_op names live_in entry saved op before ∷ enter_ops entry (End (Ret value))) (all_ops names live_in entry saved rest (with_extended names live_in entry saved op g)))
+      ap term_of (append_assoc (operands_ops xs before) (made_op names live_in entry saved op before ∷ enter_ops entry (End (Ret value)))
+      (all_ops names live_in entry saved rest (with_extended names live_in entry saved op g)))
       ∙ term_operands xs before _
 
 -- ---- the linear block
 
-pub ending_bodies : (t : Table) (current : List ℕ) (first : ℕ) (os : List SrcOp) (tail : List ExtOp) → ending_of (body_ops t current first os ++ tail) ≡ ending_of tail
+pub ending_bodies : (t : Table) (current : List ℕ) (first : ℕ) (os : List SrcOp) (tail : List ExtOp)
+    → ending_of (body_ops t current first os ++ tail) ≡ ending_of tail
 ending_bodies t current first [] tail = refl
 ending_bodies t current first (o ∷ os) tail = ending_bodies t (assigned current o.dst first) (past o.dst first) os tail
 
@@ -281,7 +295,8 @@ enter_values true Leave g = refl
 enter_values false kind g = refl
 
 module _ (names : List Kind) (live_in : List NameId) (entry saved : Bool) where
-  extended_values : (op : ExtOp) (g : Growth) → length (with_extended names live_in entry saved op g).values ≡ length g.values + length (sorts_of names live_in saved op.kind (length op.results))
+  extended_values : (op : ExtOp) (g : Growth) → length (with_extended names live_in entry saved op g).values
+      ≡ length g.values + length (sorts_of names live_in saved op.kind (length op.results))
   extended_values op g =
       let before = with_leave op.kind g in
       let read = with_operands op.operands before in
@@ -296,7 +311,8 @@ module _ (names : List Kind) (live_in : List NameId) (entry saved : Bool) where
   past_is None n = omega arith
   past_is (Some name) n = refl
 
-  pub bodies_values : (t : Table) (current : List ℕ) (first : ℕ) (os : List SrcOp) (tail : List ExtOp) (g : Growth) → length g.values ≡ first
+  pub bodies_values : (t : Table) (current : List ℕ) (first : ℕ) (os : List SrcOp) (tail : List ExtOp) (g : Growth) → length g.values
+      ≡ first
       → ((g' : Growth) → length (with_all_extended names live_in entry saved tail g').values ≡ length g'.values)
       → length (with_all_extended names live_in entry saved (body_ops t current first os ++ tail) g).values ≡ past_all first os
   bodies_values t current first [] tail g long rest = rest g ∙ long
@@ -307,18 +323,22 @@ module _ (names : List Kind) (live_in : List NameId) (entry saved : Bool) where
       let a = length-replicate (length op.results) sort in
       let d = length-map (option_to_list o.dst) (λ (name : NameId). temp first) in
       let p = past_is o.dst first in
-      bodies_values t (assigned current o.dst first) (past o.dst first) os tail (with_extended names live_in entry saved op g) (omega arith) rest
+      bodies_values t (assigned current o.dst first) (past o.dst first) os tail (with_extended names live_in entry saved op g)
+      (omega arith) rest
 
   -- what is no value's definition adds none
-  pub others_values : (ops : List ExtOp) (g : Growth) → ((i : ℕ) (op : ExtOp) → slice_get ops i ≡ Some op → sorts_of names live_in saved op.kind (length op.results) ≡ [])
+  pub others_values : (ops : List ExtOp) (g : Growth) → ((i : ℕ) (op : ExtOp) → slice_get ops i ≡ Some op
+      → sorts_of names live_in saved op.kind (length op.results) ≡ [])
       → length (with_all_extended names live_in entry saved ops g).values ≡ length g.values
   others_values [] g none = refl
   others_values (op ∷ ops) g none =
       others_values ops (with_extended names live_in entry saved op g) (λ i x got. none (suc i) x got)
-      ∙ extended_values op g ∙ ap (λ (xs : List Sort). length g.values + length xs) (none 0 op refl) ∙ (let z : length g.values + 0 ≡ length g.values = omega arith in z)
+      ∙ extended_values op g ∙ ap (λ (xs : List Sort). length g.values + length xs) (none 0 op refl)
+      ∙ (let z : length g.values + 0 ≡ length g.values = omega arith in z)
 
   pub start_values : (n count : ℕ) (g : Growth) → length live_in ≤ count
-      → length (with_extended names live_in entry saved (record { kind = In; operands = []; results = map temp (range_with_len n count) }) g).values ≡ length g.values + count
+      → length (with_extended names live_in entry saved (record { kind = In; operands = []; results = map temp (range_with_len n count) })
+      g).values ≡ length g.values + count
   start_values n count g le =
       let start : ExtOp = record { kind = In; operands = []; results = map temp (range_with_len n count) } in
       let size : length start.results ≡ count = length-map-range_with_len temp n count in

@@ -44,7 +44,7 @@ use Rattle.un_baseline.specs.declared.plan.Progress.{Progress}
 use Rattle.un_baseline.specs.declared.plan.TheConstants.{PREDICATE}
 use Rattle.un_baseline.specs.SpillEverywhere.{purpose_of_out, slot_of, is_placed, kept_place, copies_of, out_place, handed_place, after_end, other_progress}
 use Rattle.un_baseline.proofs.Carried.{carries_same, carries_operands}
-use Rattle.un_baseline.proofs.Grown.{append_nil, operands_ops, enter_ops, all_ops}
+use Rattle.un_baseline.proofs.Grown.{operands_ops, enter_ops, all_ops}
 use Rattle.un_baseline.proofs.Sound.{Seen}
 use Rattle.un_baseline.proofs.Standing.{Stands}
 use Rattle.un_baseline.proofs.Walk.{Good}
@@ -52,10 +52,12 @@ use Rattle.un_baseline.proofs.Arrivals.{truth, operands_arrive, sort_by}
 use Rattle.un_baseline.proofs.Going.{SavedAt, LinkAt, Going, kept_as}
 use Rattle.un_baseline.proofs.Outs.{ReadsFrom, AreOut, AreOutReads, operands_rest, out_later, out_reads, out_good}
 use Rattle.un_baseline.proofs.Tailing.{transfer_good}
+use Rattle.un_baseline.proofs.Items.{all_at, append_nil}
 
 module _ (c : ℕ) (H : Seen → List Read → Type 0) (b end : ℕ) (e : Ext) (block : ExtBlock) (s : Setting) (fit : IsFit e.table)
     (free : (r : ℕ) → 36 ≤ r → in_mask c r ≡ false) (f : Function) (source : Block) (at : slice_get f.blocks b ≡ Some source)
-    (same_names : e.names ≡ map kind_of_pair f.names) (link_is : s.link ≡ 36 + length e.names) (live_in : List NameId) (entry saved : Bool) where
+    (same_names : e.names ≡ map kind_of_pair f.names) (link_is : s.link ≡ 36 + length e.names) (live_in : List NameId)
+    (entry saved : Bool) where
   abbrev G : ℕ → Progress → Seen → List ExtOp → Type 0
   G = Good c H b end e block s fit
 
@@ -98,10 +100,15 @@ module _ (c : ℕ) (H : Seen → List Read → Type 0) (b end : ℕ) (e : Ext) (
 
   outs_append : (g : Growth) (seen : Seen) (count j next : ℕ) (xs ys : List Operand) (rs qs : List ℕ) → next ≡ j + length xs
       → Outs g seen count j xs rs → Outs g seen count next ys qs → Outs g seen count j (xs ++ ys) (rs ++ qs)
-  outs_append g seen count j next [] ys [] qs is h k = let same : next ≡ j = omega arith in subst (λ (n : ℕ). Outs g seen count n ys qs) same k
+  outs_append g seen count j next [] ys [] qs is h k = let same : next ≡ j = omega arith in subst
+      (λ (n : ℕ). Outs g seen count n ys qs) same k
   outs_append g seen count j next [] ys (r ∷ rs) qs is h k = absurd h
   outs_append g seen count j next (x ∷ xs) ys [] qs is h k = absurd h
-  outs_append g seen count j next (x ∷ xs) ys (r ∷ rs) qs is h k = (h.0, outs_append g seen count (j + 1) next xs ys rs qs (omega arith) h.1 k)
+  outs_append g seen count j next (x ∷ xs) ys (r ∷ rs) qs is h k = (
+    h.0,
+    outs_append g seen count (j + 1) next xs ys rs qs
+        (omega arith) h.1 k,
+  )
 
   is_placed_by : (y : Operand) (own : List TempId) → first_of y.alts ≡ first_of own → is_placed s y.alts ≡ is_placed s own
   is_placed_by y own h = ap (λ (n : ℕ). nat_lt n s.placed) h
@@ -114,17 +121,21 @@ module _ (c : ℕ) (H : Seen → List Read → Type 0) (b end : ℕ) (e : Ext) (
   place_size true n k e = refl
   place_size false n k e = omega arith
 
-  module _ (kept0 link0 k : ℕ) (g : Growth) (current : List ℕ) (first : ℕ) (p : Progress) (seen : Seen) (h : Goes kept0 link0 k g current first p seen) where
+  module _ (kept0 link0 k : ℕ) (g : Growth) (current : List ℕ) (first : ℕ) (p : Progress) (seen : Seen)
+      (h : Goes kept0 link0 k g current first p seen) where
     -- names
-    module _ (count : ℕ) (hands : (j : ℕ) (y : Operand) → out_place e.names block.live_out s count s.term j y ≡ handed_place e.names s count j y (slice_get block.live_out j)) where
-      names_out : (j : ℕ) (ns : List NameId) → ((m : ℕ) (name : NameId) → slice_get ns m ≡ Some name → slice_get block.live_out (j + m) ≡ Some name)
+    module _ (count : ℕ) (hands : (j : ℕ) (y : Operand) → out_place e.names block.live_out s count s.term j y
+        ≡ handed_place e.names s count j y (slice_get block.live_out j)) where
+      names_out : (j : ℕ) (ns : List NameId) → ((m : ℕ) (name : NameId) → slice_get ns m ≡ Some name → slice_get block.live_out (j + m)
+          ≡ Some name)
           → ((m : ℕ) (name : NameId) → slice_get ns m ≡ Some name → IsLive f.blocks name b k)
           → Outs g seen count j (map (name_operand current None) ns) (map slot_of ns)
       names_out j [] there live = tt
       names_out j (name ∷ ns) there live =
           let n = h.names name (live 0 name refl) in
           let q = n.kept in
-          let at_j : slice_get block.live_out j ≡ Some name = (let z : j ≡ j + 0 = omega arith in ap (slice_get block.live_out) z ∙ there 0 name refl) in (
+          let at_j : slice_get block.live_out j ≡ Some name = (let z : j ≡ j + 0 = omega arith in ap (slice_get block.live_out) z
+          ∙ there 0 name refl) in (
             record {
               own = q.own;
               sort = sort_by (name_kind e.names name);
@@ -137,7 +148,8 @@ module _ (c : ℕ) (H : Seen → List Read → Type 0) (b end : ℕ) (e : Ext) (
                   ∙ ap (λ (t : Bool). if t then 0 else copies_of (name_kind e.names name)) (is_placed_by y q.own same)
                   ∙ place_size (is_placed s q.own) (length q.own) (copies_of (name_kind e.names name)) q.size;
             },
-            names_out (j + 1) ns (λ m x got. let z : j + 1 + m ≡ j + suc m = omega arith in ap (slice_get block.live_out) z ∙ there (suc m) x got)
+            names_out (j + 1) ns (λ m x got. let z : j + 1 + m ≡ j + suc m = omega arith in ap (slice_get block.live_out) z
+                ∙ there (suc m) x got)
                 (λ m x got. live (suc m) x got),
           )
 
@@ -192,9 +204,11 @@ module _ (c : ℕ) (H : Seen → List Read → Type 0) (b end : ℕ) (e : Ext) (
               home = tt;
               chooses = λ y same. hands j y ∙ ap (handed_place e.names s count j y) at_j ∙ saved_zero (is_placed s y.alts) j (omega arith);
             },
-            subst (λ (x : ℕ). Outs g seen count (j + 1) (map (λ (n : ℕ). reads n None) (range_with_len x (suc (length regs)))) (regs ++ s.link ∷ [])) next
+            subst (λ (x : ℕ). Outs g seen count (j + 1) (map (λ (n : ℕ). reads n None) (range_with_len x (suc (length regs))))
+                (regs ++ s.link ∷ [])) next
                 (saved_out (i + 1) (j + 1) regs
-                (λ m x got. let w : kept0 + (i + suc m) ≡ kept0 + (i + 1 + m) = omega arith in subst (λ (y : ℕ). SavedHere g seen y x) w (saved_at (suc m) x got))
+                (λ m x got. let w : kept0 + (i + suc m) ≡ kept0 + (i + 1 + m) = omega arith in subst (λ (y : ℕ). SavedHere g seen y x) w
+                (saved_at (suc m) x got))
                 (let w : kept0 + (i + suc (length regs)) ≡ kept0 + (i + 1 + length regs) = omega arith in subst (LinkHere g seen) w link)
                 (λ m. let w : j + 1 + m ≡ j + suc m = omega arith in ap (slice_get block.live_out) w ∙ none (suc m))
                 (omega arith)),
@@ -221,7 +235,8 @@ module _ (c : ℕ) (H : Seen → List Read → Type 0) (b end : ℕ) (e : Ext) (
           },
           subst (λ (x : ℕ). Outs g seen count (j + 1) (kept_operands x regs) regs) next
               (kept_out count (i + 1) (j + 1) regs
-              (λ m x got. let w : kept0 + (i + suc m) ≡ kept0 + (i + 1 + m) = omega arith in subst (λ (y : ℕ). SavedHere g seen y x) w (saved_at (suc m) x got))
+              (λ m x got. let w : kept0 + (i + suc m) ≡ kept0 + (i + 1 + m) = omega arith in subst (λ (y : ℕ). SavedHere g seen y x) w
+              (saved_at (suc m) x got))
               (λ n y le. zeros n y (omega arith))),
         )
 
@@ -235,10 +250,12 @@ module _ (c : ℕ) (H : Seen → List Read → Type 0) (b end : ℕ) (e : Ext) (
   OutAsks rs = (seen' : Seen) (qs : List Read) → AllZip (ReadsFrom seen') qs rs → H seen' qs
 
   pub out_after : (n : ℕ) (p : Progress) (seen : Seen) (g : Growth) (xs : List Operand) (rs : List ℕ) → Outs g seen (length xs) 0 xs rs
-      → purpose_of_out s.term ≡ Unread → OutAsks rs → G n p seen (all_ops e.names live_in entry saved (record { kind = Out; operands = xs; results = [] } ∷ []) g)
+      → purpose_of_out s.term ≡ Unread → OutAsks rs → G n p seen (all_ops e.names live_in entry saved
+      (record { kind = Out; operands = xs; results = [] } ∷ []) g)
   out_after n p seen g xs rs h quiet wanted =
       subst (G n p seen) (sym (out_shape xs g))
-      (operands_rest c H b end e block s fit xs n p seen g (record { kind = Out; operands = new_operands xs g; results = [] } ∷ []) Unread quiet (inl refl)
+      (operands_rest c H b end e block s fit xs n p seen g (record { kind = Out; operands = new_operands xs g; results = [] } ∷ []) Unread
+      quiet (inl refl)
       (λ m p' seen' count same idle. out_good c H b end e block s fit m p' seen' (new_operands xs g) rs
       (subst (λ (z : ℕ). AreOutReads c H b end e block s fit seen' z 0 (new_operands xs g) rs) (sym (new_size xs g))
       (out_reads c H b end e block s fit g seen' (length xs) 0 xs rs
@@ -256,15 +273,12 @@ module _ (c : ℕ) (H : Seen → List Read → Type 0) (b end : ℕ) (e : Ext) (
   all_map_high [] = All-nil IsHigh
   all_map_high (name ∷ ns) = All-cons IsHigh (slot_of name) (map slot_of ns) (omega arith, λ z. omega arith) (all_map_high ns)
 
-  from_places : (P : ℕ → Type 0) (regs : List ℕ) → ((j r : ℕ) → slice_get regs j ≡ Some r → P r) → All P regs
-  from_places P [] h = All-nil P
-  from_places P (r ∷ regs) h = All-cons P r regs (h 0 r refl) (from_places P regs (λ j q got. h (suc j) q got))
-
   -- all but low registers stands behind what comes before the end
   abbrev KeepsHigh : Seen → Seen → Type 0
   KeepsHigh seen seen' = (k r : ℕ) → 6 ≤ r → r ≢ PREDICATE → Stands c b k r seen → Stands c b k r seen'
 
-  high_stands : (seen seen' : Seen) (rs : List ℕ) → KeepsHigh seen seen' → All IsHigh rs → All (λ (r : ℕ). (k : ℕ) → Stands c b k r seen → Stands c b k r seen') rs
+  high_stands : (seen seen' : Seen) (rs : List ℕ) → KeepsHigh seen seen' → All IsHigh rs
+      → All (λ (r : ℕ). (k : ℕ) → Stands c b k r seen → Stands c b k r seen') rs
   high_stands seen seen' rs keeps high i d lt k st = let x = high i d lt in keeps k _ x.0 x.1 st
 
   module _ (kept0 link0 : ℕ) (g : Growth) (current : List ℕ) (first : ℕ) (p : Progress) (seen : Seen)
@@ -273,14 +287,16 @@ module _ (c : ℕ) (H : Seen → List Read → Type 0) (b end : ℕ) (e : Ext) (
     rooms_high ns =
         All-append IsHigh (map slot_of ns) (callee_saved e.table ++ s.link ∷ []) (all_map_high ns)
         (All-append IsHigh (callee_saved e.table) (s.link ∷ [])
-        (from_places IsHigh (callee_saved e.table) (λ j r got. let q = h.saved_at j r got in (q.safe.high, q.safe.other)))
+        (all_at IsHigh (callee_saved e.table) (λ j r got. let q = h.saved_at j r got in (q.safe.high, q.safe.other)))
         (All-cons IsHigh s.link [] (omega arith, λ z. omega arith) (All-nil IsHigh)))
 
     abbrev onward_operands : List NameId → List Operand
-    onward_operands ns = map (name_operand current None) ns ++ map (λ (n : ℕ). reads n None) (range_with_len kept0 (length (saved_registers e.table)))
+    onward_operands ns = map (name_operand current None) ns ++ map (λ (n : ℕ). reads n None)
+        (range_with_len kept0 (length (saved_registers e.table)))
 
     saved_size : length (saved_registers e.table) ≡ suc (length (callee_saved e.table))
-    saved_size = length-append (callee_saved e.table) (LINK ∷ []) ∙ (let z : length (callee_saved e.table) + 1 ≡ suc (length (callee_saved e.table)) = omega arith in z)
+    saved_size = length-append (callee_saved e.table) (LINK ∷ []) ∙ (let z : length (callee_saved e.table) + 1
+        ≡ suc (length (callee_saved e.table)) = omega arith in z)
 
     past_names : (ns : List NameId) (m : ℕ) → slice_get ns (length ns + m) ≡ None
     past_names ns m = slice_get_past ns (length ns + m) (omega arith)
@@ -290,17 +306,22 @@ module _ (c : ℕ) (H : Seen → List Read → Type 0) (b end : ℕ) (e : Ext) (
 
     onward_outs : (ns : List NameId) (count : ℕ) → block.live_out ≡ ns → count ≡ length ns + length (saved_registers e.table)
         → ((m : ℕ) (name : NameId) → slice_get ns m ≡ Some name → IsLive f.blocks name b (length source.ops))
-        → ((j : ℕ) (y : Operand) → out_place e.names block.live_out s count s.term j y ≡ handed_place e.names s count j y (slice_get block.live_out j))
+        → ((j : ℕ) (y : Operand) → out_place e.names block.live_out s count s.term j y
+        ≡ handed_place e.names s count j y (slice_get block.live_out j))
         → Outs g seen count 0 (onward_operands ns) (handed_rooms ns)
     onward_outs ns count is size live hands =
         let n = length (callee_saved e.table) in
         let saved_size' = saved_size in
-        outs_append g seen count 0 (length ns) (map (name_operand current None) ns) (map (λ (x : ℕ). reads x None) (range_with_len kept0 (length (saved_registers e.table))))
+        outs_append g seen count 0 (length ns) (map (name_operand current None) ns)
+        (map (λ (x : ℕ). reads x None) (range_with_len kept0 (length (saved_registers e.table))))
         (map slot_of ns) (callee_saved e.table ++ s.link ∷ []) (let z = map_size ns in omega arith)
         (names_out kept0 link0 (length source.ops) g current first p seen h count hands 0 ns
-        (λ m name got. (let z : 0 + m ≡ m = omega arith in ap (slice_get block.live_out) z ∙ ap (λ (xs : List NameId). slice_get xs m) is ∙ got)) live)
-        (subst (λ (z : ℕ). Outs g seen count (length ns) (map (λ (x : ℕ). reads x None) (range_with_len kept0 z)) (callee_saved e.table ++ s.link ∷ [])) (sym saved_size)
-        (subst (λ (z : ℕ). Outs g seen count (length ns) (map (λ (x : ℕ). reads x None) (range_with_len z (suc n))) (callee_saved e.table ++ s.link ∷ [])) (let z : kept0 + 0 ≡ kept0 = omega arith in z)
+        (λ m name got. (let z : 0 + m ≡ m = omega arith in ap (slice_get block.live_out) z ∙ ap (λ (xs : List NameId). slice_get xs m) is
+        ∙ got)) live)
+        (subst (λ (z : ℕ). Outs g seen count (length ns) (map (λ (x : ℕ). reads x None) (range_with_len kept0 z))
+        (callee_saved e.table ++ s.link ∷ [])) (sym saved_size)
+        (subst (λ (z : ℕ). Outs g seen count (length ns) (map (λ (x : ℕ). reads x None) (range_with_len z (suc n)))
+        (callee_saved e.table ++ s.link ∷ [])) (let z : kept0 + 0 ≡ kept0 = omega arith in z)
         (saved_out kept0 link0 (length source.ops) g current first p seen h count hands 0 (length ns) (callee_saved e.table)
         (λ m r got. let z : kept0 + m ≡ kept0 + (0 + m) = omega arith in subst (λ (x : ℕ). SavedHere g seen x r) z (h.saved_at m r got))
         (let z : link0 ≡ kept0 + (0 + n) = omega arith in subst (LinkHere g seen) z h.link)
@@ -309,7 +330,8 @@ module _ (c : ℕ) (H : Seen → List Read → Type 0) (b end : ℕ) (e : Ext) (
 
     onward_size : (ns : List NameId) → length (onward_operands ns) ≡ length ns + length (saved_registers e.table)
     onward_size ns =
-        length-append (map (name_operand current None) ns) (map (λ (n : ℕ). reads n None) (range_with_len kept0 (length (saved_registers e.table))))
+        length-append (map (name_operand current None) ns) (map (λ (n : ℕ). reads n None)
+        (range_with_len kept0 (length (saved_registers e.table))))
         ∙ (let a = map_size ns in
         let d = length-map (range_with_len kept0 (length (saved_registers e.table))) (λ (n : ℕ). reads n None) in
         let l = length-range_with_len kept0 (length (saved_registers e.table)) in omega arith)
@@ -323,16 +345,19 @@ module _ (c : ℕ) (H : Seen → List Read → Type 0) (b end : ℕ) (e : Ext) (
     All' ops x = all_ops e.names live_in entry saved ops x
 
     abbrev HandsOut : List NameId → Type 0
-    HandsOut ns = (count j : ℕ) (y : Operand) → out_place e.names block.live_out s count s.term j y ≡ handed_place e.names s count j y (slice_get block.live_out j)
+    HandsOut ns = (count j : ℕ) (y : Operand) → out_place e.names block.live_out s count s.term j y
+        ≡ handed_place e.names s count j y (slice_get block.live_out j)
 
     abbrev AreLiveHere : List NameId → Type 0
     AreLiveHere ns = (m : ℕ) (name : NameId) → slice_get ns m ≡ Some name → IsLive f.blocks name b (length source.ops)
 
     -- a block that falls through
-    pub fall_good : (n : ℕ) (ns : List NameId) → block.live_out ≡ ns → AreLiveHere ns → HandsOut ns → purpose_of_out s.term ≡ Unread → OutAsks (handed_rooms ns)
+    pub fall_good : (n : ℕ) (ns : List NameId) → block.live_out ≡ ns → AreLiveHere ns → HandsOut ns → purpose_of_out s.term ≡ Unread
+        → OutAsks (handed_rooms ns)
         → G n p seen (All' (out_of ns ∷ []) g)
     fall_good n ns is live hands quiet wanted =
-        out_after n p seen g (onward_operands ns) (handed_rooms ns) (onward_outs ns (length (onward_operands ns)) is (onward_size ns) live (hands (length (onward_operands ns)))) quiet wanted
+        out_after n p seen g (onward_operands ns) (handed_rooms ns) (onward_outs ns (length (onward_operands ns)) is (onward_size ns) live
+        (hands (length (onward_operands ns)))) quiet wanted
 
     -- the end behind a transfer
     behind_good : (n : ℕ) (q : Progress) (seen' : Seen) (term : Term) (xs : List Operand) (ns : List NameId) → KeepsHigh seen seen'
@@ -345,19 +370,22 @@ module _ (c : ℕ) (H : Seen → List Read → Type 0) (b end : ℕ) (e : Ext) (
         (out_after n q seen' (ended term xs g) ys rs
         (out_later c H b end e block s fit g (ended term xs g) seen seen' (length ys) 0 ys rs
         (λ x own sort k. carries_same (with_operands xs g) (ended term xs g) x own sort refl (carries_operands xs g x own sort k))
-        (high_stands seen seen' rs keeps (rooms_high ns)) (onward_outs ns (length ys) is (onward_size ns) live (hands (length ys)))) quiet wanted)
+        (high_stands seen seen' rs keeps (rooms_high ns)) (onward_outs ns (length ys) is (onward_size ns) live (hands (length ys)))) quiet
+        wanted)
 
     abbrev end_at : Term → List Operand → ExtOp
     end_at term xs = record { kind = End term; operands = xs; results = [] }
 
     -- the operations of a jump, and of what follows
     jump_shape : (term : Term) (xs : List Operand) (rest : List ExtOp)
-        → (operands_ops xs g ++ (end_at term (new_operands xs g) ∷ enter_ops entry (End term))) ++ rest ≡ operands_ops xs g ++ (end_at term (new_operands xs g) ∷ rest)
+        → (operands_ops xs g ++ (end_at term (new_operands xs g) ∷ enter_ops entry (End term))) ++ rest ≡ operands_ops xs g
+        ++ (end_at term (new_operands xs g) ∷ rest)
     jump_shape term xs rest =
         ap (λ (es : List ExtOp). (operands_ops xs g ++ (end_at term (new_operands xs g) ∷ es)) ++ rest) (no_enter entry term)
         ∙ append_assoc (operands_ops xs g) (end_at term (new_operands xs g) ∷ []) rest
 
-    pub jump_good : (n : ℕ) (to : BlockId) (ns : List NameId) → block.live_out ≡ ns → AreLiveHere ns → HandsOut ns → purpose_of_out s.term ≡ Unread → OutAsks (handed_rooms ns)
+    pub jump_good : (n : ℕ) (to : BlockId) (ns : List NameId) → block.live_out ≡ ns → AreLiveHere ns → HandsOut ns → purpose_of_out s.term
+        ≡ Unread → OutAsks (handed_rooms ns)
         → G n p seen (All' (end_at (Jump to) [] ∷ out_of ns ∷ []) g)
     jump_good n to ns is live hands quiet wanted =
         let rest = All' (out_of ns ∷ []) (with_enter entry (End (Jump to)) (ended (Jump to) [] g)) in
@@ -366,7 +394,8 @@ module _ (c : ℕ) (H : Seen → List Read → Type 0) (b end : ℕ) (e : Ext) (
         (λ seen' passed. behind_good (n + 1) (other_progress (after_end e.table (Jump to) p.cycle) Other) seen' (Jump to) [] ns
         (λ k r high other st. passed.stands k r st) is live hands quiet wanted))
 
-    branch_by : (sense : Bool) (n : ℕ) (pred : NameId) (to : BlockId) (o : Op) (ns : List NameId) → transfer_of (Branch pred sense to) ≡ Some o → o ≢ Call
+    branch_by : (sense : Bool) (n : ℕ) (pred : NameId) (to : BlockId) (o : Op) (ns : List NameId) → transfer_of (Branch pred sense to)
+        ≡ Some o → o ≢ Call
         → InSpace PREDICATE (space_read (Some o) 0) → kind_of f.names pred ≡ Some Pred → IsLive f.blocks pred b (length source.ops)
         → block.live_out ≡ ns → AreLiveHere ns → HandsOut ns → purpose_of_out s.term ≡ Unread → OutAsks (handed_rooms ns)
         → G n p seen (All' (end_at (Branch pred sense to) (name_operand current None pred ∷ []) ∷ out_of ns ∷ []) g)
@@ -375,14 +404,18 @@ module _ (c : ℕ) (H : Seen → List Read → Type 0) (b end : ℕ) (e : Ext) (
         let x = name_operand current None pred in
         let xs = x ∷ [] in
         let rest = All' (out_of ns ∷ []) (with_enter entry (End term) (ended term xs g)) in
-        let k = kept_as c H b end e block s fit free f source at same_names link_is live_in entry saved g seen (slice_index current pred.0) pred Pred kind (h.names pred at_pred) in
+        let k = kept_as c H b end e block s fit free f source at same_names link_is live_in entry saved g seen
+        (slice_index current pred.0) pred Pred kind (h.names pred at_pred) in
         subst (G n p seen) (sym (jump_shape term xs rest))
-        (operands_arrive c H b end e block s fit xs (PREDICATE ∷ []) n p seen g (end_at term (new_operands xs g) ∷ rest) (truth k tt) h.operands (omega arith) h.front h.size refl
-        (λ m q mid le a. transfer_good c H b end e block s fit m q mid term o (new_operands xs g) rest (PREDICATE ∷ []) op ne a.arrived (space, tt, tt)
+        (operands_arrive c H b end e block s fit xs (PREDICATE ∷ []) n p seen g (end_at term (new_operands xs g) ∷ rest)
+        (truth k tt) h.operands (omega arith) h.front h.size refl
+        (λ m q mid le a. transfer_good c H b end e block s fit m q mid term o (new_operands xs g) rest (PREDICATE ∷ []) op ne a.arrived
+        (space, tt, tt)
         (λ seen' passed. behind_good (m + 1) (other_progress (after_end e.table term q.cycle) Other) seen' term xs ns
         (λ i r high other st. passed.stands i r (a.stands i r high other st)) is live hands quiet wanted)))
 
-    pub branch_good : (sense : Bool) (n : ℕ) (pred : NameId) (to : BlockId) (ns : List NameId) → kind_of f.names pred ≡ Some Pred → IsLive f.blocks pred b (length source.ops)
+    pub branch_good : (sense : Bool) (n : ℕ) (pred : NameId) (to : BlockId) (ns : List NameId) → kind_of f.names pred ≡ Some Pred
+        → IsLive f.blocks pred b (length source.ops)
         → block.live_out ≡ ns → AreLiveHere ns → HandsOut ns → purpose_of_out s.term ≡ Unread → OutAsks (handed_rooms ns)
         → G n p seen (All' (end_at (Branch pred sense to) (name_operand current None pred ∷ []) ∷ out_of ns ∷ []) g)
     branch_good true n pred to ns = branch_by true n pred to JumpIf ns refl (λ z. cc z) refl

@@ -43,7 +43,8 @@ use Rattle.un_baseline.proofs.Sources.{kind_named, ready_op}
 
 module _ (c : ℕ) (H : Seen → List Read → Type 0) (b end : ℕ) (e : Ext) (block : ExtBlock) (s : Setting) (fit : IsFit e.table)
     (free : (r : ℕ) → 36 ≤ r → in_mask c r ≡ false) (f : Function) (source : Block) (at : slice_get f.blocks b ≡ Some source)
-    (same_names : e.names ≡ map kind_of_pair f.names) (link_is : s.link ≡ 36 + length e.names) (live_in : List NameId) (entry saved : Bool) where
+    (same_names : e.names ≡ map kind_of_pair f.names) (link_is : s.link ≡ 36 + length e.names) (live_in : List NameId)
+    (entry saved : Bool) where
   abbrev G : ℕ → Progress → Seen → List ExtOp → Type 0
   G = Good c H b end e block s fit
 
@@ -99,12 +100,14 @@ module _ (c : ℕ) (H : Seen → List Read → Type 0) (b end : ℕ) (e : Ext) (
             room = k.room;
             slot = k.slot;
             stands = subst (λ (r : ℕ). Stands c b (chosen k.own (kept_place s k.own)).0 r seen') (sym h.room)
-                (stands (chosen k.own (kept_place s k.own)).0 (subst (λ (r : ℕ). Stands c b (chosen k.own (kept_place s k.own)).0 r seen) h.room k.stands));
+                (stands (chosen k.own (kept_place s k.own)).0 (subst (λ (r : ℕ). Stands c b (chosen k.own (kept_place s k.own)).0 r seen)
+                h.room k.stands));
           };
           room = h.room;
         }
 
-    saved_later : (x r : ℕ) → ((k : ℕ) → Safe c H b end e block s fit r → r < 31 → Stands c b k r seen → Stands c b k r seen') → SavedAt g seen x r → SavedAt g' seen' x r
+    saved_later : (x r : ℕ) → ((k : ℕ) → Safe c H b end e block s fit r → r < 31 → Stands c b k r seen → Stands c b k r seen')
+        → SavedAt g seen x r → SavedAt g' seen' x r
     saved_later x r stands h = record {
       own = h.own;
       carries = carries x h.own saved_sort h.carries;
@@ -124,7 +127,8 @@ module _ (c : ℕ) (H : Seen → List Read → Type 0) (b end : ℕ) (e : Ext) (
     }
 
   -- a name that is live behind an operation and not assigned by it is live before it
-  live_before : (k : ℕ) (o : SrcOp) (name : NameId) → slice_get source.ops k ≡ Some o → o.dst ≢ Some name → IsLive f.blocks name b (k + 1) → IsLive f.blocks name b k
+  live_before : (k : ℕ) (o : SrcOp) (name : NameId) → slice_get source.ops k ≡ Some o → o.dst ≢ Some name → IsLive f.blocks name b (k + 1)
+      → IsLive f.blocks name b k
   live_before k o name here other live =
       let lt = slice_get_within source.ops k o here in
       kept b k source b (k + 1) at (omega arith)
@@ -142,37 +146,41 @@ module _ (c : ℕ) (H : Seen → List Read → Type 0) (b end : ℕ) (e : Ext) (
       name_at : ℕ → NameId
       name_at n = record { 0 = n }
 
-  module _ (kept0 link0 k : ℕ) (o : SrcOp) (here : slice_get source.ops k ≡ Some o) (g g' : Growth) (current : List ℕ) (first : ℕ) (p p' : Progress) (seen seen' : Seen)
+  module _ (kept0 link0 k : ℕ) (o : SrcOp) (here : slice_get source.ops k ≡ Some o) (g g' : Growth) (current : List ℕ) (first : ℕ)
+      (p p' : Progress) (seen seen' : Seen)
       (h : Going kept0 link0 k g current first p seen) (le : p.cycle ≤ p'.cycle) (none : p'.operands ≡ 0) where
     module _ (dst : Option NameId) (is : o.dst ≡ dst) (grew : Grew c H b end e block s fit dst g g' p'.cycle seen seen')
         (few : IfSome dst (λ (name : NameId). name.0 < length e.names)) (now : List ℕ) (next : ℕ) (whole : length now ≡ length current)
         (values : length g'.values ≡ next)
-        (names : (name : NameId) → IsLive f.blocks name b (k + 1) → Named c H b end e block s fit g' seen' (slice_index now name.0) name) where
-      not_low : (r : ℕ) → r < 31 → (d : Option NameId) → IfSome d (λ (name : NameId). r ≢ slot_of name)
-      not_low r low None = tt
-      not_low r low (Some name) = λ z. omega arith
+        (names : (name : NameId) → IsLive f.blocks name b (k + 1) → Named c H b end e block s fit g' seen' (slice_index now name.0) name)
+      where
+        not_low : (r : ℕ) → r < 31 → (d : Option NameId) → IfSome d (λ (name : NameId). r ≢ slot_of name)
+        not_low r low None = tt
+        not_low r low (Some name) = λ z. omega arith
 
-      not_link : (d : Option NameId) → IfSome d (λ (name : NameId). name.0 < length e.names) → IfSome d (λ (name : NameId). s.link ≢ slot_of name)
-      not_link None small = tt
-      not_link (Some name) small = λ z. omega arith
+        not_link : (d : Option NameId) → IfSome d (λ (name : NameId). name.0 < length e.names)
+            → IfSome d (λ (name : NameId). s.link ≢ slot_of name)
+        not_link None small = tt
+        not_link (Some name) small = λ z. omega arith
 
-      going_with : Going kept0 link0 (k + 1) g' now next p' seen'
-      going_with = record {
-        size = grew.size;
-        values = values;
-        front = grew.front;
-        started = (let a = h.started in omega arith);
-        operands = none;
-        placed = (let a = h.placed in let d = grew.grows in omega arith);
-        whole = whole ∙ h.whole;
-        names = names;
-        saved_at = λ j r got. saved_later g g' seen seen' grew.carries (kept0 + j) r
-            (λ n safe low st. grew.stands n r safe (not_low r low dst) st) (h.saved_at j r got);
-        link = link_later g g' seen seen' grew.carries link0
-            (λ n st. grew.stands n s.link (safe_slot s.link (omega arith)) (not_link dst few) st) h.link;
-      }
+        going_with : Going kept0 link0 (k + 1) g' now next p' seen'
+        going_with = record {
+          size = grew.size;
+          values = values;
+          front = grew.front;
+          started = (let a = h.started in omega arith);
+          operands = none;
+          placed = (let a = h.placed in let d = grew.grows in omega arith);
+          whole = whole ∙ h.whole;
+          names = names;
+          saved_at = λ j r got. saved_later g g' seen seen' grew.carries (kept0 + j) r
+              (λ n safe low st. grew.stands n r safe (not_low r low dst) st) (h.saved_at j r got);
+          link = link_later g g' seen seen' grew.carries link0
+              (λ n st. grew.stands n s.link (safe_slot s.link (omega arith)) (not_link dst few) st) h.link;
+        }
 
-    old_name : (dst : Option NameId) → o.dst ≡ dst → Grew c H b end e block s fit dst g g' p'.cycle seen seen' → (name : NameId) → dst ≢ Some name
+    old_name : (dst : Option NameId) → o.dst ≡ dst → Grew c H b end e block s fit dst g g' p'.cycle seen seen' → (name : NameId)
+        → dst ≢ Some name
         → IfSome dst (λ (d : NameId). slot_of name ≢ slot_of d)
         → IsLive f.blocks name b (k + 1) → Named c H b end e block s fit g' seen' (slice_index current name.0) name
     old_name dst is grew name other apart live =
@@ -181,7 +189,8 @@ module _ (c : ℕ) (H : Seen → List Read → Type 0) (b end : ℕ) (e : Ext) (
         (h.names name (live_before k o name here (λ same. other (sym is ∙ same)) live))
 
     going_by : (dst : Option NameId) → o.dst ≡ dst → IfSome dst (λ (name : NameId). name.0 < length e.names)
-        → Grew c H b end e block s fit dst g g' p'.cycle seen seen' → Going kept0 link0 (k + 1) g' (assigned current dst first) (past dst first) p' seen'
+        → Grew c H b end e block s fit dst g g' p'.cycle seen seen' → Going kept0 link0 (k + 1) g' (assigned current dst first)
+        (past dst first) p' seen'
     going_by None is few grew =
         going_with None is grew few current first refl (grew.values ∙ (let v = h.values in omega arith))
         (λ name live. old_name None is grew name (λ z. cc z) tt live)
@@ -201,7 +210,8 @@ module _ (c : ℕ) (H : Seen → List Read → Type 0) (b end : ℕ) (e : Ext) (
             (subst (λ (y : NameId). Named c H b end e block s fit g' seen' (length g.values) y) (same_name d name same) grew.new)
         by name live false t =
             let ne : d.0 ≢ name.0 = λ same. (let yes : nat_eq d.0 name.0 ≡ true = rw same (grind arith) in cc (sym t ∙ yes)) in
-            let x : slice_index (slice_set current d.0 first) name.0 ≡ slice_index current name.0 = get_or-set_other current d.0 name.0 first 0 (λ z. ne (sym z)) in
+            let x : slice_index (slice_set current d.0 first) name.0 ≡ slice_index current name.0 = get_or-set_other current d.0 name.0
+            first 0 (λ z. ne (sym z)) in
             subst (λ (y : ℕ). Named c H b end e block s fit g' seen' y name) (sym x)
             (old_name (Some d) is grew name (λ z. ne (let q : d ≡ name = cc z in ap (λ (y : NameId). y.0) q)) (λ z. ne (omega arith)) live)
 
@@ -215,11 +225,13 @@ module _ (c : ℕ) (H : Seen → List Read → Type 0) (b end : ℕ) (e : Ext) (
   kept_as g seen x name kind is h = subst (Kept c H b end e block s fit g seen x)
       (ap (λ (ks : List Kind). name_kind ks name) same_names ∙ kind_named f.names name kind is) h.kept
 
-  pub bodies_good : (kept0 link0 : ℕ) (os : List SrcOp) (k n : ℕ) (g : Growth) (current : List ℕ) (first : ℕ) (p : Progress) (seen : Seen) (tail : List ExtOp)
+  pub bodies_good : (kept0 link0 : ℕ) (os : List SrcOp) (k n : ℕ) (g : Growth) (current : List ℕ) (first : ℕ) (p : Progress) (seen : Seen)
+      (tail : List ExtOp)
       → ((m : ℕ) (o : SrcOp) → slice_get os m ≡ Some o → slice_get source.ops (k + m) ≡ Some o) → k + length os ≡ length source.ops
       → ((m : ℕ) (o : SrcOp) → slice_get os m ≡ Some o → IfSome o.dst (λ (name : NameId). name.0 < length e.names))
       → Going kept0 link0 k g current first p seen
-      → ((n' : ℕ) (g' : Growth) (p' : Progress) (seen' : Seen) → Going kept0 link0 (length source.ops) g' (current_after current first os) (past_all first os) p' seen'
+      → ((n' : ℕ) (g' : Growth) (p' : Progress) (seen' : Seen) → Going kept0 link0 (length source.ops) g' (current_after current first os)
+      (past_all first os) p' seen'
       → G n' p' seen' (all_ops e.names live_in entry saved tail g'))
       → G n p seen (all_ops e.names live_in entry saved (body_ops e.table current first os ++ tail) g)
   bodies_good kept0 link0 [] k n g current first p seen tail sub size few h go =

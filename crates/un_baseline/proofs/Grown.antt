@@ -17,10 +17,7 @@ use Rattle.un_ir.specs.declared.extended.Sort.{Sort}
 use Rattle.un_ir.specs.Extended.{temp, is_return}
 use Rattle.un_ir.specs.Linear.{first_of}
 use Rattle.un_ir.specs.ExtendOf.{copy_op, frame_op, with_op, with_copies, copy_count_by, copy_count, new_temps, with_value, with_values, with_operand_by, with_operand, with_operands, new_operands, sorts_of, with_results, with_leave, with_enter, with_extended, with_all_extended}
-
-pub append_nil : {A : Type 0} (xs : List A) → xs ++ [] ≡ xs
-append_nil [] = refl
-append_nil {A} (x ∷ xs) = ap (λ (ys : List A). x ∷ ys) (append_nil xs)
+use Rattle.un_baseline.proofs.Items.{append_nil}
 
 -- ---- copies
 
@@ -33,7 +30,8 @@ copies_ops : (first second : NodeCopy) (kind : Kind) (copied : Bool) (alts : Lis
     → (with_copies first second kind copied alts g).ops ≡ g.ops ++ copy_ops first second kind copied alts g.next
 copies_ops first second kind false alts g = sym (append_nil g.ops)
 copies_ops first second General true alts g = refl
-copies_ops first second Pred true alts g = append_assoc g.ops (copy_op first alts g.next ∷ []) (copy_op second (alts ++ temp g.next ∷ []) (g.next + 1) ∷ [])
+copies_ops first second Pred true alts g = append_assoc g.ops (copy_op first alts g.next ∷ [])
+    (copy_op second (alts ++ temp g.next ∷ []) (g.next + 1) ∷ [])
 
 copies_next : (first second : NodeCopy) (kind : Kind) (copied : Bool) (alts : List TempId) (g : Growth)
     → (with_copies first second kind copied alts g).next ≡ g.next + copy_count_by kind copied
@@ -125,7 +123,12 @@ enter_add false kind g = sym (append_nil g.ops)
 module _ (names : List Kind) (live_in : List NameId) (entry saved : Bool) where
   -- behind its operands' copies, an operation with its results
   abbrev pub made_op : ExtOp → Growth → ExtOp
-  made_op op before = record { kind = op.kind; operands = new_operands op.operands before; results = new_temps (with_operands op.operands before) (length op.results) }
+  made_op op before = record {
+    kind = op.kind;
+    operands = new_operands op.operands before;
+    results = new_temps
+        (with_operands op.operands before) (length op.results);
+  }
 
   abbrev pub behind_op : ExtOp → Growth → Growth
   behind_op op before = with_results op.kind (new_operands op.operands before) (length op.results) (with_operands op.operands before)
@@ -134,7 +137,8 @@ module _ (names : List Kind) (live_in : List NameId) (entry saved : Bool) where
   extended_ops op g =
       let before = with_leave op.kind g in
       leave_ops op.kind ++ (operands_ops op.operands before ++ (made_op op before
-      ∷ (values_ops (with_operands op.operands before).next (sorts_of names live_in saved op.kind (length op.results)) (behind_op op before) ++ enter_ops entry op.kind)))
+      ∷ (values_ops (with_operands op.operands before).next (sorts_of names live_in saved op.kind (length op.results))
+      (behind_op op before) ++ enter_ops entry op.kind)))
 
   abbrev pub all_ops : List ExtOp → Growth → List ExtOp
   all_ops [] g = []
@@ -152,7 +156,8 @@ module _ (names : List Kind) (live_in : List NameId) (entry saved : Bool) where
       let us = operands_ops op.operands before in
       enter_add entry op.kind (with_values read.next sorts here)
       ∙ ap (λ (os : List ExtOp). os ++ es) (values_add read.next sorts here
-      ∙ ap (λ (os : List ExtOp). (os ++ made ∷ []) ++ ds) (operands_add op.operands before ∙ ap (λ (os : List ExtOp). os ++ us) (leave_add op.kind g)))
+      ∙ ap (λ (os : List ExtOp). (os ++ made ∷ []) ++ ds) (operands_add op.operands before
+      ∙ ap (λ (os : List ExtOp). os ++ us) (leave_add op.kind g)))
       ∙ append_assoc (((g.ops ++ leave_ops op.kind) ++ us) ++ made ∷ []) ds es
       ∙ append_assoc ((g.ops ++ leave_ops op.kind) ++ us) (made ∷ []) (ds ++ es)
       ∙ append_assoc (g.ops ++ leave_ops op.kind) us (made ∷ (ds ++ es))

@@ -205,7 +205,8 @@ module _ (m : Model) (h : IsSpillable m) (values : List ℕ) (same : values ≡ 
       ∙ flag_of_plan m.ext m.options (block_plans m.ext true m.ext.blocks) 1 (plan_suits m.ext)
 
   -- what the plan keeps for the extended function of a function under this table
-  for_function : (P : Schedule → Type 0) → (let x = extend_of (lin_of h.function.function h.function.lists m.ext.table) in P (planned_schedule x.blocks
+  for_function : (P : Schedule → Type 0) → (let x = extend_of (lin_of h.function.function h.function.lists m.ext.table) in P
+      (planned_schedule x.blocks
       (block_plans x true x.blocks))) → P (schedule_of m values)
   for_function P kept =
       subst P (sym (schedule_is m.ext m.options) ∙ same_schedule)

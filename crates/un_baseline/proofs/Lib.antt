@@ -25,6 +25,7 @@ pub mod Grown
 pub mod Holding
 pub mod Horizons
 pub mod InDomains
+pub mod Items
 pub mod Kept
 pub mod Lasts
 pub mod Latencies

@@ -21,7 +21,8 @@ among_contains (name ∷ names) n h = by (among_contains names n) (nat_eq name.0
     by : (is_among names n ≡ true → Contains names (name_of n)) → (w : Bool) → nat_eq name.0 n ≡ w → (w || is_among names n) ≡ true
         → Contains (name ∷ names) (name_of n)
     by ih true e h = (0, omega arith, ap name_of (eqb-true name.0 n e))
-    by ih false e h = (λ (r : Contains names (name_of n)). (let q : Contains (name ∷ names) (name_of n) = (suc r.0, (let below = r.1 in omega arith), r.2) in q)) (ih h)
+    by ih false e h = (λ (r : Contains names (name_of n)). (let q : Contains (name ∷ names)
+        (name_of n) = (suc r.0, (let below = r.1 in omega arith), r.2) in q)) (ih h)
 
 pub contains_among : (names : List NameId) (name : NameId) → Contains names name → is_among names name.0 ≡ true
 contains_among [] name (k, below, is) = absurd (omega arith)
@@ -39,7 +40,8 @@ any_found p (x ∷ xs) h = by (any_found p xs) (p x) refl h
     by : (list_any p xs ≡ true → (c : ℕ) × Contains xs c × (p c ≡ true)) → (w : Bool) → p x ≡ w → (w || list_any p xs) ≡ true
         → (c : ℕ) × Contains (x ∷ xs) c × (p c ≡ true)
     by ih true e h = (x, (0, omega arith, refl), e)
-    by ih false e h = (λ (r : (c : ℕ) × Contains xs c × (p c ≡ true)). (let q : (c : ℕ) × Contains (x ∷ xs) c × (p c ≡ true) = (r.0, (suc r.1.0, (let below = r.1.1 in omega arith), r.1.2), r.2) in q)) (ih h)
+    by ih false e h = (λ (r : (c : ℕ) × Contains xs c × (p c ≡ true)). (let q : (c : ℕ) × Contains (x ∷ xs) c ×
+        (p c ≡ true) = (r.0, (suc r.1.0, (let below = r.1.1 in omega arith), r.1.2), r.2) in q)) (ih h)
 
 pub any_true : (p : ℕ → Bool) (xs : List ℕ) (c : ℕ) → Contains xs c → p c ≡ true → list_any p xs ≡ true
 any_true p [] c (k, below, is) h = absurd (omega arith)
@@ -70,7 +72,8 @@ filter_has p k (suc n) x low high h = by (λ up less. filter_has p (k + 1) n x u
 
 -- ---- lists
 
-at_map : {A B : Type 0} (f : A → B) (xs : List A) (j : ℕ) (y : B) → slice_get (map f xs) j ≡ Some y → (x : A) × (slice_get xs j ≡ Some x) × (f x ≡ y)
+at_map : {A B : Type 0} (f : A → B) (xs : List A) (j : ℕ) (y : B) → slice_get (map f xs) j ≡ Some y
+    → (x : A) × (slice_get xs j ≡ Some x) × (f x ≡ y)
 at_map f [] j y h = absurd (cc h)
 at_map f (x ∷ xs) zero y h = (x, refl, (let e : f x ≡ y = cc h in e))
 at_map f (x ∷ xs) (suc j) y h = at_map f xs j y h
@@ -106,13 +109,15 @@ place_found (m ∷ names) name has = by (nat_eq m.0 name.0) refl has (λ q. plac
 
 -- ---- names over an edge
 
-module _ (f : Function) (lists : List (List NameId)) (live : AreLive f.blocks lists) (b : ℕ) (source : Block) (at : slice_get f.blocks b ≡ Some source) where
+module _ (f : Function) (lists : List (List NameId)) (live : AreLive f.blocks lists) (b : ℕ) (source : Block)
+    (at : slice_get f.blocks b ≡ Some source) where
   pub live_in : (name : NameId) → IsLive f.blocks name b 0 → Contains (live_at lists b) name
   live_in name l = (live.exact b name).1 l
 
   pub live_in_small : (i : ℕ) (name : NameId) → slice_get (live_at lists b) i ≡ Some name → name.0 < length f.names
   live_in_small i name got =
-      live_name_small f name b 0 ((live.exact b name).0 (subst (Contains (live_at lists b)) (get_or_from_slice_get (live_at lists b) i name name got)
+      live_name_small f name b 0 ((live.exact b name).0 (subst (Contains (live_at lists b))
+      (get_or_from_slice_get (live_at lists b) i name name got)
       (Contains-get_or (live_at lists b) i name (slice_get_within (live_at lists b) i name got))))
 
   past_ops : slice_get source.ops (length source.ops) ≡ None
@@ -120,7 +125,8 @@ module _ (f : Function) (lists : List (List NameId)) (live : AreLive f.blocks li
 
   -- what the terminator reads is live before it
   pub live_term : (name : NameId) → Contains (read_by_term source.term) name → IsLive f.blocks name b (length source.ops)
-  live_term name has = used b (length source.ops) source at (omega arith) (subst (λ (o : Option SrcOp). Contains (read_by o source.term) name) (sym past_ops) has)
+  live_term name has = used b (length source.ops) source at (omega arith) (subst
+      (λ (o : Option SrcOp). Contains (read_by o source.term) name) (sym past_ops) has)
 
   abbrev start_of : ℕ → ℕ × ℕ
   start_of c = (c, 0)
@@ -128,19 +134,25 @@ module _ (f : Function) (lists : List (List NameId)) (live : AreLive f.blocks li
   contains_map : (cs : List ℕ) (l : ℕ) → Contains cs l → Contains {X = ℕ × ℕ} (map start_of cs) (l, 0)
   contains_map [] l (k, below, is) = absurd (omega arith)
   contains_map (c ∷ cs) l (zero, below, is) = (0, omega arith, ap start_of is)
-  contains_map (c ∷ cs) l (suc k, below, is) = let r = contains_map cs l (k, omega arith, is) in (suc r.0, (let lt = r.1 in omega arith), r.2)
+  contains_map (c ∷ cs) l (suc k, below, is) = let r = contains_map cs l (k, omega arith, is) in
+      (suc r.0, (let lt = r.1 in omega arith), r.2)
 
-  live_over : (name : NameId) (l : ℕ) → Contains (targets_of b source.term) l → IsLive f.blocks name l 0 → IsLive f.blocks name b (length source.ops)
+  live_over : (name : NameId) (l : ℕ) → Contains (targets_of b source.term) l → IsLive f.blocks name l 0
+      → IsLive f.blocks name b (length source.ops)
   live_over name l to there =
-      kept b (length source.ops) source l 0 at (omega arith) (λ same. let e : None ≡ Some name = ap assigned_by (sym past_ops) ∙ same in cc e)
-      (subst (λ (o : Option SrcOp). Contains (next_by b (length source.ops) o source.term) (l, 0)) (sym past_ops) (contains_map (targets_of b source.term) l to)) there
+      kept b (length source.ops) source l 0 at (omega arith) (λ same. let e : None ≡ Some name = ap assigned_by (sym past_ops)
+      ∙ same in cc e)
+      (subst (λ (o : Option SrcOp). Contains (next_by b (length source.ops) o source.term) (l, 0)) (sym past_ops)
+      (contains_map (targets_of b source.term) l to)) there
 
   -- each name that is live behind the block is live at its end
-  pub live_out : (m : ℕ) (name : NameId) → slice_get (live_after lists (length f.names) b source.term) m ≡ Some name → IsLive f.blocks name b (length source.ops)
+  pub live_out : (m : ℕ) (name : NameId) → slice_get (live_after lists (length f.names) b source.term) m ≡ Some name
+      → IsLive f.blocks name b (length source.ops)
   live_out m name got =
       let p = λ (n : ℕ). list_any (λ (c : ℕ). is_among (live_at lists c) n) (targets_of b source.term) in
       let x = at_map name_of (filter p (range_with_len 0 (length f.names))) m name got in
-      let found = any_found (λ (c : ℕ). is_among (live_at lists c) x.0) (targets_of b source.term) (filtered p (range_with_len 0 (length f.names)) m x.0 x.1) in
+      let found = any_found (λ (c : ℕ). is_among (live_at lists c) x.0) (targets_of b source.term)
+      (filtered p (range_with_len 0 (length f.names)) m x.0 x.1) in
       let has = among_contains (live_at lists found.0) x.0 found.2 in
       live_over name found.0 found.1 (subst (λ (y : NameId). IsLive f.blocks y found.0 0) x.2 ((live.exact found.0 (name_of x.0)).0 has))
 
@@ -149,5 +161,6 @@ module _ (f : Function) (lists : List (List NameId)) (live : AreLive f.blocks li
       → Contains (live_after lists (length f.names) b source.term) name
   out_has l to name has =
       let h = live_name_small f name l 0 ((live.exact l name).0 has) in
-      filter_has (λ (n : ℕ). list_any (λ (c : ℕ). is_among (live_at lists c) n) (targets_of b source.term)) 0 (length f.names) name.0 (omega arith) (omega (arith, h))
+      filter_has (λ (n : ℕ). list_any (λ (c : ℕ). is_among (live_at lists c) n) (targets_of b source.term)) 0 (length f.names) name.0
+      (omega arith) (omega (arith, h))
       (any_true (λ (c : ℕ). is_among (live_at lists c) name.0) (targets_of b source.term) l to (contains_among (live_at lists l) name has))

@@ -19,7 +19,16 @@ made_at i r = record { block = i.block; op = i.op; instr = i.instr; active = i.a
 
 -- the same where it is read last in this cycle
 abbrev pub lasting : ℕ → LiveRange → LiveRange
-lasting last m = record { block = m.block; op = m.op; instr = m.instr; active = m.active; reg = m.reg; from = m.from; last = max m.from (last - 1) }
+lasting last m = record {
+  block = m.block;
+  op = m.op;
+  instr = m.instr;
+  active = m.active;
+  reg = m.reg;
+  from = m.from;
+  last = max m.from
+      (last - 1);
+}
 
 abbrev pub lasting_at : List Read → ℕ → LiveRange → LiveRange
 lasting_at reads k m = lasting (last_read reads k) m
@@ -55,7 +64,12 @@ place_there {B = B} f k (suc j) (y ∷ xs) x e =
 pub place_back : {A B : Type 0} (f : ℕ → A → B) (k j : ℕ) (xs : List A) (y : B) → slice_get (places_from f k xs) j ≡ Some y
     → (x : A) × (slice_get xs j ≡ Some x) × (y ≡ f (k + j) x)
 place_back f k j [] y e = absurd (cc e)
-place_back f k zero (x ∷ xs) y e = (x, refl, (let same : f k x ≡ y = cc e in let n : k ≡ k + 0 = omega arith in sym same ∙ ap (λ (m : ℕ). f m x) n))
+place_back f k zero (x ∷ xs) y e = (
+  x,
+  refl,
+  (let same : f k x ≡ y = cc e in let n : k ≡ k + 0 = omega arith in sym same
+      ∙ ap (λ (m : ℕ). f m x) n),
+)
 place_back f k (suc j) (x ∷ xs) y e =
     let n : k + 1 + j ≡ k + suc j = omega arith in
     let there = place_back f (k + 1) j xs y e in (there.0, there.1, there.2 ∙ ap (λ (m : ℕ). f m there.0) n)
@@ -74,8 +88,10 @@ module _ (issues : List Issue) (reads : List Read) where
       → places_from (range_at issues reads) k (map (place_at n) rs) ≡ places_from (lasting_at reads) k (map (made_at i) rs)
   registers_made i n at op k [] = refl
   registers_made i n at op k (r ∷ rs) =
-      ap (λ (x : Option Issue). planned_range (place_at n r) (last_read reads k) x ∷ places_from (range_at issues reads) (k + 1) (map (place_at n) rs)) at
-      ∙ ap (λ (m : ℕ). planned_range (place_at m r) (last_read reads k) (Some i) ∷ places_from (range_at issues reads) (k + 1) (map (place_at n) rs)) (sym op)
+      ap (λ (x : Option Issue). planned_range (place_at n r) (last_read reads k) x ∷ places_from (range_at issues reads) (k + 1)
+      (map (place_at n) rs)) at
+      ∙ ap (λ (m : ℕ). planned_range (place_at m r) (last_read reads k) (Some i) ∷ places_from (range_at issues reads) (k + 1)
+      (map (place_at n) rs)) (sym op)
       ∙ ap (λ (xs : List LiveRange). lasting_at reads k (made_at i r) ∷ xs) (registers_made i n at op (k + 1) rs)
 
   map_length : (i : Issue) (n : ℕ) (rs : List ℕ) → length (map (made_at i) rs) ≡ length (map (place_at n) rs)
@@ -94,7 +110,8 @@ module _ (issues : List Issue) (reads : List Read) where
       let here = map (place_at n) s.registers in
       let made = map (made_at i) s.registers in
       let size = map_length i n s.registers in
-      let rest = steps_ranges b end (n + 1) (k + length here) ops steps h.1 (has_right issues n (n + 1) (i ∷ []) (pairs_from (planned_issue b end) (n + 1) ops steps) refl has) in (
+      let rest = steps_ranges b end (n + 1) (k + length here) ops steps h.1 (has_right issues n (n + 1) (i ∷ [])
+      (pairs_from (planned_issue b end) (n + 1) ops steps) refl has) in (
         places-append (range_at issues reads) k (k + length here) here (step_places (n + 1) steps) refl
             ∙ ap (λ (xs : List LiveRange). xs ++ places_from (range_at issues reads) (k + length here) (step_places (n + 1) steps))
             (registers_made i n (has_first issues n i (pairs_from (planned_issue b end) (n + 1) ops steps) has) refl k s.registers)
@@ -106,7 +123,8 @@ module _ (issues : List Issue) (reads : List Read) where
 
   blocks_ranges : (b n k : ℕ) (blocks : List ExtBlock) (plans : List BlockPlan) → SuitsAll blocks plans
       → Has issues n (over_plans planned_issues b n blocks plans)
-      → places_from (range_at issues reads) k (plan_places n blocks plans) ≡ places_from (lasting_at reads) k (over_plans planned_made b n blocks plans)
+      → places_from (range_at issues reads) k (plan_places n blocks plans) ≡ places_from (lasting_at reads) k
+      (over_plans planned_made b n blocks plans)
   blocks_ranges b n k [] plans h has = refl
   blocks_ranges b n k (block ∷ blocks) [] h has = absurd h
   blocks_ranges b n k (block ∷ blocks) (p ∷ plans) h has =
@@ -118,14 +136,18 @@ module _ (issues : List Issue) (reads : List Read) where
       let first = steps_ranges b p.end n k block.ops p.steps h.0 (has_left issues n here rest has) in
       let same = first.1 in
       places-append (range_at issues reads) k (k + length places) places (plan_places (n + length block.ops) blocks plans) refl
-      ∙ ap (λ (xs : List LiveRange). xs ++ places_from (range_at issues reads) (k + length places) (plan_places (n + length block.ops) blocks plans)) first.0
+      ∙ ap (λ (xs : List LiveRange). xs ++ places_from (range_at issues reads) (k + length places)
+      (plan_places (n + length block.ops) blocks plans)) first.0
       ∙ ap (λ (xs : List LiveRange). places_from (lasting_at reads) k made ++ xs)
-      (blocks_ranges (b + 1) (n + length block.ops) (k + length places) blocks plans h.1 (has_right issues n (n + length block.ops) here rest (omega arith) has))
-      ∙ sym (places-append (lasting_at reads) k (k + length places) made (over_plans planned_made (b + 1) (n + length block.ops) blocks plans) (omega arith))
+      (blocks_ranges (b + 1) (n + length block.ops) (k + length places) blocks plans h.1
+      (has_right issues n (n + length block.ops) here rest (omega arith) has))
+      ∙ sym (places-append (lasting_at reads) k (k + length places) made (over_plans planned_made (b + 1)
+      (n + length block.ops) blocks plans) (omega arith))
 
 -- the live ranges of a plan's schedule are those of the temporaries that it makes
 pub ranges_made : (blocks : List ExtBlock) (plans : List BlockPlan) → SuitsAll blocks plans
-    → (planned_schedule blocks plans).ranges ≡ places_from (lasting_at (over_plans planned_reads 0 0 blocks plans)) 0 (over_plans planned_made 0 0 blocks plans)
+    → (planned_schedule blocks plans).ranges ≡ places_from (lasting_at (over_plans planned_reads 0 0 blocks plans)) 0
+    (over_plans planned_made 0 0 blocks plans)
 ranges_made blocks plans h =
     let issues = over_plans planned_issues 0 0 blocks plans in
     blocks_ranges issues (over_plans planned_reads 0 0 blocks plans) 0 0 0 blocks plans h (has_whole issues)

@@ -37,7 +37,7 @@ use Rattle.un_baseline.specs.declared.plan.Setting.{Setting}
 use Rattle.un_baseline.specs.declared.plan.Progress.{Progress}
 use Rattle.un_baseline.specs.SpillEverywhere.{slot_of, is_placed, last_place, kept_place, start_register, other_progress}
 use Rattle.un_baseline.proofs.Carried.{Carries, carries_same}
-use Rattle.un_baseline.proofs.Grown.{append_nil, enter_ops, values_ops, value_next, extended_ops}
+use Rattle.un_baseline.proofs.Grown.{enter_ops, values_ops, value_next, extended_ops}
 use Rattle.un_baseline.proofs.Sound.{Seen}
 use Rattle.un_baseline.proofs.Standing.{Stands, Front}
 use Rattle.un_baseline.proofs.Timing.{pairs_append, pairs_nil}
@@ -47,33 +47,9 @@ use Rattle.un_baseline.proofs.Bodies.{Named, own_size, not_placed}
 use Rattle.un_baseline.proofs.Going.{SavedAt, LinkAt, Going}
 use Rattle.un_baseline.proofs.Tailing.{enter_good}
 use Rattle.un_baseline.proofs.Starts.{AreApart, Fresh, start_at, start_good, value_at, values_size, values_ops_append, values_rest, params_spill, link_spills}
+use Rattle.un_baseline.proofs.Items.{get_left, get_right, get_map, get_replicate, append_nil}
 
 -- ---- lists
-
-pub get_left : {A : Type 0} (xs ys : List A) (j : ℕ) (x : A) → slice_get xs j ≡ Some x → slice_get (xs ++ ys) j ≡ Some x
-get_left [] ys j x h = absurd (cc h)
-get_left (y ∷ xs) ys zero x h = h
-get_left (y ∷ xs) ys (suc j) x h = get_left xs ys j x h
-
-pub get_right : {A : Type 0} (xs ys : List A) (n j : ℕ) → n ≡ length xs + j → slice_get (xs ++ ys) n ≡ slice_get ys j
-get_right [] ys n j e = let z : n ≡ j = omega arith in ap (slice_get ys) z
-get_right (x ∷ xs) ys zero j e = absurd (omega arith)
-get_right (x ∷ xs) ys (suc n) j e = get_right xs ys n j (omega arith)
-
-pub get_map : {A B : Type 0} (f : A → B) (xs : List A) (j : ℕ) (x : A) → slice_get xs j ≡ Some x → slice_get (map f xs) j ≡ Some (f x)
-get_map f [] j x h = absurd (cc h)
-get_map {B = B} f (y ∷ xs) zero x h = let same : y ≡ x = cc h in ap (λ (z : B). Some z) (ap f same)
-get_map f (y ∷ xs) (suc j) x h = get_map f xs j x h
-
-pub get_replicate : {A : Type 0} (n j : ℕ) (x : A) → j < n → slice_get (replicate n x) j ≡ Some x
-get_replicate zero j x lt = absurd (omega arith)
-get_replicate (suc n) zero x lt = refl
-get_replicate (suc n) (suc j) x lt = get_replicate n j x (omega arith)
-
-get_replicated : {A : Type 0} (n j : ℕ) (x y : A) → slice_get (replicate n x) j ≡ Some y → x ≡ y
-get_replicated zero j x y h = absurd (cc h)
-get_replicated (suc n) zero x y h = cc h
-get_replicated (suc n) (suc j) x y h = get_replicated n j x y h
 
 -- ---- the temporaries of names at a block's start
 
@@ -81,7 +57,8 @@ first_others : (current : List ℕ) (n k : ℕ) (ns : List NameId) → ((i : ℕ
     → slice_index (first_temps current n ns) k ≡ slice_index current k
 first_others current n k [] h = refl
 first_others current n k (x ∷ ns) h =
-    first_others (slice_set current x.0 n) (n + 1) k ns (λ i y got. h (suc i) y got) ∙ get_or-set_other current x.0 k n 0 (λ z. h 0 x refl (sym z))
+    first_others (slice_set current x.0 n) (n + 1) k ns (λ i y got. h (suc i) y got)
+    ∙ get_or-set_other current x.0 k n 0 (λ z. h 0 x refl (sym z))
 
 pub first_at : (current : List ℕ) (n : ℕ) (ns : List NameId) (j : ℕ) (name : NameId) → slice_get ns j ≡ Some name → name.0 < length current
     → ((i k : ℕ) (x y : NameId) → i < k → slice_get ns i ≡ Some x → slice_get ns k ≡ Some y → x.0 ≢ y.0)
@@ -95,7 +72,8 @@ first_at current n (x ∷ ns) zero name got small apart =
     ∙ get_or-set_same current x.0 n 0 (subst (λ (y : NameId). y.0 < length current) (sym same) small) ∙ z)
 first_at current n (x ∷ ns) (suc j) name got small apart =
     let z : n + 1 + j ≡ n + suc j = omega arith in
-    first_at (slice_set current x.0 n) (n + 1) ns j name got (rw (length-set current x.0 n) small) (λ i k y w lt a a'. apart (suc i) (suc k) y w (omega arith) a a') ∙ z
+    first_at (slice_set current x.0 n) (n + 1) ns j name got (rw (length-set current x.0 n) small)
+    (λ i k y w lt a a'. apart (suc i) (suc k) y w (omega arith) a a') ∙ z
 
 pub first_size : (current : List ℕ) (n : ℕ) (ns : List NameId) → length (first_temps current n ns) ≡ length current
 first_size current n [] = refl
@@ -154,27 +132,33 @@ module _ (c : ℕ) (H : Seen → List Read → Type 0) (b end : ℕ) (e : Ext) (
       → ((i : ℕ) (name : NameId) → slice_get xs i ≡ Some name → slice_get ns (j + i) ≡ Some name)
       → ((more : List TempId) → length more ≡ length tail → places_from at_start (j + length xs) more ≡ tail)
       → places_from at_start j results ≡ map name_room xs ++ tail
-  names_start [] j results tail size there rest = let z : j ≡ j + 0 = omega arith in ap (λ (k : ℕ). places_from at_start k results) z ∙ rest results (omega arith)
+  names_start [] j results tail size there rest = let z : j ≡ j + 0 = omega arith in ap (λ (k : ℕ). places_from at_start k results) z
+      ∙ rest results (omega arith)
   names_start (x ∷ xs) j [] tail size there rest = absurd (omega arith)
   names_start (x ∷ xs) j (y ∷ results) tail size there rest =
       let z : j ≡ j + 0 = omega arith in
       let here : at_start j y ≡ name_room x =
-      ap (start_register e.table s ns j) (ap (slice_get ns) z ∙ there 0 x refl) ∙ ap (λ (t : Bool). if t then slice_index e.table.args x.0 else slot_of x) is_entry in
+      ap (start_register e.table s ns j) (ap (slice_get ns) z ∙ there 0 x refl) ∙ ap
+      (λ (t : Bool). if t then slice_index e.table.args x.0 else slot_of x) is_entry in
       ap (λ (r : ℕ). r ∷ places_from at_start (j + 1) results) here
       ∙ ap (λ (rs : List ℕ). name_room x ∷ rs) (names_start xs (j + 1) results tail (omega arith)
       (λ i name got. let w : j + 1 + i ≡ j + suc i = omega arith in ap (slice_get ns) w ∙ there (suc i) name got)
-      (λ more size'. let w : j + 1 + length xs ≡ j + suc (length xs) = omega arith in ap (λ (k : ℕ). places_from at_start k more) w ∙ rest more size'))
+      (λ more size'. let w : j + 1 + length xs ≡ j + suc (length xs) = omega arith in ap (λ (k : ℕ). places_from at_start k more) w
+      ∙ rest more size'))
 
   abbrev saved_room : ℕ → ℕ → ℕ
-  saved_room k j = if s.is_entry then slice_index (saved_registers e.table) k else if j + 1 == s.values then s.link else slice_index (saved_registers e.table) k
+  saved_room k j = if s.is_entry then slice_index (saved_registers e.table) k else if j + 1 == s.values then s.link else slice_index
+      (saved_registers e.table) k
 
   saved_by : (t : Bool) (k j r : ℕ) → j + 1 < s.values → slice_index (saved_registers e.table) k ≡ r
-      → (if t then slice_index (saved_registers e.table) k else if j + 1 == s.values then s.link else slice_index (saved_registers e.table) k) ≡ r
+      → (if t then slice_index (saved_registers e.table) k else if j + 1 == s.values then s.link else slice_index
+      (saved_registers e.table) k) ≡ r
   saved_by true k j r lt h = h
   saved_by false k j r lt h = let z : (j + 1 == s.values) ≡ false = grind (arith, nat_tests) in rw z h
 
   last_by : (t : Bool) (k j : ℕ) → j + 1 ≡ s.values → slice_index (saved_registers e.table) k ≡ LINK
-      → (if t then slice_index (saved_registers e.table) k else if j + 1 == s.values then s.link else slice_index (saved_registers e.table) k) ≡ (if t then LINK else s.link)
+      → (if t then slice_index (saved_registers e.table) k else if j + 1 == s.values then s.link else slice_index
+      (saved_registers e.table) k) ≡ (if t then LINK else s.link)
   last_by true k j is h = h
   last_by false k j is h = let z : (j + 1 == s.values) ≡ true = grind (arith, nat_tests) in rw z refl
 
@@ -197,7 +181,8 @@ module _ (c : ℕ) (H : Seen → List Read → Type 0) (b end : ℕ) (e : Ext) (
       let w : j - length ns ≡ k = omega arith in
       let v : k ≡ k + 0 = omega arith in
       ap (λ (q : ℕ). q ∷ places_from at_start (j + 1) results) (ap (start_register e.table s ns j) (ap (slice_get ns) z ∙ none 0)
-      ∙ ap (λ (i : ℕ). saved_room i j) w ∙ saved_by s.is_entry k j r (omega arith) (ap (slice_index (saved_registers e.table)) v ∙ there 0 r refl))
+      ∙ ap (λ (i : ℕ). saved_room i j) w ∙ saved_by s.is_entry k j r (omega arith)
+      (ap (slice_index (saved_registers e.table)) v ∙ there 0 r refl))
       ∙ ap (λ (qs : List ℕ). r ∷ qs) (saved_start rs (j + 1) (k + 1) results (omega arith)
       (λ i. let u : j + 1 + i ≡ j + suc i = omega arith in ap (slice_get ns) u ∙ none (suc i)) (omega arith)
       (λ i q got. let u : k + 1 + i ≡ k + suc i = omega arith in ap (slice_index (saved_registers e.table)) u ∙ there (suc i) q got)
@@ -211,16 +196,20 @@ module _ (c : ℕ) (H : Seen → List Read → Type 0) (b end : ℕ) (e : Ext) (
       let tail_size = length-append regs (last_room ∷ []) in
       names_start ns 0 results (regs ++ last_room ∷ []) (omega arith)
       (λ i name got. let z : 0 + i ≡ i = omega arith in ap (slice_get ns) z ∙ got)
-      (λ more size'. saved_start regs (0 + length ns) 0 more (omega arith) (λ i. slice_get_past ns (0 + length ns + i) (omega arith)) (omega arith)
-      (λ i r got. let z : 0 + i ≡ i = omega arith in ap (slice_index (saved_registers e.table)) z ∙ index_of (saved_registers e.table) i r (get_left regs (LINK ∷ []) i r got))
+      (λ more size'. saved_start regs (0 + length ns) 0 more (omega arith) (λ i. slice_get_past ns (0 + length ns + i) (omega arith))
+      (omega arith)
+      (λ i r got. let z : 0 + i ≡ i = omega arith in ap (slice_index (saved_registers e.table)) z
+      ∙ index_of (saved_registers e.table) i r (get_left regs (LINK ∷ []) i r got))
       (index_of (saved_registers e.table) (0 + length regs) LINK (get_right regs (LINK ∷ []) (0 + length regs) 0 (omega arith)))
       (omega arith))
 
   -- ---- no two values start in one register
 
-  module _ (params : entry ≡ true → (i : ℕ) (name : NameId) → slice_get ns i ≡ Some name → (name.0 < 6) × (name_kind e.names name ≡ General)) where
+  module _ (params : entry ≡ true → (i : ℕ) (name : NameId) → slice_get ns i ≡ Some name
+      → (name.0 < 6) × (name_kind e.names name ≡ General)) where
     args_at : (k : ℕ) → k < 6 → slice_index e.table.args k ≡ k
-    args_at k lt = ap (λ (xs : List ℕ). slice_index xs k) fit.args ∙ get_or-range_with_len 0 6 k 0 lt ∙ (let z : 0 + k ≡ k = omega arith in z)
+    args_at k lt = ap (λ (xs : List ℕ). slice_index xs k) fit.args ∙ get_or-range_with_len 0 6 k 0 lt
+        ∙ (let z : 0 + k ≡ k = omega arith in z)
 
     abbrev room_by : Bool → NameId → ℕ
     room_by t name = if t then slice_index e.table.args name.0 else slot_of name
@@ -249,12 +238,15 @@ module _ (c : ℕ) (H : Seen → List Read → Type 0) (b end : ℕ) (e : Ext) (
     names_rooms_apart [] low apart = pairs_nil (λ (a d : ℕ). a ≢ d)
     names_rooms_apart (x ∷ xs) low apart =
         AllPairs-cons (λ (a d : ℕ). a ≢ d) (name_room x) (map name_room xs)
-        (each xs (λ i y got. room_differs entry x y (λ t. (low 0 x refl t, low (suc i) y got t)) (apart 0 (suc i) x y (omega arith) refl got)))
+        (each xs (λ i y got. room_differs entry x y (λ t. (low 0 x refl t, low (suc i) y got t))
+        (apart 0 (suc i) x y (omega arith) refl got)))
         (names_rooms_apart xs (λ i y got. low (suc i) y got) (λ i k y z lt a d. apart (suc i) (suc k) y z (omega arith) a d))
       where
-        each : (ys : List NameId) → ((i : ℕ) (y : NameId) → slice_get ys i ≡ Some y → name_room x ≢ name_room y) → All (λ (r : ℕ). name_room x ≢ r) (map name_room ys)
+        each : (ys : List NameId) → ((i : ℕ) (y : NameId) → slice_get ys i ≡ Some y → name_room x ≢ name_room y)
+            → All (λ (r : ℕ). name_room x ≢ r) (map name_room ys)
         each [] h = All-nil (λ (r : ℕ). name_room x ≢ r)
-        each (y ∷ ys) h = All-cons (λ (r : ℕ). name_room x ≢ r) (name_room y) (map name_room ys) (h 0 y refl) (each ys (λ i z got. h (suc i) z got))
+        each (y ∷ ys) h = All-cons (λ (r : ℕ). name_room x ≢ r) (name_room y) (map name_room ys) (h 0 y refl)
+            (each ys (λ i z got. h (suc i) z got))
 
     one_apart : (x : ℕ) → AreApart (x ∷ [])
     one_apart x i j d lt within = absurd (omega arith)
@@ -300,11 +292,13 @@ module _ (c : ℕ) (H : Seen → List Read → Type 0) (b end : ℕ) (e : Ext) (
         ∙ (let a = names_sorts in let d = length-replicate (suc (length regs)) saved_value in omega arith)
 
     name_sort : (j : ℕ) (name : NameId) → slice_get ns j ≡ Some name → slice_get sorts j ≡ Some (sort_by (name_kind e.names name))
-    name_sort j name got = get_left (map (sort_of_name e.names) ns) (replicate (suc (length regs)) saved_value) j (sort_of_name e.names name) (get_map (sort_of_name e.names) ns j name got)
+    name_sort j name got = get_left (map (sort_of_name e.names) ns) (replicate (suc (length regs)) saved_value) j
+        (sort_of_name e.names name) (get_map (sort_of_name e.names) ns j name got)
 
     saved_sort_at : (j : ℕ) → j < suc (length regs) → slice_get sorts (length ns + j) ≡ Some saved_value
     saved_sort_at j lt =
-        get_right (map (sort_of_name e.names) ns) (replicate (suc (length regs)) saved_value) (length ns + j) j (let a = names_sorts in omega arith)
+        get_right (map (sort_of_name e.names) ns) (replicate (suc (length regs)) saved_value) (length ns + j) j
+        (let a = names_sorts in omega arith)
         ∙ get_replicate (suc (length regs)) j saved_value lt
 
     name_room_at : (j : ℕ) (name : NameId) → slice_get ns j ≡ Some name → slice_get start_rooms j ≡ Some (name_room name)
@@ -312,11 +306,13 @@ module _ (c : ℕ) (H : Seen → List Read → Type 0) (b end : ℕ) (e : Ext) (
 
     reg_room_at : (j r : ℕ) → slice_get regs j ≡ Some r → slice_get start_rooms (length ns + j) ≡ Some r
     reg_room_at j r got =
-        get_right (map name_room ns) (regs ++ last_room ∷ []) (length ns + j) j (let a = length-map ns name_room in omega arith) ∙ get_left regs (last_room ∷ []) j r got
+        get_right (map name_room ns) (regs ++ last_room ∷ []) (length ns + j) j (let a = length-map ns name_room in omega arith)
+        ∙ get_left regs (last_room ∷ []) j r got
 
     last_room_at : slice_get start_rooms (length ns + length regs) ≡ Some last_room
     last_room_at =
-        get_right (map name_room ns) (regs ++ last_room ∷ []) (length ns + length regs) (length regs) (let a = length-map ns name_room in omega arith)
+        get_right (map name_room ns) (regs ++ last_room ∷ []) (length ns + length regs) (length regs)
+        (let a = length-map ns name_room in omega arith)
         ∙ get_right regs (last_room ∷ []) (length regs) 0 (omega arith)
 
     reg_kept : (j r : ℕ) → slice_get regs j ≡ Some r → IsKept c r
@@ -348,13 +344,15 @@ module _ (c : ℕ) (H : Seen → List Read → Type 0) (b end : ℕ) (e : Ext) (
 
       -- what `extend` adds for the start, in these words
       abbrev started_ops : ℕ → List Sort → List ExtOp
-      started_ops count vs = record { kind = In; operands = []; results = new_temps g0 count } ∷ (values_ops g0.next vs (here count) ++ enter_ops entry In)
+      started_ops count vs = record { kind = In; operands = []; results = new_temps g0 count } ∷
+          (values_ops g0.next vs (here count) ++ enter_ops entry In)
 
       abbrev sorts_by : ℕ → List Sort
       sorts_by count = map (sort_of_name e.names) ns ++ replicate (count - length ns) saved_value
 
       sorts_are : sorts_by total ≡ sorts
-      sorts_are = let z : total - length ns ≡ suc (length regs) = omega arith in ap (λ (k : ℕ). map (sort_of_name e.names) ns ++ replicate k saved_value) z
+      sorts_are = let z : total - length ns ≡ suc (length regs) = omega arith in ap
+          (λ (k : ℕ). map (sort_of_name e.names) ns ++ replicate k saved_value) z
 
       ops_are : extended_ops e.names ns entry saved start_op g0 ≡ started_ops total sorts
       ops_are = ap (λ (count : ℕ). started_ops count (sorts_by count)) op_size ∙ ap (started_ops total) sorts_are
@@ -372,12 +370,12 @@ module _ (c : ℕ) (H : Seen → List Read → Type 0) (b end : ℕ) (e : Ext) (
       enter_values false g = (refl, refl)
 
       -- value j, behind the start
-      pub record Known' (g : Growth) (j : ℕ) (sort : Sort) : Type 0 where
+      pub record StartValue (g : Growth) (j : ℕ) (sort : Sort) : Type 0 where
         pub before : Growth
         pub carries : Carries g (first_number + j) (own_temps (g0.next + j) sort before) sort
         pub next : ((i : ℕ) (t : Sort) → slice_get sorts i ≡ Some t → i < j → copy_count t ≡ 1) → before.next ≡ g0.next + total + j
 
-      known_at : (j : ℕ) (sort : Sort) → slice_get sorts j ≡ Some sort → Known' known j sort
+      known_at : (j : ℕ) (sort : Sort) → slice_get sorts j ≡ Some sort → StartValue known j sort
       known_at j sort got =
           let v = value_at c H b end e block s fit g0.next sorts (here total) j sort got in
           record {
@@ -397,7 +395,8 @@ module _ (c : ℕ) (H : Seen → List Read → Type 0) (b end : ℕ) (e : Ext) (
         names : (j : ℕ) (name : NameId) → slice_get ns j ≡ Some name → Named c H b end e block s fit g seen (first_number + j) name
         saved_at : (j r : ℕ) → slice_get regs j ≡ Some r
             → SavedAt c H b end e block s fit free f source at same_names link_is ns entry saved g seen (first_number + length ns + j) r
-        link : LinkAt c H b end e block s fit free f source at same_names link_is ns entry saved g seen (first_number + length ns + length regs)
+        link : LinkAt c H b end e block s fit free f source at same_names link_is ns entry saved g seen
+            (first_number + length ns + length regs)
 
       abbrev current0 : List ℕ
       current0 = first_temps (replicate (length e.names) 0) first_number ns
@@ -433,8 +432,10 @@ module _ (c : ℕ) (H : Seen → List Read → Type 0) (b end : ℕ) (e : Ext) (
       zero_place : (x : ℕ) (more : List TempId) → x < s.placed → kept_place s (temp x ∷ more) ≡ 0
       zero_place x more lt = ap (λ (t : Bool). if t then 0 else last_place (temp x ∷ more)) (placed_true x lt)
 
-      onward_opened : (p : Progress) (seen seen' : Seen) (rooms_of : (j r : ℕ) → slice_get start_rooms j ≡ Some r → Stands c b (g0.next + j) r seen')
-          → entry ≡ false → s.placed ≡ g0.next + total → length seen'.made ≡ known.next → Front c b p.cycle seen' → 1 ≤ p.cycle → p.operands ≡ 0
+      onward_opened : (p : Progress) (seen seen' : Seen) (rooms_of : (j r : ℕ) → slice_get start_rooms j ≡ Some r
+          → Stands c b (g0.next + j) r seen')
+          → entry ≡ false → s.placed ≡ g0.next + total → length seen'.made ≡ known.next → Front c b p.cycle seen' → 1 ≤ p.cycle
+          → p.operands ≡ 0
           → Opened known p seen'
       onward_opened p seen seen' rooms_of not_entry placed size front started none = record {
         size = size;
@@ -471,7 +472,8 @@ module _ (c : ℕ) (H : Seen → List Read → Type 0) (b end : ℕ) (e : Ext) (
             let low = k.low in
             record {
               own = own_temps (g0.next + (length ns + j)) saved_value v.before;
-              carries = subst (λ (i : ℕ). Carries known i (own_temps (g0.next + (length ns + j)) saved_value v.before) saved_value) x v.carries;
+              carries = subst (λ (i : ℕ). Carries known i (own_temps (g0.next + (length ns + j)) saved_value v.before) saved_value) x
+                  v.carries;
               within = omega arith;
               stands = rooms_of (length ns + j) r (reg_room_at j r got);
               safe = record { high = k.high; other = λ z. omega arith; spared = k.spared };
@@ -491,7 +493,8 @@ module _ (c : ℕ) (H : Seen → List Read → Type 0) (b end : ℕ) (e : Ext) (
               carries = subst (λ (i : ℕ). Carries known i own saved_value) x v.carries;
               place = zero_is ∙ ap (λ (t : Bool). zero_or t) (sym placed_is);
               within = omega arith;
-              stands = subst (λ (i : ℕ). Stands c b (chosen own i).0 s.link seen') (sym zero_is) (subst (λ (r : ℕ). Stands c b (g0.next + j) r seen') last (rooms_of j last_room last_room_at));
+              stands = subst (λ (i : ℕ). Stands c b (chosen own i).0 s.link seen') (sym zero_is)
+                  (subst (λ (r : ℕ). Stands c b (g0.next + j) r seen') last (rooms_of j last_room last_room_at));
             };
       }
         where
@@ -507,21 +510,29 @@ module _ (c : ℕ) (H : Seen → List Read → Type 0) (b end : ℕ) (e : Ext) (
           let ds = values_ops g0.next sorts (here total) in
           let start : ExtOp = record { kind = In; operands = []; results = new_temps g0 total } in
           let shape : extended_ops e.names ns entry saved start_op g0 ++ rest ≡ start ∷ (ds ++ rest) =
-          ap (λ (os : List ExtOp). os ++ rest) (ops_are ∙ ap (λ (t : Bool). start ∷ (ds ++ enter_ops t In)) not_entry ∙ ap (λ (os : List ExtOp). start ∷ os) (append_nil ds)) in
-          let grown : with_extended e.names ns entry saved start_op g0 ≡ known = grown_is ∙ ap (λ (t : Bool). with_enter t In known) not_entry in
+          ap (λ (os : List ExtOp). os ++ rest) (ops_are ∙ ap (λ (t : Bool). start ∷ (ds ++ enter_ops t In)) not_entry
+          ∙ ap (λ (os : List ExtOp). start ∷ os) (append_nil ds)) in
+          let grown : with_extended e.names ns entry saved start_op g0 ≡ known = grown_is
+          ∙ ap (λ (t : Bool). with_enter t In known) not_entry in
           let count : length (new_temps g0 total) ≡ length ns + suc (length regs) = length-map-range_with_len temp g0.next total in
           let rooms_count : length start_rooms ≡ total =
-          length-append (map name_room ns) (regs ++ last_room ∷ []) ∙ (let a = length-map ns name_room in let d = length-append regs (last_room ∷ []) in omega arith) in
-          let other : (if s.is_entry then Start else Other) ≡ Other = ap (λ (t : Bool). if t then Start else Other) (is_entry ∙ not_entry) in
+          length-append (map name_room ns) (regs ++ last_room ∷ []) ∙ (let a = length-map ns name_room in let d = length-append regs
+          (last_room ∷ []) in omega arith) in
+          let other : (if s.is_entry then Start else Other) ≡ Other = ap (λ (t : Bool). if t then Start else Other)
+          (is_entry ∙ not_entry) in
           subst (G n p seen) (sym shape)
-          (start_good c H b end e block s fit n p seen (new_temps g0 total) (ds ++ rest) start_rooms (rooms_are (new_temps g0 total) count) rooms_apart fresh le
+          (start_good c H b end e block s fit n p seen (new_temps g0 total) (ds ++ rest) start_rooms
+          (rooms_are (new_temps g0 total) count) rooms_apart fresh le
           (λ mid st.
-          values_rest c H b end e block s fit sorts g0.next (n + 1) (other_progress p.cycle (if s.is_entry then Start else Other)) mid (here total) rest other
+          values_rest c H b end e block s fit sorts g0.next (n + 1) (other_progress p.cycle (if s.is_entry then Start else Other)) mid
+          (here total) rest other
           (st.longer ∙ (omega' size rooms_count))
           (λ n' p' seen' same ops r.
-          go n' p' seen' (subst (λ (x : Growth). Goes (first_number + length ns) (first_number + length ns + length regs) 0 x current0 (first_number + total) p' seen') (sym grown)
+          go n' p' seen' (subst (λ (x : Growth). Goes (first_number + length ns) (first_number + length ns + length regs) 0 x current0
+          (first_number + total) p' seen') (sym grown)
           (opened known p' seen'
-          (onward_opened p' seen seen' (λ j room got. r.stands (g0.next + j) room (subst (λ (k : ℕ). Stands c b (k + j) room mid) size (st.stands j room got)))
+          (onward_opened p' seen seen' (λ j room got. r.stands (g0.next + j) room
+          (subst (λ (k : ℕ). Stands c b (k + j) room mid) size (st.stands j room got)))
           not_entry placed r.size (subst (λ (now : ℕ). Front c b now seen') (sym same) (r.front p.cycle st.front)) (omega arith) ops))))))
         where
           omega' : length seen.made ≡ g0.next → length start_rooms ≡ total → length seen.made + length start_rooms ≡ g0.next + total
@@ -568,7 +579,8 @@ module _ (c : ℕ) (H : Seen → List Read → Type 0) (b end : ℕ) (e : Ext) (
             let own = own_temps (g0.next + j) (sort_by kind) v.before in
             let n = v.next (λ i t at' lt. one_copy_each in_entry copied i t at') in
             let last_is : (chosen own (kept_place s own)).0 ≡ g0.next + total + j =
-            ap (λ (t : Bool). (chosen own (if t then 0 else last_place own)).0) (not_placed c H b end e block s fit (g0.next + j) s.placed (omega arith))
+            ap (λ (t : Bool). (chosen own (if t then 0 else last_place own)).0) (not_placed c H b end e block s fit (g0.next + j) s.placed
+            (omega arith))
             ∙ ap (λ (k : Kind). last_of (own_temps (g0.next + j) (sort_by k) v.before)) word ∙ n in
             record {
               kept = record {
@@ -591,7 +603,8 @@ module _ (c : ℕ) (H : Seen → List Read → Type 0) (b end : ℕ) (e : Ext) (
             let own = own_temps (g0.next + (length ns + j)) saved_value v.before in
             record {
               own = own;
-              carries = subst (λ (i : ℕ). Carries g i own saved_value) x (carries_same known g (first_number + (length ns + j)) own saved_value same_values v.carries);
+              carries = subst (λ (i : ℕ). Carries g i own saved_value) x (carries_same known g
+                  (first_number + (length ns + j)) own saved_value same_values v.carries);
               within = omega arith;
               stands = stays j r got;
               safe = record { high = k.high; other = λ z. omega arith; spared = k.spared };
@@ -604,14 +617,17 @@ module _ (c : ℕ) (H : Seen → List Read → Type 0) (b end : ℕ) (e : Ext) (
             let own = own_temps (g0.next + j) saved_value v.before in
             let n = v.next (λ i t at' lt. one_copy_each in_entry copied i t at') in
             let no_place = not_placed c H b end e block s fit (g0.next + j) s.placed (omega arith) in
-            let two : length own ≡ 2 = ap (λ (t : Bool). length (own_temps (g0.next + j) (record { kind = General; copied = t }) v.before)) copied in
-            let one_is : kept_place s own ≡ 1 = ap (λ (t : Bool). if t then 0 else last_place own) no_place ∙ (let z : length own - 1 ≡ 1 = omega arith in z) in
+            let two : length own ≡ 2 = ap (λ (t : Bool). length (own_temps (g0.next + j)
+            (record { kind = General; copied = t }) v.before)) copied in
+            let one_is : kept_place s own ≡ 1 = ap (λ (t : Bool). if t then 0 else last_place own) no_place
+            ∙ (let z : length own - 1 ≡ 1 = omega arith in z) in
             let last_is : (chosen own (kept_place s own)).0 ≡ g0.next + total + j =
             ap (λ (i : ℕ). (chosen own i).0) one_is
             ∙ ap (λ (t : Bool). (chosen (own_temps (g0.next + j) (record { kind = General; copied = t }) v.before) 1).0) copied ∙ n in
             record {
               own = own;
-              carries = subst (λ (i : ℕ). Carries g i own saved_value) x (carries_same known g (first_number + j) own saved_value same_values v.carries);
+              carries = subst (λ (i : ℕ). Carries g i own saved_value) x (carries_same known g
+                  (first_number + j) own saved_value same_values v.carries);
               place = one_is ∙ ap (λ (t : Bool). zero_or t) (sym no_place);
               within = omega arith;
               stands = subst (λ (k : ℕ). Stands c b k s.link seen') (sym last_is) link_slot;
@@ -624,7 +640,8 @@ module _ (c : ℕ) (H : Seen → List Read → Type 0) (b end : ℕ) (e : Ext) (
           last_of : List TempId → ℕ
           last_of xs = (chosen xs (last_place xs)).0
 
-      ones_next : (m : ℕ) (vs : List Sort) (g : Growth) → ((i : ℕ) (t : Sort) → slice_get vs i ≡ Some t → copy_count t ≡ 1) → (with_values m vs g).next ≡ g.next + length vs
+      ones_next : (m : ℕ) (vs : List Sort) (g : Growth) → ((i : ℕ) (t : Sort) → slice_get vs i ≡ Some t → copy_count t ≡ 1)
+          → (with_values m vs g).next ≡ g.next + length vs
       ones_next m [] g ones = omega arith
       ones_next m (t ∷ vs) g ones =
           let one = ones 0 t refl in
@@ -650,7 +667,8 @@ module _ (c : ℕ) (H : Seen → List Read → Type 0) (b end : ℕ) (e : Ext) (
           let more = frame_op Enter ∷ rest in
           let split : values_ops m sorts h0 ≡ us ++ ds =
           values_ops_append c H b end e block s fit m (m + length ns) name_sorts saved_sorts h0 (let a = names_sorts in omega arith)
-          ∙ ap (λ (t : Bool). us ++ values_ops (m + length ns) (replicate (suc (length regs)) (record { kind = General; copied = t })) h1) copied in
+          ∙ ap (λ (t : Bool). us ++ values_ops (m + length ns) (replicate (suc (length regs)) (record { kind = General; copied = t })) h1)
+          copied in
           let shape : extended_ops e.names ns entry saved start_op g0 ++ rest ≡ start ∷ (us ++ (ds ++ more)) =
           ap (λ (os : List ExtOp). os ++ rest) (ops_are ∙ ap (λ (t : Bool). start ∷ (values_ops m sorts h0 ++ enter_ops t In)) in_entry
           ∙ ap (λ (os : List ExtOp). start ∷ (os ++ frame_op Enter ∷ [])) split)
@@ -658,20 +676,26 @@ module _ (c : ℕ) (H : Seen → List Read → Type 0) (b end : ℕ) (e : Ext) (
           let g1 = with_extended e.names ns entry saved start_op g0 in
           let same_values : g1.values ≡ known.values = ap (λ (x : Growth). x.values) grown_is ∙ (enter_values entry known).0 in
           let same_next : g1.next ≡ known.next = ap (λ (x : Growth). x.next) grown_is ∙ (enter_values entry known).1 in
-          let known_next : known.next ≡ m + total + total = ones_next m sorts h0 (one_copy_each in_entry copied) ∙ ap (λ (k : ℕ). m + total + k) sorts_size in
+          let known_next : known.next ≡ m + total + total = ones_next m sorts h0 (one_copy_each in_entry copied)
+          ∙ ap (λ (k : ℕ). m + total + k) sorts_size in
           let names_next : h1.next ≡ m + total + length ns =
-          ones_next m name_sorts h0 (λ i t got. one_copy_each in_entry copied i t (get_left name_sorts saved_sorts i t got)) ∙ ap (λ (k : ℕ). m + total + k) names_sorts in
+          ones_next m name_sorts h0 (λ i t got. one_copy_each in_entry copied i t (get_left name_sorts saved_sorts i t got))
+          ∙ ap (λ (k : ℕ). m + total + k) names_sorts in
           let count : length (new_temps g0 total) ≡ length ns + suc (length regs) = length-map-range_with_len temp m total in
           let rooms_count : length start_rooms ≡ total =
-          length-append (map name_room ns) (regs ++ last_room ∷ []) ∙ (let a = length-map ns name_room in let d = length-append regs (last_room ∷ []) in omega arith) in
+          length-append (map name_room ns) (regs ++ last_room ∷ []) ∙ (let a = length-map ns name_room in let d = length-append regs
+          (last_room ∷ []) in omega arith) in
           let first : (if s.is_entry then Start else Other) ≡ Start = ap (λ (t : Bool). if t then Start else Other) (is_entry ∙ in_entry) in
           let last : last_room ≡ LINK = ap last_by_entry in_entry in
           subst (G n p seen) (sym shape)
-          (start_good c H b end e block s fit n p seen (new_temps g0 total) (us ++ (ds ++ more)) start_rooms (rooms_are (new_temps g0 total) count) rooms_apart fresh le
+          (start_good c H b end e block s fit n p seen (new_temps g0 total) (us ++ (ds ++ more)) start_rooms
+          (rooms_are (new_temps g0 total) count) rooms_apart fresh le
           (λ mid0 st.
-          let stand : (j r : ℕ) → slice_get start_rooms j ≡ Some r → Stands c b (m + j) r mid0 = λ j r got. subst (λ (k : ℕ). Stands c b (k + j) r mid0) size (st.stands j r got) in
+          let stand : (j r : ℕ) → slice_get start_rooms j ≡ Some r → Stands c b (m + j) r mid0 = λ j r got. subst
+          (λ (k : ℕ). Stands c b (k + j) r mid0) size (st.stands j r got) in
           let size0 : length mid0.made ≡ m + total = (let a = st.longer in omega arith) in
-          params_spill c H b end e block s fit ns 0 m (n + 1) (other_progress p.cycle (if s.is_entry then Start else Other)) mid0 h0 (ds ++ more) first refl
+          params_spill c H b end e block s fit ns 0 m (n + 1) (other_progress p.cycle (if s.is_entry then Start else Other)) mid0 h0
+          (ds ++ more) first refl
           (λ i name got. let z : 0 + i ≡ i = omega arith in ap (slice_get ns) z ∙ got)
           (λ i name got. (params in_entry i name got).1)
           (λ i name got. record {
@@ -684,9 +708,11 @@ module _ (c : ℕ) (H : Seen → List Read → Type 0) (b end : ℕ) (e : Ext) (
           (λ n1 p1 mid1 le1 d1 v1 o1 sp.
           let link_there : Stands c b (m + (length ns + length regs)) LINK mid1 =
           sp.others (m + (length ns + length regs)) LINK (λ i name got z. omega arith)
-          (subst (λ (r : ℕ). Stands c b (m + (length ns + length regs)) r mid0) last (stand (length ns + length regs) last_room last_room_at)) in
+          (subst (λ (r : ℕ). Stands c b (m + (length ns + length regs)) r mid0) last
+          (stand (length ns + length regs) last_room last_room_at)) in
           let place : m + (length ns + length regs) ≡ m + length ns + length regs = omega arith in
-          link_spills c H b end e block s fit (length regs) (length ns) (m + length ns) n1 p1 mid1 h1 more d1 (v1 ∙ (let z : 0 + length ns ≡ length ns = omega arith in z))
+          link_spills c H b end e block s fit (length regs) (length ns) (m + length ns) n1 p1 mid1 h1 more d1
+          (v1 ∙ (let z : 0 + length ns ≡ length ns = omega arith in z))
           (λ i. slice_get_past ns (length ns + i) (omega arith)) (omega arith) (omega arith)
           (record { room = LINK; low = omega arith; stands = subst (λ (k : ℕ). Stands c b k LINK mid1) place link_there })
           sp.front (let a = sp.size in omega arith)
@@ -705,7 +731,8 @@ module _ (c : ℕ) (H : Seen → List Read → Type 0) (b end : ℕ) (e : Ext) (
           let lt = small j name got in
           idle.stands (m + total + j) (slot_of name) (ls.others (m + total + j) (slot_of name) (λ z. omega arith) (sp.new j name got)))
           (subst (λ (k : ℕ). Stands c b k s.link seen') (link_number names_next) (idle.stands (h1.next + length regs) s.link ls.new))
-          in_entry copied placed (let a = idle.longer in let d = ls.size in omega arith) (idle.front p2.cycle ls.front) (omega arith) refl)))))))
+          in_entry copied placed (let a = idle.longer in let d = ls.size in omega arith) (idle.front p2.cycle ls.front)
+          (omega arith) refl)))))))
         where
           room_low : entry ≡ true → (name : NameId) → name.0 < 6 → name_room name < 32
           room_low in_entry name lt = let a = ap (λ (t : Bool). room_by t name) in_entry ∙ args_at name.0 lt in omega arith

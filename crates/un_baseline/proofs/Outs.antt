@@ -77,11 +77,14 @@ module _ (c : ℕ) (H : Seen → List Read → Type 0) (b end : ℕ) (e : Ext) (
 
   -- behind them the cycle is the same
   abbrev Then : ℕ → Seen → List ExtOp → Type 0
-  Then now seen rest = (m : ℕ) (p' : Progress) (seen' : Seen) (count : ℕ) → p'.cycle ≡ now → Idle c H b end count seen seen' → G m p' seen' rest
+  Then now seen rest = (m : ℕ) (p' : Progress) (seen' : Seen) (count : ℕ) → p'.cycle ≡ now → Idle c H b end count seen seen'
+      → G m p' seen' rest
 
-  copies_rest : (kind : Kind) (copied : Bool) (alts : List TempId) (k n : ℕ) (p : Progress) (seen : Seen) (rest : List ExtOp) (purpose : Purpose)
+  copies_rest : (kind : Kind) (copied : Bool) (alts : List TempId) (k n : ℕ) (p : Progress) (seen : Seen) (rest : List ExtOp)
+      (purpose : Purpose)
       → purpose_at s.term rest ≡ purpose → IsPast p purpose
-      → ((m : ℕ) (p' : Progress) (seen' : Seen) (count : ℕ) → p'.cycle ≡ p.cycle → p.operands ≤ p'.operands → Idle c H b end count seen seen' → G m p' seen' rest)
+      → ((m : ℕ) (p' : Progress) (seen' : Seen) (count : ℕ) → p'.cycle ≡ p.cycle → p.operands ≤ p'.operands
+      → Idle c H b end count seen seen' → G m p' seen' rest)
       → G n p seen (copy_ops U U2 kind copied alts k ++ rest)
   copies_rest kind false alts k n p seen rest purpose for past go = go n p seen 0 refl (omega arith) (idle_none c H b end seen)
   copies_rest General true alts k n p seen rest purpose for past go =
@@ -91,15 +94,19 @@ module _ (c : ℕ) (H : Seen → List Read → Type 0) (b end : ℕ) (e : Ext) (
       let alts' = alts ++ temp k ∷ [] in
       let p' = past_copy c H b end e block s fit p U in
       idle_copy c H b end e block s fit n p seen U alts k (copy_op U2 alts' (k + 1) ∷ rest) purpose for (past_first p alts purpose past)
-      (λ mid idle. idle_copy c H b end e block s fit (n + 1) p' mid U2 alts' (k + 1) rest purpose for (past_second p' alts' purpose (past_later p purpose past p' (omega arith)))
-      (λ seen' idle'. go (n + 1 + 1) (past_copy c H b end e block s fit p' U2) seen' (1 + 1) refl (omega arith) (idle_then c H b end 1 1 seen mid seen' idle idle')))
+      (λ mid idle. idle_copy c H b end e block s fit (n + 1) p' mid U2 alts' (k + 1) rest purpose for
+      (past_second p' alts' purpose (past_later p purpose past p' (omega arith)))
+      (λ seen' idle'. go (n + 1 + 1) (past_copy c H b end e block s fit p' U2) seen' (1 + 1) refl (omega arith)
+      (idle_then c H b end 1 1 seen mid seen' idle idle')))
 
   operand_rests : (v : Option Value) (k n : ℕ) (p : Progress) (seen : Seen) (rest : List ExtOp) (purpose : Purpose)
       → purpose_at s.term rest ≡ purpose → IsPast p purpose
-      → ((m : ℕ) (p' : Progress) (seen' : Seen) (count : ℕ) → p'.cycle ≡ p.cycle → p.operands ≤ p'.operands → Idle c H b end count seen seen' → G m p' seen' rest)
+      → ((m : ℕ) (p' : Progress) (seen' : Seen) (count : ℕ) → p'.cycle ≡ p.cycle → p.operands ≤ p'.operands
+      → Idle c H b end count seen seen' → G m p' seen' rest)
       → G n p seen (operand_ops_by v k ++ rest)
   operand_rests None k n p seen rest purpose for past go = go n p seen 0 refl (omega arith) (idle_none c H b end seen)
-  operand_rests (Some v) k n p seen rest purpose for past go = copies_rest v.sort.kind v.sort.copied v.own k n p seen rest purpose for past go
+  operand_rests (Some v) k n p seen rest purpose for past go = copies_rest v.sort.kind v.sort.copied v.own k n p seen rest purpose for
+      past go
 
   pub operands_rest : (xs : List Operand) (n : ℕ) (p : Progress) (seen : Seen) (g : Growth) (rest : List ExtOp) (purpose : Purpose)
       → purpose_at s.term rest ≡ purpose → IsPast p purpose
@@ -113,7 +120,8 @@ module _ (c : ℕ) (H : Seen → List Read → Type 0) (b end : ℕ) (e : Ext) (
       (operands_purpose c H b end e block s fit xs g' rest ∙ for) past
       (λ m p' mid count same le idle.
       operands_rest xs m p' mid g' rest purpose for (past_later p purpose past p' le)
-      (λ m' q seen' count' same' idle'. go m' q seen' (count + count') (same' ∙ same) (idle_then c H b end count count' seen mid seen' idle idle'))))
+      (λ m' q seen' count' same' idle'. go m' q seen' (count + count') (same' ∙ same)
+      (idle_then c H b end count count' seen mid seen' idle idle'))))
 
   -- ---- what the block's end reads
 
@@ -140,11 +148,13 @@ module _ (c : ℕ) (H : Seen → List Read → Type 0) (b end : ℕ) (e : Ext) (
   AreOutReads seen count j [] (r ∷ rs) = ⊥
   AreOutReads seen count j (y ∷ ys) [] = ⊥
   AreOutReads seen count j (y ∷ ys) (r ∷ rs) =
-      (Stands c b (chosen y.alts (out_place e.names block.live_out s count s.term j y)).0 r seen × IfSome y.home (λ (h : Reg). r ≡ h.0)) × AreOutReads seen count (j + 1) ys rs
+      (Stands c b (chosen y.alts (out_place e.names block.live_out s count s.term j y)).0 r seen × IfSome y.home (λ (h : Reg). r ≡ h.0)) ×
+      AreOutReads seen count (j + 1) ys rs
 
   pub out_later : (g g' : Growth) (seen seen' : Seen) (count j : ℕ) (xs : List Operand) (rs : List ℕ)
       → ((x : ℕ) (own : List TempId) (sort : Sort) → Carries g x own sort → Carries g' x own sort)
-      → All (λ (r : ℕ). (k : ℕ) → Stands c b k r seen → Stands c b k r seen') rs → AreOut g seen count j xs rs → AreOut g' seen' count j xs rs
+      → All (λ (r : ℕ). (k : ℕ) → Stands c b k r seen → Stands c b k r seen') rs → AreOut g seen count j xs rs
+      → AreOut g' seen' count j xs rs
   out_later g g' seen seen' count j [] [] f stands h = tt
   out_later g g' seen seen' count j [] (r ∷ rs) f stands h = absurd h
   out_later g g' seen seen' count j (x ∷ xs) [] f stands h = absurd h
@@ -167,7 +177,8 @@ module _ (c : ℕ) (H : Seen → List Read → Type 0) (b end : ℕ) (e : Ext) (
   first_own [] more place lt = absurd (omega arith)
   first_own (x ∷ xs) more place lt = refl
 
-  first_alternative : (x : Operand) (g : Growth) (own : List TempId) (sort : Sort) (place : ℕ) → place < length own → Carries g (first_of x.alts) own sort
+  first_alternative : (x : Operand) (g : Growth) (own : List TempId) (sort : Sort) (place : ℕ) → place < length own
+      → Carries g (first_of x.alts) own sort
       → first_of (chosen_from x (with_operand x g)).alts ≡ first_of own
   first_alternative x g own sort place lt h =
       let k = carries_operand x g (first_of x.alts) own sort h in
@@ -188,20 +199,24 @@ module _ (c : ℕ) (H : Seen → List Read → Type 0) (b end : ℕ) (e : Ext) (
           k.home,
         ),
         out_reads (with_operand x g) seen count (j + 1) xs rs
-            (out_later g (with_operand x g) seen seen count (j + 1) xs rs (λ v own sort q. carries_operand x g v own sort q) (λ m d lt n st. st) h.1),
+            (out_later g (with_operand x g) seen seen count (j + 1) xs rs (λ v own sort q. carries_operand x g v own sort q)
+            (λ m d lt n st. st) h.1),
       )
 
   -- ---- the block's end
 
-  place_of : (f : ℕ → Operand → ℕ) (j m : ℕ) (ys : List Operand) (y : Operand) → slice_get ys m ≡ Some y → slice_index (places_from f j ys) m ≡ f (j + m) y
+  place_of : (f : ℕ → Operand → ℕ) (j m : ℕ) (ys : List Operand) (y : Operand) → slice_get ys m ≡ Some y
+      → slice_index (places_from f j ys) m ≡ f (j + m) y
   place_of f j m [] y got = absurd (cc got)
   place_of f j zero (z ∷ ys) y got = let same : z ≡ y = cc got in let n : j ≡ j + 0 = omega arith in ap (f j) same ∙ ap (λ (k : ℕ). f k y) n
-  place_of f j (suc m) (z ∷ ys) y got = let n : j + 1 + m ≡ j + suc m = omega arith in place_of f (j + 1) m ys y got ∙ ap (λ (k : ℕ). f k y) n
+  place_of f j (suc m) (z ∷ ys) y got = let n : j + 1 + m ≡ j + suc m = omega arith in place_of f (j + 1) m ys y got
+      ∙ ap (λ (k : ℕ). f k y) n
 
   module _ (seen : Seen) (i : Issue) (st : Step) (count : ℕ) (block_is : i.block.0 ≡ b) (free : i.instr ≡ None) where
     ends_good : (j : ℕ) (ys : List Operand) (rs : List ℕ) → ((m : ℕ) (y : Operand) → slice_get ys m ≡ Some y
         → slice_index st.choices (j + m) ≡ out_place e.names block.live_out s count s.term (j + m) y)
-        → AreOutReads seen count j ys rs → All (GoodRead c seen) (places_from (planned_read i st) j ys) × AllZip (ReadsFrom seen) (places_from (planned_read i st) j ys) rs
+        → AreOutReads seen count j ys rs → All (GoodRead c seen) (places_from (planned_read i st) j ys) × AllZip (ReadsFrom seen)
+        (places_from (planned_read i st) j ys) rs
     ends_good j [] [] places h = (All-nil (GoodRead c seen), tt)
     ends_good j [] (r ∷ rs) places h = absurd h
     ends_good j (y ∷ ys) [] places h = absurd h
@@ -213,9 +228,11 @@ module _ (c : ℕ) (H : Seen → List Read → Type 0) (b end : ℕ) (e : Ext) (
         let k = (chosen y.alts (out_place e.names block.live_out s count s.term j y)).0 in
         let temp_is : q.temp.0 ≡ k = ap (λ (n : ℕ). (chosen y.alts n).0) place in
         let st' = h.0.0 in
-        let good = good_read c b k r seen st' q temp_is block_is (subst (λ (x : Option Op). InSpace r (space_read x j)) (sym free) tt) h.0.1 in
+        let good = good_read c b k r seen st' q temp_is block_is (subst (λ (x : Option Op). InSpace r (space_read x j)) (sym free) tt)
+        h.0.1 in
         let rest = ends_good (j + 1) ys rs (λ m z got. (let n : j + 1 + m ≡ j + suc m = omega arith in
-        ap (slice_index st.choices) n ∙ places (suc m) z got ∙ ap (λ (x : ℕ). out_place e.names block.live_out s count s.term x z) (sym n))) h.1 in (
+        ap (slice_index st.choices) n ∙ places (suc m) z got ∙ ap (λ (x : ℕ). out_place e.names block.live_out s count s.term x z)
+        (sym n))) h.1 in (
           All-cons (GoodRead c seen) q (places_from (planned_read i st) (j + 1) ys) good rest.0,
           (record { temp = st'.temp; there = ap (slice_get seen.made) temp_is ∙ st'.there; reg = st'.reg }, rest.1),
         )
@@ -229,7 +246,8 @@ module _ (c : ℕ) (H : Seen → List Read → Type 0) (b end : ℕ) (e : Ext) (
       let st : Step = record { instr = 0; cycle = 0; choices = places_from f 0 ys; registers = [] } in
       let i = planned_issue b end n op st in
       let reads = places_from (planned_read i st) 0 ys in
-      let good = ends_good seen i st (length ys) refl refl 0 ys rs (λ m y got. (let at : 0 + m ≡ m = omega arith in ap (slice_index (places_from f 0 ys)) at ∙ place_of f 0 m ys y got)) h in
+      let good = ends_good seen i st (length ys) refl refl 0 ys rs (λ m y got. (let at : 0 + m
+      ≡ m = omega arith in ap (slice_index (places_from f 0 ys)) at ∙ place_of f 0 m ys y got)) h in
       let no_call : i.instr ≡ Some Call → ⊥ = λ call. cc call in (
         (
           record {

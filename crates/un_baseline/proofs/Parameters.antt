@@ -25,10 +25,12 @@ abbrev Kept : Function → Type 0
 Kept f = IsWellFormed f.name f.params f.names f.blocks
 
 -- an operation assigns a name of the function
-pub dst_small : (f : Function) (b k : ℕ) (block : Block) (o : SrcOp) (name : NameId) → slice_get f.blocks b ≡ Some block → slice_get block.ops k ≡ Some o
+pub dst_small : (f : Function) (b k : ℕ) (block : Block) (o : SrcOp) (name : NameId) → slice_get f.blocks b ≡ Some block
+    → slice_get block.ops k ≡ Some o
     → o.dst ≡ Some name → name.0 < length f.names
 dst_small f b k block o name at here is =
-    ∥∥₁_elim f.well_formed le_prop (λ (w : Kept f). (let small = names_small f.names f.blocks w.good_blocks in small.assigns b k block o name at here is))
+    ∥∥₁_elim f.well_formed le_prop (λ (w : Kept f). (let small = names_small f.names f.blocks w.good_blocks in small.assigns b k block o
+    name at here is))
 
 -- ---- the parameters are the first names
 
@@ -66,13 +68,22 @@ record Begins (seen : List ℕ) (params rest : List NameId) : Type 0 where
 
 begins : (seen : List ℕ) (params rest : List NameId) → AllPairs (λ (a b : NameId). a ≢ b) params → AreNew seen params
     → Begins seen params rest
-begins seen [] rest apart new = let g = grows seen rest in record { more = g.more; is = g.is ∙ ap (λ (xs : List ℕ). xs ++ g.more) (sym (append-nil seen)) }
+begins seen [] rest apart new = let g = grows seen rest in record {
+  more = g.more;
+  is = g.is
+      ∙ ap (λ (xs : List ℕ). xs ++ g.more) (sym (append-nil seen));
+}
 begins seen (p ∷ params) rest apart new =
     let first : list_any (nat_eq p.0) seen ≡ false = new 0 p (omega arith) in
     let later = begins (seen ++ p.0 ∷ []) params rest
     (λ i j d lt below. apart (suc i) (suc j) d (omega arith) (omega arith))
-    (λ j d below. (let q = get_or params j d in any_push q.0 p.0 seen (new (suc j) d (omega arith)) (differ q (apart 0 (suc j) d (omega arith) (omega arith))))) in
-    record { more = later.more; is = ap (λ (v : Bool). fold see (if v then seen else seen ++ p.0 ∷ []) (params ++ rest)) first ∙ later.is ∙ ap (λ (xs : List ℕ). xs ++ later.more) (append_assoc seen (p.0 ∷ []) (numbers params)) }
+    (λ j d below. (let q = get_or params j d in any_push q.0 p.0 seen (new (suc j) d (omega arith))
+    (differ q (apart 0 (suc j) d (omega arith) (omega arith))))) in
+    record {
+      more = later.more;
+      is = ap (λ (v : Bool). fold see (if v then seen else seen ++ p.0 ∷ []) (params ++ rest)) first ∙ later.is
+          ∙ ap (λ (xs : List ℕ). xs ++ later.more) (append_assoc seen (p.0 ∷ []) (numbers params));
+    }
   where
     differ : (q : NameId) → p ≢ q → nat_eq q.0 p.0 ≡ false
     differ q other = by (nat_eq q.0 p.0) refl
@@ -118,11 +129,13 @@ params_few f = ∥∥₁_elim f.well_formed le_prop (λ (w : Kept f). w.few_para
 
 pub entry_param : (f : Function) (name : NameId) → IsLive f.blocks name 0 0 → name.0 < length f.params
 entry_param f name l = ∥∥₁_elim f.well_formed le_prop
-    (λ (w : Kept f). (let n = numbered f.params (flat_map names_in_block f.blocks) (length f.names) w.distinct_params w.numbered in n.below name (w.live name l)))
+    (λ (w : Kept f). (let n = numbered f.params (flat_map names_in_block f.blocks)
+    (length f.names) w.distinct_params w.numbered in n.below name (w.live name l)))
 
 pub entry_low : (f : Function) (name : NameId) → IsLive f.blocks name 0 0 → name.0 < 6
 entry_low f name l = let a = entry_param f name l in let b = params_few f in omega (arith, a, b)
 
 pub entry_word : (f : Function) (name : NameId) → IsLive f.blocks name 0 0 → name_kind (map kind_of_pair f.names) name ≡ General
 entry_word f name l = ∥∥₁_elim f.well_formed (hlevel (props))
-    (λ (w : Kept f). kind_named f.names name General (All-contains (IsOfKind f.names General) f.params name w.params_are_words (w.live name l)))
+    (λ (w : Kept f). kind_named f.names name General (All-contains (IsOfKind f.names General) f.params name w.params_are_words
+    (w.live name l)))

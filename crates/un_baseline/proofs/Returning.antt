@@ -1,5 +1,5 @@
 -- The end of a block that returns: the address and the result are reloaded.
-use Rattle.std.proofs.Common.{◌≡◌, ◌≢◌, ℕ, suc, ◌+◌, ◌≤◌, inr, Bool, true, false, List, [], ◌∷◌, ◌++◌, length, map, Option, Some, None, refl, sym, ap, subst, ◌∙◌, append_assoc, arith}
+use Rattle.std.proofs.Common.{◌≡◌, ◌≢◌, ℕ, ◌+◌, ◌≤◌, inr, Bool, true, false, List, [], ◌∷◌, ◌++◌, length, map, Option, Some, None, refl, sym, ap, subst, ◌∙◌, append_assoc, arith}
 use Rattle.std.specs.Prelude.{◌==◌, if◌then◌else◌, slice_get, slice_index, All}
 use Rattle.std.proofs.lemmas.Bool.Decides.{nat_tests}
 use Rattle.std.proofs.lemmas.List.Elements.{All-nil, All-cons}
@@ -45,10 +45,12 @@ use Rattle.un_baseline.proofs.Going.{SavedAt, LinkAt, Going, kept_as}
 use Rattle.un_baseline.proofs.Ends.{out_shape, ended, enter_end, no_enter, OutAsks, out_after, kept_out, new_size}
 use Rattle.un_baseline.proofs.Outs.{AreOut, operands_rest, out_later, out_reads, out_good}
 use Rattle.un_baseline.proofs.Tailing.{leave_good, transfer_good, late_copy, timely_weaker, calls_weaker}
+use Rattle.un_baseline.proofs.Items.{all_at}
 
 module _ (c : ℕ) (H : Seen → List Read → Type 0) (b end : ℕ) (e : Ext) (block : ExtBlock) (s : Setting) (fit : IsFit e.table)
     (free : (r : ℕ) → 36 ≤ r → in_mask c r ≡ false) (f : Function) (source : Block) (at : slice_get f.blocks b ≡ Some source)
-    (same_names : e.names ≡ map kind_of_pair f.names) (link_is : s.link ≡ 36 + length e.names) (live_in : List NameId) (entry saved : Bool) where
+    (same_names : e.names ≡ map kind_of_pair f.names) (link_is : s.link ≡ 36 + length e.names) (live_in : List NameId)
+    (entry saved : Bool) where
   abbrev G : ℕ → Progress → Seen → List ExtOp → Type 0
   G = Good c H b end e block s fit
 
@@ -77,10 +79,6 @@ module _ (c : ℕ) (H : Seen → List Read → Type 0) (b end : ℕ) (e : Ext) (
   abbrev out_at : List Operand → ExtOp
   out_at xs = record { kind = Out; operands = xs; results = [] }
 
-  all_of : (P : ℕ → Type 0) (regs : List ℕ) → ((j r : ℕ) → slice_get regs j ≡ Some r → P r) → All P regs
-  all_of P [] h = All-nil P
-  all_of P (r ∷ regs) h = All-cons P r regs (h 0 r refl) (all_of P regs (λ j q got. h (suc j) q got))
-
   module _ (kept0 link0 : ℕ) (g : Growth) (current : List ℕ) (first : ℕ) (p : Progress) (seen : Seen)
       (h : Goes kept0 link0 (length source.ops) g current first p seen) (copied : saved ≡ true) (value : Option NameId) where
     abbrev address : Operand
@@ -93,15 +91,18 @@ module _ (c : ℕ) (H : Seen → List Read → Type 0) (b end : ℕ) (e : Ext) (
     behind = ended c H b end e block s fit free f source at same_names link_is live_in entry saved (Ret value) (address ∷ []) before
 
     carries : Carries before link0 h.link.own (sort_by General)
-    carries = carries_same g before link0 h.link.own (sort_by General) refl (subst (λ (t : Bool). Carries g link0 h.link.own (record { kind = General; copied = t })) copied h.link.carries)
+    carries = carries_same g before link0 h.link.own (sort_by General) refl (subst
+        (λ (t : Bool). Carries g link0 h.link.own (record { kind = General; copied = t })) copied h.link.carries)
 
     -- Leave, the reload of the address, the return
     steps : (rest : List ExtOp) → extended_ops e.names live_in entry saved (end_at (Ret value) (address ∷ [])) g ++ rest
         ≡ frame_op Leave ∷ (copy_op U h.link.own g.next ∷ (end_at (Ret value) (new_operands (address ∷ []) before) ∷ rest))
     steps rest =
         let made = end_at (Ret value) (new_operands (address ∷ []) before) in
-        ap (λ (es : List ExtOp). frame_op Leave ∷ ((operands_ops (address ∷ []) before ++ (made ∷ es)) ++ rest)) (no_enter c H b end e block s fit free f source at same_names link_is live_in entry saved entry (Ret value))
-        ∙ ap (λ (us : List ExtOp). frame_op Leave ∷ (((us ++ []) ++ (made ∷ [])) ++ rest)) (ops_of c H b end e block s fit address before h.link.own General carries)
+        ap (λ (es : List ExtOp). frame_op Leave ∷ ((operands_ops (address ∷ []) before ++ (made ∷ es)) ++ rest))
+        (no_enter c H b end e block s fit free f source at same_names link_is live_in entry saved entry (Ret value))
+        ∙ ap (λ (us : List ExtOp). frame_op Leave ∷ (((us ++ []) ++ (made ∷ [])) ++ rest))
+        (ops_of c H b end e block s fit address before h.link.own General carries)
 
     -- what stands behind them
     record Left (seen' : Seen) : Type 0 where
@@ -134,12 +135,15 @@ module _ (c : ℕ) (H : Seen → List Read → Type 0) (b end : ℕ) (e : Ext) (
         (λ seen2 re.
         let here : length seen1.made ≡ g.next = (let a = idle.longer in let d = h.size in omega arith) in
         let stands : Stands c b (chosen y.alts (last_place y.alts)).0 LINK seen2 =
-        subst (λ (k : ℕ). Stands c b k LINK seen2) (here ∙ ap (λ (z : TempId). z.0) (sym (arrived_general address before own carries))) re.new in
-        transfer_good c H b end e block s fit (n + 1 + 1) (record { cycle = p.cycle; values = 0; operands = 0 + 1; definer = Other }) seen2 (Ret value) Jumpr
+        subst (λ (k : ℕ). Stands c b k LINK seen2) (here ∙ ap (λ (z : TempId). z.0) (sym (arrived_general address before own carries)))
+        re.new in
+        transfer_good c H b end e block s fit (n + 1 + 1) (record { cycle = p.cycle; values = 0; operands = 0 + 1; definer = Other })
+        seen2 (Ret value) Jumpr
         (new_operands (address ∷ []) before) rest (LINK ∷ []) refl (λ z. cc z) (stands, tt) (refl, tt, tt)
         (λ seen3 passed. go (n + 1 + 1 + 1) seen3 (record {
           stays = λ k r high other st. passed.stands k r (re.stands k r other (idle.stands k r st));
-          size = passed.longer ∙ re.longer ∙ ap (λ (k : ℕ). k + 1) here ∙ sym (next_of c H b end e block s fit address before own General carries)
+          size = passed.longer ∙ re.longer ∙ ap (λ (k : ℕ). k + 1) here ∙ sym (next_of c H b end e block s fit address before own General
+              carries)
               ∙ (let z : (with_operand address before).next ≡ (with_operand address before).next + 0 = omega arith in z);
           timely = passed.timely p.cycle 0 (All-cons (λ (x : ℕ). x ≢ 0) LINK [] (λ z. omega arith) (All-nil (λ (x : ℕ). x ≢ 0))) re.known
               (re.timely p.cycle 0 (λ z. omega arith) (λ z. omega arith) (f1.timely 0));
@@ -157,22 +161,26 @@ module _ (c : ℕ) (H : Seen → List Read → Type 0) (b end : ℕ) (e : Ext) (
     regs = callee_saved e.table
 
     regs_stay : (seen' : Seen) → Stays seen seen' → All (λ (r : ℕ). (k : ℕ) → Stands c b k r seen → Stands c b k r seen') regs
-    regs_stay seen' stays = all_of (λ (r : ℕ). (k : ℕ) → Stands c b k r seen → Stands c b k r seen') regs
+    regs_stay seen' stays = all_at (λ (r : ℕ). (k : ℕ) → Stands c b k r seen → Stands c b k r seen') regs
         (λ j r got k st. let q = h.saved_at j r got in let low = q.low in stays k r q.safe.high (λ z. omega arith) st)
 
     regs_out : (count j : ℕ) → ((n : ℕ) (y : Operand) → j ≤ n → out_place e.names block.live_out s count s.term n y ≡ 0)
         → Outs g seen count j (kept_operands kept0 regs) regs
     regs_out count j zeros =
         subst (λ (z : ℕ). Outs g seen count j (kept_operands z regs) regs) (let z : kept0 + 0 ≡ kept0 = omega arith in z)
-        (kept_out c H b end e block s fit free f source at same_names link_is live_in entry saved kept0 link0 (length source.ops) g current first p seen h count 0 j regs
-        (λ m r got. let z : kept0 + m ≡ kept0 + (0 + m) = omega arith in subst (λ (v : ℕ). SavedHere g seen v r) z (h.saved_at m r got)) zeros)
+        (kept_out c H b end e block s fit free f source at same_names link_is live_in entry saved kept0 link0
+        (length source.ops) g current first p seen h count 0 j regs
+        (λ m r got. let z : kept0 + m ≡ kept0 + (0 + m) = omega arith in subst (λ (v : ℕ). SavedHere g seen v r) z (h.saved_at m r got))
+        zeros)
 
     abbrev behind_ops : ExtOp → List ExtOp
     behind_ops out = ops_from (end_at (Ret value) (address ∷ []) ∷ out ∷ []) g
 
-    return_with : (n : ℕ) (out : ExtOp) → ((m : ℕ) (seen' : Seen) → Left seen' → G m returned seen' (ops_from (out ∷ []) behind)) → G n p seen (behind_ops out)
+    return_with : (n : ℕ) (out : ExtOp) → ((m : ℕ) (seen' : Seen) → Left seen' → G m returned seen' (ops_from (out ∷ []) behind))
+        → G n p seen (behind_ops out)
     return_with n out go =
-        subst (λ (z : Growth). G n p seen (extended_ops e.names live_in entry saved (end_at (Ret value) (address ∷ [])) g ++ ops_from (out ∷ []) z))
+        subst (λ (z : Growth). G n p seen (extended_ops e.names live_in entry saved (end_at (Ret value) (address ∷ [])) g
+        ++ ops_from (out ∷ []) z))
         (sym (enter_end c H b end e block s fit free f source at same_names link_is live_in entry saved entry (Ret value) behind))
         (leaves n (ops_from (out ∷ []) behind) go)
 
@@ -186,10 +194,12 @@ module _ (c : ℕ) (H : Seen → List Read → Type 0) (b end : ℕ) (e : Ext) (
       let xs = kept_operands kept0 rs in
       let g' = behind kept0 link0 g current first p seen h copied None in
       return_with kept0 link0 g current first p seen h copied None n (out_at xs)
-      (λ m seen' left. out_after c H b end e block s fit free f source at same_names link_is live_in entry saved m (other_progress p.cycle Other) seen' g' xs rs
+      (λ m seen' left. out_after c H b end e block s fit free f source at same_names link_is live_in entry saved m
+      (other_progress p.cycle Other) seen' g' xs rs
       (out_later c H b end e block s fit g g' seen seen' (length xs) 0 xs rs (to_behind kept0 link0 g current first p seen h copied None)
       (regs_stay kept0 link0 g current first p seen h copied None seen' left.stays)
-      (regs_out kept0 link0 g current first p seen h copied None (length xs) 0 (λ j y le. ap (λ (t : Term). out_place e.names block.live_out s (length xs) t j y) term)))
+      (regs_out kept0 link0 g current first p seen h copied None (length xs) 0 (λ j y le. ap
+      (λ (t : Term). out_place e.names block.live_out s (length xs) t j y) term)))
       (ap purpose_of_out term) wanted)
 
   -- with a result
@@ -209,10 +219,12 @@ module _ (c : ℕ) (H : Seen → List Read → Type 0) (b end : ℕ) (e : Ext) (
       let g'' = with_operand x g' in
       let made = out_at (new_operands xs g') in
       let to = to_behind kept0 link0 g current first p seen h copied value in
-      let k0 = kept_as c H b end e block s fit free f source at same_names link_is live_in entry saved g seen (slice_index current name.0) name General kind (h.names name live) in
+      let k0 = kept_as c H b end e block s fit free f source at same_names link_is live_in entry saved g seen
+      (slice_index current name.0) name General kind (h.names name live) in
       return_with kept0 link0 g current first p seen h copied value n (out_at xs)
       (λ m seen3 left.
-      let k = kept_later c H b end e block s fit g g' seen seen3 (slice_index current name.0) General (to (slice_index current name.0)) (λ i r le st. left.stays i r (omega arith) (λ z. omega arith) st) k0 in
+      let k = kept_later c H b end e block s fit g g' seen seen3 (slice_index current name.0) General (to (slice_index current name.0))
+      (λ i r le st. left.stays i r (omega arith) (λ z. omega arith) st) k0 in
       let place = kept_place s k.own in
       let rest = operands_ops ks g'' ++ made ∷ [] in
       let p3 = other_progress p.cycle Other in
@@ -231,7 +243,8 @@ module _ (c : ℕ) (H : Seen → List Read → Type 0) (b end : ℕ) (e : Ext) (
       let ys = new_operands xs g' in
       let y = chosen_from x g'' in
       let size : length ys ≡ length xs = new_size c H b end e block s fit free f source at same_names link_is live_in entry saved xs g' in
-      let first_place : out_place e.names block.live_out s (length ys) s.term 0 y ≡ last_place y.alts = ap (λ (t : Term). out_place e.names block.live_out s (length ys) t 0 y) term in
+      let first_place : out_place e.names block.live_out s (length ys) s.term 0 y
+      ≡ last_place y.alts = ap (λ (t : Term). out_place e.names block.live_out s (length ys) t 0 y) term in
       let temp_is : (chosen y.alts (out_place e.names block.live_out s (length ys) s.term 0 y)).0 ≡ length seen3.made =
       ap (λ (i : ℕ). (chosen y.alts i).0) first_place ∙ ap (λ (z : TempId). z.0) (arrived_general x g' k.own k.carries) ∙ sym left.size in
       let zeros : (j : ℕ) (z : Operand) → 1 ≤ j → out_place e.names block.live_out s (length ys) s.term j z ≡ 0 =

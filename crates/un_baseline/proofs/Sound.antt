@@ -1,6 +1,6 @@
 -- What the temporaries that operations make, and their reads, keep, as one operation comes after another; and that clauses of
 -- a solution follow.
-use Rattle.std.proofs.Common.{◌≡◌, ◌≢◌, ℕ, zero, suc, ◌+◌, ◌-◌, ◌<◌, ◌≤◌, ◌⊎◌, ⊎_elim, inl, inr, max, nat_eq, Bool, true, false, List, [], ◌∷◌, ◌++◌, get_or, Option, Some, None, refl, sym, ap, subst, ◌∙◌, arith}
+use Rattle.std.proofs.Common.{◌≡◌, ◌≢◌, ℕ, suc, ◌+◌, ◌-◌, ◌<◌, ◌≤◌, ◌⊎◌, ⊎_elim, inl, inr, max, nat_eq, Bool, true, false, List, [], ◌∷◌, ◌++◌, get_or, Option, Some, None, refl, sym, ap, subst, ◌∙◌, arith}
 use Rattle.std.specs.Prelude.{slice_get, All, AllPairs, Contains}
 use Rattle.std.proofs.lemmas.Bool.{cases_lt, eqb-true}
 use Rattle.std.proofs.lemmas.Option.{get_or_from_slice_get, slice_get_within}
@@ -20,6 +20,7 @@ use Rattle.un_model.specs.Solutions.{IsLive, KeepsChoices, InSpace, ReadsInSpace
 use Rattle.un_baseline.proofs.Made.{lasting, lasting_at, place_there, place_back}
 use Rattle.un_baseline.proofs.OneAtATime.{AreFresh, AreSpared, fresh_keep_registers}
 use Rattle.un_baseline.proofs.Timing.{pairs_append}
+use Rattle.un_baseline.proofs.Items.{get_left, all_one}
 
 -- what operations have issued, read and made so far
 pub record Seen : Type 0 where
@@ -49,14 +50,6 @@ IsSparedBy c q a i =
 -- a temporary other than a call's result does not begin when the call issues
 abbrev pub Avoids : LiveRange → Issue → Type 0
 Avoids m i = m.active ≡ true → i.instr ≡ Some Call → i.block.0 ≡ m.block.0 → (m.op.0 ≡ i.op.0) ⊎ (m.from ≢ i.cycle)
-
-pub there_append : {A : Type 0} (xs ys : List A) (k : ℕ) (a : A) → slice_get xs k ≡ Some a → slice_get (xs ++ ys) k ≡ Some a
-there_append [] ys k a e = absurd (cc e)
-there_append (x ∷ xs) ys zero a e = e
-there_append (x ∷ xs) ys (suc k) a e = there_append xs ys k a e
-
-pub all_one : {A : Type 0} (P : A → Type 0) (x : A) → P x → All P (x ∷ [])
-all_one P x h = All-cons P x [] h (All-nil P)
 
 module _ (c : ℕ) where
   -- a read of an active temporary of its block that is not yet overwritten
@@ -90,15 +83,17 @@ module _ (c : ℕ) where
     pub reads : All (GoodRead seen) rs
     pub new : All (NewOk seen i rs) ms
     pub pairs : AllPairs Differ ms
-    pub calls_old : i.instr ≡ Some Call → All (λ (q : Read). (a : LiveRange) → slice_get seen.made q.temp.0 ≡ Some a → i.block.0 ≡ a.block.0 → q.cycle ≤ i.cycle) seen.reads
-    pub calls_own : i.instr ≡ Some Call → All (λ (q : Read). (a : LiveRange) → slice_get seen.made q.temp.0 ≡ Some a → i.block.0 ≡ a.block.0 → q.cycle ≤ i.cycle) rs
+    pub calls_old : i.instr ≡ Some Call → All (λ (q : Read). (a : LiveRange) → slice_get seen.made q.temp.0 ≡ Some a → i.block.0
+        ≡ a.block.0 → q.cycle ≤ i.cycle) seen.reads
+    pub calls_own : i.instr ≡ Some Call → All (λ (q : Read). (a : LiveRange) → slice_get seen.made q.temp.0 ≡ Some a → i.block.0
+        ≡ a.block.0 → q.cycle ≤ i.cycle) rs
     pub calls_made : All (λ (m : LiveRange). Avoids m i) seen.made
 
   good_later : (seen : Seen) (i : Issue) (rs : List Read) (ms : List LiveRange) (q : Read) (g : GoodRead seen q)
       → All (IsOver q g.temp) ms → IsSparedBy c q g.temp i → GoodRead (after seen i rs ms) q
   good_later seen i rs ms q g over spared = record {
     temp = g.temp;
-    there = there_append seen.made ms q.temp.0 g.temp g.there;
+    there = get_left seen.made ms q.temp.0 g.temp g.there;
     active = g.active;
     block = g.block;
     space = g.space;
@@ -112,13 +107,16 @@ module _ (c : ℕ) where
   sound_step seen i rs ms sound ok = record {
     reads = All-append (GoodRead (after seen i rs ms)) seen.reads rs
         (λ k d lt. let g = sound.reads k d lt in good_later seen i rs ms (get_or seen.reads k d) g
-        (λ m e lt'. (ok.new m e lt').over_old k d lt g.temp g.there) (λ call block mask from. inr (ok.calls_old call k d lt g.temp g.there block)))
+        (λ m e lt'. (ok.new m e lt').over_old k d lt g.temp g.there) (λ call block mask from. inr
+        (ok.calls_old call k d lt g.temp g.there block)))
         (λ k d lt. let g = ok.reads k d lt in good_later seen i rs ms (get_or rs k d) g
-        (λ m e lt'. (ok.new m e lt').over_own k d lt g.temp g.there) (λ call block mask from. inr (ok.calls_own call k d lt g.temp g.there block)));
+        (λ m e lt'. (ok.new m e lt').over_own k d lt g.temp g.there) (λ call block mask from. inr
+        (ok.calls_own call k d lt g.temp g.there block)));
     given = All-append IsGivenInSpace seen.made ms sound.given (λ m e lt. (ok.new m e lt).given);
     differ = pairs_append Differ seen.made ms sound.differ ok.pairs (λ k d lt m e lt'. (ok.new m e lt').differ k d lt);
     avoid = All-append (λ (m : LiveRange). All (Avoids m) (seen.issues ++ i ∷ [])) seen.made ms
-        (λ k d lt. All-append (Avoids (get_or seen.made k d)) seen.issues (i ∷ []) (sound.avoid k d lt) (all_one (Avoids (get_or seen.made k d)) i (ok.calls_made k d lt)))
+        (λ k d lt. All-append (Avoids (get_or seen.made k d)) seen.issues (i ∷ []) (sound.avoid k d lt)
+        (all_one (Avoids (get_or seen.made k d)) i (ok.calls_made k d lt)))
         (λ m e lt. (ok.new m e lt).avoid);
   }
 
@@ -178,7 +176,8 @@ module _ (c : ℕ) where
         let o = of l b bt in
         let over = at_all (IsOver q g.temp) seen.made l o.temp g.over o.there in
         subst (λ (x : LiveRange). x.active ≡ true → a.block.0 ≡ x.block.0 → a.reg ≡ x.reg → a.from < x.from → q.cycle ≤ x.from) (sym o.same)
-        (subst (λ (y : LiveRange). o.temp.active ≡ true → y.block.0 ≡ o.temp.block.0 → y.reg ≡ o.temp.reg → y.from < o.temp.from → q.cycle ≤ o.temp.from) same over)
+        (subst (λ (y : LiveRange). o.temp.active ≡ true → y.block.0 ≡ o.temp.block.0 → y.reg ≡ o.temp.reg → y.from < o.temp.from
+        → q.cycle ≤ o.temp.from) same over)
 
     differ_by : (k l : ℕ) (x y : LiveRange) → k < l → slice_get seen.made k ≡ Some x → slice_get seen.made l ≡ Some y → Differ x y
     differ_by k l x y lt xt yt =
@@ -191,14 +190,16 @@ module _ (c : ℕ) where
     distinct_in k l a b lt at bt =
         let x = of k a at in
         let y = of l b bt in
-        subst (λ (z : LiveRange). Differ z b) (sym x.same) (subst (λ (z : LiveRange). Differ (lasting (last_read seen.reads k) x.temp) z) (sym y.same)
+        subst (λ (z : LiveRange). Differ z b) (sym x.same) (subst (λ (z : LiveRange). Differ (lasting (last_read seen.reads k) x.temp) z)
+        (sym y.same)
         (differ_by k l x.temp y.temp lt x.there y.there))
 
     distinct : (k l : ℕ) (a b : LiveRange) → k ≢ l → slice_get t.ranges k ≡ Some a → slice_get t.ranges l ≡ Some b
         → a.active ≡ true → b.active ≡ true → a.block.0 ≡ b.block.0 → a.reg ≡ b.reg → a.from ≢ b.from
     distinct k l a b ne at bt aa ba block reg =
         ⊎_elim (λ (lt : k < l). distinct_in k l a b lt at bt aa ba block reg)
-        (λ (le : l ≤ k). let lt : l < k = omega arith in λ e. distinct_in l k b a lt bt at ba aa (sym block) (sym reg) (sym e)) (cases_lt k l)
+        (λ (le : l ≤ k). let lt : l < k = omega arith in λ e. distinct_in l k b a lt bt at ba aa (sym block) (sym reg) (sym e))
+        (cases_lt k l)
 
     lasts : (k : ℕ) (a : LiveRange) → slice_get t.ranges k ≡ Some a → a.active ≡ true → a.last ≡ max a.from (last_read t.reads k - 1)
     lasts k a at active =
@@ -232,14 +233,16 @@ module _ (c : ℕ) where
     done k m i there among call active block mask from = by (nat_eq m.op.0 i.op.0) refl
       where
         avoids : Avoids m i
-        avoids = All-contains (Avoids m) seen.issues i (at_all (λ (x : LiveRange). All (Avoids x) seen.issues) seen.made k m sound.avoid there) among
+        avoids = All-contains (Avoids m) seen.issues i (at_all (λ (x : LiveRange). All (Avoids x) seen.issues) seen.made k m sound.avoid
+            there) among
 
         by : (v : Bool) → nat_eq m.op.0 i.op.0 ≡ v
             → (m.op.0 ≡ i.op.0) ⊎ ((m.from < i.cycle) × All (λ (q : Read). q.temp.0 ≡ k → q.cycle ≤ i.cycle) seen.reads)
         by true e = inl (eqb-true m.op.0 i.op.0 e)
         by false e =
             let ne : m.op.0 ≢ i.op.0 = λ same. (let yes : nat_eq m.op.0 i.op.0 ≡ true = rw same (grind arith) in cc (sym e ∙ yes)) in
-            let other : m.from ≢ i.cycle = ⊎_elim (λ (own : m.op.0 ≡ i.op.0). absurd (ne own)) (λ (d : m.from ≢ i.cycle). d) (avoids active call block) in
+            let other : m.from ≢ i.cycle = ⊎_elim (λ (own : m.op.0 ≡ i.op.0). absurd (ne own)) (λ (d : m.from ≢ i.cycle). d)
+            (avoids active call block) in
             inr (grind arith, spared_reads k m i there among call block mask from ne)
 
     spared : AreSpared c t
@@ -249,7 +252,8 @@ module _ (c : ℕ) where
           let is : Contains seen.issues i = subst (λ (xs : List Issue). Contains xs i) issues among in
           subst (λ (x : LiveRange). x.active ≡ true → i.block.0 ≡ x.block.0 → in_mask c x.reg ≡ true → x.from ≤ i.cycle
           → (x.op.0 ≡ i.op.0) ⊎ ((x.from < i.cycle) × All (λ (r : Read). r.temp.0 ≡ k → r.cycle ≤ i.cycle) t.reads)) (sym o.same)
-          (λ a b x y. subst (λ (rs : List Read). (o.temp.op.0 ≡ i.op.0) ⊎ ((o.temp.from < i.cycle) × All (λ (r : Read). r.temp.0 ≡ k → r.cycle ≤ i.cycle) rs)) (sym reads)
+          (λ a b x y. subst (λ (rs : List Read). (o.temp.op.0 ≡ i.op.0) ⊎ ((o.temp.from < i.cycle) × All
+          (λ (r : Read). r.temp.0 ≡ k → r.cycle ≤ i.cycle) rs)) (sym reads)
           (done k o.temp i o.there is call a b x y)) active block mask from;
     }
 

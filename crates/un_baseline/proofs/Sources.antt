@@ -39,10 +39,13 @@ slice_map f [] k = refl
 slice_map f (x ∷ xs) zero = refl
 slice_map f (x ∷ xs) (suc k) = slice_map f xs k
 
-pub kind_named : (names : Names) (name : NameId) (kind : Kind) → kind_of names name ≡ Some kind → name_kind (map kind_of_pair names) name ≡ kind
-kind_named names name kind h = ap (λ (o : Option Kind). unwrap_or o General) (slice_map kind_of_pair names name.0) ∙ by (slice_get names name.0) h
+pub kind_named : (names : Names) (name : NameId) (kind : Kind) → kind_of names name ≡ Some kind → name_kind (map kind_of_pair names) name
+    ≡ kind
+kind_named names name kind h = ap (λ (o : Option Kind). unwrap_or o General) (slice_map kind_of_pair names name.0)
+    ∙ by (slice_get names name.0) h
   where
-    by : (o : Option (List ℕ × Kind)) → option_map (λ (n : List ℕ × Kind). n.1) o ≡ Some kind → unwrap_or (option_map kind_of_pair o) General ≡ kind
+    by : (o : Option (List ℕ × Kind)) → option_map (λ (n : List ℕ × Kind). n.1) o ≡ Some kind
+        → unwrap_or (option_map kind_of_pair o) General ≡ kind
     by None e = absurd (cc e)
     by (Some n) e = cc e
 
@@ -102,7 +105,8 @@ register_fits (Some R) h = refl
 register_fits (Some P) h = refl
 register_fits (Some M) h = absurd (cc h)
 
-others_read : (t : Table) (current : List ℕ) (op : Op) (srcs : List NameId) → op ≢ Call → source_operands t current op srcs ≡ map (name_operand current None) srcs
+others_read : (t : Table) (current : List ℕ) (op : Op) (srcs : List NameId) → op ≢ Call → source_operands t current op srcs
+    ≡ map (name_operand current None) srcs
 others_read t current Call srcs ne = absurd (ne refl)
 others_read t current _ srcs ne = refl
 
@@ -122,7 +126,13 @@ two_of : (names : Names) (srcs : List NameId) (a b : Kind) → map (kind_of name
     → (x y : NameId) × (srcs ≡ x ∷ y ∷ []) × (kind_of names x ≡ Some a) × (kind_of names y ≡ Some b)
 two_of names [] a b h = absurd (cc h)
 two_of names (x ∷ []) a b h = absurd (cc h)
-two_of names (x ∷ y ∷ []) a b h = (x, y, refl, (let e : kind_of names x ≡ Some a = cc h in e), (let e : kind_of names y ≡ Some b = cc h in e))
+two_of names (x ∷ y ∷ []) a b h = (
+  x,
+  y,
+  refl,
+  (let e : kind_of names x ≡ Some a = cc h in e),
+  (let e : kind_of names y ≡ Some b = cc h in e),
+)
 two_of names (x ∷ (y ∷ (z ∷ srcs))) a b h = absurd (cc h)
 
 three_of : (names : Names) (srcs : List NameId) (a b d : Kind) → map (kind_of names) srcs ≡ Some a ∷ Some b ∷ Some d ∷ []
@@ -130,8 +140,15 @@ three_of : (names : Names) (srcs : List NameId) (a b d : Kind) → map (kind_of 
 three_of names [] a b d h = absurd (cc h)
 three_of names (x ∷ []) a b d h = absurd (cc h)
 three_of names (x ∷ y ∷ []) a b d h = absurd (cc h)
-three_of names (x ∷ y ∷ z ∷ []) a b d h =
-    (x, y, z, refl, (let e : kind_of names x ≡ Some a = cc h in e), (let e : kind_of names y ≡ Some b = cc h in e), (let e : kind_of names z ≡ Some d = cc h in e))
+three_of names (x ∷ y ∷ z ∷ []) a b d h = (
+  x,
+  y,
+  z,
+  refl,
+  (let e : kind_of names x ≡ Some a = cc h in e),
+  (let e : kind_of names y ≡ Some b = cc h in e),
+  (let e : kind_of names z ≡ Some d = cc h in e),
+)
 three_of names (x ∷ (y ∷ (z ∷ (w ∷ srcs)))) a b d h = absurd (cc h)
 
 module _ (c : ℕ) (H : Seen → List Read → Type 0) (b end : ℕ) (e : Ext) (block : ExtBlock) (s : Setting) (fit : IsFit e.table)
@@ -148,12 +165,16 @@ module _ (c : ℕ) (H : Seen → List Read → Type 0) (b end : ℕ) (e : Ext) (
       → IfSome dst (λ (name : NameId). name_kind e.names name ≡ kind_given space)
   dst_kind operands space None h = tt
   dst_kind operands None (Some name) h = absurd (cc h)
-  dst_kind (Fixed spaces) (Some space) (Some name) h = ap (λ (ks : List Kind). name_kind ks name) same_names ∙ kind_named names name (kind_in space) h
-  dst_kind Arguments (Some space) (Some name) h = ap (λ (ks : List Kind). name_kind ks name) same_names ∙ kind_named names name (kind_in space) h
+  dst_kind (Fixed spaces) (Some space) (Some name) h = ap (λ (ks : List Kind). name_kind ks name) same_names
+      ∙ kind_named names name (kind_in space) h
+  dst_kind Arguments (Some space) (Some name) h = ap (λ (ks : List Kind). name_kind ks name) same_names
+      ∙ kind_named names name (kind_in space) h
 
-  given_to : (dst : Option NameId) → IfSome dst (λ (name : NameId). InSpace (body_register c H b end e block s fit o.op) (space_given (Some o.op)))
+  given_to : (dst : Option NameId) → IfSome dst (λ (name : NameId). InSpace (body_register c H b end e block s fit o.op)
+      (space_given (Some o.op)))
   given_to None = tt
-  given_to (Some name) = subst (λ (space : Option Space). InSpace (body_register c H b end e block s fit o.op) space) (sym (source_result o.op good.op))
+  given_to (Some name) = subst (λ (space : Option Space). InSpace (body_register c H b end e block s fit o.op) space)
+      (sym (source_result o.op good.op))
       (register_fits (result_space o.op) (no_slot o.op))
 
   made_ready : (xs : List Operand) (rooms : List ℕ) → AreReady c H b end e block s fit g seen xs rooms → length xs ≤ 6
@@ -169,17 +190,20 @@ module _ (c : ℕ) (H : Seen → List Read → Type 0) (b end : ℕ) (e : Ext) (
 
   -- ---- arguments
 
-  arguments_kept : (n j : ℕ) (srcs : List NameId) → ((name : NameId) → Contains srcs name → Contains o.srcs name) → All (IsOfKind names General) srcs
+  arguments_kept : (n j : ℕ) (srcs : List NameId) → ((name : NameId) → Contains srcs name → Contains o.srcs name)
+      → All (IsOfKind names General) srcs
       → AreKept c H b end e block s fit g seen (argument_operands current (range_with_len j n) srcs)
   arguments_kept zero j [] sub kinds = tt
   arguments_kept (suc n) j [] sub kinds = tt
   arguments_kept zero j (name ∷ srcs) sub kinds = (
     kept name General (sub name (0, omega arith, refl)) (kinds 0 name (omega arith)),
-    arguments_kept zero j srcs (λ x has. sub x (suc has.0, (let lt = has.1 in omega arith), has.2)) (λ k d lt. kinds (suc k) d (omega arith)),
+    arguments_kept zero j srcs (λ x has. sub x (suc has.0, (let lt = has.1 in omega arith), has.2))
+        (λ k d lt. kinds (suc k) d (omega arith)),
   )
   arguments_kept (suc n) j (name ∷ srcs) sub kinds = (
     kept name General (sub name (0, omega arith, refl)) (kinds 0 name (omega arith)),
-    arguments_kept n (j + 1) srcs (λ x has. sub x (suc has.0, (let lt = has.1 in omega arith), has.2)) (λ k d lt. kinds (suc k) d (omega arith)),
+    arguments_kept n (j + 1) srcs (λ x has. sub x (suc has.0, (let lt = has.1 in omega arith), has.2))
+        (λ k d lt. kinds (suc k) d (omega arith)),
   )
 
   arguments_size : (registers : List ℕ) (srcs : List NameId) → length (argument_operands current registers srcs) ≡ length srcs
@@ -188,7 +212,8 @@ module _ (c : ℕ) (H : Seen → List Read → Type 0) (b end : ℕ) (e : Ext) (
   arguments_size (r ∷ rs) (name ∷ srcs) = ap suc (arguments_size rs srcs)
 
   arguments_for : (n j : ℕ) (srcs : List NameId) (g' : Growth) → j + length srcs ≤ 6 → o.op ≡ Call
-      → (let xs = argument_operands current (range_with_len j n) srcs in AreFor c H b end e block s fit o.op j (rooms_from c H b end e block s fit j xs) (new_operands xs g'))
+      → (let xs = argument_operands current (range_with_len j n) srcs in AreFor c H b end e block s fit o.op j
+      (rooms_from c H b end e block s fit j xs) (new_operands xs g'))
   arguments_for zero j [] g' few call = tt
   arguments_for (suc n) j [] g' few call = tt
   arguments_for zero j (name ∷ srcs) g' few call = (
@@ -207,7 +232,8 @@ module _ (c : ℕ) (H : Seen → List Read → Type 0) (b end : ℕ) (e : Ext) (
   abbrev operand_of : NameId → Operand
   operand_of name = name_operand current None name
 
-  space_at : (operands : OperandSpaces) (j r : ℕ) → (facts_of o.op).operands ≡ operands → InSpace r (space_in operands j) → InSpace r (space_read (Some o.op) j)
+  space_at : (operands : OperandSpaces) (j r : ℕ) → (facts_of o.op).operands ≡ operands → InSpace r (space_in operands j)
+      → InSpace r (space_read (Some o.op) j)
   space_at operands j r is h =
       subst (λ (space : Option Space). InSpace r space) (sym (source_space o.op j good.op ∙ ap (λ (x : OperandSpaces). space_in x j) is)) h
 
@@ -224,7 +250,8 @@ module _ (c : ℕ) (H : Seen → List Read → Type 0) (b end : ℕ) (e : Ext) (
       let x = f.0 in
       let has : Contains o.srcs x = subst (λ (xs : List NameId). Contains xs x) (sym f.1) (0, omega arith, refl) in
       subst (λ (xs : List NameId). Ready (map operand_of xs)) (sym f.1)
-      (made_ready (operand_of x ∷ []) (0 ∷ []) (words (kept x General has f.2, tt)) (omega arith) (space_at (Fixed (R ∷ [])) 0 0 is refl, tt, tt))
+      (made_ready (operand_of x ∷ []) (0 ∷ []) (words (kept x General has f.2, tt)) (omega arith)
+      (space_at (Fixed (R ∷ [])) 0 0 is refl, tt, tt))
   ready_of operands is two_words read =
       let f = two_of names o.srcs General General read in
       let x = f.0 in
@@ -232,7 +259,8 @@ module _ (c : ℕ) (H : Seen → List Read → Type 0) (b end : ℕ) (e : Ext) (
       let has : Contains o.srcs x = subst (λ (xs : List NameId). Contains xs x) (sym f.2) (0, omega arith, refl) in
       let has' : Contains o.srcs y = subst (λ (xs : List NameId). Contains xs y) (sym f.2) (1, omega arith, refl) in
       subst (λ (xs : List NameId). Ready (map operand_of xs)) (sym f.2)
-      (made_ready (operand_of x ∷ operand_of y ∷ []) (0 ∷ 1 ∷ []) (words (kept x General has f.3, (kept y General has' f.4, tt))) (omega arith)
+      (made_ready (operand_of x ∷ operand_of y ∷ []) (0 ∷ 1 ∷ []) (words (kept x General has f.3, (kept y General has' f.4, tt)))
+      (omega arith)
       (space_at (Fixed (R ∷ R ∷ [])) 0 0 is refl, tt, (space_at (Fixed (R ∷ R ∷ [])) 1 1 is refl, tt, tt)))
   ready_of operands is truth_and_words read =
       let f = three_of names o.srcs Pred General General read in
@@ -244,22 +272,32 @@ module _ (c : ℕ) (H : Seen → List Read → Type 0) (b end : ℕ) (e : Ext) (
       let has'' : Contains o.srcs z = subst (λ (xs : List NameId). Contains xs z) (sym f.3) (2, omega arith, refl) in
       subst (λ (xs : List NameId). Ready (map operand_of xs)) (sym f.3)
       (made_ready (operand_of x ∷ operand_of y ∷ operand_of z ∷ []) (PREDICATE ∷ 1 ∷ 2 ∷ [])
-      (truth (kept x Pred has f.4) (kept y General has' f.5, (kept z General has'' f.6, tt))) (omega arith)
-      (space_at (Fixed (P ∷ R ∷ R ∷ [])) 0 PREDICATE is refl, tt, (space_at (Fixed (P ∷ R ∷ R ∷ [])) 1 1 is refl, tt, (space_at (Fixed (P ∷ R ∷ R ∷ [])) 2 2 is refl, tt, tt))))
+      (truth (kept x Pred has f.4) (kept y General has' f.5, (kept z General has'' f.6, tt))) (omega arith) (
+        space_at (Fixed (P ∷ R ∷ R ∷ [])) 0 PREDICATE is refl,
+        tt,
+        (
+          space_at (Fixed (P ∷ R ∷ R ∷ [])) 1 1 is refl,
+          tt,
+          (space_at (Fixed (P ∷ R ∷ R ∷ [])) 2 2 is refl, tt, tt),
+        ),
+      ))
 
   ready_by : (operands : OperandSpaces) → (facts_of o.op).operands ≡ operands → AreRead names operands o.srcs
       → Ready (source_operands e.table current o.op o.srcs)
   ready_by (Fixed spaces) is read =
       let ne : o.op ≢ Call = λ call. (let f : Fixed spaces ≡ Arguments = sym is ∙ ap (λ (op : Op). (facts_of op).operands) call in cc f) in
-      subst Ready (sym (others_read e.table current o.op o.srcs ne)) (ready_of (Fixed spaces) is (subst IsShape is (shape_of o.op good.op ne)) read)
+      subst Ready (sym (others_read e.table current o.op o.srcs ne)) (ready_of (Fixed spaces) is
+      (subst IsShape is (shape_of o.op good.op ne)) read)
   ready_by Arguments is read =
       let call = call_by o.op good.op is in
       let xs = argument_operands current (range_with_len 0 6) o.srcs in
       let size = arguments_size (range_with_len 0 6) o.srcs in
       let few = read.1 in
       let same : source_operands e.table current o.op o.srcs ≡ xs =
-      ap (λ (op : Op). source_operands e.table current op o.srcs) call ∙ ap (λ (rs : List ℕ). argument_operands current rs o.srcs) fit.args in
-      subst Ready (sym same) (made_ready xs (rooms_from c H b end e block s fit 0 xs) (words (arguments_kept 6 0 o.srcs (λ x has. has) read.0)) (omega arith)
+      ap (λ (op : Op). source_operands e.table current op o.srcs) call ∙ ap (λ (rs : List ℕ). argument_operands current rs o.srcs)
+      fit.args in
+      subst Ready (sym same) (made_ready xs (rooms_from c H b end e block s fit 0 xs)
+      (words (arguments_kept 6 0 o.srcs (λ x has. has) read.0)) (omega arith)
       (arguments_for 6 0 o.srcs g (omega arith) call))
 
   -- an operation of a text is ready

@@ -1,5 +1,5 @@
 -- Temporaries that stand in their registers, and what operations in the order of their cycles leave of them.
-use Rattle.std.proofs.Common.{◌≡◌, ◌≢◌, ℕ, zero, suc, ◌<◌, ◌≤◌, ◌⊎◌, ⊎_elim, inl, inr, true, false, List, [], ◌∷◌, ◌++◌, length, map, get_or, Option, Some, None, refl, sym, ap, subst, ◌∙◌, arith}
+use Rattle.std.proofs.Common.{◌≡◌, ◌≢◌, ℕ, suc, ◌<◌, ◌≤◌, ◌⊎◌, ⊎_elim, inl, inr, true, false, List, [], ◌∷◌, ◌++◌, length, map, get_or, Option, Some, None, refl, sym, ap, subst, ◌∙◌, arith}
 use Rattle.std.specs.Prelude.{slice_get, IfSome, All, AllPairs}
 use Rattle.std.proofs.lemmas.Option.{slice_get_within}
 use Rattle.std.proofs.lemmas.List.{length-append}
@@ -15,23 +15,11 @@ use Rattle.un_model.specs.declared.schedule.LiveRange.{LiveRange}
 use Rattle.un_model.specs.Instructions.{space_read, space_given}
 use Rattle.un_model.specs.Solutions.{InSpace, IsGivenInSpace, HasHome}
 use Rattle.un_baseline.proofs.Made.{made_at}
-use Rattle.un_baseline.proofs.Sound.{Seen, after, IsOver, Differ, Avoids, there_append, all_one, GoodRead, NewOk, StepOk}
+use Rattle.un_baseline.proofs.Sound.{Seen, after, IsOver, Differ, Avoids, GoodRead, NewOk, StepOk}
 use Rattle.un_baseline.proofs.Timing.{pairs_nil}
+use Rattle.un_baseline.proofs.Items.{get_left, there_last, there_left, all_map, all_one}
 
 -- ---- lists
-
-pub there_last : {A : Type 0} (xs : List A) (x : A) → slice_get (xs ++ x ∷ []) (length xs) ≡ Some x
-there_last [] x = refl
-there_last (y ∷ xs) x = there_last xs x
-
-pub there_left : {A : Type 0} (xs ys : List A) (k : ℕ) → k < length xs → slice_get (xs ++ ys) k ≡ slice_get xs k
-there_left [] ys k lt = absurd (omega arith)
-there_left (x ∷ xs) ys zero lt = refl
-there_left (x ∷ xs) ys (suc k) lt = there_left xs ys k (omega arith)
-
-all_map : {A B : Type 0} (P : B → Type 0) (f : A → B) (xs : List A) → ((x : A) → P (f x)) → All P (map f xs)
-all_map P f [] h = All-nil P
-all_map P f (x ∷ xs) h = All-cons P (f x) (map f xs) (h x) (all_map P f xs h)
 
 pairs_one : {A : Type 0} (R : A → A → Type 0) (x : A) → AllPairs R (x ∷ [])
 pairs_one R x i j d lt within = absurd (omega arith)
@@ -50,11 +38,13 @@ module _ (c b : ℕ) where
     pub block : temp.block.0 ≡ b
     pub reg : temp.reg ≡ r
     pub latest : All (λ (d : LiveRange). d.active ≡ true → d.block.0 ≡ b → d.reg ≡ r → d.from ≤ temp.from) seen.made
-    pub called : in_mask c r ≡ true → All (λ (i : Issue). i.instr ≡ Some Call → i.block.0 ≡ b → (temp.op.0 ≡ i.op.0) ⊎ (i.cycle < temp.from)) seen.issues
+    pub called : in_mask c r ≡ true → All (λ (i : Issue). i.instr ≡ Some Call → i.block.0 ≡ b
+        → (temp.op.0 ≡ i.op.0) ⊎ (i.cycle < temp.from)) seen.issues
 
   -- what stands in register r of block b is read by cycle `now`, and was written before it
   pub record Timely (now r : ℕ) (seen : Seen) : Type 0 where
-    pub reads : All (λ (q : Read). (a : LiveRange) → slice_get seen.made q.temp.0 ≡ Some a → a.block.0 ≡ b → a.reg ≡ r → q.cycle ≤ now) seen.reads
+    pub reads : All (λ (q : Read). (a : LiveRange) → slice_get seen.made q.temp.0 ≡ Some a → a.block.0 ≡ b → a.reg ≡ r → q.cycle ≤ now)
+        seen.reads
     pub made : All (λ (d : LiveRange). d.active ≡ true → d.block.0 ≡ b → d.reg ≡ r → d.from < now) seen.made
 
   abbrev pub IsCalled : ℕ → Issue → Type 0
@@ -100,14 +90,16 @@ module _ (c b : ℕ) where
       → Stands k r (after seen i rs ms)
   stands_later k r seen i rs ms s others call = record {
     temp = s.temp;
-    there = there_append seen.made ms k s.temp s.there;
+    there = get_left seen.made ms k s.temp s.there;
     active = s.active;
     block = s.block;
     reg = s.reg;
     latest = All-append (λ (d : LiveRange). d.active ≡ true → d.block.0 ≡ b → d.reg ≡ r → d.from ≤ s.temp.from) seen.made ms s.latest
-        (All-weaker (λ (m : LiveRange). m.active ≡ true → m.reg ≢ r) (λ (d : LiveRange). d.active ≡ true → d.block.0 ≡ b → d.reg ≡ r → d.from ≤ s.temp.from)
+        (All-weaker (λ (m : LiveRange). m.active ≡ true → m.reg ≢ r) (λ (d : LiveRange). d.active ≡ true → d.block.0 ≡ b → d.reg ≡ r
+        → d.from ≤ s.temp.from)
         (λ d h active same reg. absurd (h active reg)) ms others);
-    called = λ mask. All-append (λ (j : Issue). j.instr ≡ Some Call → j.block.0 ≡ b → (s.temp.op.0 ≡ j.op.0) ⊎ (j.cycle < s.temp.from)) seen.issues (i ∷ []) (s.called mask)
+    called = λ mask. All-append (λ (j : Issue). j.instr ≡ Some Call → j.block.0 ≡ b → (s.temp.op.0 ≡ j.op.0) ⊎ (j.cycle < s.temp.from))
+        seen.issues (i ∷ []) (s.called mask)
         (all_one (λ (j : Issue). j.instr ≡ Some Call → j.block.0 ≡ b → (s.temp.op.0 ≡ j.op.0) ⊎ (j.cycle < s.temp.from)) i
         (λ is same. absurd (let e = sym mask ∙ call is in cc e)));
   }
@@ -125,20 +117,24 @@ module _ (c b : ℕ) where
         (λ (d : LiveRange). d.active ≡ true → d.block.0 ≡ b → d.reg ≡ r → d.from ≤ i.cycle)
         (λ d h x y z. let lt = h x y z in omega arith) seen.made timely.made)
         (all_one (λ (d : LiveRange). d.active ≡ true → d.block.0 ≡ b → d.reg ≡ r → d.from ≤ i.cycle) (made_at i r) (λ x y z. omega arith));
-    called = λ mask. All-append (λ (j : Issue). j.instr ≡ Some Call → j.block.0 ≡ b → (i.op.0 ≡ j.op.0) ⊎ (j.cycle < i.cycle)) seen.issues (i ∷ [])
-        (All-weaker (IsCalled i.cycle) (λ (j : Issue). j.instr ≡ Some Call → j.block.0 ≡ b → (i.op.0 ≡ j.op.0) ⊎ (j.cycle < i.cycle)) (λ j h x y. inr (h x y)) seen.issues calls)
+    called = λ mask. All-append (λ (j : Issue). j.instr ≡ Some Call → j.block.0 ≡ b → (i.op.0 ≡ j.op.0) ⊎ (j.cycle < i.cycle)) seen.issues
+        (i ∷ [])
+        (All-weaker (IsCalled i.cycle) (λ (j : Issue). j.instr ≡ Some Call → j.block.0 ≡ b → (i.op.0 ≡ j.op.0) ⊎ (j.cycle < i.cycle))
+        (λ j h x y. inr (h x y)) seen.issues calls)
         (all_one (λ (j : Issue). j.instr ≡ Some Call → j.block.0 ≡ b → (i.op.0 ≡ j.op.0) ⊎ (j.cycle < i.cycle)) i (λ x y. inl refl));
   }
 
   -- ---- time
 
-  pub timely_later : (now next r : ℕ) (seen : Seen) (i : Issue) (rs : List Read) (ms : List LiveRange) → now ≤ next → Known seen → Timely now r seen
+  pub timely_later : (now next r : ℕ) (seen : Seen) (i : Issue) (rs : List Read) (ms : List LiveRange) → now ≤ next → Known seen
+      → Timely now r seen
       → All (λ (q : Read). q.temp.0 < length seen.made) rs
       → All (λ (q : Read). (a : LiveRange) → slice_get seen.made q.temp.0 ≡ Some a → a.block.0 ≡ b → a.reg ≡ r → q.cycle ≤ next) rs
       → All (λ (d : LiveRange). d.active ≡ true → d.block.0 ≡ b → d.reg ≡ r → d.from < next) ms
       → Timely next r (after seen i rs ms)
   timely_later now next r seen i rs ms le known h inside rs_ok ms_ok = record {
-    reads = All-append (λ (q : Read). (a : LiveRange) → slice_get (seen.made ++ ms) q.temp.0 ≡ Some a → a.block.0 ≡ b → a.reg ≡ r → q.cycle ≤ next) seen.reads rs
+    reads = All-append (λ (q : Read). (a : LiveRange) → slice_get (seen.made ++ ms) q.temp.0 ≡ Some a → a.block.0 ≡ b → a.reg ≡ r
+        → q.cycle ≤ next) seen.reads rs
         (λ k d lt a there block reg.
         let q = get_or seen.reads k d in
         let bound = h.reads k d lt a (sym (there_left seen.made ms q.temp.0 (known.reads k d lt)) ∙ there) block reg in omega arith)
@@ -146,7 +142,8 @@ module _ (c b : ℕ) where
         let q = get_or rs k d in rs_ok k d lt a (sym (there_left seen.made ms q.temp.0 (inside k d lt)) ∙ there) block reg);
     made = All-append (λ (d : LiveRange). d.active ≡ true → d.block.0 ≡ b → d.reg ≡ r → d.from < next) seen.made ms
         (All-weaker (λ (d : LiveRange). d.active ≡ true → d.block.0 ≡ b → d.reg ≡ r → d.from < now)
-        (λ (d : LiveRange). d.active ≡ true → d.block.0 ≡ b → d.reg ≡ r → d.from < next) (λ d f x y z. let lt = f x y z in omega arith) seen.made h.made)
+        (λ (d : LiveRange). d.active ≡ true → d.block.0 ≡ b → d.reg ≡ r → d.from < next)
+        (λ d f x y z. let lt = f x y z in omega arith) seen.made h.made)
         ms_ok;
   }
 
@@ -156,14 +153,16 @@ module _ (c b : ℕ) where
     reads = All-append (λ (q : Read). q.temp.0 < length (seen.made ++ ms)) seen.reads rs (wide seen.reads known.reads) (wide rs inside);
   }
     where
-      wide : (qs : List Read) → All (λ (q : Read). q.temp.0 < length seen.made) qs → All (λ (q : Read). q.temp.0 < length (seen.made ++ ms)) qs
+      wide : (qs : List Read) → All (λ (q : Read). q.temp.0 < length seen.made) qs
+          → All (λ (q : Read). q.temp.0 < length (seen.made ++ ms)) qs
       wide qs h = All-weaker (λ (q : Read). q.temp.0 < length seen.made) (λ (q : Read). q.temp.0 < length (seen.made ++ ms))
           (λ q lt. let e = length-append seen.made ms in omega arith) qs h
 
   pub calls_later : (now next : ℕ) (issues : List Issue) (i : Issue) → now ≤ next → All (IsCalled now) issues → IsCalled next i
       → All (IsCalled next) (issues ++ i ∷ [])
   calls_later now next issues i le h here =
-      All-append (IsCalled next) issues (i ∷ []) (All-weaker (IsCalled now) (IsCalled next) (λ j f x y. let lt = f x y in omega arith) issues h)
+      All-append (IsCalled next) issues (i ∷ []) (All-weaker (IsCalled now) (IsCalled next)
+      (λ j f x y. let lt = f x y in omega arith) issues h)
       (all_one (IsCalled next) i here)
 
   -- ---- an operation that does nothing
@@ -184,7 +183,8 @@ module _ (c b : ℕ) where
     idle_timely now r known h = timely_later now now r seen i [] (map (made_at i) registers) (omega arith) known h
         (All-nil (λ (q : Read). q.temp.0 < length seen.made))
         (All-nil (λ (q : Read). (a : LiveRange) → slice_get seen.made q.temp.0 ≡ Some a → a.block.0 ≡ b → a.reg ≡ r → q.cycle ≤ now))
-        (all_map (λ (d : LiveRange). d.active ≡ true → d.block.0 ≡ b → d.reg ≡ r → d.from < now) (made_at i) registers (λ x active. absurd (not_active active)))
+        (all_map (λ (d : LiveRange). d.active ≡ true → d.block.0 ≡ b → d.reg ≡ r → d.from < now) (made_at i) registers
+        (λ x active. absurd (not_active active)))
 
     pub idle_known : Known seen → Known (after seen i [] (map (made_at i) registers))
     idle_known known = known_later seen i [] (map (made_at i) registers) known (All-nil (λ (q : Read). q.temp.0 < length seen.made))
@@ -217,12 +217,14 @@ module _ (c b : ℕ) where
       where
         idle_pairs : (xs : List ℕ) → AllPairs Differ (map (made_at i) xs)
         idle_pairs [] = pairs_nil Differ
-        idle_pairs (r ∷ rs) = AllPairs-cons Differ (made_at i r) (map (made_at i) rs) (λ k d lt one. absurd (not_active one)) (idle_pairs rs)
+        idle_pairs (r ∷ rs) = AllPairs-cons Differ (made_at i r) (map (made_at i) rs) (λ k d lt one. absurd (not_active one))
+            (idle_pairs rs)
 
   -- ---- an operation that issues when all before it are done
 
   module _ (seen : Seen) (i : Issue) (rs : List Read) (registers : List ℕ) (now : ℕ) (few : IsFew registers) (block : i.block.0 ≡ b)
-      (front : Front now seen) (le : now ≤ i.cycle) (in_time : All (λ (q : Read). q.cycle ≡ i.cycle) rs) (good : All (GoodRead c seen) rs) where
+      (front : Front now seen) (le : now ≤ i.cycle) (in_time : All (λ (q : Read). q.cycle ≡ i.cycle) rs)
+      (good : All (GoodRead c seen) rs) where
     goes_inside : All (λ (q : Read). q.temp.0 < length seen.made) rs
     goes_inside k d lt = let g = good k d lt in slice_get_within seen.made (get_or rs k d).temp.0 g.temp g.there
 
@@ -230,7 +232,8 @@ module _ (c b : ℕ) where
     goes_front next lt = record {
       timely = λ r. timely_later now next r seen i rs (map (made_at i) registers) (omega arith) front.known (front.timely r) goes_inside
           (λ k d in' a there same reg. let e = in_time k d in' in omega arith)
-          (all_map (λ (d : LiveRange). d.active ≡ true → d.block.0 ≡ b → d.reg ≡ r → d.from < next) (made_at i) registers (λ x active same reg. omega arith));
+          (all_map (λ (d : LiveRange). d.active ≡ true → d.block.0 ≡ b → d.reg ≡ r → d.from < next) (made_at i) registers
+          (λ x active same reg. omega arith));
       calls = calls_later now next seen.issues i (omega arith) front.calls (λ call same. omega arith);
       known = known_later seen i rs (map (made_at i) registers) front.known goes_inside;
     }
@@ -275,7 +278,8 @@ module _ (c b : ℕ) where
       where
         others_made : (xs : List ℕ) → All (λ (x : ℕ). x ≢ r) xs → All (λ (m : LiveRange). m.active ≡ true → m.reg ≢ r) (map (made_at i) xs)
         others_made [] h = All-nil (λ (m : LiveRange). m.active ≡ true → m.reg ≢ r)
-        others_made (x ∷ xs) h = All-cons (λ (m : LiveRange). m.active ≡ true → m.reg ≢ r) (made_at i x) (map (made_at i) xs) (λ active. h 0 x (omega arith))
+        others_made (x ∷ xs) h = All-cons (λ (m : LiveRange). m.active ≡ true → m.reg ≢ r) (made_at i x) (map (made_at i) xs)
+            (λ active. h 0 x (omega arith))
             (others_made xs (λ k d lt. h (suc k) d (omega arith)))
 
     pub goes_new_stands : (r : ℕ) → i.active ≡ true → Stands (length seen.made) r (after seen i rs (made_at i r ∷ []))

@@ -69,10 +69,12 @@ module _ (c : ℕ) (H : Seen → List Read → Type 0) (b end : ℕ) where
   sound_steps n seen (op ∷ ops) [] sound h = absurd h
   sound_steps n seen (op ∷ ops) (s ∷ steps) sound h =
       let i = planned_issue b end n op s in
-      sound_steps (n + 1) (with_step seen n op s) ops steps (sound_step c seen i (planned_reads_by i op s) (map (made_at i) s.registers) sound h.0.0) h.1
+      sound_steps (n + 1) (with_step seen n op s) ops steps (sound_step c seen i (planned_reads_by i op s)
+      (map (made_at i) s.registers) sound h.0.0) h.1
 
   abbrev reads_by_steps : ℕ → List ExtOp → List Step → List Read
-  reads_by_steps n ops steps = joined (pairs_from (λ (k : ℕ) (op : ExtOp) (s : Step). planned_reads_by (planned_issue b end k op s) op s) n ops steps)
+  reads_by_steps n ops steps = joined (pairs_from (λ (k : ℕ) (op : ExtOp) (s : Step). planned_reads_by (planned_issue b end k op s) op s)
+      n ops steps)
 
   abbrev pub added : Seen → List Issue → List Read → List LiveRange → Seen
   added seen is rs ms = record { issues = seen.issues ++ is; reads = seen.reads ++ rs; made = seen.made ++ ms }
@@ -82,7 +84,8 @@ module _ (c : ℕ) (H : Seen → List Read → Type 0) (b end : ℕ) where
   nil_behind {A} (x ∷ xs) = ap (λ (ys : List A). x ∷ ys) (nil_behind xs)
 
   pub seen_is : (n : ℕ) (seen : Seen) (ops : List ExtOp) (steps : List Step) → AllZip Suits ops steps
-      → seen_after n seen ops steps ≡ added seen (pairs_from (planned_issue b end) n ops steps) (reads_by_steps n ops steps) (steps_made b end n ops steps)
+      → seen_after n seen ops steps ≡ added seen (pairs_from (planned_issue b end) n ops steps) (reads_by_steps n ops steps)
+      (steps_made b end n ops steps)
   seen_is n seen [] [] h =
       ap (λ (is : List Issue). record { issues = is; reads = seen.reads; made = seen.made }) (nil_behind seen.issues)
       ∙ ap (λ (rs : List Read). record { issues = seen.issues ++ []; reads = rs; made = seen.made }) (nil_behind seen.reads)
@@ -97,9 +100,12 @@ module _ (c : ℕ) (H : Seen → List Read → Type 0) (b end : ℕ) where
       let rs' = reads_by_steps (n + 1) ops steps in
       let ms' = steps_made b end (n + 1) ops steps in
       seen_is (n + 1) (after seen i rs ms) ops steps h.1
-      ∙ ap (λ (is : List Issue). record { issues = is; reads = (seen.reads ++ rs) ++ rs'; made = (seen.made ++ ms) ++ ms' }) (append_assoc seen.issues (i ∷ []) is')
-      ∙ ap (λ (qs : List Read). record { issues = seen.issues ++ (i ∷ is'); reads = qs; made = (seen.made ++ ms) ++ ms' }) (append_assoc seen.reads rs rs')
-      ∙ ap (λ (xs : List LiveRange). record { issues = seen.issues ++ (i ∷ is'); reads = seen.reads ++ (rs ++ rs'); made = xs }) (append_assoc seen.made ms ms')
+      ∙ ap (λ (is : List Issue). record { issues = is; reads = (seen.reads ++ rs) ++ rs'; made = (seen.made ++ ms) ++ ms' })
+      (append_assoc seen.issues (i ∷ []) is')
+      ∙ ap (λ (qs : List Read). record { issues = seen.issues ++ (i ∷ is'); reads = qs; made = (seen.made ++ ms) ++ ms' })
+      (append_assoc seen.reads rs rs')
+      ∙ ap (λ (xs : List LiveRange). record { issues = seen.issues ++ (i ∷ is'); reads = seen.reads ++ (rs ++ rs'); made = xs })
+      (append_assoc seen.made ms ms')
 
   -- ---- what one operation, or several, leave
 
@@ -165,9 +171,11 @@ module _ (c : ℕ) (H : Seen → List Read → Type 0) (b end : ℕ) where
     GoodCopy n p seen node alts k rest purpose m =
         let op = copy_op node alts k in
         let st = copy_step m op in
-        IsGoodStep seen n op st × AreGoodSteps (n + 1) (with_step seen n op st) rest (steps_of e block s (behind_copy p purpose node m) rest)
+        IsGoodStep seen n op st × AreGoodSteps (n + 1) (with_step seen n op st) rest
+        (steps_of e block s (behind_copy p purpose node m) rest)
 
-    pub good_copy : (n : ℕ) (p : Progress) (seen : Seen) (node : NodeCopy) (alts : List TempId) (k : ℕ) (rest : List ExtOp) (purpose : Purpose) (m : Move)
+    pub good_copy : (n : ℕ) (p : Progress) (seen : Seen) (node : NodeCopy) (alts : List TempId) (k : ℕ) (rest : List ExtOp)
+        (purpose : Purpose) (m : Move)
         → purpose_at s.term rest ≡ purpose → copy_move e block.live_in s p purpose alts node ≡ m
         → GoodCopy n p seen node alts k rest purpose m → Good n p seen (copy_op node alts k ∷ rest)
     good_copy n p seen node alts k rest purpose m for is h =
@@ -188,9 +196,15 @@ module _ (c : ℕ) (H : Seen → List Read → Type 0) (b end : ℕ) where
 
     -- the progress behind a copy that does nothing
     abbrev pub past_copy : Progress → NodeCopy → Progress
-    past_copy p node = record { cycle = p.cycle; values = next_value p.values node; operands = next_operand p.operands node; definer = p.definer }
+    past_copy p node = record {
+      cycle = p.cycle;
+      values = next_value p.values node;
+      operands = next_operand p.operands node;
+      definer = p.definer;
+    }
 
-    pub idle_copy : (n : ℕ) (p : Progress) (seen : Seen) (node : NodeCopy) (alts : List TempId) (k : ℕ) (rest : List ExtOp) (purpose : Purpose)
+    pub idle_copy : (n : ℕ) (p : Progress) (seen : Seen) (node : NodeCopy) (alts : List TempId) (k : ℕ) (rest : List ExtOp)
+        (purpose : Purpose)
         → purpose_at s.term rest ≡ purpose → copy_move e block.live_in s p purpose alts node ≡ no_move
         → ((seen' : Seen) → Idle 1 seen seen' → Good (n + 1) (past_copy p node) seen' rest)
         → Good n p seen (copy_op node alts k ∷ rest)
@@ -209,12 +223,14 @@ module _ (c : ℕ) (H : Seen → List Read → Type 0) (b end : ℕ) where
         } in
         good_copy n p seen node alts k rest purpose no_move for is (
           (idle_ok c b seen i registers refl refl, tt),
-          subst (λ (x : ℕ). AreGoodSteps (n + 1) seen' rest (steps_of e block s (record { cycle = x; values = next_value p.values node; operands = next_operand p.operands node; definer = p.definer }) rest))
+          subst (λ (x : ℕ). AreGoodSteps (n + 1) seen' rest (steps_of e block s (record
+              { cycle = x; values = next_value p.values node; operands = next_operand p.operands node; definer = p.definer }) rest))
               (sym (still_next e.table p.cycle purpose node)) (go seen' idle),
         )
 
     -- a copy that issues when all before it is done
-    pub moving_copy : (n : ℕ) (p : Progress) (seen : Seen) (node : NodeCopy) (alts : List TempId) (k : ℕ) (rest : List ExtOp) (purpose : Purpose)
+    pub moving_copy : (n : ℕ) (p : Progress) (seen : Seen) (node : NodeCopy) (alts : List TempId) (k : ℕ) (rest : List ExtOp)
+        (purpose : Purpose)
         (code place register : ℕ) (o : Op) (from room : ℕ)
         → purpose_at s.term rest ≡ purpose → copy_move e block.live_in s p purpose alts node ≡ move code p.cycle place register
         → copy_of code ≡ Some o → o ≢ Call
@@ -223,9 +239,16 @@ module _ (c : ℕ) (H : Seen → List Read → Type 0) (b end : ℕ) where
         → Stands c b from room seen → Front c b p.cycle seen
         → InSpace room (space_read (Some o) 0) → InSpace register (space_given (Some o))
         → ((seen' : Seen) → Moved register (p.cycle + latency_of e.table o) seen seen'
-        → Good (n + 1) (record { cycle = p.cycle + latency_of e.table o; values = next_value p.values node; operands = next_operand p.operands node; definer = p.definer }) seen' rest)
+        → Good (n + 1) (record {
+          cycle = p.cycle + latency_of e.table o;
+          values = next_value p.values node;
+          operands = next_operand
+              p.operands node;
+          definer = p.definer;
+        }) seen' rest)
         → Good n p seen (copy_op node alts k ∷ rest)
-    moving_copy n p seen node alts k rest purpose code place register o from room for is code_is not_call later reads stands front in_room given go =
+    moving_copy n p seen node alts k rest purpose code place register o from room for is code_is not_call later reads stands front in_room
+        given go =
         let op = copy_op node alts k in
         let m = move code p.cycle place register in
         let st = copy_step m op in
@@ -235,24 +258,32 @@ module _ (c : ℕ) (H : Seen → List Read → Type 0) (b end : ℕ) where
         let active : i.active ≡ true = ap is_some code_is in
         let same : planned_reads_by i op st ≡ rs = ap (λ (x : Bool). if x then rs else []) active in
         let no_call : i.instr ≡ Some Call → ⊥ = λ call. not_call (let x = sym code_is ∙ call in cc x) in
-        let good : GoodRead c seen q = good_read c b from room seen stands q reads refl (subst (λ (x : Option Op). InSpace room (space_read x 0)) (sym code_is) in_room) tt in
+        let good : GoodRead c seen q = good_read c b from room seen stands q reads refl
+        (subst (λ (x : Option Op). InSpace room (space_read x 0)) (sym code_is) in_room) tt in
         let goods : All (GoodRead c seen) rs = All-cons (GoodRead c seen) q [] good (All-nil (GoodRead c seen)) in
-        let times : All (λ (x : Read). x.cycle ≡ i.cycle) rs = All-cons (λ (x : Read). x.cycle ≡ i.cycle) q [] refl (All-nil (λ (x : Read). x.cycle ≡ i.cycle)) in
+        let times : All (λ (x : Read). x.cycle ≡ i.cycle) rs = All-cons (λ (x : Read). x.cycle ≡ i.cycle) q [] refl
+        (All-nil (λ (x : Read). x.cycle ≡ i.cycle)) in
         let positive = (fit.latencies o).0 in
         let given' : All (λ (r : ℕ). InSpace r (space_given i.instr)) (register ∷ []) =
-        All-cons (λ (r : ℕ). InSpace r (space_given i.instr)) register [] (subst (λ (x : Option Op). InSpace register (space_given x)) (sym code_is) given) (All-nil (λ (r : ℕ). InSpace r (space_given i.instr))) in
+        All-cons (λ (r : ℕ). InSpace r (space_given i.instr)) register [] (subst (λ (x : Option Op). InSpace register (space_given x))
+        (sym code_is) given) (All-nil (λ (r : ℕ). InSpace r (space_given i.instr))) in
         let seen' = after seen i rs (map (made_at i) (register ∷ [])) in
         let moved : Moved register (p.cycle + latency_of e.table o) seen seen' = record {
           longer = length-append seen.made (map (made_at i) (register ∷ []));
-          front = goes_front c b seen i rs (register ∷ []) p.cycle (one_item register) refl front (omega arith) times goods (p.cycle + latency_of e.table o) (omega arith);
-          new = goes_new_stands c b seen i rs (register ∷ []) p.cycle (one_item register) refl front (omega arith) times goods register active;
-          stands = λ k' r other st'. goes_stands c b seen i rs (register ∷ []) p.cycle (one_item register) refl front (omega arith) times goods k' r st'
+          front = goes_front c b seen i rs (register ∷ []) p.cycle (one_item register) refl front (omega arith) times goods
+              (p.cycle + latency_of e.table o) (omega arith);
+          new = goes_new_stands c b seen i rs (register ∷ []) p.cycle (one_item register) refl front
+              (omega arith) times goods register active;
+          stands = λ k' r other st'. goes_stands c b seen i rs (register ∷ []) p.cycle (one_item register) refl front
+              (omega arith) times goods k' r st'
               (All-cons (λ (x : ℕ). x ≢ r) register [] (λ y. other (sym y)) (All-nil (λ (x : ℕ). x ≢ r))) (λ call. absurd (no_call call));
         } in
         good_copy n p seen node alts k rest purpose m for is
-        (subst (λ (xs : List Read). (StepOk c seen i xs (map (made_at i) (register ∷ [])) × Unit {0}) × AreGoodSteps (n + 1) (after seen i xs (map (made_at i) (register ∷ []))) rest
+        (subst (λ (xs : List Read). (StepOk c seen i xs (map (made_at i) (register ∷ [])) × Unit {0}) × AreGoodSteps (n + 1)
+        (after seen i xs (map (made_at i) (register ∷ []))) rest
         (steps_of e block s (behind_copy p purpose node m) rest)) (sym same) (
           (goes_ok c b seen i rs (register ∷ []) p.cycle (one_item register) refl front (omega arith) times goods given', tt),
-          subst (λ (x : ℕ). AreGoodSteps (n + 1) seen' rest (steps_of e block s (record { cycle = x; values = next_value p.values node; operands = next_operand p.operands node; definer = p.definer }) rest))
+          subst (λ (x : ℕ). AreGoodSteps (n + 1) seen' rest (steps_of e block s (record
+              { cycle = x; values = next_value p.values node; operands = next_operand p.operands node; definer = p.definer }) rest))
               (sym later) (go seen' moved),
         ))

@@ -36,16 +36,17 @@ use Rattle.un_model.specs.Congruences.{term_of}
 use Rattle.un_baseline.specs.Plans.{Step, Suits, SuitsBlock, planned_issue, planned_issues, planned_reads, planned_reads_by, over_plans}
 use Rattle.un_baseline.specs.SpillEverywhere.{setting_of, first_progress, block_plan, block_plans}
 use Rattle.un_baseline.proofs.Counts.{results_count, count_all, bodies_values, others_values, start_values}
-use Rattle.un_baseline.proofs.Grown.{append_nil, all_add}
+use Rattle.un_baseline.proofs.Grown.{all_add}
 use Rattle.un_baseline.proofs.Made.{made_at, planned_made}
 use Rattle.un_baseline.proofs.Openings.{IsKept}
-use Rattle.un_baseline.proofs.Sound.{Seen, after, GoodRead, Sound, all_one}
+use Rattle.un_baseline.proofs.Sound.{Seen, after, GoodRead, Sound}
 use Rattle.un_baseline.proofs.SpillSteps.{steps_zip, suits_by}
 use Rattle.un_baseline.proofs.Standing.{known_later}
 use Rattle.un_baseline.proofs.Starts.{AreApart, Fresh}
 use Rattle.un_baseline.proofs.Timing.{pairs_nil}
 use Rattle.un_baseline.proofs.Walk.{AreGoodSteps, with_step, seen_after, sound_steps, seen_is}
 use Rattle.un_baseline.proofs.Whole.{Handed, whole_good}
+use Rattle.un_baseline.proofs.Items.{all_one, append_nil}
 
 -- ---- masks
 
@@ -56,7 +57,8 @@ range_below : (a n : ℕ) → All (λ (r : ℕ). r < a + n) (range_with_len a n)
 range_below a zero = All-nil (λ (r : ℕ). r < a + zero)
 range_below a (suc n) =
     All-cons (λ (r : ℕ). r < a + suc n) a (range_with_len (a + 1) n) (omega arith)
-    (All-weaker (λ (r : ℕ). r < a + 1 + n) (λ (r : ℕ). r < a + suc n) (λ r lt. omega arith) (range_with_len (a + 1) n) (range_below (a + 1) n))
+    (All-weaker (λ (r : ℕ). r < a + 1 + n) (λ (r : ℕ). r < a + suc n) (λ r lt. omega arith) (range_with_len (a + 1) n)
+    (range_below (a + 1) n))
 
 range_above : (a n : ℕ) → All (λ (r : ℕ). a ≤ r) (range_with_len a n)
 range_above a zero = All-nil (λ (r : ℕ). a ≤ r)
@@ -68,7 +70,8 @@ range_apart : (a n : ℕ) → AreApart (range_with_len a n)
 range_apart a zero = pairs_nil (λ (x y : ℕ). x ≢ y)
 range_apart a (suc n) =
     AllPairs-cons (λ (x y : ℕ). x ≢ y) a (range_with_len (a + 1) n)
-    (All-weaker (λ (r : ℕ). a + 1 ≤ r) (λ (r : ℕ). a ≢ r) (λ r le z. omega arith) (range_with_len (a + 1) n) (range_above (a + 1) n)) (range_apart (a + 1) n)
+    (All-weaker (λ (r : ℕ). a + 1 ≤ r) (λ (r : ℕ). a ≢ r) (λ r le z. omega arith) (range_with_len (a + 1) n) (range_above (a + 1) n))
+    (range_apart (a + 1) n)
 
 all_filtered : (p : ℕ → Bool) (P Q : ℕ → Type 0) (xs : List ℕ) → All Q xs → ((x : ℕ) → Q x → p x ≡ true → P x) → All P (filter p xs)
 all_filtered p P Q [] h f = All-nil P
@@ -116,24 +119,29 @@ pub record IsBelow (c b : ℕ) (seen : Seen) : Type 0 where
 module _ (c : ℕ) (H : Seen → List Read → Type 0) (b end : ℕ) where
   made_below : (i : Issue) (rs : List ℕ) → i.block.0 ≡ b → All (λ (m : LiveRange). m.block.0 < b + 1) (map (made_at i) rs)
   made_below i [] is = All-nil (λ (m : LiveRange). m.block.0 < b + 1)
-  made_below i (r ∷ rs) is = All-cons (λ (m : LiveRange). m.block.0 < b + 1) (made_at i r) (map (made_at i) rs) (omega arith) (made_below i rs is)
+  made_below i (r ∷ rs) is = All-cons (λ (m : LiveRange). m.block.0 < b + 1) (made_at i r) (map (made_at i) rs) (omega arith)
+      (made_below i rs is)
 
-  step_below : (seen : Seen) (i : Issue) (rs : List Read) (regs : List ℕ) → i.block.0 ≡ b → All (GoodRead c seen) rs → IsBelow c (b + 1) seen
+  step_below : (seen : Seen) (i : Issue) (rs : List Read) (regs : List ℕ) → i.block.0 ≡ b → All (GoodRead c seen) rs
+      → IsBelow c (b + 1) seen
       → IsBelow c (b + 1) (after seen i rs (map (made_at i) regs))
   step_below seen i rs regs is good h = record {
     made = All-append (λ (m : LiveRange). m.block.0 < b + 1) seen.made (map (made_at i) regs) h.made (made_below i regs is);
-    issues = All-append (λ (j : Issue). j.block.0 < b + 1) seen.issues (i ∷ []) h.issues (all_one (λ (j : Issue). j.block.0 < b + 1) i (omega arith));
+    issues = All-append (λ (j : Issue). j.block.0 < b + 1) seen.issues (i ∷ []) h.issues
+        (all_one (λ (j : Issue). j.block.0 < b + 1) i (omega arith));
     known = (let k = known_later c b seen i rs (map (made_at i) regs) (record { reads = h.known })
         (λ k d lt. let g = good k d lt in slice_get_within seen.made (get_or rs k d).temp.0 g.temp g.there) in k.reads);
   }
 
-  pub steps_below : (n : ℕ) (seen : Seen) (ops : List ExtOp) (steps : List Step) → AreGoodSteps c H b end n seen ops steps → IsBelow c (b + 1) seen
+  pub steps_below : (n : ℕ) (seen : Seen) (ops : List ExtOp) (steps : List Step) → AreGoodSteps c H b end n seen ops steps
+      → IsBelow c (b + 1) seen
       → IsBelow c (b + 1) (seen_after c H b end n seen ops steps)
   steps_below n seen [] steps good h = h
   steps_below n seen (op ∷ ops) [] good h = absurd good
   steps_below n seen (op ∷ ops) (s ∷ steps) good h =
       let i = planned_issue b end n op s in
-      steps_below (n + 1) (with_step c H b end seen n op s) ops steps good.1 (step_below seen i (planned_reads_by i op s) s.registers refl good.0.0.reads h)
+      steps_below (n + 1) (with_step c H b end seen n op s) ops steps good.1 (step_below seen i
+      (planned_reads_by i op s) s.registers refl good.0.0.reads h)
 
   pub steps_size : (n : ℕ) (seen : Seen) (ops : List ExtOp) (steps : List Step) → AllZip Suits ops steps
       → length (seen_after c H b end n seen ops steps).made ≡ length seen.made + results_count ops
@@ -156,7 +164,8 @@ below_weaker c b seen h = record {
 }
 
 pub suits_of : (x : Ext) (entry : Bool) (block : ExtBlock) → SuitsBlock block (block_plan x entry block)
-suits_of x entry block = steps_zip Suits x block (setting_of x entry block) (λ p purpose op. suits_by x block (setting_of x entry block) p purpose op op.kind refl) (first_progress x entry) block.ops
+suits_of x entry block = steps_zip Suits x block (setting_of x entry block) (λ p purpose op. suits_by x block
+    (setting_of x entry block) p purpose op op.kind refl) (first_progress x entry) block.ops
 
 -- ---- all blocks
 
@@ -164,12 +173,20 @@ suits_of x entry block = steps_zip Suits x block (setting_of x entry block) (λ 
 abbrev pub more : Seen → List Issue → List Read → List LiveRange → Seen
 more seen is rs ms = record { issues = seen.issues ++ is; reads = seen.reads ++ rs; made = seen.made ++ ms }
 
-pub more_more : (seen : Seen) (is is' : List Issue) (rs rs' : List Read) (ms ms' : List LiveRange)
+more_more : (seen : Seen) (is is' : List Issue) (rs rs' : List Read) (ms ms' : List LiveRange)
     → more (more seen is rs ms) is' rs' ms' ≡ more seen (is ++ is') (rs ++ rs') (ms ++ ms')
 more_more seen is is' rs rs' ms ms' =
-    ap (λ (x : List Issue). record { issues = x; reads = (seen.reads ++ rs) ++ rs'; made = (seen.made ++ ms) ++ ms' }) (append_assoc seen.issues is is')
-    ∙ ap (λ (x : List Read). record { issues = seen.issues ++ (is ++ is'); reads = x; made = (seen.made ++ ms) ++ ms' }) (append_assoc seen.reads rs rs')
-    ∙ ap (λ (x : List LiveRange). record { issues = seen.issues ++ (is ++ is'); reads = seen.reads ++ (rs ++ rs'); made = x }) (append_assoc seen.made ms ms')
+    ap (λ (x : List Issue). record { issues = x; reads = (seen.reads ++ rs) ++ rs'; made = (seen.made ++ ms) ++ ms' })
+    (append_assoc seen.issues is is')
+    ∙ ap (λ (x : List Read). record { issues = seen.issues ++ (is ++ is'); reads = x; made = (seen.made ++ ms) ++ ms' })
+    (append_assoc seen.reads rs rs')
+    ∙ ap (λ (x : List LiveRange). record { issues = seen.issues ++ (is ++ is'); reads = seen.reads ++ (rs ++ rs'); made = x })
+    (append_assoc seen.made ms ms')
+
+pub more_behind : (seen seen1 : Seen) (is is' : List Issue) (rs rs' : List Read) (ms ms' : List LiveRange) → seen1 ≡ more seen is rs ms
+    → more seen1 is' rs' ms' ≡ more seen (is ++ is') (rs ++ rs') (ms ++ ms')
+more_behind seen seen1 is is' rs rs' ms ms' same =
+    ap (λ (x : Seen). more x is' rs' ms') same ∙ more_more seen is is' rs rs' ms ms'
 
 more_none : (seen : Seen) → seen ≡ more seen [] [] []
 more_none seen =
@@ -177,30 +194,40 @@ more_none seen =
     ∙ ap (λ (x : List Read). record { issues = seen.issues ++ []; reads = x; made = seen.made }) (sym (append_nil seen.reads))
     ∙ ap (λ (x : List LiveRange). record { issues = seen.issues ++ []; reads = seen.reads ++ []; made = x }) (sym (append_nil seen.made))
 
-last_none : (t : Table) (after : List ℕ) (saved : ℕ) (live_out : List NameId) (term : Term) (names : List Kind) (live_in : List NameId) (copied : Bool) (op : ExtOp)
+last_none : (t : Table) (after : List ℕ) (saved : ℕ) (live_out : List NameId) (term : Term) (names : List Kind) (live_in : List NameId)
+    (copied : Bool) (op : ExtOp)
     → out_op t after saved live_out term ≡ op → sorts_of names live_in copied op.kind (length op.results) ≡ []
-last_none t after saved live_out term names live_in copied op same = ap (λ (o : ExtOp). sorts_of names live_in copied o.kind (length o.results)) (sym same)
+last_none t after saved live_out term names live_in copied op same = ap (λ (o : ExtOp). sorts_of names live_in copied o.kind
+    (length o.results)) (sym same)
 
 end_none : (term : Term) (xs : List Operand) (names : List Kind) (live_in : List NameId) (copied : Bool) (op : ExtOp)
     → record { kind = End term; operands = xs; results = [] } ≡ op → sorts_of names live_in copied op.kind (length op.results) ≡ []
 end_none term xs names live_in copied op same = ap (λ (o : ExtOp). sorts_of names live_in copied o.kind (length o.results)) (sym same)
 
-tail_none : (t : Table) (after : List ℕ) (link saved : ℕ) (live_out : List NameId) (term : Term) (names : List Kind) (live_in : List NameId) (copied : Bool) (i : ℕ) (op : ExtOp)
-    → slice_get (end_ops after link term ++ out_op t after saved live_out term ∷ []) i ≡ Some op → sorts_of names live_in copied op.kind (length op.results) ≡ []
-tail_none t after link saved live_out Fall names live_in copied zero op got = last_none t after saved live_out Fall names live_in copied op (let e : out_op t after saved live_out Fall ≡ op = cc got in e)
+tail_none : (t : Table) (after : List ℕ) (link saved : ℕ) (live_out : List NameId) (term : Term) (names : List Kind)
+    (live_in : List NameId) (copied : Bool) (i : ℕ) (op : ExtOp)
+    → slice_get (end_ops after link term ++ out_op t after saved live_out term ∷ []) i ≡ Some op
+    → sorts_of names live_in copied op.kind (length op.results) ≡ []
+tail_none t after link saved live_out Fall names live_in copied zero op got = last_none t after saved live_out Fall names live_in copied
+    op (let e : out_op t after saved live_out Fall ≡ op = cc got in e)
 tail_none t after link saved live_out Fall names live_in copied (suc i) op got = absurd (cc got)
-tail_none t after link saved live_out (Jump to) names live_in copied zero op got = end_none (Jump to) [] names live_in copied op (let e : record { kind = End (Jump to); operands = []; results = [] } ≡ op = cc got in e)
-tail_none t after link saved live_out (Jump to) names live_in copied (suc zero) op got = last_none t after saved live_out (Jump to) names live_in copied op (let e : out_op t after saved live_out (Jump to) ≡ op = cc got in e)
+tail_none t after link saved live_out (Jump to) names live_in copied zero op got = end_none (Jump to) [] names live_in copied op
+    (let e : record { kind = End (Jump to); operands = []; results = [] } ≡ op = cc got in e)
+tail_none t after link saved live_out (Jump to) names live_in copied (suc zero) op got = last_none t after saved live_out
+    (Jump to) names live_in copied op (let e : out_op t after saved live_out (Jump to) ≡ op = cc got in e)
 tail_none t after link saved live_out (Jump to) names live_in copied (suc (suc i)) op got = absurd (cc got)
 tail_none t after link saved live_out (Branch pred sense to) names live_in copied zero op got =
     end_none (Branch pred sense to) (name_operand after None pred ∷ []) names live_in copied op
     (let e : record { kind = End (Branch pred sense to); operands = name_operand after None pred ∷ []; results = [] } ≡ op = cc got in e)
 tail_none t after link saved live_out (Branch pred sense to) names live_in copied (suc zero) op got =
-    last_none t after saved live_out (Branch pred sense to) names live_in copied op (let e : out_op t after saved live_out (Branch pred sense to) ≡ op = cc got in e)
+    last_none t after saved live_out (Branch pred sense to) names live_in copied op
+    (let e : out_op t after saved live_out (Branch pred sense to) ≡ op = cc got in e)
 tail_none t after link saved live_out (Branch pred sense to) names live_in copied (suc (suc i)) op got = absurd (cc got)
 tail_none t after link saved live_out (Ret value) names live_in copied zero op got =
-    end_none (Ret value) (reads link None ∷ []) names live_in copied op (let e : record { kind = End (Ret value); operands = reads link None ∷ []; results = [] } ≡ op = cc got in e)
-tail_none t after link saved live_out (Ret value) names live_in copied (suc zero) op got = last_none t after saved live_out (Ret value) names live_in copied op (let e : out_op t after saved live_out (Ret value) ≡ op = cc got in e)
+    end_none (Ret value) (reads link None ∷ []) names live_in copied op (let e : record
+    { kind = End (Ret value); operands = reads link None ∷ []; results = [] } ≡ op = cc got in e)
+tail_none t after link saved live_out (Ret value) names live_in copied (suc zero) op got = last_none t after saved live_out
+    (Ret value) names live_in copied op (let e : out_op t after saved live_out (Ret value) ≡ op = cc got in e)
 tail_none t after link saved live_out (Ret value) names live_in copied (suc (suc i)) op got = absurd (cc got)
 
 module _ (f : Function) (lists : List (List NameId)) (t : Table) (fit : IsFit t) (live : AreLive f.blocks lists) where
@@ -215,7 +242,8 @@ module _ (f : Function) (lists : List (List NameId)) (t : Table) (fit : IsFit t)
       let lin = linear_block t (length f.names) lists b first source in with_ops lin (grown_block E.names entry values next lin).ops
 
   abbrev pub ext_from : Bool → ℕ → ℕ → List Value → ℕ → List Block → List ExtBlock
-  ext_from entry b first values next blocks = extended_blocks E.names entry values next (linear_blocks t (length f.names) lists b first blocks)
+  ext_from entry b first values next blocks = extended_blocks E.names entry values next
+      (linear_blocks t (length f.names) lists b first blocks)
 
   module _ (entry : Bool) (b first : ℕ) (values : List Value) (next : ℕ) (source : Block) where
     abbrev lin : ExtBlock
@@ -242,8 +270,10 @@ module _ (f : Function) (lists : List (List NameId)) (t : Table) (fit : IsFit t)
         let after = current_after current0 first' source.ops in
         let link = kept0 + length (callee_saved t) in
         let nout = live_after lists (length f.names) b source.term in
-        bodies_values E.names ns entry saved t current0 first' source.ops (end_ops after link source.term ++ out_op t after kept0 nout source.term ∷ [])
-        (with_extended E.names ns entry saved start g0) (start_values E.names ns entry saved first count g0 (omega arith) ∙ (let z : length values + count ≡ first' = omega arith in z))
+        bodies_values E.names ns entry saved t current0 first' source.ops (end_ops after link source.term
+        ++ out_op t after kept0 nout source.term ∷ [])
+        (with_extended E.names ns entry saved start g0) (start_values E.names ns entry saved first count g0 (omega arith)
+        ∙ (let z : length values + count ≡ first' = omega arith in z))
         (λ g'. others_values E.names ns entry saved (end_ops after link source.term ++ out_op t after kept0 nout source.term ∷ []) g'
         (λ i op got. tail_none t after link kept0 nout source.term E.names ns saved i op got))
 
@@ -251,13 +281,15 @@ module _ (f : Function) (lists : List (List NameId)) (t : Table) (fit : IsFit t)
     grown_next =
         let ns = live_at lists b in
         let g0 : Growth = record { ops = []; values = values; next = next } in
-        count_all E.names ns entry saved lin.ops g0 ∙ ap (λ (os : List ExtOp). next + results_count os) (sym (all_add E.names ns entry saved lin.ops g0))
+        count_all E.names ns entry saved lin.ops g0 ∙ ap (λ (os : List ExtOp). next + results_count os)
+        (sym (all_add E.names ns entry saved lin.ops g0))
 
   pub walk : (blocks : List Block) (entry : Bool) (b n first next : ℕ) (values : List Value) (seen : Seen)
       → ((i : ℕ) (x : Block) → slice_get blocks i ≡ Some x → slice_get f.blocks (b + i) ≡ Some x) → (entry ≡ true → b ≡ 0)
       → length values ≡ first → length seen.made ≡ next → IsBelow c b seen → Sound c seen
       → (let ext = ext_from entry b first values next blocks in let plans = block_plans E entry ext in
-      Sound c (more seen (over_plans planned_issues b n ext plans) (over_plans planned_reads b n ext plans) (over_plans planned_made b n ext plans)))
+      Sound c (more seen (over_plans planned_issues b n ext plans) (over_plans planned_reads b n ext plans)
+      (over_plans planned_made b n ext plans)))
   walk [] entry b n first next values seen there first_block long size below sound = subst (Sound c) (more_none seen) sound
   walk (source ∷ blocks) entry b n first next values seen there first_block long size below sound =
       let B = made_block entry b first values next source in
@@ -266,11 +298,13 @@ module _ (f : Function) (lists : List (List NameId)) (t : Table) (fit : IsFit t)
       let zero_more : b + 0 ≡ b = omega arith in
       let at : slice_get f.blocks b ≡ Some source = ap (slice_get f.blocks) (sym zero_more) ∙ there 0 source refl in
       let fresh : Fresh c H b p.end E B (setting_of E entry B) fit seen = record {
-        made = All-weaker (λ (m : LiveRange). m.block.0 < b) (λ (m : LiveRange). m.block.0 ≢ b) (λ m lt z. omega arith) seen.made below.made;
+        made = All-weaker (λ (m : LiveRange). m.block.0 < b) (λ (m : LiveRange). m.block.0 ≢ b)
+            (λ m lt z. omega arith) seen.made below.made;
         issues = All-weaker (λ (i : Issue). i.block.0 < b) (λ (i : Issue). i.block.0 ≢ b) (λ i lt z. omega arith) seen.issues below.issues;
         known = record { reads = below.known };
       } in
-      let good = whole_good f lists t fit live (no_slot_clobbered t fit) (regs_kept t fit) (regs_apart t) b first source at entry values next p.end n seen first_block long size fresh in
+      let good = whole_good f lists t fit live (no_slot_clobbered t fit) (regs_kept t fit)
+      (regs_apart t) b first source at entry values next p.end n seen first_block long size fresh in
       let suits = suits_of E entry B in
       let seen1 = seen_after c H b p.end n seen B.ops p.steps in
       let is = planned_issues b n B p in
@@ -279,7 +313,8 @@ module _ (f : Function) (lists : List (List NameId)) (t : Table) (fit : IsFit t)
       let same : seen1 ≡ more seen is rs ms = seen_is c H b p.end n seen B.ops p.steps suits in
       let G' = grown_block E.names entry values next (linear_block t (length f.names) lists b first source) in
       let next' : length seen1.made ≡ G'.next =
-      steps_size c H b p.end n seen B.ops p.steps suits ∙ ap (λ (k : ℕ). k + results_count B.ops) size ∙ sym (grown_next entry b first values next source) in
+      steps_size c H b p.end n seen B.ops p.steps suits ∙ ap (λ (k : ℕ). k + results_count B.ops) size
+      ∙ sym (grown_next entry b first values next source) in
       let below1 = steps_below c H b p.end n seen B.ops p.steps good (below_weaker c b seen below) in
       let sound1 = sound_steps c H b p.end n seen B.ops p.steps sound good in
       let ext = ext_from false (b + 1) (past_block t lists b first source) G'.values G'.next blocks in
@@ -291,4 +326,5 @@ module _ (f : Function) (lists : List (List NameId)) (t : Table) (fit : IsFit t)
       let is' = over_plans planned_issues (b + 1) n' ext plans in
       let rs' = over_plans planned_reads (b + 1) n' ext plans in
       let ms' = over_plans planned_made (b + 1) n' ext plans in
-      subst (Sound c) (ap (λ (x : Seen). more x is' rs' ms') same ∙ more_more seen is is' rs rs' ms ms') rest
+      subst (Sound c) {x = more seen1 is' rs' ms'} {y = more seen (is ++ is') (rs ++ rs') (ms ++ ms')}
+      (more_behind seen seen1 is is' rs rs' ms ms' same) rest

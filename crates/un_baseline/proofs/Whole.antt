@@ -46,13 +46,14 @@ use Rattle.un_baseline.proofs.Ends.{fall_good, jump_good, branch_good}
 use Rattle.un_baseline.proofs.Going.{Going, bodies_good}
 use Rattle.un_baseline.proofs.Grown.{all_add, all_ops, extended_ops}
 use Rattle.un_baseline.proofs.Lives.{live_in, live_in_small, live_term, live_out}
-use Rattle.un_baseline.proofs.Openings.{get_left, get_map, rooms_are, IsKept, opens_onward, opens_entry}
+use Rattle.un_baseline.proofs.Openings.{rooms_are, IsKept, opens_onward, opens_entry}
 use Rattle.un_baseline.proofs.Outs.{ReadsFrom}
 use Rattle.un_baseline.proofs.Parameters.{dst_small, entry_low, entry_word}
 use Rattle.un_baseline.proofs.Returning.{return_none, return_some}
 use Rattle.un_baseline.proofs.Sound.{Seen}
 use Rattle.un_baseline.proofs.Starts.{AreApart, Fresh, start_at}
 use Rattle.un_baseline.proofs.Walk.{Good}
+use Rattle.un_baseline.proofs.Items.{get_left, get_map}
 
 -- the registers in which values of these live names, and the saved values, stand at the bounds of blocks
 abbrev pub bound_rooms : Ext → List NameId → List ℕ
@@ -142,8 +143,10 @@ module _ (f : Function) (lists : List (List NameId)) (t : Table) (fit : IsFit t)
     term_tail : (term : Term) (g : Growth) → term_of (ops_of (tail term) g) ≡ term
     term_tail Fall g = term_out e.names ns entry saved (out_operands_of t after kept0 nout Fall) g
     term_tail (Jump to) g = term_jump e.names ns entry saved to (out_op t after kept0 nout (Jump to) ∷ []) g
-    term_tail (Branch pred sense to) g = term_branch e.names ns entry saved pred sense to (name_operand after None pred ∷ []) (out_op t after kept0 nout (Branch pred sense to) ∷ []) g
-    term_tail (Ret value) g = term_return e.names ns entry saved value (reads link0 None ∷ []) (out_op t after kept0 nout (Ret value) ∷ []) g
+    term_tail (Branch pred sense to) g = term_branch e.names ns entry saved pred sense to (name_operand after None pred ∷ [])
+        (out_op t after kept0 nout (Branch pred sense to) ∷ []) g
+    term_tail (Ret value) g = term_return e.names ns entry saved value (reads link0 None ∷ [])
+        (out_op t after kept0 nout (Ret value) ∷ []) g
 
     pub term_is : term_of block.ops ≡ source.term
     term_is =
@@ -207,7 +210,8 @@ module _ (f : Function) (lists : List (List NameId)) (t : Table) (fit : IsFit t)
 
     module _ (end : ℕ) where
       abbrev Goes : ℕ → Growth → List ℕ → ℕ → Progress → Seen → Type 0
-      Goes k g current fst p seen = Going t.clobbered H b end e block s fit free f source at refl link_is ns entry saved kept0 link0 k g current fst p seen
+      Goes k g current fst p seen = Going t.clobbered H b end e block s fit free f source at refl link_is ns entry saved kept0 link0 k g
+          current fst p seen
 
       abbrev IsGoodFrom : ℕ → Progress → Seen → List ExtOp → Type 0
       IsGoodFrom = Good t.clobbered H b end e block s fit
@@ -216,33 +220,45 @@ module _ (f : Function) (lists : List (List NameId)) (t : Table) (fit : IsFit t)
       live_here = live_out f lists live b source at
 
       hands_by : (term : Term) → source.term ≡ term
-          → ((count j : ℕ) (y : Operand) → out_place e.names block.live_out s count term j y ≡ handed_place e.names s count j y (slice_get block.live_out j))
-          → (count j : ℕ) (y : Operand) → out_place e.names block.live_out s count s.term j y ≡ handed_place e.names s count j y (slice_get block.live_out j)
+          → ((count j : ℕ) (y : Operand) → out_place e.names block.live_out s count term j y
+          ≡ handed_place e.names s count j y (slice_get block.live_out j))
+          → (count j : ℕ) (y : Operand) → out_place e.names block.live_out s count s.term j y
+          ≡ handed_place e.names s count j y (slice_get block.live_out j)
       hands_by term is h count j y = ap (λ (x : Term). out_place e.names block.live_out s count x j y) (term_is ∙ is) ∙ h count j y
 
-      tail_good : (term : Term) → source.term ≡ term → (n : ℕ) (g : Growth) (fst : ℕ) (p : Progress) (seen : Seen) → Goes (length source.ops) g after fst p seen
+      tail_good : (term : Term) → source.term ≡ term → (n : ℕ) (g : Growth) (fst : ℕ) (p : Progress) (seen : Seen)
+          → Goes (length source.ops) g after fst p seen
           → TestsItsKind f.names term → IsGoodFrom n p seen (ops_of (tail term) g)
       tail_good Fall is n g fst p seen h kind =
-          fall_good t.clobbered H b end e block s fit free f source at refl link_is ns entry saved kept0 link0 g after fst p seen h refl n nout refl live_here
+          fall_good t.clobbered H b end e block s fit free f source at refl link_is ns entry saved kept0 link0 g after fst p seen h refl n
+          nout refl live_here
           (hands_by Fall is (λ count j y. refl)) (ap purpose_of_out (term_is ∙ is)) (λ seen' qs z. asks_by Fall is seen' qs z)
       tail_good (Jump to) is n g fst p seen h kind =
-          jump_good t.clobbered H b end e block s fit free f source at refl link_is ns entry saved kept0 link0 g after fst p seen h refl n to nout refl live_here
+          jump_good t.clobbered H b end e block s fit free f source at refl link_is ns entry saved kept0 link0 g after fst p seen h refl n
+          to nout refl live_here
           (hands_by (Jump to) is (λ count j y. refl)) (ap purpose_of_out (term_is ∙ is)) (λ seen' qs z. asks_by (Jump to) is seen' qs z)
       tail_good (Branch pred sense to) is n g fst p seen h kind =
-          branch_good t.clobbered H b end e block s fit free f source at refl link_is ns entry saved kept0 link0 g after fst p seen h refl sense n pred to nout kind
-          (live_term f lists live b source at pred (subst (λ (x : Term). Contains (read_by_term x) pred) (sym is) (0, omega arith, refl))) refl live_here
-          (hands_by (Branch pred sense to) is (λ count j y. refl)) (ap purpose_of_out (term_is ∙ is)) (λ seen' qs z. asks_by (Branch pred sense to) is seen' qs z)
+          branch_good t.clobbered H b end e block s fit free f source at refl link_is ns entry saved kept0 link0 g after fst p seen h refl
+          sense n pred to nout kind
+          (live_term f lists live b source at pred (subst (λ (x : Term). Contains (read_by_term x) pred) (sym is) (0, omega arith, refl)))
+          refl live_here
+          (hands_by (Branch pred sense to) is (λ count j y. refl)) (ap purpose_of_out (term_is ∙ is))
+          (λ seen' qs z. asks_by (Branch pred sense to) is seen' qs z)
       tail_good (Ret None) is n g fst p seen h kind =
-          return_none t.clobbered H b end e block s fit free f source at refl link_is ns entry saved kept0 link0 g after fst p seen h (copied_return None is)
+          return_none t.clobbered H b end e block s fit free f source at refl link_is ns entry saved kept0 link0 g after fst p seen h
+          (copied_return None is)
           (term_is ∙ is) (λ seen' qs z. asks_by (Ret None) is seen' qs tt) n
       tail_good (Ret (Some name)) is n g fst p seen h kind =
-          return_some t.clobbered H b end e block s fit free f source at refl link_is ns entry saved kept0 link0 g after fst p seen h (copied_return (Some name) is) name
-          (term_is ∙ is) kind (live_term f lists live b source at name (subst (λ (x : Term). Contains (read_by_term x) name) (sym is) (0, omega arith, refl)))
+          return_some t.clobbered H b end e block s fit free f source at refl link_is ns entry saved kept0 link0 g after fst p seen h
+          (copied_return (Some name) is) name
+          (term_is ∙ is) kind (live_term f lists live b source at name (subst (λ (x : Term). Contains (read_by_term x) name) (sym is)
+          (0, omega arith, refl)))
           (λ seen' qs z. asks_by (Ret (Some name)) is seen' qs tt) n
 
       -- ---- from the operations of the source on
 
-      dst_kept : (d : Option NameId) → ((name : NameId) → d ≡ Some name → name.0 < length e.names) → IfSome d (λ (name : NameId). name.0 < length e.names)
+      dst_kept : (d : Option NameId) → ((name : NameId) → d ≡ Some name → name.0 < length e.names)
+          → IfSome d (λ (name : NameId). name.0 < length e.names)
       dst_kept None h = tt
       dst_kept (Some name) h = h name refl
 
@@ -253,17 +269,20 @@ module _ (f : Function) (lists : List (List NameId)) (t : Table) (fit : IsFit t)
           → IsGoodFrom n p seen (ops_of (body_ops t current0 first' source.ops ++ tail source.term) g1)
       ops_good n p seen h =
           let names = names_size in
-          bodies_good t.clobbered H b end e block s fit free f source at refl link_is ns entry saved kept0 link0 source.ops 0 n g1 current0 first' p seen (tail source.term)
+          bodies_good t.clobbered H b end e block s fit free f source at refl link_is ns entry saved kept0 link0 source.ops 0 n g1
+          current0 first' p seen (tail source.term)
           (λ m o got. let z : 0 + m ≡ m = omega arith in ap (slice_get source.ops) z ∙ got) (omega arith)
           (λ m o got. dst_kept o.dst (λ name is. let lt = dst_small f b m source o name at got is in omega arith)) h
-          (λ n' g' p' seen' h'. tail_good source.term refl n' g' (past_all first' source.ops) p' seen' h' (let q = good_block f b source at in q.tests))
+          (λ n' g' p' seen' h'. tail_good source.term refl n' g' (past_all first' source.ops) p' seen' h'
+          (let q = good_block f b source at in q.tests))
 
       -- ---- all of it
 
       abbrev Goes0 : ℕ → List ℕ → Progress → Seen → Type 0
       Goes0 fst current p seen = Goes 0 g1 current fst p seen
 
-      goes_from : (p : Progress) (seen : Seen) → Goes0 (first + (length ns + suc (length regs))) (first_temps (replicate (length e.names) 0) first ns) p seen
+      goes_from : (p : Progress) (seen : Seen) → Goes0 (first + (length ns + suc (length regs)))
+          (first_temps (replicate (length e.names) 0) first ns) p seen
           → Goes0 first' current0 p seen
       goes_from p seen h =
           let x : first + (length ns + suc (length regs)) ≡ first' = (let z = saved_size in omega arith) in
@@ -276,9 +295,11 @@ module _ (f : Function) (lists : List (List NameId)) (t : Table) (fit : IsFit t)
       small_here : (i : ℕ) (name : NameId) → slice_get block.live_in i ≡ Some name → name.0 < length e.names
       small_here i name got = let a = live_in_small f lists live b source at i name got in let d = names_size in omega arith
 
-      params_here : (entry ≡ true → b ≡ 0) → entry ≡ true → (i : ℕ) (name : NameId) → slice_get ns i ≡ Some name → (name.0 < 6) × (name_kind e.names name ≡ General)
+      params_here : (entry ≡ true → b ≡ 0) → entry ≡ true → (i : ℕ) (name : NameId) → slice_get ns i ≡ Some name
+          → (name.0 < 6) × (name_kind e.names name ≡ General)
       params_here first_block in_entry i name got =
-          let l : IsLive f.blocks name b 0 = (live.exact b name).0 (subst (Contains ns) (get_or_from_slice_get ns i name name got) (Contains-get_or ns i name (slice_get_within ns i name got))) in
+          let l : IsLive f.blocks name b 0 = (live.exact b name).0 (subst (Contains ns) (get_or_from_slice_get ns i name name got)
+          (Contains-get_or ns i name (slice_get_within ns i name got))) in
           let l0 = subst (λ (k : ℕ). IsLive f.blocks name k 0) (first_block in_entry) l in
           (entry_low f name l0, entry_word f name l0)
 
@@ -295,12 +316,17 @@ module _ (f : Function) (lists : List (List NameId)) (t : Table) (fit : IsFit t)
 
           by : (x : Bool) → entry ≡ x → IsGoodFrom n (first_progress e entry) seen whole
           by true is =
-              opens_entry t.clobbered H b end e block s fit free f source at refl link_is entry saved regs_kept regs_apart refl values_are live_in_here (live.rising b) small_here
-              (params_here first_block) first g0 long n (first_progress e entry) seen (ops_of (body_ops t current0 first' source.ops ++ tail source.term) g1)
-              is (copied_entry is) (placed_entry is) fresh size (started entry) (λ n' p' seen' h. ops_good n' p' seen' (goes_from p' seen' h))
+              opens_entry t.clobbered H b end e block s fit free f source at refl link_is entry saved regs_kept regs_apart refl values_are
+              live_in_here (live.rising b) small_here
+              (params_here first_block) first g0 long n (first_progress e entry) seen
+              (ops_of (body_ops t current0 first' source.ops ++ tail source.term) g1)
+              is (copied_entry is) (placed_entry is) fresh size (started entry) (λ n' p' seen' h. ops_good n' p' seen'
+              (goes_from p' seen' h))
           by false is =
-              opens_onward t.clobbered H b end e block s fit free f source at refl link_is entry saved regs_kept regs_apart refl values_are live_in_here (live.rising b) small_here
-              (params_here first_block) first g0 long n (first_progress e entry) seen (ops_of (body_ops t current0 first' source.ops ++ tail source.term) g1)
+              opens_onward t.clobbered H b end e block s fit free f source at refl link_is entry saved regs_kept regs_apart refl
+              values_are live_in_here (live.rising b) small_here
+              (params_here first_block) first g0 long n (first_progress e entry) seen
+              (ops_of (body_ops t current0 first' source.ops ++ tail source.term) g1)
               is (placed_onward is) fresh size (started entry) (λ n' p' seen' h. ops_good n' p' seen' (goes_from p' seen' h))
 
       -- what the start of a block other than the entry makes
@@ -312,9 +338,11 @@ module _ (f : Function) (lists : List (List NameId)) (t : Table) (fit : IsFit t)
       start_rooms_are : (entry ≡ true → b ≡ 0) → entry ≡ false
           → places_from (start_at t.clobbered H b end e block s fit) 0 (new_temps g0 (length start.results)) ≡ bound_rooms e ns
       start_rooms_are first_block not_entry =
-          rooms_are t.clobbered H b end e block s fit free f source at refl link_is entry saved regs_kept regs_apart refl values_are live_in_here (live.rising b) small_here
+          rooms_are t.clobbered H b end e block s fit free f source at refl link_is entry saved regs_kept regs_apart refl values_are
+          live_in_here (live.rising b) small_here
           (new_temps g0 (length start.results)) (length-map-range_with_len temp next (length start.results) ∙ start_size)
-          ∙ ap (λ (x : Bool). map (λ (name : NameId). if x then slice_index t.args name.0 else slot_of name) ns ++ (regs ++ (if x then LINK else s.link) ∷ [])) not_entry
+          ∙ ap (λ (x : Bool). map (λ (name : NameId). if x then slice_index t.args name.0 else slot_of name) ns
+          ++ (regs ++ (if x then LINK else s.link) ∷ [])) not_entry
 
       pub start_made : (entry ≡ true → b ≡ 0) → entry ≡ false → (n j r : ℕ) → slice_get (bound_rooms e ns) j ≡ Some r → MadeAt n j r
       start_made first_block not_entry n j r got =
