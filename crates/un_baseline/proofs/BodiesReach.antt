@@ -5,6 +5,7 @@ use Rattle.std.specs.List.{AllZip}
 use Rattle.std.specs.Option.{option_map, option_to_list}
 use Rattle.std.proofs.lemmas.List.{length-map}
 use Rattle.std.proofs.lemmas.List.Sums.{sum_by-cons}
+use Rattle.std.proofs.lemmas.List.Elements.{Contains-append_right}
 use Rattle.std.proofs.lemmas.Option.{slice_get-map}
 use Rattle.un_base.specs.declared.ids.NameId.{NameId}
 use Rattle.un_base.specs.declared.ids.TempId.{TempId}
@@ -27,7 +28,7 @@ use Rattle.un_ir.specs.declared.extended.Sort.{Sort}
 use Rattle.un_ir.specs.Extended.{temp, at_register, name_kind, results_of, Want, word_in, anywhere, wants_of_op, wants_of, IsGoodOperand, IsExtended}
 use Rattle.un_ir.specs.ExtendOf.{new_temps, with_operands, new_operands, with_results, with_values, with_enter, with_extended}
 use Rattle.un_ir.specs.Linear.{first_of}
-use Rattle.un_ir.specs.LinearOf.{name_operand, argument_operands, source_operands, body_op, body_ops, assigned, past}
+use Rattle.un_ir.specs.LinearOf.{name_operand, argument_operands, source_operands, body_op, body_ops, assigned, past, past_all, current_after}
 use Rattle.un_ir.specs.WellFormed.{operand_kinds, result_kind}
 use Rattle.un_model.specs.declared.model.Options.{Options}
 use Rattle.un_baseline.specs.declared.plan.Definer.TheVariants.{Assigns}
@@ -195,3 +196,29 @@ module _ (e : Ext) (o : Options) (roomy : AreRoomy e o) (fit : IsFit e.table) (e
         (operands_reach e block s xs (read_kinds src src.op) g p (body ∷ (ds ++ tail)) fin copied refl (λ q at.
         let after = progress_of e block s q (purpose_at s.term (body ∷ (ds ++ tail))) body (Body src) in
         result_by src.dst (result_kind src.op) first read.next here after tail fin refl source.kind (λ r there. rest r (omega arith))))
+
+  -- ---- one after another
+
+  abbrev pub AreSources : List SrcOp → Type 0
+  AreSources [] = Unit {0}
+  AreSources (src ∷ srcs) = SourceOk e o roomy fit extended b entry block at_b src × AreSources srcs
+
+  pub bodies_reach : (srcs : List SrcOp) (current : List ℕ) (first : ℕ) (g : Growth) (p : Progress) (rest : List ExtOp) (fin : ℕ)
+      → Counted current first g → AreSources srcs
+      → EachOp (λ (op : ExtOp). ReadsFrom e o entry block from op.operands) (body_ops e.table current first srcs)
+      → Within (all (body_ops e.table current first srcs ++ rest) g)
+      → ((h : Growth) (q : Progress) → Counted (current_after current first srcs) (past_all first srcs) h → Within (all rest h)
+      → q.cycle ≡ p.cycle + sum_by (source_packets e.table) srcs → Reach e block s q (all rest h) fin)
+      → Reach e block s p (all (body_ops e.table current first srcs ++ rest) g) fin
+  bodies_reach [] current first g p rest fin counted sources reads inside go = go g p counted inside (omega arith)
+  bodies_reach (src ∷ srcs) current first g p rest fin counted sources reads inside go =
+      let op = body_op e.table current first src in
+      let here = extended_ops e.names block.live_in entry saved op g in
+      let grown = with_extended e.names block.live_in entry saved op g in
+      let tail = all (body_ops e.table (assigned current src.dst first) (past src.dst first) srcs ++ rest) grown in
+      let among = body_among e o roomy fit extended b entry block at_b src op.operands op.results from g saved counted.values reads.0 tail inside in
+      let split = sum_by-cons (source_packets e.table) src srcs in
+      body_reach src current first g counted p tail fin sources.0 reads.0 inside (λ q at.
+      bodies_reach srcs (assigned current src.dst first) (past src.dst first) grown q rest fin (next_counted src current first g counted reads.0 among)
+      sources.1 reads.1 (λ x c. inside x (Contains-append_right here tail x c)) (λ h r known within there.
+      go h r known within (omega arith)))
