@@ -1,21 +1,18 @@
 -- How many cycles the operations of the source take: their operands are reloaded, they issue, and their results are spilled.
-use Rattle.std.proofs.Common.{◌≡◌, ◌≢◌, ℕ, zero, suc, ◌+◌, ◌-◌, ◌<◌, ◌≤◌, Bool, true, false, List, [], ◌∷◌, ◌++◌, length, map, take, replicate, Option, Some, None, Contains, refl, sym, ap, subst, ◌∙◌, append-nil, arith}
+use Rattle.std.proofs.Common.{◌≡◌, ℕ, zero, suc, ◌+◌, Bool, true, false, List, [], ◌∷◌, ◌++◌, length, map, take, replicate, Option, Some, None, Contains, refl, sym, ap, subst, ◌∙◌, append-nil, arith}
 use Rattle.std.specs.Prelude.{slice_get, slice_index, sum_by}
-use Rattle.std.specs.List.{AllZip}
-use Rattle.std.specs.Option.{option_map, option_to_list}
+use Rattle.std.specs.Option.{option_to_list}
 use Rattle.std.proofs.lemmas.List.{length-map}
 use Rattle.std.proofs.lemmas.List.Sums.{sum_by-cons}
 use Rattle.std.proofs.lemmas.List.Elements.{Contains-append_right}
-use Rattle.std.proofs.lemmas.Option.{slice_get-map}
 use Rattle.un_base.specs.declared.ids.NameId.{NameId}
 use Rattle.un_base.specs.declared.ids.TempId.{TempId}
 use Rattle.un_isa.specs.Fit.{IsFit}
-use Rattle.un_isa.specs.Tables.{latency_of}
 use Rattle.un_isa.specs.declared.op.Op.{Op}
 use Rattle.un_isa.specs.declared.op.Op.TheVariants.{Imm, Call}
 use Rattle.un_isa.specs.declared.table.Table.{Table}
 use Rattle.un_ir.specs.declared.function.Kind.{Kind}
-use Rattle.un_ir.specs.declared.function.Kind.TheVariants.{General, Pred}
+use Rattle.un_ir.specs.declared.function.Kind.TheVariants.{General}
 use Rattle.un_ir.specs.declared.function.SrcOp.{SrcOp}
 use Rattle.un_ir.specs.declared.extended.NodeCopy.TheVariants.{D, D2}
 use Rattle.un_ir.specs.declared.extended.ExtKind.TheVariants.{Body}
@@ -25,7 +22,7 @@ use Rattle.un_ir.specs.declared.extended.ExtBlock.{ExtBlock}
 use Rattle.un_ir.specs.declared.extended.Ext.{Ext}
 use Rattle.un_ir.specs.declared.extended.Growth.{Growth}
 use Rattle.un_ir.specs.declared.extended.Sort.{Sort}
-use Rattle.un_ir.specs.Extended.{temp, at_register, name_kind, results_of, Want, word_in, anywhere, wants_of_op, wants_of, IsGoodOperand, IsExtended}
+use Rattle.un_ir.specs.Extended.{temp, at_register, name_kind, results_of, word_in, anywhere, wants_of_op, IsGoodOperand, IsExtended}
 use Rattle.un_ir.specs.ExtendOf.{new_temps, with_operands, new_operands, with_results, with_values, with_enter, with_extended}
 use Rattle.un_ir.specs.Linear.{first_of}
 use Rattle.un_ir.specs.LinearOf.{name_operand, argument_operands, source_operands, body_op, body_ops, assigned, past, past_all, current_after}
@@ -35,15 +32,15 @@ use Rattle.un_baseline.specs.declared.plan.Definer.TheVariants.{Assigns}
 use Rattle.un_baseline.specs.declared.plan.Setting.{Setting}
 use Rattle.un_baseline.specs.declared.plan.Progress.{Progress}
 use Rattle.un_baseline.specs.RoomyOptions.{AreRoomy}
-use Rattle.un_baseline.specs.SpilledCost.{operand_packets, assigned_packets, read_kinds, source_packets}
+use Rattle.un_baseline.specs.SpilledCost.{assigned_packets, read_kinds, source_packets}
 use Rattle.un_baseline.specs.SpillEverywhere.{assigning, purpose_at, progress_of, setting_of}
-use Rattle.un_baseline.proofs.Grown.{copy_ops, values_ops, operands_ops, extended_ops, all_ops}
+use Rattle.un_baseline.proofs.Grown.{copy_ops, values_ops, extended_ops, all_ops}
 use Rattle.un_baseline.proofs.SpillSteps.{EachOp}
 use Rattle.un_baseline.proofs.OutsIn.{ReadsFrom}
 use Rattle.un_baseline.proofs.ValuesOk.{ValuesOk}
 use Rattle.un_baseline.proofs.BlockIn.{good_block, place_of, Inside, SourceOk, body_values, body_among, body_whole}
 use Rattle.un_baseline.proofs.CloseIn.{zip_length, news_length}
-use Rattle.un_baseline.proofs.FunctionIn.{operands_count, op_count, dst_count}
+use Rattle.un_baseline.proofs.FunctionIn.{op_count, dst_count}
 use Rattle.un_baseline.proofs.Reaching.{Reach, AreCopied, operands_reach, result_reach}
 use Rattle.un_baseline.proofs.CopiedNames.{CopiedAt, copied_operands, copied_row, copied_past, NamesCopied, names_assigned, kinds_wanted, operands_copied}
 

@@ -15,6 +15,7 @@ pub mod Counts
 pub mod Definers
 pub mod Each
 pub mod Ends
+pub mod EndsReach
 pub mod FrameKept
 pub mod FrameOps
 pub mod FrameOrder
