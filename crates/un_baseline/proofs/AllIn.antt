@@ -1,5 +1,5 @@
 -- The values of the plan that spills every name of a function lie in their domains.
-use Rattle.std.proofs.Common.{◌≡◌, ℕ, zero, suc, ◌+◌, ◌-◌, ◌<◌, ◌≤◌, Bool, true, false, List, [], ◌∷◌, ◌++◌, length, map, replicate, Option, Some, None, All, Contains, refl, sym, ap, subst, ◌∙◌, arith}
+use Rattle.std.proofs.Common.{◌≡◌, ℕ, suc, ◌+◌, ◌-◌, ◌≤◌, Bool, true, false, List, [], ◌∷◌, ◌++◌, length, map, replicate, Option, Some, None, All, Contains, refl, sym, ap, subst, ◌∙◌, arith}
 use Rattle.std.specs.Prelude.{◌||◌, slice_get}
 use Rattle.std.specs.List.{range_with_len}
 use Rattle.std.proofs.lemmas.List.{length-append, length-map, length-replicate}
@@ -12,24 +12,22 @@ use Rattle.un_isa.specs.Fit.{IsFit}
 use Rattle.un_isa.specs.Registers.{callee_saved, saved_registers}
 use Rattle.un_isa.specs.declared.reg.TheConstants.{LINK}
 use Rattle.un_isa.specs.declared.table.Table.{Table}
-use Rattle.un_ir.specs.declared.function.Kind.{Kind}
 use Rattle.un_ir.specs.declared.function.SrcOp.{SrcOp}
 use Rattle.un_ir.specs.declared.function.Block.{Block}
 use Rattle.un_ir.specs.declared.function.Function.{Function}
-use Rattle.un_ir.specs.declared.extended.ExtKind.TheVariants.{In, Out}
-use Rattle.un_ir.specs.declared.extended.Operand.{Operand}
+use Rattle.un_ir.specs.declared.extended.ExtKind.TheVariants.{In}
 use Rattle.un_ir.specs.declared.extended.ExtOp.{ExtOp}
 use Rattle.un_ir.specs.declared.extended.ExtBlock.{ExtBlock}
 use Rattle.un_ir.specs.declared.extended.Ext.{Ext}
 use Rattle.un_ir.specs.declared.extended.Growth.{Growth}
 use Rattle.un_ir.specs.declared.extended.Value.{Value}
 use Rattle.un_ir.specs.Extended.{temp, returns, IsGoodExtBlock, IsExtended, IsLinear}
-use Rattle.un_ir.specs.ExtendOf.{sort_of_name, sorts_of, with_extended, with_all_extended, grown_block, with_ops, extended_blocks, extend_of}
-use Rattle.un_ir.specs.LinearOf.{body_ops, past_all, past_block, first_temps, current_after, in_op, end_ops, out_op, linear_block, linear_blocks, live_at, live_after, lin_of, kind_of_pair}
+use Rattle.un_ir.specs.ExtendOf.{sort_of_name, sorts_of, with_extended, grown_block, with_ops, extended_blocks, extend_of}
+use Rattle.un_ir.specs.LinearOf.{body_ops, past_block, first_temps, current_after, in_op, end_ops, out_op, linear_block, linear_blocks, live_at, live_after, lin_of, kind_of_pair}
 use Rattle.un_model.specs.declared.model.Options.{Options}
 use Rattle.un_model.specs.Registers.{is_home}
 use Rattle.un_model.specs.Congruences.{live_in_temps}
-use Rattle.un_baseline.specs.declared.plan.Definer.TheVariants.{Assigns, Other}
+use Rattle.un_baseline.specs.declared.plan.Definer.TheVariants.{Assigns}
 use Rattle.un_baseline.specs.RoomyOptions.{AreRoomy}
 use Rattle.un_baseline.specs.SpillEverywhere.{assigning, setting_of, first_progress}
 use Rattle.un_baseline.proofs.SpillSteps.{EachOp}

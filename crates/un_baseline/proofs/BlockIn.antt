@@ -1,12 +1,10 @@
 -- The operations of the source, and the start and the end of a block, keep what is known of values, and lie in their domains.
-use Rattle.std.proofs.Common.{◌≡◌, ◌⊎◌, inl, inr, ⊎_elim, ℕ, zero, suc, ◌+◌, ◌-◌, ◌<◌, ◌≤◌, Bool, true, false, List, [], ◌∷◌, ◌++◌, length, map, get_or, take, replicate, Option, Some, None, All, Contains, refl, sym, ap, subst, ◌∙◌, append_assoc, append-nil, arith}
-use Rattle.std.specs.Prelude.{◌==◌, ◌&&◌, ◌||◌, if◌then◌else◌, slice_get, unwrap_or}
-use Rattle.std.specs.List.{AllZip, range_with_len}
-use Rattle.std.specs.Option.{option_map, option_to_list}
-use Rattle.std.proofs.lemmas.List.{length-append, length-map, length-replicate}
-use Rattle.std.proofs.lemmas.List.Elements.{All-contains, Contains-append_left, Contains-append_right}
-use Rattle.std.proofs.lemmas.List.FromFn.{length-map-range_with_len}
-use Rattle.std.proofs.lemmas.Option.{slice_get_within, slice_get-get_or, slice_get-map}
+use Rattle.std.proofs.Common.{◌≡◌, ℕ, zero, suc, ◌+◌, ◌<◌, ◌≤◌, Bool, true, false, List, [], ◌∷◌, ◌++◌, length, map, replicate, Option, Some, None, All, Contains, refl, sym, ap, subst, ◌∙◌, append_assoc, append-nil, arith}
+use Rattle.std.specs.Prelude.{◌==◌, ◌&&◌, slice_get}
+use Rattle.std.specs.List.{range_with_len}
+use Rattle.std.specs.Option.{option_map}
+use Rattle.std.proofs.lemmas.List.Elements.{All-contains, Contains-append_right}
+use Rattle.std.proofs.lemmas.Option.{slice_get-get_or, slice_get-map}
 use Rattle.un_base.specs.declared.ids.NameId.{NameId}
 use Rattle.un_base.specs.declared.ids.TempId.{TempId}
 use Rattle.un_isa.specs.Facts.{result_space}
@@ -14,39 +12,36 @@ use Rattle.un_isa.specs.Fit.{IsFit}
 use Rattle.un_isa.specs.Registers.{saved_registers}
 use Rattle.un_isa.specs.declared.reg.Space.{Space}
 use Rattle.un_isa.specs.declared.reg.Space.TheVariants.{R, P, M}
-use Rattle.un_ir.specs.declared.function.Kind.{Kind}
-use Rattle.un_ir.specs.declared.function.Kind.TheVariants.{General, Pred}
+use Rattle.un_ir.specs.declared.function.Kind.TheVariants.{Pred}
 use Rattle.un_ir.specs.declared.function.SrcOp.{SrcOp}
-use Rattle.un_ir.specs.declared.extended.ExtKind.{ExtKind}
-use Rattle.un_ir.specs.declared.extended.ExtKind.TheVariants.{In, Out, Body, End, Copy, Enter, Leave}
+use Rattle.un_ir.specs.declared.extended.ExtKind.TheVariants.{In, Body}
 use Rattle.un_ir.specs.declared.extended.Operand.{Operand}
 use Rattle.un_ir.specs.declared.extended.ExtOp.{ExtOp}
 use Rattle.un_ir.specs.declared.extended.ExtBlock.{ExtBlock}
 use Rattle.un_ir.specs.declared.extended.Ext.{Ext}
 use Rattle.un_ir.specs.declared.extended.Growth.{Growth}
 use Rattle.un_ir.specs.declared.extended.Sort.{Sort}
-use Rattle.un_ir.specs.Extended.{temp, name_kind, in_kinds, defined_kinds, kind_of_temp, results_of, result_count, IsGoodExtOp, IsGoodExtBlock, IsExtended}
-use Rattle.un_ir.specs.ExtendOf.{new_temps, with_operands, new_operands, sort_of_name, sorts_of, with_results, with_values, with_enter, with_extended}
+use Rattle.un_ir.specs.Extended.{temp, name_kind, result_count, IsGoodExtBlock, IsExtended}
+use Rattle.un_ir.specs.ExtendOf.{with_operands, new_operands, with_results, with_values, with_enter, with_extended}
 use Rattle.un_ir.specs.WellFormed.{result_kind, kind_given}
 use Rattle.un_ir.proofs.NameBounds.{at_all}
 use Rattle.un_model.specs.declared.model.Options.{Options}
-use Rattle.un_model.specs.Instructions.{gives_truth, is_predicate_space}
-use Rattle.un_model.specs.Registers.{is_pred, is_pred_name, gives_truth_at, is_truth_of, is_truth}
-use Rattle.un_baseline.specs.declared.plan.Purpose.{Purpose}
-use Rattle.un_baseline.specs.declared.plan.Purpose.TheVariants.{Operands, Link, Returned, Unread}
+use Rattle.un_model.specs.Instructions.{is_predicate_space}
+use Rattle.un_model.specs.Registers.{gives_truth_at, is_truth_of, is_truth}
+use Rattle.un_baseline.specs.declared.plan.Purpose.TheVariants.{Operands}
 use Rattle.un_baseline.specs.declared.plan.Definer.{Definer}
-use Rattle.un_baseline.specs.declared.plan.Definer.TheVariants.{Start, Assigns, Other}
+use Rattle.un_baseline.specs.declared.plan.Definer.TheVariants.{Assigns}
 use Rattle.un_baseline.specs.declared.plan.Setting.{Setting}
 use Rattle.un_baseline.specs.declared.plan.Progress.{Progress}
 use Rattle.un_baseline.specs.RoomyOptions.{AreRoomy}
-use Rattle.un_baseline.specs.SpillEverywhere.{assigning, other_progress, purpose_at, progress_of, setting_of}
+use Rattle.un_baseline.specs.SpillEverywhere.{assigning, purpose_at, progress_of, setting_of}
 use Rattle.un_baseline.proofs.Grown.{values_ops, operands_ops, enter_ops, extended_ops}
-use Rattle.un_baseline.proofs.CopiesIn.{DefinerOk, OperandOk}
-use Rattle.un_baseline.proofs.OpsIn.{any_from_at, any_contains, same_number, body_in, enter_in, start_in}
+use Rattle.un_baseline.proofs.CopiesIn.{DefinerOk}
+use Rattle.un_baseline.proofs.OpsIn.{any_from_at, any_contains, same_number, body_in}
 use Rattle.un_baseline.proofs.OutsIn.{ReadsFrom}
 use Rattle.un_baseline.proofs.ValueKinds.{kind_defined}
-use Rattle.un_baseline.proofs.ValuesOk.{ValueOk, ValuesOk, values_same, values_operand, values_operands, SortOk, SortsOk, values_new}
-use Rattle.un_baseline.proofs.WalkIn.{Good, Ready, AreReady, operands_good, AreTruths, values_good}
+use Rattle.un_baseline.proofs.ValuesOk.{ValuesOk, values_same, values_operand, values_operands, SortOk, SortsOk, values_new}
+use Rattle.un_baseline.proofs.WalkIn.{Good, AreReady, operands_good, AreTruths, values_good}
 
 -- ---- lists
 

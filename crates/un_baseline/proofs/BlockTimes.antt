@@ -1,7 +1,7 @@
 -- The times of a block of the plan: when each instruction issues, and that each comes behind those before it.
-use Rattle.std.proofs.Common.{◌≡◌, ◌≢◌, ℕ, zero, suc, ◌+◌, ◌<◌, ◌≤◌, Bool, true, false, List, [], ◌∷◌, ◌++◌, length, get_or, append-nil, Option, Some, None, refl, sym, ap, subst, ◌∙◌, arith}
+use Rattle.std.proofs.Common.{◌≡◌, ◌≢◌, ℕ, ◌+◌, ◌<◌, ◌≤◌, Bool, true, false, List, [], ◌∷◌, ◌++◌, length, get_or, append-nil, Option, Some, None, refl, sym, ap, subst, ◌∙◌, arith}
 use Rattle.std.specs.Prelude.{◌==◌, if◌then◌else◌, All, AllPairs}
-use Rattle.std.proofs.lemmas.List.Elements.{All-append, All-nil, All-cons, All-head, All-tail, All-weaker}
+use Rattle.std.proofs.lemmas.List.Elements.{All-nil, All-cons}
 use Rattle.std.proofs.lemmas.List.Kept.{AllPairs-cons}
 use Rattle.un_isa.specs.declared.op.Op.{Op}
 use Rattle.un_isa.specs.declared.op.Op.TheVariants.{Mov, Spill, Reload, P2R, R2P, Jumpr, Enter as EnterOp, Leave as LeaveOp}
@@ -19,7 +19,7 @@ use Rattle.un_ir.specs.declared.extended.ExtBlock.{ExtBlock}
 use Rattle.un_ir.specs.declared.extended.Ext.{Ext}
 use Rattle.un_model.specs.declared.schedule.Issue.{Issue}
 use Rattle.un_model.specs.Congruences.{term_of}
-use Rattle.un_model.specs.Instructions.{copy_of, frame_instr, instruction_of, is_transfer}
+use Rattle.un_model.specs.Instructions.{instruction_of, is_transfer}
 use Rattle.un_baseline.specs.declared.plan.Purpose.{Purpose}
 use Rattle.un_baseline.specs.declared.plan.Purpose.TheVariants.{Operands, Link, Returned, Unread}
 use Rattle.un_baseline.specs.declared.plan.Move.{Move}
@@ -29,9 +29,9 @@ use Rattle.un_baseline.specs.Plans.{planned_issue, planned_issues}
 use Rattle.un_baseline.specs.SpillEverywhere.{purpose_of_out, purpose_of, purpose_at, first_alts, copy_move, next_cycle, step_of, progress_of, progress_after, setting_of, first_progress, first_cycle, leave_cycle, end_cycle, block_end, block_plan}
 use Rattle.un_baseline.proofs.OneAtATime.{AreSeparated}
 use Rattle.un_baseline.proofs.SpillSteps.{EachOp, EachBlockOp}
-use Rattle.un_baseline.proofs.Timing.{Rise, nothing, still, enters, issues, pairs_append, pairs_nil, IsBetween, idle, entering, within, all_between, rise_bound, rise_separated}
-use Rattle.un_baseline.proofs.Fronts.{IsCalm, AreFront, AreCalm, IsFrontKind, issues_from, front_rises}
-use Rattle.un_baseline.proofs.Tails.{IsReading, first_one, second_one, AreForLink, IsIn, free, inside, IsTail, none_there as none_there_yet, reload_there, leave_there, return_there, before_separated, IsEnd, return_end}
+use Rattle.un_baseline.proofs.Timing.{Rise, still, enters, issues, pairs_nil, IsBetween, idle, entering, within, all_between, rise_bound}
+use Rattle.un_baseline.proofs.Fronts.{IsCalm, AreFront, IsFrontKind, issues_from, front_rises}
+use Rattle.un_baseline.proofs.Tails.{IsReading, first_one, second_one, AreForLink, IsIn, free, inside, IsTail, none_there as none_there_yet, reload_there, leave_there, return_there, IsEnd, return_end}
 use Rattle.un_baseline.proofs.Layouts.{GoesOn, Returns, IsLaidOut, AreLaidOut, onward, back, purpose_split, issues_split, each_weaker, each_of_all, are_calm, early_by}
 use Rattle.un_baseline.proofs.Shapes.{each_append, link_reads}
 use Rattle.un_baseline.proofs.BlockShapes.{goes_by, unread_out}

@@ -1,19 +1,16 @@
 -- All operations of a block lie in their domains.
-use Rattle.std.proofs.Common.{◌≡◌, ◌⊎◌, inl, inr, ⊎_elim, ℕ, zero, suc, ◌+◌, ◌-◌, ◌<◌, ◌≤◌, Bool, true, false, List, [], ◌∷◌, ◌++◌, length, map, take, replicate, set, length-set, Option, Some, None, All, Contains, refl, sym, ap, subst, ◌∙◌, append_assoc, append-nil, arith}
-use Rattle.std.specs.Prelude.{◌||◌, if◌then◌else◌, slice_get, slice_set}
-use Rattle.std.specs.List.{AllZip, range_with_len}
-use Rattle.std.specs.Option.{option_to_list}
-use Rattle.std.proofs.lemmas.List.{length-append, length-map}
-use Rattle.std.proofs.lemmas.List.Elements.{Contains-append_left, Contains-append_right}
+use Rattle.std.proofs.Common.{◌≡◌, ⊎_elim, ℕ, zero, suc, ◌+◌, ◌<◌, ◌≤◌, Bool, true, false, List, [], ◌∷◌, ◌++◌, length, take, replicate, length-set, Option, Some, None, Contains, refl, sym, ap, subst, ◌∙◌, append_assoc, arith}
+use Rattle.std.specs.Prelude.{slice_get}
+use Rattle.std.specs.List.{AllZip}
+use Rattle.std.proofs.lemmas.List.{length-map}
+use Rattle.std.proofs.lemmas.List.Elements.{Contains-append_right}
 use Rattle.un_base.specs.declared.ids.NameId.{NameId}
 use Rattle.un_base.specs.declared.ids.TempId.{TempId}
-use Rattle.un_isa.specs.Facts.{operand_count}
 use Rattle.un_isa.specs.Fit.{IsFit}
 use Rattle.un_isa.specs.declared.op.Op.{Op}
 use Rattle.un_isa.specs.declared.op.Op.TheVariants.{Imm, Call}
 use Rattle.un_isa.specs.declared.reg.TheConstants.{LINK}
 use Rattle.un_isa.specs.declared.table.Table.{Table}
-use Rattle.un_ir.specs.declared.function.Kind.{Kind}
 use Rattle.un_ir.specs.declared.function.SrcOp.{SrcOp}
 use Rattle.un_ir.specs.declared.function.Term.{Term}
 use Rattle.un_ir.specs.declared.function.Term.TheVariants.{Fall, Jump, Branch, Ret}
@@ -24,17 +21,16 @@ use Rattle.un_ir.specs.declared.extended.ExtOp.{ExtOp}
 use Rattle.un_ir.specs.declared.extended.ExtBlock.{ExtBlock}
 use Rattle.un_ir.specs.declared.extended.Ext.{Ext}
 use Rattle.un_ir.specs.declared.extended.Growth.{Growth}
-use Rattle.un_ir.specs.declared.extended.Sort.{Sort}
 use Rattle.un_ir.specs.declared.extended.Value.{Value}
-use Rattle.un_ir.specs.Extended.{temp, results_of, Want, word_in, anywhere, wants_of_op, wants_of, wants_of_out, IsGoodOperand, IsGoodExtOp, IsExtended}
-use Rattle.un_ir.specs.Linear.{first_of, ending_of}
-use Rattle.un_ir.specs.LinearOf.{reads as reads_of, name_operand, source_operands, body_op, body_ops, assigned, past, end_ops}
-use Rattle.un_ir.specs.ExtendOf.{frame_op, copy_count, new_temps, with_op, with_value, with_operand_by, with_operand, with_operands, new_operands, with_results, with_values, with_enter, with_extended}
+use Rattle.un_ir.specs.Extended.{temp, results_of, word_in, anywhere, wants_of_op, wants_of, wants_of_out, IsGoodOperand, IsGoodExtOp, IsExtended}
+use Rattle.un_ir.specs.Linear.{first_of}
+use Rattle.un_ir.specs.LinearOf.{reads as reads_of, name_operand, body_op, body_ops, assigned, past, end_ops}
+use Rattle.un_ir.specs.ExtendOf.{frame_op, copy_count, new_temps, with_op, with_operand_by, with_operand, with_operands, new_operands, with_results, with_values, with_enter, with_extended}
 use Rattle.un_ir.specs.WellFormed.{operand_kinds, result_kind}
 use Rattle.un_model.specs.declared.model.Options.{Options}
 use Rattle.un_model.specs.Registers.{is_home}
 use Rattle.un_baseline.specs.declared.plan.Purpose.{Purpose}
-use Rattle.un_baseline.specs.declared.plan.Purpose.TheVariants.{Operands, Link, Returned, Unread}
+use Rattle.un_baseline.specs.declared.plan.Purpose.TheVariants.{Link}
 use Rattle.un_baseline.specs.declared.plan.Setting.{Setting}
 use Rattle.un_baseline.specs.declared.plan.Progress.{Progress}
 use Rattle.un_baseline.specs.RoomyOptions.{AreRoomy}
@@ -44,8 +40,8 @@ use Rattle.un_baseline.proofs.CopiesIn.{OperandOk}
 use Rattle.un_baseline.proofs.OpsIn.{end_in, leave_in}
 use Rattle.un_baseline.proofs.OutsIn.{ReadsFrom, news_have, term_same, out_in}
 use Rattle.un_baseline.proofs.SpillSteps.{EachOp}
-use Rattle.un_baseline.proofs.ValuesOk.{ValueOk, ValuesOk, set_cases, values_same, values_operand, values_operands}
-use Rattle.un_baseline.proofs.WalkIn.{Ready, AreReady, operands_good}
+use Rattle.un_baseline.proofs.ValuesOk.{ValuesOk, set_cases, values_same, values_operand, values_operands}
+use Rattle.un_baseline.proofs.WalkIn.{AreReady, operands_good}
 use Rattle.un_baseline.proofs.BlockIn.{good_block, live, place_of, Walk, Inside, SourceOk, ready_operands, body_values, body_among, body_good}
 use Rattle.un_baseline.proofs.StartIn.{Begins, begins_values}
 
@@ -78,13 +74,13 @@ begins_same i n g g' same h = record {
 
 -- ---- few operands
 
-zip_length : {A B : Type 0} (Q : A → B → Type 0) (xs : List A) (ys : List B) → AllZip Q xs ys → length xs ≡ length ys
+pub zip_length : {A B : Type 0} (Q : A → B → Type 0) (xs : List A) (ys : List B) → AllZip Q xs ys → length xs ≡ length ys
 zip_length Q [] [] h = refl
 zip_length Q [] (y ∷ ys) h = absurd h
 zip_length Q (x ∷ xs) [] h = absurd h
 zip_length Q (x ∷ xs) (y ∷ ys) h = ap suc (zip_length Q xs ys h.1)
 
-news_length : (xs : List Operand) (g : Growth) → length (new_operands xs g) ≡ length xs
+pub news_length : (xs : List Operand) (g : Growth) → length (new_operands xs g) ≡ length xs
 news_length [] g = refl
 news_length (x ∷ xs) g = ap suc (news_length xs (with_operand x g))
 

@@ -1,13 +1,11 @@
 -- The values of names have copies.
-use Rattle.std.proofs.Common.{◌≡◌, ◌⊎◌, inl, inr, ⊎_elim, ℕ, zero, suc, ◌+◌, ◌-◌, ◌<◌, ◌≤◌, Bool, true, false, List, [], ◌∷◌, ◌++◌, length, map, set, get_or, replicate, Option, Some, None, refl, sym, ap, subst, ◌∙◌, arith}
+use Rattle.std.proofs.Common.{◌≡◌, ◌⊎◌, inl, inr, ⊎_elim, ℕ, zero, suc, ◌+◌, ◌<◌, ◌≤◌, Bool, true, List, [], ◌∷◌, ◌++◌, length, map, replicate, Option, Some, None, refl, sym, ap, subst, ◌∙◌, arith}
 use Rattle.std.specs.Prelude.{slice_get, slice_set, slice_index}
 use Rattle.std.specs.List.{AllZip}
-use Rattle.std.proofs.lemmas.List.{length-append, length-map}
 use Rattle.std.proofs.lemmas.Option.{slice_get_within}
 use Rattle.un_base.specs.declared.ids.NameId.{NameId}
 use Rattle.un_base.specs.declared.ids.TempId.{TempId}
 use Rattle.un_ir.specs.declared.function.Kind.{Kind}
-use Rattle.un_ir.specs.declared.function.Kind.TheVariants.{General, Pred}
 use Rattle.un_ir.specs.declared.extended.Operand.{Operand}
 use Rattle.un_ir.specs.declared.extended.ExtBlock.{ExtBlock}
 use Rattle.un_ir.specs.declared.extended.Ext.{Ext}
@@ -17,13 +15,13 @@ use Rattle.un_ir.specs.declared.extended.Value.{Value}
 use Rattle.un_ir.specs.Extended.{temp, kind_of_temp, Want, IsGoodOperand}
 use Rattle.un_ir.specs.Linear.{first_of}
 use Rattle.un_ir.specs.LinearOf.{assigned, first_temps}
-use Rattle.un_ir.specs.ExtendOf.{copy_count, new_temps, sort_of_name, alternatives, value_of, with_value, with_values, with_operand_by, with_operand, with_operands, new_operands}
+use Rattle.un_ir.specs.ExtendOf.{copy_count, new_temps, alternatives, value_of, with_value, with_values, with_operand_by, with_operand, with_operands, new_operands}
 use Rattle.un_model.specs.declared.model.Options.{Options}
 use Rattle.un_baseline.specs.declared.plan.Setting.{Setting}
 use Rattle.un_baseline.specs.SpillEverywhere.{setting_of}
 use Rattle.un_baseline.proofs.OutsIn.{ReadsFrom}
 use Rattle.un_baseline.proofs.Reaching.{Copied, AreCopied}
-use Rattle.un_baseline.proofs.ValuesOk.{ValueOk, ValuesOk, push_cases, set_cases, values_operand}
+use Rattle.un_baseline.proofs.ValuesOk.{ValuesOk, push_cases, set_cases, values_operand}
 
 -- value i, where it is one of those from n on, has copies
 abbrev pub CopiedAt : ℕ → Growth → ℕ → Type 0

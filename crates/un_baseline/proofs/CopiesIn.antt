@@ -1,7 +1,6 @@
 -- What the copies of the plan that spills every name do lies in their domains.
-use Rattle.std.proofs.Common.{◌≡◌, ℕ, zero, suc, ◌+◌, ◌-◌, ◌<◌, ◌≤◌, Bool, true, false, List, [], ◌∷◌, ◌++◌, length, map, replicate, Option, Some, None, refl, sym, ap, subst, ◌∙◌, arith}
+use Rattle.std.proofs.Common.{◌≡◌, ℕ, zero, suc, ◌+◌, ◌-◌, ◌<◌, ◌≤◌, Bool, true, false, List, [], ◌∷◌, length, replicate, Option, Some, None, refl, sym, subst, arith}
 use Rattle.std.specs.Prelude.{◌==◌, if◌then◌else◌, Contains, IfSome, All, slice_get, unwrap_or}
-use Rattle.std.specs.List.{AllZip}
 use Rattle.un_base.specs.declared.ids.NameId.{NameId}
 use Rattle.un_base.specs.declared.ids.TempId.{TempId}
 use Rattle.un_isa.specs.declared.reg.TheConstants.{FIRST_SLOT, LINK}
@@ -9,8 +8,6 @@ use Rattle.un_ir.specs.declared.function.Kind.{Kind}
 use Rattle.un_ir.specs.declared.function.Kind.TheVariants.{General, Pred}
 use Rattle.un_ir.specs.declared.extended.NodeCopy.{NodeCopy}
 use Rattle.un_ir.specs.declared.extended.NodeCopy.TheVariants.{D, D2, U, U2}
-use Rattle.un_ir.specs.declared.extended.ExtKind.TheVariants.{Copy}
-use Rattle.un_ir.specs.declared.extended.ExtOp.{ExtOp}
 use Rattle.un_ir.specs.declared.extended.ExtBlock.{ExtBlock}
 use Rattle.un_ir.specs.declared.extended.Ext.{Ext}
 use Rattle.un_ir.specs.Extended.{name_kind, temp}
@@ -26,9 +23,8 @@ use Rattle.un_baseline.specs.declared.plan.Definer.TheVariants.{Start, Assigns, 
 use Rattle.un_baseline.specs.declared.plan.Setting.{Setting}
 use Rattle.un_baseline.specs.declared.plan.Progress.{Progress}
 use Rattle.un_baseline.specs.declared.plan.Move.{Move}
-use Rattle.un_baseline.specs.Plans.{Step}
 use Rattle.un_baseline.specs.RoomyOptions.{AreRoomy}
-use Rattle.un_baseline.specs.SpillEverywhere.{slot_of, last_place, is_placed, kept_place, slot_at_start, no_move, spilled_to, kept_by_kind, first_copy, second_copy, operand_copy, truth_copy, copy_move}
+use Rattle.un_baseline.specs.SpillEverywhere.{slot_of, last_place, is_placed, kept_place, slot_at_start, no_move, spilled_to, kept_by_kind, first_copy, second_copy, operand_copy, truth_copy}
 use Rattle.un_baseline.proofs.InDomains.{StepIn}
 use Rattle.un_baseline.proofs.RegistersIn.{zero_in, with_zero_in, low_in, home_in, predicate_in, slot_in}
 

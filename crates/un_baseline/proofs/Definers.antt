@@ -1,7 +1,7 @@
 -- Which operation defines a temporary: the live range of the temporary is that of a result of this operation.
-use Rattle.std.proofs.Common.{◌≡◌, ℕ, zero, suc, ◌+◌, ◌<◌, List, [], ◌∷◌, ◌++◌, length, map, get_or, take, Option, Some, None, Contains, refl, sym, ap, subst, ◌∙◌, arith}
+use Rattle.std.proofs.Common.{◌≡◌, ℕ, zero, suc, ◌+◌, ◌<◌, List, [], ◌∷◌, ◌++◌, length, map, get_or, take, Option, Some, Contains, refl, sym, ap, subst, ◌∙◌, arith}
 use Rattle.std.specs.Prelude.{slice_get, AllPairs}
-use Rattle.std.specs.List.{AllZip, flat_map, range_with_len}
+use Rattle.std.specs.List.{AllZip, range_with_len}
 use Rattle.std.specs.Option.{option_map}
 use Rattle.std.proofs.lemmas.List.{length-append, length-map}
 use Rattle.std.proofs.lemmas.Option.{slice_get_within, slice_get-get_or, slice_get-map, get_or_from_slice_get}
@@ -12,10 +12,9 @@ use Rattle.un_ir.specs.Extended.{temp, results_of, all_results}
 use Rattle.un_model.specs.declared.schedule.Issue.{Issue}
 use Rattle.un_model.specs.declared.schedule.Read.{Read}
 use Rattle.un_model.specs.declared.schedule.LiveRange.{LiveRange}
-use Rattle.un_model.specs.declared.schedule.Schedule.{Schedule}
 use Rattle.un_model.specs.Pairs.{places_from, pairs_from}
 use Rattle.un_model.specs.Schedules.{last_read}
-use Rattle.un_baseline.specs.Plans.{Step, BlockPlan, Suits, SuitsBlock, SuitsAll, planned_issue, planned_issues, planned_reads, over_plans, Place, place_at, step_places, plan_places, planned_range, range_at, planned_schedule}
+use Rattle.un_baseline.specs.Plans.{Step, BlockPlan, Suits, SuitsAll, planned_issue, planned_issues, planned_reads, over_plans, Place, place_at, step_places, plan_places, planned_range, range_at, planned_schedule}
 use Rattle.un_baseline.proofs.Each.{Has, has_whole, has_left, has_right, has_first, EachStep, EachPlan}
 
 -- ---- numbers of temporaries

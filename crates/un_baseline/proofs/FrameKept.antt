@@ -1,18 +1,15 @@
 -- The plan that spills every name keeps the clauses on domains, latencies and the frame.
-use Rattle.std.proofs.Common.{◌≡◌, ◌≢◌, ℕ, ◌<◌, Bool, true, List, [], ◌∷◌, length, refl, sym, ap, subst, ◌∙◌}
+use Rattle.std.proofs.Common.{◌≡◌, ℕ, ◌<◌, true, List, [], ◌∷◌, length, sym, subst, ◌∙◌}
 use Rattle.std.specs.Prelude.{All}
 use Rattle.std.proofs.lemmas.List.Elements.{All-head, All-tail}
-use Rattle.un_isa.specs.Fit.{IsFit}
 use Rattle.un_ir.specs.declared.extended.ExtBlock.{ExtBlock}
 use Rattle.un_ir.specs.declared.extended.Ext.{Ext}
 use Rattle.un_ir.specs.Extended.{IsGoodExtBlock, IsExtended}
-use Rattle.un_ir.specs.ExtendOf.{extend_of}
-use Rattle.un_ir.specs.LinearOf.{lin_of}
 use Rattle.un_model.specs.declared.model.Model.{Model}
 use Rattle.un_model.specs.declared.schedule.Schedule.{Schedule}
 use Rattle.un_model.specs.Cost.{value_of}
 use Rattle.un_model.specs.Schedules.{schedule_of}
-use Rattle.un_model.specs.Solutions.{KeepsDomains, HasFrame, uses_frame, KeepsFrameOrder, KeepsFrame, KeepsSpaces, KeepsLatencies, latency_gap}
+use Rattle.un_model.specs.Solutions.{KeepsDomains, uses_frame, KeepsFrameOrder, KeepsFrame, KeepsSpaces, KeepsLatencies, latency_gap}
 use Rattle.un_baseline.specs.Plans.{planned_schedule}
 use Rattle.un_baseline.specs.RoomyOptions.{AreRoomy, IsSpillable}
 use Rattle.un_baseline.specs.SpillEverywhere.{block_plans, spilled_values}

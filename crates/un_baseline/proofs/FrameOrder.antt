@@ -1,19 +1,18 @@
 -- In the plan that spills every name Enter issues before the frame is used, and Leave behind.
-use Rattle.std.proofs.Common.{◌≡◌, ◌≢◌, ℕ, suc, ◌+◌, ◌<◌, ◌≤◌, Bool, true, false, List, [], ◌∷◌, ◌++◌, length, get_or, Option, Some, None, refl, sym, ap, subst, ◌∙◌, arith}
+use Rattle.std.proofs.Common.{◌≡◌, ◌≢◌, ℕ, ◌+◌, ◌≤◌, Bool, true, false, List, [], ◌∷◌, ◌++◌, length, get_or, Option, Some, None, refl, sym, ap, subst, ◌∙◌, arith}
 use Rattle.std.specs.Prelude.{All, IfSome}
-use Rattle.std.proofs.lemmas.List.Elements.{All-append, All-nil, All-cons, All-weaker}
+use Rattle.std.proofs.lemmas.List.Elements.{All-append, All-nil}
 use Rattle.un_isa.specs.declared.op.Op.{Op}
 use Rattle.un_isa.specs.declared.op.Op.TheVariants.{Spill, Reload, Call, Jumpr, Enter, Leave}
 use Rattle.un_isa.specs.declared.table.Table.{Table}
 use Rattle.un_isa.specs.Fit.{IsFit}
-use Rattle.un_isa.specs.Tables.{latency_of}
 use Rattle.un_ir.specs.declared.extended.ExtBlock.{ExtBlock}
 use Rattle.un_ir.specs.declared.extended.Ext.{Ext}
 use Rattle.un_model.specs.declared.schedule.Issue.{Issue}
 use Rattle.un_model.specs.Solutions.{Precedes, frame_distance, after_enter, before_leave, KeepsFrameOrder}
-use Rattle.un_baseline.specs.Plans.{BlockPlan, planned_issues, over_plans, planned_schedule}
+use Rattle.un_baseline.specs.Plans.{planned_issues, over_plans, planned_schedule}
 use Rattle.un_baseline.specs.SpillEverywhere.{first_cycle, block_plan, block_plans}
-use Rattle.un_baseline.proofs.Layouts.{AreLaidOut, in_block, past_block}
+use Rattle.un_baseline.proofs.Layouts.{in_block, past_block}
 use Rattle.un_baseline.proofs.BlockTimes.{IsTimed, none_there, entered, early, reloads, leaves, returns, BlockTimes, AreTimed, behind_first, no_op, differ}
 
 -- ---- distances

@@ -1,20 +1,16 @@
 -- All values of the plan that spills every name of a function lie in their domains.
-use Rattle.std.proofs.Common.{◌≡◌, ◌≢◌, ◌⊎◌, ⊎_elim, ℕ, zero, suc, ◌+◌, ◌-◌, ◌<◌, ◌≤◌, Bool, true, false, List, [], ◌∷◌, ◌++◌, length, length-set, map, take, replicate, Option, Some, None, All, Contains, refl, sym, ap, subst, ◌∙◌, arith}
-use Rattle.std.specs.Prelude.{◌||◌, slice_get, unwrap_or}
+use Rattle.std.proofs.Common.{◌≡◌, ◌≢◌, ⊎_elim, ℕ, zero, suc, ◌+◌, ◌<◌, ◌≤◌, Bool, true, false, List, [], ◌∷◌, ◌++◌, length, length-set, map, take, replicate, Option, Some, None, All, Contains, refl, ap, subst, ◌∙◌, arith}
+use Rattle.std.specs.Prelude.{slice_get}
 use Rattle.std.specs.List.{AllZip, range_with_len}
 use Rattle.std.specs.Option.{option_map, option_to_list}
 use Rattle.std.proofs.Math.Logic.{∥∥₁_elim}
 use Rattle.std.proofs.lemmas.Bool.{cases_lt}
-use Rattle.std.proofs.lemmas.List.{length-append, length-map, length-replicate}
-use Rattle.std.proofs.lemmas.List.Elements.{All-head, All-tail}
-use Rattle.std.proofs.lemmas.List.FromFn.{length-map-range_with_len}
+use Rattle.std.proofs.lemmas.List.{length-append}
+use Rattle.std.proofs.lemmas.List.Elements.{All-head}
 use Rattle.std.proofs.lemmas.Option.{slice_get_within}
 use Rattle.un_base.specs.declared.ids.NameId.{NameId}
 use Rattle.un_base.specs.declared.ids.TempId.{TempId}
 use Rattle.un_isa.specs.Facts.{Operands as OperandSpaces, Fixed, Arguments, facts_of, result_space}
-use Rattle.un_isa.specs.Fit.{IsFit}
-use Rattle.un_isa.specs.Registers.{callee_saved, saved_registers}
-use Rattle.un_isa.specs.declared.reg.TheConstants.{LINK}
 use Rattle.un_isa.specs.declared.reg.Space.{Space}
 use Rattle.un_isa.specs.declared.table.Table.{Table}
 use Rattle.un_ir.specs.declared.function.Kind.{Kind}
@@ -33,30 +29,18 @@ use Rattle.un_ir.specs.declared.extended.Ext.{Ext}
 use Rattle.un_ir.specs.declared.extended.Growth.{Growth}
 use Rattle.un_ir.specs.declared.extended.Sort.{Sort}
 use Rattle.un_ir.specs.declared.extended.Value.{Value}
-use Rattle.un_ir.specs.Extended.{temp, name_kind, results_of, returns, Want, wants_of, IsGoodOperand, IsGoodExtOp, IsGoodExtBlock, IsExtended, IsLinear}
-use Rattle.un_ir.specs.ExtendOf.{copy_count, new_temps, sort_of_name, sorts_of, value_of, with_leave, with_enter, with_value, with_values, with_operand_by, with_operand, with_operands, new_operands, with_results, with_extended, with_all_extended, grown_block, with_ops, extended_blocks, extend_of}
+use Rattle.un_ir.specs.Extended.{temp, name_kind, results_of, Want, wants_of, IsGoodOperand, IsGoodExtBlock}
+use Rattle.un_ir.specs.ExtendOf.{sorts_of, value_of, with_leave, with_enter, with_value, with_values, with_operand_by, with_operand, with_operands, new_operands, with_results, with_extended, with_all_extended}
 use Rattle.un_ir.specs.Linear.{first_of}
-use Rattle.un_ir.specs.LinearOf.{reads as reads_of, name_operand, body_op, body_ops, assigned, past, past_all, past_block, first_temps, current_after, in_op, end_ops, out_op, linear_block, linear_blocks, live_at, live_after, lin_of, kind_of_pair}
+use Rattle.un_ir.specs.LinearOf.{reads as reads_of, name_operand, body_op, body_ops, assigned, past, past_all, end_ops, kind_of_pair}
 use Rattle.un_ir.specs.Names.{kind_of}
 use Rattle.un_ir.specs.WellFormed.{Names, IsAssigned, IsGoodOp, IsGoodBlock, IsWellFormed, kind_given, result_kind}
 use Rattle.un_ir.proofs.NameBounds.{at_all}
 use Rattle.un_model.specs.declared.model.Options.{Options}
-use Rattle.un_model.specs.Congruences.{live_in_temps}
-use Rattle.un_baseline.specs.declared.plan.Definer.TheVariants.{Assigns}
-use Rattle.un_baseline.specs.RoomyOptions.{AreRoomy}
-use Rattle.un_baseline.specs.SpillEverywhere.{assigning, setting_of, first_progress}
 use Rattle.un_baseline.proofs.SpillSteps.{EachOp}
 use Rattle.un_baseline.proofs.Definers.{definer_of}
-use Rattle.un_baseline.proofs.Grown.{all_ops, extended_ops, all_add}
-use Rattle.un_baseline.proofs.InDomains.{AreIn}
 use Rattle.un_baseline.proofs.OutsIn.{ReadsFrom}
-use Rattle.un_baseline.proofs.Shapes.{each_append}
 use Rattle.un_baseline.proofs.Sources.{kind_named}
-use Rattle.un_baseline.proofs.ValuesOk.{ValuesOk}
-use Rattle.un_baseline.proofs.WalkIn.{good_each}
-use Rattle.un_baseline.proofs.BlockIn.{live, Walk, Inside, SourceOk}
-use Rattle.un_baseline.proofs.StartIn.{Begins, start_among, start_values, link_begins, link_home, start_good}
-use Rattle.un_baseline.proofs.CloseIn.{Known, bodies_good, ends_good, out_good}
 
 -- ---- names that operations of the source assign
 
@@ -115,7 +99,7 @@ operand_count : (x : ℕ) (v : Option Value) (g : Growth) → length (with_opera
 operand_count x None g = refl
 operand_count x (Some v) g = length-set g.values x _
 
-operands_count : (xs : List Operand) (g : Growth) → length (with_operands xs g).values ≡ length g.values
+pub operands_count : (xs : List Operand) (g : Growth) → length (with_operands xs g).values ≡ length g.values
 operands_count [] g = refl
 operands_count (x ∷ xs) g = operands_count xs (with_operand x g) ∙ operand_count (first_of x.alts) (slice_get g.values (first_of x.alts)) g
 
@@ -166,7 +150,7 @@ module _ (names : List Kind) (live_in : List NameId) (entry saved : Bool) where
   grown_all : List ExtOp → Growth → ℕ
   grown_all ops g = length (with_all_extended names live_in entry saved ops g).values
 
-  dst_count : (dst : Option NameId) (first n : ℕ) (sort : Sort) → n + length (replicate (length (map (λ (name : NameId). temp first)
+  pub dst_count : (dst : Option NameId) (first n : ℕ) (sort : Sort) → n + length (replicate (length (map (λ (name : NameId). temp first)
       (option_to_list dst))) sort) ≡ past dst n
   dst_count None first n sort = omega arith
   dst_count (Some name) first n sort = omega arith

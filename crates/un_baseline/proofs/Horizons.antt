@@ -1,5 +1,5 @@
 -- In the plan that spills every name no cycle is past its block's horizon: each operation takes at most two.
-use Rattle.std.proofs.Common.{◌≡◌, ◌≢◌, ℕ, zero, suc, ◌+◌, ◌-◌, ◌*◌, ◌<◌, ◌≤◌, ◌⊎◌, inl, inr, ⊎_elim, Bool, true, false, List, [], ◌∷◌, ◌++◌, length, Option, Some, None, refl, sym, ap, subst, ◌∙◌, arith}
+use Rattle.std.proofs.Common.{◌≡◌, ℕ, ◌+◌, ◌-◌, ◌*◌, ◌<◌, ◌≤◌, ⊎_elim, Bool, true, false, List, [], ◌∷◌, ◌++◌, length, Option, Some, None, refl, sym, ap, ◌∙◌, arith}
 use Rattle.std.specs.Prelude.{◌==◌, ◌&&◌, ◌||◌, is_some, if◌then◌else◌, All, IfSome}
 use Rattle.std.specs.List.{AllZip, list_all}
 use Rattle.std.specs.Option.{option_to_list}
@@ -10,7 +10,6 @@ use Rattle.un_isa.specs.Fit.{IsFit}
 use Rattle.un_isa.specs.declared.op.Op.{Op}
 use Rattle.un_isa.specs.declared.op.Op.TheVariants.{Reload, Jumpr, Enter as EnterOp, Leave as LeaveOp}
 use Rattle.un_isa.specs.declared.table.Table.{Table}
-use Rattle.un_isa.specs.Tables.{latency_of}
 use Rattle.un_base.specs.declared.ids.NameId.{NameId}
 use Rattle.un_ir.specs.declared.function.Term.{Term}
 use Rattle.un_ir.specs.declared.function.Term.TheVariants.{Fall, Jump, Branch, Ret}
@@ -21,7 +20,6 @@ use Rattle.un_ir.specs.declared.extended.ExtKind.TheVariants.{In, Out, Body, End
 use Rattle.un_ir.specs.declared.extended.ExtOp.{ExtOp}
 use Rattle.un_ir.specs.declared.extended.ExtBlock.{ExtBlock}
 use Rattle.un_ir.specs.declared.extended.Ext.{Ext}
-use Rattle.un_model.specs.declared.schedule.Issue.{Issue}
 use Rattle.un_model.specs.Congruences.{term_of}
 use Rattle.un_model.specs.Instructions.{copy_of, instruction_of, latency_by, transfer_of}
 use Rattle.un_model.specs.Pairs.{pairs_from}
@@ -33,11 +31,11 @@ use Rattle.un_baseline.specs.declared.plan.Purpose.TheVariants.{Operands, Link, 
 use Rattle.un_baseline.specs.declared.plan.Setting.{Setting}
 use Rattle.un_baseline.specs.declared.plan.Progress.{Progress}
 use Rattle.un_baseline.specs.declared.plan.Move.{Move}
-use Rattle.un_baseline.specs.Plans.{Step, BlockPlan, value_if, planned_issue, planned_issues, planned_cycle, over_plans}
-use Rattle.un_baseline.specs.SpillEverywhere.{purpose_of, purpose_at, first_alts, copy_move, after_move, next_cycle, after_end, progress_of, progress_after, setting_of, first_progress, first_cycle, leave_cycle, end_cycle, block_end, block_plan, result_wait}
-use Rattle.un_baseline.proofs.Each.{EachStep, EachPlan}
+use Rattle.un_baseline.specs.Plans.{Step, value_if, planned_issue, planned_cycle}
+use Rattle.un_baseline.specs.SpillEverywhere.{purpose_of, purpose_at, first_alts, copy_move, after_move, next_cycle, after_end, progress_of, progress_after, setting_of, first_progress, first_cycle, block_end, block_plan, result_wait}
+use Rattle.un_baseline.proofs.Each.{EachStep}
 use Rattle.un_baseline.proofs.SpillSteps.{EachOp, Rests, IsReal, transfers}
-use Rattle.un_baseline.proofs.Layouts.{GoesOn, Returns, IsLaidOut, onward, back}
+use Rattle.un_baseline.proofs.Layouts.{IsLaidOut, onward, back}
 use Rattle.un_baseline.proofs.BlockTimes.{tail_ops, tail_stays, progress_split}
 
 -- ---- the end of a block

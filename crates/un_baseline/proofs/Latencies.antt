@@ -3,7 +3,7 @@ use Rattle.std.proofs.Common.{◌≡◌, ◌≢◌, ℕ, zero, suc, ◌+◌, ◌
 use Rattle.std.specs.Prelude.{◌||◌, ◌==◌, if◌then◌else◌, is_some, All, AllPairs, Contains, IfSome, slice_get, slice_index, unwrap_or}
 use Rattle.std.specs.List.{AllZip}
 use Rattle.std.specs.Option.{option_to_list}
-use Rattle.std.proofs.lemmas.List.Elements.{All-append, All-nil, All-cons, All-weaker, All-contains, Contains-get_or}
+use Rattle.std.proofs.lemmas.List.Elements.{All-append, All-nil, All-cons, All-contains}
 use Rattle.std.proofs.lemmas.Bool.{cases_lt}
 use Rattle.std.proofs.lemmas.List.{length-append}
 use Rattle.std.proofs.lemmas.Option.{slice_get-get_or, slice_get_within}
@@ -22,7 +22,6 @@ use Rattle.un_ir.specs.declared.function.SrcOp.{SrcOp}
 use Rattle.un_ir.specs.declared.function.Term.{Term}
 use Rattle.un_ir.specs.declared.function.Term.TheVariants.{Fall, Jump, Branch, Ret}
 use Rattle.un_ir.specs.declared.extended.NodeCopy.{NodeCopy}
-use Rattle.un_ir.specs.declared.extended.NodeCopy.TheVariants.{D, D2, U, U2}
 use Rattle.un_ir.specs.declared.extended.ExtKind.{ExtKind}
 use Rattle.un_ir.specs.declared.extended.ExtKind.TheVariants.{In, Out, Body, End, Copy, Enter, Leave}
 use Rattle.un_ir.specs.declared.extended.Operand.{Operand}
@@ -39,12 +38,11 @@ use Rattle.un_model.specs.declared.schedule.LiveRange.{LiveRange}
 use Rattle.un_model.specs.Instructions.{copy_of, space_read, space_given, transfer_of, instruction_of, latency_by, is_transfer}
 use Rattle.un_model.specs.Pairs.{pairs_from}
 use Rattle.un_model.specs.Schedules.{is_delimiter, chosen, last_read}
-use Rattle.un_model.specs.Solutions.{IsWithin, IsLast, IsPlacedAs, IsPlaced, InSpace, ReadsInSpace, IsGivenInSpace, KeepsSpaces, LeavesGap, latency_gap, KeepsLatencies}
+use Rattle.un_model.specs.Solutions.{IsLast, IsPlacedAs, IsPlaced, InSpace, ReadsInSpace, IsGivenInSpace, KeepsSpaces, LeavesGap, latency_gap, KeepsLatencies}
 use Rattle.un_baseline.specs.Plans.{Step, BlockPlan, planned_issue, planned_issues, planned_cycle, planned_read, over_plans, place_at, planned_range, planned_schedule}
 use Rattle.un_baseline.specs.SpillEverywhere.{first_cycle, block_plan, block_plans}
 use Rattle.un_baseline.proofs.OneAtATime.{AreSeparated}
 use Rattle.un_baseline.proofs.Timing.{pairs_append}
-use Rattle.un_baseline.proofs.Layouts.{in_block}
 use Rattle.un_baseline.proofs.Terminators.{IsSourceKind, source_kind, source_stays, source_never_enters}
 use Rattle.un_baseline.proofs.BlockTimes.{IsInTurn, IsTimed, none_there, entered, early, reloads, leaves, returns, BlockTimes, AreTimed, behind_first, no_op, differ}
 use Rattle.un_baseline.proofs.Definers.{AreDefined, step_at, each_step, each_size, Definer, definer_of, pair_at, slice_get-pairs, temp_number, all_defined}

@@ -4,6 +4,7 @@ pub mod BlockIn
 pub mod BlockShapes
 pub mod BlockTimes
 pub mod Bodies
+pub mod BodiesReach
 pub mod Carried
 pub mod Clauses
 pub mod CloseIn
@@ -14,6 +15,7 @@ pub mod Counts
 pub mod Definers
 pub mod Each
 pub mod Ends
+pub mod EndsReach
 pub mod FrameKept
 pub mod FrameOps
 pub mod FrameOrder
@@ -53,6 +55,7 @@ pub mod Sources
 pub mod SpillSteps
 pub mod Standing
 pub mod StartIn
+pub mod StartReach
 pub mod Starts
 pub mod Tailing
 pub mod Tails

@@ -1,13 +1,12 @@
 -- What the operations of a block do besides copies lies in their domains.
-use Rattle.std.proofs.Common.{◌≡◌, ◌⊎◌, inl, inr, ⊎_elim, ℕ, zero, suc, ◌+◌, ◌-◌, ◌<◌, ◌≤◌, Bool, true, false, List, [], ◌∷◌, ◌++◌, length, map, get_or, take, replicate, Option, Some, None, Contains, refl, sym, ap, subst, ◌∙◌, append_assoc, arith}
-use Rattle.std.specs.Prelude.{◌==◌, ◌&&◌, ◌||◌, nat_lt, if◌then◌else◌, All, IfSome, slice_get, slice_index, unwrap_or, filter}
+use Rattle.std.proofs.Common.{◌≡◌, ⊎_elim, ℕ, zero, suc, ◌+◌, ◌-◌, ◌<◌, ◌≤◌, Bool, true, false, List, [], ◌∷◌, ◌++◌, length, map, get_or, replicate, Option, Some, None, Contains, refl, sym, ap, subst, ◌∙◌, arith}
+use Rattle.std.specs.Prelude.{◌==◌, ◌&&◌, ◌||◌, if◌then◌else◌, All, slice_get, slice_index, filter}
 use Rattle.std.specs.List.{AllZip, range_with_len, list_any}
-use Rattle.std.specs.Option.{option_map, option_to_list}
+use Rattle.std.specs.Option.{option_map}
 use Rattle.std.proofs.lemmas.Bool.{cases_lt}
 use Rattle.std.proofs.lemmas.Bool.Decides.{nat_tests}
-use Rattle.std.proofs.lemmas.List.{length-append, length-map}
 use Rattle.std.proofs.lemmas.List.Folds.{list_any_at}
-use Rattle.std.proofs.lemmas.Option.{slice_get_within, slice_get-get_or, slice_get-map}
+use Rattle.std.proofs.lemmas.Option.{slice_get_within, slice_get-get_or}
 use Rattle.un_base.specs.declared.ids.NameId.{NameId}
 use Rattle.un_base.specs.declared.ids.TempId.{TempId}
 use Rattle.un_isa.specs.Fit.{IsFit}
@@ -15,16 +14,12 @@ use Rattle.un_isa.specs.Registers.{callee_saved, saved_registers}
 use Rattle.un_isa.specs.declared.op.Op.{Op}
 use Rattle.un_isa.specs.declared.op.Op.TheVariants.{Call}
 use Rattle.un_isa.specs.declared.reg.Reg.{Reg}
-use Rattle.un_isa.specs.declared.reg.TheConstants.{FIRST_SLOT, LINK, GENERALS}
+use Rattle.un_isa.specs.declared.reg.TheConstants.{LINK, GENERALS}
 use Rattle.un_isa.specs.declared.table.Table.{Table}
 use Rattle.un_isa.specs.Tables.{in_mask}
-use Rattle.un_ir.specs.declared.function.Kind.{Kind}
-use Rattle.un_ir.specs.declared.function.Kind.TheVariants.{General, Pred}
 use Rattle.un_ir.specs.declared.function.SrcOp.{SrcOp}
 use Rattle.un_ir.specs.declared.function.Term.{Term}
-use Rattle.un_ir.specs.declared.function.Term.TheVariants.{Fall, Jump, Branch, Ret}
-use Rattle.un_ir.specs.declared.extended.ExtKind.{ExtKind}
-use Rattle.un_ir.specs.declared.extended.ExtKind.TheVariants.{In, Out, Body, End, Copy, Enter, Leave}
+use Rattle.un_ir.specs.declared.extended.ExtKind.TheVariants.{In, Body, End, Enter, Leave}
 use Rattle.un_ir.specs.declared.extended.Operand.{Operand}
 use Rattle.un_ir.specs.declared.extended.ExtOp.{ExtOp}
 use Rattle.un_ir.specs.declared.extended.ExtBlock.{ExtBlock}
@@ -36,16 +31,15 @@ use Rattle.un_model.specs.Instructions.{gives_truth}
 use Rattle.un_model.specs.Pairs.{places_from, any_from}
 use Rattle.un_model.specs.Registers.{reg_at, predicate_registers, general_registers, value_registers, start_home, saved_home, result_home, is_register, is_result_home, is_operand_home, is_home}
 use Rattle.un_model.specs.Solutions.{InDomain}
-use Rattle.un_model.specs.Variables.{choice_domain, home_domain, source_domain, start_domain, result_domain}
+use Rattle.un_model.specs.Variables.{choice_domain, home_domain, source_domain, start_domain}
 use Rattle.un_domains.specs.declared.domain.Domain.{Domain}
 use Rattle.un_domains.specs.declared.domain.Domain.TheVariants.{Set}
 use Rattle.un_baseline.specs.declared.plan.Purpose.{Purpose}
 use Rattle.un_baseline.specs.declared.plan.Setting.{Setting}
 use Rattle.un_baseline.specs.declared.plan.Progress.{Progress}
 use Rattle.un_baseline.specs.declared.plan.TheConstants.{PREDICATE}
-use Rattle.un_baseline.specs.Plans.{Step}
 use Rattle.un_baseline.specs.RoomyOptions.{AreRoomy}
-use Rattle.un_baseline.specs.SpillEverywhere.{slot_of, last_place, is_placed, copies_of, start_register, handed_place, out_place, operand_place, step_of, setting_of}
+use Rattle.un_baseline.specs.SpillEverywhere.{slot_of, start_register, operand_place, step_of, setting_of}
 use Rattle.un_baseline.proofs.InDomains.{StepIn}
 use Rattle.un_baseline.proofs.RegistersIn.{contains_first, low_general, home_in, slot_in}
 

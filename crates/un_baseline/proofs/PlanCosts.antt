@@ -1,12 +1,12 @@
 -- What the plan that spills every name costs, block by block.
-use Rattle.std.proofs.Common.{◌≡◌, ℕ, ◌+◌, ◌-◌, ◌*◌, Bool, true, false, List, [], ◌∷◌, ◌++◌, length, refl, sym, ap, ◌∙◌, arith}
+use Rattle.std.proofs.Common.{◌≡◌, ℕ, ◌+◌, ◌-◌, ◌*◌, true, List, [], ◌∷◌, refl, ap, ◌∙◌, arith}
 use Rattle.un_ir.specs.declared.extended.ExtBlock.{ExtBlock}
 use Rattle.un_ir.specs.declared.extended.Ext.{Ext}
 use Rattle.un_model.specs.declared.model.Options.{Options}
-use Rattle.un_model.specs.Cost.{value_of, blocks_cost, cost_of}
-use Rattle.un_model.specs.Variables.{blocks_vars, block_vars, block_count, model_of}
+use Rattle.un_model.specs.Cost.{blocks_cost, cost_of}
+use Rattle.un_model.specs.Variables.{blocks_vars, block_count, model_of}
 use Rattle.un_baseline.specs.Plans.{BlockPlan, SuitsAll, block_values, blocks_values}
-use Rattle.un_baseline.specs.SpillEverywhere.{block_plan, block_plans, spilled_values}
+use Rattle.un_baseline.specs.SpillEverywhere.{block_plans, spilled_values}
 use Rattle.un_baseline.proofs.Holding.{Holds, holds_whole, holds_left, holds_right}
 use Rattle.un_baseline.proofs.PlanSchedules.{block_size, end_is}
 use Rattle.un_baseline.proofs.SpillSteps.{plan_suits}

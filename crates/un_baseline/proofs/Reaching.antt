@@ -1,8 +1,7 @@
 -- How far the plan of a block comes: the cycles that copies take.
-use Rattle.std.proofs.Common.{◌≡◌, ℕ, zero, suc, ◌+◌, ◌-◌, ◌*◌, ◌<◌, ◌≤◌, Bool, true, false, List, [], ◌∷◌, ◌++◌, length, map, replicate, Option, Some, None, refl, sym, ap, subst, ◌∙◌, append_assoc, arith}
-use Rattle.std.specs.Prelude.{◌==◌, if◌then◌else◌, slice_get, sum_by}
+use Rattle.std.proofs.Common.{◌≡◌, ℕ, ◌+◌, Bool, true, false, List, [], ◌∷◌, ◌++◌, Option, Some, None, refl, sym, ap, subst, ◌∙◌, append_assoc, arith}
+use Rattle.std.specs.Prelude.{slice_get, sum_by}
 use Rattle.std.proofs.lemmas.List.Sums.{sum_by-cons}
-use Rattle.std.proofs.lemmas.Bool.Decides.{nat_tests}
 use Rattle.un_base.specs.declared.ids.NameId.{NameId}
 use Rattle.un_base.specs.declared.ids.TempId.{TempId}
 use Rattle.un_isa.specs.Tables.{latency_of}
@@ -17,20 +16,19 @@ use Rattle.un_ir.specs.declared.extended.ExtOp.{ExtOp}
 use Rattle.un_ir.specs.declared.extended.ExtBlock.{ExtBlock}
 use Rattle.un_ir.specs.declared.extended.Ext.{Ext}
 use Rattle.un_ir.specs.declared.extended.Growth.{Growth}
-use Rattle.un_ir.specs.declared.extended.Sort.{Sort}
 use Rattle.un_ir.specs.declared.extended.Value.{Value}
 use Rattle.un_ir.specs.Extended.{temp, name_kind}
 use Rattle.un_ir.specs.Linear.{first_of}
-use Rattle.un_ir.specs.ExtendOf.{copy_op, with_value, with_operand}
+use Rattle.un_ir.specs.ExtendOf.{copy_op, with_operand}
 use Rattle.un_baseline.specs.declared.plan.Purpose.{Purpose}
-use Rattle.un_baseline.specs.declared.plan.Purpose.TheVariants.{Operands, Link, Returned, Unread}
+use Rattle.un_baseline.specs.declared.plan.Purpose.TheVariants.{Operands}
 use Rattle.un_baseline.specs.declared.plan.Definer.{Definer}
-use Rattle.un_baseline.specs.declared.plan.Definer.TheVariants.{Start, Assigns, Other}
+use Rattle.un_baseline.specs.declared.plan.Definer.TheVariants.{Assigns}
 use Rattle.un_baseline.specs.declared.plan.Setting.{Setting}
 use Rattle.un_baseline.specs.declared.plan.Progress.{Progress}
 use Rattle.un_baseline.specs.SpilledCost.{operand_packets, result_packets}
-use Rattle.un_baseline.specs.SpillEverywhere.{purpose_of, purpose_at, slot_at_start, spilled_to, kept_by_kind, first_copy, second_copy, after_move, step_of, progress_of, progress_after}
-use Rattle.un_baseline.proofs.Grown.{copy_ops, value_ops, values_ops, operand_ops_by, operand_ops, operands_ops}
+use Rattle.un_baseline.specs.SpillEverywhere.{purpose_at, kept_by_kind, first_copy, second_copy, after_move, progress_of, progress_after}
+use Rattle.un_baseline.proofs.Grown.{copy_ops, operand_ops_by, operand_ops, operands_ops}
 
 module _ (e : Ext) (block : ExtBlock) (s : Setting) where
   abbrev pub Reach : Progress → List ExtOp → ℕ → Type 0

@@ -1,13 +1,11 @@
 -- The start of a block makes values that are known, and lies in its domains.
-use Rattle.std.proofs.Common.{◌≡◌, ◌⊎◌, inl, inr, ⊎_elim, ℕ, zero, suc, ◌+◌, ◌-◌, ◌<◌, ◌≤◌, Bool, true, false, List, [], ◌∷◌, ◌++◌, length, map, get_or, take, replicate, set, Option, Some, None, All, Contains, refl, sym, ap, subst, ◌∙◌, append_assoc, append-nil, arith}
-use Rattle.std.specs.Prelude.{◌==◌, ◌&&◌, ◌||◌, if◌then◌else◌, slice_get, slice_index, unwrap_or}
+use Rattle.std.proofs.Common.{◌≡◌, ℕ, zero, suc, ◌+◌, ◌-◌, ◌<◌, ◌≤◌, Bool, true, false, List, [], ◌∷◌, ◌++◌, length, map, replicate, Option, Some, None, All, Contains, refl, sym, ap, subst, ◌∙◌, append_assoc, arith}
+use Rattle.std.specs.Prelude.{if◌then◌else◌, slice_get, unwrap_or}
 use Rattle.std.specs.List.{range_with_len}
 use Rattle.std.specs.Option.{option_map}
-use Rattle.std.proofs.lemmas.Bool.{cases_lt}
 use Rattle.std.proofs.lemmas.List.{length-append, length-map, length-replicate}
-use Rattle.std.proofs.lemmas.List.Elements.{Contains-append_left, Contains-append_right}
 use Rattle.std.proofs.lemmas.List.FromFn.{length-map-range_with_len}
-use Rattle.std.proofs.lemmas.Option.{slice_get_within, slice_get-map}
+use Rattle.std.proofs.lemmas.Option.{slice_get_within}
 use Rattle.un_base.specs.declared.ids.NameId.{NameId}
 use Rattle.un_base.specs.declared.ids.TempId.{TempId}
 use Rattle.un_isa.specs.Fit.{IsFit}
@@ -15,9 +13,7 @@ use Rattle.un_isa.specs.Registers.{callee_saved, saved_registers}
 use Rattle.un_isa.specs.declared.reg.TheConstants.{LINK}
 use Rattle.un_ir.specs.declared.function.Kind.{Kind}
 use Rattle.un_ir.specs.declared.function.Kind.TheVariants.{General, Pred}
-use Rattle.un_ir.specs.declared.extended.ExtKind.{ExtKind}
-use Rattle.un_ir.specs.declared.extended.ExtKind.TheVariants.{In, Out, Body, End, Copy, Enter, Leave}
-use Rattle.un_ir.specs.declared.extended.Operand.{Operand}
+use Rattle.un_ir.specs.declared.extended.ExtKind.TheVariants.{In, Enter}
 use Rattle.un_ir.specs.declared.extended.ExtOp.{ExtOp}
 use Rattle.un_ir.specs.declared.extended.ExtBlock.{ExtBlock}
 use Rattle.un_ir.specs.declared.extended.Ext.{Ext}
@@ -25,8 +21,7 @@ use Rattle.un_ir.specs.declared.extended.Growth.{Growth}
 use Rattle.un_ir.specs.declared.extended.Sort.{Sort}
 use Rattle.un_ir.specs.declared.extended.Value.{Value}
 use Rattle.un_ir.specs.Extended.{temp, name_kind, in_kinds, IsExtended}
-use Rattle.un_ir.specs.ExtendOf.{frame_op, sort_of_name, sorts_of, with_results, with_value, with_values, with_enter, with_extended, with_operand, with_operands, with_operand_by, value_of}
-use Rattle.un_ir.specs.Linear.{first_of}
+use Rattle.un_ir.specs.ExtendOf.{frame_op, sort_of_name, sorts_of, with_results, with_value, with_values, with_enter, with_extended, value_of}
 use Rattle.un_model.specs.declared.model.Options.{Options}
 use Rattle.un_model.specs.Congruences.{live_in_temps}
 use Rattle.un_model.specs.Registers.{is_pred, is_pred_name, is_home, reg_at, start_home}
@@ -37,12 +32,11 @@ use Rattle.un_baseline.specs.declared.plan.Progress.{Progress}
 use Rattle.un_baseline.specs.RoomyOptions.{AreRoomy}
 use Rattle.un_baseline.specs.SpillEverywhere.{first_number, purpose_at, progress_of, setting_of}
 use Rattle.un_baseline.proofs.Grown.{values_ops, enter_ops, extended_ops}
-use Rattle.un_baseline.proofs.CopiesIn.{DefinerOk}
 use Rattle.un_baseline.proofs.OpsIn.{enter_in, start_in, start_home_in}
 use Rattle.un_baseline.proofs.ValueKinds.{kind_defined}
-use Rattle.un_baseline.proofs.ValuesOk.{ValuesOk, values_same, SortOk, SortsOk, values_new}
+use Rattle.un_baseline.proofs.ValuesOk.{ValuesOk, values_same, SortsOk, values_new}
 use Rattle.un_baseline.proofs.WalkIn.{AreTruths, values_good}
-use Rattle.un_baseline.proofs.BlockIn.{row_is, good_block, live, starts, sorts_at, truth_there, place_of, Walk, Inside}
+use Rattle.un_baseline.proofs.BlockIn.{row_is, live, starts, sorts_at, truth_there, place_of, Walk, Inside}
 
 -- ---- sorts of values at a block's start
 

@@ -6,10 +6,7 @@ use Rattle.std.proofs.lemmas.List.Elements.{All-nil, All-cons, All-head, All-tai
 use Rattle.un_isa.specs.Facts.{is_source}
 use Rattle.un_isa.specs.declared.op.Op.{Op}
 use Rattle.un_isa.specs.declared.op.Op.TheVariants.{Mov, Spill, Reload, P2R, R2P, Jump as JumpOp, JumpIf, JumpIfNot, Jumpr, Enter as EnterOp, Leave as LeaveOp}
-use Rattle.un_isa.specs.declared.table.Table.{Table}
 use Rattle.un_isa.specs.Fit.{IsFit}
-use Rattle.un_isa.specs.Tables.{latency_of}
-use Rattle.un_ir.specs.declared.function.Term.{Term}
 use Rattle.un_ir.specs.declared.function.Term.TheVariants.{Fall, Jump, Branch, Ret}
 use Rattle.un_ir.specs.declared.extended.NodeCopy.TheVariants.{D, D2, U, U2}
 use Rattle.un_ir.specs.declared.extended.ExtKind.{ExtKind}
@@ -17,17 +14,17 @@ use Rattle.un_ir.specs.declared.extended.ExtKind.TheVariants.{In, Out, Body, End
 use Rattle.un_ir.specs.declared.extended.ExtOp.{ExtOp}
 use Rattle.un_ir.specs.declared.extended.ExtBlock.{ExtBlock}
 use Rattle.un_ir.specs.declared.extended.Ext.{Ext}
-use Rattle.un_ir.specs.Extended.{is_copy, is_end, is_inner, AllAre, Parts, IsMadeOf, IsGoodKind}
+use Rattle.un_ir.specs.Extended.{is_copy, is_end, is_inner, Parts, IsMadeOf, IsGoodKind}
 use Rattle.un_ir.specs.Linear.{is_in, is_out}
 use Rattle.un_model.specs.declared.schedule.Issue.{Issue}
-use Rattle.un_model.specs.Instructions.{copy_of, frame_instr, instruction_of, is_transfer}
+use Rattle.un_model.specs.Instructions.{instruction_of, is_transfer}
 use Rattle.un_baseline.specs.declared.plan.Purpose.{Purpose}
 use Rattle.un_baseline.specs.declared.plan.Purpose.TheVariants.{Unread}
 use Rattle.un_baseline.specs.declared.plan.Definer.{Definer}
 use Rattle.un_baseline.specs.declared.plan.Definer.TheVariants.{Other}
 use Rattle.un_baseline.specs.declared.plan.Setting.{Setting}
 use Rattle.un_baseline.specs.declared.plan.Progress.{Progress}
-use Rattle.un_baseline.specs.Plans.{Step, planned_issue, planned_cycle}
+use Rattle.un_baseline.specs.Plans.{planned_issue, planned_cycle}
 use Rattle.un_baseline.specs.SpillEverywhere.{purpose_of, purpose_of_out, purpose_at, first_copy, second_copy, operand_copy, truth_copy, first_alts, after_move, next_cycle, step_of, progress_of, progress_after}
 use Rattle.un_baseline.proofs.SpillSteps.{EachOp}
 use Rattle.un_baseline.proofs.Fronts.{IsFrontKind, AreFront, issues_from}

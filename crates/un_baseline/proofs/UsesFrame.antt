@@ -1,5 +1,5 @@
 -- The plan that spills every name uses the frame: the entry spills the link register's value.
-use Rattle.std.proofs.Common.{◌≡◌, ℕ, zero, suc, ◌+◌, ◌-◌, ◌<◌, ◌≤◌, Bool, true, false, List, [], ◌∷◌, ◌++◌, length, map, drop, replicate, Option, Some, None, refl, sym, ap, subst, ◌∙◌, append_assoc, append-nil, arith}
+use Rattle.std.proofs.Common.{◌≡◌, ℕ, zero, suc, ◌+◌, ◌-◌, ◌<◌, ◌≤◌, Bool, true, false, List, [], ◌∷◌, ◌++◌, length, map, drop, replicate, Option, Some, None, refl, sym, ap, subst, ◌∙◌, append_assoc, arith}
 use Rattle.std.specs.Prelude.{◌==◌, ◌||◌, if◌then◌else◌, slice_get}
 use Rattle.std.specs.List.{list_any}
 use Rattle.std.proofs.lemmas.Bool.Decides.{nat_tests}
@@ -15,8 +15,7 @@ use Rattle.un_isa.specs.declared.op.Op.TheVariants.{Spill}
 use Rattle.un_ir.specs.Extended.{temp, is_return}
 use Rattle.un_ir.specs.declared.function.Kind.{Kind}
 use Rattle.un_ir.specs.declared.function.Kind.TheVariants.{General, Pred}
-use Rattle.un_ir.specs.declared.function.Term.{Term}
-use Rattle.un_ir.specs.declared.extended.NodeCopy.TheVariants.{D, D2, U, U2}
+use Rattle.un_ir.specs.declared.extended.NodeCopy.TheVariants.{D, D2}
 use Rattle.un_ir.specs.declared.extended.ExtKind.{ExtKind}
 use Rattle.un_ir.specs.declared.extended.ExtKind.TheVariants.{In, Out, Body, End, Copy, Enter, Leave}
 use Rattle.un_ir.specs.declared.extended.ExtOp.{ExtOp}
@@ -32,13 +31,13 @@ use Rattle.un_model.specs.declared.schedule.Issue.{Issue}
 use Rattle.un_model.specs.Instructions.{copy_of, instruction_of}
 use Rattle.un_model.specs.Congruences.{live_in_temps, results_of_start}
 use Rattle.un_model.specs.Solutions.{is_frame_access, starts_in_slot, uses_frame}
-use Rattle.un_ir.specs.ExtendOf.{frame_op, copy_op, with_op, with_copies, with_value, with_values, with_leave, with_enter, with_operand, with_operands, new_operands, sorts_of, sort_of_name, with_results, with_extended, with_all_extended, grown_block, with_ops, extended_blocks, extend_of, new_temps}
+use Rattle.un_ir.specs.ExtendOf.{frame_op, copy_op, with_op, with_copies, with_value, with_values, with_leave, with_enter, with_operands, new_operands, sorts_of, sort_of_name, with_results, with_extended, with_all_extended, grown_block, with_ops, extended_blocks, extend_of, new_temps}
 use Rattle.un_baseline.specs.declared.plan.Purpose.{Purpose}
 use Rattle.un_baseline.specs.declared.plan.Definer.{Definer}
 use Rattle.un_baseline.specs.declared.plan.Definer.TheVariants.{Start}
 use Rattle.un_baseline.specs.declared.plan.Setting.{Setting}
 use Rattle.un_baseline.specs.declared.plan.Progress.{Progress}
-use Rattle.un_baseline.specs.Plans.{Step, planned_issue, planned_issues, over_plans, planned_schedule}
+use Rattle.un_baseline.specs.Plans.{planned_issue, planned_issues, over_plans, planned_schedule}
 use Rattle.un_baseline.specs.SpillEverywhere.{purpose_at, spilled_to, slot_at_start, first_copy, step_of, progress_of, setting_of, first_progress, block_plan, block_plans}
 use Rattle.un_baseline.proofs.Fronts.{issues_from}
 use Rattle.un_baseline.proofs.Shapes.{Adds, adds_nothing, adds_then, operands_add, values_add}

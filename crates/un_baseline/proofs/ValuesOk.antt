@@ -1,13 +1,9 @@
 -- What is known of the values of a block while its extended function grows.
-use Rattle.std.proofs.Common.{◌≡◌, ◌⊎◌, inl, inr, ⊎_elim, ℕ, zero, suc, ◌+◌, ◌-◌, ◌<◌, ◌≤◌, Bool, true, false, List, [], ◌∷◌, ◌++◌, length, map, set, replicate, Option, Some, None, refl, sym, ap, subst, ◌∙◌, append_assoc, append-nil, arith}
-use Rattle.std.specs.Prelude.{slice_get, slice_set}
-use Rattle.std.specs.List.{range_with_len}
-use Rattle.std.proofs.lemmas.List.{length-append}
+use Rattle.std.proofs.Common.{◌≡◌, ◌⊎◌, inl, inr, ⊎_elim, ℕ, zero, suc, ◌+◌, ◌<◌, ◌≤◌, true, false, List, [], ◌∷◌, ◌++◌, length, set, Option, Some, None, refl, sym, ap, subst, ◌∙◌, append_assoc, append-nil, arith}
+use Rattle.std.specs.Prelude.{slice_get}
 use Rattle.std.proofs.lemmas.List.FromFn.{length-map-range_with_len}
 use Rattle.un_base.specs.declared.ids.TempId.{TempId}
-use Rattle.un_ir.specs.declared.function.Kind.{Kind}
-use Rattle.un_ir.specs.declared.function.Kind.TheVariants.{General, Pred}
-use Rattle.un_ir.specs.declared.extended.ExtKind.{ExtKind}
+use Rattle.un_ir.specs.declared.function.Kind.TheVariants.{Pred}
 use Rattle.un_ir.specs.declared.extended.Operand.{Operand}
 use Rattle.un_ir.specs.declared.extended.ExtBlock.{ExtBlock}
 use Rattle.un_ir.specs.declared.extended.Ext.{Ext}
@@ -16,7 +12,7 @@ use Rattle.un_ir.specs.declared.extended.Sort.{Sort}
 use Rattle.un_ir.specs.declared.extended.Value.{Value}
 use Rattle.un_ir.specs.Extended.{temp, kind_of_temp}
 use Rattle.un_ir.specs.Linear.{first_of}
-use Rattle.un_ir.specs.ExtendOf.{copy_count, new_temps, own_temps, value_of, with_value, with_values, with_operand_by, with_operand, with_operands, with_results}
+use Rattle.un_ir.specs.ExtendOf.{copy_count, new_temps, own_temps, value_of, with_value, with_values, with_operand_by, with_operand, with_operands}
 use Rattle.un_model.specs.Registers.{is_truth}
 
 pub push_cases : {A : Type 0} (xs : List A) (x : A) (k : ℕ) (w : A) → slice_get (xs ++ x ∷ []) k ≡ Some w

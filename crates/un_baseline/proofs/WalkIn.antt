@@ -1,9 +1,8 @@
 -- The steps of a block of the plan lie in their domains: those of copies, one after another.
-use Rattle.std.proofs.Common.{◌≡◌, ℕ, zero, suc, ◌+◌, ◌-◌, ◌<◌, ◌≤◌, Bool, true, false, List, [], ◌∷◌, ◌++◌, length, map, replicate, Option, Some, None, refl, sym, ap, subst, ◌∙◌, append_assoc, arith}
-use Rattle.std.specs.Prelude.{All, Contains, slice_get, unwrap_or}
+use Rattle.std.proofs.Common.{◌≡◌, ℕ, ◌+◌, ◌<◌, ◌≤◌, Bool, true, false, List, [], ◌∷◌, ◌++◌, length, Option, Some, None, refl, sym, ap, subst, ◌∙◌, append_assoc, arith}
+use Rattle.std.specs.Prelude.{All, slice_get, unwrap_or}
 use Rattle.un_base.specs.declared.ids.NameId.{NameId}
 use Rattle.un_base.specs.declared.ids.TempId.{TempId}
-use Rattle.un_isa.specs.declared.reg.TheConstants.{FIRST_SLOT, LINK}
 use Rattle.un_ir.specs.declared.function.Kind.{Kind}
 use Rattle.un_ir.specs.declared.function.Kind.TheVariants.{General, Pred}
 use Rattle.un_ir.specs.declared.extended.NodeCopy.TheVariants.{D, D2, U, U2}
@@ -23,16 +22,16 @@ use Rattle.un_model.specs.Registers.{is_truth}
 use Rattle.un_baseline.specs.declared.plan.Purpose.{Purpose}
 use Rattle.un_baseline.specs.declared.plan.Purpose.TheVariants.{Operands, Link, Returned, Unread}
 use Rattle.un_baseline.specs.declared.plan.Definer.{Definer}
-use Rattle.un_baseline.specs.declared.plan.Definer.TheVariants.{Start, Assigns, Other}
+use Rattle.un_baseline.specs.declared.plan.Definer.TheVariants.{Assigns}
 use Rattle.un_baseline.specs.declared.plan.Setting.{Setting}
 use Rattle.un_baseline.specs.declared.plan.Progress.{Progress}
 use Rattle.un_baseline.specs.RoomyOptions.{AreRoomy}
-use Rattle.un_baseline.specs.SpillEverywhere.{purpose_of, purpose_at, first_copy, second_copy, operand_copy, truth_copy, step_of, progress_of, steps_of, setting_of}
+use Rattle.un_baseline.specs.SpillEverywhere.{purpose_at, first_copy, second_copy, operand_copy, truth_copy, step_of, progress_of, steps_of, setting_of}
 use Rattle.un_baseline.proofs.Each.{EachStep}
 use Rattle.un_baseline.proofs.Grown.{copy_ops, value_ops, values_ops, operand_ops_by, operand_ops, operands_ops}
 use Rattle.un_baseline.proofs.InDomains.{StepIn}
 use Rattle.un_baseline.proofs.CopiesIn.{value_read, copy_in, DefinerOk, first_in, second_in, OperandOk, operand_in, truth_in}
-use Rattle.un_baseline.proofs.ValuesOk.{ValueOk, ValuesOk, values_operand}
+use Rattle.un_baseline.proofs.ValuesOk.{ValueOk}
 
 module _ (e : Ext) (o : Options) (roomy : AreRoomy e o) (entry : Bool) (block : ExtBlock)
     (live : All (λ (x : NameId). x.0 < length e.names) block.live_in) where

@@ -18,7 +18,7 @@ pub record AreRoomy (e : Ext) (o : Options) : Type 0 where
   pub regs : IfSome o.regs (λ (n : ℕ). 6 ≤ n)
   pub slots : length e.names < o.slots
 
--- it is the extended function of a function
+-- it is the extended function of a function, of which the linear function is sound, as `linearize` answers it
 pub record IsOfFunction (e : Ext) : Type 0 where
   pub function : Function
   pub lists : List (List NameId)
@@ -26,7 +26,7 @@ pub record IsOfFunction (e : Ext) : Type 0 where
   pub linear : IsLinear (lin_of function lists e.table)
   pub extended : e ≡ extend_of (lin_of function lists e.table)
 
--- the model of a function's extended function under roomy options, for a table that the compiler works for
+-- the model of a function's extended function, as `extend` answers it, under roomy options, for a table that the compiler works for
 pub record IsSpillable (m : Model) : Type 0 where
   pub model : IsModel m
   pub table : IsFit m.ext.table
