@@ -12,3 +12,5 @@ pub mod Registers
 pub mod RegisterLaws
 pub mod Spaces
 pub mod SpacesLaws
+pub mod Frame
+pub mod FrameLaws

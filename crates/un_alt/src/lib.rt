@@ -2,6 +2,7 @@
 #![tactic(auto)]
 
 pub mod chosen;
+pub mod frame;
 pub mod home;
 mod registers;
 pub mod same;
