@@ -4,7 +4,7 @@ use Rattle.un_base.specs.declared.ids.VarId.{VarId}
 use Rattle.un_prop.specs.Among.{among, AllAmong}
 use Rattle.un_prop.specs.Acts.{act_vars, is_active}
 use Rattle.un_prop.specs.declared.act.Act.{Act}
-use Rattle.un_alt.specs.Choices.{passes_at}
+use Rattle.un_prop.specs.Choices.{passes_at}
 
 -- the user is not active, or the temporary at the chosen place is
 abbrev pub chosen_holds : Act → VarId → List Act → List ℕ → Bool

@@ -8,8 +8,8 @@ use Rattle.un_prop.specs.AmongLaws.{same_var, same_active}
 use Rattle.un_prop.specs.Parts.{SameAt}
 use Rattle.un_prop.specs.Acts.{act_vars, is_active}
 use Rattle.un_prop.specs.declared.act.Act.{Act}
-use Rattle.un_alt.specs.Choices.{passes_at}
-use Rattle.un_alt.specs.ChoiceLaws.{passes_agree}
+use Rattle.un_prop.specs.Choices.{passes_at}
+use Rattle.un_prop.specs.ChoiceLaws.{passes_agree}
 use Rattle.un_alt.specs.Chosen.{chosen_holds, ChosenVars}
 
 pub chosen_looks : (vs : List VarId) (user : Act) (choice : VarId) (alts : List Act) → ChosenVars vs user choice alts → (x y : List ℕ) → SameAt vs x y

@@ -1,5 +1,3 @@
-pub mod ChoiceLaws
-pub mod Choices
 pub mod Chosen
 pub mod ChosenLaws
 pub mod Same

@@ -5,7 +5,7 @@ use Rattle.un_domains.specs.Sets.{has}
 use Rattle.un_prop.specs.Among.{AllAmong}
 use Rattle.un_prop.specs.Acts.{act_vars, act_number, is_active}
 use Rattle.un_prop.specs.declared.act.Act.{Act}
-use Rattle.un_alt.specs.Choices.{passes_at}
+use Rattle.un_prop.specs.Choices.{passes_at}
 use Rattle.un_alt.specs.Registers.{chosen_value, some_passes, choice_vars}
 
 -- the operation is not active, or the chosen register is in the set of its number

@@ -10,7 +10,7 @@ use Rattle.un_prop.specs.AmongLaws.{same_var, same_active, same_number}
 use Rattle.un_domains.specs.Sets.{has}
 use Rattle.un_prop.specs.Acts.{act_number, is_active}
 use Rattle.un_prop.specs.declared.act.Act.{Act}
-use Rattle.un_alt.specs.Choices.{passes_at}
+use Rattle.un_prop.specs.Choices.{passes_at}
 use Rattle.un_alt.specs.Registers.{chosen_value, some_passes}
 use Rattle.un_alt.specs.RegisterLaws.{chosen_alike}
 use Rattle.un_alt.specs.Spaces.{spaces_holds, SpacesVars}

@@ -4,7 +4,7 @@ ghost use Rattle.std.specs.Prelude.{◌≡◌};
 ghost use Rattle.un_prop.specs.LastLaws.{Ascend};
 ghost use Rattle.un_alt.specs.Spaces.{SpacesVars};
 ghost use Rattle.un_domains.specs.Sets.{has};
-ghost use Rattle.un_alt.specs.Choices.{passes_at};
+ghost use Rattle.un_prop.specs.Choices.{passes_at};
 
 use crate::registers::chosen;
 use un_base::ids::VarId;

@@ -1,7 +1,7 @@
 -- Laws of entries at a chosen place.
 use Rattle.std.proofs.Common.{ℕ, zero, suc, ◌≡◌, ◌<◌, None, Some, Bool, true, false, ◌≤◌, List, [], ◌∷◌, length, get_or, All, refl, ap, arith, ◌∙◌}
 use Rattle.std.specs.List.{AllByRecursion, slice_get}
-use Rattle.un_alt.specs.Choices.{passes_at}
+use Rattle.un_prop.specs.Choices.{passes_at}
 
 -- the entry at a place within the list
 pub passes_within : {A : Type 0} (p : A → Bool) (xs : List A) (i : ℕ) (d : A) → i < length xs → passes_at p xs i ≡ p (get_or xs i d)
