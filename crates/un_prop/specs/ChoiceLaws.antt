@@ -29,3 +29,29 @@ pub passes_none : {A : Type 0} (p : A → Bool) (xs : List A) (i : ℕ) → slic
 passes_none p [] i e = refl
 passes_none p (x ∷ xs) zero e = absurd (cc e)
 passes_none p (x ∷ xs) (suc i) e = passes_none p xs i e
+
+-- what passes is an entry
+pub passes_find : {A : Type 0} (p : A → Bool) (xs : List A) (i : ℕ) → passes_at p xs i ≡ true → (a : A) × (slice_get xs i ≡ Some a) × (p a ≡ true)
+passes_find p [] i e = absurd (cc e)
+passes_find p (x ∷ xs) zero e = (x, refl, e)
+passes_find p (x ∷ xs) (suc i) e = passes_find p xs i e
+
+-- a weaker test passes too
+pub passes_more : {A : Type 0} (P : A → Type 0) (p q : A → Bool) (xs : List A) (i : ℕ) → AllByRecursion P xs → ((a : A) → P a → p a ≡ true → q a ≡ true) → passes_at p xs i ≡ true
+    → passes_at q xs i ≡ true
+passes_more P p q [] i all h e = absurd (cc e)
+passes_more P p q (x ∷ xs) zero all h e = h x all.0 e
+passes_more P p q (x ∷ xs) (suc i) all h e = passes_more P p q xs i all.1 h e
+
+pub get_within : {A : Type 0} (xs : List A) (i : ℕ) (a : A) → slice_get xs i ≡ Some a → i < length xs
+get_within [] i a e = absurd (cc e)
+get_within (x ∷ xs) zero a e = omega arith
+get_within (x ∷ xs) (suc i) a e = (let lt = get_within xs i a e in omega (arith, lt))
+
+pub map_all : {A : Type 0} (P Q : A → Type 0) → ((a : A) → P a → Q a) → (xs : List A) → AllByRecursion P xs → AllByRecursion Q xs
+map_all P Q h [] all = tt
+map_all P Q h (x ∷ xs) all = (h x all.0, map_all P Q h xs all.1)
+
+pub always : {A : Type 0} (xs : List A) → AllByRecursion (λ (a : A). Unit {0}) xs
+always [] = tt
+always (x ∷ xs) = (tt, always xs)

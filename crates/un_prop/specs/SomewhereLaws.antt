@@ -85,3 +85,14 @@ any_next p xs n = same_test (any_before p xs (n + 1)) (any_before p xs n || (has
       | inl some ↦ any_more (λ z. nat_lt z n && p z) (λ z. nat_lt z (n + 1) && p z) xs xs (λ y h k. (let two = and_true (nat_lt y n) (p y) k in (h, both_true (nat_lt y (n + 1)) (p y) (let t = two.0 in grind (arith, nat_tests, t)) two.1))) some
       | inr here ↦ (let two = and_true (has xs n) (p n) here in any_has (λ z. nat_lt z (n + 1) && p z) xs n two.0 (both_true (nat_lt n (n + 1)) (p n) (grind (arith, nat_tests)) two.1))
     ]
+
+-- a value that is there joins what is known of those below it; one that is not there changes nothing
+pub next_there : (p : ℕ → Bool) (xs : List ℕ) (n : ℕ) (r a b : Bool) → has xs n ≡ true → r ≡ (a || b) → a ≡ any_before p xs n → b ≡ p n → r ≡ any_before p xs (n + 1)
+next_there p xs n r a b h e f g = e ∙ (ap (λ (c : Bool). c || b) f ∙ (ap (λ (c : Bool). any_before p xs n || c) (g ∙ sym (ap (λ (c : Bool). c && p n) h)) ∙ sym (any_next p xs n)))
+
+pub next_absent : (p : ℕ → Bool) (xs : List ℕ) (n : ℕ) (a : Bool) → has xs n ≡ false → a ≡ any_before p xs n → a ≡ any_before p xs (n + 1)
+next_absent p xs n a h e = e ∙ (sym (or_none (any_before p xs n)) ∙ (ap (λ (c : Bool). any_before p xs n || c) (sym (ap (λ (c : Bool). c && p n) h)) ∙ sym (any_next p xs n)))
+  where
+    or_none : (b : Bool) → (b || false) ≡ b
+    or_none true = refl
+    or_none false = refl
