@@ -12,3 +12,5 @@ pub mod Spaces
 pub mod SpacesLaws
 pub mod Frame
 pub mod FrameLaws
+pub mod Filters
+pub mod FilterLaws

@@ -16,6 +16,7 @@ use un_prop::propagator::{Predicate, Propagator, Pruned, Scratch};
 
 /// The numbers of the instructions of a copy that access the frame.
 pub const SPILL: u32 = 2;
+
 pub const RELOAD: u32 = 3;
 
 /// Enter or a Leave: it is active where `instr` is not 0, and issues at `at`.
@@ -238,7 +239,12 @@ impl Predicate for Frame {
                 if !used {
                     return false;
                 }
-                stands(fixed, self.enter, self.entry.as_slice(), self.leaves.as_slice())
+                stands(
+                    fixed,
+                    self.enter,
+                    self.entry.as_slice(),
+                    self.leaves.as_slice(),
+                )
             }
             0 => {
                 if used {

@@ -2,6 +2,7 @@
 #![tactic(auto)]
 
 pub mod chosen;
+mod filter;
 pub mod frame;
 pub mod home;
 mod registers;

@@ -63,8 +63,11 @@ module _ (vs : List VarId) where
   late_below t s k full le y z more a h e =
       let low = least_at_below vs t s full le a.at h.of_at k in
       any_more (λ n. passes_at (λ g. nat_le (least (at_set a.at t) + g) y) a.gaps n) (λ n. passes_at (λ g. nat_le (least (at_set a.at s) + g) z) a.gaps n) (act_set a.on t) (act_set a.on s)
-      (λ n there pass. (act_below vs t s n le a.on there, passes_more (λ (g : ℕ). Unit {0}) (λ g. nat_le (least (at_set a.at t) + g) y) (λ g. nat_le (least (at_set a.at s) + g) z) a.gaps n (always a.gaps)
-      (λ g u is. grind (arith, nat_tests, is, low, more)) pass)) e
+      (λ n there pass. (
+        act_below vs t s n le a.on there,
+        passes_more (λ (g : ℕ). Unit {0}) (λ g. nat_le (least (at_set a.at t) + g) y) (λ g. nat_le (least (at_set a.at s) + g) z) a.gaps n (always a.gaps)
+            (λ g u is. grind (arith, nat_tests, is, low, more)) pass,
+      )) e
 
   late_alike : (s t : Sets) → Agree vs s t → (y z : ℕ) → y ≡ z → (a : ReadAlt) → ReadAltVars vs a → may_be_late s y a ≡ may_be_late t z a
   late_alike s t agree y z e a h =

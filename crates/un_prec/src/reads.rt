@@ -8,7 +8,6 @@ ghost use Rattle.un_prop.specs.Among.{among};
 ghost use Rattle.un_prop.specs.Choices.{passes_at};
 ghost use Rattle.un_prop.specs.Going.{Stepped};
 ghost use Rattle.un_prop.specs.LastLaws.{Ascend};
-ghost use Rattle.un_prop.specs.Places.{places_in};
 ghost use Rattle.un_prop.specs.Somewhere.{is_by};
 ghost use Rattle.un_prop.specs.declared.propagator.Pruned.TheVariants.{Failed};
 ghost use Rattle.un_prec.specs.Links.{at_cut};
@@ -20,7 +19,7 @@ use un_lists::items::Items;
 use un_prop::act::{Act, At, active, number, time, value};
 use un_prop::last::check_last;
 use un_prop::look::{greatest_time, is_sure, least_time};
-use un_prop::place::{Choice, keep_choice};
+use un_prop::place::{Choice, keep_choice, places};
 use un_prop::propagator::{Predicate, Propagator, Pruned, Scratch};
 use un_prop::step::keep_gt;
 
@@ -190,13 +189,6 @@ fn keep_soon(w: &mut Window<'_>, before: Pruned, reads: &Reads) -> Pruned
             }
         }
     }
-}
-
-/// How many places of a list a word can name.
-fn places<T>(xs: &[T]) -> usize
-    ensures { result ≡ places_in xs.now }
-{
-    xs.len().min(1 << 32)
 }
 
 /// The operation `user`, where it is active, issues at least the gap after the definer that it chooses of `alts`, by the number of

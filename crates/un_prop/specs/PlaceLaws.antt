@@ -1,7 +1,7 @@
 -- Laws of filters of a choice.
 use Rattle.std.proofs.Common.{ℕ, zero, suc, ◌≡◌, ◌≢◌, ◌<◌, ◌≤◌, ◌+◌, ◌⊎◌, Bool, true, false, not, ◌&&◌, ◌||◌, List, [], ◌∷◌, length, get_or, nat_eq, nat_le, None, Some, option_and_then, refl, sym, ap, ◌∙◌, subst, arith, inl, inr}
 use Rattle.std.specs.declared.option.Option.{Option}
-use Rattle.std.specs.List.{list_any}
+use Rattle.std.specs.List.{AllByRecursion, list_any}
 use Rattle.std.proofs.lemmas.Bool.Decides.{nat_tests}
 use Rattle.un_base.specs.declared.ids.VarId.{VarId}
 use Rattle.un_domains.specs.Sets.{Sets, set_at, has, cut_by, IsIn, NoneEmpty, Kept}
@@ -18,6 +18,8 @@ use Rattle.un_prop.specs.Acts.{act_vars, act_number, is_active}
 use Rattle.un_prop.specs.Looks.{sure}
 use Rattle.un_prop.specs.LookLaws.{not_or, or_not, not_true, not_from, known_below, set_alike, sure_alike, sure_below, sure_active}
 use Rattle.un_prop.specs.ChainLaws.{then_kept, known_in, stable_then, each_lawful, each_keeps, each_stable}
+use Rattle.un_prop.specs.Choices.{passes_at}
+use Rattle.un_prop.specs.ChoiceLaws.{passes_more, passes_agree, map_all}
 use Rattle.un_prop.specs.SomewhereLaws.{any_more, any_agree, any_has}
 use Rattle.un_prop.specs.declared.act.Act.{Act}
 use Rattle.un_prop.specs.declared.act.Act.TheVariants.{Always, Var as ActVar}
@@ -137,3 +139,13 @@ idle_not b y e = by (nat_eq y 0)
     by : (c : Bool) → (c || b) ≡ true
     by true = refl
     by false = e
+
+-- What can be chosen by its entry
+
+-- where a test of each entry is lawful, so is that of the entry at a place
+pub entries_lawful : {A : Type 0} (vs : List VarId) (P : A → Type 0) (ok : Sets → A → Bool) (alts : List A) → ((a : A) → P a → LawfulTest vs (λ s y. ok s a)) → AllByRecursion P alts
+    → LawfulTest vs (λ s i. passes_at (ok s) alts i)
+entries_lawful vs P ok alts h all = record {
+  monotone = λ t s i k full le e. passes_more P (ok t) (ok s) alts i all (λ a p is. (h a p).monotone t s i k full le is) e;
+  local = λ s t i agree. passes_agree (ok s) (ok t) alts i (map_all P (λ a. ok s a ≡ ok t a) (λ a p. (h a p).local s t i agree) alts all);
+}

@@ -96,3 +96,15 @@ next_absent p xs n a h e = e ∙ (sym (or_none (any_before p xs n)) ∙ (ap (λ 
     or_none : (b : Bool) → (b || false) ≡ b
     or_none true = refl
     or_none false = refl
+
+-- nothing passes below n + 1, where nothing does below n, and n is not there or does not pass
+pub none_next : (p : ℕ → Bool) (xs : List ℕ) (n : ℕ) → any_before p xs n ≡ false → (has xs n ≡ false) ⊎ (p n ≡ false) → any_before p xs (n + 1) ≡ false
+none_next p xs n e k = any_next p xs n ∙ (ap (λ (b : Bool). b || (has xs n && p n)) e ∙ neither k)
+  where
+    refused : (b : Bool) → (b && false) ≡ false
+    refused true = refl
+    refused false = refl
+
+    neither : (has xs n ≡ false) ⊎ (p n ≡ false) → (has xs n && p n) ≡ false
+    neither (inl h) = ap (λ (b : Bool). b && p n) h
+    neither (inr h) = ap (λ (b : Bool). has xs n && b) h ∙ refused (has xs n)

@@ -7,7 +7,7 @@ ghost use Rattle.un_prop.specs.Rounds.{HasVars};
 ghost use Rattle.un_prop.specs.Among.{among, AllAmong};
 ghost use Rattle.un_prop.specs.Acts.{act_vars};
 ghost use Rattle.un_prop.specs.Going.{Stepped};
-ghost use Rattle.un_prop.specs.Places.{each_place, place_cut, idle_test, act_cut, choice_steps};
+ghost use Rattle.un_prop.specs.Places.{each_place, place_cut, idle_test, act_cut, choice_steps, places_in};
 ghost use Rattle.un_prop.specs.declared.propagator.Pruned.TheVariants.{Failed};
 
 use crate::act::Act;
@@ -16,6 +16,13 @@ use crate::propagator::{Predicate, Pruned};
 use crate::step::{drop_value, keep_le};
 use un_base::ids::VarId;
 use un_domains::window::Window;
+
+/// How many places of a list a word can name.
+pub fn places<T>(xs: &[T]) -> usize
+    ensures { result ≡ places_in xs.now }
+{
+    xs.len().min(1 << 32)
+}
 
 /// A predicate of a choice.
 pub trait Choice: Predicate {
@@ -107,13 +114,7 @@ fn any_place<C: Choice>(c: &C, w: &Window<'_>, choice: VarId) -> bool
 }
 
 /// Where no place that is left can be chosen, the user is inactive.
-fn keep_idle<C: Choice>(
-    c: &C,
-    w: &mut Window<'_>,
-    before: Pruned,
-    on: Act,
-    choice: VarId,
-) -> Pruned
+fn keep_idle<C: Choice>(c: &C, w: &mut Window<'_>, before: Pruned, on: Act, choice: VarId) -> Pruned
     requires vars { w.old.vars.now ≡ C.scope c.now }
     requires of_on { AllAmong (C.scope c.now) (act_vars on) }
     requires of_choice { among (C.scope c.now) choice ≡ true }
