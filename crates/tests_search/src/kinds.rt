@@ -1,8 +1,7 @@
 //! Stores before and after each kind of propagator prunes them.
 
-ghost use Rattle.std.specs.Prelude.{◌≡◌, IfOk, [], ◌∷◌};
-ghost use Rattle.un_prop.specs.declared.act.At.{At};
-ghost use Rattle.un_prop.specs.declared.act.Act.{Act};
+ghost use Rattle.std.specs.Prelude.{◌≡◌, IfOk};
+ghost use Rattle.tests_search.specs.Entries.{two_definers, one_leave};
 
 use crate::prunes::{Case, prunes_all, variables};
 use std::alloc::{AllocError, Global};
@@ -185,7 +184,7 @@ static READS: [Case; 7] = [
 ];
 
 /// Sets of a user, its choice, and the activity of the second definer.
-static CHOSEN: [Case; 5] = [
+static CHOSEN: [Case; 7] = [
     Case {
         before: &[&[1], &[0, 1], &[0]],
         answer: Pruned::Tighter,
@@ -210,6 +209,16 @@ static CHOSEN: [Case; 5] = [
         before: &[&[1], &[1], &[0]],
         answer: Pruned::Failed,
         after: &[],
+    },
+    Case {
+        before: &[&[1, 2], &[0, 1], &[0]],
+        answer: Pruned::Tighter,
+        after: &[&[1, 2], &[0], &[0]],
+    },
+    Case {
+        before: &[&[0, 3], &[1], &[0]],
+        answer: Pruned::Tighter,
+        after: &[&[0], &[1], &[0]],
     },
 ];
 
@@ -243,7 +252,7 @@ static ZEROS: [Case; 5] = [
 ];
 
 /// Sets of an instruction, a choice and two registers; its sets are none, r1 and r2, and two slots.
-static SPACES: [Case; 5] = [
+static SPACES: [Case; 8] = [
     Case {
         before: &[&[1], &[0], &[1, 2, 36], &[5]],
         answer: Pruned::Tighter,
@@ -269,10 +278,25 @@ static SPACES: [Case; 5] = [
         answer: Pruned::Failed,
         after: &[],
     },
+    Case {
+        before: &[&[1], &[0, 1], &[1, 2, 40], &[36, 37]],
+        answer: Pruned::Tighter,
+        after: &[&[1], &[0], &[1, 2, 40], &[36, 37]],
+    },
+    Case {
+        before: &[&[0, 1], &[0, 1], &[5, 6], &[36, 40]],
+        answer: Pruned::Tighter,
+        after: &[&[0], &[0, 1], &[5, 6], &[36, 40]],
+    },
+    Case {
+        before: &[&[1, 2], &[0, 1], &[5, 6], &[36, 40]],
+        answer: Pruned::Tighter,
+        after: &[&[1, 2], &[1], &[5, 6], &[36, 40]],
+    },
 ];
 
 /// Sets of a choice, two registers, and another.
-static SAME: [Case; 6] = [
+static SAME: [Case; 8] = [
     Case {
         before: &[&[0], &[5, 6], &[7], &[6]],
         answer: Pruned::Tighter,
@@ -303,10 +327,20 @@ static SAME: [Case; 6] = [
         answer: Pruned::Failed,
         after: &[],
     },
+    Case {
+        before: &[&[0, 1], &[5, 6], &[7, 8], &[6, 9]],
+        answer: Pruned::Tighter,
+        after: &[&[0], &[5, 6], &[7, 8], &[6, 9]],
+    },
+    Case {
+        before: &[&[0, 1], &[5, 7], &[8, 9], &[6]],
+        answer: Pruned::Failed,
+        after: &[],
+    },
 ];
 
 /// Sets of a choice and two registers, of which the chosen one is r3.
-static HOME: [Case; 4] = [
+static HOME: [Case; 6] = [
     Case {
         before: &[&[0], &[1, 3], &[9]],
         answer: Pruned::Tighter,
@@ -327,9 +361,20 @@ static HOME: [Case; 4] = [
         answer: Pruned::Failed,
         after: &[],
     },
+    Case {
+        before: &[&[0, 1], &[3, 4], &[4, 5]],
+        answer: Pruned::Tighter,
+        after: &[&[0], &[3, 4], &[4, 5]],
+    },
+    Case {
+        before: &[&[0, 1], &[5, 6], &[4, 5]],
+        answer: Pruned::Failed,
+        after: &[],
+    },
 ];
 
-/// Sets of the flag, a copy's instruction, a register at a block's start, Enter and its cycle, the copy's cycle, Leave and its cycle, a call's cycle.
+/// Sets of the flag, a copy's instruction, a register at a block's start, Enter and its cycle, the copy's cycle, Leave and its
+/// cycle, a call's cycle.
 static FRAME: [Case; 8] = [
     Case {
         before: &[&[0, 1], &[2], &[4], &[1], &[1], &[2], &[1], &[5], &[3]],
@@ -440,7 +485,7 @@ fn below(alloc: Global) -> Result<Below, AllocError> {
 
 /// A definer that is always active, with the gap 1, and one with the gaps 1 and 2.
 fn definers(alloc: Global) -> Result<Items<ReadAlt>, AllocError>
-    ensures { IfOk result (λ alts. alts ≡ record { at = At.Var (record { 0 = 3 }); on = Act.Always; gaps = 0 ∷ 1 ∷ [] } ∷ record { at = At.Var (record { 0 = 4 }); on = Act.Var (record { 0 = 5 }); gaps = 0 ∷ 1 ∷ 2 ∷ [] } ∷ []) }
+    ensures { IfOk result (λ alts. alts ≡ two_definers) }
 {
     let one = [0, 1].to_vec(alloc)?;
     let two = [0, 1, 2].to_vec(alloc)?;
@@ -545,7 +590,7 @@ fn home(alloc: Global) -> Result<Home, AllocError> {
 
 /// A Leave in a block with a call.
 fn leave(alloc: Global) -> Result<Items<FrameLeave>, AllocError>
-    ensures { IfOk result (λ ls. ls ≡ record { leave = record { instr = record { 0 = 6 }; at = record { 0 = 7 } }; copies = []; calls = record { 0 = 8 } ∷ [] } ∷ []) }
+    ensures { IfOk result (λ ls. ls ≡ one_leave) }
 {
     let calls = [VarId(8)].to_vec(alloc)?;
     let mut leaves = Items::new(alloc);
