@@ -7,13 +7,11 @@ top=$(cd "$(dirname "$0")/.." && pwd)
 binary=$top/crates/time_search/out/time_search
 [ -x "$binary" ] || (cd "$top/crates/time_search" && rt run <stdin >/dev/null)
 
-# The nanoseconds that a work takes so often.
+# The milliseconds of the processor that a work takes so often.
 time_of() {
-  local start end
-  start=$(date +%s%N)
-  printf '%s %s\n' "$1" "$2" | "$binary" >/dev/null
-  end=$(date +%s%N)
-  echo $((end - start))
+  local TIMEFORMAT='%3U %3S' words
+  words=$({ time printf '%s %s\n' "$1" "$2" | "$binary" >/dev/null; } 2>&1)
+  awk '{ printf "%d", 1000 * ($1 + $2) }' <<<"$words"
 }
 
 # The mean of one time, without what comes before the first.
@@ -21,14 +19,14 @@ mean() {
   local few many
   few=$(time_of "$1" "$2")
   many=$(time_of "$1" $((3 * $2)))
-  echo $(((many - few) / (2 * $2)))
+  echo $(((many - few) * 1000000 / (2 * $2)))
 }
 
-marks=$(mean marks 100)
-cuts=$(mean cuts 2000000)
-nothing=$(mean nothing 100)
-changed=$(mean changed 100)
-all=$(mean all 100)
+marks=$(mean marks 500)
+cuts=$(mean cuts 3000000)
+nothing=$(mean nothing 500)
+changed=$(mean changed 500)
+all=$(mean all 500)
 printf '%-40s %10d ns\n' "mark and undo" "$marks"
 printf '%-40s %10d ns\n' "cut after a mark" "$cuts"
 printf '%-40s %10d ns\n' "mark, undo and sizes again" "$nothing"
