@@ -13,9 +13,11 @@ pub full : (ds : List Domain) (d : Domain) → All IsDomain ds → (s : Sets) �
 full ds d all s e v lt =
     let below : v < length ds = omega (arith, lt, ap length e, length-map ds values_of) in
     let some = (all v d below).some in
-    subst (λ (u : Sets). 0 < length (set_at u v)) (sym e) (subst (λ (xs : List ℕ). 0 < length xs) (sym (get_or-map values_of ds v d [] below)) some)
+    subst (λ (u : Sets). 0 < length (set_at u v)) (sym e)
+    (subst (λ (xs : List ℕ). 0 < length xs) (sym (get_or-map values_of ds v d [] below)) some)
 
-pub new_full : {E : Type 0} (ds : List Domain) (d : Domain) → All IsDomain ds → (r : Result Contents E) → IfOk r (λ s. s.sets ≡ map values_of ds) → IfOk r (λ s. NoneEmpty s.sets)
+pub new_full : {E : Type 0} (ds : List Domain) (d : Domain) → All IsDomain ds → (r : Result Contents E) → IfOk r
+    (λ s. s.sets ≡ map values_of ds) → IfOk r (λ s. NoneEmpty s.sets)
 new_full ds d all (Ok s) h = full ds d all s.sets h
 new_full ds d all (Err e) h = h
 

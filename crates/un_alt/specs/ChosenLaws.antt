@@ -23,14 +23,17 @@ use Rattle.un_prop.specs.Choices.{passes_at}
 use Rattle.un_prop.specs.ChoiceLaws.{passes_agree, passes_more}
 use Rattle.un_alt.specs.Chosen.{chosen_holds, may_be_active, chosen_can, ChosenVars}
 
-pub chosen_looks : (vs : List VarId) (user : Act) (choice : VarId) (alts : List Act) → ChosenVars vs user choice alts → (x y : List ℕ) → SameAt vs x y
+pub chosen_looks : (vs : List VarId) (user : Act) (choice : VarId) (alts : List Act) → ChosenVars vs user choice alts → (x y : List ℕ)
+    → SameAt vs x y
     → chosen_holds user choice alts x ≡ chosen_holds user choice alts y
 chosen_looks vs user choice alts h x y same =
     ap (λ (b : Bool). not b || passes_at (λ a. is_active a x) alts (get_or x choice.0 0)) (same_active vs x y same user h.of_user)
     ∙ (ap (λ (i : ℕ). not (is_active user y) || passes_at (λ a. is_active a x) alts i) (same_var vs x y same choice h.of_choice)
-    ∙ ap (λ (b : Bool). not (is_active user y) || b) (passes_agree (λ a. is_active a x) (λ a. is_active a y) alts (get_or y choice.0 0) (each alts (recursion_from_All _ _ h.of_alts))))
+    ∙ ap (λ (b : Bool). not (is_active user y) || b)
+    (passes_agree (λ a. is_active a x) (λ a. is_active a y) alts (get_or y choice.0 0) (each alts (recursion_from_All _ _ h.of_alts))))
   where
-    each : (rest : List Act) → AllByRecursion (λ a. AllAmong vs (act_vars a)) rest → AllByRecursion (λ a. is_active a x ≡ is_active a y) rest
+    each : (rest : List Act) → AllByRecursion (λ a. AllAmong vs (act_vars a)) rest → AllByRecursion
+        (λ a. is_active a x ≡ is_active a y) rest
     each [] all = tt
     each (a ∷ rest) all = (same_active vs x y same a all.0, each rest all.1)
 
@@ -51,7 +54,8 @@ module _ (vs : List VarId) (user : Act) (choice : VarId) (alts : List Act) (h : 
   pub chosen_lawful : LawfulTest vs (chosen_can alts)
   chosen_lawful = entries_lawful vs (λ a. AllAmong vs (act_vars a)) may_be_active alts active_lawful all_vars
 
-  active_in : (m : Sets) (x : List ℕ) → HasVars vs m → IsIn x m → (a : Act) → AllAmong vs (act_vars a) → is_active a x ≡ true → may_be_active m a ≡ true
+  active_in : (m : Sets) (x : List ℕ) → HasVars vs m → IsIn x m → (a : Act) → AllAmong vs (act_vars a) → is_active a x ≡ true →
+      may_be_active m a ≡ true
   active_in m x k there a all e =
       let le = has-fold_max 0 (act_set a m) (act_number a x) (number_in vs m x there k a all) in
       some (act_number a x) (greatest (act_set a m)) e le
@@ -59,6 +63,8 @@ module _ (vs : List VarId) (user : Act) (choice : VarId) (alts : List Act) (h : 
       some : (n g : ℕ) → not (nat_eq n 0) ≡ true → n ≤ g → nat_lt 0 g ≡ true
       some n g ne le = grind (arith, nat_tests, ne, le)
 
-  pub chosen_fits : (x : List ℕ) → chosen_holds user choice alts x ≡ true → (m : Sets) → HasVars vs m → IsIn x m → is_active user x ≡ true → chosen_can alts m (get_or x choice.0 0) ≡ true
-  chosen_fits x holds m k there is = passes_more (λ a. AllAmong vs (act_vars a)) (λ a. is_active a x) (may_be_active m) alts (get_or x choice.0 0) all_vars (active_in m x k there)
+  pub chosen_fits : (x : List ℕ) → chosen_holds user choice alts x ≡ true → (m : Sets) → HasVars vs m → IsIn x m → is_active user x ≡
+      true → chosen_can alts m (get_or x choice.0 0) ≡ true
+  chosen_fits x holds m k there is = passes_more (λ a. AllAmong vs (act_vars a)) (λ a. is_active a x) (may_be_active m) alts
+      (get_or x choice.0 0) all_vars (active_in m x k there)
       (or_not (is_active user x) (passes_at (λ a. is_active a x) alts (get_or x choice.0 0)) holds is)

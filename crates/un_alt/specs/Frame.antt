@@ -46,7 +46,8 @@ is_until t x u = not (counts x u) || nat_le (slice_index x u.at.0) t
 
 -- no copy that counts is after Leave, and each Call is before it
 abbrev pub is_left : List ℕ → FrameLeave → Bool
-is_left x l = list_all (is_until (slice_index x l.leave.at.0) x) l.copies && list_all (λ (v : VarId). nat_lt (slice_index x v.0) (slice_index x l.leave.at.0)) l.calls
+is_left x l = list_all (is_until (slice_index x l.leave.at.0) x) l.copies && list_all
+    (λ (v : VarId). nat_lt (slice_index x v.0) (slice_index x l.leave.at.0)) l.calls
 
 -- all that counts in the entry block is after Enter, and every Leave in order
 abbrev pub in_order : FrameOp → List FrameUse → List FrameLeave → List ℕ → Bool
@@ -74,7 +75,8 @@ pub record FrameLeaveVars (vs : List VarId) (l : FrameLeave) : Type 0 where
   pub of_copies : All (FrameUseVars vs) l.copies
   pub of_calls : AllAmong vs l.calls
 
-pub record FrameVars (vs : List VarId) (flag : VarId) (touch ins : List VarId) (enter : FrameOp) (entry : List FrameUse) (leaves : List FrameLeave) : Type 0 where
+pub record FrameVars (vs : List VarId) (flag : VarId) (touch ins : List VarId) (enter : FrameOp) (entry : List FrameUse)
+    (leaves : List FrameLeave) : Type 0 where
   pub of_flag : among vs flag ≡ true
   pub of_touch : AllAmong vs touch
   pub of_ins : AllAmong vs ins

@@ -27,9 +27,11 @@ use Rattle.un_alt.specs.Registers.{place_of, some_passes}
 use Rattle.un_alt.specs.RegisterLaws.{chosen_alike}
 use Rattle.un_alt.specs.Home.{home_holds, home_can, HomeVars}
 
-pub home_looks : (vs : List VarId) (choice : Option VarId) (regs : List VarId) (home : ℕ) → HomeVars vs choice regs → (x y : List ℕ) → SameAt vs x y
+pub home_looks : (vs : List VarId) (choice : Option VarId) (regs : List VarId) (home : ℕ) → HomeVars vs choice regs → (x y : List ℕ) →
+    SameAt vs x y
     → home_holds choice regs home x ≡ home_holds choice regs home y
-home_looks vs choice regs home h x y same = ap (some_passes (λ r. nat_eq r home)) (chosen_alike vs x y same choice regs h.of_choice h.of_regs)
+home_looks vs choice regs home h x y same = ap (some_passes (λ r. nat_eq r home))
+    (chosen_alike vs x y same choice regs h.of_choice h.of_regs)
 
 module _ (vs : List VarId) (choice : Option VarId) (regs : List VarId) (home : ℕ) (h : HomeVars vs choice regs) where
   all_vars : AllByRecursion (λ u. among vs u ≡ true) regs
@@ -41,7 +43,10 @@ module _ (vs : List VarId) (choice : Option VarId) (regs : List VarId) (home : �
     local = λ s t y agree. ap (λ (xs : List ℕ). has xs home) (set_alike vs s t agree v there);
   }) all_vars
 
-  pub home_fits : (x : List ℕ) → home_holds choice regs home x ≡ true → (m : Sets) → HasVars vs m → IsIn x m → is_active Always x ≡ true → home_can regs home m (place_of choice x) ≡ true
-  home_fits x holds m k there is = passes_more (λ u. among vs u ≡ true) (λ (v : VarId). nat_eq (get_or x v.0 0) home) (λ (v : VarId). has (set_at m v.0) home) regs (place_of choice x) all_vars
-      (λ v at e. (let same : get_or x v.0 0 ≡ home = grind (arith, nat_tests, e) in subst (λ (y : ℕ). has (set_at m v.0) y ≡ true) same (there.each v.0 (has_among vs v m at k))))
+  pub home_fits : (x : List ℕ) → home_holds choice regs home x ≡ true → (m : Sets) → HasVars vs m → IsIn x m → is_active Always x ≡
+      true → home_can regs home m (place_of choice x) ≡ true
+  home_fits x holds m k there is = passes_more (λ u. among vs u ≡ true) (λ (v : VarId). nat_eq (get_or x v.0 0) home)
+      (λ (v : VarId). has (set_at m v.0) home) regs (place_of choice x) all_vars
+      (λ v at e. (let same : get_or x v.0 0 ≡ home = grind (arith, nat_tests, e) in subst (λ (y : ℕ). has (set_at m v.0) y ≡ true) same
+      (there.each v.0 (has_among vs v m at k))))
       (sym (some_at (λ r. nat_eq r home) regs (place_of choice x) x) ∙ holds)

@@ -57,4 +57,5 @@ pub record ReadsVars (vs : List VarId) (user : At) (on : Act) (choice : VarId) (
 -- number that the definer has left, and so plus the least of these gaps
 abbrev pub ReadsStrong : At → Act → VarId → List ReadAlt → Sets → Type 0
 ReadsStrong user on choice alts s = sure on s ≡ true → (i : ℕ) (a : ReadAlt) → set_at s choice.0 ≡ i ∷ [] → slice_get alts i ≡ Some a
-    → (n : ℕ) × (g : ℕ) × (has (act_set a.on s) n ≡ true) × (slice_get a.gaps n ≡ Some g) × (least (at_set a.at s) + g ≤ least (at_set user s))
+    → (n : ℕ) × (g : ℕ) × (has (act_set a.on s) n ≡ true) × (slice_get a.gaps n ≡ Some g) ×
+    (least (at_set a.at s) + g ≤ least (at_set user s))

@@ -59,27 +59,34 @@ module _ (vs : List VarId) where
       ∙ ap (λ (n : ℕ). passes_at (λ g. nat_le (at_value a.at y + g) u) a.gaps n) (same_number vs x y same a.on h.of_on))
 
   -- what may be late
-  late_below : (t s : Sets) → HasVars vs s → NoneEmpty t → Below t s → (y z : ℕ) → y ≤ z → (a : ReadAlt) → ReadAltVars vs a → may_be_late t y a ≡ true → may_be_late s z a ≡ true
+  late_below : (t s : Sets) → HasVars vs s → NoneEmpty t → Below t s → (y z : ℕ) → y ≤ z → (a : ReadAlt) → ReadAltVars vs a →
+      may_be_late t y a ≡ true → may_be_late s z a ≡ true
   late_below t s k full le y z more a h e =
       let low = least_at_below vs t s full le a.at h.of_at k in
-      any_more (λ n. passes_at (λ g. nat_le (least (at_set a.at t) + g) y) a.gaps n) (λ n. passes_at (λ g. nat_le (least (at_set a.at s) + g) z) a.gaps n) (act_set a.on t) (act_set a.on s)
+      any_more (λ n. passes_at (λ g. nat_le (least (at_set a.at t) + g) y) a.gaps n)
+      (λ n. passes_at (λ g. nat_le (least (at_set a.at s) + g) z) a.gaps n) (act_set a.on t) (act_set a.on s)
       (λ n there pass. (
         act_below vs t s n le a.on there,
-        passes_more (λ (g : ℕ). Unit {0}) (λ g. nat_le (least (at_set a.at t) + g) y) (λ g. nat_le (least (at_set a.at s) + g) z) a.gaps n (always a.gaps)
+        passes_more (λ (g : ℕ). Unit {0}) (λ g. nat_le (least (at_set a.at t) + g) y) (λ g. nat_le (least (at_set a.at s) + g) z)
+            a.gaps n (always a.gaps)
             (λ g u is. grind (arith, nat_tests, is, low, more)) pass,
       )) e
 
   late_alike : (s t : Sets) → Agree vs s t → (y z : ℕ) → y ≡ z → (a : ReadAlt) → ReadAltVars vs a → may_be_late s y a ≡ may_be_late t z a
   late_alike s t agree y z e a h =
-      ap (λ (xs : List ℕ). list_any (λ n. passes_at (λ g. nat_le (least xs + g) y) a.gaps n) (act_set a.on s)) (at_alike vs s t agree a.at h.of_at)
+      ap (λ (xs : List ℕ). list_any (λ n. passes_at (λ g. nat_le (least xs + g) y) a.gaps n) (act_set a.on s))
+      (at_alike vs s t agree a.at h.of_at)
       ∙ (ap (λ (u : ℕ). list_any (λ n. passes_at (λ g. nat_le (least (at_set a.at t) + g) u) a.gaps n) (act_set a.on s)) e
       ∙ ap (list_any (λ n. passes_at (λ g. nat_le (least (at_set a.at t) + g) z) a.gaps n)) (act_alike vs s t agree a.on h.of_on))
 
-  late_in : (m : Sets) (x : List ℕ) → HasVars vs m → IsIn x m → (y z : ℕ) → y ≤ z → (a : ReadAlt) → ReadAltVars vs a → is_late y x a ≡ true → may_be_late m z a ≡ true
+  late_in : (m : Sets) (x : List ℕ) → HasVars vs m → IsIn x m → (y z : ℕ) → y ≤ z → (a : ReadAlt) → ReadAltVars vs a → is_late y x a ≡
+      true → may_be_late m z a ≡ true
   late_in m x k there y z more a h e =
       let low = (value_in vs m x there k a.at h.of_at).0 in
-      any_has (λ n. passes_at (λ g. nat_le (least (at_set a.at m) + g) z) a.gaps n) (act_set a.on m) (act_number a.on x) (number_in vs m x there k a.on h.of_on)
-      (passes_more (λ (g : ℕ). Unit {0}) (λ g. nat_le (at_value a.at x + g) y) (λ g. nat_le (least (at_set a.at m) + g) z) a.gaps (act_number a.on x) (always a.gaps)
+      any_has (λ n. passes_at (λ g. nat_le (least (at_set a.at m) + g) z) a.gaps n) (act_set a.on m) (act_number a.on x)
+      (number_in vs m x there k a.on h.of_on)
+      (passes_more (λ (g : ℕ). Unit {0}) (λ g. nat_le (at_value a.at x + g) y) (λ g. nat_le (least (at_set a.at m) + g) z) a.gaps
+      (act_number a.on x) (always a.gaps)
       (λ g u is. grind (arith, nat_tests, is, low, more)) e)
 
 module _ (vs : List VarId) (user : At) (on : Act) (choice : VarId) (alts : List ReadAlt) (h : ReadsVars vs user on choice alts) where
@@ -93,24 +100,34 @@ module _ (vs : List VarId) (user : At) (on : Act) (choice : VarId) (alts : List 
       ap (λ (b : Bool). not b || passes_at (is_late t x) alts (get_or x choice.0 0)) (same_active vs x y same on h.of_on)
       ∙ (ap (λ (i : ℕ). not (is_active on y) || passes_at (is_late t x) alts i) (same_var vs x y same choice h.of_choice)
       ∙ ap (λ (b : Bool). not (is_active on y) || b) (passes_agree (is_late t x) (is_late u y) alts (get_or y choice.0 0)
-      (map_all (ReadAltVars vs) (λ (a : ReadAlt). is_late t x a ≡ is_late u y a) (late_looks vs x y same t u (same_time vs x y same user h.of_user)) alts all_vars)))
+      (map_all (ReadAltVars vs) (λ (a : ReadAlt). is_late t x a ≡ is_late u y a)
+      (late_looks vs x y same t u (same_time vs x y same user h.of_user)) alts all_vars)))
 
   can_lawful : LawfulTest vs (reads_can user alts)
   can_lawful = record {
-    monotone = λ t s i k full le e. passes_more (ReadAltVars vs) (may_be_late t (greatest (at_set user t))) (may_be_late s (greatest (at_set user s))) alts i all_vars
+    monotone = λ t s i k full le e. passes_more (ReadAltVars vs) (may_be_late t (greatest (at_set user t)))
+        (may_be_late s (greatest (at_set user s))) alts i all_vars
         (late_below vs t s k full le (greatest (at_set user t)) (greatest (at_set user s)) (greatest_at_below vs t s le user)) e;
     local = λ s t i a. passes_agree (may_be_late s (greatest (at_set user s))) (may_be_late t (greatest (at_set user t))) alts i
         (map_all (ReadAltVars vs) (λ (b : ReadAlt). may_be_late s (greatest (at_set user s)) b ≡ may_be_late t (greatest (at_set user t)) b)
-        (late_alike vs s t a (greatest (at_set user s)) (greatest (at_set user t)) (ap greatest (at_alike vs s t a user h.of_user))) alts all_vars);
+        (late_alike vs s t a (greatest (at_set user s)) (greatest (at_set user t)) (ap greatest (at_alike vs s t a user h.of_user)))
+        alts all_vars);
   }
 
-  read_below : (t s : Sets) → HasVars vs s → NoneEmpty t → Below t s → (y : ℕ) → may_read choice alts t y ≡ true → may_read choice alts s y ≡ true
-  read_below t s k full le y e = any_more (passes_at (may_be_late t y) alts) (passes_at (may_be_late s y) alts) (set_at t choice.0) (set_at s choice.0)
-      (λ i there pass. (has_below t s choice.0 i le there, passes_more (ReadAltVars vs) (may_be_late t y) (may_be_late s y) alts i all_vars (late_below vs t s k full le y y (omega arith)) pass)) e
+  read_below : (t s : Sets) → HasVars vs s → NoneEmpty t → Below t s → (y : ℕ) → may_read choice alts t y ≡ true → may_read choice alts
+      s y ≡ true
+  read_below t s k full le y e = any_more (passes_at (may_be_late t y) alts) (passes_at (may_be_late s y) alts) (set_at t choice.0)
+      (set_at s choice.0)
+      (λ i there pass. (
+        has_below t s choice.0 i le there,
+        passes_more (ReadAltVars vs) (may_be_late t y) (may_be_late s y) alts i
+            all_vars (late_below vs t s k full le y y (omega arith)) pass,
+      )) e
 
   read_alike : (s t : Sets) → Agree vs s t → (y : ℕ) → may_read choice alts s y ≡ may_read choice alts t y
   read_alike s t a y = ap (list_any (passes_at (may_be_late s y) alts)) (set_alike vs s t a choice h.of_choice)
-      ∙ any_agree (passes_at (may_be_late s y) alts) (passes_at (may_be_late t y) alts) (set_at t choice.0) (λ i. passes_agree (may_be_late s y) (may_be_late t y) alts i
+      ∙ any_agree (passes_at (may_be_late s y) alts) (passes_at (may_be_late t y) alts) (set_at t choice.0)
+      (λ i. passes_agree (may_be_late s y) (may_be_late t y) alts i
       (map_all (ReadAltVars vs) (λ (b : ReadAlt). may_be_late s y b ≡ may_be_late t y b) (late_alike vs s t a y y refl) alts all_vars))
 
   soon_lawful : LawfulTest vs (soon_test on choice alts)
@@ -129,41 +146,55 @@ module _ (vs : List VarId) (user : At) (on : Act) (choice : VarId) (alts : List 
   f2 = choice_lawful vs on choice (reads_can user alts) h.of_on h.of_choice can_lawful (places_in alts)
 
   pub reads_lawful : Lawful vs (reads_steps user on choice alts)
-  reads_lawful = lawful_then vs (at_cut (soon_test on choice alts) user) (choice_steps on choice (reads_can user alts) (places_in alts)) f1 f2
+  reads_lawful = lawful_then vs (at_cut (soon_test on choice alts) user)
+      (choice_steps on choice (reads_can user alts) (places_in alts)) f1 f2
 
   -- the definer that is chosen
-  late : (x : List ℕ) → reads_holds user on choice alts x ≡ true → is_active on x ≡ true → passes_at (is_late (at_value user x) x) alts (get_or x choice.0 0) ≡ true
+  late : (x : List ℕ) → reads_holds user on choice alts x ≡ true → is_active on x ≡ true → passes_at (is_late (at_value user x) x) alts
+      (get_or x choice.0 0) ≡ true
   late x holds is = or_not (is_active on x) (passes_at (is_late (at_value user x) x) alts (get_or x choice.0 0)) holds is
 
-  soon_keeps : (m : Sets) (x : List ℕ) → HasVars vs m → IsIn x m → reads_holds user on choice alts x ≡ true → soon_test on choice alts m (at_value user x) ≡ true
+  soon_keeps : (m : Sets) (x : List ℕ) → HasVars vs m → IsIn x m → reads_holds user on choice alts x ≡ true → soon_test on choice alts
+      m (at_value user x) ≡ true
   soon_keeps m x k there holds = not_or (sure on m) (nat_le (2 ^ 32) (at_value user x) || may_read choice alts m (at_value user x)) (λ is.
       or_second (nat_le (2 ^ 32) (at_value user x)) (may_read choice alts m (at_value user x))
-      (any_has (passes_at (may_be_late m (at_value user x)) alts) (set_at m choice.0) (get_or x choice.0 0) (there.each choice.0 (has_among vs choice m h.of_choice k))
+      (any_has (passes_at (may_be_late m (at_value user x)) alts) (set_at m choice.0) (get_or x choice.0 0)
+      (there.each choice.0 (has_among vs choice m h.of_choice k))
       (passes_more (ReadAltVars vs) (is_late (at_value user x) x) (may_be_late m (at_value user x)) alts (get_or x choice.0 0) all_vars
-      (late_in vs m x k there (at_value user x) (at_value user x) (omega arith)) (late x holds (sure_active vs m x there k on h.of_on is)))))
+      (late_in vs m x k there (at_value user x) (at_value user x) (omega arith))
+      (late x holds (sure_active vs m x there k on h.of_on is)))))
 
-  can_keeps : (x : List ℕ) → reads_holds user on choice alts x ≡ true → (m : Sets) → HasVars vs m → IsIn x m → is_active on x ≡ true → reads_can user alts m (get_or x choice.0 0) ≡ true
-  can_keeps x holds m k there is = passes_more (ReadAltVars vs) (is_late (at_value user x) x) (may_be_late m (greatest (at_set user m))) alts (get_or x choice.0 0) all_vars
+  can_keeps : (x : List ℕ) → reads_holds user on choice alts x ≡ true → (m : Sets) → HasVars vs m → IsIn x m → is_active on x ≡ true →
+      reads_can user alts m (get_or x choice.0 0) ≡ true
+  can_keeps x holds m k there is = passes_more (ReadAltVars vs) (is_late (at_value user x) x)
+      (may_be_late m (greatest (at_set user m))) alts (get_or x choice.0 0) all_vars
       (late_in vs m x k there (at_value user x) (greatest (at_set user m)) ((value_in vs m x there k user h.of_user).1)) (late x holds is)
 
-  pub reads_keeps : (s : Sets) (x : List ℕ) → HasVars vs s → IsIn x s → reads_holds user on choice alts x ≡ true → Kept x (reads_steps user on choice alts s)
+  pub reads_keeps : (s : Sets) (x : List ℕ) → HasVars vs s → IsIn x s → reads_holds user on choice alts x ≡ true → Kept x
+      (reads_steps user on choice alts s)
   reads_keeps s x k there holds =
       then_kept (choice_steps on choice (reads_can user alts) (places_in alts)) x (at_cut (soon_test on choice alts) user s)
       (at_keeps vs (soon_test on choice alts) user h.of_user s x k there (soon_keeps s x k there holds))
-      (λ m in_m. choice_keeps vs on choice (reads_can user alts) h.of_on h.of_choice can_lawful (places_in alts) m x (known_in vs s m x there in_m k) in_m (can_keeps x holds))
+      (λ m in_m. choice_keeps vs on choice (reads_can user alts) h.of_on h.of_choice can_lawful (places_in alts) m x
+      (known_in vs s m x there in_m k) in_m (can_keeps x holds))
 
-  pub reads_strong : (s : Sets) → HasVars vs s → NoneEmpty s → InWords s → reads_steps user on choice alts s ≡ Some s → ReadsStrong user on choice alts s
+  pub reads_strong : (s : Sets) → HasVars vs s → NoneEmpty s → InWords s → reads_steps user on choice alts s ≡ Some s → ReadsStrong
+      user on choice alts s
   reads_strong s k full words e is i a one got =
-      let two = stable_then vs (at_cut (soon_test on choice alts) user) (choice_steps on choice (reads_can user alts) (places_in alts)) f1 f2 s k full e in
+      let two = stable_then vs (at_cut (soon_test on choice alts) user) (choice_steps on choice (reads_can user alts) (places_in alts))
+      f1 f2 s k full e in
       let here : has (set_at s choice.0) i ≡ true = subst (λ (xs : List ℕ). has xs i ≡ true) (sym one) (has_here i []) in
       let small = words choice.0 i here in
       let within = get_within alts i a got in
       let fits : i < places_in alts = omega (arith, small, within) in
-      let can = choice_strong vs on choice (reads_can user alts) h.of_on h.of_choice can_lawful (places_in alts) s k full two.1 i fits here is in
-      let far : may_be_late s (greatest (at_set user s)) a ≡ true = sym (passes_get (may_be_late s (greatest (at_set user s))) alts i a got) ∙ can in
+      let can = choice_strong vs on choice (reads_can user alts) h.of_on h.of_choice can_lawful (places_in alts) s k full two.1 i fits
+      here is in
+      let far : may_be_late s (greatest (at_set user s)) a ≡ true = sym
+      (passes_get (may_be_late s (greatest (at_set user s))) alts i a got) ∙ can in
       found (at user refl h.of_user two.0 far)
     where
-      at : (to : At) → user ≡ to → AllAmong vs (at_vars to) → at_cut (soon_test on choice alts) to s ≡ Some s → may_be_late s (greatest (at_set user s)) a ≡ true
+      at : (to : At) → user ≡ to → AllAmong vs (at_vars to) → at_cut (soon_test on choice alts) to s ≡ Some s → may_be_late s
+          (greatest (at_set user s)) a ≡ true
           → may_be_late s (least (at_set user s)) a ≡ true
       at (Const n) same all stays far =
           let low = ap (λ (t : At). least (at_set t s)) same in
@@ -175,16 +206,19 @@ module _ (vs : List VarId) (user : At) (on : Act) (choice : VarId) (alts : List 
           let some = full v.0 within in
           let y = least (set_at s v.0) in
           let there = least_in (set_at s v.0) some in
-          let pass = or_not (sure on s) (nat_le (2 ^ 32) y || may_read choice alts s y) (passes_all (soon_test on choice alts s) v.0 s within stays y there) is in
+          let pass = or_not (sure on s) (nat_le (2 ^ 32) y || may_read choice alts s y)
+          (passes_all (soon_test on choice alts s) v.0 s within stays y there) is in
           let small = words v.0 y there in
           let big : nat_le (2 ^ 32) y ≡ false = grind (arith, nat_tests, small) in
           let read : may_read choice alts s y ≡ true = or_last (nat_le (2 ^ 32) y) (may_read choice alts s y) big pass in
-          let only = only_here (passes_at (may_be_late s y) alts) i (subst (λ (xs : List ℕ). list_any (passes_at (may_be_late s y) alts) xs ≡ true) one read) in
+          let only = only_here (passes_at (may_be_late s y) alts) i
+          (subst (λ (xs : List ℕ). list_any (passes_at (may_be_late s y) alts) xs ≡ true) one read) in
           let low : may_be_late s y a ≡ true = sym (passes_get (may_be_late s y) alts i a got) ∙ only in
           subst (λ (t : At). may_be_late s (least (at_set t s)) a ≡ true) (sym same) low
 
       found : may_be_late s (least (at_set user s)) a ≡ true
-          → (n : ℕ) × (g : ℕ) × (has (act_set a.on s) n ≡ true) × (slice_get a.gaps n ≡ Some g) × (least (at_set a.at s) + g ≤ least (at_set user s))
+          → (n : ℕ) × (g : ℕ) × (has (act_set a.on s) n ≡ true) × (slice_get a.gaps n ≡ Some g) ×
+          (least (at_set a.at s) + g ≤ least (at_set user s))
       found f =
           let r = any_find (λ n. passes_at (λ g. nat_le (least (at_set a.at s) + g) (least (at_set user s))) a.gaps n) (act_set a.on s) f in
           let q = passes_find (λ g. nat_le (least (at_set a.at s) + g) (least (at_set user s))) a.gaps r.0 r.2 in

@@ -15,7 +15,8 @@ passes_past p (x ∷ xs) zero le = absurd (omega (arith, le))
 passes_past p (x ∷ xs) (suc i) le = passes_past p xs i (omega (arith, le))
 
 -- tests that agree at each entry agree at a place
-pub passes_agree : {A : Type 0} (p q : A → Bool) (xs : List A) (i : ℕ) → AllByRecursion (λ a. p a ≡ q a) xs → passes_at p xs i ≡ passes_at q xs i
+pub passes_agree : {A : Type 0} (p q : A → Bool) (xs : List A) (i : ℕ) → AllByRecursion (λ a. p a ≡ q a) xs → passes_at p xs i ≡
+    passes_at q xs i
 passes_agree p q [] i all = refl
 passes_agree p q (x ∷ xs) zero all = all.0
 passes_agree p q (x ∷ xs) (suc i) all = passes_agree p q xs i all.1
@@ -31,13 +32,15 @@ passes_none p (x ∷ xs) zero e = absurd (cc e)
 passes_none p (x ∷ xs) (suc i) e = passes_none p xs i e
 
 -- what passes is an entry
-pub passes_find : {A : Type 0} (p : A → Bool) (xs : List A) (i : ℕ) → passes_at p xs i ≡ true → (a : A) × (slice_get xs i ≡ Some a) × (p a ≡ true)
+pub passes_find : {A : Type 0} (p : A → Bool) (xs : List A) (i : ℕ) → passes_at p xs i ≡ true → (a : A) × (slice_get xs i ≡ Some a) ×
+    (p a ≡ true)
 passes_find p [] i e = absurd (cc e)
 passes_find p (x ∷ xs) zero e = (x, refl, e)
 passes_find p (x ∷ xs) (suc i) e = passes_find p xs i e
 
 -- a weaker test passes too
-pub passes_more : {A : Type 0} (P : A → Type 0) (p q : A → Bool) (xs : List A) (i : ℕ) → AllByRecursion P xs → ((a : A) → P a → p a ≡ true → q a ≡ true) → passes_at p xs i ≡ true
+pub passes_more : {A : Type 0} (P : A → Type 0) (p q : A → Bool) (xs : List A) (i : ℕ) → AllByRecursion P xs →
+    ((a : A) → P a → p a ≡ true → q a ≡ true) → passes_at p xs i ≡ true
     → passes_at q xs i ≡ true
 passes_more P p q [] i all h e = absurd (cc e)
 passes_more P p q (x ∷ xs) zero all h e = h x all.0 e

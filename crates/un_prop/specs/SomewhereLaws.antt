@@ -29,7 +29,8 @@ any_has p (x ∷ xs) y h k = elim (has-cons x y xs h) [
     or_true false c h = h
 
 -- more pass in more values
-pub any_more : (p q : ℕ → Bool) (xs ys : List ℕ) → ((y : ℕ) → has xs y ≡ true → p y ≡ true → (has ys y ≡ true) × (q y ≡ true)) → list_any p xs ≡ true → list_any q ys ≡ true
+pub any_more : (p q : ℕ → Bool) (xs ys : List ℕ) → ((y : ℕ) → has xs y ≡ true → p y ≡ true → (has ys y ≡ true) × (q y ≡ true)) →
+    list_any p xs ≡ true → list_any q ys ≡ true
 any_more p q xs ys h e = let r = any_find p xs e in let k = h r.0 r.1 r.2 in any_has q ys r.0 k.0 k.1
 
 pub any_agree : (p q : ℕ → Bool) (xs : List ℕ) → ((y : ℕ) → p y ≡ q y) → list_any p xs ≡ list_any q xs
@@ -50,7 +51,8 @@ any_none p xs n le = by (any_before p xs n) refl
 pub any_whole : (p : ℕ → Bool) (xs : List ℕ) (n : ℕ) → greatest xs < n → any_before p xs n ≡ list_any p xs
 any_whole p xs n lt = same_test (any_before p xs n) (list_any p xs)
     (any_more (λ z. nat_lt z n && p z) p xs xs (λ y h k. (h, (and_true (nat_lt y n) (p y) k).1)))
-    (any_more p (λ z. nat_lt z n && p z) xs xs (λ y h k. (h, both_true (nat_lt y n) (p y) (let le = has-fold_max 0 xs y h in grind (arith, nat_tests, lt, le)) k)))
+    (any_more p (λ z. nat_lt z n && p z) xs xs
+    (λ y h k. (h, both_true (nat_lt y n) (p y) (let le = has-fold_max 0 xs y h in grind (arith, nat_tests, lt, le)) k)))
 
 pub any_next : (p : ℕ → Bool) (xs : List ℕ) (n : ℕ) → any_before p xs (n + 1) ≡ (any_before p xs n || (has xs n && p n))
 any_next p xs n = same_test (any_before p xs (n + 1)) (any_before p xs n || (has xs n && p n)) forth back
@@ -77,28 +79,37 @@ any_next p xs n = same_test (any_before p xs (n + 1)) (any_before p xs n || (has
         less y t = grind (arith, nat_tests, t)
 
         at : (y : ℕ) → has xs y ≡ true → p y ≡ true → (y < n) ⊎ (y ≡ n) → (any_before p xs n || (has xs n && p n)) ≡ true
-        at y h k (inl lt) = or_left (any_before p xs n) (has xs n && p n) (any_has (λ z. nat_lt z n && p z) xs y h (both_true (nat_lt y n) (p y) (grind (arith, nat_tests, lt)) k))
-        at y h k (inr is) = or_right (any_before p xs n) (has xs n && p n) (both_true (has xs n) (p n) (subst (λ (z : ℕ). has xs z ≡ true) is h) (subst (λ (z : ℕ). p z ≡ true) is k))
+        at y h k (inl lt) = or_left (any_before p xs n) (has xs n && p n)
+            (any_has (λ z. nat_lt z n && p z) xs y h (both_true (nat_lt y n) (p y) (grind (arith, nat_tests, lt)) k))
+        at y h k (inr is) = or_right (any_before p xs n) (has xs n && p n)
+            (both_true (has xs n) (p n) (subst (λ (z : ℕ). has xs z ≡ true) is h) (subst (λ (z : ℕ). p z ≡ true) is k))
 
     back : (any_before p xs n || (has xs n && p n)) ≡ true → any_before p xs (n + 1) ≡ true
     back e = elim (or_cases (any_before p xs n) (has xs n && p n) e) [
-      | inl some ↦ any_more (λ z. nat_lt z n && p z) (λ z. nat_lt z (n + 1) && p z) xs xs (λ y h k. (let two = and_true (nat_lt y n) (p y) k in (h, both_true (nat_lt y (n + 1)) (p y) (let t = two.0 in grind (arith, nat_tests, t)) two.1))) some
-      | inr here ↦ (let two = and_true (has xs n) (p n) here in any_has (λ z. nat_lt z (n + 1) && p z) xs n two.0 (both_true (nat_lt n (n + 1)) (p n) (grind (arith, nat_tests)) two.1))
+      | inl some ↦ any_more (λ z. nat_lt z n && p z) (λ z. nat_lt z (n + 1) && p z) xs xs
+          (λ y h k. (let two = and_true (nat_lt y n) (p y) k in
+          (h, both_true (nat_lt y (n + 1)) (p y) (let t = two.0 in grind (arith, nat_tests, t)) two.1))) some
+      | inr here ↦ (let two = and_true (has xs n) (p n) here in any_has (λ z. nat_lt z (n + 1) && p z) xs n two.0
+          (both_true (nat_lt n (n + 1)) (p n) (grind (arith, nat_tests)) two.1))
     ]
 
 -- a value that is there joins what is known of those below it; one that is not there changes nothing
-pub next_there : (p : ℕ → Bool) (xs : List ℕ) (n : ℕ) (r a b : Bool) → has xs n ≡ true → r ≡ (a || b) → a ≡ any_before p xs n → b ≡ p n → r ≡ any_before p xs (n + 1)
-next_there p xs n r a b h e f g = e ∙ (ap (λ (c : Bool). c || b) f ∙ (ap (λ (c : Bool). any_before p xs n || c) (g ∙ sym (ap (λ (c : Bool). c && p n) h)) ∙ sym (any_next p xs n)))
+pub next_there : (p : ℕ → Bool) (xs : List ℕ) (n : ℕ) (r a b : Bool) → has xs n ≡ true → r ≡ (a || b) → a ≡ any_before p xs n → b ≡ p n
+    → r ≡ any_before p xs (n + 1)
+next_there p xs n r a b h e f g = e ∙ (ap (λ (c : Bool). c || b) f ∙
+    (ap (λ (c : Bool). any_before p xs n || c) (g ∙ sym (ap (λ (c : Bool). c && p n) h)) ∙ sym (any_next p xs n)))
 
 pub next_absent : (p : ℕ → Bool) (xs : List ℕ) (n : ℕ) (a : Bool) → has xs n ≡ false → a ≡ any_before p xs n → a ≡ any_before p xs (n + 1)
-next_absent p xs n a h e = e ∙ (sym (or_none (any_before p xs n)) ∙ (ap (λ (c : Bool). any_before p xs n || c) (sym (ap (λ (c : Bool). c && p n) h)) ∙ sym (any_next p xs n)))
+next_absent p xs n a h e = e ∙ (sym (or_none (any_before p xs n)) ∙
+    (ap (λ (c : Bool). any_before p xs n || c) (sym (ap (λ (c : Bool). c && p n) h)) ∙ sym (any_next p xs n)))
   where
     or_none : (b : Bool) → (b || false) ≡ b
     or_none true = refl
     or_none false = refl
 
 -- nothing passes below n + 1, where nothing does below n, and n is not there or does not pass
-pub none_next : (p : ℕ → Bool) (xs : List ℕ) (n : ℕ) → any_before p xs n ≡ false → (has xs n ≡ false) ⊎ (p n ≡ false) → any_before p xs (n + 1) ≡ false
+pub none_next : (p : ℕ → Bool) (xs : List ℕ) (n : ℕ) → any_before p xs n ≡ false → (has xs n ≡ false) ⊎ (p n ≡ false) → any_before p xs
+    (n + 1) ≡ false
 none_next p xs n e k = any_next p xs n ∙ (ap (λ (b : Bool). b || (has xs n && p n)) e ∙ neither k)
   where
     refused : (b : Bool) → (b && false) ≡ false

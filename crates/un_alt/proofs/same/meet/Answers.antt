@@ -12,7 +12,8 @@ loop-y-init c =
 pub returns-then-has-2 : goal.returns-then-has-2
 returns-then-has-2 c =
     let s = c.args.w.now.store.now.sets in
-    sym (any_has (has (set_at s c.args.to.0)) (set_at s c.args.v.0) c.loop-y.y (sym c.has.ensures ∙ c.if-has.true) (sym c.has-then-has.ensures ∙ c.if-has-2.true))
+    sym (any_has (has (set_at s c.args.to.0)) (set_at s c.args.v.0) c.loop-y.y (sym c.has.ensures ∙ c.if-has.true)
+    (sym c.has-then-has.ensures ∙ c.if-has-2.true))
 
 pub loop-y-preserved : goal.loop-y-preserved
 loop-y-preserved c =

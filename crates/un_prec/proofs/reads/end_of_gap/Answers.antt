@@ -4,7 +4,8 @@ use Rattle.un_prec.proofs.reads.end_of_gap.Goals as goal
 
 pub returns-then-n-gaps : goal.returns-then-n-gaps
 returns-then-n-gaps c t =
-    ap (λ (n : ℕ). nat_le (n + c.from-then-n-gaps.result) t) c.from.ensures ∙ (ap (λ (n : ℕ). nat_le (c.args.least + n) t) c.from-then-n-gaps.ensures
+    ap (λ (n : ℕ). nat_le (n + c.from-then-n-gaps.result) t) c.from.ensures ∙
+    (ap (λ (n : ℕ). nat_le (c.args.least + n) t) c.from-then-n-gaps.ensures
     ∙ sym (passes_within (λ g. nat_le (c.args.least + g) t) c.args.gaps.now c.args.n 0 c.if-n-gaps.true))
 
 pub returns-else-n-gaps : goal.returns-else-n-gaps

@@ -5,7 +5,8 @@ use Rattle.un_prec.specs.Reads.{may_be_late, ReadAltVars}
 use Rattle.un_prec.proofs.reads.first_at.Goals as goal
 
 pub first_late-requires-clause-vars : goal.first_late-requires-clause-vars
-first_late-requires-clause-vars c = subst (λ (a : ReadAlt). ReadAltVars c.args.w.now.vars.now a) (sym c.index-alts-i.is) (c.requires.vars c.args.i c.index-alts-i.result c.if-i-alts.true)
+first_late-requires-clause-vars c = subst (λ (a : ReadAlt). ReadAltVars c.args.w.now.vars.now a) (sym c.index-alts-i.is)
+    (c.requires.vars c.args.i c.index-alts-i.result c.if-i-alts.true)
 
 pub returns-then-i-alts : goal.returns-then-i-alts
 returns-then-i-alts c t =

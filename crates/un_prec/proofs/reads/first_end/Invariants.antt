@@ -6,4 +6,5 @@ use Rattle.un_prop.specs.Somewhere.{any_before, is_by}
 use Rattle.un_prec.proofs.reads.first_end.Given as goal
 
 abbrev pub invariant-loop-n : goal.invariant-loop-n
-invariant-loop-n l = (t : ℕ) → is_by l.first t ≡ any_before (λ n. passes_at (λ g. nat_le (l.least + g) t) l.gaps n) (set_at l.w.store.now.sets l.v.0) l.n
+invariant-loop-n l = (t : ℕ) → is_by l.first t ≡ any_before (λ n. passes_at (λ g. nat_le (l.least + g) t) l.gaps n)
+    (set_at l.w.store.now.sets l.v.0) l.n

@@ -12,13 +12,15 @@ pub min-requires-clause-there : goal.min-requires-clause-there
 min-requires-clause-there c = has_among c.args.w.now.vars.now c.args.choice c.args.w.now.store.now.sets c.requires.choice c.requires.known
 
 pub min-requires-clause-some : goal.min-requires-clause-some
-min-requires-clause-some c = c.requires.live c.args.choice.0 (has_among c.args.w.now.vars.now c.args.choice c.args.w.now.store.now.sets c.requires.choice c.requires.known)
+min-requires-clause-some c = c.requires.live c.args.choice.0
+    (has_among c.args.w.now.vars.now c.args.choice c.args.w.now.store.now.sets c.requires.choice c.requires.known)
 
 pub max-requires-clause-there : goal.max-requires-clause-there
 max-requires-clause-there c = has_among c.args.w.now.vars.now c.args.choice c.args.w.now.store.now.sets c.requires.choice c.requires.known
 
 pub max-requires-clause-some : goal.max-requires-clause-some
-max-requires-clause-some c = c.requires.live c.args.choice.0 (has_among c.args.w.now.vars.now c.args.choice c.args.w.now.store.now.sets c.requires.choice c.requires.known)
+max-requires-clause-some c = c.requires.live c.args.choice.0
+    (has_among c.args.w.now.vars.now c.args.choice c.args.w.now.store.now.sets c.requires.choice c.requires.known)
 
 pub has-requires : goal.has-requires
 has-requires c = has_among c.args.w.now.vars.now c.args.choice c.args.w.now.store.now.sets c.requires.choice c.requires.known
@@ -26,7 +28,8 @@ has-requires c = has_among c.args.w.now.vars.now c.args.choice c.args.w.now.stor
 pub loop-i-init : goal.loop-i-init
 loop-i-init c t =
     let s = c.args.w.now.store.now.sets in
-    sym (any_none (passes_at (may_be_late s t) c.args.alts.now) (set_at s c.args.choice.0) c.from-low.result (omega (arith, c.from-low.ensures, c.min.ensures)))
+    sym (any_none (passes_at (may_be_late s t) c.args.alts.now) (set_at s c.args.choice.0) c.from-low.result
+    (omega (arith, c.from-low.ensures, c.min.ensures)))
 
 pub loop-i-preserved : goal.loop-i-preserved
 loop-i-preserved c t =
@@ -35,7 +38,8 @@ loop-i-preserved c t =
     let xs = set_at s c.args.choice.0 in
     let i = c.loop-i.i in
     elim c.if-has.branch [
-      | then-has w ↦ next_there p xs i _ (is_by c.loop-i.first t) (is_by w.first_at-next.result t) (sym c.has.ensures ∙ w.if-has.true) (ap (λ f. is_by f t) w.first-is ∙ w.sooner-first.ensures t) (c.loop-i.invariant t) (w.first_at-next.ensures t)
+      | then-has w ↦ next_there p xs i _ (is_by c.loop-i.first t) (is_by w.first_at-next.result t) (sym c.has.ensures ∙ w.if-has.true)
+          (ap (λ f. is_by f t) w.first-is ∙ w.sooner-first.ensures t) (c.loop-i.invariant t) (w.first_at-next.ensures t)
       | else-has w ↦ next_absent p xs i _ (sym c.has.ensures ∙ w.if-has.false) (ap (λ f. is_by f t) w.first-is ∙ c.loop-i.invariant t)
     ]
 

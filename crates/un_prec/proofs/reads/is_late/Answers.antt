@@ -10,7 +10,8 @@ returns-then-n-gaps c =
     let x = c.args.fixed.now in
     let gaps = c.as_slice-gaps.result.now in
     let t = c.args.t in
-    ap (λ (n : ℕ). nat_le (n + c.from.result) c.from-then-n-gaps.result) (c.from-at.ensures ∙ c.time.ensures) ∙ (ap (λ (n : ℕ). nat_le (at_value a.at x + n) c.from-then-n-gaps.result) c.from.ensures
+    ap (λ (n : ℕ). nat_le (n + c.from.result) c.from-then-n-gaps.result) (c.from-at.ensures ∙ c.time.ensures) ∙
+    (ap (λ (n : ℕ). nat_le (at_value a.at x + n) c.from-then-n-gaps.result) c.from.ensures
     ∙ (ap (nat_le (at_value a.at x + get_or gaps c.number-n.result 0)) c.from-then-n-gaps.ensures
     ∙ (sym (passes_within (λ g. nat_le (at_value a.at x + g) t) gaps c.number-n.result 0 c.if-n-gaps.true)
     ∙ (ap (λ gs. passes_at (λ g. nat_le (at_value a.at x + g) t) gs c.number-n.result) c.as_slice-gaps.ensures

@@ -7,19 +7,24 @@ use Rattle.un_prop.proofs.place.any_place.Goals as goal
 use Rattle.un_prop.proofs.place.any_place.Goals.{then-has+else-can_choose, else-has}
 
 pub min-requires-clause-there : goal.min-requires-clause-there
-min-requires-clause-there g c = has_among (g.C.Predicate.scope c.args.c.now) c.args.choice c.args.w.now.store.now.sets c.requires.of_choice c.requires.known
+min-requires-clause-there g c = has_among (g.C.Predicate.scope c.args.c.now) c.args.choice c.args.w.now.store.now.sets
+    c.requires.of_choice c.requires.known
 
 pub min-requires-clause-some : goal.min-requires-clause-some
-min-requires-clause-some g c = c.requires.live c.args.choice.0 (has_among (g.C.Predicate.scope c.args.c.now) c.args.choice c.args.w.now.store.now.sets c.requires.of_choice c.requires.known)
+min-requires-clause-some g c = c.requires.live c.args.choice.0
+    (has_among (g.C.Predicate.scope c.args.c.now) c.args.choice c.args.w.now.store.now.sets c.requires.of_choice c.requires.known)
 
 pub max-requires-clause-there : goal.max-requires-clause-there
-max-requires-clause-there g c = has_among (g.C.Predicate.scope c.args.c.now) c.args.choice c.args.w.now.store.now.sets c.requires.of_choice c.requires.known
+max-requires-clause-there g c = has_among (g.C.Predicate.scope c.args.c.now) c.args.choice c.args.w.now.store.now.sets
+    c.requires.of_choice c.requires.known
 
 pub max-requires-clause-some : goal.max-requires-clause-some
-max-requires-clause-some g c = c.requires.live c.args.choice.0 (has_among (g.C.Predicate.scope c.args.c.now) c.args.choice c.args.w.now.store.now.sets c.requires.of_choice c.requires.known)
+max-requires-clause-some g c = c.requires.live c.args.choice.0
+    (has_among (g.C.Predicate.scope c.args.c.now) c.args.choice c.args.w.now.store.now.sets c.requires.of_choice c.requires.known)
 
 pub has-requires : goal.has-requires
-has-requires g c = has_among (g.C.Predicate.scope c.args.c.now) c.args.choice c.args.w.now.store.now.sets c.requires.of_choice c.requires.known
+has-requires g c = has_among (g.C.Predicate.scope c.args.c.now) c.args.choice c.args.w.now.store.now.sets c.requires.of_choice
+    c.requires.known
 
 pub loop-y-init : goal.loop-y-init
 loop-y-init g c =
@@ -29,7 +34,8 @@ loop-y-init g c =
 pub returns-then-can_choose : goal.returns-then-can_choose
 returns-then-can_choose g c =
     let s = c.args.w.now.store.now.sets in
-    sym (any_has (g.C.Choice.can c.args.c.now s) (set_at s c.args.choice.0) c.loop-y.y (sym c.has.ensures ∙ c.if-has.true) (sym c.can_choose.ensures ∙ c.if-can_choose.true))
+    sym (any_has (g.C.Choice.can c.args.c.now s) (set_at s c.args.choice.0) c.loop-y.y (sym c.has.ensures ∙ c.if-has.true)
+    (sym c.can_choose.ensures ∙ c.if-can_choose.true))
 
 none : (a b d : Bool) → a ≡ false → (b && d) ≡ false → (a || (b && d)) ≡ false
 none a b d h k = ap (λ (x : Bool). x || (b && d)) h ∙ k

@@ -21,7 +21,8 @@ keep_le-requires-clause-there g c =
     has_among vs c.in-Var.v c.args.w.now.store.now.sets (in_window vs c.in-Var.v c.args.on c.in-Var.is c.requires.of_on) c.requires.known
 
 pub keep_le-requires-clause-lent : goal.keep_le-requires-clause-lent
-keep_le-requires-clause-lent g c = in_window c.args.w.now.vars.now c.in-Var.v c.args.on c.in-Var.is (subst (λ (us : List VarId). AllAmong us (act_vars c.args.on)) (sym c.requires.vars) c.requires.of_on)
+keep_le-requires-clause-lent g c = in_window c.args.w.now.vars.now c.in-Var.v c.args.on c.in-Var.is
+    (subst (λ (us : List VarId). AllAmong us (act_vars c.args.on)) (sym c.requires.vars) c.requires.of_on)
 
 pub returns-then-any_place-clause-step : goal.returns-then-any_place-clause-step
 returns-then-any_place-clause-step g c =
@@ -29,7 +30,8 @@ returns-then-any_place-clause-step g c =
     let s = c.args.w.now.store.now in
     let can = g.C.Choice.can c.args.c.now in
     let v = c.args.choice in
-    stepped_same c.args.w.now.vars.now (act_cut (idle_test v can) c.args.on) s c.args.before (λ live. act_same vs (idle_test v can) c.args.on s.sets c.requires.of_on c.requires.known live
+    stepped_same c.args.w.now.vars.now (act_cut (idle_test v can) c.args.on) s c.args.before
+    (λ live. act_same vs (idle_test v can) c.args.on s.sets c.requires.of_on c.requires.known live
     (λ y. idle_not (list_any (can s.sets) (set_at s.sets v.0)) y (sym c.any_place.ensures ∙ c.if-any_place.true)))
 
 pub returns-else-any_place-clause-step : goal.returns-else-any_place-clause-step
@@ -37,7 +39,8 @@ returns-else-any_place-clause-step g c =
     let s = c.args.w.now.store.now in
     let can = g.C.Choice.can c.args.c.now in
     let v = c.args.choice in
-    stepped_by c.args.w.now.vars.now (act_cut (idle_test v can) c.args.on) (cut_by (λ y. nat_le y 0) c.in-Var.v.0) s c.keep_le.new.w.store.now c.args.before c.keep_le.result
+    stepped_by c.args.w.now.vars.now (act_cut (idle_test v can) c.args.on) (cut_by (λ y. nat_le y 0) c.in-Var.v.0) s
+    c.keep_le.new.w.store.now c.args.before c.keep_le.result
     (λ live. act_is (idle_test v can) (λ y. nat_le y 0) c.args.on c.in-Var.v s.sets c.in-Var.is
     (λ y. idle_is (list_any (can s.sets) (set_at s.sets v.0)) y (sym c.any_place.ensures ∙ c.if-any_place.false)))
     c.keep_le.ensures.step

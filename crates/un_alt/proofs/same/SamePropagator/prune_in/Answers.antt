@@ -30,7 +30,10 @@ returns-clause-prune c =
     let t = same_holds p.choice p.regs p.to in
     let f = λ (n : ℕ). choice_cut Always (Some p.choice) (same_can p.regs p.to) n in
     let n : c.places-n.result ≡ places_in p.regs = c.places-n.ensures ∙ ap places_in c.as_slice.ensures in
-    let step = subst (λ (m : ℕ). Stepped p.vars (f m) old mid Same did) n (subst (λ (us : List VarId). Stepped us (f c.places-n.result) old mid Same did) c.requires.vars c.keep_chosen-did.ensures.step) in
-    let last = subst (λ (us : List VarId). Goes us (last_cut p.vars t) mid new did c.check_last.result) (ap (λ r. r.now) c.keep_chosen-did.ensures.vars ∙ c.requires.vars) c.check_last.ensures.goes in
-    checked p.vars p.vars (λ s. option_and_then (last_cut p.vars t) (f (places_in p.regs) s)) old new c.check_last.result refl c.requires.live
+    let step = subst (λ (m : ℕ). Stepped p.vars (f m) old mid Same did) n
+    (subst (λ (us : List VarId). Stepped us (f c.places-n.result) old mid Same did) c.requires.vars c.keep_chosen-did.ensures.step) in
+    let last = subst (λ (us : List VarId). Goes us (last_cut p.vars t) mid new did c.check_last.result)
+    (ap (λ r. r.now) c.keep_chosen-did.ensures.vars ∙ c.requires.vars) c.check_last.ensures.goes in
+    checked p.vars p.vars (λ s. option_and_then (last_cut p.vars t) (f (places_in p.regs) s)) old new c.check_last.result refl
+    c.requires.live
     (goes_chain p.vars (f (places_in p.regs)) (last_cut p.vars t) old mid new Same did c.check_last.result step last)

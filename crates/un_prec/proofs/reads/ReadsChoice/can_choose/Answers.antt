@@ -7,9 +7,11 @@ use Rattle.un_prec.specs.Reads.{ReadAltVars}
 use Rattle.un_prec.proofs.reads.ReadsChoice.can_choose.Goals as goal
 
 pub greatest_time-requires-clause-known : goal.greatest_time-requires-clause-known
-greatest_time-requires-clause-known c = let p = c.args.self.now in known_of p.vars (at_vars p.user) c.args.w.now.store.now.sets p.among.of_user c.requires.known
+greatest_time-requires-clause-known c = let p = c.args.self.now in known_of p.vars (at_vars p.user) c.args.w.now.store.now.sets
+    p.among.of_user c.requires.known
 
 pub first_at-requires-clause-vars : goal.first_at-requires-clause-vars
 first_at-requires-clause-vars c =
     let p = c.args.self.now in
-    subst (λ (alts : List ReadAlt). All (ReadAltVars c.args.w.now.vars.now) alts) (sym c.as_slice.ensures) (subst (λ (us : List VarId). All (ReadAltVars us) p.alts) (sym c.requires.vars) p.among.of_alts)
+    subst (λ (alts : List ReadAlt). All (ReadAltVars c.args.w.now.vars.now) alts) (sym c.as_slice.ensures)
+    (subst (λ (us : List VarId). All (ReadAltVars us) p.alts) (sym c.requires.vars) p.among.of_alts)

@@ -27,7 +27,8 @@ returns-clause-prune c =
     let e1 = ap (λ r. r.now) c.keep_soon-first.ensures.vars ∙ c.requires.vars in
     let e2 = ap (λ r. r.now) c.keep_choice-did.ensures.vars ∙ e1 in
     let step1 = subst (λ (us : List VarId). Stepped us f old one Same first) c.requires.vars c.keep_soon-first.ensures.step in
-    let step2 = subst (λ (m : ℕ). Stepped p.vars (g m) one mid first did) n (subst (λ (us : List VarId). Stepped us (g c.places-n.result) one mid first did) e1 c.keep_choice-did.ensures.step) in
+    let step2 = subst (λ (m : ℕ). Stepped p.vars (g m) one mid first did) n
+    (subst (λ (us : List VarId). Stepped us (g c.places-n.result) one mid first did) e1 c.keep_choice-did.ensures.step) in
     let last = subst (λ (us : List VarId). Goes us (last_cut p.vars t) mid new did c.check_last.result) e2 c.check_last.ensures.goes in
     let steps = reads_steps p.user p.user_on p.choice p.alts in
     checked p.vars p.vars (λ s. option_and_then (last_cut p.vars t) (steps s)) old new c.check_last.result refl c.requires.live
