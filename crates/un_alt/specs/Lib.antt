@@ -1,5 +1,3 @@
-pub mod ChoiceLaws
-pub mod Choices
 pub mod Chosen
 pub mod ChosenLaws
 pub mod Same
@@ -12,3 +10,7 @@ pub mod Registers
 pub mod RegisterLaws
 pub mod Spaces
 pub mod SpacesLaws
+pub mod Frame
+pub mod FrameLaws
+pub mod Filters
+pub mod FilterLaws

@@ -2,6 +2,8 @@
 #![tactic(auto)]
 
 pub mod chosen;
+mod filter;
+pub mod frame;
 pub mod home;
 mod registers;
 pub mod same;

@@ -19,7 +19,7 @@ use Rattle.un_prop.specs.Among.{among}
 use Rattle.un_prop.specs.AmongLaws.{has_among, same_var, in_list}
 use Rattle.std.proofs.lemmas.List.Elements.{All-contains}
 use Rattle.un_prop.specs.Looks.{InWords}
-use Rattle.un_prec.specs.StepLaws.{least_in}
+use Rattle.un_prop.specs.ChainLaws.{least_in}
 use Rattle.un_prec.specs.declared.below.Weighted.{Weighted}
 use Rattle.un_prec.specs.Below.{cost_of, cost_at, least_cost, below_holds, below_test, below_steps, BelowVars, BelowStrong}
 

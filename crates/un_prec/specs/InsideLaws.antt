@@ -8,9 +8,11 @@ use Rattle.un_prop.specs.Lawful.{Lawful}
 use Rattle.un_prop.specs.Steps.{lawful_then}
 use Rattle.un_prop.specs.Looks.{InWords, sure}
 use Rattle.un_prop.specs.declared.act.Act.{Act}
-use Rattle.un_prec.specs.LinkLaws.{link_looks, firsts}
+use Rattle.un_prec.specs.LinkLaws.{link_looks}
+use Rattle.un_prop.specs.LookLaws.{firsts}
 use Rattle.un_prec.specs.Links.{link_holds, link_steps}
-use Rattle.un_prec.specs.StepLaws.{link_lawful, link_keeps, link_strong, then_kept, known_in, stable_then}
+use Rattle.un_prec.specs.StepLaws.{link_lawful, link_keeps, link_strong}
+use Rattle.un_prop.specs.ChainLaws.{then_kept, known_in, stable_then}
 use Rattle.un_prec.specs.Inside.{start_link, end_link, inside_holds, inside_steps, InsideVars, InsideStrong}
 
 module _ (vs : List VarId) (at : VarId) (on : Act) (end : VarId) (h : InsideVars vs at on end) where

@@ -15,7 +15,8 @@ use Rattle.un_prop.specs.declared.act.Act.TheVariants.{Always}
 use Rattle.un_prop.specs.declared.act.At.TheVariants.{Const, Var}
 use Rattle.un_prec.specs.LinkLaws.{at_lawful, at_keeps, close_lawful, close_keeps}
 use Rattle.un_prec.specs.Links.{link_holds, link_steps, at_cut, close_test}
-use Rattle.un_prec.specs.StepLaws.{link_lawful, link_keeps, link_strong, then_kept, known_in, stable_then, least_in}
+use Rattle.un_prec.specs.StepLaws.{link_lawful, link_keeps, link_strong}
+use Rattle.un_prop.specs.ChainLaws.{then_kept, known_in, stable_then, least_in}
 use Rattle.un_prec.specs.Inside.{end_link}
 use Rattle.un_prec.specs.Last.{last_holds, last_steps, LastVars, LastStrong}
 

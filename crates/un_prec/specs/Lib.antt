@@ -9,3 +9,5 @@ pub mod Last
 pub mod LastLaws
 pub mod Below
 pub mod BelowLaws
+pub mod Reads
+pub mod ReadsLaws

@@ -13,6 +13,7 @@ use Rattle.un_domains.specs.OrderLaws.{Below-same, le_least, has_here, has_later
 use Rattle.un_prop.specs.Rounds.{HasVars}
 use Rattle.un_prop.specs.Lawful.{Lawful}
 use Rattle.un_prop.specs.Steps.{lawful_then}
+use Rattle.un_prop.specs.ChainLaws.{least_in, then_kept, known_in, stable_then}
 use Rattle.un_prop.specs.Failing.{first_cut}
 use Rattle.un_prop.specs.FailLaws.{first_lawful, first_keeps, first_passes}
 use Rattle.un_prop.specs.LastLaws.{passes_all}
@@ -26,45 +27,8 @@ use Rattle.un_prop.specs.declared.act.At.{At}
 use Rattle.un_prop.specs.declared.act.At.TheVariants.{Const, Var}
 use Rattle.un_prec.specs.declared.link.Link.{Link}
 use Rattle.un_prec.specs.Links.{link_holds, LinkVars, both_sure, at_cut, later_test, earlier_test, apart_test, link_steps, LinkStrong}
-use Rattle.un_prec.specs.LinkLaws.{at_lawful, at_keeps, later_lawful, later_keeps, earlier_lawful, earlier_keeps, apart_lawful, apart_keeps, or_not, both, not_true, is_sure_or, sure_holds, value_in}
-
--- The least value is a value
-
-fold_in : (a : ℕ) (xs : List ℕ) → has (a ∷ xs) (fold min a xs) ≡ true
-fold_in a [] = has_here a []
-fold_in a (y ∷ ys) = elim (has-cons (min a y) (fold min (min a y) ys) ys (fold_in (min a y) ys)) [
-  | inl e ↦ elim (cases_lt a y) [
-    | inl lt ↦ (let is : fold min (min a y) ys ≡ a = omega (arith, e, lt) in subst (λ (n : ℕ). has (a ∷ y ∷ ys) n ≡ true) (sym is) (has_here a (y ∷ ys)))
-    | inr le ↦ (let is : fold min (min a y) ys ≡ y = omega (arith, e, le) in has_later a (fold min (min a y) ys) (y ∷ ys) (subst (λ (n : ℕ). has (y ∷ ys) n ≡ true) (sym is) (has_here y ys)))
-  ]
-  | inr t ↦ has_later a (fold min (min a y) ys) (y ∷ ys) (has_later y (fold min (min a y) ys) ys t)
-]
-
-pub least_in : (xs : List ℕ) → 0 < length xs → has xs (least xs) ≡ true
-least_in [] some = absurd (omega arith)
-least_in (x ∷ xs) some = fold_in x xs
-
--- Two cuts, one after the other
-
-pub then_kept : (g : Sets → Option Sets) (x : List ℕ) (c : Option Sets) → Kept x c → ((m : Sets) → IsIn x m → Kept x (g m)) → Kept x (option_and_then g c)
-then_kept g x None h k = absurd h
-then_kept g x (Some m) h k = k m h
-
-pub known_in : (vs : List VarId) (s m : Sets) (x : List ℕ) → IsIn x s → IsIn x m → HasVars vs s → HasVars vs m
-known_in vs s m x a b k i d lt = (let e = k i d lt in omega (arith, e, a.long, b.long))
-
--- a store that stays through two lawful cuts stays through each
-pub stable_then : (vs : List VarId) (f g : Sets → Option Sets) → Lawful vs f → Lawful vs g → (s : Sets) → HasVars vs s → NoneEmpty s → option_and_then g (f s) ≡ Some s
-    → (f s ≡ Some s) × (g s ≡ Some s)
-stable_then vs f g hf hg s k full e = by (f s) refl (hf.shrinks s k full) e
-  where
-    by : (c : Option Sets) → f s ≡ c → MatchOption c ⊤ (λ m. Below m s × NoneEmpty m) → option_and_then g c ≡ Some s → (f s ≡ Some s) × (g s ≡ Some s)
-    by None is h end = absurd (cc end)
-    by (Some m) is h end =
-        let km : HasVars vs m = λ i d lt. rw h.0.long (k i d lt) in
-        let down : Below s m × NoneEmpty s = subst (λ (c : Option Sets). MatchOption c ⊤ (λ u. Below u m × NoneEmpty u)) end (hg.shrinks m km h.1) in
-        let same : m ≡ s = Below-same m s h.0 down.0 in
-        (is ∙ ap (λ (u : Sets). Some u) same, subst (λ (u : Sets). g u ≡ Some s) same end)
+use Rattle.un_prec.specs.LinkLaws.{at_lawful, at_keeps, later_lawful, later_keeps, earlier_lawful, earlier_keeps, apart_lawful, apart_keeps, is_sure_or, sure_holds}
+use Rattle.un_prop.specs.LookLaws.{or_not, both, not_true, value_in}
 
 -- A link
 

@@ -6,4 +6,5 @@ pub mod below;
 pub mod inside;
 pub mod last;
 pub mod link;
+pub mod reads;
 pub mod rules;

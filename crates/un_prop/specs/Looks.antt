@@ -12,6 +12,11 @@ abbrev pub at_set : At → Sets → List ℕ
 at_set (Const n) s = n ∷ []
 at_set (Var v) s = set_at s v.0
 
+-- the numbers that an activity has
+abbrev pub act_set : Act → Sets → List ℕ
+act_set Always s = 1 ∷ []
+act_set (ActVar v) s = set_at s v.0
+
 -- an activity is sure where its number cannot be 0
 abbrev pub sure : Act → Sets → Bool
 sure Always s = true

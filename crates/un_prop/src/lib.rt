@@ -6,6 +6,7 @@ pub mod changed;
 pub mod child;
 pub mod last;
 pub mod look;
+pub mod place;
 pub mod propagator;
 pub mod queue;
 pub mod readers;

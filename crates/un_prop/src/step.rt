@@ -1,7 +1,7 @@
 //! Single cuts through a window, as steps of a pruning. A step takes what the steps before it did, and answers what all
 //! of them did; after one that failed, it does nothing.
 
-ghost use Rattle.std.specs.Prelude.{◌≡◌, ◌≢◌, ◌<◌, ℕ, length, nat_le, nat_lt, nat_eq, true};
+ghost use Rattle.std.specs.Prelude.{◌≡◌, ◌≢◌, ◌<◌, ℕ, length, nat_le, nat_lt, nat_eq, not, true};
 ghost use Rattle.un_domains.specs.Sets.{set_at, cut_by};
 ghost use Rattle.un_prop.specs.Pruning.{join};
 ghost use Rattle.un_prop.specs.Rounds.{HasVars};
@@ -74,6 +74,20 @@ pub fn keep_eq(w: &mut Window<'_>, before: Pruned, v: VarId, x: u32) -> Pruned
     ensures vars { w.new.vars ≡ w.old.vars }
 {
     let did = answer(w.keep_eq(v, x));
+    joined(before, did)
+}
+
+/// Takes the value `x` from `v`.
+pub fn drop_value(w: &mut Window<'_>, before: Pruned, v: VarId, x: u32) -> Pruned
+    requires there { v.0 < length w.old.store.now.sets }
+    requires some { 0 < length (set_at w.old.store.now.sets v.0) }
+    requires lent { among w.old.vars.now v ≡ true }
+    requires going { before ≢ Failed }
+    ensures step { Stepped w.old.vars.now (cut_by (λ y. not (nat_eq y x)) v.0) w.old.store.now w.new.store.now before result }
+    ensures same_reference { w.new.store.ghost_name ≡ w.old.store.ghost_name }
+    ensures vars { w.new.vars ≡ w.old.vars }
+{
+    let did = answer(w.drop_value(v, x));
     joined(before, did)
 }
 

@@ -10,7 +10,8 @@ use Rattle.un_prop.specs.Looks.{at_set}
 use Rattle.un_prop.specs.Rounds.{HasVars}
 use Rattle.un_prop.specs.GoingLaws.{stepped_failed, stepped_same, stepped_by}
 use Rattle.un_prec.specs.Links.{at_cut, both_sure, close_test}
-use Rattle.un_prec.specs.LinkLaws.{known_of, at_same, at_is, not_sure, is_sure_or, close_is, close_all, later_is, later_zero}
+use Rattle.un_prop.specs.LookLaws.{known_of}
+use Rattle.un_prec.specs.LinkLaws.{at_same, at_is, not_sure, is_sure_or, close_is, close_all, later_is, later_zero}
 use Rattle.un_prec.proofs.rules.close.Goals as goal
 
 pub returns-then-not-are_sure-clause-step : goal.returns-then-not-are_sure-clause-step

@@ -1,7 +1,7 @@
 use Rattle.std.proofs.Common.{ℕ, Bool, not, ◌||◌, ◌∙◌, sym, ap, get_or}
 use Rattle.un_prop.specs.Acts.{is_active}
-use Rattle.un_alt.specs.Choices.{passes_at}
-use Rattle.un_alt.specs.ChoiceLaws.{passes_within, passes_past}
+use Rattle.un_prop.specs.Choices.{passes_at}
+use Rattle.un_prop.specs.ChoiceLaws.{passes_within, passes_past}
 use Rattle.un_alt.proofs.chosen.ChosenPredicate.test.Goals as goal
 
 pub returns-in-Some : goal.returns-in-Some

@@ -1,0 +1,13 @@
+//! Tests of stores and propagators, by stores before and after that were worked out by hand.
+#![tactic(auto)]
+
+#[cfg(test)]
+mod build;
+#[cfg(test)]
+mod cuts;
+#[cfg(test)]
+mod kinds;
+#[cfg(test)]
+mod marks;
+#[cfg(test)]
+mod prunes;

@@ -1,0 +1,12 @@
+-- the store is as it was
+use Rattle.std.proofs.Common.{◌≡◌, length}
+use Rattle.un_prop.specs.Queues.{IsSizes}
+use Rattle.time_search.proofs.runs.rounds.Given as goal
+
+abbrev pub invariant-loop-i : goal.invariant-loop-i
+invariant-loop-i g l = record {
+  same : l.store ≡ l.fn.store;
+  sizes : IsSizes l.sizes l.fn.store.sets;
+  fixed : length l.scratch.fixed.items ≡ length l.fn.scratch.fixed.items;
+  cycles : length l.scratch.cycles.items ≡ length l.fn.scratch.cycles.items;
+}

@@ -1,0 +1,15 @@
+use Rattle.std.proofs.Common.{◌≡◌, length, ap, refl}
+use Rattle.un_prop.specs.declared.run.Fix.{Fix}
+use Rattle.un_prop.specs.declared.run.Fix.TheVariants.{Stable, Failed}
+use Rattle.time_search.proofs.RoomLaws.{room_stays}
+use Rattle.time_search.proofs.runs.run_rounds.Goals as goal
+
+stable_of : (r : Fix) → (r ≡ Failed → ⊥) → r ≡ Stable
+stable_of Stable h = refl
+stable_of Failed h = absurd (h refl)
+
+pub rounds-requires-clause-room : goal.rounds-requires-clause-room
+rounds-requires-clause-room g c k d lt =
+    let h = c.run_all.ensures in
+    let is = stable_of c.run_all.result (λ e. let f = rw e at c.if-eq.ensures in cc f) in
+    room_stays _ _ _ c.args.scratch.now c.run_all.new.scratch (h.greatest is).below.long h.fixed h.cycles (c.requires.room k d lt)

@@ -1,0 +1,13 @@
+-- the places below i
+use Rattle.std.proofs.Common.{◌≡◌}
+use Rattle.un_prop.specs.Going.{Stepped}
+use Rattle.un_prop.specs.Places.{each_place, place_cut}
+use Rattle.un_prop.proofs.place.keep_places.Given as goal
+
+abbrev pub invariant-loop-i : goal.invariant-loop-i
+invariant-loop-i g l = record {
+  step : Stepped l.fn.w.vars.now (each_place (place_cut l.on l.choice (g.C.Choice.can l.c)) l.i) l.fn.w.store.now l.w.store.now
+      l.fn.before l.did;
+  same_reference : l.w.store.ghost_name ≡ l.fn.w.store.ghost_name;
+  vars : l.w.vars ≡ l.fn.w.vars;
+}
