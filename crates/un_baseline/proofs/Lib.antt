@@ -57,9 +57,11 @@ pub mod Standing
 pub mod StartIn
 pub mod StartReach
 pub mod Starts
+pub mod StartsReach
 pub mod Tailing
 pub mod Tails
 pub mod Terminators
+pub mod TermsKept
 pub mod Timing
 pub mod UsesFrame
 pub mod ValueKinds
