@@ -62,6 +62,7 @@ pub mod Tailing
 pub mod Tails
 pub mod Terminators
 pub mod TermsKept
+pub mod TermsReach
 pub mod Timing
 pub mod UsesFrame
 pub mod ValueKinds
