@@ -1,5 +1,6 @@
 pub mod AllIn
 pub mod Arrivals
+pub mod BlockCosts
 pub mod BlockIn
 pub mod BlockShapes
 pub mod BlockTimes
