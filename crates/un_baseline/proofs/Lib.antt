@@ -54,6 +54,7 @@ pub mod Solved
 pub mod Sound
 pub mod Sources
 pub mod SpillSteps
+pub mod SpilledCosts
 pub mod Standing
 pub mod StartIn
 pub mod StartReach
