@@ -101,19 +101,19 @@ module _ (e : Ext) (o : Options) (roomy : AreRoomy e o) (fit : IsFit e.table) (e
   abbrev home : ℕ
   home = next + (length live_in + length (callee_saved e.table))
 
-  whole : grown.ops ≡ all_ops e.names live_in entry saved (in_op n c ∷ rest) g0
+  pub whole : grown.ops ≡ all_ops e.names live_in entry saved (in_op n c ∷ rest) g0
   whole = all_add e.names live_in entry saved (in_op n c ∷ rest) g0
 
-  results_size : length results ≡ length live_in + length (saved_registers e.table)
+  pub results_size : length results ≡ length live_in + length (saved_registers e.table)
   results_size = length-map-range_with_len temp n c
 
-  begins : live_in_temps grown.ops ≡ map temp (range_with_len next (length results))
+  pub begins : live_in_temps grown.ops ≡ map temp (range_with_len next (length results))
   begins = ap live_in_temps whole
 
-  is_saved : entry ≡ true → saved ≡ true
+  pub is_saved : entry ≡ true → saved ≡ true
   is_saved h = ap (λ (v : Bool). v || returns lin) h
 
-  none_yet : ValuesOk e made_block (setting_of e entry made_block).placed n g0
+  pub none_yet : ValuesOk e made_block (setting_of e entry made_block).placed n g0
   none_yet = record { at = λ i v le at. absurd (let lt = slice_get_within values i v at in omega arith) }
 
   pub low_results : EachOp (LowResults n) lin.ops
@@ -124,12 +124,11 @@ module _ (e : Ext) (o : Options) (roomy : AreRoomy e o) (fit : IsFit e.table) (e
         (each_append (LowResults n) ends (out ∷ []) (ends_low n blk.term after link) ((λ m y at. absurd (cc at)), tt)),
   )
 
-  pub past_count : length grown.values ≡ past_block e.table lists bn n blk
-  past_count =
+  pub first_count : length g1.values ≡ first
+  first_count =
       let here = op_count e.names live_in entry saved (in_op n c) g0 in
       let sorts = sorts_size in
-      bodies_count e.names live_in entry saved e.table blk.ops current first (ends ++ out ∷ []) g1 first (omega arith)
-      (λ h long. ends_count e.names live_in entry saved blk.term after link out h refl ∙ long)
+      omega arith
     where
       sorts_size : length (sorts_of e.names live_in saved In (length results)) ≡ c
       sorts_size =
@@ -138,6 +137,11 @@ module _ (e : Ext) (o : Options) (roomy : AreRoomy e o) (fit : IsFit e.table) (e
           let f = length-replicate (length results - length live_in) (saved_sort saved) in
           let g = results_size in
           omega arith
+
+  pub past_count : length grown.values ≡ past_block e.table lists bn n blk
+  past_count =
+      bodies_count e.names live_in entry saved e.table blk.ops current first (ends ++ out ∷ []) g1 first first_count
+      (λ h long. ends_count e.names live_in entry saved blk.term after link out h refl ∙ long)
 
   module _ (at_b : slice_get e.blocks b ≡ Some made_block) (sources : (below : n ≤ link) (is_link : is_home e.table entry made_block
       (temp home) LINK ≡ true)
@@ -191,11 +195,11 @@ assigning_is : (dst : Option NameId) (name : NameId) → assigning dst ≡ Assig
 assigning_is None name h = absurd (cc h)
 assigning_is (Some other) name h = let e : other ≡ name = cc h in ap (λ (x : NameId). Some x) e
 
-abbrev AreWell : Function → List SrcOp → Type 0
+abbrev pub AreWell : Function → List SrcOp → Type 0
 AreWell f [] = Unit {0}
 AreWell f (src ∷ srcs) = AssignsWell f src × AreWell f srcs
 
-abbrev AllWell : Function → List Block → Type 0
+abbrev pub AllWell : Function → List Block → Type 0
 AllWell f [] = Unit {0}
 AllWell f (block ∷ blocks) = AreWell f block.ops × AllWell f blocks
 
@@ -203,7 +207,7 @@ are_well : (f : Function) (srcs : List SrcOp) → ((k : ℕ) (src : SrcOp) → s
 are_well f [] h = tt
 are_well f (src ∷ srcs) h = (h 0 src refl, are_well f srcs (λ k x at. h (suc k) x at))
 
-all_well : (f : Function) (blocks : List Block) → ((b k : ℕ) (block : Block) (src : SrcOp) → slice_get blocks b ≡ Some block
+pub all_well : (f : Function) (blocks : List Block) → ((b k : ℕ) (block : Block) (src : SrcOp) → slice_get blocks b ≡ Some block
     → slice_get block.ops k ≡ Some src → AssignsWell f src) → AllWell f blocks
 all_well f [] h = tt
 all_well f (block ∷ blocks) h = (
@@ -222,7 +226,7 @@ module _ (f : Function) (lists : List (List NameId)) (t : Table) (o : Options) (
   linear = linear_blocks t count lists 0 0 f.blocks
 
   module _ (roomy : AreRoomy e o) (extended : IsExtended e) where
-    source_ok : (b : ℕ) (entry : Bool) (block : ExtBlock) (at_b : slice_get e.blocks b ≡ Some block) (src : SrcOp) → AssignsWell f src
+    pub source_ok : (b : ℕ) (entry : Bool) (block : ExtBlock) (at_b : slice_get e.blocks b ≡ Some block) (src : SrcOp) → AssignsWell f src
         → SourceOk e o roomy fit extended b entry block at_b src
     source_ok b entry block at_b src h = record {
       named = record {

@@ -44,10 +44,15 @@ module _ (e : Ext) (block : ExtBlock) (s : Setting) (entry saved : Bool) where
   none_enters true = refl
   none_enters false = refl
 
+  abbrev out_of : List Operand → ExtOp
+  out_of xs = record { kind = Out; operands = xs; results = [] }
+
+  pub out_tail : (xs : List Operand) (g : Growth) → EachOp TailOp (all (out_of xs ∷ []) g)
+  out_tail xs g =
+      each_append TailOp (extended_ops e.names block.live_in entry saved (out_of xs) g) []
+      (each_append TailOp (operands_ops xs g) (_ ∷ ([] ++ enter_ops entry Out)) (operands_tail xs g) (tt, subst (EachOp TailOp)
+      (sym (none_enters entry)) tt)) tt
+
   -- what a block's end reads takes no cycle
-  pub out_reach : (xs : List Operand) (g : Growth) (p : Progress)
-      → (let op : ExtOp = record { kind = Out; operands = xs; results = [] } in Reach e block s p (all (op ∷ []) g) p.cycle)
-  out_reach xs g p =
-      let op : ExtOp = record { kind = Out; operands = xs; results = [] } in
-      tail_stays e block s 0 0 p (all (op ∷ []) g) (each_append TailOp (extended_ops e.names block.live_in entry saved op g) []
-      (each_append TailOp (operands_ops xs g) (_ ∷ ([] ++ enter_ops entry Out)) (operands_tail xs g) (tt, subst (EachOp TailOp) (sym (none_enters entry)) tt)) tt)
+  pub out_reach : (xs : List Operand) (g : Growth) (p : Progress) → Reach e block s p (all (out_of xs ∷ []) g) p.cycle
+  out_reach xs g p = tail_stays e block s 0 0 p (all (out_of xs ∷ []) g) (out_tail xs g)

@@ -1,5 +1,6 @@
 pub mod AllIn
 pub mod Arrivals
+pub mod BlockCosts
 pub mod BlockIn
 pub mod BlockShapes
 pub mod BlockTimes
@@ -53,13 +54,17 @@ pub mod Solved
 pub mod Sound
 pub mod Sources
 pub mod SpillSteps
+pub mod SpilledCosts
 pub mod Standing
 pub mod StartIn
 pub mod StartReach
 pub mod Starts
+pub mod StartsReach
 pub mod Tailing
 pub mod Tails
 pub mod Terminators
+pub mod TermsKept
+pub mod TermsReach
 pub mod Timing
 pub mod UsesFrame
 pub mod ValueKinds

@@ -16,9 +16,10 @@ ghost use Rattle.un_model.specs.Instructions.{gives_truth, transfer_of, latency_
 ghost use Rattle.un_model.specs.Pairs.{places_from};
 ghost use Rattle.un_model.specs.Schedules.{schedule_of};
 ghost use Rattle.un_model.specs.Solutions.{IsSolution};
-ghost use Rattle.un_model.specs.Cost.{value_of};
+ghost use Rattle.un_model.specs.Cost.{cost_of, value_of};
 ghost use Rattle.un_model.specs.Variables.{chosen_operands};
-ghost use Rattle.un_baseline.specs.RoomyOptions.{IsSpillable};
+ghost use Rattle.un_baseline.specs.RoomyOptions.{IsOfFunction, IsSpillable};
+ghost use Rattle.un_baseline.specs.SpilledCost.{spilled_cost};
 ghost use Rattle.un_baseline.specs.Plans.{step_values, steps_values, block_values, blocks_values};
 ghost use Rattle.un_baseline.specs.SpillEverywhere.{purpose_of_end, purpose_of_out, purpose_of, purpose_at, start_register, leave_cycle, end_cycle, copies_of, handed_place, out_place, operand_place, step_of, assigning, other_progress, after_end, progress_of, steps_of, progress_after, first_number, setting_of, first_cycle, first_progress, block_end, block_plan, block_plans, spilled_values};
 
@@ -699,11 +700,14 @@ fn saved_registers(alloc: Global, t: &Table) -> Result<Items<u32>, NoMemory>
 }
 
 /// The solution that keeps each name in a frame slot of its own: every operand is reloaded before its operation, every result
-/// is spilled after it, and one instruction issues in a packet. The answer is `NoMemory` where there is no memory for it.
+/// is spilled after it, and one instruction issues in a packet. It costs what is stated of the function that the model is of. The
+/// answer is `NoMemory` where there is no memory for it.
 pub fn spill_everywhere(alloc: Global, m: &Model) -> Result<Solution, NoMemory>
     requires { IsSpillable m.now }
     ensures solution { IfOk result (IsSolution m.now) }
     ensures values { IfOk result (λ s. s.values ≡ spilled_values m.now.ext) }
+    ensures cost { (source : IsOfFunction m.now.ext)
+        → IfOk result (λ s. cost_of m.now s ≡ spilled_cost m.now.ext.table source.lists true 0 source.function.blocks) }
 {
     let saved = saved_registers(alloc, &m.ext.table)?;
     let mut values = Items::new(alloc);
