@@ -50,8 +50,11 @@ module _ (e : Ext) (block : ExtBlock) (s : Setting) (entry saved : Bool) where
   pub out_tail : (xs : List Operand) (g : Growth) → EachOp TailOp (all (out_of xs ∷ []) g)
   out_tail xs g =
       each_append TailOp (extended_ops e.names block.live_in entry saved (out_of xs) g) []
-      (each_append TailOp (operands_ops xs g) (_ ∷ ([] ++ enter_ops entry Out)) (operands_tail xs g) (tt, subst (EachOp TailOp)
-      (sym (none_enters entry)) tt)) tt
+      (each_append TailOp (operands_ops xs g) (_ ∷ ([] ++ enter_ops entry Out)) (operands_tail xs g) (
+        tt,
+        subst (EachOp TailOp)
+            (sym (none_enters entry)) tt,
+      )) tt
 
   -- what a block's end reads takes no cycle
   pub out_reach : (xs : List Operand) (g : Growth) (p : Progress) → Reach e block s p (all (out_of xs ∷ []) g) p.cycle

@@ -1,5 +1,5 @@
 -- The plan that spills every name of a function costs what is stated of the function.
-use Rattle.std.proofs.Common.{◌≡◌, ℕ, zero, suc, ◌+◌, ◌-◌, ◌*◌, ◌≤◌, Bool, true, false, List, [], ◌∷◌, ◌++◌, length, Option, Some, None, All, refl, sym, ap, subst, ◌∙◌, arith}
+use Rattle.std.proofs.Common.{◌≡◌, ℕ, suc, ◌+◌, ◌*◌, ◌≤◌, Bool, true, false, List, [], ◌∷◌, length, Option, Some, None, All, refl, sym, ap, subst, ◌∙◌, arith}
 use Rattle.std.specs.Prelude.{◌||◌, slice_get}
 use Rattle.std.proofs.lemmas.List.{length-append}
 use Rattle.std.proofs.lemmas.List.Elements.{All-head, All-tail}
@@ -20,10 +20,9 @@ use Rattle.un_ir.specs.LinearOf.{past, past_all, past_block, linear_block, linea
 use Rattle.un_model.specs.declared.model.Model.{Model}
 use Rattle.un_model.specs.declared.model.Options.{Options}
 use Rattle.un_model.specs.Cost.{cost_of}
-use Rattle.un_baseline.specs.Plans.{BlockPlan}
 use Rattle.un_baseline.specs.RoomyOptions.{AreRoomy, IsOfFunction, IsSpillable}
 use Rattle.un_baseline.specs.SpilledCost.{block_packets, spilled_cost}
-use Rattle.un_baseline.specs.SpillEverywhere.{block_plan, block_plans, spilled_values}
+use Rattle.un_baseline.specs.SpillEverywhere.{block_plans, spilled_values}
 use Rattle.un_baseline.proofs.FunctionIn.{assigns_well, reads_own}
 use Rattle.un_baseline.proofs.AllIn.{low_results, past_count, AreWell, AllWell, all_well, source_ok}
 use Rattle.un_baseline.proofs.BodiesReach.{AreSources}

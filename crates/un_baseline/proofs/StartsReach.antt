@@ -2,7 +2,7 @@
 use Rattle.std.proofs.Common.{◌≡◌, ⊎_elim, ℕ, suc, ◌+◌, ◌-◌, ◌*◌, ◌<◌, Bool, true, false, List, [], ◌∷◌, ◌++◌, length, map, replicate, Some, refl, sym, ap, subst, ◌∙◌, append_assoc, arith}
 use Rattle.std.specs.Prelude.{if◌then◌else◌, slice_get}
 use Rattle.std.specs.List.{range_with_len}
-use Rattle.std.proofs.lemmas.List.{length-append, length-map, length-replicate}
+use Rattle.std.proofs.lemmas.List.{length-append}
 use Rattle.std.proofs.lemmas.List.FromFn.{length-map-range_with_len}
 use Rattle.un_base.specs.declared.ids.NameId.{NameId}
 use Rattle.un_base.specs.declared.ids.TempId.{TempId}
@@ -19,9 +19,8 @@ use Rattle.un_ir.specs.declared.extended.Growth.{Growth}
 use Rattle.un_ir.specs.declared.extended.Sort.{Sort}
 use Rattle.un_ir.specs.Extended.{temp}
 use Rattle.un_ir.specs.LinearOf.{first_temps}
-use Rattle.un_ir.specs.ExtendOf.{frame_op, sort_of_name, sorts_of, value_of, with_results, with_value, with_values, with_enter, with_extended}
+use Rattle.un_ir.specs.ExtendOf.{frame_op, sort_of_name, value_of, with_results, with_value, with_values, with_enter, with_extended}
 use Rattle.un_model.specs.Congruences.{live_in_temps}
-use Rattle.un_baseline.specs.declared.plan.Definer.{Definer}
 use Rattle.un_baseline.specs.declared.plan.Definer.TheVariants.{Start, Other}
 use Rattle.un_baseline.specs.declared.plan.Setting.{Setting}
 use Rattle.un_baseline.specs.declared.plan.Progress.{Progress}

@@ -28,7 +28,7 @@ use Rattle.un_baseline.specs.declared.plan.Progress.{Progress}
 use Rattle.un_baseline.specs.RoomyOptions.{AreRoomy}
 use Rattle.un_baseline.specs.SpilledCost.{operand_packets}
 use Rattle.un_baseline.specs.SpillEverywhere.{purpose_at, progress_of, setting_of}
-use Rattle.un_baseline.proofs.Grown.{operands_ops, enter_ops, extended_ops, all_ops}
+use Rattle.un_baseline.proofs.Grown.{operands_ops, enter_ops, all_ops}
 use Rattle.un_baseline.proofs.SpillSteps.{EachOp}
 use Rattle.un_baseline.proofs.Shapes.{each_append}
 use Rattle.un_baseline.proofs.BlockTimes.{TailOp, tail_stays}
