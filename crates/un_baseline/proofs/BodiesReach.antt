@@ -1,5 +1,5 @@
 -- How many cycles the operations of the source take: their operands are reloaded, they issue, and their results are spilled.
-use Rattle.std.proofs.Common.{◌≡◌, ℕ, zero, suc, ◌+◌, Bool, true, false, List, [], ◌∷◌, ◌++◌, length, map, take, replicate, Option, Some, None, Contains, refl, sym, ap, subst, ◌∙◌, append-nil, arith}
+use Rattle.std.proofs.Common.{◌≡◌, ℕ, zero, suc, ◌+◌, Bool, true, List, [], ◌∷◌, ◌++◌, length, map, take, replicate, Option, Some, None, Contains, refl, sym, ap, subst, ◌∙◌, append-nil, arith}
 use Rattle.std.specs.Prelude.{slice_get, slice_index, sum_by}
 use Rattle.std.specs.Option.{option_to_list}
 use Rattle.std.proofs.lemmas.List.{length-map}
@@ -23,7 +23,7 @@ use Rattle.un_ir.specs.declared.extended.Ext.{Ext}
 use Rattle.un_ir.specs.declared.extended.Growth.{Growth}
 use Rattle.un_ir.specs.declared.extended.Sort.{Sort}
 use Rattle.un_ir.specs.Extended.{temp, at_register, name_kind, results_of, word_in, anywhere, wants_of_op, IsGoodOperand, IsExtended}
-use Rattle.un_ir.specs.ExtendOf.{new_temps, with_operands, new_operands, with_results, with_values, with_enter, with_extended}
+use Rattle.un_ir.specs.ExtendOf.{new_temps, with_operands, new_operands, with_results, with_values, with_extended}
 use Rattle.un_ir.specs.Linear.{first_of}
 use Rattle.un_ir.specs.LinearOf.{name_operand, argument_operands, source_operands, body_op, body_ops, assigned, past, past_all, current_after}
 use Rattle.un_ir.specs.WellFormed.{operand_kinds, result_kind}
@@ -34,7 +34,7 @@ use Rattle.un_baseline.specs.declared.plan.Progress.{Progress}
 use Rattle.un_baseline.specs.RoomyOptions.{AreRoomy}
 use Rattle.un_baseline.specs.SpilledCost.{assigned_packets, read_kinds, source_packets}
 use Rattle.un_baseline.specs.SpillEverywhere.{assigning, purpose_at, progress_of, setting_of}
-use Rattle.un_baseline.proofs.Grown.{copy_ops, values_ops, extended_ops, all_ops}
+use Rattle.un_baseline.proofs.Grown.{copy_ops, values_ops, extended_ops, all_ops, enter_same}
 use Rattle.un_baseline.proofs.SpillSteps.{EachOp}
 use Rattle.un_baseline.proofs.OutsIn.{ReadsFrom}
 use Rattle.un_baseline.proofs.ValuesOk.{ValuesOk}
@@ -128,10 +128,6 @@ module _ (e : Ext) (o : Options) (roomy : AreRoomy e o) (fit : IsFit e.table) (e
   result_by (Some name) kind first n here p tail fin is named rest =
       subst (λ (ops : List ExtOp). Reach e block s p (ops ++ tail) fin) (sym (append-nil (copy_ops D D2 kind true (temp n ∷ []) here.next)))
       (result_reach e block s kind name n here.next p tail fin is (named name refl) rest)
-
-  enter_same : (first : Bool) (src : SrcOp) (g : Growth) → with_enter first (Body src) g ≡ g
-  enter_same true src g = refl
-  enter_same false src g = refl
 
   module _ (src : SrcOp) (current : List ℕ) (first : ℕ) (g : Growth) (counted : Counted current first g) where
     abbrev op : ExtOp

@@ -1,5 +1,5 @@
 -- How many cycles the terminator and the end of a block take.
-use Rattle.std.proofs.Common.{◌≡◌, ℕ, zero, suc, ◌+◌, Bool, true, false, List, [], ◌∷◌, ◌++◌, take, Some, None, Contains, refl, sym, ap, subst, ◌∙◌, append_assoc, arith}
+use Rattle.std.proofs.Common.{◌≡◌, ℕ, zero, suc, ◌+◌, Bool, true, false, List, [], ◌∷◌, ◌++◌, take, Some, None, Contains, refl, sym, ap, subst, ◌∙◌, arith}
 use Rattle.std.specs.Prelude.{slice_get, slice_index, sum_by}
 use Rattle.std.proofs.lemmas.List.Sums.{sum_by-cons}
 use Rattle.std.proofs.lemmas.List.Elements.{Contains-append_right}
@@ -28,12 +28,13 @@ use Rattle.un_baseline.specs.declared.plan.Progress.{Progress}
 use Rattle.un_baseline.specs.RoomyOptions.{AreRoomy}
 use Rattle.un_baseline.specs.SpilledCost.{operand_packets}
 use Rattle.un_baseline.specs.SpillEverywhere.{purpose_at, progress_of, setting_of}
-use Rattle.un_baseline.proofs.Grown.{operands_ops, enter_ops, all_ops}
+use Rattle.un_baseline.proofs.Grown.{operands_ops, all_ops}
 use Rattle.un_baseline.proofs.SpillSteps.{EachOp}
 use Rattle.un_baseline.proofs.Shapes.{each_append}
 use Rattle.un_baseline.proofs.BlockTimes.{TailOp, tail_stays}
 use Rattle.un_baseline.proofs.OutsIn.{ReadsFrom}
 use Rattle.un_baseline.proofs.BlockIn.{good_block, place_of, Inside}
+use Rattle.un_baseline.proofs.CloseIn.{end_whole}
 use Rattle.un_baseline.proofs.Reaching.{Reach, operands_reach}
 use Rattle.un_baseline.proofs.CopiedNames.{CopiedAt, operands_copied}
 use Rattle.un_baseline.proofs.BodiesReach.{Counted}
@@ -46,16 +47,6 @@ going_packets t (Jump to) = latency_of t JumpOp
 going_packets t (Branch pred true to) = operand_packets t Pred + latency_of t JumpIf
 going_packets t (Branch pred false to) = operand_packets t Pred + latency_of t JumpIfNot
 going_packets t (Ret value) = 0
-
-no_enter : (first : Bool) (term : Term) → enter_ops first (End term) ≡ []
-no_enter true term = refl
-no_enter false term = refl
-
-end_whole : (entry : Bool) (term : Term) (lead us tail : List ExtOp) (made : ExtOp)
-    → (lead ++ (us ++ (made ∷ ([] ++ enter_ops entry (End term))))) ++ tail ≡ lead ++ (us ++ (made ∷ tail))
-end_whole entry term lead us tail made =
-    ap (λ (zs : List ExtOp). (lead ++ (us ++ (made ∷ zs))) ++ tail) (no_enter entry term)
-    ∙ append_assoc lead (us ++ (made ∷ [])) tail ∙ ap (λ (zs : List ExtOp). lead ++ zs) (append_assoc us (made ∷ []) tail)
 
 branch_sum : (t : Table) (pred : NameId) (sense : Bool) (to q p r sum : ℕ) → q ≡ p + sum → sum ≡ operand_packets t Pred + 0
     → r ≡ q + latency_by t (transfer_of (Branch pred sense (record { 0 = to }))) → r ≡ p + going_packets t (Branch pred sense (record { 0 = to }))
