@@ -159,11 +159,13 @@ module _ (e : Ext) (o : Options) (roomy : AreRoomy e o) (fit : IsFit e.table) (e
         let ends_read = each_left Q ends (out ∷ []) closing in
         subst (λ (ops : List ExtOp). Reach e block s (first_progress e entry) ops fin) (sym whole_here)
         (start_reach e entry block saved results g0 (first_progress e entry) tail fin size_here here copied
-        (λ q at. bodies_reach e o roomy fit extended b entry block at_b saved n blk.ops current first g1 q (ends ++ out ∷ []) fin counted sources
+        (λ q at. bodies_reach e o roomy fit extended b entry block at_b saved n blk.ops current first g1 q
+        (ends ++ out ∷ []) fin counted sources
         bodies_read (λ x h. there x (Contains-append_right (extended_ops e.names live_in entry saved (in_op n c) g0) tail x h))
         (λ h r known within came.
         let sum : r.cycle + going_packets e.table blk.term ≡ fin = omega arith in
-        ends_reach e o roomy fit extended b entry block at_b saved n blk.term after (past_all first blk.ops) link out.operands h r known ends_read
+        ends_reach e o roomy fit extended b entry block at_b saved n blk.term after
+        (past_all first blk.ops) link out.operands h r known ends_read
         within ∙ sum)))
 
     pub block_takes : (let p : BlockPlan = block_plan e entry block in p.end - 1 ≡ block_packets e.table entry live_in blk)

@@ -192,7 +192,8 @@ module _ (e : Ext) (o : Options) (roomy : AreRoomy e o) (fit : IsFit e.table) (e
         let ds = values_ops read.next sorts here in
         let es = enter_ops entry (Body src) in
         append_assoc us (body ∷ (ds ++ es)) tail
-        ∙ ap (λ (zs : List ExtOp). us ++ (body ∷ (zs ++ tail))) (ap (λ (zs : List ExtOp). ds ++ zs) (enter_none entry (Body src) (λ h. cc h)) ∙ append-nil ds)
+        ∙ ap (λ (zs : List ExtOp). us ++ (body ∷ (zs ++ tail)))
+        (ap (λ (zs : List ExtOp). ds ++ zs) (enter_none entry (Body src) (λ h. cc h)) ∙ append-nil ds)
 
     pub body_among : (tail : List ExtOp) → Inside (body_list ++ tail) → Contains block.ops body
     body_among tail inside = inside body (subst (λ (zs : List ExtOp). Contains zs body) (sym (body_whole tail))

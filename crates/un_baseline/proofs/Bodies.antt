@@ -276,7 +276,8 @@ module _ (c : ℕ) (H : Seen → List Read → Type 0) (b end : ℕ) (e : Ext) (
         let given : InSpace register (space_given (Some o.op)) = subst (λ (d : Option NameId). IfSome d
         (λ (x : NameId). InSpace register (space_given (Some o.op)))) is ready.given in
         let tail : ((ds ++ []) ++ []) ++ rest ≡ ds ++ rest = ap (λ (os : List ExtOp). os ++ rest) (append_nil (ds ++ []) ∙ append_nil ds) in
-        subst (λ (es : List ExtOp). G n p seen ((operands_ops xs g ++ (made ∷ ((ds ++ []) ++ es))) ++ rest)) (sym (enter_none entry (Body o) (λ h. cc h)))
+        subst (λ (es : List ExtOp). G n p seen ((operands_ops xs g ++ (made ∷ ((ds ++ []) ++ es))) ++ rest))
+        (sym (enter_none entry (Body o) (λ h. cc h)))
         (subst (G n p seen) (sym (append_assoc (operands_ops xs g) (made ∷ ((ds ++ []) ++ [])) rest))
         (operands_arrive c H b end e block s fit xs ready.rooms n p seen g (made ∷ (((ds ++ []) ++ []) ++ rest)) ready.ready none
         ready.few front size refl

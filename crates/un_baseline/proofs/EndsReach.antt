@@ -33,8 +33,8 @@ operand_tail (Some v) n = copies_tail v.sort.kind v.sort.copied v.own n
 
 pub operands_tail : (xs : List Operand) (g : Growth) → EachOp TailOp (operands_ops xs g)
 operands_tail [] g = tt
-operands_tail (x ∷ xs) g = each_append TailOp (operand_ops x g) (operands_ops xs (with_operand x g)) (operand_tail (slice_get g.values (first_of
-    x.alts)) g.next) (operands_tail xs (with_operand x g))
+operands_tail (x ∷ xs) g = each_append TailOp (operand_ops x g) (operands_ops xs (with_operand x g))
+    (operand_tail (slice_get g.values (first_of x.alts)) g.next) (operands_tail xs (with_operand x g))
 
 module _ (e : Ext) (block : ExtBlock) (s : Setting) (entry saved : Bool) where
   abbrev all : List ExtOp → Growth → List ExtOp

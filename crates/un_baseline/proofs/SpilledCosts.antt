@@ -92,7 +92,8 @@ module _ (f : Function) (lists : List (List NameId)) (t : Table) (o : Options) (
         ap (λ (packets : ℕ). blk.freq * packets + plans_cost others (block_plans e false others)) here
         ∙ ap (λ (n : ℕ). blk.freq * block_packets t entry (live_at lists bn) blk + n) rest
 
-    pub function_costs : IsLinear (lin_of f lists t) → plans_cost e.blocks (block_plans e true e.blocks) ≡ spilled_cost t lists true 0 f.blocks
+    pub function_costs : IsLinear (lin_of f lists t)
+        → plans_cost e.blocks (block_plans e true e.blocks) ≡ spilled_cost t lists true 0 f.blocks
     function_costs is_linear =
         blocks_take true 0 0 0 [] 0 f.blocks refl (λ not. absurd (cc not)) (all_well f f.blocks (λ b k block src at here. assigns_well f b k
         block src at here))
@@ -106,5 +107,6 @@ cost_of_model m h values same source =
     ap (λ (xs : List ℕ). cost_of m (record { values = xs })) same
     ∙ ap (λ (n : Model). cost_of n (record { values = spilled_values m.ext })) h.model ∙ cost_is m.ext m.options
     ∙ subst (λ (e : Ext). AreRoomy e m.options → IsExtended e
-    → plans_cost e.blocks (block_plans e true e.blocks) ≡ spilled_cost m.ext.table source.lists true 0 source.function.blocks) (sym source.extended)
+    → plans_cost e.blocks (block_plans e true e.blocks) ≡ spilled_cost m.ext.table source.lists true 0 source.function.blocks)
+    (sym source.extended)
     (λ roomy kept. function_costs source.function source.lists m.ext.table m.options h.table roomy kept source.linear) h.roomy h.kept
