@@ -1,5 +1,5 @@
 -- What a block of the plan costs, whatever its frequency.
-use Rattle.std.proofs.Common.{◌≡◌, ℕ, ◌+◌, ◌-◌, ◌*◌, ◌≤◌, Bool, true, false, List, [], ◌∷◌, ◌++◌, length, map, replicate, Option, Some, None, Contains, refl, sym, ap, subst, ◌∙◌, arith}
+use Rattle.std.proofs.Common.{◌≡◌, ℕ, ◌+◌, ◌-◌, ◌≤◌, Bool, true, false, List, [], ◌∷◌, ◌++◌, length, map, replicate, Some, None, Contains, refl, sym, ap, subst, ◌∙◌, arith}
 use Rattle.std.specs.Prelude.{◌||◌, slice_get, sum_by}
 use Rattle.std.specs.List.{range_with_len}
 use Rattle.std.proofs.lemmas.List.Elements.{Contains-append_right}
@@ -7,8 +7,6 @@ use Rattle.un_base.specs.declared.ids.NameId.{NameId}
 use Rattle.un_base.specs.declared.ids.TempId.{TempId}
 use Rattle.un_isa.specs.Fit.{IsFit}
 use Rattle.un_isa.specs.Registers.{callee_saved, saved_registers}
-use Rattle.un_isa.specs.Tables.{latency_of}
-use Rattle.un_isa.specs.declared.op.Op.TheVariants.{Spill}
 use Rattle.un_isa.specs.declared.table.Table.{Table}
 use Rattle.un_ir.specs.declared.function.Term.{Term}
 use Rattle.un_ir.specs.declared.function.Term.TheVariants.{Fall, Jump, Branch, Ret}
@@ -161,11 +159,13 @@ module _ (e : Ext) (o : Options) (roomy : AreRoomy e o) (fit : IsFit e.table) (e
         let ends_read = each_left Q ends (out ∷ []) closing in
         subst (λ (ops : List ExtOp). Reach e block s (first_progress e entry) ops fin) (sym whole_here)
         (start_reach e entry block saved results g0 (first_progress e entry) tail fin size_here here copied
-        (λ q at. bodies_reach e o roomy fit extended b entry block at_b saved n blk.ops current first g1 q (ends ++ out ∷ []) fin counted sources
+        (λ q at. bodies_reach e o roomy fit extended b entry block at_b saved n blk.ops current first g1 q
+        (ends ++ out ∷ []) fin counted sources
         bodies_read (λ x h. there x (Contains-append_right (extended_ops e.names live_in entry saved (in_op n c) g0) tail x h))
         (λ h r known within came.
         let sum : r.cycle + going_packets e.table blk.term ≡ fin = omega arith in
-        ends_reach e o roomy fit extended b entry block at_b saved n blk.term after (past_all first blk.ops) link out.operands h r known ends_read
+        ends_reach e o roomy fit extended b entry block at_b saved n blk.term after
+        (past_all first blk.ops) link out.operands h r known ends_read
         within ∙ sum)))
 
     pub block_takes : (let p : BlockPlan = block_plan e entry block in p.end - 1 ≡ block_packets e.table entry live_in blk)

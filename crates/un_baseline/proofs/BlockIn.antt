@@ -1,5 +1,5 @@
 -- The operations of the source, and the start and the end of a block, keep what is known of values, and lie in their domains.
-use Rattle.std.proofs.Common.{◌≡◌, ℕ, zero, suc, ◌+◌, ◌<◌, ◌≤◌, Bool, true, false, List, [], ◌∷◌, ◌++◌, length, map, replicate, Option, Some, None, All, Contains, refl, sym, ap, subst, ◌∙◌, append_assoc, append-nil, arith}
+use Rattle.std.proofs.Common.{◌≡◌, ℕ, zero, suc, ◌+◌, ◌<◌, ◌≤◌, Bool, true, List, [], ◌∷◌, ◌++◌, length, map, replicate, Option, Some, None, All, Contains, refl, sym, ap, subst, ◌∙◌, append_assoc, append-nil, arith}
 use Rattle.std.specs.Prelude.{◌==◌, ◌&&◌, slice_get}
 use Rattle.std.specs.List.{range_with_len}
 use Rattle.std.specs.Option.{option_map}
@@ -22,7 +22,7 @@ use Rattle.un_ir.specs.declared.extended.Ext.{Ext}
 use Rattle.un_ir.specs.declared.extended.Growth.{Growth}
 use Rattle.un_ir.specs.declared.extended.Sort.{Sort}
 use Rattle.un_ir.specs.Extended.{temp, name_kind, result_count, IsGoodExtBlock, IsExtended}
-use Rattle.un_ir.specs.ExtendOf.{with_operands, new_operands, with_results, with_values, with_enter, with_extended}
+use Rattle.un_ir.specs.ExtendOf.{with_operands, new_operands, with_results, with_values, with_extended}
 use Rattle.un_ir.specs.WellFormed.{result_kind, kind_given}
 use Rattle.un_ir.proofs.NameBounds.{at_all}
 use Rattle.un_model.specs.declared.model.Options.{Options}
@@ -35,7 +35,7 @@ use Rattle.un_baseline.specs.declared.plan.Setting.{Setting}
 use Rattle.un_baseline.specs.declared.plan.Progress.{Progress}
 use Rattle.un_baseline.specs.RoomyOptions.{AreRoomy}
 use Rattle.un_baseline.specs.SpillEverywhere.{assigning, purpose_at, progress_of, setting_of}
-use Rattle.un_baseline.proofs.Grown.{values_ops, operands_ops, enter_ops, extended_ops}
+use Rattle.un_baseline.proofs.Grown.{values_ops, operands_ops, enter_ops, enter_none, enter_same, extended_ops}
 use Rattle.un_baseline.proofs.CopiesIn.{DefinerOk}
 use Rattle.un_baseline.proofs.OpsIn.{any_from_at, any_contains, same_number, body_in}
 use Rattle.un_baseline.proofs.OutsIn.{ReadsFrom}
@@ -155,14 +155,6 @@ module _ (e : Ext) (o : Options) (roomy : AreRoomy e o) (fit : IsFit e.table) (e
         ready_operands from (k + 1) xs (with_operands (x ∷ []) g) next reads.1 (omega arith),
       )
 
-  enter_none : (first : Bool) (src : SrcOp) → enter_ops first (Body src) ≡ []
-  enter_none true src = refl
-  enter_none false src = refl
-
-  enter_same : (first : Bool) (src : SrcOp) (g : Growth) → with_enter first (Body src) g ≡ g
-  enter_same true src g = refl
-  enter_same false src g = refl
-
   -- what is asked of an operation of the source
   pub record SourceOk (src : SrcOp) : Type 0 where
     pub named : DefinerOk e o roomy entry block (assigning src.dst)
@@ -200,7 +192,8 @@ module _ (e : Ext) (o : Options) (roomy : AreRoomy e o) (fit : IsFit e.table) (e
         let ds = values_ops read.next sorts here in
         let es = enter_ops entry (Body src) in
         append_assoc us (body ∷ (ds ++ es)) tail
-        ∙ ap (λ (zs : List ExtOp). us ++ (body ∷ (zs ++ tail))) (ap (λ (zs : List ExtOp). ds ++ zs) (enter_none entry src) ∙ append-nil ds)
+        ∙ ap (λ (zs : List ExtOp). us ++ (body ∷ (zs ++ tail)))
+        (ap (λ (zs : List ExtOp). ds ++ zs) (enter_none entry (Body src) (λ h. cc h)) ∙ append-nil ds)
 
     pub body_among : (tail : List ExtOp) → Inside (body_list ++ tail) → Contains block.ops body
     body_among tail inside = inside body (subst (λ (zs : List ExtOp). Contains zs body) (sym (body_whole tail))

@@ -26,7 +26,7 @@ use Rattle.un_ir.specs.declared.extended.Ext.{Ext}
 use Rattle.un_ir.specs.declared.extended.Growth.{Growth}
 use Rattle.un_ir.specs.declared.extended.Sort.{Sort}
 use Rattle.un_ir.specs.Extended.{temp, name_kind}
-use Rattle.un_ir.specs.ExtendOf.{copy_op, copy_count_by, own_temps, with_value, with_operands, new_operands, with_results, with_enter, with_extended}
+use Rattle.un_ir.specs.ExtendOf.{copy_op, copy_count_by, own_temps, with_value, with_operands, new_operands, with_results, with_extended}
 use Rattle.un_ir.specs.WellFormed.{kind_given, result_kind}
 use Rattle.un_model.specs.declared.schedule.Read.{Read}
 use Rattle.un_model.specs.Instructions.{space_given, gives_truth, is_predicate_space}
@@ -41,7 +41,7 @@ use Rattle.un_baseline.specs.Plans.{Step, planned_issue, planned_read}
 use Rattle.un_baseline.specs.SpillEverywhere.{purpose_at, slot_of, last_place, kept_place, kept_by_kind, first_copy, second_copy, operand_place, copies_of, other_progress, assigning}
 use Rattle.un_baseline.proofs.Made.{made_at}
 use Rattle.un_baseline.proofs.Carried.{Carries, carries_same, carries_operands, carries_value, carries_new, operands_onward}
-use Rattle.un_baseline.proofs.Grown.{copy_ops, operands_ops, enter_ops, extended_ops, value_next}
+use Rattle.un_baseline.proofs.Grown.{copy_ops, operands_ops, extended_ops, value_next, enter_none, enter_same}
 use Rattle.un_baseline.proofs.Sound.{Seen, after}
 use Rattle.un_baseline.proofs.Standing.{IsFew, no_item, one_item, Stands, Front, goes_front, goes_ok, goes_stands, goes_new_stands}
 use Rattle.un_baseline.proofs.Walk.{Good, moving_copy}
@@ -188,14 +188,6 @@ module _ (c : ℕ) (H : Seen → List Read → Type 0) (b end : ℕ) (e : Ext) (
 
   -- ---- one operation of the linear function
 
-  enter_none : (entry : Bool) (o : SrcOp) → enter_ops entry (Body o) ≡ []
-  enter_none true o = refl
-  enter_none false o = refl
-
-  enter_same : (entry : Bool) (o : SrcOp) (g : Growth) → with_enter entry (Body o) g ≡ g
-  enter_same true o g = refl
-  enter_same false o g = refl
-
   register_is : (space : Option Space) → register_by (kind_given space) ≡ (if is_predicate_space space then PREDICATE else 0)
   register_is None = refl
   register_is (Some R) = refl
@@ -248,7 +240,7 @@ module _ (c : ℕ) (H : Seen → List Read → Type 0) (b end : ℕ) (e : Ext) (
         let on = operands_onward xs g in
         let values = on.values in
         let next = on.next in
-        subst (λ (es : List ExtOp). G n p seen ((operands_ops xs g ++ (made ∷ es)) ++ rest)) (sym (enter_none entry o))
+        subst (λ (es : List ExtOp). G n p seen ((operands_ops xs g ++ (made ∷ es)) ++ rest)) (sym (enter_none entry (Body o) (λ h. cc h)))
         (subst (G n p seen) (sym (append_assoc (operands_ops xs g) (made ∷ []) rest))
         (operands_arrive c H b end e block s fit xs ready.rooms n p seen g (made ∷ rest) ready.ready none ready.few front size refl
         (λ m q mid le a.
@@ -284,7 +276,8 @@ module _ (c : ℕ) (H : Seen → List Read → Type 0) (b end : ℕ) (e : Ext) (
         let given : InSpace register (space_given (Some o.op)) = subst (λ (d : Option NameId). IfSome d
         (λ (x : NameId). InSpace register (space_given (Some o.op)))) is ready.given in
         let tail : ((ds ++ []) ++ []) ++ rest ≡ ds ++ rest = ap (λ (os : List ExtOp). os ++ rest) (append_nil (ds ++ []) ∙ append_nil ds) in
-        subst (λ (es : List ExtOp). G n p seen ((operands_ops xs g ++ (made ∷ ((ds ++ []) ++ es))) ++ rest)) (sym (enter_none entry o))
+        subst (λ (es : List ExtOp). G n p seen ((operands_ops xs g ++ (made ∷ ((ds ++ []) ++ es))) ++ rest))
+        (sym (enter_none entry (Body o) (λ h. cc h)))
         (subst (G n p seen) (sym (append_assoc (operands_ops xs g) (made ∷ ((ds ++ []) ++ [])) rest))
         (operands_arrive c H b end e block s fit xs ready.rooms n p seen g (made ∷ (((ds ++ []) ++ []) ++ rest)) ready.ready none
         ready.few front size refl

@@ -1,5 +1,5 @@
 -- How many cycles the operations of the source take: their operands are reloaded, they issue, and their results are spilled.
-use Rattle.std.proofs.Common.{◌≡◌, ℕ, zero, suc, ◌+◌, Bool, true, false, List, [], ◌∷◌, ◌++◌, length, map, take, replicate, Option, Some, None, Contains, refl, sym, ap, subst, ◌∙◌, append-nil, arith}
+use Rattle.std.proofs.Common.{◌≡◌, ℕ, zero, suc, ◌+◌, Bool, true, List, [], ◌∷◌, ◌++◌, length, map, take, replicate, Option, Some, None, Contains, refl, sym, ap, subst, ◌∙◌, append-nil, arith}
 use Rattle.std.specs.Prelude.{slice_get, slice_index, sum_by}
 use Rattle.std.specs.Option.{option_to_list}
 use Rattle.std.proofs.lemmas.List.{length-map}
@@ -23,7 +23,7 @@ use Rattle.un_ir.specs.declared.extended.Ext.{Ext}
 use Rattle.un_ir.specs.declared.extended.Growth.{Growth}
 use Rattle.un_ir.specs.declared.extended.Sort.{Sort}
 use Rattle.un_ir.specs.Extended.{temp, at_register, name_kind, results_of, word_in, anywhere, wants_of_op, IsGoodOperand, IsExtended}
-use Rattle.un_ir.specs.ExtendOf.{new_temps, with_operands, new_operands, with_results, with_values, with_enter, with_extended}
+use Rattle.un_ir.specs.ExtendOf.{new_temps, with_operands, new_operands, with_results, with_values, with_extended}
 use Rattle.un_ir.specs.Linear.{first_of}
 use Rattle.un_ir.specs.LinearOf.{name_operand, argument_operands, source_operands, body_op, body_ops, assigned, past, past_all, current_after}
 use Rattle.un_ir.specs.WellFormed.{operand_kinds, result_kind}
@@ -34,7 +34,7 @@ use Rattle.un_baseline.specs.declared.plan.Progress.{Progress}
 use Rattle.un_baseline.specs.RoomyOptions.{AreRoomy}
 use Rattle.un_baseline.specs.SpilledCost.{assigned_packets, read_kinds, source_packets}
 use Rattle.un_baseline.specs.SpillEverywhere.{assigning, purpose_at, progress_of, setting_of}
-use Rattle.un_baseline.proofs.Grown.{copy_ops, values_ops, extended_ops, all_ops}
+use Rattle.un_baseline.proofs.Grown.{copy_ops, values_ops, extended_ops, all_ops, enter_same}
 use Rattle.un_baseline.proofs.SpillSteps.{EachOp}
 use Rattle.un_baseline.proofs.OutsIn.{ReadsFrom}
 use Rattle.un_baseline.proofs.ValuesOk.{ValuesOk}
@@ -92,15 +92,18 @@ any_wanted (k ∷ ks) = ap (λ (xs : List Kind). k ∷ xs) (any_wanted ks)
 
 -- the kinds that are wanted are those that are read
 kinds_read : (t : Table) (current : List ℕ) (src : SrcOp) (op : Op)
-    → length (source_operands t current op src.srcs) ≡ length (wants_of_op t src op) → kinds_wanted (wants_of_op t src op) ≡ read_kinds src op
+    → length (source_operands t current op src.srcs) ≡ length (wants_of_op t src op)
+    → kinds_wanted (wants_of_op t src op) ≡ read_kinds src op
 kinds_read t current src Call size =
     let zs = take (length src.srcs) t.args in
-    let long : length zs ≡ length src.srcs = (let a = length-map zs word_in in let b = arguments_length current t.args src.srcs in omega arith) in
+    let long : length zs ≡ length src.srcs = (let a = length-map zs word_in in let b = arguments_length current t.args src.srcs in omega
+    arith) in
     words_wanted zs ∙ ap (λ (n : ℕ). replicate n General) long
 kinds_read t current src Imm size = any_wanted (operand_kinds Imm)
 kinds_read t current src op size = any_wanted (operand_kinds op)
 
-module _ (e : Ext) (o : Options) (roomy : AreRoomy e o) (fit : IsFit e.table) (extended : IsExtended e) (b : ℕ) (entry : Bool) (block : ExtBlock)
+module _ (e : Ext) (o : Options) (roomy : AreRoomy e o) (fit : IsFit e.table) (extended : IsExtended e) (b : ℕ) (entry : Bool)
+    (block : ExtBlock)
     (at_b : slice_get e.blocks b ≡ Some block) (saved : Bool) (from : ℕ) where
   abbrev s : Setting
   s = setting_of e entry block
@@ -129,10 +132,6 @@ module _ (e : Ext) (o : Options) (roomy : AreRoomy e o) (fit : IsFit e.table) (e
       subst (λ (ops : List ExtOp). Reach e block s p (ops ++ tail) fin) (sym (append-nil (copy_ops D D2 kind true (temp n ∷ []) here.next)))
       (result_reach e block s kind name n here.next p tail fin is (named name refl) rest)
 
-  enter_same : (first : Bool) (src : SrcOp) (g : Growth) → with_enter first (Body src) g ≡ g
-  enter_same true src g = refl
-  enter_same false src g = refl
-
   module _ (src : SrcOp) (current : List ℕ) (first : ℕ) (g : Growth) (counted : Counted current first g) where
     abbrev op : ExtOp
     op = body_op e.table current first src
@@ -159,16 +158,18 @@ module _ (e : Ext) (o : Options) (roomy : AreRoomy e o) (fit : IsFit e.table) (e
     next = with_extended e.names block.live_in entry saved op g
 
     next_copied : (i : ℕ) → CopiedAt from g i → CopiedAt from next i
-    next_copied i h = subst (λ (x : Growth). CopiedAt from x i) (sym (enter_same entry src (with_values read.next (replicate (length rs) sort) here)))
+    next_copied i h = subst (λ (x : Growth). CopiedAt from x i)
+        (sym (enter_same entry src (with_values read.next (replicate (length rs) sort) here)))
         (copied_row from i read.next (length rs) sort here refl (copied_operands from i xs g h))
 
-    next_counted : ReadsFrom e o entry block from xs → Contains block.ops body → Counted (assigned current src.dst first) (past src.dst first) next
+    next_counted : ReadsFrom e o entry block from xs → Contains block.ops body
+        → Counted (assigned current src.dst first) (past src.dst first) next
     next_counted reads among = record {
       values = body_values e o roomy fit extended b entry block at_b src xs rs from g saved counted.values reads among;
       names = names_assigned from current src.dst first next (record { at = λ k. next_copied (slice_index current k) (counted.names.at k) })
           (next_copied first (copied_past from first g (let size = counted.size in omega arith)));
-      size = let a = op_count e.names block.live_in entry saved op g in let c = dst_count e.names block.live_in entry saved src.dst first first sort
-          in let size = counted.size in omega arith;
+      size = let a = op_count e.names block.live_in entry saved op g in
+          let c = dst_count e.names block.live_in entry saved src.dst first first sort in let size = counted.size in omega arith;
     }
 
     pub body_reach : (p : Progress) (tail : List ExtOp) (fin : ℕ) → SourceOk e o roomy fit extended b entry block at_b src
@@ -177,18 +178,22 @@ module _ (e : Ext) (o : Options) (roomy : AreRoomy e o) (fit : IsFit e.table) (e
         → Reach e block s p (extended_ops e.names block.live_in entry saved op g ++ tail) fin
     body_reach p tail fin source reads inside rest =
         let among = body_among e o roomy fit extended b entry block at_b src xs rs from g saved counted.values reads tail inside in
-        let good = (good_block e o roomy fit extended b entry block at_b).ops among.0 body (place_of e o roomy fit extended b entry block at_b body
+        let good = (good_block e o roomy fit extended b entry block at_b).ops among.0 body
+        (place_of e o roomy fit extended b entry block at_b body
         among) in
         let zip = good.operands in
-        let size = zip_length (IsGoodOperand e.names e.blocks (results_of (take among.0 block.ops))) (new_operands xs g) (wants_of_op e.table src
+        let size = zip_length (IsGoodOperand e.names e.blocks (results_of (take among.0 block.ops))) (new_operands xs g)
+        (wants_of_op e.table src
         src.op) zip in
         let kinds = kinds_read e.table current src src.op (sym (news_length xs g) ∙ size) in
-        let copied = subst (λ (ks : List Kind). AreCopied e block s xs ks g) kinds (operands_copied e o entry block (results_of (take among.0
+        let copied = subst (λ (ks : List Kind). AreCopied e block s xs ks g) kinds
+        (operands_copied e o entry block (results_of (take among.0
         block.ops)) from xs (wants_of_op e.table src src.op) g counted.values reads (λ j x at.
         let named = sources_named e.table current src.op src.srcs j x at in
         subst (CopiedAt from g) (sym named.1) (counted.names.at (let name = named.0 in name.0))) zip) in
         let ds = values_ops read.next (replicate (length rs) sort) here in
-        subst (λ (ops : List ExtOp). Reach e block s p ops fin) (sym (body_whole e o roomy fit extended b entry block at_b src xs rs from g saved
+        subst (λ (ops : List ExtOp). Reach e block s p ops fin)
+        (sym (body_whole e o roomy fit extended b entry block at_b src xs rs from g saved
         counted.values reads tail))
         (operands_reach e block s xs (read_kinds src src.op) g p (body ∷ (ds ++ tail)) fin copied refl (λ q at.
         let after = progress_of e block s q (purpose_at s.term (body ∷ (ds ++ tail))) body (Body src) in
@@ -213,9 +218,11 @@ module _ (e : Ext) (o : Options) (roomy : AreRoomy e o) (fit : IsFit e.table) (e
       let here = extended_ops e.names block.live_in entry saved op g in
       let grown = with_extended e.names block.live_in entry saved op g in
       let tail = all (body_ops e.table (assigned current src.dst first) (past src.dst first) srcs ++ rest) grown in
-      let among = body_among e o roomy fit extended b entry block at_b src op.operands op.results from g saved counted.values reads.0 tail inside in
+      let among = body_among e o roomy fit extended b entry block at_b src op.operands op.results from g saved counted.values reads.0 tail
+      inside in
       let split = sum_by-cons (source_packets e.table) src srcs in
       body_reach src current first g counted p tail fin sources.0 reads.0 inside (λ q at.
-      bodies_reach srcs (assigned current src.dst first) (past src.dst first) grown q rest fin (next_counted src current first g counted reads.0 among)
+      bodies_reach srcs (assigned current src.dst first) (past src.dst first) grown q rest fin
+      (next_counted src current first g counted reads.0 among)
       sources.1 reads.1 (λ x c. inside x (Contains-append_right here tail x c)) (λ h r known within there.
       go h r known within (omega arith)))

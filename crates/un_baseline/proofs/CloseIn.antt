@@ -14,8 +14,7 @@ use Rattle.un_isa.specs.declared.table.Table.{Table}
 use Rattle.un_ir.specs.declared.function.SrcOp.{SrcOp}
 use Rattle.un_ir.specs.declared.function.Term.{Term}
 use Rattle.un_ir.specs.declared.function.Term.TheVariants.{Fall, Jump, Branch, Ret}
-use Rattle.un_ir.specs.declared.extended.ExtKind.{ExtKind}
-use Rattle.un_ir.specs.declared.extended.ExtKind.TheVariants.{In, Out, Body, End, Copy, Enter, Leave}
+use Rattle.un_ir.specs.declared.extended.ExtKind.TheVariants.{Out, Body, End, Leave}
 use Rattle.un_ir.specs.declared.extended.Operand.{Operand}
 use Rattle.un_ir.specs.declared.extended.ExtOp.{ExtOp}
 use Rattle.un_ir.specs.declared.extended.ExtBlock.{ExtBlock}
@@ -35,7 +34,7 @@ use Rattle.un_baseline.specs.declared.plan.Setting.{Setting}
 use Rattle.un_baseline.specs.declared.plan.Progress.{Progress}
 use Rattle.un_baseline.specs.RoomyOptions.{AreRoomy}
 use Rattle.un_baseline.specs.SpillEverywhere.{purpose_of_end, purpose_of_out, purpose_at, progress_of, setting_of}
-use Rattle.un_baseline.proofs.Grown.{operands_ops, enter_ops, extended_ops, all_ops}
+use Rattle.un_baseline.proofs.Grown.{operands_ops, enter_ops, enter_none, enter_same, extended_ops, all_ops}
 use Rattle.un_baseline.proofs.CopiesIn.{OperandOk}
 use Rattle.un_baseline.proofs.OpsIn.{end_in, leave_in}
 use Rattle.un_baseline.proofs.OutsIn.{ReadsFrom, news_have, term_same, out_in}
@@ -101,6 +100,13 @@ few_wants t fit src Call =
     omega arith
 few_wants t fit src op = let a = few_kinds op in let b = length-map (operand_kinds op) anywhere in omega arith
 
+-- a terminator behind what leads to it
+pub end_whole : (entry : Bool) (term : Term) (lead us tail : List ExtOp) (made : ExtOp)
+    → (lead ++ (us ++ (made ∷ ([] ++ enter_ops entry (End term))))) ++ tail ≡ lead ++ (us ++ (made ∷ tail))
+end_whole entry term lead us tail made =
+    ap (λ (zs : List ExtOp). (lead ++ (us ++ (made ∷ zs))) ++ tail) (enter_none entry (End term) (λ h. cc h))
+    ∙ append_assoc lead (us ++ (made ∷ [])) tail ∙ ap (λ (zs : List ExtOp). lead ++ zs) (append_assoc us (made ∷ []) tail)
+
 module _ (e : Ext) (o : Options) (roomy : AreRoomy e o) (fit : IsFit e.table) (extended : IsExtended e) (b : ℕ) (entry : Bool) (block :
     ExtBlock)
     (at_b : slice_get e.blocks b ≡ Some block) (saved : Bool) (from link home : ℕ)
@@ -127,20 +133,6 @@ module _ (e : Ext) (o : Options) (roomy : AreRoomy e o) (fit : IsFit e.table) (e
 
   good_op : (op : ExtOp) → (k : Contains block.ops op) → IsGoodExtOp e.table e.names e.blocks block (results_of (take k.0 block.ops)) op
   good_op op k = (good_block e o roomy fit extended b entry block at_b).ops k.0 op (place_of e o roomy fit extended b entry block at_b op k)
-
-  enter_none : (first : Bool) (kind : ExtKind) → (kind ≡ In → ⊥) → enter_ops first kind ≡ []
-  enter_none true In h = absurd (h refl)
-  enter_none true Out h = refl
-  enter_none true (Body src) h = refl
-  enter_none true (End term) h = refl
-  enter_none true (Copy node) h = refl
-  enter_none true Enter h = refl
-  enter_none true Leave h = refl
-  enter_none false kind h = refl
-
-  enter_same : (first : Bool) (src : SrcOp) (g : Growth) → with_enter first (Body src) g ≡ g
-  enter_same true src g = refl
-  enter_same false src g = refl
 
   -- ---- the block's end
 
@@ -202,12 +194,6 @@ module _ (e : Ext) (o : Options) (roomy : AreRoomy e o) (fit : IsFit e.table) (e
         rest (progress_of e block s q (purpose_at s.term (made ∷ tail)) made (End term)) refl,
       ))
 
-  end_whole : (term : Term) (lead us tail : List ExtOp) (made : ExtOp)
-      → (lead ++ (us ++ (made ∷ ([] ++ enter_ops entry (End term))))) ++ tail ≡ lead ++ (us ++ (made ∷ tail))
-  end_whole term lead us tail made =
-      ap (λ (zs : List ExtOp). (lead ++ (us ++ (made ∷ zs))) ++ tail) (enter_none entry (End term) (λ h. cc h))
-      ∙ append_assoc lead (us ++ (made ∷ [])) tail ∙ ap (λ (zs : List ExtOp). lead ++ zs) (append_assoc us (made ∷ []) tail)
-
   enter_values : (first : Bool) (term : Term) (h : Growth) → (with_enter first (End term) h).values ≡ h.values
   enter_values true term h = refl
   enter_values false term h = refl
@@ -255,7 +241,7 @@ module _ (e : Ext) (o : Options) (roomy : AreRoomy e o) (fit : IsFit e.table) (e
       let op : ExtOp = record { kind = End (Jump to); operands = []; results = [] } in
       let next = grown op g in
       let made : ExtOp = record { kind = End (Jump to); operands = []; results = [] } in
-      subst (Steps p) (sym (end_whole (Jump to) [] [] (all rest next) made))
+      subst (Steps p) (sym (end_whole entry (Jump to) [] [] (all rest next) made))
       (end_steps (Jump to) [] g p (all rest next) tt none (λ q z. go next q (known_end (Jump to) [] g g refl known) z
       (later (extended_ops e.names block.live_in entry saved op g) (all rest next) inside)))
   ends_good (Branch pred sense to) current g p rest known reads none inside go =
@@ -263,7 +249,7 @@ module _ (e : Ext) (o : Options) (roomy : AreRoomy e o) (fit : IsFit e.table) (e
       let op : ExtOp = record { kind = End (Branch pred sense to); operands = xs; results = [] } in
       let next = grown op g in
       let made : ExtOp = record { kind = End (Branch pred sense to); operands = new_operands xs g; results = [] } in
-      subst (Steps p) (sym (end_whole (Branch pred sense to) [] (operands_ops xs g) (all rest next) made))
+      subst (Steps p) (sym (end_whole entry (Branch pred sense to) [] (operands_ops xs g) (all rest next) made))
       (end_steps (Branch pred sense to) xs g p (all rest next) (ready_operands e o roomy fit extended b entry block at_b from 0 xs g
       known.values
       reads.0 (omega arith)) none (λ q z. go next q (known_end (Branch pred sense to) xs g g refl known) z
@@ -282,7 +268,7 @@ module _ (e : Ext) (o : Options) (roomy : AreRoomy e o) (fit : IsFit e.table) (e
             link home g before refl known.begins;
       } in
       let purpose = purpose_at s.term (frame_op Leave ∷ (us ++ (made ∷ tail))) in
-      subst (Steps p) (sym (end_whole (Ret value) (frame_op Leave ∷ []) us tail made)) (
+      subst (Steps p) (sym (end_whole entry (Ret value) (frame_op Leave ∷ []) us tail made)) (
         leave_in e o roomy fit entry block p purpose,
         end_steps (Ret value) xs before (progress_of e block s p purpose (frame_op Leave) Leave) tail (ready_link value before known') refl
             (λ q z. go next q (known_end (Ret value) xs g before refl known) z

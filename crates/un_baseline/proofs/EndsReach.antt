@@ -1,5 +1,5 @@
 -- How many cycles the end of a block takes: a branch reloads its truth value, and what is handed over stays where it is.
-use Rattle.std.proofs.Common.{◌≡◌, ℕ, Bool, true, false, List, [], ◌∷◌, ◌++◌, Option, Some, None, refl, sym, subst}
+use Rattle.std.proofs.Common.{ℕ, Bool, true, false, List, [], ◌∷◌, ◌++◌, Option, Some, None, sym, subst}
 use Rattle.std.specs.Prelude.{slice_get}
 use Rattle.un_base.specs.declared.ids.TempId.{TempId}
 use Rattle.un_ir.specs.declared.function.Kind.{Kind}
@@ -16,7 +16,7 @@ use Rattle.un_ir.specs.Linear.{first_of}
 use Rattle.un_ir.specs.ExtendOf.{with_operand}
 use Rattle.un_baseline.specs.declared.plan.Setting.{Setting}
 use Rattle.un_baseline.specs.declared.plan.Progress.{Progress}
-use Rattle.un_baseline.proofs.Grown.{copy_ops, operand_ops_by, operand_ops, operands_ops, enter_ops, extended_ops, all_ops}
+use Rattle.un_baseline.proofs.Grown.{copy_ops, operand_ops_by, operand_ops, operands_ops, enter_ops, enter_none, extended_ops, all_ops}
 use Rattle.un_baseline.proofs.SpillSteps.{EachOp}
 use Rattle.un_baseline.proofs.Shapes.{each_append}
 use Rattle.un_baseline.proofs.BlockTimes.{TailOp, tail_stays}
@@ -33,16 +33,12 @@ operand_tail (Some v) n = copies_tail v.sort.kind v.sort.copied v.own n
 
 pub operands_tail : (xs : List Operand) (g : Growth) → EachOp TailOp (operands_ops xs g)
 operands_tail [] g = tt
-operands_tail (x ∷ xs) g = each_append TailOp (operand_ops x g) (operands_ops xs (with_operand x g)) (operand_tail (slice_get g.values (first_of
-    x.alts)) g.next) (operands_tail xs (with_operand x g))
+operands_tail (x ∷ xs) g = each_append TailOp (operand_ops x g) (operands_ops xs (with_operand x g))
+    (operand_tail (slice_get g.values (first_of x.alts)) g.next) (operands_tail xs (with_operand x g))
 
 module _ (e : Ext) (block : ExtBlock) (s : Setting) (entry saved : Bool) where
   abbrev all : List ExtOp → Growth → List ExtOp
   all ops g = all_ops e.names block.live_in entry saved ops g
-
-  none_enters : (first : Bool) → enter_ops first Out ≡ []
-  none_enters true = refl
-  none_enters false = refl
 
   abbrev out_of : List Operand → ExtOp
   out_of xs = record { kind = Out; operands = xs; results = [] }
@@ -53,7 +49,7 @@ module _ (e : Ext) (block : ExtBlock) (s : Setting) (entry saved : Bool) where
       (each_append TailOp (operands_ops xs g) (_ ∷ ([] ++ enter_ops entry Out)) (operands_tail xs g) (
         tt,
         subst (EachOp TailOp)
-            (sym (none_enters entry)) tt,
+            (sym (enter_none entry Out (λ h. cc h))) tt,
       )) tt
 
   -- what a block's end reads takes no cycle

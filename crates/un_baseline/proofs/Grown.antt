@@ -5,6 +5,7 @@ use Rattle.un_base.specs.declared.ids.NameId.{NameId}
 use Rattle.un_base.specs.declared.ids.TempId.{TempId}
 use Rattle.un_ir.specs.declared.function.Kind.{Kind}
 use Rattle.un_ir.specs.declared.function.Kind.TheVariants.{General, Pred}
+use Rattle.un_ir.specs.declared.function.SrcOp.{SrcOp}
 use Rattle.un_ir.specs.declared.extended.NodeCopy.{NodeCopy}
 use Rattle.un_ir.specs.declared.extended.NodeCopy.TheVariants.{D, D2, U, U2}
 use Rattle.un_ir.specs.declared.extended.ExtKind.{ExtKind}
@@ -119,6 +120,21 @@ enter_add true (Copy node) g = sym (append_nil g.ops)
 enter_add true Enter g = sym (append_nil g.ops)
 enter_add true Leave g = sym (append_nil g.ops)
 enter_add false kind g = sym (append_nil g.ops)
+
+-- only a block's start has Enter behind it
+pub enter_none : (entry : Bool) (kind : ExtKind) → (kind ≡ In → ⊥) → enter_ops entry kind ≡ []
+enter_none true In h = absurd (h refl)
+enter_none true Out h = refl
+enter_none true (Body o) h = refl
+enter_none true (End term) h = refl
+enter_none true (Copy node) h = refl
+enter_none true Enter h = refl
+enter_none true Leave h = refl
+enter_none false kind h = refl
+
+pub enter_same : (entry : Bool) (o : SrcOp) (g : Growth) → with_enter entry (Body o) g ≡ g
+enter_same true o g = refl
+enter_same false o g = refl
 
 module _ (names : List Kind) (live_in : List NameId) (entry saved : Bool) where
   -- behind its operands' copies, an operation with its results

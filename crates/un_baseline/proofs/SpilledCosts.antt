@@ -1,5 +1,5 @@
 -- The plan that spills every name of a function costs what is stated of the function.
-use Rattle.std.proofs.Common.{◌≡◌, ℕ, zero, suc, ◌+◌, ◌-◌, ◌*◌, ◌≤◌, Bool, true, false, List, [], ◌∷◌, ◌++◌, length, Option, Some, None, All, refl, sym, ap, subst, ◌∙◌, arith}
+use Rattle.std.proofs.Common.{◌≡◌, ℕ, suc, ◌+◌, ◌*◌, ◌≤◌, Bool, true, false, List, [], ◌∷◌, length, Option, Some, None, All, refl, sym, ap, subst, ◌∙◌, arith}
 use Rattle.std.specs.Prelude.{◌||◌, slice_get}
 use Rattle.std.proofs.lemmas.List.{length-append}
 use Rattle.std.proofs.lemmas.List.Elements.{All-head, All-tail}
@@ -20,10 +20,9 @@ use Rattle.un_ir.specs.LinearOf.{past, past_all, past_block, linear_block, linea
 use Rattle.un_model.specs.declared.model.Model.{Model}
 use Rattle.un_model.specs.declared.model.Options.{Options}
 use Rattle.un_model.specs.Cost.{cost_of}
-use Rattle.un_baseline.specs.Plans.{BlockPlan}
 use Rattle.un_baseline.specs.RoomyOptions.{AreRoomy, IsOfFunction, IsSpillable}
 use Rattle.un_baseline.specs.SpilledCost.{block_packets, spilled_cost}
-use Rattle.un_baseline.specs.SpillEverywhere.{block_plan, block_plans, spilled_values}
+use Rattle.un_baseline.specs.SpillEverywhere.{block_plans, spilled_values}
 use Rattle.un_baseline.proofs.FunctionIn.{assigns_well, reads_own}
 use Rattle.un_baseline.proofs.AllIn.{low_results, past_count, AreWell, AllWell, all_well, source_ok}
 use Rattle.un_baseline.proofs.BodiesReach.{AreSources}
@@ -93,7 +92,8 @@ module _ (f : Function) (lists : List (List NameId)) (t : Table) (o : Options) (
         ap (λ (packets : ℕ). blk.freq * packets + plans_cost others (block_plans e false others)) here
         ∙ ap (λ (n : ℕ). blk.freq * block_packets t entry (live_at lists bn) blk + n) rest
 
-    pub function_costs : IsLinear (lin_of f lists t) → plans_cost e.blocks (block_plans e true e.blocks) ≡ spilled_cost t lists true 0 f.blocks
+    pub function_costs : IsLinear (lin_of f lists t)
+        → plans_cost e.blocks (block_plans e true e.blocks) ≡ spilled_cost t lists true 0 f.blocks
     function_costs is_linear =
         blocks_take true 0 0 0 [] 0 f.blocks refl (λ not. absurd (cc not)) (all_well f f.blocks (λ b k block src at here. assigns_well f b k
         block src at here))
@@ -107,5 +107,6 @@ cost_of_model m h values same source =
     ap (λ (xs : List ℕ). cost_of m (record { values = xs })) same
     ∙ ap (λ (n : Model). cost_of n (record { values = spilled_values m.ext })) h.model ∙ cost_is m.ext m.options
     ∙ subst (λ (e : Ext). AreRoomy e m.options → IsExtended e
-    → plans_cost e.blocks (block_plans e true e.blocks) ≡ spilled_cost m.ext.table source.lists true 0 source.function.blocks) (sym source.extended)
+    → plans_cost e.blocks (block_plans e true e.blocks) ≡ spilled_cost m.ext.table source.lists true 0 source.function.blocks)
+    (sym source.extended)
     (λ roomy kept. function_costs source.function source.lists m.ext.table m.options h.table roomy kept source.linear) h.roomy h.kept

@@ -74,11 +74,14 @@ module _ (e : Ext) (block : ExtBlock) (s : Setting) where
       (by sort.copied (λ q at d. values_still (n + 1) sorts (with_value n sort g) q tail fin d (λ r z. rest r (z ∙ at))))
     where
       by : (copied : Bool)
-          → ((q : Progress) → q.cycle ≡ p.cycle → q.definer ≡ Other → Reach e block s q (values_ops (n + 1) sorts (with_value n sort g) ++ tail) fin)
-          → Reach e block s p (copy_ops D D2 sort.kind copied (temp n ∷ []) g.next ++ (values_ops (n + 1) sorts (with_value n sort g) ++ tail)) fin
+          → ((q : Progress) → q.cycle ≡ p.cycle → q.definer ≡ Other → Reach e block s q
+          (values_ops (n + 1) sorts (with_value n sort g) ++ tail) fin)
+          → Reach e block s p (copy_ops D D2 sort.kind copied (temp n ∷ []) g.next ++
+          (values_ops (n + 1) sorts (with_value n sort g) ++ tail)) fin
       by false go = go p refl is
       by true go =
-          value_takes Other sort.kind n g.next 0 p (values_ops (n + 1) sorts (with_value n sort g) ++ tail) fin is (omega arith) (λ q alts. refl)
+          value_takes Other sort.kind n g.next 0 p (values_ops (n + 1) sorts (with_value n sort g) ++ tail) fin is (omega arith)
+          (λ q alts. refl)
           (λ q k. go q (let c = k.cycle in omega arith) k.definer)
 
   -- ---- the entry
@@ -116,7 +119,8 @@ module _ (e : Ext) (block : ExtBlock) (s : Setting) where
       let next = with_value n (saved_sort true) g in
       let more = values_ops (n + 1) (replicate (suc k) (saved_sort true)) next in
       subst (λ (ops : List ExtOp). Reach e block s p ops fin) (sym (append_assoc (value_ops n (saved_sort true) g) more tail))
-      (value_takes Start General n g.next 0 p (more ++ tail) fin is (saved_moves p k (none_past block.live_in p.values past) count) (λ q alts. refl)
+      (value_takes Start General n g.next 0 p (more ++ tail) fin is (saved_moves p k (none_past block.live_in p.values past) count)
+      (λ q alts. refl)
       (λ q h.
       let c = h.cycle in
       let v = h.values in
@@ -129,14 +133,16 @@ module _ (e : Ext) (block : ExtBlock) (s : Setting) where
       → ((q : Progress) → q.cycle ≡ p.cycle + (length names + 1) * one → Reach e block s q tail fin)
       → Reach e block s p (values_ops n (map (sort_of_name e.names) names ++ replicate (suc k) (saved_sort true)) g ++ tail) fin
   names_reach [] k n g p tail fin is count live past rest =
-      saved_reach k n g p tail fin is (omega arith) (omega arith) (λ q at. rest q (let z : (0 + 1) * one ≡ one = omega arith in omega arith))
+      saved_reach k n g p tail fin is (omega arith) (omega arith)
+      (λ q at. rest q (let z : (0 + 1) * one ≡ one = omega arith in omega arith))
   names_reach (name ∷ names) k n g p tail fin is count live past rest =
       let sort = sort_of_name e.names name in
       let next = with_value n sort g in
       let more = values_ops (n + 1) (map (sort_of_name e.names) names ++ replicate (suc k) (saved_sort true)) next in
       let z : p.values + 0 ≡ p.values = omega arith in
       subst (λ (ops : List ExtOp). Reach e block s p ops fin) (sym (append_assoc (value_ops n sort g) more tail))
-      (value_takes Start sort.kind n g.next one p (more ++ tail) fin is (named_moves p name (ap (slice_get block.live_in) (sym z) ∙ live 0 name refl))
+      (value_takes Start sort.kind n g.next one p (more ++ tail) fin is
+      (named_moves p name (ap (slice_get block.live_in) (sym z) ∙ live 0 name refl))
       (λ q alts. refl)
       (λ q h.
       let c = h.cycle in

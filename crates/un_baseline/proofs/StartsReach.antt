@@ -2,7 +2,7 @@
 use Rattle.std.proofs.Common.{◌≡◌, ⊎_elim, ℕ, suc, ◌+◌, ◌-◌, ◌*◌, ◌<◌, Bool, true, false, List, [], ◌∷◌, ◌++◌, length, map, replicate, Some, refl, sym, ap, subst, ◌∙◌, append_assoc, arith}
 use Rattle.std.specs.Prelude.{if◌then◌else◌, slice_get}
 use Rattle.std.specs.List.{range_with_len}
-use Rattle.std.proofs.lemmas.List.{length-append, length-map, length-replicate}
+use Rattle.std.proofs.lemmas.List.{length-append}
 use Rattle.std.proofs.lemmas.List.FromFn.{length-map-range_with_len}
 use Rattle.un_base.specs.declared.ids.NameId.{NameId}
 use Rattle.un_base.specs.declared.ids.TempId.{TempId}
@@ -19,9 +19,8 @@ use Rattle.un_ir.specs.declared.extended.Growth.{Growth}
 use Rattle.un_ir.specs.declared.extended.Sort.{Sort}
 use Rattle.un_ir.specs.Extended.{temp}
 use Rattle.un_ir.specs.LinearOf.{first_temps}
-use Rattle.un_ir.specs.ExtendOf.{frame_op, sort_of_name, sorts_of, value_of, with_results, with_value, with_values, with_enter, with_extended}
+use Rattle.un_ir.specs.ExtendOf.{frame_op, sort_of_name, value_of, with_results, with_value, with_values, with_enter, with_extended}
 use Rattle.un_model.specs.Congruences.{live_in_temps}
-use Rattle.un_baseline.specs.declared.plan.Definer.{Definer}
 use Rattle.un_baseline.specs.declared.plan.Definer.TheVariants.{Start, Other}
 use Rattle.un_baseline.specs.declared.plan.Setting.{Setting}
 use Rattle.un_baseline.specs.declared.plan.Progress.{Progress}
@@ -46,7 +45,8 @@ copied_below n i m (sort ∷ sorts) g lt h =
     (push_cases g.values (value_of m sort g) i v at))
 
 -- one of those of names
-copied_front : (names : List Kind) (n i m : ℕ) (live_in : List NameId) (sorts : List Sort) (g : Growth) → i < length g.values + length live_in
+copied_front : (names : List Kind) (n i m : ℕ) (live_in : List NameId) (sorts : List Sort) (g : Growth)
+    → i < length g.values + length live_in
     → CopiedAt n g i → CopiedAt n (with_values m (map (sort_of_name names) live_in ++ sorts) g) i
 copied_front names n i m [] sorts g lt h = copied_below n i m sorts g (omega arith) h
 copied_front names n i m (name ∷ live_in) sorts g lt h =
@@ -59,7 +59,8 @@ copied_all : (names : List Kind) (n i m count : ℕ) (live_in : List NameId) (g 
     → CopiedAt n (with_values m (map (sort_of_name names) live_in ++ replicate count (saved_sort true)) g) i
 copied_all names n i m count [] g h = copied_row n i m count (saved_sort true) g refl h
 copied_all names n i m count (name ∷ live_in) g h =
-    copied_all names n i (m + 1) count live_in (with_value m (sort_of_name names name) g) (copied_value n i m (sort_of_name names name) g refl h)
+    copied_all names n i (m + 1) count live_in (with_value m (sort_of_name names name) g)
+    (copied_value n i m (sort_of_name names name) g refl h)
 
 copied_zero : (names : List Kind) (n m count : ℕ) (live_in : List NameId) (saved : Bool) (g : Growth) → length g.values ≡ n
     → (n ≡ 0 → saved ≡ true)
@@ -84,7 +85,8 @@ start_named names live_in entry saved n count results g size is =
     let next = with_enter entry In all in
     names_first n (replicate count 0) n live_in next
     (names_none n count next (enter_copied entry n 0 all (copied_zero names n g.next more live_in saved here size is)))
-    (λ j lt. enter_copied entry n (n + j) all (copied_front names n (n + j) g.next live_in (replicate more (saved_sort saved)) here (omega arith)
+    (λ j lt. enter_copied entry n (n + j) all
+    (copied_front names n (n + j) g.next live_in (replicate more (saved_sort saved)) here (omega arith)
     (copied_past n (n + j) here (omega arith))))
 
 -- ---- cycles
@@ -121,7 +123,8 @@ module _ (e : Ext) (entry : Bool) (block : ExtBlock) where
       → length results ≡ length block.live_in + length (saved_registers e.table)
       → live_in_temps block.ops ≡ map temp (range_with_len g.next (length results)) → (entry ≡ true → saved ≡ true)
       → ((q : Progress) → q.cycle ≡ p.cycle + spills e block s entry → Reach e block s q tail fin)
-      → Reach e block s p (extended_ops e.names block.live_in entry saved (record { kind = In; operands = []; results = results }) g ++ tail) fin
+      → Reach e block s p (extended_ops e.names block.live_in entry saved (record { kind = In; operands = []; results = results }) g
+      ++ tail) fin
   start_reach saved results g p tail fin size begins copied rest =
       let k = length (callee_saved e.table) in
       let here = with_results In [] (length results) g in

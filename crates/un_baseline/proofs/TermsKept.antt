@@ -110,7 +110,8 @@ bodies_term : (t : Table) (current : List ℕ) (n : ℕ) (srcs : List SrcOp) (mo
 bodies_term t current n [] more = refl
 bodies_term t current n (src ∷ srcs) more = bodies_term t (assigned current src.dst n) (past src.dst n) srcs more
 
-ends_term : (current : List ℕ) (link : ℕ) (term : Term) (out : ExtOp) → out.kind ≡ Out → term_of (end_ops current link term ++ out ∷ []) ≡ term
+ends_term : (current : List ℕ) (link : ℕ) (term : Term) (out : ExtOp) → out.kind ≡ Out
+    → term_of (end_ops current link term ++ out ∷ []) ≡ term
 ends_term current link Fall out is = ap (λ (k : ExtKind). term_or k Fall) is
 ends_term current link (Jump to) out is = refl
 ends_term current link (Branch pred sense to) out is = refl
