@@ -1,3 +1,5 @@
 pub mod Forms
 pub mod Listing
+pub mod ListingWords
+pub mod Recognized
 pub mod Report

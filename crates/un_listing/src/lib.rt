@@ -4,4 +4,6 @@
 pub mod form;
 pub mod pieces;
 pub mod print;
+pub mod recognize;
 pub mod report;
+pub mod word;
