@@ -1,2 +1,4 @@
+pub mod InstrWords
 pub mod Printed
 pub mod WordCuts
+pub mod WordTexts

@@ -1,0 +1,106 @@
+-- The words of an instruction's text.
+use Rattle.std.proofs.Common.{◌≡◌, ℕ, ℤ, pos, ◌<◌, ◌≤◌, Bool, true, false, List, [], ◌∷◌, ◌++◌, map, codes, Option, Some, None, refl, sym, ap, ◌∙◌, append_assoc, append-nil, arith, unsigned_abs}
+use Rattle.std.specs.List.{flat_map}
+use Rattle.std.specs.Fmt.{signed_decimal}
+use Rattle.un_base.specs.Names.{is_name}
+use Rattle.un_isa.specs.declared.reg.Reg.{Reg}
+use Rattle.un_isa.specs.declared.instr.Instr.{Instr}
+use Rattle.un_listing.specs.declared.form.Form.TheVariants.{Literal as LiteralForm, Reloaded, Spilled, StackMoved, Called, Jumped, JumpedIf, JumpedIfNot, Idle, Stored, Returned, Copied, Computed, WithLiteral, Loaded}
+use Rattle.un_listing.specs.declared.word.Word.{Word}
+use Rattle.un_listing.specs.declared.word.Word.TheVariants.{Named, Literal, Negated}
+use Rattle.un_listing.specs.Forms.{form_of, mnemonic}
+use Rattle.un_listing.specs.Listing.{joined, reg_text, text_in, instr_text}
+use Rattle.un_listing.specs.ListingWords.{words_of}
+use Rattle.un_listing.proofs.WordTexts.{Says, stops, first_word, IsRegText, reg_back, name_says, negated_says, literal_says}
+
+abbrev pub reg_word : Reg → Word
+reg_word r = Named (reg_text r)
+
+-- every register of the list is one of the processor
+abbrev pub AreRegs : List Reg → Type 0
+AreRegs [] = Unit {0}
+AreRegs (r ∷ rs) = (r.0 < 36) × AreRegs rs
+
+reg_then : (r : Reg) → r.0 < 36 → (rest : List ℕ) → stops rest ≡ true → words_of (reg_text r ++ rest) ≡ reg_word r ∷ words_of rest
+reg_then r h rest stop = first_word (reg_text r) (reg_word r) (reg_back r h).says rest stop
+
+more_stop : (rs : List Reg) (rest : List ℕ) → stops rest ≡ true → stops (flat_map (λ (r : Reg). codes "," ++ reg_text r) rs ++ rest) ≡ true
+more_stop [] rest stop = stop
+more_stop (r ∷ rs) rest stop = refl
+
+more_words : (rs : List Reg) (rest : List ℕ) → AreRegs rs → stops rest ≡ true
+    → words_of (flat_map (λ (r : Reg). codes "," ++ reg_text r) rs ++ rest) ≡ map reg_word rs ++ words_of rest
+more_words [] rest regs stop = refl
+more_words (r ∷ rs) rest regs stop =
+    ap words_of (append_assoc (codes "," ++ reg_text r) (flat_map (λ (r : Reg). codes "," ++ reg_text r) rs) rest)
+    ∙ reg_then r regs.0 (flat_map (λ (r : Reg). codes "," ++ reg_text r) rs ++ rest) (more_stop rs rest stop)
+    ∙ ap (λ (ws : List Word). reg_word r ∷ ws) (more_words rs rest regs.1 stop)
+
+operand_words : (rs : List Reg) (rest : List ℕ) → AreRegs rs → stops rest ≡ true
+    → words_of (joined (codes ",") reg_text rs ++ rest) ≡ map reg_word rs ++ words_of rest
+operand_words [] rest regs stop = refl
+operand_words (r ∷ rs) rest regs stop =
+    ap words_of (append_assoc (reg_text r) (flat_map (λ (r : Reg). codes "," ++ reg_text r) rs) rest)
+    ∙ reg_then r regs.0 (flat_map (λ (r : Reg). codes "," ++ reg_text r) rs ++ rest) (more_stop rs rest stop)
+    ∙ ap (λ (ws : List Word). reg_word r ∷ ws) (more_words rs rest regs.1 stop)
+
+-- ---- pieces
+
+only_word : (text : List ℕ) (w : Word) → Says text w → words_of text ≡ w ∷ []
+only_word text w says = sym (ap words_of (append-nil text)) ∙ first_word text w says [] refl
+
+reg_end : (r : Reg) → r.0 < 36 → words_of (reg_text r) ≡ reg_word r ∷ []
+reg_end r h = only_word (reg_text r) (reg_word r) (reg_back r h).says
+
+literal_then : (z : ℤ) → unsigned_abs z ≤ 65535 → (rest : List ℕ) → stops rest ≡ true → words_of ((codes "#" ++ signed_decimal z) ++ rest) ≡ Literal z ∷ words_of rest
+literal_then z h rest stop = first_word (codes "#" ++ signed_decimal z) (Literal z) (literal_says z h) rest stop
+
+literal_end : (z : ℤ) → unsigned_abs z ≤ 65535 → words_of (codes "#" ++ signed_decimal z) ≡ Literal z ∷ []
+literal_end z h = only_word (codes "#" ++ signed_decimal z) (Literal z) (literal_says z h)
+
+and_then : (w : Word) (x y : List Word) → x ≡ y → w ∷ x ≡ w ∷ y
+and_then w x y e = ap (λ (ws : List Word). w ∷ ws) e
+
+-- ---- forms
+
+pub literal_words : (d : Reg) (z : ℤ) → d.0 < 36 → unsigned_abs z ≤ 65535
+    → words_of (reg_text d ++ codes " = " ++ (codes "#" ++ signed_decimal z)) ≡ reg_word d ∷ Literal z ∷ []
+literal_words d z hd hz =
+    ap words_of (append_assoc (reg_text d) (codes " = ") (codes "#" ++ signed_decimal z))
+    ∙ reg_then d hd (codes " = " ++ (codes "#" ++ signed_decimal z)) refl
+    ∙ and_then (reg_word d) _ _ (literal_end z hz)
+
+pub copied_words : (d a : Reg) → d.0 < 36 → a.0 < 36 → words_of (reg_text d ++ codes " = " ++ reg_text a) ≡ reg_word d ∷ reg_word a ∷ []
+copied_words d a hd ha =
+    ap words_of (append_assoc (reg_text d) (codes " = ") (reg_text a))
+    ∙ reg_then d hd (codes " = " ++ reg_text a) refl
+    ∙ and_then (reg_word d) _ _ (reg_end a ha)
+
+pub computed_words : (d : Reg) (m : List ℕ) (srcs : List Reg) → d.0 < 36 → is_name m ≡ true → AreRegs srcs
+    → words_of (reg_text d ++ codes " = " ++ m ++ (codes "(" ++ joined (codes ",") reg_text srcs ++ codes ")"))
+    ≡ reg_word d ∷ Named m ∷ map reg_word srcs
+computed_words d m srcs hd hm hs =
+    ap words_of (append_assoc (reg_text d ++ codes " = ") m tail ∙ append_assoc (reg_text d) (codes " = ") (m ++ tail))
+    ∙ reg_then d hd (codes " = " ++ (m ++ tail)) refl
+    ∙ and_then (reg_word d) _ _ (first_word m (Named m) (name_says m hm) tail refl
+    ∙ and_then (Named m) _ _ (operand_words srcs (codes ")") hs refl ∙ append-nil (map reg_word srcs)))
+  where
+    tail : List ℕ
+    tail = codes "(" ++ joined (codes ",") reg_text srcs ++ codes ")"
+
+pub with_literal_words : (d a : Reg) (m : List ℕ) (z : ℤ) → d.0 < 36 → a.0 < 36 → is_name m ≡ true → unsigned_abs z ≤ 65535
+    → words_of (reg_text d ++ codes " = " ++ m ++ codes "(" ++ reg_text a ++ codes "," ++ (codes "#" ++ signed_decimal z) ++ codes ")")
+    ≡ reg_word d ∷ Named m ∷ reg_word a ∷ Literal z ∷ []
+with_literal_words d a m z hd ha hm hz = simp append_assoc (
+    reg_then d hd _ refl
+    ∙ and_then (reg_word d) _ _ (first_word m (Named m) (name_says m hm) _ refl
+    ∙ and_then (Named m) _ _ (reg_then a ha _ refl
+    ∙ and_then (reg_word a) _ _ (literal_then z hz (codes ")") refl))))
+
+pub loaded_words : (d a : Reg) (z : ℤ) → d.0 < 36 → a.0 < 36 → unsigned_abs z ≤ 65535
+    → words_of (reg_text d ++ codes " = " ++ (codes "memw(" ++ reg_text a ++ codes "+" ++ (codes "#" ++ signed_decimal z) ++ codes ")"))
+    ≡ reg_word d ∷ Named (codes "memw") ∷ reg_word a ∷ Literal z ∷ []
+loaded_words d a z hd ha hz = simp append_assoc (
+    reg_then d hd _ refl
+    ∙ and_then (reg_word d) _ _ (and_then (Named (codes "memw")) _ _ (reg_then a ha _ refl
+    ∙ and_then (reg_word a) _ _ (literal_then z hz (codes ")") refl))))
