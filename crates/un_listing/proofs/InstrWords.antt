@@ -97,10 +97,80 @@ with_literal_words d a m z hd ha hm hz = simp append_assoc (
     ∙ and_then (Named m) _ _ (reg_then a ha _ refl
     ∙ and_then (reg_word a) _ _ (literal_then z hz (codes ")") refl))))
 
-pub loaded_words : (d a : Reg) (z : ℤ) → d.0 < 36 → a.0 < 36 → unsigned_abs z ≤ 65535
-    → words_of (reg_text d ++ codes " = " ++ (codes "memw(" ++ reg_text a ++ codes "+" ++ (codes "#" ++ signed_decimal z) ++ codes ")"))
-    ≡ reg_word d ∷ Named (codes "memw") ∷ reg_word a ∷ Literal z ∷ []
-loaded_words d a z hd ha hz = simp append_assoc (
-    reg_then d hd _ refl
-    ∙ and_then (reg_word d) _ _ (and_then (Named (codes "memw")) _ _ (reg_then a ha _ refl
-    ∙ and_then (reg_word a) _ _ (literal_then z hz (codes ")") refl))))
+regroup : (a b c d e : List ℕ) → (((a ++ b) ++ c) ++ d) ++ e ≡ a ++ (b ++ (c ++ (d ++ e)))
+regroup a b c d e = simp append_assoc
+
+-- the word of memory at a base
+word_words : (base : List ℕ) (w : Word) (z : ℤ) → Says base w → unsigned_abs z ≤ 65535 → (rest : List ℕ) → stops rest ≡ true
+    → words_of ((codes "memw(" ++ base ++ codes "+" ++ (codes "#" ++ signed_decimal z) ++ codes ")") ++ rest)
+    ≡ Named (codes "memw") ∷ w ∷ Literal z ∷ words_of rest
+word_words base w z says hz rest stop =
+    and_then (Named (codes "memw")) _ _ (ap words_of (regroup base (codes "+") (codes "#" ++ signed_decimal z) (codes ")") rest)
+    ∙ first_word base w says (codes "+" ++ ((codes "#" ++ signed_decimal z) ++ (codes ")" ++ rest))) refl
+    ∙ and_then w _ _ (literal_then z hz (codes ")" ++ rest) refl))
+
+word_end : (base : List ℕ) (w : Word) (z : ℤ) → Says base w → unsigned_abs z ≤ 65535
+    → words_of (codes "memw(" ++ base ++ codes "+" ++ (codes "#" ++ signed_decimal z) ++ codes ")") ≡ Named (codes "memw") ∷ w ∷ Literal z ∷ []
+word_end base w z says hz =
+    sym (ap words_of (append-nil (codes "memw(" ++ base ++ codes "+" ++ (codes "#" ++ signed_decimal z) ++ codes ")")))
+    ∙ word_words base w z says hz [] refl
+
+pub stack_says : Says (codes "r29") (Named (codes "r29"))
+stack_says = name_says (codes "r29") refl
+
+pub loaded_words : (d : Reg) (base : List ℕ) (w : Word) (z : ℤ) → d.0 < 36 → Says base w → unsigned_abs z ≤ 65535
+    → words_of (reg_text d ++ codes " = " ++ (codes "memw(" ++ base ++ codes "+" ++ (codes "#" ++ signed_decimal z) ++ codes ")"))
+    ≡ reg_word d ∷ Named (codes "memw") ∷ w ∷ Literal z ∷ []
+loaded_words d base w z hd says hz =
+    ap words_of (append_assoc (reg_text d) (codes " = ") text)
+    ∙ reg_then d hd (codes " = " ++ text) refl
+    ∙ and_then (reg_word d) _ _ (word_end base w z says hz)
+  where
+    text : List ℕ
+    text = codes "memw(" ++ base ++ codes "+" ++ (codes "#" ++ signed_decimal z) ++ codes ")"
+
+pub stored_words : (base : List ℕ) (w : Word) (b : Reg) (z : ℤ) → Says base w → b.0 < 36 → unsigned_abs z ≤ 65535
+    → words_of ((codes "memw(" ++ base ++ codes "+" ++ (codes "#" ++ signed_decimal z) ++ codes ")") ++ codes " = " ++ reg_text b)
+    ≡ Named (codes "memw") ∷ w ∷ Literal z ∷ reg_word b ∷ []
+stored_words base w b z says hb hz =
+    ap words_of (append_assoc (codes "memw(" ++ base ++ codes "+" ++ (codes "#" ++ signed_decimal z) ++ codes ")") (codes " = ") (reg_text b))
+    ∙ word_words base w z says hz (codes " = " ++ reg_text b) refl
+    ∙ ap (λ (ws : List Word). Named (codes "memw") ∷ w ∷ Literal z ∷ ws) (reg_end b hb)
+
+pub moved_words : (z : ℤ) → unsigned_abs z ≤ 65535
+    → words_of (codes "r29 = add(r29," ++ (codes "#" ++ signed_decimal z) ++ codes ")")
+    ≡ Named (codes "r29") ∷ Named (codes "add") ∷ Named (codes "r29") ∷ Literal z ∷ []
+moved_words z hz = ap (λ (ws : List Word). Named (codes "r29") ∷ Named (codes "add") ∷ Named (codes "r29") ∷ ws) (literal_then z hz (codes ")") refl)
+
+pub called_words : (label : List ℕ) (srcs : List Reg) → is_name label ≡ true → AreRegs srcs
+    → words_of (codes "call " ++ label ++ (codes "(" ++ joined (codes ",") reg_text srcs ++ codes ")"))
+    ≡ Named (codes "call") ∷ Named label ∷ map reg_word srcs
+called_words label srcs hl hs =
+    and_then (Named (codes "call")) _ _ (first_word label (Named label) (name_says label hl) (codes "(" ++ joined (codes ",") reg_text srcs ++ codes ")") refl
+    ∙ and_then (Named label) _ _ (operand_words srcs (codes ")") hs refl ∙ append-nil (map reg_word srcs)))
+
+label_end : (label : List ℕ) → is_name label ≡ true → words_of label ≡ Named label ∷ []
+label_end label hl = only_word label (Named label) (name_says label hl)
+
+pub jumped_words : (label : List ℕ) → is_name label ≡ true → words_of (codes "jump " ++ label) ≡ Named (codes "jump") ∷ Named label ∷ []
+jumped_words label hl = and_then (Named (codes "jump")) _ _ (label_end label hl)
+
+pub jumped_if_words : (p : Reg) (label : List ℕ) → p.0 < 36 → is_name label ≡ true
+    → words_of (codes "if (" ++ reg_text p ++ codes ") jump " ++ label) ≡ Named (codes "if") ∷ reg_word p ∷ Named (codes "jump") ∷ Named label ∷ []
+jumped_if_words p label hp hl =
+    and_then (Named (codes "if")) _ _ (ap words_of (append_assoc (reg_text p) (codes ") jump ") label)
+    ∙ reg_then p hp (codes ") jump " ++ label) refl
+    ∙ and_then (reg_word p) _ _ (and_then (Named (codes "jump")) _ _ (label_end label hl)))
+
+pub jumped_if_not_words : (p : Reg) (label : List ℕ) → p.0 < 36 → is_name label ≡ true
+    → words_of (codes "if (!" ++ reg_text p ++ codes ") jump " ++ label) ≡ Named (codes "if") ∷ Negated p ∷ Named (codes "jump") ∷ Named label ∷ []
+jumped_if_not_words p label hp hl =
+    and_then (Named (codes "if")) _ _ (ap words_of (append_assoc (33 ∷ reg_text p) (codes ") jump ") label)
+    ∙ first_word (33 ∷ reg_text p) (Negated p) (negated_says (reg_text p) p (reg_back p hp)) (codes ") jump " ++ label) refl
+    ∙ and_then (Negated p) _ _ (and_then (Named (codes "jump")) _ _ (label_end label hl)))
+
+pub returned_words : (a : Reg) → a.0 < 36 → words_of (codes "jumpr " ++ reg_text a) ≡ Named (codes "jumpr") ∷ reg_word a ∷ []
+returned_words a ha = and_then (Named (codes "jumpr")) _ _ (reg_end a ha)
+
+pub idle_words : words_of (codes "nop") ≡ Named (codes "nop") ∷ []
+idle_words = refl
