@@ -95,7 +95,7 @@ with_literal_back op m d a z hd ha other =
 
 -- ---- literals
 
-small_literal : (range : Range) (z : ℤ) → InRange range z → unsigned_abs z ≤ 65535
+pub small_literal : (range : Range) (z : ℤ) → InRange range z → unsigned_abs z ≤ 65535
 small_literal Signed16 (pos n) h = let k = h.1 in omega (arith, ints)
 small_literal Signed16 (negsuc n) h = let k = h.0 in omega (arith, ints)
 small_literal Signed10 (pos n) h = let k = h.1 in omega (arith, ints)
@@ -116,7 +116,7 @@ IsBack i = instr_of (words_of (instr_text i)) ≡ Some i
 abbrev instr : Op → Option Reg → List Reg → ℤ → Option (List ℕ) → Instr
 instr op dst srcs imm label = record { op = op; dst = dst; srcs = srcs; imm = imm; label = label }
 
-below : (n : ℕ) (s : Space) → s ≢ M → space_of n ≡ s → n < 36
+pub below : (n : ℕ) (s : Space) → s ≢ M → space_of n ≡ s → n < 36
 below n R h e = let k = general n e in omega arith
 below n P h e = (predicate n e).1
 below n M h e = absurd (h refl)
@@ -302,7 +302,7 @@ no_literal : (srcs : List Reg) → literal_of_words (map reg_word srcs) ≡ pos 
 no_literal [] = refl
 no_literal (r ∷ rs) = no_literal rs
 
-counted : (k : ℕ) (srcs : List Reg) → map number srcs ≡ range_with_len k (length srcs) → k + length srcs ≤ 36 → AreRegs srcs
+pub counted : (k : ℕ) (srcs : List Reg) → map number srcs ≡ range_with_len k (length srcs) → k + length srcs ≤ 36 → AreRegs srcs
 counted k [] e h = tt
 counted k (r ∷ rs) e h =
     let first : r.0 ≡ k = cc e in

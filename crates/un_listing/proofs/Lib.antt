@@ -1,3 +1,4 @@
+pub mod CleanTexts
 pub mod InstrBack
 pub mod InstrWords
 pub mod Printed

@@ -73,10 +73,10 @@ first_word text w says (b ∷ rest) stop =
 -- ---- tests of bytes
 
 -- a byte that passes a test is none that fails it
-other_byte : (test : ℕ → Bool) (b k : ℕ) → test b ≡ true → test k ≡ false → (b == k) ≡ false
+pub other_byte : (test : ℕ → Bool) (b k : ℕ) → test b ≡ true → test k ≡ false → (b == k) ≡ false
 other_byte test b k passes fails = ne_eqb b k (λ e. true≢false (sym passes ∙ (ap test e ∙ fails)))
 
-all_weaker : (p q : ℕ → Bool) → ((b : ℕ) → p b ≡ true → q b ≡ true) → (bs : List ℕ) → list_all p bs ≡ true → list_all q bs ≡ true
+pub all_weaker : (p q : ℕ → Bool) → ((b : ℕ) → p b ≡ true → q b ≡ true) → (bs : List ℕ) → list_all p bs ≡ true → list_all q bs ≡ true
 all_weaker p q h [] e = refl
 all_weaker p q h (b ∷ bs) e = let k = and_parts (p b) (list_all p bs) e in rw (h b k.0, all_weaker p q h bs k.1) refl
 

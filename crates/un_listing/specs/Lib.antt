@@ -1,5 +1,6 @@
 pub mod Forms
 pub mod Listing
 pub mod ListingWords
+pub mod PacketWords
 pub mod Recognized
 pub mod Report
