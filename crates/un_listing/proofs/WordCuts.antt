@@ -10,7 +10,7 @@ use Rattle.un_listing.specs.declared.word.Word.{Word}
 use Rattle.un_listing.specs.ListingWords.{word_of, is_between, is_some_text, spelled, words_of}
 
 -- where no byte passes, the text is one part
-whole_part : (p : ℕ → Bool) (text : List ℕ) → length text ≤ position_or_len p text → slice_split p text ≡ text ∷ []
+pub whole_part : (p : ℕ → Bool) (text : List ℕ) → length text ≤ position_or_len p text → slice_split p text ≡ text ∷ []
 whole_part p [] past = refl
 whole_part p (b ∷ bs) past = by (p b) refl past (λ h. whole_part p bs h)
   where

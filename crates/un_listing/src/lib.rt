@@ -2,8 +2,11 @@
 #![tactic(auto)]
 
 pub mod form;
+mod needs;
+pub mod packet;
 pub mod pieces;
 pub mod print;
 pub mod recognize;
 pub mod report;
+pub mod rules;
 pub mod word;
