@@ -1,7 +1,9 @@
 pub mod CleanTexts
 pub mod InstrBack
 pub mod InstrWords
+pub mod LabelNames
 pub mod NeedLaws
+pub mod PacketBack
 pub mod PartCuts
 pub mod Printed
 pub mod WordCuts
