@@ -2,6 +2,7 @@ pub mod CleanTexts
 pub mod InstrBack
 pub mod InstrWords
 pub mod LabelNames
+pub mod LineCuts
 pub mod NeedLaws
 pub mod PacketBack
 pub mod PartCuts

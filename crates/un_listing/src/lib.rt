@@ -2,6 +2,8 @@
 #![tactic(auto)]
 
 pub mod form;
+pub mod line;
+pub mod lines;
 mod needs;
 pub mod packet;
 pub mod pieces;
