@@ -1,4 +1,5 @@
 pub mod Forms
+pub mod LabelSets
 pub mod Listing
 pub mod ListingWords
 pub mod Needed
