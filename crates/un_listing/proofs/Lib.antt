@@ -1,6 +1,7 @@
 pub mod CleanTexts
 pub mod InstrBack
 pub mod InstrWords
+pub mod Judged
 pub mod LabelEq
 pub mod LabelNames
 pub mod LineCuts

@@ -1,7 +1,8 @@
 -- Sets of labels, and what stands before a line.
-use Rattle.std.specs.Prelude.{ℕ, ◌≡◌, ◌≢◌, ◌↔◌, Bool, true, false, IsTrue, List, [], ◌∷◌, ◌++◌, Option, Contains, length, if◌then◌else◌}
+use Rattle.std.specs.Prelude.{ℕ, ◌≡◌, ◌≢◌, ◌↔◌, ◌<◌, Bool, true, false, IsTrue, List, [], ◌∷◌, ◌++◌, Option, Contains, length, if◌then◌else◌}
 use Rattle.std.specs.List.{list_any}
 use Rattle.std.specs.Str.{bytes_eq}
+use Rattle.un_packet.specs.declared.code.TheConstants.{PACKETS, BLOCKS}
 use Rattle.un_listing.specs.declared.line.Line.{Line}
 use Rattle.un_listing.specs.declared.labels.Before.{Before}
 use Rattle.un_listing.specs.Reading.{labels_in, packets_in}
@@ -13,13 +14,13 @@ has_label labels label = list_any (bytes_eq label) labels
 abbrev pub add_label : List (List ℕ) → List ℕ → List (List ℕ)
 add_label labels label = if has_label labels label then labels else labels ++ label ∷ []
 
--- the set has the labels of these lines
-abbrev pub HasLabelsOf : List (List ℕ) → List (Option Line) → Type 0
-HasLabelsOf labels lines = (label : List ℕ) → Contains labels label ↔ Contains (labels_in lines) label
+-- the same labels are in both
+abbrev pub SameLabels : List (List ℕ) → List (List ℕ) → Type 0
+SameLabels labels others = (label : List ℕ) → Contains labels label ↔ Contains others label
 
 -- what is known of the lines before a line
 pub record IsBefore (before : Before) (lines : List (Option Line)) : Type 0 where
-  pub labels : HasLabelsOf before.labels lines
+  pub labels : SameLabels before.labels (labels_in lines)
   pub blocks : before.blocks ≡ length (labels_in lines)
   pub packets : before.packets ≡ packets_in lines
   pub some : IsTrue before.some ↔ (lines ≢ [])

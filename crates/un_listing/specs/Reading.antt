@@ -14,6 +14,9 @@ use Rattle.un_listing.specs.declared.line.Line.TheVariants.{Block as BlockLine, 
 use Rattle.un_listing.specs.Listing.{packet_line}
 use Rattle.un_listing.specs.PacketWords.{IsCodePacket}
 
+abbrev pub LineValue : Type 0
+LineValue = Line
+
 -- ---- what a line spells
 
 abbrev pub line_text : Line → List ℕ

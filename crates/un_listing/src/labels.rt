@@ -1,15 +1,14 @@
 //! The labels of a listing, and what stands before one of its lines.
 
 ghost use Rattle.std.specs.Prelude.{◌≡◌, ℕ, List, [], ◌∷◌, ◌++◌, ◌+◌, ◌<◌, ◌↔◌, IsTrue, IfOk, OnOk, Option, Contains};
-ghost use Rattle.un_listing.specs.declared.line.Line.{Line as LineValue};
-ghost use Rattle.un_listing.specs.LabelSets.{has_label, add_label, HasLabelsOf};
+ghost use Rattle.un_listing.specs.LabelSets.{has_label, add_label};
 
-use crate::line::Line;
 use indexmap::IndexSet;
 use std::alloc::Global;
 use std::marker::Model;
 use un_base::memory_error::NoMemory;
 use un_base::name::Name;
+
 
 /// A set of labels. Contracts see it as a list of them, each once.
 #[derive(Drop)]

@@ -2,6 +2,7 @@
 #![tactic(auto)]
 
 pub mod form;
+pub mod judge;
 pub mod labels;
 pub mod line;
 pub mod lines;
