@@ -1,12 +1,12 @@
 -- No semicolon and no line feed stands in an instruction's text.
-use Rattle.std.proofs.Common.{◌≡◌, ◌≢◌, ℕ, ℤ, pos, negsuc, suc, zero, ◌+◌, ◌<◌, ◌≤◌, ◌==◌, ◌&&◌, ◌||◌, not, Bool, true, false, List, [], ◌∷◌, ◌++◌, map, length, codes, slice_get, Option, Some, None, IfSome, option_map, lit≤, refl, sym, ap, ◌∙◌, arith, unsigned_abs}
+use Rattle.std.proofs.Common.{◌≡◌, ℕ, ℤ, suc, zero, ◌<◌, ◌≤◌, ◌==◌, ◌||◌, not, Bool, true, false, List, [], ◌∷◌, ◌++◌, map, codes, slice_get, Option, Some, None, IfSome, option_map, lit≤, refl, arith, unsigned_abs}
 use Rattle.std.specs.List.{list_all, flat_map}
 use Rattle.std.specs.Fmt.{signed_decimal}
 use Rattle.std.proofs.lemmas.List.Folds.{list_all-append}
 use Rattle.std.proofs.lemmas.Bool.{and_parts}
 use Rattle.un_base.specs.Names.{is_name}
 use Rattle.un_isa.specs.declared.op.Op.{Op}
-use Rattle.un_isa.specs.declared.op.Op.TheVariants.{Imm, Mov, Add, Sub, And, Or, Xor, Addi, Andi, Ori, Mux, CmpEq, CmpGt, CmpGtu, CmpEqi, CmpGti, Mpyi, Asl, Asr, Lsr, Load, Store, Call, Jump, JumpIf, JumpIfNot, Jumpr, Spill, Reload, P2R, R2P, Enter, Leave, Nop}
+use Rattle.un_isa.specs.declared.op.Op.TheVariants.{Add, Store, Call, Jump, JumpIf, JumpIfNot, Jumpr, Spill, Enter, Leave, Nop}
 use Rattle.un_isa.specs.declared.reg.Space.{Space}
 use Rattle.un_isa.specs.declared.reg.Space.TheVariants.{R, P, M}
 use Rattle.un_isa.specs.declared.reg.Reg.{Reg}
@@ -15,7 +15,7 @@ use Rattle.un_isa.specs.declared.instr.Instr.{Instr}
 use Rattle.un_isa.specs.Registers.{space_of}
 use Rattle.un_isa.specs.Facts.{operand_spaces, result_space, literal_range}
 use Rattle.un_isa.specs.Operands.{IsLiteralOf}
-use Rattle.un_packet.specs.CodeRules.{IsGoodInstr, ReadsItsSpaces, WritesItsSpace, HasItsNumber, minus}
+use Rattle.un_packet.specs.CodeRules.{IsGoodInstr, ReadsItsSpaces, WritesItsSpace, HasItsNumber}
 use Rattle.un_listing.specs.declared.form.Form.{Form}
 use Rattle.un_listing.specs.declared.form.Form.TheVariants.{Literal, Copied, Computed, WithLiteral, Loaded, Stored, Reloaded, Spilled, StackMoved, Called, Jumped, JumpedIf, JumpedIfNot, Returned, Idle}
 use Rattle.un_listing.specs.declared.word.Word.{Word}

@@ -1,5 +1,5 @@
 -- An instruction of code is what the words of its text spell.
-use Rattle.std.proofs.Common.{◌≡◌, ◌≢◌, ℕ, ℤ, pos, negsuc, suc, zero, ◌+◌, ◌<◌, ◌≤◌, ◌==◌, Bool, true, false, nat_lt, List, [], ◌∷◌, ◌++◌, map, length, take, codes, Option, Some, None, if◌then◌else◌, IfSome, option_map, refl, sym, ap, ◌∙◌, arith, unsigned_abs, lt-ltb, ne_eqb}
+use Rattle.std.proofs.Common.{◌≡◌, ◌≢◌, ℕ, ℤ, pos, negsuc, suc, zero, ◌+◌, ◌<◌, ◌≤◌, Bool, true, false, nat_lt, List, [], ◌∷◌, map, length, take, codes, Option, Some, None, if◌then◌else◌, IfSome, option_map, refl, ap, ◌∙◌, arith, unsigned_abs, lt-ltb, ne_eqb}
 use Rattle.std.proofs.lemmas.Bool.Decides.{nat_tests}
 use Rattle.un_base.specs.Names.{is_name}
 use Rattle.un_isa.specs.declared.op.Op.{Op}
@@ -13,11 +13,11 @@ use Rattle.un_packet.specs.CodeRules.{IsGoodInstr, minus}
 use Rattle.un_listing.specs.declared.form.Form.{Form}
 use Rattle.un_listing.specs.declared.form.Form.TheVariants.{Computed, WithLiteral}
 use Rattle.un_listing.specs.declared.word.Word.{Word}
-use Rattle.un_listing.specs.declared.word.Word.TheVariants.{Named, Literal, Negated}
+use Rattle.un_listing.specs.declared.word.Word.TheVariants.{Named, Literal}
 use Rattle.un_listing.specs.Forms.{form_of, mnemonic}
 use Rattle.un_listing.specs.Listing.{reg_text, instr_text}
 use Rattle.un_listing.specs.ListingWords.{reg_of, words_of}
-use Rattle.un_listing.specs.Recognized.{computed_ops, literal_ops, literal_of_words, reg_in, moved_by, op_with, is_stack, op_of, instr_with, instr_of}
+use Rattle.un_listing.specs.Recognized.{computed_ops, literal_ops, literal_of_words, reg_in, op_with, is_stack, op_of, instr_with, instr_of}
 use Rattle.std.specs.Str.{bytes_eq}
 use Rattle.std.specs.List.{filter_map, range_with_len}
 use Rattle.std.proofs.lemmas.Int.{ints}

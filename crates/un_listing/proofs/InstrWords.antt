@@ -1,17 +1,14 @@
 -- The words of an instruction's text.
-use Rattle.std.proofs.Common.{◌≡◌, ℕ, ℤ, pos, ◌<◌, ◌≤◌, Bool, true, false, List, [], ◌∷◌, ◌++◌, map, codes, Option, Some, None, refl, sym, ap, ◌∙◌, append_assoc, append-nil, arith, unsigned_abs}
+use Rattle.std.proofs.Common.{◌≡◌, ℕ, ℤ, ◌<◌, ◌≤◌, true, List, [], ◌∷◌, ◌++◌, map, codes, refl, sym, ap, ◌∙◌, append_assoc, append-nil, unsigned_abs}
 use Rattle.std.specs.List.{flat_map}
 use Rattle.std.specs.Fmt.{signed_decimal}
 use Rattle.un_base.specs.Names.{is_name}
 use Rattle.un_isa.specs.declared.reg.Reg.{Reg}
-use Rattle.un_isa.specs.declared.instr.Instr.{Instr}
-use Rattle.un_listing.specs.declared.form.Form.TheVariants.{Literal as LiteralForm, Reloaded, Spilled, StackMoved, Called, Jumped, JumpedIf, JumpedIfNot, Idle, Stored, Returned, Copied, Computed, WithLiteral, Loaded}
 use Rattle.un_listing.specs.declared.word.Word.{Word}
 use Rattle.un_listing.specs.declared.word.Word.TheVariants.{Named, Literal, Negated}
-use Rattle.un_listing.specs.Forms.{form_of, mnemonic}
-use Rattle.un_listing.specs.Listing.{joined, reg_text, text_in, instr_text}
+use Rattle.un_listing.specs.Listing.{joined, reg_text}
 use Rattle.un_listing.specs.ListingWords.{words_of}
-use Rattle.un_listing.proofs.WordTexts.{Says, stops, first_word, IsRegText, reg_back, name_says, negated_says, literal_says}
+use Rattle.un_listing.proofs.WordTexts.{Says, stops, first_word, reg_back, name_says, negated_says, literal_says}
 
 abbrev pub reg_word : Reg → Word
 reg_word r = Named (reg_text r)

@@ -1,16 +1,16 @@
 -- The label of an instruction that words spell is a name.
-use Rattle.std.proofs.Common.{◌≡◌, ℕ, ℤ, suc, zero, ◌==◌, Bool, true, false, List, [], ◌∷◌, map, filter, Option, Some, None, IfSome, All, option_map, refl, sym, ap, subst, slice_get, if◌then◌else◌}
+use Rattle.std.proofs.Common.{◌≡◌, ℕ, ℤ, suc, zero, ◌==◌, Bool, true, false, List, [], ◌∷◌, map, filter, Option, Some, None, IfSome, All, option_map, refl, subst, if◌then◌else◌}
 use Rattle.std.specs.List.{slice_split}
-use Rattle.std.specs.Option.{option_and_then, option_map_or}
+use Rattle.std.specs.Option.{option_and_then}
 use Rattle.std.proofs.lemmas.List.Elements.{All-nil, All-cons}
 use Rattle.un_base.specs.Names.{is_name}
 use Rattle.un_isa.specs.declared.op.Op.{Op}
 use Rattle.un_isa.specs.declared.reg.Reg.{Reg}
 use Rattle.un_isa.specs.declared.instr.Instr.{Instr}
 use Rattle.un_listing.specs.declared.form.Form.{Form}
-use Rattle.un_listing.specs.declared.form.Form.TheVariants.{Called, Jumped, JumpedIf, JumpedIfNot, Literal as LiteralForm, Copied, Computed, WithLiteral, Loaded, Stored, Reloaded, Spilled, StackMoved, Returned, Idle}
+use Rattle.un_listing.specs.declared.form.Form.TheVariants.{Called, Jumped, JumpedIf, JumpedIfNot}
 use Rattle.un_listing.specs.declared.word.Word.{Word}
-use Rattle.un_listing.specs.declared.word.Word.TheVariants.{Named, Literal, Negated, Other}
+use Rattle.un_listing.specs.declared.word.Word.TheVariants.{Named, Literal, Negated}
 use Rattle.un_listing.specs.Forms.{form_of}
 use Rattle.un_listing.specs.ListingWords.{reg_of, literal_of, name_of, word_by, word_of, is_between, is_some_text, words_of}
 use Rattle.un_listing.specs.Recognized.{name_in, name_at, label_in, op_of, instr_with, instr_of}

@@ -1,8 +1,7 @@
 -- A packet of code is read back from its line.
-use Rattle.std.proofs.Common.{◌≡◌, ℕ, suc, zero, ◌+◌, ◌<◌, ◌≤◌, ◌==◌, ◌&&◌, ◌||◌, not, cond, Bool, true, false, List, [], ◌∷◌, ◌++◌, map, filter, length, codes, Option, Some, None, IfSome, All, refl, sym, ap, ◌∙◌, append_assoc, append-nil, arith}
+use Rattle.std.proofs.Common.{◌≡◌, ℕ, ◌<◌, ◌≤◌, ◌==◌, ◌&&◌, ◌||◌, not, cond, Bool, true, false, List, [], ◌∷◌, ◌++◌, map, filter, length, codes, Option, Some, All, refl, ap, ◌∙◌, append_assoc, append-nil, arith}
 use Rattle.std.specs.List.{slice_split, onto_first, list_all, flat_map}
 use Rattle.std.specs.Option.{option_and_then}
-use Rattle.std.proofs.lemmas.Bool.{and_parts}
 use Rattle.std.proofs.lemmas.List.{map-append}
 use Rattle.std.proofs.lemmas.List.Elements.{All-head, All-tail, filter-append}
 use Rattle.std.proofs.lemmas.List.Splits.{length-slice_split}
@@ -10,13 +9,13 @@ use Rattle.std.proofs.lemmas.List.Folds.{list_all-append}
 use Rattle.un_isa.specs.declared.instr.Instr.{Instr}
 use Rattle.un_packet.specs.declared.code.Packet.{Packet}
 use Rattle.un_packet.specs.CodeRules.{IsGoodInstr}
-use Rattle.un_listing.specs.Listing.{joined, instr_text, packet_line}
+use Rattle.un_listing.specs.Listing.{joined, instr_text}
 use Rattle.un_listing.specs.ListingWords.{word_of, is_between, is_some_text, words_of}
 use Rattle.un_listing.specs.Recognized.{instr_of}
-use Rattle.un_listing.specs.PacketWords.{IsNamed, is_semicolon, parts_of, put_before, instrs_in, IsCodePacket, IsPacketLine}
+use Rattle.un_listing.specs.PacketWords.{IsNamed, is_semicolon, parts_of, put_before, instrs_in, IsPacketLine}
 use Rattle.un_listing.proofs.WordTexts.{all_weaker}
 use Rattle.un_listing.proofs.InstrBack.{IsBack, instr_back}
-use Rattle.un_listing.proofs.CleanTexts.{is_clean, IsClean, instr_clean}
+use Rattle.un_listing.proofs.CleanTexts.{is_clean, instr_clean}
 
 -- ---- words before a byte that is in none
 
@@ -100,8 +99,7 @@ are_back : (frame : ℕ) → frame ≤ 256 → (is : List Instr) → All (IsGood
 are_back frame small [] good named = tt
 are_back frame small (i ∷ is) good named =
     let g = All-head (IsGoodInstr frame) i is good in
-    let n = All-head IsNamed i is named in
-    (
+    let n = All-head IsNamed i is named in (
       instr_back frame small i.op i.dst i.srcs i.imm i.label g n,
       all_weaker is_clean (λ b. not (is_semicolon b)) clean_byte (instr_text i) (instr_clean frame small i g n),
       are_back frame small is (All-tail (IsGoodInstr frame) i is good) (All-tail IsNamed i is named),

@@ -1,8 +1,8 @@
 -- The words that registers, names and literals are.
-use Rattle.std.proofs.Common.{rules, ◌≡◌, ◌≢◌, ℕ, ℤ, pos, negsuc, suc, ◌+◌, ◌-◌, ◌^◌, ◌<◌, ◌≤◌, min, Bool, true, false, not, ◌&&◌, ◌||◌, ◌==◌, nat_lt, nat_le, List, [], ◌∷◌, ◌++◌, cond, if◌then◌else◌, map, filter, length, slice_index, Option, Some, None, refl, sym, ap, ◌∙◌, subst, append-nil, arith, lt-ltb, ne_eqb, true≢false, add-one, zero-add, decimal, unsigned_abs}
+use Rattle.std.proofs.Common.{rules, ◌≡◌, ℕ, ℤ, pos, negsuc, suc, ◌+◌, ◌-◌, ◌^◌, ◌<◌, ◌≤◌, min, Bool, true, false, not, ◌&&◌, ◌||◌, ◌==◌, nat_lt, nat_le, List, [], ◌∷◌, ◌++◌, if◌then◌else◌, map, filter, length, slice_index, Some, refl, sym, ap, ◌∙◌, subst, append-nil, arith, lt-ltb, ne_eqb, true≢false, zero-add, decimal, unsigned_abs}
 use Rattle.std.specs.Fmt.{signed_decimal}
 use Rattle.std.specs.Char.{is_ascii_digit}
-use Rattle.std.specs.List.{list_all, slice_split, onto_first}
+use Rattle.std.specs.List.{list_all, slice_split}
 use Rattle.std.specs.Str.{all_ascii_digits}
 use Rattle.std.proofs.lemmas.Bool.{and_parts}
 use Rattle.std.proofs.lemmas.Bool.Decides.{nat_tests}
@@ -12,11 +12,10 @@ use Rattle.un_base.specs.Names.{is_first, is_rest, is_name}
 use Rattle.un_base.specs.Decimals.{value_after, value_of}
 use Rattle.un_isa.specs.declared.reg.Reg.{Reg}
 use Rattle.un_words.specs.Tokens.{digits_of, number_of}
-use Rattle.un_packet.specs.CodeRules.{minus}
 use Rattle.un_listing.specs.declared.word.Word.{Word}
 use Rattle.un_listing.specs.declared.word.Word.TheVariants.{Named, Literal, Negated}
 use Rattle.un_listing.specs.Listing.{reg_text}
-use Rattle.un_listing.specs.ListingWords.{reg_of, signed as signed_by, small, literal_of, name_of, word_of, is_between, is_some_text, words_of}
+use Rattle.un_listing.specs.ListingWords.{reg_of, signed as signed_by, word_of, is_between, is_some_text, words_of}
 
 -- ---- words in a text
 

@@ -1,8 +1,7 @@
 -- Sets of labels, and what stands before a line.
-use Rattle.std.specs.Prelude.{ℕ, ◌≡◌, ◌≢◌, ◌↔◌, ◌<◌, Bool, true, false, IsTrue, List, [], ◌∷◌, ◌++◌, Option, Contains, length, if◌then◌else◌}
+use Rattle.std.specs.Prelude.{ℕ, ◌≡◌, ◌≢◌, ◌↔◌, Bool, IsTrue, List, [], ◌∷◌, ◌++◌, Option, Contains, length, if◌then◌else◌}
 use Rattle.std.specs.List.{list_any}
 use Rattle.std.specs.Str.{bytes_eq}
-use Rattle.un_packet.specs.declared.code.TheConstants.{PACKETS, BLOCKS}
 use Rattle.un_listing.specs.declared.line.Line.{Line}
 use Rattle.un_listing.specs.declared.labels.Before.{Before}
 use Rattle.un_listing.specs.Reading.{labels_in, packets_in}

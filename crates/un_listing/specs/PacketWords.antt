@@ -1,5 +1,5 @@
 -- The instructions of a packet's line, part by part between its semicolons.
-use Rattle.std.specs.Prelude.{ℕ, ◌≡◌, true, Bool, ◌==◌, List, [], ◌∷◌, ◌++◌, Option, Some, None, All, IfSome, codes}
+use Rattle.std.specs.Prelude.{ℕ, ◌≡◌, true, Bool, ◌==◌, List, [], ◌∷◌, ◌++◌, Option, Some, All, IfSome, codes}
 use Rattle.std.specs.List.{slice_split}
 use Rattle.std.specs.Option.{option_and_then, option_map}
 use Rattle.un_base.specs.Names.{is_name}

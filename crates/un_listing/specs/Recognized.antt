@@ -1,5 +1,5 @@
 -- The instruction that words spell, if they are the words of one.
-use Rattle.std.specs.Prelude.{ℕ, ℤ, pos, negsuc, Bool, true, false, ◌||◌, ◌&&◌, ◌==◌, List, [], ◌∷◌, Option, Some, None, map, codes, slice_get, take, drop, nat_lt, is_some, if◌then◌else◌}
+use Rattle.std.specs.Prelude.{ℕ, ℤ, pos, negsuc, Bool, true, false, ◌==◌, List, [], ◌∷◌, Option, Some, None, codes, slice_get, take, drop, nat_lt, is_some, if◌then◌else◌}
 use Rattle.std.specs.List.{filter_map, find}
 use Rattle.std.specs.Option.{option_and_then, option_map, option_map_or}
 use Rattle.std.specs.Str.{bytes_eq}
@@ -12,7 +12,7 @@ use Rattle.un_listing.specs.declared.form.Form.{Form}
 use Rattle.un_listing.specs.declared.form.Form.TheVariants.{Literal as LiteralForm, Reloaded, Spilled, StackMoved, Called, Jumped, JumpedIf, JumpedIfNot, Idle, Stored, Returned, Copied, Computed, WithLiteral, Loaded}
 use Rattle.un_listing.specs.Forms.{form_of, mnemonic}
 use Rattle.un_listing.specs.declared.word.Word.{Word}
-use Rattle.un_listing.specs.declared.word.Word.TheVariants.{Named, Literal, Negated, Other}
+use Rattle.un_listing.specs.declared.word.Word.TheVariants.{Named, Literal, Negated}
 use Rattle.un_listing.specs.ListingWords.{reg_of}
 
 -- ---- words at their places

@@ -127,12 +127,7 @@ fn line_stands(labels: &Labels, before: &Before, line: &Line, after: &[Option<Li
 }
 
 /// Whether a line stands behind these lines and before those.
-pub fn stands(
-    labels: &Labels,
-    before: &Before,
-    line: &Option<Line>,
-    after: &[Option<Line>],
-) -> bool
+pub fn stands(labels: &Labels, before: &Before, line: &Option<Line>, after: &[Option<Line>]) -> bool
     ensures { (all : List (List ℕ)) (lines : List (Option LineValue)) → SameLabels labels.now all → IsBefore before.now lines
         → (IsTrue result ↔ Stands all lines line.now after.now) }
 {

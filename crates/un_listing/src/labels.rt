@@ -9,7 +9,6 @@ use std::marker::Model;
 use un_base::memory_error::NoMemory;
 use un_base::name::Name;
 
-
 /// A set of labels. Contracts see it as a list of them, each once.
 #[derive(Drop)]
 pub struct Labels {

@@ -126,9 +126,7 @@ fn literal_of(words: &[Word]) -> i32
 fn op_with(ops: &[Op], word: &[u8]) -> Option<Op>
     ensures { result ≡ op_with ops.now word.now }
 {
-    ops.iter()
-        .copied()
-        .find(|op| is_text(word, mnemonic(*op)))
+    ops.iter().copied().find(|op| is_text(word, mnemonic(*op)))
 }
 
 /// A copy between registers.

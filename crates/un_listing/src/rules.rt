@@ -8,10 +8,10 @@ ghost use Rattle.un_isa.specs.Registers.{space_of};
 ghost use Rattle.un_listing.specs.Needed.{counts_from, is_distinct};
 ghost use Rattle.un_packet.specs.CodeRules.{ReadsItsSpaces, WritesItsSpace, HasItsBase, HasItsNumber, HasItsLabel, IsGoodInstr, IsGoodPacket, written, needs_of, is_nop, number};
 
+use crate::needs::fit_packet;
 use std::alloc::Global;
 use un_base::memory_error::NoMemory;
 use un_base::name::Name;
-use crate::needs::fit_packet;
 use un_isa::facts::{is_in_range, literal_range, operand_spaces, result_space};
 use un_isa::instr::Instr;
 use un_isa::op::Op;

@@ -1,5 +1,5 @@
 -- One more leads to a label, and at the end all do.
-use Rattle.std.proofs.Common.{rules, ◌≡◌, ◌<◌, ◌≤◌, true, length, take, refl, sym, subst, arith}
+use Rattle.std.proofs.Common.{rules, ◌≡◌, true, take, refl, sym, subst, arith}
 use Rattle.std.proofs.lemmas.List.{take_all}
 use Rattle.std.proofs.lemmas.List.Elements.{All-more, All-same}
 use Rattle.un_isa.specs.declared.instr.Instr.{Instr}
@@ -16,6 +16,6 @@ loop-i-preserved c = λ all same.
 pub returns : goal.returns
 returns c = λ all same. (
   λ h. All-same (LeadsToOneOf all) c.args.instrs.now (take c.loop-i.i-index c.args.instrs.now)
-  (sym (take_all c.loop-i.i-index c.args.instrs.now (omega arith))) (c.loop-i.invariant all same),
+      (sym (take_all c.loop-i.i-index c.args.instrs.now (omega arith))) (c.loop-i.invariant all same),
   λ h. refl,
 )

@@ -1,5 +1,5 @@
 -- A jump's label is looked up in the set.
-use Rattle.std.proofs.Common.{rules, ◌≡◌, true, Some}
+use Rattle.std.proofs.Common.{rules, ◌≡◌, true}
 use Rattle.un_packet.specs.CodeRules.{is_jump}
 use Rattle.un_listing.proofs.Judged.{leads_some}
 use Rattle.un_listing.proofs.judge.leads.Goals as goal

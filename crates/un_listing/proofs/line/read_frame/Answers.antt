@@ -1,5 +1,5 @@
 -- A number that is no frame's size is not that of any frame's line.
-use Rattle.std.proofs.Common.{rules, ◌≡◌, ℕ, ◌^◌, ◌<◌, codes, sym, ap, ◌∙◌, arith}
+use Rattle.std.proofs.Common.{◌≡◌, ◌^◌, ◌<◌, codes, sym, ◌∙◌, arith}
 use Rattle.std.specs.Fmt.{decimal}
 use Rattle.std.proofs.lemmas.Fmt.{decimal_injective}
 use Rattle.un_listing.proofs.LineCuts.{same_within}
@@ -12,6 +12,6 @@ returns-else-frame-eq0-clause-none c = λ frame h.
     let small : frame < 2 ^ 64 = omega (arith, h.small) in
     let same : c.in_ok-frame.frame ≡ frame = decimal_injective c.in_ok-frame.frame frame (omega arith) small (sym c.in_ok-frame.ensures.some ∙ text) in
     elim c.else-frame-eq0.branch [
-      else-frame-eq0-via-then-frame-eq0+else-frame-from w ↦ omega (arith, h.small)
-    | else-frame-eq0-via-else-frame-eq0 w ↦ (let whole = h.whole in let other = w.if-frame-eq0 in grind (arith, same, whole))
+      | else-frame-eq0-via-then-frame-eq0+else-frame-from w ↦ omega (arith, h.small)
+      | else-frame-eq0-via-else-frame-eq0 w ↦ (let whole = h.whole in let other = w.if-frame-eq0 in grind (arith, same, whole))
     ]

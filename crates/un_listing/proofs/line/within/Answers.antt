@@ -1,5 +1,5 @@
 -- A text that does not begin, and one that is cut.
-use Rattle.std.proofs.Common.{rules, ◌++◌, ◌∷◌, []}
+use Rattle.std.proofs.Common.{◌++◌, ◌∷◌, []}
 use Rattle.un_listing.proofs.LineCuts.{begins, not_begins, none_within, some_within}
 use Rattle.un_listing.proofs.line.within.Goals as goal
 

@@ -1,5 +1,5 @@
 -- At the end nothing is left to read.
-use Rattle.std.proofs.Common.{rules, ◌≡◌, List, [], ◌++◌, Option, append-nil, subst}
+use Rattle.std.proofs.Common.{rules, ◌≡◌, List, [], Option, append-nil, subst}
 use Rattle.std.specs.List.{AllZip}
 use Rattle.un_base.proofs.DecimalLaws.{is_empty}
 use Rattle.un_base.specs.Lines.{pieces_of}

@@ -1,5 +1,5 @@
 -- One more instruction, the last one, and a part that spells none.
-use Rattle.std.proofs.Common.{rules, ◌≡◌, ◌+◌, ◌-◌, ◌<◌, ◌≤◌, length, take, drop, List, Some, None, sym, ap, ◌∙◌, arith}
+use Rattle.std.proofs.Common.{◌≡◌, take, List, Some, None, sym, ap, ◌∙◌, arith}
 use Rattle.std.proofs.lemmas.Grind.{common_steps}
 use Rattle.un_isa.specs.declared.instr.Instr.{Instr}
 use Rattle.un_listing.specs.ListingWords.{words_of}

@@ -1,8 +1,7 @@
 -- A line is read as the packet whose line it is, and as no other.
-use Rattle.std.proofs.Common.{rules, ◌≡◌, ◌++◌, true, false, codes, List, Some, None, sym, ap, ◌∙◌, subst, arith}
+use Rattle.std.proofs.Common.{rules, ◌≡◌, List, Some, None, sym, ap, subst}
 use Rattle.un_isa.specs.declared.instr.Instr.{Instr}
 use Rattle.un_packet.specs.declared.code.Packet.{Packet}
-use Rattle.un_listing.specs.Listing.{packet_line}
 use Rattle.un_listing.specs.PacketWords.{parts_of, instrs_in, IsPacketLine}
 use Rattle.un_listing.proofs.LabelNames.{all_named}
 use Rattle.un_listing.proofs.PacketBack.{packet_back}
@@ -22,8 +21,8 @@ returns-then-not-branch-clause-whole c = λ p h.
     let same : p.instrs ≡ c.in-Some.instrs = cc (e, found) in
     let here : IsPacketLine c.args.frame c.args.line.now (record { instrs = c.in-Some.instrs }) = subst (λ (is : List Instr). IsPacketLine c.args.frame c.args.line.now (record { instrs = is })) same h in
     elim c.then-not-branch.branch [
-      then-not-branch-via-then-not-branch w ↦ (let t = c.in_ok-is_good_packet.ensures.1 here.packet.rules in absurd (cc (t, w.if-not-branch.true)))
-    | then-not-branch-via-else-not-branch+in_ok-is_printed+then-not-branch-2 w ↦ (let t = w.in_ok-is_printed.ensures.1 (sym here.text) in absurd (cc (t, w.if-not-branch-2.true)))
+      | then-not-branch-via-then-not-branch w ↦ (let t = c.in_ok-is_good_packet.ensures.1 here.packet.rules in absurd (cc (t, w.if-not-branch.true)))
+      | then-not-branch-via-else-not-branch+in_ok-is_printed+then-not-branch-2 w ↦ (let t = w.in_ok-is_printed.ensures.1 (sym here.text) in absurd (cc (t, w.if-not-branch-2.true)))
     ]
 
 pub returns-clause-some : goal.returns-clause-some
