@@ -3,4 +3,6 @@
 
 pub mod framed;
 #[cfg(test)]
+mod listing_lines;
+#[cfg(test)]
 mod tests;

@@ -1,1 +1,13 @@
+pub mod CleanTexts
+pub mod InstrBack
+pub mod InstrWords
+pub mod Judged
+pub mod LabelEq
+pub mod LabelNames
+pub mod LineCuts
+pub mod NeedLaws
+pub mod PacketBack
+pub mod PartCuts
 pub mod Printed
+pub mod WordCuts
+pub mod WordTexts

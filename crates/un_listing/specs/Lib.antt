@@ -1,3 +1,9 @@
 pub mod Forms
+pub mod LabelSets
 pub mod Listing
+pub mod ListingWords
+pub mod Needed
+pub mod PacketWords
+pub mod Reading
+pub mod Recognized
 pub mod Report

@@ -2,6 +2,15 @@
 #![tactic(auto)]
 
 pub mod form;
+pub mod judge;
+pub mod labels;
+pub mod line;
+pub mod lines;
+mod needs;
+pub mod packet;
 pub mod pieces;
 pub mod print;
+pub mod recognize;
 pub mod report;
+pub mod rules;
+pub mod word;

@@ -152,7 +152,7 @@ fn put_instrs(out: &mut Vec<u8>, instrs: &[Instr]) -> Result<(), NoMemory>
 }
 
 /// Appends the line of a packet.
-fn put_packet(out: &mut Vec<u8>, packet: &Packet) -> Result<(), NoMemory>
+pub(crate) fn put_packet(out: &mut Vec<u8>, packet: &Packet) -> Result<(), NoMemory>
     ensures { OnOk result (out.new.items ≡ out.old.items ++ (packet_line packet.now ++ codes "\n")) }
 {
     put_text(out, b"{ ")?;
@@ -161,7 +161,7 @@ fn put_packet(out: &mut Vec<u8>, packet: &Packet) -> Result<(), NoMemory>
 }
 
 /// Appends the lines of packets.
-fn put_packets(out: &mut Vec<u8>, packets: &[Packet]) -> Result<(), NoMemory>
+pub(crate) fn put_packets(out: &mut Vec<u8>, packets: &[Packet]) -> Result<(), NoMemory>
     ensures { OnOk result
         (out.new.items ≡ out.old.items ++ joined_lines (map packet_line packets.now)) }
 {
