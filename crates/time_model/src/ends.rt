@@ -87,7 +87,23 @@ fn time_behind_model(rt: &impl CpuClock, alloc: Global, f: &Function, rounds: u3
     time_solution(rt, alloc, f, &m, rounds)
 }
 
-/// The time of the code, behind that of the solution.
+/// The time of the code, behind that of the solution of a model.
+fn time_code_of(
+    rt: &impl CpuClock,
+    alloc: Global,
+    f: &Function,
+    m: &Model,
+    rounds: u32,
+) -> Option<u64>
+    requires model { IsModelOf HEXAGON f.now default_options m.now }
+    requires own { IsModel m.now }
+    requires counts { HasSmallCounts m.now.ext }
+{
+    let s = spilled(alloc, f, m).ok()?;
+    time_code(rt, alloc, f, m, &s, rounds)
+}
+
+/// The time of the code, behind that of the model.
 fn time_behind_solution(
     rt: &impl CpuClock,
     alloc: Global,
@@ -95,8 +111,7 @@ fn time_behind_solution(
     rounds: u32,
 ) -> Option<u64> {
     let m = model(alloc, f, &default_options()).ok()?;
-    let s = spilled(alloc, f, &m).ok()?;
-    time_code(rt, alloc, f, &m, &s, rounds)
+    time_code_of(rt, alloc, f, &m, rounds)
 }
 
 /// The time of the report, behind that of the code.
