@@ -32,10 +32,16 @@ waits_within ws i is = elim (cases_lt i (length ws)) [
 module _ (ws : List Bool) (ps : List ℕ) (size i : ℕ) where
   -- a flag more or less
   flags_up : i < length ws → waits ws i ≡ false → sum_by flag (set ws i true) ≡ sum_by flag ws + 1
-  flags_up lt off = let sums = subst (λ (b : Bool). sum_by flag (set ws i true) + flag b ≡ sum_by flag ws + 1) off (sum_by-set flag ws i true false lt) in omega (arith, sums)
+  flags_up lt off =
+      let one = sum_by-set flag ws i true false lt in
+      let sums = subst (λ (b : Bool). sum_by flag (set ws i true) + flag b ≡ sum_by flag ws + 1) off one in
+      omega (arith, sums)
 
   flags_down : i < length ws → waits ws i ≡ true → sum_by flag (set ws i false) + 1 ≡ sum_by flag ws
-  flags_down lt on = let sums = subst (λ (b : Bool). sum_by flag (set ws i false) + flag b ≡ sum_by flag ws + 0) on (sum_by-set flag ws i false false lt) in omega (arith, sums)
+  flags_down lt on =
+      let one = sum_by-set flag ws i false false lt in
+      let sums = subst (λ (b : Bool). sum_by flag (set ws i false) + flag b ≡ sum_by flag ws + 0) on one in
+      omega (arith, sums)
 
   -- there is room for one that does not wait
   pub queue_space : IsQueue ws ps size → i < length ws → waits ws i ≡ false → length ps < size
@@ -62,12 +68,14 @@ module _ (ws : List Bool) (ps : List ℕ) (size i : ℕ) where
     }
 
 -- one that was taken waits again
-pub raised_again : (ws ws1 ws2 : List Bool) (i : ℕ) → i < length ws → ws1 ≡ set ws i false → ws2 ≡ set ws1 i true → (length ws2 ≡ length ws) × Grows ws ws2
+pub raised_again : (ws ws1 ws2 : List Bool) (i : ℕ) → i < length ws → ws1 ≡ set ws i false → ws2 ≡ set ws1 i true
+    → (length ws2 ≡ length ws) × Grows ws ws2
 raised_again ws ws1 ws2 i lt taken raised =
     let long1 : length ws1 ≡ length ws = ap length taken ∙ length-set ws i false in (
       ap length raised ∙ (length-set ws1 i true ∙ long1),
       λ j on. subst (λ (xs : List Bool). waits xs j ≡ true) (sym raised) (elim (same_or_not j i) [
         | inl e ↦ subst (λ (k : ℕ). waits (set ws1 i true) k ≡ true) (sym e) (get_or-set_same ws1 i true false (omega (arith, lt, long1)))
-        | inr ne ↦ get_or-set_other ws1 i j true false ne ∙ (ap (λ (xs : List Bool). waits xs j) taken ∙ (get_or-set_other ws i j false false ne ∙ on))
+        | inr ne ↦ get_or-set_other ws1 i j true false ne ∙ (ap (λ (xs : List Bool). waits xs j) taken
+            ∙ (get_or-set_other ws i j false false ne ∙ on))
       ]),
     )

@@ -46,6 +46,7 @@ pub fn run_from<P: Propagator>(
                 match p.prune(store, scratch) {
                     Pruned::Same => {}
                     Pruned::Tighter => {
+                        // It may find more to take away.
                         waiting.raise(i);
                         wake_changed(p.reads(), store, readers.rows.as_slice(), sizes, waiting);
                     }
