@@ -1,7 +1,7 @@
 #!/usr/bin/env bash
-# Prints the time of a mark with its undo, and of a cut, over ten thousand variables; and of a run after one cut among five
-# thousand precedences, by the propagators whose variables changed and by rounds of all. Run it by hand; the gate does not run
-# it.
+# Prints the time of a mark with its undo, and of a cut, over ten thousand variables; and, among one, four and sixteen thousand
+# precedences in chains of four, the time of a run after one cut, by the propagators whose variables changed and by rounds of
+# all. Run it by hand; the gate does not run it.
 set -eu
 top=$(cd "$(dirname "$0")/.." && pwd)
 binary=$top/crates/time_search/out/time_search
@@ -22,13 +22,16 @@ mean() {
   echo $(((many - few) * 1000000 / (2 * $2)))
 }
 
+# The mean of a run, as the program's own clock tells it, so often and among so many precedences.
+mean_run() {
+  printf '%s %s %s timed\n' "$1" "$2" "$3" | "$binary" 2>&1 >/dev/null | awk -v n="$2" '{ printf "%d", 1000 * $1 / n }'
+}
+
 marks=$(mean marks 500)
 cuts=$(mean cuts 3000000)
-nothing=$(mean nothing 500)
-changed=$(mean changed 500)
-all=$(mean all 500)
-printf '%-40s %10d ns\n' "mark and undo" "$marks"
-printf '%-40s %10d ns\n' "cut after a mark" "$cuts"
-printf '%-40s %10d ns\n' "mark, undo and sizes again" "$nothing"
-printf '%-40s %10d ns\n' "with a run of those that changed" "$changed"
-printf '%-40s %10d ns\n' "with rounds of all" "$all"
+printf '%-56s %10d ns\n' "mark and undo" "$marks"
+printf '%-56s %10d ns\n' "cut after a mark" "$cuts"
+for links in 1000 4000 16000; do
+  printf '%-56s %10d ns\n' "run of those that changed, among $links" "$(mean_run changed 3000 $links)"
+  printf '%-56s %10d ns\n' "rounds of all, among $links" "$(mean_run all 300 $links)"
+done

@@ -1,6 +1,6 @@
 //! Thousands of precedences between the variables of a store, and runs of them after one cut.
 
-ghost use Rattle.std.specs.Prelude.{◌≡◌, ℕ, ◌<◌, ◌≤◌, ◌*◌, ◌+◌, ◌^◌, List, [], ◌∷◌, length, All, IfOk, OnOk, Some, true};
+ghost use Rattle.std.specs.Prelude.{◌≡◌, ℕ, ◌<◌, ◌≤◌, ◌*◌, ◌+◌, ◌/◌, ◌^◌, List, [], ◌∷◌, length, All, IfOk, OnOk, Some, true};
 ghost use Rattle.un_base.specs.declared.ids.VarId.{VarId};
 ghost use Rattle.un_domains.specs.Sets.{NoneEmpty};
 ghost use Rattle.un_prop.specs.Among.{among};
@@ -10,8 +10,9 @@ ghost use Rattle.un_prop.specs.Queues.{IsSizes, IsTable};
 ghost use Rattle.un_prop.specs.Rounds.{HasVars};
 
 use crate::input::Run;
-use crate::stores::{VARS, range_store};
+use crate::stores::range_store;
 use std::alloc::{AllocError, Global};
+use std::time::{Clock, Duration, Instant};
 use un_base::ids::VarId;
 use un_base::memory_error::NoMemory;
 use un_domains::cut::Cut;
@@ -21,7 +22,7 @@ use un_prec::before::Before;
 use un_prop::act::{Act, At};
 use un_prop::child::run_child;
 use un_prop::propagator::{Propagator, Scratch};
-use un_prop::queue::measure;
+use un_prop::queue::{Queue, measure, rest_all};
 use un_prop::readers::Readers;
 use un_prop::run::{Fix, run_all};
 use un_prop::side::Side;
@@ -29,8 +30,8 @@ use un_prop::side::Side;
 /// A value that a cut leaves the values above.
 const MIDDLE: u32 = 500;
 
-/// How many precedences there are.
-const PAIRS: u32 = 5_000;
+/// How many precedences follow one another, from one variable to the next.
+const CHAIN: u32 = 4;
 
 /// Two variables.
 fn two(alloc: Global, a: VarId, b: VarId) -> Result<Items<VarId>, AllocError>
@@ -44,13 +45,21 @@ fn two(alloc: Global, a: VarId, b: VarId) -> Result<Items<VarId>, AllocError>
     Ok(Items::from_vec(vars))
 }
 
-/// The precedence of a pair of variables.
-fn pair(alloc: Global, i: u32) -> Result<Before, AllocError>
-    requires { i < PAIRS }
-    ensures { IfOk result (λ p. All (λ v. v.0 < VARS) p.vars) }
+/// How many variables so many precedences stand between.
+fn variables(links: u32) -> u32
+    requires { links ≤ 1_000_000 }
+    ensures { result ≡ 5 * (links / 4 + 1) }
 {
-    let a = VarId(2 * i);
-    let b = VarId(2 * i + 1);
+    (CHAIN + 1) * (links / CHAIN + 1)
+}
+
+/// The precedence at place `i`: chains of precedences, none of them connected with another.
+fn link(alloc: Global, i: u32) -> Result<Before, AllocError>
+    requires { i < 1_000_000 }
+    ensures { (n : ℕ) → i + i / 4 + 1 < n → IfOk result (λ p. All (λ v. v.0 < n) p.vars) }
+{
+    let a = VarId(i + i / CHAIN);
+    let b = VarId(i + i / CHAIN + 1);
     let vars = two(alloc, a, b)?;
     Ok(Before {
         a: At::Var(a),
@@ -62,16 +71,33 @@ fn pair(alloc: Global, i: u32) -> Result<Before, AllocError>
     })
 }
 
-/// The precedences of all pairs.
-fn pairs(alloc: Global) -> Result<Vec<Before>, AllocError>
-    ensures { IfOk result (λ ps. All (λ (p : Before). All (λ v. v.0 < VARS) p.vars) ps.items) }
+/// So many precedences.
+fn all_links(alloc: Global, links: u32) -> Result<Vec<Before>, AllocError>
+    requires { links ≤ 1_000_000 }
+    ensures { IfOk result (λ ps. All (λ (p : Before). All (λ v. v.0 < 5 * (links / 4 + 1)) p.vars) ps.items) }
 {
     let mut props = Vec::new(alloc);
-    for i in 0..PAIRS {
-        let p = pair(alloc, i)?;
+    for i in 0..links {
+        let p = link(alloc, i)?;
         props.push(p)?;
     }
     Ok(props)
+}
+
+/// The time now, where there is a clock.
+fn now(clock: &impl Clock) -> Option<Instant> {
+    Instant::now(clock).ok()
+}
+
+/// What passed since then.
+fn since(clock: &impl Clock, start: Option<Instant>) -> Duration {
+    let Some(start) = start else {
+        return Duration::ZERO;
+    };
+    match start.elapsed(clock) {
+        Ok(passed) => passed,
+        Err(_) => Duration::ZERO,
+    }
 }
 
 /// A cut, and rounds of all.
@@ -89,17 +115,18 @@ fn run_whole<P: Propagator>(props: &[P], store: &mut Store, scratch: &mut Scratc
     }
 }
 
-/// A mark, a cut and a run after it, and back.
-fn round<P: Propagator>(
+/// A mark, a cut and a run after it, and back: the time of the cut and the run.
+fn round<P: Propagator, C: Clock>(
+    clock: &C,
     run: Run,
     props: &[P],
     readers: &Readers,
     store: &mut Store,
     scratch: &mut Scratch,
-    waiting: &mut [bool],
+    waiting: &mut Queue,
     sizes: &mut [u32],
     v: VarId,
-) -> Result<(), NoMemory>
+) -> Result<Duration, NoMemory>
     requires known { All (λ p. HasVars (P.scope p) store.old.sets) props.now }
     requires live { NoneEmpty store.old.sets }
     requires room { All (λ p. HasRoom (length store.old.sets) (P.span p) scratch.old) props.now }
@@ -111,12 +138,13 @@ fn round<P: Propagator>(
     requires stable { All (λ p. P.cut p store.old.sets ≡ Some store.old.sets) props.now }
     ensures same { OnOk result (store.new ≡ store.old) }
     ensures sizes { OnOk result (IsSizes sizes.new store.new.sets) }
+    ensures flags { length waiting.new ≡ length waiting.old }
     ensures fixed { length scratch.new.fixed.items ≡ length scratch.old.fixed.items }
     ensures cycles { length scratch.new.cycles.items ≡ length scratch.old.cycles.items }
 {
     store.mark()?;
+    let start = now(clock);
     match run {
-        Run::Nothing => {}
         Run::Changed => {
             run_child(
                 props,
@@ -132,47 +160,47 @@ fn round<P: Propagator>(
         }
         Run::All => run_whole(props, store, scratch, v),
     }
+    let passed = since(clock, start);
     store.undo();
+    rest_all(waiting);
     measure(store, sizes);
-    Ok(())
+    Ok(passed)
 }
 
-/// So many rounds, each with another pair.
-fn rounds<P: Propagator>(
+/// So many rounds, each with another chain: the time of all cuts and runs.
+fn rounds<P: Propagator, C: Clock>(
+    clock: &C,
     run: Run,
     props: &[P],
     readers: &Readers,
     store: &mut Store,
     scratch: &mut Scratch,
-    waiting: &mut [bool],
+    waiting: &mut Queue,
     sizes: &mut [u32],
+    chains: u32,
     n: u64,
-) -> Result<(), NoMemory>
+) -> Result<Duration, NoMemory>
     requires known { All (λ p. HasVars (P.scope p) store.old.sets) props.now }
     requires live { NoneEmpty store.old.sets }
     requires room { All (λ p. HasRoom (length store.old.sets) (P.span p) scratch.old) props.now }
     requires table { IsTable P.scope props.now (length store.old.sets) readers.now.rows.items }
     requires flags { length waiting.old ≡ length props.now }
     requires sizes { IsSizes sizes.old store.old.sets }
-    requires long { length store.old.sets ≡ VARS }
+    requires long { length store.old.sets ≡ 5 * chains }
+    requires chains { 0 < chains }
+    requires few { 5 * chains ≤ 2 ^ 32 }
     requires stable { All (λ p. P.cut p store.old.sets ≡ Some store.old.sets) props.now }
 {
+    let mut passed = Duration::ZERO;
     for i in 0..n {
-        let v = VarId(2 * ((i % u64::from(PAIRS)) as u32));
-        round(run, props, readers, store, scratch, waiting, sizes, v)?;
+        let chain = (i % u64::from(chains)) as u32;
+        let v = VarId((CHAIN + 1) * chain);
+        let time = round(
+            clock, run, props, readers, store, scratch, waiting, sizes, v,
+        )?;
+        passed = passed.saturating_add(time);
     }
-    Ok(())
-}
-
-/// As many flags, none of them raised.
-fn flags(alloc: Global, n: usize) -> Result<Vec<bool>, AllocError>
-    ensures { IfOk result (λ v. length v.items ≡ n) }
-{
-    let mut items = Vec::new(alloc);
-    for _ in 0..n {
-        items.push(false)?;
-    }
-    Ok(items)
+    Ok(passed)
 }
 
 /// As many zeros.
@@ -187,60 +215,90 @@ fn zeros(alloc: Global, n: usize) -> Result<Vec<u32>, AllocError>
 }
 
 /// Rounds from where rounds of all end.
-fn run_rounds<P: Propagator>(
+fn run_rounds<P: Propagator, C: Clock>(
     alloc: Global,
+    clock: &C,
     run: Run,
     props: &[P],
     readers: &Readers,
     store: &mut Store,
     scratch: &mut Scratch,
+    chains: u32,
     n: u64,
-) -> Result<(), NoMemory>
+) -> Result<Duration, NoMemory>
     requires known { All (λ p. HasVars (P.scope p) store.old.sets) props.now }
     requires live { NoneEmpty store.old.sets }
     requires room { All (λ p. HasRoom (length store.old.sets) (P.span p) scratch.old) props.now }
     requires table { IsTable P.scope props.now (length store.old.sets) readers.now.rows.items }
-    requires long { length store.old.sets ≡ VARS }
+    requires long { length store.old.sets ≡ 5 * chains }
+    requires chains { 0 < chains }
+    requires few { 5 * chains < 2 ^ 32 }
 {
     if run_all(props, store, scratch) == Fix::Failed {
-        return Ok(());
+        return Ok(Duration::ZERO);
     }
-    let mut waiting = flags(alloc, props.len())?;
-    let mut sizes = zeros(alloc, VARS as usize)?;
+    let mut waiting = Queue::new(alloc, props.len())?;
+    let mut sizes = zeros(alloc, store.len() as usize)?;
     measure(store, sizes.as_mut_slice());
     rounds(
+        clock,
         run,
         props,
         readers,
         store,
         scratch,
-        waiting.as_mut_slice(),
+        &mut waiting,
         sizes.as_mut_slice(),
+        chains,
         n,
     )
 }
 
 /// The same with a table and room for it.
-fn run_props<P: Propagator>(
+fn run_props<P: Propagator, C: Clock>(
     alloc: Global,
+    clock: &C,
     run: Run,
     props: &[P],
     store: &mut Store,
+    chains: u32,
     n: u64,
-) -> Result<(), NoMemory>
-    requires known { All (λ p. All (λ v. v.0 < VARS) (P.scope p)) props.now }
+) -> Result<Duration, NoMemory>
+    requires known { All (λ p. All (λ v. v.0 < 5 * chains) (P.scope p)) props.now }
     requires span { All (λ p. P.span p ≤ 1) props.now }
     requires live { NoneEmpty store.old.sets }
-    requires long { length store.old.sets ≡ VARS }
+    requires long { length store.old.sets ≡ 5 * chains }
+    requires chains { 0 < chains }
+    requires few { 5 * chains < 2 ^ 32 }
 {
-    let readers = Readers::new(alloc, props, VARS as usize)?;
-    let mut scratch = Scratch::new(alloc, VARS, 0)?;
-    run_rounds(alloc, run, props, &readers, store, &mut scratch, n)
+    let vars = store.len();
+    let readers = Readers::new(alloc, props, vars as usize)?;
+    let mut scratch = Scratch::new(alloc, vars, 0)?;
+    run_rounds(
+        alloc,
+        clock,
+        run,
+        props,
+        &readers,
+        store,
+        &mut scratch,
+        chains,
+        n,
+    )
 }
 
-/// Runs of precedences.
-pub(crate) fn time_runs(alloc: Global, run: Run, n: u64) -> Result<(), NoMemory> {
-    let props = pairs(alloc)?;
-    let mut store = range_store(alloc)?;
-    run_props(alloc, run, props.as_slice(), &mut store, n)
+/// Runs among so many precedences: the time of the runs.
+pub(crate) fn time_runs<C: Clock>(
+    alloc: Global,
+    clock: &C,
+    run: Run,
+    links: u32,
+    n: u64,
+) -> Result<Duration, NoMemory>
+    requires { links ≤ 1_000_000 }
+{
+    let props = all_links(alloc, links)?;
+    let mut store = range_store(alloc, variables(links))?;
+    let chains = links / CHAIN + 1;
+    run_props(alloc, clock, run, props.as_slice(), &mut store, chains, n)
 }

@@ -10,33 +10,33 @@ use un_base::memory_error::NoMemory;
 use un_domains::domain::Domain;
 use un_domains::store::Store;
 
-/// How many variables there are.
-pub(crate) const VARS: u32 = 10_000;
+/// How many variables are marked and cut.
+const VARS: u32 = 10_000;
 
 /// As many domains of a thousand values.
-fn ranges(alloc: Global) -> Result<Vec<Domain>, AllocError>
+fn ranges(alloc: Global, vars: u32) -> Result<Vec<Domain>, AllocError>
     ensures each { IfOk result (λ v. All IsDomain v.items) }
-    ensures long { IfOk result (λ v. length v.items ≡ VARS) }
+    ensures long { IfOk result (λ v. length v.items ≡ vars) }
 {
     let mut domains = Vec::new(alloc);
-    for _ in 0..VARS {
+    for _ in 0..vars {
         domains.push(Domain::Range { lo: 0, hi: 999 })?;
     }
     Ok(domains)
 }
 
 /// The store of these domains.
-pub(crate) fn range_store(alloc: Global) -> Result<Store, NoMemory>
+pub(crate) fn range_store(alloc: Global, vars: u32) -> Result<Store, NoMemory>
     ensures live { IfOk result (λ s. NoneEmpty s.sets) }
-    ensures long { IfOk result (λ s. length s.sets ≡ VARS) }
+    ensures long { IfOk result (λ s. length s.sets ≡ vars) }
 {
-    let domains = ranges(alloc)?;
+    let domains = ranges(alloc, vars)?;
     Store::new(alloc, domains)
 }
 
 /// Marks that are taken back at once.
 pub(crate) fn time_marks(alloc: Global, n: u64) -> Result<(), NoMemory> {
-    let mut store = range_store(alloc)?;
+    let mut store = range_store(alloc, VARS)?;
     for _ in 0..n {
         store.mark()?;
         store.undo();
@@ -57,7 +57,7 @@ fn cut_all(store: &mut Store, n: u64)
 
 /// Cuts after a mark.
 pub(crate) fn time_cuts(alloc: Global, n: u64) -> Result<(), NoMemory> {
-    let mut store = range_store(alloc)?;
+    let mut store = range_store(alloc, VARS)?;
     store.mark()?;
     cut_all(&mut store, n);
     Ok(())

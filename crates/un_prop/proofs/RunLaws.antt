@@ -1,5 +1,5 @@
 -- A run so far.
-use Rattle.std.proofs.Common.{ℕ, ◌≡◌, ◌≢◌, ◌<◌, ◌≤◌, ◌+◌, ◌*◌, ◌⊎◌, Bool, true, false, cond, List, [], ◌∷◌, length, get_or, set, None, Some, MatchOption, All, sym, ap, ◌∙◌, subst, arith, inl, inr}
+use Rattle.std.proofs.Common.{ℕ, ◌≡◌, ◌≢◌, ◌<◌, ◌≤◌, ◌+◌, ◌*◌, ◌⊎◌, Bool, true, false, List, [], ◌∷◌, length, get_or, set, None, Some, MatchOption, All, sym, ap, ◌∙◌, subst, arith, inl, inr}
 use Rattle.std.specs.declared.option.Option.{Option}
 use Rattle.std.specs.Bool.{⊤}
 use Rattle.std.specs.List.{sum_by}
@@ -16,7 +16,7 @@ use Rattle.un_prop.specs.Lawful.{BelowOption, Lawful}
 use Rattle.un_domains.specs.OrderLaws.{Below-refl, Below-trans, set_same}
 use Rattle.un_prop.specs.Steps.{find_var}
 use Rattle.un_prop.specs.Fixes.{Stable, order_free, stays_below}
-use Rattle.un_prop.specs.Queues.{IsTable, IsReady, IsSizes, waits, Grows, AllWait}
+use Rattle.un_prop.specs.Queues.{IsTable, IsReady, IsSizes, waits, flag, Grows, AllWait}
 use Rattle.un_prop.specs.QueueLaws.{ready_after}
 
 module _ {P : Type 0} (scope : P → List VarId) (cut : P → Sets → Option Sets) (lawful : (p : P) → Lawful (scope p) (cut p)) (ps : List P) (first : Sets) where
@@ -110,9 +110,6 @@ module _ {P : Type 0} (scope : P → List VarId) (cut : P → Sets → Option Se
           ]
 
 -- the measure: values, and then flags
-abbrev pub flag : Bool → ℕ
-flag b = cond b 1 0
-
 abbrev pub work : ℕ → Sets → List Bool → ℕ
 work n s ws = total s * (n + 1) + sum_by flag ws
 
@@ -120,7 +117,7 @@ flag-le : (b : Bool) → flag b ≤ 1
 flag-le true = omega arith
 flag-le false = omega arith
 
-flags-le : (ws : List Bool) → sum_by flag ws ≤ length ws
+pub flags-le : (ws : List Bool) → sum_by flag ws ≤ length ws
 flags-le [] = omega arith
 flags-le (w ∷ ws) = omega (arith, sum_by-cons flag w ws, flags-le ws, flag-le w)
 

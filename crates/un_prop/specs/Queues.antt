@@ -1,5 +1,5 @@
 -- What a queue of propagators keeps.
-use Rattle.std.specs.Prelude.{ℕ, ◌≡◌, ◌<◌, ◌⊎◌, Bool, true, false, List, length, slice_index, slice_index_or, All, Some}
+use Rattle.std.specs.Prelude.{ℕ, ◌≡◌, ◌<◌, ◌≤◌, ◌⊎◌, Bool, true, false, cond, ◌==◌, List, length, sum_by, count_by, slice_index, slice_index_or, All, Some}
 use Rattle.std.specs.declared.option.Option.{Option}
 use Rattle.un_base.specs.declared.ids.VarId.{VarId}
 use Rattle.un_domains.specs.Sets.{Sets, set_at, has}
@@ -20,6 +20,15 @@ pub record Entered (vs : List VarId) (i : ℕ) (old new : Sets) : Type 0 where
 -- whether the propagator at i waits
 abbrev pub waits : List Bool → ℕ → Bool
 waits ws i = slice_index_or ws i false
+
+abbrev pub flag : Bool → ℕ
+flag b = cond b 1 0
+
+-- the places of those that wait, each of them once, with room for all
+pub record IsQueue (ws : List Bool) (places : List ℕ) (size : ℕ) : Type 0 where
+  pub once : (i : ℕ) → count_by (λ x. x == i) places ≡ flag (waits ws i)
+  pub long : length places ≡ sum_by flag ws
+  pub room : length ws ≤ size
 
 -- each propagator that does not wait leaves the store as it is
 abbrev pub IsReady : {P : Type 0} → (P → Sets → Option Sets) → List P → List Bool → Sets → Type 0

@@ -7,7 +7,7 @@ ghost use Rattle.un_prop.specs.Pruning.{IsFix, HasRoom};
 ghost use Rattle.un_prop.specs.Queues.{IsTable, IsReady, IsSizes, waits};
 
 use crate::propagator::{Propagator, Pruned, Scratch};
-use crate::queue::{next_waiting, wake_changed};
+use crate::queue::{Queue, wake_changed};
 use crate::readers::Readers;
 use crate::run::Fix;
 use un_domains::store::Store;
@@ -18,7 +18,7 @@ pub fn run_from<P: Propagator>(
     readers: &Readers,
     store: &mut Store,
     scratch: &mut Scratch,
-    waiting: &mut [bool],
+    waiting: &mut Queue,
     sizes: &mut [u32],
 ) -> Fix
     requires known { All (λ p. HasVars (P.scope p) store.old.sets) props.now }
@@ -34,27 +34,24 @@ pub fn run_from<P: Propagator>(
     ensures marked { store.new.marked ≡ store.old.marked }
     ensures fixed { length scratch.new.fixed.items ≡ length scratch.old.fixed.items }
     ensures cycles { length scratch.new.cycles.items ≡ length scratch.old.cycles.items }
+    ensures flags { length waiting.new ≡ length waiting.old }
     ensures rests { result ≡ Fix.Stable → (i : ℕ) → waits waiting.new i ≡ false }
     ensures sizes { result ≡ Fix.Stable → IsSizes sizes.new store.new.sets }
 {
-    let mut from = 0;
     loop {
-        match next_waiting(waiting, from) {
+        match waiting.take() {
             None => return Fix::Stable,
             Some(i) => {
                 let p = &props[i];
                 match p.prune(store, scratch) {
-                    Pruned::Same => waiting[i] = false,
-                    Pruned::Tighter => wake_changed(
-                        p.reads(),
-                        store,
-                        readers.rows.as_slice(),
-                        sizes,
-                        waiting,
-                    ),
+                    Pruned::Same => {}
+                    Pruned::Tighter => {
+                        // It may find more to take away.
+                        waiting.raise(i);
+                        wake_changed(p.reads(), store, readers.rows.as_slice(), sizes, waiting);
+                    }
                     Pruned::Failed => return Fix::Failed,
                 }
-                from = i;
             }
         }
     }

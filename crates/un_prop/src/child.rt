@@ -9,7 +9,7 @@ ghost use Rattle.un_prop.specs.Sides.{side_test};
 
 use crate::changed::run_from;
 use crate::propagator::{Propagator, Pruned, Scratch};
-use crate::queue::wake_changed;
+use crate::queue::{Queue, wake_changed};
 use crate::readers::Readers;
 use crate::run::Fix;
 use crate::side::Side;
@@ -38,7 +38,7 @@ pub fn run_child<P: Propagator>(
     readers: &Readers,
     store: &mut Store,
     scratch: &mut Scratch,
-    waiting: &mut [bool],
+    waiting: &mut Queue,
     sizes: &mut [u32],
     v: VarId,
     x: u32,
@@ -59,6 +59,7 @@ pub fn run_child<P: Propagator>(
     ensures marked { store.new.marked ≡ store.old.marked }
     ensures fixed { length scratch.new.fixed.items ≡ length scratch.old.fixed.items }
     ensures cycles { length scratch.new.cycles.items ≡ length scratch.old.cycles.items }
+    ensures flags { length waiting.new ≡ length waiting.old }
     ensures child { (box : Sets) → NoneEmpty box → All (λ p. HasVars (P.scope p) box) props.now → v.0 < length box → fix_of P.cut props.now box ≡ Some store.old.sets
         → IsFix (option_and_then (fix_of P.cut props.now) (cut_by (side_test side x) v.0 box)) store.new.sets result }
 {

@@ -1,45 +1,101 @@
 //! Which propagators wait, since a variable that they read has changed.
 
-ghost use Rattle.std.specs.Prelude.{◌≡◌, ℕ, ◌<◌, ◌≤◌, ◌^◌, ◌⊎◌, List, [], ◌∷◌, length, All, IfOk, MatchOption, true, false, slice_index, slice_index_or, replicate};
+ghost use Rattle.std.specs.Prelude.{◌≡◌, ℕ, ◌<◌, ◌≤◌, ◌^◌, ◌⊎◌, List, [], ◌∷◌, length, All, IfOk, MatchOption, true, false, slice_index, slice_index_or, slice_set, replicate};
 ghost use Rattle.un_domains.specs.Sets.{Sets, set_at, has};
 ghost use Rattle.un_prop.specs.Queues.{waits, Grows, AllWait, IsSizes};
 
+use std::alloc::{AllocError, Global};
+use std::collections::VecDeque;
+use std::marker::Model;
 use un_base::ids::VarId;
 use un_domains::store::Store;
 use un_lists::items::Items;
 
-/// The first propagator from a place on that waits.
-fn first_from(waiting: &[bool], from: usize) -> Option<usize>
-    ensures { MatchOption result ((i : ℕ) → from ≤ i → waits waiting.now i ≡ false) (λ i. (i < length waiting.now) × (waits waiting.now i ≡ true)) }
-{
-    let mut i = from;
-    while i < waiting.len() {
-        if waiting[i] {
-            return Some(i);
-        }
-        i += 1;
-    }
-    None
+/// Which propagators wait: a flag for each, and the places of those that wait, in the order in which they came. Contracts see
+/// the flags.
+#[derive(Drop)]
+pub struct Queue {
+    flags: Vec<bool>,
+    places: VecDeque<usize>,
 }
 
-/// A propagator that waits: the first from a place on, and else the first of all.
-pub fn next_waiting(waiting: &[bool], from: usize) -> Option<usize>
-    ensures { MatchOption result ((i : ℕ) → waits waiting.now i ≡ false) (λ i. (i < length waiting.now) × (waits waiting.now i ≡ true)) }
+impl Model for Queue {
+    ghost use Rattle.std.specs.Prelude.{List, Bool};
+    ghost use Rattle.std.specs.VecDeque.{deque_capacity};
+    ghost use Rattle.un_prop.specs.Queues.{IsQueue};
+
+    ghost Value = { List Bool };
+
+    ghost view = { λ a. a.flags.items };
+
+    ghost invariant = { λ a. IsQueue a.flags.items a.places.items (deque_capacity a.places) };
+}
+
+/// As many flags, none of them raised.
+fn no_flags(alloc: Global, n: usize) -> Result<Vec<bool>, AllocError>
+    ensures { IfOk result (λ v. v.items ≡ replicate n false) }
 {
-    match first_from(waiting, from) {
-        Some(i) => Some(i),
-        None => first_from(waiting, 0),
+    let mut flags = Vec::with_capacity(alloc, n)?;
+    for _ in 0..n {
+        flags.push(false)?;
+    }
+    Ok(flags)
+}
+
+impl Queue {
+    ghost use Rattle.un_prop.specs.Queues.{waits};
+
+    /// A queue of `n` propagators of which none waits, with room for all.
+    pub fn new(alloc: Global, n: usize) -> Result<Queue, AllocError>
+        ensures { IfOk result (λ q. q ≡ replicate n false) }
+    {
+        let flags = no_flags(alloc, n)?;
+        let places = VecDeque::with_capacity(alloc, n)?;
+        Ok(Queue { flags, places })
+    }
+
+    /// How many propagators there are.
+    pub fn len(&self) -> usize
+        ensures { result ≡ length self.now }
+    {
+        self.flags.len()
+    }
+
+    /// The propagator that waits longest, which then waits no more.
+    pub fn take(&mut self) -> Option<usize>
+        ensures next { MatchOption result ((i : ℕ) → waits self.old i ≡ false) (λ i. (i < length self.old) × (waits self.old i ≡ true)) }
+        ensures rests { MatchOption result (self.new ≡ self.old) (λ i. self.new ≡ slice_set self.old i false) }
+    {
+        match self.places.pop_front() {
+            None => None,
+            Some(i) => {
+                self.flags[i] = false;
+                Some(i)
+            }
+        }
+    }
+
+    /// Lets a propagator wait. It takes no memory.
+    pub fn raise(&mut self, i: usize)
+        requires { i < length self.old }
+        ensures { self.new ≡ slice_set self.old i true }
+    {
+        if !self.flags[i] {
+            self.flags[i] = true;
+            self.places.push_back_reserved(i);
+        }
     }
 }
 
 /// Lets the propagators at these places wait.
-pub fn wake(places: &[usize], waiting: &mut [bool])
+pub fn wake(places: &[usize], waiting: &mut Queue)
     requires { (i : ℕ) → has places.now i ≡ true → i < length waiting.old }
+    ensures flags { length waiting.new ≡ length waiting.old }
     ensures there { (i : ℕ) → has places.now i ≡ true → waits waiting.new i ≡ true }
     ensures grows { Grows waiting.old waiting.new }
 {
     for i in places {
-        waiting[*i] = true;
+        waiting.raise(*i);
     }
 }
 
@@ -50,12 +106,13 @@ pub fn wake_changed(
     store: &Store,
     table: &[Items<usize>],
     sizes: &mut [u32],
-    waiting: &mut [bool],
+    waiting: &mut Queue,
 )
     requires known { All (λ v. v.0 < length store.now.sets) vars.now }
     requires sizes { length sizes.old ≡ length store.now.sets }
     requires table { length table.now ≡ length store.now.sets }
     requires within { (v i : ℕ) → has (set_at table.now v) i ≡ true → i < length waiting.old }
+    ensures flags { length waiting.new ≡ length waiting.old }
     ensures noted { All (λ v. slice_index sizes.new v.0 ≡ length (set_at store.now.sets v.0)) vars.now }
     ensures others { (w : ℕ) → All (λ v. (w ≡ v.0) → ⊥) vars.now → slice_index sizes.new w ≡ slice_index sizes.old w }
     ensures woken { (w : ℕ) → (slice_index sizes.new w ≡ slice_index sizes.old w) ⊎ AllWait table.now waiting.new w }
@@ -83,19 +140,24 @@ pub fn measure(store: &Store, sizes: &mut [u32])
 }
 
 /// Lets all wait, as at a root.
-pub fn wake_all(waiting: &mut [bool])
-    ensures { (i : ℕ) → i < length waiting.old → waits waiting.new i ≡ true }
+pub fn wake_all(waiting: &mut Queue)
+    ensures flags { length waiting.new ≡ length waiting.old }
+    ensures wait { (i : ℕ) → i < length waiting.old → waits waiting.new i ≡ true }
 {
-    for w in waiting.iter_mut() {
-        *w = true;
+    for i in 0..waiting.len() {
+        waiting.raise(i);
     }
 }
 
-/// Lets none wait, as after a run that failed.
-pub fn rest_all(waiting: &mut [bool])
-    ensures { (i : ℕ) → waits waiting.new i ≡ false }
+/// Lets none wait, as after a run that failed. It costs what the number of those that wait does.
+pub fn rest_all(waiting: &mut Queue)
+    ensures flags { length waiting.new ≡ length waiting.old }
+    ensures rest { (i : ℕ) → waits waiting.new i ≡ false }
 {
-    for w in waiting.iter_mut() {
-        *w = false;
+    loop {
+        match waiting.take() {
+            None => return,
+            Some(_) => {}
+        }
     }
 }

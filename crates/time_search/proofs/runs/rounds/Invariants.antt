@@ -7,6 +7,7 @@ abbrev pub invariant-loop-i : goal.invariant-loop-i
 invariant-loop-i g l = record {
   same : l.store ≡ l.fn.store;
   sizes : IsSizes l.sizes l.fn.store.sets;
+  flags : length l.waiting ≡ length l.fn.waiting;
   fixed : length l.scratch.fixed.items ≡ length l.fn.scratch.fixed.items;
   cycles : length l.scratch.cycles.items ≡ length l.fn.scratch.cycles.items;
 }

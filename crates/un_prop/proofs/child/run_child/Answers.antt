@@ -1,9 +1,9 @@
-use Rattle.std.proofs.Common.{ℕ, List, [], ◌∷◌, None, Some, refl, sym, ap, subst, ◌∙◌, ◌≡◌, ◌⊎◌, length, get_or, All}
+use Rattle.std.proofs.Common.{ℕ, [], ◌∷◌, None, Some, refl, sym, ap, subst, ◌∙◌, ◌≡◌, ◌⊎◌, length, get_or, All}
 use Rattle.std.specs.declared.option.Option.{Option}
 use Rattle.un_domains.specs.Sets.{Sets, cut_by, set_at}
 use Rattle.un_prop.specs.Rounds.{HasVars, fix_of}
 use Rattle.un_prop.specs.Pruning.{IsFix}
-use Rattle.un_prop.specs.declared.propagator.Pruned.TheVariants.{Same, Tighter, Failed}
+use Rattle.un_prop.specs.declared.propagator.Pruned.TheVariants.{Same, Tighter}
 use Rattle.un_prop.specs.declared.run.Fix.TheVariants.{Stable, Failed as Lost}
 use Rattle.un_prop.proofs.RoundLaws.{left_of, none_of, room_kept}
 use Rattle.un_prop.specs.Sides.{side_test}

@@ -1,7 +1,11 @@
--- those so far do not wait
-use Rattle.std.proofs.Common.{◌≡◌, ℕ, ◌<◌, false}
-use Rattle.un_prop.specs.Queues.{waits}
+-- as many propagators
+use Rattle.std.proofs.Common.{◌≡◌, length}
+use Rattle.std.specs.List.{sum_by}
+use Rattle.un_prop.specs.Queues.{flag}
 use Rattle.un_prop.proofs.queue.rest_all.Given as goal
 
-abbrev pub invariant-loop-w : goal.invariant-loop-w
-invariant-loop-w l = (k : ℕ) → k < l.w-index → waits l.waiting k ≡ false
+abbrev pub invariant-loop : goal.invariant-loop
+invariant-loop l = length l.waiting ≡ length l.fn.waiting
+
+abbrev pub decreases-loop : goal.decreases-loop
+decreases-loop l = sum_by flag l.waiting

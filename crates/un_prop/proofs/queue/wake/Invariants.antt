@@ -1,6 +1,6 @@
 -- those so far wait
 use Rattle.std.proofs.Common.{◌≡◌, ℕ, ◌⊎◌, true, length, drop}
-use Rattle.un_domains.specs.Sets.{Sets, has}
+use Rattle.un_domains.specs.Sets.{has}
 use Rattle.un_prop.specs.Queues.{waits, Grows}
 use Rattle.un_prop.proofs.queue.wake.Given as goal
 

@@ -1,7 +1,7 @@
 use Rattle.std.proofs.Common.{◌≡◌, ◌<◌, ◌∙◌, length, get_or, true, refl, arith, subst, sym}
 use Rattle.std.proofs.lemmas.List.{get_or-set_other, length-set, get_or_default}
 use Rattle.un_base.specs.declared.ids.VarId.{VarId}
-use Rattle.un_domains.specs.Sets.{Sets, has}
+use Rattle.un_domains.specs.Sets.{has}
 use Rattle.un_prop.specs.Queues.{AllWait}
 use Rattle.un_prop.proofs.WakeLaws.{row_at, noted_then, noted_else, woken_then}
 use Rattle.un_prop.proofs.queue.wake_changed.Goals as goal
@@ -31,7 +31,7 @@ loop-v-preserved c =
           let all : AllWait c.args.table.now w.wake.new.waiting at = λ i h. w.wake.ensures.there i (subst (λ xs. has xs i ≡ true) (sym (w.as_slice.ensures ∙ row)) h) in
           rw (w.sizes-is, w.waiting-is) (record {
             long = length-set c.loop-v.sizes at _ ∙ inv.long;
-            flags = w.wake.auto.waiting ∙ inv.flags;
+            flags = w.wake.ensures.flags ∙ inv.flags;
             noted = noted_then vars c.args.store.now.sets c.loop-v.sizes k at c.size-size.result c.loop-v-test.true is within c.size-size.ensures inv.noted;
             others = λ u other. get_or-set_other c.loop-v.sizes at u c.size-size.result 0 (other k (record { 0 = 0 }) c.loop-v-test.true) ∙ inv.others u other;
             woken = woken_then c.args.table.now c.args.sizes.now c.loop-v.sizes c.loop-v.waiting w.wake.new.waiting at c.size-size.result all w.wake.ensures.grows inv.woken;

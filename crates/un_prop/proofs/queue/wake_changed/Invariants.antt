@@ -1,7 +1,7 @@
 -- those so far are noted
 use Rattle.std.proofs.Common.{◌≡◌, ℕ, ◌<◌, ◌⊎◌, length, get_or, All}
 use Rattle.un_base.specs.declared.ids.VarId.{VarId}
-use Rattle.un_domains.specs.Sets.{Sets, set_at}
+use Rattle.un_domains.specs.Sets.{set_at}
 use Rattle.un_prop.specs.Queues.{Grows, AllWait}
 use Rattle.un_prop.proofs.queue.wake_changed.Given as goal
 

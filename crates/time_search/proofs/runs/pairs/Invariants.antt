@@ -1,8 +1,0 @@
--- each pair so far has known variables
-use Rattle.std.proofs.Common.{◌<◌, All}
-use Rattle.un_prec.specs.declared.before.Before.{Before}
-use Rattle.time_search.specs.declared.stores.TheConstants.{VARS}
-use Rattle.time_search.proofs.runs.pairs.Given as goal
-
-abbrev pub invariant-loop-i : goal.invariant-loop-i
-invariant-loop-i l = All (λ (p : Before). All (λ v. v.0 < VARS) p.vars) l.props.items
