@@ -6,6 +6,7 @@ pub mod LabelEq
 pub mod LabelNames
 pub mod LineCuts
 pub mod NeedLaws
+pub mod Noting
 pub mod PacketBack
 pub mod PartCuts
 pub mod Printed

@@ -1,0 +1,186 @@
+//! Code from its listing.
+
+ghost use Rattle.std.specs.Prelude.{◌≡◌, ◌+◌, ◌<◌, ◌^◌, ◌++◌, ◌∷◌, [], List, Option, IfOk, OnOk, MatchOption, MatchResult};
+ghost use Rattle.un_listing.specs.Listing.{code_text};
+ghost use Rattle.un_listing.specs.Reading.{IsFirstBad, IsFirstBadOf, LineValue};
+ghost use Rattle.un_listing.specs.LabelSets.{IsBefore};
+
+use crate::judge::stands;
+use crate::labels::{Before, Labels};
+use crate::line::{Line, read_frame};
+use crate::lines::read_lines;
+use std::alloc::Global;
+use un_base::memory_error::NoMemory;
+use un_base::name::Name;
+use un_lists::items::Items;
+use un_packet::code::{Code, CodeBlock, Packet};
+use un_words::pieces::first_len;
+
+/// Why there is no code: there was no memory, or a line is bad, counted from 1.
+#[derive(Clone, Copy, Debug, PartialEq, Eq)]
+pub enum ListingError {
+    NoMemory,
+    BadListing { line: u32 },
+}
+
+/// The labels of lines.
+fn all_labels(alloc: Global, lines: &[Option<Line>]) -> Result<Labels, NoMemory> {
+    let mut labels = Labels::new(alloc);
+    for line in lines {
+        if let Some(Line::Block(label)) = line {
+            labels.add(label)?;
+        }
+    }
+    Ok(labels)
+}
+
+/// One line more before.
+fn note(before: &mut Before, line: &Option<Line>) -> Result<(), NoMemory>
+    ensures { OnOk result ((lines : List (Option LineValue)) → IsBefore before.old lines → IsBefore before.new (lines ++ line.now ∷ [])) }
+{
+    before.some = true;
+    match line {
+        None => {}
+        Some(Line::Block(label)) => {
+            before.labels.add(label)?;
+            before.blocks = before.blocks.saturating_add(1);
+        }
+        Some(Line::Packet(_)) => before.packets = before.packets.saturating_add(1),
+    }
+    Ok(())
+}
+
+/// The place of the first line that does not stand, 0 where there is none at all.
+fn first_bad(alloc: Global, lines: &[Option<Line>]) -> Result<Option<usize>, NoMemory> {
+    if lines.is_empty() {
+        return Ok(Some(0));
+    }
+    let labels = all_labels(alloc, lines)?;
+    let mut before = Before {
+        labels: Labels::new(alloc),
+        blocks: 0,
+        packets: 0,
+        some: false,
+    };
+    for (k, line) in lines.iter().enumerate() {
+        if !stands(&labels, &before, line, &lines[k + 1..]) {
+            return Ok(Some(k));
+        }
+        note(&mut before, line)?;
+    }
+    Ok(None)
+}
+
+/// The blocks that the lines spell, where each stands at its place.
+fn assemble(alloc: Global, lines: Items<Option<Line>>) -> Result<Items<CodeBlock>, NoMemory> {
+    let mut blocks = Items::new(alloc);
+    let mut current: Option<(Name, Items<Packet>)> = None;
+    for line in lines.into_vec() {
+        match line {
+            None => {}
+            Some(Line::Block(label)) => {
+                if let Some((label, packets)) = current.take() {
+                    blocks.push(CodeBlock { label, packets })?;
+                }
+                current = Some((label, Items::new(alloc)));
+            }
+            Some(Line::Packet(packet)) => match current.take() {
+                Some((label, mut packets)) => {
+                    packets.push(packet)?;
+                    current = Some((label, packets));
+                }
+                None => {}
+            },
+        }
+    }
+    if let Some((label, packets)) = current {
+        blocks.push(CodeBlock { label, packets })?;
+    }
+    Ok(blocks)
+}
+
+/// The code whose listing this is. A label's line at which there would be 2^28 blocks is bad, and a packet's line at which there
+/// would be 2^28 packets.
+///
+/// # Errors
+/// `BadListing` with the first line outside the grammar, from 1; `NoMemory` where there is no memory for the code.
+pub fn read_code(alloc: Global, text: &[u8]) -> Result<Code, ListingError>
+    ensures ok { IfOk result (λ c. text.now ≡ code_text c) }
+{
+    if text.is_empty() {
+        return Err(ListingError::BadListing { line: 1 });
+    }
+    let len = first_len(text);
+    let Some(frame) = read_frame(&text[..len]) else {
+        return Err(ListingError::BadListing { line: 1 });
+    };
+    let Ok(lines) = read_lines(alloc, frame, &text[len..]) else {
+        return Err(ListingError::NoMemory);
+    };
+    match first_bad(alloc, lines.as_slice()) {
+        Err(_) => return Err(ListingError::NoMemory),
+        Ok(Some(k)) => return Err(ListingError::BadListing { line: k as u32 + 2 }),
+        Ok(None) => {}
+    }
+    match assemble(alloc, lines) {
+        Ok(blocks) => Ok(Code { frame, blocks }),
+        Err(_) => Err(ListingError::NoMemory),
+    }
+}
+
+#[cfg(test)]
+mod tests {
+    use super::{ListingError, read_code};
+    use crate::print::print_code;
+    use std::alloc::Global;
+
+    /// Texts and the first bad line, 0 where there is none.
+    static TEXTS: [(&[u8], u32); 21] = [
+        (b"", 1),
+        (b"frame 0\n", 2),
+        (b"frame 0", 1),
+        (b"frame 4\n", 1),
+        (b"frame 0\nblock e\n", 2),
+        (b"frame 0\nblock e\n{ r0 = r1; r0 = r2 }\n{ jumpr r31 }\n", 3),
+        (b"frame 0\nblock a\nblock b\nblock c\n{ jumpr r31 }\n", 0),
+        (b"frame 0\nblock e\n{ jumpr r31 }", 3),
+        (b"frame 0\n{ jumpr r31 }\n", 2),
+        (b"frame 0\nblock e\nblock e\n{ jumpr r31 }\n", 3),
+        (b"frame 0\nblock e\n{ jump f }\n", 3),
+        (b"frame 0\nblock e\n{ jump e }\n", 0),
+        (b"frame 0\nblock e\n{ jump e }\n{ nop }\n", 3),
+        (b"frame 0\nblock e\n{ jump e }\nnop\n", 4),
+        (b"frame 0\nblock e\n{ nop }\n", 3),
+        (b"frame 0\nblock e\n{ if (p0) jump e }\n", 3),
+        (b"frame 0\nblock e\n{ if (p0) jump f }\nblock f\n{ jumpr r31 }\n", 0),
+        (b"frame 0\nblock e\n{ nop; r0 = r1 }\n{ jumpr r31 }\n", 3),
+        (b"frame 8\nblock e\n{ r29 = add(r29,#-8) }\n{ r29 = add(r29,#8); jumpr r31 }\n", 0),
+        (b"frame 0\nblock e\n{ r29 = add(r29,#-8) }\n{ jumpr r31 }\n", 3),
+        (b"frame 0\nblock e\n{ r0 = r1; jumpr r31 }\n\n", 4),
+    ];
+
+    fn answer(alloc: Global, text: &[u8]) -> u32 {
+        match read_code(alloc, text) {
+            Ok(code) => match print_code(alloc, &code) {
+                Ok(printed) => {
+                    if printed.as_slice() == text {
+                        0
+                    } else {
+                        98
+                    }
+                }
+                Err(_) => 97,
+            },
+            Err(ListingError::NoMemory) => 99,
+            Err(ListingError::BadListing { line }) => line,
+        }
+    }
+
+    #[test]
+    fn texts_have_their_answers(rt: HostRuntime) {
+        let other = TEXTS
+            .iter()
+            .position(|(text, line)| answer(rt.alloc(), text) != *line);
+        assert!(rt; other.is_none(), "{other:?}");
+    }
+}
