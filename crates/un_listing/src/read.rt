@@ -35,17 +35,16 @@ fn all_labels(alloc: Global, lines: &[Option<Line>]) -> Result<Labels, NoMemory>
 }
 
 /// One line more before.
-fn note(before: &mut Before, line: &Option<Line>) -> Result<(), NoMemory>
-    ensures { OnOk result ((lines : List (Option LineValue)) → IsBefore before.old lines → IsBefore before.new (lines ++ line.now ∷ [])) }
+fn note(before: &mut Before, line: &Line) -> Result<(), NoMemory>
+    ensures { OnOk result ((lines : List (Option LineValue)) → IsBefore before.old lines → IsBefore before.new (lines ++ Some line.now ∷ [])) }
 {
     before.some = true;
     match line {
-        None => {}
-        Some(Line::Block(label)) => {
+        Line::Block(label) => {
             before.labels.add(label)?;
             before.blocks = before.blocks.saturating_add(1);
         }
-        Some(Line::Packet(_)) => before.packets = before.packets.saturating_add(1),
+        Line::Packet(_) => before.packets = before.packets.saturating_add(1),
     }
     Ok(())
 }
@@ -66,7 +65,9 @@ fn first_bad(alloc: Global, lines: &[Option<Line>]) -> Result<Option<usize>, NoM
         if !stands(&labels, &before, line, &lines[k + 1..]) {
             return Ok(Some(k));
         }
-        note(&mut before, line)?;
+        if let Some(line) = line {
+            note(&mut before, line)?;
+        }
     }
     Ok(None)
 }
