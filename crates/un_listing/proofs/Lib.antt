@@ -10,5 +10,6 @@ pub mod Noting
 pub mod PacketBack
 pub mod PartCuts
 pub mod Printed
+pub mod Standing
 pub mod WordCuts
 pub mod WordTexts

@@ -9,13 +9,13 @@ use Rattle.un_listing.specs.Reading.{labels_in, packets_in}
 use Rattle.un_listing.specs.LabelSets.{has_label, add_label, SameLabels, IsBefore}
 use Rattle.un_listing.proofs.Judged.{has_decides}
 
-labels_append : (ls ms : List (Option Line)) → labels_in (ls ++ ms) ≡ labels_in ls ++ labels_in ms
+pub labels_append : (ls ms : List (Option Line)) → labels_in (ls ++ ms) ≡ labels_in ls ++ labels_in ms
 labels_append [] ms = refl
 labels_append (None ∷ ls) ms = labels_append ls ms
 labels_append (Some (BlockLine l) ∷ ls) ms = ap (λ (xs : List (List ℕ)). l ∷ xs) (labels_append ls ms)
 labels_append (Some (PacketLine p) ∷ ls) ms = labels_append ls ms
 
-packets_append : (ls ms : List (Option Line)) → packets_in (ls ++ ms) ≡ packets_in ls + packets_in ms
+pub packets_append : (ls ms : List (Option Line)) → packets_in (ls ++ ms) ≡ packets_in ls + packets_in ms
 packets_append [] ms = omega arith
 packets_append (None ∷ ls) ms = packets_append ls ms
 packets_append (Some (BlockLine l) ∷ ls) ms = packets_append ls ms
@@ -28,7 +28,7 @@ some_more (y ∷ ys) x e = absurd (cc e)
 always : (b : Bool) {P : Type 0} → b ≡ true → P → IsTrue b ↔ P
 always b e p = (λ t. p, λ q. e)
 
-add_contains : (labels : List (List ℕ)) (label l : List ℕ) → Contains (add_label labels label) l ↔ (Contains labels l ⊎ (label ≡ l))
+pub add_contains : (labels : List (List ℕ)) (label l : List ℕ) → Contains (add_label labels label) l ↔ (Contains labels l ⊎ (label ≡ l))
 add_contains labels label l = by (has_label labels label) refl
   where
     by : (v : Bool) → has_label labels label ≡ v → Contains (if v then labels else labels ++ label ∷ []) l ↔ (Contains labels l ⊎ (label ≡ l))

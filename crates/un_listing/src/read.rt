@@ -2,8 +2,8 @@
 
 ghost use Rattle.std.specs.Prelude.{◌≡◌, ◌+◌, ◌<◌, ◌^◌, ◌++◌, ◌∷◌, [], List, Option, IfOk, OnOk, MatchOption, MatchResult};
 ghost use Rattle.un_listing.specs.Listing.{code_text};
-ghost use Rattle.un_listing.specs.Reading.{IsFirstBad, IsFirstBadOf, LineValue};
-ghost use Rattle.un_listing.specs.LabelSets.{IsBefore};
+ghost use Rattle.un_listing.specs.Reading.{AllStand, IsFirstBad, IsFirstBadOf, IsUnder, LineValue, labels_in, lines_in};
+ghost use Rattle.un_listing.specs.LabelSets.{IsBefore, SameLabels};
 
 use crate::judge::stands;
 use crate::labels::{Before, Labels};
@@ -23,13 +23,24 @@ pub enum ListingError {
     BadListing { line: u32 },
 }
 
+/// The label of one line more.
+fn add_label_of(labels: &mut Labels, line: &Option<Line>) -> Result<(), NoMemory>
+    ensures { OnOk result ((lines : List (Option LineValue)) → SameLabels labels.old (labels_in lines) → SameLabels labels.new (labels_in (lines ++ line.now ∷ []))) }
+{
+    match line {
+        Some(Line::Block(label)) => labels.add(label),
+        Some(Line::Packet(_)) => Ok(()),
+        None => Ok(()),
+    }
+}
+
 /// The labels of lines.
-fn all_labels(alloc: Global, lines: &[Option<Line>]) -> Result<Labels, NoMemory> {
+fn all_labels(alloc: Global, lines: &[Option<Line>]) -> Result<Labels, NoMemory>
+    ensures { IfOk result (λ labels. SameLabels labels (labels_in lines.now)) }
+{
     let mut labels = Labels::new(alloc);
     for line in lines {
-        if let Some(Line::Block(label)) = line {
-            labels.add(label)?;
-        }
+        add_label_of(&mut labels, line)?;
     }
     Ok(labels)
 }
@@ -50,7 +61,9 @@ fn note(before: &mut Before, line: &Line) -> Result<(), NoMemory>
 }
 
 /// The place of the first line that does not stand, 0 where there is none at all.
-fn first_bad(alloc: Global, lines: &[Option<Line>]) -> Result<Option<usize>, NoMemory> {
+fn first_bad(alloc: Global, lines: &[Option<Line>]) -> Result<Option<usize>, NoMemory>
+    ensures { IfOk result (λ place. MatchOption place (AllStand lines.now) (IsFirstBadOf lines.now)) }
+{
     if lines.is_empty() {
         return Ok(Some(0));
     }
@@ -72,32 +85,45 @@ fn first_bad(alloc: Global, lines: &[Option<Line>]) -> Result<Option<usize>, NoM
     Ok(None)
 }
 
-/// The blocks that the lines spell, where each stands at its place.
-fn assemble(alloc: Global, lines: Items<Option<Line>>) -> Result<Items<CodeBlock>, NoMemory> {
-    let mut blocks = Items::new(alloc);
-    let mut current: Option<(Name, Items<Packet>)> = None;
-    for line in lines.into_vec() {
-        match line {
-            None => {}
-            Some(Line::Block(label)) => {
-                if let Some((label, packets)) = current.take() {
-                    blocks.push(CodeBlock { label, packets })?;
-                }
-                current = Some((label, Items::new(alloc)));
+fn push_block(blocks: &mut Vec<CodeBlock>, block: CodeBlock) -> Result<(), NoMemory>
+    ensures { OnOk result (blocks.new.items ≡ blocks.old.items ++ block ∷ []) }
+{
+    match blocks.push(block) {
+        Ok(_) => Ok(()),
+        Err(_) => Err(NoMemory),
+    }
+}
+
+/// One line more in the blocks: a label's line starts a block, and a packet goes to the last one.
+fn add_line(alloc: Global, blocks: &mut Vec<CodeBlock>, line: Line) -> Result<(), NoMemory>
+    ensures { OnOk result (IsUnder blocks.old.items line → lines_in blocks.new.items ≡ lines_in blocks.old.items ++ Some line ∷ []) }
+{
+    match line {
+        Line::Block(label) => {
+            let packets = Items::new(alloc);
+            push_block(blocks, CodeBlock { label, packets })
+        }
+        Line::Packet(packet) => match blocks.pop() {
+            Some(CodeBlock { label, mut packets }) => {
+                packets.push(packet)?;
+                push_block(blocks, CodeBlock { label, packets })
             }
-            Some(Line::Packet(packet)) => match current.take() {
-                Some((label, mut packets)) => {
-                    packets.push(packet)?;
-                    current = Some((label, packets));
-                }
-                None => {}
-            },
+            None => Ok(()),
+        },
+    }
+}
+
+/// The blocks that the lines spell, where each stands at its place.
+fn assemble(alloc: Global, lines: Items<Option<Line>>) -> Result<Items<CodeBlock>, NoMemory>
+    ensures { IfOk result (λ blocks. AllStand lines → lines_in blocks ≡ lines) }
+{
+    let mut blocks = Vec::new(alloc);
+    for line in lines.into_vec() {
+        if let Some(line) = line {
+            add_line(alloc, &mut blocks, line)?;
         }
     }
-    if let Some((label, packets)) = current {
-        blocks.push(CodeBlock { label, packets })?;
-    }
-    Ok(blocks)
+    Ok(Items::from_vec(blocks))
 }
 
 /// The code whose listing this is. A label's line at which there would be 2^28 blocks is bad, and a packet's line at which there
