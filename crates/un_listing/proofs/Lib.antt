@@ -10,6 +10,8 @@ pub mod Noting
 pub mod PacketBack
 pub mod PartCuts
 pub mod Printed
+pub mod RulesKept
 pub mod Standing
+pub mod TextRead
 pub mod WordCuts
 pub mod WordTexts

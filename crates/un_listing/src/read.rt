@@ -20,7 +20,7 @@ use un_words::pieces::first_len;
 #[derive(Clone, Copy, Debug, PartialEq, Eq)]
 pub enum ListingError {
     NoMemory,
-    BadListing { line: u32 },
+    BadListing { line: usize },
 }
 
 /// The label of one line more.
@@ -146,7 +146,7 @@ pub fn read_code(alloc: Global, text: &[u8]) -> Result<Code, ListingError>
     };
     match first_bad(alloc, lines.as_slice()) {
         Err(_) => return Err(ListingError::NoMemory),
-        Ok(Some(k)) => return Err(ListingError::BadListing { line: k as u32 + 2 }),
+        Ok(Some(k)) => return Err(ListingError::BadListing { line: k + 2 }),
         Ok(None) => {}
     }
     match assemble(alloc, lines) {
@@ -162,7 +162,7 @@ mod tests {
     use std::alloc::Global;
 
     /// Texts and the first bad line, 0 where there is none.
-    static TEXTS: [(&[u8], u32); 21] = [
+    static TEXTS: [(&[u8], usize); 21] = [
         (b"", 1),
         (b"frame 0\n", 2),
         (b"frame 0", 1),
@@ -186,7 +186,7 @@ mod tests {
         (b"frame 0\nblock e\n{ r0 = r1; jumpr r31 }\n\n", 4),
     ];
 
-    fn answer(alloc: Global, text: &[u8]) -> u32 {
+    fn answer(alloc: Global, text: &[u8]) -> usize {
         match read_code(alloc, text) {
             Ok(code) => match print_code(alloc, &code) {
                 Ok(printed) => {

@@ -1,5 +1,5 @@
 -- A block more, or a packet more in the last block.
-use Rattle.std.proofs.Common.{rules}
+use Rattle.std.proofs.Common.{refl}
 use Rattle.std.proofs.lemmas.Result.{on_ok_weaker}
 use Rattle.un_listing.proofs.Standing.{block_pushed_to, packet_pushed_to}
 use Rattle.un_listing.proofs.read.add_line.Goals as goal
@@ -13,6 +13,6 @@ returns-in-Block c =
 pub returns-in_ok-push-in-Some : goal.returns-in_ok-push-in-Some
 returns-in_ok-push-in-Some c =
     on_ok_weaker c.push_block-in-Some.result
-    (λ e under. packet_pushed_to c.args.blocks.now.items c.pop.new.self.items c.push_block-in-Some.new.blocks.items c.in-Some.label-1-given.0.0 c.in-Some.label c.in-Some.packets c.push.new.self
-      c.in-Packet.packet c.args.line c.in-Some.ensures.items (search rules) c.in_ok-push-in-Some.ensures.ok e c.in-Packet.is)
+    (λ e under. packet_pushed_to c.args.blocks.now.items c.pop.new.self.items c.push_block-in-Some.new.blocks.items c.in-Some.label-1-given.0.0 c.in-Some.label-1-given.0.0.label c.in-Some.label-1-given.0.0.packets c.push.new.self
+      c.in-Packet.packet c.args.line c.in-Some.ensures.items refl c.in_ok-push-in-Some.ensures.ok e c.in-Packet.is)
     c.push_block-in-Some.ensures
