@@ -1,4 +1,5 @@
 pub mod CleanTexts
+pub mod CodeRead
 pub mod InstrBack
 pub mod InstrWords
 pub mod Judged

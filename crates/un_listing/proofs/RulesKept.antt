@@ -79,7 +79,7 @@ module _ (all : List (List ℕ)) where
       omega arith
 
   -- behind a block
-  past : List (Option Line) → CodeBlock → List (Option Line)
+  abbrev past : List (Option Line) → CodeBlock → List (Option Line)
   past before b = (before ++ Some (BlockLine b.label) ∷ []) ++ packet_lines b.packets
 
   behind_block : (before : List (Option Line)) (b : CodeBlock) (bs : List CodeBlock) → StandFrom all before (lines_in (b ∷ bs)) → StandFrom all (past before b) (lines_in bs)
@@ -167,14 +167,14 @@ pub rules_kept : (text : List ℕ) (frame : ℕ) (bs : List CodeBlock) → IsFra
 rules_kept text frame bs framed good stand =
     let from : StandFrom (labels_in (lines_in bs)) [] (lines_in bs) = from_places [] (lines_in bs) stand.each in
     let h : StandFrom (labels_of bs) [] (lines_in bs) = subst (λ (all : List (List ℕ)). StandFrom all [] (lines_in bs)) (labels_lines bs) from in
-    let blocks = few_blocks (labels_of bs) [] bs h (omega arith) in
-    let packets = few_packets (labels_of bs) [] bs h (omega arith) in
+    let blocks : length (labels_in []) + length bs < BLOCKS = few_blocks (labels_of bs) [] bs h (omega arith) in
+    let packets : packets_in [] + sum_by (λ (b : CodeBlock). length b.packets) bs < PACKETS = few_packets (labels_of bs) [] bs h (omega arith) in
     record {
       whole = framed.whole;
       small = framed.small;
       some = some_block bs stand.some;
-      few_blocks = blocks;
-      few_packets = packets;
+      few_blocks = omega arith;
+      few_packets = omega arith;
       distinct_labels = EachPair-AllPairs (λ (a b : CodeBlock). a.label ≢ b.label) bs (distinct (labels_of bs) [] bs h);
       good_blocks = good_blocks (labels_of bs) frame [] bs h good;
       last = last_leaves (labels_of bs) [] bs h;

@@ -12,6 +12,8 @@ use Rattle.un_packet.specs.declared.code.CodeBlock.{CodeBlock}
 use Rattle.un_packet.specs.CodeRules.{LeadsToOneOf, transfers, leaves}
 use Rattle.un_listing.specs.declared.line.Line.{Line}
 use Rattle.un_listing.specs.declared.line.Line.TheVariants.{Block as BlockLine, Packet as PacketLine}
+use Rattle.un_listing.specs.declared.read.ListingError.{ListingError}
+use Rattle.un_listing.specs.declared.read.ListingError.TheVariants.{NoMemory, BadListing}
 use Rattle.un_listing.specs.Listing.{packet_line}
 use Rattle.un_listing.specs.PacketWords.{IsCodePacket}
 
@@ -137,3 +139,8 @@ IsFirstBadIn (first ∷ rest) number = (((frame : ℕ) → ¬ IsFrameLine first 
 -- the first line outside the grammar, counted from 1. A line stands with its line feed.
 abbrev pub IsFirstBad : List ℕ → ℕ → Type 0
 IsFirstBad text number = IsFirstBadIn (pieces_of text) number
+
+-- an error is an answer to a text: there was no memory, or the line is the first bad one
+abbrev pub IsErrorOf : List ℕ → ListingError → Type 0
+IsErrorOf text NoMemory = Unit {0}
+IsErrorOf text (BadListing line) = IsFirstBad text line

@@ -1,8 +1,8 @@
 //! Code from its listing.
 
-ghost use Rattle.std.specs.Prelude.{◌≡◌, ◌+◌, ◌<◌, ◌^◌, ◌++◌, ◌∷◌, [], List, Option, IfOk, OnOk, MatchOption, MatchResult};
+ghost use Rattle.std.specs.Prelude.{◌≡◌, ◌+◌, ◌<◌, ◌^◌, ◌++◌, ◌∷◌, [], List, Option, IfOk, IfErr, OnOk, MatchOption};
 ghost use Rattle.un_listing.specs.Listing.{code_text};
-ghost use Rattle.un_listing.specs.Reading.{AllStand, IsFirstBad, IsFirstBadOf, IsUnder, LineValue, labels_in, lines_in};
+ghost use Rattle.un_listing.specs.Reading.{AllStand, IsErrorOf, IsFirstBadOf, IsUnder, LineValue, labels_in, lines_in};
 ghost use Rattle.un_listing.specs.LabelSets.{IsBefore, SameLabels};
 
 use crate::judge::stands;
@@ -133,6 +133,7 @@ fn assemble(alloc: Global, lines: Items<Option<Line>>) -> Result<Items<CodeBlock
 /// `BadListing` with the first line outside the grammar, from 1; `NoMemory` where there is no memory for the code.
 pub fn read_code(alloc: Global, text: &[u8]) -> Result<Code, ListingError>
     ensures ok { IfOk result (λ c. text.now ≡ code_text c) }
+    ensures bad { IfErr result (IsErrorOf text.now) }
 {
     if text.is_empty() {
         return Err(ListingError::BadListing { line: 1 });
