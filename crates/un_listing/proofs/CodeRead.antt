@@ -1,9 +1,8 @@
 -- The text that is read as a frame and blocks, and the one that is not.
-use Rattle.std.proofs.Common.{◌≡◌, ◌≤◌, ◌==◌, ◌-◌, ◌+◌, ℕ, Bool, true, false, IsTrue, List, [], ◌∷◌, ◌++◌, Option, Some, None, MatchOption, take, drop, length, codes, inl, inr, refl, sym, ap, ◌∙◌, arith, append_assoc}
+use Rattle.std.proofs.Common.{◌≡◌, ◌≤◌, ◌-◌, ◌+◌, ℕ, List, [], ◌∷◌, ◌++◌, Option, Some, None, MatchOption, take, drop, length, codes, inl, inr, refl, sym, ap, ◌∙◌, arith, append_assoc}
 use Rattle.std.specs.List.{AllZip, concat, flat_map}
 use Rattle.std.specs.Fmt.{decimal}
 use Rattle.std.proofs.lemmas.List.{take_all, length-drop}
-use Rattle.un_base.proofs.DecimalLaws.{is_empty}
 use Rattle.un_base.proofs.LineLaws.{concat-pieces_of}
 use Rattle.un_base.specs.Lines.{pieces_of, joined_lines}
 use Rattle.un_packet.specs.declared.code.CodeBlock.{CodeBlock}

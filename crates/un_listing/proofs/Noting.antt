@@ -1,12 +1,11 @@
 -- One line more before.
-use Rattle.std.proofs.Common.{◌≡◌, ◌≢◌, ◌↔◌, ◌⊎◌, inl, inr, ⊎_elim, ℕ, suc, zero, ◌+◌, ◌-◌, ◌^◌, min, Bool, true, false, IsTrue, List, [], ◌∷◌, ◌++◌, Contains, length, Option, Some, None, if◌then◌else◌, refl, sym, ap, ◌∙◌, subst, arith, length-append, append-nil, add-zero}
+use Rattle.std.proofs.Common.{◌≡◌, ◌≢◌, ◌↔◌, ◌⊎◌, inl, inr, ⊎_elim, ℕ, ◌+◌, ◌-◌, ◌^◌, min, Bool, true, false, IsTrue, List, [], ◌∷◌, ◌++◌, Contains, length, Option, Some, None, if◌then◌else◌, refl, sym, ap, ◌∙◌, subst, arith, length-append, append-nil, add-zero}
 use Rattle.std.proofs.lemmas.List.Elements.{Contains-append_left, Contains-push, Contains-push_cases}
 use Rattle.un_packet.specs.declared.code.Packet.{Packet}
 use Rattle.un_listing.specs.declared.line.Line.{Line}
 use Rattle.un_listing.specs.declared.line.Line.TheVariants.{Block as BlockLine, Packet as PacketLine}
-use Rattle.un_listing.specs.declared.labels.Before.{Before}
 use Rattle.un_listing.specs.Reading.{labels_in, packets_in}
-use Rattle.un_listing.specs.LabelSets.{has_label, add_label, SameLabels, IsBefore}
+use Rattle.un_listing.specs.LabelSets.{has_label, add_label, IsBefore}
 use Rattle.un_listing.proofs.Judged.{has_decides}
 
 pub labels_append : (ls ms : List (Option Line)) → labels_in (ls ++ ms) ≡ labels_in ls ++ labels_in ms

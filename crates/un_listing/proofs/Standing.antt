@@ -1,5 +1,5 @@
 -- Lines that stand, one after another.
-use Rattle.std.proofs.Common.{◌≡◌, ◌≢◌, ◌↔◌, ◌<◌, ◌≤◌, ℕ, suc, zero, ◌+◌, Bool, IsTrue, true, false, List, [], ◌∷◌, ◌++◌, Option, Some, None, map, take, drop, length, get_or, ◌-◌, slice_get, refl, sym, ap, ◌∙◌, subst, arith, append-nil, add-one, add-zero, append_assoc, Contains, ◌⊎◌, inl, inr, ⊎_elim, length-append}
+use Rattle.std.proofs.Common.{◌≡◌, ◌↔◌, ◌<◌, ◌≤◌, ℕ, suc, zero, ◌+◌, Bool, IsTrue, List, [], ◌∷◌, ◌++◌, Option, Some, None, take, drop, length, get_or, ◌-◌, slice_get, refl, sym, ap, ◌∙◌, subst, arith, append-nil, add-one, append_assoc, Contains, ◌⊎◌, inl, inr, ⊎_elim, length-append}
 use Rattle.std.proofs.Math.Seq.{take-append_seam}
 use Rattle.std.proofs.lemmas.List.Elements.{Contains-append_left, Contains-push, Contains-push_cases}
 use Rattle.std.proofs.lemmas.List.{take_more, take_all, length-drop}
@@ -9,7 +9,7 @@ use Rattle.un_packet.specs.declared.code.CodeBlock.{CodeBlock}
 use Rattle.un_listing.specs.declared.line.Line.{Line}
 use Rattle.un_listing.specs.declared.line.Line.TheVariants.{Block as BlockLine, Packet as PacketLine}
 use Rattle.un_listing.specs.declared.labels.Before.{Before}
-use Rattle.un_listing.specs.Reading.{labels_in, packets_in, StandsAt, Stands, AllStand, lines_in, packet_lines, IsUnder}
+use Rattle.un_listing.specs.Reading.{labels_in, StandsAt, Stands, AllStand, lines_in, packet_lines, IsUnder}
 use Rattle.un_listing.specs.LabelSets.{IsBefore, SameLabels, add_label}
 use Rattle.un_listing.proofs.Noting.{add_contains, labels_append}
 

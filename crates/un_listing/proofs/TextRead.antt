@@ -1,5 +1,5 @@
 -- The text whose pieces are read as the lines of blocks.
-use Rattle.std.proofs.Common.{◌≡◌, ℕ, List, [], ◌∷◌, ◌++◌, Option, Some, map, All, codes, refl, sym, ap, ◌∙◌, append_assoc}
+use Rattle.std.proofs.Common.{◌≡◌, ℕ, List, [], ◌∷◌, ◌++◌, Option, map, All, codes, refl, sym, ap, ◌∙◌, append_assoc}
 use Rattle.std.specs.List.{AllZip, AllByRecursion as Each, concat, flat_map}
 use Rattle.std.proofs.lemmas.List.Elements.{All-cons, All-nil}
 use Rattle.un_base.specs.Lines.{joined_lines}
@@ -7,7 +7,6 @@ use Rattle.un_packet.specs.declared.code.Packet.{Packet}
 use Rattle.un_packet.specs.declared.code.CodeBlock.{CodeBlock}
 use Rattle.un_packet.specs.CodeRules.{IsGoodPacket}
 use Rattle.un_listing.specs.declared.line.Line.{Line}
-use Rattle.un_listing.specs.declared.line.Line.TheVariants.{Block as BlockLine, Packet as PacketLine}
 use Rattle.un_listing.specs.Listing.{packet_line, block_lines}
 use Rattle.un_listing.specs.Reading.{lines_in, packet_lines, IsReadAs}
 

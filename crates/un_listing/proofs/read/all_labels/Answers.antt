@@ -1,5 +1,5 @@
 -- The label of one line more.
-use Rattle.std.proofs.Common.{rules, ◌≡◌, List, Option, take, subst, arith}
+use Rattle.std.proofs.Common.{List, Option, take, subst, arith}
 use Rattle.std.proofs.lemmas.List.{take_all}
 use Rattle.un_listing.specs.declared.line.Line.{Line}
 use Rattle.un_listing.specs.Reading.{labels_in}

@@ -1,5 +1,5 @@
 -- the labels of the lines so far
-use Rattle.std.proofs.Common.{List, Option, take}
+use Rattle.std.proofs.Common.{take}
 use Rattle.un_listing.specs.Reading.{labels_in}
 use Rattle.un_listing.specs.LabelSets.{SameLabels}
 use Rattle.un_listing.proofs.read.all_labels.Given as goal

@@ -1,5 +1,5 @@
 -- The line at place k is judged among those before it and those after it.
-use Rattle.std.proofs.Common.{rules, ◌≡◌, ◌+◌, ◌↔◌, IsTrue, true≢false, true, false, List, Option, Some, slice_get, take, drop, sym, ◌∙◌, arith}
+use Rattle.std.proofs.Common.{rules, ◌≡◌, true≢false, true, false, take, sym, ◌∙◌, arith}
 use Rattle.un_listing.specs.Reading.{labels_in, StandsAt}
 use Rattle.un_listing.proofs.Standing.{judged, stand_more_to, none_stands, got}
 use Rattle.un_listing.proofs.read.first_bad.Goals.{in-Some+in_ok-note, in_default}

@@ -1,5 +1,5 @@
 -- One label or one packet more.
-use Rattle.std.proofs.Common.{rules, ◌≡◌, ◌+◌, ◌-◌, ◌^◌, min, arith}
+use Rattle.std.proofs.Common.{◌≡◌, ◌+◌, ◌-◌, ◌^◌, min, arith}
 use Rattle.un_listing.proofs.Noting.{block_noted, packet_noted}
 use Rattle.un_listing.proofs.read.note.Goals as goal
 

@@ -1,9 +1,7 @@
 -- The first line tells the frame, and the others the blocks or the first bad line.
-use Rattle.std.proofs.Common.{rules, ◌≡◌, List, [], ℕ, None, Some}
-use Rattle.un_base.proofs.DecimalLaws.{is_empty}
-use Rattle.un_packet.specs.CodeRules.{KeepsRules}
+use Rattle.std.proofs.Common.{rules, ◌≡◌, None}
 use Rattle.un_listing.specs.Reading.{AllStand}
-use Rattle.un_listing.proofs.CodeRead.{where_none, where_some, empty_bad, frame_bad, line_bad, kept, read_text}
+use Rattle.un_listing.proofs.CodeRead.{where_none, kept, read_text}
 use Rattle.un_listing.proofs.read.read_code.Goals as goal
 
 pub invariant_of-result : goal.invariant_of-result
