@@ -61,7 +61,7 @@ module _ (lines : List (Option Line)) (labels : List (List ℕ)) (blocks packets
   block_noted label = record {
     labels = rw (labels_append lines (Some (BlockLine label) ∷ [])) (λ l. (
       λ c. ⊎_elim (λ d. Contains-append_left (labels_in lines) (label ∷ []) l ((known.labels l).0 d))
-      (λ f. subst (λ (x : List ℕ). Contains (labels_in lines ++ label ∷ []) x) f (Contains-push (labels_in lines) label)) ((add_contains labels label l).0 c),
+          (λ f. subst (λ (x : List ℕ). Contains (labels_in lines ++ label ∷ []) x) f (Contains-push (labels_in lines) label)) ((add_contains labels label l).0 c),
       λ c. (add_contains labels label l).1 (⊎_elim (λ d. inl ((known.labels l).1 d)) (λ f. inr f) (Contains-push_cases (labels_in lines) label l c)),
     ));
     blocks = (let e = ap length (labels_append lines (Some (BlockLine label) ∷ [])) in let f = known.blocks in let g = length-append (labels_in lines) (label ∷ []) in omega arith);

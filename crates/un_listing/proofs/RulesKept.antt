@@ -43,32 +43,42 @@ not_on true h = absurd (cc h)
 not_on false h = refl
 
 module _ (all : List (List ℕ)) where
-  behind_packets : (before : List (Option Line)) (ps : List Packet) (rest : List (Option Line)) → StandFrom all before (packet_lines ps ++ rest)
+  behind_packets : (before : List (Option Line)) (ps : List Packet) (rest : List (Option Line))
+      → StandFrom all before (packet_lines ps ++ rest)
       → StandFrom all (before ++ packet_lines ps) rest
   behind_packets before [] rest h = rw append-nil h
   behind_packets before (p ∷ ps) rest (here, more) =
       subst (λ (ls : List (Option Line)). StandFrom all ls rest) (append_assoc before (Some (PacketLine p) ∷ []) (packet_lines ps))
       (behind_packets (before ++ Some (PacketLine p) ∷ []) ps rest more)
 
-  only_last : (before : List (Option Line)) (ps : List Packet) (rest : List (Option Line)) → StandFrom all before (packet_lines ps ++ rest) → TransfersOnlyLast ps
+  only_last : (before : List (Option Line)) (ps : List Packet) (rest : List (Option Line))
+      → StandFrom all before (packet_lines ps ++ rest) → TransfersOnlyLast ps
   only_last before [] rest h = tt
   only_last before (p ∷ []) rest h = tt
-  only_last before (p ∷ q ∷ ps) rest (here, more) = (not_on (transfers p) here.last, only_last (before ++ Some (PacketLine p) ∷ []) (q ∷ ps) rest more)
+  only_last before (p ∷ q ∷ ps) rest (here, more) = (
+    not_on (transfers p) here.last,
+    only_last (before ++ Some (PacketLine p) ∷ [])
+        (q ∷ ps) rest more,
+  )
 
   lead : (before : List (Option Line)) (ps : List Packet) (rest : List (Option Line)) → StandFrom all before (packet_lines ps ++ rest)
       → All (λ (p : Packet). All (LeadsToOneOf all) p.instrs) ps
   lead before [] rest h = All-nil (λ (p : Packet). All (LeadsToOneOf all) p.instrs)
   lead before (p ∷ ps) rest (here, more) =
-      All-cons (λ (p : Packet). All (LeadsToOneOf all) p.instrs) p ps here.targets (lead (before ++ Some (PacketLine p) ∷ []) ps rest more)
+      All-cons (λ (p : Packet). All (LeadsToOneOf all) p.instrs) p ps here.targets
+      (lead (before ++ Some (PacketLine p) ∷ []) ps rest more)
 
-  end_leaves : (before : List (Option Line)) (label : List ℕ) (ps : List Packet) → StandFrom all before (packet_lines ps ++ []) → packet_lines ps ++ [] ≢ []
+  end_leaves : (before : List (Option Line)) (label : List ℕ) (ps : List Packet) → StandFrom all before (packet_lines ps ++ [])
+      → packet_lines ps ++ [] ≢ []
       → EndsByLeaving (record { label = label; packets = ps })
   end_leaves before label [] h some = absurd (some refl)
   end_leaves before label (p ∷ []) (here, more) some = (0, omega arith, here.ending refl)
   end_leaves before label (p ∷ q ∷ ps) (here, more) some =
-      let e = end_leaves (before ++ Some (PacketLine p) ∷ []) label (q ∷ ps) more (λ f. absurd (cc f)) in (suc e.0, omega (arith, e.1), e.2)
+      let e = end_leaves (before ++ Some (PacketLine p) ∷ []) label (q ∷ ps) more (λ f. absurd (cc f)) in
+      (suc e.0, omega (arith, e.1), e.2)
 
-  few_in_block : (before : List (Option Line)) (ps : List Packet) (rest : List (Option Line)) → StandFrom all before (packet_lines ps ++ rest)
+  few_in_block : (before : List (Option Line)) (ps : List Packet) (rest : List (Option Line))
+      → StandFrom all before (packet_lines ps ++ rest)
       → packets_in before < PACKETS → packets_in before + length ps < PACKETS
   few_in_block before [] rest h few = omega arith
   few_in_block before (p ∷ ps) rest (here, more) few =
@@ -81,13 +91,15 @@ module _ (all : List (List ℕ)) where
   abbrev past : List (Option Line) → CodeBlock → List (Option Line)
   past before b = (before ++ Some (BlockLine b.label) ∷ []) ++ packet_lines b.packets
 
-  behind_block : (before : List (Option Line)) (b : CodeBlock) (bs : List CodeBlock) → StandFrom all before (lines_in (b ∷ bs)) → StandFrom all (past before b) (lines_in bs)
+  behind_block : (before : List (Option Line)) (b : CodeBlock) (bs : List CodeBlock) → StandFrom all before (lines_in (b ∷ bs))
+      → StandFrom all (past before b) (lines_in bs)
   behind_block before b bs (here, more) = behind_packets (before ++ Some (BlockLine b.label) ∷ []) b.packets (lines_in bs) more
 
   labels_past : (before : List (Option Line)) (b : CodeBlock) → labels_in (past before b) ≡ labels_in before ++ b.label ∷ []
   labels_past before b =
       labels_append (before ++ Some (BlockLine b.label) ∷ []) (packet_lines b.packets)
-      ∙ ap (λ (ls : List (List ℕ)). labels_in (before ++ Some (BlockLine b.label) ∷ []) ++ ls) (ap labels_in (sym (append-nil (packet_lines b.packets))) ∙ labels_none b.packets [])
+      ∙ ap (λ (ls : List (List ℕ)). labels_in (before ++ Some (BlockLine b.label) ∷ []) ++ ls)
+      (ap labels_in (sym (append-nil (packet_lines b.packets))) ∙ labels_none b.packets [])
       ∙ append-nil (labels_in (before ++ Some (BlockLine b.label) ∷ []))
       ∙ labels_append before (Some (BlockLine b.label) ∷ [])
 
@@ -102,7 +114,8 @@ module _ (all : List (List ℕ)) where
       let g = packets_none b.packets in
       omega arith
 
-  few_blocks : (before : List (Option Line)) (bs : List CodeBlock) → StandFrom all before (lines_in bs) → length (labels_in before) < BLOCKS
+  few_blocks : (before : List (Option Line)) (bs : List CodeBlock) → StandFrom all before (lines_in bs)
+      → length (labels_in before) < BLOCKS
       → length (labels_in before) + length bs < BLOCKS
   few_blocks before [] h few = omega arith
   few_blocks before (b ∷ bs) (here, more) few =
@@ -123,29 +136,35 @@ module _ (all : List (List ℕ)) where
       let s = sum_by-cons (λ (b : CodeBlock). length b.packets) b bs in
       omega arith
 
-  fresh : (label : List ℕ) (before : List (Option Line)) (bs : List CodeBlock) → StandFrom all before (lines_in bs) → Contains (labels_in before) label
+  fresh : (label : List ℕ) (before : List (Option Line)) (bs : List CodeBlock) → StandFrom all before (lines_in bs)
+      → Contains (labels_in before) label
       → Each (λ (b : CodeBlock). label ≢ b.label) bs
   fresh label before [] h there = tt
   fresh label before (b ∷ bs) (here, more) there = (
     λ e. here.new (subst (λ (l : List ℕ). Contains (labels_in before) l) e there),
-    fresh label (past before b) bs (behind_block before b bs (here, more)) (rw (labels_past before b) (Contains-append_left (labels_in before) (b.label ∷ []) label there)),
+    fresh label (past before b) bs (behind_block before b bs (here, more))
+        (rw (labels_past before b) (Contains-append_left (labels_in before) (b.label ∷ []) label there)),
   )
 
-  distinct : (before : List (Option Line)) (bs : List CodeBlock) → StandFrom all before (lines_in bs) → EachPair (λ (a b : CodeBlock). a.label ≢ b.label) bs
+  distinct : (before : List (Option Line)) (bs : List CodeBlock) → StandFrom all before (lines_in bs)
+      → EachPair (λ (a b : CodeBlock). a.label ≢ b.label) bs
   distinct before [] h = tt
   distinct before (b ∷ bs) (here, more) = (
-    fresh b.label (past before b) bs (behind_block before b bs (here, more)) (rw (labels_past before b) (Contains-push (labels_in before) b.label)),
+    fresh b.label (past before b) bs (behind_block before b bs (here, more))
+        (rw (labels_past before b) (Contains-push (labels_in before) b.label)),
     distinct (past before b) bs (behind_block before b bs (here, more)),
   )
 
-  last_leaves : (before : List (Option Line)) (bs : List CodeBlock) → StandFrom all before (lines_in bs) → (k : ℕ) → k + 1 ≡ length bs → IsSomeAnd (slice_get bs k) EndsByLeaving
+  last_leaves : (before : List (Option Line)) (bs : List CodeBlock) → StandFrom all before (lines_in bs) → (k : ℕ) → k + 1 ≡ length bs
+      → IsSomeAnd (slice_get bs k) EndsByLeaving
   last_leaves before [] h k e = absurd (omega arith)
   last_leaves before (b ∷ []) (here, more) zero e = end_leaves (before ++ Some (BlockLine b.label) ∷ []) b.label b.packets more here.more
   last_leaves before (b ∷ []) (here, more) (suc k) e = absurd (omega arith)
   last_leaves before (b ∷ c ∷ bs) h zero e = absurd (omega arith)
   last_leaves before (b ∷ c ∷ bs) h (suc k) e = last_leaves (past before b) (c ∷ bs) (behind_block before b (c ∷ bs) h) k (omega arith)
 
-  good_blocks : (frame : ℕ) (before : List (Option Line)) (bs : List CodeBlock) → StandFrom all before (lines_in bs) → Each (λ (b : CodeBlock). All (IsGoodPacket frame) b.packets) bs
+  good_blocks : (frame : ℕ) (before : List (Option Line)) (bs : List CodeBlock) → StandFrom all before (lines_in bs)
+      → Each (λ (b : CodeBlock). All (IsGoodPacket frame) b.packets) bs
       → All (IsGoodCodeBlock frame all) bs
   good_blocks frame before [] h good = All-nil (IsGoodCodeBlock frame all)
   good_blocks frame before (b ∷ bs) (here, more) (g, gs) =
@@ -161,13 +180,16 @@ some_block : (bs : List CodeBlock) → lines_in bs ≢ [] → 0 < length bs
 some_block [] some = absurd (some refl)
 some_block (b ∷ bs) some = omega arith
 
-pub rules_kept : (text : List ℕ) (frame : ℕ) (bs : List CodeBlock) → IsFrameLine text frame → Each (λ (b : CodeBlock). All (IsGoodPacket frame) b.packets) bs
+pub rules_kept : (text : List ℕ) (frame : ℕ) (bs : List CodeBlock) → IsFrameLine text frame
+    → Each (λ (b : CodeBlock). All (IsGoodPacket frame) b.packets) bs
     → AllStand (lines_in bs) → KeepsRules frame bs
 rules_kept text frame bs framed good stand =
     let from : StandFrom (labels_in (lines_in bs)) [] (lines_in bs) = from_places [] (lines_in bs) stand.each in
-    let h : StandFrom (labels_of bs) [] (lines_in bs) = subst (λ (all : List (List ℕ)). StandFrom all [] (lines_in bs)) (labels_lines bs) from in
+    let h : StandFrom (labels_of bs) [] (lines_in bs) = subst (λ (all : List (List ℕ)). StandFrom all [] (lines_in bs))
+    (labels_lines bs) from in
     let blocks : length (labels_in []) + length bs < BLOCKS = few_blocks (labels_of bs) [] bs h (omega arith) in
-    let packets : packets_in [] + sum_by (λ (b : CodeBlock). length b.packets) bs < PACKETS = few_packets (labels_of bs) [] bs h (omega arith) in
+    let packets : packets_in [] + sum_by (λ (b : CodeBlock). length b.packets) bs < PACKETS = few_packets (labels_of bs) [] bs h
+    (omega arith) in
     record {
       whole = framed.whole;
       small = framed.small;

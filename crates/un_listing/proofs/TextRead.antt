@@ -17,7 +17,8 @@ record PacketsRead (frame : ℕ) (texts : List (List ℕ)) (ps : List Packet) (r
   good : All (IsGoodPacket frame) ps
   text : concat texts ≡ joined_lines (map packet_line ps) ++ concat more
 
-packets_read : (frame : ℕ) (texts : List (List ℕ)) (ps : List Packet) (rest : List (Option Line)) → AllZip (IsReadAs frame) texts (packet_lines ps ++ rest)
+packets_read : (frame : ℕ) (texts : List (List ℕ)) (ps : List Packet) (rest : List (Option Line))
+    → AllZip (IsReadAs frame) texts (packet_lines ps ++ rest)
     → PacketsRead frame texts ps rest
 packets_read frame texts [] rest h = record { more = texts; later = h; good = All-nil (IsGoodPacket frame); text = refl }
 packets_read frame [] (p ∷ ps) rest h = absurd h
@@ -28,7 +29,7 @@ packets_read frame (t ∷ ts) (p ∷ ps) rest (here, later) =
       later = r.later;
       good = All-cons (IsGoodPacket frame) p ps here.good.rules r.good;
       text = ap (λ (x : List ℕ). x ++ concat ts) here.spelled ∙ ap (λ (x : List ℕ). (packet_line p ++ codes "\n") ++ x) r.text
-        ∙ sym (append_assoc (packet_line p ++ codes "\n") (joined_lines (map packet_line ps)) (concat r.more));
+          ∙ sym (append_assoc (packet_line p ++ codes "\n") (joined_lines (map packet_line ps)) (concat r.more));
     }
 
 pub record BlocksRead (frame : ℕ) (texts : List (List ℕ)) (bs : List CodeBlock) : Type 0 where
@@ -37,9 +38,11 @@ pub record BlocksRead (frame : ℕ) (texts : List (List ℕ)) (bs : List CodeBlo
 
 joined_append : (xs ys : List (List ℕ)) → joined_lines (xs ++ ys) ≡ joined_lines xs ++ joined_lines ys
 joined_append [] ys = refl
-joined_append (x ∷ xs) ys = ap (λ (t : List ℕ). (x ++ 10 ∷ []) ++ t) (joined_append xs ys) ∙ sym (append_assoc (x ++ 10 ∷ []) (joined_lines xs) (joined_lines ys))
+joined_append (x ∷ xs) ys = ap (λ (t : List ℕ). (x ++ 10 ∷ []) ++ t) (joined_append xs ys)
+    ∙ sym (append_assoc (x ++ 10 ∷ []) (joined_lines xs) (joined_lines ys))
 
-pub blocks_read : (frame : ℕ) (texts : List (List ℕ)) (bs : List CodeBlock) → AllZip (IsReadAs frame) texts (lines_in bs) → BlocksRead frame texts bs
+pub blocks_read : (frame : ℕ) (texts : List (List ℕ)) (bs : List CodeBlock) → AllZip (IsReadAs frame) texts (lines_in bs)
+    → BlocksRead frame texts bs
 blocks_read frame [] [] h = record { good = tt; text = refl }
 blocks_read frame (t ∷ ts) [] h = absurd h
 blocks_read frame [] (b ∷ bs) h = absurd h
@@ -48,7 +51,11 @@ blocks_read frame (t ∷ ts) (b ∷ bs) (here, later) =
     let m = blocks_read frame r.more bs r.later in
     record {
       good = (r.good, m.good);
-      text = ap (λ (x : List ℕ). x ++ concat ts) here.spelled ∙ ap (λ (x : List ℕ). (codes "block " ++ (b.label ++ codes "\n")) ++ x) (r.text ∙ ap (λ (x : List ℕ). joined_lines (map packet_line b.packets) ++ x) m.text)
-        ∙ ap (λ (x : List ℕ). (codes "block " ++ (b.label ++ codes "\n")) ++ x) (sym (joined_append (map packet_line b.packets) (flat_map block_lines bs)))
-        ∙ ap (λ (x : List ℕ). x ++ joined_lines (map packet_line b.packets ++ flat_map block_lines bs)) (sym (append_assoc (codes "block ") b.label (codes "\n")));
+      text = ap (λ (x : List ℕ). x ++ concat ts) here.spelled
+          ∙ ap (λ (x : List ℕ). (codes "block " ++ (b.label ++ codes "\n")) ++ x)
+          (r.text ∙ ap (λ (x : List ℕ). joined_lines (map packet_line b.packets) ++ x) m.text)
+          ∙ ap (λ (x : List ℕ). (codes "block " ++ (b.label ++ codes "\n")) ++ x)
+          (sym (joined_append (map packet_line b.packets) (flat_map block_lines bs)))
+          ∙ ap (λ (x : List ℕ). x ++ joined_lines (map packet_line b.packets ++ flat_map block_lines bs))
+          (sym (append_assoc (codes "block ") b.label (codes "\n")));
     }

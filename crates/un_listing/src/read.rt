@@ -17,7 +17,7 @@ use un_packet::code::{Code, CodeBlock, Packet};
 use un_words::pieces::first_len;
 
 /// Why there is no code: there was no memory, or a line is bad, counted from 1.
-#[derive(Clone, Copy, Debug, PartialEq, Eq)]
+#[derive(Clone, Copy, PartialEq, Eq)]
 pub enum ListingError {
     NoMemory,
     BadListing { line: usize },
@@ -25,7 +25,8 @@ pub enum ListingError {
 
 /// The label of one line more.
 fn add_label_of(labels: &mut Labels, line: &Option<Line>) -> Result<(), NoMemory>
-    ensures { OnOk result ((lines : List (Option LineValue)) → SameLabels labels.old (labels_in lines) → SameLabels labels.new (labels_in (lines ++ line.now ∷ []))) }
+    ensures { OnOk result ((lines : List (Option LineValue)) → SameLabels labels.old (labels_in lines)
+        → SameLabels labels.new (labels_in (lines ++ line.now ∷ []))) }
 {
     match line {
         Some(Line::Block(label)) => labels.add(label),
@@ -47,7 +48,8 @@ fn all_labels(alloc: Global, lines: &[Option<Line>]) -> Result<Labels, NoMemory>
 
 /// One line more before.
 fn note(before: &mut Before, line: &Line) -> Result<(), NoMemory>
-    ensures { OnOk result ((lines : List (Option LineValue)) → IsBefore before.old lines → IsBefore before.new (lines ++ Some line.now ∷ [])) }
+    ensures { OnOk result ((lines : List (Option LineValue)) → IsBefore before.old lines
+        → IsBefore before.new (lines ++ Some line.now ∷ [])) }
 {
     before.some = true;
     match line {
@@ -85,6 +87,7 @@ fn first_bad(alloc: Global, lines: &[Option<Line>]) -> Result<Option<usize>, NoM
     Ok(None)
 }
 
+/// One block more.
 fn push_block(blocks: &mut Vec<CodeBlock>, block: CodeBlock) -> Result<(), NoMemory>
     ensures { OnOk result (blocks.new.items ≡ blocks.old.items ++ block ∷ []) }
 {
@@ -169,7 +172,10 @@ mod tests {
         (b"frame 0", 1),
         (b"frame 4\n", 1),
         (b"frame 0\nblock e\n", 2),
-        (b"frame 0\nblock e\n{ r0 = r1; r0 = r2 }\n{ jumpr r31 }\n", 3),
+        (
+            b"frame 0\nblock e\n{ r0 = r1; r0 = r2 }\n{ jumpr r31 }\n",
+            3,
+        ),
         (b"frame 0\nblock a\nblock b\nblock c\n{ jumpr r31 }\n", 0),
         (b"frame 0\nblock e\n{ jumpr r31 }", 3),
         (b"frame 0\n{ jumpr r31 }\n", 2),
@@ -180,23 +186,26 @@ mod tests {
         (b"frame 0\nblock e\n{ jump e }\nnop\n", 4),
         (b"frame 0\nblock e\n{ nop }\n", 3),
         (b"frame 0\nblock e\n{ if (p0) jump e }\n", 3),
-        (b"frame 0\nblock e\n{ if (p0) jump f }\nblock f\n{ jumpr r31 }\n", 0),
+        (
+            b"frame 0\nblock e\n{ if (p0) jump f }\nblock f\n{ jumpr r31 }\n",
+            0,
+        ),
         (b"frame 0\nblock e\n{ nop; r0 = r1 }\n{ jumpr r31 }\n", 3),
-        (b"frame 8\nblock e\n{ r29 = add(r29,#-8) }\n{ r29 = add(r29,#8); jumpr r31 }\n", 0),
-        (b"frame 0\nblock e\n{ r29 = add(r29,#-8) }\n{ jumpr r31 }\n", 3),
+        (
+            b"frame 8\nblock e\n{ r29 = add(r29,#-8) }\n{ r29 = add(r29,#8); jumpr r31 }\n",
+            0,
+        ),
+        (
+            b"frame 0\nblock e\n{ r29 = add(r29,#-8) }\n{ jumpr r31 }\n",
+            3,
+        ),
         (b"frame 0\nblock e\n{ r0 = r1; jumpr r31 }\n\n", 4),
     ];
 
     fn answer(alloc: Global, text: &[u8]) -> usize {
         match read_code(alloc, text) {
             Ok(code) => match print_code(alloc, &code) {
-                Ok(printed) => {
-                    if printed.as_slice() == text {
-                        0
-                    } else {
-                        98
-                    }
-                }
+                Ok(printed) => { if printed.as_slice() == text { 0 } else { 98 } }
                 Err(_) => 97,
             },
             Err(ListingError::NoMemory) => 99,
