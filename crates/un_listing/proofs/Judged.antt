@@ -47,7 +47,7 @@ block_decides before last lines after label known ends here few b h = (forward, 
     forward : IsTrue (not b) → BlockStands lines after label
     forward t = record {
       new = λ c. (let e = told c in let f : not b ≡ false = ap not e in true≢false (sym t ∙ f));
-      few = rw (← known.blocks) few;
+      few = (let e = known.blocks in omega arith);
       more = λ e. true≢false (sym (ends.1 e) ∙ here);
     }
 

@@ -1,4 +1,5 @@
 pub mod CleanTexts
+pub mod CodeRead
 pub mod InstrBack
 pub mod InstrWords
 pub mod Judged
@@ -6,8 +7,12 @@ pub mod LabelEq
 pub mod LabelNames
 pub mod LineCuts
 pub mod NeedLaws
+pub mod Noting
 pub mod PacketBack
 pub mod PartCuts
 pub mod Printed
+pub mod RulesKept
+pub mod Standing
+pub mod TextRead
 pub mod WordCuts
 pub mod WordTexts

@@ -1,5 +1,5 @@
 -- Sets of labels, and what stands before a line.
-use Rattle.std.specs.Prelude.{ℕ, ◌≡◌, ◌≢◌, ◌↔◌, Bool, IsTrue, List, [], ◌∷◌, ◌++◌, Option, Contains, length, if◌then◌else◌}
+use Rattle.std.specs.Prelude.{◌-◌, ◌^◌, min, ℕ, ◌≡◌, ◌≢◌, ◌↔◌, Bool, IsTrue, List, [], ◌∷◌, ◌++◌, Option, Contains, length, if◌then◌else◌}
 use Rattle.std.specs.List.{list_any}
 use Rattle.std.specs.Str.{bytes_eq}
 use Rattle.un_listing.specs.declared.line.Line.{Line}
@@ -20,6 +20,6 @@ SameLabels labels others = (label : List ℕ) → Contains labels label ↔ Cont
 -- what is known of the lines before a line
 pub record IsBefore (before : Before) (lines : List (Option Line)) : Type 0 where
   pub labels : SameLabels before.labels (labels_in lines)
-  pub blocks : before.blocks ≡ length (labels_in lines)
-  pub packets : before.packets ≡ packets_in lines
+  pub blocks : before.blocks ≡ min (length (labels_in lines)) (2 ^ 32 - 1)
+  pub packets : before.packets ≡ min (packets_in lines) (2 ^ 32 - 1)
   pub some : IsTrue before.some ↔ (lines ≢ [])

@@ -1,5 +1,5 @@
 -- Reading a listing: what its lines spell, which of them stand at their places, and the first that does not.
-use Rattle.std.specs.Prelude.{ℕ, suc, ◌≡◌, ◌≢◌, ◌+◌, ◌<◌, ◌≤◌, ◌%◌, ◌⊎◌, Bool, true, false, List, [], ◌∷◌, ◌++◌, Option, Some, None, All, Contains, IsSomeAnd, length, take, drop, slice_get, codes}
+use Rattle.std.specs.Prelude.{ℕ, suc, ◌≡◌, ◌≢◌, ◌+◌, ◌<◌, ◌≤◌, ◌%◌, ◌⊎◌, Bool, true, false, List, [], ◌∷◌, ◌++◌, Option, Some, None, All, Contains, IsSomeAnd, map, length, take, drop, slice_get, codes}
 use Rattle.std.specs.Bool.{OnTrue}
 use Rattle.std.specs.List.{AllZip}
 use Rattle.std.specs.Fmt.{decimal}
@@ -8,9 +8,12 @@ use Rattle.un_base.specs.Names.{is_name}
 use Rattle.un_isa.specs.declared.reg.TheConstants.{FRAME}
 use Rattle.un_packet.specs.declared.code.TheConstants.{PACKETS, BLOCKS}
 use Rattle.un_packet.specs.declared.code.Packet.{Packet}
+use Rattle.un_packet.specs.declared.code.CodeBlock.{CodeBlock}
 use Rattle.un_packet.specs.CodeRules.{LeadsToOneOf, transfers, leaves}
 use Rattle.un_listing.specs.declared.line.Line.{Line}
 use Rattle.un_listing.specs.declared.line.Line.TheVariants.{Block as BlockLine, Packet as PacketLine}
+use Rattle.un_listing.specs.declared.read.ListingError.{ListingError}
+use Rattle.un_listing.specs.declared.read.ListingError.TheVariants.{NoMemory, BadListing}
 use Rattle.un_listing.specs.Listing.{packet_line}
 use Rattle.un_listing.specs.PacketWords.{IsCodePacket}
 
@@ -92,6 +95,24 @@ Stands labels before (Some (PacketLine p)) after = PacketStands labels before af
 abbrev pub StandsAt : List (Option Line) → ℕ → Type 0
 StandsAt lines k = IsSomeAnd (slice_get lines k) (λ line. Stands (labels_in lines) (take k lines) line (drop (k + 1) lines))
 
+-- there is a line, and each stands
+pub record AllStand (lines : List (Option Line)) : Type 0 where
+  pub some : lines ≢ []
+  pub each : (k : ℕ) → k < length lines → StandsAt lines k
+
+-- the lines of blocks
+abbrev pub packet_lines : List Packet → List (Option Line)
+packet_lines packets = map (λ (p : Packet). Some (PacketLine p)) packets
+
+abbrev pub lines_in : List CodeBlock → List (Option Line)
+lines_in [] = []
+lines_in (block ∷ blocks) = Some (BlockLine block.label) ∷ packet_lines block.packets ++ lines_in blocks
+
+-- a packet's line stands under a label
+abbrev pub IsUnder : List CodeBlock → Line → Type 0
+IsUnder blocks (BlockLine label) = Unit {0}
+IsUnder blocks (PacketLine p) = blocks ≢ []
+
 -- ---- the first bad line
 
 -- all before it stand, and it does not; where there is no line, it is the one that is missing
@@ -118,3 +139,8 @@ IsFirstBadIn (first ∷ rest) number = (((frame : ℕ) → ¬ IsFrameLine first 
 -- the first line outside the grammar, counted from 1. A line stands with its line feed.
 abbrev pub IsFirstBad : List ℕ → ℕ → Type 0
 IsFirstBad text number = IsFirstBadIn (pieces_of text) number
+
+-- an error is an answer to a text: there was no memory, or the line is the first bad one
+abbrev pub IsErrorOf : List ℕ → ListingError → Type 0
+IsErrorOf text NoMemory = Unit {0}
+IsErrorOf text (BadListing line) = IsFirstBad text line

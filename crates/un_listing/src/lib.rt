@@ -10,6 +10,7 @@ mod needs;
 pub mod packet;
 pub mod pieces;
 pub mod print;
+pub mod read;
 pub mod recognize;
 pub mod report;
 pub mod rules;

@@ -1,0 +1,223 @@
+//! Code from its listing.
+
+ghost use Rattle.std.specs.Prelude.{◌≡◌, ◌+◌, ◌<◌, ◌^◌, ◌++◌, ◌∷◌, [], List, Option, IfOk, IfErr, OnOk, MatchOption};
+ghost use Rattle.un_listing.specs.Listing.{code_text};
+ghost use Rattle.un_listing.specs.Reading.{AllStand, IsErrorOf, IsFirstBadOf, IsUnder, LineValue, labels_in, lines_in};
+ghost use Rattle.un_listing.specs.LabelSets.{IsBefore, SameLabels};
+
+use crate::judge::stands;
+use crate::labels::{Before, Labels};
+use crate::line::{Line, read_frame};
+use crate::lines::read_lines;
+use std::alloc::Global;
+use un_base::memory_error::NoMemory;
+use un_base::name::Name;
+use un_lists::items::Items;
+use un_packet::code::{Code, CodeBlock, Packet};
+use un_words::pieces::first_len;
+
+/// Why there is no code: there was no memory, or a line is bad, counted from 1.
+#[derive(Clone, Copy, PartialEq, Eq)]
+pub enum ListingError {
+    NoMemory,
+    BadListing { line: usize },
+}
+
+/// The label of one line more.
+fn add_label_of(labels: &mut Labels, line: &Option<Line>) -> Result<(), NoMemory>
+    ensures { OnOk result ((lines : List (Option LineValue)) → SameLabels labels.old (labels_in lines)
+        → SameLabels labels.new (labels_in (lines ++ line.now ∷ []))) }
+{
+    match line {
+        Some(Line::Block(label)) => labels.add(label),
+        Some(Line::Packet(_)) => Ok(()),
+        None => Ok(()),
+    }
+}
+
+/// The labels of lines.
+fn all_labels(alloc: Global, lines: &[Option<Line>]) -> Result<Labels, NoMemory>
+    ensures { IfOk result (λ labels. SameLabels labels (labels_in lines.now)) }
+{
+    let mut labels = Labels::new(alloc);
+    for line in lines {
+        add_label_of(&mut labels, line)?;
+    }
+    Ok(labels)
+}
+
+/// One line more before.
+fn note(before: &mut Before, line: &Line) -> Result<(), NoMemory>
+    ensures { OnOk result ((lines : List (Option LineValue)) → IsBefore before.old lines
+        → IsBefore before.new (lines ++ Some line.now ∷ [])) }
+{
+    before.some = true;
+    match line {
+        Line::Block(label) => {
+            before.labels.add(label)?;
+            before.blocks = before.blocks.saturating_add(1);
+        }
+        Line::Packet(_) => before.packets = before.packets.saturating_add(1),
+    }
+    Ok(())
+}
+
+/// The place of the first line that does not stand, 0 where there is none at all.
+fn first_bad(alloc: Global, lines: &[Option<Line>]) -> Result<Option<usize>, NoMemory>
+    ensures { IfOk result (λ place. MatchOption place (AllStand lines.now) (IsFirstBadOf lines.now)) }
+{
+    if lines.is_empty() {
+        return Ok(Some(0));
+    }
+    let labels = all_labels(alloc, lines)?;
+    let mut before = Before {
+        labels: Labels::new(alloc),
+        blocks: 0,
+        packets: 0,
+        some: false,
+    };
+    for (k, line) in lines.iter().enumerate() {
+        if !stands(&labels, &before, line, &lines[k + 1..]) {
+            return Ok(Some(k));
+        }
+        if let Some(line) = line {
+            note(&mut before, line)?;
+        }
+    }
+    Ok(None)
+}
+
+/// One block more.
+fn push_block(blocks: &mut Vec<CodeBlock>, block: CodeBlock) -> Result<(), NoMemory>
+    ensures { OnOk result (blocks.new.items ≡ blocks.old.items ++ block ∷ []) }
+{
+    match blocks.push(block) {
+        Ok(_) => Ok(()),
+        Err(_) => Err(NoMemory),
+    }
+}
+
+/// One line more in the blocks: a label's line starts a block, and a packet goes to the last one.
+fn add_line(alloc: Global, blocks: &mut Vec<CodeBlock>, line: Line) -> Result<(), NoMemory>
+    ensures { OnOk result (IsUnder blocks.old.items line → lines_in blocks.new.items ≡ lines_in blocks.old.items ++ Some line ∷ []) }
+{
+    match line {
+        Line::Block(label) => {
+            let packets = Items::new(alloc);
+            push_block(blocks, CodeBlock { label, packets })
+        }
+        Line::Packet(packet) => match blocks.pop() {
+            Some(CodeBlock { label, mut packets }) => {
+                packets.push(packet)?;
+                push_block(blocks, CodeBlock { label, packets })
+            }
+            None => Ok(()),
+        },
+    }
+}
+
+/// The blocks that the lines spell, where each stands at its place.
+fn assemble(alloc: Global, lines: Items<Option<Line>>) -> Result<Items<CodeBlock>, NoMemory>
+    ensures { IfOk result (λ blocks. AllStand lines → lines_in blocks ≡ lines) }
+{
+    let mut blocks = Vec::new(alloc);
+    for line in lines.into_vec() {
+        if let Some(line) = line {
+            add_line(alloc, &mut blocks, line)?;
+        }
+    }
+    Ok(Items::from_vec(blocks))
+}
+
+/// The code whose listing this is. A label's line at which there would be 2^28 blocks is bad, and a packet's line at which there
+/// would be 2^28 packets.
+///
+/// # Errors
+/// `BadListing` with the first line outside the grammar, from 1; `NoMemory` where there is no memory for the code.
+pub fn read_code(alloc: Global, text: &[u8]) -> Result<Code, ListingError>
+    ensures ok { IfOk result (λ c. text.now ≡ code_text c) }
+    ensures bad { IfErr result (IsErrorOf text.now) }
+{
+    if text.is_empty() {
+        return Err(ListingError::BadListing { line: 1 });
+    }
+    let len = first_len(text);
+    let Some(frame) = read_frame(&text[..len]) else {
+        return Err(ListingError::BadListing { line: 1 });
+    };
+    let Ok(lines) = read_lines(alloc, frame, &text[len..]) else {
+        return Err(ListingError::NoMemory);
+    };
+    match first_bad(alloc, lines.as_slice()) {
+        Err(_) => return Err(ListingError::NoMemory),
+        Ok(Some(k)) => return Err(ListingError::BadListing { line: k + 2 }),
+        Ok(None) => {}
+    }
+    match assemble(alloc, lines) {
+        Ok(blocks) => Ok(Code { frame, blocks }),
+        Err(_) => Err(ListingError::NoMemory),
+    }
+}
+
+#[cfg(test)]
+mod tests {
+    use super::{ListingError, read_code};
+    use crate::print::print_code;
+    use std::alloc::Global;
+
+    /// Texts and the first bad line, 0 where there is none.
+    static TEXTS: [(&[u8], usize); 21] = [
+        (b"", 1),
+        (b"frame 0\n", 2),
+        (b"frame 0", 1),
+        (b"frame 4\n", 1),
+        (b"frame 0\nblock e\n", 2),
+        (
+            b"frame 0\nblock e\n{ r0 = r1; r0 = r2 }\n{ jumpr r31 }\n",
+            3,
+        ),
+        (b"frame 0\nblock a\nblock b\nblock c\n{ jumpr r31 }\n", 0),
+        (b"frame 0\nblock e\n{ jumpr r31 }", 3),
+        (b"frame 0\n{ jumpr r31 }\n", 2),
+        (b"frame 0\nblock e\nblock e\n{ jumpr r31 }\n", 3),
+        (b"frame 0\nblock e\n{ jump f }\n", 3),
+        (b"frame 0\nblock e\n{ jump e }\n", 0),
+        (b"frame 0\nblock e\n{ jump e }\n{ nop }\n", 3),
+        (b"frame 0\nblock e\n{ jump e }\nnop\n", 4),
+        (b"frame 0\nblock e\n{ nop }\n", 3),
+        (b"frame 0\nblock e\n{ if (p0) jump e }\n", 3),
+        (
+            b"frame 0\nblock e\n{ if (p0) jump f }\nblock f\n{ jumpr r31 }\n",
+            0,
+        ),
+        (b"frame 0\nblock e\n{ nop; r0 = r1 }\n{ jumpr r31 }\n", 3),
+        (
+            b"frame 8\nblock e\n{ r29 = add(r29,#-8) }\n{ r29 = add(r29,#8); jumpr r31 }\n",
+            0,
+        ),
+        (
+            b"frame 0\nblock e\n{ r29 = add(r29,#-8) }\n{ jumpr r31 }\n",
+            3,
+        ),
+        (b"frame 0\nblock e\n{ r0 = r1; jumpr r31 }\n\n", 4),
+    ];
+
+    fn answer(alloc: Global, text: &[u8]) -> usize {
+        match read_code(alloc, text) {
+            Ok(code) => match print_code(alloc, &code) {
+                Ok(printed) => { if printed.as_slice() == text { 0 } else { 98 } }
+                Err(_) => 97,
+            },
+            Err(ListingError::NoMemory) => 99,
+            Err(ListingError::BadListing { line }) => line,
+        }
+    }
+
+    #[test]
+    fn texts_have_their_answers(rt: HostRuntime) {
+        let other = TEXTS
+            .iter()
+            .position(|(text, line)| answer(rt.alloc(), text) != *line);
+        assert!(rt; other.is_none(), "{other:?}");
+    }
+}
