@@ -5,4 +5,6 @@ pub mod framed;
 #[cfg(test)]
 mod listing_lines;
 #[cfg(test)]
+mod listing_runs;
+#[cfg(test)]
 mod tests;

@@ -8,7 +8,7 @@ pub mod line;
 pub mod lines;
 mod needs;
 pub mod packet;
-pub mod pieces;
+mod pieces;
 pub mod print;
 pub mod read;
 pub mod recognize;

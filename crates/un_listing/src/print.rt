@@ -193,7 +193,7 @@ fn put_blocks(out: &mut Vec<u8>, blocks: &[CodeBlock]) -> Result<(), NoMemory>
 }
 
 /// Appends the listing of code.
-pub fn put_code(out: &mut Vec<u8>, c: &Code) -> Result<(), NoMemory>
+pub(crate) fn put_code(out: &mut Vec<u8>, c: &Code) -> Result<(), NoMemory>
     ensures { OnOk result (out.new.items ≡ out.old.items ++ code_text c.now) }
 {
     put_text(out, b"frame ")?;
