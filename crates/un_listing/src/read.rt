@@ -1,8 +1,8 @@
 //! Code from its listing.
 
-ghost use Rattle.std.specs.Prelude.{◌≡◌, ◌+◌, ◌<◌, ◌^◌, ◌++◌, ◌∷◌, [], List, Option, IfOk, IfErr, OnOk, MatchOption};
+ghost use Rattle.std.specs.Prelude.{◌≡◌, ◌+◌, ◌<◌, ◌^◌, ◌++◌, ◌∷◌, [], ℕ, List, Option, IfOk, IfErr, OnOk, MatchOption};
 ghost use Rattle.un_listing.specs.Listing.{code_text};
-ghost use Rattle.un_listing.specs.Reading.{AllStand, IsErrorOf, IsFirstBadOf, IsUnder, LineValue, labels_in, lines_in};
+ghost use Rattle.un_listing.specs.Reading.{AllStand, IsErrorOf, IsFirstBad, IsFirstBadOf, IsUnder, LineValue, labels_in, lines_in};
 ghost use Rattle.un_listing.specs.LabelSets.{IsBefore, SameLabels};
 
 use crate::judge::stands;
@@ -20,7 +20,7 @@ use un_words::pieces::first_len;
 #[derive(Clone, Copy, PartialEq, Eq)]
 pub enum ListingError {
     NoMemory,
-    BadListing { line: usize },
+    BadListing { line: u32 },
 }
 
 /// The label of one line more.
@@ -129,6 +129,17 @@ fn assemble(alloc: Global, lines: Items<Option<Line>>) -> Result<Items<CodeBlock
     Ok(Items::from_vec(blocks))
 }
 
+/// The answer where the first bad line stands at a place behind the frame's. A number that is too large for a line is answered as
+/// want of memory.
+fn refusal(place: usize) -> ListingError
+    ensures { (text : List ℕ) → IsFirstBad text (place + 2) → IsErrorOf text result }
+{
+    match u32::try_from(place.saturating_add(2)) {
+        Ok(line) => ListingError::BadListing { line },
+        Err(_) => ListingError::NoMemory,
+    }
+}
+
 /// The code whose listing this is. A label's line at which there would be 2^28 blocks is bad, and a packet's line at which there
 /// would be 2^28 packets.
 ///
@@ -150,7 +161,7 @@ pub fn read_code(alloc: Global, text: &[u8]) -> Result<Code, ListingError>
     };
     match first_bad(alloc, lines.as_slice()) {
         Err(_) => return Err(ListingError::NoMemory),
-        Ok(Some(k)) => return Err(ListingError::BadListing { line: k + 2 }),
+        Ok(Some(k)) => return Err(refusal(k)),
         Ok(None) => {}
     }
     match assemble(alloc, lines) {
