@@ -7,4 +7,6 @@ mod listing_lines;
 #[cfg(test)]
 mod listing_runs;
 #[cfg(test)]
+mod listing_texts;
+#[cfg(test)]
 mod tests;
