@@ -1,5 +1,6 @@
 -- The plan that spills every name of a function costs what is stated of the function.
-use Rattle.std.proofs.Common.{◌≡◌, ℕ, suc, ◌+◌, ◌*◌, ◌≤◌, Bool, true, false, List, [], ◌∷◌, length, Option, Some, None, All, refl, sym, ap, subst, ◌∙◌, arith}
+use Rattle.std.proofs.Common.{◌≡◌, ℕ, suc, ◌+◌, ◌*◌, ◌≤◌, Bool, true, false, List, [], ◌∷◌, length, Option, Some, None, All, refl, sym, ap}
+use Rattle.std.proofs.Common.{subst, ◌∙◌, arith}
 use Rattle.std.specs.Prelude.{◌||◌, slice_get}
 use Rattle.std.proofs.lemmas.List.{length-append}
 use Rattle.std.proofs.lemmas.List.Elements.{All-head, All-tail}

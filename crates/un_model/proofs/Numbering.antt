@@ -1,5 +1,6 @@
 -- The loops that number variables: what is made so far, and what is made of the rest, are the whole.
-use Rattle.std.proofs.Common.{◌≡◌, ℕ, suc, subst, ◌+◌, Bool, true, false, nat_eq, List, [], ◌∷◌, ◌++◌, length, map, drop, Option, Some, None, slice_get, refl, ap, ◌∙◌, sym, append_assoc, length-append, arith}
+use Rattle.std.proofs.Common.{◌≡◌, ℕ, suc, subst, ◌+◌, Bool, true, false, nat_eq, List, [], ◌∷◌, ◌++◌, length, map, drop, Option, Some}
+use Rattle.std.proofs.Common.{None, slice_get, refl, ap, ◌∙◌, sym, append_assoc, length-append, arith}
 use Rattle.std.specs.Prelude.{is_some}
 use Rattle.std.specs.List.{range_with_len}
 use Rattle.std.specs.Option.{option_to_list}
@@ -19,7 +20,10 @@ use Rattle.un_model.specs.declared.model.OpVars.{OpVars}
 use Rattle.un_model.specs.declared.model.BlockVars.{BlockVars}
 use Rattle.un_model.specs.declared.model.Model.{Model}
 use Rattle.un_model.specs.Pairs.{places_from}
-use Rattle.un_model.specs.Variables.{is_optional, has_cycle, count_if, chosen_operands, cycle_place, choice_place, register_place, var_count, var_at, op_vars, ops_vars, ops_count, block_vars, block_count, blocks_vars, blocks_count, op_temps, ops_temps, blocks_temps, instr_domain, cycle_domain, choice_domain, result_domain, carries_truth, op_domains, ops_domains, block_domains, blocks_domains, own_horizon, IsModel, model_of}
+use Rattle.un_model.specs.Variables.{is_optional, has_cycle, count_if, chosen_operands, cycle_place, choice_place, register_place}
+use Rattle.un_model.specs.Variables.{var_count, var_at, op_vars, ops_vars, ops_count, block_vars, block_count, blocks_vars, blocks_count}
+use Rattle.un_model.specs.Variables.{op_temps, ops_temps, blocks_temps, instr_domain, cycle_domain, choice_domain, result_domain}
+use Rattle.un_model.specs.Variables.{carries_truth, op_domains, ops_domains, block_domains, blocks_domains, own_horizon, IsModel, model_of}
 use Rattle.un_model.proofs.Steps.{drop_at, longer}
 
 -- ---- lengths

@@ -8,7 +8,8 @@ use Rattle.un_ir.specs.Extended.{IsExtended}
 use Rattle.un_model.specs.declared.model.Model.{Model}
 use Rattle.un_model.specs.declared.model.Options.{Options}
 use Rattle.un_problem.specs.Problems.{IsExtOf, IsModelOf, default_options}
-use Rattle.un_problem.proofs.ProblemLaws.{small_names, default_are, of_function, fit_table, options_are, own_model, linear_kept, extended_kept}
+use Rattle.un_problem.proofs.ProblemLaws.{small_names, default_are, of_function, fit_table, options_are, own_model, linear_kept}
+use Rattle.un_problem.proofs.ProblemLaws.{extended_kept}
 use Rattle.un_baseline.specs.RoomyOptions.{AreRoomy, IsOfFunction, IsSpillable}
 
 -- default options leave each name a slot, and one more
