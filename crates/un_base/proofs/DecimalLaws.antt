@@ -42,7 +42,7 @@ pub read_some : (text : List ℕ) (answer : Option ℕ) → 0 < length text → 
 read_some text None some first right = tt
 read_some text (Some n) some first right =
     let alone : slice_index text 0 ≡ 48 → length text ≡ 1 = λ zero. let short : 1 < length text
-        → ⊥ = λ long. first (zero, long) in omega arith in
+    → ⊥ = λ long. first (zero, long) in omega arith in
     decimal_text text right.0 some alone (omega arith) ∙ ap decimal right.1
 
 pub read_none : (text : List ℕ) (answer : Option ℕ) → IfNone answer ((all_ascii_digits text ≡ false) ⊎ (2 ^ 64 ≤ value_of text))

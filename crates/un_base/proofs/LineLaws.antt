@@ -45,14 +45,14 @@ lines_of-first (b ∷ c ∷ more) some = by (lines_of-first (c ∷ more) (ne_eqb
 
     by : lines_of (c ∷ more) ≡ take i (c ∷ more) ∷ lines_of (drop (i + 1) (c ∷ more))
         → (v : Bool) → (if v then [] ∷ lines_of (c ∷ more) else onto_first b (lines_of (c ∷ more))) ≡ take (cond (not v) (1 + i) 0)
-            (b ∷ c ∷ more) ∷ lines_of (drop (cond (not v) (1 + i) 0 + 1) (b ∷ c ∷ more))
+        (b ∷ c ∷ more) ∷ lines_of (drop (cond (not v) (1 + i) 0 + 1) (b ∷ c ∷ more))
     by rest true = refl
     by rest false =
         let one : 1 + i ≡ suc i = omega arith in
         let two : i + 1 ≡ suc i = omega arith in
         let rest' = rw two at rest in
         subst (λ (n : ℕ). onto_first b (lines_of (c ∷ more)) ≡ take n (b ∷ c ∷ more) ∷ lines_of (drop (n + 1) (b ∷ c ∷ more))) (sym one)
-            (rw (rest', add-one) refl)
+        (rw (rest', add-one) refl)
 
 pub lines_of-some : (b : ℕ) (bs : List ℕ) → 0 < length (lines_of (b ∷ bs))
 lines_of-some b bs = omega (arith, ap length (lines_of-first (b ∷ bs) (ne_eqb (length (b ∷ bs)) 0 (λ e. omega arith))))

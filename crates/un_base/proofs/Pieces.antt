@@ -41,6 +41,6 @@ front_read bs buf copied at n some copy =
     let long : length copied ≡ n = ap length copy ∙ length-take-le n (rest_of at bs) some in
     let same : copied ≡ take n (drop at bs) = copy ∙ ap (take n) whole in
     let front : take n (copied ++ drop n buf) ≡ copied = subst (λ (m : ℕ). take m (copied ++ drop n buf) ≡ copied) long
-        (take-append_seam copied (drop n buf)) in
+    (take-append_seam copied (drop n buf)) in
     sym (ap (λ (xs : List ℕ). xs ++ drop (at + n) bs) (front ∙ same)
-        ∙ ap (λ (xs : List ℕ). take n (drop at bs) ++ xs) (sym (drop-drop n at bs)) ∙ take-append-drop n (drop at bs))
+    ∙ ap (λ (xs : List ℕ). take n (drop at bs) ++ xs) (sym (drop-drop n at bs)) ∙ take-append-drop n (drop at bs))

@@ -149,7 +149,7 @@ word_last ws last rest zeros is zeros_is fits some =
           let over : j + 1 ≤ i % 64 = omega (arith, low, same, sum) in
           not_one (bit_at (get_or ws (i / 64) 0) (i % 64))
           (sym (bit_there ws last i same le) ∙ (ap (λ (n : ℕ). bit_at n (i % 64)) (sym is)
-              ∙ bit_at_above rest (j + 1) (i % 64) high over))),
+          ∙ bit_at_above rest (j + 1) (i % 64) high over))),
     )
   where
     top_bit : (a j : ℕ) → 2 ^ j ≤ a → a < 2 ^ (j + 1) → bit_at a j ≡ 1

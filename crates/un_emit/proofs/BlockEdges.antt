@@ -61,7 +61,7 @@ regroup p = p.start ∷ (middle p ++ p.out ∷ [])
 pub regrouped : (ops : List ExtOp) (p : Parts) → IsMadeOf ops p → ops ≡ p.start ∷ (middle p ++ p.out ∷ [])
 regrouped ops p h =
     h.whole ∙ ap (λ xs. p.start ∷ (p.inner ++ xs)) (sym (append_assoc (option_to_list p.ending) p.late (p.out ∷ [])))
-        ∙ ap (λ xs. p.start ∷ xs) (sym (append_assoc p.inner (option_to_list p.ending ++ p.late) (p.out ∷ [])))
+    ∙ ap (λ xs. p.start ∷ xs) (sym (append_assoc p.inner (option_to_list p.ending ++ p.late) (p.out ∷ [])))
 
 abbrev pub Neither : ExtOp → Type 0
 Neither op = (is_in op.kind ≡ false) × (is_out op.kind ≡ false)
@@ -69,12 +69,12 @@ Neither op = (is_in op.kind ≡ false) × (is_out op.kind ≡ false)
 pub middle_neither : (ops : List ExtOp) (p : Parts) → IsMadeOf ops p → Each Neither (middle p)
 middle_neither ops p h =
     each_join Neither p.inner (option_to_list p.ending ++ p.late)
-        (each_more (λ (op : ExtOp). is_inner op.kind ≡ true) Neither p.inner (λ op q. let z = inner_not op.kind q in (z.0, z.1))
-        (each_all (λ (op : ExtOp). is_inner op.kind ≡ true) p.inner h.inner))
+    (each_more (λ (op : ExtOp). is_inner op.kind ≡ true) Neither p.inner (λ op q. let z = inner_not op.kind q in (z.0, z.1))
+    (each_all (λ (op : ExtOp). is_inner op.kind ≡ true) p.inner h.inner))
     (each_join Neither (option_to_list p.ending) p.late (each_more (λ (op : ExtOp). is_end op.kind ≡ true) Neither (option_to_list p.ending)
-        (λ op q. end_not op.kind q) (each_all (λ (op : ExtOp). is_end op.kind ≡ true) (option_to_list p.ending) h.ending))
+    (λ op q. end_not op.kind q) (each_all (λ (op : ExtOp). is_end op.kind ≡ true) (option_to_list p.ending) h.ending))
     (each_more (λ (op : ExtOp). is_copy op.kind ≡ true) Neither p.late (λ op q. let z = copy_not op.kind q in (z.0, z.1))
-        (each_all (λ (op : ExtOp). is_copy op.kind ≡ true) p.late h.late)))
+    (each_all (λ (op : ExtOp). is_copy op.kind ≡ true) p.late h.late)))
 
 none_in : (ops : List ExtOp) (xs : List ExtOp) → Each (λ (op : ExtOp). is_in op.kind ≡ false) ops → in_temps (ops ++ xs) ≡ in_temps xs
 none_in [] xs h = refl
@@ -98,8 +98,8 @@ starts ops p h =
     ap in_temps (regrouped ops p h)
     ∙ ap (λ (b : Bool). (if b then (let s = p.start in s.results) else []) ++ in_temps (middle p ++ p.out ∷ [])) h.start
     ∙ ap (λ xs. (let s = p.start in s.results) ++ xs) (none_in (middle p) (p.out ∷ [])
-        (each_more Neither (λ (op : ExtOp). is_in op.kind ≡ false) (middle p) (λ op z. z.0) n)
-        ∙ ap (λ (b : Bool). (if b then o.results else []) ++ []) last)
+    (each_more Neither (λ (op : ExtOp). is_in op.kind ≡ false) (middle p) (λ op z. z.0) n)
+    ∙ ap (λ (b : Bool). (if b then o.results else []) ++ []) last)
     ∙ append_nil (let s = p.start in s.results)
 
 -- what a block's end reads are the operands of its last operation
@@ -127,7 +127,7 @@ only_in ops p op h m q = go (subst (Member op) (regrouped ops p h) m)
     go (inl e) = sym e
     go (inr n) = ⊎_elim
         (λ (k : Member op (middle p)). let z = each_member Neither (middle p) op (middle_neither ops p h) k in let y : true ≡ false = sym q
-            ∙ z.0 in absurd (cc y))
+        ∙ z.0 in absurd (cc y))
         (λ (k : Member op (p.out ∷ [])). last k) (part (middle p) (p.out ∷ []) n)
       where
         last : Member op (p.out ∷ []) → op ≡ p.start
@@ -148,7 +148,7 @@ only_out ops p op h m q = go (subst (Member op) (regrouped ops p h) m)
         ∙ (in_not s.kind h.start).0 in absurd (cc y)
     go (inr n) = ⊎_elim
         (λ (k : Member op (middle p)). let z = each_member Neither (middle p) op (middle_neither ops p h) k in let y : true ≡ false = sym q
-            ∙ z.1 in absurd (cc y))
+        ∙ z.1 in absurd (cc y))
         (λ (k : Member op (p.out ∷ [])). last k) (part (middle p) (p.out ∷ []) n)
       where
         last : Member op (p.out ∷ []) → op ≡ p.out
@@ -198,8 +198,11 @@ pub ends_by : (ops : List ExtOp) (p : Parts) → IsMadeOf ops p → EndsBy ops
 ends_by ops p h = subst EndsBy (sym h.whole) (go p.ending h.ending)
   where
     before : Each NotEnd (p.start ∷ p.inner)
-    before = let s = p.start in ((in_not s.kind h.start).1, each_more (λ (op : ExtOp). is_inner op.kind ≡ true) NotEnd p.inner
-        (λ op q. let z = inner_not op.kind q in z.2) (each_all (λ (op : ExtOp). is_inner op.kind ≡ true) p.inner h.inner))
+    before = let s = p.start in (
+      (in_not s.kind h.start).1,
+      each_more (λ (op : ExtOp). is_inner op.kind ≡ true) NotEnd p.inner
+          (λ op q. let z = inner_not op.kind q in z.2) (each_all (λ (op : ExtOp). is_inner op.kind ≡ true) p.inner h.inner),
+    )
 
     after : Each NotEnd (p.late ++ p.out ∷ [])
     after = let o = p.out in each_join NotEnd p.late (p.out ∷ [])
@@ -226,9 +229,9 @@ ends_by ops p h = subst EndsBy (sym h.whole) (go p.ending h.ending)
         by_kind : (k : ExtKind) → op.kind ≡ k → is_end k ≡ true → EndsBy (p.start ∷ (p.inner ++ (op ∷ (p.late ++ p.out ∷ []))))
         by_kind (End term) q t = ends op term q (member_append_right (p.start ∷ p.inner) (op ∷ (p.late ++ p.out ∷ [])) op (inl refl))
             (skip_end (p.start ∷ p.inner) (op ∷ (p.late ++ p.out ∷ [])) before
-                ∙ ap (λ (k : ExtKind). ending_or k op.operands (ending_of (p.late ++ p.out ∷ []))) q)
+            ∙ ap (λ (k : ExtKind). ending_or k op.operands (ending_of (p.late ++ p.out ∷ []))) q)
             (λ x m e. ⊎_elim (λ (k : Member x (p.start ∷ p.inner)). absurd (not_end (p.start ∷ p.inner) x before k e))
-                (λ (k : Member x (op ∷ (p.late ++ p.out ∷ []))). last x e k) (part (p.start ∷ p.inner) (op ∷ (p.late ++ p.out ∷ [])) x m))
+            (λ (k : Member x (op ∷ (p.late ++ p.out ∷ []))). last x e k) (part (p.start ∷ p.inner) (op ∷ (p.late ++ p.out ∷ [])) x m))
           where
             last : (x : ExtOp) → is_end x.kind ≡ true → Member x (op ∷ (p.late ++ p.out ∷ [])) → x ≡ op
             last x e (inl s) = sym s

@@ -117,7 +117,7 @@ module _ (e : Ext) (o : Options) (values : List ℕ) (h : Solved e o values) (k 
         let p = out.placed in
         let m = (of_all e o values h k block r p out.member).0 in
         let act : (issue_at values p).active ≡ true = ap (λ (y : ExtKind). let z = instruction_of y (value_by values (vars_of p).instr) in
-            is_delimiter y || is_some z) out.kind in
+        is_delimiter y || is_some z) out.kind in
         let rd = reading e o values h p i x m act q in
         let want = rd.0 in
         let g = rd.2 in
@@ -126,7 +126,7 @@ module _ (e : Ext) (o : Options) (values : List ℕ) (h : Solved e o values) (k 
         let blk = its_block e o values h (words e o values h) (placing e o values h) k block r p out.member in
         let there : (range_at e o values n).block.0 ≡ k = g.there ∙ blk in
         let cyc : (issue_at values p).cycle ≡ the_end = ap (λ (y : ExtKind). cycle_by values (end_of values p) y (vars_of p)) out.kind
-            ∙ its_end e o values h (words e o values h) (placing e o values h) k block r p out.member in
+        ∙ its_end e o values h (words e o values h) (placing e o values h) k block r p out.member in
         let timed = block_timed e o values h (words e o values h) (placing e o values h) k block r at in
         let temps = timed.temps in
         let actv = active_in e o values h n k g.active there in
@@ -134,12 +134,12 @@ module _ (e : Ext) (o : Options) (values : List ℕ) (h : Solved e o values) (k 
         let rdy = g.ready in
         let lst = g.last in
         let stands : Stands (temps_of e o values h k) n (the_end - 1) =
-            record { active = actv; begun = omega (arith, quick, rdy, cyc); held = omega (arith, lst, cyc, le) } in
+        record { active = actv; begun = omega (arith, quick, rdy, cyc); held = omega (arith, lst, cyc, le) } in
         let time = au.time in
         let holds = au.holds in
         let value : val n ≡ slice_index handed i =
         ap (λ (y : TempId). val y.0) g.is ∙ choice_value e o values h val p i x want
-            (subst (λ b. Carries e o values h val b) (sym blk) (carries e o values h k block r taken w)) g
+        (subst (λ b. Carries e o values h val b) (sym blk) (carries e o values h k block r taken w)) g
         ∙ sym (index_map (value_of val) (out_operands block.ops) i x (ap (λ xs. slice_get xs i) out.operands ∙ q)) in
         let own : p.owner ≡ block = owner_of p out.member in
         record {
@@ -273,15 +273,15 @@ module _ (e : Ext) (o : Options) (values : List ℕ) (h : Solved e o values) (k 
               let p = z.0 in
               let kp : p.op.kind ≡ End term = ap (λ (x : ExtOp). x.kind) z.2 ∙ kd in
               let ins : instr_of values p.op (vars_of p) ≡ Some tr =
-                  ap (λ (y : ExtKind). instruction_of y (value_by values (vars_of p).instr)) kp ∙ s in
+              ap (λ (y : ExtKind). instruction_of y (value_by values (vars_of p).instr)) kp ∙ s in
               let act = some_active e o values h p tr ins in
               let j = has_job e o values h (words e o values h) (placing e o values h) k block r p z.1 act
-                  (λ y. let g : End term ≡ In = sym kp ∙ y in absurd (cc g)) (λ y. let g : End term ≡ Out = sym kp ∙ y in absurd (cc g)) in
+              (λ y. let g : End term ≡ In = sym kp ∙ y in absurd (cc g)) (λ y. let g : End term ≡ Out = sym kp ∙ y in absurd (cc g)) in
               let jo : Some j.0.instr.op ≡ Some tr = sym (job_op e o values h p j.0 j.2) ∙ ins in
               let jo' : j.0.instr.op ≡ tr = cc jo in
               let t : is_transfer j.0.instr.op ≡ true = ap is_transfer jo' ∙ transfer_is term tr s in
               one_job p j.0 term z.1 j.2 (first j.0 j.1 t (transfer_of jobs) refl) kp (s ∙ ap Some (sym jo'))
-                  (q ∙ ap (λ (x : ExtOp). let y : Ending = record { term = term; operands = x.operands } in y) (sym z.2))
+              (q ∙ ap (λ (x : ExtOp). let y : Ending = record { term = term; operands = x.operands } in y) (sym z.2))
             where
               first : (j : Job) → Member j jobs → is_transfer j.instr.op ≡ true → (x : Option Job) → transfer_of jobs ≡ x
                   → transfer_of jobs ≡ Some j
@@ -312,7 +312,7 @@ module _ (e : Ext) (o : Options) (values : List ℕ) (h : Solved e o values) (k 
       go None s = absurd (cc s)
       go (Some op) s =
           let made = ap (λ (y : ExtKind). instr_by e.blocks (frame_of (model_of e o) values) y op
-              (operand_registers (model_of e o) values p.op (vars_of p)) (result_register (model_of e o) values p.op)) (sym q) ∙ s in
+          (operand_registers (model_of e o) values p.op (vars_of p)) (result_register (model_of e o) values p.op)) (sym q) ∙ s in
           let z = ap (λ (x : Option Instr). option_map (λ (y : Instr). y.label) x) made in sym (cc z)
 
   -- the value of the terminator's operand
@@ -324,5 +324,5 @@ module _ (e : Ext) (o : Options) (values : List ℕ) (h : Solved e o values) (k 
       let b = (of_all e o values h k block r p m).1 in
       ap (λ (x : Job). first_read v x) g.is
       ∙ ap (λ xs. slice_index xs 0) (args_of e o values h v p (of_all e o values h k block r p m).0
-          (let i = g.instr in some_active e o values h p i.op g.issues)
-          (subst (λ n. Carries e o values h v n) (sym b) (carries e o values h k block r taken w)))
+      (let i = g.instr in some_active e o values h p i.op g.issues)
+      (subst (λ n. Carries e o values h v n) (sym b) (carries e o values h k block r taken w)))

@@ -54,7 +54,7 @@ blocks_from b n first (block ∷ blocks) p m =
     let rest = blocks_placed (b + 1) (n + length block.ops) (first + block_count block) blocks in
     ⊎_elim (λ (k : Member p here). let z = placed_block b block (var_at (first + ops_count block.ops)) n first block.ops p k in omega arith)
     (λ (k : Member p rest). let z = blocks_from (b + 1) (n + length block.ops) (first + block_count block) blocks p k in omega arith)
-        (part here rest p m)
+    (part here rest p m)
 
 -- the first numbers of a block, and what is before and after it
 pub record InRegion (alls : List Placed) (k : ℕ) (block : ExtBlock) : Type 0 where
@@ -159,8 +159,13 @@ module _ (e : Ext) (o : Options) (values : List ℕ) (h : Solved e o values) whe
 
   pub job_is : (p : Placed) (x : Option Instr) (j : Job) → instr_at (model_of e o) values p ≡ x → Member j (job_by values p x) → IsJob p j
   job_is p None j q m = elim m [ ]
-  job_is p (Some i) j q (inl s) = record { instr = i; emitted = q; is = sym s; issues =
-      issued_op p (instr_of values p.op (vars_of p)) i refl q }
+  job_is p (Some i) j q (inl s) = record {
+    instr = i;
+    emitted = q;
+    is = sym s;
+    issues =
+        issued_op p (instr_of values p.op (vars_of p)) i refl q;
+  }
   job_is p (Some i) j q (inr n) = elim n [ ]
 
   pub job_from : (ps : List Placed) (j : Job) → Member j (jobs_of (model_of e o) values ps) → (p : Placed) × (Member p ps) × IsJob p j
@@ -189,9 +194,11 @@ module _ (e : Ext) (o : Options) (values : List ℕ) (h : Solved e o values) whe
           → Pairwise R (job_by values p x ++ jobs_of (model_of e o) values ps)
       joins None q rest = rest
       joins (Some i) q rest =
-          let j = job_with values p i in
-          (each_job (R j) ps (λ b k mb jb. f p b j k (inl refl) (inr mb) (each_member (S p) ps b w.0 mb) (job_is p (Some i) j q (inl refl))
-              jb), rest)
+          let j = job_with values p i in (
+            each_job (R j) ps (λ b k mb jb. f p b j k (inl refl) (inr mb) (each_member (S p) ps b w.0 mb) (job_is p (Some i) j q (inl refl))
+                jb),
+            rest,
+          )
 
   -- ---- deeds
 
@@ -222,8 +229,11 @@ module _ (e : Ext) (o : Options) (values : List ℕ) (h : Solved e o values) whe
     where
       go : (x y : Bool) → (range_at e o values k).active ≡ x → nat_eq (range_at e o values k).block.0 b ≡ y → (x && y) ≡ true
           → ((range_at e o values k).active ≡ true) × ((range_at e o values k).block.0 ≡ b)
-      go true true p q r = (p, ⊎_elim (λ (e : (range_at e o values k).block.0 ≡ b). e)
-          (λ (n : (range_at e o values k).block.0 ≢ b). absurd (grind (arith, q))) (cases_eq (range_at e o values k).block.0 b))
+      go true true p q r = (
+        p,
+        ⊎_elim (λ (e : (range_at e o values k).block.0 ≡ b). e)
+            (λ (n : (range_at e o values k).block.0 ≢ b). absurd (grind (arith, q))) (cases_eq (range_at e o values k).block.0 b),
+      )
       go true false p q r = absurd (cc r)
       go false y p q r = absurd (cc r)
 
@@ -256,19 +266,26 @@ module _ (e : Ext) (o : Options) (values : List ℕ) (h : Solved e o values) whe
       by_kind (Body so) s =
           let f = with_kind (Body so) s in
           let same : so.op ≡ op = cc f in
-          let d = deed_source e o values h p m slots so s act (q ∙ ap Some (sym same)) in
-          (subst (λ (x : Op). Deed e.table (temps_of e o values h p.block) slots (job_with values p (source_instr so x srcs dst))) same d,
-              tt)
+          let d = deed_source e o values h p m slots so s act (q ∙ ap Some (sym same)) in (
+            subst (λ (x : Op). Deed e.table (temps_of e o values h p.block) slots (job_with values p (source_instr so x srcs dst))) same d,
+            tt,
+          )
       by_kind (End term) s = (deed_end e o values h p m slots term op s act q (with_kind (End term) s), tt)
       by_kind (Copy node) s = (
         deed_copy e o values h p m slots node op s act q (with_kind (Copy node) s) (λ le y r. w.truths p node m s le y r)
             (λ x a. w.within x (active_of x p.block a).0),
         tt,
       )
-      by_kind Enter s = (deed_shift e o values h p m slots op _ (shift_is op EnterOp (value_by values (vars_of p).instr) (with_kind Enter s)
-          refl) (counted Enter s refl), tt)
-      by_kind Leave s = (deed_shift e o values h p m slots op _ (shift_is op LeaveOp (value_by values (vars_of p).instr) (with_kind Leave s)
-          refl) (counted Leave s refl), tt)
+      by_kind Enter s = (
+        deed_shift e o values h p m slots op _ (shift_is op EnterOp (value_by values (vars_of p).instr) (with_kind Enter s)
+            refl) (counted Enter s refl),
+        tt,
+      )
+      by_kind Leave s = (
+        deed_shift e o values h p m slots op _ (shift_is op LeaveOp (value_by values (vars_of p).instr) (with_kind Leave s)
+            refl) (counted Leave s refl),
+        tt,
+      )
 
   pub deed_of : (slots : ℕ) → Placing slots → (p : Placed) (j : Job) → Member p (all e o values) → IsJob p j
       → Deed e.table (temps_of e o values h p.block) slots j

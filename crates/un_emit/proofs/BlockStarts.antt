@@ -55,7 +55,7 @@ calls_fit t fit = record {
 
 defined_at : (values : Values) (xs : List TempId) (vs : List ℕ) (j : ℕ) (x : TempId) → slice_get xs j ≡ Some x → j < length vs
     → ((i n : ℕ) (y z : TempId) → slice_get xs i ≡ Some y → slice_get xs n ≡ Some z → y.0 ≡ z.0 → i ≡ n)
-        → defined_all values xs vs x.0 ≡ slice_index vs j
+    → defined_all values xs vs x.0 ≡ slice_index vs j
 defined_at values [] vs j x q lt inj = absurd (cc q)
 defined_at values (y ∷ ys) [] j x q lt inj = absurd (omega arith)
 defined_at values (y ∷ ys) (v ∷ vs) zero x q lt inj =
@@ -175,7 +175,7 @@ module _ (e : Ext) (o : Options) (values : List ℕ) (h : Solved e o values) (k 
   is_scene base taken w s even room a =
       let eq = its_equations e o values h k block r taken w in
       let f = all_facts e o values h (final e o values h k block r taken w) own_ops k w (of_all e o values h k block r)
-          (carries e o values h k block r taken w) eq.0 in
+      (carries e o values h k block r taken w) eq.0 in
       record {
         fit = h.fit;
         calls = calls_fit e.table h.fit;
@@ -238,11 +238,11 @@ module _ (e : Ext) (o : Options) (values : List ℕ) (h : Solved e o values) (k 
           let small : (range_at e o values u.temp.0).reg < 36 = subst (λ n. (range_at e o values n).reg < 36) (sym f.2) lt in
           let z = a.ready u.place u.temp v.0 small in
           let lat : latency_by e.table (range_at e o values x).instr ≡ 1 =
-              ap (λ n. latency_by e.table (range_at e o values n).instr) (sym f.2)
-              ∙ ap (λ (v : LiveRange). latency_by e.table v.instr) (range_here e o values (numbered e o values h) u f.1)
-              ∙ ap (λ (x : ExtKind). latency_by e.table (instruction_of x (let p = u.definer in value_by values (vars_of p).instr))) f.4 in
+          ap (λ n. latency_by e.table (range_at e o values n).instr) (sym f.2)
+          ∙ ap (λ (v : LiveRange). latency_by e.table v.instr) (range_here e o values (numbered e o values h) u f.1)
+          ∙ ap (λ (x : ExtKind). latency_by e.table (instruction_of x (let p = u.definer in value_by values (vars_of p).instr))) f.4 in
           let z' : get_or s.ready (range_at e o values x).reg 0 ≤ s.cycle + 1 =
-              subst (λ n. get_or s.ready (range_at e o values n).reg 0 ≤ s.cycle + 1) f.2 z in
+          subst (λ n. get_or s.ready (range_at e o values n).reg 0 ≤ s.cycle + 1) f.2 z in
           omega (arith, z', lat);
       stack = let z = a.stack_ready in omega arith;
     };
@@ -255,15 +255,15 @@ module _ (e : Ext) (o : Options) (values : List ℕ) (h : Solved e o values) (k 
           let u = f.0 in
           let v = start_value taken w u f.1 f.3 f.4 a.taken_long in
           subst (λ n. held_at s (range_at e o values n).reg ≡ as_held
-              (kind_at e o values (numbered e o values h) (fit_kinds e o values h) n) (range_at e o values n).reg
-              (final e o values h k block r taken w n)) f.2
+          (kind_at e o values (numbered e o values h) (fit_kinds e o values h) n) (range_at e o values n).reg
+          (final e o values h k block r taken w n)) f.2
           (a.places u.place u.temp v.0 ∙ ap (as_held (kind_at e o values (numbered e o values h) (fit_kinds e o values h) u.temp.0)
-              (range_at e o values u.temp.0).reg) (sym v.1));
+          (range_at e o values u.temp.0).reg) (sym v.1));
       stack_is = a.stack;
     };
     world = a.world ∙ sym (run_later (final e o values h k block r taken w) 1
         (own_jobs e o values h (words e o values h) (placing e o values h) k block r) w
         (let t = block_timed e o values h (words e o values h) (placing e o values h) k block r at in
-            each_more (λ (j : Job). 1 ≤ j.cycle) (λ (j : Job). is_effect j.instr.op ≡ true → 1 ≤ j.cycle)
-            (own_jobs e o values h (words e o values h) (placing e o values h) k block r) (λ j le q. le) t.late));
+        each_more (λ (j : Job). 1 ≤ j.cycle) (λ (j : Job). is_effect j.instr.op ≡ true → 1 ≤ j.cycle)
+        (own_jobs e o values h (words e o values h) (placing e o values h) k block r) (λ j le q. le) t.late));
   }

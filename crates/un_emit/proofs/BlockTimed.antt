@@ -109,7 +109,7 @@ in_order i j k =
     let a = i.instr.op in
     let b = j.instr.op in
     let far = λ (n : ℕ) (q : memory_distance (Some a) (Some b) ≡ Some n). far_by (memory_distance (Some a) (Some b)) n i.cycle j.cycle k q
-        in
+    in
     record {
       after_effect = λ p q. let f = far 1 (after_one a b p (access_of a (effect_is a p)) (access_of b q)) in omega arith;
       before_effect = λ p q. let r = before_some a b q (access_of a p) (access_of b (effect_is b q)) in let f = far r.0 r.1 in omega arith;
@@ -185,10 +185,16 @@ counts_rise n [] h = (tt, tt)
 counts_rise n (p ∷ ps) h =
     let r = counts_rise (n + 1) ps h.1 in
     let here = h.0 in (
-      (each_of (λ (q : Placed). p.number < q.number) ps (λ q m. let z = each_member (λ (q : Placed). n + 1 ≤ q.number) ps q r.1 m in
-          omega arith), r.0),
-      (omega arith, each_of (λ (q : Placed). n ≤ q.number) ps (λ q m. let z = each_member (λ (q : Placed). n + 1 ≤ q.number) ps q r.1 m in
-          omega arith)),
+      (
+        each_of (λ (q : Placed). p.number < q.number) ps (λ q m. let z = each_member (λ (q : Placed). n + 1 ≤ q.number) ps q r.1 m in
+            omega arith),
+        r.0,
+      ),
+      (
+        omega arith,
+        each_of (λ (q : Placed). n ≤ q.number) ps (λ q m. let z = each_member (λ (q : Placed). n + 1 ≤ q.number) ps q r.1 m in
+            omega arith),
+      ),
     )
 
 module _ (e : Ext) (o : Options) (values : List ℕ) (h : Solved e o values) where
@@ -203,13 +209,13 @@ module _ (e : Ext) (o : Options) (values : List ℕ) (h : Solved e o values) whe
       let di : (issue_at values p).instr ≡ Some i.instr.op = gi.issues ∙ ap (λ (x : Job). Some x.instr.op) (sym gi.is) in
       let dj : (issue_at values q).instr ≡ Some j.instr.op = gj.issues ∙ ap (λ (x : Job). Some x.instr.op) (sym gj.is) in
       let f1 = subst (λ (x : Option Op). IfSome (memory_distance x (issue_at values q).instr)
-          (λ (n : ℕ). (issue_at values p).cycle + n ≤ (issue_at values q).cycle)) di f in
+      (λ (n : ℕ). (issue_at values p).cycle + n ≤ (issue_at values q).cycle)) di f in
       let f2 = subst (λ (x : Option Op). IfSome (memory_distance (Some i.instr.op) x)
-          (λ (n : ℕ). (issue_at values p).cycle + n ≤ (issue_at values q).cycle)) dj f1 in
+      (λ (n : ℕ). (issue_at values p).cycle + n ≤ (issue_at values q).cycle)) dj f1 in
       let ci : (issue_at values p).cycle ≡ i.cycle = ap (λ (x : Job). x.cycle) (sym gi.is) in
       let cj : (issue_at values q).cycle ≡ j.cycle = ap (λ (x : Job). x.cycle) (sym gj.is) in
       subst (λ c. IfSome (memory_distance (Some i.instr.op) (Some j.instr.op)) (λ (n : ℕ). i.cycle + n ≤ c)) cj
-          (subst (λ c. IfSome (memory_distance (Some i.instr.op) (Some j.instr.op)) (λ (n : ℕ). c + n ≤ (issue_at values q).cycle)) ci f2)
+      (subst (λ c. IfSome (memory_distance (Some i.instr.op) (Some j.instr.op)) (λ (n : ℕ). c + n ≤ (issue_at values q).cycle)) ci f2)
 
   pub job_op : (p : Placed) (j : Job) → IsJob e o values h p j → (issue_at values p).instr ≡ Some j.instr.op
   job_op p j g = g.issues ∙ ap (λ (x : Job). Some x.instr.op) (sym g.is)
@@ -238,8 +244,8 @@ module _ (e : Ext) (o : Options) (values : List ℕ) (h : Solved e o values) whe
   taken_pairs r b c le =
       let f = takes_place r b c in
       pairwise_of_map (λ x y. 1 ≤ f x → 1 ≤ f y → ⊥) (issue_at values) (all e o values)
-          (subst (Pairwise (λ x y. 1 ≤ f x → 1 ≤ f y → ⊥)) (issues_are values 0 0 0 e.blocks)
-          (one_place f (issues_of (model_of e o) values) le))
+      (subst (Pairwise (λ x y. 1 ≤ f x → 1 ≤ f y → ⊥)) (issues_are values 0 0 0 e.blocks)
+      (one_place f (issues_of (model_of e o) values) le))
 
   -- every cycle has room
   room : (r : Resource) (b c : ℕ) → taken e.table r (issues_of (model_of e o) values) b c ≤ places_of r
@@ -251,7 +257,7 @@ module _ (e : Ext) (o : Options) (values : List ℕ) (h : Solved e o values) whe
   takes_by r p j g le =
       let c = job_cycle p j g in
       let a : issues_at p.block j.cycle (issue_at values p) ≡ true =
-          both (eq-eqb p.block p.block refl) (eq-eqb (issue_at values p).cycle j.cycle (sym c)) in
+      both (eq-eqb p.block p.block refl) (eq-eqb (issue_at values p).cycle j.cycle (sym c)) in
       let s : takes_place r p.block j.cycle (issue_at values p) ≡ share_of e.table r (Some j.instr.op) =
       ap (λ (b : Bool). if b then share_of e.table r (issue_at values p).instr else 0) a ∙ ap (share_of e.table r) (job_op p j g) in
       omega arith
@@ -268,8 +274,12 @@ module _ (e : Ext) (o : Options) (values : List ℕ) (h : Solved e o values) whe
       go : (z : Option TempId) → slice_get p.op.results 0 ≡ z → option_map (λ (y : TempId). y.0) z ≡ Some x → (y : TempId) × (y.0 ≡ x)
           × (Member (spot p 0 y) (spots e o values))
       go None s q = absurd (cc q)
-      go (Some y) s q = (y, cc q, member_joined (map spots_of (all e o values)) (spots_of p) (spot p 0 y)
-          (member_map spots_of (all e o values) p m) (member_places (spot p) p.op.results 0 0 0 y (omega arith) s))
+      go (Some y) s q = (
+        y,
+        cc q,
+        member_joined (map spots_of (all e o values)) (spots_of p) (spot p 0 y)
+            (member_map spots_of (all e o values) p m) (member_places (spot p) p.op.results 0 0 0 y (omega arith) s),
+      )
 
   give_apart : (p q : Placed) (i j : Job) → Member p (all e o values) → Member q (all e o values) → p.number < q.number
       → IsJob e o values h p i → IsJob e o values h q j → GiveApart i j
@@ -301,9 +311,11 @@ module _ (e : Ext) (o : Options) (values : List ℕ) (h : Solved e o values) whe
       let q = places_member (spot r.0) 0 r.0.op.results s r.2 in
       let d : r.0 ≡ s.definer = ap (λ (s : Spot). s.definer) q.3 in
       let pl : q.0 ≡ s.place = ap (λ n. n) (omega arith) ∙ ap (λ (s : Spot). s.place) q.3 in
-      let t : q.1 ≡ s.temp = ap (λ (s : Spot). s.temp) q.3 in
-      (subst (λ p. Member p (all e o values)) d r.1, ap (λ (p : Placed). slice_get p.op.results s.place) (sym d)
-          ∙ ap (slice_get r.0.op.results) (sym pl) ∙ q.2 ∙ ap Some t)
+      let t : q.1 ≡ s.temp = ap (λ (s : Spot). s.temp) q.3 in (
+        subst (λ p. Member p (all e o values)) d r.1,
+        ap (λ (p : Placed). slice_get p.op.results s.place) (sym d)
+            ∙ ap (slice_get r.0.op.results) (sym pl) ∙ q.2 ∙ ap Some t,
+      )
 
   -- only a block's start has several results
   pub only_result : (p : Placed) → Member p (all e o values) → (p.op.kind ≡ In → ⊥) → length p.op.results ≤ 1
@@ -352,11 +364,11 @@ module _ (e : Ext) (o : Options) (values : List ℕ) (h : Solved e o values) whe
   are_temps slots b w = record {
     apart = λ x y c s u r. ⊎_elim (λ (q : x ≡ y). q)
         (λ (n : x ≢ y). ⊎_elim (λ (lt : x < y). absurd (apart_below x y b c lt s u r))
-            (λ (le : y ≤ x). let g : y < x = omega arith in absurd (apart_below y x b c g u s (sym r))) (cases_lt x y)) (cases_eq x y);
+        (λ (le : y ≤ x). let g : y < x = omega arith in absurd (apart_below y x b c g u s (sym r))) (cases_lt x y)) (cases_eq x y);
     spans = λ x a.
         let r = its_spot x (active_of e o values h x b a).0 in
         let f : (range_at e o values x).from ≤ (range_at e o values x).last =
-            subst (λ (v : LiveRange). v.from ≤ v.last) r.3 (omega arith) in
+        subst (λ (v : LiveRange). v.from ≤ v.last) r.3 (omega arith) in
         omega arith;
     quick = λ x a. quick (range_at e o values x).instr;
     not_stack = λ x a. w.not_stack x (active_of e o values h x b a).0;
@@ -396,30 +408,32 @@ module _ (e : Ext) (o : Options) (values : List ℕ) (h : Solved e o values) whe
     memory_order =
         let s = h.schedule in
         pairwise_jobs e o values h InOrder memory_apart own (pairwise_region memory_apart (all e o values) k block r
-            (pairwise_issues e o values (Precedes memory_distance) s.memory))
+        (pairwise_issues e o values (Precedes memory_distance) s.memory))
         (λ p q i j m n a gi gj. in_order i j (precedes p q i j a (its_block p m ∙ sym (its_block q n)) gi gj))
 
     one_of : (test : Op → Bool) (res : Resource) → places_of res ≡ 1 → ((op : Op) → test op ≡ true → 1 ≤ share_of e.table res (Some op))
         → Pairwise (NotBoth test) own_jobs
     one_of test res one need =
         pairwise_jobs e o values h (NotBoth test) (λ p q. (c : ℕ) → 1 ≤ takes_place res k c (issue_at values p)
-            → 1 ≤ takes_place res k c (issue_at values q) → ⊥) own
+        → 1 ≤ takes_place res k c (issue_at values q) → ⊥) own
         (all_cycles (λ c p q. 1 ≤ takes_place res k c (issue_at values p) → 1 ≤ takes_place res k c (issue_at values q) → ⊥) own
-            (λ c. pairwise_region (λ (p q : Placed). 1 ≤ takes_place res k c (issue_at values p)
-            → 1 ≤ takes_place res k c (issue_at values q) → ⊥) (all e o values) k block r
-            (taken_pairs res k c (let z = room res k c in omega (arith, one)))))
+        (λ c. pairwise_region (λ (p q : Placed). 1 ≤ takes_place res k c (issue_at values p)
+        → 1 ≤ takes_place res k c (issue_at values q) → ⊥) (all e o values) k block r
+        (taken_pairs res k c (let z = room res k c in omega (arith, one)))))
         (λ p q i j m n a gi gj same ti tj.
         let fi = takes_by res p i gi (need i.instr.op ti) in
         let fj = takes_by res q j gj (need j.instr.op tj) in
         a i.cycle (subst (λ b. 1 ≤ takes_place res b i.cycle (issue_at values p)) (its_block p m) fi)
         (subst (λ c. 1 ≤ takes_place res k c (issue_at values q)) (sym same)
-            (subst (λ b. 1 ≤ takes_place res b j.cycle (issue_at values q)) (its_block q n) fj)))
+        (subst (λ b. 1 ≤ takes_place res b j.cycle (issue_at values q)) (its_block q n) fj)))
       where
         all_cycles : (R : ℕ → Placed → Placed → Type 0) (ps : List Placed) → ((c : ℕ) → Pairwise (R c) ps)
             → Pairwise (λ p q. (c : ℕ) → R c p q) ps
         all_cycles R [] f = tt
-        all_cycles R (p ∷ ps) f = (each_of (λ q. (c : ℕ) → R c p q) ps (λ q m c. each_member (R c p) ps q (let z = f c in z.0) m),
-            all_cycles R ps (λ c. let z = f c in z.1))
+        all_cycles R (p ∷ ps) f = (
+          each_of (λ q. (c : ℕ) → R c p q) ps (λ q m c. each_member (R c p) ps q (let z = f c in z.0) m),
+          all_cycles R ps (λ c. let z = f c in z.1),
+        )
 
     -- a call finds the clobbered registers free of all but its own result
     spared : (p : Placed) (j : Job) (x : ℕ) → Member p own → IsJob e o values h p j → j.instr.op ≡ Call
@@ -432,15 +446,15 @@ module _ (e : Ext) (o : Options) (values : List ℕ) (h : Solved e o values) whe
         let a = active_of e o values h x k s.active in
         let range = range_at e o values x in
         let f = each_member (IsSpared (e.table).clobbered (issues_of (model_of e o) values)) (the_ranges e o values) range
-            (each_all (IsSpared (e.table).clobbered (issues_of (model_of e o) values)) (the_ranges e o values) regs.1)
-            (member_at (the_ranges e o values) x range (range_in x a.0)) in
+        (each_all (IsSpared (e.table).clobbered (issues_of (model_of e o) values)) (the_ranges e o values) regs.1)
+        (member_at (the_ranges e o values) x range (range_in x a.0)) in
         let i = each_member (λ q. SparesRange (e.table).clobbered (issue_at values q) range) (all e o values) p
-            (each_issue e o values (λ i. SparesRange (e.table).clobbered i range) f) (here p m) in
+        (each_issue e o values (λ i. SparesRange (e.table).clobbered i range) f) (here p m) in
         let cyc = job_cycle p j g in
         let b = s.begun in
         let l = s.held in
         sym (i (job_op p j g ∙ ap Some c) a.0 (its_block p m ∙ sym a.1) q
-            (subst (λ n. (range.from ≤ n) × (n ≤ range.last)) cyc (b, omega arith)))
+        (subst (λ n. (range.from ≤ n) × (n ≤ range.last)) cyc (b, omega arith)))
 
     not_in : (p : Placed) (j : Job) → IsJob e o values h p j → p.op.kind ≡ In → ⊥
     not_in p j g q =
@@ -465,10 +479,10 @@ module _ (e : Ext) (o : Options) (values : List ℕ) (h : Solved e o values) whe
         let dn : u.0.definer.number ≡ p.number = ap (λ (v : LiveRange). v.op.0) u.3 ∙ num in
         let counts = all_count 0 0 0 e.blocks in
         let same : Some u.0.definer ≡ Some p = sym (at_number 0 (all e o values) u.0.definer p.number counts d.0 (omega arith))
-            ∙ at_number 0 (all e o values) p p.number counts (here p m) (omega arith) in
+        ∙ at_number 0 (all e o values) p p.number counts (here p m) (omega arith) in
         let same' : u.0.definer ≡ p = cc same in
         job_gives p j g ∙ ap given_temp (sym same') ∙ gives_first u.0 u.1
-            (λ z. not_in p j g (ap (λ (r : Placed). r.op.kind) (sym same') ∙ z)) ∙ ap Some u.2
+        (λ z. not_in p j g (ap (λ (r : Placed). r.op.kind) (sym same') ∙ z)) ∙ ap Some u.2
 
     -- ---- who gives a temporary
 
@@ -520,7 +534,7 @@ module _ (e : Ext) (o : Options) (values : List ℕ) (h : Solved e o values) whe
             has None q = absurd (is_there (instr_of values p.op (vars_of p)) refl s q)
             has (Some i) q =
                 let mem : Member (job_with values p i) (job_of (model_of e o) values p) =
-                    subst (λ (x : Option Instr). Member (job_with values p i) (job_by values p x)) (sym q) (inl refl) in (
+                subst (λ (x : Option Instr). Member (job_with values p i) (job_by values p x)) (sym q) (inl refl) in (
                   job_with values p i,
                   member_joined (map (job_of (model_of e o) values) own) (job_of (model_of e o) values p) (job_with values p i)
                       (member_map (job_of (model_of e o) values) own p m) mem,
@@ -541,7 +555,7 @@ module _ (e : Ext) (o : Options) (values : List ℕ) (h : Solved e o values) whe
         let activ : (issue_at values p).active ≡ true = ap (λ (v : LiveRange). v.active) u.3 ∙ a.0 in
         let nin : p.op.kind ≡ In → ⊥ = λ q. let z = start_cycle p q in omega arith in
         let nout : p.op.kind ≡ Out → ⊥ = λ q. let z = no_results p d.0 q in let lt = length_get p.op.results s.place s.temp d.1 in
-            omega arith in
+        omega arith in
         let j = has_job p mine activ nin nout in
         (j.0, j.1, job_gives p j.0 j.2 ∙ gives_first s u.1 nin ∙ ap Some u.2)
 
@@ -606,10 +620,16 @@ module _ (e : Ext) (o : Options) (values : List ℕ) (h : Solved e o values) whe
             (ap (λ (y : ExtKind). instruction_of y (value_by values (vars_of p).instr)) x) ∙ g))
         by_kind (Copy node) x g = never (copy_stays (value_by values (vars_of p).instr) op
             (sym (ap (λ (y : ExtKind). instruction_of y (value_by values (vars_of p).instr)) x) ∙ g))
-        by_kind Enter x g = inl (x, frame_op EnterOp (value_by values (vars_of p).instr)
-            (sym (ap (λ (y : ExtKind). instruction_of y (value_by values (vars_of p).instr)) x) ∙ g))
-        by_kind Leave x g = inr (x, frame_op LeaveOp (value_by values (vars_of p).instr)
-            (sym (ap (λ (y : ExtKind). instruction_of y (value_by values (vars_of p).instr)) x) ∙ g))
+        by_kind Enter x g = inl (
+          x,
+          frame_op EnterOp (value_by values (vars_of p).instr)
+              (sym (ap (λ (y : ExtKind). instruction_of y (value_by values (vars_of p).instr)) x) ∙ g),
+        )
+        by_kind Leave x g = inr (
+          x,
+          frame_op LeaveOp (value_by values (vars_of p).instr)
+              (sym (ap (λ (y : ExtKind). instruction_of y (value_by values (vars_of p).instr)) x) ∙ g),
+        )
 
     abbrev the_flag : ℕ
     the_flag = value_of values (model_of e o).flag
@@ -623,7 +643,7 @@ module _ (e : Ext) (o : Options) (values : List ℕ) (h : Solved e o values) whe
         let fr = s.frame in
         ⊎_elim (λ (q : the_flag ≡ 0).
         let off = each_member (λ q. HasFrame false (issue_at values q)) (all e o values) p
-            (each_issue e o values (HasFrame false) (fr.without q)) m in
+        (each_issue e o values (HasFrame false) (fr.without q)) m in
         let z : true ≡ false = sym a ∙ off f in absurd (cc z))
         (λ (n : the_flag ≢ 0). omega arith) (cases_eq the_flag 0)
 
@@ -636,9 +656,9 @@ module _ (e : Ext) (o : Options) (values : List ℕ) (h : Solved e o values) whe
         let s = h.schedule in
         let fr = s.frame in
         let one = each_member (λ p. All (Precedes frame_distance (issue_at values p)) (issues_of (model_of e o) values)) (all e o values) p
-            (each_issue e o values (λ i. All (Precedes frame_distance i) (issues_of (model_of e o) values)) (fr.ordered f)) m in
+        (each_issue e o values (λ i. All (Precedes frame_distance i) (issues_of (model_of e o) values)) (fr.ordered f)) m in
         each_member (λ q. Precedes frame_distance (issue_at values p) (issue_at values q)) (all e o values) q
-            (each_issue e o values (Precedes frame_distance (issue_at values p)) one) n same
+        (each_issue e o values (Precedes frame_distance (issue_at values p)) one) n same
 
     pub once : (test : ExtKind → Bool) (n : ℕ) → count_by (λ (op : ExtOp). test op.kind) block.ops ≤ 1
         → Pairwise (λ (p q : Placed). test p.op.kind ≡ true → test q.op.kind ≡ true → ⊥) own
@@ -648,11 +668,11 @@ module _ (e : Ext) (o : Options) (values : List ℕ) (h : Solved e o values) whe
         let pairs = one_place f block.ops le in
         let pairs' = subst (λ (b : ExtBlock). Pairwise (λ x y. 1 ≤ f x → 1 ≤ f y → ⊥) b.ops) (sym r.owner) pairs in
         pairwise_more (λ (p q : Placed). 1 ≤ f p.op → 1 ≤ f q.op → ⊥) (λ (p q : Placed). test p.op.kind ≡ true → test q.op.kind ≡ true → ⊥)
-            own
+        own
         (λ a b ma mb g x y. g (one (test a.op.kind) x) (one (test b.op.kind) y))
         (pairwise_of_map (λ x y. 1 ≤ f x → 1 ≤ f y → ⊥) (λ (p : Placed). p.op) own
-            (subst (Pairwise (λ x y. 1 ≤ f x → 1 ≤ f y → ⊥)) (sym
-            (ops_back q.block q.owner (var_at (q.first + ops_count (q.owner).ops)) q.number q.first (q.owner).ops)) pairs'))
+        (subst (Pairwise (λ x y. 1 ≤ f x → 1 ≤ f y → ⊥)) (sym
+        (ops_back q.block q.owner (var_at (q.first + ops_count (q.owner).ops)) q.number q.first (q.owner).ops)) pairs'))
       where
         one : (b : Bool) → b ≡ true → 1 ≤ cond b 1 0
         one true q = omega arith
@@ -669,10 +689,10 @@ module _ (e : Ext) (o : Options) (values : List ℕ) (h : Solved e o values) whe
         let fr = x.frames in
         let enters = once is_enter 0 (let z = fr.enters k block at in let y = at_most (k == 0) in omega (arith, z, y)) in
         let leaves = once is_leave 0 (let z = each_member (λ (b : ExtBlock). count_by (λ (op : ExtOp). is_leave op.kind) b.ops ≡ one_if
-            (returns b)) e.blocks block (each_all (λ (b : ExtBlock). count_by (λ (op : ExtOp). is_leave op.kind) b.ops ≡ one_if (returns b))
-            e.blocks fr.leaves) (member_at e.blocks k block at) in let y = at_most (returns block) in omega (arith, z, y)) in
+        (returns b)) e.blocks block (each_all (λ (b : ExtBlock). count_by (λ (op : ExtOp). is_leave op.kind) b.ops ≡ one_if (returns b))
+        e.blocks fr.leaves) (member_at e.blocks k block at) in let y = at_most (returns block) in omega (arith, z, y)) in
         pairwise_jobs e o values h (NotBoth moves_stack) (λ p q. (is_enter p.op.kind ≡ true → is_enter q.op.kind ≡ true → ⊥)
-            × (is_leave p.op.kind ≡ true → is_leave q.op.kind ≡ true → ⊥)) own
+        × (is_leave p.op.kind ≡ true → is_leave q.op.kind ≡ true → ⊥)) own
         (both own enters leaves) (λ p q i j m n a gi gj same si sj.
         let ki = shift_kind p i.instr.op (here p m) (job_op p i gi) si in
         let kj = shift_kind q j.instr.op (here q n) (job_op q j gj) sj in
@@ -693,13 +713,15 @@ module _ (e : Ext) (o : Options) (values : List ℕ) (h : Solved e o values) whe
         both : (ps : List Placed) → Pairwise (λ (p q : Placed). is_enter p.op.kind ≡ true → is_enter q.op.kind ≡ true → ⊥) ps
             → Pairwise (λ (p q : Placed). is_leave p.op.kind ≡ true → is_leave q.op.kind ≡ true → ⊥) ps
             → Pairwise (λ (p q : Placed). (is_enter p.op.kind ≡ true → is_enter q.op.kind ≡ true → ⊥)
-                × (is_leave p.op.kind ≡ true → is_leave q.op.kind ≡ true → ⊥)) ps
+            × (is_leave p.op.kind ≡ true → is_leave q.op.kind ≡ true → ⊥)) ps
         both [] f g = tt
         both (p ∷ ps) f g = (
           each_of (λ (q : Placed). (is_enter p.op.kind ≡ true → is_enter q.op.kind ≡ true → ⊥)
               × (is_leave p.op.kind ≡ true → is_leave q.op.kind ≡ true → ⊥)) ps
-              (λ q m. (each_member (λ (q : Placed). is_enter p.op.kind ≡ true → is_enter q.op.kind ≡ true → ⊥) ps q f.0 m,
-                  each_member (λ (q : Placed). is_leave p.op.kind ≡ true → is_leave q.op.kind ≡ true → ⊥) ps q g.0 m)),
+              (λ q m. (
+                each_member (λ (q : Placed). is_enter p.op.kind ≡ true → is_enter q.op.kind ≡ true → ⊥) ps q f.0 m,
+                each_member (λ (q : Placed). is_leave p.op.kind ≡ true → is_leave q.op.kind ≡ true → ⊥) ps q g.0 m,
+              )),
           both ps f.1 g.1,
         )
 
@@ -710,10 +732,10 @@ module _ (e : Ext) (o : Options) (values : List ℕ) (h : Solved e o values) whe
             let flag = flag_set p (here p m) (ap is_frame_op u.0) (is_active_job p i gi) in
             let f = frame_apart p q (here p m) (here q n) flag blk in
             let f1 = subst (λ (x : Option Op). IfSome (frame_distance x (issue_at values q).instr)
-                (λ (n : ℕ). (issue_at values p).cycle + n ≤ (issue_at values q).cycle)) (job_op p i gi ∙ ap Some u.1) f in
+            (λ (n : ℕ). (issue_at values p).cycle + n ≤ (issue_at values q).cycle)) (job_op p i gi ∙ ap Some u.1) f in
             let f2 : (issue_at values p).cycle + 1 ≤ (issue_at values q).cycle =
-                subst (λ (x : Option Op). IfSome (frame_distance (Some EnterOp) x)
-                (λ (n : ℕ). (issue_at values p).cycle + n ≤ (issue_at values q).cycle)) (job_op q j gj ∙ ap Some v.1) f1 in
+            subst (λ (x : Option Op). IfSome (frame_distance (Some EnterOp) x)
+            (λ (n : ℕ). (issue_at values p).cycle + n ≤ (issue_at values q).cycle)) (job_op q j gj ∙ ap Some v.1) f1 in
             omega arith
           where
             is_active_job : (p : Placed) (j : Job) → IsJob e o values h p j → (issue_at values p).active ≡ true
@@ -738,7 +760,7 @@ module _ (e : Ext) (o : Options) (values : List ℕ) (h : Solved e o values) whe
       last = each_job e o values h (λ j. is_transfer j.instr.op ≡ true → j.cycle + 1 ≡ own_end) own (λ p j m g t.
           let f = placed_as p j (here p m) g in let c = job_cycle p j g in let q = its_end p m in
           let z = subst (λ b. IsLast (issue_at values p).cycle (end_of values p) b) (transfer_ends j.instr.op t) f.1 in
-              omega (arith, c, q, z));
+          omega (arith, c, q, z));
       giver = givers;
       give_apart = let counts = (counts_rise 0 (all e o values) (all_count 0 0 0 e.blocks)).0 in
           pairwise_jobs e o values h GiveApart (λ (p q : Placed). p.number < q.number) own

@@ -52,10 +52,10 @@ module _ (e : Ext) (o : Options) (values : List ℕ) (h : Solved e o values) (k 
       let keeps = g.keeps in
       let j = place_of p.op.operands x mx in
       let z = zip_get (IsGoodOperand e.names e.blocks g.before) p.op.operands (wants_of e.table e.names e.blocks p.owner p.op.kind p.op) j.0
-          x keeps.operands j.2 in
+      x keeps.operands j.2 in
       let ok = z.2 in
       let s = g.local (temp (first_of x.alts)) (all_member (Contains g.before) x.alts (temp (first_of x.alts)) ok.known
-          (first_in x.alts ok.chooses)) in
+      (first_in x.alts ok.chooses)) in
       (s.0, s.1, ap (λ (t : TempId). t.0) s.2, s.4))
     where
       first_in : (alts : List TempId) → 0 < length alts → Member (temp (first_of alts)) alts
@@ -91,9 +91,9 @@ module _ (e : Ext) (o : Options) (values : List ℕ) (h : Solved e o values) (k 
       let keeps = g.keeps in
       let w = anywhere (unwrap_or (kind_of_temp e.names e.blocks (first_read p.op.operands)) General) in
       let wanted : wants_of e.table e.names e.blocks p.owner p.op.kind p.op ≡ w ∷ [] =
-          ap (λ (x : ExtKind). wants_of e.table e.names e.blocks p.owner x p.op) q in
+      ap (λ (x : ExtKind). wants_of e.table e.names e.blocks p.owner x p.op) q in
       let one = one_zip (IsGoodOperand e.names e.blocks g.before) p.op.operands w
-          (subst (AllZip (IsGoodOperand e.names e.blocks g.before) p.op.operands) wanted keeps.operands) in
+      (subst (AllZip (IsGoodOperand e.names e.blocks g.before) p.op.operands) wanted keeps.operands) in
       let l : length p.op.results ≡ 1 = keeps.results ∙ ap (result_count e.table p.owner) q in
       (one.0, (one.1, only p.op.results u.place u.temp d.1 l))
     where
@@ -118,7 +118,7 @@ module _ (e : Ext) (o : Options) (values : List ℕ) (h : Solved e o values) (k 
           let c = eq.1 in
           c.copy node u.temp s.0 q s.1.1 s.1.0
           ∙ sym (ap (λ (x : ExtKind). let c = carried_at x u in (final taken w) c.0) q
-              ∙ ap (λ xs. let c = first_read xs in (final taken w) c.0) s.1.0)
+          ∙ ap (λ xs. let c = first_read xs in (final taken w) c.0) s.1.0)
       by_kind In q = sym (ap (λ (x : ExtKind). let c = carried_at x u in (final taken w) c.0) q)
       by_kind Out q = sym (ap (λ (x : ExtKind). let c = carried_at x u in (final taken w) c.0) q)
       by_kind (Body so) q = sym (ap (λ (x : ExtKind). let c = carried_at x u in (final taken w) c.0) q)
@@ -184,7 +184,7 @@ module _ (e : Ext) (o : Options) (values : List ℕ) (h : Solved e o values) (k 
           let le = only_result e o values h p d.0 (λ z. let y : Body so ≡ In = sym s ∙ z in absurd (cc y)) in
           let shape = single p.op.results u.place u.temp d.1 le in
           let small = computed_truth so so.op (map (value_of (final taken w)) p.op.operands) eq.0 refl
-              (one_kind so p.op.results u.place (kind_is (Body so) s)) in
+          (one_kind so p.op.results u.place (kind_is (Body so) s)) in
           subst (λ n. n < 2) (sym (c.source so u.temp s shape)) small
         where
           single : (xs : List TempId) (n : ℕ) (x : TempId) → slice_get xs n ≡ Some x → length xs ≤ 1 → xs ≡ x ∷ []
@@ -205,7 +205,7 @@ module _ (e : Ext) (o : Options) (values : List ℕ) (h : Solved e o values) (k 
       let u = s.0 in
       let b : u.definer.block ≡ k = ap (λ (v : LiveRange). v.block.0) s.3 ∙ a.1 in
       let kd : kind_at e o values (numbered e o values h) (fit_kinds e o values h) u.temp.0 ≡ Pred =
-          ap (kind_at e o values (numbered e o values h) (fit_kinds e o values h)) s.2 ∙ kind in
+      ap (kind_at e o values (numbered e o values h) (fit_kinds e o values h)) s.2 ∙ kind in
       subst (λ n. (final taken w) n < 2) s.2 (of_spot u s.1 b kd (let p = u.definer in p.op.kind) refl)
     where
       own : (u : Spot) → Member u (spots e o values) → u.definer.block ≡ k → spot_carried u ≡ u.temp
@@ -223,21 +223,21 @@ module _ (e : Ext) (o : Options) (values : List ℕ) (h : Solved e o values) (k 
           let g = placed_good e o values h p d.0 in
           let keeps = g.keeps in
           let z = zip_get (IsGoodOperand e.names e.blocks g.before) p.op.operands (wants_of e.table e.names e.blocks p.owner p.op.kind p.op)
-              0 x keeps.operands (ap (λ xs. slice_get xs 0) sh.1.0) in
+          0 x keeps.operands (ap (λ xs. slice_get xs 0) sh.1.0) in
           let ok = z.2 in
           let first = temp (first_of x.alts) in
           let mem = first_in x.alts ok.chooses in
           let v = g.local first (all_member (Contains g.before) x.alts first ok.known mem) in
           let one = all_member (λ (y : TempId). carried e.blocks y ≡ first) x.alts first ok.one_value mem in
           let self : spot_carried v.0 ≡ (v.0).temp = sym (carried_is e o values (numbered e o values h) (fit_kinds e o values h) v.0 v.1)
-              ∙ ap (carried e.blocks) v.2 ∙ one ∙ sym v.2 in
+          ∙ ap (carried e.blocks) v.2 ∙ one ∙ sym v.2 in
           let cu : spot_carried u ≡ first = ap (λ (y : ExtKind). carried_at y u) s ∙ ap first_read sh.1.0 in
           let carr : carried e.blocks u.temp ≡ carried e.blocks (v.0).temp =
-              carried_is e o values (numbered e o values h) (fit_kinds e o values h) u m ∙ cu ∙ sym (ap (carried e.blocks) v.2 ∙ one) in
+          carried_is e o values (numbered e o values h) (fit_kinds e o values h) u m ∙ cu ∙ sym (ap (carried e.blocks) v.2 ∙ one) in
           let kv = sym (same_kind e o values (numbered e o values h) (fit_kinds e o values h) u.temp (v.0).temp carr) ∙ q in
           let small = own v.0 v.1 (v.3 ∙ b) self kv in
           let same : (final taken w) u.temp.0 ≡ (final taken w) (v.0).temp.0 = carries taken w u m b
-              ∙ ap (λ (y : TempId). (final taken w) y.0) (cu ∙ sym v.2) in
+          ∙ ap (λ (y : TempId). (final taken w) y.0) (cu ∙ sym v.2) in
           subst (λ n. n < 2) (sym same) small
         where
           first_in : (alts : List TempId) → 0 < length alts → Member (temp (first_of alts)) alts

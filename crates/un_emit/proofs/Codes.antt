@@ -49,7 +49,7 @@ label_first [] k c q f = absurd (cc q)
 label_first (b ∷ cs) zero c q f =
     let z : b ≡ c = cc q in
     let s : pointwise nat_eq b.label c.label ≡ true = ap (λ (d : CodeBlock). pointwise nat_eq d.label c.label) z
-        ∙ list_reflexive nat_eq (λ n. grind (arith, nat_tests)) c.label in
+    ∙ list_reflexive nat_eq (λ n. grind (arith, nat_tests)) c.label in
     ap (λ (t : Bool). cond (not t) (1 + label_place cs c.label) 0) s
 label_first (b ∷ cs) (suc k) c q f = go (label_first cs k c q (λ i d lt g. f (suc i) d (omega arith) g)) (pointwise nat_eq b.label c.label)
     refl
@@ -89,13 +89,13 @@ same_maps f g (x ∷ xs) h = ap (λ y. y ∷ map f xs) (h x) ∙ ap (λ ys. g x 
 -- the emitted packets of a block are those of its jobs
 pub packets_same : (m : Model) (values : List ℕ) (b n first : ℕ) (block : ExtBlock)
     → map packet_with (block_packets m values block (block_vars first block)) ≡ packets_from
-        (jobs_of m values (block_placed b n first block)) 1 (value_of values (var_at (first + ops_count block.ops)) - 1)
+    (jobs_of m values (block_placed b n first block)) 1 (value_of values (var_at (first + ops_count block.ops)) - 1)
 packets_same m values b n first block =
     let cs = range_with_len 1 (value_of values (var_at (first + ops_count block.ops)) - 1) in
     map_map packet_with (λ (c : ℕ). or_nop (instrs_in m values block (block_vars first block) c)) cs
     ∙ same_maps (λ (c : ℕ). packet_with (or_nop (instrs_in m values block (block_vars first block) c)))
-        (packet_of (jobs_of m values (block_placed b n first block))) cs
-        (λ c. ap packet_with (sym (cycle_instrs m values b n first c block)))
+    (packet_of (jobs_of m values (block_placed b n first block))) cs
+    (λ c. ap packet_with (sym (cycle_instrs m values b n first c block)))
 
 pairs_get : {X : Type 0} (R : X → X → Type 0) (xs : List X) → Pairwise R xs → (i k : ℕ) (a b : X) → i < k → slice_get xs i ≡ Some a
     → slice_get xs k ≡ Some b → R a b
@@ -113,10 +113,12 @@ module _ (e : Ext) (o : Options) (values : List ℕ) where
   region_vars k block at =
       let z : 0 + k ≡ k = omega arith in
       subst (λ n. (r : InRegion (all e o values) n block) × (slice_get (blocks_vars 0 e.blocks) n ≡ Some
-          (let g = r.region in block_vars g.first block))) z
-      (region_of 0 0 0 k e.blocks block at, subst (λ n. slice_get (blocks_vars 0 e.blocks) n ≡ Some
-          (let r = region_of 0 0 0 k e.blocks block at in let g = r.region in block_vars g.first block)) (sym z)
-          (vars_at 0 0 0 k e.blocks block at))
+      (let g = r.region in block_vars g.first block))) z (
+        region_of 0 0 0 k e.blocks block at,
+        subst (λ n. slice_get (blocks_vars 0 e.blocks) n ≡ Some
+            (let r = region_of 0 0 0 k e.blocks block at in let g = r.region in block_vars g.first block)) (sym z)
+            (vars_at 0 0 0 k e.blocks block at),
+      )
 
   pub block_there : (k : ℕ) (block : ExtBlock) (at : slice_get e.blocks k ≡ Some block)
       → slice_get (code_blocks (model_of e o) values) k ≡ Some (let r = region_vars k block at in let g = (r.0).region in
@@ -125,7 +127,7 @@ module _ (e : Ext) (o : Options) (values : List ℕ) where
       let r = region_vars k block at in
       let g = (r.0).region in
       get_pair (λ (b : ExtBlock × BlockVars). code_block (model_of e o) values b.0 b.1) e.blocks (blocks_vars 0 e.blocks) k block
-          (block_vars g.first block) at r.1
+      (block_vars g.first block) at r.1
 
   -- distinct labels lead each to its block
   pub label_leads_to : AllPairs (λ (a b : ExtBlock). a.label ≢ b.label) e.blocks → (k : ℕ) (block : ExtBlock)
@@ -138,7 +140,7 @@ module _ (e : Ext) (o : Options) (values : List ℕ) where
       let small = length_get e.blocks k block at in
       let other = get_below e.blocks i (omega (arith, small, lt)) in
       let same : Some (let r = region_vars i other.0 other.1 in let g = (r.0).region in
-          code_block (model_of e o) values other.0 (block_vars g.first other.0)) ≡ Some b = sym (block_there i other.0 other.1) ∙ q in
+      code_block (model_of e o) values other.0 (block_vars g.first other.0)) ≡ Some b = sym (block_there i other.0 other.1) ∙ q in
       let label : (other.0).label ≡ b.label = ap (λ (z : Option CodeBlock). label_or z) same in
       λ y. apart i k lt other.0 block other.1 at (label ∙ y))
     where

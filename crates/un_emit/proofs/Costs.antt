@@ -26,17 +26,17 @@ pub packet_count : (m : Model) (values : List ℕ) (block : ExtBlock) (vars : Bl
 packet_count m values block vars =
     let cs = range_with_len 1 (value_of values vars.end - 1) in
     length-mapped packet_with (block_packets m values block vars) ∙ length-mapped (λ (c : ℕ). or_nop (instrs_in m values block vars c)) cs
-        ∙ length-range 1 (value_of values vars.end - 1)
+    ∙ length-range 1 (value_of values vars.end - 1)
 
 pub costs : (m : Model) (values : List ℕ) (first : ℕ) (blocks : List ExtBlock)
     → packet_cost blocks (map (λ (b : ExtBlock × BlockVars). code_block m values b.0 b.1) (zip blocks (blocks_vars first blocks))) ≡
-        blocks_cost values blocks (blocks_vars first blocks)
+    blocks_cost values blocks (blocks_vars first blocks)
 costs m values first [] = refl
 costs m values first (block ∷ blocks) =
     ap (λ n. block.freq * n + packet_cost blocks (map (λ (b : ExtBlock × BlockVars). code_block m values b.0 b.1)
-        (zip blocks (blocks_vars (first + block_count block) blocks)))) (packet_count m values block (block_vars first block))
+    (zip blocks (blocks_vars (first + block_count block) blocks)))) (packet_count m values block (block_vars first block))
     ∙ ap (λ n. block.freq * (value_of values (let v = block_vars first block in v.end) - 1) + n)
-        (costs m values (first + block_count block) blocks)
+    (costs m values (first + block_count block) blocks)
 
 module _ (e : Ext) (o : Options) (values : List ℕ) where
   -- the cost of the solution

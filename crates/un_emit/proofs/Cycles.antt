@@ -77,8 +77,15 @@ decide_passes val (j ∷ js) w =
     let go : (b : Bool) → fails val j w ≡ b → Passes val (j ∷ js) w ⊎ Failing val (j ∷ js) w = elim [
       | true ↦ λ e. inr (record { before = []; job = j; after = js; is = refl; passes = tt; failed = e })
       | false ↦ λ e. ⊎_elim (λ (p : Passes val js (after_job val j w)). inl (e, p))
-          (λ (f : Failing val js (after_job val j w)). inr (record { before = j ∷ f.before; job = f.job; after = f.after; is =
-              ap (λ ks. j ∷ ks) f.is; passes = (e, f.passes); failed = f.failed }))
+          (λ (f : Failing val js (after_job val j w)). inr (record {
+            before = j ∷ f.before;
+            job = f.job;
+            after = f.after;
+            is =
+                ap (λ ks. j ∷ ks) f.is;
+            passes = (e, f.passes);
+            failed = f.failed;
+          }))
           (decide_passes val js (after_job val j w))
     ] in
     go (fails val j w) refl
@@ -286,9 +293,9 @@ module _ (x : Scene) (h : IsScene x) (c : ℕ) (s : PacketState) (lt : c + 1 < x
         let p = split_at x.jobs j m'.0 in
         let see = sees_at x.val p.before p.after j x.world (subst (λ ks. Sees x.val ks x.world) p.is h.sees) in
         see.loaded o y g ∙ ap (λ (w : World). unwrap_or (word_at (address x.val j) w.memory) 0)
-            (sym (moment p.before p.after j p.is m'.1 (ap is_access o)))
+        (sym (moment p.before p.after j p.is m'.1 (ap is_access o)))
         ∙ ap (λ xs. unwrap_or (word_at (address_of (slice_index xs 0) j.instr.imm) s.memory) 0)
-            (sym (access_right j m (deed j m) (ap is_access o)))
+        (sym (access_right j m (deed j m) (ap is_access o)))
         ∙ ap (λ (op : Op). value_by op s j.instr) (sym o));
     replied = each_of (λ (j : Job). j.instr.op ≡ Call → (y : ℕ) → j.gives ≡ Some y → x.val y ≡ first_result s.replies) js (λ j m o y g.
         let m' = access_here j m (ap is_access o) in
@@ -360,7 +367,7 @@ module _ (x : Scene) (h : IsScene x) (c : ℕ) (s : PacketState) (lt : c + 1 < x
   stops_here : (j : Job) → Member j js → is_access j.instr.op ≡ true → fails x.val j (world_of x.val s) ≡ true → StopsHere j
   stops_here j m p f = ⊎_elim
       (λ (ok : Passes x.val x.jobs x.world). let z : true ≡ false = sym failed
-          ∙ passes_at x.val at.before at.after j x.world (subst (λ ks. Passes x.val ks x.world) at.is ok) in absurd (cc z))
+      ∙ passes_at x.val at.before at.after j x.world (subst (λ ks. Passes x.val ks x.world) at.is ok) in absurd (cc z))
       (λ (k : FirstFail x). by_place k (two_places k.before k.after at.before at.after k.job j (sym k.is ∙ at.is)))
       (decide_passes x.val x.jobs x.world)
     where
@@ -381,13 +388,13 @@ module _ (x : Scene) (h : IsScene x) (c : ℕ) (s : PacketState) (lt : c + 1 < x
       by_place k (level e q) = record { first = k; world = world_at ∙ ap (λ ks. run_jobs x.val ks x.world) (sym e); alike = inl q }
       by_place k (behind ks e) =
           let z : true ≡ false = sym failed ∙ passes_at x.val at.before ks j x.world (subst (λ ks. Passes x.val ks x.world) e k.passes) in
-              absurd (cc z)
+          absurd (cc z)
       by_place k (ahead ks e) =
           let q = at in
           let o = subst (Pairwise InOrder) q.is h.order in
           let prior = pairwise_before InOrder q.before q.after j o in
           let kj : InOrder k.job j = each_member (λ (i : Job). InOrder i j) q.before k.job prior
-              (subst (Member k.job) (sym e) (member_append_right k.before (k.job ∷ ks) k.job (inl refl))) in
+          (subst (Member k.job) (sym e) (member_append_right k.before (k.job ∷ ks) k.job (inl refl))) in
           let ko = subst (Pairwise InOrder) k.is h.order in
           let later = pairwise_after InOrder k.before k.after k.job ko in
           let ka = fails_access k.job.instr.op x.val k.job (run_jobs x.val k.before x.world) k.failed in
@@ -399,15 +406,18 @@ module _ (x : Scene) (h : IsScene x) (c : ℕ) (s : PacketState) (lt : c + 1 < x
                 ∙ run_until x.val (c + 1) k.before (k.job ∷ k.after) x.world
                 (each_of (λ (i : Job). is_effect i.instr.op ≡ true → i.cycle < c + 1) k.before (λ i mi u.
                 let ij : InOrder i j = each_member (λ (i : Job). InOrder i j) q.before i prior
-                    (subst (Member i) (sym e) (member_append_left k.before (k.job ∷ ks) i mi)) in
+                (subst (Member i) (sym e) (member_append_left k.before (k.job ∷ ks) i mi)) in
                 let z = ij.after_effect u p in omega arith)) (
                   (λ u. l),
                   each_of (λ (i : Job). is_effect i.instr.op ≡ true → c + 1 ≤ i.cycle) k.after (λ i mi u.
                       let ki : InOrder k.job i = each_member (InOrder k.job) k.after i later mi in
                       let z = ki.before_effect ka u in omega arith),
                 );
-            alike = inr (load_op k.job.instr.op ka (λ u. let z = kj.after_effect u p in omega arith), λ u. let z = kj.before_call ka u in
-                omega arith);
+            alike = inr (
+              load_op k.job.instr.op ka (λ u. let z = kj.after_effect u p in omega arith),
+              λ u. let z = kj.before_call ka u in
+                  omega arith,
+            );
           }
         where
           load_op : (op : Op) → is_access op ≡ true → (is_effect op ≡ true → ⊥) → op ≡ Load
@@ -434,7 +444,7 @@ module _ (x : Scene) (h : IsScene x) (c : ℕ) (s : PacketState) (lt : c + 1 < x
       let trap : traps s j.instr ≡ true = ap (traps s) r.2 ∙ q.2 in
       let op = traps_what j r.1 (deed j r.1) trap in
       let acc : is_access j.instr.op ≡ true = ⊎_elim (λ (e : j.instr.op ≡ Load). ap is_access e)
-          (λ (e : j.instr.op ≡ Store). ap is_access e) op in
+      (λ (e : j.instr.op ≡ Store). ap is_access e) op in
       let f : fails x.val j (world_of x.val s) ≡ true = sym (same_trap j (access_right j r.1 (deed j r.1) acc) op) ∙ trap in
       let g = stops_here j r.1 acc f in
       let k = g.first in
@@ -457,10 +467,10 @@ module _ (x : Scene) (h : IsScene x) (c : ℕ) (s : PacketState) (lt : c + 1 < x
       let g = stops_here j q.1 acc f in
       let k = g.first in
       let same_job : k.job ≡ j = ⊎_elim (λ (e : k.job ≡ j). e) (λ (e : (k.job.instr.op ≡ Load) × (j.instr.op ≡ Call → ⊥)). absurd (e.1 q.3))
-          g.alike in
+      g.alike in
       let record_is : record_of s call ≡ call_of x.val k.job (run_jobs x.val k.before x.world) =
       ap (record_of s) (sym q.2) ∙ ap (λ xs. let c : CallRecord =
-          record { name = unwrap_or j.instr.label []; args = xs; memory = s.memory } in c) (access_right j q.1 (deed j q.1) acc)
+      record { name = unwrap_or j.instr.label []; args = xs; memory = s.memory } in c) (access_right j q.1 (deed j q.1) acc)
       ∙ ap (λ (i : Job). call_of x.val i (world_of x.val s)) (sym same_job) ∙ ap (call_of x.val k.job) g.world in
       halts g.first g.world (
       ap (λ (b : Bool). if b then Stopped Trapped s else with_call x.table (the_call is) s.replies s is) t
@@ -468,7 +478,7 @@ module _ (x : Scene) (h : IsScene x) (c : ℕ) (s : PacketState) (lt : c + 1 < x
       ∙ ap (λ rs. with_call x.table (Some call) rs s is) r
       ∙ ap (λ (c : CallRecord). Stopped (Waiting c) s) record_is
       ∙ ap (λ (p : PacketStop). Stopped p s) (sym (stop_waits k.job.instr.op (call_of x.val k.job (run_jobs x.val k.before x.world))
-          (ap (λ (i : Job). i.instr.op) same_job ∙ q.3))))
+      (ap (λ (i : Job). i.instr.op) same_job ∙ q.3))))
 
   pub step : Stepped
   step = by_trap (list_any (traps s) is) refl
@@ -513,9 +523,9 @@ module _ (x : Scene) (h : IsScene x) (c : ℕ) (s : PacketState) (lt : c + 1 < x
       let k = h.timed in
       settles t can ∙ ap (λ (o : Option Job). exit_of o (λ (j : Job). operand_in s j.instr 0) next)
       (find_none (λ (j : Job). is_transfer j.instr.op) js (each_of (λ (j : Job). is_transfer j.instr.op ≡ false) js
-          (λ j m. is_false (is_transfer j.instr.op) (λ p.
+      (λ j m. is_false (is_transfer j.instr.op) (λ p.
       let z = each_member (λ (j : Job). is_transfer j.instr.op ≡ true → j.cycle + 1 ≡ x.end) x.jobs j k.last (of_packet j m (not_nop j p)) p
-          in
+      in
       let n = now j m in later (omega arith)))))
 
   -- in the last one
@@ -534,7 +544,7 @@ module _ (x : Scene) (h : IsScene x) (c : ℕ) (s : PacketState) (lt : c + 1 < x
       here =
           let k = h.timed in
           find_filter (λ (j : Job). is_transfer j.instr.op) (issues_at (c + 1)) x.jobs
-              (each_of (λ (j : Job). is_transfer j.instr.op ≡ true → issues_at (c + 1) j ≡ true) x.jobs (λ j m p.
+          (each_of (λ (j : Job). is_transfer j.instr.op ≡ true → issues_at (c + 1) j ≡ true) x.jobs (λ j m p.
           let z = each_member (λ (j : Job). is_transfer j.instr.op ≡ true → j.cycle + 1 ≡ x.end) x.jobs j k.last m p in
           eq-eqb j.cycle (c + 1) (omega arith)))
 
@@ -551,7 +561,7 @@ all_pass : (x : Scene) → IsScene x → Unfailed x (x.end - 1) → Passes x.val
 all_pass x h un = ⊎_elim (λ (p : Passes x.val x.jobs x.world). p) (λ (f : FirstFail x).
     let k = h.timed in
     let soon = each_member (λ (j : Job). j.cycle < x.end) x.jobs f.job k.soon
-        (subst (Member f.job) (sym f.is) (member_append_right f.before (f.job ∷ f.after) f.job (inl refl))) in
+    (subst (Member f.job) (sym f.is) (member_append_right f.before (f.job ∷ f.after) f.job (inl refl))) in
     let z : true ≡ false = sym f.failed ∙ un f.before f.after f.job f.is (omega arith) in absurd (cc z))
     (decide_passes x.val x.jobs x.world)
 
@@ -570,7 +580,7 @@ comes_from x h zero c s e a un = by_step (step x h c s (omega arith) a un)
         let u = next x h c s lt a un in
         let run = exits x h c s lt a un t can (omega arith) in
         passes u (subst (λ k. At x k u) here (at_next x h c s lt a un can))
-            (all_pass x h (subst (Unfailed x) here (unfailed_next x h c s lt a un t can)))
+        (all_pass x h (subst (Unfailed x) here (unfailed_next x h c s lt a un t can)))
         (ap (λ (r : PacketStep). then_packets r (packets_run x.table [])) run ∙ ended (transfer_of x.jobs) u)
         (issues_now x h c s lt a un, nothing (packet_step x.table (instrs (packet_jobs x.jobs (c + 1))) s))
       where
@@ -611,17 +621,23 @@ comes_from x h (suc d) c s e a un = by_step (λ u b v. comes_from x h d (c + 1) 
             → Comes x (packets_from x.jobs (c + 1 + 1) (suc d)) u
             → Comes x (packet_of x.jobs (c + 1) ∷ packets_from x.jobs (c + 1 + 1) (suc d)) s
         further run (passes v b p r n) =
-            passes v b p (ap (λ (q : PacketStep). then_packets q (packets_run x.table (packets_from x.jobs (c + 1 + 1) (suc d)))) run ∙ r)
-            (issues_now x h c s lt a un, subst (λ (q : PacketStep). goes_on_unless q
-                (NoneWaits x.table (packets_from x.jobs (c + 1 + 1) (suc d)))) (sym run) n)
+            passes v b p (ap (λ (q : PacketStep). then_packets q (packets_run x.table (packets_from x.jobs (c + 1 + 1) (suc d)))) run ∙ r) (
+              issues_now x h c s lt a un,
+              subst (λ (q : PacketStep). goes_on_unless q
+                  (NoneWaits x.table (packets_from x.jobs (c + 1 + 1) (suc d)))) (sym run) n,
+            )
         further run (stops f v w r n) =
-            stops f v w (ap (λ (q : PacketStep). then_packets q (packets_run x.table (packets_from x.jobs (c + 1 + 1) (suc d)))) run ∙ r)
-            (issues_now x h c s lt a un, subst (λ (q : PacketStep). goes_on_unless q
-                (NoneWaits x.table (packets_from x.jobs (c + 1 + 1) (suc d)))) (sym run) n)
+            stops f v w (ap (λ (q : PacketStep). then_packets q (packets_run x.table (packets_from x.jobs (c + 1 + 1) (suc d)))) run ∙ r) (
+              issues_now x h c s lt a un,
+              subst (λ (q : PacketStep). goes_on_unless q
+                  (NoneWaits x.table (packets_from x.jobs (c + 1 + 1) (suc d)))) (sym run) n,
+            )
     by_step rest (halts f w run) =
-        stops f s w (ap (λ (r : PacketStep). then_packets r (packets_run x.table (packets_from x.jobs (c + 1 + 1) (suc d)))) run)
-        (issues_now x h c s lt a un, subst (λ (r : PacketStep). goes_on_unless r
-            (NoneWaits x.table (packets_from x.jobs (c + 1 + 1) (suc d)))) (sym run) tt)
+        stops f s w (ap (λ (r : PacketStep). then_packets r (packets_run x.table (packets_from x.jobs (c + 1 + 1) (suc d)))) run) (
+          issues_now x h c s lt a un,
+          subst (λ (r : PacketStep). goes_on_unless r
+              (NoneWaits x.table (packets_from x.jobs (c + 1 + 1) (suc d)))) (sym run) tt,
+        )
 
 -- what the packets of a block come to
 pub block_comes : (x : Scene) (h : IsScene x) (s : PacketState) → 1 ≤ x.end → At x 0 s → Comes x (packets_from x.jobs 1 (x.end - 1)) s
@@ -631,7 +647,7 @@ block_comes x h s le a = go (x.end - 1) refl
     early before after j e lt =
         let k = h.timed in
         let late = each_member (λ (j : Job). 1 ≤ j.cycle) x.jobs j k.late
-            (subst (Member j) (sym e) (member_append_right before (j ∷ after) j (inl refl))) in
+        (subst (Member j) (sym e) (member_append_right before (j ∷ after) j (inl refl))) in
         absurd (omega arith)
 
     no_jobs : x.end ≡ 1 → Each (λ (j : Job). is_transfer j.instr.op ≡ false) x.jobs
@@ -646,5 +662,5 @@ block_comes x h s le a = go (x.end - 1) refl
         let one : x.end ≡ 1 = omega arith in
         passes s (subst (λ n. At x n s) (sym e) a) (all_pass x h (subst (Unfailed x) (sym e) early))
         (sym (ap (λ (o : Option Job). exit_of o (first_read x.val) s)
-            (find_none (λ (j : Job). is_transfer j.instr.op) x.jobs (no_jobs one)))) tt
+        (find_none (λ (j : Job). is_transfer j.instr.op) x.jobs (no_jobs one)))) tt
     go (suc d) e = comes_from x h d 0 s (omega arith) a early

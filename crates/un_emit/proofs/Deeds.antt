@@ -47,8 +47,20 @@ alu_op Reload h = absurd (cc h)
 alu_op Enter h = absurd (cc h)
 alu_op Leave h = absurd (cc h)
 alu_op Nop h = absurd (cc h)
-alu_op _ h = record { shifts = refl; calls = refl; returns = refl; transfers = refl; controls = refl; writes = refl; stores = refl; traps =
-    λ s i. refl; jumps = λ s i. refl; slot = λ s i. refl; value = λ s i. refl }
+alu_op _ h = record {
+  shifts = refl;
+  calls = refl;
+  returns = refl;
+  transfers = refl;
+  controls = refl;
+  writes = refl;
+  stores = refl;
+  traps =
+      λ s i. refl;
+  jumps = λ s i. refl;
+  slot = λ s i. refl;
+  value = λ s i. refl;
+}
 
 -- what an operation that goes elsewhere does not do
 pub record Transfers (op : Op) : Type 0 where
@@ -61,14 +73,46 @@ pub record Transfers (op : Op) : Type 0 where
   pub slot : (s : PacketState) (i : Instr) → slot_by op s i ≡ None
 
 pub transfer_op : (op : Op) → is_transfer op ≡ true → Transfers op
-transfer_op Jump h = record { shifts = refl; calls = refl; controls = refl; writes = refl; stores = refl; traps = λ s i. refl; slot =
-    λ s i. refl }
-transfer_op JumpIf h = record { shifts = refl; calls = refl; controls = refl; writes = refl; stores = refl; traps = λ s i. refl; slot =
-    λ s i. refl }
-transfer_op JumpIfNot h = record { shifts = refl; calls = refl; controls = refl; writes = refl; stores = refl; traps = λ s i. refl; slot =
-    λ s i. refl }
-transfer_op Jumpr h = record { shifts = refl; calls = refl; controls = refl; writes = refl; stores = refl; traps = λ s i. refl; slot =
-    λ s i. refl }
+transfer_op Jump h = record {
+  shifts = refl;
+  calls = refl;
+  controls = refl;
+  writes = refl;
+  stores = refl;
+  traps = λ s i. refl;
+  slot =
+      λ s i. refl;
+}
+transfer_op JumpIf h = record {
+  shifts = refl;
+  calls = refl;
+  controls = refl;
+  writes = refl;
+  stores = refl;
+  traps = λ s i. refl;
+  slot =
+      λ s i. refl;
+}
+transfer_op JumpIfNot h = record {
+  shifts = refl;
+  calls = refl;
+  controls = refl;
+  writes = refl;
+  stores = refl;
+  traps = λ s i. refl;
+  slot =
+      λ s i. refl;
+}
+transfer_op Jumpr h = record {
+  shifts = refl;
+  calls = refl;
+  controls = refl;
+  writes = refl;
+  stores = refl;
+  traps = λ s i. refl;
+  slot =
+      λ s i. refl;
+}
 transfer_op _ h = absurd (cc h)
 
 -- what Enter and Leave do not do
@@ -84,10 +128,30 @@ pub record Shifts (op : Op) : Type 0 where
   pub target : (i : Instr) → target_by op i.dst ≡ Some STACK
 
 pub shift_op : (op : Op) → moves_stack op ≡ true → Shifts op
-shift_op Enter h = record { calls = refl; returns = refl; transfers = refl; writes = refl; stores = refl; traps = λ s i. refl; jumps =
-    λ s i. refl; slot = λ s i. refl; target = λ i. refl }
-shift_op Leave h = record { calls = refl; returns = refl; transfers = refl; writes = refl; stores = refl; traps = λ s i. refl; jumps =
-    λ s i. refl; slot = λ s i. refl; target = λ i. refl }
+shift_op Enter h = record {
+  calls = refl;
+  returns = refl;
+  transfers = refl;
+  writes = refl;
+  stores = refl;
+  traps = λ s i. refl;
+  jumps =
+      λ s i. refl;
+  slot = λ s i. refl;
+  target = λ i. refl;
+}
+shift_op Leave h = record {
+  calls = refl;
+  returns = refl;
+  transfers = refl;
+  writes = refl;
+  stores = refl;
+  traps = λ s i. refl;
+  jumps =
+      λ s i. refl;
+  slot = λ s i. refl;
+  target = λ i. refl;
+}
 shift_op _ h = absurd (cc h)
 
 target_of : (op : Op) (i : Instr) → moves_stack op ≡ false → target_by op i.dst ≡ option_map (λ (r : Reg). r.0) i.dst
@@ -206,13 +270,16 @@ pub apart_targets : (t : Table) (T : Temps) (slots c : ℕ) (js : List Job) → 
     → AreApart target (instrs js)
 apart_targets t T slots c js h w = pairwise_map (λ i j. (r : ℕ) → target i ≡ Some r → target j ≢ Some r) (λ (j : Job). j.instr) js
     (pairwise_more (λ i j. GiveApart i j × NotBoth moves_stack i j)
-        (λ (i j : Job). (r : ℕ) → target i.instr ≡ Some r → target j.instr ≢ Some r) js two (both js w.give_apart w.one_shift))
+    (λ (i j : Job). (r : ℕ) → target i.instr ≡ Some r → target j.instr ≢ Some r) js two (both js w.give_apart w.one_shift))
   where
     both : (ks : List Job) → Pairwise GiveApart ks → Pairwise (NotBoth moves_stack) ks
         → Pairwise (λ i j. GiveApart i j × NotBoth moves_stack i j) ks
     both [] p q = tt
-    both (k ∷ ks) p q = (each_of (λ j. GiveApart k j × NotBoth moves_stack k j) ks
-        (λ j m. (each_member (GiveApart k) ks j p.0 m, each_member (NotBoth moves_stack k) ks j q.0 m)), both ks p.1 q.1)
+    both (k ∷ ks) p q = (
+      each_of (λ j. GiveApart k j × NotBoth moves_stack k j) ks
+          (λ j m. (each_member (GiveApart k) ks j p.0 m, each_member (NotBoth moves_stack k) ks j q.0 m)),
+      both ks p.1 q.1,
+    )
 
     two : (i j : Job) → Member i js → Member j js → GiveApart i j × NotBoth moves_stack i j → (r : ℕ) → target i.instr ≡ Some r
         → target j.instr ≢ Some r
@@ -229,7 +296,7 @@ apart_targets t T slots c js h w = pairwise_map (λ i j. (r : ℕ) → target i 
         (λ (q : (x : ℕ) × (Gives t T j x) × (T.place x ≡ r)).
         let g = p.1 in let d = q.1 in
         let same : p.0 ≡ q.0 = h.apart p.0 q.0 c (stands_now t T slots c i p.0 h p.1 ci) (stands_now t T slots c j q.0 h q.1 cj)
-            (p.2 ∙ sym q.2) in
+        (p.2 ∙ sym q.2) in
         k.0 p.0 g.gives (d.gives ∙ ap Some (sym same)))
         (writes t T slots j r (each_member (Deed t T slots) js j w.deeds n) f))
         (writes t T slots i r (each_member (Deed t T slots) js i w.deeds m) e)

@@ -114,13 +114,13 @@ module _ (e : Ext) (o : Options) (values : List ℕ) where
       → instr_domain (carries_truth e p.owner p.op p.op.results) p.op.kind ≡ Some d → InDomain (slice_index values p.first) d
   instr_sits ie p d h q =
       let first : slice_get (option_to_list (instr_domain (carries_truth e p.owner p.op p.op.results) p.op.kind)) 0 ≡ Some d =
-          ap (λ (x : Option Domain). slice_get (option_to_list x) 0) q in
+      ap (λ (x : Option Domain). slice_get (option_to_list x) 0) q in
       subst (λ k. InDomain (slice_index values k) d) (omega arith)
       (let a = instrs_d ie p.owner p.op in
       let b = option_to_list (cycle_domain (own_horizon p.owner) p.op.kind) in
       let c = map choice_domain (chosen_operands p.op) in
       sits_left values a b p.first (sits_left values (a ++ b) c p.first
-          (sits_left values (a ++ b ++ c) (regs_d ie p.owner p.op) p.first h.all)) 0 d first)
+      (sits_left values (a ++ b ++ c) (regs_d ie p.owner p.op) p.first h.all)) 0 d first)
 
   pub get_places : {A B : Type 0} (f : ℕ → A → B) (xs : List A) (i k n : ℕ) (x : A) → n ≡ i + k → slice_get xs k ≡ Some x
       → slice_get (places_from f i xs) k ≡ Some (f n x)
@@ -161,8 +161,8 @@ module _ (e : Ext) (o : Options) (values : List ℕ) where
       let lb = length-cycle (own_horizon p.owner) p.op.kind in
       let e3 = length-append a b in
       sits_right values (a ++ b) c p.first (p.first + choice_place p.op) (omega arith)
-          (sits_left values (a ++ b ++ c) (regs_d ie p.owner p.op) p.first h.all) j (choice_domain x)
-          (get_map choice_domain (chosen_operands p.op) j x q)
+      (sits_left values (a ++ b ++ c) (regs_d ie p.owner p.op) p.first h.all) j (choice_domain x)
+      (get_map choice_domain (chosen_operands p.op) j x q)
 
   placed_sit : (ie : Bool) (b : ℕ) (owner : ExtBlock) (close : VarId) (n first : ℕ) (ops : List ExtOp)
       → Sits values (ops_domains e o ie owner (own_horizon owner) ops) first → 1 ≤ value_of values close
@@ -171,10 +171,11 @@ module _ (e : Ext) (o : Options) (values : List ℕ) where
   placed_sit ie b owner close n first (op ∷ ops) h le =
       let here = op_domains e o ie owner (own_horizon owner) op in
       let rest = ops_domains e o ie owner (own_horizon owner) ops in
-      let l = length-op_domains ie owner (own_horizon owner) op in
-      (record { all = sits_left values here rest first h; close = le },
-          placed_sit ie b owner close (n + 1) (first + var_count op) ops
-          (sits_right values here rest first (first + var_count op) (omega arith) h) le)
+      let l = length-op_domains ie owner (own_horizon owner) op in (
+        record { all = sits_left values here rest first h; close = le },
+        placed_sit ie b owner close (n + 1) (first + var_count op) ops
+            (sits_right values here rest first (first + var_count op) (omega arith) h) le,
+      )
 
   pub length-ops_domains : (ie : Bool) (block : ExtBlock) (h : ℕ) (ops : List ExtOp)
       → length (ops_domains e o ie block h ops) ≡ ops_count ops
@@ -193,7 +194,7 @@ module _ (e : Ext) (o : Options) (values : List ℕ) where
       let e0 : first + ops_count block.ops + 0 ≡ first + ops_count block.ops = omega arith in
       let le : 1 ≤ slice_index values (first + ops_count block.ops) = subst (λ k. 1 ≤ slice_index values k) e0 range.0 in
       placed_sit ie b block (var_at (first + ops_count block.ops)) n first block.ops
-          (sits_left values ds (Range 1 (own_horizon block) ∷ []) first h) le
+      (sits_left values ds (Range 1 (own_horizon block) ∷ []) first h) le
 
   pub length-block : (ie : Bool) (block : ExtBlock) → length (block_domains e o ie (own_horizon block) block) ≡ block_count block
   length-block ie block = length-append (ops_domains e o ie block (own_horizon block) block.ops) (Range 1 (own_horizon block) ∷ [])
@@ -220,17 +221,17 @@ module _ (e : Ext) (o : Options) (values : List ℕ) where
       let close = var_at (first + ops_count block.ops) in
       let later : false ≡ nat_eq (b + 1) 0 = grind arith in
       each_join (λ p. InDomains (in_entry p) p) (block_placed b n first block)
-          (blocks_placed (b + 1) (n + length block.ops) (first + block_count block) blocks)
+      (blocks_placed (b + 1) (n + length block.ops) (first + block_count block) blocks)
       (entry_of ie b block close n first block.ops q (block_sit ie b n first block (sits_left values here rest first h)))
       (all_sit false (b + 1) (n + length block.ops) (first + block_count block) blocks later
-          (sits_right values here rest first (first + block_count block) (omega arith) h))
+      (sits_right values here rest first (first + block_count block) (omega arith) h))
 
   length-blocks : (ie : Bool) (blocks : List ExtBlock) → length (blocks_domains e o own_horizon ie blocks) ≡ blocks_count blocks
   length-blocks ie [] = refl
   length-blocks ie (block ∷ blocks) =
       length-append (block_domains e o ie (own_horizon block) block) (blocks_domains e o own_horizon false blocks)
       ∙ ap (λ n. n + length (blocks_domains e o own_horizon false blocks)) (length-block ie block)
-          ∙ ap (λ n. block_count block + n) (length-blocks false blocks)
+      ∙ ap (λ n. block_count block + n) (length-blocks false blocks)
 
   -- the frame flag is 0 or 1
   pub flag_sits : KeepsDomains (domains_of own_horizon e o) values → slice_index values (blocks_count e.blocks) ≤ 1
@@ -238,7 +239,7 @@ module _ (e : Ext) (o : Options) (values : List ℕ) where
       let ds = blocks_domains e o own_horizon true e.blocks in
       let l = length-blocks true e.blocks in
       let last = sits_right values ds (Range 0 1 ∷ []) 0 (blocks_count e.blocks) (omega arith)
-          (keeps_sits values (domains_of own_horizon e o) h) in
+      (keeps_sits values (domains_of own_horizon e o) h) in
       let z = last 0 (Range 0 1) refl in
       let e0 : blocks_count e.blocks + 0 ≡ blocks_count e.blocks = omega arith in
       subst (λ k. slice_index values k ≤ 1) e0 z.1

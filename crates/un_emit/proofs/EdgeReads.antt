@@ -52,7 +52,7 @@ filter_append t [] ys = refl
 filter_append t (x ∷ xs) ys =
     let k = filter_append t xs ys in
     elim (t x) as (λ b. cond b (x ∷ filter t (xs ++ ys)) (filter t (xs ++ ys)) ≡ cond b (x ∷ filter t xs) (filter t xs) ++
-        filter t ys) [ true ↦ ap (λ zs. x ∷ zs) k | false ↦ k ]
+    filter t ys) [ true ↦ ap (λ zs. x ∷ zs) k | false ↦ k ]
 
 filter_none : {A : Type 0} (t : A → Bool) (xs : List A) → Each (λ x. t x ≡ false) xs → filter t xs ≡ []
 filter_none t [] h = refl
@@ -92,9 +92,9 @@ one_out ops p h =
     let n = middle_neither ops p h in
     let first : is_out s.kind ≡ false = (in_not s.kind h.start).0 in
     let all_false : Each (λ op. t op ≡ false) (p.start ∷ middle p) =
-        (first, each_of (λ op. t op ≡ false) (middle p) (λ op m. (each_member Neither (middle p) op n m).1)) in
+    (first, each_of (λ op. t op ≡ false) (middle p) (λ op m. (each_member Neither (middle p) op n m).1)) in
     let e = ap (λ xs. fold (λ (a : ℕ) (y : ExtOp). a + cond (t y) 1 0) 0 xs) (regrouped ops p h)
-        ∙ count_none t (p.start ∷ middle p) 0 all_false (p.out ∷ []) in
+    ∙ count_none t (p.start ∷ middle p) 0 all_false (p.out ∷ []) in
     let last = at_most (t p.out) in
     omega (arith, e, last)
   where
@@ -117,8 +117,8 @@ module _ (e : Ext) (o : Options) (values : List ℕ) (h : Solved e o values) (k 
           let g = placed_good e o values h p m in
           let f = g.keeps in
           empty (IsGoodOperand e.names e.blocks g.before) p.op.operands
-              (subst (AllZip (IsGoodOperand e.names e.blocks g.before) p.op.operands)
-              (ap (λ (x : ExtKind). wants_of e.table e.names e.blocks p.owner x p.op) q) f.operands)
+          (subst (AllZip (IsGoodOperand e.names e.blocks g.before) p.op.operands)
+          (ap (λ (x : ExtKind). wants_of e.table e.names e.blocks p.owner x p.op) q) f.operands)
         where
           empty : (Q : Operand → Want → Type 0) (xs : List Operand) → AllZip Q xs [] → xs ≡ []
           empty Q [] z = refl
@@ -131,8 +131,8 @@ module _ (e : Ext) (o : Options) (values : List ℕ) (h : Solved e o values) (k 
           inactive : (x : ExtKind) → p.op.kind ≡ x → is_delimiter x ≡ false → p.op.operands ≡ []
           inactive x q f =
               let z : (is_delimiter p.op.kind || is_some (instr_of values p.op (vars_of p))) ≡ false =
-                  ap (λ (y : ExtKind). is_delimiter y || is_some (instr_of values p.op (vars_of p))) q
-                  ∙ ap (λ (c : Bool). c || is_some (instr_of values p.op (vars_of p))) f ∙ ap is_some i in
+              ap (λ (y : ExtKind). is_delimiter y || is_some (instr_of values p.op (vars_of p))) q
+              ∙ ap (λ (c : Bool). c || is_some (instr_of values p.op (vars_of p))) f ∙ ap is_some i in
               let y : true ≡ false = sym a ∙ z in absurd (cc y)
 
           by_kind : (x : ExtKind) → p.op.kind ≡ x → p.op.operands ≡ []
@@ -142,7 +142,7 @@ module _ (e : Ext) (o : Options) (values : List ℕ) (h : Solved e o values) (k 
               let out = out_op e o values h k block r at in
               let ps = parts e o values h k block r at in
               let same = same_op e o values h k block r at is_out (one_out block.ops ps.0 ps.1) p out.placed mine out.member (ap is_out q)
-                  (ap is_out out.kind) in
+              (ap is_out out.kind) in
               absurd (d (ap (λ (z : Placed). z.number) same))
           by_kind (Body so) q = inactive (Body so) q refl
           by_kind (End term) q = inactive (End term) q refl
@@ -181,17 +181,17 @@ module _ (e : Ext) (o : Options) (values : List ℕ) (h : Solved e o values) (k 
       let out = out_op e o values h k block r at in
       let p = out.placed in
       let act : (issue_at values p).active ≡ true = ap (λ (y : ExtKind). is_delimiter y ||
-          is_some (instruction_of y (value_by values (vars_of p).instr))) out.kind in
+      is_some (instruction_of y (value_by values (vars_of p).instr))) out.kind in
       let none : instr_of values p.op (vars_of p) ≡ None = ap (λ (y : ExtKind). instruction_of y (value_by values (vars_of p).instr))
-          out.kind in
+      out.kind in
       let b = (of_all e o values h k block r p out.member).1 in
       let f = eq-eqb p.block k b in
       let pass : ((p.block == k) && is_none (instr_of values p.op (vars_of p))) ≡ true =
-          ap (λ (c : Bool). c && is_none (instr_of values p.op (vars_of p))) f ∙ ap is_none none in
+      ap (λ (c : Bool). c && is_none (instr_of values p.op (vars_of p))) f ∙ ap is_none none in
       ap (λ (c : Bool). filter (is_live_out k) (if c then places_from (read_of values (issue_at values p) (vars_of p)) 0 p.op.operands
-          else [])) act
+      else [])) act
       ∙ filter_all (is_live_out k) (places_from (read_of values (issue_at values p) (vars_of p)) 0 p.op.operands)
-          (each_places (λ x. is_live_out k x ≡ true) (read_of values (issue_at values p) (vars_of p)) 0 p.op.operands (λ n x. pass))
+      (each_places (λ x. is_live_out k x ≡ true) (read_of values (issue_at values p) (vars_of p)) 0 p.op.operands (λ n x. pass))
 
   pub end_reads : live_out_reads k (the_reads e o values) ≡ places_from (read_of values (issue_at values last_one) (vars_of last_one)) 0
       (let q = last_one in q.op.operands)
@@ -205,16 +205,16 @@ module _ (e : Ext) (o : Options) (values : List ℕ) (h : Solved e o values) (k 
       let below = pairwise_before (λ (p q : Placed). p.number < q.number) sp.before sp.after p rise' in
       let above = pairwise_after (λ (p q : Placed). p.number < q.number) sp.before sp.after p rise' in
       let pre = each_of (λ x. filter (is_live_out k) (reads_at values x) ≡ []) sp.before
-          (λ x mx. other_reads x (subst (Member x) (sym sp.is) (member_append_left sp.before (p ∷ sp.after) x mx))
-          (λ z. let lt = each_member (λ (q : Placed). q.number < p.number) sp.before x below mx in omega arith)) in
+      (λ x mx. other_reads x (subst (Member x) (sym sp.is) (member_append_left sp.before (p ∷ sp.after) x mx))
+      (λ z. let lt = each_member (λ (q : Placed). q.number < p.number) sp.before x below mx in omega arith)) in
       let post = each_of (λ x. filter (is_live_out k) (reads_at values x) ≡ []) sp.after
-          (λ x mx. other_reads x (subst (Member x) (sym sp.is) (member_append_right sp.before (p ∷ sp.after) x (inr mx)))
-          (λ z. let lt = each_member (λ (q : Placed). p.number < q.number) sp.after x above mx in omega arith)) in
+      (λ x mx. other_reads x (subst (Member x) (sym sp.is) (member_append_right sp.before (p ∷ sp.after) x (inr mx)))
+      (λ z. let lt = each_member (λ (q : Placed). p.number < q.number) sp.after x above mx in omega arith)) in
       ap (filter (is_live_out k)) (reads_are values 0 0 0 e.blocks ∙ ap (λ ps. joined (map (reads_at values) ps)) sp.is
-          ∙ joined_map-append (reads_at values) sp.before (p ∷ sp.after))
+      ∙ joined_map-append (reads_at values) sp.before (p ∷ sp.after))
       ∙ filter_append (is_live_out k) (joined (map (reads_at values) sp.before)) (joined (map (reads_at values) (p ∷ sp.after)))
       ∙ ap (λ xs. xs ++ filter (is_live_out k) (joined (map (reads_at values) (p ∷ sp.after))))
-          (filter_joined (is_live_out k) (reads_at values) sp.before pre)
+      (filter_joined (is_live_out k) (reads_at values) sp.before pre)
       ∙ filter_append (is_live_out k) (reads_at values p) (joined (map (reads_at values) sp.after))
       ∙ ap (λ xs. filter (is_live_out k) (reads_at values p) ++ xs) (filter_joined (is_live_out k) (reads_at values) sp.after post)
       ∙ append_nil (filter (is_live_out k) (reads_at values p)) ∙ own_reads

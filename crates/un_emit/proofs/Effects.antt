@@ -154,9 +154,11 @@ module _ (val : ℕ → ℕ) where
       let f = pairwise_after InOrder before after j o' in
       ap (λ js. run_before val j.cycle js w) e
       ∙ run_until j.cycle before (j ∷ after) w
-      (each_of (Done j.cycle) before (λ i m q. let r = each_member (λ (i : Job). InOrder i j) before i b m in r.after_effect q a))
-      ((λ q. let z : j.cycle ≤ j.cycle = omega arith in z), each_of (Later j.cycle) after
-          (λ i m q. let r = each_member (InOrder j) after i f m in r.before_effect a q))
+      (each_of (Done j.cycle) before (λ i m q. let r = each_member (λ (i : Job). InOrder i j) before i b m in r.after_effect q a)) (
+        (λ q. let z : j.cycle ≤ j.cycle = omega arith in z),
+        each_of (Later j.cycle) after
+            (λ i m q. let r = each_member (InOrder j) after i f m in r.before_effect a q),
+      )
 
   -- after the cycle of an effect it has been had too
   pub effect_done : (jobs before after : List Job) (j : Job) (w : World) → jobs ≡ before ++ j ∷ after → Pairwise InOrder jobs
@@ -170,11 +172,11 @@ module _ (val : ℕ → ℕ) where
       ∙ run_before_append (c + 1) before (j ∷ after) w
       ∙ ap (λ x. run_before val (c + 1) (j ∷ after) x) (run_done (c + 1) before w
       (each_of (Done (c + 1)) before (λ i m q. let r = each_member (λ (i : Job). InOrder i j) before i b m in let z =
-          r.after_effect q (effect_access j.instr.op a) in omega arith)))
+      r.after_effect q (effect_access j.instr.op a) in omega arith)))
       ∙ ap (run_before val (c + 1) after) (done_one (c + 1) j (run_jobs val before w) (λ q. omega arith))
       ∙ run_later (c + 1) after (after_job val j (run_jobs val before w))
       (each_of (Later (c + 1)) after (λ i m q. let r = each_member (InOrder j) after i f m in let z =
-          r.after_effect a (effect_access i.instr.op q) in omega arith))
+      r.after_effect a (effect_access i.instr.op q) in omega arith))
       ∙ ap (after_job val j) (sym (access_sees jobs before after j w e o (effect_access j.instr.op a)))
 
   -- a cycle without an effect
@@ -188,9 +190,9 @@ module _ (val : ℕ → ℕ) where
           (λ (lt : j.cycle < c). ap (λ (x : Bool). after_if x val j w) (lt_true j.cycle (c + 1) (omega arith) ∙ sym (lt_true j.cycle c lt)))
           (λ (le : c ≤ j.cycle). ⊎_elim
           (λ (e : j.cycle ≡ c). later_free (λ b. after_if b val j w) (nat_lt j.cycle (c + 1)) (nat_lt j.cycle c)
-              (idle_by j.instr.op j w (g e)))
+          (idle_by j.instr.op j w (g e)))
           (λ (n : j.cycle ≢ c). ap (λ (x : Bool). after_if x val j w)
-              (lt_false j.cycle (c + 1) (omega arith) ∙ sym (lt_false j.cycle c le))) (cases_eq j.cycle c))
+          (lt_false j.cycle (c + 1) (omega arith) ∙ sym (lt_false j.cycle c le))) (cases_eq j.cycle c))
           (cases_lt j.cycle c)
         where
           later_free : (f : Bool → World) (a b : Bool) → f true ≡ f false → f a ≡ f b
@@ -226,8 +228,11 @@ module _ (val : ℕ → ℕ) where
   world_called t (Some q) (reply ∷ rest) s is call e k r m =
       let same : q ≡ call = cc e in
       ap (λ x. let w : World = record { memory = set_words reply.changed x; calls = s.calls ++ record_of s q ∷ []; replies = rest } in w) m
-      ∙ ap (λ (x : Instr). let w : World = record { memory = set_words reply.changed s.memory; calls = s.calls ++ record_of s x ∷ [];
-          replies = rest } in w) same
+      ∙ ap (λ (x : Instr). let w : World = record {
+        memory = set_words reply.changed s.memory;
+        calls = s.calls ++ record_of s x ∷ [];
+        replies = rest;
+      } in w) same
 
   store_by : (op : Op) (j : Job) (w : World) → op ≡ Store → after_by op val j w ≡ record w
       { memory = set_word (address val j) (slice_index (map val j.reads) 1) w.memory }
@@ -264,7 +269,7 @@ module _ (val : ℕ → ℕ) where
     one_store = pairwise_map (λ i j. i.op ≡ Store → j.op ≡ Store → ⊥) (λ (j : Job). j.instr) js
         (pairwise_more (NotBoth writes_memory) (λ (i j : Job). i.instr.op ≡ Store → j.instr.op ≡ Store → ⊥) js
         (λ i j m n b p q. b (each_member (λ (a : Job). a.cycle ≡ c) js i same_cycle m
-            ∙ sym (each_member (λ (a : Job). a.cycle ≡ c) js j same_cycle n)) (ap writes_memory p) (ap writes_memory q)) one)
+        ∙ sym (each_member (λ (a : Job). a.cycle ≡ c) js j same_cycle n)) (ap writes_memory p) (ap writes_memory q)) one)
 
     -- the effects of the packet of cycle c
     pub world_next : (s : PacketState) (o : Option Instr) → the_call (instrs js) ≡ o → CanAnswer o s.replies → ReadRight s js
@@ -275,9 +280,9 @@ module _ (val : ℕ → ℕ) where
         let h = here j r.1 (ap is_access r.3) in
         let p = split_at jobs j h.0 in
         let no_store = each_map (λ (i : Instr). is_store i.op ≡ false) (λ (j : Job). j.instr) js
-            (each_of (λ (i : Job). is_store i.instr.op ≡ false) js (λ i m. not_store i.instr.op (λ q. apart i j m r.1 q r.3))) in
+        (each_of (λ (i : Job). is_store i.instr.op ≡ false) js (λ i m. not_store i.instr.op (λ q. apart i j m r.1 q r.3))) in
         let args = each_member (λ (j : Job). is_access j.instr.op ≡ true → map (reg_in s) j.instr.srcs ≡ map val j.reads) js j right r.1
-            (ap is_access r.3) in
+        (ap is_access r.3) in
         world_called t (Some call) s.replies s (instrs js) call refl can refl (memory_none s (instrs js) s.memory no_store)
         ∙ ap (λ (i : Instr). replied_world (record_of s i) (world_of s) s.replies) (sym r.2)
         ∙ ap (λ xs. replied_world (record { name = unwrap_or j.instr.label []; args = xs; memory = s.memory }) (world_of s) s.replies) args
@@ -302,9 +307,9 @@ module _ (val : ℕ → ℕ) where
             let n = member_map (λ (j : Job). j.instr) js j (all j m cj) in
             not_effect j.instr.op
             (λ p. let a = each_member (λ (i : Instr). is_store i.op ≡ false) (instrs js) j.instr none n in let z : true ≡ false =
-                sym (ap is_store p) ∙ a in absurd (cc z))
+            sym (ap is_store p) ∙ a in absurd (cc z))
             (λ p. let a = each_member (λ (i : Instr). is_call i.op ≡ false) (instrs js) j.instr no_call n in let z : true ≡ false =
-                sym (ap is_call p) ∙ a in absurd (cc z)))))
+            sym (ap is_call p) ∙ a in absurd (cc z)))))
         stored_or_not (Some i) q =
             let r = found (λ (i : Instr). is_store i.op) (instrs js) i q in
             let x = member_map_of (λ (j : Job). j.instr) js i r.0 in
@@ -313,11 +318,14 @@ module _ (val : ℕ → ℕ) where
             let h = here j x.1 (ap is_access op) in
             let p = split_at jobs j h.0 in
             let args = each_member (λ (j : Job). is_access j.instr.op ≡ true → map (reg_in s) j.instr.srcs ≡ map val j.reads) js j right x.1
-                (ap is_access op) in
+            (ap is_access op) in
             world_stored t None s.replies s (instrs js) _ refl (memory_one s (instrs js) s.memory j.instr
-                (member_map (λ (j : Job). j.instr) js j x.1) op one_store)
-            ∙ ap (λ xs. let w : World = record { memory = set_word (address_of (slice_index xs 0) j.instr.imm) (slice_index xs 1) s.memory;
-                calls = s.calls; replies = s.replies } in w) args
+            (member_map (λ (j : Job). j.instr) js j x.1) op one_store)
+            ∙ ap (λ xs. let w : World = record {
+              memory = set_word (address_of (slice_index xs 0) j.instr.imm) (slice_index xs 1) s.memory;
+              calls = s.calls;
+              replies = s.replies;
+            } in w) args
             ∙ sym (store_by j.instr.op j (world_of s) op)
             ∙ ap (after_job val j) now
             ∙ ap (λ n. after_job val j (run_before val n jobs w)) (sym h.1)

@@ -34,7 +34,7 @@ module _ (e : Ext) (o : Options) (values : List ℕ) (h : Solved e o values) whe
           block_there e o values k block at,
           packets_same m values g.block g.number g.first block
               ∙ ap (λ (b : ExtBlock). packets_from (jobs_of m values (block_placed g.block g.number g.first b)) 1
-                  (value_of values (var_at (g.first + ops_count b.ops)) - 1)) (sym z.owner),
+              (value_of values (var_at (g.first + ops_count b.ops)) - 1)) (sym z.owner),
         );
     label_at = λ k block at. let x = h.extended in let g = x.good in label_leads_to e o values g.distinct_labels k block at;
   }
@@ -51,14 +51,14 @@ module _ (e : Ext) (o : Options) (values : List ℕ) (h : Solved e o values) whe
         let r = region e o values h 0 entry.0 entry.1 in
         let run = enter_packets e.table (code_blocks (model_of e o) values) n 0 (first_state (frame_of (model_of e o) values) s) in
         let f = known_all e o values h (code_blocks (model_of e o) values) is_code (base e o values h entry.0 entry.1 r s can)
-            (base_even e o values h entry.0 entry.1 r s can) (base_room e o values h entry.0 entry.1 r s can) n 0 entry.0 entry.1
+        (base_even e o values h entry.0 entry.1 r s can) (base_room e o values h entry.0 entry.1 r s can) n 0 entry.0 entry.1
         (first_values e.table (entry.0).live_in s) (first_world s) (first_state (frame_of (model_of e o) values) s)
-            (at_first e o values h entry.0 entry.1 r s can) in
+        (at_first e o values h entry.0 entry.1 r s can) in
         let taken : first_values e.table (entry.0).live_in s ≡ first_taken e.table (slice_get e.blocks 0) s =
-            ap (λ (b : Option ExtBlock). first_taken e.table b s) (sym entry.1) in (
+        ap (λ (b : Option ExtBlock). first_taken e.table b s) (sym entry.1) in (
           subst (λ (l : LinearRun). RunsAlike e o values h (slice_index s.regs STACK) l run)
               (ap (λ vs. enter e.blocks n 0 vs (first_world s)) taken)
               (subst (λ top. RunsAlike e o values h top (enter e.blocks n 0 (first_values e.table (entry.0).live_in s) (first_world s)) run)
-                  (base_top e o values h entry.0 entry.1 r s can) f.0),
+              (base_top e o values h entry.0 entry.1 r s can) f.0),
           f.1,
         )

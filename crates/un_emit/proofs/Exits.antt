@@ -87,10 +87,10 @@ module _ (c : ℕ) (js : List Job) (same : Each (λ j. j.cycle ≡ c) js) (one :
   by_none e =
       let none = none_found (λ (j : Job). is_transfer j.instr.op) js e in
       let no : (i : Job) → Member i js → is_transfer i.instr.op ≡ true
-          → ⊥ = λ i m p. let k = each_member (λ (j : Job). is_transfer j.instr.op ≡ false) js i none m in let z : true ≡ false = sym p
-          ∙ k in absurd (cc z) in
+      → ⊥ = λ i m p. let k = each_member (λ (j : Job). is_transfer j.instr.op ≡ false) js i none m in let z : true ≡ false = sym p
+      ∙ k in absurd (cc z) in
       let r = found_none (λ (i : Instr). is_return i.op) js (λ i m. is_false (is_return i.instr.op)
-          (λ p. no i m (return_transfer i.instr.op p))) in
+      (λ p. no i m (return_transfer i.instr.op p))) in
       let j = found_none (jumps s) js (λ i m. is_false (jumps s i.instr) (λ p. no i m (jump_transfer i.instr.op s i.instr p))) in
       ap (λ (x : Option Instr). leads x s (instrs js) u) r ∙ ap (λ (x : Option Instr). goes_on x u) j
 
@@ -100,16 +100,16 @@ module _ (c : ℕ) (js : List Job) (same : Each (λ j. j.cycle ≡ c) js) (one :
   by_jump j m p q =
       let r = found_none (λ (i : Instr). is_return i.op) js (λ i n. is_false (is_return i.instr.op) (λ x.
       let e = alone j m p i n (return_transfer i.instr.op x) in let z : true ≡ false = sym x ∙ ap (λ (k : Job). is_return k.instr.op) e
-          ∙ q in absurd (cc z))) in
+      ∙ q in absurd (cc z))) in
       ap (λ (x : Option Instr). leads x s (instrs js) u) r ∙ ⊎_elim
       (λ (t : jumps s j.instr ≡ true).
       ap (λ (x : Option Instr). goes_on x u) (found_one (jumps s) js j m t
-          (λ i n x. alone j m p i n (jump_transfer i.instr.op s i.instr x)))
+      (λ i n x. alone j m p i n (jump_transfer i.instr.op s i.instr x)))
       ∙ sym (ap (λ (b : Bool). if b then Jumped (unwrap_or j.instr.label []) u else Went u) t))
       (λ (f : jumps s j.instr ≡ false).
       ap (λ (x : Option Instr). goes_on x u) (found_none (jumps s) js (λ i n. is_false (jumps s i.instr) (λ x.
       let e = alone j m p i n (jump_transfer i.instr.op s i.instr x) in let z : true ≡ false = sym x ∙ ap (λ (k : Job). jumps s k.instr) e
-          ∙ f in absurd (cc z))))
+      ∙ f in absurd (cc z))))
       ∙ sym (ap (λ (b : Bool). if b then Jumped (unwrap_or j.instr.label []) u else Went u) f))
       (false_or_true (jumps s j.instr))
 
@@ -118,7 +118,7 @@ module _ (c : ℕ) (js : List Job) (same : Each (λ j. j.cycle ≡ c) js) (one :
   by_return j m p =
       ap (λ (x : Option Instr). leads x s (instrs js) u)
       (found_one (λ (i : Instr). is_return i.op) js j m p (λ i n x. alone j m (return_transfer j.instr.op p) i n
-          (return_transfer i.instr.op x)))
+      (return_transfer i.instr.op x)))
 
   by_op : (op : Op) (j : Job) → Member j js → op ≡ j.instr.op → is_transfer op ≡ true
       → leads (the_return (instrs js)) s (instrs js) u ≡ exit_by op (v j) j.instr.label u
@@ -126,9 +126,9 @@ module _ (c : ℕ) (js : List Job) (same : Each (λ j. j.cycle ≡ c) js) (one :
       ∙ ap (λ (op : Op). if jumps_by op s j.instr then Jumped (unwrap_or j.instr.label []) u else Went u) (sym e)
   by_op JumpIf j m e h =
       by_jump j m (ap is_transfer (sym e)) (ap is_return (sym e))
-          ∙ ap (λ (op : Op). if jumps_by op s j.instr then Jumped (unwrap_or j.instr.label []) u else Went u) (sym e)
+      ∙ ap (λ (op : Op). if jumps_by op s j.instr then Jumped (unwrap_or j.instr.label []) u else Went u) (sym e)
       ∙ elim (nat_eq (v j) 0) as (λ b. (if not b then Jumped (unwrap_or j.instr.label []) u else Went u) ≡
-          (if b then Went u else Jumped (unwrap_or j.instr.label []) u)) [ true ↦ refl | false ↦ refl ]
+      (if b then Went u else Jumped (unwrap_or j.instr.label []) u)) [ true ↦ refl | false ↦ refl ]
   by_op JumpIfNot j m e h = by_jump j m (ap is_transfer (sym e)) (ap is_return (sym e))
       ∙ ap (λ (op : Op). if jumps_by op s j.instr then Jumped (unwrap_or j.instr.label []) u else Went u) (sym e)
   by_op Jumpr j m e h = by_return j m (ap is_return (sym e))

@@ -47,7 +47,7 @@ placed base n words lt even =
     let r : (base + 4 * n) % 4 ≡ 0 = omega arith in
     let c = eq-eqb ((base + 4 * n) % 4) 0 r in
     let all : (nat_le base (base + 4 * n) && nat_lt ((base + 4 * n - base) / 4) words && nat_eq ((base + 4 * n) % 4) 0) ≡ true =
-        rw (a, b, c) refl in
+    rw (a, b, c) refl in
     ap (λ (x : Bool). if x then Some ((base + 4 * n - base) / 4) else None) all ∙ ap Some q
 
 -- the frame of a run: its first address and its words
@@ -61,9 +61,9 @@ pub frame_place_is : (s : PacketState) (i : Instr) (base slots n : ℕ) → IsFr
 frame_place_is s i base slots n f stack start long lt e =
     let g = f.inside in
     let a : address_of (get_or s.regs STACK 0) i.imm ≡ base + 4 * n = ap (λ x. address_of x i.imm) stack ∙ ap (address_of base) e
-        ∙ near base (4 * n) (omega arith) in
+    ∙ near base (4 * n) (omega arith) in
     ap (λ x. place_at x s.frame_start (length s.frame)) a ∙ ap (λ x. place_at (base + 4 * n) x (length s.frame)) start
-        ∙ ap (place_at (base + 4 * n) base) long ∙ placed base n slots lt f.even
+    ∙ ap (place_at (base + 4 * n) base) long ∙ placed base n slots lt f.even
 
 -- ---- what stands at a place
 

@@ -90,7 +90,7 @@ module _ (t : Table) (T : Temps) (val : ℕ → ℕ) (stack : ℕ → ℕ) (base
   operands s j h k now r =
       let read = subst (λ n. Each (λ x. IsReadAt T x n) j.reads) now r.read in
       values_of_numbers s j.instr.srcs ∙ ap (map (slice_index s.regs)) r.srcs
-          ∙ values_of_places T val s j.reads (each_holds s j.reads h k read r.regs r.plain)
+      ∙ values_of_places T val s j.reads (each_holds s j.reads h k read r.regs r.plain)
 
   -- the operand of a copy of a register
   one_operand : (s : PacketState) (j : Job) (x : ℕ) → numbers j.instr.srcs ≡ T.place x ∷ []
@@ -109,7 +109,7 @@ module _ (t : Table) (T : Temps) (val : ℕ → ℕ) (stack : ℕ → ℕ) (base
   same_value j x y f o q =
       let g = q.given in
       ap (λ (k : Kind). as_held k (T.place y) (val x)) (sym q.kind)
-          ∙ ap (λ v. as_held (T.kind y) (T.place y) v) (sym (f.copied x y o q.reads g.gives))
+      ∙ ap (λ v. as_held (T.kind y) (T.place y) v) (sym (f.copied x y o q.reads g.gives))
 
   given_plain : (op : Op) (s : PacketState) (i : Instr) → moves_stack op ≡ false → given_by op s i ≡ value_of s i
   given_plain Enter s i h = absurd (cc h)
@@ -123,7 +123,7 @@ module _ (t : Table) (T : Temps) (val : ℕ → ℕ) (stack : ℕ → ℕ) (base
   p2r_value : (s : PacketState) (i : Instr) (v : ℕ) → i.op ≡ P2R → map (reg_in s) i.srcs ≡ v ∷ [] → v < 2 → given s i ≡ v * 255
   p2r_value s i v o e lt =
       ap (λ (op : Op). given_by op s i) o ∙ ap (λ (op : Op). value_by op s i) o ∙ ap (λ (op : Op). eval op (map (reg_in s) i.srcs) i.imm) o
-          ∙ ap (λ vs. eval P2R vs i.imm) e ∙ widened v lt
+      ∙ ap (λ vs. eval P2R vs i.imm) e ∙ widened v lt
     where
       widened : (n : ℕ) → n < 2 → (if nat_eq n 0 then 0 else 255) ≡ n * 255
       widened zero lt = refl
@@ -133,7 +133,7 @@ module _ (t : Table) (T : Temps) (val : ℕ → ℕ) (stack : ℕ → ℕ) (base
   r2p_value : (s : PacketState) (i : Instr) (v : ℕ) → i.op ≡ R2P → map (reg_in s) i.srcs ≡ v * 255 ∷ [] → v < 2 → given s i ≡ v
   r2p_value s i v o e lt =
       ap (λ (op : Op). given_by op s i) o ∙ ap (λ (op : Op). value_by op s i) o ∙ ap (λ (op : Op). eval op (map (reg_in s) i.srcs) i.imm) o
-          ∙ ap (λ vs. eval R2P vs i.imm) e ∙ narrowed v lt
+      ∙ ap (λ vs. eval R2P vs i.imm) e ∙ narrowed v lt
     where
       narrowed : (n : ℕ) → n < 2 → n * 255 % 2 ≡ n
       narrowed zero lt = refl
@@ -154,13 +154,13 @@ module _ (t : Table) (T : Temps) (val : ℕ → ℕ) (stack : ℕ → ℕ) (base
       → Holds T val stack base slots c s → j.cycle ≡ c + 1 → Flows val j
       → (uses_frame j.instr.op ≡ true → stack c ≡ base) → (j.instr.op ≡ Load → (y : ℕ) → j.gives ≡ Some y → val y ≡ value_of s j.instr)
       → Deed t T slots j → j.gives ≡ Some x → T.place x < 36 → (j.instr.op ≡ Call → ⊥)
-          → given s j.instr ≡ as_held (T.kind x) (T.place x) (val x)
+      → given s j.instr ≡ as_held (T.kind x) (T.place x) (val x)
   gives_value s j x h tr fr k now f st ld (computes y a n r g p) e lt nc =
       let q : y ≡ x = let z = g.given in cc (z.gives, e) in
       let op = alu_op j.instr.op a in
       subst (λ z. given s j.instr ≡ as_held (T.kind z) (T.place z) (val z)) q (
       given_plain j.instr.op s j.instr op.shifts ∙ op.value s j.instr ∙ ap (λ vs. eval j.instr.op vs j.instr.imm) (operands s j h k now r)
-          ∙ sym (f.computed y a n (let z = g.given in z.gives)) ∙ sym (p (val y)))
+      ∙ sym (f.computed y a n (let z = g.given in z.gives)) ∙ sym (p (val y)))
   gives_value s j x h tr fr k now f st ld (moves w y o q lx ly) e lt nc =
       let z = q.copies in let g = z.given in let same : y ≡ x = cc (g.gives, e) in
       subst (λ z. given s j.instr ≡ as_held (T.kind z) (T.place z) (val z)) same (
@@ -168,7 +168,7 @@ module _ (t : Table) (T : Temps) (val : ℕ → ℕ) (stack : ℕ → ℕ) (base
       ∙ held_alike (T.kind w) (T.place w) (T.place y) (val w) (inl lx) (inl ly) ∙ same_value j w y f (ap is_copy o) z)
   gives_value s j x h tr fr k now f st ld (spills w y o z sr d p q) e lt nc =
       let g = z.given in let same : y ≡ x = cc (g.gives, e) in let b = q.slot in let b' : 36 ≤ T.place x =
-          subst (λ n. 36 ≤ T.place n) same b in absurd (omega arith)
+      subst (λ n. 36 ≤ T.place n) same b in absurd (omega arith)
   gives_value s j x h tr fr k now f st ld (reloads w y o z sr d q ly) e lt nc =
       let g = z.given in let same : y ≡ x = cc (g.gives, e) in
       subst (λ z. given s j.instr ≡ as_held (T.kind z) (T.place z) (val z)) same (
@@ -179,25 +179,25 @@ module _ (t : Table) (T : Temps) (val : ℕ → ℕ) (stack : ℕ → ℕ) (base
       let z = q.copies in let g = z.given in let same : y ≡ x = cc (g.gives, e) in
       let r = subst (IsReadAt T w) now z.read in
       let v : get_or s.regs (T.place w) 0 ≡ val w = copied_from s j w y h k now z hi ∙ ap (λ (i : Kind). as_held i (T.place w) (val w)) kind
-          ∙ held_pred (T.place w) (val w) lo hi in
+      ∙ held_pred (T.place w) (val w) lo hi in
       let small : get_or s.regs (T.place w) 0 < 2 = let b = tr w r.active kind in omega arith in
       subst (λ z. given s j.instr ≡ as_held (T.kind z) (T.place z) (val z)) same (
       p2r_value s j.instr (get_or s.regs (T.place w) 0) o (one_operand s j w q.srcs) small ∙ ap (λ n. n * 255) v
       ∙ sym (held_wide (T.place y) (val w) (inl ly)) ∙ ap (λ (i : Kind). as_held i (T.place y) (val w)) (sym kind)
-          ∙ same_value j w y f (ap is_copy o) z)
+      ∙ same_value j w y f (ap is_copy o) z)
   gives_value s j x h tr fr k now f st ld (to_pred w y o q kind lw lo hi) e lt nc =
       let z = q.copies in let g = z.given in let same : y ≡ x = cc (g.gives, e) in
       let r = subst (IsReadAt T w) now z.read in
       let v : get_or s.regs (T.place w) 0 ≡ val w * 255 = copied_from s j w y h k now z (omega arith)
-          ∙ ap (λ (i : Kind). as_held i (T.place w) (val w)) kind ∙ held_wide (T.place w) (val w) (inl lw) in
+      ∙ ap (λ (i : Kind). as_held i (T.place w) (val w)) kind ∙ held_wide (T.place w) (val w) (inl lw) in
       subst (λ z. given s j.instr ≡ as_held (T.kind z) (T.place z) (val z)) same (
       r2p_value s j.instr (val w) o (one_operand s j w q.srcs ∙ ap (λ n. n ∷ []) v) (tr w r.active kind)
       ∙ sym (held_pred (T.place y) (val w) lo hi) ∙ ap (λ (i : Kind). as_held i (T.place y) (val w)) (sym kind)
-          ∙ same_value j w y f (ap is_copy o) z)
+      ∙ same_value j w y f (ap is_copy o) z)
   gives_value s j x h tr fr k now f st ld (loads y o r g p) e lt nc =
       let z = g.given in let q : y ≡ x = cc (z.gives, e) in
       subst (λ z. given s j.instr ≡ as_held (T.kind z) (T.place z) (val z)) q
-          (given_plain j.instr.op s j.instr (ap moves_stack o) ∙ sym (ld o y z.gives) ∙ sym (p (val y)))
+      (given_plain j.instr.op s j.instr (ap moves_stack o) ∙ sym (ld o y z.gives) ∙ sym (p (val y)))
   gives_value s j x h tr fr k now f st ld (stores o r g d) e lt nc = absurd (cc (g, e))
   gives_value s j x h tr fr k now f st ld (calls o r d g) e lt nc = absurd (nc o)
   gives_value s j x h tr fr k now f st ld (shifts o sr g) e lt nc = absurd (cc (g, e))
@@ -222,7 +222,7 @@ module _ (t : Table) (T : Temps) (val : ℕ → ℕ) (stack : ℕ → ℕ) (base
   writes_slot s j r fr k st (moves w y o q lx ly) e = absurd (no_slot s j.instr Mov r o refl e)
   writes_slot s j r fr k st (spills w y o z sr d p q) e =
       let g : Some (T.place y - 36) ≡ Some r = sym (slot_of_spill s j.instr (T.place y - 36) o (frame_at s j y fr k st (ap uses_frame o) q))
-          ∙ e in
+      ∙ e in
       let n : T.place y - 36 ≡ r = cc g in (o, (y, z.given, q.slot, n))
   writes_slot s j r fr k st (reloads w y o z sr d q ly) e = absurd (no_slot s j.instr Reload r o refl e)
   writes_slot s j r fr k st (from_pred w y o q kind lo hi ly) e = absurd (no_slot s j.instr P2R r o refl e)
@@ -238,7 +238,7 @@ module _ (t : Table) (T : Temps) (val : ℕ → ℕ) (stack : ℕ → ℕ) (base
   gives_slot : (s : PacketState) (j : Job) (x : ℕ) → AreTemps T slots → IsFrame base slots → Holds T val stack base slots c s
       → j.cycle ≡ c + 1 → Flows val j → (uses_frame j.instr.op ≡ true → stack c ≡ base)
       → Deed t T slots j → CallsFit t → 36 ≤ T.place x → T.place x - 36 < slots → j.gives ≡ Some x
-          → (slot s j.instr ≡ Some (T.place x - 36)) × (operand_in s j.instr 0 ≡ as_held (T.kind x) (T.place x) (val x))
+      → (slot s j.instr ≡ Some (T.place x - 36)) × (operand_in s j.instr 0 ≡ as_held (T.kind x) (T.place x) (val x))
   gives_slot s j x h fr k now f st (computes y a n q g p) fit le lt e = let z = g.given in let same : y ≡ x = cc (z.gives, e) in let b =
       g.reg in let b' : T.place x < 36 = subst (λ n. T.place n < 36) same b in absurd (omega arith)
   gives_slot s j x h fr k now f st (moves w y o q lx ly) fit le lt e = let z = q.copies in let g = z.given in let same : y ≡ x =
@@ -289,7 +289,7 @@ module _ (t : Table) (T : Temps) (val : ℕ → ℕ) (stack : ℕ → ℕ) (base
     apart_slots = pairwise_map (λ i j. (r : ℕ) → slot s i ≡ Some r → slot s j ≢ Some r) (λ (j : Job). j.instr) js
         (pairwise_more (NotBoth writes_memory) (λ (i j : Job). (r : ℕ) → slot s i.instr ≡ Some r → slot s j.instr ≢ Some r) js
         (λ i j m n b r p q. let x = slot_of i r m p in let y = slot_of j r n q in
-            b (now_at i m ∙ sym (now_at j n)) (ap writes_memory x.0) (ap writes_memory y.0)) w.one_write)
+        b (now_at i m ∙ sym (now_at j n)) (ap writes_memory x.0) (ap writes_memory y.0)) w.one_write)
 
     -- no job writes the slot of a temporary that stands from before
     slot_unwritten : (x : ℕ) → Stands T x (c + 1) → T.from x ≤ c → 36 ≤ T.place x → Each (λ i. slot s i ≢ Some (T.place x - 36)) (instrs js)
@@ -359,7 +359,7 @@ module _ (t : Table) (T : Temps) (val : ℕ → ℕ) (stack : ℕ → ℕ) (base
             let g = r.3 in
             let z = call_result r.0 x (deed r.0 r.1) r.2 g.gives in
             let v = each_member (λ (j : Job). j.instr.op ≡ Call → (y : ℕ) → j.gives ≡ Some y → val y ≡ first_result s.replies) js r.0
-                f.replied r.1 r.2 x g.gives in
+            f.replied r.1 r.2 x g.gives in
             reg_result t o s.replies s (instrs js) (T.place x) can (long x lt) q z.0 ∙ sym v ∙ sym (z.1 (val x))
 
         from_before : (x : ℕ) → Stands T x (c + 1) → (lt : T.place x < 36) → clobbered_by t o (T.place x) ≡ false → T.from x < c + 1
@@ -377,22 +377,23 @@ module _ (t : Table) (T : Temps) (val : ℕ → ℕ) (stack : ℕ → ℕ) (base
             let z = call_result r.0 x (deed r.0 r.1) p r.2 in
             let a = has_call js r.0 o r.1 p e in
             let y : true ≡ false = sym (clobbers_when t o a.0 (T.place x) a.1 (ap (in_mask t.clobbered) z.0 ∙ fit.result))
-                ∙ q in absurd (cc y) in
+            ∙ q in absurd (cc y) in
             reg_written t o s.replies s (instrs js) r.0.instr (T.place x) can (long x lt) q (apart_targets t T slots (c + 1) js h w)
-                (member_map (λ (j : Job). j.instr) js r.0 r.1)
+            (member_map (λ (j : Job). j.instr) js r.0 r.1)
             (lands_written t T slots (c + 1) js o r.0 x fit w e r.1 r.2 lt q)
             ∙ gives_value s r.0 x h tr fr k (now_at r.0 r.1) (each_member (Flows val) js r.0 f.flows r.1) (framed_at r.0 r.1)
             (each_member (λ (j : Job). j.instr.op ≡ Load → (y : ℕ) → j.gives ≡ Some y → val y ≡ value_of s j.instr) js r.0 f.loaded r.1)
-                (deed r.0 r.1) r.2 lt no_call
+            (deed r.0 r.1) r.2 lt no_call
 
         in_reg : (x : ℕ) → Stands T x (c + 1) → (lt : T.place x < 36)
             → get_or (settled t o s.replies s (instrs js)).regs (T.place x) 0 ≡ as_held (T.kind x) (T.place x) (val x)
         in_reg x st lt = elim (clobbered_by t o (T.place x)) as (λ b. clobbered_by t o (T.place x) ≡ b
             → get_or (settled t o s.replies s (instrs js)).regs (T.place x) 0 ≡ as_held (T.kind x) (T.place x) (val x)) [
-          | true ↦ λ q. by_call x st lt q
-          | false ↦ λ q. ⊎_elim (λ (old : T.from x < c + 1). from_before x st lt q old) (λ (new : c + 1 ≤ T.from x). from_now x st lt q new)
-              (cases_lt (T.from x) (c + 1))
-        ] refl
+              | true ↦ λ q. by_call x st lt q
+              | false ↦ λ q. ⊎_elim (λ (old : T.from x < c + 1). from_before x st lt q old)
+                  (λ (new : c + 1 ≤ T.from x). from_now x st lt q new)
+                  (cases_lt (T.from x) (c + 1))
+            ] refl
 
         slot_before : (x : ℕ) → Stands T x (c + 1) → (le : 36 ≤ T.place x) → T.from x < c + 1
             → get_or (settled t o s.replies s (instrs js)).frame (T.place x - 36) 0 ≡ as_held (T.kind x) (T.place x) (val x)
@@ -410,10 +411,10 @@ module _ (t : Table) (T : Temps) (val : ℕ → ℕ) (stack : ℕ → ℕ) (base
             let small : T.place x - 36 < slots = omega arith in
             let r = w.giver x st.active (omega arith) in
             let z = gives_slot s r.0 x h fr k (now_at r.0 r.1) (each_member (Flows val) js r.0 f.flows r.1) (framed_at r.0 r.1)
-                (deed r.0 r.1) fit le small r.2 in
+            (deed r.0 r.1) fit le small r.2 in
             ap (λ xs. get_or xs (T.place x - 36) 0) frames
             ∙ puts_own (slot s) (λ i. operand_in s i 0) (instrs js) s.frame r.0.instr (T.place x - 36) apart_slots
-                (member_map (λ (j : Job). j.instr) js r.0 r.1) z.0 (omega arith) ∙ z.1
+            (member_map (λ (j : Job). j.instr) js r.0 r.1) z.0 (omega arith) ∙ z.1
 
         in_slot : (x : ℕ) → Stands T x (c + 1) → (le : 36 ≤ T.place x)
             → get_or (settled t o s.replies s (instrs js)).frame (T.place x - 36) 0 ≡ as_held (T.kind x) (T.place x) (val x)
@@ -433,18 +434,18 @@ module _ (t : Table) (T : Temps) (val : ℕ → ℕ) (stack : ℕ → ℕ) (base
             let g = f.stacks in
             reg_kept t o s.replies s (instrs js) STACK can stack_in free (stack_unwritten t T slots (c + 1) js h w none) ∙ k.stack_is
             ∙ sym (g.kept (each_of (λ (j : Job). moves_stack j.instr.op ≡ false) js
-                (λ j m. each_member (λ (i : Instr). moves_stack i.op ≡ false) (instrs js) j.instr none
-                (member_map (λ (j : Job). j.instr) js j m))))
+            (λ j m. each_member (λ (i : Instr). moves_stack i.op ≡ false) (instrs js) j.instr none
+            (member_map (λ (j : Job). j.instr) js j m))))
         shift_or_not (Some i) q =
             let r = found (λ (i : Instr). moves_stack i.op) (instrs js) i q in
             let j = member_map_of (λ (j : Job). j.instr) js i r.0 in
             let op : moves_stack j.0.instr.op ≡ true = ap (λ (i : Instr). moves_stack i.op) j.2 ∙ r.1 in
             let g = f.stacks in
             reg_written t o s.replies s (instrs js) i STACK can stack_in free (apart_targets t T slots (c + 1) js h w) r.0
-                ((shift_op i.op r.1).target i)
+            ((shift_op i.op r.1).target i)
             ∙ shifted i.op i r.1 ∙ ap (λ (x : ℕ). address_of x i.imm) k.stack_is ∙ ap (λ (x : Instr). address_of (stack c) x.imm) (sym j.2)
             ∙ sym (each_member (λ (j : Job). moves_stack j.instr.op ≡ true → stack (c + 1) ≡ address_of (stack c) j.instr.imm) js j.0
-                g.moved j.1 op)
+            g.moved j.1 op)
           where
             shifted : (op : Op) (i : Instr) → moves_stack op ≡ true → given_by op s i ≡ address_of (get_or s.regs STACK 0) i.imm
             shifted Enter i h = refl

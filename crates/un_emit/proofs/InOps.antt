@@ -58,7 +58,7 @@ module _ (e : Ext) (o : Options) (values : List ℕ) (h : Solved e o values) (k 
       let g = placed_good e o values h p (of_all e o values h k block r p i.member).0 in
       let f = g.keeps in
       ap length i.results ∙ f.results ∙ ap (result_count e.table p.owner) i.kind
-          ∙ ap (λ (b : ExtBlock). length b.live_in + length (saved_registers e.table)) (owner_of e o values h k block r at p i.member)
+      ∙ ap (λ (b : ExtBlock). length b.live_in + length (saved_registers e.table)) (owner_of e o values h k block r at p i.member)
 
   pub start_kind : (j : ℕ) (x : TempId) → slice_get (in_temps block.ops) j ≡ Some x
       → kind_at e o values (numbered e o values h) (fit_kinds e o values h) x.0 ≡ kind_or
@@ -70,7 +70,7 @@ module _ (e : Ext) (o : Options) (values : List ℕ) (h : Solved e o values) (k 
       let got : slice_get p.op.results j ≡ Some x = ap (λ xs. slice_get xs j) (sym i.results) ∙ q in
       let u = spot p j x in
       let mu = member_joined (map spots_of (all e o values)) (spots_of p) u (member_map spots_of (all e o values) p m)
-          (member_places (spot p) p.op.results 0 j j x (omega arith) got) in
+      (member_places (spot p) p.op.results 0 j j x (omega arith) got) in
       own_kind e o values (numbered e o values h) (fit_kinds e o values h) u mu (ap (λ (y : ExtKind). carried_at y u) i.kind)
       ∙ ap (λ (y : ExtKind). kind_or (defined_kinds e.names p.owner y p.op) j) i.kind
       ∙ ap (λ (b : ExtBlock). kind_or (in_kinds e.names b.live_in (length p.op.results)) j) (owner_of e o values h k block r at p i.member)

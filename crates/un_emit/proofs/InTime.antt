@@ -44,7 +44,7 @@ pub issues : (t : Table) (T : Temps) (slots k c : ℕ) (js : List Job) (s : Pack
     → InTime T k c s → issue_cycle s (instrs js) ≡ s.cycle + 1
 issues t T slots k c js s h w i =
     issues_next s (instrs js) (each_map (λ (i : Instr). Each (λ r. slice_index s.ready r ≤ s.cycle + 1) (reads_of i)) (λ (j : Job). j.instr)
-        js (each_of (λ (j : Job). Each (λ r. slice_index s.ready r ≤ s.cycle + 1) (reads_of j.instr)) js one))
+    js (each_of (λ (j : Job). Each (λ r. slice_index s.ready r ≤ s.cycle + 1) (reads_of j.instr)) js one))
   where
     one : (j : Job) → Member j js → Each (λ r. slice_index s.ready r ≤ s.cycle + 1) (reads_of j.instr)
     one j m =
@@ -140,10 +140,10 @@ in_time_next t T slots k c js o s fit calls h w e can i = record {
   long = length-settled_ready t o s.replies s is can ∙ i.long;
   ready = λ x st lt. elim (clobbered_by t o (T.place x)) as (λ b. clobbered_by t o (T.place x) ≡ b
       → get_or (settled t o s.replies s is).ready (T.place x) 0 ≤ k + (T.from x + T.lat x)) [
-    | true ↦ λ q. by_call x st lt q
-    | false ↦ λ q. ⊎_elim (λ (old : T.from x < c + 1). from_before x st lt q old) (λ (new : c + 1 ≤ T.from x). from_now x st lt q new)
-        (cases_lt (T.from x) (c + 1))
-  ] refl;
+        | true ↦ λ q. by_call x st lt q
+        | false ↦ λ q. ⊎_elim (λ (old : T.from x < c + 1). from_before x st lt q old) (λ (new : c + 1 ≤ T.from x). from_now x st lt q new)
+            (cases_lt (T.from x) (c + 1))
+      ] refl;
   stack = stack_ready;
 }
   where
@@ -175,7 +175,7 @@ in_time_next t T slots k c js o s fit calls h w e can i = record {
     shift_or_not (Some q) f =
         let r = found (λ (i : Instr). moves_stack i.op) is q f in
         let z = ready_written t o s.replies s is q STACK can stack_in free (apart_targets t T slots (c + 1) js h w) r.0
-            ((shift_op q.op r.1).target q) in
+        ((shift_op q.op r.1).target q) in
         let y = shift_latency t q.op fit r.1 in
         let n = now in let m = later in
         omega arith
@@ -210,7 +210,7 @@ in_time_next t T slots k c js o s fit calls h w e can i = record {
         let lat = g.lat in
         let written = lands_written t T slots (c + 1) js o r.0 x calls w e r.1 r.2 lt q in
         let z = ready_written t o s.replies s is r.0.instr (T.place x) can (long x lt) q (apart_targets t T slots (c + 1) js h w)
-            (member_map (λ (j : Job). j.instr) js r.0 r.1) written in
+        (member_map (λ (j : Job). j.instr) js r.0 r.1) written in
         let n = now in let m = later in
         omega arith
 

@@ -76,18 +76,18 @@ in_general r h = ⊎_elim (λ (lt : r < 32). lt) (λ (le : 32 ≤ r). absurd (ou
 pub in_predicates : (r : ℕ) → space_of r ≡ P → (32 ≤ r) × (r < 36)
 in_predicates r h = ⊎_elim
     (λ (lt : r < 32). let a : nat_lt r 32 ≡ true = grind (arith, nat_tests) in let k : R ≡ P =
-        sym (ap (λ (b : Bool). if b then R else if nat_lt r 36 then P else M) a) ∙ h in absurd (cc k))
+    sym (ap (λ (b : Bool). if b then R else if nat_lt r 36 then P else M) a) ∙ h in absurd (cc k))
     (λ (le : 32 ≤ r). ⊎_elim (λ (lt : r < 36). (le, lt)) (λ (ge : 36 ≤ r).
     let a : nat_lt r 32 ≡ false = grind (arith, nat_tests) in
     let b : nat_lt r 36 ≡ false = grind (arith, nat_tests) in
     let k : M ≡ P = sym (ap (λ (b : Bool). if b then R else if nat_lt r 36 then P else M) a ∙ ap (λ (b : Bool). if b then P else M) b)
-        ∙ h in absurd (cc k)) (cases_lt r 36))
+    ∙ h in absurd (cc k)) (cases_lt r 36))
     (cases_lt r 32)
 
 pub in_frame : (r : ℕ) → space_of r ≡ M → 36 ≤ r
 in_frame r h = ⊎_elim
     (λ (lt : r < 36). absurd (out (nat_lt r 32) (let b : nat_lt r 36 ≡ true = grind (arith, nat_tests) in
-        sym (ap (λ (b : Bool). if nat_lt r 32 then R else if b then P else M) b) ∙ h)))
+    sym (ap (λ (b : Bool). if nat_lt r 32 then R else if b then P else M) b) ∙ h)))
     (λ (ge : 36 ≤ r). ge) (cases_lt r 36)
   where
     out : (b : Bool) → (if b then R else P) ≡ M → ⊥
@@ -101,8 +101,11 @@ space_for Pred = P
 -- a value in the space of its kind stands as itself
 pub plain_in : (T : Temps) (x : ℕ) (k : Kind) → T.kind x ≡ k → space_of (T.place x) ≡ space_for k → (T.place x < 36) × IsPlain T x
 plain_in T x General e s = let lt = in_general (T.place x) s in (omega arith, λ v. ap (λ (k : Kind). as_held k (T.place x) v) e)
-plain_in T x Pred e s = let r = in_predicates (T.place x) s in (r.1, λ v. ap (λ (k : Kind). as_held k (T.place x) v) e
-    ∙ held_pred (T.place x) v r.0 r.1)
+plain_in T x Pred e s = let r = in_predicates (T.place x) s in (
+  r.1,
+  λ v. ap (λ (k : Kind). as_held k (T.place x) v) e
+      ∙ held_pred (T.place x) v r.0 r.1,
+)
 
 via_kinds : (ks : List Kind) (j : ℕ) (k : Kind) → slice_get ks j ≡ Some k → slice_get (map space_for ks) j ≡ Some (space_for k)
 via_kinds ks j k e = slice_get-map space_for ks j ∙ ap (option_map space_for) e
@@ -233,7 +236,7 @@ module _ (e : Ext) (o : Options) (values : List ℕ) (h : Solved e o values) whe
     read_space j x want op s r i q =
         let k = ap (λ (y : TempId). y.0) r.is in
         let f = subst (λ (z : Option Space). InSpace (range_at e o values r.spot.temp.0).reg z)
-            (ap (λ (z : Option Op). space_read z j) i ∙ q) r.space in
+        (ap (λ (z : Option Op). space_read z j) i ∙ q) r.space in
         subst (λ n. space_of (range_at e o values n).reg ≡ s) k f
 
     pub read_kind : (j : ℕ) (x : Operand) (want : Want) → Reading e o values h p j x want
@@ -254,13 +257,15 @@ module _ (e : Ext) (o : Options) (values : List ℕ) (h : Solved e o values) whe
         let here : OperandFacts p k x = subst (λ n. OperandFacts p n x) (omega arith) g in
         ap (λ r. r ∷ numbers (places_from reg_of (k + 1) xs)) here.register
         ∙ ap (λ rs. (range_at e o values (temp_of k x)).reg ∷ rs)
-            (same_numbers xs (k + 1) (λ j y q. subst (λ n. OperandFacts p n y) (omega arith) (f (suc j) y q)))
+        (same_numbers xs (k + 1) (λ j y q. subst (λ n. OperandFacts p n y) (omega arith) (f (suc j) y q)))
 
     each_temp : (Q : ℕ → Type 0) (xs : List Operand) (k : ℕ) → ((j : ℕ) (x : Operand) → slice_get xs j ≡ Some x → Q (temp_of (k + j) x))
         → Each Q (places_from temp_of k xs)
     each_temp Q [] k f = tt
-    each_temp Q (x ∷ xs) k f = (subst (λ n. Q (temp_of n x)) (omega arith) (f 0 x refl),
-        each_temp Q xs (k + 1) (λ j y q. subst (λ n. Q (temp_of n y)) (omega arith) (f (suc j) y q)))
+    each_temp Q (x ∷ xs) k f = (
+      subst (λ n. Q (temp_of n x)) (omega arith) (f 0 x refl),
+      each_temp Q xs (k + 1) (λ j y q. subst (λ n. Q (temp_of n y)) (omega arith) (f (suc j) y q)),
+    )
 
     -- all operands, where each is of a kind and in its space
     abbrev pub Fitting : Type 0
@@ -271,7 +276,7 @@ module _ (e : Ext) (o : Options) (values : List ℕ) (h : Solved e o values) whe
         → ReadsAll (temps_of p.block) (job_with values p i)
     reads_all i s f =
         let at : (n j : ℕ) (x : Operand) → n ≡ j → OperandFacts p j x
-            → OperandFacts p n x = λ n j x q g. subst (λ m. OperandFacts p m x) (sym q) g in
+        → OperandFacts p n x = λ n j x q g. subst (λ m. OperandFacts p m x) (sym q) g in
         record {
           srcs = ap numbers s ∙ same_numbers p.op.operands 0 (λ j x q. let r = f j x q in
               at (0 + j) j x (omega arith) (operand_facts j x r.0 r.1));
@@ -286,7 +291,7 @@ module _ (e : Ext) (o : Options) (values : List ℕ) (h : Solved e o values) whe
     -- each operand in the space of the kind that is wanted
     fit_by : (op : Op) → (issue_at values p).active ≡ true → (issue_at values p).instr ≡ Some op
         → ((j : ℕ) (want : Want) → slice_get (wants_of e.table e.names e.blocks p.owner p.op.kind p.op) j ≡ Some want
-            → operand_space_in op j ≡ Some (space_for want.kind)) → Fitting
+        → operand_space_in op j ≡ Some (space_for want.kind)) → Fitting
     fit_by op act i f j x q =
         let r = reading e o values h p j x m act q in
         let want = r.0 in
@@ -375,8 +380,8 @@ module _ (e : Ext) (o : Options) (values : List ℕ) (h : Solved e o values) whe
         → (so.op ≡ Call → ⊥) → Fitting
     source_fits so k act ins n = fit_by so.op act ins (λ j want q.
         let w : slice_get (map anywhere (operand_kinds so.op)) j ≡ Some want =
-            ap (λ ws. slice_get ws j) (sym (ap (λ (x : ExtKind). wants_of e.table e.names e.blocks p.owner x p.op) k
-            ∙ wants_plain so so.op n)) ∙ q in
+        ap (λ ws. slice_get ws j) (sym (ap (λ (x : ExtKind). wants_of e.table e.names e.blocks p.owner x p.op) k
+        ∙ wants_plain so so.op n)) ∙ q in
         let r = get_mapped anywhere (operand_kinds so.op) j want w in
         source_space so.op j r.0 r.1 ∙ ap (λ (x : Want). Some (space_for x.kind)) r.2)
 
@@ -384,8 +389,8 @@ module _ (e : Ext) (o : Options) (values : List ℕ) (h : Solved e o values) whe
         → so.op ≡ Call → Fitting
     call_fits so k act ins c = fit_by so.op act ins (λ j want q.
         let w : slice_get (map word_in (take (length so.srcs) (e.table).args)) j ≡ Some want =
-            ap (λ ws. slice_get ws j) (sym (ap (λ (x : ExtKind). wants_of e.table e.names e.blocks p.owner x p.op) k
-            ∙ ap (wants_of_op e.table so) c)) ∙ q in
+        ap (λ ws. slice_get ws j) (sym (ap (λ (x : ExtKind). wants_of e.table e.names e.blocks p.owner x p.op) k
+        ∙ ap (wants_of_op e.table so) c)) ∙ q in
         let r = get_mapped word_in (take (length so.srcs) (e.table).args) j want w in
         ap (λ (op : Op). operand_space_in op j) c ∙ ap (λ (x : Want). Some (space_for x.kind)) r.2)
 
@@ -393,9 +398,9 @@ module _ (e : Ext) (o : Options) (values : List ℕ) (h : Solved e o values) whe
         → (let T = temps_of p.block in T.kind y.0) ≡ result_kind so.op
     source_kind so y k q =
         own_kind e o values (numbered e o values h) (fit_kinds e o values h) (spot p 0 y) (result_spot y q)
-            (ap (λ (x : ExtKind). carried_at x (spot p 0 y)) k)
+        (ap (λ (x : ExtKind). carried_at x (spot p 0 y)) k)
         ∙ ap (λ (x : ExtKind). kind_or (defined_kinds e.names p.owner x p.op) 0) k
-            ∙ ap (λ ys. kind_or (map (λ (y : TempId). result_kind so.op) ys) 0) q
+        ∙ ap (λ ys. kind_or (map (λ (y : TempId). result_kind so.op) ys) 0) q
 
     pub has_result : (op : Op) (d : Option NameId) → HasItsResult op d → (op ≡ Store → ⊥) → (op ≡ Call → ⊥) → length (option_to_list d) ≡ 1
     has_result Store d r s c = absurd (s refl)
@@ -422,11 +427,11 @@ module _ (e : Ext) (o : Options) (values : List ℕ) (h : Solved e o values) whe
         let ie = in_entry e o values p in
         let d = register_sits e o values ie p 0 y (placed_domains e o values h p m) (ap (λ ys. slice_get ys 0) q) in
         let f : result_domain e o ie p.owner p.op 0 y ≡ Set ((e.table).result ∷ []) =
-            ap (λ (x : ExtKind). register_domain e o ie p.owner x 0 y (value_carried p.op y)) k
-            ∙ ap (λ (op : Op). source_domain e o ie p.owner op y) c in
+        ap (λ (x : ExtKind). register_domain e o ie p.owner x 0 y (value_carried p.op y)) k
+        ∙ ap (λ (op : Op). source_domain e o ie p.owner op y) c in
         let c = subst (InDomain (slice_index values (p.first + register_place p.op + 0))) f d in
         ap (λ (v : LiveRange). v.reg) (result_range y q) ∙ only (contains_member ((e.table).result ∷ [])
-            (slice_index values (p.first + register_place p.op + 0)) c)
+        (slice_index values (p.first + register_place p.op + 0)) c)
       where
         only : {a b : ℕ} → Member a (b ∷ []) → a ≡ b
         only (inl e) = sym e
@@ -481,14 +486,14 @@ module _ (e : Ext) (o : Options) (values : List ℕ) (h : Solved e o values) whe
                 let no_call : so.op ≡ Call → ⊥ = λ c. let z : Mov ≡ Call = sym q ∙ c in absurd (cc z) in
                 let ks = keeps in
                 let wanted : wants_of e.table e.names e.blocks p.owner p.op.kind p.op ≡ anywhere General ∷ [] =
-                    ap (λ (x : ExtKind). wants_of e.table e.names e.blocks p.owner x p.op) k ∙ ap (wants_of_op e.table so) q in
+                ap (λ (x : ExtKind). wants_of e.table e.names e.blocks p.owner x p.op) k ∙ ap (wants_of_op e.table so) q in
                 let one = one_zip (IsGoodOperand e.names e.blocks (let g = placed_good e o values h p m in g.before)) p.op.operands
-                    (anywhere General) (subst (AllZip (IsGoodOperand e.names e.blocks (let g = placed_good e o values h p m in g.before))
-                    p.op.operands) wanted ks.operands) in
+                (anywhere General) (subst (AllZip (IsGoodOperand e.names e.blocks (let g = placed_good e o values h p m in g.before))
+                p.op.operands) wanted ks.operands) in
                 let x = one.0 in
                 let rd = reading e o values h p 0 x m act (ap (λ xs. slice_get xs 0) one.1) in
                 let want_is : rd.0 ≡ anywhere General = let z : Some rd.0 ≡ Some (anywhere General) = sym rd.1
-                    ∙ ap (λ ws. slice_get ws 0) wanted in cc z in
+                ∙ ap (λ ws. slice_get ws 0) wanted in cc z in
                 let of = operand_facts 0 x rd.0 rd.2 in
                 let sp = read_space 0 x rd.0 Mov R rd.2 (ins ∙ ap Some q) refl in
                 let place_y = result_space y Mov R ry (ins ∙ ap Some q) refl in
@@ -506,8 +511,8 @@ module _ (e : Ext) (o : Options) (values : List ℕ) (h : Solved e o values) whe
             go : (c : Bool) → is_copy so.op ≡ c → is_alu so.op ≡ true → is_source so.op ≡ true → (so.op ≡ Call → ⊥) → (y : TempId)
                 → p.op.results ≡ y ∷ [] → (let T = temps_of p.block in T.place y.0 < 36) → IsPlain (temps_of p.block) y.0
                 → ReadsAll (temps_of p.block) (job_with values p (plain_instr so so.op))
-                    → GivesReg e.table (temps_of p.block) (job_with values p (plain_instr so so.op)) y.0
-                    → Deed e.table (temps_of p.block) slots (job_with values p (plain_instr so so.op))
+                → GivesReg e.table (temps_of p.block) (job_with values p (plain_instr so so.op)) y.0
+                → Deed e.table (temps_of p.block) slots (job_with values p (plain_instr so so.op))
             go true f a s n y ry lt pl every g = moving (copy_mov so.op f s) y ry g
             go false f a s n y ry lt pl every g = computes y.0 a f every g pl
 
@@ -517,17 +522,17 @@ module _ (e : Ext) (o : Options) (values : List ℕ) (h : Solved e o values) whe
             let no_call : so.op ≡ Call → ⊥ = λ c. let z : Load ≡ Call = sym q ∙ c in absurd (cc z) in
             let r = has (λ c. let z : Load ≡ Store = sym q ∙ c in absurd (cc z)) no_call in
             let f : result_space_in so.op ≡ Some (space_for (result_kind so.op)) = ap result_space_in q
-                ∙ sym (ap (λ (op : Op). Some (space_for (result_kind op))) q) in
+            ∙ sym (ap (λ (op : Op). Some (space_for (result_kind op))) q) in
             let pl = result_plain so r.0 k r.1 ins f in
             as_plain no_call (loads (r.0).0 q (reads_all (plain_instr so so.op) refl (source_fits so k act ins no_call))
-                (gives_reg r.0 so R r.1 act ins pl.0) pl.1)
+            (gives_reg r.0 so R r.1 act ins pl.0) pl.1)
         by_class (store q) =
             let no_call : so.op ≡ Call → ⊥ = λ c. let z : Store ≡ Call = sym q ∙ c in absurd (cc z) in
             let none : so.dst ≡ None = let g = good_op in subst (λ (op : Op). HasItsResult op so.dst) q g.result in
             let empty : p.op.results ≡ [] = nothing p.op.results (counted ∙ ap (λ (d : Option NameId). length (option_to_list d)) none) in
             as_plain no_call (stores q (reads_all (plain_instr so so.op) refl (source_fits so k act ins no_call))
-                (ap (λ ys. option_map (λ (x : TempId). x.0) (slice_get ys 0)) empty)
-                (ap (λ ys. option_map (temp_register (model_of e o) values) (slice_get ys 0)) empty))
+            (ap (λ ys. option_map (λ (x : TempId). x.0) (slice_get ys 0)) empty)
+            (ap (λ ys. option_map (temp_register (model_of e o) values) (slice_get ys 0)) empty))
           where
             nothing : (ys : List TempId) → length ys ≡ 0 → ys ≡ []
             nothing [] l = refl
@@ -544,8 +549,12 @@ module _ (e : Ext) (o : Options) (values : List ℕ) (h : Solved e o values) whe
             result (y ∷ []) r =
                 let place : (range_at e o values y.0).reg ≡ (e.table).result = call_place so y k q r in
                 let kind = source_kind so y k r ∙ ap result_kind q in
-                inr (y.0, gives y (record { op = Call; dst = None; srcs = srcs; imm = so.imm; label = so.callee }) so.op r act ins (sym q),
-                    place, λ v. ap (λ (k : Kind). as_held k (let T = temps_of p.block in T.place y.0) v) kind)
+                inr (
+                  y.0,
+                  gives y (record { op = Call; dst = None; srcs = srcs; imm = so.imm; label = so.callee }) so.op r act ins (sym q),
+                  place,
+                  λ v. ap (λ (k : Kind). as_held k (let T = temps_of p.block in T.place y.0) v) kind,
+                )
             result (y ∷ z ∷ ys) r = absurd (too_many so.dst (counted ∙ refl) (ap length r))
               where
                 too_many : (d : Option NameId) → length p.op.results ≡ length (option_to_list d)
@@ -584,8 +593,8 @@ module _ (e : Ext) (o : Options) (values : List ℕ) (h : Solved e o values) whe
         let ks = keeps in
         leaves (transfer_op term op q)
         (reads_all (term_instr e.blocks term op srcs) refl (fit_by op act ins
-            (λ j want w. end_space term op j want q (ap (λ ws. slice_get ws j)
-            (sym (ap (λ (x : ExtKind). wants_of e.table e.names e.blocks p.owner x p.op) k)) ∙ w))))
+        (λ j want w. end_space term op j want q (ap (λ ws. slice_get ws j)
+        (sym (ap (λ (x : ExtKind). wants_of e.table e.names e.blocks p.owner x p.op) k)) ∙ w))))
         refl (no_result (ks.results ∙ ap (result_count e.table p.owner) k))
 
     -- ---- Enter and Leave
@@ -640,10 +649,10 @@ module _ (e : Ext) (o : Options) (values : List ℕ) (h : Solved e o values) whe
         let ks = keeps in
         let w = anywhere (unwrap_or (kind_of_temp e.names e.blocks (first_read p.op.operands)) General) in
         let wanted : wants_of e.table e.names e.blocks p.owner p.op.kind p.op ≡ w ∷ [] =
-            ap (λ (x : ExtKind). wants_of e.table e.names e.blocks p.owner x p.op) k in
+        ap (λ (x : ExtKind). wants_of e.table e.names e.blocks p.owner x p.op) k in
         let one = one_zip (IsGoodOperand e.names e.blocks (let g = placed_good e o values h p m in g.before)) p.op.operands w
-            (subst (AllZip (IsGoodOperand e.names e.blocks (let g = placed_good e o values h p m in g.before)) p.op.operands) wanted
-            ks.operands) in
+        (subst (AllZip (IsGoodOperand e.names e.blocks (let g = placed_good e o values h p m in g.before)) p.op.operands) wanted
+        ks.operands) in
         let r = reading e o values h p 0 one.0 m act (ap (λ xs. slice_get xs 0) one.1) in
         let y = one_result (ks.results ∙ ap (result_count e.table p.owner) k) in
         record { operand = one.0; operands = one.1; result = y.0; results = y.1; want = r.0; reading = r.2 }
@@ -658,7 +667,7 @@ module _ (e : Ext) (o : Options) (values : List ℕ) (h : Solved e o values) whe
         carried_is e o values (numbered e o values h) (fit_kinds e o values h) (spot p 0 c.result) (result_spot c.result c.results)
         ∙ ap (λ (z : ExtKind). carried_at z (spot p 0 c.result)) k ∙ ap first_read c.operands in
         same_kind e o values (numbered e o values h) (fit_kinds e o values h) c.result r.spot.temp (carries ∙ sym r.value)
-            ∙ ap (λ (y : TempId). kind_at e o values (numbered e o values h) (fit_kinds e o values h) y.0) r.is
+        ∙ ap (λ (y : TempId). kind_at e o values (numbered e o values h) (fit_kinds e o values h) y.0) r.is
 
     pub deed_copy : (slots : ℕ) (node : NodeCopy) (op : Op) → p.op.kind ≡ Copy node → (issue_at values p).active ≡ true
         → (issue_at values p).instr ≡ Some op → copy_of (value_by values (vars_of p).instr) ≡ Some op
@@ -680,8 +689,13 @@ module _ (e : Ext) (o : Options) (values : List ℕ) (h : Solved e o values) whe
         facts = let d = c in operand_facts 0 d.operand d.want d.reading
 
         copies : (i : Instr) → i.op ≡ op → Copies e.table (temps_of p.block) (job_with values p i) x y
-        copies i s = let d = c in let f = facts in record { reads = ap (λ xs. places_from temp_of 0 xs) d.operands; read = f.read; given =
-            gives d.result i op d.results act ins s; kind = copy_kind node k d }
+        copies i s = let d = c in let f = facts in record {
+          reads = ap (λ xs. places_from temp_of 0 xs) d.operands;
+          read = f.read;
+          given =
+              gives d.result i op d.results act ins s;
+          kind = copy_kind node k d;
+        }
 
         one_src : numbers srcs ≡ (let T = temps_of p.block in T.place x) ∷ []
         one_src = let d = c in let f = facts in ap (λ xs. numbers (places_from reg_of 0 xs)) d.operands ∙ ap (λ r. r ∷ []) f.register
@@ -696,8 +710,10 @@ module _ (e : Ext) (o : Options) (values : List ℕ) (h : Solved e o values) whe
         space_y s f = let d = c in result_space d.result op s d.results ins f
 
         dst_reg : (r : Reg) × (dst ≡ Some r)
-        dst_reg = let d = c in (temp_register (model_of e o) values d.result,
-            ap (λ ys. option_map (temp_register (model_of e o) values) (slice_get ys 0)) d.results)
+        dst_reg = let d = c in (
+          temp_register (model_of e o) values d.result,
+          ap (λ ys. option_map (temp_register (model_of e o) values) (slice_get ys 0)) d.results,
+        )
 
         active_y : (let T = temps_of p.block in T.active y ≡ true)
         active_y = let g = copies (copy_instr op srcs dst) (copy_op_is op) in let z = g.given in z.active
@@ -725,8 +741,12 @@ module _ (e : Ext) (o : Options) (values : List ℕ) (h : Solved e o values) whe
             let lt = inside x active_x in
             let d = c in
             let f = facts in
-            record { slot = le; within = omega arith; imm = ap (λ xs. slot_offset (slice_get (places_from reg_of 0 xs) 0)) d.operands
-                ∙ ap (λ z. pos (4 * (z - 36))) f.register }
+            record {
+              slot = le;
+              within = omega arith;
+              imm = ap (λ xs. slot_offset (slice_get (places_from reg_of 0 xs) 0)) d.operands
+                  ∙ ap (λ z. pos (4 * (z - 36))) f.register;
+            }
 
         as_op : (q : Op) → op ≡ q → Deed e.table (temps_of p.block) slots (job_with values p (copy_instr q srcs dst))
             → Deed e.table (temps_of p.block) slots (job_with values p (copy_instr op srcs dst))
@@ -734,8 +754,12 @@ module _ (e : Ext) (o : Options) (values : List ℕ) (h : Solved e o values) whe
 
         by_op : CopyOp (value_by values (vars_of p).instr) op → Deed e.table (temps_of p.block) slots
             (job_with values p (copy_instr op srcs dst))
-        by_op (mov s) = as_op Mov s (moves x y refl (record { copies = copies (copy_instr Mov srcs dst) (sym s); srcs = one_src; dst =
-            one_dst })
+        by_op (mov s) = as_op Mov s (moves x y refl (record {
+          copies = copies (copy_instr Mov srcs dst) (sym s);
+          srcs = one_src;
+          dst =
+              one_dst;
+        })
             (in_general _ (space_x R (ap (λ (z : Op). operand_space_in z 0) s))) (in_general _ (space_y R (ap result_space_in s))))
         by_op (spill s) = as_op Spill s (spills x y refl (copies (copy_instr Spill srcs dst) (sym s)) one_src refl
             (in_general _ (space_x R (ap (λ (z : Op). operand_space_in z 0) s))) (slot_y (in_frame _ (space_y M (ap result_space_in s)))))
@@ -746,10 +770,10 @@ module _ (e : Ext) (o : Options) (values : List ℕ) (h : Solved e o values) whe
             let pl = in_predicates _ (space_x P (ap (λ (z : Op). operand_space_in z 0) s)) in
             let t = truth (omega arith) d.result d.results in
             as_op P2R s (from_pred x y refl (record { copies = copies (copy_instr P2R srcs dst) (sym s); srcs = one_src; dst = one_dst })
-                (sym (copy_kind node k d) ∙ t) pl.0 pl.1 (in_general _ (space_y R (ap result_space_in s))))
+            (sym (copy_kind node k d) ∙ t) pl.0 pl.1 (in_general _ (space_y R (ap result_space_in s))))
         by_op (r2p n s) =
             let d = c in
             let pl = in_predicates _ (space_y P (ap result_space_in s)) in
             let t = truth (omega arith) d.result d.results in
             as_op R2P s (to_pred x y refl (record { copies = copies (copy_instr R2P srcs dst) (sym s); srcs = one_src; dst = one_dst })
-                (sym (copy_kind node k d) ∙ t) (in_general _ (space_x R (ap (λ (z : Op). operand_space_in z 0) s))) pl.0 pl.1)
+            (sym (copy_kind node k d) ∙ t) (in_general _ (space_x R (ap (λ (z : Op). operand_space_in z 0) s))) pl.0 pl.1)

@@ -91,7 +91,7 @@ same_call : (val : Values) (j : Job) (so : SrcOp) (xs : List ℕ) (w : World) �
     → call_of val j w ≡ record { name = unwrap_or so.callee []; args = xs; memory = w.memory }
 same_call val j so xs w m =
     ap (λ (l : Option (List ℕ)). let c : CallRecord = record { name = unwrap_or l []; args = map val j.reads; memory = w.memory } in c)
-        m.label
+    m.label
     ∙ ap (λ ys. let c : CallRecord = record { name = unwrap_or so.callee []; args = ys; memory = w.memory } in c) m.args
 
 -- what a mirrored operation leaves of the world, and whether it stops
@@ -133,7 +133,7 @@ store_mirrors : (val : Values) (j : Job) (so : SrcOp) (xs : List ℕ) (w : World
 store_mirrors val j so xs w m q = record {
   after = ap (λ (op : Op). after_by op val j w) op
       ∙ ap (λ a. let u : World = record w { memory = set_word a (slice_index (map val j.reads) 1) w.memory } in u)
-          (same_address val j so xs m)
+      (same_address val j so xs m)
       ∙ ap (λ ys. let u : World = record w { memory = set_word addr (slice_index ys 1) w.memory } in u) m.args
       ∙ go (word_at addr w.memory) refl ∙ ap (effect_world w) (sym eff);
   fails_too = ap (λ (op : Op). fails_by op val j w) op ∙ ap (λ a. is_none (word_at a w.memory)) (same_address val j so xs m)
@@ -250,7 +250,7 @@ pub mirror_flows : (val : Values) (j : Job) (so : SrcOp) (xs : List ℕ) (w : Wo
 mirror_flows val j so xs w m kind g = record {
   copied = λ x y c r s. ⊎_elim (λ (q : is_copy so.op ≡ false). let z : true ≡ false = sym c ∙ ap is_copy m.op ∙ q in absurd (cc z))
       (λ (q : so.op ≡ Mov). g y s ∙ ap effect_value (computed so so.op xs w (ap is_alu q)) ∙ ap (λ (op : Op). eval op xs so.imm) q
-          ∙ ap (λ ys. slice_index ys 0) (sym m.args) ∙ ap (λ rs. slice_index (map val rs) 0) r) kind;
+      ∙ ap (λ ys. slice_index ys 0) (sym m.args) ∙ ap (λ rs. slice_index (map val rs) 0) r) kind;
   computed = λ y a c s. g y s ∙ ap effect_value (computed so so.op xs w (ap is_alu (sym m.op) ∙ a))
       ∙ ap (λ (op : Op). eval op xs so.imm) (sym m.op) ∙ ap (λ ys. eval j.instr.op ys so.imm) (sym m.args)
       ∙ ap (eval j.instr.op (map val j.reads)) (sym m.imm);
@@ -283,7 +283,7 @@ module _ (e : Ext) (o : Options) (values : List ℕ) (h : Solved e o values) (va
   choice_value p j x want c r =
       ap (λ (y : TempId). val y.0) (sym r.is) ∙ c r.spot r.member r.block
       ∙ ap (λ (y : TempId). val y.0) (sym (carried_is e o values (numbered e o values h) (fit_kinds e o values h) r.spot r.member)
-          ∙ r.value)
+      ∙ r.value)
 
   pub args_of : (p : Placed) → Member p (all e o values) → (issue_at values p).active ≡ true → Carries p.block
       → map val (read_temps values p) ≡ map (value_of val) p.op.operands
@@ -297,10 +297,10 @@ module _ (e : Ext) (o : Options) (values : List ℕ) (h : Solved e o values) (va
       go (x ∷ xs) k f =
           let z : k + 0 ≡ k = omega arith in
           let here : val (choice_of values (vars_of p) k x).0 ≡ val (first_of x.alts) =
-              ap (λ n. val (choice_of values (vars_of p) n x).0) (sym z) ∙ f 0 x refl in
+          ap (λ n. val (choice_of values (vars_of p) n x).0) (sym z) ∙ f 0 x refl in
           ap (λ v. v ∷ map val (places_from (λ (j : ℕ) (x : Operand). (choice_of values (vars_of p) j x).0) (k + 1) xs)) here
           ∙ ap (λ vs. val (first_of x.alts) ∷ vs) (go xs (k + 1) (λ j y q. let a : k + 1 + j ≡ k + suc j = omega arith in
-              ap (λ n. val (choice_of values (vars_of p) n y).0) a ∙ f (suc j) y q))
+          ap (λ n. val (choice_of values (vars_of p) n y).0) a ∙ f (suc j) y q))
 
   -- whether an operation stops the run
   abbrev pub stops_by : ExtKind → ExtOp → World → Bool
@@ -378,8 +378,11 @@ module _ (e : Ext) (o : Options) (values : List ℕ) (h : Solved e o values) (va
       let s = other_world p.op.kind p.op w n in
       record {
         after = q.0 ∙ sym s.0;
-        sees = record { loaded = λ f y g. let z : true ≡ false = sym (ap is_access f)
-            ∙ x.access in absurd (cc z); replied = λ f y g. let z : true ≡ false = sym (ap is_access f) ∙ x.access in absurd (cc z) };
+        sees = record {
+          loaded = λ f y g. let z : true ≡ false = sym (ap is_access f)
+              ∙ x.access in absurd (cc z);
+          replied = λ f y g. let z : true ≡ false = sym (ap is_access f) ∙ x.access in absurd (cc z);
+        };
         flows = record { copied = c; computed = λ y a b g. absurd (x.computing a b) };
         fails_as = q.1 ∙ sym s.1;
         halts = λ so f g. absurd (n so f);
@@ -438,8 +441,13 @@ module _ (e : Ext) (o : Options) (values : List ℕ) (h : Solved e o values) (va
       let parts = source_job p j so g k in
       let act = some_active e o values h p g.instr.op g.issues in
       let xs = map (value_of val) p.op.operands in
-      let mir : Mirrors val j so xs = record { op = parts.0; imm = parts.1; label = parts.2; args = ap (λ (x : Job). map val x.reads) g.is
-          ∙ args_of p m act c } in
+      let mir : Mirrors val j so xs = record {
+        op = parts.0;
+        imm = parts.1;
+        label = parts.2;
+        args = ap (λ (x : Job). map val x.reads) g.is
+            ∙ args_of p m act c;
+      } in
       let good = good_source p so m k in
       let cl = text_class so.op good.op in
       let d = mirrors val j so xs w mir cl in
@@ -480,11 +488,11 @@ module _ (e : Ext) (o : Options) (values : List ℕ) (h : Solved e o values) (va
           other_job p j w (not_body (End term) q (λ so r. absurd (cc r))) x.0 (never_copies p j x.1)
       by_kind Enter q =
           let x = shift_other EnterOp j.instr.op (value_by values (vars_of p).instr) (job_instr p j Enter g q)
-              (record { access = refl; computing = λ a b. absurd (cc a) }) refl in
+          (record { access = refl; computing = λ a b. absurd (cc a) }) refl in
           other_job p j w (not_body Enter q (λ so r. absurd (cc r))) x.0 (never_copies p j x.1)
       by_kind Leave q =
           let x = shift_other LeaveOp j.instr.op (value_by values (vars_of p).instr) (job_instr p j Leave g q)
-              (record { access = refl; computing = λ a b. absurd (cc a) }) refl in
+          (record { access = refl; computing = λ a b. absurd (cc a) }) refl in
           other_job p j w (not_body Leave q (λ so r. absurd (cc r))) x.0 (never_copies p j x.1)
       by_kind (Copy node) q =
           let x = copy_other (value_by values (vars_of p).instr) j.instr.op (job_instr p j (Copy node) g q) in
@@ -495,7 +503,7 @@ module _ (e : Ext) (o : Options) (values : List ℕ) (h : Solved e o values) (va
           let same : parts.result ∷ [] ≡ t.0 ∷ [] = sym parts.results ∙ t.2 in
           let args = args_of p m act c in
           let one : val a ∷ [] ≡ value_of val parts.operand ∷ [] = ap (map val) (sym r) ∙ ap (λ (x : Job). map val x.reads) g.is ∙ args
-              ∙ ap (map (value_of val)) parts.operands in
+          ∙ ap (map (value_of val)) parts.operands in
           let v : val a ≡ value_of val parts.operand = cc one in
           ap val (sym t.1) ∙ eq.copy node t.0 parts.operand q t.2 parts.operands ∙ sym v)
 
@@ -504,10 +512,10 @@ module _ (e : Ext) (o : Options) (values : List ℕ) (h : Solved e o values) (va
       × (stops_by p.op.kind p.op w ≡ false)
   idle p w q = other_world p.op.kind p.op w (λ so k.
       let made : instr_at (model_of e o) values p ≡ Some (source_instr so so.op (operand_registers (model_of e o) values p.op (vars_of p))
-          (result_register (model_of e o) values p.op)) =
+      (result_register (model_of e o) values p.op)) =
       ap (λ (x : ExtKind). instr_if (model_of e o) values p.op (vars_of p) (instruction_of x (value_by values (vars_of p).instr))) k
       ∙ ap (λ (x : ExtKind). instr_by e.blocks (frame_of (model_of e o) values) x so.op
-          (operand_registers (model_of e o) values p.op (vars_of p)) (result_register (model_of e o) values p.op)) k in
+      (operand_registers (model_of e o) values p.op (vars_of p)) (result_register (model_of e o) values p.op)) k in
       let z = sym q ∙ made in absurd (cc z))
 
   -- ---- all jobs of a block
@@ -526,19 +534,31 @@ module _ (e : Ext) (o : Options) (values : List ℕ) (h : Solved e o values) (va
       record { sees = r.sees; flows = r.flows; world = r.world }
     where
       go : (x : Option Instr) → instr_at (model_of e o) values p ≡ x → AllFacts ps (world_by val p.op.kind p.op w)
-          → record { sees : Sees val (job_by values p x ++ jobs_of (model_of e o) values ps) w; flows : Each (Flows val)
-              (job_by values p x ++ jobs_of (model_of e o) values ps); world : run_jobs val
-              (job_by values p x ++ jobs_of (model_of e o) values ps) w ≡ world_after val ps (world_by val p.op.kind p.op w) }
+          → record {
+            sees : Sees val (job_by values p x ++ jobs_of (model_of e o) values ps) w;
+            flows : Each (Flows val)
+                (job_by values p x ++ jobs_of (model_of e o) values ps);
+            world : run_jobs val
+                (job_by values p x ++ jobs_of (model_of e o) values ps) w ≡ world_after val ps (world_by val p.op.kind p.op w);
+          }
       go None q rest =
           let n = (idle p w q).0 in
-          record { sees = subst (Sees val (jobs_of (model_of e o) values ps)) n rest.sees; flows = rest.flows; world =
-              ap (run_jobs val (jobs_of (model_of e o) values ps)) (sym n) ∙ rest.world }
+          record {
+            sees = subst (Sees val (jobs_of (model_of e o) values ps)) n rest.sees;
+            flows = rest.flows;
+            world =
+                ap (run_jobs val (jobs_of (model_of e o) values ps)) (sym n) ∙ rest.world;
+          }
       go (Some ins) q rest =
           let a = i p (inl refl) in
           let j = job_with values p ins in
           let f = job_facts p j w a.0 (job_is e o values h p (Some ins) j q (inl refl)) (subst Carries (sym a.1) c) eq.0 in
-          record { sees = (f.sees, subst (Sees val (jobs_of (model_of e o) values ps)) (sym f.after) rest.sees); flows =
-              (f.flows, rest.flows); world = ap (run_jobs val (jobs_of (model_of e o) values ps)) f.after ∙ rest.world }
+          record {
+            sees = (f.sees, subst (Sees val (jobs_of (model_of e o) values ps)) (sym f.after) rest.sees);
+            flows =
+                (f.flows, rest.flows);
+            world = ap (run_jobs val (jobs_of (model_of e o) values ps)) f.after ∙ rest.world;
+          }
 
   -- ---- the run of the extended function
 
@@ -598,7 +618,7 @@ module _ (e : Ext) (o : Options) (values : List ℕ) (h : Solved e o values) (va
       let same = same_operands e o values h val n p ps s r f.0 in
       let w = world_step e o values h val n p ps s r f.0 in
       let rest = ops_are (n + 1) ps k (total_by p.op.kind p.op s) (λ q m. i q (inr m)) c
-          (subst (λ (w : World). Equations val ps w) (sym w) eq.1) (next e o values h val n p ps s r) f.1 in
+      (subst (λ (w : World). Equations val ps w) (sym w) eq.1) (next e o values h val n p ps s r) f.1 in
       by_job same w rest (instr_at (model_of e o) values p) refl
     where
       -- the first operation goes on
@@ -618,20 +638,27 @@ module _ (e : Ext) (o : Options) (values : List ℕ) (h : Solved e o values) (va
           let on = further (step_goes p.op.kind p.op s same z.1) in
           let none : job_of (model_of e o) values p ≡ [] = ap (job_by values p) q in
           let jobs : jobs_of (model_of e o) values (p ∷ ps) ≡ jobs_of (model_of e o) values ps =
-              ap (λ js. js ++ jobs_of (model_of e o) values ps) none in
+          ap (λ js. js ++ jobs_of (model_of e o) values ps) none in
           goes_through (subst (λ js. Passes val js s.world) (sym jobs)
-              (subst (Passes val (jobs_of (model_of e o) values ps)) (w ∙ z.0) pass)) (on ∙ run)
+          (subst (Passes val (jobs_of (model_of e o) values ps)) (w ∙ z.0) pass)) (on ∙ run)
       plain q same w (halts_at g run) =
           let z = idle p s.world q in
           let on = further (step_goes p.op.kind p.op s same z.1) in
           let none : job_of (model_of e o) values p ≡ [] = ap (job_by values p) q in
           let jobs : jobs_of (model_of e o) values (p ∷ ps) ≡ jobs_of (model_of e o) values ps =
-              ap (λ js. js ++ jobs_of (model_of e o) values ps) none in
+          ap (λ js. js ++ jobs_of (model_of e o) values ps) none in
           let wld = w ∙ z.0 in
           let g' : Failing val (jobs_of (model_of e o) values (p ∷ ps)) s.world =
-              record { before = g.before; job = g.job; after = g.after; is = jobs
-              ∙ g.is; passes = subst (Passes val g.before) wld g.passes; failed =
-              ap (λ (w : World). fails val g.job (run_jobs val g.before w)) (sym wld) ∙ g.failed } in
+          record {
+            before = g.before;
+            job = g.job;
+            after = g.after;
+            is = jobs
+                ∙ g.is;
+            passes = subst (Passes val g.before) wld g.passes;
+            failed =
+                ap (λ (w : World). fails val g.job (run_jobs val g.before w)) (sym wld) ∙ g.failed;
+          } in
           halts_at g' (
             ap (λ (x : LinearEnd). x.stop) on ∙ run.0 ∙ ap (λ (w : World). Some
                 (halt_by g.job.instr.op (call_of val g.job (run_jobs val g.before w)))) wld,
@@ -664,23 +691,36 @@ module _ (e : Ext) (o : Options) (values : List ℕ) (h : Solved e o values) (va
               let src = stops_source p s.world (sym f.fails_as ∙ fl) in
               let st = ap (λ (x : ExtKind). stops_by x p.op s.world) (sym src.1) ∙ sym f.fails_as ∙ fl in
               let run : step_by p.op.kind p.op s ≡ Stopped (halt_by (job_with values p ins).instr.op
-                  (call_of val (job_with values p ins) s.world)) =
+              (call_of val (job_with values p ins) s.world)) =
               ap (λ (x : ExtKind). step_by x p.op s) src.1 ∙ step_stops src.0 p.op s same st ∙ ap Stopped (f.halts src.0 src.1 fl) in
               let on = ap (λ (x : LinearStep). then_ops x s (ops_run (map (λ (p : Placed). p.op) ps))) run in
-              halts_at (record { before = []; job = job_with values p ins; after = jobs_of (model_of e o) values ps; is = jobs; passes = tt;
-                  failed = fl }) (ap (λ (x : LinearEnd). x.stop) on, ap (λ (x : LinearEnd). x.state.world) on)
+              halts_at (record {
+                before = [];
+                job = job_with values p ins;
+                after = jobs_of (model_of e o) values ps;
+                is = jobs;
+                passes = tt;
+                failed = fl;
+              }) (ap (λ (x : LinearEnd). x.stop) on, ap (λ (x : LinearEnd). x.state.world) on)
           go false fl (goes_through pass run) =
               let f = facts in
               let on = further (step_goes p.op.kind p.op s same (sym f.fails_as ∙ fl)) in
               goes_through (subst (λ js. Passes val js s.world) (sym jobs)
-                  (fl, subst (Passes val (jobs_of (model_of e o) values ps)) wld pass)) (on ∙ run)
+              (fl, subst (Passes val (jobs_of (model_of e o) values ps)) wld pass)) (on ∙ run)
           go false fl (halts_at g run) =
               let f = facts in
               let on = further (step_goes p.op.kind p.op s same (sym f.fails_as ∙ fl)) in
               let g' : Failing val (jobs_of (model_of e o) values (p ∷ ps)) s.world =
-                  record { before = job_with values p ins ∷ g.before; job = g.job; after = g.after; is = jobs
-                  ∙ ap (λ js. job_with values p ins ∷ js) g.is; passes = (fl, subst (Passes val g.before) wld g.passes); failed =
-                  ap (λ (w : World). fails val g.job (run_jobs val g.before w)) (sym wld) ∙ g.failed } in
+              record {
+                before = job_with values p ins ∷ g.before;
+                job = g.job;
+                after = g.after;
+                is = jobs
+                    ∙ ap (λ js. job_with values p ins ∷ js) g.is;
+                passes = (fl, subst (Passes val g.before) wld g.passes);
+                failed =
+                    ap (λ (w : World). fails val g.job (run_jobs val g.before w)) (sym wld) ∙ g.failed;
+              } in
               halts_at g' (
                 ap (λ (x : LinearEnd). x.stop) on ∙ run.0 ∙ ap (λ (w : World). Some
                     (halt_by g.job.instr.op (call_of val g.job (run_jobs val g.before w)))) wld,

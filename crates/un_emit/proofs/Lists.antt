@@ -45,9 +45,10 @@ pairwise_map R f (y ∷ ys) h = (each_map (R (f y)) f ys h.0, pairwise_map R f y
 pub pairwise_more : {X : Type 0} (R S : X → X → Type 0) (xs : List X) → ((x y : X) → Member x xs → Member y xs → R x y → S x y)
     → Pairwise R xs → Pairwise S xs
 pairwise_more R S [] f h = tt
-pairwise_more R S (x ∷ xs) f h =
-    (each_of (S x) xs (λ y m. f x y (inl refl) (inr m) (each_member (R x) xs y h.0 m)),
-        pairwise_more R S xs (λ y z m n r. f y z (inr m) (inr n) r) h.1)
+pairwise_more R S (x ∷ xs) f h = (
+  each_of (S x) xs (λ y m. f x y (inl refl) (inr m) (each_member (R x) xs y h.0 m)),
+  pairwise_more R S xs (λ y z m n r. f y z (inr m) (inr n) r) h.1,
+)
 
 pub member_map : {X Y : Type 0} (f : X → Y) (xs : List X) (x : X) → Member x xs → Member (f x) (map f xs)
 member_map f [] x m = elim m [ ]
@@ -240,8 +241,10 @@ each_all P (x ∷ xs) h = (h 0 x (omega arith), each_all P xs (λ k d lt. h (suc
 
 pub pairwise_all : {X : Type 0} (R : X → X → Type 0) (xs : List X) → AllPairs R xs → Pairwise R xs
 pairwise_all R [] h = tt
-pairwise_all R (x ∷ xs) h = (each_all (R x) xs (λ k d lt. h 0 (suc k) d (omega arith) (omega arith)),
-    pairwise_all R xs (λ i j d lt l. h (suc i) (suc j) d (omega arith) (omega arith)))
+pairwise_all R (x ∷ xs) h = (
+  each_all (R x) xs (λ k d lt. h 0 (suc k) d (omega arith) (omega arith)),
+  pairwise_all R xs (λ i j d lt l. h (suc i) (suc j) d (omega arith) (omega arith)),
+)
 
 pub each_of_map : {X Y : Type 0} (P : Y → Type 0) (f : X → Y) (xs : List X) → Each P (map f xs) → Each (λ x. P (f x)) xs
 each_of_map P f [] h = tt

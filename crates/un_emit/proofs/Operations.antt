@@ -27,10 +27,24 @@ contains_member xs x c = member_at xs c.0 x (get_of_index xs c.0 x x c.1 c.2)
 -- an operation with this block and these first numbers stands at place k of a block
 pub placed_get : (b : ℕ) (owner : ExtBlock) (close : VarId) (n first k : ℕ) (ops : List ExtOp) (op : ExtOp) → slice_get ops k ≡ Some op
     → (p : Placed) × (slice_get (placed b owner close n first ops) k ≡ Some p) × (p.op ≡ op) × (p.number ≡ n + k) × (p.block ≡ b)
-        × (p.owner ≡ owner)
+    × (p.owner ≡ owner)
 placed_get b owner close n first k [] op e = absurd (cc e)
-placed_get b owner close n first zero (o ∷ os) op e = (record { block = b; owner = owner; close = close; number = n; first = first; op =
-    o }, refl, cc e, omega arith, refl, refl)
+placed_get b owner close n first zero (o ∷ os) op e = (
+  record {
+    block = b;
+    owner = owner;
+    close = close;
+    number = n;
+    first = first;
+    op =
+        o;
+  },
+  refl,
+  cc e,
+  omega arith,
+  refl,
+  refl,
+)
 placed_get b owner close n first (suc k) (o ∷ os) op e =
     let r = placed_get b owner close (n + 1) (first + var_count o) k os op e in
     let num = r.3 in (r.0, r.1, r.2, omega arith, r.4, r.5)
@@ -59,7 +73,7 @@ placed_is b owner close n first zero (o ∷ os) p e =
     let q : Placed = record { block = b; owner = owner; close = close; number = n; first = first; op = o } in
     let same : q ≡ p = cc e in
     subst (λ (r : Placed). (Some o ≡ Some r.op) × (r.number ≡ n + 0) × (r.block ≡ b) × (r.owner ≡ owner) × (r.close ≡ close)) same
-        (refl, omega arith, refl, refl, refl)
+    (refl, omega arith, refl, refl, refl)
 placed_is b owner close n first (suc k) (o ∷ os) p e =
     let r = placed_is b owner close (n + 1) (first + var_count o) k os p e in
     let num = r.1 in (r.0, omega arith, r.2, r.3, r.4)
@@ -81,9 +95,11 @@ module _ (e : Ext) (limit : ℕ) (good : AreGoodBlocks e.table e.names e.blocks 
   spot_of : (q : Placed) (y : TempId) → Member q (blocks_placed 0 0 0 e.blocks) → Member y q.op.results → (j : ℕ)
       × (Member (spot q j y) (all_spots (blocks_placed 0 0 0 e.blocks)))
   spot_of q y m n =
-      let r = place_of q.op.results y n in
-      (r.0, member_joined (map spots_of (blocks_placed 0 0 0 e.blocks)) (spots_of q) (spot q r.0 y)
-          (member_map spots_of (blocks_placed 0 0 0 e.blocks) q m) (member_places (spot q) q.op.results 0 r.0 r.0 y (omega arith) r.2))
+      let r = place_of q.op.results y n in (
+        r.0,
+        member_joined (map spots_of (blocks_placed 0 0 0 e.blocks)) (spots_of q) (spot q r.0 y)
+            (member_map spots_of (blocks_placed 0 0 0 e.blocks) q m) (member_places (spot q) q.op.results 0 r.0 r.0 y (omega arith) r.2),
+      )
 
   one_good : (b n first : ℕ) (block : ExtBlock) → IsGoodExtBlock e.table e.names e.blocks block → slice_get e.blocks b ≡ Some block
       → ((q : Placed) → Member q (block_placed b n first block) → Member q (blocks_placed 0 0 0 e.blocks))
@@ -115,13 +131,13 @@ module _ (e : Ext) (limit : ℕ) (good : AreGoodBlocks e.table e.names e.blocks 
   each_good : (b n first : ℕ) (blocks : List ExtBlock) → Each (IsGoodExtBlock e.table e.names e.blocks) blocks
       → ((k : ℕ) (block : ExtBlock) → slice_get blocks k ≡ Some block → slice_get e.blocks (b + k) ≡ Some block)
       → ((q : Placed) → Member q (blocks_placed b n first blocks) → Member q (blocks_placed 0 0 0 e.blocks))
-          → Each GoodPlaced (blocks_placed b n first blocks)
+      → Each GoodPlaced (blocks_placed b n first blocks)
   each_good b n first [] g at into = tt
   each_good b n first (block ∷ blocks) g at into =
       let rest = blocks_placed (b + 1) (n + length block.ops) (first + block_count block) blocks in
       each_join GoodPlaced (block_placed b n first block) rest
       (one_good b n first block g.0 (ap (slice_get e.blocks) (omega arith) ∙ at 0 block refl)
-          (λ q m. into q (member_append_left (block_placed b n first block) rest q m)))
+      (λ q m. into q (member_append_left (block_placed b n first block) rest q m)))
       (each_good (b + 1) (n + length block.ops) (first + block_count block) blocks g.1
       (λ k c h. ap (slice_get e.blocks) (omega arith) ∙ at (suc k) c h)
       (λ q m. into q (member_append_right (block_placed b n first block) rest q m)))

@@ -128,7 +128,7 @@ pub ready_is_put : (t : Table) (c : ℕ) (s : PacketState) (is : List Instr) (xs
 ready_is_put t c s [] xs = refl
 ready_is_put t c s (i ∷ is) xs =
     ap (λ ys. ready_after t c s is ys) (writes_ready i.op s i (c + latency_of t i.op) xs)
-        ∙ ready_is_put t c s is (put_one (target i) (c + latency_of t i.op) xs)
+    ∙ ready_is_put t c s is (put_one (target i) (c + latency_of t i.op) xs)
 
 -- the word of the frame that an instruction writes
 abbrev pub slot_by : Op → PacketState → Instr → Option ℕ
@@ -178,9 +178,9 @@ memory_one s [] m i mem e h = elim mem [ ]
 memory_one s (j ∷ js) m i (inl q) e h =
     let here : j.op ≡ Store = ap (λ k. k.op) q ∙ e in
     let later = each_of (λ (k : Instr). is_store k.op ≡ false) js
-        (λ k n. not_store k.op (each_member (λ (x : Instr). j.op ≡ Store → x.op ≡ Store → ⊥) js k h.0 n here)) in
+    (λ k n. not_store k.op (each_member (λ (x : Instr). j.op ≡ Store → x.op ≡ Store → ⊥) js k h.0 n here)) in
     memory_none s js (memory_by j.op s j m) later ∙ memory_by_store j.op s j m here
-        ∙ ap (λ k. set_word (address_of (operand_in s k 0) k.imm) (operand_in s k 1) m) q
+    ∙ ap (λ k. set_word (address_of (operand_in s k 0) k.imm) (operand_in s k 1) m) q
 memory_one s (j ∷ js) m i (inr n) e h =
     let here = not_store j.op (λ f. each_member (λ (x : Instr). j.op ≡ Store → x.op ≡ Store → ⊥) js i h.0 n f e) in
     ap (λ x. memory_after s js x) (memory_same j.op s j m here) ∙ memory_one s js m i n e h.1

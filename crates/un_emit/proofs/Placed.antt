@@ -70,10 +70,10 @@ issues_are values b n first [] = refl
 issues_are values b n first (block ∷ blocks) =
     let rest = blocks_placed (b + 1) (n + length block.ops) (first + block_count block) blocks in
     ap (λ is. is ++ over_blocks (block_issues values) (b + 1) (n + length block.ops) blocks
-        (blocks_vars (first + block_count block) blocks)) (placed_issues values b block (var_at (first + ops_count block.ops)) n first
-        block.ops)
+    (blocks_vars (first + block_count block) blocks)) (placed_issues values b block (var_at (first + ops_count block.ops)) n first
+    block.ops)
     ∙ ap (λ is. map (issue_at values) (block_placed b n first block) ++ is)
-        (issues_are values (b + 1) (n + length block.ops) (first + block_count block) blocks)
+    (issues_are values (b + 1) (n + length block.ops) (first + block_count block) blocks)
     ∙ sym (map-append (issue_at values) (block_placed b n first block) rest)
 
 -- ---- reads
@@ -100,10 +100,10 @@ reads_are values b n first [] = refl
 reads_are values b n first (block ∷ blocks) =
     let rest = blocks_placed (b + 1) (n + length block.ops) (first + block_count block) blocks in
     ap (λ is. joined is ++ over_blocks (block_reads values) (b + 1) (n + length block.ops) blocks
-        (blocks_vars (first + block_count block) blocks)) (placed_reads values b block (var_at (first + ops_count block.ops)) n first
-        block.ops)
+    (blocks_vars (first + block_count block) blocks)) (placed_reads values b block (var_at (first + ops_count block.ops)) n first
+    block.ops)
     ∙ ap (λ is. joined (map (reads_at values) (block_placed b n first block)) ++ is)
-        (reads_are values (b + 1) (n + length block.ops) (first + block_count block) blocks)
+    (reads_are values (b + 1) (n + length block.ops) (first + block_count block) blocks)
     ∙ sym (joined_map-append (reads_at values) (block_placed b n first block) rest)
 
 -- ---- temporaries
@@ -124,18 +124,30 @@ abbrev pub all_spots : List Placed → List Spot
 all_spots ps = joined (map spots_of ps)
 
 abbrev pub temp_vars : Spot → TempVars
-temp_vars s = record { op = record { 0 = s.definer.number }; value = carried s.definer.op s.temp; reg =
-    var_at (s.definer.first + register_place s.definer.op + s.place) }
+temp_vars s = record {
+  op = record { 0 = s.definer.number };
+  value = carried s.definer.op s.temp;
+  reg =
+      var_at (s.definer.first + register_place s.definer.op + s.place);
+}
 
 spot_temps : (p : Placed) (reg k i : ℕ) (xs : List TempId) → reg ≡ p.first + register_place p.op + k → k ≡ i
-    → places_from (λ (n : ℕ) (x : TempId). let v : TempVars = record { op = record { 0 = p.number }; value = carried p.op x; reg =
-    var_at n } in v) reg xs ≡ map temp_vars (places_from (spot p) i xs)
+    → places_from (λ (n : ℕ) (x : TempId). let v : TempVars = record {
+      op = record { 0 = p.number };
+      value = carried p.op x;
+      reg =
+          var_at n;
+    } in v) reg xs ≡ map temp_vars (places_from (spot p) i xs)
 spot_temps p reg k i [] e f = refl
 spot_temps p reg k i (x ∷ xs) e f =
     let here : reg ≡ p.first + register_place p.op + i = omega arith in
     ap (λ (n : ℕ). let v : TempVars = record { op = record { 0 = p.number }; value = carried p.op x; reg = var_at n } in v ∷
-        places_from (λ (n : ℕ) (x : TempId). let v : TempVars = record { op = record { 0 = p.number }; value = carried p.op x; reg =
-        var_at n } in v) (reg + 1) xs) here
+    places_from (λ (n : ℕ) (x : TempId). let v : TempVars = record {
+      op = record { 0 = p.number };
+      value = carried p.op x;
+      reg =
+          var_at n;
+    } in v) (reg + 1) xs) here
     ∙ ap (λ vs. temp_vars (spot p i x) ∷ vs) (spot_temps p (reg + 1) (k + 1) (i + 1) xs (omega arith) (omega arith))
 
 placed_temps : (b : ℕ) (owner : ExtBlock) (close : VarId) (n first : ℕ) (ops : List ExtOp)
@@ -145,7 +157,7 @@ placed_temps b owner close n first (op ∷ ops) =
     let p : Placed = record { block = b; owner = owner; close = close; number = n; first = first; op = op } in
     let rest = placed b owner close (n + 1) (first + var_count op) ops in
     ap (λ vs. vs ++ ops_temps (n + 1) (first + var_count op) ops)
-        (spot_temps p (first + register_place op) 0 0 op.results (omega arith) refl)
+    (spot_temps p (first + register_place op) 0 0 op.results (omega arith) refl)
     ∙ ap (λ vs. map temp_vars (spots_of p) ++ vs) (placed_temps b owner close (n + 1) (first + var_count op) ops)
     ∙ sym (map-append temp_vars (spots_of p) (all_spots rest))
 
@@ -156,7 +168,7 @@ temps_are b n first (block ∷ blocks) =
     let here = block_placed b n first block in
     let rest = blocks_placed (b + 1) (n + length block.ops) (first + block_count block) blocks in
     ap (λ vs. vs ++ blocks_temps (n + length block.ops) (first + block_count block) blocks)
-        (placed_temps b block (var_at (first + ops_count block.ops)) n first block.ops)
+    (placed_temps b block (var_at (first + ops_count block.ops)) n first block.ops)
     ∙ ap (λ vs. map temp_vars (all_spots here) ++ vs) (temps_are (b + 1) (n + length block.ops) (first + block_count block) blocks)
     ∙ sym (map-append temp_vars (all_spots here) (all_spots rest)) ∙ ap (map temp_vars) (sym (joined_map-append spots_of here rest))
 
@@ -183,7 +195,7 @@ results_are b n first (block ∷ blocks) =
     ap (map (λ (s : Spot). s.temp)) (joined_map-append spots_of here rest)
     ∙ map-append (λ (s : Spot). s.temp) (all_spots here) (all_spots rest)
     ∙ ap (λ xs. xs ++ map (λ (s : Spot). s.temp) (all_spots rest))
-        (placed_results b block (var_at (first + ops_count block.ops)) n first block.ops)
+    (placed_results b block (var_at (first + ops_count block.ops)) n first block.ops)
     ∙ ap (λ xs. results_of block.ops ++ xs) (results_are (b + 1) (n + length block.ops) (first + block_count block) blocks)
 
 -- ---- numbers
@@ -213,9 +225,9 @@ all_count b n first (block ∷ blocks) =
     let close = var_at (first + ops_count block.ops) in
     let rest = blocks_placed (b + 1) (n + length block.ops) (first + block_count block) blocks in
     let e : n + length block.ops ≡ n + length (block_placed b n first block) =
-        ap (λ m. n + m) (sym (length-placed b block close n first block.ops)) in
+    ap (λ m. n + m) (sym (length-placed b block close n first block.ops)) in
     counts-append n (block_placed b n first block) rest (placed_count b block close n first block.ops)
-        (subst (λ m. Counts m rest) e (all_count (b + 1) (n + length block.ops) (first + block_count block) blocks))
+    (subst (λ m. Counts m rest) e (all_count (b + 1) (n + length block.ops) (first + block_count block) blocks))
 
 least_number : (n : ℕ) (ps : List Placed) (p : Placed) → Counts n ps → Member p ps → n ≤ p.number
 least_number n [] p h m = elim m [ ]

@@ -86,9 +86,19 @@ pub registers_safe : (t : Table) → IsFit t → Each Safe (saved_registers t)
 registers_safe t fit = each_join Safe (callee_saved t) (31 ∷ []) (saved_safe t fit) ((λ q. absurd (omega arith)), tt)
 
 arg_safe : (t : Table) → IsFit t → Each Safe t.args
-arg_safe t fit = subst (Each Safe) (sym fit.args) (λ q. absurd (omega arith),
-    (λ q. absurd (omega arith), (λ q. absurd (omega arith), (λ q. absurd (omega arith),
-    (λ q. absurd (omega arith), (λ q. absurd (omega arith), tt))))))
+arg_safe t fit = subst (Each Safe) (sym fit.args) (
+  λ q. absurd (omega arith),
+  (
+    λ q. absurd (omega arith),
+    (
+      λ q. absurd (omega arith),
+      (
+        λ q. absurd (omega arith),
+        (λ q. absurd (omega arith), (λ q. absurd (omega arith), tt)),
+      ),
+    ),
+  ),
+)
 
 index_safe : (xs : List ℕ) (k : ℕ) → Each Safe xs → Safe (slice_index xs k)
 index_safe [] k h = λ q. absurd (omega arith)
@@ -200,7 +210,7 @@ any_place : {A : Type 0} (p : ℕ → A → Bool) (i : ℕ) (xs : List A) → an
 any_place p i [] q = absurd (cc q)
 any_place p i (x ∷ xs) q =
     let go : (b : Bool) → p i x ≡ b → (b || any_from p (i + 1) xs) ≡ true → (j : ℕ) × (y : _) × (p j y ≡ true)
-        × (Member y (x ∷ xs)) = elim [
+    × (Member y (x ∷ xs)) = elim [
       | true ↦ λ e f. (i, x, e, inl refl)
       | false ↦ λ e f. let r = any_place p (i + 1) xs f in (r.0, r.1, r.2, inr r.3)
     ] in
@@ -226,16 +236,16 @@ home_is_safe t ie block x s q =
         let y = any_of (λ (operand : Operand). reads_value operand x && is_register operand.home 29) op.operands f in
         let homes = each_member (λ (op : ExtOp). Each (λ (x : Operand). SafeHome x.home) op.operands) block.ops op s.operands r.1 in
         is_reg_safe (y.0).home (each_member (λ (x : Operand). SafeHome x.home) op.operands y.0 homes y.1)
-            (and_right (reads_value y.0 x) (is_register (y.0).home 29) y.2)
+        (and_right (reads_value y.0 x) (is_register (y.0).home 29) y.2)
     either false f g =
         let r = any_of (λ (op : ExtOp). is_operand_home op x 29 || is_result_home t ie block.live_in op x 29) block.ops q in
         let op = r.0 in
         let k : is_result_home t ie block.live_in op x 29 ≡ true = sym (ap (λ (b : Bool). b || is_result_home t ie block.live_in op x 29) f)
-            ∙ g in
+        ∙ g in
         let y = any_place (λ (j : ℕ) (y : TempId). y.0 == x.0 && is_register (result_home t ie block.live_in op.kind j) 29) 0 op.results k
-            in
+        in
         is_reg_safe (result_home t ie block.live_in op.kind y.0) (home_safe t ie block.live_in op.kind y.0 s.fit)
-            (and_right ((y.1).0 == x.0) (is_register (result_home t ie block.live_in op.kind y.0) 29) y.2)
+        (and_right ((y.1).0 == x.0) (is_register (result_home t ie block.live_in op.kind y.0) 29) y.2)
 
 not_assignable : (regs : Option ℕ) → IfSome regs IsCountOfRegisters → is_assignable regs 29 ≡ true → ⊥
 not_assignable None h q = absurd (cc q)
@@ -292,18 +302,18 @@ module _ (e : Ext) (o : Options) (values : List ℕ) (h : Solved e o values) whe
         let r = place_of p.owner.ops op mo in
         let k = b.ops r.0 op r.2 in
         zip_homes e.names e.blocks (results_of (take r.0 p.owner.ops)) op.operands (wants_of e.table e.names e.blocks p.owner op.kind op)
-            k.operands (wants_safe e.table e.names e.blocks p.owner op.kind op h.fit));
+        k.operands (wants_safe e.table e.names e.blocks p.owner op.kind op h.fit));
     fit = h.fit;
   }
 
   value_safe : (ie : Bool) (p : Placed) (x : TempId) → Member p (all e o values) → Each Safe (value_registers e o.regs o.slots ie p.owner x)
   value_safe ie p x m =
       let g = each_more (λ r. Safe r × (r < 32)) Safe (general_registers e o.regs ie p.owner x) (λ r z. z.0)
-          (general_safe e o ie p.owner x h.options (safe_block ie p m)) in
+      (general_safe e o ie p.owner x h.options (safe_block ie p m)) in
       each_join Safe (general_registers e o.regs ie p.owner x ++ (if is_truth e.names p.owner x then predicate_registers else []))
-          (slots_of o.slots)
+      (slots_of o.slots)
       (each_join Safe (general_registers e o.regs ie p.owner x) (if is_truth e.names p.owner x then predicate_registers else []) g
-          (preds (is_truth e.names p.owner x))) (slots_safe o.slots)
+      (preds (is_truth e.names p.owner x))) (slots_safe o.slots)
     where
       preds : (b : Bool) → Each Safe (if b then predicate_registers else [])
       preds true = preds_safe
@@ -357,7 +367,7 @@ module _ (e : Ext) (o : Options) (values : List ℕ) (h : Solved e o values) whe
       let ie = in_entry e o values p in
       let q = register_sits e o values ie p u.place u.temp (placed_domains e o values h p d.0) d.1 in
       let f = domain_safe ie p p.op.kind u.place u.temp (carried p.op u.temp) (slice_index values (p.first + register_place p.op + u.place))
-          d.0 q in
+      d.0 q in
       λ z. f (ap (λ (v : LiveRange). v.reg) s.3 ∙ z)
 
   -- ---- the frame
@@ -381,7 +391,7 @@ module _ (e : Ext) (o : Options) (values : List ℕ) (h : Solved e o values) whe
   holds_slot [] a r m act le = elim m [ ]
   holds_slot (q ∷ qs) a r (inl s) act le =
       let t : (q.active && nat_le 36 q.reg) ≡ true = let z : nat_le 36 q.reg ≡ true = ap (λ (v : LiveRange). nat_le 36 v.reg) s
-          ∙ le_true 36 r.reg le in let y : q.active ≡ true = ap (λ (v : LiveRange). v.active) s ∙ act in rw (y, z) refl in
+      ∙ le_true 36 r.reg le in let y : q.active ≡ true = ap (λ (v : LiveRange). v.active) s ∙ act in rw (y, z) refl in
       let v : larger_slot a q ≡ max a (q.reg - 36) = ap (λ (b : Bool). if b then max a (q.reg - 36) else a) t in
       let w = fold_slot qs (larger_slot a q) in
       let e' : q.reg ≡ r.reg = ap (λ (v : LiveRange). v.reg) s in omega arith
@@ -408,7 +418,7 @@ module _ (e : Ext) (o : Options) (values : List ℕ) (h : Solved e o values) whe
           let t : starts_in_slot (range_at e o values x) ≡ true = rw (a, ap is_none q, z) refl in
           let y = any_true starts_in_slot (the_ranges e o values) (range_at e o values x) member t in
           or_true (list_any (λ (i : Issue). is_frame_access i.instr) (issues_of (model_of e o) values))
-              (list_any starts_in_slot (the_ranges e o values)) y
+          (list_any starts_in_slot (the_ranges e o values)) y
         where
           or_true : (a b : Bool) → b ≡ true → (a || b) ≡ true
           or_true true b q = refl
@@ -454,12 +464,12 @@ module _ (e : Ext) (o : Options) (values : List ℕ) (h : Solved e o values) whe
           spilled : (op : Op) → (range_at e o values x).instr ≡ Some op → op ≡ Spill → uses_frame the_schedule ≡ true
           spilled op z f =
               let acc : is_frame_access (issue_at values (let q = u in q.definer)).instr ≡ true = ap is_frame_access (instr_is op z)
-                  ∙ ap (λ (y : Op). is_frame_access (Some y)) f in
+              ∙ ap (λ (y : Op). is_frame_access (Some y)) f in
               let mem : Member (issue_at values (let q = u in q.definer)) (issues_of (model_of e o) values) =
-                  subst (Member (issue_at values (let q = u in q.definer))) (sym (issues_are values 0 0 0 e.blocks))
-                  (member_map (issue_at values) (all e o values) (let q = u in q.definer) mp) in
+              subst (Member (issue_at values (let q = u in q.definer))) (sym (issues_are values 0 0 0 e.blocks))
+              (member_map (issue_at values) (all e o values) (let q = u in q.definer) mp) in
               let y = any_true (λ (i : Issue). is_frame_access i.instr) (issues_of (model_of e o) values)
-                  (issue_at values (let q = u in q.definer)) mem acc in
+              (issue_at values (let q = u in q.definer)) mem acc in
               ap (λ (b : Bool). b || list_any starts_in_slot (the_ranges e o values)) y
 
           with_kind : (op : Op) → (range_at e o values x).instr ≡ Some op
@@ -514,11 +524,11 @@ module _ (e : Ext) (o : Options) (values : List ℕ) (h : Solved e o values) whe
                   (λ (y : ExtKind). instruction_of y (value_by values (let q = u.definer in vars_of q).instr)) t) ∙ f in absurd (cc z)
               of_kind (Body so) t f l =
                   let w : Some so.op ≡ Some op = sym (ap (λ (y : ExtKind). instruction_of y
-                      (value_by values (let q = u.definer in vars_of q).instr)) t) ∙ f in
+                  (value_by values (let q = u.definer in vars_of q).instr)) t) ∙ f in
                   let g = placed_good e o values h (let q = u in q.definer) mp in
                   let ks = g.keeps in
                   of_source so (cc w) (subst (λ (y : ExtKind). IsGoodKind y (let q = u.definer in q.op)) (q ∙ t) ks.kind)
-                      (l ∙ ap (result_count e.table (let q = u.definer in q.owner)) t)
+                  (l ∙ ap (result_count e.table (let q = u.definer in q.owner)) t)
               of_kind (Copy node) t f l = copied (value_by values (let q = u.definer in vars_of q).instr)
                   (sym (ap (λ (y : ExtKind). instruction_of y (value_by values (let q = u.definer in vars_of q).instr)) t) ∙ f)
               of_kind Out t f l = empty (l ∙ ap (result_count e.table (let q = u.definer in q.owner)) t)
@@ -540,9 +550,9 @@ module _ (e : Ext) (o : Options) (values : List ℕ) (h : Solved e o values) whe
       let used = fr.used in
       let flag = used.1 (slot_used x a le) in
       let m = holds_slot (the_ranges e o values) 0 (range_at e o values x)
-          (member_at (the_ranges e o values) x (range_at e o values x) (range_in e o values h x a)) a le in
+      (member_at (the_ranges e o values) x (range_at e o values x) (range_in e o values h x a)) a le in
       let f : frame_of (model_of e o) values ≡ frame_bytes (largest_slot (the_ranges e o values)) =
-          ap (λ n. if n == 0 then 0 else frame_bytes (largest_slot (the_ranges e o values))) flag in
+      ap (λ n. if n == 0 then 0 else frame_bytes (largest_slot (the_ranges e o values))) flag in
       let g = half (largest_slot (the_ranges e o values)) ((range_at e o values x).reg - 36) m in
       let w : words ≡ frame_bytes (largest_slot (the_ranges e o values)) / 4 = ap (λ n. n / 4) f in
       let lt : (range_at e o values x).reg - 36 < words = subst (λ n. (range_at e o values x).reg - 36 < n) (sym w) g in
@@ -573,19 +583,19 @@ module _ (e : Ext) (o : Options) (values : List ℕ) (h : Solved e o values) whe
       let got : slice_get p'.op.results y.0 ≡ Some y.1 = ap (λ (w : ExtOp). slice_get w.results y.0) z.2 ∙ y.3 in
       let sp = spot p' y.0 y.1 in
       let msp = member_joined (map spots_of (all e o values)) (spots_of p') sp (member_map spots_of (all e o values) p' mem)
-          (member_places (spot p') p'.op.results 0 y.0 y.0 y.1 (omega arith) got) in
+      (member_places (spot p') p'.op.results 0 y.0 y.0 y.1 (omega arith) got) in
       let same : (y.1).0 ≡ x.0 = is_same (y.1).0 x.0 (and_left ((y.1).0 == x.0) (gives_truth_at e.names p.owner.live_in op.kind (0 + y.0))
-          y.2) in
+      y.2) in
       let gt = and_right ((y.1).0 == x.0) (gives_truth_at e.names p.owner.live_in op.kind (0 + y.0)) y.2 in
       let gt' : gives_truth_at e.names p.owner.live_in op.kind y.0 ≡ true =
-          ap (gives_truth_at e.names p.owner.live_in op.kind) (omega arith) ∙ gt in
+      ap (gives_truth_at e.names p.owner.live_in op.kind) (omega arith) ∙ gt in
       let lt = length_get op.results y.0 y.1 y.3 in
       let k : spot_kind e.names sp ≡ Pred =
       ap (λ (w : ExtOp). kind_or (defined_kinds e.names p'.owner w.kind w) y.0) z.2
       ∙ ap (λ (b : ExtBlock). kind_or (defined_kinds e.names b op.kind op) y.0) (z.5 ∙ reg.owner)
-          ∙ truth_at op.kind op y.0 p.owner lt gt' (let b = g.block in let w = b.ops at.0 op at.2 in w.kind) in
+      ∙ truth_at op.kind op y.0 p.owner lt gt' (let b = g.block in let w = b.ops at.0 op at.2 in w.kind) in
       ap (slice_get (all_kinds e.names e.blocks)) (sym same) ∙ kind_listed e o values (numbered e o values h) (fit_kinds e o values h) sp
-          msp ∙ ap Some k
+      msp ∙ ap Some k
     where
       is_same : (a b : ℕ) → (a == b) ≡ true → a ≡ b
       is_same a b q = ⊎_elim (λ (e : a ≡ b). e) (λ (n : a ≢ b). absurd (grind (arith, q))) (cases_eq a b)
@@ -634,7 +644,7 @@ module _ (e : Ext) (o : Options) (values : List ℕ) (h : Solved e o values) whe
       truth_at In op j b lt q gk =
           let n = pred_name (slice_get b.live_in j) q in
           ap (λ (z : Option Kind). unwrap_or z General) (map_get (name_kind e.names) b.live_in j n.0 n.1
-              (replicate (length op.results - length b.live_in) General)) ∙ ap (λ (z : Option Kind). unwrap_or z General) n.2
+          (replicate (length op.results - length b.live_in) General)) ∙ ap (λ (z : Option Kind). unwrap_or z General) n.2
       truth_at (Body so) op j b lt q gk = const op.results j lt ∙ truth_result so.op q (text_class so.op gk.op)
         where
           const : (xs : List TempId) (n : ℕ) → n < length xs → kind_or (map (λ (y : TempId). result_kind so.op) xs) n ≡ result_kind so.op
@@ -655,21 +665,21 @@ module _ (e : Ext) (o : Options) (values : List ℕ) (h : Solved e o values) whe
       let truth = carries_truth e p.owner p.op p.op.results in
       let dom = instr_sits e o values ie p (copy_domain truth) (placed_domains e o values h p m) (ap (instr_domain truth) q) in
       let val : value_by values (vars_of p).instr ≡ slice_index values p.first =
-          ap (λ (k : ExtKind). value_by values (var_if (is_optional k) p.first)) q in
+      ap (λ (k : ExtKind). value_by values (var_if (is_optional k) p.first)) q in
       let t = cond_domain truth (slice_index values p.first) (omega (arith, le, val)) dom in
       let t' : is_truth e.names p.owner (carried p.op y) ≡ true = sym (ap (carries_truth e p.owner p.op) r) ∙ t in
       let sh = shape in
       let x = sh.0 in
       let first : (carried p.op y).0 ≡ first_of x.alts = ap (λ (k : ExtKind). let c = carried_by k p.op.operands y in c.0) q
-          ∙ ap (λ xs. let c = first_alternative xs y in c.0) sh.1 ∙ head x.alts sh.2 in
+      ∙ ap (λ xs. let c = first_alternative xs y in c.0) sh.1 ∙ head x.alts sh.2 in
       let kinds = ap (slice_get (all_kinds e.names e.blocks)) (sym first) ∙ truth_kind p (carried p.op y) m t' in
       let u = spot p 0 y in
       let mu = member_joined (map spots_of (all e o values)) (spots_of p) u (member_map spots_of (all e o values) p m)
-          (subst (λ ys. Member u (places_from (spot p) 0 ys)) (sym r) (inl refl)) in
+      (subst (λ ys. Member u (places_from (spot p) 0 ys)) (sym r) (inl refl)) in
       let c = carried_is e o values (numbered e o values h) (fit_kinds e o values h) u mu ∙ ap (λ (k : ExtKind). carried_at k u) q
-          ∙ ap first_read sh.1 in
+      ∙ ap first_read sh.1 in
       ap (λ (z : TempId). unwrap_or (slice_get (all_kinds e.names e.blocks) z.0) General) c
-          ∙ ap (λ (z : Option Kind). unwrap_or z General) kinds
+      ∙ ap (λ (z : Option Kind). unwrap_or z General) kinds
     where
       head : (alts : List TempId) → 0 < length alts → (unwrap_or (slice_get alts 0) y).0 ≡ first_of alts
       head [] lt = absurd (omega arith)
@@ -681,7 +691,7 @@ module _ (e : Ext) (o : Options) (values : List ℕ) (h : Solved e o values) whe
           let keeps = g.keeps in
           let w = anywhere (unwrap_or (kind_of_temp e.names e.blocks (first_read p.op.operands)) General) in
           let wanted : wants_of e.table e.names e.blocks p.owner p.op.kind p.op ≡ w ∷ [] =
-              ap (λ (x : ExtKind). wants_of e.table e.names e.blocks p.owner x p.op) q in
+          ap (λ (x : ExtKind). wants_of e.table e.names e.blocks p.owner x p.op) q in
           let zip = subst (AllZip (IsGoodOperand e.names e.blocks g.before) p.op.operands) wanted keeps.operands in
           let one = one_zip (IsGoodOperand e.names e.blocks g.before) p.op.operands w zip in
           let first = subst (λ xs. AllZip (IsGoodOperand e.names e.blocks g.before) xs (w ∷ [])) one.1 zip in

@@ -98,7 +98,7 @@ module _ (e : Ext) (o : Options) (values : List ℕ) (h : Solved e o values) whe
   choice_in p j x m q pos =
       let r = get_below x.alts (value_by values (slice_get (vars_of p).choices j)) (below (has_choices p.op.kind) refl) in
       subst (λ (y : TempId). Member y x.alts) (sym (ap (λ (y : Option TempId). unwrap_or y (temp 0)) r.1))
-          (member_at x.alts (value_by values (slice_get (vars_of p).choices j)) r.0 r.1)
+      (member_at x.alts (value_by values (slice_get (vars_of p).choices j)) r.0 r.1)
     where
       all_of : (b : Bool) → has_choices p.op.kind ≡ b → chosen_operands p.op ≡ (if b then p.op.operands else [])
       all_of b e = ap (λ (c : Bool). if c then p.op.operands else []) e
@@ -110,16 +110,16 @@ module _ (e : Ext) (o : Options) (values : List ℕ) (h : Solved e o values) whe
           let l : length (chosen_operands p.op) ≡ length p.op.operands = ap length ops in
           let get : slice_get (vars_of p).choices j ≡ Some (var_at (p.first + choice_place p.op + j)) =
           slice_get-map var_at (range_with_len (p.first + choice_place p.op) (length (chosen_operands p.op))) j
-              ∙ ap (option_map var_at) (get_range (p.first + choice_place p.op) (length (chosen_operands p.op)) j (omega arith)) in
+          ∙ ap (option_map var_at) (get_range (p.first + choice_place p.op) (length (chosen_operands p.op)) j (omega arith)) in
           let d = choice_sits e o values (in_entry e o values p) p j x (placed_domains p m) (ap (λ xs. slice_get xs j) ops ∙ q) in
           let v : value_by values (slice_get (vars_of p).choices j) ≡ slice_index values (p.first + choice_place p.op + j) =
-              ap (value_by values) get in
+          ap (value_by values) get in
           let hi = d.1 in
           omega arith
       below false c =
           let ops = all_of false c in
           let get : slice_get (vars_of p).choices j ≡ None = ap (λ n. slice_get
-              (map var_at (range_with_len (p.first + choice_place p.op) n)) j) (ap length ops) in
+          (map var_at (range_with_len (p.first + choice_place p.op) n)) j) (ap length ops) in
           let v : value_by values (slice_get (vars_of p).choices j) ≡ 0 = ap (value_by values) get in
           omega arith
 
@@ -147,22 +147,22 @@ module _ (e : Ext) (o : Options) (values : List ℕ) (h : Solved e o values) whe
       let g = placed_good p m in
       let k = g.keeps in
       let z = zip_get (IsGoodOperand e.names e.blocks g.before) p.op.operands (wants_of e.table e.names e.blocks p.owner p.op.kind p.op) j x
-          k.operands q in
+      k.operands q in
       let want = z.0 in
       let ok = z.2 in
       let y = choice_of values (vars_of p) j x in
       let my = choice_in p j x m q ok.chooses in
       let s = g.local y (all_member (Contains g.before) x.alts y ok.known my) in
       let r = good_read e o values numbered (read_of values (issue_at values p) (vars_of p) j x) h.schedule
-          (has_read e o values p j x m act q) in
+      (has_read e o values p j x m act q) in
       let one = one_spot e o values numbered r.result s.0 r.member s.1 (r.is ∙ sym (ap (λ (t : TempId). t.0) s.2)) in
       let same : range_at e o values s.0.temp.0 ≡ spot_range e o values r.result = range_here e o values numbered s.0 s.1
-          ∙ ap (spot_range e o values) (sym one) in
+      ∙ ap (spot_range e o values) (sym one) in
       let back : (P : LiveRange → Type 0) → P (spot_range e o values r.result)
-          → P (range_at e o values s.0.temp.0) = λ P v. subst P (sym same) v in
+      → P (range_at e o values s.0.temp.0) = λ P v. subst P (sym same) v in
       let one_val = all_member (λ (y : TempId). carried e.blocks y ≡ temp (first_of x.alts)) x.alts y ok.one_value my in
       let first = all_member (λ (y : TempId). carried e.blocks y ≡ temp (first_of x.alts)) x.alts (temp (first_of x.alts)) ok.one_value
-          (first_in x.alts ok.chooses) in (
+      (first_in x.alts ok.chooses) in (
         want,
         z.1,
         record {
@@ -193,5 +193,5 @@ module _ (e : Ext) (o : Options) (values : List ℕ) (h : Solved e o values) whe
       (range_at e o values s.temp.0).reg
   register_is s m =
       let vars : slice_get (model_of e o).temps s.temp.0 ≡ Some (temp_vars s) = ap (λ xs. slice_get xs s.temp.0) (temps_are 0 0 0 e.blocks)
-          ∙ slice_get-map temp_vars (spots e o values) s.temp.0 ∙ ap (option_map temp_vars) (spot_here e o values numbered s m) in
+      ∙ slice_get-map temp_vars (spots e o values) s.temp.0 ∙ ap (option_map temp_vars) (spot_here e o values numbered s m) in
       ap (λ (t : Option TempVars). (register_by values t).0) vars ∙ sym (ap (λ (v : LiveRange). v.reg) (range_here e o values numbered s m))

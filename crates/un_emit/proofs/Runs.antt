@@ -110,7 +110,7 @@ module _ (e : Ext) (o : Options) (values : List ℕ) (h : Solved e o values) whe
   pub record IsCodeOf (code : List CodeBlock) : Type 0 where
     pub code_at : (k : ℕ) (block : ExtBlock) (at : slice_get e.blocks k ≡ Some block) → (c : CodeBlock) × (slice_get code k ≡ Some c)
         × (c.packets ≡ packets_from (own_jobs e o values h (words e o values h) (placing e o values h) k block (region k block at)) 1
-            (own_end e o values h (words e o values h) (placing e o values h) k block (region k block at) - 1))
+        (own_end e o values h (words e o values h) (placing e o values h) k block (region k block at) - 1))
     pub label_at : (k : ℕ) (block : ExtBlock) → slice_get e.blocks k ≡ Some block → label_place code block.label ≡ k
 
   -- the values at the start of block b stand in their places
@@ -118,7 +118,7 @@ module _ (e : Ext) (o : Options) (values : List ℕ) (h : Solved e o values) whe
   StandAt b taken p = (block : ExtBlock) → slice_get e.blocks b ≡ Some block → (j : ℕ) (x : TempId)
       → slice_get (in_temps block.ops) j ≡ Some x
       → held_at p (range_at e o values x.0).reg ≡ as_held (kind_at e o values (numbered e o values h) (fit_kinds e o values h) x.0)
-          (range_at e o values x.0).reg (slice_index taken j)
+      (range_at e o values x.0).reg (slice_index taken j)
 
   -- the two runs stop in one way, where the stack pointer was `top` at the start
   abbrev pub StopsAlike : ℕ → LinearStop → PacketStop → PacketState → Type 0
@@ -168,7 +168,7 @@ module _ (e : Ext) (o : Options) (values : List ℕ) (h : Solved e o values) whe
       facts_world =
           let eq = its_equations e o values h k block r taken w in
           let f = all_facts e o values h (final e o values h k block r taken w) (region_placed (let q = r in q.region)) k w
-              (of_all e o values h k block r) (carries e o values h k block r taken w) eq.0 in
+          (of_all e o values h k block r) (carries e o values h k block r taken w) eq.0 in
           f.world ∙ eq.1
 
       ops : OpsRun e o values h (final e o values h k block r taken w) (region_placed (let q = r in q.region)) (entered block taken w)
@@ -176,7 +176,7 @@ module _ (e : Ext) (o : Options) (values : List ℕ) (h : Solved e o values) whe
           (region_placed (let q = r in q.region)) k (entered block taken w) (of_all e o values h k block r)
           (carries e o values h k block r taken w)
           (its_equations e o values h k block r taken w).0 (runs e o values h k block r taken w)
-              (firsts e o values h k block r (final e o values h k block r taken w))
+          (firsts e o values h k block r (final e o values h k block r taken w))
 
       own_ops_are : map (λ (p : Placed). p.op) (region_placed (let q = r in q.region)) ≡ block.ops
       own_ops_are = let q = r in let z = q.region in back z.block z.owner (var_at (z.first + ops_count (z.owner).ops)) z.number z.first
@@ -192,7 +192,7 @@ module _ (e : Ext) (o : Options) (values : List ℕ) (h : Solved e o values) whe
           → enter e.blocks (suc n) k taken w ≡ leave_unless t.stop e.blocks k block t.state (enter e.blocks n)
       linear_is t q = ap (λ (b : Option ExtBlock). through e.blocks b k taken w (enter e.blocks n)) at
           ∙ ap (λ (z : LinearEnd). leave_unless z.stop e.blocks k block z.state (enter e.blocks n))
-              (ap (λ os. ops_run os (entered block taken w)) (sym own_ops_are) ∙ q)
+          (ap (λ os. ops_run os (entered block taken w)) (sym own_ops_are) ∙ q)
 
       -- that of the packets
       packets_are : (t : PacketStep) → packets_run e.table (packets_from x.jobs 1 (x.end - 1)) s ≡ t
@@ -209,20 +209,23 @@ module _ (e : Ext) (o : Options) (values : List ℕ) (h : Solved e o values) whe
           let c = is.code_at k block at in
           subst (λ (b : Option CodeBlock). never_through e.table code b k s (NeverWaits e.table code n)) (sym c.1)
           (subst (λ ps. NoneWaits e.table ps s × never_after code k (packets_run e.table ps s) (NeverWaits e.table code n)) (sym c.2)
-              (nw, subst (λ (z : PacketStep). never_after code k z (NeverWaits e.table code n)) (sym q) after))
+          (nw, subst (λ (z : PacketStep). never_after code k z (NeverWaits e.table code n)) (sym q) after))
 
       good : (l : LinearRun) (p : PacketRun) → enter e.blocks (suc n) k taken w ≡ l → enter_packets e.table code (suc n) k s ≡ p
           → RunsAlike (base + frame_bytes) l p → NeverWaits e.table code (suc n) k s → Good (suc n) k taken w s
-      good l p ql qp ra nw = (subst (λ (z : LinearRun). RunsAlike (base + frame_bytes) z (enter_packets e.table code (suc n) k s)) (sym ql)
-          (subst (RunsAlike (base + frame_bytes) l) (sym qp) ra), nw)
+      good l p ql qp ra nw = (
+        subst (λ (z : LinearRun). RunsAlike (base + frame_bytes) z (enter_packets e.table code (suc n) k s)) (sym ql)
+            (subst (RunsAlike (base + frame_bytes) l) (sym qp) ra),
+        nw,
+      )
 
       -- ---- the block stops within
 
       stopping : (f : Failing x.val x.jobs x.world) (u : PacketState)
           → (record { memory = u.memory; calls = u.calls; replies = u.replies } ≡ run_jobs x.val f.before x.world)
           → packets_run e.table (packets_from x.jobs 1 (x.end - 1)) s ≡ Stopped (stop_of x f) u
-              → NoneWaits e.table (packets_from x.jobs 1 (x.end - 1)) s
-              → OpsRun e o values h x.val (region_placed (let q = r in q.region)) (entered block taken w) → Good (suc n) k taken w s
+          → NoneWaits e.table (packets_from x.jobs 1 (x.end - 1)) s
+          → OpsRun e o values h x.val (region_placed (let q = r in q.region)) (entered block taken w) → Good (suc n) k taken w s
       stopping f u wu run nw (goes_through pass q) = absurd (not_both x.val x.jobs w pass f)
       stopping f u wu run nw (halts_at g q) =
           let same = one_failing x.val x.jobs w f g in
@@ -232,8 +235,8 @@ module _ (e : Ext) (o : Options) (values : List ℕ) (h : Solved e o values) whe
           let i = f.job in
           let ops_same : i.instr.op ≡ j.instr.op = ap (λ (z : Job). z.instr.op) same.1 in
           let call_same : call_of x.val j (run_jobs x.val g.before w) ≡ call_of x.val i (run_jobs x.val f.before w) =
-              ap (λ (z : Job). call_of x.val z (run_jobs x.val g.before w)) (sym same.1)
-              ∙ ap (λ js. call_of x.val i (run_jobs x.val js w)) (sym same.0) in
+          ap (λ (z : Job). call_of x.val z (run_jobs x.val g.before w)) (sym same.1)
+          ∙ ap (λ js. call_of x.val i (run_jobs x.val js w)) (sym same.0) in
           good _ _ (linear_is t refl ∙ st) (packets_are (Stopped (stop_of x f) u) run)
           (record {
             stop = subst (λ (op : Op). StopsAlike (base + frame_bytes) (halt_by op (call_of x.val j (run_jobs x.val g.before w)))
@@ -248,9 +251,9 @@ module _ (e : Ext) (o : Options) (values : List ℕ) (h : Solved e o values) whe
       module _ (u : PacketState) (au : At (scene e o values h k block (region k block at) at base taken w s)
           (the_end e o values h k block (region k block at) at - 1) u) (le : 1 ≤ the_end e o values h k block (region k block at) at)
           (run : packets_run e.table (packets_from x.jobs 1 (x.end - 1)) s ≡ exit_of (transfer_of x.jobs) (first_read x.val) u)
-              (nw : NoneWaits e.table (packets_from x.jobs 1 (x.end - 1)) s)
+          (nw : NoneWaits e.table (packets_from x.jobs 1 (x.end - 1)) s)
           (through_ops : ops_run (map (λ (p : Placed). p.op) (region_placed (let q = r in q.region))) (entered block taken w) ≡
-              record { stop = None; state = after }) where
+          record { stop = None; state = after }) where
         abbrev over : List ℕ
         over = handed e o values h k block (region k block at) at base taken w s a
 
@@ -277,16 +280,16 @@ module _ (e : Ext) (o : Options) (values : List ℕ) (h : Solved e o values) whe
             let g = ext.good in
             let term = (let z = ending_of block.ops in z.term) in
             let l = each_member (λ (c : ℕ). (0 < c) × (c < length e.blocks)) (targets_of k term) c
-                (each_all (λ (c : ℕ). (0 < c) × (c < length e.blocks)) (targets_of k term) (g.leads k block at))
-                (contains_member (targets_of k term) c edge) in
+            (each_all (λ (c : ℕ). (0 < c) × (c < length e.blocks)) (targets_of k term) (g.leads k block at))
+            (contains_member (targets_of k term) c edge) in
             let b = get_below e.blocks c l.1 in
             let start = arrive e o values h k block r at c b.0 (region c b.0 b.1) b.1 edge base taken w s a u le au room in
             let start' = subst (λ (w' : World). AtStart e o values h c b.0 (region c b.0 b.1) b.1 base (taken_by block over b.0) w' u)
-                facts_world start in
+            facts_world start in
             let f = known c b.0 b.1 (taken_by block over b.0) (let q = after in q.world) u start' in
             let here : hand_over e.blocks block over (let q = after in q.world) (enter e.blocks n) c ≡ enter e.blocks n c
-                (taken_by block over b.0) (let q = after in q.world) =
-                ap (λ (z : Option ExtBlock). enter e.blocks n c (taken_over block over z) (let q = after in q.world)) b.1 in
+            (taken_by block over b.0) (let q = after in q.world) =
+            ap (λ (z : Option ExtBlock). enter e.blocks n c (taken_over block over z) (let q = after in q.world)) b.1 in
             (subst (λ (z : LinearRun). RunsAlike (base + frame_bytes) z (enter_packets e.table code n c u)) (sym here) f.0, f.1)
 
         falling : (let z = ending_of block.ops in Contains (targets_of k z.term) (k + 1))
@@ -295,9 +298,11 @@ module _ (e : Ext) (o : Options) (values : List ℕ) (h : Solved e o values) whe
 
         jumping : (c : ℕ) (label : List ℕ) → (let z = ending_of block.ops in Contains (targets_of k z.term) c) → label_place code label ≡ c
             → Left (Jumped label u) (hand_over e.blocks block over (let q = after in q.world) (enter e.blocks n) c)
-        jumping c label edge q = let f = onward c edge in
-            (subst (λ m. RunsAlike (base + frame_bytes) (hand_over e.blocks block over (let q = after in q.world) (enter e.blocks n) c)
-                (enter_packets e.table code n m u)) (sym q) f.0, subst (λ m. NeverWaits e.table code n m u) (sym q) f.1)
+        jumping c label edge q = let f = onward c edge in (
+          subst (λ m. RunsAlike (base + frame_bytes) (hand_over e.blocks block over (let q = after in q.world) (enter e.blocks n) c)
+              (enter_packets e.table code n m u)) (sym q) f.0,
+          subst (λ m. NeverWaits e.table code n m u) (sym q) f.1,
+        )
 
         -- the label of a target leads to it
         label_leads : (c : ℕ) → (let z = ending_of block.ops in Contains (targets_of k z.term) c)
@@ -307,11 +312,11 @@ module _ (e : Ext) (o : Options) (values : List ℕ) (h : Solved e o values) whe
             let g = ext.good in
             let term = (let z = ending_of block.ops in z.term) in
             let l = each_member (λ (c : ℕ). (0 < c) × (c < length e.blocks)) (targets_of k term) c
-                (each_all (λ (c : ℕ). (0 < c) × (c < length e.blocks)) (targets_of k term) (g.leads k block at))
-                (contains_member (targets_of k term) c edge) in
+            (each_all (λ (c : ℕ). (0 < c) × (c < length e.blocks)) (targets_of k term) (g.leads k block at))
+            (contains_member (targets_of k term) c edge) in
             let b = get_below e.blocks c l.1 in
             ap (λ (z : Option ExtBlock). label_place code (unwrap_or (option_map (λ (b : ExtBlock). b.label) z) [])) b.1
-                ∙ is.label_at c b.0 b.1
+            ∙ is.label_at c b.0 b.1
 
         -- ---- the block returns
 
@@ -331,7 +336,7 @@ module _ (e : Ext) (o : Options) (values : List ℕ) (h : Solved e o values) whe
             let g = placed_good e o values h p (of_all e o values h k block r p oo.member).0 in
             let f = g.keeps in
             zip_length (IsGoodOperand e.names e.blocks g.before) p.op.operands (wants_of e.table e.names e.blocks p.owner p.op.kind p.op)
-                f.operands
+            f.operands
             ∙ ap (λ (y : ExtKind). length (wants_of e.table e.names e.blocks p.owner y p.op)) oo.kind
             ∙ ap (λ (b : ExtBlock). length (wants_of e.table e.names e.blocks b Out p.op)) (owner_of e o values h k block r at p oo.member)
 
@@ -352,9 +357,9 @@ module _ (e : Ext) (o : Options) (values : List ℕ) (h : Solved e o values) whe
             let rd = g.reading_is in
             let v = rd.spot in
             let home : (range_at e o values v.temp.0).reg ≡ reg =
-                subst (λ (w : Want). HasHome w.home (range_at e o values v.temp.0)) same' rd.home in
+            subst (λ (w : Want). HasHome w.home (range_at e o values v.temp.0)) same' rd.home in
             sym (held_reg u reg lt) ∙ ap (held_at u) (sym home) ∙ g.held
-                ∙ ap (λ (w : Want). as_held w.kind (range_at e o values v.temp.0).reg (slice_index over i)) same'
+            ∙ ap (λ (w : Want). as_held w.kind (range_at e o values v.temp.0).reg (slice_index over i)) same'
 
         end_is : (p : Placed) (term : Term) → ending_of block.ops ≡ record { term = term; operands = p.op.operands } → (l : LinearRun)
             → leave k term (map (value_of (let q = after in q.values)) p.op.operands) over (let q = after in q.world)
@@ -371,12 +376,12 @@ module _ (e : Ext) (o : Options) (values : List ℕ) (h : Solved e o values) whe
             let t = block_timed e o values h (words e o values h) (placing e o values h) k block r at in
             let m = the_end e o values h k block r at in
             au.world ∙ run_done x.val (m - 1 + 1) x.jobs w (each_more (λ (j : Job). j.cycle < m)
-                (λ (j : Job). is_effect j.instr.op ≡ true → j.cycle < m - 1 + 1) x.jobs (λ j lt q. omega arith) t.soon) ∙ facts_world
+            (λ (j : Job). is_effect j.instr.op ≡ true → j.cycle < m - 1 + 1) x.jobs (λ j lt q. omega arith) t.soon) ∙ facts_world
 
         returning : (value : Option NameId) (v : ℕ) → (let z = ending_of block.ops in z.term ≡ Ret value) → (link : ℕ) → v ≡ link
             → Left (Stopped (ReturnedTo (slice_index u.regs 0) v) u)
-                (leave k (Ret value) (link ∷ []) over (let q = after in q.world)
-                (hand_over e.blocks block over (let q = after in q.world) (enter e.blocks n)))
+            (leave k (Ret value) (link ∷ []) over (let q = after in q.world)
+            (hand_over e.blocks block over (let q = after in q.world) (enter e.blocks n)))
         returning None v q link same =
             let ws = ap (wants_of_out e.table e.names block.live_out) q in (
               record {
@@ -387,7 +392,7 @@ module _ (e : Ext) (o : Options) (values : List ℕ) (h : Solved e o values) whe
                       (let l = over_length in let z = ap length ws in let y = length-mapped word_in (callee_saved e.table) in
                       omega (arith, l, z, y))
                       (λ i reg s. word_there i reg (ap (λ xs. slice_get xs i) ws ∙ get_map word_in (callee_saved e.table) i reg s)
-                          (let z = callee_small e.table reg (member_at (callee_saved e.table) i reg s) in omega arith)),
+                      (let z = callee_small e.table reg (member_at (callee_saved e.table) i reg s) in omega arith)),
                   top_again (ap is_return q),
                 );
                 world = world_again;
@@ -408,9 +413,9 @@ module _ (e : Ext) (o : Options) (values : List ℕ) (h : Solved e o values) whe
                       (let l = over_length in let z = ap length ws in let y = length-mapped word_in (callee_saved e.table) in let d =
                       drop_length over in omega (arith, l, z, y, d))
                       (λ i reg s. word_there (suc i) reg (ap (λ xs. slice_get xs (suc i)) ws
-                          ∙ get_map word_in (callee_saved e.table) i reg s)
-                          (let z = callee_small e.table reg (member_at (callee_saved e.table) i reg s) in omega arith)
-                          ∙ sym (drop_one over i)),
+                      ∙ get_map word_in (callee_saved e.table) i reg s)
+                      (let z = callee_small e.table reg (member_at (callee_saved e.table) i reg s) in omega arith)
+                      ∙ sym (drop_one over i)),
                   top_again (ap is_return q),
                 );
                 world = world_again;
@@ -428,11 +433,11 @@ module _ (e : Ext) (o : Options) (values : List ℕ) (h : Solved e o values) whe
         leaves (no_job tr q) =
             let f = ap (λ (z : Option Job). exit_of z (first_read x.val) u) tr in
             let edge : (let z = ending_of block.ops in Contains (targets_of k z.term) (k + 1)) =
-                subst (λ (t : Term). Contains (targets_of k t) (k + 1)) (sym q) (0, omega arith, refl) in
+            subst (λ (t : Term). Contains (targets_of k t) (k + 1)) (sym q) (0, omega arith, refl) in
             let z = ending_of block.ops in
             finish (Went u) (hand_over e.blocks block over (let q = after in q.world) (enter e.blocks n) (k + 1)) f
             (ap (λ (t : Term). leave k t (map (value_of (let q = after in q.values)) z.operands) over (let q = after in q.world)
-                (hand_over e.blocks block over (let q = after in q.world) (enter e.blocks n))) q) (falling edge)
+            (hand_over e.blocks block over (let q = after in q.world) (enter e.blocks n))) q) (falling edge)
         leaves (one_job p j term m g tr kp tj eq) = by_term term refl
           where
             v : ℕ
@@ -473,7 +478,7 @@ module _ (e : Ext) (o : Options) (values : List ℕ) (h : Solved e o values) whe
             branching : (b : Bool) (c : ℕ) → (edge1 : (let z = ending_of block.ops in Contains (targets_of k z.term) (k + 1)))
                 → (edge2 : (let z = ending_of block.ops in Contains (targets_of k z.term) c))
                 → Left (if b then Went u else Jumped (unwrap_or (option_map (λ (b : ExtBlock). b.label) (slice_get e.blocks c)) []) u)
-                    (if b then go_to (k + 1) else go_to c)
+                (if b then go_to (k + 1) else go_to c)
             branching true c e1 e2 = falling e1
             branching false c e1 e2 = jumping c (unwrap_or (option_map (λ (b : ExtBlock). b.label) (slice_get e.blocks c)) []) e2
                 (label_leads c e2)
@@ -481,7 +486,7 @@ module _ (e : Ext) (o : Options) (values : List ℕ) (h : Solved e o values) whe
             branching_not : (b : Bool) (c : ℕ) → (edge1 : (let z = ending_of block.ops in Contains (targets_of k z.term) (k + 1)))
                 → (edge2 : (let z = ending_of block.ops in Contains (targets_of k z.term) c))
                 → Left (if b then Jumped (unwrap_or (option_map (λ (b : ExtBlock). b.label) (slice_get e.blocks c)) []) u else Went u)
-                    (if b then go_to c else go_to (k + 1))
+                (if b then go_to c else go_to (k + 1))
             branching_not false c e1 e2 = falling e1
             branching_not true c e1 e2 = jumping c (unwrap_or (option_map (λ (b : ExtBlock). b.label) (slice_get e.blocks c)) []) e2
                 (label_leads c e2)
@@ -494,45 +499,45 @@ module _ (e : Ext) (o : Options) (values : List ℕ) (h : Solved e o values) whe
                 finish (Jumped (unwrap_or (option_map (λ (b : ExtBlock). b.label) (slice_get e.blocks to.0)) []) u) (go_to to.0)
                 (exit_is JumpOp op ∙ ap (λ (t : Term). exit_by JumpOp (slice_index read 0) (label_of e.blocks t) u) q)
                 (end_is p (Jump to) (ended (Jump to) q) (go_to to.0) refl)
-                    (jumping to.0 (unwrap_or (option_map (λ (b : ExtBlock). b.label) (slice_get e.blocks to.0)) []) edge
-                    (label_leads to.0 edge))
+                (jumping to.0 (unwrap_or (option_map (λ (b : ExtBlock). b.label) (slice_get e.blocks to.0)) []) edge
+                (label_leads to.0 edge))
             by_term (Branch pred true to) q =
                 let op = op_is JumpIf (ap transfer_op_of (sym q) ∙ tj) in
                 let e1 = to_term (Branch pred true to) q (k + 1) (0, omega arith, refl) in
                 let e2 = to_term (Branch pred true to) q to.0 (1, omega arith, refl) in
                 let b = nat_eq (slice_index read 0) 0 in
                 finish (if b then Went u else Jumped (unwrap_or (option_map (λ (b : ExtBlock). b.label) (slice_get e.blocks to.0)) []) u)
-                    (if b then go_to (k + 1) else go_to to.0)
+                (if b then go_to (k + 1) else go_to to.0)
                 (exit_is JumpIf op ∙ ap (λ (t : Term). exit_by JumpIf (slice_index read 0) (label_of e.blocks t) u) q)
                 (end_is p (Branch pred true to) (ended (Branch pred true to) q) (if b then go_to (k + 1) else go_to to.0) refl)
-                    (branching b to.0 e1 e2)
+                (branching b to.0 e1 e2)
             by_term (Branch pred false to) q =
                 let op = op_is JumpIfNot (ap transfer_op_of (sym q) ∙ tj) in
                 let e1 = to_term (Branch pred false to) q (k + 1) (0, omega arith, refl) in
                 let e2 = to_term (Branch pred false to) q to.0 (1, omega arith, refl) in
                 let b = nat_eq (slice_index read 0) 0 in
                 finish (if b then Jumped (unwrap_or (option_map (λ (b : ExtBlock). b.label) (slice_get e.blocks to.0)) []) u else Went u)
-                    (if b then go_to to.0 else go_to (k + 1))
+                (if b then go_to to.0 else go_to (k + 1))
                 (exit_is JumpIfNot op ∙ ap (λ (t : Term). exit_by JumpIfNot (slice_index read 0) (label_of e.blocks t) u) q)
                 (end_is p (Branch pred false to) (ended (Branch pred false to) q) (if b then go_to to.0 else go_to (k + 1)) refl)
-                    (branching_not b to.0 e1 e2)
+                (branching_not b to.0 e1 e2)
             by_term (Ret value) q =
                 let op = op_is Jumpr (ap transfer_op_of (sym q) ∙ tj) in
                 finish (Stopped (ReturnedTo (slice_index u.regs 0) (slice_index read 0)) u)
-                    (leave k (Ret value) read over (let q = after in q.world)
-                    (hand_over e.blocks block over (let q = after in q.world) (enter e.blocks n)))
+                (leave k (Ret value) read over (let q = after in q.world)
+                (hand_over e.blocks block over (let q = after in q.world) (enter e.blocks n)))
                 (exit_is Jumpr op)
                 (end_is p (Ret value) (ended (Ret value) q) (leave k (Ret value) read over (let q = after in q.world)
-                    (hand_over e.blocks block over (let q = after in q.world) (enter e.blocks n))) refl)
+                (hand_over e.blocks block over (let q = after in q.world) (enter e.blocks n))) refl)
                 (again value (returning value (slice_index read 0) (ap (λ (z : Ending). z.term) (ended (Ret value) q)) (slice_index read 0)
-                    refl))
+                refl))
               where
                 again : (value : Option NameId) → Left (Stopped (ReturnedTo (slice_index u.regs 0) (slice_index read 0)) u)
                     (leave k (Ret value) (slice_index read 0 ∷ []) over (let q = after in q.world)
                     (hand_over e.blocks block over (let q = after in q.world) (enter e.blocks n)))
                     → Left (Stopped (ReturnedTo (slice_index u.regs 0) (slice_index read 0)) u)
-                        (leave k (Ret value) read over (let q = after in q.world)
-                        (hand_over e.blocks block over (let q = after in q.world) (enter e.blocks n)))
+                    (leave k (Ret value) read over (let q = after in q.world)
+                    (hand_over e.blocks block over (let q = after in q.world) (enter e.blocks n)))
                 again None f = f
                 again (Some name) f = f
 

@@ -121,7 +121,7 @@ module _ (e : Ext) (o : Options) (values : List ℕ) where
   issue_here p m =
       ap (λ is. slice_get is p.number) (issues_are values 0 0 0 e.blocks)
       ∙ slice_get-map (issue_at values) all p.number ∙ ap (option_map (issue_at values))
-          (at_number 0 all p p.number (all_count 0 0 0 e.blocks) m (omega arith))
+      (at_number 0 all p p.number (all_count 0 0 0 e.blocks) m (omega arith))
 
   -- a read of an active operation
   pub has_read : (p : Placed) (j : ℕ) (x : Operand) → Member p all → (issue_at values p).active ≡ true → slice_get p.op.operands j ≡ Some x
@@ -129,20 +129,20 @@ module _ (e : Ext) (o : Options) (values : List ℕ) where
   has_read p j x m a q =
       let r = read_of values (issue_at values p) (vars_of p) j x in
       let here : Member r (reads_at values p) = subst (λ (b : Bool). Member r
-          (if b then places_from (read_of values (issue_at values p) (vars_of p)) 0 p.op.operands else [])) (sym a)
-          (member_places (read_of values (issue_at values p) (vars_of p)) p.op.operands 0 j j x (omega arith) q) in
+      (if b then places_from (read_of values (issue_at values p) (vars_of p)) 0 p.op.operands else [])) (sym a)
+      (member_places (read_of values (issue_at values p) (vars_of p)) p.op.operands 0 j j x (omega arith) q) in
       subst (Member r) (sym (reads_are values 0 0 0 e.blocks)) (member_joined (map (reads_at values) all) (reads_at values p) r
-          (member_map (reads_at values) all p m) here)
+      (member_map (reads_at values) all p m) here)
 
   module _ (numbered : all_results e.blocks ≡ map temp (range_with_len 0 (length (all_results e.blocks)))) where
     spot_temp : (k : ℕ) (s : Spot) → slice_get spots k ≡ Some s → s.temp ≡ temp k
     spot_temp k s q =
         let f : slice_get (all_results e.blocks) k ≡ Some s.temp = ap (λ xs. slice_get xs k) (sym (results_are 0 0 0 e.blocks))
-            ∙ slice_get-map (λ (s : Spot). s.temp) spots k ∙ ap (option_map (λ (s : Spot). s.temp)) q in
+        ∙ slice_get-map (λ (s : Spot). s.temp) spots k ∙ ap (option_map (λ (s : Spot). s.temp)) q in
         let lt = length_get (all_results e.blocks) k s.temp f in
         let g : slice_get (all_results e.blocks) k ≡ Some (temp k) =
         ap (λ xs. slice_get xs k) numbered ∙ slice_get-map temp (range_with_len 0 (length (all_results e.blocks))) k
-            ∙ ap (option_map temp) (get_range 0 (length (all_results e.blocks)) k lt) ∙ ap (λ n. Some (temp n)) (omega arith) in
+        ∙ ap (option_map temp) (get_range 0 (length (all_results e.blocks)) k lt) ∙ ap (λ n. Some (temp n)) (omega arith) in
         let h : Some s.temp ≡ Some (temp k) = sym f ∙ g in
         cc h
 
@@ -167,9 +167,9 @@ module _ (e : Ext) (o : Options) (values : List ℕ) where
     range_get s m =
         let k = s.temp.0 in
         let vars : slice_get (model_of e o).temps k ≡ Some (temp_vars s) = ap (λ xs. slice_get xs k) (temps_are 0 0 0 e.blocks)
-            ∙ slice_get-map temp_vars spots k ∙ ap (option_map temp_vars) (spot_here s m) in
+        ∙ slice_get-map temp_vars spots k ∙ ap (option_map temp_vars) (spot_here s m) in
         get_places e o values (range_of values (issues_of (model_of e o) values) the_reads) (model_of e o).temps 0 k k (temp_vars s)
-            (omega arith) vars
+        (omega arith) vars
         ∙ ap (λ (i : Option Issue). Some (range_by values (temp_vars s) (last_read the_reads k) i)) (issue_here s.definer (definer_in s m))
 
     pub range_here : (s : Spot) → Member s spots → range_at s.temp.0 ≡ spot_range s
@@ -181,7 +181,7 @@ module _ (e : Ext) (o : Options) (values : List ℕ) where
     active_spot k h q =
         let n = length_get the_ranges k h q in
         let long : length the_ranges ≡ length spots = length-places_from (range_of values (issues_of (model_of e o) values) the_reads) 0
-            (model_of e o).temps ∙ ap length (temps_are 0 0 0 e.blocks) ∙ length-mapped temp_vars spots in
+        (model_of e o).temps ∙ ap length (temps_are 0 0 0 e.blocks) ∙ length-mapped temp_vars spots in
         let r = get_below spots k (omega arith) in
         let m = member_at spots k r.0 r.1 in
         let t : r.0.temp.0 ≡ k = ap (λ (x : TempId). x.0) (spot_temp k r.0 r.1) in
@@ -220,14 +220,14 @@ module _ (e : Ext) (o : Options) (values : List ℕ) where
             let lats = h.latencies in
             let back : (P : LiveRange → Type 0) → P g → P (spot_range s.0) = λ P x. subst P (sym s.3) x in
             let space = subst (λ (y : Option LiveRange). ReadsInSpace r y) q
-                (each_member (λ (r : Read). ReadsInSpace r (slice_get the_ranges r.temp.0)) the_reads r
-                (each_all (λ (r : Read). ReadsInSpace r (slice_get the_ranges r.temp.0)) the_reads spaces.0) m) in
+            (each_member (λ (r : Read). ReadsInSpace r (slice_get the_ranges r.temp.0)) the_reads r
+            (each_all (λ (r : Read). ReadsInSpace r (slice_get the_ranges r.temp.0)) the_reads spaces.0) m) in
             let gap = subst (λ (y : Option LiveRange). LeavesGap (latency_gap e.table) r y) q
-                (each_member (λ (r : Read). LeavesGap (latency_gap e.table) r (slice_get the_ranges r.temp.0)) the_reads r
-                (each_all (λ (r : Read). LeavesGap (latency_gap e.table) r (slice_get the_ranges r.temp.0)) the_reads lats.1) m) in
+            (each_member (λ (r : Read). LeavesGap (latency_gap e.table) r (slice_get the_ranges r.temp.0)) the_reads r
+            (each_all (λ (r : Read). LeavesGap (latency_gap e.table) r (slice_get the_ranges r.temp.0)) the_reads lats.1) m) in
             let home = subst (λ (y : Option LiveRange). ReadsHome r y) q
-                (each_member (λ (r : Read). ReadsHome r (slice_get the_ranges r.temp.0)) the_reads r
-                (each_all (λ (r : Read). ReadsHome r (slice_get the_ranges r.temp.0)) the_reads h.homes) m) in
+            (each_member (λ (r : Read). ReadsHome r (slice_get the_ranges r.temp.0)) the_reads r
+            (each_all (λ (r : Read). ReadsHome r (slice_get the_ranges r.temp.0)) the_reads h.homes) m) in
             let upper = fold_reads s.0.temp.0 the_reads 0 r m in
             let own : cycle_for s.0.temp.0 r ≡ r.cycle = ap (λ n. cycle_for n r) s.2 ∙ own_cycle r in
             record {
@@ -247,7 +247,7 @@ module _ (e : Ext) (o : Options) (values : List ℕ) where
     given_space s m h =
         let spaces = h.spaces in
         each_member IsGivenInSpace the_ranges (spot_range s) (each_all IsGivenInSpace the_ranges spaces.1)
-            (member_at the_ranges s.temp.0 (spot_range s) (range_get s m))
+        (member_at the_ranges s.temp.0 (spot_range s) (range_get s m))
 
   -- what holds of all issues holds of all operations
   pub each_issue : (P : Issue → Type 0) → All P (issues_of (model_of e o) values) → Each (λ p. P (issue_at values p)) all

@@ -43,7 +43,7 @@ pub step_settles : (t : Table) (s : PacketState) (is : List Instr) → list_any 
     → packet_step t is s ≡ leads (the_return is) s is (settled t (the_call is) s.replies s is)
 step_settles t s is h k =
     ap (λ (b : Bool). if b then Stopped Trapped s else with_call t (the_call is) s.replies s is) h
-        ∙ leads_on t (the_call is) s.replies s is k
+    ∙ leads_on t (the_call is) s.replies s is k
 
 -- a register that the packet's call clobbers
 abbrev pub clobbered_by : Table → Option Instr → ℕ → Bool
@@ -114,7 +114,7 @@ ready_kept t o replies s is r h lt k none =
 pub ready_written : (t : Table) (o : Option Instr) (replies : List Reply) (s : PacketState) (is : List Instr) (i : Instr) (r : ℕ)
     → CanAnswer o replies → r < length s.ready → clobbered_by t o r ≡ false
     → AreApart target is → Member i is → target i ≡ Some r → get_or (settled t o replies s is).ready r 0 ≡ issue_cycle s is + latency_of t
-        i.op
+    i.op
 ready_written t o replies s is i r h lt k apart m e =
     ready_unclobbered t o replies s is r h lt k ∙ puts_own target (λ i. issue_cycle s is + latency_of t i.op) is s.ready i r apart m e lt
 

@@ -69,7 +69,7 @@ same_at f g (y ∷ xs) x q (inr m) = same_at f g xs x (ap rest q) m
 -- the labels of the code are those of the extended function
 labels_are : (m : Model) (values : List ℕ) (blocks : List ExtBlock) (b : ℕ)
     → option_map (λ (c : CodeBlock). c.label) (slice_get (map (λ (b : ExtBlock × BlockVars). code_block m values b.0 b.1)
-        (zip blocks (blocks_vars 0 blocks))) b)
+    (zip blocks (blocks_vars 0 blocks))) b)
     ≡ option_map (λ (c : ExtBlock). c.label) (slice_get blocks b)
 labels_are m values blocks b =
     let cs = map (λ (b : ExtBlock × BlockVars). code_block m values b.0 b.1) (zip blocks (blocks_vars 0 blocks)) in
@@ -124,10 +124,10 @@ module _ (e : Ext) (o : Options) (values : List ℕ) (h : Solved e o values) (f 
     agrees n =
         let a = (runs_alike e o values h start can_here n).0 in
         let b = subst (λ (l : LinearRun). RunsAlike e o values h (slice_index start.regs STACK) l
-            (enter e.table (code_blocks (model_of e o) values) n 0 (first_state (frame_of (model_of e o) values) start)))
-            (of.runs start n can.regs_len) a in
+        (enter e.table (code_blocks (model_of e o) values) n 0 (first_state (frame_of (model_of e o) values) start)))
+        (of.runs start n can.regs_len) a in
         let c = subst (λ (p : PacketRun). RunsAlike e o values h (slice_index start.regs STACK)
-            (as_linear e.table start lists (source_run f start n)) p) (run_is n) b in
+        (as_linear e.table start lists (source_run f start n)) p) (run_is n) b in
         let x = source_run f start n in
         let y = packet_run e.table code start n in
         record {
@@ -140,8 +140,8 @@ module _ (e : Ext) (o : Options) (values : List ℕ) (h : Solved e o values) (f 
     never_waits n =
         let a = (runs_alike e o values h start can_here n).1 in
         subst (λ (m : ℕ). NeverWaits e.table code.blocks n 0 (first_state m start)) (sym is.frame)
-            (subst (λ (bs : List CodeBlock). NeverWaits e.table bs n 0 (first_state (frame_of (model_of e o) values) start)) (sym is.blocks)
-            a)
+        (subst (λ (bs : List CodeBlock). NeverWaits e.table bs n 0 (first_state (frame_of (model_of e o) values) start)) (sym is.blocks)
+        a)
 
   -- the rules of code bound the frame, so there is a start with room for it
   frame_small : code.frame ≤ 256

@@ -112,10 +112,10 @@ module _ (e : Ext) (o : Options) (values : List ℕ) (h : Solved e o values) (k 
           let le = le_of (issue_at values r.0).cycle (c + 1) b.1 in
           let n = f r.0 r.1 a.0 b.0 in
           q ∙ sym (done_true test c r.0 r.1 a.0 b.0 (⊎_elim (λ (s : (issue_at values r.0).cycle ≡ c + 1). absurd (n s))
-              (λ (d : (issue_at values r.0).cycle ≢ c + 1). omega arith) (cases_eq (issue_at values r.0).cycle (c + 1))))
+          (λ (d : (issue_at values r.0).cycle ≢ c + 1). omega arith) (cases_eq (issue_at values r.0).cycle (c + 1))))
       go false q = q ∙ sym (done_false test c (λ p m t a. ⊎_elim (λ (lt : c < (issue_at values p).cycle). lt)
           (λ (le : (issue_at values p).cycle ≤ c). let z : true ≡ false = sym (done_true test (c + 1) p m t a (omega arith))
-              ∙ q in absurd (cc z)) (cases_lt c (issue_at values p).cycle)))
+          ∙ q in absurd (cc z)) (cases_lt c (issue_at values p).cycle)))
 
   -- there is one Enter in the entry and none elsewhere, and one Leave in a block that returns
   one_enter : count_by (λ (op : ExtOp). is_enter op.kind) block.ops ≡ one_if (k == 0)
@@ -162,10 +162,10 @@ module _ (e : Ext) (o : Options) (values : List ℕ) (h : Solved e o values) (k 
       → Member q own_ops → test p.op.kind ≡ true → test q.op.kind ≡ true → p ≡ q
   same_op test le p q m n s t = ⊎_elim (λ (e : p ≡ q). e)
       (λ (d : (test p.op.kind ≡ true → test q.op.kind ≡ true → ⊥) ⊎ (test q.op.kind ≡ true → test p.op.kind ≡ true → ⊥)).
-          ⊎_elim (λ (f : test p.op.kind ≡ true → test q.op.kind ≡ true → ⊥). absurd (f s t))
-          (λ (f : test q.op.kind ≡ true → test p.op.kind ≡ true → ⊥). absurd (f t s)) d)
+      ⊎_elim (λ (f : test p.op.kind ≡ true → test q.op.kind ≡ true → ⊥). absurd (f s t))
+      (λ (f : test q.op.kind ≡ true → test p.op.kind ≡ true → ⊥). absurd (f t s)) d)
       (pairwise_two (λ (p q : Placed). test p.op.kind ≡ true → test q.op.kind ≡ true → ⊥) own_ops p q
-          (once e o values h (words e o values h) (placing e o values h) k block r test 0 le) m n)
+      (once e o values h (words e o values h) (placing e o values h) k block r test 0 le) m n)
 
   -- ---- where the flag is 1
 
@@ -178,11 +178,11 @@ module _ (e : Ext) (o : Options) (values : List ℕ) (h : Solved e o values) (k 
       → (issue_at values p).cycle + n ≤ (issue_at values q).cycle
   apart_by p q a b n m mq f x y d =
       let z = frame_apart e o values h (words e o values h) (placing e o values h) k block r p q (in_region (all e o values) k block r p m)
-          (in_region (all e o values) k block r q mq) f (region_block r.region p m ∙ sym (region_block r.region q mq)) in
+      (in_region (all e o values) k block r q mq) f (region_block r.region p m ∙ sym (region_block r.region q mq)) in
       let z1 = subst (λ (i : Option Op). IfSome (frame_distance i (issue_at values q).instr)
-          (λ (n : ℕ). (issue_at values p).cycle + n ≤ (issue_at values q).cycle)) x z in
+      (λ (n : ℕ). (issue_at values p).cycle + n ≤ (issue_at values q).cycle)) x z in
       let z2 = subst (λ (i : Option Op). IfSome (frame_distance (Some a) i)
-          (λ (n : ℕ). (issue_at values p).cycle + n ≤ (issue_at values q).cycle)) y z1 in
+      (λ (n : ℕ). (issue_at values p).cycle + n ≤ (issue_at values q).cycle)) y z1 in
       subst (λ (i : Option ℕ). IfSome i (λ (n : ℕ). (issue_at values p).cycle + n ≤ (issue_at values q).cycle)) d z2
 
   -- the instruction of an active Enter or Leave
@@ -190,13 +190,13 @@ module _ (e : Ext) (o : Options) (values : List ℕ) (h : Solved e o values) (k 
       → ((n : ℕ) → instruction_of kind n ≡ frame_instr op n) → (issue_at values p).active ≡ true → (issue_at values p).instr ≡ Some op
   shift_instr p kind op q d f a =
       let act : (is_delimiter kind || is_some (instruction_of kind (value_by values (vars_of p).instr))) ≡ true =
-          ap (λ (x : ExtKind). is_delimiter x || is_some (instruction_of x (value_by values (vars_of p).instr))) (sym q) ∙ a in
+      ap (λ (x : ExtKind). is_delimiter x || is_some (instruction_of x (value_by values (vars_of p).instr))) (sym q) ∙ a in
       let act' : is_some (instruction_of kind (value_by values (vars_of p).instr)) ≡ true =
-          sym (ap (λ (b : Bool). b || is_some (instruction_of kind (value_by values (vars_of p).instr))) d) ∙ act in
+      sym (ap (λ (b : Bool). b || is_some (instruction_of kind (value_by values (vars_of p).instr))) d) ∙ act in
       let act'' : is_some (frame_instr op (value_by values (vars_of p).instr)) ≡ true =
-          ap is_some (sym (f (value_by values (vars_of p).instr))) ∙ act' in
+      ap is_some (sym (f (value_by values (vars_of p).instr))) ∙ act' in
       ap (λ (x : ExtKind). instruction_of x (value_by values (vars_of p).instr)) q ∙ f (value_by values (vars_of p).instr)
-          ∙ go (value_by values (vars_of p).instr == 0) act''
+      ∙ go (value_by values (vars_of p).instr == 0) act''
     where
       go : (b : Bool) → is_some (if b then None else Some op) ≡ true → (if b then None else Some op) ≡ Some op
       go true s = absurd (cc s)
@@ -245,7 +245,7 @@ module _ (e : Ext) (o : Options) (values : List ℕ) (h : Solved e o values) (k 
       let z' = eq-eqb k 0 z in
       ap (λ (b : Bool). if b then base + bytes else (if nat_eq k 0 && not (has_done is_enter c) then base + bytes else base)) q
       ∙ ap (λ (b : Bool). if b && not (has_done is_enter c) then base + bytes else base) z'
-          ∙ ap (λ (b : Bool). if not b then base + bytes else base) n
+      ∙ ap (λ (b : Bool). if not b then base + bytes else base) n
 
   as_entered : (base c : ℕ) → has_done is_leave c ≡ false → has_done is_enter c ≡ true → stack_of base c ≡ base
   as_entered base c q n =
@@ -294,7 +294,7 @@ module _ (e : Ext) (o : Options) (values : List ℕ) (h : Solved e o values) (k 
       go None s = absurd (cc s)
       go (Some op) s =
           let made = ap (λ (y : ExtKind). instr_by e.blocks bytes y op (operand_registers (model_of e o) values p.op (vars_of p))
-              (result_register (model_of e o) values p.op)) (sym q) ∙ s in
+          (result_register (model_of e o) values p.op)) (sym q) ∙ s in
           let k = ap (λ (x : Option Instr). option_map (λ (y : Instr). y.imm) x) made in sym (cc k)
 
   leave_imm : (p : Placed) (j : Job) → IsJob e o values h p j → p.op.kind ≡ Leave → j.instr.imm ≡ pos bytes
@@ -304,7 +304,7 @@ module _ (e : Ext) (o : Options) (values : List ℕ) (h : Solved e o values) (k 
       go None s = absurd (cc s)
       go (Some op) s =
           let made = ap (λ (y : ExtKind). instr_by e.blocks bytes y op (operand_registers (model_of e o) values p.op (vars_of p))
-              (result_register (model_of e o) values p.op)) (sym q) ∙ s in
+          (result_register (model_of e o) values p.op)) (sym q) ∙ s in
           let k = ap (λ (x : Option Instr). option_map (λ (y : Instr). y.imm) x) made in sym (cc k)
 
   -- who else leaves, and when
@@ -330,7 +330,7 @@ module _ (e : Ext) (o : Options) (values : List ℕ) (h : Solved e o values) (k 
       let q = r.region in
       let at = place_of block.ops op m in
       let z = placed_get q.block q.owner (var_at (q.first + ops_count (q.owner).ops)) q.number q.first at.0 (q.owner).ops op
-          (ap (λ (b : ExtBlock). slice_get b.ops at.0) r.owner ∙ at.2) in
+      (ap (λ (b : ExtBlock). slice_get b.ops at.0) r.owner ∙ at.2) in
       (z.0, member_at own_ops at.0 z.0 z.1, z.2)
 
   -- where the flag is 1, Enter and Leave are active
@@ -339,7 +339,7 @@ module _ (e : Ext) (o : Options) (values : List ℕ) (h : Solved e o values) (k 
       let s = h.schedule in
       let fs = s.frame in
       each_member (λ q. HasFrame true (issue_at values q)) (all e o values) p (each_issue e o values (HasFrame true) (fs.with_frame f))
-          (in_region (all e o values) k block r p m) fr
+      (in_region (all e o values) k block r p m) fr
 
   -- Enter stands in the entry where the flag is 1
   the_enter : flag_is → k ≡ 0 → (p : Placed) × (Member p own_ops) × (is_enter p.op.kind ≡ true) × ((issue_at values p).active ≡ true)
@@ -384,14 +384,14 @@ module _ (e : Ext) (o : Options) (values : List ℕ) (h : Solved e o values) (k 
         let a = job_active p j g in
         let cp = cycle_of_job p j g in
         let later : (d : ℕ) → d ≤ c + 1 → has_done is_leave d ≡ false =
-            λ d le. done_false is_leave d (λ x mx tx ax. let z = after_enter p x m mx t a tx ax in omega arith) in
+        λ d le. done_false is_leave d (λ x mx tx ax. let z = after_enter p x m mx t a tx ax in omega arith) in
         let earlier : has_done is_enter c ≡ false = done_false is_enter c
-            (λ x mx tx ax. let same = same_op is_enter enter_most x p mx m tx t in
-            let z : (issue_at values x).cycle ≡ (issue_at values p).cycle = ap (λ (y : Placed). (issue_at values y).cycle) same in
-            omega arith) in
+        (λ x mx tx ax. let same = same_op is_enter enter_most x p mx m tx t in
+        let z : (issue_at values x).cycle ≡ (issue_at values p).cycle = ap (λ (y : Placed). (issue_at values y).cycle) same in
+        omega arith) in
         as_entered base (c + 1) (later (c + 1) (omega arith)) (done_true is_enter (c + 1) p m t a (omega arith))
         ∙ sym (ap (λ x. address_of x j.instr.imm) (as_before base c (later c (omega arith)) (enter_entry p m t) earlier)
-            ∙ ap (address_of (base + bytes)) (enter_imm p j g q) ∙ back base bytes room)
+        ∙ ap (address_of (base + bytes)) (enter_imm p j g q) ∙ back base bytes room)
 
     -- Enter is behind whoever comes after it in the entry
     entered_by : (c : ℕ) → flag_is → has_done is_leave c ≡ false →
@@ -408,11 +408,11 @@ module _ (e : Ext) (o : Options) (values : List ℕ) (h : Solved e o values) (k 
         let a = job_active p j g in
         let cp = cycle_of_job p j g in
         let earlier : has_done is_leave c ≡ false = done_false is_leave c
-            (λ x mx tx ax. let same = same_op is_leave leave_most x p mx m tx t in
-            let z : (issue_at values x).cycle ≡ (issue_at values p).cycle = ap (λ (y : Placed). (issue_at values y).cycle) same in
-            omega arith) in
+        (λ x mx tx ax. let same = same_op is_leave leave_most x p mx m tx t in
+        let z : (issue_at values x).cycle ≡ (issue_at values p).cycle = ap (λ (y : Placed). (issue_at values y).cycle) same in
+        omega arith) in
         let inside = entered_by c (flag_by p m (leave_frame p t) a) earlier
-            (λ x mx tx ax. let z = after_enter x p mx m tx ax t a in omega arith) in
+        (λ x mx tx ax. let z = after_enter x p mx m tx ax t a in omega arith) in
         as_outside base (c + 1) (done_true is_leave (c + 1) p m t a (omega arith))
         ∙ sym (ap (λ x. address_of x j.instr.imm) inside ∙ ap (address_of base) (leave_imm p j g q) ∙ forth base bytes room)
 
@@ -436,7 +436,7 @@ module _ (e : Ext) (o : Options) (values : List ℕ) (h : Solved e o values) (k 
         let same : Some j.instr.op ≡ Some op = sym (job_instr p j z.2) ∙ i in
         let same' : j.instr.op ≡ op = cc same in
         let y : true ≡ false = sym (ap moves_stack same' ∙ s) ∙ each_member (λ (j : Job). moves_stack j.instr.op ≡ false)
-            (packet_jobs jobs (c + 1)) j none mem in absurd (cc y)
+        (packet_jobs jobs (c + 1)) j none mem in absurd (cc y)
 
     kind_not : (test : ExtKind → Bool) (p : Placed) (x : ExtKind) → test p.op.kind ≡ true → test x ≡ false → p.op.kind ≡ x → ⊥
     kind_not test p x t f q = let z : true ≡ false = sym t ∙ ap test q ∙ f in absurd (cc z)
@@ -452,10 +452,10 @@ module _ (e : Ext) (o : Options) (values : List ℕ) (h : Solved e o values) (k 
             let used = fs.used in
             let all' = in_region (all e o values) k block r p m in
             let mem : Member (issue_at values p) (issues_of (model_of e o) values) =
-                subst (Member (issue_at values p)) (sym (issues_are values 0 0 0 e.blocks))
-                (member_map (issue_at values) (all e o values) p all') in
+            subst (Member (issue_at values p)) (sym (issues_are values 0 0 0 e.blocks))
+            (member_map (issue_at values) (all e o values) p all') in
             let y = any_true (λ (i : Issue). is_frame_access i.instr) (issues_of (model_of e o) values) (issue_at values p) mem
-                (ap is_frame_access i ∙ q) in
+            (ap is_frame_access i ∙ q) in
             used.1 (ap (λ (b : Bool). b || list_any starts_in_slot (the_ranges e o values)) y)
 
         by_access : (op : Op) → j.instr.op ≡ op → is_frame_access (Some op) ≡ true → frame_distance (Some op) (Some LeaveOp) ≡ Some 0
@@ -465,7 +465,7 @@ module _ (e : Ext) (o : Options) (values : List ℕ) (h : Solved e o values) (k 
             let fl = flag op i f in
             let cp = cycle_of_job p j g in
             entered_by c fl (done_false is_leave c (λ x mx tx ax. let z = apart_by p x op LeaveOp 0 m mx fl i (leave_instr x tx ax) d in
-                omega arith))
+            omega arith))
             (λ x mx tx ax. let z = apart_by x p EnterOp op 1 mx m fl (enter_instr x tx ax) i d' in omega arith)
 
         by_op : (op : Op) → j.instr.op ≡ op → uses_frame op ≡ true → stack_of base c ≡ base
@@ -482,14 +482,14 @@ module _ (e : Ext) (o : Options) (values : List ℕ) (h : Solved e o values) (k 
           let p = x.0 in
           let i = job_instr p j x.2 in
           ⊎_elim (λ (u : (p.op.kind ≡ Enter) × (j.instr.op ≡ EnterOp)). at_enter p j c x.1 x.2 u.0 f.1)
-              (λ (u : (p.op.kind ≡ Leave) × (j.instr.op ≡ LeaveOp)). at_leave p j c x.1 x.2 u.0 f.1)
+          (λ (u : (p.op.kind ≡ Leave) × (j.instr.op ≡ LeaveOp)). at_leave p j c x.1 x.2 u.0 f.1)
           (shift_kind e o values h (words e o values h) (placing e o values h) k block r p j.instr.op
-              (in_region (all e o values) k block r p x.1) i s));
+          (in_region (all e o values) k block r p x.1) i s));
       kept = λ none.
           let l = done_same is_leave c (λ p m t a n. moves_here p LeaveOp c m (kind_not is_leave p In t refl)
-              (kind_not is_leave p Out t refl) a (leave_instr p t a) refl n none) in
+          (kind_not is_leave p Out t refl) a (leave_instr p t a) refl n none) in
           let en = done_same is_enter c (λ p m t a n. moves_here p EnterOp c m (kind_not is_enter p In t refl)
-              (kind_not is_enter p Out t refl) a (enter_instr p t a) refl n none) in
+          (kind_not is_enter p Out t refl) a (enter_instr p t a) refl n none) in
           ap (λ (b : Bool). if b then base + bytes else (if nat_eq k 0 && not (has_done is_enter (c + 1)) then base + bytes else base)) l
           ∙ ap (λ (b : Bool). if has_done is_leave c then base + bytes else (if nat_eq k 0 && not b then base + bytes else base)) en;
       framed = each_of (λ (j : Job). uses_frame j.instr.op ≡ true → stack_of base c ≡ base) (packet_jobs jobs (c + 1)) (λ j m u.
@@ -508,7 +508,7 @@ module _ (e : Ext) (o : Options) (values : List ℕ) (h : Solved e o values) (k 
         let t = block_timed e o values h (words e o values h) (placing e o values h) k block r at in
         let l = each_member (λ (j : Job). 1 ≤ j.cycle) jobs z.0 t.late z.1 in
         let s = each_member (λ (j : Job). j.cycle < own_end e o values h (words e o values h) (placing e o values h) k block r) jobs z.0
-            t.soon z.1 in
+        t.soon z.1 in
         let c = cycle_of_job p z.0 z.2 in
         (omega arith, omega (arith, c, s))
 
@@ -541,15 +541,15 @@ module _ (e : Ext) (o : Options) (values : List ℕ) (h : Solved e o values) (k 
         let s = h.schedule in
         let le = flag_sits e o values s.in_domains in
         ⊎_elim (λ (q : value_of values (model_of e o).flag ≡ 0). inr (no_frame q))
-            (λ (n : value_of values (model_of e o).flag ≢ 0). inl (omega arith)) (cases_eq (value_of values (model_of e o).flag) 0)
+        (λ (n : value_of values (model_of e o).flag ≢ 0). inl (omega arith)) (cases_eq (value_of values (model_of e o).flag) 0)
 
     pub stack_returns : returns block ≡ true → stack_of base (own_end e o values h (words e o values h) (placing e o values h) k block r -
         1) ≡ base + bytes
     stack_returns q = ⊎_elim
         (λ (f : flag_is). let x = the_leave f q in let z = inner_late x.0 x.1 (kind_not is_leave x.0 In x.2 refl)
-            (kind_not is_leave x.0 Out x.2 refl) x.3 in let y = z.1 in
+        (kind_not is_leave x.0 Out x.2 refl) x.3 in let y = z.1 in
         as_outside base (own_end e o values h (words e o values h) (placing e o values h) k block r - 1)
-            (done_true is_leave _ x.0 x.1 x.2 x.3 (omega arith)))
+        (done_true is_leave _ x.0 x.1 x.2 x.3 (omega arith)))
         (λ (b : bytes ≡ 0). (flat _ b).1) flag_cases
 
     pub stack_goes : returns block ≡ false → stack_of base (own_end e o values h (words e o values h) (placing e o values h) k block r - 1)
@@ -558,5 +558,5 @@ module _ (e : Ext) (o : Options) (values : List ℕ) (h : Solved e o values) (k 
         (λ (f : flag_is). entered_by (own_end e o values h (words e o values h) (placing e o values h) k block r - 1) f
         (done_false is_leave _ (λ x m t a. let z : true ≡ false = sym (leave_returns x m t) ∙ q in absurd (cc z)))
         (λ x m t a. let z = inner_late x m (kind_not is_enter x In t refl) (kind_not is_enter x Out t refl) a in let y = z.1 in
-            omega arith))
+        omega arith))
         (λ (b : bytes ≡ 0). (flat _ b).0) flag_cases

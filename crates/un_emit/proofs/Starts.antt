@@ -143,9 +143,9 @@ module _ (e : Ext) (o : Options) (values : List ℕ) (h : Solved e o values) (en
           let d1 = subst (λ v. InDomain v (result_domain e o (in_entry e o values p) p.owner p.op j x)) (sym reg) d in
           let d2 = subst (λ b. InDomain (range_at e o values x.0).reg (result_domain e o b p.owner p.op j x)) ie d1 in
           let d3 = subst (λ (k : ExtKind). InDomain (range_at e o values x.0).reg (register_domain e o true p.owner k j x (carried p.op x)))
-              i.kind d2 in
+          i.kind d2 in
           subst (λ (b : ExtBlock). InDomain (range_at e o values x.0).reg (start_domain e o true b j x))
-              (owner_of e o values h 0 entry r at p i.member) d3
+          (owner_of e o values h 0 entry r at p i.member) d3
 
       kind_is : kind_at e o values (numbered e o values h) (fit_kinds e o values h) x.0 ≡ kind_or
           (in_kinds e.names entry.live_in (length (in_temps entry.ops))) j
@@ -156,8 +156,8 @@ module _ (e : Ext) (o : Options) (values : List ℕ) (h : Solved e o values) (en
           let ext = h.extended in
           let g = ext.good in
           let par = each_member (λ (name : NameId). (name.0 < 6) × (name_kind e.names name ≡ General)) entry.live_in name
-              (each_all (λ (name : NameId). (name.0 < 6) × (name_kind e.names name ≡ General)) entry.live_in (g.params entry at))
-              (member_at entry.live_in j name y) in
+          (each_all (λ (name : NameId). (name.0 < 6) × (name_kind e.names name ≡ General)) entry.live_in (g.params entry at))
+          (member_at entry.live_in j name y) in
           let small = length_get entry.live_in j name y in
           let len = length-mapped (λ (name : NameId). slice_index s.regs name.0) entry.live_in in
           record {
@@ -207,7 +207,7 @@ module _ (e : Ext) (o : Options) (values : List ℕ) (h : Solved e o values) (en
   pub base_even : base % 4 ≡ 0
   base_even =
       let f = frame_eights (value_of values (let m = model_of e o in m.flag))
-          (largest_slot (let m = schedule_of (model_of e o) values in m.ranges)) in
+      (largest_slot (let m = schedule_of (model_of e o) values in m.ranges)) in
       let a = can.aligned in
       let l = can.room in
       omega (arith, f, a, l)
@@ -240,7 +240,7 @@ module _ (e : Ext) (o : Options) (values : List ℕ) (h : Solved e o values) (en
         let n = (range_at e o values x.0).reg in
         let st = first_state (frame_of (model_of e o) values) s in
         ap (held_at st) b.register ∙ held_reg st b.place b.small ∙ sym b.value
-            ∙ ap (λ (k : Kind). as_held k n (slice_index (first_values e.table entry.live_in s) j)) (sym b.kind);
+        ∙ ap (λ (k : Kind). as_held k n (slice_index (first_values e.table entry.live_in s) j)) (sym b.kind);
     ready = λ j x q lt. let z = get_zeros 36 (range_at e o values x.0).reg in omega (arith, z);
     truths = λ j x q k. let b = begins j x q in let z : General ≡ Pred = sym b.kind ∙ k in absurd (cc z);
     stack = sym base_top ∙ sym (stack_first e o values h 0 entry r at base base_room refl);

@@ -42,7 +42,7 @@ carried_op kind p i (x ∷ xs) = more kind (carried_op kind p (i + 1) xs)
     more : (k : ExtKind) → map (carried_at k) (places_from (spot p) (i + 1) xs) ≡ carried_by k
         (record { kind = k; operands = p.op.operands; results = xs })
         → carried_at k (spot p i x) ∷ map (carried_at k) (places_from (spot p) (i + 1) xs) ≡ carried_by k
-            (record { kind = k; operands = p.op.operands; results = x ∷ xs })
+        (record { kind = k; operands = p.op.operands; results = x ∷ xs })
     more (Copy node) h = ap (λ ys. first_read p.op.operands ∷ ys) h
     more _ h = ap (λ ys. x ∷ ys) h
 
@@ -73,7 +73,7 @@ carried_are b n first (block ∷ blocks) =
     ∙ map-append spot_carried (all_spots here) (all_spots rest)
     ∙ ap (λ xs. xs ++ map spot_carried (all_spots rest)) (placed_carried b block (var_at (first + ops_count block.ops)) n first block.ops)
     ∙ ap (λ xs. flat_map (λ (op : ExtOp). carried_by op.kind op) block.ops ++ xs)
-        (carried_are (b + 1) (n + length block.ops) (first + block_count block) blocks)
+    (carried_are (b + 1) (n + length block.ops) (first + block_count block) blocks)
 
 -- ---- kinds
 
@@ -94,9 +94,9 @@ read_off names p [] before (x ∷ xs) i e l n = absurd (omega arith)
 read_off names p (k ∷ ks) before [] i e l n = absurd (omega arith)
 read_off names p (k ∷ ks) before (x ∷ xs) i e l n =
     ap (λ (y : Kind). y ∷ map (spot_kind names) (places_from (spot p) (i + 1) xs))
-        (ap (λ (zs : List Kind). kind_or zs i) e ∙ middle before i l)
+    (ap (λ (zs : List Kind). kind_or zs i) e ∙ middle before i l)
     ∙ ap (λ ys. k ∷ ys) (read_off names p ks (before ++ k ∷ []) xs (i + 1) (e ∙ sym (append_assoc before (k ∷ []) ks))
-        (length-append before (k ∷ []) ∙ ap (λ m. m + 1) l) (omega arith))
+    (length-append before (k ∷ []) ∙ ap (λ m. m + 1) l) (omega arith))
   where
     middle : (bs : List Kind) (i : ℕ) → length bs ≡ i → kind_or (bs ++ k ∷ ks) i ≡ k
     middle [] zero e = refl
@@ -111,7 +111,7 @@ FitKinds names p = length (kinds_at names p) ≡ length p.op.results
 placed_kinds : (names : List Kind) (b : ℕ) (owner : ExtBlock) (close : VarId) (n first : ℕ) (ops : List ExtOp)
     → Each (FitKinds names) (placed b owner close n first ops)
     → map (spot_kind names) (all_spots (placed b owner close n first ops)) ≡ flat_map (λ (op : ExtOp). defined_kinds names owner op.kind op)
-        ops
+    ops
 placed_kinds names b owner close n first [] h = refl
 placed_kinds names b owner close n first (op ∷ ops) h =
     let p : Placed = record { block = b; owner = owner; close = close; number = n; first = first; op = op } in
@@ -130,9 +130,9 @@ kinds_are names b n first (block ∷ blocks) h =
     ap (map (spot_kind names)) (joined_map-append spots_of here rest)
     ∙ map-append (spot_kind names) (all_spots here) (all_spots rest)
     ∙ ap (λ xs. xs ++ map (spot_kind names) (all_spots rest)) (placed_kinds names b block (var_at (first + ops_count block.ops)) n first
-        block.ops parts.0)
+    block.ops parts.0)
     ∙ ap (λ xs. flat_map (λ (op : ExtOp). defined_kinds names block op.kind op) block.ops ++ xs)
-        (kinds_are names (b + 1) (n + length block.ops) (first + block_count block) blocks parts.1)
+    (kinds_are names (b + 1) (n + length block.ops) (first + block_count block) blocks parts.1)
 
 -- ---- by temporaries
 
@@ -142,14 +142,14 @@ module _ (e : Ext) (o : Options) (values : List ℕ) (numbered : all_results e.b
   pub carried_is : (s : Spot) → Member s (spots e o values) → carried e.blocks s.temp ≡ spot_carried s
   carried_is s m = ap (λ (x : Option TempId). unwrap_or x s.temp) (
       ap (λ xs. slice_get xs s.temp.0) (sym (carried_are 0 0 0 e.blocks)) ∙ slice_get-map spot_carried (spots e o values) s.temp.0
-          ∙ ap (option_map spot_carried) (spot_here e o values numbered s m))
+      ∙ ap (option_map spot_carried) (spot_here e o values numbered s m))
 
   -- the kind of a result that no copy gives
   pub kind_listed : (s : Spot) → Member s (spots e o values) → slice_get (all_kinds e.names e.blocks) s.temp.0 ≡ Some (spot_kind e.names s)
   kind_listed s m =
       ap (λ xs. slice_get xs s.temp.0) (sym (kinds_are e.names 0 0 0 e.blocks fit))
-          ∙ slice_get-map (spot_kind e.names) (spots e o values) s.temp.0
-          ∙ ap (option_map (spot_kind e.names)) (spot_here e o values numbered s m)
+      ∙ slice_get-map (spot_kind e.names) (spots e o values) s.temp.0
+      ∙ ap (option_map (spot_kind e.names)) (spot_here e o values numbered s m)
 
   -- the kind of the temporary with a number
   abbrev pub kind_at : ℕ → Kind
@@ -159,7 +159,7 @@ module _ (e : Ext) (o : Options) (values : List ℕ) (numbered : all_results e.b
   pub own_kind : (s : Spot) → Member s (spots e o values) → spot_carried s ≡ s.temp → kind_at s.temp.0 ≡ spot_kind e.names s
   own_kind s m c =
       ap (λ (x : TempId). unwrap_or (slice_get (all_kinds e.names e.blocks) x.0) General) (carried_is s m ∙ c)
-          ∙ ap (λ (x : Option Kind). unwrap_or x General) (kind_listed s m)
+      ∙ ap (λ (x : Option Kind). unwrap_or x General) (kind_listed s m)
 
   -- two temporaries that carry one value have one kind
   pub same_kind : (x y : TempId) → carried e.blocks x ≡ carried e.blocks y → kind_at x.0 ≡ kind_at y.0

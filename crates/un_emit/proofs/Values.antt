@@ -108,7 +108,7 @@ module _ (e : Ext) (o : Options) (values : List ℕ) (h : Solved e o values) whe
         let r = place_of p.op.results x mx in
         let u = spot p r.0 x in
         let mu = member_joined (map spots_of (all e o values)) (spots_of p) u (member_map spots_of (all e o values) p (into p (inl refl)))
-            (member_places (spot p) p.op.results 0 r.0 r.0 x (omega arith) r.2) in
+        (member_places (spot p) p.op.results 0 r.0 r.0 x (omega arith) r.2) in
         let same = one_spot e o values (numbered e o values h) s u m mu q in
         let num : s.definer.number ≡ p.number = ap (λ (z : Spot). z.definer.number) same in
         let here = c.0 in omega arith),
@@ -145,7 +145,7 @@ module _ (e : Ext) (o : Options) (values : List ℕ) (h : Solved e o values) whe
             let u = f x (i x (inl refl)) in
             let lt = u.3 in let a = num in
             let v : s.values (first_of x.alts) ≡ val (first_of x.alts) =
-                sym (subst (λ (y : ℕ). val y ≡ s.values y) u.2 (agrees n (p ∷ ps) s u.0 r u.1 (omega arith))) in
+            sym (subst (λ (y : ℕ). val y ≡ s.values y) u.2 (agrees n (p ∷ ps) s u.0 r u.1 (omega arith))) in
             ap (λ y. y ∷ map (value_of s.values) xs) v ∙ ap (λ ys. val (first_of x.alts) ∷ ys) (go xs (λ y m. i y (inr m)))
 
     pub next : (n : ℕ) (p : Placed) (ps : List Placed) (s : LinearState) → Runs n (p ∷ ps) s → Runs (n + 1) ps (total_by p.op.kind p.op s)
@@ -157,7 +157,7 @@ module _ (e : Ext) (o : Options) (values : List ℕ) (h : Solved e o values) whe
     own_value n p ps s y r q =
         let u = spot p 0 y in
         let mu = member_joined (map spots_of (all e o values)) (spots_of p) u (member_map spots_of (all e o values) p (r.into p (inl refl)))
-            (subst (λ ys. Member u (places_from (spot p) 0 ys)) (sym q) (inl refl)) in
+        (subst (λ ys. Member u (places_from (spot p) 0 ys)) (sym q) (inl refl)) in
         let c = r.counts in let here = c.0 in
         agrees (n + 1) ps (total_by p.op.kind p.op s) u (next n p ps s r) mu (omega arith)
 

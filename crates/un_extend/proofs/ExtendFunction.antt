@@ -34,7 +34,7 @@ good_from t names blocks block before (op ∷ ops) g = (
   subst (λ (xs : List TempId). IsGoodExtOp t names blocks block xs op) (append-nil before) (g 0 op refl),
   good_from t names blocks block (before ++ op.results) ops
       (λ k other h. subst (λ (xs : List TempId). IsGoodExtOp t names blocks block xs other)
-          (sym (append_assoc before op.results (results_of (take k ops)))) (g (suc k) other h)),
+      (sym (append_assoc before op.results (results_of (take k ops)))) (g (suc k) other h)),
 )
 
 defined_length : (t : Table) (names : List Kind) (block : ExtBlock) (kind : ExtKind) (op : ExtOp)
@@ -67,7 +67,7 @@ module _ (t : Table) (names : List Kind) (old new : List ExtBlock) (alone : (x :
       let o = g.ops 0 s at in
       no_operands names old (results_of (take 0 was.ops)) s.operands
       (subst (λ (kind : ExtKind). AllZip (IsGoodOperand names old (results_of (take 0 was.ops))) s.operands
-          (wants_of t names old was kind s)) (in_is s.kind m.start) o.operands)
+      (wants_of t names old was kind s)) (in_is s.kind m.start) o.operands)
 
   record OneBlock (is_entry : Bool) (values : List Value) (next : ℕ) (was : ExtBlock) : Type 0 where
     block : Good new (with_ops was (let g = grown_block names is_entry values next was in g.ops))
@@ -82,9 +82,9 @@ module _ (t : Table) (names : List Kind) (old new : List ExtBlock) (alone : (x :
   one_block : (is_entry : Bool) (values : List Value) (next : ℕ) (was : ExtBlock) (cfront cmore : List TempId)
       (kfront kmore bfront bmore : List Kind) (m : ℕ)
       → (let g = grown_block names is_entry values next was in all_carried new ≡ cfront ++ (all_carried (with_ops was g.ops ∷ []) ++ cmore))
-          → length cfront ≡ next
+      → length cfront ≡ next
       → (let g = grown_block names is_entry values next was in all_kinds names new ≡ kfront ++
-          (all_kinds names (with_ops was g.ops ∷ []) ++ kmore)) → length kfront ≡ next
+      (all_kinds names (with_ops was g.ops ∷ []) ++ kmore)) → length kfront ≡ next
       → all_kinds names old ≡ bfront ++ (all_kinds names (was ∷ []) ++ bmore) → length bfront ≡ length values
       → Numbers (length values) (results_of was.ops) m → Good old was → Plain was → OneBlock is_entry values next was
   one_block is_entry values next was cfront cmore kfront kmore bfront bmore m cs clong ks klong bs blong numbers good plain =
@@ -111,14 +111,14 @@ module _ (t : Table) (names : List Kind) (old new : List ExtBlock) (alone : (x :
         vals = λ i v got low. absurd (let h = slice_get_within values i v got in omega (arith, h, low));
       } in
       let here : all_kinds names old ≡ bfront ++ (flat_map (λ (op : ExtOp). defined_kinds names was op.kind op) was.ops ++ bmore) = bs
-          ∙ ap (λ (xs : List Kind). bfront ++ (xs ++ bmore)) (append-nil _) in
+      ∙ ap (λ (xs : List Kind). bfront ++ (xs ++ bmore)) (append-nil _) in
       let r = all_step t names old new owner next (length values) cfront kfront clong klong was refl refl s.ends alone is_entry saved
-          was.ops g0 [] bfront bmore m plain
+      was.ops g0 [] bfront bmore m plain
       (good_from t names old was [] was.ops good.ops) (numbers_none (length values)) numbers here blong fits first in
       let f = r.facts in
       let c = ap (λ (xs : List TempId). next + length xs) (append-nil (flat_map (λ (op : ExtOp). carried_by op.kind op) g.ops)) in
       let k = ap (λ (xs : List Kind). next + length xs) (append-nil (flat_map (λ (op : ExtOp). defined_kinds names owner op.kind op) g.ops))
-          in
+      in
       record {
         block = record {
           label = good.label;
@@ -175,18 +175,18 @@ module _ (t : Table) (names : List Kind) (old new : List ExtBlock) (alone : (x :
       let kown = all_kinds names (own ∷ []) in
       let bown = all_kinds names (was ∷ []) in
       let csplit : all_carried (own ∷ others) ≡ cown ++ all_carried others =
-          ap (λ (xs : List TempId). xs ++ all_carried others) (sym (append-nil _)) in
+      ap (λ (xs : List TempId). xs ++ all_carried others) (sym (append-nil _)) in
       let ksplit : all_kinds names (own ∷ others) ≡ kown ++ all_kinds names others =
-          ap (λ (xs : List Kind). xs ++ all_kinds names others) (sym (append-nil _)) in
+      ap (λ (xs : List Kind). xs ++ all_kinds names others) (sym (append-nil _)) in
       let bsplit : all_kinds names (was ∷ rest) ≡ bown ++ all_kinds names rest =
-          ap (λ (xs : List Kind). xs ++ all_kinds names rest) (sym (append-nil _)) in
+      ap (λ (xs : List Kind). xs ++ all_kinds names rest) (sym (append-nil _)) in
       let cs1 : all_carried new ≡ cfront ++ (cown ++ all_carried others) = cs ∙ ap (λ (xs : List TempId). cfront ++ xs) csplit in
       let ks1 : all_kinds names new ≡ kfront ++ (kown ++ all_kinds names others) = ks ∙ ap (λ (xs : List Kind). kfront ++ xs) ksplit in
       let bs1 : all_kinds names old ≡ bfront ++ (bown ++ all_kinds names rest) = bs ∙ ap (λ (xs : List Kind). bfront ++ xs) bsplit in
       let split = numbers_split (length values) m (results_of was.ops) (all_results rest) numbers in
       let good_was = All-head (Good old) was rest good in
       let o = one_block is_entry values next was cfront (all_carried others) kfront (all_kinds names others) bfront (all_kinds names rest)
-          (length values + length (results_of was.ops))
+      (length values + length (results_of was.ops))
       cs1 clong ks1 klong bs1 blong split.front good_was (All-head Plain was rest plain) in
       let cl = length-append cfront cown in
       let kl = length-append kfront kown in
@@ -200,7 +200,7 @@ module _ (t : Table) (names : List Kind) (old new : List ExtBlock) (alone : (x :
       (ks1 ∙ sym (append_assoc kfront kown (all_kinds names others))) (omega (arith, kl, klong, ko))
       (bs1 ∙ sym (append_assoc bfront bown (all_kinds names rest))) (omega (arith, bl, blong, v, w))
       (subst (λ (k : ℕ). Numbers k (all_results rest) m) (sym v) split.back) (All-tail (Good old) was rest good)
-          (All-tail Plain was rest plain) in
+      (All-tail Plain was rest plain) in
       record {
         each = All-cons (Good new) own others o.block r.each;
         top = r.top;

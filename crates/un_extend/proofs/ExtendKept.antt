@@ -52,7 +52,7 @@ place : {X : Type 0} (front a b more all : List X) (n j : ℕ) (x : X) → all �
 place {X} front a b more all n j x is long got =
     let l : n ≡ length (front ++ a) = sym long ∙ sym (length-append front a) in
     ap (λ (k : ℕ). slice_get all (k + j)) l ∙ ap (λ (zs : List X). slice_get zs (length (front ++ a) + j))
-        (is ∙ regroup front a (b ++ []) more)
+    (is ∙ regroup front a (b ++ []) more)
     ∙ got_right (front ++ a) ((b ++ []) ++ more) j ∙ got_left (b ++ []) more j x (got_left b [] j x got)
 
 push_cases : {X : Type 0} (xs : List X) (x : X) (k : ℕ) (w : X) → slice_get (xs ++ x ∷ []) k ≡ Some w
@@ -84,7 +84,7 @@ numbers_bounds n m xs x a has = by (subst (λ (zs : List TempId). Contains zs (t
         let l = length-map-range_with_len temp n a.count in
         let r = a.reach in
         let e : n + j ≡ x = ap (λ (y : TempId). y.0) (sym (get_or-map-range_with_len temp n a.count j (n + j) (temp x)
-            (omega (arith, l, below)) refl) ∙ is) in
+        (omega (arith, l, below)) refl) ∙ is) in
         (omega (arith, e), omega (arith, e, l, r, below))
 
 -- numbers of one list after another
@@ -185,10 +185,10 @@ module _ (t : Table) (names : List Kind) (old new : List ExtBlock) (owner : ExtB
       let first : carried new (temp n) ≡ temp x = ap (λ (k : ℕ). carried new (temp k)) (sym z) ∙ is 0 (omega arith) in
       let r = alts_row (n + 1) x count (ys ++ temp n ∷ []) (omega (arith, h))
       (λ j below. ap (λ (k : ℕ). carried new (temp k)) (let q : (n + 1) + j ≡ n + suc j = omega arith in q) ∙ is (suc j) (omega arith))
-          (alts_push n x ys h first a) in
+      (alts_push n x ys h first a) in
       let q : (n + 1) + count ≡ n + suc count = omega arith in
       subst (λ (k : ℕ). Alts k x (ys ++ temps n (suc count))) q (subst (λ (zs : List TempId). Alts ((n + 1) + count) x zs)
-          (append_assoc ys (temp n ∷ []) (temps (n + 1) count)) r)
+      (append_assoc ys (temp n ∷ []) (temps (n + 1) count)) r)
 
   alts_alone : (n m : ℕ) → start ≤ n → n < m → carried new (temp n) ≡ temp n → Alts m n (temp n ∷ [])
   alts_alone n m low high is = record {
@@ -209,8 +209,13 @@ module _ (t : Table) (names : List Kind) (old new : List ExtBlock) (owner : ExtB
     pub was : kind_of_temp names old (temp i) ≡ Some (let sort = v.sort in sort.kind)
 
   value_more : (n m i : ℕ) (v : Value) → n ≤ m → IsValue n i v → IsValue m i v
-  value_more n m i v h a = record { x = a.x; all = alts_more n m a.x v.all h a.all; own = alts_more n m a.x v.own h a.own; kind = a.kind;
-      was = a.was }
+  value_more n m i v h a = record {
+    x = a.x;
+    all = alts_more n m a.x v.all h a.all;
+    own = alts_more n m a.x v.own h a.own;
+    kind = a.kind;
+    was = a.was;
+  }
 
   pub record Facts (g : Growth) : Type 0 where
     pub numbers : Numbers start (results_of g.ops) g.next
@@ -233,8 +238,12 @@ module _ (t : Table) (names : List Kind) (old new : List ExtBlock) (owner : ExtB
   add_op g op count f good is c k = record {
     numbers = (let n = numbers_append start g.next (g.next + count) (results_of g.ops) op.results f.numbers
         (record { count = count; are = is; reach = refl }) in
-        record { count = n.count; are = results_append g.ops (op ∷ [])
-            ∙ ap (λ (zs : List TempId). results_of g.ops ++ zs) (append-nil op.results) ∙ n.are; reach = n.reach });
+        record {
+          count = n.count;
+          are = results_append g.ops (op ∷ [])
+              ∙ ap (λ (zs : List TempId). results_of g.ops ++ zs) (append-nil op.results) ∙ n.are;
+          reach = n.reach;
+        });
     clength = (let a = ap (λ (zs : List TempId). length zs) (flat_map-append (λ (op : ExtOp). carried_by op.kind op) g.ops (op ∷ [])) in
         let b = length-append (carried_of g.ops) (carried_by op.kind op ++ []) in
         let d = ap (λ (zs : List TempId). length zs) (append-nil (carried_by op.kind op)) in
@@ -254,7 +263,7 @@ module _ (t : Table) (names : List Kind) (old new : List ExtBlock) (owner : ExtB
   carried_new g op f h j y got =
       let e = f.clength in
       let is = h.carries ∙ ap (λ (zs : List TempId). (cfront ++ zs) ++ h.cmore)
-          (flat_map-append (λ (op : ExtOp). carried_by op.kind op) g.ops (op ∷ [])) in
+      (flat_map-append (λ (op : ExtOp). carried_by op.kind op) g.ops (op ∷ [])) in
       ap (λ (o : Option TempId). unwrap_or o (temp (g.next + j)))
       (place cfront (carried_of g.ops) (carried_by op.kind op) h.cmore (all_carried new) g.next j y is (omega (arith, e, clong)) got)
 
@@ -264,9 +273,9 @@ module _ (t : Table) (names : List Kind) (old new : List ExtBlock) (owner : ExtB
   kind_new g op f h j kind got =
       let e = f.klength in
       let is = h.kinds ∙ ap (λ (zs : List Kind). (kfront ++ zs) ++ h.kmore)
-          (flat_map-append (λ (op : ExtOp). defined_kinds names owner op.kind op) g.ops (op ∷ [])) in
+      (flat_map-append (λ (op : ExtOp). defined_kinds names owner op.kind op) g.ops (op ∷ [])) in
       place kfront (kinds_of g.ops) (defined_kinds names owner op.kind op) h.kmore (all_kinds names new) g.next j kind is
-          (omega (arith, e, klong)) got
+      (omega (arith, e, klong)) got
 
   pub good_alts : (before : List TempId) (n x : ℕ) (ys : List TempId) (home : Option Reg) (kind : Kind) → Numbers start before n
       → Alts n x ys
@@ -288,12 +297,15 @@ module _ (t : Table) (names : List Kind) (old new : List ExtBlock) (owner : ExtB
   copy_step node ys g x kind good f a is =
       let at : kind_of_temp names new (temp (first_of ys)) ≡ Some kind = ap (λ (k : ℕ). kind_of_temp names new (temp k)) a.first ∙ is in
       let same : unwrap_or (kind_of_temp names new (temp (first_of ys))) General ≡ kind =
-          ap (λ (o : Option Kind). unwrap_or o General) at in
+      ap (λ (o : Option Kind). unwrap_or o General) at in
       add_op g (copy_op node ys g.next) 1 f
       (record {
         kind = good;
-        operands = (good_alts (results_of g.ops) g.next x ys None (unwrap_or (kind_of_temp names new (temp (first_of ys))) General)
-            f.numbers a (is ∙ ap Some (sym same)), tt);
+        operands = (
+          good_alts (results_of g.ops) g.next x ys None (unwrap_or (kind_of_temp names new (temp (first_of ys))) General)
+              f.numbers a (is ∙ ap Some (sym same)),
+          tt,
+        );
         results = refl;
       }) refl refl refl
 
@@ -316,12 +328,12 @@ module _ (t : Table) (names : List Kind) (old new : List ExtBlock) (owner : ExtB
   copies_grow first second General true ys g h = fits_less g.ops (copy_op first ys g.next ∷ []) h
   copies_grow first second Pred true ys g h =
       fits_less g.ops (copy_op first ys g.next ∷ []) (fits_less (g.ops ++ copy_op first ys g.next ∷ [])
-          (copy_op second (ys ++ temp g.next ∷ []) (g.next + 1) ∷ []) h)
+      (copy_op second (ys ++ temp g.next ∷ []) (g.next + 1) ∷ []) h)
 
   copies_step : (first second : NodeCopy) (kind : Kind) (copied : Bool) (ys : List TempId) (g : Growth) (x : ℕ) (own : Kind)
       → IsGoodKind (Copy first) (copy_op first ys g.next) → ((zs : List TempId) (n : ℕ) → IsGoodKind (Copy second) (copy_op second zs n))
       → Fits (let grown = with_copies first second kind copied ys g in grown.ops) → Facts g → Alts g.next x ys
-          → kind_of_temp names new (temp x) ≡ Some own
+      → kind_of_temp names new (temp x) ≡ Some own
       → Copies g (with_copies first second kind copied ys g) x (copy_count_by kind copied)
   copies_step first second kind false ys g x own one two h f a is =
       record { facts = f; next = omega arith; each = λ j below. absurd (omega arith); same = refl }
@@ -358,20 +370,20 @@ module _ (t : Table) (names : List Kind) (old new : List ExtBlock) (owner : ExtB
 
   value_step : (n : ℕ) (sort : Sort) (g : Growth) → Fits (let grown = with_value n sort g in grown.ops) → Facts g → start ≤ n → n < g.next
       → carried new (temp n) ≡ temp n → kind_of_temp names new (temp n) ≡ Some sort.kind
-          → kind_of_temp names old (temp (length g.values)) ≡ Some sort.kind
+      → kind_of_temp names old (temp (length g.values)) ≡ Some sort.kind
       → Facts (with_value n sort g)
   value_step n sort g h f below above is kind was =
       let a = alts_alone n g.next below above is in
       let c = copies_step D D2 sort.kind sort.copied (temp n ∷ []) g n sort.kind
-          (All-cons (λ (x : Operand). length x.alts ≡ 1) _ [] refl (All-nil (λ (x : Operand). length x.alts ≡ 1)))
+      (All-cons (λ (x : Operand). length x.alts ≡ 1) _ [] refl (All-nil (λ (x : Operand). length x.alts ≡ 1)))
       (λ zs m. tt) h f a kind in
       let facts = c.facts in
       let e = c.next in
       let all : Alts (g.next + copy_count sort) n (own_temps n sort g) =
-          alts_row g.next n (copy_count sort) (temp n ∷ []) (start_below g f) c.each a in
+      alts_row g.next n (copy_count sort) (temp n ∷ []) (start_below g f) c.each a in
       let v : IsValue (let grown = with_value n sort g in grown.next) (length g.values) (value_of n sort g) =
       subst (λ (k : ℕ). IsValue k (length g.values) (value_of n sort g)) (sym e)
-          (record { x = n; all = all; own = all; kind = kind; was = was }) in
+      (record { x = n; all = all; own = all; kind = kind; was = was }) in
       record {
         numbers = facts.numbers;
         clength = facts.clength;
@@ -418,7 +430,7 @@ module _ (t : Table) (names : List Kind) (old new : List ExtBlock) (owner : ExtB
       let itself : carried new (temp n) ≡ temp n = ap (λ (m : ℕ). carried new (temp m)) (sym z) ∙ one.itself ∙ ap temp z in
       let kind : kind_of_temp names new (temp n) ≡ Some sort.kind = ap (λ (m : ℕ). kind_of_temp names new (temp m)) (sym z) ∙ one.kind in
       let was : kind_of_temp names old (temp (length g.values)) ≡ Some sort.kind = ap (λ (m : ℕ). kind_of_temp names old (temp m)) (sym y)
-          ∙ one.was in
+      ∙ one.was in
       values_step (n + 1) sorts (with_value n sort g) h
       (value_step n sort g (values_grow (n + 1) sorts (with_value n sort g) h) f below (omega (arith, above)) itself kind was)
       (omega (arith, below)) (omega (arith, above, up))
@@ -634,11 +646,11 @@ module _ (t : Table) (names : List Kind) (old new : List ExtBlock) (owner : ExtB
         → map (λ (s : Sort). s.kind) (sorts_of names block.live_in saved kind (length op.results)) ≡ defined_kinds names block kind op
     sorts_kinds block saved In op h c =
         map-append (λ (s : Sort). s.kind) (map (sort_of_name names) block.live_in)
-            (replicate (length op.results - length block.live_in) (record { kind = General; copied = saved }))
+        (replicate (length op.results - length block.live_in) (record { kind = General; copied = saved }))
         ∙ ap (λ (ks : List Kind). ks ++ map (λ (s : Sort). s.kind)
-            (replicate (length op.results - length block.live_in) (record { kind = General; copied = saved }))) (name_kinds block.live_in)
+        (replicate (length op.results - length block.live_in) (record { kind = General; copied = saved }))) (name_kinds block.live_in)
         ∙ ap (λ (ks : List Kind). map (name_kind names) block.live_in ++ ks)
-            (same_kinds (length op.results - length block.live_in) (record { kind = General; copied = saved }))
+        (same_kinds (length op.results - length block.live_in) (record { kind = General; copied = saved }))
     sorts_kinds block saved (Body o) op h c = result_kinds op.results (result_kind o.op) true
     sorts_kinds block saved Out op h c = no_kinds op.results c
     sorts_kinds block saved (End term) op h c = no_kinds op.results c
@@ -675,7 +687,7 @@ module _ (t : Table) (names : List Kind) (old new : List ExtBlock) (owner : ExtB
     is_new : (read : Growth) (count : ℕ) (made : ExtOp) → made.results ≡ new_temps read count → Facts read → Fits (read.ops ++ made ∷ [])
         → carried_by made.kind made ≡ made.results → (j : ℕ) (sort : Sort) (i : ℕ)
         → j < count → slice_get (defined_kinds names owner made.kind made) j ≡ Some sort.kind
-            → slice_get (all_kinds names old) i ≡ Some sort.kind
+        → slice_get (all_kinds names old) i ≡ Some sort.kind
         → IsNew (read.next + j) i sort
     is_new read count made are f h same j sort i inside kind was =
         let l = length-map-range_with_len temp read.next count in
@@ -726,7 +738,7 @@ module _ (t : Table) (names : List Kind) (old new : List ExtBlock) (owner : ExtB
         let wants = wants_of t names old was op.kind op in
         let r = operands_step op.operands wants before h3 (leave_step op.kind g f)
         (subst (λ (k : ℕ). AllZip (ReadsOld k) op.operands wants) (sym v0)
-            (reads_old seen (length g.values) op.operands wants seen_numbers good.operands)) in
+        (reads_old seen (length g.values) op.operands wants seen_numbers good.operands)) in
         let f1 = r.facts in
         let width : length (new_temps read count) ≡ count = length-map-range_with_len temp read.next count in
         let c0 : length op.results ≡ result_count t was op.kind = good.results in
@@ -739,13 +751,13 @@ module _ (t : Table) (names : List Kind) (old new : List ExtBlock) (owner : ExtB
           results = c1;
         } in
         let f2 : Facts here = add_op read made count f1 made_good refl
-            (ap (λ (xs : List TempId). length xs) (carried_plain op.kind made plain.kind) ∙ width)
-            (kinds_length owner op.kind made c1 ∙ width) in
+        (ap (λ (xs : List TempId). length xs) (carried_plain op.kind made plain.kind) ∙ width)
+        (kinds_length owner op.kind made c1 ∙ width) in
         let ks0 : map (λ (s : Sort). s.kind) sorts ≡ defined_kinds names was op.kind op = sorts_kinds was saved op.kind op plain.kind c0 in
         let ks1 : map (λ (s : Sort). s.kind) sorts ≡ defined_kinds names owner op.kind made =
         ap (λ (xs : List NameId). map (λ (s : Sort). s.kind) (sorts_of names xs saved op.kind count)) (sym same_in)
         ∙ ap (λ (k : ℕ). map (λ (s : Sort). s.kind) (sorts_of names owner.live_in saved op.kind k)) (sym width)
-            ∙ sorts_kinds owner saved op.kind made plain.kind c1 in
+        ∙ sorts_kinds owner saved op.kind made plain.kind c1 in
         let total : length sorts ≡ count =
         sym (length-map sorts (λ (s : Sort). s.kind)) ∙ ap (λ (ks : List Kind). length ks) ks0 ∙ kinds_length was op.kind op c0 in
         let v1 : length here.values ≡ length g.values = r.count ∙ v0 in
@@ -754,16 +766,16 @@ module _ (t : Table) (names : List Kind) (old new : List ExtBlock) (owner : ExtB
         (λ j sort got. is_new read count made refl f1 h2 (carried_plain op.kind made plain.kind) j sort (length here.values + j)
         (let b = slice_get_within sorts j sort got in omega (arith, b, total))
         (sym (ap (λ (ks : List Kind). slice_get ks j) ks1) ∙ slice_get-map (λ (s : Sort). s.kind) sorts j
-            ∙ ap (option_map (λ (s : Sort). s.kind)) got)
+        ∙ ap (option_map (λ (s : Sort). s.kind)) got)
         (ap (λ (k : ℕ). slice_get (all_kinds names old) (k + j)) (v1 ∙ sym long)
-            ∙ ap (λ (ks : List Kind). slice_get ks (length front + j)) is
+        ∙ ap (λ (ks : List Kind). slice_get ks (length front + j)) is
         ∙ got_right front (defined_kinds names was op.kind op ++ more) j
         ∙ got_left (defined_kinds names was op.kind op) more j sort.kind
         (sym (ap (λ (ks : List Kind). slice_get ks j) ks0) ∙ slice_get-map (λ (s : Sort). s.kind) sorts j
-            ∙ ap (option_map (λ (s : Sort). s.kind)) got))) in
+        ∙ ap (option_map (λ (s : Sort). s.kind)) got))) in
         let v2 = values_count read.next sorts here in
         let v3 : length (let grown = with_enter is_entry op.kind all in grown.values) ≡ length all.values =
-            ap (λ (vs : List Value). length vs) (enter_values is_entry op.kind all) in
+        ap (λ (vs : List Value). length vs) (enter_values is_entry op.kind all) in
         record { facts = enter_step is_entry op.kind all f3; values = omega (arith, v1, v2, v3, total) }
 
     -- ---- all operations of a block
@@ -788,12 +800,12 @@ module _ (t : Table) (names : List Kind) (old new : List ExtBlock) (owner : ExtB
         let next = with_extended names was.live_in is_entry saved op g in
         let here = defined_kinds names was op.kind op in
         let apart : all_kinds names old ≡ front ++ (here ++ (was_kinds ops ++ more)) = is
-            ∙ ap (λ (ks : List Kind). front ++ ks) (append_assoc here (was_kinds ops) more) in
+        ∙ ap (λ (ks : List Kind). front ++ ks) (append_assoc here (was_kinds ops) more) in
         let joined : all_kinds names old ≡ (front ++ here) ++ (was_kinds ops ++ more) = apart
-            ∙ sym (append_assoc front here (was_kinds ops ++ more)) in
+        ∙ sym (append_assoc front here (was_kinds ops ++ more)) in
         let one_good = good.0 in
         let one = extended_step is_entry saved op g seen front (was_kinds ops ++ more) (All-head IsPlainOp op ops plain) one_good
-            seen_numbers apart long
+        seen_numbers apart long
         (all_grow is_entry saved ops next h) f in
         let split = numbers_split (length g.values) m op.results (results_of ops) numbers in
         let width = kinds_length was op.kind op one_good.results in
@@ -801,7 +813,7 @@ module _ (t : Table) (names : List Kind) (old new : List ExtBlock) (owner : ExtB
         let v = one.values in
         let rest = all_step is_entry saved ops next (seen ++ op.results) (front ++ here) more m (All-tail IsPlainOp op ops plain) good.1
         (subst (λ (k : ℕ). Numbers low (seen ++ op.results) k) (sym v)
-            (numbers_append low (length g.values) (length g.values + length op.results) seen op.results seen_numbers split.front))
+        (numbers_append low (length g.values) (length g.values + length op.results) seen op.results seen_numbers split.front))
         (subst (λ (k : ℕ). Numbers k (results_of ops) m) (sym v) split.back) joined (omega (arith, l, width, long, v)) h one.facts in
         let w = rest.values in
         let q = length-append op.results (results_of ops) in

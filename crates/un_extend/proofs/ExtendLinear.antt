@@ -119,10 +119,17 @@ module _ (l : Lssa) (lin : IsLinear l) where
       let good_was = All-head Good was rest good in
       let p = good_was.parts in
       let s = shaped l.names was.live_in is_entry saved was.ops p.0 values next p.1 (All-head Plain was rest plain)
-          (start_reads_none l.table l.names old new alone was p.0 good_was p.1) in
+      (start_reads_none l.table l.names old new alone was p.0 good_was p.1) in
       let e : with_ops was g.ops ≡ own = cc h in
-      subst (From is_entry (was ∷ rest) 0) e (record { was = was; ops = g.ops; at = refl; is = refl; ends = s.ends; enters = s.enters;
-          leaves = s.leaves })
+      subst (From is_entry (was ∷ rest) 0) e (record {
+        was = was;
+        ops = g.ops;
+        at = refl;
+        is = refl;
+        ends = s.ends;
+        enters = s.enters;
+        leaves = s.leaves;
+      })
   from is_entry values next (was ∷ rest) (suc k) own good plain h =
       let g = grown_block l.names is_entry values next was in
       let r = from false g.values g.next rest k own (All-tail Good was rest good) (All-tail Plain was rest plain) h in
@@ -177,7 +184,7 @@ module _ (l : Lssa) (lin : IsLinear l) where
       let grown = extended_size l.table l.names old true [] 0 old g.each in
       let little = g.small in
       let b = blocks_good l.table l.names old new alone true [] 0 old [] [] [] (length (all_results old)) refl refl refl refl refl refl
-          numbers_old g.each lin.plain in
+      numbers_old g.each lin.plain in
       let e = same_length in
       let some = g.entry in
       let few = g.few in
@@ -192,7 +199,7 @@ module _ (l : Lssa) (lin : IsLinear l) where
           distinct_labels = distinct_labels;
           params = λ entry h. (let f = got 0 entry h in let was = f.was in
               subst (λ (xs : List NameId). All (λ (name : NameId). (name.0 < PARAMS) × (name_kind l.names name ≡ General)) xs)
-                  (ap (λ (x : ExtBlock). x.live_in) f.is) (g.params was f.at));
+              (ap (λ (x : ExtBlock). x.live_in) f.is) (g.params was f.at));
           small = omega (arith, grown, little);
         };
         frames = record {
@@ -212,4 +219,4 @@ module _ (l : Lssa) (lin : IsLinear l) where
   made_kept names blocks e1 e2 =
       subst (λ (ns : List Kind). IsExtended (let e : Ext = record { table = l.table; names = ns; blocks = blocks } in e)) (sym e1)
       (subst (λ (bs : List ExtBlock). IsExtended (let e : Ext = record { table = l.table; names = l.names; blocks = bs } in e)) (sym e2)
-          extended_kept)
+      extended_kept)

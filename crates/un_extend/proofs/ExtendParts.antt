@@ -96,8 +96,13 @@ module _ (names : List Kind) (live_in : List NameId) (is_entry saved : Bool) whe
     Fall,
     record {
       front = g.ops;
-      before = record { more = []; is = sym (append-nil g.ops); all = All-nil (λ (op : ExtOp). is_inner op.kind ≡ true); enter = refl;
-          leave = refl };
+      before = record {
+        more = [];
+        is = sym (append-nil g.ops);
+        all = All-nil (λ (op : ExtOp). is_inner op.kind ≡ true);
+        enter = refl;
+        leave = refl;
+      };
       ending = None;
       are_ends = h;
       whole = sym (append-nil g.ops);
@@ -111,7 +116,7 @@ module _ (names : List Kind) (live_in : List NameId) (is_entry saved : Bool) whe
       let k = end_term op.kind (All-head (λ (op : ExtOp). is_end op.kind ≡ true) op [] h) in
       let e : Ended names live_in is_entry saved k.0 g (with_extended names live_in is_entry saved op g) =
       subst (λ (kind : ExtKind). Ended names live_in is_entry saved k.0 g
-          (with_extended names live_in is_entry saved (record { kind = kind; operands = op.operands; results = op.results }) g)) (sym k.1)
+      (with_extended names live_in is_entry saved (record { kind = kind; operands = op.operands; results = op.results }) g)) (sym k.1)
       (end_add names live_in is_entry saved k.0 op.operands op.results g) in (
         k.0,
         record {
@@ -149,11 +154,11 @@ module _ (names : List Kind) (live_in : List NameId) (is_entry saved : Bool) whe
       let out = p.out in
       let ends = option_to_list p.ending in
       let all_plain : All IsPlainOp (first ∷ (p.inner ++ (ends ++ (p.late ++ out ∷ [])))) =
-          subst (λ (xs : List ExtOp). All IsPlainOp xs) m.whole plain in
+      subst (λ (xs : List ExtOp). All IsPlainOp xs) m.whole plain in
       let behind = All-tail IsPlainOp first (p.inner ++ (ends ++ (p.late ++ out ∷ []))) all_plain in
       let inner_plain = all_left IsPlainOp p.inner (ends ++ (p.late ++ out ∷ [])) behind in
       let late_plain = all_left IsPlainOp p.late (out ∷ []) (all_right IsPlainOp ends (p.late ++ out ∷ [])
-          (all_right IsPlainOp p.inner (ends ++ (p.late ++ out ∷ [])) behind)) in
+      (all_right IsPlainOp p.inner (ends ++ (p.late ++ out ∷ [])) behind)) in
       let no_late = late_none p.late m.late late_plain in
       let g1 = with_extended names live_in is_entry saved first g0 in
       let g2 = all p.inner g1 in
@@ -172,12 +177,12 @@ module _ (names : List Kind) (live_in : List NameId) (is_entry saved : Bool) whe
       let o = out_add names live_in is_entry saved out.kind out.operands out.results g3 m.out in
       let d = o.before in
       let whole : (let grown = all was g0 in grown.ops) ≡ s.first ∷
-          ((a.more ++ (b.more ++ c.more)) ++ (option_to_list e.ending ++ (d.more ++ o.last ∷ []))) =
+      ((a.more ++ (b.more ++ c.more)) ++ (option_to_list e.ending ++ (d.more ++ o.last ∷ []))) =
       ap (λ (g : Growth). g.ops) same ∙ o.whole ∙ ap (λ (xs : List ExtOp). xs ++ o.last ∷ []) d.is
-          ∙ append_assoc g3.ops d.more (o.last ∷ [])
+      ∙ append_assoc g3.ops d.more (o.last ∷ [])
       ∙ ap (λ (xs : List ExtOp). xs ++ (d.more ++ o.last ∷ [])) (e.whole
-          ∙ ap (λ (xs : List ExtOp). xs ++ option_to_list e.ending)
-          (c.is ∙ ap (λ (xs : List ExtOp). xs ++ c.more) (b.is ∙ ap (λ (xs : List ExtOp). xs ++ b.more) a.is)))
+      ∙ ap (λ (xs : List ExtOp). xs ++ option_to_list e.ending)
+      (c.is ∙ ap (λ (xs : List ExtOp). xs ++ c.more) (b.is ∙ ap (λ (xs : List ExtOp). xs ++ b.more) a.is)))
       ∙ join s.first a.more b.more c.more (option_to_list e.ending) d.more (o.last ∷ []) in
       let q : Parts = record { start = s.first; inner = a.more ++ (b.more ++ c.more); ending = e.ending; late = d.more; out = o.last } in
       let made : IsMadeOf (let grown = all was g0 in grown.ops) q = record {
@@ -196,11 +201,11 @@ module _ (names : List Kind) (live_in : List NameId) (is_entry saved : Bool) whe
         ends = ap (λ (x : Ending). x.term) (parts_end _ q made) ∙ e.term_is o.last o.is_last ∙ sym was_term;
         enters = total is_enter s.first a.more b.more c.more (option_to_list e.ending) d.more (o.last ∷ []) _ whole
             (count_one is_enter s.first In (in_is (let x = s.first in x.kind) s.is_first) refl)
-                (count_one is_enter o.last Out (out_is (let x = o.last in x.kind) o.is_last) refl)
+            (count_one is_enter o.last Out (out_is (let x = o.last in x.kind) o.is_last) refl)
             b.enter c.enter e.enters d.enter ∙ a.enter;
         leaves = total_late is_leave s.first a.more b.more c.more (option_to_list e.ending) d.more (o.last ∷ []) _ whole
             (count_one is_leave s.first In (in_is (let x = s.first in x.kind) s.is_first) refl)
-                (count_one is_leave o.last Out (out_is (let x = o.last in x.kind) o.is_last) refl)
+            (count_one is_leave o.last Out (out_is (let x = o.last in x.kind) o.is_last) refl)
             a.leave b.leave e.leaves d.leave ∙ c.leave ∙ ap (λ (x : Term). one_if (is_return x)) (sym was_term);
       }
     where
@@ -219,11 +224,11 @@ module _ (names : List Kind) (live_in : List NameId) (is_entry saved : Bool) whe
       total : (test : ExtKind → Bool) (x : ExtOp) (a b c d e f : List ExtOp) (ops : List ExtOp)
           → ops ≡ x ∷ ((a ++ (b ++ c)) ++ (d ++ (e ++ f)))
           → count test (x ∷ []) ≡ 0 → count test f ≡ 0 → count test b ≡ 0 → count test c ≡ 0 → count test d ≡ 0 → count test e ≡ 0
-              → count test ops ≡ count test a
+          → count test ops ≡ count test a
       total test x a b c d e f ops is h i j k l m = let s = sums test x a b c d e f ops is in omega (arith, s, h, i, j, k, l, m)
 
       total_late : (test : ExtKind → Bool) (x : ExtOp) (a b c d e f : List ExtOp) (ops : List ExtOp)
           → ops ≡ x ∷ ((a ++ (b ++ c)) ++ (d ++ (e ++ f)))
           → count test (x ∷ []) ≡ 0 → count test f ≡ 0 → count test a ≡ 0 → count test b ≡ 0 → count test d ≡ 0 → count test e ≡ 0
-              → count test ops ≡ count test c
+          → count test ops ≡ count test c
       total_late test x a b c d e f ops is h i j k l m = let s = sums test x a b c d e f ops is in omega (arith, s, h, i, j, k, l, m)

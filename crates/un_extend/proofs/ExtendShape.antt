@@ -42,8 +42,14 @@ pub record Adds (test : ExtKind → Bool) (enters leaves : ℕ) (xs ys : List Ex
   pub leave : count is_leave more ≡ leaves
 
 adds_none : (test : ExtKind → Bool) (xs : List ExtOp) → Adds test 0 0 xs xs
-adds_none test xs = record { more = []; is = sym (append-nil xs); all = All-nil (λ (op : ExtOp). test op.kind ≡ true); enter = refl; leave =
-    refl }
+adds_none test xs = record {
+  more = [];
+  is = sym (append-nil xs);
+  all = All-nil (λ (op : ExtOp). test op.kind ≡ true);
+  enter = refl;
+  leave =
+      refl;
+}
 
 pub adds_then : (test : ExtKind → Bool) (a b c d : ℕ) (xs ys zs : List ExtOp) → Adds test a b xs ys → Adds test c d ys zs
     → Adds test (a + c) (b + d) xs zs
@@ -134,12 +140,12 @@ module _ (names : List Kind) (live_in : List NameId) (is_entry saved : Bool) whe
       let all = with_values read.next (sorts_of names live_in saved (Body o) (length results)) here in
       subst (λ (grown : Growth). Adds is_inner 0 0 g.ops grown.ops) (sym (enter_same is_entry (Body o) all refl))
       (adds_then is_inner 0 0 0 0 g.ops read.ops all.ops (adds_wider is_copy is_inner 0 0 g.ops read.ops copy_inner
-          (operands_add operands g))
+      (operands_add operands g))
       (adds_then is_inner 0 0 0 0 read.ops here.ops all.ops
       (adds_one is_inner read.ops (record { kind = Body o; operands = new_operands operands g; results = new_temps read (length results) })
-          refl)
+      refl)
       (adds_wider is_copy is_inner 0 0 here.ops all.ops copy_inner
-          (values_add read.next (sorts_of names live_in saved (Body o) (length results)) here))))
+      (values_add read.next (sorts_of names live_in saved (Body o) (length results)) here))))
   inner_add In operands results g h k = absurd (cc h)
   inner_add Out operands results g h k = absurd (cc h)
   inner_add (End term) operands results g h k = absurd (cc h)
@@ -153,7 +159,7 @@ module _ (names : List Kind) (live_in : List NameId) (is_entry saved : Bool) whe
   all_inner_add (op ∷ ops) g h k =
       let p = All-head IsPlainOp op ops k in
       adds_then is_inner 0 0 0 0 g.ops (let grown = grows op g in grown.ops)
-          (let grown = with_all_extended names live_in is_entry saved (op ∷ ops) g in grown.ops)
+      (let grown = with_all_extended names live_in is_entry saved (op ∷ ops) g in grown.ops)
       (inner_add op.kind op.operands op.results g (All-head (λ (op : ExtOp). is_inner op.kind ≡ true) op ops h) p.kind)
       (all_inner_add ops (grows op g) (All-tail (λ (op : ExtOp). is_inner op.kind ≡ true) op ops h) (All-tail IsPlainOp op ops k))
 
@@ -175,7 +181,7 @@ module _ (names : List Kind) (live_in : List NameId) (is_entry saved : Bool) whe
         is_first = refl;
         later = (let a = adds_then is_inner 0 0 (one_if is_entry) 0 here.ops all.ops (let grown = with_enter is_entry In all in grown.ops)
             (adds_wider is_copy is_inner 0 0 here.ops all.ops copy_inner
-                (values_add g.next (sorts_of names live_in saved In (length results)) here)) (by is_entry all) in
+            (values_add g.next (sorts_of names live_in saved In (length results)) here)) (by is_entry all) in
             record { more = a.more; is = a.is; all = a.all; enter = (let e = a.enter in omega (arith, e)); leave = a.leave });
       }
     where

@@ -140,7 +140,7 @@ extended_size t names old is_entry values next (was ∷ rest) good =
     let own = All-head (IsGoodExtBlock t names old) was rest good in
     let z : size [] ≡ 0 = refl in
     let a = all_size t names was is_entry (is_entry || returns was) was.ops (record { ops = []; values = values; next = next })
-        (λ k op h. (let o = own.ops k op h in o.results)) in
+    (λ k op h. (let o = own.ops k op h in o.results)) in
     let b = extended_size t names old false g.values g.next rest (All-tail (IsGoodExtBlock t names old) was rest good) in
     let c = sum_by-cons (λ (block : ExtBlock). size block.ops) (with_ops was g.ops) (extended_blocks names false g.values g.next rest) in
     let d = sum_by-cons (λ (block : ExtBlock). size block.ops) was rest in

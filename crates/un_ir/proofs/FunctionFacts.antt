@@ -56,7 +56,7 @@ pub shifts : (f : Function) (b k : ℕ) (block : Block) (o : SrcOp) → slice_ge
     → IsShift o.op o.imm
 shifts f b k block o at here =
     ∥∥₁_elim f.well_formed (shift_prop (literal_range o.op) o.imm)
-        (λ (w : IsKept f). let g = op_good f w b k block o at here in shift_by (literal_range o.op) o.imm g.literal)
+    (λ (w : IsKept f). let g = op_good f w b k block o at here in shift_by (literal_range o.op) o.imm g.literal)
 
 -- a call has a callee
 pub calls_one : (f : Function) (b k : ℕ) (block : Block) (o : SrcOp) → slice_get f.blocks b ≡ Some block → slice_get block.ops k ≡ Some o

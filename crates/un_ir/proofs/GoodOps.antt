@@ -43,13 +43,16 @@ temps_append n (suc a) b =
     let z : n + suc a ≡ (n + 1) + a = omega arith in
     let q : suc a + b ≡ suc (a + b) = omega arith in
     ap (λ (k : ℕ). temp n ∷ (temps (n + 1) a ++ temps k b)) z ∙ ap (λ (xs : List TempId). temp n ∷ xs) (temps_append (n + 1) a b)
-        ∙ ap (temps n) (sym q)
+    ∙ ap (temps n) (sym q)
 
 pub temps_has : (n count x : ℕ) → n ≤ x → x < n + count → Contains (temps n count) (temp x)
 temps_has n count x low high =
-    let l = length-map-range_with_len temp n count in
-    (x - n, omega (arith, l, low, high), get_or-map-range_with_len temp n count (x - n) x (temp x) (omega (arith, low, high))
-        (omega (arith, low)))
+    let l = length-map-range_with_len temp n count in (
+      x - n,
+      omega (arith, l, low, high),
+      get_or-map-range_with_len temp n count (x - n) x (temp x) (omega (arith, low, high))
+          (omega (arith, low)),
+    )
 
 -- temporaries are those from n to before m
 pub record Numbers (n : ℕ) (xs : List TempId) (m : ℕ) : Type 0 where
@@ -103,7 +106,7 @@ module _ (t : Table) (names : List Kind) (blocks : List ExtBlock) (block : ExtBl
   good_at before (o ∷ ops) zero op g h =
       let e : o ≡ op = cc h in
       subst (IsGoodExtOp t names blocks block (before ++ [])) e (subst (λ (xs : List TempId). IsGoodExtOp t names blocks block xs o)
-          (sym (append-nil before)) g.0)
+      (sym (append-nil before)) g.0)
   good_at before (o ∷ ops) (suc k) op g h =
       subst (λ (xs : List TempId). IsGoodExtOp t names blocks block xs op) (append_assoc before o.results (results_of (take k ops)))
       (good_at (before ++ o.results) ops k op g.1 h)

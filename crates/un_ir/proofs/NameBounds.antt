@@ -106,4 +106,4 @@ pub live_name_small : (f : Function) (name : NameId) (b k : ℕ) → IsLive f.bl
 live_name_small f name b k live =
     ∥∥₁_elim f.well_formed le_prop
     (λ (w : IsWellFormed f.name f.params f.names f.blocks). live_small (length f.names) f.blocks
-        (names_small f.names f.blocks w.good_blocks) name b k live)
+    (names_small f.names f.blocks w.good_blocks) name b k live)

@@ -106,7 +106,7 @@ abbrev loads_and_stores : List Block
 loads_and_stores =
     block (codes "e")
     (op Load (Some 2) (0 ∷ []) (pos 0) ∷ op Store None (0 ∷ 1 ∷ []) (pos 0) ∷ op Load (Some 3) (1 ∷ []) (pos 0) ∷
-        op Store None (1 ∷ 0 ∷ []) (pos 4) ∷ [])
+    op Store None (1 ∷ 0 ∷ []) (pos 4) ∷ [])
     (Ret (Some (name 2)))
     ∷ []
 

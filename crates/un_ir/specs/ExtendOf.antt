@@ -73,7 +73,7 @@ value_of n sort g = record { own = own_temps n sort g; all = own_temps n sort g;
 abbrev pub with_value : ℕ → Sort → Growth → Growth
 with_value n sort g =
     let grown = with_copies D D2 sort.kind sort.copied (temp n ∷ []) g in
-        record { ops = grown.ops; values = g.values ++ value_of n sort g ∷ []; next = grown.next }
+    record { ops = grown.ops; values = g.values ++ value_of n sort g ∷ []; next = grown.next }
 
 -- values whose temporaries begin with n
 abbrev pub with_values : ℕ → List Sort → Growth → Growth
@@ -87,8 +87,12 @@ abbrev pub with_operand_by : ℕ → Option Value → Growth → Growth
 with_operand_by x None g = g
 with_operand_by x (Some v) g =
     let grown = with_copies U U2 v.sort.kind v.sort.copied v.own g in
-    record { ops = grown.ops; values = slice_set g.values x (record v { all = v.all ++ new_temps g (copy_count v.sort) }); next =
-        grown.next }
+    record {
+      ops = grown.ops;
+      values = slice_set g.values x (record v { all = v.all ++ new_temps g (copy_count v.sort) });
+      next =
+          grown.next;
+    }
 
 abbrev pub with_operand : Operand → Growth → Growth
 with_operand x g = with_operand_by (first_of x.alts) (slice_get g.values (first_of x.alts)) g

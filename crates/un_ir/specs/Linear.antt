@@ -177,7 +177,7 @@ place_over a b j = place_by a b j (slice_get b.live_in j)
 abbrev pub taken_by : ExtBlock → List ℕ → ExtBlock → List ℕ
 taken_by a handed b =
     map (λ (name : NameId). slice_index handed (position_or_len (λ (n : NameId). n.0 == name.0) a.live_out)) b.live_in ++
-        drop (length a.live_out) handed
+    drop (length a.live_out) handed
 
 abbrev pub taken_over : ExtBlock → List ℕ → Option ExtBlock → List ℕ
 taken_over a handed None = []
@@ -194,8 +194,10 @@ leave b (JumpTo to) read handed w go = go to.0
 leave b (Branch pred true to) read handed w go = if nat_eq (slice_index read 0) 0 then go (b + 1) else go to.0
 leave b (Branch pred false to) read handed w go = if nat_eq (slice_index read 0) 0 then go to.0 else go (b + 1)
 leave b (Ret None) read handed w go = record { stop = Returned None (slice_index read 0) handed; world = w }
-leave b (Ret (Some name)) read handed w go = record { stop = Returned (Some (slice_index handed 0)) (slice_index read 0) (drop 1 handed);
-    world = w }
+leave b (Ret (Some name)) read handed w go = record {
+  stop = Returned (Some (slice_index handed 0)) (slice_index read 0) (drop 1 handed);
+  world = w;
+}
 
 -- goes on at a block, which takes over what block a hands over
 abbrev pub hand_over : List ExtBlock → ExtBlock → List ℕ → World → (ℕ → List ℕ → World → LinearRun) → ℕ → LinearRun

@@ -145,7 +145,7 @@ linear_ops t names n live_in live_out block =
     let after = current_after current first block.ops in
     in_op n (length live_in + length (saved_registers t))
     ∷ (body_ops t current first block.ops ++ (end_ops after (saved + length (callee_saved t)) block.term ++
-        out_op t after saved live_out block.term ∷ []))
+    out_op t after saved live_out block.term ∷ []))
 
 abbrev pub block_of : Block → List NameId → List NameId → List ExtOp → ExtBlock
 block_of block live_in live_out ops = record {

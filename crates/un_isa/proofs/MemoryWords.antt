@@ -45,8 +45,10 @@ module _ (l : List (ℕ × ℕ)) (sorted : IsRising l) (k : ℕ) where
   -- a binary search by address ends at the address, or at the gap for it
   searched_sorted : (r : Result ℕ ℕ) → IsSearchInRange r (length l) → IsBinarySearchResult (λ word. nat_cmp word.0 k) l r
       → record { found : IfOk r (IsAddressAt l k); absent : IfErr r (IsGapAt l k) }
-  searched_sorted (Ok at) in_range equal = record { found = record { in_range = in_range; address = ranked _ k _ (sym (equal (0, 0))) };
-      absent = tt }
+  searched_sorted (Ok at) in_range equal = record {
+    found = record { in_range = in_range; address = ranked _ k _ (sym (equal (0, 0))) };
+    absent = tt;
+  }
   searched_sorted (Err at) in_range parted = record {
     found = tt;
     absent = record {
@@ -83,14 +85,22 @@ kept (w ∷ ws) a v none = grind (arith, nat_tests, none 0 (omega arith), kept w
 present : (ws : List (ℕ × ℕ)) (a i : ℕ) → IsAddressAt ws a i → NoneBefore ws a i → word_at a ws ≡ Some (get_or ws i (0, 0)).1
 present [] a i at none = absurd (omega (arith, at.in_range))
 present (w ∷ ws) a zero at none = grind (arith, nat_tests, at.address)
-present (w ∷ ws) a (suc i) at none = grind (arith, nat_tests, none 0 (omega arith),
-    present ws a i (at_in_tail w ws a i at) (none_in_tail w ws a i none))
+present (w ∷ ws) a (suc i) at none = grind (
+  arith,
+  nat_tests,
+  none 0 (omega arith),
+  present ws a i (at_in_tail w ws a i at) (none_in_tail w ws a i none),
+)
 
 put : (ws : List (ℕ × ℕ)) (a v i : ℕ) → IsAddressAt ws a i → NoneBefore ws a i → set_word a v ws ≡ set ws i (a, v)
 put [] a v i at none = absurd (omega (arith, at.in_range))
 put (w ∷ ws) a v zero at none = grind (arith, nat_tests, at.address)
-put (w ∷ ws) a v (suc i) at none = grind (arith, nat_tests, none 0 (omega arith),
-    put ws a v i (at_in_tail w ws a i at) (none_in_tail w ws a i none))
+put (w ∷ ws) a v (suc i) at none = grind (
+  arith,
+  nat_tests,
+  none 0 (omega arith),
+  put ws a v i (at_in_tail w ws a i at) (none_in_tail w ws a i none),
+)
 
 before : (ws : List (ℕ × ℕ)) → is_memory ws ≡ true → (a i : ℕ) → IsAddressAt ws a i → NoneBefore ws a i
 before ws h a i at j less same = omega (arith, rising 0 ws h j i less at.in_range, at.address)

@@ -31,7 +31,7 @@ inserted v k q lt = ⊎_elim (λ (e : k ≡ q). same e) (λ (ne : k ≢ q). othe
     other ne =
         let t : nat_eq k q ≡ false = grind (arith, nat_tests) in
         ap (λ (n : ℕ). nat_eq n 1) (bit_at_set_other w64 v k (omega arith) q (λ e. ne (sym e))) ∙ or_false (has v q)
-            ∙ ap (λ (b : Bool). has v q || b) (sym t)
+        ∙ ap (λ (b : Bool). has v q || b) (sym t)
 
 either : (a b : ℕ) → a < 2 → b < 2 → nat_eq (max a b) 1 ≡ (nat_eq a 1 || nat_eq b 1)
 either a b la lb = grind (arith, nat_tests)

@@ -67,7 +67,7 @@ padded_same a b = pointwise nat_eq (a ++ replicate (32 - length a) 0) (b ++ repl
 name_exact : Identifies (List ℕ) padded_same
 name_exact a b h =
     let parts = both (pointwise nat_eq (a ++ replicate (32 - length a) 0) (b ++ replicate (32 - length b) 0)) (nat_eq (length a) (length b))
-        h in
+    h in
     front a b _ _ (list_exact nat_eq nat_exact _ _ parts.0) (nat_exact _ _ parts.1)
 
 name_reflexive : Accepts (List ℕ) padded_same
@@ -104,6 +104,10 @@ instr_exact a b h =
 
 pub instr_reflexive : (a : Instr) → (sameb the_type a.op a.op && (option_eq (λ (r q : Reg). nat_eq r.0 q.0) a.dst a.dst &&
     (pointwise (λ (r q : Reg). nat_eq r.0 q.0) a.srcs a.srcs && (int_eq a.imm a.imm && option_eq padded_same a.label a.label)))) ≡ true
-instr_reflexive a = rw (op_reflexive a.op, option_reflexive (λ (r q : Reg). nat_eq r.0 q.0) reg_reflexive a.dst,
-    list_reflexive (λ (r q : Reg). nat_eq r.0 q.0) reg_reflexive a.srcs, int_reflexive a.imm)
+instr_reflexive a = rw (
+  op_reflexive a.op,
+  option_reflexive (λ (r q : Reg). nat_eq r.0 q.0) reg_reflexive a.dst,
+  list_reflexive (λ (r q : Reg). nat_eq r.0 q.0) reg_reflexive a.srcs,
+  int_reflexive a.imm,
+)
     (option_reflexive padded_same name_reflexive a.label)

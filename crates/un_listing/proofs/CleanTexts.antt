@@ -186,7 +186,7 @@ module _ (i : Instr) (t : IsTame i) where
       (clean_append (result_text i ++ mnemonic i.op ++ codes "(" ++ operand_text i 0) (codes ",")
       (clean_append (result_text i ++ mnemonic i.op ++ codes "(") (operand_text i 0)
       (clean_append (result_text i ++ mnemonic i.op) (codes "(") (clean_append (result_text i) (mnemonic i.op) result_clean
-          (mnemonic_clean i.op)) refl)
+      (mnemonic_clean i.op)) refl)
       (operand_at 0)) refl) literal_clean) refl
   text_clean Loaded = clean_append (result_text i) (word_text (operand_text i 0) i) result_clean
       (word_clean (operand_text i 0) (operand_at 0))

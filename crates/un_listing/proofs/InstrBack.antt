@@ -133,7 +133,7 @@ in_space s dst = option_map (λ (r : Reg). space_of r.0) dst ≡ Some s
 two_op : (op : Op) (s : Space) → IsMnemonic op Computed computed_ops → s ≢ M
     → (dst : Option Reg) (srcs : List Reg) (imm : ℤ) (label : Option (List ℕ))
     → option_map (λ (r : Reg). space_of r.0) dst ≡ Some s → Spaces srcs (R ∷ R ∷ []) → imm ≡ pos 0 → label ≡ None
-        → IsBack (instr op dst srcs imm label)
+    → IsBack (instr op dst srcs imm label)
 two_op op s m h None srcs imm label w r l n = absurd (cc w)
 two_op op s m h (Some d) [] imm label w r l n = absurd (cc r)
 two_op op s m h (Some d) (a ∷ []) imm label w r l n = absurd (cc r)
@@ -149,7 +149,7 @@ two_op op s m h (Some d) (a ∷ b ∷ []) imm label w r l n =
 with_literal_op : (op : Op) (s : Space) (range : Range) → IsMnemonic op WithLiteral literal_ops → s ≢ M
     → (dst : Option Reg) (srcs : List Reg) (imm : ℤ) (label : Option (List ℕ))
     → option_map (λ (r : Reg). space_of r.0) dst ≡ Some s → dst ≢ Some (record { 0 = 29 }) → Spaces srcs (R ∷ []) → InRange range imm
-        → label ≡ None → IsBack (instr op dst srcs imm label)
+    → label ≡ None → IsBack (instr op dst srcs imm label)
 with_literal_op op s range m h None srcs imm label w o r l n = absurd (cc w)
 with_literal_op op s range m h (Some d) [] imm label w o r l n = absurd (cc r)
 with_literal_op op s range m h (Some d) (a ∷ b ∷ more) imm label w o r l n = absurd (cc r)
@@ -163,7 +163,7 @@ with_literal_op op s range m h (Some d) (a ∷ []) imm label w o r l n =
 
 mux_op : (dst : Option Reg) (srcs : List Reg) (imm : ℤ) (label : Option (List ℕ))
     → option_map (λ (r : Reg). space_of r.0) dst ≡ Some R → Spaces srcs (P ∷ R ∷ R ∷ []) → imm ≡ pos 0 → label ≡ None
-        → IsBack (instr Mux dst srcs imm label)
+    → IsBack (instr Mux dst srcs imm label)
 mux_op None srcs imm label w r l n = absurd (cc w)
 mux_op (Some d) [] imm label w r l n = absurd (cc r)
 mux_op (Some d) (a ∷ []) imm label w r l n = absurd (cc r)
@@ -180,7 +180,7 @@ mux_op (Some d) (a ∷ b ∷ e ∷ []) imm label w r l n =
 
 imm_op : (dst : Option Reg) (srcs : List Reg) (imm : ℤ) (label : Option (List ℕ))
     → option_map (λ (r : Reg). space_of r.0) dst ≡ Some R → Spaces srcs [] → InRange Signed16 imm → label ≡ None
-        → IsBack (instr Imm dst srcs imm label)
+    → IsBack (instr Imm dst srcs imm label)
 imm_op None srcs imm label w r l n = absurd (cc w)
 imm_op (Some d) (a ∷ more) imm label w r l n = absurd (cc r)
 imm_op (Some d) [] imm label w r l n =
@@ -197,7 +197,7 @@ not_general_of n e = let k = (predicate n e).0 in grind (arith, nat_tests)
 
 mov_op : (dst : Option Reg) (srcs : List Reg) (imm : ℤ) (label : Option (List ℕ))
     → option_map (λ (r : Reg). space_of r.0) dst ≡ Some R → Spaces srcs (R ∷ []) → imm ≡ pos 0 → label ≡ None
-        → IsBack (instr Mov dst srcs imm label)
+    → IsBack (instr Mov dst srcs imm label)
 mov_op None srcs imm label w r l n = absurd (cc w)
 mov_op (Some d) [] imm label w r l n = absurd (cc r)
 mov_op (Some d) (a ∷ b ∷ more) imm label w r l n = absurd (cc r)
@@ -213,7 +213,7 @@ mov_op (Some d) (a ∷ []) imm label w r l n =
 
 p2r_op : (dst : Option Reg) (srcs : List Reg) (imm : ℤ) (label : Option (List ℕ))
     → option_map (λ (r : Reg). space_of r.0) dst ≡ Some R → Spaces srcs (P ∷ []) → imm ≡ pos 0 → label ≡ None
-        → IsBack (instr P2R dst srcs imm label)
+    → IsBack (instr P2R dst srcs imm label)
 p2r_op None srcs imm label w r l n = absurd (cc w)
 p2r_op (Some d) [] imm label w r l n = absurd (cc r)
 p2r_op (Some d) (a ∷ b ∷ more) imm label w r l n = absurd (cc r)
@@ -229,7 +229,7 @@ p2r_op (Some d) (a ∷ []) imm label w r l n =
 
 r2p_op : (dst : Option Reg) (srcs : List Reg) (imm : ℤ) (label : Option (List ℕ))
     → option_map (λ (r : Reg). space_of r.0) dst ≡ Some P → Spaces srcs (R ∷ []) → imm ≡ pos 0 → label ≡ None
-        → IsBack (instr R2P dst srcs imm label)
+    → IsBack (instr R2P dst srcs imm label)
 r2p_op None srcs imm label w r l n = absurd (cc w)
 r2p_op (Some d) [] imm label w r l n = absurd (cc r)
 r2p_op (Some d) (a ∷ b ∷ more) imm label w r l n = absurd (cc r)
@@ -250,7 +250,7 @@ not_stack a h = ne_eqb a.0 29 h
 
 load_op : (dst : Option Reg) (srcs : List Reg) (imm : ℤ) (label : Option (List ℕ))
     → option_map (λ (r : Reg). space_of r.0) dst ≡ Some R → HasItsBase Load srcs → Spaces srcs (R ∷ []) → InRange Offset imm → label ≡ None
-        → IsBack (instr Load dst srcs imm label)
+    → IsBack (instr Load dst srcs imm label)
 load_op None srcs imm label w o r l n = absurd (cc w)
 load_op (Some d) [] imm label w o r l n = absurd (cc r)
 load_op (Some d) (a ∷ b ∷ more) imm label w o r l n = absurd (cc r)
@@ -262,7 +262,7 @@ load_op (Some d) (a ∷ []) imm label w o r l n =
 
 reload_op : (dst : Option Reg) (srcs : List Reg) (imm : ℤ) (label : Option (List ℕ))
     → option_map (λ (r : Reg). space_of r.0) dst ≡ Some R → Spaces srcs [] → InRange FrameOffset imm → label ≡ None
-        → IsBack (instr Reload dst srcs imm label)
+    → IsBack (instr Reload dst srcs imm label)
 reload_op None srcs imm label w r l n = absurd (cc w)
 reload_op (Some d) (a ∷ more) imm label w r l n = absurd (cc r)
 reload_op (Some d) [] imm label w r l n =
@@ -272,7 +272,7 @@ reload_op (Some d) [] imm label w r l n =
 
 store_op : (dst : Option Reg) (srcs : List Reg) (imm : ℤ) (label : Option (List ℕ))
     → option_map (λ (r : Reg). space_of r.0) dst ≡ None → HasItsBase Store srcs → Spaces srcs (R ∷ R ∷ []) → InRange Offset imm
-        → label ≡ None → IsBack (instr Store dst srcs imm label)
+    → label ≡ None → IsBack (instr Store dst srcs imm label)
 store_op (Some d) srcs imm label w o r l n = absurd (cc w)
 store_op None [] imm label w o r l n = absurd (cc r)
 store_op None (a ∷ []) imm label w o r l n = absurd (cc r)
@@ -285,7 +285,7 @@ store_op None (a ∷ b ∷ []) imm label w o r l n =
 
 spill_op : (dst : Option Reg) (srcs : List Reg) (imm : ℤ) (label : Option (List ℕ))
     → option_map (λ (r : Reg). space_of r.0) dst ≡ None → Spaces srcs (R ∷ []) → InRange FrameOffset imm → label ≡ None
-        → IsBack (instr Spill dst srcs imm label)
+    → IsBack (instr Spill dst srcs imm label)
 spill_op (Some d) srcs imm label w r l n = absurd (cc w)
 spill_op None [] imm label w r l n = absurd (cc r)
 spill_op None (a ∷ b ∷ more) imm label w r l n = absurd (cc r)
@@ -298,7 +298,7 @@ spill_op None (a ∷ []) imm label w r l n =
 
 enter_op : (frame : ℕ) (dst : Option Reg) (srcs : List Reg) (imm : ℤ) (label : Option (List ℕ)) → frame ≤ 256
     → option_map (λ (r : Reg). space_of r.0) dst ≡ None → Spaces srcs [] → (0 < frame) × (imm ≡ minus frame) → label ≡ None
-        → IsBack (instr Enter dst srcs imm label)
+    → IsBack (instr Enter dst srcs imm label)
 enter_op frame (Some d) srcs imm label small w r l n = absurd (cc w)
 enter_op frame None (a ∷ more) imm label small w r l n = absurd (cc r)
 enter_op zero None [] imm label small w r l n = let k = l.0 in absurd (omega arith)
@@ -306,7 +306,7 @@ enter_op (suc k) None [] imm label small w r l n = rw (l.1, n) (ap instr_of (mov
 
 leave_op : (frame : ℕ) (dst : Option Reg) (srcs : List Reg) (imm : ℤ) (label : Option (List ℕ)) → frame ≤ 256
     → option_map (λ (r : Reg). space_of r.0) dst ≡ None → Spaces srcs [] → (0 < frame) × (imm ≡ pos frame) → label ≡ None
-        → IsBack (instr Leave dst srcs imm label)
+    → IsBack (instr Leave dst srcs imm label)
 leave_op frame (Some d) srcs imm label small w r l n = absurd (cc w)
 leave_op frame None (a ∷ more) imm label small w r l n = absurd (cc r)
 leave_op frame None [] imm label small w r l n = rw (l.1, n) (ap instr_of (moved_words (pos frame) (omega arith)))
@@ -332,7 +332,7 @@ counted k (r ∷ rs) e h =
 
 call_op : (dst : Option Reg) (srcs : List Reg) (imm : ℤ) (label : Option (List ℕ))
     → dst ≡ None → (map number srcs ≡ range_with_len 0 (length srcs)) × (length srcs ≤ 6) → imm ≡ pos 0 → IsThere label
-        → IfSome label (λ l. is_name l ≡ true)
+    → IfSome label (λ l. is_name l ≡ true)
     → IsBack (instr Call dst srcs imm label)
 call_op dst srcs imm None w r l n named = absurd n
 call_op dst srcs imm (Some label) w r l n named =
@@ -342,7 +342,7 @@ call_op dst srcs imm (Some label) w r l n named =
 
 jump_op : (dst : Option Reg) (srcs : List Reg) (imm : ℤ) (label : Option (List ℕ))
     → option_map (λ (r : Reg). space_of r.0) dst ≡ None → Spaces srcs [] → imm ≡ pos 0 → IsThere label
-        → IfSome label (λ l. is_name l ≡ true)
+    → IfSome label (λ l. is_name l ≡ true)
     → IsBack (instr Jump dst srcs imm label)
 jump_op (Some d) srcs imm label w r l n named = absurd (cc w)
 jump_op None (a ∷ more) imm label w r l n named = absurd (cc r)
@@ -351,7 +351,7 @@ jump_op None [] imm (Some label) w r l n named = rw l (ap instr_of (jumped_words
 
 jump_if_op : (dst : Option Reg) (srcs : List Reg) (imm : ℤ) (label : Option (List ℕ))
     → option_map (λ (r : Reg). space_of r.0) dst ≡ None → Spaces srcs (P ∷ []) → imm ≡ pos 0 → IsThere label
-        → IfSome label (λ l. is_name l ≡ true)
+    → IfSome label (λ l. is_name l ≡ true)
     → IsBack (instr JumpIf dst srcs imm label)
 jump_if_op (Some d) srcs imm label w r l n named = absurd (cc w)
 jump_if_op None [] imm label w r l n named = absurd (cc r)
@@ -363,7 +363,7 @@ jump_if_op None (a ∷ []) imm (Some label) w r l n named =
 
 jump_if_not_op : (dst : Option Reg) (srcs : List Reg) (imm : ℤ) (label : Option (List ℕ))
     → option_map (λ (r : Reg). space_of r.0) dst ≡ None → Spaces srcs (P ∷ []) → imm ≡ pos 0 → IsThere label
-        → IfSome label (λ l. is_name l ≡ true)
+    → IfSome label (λ l. is_name l ≡ true)
     → IsBack (instr JumpIfNot dst srcs imm label)
 jump_if_not_op (Some d) srcs imm label w r l n named = absurd (cc w)
 jump_if_not_op None [] imm label w r l n named = absurd (cc r)
@@ -375,7 +375,7 @@ jump_if_not_op None (a ∷ []) imm (Some label) w r l n named =
 
 jumpr_op : (dst : Option Reg) (srcs : List Reg) (imm : ℤ) (label : Option (List ℕ))
     → option_map (λ (r : Reg). space_of r.0) dst ≡ None → Spaces srcs (R ∷ []) → imm ≡ pos 0 → label ≡ None
-        → IsBack (instr Jumpr dst srcs imm label)
+    → IsBack (instr Jumpr dst srcs imm label)
 jumpr_op (Some d) srcs imm label w r l n = absurd (cc w)
 jumpr_op None [] imm label w r l n = absurd (cc r)
 jumpr_op None (a ∷ b ∷ more) imm label w r l n = absurd (cc r)
@@ -385,7 +385,7 @@ jumpr_op None (a ∷ []) imm label w r l n =
 
 nop_op : (dst : Option Reg) (srcs : List Reg) (imm : ℤ) (label : Option (List ℕ))
     → option_map (λ (r : Reg). space_of r.0) dst ≡ None → Spaces srcs [] → imm ≡ pos 0 → label ≡ None
-        → IsBack (instr Nop dst srcs imm label)
+    → IsBack (instr Nop dst srcs imm label)
 nop_op (Some d) srcs imm label w r l n = absurd (cc w)
 nop_op None (a ∷ more) imm label w r l n = absurd (cc r)
 nop_op None [] imm label w r l n = rw (l, n) refl
@@ -413,52 +413,52 @@ instr_back frame small Jumpr dst srcs imm label g named = jumpr_op dst srcs imm 
 instr_back frame small Nop dst srcs imm label g named = nop_op dst srcs imm label g.writes g.reads g.literal g.label
 instr_back frame small Add dst srcs imm label g named =
     two_op Add R (record { printed = refl; name = refl; reg = refl; other = refl; found = refl }) (λ e. cc e) dst srcs imm label g.writes
-        g.reads g.literal g.label
+    g.reads g.literal g.label
 instr_back frame small Sub dst srcs imm label g named =
     two_op Sub R (record { printed = refl; name = refl; reg = refl; other = refl; found = refl }) (λ e. cc e) dst srcs imm label g.writes
-        g.reads g.literal g.label
+    g.reads g.literal g.label
 instr_back frame small And dst srcs imm label g named =
     two_op And R (record { printed = refl; name = refl; reg = refl; other = refl; found = refl }) (λ e. cc e) dst srcs imm label g.writes
-        g.reads g.literal g.label
+    g.reads g.literal g.label
 instr_back frame small Or dst srcs imm label g named =
     two_op Or R (record { printed = refl; name = refl; reg = refl; other = refl; found = refl }) (λ e. cc e) dst srcs imm label g.writes
-        g.reads g.literal g.label
+    g.reads g.literal g.label
 instr_back frame small Xor dst srcs imm label g named =
     two_op Xor R (record { printed = refl; name = refl; reg = refl; other = refl; found = refl }) (λ e. cc e) dst srcs imm label g.writes
-        g.reads g.literal g.label
+    g.reads g.literal g.label
 instr_back frame small Mpyi dst srcs imm label g named =
     two_op Mpyi R (record { printed = refl; name = refl; reg = refl; other = refl; found = refl }) (λ e. cc e) dst srcs imm label g.writes
-        g.reads g.literal g.label
+    g.reads g.literal g.label
 instr_back frame small CmpEq dst srcs imm label g named =
     two_op CmpEq P (record { printed = refl; name = refl; reg = refl; other = refl; found = refl }) (λ e. cc e) dst srcs imm label g.writes
-        g.reads g.literal g.label
+    g.reads g.literal g.label
 instr_back frame small CmpGt dst srcs imm label g named =
     two_op CmpGt P (record { printed = refl; name = refl; reg = refl; other = refl; found = refl }) (λ e. cc e) dst srcs imm label g.writes
-        g.reads g.literal g.label
+    g.reads g.literal g.label
 instr_back frame small CmpGtu dst srcs imm label g named =
     two_op CmpGtu P (record { printed = refl; name = refl; reg = refl; other = refl; found = refl }) (λ e. cc e) dst srcs imm label g.writes
-        g.reads g.literal g.label
+    g.reads g.literal g.label
 instr_back frame small Addi dst srcs imm label g named =
     with_literal_op Addi R Signed16 (record { printed = refl; name = refl; reg = refl; other = refl; found = refl }) (λ e. cc e) dst srcs
-        imm label g.writes g.stack g.reads g.literal g.label
+    imm label g.writes g.stack g.reads g.literal g.label
 instr_back frame small Andi dst srcs imm label g named =
     with_literal_op Andi R Signed10 (record { printed = refl; name = refl; reg = refl; other = refl; found = refl }) (λ e. cc e) dst srcs
-        imm label g.writes g.stack g.reads g.literal g.label
+    imm label g.writes g.stack g.reads g.literal g.label
 instr_back frame small Ori dst srcs imm label g named =
     with_literal_op Ori R Signed10 (record { printed = refl; name = refl; reg = refl; other = refl; found = refl }) (λ e. cc e) dst srcs imm
-        label g.writes g.stack g.reads g.literal g.label
+    label g.writes g.stack g.reads g.literal g.label
 instr_back frame small CmpEqi dst srcs imm label g named =
     with_literal_op CmpEqi P Signed10 (record { printed = refl; name = refl; reg = refl; other = refl; found = refl }) (λ e. cc e) dst srcs
-        imm label g.writes g.stack g.reads g.literal g.label
+    imm label g.writes g.stack g.reads g.literal g.label
 instr_back frame small CmpGti dst srcs imm label g named =
     with_literal_op CmpGti P Signed10 (record { printed = refl; name = refl; reg = refl; other = refl; found = refl }) (λ e. cc e) dst srcs
-        imm label g.writes g.stack g.reads g.literal g.label
+    imm label g.writes g.stack g.reads g.literal g.label
 instr_back frame small Asl dst srcs imm label g named =
     with_literal_op Asl R Unsigned5 (record { printed = refl; name = refl; reg = refl; other = refl; found = refl }) (λ e. cc e) dst srcs
-        imm label g.writes g.stack g.reads g.literal g.label
+    imm label g.writes g.stack g.reads g.literal g.label
 instr_back frame small Asr dst srcs imm label g named =
     with_literal_op Asr R Unsigned5 (record { printed = refl; name = refl; reg = refl; other = refl; found = refl }) (λ e. cc e) dst srcs
-        imm label g.writes g.stack g.reads g.literal g.label
+    imm label g.writes g.stack g.reads g.literal g.label
 instr_back frame small Lsr dst srcs imm label g named =
     with_literal_op Lsr R Unsigned5 (record { printed = refl; name = refl; reg = refl; other = refl; found = refl }) (λ e. cc e) dst srcs
-        imm label g.writes g.stack g.reads g.literal g.label
+    imm label g.writes g.stack g.reads g.literal g.label

@@ -110,7 +110,7 @@ word_words base w z says hz rest stop =
 
 word_end : (base : List ℕ) (w : Word) (z : ℤ) → Says base w → unsigned_abs z ≤ 65535
     → words_of (codes "memw(" ++ base ++ codes "+" ++ (codes "#" ++ signed_decimal z) ++ codes ")") ≡ Named (codes "memw") ∷ w ∷
-        Literal z ∷ []
+    Literal z ∷ []
 word_end base w z says hz =
     sym (ap words_of (append-nil (codes "memw(" ++ base ++ codes "+" ++ (codes "#" ++ signed_decimal z) ++ codes ")")))
     ∙ word_words base w z says hz [] refl
@@ -134,7 +134,7 @@ pub stored_words : (base : List ℕ) (w : Word) (b : Reg) (z : ℤ) → Says bas
     ≡ Named (codes "memw") ∷ w ∷ Literal z ∷ reg_word b ∷ []
 stored_words base w b z says hb hz =
     ap words_of (append_assoc (codes "memw(" ++ base ++ codes "+" ++ (codes "#" ++ signed_decimal z) ++ codes ")") (codes " = ")
-        (reg_text b))
+    (reg_text b))
     ∙ word_words base w z says hz (codes " = " ++ reg_text b) refl
     ∙ ap (λ (ws : List Word). Named (codes "memw") ∷ w ∷ Literal z ∷ ws) (reg_end b hb)
 
@@ -149,7 +149,7 @@ pub called_words : (label : List ℕ) (srcs : List Reg) → is_name label ≡ tr
     ≡ Named (codes "call") ∷ Named label ∷ map reg_word srcs
 called_words label srcs hl hs =
     and_then (Named (codes "call")) _ _ (first_word label (Named label) (name_says label hl)
-        (codes "(" ++ joined (codes ",") reg_text srcs ++ codes ")") refl
+    (codes "(" ++ joined (codes ",") reg_text srcs ++ codes ")") refl
     ∙ and_then (Named label) _ _ (operand_words srcs (codes ")") hs refl ∙ append-nil (map reg_word srcs)))
 
 label_end : (label : List ℕ) → is_name label ≡ true → words_of label ≡ Named label ∷ []
@@ -160,7 +160,7 @@ jumped_words label hl = and_then (Named (codes "jump")) _ _ (label_end label hl)
 
 pub jumped_if_words : (p : Reg) (label : List ℕ) → p.0 < 36 → is_name label ≡ true
     → words_of (codes "if (" ++ reg_text p ++ codes ") jump " ++ label) ≡ Named (codes "if") ∷ reg_word p ∷ Named (codes "jump") ∷
-        Named label ∷ []
+    Named label ∷ []
 jumped_if_words p label hp hl =
     and_then (Named (codes "if")) _ _ (ap words_of (append_assoc (reg_text p) (codes ") jump ") label)
     ∙ reg_then p hp (codes ") jump " ++ label) refl
@@ -168,7 +168,7 @@ jumped_if_words p label hp hl =
 
 pub jumped_if_not_words : (p : Reg) (label : List ℕ) → p.0 < 36 → is_name label ≡ true
     → words_of (codes "if (!" ++ reg_text p ++ codes ") jump " ++ label) ≡ Named (codes "if") ∷ Negated p ∷ Named (codes "jump") ∷
-        Named label ∷ []
+    Named label ∷ []
 jumped_if_not_words p label hp hl =
     and_then (Named (codes "if")) _ _ (ap words_of (append_assoc (33 ∷ reg_text p) (codes ") jump ") label)
     ∙ first_word (33 ∷ reg_text p) (Negated p) (negated_says (reg_text p) p (reg_back p hp)) (codes ") jump " ++ label) refl

@@ -72,7 +72,7 @@ all_named (part ∷ parts) instrs e = by (instr_of (words_of part)) (instrs_in p
   where
     by : (o : Option Instr) (rest : Option (List Instr)) → instr_of (words_of part) ≡ o
         → ((is : List Instr) → rest ≡ Some is → All IsNamed is) → option_and_then (λ i. put_before i rest) o ≡ Some instrs
-            → All IsNamed instrs
+        → All IsNamed instrs
     by None rest read more h = absurd (cc h)
     by (Some i) None read more h = absurd (cc h)
     by (Some i) (Some is) read more h =

@@ -89,8 +89,10 @@ some_same n (m ∷ ms) h =
 distinct_back : (ns : List ℕ) → AllPairs (λ (a b : ℕ). a ≢ b) ns → is_distinct ns ≡ true
 distinct_back [] h = refl
 distinct_back (n ∷ ns) h =
-    rw (some_same n ns (λ k d below. h zero (suc k) d (omega arith) (omega arith)),
-        distinct_back ns (λ i j d below inside. h (suc i) (suc j) d (omega arith) (omega arith))) refl
+    rw (
+      some_same n ns (λ k d below. h zero (suc k) d (omega arith) (omega arith)),
+      distinct_back ns (λ i j d below inside. h (suc i) (suc j) d (omega arith) (omega arith)),
+    ) refl
 
 pub distinct_decides : (ns : List ℕ) → IsTrue (is_distinct ns) ↔ AllPairs (λ (a b : ℕ). a ≢ b) ns
 distinct_decides ns = decided (is_distinct ns) _ (distinct_true ns) (distinct_back ns)

@@ -54,8 +54,13 @@ module _ (lines : List (Option Line)) (labels : List (List ℕ)) (blocks packets
     some = always true refl (some_more lines None);
   }
 
-  pub packet_noted : (p : Packet) → IsBefore (record { labels = labels; blocks = blocks; packets = min (packets + 1) (2 ^ 32 - 1); some =
-      true }) (lines ++ Some (PacketLine p) ∷ [])
+  pub packet_noted : (p : Packet) → IsBefore (record {
+    labels = labels;
+    blocks = blocks;
+    packets = min (packets + 1) (2 ^ 32 - 1);
+    some =
+        true;
+  }) (lines ++ Some (PacketLine p) ∷ [])
   packet_noted p = record {
     labels = rw (labels_append lines (Some (PacketLine p) ∷ []), append-nil (labels_in lines)) known.labels;
     blocks = rw (labels_append lines (Some (PacketLine p) ∷ []), append-nil (labels_in lines)) known.blocks;
@@ -63,13 +68,18 @@ module _ (lines : List (Option Line)) (labels : List (List ℕ)) (blocks packets
     some = always true refl (some_more lines (Some (PacketLine p)));
   }
 
-  pub block_noted : (label : List ℕ) → IsBefore (record { labels = add_label labels label; blocks = min (blocks + 1) (2 ^ 32 - 1); packets =
-      packets; some = true }) (lines ++ Some (BlockLine label) ∷ [])
+  pub block_noted : (label : List ℕ) → IsBefore (record {
+    labels = add_label labels label;
+    blocks = min (blocks + 1) (2 ^ 32 - 1);
+    packets =
+        packets;
+    some = true;
+  }) (lines ++ Some (BlockLine label) ∷ [])
   block_noted label = record {
     labels = rw (labels_append lines (Some (BlockLine label) ∷ [])) (λ l. (
       λ c. ⊎_elim (λ d. Contains-append_left (labels_in lines) (label ∷ []) l ((known.labels l).0 d))
           (λ f. subst (λ (x : List ℕ). Contains (labels_in lines ++ label ∷ []) x) f (Contains-push (labels_in lines) label))
-              ((add_contains labels label l).0 c),
+          ((add_contains labels label l).0 c),
       λ c. (add_contains labels label l).1 (⊎_elim (λ d. inl ((known.labels l).1 d)) (λ f. inr f)
           (Contains-push_cases (labels_in lines) label l c)),
     ));

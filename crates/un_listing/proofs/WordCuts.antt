@@ -31,8 +31,8 @@ first_word_cut text n e = ⊎_elim here past (cases_lt n (length text))
     here : n < length text → words_of text ≡ spelled (take n text) ++ words_of (drop (n + 1) text)
     here h =
         let parts = slice_split_first is_between text 0 (omega arith) in
-            rw (e, parts) (words_first (take (position_or_len is_between text) text)
-            (slice_split is_between (drop (position_or_len is_between text + 1) text)))
+        rw (e, parts) (words_first (take (position_or_len is_between text) text)
+        (slice_split is_between (drop (position_or_len is_between text + 1) text)))
 
     past : length text ≤ n → words_of text ≡ spelled (take n text) ++ words_of (drop (n + 1) text)
     past h =

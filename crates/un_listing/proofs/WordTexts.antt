@@ -182,22 +182,33 @@ pub record IsRegText (text : List ℕ) (r : Reg) : Type 0 where
 sigil_name : (c n : ℕ) → is_first c ≡ true → is_rest c ≡ true → n < 2 ^ 32 → is_name (c ∷ decimal n) ≡ true
 sigil_name c n first rest h =
     let w = decimal_writes n h in
-    is_name_by (c ∷ decimal n) (record { some = omega arith; short = omega (arith, w.few); first = first; rest =
-        rw (rest, digits_rest (decimal n) n w) refl })
+    is_name_by (c ∷ decimal n) (record {
+      some = omega arith;
+      short = omega (arith, w.few);
+      first = first;
+      rest =
+          rw (rest, digits_rest (decimal n) n w) refl;
+    })
 
 general_text : (n : ℕ) → n < 32 → IsRegText (114 ∷ decimal n) (record { 0 = n })
 general_text n h =
     let w = decimal_writes n (omega arith) in
     let below : nat_lt n 32 ≡ true = lt-ltb _ _ h in
-    record { says = name_says (114 ∷ decimal n) (sigil_name 114 n refl refl (omega arith)); reg =
-        rw (number_read (decimal n) n w, below, zero-add n) refl }
+    record {
+      says = name_says (114 ∷ decimal n) (sigil_name 114 n refl refl (omega arith));
+      reg =
+          rw (number_read (decimal n) n w, below, zero-add n) refl;
+    }
 
 predicate_text : (n : ℕ) → n < 4 → IsRegText (112 ∷ decimal n) (record { 0 = 32 + n })
 predicate_text n h =
     let w = decimal_writes n (omega arith) in
     let below : nat_lt n 4 ≡ true = lt-ltb _ _ h in
-    record { says = name_says (112 ∷ decimal n) (sigil_name 112 n refl refl (omega arith)); reg =
-        rw (number_read (decimal n) n w, below) refl }
+    record {
+      says = name_says (112 ∷ decimal n) (sigil_name 112 n refl refl (omega arith));
+      reg =
+          rw (number_read (decimal n) n w, below) refl;
+    }
 
 -- a register is read back
 pub reg_back : (r : Reg) → r.0 < 36 → IsRegText (reg_text r) r

@@ -89,7 +89,7 @@ pair_place [] c (k, below, is) = absurd (omega arith)
 pair_place (x ∷ xs) c (zero, below, is) = (0, omega arith, ap (λ (n : ℕ). (n, 0)) is)
 pair_place (x ∷ xs) c (suc k, below, is) =
     (λ (r : Contains {X = ℕ × ℕ} (map (λ (n : ℕ). (n, 0)) xs) (c, 0)).
-        (let t : Contains {X = ℕ × ℕ} (map (λ (n : ℕ). (n, 0)) (x ∷ xs)) (c, 0) = (suc r.0, omega (arith, r.1), r.2) in t))
+    (let t : Contains {X = ℕ × ℕ} (map (λ (n : ℕ). (n, 0)) (x ∷ xs)) (c, 0) = (suc r.0, omega (arith, r.1), r.2) in t))
     (pair_place xs c (k, omega arith, is))
 
 only : {X : Type 0} (x y : X) → Contains (x ∷ []) y → x ≡ y
@@ -167,7 +167,7 @@ kept_meets : (blocks : List Block) (name : NameId) (marks : List Bool) → AreCl
 kept_meets blocks name marks closed b k block is h na c l nx next there ih = elim (at_place block.ops k h) [
   | inl (none, empty) ↦
       let places : Contains {X = ℕ × ℕ} (map (λ (n : ℕ). (n, 0)) (targets_of b block.term)) (c, l) =
-          subst (λ (o : Option SrcOp). Contains {X = ℕ × ℕ} (next_by b k o block.term) (c, l)) none nx in
+      subst (λ (o : Option SrcOp). Contains {X = ℕ × ℕ} (next_by b k o block.term) (c, l)) none nx in
       let has = pair_first (targets_of b block.term) c l places in
       let start : Meets name marks c 0 next = subst (λ (n : ℕ). Meets name marks c n next) has.1 (ih next there) in
       let live : lives_at blocks name marks c ≡ true = rw there start in
@@ -175,11 +175,11 @@ kept_meets blocks name marks closed b k block is h na c l nx next there ih = eli
       rw (empty, led) (decided (reads name (read_by_term block.term)) Neither true (λ no. refl))
   | inr s ↦
       let place : Contains {X = ℕ × ℕ} ((b, k + 1) ∷ []) (c, l) =
-          subst (λ (o : Option SrcOp). Contains {X = ℕ × ℕ} (next_by b k o block.term) (c, l)) s.got nx in
+      subst (λ (o : Option SrcOp). Contains {X = ℕ × ℕ} (next_by b k o block.term) (c, l)) s.got nx in
       let same : ◌≡◌ {A = ℕ × ℕ} (b, k + 1) (c, l) = only {X = ℕ × ℕ} (b, k + 1) (c, l) place in
       let dst : s.item.dst ≢ Some name = subst (λ (o : Option SrcOp). assigned_by o ≢ Some name) s.got na in
       let after : Meets name marks b (k + 1) block = subst (λ (p : ℕ × ℕ). (other : Block) → slice_get blocks p.0 ≡ Some other
-          → Meets name marks p.0 p.1 other) (sym same) ih block is in
+      → Meets name marks p.0 p.1 other) (sym same) ih block is in
       let later : Meets name marks b (suc k) block = rw add-one at after in
       rw s.front (decided (reads name s.item.srcs) _ (leads marks b block.term) (λ no. rw (unassigned name s.item.dst dst) later))
 ]
@@ -189,14 +189,14 @@ live_meets : (blocks : List Block) (name : NameId) (marks : List Bool) → AreCl
 live_meets blocks name marks closed b k (used b2 k2 own g h has) block is =
     let e : own ≡ block = same_some own block (sym g ∙ is) in
     read_meets name marks b2 k2 block (subst (λ (x : Block). k2 ≤ length x.ops) e h)
-        (subst (λ (x : Block). Contains (read_at x k2) name) e has)
+    (subst (λ (x : Block). Contains (read_at x k2) name) e has)
 live_meets blocks name marks closed b k (kept b2 k2 own c l g h na nx live) block is =
     let e : own ≡ block = same_some own block (sym g ∙ is) in
     let next = live_block blocks name c l live in
     kept_meets blocks name marks closed b2 k2 block is (subst (λ (x : Block). k2 ≤ length x.ops) e h)
-        (subst (λ (x : Block). assigned_at x k2 ≢ Some name) e na)
+    (subst (λ (x : Block). assigned_at x k2 ≢ Some name) e na)
     c l (subst (λ (x : Block). Contains {X = ℕ × ℕ} (next_of b2 k2 x) (c, l)) e nx) next.0 next.1
-        (live_meets blocks name marks closed c l live)
+    (live_meets blocks name marks closed c l live)
 
 -- where no block is left to be marked, each block at whose start the name is live is marked
 pub live_marked : (blocks : List Block) (name : NameId) (marks : List Bool) → AreClosed blocks name marks → (b : ℕ)
@@ -231,7 +231,7 @@ meets_live blocks name b block is l out [] k drops h hyp = elim (at_place block.
         kept b k block t.0 0 is h
         (subst (λ (o : Option SrcOp). assigned_by o ≢ Some name) (sym none) (λ e. cc e))
         (subst (λ (o : Option SrcOp). Contains {X = ℕ × ℕ} (next_by b k o block.term) (t.0, 0)) (sym none)
-            (pair_place (targets_of b block.term) t.0 t.1))
+        (pair_place (targets_of b block.term) t.0 t.1))
         t.2
 meets_live blocks name b block is l out (o ∷ os) k drops h hyp = elim (at_place block.ops k h) [
   | inl (none, empty) ↦ absurd (cc (sym empty ∙ drops))

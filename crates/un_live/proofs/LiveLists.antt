@@ -46,8 +46,14 @@ names_marks k (marks ∷ columns) b name has = by (names_marks (k + 1) columns b
     later h = record { place = suc h.place; marks = h.marks; got = h.got; number = h.number ∙ shift k h.place; yes = h.yes }
 
     here : (v : Bool) → marked marks b ≡ v → v ≡ true → name_of k ≡ name → HasMarks k (marks ∷ columns) b name
-    here v e t is = record { place = 0; marks = marks; got = refl; number = sym is
-        ∙ ap name_of (let z : k ≡ k + 0 = omega arith in z); yes = e ∙ t }
+    here v e t is = record {
+      place = 0;
+      marks = marks;
+      got = refl;
+      number = sym is
+          ∙ ap name_of (let z : k ≡ k + 0 = omega arith in z);
+      yes = e ∙ t;
+    }
 
     by : (Contains (names_from (k + 1) columns b) name → HasMarks (k + 1) columns b name) → (v : Bool) → marked marks b ≡ v
         → Contains (if v then name_of k ∷ names_from (k + 1) columns b else names_from (k + 1) columns b) name
@@ -66,7 +72,7 @@ marks_names k (own ∷ columns) b zero marks got is =
     let same : own ≡ marks = cc got in
     let here : marked own b ≡ true = rw same is in
     rw here (subst (λ (n : ℕ). Contains (name_of k ∷ names_from (k + 1) columns b) (name_of n)) (let z : k ≡ k + 0 = omega arith in z)
-        (contains_head (name_of k) (names_from (k + 1) columns b)))
+    (contains_head (name_of k) (names_from (k + 1) columns b)))
 marks_names k (own ∷ columns) b (suc place) marks got is =
     by (subst (Contains (names_from (k + 1) columns b)) (shift k place) (marks_names (k + 1) columns b place marks got is)) (marked own b)
   where
@@ -84,7 +90,7 @@ names_above : (k : ℕ) (columns : List (List Bool)) (b : ℕ) → All (From k) 
 names_above k [] b = All-nil (From k)
 names_above k (marks ∷ columns) b =
     by (All-weaker (From (k + 1)) (From k) (λ x h. omega arith) (names_from (k + 1) columns b) (names_above (k + 1) columns b))
-        (marked marks b)
+    (marked marks b)
   where
     by : All (From k) (names_from (k + 1) columns b) → (v : Bool)
         → All (From k) (if v then name_of k ∷ names_from (k + 1) columns b else names_from (k + 1) columns b)
@@ -122,7 +128,7 @@ within columns blocks b h =
     let long : b < length (Lists columns blocks) = rw (length-map-range_with_len (names_from 0 columns) 0 blocks) h in
     let got = slice_get-get_or (Lists columns blocks) b [] long in
     let is : get_or (Lists columns blocks) b [] ≡ names_from 0 columns b =
-        get_or-map-range_with_len (names_from 0 columns) 0 blocks b b [] h (omega arith) in
+    get_or-map-range_with_len (names_from 0 columns) 0 blocks b b [] h (omega arith) in
     rw got is
 
 past : (columns : List (List Bool)) (blocks b : ℕ) → blocks ≤ b → live_at (Lists columns blocks) b ≡ []
@@ -181,7 +187,7 @@ live_lists blocks names columns are small = record {
         let column = are.each name.0 marks got in
         let yes = (column.exact b).1 live in
         let has : Contains (names_from 0 columns b) name = subst (Contains (names_from 0 columns b)) (zero_more name.0)
-            (marks_names 0 columns b name.0 marks got yes) in
+        (marks_names 0 columns b name.0 marks got yes) in
         subst (λ (xs : List NameId). Contains xs name) (sym (within columns (length blocks) b (live_block blocks name b 0 live))) has
 
 -- one more name
@@ -209,7 +215,7 @@ no_columns blocks = record { whole = refl; each = λ k marks got. absurd (cc got
 -- the names of the columns from the one at place k on, name by name
 pub names_step : (columns : List (List Bool)) (k b : ℕ) (d : List Bool) → k < length columns
     → names_from k (drop k columns) b ≡ (if marked (get_or columns k d) b then name_of k ∷ [] else []) ++
-        names_from (k + 1) (drop (k + 1) columns) b
+    names_from (k + 1) (drop (k + 1) columns) b
 names_step columns k b d h = rw (drop_more columns k d h) (by (marked (get_or columns k d) b))
   where
     by : (v : Bool) → (if v then name_of k ∷ names_from (k + 1) (drop (k + 1) columns) b else names_from (k + 1) (drop (k + 1) columns) b)
@@ -227,6 +233,6 @@ pub live_lists_at : (own blocks : List Block) (n names : ℕ) (columns : List (L
     → ((name : NameId) (b : ℕ) → IsLive blocks name b 0 → name.0 < names) → AreLive blocks lists
 live_lists_at own blocks n names columns lists same count are is small =
     let there : AreColumns blocks names columns = subst (λ (bs : List Block). AreColumns bs names columns) same
-        (subst (λ (k : ℕ). AreColumns own k columns) count are) in
+    (subst (λ (k : ℕ). AreColumns own k columns) count are) in
     subst (AreLive blocks) (sym (is ∙ ap (λ (bs : List Block). Lists columns (length bs)) same))
-        (live_lists blocks names columns there small)
+    (live_lists blocks names columns there small)

@@ -30,7 +30,7 @@ module _ (t : Table) (names n : ℕ) (live_in live_out : List NameId) (block : B
       → ops ≡ in_op n (length live_in + length registers + 1) ∷ body_ops t cur (n + (length live_in + length registers + 1)) block.ops
       → after ≡ current_after cur (n + (length live_in + length registers + 1)) block.ops
       → all ≡ ops ++ (end_ops after (n + length live_in + length registers) block.term ++
-          out_op t after (n + length live_in) live_out block.term ∷ [])
+      out_op t after (n + length live_in) live_out block.term ∷ [])
       → all ≡ linear_ops t names n live_in live_out block
   block_made cur after ops all e1 e2 e3 e4 =
       let s = saved_count t in
@@ -38,14 +38,14 @@ module _ (t : Table) (names n : ℕ) (live_in live_out : List NameId) (block : B
       let count : length live_in + length registers + 1 ≡ length live_in + length (saved_registers t) = omega (arith, s, k) in
       let first : n + (length live_in + length registers + 1) ≡ n + length live_in + length (saved_registers t) = first_is in
       e4 ∙ by (length live_in + length registers + 1) (n + (length live_in + length registers + 1)) (length registers) cur after ops count
-          first k e1 e2 e3
+      first k e1 e2 e3
     where
       by : (count first kept_count : ℕ) (cur after : List ℕ) (ops : List ExtOp) → count ≡ length live_in + length (saved_registers t)
           → first ≡ n + length live_in + length (saved_registers t)
           → kept_count ≡ length (callee_saved t) → cur ≡ first_temps (replicate names 0) n live_in
           → ops ≡ in_op n count ∷ body_ops t cur first block.ops → after ≡ current_after cur first block.ops
           → ops ++ (end_ops after (n + length live_in + kept_count) block.term ++
-              out_op t after (n + length live_in) live_out block.term ∷ []) ≡ linear_ops t names n live_in live_out block
+          out_op t after (n + length live_in) live_out block.term ∷ []) ≡ linear_ops t names n live_in live_out block
       by count first kept_count cur after ops c f k e1 e2 e3 = rw (e3, e2, e1, c, f, k) refl
 
   pub next_made : past_all (n + (length live_in + length registers + 1)) block.ops ≡ past_all
@@ -88,25 +88,25 @@ blocks_grow : (t : Table) (lists : List (List NameId)) (b n : ℕ) (blocks : Lis
 blocks_grow t lists b n [] = omega arith
 blocks_grow t lists b n (block ∷ blocks) =
     let a = block_grows t lists b n block in let r = blocks_grow t lists (b + 1) (past_block t lists b n block) blocks in
-        omega (arith, a, r)
+    omega (arith, a, r)
 
 -- the next block's temporaries are below what all blocks do not define
 pub block_below : (t : Table) (lists : List (List NameId)) (b n count : ℕ) (blocks : List Block) (d : Block) → b < length blocks
     → past_blocks t lists b n (drop b blocks) ≡ count → past_block t lists b n (get_or blocks b d) ≤ count
 block_below t lists b n count blocks d h e =
     let same : past_blocks t lists (b + 1) (past_block t lists b n (get_or blocks b d)) (drop (b + 1) blocks) ≡ count =
-        ap (past_blocks t lists b n) (sym (drop_more blocks b d h)) ∙ e in
+    ap (past_blocks t lists b n) (sym (drop_more blocks b d h)) ∙ e in
     let r = blocks_grow t lists (b + 1) (past_block t lists b n (get_or blocks b d)) (drop (b + 1) blocks) in
     omega (arith, r, same)
 
 pub blocks_step : (t : Table) (names : ℕ) (lists : List (List NameId)) (b n : ℕ) (blocks : List Block) (d : Block) → b < length blocks
     → linear_blocks t names lists b n (drop b blocks) ≡ linear_block t names lists b n (get_or blocks b d) ∷
-        linear_blocks t names lists (b + 1) (past_block t lists b n (get_or blocks b d)) (drop (b + 1) blocks)
+    linear_blocks t names lists (b + 1) (past_block t lists b n (get_or blocks b d)) (drop (b + 1) blocks)
 blocks_step t names lists b n blocks d h = rw (drop_more blocks b d h) refl
 
 pub past_step : (t : Table) (lists : List (List NameId)) (b n : ℕ) (blocks : List Block) (d : Block) → b < length blocks
     → past_blocks t lists b n (drop b blocks) ≡ past_blocks t lists (b + 1) (past_block t lists b n (get_or blocks b d))
-        (drop (b + 1) blocks)
+    (drop (b + 1) blocks)
 past_step t lists b n blocks d h = rw (drop_more blocks b d h) refl
 
 pub blocks_end : (t : Table) (names : ℕ) (lists : List (List NameId)) (b n : ℕ) (blocks : List Block) → length blocks ≤ b
@@ -145,7 +145,7 @@ blocks_more t names lists b n next blocks own made whole new h is so_far e1 e2 =
     ∙ ap (λ (x : ExtBlock). made ++ x ∷ linear_blocks t names lists (b + 1) next (drop (b + 1) blocks)) e1
     ∙ ap (λ (m : ℕ). made ++ linear_block t names lists b n own ∷ linear_blocks t names lists (b + 1) m (drop (b + 1) blocks)) e2
     ∙ ap (λ (x : Block). made ++ linear_block t names lists b n x ∷
-        linear_blocks t names lists (b + 1) (past_block t lists b n x) (drop (b + 1) blocks)) is
+    linear_blocks t names lists (b + 1) (past_block t lists b n x) (drop (b + 1) blocks)) is
     ∙ ap (λ (xs : List ExtBlock). made ++ xs) (sym (blocks_step t names lists b n blocks own h))
     ∙ so_far
 
@@ -176,7 +176,7 @@ rising_length k n (a ∷ names) rising low high h =
     let first = All-head (λ (a : NameId). k ≤ a.0) a names low in
     let last = All-head (λ (a : NameId). a.0 < n) a names high in
     let above : All (λ (b : NameId). k + 1 ≤ b.0) names = λ j d below.
-        (let r = rising 0 (suc j) d (omega arith) (omega arith) in omega (arith, r, first)) in
+    (let r = rising 0 (suc j) d (omega arith) (omega arith) in omega (arith, r, first)) in
     let rest : AllPairs (λ (a b : NameId). a.0 < b.0) names = λ i j d lt below. rising (suc i) (suc j) d (omega arith) (omega arith) in
     let r = rising_length (k + 1) n names rest above (All-tail (λ (a : NameId). a.0 < n) a names high) (omega (arith, first, last)) in
     omega (arith, r)
@@ -205,5 +205,5 @@ past_blocks_few t lists names saved few live b n (block ∷ blocks) =
     let r = past_blocks_few t lists names saved few live (b + 1) (past_block t lists b n block) blocks in
     let k = length-append block.ops (flat_map (λ (block : Block). block.ops) blocks) in
     let m : (names + saved) * suc (length blocks) ≡ (names + saved) * length blocks + (names + saved) =
-        mul-suc (names + saved) (length blocks) in
+    mul-suc (names + saved) (length blocks) in
     rw (m, k) (omega (arith, l, a, r, few))

@@ -43,7 +43,7 @@ at_end (y ∷ ys) (suc k) e h = ap suc (at_end ys k e (omega arith))
 
 module _ (blocks : List Block) (names : ℕ) (small : NamesAreSmall names blocks)
     (stores : (b k : ℕ) (block : Block) (o : SrcOp) → slice_get blocks b ≡ Some block → slice_get block.ops k ≡ Some o → o.op ≡ Store
-        → o.dst ≡ None)
+    → o.dst ≡ None)
     (t : Table) (start : Start) (lists : List (List NameId)) (b : ℕ) (block : Block) (here : slice_get blocks b ≡ Some block) where
   -- each name that is live at place k has its value in its temporary, which is below n
   pub record Agrees (k : ℕ) (current : List ℕ) (n : ℕ) (v : Values) (values : List ℕ) : Type 0 where
@@ -67,7 +67,7 @@ module _ (blocks : List Block) (names : ℕ) (small : NamesAreSmall names blocks
       let name = get_or o.srcs j d in
       let h : k ≤ length block.ops = let r = slice_get_within block.ops k o got in omega (arith, r) in
       let has : Contains (read_at block k) name = subst (λ (x : Option SrcOp). Contains (read_by x block.term) name) (sym got)
-          (Contains-get_or o.srcs j d below) in
+      (Contains-get_or o.srcs j d below) in
       a.same name (used b k block here h has)
 
   -- a temporary that is not the one defined keeps its value
@@ -141,7 +141,7 @@ module _ (blocks : List Block) (names : ℕ) (small : NamesAreSmall names blocks
   pub data BodySim (n : ℕ) (v : Values) (after : List ℕ) (last : ℕ) (rest : List ExtOp) : BlockEnd → LinearEnd → Type 0 where
     stops : (e : SourceStop) (l : LinearStop) (s : SourceState) (w : Values) → ((values : List ℕ) → stop_with t start lists values e ≡ l)
         → BodySim n v after last rest (record { stop = Some e; state = s })
-            (record { stop = Some l; state = record { values = w; world = world_of s } })
+        (record { stop = Some l; state = record { values = w; world = world_of s } })
     ends : (s : SourceState) (w : Values) → Agrees (length block.ops) after last w s.values → ((x : ℕ) → x < n → w x ≡ v x)
         → BodySim n v after last rest (record { stop = None; state = s }) (linear_run_ops rest (record { values = w; world = world_of s }))
 
@@ -161,13 +161,13 @@ module _ (blocks : List Block) (names : ℕ) (small : NamesAreSmall names blocks
 
   by_step : (o : SrcOp) (os : List SrcOp) (current : List ℕ) (n : ℕ) (v : Values) (s : SourceState) (rest : List ExtOp)
       → ((x : ℕ) (w : World) → BodySim (past o.dst n) (After o.dst v n x) (current_after (assigned current o.dst n) (past o.dst n) os)
-          (past_all (past o.dst n) os) rest
+      (past_all (past o.dst n) os) rest
       (ops_run os (gone o s x w)) (linear_run_ops (body_ops t (assigned current o.dst n) (past o.dst n) os ++ rest)
-          (record { values = After o.dst v n x; world = w })))
+      (record { values = After o.dst v n x; world = w })))
       → (q : SourceStep) (r : Effect) → StepSim o s q r
       → BodySim n v (current_after current n (o ∷ os)) (past_all n (o ∷ os)) rest (then_ops q s (ops_run os))
       (then_linear (after_effect (map (λ (name : NameId). temp n) (option_to_list o.dst)) (record { values = v; world = world_of s }) r)
-          (record { values = v; world = world_of s })
+      (record { values = v; world = world_of s })
       (linear_run_ops (body_ops t (assigned current o.dst n) (past o.dst n) os ++ rest)))
   by_step o os current n v s rest ih q r (goes x w) =
       weaken n (past o.dst n) v (After o.dst v n x) _ _ rest _ _ (past_least o.dst n) (λ y h. after_old o.dst v n x y h) (ih x w)
@@ -178,7 +178,7 @@ module _ (blocks : List Block) (names : ℕ) (small : NamesAreSmall names blocks
       → drop k block.ops ≡ os → k ≤ length block.ops
       → Agrees k current n v s.values
       → BodySim n v (current_after current n os) (past_all n os) rest (ops_run os s)
-          (linear_run_ops (body_ops t current n os ++ rest) (record { values = v; world = world_of s }))
+      (linear_run_ops (body_ops t current n os ++ rest) (record { values = v; world = world_of s }))
   body_sim [] k current n v s rest e h a = ends s v (subst (λ (m : ℕ). Agrees m current n v s.values) (at_end block.ops k e h) a)
       (λ x below. refl)
   body_sim (o ∷ os) k current n v s rest e h a =

@@ -154,7 +154,7 @@ kept_values v f n (r ∷ rs) h =
     let z : n + 0 ≡ n = omega arith in
     let first : v n ≡ f r = ap v (sym z) ∙ h 0 (omega arith) in
     let rest = kept_values v f (n + 1) rs (λ j below. ap v (let q : (n + 1) + j ≡ n + suc j = omega arith in q) ∙ h (suc j) (omega arith))
-        in
+    in
     rw (first, rest) refl
 
 -- ---- names over an edge
@@ -222,7 +222,7 @@ filter_all p k (suc n) = by (filter_all p (k + 1) n) (p k) refl
   where
     by : All (λ (name : NameId). p name.0 ≡ true) (map name_of (filter p (range_with_len (k + 1) n))) → (w : Bool) → p k ≡ w
         → All (λ (name : NameId). p name.0 ≡ true) (map name_of (if w then k ∷
-            filter p (range_with_len (k + 1) n) else filter p (range_with_len (k + 1) n)))
+        filter p (range_with_len (k + 1) n) else filter p (range_with_len (k + 1) n)))
     by rest true e = All-cons (λ (name : NameId). p name.0 ≡ true) (name_of k) (map name_of (filter p (range_with_len (k + 1) n))) e rest
     by rest false e = rest
 

@@ -43,7 +43,7 @@ within_all (block ∷ blocks) zero d h = let e = length-append block.ops (flat_m
     rw e (omega arith)
 within_all (block ∷ blocks) (suc k) d h =
     let e = length-append block.ops (flat_map (λ (block : Block). block.ops) blocks) in let r = within_all blocks k d (omega arith) in
-        rw e (omega (arith, r))
+    rw e (omega (arith, r))
 
 abbrev Kept : Function → Type 0
 Kept f = IsWellFormed f.name f.params f.names f.blocks
@@ -70,7 +70,7 @@ pub live_few : (f : Function) (lists : List (List NameId)) → AreLive f.blocks 
 live_few f lists live b =
     let high : All (λ (name : NameId). name.0 < length f.names) (live_at lists b) = λ k d h.
     live_name_small f (get_or (live_at lists b) k d) b 0 ((live.exact b (get_or (live_at lists b) k d)).0
-        (Contains-get_or (live_at lists b) k d h)) in
+    (Contains-get_or (live_at lists b) k d h)) in
     let a = few_names (length f.names) (live_at lists b) (live.rising b) high in
     let c = names_few f in
     omega (arith, a, c)

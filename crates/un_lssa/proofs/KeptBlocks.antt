@@ -207,7 +207,7 @@ module _ (f : Function) (lists : List (List NameId)) (t : Table) (live : AreLive
       arguments_read : (registers : List ℕ) (names : List NameId) → ((name : NameId) → Contains names name → IsLive f.blocks name b k)
           → All (IsOfKind f.names General) names → length names ≤ length registers
           → AllZip (IsGoodOperand kinds whole before) (argument_operands current registers names)
-              (map word_in (take (length names) registers))
+          (map word_in (take (length names) registers))
       arguments_read registers [] l g h = tt
       arguments_read [] (name ∷ names) l g h = absurd (omega arith)
       arguments_read (r ∷ rs) (name ∷ names) l g h = (
@@ -252,10 +252,10 @@ module _ (f : Function) (lists : List (List NameId)) (t : Table) (live : AreLive
     fresh o k n front rest got long is d e =
         let g = op_good k o got in
         let its : IsOfKind f.names (result_kind o.op) d = assigns_kind f.names o.op d g.op
-            (subst (λ (x : Option NameId). AssignsItsKind f.names o.op x) e g.assigns) in
+        (subst (λ (x : Option NameId). AssignsItsKind f.names o.op x) e g.assigns) in
         let made : every ≡ front ++ (result_kind o.op ∷ rest) = is
-            ∙ ap (λ (x : Option NameId). front ++ (map (λ (y : TempId). result_kind o.op)
-            (map (λ (name : NameId). temp n) (option_to_list x)) ++ rest)) e in
+        ∙ ap (λ (x : Option NameId). front ++ (map (λ (y : TempId). result_kind o.op)
+        (map (λ (name : NameId). temp n) (option_to_list x)) ++ rest)) e in
         let z : n ≡ length front + 0 = omega (arith, long) in (
           small d (result_kind o.op) its,
           ap (slice_get every) z ∙ ap (λ (xs : List Kind). slice_get xs (length front + 0)) made
@@ -276,7 +276,7 @@ module _ (f : Function) (lists : List (List NameId)) (t : Table) (live : AreLive
         let here_kinds = map (λ (y : TempId). result_kind o.op) new in
         let others = kinds_of kinds own (body_ops t (assigned current o.dst n) (past o.dst n) os) in
         let apart : every ≡ front ++ (here_kinds ++ (others ++ more)) = is
-            ∙ ap (λ (xs : List Kind). front ++ xs) (append_assoc here_kinds others more) in
+        ∙ ap (λ (xs : List Kind). front ++ xs) (append_assoc here_kinds others more) in
         let joined : every ≡ (front ++ here_kinds) ++ (others ++ more) = apart ∙ sym (append_assoc front here_kinds (others ++ more)) in
         let grows = numbers_dst o.dst n in
         let longer : length (front ++ here_kinds) ≡ past o.dst n =
@@ -339,10 +339,10 @@ module _ (f : Function) (lists : List (List NameId)) (t : Table) (live : AreLive
           ap (λ (xs : List Kind). own_kinds ++ xs)
           (flat_map-append (λ (op : ExtOp). defined_kinds kinds own op.kind op) (body_ops t current first block.ops) rest
           ∙ ap (λ (xs : List Kind). kinds_of kinds own (body_ops t current first block.ops) ++ xs)
-              (rest_kinds kinds own t after link saved names_out block.term block.term)
+          (rest_kinds kinds own t after link saved names_out block.term block.term)
           ∙ append-nil (kinds_of kinds own (body_ops t current first block.ops))) in
           is ∙ ap (λ (xs : List Kind). front ++ (xs ++ more)) e ∙
-              ap (λ (xs : List Kind). front ++ xs) (append_assoc own_kinds (kinds_of kinds own (body_ops t current first block.ops)) more)
+          ap (λ (xs : List Kind). front ++ xs) (append_assoc own_kinds (kinds_of kinds own (body_ops t current first block.ops)) more)
 
       own_at : (i : ℕ) (kind : Kind) → slice_get own_kinds i ≡ Some kind → slice_get every (m + i) ≡ Some kind
       own_at i kind h =
@@ -382,9 +382,9 @@ module _ (f : Function) (lists : List (List NameId)) (t : Table) (live : AreLive
           its_temp name l =
               let i = (live.exact b name).1 l in
               let wide : All (λ (n : NameId). n.0 < length {A = ℕ} (replicate count 0)) names_in =
-                  λ k d below. (let r = names_in_below k d below in let e = length-replicate {A = ℕ} count 0 in omega (arith, r, e)) in
+              λ k d below. (let r = names_in_below k d below in let e = length-replicate {A = ℕ} count 0 in omega (arith, r, e)) in
               ap (λ (n : NameId). get_or current n.0 0) (sym i.2)
-                  ∙ first_temp (replicate count 0) m names_in i.0 name (live.rising b) wide i.1
+              ∙ first_temp (replicate count 0) m names_in i.0 name (live.rising b) wide i.1
 
       -- ---- a block's end
 
@@ -397,7 +397,7 @@ module _ (f : Function) (lists : List (List NameId)) (t : Table) (live : AreLive
           kept b (length block.ops) block c 0 here (omega arith)
           (subst (λ (x : Option SrcOp). assigned_by x ≢ Some name) (sym no_op) (λ e. cc e))
           (subst (λ (x : Option SrcOp). Contains {X = ℕ × ℕ} (next_by b (length block.ops) x block.term) (c, 0)) (sym no_op)
-              (pair (targets_of b block.term) target))
+          (pair (targets_of b block.term) target))
           l
         where
           pair : (xs : List ℕ) → Contains xs c → Contains {X = ℕ × ℕ} (map (λ (x : ℕ). (x, 0)) xs) (c, 0)
@@ -440,11 +440,11 @@ module _ (f : Function) (lists : List (List NameId)) (t : Table) (live : AreLive
             let s = saved_count t in
             let z : saved + 0 ≡ saved = omega arith in
             subst (λ (k : ℕ). AllZip (IsGoodOperand kinds whole before) (kept_operands k (callee_saved t)) (map word_in (callee_saved t))) z
-                (kept_read 0 (callee_saved t) (omega (arith, s)))
+            (kept_read 0 (callee_saved t) (omega (arith, s)))
 
         handed_read : (j : ℕ) (rs : List ℕ) → j + length rs ≤ length (saved_registers t)
             → AllZip (IsGoodOperand kinds whole before) (map (λ (n : ℕ). reads n None) (range_with_len (saved + j) (length rs)))
-                (map (λ (r : ℕ). anywhere General) rs)
+            (map (λ (r : ℕ). anywhere General) rs)
         handed_read j [] h = tt
         handed_read j (r ∷ rs) h =
             let z : (saved + j) + 1 ≡ saved + (j + 1) = omega arith in (
@@ -456,7 +456,7 @@ module _ (f : Function) (lists : List (List NameId)) (t : Table) (live : AreLive
         out_names_read : (names : List NameId) → ((k : ℕ) (d : NameId) → k < length names
             → IsLive f.blocks (get_or names k d) b (length block.ops))
             → AllZip (IsGoodOperand kinds whole before) (map (name_operand after None) names)
-                (map (λ (name : NameId). anywhere (name_kind kinds name)) names)
+            (map (λ (name : NameId). anywhere (name_kind kinds name)) names)
         out_names_read [] l = tt
         out_names_read (name ∷ names) l = (
           name_read (length block.ops) after last before name None (name_kind kinds name) a numbers (l 0 name (omega arith)) refl,
@@ -469,12 +469,12 @@ module _ (f : Function) (lists : List (List NameId)) (t : Table) (live : AreLive
         next_read =
             let z : saved + 0 ≡ saved = omega arith in
             zip_append (IsGoodOperand kinds whole before) (map (name_operand after None) names_out)
-                (map (λ (n : ℕ). reads n None) (range_with_len saved (length (saved_registers t))))
+            (map (λ (n : ℕ). reads n None) (range_with_len saved (length (saved_registers t))))
             (map (λ (name : NameId). anywhere (name_kind kinds name)) names_out) (map (λ (r : ℕ). anywhere General) (saved_registers t))
             (out_names_read names_out out_live)
             (subst (λ (k : ℕ). AllZip (IsGoodOperand kinds whole before)
-                (map (λ (n : ℕ). reads n None) (range_with_len k (length (saved_registers t))))
-                (map (λ (r : ℕ). anywhere General) (saved_registers t))) z
+            (map (λ (n : ℕ). reads n None) (range_with_len k (length (saved_registers t))))
+            (map (λ (r : ℕ). anywhere General) (saved_registers t))) z
             (handed_read 0 (saved_registers t) (omega arith)))
 
         out_read : (term : Term) → block.term ≡ term → TestsItsKind f.names term
@@ -484,9 +484,11 @@ module _ (f : Function) (lists : List (List NameId)) (t : Table) (live : AreLive
         out_read (Branch pred sense to) e h = next_read
         out_read (Ret None) e h = all_kept_read
         out_read (Ret (Some name)) e h =
-            let l = term_live name (subst (λ (x : Term). Contains (read_by_term x) name) (sym e) (0, omega arith, refl)) in
-            (name_read (length block.ops) after last before name (at_register t.result) General a numbers l
-                (kind_is f.names General name h), all_kept_read)
+            let l = term_live name (subst (λ (x : Term). Contains (read_by_term x) name) (sym e) (0, omega arith, refl)) in (
+              name_read (length block.ops) after last before name (at_register t.result) General a numbers l
+                  (kind_is f.names General name h),
+              all_kept_read,
+            )
 
         ending_is : (let ending = ending_of own.ops in ending.term) ≡ block.term
         ending_is = ap (λ (e : Ending). e.term) (body_ending t current first block.ops rest
@@ -503,7 +505,7 @@ module _ (f : Function) (lists : List (List NameId)) (t : Table) (live : AreLive
                 (out_operands_of t after saved names_out block.term)
                 (wants_of_out t kinds names_out (let ending = ending_of own.ops in ending.term))) (sym e)
                 (subst (λ (x : Term). AllZip (IsGoodOperand kinds whole before) (out_operands_of t after saved names_out block.term)
-                    (wants_of_out t kinds names_out x)) (sym ending_is)
+                (wants_of_out t kinds names_out x)) (sym ending_is)
                 (out_read block.term refl tests));
             results = refl;
           },
@@ -549,15 +551,15 @@ module _ (f : Function) (lists : List (List NameId)) (t : Table) (live : AreLive
           let c = in_count kinds own names_in (length (temps m width)) (omega (arith, w)) in
           let l : length (front ++ own_kinds) ≡ first = let q = length-append front own_kinds in omega (arith, q, c, w, long) in
           body_good block.ops 0 current first (temps m width) (front ++ own_kinds) more refl (omega arith) (omega arith) start_agrees
-              start_numbers l
+          start_numbers l
           (parts_are ∙ sym (append_assoc front own_kinds (kinds_of kinds own (body_ops t current first block.ops) ++ more)))
 
       ops_good : AreGoodOps t kinds whole own [] own.ops
       ops_good =
           let body = body_ops t current first block.ops in
           let k = body_kept in
-          let all = numbers_append m first last (temps m width) (results_of body) start_numbers (numbers_body t current first block.ops) in
-              (
+          let after = numbers_body t current first block.ops in
+          let all = numbers_append m first last (temps m width) (results_of body) start_numbers after in (
             record { kind = tt; operands = tt; results = width_is },
             good_append t kinds whole own (temps m width) body rest k.ops (rest_good (temps m width ++ results_of body) all k.agrees),
           )
@@ -583,8 +585,14 @@ module _ (f : Function) (lists : List (List NameId)) (t : Table) (live : AreLive
       parts : (p : Parts) × IsMadeOf own.ops p
       parts =
           let e = ending_parts block.term in (
-            record { start = in_op m width; inner = body_ops t current first block.ops; ending = e.0; late = []; out =
-                out_op t after saved names_out block.term },
+            record {
+              start = in_op m width;
+              inner = body_ops t current first block.ops;
+              ending = e.0;
+              late = [];
+              out =
+                  out_op t after saved names_out block.term;
+            },
             record {
               whole = ap (λ (xs : List ExtOp). in_op m width ∷ (body_ops t current first block.ops ++
                   (xs ++ out_op t after saved names_out block.term ∷ []))) e.1;
@@ -625,10 +633,10 @@ module _ (f : Function) (lists : List (List NameId)) (t : Table) (live : AreLive
       let mine = kinds_of kinds own own.ops in
       let joined : every ≡ (front ++ mine) ++ all_kinds kinds others = is ∙ sym (append_assoc front mine (all_kinds kinds others)) in
       let longer : length (front ++ mine) ≡ next = length-append front mine ∙ ap (λ (k : ℕ). k + length mine) long
-          ∙ ops_kinds kinds own t count m (live_at lists b) (live_after lists count b block.term) block refl in
+      ∙ ops_kinds kinds own t count m (live_at lists b) (live_after lists count b block.term) block refl in
       All-cons (IsGoodExtBlock t kinds whole) own others (block_kept b m block here front (all_kinds kinds others) long is)
       (blocks_kept (b + 1) next blocks (front ++ mine) (λ k other h.
-          (let q : (b + 1) + k ≡ b + suc k = omega arith in ap (slice_get f.blocks) q ∙ at (suc k) other h)) longer joined)
+      (let q : (b + 1) + k ≡ b + suc k = omega arith in ap (slice_get f.blocks) q ∙ at (suc k) other h)) longer joined)
 
   -- every block is good
   pub all_kept : All (IsGoodExtBlock t kinds whole) whole

@@ -128,10 +128,10 @@ out_size t current n live_out (Branch pred sense to) h = let a = next_length cur
     saved_few t in omega (arith, a, s, h)
 out_size t current n live_out (Ret None) h =
     let a = kept_length n (callee_saved t) in let s = saved_few t in let c = length-append (callee_saved t) (LINK ∷ []) in
-        omega (arith, a, s, c)
+    omega (arith, a, s, c)
 out_size t current n live_out (Ret (Some name)) h =
     let a = kept_length n (callee_saved t) in let s = saved_few t in let c = length-append (callee_saved t) (LINK ∷ []) in
-        omega (arith, a, s, c)
+    omega (arith, a, s, c)
 
 end_size : (current : List ℕ) (link : ℕ) (term : Term) → ops_size (end_ops current link term) ≤ 2
 end_size current link Fall = omega arith
@@ -176,21 +176,21 @@ blocks_size : (t : Table) (f : Function) (lists : List (List NameId)) → length
     → (b n : ℕ) (blocks : List Block)
     → ((j k : ℕ) (block : Block) (o : SrcOp) → slice_get blocks j ≡ Some block → slice_get block.ops k ≡ Some o → IsGoodOp f.names o)
     → size_of (linear_blocks t (length f.names) lists b n blocks) ≤ 150 * length blocks + 8 * length
-        (flat_map (λ (block : Block). block.ops) blocks)
+    (flat_map (λ (block : Block). block.ops) blocks)
 blocks_size t f lists few live b n [] g = omega arith
 blocks_size t f lists few live b n (block ∷ blocks) g =
     let o = after_few lists (length f.names) b block.term in
     let a = block_size t f n (live_at lists b) (live_after lists (length f.names) b block.term) block (live b) (omega (arith, o, few))
-        (λ k x h. g 0 k block x refl h) in
+    (λ k x h. g 0 k block x refl h) in
     let r = blocks_size t f lists few live (b + 1) (past_block t lists b n block) blocks (λ j k other x h i. g (suc j) k other x h i) in
     let k : length (flat_map (λ (block : Block). block.ops) (block ∷ blocks)) ≡ length block.ops + length
-        (flat_map (λ (block : Block). block.ops) blocks) =
+    (flat_map (λ (block : Block). block.ops) blocks) =
     length-append block.ops (flat_map (λ (block : Block). block.ops) blocks) in
     let x : size_of (linear_blocks t (length f.names) lists b n (block ∷ blocks))
     ≡ ops_size (linear_ops t (length f.names) n (live_at lists b) (live_after lists (length f.names) b block.term) block) + size_of
-        (linear_blocks t (length f.names) lists (b + 1) (past_block t lists b n block) blocks) =
+    (linear_blocks t (length f.names) lists (b + 1) (past_block t lists b n block) blocks) =
     sum_by-cons (λ (own : ExtBlock). ops_size own.ops) (linear_block t (length f.names) lists b n block)
-        (linear_blocks t (length f.names) lists (b + 1) (past_block t lists b n block) blocks) in
+    (linear_blocks t (length f.names) lists (b + 1) (past_block t lists b n block) blocks) in
     omega (arith, a, r, k, x)
 
 -- ---- from blocks to blocks
@@ -279,16 +279,16 @@ module _ (f : Function) (lists : List (List NameId)) (t : Table) (live : AreLive
       out_has block to name has =
           let h = live_name_small f name l 0 ((live.exact l name).0 has) in
           filter_has (λ (n : ℕ). list_any (λ (c : ℕ). is_among (live_at lists c) n) (targets_of k block.term)) 0 count name.0 (omega arith)
-              (omega (arith, h))
+          (omega (arith, h))
           (any_true (λ (c : ℕ). is_among (live_at lists c) name.0) (targets_of k block.term) l to
-              (contains_among (live_at lists l) name has))
+          (contains_among (live_at lists l) name has))
 
   distinct : (i j : ℕ) (a b : Block) → i < j → slice_get f.blocks i ≡ Some a → slice_get f.blocks j ≡ Some b → a.label ≢ b.label
   distinct i j a b lt at_a at_b same = ∥∥₁_elim f.well_formed (λ (x y : ⊥). absurd x)
       (λ (w : IsWellFormed f.name f.params f.names f.blocks).
       w.distinct_labels i j a lt (slice_get_within f.blocks j b at_b)
       (ap (λ (x : Block). x.label) (get_or_from_slice_get f.blocks i a a at_a) ∙ same
-          ∙ ap (λ (x : Block). x.label) (sym (get_or_from_slice_get f.blocks j b a at_b))))
+      ∙ ap (λ (x : Block). x.label) (sym (get_or_from_slice_get f.blocks j b a at_b))))
 
   distinct_labels : AllPairs (λ (a b : ExtBlock). a.label ≢ b.label) lin
   distinct_labels i j d lt below same =
@@ -317,7 +317,7 @@ module _ (f : Function) (lists : List (List NameId)) (t : Table) (live : AreLive
       let m = lin_made 0 entry h in
       let into : live_at lists 0 ≡ entry.live_in = ap (λ (x : ExtBlock). x.live_in) m.is in
       subst (λ (xs : List NameId). All (λ (name : NameId). (name.0 < PARAMS) × (name_kind (map kind_of_pair f.names) name ≡ General)) xs)
-          into
+      into
       (λ j d below. entry_word (get_or (live_at lists 0) j d) (Contains-get_or (live_at lists 0) j d below))
 
   op_good : (j k : ℕ) (block : Block) (o : SrcOp) → slice_get f.blocks j ≡ Some block → slice_get block.ops k ≡ Some o → IsGoodOp f.names o
@@ -359,4 +359,4 @@ module _ (f : Function) (lists : List (List NameId)) (t : Table) (live : AreLive
   made_kept names blocks e1 e2 =
       subst (λ (ns : List Kind). IsLinear (let l : Lssa = record { table = t; names = ns; blocks = blocks } in l)) (sym e1)
       (subst (λ (bs : List ExtBlock). IsLinear (let l : Lssa = record { table = t; names = map kind_of_pair f.names; blocks = bs } in l))
-          (sym e2) linear_kept)
+      (sym e2) linear_kept)

@@ -48,7 +48,7 @@ arguments_alone current [] (name ∷ names) = All-cons Alone (name_operand curre
     (arguments_alone current [] names)
 arguments_alone current (r ∷ rs) (name ∷ names) =
     All-cons Alone (name_operand current (Some (record { 0 = r })) name) (argument_operands current rs names) refl
-        (arguments_alone current rs names)
+    (arguments_alone current rs names)
 
 sources_alone : (t : Table) (current : List ℕ) (op : Op) (names : List NameId) → All Alone (source_operands t current op names)
 sources_alone t current Call names = arguments_alone current t.args names
@@ -72,7 +72,7 @@ out_alone t current first live_out (Branch pred sense to) = next_alone current l
 out_alone t current first live_out (Ret None) = kept_alone first (callee_saved t)
 out_alone t current first live_out (Ret (Some name)) =
     All-cons Alone (name_operand current (Some (record { 0 = t.result })) name) (kept_operands first (callee_saved t)) refl
-        (kept_alone first (callee_saved t))
+    (kept_alone first (callee_saved t))
 
 plain : (op : ExtOp) → is_linear_kind op.kind ≡ true → All Alone op.operands → IsPlainOp op
 plain op k a = record { kind = k; alone = a }
@@ -81,7 +81,7 @@ body_plain : (t : Table) (current : List ℕ) (n : ℕ) (os : List SrcOp) → Al
 body_plain t current n [] = All-nil IsPlainOp
 body_plain t current n (o ∷ os) =
     All-cons IsPlainOp _ (body_ops t (assigned current o.dst n) (past o.dst n) os)
-        (record { kind = refl; alone = sources_alone t current o.op o.srcs })
+    (record { kind = refl; alone = sources_alone t current o.op o.srcs })
     (body_plain t (assigned current o.dst n) (past o.dst n) os)
 
 end_plain : (current : List ℕ) (link : ℕ) (term : Term) → All IsPlainOp (end_ops current link term)
@@ -89,9 +89,12 @@ end_plain current link Fall = All-nil IsPlainOp
 end_plain current link (Jump to) = All-cons IsPlainOp _ [] (record { kind = refl; alone = All-nil Alone }) (All-nil IsPlainOp)
 end_plain current link (Branch pred sense to) =
     All-cons IsPlainOp _ [] (record { kind = refl; alone = All-cons Alone (name_operand current None pred) [] refl (All-nil Alone) })
-        (All-nil IsPlainOp)
-end_plain current link (Ret value) = All-cons IsPlainOp _ [] (record { kind = refl; alone =
-    All-cons Alone (reads link None) [] refl (All-nil Alone) }) (All-nil IsPlainOp)
+    (All-nil IsPlainOp)
+end_plain current link (Ret value) = All-cons IsPlainOp _ [] (record {
+  kind = refl;
+  alone =
+      All-cons Alone (reads link None) [] refl (All-nil Alone);
+}) (All-nil IsPlainOp)
 
 module _ (t : Table) (names n : ℕ) (live_in live_out : List NameId) (block : Block) where
   abbrev saved_first : ℕ
@@ -115,19 +118,19 @@ module _ (t : Table) (names n : ℕ) (live_in live_out : List NameId) (block : B
   ops_plain : All IsPlainOp (linear_ops t names n live_in live_out block)
   ops_plain =
       All-cons IsPlainOp (in_op n (length live_in + length (saved_registers t))) (body_ops t first_names own_first block.ops ++ rest_ops)
-          (record { kind = refl; alone = All-nil Alone })
+      (record { kind = refl; alone = All-nil Alone })
       (All-append IsPlainOp (body_ops t first_names own_first block.ops) rest_ops (body_plain t first_names own_first block.ops)
       (All-append IsPlainOp (end_ops last_names link_temp block.term) (out_op t last_names saved_first live_out block.term ∷ [])
-          (end_plain last_names link_temp block.term)
+      (end_plain last_names link_temp block.term)
       (All-cons IsPlainOp (out_op t last_names saved_first live_out block.term) []
-          (record { kind = refl; alone = out_alone t last_names saved_first live_out block.term }) (All-nil IsPlainOp))))
+      (record { kind = refl; alone = out_alone t last_names saved_first live_out block.term }) (All-nil IsPlainOp))))
 
 pub blocks_plain : (t : Table) (names : ℕ) (lists : List (List NameId)) (b n : ℕ) (blocks : List Block)
     → All (λ (block : ExtBlock). All IsPlainOp block.ops) (linear_blocks t names lists b n blocks)
 blocks_plain t names lists b n [] = All-nil (λ (block : ExtBlock). All IsPlainOp block.ops)
 blocks_plain t names lists b n (block ∷ blocks) =
     All-cons (λ (block : ExtBlock). All IsPlainOp block.ops) (linear_block t names lists b n block)
-        (linear_blocks t names lists (b + 1) (past_block t lists b n block) blocks)
+    (linear_blocks t names lists (b + 1) (past_block t lists b n block) blocks)
     (ops_plain t names n (live_at lists b) (live_after lists names b block.term) block)
     (blocks_plain t names lists (b + 1) (past_block t lists b n block) blocks)
 
@@ -148,9 +151,9 @@ carried_blocks : (blocks : List ExtBlock) → All (λ (block : ExtBlock). All Is
 carried_blocks [] all = refl
 carried_blocks (block ∷ blocks) all =
     ap (λ (xs : List TempId). xs ++ all_carried blocks) (carried_ops block.ops
-        (All-head (λ (block : ExtBlock). All IsPlainOp block.ops) block blocks all))
+    (All-head (λ (block : ExtBlock). All IsPlainOp block.ops) block blocks all))
     ∙ ap (λ (xs : List TempId). results_of block.ops ++ xs) (carried_blocks blocks
-        (All-tail (λ (block : ExtBlock). All IsPlainOp block.ops) block blocks all))
+    (All-tail (λ (block : ExtBlock). All IsPlainOp block.ops) block blocks all))
 
 temps_at : (n count i : ℕ) → get_or (temps n count) i (temp (n + i)) ≡ temp (n + i)
 temps_at n zero i = refl
@@ -178,7 +181,7 @@ pub numbers_body : (t : Table) (current : List ℕ) (n : ℕ) (os : List SrcOp)
 numbers_body t current n [] = numbers_none n
 numbers_body t current n (o ∷ os) =
     numbers_append n (past o.dst n) (past_all (past o.dst n) os) (map (λ (name : NameId). temp n) (option_to_list o.dst))
-        (results_of (body_ops t (assigned current o.dst n) (past o.dst n) os))
+    (results_of (body_ops t (assigned current o.dst n) (past o.dst n) os))
     (numbers_dst o.dst n) (numbers_body t (assigned current o.dst n) (past o.dst n) os)
 
 pub rest_results : (t : Table) (after : List ℕ) (link saved : ℕ) (live_out : List NameId) (term other : Term)
@@ -190,7 +193,7 @@ rest_results t after link saved live_out (Ret value) other = refl
 
 pub numbers_ops : (t : Table) (names n : ℕ) (live_in live_out : List NameId) (block : Block)
     → Numbers n (results_of (linear_ops t names n live_in live_out block))
-        (past_all (n + length live_in + length (saved_registers t)) block.ops)
+    (past_all (n + length live_in + length (saved_registers t)) block.ops)
 numbers_ops t names n live_in live_out block =
     let count = length live_in + length (saved_registers t) in
     let first = n + length live_in + length (saved_registers t) in
@@ -202,8 +205,8 @@ numbers_ops t names n live_in live_out block =
     let e : results_of (body_ops t cur first block.ops ++ tail) ≡ results_of (body_ops t cur first block.ops) ++ [] =
     results_append (body_ops t cur first block.ops) tail
     ∙ ap (λ (xs : List TempId). results_of (body_ops t cur first block.ops) ++ xs)
-        (rest_results t (last_names t names n live_in live_out block) (link_temp t names n live_in live_out block) (n + length live_in)
-        live_out block.term block.term) in
+    (rest_results t (last_names t names n live_in live_out block) (link_temp t names n live_in live_out block) (n + length live_in)
+    live_out block.term block.term) in
     record {
       count = all.count;
       are = ap (λ (xs : List TempId). temps n count ++ xs) (e ∙ nil (results_of (body_ops t cur first block.ops))) ∙ all.are;
@@ -220,7 +223,7 @@ numbers_blocks t names lists b n [] = numbers_none n
 numbers_blocks t names lists b n (block ∷ blocks) =
     numbers_append n (past_block t lists b n block) (past_blocks t lists (b + 1) (past_block t lists b n block) blocks)
     (results_of (linear_ops t names n (live_at lists b) (live_after lists names b block.term) block))
-        (all_results (linear_blocks t names lists (b + 1) (past_block t lists b n block) blocks))
+    (all_results (linear_blocks t names lists (b + 1) (past_block t lists b n block) blocks))
     (numbers_ops t names n (live_at lists b) (live_after lists names b block.term) block)
     (numbers_blocks t names lists (b + 1) (past_block t lists b n block) blocks)
 
@@ -237,9 +240,13 @@ module _ (kinds : List Kind) (owner : ExtBlock) where
     where
       by : (dst : Option NameId) → past dst n + length (kinds_of kinds owner (body_ops t (assigned current dst n) (past dst n) os)) ≡
           past_all (past dst n) os
-          → n + length (kinds_of kinds owner (record { kind = Body o; operands = source_operands t current o.op o.srcs; results =
-              map (λ (name : NameId). temp n) (option_to_list dst) } ∷ body_ops t (assigned current dst n) (past dst n) os)) ≡ past_all
-              (past dst n) os
+          → n + length (kinds_of kinds owner (record {
+            kind = Body o;
+            operands = source_operands t current o.op o.srcs;
+            results =
+                map (λ (name : NameId). temp n) (option_to_list dst);
+          } ∷ body_ops t (assigned current dst n) (past dst n) os)) ≡ past_all
+          (past dst n) os
       by None h = h
       by (Some name) h = omega (arith, h)
 
@@ -253,7 +260,7 @@ module _ (kinds : List Kind) (owner : ExtBlock) where
   pub in_count : (names : List NameId) (count : ℕ) → length names ≤ count → length (in_kinds kinds names count) ≡ count
   in_count names count h =
       let a = length-append (map (λ (name : NameId). unwrap_or (slice_get kinds name.0) General) names)
-          (replicate (count - length names) General) in
+      (replicate (count - length names) General) in
       let b = length-map names (λ (name : NameId). unwrap_or (slice_get kinds name.0) General) in
       let c = length-replicate (count - length names) General in
       omega (arith, a, b, c, h)
@@ -261,7 +268,7 @@ module _ (kinds : List Kind) (owner : ExtBlock) where
   -- a linear block defines as many kinds as temporaries
   pub ops_kinds : (t : Table) (names n : ℕ) (live_in live_out : List NameId) (block : Block) → owner.live_in ≡ live_in
       → n + length (kinds_of kinds owner (linear_ops t names n live_in live_out block)) ≡ past_all
-          (n + length live_in + length (saved_registers t)) block.ops
+      (n + length live_in + length (saved_registers t)) block.ops
   ops_kinds t names n live_in live_out block same =
       let width = length live_in + length (saved_registers t) in
       let first = n + length live_in + length (saved_registers t) in
@@ -274,7 +281,7 @@ module _ (kinds : List Kind) (owner : ExtBlock) where
       let e : kinds_of kinds owner (body ++ tail) ≡ kinds_of kinds owner body ++ [] =
       flat_map-append (λ (op : ExtOp). defined_kinds kinds owner op.kind op) body tail
       ∙ ap (λ (xs : List Kind). kinds_of kinds owner body ++ xs) (rest_kinds t (last_names t names n live_in live_out block)
-          (link_temp t names n live_in live_out block) (n + length live_in) live_out block.term block.term) in
+      (link_temp t names n live_in live_out block) (n + length live_in) live_out block.term block.term) in
       let l : length (kinds_of kinds owner (body ++ tail)) ≡ length (kinds_of kinds owner body) + 0 =
       ap (λ (xs : List Kind). length xs) e ∙ length-append (kinds_of kinds owner body) [] in
       let a = length-append starts (kinds_of kinds owner (body ++ tail)) in
@@ -285,4 +292,4 @@ pub inner_body : (t : Table) (current : List ℕ) (n : ℕ) (os : List SrcOp) �
 inner_body t current n [] = All-nil (λ (op : ExtOp). is_inner op.kind ≡ true)
 inner_body t current n (o ∷ os) =
     All-cons (λ (op : ExtOp). is_inner op.kind ≡ true) _ (body_ops t (assigned current o.dst n) (past o.dst n) os) refl
-        (inner_body t (assigned current o.dst n) (past o.dst n) os)
+    (inner_body t (assigned current o.dst n) (past o.dst n) os)

@@ -64,7 +64,7 @@ names_filter p k [] h = refl
 names_filter p k (mark ∷ marks) h =
     let first : mark ≡ p k = h 0 (omega arith) ∙ ap p (let z : k + 0 ≡ k = omega arith in z) in
     let rest = names_filter p (k + 1) marks (λ i below. h (suc i) (omega arith) ∙ ap p (let z : k + suc i ≡ (k + 1) + i = omega arith in z))
-        in
+    in
     rw (first, rest) (by (p k))
   where
     by : (v : Bool) → ((if v then name_of k ∷ [] else []) ++ map name_of (filter p (range_with_len (k + 1) (length marks))))

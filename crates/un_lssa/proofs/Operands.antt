@@ -26,7 +26,7 @@ cases (suc b) (suc n) = elim (cases b n) [ inl h ↦ inl (omega arith) | inr h �
 -- one argument after another
 pub argument_step : (current registers : List ℕ) (names : List NameId) (k : ℕ) (d : NameId) → k < length names
     → argument_operands current (drop k registers) (drop k names) ≡ name_operand current (home_at registers k) (get_or names k d) ∷
-        argument_operands current (drop (k + 1) registers) (drop (k + 1) names)
+    argument_operands current (drop (k + 1) registers) (drop (k + 1) names)
 argument_step current registers names k d h = elim (cases k (length registers)) [
   | inl below ↦
       let got = slice_get-get_or registers k 0 below in

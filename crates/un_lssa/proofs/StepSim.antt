@@ -34,8 +34,13 @@ module _ (o : SrcOp) (s : SourceState) where
   store_sim a v None none = traps
   store_sim a v (Some old) none =
       let same : assigned s.values o.dst 0 ≡ s.values = ap (λ (d : Option NameId). assigned s.values d 0) none in
-      subst (λ (values : List ℕ). StepSim o s (Went (record { values = values; memory = set_word a v s.memory; calls = s.calls; replies =
-          s.replies })) (Gives 0 (record { memory = set_word a v s.memory; calls = s.calls; replies = s.replies })))
+      subst (λ (values : List ℕ). StepSim o s (Went (record {
+        values = values;
+        memory = set_word a v s.memory;
+        calls = s.calls;
+        replies =
+            s.replies;
+      })) (Gives 0 (record { memory = set_word a v s.memory; calls = s.calls; replies = s.replies })))
       same (goes 0 (record { memory = set_word a v s.memory; calls = s.calls; replies = s.replies }))
 
   call_sim : (replies : List Reply)

@@ -27,7 +27,7 @@ unfolding general_registers
 begins e regs slots is_entry block x h =
     head_kept (λ (r : ℕ). is_assignable regs r || is_home e.table is_entry block x r) (range_with_len 1 31)
     (if is_truth e.names block x then predicate_registers else []) (slots_of slots)
-        (ap (λ (b : Bool). b || is_home e.table is_entry block x 0) h)
+    (ap (λ (b : Bool). b || is_home e.table is_entry block x 0) h)
 
 with_zero_same : (registers : List ℕ) → begins_with_zero registers ≡ true → with_zero registers ≡ registers
 with_zero_same registers h = rw h refl

@@ -69,8 +69,12 @@ label_of JumpIfNot label h = h
 label_of _ label h = tt
 
 runnable : (frame : ℕ) (i : Instr) → IsGoodInstr frame i → IsRunnable i
-runnable frame i h = record { shift = shift_of frame i.op i.imm h.literal; few = few_of i.op i.srcs h.reads; label =
-    label_of i.op i.label h.label }
+runnable frame i h = record {
+  shift = shift_of frame i.op i.imm h.literal;
+  few = few_of i.op i.srcs h.reads;
+  label =
+      label_of i.op i.label h.label;
+}
 
 shift_prop : (range : Option Range) (n : ℤ) → IsProp (IsShiftOf range n)
 shift_prop None n = hlevel (le_prop, T_prop)
@@ -86,8 +90,12 @@ on_prop true P h = h
 on_prop false P h = hlevel (le_prop, T_prop)
 
 runnable_prop : (i : Instr) → IsProp (IsRunnable i)
-runnable_prop i = hlevel (shift_prop (literal_range i.op) i.imm, on_prop (is_call i.op || is_jump i.op) (IsThere i.label)
-    (there_prop i.label), le_prop)
+runnable_prop i = hlevel (
+  shift_prop (literal_range i.op) i.imm,
+  on_prop (is_call i.op || is_jump i.op) (IsThere i.label)
+      (there_prop i.label),
+  le_prop,
+)
 
 -- ---- where packets lead
 
@@ -158,7 +166,7 @@ packet_in : (t : Table) (labels : List (List ℕ)) (s : PacketState) (is : List 
     → IsInside labels is (packet_step t is s)
 packet_in t labels s is all =
     elim (list_any (traps s) is) as (λ b. IsInside labels is (if b then Stopped Trapped s else with_call t
-        (find (λ (i : Instr). is_call i.op) is) s.replies s is)) [
+    (find (λ (i : Instr). is_call i.op) is) s.replies s is)) [
       | true ↦ tt
       | false ↦ with_in t labels s is all (find (λ (i : Instr). is_call i.op) is) s.replies
     ]
@@ -259,7 +267,7 @@ length_in_sum : (blocks : List CodeBlock) (b : ℕ) (block : CodeBlock) → slic
     → length block.packets ≤ sum_by (λ (x : CodeBlock). length x.packets) blocks
 length_in_sum blocks b block e =
     subst (λ (x : CodeBlock). length x.packets ≤ sum_by (λ (x : CodeBlock). length x.packets) blocks)
-        (get_or_from_slice_get blocks b block block e)
+    (get_or_from_slice_get blocks b block block e)
     (get_or-le-sum_by (λ (x : CodeBlock). length x.packets) blocks b block (slice_get_within blocks b block e))
 
 -- what code keeps, seen from the machine

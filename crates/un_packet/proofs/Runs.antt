@@ -93,9 +93,14 @@ module _ (blocks : List CodeBlock) (m new : MachineState) (b : CodeBlock) where
       (rw (drop_none b.packets m.place e) (id, state), h.1 ∙ moved_same m m.state new.state (m.block + 1) to.0 (sym state) (sym id))
   left_in to (Some p) e h =
       let behind = where_goes (packet_step m.table p.instrs m.state) _ _
-          (λ (l : length b.packets ≡ m.place + 1). drop_all b.packets (suc m.place) (l ∙ add-one m.place)) h.0 in
-      (rw (at_packet m.table b.packets m.place p m.state e, last m.table (packet_step m.table p.instrs m.state)
-          (drop (suc m.place) b.packets) behind) h.1, h.2)
+      (λ (l : length b.packets ≡ m.place + 1). drop_all b.packets (suc m.place) (l ∙ add-one m.place)) h.0 in (
+        rw (
+          at_packet m.table b.packets m.place p m.state e,
+          last m.table (packet_step m.table p.instrs m.state)
+              (drop (suc m.place) b.packets) behind,
+        ) h.1,
+        h.2,
+      )
 
   -- it ended the run
   ended_in : (end : _) (p : Option Packet) → slice_get b.packets m.place ≡ p
@@ -104,8 +109,11 @@ module _ (blocks : List CodeBlock) (m new : MachineState) (b : CodeBlock) where
       → EndsBy blocks (packets_run m.table (drop m.place b.packets) m.state) end new.state
   ended_in end None e h = absurd (cc (h.0))
   ended_in end (Some p) e h =
-      rw (at_packet m.table b.packets m.place p m.state e, stopped m.table blocks (packet_step m.table p.instrs m.state)
-          (drop (suc m.place) b.packets) end new.state h.0) h.0
+      rw (
+        at_packet m.table b.packets m.place p m.state e,
+        stopped m.table blocks (packet_step m.table p.instrs m.state)
+            (drop (suc m.place) b.packets) end new.state h.0,
+      ) h.0
 
 -- what is left of the block comes to the whole
 pub record IsHalfway (c : Code) (first m : MachineState) : Type 0 where
@@ -308,8 +316,8 @@ run_goes t c n i old new to all lt table h e =
     let block : new.block ≡ to = ap (λ (m : MachineState). m.block) h.moves in
     let one = entered old.table c.blocks old.block old.state (n - (i + 1)) to new.state h.leads in
     rw block (ap (λ (x : Table). enter x c.blocks (n - (i + 1)) to new.state) (sym table) ∙ sym one
-        ∙ ap (λ (x : Table). enter x c.blocks (suc (n - (i + 1))) old.block old.state) table
-        ∙ ap (λ (k : ℕ). enter t c.blocks k old.block old.state) (sym left) ∙ e)
+    ∙ ap (λ (x : Table). enter x c.blocks (suc (n - (i + 1))) old.block old.state) table
+    ∙ ap (λ (k : ℕ). enter t c.blocks k old.block old.state) (sym left) ∙ e)
 
 -- a run that is cut off
 pub run_left : (t : Table) (blocks shown : List CodeBlock) (n i k : ℕ) (m : MachineState) (b : CodeBlock) (label : List ℕ)

@@ -74,7 +74,7 @@ pub at_block : (c : Code) (v old : MachineState) (shown : List CodeBlock) (b : C
     → b ≡ get_or shown v.block b → slice_get c.blocks old.block ≡ Some b
 at_block c v old shown b same place blocks e =
     read_at c.blocks shown old.block v.block b blocks (ap (λ (m : MachineState). m.block) same)
-        (is_below (λ b. IsPlace b.packets old.place) c.blocks old.block place) e
+    (is_below (λ b. IsPlace b.packets old.place) c.blocks old.block place) e
 
 pub at_packet : (b seen : CodeBlock) (shown : List Packet) (v old : MachineState) (p : Packet) → v ≡ old → b ≡ seen → shown ≡ seen.packets
     → v.place < length shown → p ≡ get_or shown v.place p → slice_get b.packets old.place ≡ Some p

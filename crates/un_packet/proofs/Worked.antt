@@ -42,8 +42,12 @@ exchange_start = record {
   well = refl;
 }
 
-exchange : told (run_of 8 exchange_blocks exchange_start 5) ≡ (Returned 0 100, exchange_memory,
-    record_of (codes "h") (9 ∷ 5 ∷ []) exchange_memory ∷ [], 4)
+exchange : told (run_of 8 exchange_blocks exchange_start 5) ≡ (
+  Returned 0 100,
+  exchange_memory,
+  record_of (codes "h") (9 ∷ 5 ∷ []) exchange_memory ∷ [],
+  4,
+)
 exchange = refl
 
 -- A loop over two arrays, which runs twice.
@@ -177,8 +181,12 @@ call_once_start = record {
   well = refl;
 }
 
-call_once : told (run_of 8 call_once_blocks call_once_start 5) ≡ (Returned 12 100, call_once_memory,
-    record_of (codes "h") (5 ∷ []) call_once_memory ∷ [], 5)
+call_once : told (run_of 8 call_once_blocks call_once_start 5) ≡ (
+  Returned 12 100,
+  call_once_memory,
+  record_of (codes "h") (5 ∷ []) call_once_memory ∷ [],
+  5,
+)
 call_once = refl
 
 -- The same without a reply: the packet with the call does not complete.

@@ -47,19 +47,19 @@ module _ (vs : List VarId) (es : List Weighted) (limit : ℕ) (h : BelowVars vs 
   pub below_looks : (x y : List ℕ) → SameAt vs x y → below_holds es limit x ≡ below_holds es limit y
   below_looks x y same = ap (λ (n : ℕ). nat_lt n limit) (cost_alike es (λ v. get_or x v.0 0) (λ v. get_or y v.0 0)
       (each (λ e. among vs e.end ≡ true) (λ e. get_or x e.end.0 0 ≡ get_or y e.end.0 0) (λ e there. same_var vs x y same e.end there) es
-          among_all))
+      among_all))
 
   below_lawful_test : LawfulTest vs (below_test es limit)
   below_lawful_test = record {
     monotone = λ t s y k full le pass.
         (let low = cost_le es (λ v. least (set_at s v.0)) (λ v. least (set_at t v.0))
-            (each (λ e. among vs e.end ≡ true) (λ e. least (set_at s e.end.0) ≤ least (set_at t e.end.0))
+        (each (λ e. among vs e.end ≡ true) (λ e. least (set_at s e.end.0) ≤ least (set_at t e.end.0))
         (λ e there. least_below t s e.end.0 le (full e.end.0 (let here = has_among vs e.end s there k in omega (arith, here, le.long)))) es
-            among_all) in
+        among_all) in
         grind (arith, nat_tests, pass, low));
     local = λ s t y agree. ap (λ (n : ℕ). nat_lt n limit) (cost_alike es (λ v. least (set_at s v.0)) (λ v. least (set_at t v.0))
         (each (λ e. among vs e.end ≡ true) (λ e. least (set_at s e.end.0) ≡ least (set_at t e.end.0))
-            (λ e there. ap least (All-contains (λ u. set_at s u.0 ≡ set_at t u.0) vs e.end agree (in_list vs e.end there))) es among_all));
+        (λ e there. ap least (All-contains (λ u. set_at s u.0 ≡ set_at t u.0) vs e.end agree (in_list vs e.end there))) es among_all));
   }
 
   pub below_lawful : Lawful vs (below_steps vs es limit)
@@ -83,8 +83,11 @@ module _ (vs : List VarId) (es : List Weighted) (limit : ℕ) (h : BelowVars vs 
           grind (arith, nat_tests, pass)
       by [] is =
           let x = map least s in
-          let there : IsIn x s = record { long = length-map s least; each =
-              λ v lt. rw (get_or-map least s v [] 0 lt) (least_in (set_at s v) (full v lt)) } in
+          let there : IsIn x s = record {
+            long = length-map s least;
+            each =
+                λ v lt. rw (get_or-map least s v [] 0 lt) (least_in (set_at s v) (full v lt));
+          } in
           let holds = grounded (ap length is) x in
           let low = low_cost s x k there in
           grind (arith, nat_tests, holds, low)

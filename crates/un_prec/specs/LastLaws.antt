@@ -42,19 +42,19 @@ module _ (vs : List VarId) (at : VarId) (end : VarId) (h : LastVars vs at end) w
   last_steps_keep s x k there holds =
       let e : get_or x end.0 0 ≡ get_or x at.0 0 + 1 = grind (arith, nat_tests) in
       then_kept (at_cut (close_test (end_link at Always end)) (Var at)) x (link_steps vs (end_link at Always end) s)
-          (link_keeps vs (end_link at Always end) h s x k there (in_order x holds))
+      (link_keeps vs (end_link at Always end) h s x k there (in_order x holds))
       (λ m in_m. let km = known_in vs s m x there in_m k in
       at_keeps vs (close_test (end_link at Always end)) (Var at) h.of_from m x km in_m
-          (close_keeps vs (end_link at Always end) h m x km in_m (omega (arith, e))))
+      (close_keeps vs (end_link at Always end) h m x km in_m (omega (arith, e))))
 
   pub last_strong : (s : Sets) → HasVars vs s → NoneEmpty s → InWords s → (length vs ≡ 0 → (x : List ℕ) → last_holds at end x ≡ true)
       → last_steps vs at end s ≡ Some s → LastStrong at end s
   last_strong s k full words grounded e =
       let two = stable_then vs (link_steps vs (end_link at Always end)) (at_cut (close_test (end_link at Always end)) (Var at))
-          (link_lawful vs (end_link at Always end) h) close_is_lawful s k full e in
+      (link_lawful vs (end_link at Always end) h) close_is_lawful s k full e in
       let a = link_strong vs (end_link at Always end) h s k full words (λ none x. in_order x (grounded none x)) two.0 refl refl in
       let within = has_among vs at s (h.of_from 0 at (omega arith)) k in
       let pass = passes_all (close_test (end_link at Always end) s) at.0 s within two.1 (least (set_at s at.0))
-          (least_in (set_at s at.0) (full at.0 within)) in
+      (least_in (set_at s at.0) (full at.0 within)) in
       let b : least (set_at s end.0) ≤ least (set_at s at.0) + 1 = grind (arith, nat_tests, pass) in
       omega (arith, a, b)

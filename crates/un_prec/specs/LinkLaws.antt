@@ -78,7 +78,7 @@ pub close_is : (l : Link) (s : Sets) (low below y : ℕ) → both_sure l s ≡ t
 close_is l s low below y b low_is more below_is =
     is_sure_or (both_sure l s) (nat_le (least (at_set l.to s)) (y + l.gap)) b
     ∙ same_test (nat_le (least (at_set l.to s)) (y + l.gap)) (nat_lt below y) (λ h. grind (arith, nat_tests))
-        (λ h. grind (arith, nat_tests))
+    (λ h. grind (arith, nat_tests))
 
 pub close_all : (l : Link) (s : Sets) (low y : ℕ) → both_sure l s ≡ true → low ≡ least (at_set l.to s) → low ≤ l.gap
     → close_test l s y ≡ true
@@ -115,7 +115,7 @@ module _ (vs : List VarId) (l : Link) (h : LinkVars vs l) where
   sure_holds s x k there e b =
       let two = firsts (sure l.from_on s) (sure l.to_on s) b in
       let active = both (is_active l.from_on x) (is_active l.to_on x) (sure_active vs s x there k l.from_on h.of_from_on two.0)
-          (sure_active vs s x there k l.to_on h.of_to_on two.1) in
+      (sure_active vs s x there k l.to_on h.of_to_on two.1) in
       let le = or_not (is_active l.from_on x && is_active l.to_on x) (nat_le (at_value l.from x + l.gap) (at_value l.to x)) e active in
       grind (arith, nat_tests, le)
 
@@ -172,12 +172,12 @@ module _ (vs : List VarId) (l : Link) (h : LinkVars vs l) where
         let high = greatest_at_below vs t s le l.to in
         not_true (both_sure l t && nat_lt (greatest (at_set l.to t)) (least (at_set l.from t) + l.gap)) e
         (both (both_sure l t) (nat_lt (greatest (at_set l.to t)) (least (at_set l.from t) + l.gap)) (both_below t s le two.0)
-            (grind (arith, nat_tests, far, low, high))));
+        (grind (arith, nat_tests, far, low, high))));
     local = λ s t y a. ap (λ (b : Bool). not (b && nat_lt (greatest (at_set l.to s)) (least (at_set l.from s) + l.gap))) (both_alike s t a)
         ∙ (ap (λ (xs : List ℕ). not (both_sure l t && nat_lt (greatest xs) (least (at_set l.from s) + l.gap)))
-            (at_alike vs s t a l.to h.of_to)
+        (at_alike vs s t a l.to h.of_to)
         ∙ ap (λ (xs : List ℕ). not (both_sure l t && nat_lt (greatest (at_set l.to t)) (least xs + l.gap)))
-            (at_alike vs s t a l.from h.of_from));
+        (at_alike vs s t a l.from h.of_from));
   }
 
   pub apart_keeps : (s : Sets) (x : List ℕ) (y : ℕ) → HasVars vs s → IsIn x s → link_holds l x ≡ true → apart_test l s y ≡ true

@@ -58,16 +58,16 @@ module _ (vs : List VarId) (l : Link) (h : LinkVars vs l) where
       (then_kept (at_cut (later_test l) l.to) x (first_cut (apart_test l) vs s)
       (first_keeps (apart_test l) vs s x k there (λ y. apart_keeps vs l h s x y k there holds))
       (λ m in_m. let km = known_in vs s m x there in_m k in at_keeps vs (later_test l) l.to h.of_to m x km in_m
-          (later_keeps vs l h m x km in_m holds)))
+      (later_keeps vs l h m x km in_m holds)))
       (λ m in_m. let km = known_in vs s m x there in_m k in at_keeps vs (earlier_test l) l.from h.of_from m x km in_m
-          (earlier_keeps vs l h m x km in_m holds))
+      (earlier_keeps vs l h m x km in_m holds))
 
   -- **a link that lets all stay is strong**: where a link reads no variable, it holds
   pub link_strong : (s : Sets) → HasVars vs s → NoneEmpty s → InWords s → (length vs ≡ 0 → (x : List ℕ) → link_holds l x ≡ true)
       → link_steps vs l s ≡ Some s → LinkStrong l s
   link_strong s k full words grounded e one two =
       let outer = stable_then vs (λ s. option_and_then (at_cut (later_test l) l.to) (first_cut (apart_test l) vs s))
-          (at_cut (earlier_test l) l.from) f12 f3 s k full e in
+      (at_cut (earlier_test l) l.from) f12 f3 s k full e in
       let inner = stable_then vs (first_cut (apart_test l) vs) (at_cut (later_test l) l.to) f1 f2 s k full outer.0 in
       let sures : both_sure l s ≡ true = both (sure l.from_on s) (sure l.to_on s) one two in
       at l.to refl h.of_to inner.1 (near sures inner.0) sures
@@ -91,8 +91,11 @@ module _ (vs : List VarId) (l : Link) (h : LinkVars vs l) where
           by (u ∷ us) is = let r = first_passes (apart_test l) vs s (omega (arith, ap length is)) k full stays in far_not r.0 r.1
           by [] is =
               let x = map least s in
-              let there : IsIn x s = record { long = length-map s least; each =
-                  λ v lt. rw (get_or-map least s v [] 0 lt) (least_in (set_at s v) (full v lt)) } in
+              let there : IsIn x s = record {
+                long = length-map s least;
+                each =
+                    λ v lt. rw (get_or-map least s v [] 0 lt) (least_in (set_at s v) (full v lt));
+              } in
               let holds = sure_holds vs l h s x k there (grounded (ap length is) x) sures in
               let low = (value_in vs s x there k l.from h.of_from).0 in
               let high = (value_in vs s x there k l.to h.of_to).1 in
@@ -109,7 +112,7 @@ module _ (vs : List VarId) (l : Link) (h : LinkVars vs l) where
           let some = full v.0 within in
           let low = le_least (min (least (at_set l.from s) + l.gap) (2 ^ 32)) (set_at s v.0) some (λ y there.
           let pass = or_not (both_sure l s) (nat_le (min (least (at_set l.from s) + l.gap) (2 ^ 32)) y)
-              (passes_all (later_test l s) v.0 s within stays' y there) sures in
+          (passes_all (later_test l s) v.0 s within stays' y there) sures in
           grind (arith, nat_tests, pass)) in
           let small = words v.0 (least (set_at s v.0)) (least_in (set_at s v.0) some) in
           let b = ap (λ (t : At). least (at_set t s)) is in

@@ -44,7 +44,7 @@ module _ (vs : List VarId) (d : Sets → Option Sets) (h : Lawful vs d) (s t : S
   pub ready_next : {P : Type 0} (scope : P → List VarId) (cut : P → Sets → Option Sets) → ((p : P) → Lawful (scope p) (cut p))
       → (ps : List P) (vars : ℕ) (table : Sets) (ws ws' : List Bool) → IsTable scope ps vars table → All (λ p. HasVars (scope p) s) ps
       → IsSizes sizes' t → Grows ws ws' → ((w : ℕ) → (get_or sizes' w 0 ≡ get_or sizes w 0) ⊎ AllWait table ws' w) → IsReady cut ps ws s
-          → IsReady cut ps ws' t
+      → IsReady cut ps ws' t
   ready_next scope cut lawful ps vars table ws ws' tab known after grows woken ready =
       ready_after scope cut lawful ps vars table ws ws' s t tab known full less.1 less.0.long
       (λ v below. elim (woken v) [
@@ -65,5 +65,5 @@ module _ {P : Type 0} (scope : P → List VarId) (cut : P → Sets → Option Se
       → IsFix (option_and_then (fix_of cut ps) c) new answer → IsFix (option_and_then (fix_of cut ps) (cut_by q v.0 box)) new answer
   child_fix v q box f c new answer there known full end is h =
       let same = fix_child scope cut lawful ps box f (v ∷ []) (cut_by q v.0) (decide_by v q) (has_one v box there)
-          (recursion_from_All _ _ known) full end in
+      (recursion_from_All _ _ known) full end in
       subst (λ (o : Option Sets). IsFix o new answer) (sym (ap (option_and_then (fix_of cut ps)) is) ∙ same) h

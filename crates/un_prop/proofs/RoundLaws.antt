@@ -78,7 +78,7 @@ module _ {P : Type 0} (scope : P → List VarId) (cut : P → Sets → Option Se
     round_step i p s t below at e =
         let cons : drop i ps ≡ p ∷ drop (i + 1) ps =
         subst (λ (n : ℕ). drop i ps ≡ p ∷ drop n ps) (sym (add-one i))
-            (drop-cons ps i p below ∙ ap (λ (q : P). q ∷ drop (suc i) ps) (sym at)) in
+        (drop-cons ps i p below ∙ ap (λ (q : P). q ∷ drop (suc i) ps) (sym at)) in
         sym (ap (λ (qs : List P). round cut qs s) cons ∙ ap (option_and_then (round cut (drop (i + 1) ps))) e)
 
     pub round_failed : (i : ℕ) (p : P) (s : Contents) (changed : Bool) → SoFar i s changed → i < length ps → p ≡ get_or ps i p
@@ -86,7 +86,7 @@ module _ {P : Type 0} (scope : P → List VarId) (cut : P → Sets → Option Se
     round_failed i p s changed sofar below at e =
         let cons : drop i ps ≡ p ∷ drop (i + 1) ps =
         subst (λ (n : ℕ). drop i ps ≡ p ∷ drop n ps) (sym (add-one i))
-            (drop-cons ps i p below ∙ ap (λ (q : P). q ∷ drop (suc i) ps) (sym at)) in
+        (drop-cons ps i p below ∙ ap (λ (q : P). q ∷ drop (suc i) ps) (sym at)) in
         sym sofar.rest ∙ (ap (λ (qs : List P). round cut qs s.sets) cons ∙ ap (option_and_then (round cut (drop (i + 1) ps))) e)
 
     module _ (i : ℕ) (p : P) (s t : Contents) (changed : Bool) (sofar : SoFar i s changed) (known : HasVars (scope p) s.sets)
@@ -94,12 +94,12 @@ module _ {P : Type 0} (scope : P → List VarId) (cut : P → Sets → Option Se
         (at : p ≡ get_or ps i p) where
       went : (answer : Pruned) → answer ≢ Failed → IsPrune (scope p) (cut p s.sets) s t answer → (changed' : Bool)
           → (Answers answer s.sets t.sets → MatchBool changed' (total t.sets < total first.sets) (t.sets ≡ first.sets))
-              → SoFar (i + 1) t changed'
+          → SoFar (i + 1) t changed'
       went answer other h changed' f =
           let left = left_of (cut p s.sets) s.sets t.sets answer h.ends other in
           let fewer : Below t.sets s.sets × NoneEmpty t.sets =
           subst (λ (c : Option Sets). MatchOption c ⊤ (λ u. Below u s.sets × NoneEmpty u)) left.0
-              ((lawful p).shrinks s.sets known sofar.full) in
+          ((lawful p).shrinks s.sets known sofar.full) in
           record {
             rest = round_step i p s.sets t.sets below at left.0 ∙ sofar.rest;
             full = left.1;
@@ -126,7 +126,7 @@ module _ {P : Type 0} (scope : P → List VarId) (cut : P → Sets → Option Se
   pub fix_goes : (holds : P → List ℕ → Bool)
       → ((p : P) (s : Sets) (x : List ℕ) → HasVars (scope p) s → NoneEmpty s → IsIn x s → holds p x ≡ true → Kept x (cut p s))
       → (ps : List P) (first s t : Contents) → FixSoFar holds ps first s → Known scope cut lawful ps first.sets
-          → round cut ps s.sets ≡ Some t.sets
+      → round cut ps s.sets ≡ Some t.sets
       → t.marked ≡ s.marked → FixSoFar holds ps first t
   fix_goes holds keeps ps first s t sofar k e marked =
       let known = known_long scope cut lawful ps first.sets s.sets sofar.below.long k in

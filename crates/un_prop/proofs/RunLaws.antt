@@ -68,14 +68,14 @@ module _ {P : Type 0} (scope : P → List VarId) (cut : P → Sets → Option Se
       pub run_long : (t : Sets) → cut p s ≡ Some t → (length t ≡ length s) × (length t ≡ length first) × HasVars (scope p) t
       run_long t e =
           let less : Below t s × NoneEmpty t = subst (λ (c : Option Sets). MatchOption c ⊤ (λ x. Below x s × NoneEmpty x)) e
-              ((lawful p).shrinks s known_at h.full) in
+          ((lawful p).shrinks s known_at h.full) in
           (less.0.long, less.0.long ∙ h.below.long, λ k d below. rw less.0.long (known_at k d below))
 
       -- where one fails, the rounds fail
       pub run_fails : cut p s ≡ None → fix_of cut ps first ≡ None
       run_fails e = order_free scope cut lawful ps first None (recursion_from_All _ _ known) full
           (λ u b fu stable. subst (BelowOption (Some u)) e (stays_below scope cut lawful p u s known_at fu h.full (h.above u b fu stable)
-              (stable_at u i p lt at stable)))
+          (stable_at u i p lt at stable)))
 
       -- one that changed nothing waits no more
       pub run_same : (t : Sets) → cut p s ≡ Some t → t ≡ s → SoFar t (set ws i false) sizes
@@ -96,8 +96,8 @@ module _ {P : Type 0} (scope : P → List VarId) (cut : P → Sets → Option Se
       pub run_tighter : (t : Sets) (table : Sets) (vs : List VarId) (ws' : List Bool) (sizes' : List ℕ) → cut p s ≡ Some t
           → IsTable scope ps (length first) table → vs ≡ scope p → length ws' ≡ length ws → length sizes' ≡ length sizes → Grows ws ws'
           → All (λ v. get_or sizes' v.0 0 ≡ length (set_at t v.0)) vs
-              → ((w : ℕ) → All (λ v. (w ≡ v.0) → ⊥) vs → get_or sizes' w 0 ≡ get_or sizes w 0)
-              → ((w : ℕ) → (get_or sizes' w 0 ≡ get_or sizes w 0) ⊎ AllWait table ws' w)
+          → ((w : ℕ) → All (λ v. (w ≡ v.0) → ⊥) vs → get_or sizes' w 0 ≡ get_or sizes w 0)
+          → ((w : ℕ) → (get_or sizes' w 0 ≡ get_or sizes w 0) ⊎ AllWait table ws' w)
           → SoFar t ws' sizes'
       run_tighter t table vs ws' sizes' e tab is flags long grows counted others woken = record {
         full = less.1;
@@ -106,10 +106,10 @@ module _ {P : Type 0} (scope : P → List VarId) (cut : P → Sets → Option Se
             (h.above u b fu stable) (stable_at u i p lt at stable));
         ready = ready_after scope cut lawful ps (length first) table ws ws' s t tab (known_now s ws sizes h) h.full less.1 less.0.long
             (λ v below. elim (woken v) [
-          | inl same ↦ inl (sym (set_same t s v less.0 (sym (noted_all v (omega (arith, below, less.0.long)))
-              ∙ (same ∙ h.noted.each v below))))
-          | inr all ↦ inr all
-        ]) grows h.ready;
+              | inl same ↦ inl (sym (set_same t s v less.0 (sym (noted_all v (omega (arith, below, less.0.long)))
+                  ∙ (same ∙ h.noted.each v below))))
+              | inr all ↦ inr all
+            ]) grows h.ready;
         flags = flags ∙ h.flags;
         noted = record { long = long ∙ (h.noted.long ∙ sym less.0.long); each = noted_all };
       }
@@ -150,5 +150,5 @@ pub one_less : (n : ℕ) (t s : Sets) (ws : List Bool) (i : ℕ) → t ≡ s →
     → work n t (set ws i false) < work n s ws
 one_less n t s ws i e lt is = subst (λ (x : Sets). work n x (set ws i false) < work n s ws) (sym e)
     (let sums : sum_by flag (set ws i false) + 1 ≡ sum_by flag ws + 0 =
-        subst (λ (b : Bool). sum_by flag (set ws i false) + flag b ≡ sum_by flag ws + 0) is (sum_by-set flag ws i false false lt) in
-        omega (arith, sums))
+    subst (λ (b : Bool). sum_by flag (set ws i false) + flag b ≡ sum_by flag ws + 0) is (sum_by-set flag ws i false false lt) in
+    omega (arith, sums))

@@ -57,9 +57,9 @@ one_more rows v i within = (
   λ w j h. elim (same_or_not w v) [
     | inl e ↦ elim (has_append_split (set_at rows v) i j (subst (λ (xs : List ℕ). has xs j ≡ true) at
         (subst (λ (u : ℕ). has (set_at now u) j ≡ true) e h))) [
-      | inl k ↦ inl (subst (λ (u : ℕ). has (set_at rows u) j ≡ true) (sym e) k)
-      | inr s ↦ inr s
-    ]
+          | inl k ↦ inl (subst (λ (u : ℕ). has (set_at rows u) j ≡ true) (sym e) k)
+          | inr s ↦ inr s
+        ]
     | inr ne ↦ inl (subst (λ (xs : List ℕ). has xs j ≡ true) (get_or-set_other rows v w (set_at rows v ++ i ∷ []) [] ne) h)
   ],
 )

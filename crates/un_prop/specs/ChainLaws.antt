@@ -54,7 +54,7 @@ stable_then vs f g hf hg s k full e = by (f s) refl (hf.shrinks s k full) e
     by (Some m) is h end =
         let km : HasVars vs m = λ i d lt. rw h.0.long (k i d lt) in
         let down : Below s m × NoneEmpty s = subst (λ (c : Option Sets). MatchOption c ⊤ (λ u. Below u m × NoneEmpty u)) end
-            (hg.shrinks m km h.1) in
+        (hg.shrinks m km h.1) in
         let same : m ≡ s = Below-same m s h.0 down.0 in
         (is ∙ ap (λ (u : Sets). Some u) same, subst (λ (u : Sets). g u ≡ Some s) same end)
 

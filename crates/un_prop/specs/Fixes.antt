@@ -102,7 +102,7 @@ module _ {P : Type 0} (scope : P → List VarId) (cut : P → Sets → Option Se
   rounds_below zero ps u s k fu fs b e = b
   rounds_below (suc n) ps u s k fu fs b e =
       then_below (λ t. cond (nat_eq (total t) (total s)) (Some s) (rounds cut n ps t)) u s (round cut ps s) (round_shrunk ps s k fs)
-          (round_below ps u s k fu fs b e)
+      (round_below ps u s k fu fs b e)
       (λ t long full below. by t (nat_eq (total t) (total s)) (rounds_below n ps u t (known_long ps s t long k) fu full below e))
     where
       by : (t : Sets) (c : Bool) → BelowOption (Some u) (rounds cut n ps t) → BelowOption (Some u) (cond c (Some s) (rounds cut n ps t))
@@ -124,8 +124,12 @@ module _ {P : Type 0} (scope : P → List VarId) (cut : P → Sets → Option Se
   after_round n ps s (Some t) k f is h next = by (nat_eq (total t) (total s)) refl
     where
       by : (b : Bool) → nat_eq (total t) (total s) ≡ b → Ends ps s (cond b (Some s) (rounds cut n ps t))
-      by true e = (Below-refl s, f, round_stable ps s t k f is (let same : total t ≡ total s = grind (arith, nat_tests) in
-          omega (arith, same)))
+      by true e = (
+        Below-refl s,
+        f,
+        round_stable ps s t k f is (let same : total t ≡ total s = grind (arith, nat_tests) in
+            omega (arith, same)),
+      )
       by false e = ends_wider ps s t (rounds cut n ps t) h.0 (next t
           (let apart : total t ≢ total s = grind (arith, nat_tests) in omega (arith, total_below t s h.0, apart)) h.0.long h.1)
 
@@ -151,8 +155,13 @@ module _ {P : Type 0} (scope : P → List VarId) (cut : P → Sets → Option Se
 
   lower : (ps : List P) (t s : Sets) (c : Option Sets) → Below t s → BelowOption c (Some t) → IsFixOf cut ps s c → IsFixOf cut ps t c
   lower ps t s None b h g = λ u below. g u (Below-trans u t s below b)
-  lower ps t s (Some r) b h g = record { below = h; full = g.full; stable = g.stable; greatest =
-      λ u below. g.greatest u (Below-trans u t s below b) }
+  lower ps t s (Some r) b h g = record {
+    below = h;
+    full = g.full;
+    stable = g.stable;
+    greatest =
+        λ u below. g.greatest u (Below-trans u t s below b);
+  }
 
   -- **from any store between, the same end**
   pub fix_between : (ps : List P) (t s : Sets) → Known ps s → NoneEmpty t → NoneEmpty s → Below t s → BelowOption (fix_of cut ps s) (Some t)
@@ -185,9 +194,10 @@ module _ {P : Type 0} (scope : P → List VarId) (cut : P → Sets → Option Se
 
   stable_in : (ps qs : List P) (u : Sets) → AllByRecursion (Contains ps) qs → Stable cut ps u → Stable cut qs u
   stable_in ps [] u all stable = tt
-  stable_in ps (q ∷ qs) u all stable =
-      (All-contains (λ p. cut p u ≡ Some u) ps q (All-from_recursion (λ p. cut p u ≡ Some u) ps stable) all.0,
-          stable_in ps qs u all.1 stable)
+  stable_in ps (q ∷ qs) u all stable = (
+    All-contains (λ p. cut p u ≡ Some u) ps q (All-from_recursion (λ p. cut p u ≡ Some u) ps stable) all.0,
+    stable_in ps qs u all.1 stable,
+  )
 
   -- **lists of the same propagators, in whatever order, end alike**
   pub same_ends : (ps qs : List P) (s : Sets) → Known ps s → Known qs s → NoneEmpty s → AllByRecursion (Contains ps) qs

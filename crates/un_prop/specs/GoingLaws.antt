@@ -28,7 +28,7 @@ module _ (p : ℕ → Bool) (v : ℕ) (old new : Contents) (within : v < length 
   some_left answer e some answers =
       let no : nat_eq (length (set_at new.sets v)) 0 ≡ false = grind (arith, nat_tests) in
       let there : nat_eq (length (filter p (set_at old.sets v))) 0 ≡ false =
-          subst (λ (xs : List ℕ). nat_eq (length xs) 0 ≡ false) (at_new e) no in
+      subst (λ (xs : List ℕ). nat_eq (length xs) 0 ≡ false) (at_new e) no in
       let more : 0 < length (filter p (set_at old.sets v)) = subst (λ (xs : List ℕ). 0 < length xs) (at_new e) some in
       rw there (record { sets = e; live = kept_full p old.sets v within live more; answers = subst (Answers answer old.sets) e answers })
 
@@ -37,23 +37,32 @@ module _ (p : ℕ → Bool) (v : ℕ) (old new : Contents) (within : v < length 
   cut_ends CutSame h =
       let as_many = (h.same.0 refl).1 in
       let whole : filter p (set_at old.sets v) ≡ set_at old.sets v =
-          filter_whole p (set_at old.sets v) (sym (ap length (at_new h.sets)) ∙ as_many) in
+      filter_whole p (set_at old.sets v) (sym (ap length (at_new h.sets)) ∙ as_many) in
       some_left Same h.sets (h.same.0 refl).0 (h.sets ∙ (ap (λ (xs : List ℕ). set old.sets v xs) whole ∙ set-get_or old.sets v []))
   cut_ends Changed h =
       let ne : length (set_at new.sets v) ≢ 0 = λ z. cc (h.emptied.1 z) in
       let some : 0 < length (set_at new.sets v) = omega (arith, ne) in
       let below = kept_below p old.sets v within in
-      let other : total new.sets ≢ total old.sets = λ e. cc (h.same.1
-          (some, ap (λ (s : Sets). length (set_at s v)) (h.sets ∙
-          total_same (kept p old.sets v) old.sets below (sym (ap total h.sets) ∙ e)))) in
+      let other : total new.sets ≢ total old.sets = λ e. cc (h.same.1 (
+        some,
+        ap (λ (s : Sets). length (set_at s v)) (h.sets ∙
+            total_same (kept p old.sets v) old.sets below (sym (ap total h.sets) ∙ e)),
+      )) in
       let less = total_below (kept p old.sets v) old.sets below in
       some_left Tighter h.sets some (omega (arith, other, less, ap total h.sets))
   cut_ends Emptied h =
       let none : length (set_at new.sets v) ≡ 0 = h.emptied.0 refl in
       let gone : nat_eq (length (filter p (set_at old.sets v))) 0 ≡ true = sym (ap (λ (xs : List ℕ). nat_eq (length xs) 0) (at_new h.sets))
-          ∙ ap (λ (n : ℕ). nat_eq n 0) none in
-      rw gone (refl, λ full. (let some = full v (omega (arith, within, ap length h.sets,
-          length-set old.sets v (filter p (set_at old.sets v)))) in omega (arith, some, none)))
+      ∙ ap (λ (n : ℕ). nat_eq n 0) none in
+      rw gone (
+        refl,
+        λ full. (let some = full v (omega (
+          arith,
+          within,
+          ap length h.sets,
+          length-set old.sets v (filter p (set_at old.sets v)),
+        )) in omega (arith, some, none)),
+      )
 
   pub cut_untouched : (vs : List VarId) (x : VarId) (cut : Cut) → x.0 ≡ v → Contains vs x → IsCut p v old new cut → Untouched vs old new
   cut_untouched vs x cut e there h = record {
@@ -157,7 +166,7 @@ ends_live (Some left) old new answer e other = subst NoneEmpty (sym e.sets) e.li
 pub stepped_then : (vs : List VarId) (f : Sets → Option Sets) (old new : Contents) (before did after : Pruned) → before ≢ Failed
     → after ≡ join before did
     → length new.sets ≡ length old.sets → (NoneEmpty old.sets → Ends (f old.sets) old.sets new.sets did × Untouched vs old new)
-        → Stepped vs f old new before after
+    → Stepped vs f old new before after
 stepped_then vs f old new before did after other is long h = record {
   goes = subst (λ (a : Pruned). Goes vs f old new before a) (sym is) (goes_then vs f old new before did other h);
   long = long;
@@ -239,7 +248,7 @@ none_left (x ∷ xs) = none_left xs
 pub all_cut : (vs : List VarId) (v : VarId) (old mid new : Contents) → Contains vs v → v.0 < length old.sets
     → mid.sets ≡ kept (λ y. nat_le y 0) old.sets v.0 → mid.marked ≡ old.marked
     → new.sets ≡ kept (λ y. nat_lt 0 y) mid.sets v.0 → new.marked ≡ mid.marked
-        → Ends (cut_by (λ y. false) v.0 old.sets) old.sets new.sets Failed × Untouched vs old new
+    → Ends (cut_by (λ y. false) v.0 old.sets) old.sets new.sets Failed × Untouched vs old new
 all_cut vs v old mid new there within sets marked sets' marked' = (
   ends,
   untouched_then vs old mid new (untouched_cut (λ y. nat_le y 0) vs v old mid there sets marked)
@@ -259,7 +268,9 @@ all_cut vs v old mid new there within sets marked sets' marked' = (
 
     ends : Ends (cut_by (λ y. false) v.0 old.sets) old.sets new.sets Failed
     ends = subst (λ (xs : List ℕ). Ends (cond (nat_eq (length xs) 0) None (Some (set old.sets v.0 xs))) old.sets new.sets Failed)
-        (sym (none_left (set_at old.sets v.0)))
-        (refl, λ full. (let some = full v.0 (let e = ap length sets' in let f =
-            length-set mid.sets v.0 (filter (λ y. nat_lt 0 y) (set_at mid.sets v.0)) in omega (arith, long, e, f)) in let none =
-            ap length at_new in omega (arith, some, none)))
+        (sym (none_left (set_at old.sets v.0))) (
+          refl,
+          λ full. (let some = full v.0 (let e = ap length sets' in let f =
+              length-set mid.sets v.0 (filter (λ y. nat_lt 0 y) (set_at mid.sets v.0)) in omega (arith, long, e, f)) in let none =
+              ap length at_new in omega (arith, some, none)),
+        )

@@ -45,9 +45,9 @@ passes_all p v s within e y h = by (nat_eq (length (filter p (set_at s v))) 0) r
     by true is = absurd (let none : None ≡ Some s = sym (ap (λ (b : Bool). cond b None (Some (kept p s v))) is) ∙ e in cc none)
     by false is =
         let same : kept p s v ≡ s = (let some : Some (kept p s v) ≡ Some s = sym (ap (λ (b : Bool). cond b None (Some (kept p s v))) is)
-            ∙ e in cc) in
+        ∙ e in cc) in
         let left : filter p (set_at s v) ≡ set_at s v = sym (get_or-set_same s v (filter p (set_at s v)) [] within)
-            ∙ ap (λ (u : Sets). set_at u v) same in
+        ∙ ap (λ (u : Sets). set_at u v) same in
         (and_true (p y) (has (set_at s v) y) (sym (has-filter p y (set_at s v)) ∙ subst (λ (xs : List ℕ). has xs y ≡ true) (sym left) h)).0
 
 no_value : (p : ℕ → Bool) (xs : List ℕ) → length xs ≡ 0 → length (filter p xs) ≡ 0
@@ -74,7 +74,7 @@ cut_twice p q v s within = by (nat_eq (length (filter q (set_at s v))) 0) refl
         let xs : filter p (set_at (kept q s v) v) ≡ filter (λ y. p y && q y) (set_at s v) = ap (filter p) at ∙ both in
         ap (λ (ys : List ℕ). cond (nat_eq (length ys) 0) None (Some (set (kept q s v) v ys))) xs
         ∙ ap (λ (u : Sets). cond (nat_eq (length (filter (λ y. p y && q y) (set_at s v))) 0) None (Some u))
-            (set-set s v (filter q (set_at s v)) (filter (λ y. p y && q y) (set_at s v)))
+        (set-set s v (filter q (set_at s v)) (filter (λ y. p y && q y) (set_at s v)))
 
 -- The code
 
@@ -99,7 +99,7 @@ two_open s vs k u lt wide one =
     let v = get_or vs k u in
     let rest : filter (is_open s) (drop k vs) ≡ v ∷ filter (is_open s) (drop (suc k) vs) =
     ap (filter (is_open s)) (drop-cons vs k u lt) ∙ ap (λ (b : Bool). cond b (v ∷ filter (is_open s) (drop (suc k) vs))
-        (filter (is_open s) (drop (suc k) vs))) wide in
+    (filter (is_open s) (drop (suc k) vs))) wide in
     let whole : open_of vs s ≡ u ∷ v ∷ filter (is_open s) (drop (suc k) vs) =
     ap (filter (is_open s)) (take_drop k vs) ∙ (filter-append (is_open s) (take k vs) (drop k vs)
     ∙ (ap (λ (ys : List VarId). ys ++ filter (is_open s) (drop k vs)) one ∙ ap (λ (ys : List VarId). u ∷ ys) rest)) in
@@ -108,7 +108,7 @@ two_open s vs k u lt wide one =
 pub second_open : (s : Sets) (vs : List VarId) (k : ℕ) (d : VarId) (o : Option VarId) → k < length vs
     → nat_eq (length (set_at s (get_or vs k d).0)) 1 ≡ false
     → is_some o ≡ true → MatchOption o (filter (is_open s) (take k vs) ≡ []) (λ v. filter (is_open s) (take k vs) ≡ v ∷ [])
-        → None ≡ last_of vs s
+    → None ≡ last_of vs s
 second_open s vs k d None lt wide some so_far = absurd (cc some)
 second_open s vs k d (Some u) lt wide some so_far =
     sym (two_open s vs k u lt (subst (λ (v : VarId). is_open s v ≡ true) (get_or_default vs k d u lt) (ap not wide)) so_far)
@@ -202,9 +202,11 @@ last_single vs s v e = by (open_of vs s) refl e
     by [] is h = (first vs h, singles s v.0 vs (weak vs (none_pass (is_open s) vs is)))
     by (u ∷ []) is h =
         let same : u ≡ v = cc h in
-        let r = one_passes (is_open s) vs u is in
-        (subst (Contains vs) same r.0, subst (λ (x : VarId). All (λ w. w.0 ≢ x.0 → length (set_at s w.0) ≡ 1) vs) same
-            (singles s u.0 vs r.1))
+        let r = one_passes (is_open s) vs u is in (
+          subst (Contains vs) same r.0,
+          subst (λ (x : VarId). All (λ w. w.0 ≢ x.0 → length (set_at s w.0) ≡ 1) vs) same
+              (singles s u.0 vs r.1),
+        )
     by (u ∷ w ∷ us) is h = absurd (cc h)
 
 -- where each variable is less than the next, at most one that is open is alone
@@ -242,9 +244,9 @@ few_open s v (w ∷ ws) g l a b us is = at (is_open s w) refl (same_or_not w.0 v
     at true on (inr ne) rest = let bad : true ≡ false = sym on ∙ open_single s w (l.0 ne) in absurd (cc bad)
     at true on (inl e) rest =
         let none = none_open s ws (after_first s w ws g (subst (λ (k : ℕ). AllByRecursion (λ x. x.0 ≢ k → length (set_at s x.0) ≡ 1) ws)
-            (sym e) l.1)) in
+        (sym e) l.1)) in
         let bad : w ∷ [] ≡ a ∷ b ∷ us = ap (λ (xs : List VarId). w ∷ xs) (sym none)
-            ∙ (sym (ap (λ (o : Bool). cond o (w ∷ open_of ws s) (open_of ws s)) on) ∙ is) in
+        ∙ (sym (ap (λ (o : Bool). cond o (w ∷ open_of ws s) (open_of ws s)) on) ∙ is) in
         absurd (cc bad)
 
 -- **with at most one variable open, one is left to check**
@@ -271,7 +273,7 @@ module _ (vs : List VarId) (t : List ℕ → Bool) (looks : (x y : List ℕ) →
       elim (same_or_not w.0 v.0) [
         | inl e ↦ subst (λ (k : ℕ). get_or (set (point s) v.0 y) k 0 ≡ get_or (set (point u) v.0 y) k 0) (sym e)
             (get_or-set_same (point s) v.0 y 0 (omega (arith, e, ls, length-map s least))
-                ∙ sym (get_or-set_same (point u) v.0 y 0 (omega (arith, e, lu, length-map u least))))
+            ∙ sym (get_or-set_same (point u) v.0 y 0 (omega (arith, e, lu, length-map u least))))
         | inr ne ↦ get_or-set_other (point s) v.0 w.0 y 0 ne ∙ (get_or-map least s w.0 [] 0 ls
             ∙ (ap least (same i d lt ne) ∙ (sym (get_or-map least u w.0 [] 0 lu) ∙ sym (get_or-set_other (point u) v.0 w.0 y 0 ne))))
       ]
@@ -306,7 +308,7 @@ module _ (vs : List VarId) (t : List ℕ → Bool) (looks : (x y : List ℕ) →
       by (Some v) e =
           let one = last_single vs s v e in
           cut_by_kept (λ y. t (set (point s) v.0 y)) v.0 s x (has_var vs v s one.0 k) there
-              (looks (set (point s) v.0 (get_or x v.0 0)) x (in_point s v x k there one.1) ∙ holds)
+          (looks (set (point s) v.0 (get_or x v.0 0)) x (in_point s v x k there one.1) ∙ holds)
 
   pub last_forward : (s u : Sets) (v : ℕ) (x : List ℕ) → Ascend vs → (length vs ≡ 0 → t x ≡ true) → HasVars vs s → NoneEmpty s
       → All (λ w. w.0 ≢ v → length (set_at s w.0) ≡ 1) vs → last_cut vs t s ≡ Some u → IsIn x u → t x ≡ true
@@ -321,23 +323,26 @@ module _ (vs : List VarId) (t : List ℕ → Bool) (looks : (x y : List ℕ) →
         where
           passed : (w : VarId) → Contains vs w × All (λ a. a.0 ≢ w.0 → length (set_at s a.0) ≡ 1) vs → (b : Bool)
               → nat_eq (length (filter (λ y. t (set (point s) w.0 y)) (set_at s w.0))) 0 ≡ b
-                  → cut_by (λ y. t (set (point s) w.0 y)) w.0 s ≡ Some u → t x ≡ true
+              → cut_by (λ y. t (set (point s) w.0 y)) w.0 s ≡ Some u → t x ≡ true
           passed w left true gone c = absurd (let bad : None ≡ Some u =
               sym (ap (λ (b : Bool). cond b None (Some (kept (λ y. t (set (point s) w.0 y)) s w.0))) gone) ∙ c in cc bad)
           passed w left false gone c =
               let q = λ (y : ℕ). t (set (point s) w.0 y) in
               let within = has_var vs w s left.0 k in
               let same : kept q s w.0 ≡ u = (let e : Some (kept q s w.0) ≡ Some u =
-                  sym (ap (λ (b : Bool). cond b None (Some (kept q s w.0))) gone) ∙ c in cc) in
+              sym (ap (λ (b : Bool). cond b None (Some (kept q s w.0))) gone) ∙ c in cc) in
               let below : Below u s = subst (λ (z : Sets). Below z s) same (kept_below q s w.0 within) in
-              let inside : IsIn x s = record { long = there.long ∙ below.long; each =
-                  λ i lt. has_below u s i (get_or x i 0) below (there.each i (omega (arith, lt, below.long))) } in
+              let inside : IsIn x s = record {
+                long = there.long ∙ below.long;
+                each =
+                    λ i lt. has_below u s i (get_or x i 0) below (there.each i (omega (arith, lt, below.long)));
+              } in
               let at : set_at u w.0 ≡ filter q (set_at s w.0) = sym (ap (λ (z : Sets). set_at z w.0) same)
-                  ∙ get_or-set_same s w.0 (filter q (set_at s w.0)) [] within in
+              ∙ get_or-set_same s w.0 (filter q (set_at s w.0)) [] within in
               let has_it : has (filter q (set_at s w.0)) (get_or x w.0 0) ≡ true =
-                  subst (λ (ys : List ℕ). has ys (get_or x w.0 0) ≡ true) at (there.each w.0 (omega (arith, within, below.long))) in
+              subst (λ (ys : List ℕ). has ys (get_or x w.0 0) ≡ true) at (there.each w.0 (omega (arith, within, below.long))) in
               let pass = (and_true (q (get_or x w.0 0)) (has (set_at s w.0) (get_or x w.0 0))
-                  (sym (has-filter q (get_or x w.0 0) (set_at s w.0)) ∙ has_it)).0 in
+              (sym (has-filter q (get_or x w.0 0) (set_at s w.0)) ∙ has_it)).0 in
               sym (looks (set (point s) w.0 (get_or x w.0 0)) x (in_point s w x k inside left.1)) ∙ pass
 
   -- where the list of what is open is no longer than v, the cut is that of v
@@ -349,11 +354,11 @@ module _ (vs : List VarId) (t : List ℕ → Bool) (looks : (x y : List ℕ) →
       alone : (w : VarId) → Contains vs w → cut_by (λ y. t (set (point s) w.0 y)) w.0 s ≡ cond (t (point s)) (Some s) None
       alone w there =
           let one : length (set_at s w.0) ≡ 1 = single_open s w (All-contains (λ a. is_open s a ≡ false) vs w
-              (All-from_recursion _ _ (none_pass (is_open s) vs e)) there) in
+          (All-from_recursion _ _ (none_pass (is_open s) vs e)) there) in
           let within = has_var vs w s there k in
           let ls : w.0 < length (point s) = omega (arith, within, length-map s least) in
           at (set_at s w.0) refl one (λ y is. sym (ap (λ (z : ℕ). t (set (point s) w.0 z))
-              (get_or-map least s w.0 [] 0 within ∙ ap least is)) ∙ ap t (set-get_or (point s) w.0 0)) (t (point s)) refl
+          (get_or-map least s w.0 [] 0 within ∙ ap least is)) ∙ ap t (set-get_or (point s) w.0 0)) (t (point s)) refl
         where
           at : (xs : List ℕ) → set_at s w.0 ≡ xs → length xs ≡ 1 → ((y : ℕ) → set_at s w.0 ≡ y ∷ [] → t (set (point s) w.0 y) ≡ t (point s))
               → (b : Bool) → t (point s) ≡ b
@@ -362,12 +367,12 @@ module _ (vs : List VarId) (t : List ℕ → Bool) (looks : (x y : List ℕ) →
           at (y ∷ z ∷ ys) is n same b tb = absurd (omega (arith, n))
           at (y ∷ []) is n same true tb = cut_all (λ z. t (set (point s) w.0 z)) w.0 s (has_var vs w s there k) full
               (λ z h. elim (has-cons y z [] (subst (λ (xs : List ℕ). has xs z ≡ true) is h)) [
-            | inl e ↦ ap (λ (q : ℕ). t (set (point s) w.0 q)) e ∙ (same y is ∙ tb)
-            | inr more ↦ absurd (cc more)
-          ])
+                | inl e ↦ ap (λ (q : ℕ). t (set (point s) w.0 q)) e ∙ (same y is ∙ tb)
+                | inr more ↦ absurd (cc more)
+              ])
           at (y ∷ []) is n same false tb =
               let gone : filter (λ z. t (set (point s) w.0 z)) (set_at s w.0) ≡ [] = ap (filter (λ z. t (set (point s) w.0 z))) is
-                  ∙ ap (λ (b : Bool). cond b (y ∷ []) []) (same y is ∙ tb) in
+              ∙ ap (λ (b : Bool). cond b (y ∷ []) []) (same y is ∙ tb) in
               ap (λ (ys : List ℕ). cond (nat_eq (length ys) 0) None (Some (set s w.0 ys))) gone
 
       by : (ws : List VarId) → vs ≡ ws → last_cut vs t s ≡ cut_by (λ y. t (set (point s) v.0 y)) v.0 s
@@ -404,7 +409,7 @@ module _ (vs : List VarId) (t : List ℕ → Bool) (looks : (x y : List ℕ) →
       by : (b : Bool) → is_open s w ≡ b → ((open_of ws s ≡ []) → open_of ws a ≡ [])
           × ((open_of ws s ≡ v ∷ []) → (open_of ws a ≡ []) ⊎ (open_of ws a ≡ v ∷ []))
           → ((open_of (w ∷ ws) s ≡ []) → open_of (w ∷ ws) a ≡ [])
-              × ((open_of (w ∷ ws) s ≡ v ∷ []) → (open_of (w ∷ ws) a ≡ []) ⊎ (open_of (w ∷ ws) a ≡ v ∷ []))
+          × ((open_of (w ∷ ws) s ≡ v ∷ []) → (open_of (w ∷ ws) a ≡ []) ⊎ (open_of (w ∷ ws) a ≡ v ∷ []))
       by false e rest = (
         λ none. skip a (shut e) ∙ rest.0 (sym (skip s e) ∙ none),
         λ one. elim (rest.1 (sym (skip s e) ∙ one)) [ inl x ↦ inl (skip a (shut e) ∙ x) | inr x ↦ inr (skip a (shut e) ∙ x) ],
@@ -447,10 +452,10 @@ module _ (vs : List VarId) (t : List ℕ → Bool) (looks : (x y : List ℕ) →
       let both = open_below a s v k fa le vs (recursion_from_All _ _ k) in
       elim (open_cases s v e) [ inl none ↦ inl (both.0 none) | inr only ↦ both.1 only ]) in
       let same : All (λ w. w.0 ≢ v.0 → set_at a w.0 ≡ set_at s w.0) vs =
-          λ i d lt ne. single_below a s (get_or vs i d).0 le (fa (get_or vs i d).0 (ka i d lt)) (one.1 i d lt ne) in
+      λ i d lt ne. single_below a s (get_or vs i d).0 le (fa (get_or vs i d).0 (ka i d lt)) (one.1 i d lt ne) in
       subst (λ (c : Option Sets). BelowOption c (cut_by (λ y. t (set (point s) v.0 y)) v.0 s)) (sym (last_at a v ka fa one.0 opens))
       (cut_below (λ y. t (set (point a) v.0 y)) (λ y. t (set (point s) v.0 y)) v.0 a s (has_var vs v s one.0 k) le
-          (λ y h. sym (same_test_at a s v y ka k same) ∙ h))
+      (λ y h. sym (same_test_at a s v y ka k same) ∙ h))
 
   local_at : (s u : Sets) (o : Option VarId) → last_of vs s ≡ o → HasVars vs s → NoneEmpty s → NoneEmpty u → length u ≡ length s
       → Agree vs s u
@@ -473,9 +478,9 @@ module _ (vs : List VarId) (t : List ℕ → Bool) (looks : (x y : List ℕ) →
           let one = last_single vs s v h in
           let ku = known_below u s long k in
           cut_agree vs (λ y. t (set (point s) v.0 y)) (λ y. t (set (point u) v.0 y)) v.0 s u (has_var vs v s one.0 k)
-              (has_var vs v u one.0 ku)
+          (has_var vs v u one.0 ku)
           (All-contains (λ w. set_at s w.0 ≡ set_at u w.0) vs v agree one.0) (λ y. same_test_at s u v y k ku (λ i d lt ne. agree i d lt))
-              agree
+          agree
 
   outside_at : (s : Sets) (w : ℕ) (o : Option VarId) → last_of vs s ≡ o → All (λ v. w ≢ v.0) vs
       → MatchOption (last_cut_at t s o) ⊤ (λ u. set_at u w ≡ set_at s w)
@@ -497,10 +502,10 @@ module _ (vs : List VarId) (t : List ℕ → Bool) (looks : (x y : List ℕ) →
   -- a value that is tried, after those below it
   pub try_next : (s : Sets) (v : VarId) (y : ℕ) (q : ℕ → Bool) → v.0 < length s
       → option_and_then (cut_by (λ z. not (nat_eq z y) || q y) v.0) (cut_by (λ z. nat_le y z || q z) v.0 s) ≡ cut_by
-          (λ z. nat_le (y + 1) z || q z) v.0 s
+      (λ z. nat_le (y + 1) z || q z) v.0 s
   try_next s v y q within = cut_twice (λ z. not (nat_eq z y) || q y) (λ z. nat_le y z || q z) v.0 s within
       ∙ cut_same (λ z. (not (nat_eq z y) || q y) && (nat_le y z || q z)) (λ z. nat_le (y + 1) z || q z) v.0 s
-          (λ z h. at z (same_or_not z y))
+      (λ z h. at z (same_or_not z y))
     where
       at : (z : ℕ) → (z ≡ y) ⊎ (z ≢ y) → ((not (nat_eq z y) || q y) && (nat_le y z || q z)) ≡ (nat_le (y + 1) z || q z)
       at z (inl e) =
@@ -515,9 +520,9 @@ module _ (vs : List VarId) (t : List ℕ → Bool) (looks : (x y : List ℕ) →
       at z (inr ne) =
           let a : nat_eq z y ≡ false = grind (arith, nat_tests, ne) in
           let b : nat_le y z ≡ nat_le (y + 1) z = same_test (nat_le y z) (nat_le (y + 1) z)
-              (λ h. (let le : y ≤ z = grind (arith, nat_tests) in let more : y + 1 ≤ z = omega (arith, le, ne) in
-              grind (arith, nat_tests, more))) (λ h. (let more : y + 1 ≤ z = grind (arith, nat_tests) in let le : y ≤ z =
-              omega (arith, more) in grind (arith, nat_tests, le))) in
+          (λ h. (let le : y ≤ z = grind (arith, nat_tests) in let more : y + 1 ≤ z = omega (arith, le, ne) in
+          grind (arith, nat_tests, more))) (λ h. (let more : y + 1 ≤ z = grind (arith, nat_tests) in let le : y ≤ z =
+          omega (arith, more) in grind (arith, nat_tests, le))) in
           rw a (ap (λ (x : Bool). x || q z) b)
 
   -- before the first value nothing is tried, and after the last all are
@@ -525,7 +530,7 @@ module _ (vs : List VarId) (t : List ℕ → Bool) (looks : (x y : List ℕ) →
       → cut_by (λ z. nat_le (least (set_at s v.0)) z || q z) v.0 s ≡ Some s
   try_first s v q within full = cut_all (λ z. nat_le (least (set_at s v.0)) z || q z) v.0 s within full
       (λ y h. let le = least-le (set_at s v.0) y h in let b : nat_le (least (set_at s v.0)) y ≡ true = grind (arith, nat_tests, le) in
-          rw b refl)
+      rw b refl)
 
   pub try_last : (s : Sets) (v : VarId) (q : ℕ → Bool) (n : ℕ) → greatest (set_at s v.0) < n
       → cut_by (λ z. nat_le n z || q z) v.0 s ≡ cut_by q v.0 s

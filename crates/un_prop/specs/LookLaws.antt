@@ -86,7 +86,7 @@ module _ (vs : List VarId) where
   sure_active s x there k (ActVar v) all h = not_from (nat_eq (get_or x v.0 0) 0) (λ e.
       let zero : get_or x v.0 0 ≡ 0 = grind (arith, nat_tests) in
       not_true (has (set_at s v.0) 0) h (subst (λ (n : ℕ). has (set_at s v.0) n ≡ true) zero
-          (there.each v.0 (has_among vs v s (all 0 v (omega arith)) k))))
+      (there.each v.0 (has_among vs v s (all 0 v (omega arith)) k))))
 
   pub value_in : (s : Sets) (x : List ℕ) → IsIn x s → HasVars vs s → (at : At) → AllAmong vs (at_vars at)
       → (least (at_set at s) ≤ at_value at x) × (at_value at x ≤ greatest (at_set at s))

@@ -37,16 +37,16 @@ decide_by v q = record {
     here s t u within fu e below false is =
         let left : kept q s v.0 ≡ t = some_is (kept q s v.0) t (sym (ap (λ (b : Bool). cond b None (Some (kept q s v.0))) is) ∙ e) in
         let at : set_at t v.0 ≡ filter q (set_at s v.0) = sym (ap (λ (w : Sets). set_at w v.0) left)
-            ∙ get_or-set_same s v.0 (filter q (set_at s v.0)) [] within in
+        ∙ get_or-set_same s v.0 (filter q (set_at s v.0)) [] within in
         let whole : filter q (set_at u v.0) ≡ set_at u v.0 = filter_all (set_at u v.0) q
-            (λ x h. (and_true (q x) (has (set_at s v.0) x) (sym (has-filter q x (set_at s v.0))
-            ∙ subst (λ (ys : List ℕ). has ys x ≡ true) at (has_below u t v.0 x below h))).0) in
+        (λ x h. (and_true (q x) (has (set_at s v.0) x) (sym (has-filter q x (set_at s v.0))
+        ∙ subst (λ (ys : List ℕ). has ys x ≡ true) at (has_below u t v.0 x below h))).0) in
         let long : length u ≡ length s = below.long ∙ (sym (ap length left) ∙ length-set s v.0 (filter q (set_at s v.0))) in
         let some : 0 < length (set_at u v.0) = fu v.0 (omega (arith, within, long)) in
         let no : nat_eq (length (filter q (set_at u v.0))) 0 ≡ false =
-            subst (λ (ys : List ℕ). nat_eq (length ys) 0 ≡ false) (sym whole) (grind (arith, nat_tests, some)) in
+        subst (λ (ys : List ℕ). nat_eq (length ys) 0 ≡ false) (sym whole) (grind (arith, nat_tests, some)) in
         ap (λ (b : Bool). cond b None (Some (kept q u v.0))) no ∙
-            ap (λ (w : Sets). Some w) (ap (λ (ys : List ℕ). set u v.0 ys) whole ∙ set-get_or u v.0 [])
+        ap (λ (w : Sets). Some w) (ap (λ (ys : List ℕ). set u v.0 ys) whole ∙ set-get_or u v.0 [])
 
 module _ {P : Type 0} (scope : P → List VarId) (cut : P → Sets → Option Sets) (lawful : (p : P) → Lawful (scope p) (cut p)) where
   abbrev pub AllKnown : List P → Sets → Type 0
@@ -66,7 +66,7 @@ module _ {P : Type 0} (scope : P → List VarId) (cut : P → Sets → Option Se
     below_cut b1 u c e is le below fu stable =
         subst (BelowOption (Some u)) is
         (subst (λ (x : Option Sets). BelowOption x (d f)) (h.passes b b1 u k full fu e below)
-            (h.lawful.monotone u f known_end fu top.full (top.greatest u (Below-trans u b1 b below le) fu stable)))
+        (h.lawful.monotone u f known_end fu top.full (top.greatest u (Below-trans u b1 b below le) fu stable)))
 
     -- **the end of the cut end is the end of the cut box**
     pub fix_child : option_and_then (fix_of cut ps) (d f) ≡ option_and_then (fix_of cut ps) (d b)
@@ -83,7 +83,7 @@ module _ {P : Type 0} (scope : P → List VarId) (cut : P → Sets → Option Se
         by (Some f1) (Some b1) is is' le hc he =
             let known1 = known_long scope cut lawful ps b b1 he.0.long known in
             fix_between scope cut lawful ps f1 b1 known1 hc.1 he.1 le
-                (under (fix_of cut ps b1) (fix_greatest scope cut lawful ps b1 known1 he.1))
+            (under (fix_of cut ps b1) (fix_greatest scope cut lawful ps b1 known1 he.1))
           where
             under : (r : Option Sets) → IsFixOf cut ps b1 r → BelowOption r (Some f1)
             under None g = tt
@@ -95,7 +95,7 @@ module _ {P : Type 0} (scope : P → List VarId) (cut : P → Sets → Option Se
   fix_part_fails ps b b1 known full full1 le e =
       let none : IsFixOf cut ps b None = subst (IsFixOf cut ps b) e (fix_greatest scope cut lawful ps b known full) in
       order_free scope cut lawful ps b1 None (known_long scope cut lawful ps b b1 le.long known) full1
-          (λ u below. none u (Below-trans u b1 b below le))
+      (λ u below. none u (Below-trans u b1 b below le))
 
   -- the end of a weaker list is as good a start as the box, as where a limit was larger
   pub fix_weaker : (ps qs : List P) (s f : Sets) → AllKnown ps s → AllKnown qs s → NoneEmpty s
@@ -103,7 +103,7 @@ module _ {P : Type 0} (scope : P → List VarId) (cut : P → Sets → Option Se
   fix_weaker ps qs s f known_ps known_qs full weak e =
       let g : IsGreatest cut ps s f = subst (IsFixOf cut ps s) e (fix_greatest scope cut lawful ps s known_ps full) in
       fix_between scope cut lawful qs f s known_qs g.full full g.below
-          (under g (fix_of cut qs s) (fix_greatest scope cut lawful qs s known_qs full))
+      (under g (fix_of cut qs s) (fix_greatest scope cut lawful qs s known_qs full))
     where
       under : IsGreatest cut ps s f → (c : Option Sets) → IsFixOf cut qs s c → BelowOption c (Some f)
       under g None h = tt
@@ -115,7 +115,7 @@ module _ {P : Type 0} (scope : P → List VarId) (cut : P → Sets → Option Se
   fix_meet ps r f b m known fr fb fm e le mb common =
       let known_b = known_long scope cut lawful ps r b le.long known in
       fix_between scope cut lawful ps m b known_b fm fb mb (by (fix_of cut ps b) (fix_greatest scope cut lawful ps b known_b fb)
-          (subst (IsFixOf cut ps r) e (fix_greatest scope cut lawful ps r known fr)))
+      (subst (IsFixOf cut ps r) e (fix_greatest scope cut lawful ps r known fr)))
     where
       by : (c : Option Sets) → IsFixOf cut ps b c → IsGreatest cut ps r f → BelowOption c (Some m)
       by None g there = tt

@@ -62,14 +62,14 @@ module _ (vs : List VarId) (t : List ℕ → Bool) (looks : (x y : List ℕ) →
       where
         by : (s u : Sets) (v : ℕ) (x : List ℕ) → HasVars vs s → NoneEmpty s → (length vs ≡ 0 → (y : List ℕ) → t y ≡ true)
             → All (λ w. w.0 ≢ v → length (set_at s w.0) ≡ 1) vs → IsIn x u → (c : Option Sets)
-                → MatchOption c ⊤ (λ m. Below m s × NoneEmpty m)
+            → MatchOption c ⊤ (λ m. Below m s × NoneEmpty m)
             → option_and_then (last_cut vs t) c ≡ Some u → t x ≡ true
         by s u v x k full grounded one inside None h is = absurd (cc is)
         by s u v x k full grounded one inside (Some m) h is =
             let km : HasVars vs m = λ i d lt. rw h.0.long (k i d lt) in
             last_forward vs t looks m u v x ascend (λ none. grounded none x) km h.1
             (λ i d lt ne. ap length (single_below m s (get_or vs i d).0 h.0 (h.1 (get_or vs i d).0 (km i d lt)) (one i d lt ne))
-                ∙ one i d lt ne) is inside
+            ∙ one i d lt ne) is inside
 
   -- what stays through both stays through the first
   pub stable_first : (f : Sets → Option Sets) → Lawful vs f → (s : Sets) → HasVars vs s → NoneEmpty s
@@ -81,7 +81,7 @@ module _ (vs : List VarId) (t : List ℕ → Bool) (looks : (x y : List ℕ) →
       by (Some m) h is =
           let km : HasVars vs m = λ i d lt. rw h.0.long (k i d lt) in
           let down : Below s m = (let less = (last_lawful vs t looks).shrinks m km h.1 in
-              (subst (λ (c : Option Sets). MatchOption c ⊤ (λ u. Below u m × NoneEmpty u)) is less).0) in
+          (subst (λ (c : Option Sets). MatchOption c ⊤ (λ u. Below u m × NoneEmpty u)) is less).0) in
           ap (λ (u : Sets). Some u) (Below-same m s h.0 down)
 
 -- a pruning that is the check alone, or some steps and then the check

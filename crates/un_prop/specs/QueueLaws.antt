@@ -18,10 +18,10 @@ pub ready_after : {P : Type 0} (scope : P → List VarId) (cut : P → Sets → 
     → (ps : List P) (vars : ℕ) (table : Sets) (old new : List Bool) (s t : Sets)
     → IsTable scope ps vars table → All (λ p. HasVars (scope p) s) ps → NoneEmpty s → NoneEmpty t → length t ≡ length s
     → ((v : ℕ) → v < length s → (set_at s v ≡ set_at t v) ⊎ AllWait table new v) → Grows old new → IsReady cut ps old s
-        → IsReady cut ps new t
+    → IsReady cut ps new t
 ready_after scope cut lawful ps vars table old new s t tab known fs ft e changed grows ready i d lt rests =
     stable_local (scope (get_or ps i d)) (cut (get_or ps i d)) (lawful (get_or ps i d)) s t (known i d lt) fs ft e agree
-        (ready i d lt (by (waits old i) refl))
+    (ready i d lt (by (waits old i) refl))
   where
     by : (b : Bool) → waits old i ≡ b → waits old i ≡ false
     by true h = absurd (wait_or_not (waits new i) rests (grows i h))

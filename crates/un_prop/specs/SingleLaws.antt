@@ -49,9 +49,9 @@ module _ (scope : List VarId) (holds : List ℕ → Bool) (cut : Sets → Option
       by None is h = is
       by (Some t) is h =
           let met : All (λ (q : Part). q.meets x ≡ true) parts = λ i d lt. forward (get_or parts i d)
-              (i, lt, get_or_default parts i (get_or parts i d) d lt) s t 0 x k (single_full s x single)
+          (i, lt, get_or_default parts i (get_or parts i d) d lt) s t 0 x k (single_full s x single)
           (λ none. absurd (omega (arith, some, none))) (λ j e lt' ne. single_one s x single (get_or (get_or parts i d).vars j e).0
-              (known i d lt j e lt')) is (single_in s t x single h.0 h.1) in
+          (known i d lt j e lt')) is (single_in s t x single h.0 h.1) in
           let yes_all : holds x ≡ true = whole x ∙ meet_all x parts (recursion_from_All _ _ met) in
           absurd (cc (sym fails ∙ yes_all))
 
@@ -61,5 +61,8 @@ module _ (scope : List VarId) (holds : List ℕ → Bool) (cut : Sets → Option
       by : (b : Bool) → holds x ≡ b → holds x ≡ false
       by false e = e
       by true e = absurd (subst (Kept x) none (keeps s x k (single_full s x single)
-          (record { long = single.long; each = λ v lt. subst (λ (xs : List ℕ). has xs (get_or x v 0) ≡ true) (sym (single.each v lt))
-          (has_here (get_or x v 0) []) }) e))
+          (record {
+            long = single.long;
+            each = λ v lt. subst (λ (xs : List ℕ). has xs (get_or x v 0) ≡ true) (sym (single.each v lt))
+                (has_here (get_or x v 0) []);
+          }) e))

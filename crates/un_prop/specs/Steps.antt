@@ -54,9 +54,9 @@ cut_below p q v t s within b imp = by (nat_eq (length (filter p (set_at t v))) 0
       each = λ w. elim (same_or_not w v) [
         | inl e ↦ subst (λ (u : ℕ). set_at (kept p t v) u ≡ filter (has (set_at (kept p t v) u)) (set_at (kept q s v) u)) (sym e)
             (own_at (set_at (kept p t v) v) (filter p (set_at t v)) (set_at (kept q s v) v)
-                (get_or-set_same t v (filter p (set_at t v)) [] there)
-                (subst (λ (xs : List ℕ). filter p (set_at t v) ≡ filter (has (filter p (set_at t v))) xs)
-                (sym (get_or-set_same s v (filter q (set_at s v)) [] within)) own))
+            (get_or-set_same t v (filter p (set_at t v)) [] there)
+            (subst (λ (xs : List ℕ). filter p (set_at t v) ≡ filter (has (filter p (set_at t v))) xs)
+            (sym (get_or-set_same s v (filter q (set_at s v)) [] within)) own))
         | inr ne ↦ own_at (set_at (kept p t v) w) (set_at t w) (set_at (kept q s v) w)
             (get_or-set_other t v w (filter p (set_at t v)) [] ne)
             (subst (λ (xs : List ℕ). set_at t w ≡ filter (has (set_at t w)) xs) (sym (get_or-set_other s v w (filter q (set_at s v)) [] ne))
@@ -107,8 +107,11 @@ cut_shrinks p v s within full = by (nat_eq (length (filter p (set_at s v))) 0) r
     by : (b : Bool) → nat_eq (length (filter p (set_at s v))) 0 ≡ b
         → MatchOption (cond b None (Some (kept p s v))) ⊤ (λ t. Below t s × NoneEmpty t)
     by true e = tt
-    by false e = (kept_below p s v within, kept_full p s v within full
-        (let ne : length (filter p (set_at s v)) ≢ 0 = grind (arith, nat_tests) in omega (arith, ne)))
+    by false e = (
+      kept_below p s v within,
+      kept_full p s v within full
+          (let ne : length (filter p (set_at s v)) ≢ 0 = grind (arith, nat_tests) in omega (arith, ne)),
+    )
 
 pub cut_outside : (p : ℕ → Bool) (v : ℕ) (s : Sets) (w : ℕ) → w ≢ v → MatchOption (cut_by p v s) ⊤ (λ t. set_at t w ≡ set_at s w)
 cut_outside p v s w ne = by (nat_eq (length (filter p (set_at s v))) 0)

@@ -71,7 +71,7 @@ StopsAgree t f places code start Trapped s TrappedAt p = Unit {0}
 StopsAgree t f places code start (Waiting call) s (WaitingFor other) p = call ≡ other
 StopsAgree t f places code start (Running b) s (RunningAt c) p =
     (option_map (λ (block : Block). block.label) (slice_get f.blocks b) ≡ option_map (λ (block : CodeBlock). block.label)
-        (slice_get code.blocks c)) × LiveStand f places b s p
+    (slice_get code.blocks c)) × LiveStand f places b s p
 StopsAgree t f places code start stop s other p = ⊥
 
 -- a run of the source and one of the packets come to the same

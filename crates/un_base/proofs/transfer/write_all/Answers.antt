@@ -15,9 +15,9 @@ loop-at-preserved g c =
       paced = paces_on c.loop-at.at c.in-Ok.count _ _ _ _ _ _ c.loop-at-test.true (omega (arith, c.in-Ok.ensures.bound, long))
           c.in-Ok.ensures.call
           (λ stuck. cc (c.in-Ok.ensures.full stuck (omega (arith, long, c.loop-at-test.true)))) _ _ c.loop-at.invariant.same_piece
-              c.loop-at.invariant.paced
+          c.loop-at.invariant.paced
           (subst (λ (m : ℕ). IfSome (g.K.Sink.piece c.loop-at.sink)
-              (λ p. (min m p ≤ c.in-Ok.count) ⊎ (g.K.Sink.is_full c.write.new.self ≡ true))) long c.in-Ok.ensures.paced);
+          (λ p. (min m p ≤ c.in-Ok.count) ⊎ (g.K.Sink.is_full c.write.new.self ≡ true))) long c.in-Ok.ensures.paced);
     }
 
 pub returns-in-Ok-eq0-clause-prefix : goal.returns-in-Ok-eq0-clause-prefix

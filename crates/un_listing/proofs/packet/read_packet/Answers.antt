@@ -21,7 +21,7 @@ returns-then-not-branch-clause-whole c = λ p h.
     let found : instrs_in (parts_of c.args.line.now) ≡ Some c.in-Some.instrs = search rules in
     let same : p.instrs ≡ c.in-Some.instrs = cc (e, found) in
     let here : IsPacketLine c.args.frame c.args.line.now (record { instrs = c.in-Some.instrs }) =
-        subst (λ (is : List Instr). IsPacketLine c.args.frame c.args.line.now (record { instrs = is })) same h in
+    subst (λ (is : List Instr). IsPacketLine c.args.frame c.args.line.now (record { instrs = is })) same h in
     elim c.then-not-branch.branch [
       | then-not-branch-via-then-not-branch w ↦ (let t = c.in_ok-is_good_packet.ensures.1 here.packet.rules in
           absurd (cc (t, w.if-not-branch.true)))

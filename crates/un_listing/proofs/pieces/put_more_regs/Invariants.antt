@@ -7,4 +7,4 @@ use Rattle.un_listing.proofs.pieces.put_more_regs.Given as goal
 abbrev pub invariant-loop-reg : goal.invariant-loop-reg
 invariant-loop-reg l =
     l.out.items ++ flat_map (λ r. codes "," ++ reg_text r) (drop l.reg-index l.regs) ≡ l.initial.out.items ++
-        flat_map (λ r. codes "," ++ reg_text r) l.regs
+    flat_map (λ r. codes "," ++ reg_text r) l.regs

@@ -7,4 +7,4 @@ use Rattle.un_listing.proofs.print.put_more_instrs.Given as goal
 abbrev pub invariant-loop-instr : goal.invariant-loop-instr
 invariant-loop-instr l =
     l.out.items ++ flat_map (λ i. codes "; " ++ instr_text i) (drop l.instr-index l.instrs) ≡ l.initial.out.items ++
-        flat_map (λ i. codes "; " ++ instr_text i) l.instrs
+    flat_map (λ i. codes "; " ++ instr_text i) l.instrs

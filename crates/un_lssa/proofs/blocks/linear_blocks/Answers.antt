@@ -8,7 +8,7 @@ pub linear_block-requires-clause-fit : goal.linear_block-requires-clause-fit
 linear_block-requires-clause-fit c =
     let l = c.loop-b in
     next_below c.args.t.now c.args.live.now.at_start l.b l.n (2 ^ 32) c.args.blocks.now c.index-blocks-b.result c.loop-b-test.true
-        c.index-blocks-b.is l.invariant.past c.requires.fit
+    c.index-blocks-b.is l.invariant.past c.requires.fit
 
 pub loop-b-preserved : goal.loop-b-preserved
 loop-b-preserved c =
@@ -24,8 +24,8 @@ loop-b-preserved c =
           c.in_ok-block.ensures.next;
       made =
           subst (λ (xs : List ExtBlock). xs ++ linear_blocks t c.args.names lists (l.b + 1) made.next (drop (l.b + 1) blocks) ≡ whole)
-              (sym c.in_ok-push.ensures.ok)
+          (sym c.in_ok-push.ensures.ok)
           (blocks_more t c.args.names lists l.b l.n made.next blocks own l.made whole made.block c.loop-b-test.true c.index-blocks-b.is
-              l.invariant.made
+          l.invariant.made
           c.in_ok-block.ensures.block c.in_ok-block.ensures.next);
     }

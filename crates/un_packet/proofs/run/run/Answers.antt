@@ -23,5 +23,5 @@ loop-i-preserved c =
 pub returns : goal.returns
 returns c =
     run_left c.args.machine.now.table c.args.c.now.blocks c.as_slice.result.now c.args.n c.loop-i._i c.block.result c.loop-i.machine
-        c.index-as_slice-block.result _ _ _ c.loop-i-test.false c.loop-i.invariant.rest c.as_slice.ensures c.block.ensures
+    c.index-as_slice-block.result _ _ _ c.loop-i-test.false c.loop-i.invariant.rest c.as_slice.ensures c.block.ensures
     c.loop-i.invariant.block c.index-as_slice-block.is (ap (λ (b : CodeBlock). b.label) (sym c.index-as_slice-block.is)) c.new.ensures

@@ -60,12 +60,17 @@ step-requires-2-clause-place c = c.loop-place.invariant.inside
 pub returns-clause-run : goal.returns-clause-run
 returns-clause-run c =
     let long : length c.index-as_slice-block.result.packets ≤ c.loop-place.machine.place + 1 =
-        omega (arith, c.len-packets.ensures, ap (λ (b : CodeBlock). length b.packets) c.index-as_slice-block.is, c.loop-place-test.false,
-        c.loop-place.invariant.place) in
+    omega (
+      arith,
+      c.len-packets.ensures,
+      ap (λ (b : CodeBlock). length b.packets) c.index-as_slice-block.is,
+      c.loop-place-test.false,
+      c.loop-place.invariant.place,
+    ) in
     finished c.args.c.now c.args.machine.now c.loop-place.machine c.step-2.new.self c.step-2.result c.loop-place.invariant.half
-        c.step-2.ensures.step
+    c.step-2.ensures.step
     (counted c.args.c.now c.args.machine.now c.as_slice.result.now c.block.result (c.loop-place.machine.place + 1)
-        c.index-as_slice-block.result c.as_slice.ensures c.block.ensures c.requires.block c.index-as_slice-block.is long)
+    c.index-as_slice-block.result c.as_slice.ensures c.block.ensures c.requires.block c.index-as_slice-block.is long)
 
 pub returns-clause-counter : goal.returns-clause-counter
 returns-clause-counter c = let small = place_small c.args.c.now c.loop-place.machine c.loop-place.invariant.inside in

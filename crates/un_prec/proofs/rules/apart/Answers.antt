@@ -39,8 +39,15 @@ returns-then-low-high-clause-step c =
     let s = w.store.now in
     let l = c.args.link in
     let near : least (at_set l.from s.sets) + l.gap ≤ greatest (at_set l.to s.sets) =
-        omega (arith, c.from-least.ensures, c.from-gap.ensures, c.least_time.ensures, c.from-high.ensures, c.greatest_time.ensures,
-        c.if-low-high.true) in
+    omega (
+      arith,
+      c.from-least.ensures,
+      c.from-gap.ensures,
+      c.least_time.ensures,
+      c.from-high.ensures,
+      c.greatest_time.ensures,
+      c.if-low-high.true,
+    ) in
     stepped_same vs (first_cut (apart_test l) vs) s c.args.before (λ live. first_all (apart_test l) vs s.sets c.requires.known live
     (λ y. apart_near l s.sets y near))
 
@@ -51,7 +58,14 @@ returns-clause-step c =
     let s = w.store.now in
     let l = c.args.link in
     let far : greatest (at_set l.to s.sets) < least (at_set l.from s.sets) + l.gap =
-        omega (arith, c.from-least.ensures, c.from-gap.ensures, c.least_time.ensures, c.from-high.ensures, c.greatest_time.ensures,
-        c.if-low-high.false) in
+    omega (
+      arith,
+      c.from-least.ensures,
+      c.from-gap.ensures,
+      c.least_time.ensures,
+      c.from-high.ensures,
+      c.greatest_time.ensures,
+      c.if-low-high.false,
+    ) in
     stepped_by vs (first_cut (apart_test l) vs) (fail_cut vs) s c.fail.new.w.store.now c.args.before c.fail.result
     (λ live. first_fails (apart_test l) vs s.sets (λ y. apart_far l s.sets y (sym c.if-not-are_sure.ensures) far)) c.fail.ensures.step

@@ -20,7 +20,7 @@ returns-then-not-are_sure-clause-step c =
     let w = c.args.w.now in
     let l = c.args.link in
     stepped_same w.vars.now (at_cut (close_test l) l.from) w.store.now c.args.before
-        (λ live. at_same w.vars.now (close_test l) l.from w.store.now.sets c.requires.vars.of_from c.requires.known live
+    (λ live. at_same w.vars.now (close_test l) l.from w.store.now.sets c.requires.vars.of_from c.requires.known live
     (λ y. not_sure (both_sure l w.store.now.sets) _ (sym c.if-not-are_sure.ensures)))
 
 pub least_time-low-requires-clause-known : goal.least_time-low-requires-clause-known
@@ -42,9 +42,9 @@ returns-then-low-link-clause-step c =
     let w = c.args.w.now in
     let l = c.args.link in
     stepped_same w.vars.now (at_cut (close_test l) l.from) w.store.now c.args.before
-        (λ live. at_same w.vars.now (close_test l) l.from w.store.now.sets c.requires.vars.of_from c.requires.known live
+    (λ live. at_same w.vars.now (close_test l) l.from w.store.now.sets c.requires.vars.of_from c.requires.known live
     (λ y. close_all l w.store.now.sets c.least_time-low.result y (sym c.if-not-are_sure.ensures) c.least_time-low.ensures
-        c.if-low-link.true))
+    c.if-low-link.true))
 
 pub returns-else-low-link-clause-step : goal.returns-else-low-link-clause-step
 returns-else-low-link-clause-step c =
@@ -53,8 +53,8 @@ returns-else-low-link-clause-step c =
     let v = c.in-Var.v in
     let below = c.least_time-low.result - l.gap - 1 in
     stepped_by w.vars.now (at_cut (close_test l) l.from) (cut_by (λ y. nat_lt below y) v.0) w.store.now c.keep_gt.new.w.store.now
-        c.args.before c.keep_gt.result
+    c.args.before c.keep_gt.result
     (λ live. at_is (close_test l) (λ y. nat_lt below y) l.from v w.store.now.sets c.in-Var.is
-        (λ y. close_is l w.store.now.sets c.least_time-low.result below y (sym c.if-not-are_sure.ensures) c.least_time-low.ensures
-        c.if-low-link.false refl))
+    (λ y. close_is l w.store.now.sets c.least_time-low.result below y (sym c.if-not-are_sure.ensures) c.least_time-low.ensures
+    c.if-low-link.false refl))
     c.keep_gt.ensures.step

@@ -22,7 +22,7 @@ returns-then-not-are_sure-clause-step c =
     let s = w.store.now in
     let l = c.args.link in
     stepped_same vs (at_cut (earlier_test l) l.from) s c.args.before
-        (λ live. at_same vs (earlier_test l) l.from s.sets c.requires.vars.of_from c.requires.known live
+    (λ live. at_same vs (earlier_test l) l.from s.sets c.requires.vars.of_from c.requires.known live
     (λ y. not_sure (both_sure l s.sets) _ (sym c.if-not-are_sure.ensures)))
 
 pub greatest_time-requires-clause-known : goal.greatest_time-requires-clause-known
@@ -48,9 +48,9 @@ returns-in-Var-clause-step c =
     let v = c.in-Var.v in
     let high = c.saturating_sub-high.result in
     let is : high ≡ greatest (at_set l.to s.sets) - l.gap = c.saturating_sub-high.ensures
-        ∙ ap (λ (n : ℕ). n - l.gap) c.greatest_time.ensures in
+    ∙ ap (λ (n : ℕ). n - l.gap) c.greatest_time.ensures in
     stepped_by vs (at_cut (earlier_test l) l.from) (cut_by (λ y. nat_le y high) v.0) s c.keep_le.new.w.store.now c.args.before
-        c.keep_le.result
+    c.keep_le.result
     (λ live. at_is (earlier_test l) (λ y. nat_le y high) l.from v s.sets c.in-Var.is
-        (λ y. is_sure_or (both_sure l s.sets) _ (sym c.if-not-are_sure.ensures) ∙ ap (λ (n : ℕ). nat_le y n) (sym is)))
+    (λ y. is_sure_or (both_sure l s.sets) _ (sym c.if-not-are_sure.ensures) ∙ ap (λ (n : ℕ). nat_le y n) (sym is)))
     c.keep_le.ensures.step

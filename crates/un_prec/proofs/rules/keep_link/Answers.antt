@@ -45,10 +45,10 @@ returns-clause-step c =
     let a = c.apart-first.result in
     let b = c.later-second.result in
     let step2 = subst (λ (us : List VarId). Stepped us (at_cut (later_test l) l.to) s1 s2 a b) (ap (λ r. r.now) c.apart-first.ensures.vars)
-        c.later-second.ensures.step in
+    c.later-second.ensures.step in
     let step3 = subst (λ (us : List VarId). Stepped us (at_cut (earlier_test l) l.from) s2 s3 b c.earlier.result)
-        (ap (λ r. r.now) (c.later-second.ensures.vars ∙ c.apart-first.ensures.vars)) c.earlier.ensures.step in
+    (ap (λ r. r.now) (c.later-second.ensures.vars ∙ c.apart-first.ensures.vars)) c.earlier.ensures.step in
     stepped_chain vs (λ s. option_and_then (at_cut (later_test l) l.to) (first_cut (apart_test l) vs s)) (at_cut (earlier_test l) l.from) s0
-        s2 s3 c.args.before b c.earlier.result
+    s2 s3 c.args.before b c.earlier.result
     (stepped_chain vs (first_cut (apart_test l) vs) (at_cut (later_test l) l.to) s0 s1 s2 c.args.before a b c.apart-first.ensures.step
-        step2) step3
+    step2) step3

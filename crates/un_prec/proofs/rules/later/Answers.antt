@@ -22,7 +22,7 @@ returns-then-not-are_sure-clause-step c =
     let s = w.store.now in
     let l = c.args.link in
     stepped_same vs (at_cut (later_test l) l.to) s c.args.before (λ live. at_same vs (later_test l) l.to s.sets c.requires.vars.of_to
-        c.requires.known live
+    c.requires.known live
     (λ y. not_sure (both_sure l s.sets) _ (sym c.if-not-are_sure.ensures)))
 
 pub least_time-requires-clause-known : goal.least_time-requires-clause-known
@@ -46,9 +46,9 @@ returns-then-low-eq0-clause-step c =
     let s = w.store.now in
     let l = c.args.link in
     let low : c.from-least.result + c.from-gap.result ≡ least (at_set l.from s.sets) + l.gap =
-        omega (arith, c.from-least.ensures, c.from-gap.ensures, c.least_time.ensures) in
+    omega (arith, c.from-least.ensures, c.from-gap.ensures, c.least_time.ensures) in
     stepped_same vs (at_cut (later_test l) l.to) s c.args.before (λ live. at_same vs (later_test l) l.to s.sets c.requires.vars.of_to
-        c.requires.known live
+    c.requires.known live
     (λ y. later_zero l s.sets (c.from-least.result + c.from-gap.result) y (sym c.if-not-are_sure.ensures) low c.if-low-eq0.true))
 
 pub returns-else-low-eq0-clause-step : goal.returns-else-low-eq0-clause-step
@@ -59,11 +59,11 @@ returns-else-low-eq0-clause-step c =
     let l = c.args.link in
     let v = c.in-Var.v in
     let low : c.from-least.result + c.from-gap.result ≡ least (at_set l.from s.sets) + l.gap =
-        omega (arith, c.from-least.ensures, c.from-gap.ensures, c.least_time.ensures) in
+    omega (arith, c.from-least.ensures, c.from-gap.ensures, c.least_time.ensures) in
     let below = c.min-below.result in
     let is : below ≡ min (c.from-least.result + c.from-gap.result - 1) (2 ^ 32 - 1) = omega (arith, c.min-below.ensures, c.from.ensures) in
     stepped_by vs (at_cut (later_test l) l.to) (cut_by (λ y. nat_lt below y) v.0) s c.keep_gt.new.w.store.now c.args.before c.keep_gt.result
     (λ live. at_is (later_test l) (λ y. nat_lt below y) l.to v s.sets c.in-Var.is
-        (λ y. later_is l s.sets (c.from-least.result + c.from-gap.result) below y (sym c.if-not-are_sure.ensures) low c.if-low-eq0.false
-        is))
+    (λ y. later_is l s.sets (c.from-least.result + c.from-gap.result) below y (sym c.if-not-are_sure.ensures) low c.if-low-eq0.false
+    is))
     c.keep_gt.ensures.step

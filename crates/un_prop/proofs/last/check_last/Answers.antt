@@ -30,9 +30,9 @@ returns-in-Some-clause-goes g c =
     let new = c.try_all-did.new.w.store.now in
     let v = c.in-Some.v in
     let is : last_of (P.scope p) s.sets ≡ Some v = ap (λ (us : List VarId). last_of us s.sets) (sym c.reads.ensures)
-        ∙ sym c.in-Some.ensures in
+    ∙ sym c.in-Some.ensures in
     let cut = λ (u : Sets). last_cut (P.scope p) (P.holds p) u in
     subst (λ (a : Pruned). Goes vs cut s new c.args.before a) (sym c.joined.ensures)
     (goes_then vs cut s new c.args.before c.try_all-did.result (λ e. let h = rw e at c.if-eq.ensures in cc h)
     (λ live. let done = subst (λ (o : Option Sets). IsPrune vs o s new c.try_all-did.result) (sym (ap (last_cut_at (P.holds p) s.sets) is))
-        c.try_all-did.ensures.prune in (done.ends, done.untouched)))
+    c.try_all-did.ensures.prune in (done.ends, done.untouched)))

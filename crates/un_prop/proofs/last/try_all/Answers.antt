@@ -28,7 +28,7 @@ loop-y-init g c =
     record {
       prune = subst (λ (n : ℕ). IsPrune vs (cut_by (λ z. nat_le n z || q z) v.0 s.sets) s s Same) (sym from)
           (subst (λ (o : Option Sets). IsPrune vs o s s Same) (sym
-              (try_first (P.scope p) (P.holds p) looks s.sets v q within c.requires.live)) (starts vs s c.requires.live));
+          (try_first (P.scope p) (P.holds p) looks s.sets v q within c.requires.live)) (starts vs s c.requires.live));
       written = λ i d lt ne. c.requires.written i d lt;
       same_reference = refl;
       vars = refl;
@@ -52,10 +52,10 @@ loop-y-preserved g c =
     let now = cut_by (λ z. nat_le y z || q z) v.0 s.sets in
     let step = did.ensures.goes now s (subst (λ (us : List VarId). IsPrune us now s c.loop-y.w.store.now c.loop-y.did) (sym e) inv.prune) in
     let is : tried ≡ q y = same_tried (P.scope p) (P.holds p) looks s.sets v y c.loop-y.fixed c.requires.known within
-        (omega (arith, within, c.requires.room, c.loop-y.auto.fixed)) inv.written in
+    (omega (arith, within, c.requires.room, c.loop-y.auto.fixed)) inv.written in
     let next : option_and_then (cut_by (λ z. not (nat_eq z y) || tried) v.0) now ≡ cut_by (λ z. nat_le (y + 1) z || q z) v.0 s.sets =
     ap (λ (b : Bool). option_and_then (cut_by (λ z. not (nat_eq z y) || b) v.0) now) is
-        ∙ try_next (P.scope p) (P.holds p) looks s.sets v y q within in
+    ∙ try_next (P.scope p) (P.holds p) looks s.sets v y q within in
     record {
       prune = subst (λ (o : Option Sets). IsPrune vs o s did.new.w.store.now did.result) next
           (subst (λ (us : List VarId). IsPrune us (option_and_then (cut_by (λ z. not (nat_eq z y) || tried) v.0) now) s did.new.w.store.now
@@ -77,4 +77,4 @@ returns-clause-prune g c =
     let within = has_var (P.scope p) v s.sets c.requires.lent c.requires.known in
     let high : greatest (set_at s.sets v.0) < c.loop-y.y = omega (arith, c.loop-y-test.false, c.from-end.ensures, c.max.ensures) in
     subst (λ (o : Option Sets). IsPrune vs o s c.loop-y.w.store.now c.loop-y.did)
-        (try_last (P.scope p) (P.holds p) looks s.sets v q c.loop-y.y high) c.loop-y.invariant.prune
+    (try_last (P.scope p) (P.holds p) looks s.sets v q c.loop-y.y high) c.loop-y.invariant.prune

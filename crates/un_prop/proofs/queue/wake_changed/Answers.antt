@@ -10,8 +10,11 @@ use Rattle.un_prop.proofs.queue.wake_changed.Goals.{then-size-sizes, else-size-s
 pub wake-requires : goal.wake-requires
 wake-requires c i h =
     let at = (get_or c.args.vars.now c.loop-v.v-index (record { 0 = 0 })).0 in
-    let there : at < length c.args.table.now = omega (arith, c.requires.known c.loop-v.v-index (record { 0 = 0 }) c.loop-v-test.true,
-        c.requires.table) in
+    let there : at < length c.args.table.now = omega (
+      arith,
+      c.requires.known c.loop-v.v-index (record { 0 = 0 }) c.loop-v-test.true,
+      c.requires.table,
+    ) in
     let row = row_at c.args.table.now at c.index-table-at.result there c.index-table-at.is in
     let here = c.requires.within at i (subst (λ xs. has xs i ≡ true) (c.as_slice.ensures ∙ row) h) in
     omega (arith, here, c.loop-v.invariant.flags)
@@ -23,7 +26,7 @@ loop-v-preserved c =
     let at = (get_or vars k (record { 0 = 0 })).0 in
     let known : at < length c.args.store.now.sets = c.requires.known k (record { 0 = 0 }) c.loop-v-test.true in
     let is : (d : VarId) → (get_or vars k d).0 ≡ at = λ d. (let e = get_or_default vars k d (record { 0 = 0 }) c.loop-v-test.true in
-        subst (λ (v : VarId). (get_or vars k d).0 ≡ v.0) e refl) in
+    subst (λ (v : VarId). (get_or vars k d).0 ≡ v.0) e refl) in
     let inv = c.loop-v.invariant in
     let within : at < length c.loop-v.sizes = omega (arith, known, inv.long, c.requires.sizes) in
     elim c.if-size-sizes.branch [
@@ -31,7 +34,7 @@ loop-v-preserved c =
           let there : at < length c.args.table.now = omega (arith, known, c.requires.table) in
           let row = row_at c.args.table.now at w.index-table-at.result there w.index-table-at.is in
           let all : AllWait c.args.table.now w.wake.new.waiting at =
-              λ i h. w.wake.ensures.there i (subst (λ xs. has xs i ≡ true) (sym (w.as_slice.ensures ∙ row)) h) in
+          λ i h. w.wake.ensures.there i (subst (λ xs. has xs i ≡ true) (sym (w.as_slice.ensures ∙ row)) h) in
           rw (w.sizes-is, w.waiting-is) (record {
             long = length-set c.loop-v.sizes at _ ∙ inv.long;
             flags = w.wake.ensures.flags ∙ inv.flags;

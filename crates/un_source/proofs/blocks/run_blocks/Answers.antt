@@ -11,7 +11,7 @@ pub pass-requires-clause-ops : goal.pass-requires-clause-ops
 pass-requires-clause-ops c =
     let block = c.index-blocks-b.result in
     let here = slice_get_read c.args.blocks.now (length c.args.blocks.now) c.loop-i.b block refl c.loop-i.invariant.place
-        c.index-blocks-b.is in
+    c.index-blocks-b.is in
     c.requires.ops c.loop-i.b block here
 
 pub returns-in-Ended : goal.returns-in-Ended

@@ -12,4 +12,4 @@ loop-part-preserved g c = record {
 pub returns-in-Err-clause-prefix : goal.returns-in-Err-clause-prefix
 returns-in-Err-clause-prefix g c =
     prefix_of_parts _ _ _ c.args.parts.now c.loop-part.part-index (record { ref_ptr = (0, 0); now = [] }) c.loop-part-test.true
-        c.loop-part.invariant.front c.in-Err.ensures.prefix
+    c.loop-part.invariant.front c.in-Err.ensures.prefix

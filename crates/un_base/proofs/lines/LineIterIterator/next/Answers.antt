@@ -9,5 +9,9 @@ returns-clause-steps c = rw (c.after-self.ensures, c.line_end-end.ensures.end)
 pub returns-clause-goes : goal.returns-clause-goes
 returns-clause-goes c =
     let first = lines_of-first c.args.self.now.rest.now (sym c.is_empty.ensures ∙ c.if-is_empty.false) in
-    record { on = λ _. (tt, tt, rw (c.after-self.ensures, c.line_end-end.ensures.end) (omega (arith, ap length first))); keeps = tt; rests =
-        λ _. tt }
+    record {
+      on = λ _. (tt, tt, rw (c.after-self.ensures, c.line_end-end.ensures.end) (omega (arith, ap length first)));
+      keeps = tt;
+      rests =
+          λ _. tt;
+    }

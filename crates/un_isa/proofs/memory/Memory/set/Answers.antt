@@ -12,13 +12,13 @@ put searched words new same memory a v i at write =
 pub invariant_of-self : goal.invariant_of-self
 invariant_of-self c =
     let e = put _ c.self.inside.words c.set.new.self c.as_slice.ensures c.self.invariant c.args.address c.args.word _ c.in-Ok.ensures.found
-        c.set.ensures in
+    c.set.ensures in
     rw e (still_memory c.args.address c.args.word c.self.inside.words ∙ c.self.invariant)
 
 pub returns-in-Ok : goal.returns-in-Ok
 returns-in-Ok c =
     let e = put _ c.self.inside.words c.set.new.self c.as_slice.ensures c.self.invariant c.args.address c.args.word _ c.in-Ok.ensures.found
-        c.set.ensures in
+    c.set.ensures in
     e ∙ rw c.self.view_is refl
 
 -- the address is not there

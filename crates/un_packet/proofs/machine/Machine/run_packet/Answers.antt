@@ -15,7 +15,7 @@ invariant_of-self c = (
 pub invariant_of-self-in-Went : goal.invariant_of-self-in-Went
 invariant_of-self-in-Went c =
     let used = subst (λ (p : Passed). UsesReplies p (calls_in c.args.packet.now) c.self.inside.state.replies c.pass-passed.new.self.replies)
-        c.in-Went.is c.pass-passed.ensures.replies in (
+    c.in-Went.is c.pass-passed.ensures.replies in (
       c.self.invariant.0,
       subst (λ (n : ℕ). All (IsSpare n) c.take_spare-spare.new.spares.items) (sym c.pass-passed.ensures.words)
           (c.take_spare-spare.ensures.rest (length c.self.inside.state.memory) c.self.invariant.1),
@@ -25,7 +25,7 @@ invariant_of-self-in-Went c =
 pub invariant_of-self-in-Jumped : goal.invariant_of-self-in-Jumped
 invariant_of-self-in-Jumped c =
     let used = subst (λ (p : Passed). UsesReplies p (calls_in c.args.packet.now) c.self.inside.state.replies c.pass-passed.new.self.replies)
-        c.in-Jumped.is c.pass-passed.ensures.replies in (
+    c.in-Jumped.is c.pass-passed.ensures.replies in (
       c.self.invariant.0,
       subst (λ (n : ℕ). All (IsSpare n) c.take_spare-spare.new.spares.items) (sym c.pass-passed.ensures.words)
           (c.take_spare-spare.ensures.rest (length c.self.inside.state.memory) c.self.invariant.1),

@@ -17,7 +17,7 @@ overflow_add-block c =
     let old = c.args.self.now in
     let b = c.index-blocks-block.result in
     let at = at_block code _ old c.as_slice-blocks.result.now b c.self.view_is c.requires.place c.as_slice-blocks.ensures
-        c.index-blocks-block.is in
+    c.index-blocks-block.is in
     let below = slice_get_within code.blocks old.block b at in
     let few = few_blocks code.frame code.blocks code.rules in
     let block = ap (λ (m : MachineState). m.block) c.self.view_is in
@@ -29,9 +29,9 @@ returns-then-place-packets-clause-step c =
     let old = c.args.self.now in
     let b = c.index-blocks-block.result in
     let at = at_block code _ old c.as_slice-blocks.result.now b c.self.view_is c.requires.place c.as_slice-blocks.ensures
-        c.index-blocks-block.is in
+    c.index-blocks-block.is in
     empty_told code _ old c.leave.new.self c.leave.result b _ c.as_slice-packets.result.now c.self.view_is c.index-blocks-block.is at
-        c.as_slice-packets.ensures c.if-place-packets.true
+    c.as_slice-packets.ensures c.if-place-packets.true
     c.leave.ensures.left c.leave.ensures.new
 
 pub run_packet-requires-clause-runnable : goal.run_packet-requires-clause-runnable
@@ -40,13 +40,13 @@ run_packet-requires-clause-runnable c =
     let old = c.args.self.now in
     let b = c.index-blocks-block.result in
     let at = at_block code _ old c.as_slice-blocks.result.now b c.self.view_is c.requires.place c.as_slice-blocks.ensures
-        c.index-blocks-block.is in
+    c.index-blocks-block.is in
     let p = c.index-packets-place.result in
     let inside = at_packet b _ c.as_slice-packets.result.now _ old p c.self.view_is c.index-blocks-block.is c.as_slice-packets.ensures
-        c.if-place-packets.false c.index-packets-place.is in
+    c.if-place-packets.false c.index-packets-place.is in
     let instrs = c.as_slice.ensures ∙ ap (λ (x : Packet). x.instrs) (sym c.index-packets-place.is) in
     subst AreRunnable (sym instrs) (runs code.frame code.blocks code.rules old.block old.place b p at
-        (slice_get_within code.blocks old.block b at) inside)
+    (slice_get_within code.blocks old.block b at) inside)
 
 pub go_on-requires-clause-block : goal.go_on-requires-clause-block
 go_on-requires-clause-block c =
@@ -54,7 +54,7 @@ go_on-requires-clause-block c =
     let old = c.args.self.now in
     let b = c.index-blocks-block.result in
     let at = at_block code _ old c.as_slice-blocks.result.now b c.self.view_is c.requires.place c.as_slice-blocks.ensures
-        c.index-blocks-block.is in
+    c.index-blocks-block.is in
     let below = slice_get_within code.blocks old.block b at in
     let few = few_blocks code.frame code.blocks code.rules in
     let same = ap (λ (m : MachineState). m.block) c.in-Went.ensures.stands in
@@ -73,17 +73,17 @@ returns-in-Went-clause-step c =
     let old = c.args.self.now in
     let b = c.index-blocks-block.result in
     let at = at_block code _ old c.as_slice-blocks.result.now b c.self.view_is c.requires.place c.as_slice-blocks.ensures
-        c.index-blocks-block.is in
+    c.index-blocks-block.is in
     let p = c.index-packets-place.result in
     let inside = at_packet b _ c.as_slice-packets.result.now _ old p c.self.view_is c.index-blocks-block.is c.as_slice-packets.ensures
-        c.if-place-packets.false c.index-packets-place.is in
+    c.if-place-packets.false c.index-packets-place.is in
     let instrs = c.as_slice.ensures ∙ ap (λ (x : Packet). x.instrs) (sym c.index-packets-place.is) in
     let step = ap (λ (is : List Instr). packet_step old.table is old.state) (sym instrs) ∙ c.in-Went.ensures.passed in
     let all : c.as_slice-packets.result.now ≡ b.packets = c.as_slice-packets.ensures
-        ∙ ap (λ (x : CodeBlock). x.packets) (sym c.index-blocks-block.is) in
+    ∙ ap (λ (x : CodeBlock). x.packets) (sym c.index-blocks-block.is) in
     one_step code old c.go_on.new.self c.go_on.result b p at inside (
     went_step code.blocks (length b.packets) old c.run_packet.new.self c.go_on.new.self c.go_on.result
-        (packet_step old.table p.instrs old.state) step c.in-Went.ensures.stands
+    (packet_step old.table p.instrs old.state) step c.in-Went.ensures.stands
     (subst (λ (ps : List Packet). IsNext (length ps) c.run_packet.new.self c.go_on.new.self c.go_on.result) all c.go_on.ensures))
 
 pub returns-in-Jumped-clause-step : goal.returns-in-Jumped-clause-step
@@ -92,17 +92,17 @@ returns-in-Jumped-clause-step c =
     let old = c.args.self.now in
     let b = c.index-blocks-block.result in
     let at = at_block code _ old c.as_slice-blocks.result.now b c.self.view_is c.requires.place c.as_slice-blocks.ensures
-        c.index-blocks-block.is in
+    c.index-blocks-block.is in
     let p = c.index-packets-place.result in
     let inside = at_packet b _ c.as_slice-packets.result.now _ old p c.self.view_is c.index-blocks-block.is c.as_slice-packets.ensures
-        c.if-place-packets.false c.index-packets-place.is in
+    c.if-place-packets.false c.index-packets-place.is in
     let instrs = c.as_slice.ensures ∙ ap (λ (x : Packet). x.instrs) (sym c.index-packets-place.is) in
     let step = ap (λ (is : List Instr). packet_step old.table is old.state) (sym instrs) ∙ c.in-Jumped.ensures.passed in
     one_step code old c.leave-in-Jumped.new.self c.leave-in-Jumped.result b p at inside (
     jumped_step code.blocks (length b.packets) old c.run_packet.new.self c.leave-in-Jumped.new.self c.leave-in-Jumped.result
-        (packet_step old.table p.instrs old.state) c.in-Jumped.label c.label_place.result step
+    (packet_step old.table p.instrs old.state) c.in-Jumped.label c.label_place.result step
     c.in-Jumped.ensures.stands (c.label_place.ensures ∙ rw c.as_slice-blocks.ensures refl) c.leave-in-Jumped.ensures.left
-        c.leave-in-Jumped.ensures.new)
+    c.leave-in-Jumped.ensures.new)
 
 pub returns-in-Stopped-clause-step : goal.returns-in-Stopped-clause-step
 returns-in-Stopped-clause-step c =
@@ -110,10 +110,10 @@ returns-in-Stopped-clause-step c =
     let old = c.args.self.now in
     let b = c.index-blocks-block.result in
     let at = at_block code _ old c.as_slice-blocks.result.now b c.self.view_is c.requires.place c.as_slice-blocks.ensures
-        c.index-blocks-block.is in
+    c.index-blocks-block.is in
     let p = c.index-packets-place.result in
     let inside = at_packet b _ c.as_slice-packets.result.now _ old p c.self.view_is c.index-blocks-block.is c.as_slice-packets.ensures
-        c.if-place-packets.false c.index-packets-place.is in
+    c.if-place-packets.false c.index-packets-place.is in
     let instrs = c.as_slice.ensures ∙ ap (λ (x : Packet). x.instrs) (sym c.index-packets-place.is) in
     one_step code old c.run_packet.new.self _ b p at inside (
     stopped_step code.blocks (length b.packets) old c.run_packet.new.self c.in-Stopped.end (packet_step old.table p.instrs old.state)

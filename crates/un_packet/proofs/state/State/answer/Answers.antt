@@ -14,7 +14,7 @@ use Rattle.un_packet.proofs.state.State.answer.Goals as goal
 told : (t : Table) (call : CallRecord) (reply : Reply) (rest : List Reply) (s u : PacketState)
     → u.regs ≡ each_from (replied t reply) 0 s.regs → u.memory ≡ set_words reply.changed s.memory → u.frame ≡ s.frame
     → u.frame_start ≡ s.frame_start → u.calls ≡ s.calls ++ call ∷ [] → u.replies ≡ rest → u.cycle ≡ s.cycle
-        → u.ready ≡ each_from (call_ready t s.cycle) 0 s.ready → u ≡ answered t call reply rest s
+    → u.ready ≡ each_from (call_ready t s.cycle) 0 s.ready → u ≡ answered t call reply rest s
 told t call reply rest s u a b c d e f g h = rw (a, b, c, d, e, f, g, h) refl
 
 pub invariant_of-self : goal.invariant_of-self
