@@ -12,6 +12,7 @@ ghost use Rattle.un_model.specs.Variables.{ops_vars, block_vars, blocks_vars, op
 ghost use Rattle.un_model.specs.Variables.{cycle_domain, choice_domain, result_domain, carries_truth, op_domains, ops_domains};
 ghost use Rattle.un_model.specs.Variables.{block_domains, blocks_domains, own_horizon, IsModel, model_of};
 
+use crate::arcs::arcs;
 use crate::homes::homes;
 use crate::model::{BlockVars, Model, OpVars, Options, TempVars};
 use crate::numbers::{advance, number};
@@ -327,6 +328,7 @@ pub fn build(alloc: Global, e: &Ext, o: &Options) -> Result<Model, NoMemory>
     let mut temps = Items::new(alloc);
     let blocks = add_blocks(alloc, &mut domains, &mut temps, e, o)?;
     let flag = add(&mut domains, Domain::Range { lo: 0, hi: 1 })?;
+    let arcs = arcs(alloc, e, temps.as_slice())?;
     let ext = e.clone()?;
     Ok(Model {
         ext,
@@ -335,5 +337,6 @@ pub fn build(alloc: Global, e: &Ext, o: &Options) -> Result<Model, NoMemory>
         temps,
         blocks,
         flag,
+        arcs,
     })
 }
