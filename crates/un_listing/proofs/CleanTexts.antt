@@ -40,7 +40,7 @@ clean_append a b ha hb = rw (list_all-append is_clean a b, ha, hb) refl
 inner_clean : (b : ℕ) → not (is_between b) ≡ true → is_clean b ≡ true
 inner_clean b h = rw (other_byte (λ b. not (is_between b)) b 59 h refl, other_byte (λ b. not (is_between b)) b 10 h refl) refl
 
-says_clean : (text : List ℕ) (w : Word) → Says text w → IsClean text
+pub says_clean : (text : List ℕ) (w : Word) → Says text w → IsClean text
 says_clean text w says = all_weaker (λ b. not (is_between b)) is_clean inner_clean text says.inner
 
 reg_clean : (r : Reg) → r.0 < 36 → IsClean (reg_text r)

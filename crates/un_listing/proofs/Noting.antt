@@ -20,7 +20,7 @@ packets_append (None ∷ ls) ms = packets_append ls ms
 packets_append (Some (BlockLine l) ∷ ls) ms = packets_append ls ms
 packets_append (Some (PacketLine p) ∷ ls) ms = let e = packets_append ls ms in omega arith
 
-some_more : {X : Type 0} (xs : List X) (x : X) → xs ++ x ∷ [] ≢ []
+pub some_more : {X : Type 0} (xs : List X) (x : X) → xs ++ x ∷ [] ≢ []
 some_more [] x e = absurd (cc e)
 some_more (y ∷ ys) x e = absurd (cc e)
 

@@ -88,14 +88,14 @@ module _ (all : List (List ℕ)) where
       omega arith
 
   -- behind a block
-  abbrev past : List (Option Line) → CodeBlock → List (Option Line)
+  abbrev pub past : List (Option Line) → CodeBlock → List (Option Line)
   past before b = (before ++ Some (BlockLine b.label) ∷ []) ++ packet_lines b.packets
 
   behind_block : (before : List (Option Line)) (b : CodeBlock) (bs : List CodeBlock) → StandFrom all before (lines_in (b ∷ bs))
       → StandFrom all (past before b) (lines_in bs)
   behind_block before b bs (here, more) = behind_packets (before ++ Some (BlockLine b.label) ∷ []) b.packets (lines_in bs) more
 
-  labels_past : (before : List (Option Line)) (b : CodeBlock) → labels_in (past before b) ≡ labels_in before ++ b.label ∷ []
+  pub labels_past : (before : List (Option Line)) (b : CodeBlock) → labels_in (past before b) ≡ labels_in before ++ b.label ∷ []
   labels_past before b =
       labels_append (before ++ Some (BlockLine b.label) ∷ []) (packet_lines b.packets)
       ∙ ap (λ (ls : List (List ℕ)). labels_in (before ++ Some (BlockLine b.label) ∷ []) ++ ls)
@@ -107,7 +107,7 @@ module _ (all : List (List ℕ)) where
   packets_none [] = refl
   packets_none (p ∷ ps) = ap suc (packets_none ps)
 
-  packets_past : (before : List (Option Line)) (b : CodeBlock) → packets_in (past before b) ≡ packets_in before + length b.packets
+  pub packets_past : (before : List (Option Line)) (b : CodeBlock) → packets_in (past before b) ≡ packets_in before + length b.packets
   packets_past before b =
       let e = packets_append (before ++ Some (BlockLine b.label) ∷ []) (packet_lines b.packets) in
       let f = packets_append before (Some (BlockLine b.label) ∷ []) in
