@@ -68,7 +68,8 @@ home n s h e = below n s (λ m. by s m h) e
     by P m k = cc m
     by M m k = cc k
 
-are_home : (spaces : List Space) (srcs : List Reg) → list_all is_home spaces ≡ true → map (λ (r : Reg). space_of r.0) srcs ≡ spaces → AreRegs srcs
+are_home : (spaces : List Space) (srcs : List Reg) → list_all is_home spaces ≡ true → map (λ (r : Reg). space_of r.0) srcs ≡ spaces
+    → AreRegs srcs
 are_home spaces [] h e = tt
 are_home [] (r ∷ rs) h e = absurd (cc e)
 are_home (s ∷ ss) (r ∷ rs) h e =
@@ -79,7 +80,8 @@ reads_regs : (op : Op) (srcs : List Reg) → ReadsItsSpaces op srcs → AreRegs 
 reads_regs Call srcs r = let few = r.1 in counted 0 srcs r.0 (omega arith)
 reads_regs op srcs r = are_home (operand_spaces op) srcs refl r
 
-result_home : (dst : Option Reg) (space : Option Space) → IfSome space (λ s. is_home s ≡ true) → option_map (λ (r : Reg). space_of r.0) dst ≡ space → IfSome dst (λ r. r.0 < 36)
+result_home : (dst : Option Reg) (space : Option Space) → IfSome space (λ s. is_home s ≡ true)
+    → option_map (λ (r : Reg). space_of r.0) dst ≡ space → IfSome dst (λ r. r.0 < 36)
 result_home None space h e = tt
 result_home (Some r) None h e = absurd (cc e)
 result_home (Some r) (Some s) h e = home r.0 s h (cc e)
@@ -132,11 +134,13 @@ operand_clean (r ∷ rs) regs (suc k) = operand_clean rs regs.1 k
 
 more_clean : (rs : List Reg) → AreRegs rs → IsClean (flat_map (λ (r : Reg). codes "," ++ reg_text r) rs)
 more_clean [] regs = refl
-more_clean (r ∷ rs) regs = clean_append (codes "," ++ reg_text r) (flat_map (λ (r : Reg). codes "," ++ reg_text r) rs) (reg_clean r regs.0) (more_clean rs regs.1)
+more_clean (r ∷ rs) regs = clean_append (codes "," ++ reg_text r) (flat_map (λ (r : Reg). codes "," ++ reg_text r) rs) (reg_clean r regs.0)
+    (more_clean rs regs.1)
 
 joined_clean : (rs : List Reg) → AreRegs rs → IsClean (joined (codes ",") reg_text rs)
 joined_clean [] regs = refl
-joined_clean (r ∷ rs) regs = clean_append (reg_text r) (flat_map (λ (r : Reg). codes "," ++ reg_text r) rs) (reg_clean r regs.0) (more_clean rs regs.1)
+joined_clean (r ∷ rs) regs = clean_append (reg_text r) (flat_map (λ (r : Reg). codes "," ++ reg_text r) rs) (reg_clean r regs.0)
+    (more_clean rs regs.1)
 
 operands_clean : (rs : List Reg) → AreRegs rs → IsClean (codes "(" ++ joined (codes ",") reg_text rs ++ codes ")")
 operands_clean rs regs = clean_append (joined (codes ",") reg_text rs) (codes ")") (joined_clean rs regs) refl
@@ -165,20 +169,24 @@ module _ (i : Instr) (t : IsTame i) where
       (clean_append (base ++ codes "+") (literal_text i) (clean_append base (codes "+") h refl) literal_clean) refl
 
   branch_clean : IsClean (operand_text i 0 ++ codes ") jump " ++ label_text i.label)
-  branch_clean = clean_append (operand_text i 0 ++ codes ") jump ") (label_text i.label) (clean_append (operand_text i 0) (codes ") jump ") (operand_at 0) refl) (label_clean i.label t.label)
+  branch_clean = clean_append (operand_text i 0 ++ codes ") jump ") (label_text i.label)
+      (clean_append (operand_text i 0) (codes ") jump ") (operand_at 0) refl) (label_clean i.label t.label)
 
   text_clean : (form : Form) → IsClean (text_in form i)
   text_clean Literal = clean_append (result_text i) (literal_text i) result_clean literal_clean
   text_clean Copied = clean_append (result_text i) (operand_text i 0) result_clean (operand_at 0)
-  text_clean Computed = clean_append (result_text i ++ mnemonic i.op) (operands_text i) (clean_append (result_text i) (mnemonic i.op) result_clean (mnemonic_clean i.op)) (operands_clean i.srcs t.operands)
+  text_clean Computed = clean_append (result_text i ++ mnemonic i.op) (operands_text i)
+      (clean_append (result_text i) (mnemonic i.op) result_clean (mnemonic_clean i.op)) (operands_clean i.srcs t.operands)
   text_clean WithLiteral =
       clean_append (result_text i ++ mnemonic i.op ++ codes "(" ++ operand_text i 0 ++ codes "," ++ literal_text i) (codes ")")
       (clean_append (result_text i ++ mnemonic i.op ++ codes "(" ++ operand_text i 0 ++ codes ",") (literal_text i)
       (clean_append (result_text i ++ mnemonic i.op ++ codes "(" ++ operand_text i 0) (codes ",")
       (clean_append (result_text i ++ mnemonic i.op ++ codes "(") (operand_text i 0)
-      (clean_append (result_text i ++ mnemonic i.op) (codes "(") (clean_append (result_text i) (mnemonic i.op) result_clean (mnemonic_clean i.op)) refl)
+      (clean_append (result_text i ++ mnemonic i.op) (codes "(")
+      (clean_append (result_text i) (mnemonic i.op) result_clean (mnemonic_clean i.op)) refl)
       (operand_at 0)) refl) literal_clean) refl
-  text_clean Loaded = clean_append (result_text i) (word_text (operand_text i 0) i) result_clean (word_clean (operand_text i 0) (operand_at 0))
+  text_clean Loaded = clean_append (result_text i) (word_text (operand_text i 0) i) result_clean
+      (word_clean (operand_text i 0) (operand_at 0))
   text_clean Stored =
       clean_append (word_text (operand_text i 0) i ++ codes " = ") (operand_text i 1)
       (clean_append (word_text (operand_text i 0) i) (codes " = ") (word_clean (operand_text i 0) (operand_at 0)) refl) (operand_at 1)

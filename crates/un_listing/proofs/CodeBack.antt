@@ -1,20 +1,26 @@
 -- Code is read back from its listing.
-use Rattle.std.proofs.Common.{◌≡◌, ◌≤◌, ℕ, ◌+◌, List, ◌∷◌, ◌++◌, Option, codes, All, inl, inr, refl, sym, ap, ◌∙◌, subst}
+use Rattle.std.proofs.Common.{◌≡◌, ◌≤◌, ℕ, ◌+◌, pos, List, [], ◌∷◌, ◌++◌, Option, None, codes, All, inl, inr, refl, sym, ap, ◌∙◌, subst}
 use Rattle.std.specs.List.{AllZip, flat_map}
 use Rattle.std.specs.Fmt.{decimal}
 use Rattle.std.specs.Coded.{coded_list}
+use Rattle.std.proofs.lemmas.List.Elements.{All-from_recursion}
 use Rattle.std.proofs.Math.Logic.{∥∥₁_elim, ∥∥₁_prop}
 use Rattle.std.proofs.Math.Nat.{ℕ_set}
 use base.Stored.{Coded-set}
 use Rattle.un_base.specs.Lines.{pieces_of, joined_lines}
+use Rattle.un_isa.specs.declared.op.Op.TheVariants.{Jumpr}
 use Rattle.un_packet.specs.contracts.code.CodeBlock as block_row
+use Rattle.un_packet.specs.declared.code.Packet.{Packet}
 use Rattle.un_packet.specs.declared.code.CodeBlock.{CodeBlock}
 use Rattle.un_packet.specs.declared.code.Code.{Code}
 use Rattle.un_packet.specs.CodeRules.{KeepsRules, labels_of}
+use Rattle.un_packet.proofs.Assembly.{i, packet, block}
+use Rattle.un_packet.proofs.Kept.{kept_without_frame}
 use Rattle.un_listing.specs.declared.line.Line.{Line}
 use Rattle.un_listing.specs.declared.read.ListingError.{ListingError}
 use Rattle.un_listing.specs.declared.read.ListingError.TheVariants.{NoMemory, BadListing}
 use Rattle.un_listing.specs.Listing.{block_lines, code_text}
+use Rattle.un_listing.specs.PacketWords.{IsNamed}
 use Rattle.un_listing.specs.Reading.{lines_in, HasNames, IsReadAs, IsFrameLine, IsFirstBad, IsFirstBadIn, IsFirstBadOf, IsErrorOf, IsListingOf, frame_text}
 use Rattle.un_listing.proofs.LinesStand.{lines_stand}
 use Rattle.un_listing.proofs.LineTexts.{IsSpelled, blocks_spelled, first_piece}
@@ -47,9 +53,9 @@ module _ (frame : ℕ) (bs : List CodeBlock) (rules : KeepsRules frame bs) (name
       let same : other ≡ frame = same_frame first other frame is.small rules.small is.spelled e in (
         same,
         lines_same frame rules.small (rest_of bs) lines (lines_in bs)
-        (subst (λ (n : ℕ). AllZip (IsReadAs n) (rest_of bs) lines) same
-        (subst (λ (ts : List (List ℕ)). AllZip (IsReadAs other) ts lines) f read))
-        spelled,
+            (subst (λ (n : ℕ). AllZip (IsReadAs n) (rest_of bs) lines) same
+            (subst (λ (ts : List (List ℕ)). AllZip (IsReadAs other) ts lines) f read))
+            spelled,
       )
 
   -- no line of it is bad
@@ -107,10 +113,38 @@ one_code text c d h k = same_code c.frame d.frame c.blocks d.blocks frames block
     frames = ∥∥₁_elim c.rules (ℕ_set _ _) (λ of_c. ∥∥₁_elim d.rules (ℕ_set _ _) (λ of_d. (both of_c of_d).0))
 
     blocks : c.blocks ≡ d.blocks
-    blocks = ∥∥₁_elim c.rules (blocks_set _ _) (λ of_c. ∥∥₁_elim d.rules (blocks_set _ _) (λ of_d. blocks_same c.blocks d.blocks (both of_c of_d).1))
+    blocks =
+        ∥∥₁_elim c.rules (blocks_set _ _)
+        (λ of_c. ∥∥₁_elim d.rules (blocks_set _ _) (λ of_d. blocks_same c.blocks d.blocks (both of_c of_d).1))
 
 -- no listing of code is refused
 pub refused : (text : List ℕ) (e : ListingError) (c : Code) → IsErrorOf text e → IsListingOf text c → e ≡ NoMemory
 refused text NoMemory c h k = refl
 refused text (BadListing line) c h k =
-    absurd (∥∥₁_elim c.rules (λ (x y : ⊥). absurd x) (λ rules. none_bad c.frame c.blocks rules k.names line (subst (λ (t : List ℕ). IsFirstBad t line) k.spelled h)))
+    absurd (∥∥₁_elim c.rules (λ (x y : ⊥). absurd x)
+    (λ rules. none_bad c.frame c.blocks rules k.names line (subst (λ (t : List ℕ). IsFirstBad t line) k.spelled h)))
+
+-- ---- there is a listing
+
+-- `jumpr r31` alone under a label
+abbrev returning : Code
+returning = record {
+  frame = 0;
+  blocks = block (codes "e") (packet (i Jumpr None (31 ∷ []) (pos 0) None ∷ []) ∷ []) ∷ [];
+  rules = ∣ kept_without_frame ∣₁;
+}
+
+pub returning_listed : IsListingOf (code_text returning) returning
+returning_listed = record {
+  names = All-from_recursion HasNames returning.blocks (
+    record {
+      label = refl;
+      packets = All-from_recursion (λ (p : Packet). All IsNamed p.instrs) (packet (i Jumpr None (31 ∷ []) (pos 0) None ∷ []) ∷ []) (
+        All-from_recursion IsNamed (i Jumpr None (31 ∷ []) (pos 0) None ∷ []) (tt, tt),
+        tt,
+      );
+    },
+    tt,
+  );
+  spelled = refl;
+}

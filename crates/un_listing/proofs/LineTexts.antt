@@ -54,7 +54,8 @@ label_no_feed label h = no_feed (codes "block " ++ label) (inner label (says_cle
 
 frame_no_feed : (frame : ℕ) → frame ≤ 256 → HasNoFeed (codes "frame " ++ decimal frame)
 frame_no_feed frame small =
-    no_feed (codes "frame " ++ decimal frame) (inner (codes "#" ++ decimal frame) (says_clean (codes "#" ++ decimal frame) _ (literal_says (pos frame) (omega arith))))
+    no_feed (codes "frame " ++ decimal frame)
+    (inner (codes "#" ++ decimal frame) (says_clean (codes "#" ++ decimal frame) _ (literal_says (pos frame) (omega arith))))
 
 -- a line with its line feed spells this
 abbrev pub IsSpelled : ℕ → List ℕ → Option Line → Type 0
@@ -64,7 +65,8 @@ module _ (frame : ℕ) (small : frame ≤ 256) where
   instr_inner : (i : Instr) → IsGoodInstr frame i → IsNamed i → IsInner (instr_text i)
   instr_inner i good named = inner (instr_text i) (instr_clean frame small i good named)
 
-  more_inner : (is : List Instr) → All (IsGoodInstr frame) is → All IsNamed is → IsInner (flat_map (λ (i : Instr). codes "; " ++ instr_text i) is)
+  more_inner : (is : List Instr) → All (IsGoodInstr frame) is → All IsNamed is
+      → IsInner (flat_map (λ (i : Instr). codes "; " ++ instr_text i) is)
   more_inner [] good named = refl
   more_inner (i ∷ is) good named =
       inner_append (codes "; " ++ instr_text i) (flat_map (λ (i : Instr). codes "; " ++ instr_text i) is)
@@ -86,15 +88,18 @@ module _ (frame : ℕ) (small : frame ≤ 256) where
   -- ---- the pieces
 
   one_more : (text line more : List ℕ) (l : Line) (ls : List (Option Line)) → text ≡ line ++ 10 ∷ more → HasNoFeed line
-      → Spells frame (line ++ 10 ∷ []) l → AllZip (IsSpelled frame) (pieces_of more) ls → AllZip (IsSpelled frame) (pieces_of text) (Some l ∷ ls)
+      → Spells frame (line ++ 10 ∷ []) l → AllZip (IsSpelled frame) (pieces_of more) ls
+      → AllZip (IsSpelled frame) (pieces_of text) (Some l ∷ ls)
   one_more text line more l ls e none here later =
-      subst (λ (ts : List (List ℕ)). AllZip (IsSpelled frame) ts (Some l ∷ ls)) (sym (ap pieces_of e ∙ pieces_of-line line more none)) (here, later)
+      subst (λ (ts : List (List ℕ)). AllZip (IsSpelled frame) ts (Some l ∷ ls)) (sym (ap pieces_of e ∙ pieces_of-line line more none))
+      (here, later)
 
   line_seam : (line a b : List ℕ) → ((line ++ 10 ∷ []) ++ a) ++ b ≡ line ++ 10 ∷ (a ++ b)
   line_seam line a b = append_assoc (line ++ 10 ∷ []) a b ∙ append_assoc line (10 ∷ []) (a ++ b)
 
   packets_spelled : (ps : List Packet) → All (IsCodePacket frame) ps → (rest : List ℕ) (ls : List (Option Line))
-      → AllZip (IsSpelled frame) (pieces_of rest) ls → AllZip (IsSpelled frame) (pieces_of (joined_lines (map packet_line ps) ++ rest)) (packet_lines ps ++ ls)
+      → AllZip (IsSpelled frame) (pieces_of rest) ls
+      → AllZip (IsSpelled frame) (pieces_of (joined_lines (map packet_line ps) ++ rest)) (packet_lines ps ++ ls)
   packets_spelled [] good rest ls later = later
   packets_spelled (p ∷ ps) good rest ls later =
       let here = All-head (IsCodePacket frame) p ps good in
@@ -103,7 +108,8 @@ module _ (frame : ℕ) (small : frame ≤ 256) where
       (packet_no_feed p here) (record { good = here; spelled = refl })
       (packets_spelled ps (All-tail (IsCodePacket frame) p ps good) rest ls later)
 
-  code_packets : (ps : List Packet) → All (IsGoodPacket frame) ps → All (λ (p : Packet). All IsNamed p.instrs) ps → All (IsCodePacket frame) ps
+  code_packets : (ps : List Packet) → All (IsGoodPacket frame) ps → All (λ (p : Packet). All IsNamed p.instrs) ps
+      → All (IsCodePacket frame) ps
   code_packets ps good named = λ k d below. record { rules = good k d below; names = named k d below }
 
   pub blocks_spelled : (labels : List (List ℕ)) (bs : List CodeBlock) → All (IsGoodCodeBlock frame labels) bs → All HasNames bs
@@ -116,14 +122,16 @@ module _ (frame : ℕ) (small : frame ≤ 256) where
       let rest : List ℕ = joined_lines (flat_map block_lines bs) in
       one_more (joined_lines (flat_map block_lines (b ∷ bs))) (codes "block " ++ b.label) (packets ++ rest)
       (BlockLine b.label) (packet_lines b.packets ++ lines_in bs)
-      (ap (λ (t : List ℕ). ((codes "block " ++ b.label) ++ 10 ∷ []) ++ t) (joined_append (map packet_line b.packets) (flat_map block_lines bs))
+      (ap (λ (t : List ℕ). ((codes "block " ++ b.label) ++ 10 ∷ []) ++ t)
+      (joined_append (map packet_line b.packets) (flat_map block_lines bs))
       ∙ append_assoc (codes "block " ++ b.label) (10 ∷ []) (packets ++ rest))
       (label_no_feed b.label names.label) (record { good = names.label; spelled = refl })
       (packets_spelled b.packets (code_packets b.packets here.packets names.packets) rest (lines_in bs)
       (blocks_spelled labels bs (All-tail (IsGoodCodeBlock frame labels) b bs good) (All-tail HasNames b bs named)))
 
   -- the first piece tells the frame
-  pub first_piece : (ls : List (List ℕ)) → pieces_of (joined_lines ((codes "frame " ++ decimal frame) ∷ ls)) ≡ frame_text frame ∷ pieces_of (joined_lines ls)
+  pub first_piece : (ls : List (List ℕ))
+      → pieces_of (joined_lines ((codes "frame " ++ decimal frame) ∷ ls)) ≡ frame_text frame ∷ pieces_of (joined_lines ls)
   first_piece ls =
       ap pieces_of (append_assoc (codes "frame " ++ decimal frame) (10 ∷ []) (joined_lines ls))
       ∙ pieces_of-line (codes "frame " ++ decimal frame) (joined_lines ls) (frame_no_feed frame small)

@@ -26,7 +26,8 @@ apart : (text a b : List ℕ) → text ≡ 98 ∷ a → text ≡ 123 ∷ b → �
 apart text a b e f = omega (arith, first_same 98 123 a b (sym e ∙ f))
 
 pub same_frame : (text : List ℕ) (m n : ℕ) → m ≤ 256 → n ≤ 256 → text ≡ frame_text m → text ≡ frame_text n → m ≡ n
-same_frame text m n small few e f = decimal_injective m n (omega arith) (omega arith) (same_within (codes "frame ") (decimal m) (decimal n) (sym e ∙ f))
+same_frame text m n small few e f = decimal_injective m n (omega arith) (omega arith)
+    (same_within (codes "frame ") (decimal m) (decimal n) (sym e ∙ f))
 
 module _ (frame : ℕ) (small : frame ≤ 256) where
   instrs_same : (text : List ℕ) (p q : Packet) → Spells frame text (PacketLine p) → Spells frame text (PacketLine q) → p.instrs ≡ q.instrs
@@ -45,7 +46,8 @@ module _ (frame : ℕ) (small : frame ≤ 256) where
   one_reading text None line h s = absurd (h line s)
   one_reading text (Some l) line h s = ap (λ (x : Line). Some x) (one_line text l line h s)
 
-  pub lines_same : (texts : List (List ℕ)) (ls ms : List (Option Line)) → AllZip (IsReadAs frame) texts ls → AllZip (IsSpelled frame) texts ms → ls ≡ ms
+  pub lines_same : (texts : List (List ℕ)) (ls ms : List (Option Line)) → AllZip (IsReadAs frame) texts ls
+      → AllZip (IsSpelled frame) texts ms → ls ≡ ms
   lines_same [] [] [] h k = refl
   lines_same [] (l ∷ ls) ms h k = absurd h
   lines_same [] [] (m ∷ ms) h k = absurd k
@@ -53,10 +55,12 @@ module _ (frame : ℕ) (small : frame ≤ 256) where
   lines_same (t ∷ ts) (l ∷ ls) [] h k = absurd k
   lines_same (t ∷ ts) (l ∷ ls) (None ∷ ms) h (here, later) = absurd here
   lines_same (t ∷ ts) (l ∷ ls) (Some m ∷ ms) (read, more) (here, later) =
-      ap (λ (x : Option Line). x ∷ ls) (one_reading t l m read here) ∙ ap (λ (xs : List (Option Line)). Some m ∷ xs) (lines_same ts ls ms more later)
+      ap (λ (x : Option Line). x ∷ ls) (one_reading t l m read here) ∙ ap (λ (xs : List (Option Line)). Some m ∷ xs)
+      (lines_same ts ls ms more later)
 
   -- what a line spells it is read as
-  pub spelled_read : (texts : List (List ℕ)) (ls : List (Option Line)) → AllZip (IsSpelled frame) texts ls → AllZip (IsReadAs frame) texts ls
+  pub spelled_read : (texts : List (List ℕ)) (ls : List (Option Line)) → AllZip (IsSpelled frame) texts ls
+      → AllZip (IsReadAs frame) texts ls
   spelled_read [] [] h = tt
   spelled_read [] (l ∷ ls) h = absurd h
   spelled_read (t ∷ ts) [] h = absurd h
@@ -81,7 +85,8 @@ parted (None ∷ ls) = parted ls
 parted (Some (BlockLine label) ∷ ls) = under_label label (parted ls)
 parted (Some (PacketLine p) ∷ ls) = after_packet p (parted ls)
 
-parted_packets : (ps : List Packet) (ls : List (Option Line)) (bs : List CodeBlock) → parted ls ≡ ([], bs) → parted (packet_lines ps ++ ls) ≡ (ps, bs)
+parted_packets : (ps : List Packet) (ls : List (Option Line)) (bs : List CodeBlock) → parted ls ≡ ([], bs)
+    → parted (packet_lines ps ++ ls) ≡ (ps, bs)
 parted_packets [] ls bs e = e
 parted_packets (p ∷ ps) ls bs e = ap (after_packet p) (parted_packets ps ls bs e)
 

@@ -58,9 +58,9 @@ module _ (all : List (List ℕ)) where
       ending = λ e. absurd (cc e);
     },
     packets_stand (before ++ Some (PacketLine p) ∷ []) label (q ∷ ps) rest (some_more before (Some (PacketLine p)))
-      (λ k below. last (suc k) (omega arith)) (All-tail (λ (p : Packet). All (LeadsToOneOf all) p.instrs) p (q ∷ ps) targets) off
-      (λ e. ends_tail label p q ps (ending e)) (let e = packets_append before (Some (PacketLine p) ∷ []) in omega arith)
-      (rw (append_assoc before (Some (PacketLine p) ∷ []) (packet_lines (q ∷ ps))) later),
+        (λ k below. last (suc k) (omega arith)) (All-tail (λ (p : Packet). All (LeadsToOneOf all) p.instrs) p (q ∷ ps) targets) off
+        (λ e. ends_tail label p q ps (ending e)) (let e = packets_append before (Some (PacketLine p) ∷ []) in omega arith)
+        (rw (append_assoc before (Some (PacketLine p) ∷ []) (packet_lines (q ∷ ps))) later),
   )
 
   -- blocks begin by no packet
@@ -85,13 +85,16 @@ module _ (all : List (List ℕ)) where
     good : All (IsGoodCodeBlock frame all) bs
     last : (k : ℕ) → k + 1 ≡ length bs → IsSomeAnd (slice_get bs k) EndsByLeaving
 
-  later_kept : (frame : ℕ) (before : List (Option Line)) (b : CodeBlock) (bs : List CodeBlock) → Kept frame before (b ∷ bs) → Kept frame (past all before b) bs
+  later_kept : (frame : ℕ) (before : List (Option Line)) (b : CodeBlock) (bs : List CodeBlock) → Kept frame before (b ∷ bs)
+      → Kept frame (past all before b) bs
   later_kept frame before b bs h = record {
-    few_blocks = (let f = h.few_blocks in let e = ap length (labels_past all before b) in let l = length-append (labels_in before) (b.label ∷ []) in omega arith);
-    few_packets = (let f = h.few_packets in let e = packets_past all before b in let s = sum_by-cons (λ (b : CodeBlock). length b.packets) b bs in omega arith);
+    few_blocks = (let f = h.few_blocks in let e = ap length (labels_past all before b) in
+        let l = length-append (labels_in before) (b.label ∷ []) in omega arith);
+    few_packets = (let f = h.few_packets in let e = packets_past all before b in
+        let s = sum_by-cons (λ (b : CodeBlock). length b.packets) b bs in omega arith);
     new = λ label there. ⊎_elim (λ c. All-tail (λ (b : CodeBlock). label ≢ b.label) b bs (h.new label c))
-      (λ e. λ k d below. subst (λ (l : List ℕ). l ≢ (get_or bs k d).label) e (h.distinct 0 (suc k) d (omega arith) (omega arith)))
-      (Contains-push_cases (labels_in before) b.label label (rw (labels_past all before b) at there));
+        (λ e. λ k d below. subst (λ (l : List ℕ). l ≢ (get_or bs k d).label) e (h.distinct 0 (suc k) d (omega arith) (omega arith)))
+        (Contains-push_cases (labels_in before) b.label label (rw (labels_past all before b) at there));
     distinct = λ i j d before below. h.distinct (suc i) (suc j) d (omega arith) (omega arith);
     good = All-tail (IsGoodCodeBlock frame all) b bs h.good;
     last = λ k e. h.last (suc k) (omega arith);
@@ -106,9 +109,10 @@ module _ (all : List (List ℕ)) where
       more = λ e. (let none = no_lines b.packets bs e in ends_some b.label (rw none.0 at ending none.1));
     },
     packets_stand (before ++ Some (BlockLine b.label) ∷ []) b.label b.packets (lines_in bs) (some_more before (Some (BlockLine b.label)))
-      here.transfers_last here.targets (off_blocks bs) (λ e. ending (none_left bs e))
-      (let f = h.few_packets in let s = sum_by-cons (λ (b : CodeBlock). length b.packets) b bs in let e = packets_append before (Some (BlockLine b.label) ∷ []) in omega arith)
-      (blocks_stand frame (past all before b) bs (later_kept frame before b bs h)),
+        here.transfers_last here.targets (off_blocks bs) (λ e. ending (none_left bs e))
+        (let f = h.few_packets in let s = sum_by-cons (λ (b : CodeBlock). length b.packets) b bs in
+        let e = packets_append before (Some (BlockLine b.label) ∷ []) in omega arith)
+        (blocks_stand frame (past all before b) bs (later_kept frame before b bs h)),
   )
     where
       here : IsGoodCodeBlock frame all b
@@ -138,4 +142,5 @@ lines_stand frame bs h = record {
     }
 
     from : StandFrom (labels_in (lines_in bs)) [] (lines_in bs)
-    from = subst (λ (all : List (List ℕ)). StandFrom all [] (lines_in bs)) (sym (labels_lines bs)) (blocks_stand (labels_of bs) frame [] bs kept)
+    from = subst (λ (all : List (List ℕ)). StandFrom all [] (lines_in bs)) (sym (labels_lines bs))
+        (blocks_stand (labels_of bs) frame [] bs kept)

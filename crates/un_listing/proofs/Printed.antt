@@ -95,6 +95,7 @@ texts = simp (
   decimal_digit 8 (lit< tt),
 ) refl
 
-lines : block_lines (block (codes "loop") (packet (i Nop None [] (pos 0) None ∷ []) ∷ packet (i Nop None [] (pos 0) None ∷ i Jump None [] (pos 0) (named (codes "f")) ∷ []) ∷ []))
+lines : block_lines (block (codes "loop") (packet (i Nop None [] (pos 0) None ∷ [])
+    ∷ packet (i Nop None [] (pos 0) None ∷ i Jump None [] (pos 0) (named (codes "f")) ∷ []) ∷ []))
     ≡ codes "block loop" ∷ codes "{ nop }" ∷ codes "{ nop; jump f }" ∷ []
 lines = refl

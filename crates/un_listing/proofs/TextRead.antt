@@ -22,7 +22,13 @@ record PacketsRead (frame : ℕ) (texts : List (List ℕ)) (ps : List Packet) (r
 packets_read : (frame : ℕ) (texts : List (List ℕ)) (ps : List Packet) (rest : List (Option Line))
     → AllZip (IsReadAs frame) texts (packet_lines ps ++ rest)
     → PacketsRead frame texts ps rest
-packets_read frame texts [] rest h = record { more = texts; later = h; good = All-nil (IsGoodPacket frame); names = All-nil (λ (p : Packet). All IsNamed p.instrs); text = refl }
+packets_read frame texts [] rest h = record {
+  more = texts;
+  later = h;
+  good = All-nil (IsGoodPacket frame);
+  names = All-nil (λ (p : Packet). All IsNamed p.instrs);
+  text = refl;
+}
 packets_read frame [] (p ∷ ps) rest h = absurd h
 packets_read frame (t ∷ ts) (p ∷ ps) rest (here, later) =
     let r = packets_read frame ts ps rest later in

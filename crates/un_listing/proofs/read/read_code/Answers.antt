@@ -34,15 +34,15 @@ returns-in-Ok-assemble c =
 -- a first line that is no frame's is not that of a listing
 pub returns-in_default-clause-whole : goal.returns-in_default-clause-whole
 returns-in_default-clause-whole c = λ code is.
-    refused c.args.text.now _ code (frame_bad c.args.text.now c.first_len-len.result c.first_len-len.ensures.bound c.first_len-len.ensures.cut
-    c.in_default.ensures.none) is
+    refused c.args.text.now _ code (frame_bad c.args.text.now c.first_len-len.result c.first_len-len.ensures.bound
+    c.first_len-len.ensures.cut c.in_default.ensures.none) is
 
 -- and no other line of a listing is bad
 pub returns-in-Ok-Some-clause-whole : goal.returns-in-Ok-Some-clause-whole
 returns-in-Ok-Some-clause-whole c = λ code is.
     let some : c.in-Ok-Some.field-0 ≡ Some c.in-Ok-Some.k = search rules in
-    let bad : IsFirstBadOf c.in-Ok.lines c.in-Ok-Some.k = where_some c.in-Ok-Some.field-0 c.in-Ok-Some.k c.in-Ok.lines c.as_slice.result.now some
-    c.as_slice.ensures c.in-Ok-Some.ensures in
+    let bad : IsFirstBadOf c.in-Ok.lines c.in-Ok-Some.k = where_some c.in-Ok-Some.field-0 c.in-Ok-Some.k c.in-Ok.lines
+    c.as_slice.result.now some c.as_slice.ensures c.in-Ok-Some.ensures in
     refused c.args.text.now c.refusal.result code (c.refusal.ensures c.args.text.now (line_bad c.args.text.now c.first_len-len.result
     c.first_len-len.ensures.bound c.first_len-len.ensures.cut c.in-Some.frame c.in-Ok.lines c.in-Some.ensures.some c.in-Ok.ensures
     c.in-Ok-Some.k bad)) is
