@@ -1,5 +1,5 @@
 -- A line spells one thing, and blocks are read back from their lines.
-use Rattle.std.proofs.Common.{◌≡◌, ◌≤◌, ℕ, ◌^◌, List, [], ◌∷◌, ◌++◌, Option, Some, None, codes, refl, sym, ap, ◌∙◌, arith}
+use Rattle.std.proofs.Common.{◌≡◌, ◌≤◌, ℕ, List, [], ◌∷◌, ◌++◌, Option, Some, None, codes, refl, sym, ap, ◌∙◌, arith}
 use Rattle.std.specs.List.{AllZip}
 use Rattle.std.specs.Fmt.{decimal}
 use Rattle.std.proofs.lemmas.Fmt.{decimal_injective}
@@ -8,7 +8,7 @@ use Rattle.un_packet.specs.declared.code.Packet.{Packet}
 use Rattle.un_packet.specs.declared.code.CodeBlock.{CodeBlock}
 use Rattle.un_listing.specs.declared.line.Line.{Line}
 use Rattle.un_listing.specs.declared.line.Line.TheVariants.{Block as BlockLine, Packet as PacketLine}
-use Rattle.un_listing.specs.Reading.{lines_in, packet_lines, Spells, IsReadAs, IsFrameLine, frame_text}
+use Rattle.un_listing.specs.Reading.{lines_in, packet_lines, Spells, IsReadAs, frame_text}
 use Rattle.un_listing.proofs.LineCuts.{same_within}
 use Rattle.un_listing.proofs.PacketBack.{packet_back}
 use Rattle.un_listing.proofs.LineTexts.{IsSpelled}

@@ -1,5 +1,5 @@
 -- The lines of code stand at their places.
-use Rattle.std.proofs.Common.{◌≡◌, ◌≢◌, ◌<◌, ℕ, suc, zero, ◌+◌, Bool, true, false, List, [], ◌∷◌, ◌++◌, Option, Some, length, slice_get, IsSomeAnd, All, AllPairs, Contains, sum_by, get_or, ◌⊎◌, inl, inr, ⊎_elim, refl, sym, ap, ◌∙◌, subst, arith, append-nil, append_assoc, length-append}
+use Rattle.std.proofs.Common.{◌≡◌, ◌≢◌, ◌<◌, ℕ, suc, zero, ◌+◌, Bool, true, false, List, [], ◌∷◌, ◌++◌, Option, Some, length, slice_get, IsSomeAnd, All, AllPairs, Contains, sum_by, get_or, ⊎_elim, refl, sym, ap, subst, arith, append-nil, append_assoc, length-append}
 use Rattle.std.specs.Bool.{OnTrue}
 use Rattle.std.proofs.lemmas.List.Elements.{All-head, All-tail, Contains-push_cases}
 use Rattle.std.proofs.lemmas.List.Sums.{sum_by-cons}
@@ -9,7 +9,7 @@ use Rattle.un_packet.specs.declared.code.CodeBlock.{CodeBlock}
 use Rattle.un_packet.specs.CodeRules.{LeadsToOneOf, transfers, leaves, TransfersLast, EndsByLeaving, IsGoodCodeBlock, KeepsRules, labels_of}
 use Rattle.un_listing.specs.declared.line.Line.{Line}
 use Rattle.un_listing.specs.declared.line.Line.TheVariants.{Block as BlockLine, Packet as PacketLine}
-use Rattle.un_listing.specs.Reading.{labels_in, packets_in, goes_on, BlockStands, PacketStands, StandsAt, AllStand, lines_in, packet_lines}
+use Rattle.un_listing.specs.Reading.{labels_in, packets_in, goes_on, AllStand, lines_in, packet_lines}
 use Rattle.un_listing.proofs.Noting.{packets_append, some_more}
 use Rattle.un_listing.proofs.Standing.{StandFrom, to_places}
 use Rattle.un_listing.proofs.RulesKept.{labels_lines, past, labels_past, packets_past}
