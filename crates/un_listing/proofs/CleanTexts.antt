@@ -1,6 +1,5 @@
 -- No semicolon and no line feed stands in an instruction's text.
-use Rattle.std.proofs.Common.{◌≡◌, ℕ, ℤ, suc, zero, ◌<◌, ◌≤◌, ◌==◌, ◌||◌, not, Bool, true, false, List, [], ◌∷◌, ◌++◌, map, codes}
-use Rattle.std.proofs.Common.{slice_get, Option, Some, None, IfSome, option_map, lit≤, refl, arith, unsigned_abs}
+use Rattle.std.proofs.Common.{◌≡◌, ℕ, ℤ, suc, zero, ◌<◌, ◌≤◌, ◌==◌, ◌||◌, not, Bool, true, false, List, [], ◌∷◌, ◌++◌, map, codes, slice_get, Option, Some, None, IfSome, option_map, lit≤, refl, arith, unsigned_abs}
 use Rattle.std.specs.List.{list_all, flat_map}
 use Rattle.std.specs.Fmt.{signed_decimal}
 use Rattle.std.proofs.lemmas.List.Folds.{list_all-append}
@@ -18,12 +17,10 @@ use Rattle.un_isa.specs.Facts.{operand_spaces, result_space, literal_range}
 use Rattle.un_isa.specs.Operands.{IsLiteralOf}
 use Rattle.un_packet.specs.CodeRules.{IsGoodInstr, ReadsItsSpaces, WritesItsSpace, HasItsNumber}
 use Rattle.un_listing.specs.declared.form.Form.{Form}
-use Rattle.un_listing.specs.declared.form.Form.TheVariants.{Literal, Copied, Computed, WithLiteral, Loaded, Stored, Reloaded, Spilled}
-use Rattle.un_listing.specs.declared.form.Form.TheVariants.{StackMoved, Called, Jumped, JumpedIf, JumpedIfNot, Returned, Idle}
+use Rattle.un_listing.specs.declared.form.Form.TheVariants.{Literal, Copied, Computed, WithLiteral, Loaded, Stored, Reloaded, Spilled, StackMoved, Called, Jumped, JumpedIf, JumpedIfNot, Returned, Idle}
 use Rattle.un_listing.specs.declared.word.Word.{Word}
 use Rattle.un_listing.specs.Forms.{form_of, mnemonic}
-use Rattle.un_listing.specs.Listing.{joined, reg_text, some_reg_text, operand_text, operands_text, literal_text, result_text, word_text}
-use Rattle.un_listing.specs.Listing.{label_text, text_in, instr_text}
+use Rattle.un_listing.specs.Listing.{joined, reg_text, some_reg_text, operand_text, operands_text, literal_text, result_text, word_text, label_text, text_in, instr_text}
 use Rattle.un_listing.specs.ListingWords.{is_between}
 use Rattle.un_listing.specs.PacketWords.{IsNamed}
 use Rattle.un_listing.proofs.WordTexts.{Says, reg_back, name_says, literal_says, all_weaker, other_byte}
@@ -43,7 +40,7 @@ clean_append a b ha hb = rw (list_all-append is_clean a b, ha, hb) refl
 inner_clean : (b : ℕ) → not (is_between b) ≡ true → is_clean b ≡ true
 inner_clean b h = rw (other_byte (λ b. not (is_between b)) b 59 h refl, other_byte (λ b. not (is_between b)) b 10 h refl) refl
 
-says_clean : (text : List ℕ) (w : Word) → Says text w → IsClean text
+pub says_clean : (text : List ℕ) (w : Word) → Says text w → IsClean text
 says_clean text w says = all_weaker (λ b. not (is_between b)) is_clean inner_clean text says.inner
 
 reg_clean : (r : Reg) → r.0 < 36 → IsClean (reg_text r)
@@ -172,8 +169,8 @@ module _ (i : Instr) (t : IsTame i) where
       (clean_append (base ++ codes "+") (literal_text i) (clean_append base (codes "+") h refl) literal_clean) refl
 
   branch_clean : IsClean (operand_text i 0 ++ codes ") jump " ++ label_text i.label)
-  branch_clean = clean_append (operand_text i 0 ++ codes ") jump ") (label_text i.label) (clean_append (operand_text i 0) (codes ") jump ")
-      (operand_at 0) refl) (label_clean i.label t.label)
+  branch_clean = clean_append (operand_text i 0 ++ codes ") jump ") (label_text i.label)
+      (clean_append (operand_text i 0) (codes ") jump ") (operand_at 0) refl) (label_clean i.label t.label)
 
   text_clean : (form : Form) → IsClean (text_in form i)
   text_clean Literal = clean_append (result_text i) (literal_text i) result_clean literal_clean
@@ -185,8 +182,8 @@ module _ (i : Instr) (t : IsTame i) where
       (clean_append (result_text i ++ mnemonic i.op ++ codes "(" ++ operand_text i 0 ++ codes ",") (literal_text i)
       (clean_append (result_text i ++ mnemonic i.op ++ codes "(" ++ operand_text i 0) (codes ",")
       (clean_append (result_text i ++ mnemonic i.op ++ codes "(") (operand_text i 0)
-      (clean_append (result_text i ++ mnemonic i.op) (codes "(") (clean_append (result_text i) (mnemonic i.op) result_clean
-      (mnemonic_clean i.op)) refl)
+      (clean_append (result_text i ++ mnemonic i.op) (codes "(")
+      (clean_append (result_text i) (mnemonic i.op) result_clean (mnemonic_clean i.op)) refl)
       (operand_at 0)) refl) literal_clean) refl
   text_clean Loaded = clean_append (result_text i) (word_text (operand_text i 0) i) result_clean
       (word_clean (operand_text i 0) (operand_at 0))

@@ -1,13 +1,9 @@
 -- An instruction of code is what the words of its text spell.
-use Rattle.std.proofs.Common.{◌≡◌, ◌≢◌, ℕ, ℤ, pos, negsuc, suc, zero, ◌+◌, ◌<◌, ◌≤◌, Bool, true, false, nat_lt, List, [], ◌∷◌, map, length}
-use Rattle.std.proofs.Common.{take, codes, Option, Some, None, if◌then◌else◌, IfSome, option_map, refl, ap, ◌∙◌, arith, unsigned_abs}
-use Rattle.std.proofs.Common.{lt-ltb, ne_eqb}
+use Rattle.std.proofs.Common.{◌≡◌, ◌≢◌, ℕ, ℤ, pos, negsuc, suc, zero, ◌+◌, ◌<◌, ◌≤◌, Bool, true, false, nat_lt, List, [], ◌∷◌, map, length, take, codes, Option, Some, None, if◌then◌else◌, IfSome, option_map, refl, ap, ◌∙◌, arith, unsigned_abs, lt-ltb, ne_eqb}
 use Rattle.std.proofs.lemmas.Bool.Decides.{nat_tests}
 use Rattle.un_base.specs.Names.{is_name}
 use Rattle.un_isa.specs.declared.op.Op.{Op}
-use Rattle.un_isa.specs.declared.op.Op.TheVariants.{Imm, Mov, Add, Sub, And, Or, Xor, Addi, Andi, Ori, Mux, CmpEq, CmpGt, CmpGtu, CmpEqi}
-use Rattle.un_isa.specs.declared.op.Op.TheVariants.{CmpGti, Mpyi, Asl, Asr, Lsr, Load, Store, Call, Jump, JumpIf, JumpIfNot, Jumpr, Spill}
-use Rattle.un_isa.specs.declared.op.Op.TheVariants.{Reload, P2R, R2P, Enter, Leave, Nop}
+use Rattle.un_isa.specs.declared.op.Op.TheVariants.{Imm, Mov, Add, Sub, And, Or, Xor, Addi, Andi, Ori, Mux, CmpEq, CmpGt, CmpGtu, CmpEqi, CmpGti, Mpyi, Asl, Asr, Lsr, Load, Store, Call, Jump, JumpIf, JumpIfNot, Jumpr, Spill, Reload, P2R, R2P, Enter, Leave, Nop}
 use Rattle.un_isa.specs.declared.reg.Space.{Space}
 use Rattle.un_isa.specs.declared.reg.Space.TheVariants.{R, P, M}
 use Rattle.un_isa.specs.declared.reg.Reg.{Reg}
@@ -31,9 +27,7 @@ use Rattle.un_isa.specs.Operands.{InRange}
 use Rattle.un_listing.specs.Listing.{text_in}
 use Rattle.un_packet.specs.CodeRules.{number, HasItsBase, IsThere}
 use Rattle.un_listing.proofs.WordTexts.{reg_back}
-use Rattle.un_listing.proofs.InstrWords.{reg_word, AreRegs, literal_words, copied_words, computed_words, with_literal_words, loaded_words}
-use Rattle.un_listing.proofs.InstrWords.{stored_words, moved_words, called_words, jumped_words, jumped_if_words, jumped_if_not_words}
-use Rattle.un_listing.proofs.InstrWords.{returned_words, stack_says}
+use Rattle.un_listing.proofs.InstrWords.{reg_word, AreRegs, literal_words, copied_words, computed_words, with_literal_words, loaded_words, stored_words, moved_words, called_words, jumped_words, jumped_if_words, jumped_if_not_words, returned_words, stack_says}
 
 -- ---- registers by their spaces
 
@@ -412,53 +406,53 @@ instr_back frame small JumpIfNot dst srcs imm label g named = jump_if_not_op dst
 instr_back frame small Jumpr dst srcs imm label g named = jumpr_op dst srcs imm label g.writes g.reads g.literal g.label
 instr_back frame small Nop dst srcs imm label g named = nop_op dst srcs imm label g.writes g.reads g.literal g.label
 instr_back frame small Add dst srcs imm label g named =
-    two_op Add R (record { printed = refl; name = refl; reg = refl; other = refl; found = refl }) (λ e. cc e) dst srcs imm label g.writes
-    g.reads g.literal g.label
+    two_op Add R (record { printed = refl; name = refl; reg = refl; other = refl; found = refl })
+    (λ e. cc e) dst srcs imm label g.writes g.reads g.literal g.label
 instr_back frame small Sub dst srcs imm label g named =
-    two_op Sub R (record { printed = refl; name = refl; reg = refl; other = refl; found = refl }) (λ e. cc e) dst srcs imm label g.writes
-    g.reads g.literal g.label
+    two_op Sub R (record { printed = refl; name = refl; reg = refl; other = refl; found = refl })
+    (λ e. cc e) dst srcs imm label g.writes g.reads g.literal g.label
 instr_back frame small And dst srcs imm label g named =
-    two_op And R (record { printed = refl; name = refl; reg = refl; other = refl; found = refl }) (λ e. cc e) dst srcs imm label g.writes
-    g.reads g.literal g.label
+    two_op And R (record { printed = refl; name = refl; reg = refl; other = refl; found = refl })
+    (λ e. cc e) dst srcs imm label g.writes g.reads g.literal g.label
 instr_back frame small Or dst srcs imm label g named =
-    two_op Or R (record { printed = refl; name = refl; reg = refl; other = refl; found = refl }) (λ e. cc e) dst srcs imm label g.writes
-    g.reads g.literal g.label
+    two_op Or R (record { printed = refl; name = refl; reg = refl; other = refl; found = refl })
+    (λ e. cc e) dst srcs imm label g.writes g.reads g.literal g.label
 instr_back frame small Xor dst srcs imm label g named =
-    two_op Xor R (record { printed = refl; name = refl; reg = refl; other = refl; found = refl }) (λ e. cc e) dst srcs imm label g.writes
-    g.reads g.literal g.label
+    two_op Xor R (record { printed = refl; name = refl; reg = refl; other = refl; found = refl })
+    (λ e. cc e) dst srcs imm label g.writes g.reads g.literal g.label
 instr_back frame small Mpyi dst srcs imm label g named =
-    two_op Mpyi R (record { printed = refl; name = refl; reg = refl; other = refl; found = refl }) (λ e. cc e) dst srcs imm label g.writes
-    g.reads g.literal g.label
+    two_op Mpyi R (record { printed = refl; name = refl; reg = refl; other = refl; found = refl })
+    (λ e. cc e) dst srcs imm label g.writes g.reads g.literal g.label
 instr_back frame small CmpEq dst srcs imm label g named =
-    two_op CmpEq P (record { printed = refl; name = refl; reg = refl; other = refl; found = refl }) (λ e. cc e) dst srcs imm label g.writes
-    g.reads g.literal g.label
+    two_op CmpEq P (record { printed = refl; name = refl; reg = refl; other = refl; found = refl })
+    (λ e. cc e) dst srcs imm label g.writes g.reads g.literal g.label
 instr_back frame small CmpGt dst srcs imm label g named =
-    two_op CmpGt P (record { printed = refl; name = refl; reg = refl; other = refl; found = refl }) (λ e. cc e) dst srcs imm label g.writes
-    g.reads g.literal g.label
+    two_op CmpGt P (record { printed = refl; name = refl; reg = refl; other = refl; found = refl })
+    (λ e. cc e) dst srcs imm label g.writes g.reads g.literal g.label
 instr_back frame small CmpGtu dst srcs imm label g named =
-    two_op CmpGtu P (record { printed = refl; name = refl; reg = refl; other = refl; found = refl }) (λ e. cc e) dst srcs imm label g.writes
-    g.reads g.literal g.label
+    two_op CmpGtu P (record { printed = refl; name = refl; reg = refl; other = refl; found = refl })
+    (λ e. cc e) dst srcs imm label g.writes g.reads g.literal g.label
 instr_back frame small Addi dst srcs imm label g named =
-    with_literal_op Addi R Signed16 (record { printed = refl; name = refl; reg = refl; other = refl; found = refl }) (λ e. cc e) dst srcs
-    imm label g.writes g.stack g.reads g.literal g.label
+    with_literal_op Addi R Signed16 (record { printed = refl; name = refl; reg = refl; other = refl; found = refl })
+    (λ e. cc e) dst srcs imm label g.writes g.stack g.reads g.literal g.label
 instr_back frame small Andi dst srcs imm label g named =
-    with_literal_op Andi R Signed10 (record { printed = refl; name = refl; reg = refl; other = refl; found = refl }) (λ e. cc e) dst srcs
-    imm label g.writes g.stack g.reads g.literal g.label
+    with_literal_op Andi R Signed10 (record { printed = refl; name = refl; reg = refl; other = refl; found = refl })
+    (λ e. cc e) dst srcs imm label g.writes g.stack g.reads g.literal g.label
 instr_back frame small Ori dst srcs imm label g named =
-    with_literal_op Ori R Signed10 (record { printed = refl; name = refl; reg = refl; other = refl; found = refl }) (λ e. cc e) dst srcs imm
-    label g.writes g.stack g.reads g.literal g.label
+    with_literal_op Ori R Signed10 (record { printed = refl; name = refl; reg = refl; other = refl; found = refl })
+    (λ e. cc e) dst srcs imm label g.writes g.stack g.reads g.literal g.label
 instr_back frame small CmpEqi dst srcs imm label g named =
-    with_literal_op CmpEqi P Signed10 (record { printed = refl; name = refl; reg = refl; other = refl; found = refl }) (λ e. cc e) dst srcs
-    imm label g.writes g.stack g.reads g.literal g.label
+    with_literal_op CmpEqi P Signed10 (record { printed = refl; name = refl; reg = refl; other = refl; found = refl })
+    (λ e. cc e) dst srcs imm label g.writes g.stack g.reads g.literal g.label
 instr_back frame small CmpGti dst srcs imm label g named =
-    with_literal_op CmpGti P Signed10 (record { printed = refl; name = refl; reg = refl; other = refl; found = refl }) (λ e. cc e) dst srcs
-    imm label g.writes g.stack g.reads g.literal g.label
+    with_literal_op CmpGti P Signed10 (record { printed = refl; name = refl; reg = refl; other = refl; found = refl })
+    (λ e. cc e) dst srcs imm label g.writes g.stack g.reads g.literal g.label
 instr_back frame small Asl dst srcs imm label g named =
-    with_literal_op Asl R Unsigned5 (record { printed = refl; name = refl; reg = refl; other = refl; found = refl }) (λ e. cc e) dst srcs
-    imm label g.writes g.stack g.reads g.literal g.label
+    with_literal_op Asl R Unsigned5 (record { printed = refl; name = refl; reg = refl; other = refl; found = refl })
+    (λ e. cc e) dst srcs imm label g.writes g.stack g.reads g.literal g.label
 instr_back frame small Asr dst srcs imm label g named =
-    with_literal_op Asr R Unsigned5 (record { printed = refl; name = refl; reg = refl; other = refl; found = refl }) (λ e. cc e) dst srcs
-    imm label g.writes g.stack g.reads g.literal g.label
+    with_literal_op Asr R Unsigned5 (record { printed = refl; name = refl; reg = refl; other = refl; found = refl })
+    (λ e. cc e) dst srcs imm label g.writes g.stack g.reads g.literal g.label
 instr_back frame small Lsr dst srcs imm label g named =
-    with_literal_op Lsr R Unsigned5 (record { printed = refl; name = refl; reg = refl; other = refl; found = refl }) (λ e. cc e) dst srcs
-    imm label g.writes g.stack g.reads g.literal g.label
+    with_literal_op Lsr R Unsigned5 (record { printed = refl; name = refl; reg = refl; other = refl; found = refl })
+    (λ e. cc e) dst srcs imm label g.writes g.stack g.reads g.literal g.label

@@ -1,6 +1,5 @@
 -- The words of an instruction's text.
-use Rattle.std.proofs.Common.{◌≡◌, ℕ, ℤ, ◌<◌, ◌≤◌, true, List, [], ◌∷◌, ◌++◌, map, codes, refl, sym, ap, ◌∙◌, append_assoc, append-nil}
-use Rattle.std.proofs.Common.{unsigned_abs}
+use Rattle.std.proofs.Common.{◌≡◌, ℕ, ℤ, ◌<◌, ◌≤◌, true, List, [], ◌∷◌, ◌++◌, map, codes, refl, sym, ap, ◌∙◌, append_assoc, append-nil, unsigned_abs}
 use Rattle.std.specs.List.{flat_map}
 use Rattle.std.specs.Fmt.{signed_decimal}
 use Rattle.un_base.specs.Names.{is_name}
@@ -109,8 +108,8 @@ word_words base w z says hz rest stop =
     ∙ and_then w _ _ (literal_then z hz (codes ")" ++ rest) refl))
 
 word_end : (base : List ℕ) (w : Word) (z : ℤ) → Says base w → unsigned_abs z ≤ 65535
-    → words_of (codes "memw(" ++ base ++ codes "+" ++ (codes "#" ++ signed_decimal z) ++ codes ")") ≡ Named (codes "memw") ∷ w ∷
-    Literal z ∷ []
+    → words_of (codes "memw(" ++ base ++ codes "+" ++ (codes "#" ++ signed_decimal z) ++ codes ")")
+    ≡ Named (codes "memw") ∷ w ∷ Literal z ∷ []
 word_end base w z says hz =
     sym (ap words_of (append-nil (codes "memw(" ++ base ++ codes "+" ++ (codes "#" ++ signed_decimal z) ++ codes ")")))
     ∙ word_words base w z says hz [] refl
@@ -159,16 +158,16 @@ pub jumped_words : (label : List ℕ) → is_name label ≡ true → words_of (c
 jumped_words label hl = and_then (Named (codes "jump")) _ _ (label_end label hl)
 
 pub jumped_if_words : (p : Reg) (label : List ℕ) → p.0 < 36 → is_name label ≡ true
-    → words_of (codes "if (" ++ reg_text p ++ codes ") jump " ++ label) ≡ Named (codes "if") ∷ reg_word p ∷ Named (codes "jump") ∷
-    Named label ∷ []
+    → words_of (codes "if (" ++ reg_text p ++ codes ") jump " ++ label)
+    ≡ Named (codes "if") ∷ reg_word p ∷ Named (codes "jump") ∷ Named label ∷ []
 jumped_if_words p label hp hl =
     and_then (Named (codes "if")) _ _ (ap words_of (append_assoc (reg_text p) (codes ") jump ") label)
     ∙ reg_then p hp (codes ") jump " ++ label) refl
     ∙ and_then (reg_word p) _ _ (and_then (Named (codes "jump")) _ _ (label_end label hl)))
 
 pub jumped_if_not_words : (p : Reg) (label : List ℕ) → p.0 < 36 → is_name label ≡ true
-    → words_of (codes "if (!" ++ reg_text p ++ codes ") jump " ++ label) ≡ Named (codes "if") ∷ Negated p ∷ Named (codes "jump") ∷
-    Named label ∷ []
+    → words_of (codes "if (!" ++ reg_text p ++ codes ") jump " ++ label)
+    ≡ Named (codes "if") ∷ Negated p ∷ Named (codes "jump") ∷ Named label ∷ []
 jumped_if_not_words p label hp hl =
     and_then (Named (codes "if")) _ _ (ap words_of (append_assoc (33 ∷ reg_text p) (codes ") jump ") label)
     ∙ first_word (33 ∷ reg_text p) (Negated p) (negated_says (reg_text p) p (reg_back p hp)) (codes ") jump " ++ label) refl

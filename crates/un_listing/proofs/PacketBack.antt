@@ -1,6 +1,5 @@
 -- A packet of code is read back from its line.
-use Rattle.std.proofs.Common.{◌≡◌, ℕ, ◌<◌, ◌≤◌, ◌==◌, ◌&&◌, ◌||◌, not, cond, Bool, true, false, List, [], ◌∷◌, ◌++◌, map, filter, length}
-use Rattle.std.proofs.Common.{codes, Option, Some, All, refl, ap, ◌∙◌, append_assoc, append-nil, arith}
+use Rattle.std.proofs.Common.{◌≡◌, ℕ, ◌<◌, ◌≤◌, ◌==◌, ◌&&◌, ◌||◌, not, cond, Bool, true, false, List, [], ◌∷◌, ◌++◌, map, filter, length, codes, Option, Some, All, refl, ap, ◌∙◌, append_assoc, append-nil, arith}
 use Rattle.std.specs.List.{slice_split, onto_first, list_all, flat_map}
 use Rattle.std.specs.Option.{option_and_then}
 use Rattle.std.proofs.lemmas.List.{map-append}
@@ -108,8 +107,8 @@ are_back frame small (i ∷ is) good named =
       are_back frame small is (All-tail (IsGoodInstr frame) i is good) (All-tail IsNamed i is named),
     )
 
-line_back : (is : List Instr) → 0 < length is → AreBack is → instrs_in
-    (parts_of (codes "{ " ++ joined (codes "; ") instr_text is ++ codes " }" ++ codes "\n")) ≡ Some is
+line_back : (is : List Instr) → 0 < length is → AreBack is
+    → instrs_in (parts_of (codes "{ " ++ joined (codes "; ") instr_text is ++ codes " }" ++ codes "\n")) ≡ Some is
 line_back [] some back = absurd (omega arith)
 line_back (i ∷ is) some back =
     ap (λ (t : List ℕ). instrs_in (parts_of (123 ∷ 32 ∷ t))) (regroup (instr_text i) (more_text is) (codes " }") (codes "\n"))

@@ -1,6 +1,5 @@
 -- The first word of a text, cut off.
-use Rattle.std.proofs.Common.{◌≡◌, ⊎_elim, ℕ, Bool, true, false, not, cond, suc, ◌+◌, ◌<◌, ◌≤◌, List, [], ◌∷◌, ◌++◌, map, filter, refl}
-use Rattle.std.proofs.Common.{length, take, drop, arith}
+use Rattle.std.proofs.Common.{◌≡◌, ⊎_elim, ℕ, Bool, true, false, not, cond, suc, ◌+◌, ◌<◌, ◌≤◌, List, [], ◌∷◌, ◌++◌, map, filter, refl, length, take, drop, arith}
 use Rattle.std.specs.List.{slice_split, position_or_len, onto_first}
 use Rattle.std.proofs.lemmas.List.{take_all}
 use Rattle.std.proofs.Math.ListN.{drop_of_length-le}
@@ -19,8 +18,8 @@ whole_part p (b ∷ bs) past = by (p b) refl past (λ h. whole_part p bs h)
     by true e h more = absurd (omega arith)
     by false e h more = rw (more (omega arith)) refl
 
-words_first : (part : List ℕ) (parts : List (List ℕ)) → map word_of (filter is_some_text (part ∷ parts)) ≡ spelled part ++
-    map word_of (filter is_some_text parts)
+words_first : (part : List ℕ) (parts : List (List ℕ))
+    → map word_of (filter is_some_text (part ∷ parts)) ≡ spelled part ++ map word_of (filter is_some_text parts)
 words_first [] parts = refl
 words_first (b ∷ bs) parts = refl
 
@@ -30,8 +29,8 @@ first_word_cut text n e = ⊎_elim here past (cases_lt n (length text))
   where
     here : n < length text → words_of text ≡ spelled (take n text) ++ words_of (drop (n + 1) text)
     here h =
-        let parts = slice_split_first is_between text 0 (omega arith) in
-        rw (e, parts) (words_first (take (position_or_len is_between text) text)
+        let parts = slice_split_first is_between text 0 (omega arith) in rw (e, parts)
+        (words_first (take (position_or_len is_between text) text)
         (slice_split is_between (drop (position_or_len is_between text + 1) text)))
 
     past : length text ≤ n → words_of text ≡ spelled (take n text) ++ words_of (drop (n + 1) text)

@@ -1,7 +1,5 @@
 -- The words that registers, names and literals are.
-use Rattle.std.proofs.Common.{rules, ◌≡◌, ℕ, ℤ, pos, negsuc, suc, ◌+◌, ◌-◌, ◌^◌, ◌<◌, ◌≤◌, min, Bool, true, false, not, ◌&&◌, ◌||◌, ◌==◌}
-use Rattle.std.proofs.Common.{nat_lt, nat_le, List, [], ◌∷◌, ◌++◌, if◌then◌else◌, map, filter, length, slice_index, Some, refl, sym, ap}
-use Rattle.std.proofs.Common.{◌∙◌, subst, append-nil, arith, lt-ltb, ne_eqb, true≢false, zero-add, decimal, unsigned_abs}
+use Rattle.std.proofs.Common.{rules, ◌≡◌, ℕ, ℤ, pos, negsuc, suc, ◌+◌, ◌-◌, ◌^◌, ◌<◌, ◌≤◌, min, Bool, true, false, not, ◌&&◌, ◌||◌, ◌==◌, nat_lt, nat_le, List, [], ◌∷◌, ◌++◌, if◌then◌else◌, map, filter, length, slice_index, Some, refl, sym, ap, ◌∙◌, subst, append-nil, arith, lt-ltb, ne_eqb, true≢false, zero-add, decimal, unsigned_abs}
 use Rattle.std.specs.Fmt.{signed_decimal}
 use Rattle.std.specs.Char.{is_ascii_digit}
 use Rattle.std.specs.List.{list_all, slice_split}
@@ -186,8 +184,7 @@ sigil_name c n first rest h =
       some = omega arith;
       short = omega (arith, w.few);
       first = first;
-      rest =
-          rw (rest, digits_rest (decimal n) n w) refl;
+      rest = rw (rest, digits_rest (decimal n) n w) refl;
     })
 
 general_text : (n : ℕ) → n < 32 → IsRegText (114 ∷ decimal n) (record { 0 = n })
@@ -196,8 +193,7 @@ general_text n h =
     let below : nat_lt n 32 ≡ true = lt-ltb _ _ h in
     record {
       says = name_says (114 ∷ decimal n) (sigil_name 114 n refl refl (omega arith));
-      reg =
-          rw (number_read (decimal n) n w, below, zero-add n) refl;
+      reg = rw (number_read (decimal n) n w, below, zero-add n) refl;
     }
 
 predicate_text : (n : ℕ) → n < 4 → IsRegText (112 ∷ decimal n) (record { 0 = 32 + n })
@@ -206,8 +202,7 @@ predicate_text n h =
     let below : nat_lt n 4 ≡ true = lt-ltb _ _ h in
     record {
       says = name_says (112 ∷ decimal n) (sigil_name 112 n refl refl (omega arith));
-      reg =
-          rw (number_read (decimal n) n w, below) refl;
+      reg = rw (number_read (decimal n) n w, below) refl;
     }
 
 -- a register is read back

@@ -1,8 +1,7 @@
 //! Code from its listing.
 
 ghost use Rattle.std.specs.Prelude.{◌≡◌, ◌+◌, ◌<◌, ◌^◌, ◌++◌, ◌∷◌, [], ℕ, List, Option, IfOk, IfErr, OnOk, MatchOption};
-ghost use Rattle.un_listing.specs.Listing.{code_text};
-ghost use Rattle.un_listing.specs.Reading.{AllStand, IsErrorOf, IsFirstBad, IsFirstBadOf, IsUnder, LineValue, labels_in, lines_in};
+ghost use Rattle.un_listing.specs.Reading.{AllStand, IsErrorOf, IsFirstBad, IsFirstBadOf, IsListingOf, IsReadBack, IsUnder, LineValue, labels_in, lines_in};
 ghost use Rattle.un_listing.specs.LabelSets.{IsBefore, SameLabels};
 
 use crate::judge::stands;
@@ -146,8 +145,9 @@ fn refusal(place: usize) -> ListingError
 /// # Errors
 /// `BadListing` with the first line outside the grammar, from 1; `NoMemory` where there is no memory for the code.
 pub fn read_code(alloc: Global, text: &[u8]) -> Result<Code, ListingError>
-    ensures ok { IfOk result (λ c. text.now ≡ code_text c) }
+    ensures ok { IfOk result (IsListingOf text.now) }
     ensures bad { IfErr result (IsErrorOf text.now) }
+    ensures whole { (c : Code) → IsListingOf text.now c → IsReadBack c result }
 {
     if text.is_empty() {
         return Err(ListingError::BadListing { line: 1 });
