@@ -1,5 +1,6 @@
 -- No semicolon and no line feed stands in an instruction's text.
-use Rattle.std.proofs.Common.{◌≡◌, ℕ, ℤ, suc, zero, ◌<◌, ◌≤◌, ◌==◌, ◌||◌, not, Bool, true, false, List, [], ◌∷◌, ◌++◌, map, codes, slice_get, Option, Some, None, IfSome, option_map, lit≤, refl, arith, unsigned_abs}
+use Rattle.std.proofs.Common.{◌≡◌, ℕ, ℤ, suc, zero, ◌<◌, ◌≤◌, ◌==◌, ◌||◌, not, Bool, true, false, List, [], ◌∷◌, ◌++◌, map, codes}
+use Rattle.std.proofs.Common.{slice_get, Option, Some, None, IfSome, option_map, lit≤, refl, arith, unsigned_abs}
 use Rattle.std.specs.List.{list_all, flat_map}
 use Rattle.std.specs.Fmt.{signed_decimal}
 use Rattle.std.proofs.lemmas.List.Folds.{list_all-append}
@@ -17,10 +18,12 @@ use Rattle.un_isa.specs.Facts.{operand_spaces, result_space, literal_range}
 use Rattle.un_isa.specs.Operands.{IsLiteralOf}
 use Rattle.un_packet.specs.CodeRules.{IsGoodInstr, ReadsItsSpaces, WritesItsSpace, HasItsNumber}
 use Rattle.un_listing.specs.declared.form.Form.{Form}
-use Rattle.un_listing.specs.declared.form.Form.TheVariants.{Literal, Copied, Computed, WithLiteral, Loaded, Stored, Reloaded, Spilled, StackMoved, Called, Jumped, JumpedIf, JumpedIfNot, Returned, Idle}
+use Rattle.un_listing.specs.declared.form.Form.TheVariants.{Literal, Copied, Computed, WithLiteral, Loaded, Stored, Reloaded, Spilled}
+use Rattle.un_listing.specs.declared.form.Form.TheVariants.{StackMoved, Called, Jumped, JumpedIf, JumpedIfNot, Returned, Idle}
 use Rattle.un_listing.specs.declared.word.Word.{Word}
 use Rattle.un_listing.specs.Forms.{form_of, mnemonic}
-use Rattle.un_listing.specs.Listing.{joined, reg_text, some_reg_text, operand_text, operands_text, literal_text, result_text, word_text, label_text, text_in, instr_text}
+use Rattle.un_listing.specs.Listing.{joined, reg_text, some_reg_text, operand_text, operands_text, literal_text, result_text, word_text}
+use Rattle.un_listing.specs.Listing.{label_text, text_in, instr_text}
 use Rattle.un_listing.specs.ListingWords.{is_between}
 use Rattle.un_listing.specs.PacketWords.{IsNamed}
 use Rattle.un_listing.proofs.WordTexts.{Says, reg_back, name_says, literal_says, all_weaker, other_byte}

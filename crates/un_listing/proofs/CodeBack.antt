@@ -21,7 +21,8 @@ use Rattle.un_listing.specs.declared.read.ListingError.{ListingError}
 use Rattle.un_listing.specs.declared.read.ListingError.TheVariants.{NoMemory, BadListing}
 use Rattle.un_listing.specs.Listing.{block_lines, code_text}
 use Rattle.un_listing.specs.PacketWords.{IsNamed}
-use Rattle.un_listing.specs.Reading.{lines_in, HasNames, IsReadAs, IsFrameLine, IsFirstBad, IsFirstBadIn, IsFirstBadOf, IsErrorOf, IsListingOf, frame_text}
+use Rattle.un_listing.specs.Reading.{lines_in, HasNames, IsReadAs, IsFrameLine, IsFirstBad, IsFirstBadIn, IsFirstBadOf, IsErrorOf}
+use Rattle.un_listing.specs.Reading.{IsListingOf, frame_text}
 use Rattle.un_listing.proofs.LinesStand.{lines_stand}
 use Rattle.un_listing.proofs.LineTexts.{IsSpelled, blocks_spelled, first_piece}
 use Rattle.un_listing.proofs.LinesBack.{same_frame, lines_same, spelled_read, blocks_same}

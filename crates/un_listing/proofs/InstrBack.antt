@@ -1,9 +1,13 @@
 -- An instruction of code is what the words of its text spell.
-use Rattle.std.proofs.Common.{◌≡◌, ◌≢◌, ℕ, ℤ, pos, negsuc, suc, zero, ◌+◌, ◌<◌, ◌≤◌, Bool, true, false, nat_lt, List, [], ◌∷◌, map, length, take, codes, Option, Some, None, if◌then◌else◌, IfSome, option_map, refl, ap, ◌∙◌, arith, unsigned_abs, lt-ltb, ne_eqb}
+use Rattle.std.proofs.Common.{◌≡◌, ◌≢◌, ℕ, ℤ, pos, negsuc, suc, zero, ◌+◌, ◌<◌, ◌≤◌, Bool, true, false, nat_lt, List, [], ◌∷◌, map, length}
+use Rattle.std.proofs.Common.{take, codes, Option, Some, None, if◌then◌else◌, IfSome, option_map, refl, ap, ◌∙◌, arith, unsigned_abs}
+use Rattle.std.proofs.Common.{lt-ltb, ne_eqb}
 use Rattle.std.proofs.lemmas.Bool.Decides.{nat_tests}
 use Rattle.un_base.specs.Names.{is_name}
 use Rattle.un_isa.specs.declared.op.Op.{Op}
-use Rattle.un_isa.specs.declared.op.Op.TheVariants.{Imm, Mov, Add, Sub, And, Or, Xor, Addi, Andi, Ori, Mux, CmpEq, CmpGt, CmpGtu, CmpEqi, CmpGti, Mpyi, Asl, Asr, Lsr, Load, Store, Call, Jump, JumpIf, JumpIfNot, Jumpr, Spill, Reload, P2R, R2P, Enter, Leave, Nop}
+use Rattle.un_isa.specs.declared.op.Op.TheVariants.{Imm, Mov, Add, Sub, And, Or, Xor, Addi, Andi, Ori, Mux, CmpEq, CmpGt, CmpGtu, CmpEqi}
+use Rattle.un_isa.specs.declared.op.Op.TheVariants.{CmpGti, Mpyi, Asl, Asr, Lsr, Load, Store, Call, Jump, JumpIf, JumpIfNot, Jumpr, Spill}
+use Rattle.un_isa.specs.declared.op.Op.TheVariants.{Reload, P2R, R2P, Enter, Leave, Nop}
 use Rattle.un_isa.specs.declared.reg.Space.{Space}
 use Rattle.un_isa.specs.declared.reg.Space.TheVariants.{R, P, M}
 use Rattle.un_isa.specs.declared.reg.Reg.{Reg}
@@ -27,7 +31,9 @@ use Rattle.un_isa.specs.Operands.{InRange}
 use Rattle.un_listing.specs.Listing.{text_in}
 use Rattle.un_packet.specs.CodeRules.{number, HasItsBase, IsThere}
 use Rattle.un_listing.proofs.WordTexts.{reg_back}
-use Rattle.un_listing.proofs.InstrWords.{reg_word, AreRegs, literal_words, copied_words, computed_words, with_literal_words, loaded_words, stored_words, moved_words, called_words, jumped_words, jumped_if_words, jumped_if_not_words, returned_words, stack_says}
+use Rattle.un_listing.proofs.InstrWords.{reg_word, AreRegs, literal_words, copied_words, computed_words, with_literal_words, loaded_words}
+use Rattle.un_listing.proofs.InstrWords.{stored_words, moved_words, called_words, jumped_words, jumped_if_words, jumped_if_not_words}
+use Rattle.un_listing.proofs.InstrWords.{returned_words, stack_says}
 
 -- ---- registers by their spaces
 

@@ -1,5 +1,6 @@
 -- What the tests of a line's place say.
-use Rattle.std.proofs.Common.{◌≡◌, ◌↔◌, ℕ, suc, zero, ◌<◌, ◌||◌, ◌==◌, Bool, true, false, IsTrue, List, [], ◌∷◌, Contains, length, get_or, Option, Some, IsSomeAnd, not, true≢false, ◌+◌, refl, sym, ap, ◌∙◌, arith}
+use Rattle.std.proofs.Common.{◌≡◌, ◌↔◌, ℕ, suc, zero, ◌<◌, ◌||◌, ◌==◌, Bool, true, false, IsTrue, List, [], ◌∷◌, Contains, length, get_or}
+use Rattle.std.proofs.Common.{Option, Some, IsSomeAnd, not, true≢false, ◌+◌, refl, sym, ap, ◌∙◌, arith}
 use Rattle.std.specs.Str.{bytes_eq}
 use Rattle.std.proofs.lemmas.Slice.Eq.{bytes_eq-Decides}
 use Rattle.std.proofs.lemmas.Bool.{eqb-true}

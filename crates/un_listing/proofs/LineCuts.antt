@@ -1,5 +1,6 @@
 -- A line between a text and its line feed.
-use Rattle.std.proofs.Common.{◌≡◌, ◌≢◌, ℕ, ◌+◌, ◌-◌, true, false, Bor, List, [], ◌∷◌, ◌++◌, Option, Some, None, MatchOption, IfSome, IfNone, length, take, drop, refl, sym, ap, ◌∙◌, true≢false}
+use Rattle.std.proofs.Common.{◌≡◌, ◌≢◌, ℕ, ◌+◌, ◌-◌, true, false, Bor, List, [], ◌∷◌, ◌++◌, Option, Some, None, MatchOption, IfSome, IfNone}
+use Rattle.std.proofs.Common.{length, take, drop, refl, sym, ap, ◌∙◌, true≢false}
 use Rattle.std.specs.Str.{bytes_eq}
 use Rattle.std.proofs.lemmas.List.{take-append-drop}
 use Rattle.std.proofs.lemmas.Slice.Eq.{bytes_eq-Decides}

@@ -1,5 +1,7 @@
 -- The lines of code stand at their places.
-use Rattle.std.proofs.Common.{◌≡◌, ◌≢◌, ◌<◌, ℕ, suc, zero, ◌+◌, Bool, true, false, List, [], ◌∷◌, ◌++◌, Option, Some, length, slice_get, IsSomeAnd, All, AllPairs, Contains, sum_by, get_or, ⊎_elim, refl, sym, ap, subst, arith, append-nil, append_assoc, length-append}
+use Rattle.std.proofs.Common.{◌≡◌, ◌≢◌, ◌<◌, ℕ, suc, zero, ◌+◌, Bool, true, false, List, [], ◌∷◌, ◌++◌, Option, Some, length, slice_get}
+use Rattle.std.proofs.Common.{IsSomeAnd, All, AllPairs, Contains, sum_by, get_or, ⊎_elim, refl, sym, ap, subst, arith, append-nil}
+use Rattle.std.proofs.Common.{append_assoc, length-append}
 use Rattle.std.specs.Bool.{OnTrue}
 use Rattle.std.proofs.lemmas.List.Elements.{All-head, All-tail, Contains-push_cases}
 use Rattle.std.proofs.lemmas.List.Sums.{sum_by-cons}

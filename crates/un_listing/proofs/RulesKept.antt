@@ -1,5 +1,6 @@
 -- Blocks whose lines all stand keep the rules of code.
-use Rattle.std.proofs.Common.{◌≡◌, ◌≢◌, ◌<◌, ℕ, suc, zero, ◌+◌, Bool, true, false, List, [], ◌∷◌, ◌++◌, Option, Some, length, slice_get, IsSomeAnd, All, Contains, sum_by, refl, sym, ap, ◌∙◌, subst, arith, append-nil, append_assoc, length-append}
+use Rattle.std.proofs.Common.{◌≡◌, ◌≢◌, ◌<◌, ℕ, suc, zero, ◌+◌, Bool, true, false, List, [], ◌∷◌, ◌++◌, Option, Some, length, slice_get}
+use Rattle.std.proofs.Common.{IsSomeAnd, All, Contains, sum_by, refl, sym, ap, ◌∙◌, subst, arith, append-nil, append_assoc, length-append}
 use Rattle.std.specs.List.{AllByRecursion as Each}
 use Rattle.std.specs.Bool.{OnTrue}
 use Rattle.std.proofs.lemmas.List.Elements.{All-cons, All-nil, Contains-append_left, Contains-push}
@@ -8,7 +9,8 @@ use Rattle.un_words.proofs.Each.{EachPair, EachPair-AllPairs}
 use Rattle.un_packet.specs.declared.code.TheConstants.{PACKETS, BLOCKS}
 use Rattle.un_packet.specs.declared.code.Packet.{Packet}
 use Rattle.un_packet.specs.declared.code.CodeBlock.{CodeBlock}
-use Rattle.un_packet.specs.CodeRules.{LeadsToOneOf, transfers, TransfersLast, EndsByLeaving, IsGoodPacket, IsGoodCodeBlock, KeepsRules, labels_of}
+use Rattle.un_packet.specs.CodeRules.{LeadsToOneOf, transfers, TransfersLast, EndsByLeaving, IsGoodPacket, IsGoodCodeBlock, KeepsRules}
+use Rattle.un_packet.specs.CodeRules.{labels_of}
 use Rattle.un_listing.specs.declared.line.Line.{Line}
 use Rattle.un_listing.specs.declared.line.Line.TheVariants.{Block as BlockLine, Packet as PacketLine}
 use Rattle.un_listing.specs.Reading.{labels_in, packets_in, AllStand, lines_in, packet_lines, IsFrameLine}

@@ -2,7 +2,8 @@
 
 ghost use Rattle.std.specs.Prelude.{◌≡◌, ℕ, ◌+◌, ◌<◌, ◌++◌, ◌||◌, Bool, Option, Some, map, length, IfOk, OnOk, slice_index_or};
 ghost use Rattle.std.specs.Option.{option_to_list};
-ghost use Rattle.un_model.specs.Arcs.{is_mandatory, own_instr, value_read, defines, reads_from, data_gap, memory_gap, larger, largest_gap, arc, arcs_between, arcs_into, block_arcs, blocks_arcs};
+ghost use Rattle.un_model.specs.Arcs.{is_mandatory, own_instr, value_read, defines, reads_from, data_gap, memory_gap, larger, largest_gap};
+ghost use Rattle.un_model.specs.Arcs.{arc, arcs_between, arcs_into, block_arcs, blocks_arcs};
 
 use crate::distances::memory_distance;
 use crate::instructions::{instruction, latency};
@@ -176,7 +177,11 @@ fn block_arcs(
 }
 
 /// The arcs of each block.
-pub(crate) fn arcs(alloc: Global, e: &Ext, temps: &[TempVars]) -> Result<Items<Items<Arc>>, NoMemory>
+pub(crate) fn arcs(
+    alloc: Global,
+    e: &Ext,
+    temps: &[TempVars],
+) -> Result<Items<Items<Arc>>, NoMemory>
     ensures { IfOk result (λ arcs. arcs ≡ blocks_arcs e.now.table temps.now 0 e.now.blocks) }
 {
     let mut arcs = Items::new(alloc);

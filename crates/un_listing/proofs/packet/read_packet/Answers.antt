@@ -6,7 +6,8 @@ use Rattle.un_listing.specs.PacketWords.{parts_of, instrs_in, IsPacketLine}
 use Rattle.un_listing.proofs.LabelNames.{all_named}
 use Rattle.un_listing.proofs.PacketBack.{packet_back}
 use Rattle.un_listing.proofs.packet.read_packet.Goals as goal
-use Rattle.un_listing.proofs.packet.read_packet.Goals.{then-not-branch-via-then-not-branch, then-not-branch-via-else-not-branch+in_ok-is_printed+then-not-branch-2}
+use Rattle.un_listing.proofs.packet.read_packet.Goals.{then-not-branch-via-then-not-branch}
+use Rattle.un_listing.proofs.packet.read_packet.Goals.{then-not-branch-via-else-not-branch+in_ok-is_printed+then-not-branch-2}
 
 pub returns-in-None-clause-whole : goal.returns-in-None-clause-whole
 returns-in-None-clause-whole c = λ p h.
