@@ -1,5 +1,5 @@
 -- Code is read back from its listing.
-use Rattle.std.proofs.Common.{◌≡◌, ℕ, pos, List, [], ◌∷◌, ◌++◌, Option, None, codes, All, inl, inr, refl, sym, ap, ◌∙◌, subst}
+use Rattle.std.proofs.Common.{◌≡◌, ◌<◌, ℕ, ◌+◌, pos, List, [], ◌∷◌, ◌++◌, Option, None, codes, All, inl, inr, refl, sym, ap, ◌∙◌, subst, arith}
 use Rattle.std.specs.List.{AllZip, flat_map}
 use Rattle.std.specs.Fmt.{decimal}
 use Rattle.std.specs.Coded.{coded_list}
@@ -24,8 +24,8 @@ use Rattle.un_listing.specs.PacketWords.{IsNamed}
 use Rattle.un_listing.specs.Reading.{lines_in, HasNames, IsReadAs, IsFrameLine, IsFirstBad, IsFirstBadIn, IsFirstBadOf, IsErrorOf}
 use Rattle.un_listing.specs.Reading.{IsListingOf, frame_text}
 use Rattle.un_listing.proofs.LinesStand.{lines_stand}
-use Rattle.un_listing.proofs.LineTexts.{IsSpelled, blocks_spelled, first_piece}
-use Rattle.un_listing.proofs.LinesBack.{same_frame, lines_same, spelled_read, blocks_same}
+use Rattle.un_listing.proofs.LineTexts.{blocks_spelled, first_piece}
+use Rattle.un_listing.proofs.LinesBack.{same_frame, readings_same, spelled_read, blocks_same}
 
 parts_same : {X : Type 0} (x y : X) (xs ys : List X) → x ∷ xs ≡ y ∷ ys → (x ≡ y) × (xs ≡ ys)
 parts_same x y xs ys e = (cc e, cc e)
@@ -38,8 +38,10 @@ abbrev rest_of : List CodeBlock → List (List ℕ)
 rest_of bs = pieces_of (joined_lines (flat_map block_lines bs))
 
 module _ (frame : ℕ) (bs : List CodeBlock) (rules : KeepsRules frame bs) (names : All HasNames bs) where
-  spelled : AllZip (IsSpelled frame) (rest_of bs) (lines_in bs)
-  spelled = blocks_spelled frame rules.small (labels_of bs) bs rules.good_blocks names
+  readings : AllZip (IsReadAs frame) (rest_of bs) (lines_in bs)
+  readings =
+      spelled_read frame rules.small (rest_of bs) (lines_in bs)
+      (blocks_spelled frame rules.small (labels_of bs) bs rules.good_blocks names)
 
   pieces : pieces_of (listing frame bs) ≡ frame_text frame ∷ rest_of bs
   pieces = first_piece frame rules.small (flat_map block_lines bs)
@@ -53,10 +55,10 @@ module _ (frame : ℕ) (bs : List CodeBlock) (rules : KeepsRules frame bs) (name
   one_text first rest other lines e f is read =
       let same : other ≡ frame = same_frame first other frame is.small rules.small is.spelled e in (
         same,
-        lines_same frame rules.small (rest_of bs) lines (lines_in bs)
+        readings_same frame rules.small (rest_of bs) lines (lines_in bs)
             (subst (λ (n : ℕ). AllZip (IsReadAs n) (rest_of bs) lines) same
             (subst (λ (ts : List (List ℕ)). AllZip (IsReadAs other) ts lines) f read))
-            spelled,
+            readings,
       )
 
   -- no line of it is bad
@@ -82,7 +84,7 @@ module _ (frame frame' : ℕ) (bs bs' : List CodeBlock) (rules : KeepsRules fram
   one_listing : (frame ≡ frame') × (lines_in bs ≡ lines_in bs')
   one_listing =
       one_text frame' bs' rules' names' (frame_text frame) (rest_of bs) frame (lines_in bs) parts.0 parts.1 (framed frame bs rules names)
-      (spelled_read frame rules.small (rest_of bs) (lines_in bs) (spelled frame bs rules names))
+      (readings frame bs rules names)
 
 -- ---- code
 
@@ -124,6 +126,32 @@ refused text NoMemory c h k = refl
 refused text (BadListing line) c h k =
     absurd (∥∥₁_elim c.rules (λ (x y : ⊥). absurd x)
     (λ rules. none_bad c.frame c.blocks rules k.names line (subst (λ (t : List ℕ). IsFirstBad t line) k.spelled h)))
+
+-- ---- the first bad line
+
+one_place : (lines : List (Option Line)) (j k : ℕ) → IsFirstBadOf lines j → IsFirstBadOf lines k → j ≡ k
+one_place lines j k h g =
+    let not_before : j < k → ⊥ = λ below. h.here (g.before j below) in
+    let not_behind : k < j → ⊥ = λ below. g.here (h.before k below) in
+    omega arith
+
+-- a text has at most one first bad line
+pub one_bad : (text : List ℕ) (m n : ℕ) → IsFirstBad text m → IsFirstBad text n → m ≡ n
+one_bad text m n = by (pieces_of text)
+  where
+    by : (ts : List (List ℕ)) → IsFirstBadIn ts m → IsFirstBadIn ts n → m ≡ n
+    by [] e f = e ∙ sym f
+    by (t ∷ ts) (inl (none, e)) (inl (other, f)) = e ∙ sym f
+    by (t ∷ ts) (inl (none, e)) (inr h) = absurd (none h.frame h.framed)
+    by (t ∷ ts) (inr h) (inl (none, e)) = absurd (none h.frame h.framed)
+    by (t ∷ ts) (inr h) (inr k) =
+        let frames : h.frame ≡ k.frame = same_frame t h.frame k.frame h.framed.small k.framed.small h.framed.spelled k.framed.spelled in
+        let lines : h.lines ≡ k.lines = readings_same k.frame k.framed.small ts h.lines k.lines
+        (subst (λ (f : ℕ). AllZip (IsReadAs f) ts h.lines) frames h.read) k.read in
+        h.numbered
+        ∙ ap (λ (p : ℕ). p + 2) (one_place k.lines h.place k.place
+        (subst (λ (ls : List (Option Line)). IsFirstBadOf ls h.place) lines h.bad) k.bad)
+        ∙ sym k.numbered
 
 -- ---- there is a listing
 

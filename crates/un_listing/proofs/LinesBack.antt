@@ -46,17 +46,21 @@ module _ (frame : ℕ) (small : frame ≤ 256) where
   one_reading text None line h s = absurd (h line s)
   one_reading text (Some l) line h s = ap (λ (x : Line). Some x) (one_line text l line h s)
 
-  pub lines_same : (texts : List (List ℕ)) (ls ms : List (Option Line)) → AllZip (IsReadAs frame) texts ls
-      → AllZip (IsSpelled frame) texts ms → ls ≡ ms
-  lines_same [] [] [] h k = refl
-  lines_same [] (l ∷ ls) ms h k = absurd h
-  lines_same [] [] (m ∷ ms) h k = absurd k
-  lines_same (t ∷ ts) [] ms h k = absurd h
-  lines_same (t ∷ ts) (l ∷ ls) [] h k = absurd k
-  lines_same (t ∷ ts) (l ∷ ls) (None ∷ ms) h (here, later) = absurd here
-  lines_same (t ∷ ts) (l ∷ ls) (Some m ∷ ms) (read, more) (here, later) =
-      ap (λ (x : Option Line). x ∷ ls) (one_reading t l m read here) ∙ ap (λ (xs : List (Option Line)). Some m ∷ xs)
-      (lines_same ts ls ms more later)
+  reading_same : (text : List ℕ) (o p : Option Line) → IsReadAs frame text o → IsReadAs frame text p → o ≡ p
+  reading_same text o (Some line) h s = one_reading text o line h s
+  reading_same text (Some line) None h s = absurd (s line h)
+  reading_same text None None h s = refl
+
+  pub readings_same : (texts : List (List ℕ)) (ls ms : List (Option Line)) → AllZip (IsReadAs frame) texts ls
+      → AllZip (IsReadAs frame) texts ms → ls ≡ ms
+  readings_same [] [] [] h k = refl
+  readings_same [] (l ∷ ls) ms h k = absurd h
+  readings_same [] [] (m ∷ ms) h k = absurd k
+  readings_same (t ∷ ts) [] ms h k = absurd h
+  readings_same (t ∷ ts) (l ∷ ls) [] h k = absurd k
+  readings_same (t ∷ ts) (l ∷ ls) (m ∷ ms) (here, more) (there, later) =
+      ap (λ (x : Option Line). x ∷ ls) (reading_same t l m here there)
+      ∙ ap (λ (xs : List (Option Line)). m ∷ xs) (readings_same ts ls ms more later)
 
   -- what a line spells it is read as
   pub spelled_read : (texts : List (List ℕ)) (ls : List (Option Line)) → AllZip (IsSpelled frame) texts ls

@@ -140,8 +140,8 @@ fn refusal(place: usize) -> ListingError
     }
 }
 
-/// The code whose listing this is. A label's line at which there would be 2^28 blocks is bad, and a packet's line at which there
-/// would be 2^28 packets.
+/// The code whose listing this is; the listing of each code is read back as that code. A label's line at which there would be 2^28
+/// blocks is bad, and a packet's line at which there would be 2^28 packets.
 ///
 /// # Errors
 /// `BadListing` with the first line outside the grammar, from 1; `NoMemory` where there is no memory for the code.
