@@ -7,8 +7,8 @@ use Rattle.un_isa.specs.declared.op.Op.TheVariants.{Jump, JumpIf, JumpIfNot, Jum
 use Rattle.un_isa.specs.declared.instr.Instr.{Instr}
 use Rattle.un_packet.specs.Step.{PacketState, PacketStep, Went, Jumped, Stopped, Returned, operand_in, is_return, jumps, jumps_by, leads}
 use Rattle.un_packet.specs.Step.{goes_on}
-use Rattle.un_emit.proofs.Lists.{Each, Pairwise, Member, each_member, each_of, member_map, member_map_of, found, none_found, find_none}
-use Rattle.un_emit.proofs.Lists.{pairwise_two}
+use Rattle.un_model.proofs.Lists.{Each, Pairwise, Member, each_member, each_of, member_map, member_map_of, found, none_found, find_none}
+use Rattle.un_model.proofs.Lists.{pairwise_two}
 use Rattle.un_emit.proofs.Settled.{the_return}
 use Rattle.un_emit.proofs.Timed.{Job, instrs, NotBoth, is_transfer, is_control}
 
@@ -42,7 +42,7 @@ found_one test js j m p alone = go (find test (instrs js)) refl
         e ∙ ap Some (sym r.2 ∙ ap (λ (k : Job). k.instr) same)
 
 found_none : (test : Instr → Bool) (js : List Job) → ((i : Job) → Member i js → test i.instr ≡ false) → find test (instrs js) ≡ None
-found_none test js h = find_none test (instrs js) (Rattle.un_emit.proofs.Lists.each_map (λ i. test i ≡ false) (λ (j : Job). j.instr) js
+found_none test js h = find_none test (instrs js) (Rattle.un_model.proofs.Lists.each_map (λ i. test i ≡ false) (λ (j : Job). j.instr) js
     (each_of (λ (i : Job). test i.instr ≡ false) js h))
 
 return_transfer : (op : Op) → is_return op ≡ true → is_transfer op ≡ true

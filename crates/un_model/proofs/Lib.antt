@@ -18,3 +18,11 @@ pub mod Numbering
 pub mod HomeSteps
 pub mod HomeMasks
 pub mod Verdicts
+pub mod Lists
+pub mod OpDomains
+pub mod PlacedSchedules
+pub mod Operations
+pub mod Placed
+pub mod TempKinds
+pub mod Readings
+pub mod ArcsKept
