@@ -89,5 +89,6 @@ module _ (m : Model) (h : IsSpillable m) (values : List ℕ) (same : values ≡ 
   pub domains_of_model : KeepsDomains m.domains values
   domains_of_model =
       let laid = are_laid_out m h values same in
-      let kept = keeps_domains m.ext m.options h.table laid (is_extended m h).good.each times_of_model (all_real true m.ext.blocks laid) each_in in
+      let good = (is_extended m h).good in
+      let kept = keeps_domains m.ext m.options h.table laid good.each times_of_model (all_real true m.ext.blocks laid) each_in in
       subst (KeepsDomains m.domains) (sym same) (subst (λ (n : Model). KeepsDomains n.domains (spilled_values m.ext)) (sym h.model) kept)
