@@ -1,6 +1,5 @@
 -- The entries of lists in tests.
 use Rattle.std.specs.Prelude.{List, [], ◌∷◌}
-use Rattle.un_base.specs.declared.ids.VarId.{VarId}
 use Rattle.un_prop.specs.declared.act.Act.TheVariants.{Always, Var as ActVar}
 use Rattle.un_prop.specs.declared.act.At.TheVariants.{Var}
 use Rattle.un_prec.specs.declared.reads.ReadAlt.{ReadAlt}
