@@ -1,0 +1,2 @@
+pub mod Clobber
+pub mod Operands

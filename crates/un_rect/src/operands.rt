@@ -1,0 +1,1 @@
+//! Operands: two that read different values have different registers.
