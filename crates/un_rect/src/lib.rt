@@ -4,3 +4,4 @@
 pub mod clobber;
 mod operand;
 pub mod operands;
+mod values;
