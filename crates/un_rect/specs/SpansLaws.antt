@@ -25,14 +25,14 @@ use Rattle.un_rect.specs.Spans.{starts, use_time, last_use, ends, least_start, g
 
 pub only_is : (xs : List ℕ) (n y : ℕ) → is_only xs n ≡ true → has xs y ≡ true → y ≡ n
 only_is [] n y e h = absurd (cc h)
-only_is (z ∷ w ∷ zs) n y e h = absurd (let one = (firsts _ _ e).0 in let is : length (z ∷ w ∷ zs) ≡ 1 = grind (arith, nat_tests, one) in omega (arith, is))
+only_is (z ∷ w ∷ zs) n y e h = absurd (let one = (firsts (nat_eq (length (z ∷ w ∷ zs)) 1) (nat_eq (least (z ∷ w ∷ zs)) n) e).0 in let is : length (z ∷ w ∷ zs) ≡ 1 = grind (arith, nat_tests, one) in omega (arith, is))
 only_is (z ∷ []) n y e h =
-    let is : z ≡ n = (let t = (firsts _ _ e).1 in grind (arith, nat_tests, t)) in
+    let is : z ≡ n = (let t = (firsts (nat_eq (length (z ∷ [])) 1) (nat_eq (least (z ∷ [])) n) e).1 in grind (arith, nat_tests, t)) in
     elim (has-cons z y [] h) [ inl same ↦ same ∙ is | inr none ↦ absurd (cc none) ]
 
 pub only_below : (t s : Sets) (v n : ℕ) → Below t s → 0 < length (set_at t v) → is_only (set_at s v) n ≡ true → is_only (set_at t v) n ≡ true
 only_below t s v n le some e =
-    let one : length (set_at s v) ≡ 1 = (let b = (firsts _ _ e).0 in grind (arith, nat_tests, b)) in
+    let one : length (set_at s v) ≡ 1 = (let b = (firsts (nat_eq (length (set_at s v)) 1) (nat_eq (least (set_at s v)) n) e).0 in grind (arith, nat_tests, b)) in
     subst (λ (xs : List ℕ). is_only xs n ≡ true) (sym (single_below t s v le some one)) e
 
 -- The times of occupation
