@@ -1,2 +1,5 @@
+pub mod Apart
+pub mod PairLaws
+pub mod Pairs
 pub mod Spans
 pub mod SpansLaws
