@@ -5,7 +5,7 @@ use Rattle.std.specs.List.{list_all}
 use Rattle.un_base.specs.declared.ids.VarId.{VarId}
 use Rattle.un_domains.specs.Sets.{Sets, set_at, has, cut_by}
 use Rattle.un_prop.specs.Among.{among}
-use Rattle.un_prop.specs.Acts.{act_vars, at_vars, is_active}
+use Rattle.un_prop.specs.Acts.{act_vars, at_vars, is_active, Occupies}
 use Rattle.un_prop.specs.Last.{last_cut}
 use Rattle.un_prop.specs.Looks.{sure}
 use Rattle.un_prop.specs.Parts.{Part}
@@ -24,6 +24,12 @@ pair_holds a b x =
 abbrev pub apart_holds : List Temp → List ℕ → Bool
 apart_holds [] x = true
 apart_holds (a ∷ rest) x = list_all (λ b. pair_holds a b x) rest && apart_holds rest x
+
+-- no two active temporaries with one register occupy it in one cycle
+abbrev pub IsApart : List Temp → List ℕ → Type 0
+IsApart temps x = (i j t : ℕ) (d : Temp) → i < j → j < length temps
+    → slice_index x (slice_index_or temps i d).reg.0 ≡ slice_index x (slice_index_or temps j d).reg.0
+    → Occupies (slice_index_or temps i d) t x → Occupies (slice_index_or temps j d) t x → ⊥
 
 -- The variables of a temporary
 
