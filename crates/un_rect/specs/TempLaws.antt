@@ -5,7 +5,7 @@ use Rattle.std.specs.Bool.{⊤}
 use Rattle.std.specs.List.{AllByRecursion, Contains}
 use Rattle.std.proofs.lemmas.Bool.Decides.{nat_tests}
 use Rattle.std.proofs.lemmas.List.Folds.{list_any-append}
-use Rattle.std.proofs.lemmas.List.Elements.{recursion_from_All, All-from_recursion, All-contains}
+use Rattle.std.proofs.lemmas.List.Elements.{recursion_from_All, All-from_recursion, All-contains, All-append}
 use Rattle.un_base.specs.declared.ids.VarId.{VarId}
 use Rattle.un_domains.specs.Sets.{Sets, set_at, NoneEmpty}
 use Rattle.un_domains.specs.Order.{Below}
@@ -153,6 +153,26 @@ own_temp a = record {
 
 pub temp_wider : (us vs : List VarId) (a : Temp) → ((v : VarId) → among us v ≡ true → among vs v ≡ true) → TempVars us a → TempVars vs a
 temp_wider us vs a f h = temp_shared us us vs a (λ v p q. f v p) h h
+
+-- they stand in each list in which its parts do
+users_all : (vs : List VarId) (xs : List UserOf) → AllByRecursion (UserVars vs) xs → AllAmong vs (users_vars xs)
+users_all vs [] h = λ i d lt. absurd (omega (arith, lt))
+users_all vs (u ∷ xs) h = All-append (λ v. among vs v ≡ true) (user_vars u) (users_vars xs)
+    (All-append (λ v. among vs v ≡ true) (act_vars u.on) (at_vars u.at ++ choice_vars u.choice) (h.0).of_on
+    (All-append (λ v. among vs v ≡ true) (at_vars u.at) (choice_vars u.choice) (h.0).of_at (h.0).of_choice)) (users_all vs xs h.1)
+
+pub temp_all : (vs : List VarId) (a : Temp) → TempVars vs a → AllAmong vs (temp_vars a)
+temp_all vs a h = by
+    (All-append (λ v. among vs v ≡ true) (act_vars a.on) (at_vars a.at ++ users_vars a.users) h.of_on
+    (All-append (λ v. among vs v ≡ true) (at_vars a.at) (users_vars a.users) h.of_at (users_all vs a.users (recursion_from_All (UserVars vs) a.users h.of_users))))
+  where
+    by : AllAmong vs (act_vars a.on ++ (at_vars a.at ++ users_vars a.users)) → AllAmong vs (temp_vars a)
+    by rest zero d lt = h.of_reg
+    by rest (suc i) d lt = rest i d (omega (arith, lt))
+
+pub pair_all : (vs : List VarId) (a b : Temp) → TempVars vs a → TempVars vs b → (u : VarId) → among (temp_vars a ++ temp_vars b) u ≡ true → among vs u ≡ true
+pair_all vs a b ha hb u h = All-contains (λ v. among vs v ≡ true) (temp_vars a ++ temp_vars b) u
+    (All-append (λ v. among vs v ≡ true) (temp_vars a) (temp_vars b) (temp_all vs a ha) (temp_all vs b hb)) (in_list (temp_vars a ++ temp_vars b) u h)
 
 -- both stand among those of the pair
 pub pair_first : (vs : List VarId) (a b : Temp) → TempVars vs a → TempVars (pair_vars vs a b) a
