@@ -1,6 +1,17 @@
+pub mod Apart
+pub mod ApartLaws
+pub mod CheckLaws
+pub mod Checks
 pub mod Clobber
 pub mod Entries
 pub mod EntryLaws
+pub mod Opened
+pub mod OpenedLaws
 pub mod Operands
 pub mod OperandsLaws
+pub mod PairLaws
+pub mod Pairs
 pub mod Sides
+pub mod Spans
+pub mod SpansLaws
+pub mod TempLaws

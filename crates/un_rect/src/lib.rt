@@ -1,7 +1,12 @@
-//! Propagators of registers in time: what occupies a register when, and what two operands may share.
+//! Propagators of rectangles: temporaries in registers over cycles.
 #![tactic(auto)]
 
+pub mod apart;
+mod checks;
+mod clashes;
 pub mod clobber;
+mod opened;
 mod operand;
 pub mod operands;
+pub mod spans;
 mod values;

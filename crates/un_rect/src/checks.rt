@@ -1,0 +1,1 @@
+//! Checks of two temporaries of which one variable is left to decide.

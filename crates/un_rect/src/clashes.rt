@@ -1,0 +1,1 @@
+//! Registers that a sure temporary takes from those that it surely overlaps.
