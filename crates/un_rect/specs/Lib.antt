@@ -3,8 +3,10 @@ pub mod ApartLaws
 pub mod CheckLaws
 pub mod Checks
 pub mod Clobber
+pub mod ClobberLaws
 pub mod Entries
 pub mod EntryLaws
+pub mod Inherited
 pub mod Opened
 pub mod OpenedLaws
 pub mod Operands
