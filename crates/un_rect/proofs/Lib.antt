@@ -1,1 +1,4 @@
-mod Loops
+pub mod ClashLaws
+pub mod Loops
+pub mod Refusals
+pub mod Rows

@@ -21,6 +21,12 @@ abbrev pub opened_after : Sets → List VarId → Opened → Opened
 opened_after s [] o = o
 opened_after s (v ∷ vs) o = opened_after s vs (opened_at s o v)
 
+-- whether there are more than one
+abbrev pub is_more : Opened → Bool
+is_more Nothing = false
+is_more (One v) = false
+is_more More = true
+
 -- what it says of the variables that are meant
 abbrev pub Says : (VarId → Bool) → Sets → Opened → Type 0
 Says m s Nothing = (u : VarId) → m u ≡ true → is_open s u ≡ false

@@ -13,7 +13,7 @@ use Rattle.un_prop.specs.Among.{among}
 use Rattle.un_prop.specs.AmongLaws.{in_list}
 use Rattle.un_prop.specs.Last.{is_open, open_of, last_of, last_cut, last_cut_at, point}
 use Rattle.un_prop.specs.LastLaws.{Ascend, last_single, last_at}
-use Rattle.un_rect.specs.Opened.{opened_with, opened_at, opened_after, Says}
+use Rattle.un_rect.specs.Opened.{opened_with, opened_at, opened_after, is_more, Says}
 use Rattle.un_rect.specs.TempLaws.{among_here, among_later, among_filter}
 use Rattle.un_rect.specs.declared.opened.Opened.{Opened}
 use Rattle.un_rect.specs.declared.opened.Opened.TheVariants.{Nothing, One, More}
@@ -35,6 +35,11 @@ at_more s v = by (is_open s v)
 pub after_more : (s : Sets) (vs : List VarId) → opened_after s vs More ≡ More
 after_more s [] = refl
 after_more s (v ∷ vs) = ap (opened_after s vs) (at_more s v) ∙ after_more s vs
+
+pub more_is : (o : Opened) → is_more o ≡ true → o ≡ More
+more_is Nothing e = absurd (cc e)
+more_is (One v) e = absurd (cc e)
+more_is More e = refl
 
 -- What it says
 
@@ -89,6 +94,9 @@ says_same : (m n : VarId → Bool) (s : Sets) (o : Opened) → ((u : VarId) → 
 says_same m n s Nothing e h = λ u t. h u (e u ∙ t)
 says_same m n s (One v) e h = (sym (e v) ∙ h.0, h.1, λ u t wide. h.2 u (e u ∙ t) wide)
 says_same m n s More e (u, w, mu, mw, ou, ow, ne) = (u, w, sym (e u) ∙ mu, sym (e w) ∙ mw, ou, ow, ne)
+
+pub says_more : (m n : VarId → Bool) (s : Sets) → ((u : VarId) → m u ≡ true → n u ≡ true) → Says m s More → Says n s More
+says_more m n s f (u, w, mu, mw, ou, ow, ne) = (u, w, f u mu, f w mw, ou, ow, ne)
 
 says_after : (m : VarId → Bool) (s : Sets) (vs : List VarId) (o : Opened) → Says m s o → Says (λ u. among vs u || m u) s (opened_after s vs o)
 says_after m s [] o h = h
@@ -170,12 +178,9 @@ module _ (us vs : List VarId) (sub : (u : VarId) → among us u ≡ true → amo
   inside : (u : VarId) → among us u ≡ true → among (filter (among us) vs) u ≡ true
   inside u h = among_filter us vs u h (sub u h)
 
-  pub last_more : opened_after s us Nothing ≡ More → last_cut (filter (among us) vs) t s ≡ Some s
-  last_more e = at (subst (Says (among us) s) e (says_of s us))
+  pub last_many : Says (among us) s More → last_cut (filter (among us) vs) t s ≡ Some s
+  last_many (u, w, mu, mw, ou, ow, ne) = by (last_of (filter (among us) vs) s) refl
     where
-      at : Says (among us) s More → last_cut (filter (among us) vs) t s ≡ Some s
-      at (u, w, mu, mw, ou, ow, ne) = by (last_of (filter (among us) vs) s) refl
-        where
           single : (x v : VarId) → among us x ≡ true → is_open s x ≡ true → last_of (filter (among us) vs) s ≡ Some v → x.0 ≡ v.0
           single x v m o is = elim (same_or_not x.0 v.0) [
             | inl e ↦ e
@@ -188,6 +193,9 @@ module _ (us vs : List VarId) (sub : (u : VarId) → among us u ≡ true → amo
           by : (o : Option VarId) → last_of (filter (among us) vs) s ≡ o → last_cut_at t s o ≡ Some s
           by None is = refl
           by (Some v) is = absurd (ne (single u v mu ou is ∙ sym (single w v mw ow is)))
+
+  pub last_more : opened_after s us Nothing ≡ More → last_cut (filter (among us) vs) t s ≡ Some s
+  last_more e = last_many (subst (Says (among us) s) e (says_of s us))
 
   pub last_one : (v : VarId) → HasVars (filter (among us) vs) s → NoneEmpty s → opened_after s us Nothing ≡ One v
       → last_cut (filter (among us) vs) t s ≡ cut_by (λ y. t (set (point s) v.0 y)) v.0 s

@@ -6,18 +6,29 @@ ghost use Rattle.un_prop.specs.Acts.{act_vars, at_vars};
 ghost use Rattle.un_prop.specs.Rounds.{HasVars};
 ghost use Rattle.un_rect.specs.Spans.{choice_vars, UserVars, TempVars};
 ghost use Rattle.un_rect.specs.Apart.{user_vars, users_vars, temp_vars};
-ghost use Rattle.un_rect.specs.Opened.{opened_at, opened_after};
+ghost use Rattle.un_rect.specs.Opened.{opened_at, opened_after, is_more};
 
 use un_base::ids::VarId;
 use un_domains::window::Window;
 use un_prop::act::{Act, At, Temp, UserOf};
 
 /// The variables that have other than one value: none, one alone, or more.
-#[derive(Clone, Copy, PartialEq, Eq)]
+#[derive(Clone, Copy)]
 pub(crate) enum Opened {
     Nothing,
     One(VarId),
     More,
+}
+
+/// Whether there are more than one.
+pub(crate) fn is_more(o: Opened) -> bool
+    ensures { result ≡ is_more o }
+{
+    match o {
+        Opened::Nothing => false,
+        Opened::One(_) => false,
+        Opened::More => true,
+    }
 }
 
 /// What is open with one more variable.
@@ -97,7 +108,7 @@ pub(crate) fn with_users(w: &Window<'_>, before: Opened, users: &[UserOf]) -> Op
 {
     let mut so_far = before;
     for u in users {
-        if so_far == Opened::More {
+        if is_more(so_far) {
             return Opened::More;
         }
         so_far = with_user(w, so_far, u);
