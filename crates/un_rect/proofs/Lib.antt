@@ -1,3 +1,4 @@
+pub mod CheckSteps
 pub mod ClashLaws
 pub mod Loops
 pub mod Refusals
