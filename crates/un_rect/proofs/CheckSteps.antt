@@ -80,9 +80,10 @@ module _ (vs : List VarId) (a b : Temp) (ascend : Ascend vs) (ha : TempVars vs a
   pub left_one : (v : VarId) (first last : Opened) → first ≡ opened_after s (temp_vars a) Nothing → last ≡ opened_after s (temp_vars b) first → last ≡ One v
       → (among vs v ≡ true) × (check_pair vs a b s ≡ cut_by (λ y. pair_holds a b (set (point s) v.0 y)) v.0 s)
   left_one v first last p q e =
-      let is = whole first last p q ∙ e in
-      (sub v (subst (Says (among (temp_vars a ++ temp_vars b)) s) is (says_of s (temp_vars a ++ temp_vars b))).0,
-      last_one (temp_vars a ++ temp_vars b) vs sub rises (pair_holds a b) looks s v known full is)
+      let is = whole first last p q ∙ e in (
+        sub v (subst (Says (among (temp_vars a ++ temp_vars b)) s) is (says_of s (temp_vars a ++ temp_vars b))).0,
+        last_one (temp_vars a ++ temp_vars b) vs sub rises (pair_holds a b) looks s v known full is,
+      )
 
   pub left_more : (first last : Opened) → first ≡ opened_after s (temp_vars a) Nothing → last ≡ opened_after s (temp_vars b) first → last ≡ More → check_pair vs a b s ≡ Some s
   left_more first last p q e = last_more (temp_vars a ++ temp_vars b) vs sub rises (pair_holds a b) looks s (whole first last p q ∙ e)

@@ -229,7 +229,7 @@ module _ (vs : List VarId) (a b : Temp) (ha : TempVars vs a) (hb : TempVars vs b
       let sa = (starts_in vs s x there k a ha).1 in
       let sb = (starts_in vs s x there k b hb).1 in
       elim (h (sure_active vs s x there k a.on ha.of_on two.0) (sure_active vs s x there k b.on hb.of_on three.0) same)
-          [ inl le ↦ omega (arith, le, p, ea, sb) | inr le ↦ omega (arith, le, q, eb, sa) ]))
+      [ inl le ↦ omega (arith, le, p, ea, sb) | inr le ↦ omega (arith, le, q, eb, sa) ]))
 
   -- what stays has no such register
   pub clash_strong : (s : Sets) (t r : ℕ) → HasVars vs s → NoneEmpty s → clash_cut a b s ≡ Some s → SurelyOccupies a t s → SurelyOccupies b t s
@@ -278,20 +278,20 @@ module _ (vs : List VarId) (ascend : Ascend vs) where
     pub apart_keeps : (s : Sets) (x : List ℕ) → HasVars vs s → IsIn x s → apart_holds temps x ≡ true → Kept x (apart_cut vs temps s)
     apart_keeps s x k there holds = then_kept (each_pair (check_pair vs) temps (length temps)) x (each_pair clash_pair temps (length temps) s)
         (pairs_keep vs (TempVars vs) clash_pair temps x (length temps) d (omega arith) (λ i j m lt below km in_m. (
-            let a = get_or temps i d in
-            let b = get_or temps j d in
-            let ha = h i d (omega (arith, lt, below)) in
-            let hb = h j d below in
-            let apart = pair_apart a b x (apart_pairs temps x holds i j d lt below) in
-            then_kept (clash_cut b a) x (clash_cut a b m) (clash_keeps vs a b ha hb m x km in_m apart)
-            (λ u in_u. clash_keeps vs b a hb ha u x (known_in vs m u x in_m in_u km) in_u (λ on_b on_a e. elim (apart on_a on_b (sym e)) [ inl le ↦ inr le | inr le ↦ inl le ])))) s k there)
+        let a = get_or temps i d in
+        let b = get_or temps j d in
+        let ha = h i d (omega (arith, lt, below)) in
+        let hb = h j d below in
+        let apart = pair_apart a b x (apart_pairs temps x holds i j d lt below) in
+        then_kept (clash_cut b a) x (clash_cut a b m) (clash_keeps vs a b ha hb m x km in_m apart)
+        (λ u in_u. clash_keeps vs b a hb ha u x (known_in vs m u x in_m in_u km) in_u (λ on_b on_a e. elim (apart on_a on_b (sym e)) [ inl le ↦ inr le | inr le ↦ inl le ])))) s k there)
         (λ m in_m. pairs_keep vs (TempVars vs) (check_pair vs) temps x (length temps) d (omega arith) (λ i j u lt below ku in_u. (
-            let a = get_or temps i d in
-            let b = get_or temps j d in
-            let ha = h i d (omega (arith, lt, below)) in
-            let hb = h j d below in
-            last_keeps (pair_vars vs a b) (pair_holds a b) (pair_looks (pair_vars vs a b) a b (pair_first vs a b ha) (pair_second vs a b hb)) u x
-            (part_all (λ v. v.0 < length u) (among (temp_vars a ++ temp_vars b)) vs ku) in_u (apart_pairs temps x holds i j d lt below))) m (known_in vs s m x there in_m k) in_m)
+        let a = get_or temps i d in
+        let b = get_or temps j d in
+        let ha = h i d (omega (arith, lt, below)) in
+        let hb = h j d below in
+        last_keeps (pair_vars vs a b) (pair_holds a b) (pair_looks (pair_vars vs a b) a b (pair_first vs a b ha) (pair_second vs a b hb)) u x
+        (part_all (λ v. v.0 < length u) (among (temp_vars a ++ temp_vars b)) vs ku) in_u (apart_pairs temps x holds i j d lt below))) m (known_in vs s m x there in_m k) in_m)
       where
         d : Temp
         d = record { on = Always; at = Const 0; reg = record { 0 = 0 }; users = [] }

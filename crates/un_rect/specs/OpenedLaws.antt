@@ -181,18 +181,18 @@ module _ (us vs : List VarId) (sub : (u : VarId) → among us u ≡ true → amo
   pub last_many : Says (among us) s More → last_cut (filter (among us) vs) t s ≡ Some s
   last_many (u, w, mu, mw, ou, ow, ne) = by (last_of (filter (among us) vs) s) refl
     where
-          single : (x v : VarId) → among us x ≡ true → is_open s x ≡ true → last_of (filter (among us) vs) s ≡ Some v → x.0 ≡ v.0
-          single x v m o is = elim (same_or_not x.0 v.0) [
-            | inl e ↦ e
-            | inr ne ↦ absurd (
-                let one = All-contains (λ (w : VarId). w.0 ≢ v.0 → length (set_at s w.0) ≡ 1) (filter (among us) vs) x (last_single (filter (among us) vs) s v is).1 (in_list (filter (among us) vs) x (inside x m)) ne in
-                let b : nat_eq (length (set_at s x.0)) 1 ≡ true = grind (arith, nat_tests, one) in
-                let bad : true ≡ false = sym o ∙ ap not b in cc bad)
-          ]
+      single : (x v : VarId) → among us x ≡ true → is_open s x ≡ true → last_of (filter (among us) vs) s ≡ Some v → x.0 ≡ v.0
+      single x v m o is = elim (same_or_not x.0 v.0) [
+        | inl e ↦ e
+        | inr ne ↦ absurd (
+            let one = All-contains (λ (w : VarId). w.0 ≢ v.0 → length (set_at s w.0) ≡ 1) (filter (among us) vs) x (last_single (filter (among us) vs) s v is).1 (in_list (filter (among us) vs) x (inside x m)) ne in
+            let b : nat_eq (length (set_at s x.0)) 1 ≡ true = grind (arith, nat_tests, one) in
+            let bad : true ≡ false = sym o ∙ ap not b in cc bad)
+      ]
 
-          by : (o : Option VarId) → last_of (filter (among us) vs) s ≡ o → last_cut_at t s o ≡ Some s
-          by None is = refl
-          by (Some v) is = absurd (ne (single u v mu ou is ∙ sym (single w v mw ow is)))
+      by : (o : Option VarId) → last_of (filter (among us) vs) s ≡ o → last_cut_at t s o ≡ Some s
+      by None is = refl
+      by (Some v) is = absurd (ne (single u v mu ou is ∙ sym (single w v mw ow is)))
 
   pub last_more : opened_after s us Nothing ≡ More → last_cut (filter (among us) vs) t s ≡ Some s
   last_more e = last_many (subst (Says (among us) s) e (says_of s us))

@@ -75,8 +75,8 @@ module _ (vs : List VarId) where
         by (Some m) less end =
             let km : HasVars vs m = λ i d lt. rw less.0.long (k i d lt) in
             h m u km less.1 (λ i d lt ne. (
-                let w = (get_or us i d).0 in
-                ap length (single_below m s w less.0 (less.1 w (known m km i d lt)) (one i d lt ne)) ∙ one i d lt ne)) end there
+            let w = (get_or us i d).0 in
+            ap length (single_below m s w less.0 (less.1 w (known m km i d lt)) (one i d lt ne)) ∙ one i d lt ne)) end there
 
     pub checks_each : (f : ℕ → Sets → Option Sets) → ((i : ℕ) → Lawful vs (f i)) → (n i : ℕ) → i < n → Checks us v x b (f i) → Checks us v x b (each_place f n)
     checks_each f hf zero i lt h = absurd (omega (arith, lt))

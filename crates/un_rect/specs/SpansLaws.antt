@@ -66,16 +66,24 @@ use_found x t (u ∷ us) lt = by (is_user u x) refl (nat_lt_or t (last_use us x)
 
 -- **an active temporary occupies its register from its start to before its end, and in no other cycle**
 pub occupied : (a : Temp) (t : ℕ) (x : List ℕ) → Occupies a t x → (is_active a.on x ≡ true) × (starts a x ≤ t) × (t < ends a x)
-occupied a t x h = (h.0, h.1, elim h.2 [
-  | inl e ↦ omega (arith, e)
-  | inr u ↦ (let less = use_before x t a.users u.0 u.1 u.2 in omega (arith, less))
-])
+occupied a t x h = (
+  h.0,
+  h.1,
+  elim h.2 [
+    | inl e ↦ omega (arith, e)
+    | inr u ↦ (let less = use_before x t a.users u.0 u.1 u.2 in omega (arith, less))
+  ],
+)
 
 pub occupies : (a : Temp) (t : ℕ) (x : List ℕ) → is_active a.on x ≡ true → starts a x ≤ t → t < ends a x → Occupies a t x
-occupies a t x on from before = (on, from, elim (same_or_not t (starts a x)) [
-  | inl e ↦ inl e
-  | inr ne ↦ inr (use_found x t a.users (omega (arith, ne, from, before)))
-])
+occupies a t x on from before = (
+  on,
+  from,
+  elim (same_or_not t (starts a x)) [
+    | inl e ↦ inl e
+    | inr ne ↦ inr (use_found x t a.users (omega (arith, ne, from, before)))
+  ],
+)
 
 -- Assignments alike
 

@@ -95,11 +95,14 @@ shared us vs ws xs f h k i d lt = f (get_or xs i d) (h i d lt) (k i d lt)
 pub users_shared : (us vs ws : List VarId) → ((v : VarId) → among us v ≡ true → among vs v ≡ true → among ws v ≡ true) → (xs : List UserOf)
     → AllByRecursion (UserVars us) xs → AllByRecursion (UserVars vs) xs → AllByRecursion (UserVars ws) xs
 users_shared us vs ws f [] h k = tt
-users_shared us vs ws f (u ∷ xs) h k = (record {
+users_shared us vs ws f (u ∷ xs) h k = (
+  record {
     of_on = shared us vs ws (act_vars u.on) f (h.0).of_on (k.0).of_on;
     of_at = shared us vs ws (at_vars u.at) f (h.0).of_at (k.0).of_at;
     of_choice = shared us vs ws (choice_vars u.choice) f (h.0).of_choice (k.0).of_choice;
-  }, users_shared us vs ws f xs h.1 k.1)
+  },
+  users_shared us vs ws f xs h.1 k.1,
+)
 
 pub temp_shared : (us vs ws : List VarId) (a : Temp) → ((v : VarId) → among us v ≡ true → among vs v ≡ true → among ws v ≡ true) → TempVars us a → TempVars vs a → TempVars ws a
 temp_shared us vs ws a f h k = record {

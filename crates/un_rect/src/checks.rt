@@ -170,7 +170,14 @@ fn try_all(w: &mut Window<'_>, a: &Temp, b: &Temp, v: VarId, fixed: &mut [u32]) 
 }
 
 /// Decides `v`, and writes its least value that is left.
-fn decide(w: &mut Window<'_>, before: Pruned, a: &Temp, b: &Temp, v: VarId, fixed: &mut [u32]) -> Pruned
+fn decide(
+    w: &mut Window<'_>,
+    before: Pruned,
+    a: &Temp,
+    b: &Temp,
+    v: VarId,
+    fixed: &mut [u32],
+) -> Pruned
     requires of_a { TempVars w.old.vars.now a.now }
     requires of_b { TempVars w.old.vars.now b.now }
     requires lent { among w.old.vars.now v ≡ true }
@@ -264,7 +271,12 @@ fn check_row(
 }
 
 /// Of each two temporaries.
-pub(crate) fn check_all(w: &mut Window<'_>, before: Pruned, temps: &[Temp], fixed: &mut [u32]) -> Pruned
+pub(crate) fn check_all(
+    w: &mut Window<'_>,
+    before: Pruned,
+    temps: &[Temp],
+    fixed: &mut [u32],
+) -> Pruned
     requires ascend { Ascend w.old.vars.now }
     requires of_temps { All (TempVars w.old.vars.now) temps.now }
     requires known { HasVars w.old.vars.now w.old.store.now.sets }

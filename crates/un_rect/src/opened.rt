@@ -42,13 +42,7 @@ pub(crate) fn with_var(w: &Window<'_>, before: Opened, v: VarId) -> Opened
     }
     match before {
         Opened::Nothing => Opened::One(v),
-        Opened::One(u) => {
-            if u.0 == v.0 {
-                before
-            } else {
-                Opened::More
-            }
-        }
+        Opened::One(u) => { if u.0 == v.0 { before } else { Opened::More } }
         Opened::More => Opened::More,
     }
 }

@@ -8,8 +8,11 @@ returns-then-surely_apart c = check_apart c.args.w.now.vars.now c.args.a.now c.a
     (sym c.surely_apart.ensures ∙ c.if-surely_apart.true)
 
 pub returns-in-Nothing : goal.returns-in-Nothing
-returns-in-Nothing c = (c.requires.of_a.of_reg, left_nothing c.args.w.now.vars.now c.args.a.now c.args.b.now c.requires.ascend c.requires.of_a c.requires.of_b c.args.w.now.store.now.sets c.requires.known c.requires.live
-    c.with_temp-first.result c.with_temp.result c.with_temp-first.ensures c.with_temp.ensures c.in-Nothing.is)
+returns-in-Nothing c = (
+  c.requires.of_a.of_reg,
+  left_nothing c.args.w.now.vars.now c.args.a.now c.args.b.now c.requires.ascend c.requires.of_a c.requires.of_b c.args.w.now.store.now.sets c.requires.known c.requires.live
+      c.with_temp-first.result c.with_temp.result c.with_temp-first.ensures c.with_temp.ensures c.in-Nothing.is,
+)
 
 pub returns-in-One : goal.returns-in-One
 returns-in-One c = left_one c.args.w.now.vars.now c.args.a.now c.args.b.now c.requires.ascend c.requires.of_a c.requires.of_b c.args.w.now.store.now.sets c.requires.known c.requires.live
