@@ -1,3 +1,4 @@
+pub mod CallSteps
 pub mod CheckSteps
 pub mod ClashLaws
 pub mod Loops

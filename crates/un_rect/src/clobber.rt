@@ -1,6 +1,6 @@
 //! Calls: a temporary that lives across a call has a register that the call keeps.
 
-ghost use Rattle.std.specs.Prelude.{◌≡◌, ◌≢◌, ◌<◌, ◌≤◌, ℕ, ◌&&◌, length, not, All};
+ghost use Rattle.std.specs.Prelude.{◌≡◌, ◌≢◌, ◌<◌, ◌≤◌, ℕ, ◌&&◌, true, length, not, All, Some, MatchOption, slice_set};
 ghost use Rattle.std.specs.List.{list_any};
 ghost use Rattle.un_domains.specs.Sets.{set_at, cut_by, NoneEmpty};
 ghost use Rattle.un_isa.specs.Tables.{in_mask};
