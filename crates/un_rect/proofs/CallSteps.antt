@@ -46,9 +46,10 @@ module _ (vs : List VarId) (mask : ℕ) (a : Temp) (c : ClobberCall) (ascend : A
       → last ≡ opened_after s (users_vars c.behind) second → last ≡ One v
       → (among vs v ≡ true) × (check_call vs mask a c s ≡ cut_by (λ y. spares mask a c (set (point s) v.0 y)) v.0 s)
   call_one v first second last p q r e =
-      let is = whole first second last p q r ∙ e in
-      (sub v (subst (Says (among (temp_vars a ++ (c.at ∷ users_vars c.behind))) s) is (says_of s (temp_vars a ++ (c.at ∷ users_vars c.behind)))).0,
-      last_one (temp_vars a ++ (c.at ∷ users_vars c.behind)) vs sub rises (spares mask a c) (part_looks vs mask a ha c hc) s v (part_known vs mask a ha c hc s k) full is)
+      let is = whole first second last p q r ∙ e in (
+        sub v (subst (Says (among (temp_vars a ++ (c.at ∷ users_vars c.behind))) s) is (says_of s (temp_vars a ++ (c.at ∷ users_vars c.behind)))).0,
+        last_one (temp_vars a ++ (c.at ∷ users_vars c.behind)) vs sub rises (spares mask a c) (part_looks vs mask a ha c hc) s v (part_known vs mask a ha c hc s k) full is,
+      )
 
   pub call_more : (first second last : Opened) → first ≡ opened_after s (temp_vars a) Nothing → second ≡ opened_at s first c.at → last ≡ opened_after s (users_vars c.behind) second
       → last ≡ More → check_call vs mask a c s ≡ Some s

@@ -64,7 +64,12 @@ chosen_by a b x holds =
 
 pub turned : (a b : Side) (x : List ℕ) → Chosen a b x → Chosen b a x
 turned a b x h = record {
-  v = h.w; w = h.v; v_at = h.w_at; w_at = h.v_at; v_allowed = h.w_allowed; w_allowed = h.v_allowed;
+  v = h.w;
+  w = h.v;
+  v_at = h.w_at;
+  w_at = h.v_at;
+  v_allowed = h.w_allowed;
+  w_allowed = h.v_allowed;
   differ = let d = h.differ in grind (arith, nat_tests, d);
 }
 
@@ -75,8 +80,10 @@ module _ (vs : List VarId) where
   have_lawful a h r = record {
     monotone = λ t s y k full le e. any_more (passes_at (λ (v : VarId). has (set_at t v.0) r) a.regs) (passes_at (λ (v : VarId). has (set_at s v.0) r) a.regs)
         (set_at t a.choice.0) (set_at s a.choice.0)
-        (λ i there is. (has_below t s a.choice.0 i le there,
-        passes_more (λ (v : VarId). Unit {0}) (λ v. has (set_at t v.0) r) (λ v. has (set_at s v.0) r) a.regs i (always a.regs) (λ v u is. has_below t s v.0 r le is) is)) e;
+        (λ i there is. (
+          has_below t s a.choice.0 i le there,
+          passes_more (λ (v : VarId). Unit {0}) (λ v. has (set_at t v.0) r) (λ v. has (set_at s v.0) r) a.regs i (always a.regs) (λ v u is. has_below t s v.0 r le is) is,
+        )) e;
     local = λ s t y agree. ap (λ (xs : List ℕ). list_any (passes_at (λ (v : VarId). has (set_at s v.0) r) a.regs) xs) (set_alike vs s t agree a.choice h.of_choice)
         ∙ any_agree (passes_at (λ (v : VarId). has (set_at s v.0) r) a.regs) (passes_at (λ (v : VarId). has (set_at t v.0) r) a.regs) (set_at t a.choice.0)
         (λ i. passes_agree (λ (v : VarId). has (set_at s v.0) r) (λ (v : VarId). has (set_at t v.0) r) a.regs i
@@ -87,8 +94,11 @@ module _ (vs : List VarId) where
   avoid_lawful : (a : Side) → SideVars vs a → (r : ℕ) → LawfulTest vs (λ s y. may_avoid a s r)
   avoid_lawful a h r = record {
     monotone = λ t s y k full le e. any_more (λ q. not (nat_eq q r) && may_have a t q) (λ q. not (nat_eq q r) && may_have a s q) a.allowed a.allowed
-        (λ q there is. (there, (let two = firsts (not (nat_eq q r)) (may_have a t q) is in
-        both (not (nat_eq q r)) (may_have a s q) two.0 ((have_lawful a h q).monotone t s y k full le two.1)))) e;
+        (λ q there is. (
+          there,
+          (let two = firsts (not (nat_eq q r)) (may_have a t q) is in
+              both (not (nat_eq q r)) (may_have a s q) two.0 ((have_lawful a h q).monotone t s y k full le two.1)),
+        )) e;
     local = λ s t y agree. any_agree (λ q. not (nat_eq q r) && may_have a s q) (λ q. not (nat_eq q r) && may_have a t q) a.allowed
         (λ q. ap (λ (b : Bool). not (nat_eq q r) && b) ((have_lawful a h q).local s t y agree));
   }
@@ -97,8 +107,11 @@ module _ (vs : List VarId) where
     be_lawful : (v : VarId) → among vs v ≡ true → LawfulTest vs (λ s y. may_be a b s v)
     be_lawful v at = record {
       monotone = λ t s y kn full le e. any_more (λ r. has (set_at t v.0) r && may_avoid b t r) (λ r. has (set_at s v.0) r && may_avoid b s r) a.allowed a.allowed
-          (λ r there is. (there, (let two = firsts (has (set_at t v.0) r) (may_avoid b t r) is in
-          both (has (set_at s v.0) r) (may_avoid b s r) (has_below t s v.0 r le two.0) ((avoid_lawful b k r).monotone t s y kn full le two.1)))) e;
+          (λ r there is. (
+            there,
+            (let two = firsts (has (set_at t v.0) r) (may_avoid b t r) is in
+                both (has (set_at s v.0) r) (may_avoid b s r) (has_below t s v.0 r le two.0) ((avoid_lawful b k r).monotone t s y kn full le two.1)),
+          )) e;
       local = λ s t y agree. any_agree (λ r. has (set_at s v.0) r && may_avoid b s r) (λ r. has (set_at t v.0) r && may_avoid b t r) a.allowed
           (λ r. ap (λ (xs : List ℕ). has xs r && may_avoid b s r) (set_alike vs s t agree v at)
           ∙ ap (λ (c : Bool). has (set_at t v.0) r && c) ((avoid_lawful b k r).local s t y agree));

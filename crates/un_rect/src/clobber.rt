@@ -159,13 +159,7 @@ fn lasts(w: &Window<'_>, a: &Temp, c: &ClobberCall) -> bool
 }
 
 /// Where a temporary is active and lives across a call for sure, takes the registers of the mask from it.
-fn keep_register(
-    w: &mut Window<'_>,
-    before: Pruned,
-    mask: u64,
-    a: &Temp,
-    c: &ClobberCall,
-) -> Pruned
+fn keep_register(w: &mut Window<'_>, before: Pruned, mask: u64, a: &Temp, c: &ClobberCall) -> Pruned
     requires of_temp { TempVars w.old.vars.now a.now }
     requires of_call { CallVars w.old.vars.now c.now }
     requires known { HasVars w.old.vars.now w.old.store.now.sets }
@@ -187,13 +181,7 @@ fn keep_register(
 }
 
 /// Where a temporary lives across a call for sure, and no register is left outside the mask, makes it inactive.
-fn keep_off(
-    w: &mut Window<'_>,
-    before: Pruned,
-    mask: u64,
-    a: &Temp,
-    c: &ClobberCall,
-) -> Pruned
+fn keep_off(w: &mut Window<'_>, before: Pruned, mask: u64, a: &Temp, c: &ClobberCall) -> Pruned
     requires of_temp { TempVars w.old.vars.now a.now }
     requires of_call { CallVars w.old.vars.now c.now }
     requires known { HasVars w.old.vars.now w.old.store.now.sets }
@@ -238,13 +226,7 @@ impl ValueTest for Outside {
 }
 
 /// Where a temporary is active, and no register is left outside the mask, takes the cycles of its time from a call.
-fn keep_cycle(
-    w: &mut Window<'_>,
-    before: Pruned,
-    mask: u64,
-    a: &Temp,
-    c: &ClobberCall,
-) -> Pruned
+fn keep_cycle(w: &mut Window<'_>, before: Pruned, mask: u64, a: &Temp, c: &ClobberCall) -> Pruned
     requires of_temp { TempVars w.old.vars.now a.now }
     requires of_call { CallVars w.old.vars.now c.now }
     requires known { HasVars w.old.vars.now w.old.store.now.sets }
@@ -321,13 +303,7 @@ fn keep_reader(
 }
 
 /// No user behind a call chooses a temporary that does not survive it.
-fn keep_readers(
-    w: &mut Window<'_>,
-    before: Pruned,
-    mask: u64,
-    a: &Temp,
-    c: &ClobberCall,
-) -> Pruned
+fn keep_readers(w: &mut Window<'_>, before: Pruned, mask: u64, a: &Temp, c: &ClobberCall) -> Pruned
     requires of_temp { TempVars w.old.vars.now a.now }
     requires of_call { CallVars w.old.vars.now c.now }
     requires known { HasVars w.old.vars.now w.old.store.now.sets }
@@ -344,13 +320,7 @@ fn keep_readers(
 }
 
 /// All that is known of a temporary and a call.
-fn keep_call(
-    w: &mut Window<'_>,
-    before: Pruned,
-    mask: u64,
-    a: &Temp,
-    c: &ClobberCall,
-) -> Pruned
+fn keep_call(w: &mut Window<'_>, before: Pruned, mask: u64, a: &Temp, c: &ClobberCall) -> Pruned
     requires of_temp { TempVars w.old.vars.now a.now }
     requires of_call { CallVars w.old.vars.now c.now }
     requires known { HasVars w.old.vars.now w.old.store.now.sets }
@@ -548,7 +518,13 @@ impl Propagator for Clobber {
     ghost span = { λ p. 0 };
 
     fn prune_in(&self, w: &mut Window<'_>, scratch: &mut Scratch) -> Pruned {
-        let did = keep_calls(w, Pruned::Same, self.mask, &self.temp, self.calls.as_slice());
+        let did = keep_calls(
+            w,
+            Pruned::Same,
+            self.mask,
+            &self.temp,
+            self.calls.as_slice(),
+        );
         check_calls(w, did, self, scratch.fixed.as_mut_slice())
     }
 

@@ -97,12 +97,7 @@ fn keep_chosen(
 }
 
 /// Where one place is left of the operand `one`, keeps of the register there what it may be beside the operand `other`.
-fn keep_fixed(
-    w: &mut Window<'_>,
-    before: Pruned,
-    one: &Operand<'_>,
-    other: &Operand<'_>,
-) -> Pruned
+fn keep_fixed(w: &mut Window<'_>, before: Pruned, one: &Operand<'_>, other: &Operand<'_>) -> Pruned
     requires of_one { SideVars w.old.vars.now (side_of one.now) }
     requires of_other { SideVars w.old.vars.now (side_of other.now) }
     requires known { HasVars w.old.vars.now w.old.store.now.sets }
@@ -172,7 +167,11 @@ impl Operands {
             regs: self.second_regs.as_slice(),
             allowed: self.second_set.as_slice(),
         };
-        Facing { one, other, vars: self.vars.as_slice() }
+        Facing {
+            one,
+            other,
+            vars: self.vars.as_slice(),
+        }
     }
 
     /// The second operand beside the first.
@@ -182,7 +181,11 @@ impl Operands {
         ensures vars { result.vars.now ≡ self.now.vars }
     {
         let Facing { one, other, vars } = self.first_facing();
-        Facing { one: other, other: one, vars }
+        Facing {
+            one: other,
+            other: one,
+            vars,
+        }
     }
 }
 

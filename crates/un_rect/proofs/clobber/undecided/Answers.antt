@@ -23,11 +23,12 @@ pub returns-in-Nothing : goal.returns-in-Nothing
 returns-in-Nothing c =
     let p = c.args.p.now in
     let s = c.args.w.now.store.now.sets in
-    let second = c.with_var-second.result in
-    (p.of_temp.of_reg,
-    call_nothing p.vars.now p.mask p.temp.now p.call.now c.requires.ascend p.of_temp p.of_call s c.requires.known c.requires.live
-    c.with_temp-first.result second c.with_users.result c.with_temp-first.ensures c.with_var-second.ensures
-    (c.with_users.ensures ∙ ap (λ (xs : List UserOf). opened_after s (users_vars xs) second) c.as_slice.ensures) c.in-Nothing.is)
+    let second = c.with_var-second.result in (
+      p.of_temp.of_reg,
+      call_nothing p.vars.now p.mask p.temp.now p.call.now c.requires.ascend p.of_temp p.of_call s c.requires.known c.requires.live
+          c.with_temp-first.result second c.with_users.result c.with_temp-first.ensures c.with_var-second.ensures
+          (c.with_users.ensures ∙ ap (λ (xs : List UserOf). opened_after s (users_vars xs) second) c.as_slice.ensures) c.in-Nothing.is,
+    )
 
 pub returns-in-One : goal.returns-in-One
 returns-in-One c =
