@@ -4,6 +4,8 @@
 #[cfg(test)]
 mod build;
 #[cfg(test)]
+mod clobbers;
+#[cfg(test)]
 mod cuts;
 #[cfg(test)]
 mod kinds;
@@ -13,3 +15,5 @@ mod marks;
 mod prunes;
 #[cfg(test)]
 mod ranges;
+#[cfg(test)]
+mod rectangles;
