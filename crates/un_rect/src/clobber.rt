@@ -494,8 +494,9 @@ impl Predicate for Clobber {
     }
 
     fn test(&self, fixed: &[u32]) -> bool {
-        for c in self.calls.as_slice() {
-            if !spares(fixed, self.mask, &self.temp, c) {
+        let calls = self.calls.as_slice();
+        for i in 0..calls.len() {
+            if !spares(fixed, self.mask, &self.temp, &calls[i]) {
                 return false;
             }
         }
