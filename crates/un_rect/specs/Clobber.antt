@@ -116,5 +116,6 @@ clobber_cut vs mask a calls s = option_and_then (each_entry (check_call vs mask 
 
 -- where the temporary is sure and a call's cycle has one value that it surely occupies, no register of the mask is left for it
 abbrev pub ClobberStrong : ℕ → Temp → List ClobberCall → Sets → Type 0
-ClobberStrong mask a calls s = (i t r : ℕ) (d : ClobberCall) → i < length calls → set_at s (slice_index_or calls i d).at.0 ≡ t ∷ [] → SurelyOccupies a t s
+ClobberStrong mask a calls s = (i t r : ℕ) (d : ClobberCall) → i < length calls → set_at s (slice_index_or calls i d).at.0 ≡ t ∷ []
+    → SurelyOccupies a t s
     → has (set_at s a.reg.0) r ≡ true → in_mask mask r ≡ false
