@@ -1,3 +1,4 @@
 pub mod CheckSteps
 pub mod ClashLaws
+pub mod OrderSteps
 pub mod Rows

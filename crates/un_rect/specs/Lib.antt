@@ -6,6 +6,8 @@ pub mod Opened
 pub mod OpenedLaws
 pub mod PairLaws
 pub mod Pairs
+pub mod Orders
+pub mod OrdersLaws
 pub mod Spans
 pub mod SpansLaws
 pub mod TempLaws

@@ -5,4 +5,5 @@ pub mod apart;
 mod checks;
 mod clashes;
 mod opened;
+mod orders;
 pub mod spans;
