@@ -13,6 +13,7 @@ use Rattle.un_prop.specs.declared.act.UserOf.{UserOf}
 use Rattle.un_prop.specs.declared.act.Temp.{Temp}
 use Rattle.un_rect.specs.Spans.{starts, ends, greatest_start, is_only, least_end, SurelyOccupies, choice_vars, TempVars}
 use Rattle.un_rect.specs.Pairs.{each_pair}
+use Rattle.un_rect.specs.Orders.{order_pair}
 
 -- not both are active, or they have other registers, or one ends before the other starts
 abbrev pub pair_holds : Temp → Temp → List ℕ → Bool
@@ -76,8 +77,12 @@ clash_pair a b s = option_and_then (clash_cut b a) (clash_cut a b s)
 abbrev pub check_pair : List VarId → Temp → Temp → Sets → Option Sets
 check_pair vs a b s = last_cut (pair_vars vs a b) (pair_holds a b) s
 
+-- all that is known of the bounds, and then the checks
+abbrev pub bounds_cut : List Temp → Sets → Option Sets
+bounds_cut temps s = option_and_then (each_pair order_pair temps (length temps)) (each_pair clash_pair temps (length temps) s)
+
 abbrev pub apart_cut : List VarId → List Temp → Sets → Option Sets
-apart_cut vs temps s = option_and_then (each_pair (check_pair vs) temps (length temps)) (each_pair clash_pair temps (length temps) s)
+apart_cut vs temps s = option_and_then (each_pair (check_pair vs) temps (length temps)) (bounds_cut temps s)
 
 -- its variables stand in the list
 abbrev pub ApartVars : List VarId → List Temp → Type 0

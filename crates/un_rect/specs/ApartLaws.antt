@@ -29,8 +29,10 @@ use Rattle.un_rect.specs.Spans.{starts, ends, greatest_start, is_only, least_end
 use Rattle.un_rect.specs.SpansLaws.{only_is, only_below, occupied, occupies, starts_alike, ends_alike, greatest_start_below, least_end_below, greatest_start_alike, least_end_alike, starts_in, ends_in}
 use Rattle.un_rect.specs.Pairs.{each_pair}
 use Rattle.un_rect.specs.PairLaws.{Checks, checks_first, checks_second, pairs_check, pairs_keep, pairs_lawful, pairs_stable}
+use Rattle.un_rect.specs.Orders.{order_cut, order_pair}
+use Rattle.un_rect.specs.OrdersLaws.{order_keeps, order_pair_lawful}
 use Rattle.un_rect.specs.TempLaws.{filter_ascends, pair_first, pair_second, part_all, lawful_part}
-use Rattle.un_rect.specs.Apart.{pair_holds, apart_holds, IsApart, temp_vars, pair_vars, pair_part, apart_parts, overlap, clash_test, clash_cut, clash_pair, check_pair, apart_cut, ApartVars, ApartStrong}
+use Rattle.un_rect.specs.Apart.{pair_holds, apart_holds, IsApart, temp_vars, pair_vars, pair_part, apart_parts, overlap, clash_test, clash_cut, clash_pair, check_pair, bounds_cut, apart_cut, ApartVars, ApartStrong}
 
 -- What two temporaries mean
 
@@ -272,11 +274,18 @@ module _ (vs : List VarId) (ascend : Ascend vs) where
     checks_lawful : Lawful vs (each_pair (check_pair vs) temps (length temps))
     checks_lawful = pairs_lawful vs (TempVars vs) (check_pair vs) temps check_lawful each (length temps)
 
+    orders_lawful : Lawful vs (each_pair order_pair temps (length temps))
+    orders_lawful = pairs_lawful vs (TempVars vs) order_pair temps (order_pair_lawful vs) each (length temps)
+
+    bounds_lawful : Lawful vs (bounds_cut temps)
+    bounds_lawful = lawful_then vs (each_pair clash_pair temps (length temps)) (each_pair order_pair temps (length temps)) clashes_lawful orders_lawful
+
     pub apart_lawful : Lawful vs (apart_cut vs temps)
-    apart_lawful = lawful_then vs (each_pair clash_pair temps (length temps)) (each_pair (check_pair vs) temps (length temps)) clashes_lawful checks_lawful
+    apart_lawful = lawful_then vs (bounds_cut temps) (each_pair (check_pair vs) temps (length temps)) bounds_lawful checks_lawful
 
     pub apart_keeps : (s : Sets) (x : List ℕ) → HasVars vs s → IsIn x s → apart_holds temps x ≡ true → Kept x (apart_cut vs temps s)
-    apart_keeps s x k there holds = then_kept (each_pair (check_pair vs) temps (length temps)) x (each_pair clash_pair temps (length temps) s)
+    apart_keeps s x k there holds = then_kept (each_pair (check_pair vs) temps (length temps)) x (bounds_cut temps s)
+        (then_kept (each_pair order_pair temps (length temps)) x (each_pair clash_pair temps (length temps) s)
         (pairs_keep vs (TempVars vs) clash_pair temps x (length temps) d (omega arith) (λ i j m lt below km in_m. (
         let a = get_or temps i d in
         let b = get_or temps j d in
@@ -285,6 +294,14 @@ module _ (vs : List VarId) (ascend : Ascend vs) where
         let apart = pair_apart a b x (apart_pairs temps x holds i j d lt below) in
         then_kept (clash_cut b a) x (clash_cut a b m) (clash_keeps vs a b ha hb m x km in_m apart)
         (λ u in_u. clash_keeps vs b a hb ha u x (known_in vs m u x in_m in_u km) in_u (λ on_b on_a e. elim (apart on_a on_b (sym e)) [ inl le ↦ inr le | inr le ↦ inl le ])))) s k there)
+        (λ n in_n. pairs_keep vs (TempVars vs) order_pair temps x (length temps) d (omega arith) (λ i j m lt below km in_m. (
+        let a = get_or temps i d in
+        let b = get_or temps j d in
+        let ha = h i d (omega (arith, lt, below)) in
+        let hb = h j d below in
+        let apart = pair_apart a b x (apart_pairs temps x holds i j d lt below) in
+        then_kept (order_cut b a) x (order_cut a b m) (order_keeps vs a b ha hb m x km in_m apart)
+        (λ u in_u. order_keeps vs b a hb ha u x (known_in vs m u x in_m in_u km) in_u (λ on_b on_a e. elim (apart on_a on_b (sym e)) [ inl le ↦ inr le | inr le ↦ inl le ])))) n (known_in vs s n x there in_n k) in_n))
         (λ m in_m. pairs_keep vs (TempVars vs) (check_pair vs) temps x (length temps) d (omega arith) (λ i j u lt below ku in_u. (
         let a = get_or temps i d in
         let b = get_or temps j d in
@@ -318,7 +335,7 @@ module _ (vs : List VarId) (ascend : Ascend vs) where
             let us = pair_vars vs a b in
             let known : (m : Sets) → HasVars vs m → HasVars us m = λ m km. part_all (λ v. v.0 < length m) (among (temp_vars a ++ temp_vars b)) vs km in
             subst (λ (p : Part). ChecksForward p vs (apart_cut vs temps)) (same d) (λ s t v x k full grounded one is there.
-            checks_second vs us known v x (pair_holds a b x) (each_pair clash_pair temps (length temps)) (each_pair (check_pair vs) temps (length temps)) clashes_lawful
+            checks_second vs us known v x (pair_holds a b x) (bounds_cut temps) (each_pair (check_pair vs) temps (length temps)) bounds_lawful
             (pairs_check vs us known v x (pair_holds a b x) (TempVars vs) (check_pair vs) check_lawful temps each (length temps) i j d (omega arith) lt below hb (check_forward a b ha hb v x))
             s t k full one is there)
 
@@ -344,5 +361,6 @@ module _ (vs : List VarId) (ascend : Ascend vs) where
 
         stays : (m n : ℕ) → m < n → n < length temps → clash_pair (get_or temps m d) (get_or temps n d) s ≡ Some s
         stays m n lt below = pairs_stable vs (TempVars vs) clash_pair temps clash_pair_lawful each (length temps) s (omega arith) k full
-            (stable_then vs (each_pair clash_pair temps (length temps)) (each_pair (check_pair vs) temps (length temps)) clashes_lawful checks_lawful s k full e).0
+            (stable_then vs (each_pair clash_pair temps (length temps)) (each_pair order_pair temps (length temps)) clashes_lawful orders_lawful s k full
+            (stable_then vs (bounds_cut temps) (each_pair (check_pair vs) temps (length temps)) bounds_lawful checks_lawful s k full e).0).0
             m n d lt below (h n d below)

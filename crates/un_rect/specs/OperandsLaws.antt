@@ -1,7 +1,7 @@
 -- What two operands look at, and what they let a store keep.
 use Rattle.std.proofs.Common.{ℕ, zero, suc, ◌≡◌, ◌<◌, ◌∙◌, Bool, true, false, not, ◌&&◌, ◌||◌, List, [], ◌∷◌, length, get_or, nat_eq, None, Some, option_and_then, All, refl, sym, subst, arith, ap}
 use Rattle.std.specs.declared.option.Option.{Option}
-use Rattle.std.specs.List.{AllByRecursion, list_any, slice_get}
+use Rattle.std.specs.List.{AllByRecursion, Contains, list_any, slice_get}
 use Rattle.std.proofs.lemmas.List.Elements.{recursion_from_All}
 use Rattle.std.proofs.lemmas.Bool.Decides.{nat_tests}
 use Rattle.un_base.specs.declared.ids.VarId.{VarId}
@@ -10,7 +10,9 @@ use Rattle.un_domains.specs.CutLaws.{cut_by_kept}
 use Rattle.un_domains.specs.Order.{Below}
 use Rattle.un_domains.specs.OrderLaws.{has_below}
 use Rattle.un_prop.specs.Rounds.{HasVars}
-use Rattle.un_prop.specs.Parts.{SameAt}
+use Rattle.un_prop.specs.Parts.{Part, SameAt, ChecksForward}
+use Rattle.un_prop.specs.PartLaws.{one_part, lawful_checked, keeps_checked, forward_checked}
+use Rattle.un_prop.specs.LastLaws.{Ascend}
 use Rattle.un_prop.specs.Among.{among, AllAmong}
 use Rattle.un_prop.specs.AmongLaws.{in_list, has_among, same_var}
 use Rattle.un_prop.specs.Acts.{act_vars, is_active}
@@ -26,7 +28,7 @@ use Rattle.un_prop.specs.PlaceLaws.{entries_lawful, choice_lawful, choice_keeps}
 use Rattle.un_prop.specs.declared.act.Act.TheVariants.{Always}
 use Rattle.un_rect.specs.Entries.{entry_cut, each_entry, where_fixed}
 use Rattle.un_rect.specs.EntryLaws.{entry_lawful, entries_lawful_each, entries_keep, fixed_lawful, fixed_keeps}
-use Rattle.un_rect.specs.Operands.{Side, side_passes, operands_holds, SideVars, may_have, may_avoid, may_be, side_can, other_test, other_cut, chosen_cut, fixed_cut, side_steps, operands_steps}
+use Rattle.un_rect.specs.Operands.{Side, side_passes, operands_holds, SideVars, may_have, may_avoid, may_be, side_can, other_test, other_cut, chosen_cut, fixed_cut, side_steps, operands_steps, operands_cut}
 
 -- What is looked at
 
@@ -233,3 +235,19 @@ module _ (vs : List VarId) (a b : Side) (h : SideVars vs a) (k : SideVars vs b) 
       let c = chosen_by a b x holds in
       then_kept (side_steps b a) x (side_steps a b s) (side_keeps vs a b h k x c s ks there)
       (λ m in_m. side_keeps vs b a k h x (turned a b x c) m (known_in vs s m x there in_m ks) in_m)
+
+  module _ (ascend : Ascend vs) where
+    looks : (x y : List ℕ) → SameAt vs x y → operands_holds a b x ≡ operands_holds a b y
+    looks x y same = operands_looks vs x y same a b h k
+
+    pub operands_cut_lawful : Lawful vs (operands_cut vs a b)
+    operands_cut_lawful = lawful_checked vs (operands_holds a b) looks ascend (operands_steps a b) operands_lawful
+
+    pub operands_cut_keeps : (s : Sets) (x : List ℕ) → HasVars vs s → IsIn x s → operands_holds a b x ≡ true
+        → Kept x (operands_cut vs a b s)
+    operands_cut_keeps s x ks there holds = keeps_checked vs (operands_holds a b) looks ascend (operands_steps a b) operands_lawful s x ks
+        (operands_keeps s x ks there holds) there.long holds
+
+    pub operands_cut_forward : (part : Part) → Contains (one_part vs (operands_holds a b)) part
+        → ChecksForward part vs (operands_cut vs a b)
+    operands_cut_forward = forward_checked vs (operands_holds a b) looks ascend (operands_steps a b) operands_lawful

@@ -18,7 +18,7 @@ use Rattle.un_rect.specs.Pairs.{at_place, each_before, each_pair}
 
 -- The place of a list
 
-pub at_is : (f : Temp → Sets → Option Sets) (xs : List Temp) (i : ℕ) (d : Temp) (s : Sets) → i < length xs → at_place f xs i s ≡ f (get_or xs i d) s
+pub at_is : {A : Type 0} (f : A → Sets → Option Sets) (xs : List A) (i : ℕ) (d : A) (s : Sets) → i < length xs → at_place f xs i s ≡ f (get_or xs i d) s
 at_is f [] i d s lt = absurd (omega (arith, lt))
 at_is f (a ∷ rest) zero d s lt = refl
 at_is f (a ∷ rest) (suc i) d s lt = at_is f rest i d s (omega (arith, lt))
@@ -28,7 +28,7 @@ pub each_same : (f : ℕ → Sets → Option Sets) (n : ℕ) (s : Sets) → ((i 
 each_same f zero s h = refl
 each_same f (suc n) s h = ap (option_and_then (f n)) (each_same f n s h) ∙ h n
 
-pub at_same : (P : Temp → Type 0) (f : Temp → Sets → Option Sets) (xs : List Temp) (s : Sets) → AllByRecursion P xs → ((a : Temp) → P a → f a s ≡ Some s) → (i : ℕ) → at_place f xs i s ≡ Some s
+pub at_same : {A : Type 0} (P : A → Type 0) (f : A → Sets → Option Sets) (xs : List A) (s : Sets) → AllByRecursion P xs → ((a : A) → P a → f a s ≡ Some s) → (i : ℕ) → at_place f xs i s ≡ Some s
 at_same P f [] s all h i = refl
 at_same P f (a ∷ rest) s all h zero = h a all.0
 at_same P f (a ∷ rest) s all h (suc i) = at_same P f rest s all.1 h i
@@ -40,7 +40,7 @@ in_below u m x below there = record {
 }
 
 module _ (vs : List VarId) where
-  pub at_lawful : (P : Temp → Type 0) (f : Temp → Sets → Option Sets) → ((a : Temp) → P a → Lawful vs (f a)) → (xs : List Temp) → AllByRecursion P xs → (i : ℕ) → Lawful vs (at_place f xs i)
+  pub at_lawful : {A : Type 0} (P : A → Type 0) (f : A → Sets → Option Sets) → ((a : A) → P a → Lawful vs (f a)) → (xs : List A) → AllByRecursion P xs → (i : ℕ) → Lawful vs (at_place f xs i)
   at_lawful P f h [] all i = lawful_some vs
   at_lawful P f h (a ∷ rest) all zero = h a all.0
   at_lawful P f h (a ∷ rest) all (suc i) = at_lawful P f h rest all.1 i

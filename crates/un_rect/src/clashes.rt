@@ -35,7 +35,7 @@ fn is_used_after(w: &Window<'_>, users: &[UserOf], t: u32) -> bool
 }
 
 /// Whether the least end of a temporary is after `t`.
-fn ends_after(w: &Window<'_>, a: &Temp, t: u32) -> bool
+pub(crate) fn ends_after(w: &Window<'_>, a: &Temp, t: u32) -> bool
     requires vars { TempVars w.now.vars.now a.now }
     requires known { HasVars w.now.vars.now w.now.store.now.sets }
     requires live { NoneEmpty w.now.store.now.sets }

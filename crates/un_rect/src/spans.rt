@@ -83,7 +83,7 @@ pub(crate) fn is_sure_user(w: &Window<'_>, u: &UserOf) -> bool
 }
 
 /// The largest of the least times of the sure users, or 0.
-fn last_sure_use(w: &Window<'_>, users: &[UserOf]) -> u32
+pub(crate) fn last_sure_use(w: &Window<'_>, users: &[UserOf]) -> u32
     requires vars { All (UserVars w.now.vars.now) users.now }
     requires known { HasVars w.now.vars.now w.now.store.now.sets }
     requires live { NoneEmpty w.now.store.now.sets }

@@ -7,7 +7,7 @@ use Rattle.un_prop.specs.Going.{Goes, Stepped}
 use Rattle.un_prop.specs.GoingLaws.{goes_chain, stepped_chain}
 use Rattle.un_prop.specs.PartLaws.{checked}
 use Rattle.un_prop.specs.declared.propagator.Pruned.TheVariants.{Same}
-use Rattle.un_rect.specs.Operands.{Side, side, operands_holds, side_steps, operands_steps}
+use Rattle.un_rect.specs.Operands.{Side, side, operands_holds, side_steps, operands_steps, operands_cut}
 use Rattle.un_rect.specs.Sides.{side_of}
 use Rattle.un_rect.proofs.operands.OperandsPropagator.prune_in.Goals as goal
 
@@ -37,6 +37,6 @@ returns-clause-prune c =
     e2.one two.ensures.step)) in
     let last = subst (λ (us : List VarId). Goes us (last_cut p.vars t) low new two.result c.check_last.result) v2
     c.check_last.ensures.goes in
-    checked p.vars p.vars (λ s. option_and_then (last_cut p.vars t) (operands_steps a b s)) old new c.check_last.result refl c.requires.live
+    checked p.vars p.vars (operands_cut p.vars a b) old new c.check_last.result refl c.requires.live
     (goes_chain p.vars (operands_steps a b) (last_cut p.vars t) old low new Same two.result c.check_last.result
     (stepped_chain p.vars (side_steps a b) (side_steps b a) old mid low Same one.result two.result step1 step2) last)
