@@ -15,7 +15,7 @@ use Rattle.un_prop.specs.declared.act.Temp.{Temp}
 use Rattle.un_prop.specs.declared.act.UserOf.{UserOf}
 use Rattle.un_rect.specs.Apart.{temp_vars, users_vars}
 use Rattle.un_rect.specs.Entries.{each_entry}
-use Rattle.un_rect.specs.Spans.{starts, ends, greatest_start, least_end, sure_user, SurelyOccupies, UserVars, TempVars}
+use Rattle.un_rect.specs.Spans.{starts, ends, greatest_start, least_end, sure_user, SurelyOccupies, UserVars}
 use Rattle.un_rect.specs.declared.clobber.ClobberCall.{ClobberCall}
 
 -- a temporary does not live across a call: it starts after the call's cycle or ends by then and, where it is defined before the call

@@ -1,28 +1,26 @@
 -- The laws of Clobber.
-use Rattle.std.proofs.Common.{ℕ, zero, suc, ◌≡◌, ◌≢◌, ◌<◌, ◌≤◌, ◌⊎◌, Bool, true, false, not, ◌&&◌, ◌||◌, List, [], ◌∷◌, ◌++◌, length, get_or, filter, map, nat_eq, nat_le, nat_lt, None, Some, option_and_then, All, refl, sym, ap, ◌∙◌, subst, arith, inl, inr}
+use Rattle.std.proofs.Common.{ℕ, zero, suc, ◌≡◌, ◌<◌, ◌≤◌, ◌⊎◌, Bool, true, false, not, ◌&&◌, ◌||◌, List, [], ◌∷◌, ◌++◌, length, get_or, nat_eq, nat_le, nat_lt, None, Some, option_and_then, All, refl, sym, ap, ◌∙◌, subst, arith, inl, inr}
 use Rattle.std.specs.declared.option.Option.{Option}
 use Rattle.std.specs.List.{AllByRecursion, Contains, list_any, list_all}
 use Rattle.std.proofs.lemmas.Bool.Decides.{nat_tests}
 use Rattle.std.proofs.lemmas.List.Elements.{recursion_from_All, All-from_recursion}
 use Rattle.un_base.specs.declared.ids.VarId.{VarId}
-use Rattle.un_domains.specs.Sets.{Sets, set_at, has, least, greatest, cut_by, IsIn, NoneEmpty, Kept}
+use Rattle.un_domains.specs.Sets.{Sets, set_at, has, least, greatest, IsIn, NoneEmpty, Kept}
 use Rattle.un_domains.specs.SetLaws.{least-le, has-fold_max}
 use Rattle.un_domains.specs.CutLaws.{cut_by_kept}
-use Rattle.un_domains.specs.Order.{Below}
-use Rattle.un_domains.specs.OrderLaws.{has_below, least_below, greatest_below, has_here}
+use Rattle.un_domains.specs.OrderLaws.{has_below, least_below, greatest_below}
 use Rattle.un_isa.specs.Tables.{in_mask}
 use Rattle.un_prop.specs.Rounds.{HasVars}
 use Rattle.un_prop.specs.Parts.{Part, all_meet, SameAt, ChecksForward}
-use Rattle.un_prop.specs.Lawful.{Lawful, LawfulTest, Agree}
+use Rattle.un_prop.specs.Lawful.{Lawful, LawfulTest}
 use Rattle.un_prop.specs.Steps.{lawful_cut_by, lawful_some, lawful_then}
 use Rattle.un_prop.specs.ChainLaws.{then_kept, known_in, stable_then, each_stable}
-use Rattle.un_prop.specs.Last.{last_cut}
 use Rattle.un_prop.specs.LastLaws.{Ascend, last_lawful, last_keeps, last_forward, passes_all}
 use Rattle.un_prop.specs.Among.{among, AllAmong}
 use Rattle.un_prop.specs.AmongLaws.{in_list, has_among, same_var, same_active}
 use Rattle.un_prop.specs.Acts.{act_vars, act_number, is_active, chooses, is_user}
 use Rattle.un_prop.specs.Looks.{sure}
-use Rattle.un_prop.specs.LookLaws.{both, firsts, not_or, or_not, not_true, not_from, set_alike, sure_alike, sure_below, sure_active, known_below}
+use Rattle.un_prop.specs.LookLaws.{both, firsts, or_not, not_true, not_from, set_alike, sure_alike, sure_below, sure_active, known_below}
 use Rattle.un_prop.specs.PlaceLaws.{act_lawful, act_keeps}
 use Rattle.un_prop.specs.SomewhereLaws.{any_more, any_has}
 use Rattle.un_prop.specs.declared.act.Act.{Act}
@@ -35,7 +33,7 @@ use Rattle.un_rect.specs.Inherited.{Inherited, refused, not_inherited, always_in
 use Rattle.un_rect.specs.PairLaws.{Checks, checks_second, checks_each}
 use Rattle.un_rect.specs.Spans.{starts, ends, greatest_start, least_end, sure_user, SurelyOccupies, choice_vars, UserVars, TempVars}
 use Rattle.un_rect.specs.SpansLaws.{starts_alike, ends_alike, user_alike, greatest_start_below, least_end_below, sure_user_below, greatest_start_alike, least_end_alike, sure_user_alike, sure_user_reads, starts_in, ends_in}
-use Rattle.un_rect.specs.TempLaws.{among_left, among_right, among_here, among_later, among_filter, own_temp, own_users, users_wider, users_shared, users_all, temp_wider, temp_shared, filter_ascends, part_all, lawful_part}
+use Rattle.un_rect.specs.TempLaws.{among_left, among_right, among_here, among_later, among_filter, own_temp, own_users, users_wider, users_shared, temp_wider, temp_shared, filter_ascends, part_all, lawful_part}
 use Rattle.un_rect.specs.Clobber.{avoids, spares, clobber_holds, CallVars, call_vars, call_part, clobber_parts, may_survive, covers, is_read_behind, lasts, hit_test, hit_cut, off_test, off_cut, cycle_test, cycle_cut, reader_test, choice_cut, reader_cut, call_steps, check_call, clobber_cut, ClobberStrong}
 use Rattle.un_rect.specs.declared.clobber.ClobberCall.{ClobberCall}
 

@@ -1,14 +1,14 @@
 -- Laws of cuts by an entry, and by the one place that a choice has left.
-use Rattle.std.proofs.Common.{ℕ, zero, suc, ◌≡◌, ◌<◌, ◌≤◌, ◌≢◌, ◌⊎◌, inl, inr, All, Bool, true, false, List, [], ◌∷◌, length, get_or, nat_eq, None, Some, option_and_then, MatchOption, refl, sym, ap, ◌∙◌, subst, arith}
+use Rattle.std.proofs.Common.{ℕ, zero, suc, ◌≡◌, ◌<◌, ◌≤◌, ◌≢◌, inl, inr, All, true, false, List, [], ◌∷◌, length, get_or, nat_eq, None, Some, MatchOption, refl, sym, ap, ◌∙◌, subst, arith}
 use Rattle.std.specs.declared.option.Option.{Option}
 use Rattle.std.specs.Bool.{⊤}
-use Rattle.std.specs.List.{AllByRecursion, slice_get}
+use Rattle.std.specs.List.{AllByRecursion}
 use Rattle.std.proofs.lemmas.Bool.Decides.{nat_tests}
 use Rattle.un_base.specs.declared.ids.VarId.{VarId}
 use Rattle.un_domains.specs.Sets.{Sets, set_at, has, least, IsIn, NoneEmpty, Kept}
 use Rattle.un_domains.specs.SetLaws.{has-cons}
 use Rattle.un_domains.specs.Order.{Below}
-use Rattle.un_domains.specs.OrderLaws.{Below-refl, Below-trans, single_below, has_here}
+use Rattle.un_domains.specs.OrderLaws.{Below-refl, Below-trans, single_below}
 use Rattle.un_prop.specs.Rounds.{HasVars}
 use Rattle.un_prop.specs.Lawful.{BelowOption, Agree, AgreeOption, Lawful}
 use Rattle.un_prop.specs.Steps.{lawful_some}

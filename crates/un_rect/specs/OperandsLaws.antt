@@ -1,13 +1,11 @@
 -- What two operands look at, and what they let a store keep.
-use Rattle.std.proofs.Common.{ℕ, zero, suc, ◌≡◌, ◌<◌, ◌∙◌, Bool, true, false, not, ◌&&◌, ◌||◌, List, [], ◌∷◌, length, get_or, nat_eq, None, Some, option_and_then, All, refl, sym, subst, arith, ap}
-use Rattle.std.specs.declared.option.Option.{Option}
+use Rattle.std.proofs.Common.{ℕ, zero, suc, ◌≡◌, ◌∙◌, Bool, true, false, not, ◌&&◌, ◌||◌, List, [], ◌∷◌, get_or, nat_eq, Some, refl, sym, subst, arith, ap}
 use Rattle.std.specs.List.{AllByRecursion, Contains, list_any, slice_get}
 use Rattle.std.proofs.lemmas.List.Elements.{recursion_from_All}
 use Rattle.std.proofs.lemmas.Bool.Decides.{nat_tests}
 use Rattle.un_base.specs.declared.ids.VarId.{VarId}
-use Rattle.un_domains.specs.Sets.{Sets, set_at, has, cut_by, IsIn, NoneEmpty, Kept}
+use Rattle.un_domains.specs.Sets.{Sets, set_at, has, cut_by, IsIn, Kept}
 use Rattle.un_domains.specs.CutLaws.{cut_by_kept}
-use Rattle.un_domains.specs.Order.{Below}
 use Rattle.un_domains.specs.OrderLaws.{has_below}
 use Rattle.un_prop.specs.Rounds.{HasVars}
 use Rattle.un_prop.specs.Parts.{Part, SameAt, ChecksForward}
@@ -15,18 +13,18 @@ use Rattle.un_prop.specs.PartLaws.{one_part, lawful_checked, keeps_checked, forw
 use Rattle.un_prop.specs.LastLaws.{Ascend}
 use Rattle.un_prop.specs.Among.{among, AllAmong}
 use Rattle.un_prop.specs.AmongLaws.{in_list, has_among, same_var}
-use Rattle.un_prop.specs.Acts.{act_vars, is_active}
+use Rattle.un_prop.specs.Acts.{act_vars}
 use Rattle.un_prop.specs.Choices.{passes_at}
 use Rattle.un_prop.specs.ChoiceLaws.{passes_more, passes_agree, passes_get, passes_find, map_all, always}
 use Rattle.un_prop.specs.SomewhereLaws.{any_more, any_agree, any_has}
-use Rattle.un_prop.specs.Lawful.{Agree, Lawful, LawfulTest}
-use Rattle.un_prop.specs.LookLaws.{both, firsts, not_or, or_not, set_alike}
+use Rattle.un_prop.specs.Lawful.{Lawful, LawfulTest}
+use Rattle.un_prop.specs.LookLaws.{both, firsts, not_or, set_alike}
 use Rattle.un_prop.specs.Steps.{lawful_cut_by, lawful_then}
 use Rattle.un_prop.specs.ChainLaws.{then_kept, known_in}
 use Rattle.un_prop.specs.Places.{places_in, choice_steps}
 use Rattle.un_prop.specs.PlaceLaws.{entries_lawful, choice_lawful, choice_keeps}
 use Rattle.un_prop.specs.declared.act.Act.TheVariants.{Always}
-use Rattle.un_rect.specs.Entries.{entry_cut, each_entry, where_fixed}
+use Rattle.un_rect.specs.Entries.{entry_cut, each_entry}
 use Rattle.un_rect.specs.EntryLaws.{entry_lawful, entries_lawful_each, entries_keep, fixed_lawful, fixed_keeps}
 use Rattle.un_rect.specs.Operands.{Side, side_passes, operands_holds, SideVars, may_have, may_avoid, may_be, side_can, other_test, other_cut, chosen_cut, fixed_cut, side_steps, operands_steps, operands_cut}
 

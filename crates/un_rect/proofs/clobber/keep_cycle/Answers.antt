@@ -1,4 +1,4 @@
-use Rattle.std.proofs.Common.{ℕ, ◌≡◌, ◌∙◌, Bool, not, ◌&&◌, nat_le, nat_lt, sym, ap}
+use Rattle.std.proofs.Common.{ℕ, ◌∙◌, not, ◌&&◌, nat_le, nat_lt, sym, ap}
 use Rattle.un_domains.specs.Sets.{cut_by}
 use Rattle.un_prop.specs.Acts.{act_vars, at_vars}
 use Rattle.un_prop.specs.AmongLaws.{has_among}

@@ -1,4 +1,4 @@
-use Rattle.std.proofs.Common.{ℕ, List, ◌≡◌, ◌<◌, ◌∙◌, Bool, true, not, ◌&&◌, length, nat_eq, nat_le, sym, ap, subst, arith}
+use Rattle.std.proofs.Common.{List, ◌≡◌, ◌∙◌, true, not, nat_eq, nat_le, sym, ap, subst, arith}
 use Rattle.un_base.specs.declared.ids.VarId.{VarId}
 use Rattle.un_domains.specs.Sets.{cut_by}
 use Rattle.un_prop.specs.Acts.{act_vars}

@@ -1,8 +1,8 @@
-use Rattle.std.proofs.Common.{ℕ, List, ◌≡◌, ◌≢◌, ◌<◌, ◌∙◌, Bool, true, not, ◌&&◌, length, nat_eq, Some, sym, ap, subst, arith}
+use Rattle.std.proofs.Common.{◌∙◌, not, ◌&&◌, nat_eq, sym, subst, arith}
 use Rattle.std.specs.declared.option.Option.{Option}
 use Rattle.un_base.specs.declared.ids.VarId.{VarId}
 use Rattle.un_domains.specs.Sets.{cut_by}
-use Rattle.un_prop.specs.Among.{among, AllAmong}
+use Rattle.un_prop.specs.Among.{AllAmong}
 use Rattle.un_prop.specs.Looks.{sure}
 use Rattle.un_prop.specs.LookLaws.{both}
 use Rattle.un_prop.specs.LastLaws.{cut_same}

@@ -1,4 +1,4 @@
-use Rattle.std.proofs.Common.{ℕ, ◌≡◌, ◌∙◌, Bool, not, ◌&&◌, sym, ap}
+use Rattle.std.proofs.Common.{◌∙◌, not, sym}
 use Rattle.un_domains.specs.Sets.{cut_by}
 use Rattle.un_isa.specs.Tables.{in_mask}
 use Rattle.un_prop.specs.Acts.{act_vars}

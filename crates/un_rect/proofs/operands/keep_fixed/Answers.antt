@@ -1,6 +1,5 @@
-use Rattle.std.proofs.Common.{ℕ, ◌≡◌, ◌≢◌, ◌≤◌, ◌<◌, ◌∙◌, true, get_or, length, Some, refl, sym, ap, subst, arith}
+use Rattle.std.proofs.Common.{ℕ, ◌∙◌, get_or, sym, ap}
 use Rattle.un_base.specs.declared.ids.VarId.{VarId}
-use Rattle.un_domains.specs.Sets.{Sets, set_at, least}
 use Rattle.un_prop.specs.AmongLaws.{has_among}
 use Rattle.un_prop.specs.GoingLaws.{stepped_same, stepped_by}
 use Rattle.un_rect.specs.Entries.{entry_cut}

@@ -1,4 +1,4 @@
-use Rattle.std.proofs.Common.{ℕ, ◌≡◌, ◌||◌, ◌∙◌, Bool, not, nat_eq, sym}
+use Rattle.std.proofs.Common.{◌||◌, ◌∙◌, not, nat_eq, sym}
 use Rattle.un_domains.specs.Sets.{cut_by}
 use Rattle.un_prop.specs.AmongLaws.{has_among}
 use Rattle.un_prop.specs.LastLaws.{cut_all, cut_same, passes_tested, dropped_tested}

@@ -1,7 +1,5 @@
-use Rattle.std.proofs.Common.{ℕ, List, ◌≡◌, ◌∙◌, ap, subst, sym, refl, option_and_then}
-use Rattle.std.specs.declared.option.Option.{Option}
+use Rattle.std.proofs.Common.{List, ◌∙◌, ap, subst, refl}
 use Rattle.un_base.specs.declared.ids.VarId.{VarId}
-use Rattle.un_domains.specs.Sets.{Sets}
 use Rattle.un_prop.specs.Last.{last_cut}
 use Rattle.un_prop.specs.Going.{Goes, Stepped}
 use Rattle.un_prop.specs.GoingLaws.{goes_chain, stepped_chain}
