@@ -1,5 +1,5 @@
 -- Steps of the checks.
-use Rattle.std.proofs.Common.{ℕ, ◌≡◌, ◌≢◌, ◌<◌, ◌⊎◌, Bool, true, false, ◌||◌, List, ◌++◌, length, get_or, set, filter, Some, All, refl, sym, ap, ◌∙◌, subst, inl, inr}
+use Rattle.std.proofs.Common.{ℕ, ◌≡◌, ◌≢◌, ◌<◌, Bool, true, false, ◌||◌, List, ◌++◌, length, get_or, set, Some, All, refl, sym, ap, ◌∙◌, subst, inl, inr}
 use Rattle.std.specs.declared.option.Option.{Option}
 use Rattle.std.specs.List.{AllByRecursion}
 use Rattle.std.proofs.lemmas.List.{get_or-set_same, get_or-set_other}
@@ -21,7 +21,7 @@ use Rattle.un_prop.specs.declared.propagator.Pruned.TheVariants.{Same, Failed}
 use Rattle.un_rect.specs.Spans.{TempVars}
 use Rattle.un_rect.specs.Apart.{temp_vars, pair_vars, pair_holds, check_pair}
 use Rattle.un_rect.specs.ApartLaws.{pair_looks}
-use Rattle.un_rect.specs.Checks.{is_off, differ, surely_apart}
+use Rattle.un_rect.specs.Checks.{is_off, differ}
 use Rattle.un_rect.specs.CheckLaws.{check_apart, ends_outside}
 use Rattle.un_rect.specs.Opened.{opened_after, is_more, Says}
 use Rattle.un_rect.specs.OpenedLaws.{after_append, more_is, says_of, says_more, last_many, last_more, last_one, last_none}

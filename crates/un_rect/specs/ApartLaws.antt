@@ -1,23 +1,20 @@
 -- The laws of Apart.
-use Rattle.std.proofs.Common.{ℕ, zero, suc, ◌≡◌, ◌≢◌, ◌<◌, ◌≤◌, ◌+◌, ◌⊎◌, Bool, true, false, not, ◌&&◌, ◌||◌, List, [], ◌∷◌, ◌++◌, length, get_or, filter, map, max, nat_eq, nat_le, nat_lt, None, Some, option_and_then, MatchOption, All, refl, sym, ap, ◌∙◌, subst, arith, inl, inr}
-use Rattle.std.specs.declared.option.Option.{Option}
+use Rattle.std.proofs.Common.{ℕ, zero, suc, ◌≡◌, ◌<◌, ◌≤◌, ◌⊎◌, Bool, true, false, not, ◌&&◌, ◌||◌, List, [], ◌∷◌, ◌++◌, length, get_or, map, max, nat_eq, nat_le, nat_lt, Some, refl, sym, ap, ◌∙◌, subst, arith, inl, inr}
 use Rattle.std.specs.List.{AllByRecursion, Contains, list_all}
 use Rattle.std.proofs.lemmas.Bool.{cases_lt}
 use Rattle.std.proofs.lemmas.Bool.Decides.{nat_tests}
 use Rattle.std.proofs.lemmas.List.Elements.{recursion_from_All}
 use Rattle.un_base.specs.declared.ids.VarId.{VarId}
-use Rattle.un_domains.specs.Sets.{Sets, set_at, has, least, cut_by, IsIn, NoneEmpty, Kept}
-use Rattle.un_domains.specs.SetLaws.{same_or_not}
+use Rattle.un_domains.specs.Sets.{Sets, set_at, has, IsIn, NoneEmpty, Kept}
 use Rattle.un_domains.specs.CutLaws.{cut_by_kept}
 use Rattle.un_domains.specs.Order.{Below}
 use Rattle.un_prop.specs.Rounds.{HasVars}
 use Rattle.un_prop.specs.Parts.{Part, all_meet, SameAt, ChecksForward}
-use Rattle.un_prop.specs.Lawful.{Lawful, LawfulTest, Agree}
+use Rattle.un_prop.specs.Lawful.{Lawful, LawfulTest}
 use Rattle.un_prop.specs.Steps.{lawful_cut_by, lawful_then}
 use Rattle.un_prop.specs.ChainLaws.{then_kept, known_in, stable_then}
-use Rattle.un_prop.specs.Last.{last_cut}
 use Rattle.un_prop.specs.LastLaws.{Ascend, last_lawful, last_keeps, last_forward, passes_all}
-use Rattle.un_prop.specs.Among.{among, AllAmong}
+use Rattle.un_prop.specs.Among.{among}
 use Rattle.un_prop.specs.AmongLaws.{in_list, has_among, same_var, same_active}
 use Rattle.un_prop.specs.Acts.{is_active, Occupies}
 use Rattle.un_prop.specs.Looks.{sure}
@@ -28,7 +25,7 @@ use Rattle.un_prop.specs.declared.act.Temp.{Temp}
 use Rattle.un_rect.specs.Spans.{starts, ends, greatest_start, is_only, least_end, SurelyOccupies, TempVars}
 use Rattle.un_rect.specs.SpansLaws.{only_is, only_below, occupied, occupies, starts_alike, ends_alike, greatest_start_below, least_end_below, greatest_start_alike, least_end_alike, starts_in, ends_in}
 use Rattle.un_rect.specs.Pairs.{each_pair}
-use Rattle.un_rect.specs.PairLaws.{Checks, checks_first, checks_second, pairs_check, pairs_keep, pairs_lawful, pairs_stable}
+use Rattle.un_rect.specs.PairLaws.{Checks, checks_second, pairs_check, pairs_keep, pairs_lawful, pairs_stable}
 use Rattle.un_rect.specs.Orders.{order_cut, order_pair}
 use Rattle.un_rect.specs.OrdersLaws.{order_keeps, order_pair_lawful}
 use Rattle.un_rect.specs.TempLaws.{filter_ascends, pair_first, pair_second, part_all, lawful_part}
@@ -295,13 +292,13 @@ module _ (vs : List VarId) (ascend : Ascend vs) where
         then_kept (clash_cut b a) x (clash_cut a b m) (clash_keeps vs a b ha hb m x km in_m apart)
         (λ u in_u. clash_keeps vs b a hb ha u x (known_in vs m u x in_m in_u km) in_u (λ on_b on_a e. elim (apart on_a on_b (sym e)) [ inl le ↦ inr le | inr le ↦ inl le ])))) s k there)
         (λ n in_n. pairs_keep vs (TempVars vs) order_pair temps x (length temps) d (omega arith) (λ i j m lt below km in_m. (
-            let a = get_or temps i d in
-            let b = get_or temps j d in
-            let ha = h i d (omega (arith, lt, below)) in
-            let hb = h j d below in
-            let apart = pair_apart a b x (apart_pairs temps x holds i j d lt below) in
-            then_kept (order_cut b a) x (order_cut a b m) (order_keeps vs a b ha hb m x km in_m apart)
-            (λ u in_u. order_keeps vs b a hb ha u x (known_in vs m u x in_m in_u km) in_u (λ on_b on_a e. elim (apart on_a on_b (sym e)) [ inl le ↦ inr le | inr le ↦ inl le ])))) n (known_in vs s n x there in_n k) in_n))
+        let a = get_or temps i d in
+        let b = get_or temps j d in
+        let ha = h i d (omega (arith, lt, below)) in
+        let hb = h j d below in
+        let apart = pair_apart a b x (apart_pairs temps x holds i j d lt below) in
+        then_kept (order_cut b a) x (order_cut a b m) (order_keeps vs a b ha hb m x km in_m apart)
+        (λ u in_u. order_keeps vs b a hb ha u x (known_in vs m u x in_m in_u km) in_u (λ on_b on_a e. elim (apart on_a on_b (sym e)) [ inl le ↦ inr le | inr le ↦ inl le ])))) n (known_in vs s n x there in_n k) in_n))
         (λ m in_m. pairs_keep vs (TempVars vs) (check_pair vs) temps x (length temps) d (omega arith) (λ i j u lt below ku in_u. (
         let a = get_or temps i d in
         let b = get_or temps j d in

@@ -1,5 +1,5 @@
 -- Laws of what the code looks at.
-use Rattle.std.proofs.Common.{ℕ, ◌≡◌, ◌≢◌, ◌<◌, ◌≤◌, ◌⊎◌, Bool, true, false, not, ◌&&◌, ◌||◌, cond, List, [], ◌∷◌, ◌++◌, length, get_or, set, map, filter, nat_eq, None, Some, MatchOption, All, refl, sym, ap, ◌∙◌, subst, arith, inl, inr}
+use Rattle.std.proofs.Common.{ℕ, ◌≡◌, ◌≢◌, ◌<◌, ◌⊎◌, Bool, true, false, not, ◌||◌, List, [], ◌++◌, length, get_or, set, nat_eq, None, Some, MatchOption, refl, sym, ap, ◌∙◌, subst, arith, inl, inr}
 use Rattle.std.specs.declared.option.Option.{Option}
 use Rattle.std.specs.Bool.{⊤}
 use Rattle.std.proofs.lemmas.Bool.Decides.{nat_tests}
@@ -13,7 +13,7 @@ use Rattle.un_prop.specs.Steps.{has_var, cut_outside}
 use Rattle.un_prop.specs.ChainLaws.{least_in}
 use Rattle.un_prop.specs.Among.{among, AllAmong}
 use Rattle.un_prop.specs.AmongLaws.{has_among}
-use Rattle.un_prop.specs.Acts.{act_vars, act_number, is_active}
+use Rattle.un_prop.specs.Acts.{act_vars, is_active}
 use Rattle.un_prop.specs.Last.{last_of, last_cut, last_cut_at, point}
 use Rattle.un_prop.specs.LastLaws.{last_single, cut_all}
 use Rattle.un_prop.specs.LookLaws.{firsts}

@@ -1,5 +1,5 @@
 -- What the code looks at to see that two temporaries are apart in each assignment of a store.
-use Rattle.std.specs.Prelude.{ℕ, Bool, false, not, ◌&&◌, ◌||◌, length, nat_eq}
+use Rattle.std.specs.Prelude.{Bool, false, not, ◌&&◌, ◌||◌, length, nat_eq}
 use Rattle.un_base.specs.declared.ids.VarId.{VarId}
 use Rattle.un_domains.specs.Sets.{Sets, set_at, least, greatest}
 use Rattle.un_prop.specs.declared.act.Act.{Act}

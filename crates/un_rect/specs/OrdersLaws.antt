@@ -1,12 +1,12 @@
 -- Laws of the order of two temporaries.
-use Rattle.std.proofs.Common.{ℕ, zero, suc, ◌≡◌, ◌≢◌, ◌<◌, ◌≤◌, ◌+◌, ◌-◌, ◌⊎◌, Bool, true, false, cond, not, ◌&&◌, ◌||◌, List, [], ◌∷◌, length, get_or, max, nat_eq, nat_le, nat_lt, None, Some, option_and_then, MatchOption, All, refl, sym, ap, ◌∙◌, subst, arith, inl, inr}
+use Rattle.std.proofs.Common.{ℕ, zero, suc, ◌≡◌, ◌<◌, ◌≤◌, ◌-◌, ◌⊎◌, Bool, true, false, cond, not, ◌&&◌, ◌||◌, List, [], ◌∷◌, length, get_or, nat_eq, nat_le, nat_lt, None, Some, option_and_then, MatchOption, refl, sym, ap, ◌∙◌, subst, arith, inl, inr}
 use Rattle.std.specs.declared.option.Option.{Option}
 use Rattle.std.specs.Bool.{⊤}
 use Rattle.std.specs.List.{AllByRecursion}
 use Rattle.std.proofs.lemmas.Bool.Decides.{nat_tests}
 use Rattle.std.proofs.lemmas.List.Elements.{recursion_from_All}
 use Rattle.un_base.specs.declared.ids.VarId.{VarId}
-use Rattle.un_domains.specs.Sets.{Sets, set_at, has, least, cut_by, IsIn, NoneEmpty, Kept}
+use Rattle.un_domains.specs.Sets.{Sets, set_at, least, cut_by, IsIn, NoneEmpty, Kept}
 use Rattle.un_domains.specs.CutLaws.{cut_by_kept}
 use Rattle.un_domains.specs.Order.{Below}
 use Rattle.un_domains.specs.OrderLaws.{Below-refl, Below-trans}
@@ -15,7 +15,7 @@ use Rattle.un_prop.specs.Lawful.{Lawful, LawfulTest, Agree, AgreeOption, BelowOp
 use Rattle.un_prop.specs.Steps.{lawful_cut_by, lawful_some, lawful_then}
 use Rattle.un_prop.specs.ChainLaws.{then_kept, known_in, each_lawful, each_keeps}
 use Rattle.un_prop.specs.LastLaws.{cut_all, cut_same}
-use Rattle.un_prop.specs.Among.{among, AllAmong}
+use Rattle.un_prop.specs.Among.{AllAmong}
 use Rattle.un_prop.specs.AmongLaws.{in_list, has_among}
 use Rattle.un_prop.specs.Acts.{at_vars, at_value, is_active, is_user, chooses}
 use Rattle.un_prop.specs.Looks.{at_set, sure}
@@ -272,7 +272,7 @@ module _ (vs : List VarId) (a b : Temp) (ha : TempVars vs a) (hb : TempVars vs b
           let high = (starts_in vs s x there k a ha).1 in
           let low = ends_in vs s x there k b hb in
           elim (h (sure_active vs s x there k a.on ha.of_on two.0) (sure_active vs s x there k b.on hb.of_on three.0) (ra ∙ sym rb))
-              [ inl le ↦ le | inr le ↦ absurd (omega (arith, le, less, high, low)) ]
+          [ inl le ↦ le | inr le ↦ absurd (omega (arith, le, less, high, low)) ]
 
       by : (c : Bool) → comes_first a b s ≡ c → Kept x (cond c (order_steps a b s) (Some s))
       by true e = steps_keep x (first e) s k there

@@ -1,5 +1,5 @@
 -- Laws of starts and ends.
-use Rattle.std.proofs.Common.{ℕ, zero, suc, ◌≡◌, ◌≢◌, ◌≤◌, ◌<◌, ◌+◌, ◌⊎◌, Bool, true, false, cond, ◌&&◌, List, [], ◌∷◌, length, get_or, max, nat_eq, None, Some, refl, sym, ap, ◌∙◌, subst, arith, inl, inr}
+use Rattle.std.proofs.Common.{ℕ, zero, suc, ◌≡◌, ◌≤◌, ◌<◌, ◌+◌, ◌⊎◌, Bool, true, false, cond, ◌&&◌, List, [], ◌∷◌, length, get_or, max, nat_eq, None, Some, refl, sym, ap, ◌∙◌, subst, arith, inl, inr}
 use Rattle.std.specs.declared.option.Option.{Option}
 use Rattle.std.specs.List.{AllByRecursion}
 use Rattle.std.proofs.lemmas.Bool.Decides.{nat_tests}
@@ -12,14 +12,14 @@ use Rattle.un_domains.specs.OrderLaws.{single_below}
 use Rattle.un_prop.specs.Rounds.{HasVars}
 use Rattle.un_prop.specs.Parts.{SameAt}
 use Rattle.un_prop.specs.Lawful.{Agree}
-use Rattle.un_prop.specs.Among.{among, AllAmong}
+use Rattle.un_prop.specs.Among.{AllAmong}
 use Rattle.un_prop.specs.AmongLaws.{has_among, same_var, same_active, same_time}
 use Rattle.un_prop.specs.Acts.{is_active, at_value, chooses, is_user, Occupies}
 use Rattle.un_prop.specs.Looks.{at_set, sure}
 use Rattle.un_prop.specs.LookLaws.{both, firsts, set_alike, at_alike, sure_alike, known_below, least_at_below, greatest_at_below, sure_below, sure_active, value_in}
 use Rattle.un_prop.specs.declared.act.UserOf.{UserOf}
 use Rattle.un_prop.specs.declared.act.Temp.{Temp}
-use Rattle.un_rect.specs.Spans.{starts, use_time, last_use, ends, least_start, greatest_start, is_only, sure_choice, sure_user, sure_use, last_sure_use, least_end, SurelyOccupies, choice_vars, UserVars, TempVars}
+use Rattle.un_rect.specs.Spans.{starts, use_time, last_use, ends, least_start, greatest_start, is_only, sure_choice, sure_user, sure_use, last_sure_use, least_end, choice_vars, UserVars, TempVars}
 
 -- One value
 

@@ -1,5 +1,5 @@
 -- Laws of the variables of temporaries, and of cuts that look at some of the variables.
-use Rattle.std.proofs.Common.{ℕ, zero, suc, ◌≡◌, ◌≢◌, ◌<◌, ◌≤◌, ◌⊎◌, Bool, true, false, ◌||◌, cond, List, [], ◌∷◌, ◌++◌, length, get_or, filter, nat_eq, None, Some, option_and_then, MatchOption, All, refl, sym, ap, ◌∙◌, subst, arith, inl, inr}
+use Rattle.std.proofs.Common.{ℕ, zero, suc, ◌≡◌, ◌≢◌, ◌<◌, Bool, true, false, ◌||◌, cond, List, [], ◌∷◌, ◌++◌, length, get_or, filter, nat_eq, None, Some, MatchOption, All, refl, sym, ap, ◌∙◌, subst, arith, inl, inr}
 use Rattle.std.specs.declared.option.Option.{Option}
 use Rattle.std.specs.Bool.{⊤}
 use Rattle.std.specs.List.{AllByRecursion, Contains}
@@ -7,14 +7,12 @@ use Rattle.std.proofs.lemmas.Bool.Decides.{nat_tests}
 use Rattle.std.proofs.lemmas.List.Folds.{list_any-append}
 use Rattle.std.proofs.lemmas.List.Elements.{recursion_from_All, All-from_recursion, All-contains, All-append}
 use Rattle.un_base.specs.declared.ids.VarId.{VarId}
-use Rattle.un_domains.specs.Sets.{Sets, set_at, NoneEmpty}
-use Rattle.un_domains.specs.Order.{Below}
-use Rattle.un_prop.specs.Rounds.{HasVars}
+use Rattle.un_domains.specs.Sets.{Sets, set_at}
 use Rattle.un_prop.specs.Lawful.{Lawful, Agree, AgreeOption}
 use Rattle.un_prop.specs.Steps.{find_var}
 use Rattle.un_prop.specs.LastLaws.{Ascend}
 use Rattle.un_prop.specs.Among.{among, AllAmong}
-use Rattle.un_prop.specs.AmongLaws.{in_list, has_among}
+use Rattle.un_prop.specs.AmongLaws.{in_list}
 use Rattle.un_prop.specs.Acts.{act_vars, at_vars}
 use Rattle.un_prop.specs.declared.act.UserOf.{UserOf}
 use Rattle.un_prop.specs.declared.act.Temp.{Temp}

@@ -6,8 +6,7 @@ ghost use Rattle.un_prop.specs.LastLaws.{Ascend};
 ghost use Rattle.un_rect.specs.Apart.{pair_holds, ApartVars};
 
 use crate::checks::{are_apart, check_all};
-use crate::clashes;
-use crate::orders;
+use crate::{clashes, orders};
 use un_base::ids::VarId;
 use un_domains::window::Window;
 use un_lists::items::Items;

@@ -1,4 +1,4 @@
-use Rattle.std.proofs.Common.{ℕ, List, ◌≡◌, ◌≢◌, ◌∙◌, All, get_or, sym, ap, subst, arith}
+use Rattle.std.proofs.Common.{List, ◌≡◌, ◌≢◌, ◌∙◌, All, get_or, sym, ap, subst, arith}
 use Rattle.un_base.specs.declared.ids.VarId.{VarId}
 use Rattle.un_domains.specs.Sets.{set_at, least}
 use Rattle.un_prop.specs.Going.{Stepped}

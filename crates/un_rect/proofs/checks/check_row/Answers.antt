@@ -1,4 +1,4 @@
-use Rattle.std.proofs.Common.{ℕ, List, ◌≡◌, ◌≢◌, ◌∙◌, All, get_or, sym, ap, subst, arith}
+use Rattle.std.proofs.Common.{List, ◌≡◌, ◌≢◌, ◌∙◌, All, get_or, sym, ap, subst, arith}
 use Rattle.std.proofs.lemmas.List.Elements.{recursion_from_All}
 use Rattle.un_base.specs.declared.ids.VarId.{VarId}
 use Rattle.un_domains.specs.Sets.{set_at, least}

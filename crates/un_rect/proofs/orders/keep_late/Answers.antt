@@ -1,4 +1,4 @@
-use Rattle.std.proofs.Common.{ℕ, nat_lt}
+use Rattle.std.proofs.Common.{nat_lt}
 use Rattle.un_domains.specs.Sets.{cut_by}
 use Rattle.un_prop.specs.AmongLaws.{has_among}
 use Rattle.un_prop.specs.GoingLaws.{stepped_by}

@@ -1,4 +1,4 @@
-use Rattle.std.proofs.Common.{List, ◌≡◌, ◌∙◌, All, length, sym, ap, subst, option_and_then}
+use Rattle.std.proofs.Common.{List, ◌∙◌, All, length, sym, ap, subst, option_and_then}
 use Rattle.un_base.specs.declared.ids.VarId.{VarId}
 use Rattle.un_prop.specs.Going.{Stepped}
 use Rattle.un_prop.specs.GoingLaws.{stepped_chain}

@@ -1,4 +1,4 @@
-use Rattle.std.proofs.Common.{ℕ, Bool, ◌≡◌, ◌∙◌, ◌||◌, not, nat_le, sym, ap}
+use Rattle.std.proofs.Common.{ℕ, Bool, ◌∙◌, ◌||◌, not, nat_le, sym, ap}
 use Rattle.un_domains.specs.Sets.{cut_by}
 use Rattle.un_prop.specs.Acts.{at_vars}
 use Rattle.un_prop.specs.AmongLaws.{has_among}
