@@ -9,7 +9,7 @@ use Rattle.un_prop.specs.declared.act.At.TheVariants.{Const, Var}
 use Rattle.un_prop.specs.declared.act.UserOf.{UserOf}
 use Rattle.un_prop.specs.declared.act.Temp.{Temp}
 use Rattle.un_rect.specs.Spans.{greatest_start, is_only, sure_user, least_end}
-use Rattle.un_rect.specs.Pairs.{at_place}
+use Rattle.un_rect.specs.Pairs.{at_place, each_pair}
 
 -- both have the same one register left
 abbrev pub share_one : Temp → Temp → Sets → Bool
@@ -39,12 +39,19 @@ early_test b s y = nat_le y (greatest_start b s - 1)
 abbrev pub user_test : Temp → UserOf → Sets → ℕ → Bool
 user_test b u s y = not (sure_user u s) || nat_le y (greatest_start b s)
 
--- what is surely active and too late is no user of the first
+-- a user is surely active, and later than the start of the second
+abbrev pub sure_late : Temp → UserOf → Sets → Bool
+sure_late b u s = sure u.on s && nat_lt (greatest_start b s) (least (at_set u.at s))
+
+-- such a user does not read the first
 abbrev pub reader_test : Temp → UserOf → Sets → ℕ → Bool
 reader_test b u s y = not (sure u.on s && (nat_lt (greatest_start b s) (least (at_set u.at s)) && nat_eq y u.value))
 
+abbrev pub reader_cut : Temp → UserOf → Sets → Option Sets
+reader_cut b u s = choice_cut (reader_test b u) u.choice s
+
 abbrev pub user_cut : Temp → UserOf → Sets → Option Sets
-user_cut b u s = option_and_then (choice_cut (reader_test b u) u.choice) (time_cut (user_test b u) u.at s)
+user_cut b u s = option_and_then (reader_cut b u) (time_cut (user_test b u) u.at s)
 
 abbrev pub users_cut : Temp → List UserOf → ℕ → Sets → Option Sets
 users_cut b us n s = each_place (at_place (user_cut b) us) n s
@@ -58,3 +65,6 @@ order_cut a b s = cond (comes_first a b s) (order_steps a b s) (Some s)
 -- and the other way round
 abbrev pub order_pair : Temp → Temp → Sets → Option Sets
 order_pair a b s = option_and_then (order_cut b a) (order_cut a b s)
+
+abbrev pub orders_cut : List Temp → Sets → Option Sets
+orders_cut temps s = each_pair order_pair temps (length temps) s

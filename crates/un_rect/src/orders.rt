@@ -1,14 +1,14 @@
 //! The order of two sure temporaries with the same one register left.
 
-ghost use Rattle.std.specs.Prelude.{◌≡◌, ◌≢◌, ◌≤◌, ◌+◌, ◌&&◌, All, length, nat_lt};
-ghost use Rattle.un_domains.specs.Sets.{least, NoneEmpty};
+ghost use Rattle.std.specs.Prelude.{◌≡◌, ◌≢◌, ◌≤◌, ◌+◌, All, length};
+ghost use Rattle.un_domains.specs.Sets.{NoneEmpty};
 ghost use Rattle.un_prop.specs.Going.{Stepped};
 ghost use Rattle.un_prop.specs.Rounds.{HasVars};
 ghost use Rattle.un_prop.specs.declared.propagator.Pruned.TheVariants.{Failed};
-ghost use Rattle.un_rect.specs.Spans.{greatest_start, least_end, UserVars, TempVars};
-ghost use Rattle.un_prop.specs.Looks.{at_set, sure};
-ghost use Rattle.un_rect.specs.Orders.{share_one, comes_first, time_cut, choice_cut, late_test, early_test, user_test, reader_test, user_cut, users_cut, order_steps, order_cut, order_pair};
-ghost use Rattle.un_rect.specs.Pairs.{each_before, each_pair};
+ghost use Rattle.un_rect.specs.Spans.{least_end, UserVars, TempVars};
+ghost use Rattle.un_rect.specs.Orders.{share_one, comes_first, time_cut, late_test, early_test, user_test, sure_late};
+ghost use Rattle.un_rect.specs.Orders.{reader_cut, user_cut, users_cut, order_steps, order_cut, order_pair, orders_cut};
+ghost use Rattle.un_rect.specs.Pairs.{each_before};
 
 use crate::clashes::ends_after;
 use crate::spans::{is_only, is_sure_user, last_sure_use};
@@ -139,7 +139,7 @@ fn is_late(w: &Window<'_>, b: &Temp, u: &UserOf) -> bool
     requires of_u { UserVars w.now.vars.now u.now }
     requires known { HasVars w.now.vars.now w.now.store.now.sets }
     requires live { NoneEmpty w.now.store.now.sets }
-    ensures { result ≡ (sure u.now.on w.now.store.now.sets && nat_lt (greatest_start b.now w.now.store.now.sets) (least (at_set u.now.at w.now.store.now.sets))) }
+    ensures { result ≡ sure_late b.now u.now w.now.store.now.sets }
 {
     if !is_sure(w, u.on) {
         return false;
@@ -153,7 +153,7 @@ fn keep_reader(w: &mut Window<'_>, before: Pruned, b: &Temp, u: &UserOf) -> Prun
     requires of_u { UserVars w.old.vars.now u.now }
     requires known { HasVars w.old.vars.now w.old.store.now.sets }
     requires live { before ≢ Failed → NoneEmpty w.old.store.now.sets }
-    ensures step { Stepped w.old.vars.now (choice_cut (reader_test b.now u.now) u.now.choice) w.old.store.now w.new.store.now before result }
+    ensures step { Stepped w.old.vars.now (reader_cut b.now u.now) w.old.store.now w.new.store.now before result }
     ensures same_reference { w.new.store.ghost_name ≡ w.old.store.ghost_name }
     ensures vars { w.new.vars ≡ w.old.vars }
 {
@@ -278,7 +278,7 @@ pub(crate) fn keep_all(w: &mut Window<'_>, before: Pruned, temps: &[Temp]) -> Pr
     requires of_temps { All (TempVars w.old.vars.now) temps.now }
     requires known { HasVars w.old.vars.now w.old.store.now.sets }
     requires live { before ≢ Failed → NoneEmpty w.old.store.now.sets }
-    ensures step { Stepped w.old.vars.now (each_pair order_pair temps.now (length temps.now)) w.old.store.now w.new.store.now before result }
+    ensures step { Stepped w.old.vars.now (orders_cut temps.now) w.old.store.now w.new.store.now before result }
     ensures same_reference { w.new.store.ghost_name ≡ w.old.store.ghost_name }
     ensures vars { w.new.vars ≡ w.old.vars }
 {
