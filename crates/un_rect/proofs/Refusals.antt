@@ -1,6 +1,5 @@
 -- Tests that refuse a value where a condition is met, as the code finds them.
-use Rattle.std.proofs.Common.{ℕ, ◌≡◌, ◌<◌, Bool, true, false, not, ◌&&◌, List, length, nat_eq, nat_le, None, Some, refl, sym, ap, ◌∙◌}
-use Rattle.std.proofs.Common.{arith}
+use Rattle.std.proofs.Common.{ℕ, ◌≡◌, ◌<◌, Bool, true, false, not, ◌&&◌, List, length, nat_eq, nat_le, None, Some, refl, sym, ap, ◌∙◌, arith}
 use Rattle.std.specs.declared.option.Option.{Option}
 use Rattle.std.proofs.lemmas.Bool.Decides.{nat_tests}
 use Rattle.un_base.specs.declared.ids.VarId.{VarId}
@@ -49,5 +48,5 @@ choice_is q o v s e = ap (λ (p : Option VarId). choice_cut q p s) e
 pub in_choice : (vs : List VarId) (o : Option VarId) (v : VarId) (s : Sets) → o ≡ Some v → AllAmong vs (choice_vars o) → HasVars vs s
     → v.0 < length s
 in_choice vs None v s e all k = absurd (cc e)
-in_choice vs (Some u) v s e all k = let same : u.0 ≡ v.0 = ap (λ (w : VarId). w.0) (let e' : u ≡ v = cc e in e') in let lt =
-    has_among vs u s (all 0 u (omega arith)) k in omega (arith, same, lt)
+in_choice vs (Some u) v s e all k = let same : u.0 ≡ v.0 = ap (λ (w : VarId). w.0) (let e' : u ≡ v = cc e in e') in let lt = has_among vs
+    u s (all 0 u (omega arith)) k in omega (arith, same, lt)
