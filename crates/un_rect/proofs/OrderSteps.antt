@@ -1,5 +1,6 @@
 -- What the code sees of an order.
-use Rattle.std.proofs.Common.{ℕ, ◌≡◌, ◌<◌, ◌≤◌, ◌+◌, Bool, true, false, cond, not, ◌&&◌, List, length, nat_eq, nat_le, nat_lt, Some, option_and_then, refl, ap, ◌∙◌, subst, arith}
+use Rattle.std.proofs.Common.{ℕ, ◌≡◌, ◌<◌, ◌≤◌, ◌+◌, Bool, true, false, cond, not, ◌&&◌, List, length, nat_eq, nat_le, nat_lt, Some}
+use Rattle.std.proofs.Common.{option_and_then, refl, ap, ◌∙◌, subst, arith}
 use Rattle.std.specs.declared.option.Option.{Option}
 use Rattle.std.specs.List.{AllByRecursion}
 use Rattle.std.proofs.lemmas.Bool.Decides.{nat_tests}
@@ -37,10 +38,13 @@ module _ (b : Temp) (u : UserOf) (s : Sets) (y : ℕ) where
   three false q r = refl
 
   pub reader_stays : (sure u.on s && nat_lt (greatest_start b s) (least (at_set u.at s))) ≡ false → reader_test b u s y ≡ true
-  reader_stays e = ap not (three (sure u.on s) (nat_lt (greatest_start b s) (least (at_set u.at s))) (nat_eq y u.value)) ∙ ap (λ (c : Bool). not (c && nat_eq y u.value)) e
+  reader_stays e = ap not (three (sure u.on s) (nat_lt (greatest_start b s) (least (at_set u.at s))) (nat_eq y u.value))
+      ∙ ap (λ (c : Bool). not (c && nat_eq y u.value)) e
 
-  pub reader_goes : (sure u.on s && nat_lt (greatest_start b s) (least (at_set u.at s))) ≡ true → reader_test b u s y ≡ not (nat_eq y u.value)
-  reader_goes e = ap not (three (sure u.on s) (nat_lt (greatest_start b s) (least (at_set u.at s))) (nat_eq y u.value)) ∙ ap (λ (c : Bool). not (c && nat_eq y u.value)) e
+  pub reader_goes : (sure u.on s && nat_lt (greatest_start b s) (least (at_set u.at s))) ≡ true → reader_test b u s y ≡ not
+      (nat_eq y u.value)
+  reader_goes e = ap not (three (sure u.on s) (nat_lt (greatest_start b s) (least (at_set u.at s))) (nat_eq y u.value))
+      ∙ ap (λ (c : Bool). not (c && nat_eq y u.value)) e
 
 -- the second has other than one register
 module _ (a b : Temp) (s : Sets) (many : nat_eq (length (set_at s b.reg.0)) 1 ≡ false) where
@@ -50,12 +54,16 @@ module _ (a b : Temp) (s : Sets) (many : nat_eq (length (set_at s b.reg.0)) 1 �
 
   pub order_idle : order_pair a b s ≡ Some s
   order_idle =
-      let none : share_one a b s ≡ false = second (nat_eq (length (set_at s a.reg.0)) 1) (is_only (set_at s b.reg.0) (least (set_at s a.reg.0)))
+      let none : share_one a b s ≡ false = second (nat_eq (length (set_at s a.reg.0)) 1)
+      (is_only (set_at s b.reg.0) (least (set_at s a.reg.0)))
       (ap (λ (c : Bool). c && nat_eq (least (set_at s b.reg.0)) (least (set_at s a.reg.0))) many) in
-      ap (λ (c : Bool). option_and_then (order_cut b a) (cond (c && (sure a.on s && (sure b.on s && nat_lt (greatest_start a s) (least_end b s)))) (order_steps a b s) (Some s))) none
-      ∙ ap (λ (c : Bool). cond ((c && is_only (set_at s a.reg.0) (least (set_at s b.reg.0))) && (sure b.on s && (sure a.on s && nat_lt (greatest_start b s) (least_end a s)))) (order_steps b a s) (Some s)) many
+      ap (λ (c : Bool). option_and_then (order_cut b a)
+      (cond (c && (sure a.on s && (sure b.on s && nat_lt (greatest_start a s) (least_end b s)))) (order_steps a b s) (Some s))) none
+      ∙ ap (λ (c : Bool). cond ((c && is_only (set_at s a.reg.0) (least (set_at s b.reg.0)))
+      && (sure b.on s && (sure a.on s && nat_lt (greatest_start b s) (least_end a s)))) (order_steps b a s) (Some s)) many
 
-pub row_idle : (vs : List VarId) (temps : List Temp) (b : Temp) (s : Sets) → AllByRecursion (TempVars vs) temps → TempVars vs b → HasVars vs s → NoneEmpty s
+pub row_idle : (vs : List VarId) (temps : List Temp) (b : Temp) (s : Sets) → AllByRecursion (TempVars vs) temps → TempVars vs b
+    → HasVars vs s → NoneEmpty s
     → nat_eq (length (set_at s b.reg.0)) 1 ≡ false → (n : ℕ) → each_before order_pair temps b n s ≡ Some s
 row_idle vs temps b s all hb k full e n = each_same (at_place (λ a. order_pair a b) temps) n s
     (at_same (TempVars vs) (λ a. order_pair a b) temps s all (λ a ha. order_idle a b s e))

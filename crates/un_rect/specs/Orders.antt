@@ -1,5 +1,6 @@
 -- Of two sure temporaries with the same one register left, where one cannot end before the other starts, the other comes first.
-use Rattle.std.specs.Prelude.{ℕ, ◌-◌, Bool, cond, not, ◌&&◌, ◌||◌, List, length, nat_eq, nat_le, nat_lt, Option, None, Some, option_and_then}
+use Rattle.std.specs.Prelude.{ℕ, ◌-◌, Bool, cond, not, ◌&&◌, ◌||◌, List, length, nat_eq, nat_le, nat_lt, Option, None, Some}
+use Rattle.std.specs.Prelude.{option_and_then}
 use Rattle.un_base.specs.declared.ids.VarId.{VarId}
 use Rattle.un_domains.specs.Sets.{Sets, set_at, cut_by, least}
 use Rattle.un_prop.specs.Looks.{at_set, sure}
@@ -57,7 +58,8 @@ abbrev pub users_cut : Temp → List UserOf → ℕ → Sets → Option Sets
 users_cut b us n s = each_place (at_place (user_cut b) us) n s
 
 abbrev pub order_steps : Temp → Temp → Sets → Option Sets
-order_steps a b s = option_and_then (users_cut b a.users (length a.users)) (option_and_then (time_cut (early_test b) a.at) (time_cut (late_test a) b.at s))
+order_steps a b s = option_and_then (users_cut b a.users (length a.users)) (option_and_then (time_cut (early_test b) a.at)
+    (time_cut (late_test a) b.at s))
 
 abbrev pub order_cut : Temp → Temp → Sets → Option Sets
 order_cut a b s = cond (comes_first a b s) (order_steps a b s) (Some s)

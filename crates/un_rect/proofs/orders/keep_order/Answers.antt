@@ -9,7 +9,8 @@ returns-then-comes_first-clause-step c =
     let a = c.args.a.now in
     let b = c.args.b.now in
     stepped_by c.args.w.now.vars.now (order_cut a b) (order_steps a b) s c.keep_steps.new.w.store.now c.args.before c.keep_steps.result
-    (λ live. ap (λ (d : Bool). cond d (order_steps a b s.sets) (Some s.sets)) (sym c.comes_first.ensures ∙ c.if-comes_first.true)) c.keep_steps.ensures.step
+    (λ live. ap (λ (d : Bool). cond d (order_steps a b s.sets) (Some s.sets)) (sym c.comes_first.ensures ∙ c.if-comes_first.true))
+    c.keep_steps.ensures.step
 
 pub returns-else-comes_first-clause-step : goal.returns-else-comes_first-clause-step
 returns-else-comes_first-clause-step c =

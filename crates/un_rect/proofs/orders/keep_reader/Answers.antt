@@ -8,11 +8,13 @@ use Rattle.un_rect.proofs.OrderSteps.{choice_in, reader_stays, reader_goes}
 use Rattle.un_rect.proofs.orders.keep_reader.Goals as goal
 
 pub drop_value-requires-clause-there : goal.drop_value-requires-clause-there
-drop_value-requires-clause-there c = has_among c.args.w.now.vars.now c.in-Some.v c.args.w.now.store.now.sets (choice_in c.args.w.now.vars.now c.in-Some.v c.args.u.now.choice c.in-Some.is c.requires.of_u.of_choice) c.requires.known
+drop_value-requires-clause-there c = has_among c.args.w.now.vars.now c.in-Some.v c.args.w.now.store.now.sets
+    (choice_in c.args.w.now.vars.now c.in-Some.v c.args.u.now.choice c.in-Some.is c.requires.of_u.of_choice) c.requires.known
 
 pub drop_value-requires-clause-some : goal.drop_value-requires-clause-some
 drop_value-requires-clause-some c = c.requires.live (λ e. let h = rw e at c.if-eq.ensures in cc h) c.in-Some.v.0
-    (has_among c.args.w.now.vars.now c.in-Some.v c.args.w.now.store.now.sets (choice_in c.args.w.now.vars.now c.in-Some.v c.args.u.now.choice c.in-Some.is c.requires.of_u.of_choice) c.requires.known)
+    (has_among c.args.w.now.vars.now c.in-Some.v c.args.w.now.store.now.sets (choice_in c.args.w.now.vars.now c.in-Some.v
+    c.args.u.now.choice c.in-Some.is c.requires.of_u.of_choice) c.requires.known)
 
 pub drop_value-requires-clause-lent : goal.drop_value-requires-clause-lent
 drop_value-requires-clause-lent c = choice_in c.args.w.now.vars.now c.in-Some.v c.args.u.now.choice c.in-Some.is c.requires.of_u.of_choice
@@ -24,8 +26,10 @@ returns-then-is_late-clause-step c =
     let u = c.args.u.now in
     let v = c.in-Some.v in
     let q = λ (y : ℕ). not (nat_eq y u.value) in
-    stepped_by c.args.w.now.vars.now (choice_cut (reader_test b u) u.choice) (cut_by q v.0) s c.drop_value.new.w.store.now c.args.before c.drop_value.result
-    (λ live. choice_is (reader_test b u) q u.choice v s.sets c.in-Some.is (λ y. reader_goes b u s.sets y (sym c.is_late.ensures ∙ c.if-is_late.true))) c.drop_value.ensures.step
+    stepped_by c.args.w.now.vars.now (choice_cut (reader_test b u) u.choice) (cut_by q v.0) s c.drop_value.new.w.store.now c.args.before
+    c.drop_value.result
+    (λ live. choice_is (reader_test b u) q u.choice v s.sets c.in-Some.is (λ y. reader_goes b u s.sets y (sym c.is_late.ensures
+    ∙ c.if-is_late.true))) c.drop_value.ensures.step
 
 pub returns-else-is_late-clause-step : goal.returns-else-is_late-clause-step
 returns-else-is_late-clause-step c =
@@ -34,4 +38,5 @@ returns-else-is_late-clause-step c =
     let b = c.args.b.now in
     let u = c.args.u.now in
     stepped_same vs (choice_cut (reader_test b u) u.choice) s c.args.before
-    (λ live. choice_same vs (reader_test b u) u.choice s.sets c.requires.of_u.of_choice c.requires.known live (λ y. reader_stays b u s.sets y (sym c.is_late.ensures ∙ c.if-is_late.false)))
+    (λ live. choice_same vs (reader_test b u) u.choice s.sets c.requires.of_u.of_choice c.requires.known live
+    (λ y. reader_stays b u s.sets y (sym c.is_late.ensures ∙ c.if-is_late.false)))

@@ -21,13 +21,15 @@ returns-then-not-is_single-clause-step c =
     let temps = c.args.temps.now in
     let b = c.args.b.now in
     stepped_same vs (each_before order_pair temps b c.args.n) s c.args.before
-    (λ live. row_idle vs temps b s.sets (recursion_from_All (TempVars vs) temps c.requires.of_temps) c.requires.of_b c.requires.known live (sym c.is_single.ensures ∙ c.if-not-is_single.true) c.args.n)
+    (λ live. row_idle vs temps b s.sets (recursion_from_All (TempVars vs) temps c.requires.of_temps) c.requires.of_b c.requires.known live
+    (sym c.is_single.ensures ∙ c.if-not-is_single.true) c.args.n)
 
 pub keep_orders-did-requires-clause-of_a : goal.keep_orders-did-requires-clause-of_a
 keep_orders-did-requires-clause-of_a c =
     let i = c.loop-i.i in
     subst (λ (us : List VarId). TempVars us c.index-temps-i.result) (sym (ap (λ r. r.now) c.loop-i.invariant.vars))
-    (subst (λ (a : Temp). TempVars c.args.w.now.vars.now a) (sym c.index-temps-i.is) (c.requires.of_temps i c.index-temps-i.result (omega (arith, c.loop-i-test.true, c.loop-i.auto.i-end, c.requires.few))))
+    (subst (λ (a : Temp). TempVars c.args.w.now.vars.now a) (sym c.index-temps-i.is) (c.requires.of_temps i c.index-temps-i.result
+    (omega (arith, c.loop-i-test.true, c.loop-i.auto.i-end, c.requires.few))))
 
 pub loop-i-preserved : goal.loop-i-preserved
 loop-i-preserved c =
@@ -35,8 +37,10 @@ loop-i-preserved c =
     let did = c.keep_orders-did in
     let e = ap (λ r. r.now) inv.vars in
     record {
-      step = row_next order_pair c.args.temps.now c.index-temps-i.result c.args.b.now c.loop-i.i c.args.w.now.vars.now c.loop-i.w.vars.now c.args.w.now.store.now c.loop-i.w.store.now did.new.w.store.now
-          c.args.before c.loop-i.did did.result e c.index-temps-i.is (omega (arith, c.loop-i-test.true, c.loop-i.auto.i-end, c.requires.few)) inv.step did.ensures.step;
+      step = row_next order_pair c.args.temps.now c.index-temps-i.result c.args.b.now c.loop-i.i c.args.w.now.vars.now c.loop-i.w.vars.now
+          c.args.w.now.store.now c.loop-i.w.store.now did.new.w.store.now
+          c.args.before c.loop-i.did did.result e c.index-temps-i.is
+          (omega (arith, c.loop-i-test.true, c.loop-i.auto.i-end, c.requires.few)) inv.step did.ensures.step;
       same_reference = did.ensures.same_reference ∙ inv.same_reference;
       vars = did.ensures.vars ∙ inv.vars;
     }

@@ -21,10 +21,12 @@ returns-then-not-is_sure_user-clause-step c =
     (λ y. ap (λ (d : Bool). not d || nat_le y (greatest_start b s.sets)) (sym c.is_sure_user.ensures ∙ c.if-not-is_sure_user.true)))
 
 pub greatest_time-high-requires-clause-known : goal.greatest_time-high-requires-clause-known
-greatest_time-high-requires-clause-known c = known_of c.args.w.now.vars.now (at_vars c.args.b.now.at) c.args.w.now.store.now.sets c.requires.of_b.of_at c.requires.known
+greatest_time-high-requires-clause-known c = known_of c.args.w.now.vars.now (at_vars c.args.b.now.at) c.args.w.now.store.now.sets
+    c.requires.of_b.of_at c.requires.known
 
 pub keep_le-requires-clause-there : goal.keep_le-requires-clause-there
-keep_le-requires-clause-there c = has_among c.args.w.now.vars.now c.in-Var.v c.args.w.now.store.now.sets (time_in c.args.w.now.vars.now c.in-Var.v c.args.u.now.at c.in-Var.is c.requires.of_u.of_at) c.requires.known
+keep_le-requires-clause-there c = has_among c.args.w.now.vars.now c.in-Var.v c.args.w.now.store.now.sets
+    (time_in c.args.w.now.vars.now c.in-Var.v c.args.u.now.at c.in-Var.is c.requires.of_u.of_at) c.requires.known
 
 pub keep_le-requires-clause-lent : goal.keep_le-requires-clause-lent
 keep_le-requires-clause-lent c = time_in c.args.w.now.vars.now c.in-Var.v c.args.u.now.at c.in-Var.is c.requires.of_u.of_at
@@ -36,7 +38,9 @@ returns-in-Var-clause-step c =
     let u = c.args.u.now in
     let v = c.in-Var.v in
     let high = c.greatest_time-high.result in
-    stepped_by c.args.w.now.vars.now (time_cut (user_test b u) u.at) (cut_by (λ y. nat_le y high) v.0) s c.keep_le.new.w.store.now c.args.before c.keep_le.result
+    stepped_by c.args.w.now.vars.now (time_cut (user_test b u) u.at) (cut_by (λ y. nat_le y high) v.0) s c.keep_le.new.w.store.now
+    c.args.before c.keep_le.result
     (λ live. time_is (user_test b u) (λ y. nat_le y high) u.at v s.sets c.in-Var.is
-    (λ y. ap (λ (d : Bool). not d || nat_le y (greatest_start b s.sets)) (sym c.is_sure_user.ensures ∙ c.if-not-is_sure_user.false) ∙ ap (λ (n : ℕ). nat_le y n) (sym c.greatest_time-high.ensures)))
+    (λ y. ap (λ (d : Bool). not d || nat_le y (greatest_start b s.sets)) (sym c.is_sure_user.ensures ∙ c.if-not-is_sure_user.false)
+    ∙ ap (λ (n : ℕ). nat_le y n) (sym c.greatest_time-high.ensures)))
     c.keep_le.ensures.step

@@ -5,4 +5,5 @@ pub is_single-requires : goal.is_single-requires
 is_single-requires c = has_among c.args.w.now.vars.now c.args.a.now.reg c.args.w.now.store.now.sets c.requires.of_a.of_reg c.requires.known
 
 pub is_only-requires-clause-there : goal.is_only-requires-clause-there
-is_only-requires-clause-there c = has_among c.args.w.now.vars.now c.args.b.now.reg c.args.w.now.store.now.sets c.requires.of_b.of_reg c.requires.known
+is_only-requires-clause-there c = has_among c.args.w.now.vars.now c.args.b.now.reg c.args.w.now.store.now.sets c.requires.of_b.of_reg
+    c.requires.known

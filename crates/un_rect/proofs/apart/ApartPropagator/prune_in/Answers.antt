@@ -14,11 +14,13 @@ carried : (vs us : List VarId) (temps xs : List Temp) → us ≡ vs → xs ≡ t
 carried vs us temps xs e h all = subst (λ (ws : List VarId). ApartVars ws xs) (sym e) (subst (ApartVars vs) (sym h) all)
 
 pub keep_all-first-requires-clause-of_temps : goal.keep_all-first-requires-clause-of_temps
-keep_all-first-requires-clause-of_temps c = let p = c.args.self.now in carried p.vars c.args.w.now.vars.now p.temps c.as_slice-temps.result.now c.requires.vars c.as_slice-temps.ensures p.among
+keep_all-first-requires-clause-of_temps c = let p = c.args.self.now in
+    carried p.vars c.args.w.now.vars.now p.temps c.as_slice-temps.result.now c.requires.vars c.as_slice-temps.ensures p.among
 
 pub keep_all-second-requires-clause-of_temps : goal.keep_all-second-requires-clause-of_temps
 keep_all-second-requires-clause-of_temps c = let p = c.args.self.now in
-    carried p.vars c.keep_all-first.new.w.vars.now p.temps c.as_slice-temps.result.now (ap (λ r. r.now) c.keep_all-first.ensures.vars ∙ c.requires.vars) c.as_slice-temps.ensures p.among
+    carried p.vars c.keep_all-first.new.w.vars.now p.temps c.as_slice-temps.result.now (ap (λ r. r.now) c.keep_all-first.ensures.vars
+    ∙ c.requires.vars) c.as_slice-temps.ensures p.among
 
 pub check_all-requires-clause-of_temps : goal.check_all-requires-clause-of_temps
 check_all-requires-clause-of_temps c = let p = c.args.self.now in
@@ -39,11 +41,15 @@ returns-clause-prune c =
     let v1 = ap (λ r. r.now) c.keep_all-first.ensures.vars ∙ c.requires.vars in
     let v2 = ap (λ r. r.now) (c.keep_all-second.ensures.vars ∙ c.keep_all-first.ensures.vars) ∙ c.requires.vars in
     let first = subst (λ (ts : List Temp). Stepped p.vars (each_pair clash_pair ts (length ts)) old mid Same did) e
-    (subst (λ (us : List VarId). Stepped us (each_pair clash_pair xs (length xs)) old mid Same did) c.requires.vars c.keep_all-first.ensures.step) in
+    (subst (λ (us : List VarId). Stepped us (each_pair clash_pair xs (length xs)) old mid Same did) c.requires.vars
+    c.keep_all-first.ensures.step) in
     let second = subst (λ (ts : List Temp). Stepped p.vars (each_pair order_pair ts (length ts)) mid low did more) e
     (subst (λ (us : List VarId). Stepped us (each_pair order_pair xs (length xs)) mid low did more) v1 c.keep_all-second.ensures.step) in
     let third = subst (λ (ts : List Temp). Stepped p.vars (each_pair (check_pair p.vars) ts (length ts)) low new more c.check_all.result) e
-    (subst (λ (us : List VarId). Stepped us (each_pair (check_pair us) xs (length xs)) low new more c.check_all.result) v2 c.check_all.ensures.step) in
-    let bounds = stepped_chain p.vars (each_pair clash_pair p.temps (length p.temps)) (each_pair order_pair p.temps (length p.temps)) old mid low Same did more first second in
-    let all = stepped_chain p.vars (bounds_cut p.temps) (each_pair (check_pair p.vars) p.temps (length p.temps)) old low new Same more c.check_all.result bounds third in
+    (subst (λ (us : List VarId). Stepped us (each_pair (check_pair us) xs (length xs)) low new more c.check_all.result) v2
+    c.check_all.ensures.step) in
+    let bounds = stepped_chain p.vars (each_pair clash_pair p.temps (length p.temps)) (each_pair order_pair p.temps (length p.temps)) old
+    mid low Same did more first second in
+    let all = stepped_chain p.vars (bounds_cut p.temps) (each_pair (check_pair p.vars) p.temps (length p.temps)) old low new Same more
+    c.check_all.result bounds third in
     checked p.vars p.vars (apart_cut p.vars p.temps) old new c.check_all.result refl c.requires.live all.goes
