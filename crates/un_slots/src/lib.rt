@@ -1,0 +1,4 @@
+//! The propagator of packets: in each cycle the operations take no more of each resource than a packet has.
+#![tactic(auto)]
+
+pub mod item;
