@@ -1,2 +1,4 @@
+pub mod LoadLaws
+pub mod Loads
 pub mod SlotLaws
 pub mod Slots
