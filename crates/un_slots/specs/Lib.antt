@@ -1,3 +1,4 @@
+pub mod Amounts
 pub mod LoadLaws
 pub mod Loads
 pub mod SlotLaws

@@ -1,10 +1,11 @@
 -- Laws of packets.
-use Rattle.std.proofs.Common.{ℕ, zero, suc, ◌≡◌, ◌<◌, ◌≤◌, ◌+◌, ◌⊎◌, ◌∙◌, Bool, true, false, not, ◌&&◌, ◌||◌, if◌then◌else◌, List, [], ◌∷◌, length, get_or, sum_by, nat_eq, nat_le, nat_lt, All, refl, sym, ap, subst, arith, inl, inr}
+use Rattle.std.proofs.Common.{ℕ, zero, suc, ◌≡◌, ◌<◌, ◌≤◌, ◌+◌, ◌⊎◌, ◌∙◌, Bool, true, false, not, ◌&&◌, ◌||◌, if◌then◌else◌, List, [], ◌∷◌, length, get_or, drop, sum_by, nat_eq, nat_le, nat_lt, All, refl, sym, ap, subst, arith, inl, inr}
 use Rattle.std.specs.List.{list_all, AllByRecursion}
 use Rattle.std.proofs.lemmas.Bool.Decides.{nat_tests}
 use Rattle.std.proofs.lemmas.List.Sums.{sum_by-cons}
 use Rattle.std.proofs.lemmas.List.Elements.{recursion_from_All, All-from_recursion}
 use Rattle.un_base.specs.declared.ids.VarId.{VarId}
+use Rattle.un_isa.specs.declared.table.Needs.{Needs}
 use Rattle.un_prop.specs.Parts.{SameAt}
 use Rattle.un_prop.specs.AmongLaws.{same_var, same_number, same_active}
 use Rattle.un_prop.specs.Acts.{act_number, is_active}
@@ -12,7 +13,7 @@ use Rattle.un_prop.specs.LookLaws.{both, firsts, not_or, or_not}
 use Rattle.un_slots.specs.declared.item.Item.{Item}
 use Rattle.un_slots.specs.declared.item.Resource.{Resource}
 use Rattle.un_slots.specs.declared.item.Resource.TheVariants.{Instructions, Memory, Stores, MultiplyOrControl, Control}
-use Rattle.un_slots.specs.Slots.{resources, places_of, share_at, issues_at, taken_by, taken, has_room, item_holds, per_cycle_holds, FitsCycles, ItemVars, SlotVars}
+use Rattle.un_slots.specs.Slots.{resources, places_of, share_of, share_at, issues_at, taken_by, taken, has_room, item_holds, per_cycle_holds, FitsCycles, ItemVars, SlotVars}
 
 -- Lists
 
@@ -40,6 +41,12 @@ all_alike p q (x ∷ xs) all = ap (λ (b : Bool). b && list_all p xs) all.0 ∙ 
 and_alike : (a b c d : Bool) → a ≡ c → b ≡ d → (a && b) ≡ (c && d)
 and_alike a b c d h k = ap (λ (x : Bool). x && b) h ∙ ap (λ (x : Bool). c && x) k
 
+pub drop_all : {A : Type 0} (xs : List A) (i : ℕ) → length xs ≤ i → drop i xs ≡ []
+drop_all [] zero le = refl
+drop_all [] (suc i) le = refl
+drop_all (x ∷ xs) zero le = absurd (omega (arith, le))
+drop_all (x ∷ xs) (suc i) le = drop_all xs i (omega (arith, le))
+
 -- Resources
 
 pub for_each : (q : Resource → Bool) → ((r : Resource) → q r ≡ true) → list_all q resources ≡ true
@@ -51,6 +58,17 @@ of_each q h Memory = (each_true q resources h).1.0
 of_each q h Stores = (each_true q resources h).1.1.0
 of_each q h MultiplyOrControl = (each_true q resources h).1.1.1.0
 of_each q h Control = (each_true q resources h).1.1.1.1.0
+
+-- what the entry at a place takes
+pub share_within : (r : Resource) (us : List Needs) (n : ℕ) (d : Needs) → n < length us → share_at r us n ≡ share_of r (get_or us n d)
+share_within r [] n d lt = absurd (omega (arith, lt))
+share_within r (u ∷ us) zero d lt = refl
+share_within r (u ∷ us) (suc n) d lt = share_within r us n d (omega (arith, lt))
+
+pub share_past : (r : Resource) (us : List Needs) (n : ℕ) → length us ≤ n → share_at r us n ≡ 0
+share_past r [] n le = refl
+share_past r (u ∷ us) zero le = absurd (omega (arith, le))
+share_past r (u ∷ us) (suc n) le = share_past r us n (omega (arith, le))
 
 -- The predicate as relations
 
