@@ -1,4 +1,6 @@
 pub mod Amounts
+pub mod ListingLaws
+pub mod Listings
 pub mod LoadLaws
 pub mod Loads
 pub mod SlotLaws

@@ -28,9 +28,13 @@ others k [] = []
 others zero (i ∷ rest) = rest
 others (suc k) (i ∷ rest) = i ∷ others k rest
 
--- number n of an item has needs, and they fit into cycle c beside what these settled items take
+-- number n of an item has needs, and they fit beside what is taken
+abbrev pub fits_beside : (Resource → ℕ) → Item → ℕ → Bool
+fits_beside f i n = nat_lt n (length i.uses) && list_all (λ r. nat_le (f r + share_at r i.uses n) (places_of r)) resources
+
+-- they fit into cycle c beside what these items, where settled, take
 abbrev pub fits : List Item → Item → Sets → ℕ → ℕ → Bool
-fits items i s c n = nat_lt n (length i.uses) && list_all (λ r. nat_le (load r items s c + share_at r i.uses n) (places_of r)) resources
+fits items i s c = fits_beside (λ r. load r items s c) i
 
 -- some number that is left fits
 abbrev pub can_issue : List Item → Item → Sets → ℕ → Bool

@@ -1,7 +1,7 @@
 use Rattle.std.proofs.Common.{ℕ, ◌≡◌, ◌<◌, ◌+◌, ◌-◌, ◌^◌, ◌∙◌, min, List, [], drop, length, get_or, sym, subst, ap, arith}
 use Rattle.un_slots.specs.declared.item.Item.{Item}
 use Rattle.un_slots.specs.Slots.{ItemVars}
-use Rattle.un_slots.specs.SlotLaws.{drop_all}
+use Rattle.std.proofs.lemmas.List.{drop_all}
 use Rattle.un_slots.specs.Loads.{load}
 use Rattle.un_slots.proofs.load.load_from.Goals as goal
 
@@ -11,7 +11,7 @@ add_settled-load-requires-clause-vars c = subst (ItemVars c.args.w.now.vars.now)
 
 pub returns : goal.returns
 returns c r = (
-    let e = ap (λ (xs : List Item). load r xs c.args.w.now.store.now.sets c.args.c) (drop_all c.args.items.now c.loop-j.j
+    let e = ap (λ (xs : List Item). load r xs c.args.w.now.store.now.sets c.args.c) (drop_all c.loop-j.j c.args.items.now
     (omega (arith, c.loop-j-test.false))) in
     let h = c.loop-j.invariant r in
     omega (arith, e, h))
