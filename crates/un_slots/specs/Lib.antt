@@ -1,3 +1,4 @@
+pub mod AmountLaws
 pub mod Amounts
 pub mod ListingLaws
 pub mod Listings

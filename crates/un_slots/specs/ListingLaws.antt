@@ -1,5 +1,5 @@
 -- Laws of lists of settled items.
-use Rattle.std.proofs.Common.{ℕ, zero, suc, ◌≡◌, ◌≢◌, ◌<◌, ◌≤◌, ◌+◌, ◌-◌, ◌⊎◌, ◌∙◌, Bool, true, false, not, ◌&&◌, if◌then◌else◌, List, [], ◌∷◌, length, get_or, take, sum_by, nat_eq, refl, sym, ap, subst, arith, inl, inr}
+use Rattle.std.proofs.Common.{ℕ, zero, suc, ◌≡◌, ◌≢◌, ◌<◌, ◌≤◌, ◌+◌, ◌-◌, ◌^◌, ◌⊎◌, ◌∙◌, Bool, true, false, not, ◌&&◌, if◌then◌else◌, List, [], ◌∷◌, length, get_or, take, sum_by, nat_eq, refl, sym, ap, subst, arith, inl, inr}
 use Rattle.std.proofs.lemmas.Bool.Decides.{nat_tests}
 use Rattle.std.proofs.lemmas.List.Sums.{sum_by-cons}
 use Rattle.un_domains.specs.Sets.{Sets, set_at, least}
@@ -11,7 +11,7 @@ use Rattle.un_slots.specs.declared.item.Item.{Item}
 use Rattle.un_slots.specs.declared.item.Resource.{Resource}
 use Rattle.un_slots.specs.Slots.{share_at}
 use Rattle.un_slots.specs.Loads.{is_settled, settled_at, load_by, load}
-use Rattle.un_slots.specs.Listings.{last_settled, Listed}
+use Rattle.un_slots.specs.Listings.{last_settled, Listed, is_unmarked}
 
 -- the sum up to one place more
 pub sum_more : (f : Item → ℕ) (xs : List Item) (j : ℕ) (d : Item) → j < length xs → sum_by f (take (suc j) xs) ≡ sum_by f (take j xs) + f (get_or xs j d)
@@ -85,6 +85,15 @@ module _ (items : List Item) (s : Sets) (c : ℕ) where
       let here = settled_load r j d lt (last_here j own) in
       let rest = load_last r j (omega (arith, lt)) in
       omega (arith, more, here, rest))
+
+-- what stands at a cycle is no mark
+pub head_unmarked : (items : List Item) (s : Sets) (c n : ℕ) (cycles : List ℕ) → get_or cycles c 0 ≡ last_settled items s c n → n ≤ 2 ^ 32 - 2
+    → is_unmarked cycles c ≡ true
+head_unmarked items s c n cycles head small =
+    let le = last_le items s c n in
+    let less : get_or cycles c 0 ≤ 2 ^ 32 - 2 = omega (arith, head, le, small) in
+    let no : nat_eq (get_or cycles c 0) (2 ^ 32 - 1) ≡ false = grind (arith, nat_tests, less) in
+    ap not no
 
 -- One item more
 

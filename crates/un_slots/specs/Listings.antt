@@ -25,6 +25,10 @@ pub record Listed (items : List Item) (horizon n : ℕ) (s : Sets) (cycles befor
 abbrev pub listable : List Item → List ℕ → ℕ
 listable items before = min (min (length items) (length before)) (2 ^ 32 - 2)
 
+-- a cycle has no mark
+abbrev pub is_unmarked : List ℕ → ℕ → Bool
+is_unmarked marks c = not (nat_eq (slice_index marks c) (2 ^ 32 - 1))
+
 -- a cycle is before the horizon and has no mark
 abbrev pub is_left : List ℕ → ℕ → ℕ → Bool
-is_left marks horizon c = nat_lt c horizon && not (nat_eq (slice_index marks c) (2 ^ 32 - 1))
+is_left marks horizon c = nat_lt c horizon && is_unmarked marks c

@@ -149,6 +149,54 @@ module _ (vs : List VarId) where
             both (nat_lt n (length i.uses)) _ two.0 (for_each (λ r. nat_le (load r items b c + share_at r i.uses n) (places_of r))
             (λ r. ap (λ (m : ℕ). nat_le (m + share_at r i.uses n) (places_of r)) (sym (same r)) ∙ of_each (λ r. nat_le (load r items a c + share_at r i.uses n) (places_of r)) two.1 r))
 
+-- One item and the others
+
+pub beside_unsettled : (r : Resource) (items : List Item) (k : ℕ) (i : Item) (s : Sets) (c : ℕ) → slice_get items k ≡ Some i → is_settled s i ≡ false
+    → load r items s c ≡ load r (others k items) s c
+beside_unsettled r items k i s c e off =
+    let none : load_by r s c i ≡ 0 =
+    ap (λ (b : Bool). if b && nat_eq (least (set_at s i.at.0)) c then share_at r i.uses (least (act_set i.on s)) else 0) off in
+    let whole = sum_others (load_by r s c) items k i e in
+    omega (arith, none, whole)
+
+beside_settled : (r : Resource) (items : List Item) (k : ℕ) (i : Item) (s : Sets) (c : ℕ) → slice_get items k ≡ Some i → is_settled s i ≡ true
+    → has (set_at s i.at.0) c ≡ true → load r items s c ≡ load r (others k items) s c + share_at r i.uses (least (act_set i.on s))
+beside_settled r items k i s c e on own =
+    let single = (firsts (nat_eq (length (set_at s i.at.0)) 1) _ (firsts (sure i.on s) _ on).1).0 in
+    let cycle : least (set_at s i.at.0) ≡ c = only (set_at s i.at.0) c single own in
+    let here : settled_at s c i ≡ true = both (is_settled s i) _ on (grind (arith, nat_tests, cycle)) in
+    let some : load_by r s c i ≡ share_at r i.uses (least (act_set i.on s)) =
+    ap (λ (b : Bool). if b then share_at r i.uses (least (act_set i.on s)) else 0) here in
+    let whole = sum_others (load_by r s c) items k i e in
+    omega (arith, some, whole)
+
+-- one value passes, or none
+any_single : (p : ℕ → Bool) (xs : List ℕ) → nat_eq (length xs) 1 ≡ true → list_any p xs ≡ p (least xs)
+any_single p [] e = absurd (cc e)
+any_single p (x ∷ []) e = by (p x)
+  where
+    by : (b : Bool) → (b || false) ≡ b
+    by true = refl
+    by false = refl
+any_single p (x ∷ y ∷ xs) e = absurd (let two : suc (suc (length xs)) ≡ 1 = grind (arith, nat_tests, e) in omega (arith, two))
+
+-- a settled item can issue in its cycle where all that is settled there fits
+pub settled_fits : (items : List Item) (k : ℕ) (i : Item) (s : Sets) (c : ℕ) → slice_get items k ≡ Some i → is_settled s i ≡ true
+    → has (set_at s i.at.0) c ≡ true → least (act_set i.on s) < length i.uses
+    → can_issue (others k items) i s c ≡ list_all (λ r. nat_le (load r items s c) (places_of r)) resources
+settled_fits items k i s c e on own few =
+    let n = least (act_set i.on s) in
+    let single = (firsts (nat_eq (length (set_at s i.at.0)) 1) _ (firsts (sure i.on s) _ on).1).1 in
+    any_single (fits (others k items) i s c) (act_set i.on s) single ∙ same_test (fits (others k items) i s c n)
+    (list_all (λ r. nat_le (load r items s c) (places_of r)) resources)
+    (λ fit. for_each (λ r. nat_le (load r items s c) (places_of r))
+    (λ r. ap (λ (m : ℕ). nat_le m (places_of r)) (beside_settled r items k i s c e on own)
+    ∙ of_each (λ r. nat_le (load r (others k items) s c + share_at r i.uses n) (places_of r)) (firsts (nat_lt n (length i.uses)) _ fit).1 r))
+    (λ all. both (nat_lt n (length i.uses)) _ (grind (arith, nat_tests, few))
+    (for_each (λ r. nat_le (load r (others k items) s c + share_at r i.uses n) (places_of r))
+    (λ r. ap (λ (m : ℕ). nat_le m (places_of r)) (sym (beside_settled r items k i s c e on own))
+    ∙ of_each (λ r. nat_le (load r items s c) (places_of r)) all r)))
+
 -- The cut
 
 module _ (vs : List VarId) (items : List Item) (horizon : ℕ) (among_all : SlotVars vs items) where

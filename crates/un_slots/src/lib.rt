@@ -2,5 +2,7 @@
 #![tactic(auto)]
 
 pub mod item;
+mod issue;
+mod keep;
 mod listing;
 mod load;
