@@ -1,5 +1,5 @@
 -- Laws of the amounts of resources that a load has.
-use Rattle.std.proofs.Common.{ℕ, ◌≡◌, ◌≤◌, ◌-◌, ◌^◌, ◌∙◌, Bool, true, nat_le, min, sym, ap, arith}
+use Rattle.std.proofs.Common.{ℕ, ◌≡◌, ◌≤◌, ◌-◌, ◌^◌, ◌∙◌, nat_le, min, ap, arith}
 use Rattle.std.specs.List.{list_all}
 use Rattle.std.proofs.lemmas.Bool.Decides.{nat_tests}
 use Rattle.un_domains.specs.OrderLaws.{same_test}
@@ -25,16 +25,16 @@ pub within_is : (l : Load) (f : Resource → ℕ) → IsLoad l f → list_all (�
     (λ r. nat_le (f r) (places_of r)) resources
 within_is l f h = same_test _ _
     (λ all. for_each (λ r. nat_le (f r) (places_of r)) (λ r. (
-        let le = of_each (λ r. nat_le (amount r l) (places_of r)) all r in
-        let less : amount r l ≤ places_of r = grind (arith, nat_tests, le) in
-        let small = few r in
-        let same = h r in
-        let done : f r ≤ places_of r = omega (arith, less, small, same) in
-        grind (arith, nat_tests, done))))
+    let le = of_each (λ r. nat_le (amount r l) (places_of r)) all r in
+    let less : amount r l ≤ places_of r = grind (arith, nat_tests, le) in
+    let small = few r in
+    let same = h r in
+    let done : f r ≤ places_of r = omega (arith, less, small, same) in
+    grind (arith, nat_tests, done))))
     (λ all. for_each (λ r. nat_le (amount r l) (places_of r)) (λ r. (
-        let le = of_each (λ r. nat_le (f r) (places_of r)) all r in
-        let less : f r ≤ places_of r = grind (arith, nat_tests, le) in
-        let small = few r in
-        let same = h r in
-        let done : amount r l ≤ places_of r = omega (arith, less, small, same) in
-        grind (arith, nat_tests, done))))
+    let le = of_each (λ r. nat_le (f r) (places_of r)) all r in
+    let less : f r ≤ places_of r = grind (arith, nat_tests, le) in
+    let small = few r in
+    let same = h r in
+    let done : amount r l ≤ places_of r = omega (arith, less, small, same) in
+    grind (arith, nat_tests, done))))

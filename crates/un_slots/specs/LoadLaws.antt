@@ -1,5 +1,5 @@
 -- Laws of what is known of packets before all is fixed.
-use Rattle.std.proofs.Common.{ℕ, zero, suc, ◌≡◌, ◌<◌, ◌≤◌, ◌+◌, ◌⊎◌, ◌∙◌, Bool, true, false, not, ◌&&◌, ◌||◌, if◌then◌else◌, List, [], ◌∷◌, length, get_or, sum_by, nat_eq, nat_le, nat_lt, None, Some, All, refl, sym, ap, subst, arith, inl, inr}
+use Rattle.std.proofs.Common.{ℕ, zero, suc, ◌≡◌, ◌<◌, ◌≤◌, ◌+◌, ◌∙◌, Bool, true, false, not, ◌&&◌, ◌||◌, if◌then◌else◌, List, [], ◌∷◌, length, get_or, sum_by, nat_eq, nat_le, nat_lt, None, Some, refl, sym, ap, subst, arith, inl, inr}
 use Rattle.std.specs.declared.option.Option.{Option}
 use Rattle.std.specs.List.{list_any, list_all, AllByRecursion, slice_get}
 use Rattle.std.proofs.lemmas.Bool.Decides.{nat_tests}
@@ -20,15 +20,15 @@ use Rattle.un_prop.specs.Among.{among, AllAmong}
 use Rattle.un_prop.specs.AmongLaws.{in_list, has_among}
 use Rattle.un_prop.specs.Acts.{act_vars, act_number, is_active}
 use Rattle.un_prop.specs.Looks.{act_set, sure}
-use Rattle.un_prop.specs.LookLaws.{both, firsts, not_or, or_not, set_alike, sure_alike, known_below, sure_below, sure_active, act_alike, act_below, number_in}
-use Rattle.un_prop.specs.LastLaws.{passes_all}
+use Rattle.un_prop.specs.LookLaws.{both, firsts, not_or, or_not, set_alike, sure_alike, sure_below, sure_active, act_alike, act_below, number_in}
+use Rattle.un_prop.specs.LastLaws.{cut_all, cut_same, passes_all}
 use Rattle.un_prop.specs.SomewhereLaws.{any_find, any_has, any_more, any_agree}
 use Rattle.un_prop.specs.declared.act.Act.{Act}
 use Rattle.un_prop.specs.declared.act.Act.TheVariants.{Always, Var as ActVar}
 use Rattle.un_slots.specs.declared.item.Item.{Item}
 use Rattle.un_slots.specs.declared.item.Resource.{Resource}
-use Rattle.un_slots.specs.Slots.{resources, places_of, share_at, issues_at, taken_by, taken, per_cycle_holds, FitsCycles, ItemVars, SlotVars}
-use Rattle.un_slots.specs.SlotLaws.{each_true, map_each, sum_alike, for_each, of_each, holds_fits}
+use Rattle.un_slots.specs.Slots.{resources, places_of, share_at, issues_at, taken_by, taken, per_cycle_holds, ItemVars, SlotVars}
+use Rattle.un_slots.specs.SlotLaws.{map_each, sum_alike, for_each, of_each, holds_fits}
 use Rattle.un_slots.specs.Loads.{is_settled, settled_at, load_by, load, others, fits, can_issue, slot_test, slot_cut_of, slot_cut, SlotsStrong}
 
 -- Sums
@@ -85,9 +85,9 @@ module _ (vs : List VarId) where
           let cycle = single_set t s i.at k full le h.of_at ones.0 in
           let number = single_act t s i.on k full le h.of_on ones.1 in
           let below : settled_at t c i ≡ true = both (is_settled t i) (nat_eq (least (set_at t i.at.0)) c)
-              (both (sure i.on t) _ (sure_below vs t s le i.on settled.0) (both (nat_eq (length (set_at t i.at.0)) 1) _
-              (ap (λ (xs : List ℕ). nat_eq (length xs) 1) cycle ∙ ones.0) (ap (λ (xs : List ℕ). nat_eq (length xs) 1) number ∙ ones.1)))
-              (ap (λ (xs : List ℕ). nat_eq (least xs) c) cycle ∙ two.1) in
+          (both (sure i.on t) _ (sure_below vs t s le i.on settled.0) (both (nat_eq (length (set_at t i.at.0)) 1) _
+          (ap (λ (xs : List ℕ). nat_eq (length xs) 1) cycle ∙ ones.0) (ap (λ (xs : List ℕ). nat_eq (length xs) 1) number ∙ ones.1)))
+          (ap (λ (xs : List ℕ). nat_eq (least xs) c) cycle ∙ two.1) in
           let is : load_by r t c i ≡ share_at r i.uses (least (act_set i.on t)) = ap (λ (b : Bool). if b then share_at r i.uses (least (act_set i.on t)) else 0) below in
           let same = ap (λ (xs : List ℕ). share_at r i.uses (least xs)) number in
           omega (arith, is, same)
@@ -105,7 +105,7 @@ module _ (vs : List VarId) where
           let cycle : least (set_at s i.at.0) ≡ get_or x i.at.0 0 = only (set_at s i.at.0) (get_or x i.at.0 0) ones.0 (there.each i.at.0 (has_among vs i.at s h.of_at k)) in
           let number : least (act_set i.on s) ≡ act_number i.on x = only (act_set i.on s) (act_number i.on x) ones.1 (number_in vs s x there k i.on h.of_on) in
           let issues : issues_at c x i ≡ true = both (is_active i.on x) (nat_eq (get_or x i.at.0 0) c) (sure_active vs s x there k i.on h.of_on settled.0)
-              (ap (λ (n : ℕ). nat_eq n c) (sym cycle) ∙ two.1) in
+          (ap (λ (n : ℕ). nat_eq n c) (sym cycle) ∙ two.1) in
           let is : taken_by r c x i ≡ share_at r i.uses (act_number i.on x) = ap (λ (b : Bool). if b then share_at r i.uses (act_number i.on x) else 0) issues in
           let same = ap (share_at r i.uses) number in
           omega (arith, is, same)
@@ -196,6 +196,24 @@ settled_fits items k i s c e on own few =
     (for_each (λ r. nat_le (load r (others k items) s c + share_at r i.uses n) (places_of r))
     (λ r. ap (λ (m : ℕ). nat_le m (places_of r)) (sym (beside_settled r items k i s c e on own))
     ∙ of_each (λ r. nat_le (load r items s c) (places_of r)) all r)))
+
+-- What the cut of one item does
+
+pub slot_unsure : (items : List Item) (horizon k : ℕ) (i : Item) (s : Sets) → slice_get items k ≡ Some i → i.at.0 < length s → NoneEmpty s → sure i.on s ≡ false
+    → slot_cut items horizon k s ≡ Some s
+slot_unsure items horizon k i s e within full off = ap (λ (o : Option Item). slot_cut_of items horizon k o s) e
+    ∙ cut_all (slot_test items horizon k i s) i.at.0 s within full (λ c own. ap (λ (b : Bool). not b || (nat_lt c horizon && can_issue (others k items) i s c)) off)
+
+pub slot_is : (items : List Item) (horizon k : ℕ) (i : Item) (s : Sets) (p : ℕ → Bool) → slice_get items k ≡ Some i → sure i.on s ≡ true
+    → ((c : ℕ) → has (set_at s i.at.0) c ≡ true → p c ≡ (nat_lt c horizon && can_issue (others k items) i s c)) → slot_cut items horizon k s ≡ cut_by p i.at.0 s
+slot_is items horizon k i s p e on same = ap (λ (o : Option Item). slot_cut_of items horizon k o s) e
+    ∙ cut_same (slot_test items horizon k i s) p i.at.0 s
+    (λ c own. ap (λ (b : Bool). not b || (nat_lt c horizon && can_issue (others k items) i s c)) on ∙ sym (same c own))
+
+pub slot_all : (items : List Item) (horizon k : ℕ) (i : Item) (s : Sets) → slice_get items k ≡ Some i → i.at.0 < length s → NoneEmpty s
+    → ((c : ℕ) → has (set_at s i.at.0) c ≡ true → (nat_lt c horizon && can_issue (others k items) i s c) ≡ true) → slot_cut items horizon k s ≡ Some s
+slot_all items horizon k i s e within full all = ap (λ (o : Option Item). slot_cut_of items horizon k o s) e
+    ∙ cut_all (slot_test items horizon k i s) i.at.0 s within full (λ c own. not_or (sure i.on s) _ (λ on. all c own))
 
 -- The cut
 

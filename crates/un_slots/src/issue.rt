@@ -83,7 +83,13 @@ fn can_issue(
     requires nexts { Chained items.now (listable items.now scratch.now.fixed.items) w.now.store.now.sets c scratch.now.fixed.items }
     ensures { result ≡ can_issue (others k items.now) item.now w.now.store.now.sets c }
 {
-    let load = load_at(items, w, c, scratch.cycles.as_slice(), scratch.fixed.as_slice());
+    let load = load_at(
+        items,
+        w,
+        c,
+        scratch.cycles.as_slice(),
+        scratch.fixed.as_slice(),
+    );
     if is_settled(w, item) {
         if least_number(w, item.on) as usize >= item.uses.len() {
             return false;

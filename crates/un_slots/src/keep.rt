@@ -111,11 +111,13 @@ fn keep_item(
         return before;
     }
     let did = keep_left(w, item.at, horizon, scratch.cycles.as_slice());
-    if did == Pruned::Failed {
-        return did;
+    match did {
+        Pruned::Failed => did,
+        _ => {
+            list(items, horizon, w, scratch);
+            joined(before, did)
+        }
     }
-    list(items, horizon, w, scratch);
-    joined(before, did)
 }
 
 /// Each sure item loses the cycles in which it can't issue.

@@ -1,9 +1,6 @@
-use Rattle.std.proofs.Common.{ℕ, ◌≡◌, ◌∙◌, Bool, true, false, nat_le, nat_lt, List, length, sym, ap, subst, arith}
-use Rattle.std.specs.List.{list_all}
-use Rattle.std.proofs.lemmas.Bool.Decides.{nat_tests}
+use Rattle.std.proofs.Common.{◌∙◌, sym, arith}
 use Rattle.un_prop.specs.Acts.{act_vars}
 use Rattle.un_prop.specs.LookLaws.{known_of}
-use Rattle.un_slots.specs.declared.item.Resource.{Resource}
 use Rattle.un_slots.specs.Loads.{others, load}
 use Rattle.un_slots.specs.LoadLaws.{beside_unsettled, settled_fits}
 use Rattle.un_slots.specs.AmountLaws.{load_as, within_is}

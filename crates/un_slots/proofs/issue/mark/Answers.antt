@@ -1,11 +1,11 @@
-use Rattle.std.proofs.Common.{ℕ, suc, ◌≡◌, ◌≢◌, ◌<◌, ◌≤◌, ◌+◌, ◌-◌, ◌^◌, ◌⊎◌, ◌∙◌, Bool, true, false, ◌&&◌, not, nat_eq, nat_lt, nat_le, List, length, get_or, refl, sym, ap, subst, arith, inl, inr}
+use Rattle.std.proofs.Common.{ℕ, ◌≡◌, ◌<◌, ◌+◌, ◌-◌, ◌^◌, ◌⊎◌, ◌∙◌, Bool, true, false, ◌&&◌, not, nat_eq, nat_lt, refl, sym, ap, subst, arith, inl, inr}
 use Rattle.std.proofs.lemmas.Bool.Decides.{nat_tests}
 use Rattle.std.proofs.lemmas.Bool.{cases_lt}
-use Rattle.un_domains.specs.Sets.{set_at, has, least, greatest}
+use Rattle.un_domains.specs.Sets.{set_at, has}
 use Rattle.un_domains.specs.SetLaws.{least-le, has-fold_max}
 use Rattle.un_prop.specs.AmongLaws.{has_among}
 use Rattle.un_slots.specs.Loads.{others, can_issue}
-use Rattle.un_slots.specs.Listings.{is_unmarked, is_left}
+use Rattle.un_slots.specs.Listings.{is_unmarked}
 use Rattle.un_slots.proofs.issue.mark.Goals as goal
 use Rattle.un_slots.proofs.issue.mark.Goals.{then-any, else-any}
 

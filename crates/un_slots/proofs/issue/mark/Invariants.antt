@@ -1,5 +1,5 @@
 -- the cycles below c are marked as they are to be, and those from c on are as they were
-use Rattle.std.proofs.Common.{ℕ, ◌≡◌, ◌<◌, ◌≤◌, Bool, true, false, length, slice_index}
+use Rattle.std.proofs.Common.{ℕ, ◌≡◌, ◌<◌, ◌≤◌, true, false, length, slice_index}
 use Rattle.un_domains.specs.Sets.{set_at, has}
 use Rattle.un_slots.specs.Loads.{others, can_issue}
 use Rattle.un_slots.specs.Listings.{is_unmarked}

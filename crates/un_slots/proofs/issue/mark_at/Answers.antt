@@ -1,5 +1,4 @@
-use Rattle.std.proofs.Common.{ℕ, ◌≡◌, ◌≤◌, ◌-◌, ◌^◌, ◌∙◌, Bool, true, not, nat_eq, min, sym, arith}
-use Rattle.std.proofs.lemmas.Bool.Decides.{nat_tests}
+use Rattle.std.proofs.Common.{◌∙◌, sym, arith}
 use Rattle.un_prop.specs.AmongLaws.{has_among}
 use Rattle.un_slots.specs.Listings.{listable}
 use Rattle.un_slots.specs.ListingLaws.{head_unmarked}

@@ -1,5 +1,5 @@
 -- the cycles below c are kept where they are left
-use Rattle.std.proofs.Common.{ℕ, ◌≡◌, ◌||◌, nat_le}
+use Rattle.std.proofs.Common.{◌≡◌, ◌||◌, nat_le}
 use Rattle.un_domains.specs.Sets.{cut_by}
 use Rattle.un_prop.specs.Pruning.{IsPrune}
 use Rattle.un_slots.specs.Listings.{is_left}

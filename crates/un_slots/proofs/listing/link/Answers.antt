@@ -1,7 +1,6 @@
-use Rattle.std.proofs.Common.{ℕ, suc, ◌≡◌, ◌≢◌, ◌<◌, ◌+◌, ◌-◌, ◌^◌, ◌∙◌, Bool, true, false, List, length, get_or, set, nat_eq, sym, ap, subst, arith, add-one}
+use Rattle.std.proofs.Common.{ℕ, ◌+◌, ◌∙◌, set, nat_eq, sym, ap, subst, arith, add-one}
 use Rattle.std.proofs.lemmas.List.{get_or-set_same, get_or-set_other, get_or_default}
 use Rattle.std.proofs.lemmas.Bool.Decides.{nat_tests}
-use Rattle.un_prop.specs.Choices.{passes_at}
 use Rattle.un_prop.specs.ChoiceLaws.{passes_within}
 use Rattle.un_slots.specs.Slots.{ItemVars}
 use Rattle.un_slots.specs.Loads.{settled_at}

@@ -1,11 +1,10 @@
-use Rattle.std.proofs.Common.{ℕ, suc, ◌≡◌, ◌<◌, ◌≤◌, ◌+◌, ◌-◌, ◌^◌, ◌∙◌, Bool, true, List, length, get_or, take, drop, min, sum_by, sym, ap, subst, arith}
+use Rattle.std.proofs.Common.{ℕ, suc, ◌≡◌, ◌-◌, ◌∙◌, take, drop, sym, ap, subst, arith}
 use Rattle.std.proofs.lemmas.List.Sums.{sum_by-take-drop}
 use Rattle.un_domains.specs.Sets.{least}
 use Rattle.un_prop.specs.Acts.{act_vars}
 use Rattle.un_prop.specs.Looks.{act_set}
 use Rattle.un_prop.specs.LookLaws.{known_of}
 use Rattle.un_slots.specs.declared.item.Item.{Item}
-use Rattle.un_slots.specs.declared.item.Resource.{Resource}
 use Rattle.un_slots.specs.Slots.{share_at, ItemVars}
 use Rattle.un_slots.specs.Loads.{load_by, load}
 use Rattle.un_slots.specs.Listings.{last_settled, listable}

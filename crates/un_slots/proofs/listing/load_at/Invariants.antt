@@ -1,5 +1,5 @@
 -- what is taken so far, and by the items before the next that is settled here
-use Rattle.std.proofs.Common.{ℕ, ◌≡◌, ◌≤◌, ◌+◌, ◌-◌, ◌^◌, take, min}
+use Rattle.std.proofs.Common.{◌≡◌, ◌≤◌, ◌+◌, ◌-◌, ◌^◌, take, min}
 use Rattle.un_slots.specs.declared.item.Resource.{Resource}
 use Rattle.un_slots.specs.Loads.{load}
 use Rattle.un_slots.specs.Amounts.{amount}

@@ -1,7 +1,6 @@
-use Rattle.std.proofs.Common.{ℕ, ◌≡◌, ◌<◌, length, arith, subst}
-use Rattle.un_base.specs.declared.ids.VarId.{VarId}
+use Rattle.std.proofs.Common.{arith, subst}
 use Rattle.un_prop.specs.Acts.{act_vars}
-use Rattle.un_prop.specs.Among.{among, AllAmong}
+use Rattle.un_prop.specs.Among.{AllAmong}
 use Rattle.un_prop.specs.AmongLaws.{has_among}
 use Rattle.un_prop.specs.LookLaws.{known_of}
 use Rattle.un_prop.specs.declared.act.Act.{Act}

@@ -1,4 +1,4 @@
-use Rattle.std.proofs.Common.{ℕ, ◌≡◌, ◌<◌, ◌+◌, ◌-◌, ◌^◌, ◌∙◌, min, List, [], drop, length, get_or, sym, subst, ap, arith}
+use Rattle.std.proofs.Common.{List, sym, subst, ap, arith}
 use Rattle.un_slots.specs.declared.item.Item.{Item}
 use Rattle.un_slots.specs.Slots.{ItemVars}
 use Rattle.std.proofs.lemmas.List.{drop_all}

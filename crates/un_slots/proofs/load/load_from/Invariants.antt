@@ -1,5 +1,5 @@
 -- what those before take, and the rest
-use Rattle.std.proofs.Common.{ℕ, ◌≡◌, ◌+◌, ◌-◌, ◌^◌, drop, min}
+use Rattle.std.proofs.Common.{◌≡◌, ◌+◌, ◌-◌, ◌^◌, drop, min}
 use Rattle.un_slots.specs.declared.item.Resource.{Resource}
 use Rattle.un_slots.specs.Loads.{load}
 use Rattle.un_slots.specs.Amounts.{amount}

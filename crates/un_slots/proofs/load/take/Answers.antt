@@ -1,7 +1,4 @@
-use Rattle.std.proofs.Common.{ℕ, zero, suc, ◌≡◌, ◌<◌, ◌≤◌, ◌+◌, ◌-◌, ◌^◌, min, List, [], ◌∷◌, length, get_or, refl, arith}
-use Rattle.un_isa.specs.declared.table.Needs.{Needs}
-use Rattle.un_slots.specs.declared.item.Resource.{Resource}
-use Rattle.un_slots.specs.Slots.{share_of, share_at}
+use Rattle.std.proofs.Common.{arith}
 use Rattle.un_slots.specs.SlotLaws.{share_within, share_past}
 use Rattle.un_slots.proofs.load.take.Goals as goal
 

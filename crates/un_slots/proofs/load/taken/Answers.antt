@@ -1,4 +1,4 @@
-use Rattle.std.proofs.Common.{ℕ, ◌≡◌, ◌+◌, ◌-◌, ◌^◌, min, List, [], drop, ap, arith}
+use Rattle.std.proofs.Common.{List, ap, arith}
 use Rattle.un_slots.specs.declared.item.Item.{Item}
 use Rattle.un_slots.specs.Slots.{taken}
 use Rattle.std.proofs.lemmas.List.{drop_all}
