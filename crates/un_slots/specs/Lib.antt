@@ -1,5 +1,7 @@
 pub mod AmountLaws
 pub mod Amounts
+pub mod CrowdLaws
+pub mod Crowds
 pub mod ListingLaws
 pub mod Listings
 pub mod LoadLaws
