@@ -1,12 +1,12 @@
 -- Laws of crowds.
-use Rattle.std.proofs.Common.{ℕ, zero, suc, ◌≡◌, ◌<◌, ◌≤◌, ◌+◌, ◌-◌, ◌*◌, ◌^◌, ◌⊎◌, ◌∙◌, Bool, true, false, not, ◌&&◌, if◌then◌else◌, List, [], ◌∷◌, length, get_or, take, sum_by, nat_eq, nat_le, nat_lt, Some, All, refl, sym, ap, subst, arith, inl, inr}
-use Rattle.std.specs.List.{list_any, list_all, AllByRecursion}
+use Rattle.std.proofs.Common.{ℕ, zero, suc, ◌≡◌, ◌<◌, ◌≤◌, ◌+◌, ◌-◌, ◌*◌, ◌^◌, ◌∙◌, Bool, true, false, not, ◌&&◌, if◌then◌else◌, List, [], ◌∷◌, get_or, take, sum_by, nat_eq, nat_le, refl, sym, ap, subst, arith, inl, inr}
+use Rattle.std.specs.List.{list_any, AllByRecursion}
 use Rattle.std.proofs.lemmas.Bool.{cases_lt}
 use Rattle.std.proofs.lemmas.Bool.Decides.{nat_tests}
 use Rattle.std.proofs.lemmas.List.Sums.{sum_by-cons, sum_by-take-le}
 use Rattle.std.proofs.lemmas.List.Elements.{recursion_from_All}
 use Rattle.un_base.specs.declared.ids.VarId.{VarId}
-use Rattle.un_domains.specs.Sets.{Sets, set_at, has, least, greatest, IsIn, NoneEmpty, Kept}
+use Rattle.un_domains.specs.Sets.{Sets, set_at, least, greatest, IsIn, NoneEmpty, Kept}
 use Rattle.un_domains.specs.SetLaws.{least-le, has-fold_max}
 use Rattle.un_domains.specs.Order.{Below}
 use Rattle.un_domains.specs.OrderLaws.{same_test, least_below, greatest_below}
@@ -21,7 +21,7 @@ use Rattle.un_prop.specs.SomewhereLaws.{any_more, any_has}
 use Rattle.un_slots.specs.declared.item.Item.{Item}
 use Rattle.un_slots.specs.declared.item.Resource.{Resource}
 use Rattle.un_slots.specs.declared.item.Resource.TheVariants.{Instructions, Memory, Stores, MultiplyOrControl, Control}
-use Rattle.un_slots.specs.Slots.{resources, places_of, share_at, issues_at, taken_by, taken, per_cycle_holds, ItemVars, SlotVars}
+use Rattle.un_slots.specs.Slots.{places_of, share_at, issues_at, taken_by, taken, per_cycle_holds, ItemVars, SlotVars}
 use Rattle.un_slots.specs.SlotLaws.{map_each, sum_alike, for_each, of_each, holds_fits}
 use Rattle.un_slots.specs.LoadLaws.{sum_le}
 use Rattle.un_slots.specs.Crowds.{surely_takes, lies_in, crowded, crowd, crowd_fits, all_below, counted, crowds_fit, crowd_cut}
@@ -39,10 +39,10 @@ pub each_below : (p : ℕ → Bool) (n : ℕ) → ((k : ℕ) → k < n → p k �
 each_below p zero h = refl
 each_below p (suc n) h = both (all_below p n) (p n) (each_below p n (λ k lt. h k (omega (arith, lt)))) (h n (omega arith))
 
-true_le : (a b : ℕ) → nat_le a b ≡ true → a ≤ b
+pub true_le : (a b : ℕ) → nat_le a b ≡ true → a ≤ b
 true_le a b h = grind (arith, nat_tests, h)
 
-le_true : (a b : ℕ) → a ≤ b → nat_le a b ≡ true
+pub le_true : (a b : ℕ) → a ≤ b → nat_le a b ≡ true
 le_true a b le = grind (arith, nat_tests, le)
 
 less_true : (a b c : ℕ) → a ≤ b → nat_le b c ≡ true → nat_le a c ≡ true
@@ -62,7 +62,7 @@ abbrev taken_in : Resource → ℕ → ℕ → List ℕ → Item → ℕ
 taken_in r low zero x i = 0
 taken_in r low (suc n) x i = taken_in r low n x i + taken_by r (low + n) x i
 
-sum_plus : (f g : Item → ℕ) (xs : List Item) → sum_by (λ i. f i + g i) xs ≡ sum_by f xs + sum_by g xs
+pub sum_plus : (f g : Item → ℕ) (xs : List Item) → sum_by (λ i. f i + g i) xs ≡ sum_by f xs + sum_by g xs
 sum_plus f g [] = refl
 sum_plus f g (x ∷ xs) = (
     let a = sum_by-cons (λ i. f i + g i) x xs in
@@ -71,7 +71,7 @@ sum_plus f g (x ∷ xs) = (
     let d = sum_plus f g xs in
     omega (arith, a, b, c, d))
 
-sum_none : (xs : List Item) → sum_by (λ (i : Item). 0) xs ≡ 0
+pub sum_none : (xs : List Item) → sum_by (λ (i : Item). 0) xs ≡ 0
 sum_none [] = refl
 sum_none (x ∷ xs) = (let a = sum_by-cons (λ (i : Item). 0) x xs in let b = sum_none xs in omega (arith, a, b))
 
@@ -125,7 +125,7 @@ module _ (vs : List VarId) where
       by true e =
           let two = firsts (surely_takes r s i) (lies_in low high s i) e in
           let now : (surely_takes r t i && lies_in low high t i) ≡ true = both (surely_takes r t i) _ (takes_below r t s le i two.0)
-              (lies_below low high t s known full le i h two.1) in
+          (lies_below low high t s known full le i h two.1) in
           let is : crowded r low high t i ≡ 1 = ap (λ (b : Bool). if b then 1 else 0) now in
           omega (arith, is)
 
@@ -158,7 +158,7 @@ module _ (vs : List VarId) where
           let n = act_number i.on x in
           let on = sure_active vs s x there known i.on h.of_on takes.0 in
           let some : 0 < share_at r i.uses n = positive (share_at r i.uses n) (λ none. not_true _ takes.1
-              (any_has (λ m. nat_eq (share_at r i.uses m) 0) (act_set i.on s) n (number_in vs s x there known i.on h.of_on) none)) in
+          (any_has (λ m. nat_eq (share_at r i.uses m) 0) (act_set i.on s) n (number_in vs s x there known i.on h.of_on) none)) in
           let here : issues_at c x i ≡ true = both (is_active i.on x) (nat_eq c c) on (grind (arith, nat_tests)) in
           let own_share : taken_by r c x i ≡ share_at r i.uses n = ap (λ (b : Bool). if b then share_at r i.uses n else 0) here in
           let at = taken_at r low (high + 1 - low) (c - low) x i (omega (arith, from, to, least_c, most_c)) in
@@ -172,7 +172,7 @@ module _ (vs : List VarId) where
 
 -- The cut
 
-take_each : (P : Item → Type 0) (n : ℕ) (items : List Item) → AllByRecursion P items → AllByRecursion P (take n items)
+pub take_each : (P : Item → Type 0) (n : ℕ) (items : List Item) → AllByRecursion P items → AllByRecursion P (take n items)
 take_each P zero items all = tt
 take_each P (suc n) [] all = tt
 take_each P (suc n) (i ∷ rest) all = (all.0, take_each P n rest all.1)
@@ -198,7 +198,7 @@ module _ (vs : List VarId) (items : List Item) (horizon : ℕ) (among_all : Slot
         (λ r. each_below (λ high. all_below (crowd_fits r (counted items) s high) (high + 1)) horizon
         (λ high early. each_below (crowd_fits r (counted items) s high) (high + 1) (λ low less. (
         let fewer = sum_le (crowded r low high s) (crowded r low high t) (counted items)
-            (map_each (ItemVars vs) (λ i. crowded r low high s i ≤ crowded r low high t i) (crowded_below vs r low high t s known full le) (counted items) each_counted) in
+        (map_each (ItemVars vs) (λ i. crowded r low high s i ≤ crowded r low high t i) (crowded_below vs r low high t s known full le) (counted items) each_counted) in
         less_true (crowd r (counted items) low high s) (crowd r (counted items) low high t) (places_of r * (high + 1 - low)) fewer
         (fits_each t pass r high low early less)))));
     local = λ s t c agree. same_test (crowds_fit items horizon s) (crowds_fit items horizon t) (go s t (λ r low high. same s t agree r low high))

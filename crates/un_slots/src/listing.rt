@@ -26,9 +26,10 @@ fn listable(items: &[Item], before: &[u32]) -> usize
 }
 
 /// No cycle before the horizon has an item.
-fn clear(cycles: &mut [u32], horizon: u32)
+pub(crate) fn clear(cycles: &mut [u32], horizon: u32)
     requires { horizon ≤ length cycles.old }
     ensures none { (c : ℕ) → c < horizon → slice_index cycles.new c ≡ 0 }
+    ensures long { length cycles.new ≡ length cycles.old }
 {
     for c in 0..horizon {
         cycles[c as usize] = 0;
