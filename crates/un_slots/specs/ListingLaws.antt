@@ -1,15 +1,21 @@
 -- Laws of lists of settled items.
-use Rattle.std.proofs.Common.{ℕ, zero, suc, ◌≡◌, ◌≢◌, ◌<◌, ◌≤◌, ◌+◌, ◌-◌, ◌^◌, ◌⊎◌, ◌∙◌, Bool, true, false, not, ◌&&◌, if◌then◌else◌, List, [], ◌∷◌, length, get_or, take, sum_by, nat_eq, refl, sym, ap, subst, arith, inl, inr}
+use Rattle.std.proofs.Common.{ℕ, zero, suc, ◌≡◌, ◌≢◌, ◌<◌, ◌≤◌, ◌+◌, ◌-◌, ◌^◌, ◌⊎◌, ◌∙◌, Bool, true, false, not, ◌&&◌, if◌then◌else◌, List, [], ◌∷◌, length, get_or, take, sum_by, Some, nat_eq, nat_le, nat_lt, refl, sym, ap, subst, arith, inl, inr}
 use Rattle.std.proofs.lemmas.Bool.Decides.{nat_tests}
 use Rattle.std.proofs.lemmas.List.Sums.{sum_by-cons}
 use Rattle.un_domains.specs.Sets.{Sets, set_at, least}
 use Rattle.un_prop.specs.Looks.{act_set}
+use Rattle.un_prop.specs.LookLaws.{both, firsts}
 use Rattle.un_prop.specs.Choices.{passes_at}
 use Rattle.un_prop.specs.ChoiceLaws.{passes_within}
 use Rattle.un_slots.specs.declared.item.Item.{Item}
 use Rattle.un_slots.specs.declared.item.Resource.{Resource}
-use Rattle.un_slots.specs.Slots.{share_at}
-use Rattle.un_slots.specs.Loads.{is_settled, settled_at, load_by, load}
+use Rattle.std.specs.List.{list_any, slice_get}
+use Rattle.std.proofs.Math.Seq.{take-length}
+use Rattle.un_prop.specs.SomewhereLaws.{any_more}
+use Rattle.un_slots.specs.Slots.{places_of, share_at}
+use Rattle.un_slots.specs.SlotLaws.{for_each, of_each}
+use Rattle.un_slots.specs.LoadLaws.{sum_others}
+use Rattle.un_slots.specs.Loads.{is_settled, settled_at, load_by, load, others, fits_beside, fits, can_issue}
 use Rattle.un_slots.specs.Listings.{last_settled, Listed, is_unmarked}
 
 -- the sum up to one place more
@@ -84,6 +90,27 @@ module _ (items : List Item) (s : Sets) (c : ℕ) where
       let here = settled_load r j d lt (last_here j own) in
       let rest = load_last r j (omega (arith, lt)) in
       omega (arith, more, here, rest))
+
+-- in a cycle that no settled item has, of all, an item can issue that can beside none
+pub free_issues : (items : List Item) (s : Sets) (c k : ℕ) (i : Item) → slice_get items k ≡ Some i → last_settled items s c (length items) ≡ 0
+    → list_any (fits_beside (λ r. 0) i) (act_set i.on s) ≡ true → can_issue (others k items) i s c ≡ true
+free_issues items s c k i e none alone = any_more (fits_beside (λ r. 0) i) (fits (others k items) i s c) (act_set i.on s) (act_set i.on s)
+    (λ n here fit. (
+      here,
+      (
+          let two = firsts (nat_lt n (length i.uses)) _ fit in
+          both (nat_lt n (length i.uses)) _ two.0 (for_each (λ r. nat_le (load r (others k items) s c + share_at r i.uses n) (places_of r))
+          (λ r. ap (λ (m : ℕ). nat_le (m + share_at r i.uses n) (places_of r)) (nothing r)
+          ∙ of_each (λ r. nat_le (0 + share_at r i.uses n) (places_of r)) two.1 r))),
+    )) alone
+  where
+    nothing : (r : Resource) → load r (others k items) s c ≡ 0
+    nothing r = (
+        let last = load_last items s c r (length items) (omega arith) in
+        let start = ap (λ (m : ℕ). load r (take m items) s c) none in
+        let all = ap (λ (xs : List Item). load r xs s c) (take-length items) in
+        let whole = sum_others (load_by r s c) items k i e in
+        omega (arith, last, start, all, whole))
 
 -- what stands at a cycle is no mark
 pub head_unmarked : (items : List Item) (s : Sets) (c n : ℕ) (cycles : List ℕ) → get_or cycles c 0 ≡ last_settled items s c n → n ≤ 2 ^ 32 - 2

@@ -19,7 +19,7 @@ use un_prop::propagator::Scratch;
 const MOST: usize = 0xFFFF_FFFE;
 
 /// How many items can be listed.
-fn listable(items: &[Item], before: &[u32]) -> usize
+pub(crate) fn listable(items: &[Item], before: &[u32]) -> usize
     ensures { result ≡ listable items.now before.now }
 {
     items.len().min(before.len()).min(MOST)
