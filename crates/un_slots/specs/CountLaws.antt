@@ -1,5 +1,7 @@
 -- Laws of counts of crowds.
-use Rattle.std.proofs.Common.{ℕ, zero, suc, ◌≡◌, ◌≢◌, ◌<◌, ◌≤◌, ◌+◌, ◌-◌, ◌*◌, ◌^◌, ◌⊎◌, ◌∙◌, Bool, true, false, not, ◌&&◌, ◌||◌, if◌then◌else◌, List, [], ◌∷◌, length, get_or, take, sum_by, min, nat_eq, nat_le, nat_lt, refl, sym, ap, subst, arith, inl, inr}
+use Rattle.std.proofs.Common.{ℕ, zero, suc, ◌≡◌, ◌≢◌, ◌<◌, ◌≤◌, ◌+◌, ◌-◌, ◌*◌, ◌^◌, ◌⊎◌, ◌∙◌, Bool, true, false, not, ◌&&◌, ◌||◌}
+use Rattle.std.proofs.Common.{if◌then◌else◌, List, [], ◌∷◌, length, get_or, take, sum_by, min, nat_eq, nat_le, nat_lt, refl, sym, ap}
+use Rattle.std.proofs.Common.{subst, arith, inl, inr}
 use Rattle.std.specs.List.{list_any, AllByRecursion}
 use Rattle.std.proofs.lemmas.Bool.{cases_lt}
 use Rattle.std.proofs.lemmas.Bool.Decides.{nat_tests}
@@ -29,7 +31,8 @@ least_most xs some = has-fold_max 0 xs (least xs) (least_in xs some)
 pub few_below : {A : Type 0} (f : A → ℕ) (xs : List A) (j : ℕ) → ((a : A) → f a ≤ 1) → sum_by f (take j xs) ≤ j
 few_below f xs zero h = omega arith
 few_below f [] (suc j) h = omega arith
-few_below f (x ∷ xs) (suc j) h = (let a = sum_by-cons f x (take j xs) in let b = few_below f xs j h in let c = h x in omega (arith, a, b, c))
+few_below f (x ∷ xs) (suc j) h = (let a = sum_by-cons f x (take j xs) in let b = few_below f xs j h in let c = h x in
+    omega (arith, a, b, c))
 
 take_long : {A : Type 0} (xs : List A) (n : ℕ) → length xs ≤ n → take n xs ≡ xs
 take_long [] zero le = refl
@@ -65,7 +68,8 @@ more_false a b lt = grind (arith, nat_tests, lt)
 
 -- One cycle more
 
-pub down_step : (f : ℕ → ℕ) (high c : ℕ) → 0 < c → c ≤ high + 1 → sum_from f (c - 1) (high + 1 - (c - 1)) ≡ f (c - 1) + sum_from f c (high + 1 - c)
+pub down_step : (f : ℕ → ℕ) (high c : ℕ) → 0 < c → c ≤ high + 1
+    → sum_from f (c - 1) (high + 1 - (c - 1)) ≡ f (c - 1) + sum_from f c (high + 1 - c)
 down_step f high c some le =
     let n : high + 1 - (c - 1) ≡ suc (high + 1 - c) = omega (arith, some, le) in
     let next : suc (c - 1) ≡ c = omega (arith, some) in
@@ -146,7 +150,8 @@ module _ (r : Resource) (s : Sets) (xs : List Item) where
   -- no cycle is after the last
   module _ (ordered : AllByRecursion (λ (i : Item). least (set_at s i.at.0) ≤ greatest (set_at s i.at.0)) xs) where
     crowd_none : (low high : ℕ) → high < low → crowd r xs low high s ≡ 0
-    crowd_none low high lt = sum_alike (crowded r low high s) (λ i. 0) xs (map_each (λ (i : Item). least (set_at s i.at.0) ≤ greatest (set_at s i.at.0))
+    crowd_none low high lt = sum_alike (crowded r low high s) (λ i. 0) xs (map_each (λ (i : Item). least (set_at s i.at.0) ≤ greatest
+        (set_at s i.at.0))
         (λ i. crowded r low high s i ≡ 0) one xs ordered) ∙ sum_none xs
       where
         one : (i : Item) → least (set_at s i.at.0) ≤ greatest (set_at s i.at.0) → crowded r low high s i ≡ 0
@@ -179,21 +184,26 @@ module _ (r : Resource) (s : Sets) (xs : List Item) where
         (found high horizon ys early all.1)
       where
         by : (b : Bool) → (surely_takes r s y && nat_eq (greatest (set_at s y.at.0)) high) ≡ b → (b || list_any (ends_at high) ys) ≡ true
-            → (list_any (ends_at high) ys ≡ true → all_below (crowd_fits r xs s high) (high + 1) ≡ true) → all_below (crowd_fits r xs s high) (high + 1) ≡ true
+            → (list_any (ends_at high) ys ≡ true → all_below (crowd_fits r xs s high) (high + 1) ≡ true)
+            → all_below (crowd_fits r xs s high) (high + 1) ≡ true
         by false e rest more = more rest
         by true e rest more =
             let two = firsts (surely_takes r s y) _ e in
             let eq = two.1 in
             let is : greatest (set_at s y.at.0) ≡ high = grind (arith, nat_tests, eq) in
-            let less : nat_lt (greatest (set_at s y.at.0)) horizon ≡ true = (let lt : greatest (set_at s y.at.0) < horizon = omega (arith, is, early) in grind (arith, nat_tests, lt)) in
+            let less : nat_lt (greatest (set_at s y.at.0)) horizon
+            ≡ true = (let lt : greatest (set_at s y.at.0) < horizon = omega (arith, is, early) in grind (arith, nat_tests, lt)) in
             let fit = or_not (nat_lt (greatest (set_at s y.at.0)) horizon) _ (or_not (surely_takes r s y) _ all.0 two.0) less in
             subst (λ (h : ℕ). all_below (crowd_fits r xs s h) (h + 1) ≡ true) is fit
 
-    none_ends : (high : ℕ) (ys : List Item) → list_any (ends_at (suc high)) ys ≡ false → (low : ℕ) → sum_by (crowded r low (suc high) s) ys ≤ sum_by (crowded r low high s) ys
+    none_ends : (high : ℕ) (ys : List Item) → list_any (ends_at (suc high)) ys ≡ false → (low : ℕ)
+        → sum_by (crowded r low (suc high) s) ys ≤ sum_by (crowded r low high s) ys
     none_ends high [] off low = omega arith
-    none_ends high (y ∷ ys) off low = by (surely_takes r s y && nat_eq (greatest (set_at s y.at.0)) (suc high)) refl off (λ rest. none_ends high ys rest low)
+    none_ends high (y ∷ ys) off low = by (surely_takes r s y && nat_eq (greatest (set_at s y.at.0)) (suc high)) refl off
+        (λ rest. none_ends high ys rest low)
       where
-        one : (surely_takes r s y && nat_eq (greatest (set_at s y.at.0)) (suc high)) ≡ false → crowded r low (suc high) s y ≤ crowded r low high s y
+        one : (surely_takes r s y && nat_eq (greatest (set_at s y.at.0)) (suc high)) ≡ false
+            → crowded r low (suc high) s y ≤ crowded r low high s y
         one no_end = here (surely_takes r s y && lies_in low (suc high) s y) refl
           where
             here : (b : Bool) → (surely_takes r s y && lies_in low (suc high) s y) ≡ b → (if b then 1 else 0) ≤ crowded r low high s y
@@ -202,7 +212,8 @@ module _ (r : Resource) (s : Sets) (xs : List Item) where
                 let two = firsts (surely_takes r s y) _ e in
                 let lies = firsts (nat_le low (least (set_at s y.at.0))) _ two.1 in
                 let to = true_le (greatest (set_at s y.at.0)) (suc high) lies.1 in
-                let differs : nat_eq (greatest (set_at s y.at.0)) (suc high) ≡ false = sym (ap (λ (b : Bool). b && nat_eq (greatest (set_at s y.at.0)) (suc high)) two.0) ∙ no_end in
+                let differs : nat_eq (greatest (set_at s y.at.0)) (suc high)
+                ≡ false = sym (ap (λ (b : Bool). b && nat_eq (greatest (set_at s y.at.0)) (suc high)) two.0) ∙ no_end in
                 let other : greatest (set_at s y.at.0) ≢ suc high = grind (arith, nat_tests, differs) in
                 let less : greatest (set_at s y.at.0) ≤ high = omega (arith, to, other) in
                 let now : (surely_takes r s y && lies_in low high s y) ≡ true = both (surely_takes r s y) _ two.0
@@ -210,7 +221,8 @@ module _ (r : Resource) (s : Sets) (xs : List Item) where
                 let is : crowded r low high s y ≡ 1 = ap (λ (b : Bool). if b then 1 else 0) now in
                 omega (arith, is)
 
-        by : (b : Bool) → (surely_takes r s y && nat_eq (greatest (set_at s y.at.0)) (suc high)) ≡ b → (b || list_any (ends_at (suc high)) ys) ≡ false
+        by : (b : Bool) → (surely_takes r s y && nat_eq (greatest (set_at s y.at.0)) (suc high)) ≡ b
+            → (b || list_any (ends_at (suc high)) ys) ≡ false
             → (list_any (ends_at (suc high)) ys ≡ false → sum_by (crowded r low (suc high) s) ys ≤ sum_by (crowded r low high s) ys)
             → sum_by (crowded r low (suc high) s) (y ∷ ys) ≤ sum_by (crowded r low high s) (y ∷ ys)
         by true e rest more = absurd (cc rest)
@@ -236,7 +248,8 @@ module _ (r : Resource) (s : Sets) (xs : List Item) where
                 let lies = firsts (nat_le 0 (least (set_at s y.at.0))) _ two.1 in
                 let to = true_le (greatest (set_at s y.at.0)) 0 lies.1 in
                 let is : greatest (set_at s y.at.0) ≡ 0 = omega (arith, to) in
-                let now : (surely_takes r s y && nat_eq (greatest (set_at s y.at.0)) 0) ≡ true = both (surely_takes r s y) _ two.0 (grind (arith, nat_tests, is)) in
+                let now : (surely_takes r s y && nat_eq (greatest (set_at s y.at.0)) 0)
+                ≡ true = both (surely_takes r s y) _ two.0 (grind (arith, nat_tests, is)) in
                 absurd (let bad : true ≡ false = sym now ∙ no_end in cc bad)
 
         by : (b : Bool) → (surely_takes r s y && nat_eq (greatest (set_at s y.at.0)) 0) ≡ b → (b || list_any (ends_at 0) ys) ≡ false
@@ -257,15 +270,18 @@ module _ (r : Resource) (s : Sets) (xs : List Item) where
             omega (arith, same, none)))
     ends_all horizon (suc high) early all = by (list_any (ends_at (suc high)) xs) refl (ends_all horizon high (omega (arith, early)) all)
       where
-        by : (b : Bool) → list_any (ends_at (suc high)) xs ≡ b → all_below (crowd_fits r xs s high) (high + 1) ≡ true → all_below (crowd_fits r xs s (suc high)) (suc high + 1) ≡ true
+        by : (b : Bool) → list_any (ends_at (suc high)) xs ≡ b → all_below (crowd_fits r xs s high) (high + 1) ≡ true
+            → all_below (crowd_fits r xs s (suc high)) (suc high + 1) ≡ true
         by true e before = found (suc high) horizon xs early all e
         by false e before = each_below (crowd_fits r xs s (suc high)) (suc high + 1)
             (λ low lt. le_true (crowd r xs low (suc high) s) (places_of r * (suc high + 1 - low)) (room low lt (cases_lt low (high + 1))))
           where
-            room : (low : ℕ) → low < suc high + 1 → (low < high + 1) ⊎ (high + 1 ≤ low) → crowd r xs low (suc high) s ≤ places_of r * (suc high + 1 - low)
+            room : (low : ℕ) → low < suc high + 1 → (low < high + 1) ⊎ (high + 1 ≤ low)
+                → crowd r xs low (suc high) s ≤ places_of r * (suc high + 1 - low)
             room low lt (inl less) = (
                 let fewer = none_ends high xs e low in
-                let fit = true_le (crowd r xs low high s) (places_of r * (high + 1 - low)) (below_each (crowd_fits r xs s high) (high + 1) before low less) in
+                let fit = true_le (crowd r xs low high s) (places_of r * (high + 1 - low)) (below_each (crowd_fits r xs s high)
+                (high + 1) before low less) in
                 let n : suc high + 1 - low ≡ suc (high + 1 - low) = omega (arith, less) in
                 let more = ap (λ (k : ℕ). places_of r * k) n ∙ places_more r (high + 1 - low) in
                 omega (arith, fewer, fit, more))
@@ -277,7 +293,8 @@ module _ (r : Resource) (s : Sets) (xs : List Item) where
 -- no item's least cycle is after its greatest
 pub ordered_counted : (vs : List VarId) (items : List Item) (s : Sets) → SlotVars vs items → HasVars vs s → NoneEmpty s
     → AllByRecursion (λ (i : Item). least (set_at s i.at.0) ≤ greatest (set_at s i.at.0)) (counted items)
-ordered_counted vs items s among_all known full = map_each (ItemVars vs) (λ (i : Item). least (set_at s i.at.0) ≤ greatest (set_at s i.at.0))
+ordered_counted vs items s among_all known full = map_each (ItemVars vs) (λ (i : Item). least (set_at s i.at.0) ≤ greatest
+    (set_at s i.at.0))
     (λ i h. least_most (set_at s i.at.0) (full i.at.0 (has_among vs i.at s h.of_at known))) (counted items)
     (take_each (ItemVars vs) (2 ^ 32 - 1) items (recursion_from_All _ _ among_all))
 

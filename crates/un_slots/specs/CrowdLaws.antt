@@ -1,5 +1,6 @@
 -- Laws of crowds.
-use Rattle.std.proofs.Common.{ℕ, zero, suc, ◌≡◌, ◌<◌, ◌≤◌, ◌+◌, ◌-◌, ◌*◌, ◌^◌, ◌∙◌, Bool, true, false, not, ◌&&◌, if◌then◌else◌, List, [], ◌∷◌, get_or, take, sum_by, nat_eq, nat_le, refl, sym, ap, subst, arith, inl, inr}
+use Rattle.std.proofs.Common.{ℕ, zero, suc, ◌≡◌, ◌<◌, ◌≤◌, ◌+◌, ◌-◌, ◌*◌, ◌^◌, ◌∙◌, Bool, true, false, not, ◌&&◌, if◌then◌else◌, List, []}
+use Rattle.std.proofs.Common.{◌∷◌, get_or, take, sum_by, nat_eq, nat_le, refl, sym, ap, subst, arith, inl, inr}
 use Rattle.std.specs.List.{list_any, AllByRecursion}
 use Rattle.std.proofs.lemmas.Bool.{cases_lt}
 use Rattle.std.proofs.lemmas.Bool.Decides.{nat_tests}
@@ -16,7 +17,8 @@ use Rattle.un_prop.specs.FailLaws.{first_lawful, first_keeps}
 use Rattle.un_prop.specs.AmongLaws.{has_among}
 use Rattle.un_prop.specs.Acts.{act_number, is_active}
 use Rattle.un_prop.specs.Looks.{act_set, sure}
-use Rattle.un_prop.specs.LookLaws.{both, firsts, not_true, not_from, set_alike, sure_alike, sure_below, sure_active, act_alike, act_below, number_in}
+use Rattle.un_prop.specs.LookLaws.{both, firsts, not_true, not_from, set_alike, sure_alike, sure_below, sure_active, act_alike, act_below}
+use Rattle.un_prop.specs.LookLaws.{number_in}
 use Rattle.un_prop.specs.SomewhereLaws.{any_more, any_has}
 use Rattle.un_slots.specs.declared.item.Item.{Item}
 use Rattle.un_slots.specs.declared.item.Resource.{Resource}
@@ -103,7 +105,8 @@ module _ (vs : List VarId) where
       (any_more (λ n. nat_eq (share_at r i.uses n) 0) (λ n. nat_eq (share_at r i.uses n) 0) (act_set i.on t) (act_set i.on s)
       (λ n here none. (act_below vs t s n le i.on here, none)) some)))
 
-  lies_below : (low high : ℕ) (t s : Sets) → HasVars vs s → NoneEmpty t → Below t s → (i : Item) → ItemVars vs i → lies_in low high s i ≡ true
+  lies_below : (low high : ℕ) (t s : Sets) → HasVars vs s → NoneEmpty t → Below t s → (i : Item) → ItemVars vs i
+      → lies_in low high s i ≡ true
       → lies_in low high t i ≡ true
   lies_below low high t s known full le i h lies =
       let two = firsts (nat_le low (least (set_at s i.at.0))) _ lies in
@@ -129,11 +132,14 @@ module _ (vs : List VarId) where
           let is : crowded r low high t i ≡ 1 = ap (λ (b : Bool). if b then 1 else 0) now in
           omega (arith, is)
 
-  crowded_alike : (r : Resource) (low high : ℕ) (s t : Sets) → Agree vs s t → (i : Item) → ItemVars vs i → crowded r low high s i ≡ crowded r low high t i
+  crowded_alike : (r : Resource) (low high : ℕ) (s t : Sets) → Agree vs s t → (i : Item) → ItemVars vs i
+      → crowded r low high s i ≡ crowded r low high t i
   crowded_alike r low high s t agree i h =
-      ap (λ (b : Bool). if (b && not (list_any (λ n. nat_eq (share_at r i.uses n) 0) (act_set i.on s))) && lies_in low high s i then 1 else 0)
+      ap (λ (b : Bool). if (b && not (list_any (λ n. nat_eq (share_at r i.uses n) 0)
+      (act_set i.on s))) && lies_in low high s i then 1 else 0)
       (sure_alike vs s t agree i.on h.of_on)
-      ∙ (ap (λ (xs : List ℕ). if (sure i.on t && not (list_any (λ n. nat_eq (share_at r i.uses n) 0) xs)) && lies_in low high s i then 1 else 0)
+      ∙ (ap (λ (xs : List ℕ). if (sure i.on t && not (list_any (λ n. nat_eq
+      (share_at r i.uses n) 0) xs)) && lies_in low high s i then 1 else 0)
       (act_alike vs s t agree i.on h.of_on)
       ∙ ap (λ (xs : List ℕ). if surely_takes r t i && (nat_le low (least xs) && nat_le (greatest xs) high) then 1 else 0)
       (set_alike vs s t agree i.at h.of_at))
@@ -181,7 +187,8 @@ module _ (vs : List VarId) (items : List Item) (horizon : ℕ) (among_all : Slot
   each_counted : AllByRecursion (ItemVars vs) (counted items)
   each_counted = take_each (ItemVars vs) (2 ^ 32 - 1) items (recursion_from_All _ _ among_all)
 
-  fits_all : (s : Sets) → ((r : Resource) (high low : ℕ) → high < horizon → crowd_fits r (counted items) s high low ≡ true) → crowds_fit items horizon s ≡ true
+  fits_all : (s : Sets) → ((r : Resource) (high low : ℕ) → high < horizon → crowd_fits r (counted items) s high low ≡ true)
+      → crowds_fit items horizon s ≡ true
   fits_all s h = for_each (λ r. all_below (λ high. all_below (crowd_fits r (counted items) s high) (high + 1)) horizon)
       (λ r. each_below (λ high. all_below (crowd_fits r (counted items) s high) (high + 1)) horizon
       (λ high early. each_below (crowd_fits r (counted items) s high) (high + 1) (λ low less. h r high low early)))
@@ -194,36 +201,45 @@ module _ (vs : List VarId) (items : List Item) (horizon : ℕ) (among_all : Slot
 
   crowd_test : LawfulTest vs (λ s c. crowds_fit items horizon s)
   crowd_test = record {
-    monotone = λ t s c known full le pass. for_each (λ r. all_below (λ high. all_below (crowd_fits r (counted items) s high) (high + 1)) horizon)
+    monotone = λ t s c known full le pass. for_each (λ r. all_below (λ high. all_below (crowd_fits r (counted items) s high)
+        (high + 1)) horizon)
         (λ r. each_below (λ high. all_below (crowd_fits r (counted items) s high) (high + 1)) horizon
         (λ high early. each_below (crowd_fits r (counted items) s high) (high + 1) (λ low less. (
         let fewer = sum_le (crowded r low high s) (crowded r low high t) (counted items)
-        (map_each (ItemVars vs) (λ i. crowded r low high s i ≤ crowded r low high t i) (crowded_below vs r low high t s known full le) (counted items) each_counted) in
+        (map_each (ItemVars vs) (λ i. crowded r low high s i ≤ crowded r low high t i) (crowded_below vs r low high t s known full le)
+        (counted items) each_counted) in
         less_true (crowd r (counted items) low high s) (crowd r (counted items) low high t) (places_of r * (high + 1 - low)) fewer
         (fits_each t pass r high low early less)))));
-    local = λ s t c agree. same_test (crowds_fit items horizon s) (crowds_fit items horizon t) (go s t (λ r low high. same s t agree r low high))
+    local = λ s t c agree. same_test (crowds_fit items horizon s) (crowds_fit items horizon t) (go s t
+        (λ r low high. same s t agree r low high))
         (go t s (λ r low high. sym (same s t agree r low high)));
   }
     where
-      same : (s t : Sets) → Agree vs s t → (r : Resource) (low high : ℕ) → crowd r (counted items) low high s ≡ crowd r (counted items) low high t
+      same : (s t : Sets) → Agree vs s t → (r : Resource) (low high : ℕ)
+          → crowd r (counted items) low high s ≡ crowd r (counted items) low high t
       same s t agree r low high = sum_alike (crowded r low high s) (crowded r low high t) (counted items)
-          (map_each (ItemVars vs) (λ i. crowded r low high s i ≡ crowded r low high t i) (crowded_alike vs r low high s t agree) (counted items) each_counted)
+          (map_each (ItemVars vs) (λ i. crowded r low high s i
+          ≡ crowded r low high t i) (crowded_alike vs r low high s t agree) (counted items) each_counted)
 
       go : (a b : Sets) → ((r : Resource) (low high : ℕ) → crowd r (counted items) low high a ≡ crowd r (counted items) low high b)
           → crowds_fit items horizon a ≡ true → crowds_fit items horizon b ≡ true
       go a b alike h = for_each (λ r. all_below (λ high. all_below (crowd_fits r (counted items) b high) (high + 1)) horizon)
           (λ r. each_below (λ high. all_below (crowd_fits r (counted items) b high) (high + 1)) horizon
           (λ high early. each_below (crowd_fits r (counted items) b high) (high + 1)
-          (λ low less. ap (λ (n : ℕ). nat_le n (places_of r * (high + 1 - low))) (sym (alike r low high)) ∙ fits_each a h r high low early less)))
+          (λ low less. ap (λ (n : ℕ). nat_le n (places_of r * (high + 1 - low))) (sym (alike r low high))
+          ∙ fits_each a h r high low early less)))
 
   pub crowd_lawful : Lawful vs (crowd_cut vs items horizon)
   crowd_lawful = first_lawful (λ s c. crowds_fit items horizon s) vs crowd_test
 
-  pub crowd_keeps : (s : Sets) (x : List ℕ) → HasVars vs s → IsIn x s → per_cycle_holds items horizon x ≡ true → Kept x (crowd_cut vs items horizon s)
-  crowd_keeps s x known there holds = first_keeps (λ s c. crowds_fit items horizon s) vs s x known there (λ c. fits_all s (λ r high low early. (
+  pub crowd_keeps : (s : Sets) (x : List ℕ) → HasVars vs s → IsIn x s → per_cycle_holds items horizon x ≡ true
+      → Kept x (crowd_cut vs items horizon s)
+  crowd_keeps s x known there holds = first_keeps (λ s c. crowds_fit items horizon s) vs s x known there (λ c. fits_all s
+      (λ r high low early. (
       let room = (holds_fits items horizon x holds).room r in
       let n = high + 1 - low in
-      let each = map_each (ItemVars vs) (λ i. crowded r low high s i ≤ taken_in r low n x i) (crowded_taken vs r low high s x known there) (counted items) each_counted in
+      let each = map_each (ItemVars vs) (λ i. crowded r low high s i ≤ taken_in r low n x i)
+      (crowded_taken vs r low high s x known there) (counted items) each_counted in
       let less = sum_le (crowded r low high s) (taken_in r low n x) (counted items) each in
       let some = sum_by-take-le (taken_in r low n x) items (2 ^ 32 - 1) in
       let whole = taken_all r low n x items room in

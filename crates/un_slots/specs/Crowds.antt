@@ -1,5 +1,6 @@
 -- Crowds: where the sure items whose cycles all lie in an interval need more of a resource than its packets have, nothing holds.
-use Rattle.std.specs.Prelude.{ℕ, zero, suc, ◌+◌, ◌-◌, ◌*◌, ◌^◌, Bool, true, not, ◌&&◌, ◌||◌, if◌then◌else◌, List, length, option_and_then, take, sum_by, nat_eq, nat_le, nat_lt}
+use Rattle.std.specs.Prelude.{ℕ, zero, suc, ◌+◌, ◌-◌, ◌*◌, ◌^◌, Bool, true, not, ◌&&◌, ◌||◌, if◌then◌else◌, List, length, option_and_then}
+use Rattle.std.specs.Prelude.{take, sum_by, nat_eq, nat_le, nat_lt}
 use Rattle.std.specs.declared.option.Option.{Option}
 use Rattle.std.specs.List.{list_any, list_all}
 use Rattle.un_base.specs.declared.ids.VarId.{VarId}
@@ -42,7 +43,8 @@ counted items = take (2 ^ 32 - 1) items
 
 -- whether an item is counted at cycle c: it surely takes some, begins there and has no cycle after high
 abbrev pub starts : Resource → ℕ → Sets → ℕ → Item → ℕ
-starts r high s c i = if surely_takes r s i && (nat_eq (least (set_at s i.at.0)) c && nat_le (greatest (set_at s i.at.0)) high) then 1 else 0
+starts r high s c i = if surely_takes r s i && (nat_eq (least (set_at s i.at.0)) c && nat_le (greatest
+    (set_at s i.at.0)) high) then 1 else 0
 
 -- the sum of n numbers from low on
 abbrev pub sum_from : (ℕ → ℕ) → ℕ → ℕ → ℕ

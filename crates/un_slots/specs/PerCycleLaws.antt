@@ -23,7 +23,8 @@ module _ (vs : List VarId) (items : List Item) (horizon : ℕ) (among_all : Slot
   steps_lawful = lawful_then vs (each_place (slot_cut items horizon) (length items)) (crowd_cut vs items horizon) slots
       (crowd_lawful vs items horizon among_all)
 
-  pub steps_keeps : (s : Sets) (x : List ℕ) → HasVars vs s → IsIn x s → per_cycle_holds items horizon x ≡ true → Kept x (per_cycle_steps vs items horizon s)
+  pub steps_keeps : (s : Sets) (x : List ℕ) → HasVars vs s → IsIn x s → per_cycle_holds items horizon x ≡ true
+      → Kept x (per_cycle_steps vs items horizon s)
   steps_keeps s x known there holds = then_kept (crowd_cut vs items horizon) x (each_place (slot_cut items horizon) (length items) s)
       (slots_keeps vs items horizon among_all (length items) s x known there holds)
       (λ m in_m. crowd_keeps vs items horizon among_all m x (known_in vs s m x there in_m known) in_m holds)

@@ -1,6 +1,7 @@
 //! Crowds: whether the sure items whose cycles all lie in an interval need more of a resource than its packets have.
 
-ghost use Rattle.std.specs.Prelude.{◌≡◌, ◌≢◌, ◌+◌, ◌-◌, ◌*◌, ◌<◌, ◌≤◌, ◌^◌, ℕ, length, nat_eq, nat_le, nat_lt, not, slice_index, sum_by, take, true};
+ghost use Rattle.std.specs.Prelude.{◌≡◌, ◌≢◌, ◌+◌, ◌-◌, ◌*◌, ◌<◌, ◌≤◌, ◌^◌, ℕ, length, nat_eq, nat_le, nat_lt, not, slice_index, sum_by};
+ghost use Rattle.std.specs.Prelude.{take, true};
 ghost use Rattle.std.specs.List.{list_any};
 ghost use Rattle.un_domains.specs.Sets.{NoneEmpty, greatest, set_at};
 ghost use Rattle.un_prop.specs.Acts.{act_vars};

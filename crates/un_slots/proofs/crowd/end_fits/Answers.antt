@@ -43,4 +43,5 @@ returns c =
     || all_below (crowd_fits r xs s high) (high + 1))) =
     sym (ap (λ (b : Bool). not b || (not (nat_lt high c.args.horizon) || all_below (crowd_fits r xs s high) (high + 1))) takes
     ∙ ap (λ (b : Bool). not b || all_below (crowd_fits r xs s high) (high + 1)) early) in
-    fits ∙ (whole ∙ ap (λ (h : ℕ). not (surely_takes r s i) || (not (nat_lt h c.args.horizon) || all_below (crowd_fits r xs s h) (h + 1))) top)
+    fits ∙ (whole ∙ ap (λ (h : ℕ). not (surely_takes r s i) || (not (nat_lt h c.args.horizon) || all_below (crowd_fits r xs s h)
+    (h + 1))) top)

@@ -27,7 +27,8 @@ loop-j-preserved c i d lt =
       | inl below ↦ c.loop-j.invariant i d below
       | inr is ↦ (
           let here = ap (λ (k : ℕ). test (get_or items k d)) is in
-          let same = ap test (get_or_default items c.loop-j.j d c.index-items-j.result (omega (arith, c.loop-j-test.true, c.min-j-end.ensures))) in
+          let same = ap test (get_or_default items c.loop-j.j d c.index-items-j.result (omega
+          (arith, c.loop-j-test.true, c.min-j-end.ensures))) in
           here ∙ (same ∙ (sym (ap test c.index-items-j.is) ∙ (sym c.end_fits.ensures ∙ c.if-not-end_fits.false))))
     ]
 

@@ -12,7 +12,8 @@ pub returns-then-can_issue-clause-here : goal.returns-then-can_issue-clause-here
 returns-then-can_issue-clause-here c own =
     let items = c.args.items.now in
     let s = c.args.w.now.store.now.sets in
-    head_unmarked items s c.args.c (listable items c.args.scratch.now.fixed.items) c.args.scratch.now.cycles.items c.requires.head (omega arith)
+    head_unmarked items s c.args.c (listable items c.args.scratch.now.fixed.items) c.args.scratch.now.cycles.items c.requires.head
+    (omega arith)
     ∙ (sym c.if-can_issue.true ∙ c.can_issue.ensures)
 
 pub returns-then-index-eq0-clause-here : goal.returns-then-index-eq0-clause-here

@@ -43,7 +43,9 @@ returns-clause-prune c =
     let second = subst (λ (xs : List Item). Stepped p.vars (crowd_cut p.vars xs p.horizon) mid next kept did) c.as_slice-items.ensures
     (subst (λ (us : List VarId). Stepped us (crowd_cut us xs p.horizon) mid next kept did) vars_mid c.keep_crowds-did.ensures.step) in
     let step = stepped_chain p.vars (f p.items) (crowd_cut p.vars p.items p.horizon) old mid next Same kept did first second in
-    let last = subst (λ (us : List VarId). Goes us (last_cut p.vars t) next new did c.check_last.result) vars_next c.check_last.ensures.goes in
-    checked p.vars p.vars (λ s. option_and_then (last_cut p.vars t) (per_cycle_steps p.vars p.items p.horizon s)) old new c.check_last.result refl
+    let last = subst (λ (us : List VarId). Goes us (last_cut p.vars t) next new did c.check_last.result) vars_next
+    c.check_last.ensures.goes in
+    checked p.vars p.vars (λ s. option_and_then (last_cut p.vars t)
+    (per_cycle_steps p.vars p.items p.horizon s)) old new c.check_last.result refl
     c.requires.live
     (goes_chain p.vars (per_cycle_steps p.vars p.items p.horizon) (last_cut p.vars t) old next new Same did c.check_last.result step last)
