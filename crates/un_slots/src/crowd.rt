@@ -128,7 +128,8 @@ fn count_all(items: &[Item], w: &Window<'_>, r: Resource, high: u32, cycles: &mu
 /// Whether from no cycle to `high` there are more than the packets have.
 fn fits_down(cycles: &[u32], high: u32, places: u32) -> bool
     requires { high < length cycles.now }
-    ensures { result ≡ all_below (λ low. nat_le (sum_from (slice_index cycles.now) low (high + 1 - low)) (places * (high + 1 - low))) (high + 1) }
+    ensures { result ≡ all_below (λ low. nat_le (sum_from (slice_index cycles.now) low (high + 1 - low)) (places * (high + 1 - low)))
+        (high + 1) }
 {
     let mut crowd = 0;
     let mut room = 0;

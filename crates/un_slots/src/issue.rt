@@ -79,7 +79,8 @@ fn can_issue(
     requires live { NoneEmpty w.now.store.now.sets }
     requires its_own { has (set_at w.now.store.now.sets item.now.at.0) c ≡ true }
     requires span { c < length scratch.now.cycles.items }
-    requires head { slice_index scratch.now.cycles.items c ≡ last_settled items.now w.now.store.now.sets c (listable items.now scratch.now.fixed.items) }
+    requires head { slice_index scratch.now.cycles.items c ≡ last_settled items.now w.now.store.now.sets c
+        (listable items.now scratch.now.fixed.items) }
     requires nexts { Chained items.now (listable items.now scratch.now.fixed.items) w.now.store.now.sets c scratch.now.fixed.items }
     ensures { result ≡ can_issue (others k items.now) item.now w.now.store.now.sets c }
 {
@@ -131,13 +132,16 @@ fn mark_at(
     requires known { HasVars w.now.vars.now w.now.store.now.sets }
     requires live { NoneEmpty w.now.store.now.sets }
     requires span { c < length scratch.old.cycles.items }
-    requires head { slice_index scratch.old.cycles.items c ≡ last_settled items.now w.now.store.now.sets c (listable items.now scratch.old.fixed.items) }
+    requires head { slice_index scratch.old.cycles.items c ≡ last_settled items.now w.now.store.now.sets c
+        (listable items.now scratch.old.fixed.items) }
     requires nexts { Chained items.now (listable items.now scratch.old.fixed.items) w.now.store.now.sets c scratch.old.fixed.items }
     requires alone { free ≡ true → list_any (fits_beside (λ r. 0) item.now) (act_set item.now.on w.now.store.now.sets) ≡ true }
     requires whole { free ≡ true → listable items.now scratch.old.fixed.items ≡ length items.now }
-    ensures here { has (set_at w.now.store.now.sets item.now.at.0) c ≡ true → is_unmarked scratch.new.cycles.items c ≡ can_issue (others k items.now) item.now w.now.store.now.sets c }
+    ensures here { has (set_at w.now.store.now.sets item.now.at.0) c ≡ true
+        → is_unmarked scratch.new.cycles.items c ≡ can_issue (others k items.now) item.now w.now.store.now.sets c }
     ensures elsewhere { (e : ℕ) → e ≢ c → slice_index scratch.new.cycles.items e ≡ slice_index scratch.old.cycles.items e }
-    ensures none { result ≡ false → has (set_at w.now.store.now.sets item.now.at.0) c ≡ true → can_issue (others k items.now) item.now w.now.store.now.sets c ≡ true }
+    ensures none { result ≡ false → has (set_at w.now.store.now.sets item.now.at.0) c ≡ true
+        → can_issue (others k items.now) item.now w.now.store.now.sets c ≡ true }
     ensures same { result ≡ false → scratch.new.cycles.items ≡ scratch.old.cycles.items }
     ensures fixed { scratch.new.fixed.items ≡ scratch.old.fixed.items }
     ensures cycles { length scratch.new.cycles.items ≡ length scratch.old.cycles.items }
@@ -172,9 +176,13 @@ pub(crate) fn mark(
     requires known { HasVars w.now.vars.now w.now.store.now.sets }
     requires live { NoneEmpty w.now.store.now.sets }
     requires span { horizon ≤ length scratch.old.cycles.items }
-    requires listed { Listed items.now horizon (listable items.now scratch.old.fixed.items) w.now.store.now.sets scratch.old.cycles.items scratch.old.fixed.items }
-    ensures marks { (c : ℕ) → has (set_at w.now.store.now.sets item.now.at.0) c ≡ true → is_left scratch.new.cycles.items horizon c ≡ (nat_lt c horizon && can_issue (others k items.now) item.now w.now.store.now.sets c) }
-    ensures none { result ≡ false → (c : ℕ) → has (set_at w.now.store.now.sets item.now.at.0) c ≡ true → (nat_lt c horizon && can_issue (others k items.now) item.now w.now.store.now.sets c) ≡ true }
+    requires listed { Listed items.now horizon (listable items.now scratch.old.fixed.items) w.now.store.now.sets scratch.old.cycles.items
+        scratch.old.fixed.items }
+    ensures marks { (c : ℕ) → has (set_at w.now.store.now.sets item.now.at.0) c ≡ true
+        → is_left scratch.new.cycles.items horizon c ≡ (nat_lt c horizon && can_issue
+        (others k items.now) item.now w.now.store.now.sets c) }
+    ensures none { result ≡ false → (c : ℕ) → has (set_at w.now.store.now.sets item.now.at.0) c ≡ true
+        → (nat_lt c horizon && can_issue (others k items.now) item.now w.now.store.now.sets c) ≡ true }
     ensures same { result ≡ false → scratch.new.cycles.items ≡ scratch.old.cycles.items }
     ensures fixed { scratch.new.fixed.items ≡ scratch.old.fixed.items }
     ensures cycles { length scratch.new.cycles.items ≡ length scratch.old.cycles.items }

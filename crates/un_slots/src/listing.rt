@@ -66,7 +66,8 @@ pub(crate) fn list(items: &[Item], horizon: u32, w: &Window<'_>, scratch: &mut S
     requires vars { SlotVars w.now.vars.now items.now }
     requires known { HasVars w.now.vars.now w.now.store.now.sets }
     requires live { NoneEmpty w.now.store.now.sets }
-    ensures listed { Listed items.now horizon (listable items.now scratch.new.fixed.items) w.now.store.now.sets scratch.new.cycles.items scratch.new.fixed.items }
+    ensures listed { Listed items.now horizon (listable items.now scratch.new.fixed.items) w.now.store.now.sets scratch.new.cycles.items
+        scratch.new.fixed.items }
     ensures fixed { length scratch.new.fixed.items ≡ length scratch.old.fixed.items }
     ensures cycles { length scratch.new.cycles.items ≡ length scratch.old.cycles.items }
 {

@@ -82,7 +82,8 @@ impl Propagator for PerCycle {
     ghost use Rattle.un_slots.specs.Crowds.{per_cycle_steps};
     ghost use Rattle.un_slots.specs.PerCycleLaws.{steps_lawful, steps_keeps, steps_strong};
 
-    ghost cut = { λ p s. option_and_then (last_cut p.vars (per_cycle_holds p.items p.horizon)) (per_cycle_steps p.vars p.items p.horizon s) };
+    ghost cut = { λ p s. option_and_then (last_cut p.vars (per_cycle_holds p.items p.horizon))
+        (per_cycle_steps p.vars p.items p.horizon s) };
 
     ghost parts = { λ p. one_part p.vars (per_cycle_holds p.items p.horizon) };
 
@@ -97,13 +98,22 @@ impl Propagator for PerCycle {
         check_last(self, w, scratch, did)
     }
 
-    ghost keeps = { λ p s x k full there holds. keeps_checked p.vars (per_cycle_holds p.items p.horizon) (per_cycle_looks p.vars p.items p.horizon p.among) p.ascend (per_cycle_steps p.vars p.items p.horizon) (steps_lawful p.vars p.items p.horizon p.among) s x k (steps_keeps p.vars p.items p.horizon p.among s x k there holds) there.long holds };
+    ghost keeps = { λ p s x k full there holds. keeps_checked p.vars (per_cycle_holds p.items p.horizon)
+        (per_cycle_looks p.vars p.items p.horizon p.among) p.ascend (per_cycle_steps p.vars p.items p.horizon)
+        (steps_lawful p.vars p.items p.horizon p.among) s x k
+        (steps_keeps p.vars p.items p.horizon p.among s x k there holds) there.long holds };
 
-    ghost lawful = { λ p. lawful_checked p.vars (per_cycle_holds p.items p.horizon) (per_cycle_looks p.vars p.items p.horizon p.among) p.ascend (per_cycle_steps p.vars p.items p.horizon) (steps_lawful p.vars p.items p.horizon p.among) };
+    ghost lawful = { λ p. lawful_checked p.vars (per_cycle_holds p.items p.horizon)
+        (per_cycle_looks p.vars p.items p.horizon p.among) p.ascend (per_cycle_steps p.vars p.items p.horizon)
+        (steps_lawful p.vars p.items p.horizon p.among) };
 
     ghost whole = { λ p x. one_whole p.vars (per_cycle_holds p.items p.horizon) x };
 
-    ghost forward = { λ p. forward_checked p.vars (per_cycle_holds p.items p.horizon) (per_cycle_looks p.vars p.items p.horizon p.among) p.ascend (per_cycle_steps p.vars p.items p.horizon) (steps_lawful p.vars p.items p.horizon p.among) };
+    ghost forward = { λ p. forward_checked p.vars (per_cycle_holds p.items p.horizon)
+        (per_cycle_looks p.vars p.items p.horizon p.among) p.ascend (per_cycle_steps p.vars p.items p.horizon)
+        (steps_lawful p.vars p.items p.horizon p.among) };
 
-    ghost strength = { λ p s k full words grounded e. steps_strong p.vars p.items p.horizon p.among s k full (stable_first p.vars (per_cycle_holds p.items p.horizon) (per_cycle_looks p.vars p.items p.horizon p.among) p.ascend (per_cycle_steps p.vars p.items p.horizon) (steps_lawful p.vars p.items p.horizon p.among) s k full e) };
+    ghost strength = { λ p s k full words grounded e. steps_strong p.vars p.items p.horizon p.among s k full (stable_first p.vars
+        (per_cycle_holds p.items p.horizon) (per_cycle_looks p.vars p.items p.horizon p.among) p.ascend
+        (per_cycle_steps p.vars p.items p.horizon) (steps_lawful p.vars p.items p.horizon p.among) s k full e) };
 }
