@@ -17,3 +17,5 @@ mod prunes;
 mod ranges;
 #[cfg(test)]
 mod rectangles;
+#[cfg(test)]
+mod slots;
