@@ -1,0 +1,34 @@
+-- Where the arcs of a block lead.
+use Rattle.std.specs.Prelude.{ℕ, ◌≡◌, ◌+◌, ◌-◌, ◌<◌, ◌≤◌, ◌^◌, false, List, All, AllPairs, IfSome, length, slice_get}
+use Rattle.un_ir.specs.declared.extended.ExtKind.{ExtKind}
+use Rattle.un_ir.specs.declared.extended.ExtKind.TheVariants.{In, Out, Body, End, Copy, Enter, Leave}
+use Rattle.un_ir.specs.declared.extended.ExtOp.{ExtOp}
+use Rattle.un_isa.specs.declared.op.Op.{Op}
+use Rattle.un_bound.specs.declared.arc.Arc.{Arc}
+use Rattle.un_model.specs.Instructions.{instruction_of, is_transfer}
+
+-- nothing waits for a block's end, nor for a transfer, and its start waits for nothing
+abbrev pub MayLead : ExtKind → Type 0
+MayLead Out = ⊥
+MayLead kind = IfSome (instruction_of kind 0) (λ (op : Op). is_transfer op ≡ false)
+
+abbrev pub MayWait : ExtKind → Type 0
+MayWait In = ⊥
+MayWait kind = Unit {0}
+
+-- an arc from an operation to a later one of a block of which the first operation has the number n
+pub record LeadsOn (n : ℕ) (ops : List ExtOp) (arc : Arc) : Type 0 where
+  pub here : n ≤ arc.from.0
+  pub forward : arc.from.0 < arc.to.0
+  pub within : arc.to.0 < n + length ops
+  pub short : arc.gap < 2 ^ 8
+  pub from : IfSome (slice_get ops (arc.from.0 - n)) (λ (op : ExtOp). MayLead op.kind)
+  pub to : IfSome (slice_get ops (arc.to.0 - n)) (λ (op : ExtOp). MayWait op.kind)
+
+-- by the operations to which they lead
+abbrev pub IsBefore : Arc → Arc → Type 0
+IsBefore a b = a.to.0 ≤ b.to.0
+
+pub record LeadOn (n : ℕ) (ops : List ExtOp) (arcs : List Arc) : Type 0 where
+  pub each : All (LeadsOn n ops) arcs
+  pub rising : AllPairs IsBefore arcs

@@ -1,0 +1,4 @@
+pub mod Arcs
+pub mod Lengths
+pub mod Plain
+pub mod Timings

@@ -1,0 +1,5 @@
+//! Bounds on what the solutions of a model cost.
+#![tactic(auto)]
+
+pub mod arc;
+pub mod lengths;
