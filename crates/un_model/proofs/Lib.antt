@@ -1,3 +1,4 @@
+pub mod ArcSteps
 pub mod Steps
 pub mod Costs
 pub mod Domains

@@ -1,3 +1,4 @@
+pub mod Arcs
 pub mod Congruences
 pub mod Cost
 pub mod Emission

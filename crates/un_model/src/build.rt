@@ -9,6 +9,7 @@ ghost use Rattle.un_model.specs.Options.{AreOptions};
 ghost use Rattle.un_model.specs.Pairs.{places_from};
 ghost use Rattle.un_model.specs.Variables.{is_optional, has_cycle, has_choices, chosen_operands, register_place, var_at, var_if, op_vars, ops_vars, block_vars, blocks_vars, op_temps, ops_temps, blocks_temps, copy_domain, instr_domain, cycle_domain, choice_domain, result_domain, carries_truth, op_domains, ops_domains, block_domains, blocks_domains, own_horizon, IsModel, model_of};
 
+use crate::arcs::arcs;
 use crate::homes::homes;
 use crate::model::{BlockVars, Model, OpVars, Options, TempVars};
 use crate::numbers::{advance, number};
@@ -320,6 +321,7 @@ pub fn build(alloc: Global, e: &Ext, o: &Options) -> Result<Model, NoMemory>
     let mut temps = Items::new(alloc);
     let blocks = add_blocks(alloc, &mut domains, &mut temps, e, o)?;
     let flag = add(&mut domains, Domain::Range { lo: 0, hi: 1 })?;
+    let arcs = arcs(alloc, e, temps.as_slice())?;
     let ext = e.clone()?;
     Ok(Model {
         ext,
@@ -328,5 +330,6 @@ pub fn build(alloc: Global, e: &Ext, o: &Options) -> Result<Model, NoMemory>
         temps,
         blocks,
         flag,
+        arcs,
     })
 }

@@ -49,7 +49,7 @@ fn after_load(later: Option<Op>) -> Option<u32>
 }
 
 /// How far after an access to memory an instruction issues.
-fn memory_distance(earlier: Option<Op>, later: Option<Op>) -> Option<u32>
+pub(crate) fn memory_distance(earlier: Option<Op>, later: Option<Op>) -> Option<u32>
     ensures { result ≡ memory_distance earlier later }
 {
     match earlier {

@@ -106,7 +106,7 @@ fn issue(values: &[u32], b: u32, end: u32, n: u32, op: &ExtOp, vars: &OpVars) ->
 }
 
 /// The temporary at place `c` of the alternatives.
-fn chosen(alts: &Items<TempId>, c: u32) -> TempId
+pub(crate) fn chosen(alts: &Items<TempId>, c: u32) -> TempId
     ensures { result ≡ chosen alts.now c }
 {
     alts.as_slice()
