@@ -6,7 +6,7 @@ use Rattle.std.proofs.lemmas.Bool.{cases_lt}
 use Rattle.std.proofs.lemmas.Option.{slice_get_cases}
 use Rattle.un_domains.specs.SetLaws.{same_or_not}
 use Rattle.un_ir.specs.declared.extended.ExtOp.{ExtOp}
-use Rattle.un_bound.specs.declared.arc.Arc.{Arc}
+use Rattle.un_model.specs.declared.model.Arc.{Arc}
 use Rattle.un_bound.specs.Arcs.{LeadsOn, LeadOn, IsBefore}
 use Rattle.un_bound.specs.Timings.{IsKept, cycle_in}
 use Rattle.un_bound.specs.Lengths.{Choice, AreChosen, KeepFirst, AreEarliest, AreSmall, FromFirst, StartAtFirst, first_by, first_cycle}
@@ -50,18 +50,10 @@ module _ (may : Choice) (n : ℕ) (ops : List ExtOp) (arcs : List Arc) (lead : L
   pub step : may (a.to.0 - n) k → cycle_in cs n a.to ≤ k → cycle_in cs n a.from + a.gap ≤ k
       → ((m : ℕ) → may (a.to.0 - n) m → cycle_in cs n a.to ≤ m → cycle_in cs n a.from + a.gap ≤ m → k ≤ m)
       → AreEarliest may (length ops) n arcs (i + 1) (slice_set cs (a.to.0 - n) k)
-  step ok up kept least = subst (AreEarliest may (length ops) n arcs (i + 1)) next_is (record {
-    long = long;
-    chosen = chosen;
-    kept = keeps;
-    least = smallest;
-  })
+  step ok up kept least = record { long = long; chosen = chosen; kept = keeps; least = smallest }
     where
-      next_is : next ≡ slice_set cs (a.to.0 - n) k
-          next_is = refl
-
       long : length next ≡ length ops
-          long = length-set cs (a.to.0 - n) k ∙ h.long
+      long = length-set cs (a.to.0 - n) k ∙ h.long
 
       chosen : AreChosen may (length ops) next
       chosen j lt = elim (same_or_not j (a.to.0 - n)) [
@@ -137,3 +129,22 @@ small_step n ops cs a on small k = by (same_or_not k (a.to.0 - n)) (cases_lt (a.
         (sym e) (omega (arith, s, small (a.to.0 - n), small (a.from.0 - n), on.here, on.forward, on.short))
     by (inl e) (inr le) = rw (set_past cs (a.to.0 - n) (max (cycle_in cs n a.to) (cycle_in cs n a.from + a.gap)) le) (small k)
     by (inr ne) side = rw (get_or-set_other cs (a.to.0 - n) k (max (cycle_in cs n a.to) (cycle_in cs n a.from + a.gap)) 0 ne) (small k)
+
+-- without domains the cycle rises to what the arc asks for
+pub plain_step : (n : ℕ) (ops : List ExtOp) (arcs : List Arc) → LeadOn n ops arcs → (i : ℕ) (cs : List ℕ) (a : Arc) → i < length arcs
+    → ((d : Arc) → get_or arcs i d ≡ a) → AreEarliest (FromFirst ops) (length ops) n arcs i cs → (k : ℕ)
+    → k ≡ max (cycle_in cs n a.to) (cycle_in cs n a.from + a.gap)
+    → AreEarliest (FromFirst ops) (length ops) n arcs (i + 1) (slice_set cs (a.to.0 - n) k)
+plain_step n ops arcs lead i cs a within is h k e =
+    step (FromFirst ops) n ops arcs lead i cs a within is h k
+    (λ op found. omega (arith, e, h.chosen (a.to.0 - n) (omega (arith, on.here, on.forward, on.within)) op found)) (omega (arith, e))
+    (omega (arith, e)) (λ m may up kept. omega (arith, e, up, kept))
+  where
+    on : LeadsOn n ops a
+    on = subst (LeadsOn n ops) (is a) (lead.each i a within)
+
+pub plain_small : (n : ℕ) (ops : List ExtOp) (arcs : List Arc) → LeadOn n ops arcs → (i : ℕ) (cs : List ℕ) (a : Arc) → i < length arcs
+    → ((d : Arc) → get_or arcs i d ≡ a) → AreSmall cs → (k : ℕ) → k ≡ max (cycle_in cs n a.to) (cycle_in cs n a.from + a.gap)
+    → AreSmall (slice_set cs (a.to.0 - n) k)
+plain_small n ops arcs lead i cs a within is small k e =
+    rw e (small_step n ops cs a (subst (LeadsOn n ops) (is a) (lead.each i a within)) small)

@@ -8,7 +8,7 @@ use Rattle.un_isa.specs.declared.op.Op.{Op}
 use Rattle.un_ir.specs.declared.extended.ExtKind.{ExtKind}
 use Rattle.un_ir.specs.declared.extended.ExtKind.TheVariants.{In, Out, Body, End, Copy, Enter, Leave}
 use Rattle.un_ir.specs.declared.extended.ExtOp.{ExtOp}
-use Rattle.un_bound.specs.declared.arc.Arc.{Arc}
+use Rattle.un_model.specs.declared.model.Arc.{Arc}
 use Rattle.un_bound.specs.Arcs.{MayLead, MayWait, LeadsOn, LeadOn}
 use Rattle.un_bound.specs.Timings.{IsTimed, AtEach, IsKept, cycle_in, IsTiming, IsLeastLength}
 use Rattle.un_bound.specs.Lengths.{Choice, AreChosen, KeepFirst, AreEarliest, FromFirst, first_by, first_cycle, end_by, end_after, IsEnd, IsLeastEnd}

@@ -4,7 +4,7 @@ use Rattle.un_isa.specs.declared.op.Op.{Op}
 use Rattle.un_ir.specs.declared.extended.ExtKind.{ExtKind}
 use Rattle.un_ir.specs.declared.extended.ExtKind.TheVariants.{In, Out, Body, End, Copy, Enter, Leave}
 use Rattle.un_ir.specs.declared.extended.ExtOp.{ExtOp}
-use Rattle.un_bound.specs.declared.arc.Arc.{Arc}
+use Rattle.un_model.specs.declared.model.Arc.{Arc}
 use Rattle.un_bound.specs.Timings.{AtEach, IsKept}
 use Rattle.un_model.specs.Instructions.{instruction_of}
 

@@ -3,7 +3,7 @@ use Rattle.std.specs.Prelude.{ℕ, ◌≡◌, ◌+◌, ◌-◌, ◌*◌, ◌/◌
 use Rattle.un_isa.specs.declared.table.Table.{Table}
 use Rattle.un_ir.specs.declared.extended.ExtOp.{ExtOp}
 use Rattle.un_ir.specs.declared.extended.ExtBlock.{ExtBlock}
-use Rattle.un_bound.specs.declared.arc.Arc.{Arc}
+use Rattle.un_model.specs.declared.model.Arc.{Arc}
 use Rattle.un_bound.specs.Timings.{IsLeastLength}
 use Rattle.un_model.specs.declared.schedule.Resource.{Resource}
 use Rattle.un_model.specs.declared.schedule.Resource.TheVariants.{Instructions, Memory, Stores, MultiplyOrControl}

@@ -5,7 +5,7 @@ use Rattle.un_base.specs.declared.ids.OpId.{OpId}
 use Rattle.un_ir.specs.declared.extended.ExtKind.{ExtKind}
 use Rattle.un_ir.specs.declared.extended.ExtKind.TheVariants.{In, Out}
 use Rattle.un_ir.specs.declared.extended.ExtOp.{ExtOp}
-use Rattle.un_bound.specs.declared.arc.Arc.{Arc}
+use Rattle.un_model.specs.declared.model.Arc.{Arc}
 use Rattle.un_model.specs.Instructions.{instruction_of}
 use Rattle.un_model.specs.Solutions.{IsPlacedAs}
 

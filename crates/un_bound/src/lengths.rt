@@ -5,7 +5,7 @@ ghost use Rattle.un_bound.specs.Arcs.{LeadOn};
 ghost use Rattle.un_bound.specs.Timings.{IsLeastLength};
 ghost use Rattle.un_bound.specs.Lengths.{first_cycle, StartAtFirst, FromFirst, AreEarliest, end_after, IsLeastEnd, AreSmall};
 
-use crate::arc::Arc;
+use un_model::model::Arc;
 use un_ir::extended::{ExtKind, ExtOp};
 use un_model::instructions::instruction;
 

@@ -1,5 +1,4 @@
 //! Bounds on what the solutions of a model cost.
 #![tactic(auto)]
 
-pub mod arc;
 pub mod lengths;
