@@ -1,5 +1,5 @@
 -- The end of a block, and the operations that stand at it.
-use Rattle.std.proofs.Common.{◌≡◌, ◌≢◌, ℕ, ◌+◌, ◌-◌, ◌<◌, ◌≤◌, ◌⊎◌, inl, inr, zero, suc, Bool, true, false, List, [], ◌∷◌, length, get_or, Option, Some, None, refl, sym, ap, ◌∙◌, subst, arith, get_or-set_same, get_or-set_other}
+use Rattle.std.proofs.Common.{◌≡◌, ◌≢◌, ℕ, ◌+◌, ◌*◌, ◌-◌, ◌<◌, ◌≤◌, ◌⊎◌, inl, inr, zero, suc, Bool, true, false, List, [], ◌∷◌, length, get_or, Option, Some, None, refl, sym, ap, ◌∙◌, subst, arith, get_or-set_same, get_or-set_other}
 use Rattle.std.specs.Prelude.{if◌then◌else◌, slice_get, slice_index, slice_set, All, IfSome}
 use Rattle.std.proofs.lemmas.Option.{slice_get-get_or, slice_get_cases}
 use Rattle.std.proofs.lemmas.List.{length-set}
@@ -11,7 +11,7 @@ use Rattle.un_ir.specs.declared.extended.ExtOp.{ExtOp}
 use Rattle.un_model.specs.declared.model.Arc.{Arc}
 use Rattle.un_bound.specs.Arcs.{MayLead, MayWait, LeadsOn, LeadOn}
 use Rattle.un_bound.specs.Timings.{IsTimed, AtEach, IsKept, cycle_in, IsTiming, IsLeastLength}
-use Rattle.un_bound.specs.Lengths.{Choice, AreChosen, KeepFirst, AreEarliest, FromFirst, first_by, first_cycle, end_by, end_after, IsEnd, IsLeastEnd}
+use Rattle.un_bound.specs.Lengths.{Choice, AreChosen, KeepFirst, AreEarliest, FromFirst, first_by, first_cycle, end_by, end_after, IsEnd, IsLeastEnd, AreSmall}
 use Rattle.un_model.specs.Instructions.{instruction_of, is_transfer}
 use Rattle.un_model.specs.Solutions.{IsPlacedAs, IsLast, IsWithin}
 
@@ -243,3 +243,19 @@ plain_length n ops arcs cs end lead h e = record {
     least to ys t =
         let le = e.least to (ends_by (FromFirst ops) n ops arcs lead cs h to ys t (may to ys t)) in
         omega (arith, le)
+
+instr_small : (c : ℕ) (instr : Option Op) → end_by c instr ≤ c + 1
+instr_small c None = omega arith
+instr_small c (Some op) = omega arith
+
+after_small : (c : ℕ) (kind : ExtKind) → end_after c kind ≤ c + 1
+after_small c In = omega arith
+after_small c Out = omega arith
+after_small c (Body o) = instr_small c (instruction_of (Body o) 0)
+after_small c (End term) = instr_small c (instruction_of (End term) 0)
+after_small c (Copy node) = instr_small c (instruction_of (Copy node) 0)
+after_small c Enter = instr_small c (instruction_of Enter 0)
+after_small c Leave = instr_small c (instruction_of Leave 0)
+
+pub small_end : (ops : List ExtOp) (cs : List ℕ) → AreSmall cs → IsEnd (2 + 255 * length ops) cs ops
+small_end ops cs small k op is = omega (arith, small k, within ops k op is, after_small (slice_index cs k) op.kind)

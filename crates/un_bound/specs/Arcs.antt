@@ -1,9 +1,13 @@
 -- Where the arcs of a block lead.
-use Rattle.std.specs.Prelude.{ℕ, ◌≡◌, ◌+◌, ◌-◌, ◌<◌, ◌≤◌, ◌^◌, false, List, All, AllPairs, IfSome, length, slice_get}
+use Rattle.std.specs.Prelude.{ℕ, ◌≡◌, ◌+◌, ◌-◌, ◌<◌, ◌≤◌, ◌^◌, false, List, [], ◌∷◌, All, AllPairs, IfSome, length, slice_get}
 use Rattle.un_ir.specs.declared.extended.ExtKind.{ExtKind}
 use Rattle.un_ir.specs.declared.extended.ExtKind.TheVariants.{In, Out, Body, End, Copy, Enter, Leave}
 use Rattle.un_ir.specs.declared.extended.ExtOp.{ExtOp}
+use Rattle.un_ir.specs.declared.extended.ExtBlock.{ExtBlock}
 use Rattle.un_isa.specs.declared.op.Op.{Op}
+use Rattle.un_model.specs.declared.model.Model.{Model}
+use Rattle.un_model.specs.Extended.{HasSmallCounts}
+use Rattle.un_bound.specs.declared.lengths.TheConstants.{ROOM}
 use Rattle.un_model.specs.declared.model.Arc.{Arc}
 use Rattle.un_model.specs.Instructions.{instruction_of, is_transfer}
 
@@ -32,3 +36,18 @@ IsBefore a b = a.to.0 ≤ b.to.0
 pub record LeadOn (n : ℕ) (ops : List ExtOp) (arcs : List Arc) : Type 0 where
   pub each : All (LeadsOn n ops) arcs
   pub rising : AllPairs IsBefore arcs
+
+-- those of each block, of which the first operation of the first has the number n
+abbrev pub AllLeadOn : ℕ → List ExtBlock → List (List Arc) → Type 0
+AllLeadOn n [] arcs = Unit {0}
+AllLeadOn n (block ∷ blocks) [] = Unit {0}
+AllLeadOn n (block ∷ blocks) (here ∷ arcs) = LeadOn n block.ops here × AllLeadOn (n + length block.ops) blocks arcs
+
+abbrev pub IsShort : ExtBlock → Type 0
+IsShort block = length block.ops ≤ ROOM
+
+-- what bounds rest on: few blocks, which run rarely and have few operations, and arcs that lead on
+pub record IsOrderly (m : Model) : Type 0 where
+  pub counts : HasSmallCounts m.ext
+  pub short : All IsShort m.ext.blocks
+  pub arcs : AllLeadOn 0 m.ext.blocks m.arcs

@@ -5,6 +5,7 @@ use Rattle.un_ir.specs.declared.extended.ExtOp.{ExtOp}
 use Rattle.un_ir.specs.declared.extended.ExtBlock.{ExtBlock}
 use Rattle.un_model.specs.declared.model.Arc.{Arc}
 use Rattle.un_bound.specs.Timings.{IsLeastLength}
+use Rattle.un_model.specs.declared.model.Model.{Model}
 use Rattle.un_model.specs.declared.schedule.Resource.{Resource}
 use Rattle.un_model.specs.declared.schedule.Resource.TheVariants.{Instructions, Memory, Stores, MultiplyOrControl}
 use Rattle.un_model.specs.Instructions.{instruction_of}
@@ -35,3 +36,6 @@ IsPlainSum t n (block ∷ blocks) [] sum = sum ≡ 0
 IsPlainSum t n (block ∷ blocks) (here ∷ arcs) sum =
     (packets : ℕ) × (rest : ℕ) × IsPacketBound t n block here packets × IsPlainSum t (n + length block.ops) blocks arcs rest
     × (sum ≡ block.freq * packets + rest)
+
+abbrev pub IsPlainBound : Model → ℕ → Type 0
+IsPlainBound m sum = IsPlainSum m.ext.table 0 m.ext.blocks m.arcs sum

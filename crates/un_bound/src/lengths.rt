@@ -5,9 +5,9 @@ ghost use Rattle.un_bound.specs.Arcs.{LeadOn};
 ghost use Rattle.un_bound.specs.Timings.{IsLeastLength};
 ghost use Rattle.un_bound.specs.Lengths.{first_cycle, StartAtFirst, FromFirst, AreEarliest, end_after, IsLeastEnd, AreSmall};
 
-use un_model::model::Arc;
 use un_ir::extended::{ExtKind, ExtOp};
 use un_model::instructions::instruction;
+use un_model::model::Arc;
 
 /// The most operations of a block for which there is room.
 pub const ROOM: usize = 1024;
@@ -38,7 +38,8 @@ fn raise(cycles: &mut [u32], first: usize, ops: &[ExtOp], arcs: &[Arc])
     requires room { length ops.now ≤ ROOM }
     requires arcs { LeadOn first ops.now arcs.now }
     requires start { StartAtFirst cycles.old ops.now }
-    ensures { AreEarliest (FromFirst ops.now) (length ops.now) first arcs.now (length arcs.now) cycles.new }
+    ensures earliest { AreEarliest (FromFirst ops.now) (length ops.now) first arcs.now (length arcs.now) cycles.new }
+    ensures small { AreSmall cycles.new }
 {
     for arc in arcs {
         let from = arc.from.0 as usize - first;
@@ -77,7 +78,8 @@ fn length_by(cycles: &mut [u32], first: usize, ops: &[ExtOp], arcs: &[Arc]) -> u
     requires long { length cycles.old ≡ length ops.now }
     requires room { length ops.now ≤ ROOM }
     requires arcs { LeadOn first ops.now arcs.now }
-    ensures { IsLeastLength first ops.now arcs.now result }
+    ensures least { IsLeastLength first ops.now arcs.now result }
+    ensures few { result ≤ 2 + 255 * ROOM }
 {
     start(cycles, ops);
     raise(cycles, first, ops, arcs);
@@ -89,7 +91,8 @@ pub fn least_length(room: &mut [u32], first: usize, ops: &[ExtOp], arcs: &[Arc])
     requires long { length ops.now ≤ length room.old }
     requires room { length ops.now ≤ ROOM }
     requires arcs { LeadOn first ops.now arcs.now }
-    ensures { IsLeastLength first ops.now arcs.now result }
+    ensures least { IsLeastLength first ops.now arcs.now result }
+    ensures few { result ≤ 2 + 255 * ROOM }
 {
     let cycles = &mut room[..ops.len()];
     length_by(cycles, first, ops, arcs)
