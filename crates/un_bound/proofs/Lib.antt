@@ -1,3 +1,4 @@
 pub mod Earliest
+pub mod Nexts
 pub mod Placed
 pub mod Sums

@@ -126,16 +126,16 @@ later end c Leave h = instr_later end c (instruction_of Leave 0) h
 
 -- ---- the operations of a block
 
-within : (ops : List ExtOp) (k : ℕ) (op : ExtOp) → slice_get ops k ≡ Some op → k < length ops
+pub within : (ops : List ExtOp) (k : ℕ) (op : ExtOp) → slice_get ops k ≡ Some op → k < length ops
 within ops k op is = elim (slice_get_cases ops k).1 [ inl there ↦ there.1 | inr past ↦ absurd (cc (past.1, is)) ]
 
-found : (ops : List ExtOp) (k : ℕ) → k < length ops → (op : ExtOp) × (slice_get ops k ≡ Some op)
+pub found : (ops : List ExtOp) (k : ℕ) → k < length ops → (op : ExtOp) × (slice_get ops k ≡ Some op)
 found ops k lt = elim (slice_get_cases ops k).1 [ inl there ↦ (there.0, there.2) | inr past ↦ absurd (omega (arith, lt, past.0)) ]
 
 waits : (op : ExtOp) → op.kind ≡ In → MayWait op.kind → ⊥
 waits op kind h = rw kind at h
 
-from_some : (P : ExtOp → Type 0) (ops : List ExtOp) (k : ℕ) (op : ExtOp) → slice_get ops k ≡ Some op → IfSome (slice_get ops k) P → P op
+pub from_some : (P : ExtOp → Type 0) (ops : List ExtOp) (k : ℕ) (op : ExtOp) → slice_get ops k ≡ Some op → IfSome (slice_get ops k) P → P op
 from_some P ops k op is h = rw is at h
 
 module _ (may : Choice) (n : ℕ) (ops : List ExtOp) (arcs : List Arc) (lead : LeadOn n ops arcs) (cs : List ℕ)

@@ -11,14 +11,16 @@ use Rattle.un_bound.specs.declared.lengths.TheConstants.{ROOM}
 use Rattle.un_model.specs.declared.model.Arc.{Arc}
 use Rattle.un_model.specs.Instructions.{instruction_of, is_transfer}
 
--- nothing waits for a block's end, nor for a transfer, and its start waits for nothing
+-- nothing waits for a block's end, nor for a transfer; its start and optional operations wait for nothing
 abbrev pub MayLead : ExtKind → Type 0
 MayLead Out = ⊥
 MayLead kind = IfSome (instruction_of kind 0) (λ (op : Op). is_transfer op ≡ false)
 
 abbrev pub MayWait : ExtKind → Type 0
-MayWait In = ⊥
-MayWait kind = Unit {0}
+MayWait Out = Unit {0}
+MayWait (Body o) = Unit {0}
+MayWait (End term) = Unit {0}
+MayWait kind = ⊥
 
 -- an arc from an operation to a later one of a block of which the first operation has the number n
 pub record LeadsOn (n : ℕ) (ops : List ExtOp) (arc : Arc) : Type 0 where
@@ -46,8 +48,13 @@ AllLeadOn n (block ∷ blocks) (here ∷ arcs) = LeadOn n block.ops here × AllL
 abbrev pub IsShort : ExtBlock → Type 0
 IsShort block = length block.ops ≤ ROOM
 
+-- no horizon is so short that each operation has no cycle of its own
+abbrev pub IsLong : ExtBlock → Type 0
+IsLong block = length block.ops ≤ block.horizon
+
 -- what bounds rest on: few blocks, which run rarely and have few operations, and arcs that lead on
 pub record IsOrderly (m : Model) : Type 0 where
   pub counts : HasSmallCounts m.ext
   pub short : All IsShort m.ext.blocks
+  pub long : All IsLong m.ext.blocks
   pub arcs : AllLeadOn 0 m.ext.blocks m.arcs

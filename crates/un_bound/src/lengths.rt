@@ -13,7 +13,7 @@ use un_model::model::Arc;
 pub const ROOM: usize = 1024;
 
 /// The first cycle of an operation that every solution issues.
-fn first_cycle(kind: &ExtKind) -> u32
+pub(crate) fn first_cycle(kind: &ExtKind) -> u32
     ensures { result ≡ first_cycle kind.now }
 {
     match instruction(kind, 0) {
@@ -62,7 +62,7 @@ fn end_after(cycle: u32, kind: &ExtKind) -> u64
 }
 
 /// The least end of a block whose operations have these cycles.
-fn least_end(cycles: &[u32], ops: &[ExtOp]) -> u64
+pub(crate) fn least_end(cycles: &[u32], ops: &[ExtOp]) -> u64
     requires { length cycles.now ≡ length ops.now }
     ensures { IsLeastEnd result cycles.now ops.now }
 {

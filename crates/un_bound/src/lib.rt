@@ -3,3 +3,5 @@
 
 pub mod lengths;
 pub mod plain;
+pub mod relax;
+mod settle;
