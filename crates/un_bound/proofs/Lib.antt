@@ -1,4 +1,6 @@
 pub mod Earliest
+pub mod Leasts
 pub mod Nexts
 pub mod Placed
+pub mod Stops
 pub mod Sums

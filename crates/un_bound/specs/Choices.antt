@@ -87,14 +87,23 @@ pub record MayStop (s : Sets) (end : VarId) (ops : List ExtOp) (vars : List OpVa
   pub fits : TransfersFit s ops vars n
 
 -- the least end of a block in these sets, or that it has none
-abbrev pub IsLeastStop : Sets → ℕ → ExtBlock → BlockVars → List Arc → Option ℕ → Type 0
-IsLeastStop s n block vars arcs None = (times : Times) → IsRelaxed s n block vars arcs times → ⊥
-IsLeastStop s n block vars arcs (Some end) = ((times : Times) × IsRelaxed s n block vars arcs times × (times.end ≡ end))
-    × ((times : Times) → IsRelaxed s n block vars arcs times → end ≤ times.end)
+abbrev pub IsLeastStop : Sets → ℕ → VarId → List ExtOp → List OpVars → List Arc → Option ℕ → Type 0
+IsLeastStop s n end ops vars arcs None = (times : Times) → IsRelaxed s n end ops vars arcs times → ⊥
+IsLeastStop s n end ops vars arcs (Some stop) = ((times : Times) × IsRelaxed s n end ops vars arcs times × (times.end ≡ stop))
+    × ((times : Times) → IsRelaxed s n end ops vars arcs times → stop ≤ times.end)
 
 -- the sum over the blocks of frequency times the cycles before their least ends
 abbrev pub IsLeastSum : Sets → ℕ → List ExtBlock → List BlockVars → List (List Arc) → ℕ → Type 0
 IsLeastSum s n (block ∷ blocks) (vars ∷ more) (here ∷ arcs) sum =
-    (end : ℕ) × (rest : ℕ) × IsLeastStop s n block vars here (Some end) × IsLeastSum s (n + length block.ops) blocks more arcs rest
-    × (sum ≡ block.freq * (end - 1) + rest)
+    (stop : ℕ) × (rest : ℕ) × IsLeastStop s n vars.end block.ops vars.ops here (Some stop)
+    × IsLeastSum s (n + length block.ops) blocks more arcs rest × (sum ≡ block.freq * (stop - 1) + rest)
 IsLeastSum s n blocks vars arcs sum = sum ≡ 0
+
+-- the store has the variables of each block
+abbrev pub AllKnown : ℕ → List ExtBlock → List BlockVars → Type 0
+AllKnown count (block ∷ blocks) (vars ∷ more) = AreKnown count vars.end block.ops vars.ops × AllKnown count blocks more
+AllKnown count blocks vars = Unit {0}
+
+-- there is a place for each operation of a block
+abbrev pub HasPlaces : ℕ → ExtBlock → Type 0
+HasPlaces room block = length block.ops ≤ room

@@ -26,18 +26,19 @@ IsValue s v n = has (set_at s v.0) n ≡ true
 abbrev pub InOwnSet : Sets → ℕ → ExtOp → OpVars → Type 0
 InOwnSet s cycle op vars = is_mandatory op.kind ≡ true → IfSome vars.cycle (λ (v : VarId). IsValue s v cycle)
 
--- a timing of a block in these sets
-pub record IsRelaxed (s : Sets) (n : ℕ) (block : ExtBlock) (vars : BlockVars) (arcs : List Arc) (times : Times) : Type 0 where
-  pub timing : IsTiming n block.ops arcs times.end times.cycles
-  pub end : IsValue s vars.end times.end
-  pub cycles : (k : ℕ) (op : ExtOp) (v : OpVars) → slice_get block.ops k ≡ Some op → slice_get vars.ops k ≡ Some v
+-- a timing of a block in these sets, of which the first operation has the number n
+pub record IsRelaxed (s : Sets) (n : ℕ) (end : VarId) (ops : List ExtOp) (vars : List OpVars) (arcs : List Arc) (times : Times)
+    : Type 0 where
+  pub timing : IsTiming n ops arcs times.end times.cycles
+  pub stop : IsValue s end times.end
+  pub cycles : (k : ℕ) (op : ExtOp) (v : OpVars) → slice_get ops k ≡ Some op → slice_get vars k ≡ Some v
       → InOwnSet s (slice_index times.cycles k) op v
 
 -- one of each block
 abbrev pub AreRelaxed : Sets → ℕ → List ExtBlock → List BlockVars → List (List Arc) → List Times → Type 0
 AreRelaxed s n (block ∷ blocks) (vars ∷ more) (here ∷ arcs) [] = ⊥
 AreRelaxed s n (block ∷ blocks) (vars ∷ more) (here ∷ arcs) (t ∷ times) =
-    IsRelaxed s n block vars here t × AreRelaxed s (n + length block.ops) blocks more arcs times
+    IsRelaxed s n vars.end block.ops vars.ops here t × AreRelaxed s (n + length block.ops) blocks more arcs times
 AreRelaxed s n blocks vars arcs times = times ≡ []
 
 -- frequency times the cycles before the end, over all blocks

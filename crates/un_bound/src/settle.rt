@@ -43,6 +43,7 @@ fn own_var(end: VarId, kind: &ExtKind, vars: &OpVars) -> Option<VarId>
 }
 
 /// A block in a box: its operations, of which the first has the number `first`, with their variables.
+#[derive(Clone, Copy)]
 pub(crate) struct Boxed<'a> {
     pub store: &'a Store,
     pub first: usize,
@@ -175,4 +176,47 @@ fn find_end(b: &Boxed<'_>, low: u64) -> Option<u32>
         at = u64::from(end) + 1;
     }
     None
+}
+
+/// The least end of a block in a box, by way of `cycles`, which has a place for each operation; None where it has none.
+fn least_stop_by(b: &Boxed<'_>, cycles: &mut [u32], arcs: &[Arc]) -> Option<u32>
+    requires live { NoneEmpty b.now.store.now.sets }
+    requires known { AreKnown (length b.now.store.now.sets) b.now.end b.now.ops.now b.now.vars.now }
+    requires long { length cycles.old ≡ length b.now.ops.now }
+    requires arcs { LeadOn b.now.first b.now.ops.now arcs.now }
+    ensures { IsLeastStop b.now.store.now.sets b.now.first b.now.end b.now.ops.now b.now.vars.now arcs.now result }
+{
+    if !start(b, cycles) {
+        return None;
+    }
+    if !raise(b, cycles, arcs) {
+        return None;
+    }
+    find_end(b, least_end(cycles, b.ops))
+}
+
+/// The least end of a block in a box, by way of `room`, which has a place for each operation; None where it has none.
+pub(crate) fn least_stop(
+    store: &Store,
+    room: &mut [u32],
+    first: usize,
+    block: &ExtBlock,
+    vars: &BlockVars,
+    arcs: &[Arc],
+) -> Option<u32>
+    requires live { NoneEmpty store.now.sets }
+    requires known { AreKnown (length store.now.sets) vars.now.end block.now.ops vars.now.ops }
+    requires long { length block.now.ops ≤ length room.old }
+    requires arcs { LeadOn first block.now.ops arcs.now }
+    ensures { IsLeastStop store.now.sets first vars.now.end block.now.ops vars.now.ops arcs.now result }
+{
+    let b = Boxed {
+        store,
+        first,
+        end: vars.end,
+        ops: block.ops.as_slice(),
+        vars: vars.ops.as_slice(),
+    };
+    let cycles = &mut room[..block.ops.len()];
+    least_stop_by(&b, cycles, arcs)
 }
