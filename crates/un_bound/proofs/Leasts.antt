@@ -110,5 +110,5 @@ least_all s n k blocks vars arcs Whole sum h le = subst Whole e (h 0 (by (cases_
     by (inl a) (inl b) = let c : length arcs ≤ k = omega (arith, a, b, le) in
         rw (drop_past k arcs c) (nothing s n (drop k blocks) (drop k vars))
 
-pub few_cycles : (freq stop : ℕ) → freq ≤ 1000000 → stop < 4294967296 → freq * (stop - 1) ≤ 4294967296000000
-few_cycles freq stop f p = omega (arith, mul-le freq (stop - 1) 1000000 4294967296 f (omega (arith, p)))
+pub few_cycles : (freq wait : ℕ) → freq ≤ 1000000 → wait < 4294967296 → freq * wait ≤ 4294967296000000
+few_cycles freq wait f p = omega (arith, mul-le freq wait 1000000 4294967296 f (omega (arith, p)))

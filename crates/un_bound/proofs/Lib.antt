@@ -1,4 +1,5 @@
 pub mod Earliest
+pub mod Knowns
 pub mod Leasts
 pub mod Nexts
 pub mod Placed
