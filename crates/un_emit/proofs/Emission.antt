@@ -13,11 +13,11 @@ use Rattle.un_model.specs.Variables.{model_of, block_vars, var_at, ops_count}
 use Rattle.un_packet.specs.Run.{NeverWaits, first_state, enter as enter_packets}
 use Rattle.un_simulation.specs.Simulation.{CanStart}
 use Rattle.un_emit.specs.Emitted.{code_block, code_blocks}
-use Rattle.un_emit.proofs.Lists.{get_below}
+use Rattle.un_model.specs.Members.{get_below}
 use Rattle.un_emit.proofs.Cycles.{packets_from}
-use Rattle.un_emit.proofs.Placed.{block_placed}
+use Rattle.un_model.specs.Placed.{block_placed}
 use Rattle.un_emit.proofs.Jobs.{jobs_of}
-use Rattle.un_emit.proofs.Readings.{Solved}
+use Rattle.un_model.specs.Readings.{Solved}
 use Rattle.un_emit.proofs.Codes.{region_vars, packets_same, block_there, label_leads_to}
 use Rattle.un_emit.proofs.Starts.{base, base_even, base_top, base_room, at_first}
 use Rattle.un_emit.proofs.Runs.{region, IsCodeOf, RunsAlike, known_all}

@@ -1,6 +1,6 @@
 -- The extended function that is made of a function, for a table that the compiler works for: it is one of that source, and keeps
 -- what extended functions keep.
-use Rattle.std.proofs.Common.{◌≡◌, true, List, [], length, map, refl, sym, subst}
+use Rattle.std.proofs.Common.{◌≡◌, List, refl, sym, subst}
 use Rattle.un_base.specs.declared.ids.NameId.{NameId}
 use Rattle.un_isa.specs.Fit.{IsFit}
 use Rattle.un_isa.specs.declared.table.Table.{Table}

@@ -221,7 +221,8 @@ pub model_made : (e ext : Ext) (o : Options) (ds all : List Domain) (temps : Lis
     (arcs : List (List Arc))
     → ds ≡ blocks_domains e o own_horizon true e.blocks → all ≡ ds ++ Range 0 1 ∷ [] → temps ≡ blocks_temps 0 0 e.blocks
     → blocks ≡ blocks_vars 0 e.blocks → flag ≡ var_at (length ds) → arcs ≡ blocks_arcs e.table temps 0 e.blocks → ext ≡ e
-    → (let m : Model = record { ext = ext; options = o; domains = all; temps = temps; blocks = blocks; flag = flag; arcs = arcs } in m ≡ model_of e o)
+    → (let m : Model = record
+    { ext = ext; options = o; domains = all; temps = temps; blocks = blocks; flag = flag; arcs = arcs } in m ≡ model_of e o)
 model_made e ext o ds all temps blocks flag arcs hd ha ht hb hf hr hx =
     let l : length ds ≡ blocks_count e.blocks = ap length hd ∙ length-blocks_domains e o true e.blocks in
     rw (hx, hb, ha, hf, l, hr, hd, ht) refl

@@ -1,6 +1,6 @@
 -- The precedences among the operations that every solution issues: a block's start and its end, the operations of the source
 -- and the terminator. Copies only lengthen the way from a definer to a reader.
-use Rattle.std.specs.Prelude.{ℕ, ◌≡◌, ◌+◌, ◌==◌, ◌&&◌, Bool, true, false, if◌then◌else◌, List, [], ◌∷◌, Option, Some, None, map, max, take, length, slice_get}
+use Rattle.std.specs.Prelude.{ℕ, ◌≡◌, ◌+◌, ◌<◌, ◌≤◌, ◌⊎◌, ◌==◌, ◌&&◌, Bool, true, false, if◌then◌else◌, List, [], ◌∷◌, Option, Some, None, map, max, take, length, slice_get}
 use Rattle.std.specs.List.{list_any}
 use Rattle.std.specs.Option.{option_to_list, option_map_or}
 use Rattle.un_base.specs.declared.ids.TempId.{TempId}
@@ -92,3 +92,28 @@ block_arcs t temps n ops = joined (places_from (arcs_at t temps n ops) 0 ops)
 abbrev pub blocks_arcs : Table → List TempVars → ℕ → List ExtBlock → List (List Arc)
 blocks_arcs t temps n [] = []
 blocks_arcs t temps n (block ∷ blocks) = block_arcs t temps n block.ops ∷ blocks_arcs t temps (n + length block.ops) blocks
+
+-- ---- what the arcs of a block are
+
+-- some precedence asks for the gap, and none for a larger one
+pub record IsLargest (t : Table) (reads : Bool) (from to : ExtOp) (gap : ℕ) : Type 0 where
+  pub asked : NeedsGap t reads from to gap
+  pub most : (g : ℕ) → NeedsGap t reads from to g → g ≤ gap
+
+-- An arc between two mandatory operations of a block, of which the first operation has the number n: the precedences between the
+-- two ask for its gap, and for no larger one.
+pub record IsArcOf (t : Table) (temps : List TempVars) (n : ℕ) (ops : List ExtOp) (a : Arc) : Type 0 where
+  pub earlier : ℕ
+  pub later : ℕ
+  pub from : ExtOp
+  pub to : ExtOp
+  pub order : earlier < later
+  pub from_at : slice_get ops earlier ≡ Some from
+  pub to_at : slice_get ops later ≡ Some to
+  pub numbers : (a.from.0 ≡ n + earlier) × (a.to.0 ≡ n + later)
+  pub mandatory : (is_mandatory from.kind ≡ true) × (is_mandatory to.kind ≡ true)
+  pub gap : IsLargest t (reads_from temps a.from.0 to) from to a.gap
+
+-- by rising `to` and then rising `from`
+abbrev pub RisesTo : Arc → Arc → Type 0
+RisesTo a b = (a.to.0 < b.to.0) ⊎ ((a.to.0 ≡ b.to.0) × (a.from.0 < b.from.0))

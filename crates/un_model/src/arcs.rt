@@ -176,7 +176,11 @@ fn block_arcs(
 }
 
 /// The arcs of each block.
-pub(crate) fn arcs(alloc: Global, e: &Ext, temps: &[TempVars]) -> Result<Items<Items<Arc>>, NoMemory>
+pub(crate) fn arcs(
+    alloc: Global,
+    e: &Ext,
+    temps: &[TempVars],
+) -> Result<Items<Items<Arc>>, NoMemory>
     ensures { IfOk result (λ arcs. arcs ≡ blocks_arcs e.now.table temps.now 0 e.now.blocks) }
 {
     let mut arcs = Items::new(alloc);

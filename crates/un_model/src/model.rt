@@ -49,7 +49,8 @@ pub struct Arc {
     pub gap: u32,
 }
 
-/// The variables of an extended function under some options, and the arcs of each block. OpIds and TempIds are numbered over the whole function.
+/// The variables of an extended function under some options, and the arcs of each block. OpIds and TempIds are numbered over
+/// the whole function.
 #[derive(PartialEq, Eq, Drop)]
 pub struct Model {
     pub ext: Ext,

@@ -10,5 +10,5 @@ invariant-loop-j l = record {
   length : length l.marks.items ≡ l.count;
   marked : (k : ℕ) (d : Bool) → k < l.count
       → (get_or l.marks.items k d || list_any (λ (x : Operand). defines l.temps (l.first + k) (value_read x)) (drop l.j l.op.operands))
-          ≡ reads_from l.temps (l.first + k) l.op;
+      ≡ reads_from l.temps (l.first + k) l.op;
 }

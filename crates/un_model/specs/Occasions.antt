@@ -19,9 +19,9 @@ use Rattle.un_model.specs.Pairs.{places_from, joined}
 use Rattle.un_model.specs.Schedules.{issues_of, reads_of, read_of, range_by, range_of, ranges_of, last_read, cycle_for, schedule_of}
 use Rattle.un_model.specs.Solutions.{IsSchedule, IsLive, InSpace, ReadsInSpace, LeavesGap, latency_gap, HasHome, ReadsHome, IsGivenInSpace}
 use Rattle.un_model.specs.Variables.{model_of, var_at, register_place}
-use Rattle.un_emit.proofs.Lists.{Each, Pairwise, Member, each_member, each_all, each_of_map, pairwise_all, pairwise_of_map, member_map, member_append_left, member_append_right, place_of, member_at, slice_get-map, get_below, index_get, length_get}
-use Rattle.un_emit.proofs.Placed.{Placed, blocks_placed, vars_of, issue_at, reads_at, Spot, spot, spots_of, all_spots, temp_vars, issues_are, reads_are, temps_are, results_are, all_count, at_number}
-use Rattle.un_emit.proofs.Domains.{get_places}
+use Rattle.un_model.specs.Members.{Each, Pairwise, Member, each_member, each_all, each_of_map, pairwise_all, pairwise_of_map, member_map, member_append_left, member_append_right, place_of, member_at, slice_get-map, get_below, index_get, length_get}
+use Rattle.un_model.specs.Placed.{Placed, blocks_placed, vars_of, issue_at, reads_at, Spot, spot, spots_of, all_spots, temp_vars, issues_are, reads_are, temps_are, results_are, all_count, at_number}
+use Rattle.un_model.specs.InDomains.{get_places}
 
 -- ---- joined lists
 
@@ -105,7 +105,7 @@ module _ (e : Ext) (o : Options) (values : List ℕ) where
     last = max (issue_at values s.definer).cycle (last_read the_reads s.temp.0 - 1);
   }
 
-  issue_here : (p : Placed) → Member p all → slice_get (issues_of (model_of e o) values) p.number ≡ Some (issue_at values p)
+  pub issue_here : (p : Placed) → Member p all → slice_get (issues_of (model_of e o) values) p.number ≡ Some (issue_at values p)
   issue_here p m =
       ap (λ is. slice_get is p.number) (issues_are values 0 0 0 e.blocks)
       ∙ slice_get-map (issue_at values) all p.number ∙ ap (option_map (issue_at values)) (at_number 0 all p p.number (all_count 0 0 0 e.blocks) m (omega arith))
@@ -118,7 +118,7 @@ module _ (e : Ext) (o : Options) (values : List ℕ) where
       subst (Member r) (sym (reads_are values 0 0 0 e.blocks)) (member_joined (map (reads_at values) all) (reads_at values p) r (member_map (reads_at values) all p m) here)
 
   module _ (numbered : all_results e.blocks ≡ map temp (range_with_len 0 (length (all_results e.blocks)))) where
-    spot_temp : (k : ℕ) (s : Spot) → slice_get spots k ≡ Some s → s.temp ≡ temp k
+    pub spot_temp : (k : ℕ) (s : Spot) → slice_get spots k ≡ Some s → s.temp ≡ temp k
     spot_temp k s q =
         let f : slice_get (all_results e.blocks) k ≡ Some s.temp = ap (λ xs. slice_get xs k) (sym (results_are 0 0 0 e.blocks)) ∙ slice_get-map (λ (s : Spot). s.temp) spots k ∙ ap (option_map (λ (s : Spot). s.temp)) q in
         let lt = length_get (all_results e.blocks) k s.temp f in
@@ -138,7 +138,7 @@ module _ (e : Ext) (o : Options) (values : List ℕ) where
     pub one_spot : (s u : Spot) → Member s spots → Member u spots → s.temp.0 ≡ u.temp.0 → s ≡ u
     one_spot s u m n q = let k : Some s ≡ Some u = sym (spot_here s m) ∙ ap (slice_get spots) q ∙ spot_here u n in cc k
 
-    definer_in : (s : Spot) → Member s spots → Member s.definer all
+    pub definer_in : (s : Spot) → Member s spots → Member s.definer all
     definer_in s m =
         let r = joined_member spots_of all s m in
         let q = places_member (spot r.0) 0 r.0.op.results s r.2 in
