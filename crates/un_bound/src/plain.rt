@@ -1,7 +1,10 @@
 //! The bound that knows no domain.
 
-ghost use Rattle.std.specs.Prelude.{◌≡◌, ◌+◌, ◌*◌, ◌≤◌, length};
-ghost use Rattle.un_bound.specs.Arcs.{LeadOn, IsOrderly};
+ghost use Rattle.std.specs.Prelude.{◌≡◌, ◌*◌, ◌≤◌, ◌↔◌, All, IsTrue, length};
+ghost use Rattle.un_ir.specs.Extended.{IsExtended};
+ghost use Rattle.un_isa.specs.Fit.{IsFit};
+ghost use Rattle.un_model.specs.Variables.{IsModel};
+ghost use Rattle.un_bound.specs.Arcs.{LeadOn, IsShort, IsOrderly};
 ghost use Rattle.un_bound.specs.Plain.{needed, packets_for, packets_of, IsPacketBound, IsPlainBound};
 
 use crate::lengths::{ROOM, least_length};
@@ -85,9 +88,19 @@ fn sum_of(m: &Model, room: &mut [u32]) -> u64
     sum
 }
 
+/// Whether each block of a model has few enough operations for `plain_bound`.
+pub fn is_short(m: &Model) -> bool
+    ensures { IsTrue result ↔ All IsShort m.now.ext.blocks }
+{
+    m.ext.blocks.iter().all(|block| block.ops.len() <= ROOM)
+}
+
 /// What every solution costs at least, by precedences and counts of resources alone. It takes no memory.
 pub fn plain_bound(m: &Model) -> u64
-    requires { IsOrderly m.now }
+    requires model { IsModel m.now }
+    requires extended { IsExtended m.now.ext }
+    requires fit { IsFit m.now.ext.table }
+    requires short { All IsShort m.now.ext.blocks }
     ensures { IsPlainBound m.now result }
 {
     let mut room = [0; ROOM];

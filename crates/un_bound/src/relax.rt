@@ -3,9 +3,11 @@
 ghost use Rattle.std.specs.Prelude.{◌≡◌, ◌+◌, ◌≤◌, All, length};
 ghost use Rattle.un_domains.specs.Sets.{NoneEmpty};
 ghost use Rattle.un_prop.specs.Pruning.{HasRoom};
-ghost use Rattle.un_bound.specs.Arcs.{IsOrderly};
+ghost use Rattle.un_bound.specs.Arcs.{IsShort, IsOrderly};
 ghost use Rattle.un_bound.specs.Choices.{AllKnown, HasPlaces};
 ghost use Rattle.un_bound.specs.Relaxations.{IsRelaxation};
+ghost use Rattle.un_ir.specs.Extended.{IsExtended};
+ghost use Rattle.un_isa.specs.Fit.{IsFit};
 ghost use Rattle.un_model.specs.Variables.{IsModel};
 
 use crate::settle::least_stop;
@@ -48,7 +50,9 @@ fn relax_by(m: &Model, store: &Store, room: &mut [u32]) -> RelaxAnswer
 /// takes no memory.
 pub fn relax_bound(m: &Model, store: &Store, scratch: &mut Scratch) -> RelaxAnswer
     requires model { IsModel m.now }
-    requires orderly { IsOrderly m.now }
+    requires extended { IsExtended m.now.ext }
+    requires fit { IsFit m.now.ext.table }
+    requires short { All IsShort m.now.ext.blocks }
     requires known { length m.now.domains ≤ length store.now.sets }
     requires live { NoneEmpty store.now.sets }
     requires room { All (λ block. HasRoom (length store.now.sets) (block.horizon + 1) scratch.old) m.now.ext.blocks }
