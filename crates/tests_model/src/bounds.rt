@@ -15,6 +15,7 @@ use un_bound::plain::{is_short, plain_bound};
 use un_bound::relax::{RelaxAnswer, relax_bound};
 use un_domains::domain::Domain;
 use un_domains::store::Store;
+use un_ir::extended::ExtBlock;
 use un_model::model::Model;
 use un_problem::problem::{default_options, model};
 use un_prop::propagator::Scratch;
@@ -174,13 +175,13 @@ fn store_of(alloc: Global, domains: Vec<Domain>) -> Result<Store, NoMemory>
     Ok(store)
 }
 
-/// The largest horizon.
-fn horizon(m: &Model) -> u32
-    ensures { All (λ block. block.horizon ≤ result) m.now.ext.blocks }
+/// The largest horizon of blocks.
+fn horizon(blocks: &[ExtBlock]) -> u32
+    ensures { All (λ block. block.horizon ≤ result) blocks.now }
 {
     let mut most = 0;
-    for block in &m.ext.blocks {
-        most = most.max(block.horizon);
+    for k in 0..blocks.len() {
+        most = most.max(blocks[k].horizon);
     }
     most
 }
@@ -196,7 +197,7 @@ fn relaxed(alloc: Global, m: &Model, v: u32, most: u32) -> Result<Option<RelaxAn
     }
     let domains = time_domains(alloc, m.domains.as_slice(), v, most)?;
     let store = store_of(alloc, domains)?;
-    let mut scratch = Scratch::new(alloc, store.len(), horizon(m))?;
+    let mut scratch = Scratch::new(alloc, store.len(), horizon(m.ext.blocks.as_slice()))?;
     Ok(Some(relax_bound(m, &store, &mut scratch)))
 }
 

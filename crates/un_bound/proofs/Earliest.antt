@@ -1,15 +1,15 @@
 -- The least cycles that keep some arcs, one arc after another.
-use Rattle.std.proofs.Common.{◌≡◌, ◌≢◌, ℕ, ◌+◌, ◌-◌, ◌*◌, ◌^◌, ◌<◌, ◌≤◌, ◌⊎◌, inl, inr, zero, suc, max, List, [], ◌∷◌, Option, length, get_or, set, Some, None, refl, sym, ap, ◌∙◌, subst, arith, get_or-set_same, get_or-set_other}
-use Rattle.std.specs.Prelude.{slice_get, slice_index, slice_index_or, slice_set, All}
+use Rattle.std.proofs.Common.{◌≡◌, ◌≢◌, ℕ, ◌+◌, ◌-◌, ◌*◌, ◌<◌, ◌≤◌, ◌⊎◌, inl, inr, zero, suc, max, List, [], ◌∷◌, Option, length, get_or, Some, None, refl, sym, ap, ◌∙◌, subst, arith, get_or-set_same, get_or-set_other}
+use Rattle.std.specs.Prelude.{slice_index, slice_set}
 use Rattle.std.proofs.lemmas.List.{length-set, set_past}
 use Rattle.std.proofs.lemmas.Bool.{cases_lt}
 use Rattle.std.proofs.lemmas.Option.{slice_get_cases}
 use Rattle.un_domains.specs.SetLaws.{same_or_not}
 use Rattle.un_ir.specs.declared.extended.ExtOp.{ExtOp}
 use Rattle.un_model.specs.declared.model.Arc.{Arc}
-use Rattle.un_bound.specs.Arcs.{LeadsOn, LeadOn, IsBefore}
+use Rattle.un_bound.specs.Arcs.{LeadsOn, LeadOn}
 use Rattle.un_bound.specs.Timings.{IsKept, cycle_in}
-use Rattle.un_bound.specs.Lengths.{Choice, AreChosen, KeepFirst, AreEarliest, AreSmall, FromFirst, StartAtFirst, first_by, first_cycle}
+use Rattle.un_bound.specs.Lengths.{Choice, AreChosen, KeepFirst, AreEarliest, AreSmall, FromFirst, StartAtFirst, first_by}
 use Rattle.un_model.specs.Instructions.{instruction_of}
 use Rattle.un_isa.specs.declared.op.Op.{Op}
 

@@ -1,5 +1,5 @@
 -- The least cost of a member, block by block.
-use Rattle.std.proofs.Common.{◌≡◌, ℕ, ◌+◌, ◌-◌, ◌*◌, ◌≤◌, ◌<◌, ◌⊎◌, inl, inr, List, [], ◌∷◌, length, drop, min, Some, None, refl, sym, ap, ◌∙◌, subst, arith}
+use Rattle.std.proofs.Common.{◌≡◌, ℕ, ◌+◌, ◌-◌, ◌*◌, ◌≤◌, ◌<◌, ◌⊎◌, inl, inr, List, [], ◌∷◌, length, drop, min, Some, refl, sym, subst, arith}
 use Rattle.std.specs.Prelude.{slice_get}
 use Rattle.std.proofs.Math.Nat.{mul-le-mul_left}
 use Rattle.std.proofs.lemmas.Nat.{mul-le}
@@ -64,7 +64,7 @@ module _ (s : Sets) (n k : ℕ) (blocks : List ExtBlock) (vars : List BlockVars)
       → Whole ((sum + block.freq * (stop - 1)) + rest)
   least_more Whole sum stop h sofar rest more =
       let now : IsLeastSum s n (drop k blocks) (drop k vars) (drop k arcs) (block.freq * (stop - 1) + rest) =
-          rw (drop_at blocks k block p, drop_at vars k v q, drop_at arcs k here r) (stop, rest, h, more, refl) in
+      rw (drop_at blocks k block p, drop_at vars k v q, drop_at arcs k here r) (stop, rest, h, more, refl) in
       let e : sum + (block.freq * (stop - 1) + rest) ≡ (sum + block.freq * (stop - 1)) + rest = omega arith in
       subst Whole e (sofar (block.freq * (stop - 1) + rest) now)
 

@@ -1,16 +1,15 @@
 -- The arcs of the model of an extended function lead on.
-use Rattle.std.proofs.Common.{◌≡◌, ℕ, zero, suc, ◌+◌, ◌-◌, ◌*◌, ◌^◌, ◌≤◌, ◌<◌, ◌⊎◌, inl, inr, Bool, true, false, List, [], ◌∷◌, ◌++◌, length, get_or, take, Option, Some, None, refl, sym, ap, ◌∙◌, subst, arith}
-use Rattle.std.specs.Prelude.{◌==◌, ◌||◌, if◌then◌else◌, slice_get, IfSome, All, AllPairs, Contains}
+use Rattle.std.proofs.Common.{◌≡◌, ℕ, zero, suc, ◌+◌, ◌-◌, ◌^◌, ◌≤◌, ◌<◌, ◌⊎◌, inl, inr, Bool, true, false, List, [], ◌∷◌, ◌++◌, length, get_or, take, Option, Some, None, refl, sym, ap, ◌∙◌, subst, arith}
+use Rattle.std.specs.Prelude.{slice_get, IfSome, All}
 use Rattle.std.specs.List.{list_any, AllZip}
-use Rattle.std.specs.Option.{option_map_or}
-use Rattle.std.proofs.lemmas.Bool.{cases_lt, eqb-true}
+use Rattle.std.proofs.lemmas.Bool.{eqb-true}
 use Rattle.std.proofs.lemmas.List.Elements.{Contains-get_or}
 use Rattle.std.proofs.lemmas.Option.{slice_get_within}
 use Rattle.un_base.specs.declared.ids.TempId.{TempId}
 use Rattle.un_isa.specs.Facts.{is_source}
 use Rattle.un_isa.specs.Fit.{IsFit}
 use Rattle.un_isa.specs.declared.op.Op.{Op}
-use Rattle.un_isa.specs.declared.op.Op.TheVariants.{Imm, Mov, Add, Sub, And, Or, Xor, Addi, Andi, Ori, Mux, CmpEq, CmpGt, CmpGtu, CmpEqi, CmpGti, Mpyi, Asl, Asr, Lsr, Load, Store, Call, Jump, JumpIf, JumpIfNot, Jumpr, Spill, Reload, P2R, R2P, Enter as EnterOp, Leave as LeaveOp, Nop}
+use Rattle.un_isa.specs.declared.op.Op.TheVariants.{Load, Store, Call, Jump, JumpIf, JumpIfNot, Jumpr}
 use Rattle.un_isa.specs.declared.table.Table.{Table}
 use Rattle.un_ir.specs.declared.extended.ExtKind.{ExtKind}
 use Rattle.un_ir.specs.declared.extended.ExtKind.TheVariants.{In, Out, Body, End, Copy, Enter, Leave}
@@ -18,19 +17,18 @@ use Rattle.un_ir.specs.declared.extended.Operand.{Operand}
 use Rattle.un_ir.specs.declared.extended.ExtOp.{ExtOp}
 use Rattle.un_ir.specs.declared.extended.ExtBlock.{ExtBlock}
 use Rattle.un_ir.specs.declared.extended.Ext.{Ext}
-use Rattle.un_ir.specs.Extended.{IsExtended, IsGoodExtBlock, IsGoodExtOp, IsGoodOperand, IsGoodKind, IsSourceOp, Want, wants_of, result_count, results_of}
+use Rattle.un_ir.specs.Extended.{IsExtended, IsGoodExtBlock, IsGoodOperand, IsGoodKind, Want, wants_of, result_count, results_of}
 use Rattle.un_model.specs.declared.model.Arc.{Arc}
 use Rattle.un_model.specs.declared.model.Model.{Model}
 use Rattle.un_model.specs.declared.model.TempVars.{TempVars}
-use Rattle.un_model.specs.Arcs.{is_mandatory, own_instr, value_read, defines, reads_from, data_gap, memory_gap, NeedsGap, block_arcs, blocks_arcs, IsLargest, IsArcOf, RisesTo}
+use Rattle.un_model.specs.Arcs.{is_mandatory, own_instr, value_read, defines, reads_from, data_gap, NeedsGap, block_arcs, blocks_arcs, IsLargest, IsArcOf, RisesTo}
 use Rattle.un_model.specs.Arcs.NeedsGap.{ByData, ByMemory}
 use Rattle.un_model.specs.ArcLaws.{arc_told, arcs_rise}
-use Rattle.un_model.specs.Extended.{IsRarelyRun, HasSmallCounts}
 use Rattle.un_model.specs.Instructions.{instruction_of, is_transfer, latency_by}
 use Rattle.un_model.specs.Pairs.{places_from}
 use Rattle.un_model.specs.Solutions.{memory_distance, after_load, after_write}
 use Rattle.un_model.specs.Variables.{IsModel, arcs_of, register_place, var_count, block_count, op_temps, ops_temps, blocks_temps, temp_of}
-use Rattle.un_bound.specs.Arcs.{MayLead, MayWait, LeadsOn, LeadOn, IsBefore, AllLeadOn, IsShort, IsLong, IsOrderly}
+use Rattle.un_bound.specs.Arcs.{MayLead, MayWait, LeadsOn, LeadOn, IsBefore, AllLeadOn, IsShort, IsOrderly}
 
 -- ---- gaps
 
@@ -217,7 +215,7 @@ module _ (e : Ext) (fit : IsFit e.table) (block : ExtBlock) (good : IsGoodExtBlo
       let made = blocks_defined 0 0 e.blocks t.0 t.1 t.2 in
       let place : made.place ≡ n + k = omega (arith, made.number, t.3) in
       let found : slice_get (all_ops e.blocks) (n + k) ≡ Some made.op =
-          subst (λ (u : ℕ). slice_get (all_ops e.blocks) u ≡ Some made.op) place made.at in
+      subst (λ (u : ℕ). slice_get (all_ops e.blocks) u ≡ Some made.op) place made.at in
       let same : made.op ≡ from = cc (found, numbered k from at) in
       let some : 0 < length from.results = subst (λ (o : ExtOp). 0 < length o.results) same made.some in
       let g = good.ops k from at in
@@ -241,7 +239,7 @@ module _ (e : Ext) (fit : IsFit e.table) (block : ExtBlock) (good : IsGoodExtBlo
       never start (ByData d) =
           let reads = (data_told e.table (reads_from temps k to) from g d).0 in
           let nothing : reads_from temps k to ≡ false =
-              ap (λ (xs : List Operand). list_any (λ (x : Operand). defines temps k (value_read x)) xs) (empty start) in
+          ap (λ (xs : List Operand). list_any (λ (x : Operand). defines temps k (value_read x)) xs) (empty start) in
           cc (reads, nothing)
 
   leads_on : (a : Arc) → IsArcOf e.table temps n block.ops a → LeadsOn n block.ops a
@@ -261,7 +259,7 @@ module _ (e : Ext) (fit : IsFit e.table) (block : ExtBlock) (good : IsGoodExtBlo
       from =
           let place : a.from.0 - n ≡ w.earlier = omega (arith, w.numbers.0) in
           let need : NeedsGap e.table (reads_from temps (n + w.earlier) w.to) w.from w.to a.gap =
-              subst (λ (u : ℕ). NeedsGap e.table (reads_from temps u w.to) w.from w.to a.gap) w.numbers.0 largest.asked in
+          subst (λ (u : ℕ). NeedsGap e.table (reads_from temps u w.to) w.from w.to a.gap) w.numbers.0 largest.asked in
           rw (place, w.from_at) (leads w.earlier w.from w.to a.gap w.from_at need)
 
       to : IfSome (slice_get block.ops (a.to.0 - n)) (λ (op : ExtOp). MayWait op.kind)
@@ -288,12 +286,13 @@ all_lead : (e : Ext) → IsFit e.table → (n : ℕ) (blocks : List ExtBlock) �
     → ((k : ℕ) (op : ExtOp) → slice_get (all_ops blocks) k ≡ Some op → slice_get (all_ops e.blocks) (n + k) ≡ Some op)
     → AllLeadOn n blocks (blocks_arcs e.table (blocks_temps 0 0 e.blocks) n blocks)
 all_lead e fit n [] good numbered = tt
-all_lead e fit n (block ∷ blocks) good numbered =
-    (lead_on e fit block (good zero block (omega arith)) n
-    (λ k op at. numbered k op (get_left block.ops (all_ops blocks) k op at)),
-    all_lead e fit (n + length block.ops) blocks (λ k d lt. good (suc k) d (omega (arith, lt)))
-    (λ k op at. subst (λ (u : ℕ). slice_get (all_ops e.blocks) u ≡ Some op) (omega arith)
-    (numbered (length block.ops + k) op (get_right block.ops (all_ops blocks) (length block.ops + k) k refl ∙ at))))
+all_lead e fit n (block ∷ blocks) good numbered = (
+  lead_on e fit block (good zero block (omega arith)) n
+      (λ k op at. numbered k op (get_left block.ops (all_ops blocks) k op at)),
+  all_lead e fit (n + length block.ops) blocks (λ k d lt. good (suc k) d (omega (arith, lt)))
+      (λ k op at. subst (λ (u : ℕ). slice_get (all_ops e.blocks) u ≡ Some op) (omega arith)
+      (numbered (length block.ops + k) op (get_right block.ops (all_ops blocks) (length block.ops + k) k refl ∙ at))),
+)
 
 pub orderly : (m : Model) → IsModel m → IsExtended m.ext → IsFit m.ext.table → All IsShort m.ext.blocks → IsOrderly m
 orderly m own extended fit short = record {

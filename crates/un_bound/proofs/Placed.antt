@@ -1,8 +1,7 @@
 -- The end of a block, and the operations that stand at it.
-use Rattle.std.proofs.Common.{◌≡◌, ◌≢◌, ℕ, ◌+◌, ◌*◌, ◌-◌, ◌<◌, ◌≤◌, ◌⊎◌, inl, inr, zero, suc, Bool, true, false, List, [], ◌∷◌, length, get_or, Option, Some, None, refl, sym, ap, ◌∙◌, subst, arith, get_or-set_same, get_or-set_other}
+use Rattle.std.proofs.Common.{◌≡◌, ◌≢◌, ℕ, ◌+◌, ◌*◌, ◌-◌, ◌<◌, ◌≤◌, inl, inr, zero, suc, Bool, true, false, List, [], ◌∷◌, length, get_or, Option, Some, None, refl, sym, ap, ◌∙◌, subst, arith, get_or-set_same, get_or-set_other}
 use Rattle.std.specs.Prelude.{if◌then◌else◌, slice_get, slice_index, slice_set, All, IfSome}
-use Rattle.std.proofs.lemmas.Option.{slice_get-get_or, slice_get_cases}
-use Rattle.std.proofs.lemmas.List.{length-set}
+use Rattle.std.proofs.lemmas.Option.{slice_get_cases}
 use Rattle.un_domains.specs.SetLaws.{same_or_not}
 use Rattle.un_isa.specs.declared.op.Op.{Op}
 use Rattle.un_ir.specs.declared.extended.ExtKind.{ExtKind}
@@ -10,10 +9,10 @@ use Rattle.un_ir.specs.declared.extended.ExtKind.TheVariants.{In, Out, Body, End
 use Rattle.un_ir.specs.declared.extended.ExtOp.{ExtOp}
 use Rattle.un_model.specs.declared.model.Arc.{Arc}
 use Rattle.un_bound.specs.Arcs.{MayLead, MayWait, LeadsOn, LeadOn}
-use Rattle.un_bound.specs.Timings.{IsTimed, AtEach, IsKept, cycle_in, IsTiming, IsLeastLength}
+use Rattle.un_bound.specs.Timings.{IsTimed, AtEach, IsKept, IsTiming, IsLeastLength}
 use Rattle.un_bound.specs.Lengths.{Choice, AreChosen, KeepFirst, AreEarliest, FromFirst, first_by, first_cycle, end_by, end_after, IsEnd, IsLeastEnd, AreSmall}
 use Rattle.un_model.specs.Instructions.{instruction_of, is_transfer}
-use Rattle.un_model.specs.Solutions.{IsPlacedAs, IsLast, IsWithin}
+use Rattle.un_model.specs.Solutions.{IsPlacedAs}
 
 -- ---- cycles with the block's end and its transfers at this end
 
@@ -172,7 +171,7 @@ module _ (may : Choice) (n : ℕ) (ops : List ExtOp) (arcs : List Arc) (lead : L
           let b = get_or arcs j d in
           let on : LeadsOn n ops b = lead.each j d lt in
           let ne : b.to.0 - n ≢ k = λ e. waits op kind (from_some (λ (o : ExtOp). MayWait o.kind) ops k op is
-              (subst (λ (u : ℕ). IfSome (slice_get ops u) (λ (o : ExtOp). MayWait o.kind)) e on.to)) in
+          (subst (λ (u : ℕ). IfSome (slice_get ops u) (λ (o : ExtOp). MayWait o.kind)) e on.to)) in
           let was : IsKept n cs b = h.kept j d lt in
           omega (arith, other (b.to.0 - n) ne, lower (b.from.0 - n), was)
 
@@ -207,9 +206,9 @@ module _ (may : Choice) (n : ℕ) (ops : List ExtOp) (arcs : List Arc) (lead : L
           let t = found ops (b.to.0 - n) (omega (arith, on.here, on.forward, on.within)) in
           let may_lead : MayLead f.0.kind = from_some (λ (o : ExtOp). MayLead o.kind) ops (b.from.0 - n) f.0 f.1 on.from in
           let same : slice_index (placed end ops cs) (b.from.0 - n) ≡ slice_index cs (b.from.0 - n) =
-              placed_at end ops cs (b.from.0 - n) f.0 f.1 ∙ stays end (slice_index cs (b.from.0 - n)) f.0.kind may_lead in
+          placed_at end ops cs (b.from.0 - n) f.0 f.1 ∙ stays end (slice_index cs (b.from.0 - n)) f.0.kind may_lead in
           let up : slice_index cs (b.to.0 - n) ≤ slice_index (placed end ops cs) (b.to.0 - n) =
-              rw (placed_at end ops cs (b.to.0 - n) t.0 t.1) (later end (slice_index cs (b.to.0 - n)) t.0.kind (late (b.to.0 - n) t.0 t.1)) in
+          rw (placed_at end ops cs (b.to.0 - n) t.0 t.1) (later end (slice_index cs (b.to.0 - n)) t.0.kind (late (b.to.0 - n) t.0 t.1)) in
           let was : IsKept n cs b = h.kept j d lt in
           omega (arith, same, up, was)
 

@@ -14,10 +14,10 @@ use Rattle.un_model.specs.Arcs.{is_mandatory}
 use Rattle.un_model.specs.Instructions.{instruction_of, is_transfer}
 use Rattle.un_model.specs.Solutions.{IsPlacedAs, IsLast}
 use Rattle.un_bound.specs.Arcs.{LeadOn}
-use Rattle.un_bound.specs.Timings.{IsTimed, IsTiming}
+use Rattle.un_bound.specs.Timings.{IsTimed}
 use Rattle.un_bound.specs.Lengths.{AreChosen, KeepFirst, AreEarliest, IsEnd, IsLeastEnd, first_cycle}
 use Rattle.un_bound.specs.Relaxations.{Times, IsValue, InOwnSet, IsRelaxed}
-use Rattle.un_bound.specs.Choices.{IsNext, own_var, IsOwnValue, InSets, IsKnown, AreKnown, FitsBefore, TransfersFit, MayStop, IsLeastStop}
+use Rattle.un_bound.specs.Choices.{IsNext, own_var, IsOwnValue, InSets, IsKnown, AreKnown, FitsBefore, MayStop, IsLeastStop}
 use Rattle.un_bound.proofs.Placed.{last_by, place, placed, placed_at, within, timed_first, timing, ends_by}
 
 -- ---- a member's cycles are chosen from the sets
@@ -60,9 +60,10 @@ fits s stop c Leave v t own = tt
 module _ (s : Sets) (count n : ℕ) (end : VarId) (ops : List ExtOp) (vars : List OpVars) (arcs : List Arc)
     (known : AreKnown count end ops vars) where
   chosen : (times : Times) → IsRelaxed s n end ops vars arcs times → AreChosen (InSets s end ops vars) (length ops) times.cycles
-  chosen times r k lt op v p q =
-      (timed_first times.end (slice_index times.cycles k) op.kind (r.timing.each k op p),
-      own_value s end times.end (slice_index times.cycles k) op v r.stop (r.timing.each k op p) (r.cycles k op v p q))
+  chosen times r k lt op v p q = (
+    timed_first times.end (slice_index times.cycles k) op.kind (r.timing.each k op p),
+    own_value s end times.end (slice_index times.cycles k) op v r.stop (r.timing.each k op p) (r.cycles k op v p q),
+  )
 
   keeps : (times : Times) → IsRelaxed s n end ops vars arcs times → KeepFirst n arcs (length arcs) times.cycles
   keeps times r j d lt = r.timing.kept j d lt
@@ -105,7 +106,7 @@ module _ (s : Sets) (count n : ℕ) (end : VarId) (ops : List ExtOp) (vars : Lis
         by true e = rw e (f e)
         by false e = rw e own
 
-    no_var : (var : Option VarId) (c : ℕ) → (( x : VarId) → var ≡ Some x → ⊥) → IfSome var (λ (x : VarId). IsValue s x c)
+    no_var : (var : Option VarId) (c : ℕ) → ((x : VarId) → var ≡ Some x → ⊥) → IfSome var (λ (x : VarId). IsValue s x c)
     no_var None c none = tt
     no_var (Some x) c none = absurd (none x refl)
 
@@ -149,9 +150,10 @@ module _ (s : Sets) (count n : ℕ) (end : VarId) (ops : List ExtOp) (vars : Lis
     }
 
     pub a_stop : (stop : ℕ) → IsNext (MayStop s end ops vars) low (Some stop) → IsLeastStop s n end ops vars arcs (Some stop)
-    a_stop stop next =
-        ((earliest stop, member stop next.0 next.1, refl),
-        λ times r. next.2 times.end (may_stop times r) (late_enough times r))
+    a_stop stop next = (
+      (earliest stop, member stop next.0 next.1, refl),
+      λ times r. next.2 times.end (may_stop times r) (late_enough times r),
+    )
 
     pub stops : (r : Option ℕ) → IsNext (MayStop s end ops vars) low r → IsLeastStop s n end ops vars arcs r
     stops None next = no_stop next

@@ -1,14 +1,13 @@
 -- The sum over the blocks of a bound on each.
-use Rattle.std.proofs.Common.{◌≡◌, ℕ, ◌+◌, ◌*◌, ◌≤◌, ◌<◌, ◌⊎◌, inl, inr, List, [], ◌∷◌, length, drop, get_or, min, Some, None, refl, sym, ap, subst, arith}
+use Rattle.std.proofs.Common.{◌≡◌, ℕ, ◌+◌, ◌*◌, ◌≤◌, ◌<◌, ◌⊎◌, inl, inr, List, [], ◌∷◌, length, drop, get_or, min, Some, None, refl, subst, arith}
 use Rattle.std.specs.Prelude.{slice_get, All}
 use Rattle.std.proofs.lemmas.Nat.{mul-le}
 use Rattle.std.proofs.lemmas.Option.{slice_get_cases, get_or_from_slice_get}
 use Rattle.un_isa.specs.declared.table.Table.{Table}
 use Rattle.un_ir.specs.declared.extended.ExtBlock.{ExtBlock}
 use Rattle.un_model.specs.declared.model.Arc.{Arc}
-use Rattle.un_model.specs.Extended.{IsRarelyRun}
 use Rattle.un_model.proofs.Steps.{drop_at, drop_past, within_min}
-use Rattle.un_bound.specs.Arcs.{LeadOn, AllLeadOn, IsShort}
+use Rattle.un_bound.specs.Arcs.{LeadOn, AllLeadOn}
 use Rattle.un_bound.specs.Plain.{IsPacketBound, IsPlainSum}
 
 pub lead_here : (n k : ℕ) (blocks : List ExtBlock) (arcs : List (List Arc)) (block : ExtBlock) (here : List Arc)
@@ -23,7 +22,7 @@ pub sum_more : (t : Table) (n k : ℕ) (blocks : List ExtBlock) (arcs : List (Li
     → Whole ((sum + block.freq * packets) + rest)
 sum_more t n k blocks arcs block here Whole sum packets p q b h rest more =
     let now : IsPlainSum t n (drop k blocks) (drop k arcs) (block.freq * packets + rest) =
-        rw (drop_at blocks k block p, drop_at arcs k here q) (packets, rest, b, more, refl) in
+    rw (drop_at blocks k block p, drop_at arcs k here q) (packets, rest, b, more, refl) in
     let e : sum + (block.freq * packets + rest) ≡ (sum + block.freq * packets) + rest = omega arith in
     subst Whole e (h (block.freq * packets + rest) now)
 

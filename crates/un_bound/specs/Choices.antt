@@ -1,17 +1,16 @@
 -- Words of private contracts: the least cycles in a box.
-use Rattle.std.specs.Prelude.{ℕ, ◌≡◌, ◌+◌, ◌-◌, ◌*◌, ◌<◌, ◌≤◌, Bool, true, false, List, [], ◌∷◌, Option, Some, None, IfSome, All, length, max, slice_get, slice_index, slice_set}
+use Rattle.std.specs.Prelude.{ℕ, ◌≡◌, ◌+◌, ◌-◌, ◌*◌, ◌<◌, ◌≤◌, Bool, true, false, List, ◌∷◌, Option, Some, None, IfSome, length, max, slice_get, slice_index, slice_set}
 use Rattle.un_base.specs.declared.ids.VarId.{VarId}
 use Rattle.un_isa.specs.declared.op.Op.{Op}
 use Rattle.un_ir.specs.declared.extended.ExtKind.{ExtKind}
-use Rattle.un_ir.specs.declared.extended.ExtKind.TheVariants.{In, Out, Body, End, Copy, Enter, Leave}
+use Rattle.un_ir.specs.declared.extended.ExtKind.TheVariants.{In, Out, Body, End}
 use Rattle.un_ir.specs.declared.extended.ExtOp.{ExtOp}
 use Rattle.un_ir.specs.declared.extended.ExtBlock.{ExtBlock}
-use Rattle.un_domains.specs.Sets.{Sets, set_at, has, NoneEmpty}
+use Rattle.un_domains.specs.Sets.{Sets}
 use Rattle.un_model.specs.declared.model.Arc.{Arc}
 use Rattle.un_model.specs.declared.model.OpVars.{OpVars}
 use Rattle.un_model.specs.declared.model.BlockVars.{BlockVars}
 use Rattle.un_model.specs.Instructions.{instruction_of, is_transfer}
-use Rattle.un_bound.specs.Arcs.{LeadOn}
 use Rattle.un_bound.specs.Timings.{cycle_in}
 use Rattle.un_bound.specs.Lengths.{Choice, AreChosen, KeepFirst, AreEarliest, first_cycle}
 use Rattle.un_bound.specs.Relaxations.{Times, IsValue, IsRelaxed}

@@ -53,13 +53,7 @@ fn packets(t: &Table, len: u64, ops: &[ExtOp]) -> u64
 }
 
 /// The least number of packets of a block, by way of `room`, which has a place for each operation.
-fn block_bound(
-    t: &Table,
-    room: &mut [u32],
-    first: usize,
-    block: &ExtBlock,
-    arcs: &[Arc],
-) -> u64
+fn block_bound(t: &Table, room: &mut [u32], first: usize, block: &ExtBlock, arcs: &[Arc]) -> u64
     requires long { length block.now.ops ≤ length room.old }
     requires room { length block.now.ops ≤ ROOM }
     requires arcs { LeadOn first block.now.ops arcs.now }

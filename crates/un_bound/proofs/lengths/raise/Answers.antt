@@ -1,6 +1,5 @@
-use Rattle.std.proofs.Common.{◌≡◌, get_or}
+use Rattle.std.proofs.Common.{get_or}
 use Rattle.std.proofs.lemmas.List.{get_or_default}
-use Rattle.un_base.specs.declared.ids.OpId.{OpId}
 use Rattle.un_model.specs.declared.model.Arc.{Arc}
 use Rattle.un_bound.proofs.Earliest.{start_plain, start_small, plain_step, plain_small}
 use Rattle.un_bound.proofs.lengths.raise.Goals as goal

@@ -1,4 +1,4 @@
-use Rattle.std.proofs.Common.{◌≡◌, ℕ, ◌+◌, ◌*◌, ◌≤◌, drop}
+use Rattle.std.proofs.Common.{ℕ, ◌+◌, ◌*◌, ◌≤◌, drop}
 use Rattle.un_bound.specs.Arcs.{AllLeadOn}
 use Rattle.un_bound.specs.Plain.{IsPlainSum}
 use Rattle.un_bound.proofs.plain.sum_of.Given as goal

@@ -1,4 +1,4 @@
-use Rattle.std.proofs.Common.{◌≡◌, ℕ, Option, Some, None, length, refl, arith}
+use Rattle.std.proofs.Common.{length, arith}
 use Rattle.un_bound.specs.Choices.{InSets}
 use Rattle.un_bound.proofs.Nexts.{started}
 use Rattle.un_bound.proofs.Stops.{none_started, none_settled, stops}

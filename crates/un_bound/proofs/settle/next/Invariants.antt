@@ -1,4 +1,4 @@
-use Rattle.std.proofs.Common.{◌≡◌, ℕ, ◌+◌, ◌-◌, ◌≤◌}
+use Rattle.std.proofs.Common.{ℕ, ◌+◌, ◌-◌, ◌≤◌}
 use Rattle.un_bound.specs.Relaxations.{IsValue}
 use Rattle.un_bound.proofs.settle.next.Given as goal
 

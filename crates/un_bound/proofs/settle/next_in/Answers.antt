@@ -1,4 +1,4 @@
-use Rattle.std.proofs.Common.{◌≡◌, ◌≤◌, ℕ, Some, get_or, length, sym, arith}
+use Rattle.std.proofs.Common.{◌≡◌, ◌≤◌, Some, get_or, length, sym, arith}
 use Rattle.std.specs.Prelude.{slice_get}
 use Rattle.std.proofs.lemmas.Option.{slice_get-get_or}
 use Rattle.un_ir.specs.declared.extended.ExtOp.{ExtOp}
@@ -15,7 +15,7 @@ next-requires-clause-there c =
     let v = get_or b.vars.now c.args.i c.index-b-i-2.result in
     let p : slice_get b.ops.now c.args.i ≡ Some op = slice_get-get_or b.ops.now c.args.i c.index-b-i.result c.requires.there in
     let q : slice_get b.vars.now c.args.i ≡ Some v = slice_get-get_or b.vars.now c.args.i c.index-b-i-2.result
-        (omega (arith, c.requires.there, c.requires.known.long)) in
+    (omega (arith, c.requires.there, c.requires.known.long)) in
     var_known (length b.store.now.sets) b.end op.kind v c.in-Some.v c.requires.known.stop (c.requires.known.each c.args.i op v p q)
     (sym c.in-Some.ensures)
 
@@ -26,10 +26,10 @@ returns-in-None c =
     let v = get_or b.vars.now c.args.i c.index-b-i-2.result in
     let p : slice_get b.ops.now c.args.i ≡ Some op = slice_get-get_or b.ops.now c.args.i c.index-b-i.result c.requires.there in
     let q : slice_get b.vars.now c.args.i ≡ Some v = slice_get-get_or b.vars.now c.args.i c.index-b-i-2.result
-        (omega (arith, c.requires.there, c.requires.known.long)) in
+    (omega (arith, c.requires.there, c.requires.known.long)) in
     λ n may le. has_var (length b.store.now.sets) b.end op.kind v
-        (from_some (λ (o : ExtOp). MayWait o.kind) b.ops.now c.args.i op p c.requires.waits)
-        (c.requires.known.each c.args.i op v p q) (sym c.in-None.ensures)
+    (from_some (λ (o : ExtOp). MayWait o.kind) b.ops.now c.args.i op p c.requires.waits)
+    (c.requires.known.each c.args.i op v p q) (sym c.in-None.ensures)
 
 pub returns-in-Some : goal.returns-in-Some
 returns-in-Some c =
@@ -38,7 +38,7 @@ returns-in-Some c =
     let v = get_or b.vars.now c.args.i c.index-b-i-2.result in
     let p : slice_get b.ops.now c.args.i ≡ Some op = slice_get-get_or b.ops.now c.args.i c.index-b-i.result c.requires.there in
     let q : slice_get b.vars.now c.args.i ≡ Some v = slice_get-get_or b.vars.now c.args.i c.index-b-i-2.result
-        (omega (arith, c.requires.there, c.requires.known.long)) in
+    (omega (arith, c.requires.there, c.requires.known.long)) in
     next_chosen b.store.now.sets b.end b.ops.now b.vars.now c.args.i op v c.in-Some.v c.args.at c.args.at c.next.result p q
     (sym c.in-Some.ensures) (from_some (λ (o : ExtOp). first_cycle o.kind ≤ c.args.at) b.ops.now c.args.i op p c.requires.first)
     (λ n may ge. ge) (omega arith) c.next.ensures
