@@ -26,12 +26,12 @@ use Rattle.un_model.specs.Schedules.{cycle_by, value_by, instr_of, is_delimiter}
 use Rattle.un_model.specs.Variables.{model_of, var_at, ops_count}
 use Rattle.un_packet.specs.Step.{PacketState}
 use Rattle.un_simulation.specs.Simulation.{as_held, held_at}
-use Rattle.un_emit.proofs.Lists.{Member, each_member, each_of, pairwise_two, place_of, found, none_found, find_none}
+use Rattle.un_model.proofs.Lists.{Member, each_member, each_of, pairwise_two, place_of, found, none_found, find_none}
 use Rattle.un_emit.proofs.Timed.{Job, Stands, NotBoth, is_transfer, is_control}
 use Rattle.un_emit.proofs.Exits.{transfer_of, is_false}
 use Rattle.un_emit.proofs.Cycles.{At, first_read}
-use Rattle.un_emit.proofs.Placed.{Placed, vars_of, issue_at, end_of, region_placed}
-use Rattle.un_emit.proofs.Schedule.{all, range_at}
+use Rattle.un_model.proofs.Placed.{Placed, vars_of, issue_at, end_of, region_placed}
+use Rattle.un_model.proofs.PlacedSchedules.{all, range_at}
 use Rattle.un_emit.proofs.Readings.{Solved, placed_good, Reading, reading}
 use Rattle.un_emit.proofs.JobDeeds.{temps_of, active_in, TextClass, text_class, alu, load as loading, store as storing, call as calling}
 use Rattle.un_emit.proofs.Deeds.{alu_op}
@@ -42,7 +42,7 @@ use Rattle.un_emit.proofs.Stack.{placed_for}
 use Rattle.un_emit.proofs.BlockEdges.{finishes, out_in, EndsBy, falls, ends, ends_by}
 use Rattle.un_emit.proofs.BlockValues.{of_all, final, carries, truths}
 use Rattle.un_emit.proofs.JobValues.{Carries, choice_value, args_of}
-use Rattle.un_emit.proofs.Operations.{placed_is}
+use Rattle.un_model.proofs.Operations.{placed_is}
 use Rattle.un_emit.proofs.BlockStarts.{parts, op_of, AtStart, scene, start_truths}
 
 module _ (e : Ext) (o : Options) (values : List ℕ) (h : Solved e o values) (k : ℕ) (block : ExtBlock) (r : InRegion (all e o values) k block) (at : slice_get e.blocks k ≡ Some block) where

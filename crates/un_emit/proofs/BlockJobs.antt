@@ -23,11 +23,11 @@ use Rattle.un_model.specs.Emission.{instr_by, instr_if, frame_of, operand_regist
 use Rattle.un_model.specs.Instructions.{instruction_of, frame_instr}
 use Rattle.un_model.specs.Schedules.{instr_of, is_delimiter, value_by}
 use Rattle.un_model.specs.Variables.{model_of, var_at, var_count, ops_count, block_count, block_vars, blocks_vars}
-use Rattle.un_emit.proofs.Lists.{Each, Pairwise, Member, each_member, each_of, pairwise_append_left, pairwise_append_right, member_append_left, member_append_right}
+use Rattle.un_model.proofs.Lists.{Each, Pairwise, Member, each_member, each_of, pairwise_append_left, pairwise_append_right, member_append_left, member_append_right}
 use Rattle.un_emit.proofs.Timed.{Job, Deed}
 use Rattle.un_emit.proofs.Packet.{moves_stack}
-use Rattle.un_emit.proofs.Placed.{Placed, placed, block_placed, blocks_placed, vars_of, issue_at, Region, region_placed}
-use Rattle.un_emit.proofs.Schedule.{all, range_at, joined_member}
+use Rattle.un_model.proofs.Placed.{Placed, placed, block_placed, blocks_placed, vars_of, issue_at, Region, region_placed}
+use Rattle.un_model.proofs.PlacedSchedules.{all, range_at, joined_member}
 use Rattle.un_emit.proofs.Readings.{Solved, placed_good}
 use Rattle.un_emit.proofs.Jobs.{job_with, job_by, instr_at, job_of, jobs_of}
 use Rattle.un_emit.proofs.JobDeeds.{temps_of, deed_source, deed_end, deed_shift, deed_copy}

@@ -20,14 +20,14 @@ use Rattle.un_model.specs.Instructions.{latency_by, instruction_of}
 use Rattle.un_model.specs.Schedules.{value_by}
 use Rattle.un_packet.specs.Step.{PacketState}
 use Rattle.un_simulation.specs.Simulation.{as_held, held_at}
-use Rattle.un_emit.proofs.Lists.{Each, Member, each_member, each_of, each_all, each_more, member_at, member_map, place_of, length_get}
+use Rattle.un_model.proofs.Lists.{Each, Member, each_member, each_of, each_all, each_more, member_at, member_map, place_of, length_get}
 use Rattle.un_emit.proofs.Timed.{Job, Stands}
 use Rattle.un_emit.proofs.InTime.{CallsFit}
 use Rattle.un_emit.proofs.Effects.{is_effect, run_later}
 use Rattle.un_emit.proofs.Cycles.{Scene, IsScene, At}
-use Rattle.un_emit.proofs.Placed.{Placed, Spot, spot, spots_of, issue_at, vars_of, region_placed}
-use Rattle.un_emit.proofs.Schedule.{all, spots, range_at, one_spot, member_joined, member_places, range_here}
-use Rattle.un_emit.proofs.TempKinds.{kind_at, own_kind, carried_at}
+use Rattle.un_model.proofs.Placed.{Placed, Spot, spot, spots_of, issue_at, vars_of, region_placed}
+use Rattle.un_model.proofs.PlacedSchedules.{all, spots, range_at, one_spot, member_joined, member_places, range_here}
+use Rattle.un_model.proofs.TempKinds.{kind_at, own_kind, carried_at}
 use Rattle.un_emit.proofs.Readings.{Solved, numbered, fit_kinds}
 use Rattle.un_emit.proofs.JobDeeds.{temps_of}
 use Rattle.un_emit.proofs.BlockJobs.{InRegion, active_of}

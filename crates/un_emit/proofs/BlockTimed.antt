@@ -34,15 +34,15 @@ use Rattle.un_model.specs.Emission.{instr_if, instr_by, frame_of, operand_regist
 use Rattle.un_model.specs.Schedules.{instr_of, issues_of, value_by, cycle_by, is_delimiter, is_frame_op}
 use Rattle.un_model.specs.Solutions.{IsPlaced, IsPlacedAs, Precedes, memory_distance, ShareNoCycle, SparesRange, IsSpared, HasRoom, share_of, taken, issues_at, places_of, HasFrame, frame_distance, IsLast}
 use Rattle.un_model.specs.Variables.{model_of, var_at, var_count, ops_count}
-use Rattle.un_emit.proofs.Lists.{Each, Pairwise, Member, each_member, each_of, each_all, pairwise_of_map, pairwise_more, member_at, member_map, length_get}
+use Rattle.un_model.proofs.Lists.{Each, Pairwise, Member, each_member, each_of, each_all, pairwise_of_map, pairwise_more, member_at, member_map, length_get}
 use Rattle.un_emit.proofs.Timed.{Job, Stands, Deed, AreTemps, Timed, NotBoth, GiveApart, Clobbers, writes_memory, is_control, is_transfer}
 use Rattle.un_emit.proofs.Effects.{InOrder, is_access, is_effect}
 use Rattle.un_emit.proofs.Packet.{moves_stack}
-use Rattle.un_emit.proofs.Placed.{Placed, placed, vars_of, issue_at, end_of, region_placed, Spot, spot, spots_of, Counts, all_count, at_number, issues_are}
-use Rattle.un_emit.proofs.Schedule.{all, spots, the_ranges, range_at, spot_range, active_spot, idle_range, one_spot, each_issue, pairwise_issues, joined_member, places_member, member_joined, member_places}
+use Rattle.un_model.proofs.Placed.{Placed, placed, vars_of, issue_at, end_of, region_placed, Spot, spot, spots_of, Counts, all_count, at_number, issues_are}
+use Rattle.un_model.proofs.PlacedSchedules.{all, spots, the_ranges, range_at, spot_range, active_spot, idle_range, one_spot, each_issue, pairwise_issues, joined_member, places_member, member_joined, member_places}
 use Rattle.un_emit.proofs.Readings.{Solved, numbered, placed_good}
 use Rattle.un_emit.proofs.Jobs.{job_with, job_by, instr_at, job_of, jobs_of, given_temp}
-use Rattle.un_emit.proofs.Domains.{flag_sits}
+use Rattle.un_model.proofs.OpDomains.{flag_sits}
 use Rattle.un_emit.proofs.Deeds.{alu_op}
 use Rattle.un_emit.proofs.JobDeeds.{temps_of, TextClass, text_class, alu, load as loading, store as storing, call as calling}
 use Rattle.un_emit.proofs.BlockJobs.{InRegion, in_region, region_block, pairwise_region, IsJob, job_is, each_job, pairwise_jobs, Placing, active_of, deed_of}

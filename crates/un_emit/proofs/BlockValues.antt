@@ -20,11 +20,11 @@ use Rattle.un_ir.specs.Linear.{Values, World, first_of, value_of, effect_by, ent
 use Rattle.un_model.specs.declared.model.Options.{Options}
 use Rattle.un_model.specs.declared.schedule.LiveRange.{LiveRange}
 use Rattle.un_model.specs.Variables.{var_at, ops_count}
-use Rattle.un_emit.proofs.Lists.{Each, Member, each_of, place_of}
+use Rattle.un_model.proofs.Lists.{Each, Member, each_of, place_of}
 use Rattle.un_emit.proofs.Holds.{AreTruths}
-use Rattle.un_emit.proofs.Placed.{Placed, region_placed, Spot, placed_count}
-use Rattle.un_emit.proofs.Schedule.{all, spots}
-use Rattle.un_emit.proofs.TempKinds.{spot_carried, carried_at, carried_is, kind_at, kind_or, spot_kind, own_kind, same_kind}
+use Rattle.un_model.proofs.Placed.{Placed, region_placed, Spot, placed_count}
+use Rattle.un_model.proofs.PlacedSchedules.{all, spots}
+use Rattle.un_model.proofs.TempKinds.{spot_carried, carried_at, carried_is, kind_at, kind_or, spot_kind, own_kind, same_kind}
 use Rattle.un_emit.proofs.Readings.{Solved, numbered, fit_kinds, placed_good, zip_get, all_member}
 use Rattle.un_emit.proofs.JobDeeds.{temps_of, one_zip}
 use Rattle.un_emit.proofs.BlockJobs.{InRegion, active_of}

@@ -12,11 +12,11 @@ use Rattle.un_model.specs.Schedules.{issues_of, last_read, range_by, range_of}
 use Rattle.un_model.specs.Solutions.{IsZeroRange}
 use Rattle.un_model.specs.Variables.{model_of}
 use Rattle.un_emit.specs.Bounds.{IsPlace, HavePlaces}
-use Rattle.un_emit.proofs.Domains.{get_places}
-use Rattle.un_emit.proofs.Lists.{each_all, each_member, index_get, member_at}
+use Rattle.un_model.proofs.OpDomains.{get_places}
+use Rattle.un_model.proofs.Lists.{each_all, each_member, index_get, member_at}
 use Rattle.un_emit.proofs.Readings.{Solved}
 use Rattle.un_emit.proofs.RulesFrame.{low}
-use Rattle.un_emit.proofs.Schedule.{idle_range, the_ranges, the_reads}
+use Rattle.un_model.proofs.PlacedSchedules.{idle_range, the_ranges, the_reads}
 
 module _ (e : Ext) (o : Options) (values : List ℕ) (h : Solved e o values) where
   abbrev temps : List TempVars

@@ -11,7 +11,7 @@ use Rattle.un_isa.specs.declared.instr.Instr.{Instr}
 use Rattle.un_isa.specs.declared.table.Table.{Table}
 use Rattle.un_isa.specs.declared.reg.TheConstants.{STACK}
 use Rattle.un_packet.specs.Step.{PacketState, is_call, is_return, traps_by, jumps_by, value_by, reads_by, reg_in}
-use Rattle.un_emit.proofs.Lists.{Each, Pairwise, Member, each_member, each_of, each_map, pairwise_more, pairwise_map}
+use Rattle.un_model.proofs.Lists.{Each, Pairwise, Member, each_member, each_of, each_map, pairwise_more, pairwise_map}
 use Rattle.un_emit.proofs.Packet.{moves_stack, target, target_by, is_store, slot_by, AreApart}
 use Rattle.un_emit.proofs.Timed.{Job, Temps, Stands, IsReadAt, numbers, is_transfer, ReadsAll, Gives, Copies, Deed, computes, moves, spills, reloads, from_pred, to_pred, loads, stores, calls, shifts, leaves, rests, AreTemps, NotBoth, GiveApart, writes_memory, is_control, Together, instrs}
 

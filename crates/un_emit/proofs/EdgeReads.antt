@@ -17,10 +17,10 @@ use Rattle.un_model.specs.Congruences.{term_of, term_or, is_live_out, live_out_r
 use Rattle.un_model.specs.Instructions.{instruction_of}
 use Rattle.un_model.specs.Pairs.{places_from, joined}
 use Rattle.un_model.specs.Schedules.{read_of, value_by, instr_of, is_delimiter}
-use Rattle.un_emit.proofs.Lists.{Each, Pairwise, Member, split_at, each_member, each_of, pairwise_before, pairwise_after, member_append_left, member_append_right}
-use Rattle.un_emit.proofs.Domains.{get_places}
-use Rattle.un_emit.proofs.Placed.{Placed, vars_of, issue_at, reads_at, reads_are, joined_map-append, all_count}
-use Rattle.un_emit.proofs.Schedule.{all, the_reads}
+use Rattle.un_model.proofs.Lists.{Each, Pairwise, Member, split_at, each_member, each_of, pairwise_before, pairwise_after, member_append_left, member_append_right}
+use Rattle.un_model.proofs.OpDomains.{get_places}
+use Rattle.un_model.proofs.Placed.{Placed, vars_of, issue_at, reads_at, reads_are, joined_map-append, all_count}
+use Rattle.un_model.proofs.PlacedSchedules.{all, the_reads}
 use Rattle.un_emit.proofs.Readings.{Solved, placed_good}
 use Rattle.un_emit.proofs.BlockJobs.{InRegion}
 use Rattle.un_emit.proofs.BlockTimed.{counts_rise}

@@ -6,7 +6,7 @@ use Rattle.un_isa.specs.declared.op.Op.{Op}
 use Rattle.un_isa.specs.declared.op.Op.TheVariants.{Jump, JumpIf, JumpIfNot, Jumpr}
 use Rattle.un_isa.specs.declared.instr.Instr.{Instr}
 use Rattle.un_packet.specs.Step.{PacketState, PacketStep, Went, Jumped, Stopped, Returned, operand_in, is_return, jumps, jumps_by, leads, goes_on}
-use Rattle.un_emit.proofs.Lists.{Each, Pairwise, Member, each_member, each_of, member_map, member_map_of, found, none_found, find_none, pairwise_two}
+use Rattle.un_model.proofs.Lists.{Each, Pairwise, Member, each_member, each_of, member_map, member_map_of, found, none_found, find_none, pairwise_two}
 use Rattle.un_emit.proofs.Settled.{the_return}
 use Rattle.un_emit.proofs.Timed.{Job, instrs, NotBoth, is_transfer, is_control}
 
@@ -38,7 +38,7 @@ found_one test js j m p alone = go (find test (instrs js)) refl
         e ∙ ap Some (sym r.2 ∙ ap (λ (k : Job). k.instr) same)
 
 found_none : (test : Instr → Bool) (js : List Job) → ((i : Job) → Member i js → test i.instr ≡ false) → find test (instrs js) ≡ None
-found_none test js h = find_none test (instrs js) (Rattle.un_emit.proofs.Lists.each_map (λ i. test i ≡ false) (λ (j : Job). j.instr) js (each_of (λ (i : Job). test i.instr ≡ false) js h))
+found_none test js h = find_none test (instrs js) (Rattle.un_model.proofs.Lists.each_map (λ i. test i ≡ false) (λ (j : Job). j.instr) js (each_of (λ (i : Job). test i.instr ≡ false) js h))
 
 return_transfer : (op : Op) → is_return op ≡ true → is_transfer op ≡ true
 return_transfer Jumpr h = refl

@@ -17,7 +17,7 @@ use Rattle.un_ir.specs.declared.function.Kind.TheVariants.{Pred}
 use Rattle.un_isa.specs.declared.reg.TheConstants.{STACK}
 use Rattle.un_packet.specs.Step.{PacketState, value_of, value_by, reg_in, operand_in, frame_place, is_call}
 use Rattle.un_simulation.specs.Simulation.{as_held, held_at}
-use Rattle.un_emit.proofs.Lists.{Each, Member, each_member, each_of, each_map, member_map, member_map_of, found, none_found, pairwise_map, pairwise_more}
+use Rattle.un_model.proofs.Lists.{Each, Member, each_member, each_of, each_map, member_map, member_map_of, found, none_found, pairwise_map, pairwise_more}
 use Rattle.un_emit.proofs.Packet.{puts, given, given_by, slot, slot_by, moves_stack, AreApart, length-puts, puts_other, puts_own}
 use Rattle.un_emit.proofs.Settled.{settled, the_call, CanAnswer, clobbered_by, first_result, settled_frame, settled_frame_start, length-settled_regs, reg_kept, reg_written, reg_result}
 use Rattle.un_emit.proofs.Timed.{Job, Temps, Stands, IsReadAt, IsPlain, numbers, is_copy, ReadsAll, Gives, Copies, IsInSlot, Deed, computes, moves, spills, reloads, from_pred, to_pred, loads, stores, calls, shifts, leaves, rests, AreTemps, NotBoth, writes_memory, Together, instrs}

@@ -10,10 +10,10 @@ use Rattle.un_ir.specs.Extended.{in_kinds, result_count}
 use Rattle.un_ir.specs.Linear.{in_temps}
 use Rattle.un_model.specs.declared.model.Options.{Options}
 use Rattle.un_ir.specs.declared.extended.ExtKind.{ExtKind}
-use Rattle.un_emit.proofs.Lists.{Member, member_map}
-use Rattle.un_emit.proofs.Placed.{Placed, spot, spots_of, region_placed}
-use Rattle.un_emit.proofs.Schedule.{all, member_joined, member_places}
-use Rattle.un_emit.proofs.TempKinds.{kind_at, kind_or, own_kind, carried_at}
+use Rattle.un_model.proofs.Lists.{Member, member_map}
+use Rattle.un_model.proofs.Placed.{Placed, spot, spots_of, region_placed}
+use Rattle.un_model.proofs.PlacedSchedules.{all, member_joined, member_places}
+use Rattle.un_model.proofs.TempKinds.{kind_at, kind_or, own_kind, carried_at}
 use Rattle.un_emit.proofs.Readings.{Solved, numbered, fit_kinds, placed_good}
 use Rattle.un_emit.proofs.BlockJobs.{InRegion}
 use Rattle.un_emit.proofs.BlockValues.{of_all}

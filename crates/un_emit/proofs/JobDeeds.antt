@@ -40,15 +40,15 @@ use Rattle.un_model.specs.Solutions.{InSpace, InDomain}
 use Rattle.un_domains.specs.declared.domain.Domain.TheVariants.{Set}
 use Rattle.un_model.specs.Variables.{model_of, result_domain, carried as value_carried, register_domain, source_domain, register_place}
 use Rattle.un_simulation.specs.Simulation.{as_held}
-use Rattle.un_emit.proofs.Lists.{Each, Member, slice_get-map, member_map}
+use Rattle.un_model.proofs.Lists.{Each, Member, slice_get-map, member_map}
 use Rattle.un_emit.proofs.FramePlace.{held_pred}
 use Rattle.un_emit.proofs.Packet.{moves_stack}
 use Rattle.un_emit.proofs.Timed.{Temps, IsReadAt, IsPlain, numbers, is_copy, is_transfer, ReadsAll, Gives, GivesReg, GivesResult, Copies, IsInSlot, Deed, computes, moves, spills, reloads, from_pred, to_pred, loads, stores, calls, shifts, leaves}
-use Rattle.un_emit.proofs.Placed.{Placed, vars_of, issue_at, spot, spots_of}
-use Rattle.un_emit.proofs.Schedule.{all, spots, range_at, spot_range, range_here, given_space, member_joined}
-use Rattle.un_emit.proofs.Operations.{contains_member}
-use Rattle.un_emit.proofs.TempKinds.{kind_at, kind_or, carried_at, own_kind, same_kind, carried_is}
-use Rattle.un_emit.proofs.Domains.{register_sits, in_entry}
+use Rattle.un_model.proofs.Placed.{Placed, vars_of, issue_at, spot, spots_of}
+use Rattle.un_model.proofs.PlacedSchedules.{all, spots, range_at, spot_range, range_here, given_space, member_joined}
+use Rattle.un_model.proofs.Operations.{contains_member}
+use Rattle.un_model.proofs.TempKinds.{kind_at, kind_or, carried_at, own_kind, same_kind, carried_is}
+use Rattle.un_model.proofs.OpDomains.{register_sits, in_entry}
 use Rattle.un_emit.proofs.Readings.{Solved, numbered, fit_kinds, placed_good, placed_domains, Reading, reading, register_is}
 use Rattle.un_emit.proofs.Jobs.{given_temp, job_with}
 

@@ -30,15 +30,15 @@ use Rattle.un_model.specs.Instructions.{instruction_of, transfer_of, copy_of, fr
 use Rattle.un_model.specs.Pairs.{places_from}
 use Rattle.un_model.specs.Schedules.{choice_of, value_by}
 use Rattle.un_model.specs.Variables.{model_of}
-use Rattle.un_emit.proofs.Lists.{Each, Member, Places, ahead, level, behind, two_places}
+use Rattle.un_model.proofs.Lists.{Each, Member, Places, ahead, level, behind, two_places}
 use Rattle.un_emit.proofs.Timed.{Job, is_copy}
 use Rattle.un_emit.proofs.Settled.{first_result}
 use Rattle.un_emit.proofs.Holds.{Flows}
 use Rattle.un_emit.proofs.Effects.{is_access, address, call_of, after_job, after_by, fails, fails_by, is_empty, run_jobs, replied_world}
 use Rattle.un_emit.proofs.Cycles.{SeesOne, Sees, Passes, Failing, passes_at}
-use Rattle.un_emit.proofs.Placed.{Placed, vars_of, issue_at, Spot}
-use Rattle.un_emit.proofs.Schedule.{all, spots}
-use Rattle.un_emit.proofs.TempKinds.{spot_carried, carried_is}
+use Rattle.un_model.proofs.Placed.{Placed, vars_of, issue_at, Spot}
+use Rattle.un_model.proofs.PlacedSchedules.{all, spots}
+use Rattle.un_model.proofs.TempKinds.{spot_carried, carried_is}
 use Rattle.un_emit.proofs.Readings.{Solved, numbered, fit_kinds, placed_good, Reading, reading}
 use Rattle.un_emit.proofs.Jobs.{job_with, job_by, instr_at, job_of, jobs_of, read_temps, given_temp}
 use Rattle.un_emit.proofs.JobDeeds.{copy_parts, TextClass, text_class, alu, load as loading, store as storing, call as calling}

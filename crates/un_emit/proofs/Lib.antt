@@ -13,7 +13,6 @@ pub mod Costs
 pub mod Counts
 pub mod Cycles
 pub mod Deeds
-pub mod Domains
 mod EdgeReads
 pub mod Edges
 pub mod Effects
@@ -26,13 +25,10 @@ pub mod InTime
 pub mod JobDeeds
 pub mod JobValues
 pub mod Jobs
-pub mod Lists
 pub mod LiveStands
 pub mod OfFunction
 pub mod OfSource
-pub mod Operations
 pub mod Packet
-pub mod Placed
 pub mod Places
 pub mod Readings
 pub mod Right
@@ -46,12 +42,10 @@ pub mod RulesOps
 pub mod RulesRoom
 pub mod RulesWriters
 pub mod Runs
-pub mod Schedule
 pub mod Settled
 pub mod Simulating
 pub mod SolvedModels
 pub mod Stack
 pub mod Starts
-pub mod TempKinds
 pub mod Timed
 pub mod Values

@@ -24,12 +24,12 @@ use Rattle.un_packet.specs.Step.{PacketState}
 use Rattle.un_simulation.specs.Simulation.{LiveStand, held_at, as_held}
 use Rattle.un_emit.specs.Emitted.{place_number, start_places}
 use Rattle.un_emit.specs.OfSource.{IsOfSource}
-use Rattle.un_emit.proofs.Lists.{get_below, length_get, member_map}
+use Rattle.un_model.proofs.Lists.{get_below, length_get, member_map}
 use Rattle.un_emit.proofs.OfSource.{lists_are, labels_at}
-use Rattle.un_emit.proofs.Operations.{contains_member}
-use Rattle.un_emit.proofs.Placed.{spot, spots_of}
-use Rattle.un_emit.proofs.Schedule.{all, range_at, member_joined, member_places}
-use Rattle.un_emit.proofs.TempKinds.{kind_at}
+use Rattle.un_model.proofs.Operations.{contains_member}
+use Rattle.un_model.proofs.Placed.{spot, spots_of}
+use Rattle.un_model.proofs.PlacedSchedules.{all, range_at, member_joined, member_places}
+use Rattle.un_model.proofs.TempKinds.{kind_at}
 use Rattle.un_emit.proofs.Readings.{Solved, numbered, fit_kinds, register_is}
 use Rattle.un_emit.proofs.BlockEdges.{starts, live_in_is}
 use Rattle.un_emit.proofs.BlockStarts.{parts}

@@ -48,16 +48,16 @@ use Rattle.un_model.specs.Schedules.{schedule_of, issues_of, value_by, instr_of}
 use Rattle.un_model.specs.Solutions.{InDomain, InSpace, uses_frame, is_frame_access, starts_in_slot}
 use Rattle.un_model.specs.Variables.{var_at, var_if, is_optional, carried_by, first_alternative, ops_count, copy_domain, carries_truth, instr_domain, model_of, register_domain, source_domain, register_place, carried}
 use Rattle.un_emit.proofs.FramePlace.{le_true, lt_false}
-use Rattle.un_emit.proofs.Domains.{register_sits, instr_sits, in_entry}
-use Rattle.un_emit.proofs.Operations.{contains_member, placed_get}
-use Rattle.un_emit.proofs.TempKinds.{spot_kind, kind_or, kind_listed, carried_is, carried_at}
+use Rattle.un_model.proofs.OpDomains.{register_sits, instr_sits, in_entry}
+use Rattle.un_model.proofs.Operations.{contains_member, placed_get}
+use Rattle.un_model.proofs.TempKinds.{spot_kind, kind_or, kind_listed, carried_is, carried_at}
 use Rattle.un_emit.proofs.BlockJobs.{region_of, in_region, Placing}
-use Rattle.un_emit.proofs.Placed.{Placed, Spot, spot, spots_of, region_placed, vars_of, issue_at, issues_are}
+use Rattle.un_model.proofs.Placed.{Placed, Spot, spot, spots_of, region_placed, vars_of, issue_at, issues_are}
 use Rattle.un_emit.proofs.JobDeeds.{TextClass, text_class, alu, load as loading, store as storing, call as calling, space_for, result_in, temps_of, one_zip}
-use Rattle.un_emit.proofs.Schedule.{all, spots, the_ranges, range_at, spot_range, given_space, member_joined, member_places}
+use Rattle.un_model.proofs.PlacedSchedules.{all, spots, the_ranges, range_at, spot_range, given_space, member_joined, member_places}
 use Rattle.un_emit.proofs.Readings.{Solved, numbered, fit_kinds, placed_good, placed_domains}
 use Rattle.un_emit.proofs.BlockTimed.{its_spot, definer_of, range_in}
-use Rattle.un_emit.proofs.Lists.{length_get, member_map, place_of, member_at, each_more, Each, Member, each_member, each_of, each_join, any_of, member_of_filter}
+use Rattle.un_model.proofs.Lists.{length_get, member_map, place_of, member_at, each_more, Each, Member, each_member, each_of, each_join, any_of, member_of_filter}
 
 -- ---- registers that are never the stack pointer
 

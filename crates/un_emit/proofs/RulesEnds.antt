@@ -26,14 +26,14 @@ use Rattle.un_emit.proofs.BlockTimed.{own_jobs, own_end, here, job_op, block_tim
 use Rattle.un_emit.proofs.Cycles.{packet_of, packets_from, each_packet}
 use Rattle.un_emit.proofs.Exits.{is_false}
 use Rattle.un_emit.proofs.JobDeeds.{temps_of}
-use Rattle.un_emit.proofs.Lists.{Member, each_member, each_of, each_map, any_none, found, member_map, member_filter, slice_get-map}
-use Rattle.un_emit.proofs.Placed.{Placed, region_placed}
+use Rattle.un_model.proofs.Lists.{Member, each_member, each_of, each_map, any_none, found, member_map, member_filter, slice_get-map}
+use Rattle.un_model.proofs.Placed.{Placed, region_placed}
 use Rattle.un_emit.proofs.Places.{words, placing, any_true}
 use Rattle.un_emit.proofs.Readings.{Solved, good}
 use Rattle.un_emit.proofs.RulesInstrs.{end_leads}
 use Rattle.un_emit.proofs.RulesLists.{all_each, some_and}
 use Rattle.un_emit.proofs.RulesOps.{LeadsIn, there}
-use Rattle.un_emit.proofs.Schedule.{all, get_range}
+use Rattle.un_model.proofs.PlacedSchedules.{all, get_range}
 use Rattle.un_emit.proofs.Timed.{Job, Timed, instrs, issues_at, jobs_at, or_rest, packet_jobs, is_transfer as transfers_by, together}
 
 same_transfer : (op : Op) → is_transfer op ≡ true → transfers_by op ≡ true

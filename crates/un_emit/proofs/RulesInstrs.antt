@@ -43,8 +43,8 @@ use Rattle.un_emit.proofs.BlockJobs.{IsJob, active_of, some_active}
 use Rattle.un_emit.proofs.JobDeeds.{TextClass, text_class, alu, load as loading, store as storing, call as calling, space_for, result_in}
 use Rattle.un_emit.proofs.JobDeeds.{operand_facts, read_space, result_spot, result_space as given_in, one_result, has_result, CopyParts}
 use Rattle.un_emit.proofs.JobDeeds.{copy_parts}
-use Rattle.un_emit.proofs.Lists.{Each, Member, each_member, each_more, member_at, member_map, slice_get-map}
-use Rattle.un_emit.proofs.Placed.{Placed, vars_of, issue_at, spot, spots_of}
+use Rattle.un_model.proofs.Lists.{Each, Member, each_member, each_more, member_at, member_map, slice_get-map}
+use Rattle.un_model.proofs.Placed.{Placed, vars_of, issue_at, spot, spots_of}
 use Rattle.un_emit.proofs.Places.{not_stack}
 use Rattle.un_emit.proofs.Readings.{Solved, good, numbered, placed_good, reading, register_is}
 use Rattle.un_emit.proofs.RulesFrame.{IsLow, low}
@@ -52,7 +52,7 @@ use Rattle.un_emit.proofs.RulesLists.{zip_length}
 use Rattle.un_emit.proofs.RulesOps.{spaces_of, space_at, told_apart, space_listed, reads_plain, writes_plain, base_of, offset_fits}
 use Rattle.un_emit.proofs.RulesOps.{minus_is, source_count, source_gives, source_number, source_label, IsCopyOp, mov, spill, reload, p2r}
 use Rattle.un_emit.proofs.RulesOps.{r2p, copy_is, LeadsIn, end_facts, only_end}
-use Rattle.un_emit.proofs.Schedule.{all, the_ranges, range_at, range_here, each_issue, member_joined, member_places}
+use Rattle.un_model.proofs.PlacedSchedules.{all, the_ranges, range_at, range_here, each_issue, member_joined, member_places}
 use Rattle.un_emit.proofs.Timed.{Job}
 
 -- ---- arguments

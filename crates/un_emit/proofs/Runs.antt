@@ -37,15 +37,15 @@ use Rattle.un_packet.specs.declared.code.CodeBlock.{CodeBlock}
 use Rattle.un_packet.specs.Step.{PacketState, PacketStep, PacketStop, Went, Jumped, Stopped, Returned as ReturnedTo, Trapped as TrappedAt, Waiting as WaitingFor, Running as RunningAt}
 use Rattle.un_packet.specs.Run.{PacketRun, packets_run, label_place, leave as leave_packets, through as through_packets, enter as enter_packets, NoneWaits, never_after, never_through, NeverWaits}
 use Rattle.un_simulation.specs.Simulation.{as_held, held_at}
-use Rattle.un_emit.proofs.Lists.{Member, each_member, each_all, each_more, member_at, get_below, member_of_filter, length_get}
-use Rattle.un_emit.proofs.Operations.{contains_member}
+use Rattle.un_model.proofs.Lists.{Member, each_member, each_all, each_more, member_at, get_below, member_of_filter, length_get}
+use Rattle.un_model.proofs.Operations.{contains_member}
 use Rattle.un_emit.proofs.Exits.{transfer_of, exit_of, exit_by}
 use Rattle.un_emit.proofs.Effects.{run_jobs, run_done, is_effect, call_of}
 use Rattle.un_emit.proofs.Timed.{Job}
 use Rattle.un_emit.proofs.Cycles.{Scene, IsScene, At, Comes, passes, stops, block_comes, packets_from, stop_by, stop_of, first_read, Failing}
-use Rattle.un_emit.proofs.Placed.{Placed, placed, region_placed}
-use Rattle.un_emit.proofs.Schedule.{all, range_at}
-use Rattle.un_emit.proofs.TempKinds.{kind_at}
+use Rattle.un_model.proofs.Placed.{Placed, placed, region_placed}
+use Rattle.un_model.proofs.PlacedSchedules.{all, range_at}
+use Rattle.un_model.proofs.TempKinds.{kind_at}
 use Rattle.un_emit.proofs.Readings.{Solved, numbered, fit_kinds}
 use Rattle.un_emit.proofs.BlockJobs.{InRegion}
 use Rattle.un_emit.proofs.BlockTimed.{own_end, own_jobs, its_end, block_timed}

@@ -9,7 +9,7 @@ use Rattle.un_isa.specs.declared.instr.Instr.{Instr}
 use Rattle.un_isa.specs.declared.table.Table.{Table}
 use Rattle.un_isa.specs.declared.start.Reply.{Reply}
 use Rattle.un_packet.specs.Step.{PacketState, Stopped, Trapped, after, answered, record_of, issue_cycle, is_call, is_return, regs_after, ready_after, traps, packet_step, with_call, leads, operand_in, replied, call_ready}
-use Rattle.un_emit.proofs.Lists.{Each, Member}
+use Rattle.un_model.proofs.Lists.{Each, Member}
 use Rattle.un_emit.proofs.Packet.{puts, target, given, slot, AreApart, length-puts, puts_other, puts_own, regs_are_put, ready_is_put, frame_is_put, replied_at, length-replied, call_ready_at, length-call_ready}
 
 -- the call of a packet has a reply

@@ -5,7 +5,7 @@ use Rattle.un_model.specs.Variables.{var_at, var_count, ops_count}
 use Rattle.un_emit.proofs.Exits.{is_false}
 use Rattle.un_emit.proofs.Packet.{moves_stack}
 use Rattle.un_emit.proofs.Holds.{Stacks, uses_frame}
-use Rattle.un_emit.proofs.Domains.{flag_sits}
+use Rattle.un_model.proofs.OpDomains.{flag_sits}
 use Rattle.un_emit.proofs.BlockTimed.{own_end, block_timed, shift_kind, fold_with, once, flag_set, frame_apart, has_job}
 use Rattle.std.specs.Prelude.{Option, Some, None, slice_get, fold, nat_eq, nat_le, ◌==◌, is_some, if◌then◌else◌, IfSome, count_by}
 use Rattle.std.specs.List.{list_any}
@@ -29,14 +29,14 @@ use Rattle.un_model.specs.Schedules.{is_frame_op, is_delimiter, value_by, instr_
 use Rattle.un_model.specs.declared.schedule.Issue.{Issue}
 use Rattle.un_model.specs.Solutions.{frame_distance, HasFrame, is_frame_access, starts_in_slot}
 use Rattle.un_model.specs.Variables.{model_of}
-use Rattle.un_emit.proofs.Lists.{Each, Member, each_member, each_of, pairwise_two, any_of, any_none, none_any, member_map, each_all, member_at, place_of, member_filter, member_of_filter}
+use Rattle.un_model.proofs.Lists.{Each, Member, each_member, each_of, pairwise_two, any_of, any_none, none_any, member_map, each_all, member_at, place_of, member_filter, member_of_filter}
 use Rattle.un_emit.proofs.FramePlace.{le_true, le_false}
-use Rattle.un_emit.proofs.Placed.{issues_are, placed, Placed, vars_of, issue_at, region_placed}
-use Rattle.un_emit.proofs.Schedule.{all, the_ranges, each_issue}
+use Rattle.un_model.proofs.Placed.{issues_are, placed, Placed, vars_of, issue_at, region_placed}
+use Rattle.un_model.proofs.PlacedSchedules.{all, the_ranges, each_issue}
 use Rattle.un_emit.proofs.Readings.{Solved}
 use Rattle.un_emit.proofs.BlockJobs.{InRegion, IsJob, job_from, some_active, in_region, region_block}
 use Rattle.un_emit.proofs.Jobs.{jobs_of}
-use Rattle.un_emit.proofs.Operations.{placed_get}
+use Rattle.un_model.proofs.Operations.{placed_get}
 use Rattle.un_emit.proofs.Timed.{Job, packet_jobs, jobs_at, issues_at, or_rest}
 use Rattle.un_emit.proofs.Places.{words, placing, any_true}
 

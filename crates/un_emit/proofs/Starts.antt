@@ -30,12 +30,12 @@ use Rattle.un_model.specs.Cost.{value_of}
 use Rattle.un_model.specs.Variables.{model_of, register_domain, result_domain, home_domain, carried, start_domain}
 use Rattle.un_packet.specs.Run.{first_state}
 use Rattle.un_simulation.specs.Simulation.{CanStart, as_held, held_at}
-use Rattle.un_emit.proofs.Lists.{Member, each_member, each_all, member_at, member_map, member_of_filter, get_below, length_get}
-use Rattle.un_emit.proofs.Operations.{contains_member}
-use Rattle.un_emit.proofs.Placed.{Placed, spot, spots_of}
-use Rattle.un_emit.proofs.Schedule.{all, spots, range_at, range_here, member_joined, member_places}
-use Rattle.un_emit.proofs.Domains.{in_entry, register_sits}
-use Rattle.un_emit.proofs.TempKinds.{kind_at, kind_or}
+use Rattle.un_model.proofs.Lists.{Member, each_member, each_all, member_at, member_map, member_of_filter, get_below, length_get}
+use Rattle.un_model.proofs.Operations.{contains_member}
+use Rattle.un_model.proofs.Placed.{Placed, spot, spots_of}
+use Rattle.un_model.proofs.PlacedSchedules.{all, spots, range_at, range_here, member_joined, member_places}
+use Rattle.un_model.proofs.OpDomains.{in_entry, register_sits}
+use Rattle.un_model.proofs.TempKinds.{kind_at, kind_or}
 use Rattle.un_emit.proofs.Readings.{Solved, numbered, fit_kinds, placed_domains}
 use Rattle.un_emit.proofs.BlockJobs.{InRegion}
 use Rattle.un_emit.proofs.BlockValues.{of_all}

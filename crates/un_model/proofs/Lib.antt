@@ -17,3 +17,9 @@ pub mod Numbering
 pub mod HomeSteps
 pub mod HomeMasks
 pub mod Verdicts
+pub mod Lists
+pub mod Placed
+pub mod OpDomains
+pub mod PlacedSchedules
+pub mod Operations
+pub mod TempKinds

@@ -1,10 +1,8 @@
 -- What a propagator of any kind asks for: the kind and its fields, without the list of its variables.
 use Rattle.std.specs.Prelude.{ℕ, ◌≡◌, Bool, true, List, Option, All}
 use Rattle.un_base.specs.declared.ids.VarId.{VarId}
-use Rattle.un_isa.specs.declared.table.Needs.{Needs}
 use Rattle.un_prop.specs.declared.act.Act.{Act}
 use Rattle.un_prop.specs.declared.act.At.{At}
-use Rattle.un_prop.specs.declared.act.Temp.{Temp}
 use Rattle.un_prec.specs.declared.reads.ReadAlt.{ReadAlt}
 use Rattle.un_prec.specs.declared.below.Weighted.{Weighted}
 use Rattle.un_prec.specs.Before.{before_holds}
@@ -49,5 +47,6 @@ meets (Same choice regs to) x = same_holds choice regs to x
 meets (Home choice regs home) x = home_holds choice regs home x
 meets (Frame flag touch ins enter entry leaves) x = frame_holds flag touch ins enter entry leaves x
 
+-- it meets all of them
 abbrev pub AllMet : List Constraint → List ℕ → Type 0
 AllMet cs x = All (λ (c : Constraint). meets c x ≡ true) cs

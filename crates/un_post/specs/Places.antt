@@ -1,11 +1,13 @@
 -- The operations and the temporaries of a model, as propagators name them.
-use Rattle.std.specs.Prelude.{ℕ, ◌+◌, Bool, true, false, if◌then◌else◌, List, [], ◌∷◌, ◌++◌, Option, Some, None, map, slice_get}
+use Rattle.std.specs.Prelude.{ℕ, Bool, true, false, List, [], Option, Some, None, map, slice_get}
 use Rattle.std.specs.List.{range_with_len}
 use Rattle.un_base.specs.declared.ids.TempId.{TempId}
 use Rattle.un_base.specs.declared.ids.VarId.{VarId}
 use Rattle.un_isa.specs.declared.op.Op.{Op}
+use Rattle.un_isa.specs.declared.reg.Reg.{Reg}
 use Rattle.un_ir.specs.declared.extended.ExtKind.{ExtKind}
 use Rattle.un_ir.specs.declared.extended.ExtKind.TheVariants.{In, Out}
+use Rattle.un_ir.specs.declared.extended.Operand.{Operand}
 use Rattle.un_ir.specs.declared.extended.ExtOp.{ExtOp}
 use Rattle.un_ir.specs.declared.extended.ExtBlock.{ExtBlock}
 use Rattle.un_model.specs.declared.model.Model.{Model}
@@ -14,7 +16,7 @@ use Rattle.un_model.specs.declared.model.OpVars.{OpVars}
 use Rattle.un_model.specs.declared.model.BlockVars.{BlockVars}
 use Rattle.un_model.specs.Instructions.{instruction_of}
 use Rattle.un_model.specs.Variables.{is_optional, var_at}
-use Rattle.un_model.specs.Pairs.{pairs_from, over_blocks}
+use Rattle.un_model.specs.Pairs.{places_from, pairs_from, over_blocks}
 use Rattle.un_prop.specs.declared.act.Act.{Act}
 use Rattle.un_prop.specs.declared.act.Act.TheVariants.{Always, Var as ActVar}
 use Rattle.un_prop.specs.declared.act.At.{At}
@@ -93,17 +95,42 @@ definer_by t (Some p) = record { place = p; reg = t.reg }
 abbrev pub definer_of : List Place → TempVars → Definer
 definer_of places t = definer_by t (slice_get places t.op.0)
 
--- those of all temporaries, by their numbers
+-- those of all temporaries, by the numbers of these
 abbrev pub definers_of : Model → List Definer
 definers_of m = map (definer_of (places_of m)) m.temps
 
 abbrev pub nowhere : Definer
 nowhere = record { place = no_place; reg = var_at 0 }
 
--- those of these temporaries
 abbrev pub definer_or : Option Definer → Definer
 definer_or None = nowhere
 definer_or (Some d) = d
 
+-- those of these temporaries
 abbrev pub definers_at : List Definer → List TempId → List Definer
 definers_at ds xs = map (λ (x : TempId). definer_or (slice_get ds x.0)) xs
+
+abbrev pub registers_at : List Definer → List TempId → List VarId
+registers_at ds xs = map (λ (d : Definer). d.reg) (definers_at ds xs)
+
+-- ---- operands
+
+-- the operand at a place of an operation: the variable of its choice, the definers of its alternatives, and its home
+pub record Asked : Type 0 where
+  pub user : Place
+  pub at : ℕ
+  pub choice : Option VarId
+  pub alts : List Definer
+  pub home : Option Reg
+
+abbrev pub asked : List Definer → Place → ℕ → Operand → Asked
+asked ds p j operand = record {
+  user = p;
+  at = j;
+  choice = slice_get p.vars.choices j;
+  alts = definers_at ds operand.alts;
+  home = operand.home;
+}
+
+abbrev pub asked_by : List Definer → Place → List Asked
+asked_by ds p = places_from (asked ds p) 0 p.it.operands

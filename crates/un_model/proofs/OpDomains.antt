@@ -19,8 +19,8 @@ use Rattle.un_model.specs.Cost.{value_of}
 use Rattle.un_model.specs.Pairs.{places_from}
 use Rattle.un_model.specs.Solutions.{InDomain, KeepsDomains}
 use Rattle.un_model.specs.Variables.{var_count, var_at, ops_count, block_count, count_if, is_optional, has_cycle, chosen_operands, register_place, choice_place, instr_domain, cycle_domain, choice_domain, carries_truth, result_domain, op_domains, ops_domains, block_domains, blocks_domains, own_horizon, domains_of, blocks_count}
-use Rattle.un_emit.proofs.Lists.{Each, each_join}
-use Rattle.un_emit.proofs.Placed.{Placed, placed, block_placed, blocks_placed, end_of}
+use Rattle.un_model.proofs.Lists.{Each, each_join}
+use Rattle.un_model.proofs.Placed.{Placed, placed, block_placed, blocks_placed, end_of}
 
 -- the values from place k on are in these domains
 abbrev pub Sits : List ℕ → List Domain → ℕ → Type 0

@@ -8,9 +8,9 @@ use Rattle.un_ir.specs.declared.extended.ExtBlock.{ExtBlock}
 use Rattle.un_ir.specs.declared.extended.Ext.{Ext}
 use Rattle.un_ir.specs.Extended.{results_of, AreGoodBlocks, IsGoodExtBlock, IsGoodExtOp}
 use Rattle.un_model.specs.Variables.{var_at, var_count, ops_count, block_count}
-use Rattle.un_emit.proofs.Lists.{Each, Member, each_of, each_all, each_join, member_append_left, member_append_right, member_map, member_at, place_of}
-use Rattle.un_emit.proofs.Placed.{Placed, placed, block_placed, blocks_placed, Spot, spot, spots_of, all_spots}
-use Rattle.un_emit.proofs.Schedule.{member_joined, member_places}
+use Rattle.un_model.proofs.Lists.{Each, Member, each_of, each_all, each_join, member_append_left, member_append_right, member_map, member_at, place_of}
+use Rattle.un_model.proofs.Placed.{Placed, placed, block_placed, blocks_placed, Spot, spot, spots_of, all_spots}
+use Rattle.un_model.proofs.PlacedSchedules.{member_joined, member_places}
 
 get_of_index : {X : Type 0} (xs : List X) (k : ℕ) (d x : X) → k < length xs → slice_index_or xs k d ≡ x → slice_get xs k ≡ Some x
 get_of_index [] k d x lt e = absurd (omega arith)

@@ -1,0 +1,5 @@
+pub mod Meeting
+pub mod Placing
+
+pub mod Facts
+pub mod Whole
