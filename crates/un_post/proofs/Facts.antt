@@ -26,8 +26,10 @@ use Rattle.un_model.proofs.OpDomains.{InDomains, in_entry, keeps_sits, sits_left
 use Rattle.un_model.proofs.Operations.{GoodPlaced, all_good}
 use Rattle.un_model.proofs.PlacedSchedules.{all, spots, spot_range, the_ranges, range_get, joined_member, places_member, get_range}
 use Rattle.un_prop.specs.Acts.{act_number, is_active, at_value}
-use Rattle.un_alt.specs.Registers.{place_of as chosen_place}
-use Rattle.un_post.specs.Places.{act_by, act_of, time_by, time_of, by_number, definers_of, definers_at}
+use Rattle.un_alt.specs.Registers.{place_of as chosen_place, chosen_value}
+use Rattle.un_post.specs.Places.{Definer, act_by, act_of, time_by, time_of, by_number, definers_of, definers_at}
+use Rattle.un_post.specs.Postings.{registers_of}
+use Rattle.un_post.proofs.Meeting.{value_get}
 use Rattle.un_post.proofs.Placing.{place_of, definer_at, definer_among}
 
 -- the model of an extended function, and an assignment within its domains
@@ -282,3 +284,37 @@ module _ (e : Ext) (o : Options) (x : List ℕ) (given : Given e o x) where
     read_definer =
         ap (slice_get (definers_at (definers_of (model_of e o)) operand.alts)) (placed_choice (slice_get (vars_of q).choices j) x)
         ∙ definer_among e o x numbered r.spot operand.alts (value_by x (slice_get (vars_of q).choices j)) r.member (definer_is r.spot r.member).0 r.at
+
+    -- the value of the register at the chosen place is that of its live range
+    pub read_register : chosen_value (slice_get (vars_of q).choices j) (registers_of (definers_at (definers_of (model_of e o)) operand.alts)) x ≡ Some (spot_range e o x r.spot).reg
+    read_register =
+        let alts = definers_at (definers_of (model_of e o)) operand.alts in
+        let c = chosen_place (slice_get (vars_of q).choices j) x in
+        value_get (registers_of alts) c (definer_at r.spot).reg x
+        (slice_get-map (λ (d : Definer). d.reg) alts c ∙ ap (option_map (λ (d : Definer). d.reg)) read_definer)
+
+    -- an operand's operation issues, where it does not fall through
+    pub reader_goes : falls q.op.kind ≡ false
+    reader_goes = by q.op.kind refl
+      where
+        by : (kind : ExtKind) → q.op.kind ≡ kind → falls kind ≡ false
+        by (End Fall) k = let z : Some r.want ≡ None = sym r.wants ∙ ap (λ (c : ExtKind). slice_get (wants_of e.table e.names e.blocks q.owner c q.op) j) k in absurd (cc z)
+        by (End (Jump to)) k = refl
+        by (End (Branch pred sense to)) k = refl
+        by (End (Ret value)) k = refl
+        by In k = refl
+        by Out k = refl
+        by (Body so) k = refl
+        by (Copy node) k = refl
+        by Enter k = refl
+        by Leave k = refl
+
+  -- each alternative of an operand is a result of an earlier operation of the block
+  pub alternative : (q : Placed) (j : ℕ) (operand : Operand) → Member q (all e o x) → slice_get q.op.operands j ≡ Some operand → (y : TempId) → Member y operand.alts
+      → (s : Spot) × (Member s (spots e o x)) × (s.temp ≡ y) × (s.definer.block ≡ q.block) × (s.definer.number < q.number)
+  alternative q j operand m at y n =
+      let g = good_op q m in
+      let k = g.keeps in
+      let z = zip_get (IsGoodOperand e.names e.blocks g.before) q.op.operands (wants_of e.table e.names e.blocks q.owner q.op.kind q.op) j operand k.operands at in
+      let fits : IsGoodOperand e.names e.blocks g.before operand z.0 = z.2 in
+      g.local y (all_member (Contains g.before) operand.alts y fits.known n)

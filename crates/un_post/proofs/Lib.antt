@@ -3,3 +3,5 @@ pub mod Placing
 
 pub mod Facts
 pub mod Whole
+pub mod Tests
+pub mod Homes
