@@ -102,14 +102,14 @@ placed_choice : (c : Option VarId) (x : List ℕ) → chosen_place c x ≡ value
 placed_choice None x = refl
 placed_choice (Some v) x = refl
 
-zip_get : {X Y : Type 0} (R : X → Y → Type 0) (xs : List X) (ys : List Y) (j : ℕ) (a : X) → AllZip R xs ys → slice_get xs j ≡ Some a → (b : Y) × (slice_get ys j ≡ Some b) × R a b
+pub zip_get : {X Y : Type 0} (R : X → Y → Type 0) (xs : List X) (ys : List Y) (j : ℕ) (a : X) → AllZip R xs ys → slice_get xs j ≡ Some a → (b : Y) × (slice_get ys j ≡ Some b) × R a b
 zip_get R [] [] j a h e = absurd (cc e)
 zip_get R [] (y ∷ ys) j a h e = absurd h
 zip_get R (z ∷ zs) [] j a h e = absurd h
 zip_get R (z ∷ zs) (y ∷ ys) zero a h e = let same : z ≡ a = cc e in (y, refl, subst (λ w. R w y) same h.0)
 zip_get R (z ∷ zs) (y ∷ ys) (suc j) a h e = zip_get R zs ys j a h.1 e
 
-all_member : {X : Type 0} (P : X → Type 0) (xs : List X) (a : X) → All P xs → Member a xs → P a
+pub all_member : {X : Type 0} (P : X → Type 0) (xs : List X) (a : X) → All P xs → Member a xs → P a
 all_member P xs a h m = each_member P xs a (each_all P xs h) m
 
 module _ (e : Ext) (o : Options) (x : List ℕ) (given : Given e o x) where

@@ -5,3 +5,6 @@ pub mod Facts
 pub mod Whole
 pub mod Tests
 pub mod Homes
+pub mod Choices
+pub mod SpaceSets
+pub mod RegisterBounds
