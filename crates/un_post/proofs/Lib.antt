@@ -8,3 +8,4 @@ pub mod Homes
 pub mod Choices
 pub mod SpaceSets
 pub mod RegisterBounds
+pub mod Spaces
