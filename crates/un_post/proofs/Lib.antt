@@ -9,3 +9,4 @@ pub mod Choices
 pub mod SpaceSets
 pub mod RegisterBounds
 pub mod Spaces
+pub mod Zeros
