@@ -19,7 +19,7 @@ use Rattle.un_model.specs.declared.schedule.LiveRange.{LiveRange}
 use Rattle.un_model.specs.Instructions.{instruction_of}
 use Rattle.un_model.specs.Schedules.{schedule_of, read_of, value_by, is_delimiter}
 use Rattle.un_model.specs.Solutions.{KeepsChoices, IsLive}
-use Rattle.un_model.specs.Variables.{model_of, has_choices, var_at, choice_place}
+use Rattle.un_model.specs.Variables.{model_of, is_optional, has_choices, var_at, var_if, choice_place}
 use Rattle.un_model.proofs.Lists.{Member, member_at, slice_get-map}
 use Rattle.un_model.proofs.Placed.{Placed, vars_of, issue_at, Spot}
 use Rattle.un_model.proofs.PlacedSchedules.{all, spots, spot_range, the_ranges, spot_here, one_spot}
@@ -29,7 +29,7 @@ use Rattle.un_prop.specs.Choices.{passes_at}
 use Rattle.un_prop.specs.declared.act.Act.{Act}
 use Rattle.un_alt.specs.Registers.{place_of as chosen_place}
 use Rattle.un_post.specs.Constraints.{AllMet, Chosen}
-use Rattle.un_post.specs.Places.{Definer, act_of, asked, definers_of, definers_at}
+use Rattle.un_post.specs.Places.{Definer, act_by, act_of, asked, definers_of, definers_at}
 use Rattle.un_post.specs.Postings.{over_operands, chosen_of, chosen_by}
 use Rattle.un_post.proofs.Meeting.{Met, passes_get, where_on}
 use Rattle.un_post.proofs.Placing.{place_of, definer_at}
@@ -71,39 +71,40 @@ module _ (e : Ext) (o : Options) (x : List ℕ) (given : Given e o x) where
           first_in [] lt = absurd (omega arith)
           first_in (y ∷ ys) lt = inl refl
 
-  -- what carries itself is defined by the source, and always active
-  pub value_active : (s : Spot) → Member s (spots e o x) → carried e.blocks s.temp ≡ s.temp → (spot_range e o x s).active ≡ true
-  value_active s m own = let q = s.definer in by q.op.kind refl
+  -- what carries itself is defined by the source
+  pub value_kind : (s : Spot) → Member s (spots e o x) → carried e.blocks s.temp ≡ s.temp → (let q = s.definer in is_optional q.op.kind ≡ false)
+  value_kind s m own = let q = s.definer in by q.op.kind refl
     where
-      active : (kind : ExtKind) → (let q = s.definer in q.op.kind ≡ kind) → (let q = s.definer in let v = vars_of q in (is_delimiter kind || is_some (instruction_of kind (value_by x v.instr))) ≡ true) → (spot_range e o x s).active ≡ true
-      active kind k a = let q = s.definer in let v = vars_of q in ap (λ (c : ExtKind). is_delimiter c || is_some (instruction_of c (value_by x v.instr))) k ∙ a
-
-      none : (kind : ExtKind) → (let q = s.definer in q.op.kind ≡ kind) → (let q = s.definer in result_count e.table q.owner kind ≡ 0) → (spot_range e o x s).active ≡ true
-      none kind k z =
-          let q = s.definer in
-          let c = definer_counts e o x given s m in
-          let n : result_count e.table q.owner q.op.kind ≡ 0 = ap (result_count e.table q.owner) k ∙ z in
-          absurd (omega arith)
-
-      by : (kind : ExtKind) → (let q = s.definer in q.op.kind ≡ kind) → (spot_range e o x s).active ≡ true
-      by In k = active In k refl
-      by (Body so) k = active (Body so) k refl
+      by : (kind : ExtKind) → (let q = s.definer in q.op.kind ≡ kind) → is_optional kind ≡ false
       by (Copy node) k =
           let reads : first_read s.definer.op.operands ≡ s.temp = sym (ap (λ (c : ExtKind). carried_at c s) k) ∙ sym (carried_is s m) ∙ own in
           absurd (not_own s node m k reads)
-      by Out k = none Out k refl
-      by (End term) k = none (End term) k refl
-      by Enter k = none Enter k refl
-      by Leave k = none Leave k refl
+      by Enter k = absurd (none k)
+        where
+          none : (let q = s.definer in q.op.kind ≡ Enter) → ⊥
+          none k = let q = s.definer in let c = definer_counts e o x given s m in let z : result_count e.table q.owner q.op.kind ≡ 0 = ap (result_count e.table q.owner) k in absurd (omega arith)
+      by Leave k = absurd (none k)
+        where
+          none : (let q = s.definer in q.op.kind ≡ Leave) → ⊥
+          none k = let q = s.definer in let c = definer_counts e o x given s m in let z : result_count e.table q.owner q.op.kind ≡ 0 = ap (result_count e.table q.owner) k in absurd (omega arith)
+      by In k = refl
+      by Out k = refl
+      by (Body so) k = refl
+      by (End term) k = refl
 
-  -- the value that an operand without a choice reads
-  pub lone_active : (q : Placed) (j : ℕ) (operand : Operand) (r : Reading e o x given q j operand) → has_choices q.op.kind ≡ false → (spot_range e o x r.spot).active ≡ true
-  lone_active q j operand r c =
+  -- and always active
+  pub value_active : (s : Spot) → Member s (spots e o x) → carried e.blocks s.temp ≡ s.temp → (spot_range e o x s).active ≡ true
+  value_active s m own =
+      let q = s.definer in
+      sym (definer_acts e o x given s m) ∙ ap (λ (t : Bool). is_active (act_by (var_if t q.first)) x) (value_kind s m own)
+
+  -- the value that an operand without a choice reads carries itself
+  pub lone_value : (q : Placed) (j : ℕ) (operand : Operand) (r : Reading e o x given q j operand) → has_choices q.op.kind ≡ false → carried e.blocks r.spot.temp ≡ r.spot.temp
+  lone_value q j operand r c =
       let f = r.fits in
       let at : slice_get operand.alts 0 ≡ Some r.spot.temp = ap (λ (v : Option VarId). slice_get operand.alts (value_by x v)) (sym (no_choice e o x given q j c)) ∙ r.at in
-      let member = member_at operand.alts 0 r.spot.temp at in
-      let value = all_member (λ (y : TempId). carried e.blocks y ≡ temp (first_of operand.alts)) operand.alts r.spot.temp f.one_value member in
-      value_active r.spot r.member (value ∙ first operand.alts r.spot.temp at)
+      let value = all_member (λ (y : TempId). carried e.blocks y ≡ temp (first_of operand.alts)) operand.alts r.spot.temp f.one_value (member_at operand.alts 0 r.spot.temp at) in
+      value ∙ first operand.alts r.spot.temp at
     where
       first : (alts : List TempId) (y : TempId) → slice_get alts 0 ≡ Some y → temp (first_of alts) ≡ y
       first [] y h = absurd (cc h)
@@ -122,7 +123,7 @@ module _ (e : Ext) (o : Options) (x : List ℕ) (given : Given e o x) where
           ↔ Met x (chosen_by (act_of (place_of q)) (slice_get (vars_of q).choices j) (definers_at (definers_of (model_of e o)) operand.alts))
       by r false c = (
         λ f. subst (λ (v : Option VarId). Met x (chosen_by (act_of (place_of q)) v (definers_at (definers_of (model_of e o)) operand.alts))) (sym (no_choice e o x given q j c)) tt,
-        λ h act. (live r).1 (lone_active q j operand r c),
+        λ h act. (live r).1 (value_active r.spot r.member (lone_value q j operand r c)),
       )
       by r true c =
           let ds = definers_at (definers_of (model_of e o)) operand.alts in

@@ -10,3 +10,4 @@ pub mod SpaceSets
 pub mod RegisterBounds
 pub mod Spaces
 pub mod Zeros
+pub mod Cycles

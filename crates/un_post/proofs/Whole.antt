@@ -176,3 +176,12 @@ module _ (e : Ext) (o : Options) (x : List ℕ) (given : Given e o x) where
     where
       ds : List Definer
       ds = definers_of (model_of e o)
+
+  -- a clause on reads, of one operand
+  pub read_each : (P : Read → Type 0) → All P (reads_of (model_of e o) x) → (q : Placed) (j : ℕ) (operand : Operand) → Member q (all e o x)
+      → slice_get q.op.operands j ≡ Some operand → (issue_at x q).active ≡ true → P (read_of x (issue_at x q) (vars_of q) j operand)
+  read_each P h q j operand m at act =
+      let r = each_joined P (reads_at x) (all e o x) (each_all P _ (subst (All P) (reads_are x 0 0 0 e.blocks) h)) in
+      let here = each_member (λ q. Each P (reads_at x q)) (all e o x) q r m in
+      places_each P (read_of x (issue_at x q) (vars_of q)) q.op.operands
+      (subst (λ (b : Bool). Each P (if b then places_from (read_of x (issue_at x q) (vars_of q)) 0 q.op.operands else [])) act here) j operand at
