@@ -1,35 +1,32 @@
 -- Every operand of an active operation chooses an active temporary exactly where the constraints of choices are met.
-use Rattle.std.proofs.Common.{ℕ, zero, suc, ◌≡◌, ◌↔◌, ◌+◌, ◌<◌, Bool, true, false, List, [], ◌∷◌, length, map, inl, refl, sym, ap, ◌∙◌, subst, arith, All}
-use Rattle.std.specs.Prelude.{Option, Some, None, slice_get, slice_index, unwrap_or, not, ◌||◌, is_some}
+use Rattle.std.proofs.Common.{ℕ, ◌≡◌, ◌↔◌, ◌+◌, ◌<◌, Bool, true, false, List, [], ◌∷◌, length, map, inl, refl, sym, ap, ◌∙◌, subst, arith}
+use Rattle.std.specs.Prelude.{Option, Some, slice_get, slice_index, unwrap_or, not, ◌||◌}
 use Rattle.std.specs.List.{AllZip}
 use Rattle.std.specs.Option.{option_map}
 use Rattle.un_base.specs.declared.ids.TempId.{TempId}
 use Rattle.un_base.specs.declared.ids.VarId.{VarId}
-use Rattle.un_ir.specs.declared.extended.NodeCopy.TheVariants.{D}
 use Rattle.un_ir.specs.declared.extended.NodeCopy.{NodeCopy}
 use Rattle.un_ir.specs.declared.extended.ExtKind.{ExtKind}
 use Rattle.un_ir.specs.declared.extended.ExtKind.TheVariants.{In, Out, Body, End, Copy, Enter, Leave}
 use Rattle.un_ir.specs.declared.extended.Operand.{Operand}
 use Rattle.un_ir.specs.declared.extended.Ext.{Ext}
 use Rattle.un_ir.specs.Linear.{first_of}
-use Rattle.un_ir.specs.Extended.{carried, first_read, temp, Want, wants_of, result_count, IsGoodOperand}
+use Rattle.un_ir.specs.Extended.{carried, first_read, temp, wants_of, result_count, IsGoodOperand}
 use Rattle.un_model.specs.declared.model.Options.{Options}
 use Rattle.un_model.specs.declared.schedule.Read.{Read}
-use Rattle.un_model.specs.declared.schedule.LiveRange.{LiveRange}
-use Rattle.un_model.specs.Instructions.{instruction_of}
-use Rattle.un_model.specs.Schedules.{schedule_of, read_of, value_by, is_delimiter}
+use Rattle.un_model.specs.Schedules.{schedule_of, read_of, value_by}
 use Rattle.un_model.specs.Solutions.{KeepsChoices, IsLive}
 use Rattle.un_model.specs.Variables.{model_of, is_optional, has_choices, var_at, var_if, choice_place}
 use Rattle.un_model.proofs.Lists.{Member, member_at, slice_get-map}
 use Rattle.un_model.proofs.Placed.{Placed, vars_of, issue_at, Spot}
-use Rattle.un_model.proofs.PlacedSchedules.{all, spots, spot_range, the_ranges, spot_here, one_spot}
+use Rattle.un_model.proofs.PlacedSchedules.{spots, spot_range, the_ranges, spot_here, one_spot}
 use Rattle.un_model.proofs.TempKinds.{carried_at, spot_carried, carried_are}
 use Rattle.un_prop.specs.Acts.{is_active}
 use Rattle.un_prop.specs.Choices.{passes_at}
 use Rattle.un_prop.specs.declared.act.Act.{Act}
 use Rattle.un_alt.specs.Registers.{place_of as chosen_place}
 use Rattle.un_post.specs.Constraints.{AllMet, Chosen}
-use Rattle.un_post.specs.Places.{Definer, act_by, act_of, asked, definers_of, definers_at}
+use Rattle.un_post.specs.Places.{Definer, act_by, act_of, definers_of, definers_at}
 use Rattle.un_post.specs.Postings.{over_operands, chosen_of, chosen_by}
 use Rattle.un_post.proofs.Meeting.{Met, passes_get, where_on}
 use Rattle.un_post.proofs.Placing.{place_of, definer_at}

@@ -1,5 +1,5 @@
 -- The cycle of an operation is in its domain.
-use Rattle.std.proofs.Common.{ℕ, zero, suc, ◌≡◌, ◌≤◌, ◌+◌, Bool, true, false, List, [], ◌∷◌, ◌++◌, length, map, refl, sym, ap, ◌∙◌, subst, arith}
+use Rattle.std.proofs.Common.{ℕ, ◌≡◌, ◌+◌, Bool, List, ◌++◌, length, map, refl, ap, subst, arith}
 use Rattle.std.specs.Prelude.{Option, Some, slice_get, slice_index}
 use Rattle.std.specs.Option.{option_to_list}
 use Rattle.un_ir.specs.declared.extended.ExtKind.{ExtKind}

@@ -1,7 +1,6 @@
 -- Preassigned operands have their homes exactly where the constraints of homes are met.
-use Rattle.std.proofs.Common.{ℕ, zero, suc, ◌≡◌, ◌↔◌, ◌+◌, Bool, true, false, List, [], ◌∷◌, map, refl, sym, ap, ◌∙◌, subst, arith, All}
-use Rattle.std.specs.Prelude.{Option, Some, None, IfSome, slice_get, slice_index, nat_eq, ◌||◌, is_some}
-use Rattle.std.specs.Option.{option_map}
+use Rattle.std.proofs.Common.{ℕ, zero, suc, ◌≡◌, ◌↔◌, true, List, [], ◌∷◌, refl, sym, ap, ◌∙◌, subst}
+use Rattle.std.specs.Prelude.{Option, Some, None, slice_get, nat_eq, ◌||◌, is_some}
 use Rattle.un_isa.specs.declared.reg.Reg.{Reg}
 use Rattle.un_ir.specs.declared.function.Kind.{Kind}
 use Rattle.un_ir.specs.declared.function.Term.{Term}
@@ -13,22 +12,20 @@ use Rattle.un_ir.specs.declared.extended.Ext.{Ext}
 use Rattle.un_ir.specs.Extended.{Want, anywhere, wants_of, wants_of_end}
 use Rattle.un_model.specs.declared.model.Options.{Options}
 use Rattle.un_model.specs.declared.schedule.Read.{Read}
-use Rattle.un_model.specs.declared.schedule.LiveRange.{LiveRange}
 use Rattle.un_model.specs.Instructions.{instruction_of}
 use Rattle.un_model.specs.Schedules.{schedule_of, read_of, value_by, is_delimiter}
 use Rattle.un_model.specs.Solutions.{KeepsHomes, ReadsHome, HasHome}
 use Rattle.un_model.specs.Variables.{model_of}
-use Rattle.un_model.proofs.Lists.{Member}
 use Rattle.un_model.proofs.Placed.{Placed, vars_of, issue_at}
-use Rattle.un_model.proofs.PlacedSchedules.{all, spot_range, the_ranges}
-use Rattle.un_alt.specs.Registers.{chosen_value, some_passes}
+use Rattle.un_model.proofs.PlacedSchedules.{spot_range, the_ranges}
+use Rattle.un_alt.specs.Registers.{some_passes}
 use Rattle.un_post.specs.Constraints.{AllMet, Home}
 use Rattle.un_post.specs.Places.{asked, definers_of, definers_at}
 use Rattle.un_post.specs.Postings.{over_operands, homes_of, home_by, registers_of}
 use Rattle.un_post.proofs.Meeting.{Met}
 use Rattle.un_post.proofs.Placing.{place_of}
 use Rattle.un_post.proofs.Facts.{Given, Reading, reading, read_range, read_register}
-use Rattle.un_post.proofs.Tests.{iff_then, eq_iff, met_one}
+use Rattle.un_post.proofs.Tests.{eq_iff, met_one}
 use Rattle.un_post.proofs.Whole.{Agrees, operands_each}
 
 lone_home : (k : Kind) (j : ℕ) (want : Want) → slice_get (anywhere k ∷ []) j ≡ Some want → want.home ≡ None

@@ -11,3 +11,4 @@ pub mod RegisterBounds
 pub mod Spaces
 pub mod Zeros
 pub mod Cycles
+pub mod Latencies

@@ -1,13 +1,13 @@
 -- The registers that domains have: none is past the last slot, and what the source defines has registers of its space.
-use Rattle.std.proofs.Common.{ℕ, zero, suc, ◌≡◌, ◌+◌, ◌<◌, ◌≤◌, Bool, true, false, List, [], ◌∷◌, ◌++◌, map, inl, inr, refl, sym, ap, ◌∙◌, subst, arith}
-use Rattle.std.specs.Prelude.{Option, Some, None, IfSome, slice_get, slice_index, ◌||◌, ◌==◌, ◌-◌, nat_eq, length, if◌then◌else◌}
+use Rattle.std.proofs.Common.{ℕ, zero, suc, ◌≡◌, ◌+◌, ◌<◌, ◌≤◌, Bool, true, false, List, [], ◌∷◌, ◌++◌, map, inl, inr, refl, sym, subst, arith}
+use Rattle.std.specs.Prelude.{Option, Some, None, IfSome, slice_get, slice_index, ◌||◌, ◌==◌, ◌-◌, length, if◌then◌else◌}
 use Rattle.std.specs.List.{range_with_len}
 use Rattle.std.specs.Option.{option_map, option_to_list}
 use Rattle.un_base.specs.declared.ids.TempId.{TempId}
 use Rattle.un_base.specs.declared.ids.NameId.{NameId}
 use Rattle.un_isa.specs.Facts.{is_source, result_space}
 use Rattle.un_isa.specs.Fit.{IsFit}
-use Rattle.un_isa.specs.Registers.{space_of, callee_saved, saved_registers}
+use Rattle.un_isa.specs.Registers.{callee_saved, saved_registers}
 use Rattle.un_isa.specs.Tables.{in_mask}
 use Rattle.un_isa.specs.declared.op.Op.{Op}
 use Rattle.un_isa.specs.declared.op.Op.TheVariants.{Imm, Call, Spill}
@@ -15,7 +15,6 @@ use Rattle.un_isa.specs.declared.reg.Reg.{Reg}
 use Rattle.un_isa.specs.declared.reg.Space.{Space}
 use Rattle.un_isa.specs.declared.reg.Space.TheVariants.{R, P, M}
 use Rattle.un_isa.specs.declared.table.Table.{Table}
-use Rattle.un_ir.specs.declared.extended.NodeCopy.{NodeCopy}
 use Rattle.un_ir.specs.declared.extended.ExtKind.{ExtKind}
 use Rattle.un_ir.specs.declared.extended.ExtKind.TheVariants.{In, Out, Body, End, Copy, Enter, Leave}
 use Rattle.un_ir.specs.declared.extended.ExtBlock.{ExtBlock}
@@ -23,7 +22,7 @@ use Rattle.un_ir.specs.declared.extended.Ext.{Ext}
 use Rattle.un_domains.specs.declared.domain.Domain.TheVariants.{Set}
 use Rattle.un_model.specs.declared.model.Options.{Options}
 use Rattle.un_model.specs.Instructions.{result_space_in, gives_truth, is_predicate_space}
-use Rattle.un_model.specs.Registers.{reg_at, start_home, call_home, result_home, is_assignable, is_home, general_registers, value_registers, predicate_registers, slots_of, with_zero, is_truth}
+use Rattle.un_model.specs.Registers.{reg_at, start_home, is_assignable, is_home, general_registers, value_registers, predicate_registers, slots_of, with_zero, is_truth}
 use Rattle.un_model.specs.Solutions.{InDomain, InSpace}
 use Rattle.un_model.specs.Variables.{register_domain, source_domain}
 use Rattle.un_model.proofs.Lists.{Each, Member, each_member, each_of, each_join, each_more, member_of_filter}

@@ -1,36 +1,33 @@
 -- Operands and results lie in the spaces of the instructions exactly where the constraints of spaces are met.
-use Rattle.std.proofs.Common.{ℕ, zero, suc, ◌≡◌, ◌↔◌, ◌+◌, ◌<◌, ◌≤◌, Bool, true, false, List, [], ◌∷◌, length, map, ◌⊎◌, inl, inr, refl, sym, ap, ◌∙◌, subst, arith, All}
+use Rattle.std.proofs.Common.{ℕ, ◌≡◌, ◌↔◌, ◌+◌, ◌<◌, Bool, true, false, List, [], ◌∷◌, map, refl, sym, ap, ◌∙◌, subst, arith}
 use Rattle.std.specs.Prelude.{Option, Some, None, slice_get, slice_index, not, ◌||◌, is_some}
 use Rattle.un_base.specs.declared.ids.TempId.{TempId}
 use Rattle.un_base.specs.declared.ids.VarId.{VarId}
-use Rattle.un_isa.specs.Facts.{is_source}
 use Rattle.un_isa.specs.declared.op.Op.{Op}
 use Rattle.un_ir.specs.Linear.{is_out}
 use Rattle.un_ir.specs.declared.extended.NodeCopy.{NodeCopy}
 use Rattle.un_ir.specs.declared.function.SrcOp.{SrcOp}
 use Rattle.un_ir.specs.declared.extended.ExtKind.{ExtKind}
 use Rattle.un_ir.specs.declared.extended.ExtKind.TheVariants.{In, Out, Body, End, Copy, Enter, Leave}
-use Rattle.un_ir.specs.declared.extended.Operand.{Operand}
 use Rattle.un_ir.specs.declared.extended.Ext.{Ext}
 use Rattle.un_ir.specs.Extended.{IsGoodKind, IsSourceOp, result_count}
 use Rattle.un_domains.specs.Sets.{has}
 use Rattle.un_model.specs.declared.model.Options.{Options}
 use Rattle.un_model.specs.declared.schedule.Read.{Read}
-use Rattle.un_model.specs.declared.schedule.LiveRange.{LiveRange}
-use Rattle.un_model.specs.Instructions.{instruction_of, space_read, space_given, result_space_in}
+use Rattle.un_model.specs.Instructions.{instruction_of, space_read, space_given}
 use Rattle.un_model.specs.Schedules.{schedule_of, read_of, value_by, is_delimiter}
 use Rattle.un_model.specs.Solutions.{KeepsSpaces, InDomain, InSpace, ReadsInSpace, IsGivenInSpace}
-use Rattle.un_model.specs.Variables.{model_of, register_domain, register_place, carried, is_optional}
-use Rattle.un_model.proofs.Lists.{Each, Member, length_get, each_member, each_of, each_map, each_of_map}
+use Rattle.un_model.specs.Variables.{model_of, register_domain, register_place, carried}
+use Rattle.un_model.proofs.Lists.{Member, length_get, each_member, each_of, each_map, each_of_map}
 use Rattle.un_model.proofs.OpDomains.{in_entry, register_sits}
 use Rattle.un_model.proofs.Placed.{Placed, vars_of, issue_at, Spot, spot}
 use Rattle.un_model.proofs.PlacedSchedules.{all, spots, spot_range, the_ranges}
-use Rattle.un_prop.specs.Acts.{act_number, is_active}
+use Rattle.un_prop.specs.Acts.{act_number}
 use Rattle.un_prop.specs.Choices.{passes_at}
 use Rattle.un_prop.specs.declared.act.Act.{Act}
 use Rattle.un_alt.specs.Registers.{chosen_value, some_passes}
 use Rattle.un_post.specs.Constraints.{Constraint, meets, AllMet, Spaces}
-use Rattle.un_post.specs.Places.{Definer, act_of, asked, definers_of, definers_at, registers_at}
+use Rattle.un_post.specs.Places.{act_of, asked, definers_of, definers_at, registers_at}
 use Rattle.un_post.specs.Postings.{over_places, over_operands, registers_in, operand_sets, result_sets, spaces_of, space_by, results_in, result_by, registers_of}
 use Rattle.un_post.proofs.Meeting.{Met, passes_get, where_on}
 use Rattle.un_post.proofs.Placing.{place_of, definer_at}

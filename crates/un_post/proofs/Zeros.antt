@@ -1,40 +1,34 @@
 -- The variables of inactive operations are 0 exactly where the constraints of zeros are met.
-use Rattle.std.proofs.Common.{ℕ, zero, suc, ◌≡◌, ◌↔◌, ◌+◌, ◌<◌, ◌≤◌, Bool, true, false, cond, List, [], ◌∷◌, ◌++◌, length, map, ◌⊎◌, inl, inr, refl, sym, ap, ◌∙◌, subst, arith, All}
-use Rattle.std.specs.Prelude.{Option, Some, None, slice_get, slice_index, not, ◌||◌, ◌&&◌, nat_eq, nat_le, is_some}
+use Rattle.std.proofs.Common.{ℕ, ◌≡◌, ◌↔◌, ◌+◌, Bool, true, false, cond, List, [], ◌∷◌, ◌++◌, length, map, ◌⊎◌, inl, inr, refl, sym, ap, ◌∙◌, subst, arith}
+use Rattle.std.specs.Prelude.{Some, slice_get, slice_index, not, ◌||◌, ◌&&◌, nat_eq, nat_le, is_some}
 use Rattle.std.specs.List.{range_with_len, list_all, AllZip}
-use Rattle.std.specs.Option.{option_to_list}
 use Rattle.std.proofs.lemmas.Bool.Decides.{nat_tests}
 use Rattle.un_base.specs.declared.ids.TempId.{TempId}
 use Rattle.un_base.specs.declared.ids.VarId.{VarId}
-use Rattle.un_ir.specs.declared.function.Term.{Term}
 use Rattle.un_ir.specs.declared.function.Term.TheVariants.{Fall, Jump, Branch, Ret}
-use Rattle.un_ir.specs.declared.extended.NodeCopy.{NodeCopy}
 use Rattle.un_ir.specs.declared.extended.ExtKind.{ExtKind}
 use Rattle.un_ir.specs.declared.extended.ExtKind.TheVariants.{In, Out, Body, End, Copy, Enter, Leave}
 use Rattle.un_ir.specs.declared.extended.Operand.{Operand}
 use Rattle.un_ir.specs.declared.extended.Ext.{Ext}
-use Rattle.un_ir.specs.Extended.{Want, wants_of, result_count, IsGoodOperand}
+use Rattle.un_ir.specs.Extended.{wants_of, result_count, IsGoodOperand}
 use Rattle.un_model.specs.declared.model.Options.{Options}
-use Rattle.un_model.specs.declared.model.OpVars.{OpVars}
-use Rattle.un_model.specs.declared.schedule.Issue.{Issue}
-use Rattle.un_model.specs.declared.schedule.LiveRange.{LiveRange}
 use Rattle.un_model.specs.Cost.{value_of}
 use Rattle.un_model.specs.Instructions.{instruction_of}
 use Rattle.un_model.specs.Schedules.{schedule_of, value_by, is_delimiter}
 use Rattle.un_model.specs.Solutions.{KeepsZeros, IsIdleAtZero, IsZeroRange}
 use Rattle.un_model.specs.Variables.{model_of, var_at, var_if, is_optional, has_cycle, has_choices, cycle_place, choice_place, chosen_operands}
 use Rattle.un_model.proofs.Lists.{Each, Member, length_get, each_member, each_of}
-use Rattle.un_model.proofs.Placed.{Placed, vars_of, issue_at, Spot, spot}
-use Rattle.un_model.proofs.PlacedSchedules.{all, spots, spot_range}
+use Rattle.un_model.proofs.Placed.{Placed, vars_of, issue_at, spot}
+use Rattle.un_model.proofs.PlacedSchedules.{all, spot_range}
 use Rattle.un_prop.specs.Acts.{is_active}
 use Rattle.un_prop.specs.declared.act.Act.TheVariants.{Always}
 use Rattle.un_prop.specs.declared.act.At.TheVariants.{Const, Var}
 use Rattle.un_alt.specs.Zeros.{all_zero}
-use Rattle.un_post.specs.Constraints.{Constraint, meets, AllMet, Zeros, Before}
-use Rattle.un_post.specs.Places.{act_by, act_of, definers_of, registers_at}
+use Rattle.un_post.specs.Constraints.{Constraint, AllMet, Zeros, Before}
+use Rattle.un_post.specs.Places.{act_by, definers_of, registers_at}
 use Rattle.un_post.specs.Postings.{over_places, zeros_of, zeros_by}
 use Rattle.un_post.proofs.Meeting.{Met}
-use Rattle.un_post.proofs.Placing.{place_of, definer_at}
+use Rattle.un_post.proofs.Placing.{place_of}
 use Rattle.un_post.proofs.Facts.{Given, falls, good_op, acts}
 use Rattle.un_post.proofs.Tests.{iff_then, iff_back, both, met_one, eq_iff, and_iff}
 use Rattle.un_post.proofs.Whole.{issues_each, ranges_each, spots_each, registers_each, posted_each}
