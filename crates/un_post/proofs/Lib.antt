@@ -1,6 +1,5 @@
 pub mod Meeting
 pub mod Placing
-
 pub mod Facts
 pub mod Whole
 pub mod Tests
@@ -12,3 +11,5 @@ pub mod Spaces
 pub mod Zeros
 pub mod Cycles
 pub mod Latencies
+pub mod Limits
+pub mod OfPlaces
