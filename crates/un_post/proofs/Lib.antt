@@ -14,3 +14,4 @@ pub mod Latencies
 pub mod Limits
 pub mod OfPlaces
 pub mod Regions
+pub mod Ends
