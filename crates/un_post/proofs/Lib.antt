@@ -15,3 +15,4 @@ pub mod Limits
 pub mod OfPlaces
 pub mod Regions
 pub mod Ends
+pub mod Congruences
