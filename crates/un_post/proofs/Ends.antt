@@ -31,7 +31,7 @@ use Rattle.un_post.proofs.Regions.{front_stays}
 
 -- ---- filters
 
-filter_append : {A : Type 0} (t : A → Bool) (xs ys : List A) → filter t (xs ++ ys) ≡ filter t xs ++ filter t ys
+pub filter_append : {A : Type 0} (t : A → Bool) (xs ys : List A) → filter t (xs ++ ys) ≡ filter t xs ++ filter t ys
 filter_append t [] ys = refl
 filter_append t (x ∷ xs) ys =
     let k = filter_append t xs ys in
@@ -51,7 +51,7 @@ filter_all t f i (x ∷ xs) h =
     ap (λ b. cond b (f i x ∷ filter t (places_from f (i + 1) xs)) (filter t (places_from f (i + 1) xs))) (h i x)
     ∙ ap (λ ys. f i x ∷ ys) (filter_all t f (i + 1) xs h)
 
-filter_joined : {A B : Type 0} (t : B → Bool) (f : A → List B) (xs : List A) → Each (λ x. filter t (f x) ≡ []) xs
+pub filter_joined : {A B : Type 0} (t : B → Bool) (f : A → List B) (xs : List A) → Each (λ x. filter t (f x) ≡ []) xs
     → filter t (joined (map f xs)) ≡ []
 filter_joined t f [] h = refl
 filter_joined t f (x ∷ xs) h = filter_append t (f x) (joined (map f xs)) ∙ ap (λ ys. ys ++ filter t (joined (map f xs))) h.0
@@ -70,7 +70,7 @@ filter_each t f (x ∷ xs) h =
     ∙ filter_each t f xs (λ i y e. h (suc i) y e)
 
 -- where the lists of all but one give nothing
-filter_one : {A B : Type 0} (t : B → Bool) (f : A → List B) (xs : List A) (k : ℕ) (x : A) → slice_get xs k ≡ Some x
+pub filter_one : {A B : Type 0} (t : B → Bool) (f : A → List B) (xs : List A) (k : ℕ) (x : A) → slice_get xs k ≡ Some x
     → ((i : ℕ) (y : A) → slice_get xs i ≡ Some y → (i ≡ k → ⊥) → filter t (f y) ≡ []) → filter t (joined (map f xs)) ≡ filter t (f x)
 filter_one t f [] k x at h = absurd (cc at)
 filter_one t f (y ∷ ys) zero x at h =

@@ -16,3 +16,5 @@ pub mod OfPlaces
 pub mod Regions
 pub mod Ends
 pub mod Congruences
+
+pub mod OneEnter
