@@ -18,3 +18,4 @@ pub mod Ends
 pub mod Congruences
 
 pub mod OneEnter
+pub mod FrameTags
