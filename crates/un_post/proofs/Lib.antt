@@ -19,3 +19,4 @@ pub mod Congruences
 
 pub mod OneEnter
 pub mod FrameTags
+pub mod FrameOrder
