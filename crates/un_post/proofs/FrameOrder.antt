@@ -47,11 +47,11 @@ frame_on op true h = absurd (cc h)
 frame_on op false h = refl
 
 -- a use of the frame that counts where a test passes
-late_iff : (b : Bool) (t c : ℕ) → (b ≡ true → t < c) ↔ ((not b || nat_lt t c) ≡ true)
+pub late_iff : (b : Bool) (t c : ℕ) → (b ≡ true → t < c) ↔ ((not b || nat_lt t c) ≡ true)
 late_iff true t c = (λ f. (lt_iff t c).0 (f refl), λ h e. (lt_iff t c).1 h)
 late_iff false t c = (λ f. refl, λ h e. absurd (cc e))
 
-soon_iff : (b : Bool) (t c : ℕ) → (b ≡ true → c ≤ t) ↔ ((not b || nat_le c t) ≡ true)
+pub soon_iff : (b : Bool) (t c : ℕ) → (b ≡ true → c ≤ t) ↔ ((not b || nat_le c t) ≡ true)
 soon_iff true t c = (λ f. (le_iff c t).0 (f refl), λ h e. (le_iff c t).1 h)
 soon_iff false t c = (λ f. refl, λ h e. absurd (cc e))
 

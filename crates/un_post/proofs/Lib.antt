@@ -20,3 +20,4 @@ pub mod Congruences
 pub mod OneEnter
 pub mod FrameTags
 pub mod FrameOrder
+pub mod FrameTests
