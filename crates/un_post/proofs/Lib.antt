@@ -1,0 +1,23 @@
+pub mod Meeting
+pub mod Placing
+pub mod Facts
+pub mod Whole
+pub mod Tests
+pub mod Homes
+pub mod Choices
+pub mod SpaceSets
+pub mod RegisterBounds
+pub mod Spaces
+pub mod Zeros
+pub mod Cycles
+pub mod Latencies
+pub mod Limits
+pub mod OfPlaces
+pub mod Regions
+pub mod Ends
+pub mod Congruences
+
+pub mod OneEnter
+pub mod FrameTags
+pub mod FrameOrder
+pub mod FrameTests

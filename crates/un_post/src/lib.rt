@@ -1,0 +1,2 @@
+//! What is posted for a model: the propagators that hold exactly at its solutions.
+#![tactic(auto)]
