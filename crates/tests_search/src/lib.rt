@@ -4,6 +4,8 @@
 #[cfg(test)]
 mod build;
 #[cfg(test)]
+mod clobbers;
+#[cfg(test)]
 mod cuts;
 #[cfg(test)]
 mod kinds;
@@ -11,3 +13,5 @@ mod kinds;
 mod marks;
 #[cfg(test)]
 mod prunes;
+#[cfg(test)]
+mod rectangles;

@@ -37,7 +37,7 @@ fn find_last(vars: &[VarId], w: &Window<'_>) -> Option<VarId>
 }
 
 /// Writes the least value of each of these variables at its place.
-fn fill(vars: &[VarId], w: &Window<'_>, fixed: &mut [u32])
+pub fn fill(vars: &[VarId], w: &Window<'_>, fixed: &mut [u32])
     requires known { HasVars vars.now w.now.store.now.sets }
     requires live { NoneEmpty w.now.store.now.sets }
     requires room { length w.now.store.now.sets ≤ length fixed.old }
@@ -79,7 +79,7 @@ fn try_value<P: Predicate>(
 }
 
 /// Tries each value of `v`, with what is written of the others.
-fn try_all<P: Predicate>(p: &P, w: &mut Window<'_>, v: VarId, fixed: &mut [u32]) -> Pruned
+pub fn try_all<P: Predicate>(p: &P, w: &mut Window<'_>, v: VarId, fixed: &mut [u32]) -> Pruned
     requires vars { w.old.vars.now ≡ P.scope p.now }
     requires lent { Contains (P.scope p.now) v }
     requires known { HasVars (P.scope p.now) w.old.store.now.sets }

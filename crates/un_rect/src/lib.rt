@@ -1,0 +1,12 @@
+//! Propagators of rectangles: temporaries in registers over cycles.
+#![tactic(auto)]
+
+pub mod apart;
+mod checks;
+mod clashes;
+pub mod clobber;
+mod opened;
+mod operand;
+pub mod operands;
+pub mod spans;
+mod values;
