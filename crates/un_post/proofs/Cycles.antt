@@ -1,5 +1,5 @@
 -- The cycle of an operation is in its domain.
-use Rattle.std.proofs.Common.{ℕ, zero, suc, ◌≡◌, ◌≤◌, ◌+◌, Bool, true, false, List, [], ◌∷◌, ◌++◌, length, map, refl, sym, ap, ◌∙◌, subst, arith}
+use Rattle.std.proofs.Common.{ℕ, ◌≡◌, ◌+◌, Bool, List, ◌++◌, length, map, refl, ap, subst, arith}
 use Rattle.std.specs.Prelude.{Option, Some, slice_get, slice_index}
 use Rattle.std.specs.Option.{option_to_list}
 use Rattle.un_ir.specs.declared.extended.ExtKind.{ExtKind}
@@ -9,7 +9,8 @@ use Rattle.un_domains.specs.declared.domain.Domain.{Domain}
 use Rattle.un_model.specs.declared.model.Options.{Options}
 use Rattle.un_model.specs.Pairs.{places_from}
 use Rattle.un_model.specs.Solutions.{InDomain}
-use Rattle.un_model.specs.Variables.{count_if, is_optional, cycle_place, chosen_operands, choice_domain, carries_truth, instr_domain, cycle_domain, result_domain, own_horizon}
+use Rattle.un_model.specs.Variables.{count_if, is_optional, cycle_place, chosen_operands, choice_domain, carries_truth, instr_domain}
+use Rattle.un_model.specs.Variables.{cycle_domain, result_domain, own_horizon}
 use Rattle.un_model.proofs.Placed.{Placed}
 use Rattle.un_model.proofs.OpDomains.{InDomains, sits_left, sits_right}
 
@@ -22,7 +23,8 @@ length_instr truth (Copy node) = refl
 length_instr truth Enter = refl
 length_instr truth Leave = refl
 
-pub cycle_sits : (e : Ext) (o : Options) (x : List ℕ) (ie : Bool) (q : Placed) (d : Domain) → InDomains e o x ie q → cycle_domain (own_horizon q.owner) q.op.kind ≡ Some d
+pub cycle_sits : (e : Ext) (o : Options) (x : List ℕ) (ie : Bool) (q : Placed) (d : Domain) → InDomains e o x ie q
+    → cycle_domain (own_horizon q.owner) q.op.kind ≡ Some d
     → InDomain (slice_index x (q.first + cycle_place q.op)) d
 cycle_sits e o x ie q d h at =
     let truth = carries_truth e q.owner q.op q.op.results in
@@ -34,4 +36,5 @@ cycle_sits e o x ie q d h at =
     let n = length_instr truth q.op.kind in
     let z : q.first + cycle_place q.op + 0 ≡ q.first + cycle_place q.op = omega arith in
     subst (λ k. InDomain (slice_index x k) d) z
-    (sits_right x a b q.first (q.first + cycle_place q.op) (omega arith) (sits_left x (a ++ b) c q.first (sits_left x (a ++ b ++ c) r q.first h.all)) 0 d first)
+    (sits_right x a b q.first (q.first + cycle_place q.op) (omega arith)
+    (sits_left x (a ++ b) c q.first (sits_left x (a ++ b ++ c) r q.first h.all)) 0 d first)

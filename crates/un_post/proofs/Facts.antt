@@ -1,6 +1,7 @@
 -- What an assignment within the domains says of each operation, of each result and of each operand: the propagators' words for
 -- its activity, its time and its register are those of the schedule.
-use Rattle.std.proofs.Common.{ℕ, zero, suc, ◌≡◌, ◌<◌, ◌≤◌, ◌+◌, ◌^◌, Bool, true, false, List, [], ◌∷◌, length, map, refl, sym, ap, ◌∙◌, subst, arith, All, Contains}
+use Rattle.std.proofs.Common.{ℕ, zero, suc, ◌≡◌, ◌<◌, ◌≤◌, ◌+◌, ◌^◌, Bool, true, false, List, [], ◌∷◌, length, map, refl, sym, ap, ◌∙◌}
+use Rattle.std.proofs.Common.{subst, arith, All, Contains}
 use Rattle.std.specs.Prelude.{Option, Some, None, slice_get, slice_index, not, ◌||◌, nat_eq, is_some, unwrap_or, if◌then◌else◌}
 use Rattle.std.specs.List.{range_with_len, AllZip}
 use Rattle.std.specs.Option.{option_map}
@@ -19,7 +20,8 @@ use Rattle.un_model.specs.Instructions.{instruction_of, copy_of}
 use Rattle.un_model.specs.Options.{AreOptions}
 use Rattle.un_model.specs.Schedules.{choice_of, value_by, cycle_by, is_delimiter}
 use Rattle.un_model.specs.Solutions.{InDomain, KeepsDomains}
-use Rattle.un_model.specs.Variables.{model_of, var_at, var_if, is_optional, has_cycle, has_choices, choice_place, chosen_operands, domains_of, own_horizon, instr_domain, copy_domain, carries_truth}
+use Rattle.un_model.specs.Variables.{model_of, var_at, var_if, is_optional, has_cycle, has_choices, choice_place, chosen_operands}
+use Rattle.un_model.specs.Variables.{domains_of, own_horizon, instr_domain, copy_domain, carries_truth}
 use Rattle.un_model.proofs.Lists.{Member, each_member, each_all, member_at, get_below, slice_get-map, length_get}
 use Rattle.un_model.proofs.Placed.{Placed, vars_of, issue_at, Spot, spot, spots_of}
 use Rattle.un_model.proofs.OpDomains.{InDomains, in_entry, keeps_sits, sits_left, all_sit, choice_sits, instr_sits}
@@ -60,7 +62,8 @@ frame_acts op true = refl
 frame_acts op false = refl
 
 acts_by : (kind : ExtKind) (v : ℕ) (x : List ℕ) → falls kind ≡ false → (is_optional kind ≡ true → slice_index x v ≤ 5)
-    → is_active (act_by (var_if (is_optional kind) v)) x ≡ (is_delimiter kind || is_some (instruction_of kind (value_by x (var_if (is_optional kind) v))))
+    → is_active (act_by (var_if (is_optional kind) v)) x ≡ (is_delimiter kind ||
+    is_some (instruction_of kind (value_by x (var_if (is_optional kind) v))))
 acts_by In v x f le = refl
 acts_by Out v x f le = refl
 acts_by (Body so) v x f le = refl
@@ -79,7 +82,8 @@ number_of f n le =
     slice_get-map f (range_with_len 0 6) n ∙ ap (option_map f) (get_range 0 6 n (omega arith)) ∙ ap (λ k. Some (f k)) z
 
 numbered_by : {A : Type 0} (f : Option Op → A) (kind : ExtKind) (v : ℕ) (x : List ℕ) → (is_optional kind ≡ true → slice_index x v ≤ 5)
-    → slice_get (by_number f kind) (act_number (act_by (var_if (is_optional kind) v)) x) ≡ Some (f (instruction_of kind (value_by x (var_if (is_optional kind) v))))
+    → slice_get (by_number f kind) (act_number (act_by (var_if (is_optional kind) v)) x) ≡ Some
+    (f (instruction_of kind (value_by x (var_if (is_optional kind) v))))
 numbered_by f In v x le = refl
 numbered_by f Out v x le = refl
 numbered_by f (Body so) v x le = refl
@@ -89,7 +93,8 @@ numbered_by f Enter v x le = number_of (λ n. f (instruction_of Enter n)) (slice
 numbered_by f Leave v x le = number_of (λ n. f (instruction_of Leave n)) (slice_index x v) (le refl)
 
 times_by : (kind : ExtKind) (end : VarId) (v : ℕ) (x : List ℕ) (instr : Option VarId) (choices : List VarId)
-    → at_value (time_by end kind (var_if (has_cycle kind) v)) x ≡ cycle_by x (slice_index x end.0) kind (record { instr = instr; cycle = var_if (has_cycle kind) v; choices = choices })
+    → at_value (time_by end kind (var_if (has_cycle kind) v)) x ≡ cycle_by x (slice_index x end.0) kind
+    (record { instr = instr; cycle = var_if (has_cycle kind) v; choices = choices })
 times_by In end v x instr choices = refl
 times_by Out end v x instr choices = refl
 times_by (Body so) end v x instr choices = refl
@@ -102,7 +107,8 @@ placed_choice : (c : Option VarId) (x : List ℕ) → chosen_place c x ≡ value
 placed_choice None x = refl
 placed_choice (Some v) x = refl
 
-pub zip_get : {X Y : Type 0} (R : X → Y → Type 0) (xs : List X) (ys : List Y) (j : ℕ) (a : X) → AllZip R xs ys → slice_get xs j ≡ Some a → (b : Y) × (slice_get ys j ≡ Some b) × R a b
+pub zip_get : {X Y : Type 0} (R : X → Y → Type 0) (xs : List X) (ys : List Y) (j : ℕ) (a : X) → AllZip R xs ys → slice_get xs j ≡ Some a
+    → (b : Y) × (slice_get ys j ≡ Some b) × R a b
 zip_get R [] [] j a h e = absurd (cc e)
 zip_get R [] (y ∷ ys) j a h e = absurd h
 zip_get R (z ∷ zs) [] j a h e = absurd h
@@ -141,9 +147,12 @@ module _ (e : Ext) (o : Options) (x : List ℕ) (given : Given e o x) where
       few true v d = let hi = d.1 in omega arith
 
       by : (kind : ExtKind) → q.op.kind ≡ kind → is_optional kind ≡ true → slice_index x q.first ≤ 5
-      by (Copy node) k t = few truth (slice_index x q.first) (instr_sits e o x (in_entry e o x q) q (copy_domain truth) (in_domains q m) (ap (instr_domain truth) k))
-      by Enter k t = let d = instr_sits e o x (in_entry e o x q) q _ (in_domains q m) (ap (instr_domain truth) k) in let hi = d.1 in omega arith
-      by Leave k t = let d = instr_sits e o x (in_entry e o x q) q _ (in_domains q m) (ap (instr_domain truth) k) in let hi = d.1 in omega arith
+      by (Copy node) k t = few truth (slice_index x q.first) (instr_sits e o x (in_entry e o x q) q (copy_domain truth) (in_domains q m)
+          (ap (instr_domain truth) k))
+      by Enter k t = let d = instr_sits e o x (in_entry e o x q) q _ (in_domains q m) (ap (instr_domain truth) k) in let hi = d.1 in
+          omega arith
+      by Leave k t = let d = instr_sits e o x (in_entry e o x q) q _ (in_domains q m) (ap (instr_domain truth) k) in let hi = d.1 in
+          omega arith
       by In k t = absurd (cc t)
       by Out k t = absurd (cc t)
       by (Body so) k t = absurd (cc t)
@@ -165,13 +174,15 @@ module _ (e : Ext) (o : Options) (x : List ℕ) (given : Given e o x) where
   -- ---- results
 
   -- the definer of a result is an operation, and has it at its place
-  pub definer_is : (s : Spot) → Member s (spots e o x) → Member s.definer (all e o x) × (let q = s.definer in slice_get q.op.results s.place ≡ Some s.temp)
+  pub definer_is : (s : Spot) → Member s (spots e o x) → Member s.definer (all e o x)
+      × (let q = s.definer in slice_get q.op.results s.place ≡ Some s.temp)
   definer_is s m =
       let r = joined_member spots_of (all e o x) s m in
       let u = places_member (spot r.0) 0 r.0.op.results s r.2 in
       let z : 0 + u.0 ≡ u.0 = omega arith in
       let same : spot r.0 u.0 u.1 ≡ s = ap (λ k. spot r.0 k u.1) (sym z) ∙ u.3 in
-      subst (λ (t : Spot). Member t.definer (all e o x) × (let q = t.definer in slice_get q.op.results t.place ≡ Some t.temp)) same (r.1, u.2)
+      subst (λ (t : Spot). Member t.definer (all e o x) × (let q = t.definer in slice_get q.op.results t.place ≡ Some t.temp)) same
+      (r.1, u.2)
 
   pub definer_counts : (s : Spot) → Member s (spots e o x) → let q = s.definer in 0 < result_count e.table q.owner q.op.kind
   definer_counts s m =
@@ -200,7 +211,8 @@ module _ (e : Ext) (o : Options) (x : List ℕ) (given : Given e o x) where
       by Leave k = refl
 
   -- its definer is active, issues and has its register as its live range says
-  pub definer_acts : (s : Spot) → Member s (spots e o x) → (let d = definer_at s in is_active (act_of d.place) x ≡ (spot_range e o x s).active)
+  pub definer_acts : (s : Spot) → Member s (spots e o x) → (let d = definer_at s in
+      is_active (act_of d.place) x ≡ (spot_range e o x s).active)
   definer_acts s m = acts s.definer (definer_is s m).0 (definer_goes s m)
 
   pub definer_times : (s : Spot) → (let d = definer_at s in at_value (time_of d.place) x ≡ (spot_range e o x s).from)
@@ -235,7 +247,8 @@ module _ (e : Ext) (o : Options) (x : List ℕ) (given : Given e o x) where
       let ops : chosen_operands q.op ≡ [] = ap (λ (b : Bool). if b then q.op.operands else []) c in
       ap (λ n. slice_get (map var_at (range_with_len (q.first + choice_place q.op) n)) j) (ap length ops)
 
-  choice_below : (q : Placed) (j : ℕ) (operand : Operand) → Member q (all e o x) → slice_get q.op.operands j ≡ Some operand → 0 < length operand.alts
+  choice_below : (q : Placed) (j : ℕ) (operand : Operand) → Member q (all e o x) → slice_get q.op.operands j ≡ Some operand
+      → 0 < length operand.alts
       → value_by x (slice_get (vars_of q).choices j) < length operand.alts
   choice_below q j operand m at pos = by (has_choices q.op.kind) refl
     where
@@ -243,18 +256,21 @@ module _ (e : Ext) (o : Options) (x : List ℕ) (given : Given e o x) where
       by true c =
           let ops : chosen_operands q.op ≡ q.op.operands = ap (λ (b : Bool). if b then q.op.operands else []) c in
           let d = choice_sits e o x (in_entry e o x q) q j operand (in_domains q m) (ap (λ xs. slice_get xs j) ops ∙ at) in
-          let v : value_by x (slice_get (vars_of q).choices j) ≡ slice_index x (q.first + choice_place q.op + j) = ap (value_by x) (choice_var q j operand at c) in
+          let v : value_by x (slice_get (vars_of q).choices j) ≡ slice_index x (q.first + choice_place q.op + j) =
+          ap (value_by x) (choice_var q j operand at c) in
           let hi = d.1 in
           omega arith
       by false c =
           let v : value_by x (slice_get (vars_of q).choices j) ≡ 0 = ap (value_by x) (no_choice q j c) in
           omega arith
 
-  pub reading : (q : Placed) (j : ℕ) (operand : Operand) → Member q (all e o x) → slice_get q.op.operands j ≡ Some operand → Reading q j operand
+  pub reading : (q : Placed) (j : ℕ) (operand : Operand) → Member q (all e o x) → slice_get q.op.operands j ≡ Some operand
+      → Reading q j operand
   reading q j operand m at =
       let g = good_op q m in
       let k = g.keeps in
-      let z = zip_get (IsGoodOperand e.names e.blocks g.before) q.op.operands (wants_of e.table e.names e.blocks q.owner q.op.kind q.op) j operand k.operands at in
+      let z = zip_get (IsGoodOperand e.names e.blocks g.before) q.op.operands (wants_of e.table e.names e.blocks q.owner q.op.kind q.op) j
+      operand k.operands at in
       let fits : IsGoodOperand e.names e.blocks g.before operand z.0 = z.2 in
       let c = value_by x (slice_get (vars_of q).choices j) in
       let y = get_below operand.alts c (choice_below q j operand m at fits.chooses) in
@@ -280,13 +296,16 @@ module _ (e : Ext) (o : Options) (x : List ℕ) (given : Given e o x) where
     read_range = ap (λ (t : TempId). slice_get (the_ranges e o x) t.0) read_temp ∙ range_get e o x numbered r.spot r.member
 
     -- the definer that stands at the chosen place
-    pub read_definer : slice_get (definers_at (definers_of (model_of e o)) operand.alts) (chosen_place (slice_get (vars_of q).choices j) x) ≡ Some (definer_at r.spot)
+    pub read_definer : slice_get (definers_at (definers_of (model_of e o)) operand.alts) (chosen_place (slice_get (vars_of q).choices j) x)
+        ≡ Some (definer_at r.spot)
     read_definer =
         ap (slice_get (definers_at (definers_of (model_of e o)) operand.alts)) (placed_choice (slice_get (vars_of q).choices j) x)
-        ∙ definer_among e o x numbered r.spot operand.alts (value_by x (slice_get (vars_of q).choices j)) r.member (definer_is r.spot r.member).0 r.at
+        ∙ definer_among e o x numbered r.spot operand.alts (value_by x (slice_get (vars_of q).choices j)) r.member
+        (definer_is r.spot r.member).0 r.at
 
     -- the value of the register at the chosen place is that of its live range
-    pub read_register : chosen_value (slice_get (vars_of q).choices j) (registers_of (definers_at (definers_of (model_of e o)) operand.alts)) x ≡ Some (spot_range e o x r.spot).reg
+    pub read_register : chosen_value (slice_get (vars_of q).choices j)
+        (registers_of (definers_at (definers_of (model_of e o)) operand.alts)) x ≡ Some (spot_range e o x r.spot).reg
     read_register =
         let alts = definers_at (definers_of (model_of e o)) operand.alts in
         let c = chosen_place (slice_get (vars_of q).choices j) x in
@@ -298,7 +317,8 @@ module _ (e : Ext) (o : Options) (x : List ℕ) (given : Given e o x) where
     reader_goes = by q.op.kind refl
       where
         by : (kind : ExtKind) → q.op.kind ≡ kind → falls kind ≡ false
-        by (End Fall) k = let z : Some r.want ≡ None = sym r.wants ∙ ap (λ (c : ExtKind). slice_get (wants_of e.table e.names e.blocks q.owner c q.op) j) k in absurd (cc z)
+        by (End Fall) k = let z : Some r.want ≡ None = sym r.wants
+            ∙ ap (λ (c : ExtKind). slice_get (wants_of e.table e.names e.blocks q.owner c q.op) j) k in absurd (cc z)
         by (End (Jump to)) k = refl
         by (End (Branch pred sense to)) k = refl
         by (End (Ret value)) k = refl
@@ -310,11 +330,13 @@ module _ (e : Ext) (o : Options) (x : List ℕ) (given : Given e o x) where
         by Leave k = refl
 
   -- each alternative of an operand is a result of an earlier operation of the block
-  pub alternative : (q : Placed) (j : ℕ) (operand : Operand) → Member q (all e o x) → slice_get q.op.operands j ≡ Some operand → (y : TempId) → Member y operand.alts
+  pub alternative : (q : Placed) (j : ℕ) (operand : Operand) → Member q (all e o x) → slice_get q.op.operands j ≡ Some operand
+      → (y : TempId) → Member y operand.alts
       → (s : Spot) × (Member s (spots e o x)) × (s.temp ≡ y) × (s.definer.block ≡ q.block) × (s.definer.number < q.number)
   alternative q j operand m at y n =
       let g = good_op q m in
       let k = g.keeps in
-      let z = zip_get (IsGoodOperand e.names e.blocks g.before) q.op.operands (wants_of e.table e.names e.blocks q.owner q.op.kind q.op) j operand k.operands at in
+      let z = zip_get (IsGoodOperand e.names e.blocks g.before) q.op.operands (wants_of e.table e.names e.blocks q.owner q.op.kind q.op) j
+      operand k.operands at in
       let fits : IsGoodOperand e.names e.blocks g.before operand z.0 = z.2 in
       g.local y (all_member (Contains g.before) operand.alts y fits.known n)

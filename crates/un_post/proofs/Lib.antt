@@ -1,6 +1,5 @@
 pub mod Meeting
 pub mod Placing
-
 pub mod Facts
 pub mod Whole
 pub mod Tests
@@ -11,3 +10,8 @@ pub mod RegisterBounds
 pub mod Spaces
 pub mod Zeros
 pub mod Cycles
+pub mod Latencies
+pub mod Limits
+pub mod OfPlaces
+pub mod Regions
+pub mod Ends

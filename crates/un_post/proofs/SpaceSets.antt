@@ -1,5 +1,5 @@
 -- The registers of a space, by their numbers.
-use Rattle.std.proofs.Common.{ℕ, zero, suc, ◌≡◌, ◌↔◌, ◌+◌, ◌<◌, ◌≤◌, Bool, true, false, refl, ap, ◌∙◌, sym, arith}
+use Rattle.std.proofs.Common.{ℕ, zero, suc, ◌≡◌, ◌↔◌, ◌+◌, ◌<◌, ◌≤◌, Bool, true, false, refl, ap, ◌∙◌, arith}
 use Rattle.std.specs.Prelude.{Option, Some, None, ◌||◌, nat_eq, nat_lt, if◌then◌else◌}
 use Rattle.std.specs.List.{range_with_len}
 use Rattle.std.proofs.lemmas.Bool.Decides.{nat_tests}
@@ -43,20 +43,22 @@ module _ (r : ℕ) where
   pub predicate : (space_of r ≡ P) ↔ ((32 ≤ r) × (r < 32 + 4))
   predicate = (
     λ h. by (nat_lt r 32) (nat_lt r 36) refl refl h,
-    λ h. let lo = h.0 in let hi = h.1 in let f : nat_lt r 32 ≡ false = grind (arith, nat_tests) in let t : nat_lt r 36 ≡ true = grind (arith, nat_tests) in
-    ap (λ b. space_by b (nat_lt r 36)) f ∙ ap (λ c. space_by false c) t,
+    λ h. let lo = h.0 in let hi = h.1 in let f : nat_lt r 32 ≡ false = grind (arith, nat_tests) in let t : nat_lt r 36 ≡ true =
+        grind (arith, nat_tests) in
+        ap (λ b. space_by b (nat_lt r 36)) f ∙ ap (λ c. space_by false c) t,
   )
     where
       by : (b c : Bool) → nat_lt r 32 ≡ b → nat_lt r 36 ≡ c → space_by b c ≡ P → (32 ≤ r) × (r < 32 + 4)
       by true c p q h = absurd (cc h)
-      by false true p q h = let lo : 32 ≤ r = grind (arith, nat_tests, p) in let hi : r < 36 = grind (arith, nat_tests, q) in (omega arith, omega arith)
+      by false true p q h = let lo : 32 ≤ r = grind (arith, nat_tests, p) in let hi : r < 36 = grind (arith, nat_tests, q) in
+          (omega arith, omega arith)
       by false false p q h = absurd (cc h)
 
   slot : (k : ℕ) → r < 36 + k → (space_of r ≡ M) ↔ ((36 ≤ r) × (r < 36 + k))
   slot k below = (
     λ h. by (nat_lt r 32) (nat_lt r 36) refl h,
     λ h. let lo = h.0 in let f : nat_lt r 32 ≡ false = grind (arith, nat_tests) in let t : nat_lt r 36 ≡ false = grind (arith, nat_tests) in
-    ap (λ b. space_by b (nat_lt r 36)) f ∙ ap (λ c. space_by false c) t,
+        ap (λ b. space_by b (nat_lt r 36)) f ∙ ap (λ c. space_by false c) t,
   )
     where
       by : (b c : Bool) → nat_lt r 36 ≡ c → space_by b c ≡ M → (36 ≤ r) × (r < 36 + k)

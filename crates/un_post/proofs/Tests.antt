@@ -1,6 +1,6 @@
 -- What single tests and single constraints come to.
-use Rattle.std.proofs.Common.{ℕ, ◌≡◌, ◌≤◌, ◌↔◌, Bool, true, false, List, [], ◌∷◌, refl, sym, ◌∙◌, arith}
-use Rattle.std.specs.Prelude.{nat_eq, nat_le, ◌&&◌}
+use Rattle.std.proofs.Common.{ℕ, ◌≡◌, ◌≤◌, ◌<◌, ◌↔◌, Bool, true, false, List, [], ◌∷◌, refl, sym, ◌∙◌, arith}
+use Rattle.std.specs.Prelude.{nat_eq, nat_le, nat_lt, ◌&&◌}
 use Rattle.std.proofs.lemmas.Bool.Decides.{nat_tests}
 use Rattle.un_post.specs.Constraints.{Constraint, meets}
 use Rattle.un_post.proofs.Meeting.{Met}
@@ -19,6 +19,9 @@ eq_iff a b = (λ h. grind (arith, nat_tests, h), λ h. grind (arith, nat_tests, 
 
 pub le_iff : (a b : ℕ) → (a ≤ b) ↔ (nat_le a b ≡ true)
 le_iff a b = (λ h. grind (arith, nat_tests, h), λ h. grind (arith, nat_tests, h))
+
+pub lt_iff : (a b : ℕ) → (a < b) ↔ (nat_lt a b ≡ true)
+lt_iff a b = (λ h. grind (arith, nat_tests, h), λ h. grind (arith, nat_tests, h))
 
 pub and_iff : (a b : Bool) → ((a ≡ true) × (b ≡ true)) ↔ ((a && b) ≡ true)
 and_iff true b = (λ h. h.1, λ h. (refl, h))

@@ -32,7 +32,8 @@ use Rattle.un_prec.specs.declared.below.Weighted.{Weighted}
 use Rattle.un_alt.specs.declared.frame.FrameOp.{FrameOp}
 use Rattle.un_alt.specs.declared.frame.FrameUse.{FrameUse}
 use Rattle.un_alt.specs.declared.frame.FrameLeave.{FrameLeave}
-use Rattle.un_post.specs.Places.{Place, Definer, Asked, act_of, time_of, by_number, block_places, places_of, definers_of, definer_or, registers_at, asked_by, no_place}
+use Rattle.un_post.specs.Places.{Place, Definer, Asked, act_of, time_of, by_number, block_places, places_of, definers_of, definer_or}
+use Rattle.un_post.specs.Places.{registers_at, asked_by, no_place}
 use Rattle.un_post.specs.Constraints.{Constraint, Before, Reads, Inside, Last, Below, Chosen, Zeros, Spaces, Same, Home, Frame}
 
 -- ---- what is posted of each operation, and of each operand
@@ -221,7 +222,8 @@ abbrev pub single_use : Place → FrameUse
 single_use p = record { instr = act_of p; least = 1; most = 1; at = cycle_var p }
 
 abbrev pub uses_of : List Place → List FrameUse
-uses_of ps = map copy_use (with_kind is_copy_kind ps) ++ (map single_use (with_kind is_call_kind ps) ++ map single_use (with_kind is_leave_kind ps))
+uses_of ps = map copy_use (with_kind is_copy_kind ps) ++ (map single_use (with_kind is_call_kind ps) ++
+    map single_use (with_kind is_leave_kind ps))
 
 abbrev pub leave_of : List Place → Place → FrameLeave
 leave_of ps p = record {
