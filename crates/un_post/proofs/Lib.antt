@@ -15,3 +15,7 @@ pub mod Limits
 pub mod OfPlaces
 pub mod Regions
 pub mod Ends
+pub mod Blocks
+pub mod Users
+pub mod BlockTemps
+pub mod NoSharing
