@@ -19,3 +19,4 @@ pub mod Blocks
 pub mod Users
 pub mod BlockTemps
 pub mod NoSharing
+pub mod Spared

@@ -56,7 +56,7 @@ pairwise_parts R S f (x ∷ xs) s cross =
           let r = joined_member f xs z n in cross x r.0 (each_member (S x) xs r.0 s.0 r.1) y z m r.2),
     )
 
-all_pass : {X : Type 0} (t : X → Bool) (xs : List X) → Each (λ x. t x ≡ true) xs ↔ (list_all t xs ≡ true)
+pub all_pass : {X : Type 0} (t : X → Bool) (xs : List X) → Each (λ x. t x ≡ true) xs ↔ (list_all t xs ≡ true)
 all_pass t [] = (λ h. refl, λ h. tt)
 all_pass t (x ∷ xs) =
     let a = and_iff (t x) (list_all t xs) in
