@@ -8,7 +8,8 @@ use Rattle.un_model.specs.declared.model.BlockVars.{BlockVars}
 use Rattle.un_model.specs.declared.model.Options.{Options}
 use Rattle.un_model.specs.Pairs.{pairs_from, joined, over_blocks}
 use Rattle.un_model.specs.Variables.{model_of, op_vars, ops_vars, var_count, var_at, ops_count, block_count, block_vars, blocks_vars}
-use Rattle.un_model.proofs.Lists.{Each, Pairwise, Member, each_of, each_member, member_map, pairwise_two}
+use Rattle.un_model.proofs.Lists.{Each, Pairwise, Member, each_of, each_member, member_map, pairwise_two, place_of as position_of}
+use Rattle.un_model.proofs.Operations.{placed_is}
 use Rattle.un_model.proofs.Placed.{Placed, placed, block_placed, blocks_placed, Region, region_placed}
 use Rattle.un_model.proofs.PlacedSchedules.{all, member_joined, joined_member}
 use Rattle.un_post.specs.Constraints.{Constraint, meets, AllMet}
@@ -79,6 +80,14 @@ rising b n first (block ∷ blocks) =
           let le = each_member (λ (r : Region). b + 1 ≤ r.block) rest r (past (b + 1) (n + length block.ops) (first + block_count block) blocks) m in omega arith),
       rising (b + 1) (n + length block.ops) (first + block_count block) blocks,
     )
+
+-- an operation of a block has it as its owner
+pub region_owner : (r : Region) (q : Placed) → Member q (region_placed r) → q.owner ≡ r.owner
+region_owner r q m =
+    let owner = r.owner in
+    let k = position_of (region_placed r) q m in
+    let is = placed_is r.block owner (var_at (r.first + ops_count owner.ops)) r.number r.first k.0 owner.ops q k.2 in
+    is.3
 
 module _ (e : Ext) (o : Options) (x : List ℕ) where
   abbrev pub blocks : List Region

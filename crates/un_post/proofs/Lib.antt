@@ -20,3 +20,4 @@ pub mod Users
 pub mod BlockTemps
 pub mod NoSharing
 pub mod Spared
+pub mod Packets
