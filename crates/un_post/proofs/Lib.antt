@@ -21,3 +21,4 @@ pub mod BlockTemps
 pub mod NoSharing
 pub mod Spared
 pub mod Packets
+pub mod TwoOperands
