@@ -1,5 +1,6 @@
 -- A store that has as many variables as a model has those of each of its blocks.
-use Rattle.std.proofs.Common.{◌≡◌, ℕ, zero, suc, ◌+◌, ◌≤◌, ◌<◌, true, List, [], ◌∷◌, length, Some, refl, sym, ap, ◌∙◌, subst, arith, length-append}
+use Rattle.std.proofs.Common.{◌≡◌, ℕ, zero, suc, ◌+◌, ◌≤◌, ◌<◌, true, List, [], ◌∷◌, length, Some, refl, sym, ap, ◌∙◌, subst, arith}
+use Rattle.std.proofs.Common.{length-append}
 use Rattle.std.specs.Prelude.{slice_get}
 use Rattle.un_ir.specs.declared.extended.ExtKind.{ExtKind}
 use Rattle.un_ir.specs.declared.extended.ExtKind.TheVariants.{In, Out, Body, End, Copy, Enter, Leave}
@@ -8,7 +9,8 @@ use Rattle.un_ir.specs.declared.extended.ExtBlock.{ExtBlock}
 use Rattle.un_domains.specs.declared.domain.Domain.TheVariants.{Range}
 use Rattle.un_model.specs.declared.model.OpVars.{OpVars}
 use Rattle.un_model.specs.declared.model.Model.{Model}
-use Rattle.un_model.specs.Variables.{has_cycle, count_if, cycle_place, var_count, var_if, op_vars, ops_vars, ops_count, block_count, blocks_vars, blocks_count, own_horizon, blocks_domains, domains_of, IsModel}
+use Rattle.un_model.specs.Variables.{has_cycle, count_if, cycle_place, var_count, var_if, op_vars, ops_vars, ops_count, block_count}
+use Rattle.un_model.specs.Variables.{blocks_vars, blocks_count, own_horizon, blocks_domains, domains_of, IsModel}
 use Rattle.un_model.proofs.Numbering.{length-blocks_domains}
 use Rattle.un_bound.specs.Choices.{IsKnown, AllKnown}
 
@@ -23,7 +25,8 @@ known_kind count n Leave h = tt
 
 known_op : (count first : ℕ) (op : ExtOp) → first + var_count op ≤ count → IsKnown count op.kind (op_vars first op).cycle
 known_op count first op le =
-    known_kind count (first + cycle_place op) op.kind (λ h. let one : count_if (has_cycle op.kind) ≡ 1 = ap count_if h in omega (arith, le, one))
+    known_kind count (first + cycle_place op) op.kind (λ h. let one : count_if (has_cycle op.kind) ≡ 1 = ap count_if h in
+    omega (arith, le, one))
 
 known_ops : (count first : ℕ) (ops : List ExtOp) → first + ops_count ops ≤ count → (k : ℕ) (op : ExtOp) (v : OpVars)
     → slice_get ops k ≡ Some op → slice_get (ops_vars first ops) k ≡ Some v → IsKnown count op.kind v.cycle

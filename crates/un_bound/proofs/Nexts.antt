@@ -1,5 +1,6 @@
 -- The next values of sets, and the variables in which operations have theirs.
-use Rattle.std.proofs.Common.{◌≡◌, ◌≢◌, ℕ, ◌+◌, ◌-◌, ◌≤◌, ◌<◌, inl, inr, true, false, List, [], Option, Some, None, length, get_or, refl, sym, subst, arith, get_or-set_same, get_or-set_other}
+use Rattle.std.proofs.Common.{◌≡◌, ◌≢◌, ℕ, ◌+◌, ◌-◌, ◌≤◌, ◌<◌, inl, inr, true, false, List, [], Option, Some, None, length, get_or, refl}
+use Rattle.std.proofs.Common.{sym, subst, arith, get_or-set_same, get_or-set_other}
 use Rattle.std.specs.Prelude.{slice_get, slice_index, slice_set, IfSome}
 use Rattle.std.proofs.lemmas.Bool.{cases_lt}
 use Rattle.std.proofs.lemmas.Option.{slice_get-get_or, get_or_from_slice_get}
@@ -187,4 +188,5 @@ fits_more s end ops vars i d e h new k op v lt p q = elim (cases_lt k i) [
 
 pub misfit : (s : Sets) (end : ℕ) (ops : List ExtOp) (vars : List OpVars) (i : ℕ) (d : ExtOp) (e : OpVars) → i < length ops
     → i < length vars → TransfersFit s ops vars end → FitsBefore s end (get_or ops i d).kind (get_or vars i e)
-misfit s end ops vars i d e lt less h = h i (get_or ops i d) (get_or vars i e) (slice_get-get_or ops i d lt) (slice_get-get_or vars i e less)
+misfit s end ops vars i d e lt less h = h i (get_or ops i d) (get_or vars i e) (slice_get-get_or ops i d lt)
+    (slice_get-get_or vars i e less)

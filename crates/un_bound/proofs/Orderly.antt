@@ -1,5 +1,6 @@
 -- The arcs of the model of an extended function lead on.
-use Rattle.std.proofs.Common.{◌≡◌, ℕ, zero, suc, ◌+◌, ◌-◌, ◌^◌, ◌≤◌, ◌<◌, ◌⊎◌, inl, inr, Bool, true, false, List, [], ◌∷◌, ◌++◌, length, get_or, take, Option, Some, None, refl, sym, ap, ◌∙◌, subst, arith}
+use Rattle.std.proofs.Common.{◌≡◌, ℕ, zero, suc, ◌+◌, ◌-◌, ◌^◌, ◌≤◌, ◌<◌, ◌⊎◌, inl, inr, Bool, true, false, List, [], ◌∷◌, ◌++◌, length}
+use Rattle.std.proofs.Common.{get_or, take, Option, Some, None, refl, sym, ap, ◌∙◌, subst, arith}
 use Rattle.std.specs.Prelude.{slice_get, IfSome, All}
 use Rattle.std.specs.List.{list_any, AllZip}
 use Rattle.std.proofs.lemmas.Bool.{eqb-true}
@@ -21,7 +22,8 @@ use Rattle.un_ir.specs.Extended.{IsExtended, IsGoodExtBlock, IsGoodOperand, IsGo
 use Rattle.un_model.specs.declared.model.Arc.{Arc}
 use Rattle.un_model.specs.declared.model.Model.{Model}
 use Rattle.un_model.specs.declared.model.TempVars.{TempVars}
-use Rattle.un_model.specs.Arcs.{is_mandatory, own_instr, value_read, defines, reads_from, data_gap, NeedsGap, block_arcs, blocks_arcs, IsLargest, IsArcOf, RisesTo}
+use Rattle.un_model.specs.Arcs.{is_mandatory, own_instr, value_read, defines, reads_from, data_gap, NeedsGap, block_arcs, blocks_arcs}
+use Rattle.un_model.specs.Arcs.{IsLargest, IsArcOf, RisesTo}
 use Rattle.un_model.specs.Arcs.NeedsGap.{ByData, ByMemory}
 use Rattle.un_model.specs.ArcLaws.{arc_told, arcs_rise}
 use Rattle.un_model.specs.Instructions.{instruction_of, is_transfer, latency_by}
@@ -165,7 +167,14 @@ blocks_defined n first [] j t h = absurd (cc h)
 blocks_defined n first (block ∷ blocks) j t h =
     elim (get_split (ops_temps n first block.ops) (blocks_temps (n + length block.ops) (first + block_count block) blocks) j t h) [
       | inl here ↦ let d = ops_defined n first block.ops j t here in
-          record { place = d.place; op = d.op; at = get_left block.ops (all_ops blocks) d.place d.op d.at; number = d.number; some = d.some }
+          record {
+            place = d.place;
+            op = d.op;
+            at = get_left block.ops (all_ops blocks) d.place d.op d.at;
+            number = d.number;
+            some =
+                d.some;
+          }
       | inr later ↦ let d = blocks_defined (n + length block.ops) (first + block_count block) blocks later.0 t later.1 in
           record {
             place = length block.ops + d.place;
@@ -272,7 +281,8 @@ module _ (e : Ext) (fit : IsFit e.table) (block : ExtBlock) (good : IsGoodExtBlo
     each = λ k d lt. leads_on (get_or (block_arcs e.table temps n block.ops) k d)
         (arc_told e.table temps n block.ops (get_or (block_arcs e.table temps n block.ops) k d)
         (Contains-get_or (block_arcs e.table temps n block.ops) k d lt));
-    rising = λ i j d lt within. before (get_or (block_arcs e.table temps n block.ops) i d) (get_or (block_arcs e.table temps n block.ops) j d)
+    rising = λ i j d lt within. before (get_or (block_arcs e.table temps n block.ops) i d)
+        (get_or (block_arcs e.table temps n block.ops) j d)
         (arcs_rise e.table temps n block.ops i j d lt within);
   }
     where

@@ -1,5 +1,6 @@
 -- The end of a block, and the operations that stand at it.
-use Rattle.std.proofs.Common.{◌≡◌, ◌≢◌, ℕ, ◌+◌, ◌*◌, ◌-◌, ◌<◌, ◌≤◌, inl, inr, zero, suc, Bool, true, false, List, [], ◌∷◌, length, get_or, Option, Some, None, refl, sym, ap, ◌∙◌, subst, arith, get_or-set_same, get_or-set_other}
+use Rattle.std.proofs.Common.{◌≡◌, ◌≢◌, ℕ, ◌+◌, ◌*◌, ◌-◌, ◌<◌, ◌≤◌, inl, inr, zero, suc, Bool, true, false, List, [], ◌∷◌, length, get_or}
+use Rattle.std.proofs.Common.{Option, Some, None, refl, sym, ap, ◌∙◌, subst, arith, get_or-set_same, get_or-set_other}
 use Rattle.std.specs.Prelude.{if◌then◌else◌, slice_get, slice_index, slice_set, All, IfSome}
 use Rattle.std.proofs.lemmas.Option.{slice_get_cases}
 use Rattle.un_domains.specs.SetLaws.{same_or_not}
@@ -10,7 +11,8 @@ use Rattle.un_ir.specs.declared.extended.ExtOp.{ExtOp}
 use Rattle.un_model.specs.declared.model.Arc.{Arc}
 use Rattle.un_bound.specs.Arcs.{MayLead, MayWait, LeadsOn, LeadOn}
 use Rattle.un_bound.specs.Timings.{IsTimed, AtEach, IsKept, IsTiming, IsLeastLength}
-use Rattle.un_bound.specs.Lengths.{Choice, AreChosen, KeepFirst, AreEarliest, FromFirst, first_by, first_cycle, end_by, end_after, IsEnd, IsLeastEnd, AreSmall}
+use Rattle.un_bound.specs.Lengths.{Choice, AreChosen, KeepFirst, AreEarliest, FromFirst, first_by, first_cycle, end_by, end_after, IsEnd}
+use Rattle.un_bound.specs.Lengths.{IsLeastEnd, AreSmall}
 use Rattle.un_model.specs.Instructions.{instruction_of, is_transfer}
 use Rattle.un_model.specs.Solutions.{IsPlacedAs}
 

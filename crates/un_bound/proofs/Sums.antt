@@ -1,5 +1,6 @@
 -- The sum over the blocks of a bound on each.
-use Rattle.std.proofs.Common.{◌≡◌, ℕ, ◌+◌, ◌*◌, ◌≤◌, ◌<◌, ◌⊎◌, inl, inr, List, [], ◌∷◌, length, drop, get_or, min, Some, None, refl, subst, arith}
+use Rattle.std.proofs.Common.{◌≡◌, ℕ, ◌+◌, ◌*◌, ◌≤◌, ◌<◌, ◌⊎◌, inl, inr, List, [], ◌∷◌, length, drop, get_or, min, Some, None, refl, subst}
+use Rattle.std.proofs.Common.{arith}
 use Rattle.std.specs.Prelude.{slice_get, All}
 use Rattle.std.proofs.lemmas.Nat.{mul-le}
 use Rattle.std.proofs.lemmas.Option.{slice_get_cases, get_or_from_slice_get}
@@ -44,7 +45,8 @@ sum_all t n k blocks arcs Whole sum h le = subst Whole e (h 0 (by (within_min k 
 
 pub block_at : (P : ExtBlock → Type 0) (blocks : List ExtBlock) (k : ℕ) (block : ExtBlock) → slice_get blocks k ≡ Some block
     → All P blocks → P block
-block_at P blocks k block is all = subst P (get_or_from_slice_get blocks k block block is) (all k block (inside (slice_get_cases blocks k).1))
+block_at P blocks k block is all = subst P (get_or_from_slice_get blocks k block block is)
+    (all k block (inside (slice_get_cases blocks k).1))
   where
     inside : ((x : ExtBlock) × (k < length blocks) × (slice_get blocks k ≡ Some x) × (get_or blocks k x ≡ x))
         ⊎ ((length blocks ≤ k) × (slice_get blocks k ≡ None)) → k < length blocks

@@ -1,5 +1,6 @@
 -- Words of private contracts: the least cycles in a box.
-use Rattle.std.specs.Prelude.{ℕ, ◌≡◌, ◌+◌, ◌-◌, ◌*◌, ◌<◌, ◌≤◌, Bool, true, false, List, ◌∷◌, Option, Some, None, IfSome, length, max, slice_get, slice_index, slice_set}
+use Rattle.std.specs.Prelude.{ℕ, ◌≡◌, ◌+◌, ◌-◌, ◌*◌, ◌<◌, ◌≤◌, Bool, true, false, List, ◌∷◌, Option, Some, None, IfSome, length, max}
+use Rattle.std.specs.Prelude.{slice_get, slice_index, slice_set}
 use Rattle.un_base.specs.declared.ids.VarId.{VarId}
 use Rattle.un_isa.specs.declared.op.Op.{Op}
 use Rattle.un_ir.specs.declared.extended.ExtKind.{ExtKind}

@@ -105,7 +105,7 @@ module _ (e : Ext) (o : Options) (x : List ℕ) where
   pub one_region : (r s : Region) → Member r blocks → Member s blocks → r.block ≡ s.block → r ≡ s
   one_region r s m n same = elim (pairwise_two (λ (r s : Region). r.block < s.block) blocks r s (rising 0 0 0 e.blocks) m n) [
     | inl is ↦ is
-    | inr two ↦ elim two [ | inl lt ↦ absurd (omega arith) | inr lt ↦ absurd (omega arith) ]
+    | inr two ↦ elim two [ inl lt ↦ absurd (omega arith) | inr lt ↦ absurd (omega arith) ]
   ]
 
   -- an operation with the number of a block is of that block

@@ -130,9 +130,9 @@ module _ (e : Ext) (o : Options) (x : List ℕ) (given : Given e o x) where
         let ps = map place_of (region_placed r) in
         subst (λ (ps : List Place). Each Q (map (leave_of ps) (with_kind is_leave ps))) (sym (places_at r)) (each_map Q (leave_of ps) (with_kind is_leave ps)
         ((kinds_of (λ p. Q (leave_of ps p)) is_leave (region_placed r)).1 (λ l m k.
-            let b = of_region r l m in
-            let nb = (region_is 0 0 0 e.blocks i.0 r i.2).1 in
-            h l (record { number = i.0; region = r; at = i.2; inside = m; is = omega arith }) k)))))),
+        let b = of_region r l m in
+        let nb = (region_is 0 0 0 e.blocks i.0 r i.2).1 in
+        h l (record { number = i.0; region = r; at = i.2; inside = m; is = omega arith }) k)))))),
   )
 
   -- each operation has a home

@@ -150,9 +150,12 @@ module _ (e : Ext) (o : Options) (x : List ℕ) (given : Given e o x) where
       let same : (s : Spot) → Member s (region_spots r) → at s ≡ temp_of r s = λ s m. temp_is e o x given r s mr m in
       let posted : apart_in ds r.block r.number r.owner (region_vars r) ≡ Apart (map at (region_spots r)) ∷ [] =
       ap (λ (qs : List Place). Apart (map (temp_at ds qs) (results_in qs)) ∷ []) (places_in r) ∙ ap (λ ts. Apart ts ∷ []) made in (
-        λ h. subst (Met x) (sym posted) (pairs.0 (pairwise_map H at (region_spots r)
-            (pairwise_more Share (λ s u. H (at s) (at u)) (region_spots r)
-            (λ s u ms mu k. subst (λ t. H t (at u)) (sym (same s ms)) (subst (λ t. H (temp_of r s) t) (sym (same u mu)) ((two r s u mr ms mu).0 k))) h)), tt),
+        λ h. subst (Met x) (sym posted) (
+          pairs.0 (pairwise_map H at (region_spots r)
+              (pairwise_more Share (λ s u. H (at s) (at u)) (region_spots r)
+              (λ s u ms mu k. subst (λ t. H t (at u)) (sym (same s ms)) (subst (λ t. H (temp_of r s) t) (sym (same u mu)) ((two r s u mr ms mu).0 k))) h)),
+          tt,
+        ),
         λ h. pairwise_more (λ s u. H (at s) (at u)) Share (region_spots r)
             (λ s u ms mu k. (two r s u mr ms mu).1 (subst (λ t. H t (temp_of r u)) (same s ms) (subst (λ t. H (at s) t) (same u mu) k)))
             (pairwise_of_map H at (region_spots r) (pairs.1 (subst (Met x) posted h).0)),

@@ -305,7 +305,8 @@ module _ (e : Ext) (o : Options) (x : List ℕ) (given : Given e o x) where
       let owner = r.owner in
       let posted : packets_in e.table r.block r.number r.owner (region_vars r) ≡ PerCycle (items r) owner.horizon ∷ [] =
       ap (λ (ps : List Place). PerCycle (map (item_of e.table) (with_kind issues_kind ps)) owner.horizon ∷ []) (places_in r) in (
-        λ h. subst (Met x) (sym posted) (fits_holds (items r) owner.horizon x (record {
+        λ h. subst (Met x) (sym posted) (
+          fits_holds (items r) owner.horizon x (record {
             room = λ s c.
                 let resource = resource_of s in
                 let same = region_taken resource r c mr in
@@ -326,7 +327,9 @@ module _ (e : Ext) (o : Options) (x : List ℕ) (given : Given e o x) where
                 let at = numbers e o x given (needs_by e.table) q.0 mq in
                 subst (λ (i : Item). is_active i.on x ≡ true → act_number i.on x < length i.uses) q.3
                 (λ on. length_get (by_number (needs_by e.table) q.0.op.kind) (act_number (act_of (place_of q.0)) x) _ at)));
-          }), tt),
+          }),
+          tt,
+        ),
         λ h resource c.
             let f = holds_fits (items r) owner.horizon x (subst (Met x) posted h).0 in
             let le = f.room (slot_of resource) c in

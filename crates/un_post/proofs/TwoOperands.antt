@@ -156,11 +156,12 @@ module _ (e : Ext) (o : Options) (x : List ℕ) (given : Given e o x)
       let pairs = pairwise_of_map ShareNoCycle (spot_range e o x) (spots e o x)
       (subst (Pairwise ShareNoCycle) (ranges_are e o x given) (pairwise_all ShareNoCycle (the_ranges e o x) regs.0)) in
       elim (pairwise_two (λ s u. ShareNoCycle (spot_range e o x s) (spot_range e o x u)) (spots e o x) s u pairs h.member k.member) [
-      | inl is ↦ distinct (ap (λ (s : Spot). carried e.blocks s.temp) is)
-      | inr two ↦ elim two [
-        | inl share ↦ registers_differ r t c share ra ta block l1 l2 l3 l4 (sym same)
-        | inr share ↦ registers_differ t r c share ta ra (sym block) l3 l4 l1 l2 same
-      ] ]
+        | inl is ↦ distinct (ap (λ (s : Spot). carried e.blocks s.temp) is)
+        | inr two ↦ elim two [
+          | inl share ↦ registers_differ r t c share ra ta block l1 l2 l3 l4 (sym same)
+          | inr share ↦ registers_differ t r c share ta ra (sym block) l3 l4 l1 l2 same
+        ]
+      ]
     where
       distinct : carried e.blocks h.spot.temp ≡ carried e.blocks k.spot.temp → ⊥
       distinct is =

@@ -1,5 +1,6 @@
 -- The laws of Clobber.
-use Rattle.std.proofs.Common.{ℕ, zero, suc, ◌≡◌, ◌<◌, ◌≤◌, ◌⊎◌, Bool, true, false, not, ◌&&◌, ◌||◌, List, [], ◌∷◌, ◌++◌, length, get_or, nat_eq, nat_le, nat_lt, None, Some, option_and_then, All, refl, sym, ap, ◌∙◌, subst, arith, inl, inr}
+use Rattle.std.proofs.Common.{ℕ, zero, suc, ◌≡◌, ◌<◌, ◌≤◌, ◌⊎◌, Bool, true, false, not, ◌&&◌, ◌||◌, List, [], ◌∷◌, ◌++◌, length, get_or}
+use Rattle.std.proofs.Common.{nat_eq, nat_le, nat_lt, None, Some, option_and_then, All, refl, sym, ap, ◌∙◌, subst, arith, inl, inr}
 use Rattle.std.specs.declared.option.Option.{Option}
 use Rattle.std.specs.List.{AllByRecursion, Contains, list_any, list_all}
 use Rattle.std.proofs.lemmas.Bool.Decides.{nat_tests}
@@ -32,9 +33,13 @@ use Rattle.un_rect.specs.EntryLaws.{entry_within, entry_lawful, entries_lawful_e
 use Rattle.un_rect.specs.Inherited.{Inherited, refused, not_inherited, always_inherited, both_inherited, either_inherited}
 use Rattle.un_rect.specs.PairLaws.{Checks, checks_second, checks_each}
 use Rattle.un_rect.specs.Spans.{starts, ends, greatest_start, least_end, sure_user, SurelyOccupies, choice_vars, UserVars, TempVars}
-use Rattle.un_rect.specs.SpansLaws.{starts_alike, ends_alike, user_alike, greatest_start_below, least_end_below, sure_user_below, greatest_start_alike, least_end_alike, sure_user_alike, sure_user_reads, starts_in, ends_in}
-use Rattle.un_rect.specs.TempLaws.{among_left, among_right, among_here, among_later, among_filter, own_temp, own_users, users_wider, users_shared, temp_wider, temp_shared, filter_ascends, part_all, lawful_part}
-use Rattle.un_rect.specs.Clobber.{avoids, spares, clobber_holds, CallVars, call_vars, call_part, clobber_parts, may_survive, covers, is_read_behind, lasts, hit_test, hit_cut, off_test, off_cut, cycle_test, cycle_cut, reader_test, choice_cut, reader_cut, call_steps, check_call, clobber_cut, ClobberStrong}
+use Rattle.un_rect.specs.SpansLaws.{starts_alike, ends_alike, user_alike, greatest_start_below, least_end_below, sure_user_below}
+use Rattle.un_rect.specs.SpansLaws.{greatest_start_alike, least_end_alike, sure_user_alike, sure_user_reads, starts_in, ends_in}
+use Rattle.un_rect.specs.TempLaws.{among_left, among_right, among_here, among_later, among_filter, own_temp, own_users, users_wider}
+use Rattle.un_rect.specs.TempLaws.{users_shared, temp_wider, temp_shared, filter_ascends, part_all, lawful_part}
+use Rattle.un_rect.specs.Clobber.{avoids, spares, clobber_holds, CallVars, call_vars, call_part, clobber_parts, may_survive, covers}
+use Rattle.un_rect.specs.Clobber.{is_read_behind, lasts, hit_test, hit_cut, off_test, off_cut, cycle_test, cycle_cut, reader_test}
+use Rattle.un_rect.specs.Clobber.{choice_cut, reader_cut, call_steps, check_call, clobber_cut, ClobberStrong}
 use Rattle.un_rect.specs.declared.clobber.ClobberCall.{ClobberCall}
 
 -- Tests of lists

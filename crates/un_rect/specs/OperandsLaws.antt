@@ -1,5 +1,6 @@
 -- What two operands look at, and what they let a store keep.
-use Rattle.std.proofs.Common.{ℕ, zero, suc, ◌≡◌, ◌∙◌, Bool, true, false, not, ◌&&◌, ◌||◌, List, [], ◌∷◌, get_or, nat_eq, Some, refl, sym, subst, arith, ap}
+use Rattle.std.proofs.Common.{ℕ, zero, suc, ◌≡◌, ◌∙◌, Bool, true, false, not, ◌&&◌, ◌||◌, List, [], ◌∷◌, get_or, nat_eq, Some, refl, sym}
+use Rattle.std.proofs.Common.{subst, arith, ap}
 use Rattle.std.specs.List.{AllByRecursion, Contains, list_any, slice_get}
 use Rattle.std.proofs.lemmas.List.Elements.{recursion_from_All}
 use Rattle.std.proofs.lemmas.Bool.Decides.{nat_tests}
@@ -26,7 +27,8 @@ use Rattle.un_prop.specs.PlaceLaws.{entries_lawful, choice_lawful, choice_keeps}
 use Rattle.un_prop.specs.declared.act.Act.TheVariants.{Always}
 use Rattle.un_rect.specs.Entries.{entry_cut, each_entry}
 use Rattle.un_rect.specs.EntryLaws.{entry_lawful, entries_lawful_each, entries_keep, fixed_lawful, fixed_keeps}
-use Rattle.un_rect.specs.Operands.{Side, side_passes, operands_holds, SideVars, may_have, may_avoid, may_be, side_can, other_test, other_cut, chosen_cut, fixed_cut, side_steps, operands_steps, operands_cut}
+use Rattle.un_rect.specs.Operands.{Side, side_passes, operands_holds, SideVars, may_have, may_avoid, may_be, side_can, other_test}
+use Rattle.un_rect.specs.Operands.{other_cut, chosen_cut, fixed_cut, side_steps, operands_steps, operands_cut}
 
 -- What is looked at
 

@@ -11,5 +11,6 @@ returns-clause-least c =
 
 pub returns-clause-few : goal.returns-clause-few
 returns-clause-few c =
-    let most = c.least_end.ensures.least (2 + 255 * length c.args.ops.now) (small_end c.args.ops.now c.raise.new.cycles c.raise.ensures.small) in
+    let most = c.least_end.ensures.least (2 + 255 * length c.args.ops.now)
+    (small_end c.args.ops.now c.raise.new.cycles c.raise.ensures.small) in
     omega (arith, most)
