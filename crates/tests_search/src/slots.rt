@@ -21,7 +21,7 @@ use un_slots::per_cycle::PerCycle;
 /// Sets of the cycles of a load, a store, a control transfer and a load or a store of two cycles each before cycle 8, and the
 /// numbers of the last two: an operation that is a store or, by its number 2, none of the places for memory, and a copy that may
 /// be inactive, a register move, a store or a load.
-static SLOTS: [Case; 12] = [
+static SLOTS: [Case; 15] = [
     // One store and one load fill the places for memory in cycle 3: a load is not there.
     Case {
         before: &[&[3], &[3], &[5], &[2, 3], &[2], &[3, 4, 5], &[3]],
@@ -93,6 +93,24 @@ static SLOTS: [Case; 12] = [
         before: &[&[5, 6], &[2, 3], &[5], &[2, 3], &[1], &[2, 3], &[1, 2]],
         answer: Pruned::Same,
         after: &[&[5, 6], &[2, 3], &[5], &[2, 3], &[1], &[2, 3], &[1, 2]],
+    },
+    // Two stores fill cycles 2 and 3, though none is settled: a third is in neither.
+    Case {
+        before: &[&[5, 6], &[2, 3], &[5], &[2, 3], &[1], &[1, 2, 3, 6], &[2]],
+        answer: Pruned::Tighter,
+        after: &[&[5, 6], &[2, 3], &[5], &[2, 3], &[1], &[1, 6], &[2]],
+    },
+    // A load takes no place for stores, so it may be in them.
+    Case {
+        before: &[&[5, 6], &[2, 3], &[5], &[2, 3], &[1], &[1, 2, 3, 6], &[3]],
+        answer: Pruned::Same,
+        after: &[&[5, 6], &[2, 3], &[5], &[2, 3], &[1], &[1, 2, 3, 6], &[3]],
+    },
+    // A load and two stores leave one of the places for memory in cycles 2 and 3.
+    Case {
+        before: &[&[2, 4], &[2, 3], &[5], &[2, 3], &[1], &[2, 3], &[3]],
+        answer: Pruned::Same,
+        after: &[&[2, 4], &[2, 3], &[5], &[2, 3], &[1], &[2, 3], &[3]],
     },
 ];
 

@@ -60,7 +60,7 @@ places_more MultiplyOrControl n = omega arith
 places_more Control n = omega arith
 
 -- what an item takes in n cycles from low on
-abbrev taken_in : Resource → ℕ → ℕ → List ℕ → Item → ℕ
+abbrev pub taken_in : Resource → ℕ → ℕ → List ℕ → Item → ℕ
 taken_in r low zero x i = 0
 taken_in r low (suc n) x i = taken_in r low n x i + taken_by r (low + n) x i
 
@@ -84,7 +84,7 @@ taken_at r low (suc n) m x i lt = elim (cases_lt m n) [
   | inr more ↦ (let is : m ≡ n = omega (arith, lt, more) in let same = ap (λ (k : ℕ). taken_by r (low + k) x i) is in omega (arith, same))
 ]
 
-taken_all : (r : Resource) (low n : ℕ) (x : List ℕ) (items : List Item) → ((c : ℕ) → taken r items x c ≤ places_of r)
+pub taken_all : (r : Resource) (low n : ℕ) (x : List ℕ) (items : List Item) → ((c : ℕ) → taken r items x c ≤ places_of r)
     → sum_by (taken_in r low n x) items ≤ places_of r * n
 taken_all r low zero x items room = (let none = sum_none items in omega (arith, none))
 taken_all r low (suc n) x items room = (
@@ -97,7 +97,7 @@ taken_all r low (suc n) x items room = (
 -- One item
 
 module _ (vs : List VarId) where
-  takes_below : (r : Resource) (t s : Sets) → Below t s → (i : Item) → surely_takes r s i ≡ true → surely_takes r t i ≡ true
+  pub takes_below : (r : Resource) (t s : Sets) → Below t s → (i : Item) → surely_takes r s i ≡ true → surely_takes r t i ≡ true
   takes_below r t s le i h =
       let two = firsts (sure i.on s) _ h in
       both (sure i.on t) _ (sure_below vs t s le i.on two.0)
@@ -119,7 +119,7 @@ module _ (vs : List VarId) where
       let to' : greatest (set_at t i.at.0) ≤ high = omega (arith, to, down) in
       both (nat_le low (least (set_at t i.at.0))) _ (grind (arith, nat_tests, from')) (grind (arith, nat_tests, to'))
 
-  crowded_below : (r : Resource) (low high : ℕ) (t s : Sets) → HasVars vs s → NoneEmpty t → Below t s → (i : Item) → ItemVars vs i
+  pub crowded_below : (r : Resource) (low high : ℕ) (t s : Sets) → HasVars vs s → NoneEmpty t → Below t s → (i : Item) → ItemVars vs i
       → crowded r low high s i ≤ crowded r low high t i
   crowded_below r low high t s known full le i h = by (surely_takes r s i && lies_in low high s i) refl
     where
@@ -132,7 +132,7 @@ module _ (vs : List VarId) where
           let is : crowded r low high t i ≡ 1 = ap (λ (b : Bool). if b then 1 else 0) now in
           omega (arith, is)
 
-  crowded_alike : (r : Resource) (low high : ℕ) (s t : Sets) → Agree vs s t → (i : Item) → ItemVars vs i
+  pub crowded_alike : (r : Resource) (low high : ℕ) (s t : Sets) → Agree vs s t → (i : Item) → ItemVars vs i
       → crowded r low high s i ≡ crowded r low high t i
   crowded_alike r low high s t agree i h =
       ap (λ (b : Bool). if (b && not (list_any (λ n. nat_eq (share_at r i.uses n) 0)
@@ -144,8 +144,29 @@ module _ (vs : List VarId) where
       ∙ ap (λ (xs : List ℕ). if surely_takes r t i && (nat_le low (least xs) && nat_le (greatest xs) high) then 1 else 0)
       (set_alike vs s t agree i.at h.of_at))
 
+  -- an item that surely takes some takes it in the intervals that have its cycle
+  pub takes_some : (r : Resource) (low high : ℕ) (s : Sets) (x : List ℕ) → HasVars vs s → IsIn x s → (i : Item) → ItemVars vs i
+      → surely_takes r s i ≡ true → low ≤ get_or x i.at.0 0 → get_or x i.at.0 0 ≤ high → 0 < taken_in r low (high + 1 - low) x i
+  takes_some r low high s x known there i h e from to =
+      let takes = firsts (sure i.on s) _ e in
+      let c = get_or x i.at.0 0 in
+      let n = act_number i.on x in
+      let on = sure_active vs s x there known i.on h.of_on takes.0 in
+      let some : 0 < share_at r i.uses n = positive (share_at r i.uses n) (λ none. not_true _ takes.1
+      (any_has (λ m. nat_eq (share_at r i.uses m) 0) (act_set i.on s) n (number_in vs s x there known i.on h.of_on) none)) in
+      let here : issues_at c x i ≡ true = both (is_active i.on x) (nat_eq c c) on (grind (arith, nat_tests)) in
+      let own_share : taken_by r c x i ≡ share_at r i.uses n = ap (λ (b : Bool). if b then share_at r i.uses n else 0) here in
+      let at = taken_at r low (high + 1 - low) (c - low) x i (omega (arith, from, to)) in
+      let is : low + (c - low) ≡ c = omega (arith, from) in
+      let same = ap (λ (m : ℕ). taken_by r m x i) is in
+      omega (arith, some, own_share, at, same)
+    where
+      positive : (m : ℕ) → (nat_eq m 0 ≡ true → ⊥) → 0 < m
+      positive zero other = absurd (other refl)
+      positive (suc m) other = omega arith
+
   -- an item that is counted takes some in the interval
-  crowded_taken : (r : Resource) (low high : ℕ) (s : Sets) (x : List ℕ) → HasVars vs s → IsIn x s → (i : Item) → ItemVars vs i
+  pub crowded_taken : (r : Resource) (low high : ℕ) (s : Sets) (x : List ℕ) → HasVars vs s → IsIn x s → (i : Item) → ItemVars vs i
       → crowded r low high s i ≤ taken_in r low (high + 1 - low) x i
   crowded_taken r low high s x known there i h = by (surely_takes r s i && lies_in low high s i) refl
     where
@@ -153,7 +174,6 @@ module _ (vs : List VarId) where
       by false e = omega arith
       by true e =
           let two = firsts (surely_takes r s i) (lies_in low high s i) e in
-          let takes = firsts (sure i.on s) _ two.0 in
           let lies = firsts (nat_le low (least (set_at s i.at.0))) _ two.1 in
           let from : low ≤ least (set_at s i.at.0) = (let a = lies.0 in grind (arith, nat_tests, a)) in
           let to : greatest (set_at s i.at.0) ≤ high = (let b = lies.1 in grind (arith, nat_tests, b)) in
@@ -161,20 +181,7 @@ module _ (vs : List VarId) where
           let own = there.each i.at.0 (has_among vs i.at s h.of_at known) in
           let least_c = least-le (set_at s i.at.0) c own in
           let most_c = has-fold_max 0 (set_at s i.at.0) c own in
-          let n = act_number i.on x in
-          let on = sure_active vs s x there known i.on h.of_on takes.0 in
-          let some : 0 < share_at r i.uses n = positive (share_at r i.uses n) (λ none. not_true _ takes.1
-          (any_has (λ m. nat_eq (share_at r i.uses m) 0) (act_set i.on s) n (number_in vs s x there known i.on h.of_on) none)) in
-          let here : issues_at c x i ≡ true = both (is_active i.on x) (nat_eq c c) on (grind (arith, nat_tests)) in
-          let own_share : taken_by r c x i ≡ share_at r i.uses n = ap (λ (b : Bool). if b then share_at r i.uses n else 0) here in
-          let at = taken_at r low (high + 1 - low) (c - low) x i (omega (arith, from, to, least_c, most_c)) in
-          let is : low + (c - low) ≡ c = omega (arith, from, least_c) in
-          let same = ap (λ (m : ℕ). taken_by r m x i) is in
-          omega (arith, some, own_share, at, same)
-        where
-          positive : (m : ℕ) → (nat_eq m 0 ≡ true → ⊥) → 0 < m
-          positive zero other = absurd (other refl)
-          positive (suc m) other = omega arith
+          takes_some r low high s x known there i h two.0 (omega (arith, from, least_c)) (omega (arith, to, most_c))
 
 -- The cut
 
@@ -183,9 +190,10 @@ take_each P zero items all = tt
 take_each P (suc n) [] all = tt
 take_each P (suc n) (i ∷ rest) all = (all.0, take_each P n rest all.1)
 
+pub each_counted : (vs : List VarId) (items : List Item) → SlotVars vs items → AllByRecursion (ItemVars vs) (counted items)
+each_counted vs items among_all = take_each (ItemVars vs) (2 ^ 32 - 1) items (recursion_from_All _ _ among_all)
+
 module _ (vs : List VarId) (items : List Item) (horizon : ℕ) (among_all : SlotVars vs items) where
-  each_counted : AllByRecursion (ItemVars vs) (counted items)
-  each_counted = take_each (ItemVars vs) (2 ^ 32 - 1) items (recursion_from_All _ _ among_all)
 
   fits_all : (s : Sets) → ((r : Resource) (high low : ℕ) → high < horizon → crowd_fits r (counted items) s high low ≡ true)
       → crowds_fit items horizon s ≡ true
@@ -207,7 +215,7 @@ module _ (vs : List VarId) (items : List Item) (horizon : ℕ) (among_all : Slot
         (λ high early. each_below (crowd_fits r (counted items) s high) (high + 1) (λ low less. (
         let fewer = sum_le (crowded r low high s) (crowded r low high t) (counted items)
         (map_each (ItemVars vs) (λ i. crowded r low high s i ≤ crowded r low high t i) (crowded_below vs r low high t s known full le)
-        (counted items) each_counted) in
+        (counted items) (each_counted vs items among_all)) in
         less_true (crowd r (counted items) low high s) (crowd r (counted items) low high t) (places_of r * (high + 1 - low)) fewer
         (fits_each t pass r high low early less)))));
     local = λ s t c agree. same_test (crowds_fit items horizon s) (crowds_fit items horizon t) (go s t
@@ -219,7 +227,7 @@ module _ (vs : List VarId) (items : List Item) (horizon : ℕ) (among_all : Slot
           → crowd r (counted items) low high s ≡ crowd r (counted items) low high t
       same s t agree r low high = sum_alike (crowded r low high s) (crowded r low high t) (counted items)
           (map_each (ItemVars vs) (λ i. crowded r low high s i
-          ≡ crowded r low high t i) (crowded_alike vs r low high s t agree) (counted items) each_counted)
+          ≡ crowded r low high t i) (crowded_alike vs r low high s t agree) (counted items) (each_counted vs items among_all))
 
       go : (a b : Sets) → ((r : Resource) (low high : ℕ) → crowd r (counted items) low high a ≡ crowd r (counted items) low high b)
           → crowds_fit items horizon a ≡ true → crowds_fit items horizon b ≡ true
@@ -239,7 +247,7 @@ module _ (vs : List VarId) (items : List Item) (horizon : ℕ) (among_all : Slot
       let room = (holds_fits items horizon x holds).room r in
       let n = high + 1 - low in
       let each = map_each (ItemVars vs) (λ i. crowded r low high s i ≤ taken_in r low n x i)
-      (crowded_taken vs r low high s x known there) (counted items) each_counted in
+      (crowded_taken vs r low high s x known there) (counted items) (each_counted vs items among_all) in
       let less = sum_le (crowded r low high s) (taken_in r low n x) (counted items) each in
       let some = sum_by-take-le (taken_in r low n x) items (2 ^ 32 - 1) in
       let whole = taken_all r low n x items room in

@@ -9,8 +9,6 @@ use Rattle.un_prop.specs.Failing.{first_cut}
 use Rattle.un_prop.specs.Looks.{act_set, sure}
 use Rattle.un_slots.specs.declared.item.Item.{Item}
 use Rattle.un_slots.specs.declared.item.Resource.{Resource}
-use Rattle.un_prop.specs.Places.{each_place}
-use Rattle.un_slots.specs.Loads.{slot_cut}
 use Rattle.un_slots.specs.Slots.{resources, places_of, share_at}
 
 -- an item surely takes some of a resource: it is sure, and no number that is left takes none
@@ -65,7 +63,3 @@ crowds_fit items horizon s =
 -- it fails where in some interval there are more
 abbrev pub crowd_cut : List VarId → List Item → ℕ → Sets → Option Sets
 crowd_cut vs items horizon s = first_cut (λ s c. crowds_fit items horizon s) vs s
-
--- all that is known before all but one is fixed
-abbrev pub per_cycle_steps : List VarId → List Item → ℕ → Sets → Option Sets
-per_cycle_steps vs items horizon s = option_and_then (crowd_cut vs items horizon) (each_place (slot_cut items horizon) (length items) s)

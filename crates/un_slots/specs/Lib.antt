@@ -3,6 +3,8 @@ pub mod Amounts
 pub mod CountLaws
 pub mod CrowdLaws
 pub mod Crowds
+pub mod FullLaws
+pub mod Fulls
 pub mod ListingLaws
 pub mod Listings
 pub mod LoadLaws

@@ -10,7 +10,7 @@ ghost use Rattle.un_prop.specs.Looks.{act_set};
 ghost use Rattle.un_prop.specs.Rounds.{HasVars};
 ghost use Rattle.un_prop.specs.declared.propagator.Pruned.TheVariants.{Failed};
 ghost use Rattle.un_slots.specs.Slots.{ItemVars, SlotVars, places_of, share_of, share_at};
-ghost use Rattle.un_slots.specs.Crowds.{surely_takes, starts, crowd_fits, all_below, counted, crowds_fit, crowd_cut, sum_from, ends_fit};
+ghost use Rattle.un_slots.specs.Crowds.{surely_takes, starts, crowd, crowd_fits, all_below, counted, crowds_fit, crowd_cut, sum_from, ends_fit};
 
 use crate::item::{Item, Resource};
 use crate::listing::clear;
@@ -24,7 +24,7 @@ use un_prop::propagator::{Pruned, Scratch};
 use un_prop::step::fail;
 
 /// How much of a resource a packet has.
-fn places(r: Resource) -> u32
+pub(crate) fn places(r: Resource) -> u32
     ensures { result ≡ places_of r }
 {
     match r {
@@ -80,7 +80,7 @@ fn some_takes_none(w: &Window<'_>, r: Resource, uses: &[Needs], v: VarId) -> boo
 }
 
 /// Whether an item surely takes some of a resource.
-fn surely_takes(w: &Window<'_>, r: Resource, item: &Item) -> bool
+pub(crate) fn surely_takes(w: &Window<'_>, r: Resource, item: &Item) -> bool
     requires known { HasVars (act_vars item.now.on) w.now.store.now.sets }
     requires live { NoneEmpty w.now.store.now.sets }
     ensures { result ≡ surely_takes r w.now.store.now.sets item.now }
@@ -125,11 +125,11 @@ fn count_all(items: &[Item], w: &Window<'_>, r: Resource, high: u32, cycles: &mu
     }
 }
 
-/// Whether from no cycle to `high` there are more than the packets have.
-fn fits_down(cycles: &[u32], high: u32, places: u32) -> bool
+/// Whether from no cycle to `high` there are more than the packets have, less `spare` in all.
+fn fits_down(cycles: &[u32], high: u32, places: u32, spare: u32) -> bool
     requires { high < length cycles.now }
-    ensures { result ≡ all_below (λ low. nat_le (sum_from (slice_index cycles.now) low (high + 1 - low)) (places * (high + 1 - low)))
-        (high + 1) }
+    ensures { result ≡ all_below (λ low. nat_le (sum_from (slice_index cycles.now) low (high + 1 - low) + spare)
+        (places * (high + 1 - low))) (high + 1) }
 {
     let mut crowd = 0;
     let mut room = 0;
@@ -138,11 +138,33 @@ fn fits_down(cycles: &[u32], high: u32, places: u32) -> bool
         c -= 1;
         crowd += u64::from(cycles[c as usize]);
         room += u64::from(places);
-        if crowd > room {
+        if crowd + u64::from(spare) > room {
             return false;
         }
     }
     true
+}
+
+/// Whether all intervals that end with `high` have room for what surely takes some of a resource, and `spare` more.
+pub(crate) fn fits_to(
+    items: &[Item],
+    w: &Window<'_>,
+    r: Resource,
+    high: u32,
+    spare: u32,
+    cycles: &mut [u32],
+) -> bool
+    requires vars { SlotVars w.now.vars.now items.now }
+    requires known { HasVars w.now.vars.now w.now.store.now.sets }
+    requires live { NoneEmpty w.now.store.now.sets }
+    requires span { high < length cycles.old }
+    requires top { high < 2 ^ 32 - 1 }
+    ensures { result ≡ all_below (λ low. nat_le (crowd r (counted items.now) low high w.now.store.now.sets + spare)
+        (places_of r * (high + 1 - low))) (high + 1) }
+{
+    clear(cycles, high + 1);
+    count_all(items, w, r, high, cycles);
+    fits_down(cycles, high, places(r), spare)
 }
 
 /// Whether the intervals up to the greatest cycle of an item that surely takes some of a resource have room, where that cycle is
@@ -169,9 +191,7 @@ fn end_fits(
     if high >= horizon {
         return true;
     }
-    clear(cycles, high + 1);
-    count_all(items, w, r, high, cycles);
-    fits_down(cycles, high, places(r))
+    fits_to(items, w, r, high, 0, cycles)
 }
 
 /// Whether all intervals before the horizon have room for what surely takes some of a resource.

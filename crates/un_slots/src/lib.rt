@@ -2,6 +2,7 @@
 #![tactic(auto)]
 
 mod crowd;
+mod full;
 mod issue;
 pub mod item;
 mod keep;

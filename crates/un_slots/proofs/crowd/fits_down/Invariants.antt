@@ -10,8 +10,8 @@ invariant-loop-c l = record {
   room : l.room ≡ l.places * (l.high + 1 - l.c);
   small : l.crowd ≤ (l.high + 1 - l.c) * 4294967295;
   few : l.room ≤ (l.high + 1 - l.c) * 4294967295;
-  passed : (low : ℕ) → l.c ≤ low → low < l.high + 1 → sum_from (slice_index l.cycles) low (l.high + 1 - low) ≤ l.places *
-      (l.high + 1 - low);
+  passed : (low : ℕ) → l.c ≤ low → low < l.high + 1 → sum_from (slice_index l.cycles) low (l.high + 1 - low) + l.spare ≤
+      l.places * (l.high + 1 - low);
 }
 
 abbrev pub decreases-loop-c : goal.decreases-loop-c

@@ -1,0 +1,14 @@
+-- the intervals that end before high are done
+use Rattle.std.proofs.Common.{◌≡◌}
+use Rattle.un_prop.specs.Going.{Stepped}
+use Rattle.un_prop.specs.Places.{each_place}
+use Rattle.un_slots.specs.Crowds.{counted}
+use Rattle.un_slots.specs.Fulls.{clear_to}
+use Rattle.un_slots.proofs.full.clear_of.Given as goal
+
+abbrev pub invariant-loop-high : goal.invariant-loop-high
+invariant-loop-high l = record {
+  step : Stepped l.fn.w.vars.now (each_place (clear_to l.r (counted l.items)) l.high) l.fn.w.store.now l.w.store.now l.fn.before l.did;
+  same_reference : l.w.store.ghost_name ≡ l.fn.w.store.ghost_name;
+  vars : l.w.vars ≡ l.fn.w.vars;
+}
