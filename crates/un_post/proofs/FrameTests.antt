@@ -209,3 +209,115 @@ module _ (e : Ext) (o : Options) (x : List ℕ) (given : Given e o x) where
         go r p q m n b Calls t hs ht = tt
         go r p q m n b Leaves t hs ht = tt
         go r p q m n b Quiet t hs ht = tt
+
+    -- ---- the tests
+
+    abbrev start : ℕ
+    start = slice_index x (cycle_var (place_of one.enter)).0
+
+    start_is : start ≡ cycle one.enter
+    start_is = cycle_is e o x given one.enter (enter_inner one.enter.op.kind one.is)
+
+    after_is : (q : Placed) (u : FrameUse) (b : Bool) → counts x u ≡ b → slice_index x u.at.0 ≡ cycle q → is_after start x u ≡ (not b || nat_lt (cycle one.enter) (cycle q))
+    after_is q u b hb hc =
+        ap (λ (c : Bool). not c || nat_lt start (slice_index x u.at.0)) hb ∙ ap (λ (n : ℕ). not b || nat_lt n (slice_index x u.at.0)) start_is
+        ∙ ap (λ (n : ℕ). not b || nat_lt (cycle one.enter) n) hc
+
+    until_is : (l q : Placed) (u : FrameUse) (b : Bool) → counts x u ≡ b → slice_index x u.at.0 ≡ cycle q → slice_index x (cycle_var (place_of l)).0 ≡ cycle l
+        → is_until (slice_index x (cycle_var (place_of l)).0) x u ≡ (not b || nat_le (cycle q) (cycle l))
+    until_is l q u b hb hc hl =
+        ap (λ (c : Bool). not c || nat_le (slice_index x u.at.0) (slice_index x (cycle_var (place_of l)).0)) hb
+        ∙ ap (λ (n : ℕ). not b || nat_le n (slice_index x (cycle_var (place_of l)).0)) hc ∙ ap (λ (n : ℕ). not b || nat_le (cycle q) n) hl
+
+    copy_after : (q : Placed) → Member q (all e o x) → is_copy q.op.kind ≡ true → is_after start x (copy_use (place_of q)) ≡ (not (is_touch (tag_of e o x given q)) || nat_lt (cycle one.enter) (cycle q))
+    copy_after q m k = after_is q (copy_use (place_of q)) (is_touch (tag_of e o x given q)) (copy_counts e o x given q m k) (cycle_is e o x given q (copy_inner q.op.kind k))
+
+    call_after : (q : Placed) → is_call_kind q.op.kind ≡ true → is_after start x (single_use (place_of q)) ≡ (not true || nat_lt (cycle one.enter) (cycle q))
+    call_after q k = after_is q (single_use (place_of q)) true (call_counts e o x given q k) (cycle_is e o x given q (call_inner q.op.kind k))
+
+    leave_after : (q : Placed) → Member q (all e o x) → is_leave q.op.kind ≡ true → is_after start x (single_use (place_of q)) ≡ (not true || nat_lt (cycle one.enter) (cycle q))
+    leave_after q m k = after_is q (single_use (place_of q)) true (leave_counts e o x given q m k (on_leaves q m k)) (cycle_is e o x given q (leave_inner q.op.kind k))
+
+    copy_until : (l q : Placed) → is_leave l.op.kind ≡ true → Member q (all e o x) → is_copy q.op.kind ≡ true
+        → is_until (slice_index x (cycle_var (place_of l)).0) x (copy_use (place_of q)) ≡ (not (is_touch (tag_of e o x given q)) || nat_le (cycle q) (cycle l))
+    copy_until l q kl m k = until_is l q (copy_use (place_of q)) (is_touch (tag_of e o x given q)) (copy_counts e o x given q m k) (cycle_is e o x given q (copy_inner q.op.kind k)) (cycle_is e o x given l (leave_inner l.op.kind kl))
+
+    call_until : (l q : Placed) → is_leave l.op.kind ≡ true → is_call_kind q.op.kind ≡ true
+        → nat_lt (slice_index x (cycle_var (place_of q)).0) (slice_index x (cycle_var (place_of l)).0) ≡ nat_lt (cycle q) (cycle l)
+    call_until l q kl k =
+        ap (λ (n : ℕ). nat_lt n (slice_index x (cycle_var (place_of l)).0)) (cycle_is e o x given q (call_inner q.op.kind k))
+        ∙ ap (nat_lt (cycle q)) (cycle_is e o x given l (leave_inner l.op.kind kl))
+
+    abbrev entry : List Place
+    entry = in_entry (places_of (model_of e o))
+
+    abbrev Passes : FrameUse → Type 0
+    Passes u = is_after start x u ≡ true
+
+    pub tests : Ordered one.enter ↔ (in_order (frame_op (place_of one.enter)) (uses_of (in_entry (places_of (model_of e o)))) leaves_of x ≡ true)
+    tests = (
+      λ r. (and_iff (list_all (is_after start x) (uses_of entry)) (list_all (is_left x) leaves_of)).0 (
+        (all_iff (is_after start x) (uses_of entry)).0 (each_join Passes (map copy_use (with_kind is_copy entry)) _
+        (each_map Passes copy_use (with_kind is_copy entry) ((kinds_at_entry (λ p. Passes (copy_use p)) is_copy).1 (λ q m b k.
+            copy_after q m k ∙ (late_iff (is_touch (tag_of e o x given q)) (cycle one.enter) (cycle q)).0 (λ t. r.after_touch q m b (touch_is (tag_of e o x given q) t)))))
+        (each_join Passes (map single_use (with_kind is_call_kind entry)) (map single_use (with_kind is_leave entry))
+        (each_map Passes single_use (with_kind is_call_kind entry) ((kinds_at_entry (λ p. Passes (single_use p)) is_call_kind).1 (λ q m b k.
+            call_after q k ∙ (late_iff true (cycle one.enter) (cycle q)).0 (λ t. r.after_call q m b k))))
+        (each_map Passes single_use (with_kind is_leave entry) ((kinds_at_entry (λ p. Passes (single_use p)) is_leave).1 (λ q m b k.
+            leave_after q m k ∙ (late_iff true (cycle one.enter) (cycle q)).0 (λ t. r.after_leave q m b k)))))),
+        (all_iff (is_left x) leaves_of).0 ((leaves_each (λ f. is_left x f ≡ true)).1 (λ l h k. left r l h k)),
+      ),
+      λ t.
+          let a = (and_iff (list_all (is_after start x) (uses_of entry)) (list_all (is_left x) leaves_of)).1 t in
+          let uses = each_append Passes (map copy_use (with_kind is_copy entry)) _ ((all_iff (is_after start x) (uses_of entry)).1 a.0) in
+          let rest = each_append Passes (map single_use (with_kind is_call_kind entry)) (map single_use (with_kind is_leave entry)) uses.1 in
+          let copies = (kinds_at_entry (λ p. Passes (copy_use p)) is_copy).0 (each_of_map Passes copy_use (with_kind is_copy entry) uses.0) in
+          let calls = (kinds_at_entry (λ p. Passes (single_use p)) is_call_kind).0 (each_of_map Passes single_use (with_kind is_call_kind entry) rest.0) in
+          let leaves = (kinds_at_entry (λ p. Passes (single_use p)) is_leave).0 (each_of_map Passes single_use (with_kind is_leave entry) rest.1) in
+          let lefts = (leaves_each (λ f. is_left x f ≡ true)).0 ((all_iff (is_left x) leaves_of).1 a.1) in
+          record {
+            after_touch = λ q m b h.
+                let k = kind_fits e o x given q Touches m h in
+                (late_iff (is_touch (tag_of e o x given q)) (cycle one.enter) (cycle q)).1 (sym (copy_after q m k) ∙ copies q m b k) (ap is_touch h);
+            after_call = λ q m b k. (late_iff true (cycle one.enter) (cycle q)).1 (sym (call_after q k) ∙ calls q m b k) refl;
+            after_leave = λ q m b k. (late_iff true (cycle one.enter) (cycle q)).1 (sym (leave_after q m k) ∙ leaves q m b k) refl;
+            before_touch = λ l q m n k b h.
+                let c = kind_fits e o x given q Touches n h in
+                let at = home l m in
+                let p = parts l at (lefts l at k) in
+                (soon_iff (is_touch (tag_of e o x given q)) (cycle l) (cycle q)).1 (sym (copy_until l q k n c) ∙ p.0 q (together l q at n b) c) (ap is_touch h);
+            before_call = λ l q m n k b c.
+                let at = home l m in
+                let p = parts l at (lefts l at k) in
+                (lt_iff (cycle q) (cycle l)).1 (sym (call_until l q k c) ∙ p.1 q (together l q at n b) c);
+          },
+    )
+      where
+        -- the test of a Leave, by the operations of its block
+        parts : (l : Placed) (h : Home l) → is_left x (leave_of (map place_of (region_placed h.region)) (place_of l)) ≡ true
+            → ((q : Placed) → Member q (region_placed h.region) → is_copy q.op.kind ≡ true → is_until (slice_index x (cycle_var (place_of l)).0) x (copy_use (place_of q)) ≡ true)
+            × ((q : Placed) → Member q (region_placed h.region) → is_call_kind q.op.kind ≡ true → nat_lt (slice_index x (cycle_var (place_of q)).0) (slice_index x (cycle_var (place_of l)).0) ≡ true)
+        parts l h t =
+            let ps = map place_of (region_placed h.region) in
+            let end = slice_index x (cycle_var (place_of l)).0 in
+            let before = λ (v : VarId). nat_lt (slice_index x v.0) end in
+            let a = (and_iff (list_all (is_until end x) (map copy_use (with_kind is_copy ps))) (list_all before (map cycle_var (with_kind is_call_kind ps)))).1 t in (
+              (kinds_of (λ p. is_until end x (copy_use p) ≡ true) is_copy (region_placed h.region)).0 (each_of_map _ copy_use (with_kind is_copy ps) ((all_iff (is_until end x) (map copy_use (with_kind is_copy ps))).1 a.0)),
+              (kinds_of (λ p. before (cycle_var p) ≡ true) is_call_kind (region_placed h.region)).0 (each_of_map _ cycle_var (with_kind is_call_kind ps) ((all_iff before (map cycle_var (with_kind is_call_kind ps))).1 a.1)),
+            )
+
+        left : Ordered one.enter → (l : Placed) (h : Home l) → is_leave l.op.kind ≡ true → is_left x (leave_of (map place_of (region_placed h.region)) (place_of l)) ≡ true
+        left r l h k =
+            let ps = map place_of (region_placed h.region) in
+            let end = slice_index x (cycle_var (place_of l)).0 in
+            let before = λ (v : VarId). nat_lt (slice_index x v.0) end in
+            let m = region_member e o x given h.number h.region l h.at h.inside in
+            let block = of_region h.region l h.inside in
+            (and_iff (list_all (is_until end x) (map copy_use (with_kind is_copy ps))) (list_all before (map cycle_var (with_kind is_call_kind ps)))).0 (
+              (all_iff (is_until end x) (map copy_use (with_kind is_copy ps))).0 (each_map _ copy_use (with_kind is_copy ps) ((kinds_of (λ p. is_until end x (copy_use p) ≡ true) is_copy (region_placed h.region)).1 (λ q n c.
+                  let mq = region_member e o x given h.number h.region q h.at n in
+                  copy_until l q k mq c ∙ (soon_iff (is_touch (tag_of e o x given q)) (cycle l) (cycle q)).0 (λ t. r.before_touch l q m mq k (of_region h.region q n ∙ sym block) (touch_is (tag_of e o x given q) t))))),
+              (all_iff before (map cycle_var (with_kind is_call_kind ps))).0 (each_map _ cycle_var (with_kind is_call_kind ps) ((kinds_of (λ p. before (cycle_var p) ≡ true) is_call_kind (region_placed h.region)).1 (λ q n c.
+                  let mq = region_member e o x given h.number h.region q h.at n in
+                  call_until l q k c ∙ (lt_iff (cycle q) (cycle l)).0 (r.before_call l q m mq k (of_region h.region q n ∙ sym block) c)))),
+            )
