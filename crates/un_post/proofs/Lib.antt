@@ -21,3 +21,4 @@ pub mod OneEnter
 pub mod FrameTags
 pub mod FrameOrder
 pub mod FrameTests
+pub mod Frames
