@@ -36,7 +36,7 @@ use Rattle.un_post.proofs.FrameTests.{leaves_of, leaves_each, leaves_all, Pair, 
 use Rattle.un_post.proofs.Meeting.{Met, met_all, all_met}
 use Rattle.un_post.proofs.OneEnter.{OneEnter, one_enter, enters, filter_map}
 use Rattle.un_post.proofs.Placing.{place_of, places_are, definer_at}
-use Rattle.un_post.proofs.Tests.{iff_then, iff_back, both, and_iff, same_test}
+use Rattle.un_post.proofs.Tests.{iff_then, iff_back, both, and_iff, same_test, met_one}
 use Rattle.un_post.proofs.Whole.{issues_each, ranges_are, spot_in, result_register, registers_each}
 
 any_true : {A : Type 0} (t : A → Bool) (xs : List A) (x : A) → Member x xs → t x ≡ true → list_any t xs ≡ true
@@ -222,3 +222,135 @@ module _ (e : Ext) (o : Options) (x : List ℕ) (given : Given e o x) where
 
   used : touches_frame copies starts x ≡ uses_frame (schedule_of (model_of e o) x)
   used = ap (λ (b : Bool). b || list_any (is_slot x) starts) touched ∙ ap (λ (b : Bool). list_any (λ (i : Issue). is_frame_access i.instr) (issues_of (model_of e o) x) || b) slotted
+
+  -- ---- Enter and Leave
+
+  abbrev leaves : List FrameLeave
+  leaves = leaves_of e o x given
+
+  on_is : (q : Placed) → Member q (all e o x) → is_optional q.op.kind ≡ true → falls q.op.kind ≡ false → is_on x (frame_op (place_of q)) ≡ (issue_at x q).active
+  on_is q m opt goes =
+      ap (λ (b : Bool). not (nat_eq (slice_index x (var_or (var_if b q.first)).0) 0)) opt
+      ∙ sym (ap (λ (b : Bool). is_active (act_by (var_if b q.first)) x) opt) ∙ acts e o x given q m goes
+
+  module _ (one : OneEnter e o x given) where
+    -- all of them are active, or none is
+    abbrev AllAre : Bool → Type 0
+    AllAre b = ((issue_at x one.enter).active ≡ b) × ((l : Placed) → Member l (all e o x) → is_leave l.op.kind ≡ true → (issue_at x l).active ≡ b)
+
+    frames_are : (b : Bool) → All (HasFrame b) (issues_of (model_of e o) x) ↔ AllAre b
+    frames_are b = (
+      λ h.
+          let each = (issues_each e o x given (HasFrame b)).0 h in
+          let at = λ (q : Placed) (m : Member q (all e o x)). each_member (λ q. HasFrame b (issue_at x q)) (all e o x) q each m in
+          (at one.enter one.member (enter_frame one.enter.op.kind one.is).0, λ l m k. at l m (leave_frame l.op.kind k).0),
+      λ h. (issues_each e o x given (HasFrame b)).1 (each_of _ (all e o x) (λ q m f. by h q m (frame_kind q.op.kind f))),
+    )
+      where
+        only : (q : Placed) → Member q (one.enter ∷ []) → one.enter ≡ q
+        only q (inl e) = e
+        only q (inr m) = elim m [ ]
+
+        by : AllAre b → (q : Placed) → Member q (all e o x) → (is_enter q.op.kind ≡ true) ⊎ (is_leave q.op.kind ≡ true) → (issue_at x q).active ≡ b
+        by h q m (inl k) = subst (λ (p : Placed). (issue_at x p).active ≡ b) (only q (subst (Member q) one.alone (member_filter enters (all e o x) q m k))) h.0
+        by h q m (inr k) = h.1 q m k
+
+    enter_on : is_on x (frame_op (place_of one.enter)) ≡ (issue_at x one.enter).active
+    enter_on = let k = enter_frame one.enter.op.kind one.is in on_is one.enter one.member k.1 k.2
+
+    leave_on : (l : Placed) → Member l (all e o x) → is_leave l.op.kind ≡ true → is_on x (frame_op (place_of l)) ≡ (issue_at x l).active
+    leave_on l m k = let f = leave_frame l.op.kind k in on_is l m f.1 f.2
+
+    -- a test of every Leave
+    leaves_pass : (t : Bool → Bool) (b : Bool) → ((a : Bool) → (a ≡ b) ↔ (t a ≡ true))
+        → ((l : Placed) → Member l (all e o x) → is_leave l.op.kind ≡ true → (issue_at x l).active ≡ b) ↔ (list_all (λ (l : FrameLeave). t (is_on x l.leave)) leaves ≡ true)
+    leaves_pass t b says = iff_then (
+      λ f. (leaves_all e o x given (λ l. t (is_on x (frame_op (place_of l))) ≡ true)).1 (λ l m k. ap t (leave_on l m k) ∙ (says (issue_at x l).active).0 (f l m k)),
+      λ f l m k. (says (issue_at x l).active).1 (sym (ap t (leave_on l m k)) ∙ (leaves_all e o x given (λ l. t (is_on x (frame_op (place_of l))) ≡ true)).0 f l m k),
+    ) (iff_then (iff_back (leaves_each e o x given (λ (l : FrameLeave). t (is_on x l.leave) ≡ true))) (all_iff (λ (l : FrameLeave). t (is_on x l.leave)) leaves))
+
+    all_on_iff : AllAre true ↔ (all_on (frame_op (place_of one.enter)) leaves x ≡ true)
+    all_on_iff = iff_then
+        (both (same_test (issue_at x one.enter).active (is_on x (frame_op (place_of one.enter))) (sym enter_on)) (leaves_pass (λ a. a) true (λ a. (λ h. h, λ h. h))))
+        (and_iff (is_on x (frame_op (place_of one.enter))) (list_all (λ (l : FrameLeave). is_on x l.leave) leaves))
+
+    none_on_iff : AllAre false ↔ (none_on (frame_op (place_of one.enter)) leaves x ≡ true)
+    none_on_iff = iff_then
+        (both (iff_then (not_iff (issue_at x one.enter).active) (same_test (not (issue_at x one.enter).active) (not (is_on x (frame_op (place_of one.enter)))) (ap not (sym enter_on)))) (leaves_pass not false not_iff))
+        (and_iff (not (is_on x (frame_op (place_of one.enter)))) (list_all (λ (l : FrameLeave). not (is_on x l.leave)) leaves))
+
+    -- the order, where they are active
+    order_iff : AllAre true → KeepsFrameOrder (issues_of (model_of e o) x) ↔ (in_order (frame_op (place_of one.enter)) (uses_of (in_entry (places_of (model_of e o)))) leaves x ≡ true)
+    order_iff h = iff_then (
+      λ f. each_of _ (all e o x) (λ p m. (issues_each e o x given (Precedes frame_distance (issue_at x p))).0
+      (each_member _ (all e o x) p ((issues_each e o x given (λ (i : Issue). All (Precedes frame_distance i) (issues_of (model_of e o) x))).0 f) m)),
+      λ f. (issues_each e o x given (λ (i : Issue). All (Precedes frame_distance i) (issues_of (model_of e o) x))).1
+      (each_of _ (all e o x) (λ p m. (issues_each e o x given (Precedes frame_distance (issue_at x p))).1 (each_member (λ p. Each (λ q. Pair e o x given p q) (all e o x)) (all e o x) p f m))),
+    ) (iff_then (ordered e o x given one h.0 h.1) (tests e o x given one h.0 h.1))
+
+    -- ---- all of the clause
+
+    abbrev on_test : Bool
+    on_test = all_on (frame_op (place_of one.enter)) leaves x && in_order (frame_op (place_of one.enter)) (uses_of (in_entry (places_of (model_of e o)))) leaves x
+
+    abbrev off_test : Bool
+    off_test = none_on (frame_op (place_of one.enter)) leaves x
+
+    -- by the value of the flag
+    by_flag : (f : ℕ) → f ≤ 1 → KeepsFrame f (schedule_of (model_of e o) x)
+        ↔ (cond (nat_eq f 1) (uses_frame (schedule_of (model_of e o) x) && on_test) (not (uses_frame (schedule_of (model_of e o) x)) && (not (nat_eq f 0) || off_test)) ≡ true)
+    by_flag zero le = (
+      λ k.
+          let u = k.used in
+          let off : uses_frame (schedule_of (model_of e o) x) ≡ false = not_used (uses_frame (schedule_of (model_of e o) x)) (λ h. let z = u.1 h in absurd (omega arith)) in
+          (and_iff (not (uses_frame (schedule_of (model_of e o) x))) off_test).0 ((not_iff (uses_frame (schedule_of (model_of e o) x))).0 off, none_on_iff.0 ((frames_are false).0 (k.without refl))),
+      λ t.
+          let a = (and_iff (not (uses_frame (schedule_of (model_of e o) x))) off_test).1 t in
+          let off = (not_iff (uses_frame (schedule_of (model_of e o) x))).1 a.0 in
+          record {
+            used = (λ z. absurd (omega arith), λ h. let z : true ≡ false = sym h ∙ off in absurd (cc z));
+            without = λ z. (frames_are false).1 (none_on_iff.1 a.1);
+            with_frame = λ z. absurd (omega arith);
+            ordered = λ z. absurd (omega arith);
+          },
+    )
+      where
+        not_used : (b : Bool) → (b ≡ true → ⊥) → b ≡ false
+        not_used true f = absurd (f refl)
+        not_used false f = refl
+    by_flag (suc zero) le = (
+      λ k.
+          let u = k.used in
+          let on = (frames_are true).0 (k.with_frame refl) in
+          (and_iff (uses_frame (schedule_of (model_of e o) x)) on_test).0 (u.0 refl, (and_iff (all_on (frame_op (place_of one.enter)) leaves x) _).0 (all_on_iff.0 on, (order_iff on).0 (k.ordered refl))),
+      λ t.
+          let a = (and_iff (uses_frame (schedule_of (model_of e o) x)) on_test).1 t in
+          let b = (and_iff (all_on (frame_op (place_of one.enter)) leaves x) _).1 a.1 in
+          let on = all_on_iff.1 b.0 in
+          record {
+            used = (λ z. a.0, λ h. refl);
+            without = λ z. absurd (omega arith);
+            with_frame = λ z. (frames_are true).1 on;
+            ordered = λ z. (order_iff on).1 b.1;
+          },
+    )
+    by_flag (suc (suc n)) le = absurd (omega arith)
+
+  pub frames : KeepsFrame (value_of x (model_of e o).flag) (schedule_of (model_of e o) x)
+      ↔ AllMet (frame_of (model_of e o) (definers_of (model_of e o)) (places_of (model_of e o))) x
+  frames =
+      let one = one_enter e o x given in
+      let m = model_of e o in
+      let ds = definers_of m in
+      let ps = places_of m in
+      let f = value_of x m.flag in
+      let enter = place_of one.enter in
+      let alone : with_kind is_enter ps ≡ enter ∷ [] =
+      ap (with_kind is_enter) (places_are 0 0 0 e.blocks) ∙ filter_map (λ (p : Place). is_enter p.it.kind) place_of (all e o x) ∙ ap (map place_of) one.alone in
+      let posted : frame_of m ds ps ≡ frame_by m ds ps enter ∷ [] = ap (map (frame_by m ds ps)) alone in
+      let t = λ (u : Bool). cond (nat_eq f 1) (u && on_test one) (not u && (not (nat_eq f 0) || off_test one)) in
+      let clause = by_flag one f (flag_sits e o x given.domains) in
+      let met = met_one x (frame_by m ds ps enter) (t (uses_frame (schedule_of m x))) (ap t used) in (
+        λ h. all_met x (frame_of m ds ps) (subst (Met x) (sym posted) (met.0 (clause.0 h))),
+        λ h. clause.1 (met.1 (subst (Met x) posted (met_all x (frame_of m ds ps) h))),
+      )
