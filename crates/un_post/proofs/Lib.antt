@@ -16,9 +16,9 @@ pub mod OfPlaces
 pub mod Regions
 pub mod Ends
 pub mod Congruences
-
 pub mod OneEnter
 pub mod FrameTags
 pub mod FrameOrder
 pub mod FrameTests
 pub mod Frames
+pub mod Posted
