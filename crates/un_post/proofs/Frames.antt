@@ -31,6 +31,7 @@ use Rattle.un_alt.specs.Frame.{uses_frame as touches_frame, is_access, is_slot, 
 use Rattle.un_post.specs.Constraints.{AllMet}
 use Rattle.un_post.specs.Places.{Place, act_by, places_of, definers_of, registers_at}
 use Rattle.un_post.specs.Postings.{with_kind, in_entry, var_or, instr_var, frame_op, uses_of, frame_by, frame_of}
+use Rattle.un_post.proofs.Congruences.{in_is}
 use Rattle.un_post.proofs.Facts.{Given, falls, acts, definer_is, definer_counts}
 use Rattle.un_post.proofs.FrameOrder.{all_iff, tag_of, kind_fits, copy_counts}
 use Rattle.un_post.proofs.FrameTags.{Touches, touch_is, accessed}
@@ -94,15 +95,6 @@ leave_frame (Body so) h = absurd (cc h)
 leave_frame (End term) h = absurd (cc h)
 leave_frame (Copy node) h = absurd (cc h)
 leave_frame Enter h = absurd (cc h)
-
-in_frame : (k : ExtKind) → is_in k ≡ true → k ≡ In
-in_frame In h = refl
-in_frame Out h = absurd (cc h)
-in_frame (Body so) h = absurd (cc h)
-in_frame (End term) h = absurd (cc h)
-in_frame (Copy node) h = absurd (cc h)
-in_frame Enter h = absurd (cc h)
-in_frame Leave h = absurd (cc h)
 
 none_is : (i : Option Op) → is_none i ≡ true → i ≡ None
 none_is None h = refl
@@ -205,7 +197,7 @@ module _ (e : Ext) (o : Options) (x : List ℕ) (given : Given e o x) where
       let v = subst (λ (p : Place). Member a.0 (given_at p)) (sym q.2) b.2 in
       each_member (λ (u : VarId). is_slot x u ≡ true → list_any starts_in_slot (the_ranges e o x) ≡ true) (given_at (place_of q.0)) a.0
       ((registers_each e o x given (λ (u : VarId). is_slot x u ≡ true → list_any starts_in_slot (the_ranges e o x) ≡ true) q.0 q.1).1
-      (λ k y at t. found q.0 k y q.1 at (in_frame q.0.op.kind q.3) t)) v a.2
+      (λ k y at t. found q.0 k y q.1 at (in_is q.0.op.kind q.3) t)) v a.2
       ) (
       λ h.
       let a = any_of starts_in_slot (the_ranges e o x) h in

@@ -1,6 +1,7 @@
 -- A model has one Enter, which is in the entry.
 use Rattle.std.proofs.Common.{ℕ, zero, suc, ◌≡◌, ◌+◌, Bool, true, false, cond, List, [], ◌∷◌, length, map, filter, inl, refl, sym, ap, ◌∙◌}
 use Rattle.std.proofs.Common.{subst, arith}
+use Rattle.std.proofs.lemmas.List.{length-map}
 use Rattle.std.specs.Prelude.{Some, slice_get, ◌==◌}
 use Rattle.std.proofs.lemmas.Bool.Decides.{nat_tests}
 use Rattle.std.proofs.lemmas.List.Sums.{length-filter}
@@ -25,10 +26,6 @@ filter_map t f (x ∷ xs) =
     elim (t (f x)) as (λ b. cond b (f x ∷ filter t (map f xs)) (filter t (map f xs)) ≡ map f
     (cond b (x ∷ filter (λ x. t (f x)) xs) (filter (λ x. t (f x)) xs)))
     [ true ↦ ap (λ ys. f x ∷ ys) k | false ↦ k ]
-
-length-mapped : {A B : Type 0} (f : A → B) (xs : List A) → length (map f xs) ≡ length xs
-length-mapped f [] = refl
-length-mapped f (x ∷ xs) = ap suc (length-mapped f xs)
 
 placed_ops : (b : ℕ) (owner : ExtBlock) (close : VarId) (n first : ℕ) (ops : List ExtOp)
     → map (λ (q : Placed). q.op) (placed b owner close n first ops) ≡ ops
@@ -57,7 +54,7 @@ module _ (e : Ext) (o : Options) (x : List ℕ) (given : Given e o x) where
       let frames = ext.frames in
       let t = λ (op : ExtOp). is_enter op.kind in
       let op_of = λ (q : Placed). q.op in
-      sym (length-mapped op_of (filter enters (region_placed r)))
+      sym (length-map (filter enters (region_placed r)) op_of)
       ∙ ap length (sym (filter_map t op_of (region_placed r))
       ∙ ap (filter t) (placed_ops r.block own (var_at (r.first + ops_count own.ops)) r.number r.first own.ops))
       ∙ length-filter t own.ops ∙ frames.enters k own (region_is 0 0 0 e.blocks k r at).0
