@@ -8,6 +8,7 @@ pub mod Facts
 pub mod FrameOrder
 pub mod FrameTags
 pub mod FrameTests
+pub mod Frames
 pub mod Homes
 pub mod Latencies
 pub mod Limits
@@ -17,6 +18,7 @@ pub mod OfPlaces
 pub mod OneEnter
 pub mod Packets
 pub mod Placing
+pub mod Posted
 pub mod Regions
 pub mod RegisterBounds
 pub mod SpaceSets
