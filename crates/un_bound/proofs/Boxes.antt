@@ -1,6 +1,6 @@
 -- Less is left in a smaller box, so its least cost is at least as large.
-use Rattle.std.proofs.Common.{◌≡◌, ℕ, ◌+◌, ◌≤◌, Bool, true, false, ◌&&◌, List, [], ◌∷◌, Option, Some, None, length, refl, sym, ap, ◌∙◌, subst, arith}
-use Rattle.std.specs.Prelude.{slice_get, slice_index, IfSome}
+use Rattle.std.proofs.Common.{◌≡◌, ℕ, ◌+◌, ◌≤◌, Bool, true, false, ◌&&◌, List, [], ◌∷◌, Option, Some, None, length, sym, ap, ◌∙◌, arith}
+use Rattle.std.specs.Prelude.{slice_index, IfSome}
 use Rattle.un_base.specs.declared.ids.VarId.{VarId}
 use Rattle.un_ir.specs.declared.extended.ExtOp.{ExtOp}
 use Rattle.un_ir.specs.declared.extended.ExtBlock.{ExtBlock}
@@ -11,7 +11,7 @@ use Rattle.un_model.specs.declared.model.Arc.{Arc}
 use Rattle.un_model.specs.declared.model.OpVars.{OpVars}
 use Rattle.un_model.specs.declared.model.BlockVars.{BlockVars}
 use Rattle.un_model.specs.declared.model.Model.{Model}
-use Rattle.un_bound.specs.Relaxations.{Times, IsValue, InOwnSet, IsRelaxed, AreRelaxed, IsMember, IsLeast, times_cost}
+use Rattle.un_bound.specs.Relaxations.{Times, IsValue, IsRelaxed, AreRelaxed, IsMember, IsLeast}
 
 both_hold : (a b : Bool) → (a && b) ≡ true → b ≡ true
 both_hold true b h = h
@@ -21,7 +21,7 @@ module _ (t s : Sets) (below : Below t s) where
   value : (v : VarId) (n : ℕ) → IsValue t v n → IsValue s v n
   value v n h =
       let e : has (set_at t v.0) n ≡ (has (set_at t v.0) n && has (set_at s v.0) n) =
-          ap (λ (xs : List ℕ). has xs n) (below.each v.0) ∙ has-filter (has (set_at t v.0)) n (set_at s v.0) in
+      ap (λ (xs : List ℕ). has xs n) (below.each v.0) ∙ has-filter (has (set_at t v.0)) n (set_at s v.0) in
       both_hold (has (set_at t v.0) n) (has (set_at s v.0) n) (sym e ∙ h)
 
   own : (var : Option VarId) (n : ℕ) → IfSome var (λ (v : VarId). IsValue t v n) → IfSome var (λ (v : VarId). IsValue s v n)
