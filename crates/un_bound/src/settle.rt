@@ -5,8 +5,7 @@ ghost use Rattle.un_domains.specs.Sets.{NoneEmpty};
 ghost use Rattle.un_bound.specs.Arcs.{MayWait, LeadOn, LeadsOn};
 ghost use Rattle.un_bound.specs.Lengths.{AreChosen, AreEarliest, first_cycle};
 ghost use Rattle.un_bound.specs.Relaxations.{IsValue};
-ghost use Rattle.un_bound.specs.Choices.{IsNext, own_var, InSets, IsKnown, AreKnown, IsStarted, IsRaised, IsSettled, FitsBefore};
-ghost use Rattle.un_bound.specs.Choices.{TransfersFit, MayStop, IsLeastStop};
+ghost use Rattle.un_bound.specs.Choices.{IsNext, own_var, InSets, IsKnown, AreKnown, IsStarted, IsRaised, IsSettled, FitsBefore, TransfersFit, MayStop, IsLeastStop};
 
 use crate::lengths::{first_cycle, least_end};
 use un_base::ids::VarId;
@@ -125,10 +124,10 @@ fn raise(b: &Boxed<'_>, cycles: &mut [u32], arcs: &[Arc]) -> bool
     requires live { NoneEmpty b.now.store.now.sets }
     requires known { AreKnown (length b.now.store.now.sets) b.now.end b.now.ops.now b.now.vars.now }
     requires arcs { LeadOn b.now.first b.now.ops.now arcs.now }
-    requires start { AreEarliest (InSets b.now.store.now.sets b.now.end b.now.ops.now b.now.vars.now) (length b.now.ops.now) b.now.first
-        arcs.now 0 cycles.old }
-    ensures { IsSettled (InSets b.now.store.now.sets b.now.end b.now.ops.now b.now.vars.now) (length b.now.ops.now) b.now.first arcs.now
-        (length arcs.now) cycles.new result }
+    requires start { AreEarliest (InSets b.now.store.now.sets b.now.end b.now.ops.now b.now.vars.now)
+        (length b.now.ops.now) b.now.first arcs.now 0 cycles.old }
+    ensures { IsSettled (InSets b.now.store.now.sets b.now.end b.now.ops.now b.now.vars.now)
+        (length b.now.ops.now) b.now.first arcs.now (length arcs.now) cycles.new result }
 {
     for arc in arcs {
         if !raise_by(b, cycles, *arc) {
