@@ -5,7 +5,8 @@ ghost use Rattle.un_domains.specs.Sets.{NoneEmpty};
 ghost use Rattle.un_bound.specs.Arcs.{MayWait, LeadOn, LeadsOn};
 ghost use Rattle.un_bound.specs.Lengths.{AreChosen, AreEarliest, first_cycle};
 ghost use Rattle.un_bound.specs.Relaxations.{IsValue};
-ghost use Rattle.un_bound.specs.Choices.{IsNext, own_var, InSets, IsKnown, AreKnown, IsStarted, IsRaised, IsSettled, FitsBefore, TransfersFit, MayStop, IsLeastStop};
+ghost use Rattle.un_bound.specs.Choices.{IsNext, own_var, InSets, IsKnown, AreKnown, IsStarted, IsRaised, IsSettled, FitsBefore};
+ghost use Rattle.un_bound.specs.Choices.{TransfersFit, MayStop, IsLeastStop};
 
 use crate::lengths::{first_cycle, least_end};
 use un_base::ids::VarId;
