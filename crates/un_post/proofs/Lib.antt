@@ -13,6 +13,7 @@ pub mod Homes
 pub mod Latencies
 pub mod Limits
 pub mod Meeting
+pub mod Memory
 pub mod NoSharing
 pub mod OfPlaces
 pub mod OneEnter
