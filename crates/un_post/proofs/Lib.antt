@@ -4,6 +4,7 @@ pub mod Choices
 pub mod Congruences
 pub mod Cycles
 pub mod Ends
+pub mod Exact
 pub mod Facts
 pub mod FrameOrder
 pub mod FrameTags

@@ -1,12 +1,11 @@
 -- Loads, Stores and Calls keep their order where the constraints of the arcs are met, and each solution meets these.
-use Rattle.std.proofs.Common.{ℕ, zero, suc, ◌≡◌, ◌↔◌, ◌+◌, ◌<◌, ◌≤◌, Bool, true, false, List, [], ◌∷◌, ◌++◌, length, map, max, inl, inr}
-use Rattle.std.proofs.Common.{refl, sym, ap, ◌∙◌, subst, arith, All, AllPairs, Contains, slice_index_or}
+use Rattle.std.proofs.Common.{ℕ, zero, suc, ◌≡◌, ◌↔◌, ◌+◌, ◌<◌, ◌≤◌, Bool, true, false, List, [], ◌∷◌, length, map, max, inl, inr}
+use Rattle.std.proofs.Common.{refl, sym, ap, ◌∙◌, subst, arith, Contains}
 use Rattle.std.specs.Prelude.{Option, Some, None, IfSome, slice_get, nat_le, ◌==◌, ◌&&◌, if◌then◌else◌}
 use Rattle.std.specs.Option.{option_map}
 use Rattle.un_isa.specs.declared.op.Op.{Op}
 use Rattle.un_isa.specs.declared.op.Op.TheVariants.{Load, Store, Call, Mov, Spill, Reload, P2R, R2P, Enter as EnterOp, Leave as LeaveOp}
 use Rattle.un_isa.specs.declared.table.Table.{Table}
-use Rattle.un_ir.specs.declared.function.Term.TheVariants.{Fall, Jump, Branch, Ret}
 use Rattle.un_ir.specs.declared.extended.ExtKind.{ExtKind}
 use Rattle.un_ir.specs.declared.extended.ExtKind.TheVariants.{In, Out, Body, End, Copy, Enter, Leave}
 use Rattle.un_ir.specs.declared.extended.ExtBlock.{ExtBlock}
@@ -20,7 +19,6 @@ use Rattle.un_model.specs.ArcLaws.{gap_told, arc_known}
 use Rattle.un_model.specs.Arcs.{is_mandatory, own_instr, reads_from, data_gap, memory_gap, larger, largest_gap, arc, block_arcs, blocks_arcs}
 use Rattle.un_model.specs.Arcs.NeedsGap.{ByMemory}
 use Rattle.un_model.specs.Instructions.{instruction_of}
-use Rattle.un_model.specs.Pairs.{joined}
 use Rattle.un_model.specs.Schedules.{issues_of, schedule_of, value_by}
 use Rattle.un_model.specs.Solutions.{IsSolution, KeepsMemory, Precedes, memory_distance}
 use Rattle.un_model.specs.Variables.{model_of, var_at, ops_count, block_count, blocks_temps}
@@ -32,7 +30,7 @@ use Rattle.un_model.proofs.Placed.{Placed, Region, region_placed, vars_of, issue
 use Rattle.un_model.proofs.PlacedSchedules.{all}
 use Rattle.un_prop.specs.Acts.{at_value}
 use Rattle.un_post.specs.Befores.{place_or, place_with, arc_before, befores_in, befores_of}
-use Rattle.un_post.specs.Constraints.{Constraint, meets, AllMet}
+use Rattle.un_post.specs.Constraints.{meets, AllMet}
 use Rattle.un_post.specs.Places.{Place, time_of, places_of}
 use Rattle.un_post.proofs.Blocks.{blocks, in_all, rising}
 use Rattle.un_post.proofs.Facts.{Given, times}
@@ -44,12 +42,12 @@ use Rattle.un_post.proofs.Tests.{iff_then, le_iff, same_test}
 
 -- ---- lists
 
-contains_member : {X : Type 0} (xs : List X) (x : X) → Contains xs x → Member x xs
+pub contains_member : {X : Type 0} (xs : List X) (x : X) → Contains xs x → Member x xs
 contains_member [] x c = let lt = c.1 in absurd (omega arith)
 contains_member (y ∷ ys) x (zero, lt, e) = inl e
 contains_member (y ∷ ys) x (suc k, lt, e) = inr (contains_member ys x (k, omega arith, e))
 
-member_contains : {X : Type 0} (xs : List X) (x : X) → Member x xs → Contains xs x
+pub member_contains : {X : Type 0} (xs : List X) (x : X) → Member x xs → Contains xs x
 member_contains [] x m = elim m [ ]
 member_contains (y ∷ ys) x (inl e) = (0, omega arith, e)
 member_contains (y ∷ ys) x (inr m) = let r = member_contains ys x m in let lt = r.1 in (suc r.0, omega arith, r.2)
