@@ -4,6 +4,7 @@ pub mod Choices
 pub mod Congruences
 pub mod Cycles
 pub mod Ends
+pub mod Exact
 pub mod Facts
 pub mod FrameOrder
 pub mod FrameTags
@@ -13,6 +14,7 @@ pub mod Homes
 pub mod Latencies
 pub mod Limits
 pub mod Meeting
+pub mod Memory
 pub mod NoSharing
 pub mod OfPlaces
 pub mod OneEnter
