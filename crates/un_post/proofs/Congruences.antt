@@ -1,6 +1,7 @@
 -- What a block hands over stands in the same register where the next block takes it exactly where the constraints of edges are met.
 use Rattle.std.proofs.Common.{ℕ, zero, suc, ◌≡◌, ◌↔◌, ◌+◌, ◌<◌, ◌≤◌, Bool, true, false, cond, not, List, [], ◌∷◌, ◌++◌, length, map, inl}
 use Rattle.std.proofs.Common.{inr, refl, sym, ap, ◌∙◌, subst, arith, Contains}
+use Rattle.std.proofs.lemmas.List.{length-map}
 use Rattle.std.specs.Prelude.{Option, Some, None, slice_get, slice_index, slice_index_or, nat_eq, ◌==◌}
 use Rattle.std.specs.List.{AllZip, position_or_len}
 use Rattle.std.specs.Option.{option_map}
@@ -77,10 +78,6 @@ zip_length Q [] (y ∷ ys) h = absurd h
 zip_length Q (x ∷ xs) [] h = absurd h
 zip_length Q (x ∷ xs) (y ∷ ys) h = ap suc (zip_length Q xs ys h.1)
 
-length-mapped : {A B : Type 0} (f : A → B) (xs : List A) → length (map f xs) ≡ length xs
-length-mapped f [] = refl
-length-mapped f (x ∷ xs) = ap suc (length-mapped f xs)
-
 none_past : {A : Type 0} (xs : List A) (j : ℕ) → slice_get xs j ≡ None → length xs ≤ j
 none_past [] j h = omega arith
 none_past (x ∷ xs) zero h = absurd (cc h)
@@ -110,7 +107,7 @@ member_contains xs x m = let r = position_of xs x m in (r.0, r.1, or_get xs r.0 
     or_get (y ∷ ys) (suc k) x e = or_get ys k x e
 
 mapped : {A B C : Type 0} (f : A → C) (g : B → C) (xs : List A) (ys : List B) → length (map f xs ++ map g ys) ≡ length xs + length ys
-mapped f g [] ys = let k = length-mapped g ys in omega (arith, k)
+mapped f g [] ys = let k = length-map ys g in omega (arith, k)
 mapped f g (x ∷ xs) ys = let k = mapped f g xs ys in omega (arith, k)
 
 -- what a block that leads on hands over: its names and the saved values
@@ -124,7 +121,7 @@ handed e k l live (Branch pred sense to) m = mapped _ _ live (saved_registers e.
 some_iff : (a b : ℕ) → (let s : Option ℕ = Some a in s ≡ Some b) ↔ (nat_eq a b ≡ true)
 some_iff a b = iff_then (λ h. cc h, λ h. ap (λ (n : ℕ). Some n) h) (eq_iff a b)
 
-in_is : (k : ExtKind) → is_in k ≡ true → k ≡ In
+pub in_is : (k : ExtKind) → is_in k ≡ true → k ≡ In
 in_is In h = refl
 in_is Out h = absurd (cc h)
 in_is (Body so) h = absurd (cc h)

@@ -1,13 +1,9 @@
 -- Where Enter and every Leave are active, they are in order exactly where the tests of the frame's order pass.
-use Rattle.std.proofs.Common.{ℕ, zero, suc, ◌≡◌, ◌↔◌, ◌+◌, ◌<◌, ◌≤◌, Bool, true, false, List, [], ◌∷◌, ◌++◌, map, filter, inl, inr, refl, sym, ap, ◌∙◌, subst, arith}
-use Rattle.std.specs.Prelude.{Option, Some, None, IfSome, slice_get, slice_index, not, ◌||◌, ◌&&◌, ◌==◌, nat_eq, nat_le, nat_lt, is_some, if◌then◌else◌}
+use Rattle.std.proofs.Common.{ℕ, zero, suc, ◌≡◌, ◌↔◌, ◌+◌, ◌<◌, ◌≤◌, Bool, true, false, List, [], ◌∷◌, refl, sym, ap, ◌∙◌, subst, arith}
+use Rattle.std.specs.Prelude.{Some, None, slice_index, not, ◌||◌, ◌&&◌, nat_eq, nat_le, nat_lt, is_some, if◌then◌else◌}
 use Rattle.std.specs.List.{list_all}
-use Rattle.std.proofs.lemmas.Bool.Decides.{nat_tests}
-use Rattle.un_base.specs.declared.ids.VarId.{VarId}
-use Rattle.un_isa.specs.Facts.{is_source}
 use Rattle.un_isa.specs.declared.op.Op.{Op}
 use Rattle.un_isa.specs.declared.op.Op.TheVariants.{Imm, Call, Enter as EnterOp, Leave as LeaveOp}
-use Rattle.un_ir.specs.declared.function.SrcOp.{SrcOp}
 use Rattle.un_ir.specs.declared.extended.ExtKind.{ExtKind}
 use Rattle.un_ir.specs.declared.extended.ExtKind.TheVariants.{In, Out, Body, End, Copy, Enter, Leave}
 use Rattle.un_ir.specs.declared.extended.Ext.{Ext}
@@ -16,20 +12,17 @@ use Rattle.un_domains.specs.declared.domain.Domain.TheVariants.{Range}
 use Rattle.un_model.specs.declared.model.Options.{Options}
 use Rattle.un_model.specs.Instructions.{instruction_of, copy_of}
 use Rattle.un_model.specs.Schedules.{value_by, is_delimiter}
-use Rattle.un_model.specs.Solutions.{Precedes, frame_distance}
 use Rattle.un_model.specs.Variables.{is_optional, has_cycle, var_if, cycle_place, carries_truth, instr_domain}
-use Rattle.un_model.proofs.Lists.{Each, Member, each_of, each_member, each_append, each_join, each_map, each_of_map, member_filter, member_of_filter, member_map, member_map_of}
+use Rattle.un_model.proofs.Lists.{Each, Member}
 use Rattle.un_model.proofs.OpDomains.{in_entry, instr_sits}
 use Rattle.un_model.proofs.Placed.{Placed, vars_of, issue_at}
 use Rattle.un_model.proofs.PlacedSchedules.{all}
 use Rattle.un_prop.specs.Acts.{act_number, is_active, at_value}
-use Rattle.un_alt.specs.declared.frame.FrameUse.{FrameUse}
-use Rattle.un_alt.specs.Frame.{counts, is_after, is_until, is_on}
-use Rattle.un_post.specs.Places.{Place, act_by, act_of, time_by}
-use Rattle.un_post.specs.Postings.{is_call_op, is_call_kind, with_kind, var_or, instr_var, cycle_var, frame_op, copy_use, single_use}
+use Rattle.un_alt.specs.Frame.{counts}
+use Rattle.un_post.specs.Places.{act_by, time_by}
+use Rattle.un_post.specs.Postings.{is_call_op, is_call_kind, var_or, cycle_var, copy_use, single_use}
 use Rattle.un_post.proofs.Facts.{Given, falls, good_op, in_domains, instr_bound, acts, times}
-use Rattle.un_post.proofs.FrameTags.{Tag, Enters, Touches, Calls, Leaves, Quiet, tag, gap_of, tagged, Fits, Sound, fits, is_touch, touch_is, counted}
-use Rattle.un_post.proofs.OneEnter.{OneEnter, one_enter, enters}
+use Rattle.un_post.proofs.FrameTags.{Tag, Enters, Calls, Leaves, tag, Fits, Sound, fits, is_touch, counted}
 use Rattle.un_post.proofs.Placing.{place_of}
 use Rattle.un_post.proofs.Tests.{iff_then, both, and_iff, lt_iff, le_iff}
 
@@ -65,7 +58,8 @@ module _ (e : Ext) (o : Options) (x : List ℕ) (given : Given e o x) where
       number : is_optional q.op.kind ≡ true → (let v = vars_of q in value_by x v.instr ≡ slice_index x q.first)
       number opt = ap (λ (b : Bool). value_by x (var_if b q.first)) opt
 
-      back : (kind : ExtKind) → q.op.kind ≡ kind → (let v = vars_of q in Sound kind (value_by x v.instr)) → (let v = vars_of q in Sound q.op.kind (value_by x v.instr))
+      back : (kind : ExtKind) → q.op.kind ≡ kind → (let v = vars_of q in Sound kind (value_by x v.instr))
+          → (let v = vars_of q in Sound q.op.kind (value_by x v.instr))
       back kind h s = let v = vars_of q in subst (λ (c : ExtKind). Sound c (value_by x v.instr)) (sym h) s
 
       by : (kind : ExtKind) → q.op.kind ≡ kind → (let v = vars_of q in Sound q.op.kind (value_by x v.instr))
@@ -74,7 +68,8 @@ module _ (e : Ext) (o : Options) (x : List ℕ) (given : Given e o x) where
           let keeps = g.keeps in
           let source : IsSourceOp so = subst (λ (c : ExtKind). IsGoodKind c q.op) h keeps.kind in
           back (Body so) h source.op
-      by (Copy node) h = let opt : is_optional q.op.kind ≡ true = ap is_optional h in let le = instr_bound e o x given q m opt in let n = number opt in
+      by (Copy node) h = let opt : is_optional q.op.kind ≡ true = ap is_optional h in let le = instr_bound e o x given q m opt in let n =
+          number opt in
           back (Copy node) h (subst (λ n. n ≤ 5) (sym n) le)
       by In h = back In h tt
       by Out h = back Out h tt
@@ -89,12 +84,14 @@ module _ (e : Ext) (o : Options) (x : List ℕ) (given : Given e o x) where
   -- ---- tags, by kinds
 
   pub frame_tag : (q : Placed) (op : Op) (t : Tag) (kind : ExtKind) → q.op.kind ≡ kind → is_delimiter kind ≡ false
-      → ((n : ℕ) → is_some (instruction_of kind n) ≡ true → instruction_of kind n ≡ Some op) → tag (Some op) ≡ t → (issue_at x q).active ≡ true → tag_of q ≡ t
+      → ((n : ℕ) → is_some (instruction_of kind n) ≡ true → instruction_of kind n ≡ Some op) → tag (Some op) ≡ t
+      → (issue_at x q).active ≡ true → tag_of q ≡ t
   frame_tag q op t kind h inner made is act =
       let v = vars_of q in
       let n = value_by x v.instr in
       let on : is_some (instruction_of kind n) ≡ true =
-      sym (ap (λ (c : ExtKind). is_delimiter c || is_some (instruction_of c n)) h ∙ ap (λ (b : Bool). b || is_some (instruction_of kind n)) inner) ∙ act in
+      sym (ap (λ (c : ExtKind). is_delimiter c || is_some (instruction_of c n)) h
+      ∙ ap (λ (b : Bool). b || is_some (instruction_of kind n)) inner) ∙ act in
       ap (λ (c : ExtKind). tag (instruction_of c n)) h ∙ ap tag (made n on) ∙ is
 
   pub enter_tag : (q : Placed) → is_enter q.op.kind ≡ true → (issue_at x q).active ≡ true → tag_of q ≡ Enters
@@ -125,7 +122,8 @@ module _ (e : Ext) (o : Options) (x : List ℕ) (given : Given e o x) where
   call_tag q is = by q.op.kind refl is
     where
       by : (kind : ExtKind) → q.op.kind ≡ kind → is_call_kind kind ≡ true → tag_of q ≡ Calls
-      by (Body so) h s = let v = vars_of q in ap (λ (c : ExtKind). tag (instruction_of c (value_by x v.instr))) h ∙ ap (λ (op : Op). tag (Some op)) (call_is so.op s)
+      by (Body so) h s = let v = vars_of q in ap (λ (c : ExtKind). tag (instruction_of c (value_by x v.instr))) h
+          ∙ ap (λ (op : Op). tag (Some op)) (call_is so.op s)
       by In h s = absurd (cc s)
       by Out h s = absurd (cc s)
       by (End term) h s = absurd (cc s)
@@ -145,7 +143,8 @@ module _ (e : Ext) (o : Options) (x : List ℕ) (given : Given e o x) where
           let n = slice_index x q.first in
           ap (λ (b : Bool). nat_le 2 (act_number (act_by (var_if b q.first)) x) && nat_le (act_number (act_by (var_if b q.first)) x) 3) opt
           ∙ counted n (instr_bound e o x given q m opt)
-          ∙ sym (ap (λ (c : ExtKind). is_touch (tag (instruction_of c (value_by x v.instr)))) h ∙ ap (λ (b : Bool). is_touch (tag (copy_of (value_by x (var_if b q.first))))) opt)
+          ∙ sym (ap (λ (c : ExtKind). is_touch (tag (instruction_of c (value_by x v.instr)))) h
+          ∙ ap (λ (b : Bool). is_touch (tag (copy_of (value_by x (var_if b q.first))))) opt)
       by In h s = absurd (cc s)
       by Out h s = absurd (cc s)
       by (Body so) h s = absurd (cc s)
@@ -157,7 +156,8 @@ module _ (e : Ext) (o : Options) (x : List ℕ) (given : Given e o x) where
   call_counts q is = by q.op.kind refl is
     where
       by : (kind : ExtKind) → q.op.kind ≡ kind → is_call_kind kind ≡ true → counts x (single_use (place_of q)) ≡ true
-      by (Body so) h s = ap (λ (c : ExtKind). nat_le 1 (act_number (act_by (var_if (is_optional c) q.first)) x) && nat_le (act_number (act_by (var_if (is_optional c) q.first)) x) 1) h
+      by (Body so) h s = ap (λ (c : ExtKind). nat_le 1 (act_number (act_by (var_if (is_optional c) q.first)) x) &&
+          nat_le (act_number (act_by (var_if (is_optional c) q.first)) x) 1) h
       by In h s = absurd (cc s)
       by Out h s = absurd (cc s)
       by (End term) h s = absurd (cc s)
@@ -165,7 +165,8 @@ module _ (e : Ext) (o : Options) (x : List ℕ) (given : Given e o x) where
       by Enter h s = absurd (cc s)
       by Leave h s = absurd (cc s)
 
-  pub leave_counts : (q : Placed) → Member q (all e o x) → is_leave q.op.kind ≡ true → (issue_at x q).active ≡ true → counts x (single_use (place_of q)) ≡ true
+  pub leave_counts : (q : Placed) → Member q (all e o x) → is_leave q.op.kind ≡ true → (issue_at x q).active ≡ true
+      → counts x (single_use (place_of q)) ≡ true
   leave_counts q m is act = by q.op.kind refl is
     where
       one : (n : ℕ) → n ≤ 1 → not (nat_eq n 0) ≡ true → (nat_le 1 n && nat_le n 1) ≡ true
@@ -176,8 +177,10 @@ module _ (e : Ext) (o : Options) (x : List ℕ) (given : Given e o x) where
       by : (kind : ExtKind) → q.op.kind ≡ kind → is_leave kind ≡ true → counts x (single_use (place_of q)) ≡ true
       by Leave h s =
           let opt : is_optional q.op.kind ≡ true = ap is_optional h in
-          let d = instr_sits e o x (in_entry e o x q) q (Range 0 1) (in_domains e o x given q m) (ap (instr_domain (carries_truth e q.owner q.op q.op.results)) h) in
-          let on : not (nat_eq (slice_index x q.first) 0) ≡ true = sym (ap (λ (b : Bool). is_active (act_by (var_if b q.first)) x) opt) ∙ acts e o x given q m (ap falls h) ∙ act in
+          let d = instr_sits e o x (in_entry e o x q) q (Range 0 1) (in_domains e o x given q m)
+          (ap (instr_domain (carries_truth e q.owner q.op q.op.results)) h) in
+          let on : not (nat_eq (slice_index x q.first) 0) ≡ true = sym (ap (λ (b : Bool). is_active (act_by (var_if b q.first)) x) opt)
+          ∙ acts e o x given q m (ap falls h) ∙ act in
           ap (λ (b : Bool). nat_le 1 (act_number (act_by (var_if b q.first)) x) && nat_le (act_number (act_by (var_if b q.first)) x) 1) opt
           ∙ one (slice_index x q.first) d.1 on
       by In h s = absurd (cc s)
@@ -191,11 +194,13 @@ module _ (e : Ext) (o : Options) (x : List ℕ) (given : Given e o x) where
   cycle_is q inner = by q.op.kind refl inner
     where
       moved : (kind : ExtKind) → q.op.kind ≡ kind
-          → slice_index x (var_or (var_if (has_cycle kind) (q.first + cycle_place q.op))).0 ≡ at_value (time_by q.close kind (var_if (has_cycle kind) (q.first + cycle_place q.op))) x
+          → slice_index x (var_or (var_if (has_cycle kind) (q.first + cycle_place q.op))).0 ≡ at_value
+          (time_by q.close kind (var_if (has_cycle kind) (q.first + cycle_place q.op))) x
           → slice_index x (cycle_var (place_of q)).0 ≡ (issue_at x q).cycle
       moved kind h same =
           ap (λ (c : ExtKind). slice_index x (var_or (var_if (has_cycle c) (q.first + cycle_place q.op))).0) h ∙ same
-          ∙ sym (ap (λ (c : ExtKind). at_value (time_by q.close c (var_if (has_cycle c) (q.first + cycle_place q.op))) x) h) ∙ times e o x given q
+          ∙ sym (ap (λ (c : ExtKind). at_value (time_by q.close c (var_if (has_cycle c) (q.first + cycle_place q.op))) x) h)
+          ∙ times e o x given q
 
       by : (kind : ExtKind) → q.op.kind ≡ kind → is_delimiter kind ≡ false → slice_index x (cycle_var (place_of q)).0 ≡ (issue_at x q).cycle
       by In h s = absurd (cc s)

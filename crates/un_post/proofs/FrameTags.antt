@@ -1,5 +1,5 @@
 -- What the order of Enter, Leave and what uses the frame asks of an operation, by its kind and its number.
-use Rattle.std.proofs.Common.{ℕ, zero, suc, ◌≡◌, ◌≤◌, Bool, true, false, refl, sym, ap, ◌∙◌, arith}
+use Rattle.std.proofs.Common.{ℕ, zero, suc, ◌≡◌, ◌≤◌, Bool, true, false, refl, ap, arith}
 use Rattle.std.specs.Prelude.{Option, Some, None, ◌&&◌, nat_le, nat_eq, if◌then◌else◌}
 use Rattle.un_isa.specs.Facts.{is_source}
 use Rattle.un_isa.specs.declared.op.Op.{Op}
@@ -9,7 +9,7 @@ use Rattle.un_ir.specs.declared.function.Term.TheVariants.{Fall, Jump, Branch, R
 use Rattle.un_ir.specs.declared.extended.ExtKind.{ExtKind}
 use Rattle.un_ir.specs.declared.extended.ExtKind.TheVariants.{In, Out, Body, End, Copy, Enter, Leave}
 use Rattle.un_ir.specs.Extended.{is_copy, is_enter, is_leave}
-use Rattle.un_model.specs.Instructions.{instruction_of, copy_of, frame_instr}
+use Rattle.un_model.specs.Instructions.{instruction_of, copy_of}
 use Rattle.un_model.specs.Solutions.{is_frame_access, after_enter, before_leave, frame_distance}
 use Rattle.un_post.specs.Postings.{is_call_op, is_call_kind}
 

@@ -1,10 +1,11 @@
 -- A model has one Enter, which is in the entry.
-use Rattle.std.proofs.Common.{ℕ, zero, suc, ◌≡◌, ◌+◌, ◌<◌, Bool, true, false, cond, List, [], ◌∷◌, length, map, filter, inl, inr, refl, sym, ap, ◌∙◌, subst, arith}
-use Rattle.std.specs.Prelude.{Option, Some, None, slice_get, count_by, nat_eq, ◌==◌}
+use Rattle.std.proofs.Common.{ℕ, zero, suc, ◌≡◌, ◌+◌, Bool, true, false, cond, List, [], ◌∷◌, length, map, filter, inl, refl, sym, ap, ◌∙◌}
+use Rattle.std.proofs.Common.{subst, arith}
+use Rattle.std.proofs.lemmas.List.{length-map}
+use Rattle.std.specs.Prelude.{Some, slice_get, ◌==◌}
 use Rattle.std.proofs.lemmas.Bool.Decides.{nat_tests}
 use Rattle.std.proofs.lemmas.List.Sums.{length-filter}
 use Rattle.un_base.specs.declared.ids.VarId.{VarId}
-use Rattle.un_ir.specs.declared.extended.ExtKind.{ExtKind}
 use Rattle.un_ir.specs.declared.extended.ExtOp.{ExtOp}
 use Rattle.un_ir.specs.declared.extended.ExtBlock.{ExtBlock}
 use Rattle.un_ir.specs.declared.extended.Ext.{Ext}
@@ -22,14 +23,12 @@ pub filter_map : {A B : Type 0} (t : B → Bool) (f : A → B) (xs : List A) →
 filter_map t f [] = refl
 filter_map t f (x ∷ xs) =
     let k = filter_map t f xs in
-    elim (t (f x)) as (λ b. cond b (f x ∷ filter t (map f xs)) (filter t (map f xs)) ≡ map f (cond b (x ∷ filter (λ x. t (f x)) xs) (filter (λ x. t (f x)) xs)))
+    elim (t (f x)) as (λ b. cond b (f x ∷ filter t (map f xs)) (filter t (map f xs)) ≡ map f
+    (cond b (x ∷ filter (λ x. t (f x)) xs) (filter (λ x. t (f x)) xs)))
     [ true ↦ ap (λ ys. f x ∷ ys) k | false ↦ k ]
 
-length-mapped : {A B : Type 0} (f : A → B) (xs : List A) → length (map f xs) ≡ length xs
-length-mapped f [] = refl
-length-mapped f (x ∷ xs) = ap suc (length-mapped f xs)
-
-placed_ops : (b : ℕ) (owner : ExtBlock) (close : VarId) (n first : ℕ) (ops : List ExtOp) → map (λ (q : Placed). q.op) (placed b owner close n first ops) ≡ ops
+placed_ops : (b : ℕ) (owner : ExtBlock) (close : VarId) (n first : ℕ) (ops : List ExtOp)
+    → map (λ (q : Placed). q.op) (placed b owner close n first ops) ≡ ops
 placed_ops b owner close n first [] = refl
 placed_ops b owner close n first (op ∷ ops) = ap (λ os. op ∷ os) (placed_ops b owner close (n + 1) (first + var_count op) ops)
 
@@ -47,14 +46,17 @@ one_list (x ∷ y ∷ xs) n = absurd (omega arith)
 
 module _ (e : Ext) (o : Options) (x : List ℕ) (given : Given e o x) where
   -- how many there are in a block
-  entered : (k : ℕ) (r : Region) → slice_get (all_regions e o x given) k ≡ Some r → length (filter enters (region_placed r)) ≡ one_if (k == 0)
+  entered : (k : ℕ) (r : Region) → slice_get (all_regions e o x given) k ≡ Some r
+      → length (filter enters (region_placed r)) ≡ one_if (k == 0)
   entered k r at =
       let own : ExtBlock = r.owner in
       let ext = given.extended in
       let frames = ext.frames in
       let t = λ (op : ExtOp). is_enter op.kind in
       let op_of = λ (q : Placed). q.op in
-      sym (length-mapped op_of (filter enters (region_placed r))) ∙ ap length (sym (filter_map t op_of (region_placed r)) ∙ ap (filter t) (placed_ops r.block own (var_at (r.first + ops_count own.ops)) r.number r.first own.ops))
+      sym (length-map (filter enters (region_placed r)) op_of)
+      ∙ ap length (sym (filter_map t op_of (region_placed r))
+      ∙ ap (filter t) (placed_ops r.block own (var_at (r.first + ops_count own.ops)) r.number r.first own.ops))
       ∙ length-filter t own.ops ∙ frames.enters k own (region_is 0 0 0 e.blocks k r at).0
 
   pub record OneEnter : Type 0 where
@@ -82,7 +84,8 @@ module _ (e : Ext) (o : Options) (x : List ℕ) (given : Given e o x) where
         block = omega arith;
         alone =
             ap (filter enters) (placed_regions 0 0 0 e.blocks)
-            ∙ filter_one enters region_placed (all_regions e o x given) 0 r found.1 (λ i s at n. empty_list (filter enters (region_placed s)) (entered i s at ∙ other i n))
+            ∙ filter_one enters region_placed (all_regions e o x given) 0 r found.1
+            (λ i s at n. empty_list (filter enters (region_placed s)) (entered i s at ∙ other i n))
             ∙ one.1;
       }
     where
