@@ -194,7 +194,6 @@ pub each_counted : (vs : List VarId) (items : List Item) → SlotVars vs items �
 each_counted vs items among_all = take_each (ItemVars vs) (2 ^ 32 - 1) items (recursion_from_All _ _ among_all)
 
 module _ (vs : List VarId) (items : List Item) (horizon : ℕ) (among_all : SlotVars vs items) where
-
   fits_all : (s : Sets) → ((r : Resource) (high low : ℕ) → high < horizon → crowd_fits r (counted items) s high low ≡ true)
       → crowds_fit items horizon s ≡ true
   fits_all s h = for_each (λ r. all_below (λ high. all_below (crowd_fits r (counted items) s high) (high + 1)) horizon)

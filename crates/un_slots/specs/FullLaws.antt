@@ -1,7 +1,7 @@
 -- Laws of full intervals.
 use Rattle.std.proofs.Common.{ℕ, zero, suc, ◌≡◌, ◌<◌, ◌≤◌, ◌+◌, ◌-◌, ◌*◌, ◌^◌, ◌∙◌, Bool, true, false, not, ◌&&◌, ◌||◌, List, [], ◌∷◌, length, min, take}
 use Rattle.std.proofs.Common.{if◌then◌else◌, nat_le}
-use Rattle.std.proofs.Common.{get_or, sum_by, nat_eq, nat_lt, None, Some, refl, sym, ap, subst, arith}
+use Rattle.std.proofs.Common.{get_or, nat_eq, nat_lt, None, Some, refl, sym, ap, subst, arith}
 use Rattle.std.specs.declared.option.Option.{Option}
 use Rattle.std.specs.List.{list_any, AllByRecursion, slice_get}
 use Rattle.std.proofs.lemmas.Bool.Decides.{nat_tests}
@@ -9,7 +9,6 @@ use Rattle.std.proofs.lemmas.List.Sums.{sum_by-take-le}
 use Rattle.un_base.specs.declared.ids.VarId.{VarId}
 use Rattle.un_domains.specs.Sets.{Sets, set_at, has, least, greatest, cut_by, IsIn, NoneEmpty, Kept}
 use Rattle.un_domains.specs.CutLaws.{cut_by_kept}
-use Rattle.un_domains.specs.Order.{Below}
 use Rattle.un_domains.specs.Cuts.{Contents}
 use Rattle.un_prop.specs.Going.{Stepped}
 use Rattle.un_prop.specs.GoingLaws.{stepped_chain}
@@ -244,9 +243,11 @@ module _ (r : Resource) (xs : List Item) (low high : ℕ) (s : Sets) where
       → (surely_takes r s i ≡ true) × (leaves_some r xs low high k s ≡ false)
   is_lost k i e room n is_room is_n on =
       let two = firsts (nat_le (room + crowded r low high s i) n) _
-      (firsts (nat_le low (greatest (set_at s i.at.0))) _ (firsts (nat_le (least (set_at s i.at.0)) high) _ on).1).1 in
-      (two.1, false_lt (crowd r (others k xs) low high s) (places_of r * (high + 1 - low))
-      (over (crowded r low high s i) is_room is_n (true_le (room + crowded r low high s i) n two.0) (but_one k i e)))
+      (firsts (nat_le low (greatest (set_at s i.at.0))) _ (firsts (nat_le (least (set_at s i.at.0)) high) _ on).1).1 in (
+        two.1,
+        false_lt (crowd r (others k xs) low high s) (places_of r * (high + 1 - low))
+            (over (crowded r low high s i) is_room is_n (true_le (room + crowded r low high s i) n two.0) (but_one k i e)),
+      )
 
 -- Intervals that are not full
 

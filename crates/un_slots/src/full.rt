@@ -86,14 +86,7 @@ fn is_outside(low: u32, high: u32, c: u32) -> bool
 }
 
 /// Takes cycle `c` from `v`, unless it is outside.
-fn keep_at(
-    w: &mut Window<'_>,
-    before: Pruned,
-    v: VarId,
-    c: u32,
-    low: u32,
-    high: u32,
-) -> Pruned
+fn keep_at(w: &mut Window<'_>, before: Pruned, v: VarId, c: u32, low: u32, high: u32) -> Pruned
     requires there { v.0 < length w.old.store.now.sets }
     requires lent { among w.old.vars.now v ≡ true }
     requires some { before ≢ Failed → 0 < length (set_at w.old.store.now.sets v.0) }

@@ -22,4 +22,3 @@ max-requires-clause-there c = has_among c.args.w.now.vars.now c.args.item.now.at
 pub max-requires-clause-some : goal.max-requires-clause-some
 max-requires-clause-some c = c.requires.live c.args.item.now.at.0
     (has_among c.args.w.now.vars.now c.args.item.now.at c.args.w.now.store.now.sets c.requires.vars.of_at c.requires.known)
-
