@@ -1,7 +1,7 @@
 -- Laws of full intervals.
-use Rattle.std.proofs.Common.{ℕ, zero, suc, ◌≡◌, ◌<◌, ◌≤◌, ◌+◌, ◌-◌, ◌*◌, ◌^◌, ◌∙◌, Bool, true, false, not, ◌&&◌, ◌||◌, List, [], ◌∷◌, length, min, take}
-use Rattle.std.proofs.Common.{if◌then◌else◌, nat_le}
-use Rattle.std.proofs.Common.{get_or, nat_eq, nat_lt, None, Some, refl, sym, ap, subst, arith}
+use Rattle.std.proofs.Common.{ℕ, zero, suc, ◌≡◌, ◌<◌, ◌≤◌, ◌+◌, ◌-◌, ◌*◌, ◌^◌, ◌∙◌, Bool, true, false, not, ◌&&◌, ◌||◌}
+use Rattle.std.proofs.Common.{if◌then◌else◌, List, [], ◌∷◌, length, min, take, nat_le, get_or, nat_eq, nat_lt, refl, sym, ap, subst}
+use Rattle.std.proofs.Common.{None, Some, arith}
 use Rattle.std.specs.declared.option.Option.{Option}
 use Rattle.std.specs.List.{list_any, AllByRecursion, slice_get}
 use Rattle.std.proofs.lemmas.Bool.Decides.{nat_tests}
@@ -30,7 +30,8 @@ use Rattle.un_slots.specs.SlotLaws.{map_each, sum_alike, holds_fits}
 use Rattle.un_slots.specs.Loads.{others}
 use Rattle.un_slots.specs.LoadLaws.{sum_le, sum_others, each_other, one_of}
 use Rattle.un_slots.specs.Crowds.{surely_takes, lies_in, crowded, crowd, counted, all_below}
-use Rattle.un_slots.specs.CrowdLaws.{taken_in, taken_all, takes_below, crowded_below, crowded_alike, takes_some, crowded_taken, each_counted}
+use Rattle.un_slots.specs.CrowdLaws.{taken_in, taken_all, takes_below, crowded_below, crowded_alike, takes_some, crowded_taken}
+use Rattle.un_slots.specs.CrowdLaws.{each_counted}
 use Rattle.un_slots.specs.Fulls.{outside, leaves_some, full_test, full_cut_of, full_cut, clear_between, clear_to, clear_of, resource_at}
 use Rattle.un_slots.specs.CrowdLaws.{le_true, true_le, below_each}
 use Rattle.un_domains.specs.SetLaws.{least-le, has-fold_max}
@@ -260,7 +261,8 @@ module _ (vs : List VarId) (xs : List Item) (each : AllByRecursion (ItemVars vs)
       by k None e = refl
       by k (Some i) e =
           let h = one_of (ItemVars vs) xs k i e each in
-          let left = lt_true (crowd r (others k xs) low high s) (places_of r * (high + 1 - low)) (fewer (crowded r low high s i) few (but_one r xs low high s k i e)) in
+          let left = lt_true (crowd r (others k xs) low high s) (places_of r * (high + 1 - low))
+          (fewer (crowded r low high s i) few (but_one r xs low high s k i e)) in
           cut_all (full_test r xs low high k i s) i.at.0 s (has_among vs i.at s h.of_at known) live
           (λ c own. or_right (not (surely_takes r s i)) _ (or_right (outside low high c) _ left))
 

@@ -33,16 +33,19 @@ full_cut_of r items low high k (Some i) s = cut_by (full_test r items low high k
 abbrev pub full_cut : Resource → List Item → ℕ → ℕ → ℕ → Sets → Option Sets
 full_cut r items low high k s = full_cut_of r items low high k (slice_get items k) s
 
--- each item; for each interval up to a cycle, the shortest first; for each cycle before the horizon; for each resource
+-- each item loses what the others fill of an interval
 abbrev pub clear_between : Resource → List Item → ℕ → ℕ → Sets → Option Sets
 clear_between r items low high = each_place (full_cut r items low high) (length items)
 
+-- so for each interval that ends with a cycle, the shortest first
 abbrev pub clear_to : Resource → List Item → ℕ → Sets → Option Sets
 clear_to r items high = each_place (λ m. clear_between r items (high - m) high) (high + 1)
 
+-- for each such cycle before the horizon
 abbrev pub clear_of : Resource → List Item → ℕ → Sets → Option Sets
 clear_of r items horizon = each_place (clear_to r items) horizon
 
+-- the resources in order, the last one from place 4 on
 abbrev pub resource_at : ℕ → Resource
 resource_at zero = Instructions
 resource_at (suc zero) = Memory
@@ -50,6 +53,7 @@ resource_at (suc (suc zero)) = Stores
 resource_at (suc (suc (suc zero))) = MultiplyOrControl
 resource_at (suc (suc (suc (suc n)))) = Control
 
+-- and for each resource
 abbrev pub full_cuts : List Item → ℕ → Sets → Option Sets
 full_cuts items horizon = each_place (λ n. clear_of (resource_at n) (counted items) horizon) 5
 

@@ -10,7 +10,8 @@ ghost use Rattle.un_prop.specs.Looks.{act_set};
 ghost use Rattle.un_prop.specs.Rounds.{HasVars};
 ghost use Rattle.un_prop.specs.declared.propagator.Pruned.TheVariants.{Failed};
 ghost use Rattle.un_slots.specs.Slots.{ItemVars, SlotVars, places_of, share_of, share_at};
-ghost use Rattle.un_slots.specs.Crowds.{surely_takes, starts, crowd, crowd_fits, all_below, counted, crowds_fit, crowd_cut, sum_from, ends_fit};
+ghost use Rattle.un_slots.specs.Crowds.{surely_takes, starts, crowd, crowd_fits, all_below, counted, crowds_fit, crowd_cut};
+ghost use Rattle.un_slots.specs.Crowds.{sum_from, ends_fit};
 
 use crate::item::{Item, Resource};
 use crate::listing::clear;

@@ -38,7 +38,17 @@ loop-c-preserved c =
         | inl less ↦ (
             let is : at - 1 ≡ low = omega (arith, le, less) in
             let fit : sum_from f (at - 1) (high + 1 - (at - 1)) + c.args.spare ≤ c.args.places * (high + 1 - (at - 1)) =
-            omega (arith, down, room, inv.crowd, inv.room, c.from-crowd.ensures, c.from-room.ensures, c.from.ensures, c.if-crowd-from.false) in
+            omega (
+              arith,
+              down,
+              room,
+              inv.crowd,
+              inv.room,
+              c.from-crowd.ensures,
+              c.from-room.ensures,
+              c.from.ensures,
+              c.if-crowd-from.false,
+            ) in
             subst (λ (k : ℕ). sum_from f k (high + 1 - k) + c.args.spare ≤ c.args.places * (high + 1 - k)) is fit)
         | inr more ↦ inv.passed low more lt
       ];

@@ -13,7 +13,8 @@ returns c =
     let spare = c.args.spare in
     let cycles = c.count_all.new.cycles in
     let ordered = ordered_counted c.args.w.now.vars.now c.args.items.now s c.requires.vars c.requires.known c.requires.live in
-    c.fits_down.ensures ∙ below_same _ (λ low. nat_le (crowd r xs low high s + spare) (places_of r * (high + 1 - low))) (high + 1) (λ low lt. (
+    c.fits_down.ensures ∙ below_same _ (λ low. nat_le (crowd r xs low high s + spare) (places_of r * (high + 1 - low))) (high + 1)
+    (λ low lt. (
     let n : low + (high + 1 - low) ≡ high + 1 = omega (arith, lt) in
     let sums = from_same (slice_index cycles) (λ k. sum_by (starts r high s k) xs) low (high + 1 - low)
     (λ k less. c.count_all.ensures k (omega (arith, less, n))) ∙ crowd_sum r s xs ordered high (high + 1 - low) low n in

@@ -9,7 +9,8 @@ use Rattle.un_slots.proofs.full.clear_down.Given as goal
 
 abbrev pub invariant-loop-m : goal.invariant-loop-m
 invariant-loop-m l = record {
-  step : Stepped l.fn.w.vars.now (each_place (λ m. clear_between l.r (counted l.items) (l.high - m) l.high) l.m) l.fn.w.store.now l.w.store.now l.fn.before l.did;
+  step : Stepped l.fn.w.vars.now (each_place (λ m. clear_between l.r (counted l.items) (l.high - m) l.high) l.m)
+      l.fn.w.store.now l.w.store.now l.fn.before l.did;
   room : l.room ≡ places_of l.r * l.m;
   few : l.room ≤ 4 * l.m;
   same_reference : l.w.store.ghost_name ≡ l.fn.w.store.ghost_name;

@@ -83,8 +83,8 @@ returns-in-Failed-clause-step c =
     stepped_then vs (full_cut r (counted items) low high c.args.k) s new c.args.before did.result did.result
     (λ e. let h = rw e at c.if-eq.ensures in cc h)
     (failed ∙ sym (ap (join c.args.before) failed ∙ join_failed c.args.before)) did.ensures.prune.untouched.long
-    (λ live. (let p = cut_is vs (full_cut r (counted items) low high c.args.k s.sets) (cut_by (outside low high) i.at.0 s.sets) s new did.result
-    (full_is r (counted items) low high s.sets c.args.k i at lost.0 lost.1) did.ensures.prune in (p.ends, p.untouched)))
+    (λ live. (let p = cut_is vs (full_cut r (counted items) low high c.args.k s.sets) (cut_by (outside low high) i.at.0 s.sets) s new
+    did.result (full_is r (counted items) low high s.sets c.args.k i at lost.0 lost.1) did.ensures.prune in (p.ends, p.untouched)))
 
 live_after : (vs : List VarId) (o : Option Sets) (old new : Contents) (answer : Pruned) → IsPrune vs o old new answer → answer ≢ Failed
     → NoneEmpty new.sets
@@ -120,5 +120,5 @@ returns-in_default-clause-step c =
     stepped_then vs (full_cut r (counted items) low high c.args.k) s new c.args.before did.result c.joined.result
     (λ e. let h = rw e at c.if-eq.ensures in cc h)
     c.joined.ensures did.ensures.prune.untouched.long
-    (λ live. (let p = cut_is vs (full_cut r (counted items) low high c.args.k s.sets) (cut_by (outside low high) i.at.0 s.sets) s new did.result
-    (full_is r (counted items) low high s.sets c.args.k i at lost.0 lost.1) did.ensures.prune in (p.ends, p.untouched)))
+    (λ live. (let p = cut_is vs (full_cut r (counted items) low high c.args.k s.sets) (cut_by (outside low high) i.at.0 s.sets) s new
+    did.result (full_is r (counted items) low high s.sets c.args.k i at lost.0 lost.1) did.ensures.prune in (p.ends, p.untouched)))
