@@ -12,6 +12,7 @@ pub mod FrameTests
 pub mod Frames
 pub mod Homes
 pub mod Latencies
+pub mod LeastValues
 pub mod Limits
 pub mod Meeting
 pub mod Memory
@@ -23,6 +24,7 @@ pub mod Placing
 pub mod Posted
 pub mod Regions
 pub mod RegisterBounds
+pub mod Relaxed
 pub mod SpaceSets
 pub mod Spaces
 pub mod Spared
