@@ -6,6 +6,7 @@ pub mod Cycles
 pub mod Ends
 pub mod Exact
 pub mod Facts
+pub mod Failing
 pub mod FrameOrder
 pub mod FrameTags
 pub mod FrameTests
