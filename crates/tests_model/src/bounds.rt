@@ -146,6 +146,11 @@ fn range(lo: u32, hi: u32) -> Domain
     }
 }
 
+/// The limit of the variable at place `i`, of which the one at place `v` alone has one.
+fn limit(i: usize, v: u32, most: u32) -> u32 {
+    if i == v as usize { most } else { 9999 }
+}
+
 /// The domains of cycles and of ends, with variable `v` at most at `most`.
 fn time_domains(
     alloc: Global,
@@ -158,8 +163,8 @@ fn time_domains(
 {
     let mut all = Vec::new(alloc);
     for i in 0..domains.len() {
-        let hi = if i == v as usize { most } else { 9999 };
-        all.push(time_domain(&domains[i], hi))?;
+        let domain = time_domain(&domains[i], limit(i, v, most));
+        all.push(domain)?;
     }
     Ok(all)
 }
@@ -197,7 +202,10 @@ fn relaxed(alloc: Global, m: &Model, v: u32, most: u32) -> Result<Option<RelaxAn
     }
     let domains = time_domains(alloc, m.domains.as_slice(), v, most)?;
     let store = store_of(alloc, domains)?;
-    let mut scratch = Scratch::new(alloc, store.len(), horizon(m.ext.blocks.as_slice()))?;
+    let vars = store.len();
+    let blocks = m.ext.blocks.as_slice();
+    let last = horizon(blocks);
+    let mut scratch = Scratch::new(alloc, vars, last)?;
     Ok(Some(relax_bound(m, &store, &mut scratch)))
 }
 

@@ -1,3 +1,4 @@
+pub mod Boxes
 pub mod Earliest
 pub mod Knowns
 pub mod Leasts

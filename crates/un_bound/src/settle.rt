@@ -125,10 +125,10 @@ fn raise(b: &Boxed<'_>, cycles: &mut [u32], arcs: &[Arc]) -> bool
     requires live { NoneEmpty b.now.store.now.sets }
     requires known { AreKnown (length b.now.store.now.sets) b.now.end b.now.ops.now b.now.vars.now }
     requires arcs { LeadOn b.now.first b.now.ops.now arcs.now }
-    requires start { AreEarliest (InSets b.now.store.now.sets b.now.end b.now.ops.now b.now.vars.now) (length b.now.ops.now) b.now.first
-        arcs.now 0 cycles.old }
-    ensures { IsSettled (InSets b.now.store.now.sets b.now.end b.now.ops.now b.now.vars.now) (length b.now.ops.now) b.now.first arcs.now
-        (length arcs.now) cycles.new result }
+    requires start { AreEarliest (InSets b.now.store.now.sets b.now.end b.now.ops.now b.now.vars.now)
+        (length b.now.ops.now) b.now.first arcs.now 0 cycles.old }
+    ensures { IsSettled (InSets b.now.store.now.sets b.now.end b.now.ops.now b.now.vars.now)
+        (length b.now.ops.now) b.now.first arcs.now (length arcs.now) cycles.new result }
 {
     for arc in arcs {
         if !raise_by(b, cycles, *arc) {

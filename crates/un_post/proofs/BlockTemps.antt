@@ -1,5 +1,29 @@
 -- The temporaries of each block, as propagators name them, with their live ranges.
-use Rattle.std.proofs.Common.{ℕ, zero, suc, ◌≡◌, ◌↔◌, ◌+◌, ◌<◌, ◌≤◌, max, Bool, true, false, List, [], ◌∷◌, ◌++◌, map, refl, sym, ap, ◌∙◌, subst, arith}
+use Rattle.std.proofs.Common.{
+  ℕ,
+  zero,
+  suc,
+  ◌≡◌,
+  ◌↔◌,
+  ◌+◌,
+  ◌<◌,
+  ◌≤◌,
+  max,
+  Bool,
+  true,
+  false,
+  List,
+  [],
+  ◌∷◌,
+  ◌++◌,
+  map,
+  refl,
+  sym,
+  ap,
+  ◌∙◌,
+  subst,
+  arith,
+}
 use Rattle.std.specs.Prelude.{Option, Some, slice_get}
 use Rattle.un_base.specs.declared.ids.TempId.{TempId}
 use Rattle.un_ir.specs.declared.extended.Ext.{Ext}
@@ -38,7 +62,8 @@ own_temps q k (t ∷ ts) = ap (λ us. t ∷ us) (own_temps q (k + 1) ts)
 pub results_are : (qs : List Placed) → results_in (map place_of qs) ≡ map (λ (s : Spot). s.temp) (all_spots qs)
 results_are [] = refl
 results_are (q ∷ qs) =
-    ap (λ ts. (q.op).results ++ ts) (results_are qs) ∙ ap (λ ts. ts ++ map (λ (s : Spot). s.temp) (all_spots qs)) (sym (own_temps q 0 (q.op).results))
+    ap (λ ts. (q.op).results ++ ts) (results_are qs) ∙ ap (λ ts. ts ++ map (λ (s : Spot). s.temp) (all_spots qs))
+    (sym (own_temps q 0 (q.op).results))
     ∙ sym (map-append (λ (s : Spot). s.temp) (spots_of q) (all_spots qs))
 
 pub definer_in : (qs : List Placed) (s : Spot) → Member s (all_spots qs) → Member s.definer qs

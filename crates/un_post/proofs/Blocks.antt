@@ -29,10 +29,12 @@ joined_append (xs ∷ xss) yss = ap (λ zs. xs ++ zs) (joined_append xss yss) �
     assoc (x ∷ xs) ys zs = ap (λ ws. x ∷ ws) (assoc xs ys zs)
 
 -- what is made of the items of joined lists is what is made of each list, joined
-pub joined_parts : {A B : Type 0} (f : A → List B) (xss : List (List A)) → joined (map f (joined xss)) ≡ joined (map (λ xs. joined (map f xs)) xss)
+pub joined_parts : {A B : Type 0} (f : A → List B) (xss : List (List A))
+    → joined (map f (joined xss)) ≡ joined (map (λ xs. joined (map f xs)) xss)
 joined_parts f [] = refl
 joined_parts f (xs ∷ xss) =
-    ap joined (append f xs (joined xss)) ∙ joined_append (map f xs) (map f (joined xss)) ∙ ap (λ ys. joined (map f xs) ++ ys) (joined_parts f xss)
+    ap joined (append f xs (joined xss)) ∙ joined_append (map f xs) (map f (joined xss))
+    ∙ ap (λ ys. joined (map f xs) ++ ys) (joined_parts f xss)
   where
     append : {A B : Type 0} (f : A → B) (xs ys : List A) → map f (xs ++ ys) ≡ map f xs ++ map f ys
     append f [] ys = refl
@@ -68,7 +70,8 @@ past b n first (block ∷ blocks) =
     let rest = regions (b + 1) (n + length block.ops) (first + block_count block) blocks in (
       omega arith,
       each_of (λ (r : Region). b ≤ r.block) rest (λ r m.
-          let le = each_member (λ (r : Region). b + 1 ≤ r.block) rest r (past (b + 1) (n + length block.ops) (first + block_count block) blocks) m in omega arith),
+          let le = each_member (λ (r : Region). b + 1 ≤ r.block) rest r
+          (past (b + 1) (n + length block.ops) (first + block_count block) blocks) m in omega arith),
     )
 
 -- they rise
@@ -77,7 +80,8 @@ rising b n first [] = tt
 rising b n first (block ∷ blocks) =
     let rest = regions (b + 1) (n + length block.ops) (first + block_count block) blocks in (
       each_of (λ (r : Region). b < r.block) rest (λ r m.
-          let le = each_member (λ (r : Region). b + 1 ≤ r.block) rest r (past (b + 1) (n + length block.ops) (first + block_count block) blocks) m in omega arith),
+          let le = each_member (λ (r : Region). b + 1 ≤ r.block) rest r
+          (past (b + 1) (n + length block.ops) (first + block_count block) blocks) m in omega arith),
       rising (b + 1) (n + length block.ops) (first + block_count block) blocks,
     )
 
@@ -116,7 +120,8 @@ module _ (e : Ext) (o : Options) (x : List ℕ) where
 
   -- what is posted block by block
   pub regions_met : (f : ℕ → ℕ → ExtBlock → BlockVars → List Constraint)
-      → AllMet (over_blocks f 0 0 e.blocks (blocks_vars 0 e.blocks)) x ↔ Each (λ (r : Region). Met x (f r.block r.number r.owner (region_vars r))) blocks
+      → AllMet (over_blocks f 0 0 e.blocks (blocks_vars 0 e.blocks)) x ↔ Each
+      (λ (r : Region). Met x (f r.block r.number r.owner (region_vars r))) blocks
   regions_met f = (
     λ h. each_joined _ (λ (r : Region). f r.block r.number r.owner (region_vars r)) blocks
         (subst (Met x) (over_regions f 0 0 0 e.blocks) (met_all x _ h)),

@@ -150,7 +150,8 @@ in_each [] (y ∷ ys) h = absurd h
 in_each (d ∷ ds) [] h = absurd h
 in_each (d ∷ ds) (y ∷ ys) h = let r = in_each ds ys h.1 in let first = (value_in d y).0 h.0 in (ap suc r.0, by first r.1)
   where
-    by : has (values_of d) y ≡ true → ((v : ℕ) → v < length (map values_of ds) → has (set_at (map values_of ds) v) (slice_index ys v) ≡ true)
+    by : has (values_of d) y ≡ true → ((v : ℕ) → v < length (map values_of ds)
+        → has (set_at (map values_of ds) v) (slice_index ys v) ≡ true)
         → (v : ℕ) → v < length (map values_of (d ∷ ds)) → has (set_at (map values_of (d ∷ ds)) v) (slice_index (y ∷ ys) v) ≡ true
     by first rest zero lt = first
     by first rest (suc v) lt = rest v (omega arith)

@@ -16,14 +16,16 @@ use Rattle.un_model.specs.declared.model.Options.{Options}
 use Rattle.un_model.specs.declared.model.TempVars.{TempVars}
 use Rattle.un_model.specs.declared.schedule.Issue.{Issue}
 use Rattle.un_model.specs.ArcLaws.{gap_told, arc_known}
-use Rattle.un_model.specs.Arcs.{is_mandatory, own_instr, reads_from, data_gap, memory_gap, larger, largest_gap, arc, block_arcs, blocks_arcs}
+use Rattle.un_model.specs.Arcs.{is_mandatory, own_instr, reads_from, data_gap, memory_gap, larger, largest_gap, arc, block_arcs}
+use Rattle.un_model.specs.Arcs.{blocks_arcs}
 use Rattle.un_model.specs.Arcs.NeedsGap.{ByMemory}
 use Rattle.un_model.specs.Instructions.{instruction_of}
 use Rattle.un_model.specs.Schedules.{issues_of, schedule_of, value_by}
 use Rattle.un_model.specs.Solutions.{IsSolution, KeepsMemory, Precedes, memory_distance}
 use Rattle.un_model.specs.Variables.{model_of, var_at, ops_count, block_count, blocks_temps}
 use Rattle.un_model.proofs.ArcsKept.{KeepsArc, arcs_kept}
-use Rattle.un_model.proofs.Lists.{Each, Pairwise, Member, each_of, each_member, each_map, each_of_map, pairwise_map, member_at, slice_get-map}
+use Rattle.un_model.proofs.Lists.{Each, Pairwise, Member, each_of, each_member, each_map, each_of_map, pairwise_map, member_at}
+use Rattle.un_model.proofs.Lists.{slice_get-map}
 use Rattle.un_model.proofs.Lists.{place_of as position_of}
 use Rattle.un_model.proofs.Operations.{placed_is}
 use Rattle.un_model.proofs.Placed.{Placed, Region, region_placed, vars_of, issue_at, issues_are}
@@ -276,4 +278,5 @@ module _ (e : Ext) (o : Options) (x : List ℕ) (given : Given e o x) where
       (each_of _ bs (λ r mr. in_block r mr (each_member _ bs r each mr))) in
       let pairs : Pairwise Kept (all e o x) = subst (Pairwise Kept) (sym (placed_regions 0 0 0 e.blocks)) parts in
       let R = Precedes memory_distance in
-      all_pairwise R (issues_of m x) (subst (Pairwise R) (sym (issues_are x 0 0 0 e.blocks)) (pairwise_map R (issue_at x) (all e o x) pairs))
+      all_pairwise R (issues_of m x) (subst (Pairwise R) (sym (issues_are x 0 0 0 e.blocks))
+      (pairwise_map R (issue_at x) (all e o x) pairs))

@@ -1,5 +1,32 @@
 -- Calls find the clobbered registers free exactly where the constraints of calls are met.
-use Rattle.std.proofs.Common.{ℕ, zero, suc, ◌≡◌, ◌↔◌, ◌+◌, ◌<◌, ◌≤◌, max, Bool, true, false, List, [], ◌∷◌, ◌++◌, map, filter, refl, sym, ap, ◌∙◌, subst, arith, All, eq-eqb}
+use Rattle.std.proofs.Common.{
+  ℕ,
+  zero,
+  suc,
+  ◌≡◌,
+  ◌↔◌,
+  ◌+◌,
+  ◌<◌,
+  ◌≤◌,
+  max,
+  Bool,
+  true,
+  false,
+  List,
+  [],
+  ◌∷◌,
+  ◌++◌,
+  map,
+  filter,
+  refl,
+  sym,
+  ap,
+  ◌∙◌,
+  subst,
+  arith,
+  All,
+  eq-eqb,
+}
 use Rattle.std.specs.Prelude.{Option, Some, None, not, ◌&&◌, ◌||◌, ◌==◌, nat_eq, nat_le, nat_lt, slice_get, slice_index, if◌then◌else◌}
 use Rattle.std.specs.List.{list_all}
 use Rattle.std.proofs.lemmas.Bool.Decides.{nat_tests}
@@ -19,7 +46,18 @@ use Rattle.un_model.specs.Instructions.{instruction_of, copy_of, frame_instr}
 use Rattle.un_model.specs.Schedules.{issues_of, value_by, cycle_by}
 use Rattle.un_model.specs.Solutions.{SparesRange, IsSpared}
 use Rattle.un_model.specs.Variables.{model_of, has_cycle, var_if}
-use Rattle.un_model.proofs.Lists.{Each, Member, each_of, each_member, each_map, each_of_map, member_map, member_map_of, member_filter, member_of_filter}
+use Rattle.un_model.proofs.Lists.{
+  Each,
+  Member,
+  each_of,
+  each_member,
+  each_map,
+  each_of_map,
+  member_map,
+  member_map_of,
+  member_filter,
+  member_of_filter,
+}
 use Rattle.un_model.proofs.Placed.{Placed, Region, region_placed, vars_of, issue_at, Spot}
 use Rattle.un_model.proofs.PlacedSchedules.{all, spots, spot_range, the_ranges}
 use Rattle.un_prop.specs.declared.act.Temp.{Temp}
@@ -97,7 +135,8 @@ call_timed Leave h = absurd (cc h)
 
 -- the variable of a cycle has the cycle
 cycle_by_kind : (kind : ExtKind) (v end : ℕ) (x : List ℕ) (instr : Option VarId) (choices : List VarId) → has_cycle kind ≡ true
-    → slice_index x (var_or (var_if (has_cycle kind) v)).0 ≡ cycle_by x end kind (record { instr = instr; cycle = var_if (has_cycle kind) v; choices = choices })
+    → slice_index x (var_or (var_if (has_cycle kind) v)).0 ≡ cycle_by x end kind
+    (record { instr = instr; cycle = var_if (has_cycle kind) v; choices = choices })
 cycle_by_kind In v end x instr choices h = absurd (cc h)
 cycle_by_kind Out v end x instr choices h = absurd (cc h)
 cycle_by_kind (Body so) v end x instr choices h = refl
@@ -141,14 +180,17 @@ module _ (clobbered : ℕ) (i : Issue) (h : LiveRange) where
       → h.active ≡ true → in_mask clobbered h.reg ≡ true → (h.from ≤ i.cycle) × (i.cycle ≤ h.last) → ⊥) → SparesRange clobbered i h
   unfolding SparesRange
   spares_range f call act block mask occupies = let a = i.op in let b = h.op in
-      differs a.0 b.0 (λ t. f call block (λ same. let z : (a.0 == b.0) ≡ true = eq-eqb a.0 b.0 same in let w : not (a.0 == b.0) ≡ false = ap not z in let y : true ≡ false = sym t ∙ w in cc y) act mask occupies)
+      differs a.0 b.0 (λ t. f call block (λ same. let z : (a.0 == b.0) ≡ true = eq-eqb a.0 b.0 same in let w : not (a.0 == b.0) ≡ false =
+      ap not z in let y : true ≡ false = sym t ∙ w in cc y) act mask occupies)
 
-  range_spared : SparesRange clobbered i h → i.instr ≡ Some Call → (let a = i.block in let b = h.block in a.0 ≡ b.0) → (let a = i.op in let b = h.op in a.0 ≡ b.0 → ⊥)
+  range_spared : SparesRange clobbered i h → i.instr ≡ Some Call → (let a = i.block in let b = h.block in a.0 ≡ b.0)
+      → (let a = i.op in let b = h.op in a.0 ≡ b.0 → ⊥)
       → h.active ≡ true → in_mask clobbered h.reg ≡ true → (h.from ≤ i.cycle) × (i.cycle ≤ h.last) → ⊥
   unfolding SparesRange
   range_spared s call block other act mask occupies = other (s call act block mask occupies)
 
-is_spared : (clobbered : ℕ) (issues : List Issue) (h : LiveRange) → All (λ (i : Issue). SparesRange clobbered i h) issues ↔ IsSpared clobbered issues h
+is_spared : (clobbered : ℕ) (issues : List Issue) (h : LiveRange)
+    → All (λ (i : Issue). SparesRange clobbered i h) issues ↔ IsSpared clobbered issues h
 unfolding IsSpared
 is_spared clobbered issues h = (λ k. k, λ k. k)
 
@@ -183,7 +225,8 @@ module _ (e : Ext) (o : Options) (x : List ℕ) (given : Given e o x) (clobbered
     spared_here : Spares s ↔ (clobber_holds clobbered (temp_of r s) calls x ≡ true)
     spared_here = (
       λ h.
-          let each = (issues_each e o x given (λ (i : Issue). SparesRange clobbered i (spot_range e o x s))).0 ((is_spared clobbered (issues_of (model_of e o) x) (spot_range e o x s)).1 h) in
+          let each = (issues_each e o x given (λ (i : Issue). SparesRange clobbered i (spot_range e o x s))).0
+          ((is_spared clobbered (issues_of (model_of e o) x) (spot_range e o x s)).1 h) in
           (all_pass (λ c. spares clobbered (temp_of r s) c x) calls).0 (each_of _ calls (λ c mc.
           let d = s.definer in
           let p = member_map_of call_at (filter (λ (p : Place). is_call_kind p.it.kind && not (p.op == d.number)) (region_places r)) c mc in
@@ -194,13 +237,16 @@ module _ (e : Ext) (o : Options) (x : List ℕ) (given : Given e o x) (clobbered
           let two = (and_iff (is_call_kind q.0.op.kind) (not (q.0.number == d.number))).1 pass in
           let v = vars_of q.0 in
           let block : q.0.block ≡ d.block = of_region r q.0 q.1 ∙ sym (spot_block e o x r s ms) in
-          let other : q.0.number ≡ d.number → ⊥ = λ same. (let z : not (q.0.number == d.number) ≡ false = ap not (eq-eqb q.0.number d.number same) in let y : true ≡ false = sym two.1 ∙ z in cc y) in
+          let other : q.0.number ≡ d.number → ⊥ = λ same. (let z : not (q.0.number == d.number) ≡ false =
+          ap not (eq-eqb q.0.number d.number same) in let y : true ≡ false = sym two.1 ∙ z in cc y) in
           let k = each_member _ (all e o x) q.0 each (in_all e o x r q.0 mr q.1) in
-          let holds = (one q.0 two.0).0 (range_spared clobbered (issue_at x q.0) (spot_range e o x s) k (call_instr q.0.op.kind (value_by x v.instr) two.0) block other) in
+          let holds = (one q.0 two.0).0 (range_spared clobbered (issue_at x q.0) (spot_range e o x s) k
+          (call_instr q.0.op.kind (value_by x v.instr) two.0) block other) in
           subst (λ c. spares clobbered (temp_of r s) c x ≡ true) (ap call_at q.2 ∙ p.2) holds)),
       λ h.
           let each = (all_pass (λ c. spares clobbered (temp_of r s) c x) calls).1 h in
-          (is_spared clobbered (issues_of (model_of e o) x) (spot_range e o x s)).0 ((issues_each e o x given (λ (i : Issue). SparesRange clobbered i (spot_range e o x s))).1
+          (is_spared clobbered (issues_of (model_of e o) x) (spot_range e o x s)).0
+          ((issues_each e o x given (λ (i : Issue). SparesRange clobbered i (spot_range e o x s))).1
           (each_of _ (all e o x) (λ q mq. spares_range clobbered (issue_at x q) (spot_range e o x s) (λ call block other.
           let d = s.definer in
           let v = vars_of q in
@@ -209,7 +255,8 @@ module _ (e : Ext) (o : Options) (x : List ℕ) (given : Given e o x) (clobbered
           let off : (q.number == d.number) ≡ false = unequal q.number d.number other in
           let pass = (and_iff (is_call_kind q.op.kind) (not (q.number == d.number))).0 (kind, ap not off) in
           let mc : Member (call_at (place_of q)) calls = member_map call_at _ (place_of q)
-          (member_filter (λ (p : Place). is_call_kind p.it.kind && not (p.op == d.number)) (region_places r) (place_of q) (member_map place_of (region_placed r) q here) pass) in
+          (member_filter (λ (p : Place). is_call_kind p.it.kind && not (p.op == d.number)) (region_places r) (place_of q)
+          (member_map place_of (region_placed r) q here) pass) in
           (one q kind).1 (each_member _ calls (call_at (place_of q)) each mc))))),
     )
       where
@@ -235,13 +282,15 @@ module _ (e : Ext) (o : Options) (x : List ℕ) (given : Given e o x) (clobbered
       let at = λ (s : Spot). spared_at clobbered ds ps s.temp in
       let posted : spared_in clobbered ds r.block r.number r.owner (region_vars r) ≡ map at (region_spots r) =
       ap (λ (qs : List Place). map (spared_at clobbered ds qs) (results_in qs)) (places_in r)
-      ∙ ap (map (spared_at clobbered ds ps)) (results_are (region_placed r)) ∙ map_twice (spared_at clobbered ds ps) (λ (s : Spot). s.temp) (region_spots r) in
+      ∙ ap (map (spared_at clobbered ds ps)) (results_are (region_placed r))
+      ∙ map_twice (spared_at clobbered ds ps) (λ (s : Spot). s.temp) (region_spots r) in
       let P = λ (c : Constraint). meets c x ≡ true in (
         λ h. subst (Met x) (sym posted) (each_map P at (region_spots r) (each_of _ (region_spots r) (λ s m.
             subst P (sym (posted_is r s mr m)) ((spared_here r s mr m).0 (each_member Spares (region_spots r) s h m))))),
         λ h.
             let each = each_of_map P at (region_spots r) (subst (Met x) posted h) in
-            each_of Spares (region_spots r) (λ s m. (spared_here r s mr m).1 (subst P (posted_is r s mr m) (each_member _ (region_spots r) s each m))),
+            each_of Spares (region_spots r) (λ s m. (spared_here r s mr m).1
+            (subst P (posted_is r s mr m) (each_member _ (region_spots r) s each m))),
       )
 
 module _ (e : Ext) (o : Options) (x : List ℕ) (given : Given e o x) where
@@ -253,6 +302,8 @@ module _ (e : Ext) (o : Options) (x : List ℕ) (given : Given e o x) where
       let ranges = ranges_each e o x given (IsSpared mask (issues_of (model_of e o) x)) in
       let split = spots_in_blocks e o x (λ s. IsSpared mask (issues_of (model_of e o) x) (spot_range e o x s)) in
       let met = regions_met e o x (spared_in mask (definers_of (model_of e o))) in (
-        λ h. let b = split.0 (ranges.0 h) in met.1 (each_of _ (blocks e o x) (λ r m. (of_block e o x given mask r m).0 (each_member _ (blocks e o x) r b m))),
-        λ h. let b = met.0 h in ranges.1 (split.1 (each_of _ (blocks e o x) (λ r m. (of_block e o x given mask r m).1 (each_member _ (blocks e o x) r b m)))),
+        λ h. let b = split.0 (ranges.0 h) in met.1 (each_of _ (blocks e o x)
+            (λ r m. (of_block e o x given mask r m).0 (each_member _ (blocks e o x) r b m))),
+        λ h. let b = met.0 h in ranges.1 (split.1 (each_of _ (blocks e o x)
+            (λ r m. (of_block e o x given mask r m).1 (each_member _ (blocks e o x) r b m)))),
       )
