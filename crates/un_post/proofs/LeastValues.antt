@@ -3,8 +3,7 @@ use Rattle.std.proofs.Common.{ℕ, zero, suc, ◌≡◌, ◌+◌, ◌-◌, ◌*�
 use Rattle.std.proofs.Common.{inl, inr, ◌⊎◌, refl, sym, ap, ◌∙◌, subst, arith}
 use Rattle.std.proofs.lemmas.Bool.Decides.{nat_tests}
 use Rattle.std.proofs.lemmas.List.{length-map}
-use Rattle.std.specs.Prelude.{not, ◌&&◌, ◌||◌, nat_eq, nat_le, nat_lt, slice_index, slice_index_or}
-use Rattle.un_base.specs.declared.ids.VarId.{VarId}
+use Rattle.std.specs.Prelude.{not, ◌&&◌, ◌||◌, nat_eq, nat_le, slice_index}
 use Rattle.un_domains.specs.Sets.{Sets, IsIn, NoneEmpty, has, set_at, least}
 use Rattle.un_domains.specs.SetLaws.{least-le}
 use Rattle.un_domains.specs.OrderLaws.{has_here, has_later}

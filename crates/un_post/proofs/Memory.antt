@@ -148,13 +148,13 @@ arcs_by_regions t temps b n first (block ∷ bs) = ap (λ xs. block_arcs t temps
     (arcs_by_regions t temps (b + 1) (n + length block.ops) (first + block_count block) bs)
 
 module _ (e : Ext) (o : Options) (x : List ℕ) (given : Given e o x) where
-  abbrev pub places : List Place
+  abbrev places : List Place
   places = places_of (model_of e o)
 
-  abbrev pub temps : List TempVars
+  abbrev temps : List TempVars
   temps = blocks_temps 0 0 e.blocks
 
-  abbrev pub region_arcs : Region → List Arc
+  abbrev region_arcs : Region → List Arc
   region_arcs r = let owner = r.owner in block_arcs e.table temps r.number owner.ops
 
   -- the constraint of an arc between two operations

@@ -1,7 +1,7 @@
--- Where the propagators of cycles and ends let a store stay as it is, its least cycles and least ends are a member of its relaxation
--- under the limit: where the relaxation has no member, rounds of these propagators fail.
-use Rattle.std.proofs.Common.{ℕ, zero, suc, ◌≡◌, ◌+◌, ◌-◌, ◌*◌, ◌<◌, ◌≤◌, ◌++◌, Bool, true, false, List, [], ◌∷◌, length, map}
-use Rattle.std.proofs.Common.{refl, sym, ap, ◌∙◌, subst, arith, All, Contains}
+-- Where the propagators of cycles and ends let a store stay as it is, its least cycles and its least ends are a member of its
+-- relaxation under the limit.
+use Rattle.std.proofs.Common.{ℕ, suc, ◌≡◌, ◌+◌, ◌-◌, ◌*◌, ◌<◌, ◌++◌, Bool, true, false, List, [], ◌∷◌, length, map}
+use Rattle.std.proofs.Common.{refl, sym, ap, ◌∙◌, subst, arith, All}
 use Rattle.std.proofs.lemmas.List.{length-map}
 use Rattle.std.specs.Prelude.{Option, Some, None, IfSome, slice_get, slice_index}
 use Rattle.std.specs.Option.{option_map}
@@ -23,7 +23,6 @@ use Rattle.un_model.specs.declared.model.Arc.{Arc}
 use Rattle.un_model.specs.declared.model.Options.{Options}
 use Rattle.un_model.specs.declared.model.OpVars.{OpVars}
 use Rattle.un_model.specs.declared.model.Model.{Model}
-use Rattle.un_model.specs.declared.model.TempVars.{TempVars}
 use Rattle.un_model.specs.ArcLaws.{arc_told}
 use Rattle.un_model.specs.Arcs.{is_mandatory, block_arcs, blocks_arcs}
 use Rattle.un_model.specs.Cost.{blocks_cost, cost_of}
@@ -32,7 +31,7 @@ use Rattle.un_model.specs.Options.{AreOptions}
 use Rattle.un_model.specs.Pairs.{joined, over_blocks}
 use Rattle.un_model.specs.Schedules.{cycle_by, value_by}
 use Rattle.un_model.specs.Solutions.{IsPlaced, IsPlacedAs}
-use Rattle.un_model.specs.Variables.{model_of, op_vars, ops_vars, blocks_vars, block_vars, ops_count, block_count, var_count, var_at, var_if}
+use Rattle.un_model.specs.Variables.{model_of, op_vars, ops_vars, blocks_vars, ops_count, block_count, var_count, var_at, var_if}
 use Rattle.un_model.specs.Variables.{has_cycle, cycle_place, blocks_temps}
 use Rattle.un_model.proofs.Lists.{Each, Member, each_of, each_all, each_member, each_append, each_map, each_of_map, index_get, member_at}
 use Rattle.un_model.proofs.Lists.{slice_get-map}
@@ -41,13 +40,13 @@ use Rattle.un_model.proofs.Placed.{Placed, placed, Region, region_placed, vars_o
 use Rattle.un_model.proofs.PlacedSchedules.{all}
 use Rattle.un_bound.specs.Choices.{IsKnown, AreKnown, AllKnown}
 use Rattle.un_bound.specs.Relaxations.{Times, IsValue, InOwnSet, IsRelaxed, AreRelaxed, times_cost, IsMember, IsMemberUnder}
-use Rattle.un_bound.specs.Timings.{IsTimed, IsTiming, IsKept}
+use Rattle.un_bound.specs.Timings.{IsTimed, IsKept}
 use Rattle.un_bound.proofs.Knowns.{known_model}
 use Rattle.un_post.specs.Befores.{arc_before, befores_in, befores_of, all_postings_of}
-use Rattle.un_post.specs.Constraints.{Constraint, meets, AllMet}
-use Rattle.un_post.specs.Places.{Place, Asked, act_of, places_of, definers_of, asked_by}
-use Rattle.un_post.specs.Postings.{over_places, of_place, of_operand, zeros_of, issue_by, issues_in, results_in, edges_of, frame_of, limit_of}
-use Rattle.un_post.specs.Postings.{postings_of}
+use Rattle.un_post.specs.Constraints.{Constraint, AllMet}
+use Rattle.un_post.specs.Places.{Place, act_of, places_of, definers_of, asked_by}
+use Rattle.un_post.specs.Postings.{over_places, of_place, of_operand, zeros_of, issue_by, issues_in, results_in, edges_of, frame_of}
+use Rattle.un_post.specs.Postings.{limit_of, postings_of}
 use Rattle.un_post.specs.Rooms.{aparts_of, clobbers_of, packets_of, twos_of}
 use Rattle.un_post.specs.Strength.{is_timing, Strong}
 use Rattle.un_post.proofs.Blocks.{blocks, in_all}
@@ -57,7 +56,7 @@ use Rattle.un_post.proofs.Latencies.{placed_at}
 use Rattle.un_post.proofs.LeastValues.{leasts, leasts_in, strong_met}
 use Rattle.un_post.proofs.Limits.{limits}
 use Rattle.un_post.proofs.Meeting.{Met, met_all, all_met, all_each, each_joined, joined_each}
-use Rattle.un_post.proofs.Memory.{one, arcs_by_regions, contains_member, member_contains}
+use Rattle.un_post.proofs.Memory.{one, arcs_by_regions, member_contains}
 use Rattle.un_post.proofs.Placing.{place_of, place_here, places_are}
 use Rattle.un_post.proofs.Regions.{regions}
 
@@ -129,15 +128,17 @@ module _ (e : Ext) (o : Options) (x : List ℕ) (given : Given e o x) where
       by Leave k = back Leave k tt
 
   module _ (s : Sets) (within : IsIn x s) where
-    -- its cycle is in its set
+    -- its cycle is in the set of its variable, where it has one
+    abbrev InSet : Placed → Bool → Type 0
+    InSet q timed = IfSome (var_if timed (q.first + cycle_place q.op)) (λ (v : VarId). IsValue s v (cycle_at q))
+
     own_set : (q : Placed) → IsKnown (length s) q.op.kind (vars_of q).cycle → InOwnSet s (cycle_at q) q.op (vars_of q)
     own_set q known mandatory = by q.op.kind refl
       where
-        value : (kind : ExtKind) → q.op.kind ≡ kind → has_cycle kind ≡ true → cycle_by x (issue_at x q).end kind
-            (record { instr = (vars_of q).instr; cycle = Some (var_at (q.first + cycle_place q.op)); choices = (vars_of q).choices })
-            ≡ slice_index x (q.first + cycle_place q.op)
-            → q.first + cycle_place q.op < length s
-            → IfSome (var_if (has_cycle q.op.kind) (q.first + cycle_place q.op)) (λ (v : VarId). IsValue s v (cycle_at q))
+        value : (kind : ExtKind) → q.op.kind ≡ kind → has_cycle kind ≡ true
+            → (let v = vars_of q in let n = q.first + cycle_place q.op in
+            cycle_by x (issue_at x q).end kind (record { instr = v.instr; cycle = Some (var_at n); choices = v.choices }) ≡ slice_index x n)
+            → q.first + cycle_place q.op < length s → InSet q (has_cycle q.op.kind)
         value kind k timed read lt =
             let n = q.first + cycle_place q.op in
             let v = vars_of q in
@@ -146,13 +147,10 @@ module _ (e : Ext) (o : Options) (x : List ℕ) (given : Given e o x) where
             (record { instr = v.instr; cycle = var_if (has_cycle c) n; choices = v.choices })) k
             ∙ ap (λ (b : Bool). cycle_by x (issue_at x q).end kind
             (record { instr = v.instr; cycle = var_if b n; choices = v.choices })) timed ∙ read in
-            subst (λ (b : Bool). IfSome (var_if b n) (λ (v : VarId). IsValue s v (cycle_at q))) (sym (ap has_cycle k ∙ timed))
-            (subst (λ c. has (set_at s n) c ≡ true) (sym same) (within.each n lt))
+            subst (InSet q) (sym (ap has_cycle k ∙ timed)) (subst (λ c. has (set_at s n) c ≡ true) (sym same) (within.each n lt))
 
-        none : (kind : ExtKind) → q.op.kind ≡ kind → has_cycle kind ≡ false
-            → IfSome (var_if (has_cycle q.op.kind) (q.first + cycle_place q.op)) (λ (v : VarId). IsValue s v (cycle_at q))
-        none kind k f = subst
-            (λ (b : Bool). IfSome (var_if b (q.first + cycle_place q.op)) (λ (v : VarId). IsValue s v (cycle_at q))) (sym (ap has_cycle k ∙ f)) tt
+        none : (kind : ExtKind) → q.op.kind ≡ kind → has_cycle kind ≡ false → InSet q (has_cycle q.op.kind)
+        none kind k f = subst (InSet q) (sym (ap has_cycle k ∙ f)) tt
 
         told : (kind : ExtKind) → q.op.kind ≡ kind → IsKnown (length s) kind (var_if (has_cycle kind) (q.first + cycle_place q.op))
         told kind k = subst (λ (c : ExtKind). IsKnown (length s) c (var_if (has_cycle c) (q.first + cycle_place q.op))) k known
@@ -160,8 +158,7 @@ module _ (e : Ext) (o : Options) (x : List ℕ) (given : Given e o x) where
         optional : (kind : ExtKind) → q.op.kind ≡ kind → is_mandatory kind ≡ false → ⊥
         optional kind k f = let z : true ≡ false = sym mandatory ∙ ap is_mandatory k ∙ f in cc z
 
-        by : (kind : ExtKind) → q.op.kind ≡ kind
-            → IfSome (var_if (has_cycle q.op.kind) (q.first + cycle_place q.op)) (λ (v : VarId). IsValue s v (cycle_at q))
+        by : (kind : ExtKind) → q.op.kind ≡ kind → InSet q (has_cycle q.op.kind)
         by In k = none In k refl
         by Out k = none Out k refl
         by (Body so) k = value (Body so) k refl refl (told (Body so) k)
@@ -181,7 +178,8 @@ module _ (e : Ext) (o : Options) (x : List ℕ) (given : Given e o x) where
       pub number : it.number ≡ r.number + k
       pub close : (let owner = r.owner in it.close ≡ var_at (r.first + ops_count owner.ops))
 
-    here : (r : Region) → Member r (blocks e o x) → (k : ℕ) (op : ExtOp) → (let owner = r.owner in slice_get owner.ops k ≡ Some op) → Here r k op
+    here : (r : Region) → Member r (blocks e o x) → (k : ℕ) (op : ExtOp) → (let owner = r.owner in slice_get owner.ops k ≡ Some op)
+        → Here r k op
     here r mr k op at =
         let owner = r.owner in
         let close = var_at (r.first + ops_count owner.ops) in
@@ -204,11 +202,12 @@ module _ (e : Ext) (o : Options) (x : List ℕ) (given : Given e o x) where
     Issues = Each (λ q. Met x (issues_in (place_of q))) (all e o x)
 
     abbrev RegionRelaxed : Region → Type 0
-    RegionRelaxed r = let owner = r.owner in IsRelaxed s r.number (var_at (r.first + ops_count owner.ops)) owner.ops (ops_vars r.first owner.ops)
-        (arcs_in r) (region_times r)
+    RegionRelaxed r = let owner = r.owner in
+        IsRelaxed s r.number (var_at (r.first + ops_count owner.ops)) owner.ops (ops_vars r.first owner.ops) (arcs_in r) (region_times r)
 
     abbrev RegionKnown : Region → Type 0
-    RegionKnown r = let owner = r.owner in AreKnown (length s) (var_at (r.first + ops_count owner.ops)) owner.ops (ops_vars r.first owner.ops)
+    RegionKnown r = let owner = r.owner in
+        AreKnown (length s) (var_at (r.first + ops_count owner.ops)) owner.ops (ops_vars r.first owner.ops)
 
     relaxed : (r : Region) → Member r (blocks e o x) → Issues → Met x (befores_in (places_of (model_of e o)) (arcs_in r)) → RegionKnown r
         → RegionRelaxed r
@@ -265,7 +264,8 @@ module _ (e : Ext) (o : Options) (x : List ℕ) (given : Given e o x) where
 
     are_relaxed : (b n first : ℕ) (bs : List ExtBlock) → AllKnown (length s) bs (blocks_vars first bs)
         → Each (λ r. RegionKnown r → RegionRelaxed r) (regions b n first bs)
-        → AreRelaxed s n bs (blocks_vars first bs) (blocks_arcs e.table (blocks_temps 0 0 e.blocks) n bs) (map region_times (regions b n first bs))
+        → AreRelaxed s n bs (blocks_vars first bs) (blocks_arcs e.table (blocks_temps 0 0 e.blocks) n bs)
+        (map region_times (regions b n first bs))
     are_relaxed b n first [] known each = refl
     are_relaxed b n first (block ∷ bs) known each = (
       each.0 known.0,
@@ -280,7 +280,8 @@ module _ (e : Ext) (o : Options) (x : List ℕ) (given : Given e o x) where
         let bs = blocks e o x in
         let of_arcs = each_joined _ (befores_in places) m.arcs (met_all x _ met) in
         let each = each_of_map (λ arcs. Met x (befores_in places arcs)) arcs_in bs
-        (subst (Each (λ arcs. Met x (befores_in places arcs))) (arcs_by_regions e.table (blocks_temps 0 0 e.blocks) 0 0 0 e.blocks) of_arcs) in
+        (subst (Each (λ arcs. Met x (befores_in places arcs)))
+        (arcs_by_regions e.table (blocks_temps 0 0 e.blocks) 0 0 0 e.blocks) of_arcs) in
         are_relaxed 0 0 0 e.blocks (known_model m (length s) refl (omega (arith, long)))
         (each_of (λ r. RegionKnown r → RegionRelaxed r) bs (λ r mr known. relaxed r mr issues (each_member _ bs r each mr) known))
 
@@ -314,7 +315,8 @@ module _ (e : Ext) (o : Options) (limit : Option ℕ) (s : Sets) where
   timing_limit None = tt
   timing_limit (Some n) = (refl, tt)
 
-  kept_issues : Kept (over_places (of_place e.table o.slots (definers_of m)) m) → Each (λ q. Kept (issues_in (place_of q))) (all e o (leasts s))
+  kept_issues : Kept (over_places (of_place e.table o.slots (definers_of m)) m)
+      → Each (λ q. Kept (issues_in (place_of q))) (all e o (leasts s))
   kept_issues h =
       let f = of_place e.table o.slots (definers_of m) in
       let each = each_of_map (λ p. Kept (f p)) place_of (all e o (leasts s))
@@ -348,7 +350,8 @@ module _ (e : Ext) (o : Options) (limit : Option ℕ) (s : Sets) where
       let frame = frame_of m (definers_of m) (places_of m) in
       let rooms = aparts_of m ++ (clobbers_of m ++ (packets_of m ++ twos_of m)) in
       let ops = over_places (of_place e.table o.slots (definers_of m)) m in
-      let whole = each_append (Strong s) (postings_of m limit) (befores_of m ++ rooms) (each_all (Strong s) (all_postings_of m limit) strong) in
+      let whole = each_append (Strong s) (postings_of m limit) (befores_of m ++ rooms)
+      (each_all (Strong s) (all_postings_of m limit) strong) in
       let first = each_append (Strong s) ops (edges ++ (frame ++ limit_of m limit)) whole.0 in
       let second = each_append (Strong s) edges (frame ++ limit_of m limit) first.1 in
       let third = each_append (Strong s) frame (limit_of m limit) second.1 in
