@@ -4,6 +4,8 @@
 #[cfg(test)]
 mod cases;
 #[cfg(test)]
+mod orders;
+#[cfg(test)]
 mod tests;
 #[cfg(test)]
 mod ways;

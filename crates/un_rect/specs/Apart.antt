@@ -1,5 +1,6 @@
 -- Apart: two active temporaries with one register do not occupy it in one cycle.
-use Rattle.std.specs.Prelude.{ℕ, ◌≡◌, ◌≢◌, ◌<◌, Bool, true, false, not, ◌&&◌, ◌||◌, List, [], ◌∷◌, ◌++◌, length, filter, map, nat_eq, nat_le, nat_lt, slice_index, slice_index_or, All, option_and_then}
+use Rattle.std.specs.Prelude.{ℕ, ◌≡◌, ◌≢◌, ◌<◌, Bool, true, false, not, ◌&&◌, ◌||◌, List, [], ◌∷◌, ◌++◌, length, filter, map, nat_eq}
+use Rattle.std.specs.Prelude.{nat_le, nat_lt, slice_index, slice_index_or, All, option_and_then}
 use Rattle.std.specs.declared.option.Option.{Option}
 use Rattle.std.specs.List.{list_all}
 use Rattle.un_base.specs.declared.ids.VarId.{VarId}

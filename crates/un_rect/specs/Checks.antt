@@ -13,7 +13,8 @@ is_off (ActVar v) s = nat_eq (greatest (set_at s v.0)) 0
 
 -- two variables have one value each, and not the same
 abbrev pub differ : VarId → VarId → Sets → Bool
-differ u v s = nat_eq (length (set_at s u.0)) 1 && (nat_eq (length (set_at s v.0)) 1 && not (nat_eq (least (set_at s u.0)) (least (set_at s v.0))))
+differ u v s = nat_eq (length (set_at s u.0)) 1 && (nat_eq (length (set_at s v.0)) 1 &&
+    not (nat_eq (least (set_at s u.0)) (least (set_at s v.0))))
 
 -- one of two temporaries is off, or their registers differ
 abbrev pub surely_apart : Temp → Temp → Sets → Bool

@@ -1,5 +1,6 @@
 -- Calls leave a temporary its register.
-use Rattle.std.specs.Prelude.{ℕ, ◌≡◌, ◌<◌, Bool, true, false, not, ◌&&◌, ◌||◌, List, [], ◌∷◌, ◌++◌, length, filter, map, nat_eq, nat_le, nat_lt, slice_index, slice_index_or, All, option_and_then, None, Some}
+use Rattle.std.specs.Prelude.{ℕ, ◌≡◌, ◌<◌, Bool, true, false, not, ◌&&◌, ◌||◌, List, [], ◌∷◌, ◌++◌, length, filter, map, nat_eq, nat_le}
+use Rattle.std.specs.Prelude.{nat_lt, slice_index, slice_index_or, All, option_and_then, None, Some}
 use Rattle.std.specs.declared.option.Option.{Option}
 use Rattle.std.specs.List.{list_any, list_all}
 use Rattle.un_base.specs.declared.ids.VarId.{VarId}
@@ -116,5 +117,6 @@ clobber_cut vs mask a calls s = option_and_then (each_entry (check_call vs mask 
 
 -- where the temporary is sure and a call's cycle has one value that it surely occupies, no register of the mask is left for it
 abbrev pub ClobberStrong : ℕ → Temp → List ClobberCall → Sets → Type 0
-ClobberStrong mask a calls s = (i t r : ℕ) (d : ClobberCall) → i < length calls → set_at s (slice_index_or calls i d).at.0 ≡ t ∷ [] → SurelyOccupies a t s
+ClobberStrong mask a calls s = (i t r : ℕ) (d : ClobberCall) → i < length calls → set_at s (slice_index_or calls i d).at.0 ≡ t ∷ []
+    → SurelyOccupies a t s
     → has (set_at s a.reg.0) r ≡ true → in_mask mask r ≡ false

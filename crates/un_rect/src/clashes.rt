@@ -53,7 +53,8 @@ fn overlaps(w: &Window<'_>, a: &Temp, b: &Temp) -> bool
     requires of_b { TempVars w.now.vars.now b.now }
     requires known { HasVars w.now.vars.now w.now.store.now.sets }
     requires live { NoneEmpty w.now.store.now.sets }
-    ensures { result ≡ (sure a.now.on w.now.store.now.sets && (sure b.now.on w.now.store.now.sets && overlap a.now b.now w.now.store.now.sets)) }
+    ensures { result ≡ (sure a.now.on w.now.store.now.sets && (sure b.now.on w.now.store.now.sets &&
+        overlap a.now b.now w.now.store.now.sets)) }
 {
     if !is_sure(w, a.on) {
         return false;
@@ -73,7 +74,9 @@ fn clash(w: &Window<'_>, a: &Temp, b: &Temp) -> Option<u32>
     requires of_b { TempVars w.now.vars.now b.now }
     requires known { HasVars w.now.vars.now w.now.store.now.sets }
     requires live { NoneEmpty w.now.store.now.sets }
-    ensures { MatchOption result ((y : ℕ) → has (set_at w.now.store.now.sets b.now.reg.0) y ≡ true → clash_test a.now b.now w.now.store.now.sets y ≡ true) (λ r. (y : ℕ) → clash_test a.now b.now w.now.store.now.sets y ≡ not (nat_eq y r)) }
+    ensures { MatchOption result ((y : ℕ) → has (set_at w.now.store.now.sets b.now.reg.0) y ≡ true
+        → clash_test a.now b.now w.now.store.now.sets y ≡ true) (λ r. (y : ℕ)
+        → clash_test a.now b.now w.now.store.now.sets y ≡ not (nat_eq y r)) }
 {
     if !w.is_single(a.reg) {
         return None;
@@ -144,7 +147,8 @@ pub(crate) fn keep_all(w: &mut Window<'_>, before: Pruned, temps: &[Temp]) -> Pr
     requires of_temps { All (TempVars w.old.vars.now) temps.now }
     requires known { HasVars w.old.vars.now w.old.store.now.sets }
     requires live { before ≢ Failed → NoneEmpty w.old.store.now.sets }
-    ensures step { Stepped w.old.vars.now (each_pair clash_pair temps.now (length temps.now)) w.old.store.now w.new.store.now before result }
+    ensures step { Stepped w.old.vars.now (each_pair clash_pair temps.now (length temps.now)) w.old.store.now w.new.store.now before
+        result }
     ensures same_reference { w.new.store.ghost_name ≡ w.old.store.ghost_name }
     ensures vars { w.new.vars ≡ w.old.vars }
 {

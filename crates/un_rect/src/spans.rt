@@ -5,7 +5,8 @@ ghost use Rattle.un_domains.specs.Sets.{set_at, NoneEmpty};
 ghost use Rattle.un_prop.specs.Among.{AllAmong};
 ghost use Rattle.un_prop.specs.Acts.{chooses, is_user};
 ghost use Rattle.un_prop.specs.Rounds.{HasVars};
-ghost use Rattle.un_rect.specs.Spans.{starts, last_use, ends, is_only, sure_choice, sure_user, last_sure_use, least_end, choice_vars, UserVars, TempVars};
+ghost use Rattle.un_rect.specs.Spans.{starts, last_use, ends, is_only, sure_choice, sure_user, last_sure_use, least_end, choice_vars};
+ghost use Rattle.un_rect.specs.Spans.{UserVars, TempVars};
 
 use un_base::ids::VarId;
 use un_domains::window::Window;

@@ -19,5 +19,6 @@ returns-in-Some-clause-step c =
     let new = did.new.w.store.now in
     let f = check_call p.vars.now p.mask p.temp.now p.call.now in
     let done = subst (λ (o : Option Sets). IsPrune vs o s new did.result) (sym c.in-Some.ensures.1) did.ensures.prune in
-    stepped_then vs f s new c.args.before did.result c.joined.result (λ e. let h = rw e at c.if-eq.ensures in cc h) c.joined.ensures done.untouched.long
+    stepped_then vs f s new c.args.before did.result c.joined.result (λ e. let h = rw e at c.if-eq.ensures in cc h) c.joined.ensures
+    done.untouched.long
     (λ live. (done.ends, done.untouched))

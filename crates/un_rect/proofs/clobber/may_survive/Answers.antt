@@ -8,7 +8,8 @@ use Rattle.un_rect.proofs.clobber.may_survive.Goals.{then-has+else-not-is_in_mas
 pub loop-r-init : goal.loop-r-init
 loop-r-init c =
     let s = c.args.w.now.store.now.sets in
-    any_none (λ r. not (in_mask c.args.mask r)) (set_at s c.args.a.now.reg.0) c.from-low.result (omega (arith, c.from-low.ensures, c.min.ensures))
+    any_none (λ r. not (in_mask c.args.mask r)) (set_at s c.args.a.now.reg.0) c.from-low.result
+    (omega (arith, c.from-low.ensures, c.min.ensures))
 
 pub returns-then-not-is_in_mask : goal.returns-then-not-is_in_mask
 returns-then-not-is_in_mask c =

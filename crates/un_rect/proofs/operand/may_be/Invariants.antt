@@ -7,5 +7,6 @@ use Rattle.un_rect.specs.Sides.{side_of}
 use Rattle.un_rect.proofs.operand.may_be.Given as goal
 
 abbrev pub invariant-loop-r : goal.invariant-loop-r
-invariant-loop-r l = list_any (λ r. has (set_at l.w.store.now.sets l.v.0) r && may_avoid (side_of l.other) l.w.store.now.sets r) (drop l.r-index l.r-items)
+invariant-loop-r l = list_any (λ r. has (set_at l.w.store.now.sets l.v.0) r && may_avoid (side_of l.other) l.w.store.now.sets r)
+    (drop l.r-index l.r-items)
     ≡ list_any (λ r. has (set_at l.w.store.now.sets l.v.0) r && may_avoid (side_of l.other) l.w.store.now.sets r) l.r-items
