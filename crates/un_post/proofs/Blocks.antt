@@ -62,7 +62,7 @@ places_in r = let owner = r.owner in op_places r.block owner (var_at (r.first + 
 
 -- ---- numbers of blocks
 
-past : (b n first : ℕ) (blocks : List ExtBlock) → Each (λ (r : Region). b ≤ r.block) (regions b n first blocks)
+pub past : (b n first : ℕ) (blocks : List ExtBlock) → Each (λ (r : Region). b ≤ r.block) (regions b n first blocks)
 past b n first [] = tt
 past b n first (block ∷ blocks) =
     let rest = regions (b + 1) (n + length block.ops) (first + block_count block) blocks in (
@@ -88,6 +88,14 @@ region_owner r q m =
     let k = position_of (region_placed r) q m in
     let is = placed_is r.block owner (var_at (r.first + ops_count owner.ops)) r.number r.first k.0 owner.ops q k.2 in
     is.3
+
+-- and its end
+pub region_close : (r : Region) (q : Placed) → Member q (region_placed r) → (let owner = r.owner in var_at (r.first + ops_count owner.ops) ≡ q.close)
+region_close r q m =
+    let owner = r.owner in
+    let k = position_of (region_placed r) q m in
+    let is = placed_is r.block owner (var_at (r.first + ops_count owner.ops)) r.number r.first k.0 owner.ops q k.2 in
+    sym is.4
 
 module _ (e : Ext) (o : Options) (x : List ℕ) where
   abbrev pub blocks : List Region

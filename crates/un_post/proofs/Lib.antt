@@ -22,3 +22,4 @@ pub mod NoSharing
 pub mod Spared
 pub mod Packets
 pub mod TwoOperands
+pub mod CallOrder

@@ -218,7 +218,7 @@ module _ (e : Ext) (o : Options) (x : List ℕ) (given : Given e o x) where
                 let cycle : (issue_at x q).cycle ≡ d.cycle = ap (λ (d : Read). d.cycle) is in
                 omega arith
 
-    user_reads : (u : UserOf) → Member u users → use_time x u ≤ last_read (the_reads e o x) s.temp.0
+    pub user_reads : (u : UserOf) → Member u users → use_time x u ≤ last_read (the_reads e o x) s.temp.0
     user_reads u mu = timed (is_user u x) (at_value u.at x) (last_read (the_reads e o x) s.temp.0) (λ h. go (users_in (region_placed r) s.temp u mu) h)
       where
         go : UserPlace (region_placed r) s.temp u → is_user u x ≡ true → at_value u.at x ≤ last_read (the_reads e o x) s.temp.0

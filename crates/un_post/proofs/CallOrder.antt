@@ -1,0 +1,257 @@
+-- A solution keeps the arcs: what is before a call and behind it, whatever the cycles, is so in its cycles. So each solution meets
+-- what is posted of calls.
+use Rattle.std.proofs.Common.{ℕ, zero, suc, ◌≡◌, ◌+◌, ◌<◌, ◌≤◌, ◌⊎◌, Bool, true, false, List, [], ◌∷◌, length, fold, inl, inr, refl, sym, ap, ◌∙◌, subst, arith, All, Contains, eq-eqb}
+use Rattle.std.specs.Prelude.{Option, Some, None, IfSome, not, ◌&&◌, ◌||◌, ◌==◌, nat_eq, slice_get, slice_index, slice_index_or, is_some, if◌then◌else◌}
+use Rattle.std.proofs.lemmas.Bool.Decides.{nat_tests}
+use Rattle.un_isa.specs.Fit.{IsFit}
+use Rattle.un_isa.specs.declared.op.Op.{Op}
+use Rattle.un_isa.specs.declared.op.Op.TheVariants.{Call, Load, Store}
+use Rattle.un_isa.specs.declared.table.Table.{Table}
+use Rattle.un_ir.specs.Linear.{is_in, is_out}
+use Rattle.un_ir.specs.declared.extended.ExtKind.{ExtKind}
+use Rattle.un_ir.specs.declared.extended.ExtKind.TheVariants.{In, Out, Body, End, Copy, Enter, Leave}
+use Rattle.un_ir.specs.declared.extended.ExtBlock.{ExtBlock}
+use Rattle.un_ir.specs.declared.extended.ExtOp.{ExtOp}
+use Rattle.un_ir.specs.declared.extended.Ext.{Ext}
+use Rattle.un_domains.specs.Sets.{has}
+use Rattle.un_model.specs.declared.model.Arc.{Arc}
+use Rattle.un_model.specs.declared.model.Options.{Options}
+use Rattle.un_model.specs.declared.model.TempVars.{TempVars}
+use Rattle.un_base.specs.declared.ids.VarId.{VarId}
+use Rattle.un_model.specs.declared.model.OpVars.{OpVars}
+use Rattle.un_model.specs.declared.schedule.Issue.{Issue}
+use Rattle.un_model.specs.ArcLaws.{arc_told}
+use Rattle.un_model.specs.Arcs.{reads_from, own_instr, data_gap, memory_gap, NeedsGap, block_arcs, blocks_arcs, IsArcOf}
+use Rattle.un_model.specs.Arcs.NeedsGap.{ByData, ByMemory}
+use Rattle.un_model.specs.Instructions.{instruction_of, latency_by}
+use Rattle.un_model.specs.Schedules.{schedule_of, issues_of, value_by, cycle_by}
+use Rattle.un_model.specs.Solutions.{IsSchedule, IsPlaced, IsPlacedAs, latency_gap, after_write, memory_distance}
+use Rattle.un_model.specs.Variables.{model_of, arcs_of, blocks_temps, block_count, ops_count, var_at}
+use Rattle.un_model.proofs.ArcsKept.{KeepsArc, arcs_kept}
+use Rattle.un_model.proofs.Lists.{Each, Member, each_all, each_member, index_get, place_of as position_of}
+use Rattle.un_model.proofs.Operations.{placed_is}
+use Rattle.un_model.proofs.Placed.{Placed, Region, region_placed, vars_of, issue_at}
+use Rattle.un_model.proofs.PlacedSchedules.{all, issue_here, each_issue}
+use Rattle.un_post.specs.Constraints.{AllMet}
+use Rattle.un_post.specs.Postings.{is_call_kind}
+use Rattle.un_post.specs.Rooms.{led_by, reached, is_before, is_behind, arcs_or, clobbers_of}
+use Rattle.un_post.proofs.Blocks.{blocks, in_all, past, region_close}
+use Rattle.un_post.proofs.Facts.{Given}
+use Rattle.un_post.proofs.Placing.{place_of}
+use Rattle.un_post.proofs.Regions.{regions, of_region}
+use Rattle.un_post.proofs.Spared.{Ordered, mask, AreSpared, spared_met, call_instr}
+use Rattle.un_post.proofs.Tests.{and_iff}
+
+member_contains : {X : Type 0} (xs : List X) (x : X) → Member x xs → Contains xs x
+member_contains xs x m = let r = position_of xs x m in (r.0, r.1, index_get xs r.0 x x r.2)
+
+-- ---- what is reached
+
+-- what holds of the numbers that are reached, and is handed on by arcs, holds of all that they lead to
+leads : (P : ℕ → Type 0) (arcs : List Arc) (from : List ℕ) → ((a : Arc) → Member a arcs → P a.from.0 → P a.to.0)
+    → ((n : ℕ) → has from n ≡ true → P n) → (n : ℕ) → has (fold led_by from arcs) n ≡ true → P n
+leads P [] from step start n h = start n h
+leads P (a ∷ arcs) from step start n h =
+    leads P arcs (led_by from a) (λ b m. step b (inr m)) (λ k there. by (has from a.from.0) refl k there) n h
+  where
+    by : (t : Bool) → has from a.from.0 ≡ t → (k : ℕ) → has (if has from a.from.0 then a.to.0 ∷ from else from) k ≡ true → P k
+    by false e k there = start k (subst (λ (t : Bool). has (if t then a.to.0 ∷ from else from) k ≡ true) e there)
+    by true e k there = last (nat_eq k a.to.0) refl (subst (λ (t : Bool). has (if t then a.to.0 ∷ from else from) k ≡ true) e there)
+      where
+        last : (t : Bool) → nat_eq k a.to.0 ≡ t → (nat_eq k a.to.0 || has from k) ≡ true → P k
+        last true same there = let is : a.to.0 ≡ k = grind (arith, nat_tests, same) in subst P is (step a (inl refl) (start a.from.0 e))
+        last false same there = start k (subst (λ (t : Bool). (t || has from k) ≡ true) same there)
+
+-- ---- the arcs of a block
+
+arcs_here : (t : Table) (temps : List TempVars) (b n first k : ℕ) (blocks : List ExtBlock) (r : Region) → Member r (regions b n first blocks) → r.block ≡ b + k
+    → (let owner = r.owner in slice_get (blocks_arcs t temps n blocks) k ≡ Some (block_arcs t temps r.number owner.ops))
+arcs_here t temps b n first k [] r m e = elim m [ ]
+arcs_here t temps b n first zero (c ∷ cs) r (inl h) e = ap (λ (r : Region). let owner = r.owner in Some (block_arcs t temps r.number owner.ops)) h
+arcs_here t temps b n first (suc k) (c ∷ cs) r (inl h) e = let s : b ≡ r.block = ap (λ (r : Region). r.block) h in absurd (omega arith)
+arcs_here t temps b n first zero (c ∷ cs) r (inr m) e =
+    let le = each_member (λ (r : Region). b + 1 ≤ r.block) _ r (past (b + 1) (n + length c.ops) (first + block_count c) cs) m in absurd (omega arith)
+arcs_here t temps b n first (suc k) (c ∷ cs) r (inr m) e = arcs_here t temps (b + 1) (n + length c.ops) (first + block_count c) k cs r m (omega arith)
+
+write_gap : (i : Option Op) (g : ℕ) → after_write i ≡ Some g → 1 ≤ g
+write_gap None g h = absurd (cc h)
+write_gap (Some Load) g h = let e : 1 ≡ g = cc h in omega arith
+write_gap (Some Store) g h = let e : 1 ≡ g = cc h in omega arith
+write_gap (Some Call) g h = let e : 1 ≡ g = cc h in omega arith
+write_gap (Some op) g h = absurd (cc h)
+
+some_gap : (a b : ℕ) → Some a ≡ Some b → a ≡ b
+some_gap a b h = cc h
+
+-- no user of what a call gives, nor a later access to memory, issues in its cycle
+call_gap : (t : Table) → IsFit t → (reads : Bool) (from to : ExtOp) (gap : ℕ) → own_instr from ≡ Some Call → NeedsGap t reads from to gap → 1 ≤ gap
+call_gap t fit true from to gap call (ByData h) =
+    let l = fit.latencies Call in
+    let lo = l.0 in
+    let e = some_gap (latency_by t (own_instr from)) gap h in
+    let f : latency_by t (own_instr from) ≡ latency_by t (Some Call) = ap (latency_by t) call in
+    omega arith
+call_gap t fit false from to gap call (ByData h) = absurd (cc h)
+call_gap t fit reads from to gap call (ByMemory h) =
+    write_gap (own_instr to) gap (ap (λ (i : Option Op). memory_distance i (own_instr to)) (sym call) ∙ h)
+
+start_cycle : (kind : ExtKind) (values : List ℕ) (end : ℕ) (vars : OpVars) → is_in kind ≡ true → cycle_by values end kind vars ≡ 0
+start_cycle In values end vars h = refl
+start_cycle Out values end vars h = absurd (cc h)
+start_cycle (Body so) values end vars h = absurd (cc h)
+start_cycle (End term) values end vars h = absurd (cc h)
+start_cycle (Copy node) values end vars h = absurd (cc h)
+start_cycle Enter values end vars h = absurd (cc h)
+start_cycle Leave values end vars h = absurd (cc h)
+
+end_cycle : (kind : ExtKind) (values : List ℕ) (end : ℕ) (vars : OpVars) → is_out kind ≡ true → cycle_by values end kind vars ≡ end
+end_cycle Out values end vars h = refl
+end_cycle In values end vars h = absurd (cc h)
+end_cycle (Body so) values end vars h = absurd (cc h)
+end_cycle (End term) values end vars h = absurd (cc h)
+end_cycle (Copy node) values end vars h = absurd (cc h)
+end_cycle Enter values end vars h = absurd (cc h)
+end_cycle Leave values end vars h = absurd (cc h)
+
+module _ (e : Ext) (o : Options) (x : List ℕ) (given : Given e o x)
+    (schedule : IsSchedule (latency_gap e.table) (model_of e o).domains (model_of e o) x (schedule_of (model_of e o) x)) where
+  abbrev temps : List TempVars
+  temps = blocks_temps 0 0 e.blocks
+
+  module _ (r : Region) (mr : Member r (blocks e o x)) where
+    abbrev arcs : List Arc
+    arcs = arcs_or (slice_get (arcs_of e) r.block)
+
+    at : (let owner = r.owner in slice_get (arcs_of e) r.block ≡ Some (block_arcs e.table temps r.number owner.ops))
+    at = arcs_here e.table temps 0 0 0 r.block e.blocks r mr (omega arith)
+
+    arcs_are : (let owner = r.owner in arcs ≡ block_arcs e.table temps r.number owner.ops)
+    arcs_are = ap arcs_or at
+
+    kept : (a : Arc) → Member a arcs → KeepsArc (issues_of (model_of e o) x) a
+    kept a m =
+        let owner = r.owner in
+        arcs_kept (model_of e o) (record { values = x }) refl given.extended given.fit given.options schedule r.block
+        (block_arcs e.table temps r.number owner.ops) a at
+        (member_contains _ a (subst (Member a) arcs_are m))
+
+    -- the cycle of an operation by its number
+    cycle_at : (q : Placed) → Member q (region_placed r) → (i : Issue) → slice_get (issues_of (model_of e o) x) q.number ≡ Some i → (issue_at x q).cycle ≡ i.cycle
+    cycle_at q m i h =
+        let same : Some (issue_at x q) ≡ Some i = sym (issue_here e o x q (in_all e o x r q mr m)) ∙ h in
+        ap (λ (j : Option Issue). cycle_or j) same
+      where
+        cycle_or : Option Issue → ℕ
+        cycle_or None = 0
+        cycle_or (Some i) = i.cycle
+
+    -- an arc from a call has a gap
+    leaves_gap : (c : Placed) (a : Arc) → Member c (region_placed r) → is_call_kind c.op.kind ≡ true → Member a arcs → a.from.0 ≡ c.number → 1 ≤ a.gap
+    leaves_gap c a mc call ma same =
+        let owner = r.owner in
+        let is = arc_told e.table temps r.number owner.ops a (member_contains _ a (subst (Member a) arcs_are ma)) in
+        let k = position_of (region_placed r) c mc in
+        let p = placed_is r.block owner (var_at (r.first + ops_count owner.ops)) r.number r.first k.0 owner.ops c k.2 in
+        let n1 = is.numbers.0 in
+        let n2 = p.1 in
+        let place : is.earlier ≡ k.0 = omega arith in
+        let one : Some is.from ≡ Some c.op = sym is.from_at ∙ ap (slice_get owner.ops) place ∙ p.0 in
+        let from : is.from ≡ c.op = cc one in
+        let instr : own_instr is.from ≡ Some Call = ap own_instr from ∙ call_instr c.op.kind 0 call in
+        let gap = is.gap in
+        call_gap e.table given.fit (reads_from temps a.from.0 is.to) is.from is.to a.gap instr gap.asked
+
+    -- an operation that another one reaches does not issue before it
+    not_before : (d c : Placed) → Member d (region_placed r) → Member c (region_placed r) → has (reached arcs d.number) c.number ≡ true
+        → (issue_at x d).cycle ≤ (issue_at x c).cycle
+    not_before d c md mc h =
+        let P = λ (n : ℕ). (i : Issue) → slice_get (issues_of (model_of e o) x) n ≡ Some i → (issue_at x d).cycle ≤ i.cycle in
+        leads P arcs (d.number ∷ []) (λ a ma hp i hi.
+        let k = kept a ma in
+        let gap = k.kept in
+        let from = hp k.earlier k.from_at in
+        let same : Some k.later ≡ Some i = sym k.to_at ∙ hi in
+        let is : k.later ≡ i = cc same in
+        let cycle : k.later.cycle ≡ i.cycle = ap (λ (i : Issue). i.cycle) is in
+        omega arith)
+        (λ n there i hi.
+        let num : d.number ≡ n = first_of d.number n there in
+        let c = cycle_at d md i (ap (slice_get (issues_of (model_of e o) x)) num ∙ hi) in
+        omega arith)
+        c.number h (issue_at x c) (issue_here e o x c (in_all e o x r c mr mc))
+      where
+        first_of : (a n : ℕ) → (nat_eq n a || false) ≡ true → a ≡ n
+        first_of a n h = by (nat_eq n a) refl h
+          where
+            by : (t : Bool) → nat_eq n a ≡ t → (t || false) ≡ true → a ≡ n
+            by true e h = grind (arith, nat_tests, e)
+            by false e h = absurd (cc h)
+
+    -- another one that a call reaches issues after it
+    later : (c q : Placed) → Member c (region_placed r) → Member q (region_placed r) → is_call_kind c.op.kind ≡ true
+        → (q.number ≡ c.number → ⊥) → has (reached arcs c.number) q.number ≡ true → (issue_at x c).cycle + 1 ≤ (issue_at x q).cycle
+    later c q mc mq call other h =
+        let P = λ (n : ℕ). (i : Issue) → slice_get (issues_of (model_of e o) x) n ≡ Some i
+            → ((n ≡ c.number) × ((issue_at x c).cycle ≤ i.cycle)) ⊎ ((issue_at x c).cycle + 1 ≤ i.cycle) in
+        let found = leads P arcs (c.number ∷ []) (λ a ma hp i hi.
+        let k = kept a ma in
+        let gap = k.kept in
+        let same : Some k.later ≡ Some i = sym k.to_at ∙ hi in
+        let is : k.later ≡ i = cc same in
+        let cycle : k.later.cycle ≡ i.cycle = ap (λ (i : Issue). i.cycle) is in
+        elim (hp k.earlier k.from_at) [
+          | inl own ↦ inr (let one = leaves_gap c a mc call ma own.0 in let le = own.1 in omega arith)
+          | inr far ↦ inr (omega arith)
+        ])
+        (λ n there i hi.
+        let num : c.number ≡ n = first_of c.number n there in
+        let k = cycle_at c mc i (ap (slice_get (issues_of (model_of e o) x)) num ∙ hi) in
+        inl (sym num, omega arith))
+        q.number h (issue_at x q) (issue_here e o x q (in_all e o x r q mr mq)) in
+        elim found [ | inl own ↦ absurd (other own.0) | inr far ↦ far ]
+      where
+        first_of : (a n : ℕ) → (nat_eq n a || false) ≡ true → a ≡ n
+        first_of a n h = by (nat_eq n a) refl h
+          where
+            by : (t : Bool) → nat_eq n a ≡ t → (t || false) ≡ true → a ≡ n
+            by true e h = grind (arith, nat_tests, e)
+            by false e h = absurd (cc h)
+
+    -- a call issues before its block's end
+    inside : (c : Placed) → Member c (region_placed r) → is_call_kind c.op.kind ≡ true → (issue_at x c).cycle < (issue_at x c).end
+    inside c mc call =
+        let v = vars_of c in
+        let latencies = schedule.latencies in
+        let placed = each_member (λ q. IsPlaced (issue_at x q)) (all e o x) c (each_issue e o x IsPlaced latencies.0) (in_all e o x r c mr mc) in
+        let instr = call_instr c.op.kind (value_by x v.instr) call in
+        let there = subst (λ (i : Option Op). IfSome i (IsPlacedAs (issue_at x c).cycle (issue_at x c).end)) instr placed in
+        there.0.1
+
+    pub ordered : Ordered e o x given (mask e o x given) r arcs
+    ordered = record {
+      before = λ d c md mc call h. first d c md mc (is_in d.op.kind) refl h;
+      behind = λ c q mc mq call h. second c q mc mq call (is_out q.op.kind) refl h;
+    }
+      where
+        first : (d c : Placed) → Member d (region_placed r) → Member c (region_placed r) → (t : Bool) → is_in d.op.kind ≡ t
+            → (is_in d.op.kind || has (reached arcs d.number) c.number) ≡ true → (issue_at x d).cycle ≤ (issue_at x c).cycle
+        first d c md mc true k h =
+            let z = start_cycle d.op.kind x (issue_at x d).end (vars_of d) k in omega arith
+        first d c md mc false k h = not_before d c md mc (subst (λ (t : Bool). (t || has (reached arcs d.number) c.number) ≡ true) k h)
+
+        second : (c q : Placed) → Member c (region_placed r) → Member q (region_placed r) → is_call_kind c.op.kind ≡ true → (t : Bool) → is_out q.op.kind ≡ t
+            → (is_out q.op.kind || (not (q.number == c.number) && has (reached arcs c.number) q.number)) ≡ true → (issue_at x c).cycle + 1 ≤ (issue_at x q).cycle
+        second c q mc mq call true k h =
+            let z = end_cycle q.op.kind x (issue_at x q).end (vars_of q) k in
+            let lt = inside c mc call in
+            let close : c.close ≡ q.close = sym (region_close r c mc) ∙ region_close r q mq in
+            let same : (issue_at x c).end ≡ (issue_at x q).end = ap (λ (v : VarId). slice_index x v.0) close in
+            omega arith
+        second c q mc mq call false k h =
+            let two = (and_iff (not (q.number == c.number)) (has (reached arcs c.number) q.number)).1
+            (subst (λ (t : Bool). (t || (not (q.number == c.number) && has (reached arcs c.number) q.number)) ≡ true) k h) in
+            later c q mc mq call (λ same. (let t : not (q.number == c.number) ≡ false = ap not (eq-eqb q.number c.number same) in let z : true ≡ false = sym two.0 ∙ t in cc z)) two.1
+
+  -- each solution meets what is posted of calls
+  pub calls_met : AllMet (clobbers_of (model_of e o)) x
+  calls_met = let registers = schedule.registers in spared_met e o x given (λ r m. ordered r m) registers.1
