@@ -1,13 +1,22 @@
 -- A solution keeps the arcs: what is before a call and behind it, whatever the cycles, is so in its cycles. So each solution meets
 -- what is posted of calls.
 use Rattle.std.proofs.Common.{ℕ, zero, suc, ◌≡◌, ◌+◌, ◌<◌, ◌≤◌, ◌⊎◌, Bool, true, false, List, [], ◌∷◌, length, fold, inl, inr, refl, sym, ap, ◌∙◌, subst, arith, All, Contains, eq-eqb}
-use Rattle.std.specs.Prelude.{Option, Some, None, IfSome, not, ◌&&◌, ◌||◌, ◌==◌, nat_eq, slice_get, slice_index, slice_index_or, is_some, if◌then◌else◌}
+use Rattle.std.specs.Prelude.{Option, Some, None, IfSome, not, ◌&&◌, ◌||◌, ◌==◌, nat_eq, slice_get, slice_index, slice_index_or, is_some, sum_by, unwrap_or, IsSomeAnd, if◌then◌else◌}
 use Rattle.std.proofs.lemmas.Bool.Decides.{nat_tests}
-use Rattle.un_isa.specs.Fit.{IsFit}
+use Rattle.std.proofs.lemmas.List.Sums.{sum_by-cons}
+use Rattle.un_isa.specs.Fit.{IsFit, AreFitNeeds}
 use Rattle.un_isa.specs.declared.op.Op.{Op}
-use Rattle.un_isa.specs.declared.op.Op.TheVariants.{Call, Load, Store}
+use Rattle.un_isa.specs.declared.op.Op.TheVariants.{Call, Load, Store, Jump as JumpOp, JumpIf, JumpIfNot, Jumpr}
+use Rattle.un_isa.specs.declared.facts.Class.{Class}
+use Rattle.un_isa.specs.declared.facts.Class.TheVariants.{Alu32, Xtype, Loading, Storing, Control as ControlClass, Nothing}
+use Rattle.un_isa.specs.Facts.{class_of}
+use Rattle.un_isa.specs.Hexagon.{needs_by as least_needs}
+use Rattle.un_isa.specs.Tables.{number_of}
+use Rattle.un_isa.specs.declared.table.Needs.{Needs}
 use Rattle.un_isa.specs.declared.table.Table.{Table}
-use Rattle.un_ir.specs.Linear.{is_in, is_out}
+use Rattle.un_ir.specs.declared.function.Term.{Term}
+use Rattle.un_ir.specs.declared.function.Term.TheVariants.{Fall, Jump, Branch, Ret}
+use Rattle.un_ir.specs.Linear.{is_in}
 use Rattle.un_ir.specs.declared.extended.ExtKind.{ExtKind}
 use Rattle.un_ir.specs.declared.extended.ExtKind.TheVariants.{In, Out, Body, End, Copy, Enter, Leave}
 use Rattle.un_ir.specs.declared.extended.ExtBlock.{ExtBlock}
@@ -20,12 +29,13 @@ use Rattle.un_model.specs.declared.model.TempVars.{TempVars}
 use Rattle.un_base.specs.declared.ids.VarId.{VarId}
 use Rattle.un_model.specs.declared.model.OpVars.{OpVars}
 use Rattle.un_model.specs.declared.schedule.Issue.{Issue}
+use Rattle.un_model.specs.declared.schedule.Resource.TheVariants.{Control}
 use Rattle.un_model.specs.ArcLaws.{arc_told}
 use Rattle.un_model.specs.Arcs.{reads_from, own_instr, data_gap, memory_gap, NeedsGap, block_arcs, blocks_arcs, IsArcOf}
 use Rattle.un_model.specs.Arcs.NeedsGap.{ByData, ByMemory}
-use Rattle.un_model.specs.Instructions.{instruction_of, latency_by}
+use Rattle.un_model.specs.Instructions.{instruction_of, latency_by, needs_by, no_needs, is_control, is_transfer, transfer_of}
 use Rattle.un_model.specs.Schedules.{schedule_of, issues_of, value_by, cycle_by}
-use Rattle.un_model.specs.Solutions.{IsSchedule, IsPlaced, IsPlacedAs, latency_gap, after_write, memory_distance}
+use Rattle.un_model.specs.Solutions.{IsSchedule, IsPlaced, IsPlacedAs, IsLast, latency_gap, after_write, memory_distance}
 use Rattle.un_model.specs.Variables.{model_of, arcs_of, blocks_temps, block_count, ops_count, var_at}
 use Rattle.un_model.proofs.ArcsKept.{KeepsArc, arcs_kept}
 use Rattle.un_model.proofs.Lists.{Each, Member, each_all, each_member, index_get, place_of as position_of}
@@ -34,9 +44,10 @@ use Rattle.un_model.proofs.Placed.{Placed, Region, region_placed, vars_of, issue
 use Rattle.un_model.proofs.PlacedSchedules.{all, issue_here, each_issue}
 use Rattle.un_post.specs.Constraints.{AllMet}
 use Rattle.un_post.specs.Postings.{is_call_kind}
-use Rattle.un_post.specs.Rooms.{led_by, reached, is_before, is_behind, arcs_or, clobbers_of}
+use Rattle.un_post.specs.Rooms.{led_by, reached, ends_block, is_before, is_behind, arcs_or, clobbers_of}
 use Rattle.un_post.proofs.Blocks.{blocks, in_all, past, region_close}
 use Rattle.un_post.proofs.Facts.{Given}
+use Rattle.un_post.proofs.Packets.{no_room, share, sum_part, whole_taken}
 use Rattle.un_post.proofs.Placing.{place_of}
 use Rattle.un_post.proofs.Regions.{regions, of_region}
 use Rattle.un_post.proofs.Spared.{Ordered, mask, AreSpared, spared_met, call_instr}
@@ -104,14 +115,48 @@ start_cycle (Copy node) values end vars h = absurd (cc h)
 start_cycle Enter values end vars h = absurd (cc h)
 start_cycle Leave values end vars h = absurd (cc h)
 
-end_cycle : (kind : ExtKind) (values : List ℕ) (end : ℕ) (vars : OpVars) → is_out kind ≡ true → cycle_by values end kind vars ≡ end
-end_cycle Out values end vars h = refl
-end_cycle In values end vars h = absurd (cc h)
-end_cycle (Body so) values end vars h = absurd (cc h)
-end_cycle (End term) values end vars h = absurd (cc h)
-end_cycle (Copy node) values end vars h = absurd (cc h)
-end_cycle Enter values end vars h = absurd (cc h)
-end_cycle Leave values end vars h = absurd (cc h)
+less : (a b : ℕ) → a ≤ b → (a ≡ b → ⊥) → a + 1 ≤ b
+less a b le apart = by (nat_eq a b) refl
+  where
+    by : (t : Bool) → nat_eq a b ≡ t → a + 1 ≤ b
+    by true e = absurd (apart (grind (arith, nat_tests, e)))
+    by false e = grind (arith, nat_tests, e, le)
+
+-- ---- control transfers
+
+sum_here : (f : Placed → ℕ) (ps : List Placed) (a : Placed) → Member a ps → f a ≤ sum_by f ps
+sum_here f [] a m = elim m [ ]
+sum_here f (p ∷ ps) a (inl e) = let cons = sum_by-cons f p ps in let same : f p ≡ f a = ap f e in omega arith
+sum_here f (p ∷ ps) a (inr m) = let cons = sum_by-cons f p ps in let le = sum_here f ps a m in omega arith
+
+sum_two : (f : Placed → ℕ) (ps : List Placed) (a b : Placed) → Member a ps → Member b ps → (a ≡ b → ⊥) → f a + f b ≤ sum_by f ps
+sum_two f [] a b m n apart = elim m [ ]
+sum_two f (p ∷ ps) a b (inl e) (inl g) apart = absurd (apart (sym e ∙ g))
+sum_two f (p ∷ ps) a b (inl e) (inr n) apart =
+    let cons = sum_by-cons f p ps in let same : f p ≡ f a = ap f e in let le = sum_here f ps b n in omega arith
+sum_two f (p ∷ ps) a b (inr m) (inl g) apart =
+    let cons = sum_by-cons f p ps in let same : f p ≡ f b = ap f g in let le = sum_here f ps a m in omega arith
+sum_two f (p ∷ ps) a b (inr m) (inr n) apart =
+    let cons = sum_by-cons f p ps in let le = sum_two f ps a b m n apart in omega arith
+
+needs_control : (t : Table) → IsFit t → (op : Op) → is_control (class_of op) ≡ true → 1 ≤ (needs_by t (Some op)).control
+needs_control t fit op class = need (slice_get t.uses (number_of op)) (fit.needs op)
+  where
+    one : (c : Class) → is_control c ≡ true → 1 ≤ (least_needs c).control
+    one ControlClass h = omega arith
+    one Alu32 h = absurd (cc h)
+    one Xtype h = absurd (cc h)
+    one Loading h = absurd (cc h)
+    one Storing h = absurd (cc h)
+    one Nothing h = absurd (cc h)
+
+    need : (u : Option Needs) → IsSomeAnd u (AreFitNeeds (least_needs (class_of op))) → 1 ≤ (unwrap_or u no_needs).control
+    need None h = absurd h
+    need (Some u) h = let c = h.control in let lo = c.0 in let k = one (class_of op) class in omega arith
+
+is_control_of : (op : Op) → is_transfer op ≡ true → is_control (class_of op) ≡ true
+is_control_of Call h = refl
+is_control_of op h = h
 
 module _ (e : Ext) (o : Options) (x : List ℕ) (given : Given e o x)
     (schedule : IsSchedule (latency_gap e.table) (model_of e o).domains (model_of e o) x (schedule_of (model_of e o) x)) where
@@ -227,10 +272,91 @@ module _ (e : Ext) (o : Options) (x : List ℕ) (given : Given e o x)
         let there = subst (λ (i : Option Op). IfSome i (IsPlacedAs (issue_at x c).cycle (issue_at x c).end)) instr placed in
         there.0.1
 
+    -- a transfer issues after a call: it takes the last cycle, and a packet has room for one of both
+    transfer_after : (c q : Placed) → Member c (region_placed r) → Member q (region_placed r) → is_call_kind c.op.kind ≡ true
+        → (op : Op) → (issue_at x q).instr ≡ Some op → is_transfer op ≡ true → is_call_kind q.op.kind ≡ false → (issue_at x c).cycle + 1 ≤ (issue_at x q).cycle
+    transfer_after c q mc mq call op instr transfer other = by (nat_eq (issue_at x c).cycle (issue_at x q).cycle) refl
+      where
+        last : (issue_at x q).cycle + 1 ≡ (issue_at x q).end
+        last =
+            let latencies = schedule.latencies in
+            let placed = each_member (λ q. IsPlaced (issue_at x q)) (all e o x) q (each_issue e o x IsPlaced latencies.0) (in_all e o x r q mr mq) in
+            let there = subst (λ (i : Option Op). IfSome i (IsPlacedAs (issue_at x q).cycle (issue_at x q).end)) instr placed in
+            subst (IsLast (issue_at x q).cycle (issue_at x q).end) transfer there.1
+
+        same_end : (issue_at x c).end ≡ (issue_at x q).end
+        same_end = ap (λ (v : VarId). slice_index x v.0) (sym (region_close r c mc) ∙ region_close r q mq)
+
+        crowded : (issue_at x c).cycle ≡ (issue_at x q).cycle → ⊥
+        crowded same =
+            let v = vars_of c in
+            let f = share e o x given Control r.block (issue_at x q).cycle in
+            let packets = schedule.packets in
+            let fits = (no_room e.table (issues_of (model_of e o) x) r.block (issue_at x q).cycle).1 (packets r.block (issue_at x q).cycle) Control in
+            let whole = whole_taken e o x given Control r.block (issue_at x q).cycle in
+            let part = sum_part f region_placed (blocks e o x) r mr in
+            let two = sum_two f (region_placed r) c q mc mq (λ is. (let z : is_call_kind c.op.kind ≡ is_call_kind q.op.kind = ap (λ (p : Placed). is_call_kind p.op.kind) is in
+            let y : true ≡ false = sym call ∙ z ∙ other in cc y)) in
+            let one = takes_control c Call (call_instr c.op.kind (value_by x v.instr) call) refl mc same in
+            let more = takes_control q op instr (is_control_of op transfer) mq refl in
+            omega arith
+          where
+            takes_control : (p : Placed) (op : Op) → (issue_at x p).instr ≡ Some op → is_control (class_of op) ≡ true → Member p (region_placed r)
+                → (issue_at x p).cycle ≡ (issue_at x q).cycle → 1 ≤ share e o x given Control r.block (issue_at x q).cycle p
+            takes_control p op instr class mp same =
+                let n = (issue_at x q).cycle in
+                let here : (p.block == r.block) ≡ true = eq-eqb p.block r.block (of_region r p mp) in
+                let now : ((issue_at x p).cycle == n) ≡ true = eq-eqb (issue_at x p).cycle n same in
+                let need = needs_control e.table given.fit op class in
+                let is : share e o x given Control r.block n p ≡ (needs_by e.table (Some op)).control =
+                ap (λ (b : Bool). if b && ((issue_at x p).cycle == n) then (needs_by e.table (issue_at x p).instr).control else 0) here
+                ∙ ap (λ (b : Bool). if b then (needs_by e.table (issue_at x p).instr).control else 0) now
+                ∙ ap (λ (i : Option Op). (needs_by e.table i).control) instr in
+                omega arith
+
+        by : (t : Bool) → nat_eq (issue_at x c).cycle (issue_at x q).cycle ≡ t → (issue_at x c).cycle + 1 ≤ (issue_at x q).cycle
+        by true e = absurd (crowded (let is : (issue_at x c).cycle ≡ (issue_at x q).cycle = grind (arith, nat_tests, e) in is))
+        by false e =
+            let lt = inside c mc call in
+            let a = last in
+            let b = same_end in
+            let apart : (issue_at x c).cycle ≡ (issue_at x q).cycle → ⊥ = λ s. (let t : nat_eq (issue_at x c).cycle (issue_at x q).cycle ≡ true = grind (arith, nat_tests, s) in
+            let z : true ≡ false = sym t ∙ e in cc z) in
+            less (issue_at x c).cycle (issue_at x q).cycle (omega arith) apart
+
+    -- what ends a block issues after its calls
+    end_after : (c q : Placed) → Member c (region_placed r) → Member q (region_placed r) → is_call_kind c.op.kind ≡ true
+        → ends_block q.op.kind ≡ true → (issue_at x c).cycle + 1 ≤ (issue_at x q).cycle
+    end_after c q mc mq call ends = by q.op.kind refl ends
+      where
+        transfer : (term : Term) (op : Op) → q.op.kind ≡ End term → transfer_of term ≡ Some op → is_transfer op ≡ true → (issue_at x c).cycle + 1 ≤ (issue_at x q).cycle
+        transfer term op k t is =
+            let v = vars_of q in
+            let instr : (issue_at x q).instr ≡ Some op = ap (λ (k : ExtKind). instruction_of k (value_by x v.instr)) k ∙ t in
+            transfer_after c q mc mq call op instr is (ap is_call_kind k)
+
+        by : (kind : ExtKind) → q.op.kind ≡ kind → ends_block kind ≡ true → (issue_at x c).cycle + 1 ≤ (issue_at x q).cycle
+        by Out k h =
+            let v = vars_of q in
+            let z : (issue_at x q).cycle ≡ (issue_at x q).end = ap (λ (k : ExtKind). cycle_by x (issue_at x q).end k v) k in
+            let lt = inside c mc call in
+            let same : (issue_at x c).end ≡ (issue_at x q).end = ap (λ (v : VarId). slice_index x v.0) (sym (region_close r c mc) ∙ region_close r q mq) in
+            omega arith
+        by (End Fall) k h = absurd (cc h)
+        by (End (Jump to)) k h = transfer (Jump to) JumpOp k refl refl
+        by (End (Branch pred true to)) k h = transfer (Branch pred true to) JumpIf k refl refl
+        by (End (Branch pred false to)) k h = transfer (Branch pred false to) JumpIfNot k refl refl
+        by (End (Ret value)) k h = transfer (Ret value) Jumpr k refl refl
+        by In k h = absurd (cc h)
+        by (Body so) k h = absurd (cc h)
+        by (Copy node) k h = absurd (cc h)
+        by Enter k h = absurd (cc h)
+        by Leave k h = absurd (cc h)
+
     pub ordered : Ordered e o x given (mask e o x given) r arcs
     ordered = record {
       before = λ d c md mc call h. first d c md mc (is_in d.op.kind) refl h;
-      behind = λ c q mc mq call h. second c q mc mq call (is_out q.op.kind) refl h;
+      behind = λ c q mc mq call h. second c q mc mq call (ends_block q.op.kind) refl h;
     }
       where
         first : (d c : Placed) → Member d (region_placed r) → Member c (region_placed r) → (t : Bool) → is_in d.op.kind ≡ t
@@ -239,14 +365,9 @@ module _ (e : Ext) (o : Options) (x : List ℕ) (given : Given e o x)
             let z = start_cycle d.op.kind x (issue_at x d).end (vars_of d) k in omega arith
         first d c md mc false k h = not_before d c md mc (subst (λ (t : Bool). (t || has (reached arcs d.number) c.number) ≡ true) k h)
 
-        second : (c q : Placed) → Member c (region_placed r) → Member q (region_placed r) → is_call_kind c.op.kind ≡ true → (t : Bool) → is_out q.op.kind ≡ t
-            → (is_out q.op.kind || (not (q.number == c.number) && has (reached arcs c.number) q.number)) ≡ true → (issue_at x c).cycle + 1 ≤ (issue_at x q).cycle
-        second c q mc mq call true k h =
-            let z = end_cycle q.op.kind x (issue_at x q).end (vars_of q) k in
-            let lt = inside c mc call in
-            let close : c.close ≡ q.close = sym (region_close r c mc) ∙ region_close r q mq in
-            let same : (issue_at x c).end ≡ (issue_at x q).end = ap (λ (v : VarId). slice_index x v.0) close in
-            omega arith
+        second : (c q : Placed) → Member c (region_placed r) → Member q (region_placed r) → is_call_kind c.op.kind ≡ true → (t : Bool) → ends_block q.op.kind ≡ t
+            → (ends_block q.op.kind || (not (q.number == c.number) && has (reached arcs c.number) q.number)) ≡ true → (issue_at x c).cycle + 1 ≤ (issue_at x q).cycle
+        second c q mc mq call true k h = end_after c q mc mq call k
         second c q mc mq call false k h =
             let two = (and_iff (not (q.number == c.number)) (has (reached arcs c.number) q.number)).1
             (subst (λ (t : Bool). (t || (not (q.number == c.number) && has (reached arcs c.number) q.number)) ≡ true) k h) in

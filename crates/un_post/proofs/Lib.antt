@@ -23,3 +23,4 @@ pub mod Spared
 pub mod Packets
 pub mod TwoOperands
 pub mod CallOrder
+pub mod OfRooms

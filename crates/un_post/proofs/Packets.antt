@@ -133,7 +133,7 @@ sum_map : {X Y : Type 0} (f : Y → ℕ) (g : X → Y) (xs : List X) → sum_by 
 sum_map f g [] = refl
 sum_map f g (x ∷ xs) = sum_by-cons f (g x) (map g xs) ∙ ap (λ n. f (g x) + n) (sum_map f g xs) ∙ sym (sum_by-cons (λ x. f (g x)) x xs)
 
-sum_part : {X Y : Type 0} (f : Y → ℕ) (g : X → List Y) (xs : List X) (x : X) → Member x xs → sum_by f (g x) ≤ sum_by f (joined (map g xs))
+pub sum_part : {X Y : Type 0} (f : Y → ℕ) (g : X → List Y) (xs : List X) (x : X) → Member x xs → sum_by f (g x) ≤ sum_by f (joined (map g xs))
 sum_part f g [] x m = elim m [ ]
 sum_part f g (y ∷ ys) x (inl e) =
     let a = sum_by-append f (g y) (joined (map g ys)) in
@@ -171,13 +171,13 @@ sum_one f b n (r ∷ rs) rise none one = by (r.block == b) refl (sum_one f b n r
         let whole = split in
         omega arith
 
-no_room : (t : Table) (issues : List Issue) (b c : ℕ) → ((resource : Resource) → Fits t issues b c resource) ↔ HasRoom t issues b c
+pub no_room : (t : Table) (issues : List Issue) (b c : ℕ) → ((resource : Resource) → Fits t issues b c resource) ↔ HasRoom t issues b c
 unfolding HasRoom
 no_room t issues b c = (λ h. h, λ h. h)
 
 module _ (e : Ext) (o : Options) (x : List ℕ) (given : Given e o x) where
   -- what an operation takes in cycle c, where it is of block b
-  abbrev share : Resource → ℕ → ℕ → Placed → ℕ
+  abbrev pub share : Resource → ℕ → ℕ → Placed → ℕ
   share resource b c q = if issues_at b c (issue_at x q) then share_of e.table resource (issue_at x q).instr else 0
 
   -- an operation as an item
@@ -246,7 +246,7 @@ module _ (e : Ext) (o : Options) (x : List ℕ) (given : Given e o x) where
   region_taken resource r c m = all_taken resource r.block c (region_placed r) (λ q n. (in_all e o x r q m n, of_region r q n))
 
   -- what all operations take in a cycle of a block
-  whole_taken : (resource : Resource) (b c : ℕ) → taken e.table resource (issues_of (model_of e o) x) b c ≡ sum_by (share resource b c) (joined (map region_placed (blocks e o x)))
+  pub whole_taken : (resource : Resource) (b c : ℕ) → taken e.table resource (issues_of (model_of e o) x) b c ≡ sum_by (share resource b c) (joined (map region_placed (blocks e o x)))
   whole_taken resource b c =
       ap (λ is. taken e.table resource is b c) (issues_are x 0 0 0 e.blocks) ∙ sum_map _ (issue_at x) (all e o x)
       ∙ ap (sum_by (share resource b c)) (placed_regions 0 0 0 e.blocks)

@@ -4,7 +4,7 @@ use Rattle.un_base.specs.declared.ids.TempId.{TempId}
 use Rattle.un_base.specs.declared.ids.VarId.{VarId}
 use Rattle.un_isa.specs.declared.op.Op.{Op}
 use Rattle.un_isa.specs.declared.table.Table.{Table}
-use Rattle.un_ir.specs.Linear.{first_of, is_in, is_out}
+use Rattle.un_ir.specs.Linear.{first_of, is_in}
 use Rattle.un_domains.specs.Sets.{has}
 use Rattle.un_ir.specs.declared.function.Term.TheVariants.{Fall}
 use Rattle.un_ir.specs.declared.extended.ExtKind.{ExtKind}
@@ -75,9 +75,16 @@ reached arcs n = fold led_by (n ∷ []) arcs
 abbrev pub is_before : List Arc → Place → Place → Bool
 is_before arcs definer call = is_in definer.it.kind || has (reached arcs definer.op) call.op
 
--- an operation is behind a call, whatever the cycles: the block's end, and what the call reaches
+-- a transfer, and the block's end, which no call issues with or after
+abbrev pub ends_block : ExtKind → Bool
+ends_block Out = true
+ends_block (End Fall) = false
+ends_block (End term) = true
+ends_block _ = false
+
+-- an operation is behind a call, whatever the cycles: what ends the block, and what the call reaches
 abbrev pub is_behind : List Arc → Place → Place → Bool
-is_behind arcs call p = is_out p.it.kind || (not (p.op == call.op) && has (reached arcs call.op) p.op)
+is_behind arcs call p = ends_block p.it.kind || (not (p.op == call.op) && has (reached arcs call.op) p.op)
 
 abbrev pub call_at : List Arc → List Place → TempId → Place → Place → ClobberCall
 call_at arcs ps t definer call = record {
@@ -161,3 +168,8 @@ twos_in k ds p = each_two (two_at k ds p) 0 p.it.operands
 
 abbrev pub twos_of : Model → List Constraint
 twos_of m = over_places (twos_in m.options.slots (definers_of m)) m
+
+-- ---- all of these
+
+abbrev pub rooms_of : Model → List Constraint
+rooms_of m = aparts_of m ++ (clobbers_of m ++ (packets_of m ++ twos_of m))
