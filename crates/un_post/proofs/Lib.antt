@@ -15,6 +15,13 @@ pub mod Limits
 pub mod OfPlaces
 pub mod Regions
 pub mod Ends
+pub mod Congruences
+pub mod OneEnter
+pub mod FrameTags
+pub mod FrameOrder
+pub mod FrameTests
+pub mod Frames
+pub mod Posted
 pub mod Blocks
 pub mod Users
 pub mod BlockTemps
