@@ -7,12 +7,12 @@ use Rattle.un_ir.specs.declared.extended.Ext.{Ext}
 use Rattle.un_model.specs.declared.model.BlockVars.{BlockVars}
 use Rattle.un_model.specs.declared.model.Options.{Options}
 use Rattle.un_model.specs.Pairs.{pairs_from, joined, over_blocks}
-use Rattle.un_model.specs.Variables.{model_of, op_vars, ops_vars, var_count, var_at, ops_count, block_count, block_vars, blocks_vars}
+use Rattle.un_model.specs.Variables.{op_vars, ops_vars, var_count, var_at, ops_count, block_count, block_vars, blocks_vars}
 use Rattle.un_model.proofs.Lists.{Each, Pairwise, Member, each_of, each_member, member_map, pairwise_two, place_of as position_of}
 use Rattle.un_model.proofs.Operations.{placed_is}
-use Rattle.un_model.proofs.Placed.{Placed, placed, block_placed, blocks_placed, Region, region_placed}
+use Rattle.un_model.proofs.Placed.{Placed, placed, Region, region_placed}
 use Rattle.un_model.proofs.PlacedSchedules.{all, member_joined, joined_member}
-use Rattle.un_post.specs.Constraints.{Constraint, meets, AllMet}
+use Rattle.un_post.specs.Constraints.{Constraint, AllMet}
 use Rattle.un_post.specs.Places.{Place, place_at, block_places}
 use Rattle.un_post.proofs.Meeting.{Met, met_all, all_met, each_joined, joined_each}
 use Rattle.un_post.proofs.Placing.{place_of}
@@ -29,10 +29,12 @@ joined_append (xs ∷ xss) yss = ap (λ zs. xs ++ zs) (joined_append xss yss) �
     assoc (x ∷ xs) ys zs = ap (λ ws. x ∷ ws) (assoc xs ys zs)
 
 -- what is made of the items of joined lists is what is made of each list, joined
-pub joined_parts : {A B : Type 0} (f : A → List B) (xss : List (List A)) → joined (map f (joined xss)) ≡ joined (map (λ xs. joined (map f xs)) xss)
+pub joined_parts : {A B : Type 0} (f : A → List B) (xss : List (List A))
+    → joined (map f (joined xss)) ≡ joined (map (λ xs. joined (map f xs)) xss)
 joined_parts f [] = refl
 joined_parts f (xs ∷ xss) =
-    ap joined (append f xs (joined xss)) ∙ joined_append (map f xs) (map f (joined xss)) ∙ ap (λ ys. joined (map f xs) ++ ys) (joined_parts f xss)
+    ap joined (append f xs (joined xss)) ∙ joined_append (map f xs) (map f (joined xss))
+    ∙ ap (λ ys. joined (map f xs) ++ ys) (joined_parts f xss)
   where
     append : {A B : Type 0} (f : A → B) (xs ys : List A) → map f (xs ++ ys) ≡ map f xs ++ map f ys
     append f [] ys = refl
@@ -68,7 +70,8 @@ past b n first (block ∷ blocks) =
     let rest = regions (b + 1) (n + length block.ops) (first + block_count block) blocks in (
       omega arith,
       each_of (λ (r : Region). b ≤ r.block) rest (λ r m.
-          let le = each_member (λ (r : Region). b + 1 ≤ r.block) rest r (past (b + 1) (n + length block.ops) (first + block_count block) blocks) m in omega arith),
+          let le = each_member (λ (r : Region). b + 1 ≤ r.block) rest r
+          (past (b + 1) (n + length block.ops) (first + block_count block) blocks) m in omega arith),
     )
 
 -- they rise
@@ -77,7 +80,8 @@ rising b n first [] = tt
 rising b n first (block ∷ blocks) =
     let rest = regions (b + 1) (n + length block.ops) (first + block_count block) blocks in (
       each_of (λ (r : Region). b < r.block) rest (λ r m.
-          let le = each_member (λ (r : Region). b + 1 ≤ r.block) rest r (past (b + 1) (n + length block.ops) (first + block_count block) blocks) m in omega arith),
+          let le = each_member (λ (r : Region). b + 1 ≤ r.block) rest r
+          (past (b + 1) (n + length block.ops) (first + block_count block) blocks) m in omega arith),
       rising (b + 1) (n + length block.ops) (first + block_count block) blocks,
     )
 
@@ -90,7 +94,8 @@ region_owner r q m =
     is.3
 
 -- and its end
-pub region_close : (r : Region) (q : Placed) → Member q (region_placed r) → (let owner = r.owner in var_at (r.first + ops_count owner.ops) ≡ q.close)
+pub region_close : (r : Region) (q : Placed) → Member q (region_placed r)
+    → (let owner = r.owner in var_at (r.first + ops_count owner.ops) ≡ q.close)
 region_close r q m =
     let owner = r.owner in
     let k = position_of (region_placed r) q m in
@@ -113,7 +118,7 @@ module _ (e : Ext) (o : Options) (x : List ℕ) where
   pub one_region : (r s : Region) → Member r blocks → Member s blocks → r.block ≡ s.block → r ≡ s
   one_region r s m n same = elim (pairwise_two (λ (r s : Region). r.block < s.block) blocks r s (rising 0 0 0 e.blocks) m n) [
     | inl is ↦ is
-    | inr two ↦ elim two [ | inl lt ↦ absurd (omega arith) | inr lt ↦ absurd (omega arith) ]
+    | inr two ↦ elim two [ inl lt ↦ absurd (omega arith) | inr lt ↦ absurd (omega arith) ]
   ]
 
   -- an operation with the number of a block is of that block
@@ -124,7 +129,8 @@ module _ (e : Ext) (o : Options) (x : List ℕ) where
 
   -- what is posted block by block
   pub regions_met : (f : ℕ → ℕ → ExtBlock → BlockVars → List Constraint)
-      → AllMet (over_blocks f 0 0 e.blocks (blocks_vars 0 e.blocks)) x ↔ Each (λ (r : Region). Met x (f r.block r.number r.owner (region_vars r))) blocks
+      → AllMet (over_blocks f 0 0 e.blocks (blocks_vars 0 e.blocks)) x ↔ Each
+      (λ (r : Region). Met x (f r.block r.number r.owner (region_vars r))) blocks
   regions_met f = (
     λ h. each_joined _ (λ (r : Region). f r.block r.number r.owner (region_vars r)) blocks
         (subst (Met x) (over_regions f 0 0 0 e.blocks) (met_all x _ h)),

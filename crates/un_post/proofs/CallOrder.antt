@@ -1,7 +1,9 @@
 -- A solution keeps the arcs: what is before a call and behind it, whatever the cycles, is so in its cycles. So each solution meets
 -- what is posted of calls.
-use Rattle.std.proofs.Common.{ℕ, zero, suc, ◌≡◌, ◌+◌, ◌<◌, ◌≤◌, ◌⊎◌, Bool, true, false, List, [], ◌∷◌, length, fold, inl, inr, refl, sym, ap, ◌∙◌, subst, arith, All, Contains, eq-eqb}
-use Rattle.std.specs.Prelude.{Option, Some, None, IfSome, not, ◌&&◌, ◌||◌, ◌==◌, nat_eq, slice_get, slice_index, slice_index_or, is_some, sum_by, unwrap_or, IsSomeAnd, if◌then◌else◌}
+use Rattle.std.proofs.Common.{ℕ, zero, suc, ◌≡◌, ◌+◌, ◌<◌, ◌≤◌, ◌⊎◌, Bool, true, false, List, [], ◌∷◌, length, fold, inl, inr, refl, sym}
+use Rattle.std.proofs.Common.{ap, ◌∙◌, subst, arith, Contains, eq-eqb}
+use Rattle.std.specs.Prelude.{Option, Some, None, IfSome, not, ◌&&◌, ◌||◌, ◌==◌, nat_eq, slice_get, slice_index}
+use Rattle.std.specs.Prelude.{sum_by, unwrap_or, IsSomeAnd, if◌then◌else◌}
 use Rattle.std.proofs.lemmas.Bool.Decides.{nat_tests}
 use Rattle.std.proofs.lemmas.List.Sums.{sum_by-cons}
 use Rattle.un_isa.specs.Fit.{IsFit, AreFitNeeds}
@@ -31,26 +33,25 @@ use Rattle.un_model.specs.declared.model.OpVars.{OpVars}
 use Rattle.un_model.specs.declared.schedule.Issue.{Issue}
 use Rattle.un_model.specs.declared.schedule.Resource.TheVariants.{Control}
 use Rattle.un_model.specs.ArcLaws.{arc_told}
-use Rattle.un_model.specs.Arcs.{reads_from, own_instr, data_gap, memory_gap, NeedsGap, block_arcs, blocks_arcs, IsArcOf}
+use Rattle.un_model.specs.Arcs.{reads_from, own_instr, NeedsGap, block_arcs, blocks_arcs}
 use Rattle.un_model.specs.Arcs.NeedsGap.{ByData, ByMemory}
 use Rattle.un_model.specs.Instructions.{instruction_of, latency_by, needs_by, no_needs, is_control, is_transfer, transfer_of}
 use Rattle.un_model.specs.Schedules.{schedule_of, issues_of, value_by, cycle_by}
 use Rattle.un_model.specs.Solutions.{IsSchedule, IsPlaced, IsPlacedAs, IsLast, latency_gap, after_write, memory_distance}
 use Rattle.un_model.specs.Variables.{model_of, arcs_of, blocks_temps, block_count, ops_count, var_at}
 use Rattle.un_model.proofs.ArcsKept.{KeepsArc, arcs_kept}
-use Rattle.un_model.proofs.Lists.{Each, Member, each_all, each_member, index_get, place_of as position_of}
+use Rattle.un_model.proofs.Lists.{Member, each_member, index_get, place_of as position_of}
 use Rattle.un_model.proofs.Operations.{placed_is}
 use Rattle.un_model.proofs.Placed.{Placed, Region, region_placed, vars_of, issue_at}
 use Rattle.un_model.proofs.PlacedSchedules.{all, issue_here, each_issue}
 use Rattle.un_post.specs.Constraints.{AllMet}
 use Rattle.un_post.specs.Postings.{is_call_kind}
-use Rattle.un_post.specs.Rooms.{led_by, reached, ends_block, is_before, is_behind, arcs_or, clobbers_of}
+use Rattle.un_post.specs.Rooms.{led_by, reached, ends_block, arcs_or, clobbers_of}
 use Rattle.un_post.proofs.Blocks.{blocks, in_all, past, region_close}
 use Rattle.un_post.proofs.Facts.{Given}
 use Rattle.un_post.proofs.Packets.{no_room, share, sum_part, whole_taken}
-use Rattle.un_post.proofs.Placing.{place_of}
 use Rattle.un_post.proofs.Regions.{regions, of_region}
-use Rattle.un_post.proofs.Spared.{Ordered, mask, AreSpared, spared_met, call_instr}
+use Rattle.un_post.proofs.Spared.{Ordered, mask, spared_met, call_instr}
 use Rattle.un_post.proofs.Tests.{and_iff}
 
 member_contains : {X : Type 0} (xs : List X) (x : X) → Member x xs → Contains xs x
@@ -75,14 +76,18 @@ leads P (a ∷ arcs) from step start n h =
 
 -- ---- the arcs of a block
 
-arcs_here : (t : Table) (temps : List TempVars) (b n first k : ℕ) (blocks : List ExtBlock) (r : Region) → Member r (regions b n first blocks) → r.block ≡ b + k
+arcs_here : (t : Table) (temps : List TempVars) (b n first k : ℕ) (blocks : List ExtBlock) (r : Region)
+    → Member r (regions b n first blocks) → r.block ≡ b + k
     → (let owner = r.owner in slice_get (blocks_arcs t temps n blocks) k ≡ Some (block_arcs t temps r.number owner.ops))
 arcs_here t temps b n first k [] r m e = elim m [ ]
-arcs_here t temps b n first zero (c ∷ cs) r (inl h) e = ap (λ (r : Region). let owner = r.owner in Some (block_arcs t temps r.number owner.ops)) h
+arcs_here t temps b n first zero (c ∷ cs) r (inl h) e = ap (λ (r : Region). let owner = r.owner in
+    Some (block_arcs t temps r.number owner.ops)) h
 arcs_here t temps b n first (suc k) (c ∷ cs) r (inl h) e = let s : b ≡ r.block = ap (λ (r : Region). r.block) h in absurd (omega arith)
 arcs_here t temps b n first zero (c ∷ cs) r (inr m) e =
-    let le = each_member (λ (r : Region). b + 1 ≤ r.block) _ r (past (b + 1) (n + length c.ops) (first + block_count c) cs) m in absurd (omega arith)
-arcs_here t temps b n first (suc k) (c ∷ cs) r (inr m) e = arcs_here t temps (b + 1) (n + length c.ops) (first + block_count c) k cs r m (omega arith)
+    let le = each_member (λ (r : Region). b + 1 ≤ r.block) _ r (past (b + 1) (n + length c.ops) (first + block_count c) cs) m in
+    absurd (omega arith)
+arcs_here t temps b n first (suc k) (c ∷ cs) r (inr m) e = arcs_here t temps (b + 1) (n + length c.ops) (first + block_count c) k cs r m
+    (omega arith)
 
 write_gap : (i : Option Op) (g : ℕ) → after_write i ≡ Some g → 1 ≤ g
 write_gap None g h = absurd (cc h)
@@ -95,7 +100,8 @@ some_gap : (a b : ℕ) → Some a ≡ Some b → a ≡ b
 some_gap a b h = cc h
 
 -- no user of what a call gives, nor a later access to memory, issues in its cycle
-call_gap : (t : Table) → IsFit t → (reads : Bool) (from to : ExtOp) (gap : ℕ) → own_instr from ≡ Some Call → NeedsGap t reads from to gap → 1 ≤ gap
+call_gap : (t : Table) → IsFit t → (reads : Bool) (from to : ExtOp) (gap : ℕ) → own_instr from ≡ Some Call → NeedsGap t reads from to gap
+    → 1 ≤ gap
 call_gap t fit true from to gap call (ByData h) =
     let l = fit.latencies Call in
     let lo = l.0 in
@@ -181,7 +187,8 @@ module _ (e : Ext) (o : Options) (x : List ℕ) (given : Given e o x)
         (member_contains _ a (subst (Member a) arcs_are m))
 
     -- the cycle of an operation by its number
-    cycle_at : (q : Placed) → Member q (region_placed r) → (i : Issue) → slice_get (issues_of (model_of e o) x) q.number ≡ Some i → (issue_at x q).cycle ≡ i.cycle
+    cycle_at : (q : Placed) → Member q (region_placed r) → (i : Issue) → slice_get (issues_of (model_of e o) x) q.number ≡ Some i
+        → (issue_at x q).cycle ≡ i.cycle
     cycle_at q m i h =
         let same : Some (issue_at x q) ≡ Some i = sym (issue_here e o x q (in_all e o x r q mr m)) ∙ h in
         ap (λ (j : Option Issue). cycle_or j) same
@@ -191,7 +198,8 @@ module _ (e : Ext) (o : Options) (x : List ℕ) (given : Given e o x)
         cycle_or (Some i) = i.cycle
 
     -- an arc from a call has a gap
-    leaves_gap : (c : Placed) (a : Arc) → Member c (region_placed r) → is_call_kind c.op.kind ≡ true → Member a arcs → a.from.0 ≡ c.number → 1 ≤ a.gap
+    leaves_gap : (c : Placed) (a : Arc) → Member c (region_placed r) → is_call_kind c.op.kind ≡ true → Member a arcs → a.from.0 ≡ c.number
+        → 1 ≤ a.gap
     leaves_gap c a mc call ma same =
         let owner = r.owner in
         let is = arc_told e.table temps r.number owner.ops a (member_contains _ a (subst (Member a) arcs_are ma)) in
@@ -237,7 +245,7 @@ module _ (e : Ext) (o : Options) (x : List ℕ) (given : Given e o x)
         → (q.number ≡ c.number → ⊥) → has (reached arcs c.number) q.number ≡ true → (issue_at x c).cycle + 1 ≤ (issue_at x q).cycle
     later c q mc mq call other h =
         let P = λ (n : ℕ). (i : Issue) → slice_get (issues_of (model_of e o) x) n ≡ Some i
-            → ((n ≡ c.number) × ((issue_at x c).cycle ≤ i.cycle)) ⊎ ((issue_at x c).cycle + 1 ≤ i.cycle) in
+        → ((n ≡ c.number) × ((issue_at x c).cycle ≤ i.cycle)) ⊎ ((issue_at x c).cycle + 1 ≤ i.cycle) in
         let found = leads P arcs (c.number ∷ []) (λ a ma hp i hi.
         let k = kept a ma in
         let gap = k.kept in
@@ -253,7 +261,7 @@ module _ (e : Ext) (o : Options) (x : List ℕ) (given : Given e o x)
         let k = cycle_at c mc i (ap (slice_get (issues_of (model_of e o) x)) num ∙ hi) in
         inl (sym num, omega arith))
         q.number h (issue_at x q) (issue_here e o x q (in_all e o x r q mr mq)) in
-        elim found [ | inl own ↦ absurd (other own.0) | inr far ↦ far ]
+        elim found [ inl own ↦ absurd (other own.0) | inr far ↦ far ]
       where
         first_of : (a n : ℕ) → (nat_eq n a || false) ≡ true → a ≡ n
         first_of a n h = by (nat_eq n a) refl h
@@ -267,20 +275,23 @@ module _ (e : Ext) (o : Options) (x : List ℕ) (given : Given e o x)
     inside c mc call =
         let v = vars_of c in
         let latencies = schedule.latencies in
-        let placed = each_member (λ q. IsPlaced (issue_at x q)) (all e o x) c (each_issue e o x IsPlaced latencies.0) (in_all e o x r c mr mc) in
+        let placed = each_member (λ q. IsPlaced (issue_at x q)) (all e o x) c (each_issue e o x IsPlaced latencies.0)
+        (in_all e o x r c mr mc) in
         let instr = call_instr c.op.kind (value_by x v.instr) call in
         let there = subst (λ (i : Option Op). IfSome i (IsPlacedAs (issue_at x c).cycle (issue_at x c).end)) instr placed in
         there.0.1
 
     -- a transfer issues after a call: it takes the last cycle, and a packet has room for one of both
     transfer_after : (c q : Placed) → Member c (region_placed r) → Member q (region_placed r) → is_call_kind c.op.kind ≡ true
-        → (op : Op) → (issue_at x q).instr ≡ Some op → is_transfer op ≡ true → is_call_kind q.op.kind ≡ false → (issue_at x c).cycle + 1 ≤ (issue_at x q).cycle
+        → (op : Op) → (issue_at x q).instr ≡ Some op → is_transfer op ≡ true → is_call_kind q.op.kind ≡ false
+        → (issue_at x c).cycle + 1 ≤ (issue_at x q).cycle
     transfer_after c q mc mq call op instr transfer other = by (nat_eq (issue_at x c).cycle (issue_at x q).cycle) refl
       where
         last : (issue_at x q).cycle + 1 ≡ (issue_at x q).end
         last =
             let latencies = schedule.latencies in
-            let placed = each_member (λ q. IsPlaced (issue_at x q)) (all e o x) q (each_issue e o x IsPlaced latencies.0) (in_all e o x r q mr mq) in
+            let placed = each_member (λ q. IsPlaced (issue_at x q)) (all e o x) q (each_issue e o x IsPlaced latencies.0)
+            (in_all e o x r q mr mq) in
             let there = subst (λ (i : Option Op). IfSome i (IsPlacedAs (issue_at x q).cycle (issue_at x q).end)) instr placed in
             subst (IsLast (issue_at x q).cycle (issue_at x q).end) transfer there.1
 
@@ -292,16 +303,19 @@ module _ (e : Ext) (o : Options) (x : List ℕ) (given : Given e o x)
             let v = vars_of c in
             let f = share e o x given Control r.block (issue_at x q).cycle in
             let packets = schedule.packets in
-            let fits = (no_room e.table (issues_of (model_of e o) x) r.block (issue_at x q).cycle).1 (packets r.block (issue_at x q).cycle) Control in
+            let fits = (no_room e.table (issues_of (model_of e o) x) r.block (issue_at x q).cycle).1 (packets r.block (issue_at x q).cycle)
+            Control in
             let whole = whole_taken e o x given Control r.block (issue_at x q).cycle in
             let part = sum_part f region_placed (blocks e o x) r mr in
-            let two = sum_two f (region_placed r) c q mc mq (λ is. (let z : is_call_kind c.op.kind ≡ is_call_kind q.op.kind = ap (λ (p : Placed). is_call_kind p.op.kind) is in
+            let two = sum_two f (region_placed r) c q mc mq (λ is.
+            (let z : is_call_kind c.op.kind ≡ is_call_kind q.op.kind = ap (λ (p : Placed). is_call_kind p.op.kind) is in
             let y : true ≡ false = sym call ∙ z ∙ other in cc y)) in
             let one = takes_control c Call (call_instr c.op.kind (value_by x v.instr) call) refl mc same in
             let more = takes_control q op instr (is_control_of op transfer) mq refl in
             omega arith
           where
-            takes_control : (p : Placed) (op : Op) → (issue_at x p).instr ≡ Some op → is_control (class_of op) ≡ true → Member p (region_placed r)
+            takes_control : (p : Placed) (op : Op) → (issue_at x p).instr ≡ Some op → is_control (class_of op) ≡ true
+                → Member p (region_placed r)
                 → (issue_at x p).cycle ≡ (issue_at x q).cycle → 1 ≤ share e o x given Control r.block (issue_at x q).cycle p
             takes_control p op instr class mp same =
                 let n = (issue_at x q).cycle in
@@ -320,7 +334,8 @@ module _ (e : Ext) (o : Options) (x : List ℕ) (given : Given e o x)
             let lt = inside c mc call in
             let a = last in
             let b = same_end in
-            let apart : (issue_at x c).cycle ≡ (issue_at x q).cycle → ⊥ = λ s. (let t : nat_eq (issue_at x c).cycle (issue_at x q).cycle ≡ true = grind (arith, nat_tests, s) in
+            let apart : (issue_at x c).cycle ≡ (issue_at x q).cycle
+            → ⊥ = λ s. (let t : nat_eq (issue_at x c).cycle (issue_at x q).cycle ≡ true = grind (arith, nat_tests, s) in
             let z : true ≡ false = sym t ∙ e in cc z) in
             less (issue_at x c).cycle (issue_at x q).cycle (omega arith) apart
 
@@ -329,7 +344,8 @@ module _ (e : Ext) (o : Options) (x : List ℕ) (given : Given e o x)
         → ends_block q.op.kind ≡ true → (issue_at x c).cycle + 1 ≤ (issue_at x q).cycle
     end_after c q mc mq call ends = by q.op.kind refl ends
       where
-        transfer : (term : Term) (op : Op) → q.op.kind ≡ End term → transfer_of term ≡ Some op → is_transfer op ≡ true → (issue_at x c).cycle + 1 ≤ (issue_at x q).cycle
+        transfer : (term : Term) (op : Op) → q.op.kind ≡ End term → transfer_of term ≡ Some op → is_transfer op ≡ true
+            → (issue_at x c).cycle + 1 ≤ (issue_at x q).cycle
         transfer term op k t is =
             let v = vars_of q in
             let instr : (issue_at x q).instr ≡ Some op = ap (λ (k : ExtKind). instruction_of k (value_by x v.instr)) k ∙ t in
@@ -340,7 +356,8 @@ module _ (e : Ext) (o : Options) (x : List ℕ) (given : Given e o x)
             let v = vars_of q in
             let z : (issue_at x q).cycle ≡ (issue_at x q).end = ap (λ (k : ExtKind). cycle_by x (issue_at x q).end k v) k in
             let lt = inside c mc call in
-            let same : (issue_at x c).end ≡ (issue_at x q).end = ap (λ (v : VarId). slice_index x v.0) (sym (region_close r c mc) ∙ region_close r q mq) in
+            let same : (issue_at x c).end ≡ (issue_at x q).end = ap (λ (v : VarId). slice_index x v.0)
+            (sym (region_close r c mc) ∙ region_close r q mq) in
             omega arith
         by (End Fall) k h = absurd (cc h)
         by (End (Jump to)) k h = transfer (Jump to) JumpOp k refl refl
@@ -365,13 +382,16 @@ module _ (e : Ext) (o : Options) (x : List ℕ) (given : Given e o x)
             let z = start_cycle d.op.kind x (issue_at x d).end (vars_of d) k in omega arith
         first d c md mc false k h = not_before d c md mc (subst (λ (t : Bool). (t || has (reached arcs d.number) c.number) ≡ true) k h)
 
-        second : (c q : Placed) → Member c (region_placed r) → Member q (region_placed r) → is_call_kind c.op.kind ≡ true → (t : Bool) → ends_block q.op.kind ≡ t
-            → (ends_block q.op.kind || (not (q.number == c.number) && has (reached arcs c.number) q.number)) ≡ true → (issue_at x c).cycle + 1 ≤ (issue_at x q).cycle
+        second : (c q : Placed) → Member c (region_placed r) → Member q (region_placed r) → is_call_kind c.op.kind ≡ true → (t : Bool)
+            → ends_block q.op.kind ≡ t
+            → (ends_block q.op.kind || (not (q.number == c.number) && has (reached arcs c.number) q.number)) ≡ true
+            → (issue_at x c).cycle + 1 ≤ (issue_at x q).cycle
         second c q mc mq call true k h = end_after c q mc mq call k
         second c q mc mq call false k h =
             let two = (and_iff (not (q.number == c.number)) (has (reached arcs c.number) q.number)).1
             (subst (λ (t : Bool). (t || (not (q.number == c.number) && has (reached arcs c.number) q.number)) ≡ true) k h) in
-            later c q mc mq call (λ same. (let t : not (q.number == c.number) ≡ false = ap not (eq-eqb q.number c.number same) in let z : true ≡ false = sym two.0 ∙ t in cc z)) two.1
+            later c q mc mq call (λ same. (let t : not (q.number == c.number) ≡ false = ap not (eq-eqb q.number c.number same) in
+            let z : true ≡ false = sym two.0 ∙ t in cc z)) two.1
 
   -- each solution meets what is posted of calls
   pub calls_met : AllMet (clobbers_of (model_of e o)) x

@@ -1,34 +1,33 @@
 -- No two active temporaries of a block occupy a register in one cycle exactly where the constraints of each block are met.
-use Rattle.std.proofs.Common.{ℕ, zero, suc, ◌≡◌, ◌↔◌, ◌+◌, ◌<◌, ◌≤◌, max, Bool, true, false, List, [], ◌∷◌, ◌++◌, map, refl, sym, ap, ◌∙◌, subst, arith, AllPairs, inl, inr}
-use Rattle.std.specs.Prelude.{not, ◌&&◌, ◌||◌, nat_eq, nat_le, slice_index}
+use Rattle.std.proofs.Common.{ℕ, ◌≡◌, ◌↔◌, ◌+◌, ◌<◌, ◌≤◌, max, Bool, true, false, List, [], ◌∷◌, ◌++◌, map, refl, sym, ap, ◌∙◌}
+use Rattle.std.proofs.Common.{subst, arith, AllPairs, inl, inr}
+use Rattle.std.specs.Prelude.{not, ◌&&◌, ◌||◌, nat_eq, nat_le}
 use Rattle.std.specs.List.{list_all}
 use Rattle.std.proofs.lemmas.Bool.Decides.{nat_tests}
 use Rattle.std.proofs.lemmas.List.Kept.{AllPairs-cons}
-use Rattle.un_base.specs.declared.ids.TempId.{TempId}
 use Rattle.un_ir.specs.declared.extended.Ext.{Ext}
 use Rattle.un_model.specs.declared.model.Options.{Options}
 use Rattle.un_model.specs.declared.schedule.LiveRange.{LiveRange}
-use Rattle.un_model.specs.declared.schedule.Schedule.{Schedule}
 use Rattle.un_model.specs.Pairs.{joined}
-use Rattle.un_model.specs.Schedules.{schedule_of}
 use Rattle.un_model.specs.Solutions.{ShareNoCycle}
 use Rattle.un_model.specs.Variables.{model_of}
-use Rattle.un_model.proofs.Lists.{Each, Pairwise, Member, each_of, each_member, each_append, each_join, pairwise_all, pairwise_map, pairwise_of_map, pairwise_more, pairwise_append_left, pairwise_append_right}
-use Rattle.un_model.proofs.Placed.{Placed, Region, region_placed, Spot}
+use Rattle.un_model.proofs.Lists.{Each, Pairwise, Member, each_of, each_member, each_join, pairwise_all, pairwise_map}
+use Rattle.un_model.proofs.Lists.{pairwise_of_map, pairwise_more, pairwise_append_left, pairwise_append_right}
+use Rattle.un_model.proofs.Placed.{Region, region_placed, Spot}
 use Rattle.un_model.proofs.PlacedSchedules.{spots, spot_range, the_ranges, joined_member}
 use Rattle.un_prop.specs.declared.act.Temp.{Temp}
 use Rattle.un_prop.specs.Acts.{is_active}
 use Rattle.un_rect.specs.Apart.{pair_holds, apart_holds}
 use Rattle.un_rect.specs.Spans.{starts, ends}
 use Rattle.un_post.specs.Constraints.{AllMet, Apart}
-use Rattle.un_post.specs.Places.{Place, block_places, definers_of}
+use Rattle.un_post.specs.Places.{Place, definers_of}
 use Rattle.un_post.specs.Rooms.{temp_at, results_in, apart_in, aparts_of}
 use Rattle.un_post.proofs.Blocks.{blocks, region_places, region_vars, map_twice, places_in, regions_met}
 use Rattle.un_post.proofs.BlockTemps.{region_spots, temp_of, results_are, spots_by_blocks, spot_block, temp_is, on_is, start_is, end_is}
 use Rattle.un_post.proofs.Facts.{Given}
 use Rattle.un_post.proofs.Meeting.{Met, all_each}
 use Rattle.un_post.proofs.Blocks.{rising}
-use Rattle.un_post.proofs.Tests.{iff_then, iff_back, and_iff}
+use Rattle.un_post.proofs.Tests.{and_iff}
 use Rattle.un_post.proofs.Whole.{ranges_are}
 
 -- ---- each two of a list
@@ -37,7 +36,8 @@ pub all_pairwise : {X : Type 0} (R : X → X → Type 0) (xs : List X) → Pairw
 all_pairwise R [] h = λ i j d lt within. absurd (omega arith)
 all_pairwise R (x ∷ xs) h = AllPairs-cons R x xs (all_each (R x) xs h.0) (all_pairwise R xs h.1)
 
-pairwise_join : {X : Type 0} (R : X → X → Type 0) (xs ys : List X) → Pairwise R xs → Pairwise R ys → ((x y : X) → Member x xs → Member y ys → R x y) → Pairwise R (xs ++ ys)
+pairwise_join : {X : Type 0} (R : X → X → Type 0) (xs ys : List X) → Pairwise R xs → Pairwise R ys
+    → ((x y : X) → Member x xs → Member y ys → R x y) → Pairwise R (xs ++ ys)
 pairwise_join R [] ys h k cross = k
 pairwise_join R (x ∷ xs) ys h k cross = (
   each_join (R x) xs ys h.0 (each_of (R x) ys (λ y m. cross x y (inl refl) m)),
@@ -80,10 +80,24 @@ apart_iff true false a b from last start end l m = (λ h. refl, λ h p q. absurd
 apart_iff true true a b from last start end l m = by (nat_eq a b) (nat_le (last + 1) start) (nat_le (end + 1) from) refl refl refl
   where
     by : (s u v : Bool) → nat_eq a b ≡ s → nat_le (last + 1) start ≡ u → nat_le (end + 1) from ≡ v
-        → (true ≡ true → true ≡ true → a ≡ b → (c : ℕ) → (from ≤ c) × (c ≤ last) → (start ≤ c) × (c ≤ end) → ⊥) ↔ ((not s || (u || v)) ≡ true)
-    by false u v e f g = (λ h. refl, λ h p q same. let no : a ≡ b → ⊥ = λ s. (let n : nat_eq a b ≡ true = grind (arith, nat_tests, s) in let z : true ≡ false = sym n ∙ e in cc z) in absurd (no same))
-    by true true v e f g = (λ h. refl, λ h p q same c i j. let le : last + 1 ≤ start = grind (arith, nat_tests, f) in let hi = i.1 in let lo = j.0 in absurd (omega arith))
-    by true false true e f g = (λ h. refl, λ h p q same c i j. let le : end + 1 ≤ from = grind (arith, nat_tests, g) in let hi = j.1 in let lo = i.0 in absurd (omega arith))
+        → (true ≡ true → true ≡ true → a ≡ b → (c : ℕ) → (from ≤ c) × (c ≤ last) → (start ≤ c) × (c ≤ end) → ⊥) ↔
+        ((not s || (u || v)) ≡ true)
+    by false u v e f g = (
+      λ h. refl,
+      λ h p q same. let no : a ≡ b
+          → ⊥ = λ s. (let n : nat_eq a b ≡ true = grind (arith, nat_tests, s) in let z : true ≡ false = sym n ∙ e in cc z) in
+          absurd (no same),
+    )
+    by true true v e f g = (
+      λ h. refl,
+      λ h p q same c i j. let le : last + 1 ≤ start = grind (arith, nat_tests, f) in let hi = i.1 in
+          let lo = j.0 in absurd (omega arith),
+    )
+    by true false true e f g = (
+      λ h. refl,
+      λ h p q same c i j. let le : end + 1 ≤ from = grind (arith, nat_tests, g) in let hi = j.1 in
+          let lo = i.0 in absurd (omega arith),
+    )
     by true false false e f g = (
       λ h. absurd (
           let same : a ≡ b = grind (arith, nat_tests, e) in
@@ -98,7 +112,8 @@ unfolding ShareNoCycle
 share_apart a b apart p q same = absurd (apart same)
 
 share_iff : (a b : LiveRange) → (let i = a.block in let j = b.block in i.0 ≡ j.0) → a.from ≤ a.last → b.from ≤ b.last
-    → ShareNoCycle a b ↔ ((not (a.active && (b.active && nat_eq a.reg b.reg)) || (nat_le (a.last + 1) b.from || nat_le (b.last + 1) a.from)) ≡ true)
+    → ShareNoCycle a b ↔ ((not (a.active && (b.active && nat_eq a.reg b.reg)) || (nat_le (a.last + 1) b.from || nat_le (b.last + 1) a.from))
+    ≡ true)
 unfolding ShareNoCycle
 share_iff a b same l m =
     let k = apart_iff a.active b.active a.reg b.reg a.from a.last b.from b.last l m in
@@ -150,9 +165,13 @@ module _ (e : Ext) (o : Options) (x : List ℕ) (given : Given e o x) where
       let same : (s : Spot) → Member s (region_spots r) → at s ≡ temp_of r s = λ s m. temp_is e o x given r s mr m in
       let posted : apart_in ds r.block r.number r.owner (region_vars r) ≡ Apart (map at (region_spots r)) ∷ [] =
       ap (λ (qs : List Place). Apart (map (temp_at ds qs) (results_in qs)) ∷ []) (places_in r) ∙ ap (λ ts. Apart ts ∷ []) made in (
-        λ h. subst (Met x) (sym posted) (pairs.0 (pairwise_map H at (region_spots r)
-            (pairwise_more Share (λ s u. H (at s) (at u)) (region_spots r)
-            (λ s u ms mu k. subst (λ t. H t (at u)) (sym (same s ms)) (subst (λ t. H (temp_of r s) t) (sym (same u mu)) ((two r s u mr ms mu).0 k))) h)), tt),
+        λ h. subst (Met x) (sym posted) (
+          pairs.0 (pairwise_map H at (region_spots r)
+              (pairwise_more Share (λ s u. H (at s) (at u)) (region_spots r)
+              (λ s u ms mu k. subst (λ t. H t (at u)) (sym (same s ms))
+              (subst (λ t. H (temp_of r s) t) (sym (same u mu)) ((two r s u mr ms mu).0 k))) h)),
+          tt,
+        ),
         λ h. pairwise_more (λ s u. H (at s) (at u)) Share (region_spots r)
             (λ s u ms mu k. (two r s u mr ms mu).1 (subst (λ t. H t (temp_of r u)) (same s ms) (subst (λ t. H (at s) t) (same u mu) k)))
             (pairwise_of_map H at (region_spots r) (pairs.1 (subst (Met x) posted h).0)),

@@ -1,6 +1,6 @@
 -- What is posted of registers, calls, packets and two operands is met by each solution, and where it is met the clauses on registers
 -- and packets hold.
-use Rattle.std.proofs.Common.{ℕ, ◌↔◌, List, ◌++◌}
+use Rattle.std.proofs.Common.{ℕ, List}
 use Rattle.un_ir.specs.declared.extended.Ext.{Ext}
 use Rattle.un_model.specs.declared.model.Options.{Options}
 use Rattle.un_model.specs.declared.model.Model.{Model}
@@ -22,14 +22,23 @@ module _ (e : Ext) (o : Options) (x : List ℕ) (given : Given e o x) where
   abbrev m : Model
   m = model_of e o
 
-  pub rooms_met : IsSchedule (latency_gap e.table) (model_of e o).domains (model_of e o) x (schedule_of (model_of e o) x) → AllMet (rooms_of m) x
+  pub rooms_met : IsSchedule (latency_gap e.table) (model_of e o).domains (model_of e o) x (schedule_of (model_of e o) x)
+      → AllMet (rooms_of m) x
   rooms_met h =
       let registers = h.registers in
-      all_met x _ ((met_append x (aparts_of m) _).1 (met_all x _ ((no_sharing e o x given).0 registers.0),
-      (met_append x (clobbers_of m) _).1 (met_all x _ (calls_met e o x given h),
-      (met_append x (packets_of m) (twos_of m)).1 (met_all x _ ((packets e o x given).0 h.packets), met_all x _ (two_operands e o x given h)))))
+      all_met x _ ((met_append x (aparts_of m) _).1 (
+        met_all x _ ((no_sharing e o x given).0 registers.0),
+        (met_append x (clobbers_of m) _).1 (
+          met_all x _ (calls_met e o x given h),
+          (met_append x (packets_of m) (twos_of m)).1 (
+            met_all x _ ((packets e o x given).0 h.packets),
+            met_all x _ (two_operands e o x given h),
+          ),
+        ),
+      ))
 
-  pub rooms_kept : AllMet (rooms_of m) x → (let t = e.table in KeepsRegisters t.clobbered (schedule_of (model_of e o) x)) × KeepsPackets e.table (schedule_of (model_of e o) x)
+  pub rooms_kept : AllMet (rooms_of m) x → (let t = e.table in KeepsRegisters t.clobbered (schedule_of (model_of e o) x))
+      × KeepsPackets e.table (schedule_of (model_of e o) x)
   rooms_kept h =
       let a = (met_append x (aparts_of m) _).0 (met_all x _ h) in
       let b = (met_append x (clobbers_of m) _).0 a.1 in

@@ -1,6 +1,8 @@
 -- The packets of all blocks have room exactly where the constraints of each block's packets are met.
-use Rattle.std.proofs.Common.{ℕ, zero, suc, ◌≡◌, ◌↔◌, ◌+◌, ◌-◌, ◌<◌, ◌≤◌, Bool, true, false, List, [], ◌∷◌, ◌++◌, length, map, filter, inl, inr, refl, sym, ap, ◌∙◌, subst, arith, All, eq-eqb}
-use Rattle.std.specs.Prelude.{Option, Some, None, not, ◌&&◌, ◌||◌, ◌==◌, nat_eq, nat_lt, slice_get, slice_index, sum_by, is_some, if◌then◌else◌}
+use Rattle.std.proofs.Common.{ℕ, zero, suc, ◌≡◌, ◌↔◌, ◌+◌, ◌-◌, ◌<◌, ◌≤◌, Bool, true, false, List, [], ◌∷◌, ◌++◌, length, map, inl}
+use Rattle.std.proofs.Common.{inr, refl, sym, ap, ◌∙◌, subst, arith, eq-eqb}
+use Rattle.std.specs.Prelude.{Option, Some, None, ◌&&◌, ◌||◌, ◌==◌, nat_eq, slice_get, slice_index, sum_by, is_some}
+use Rattle.std.specs.Prelude.{if◌then◌else◌}
 use Rattle.std.proofs.lemmas.Bool.Decides.{nat_tests}
 use Rattle.std.proofs.lemmas.List.Sums.{sum_by-cons, sum_by-append}
 use Rattle.un_isa.specs.declared.op.Op.{Op}
@@ -19,17 +21,19 @@ use Rattle.un_model.specs.declared.schedule.Resource.TheVariants.{Instructions, 
 use Rattle.un_model.specs.Instructions.{instruction_of, needs_by}
 use Rattle.un_model.specs.Pairs.{joined}
 use Rattle.un_model.specs.Schedules.{schedule_of, issues_of, value_by, is_delimiter}
-use Rattle.un_model.specs.Solutions.{KeepsPackets, HasRoom, Fits, InDomain, share_of, issues_at, taken, places_of}
+use Rattle.un_model.specs.Solutions.{KeepsPackets, HasRoom, Fits, share_of, issues_at, taken, places_of}
 use Rattle.un_model.specs.Variables.{model_of, has_cycle, var_if, cycle_place, cycle_domain, own_horizon}
-use Rattle.un_model.proofs.Lists.{Each, Pairwise, Member, each_of, each_member, member_map_of, member_of_filter, length_get}
+use Rattle.un_model.proofs.Lists.{Pairwise, Member, each_of, each_member, member_map_of, member_of_filter, length_get}
 use Rattle.un_model.proofs.OpDomains.{in_entry}
 use Rattle.un_model.proofs.Placed.{Placed, Region, region_placed, vars_of, issue_at, issues_are}
 use Rattle.un_model.proofs.PlacedSchedules.{all}
 use Rattle.un_prop.specs.Acts.{act_number, is_active}
 use Rattle.un_slots.specs.declared.item.Item.{Item}
 use Rattle.un_slots.specs.declared.item.Resource.{Resource as Slot}
-use Rattle.un_slots.specs.declared.item.Resource.TheVariants.{Instructions as OfInstructions, Memory as OfMemory, Stores as OfStores, MultiplyOrControl as OfMultiplyOrControl, Control as OfControl}
-use Rattle.un_slots.specs.Slots.{FitsCycles, per_cycle_holds, share_at, taken_by, taken as taken_in, places_of as slots_of, share_of as need_of}
+use Rattle.un_slots.specs.declared.item.Resource.TheVariants.{Instructions as OfInstructions, Memory as OfMemory, Stores as OfStores}
+use Rattle.un_slots.specs.declared.item.Resource.TheVariants.{MultiplyOrControl as OfMultiplyOrControl, Control as OfControl}
+use Rattle.un_slots.specs.Slots.{share_at, taken_by, taken as taken_in, places_of as slots_of}
+use Rattle.un_slots.specs.Slots.{share_of as need_of}
 use Rattle.un_slots.specs.SlotLaws.{holds_fits, fits_holds}
 use Rattle.un_post.specs.Constraints.{AllMet, PerCycle}
 use Rattle.un_post.specs.Places.{Place, act_of, by_number}
@@ -133,7 +137,8 @@ sum_map : {X Y : Type 0} (f : Y → ℕ) (g : X → Y) (xs : List X) → sum_by 
 sum_map f g [] = refl
 sum_map f g (x ∷ xs) = sum_by-cons f (g x) (map g xs) ∙ ap (λ n. f (g x) + n) (sum_map f g xs) ∙ sym (sum_by-cons (λ x. f (g x)) x xs)
 
-pub sum_part : {X Y : Type 0} (f : Y → ℕ) (g : X → List Y) (xs : List X) (x : X) → Member x xs → sum_by f (g x) ≤ sum_by f (joined (map g xs))
+pub sum_part : {X Y : Type 0} (f : Y → ℕ) (g : X → List Y) (xs : List X) (x : X) → Member x xs
+    → sum_by f (g x) ≤ sum_by f (joined (map g xs))
 sum_part f g [] x m = elim m [ ]
 sum_part f g (y ∷ ys) x (inl e) =
     let a = sum_by-append f (g y) (joined (map g ys)) in
@@ -149,25 +154,30 @@ sum_one : (f : Placed → ℕ) (b n : ℕ) (rs : List Region) → Pairwise (λ (
 sum_one f b n [] rise none one = omega arith
 sum_one f b n (r ∷ rs) rise none one = by (r.block == b) refl (sum_one f b n rs rise.1 (λ s m. none s (inr m)) (λ s m. one s (inr m)))
   where
-    split : sum_by f (region_placed r ++ joined (map region_placed rs)) ≡ sum_by f (region_placed r) + sum_by f (joined (map region_placed rs))
+    split : sum_by f (region_placed r ++ joined (map region_placed rs)) ≡ sum_by f (region_placed r) + sum_by f
+        (joined (map region_placed rs))
     split = sum_by-append f (region_placed r) (joined (map region_placed rs))
 
-    rest_none : (ss : List Region) → ((s : Region) → Member s ss → sum_by f (region_placed s) ≡ 0) → sum_by f (joined (map region_placed ss)) ≡ 0
+    rest_none : (ss : List Region) → ((s : Region) → Member s ss → sum_by f (region_placed s) ≡ 0)
+        → sum_by f (joined (map region_placed ss)) ≡ 0
     rest_none [] h = refl
     rest_none (s ∷ ss) h =
         let a = sum_by-append f (region_placed s) (joined (map region_placed ss)) in
         let here = h s (inl refl) in
         let more = rest_none ss (λ t m. h t (inr m)) in omega arith
 
-    by : (t : Bool) → (r.block == b) ≡ t → sum_by f (joined (map region_placed rs)) ≤ n → sum_by f (region_placed r ++ joined (map region_placed rs)) ≤ n
+    by : (t : Bool) → (r.block == b) ≡ t → sum_by f (joined (map region_placed rs)) ≤ n
+        → sum_by f (region_placed r ++ joined (map region_placed rs)) ≤ n
     by true e later =
         let same : r.block ≡ b = grind (arith, nat_tests, e) in
-        let rest = rest_none rs (λ s m. none s (inr m) (λ equal. let lt = each_member (λ (s : Region). r.block < s.block) rs s rise.0 m in absurd (omega arith))) in
+        let rest = rest_none rs (λ s m. none s (inr m) (λ equal. let lt = each_member (λ (s : Region). r.block < s.block) rs s rise.0 m in
+        absurd (omega arith))) in
         let here = one r (inl refl) same in
         let whole = split in
         omega arith
     by false e later =
-        let zero_here = none r (inl refl) (λ same. (let t : (r.block == b) ≡ true = eq-eqb r.block b same in let z : true ≡ false = sym t ∙ e in cc z)) in
+        let zero_here = none r (inl refl) (λ same. (let t : (r.block == b) ≡ true = eq-eqb r.block b same in let z : true ≡ false = sym t
+        ∙ e in cc z)) in
         let whole = split in
         omega arith
 
@@ -193,11 +203,13 @@ module _ (e : Ext) (o : Options) (x : List ℕ) (given : Given e o x) where
       let act : i.active ≡ is_some i.instr = ap (λ d. d || is_some i.instr) known.2 in
       ap (λ a. if a && nat_eq at c then u else 0) (acts e o x given q m known.1 ∙ act)
       ∙ ap (λ n. if is_some i.instr && nat_eq n c then u else 0) (cycle_is q x known.0)
-      ∙ ap (λ n. if is_some i.instr && nat_eq i.cycle c then n else 0) (share_get (slot_of resource) _ (act_number on x) _ (numbers e o x given (needs_by e.table) q m))
+      ∙ ap (λ n. if is_some i.instr && nat_eq i.cycle c then n else 0)
+      (share_get (slot_of resource) _ (act_number on x) _ (numbers e o x given (needs_by e.table) q m))
       ∙ by i.instr (nat_eq i.cycle c)
       ∙ ap (λ a. if a && nat_eq i.cycle c then share_of e.table resource i.instr else 0) (sym here)
     where
-      by : (instr : Option Op) (b : Bool) → (if is_some instr && b then need_of (slot_of resource) (needs_by e.table instr) else 0) ≡ (if true && b then share_of e.table resource instr else 0)
+      by : (instr : Option Op) (b : Bool) → (if is_some instr && b then need_of (slot_of resource) (needs_by e.table instr) else 0) ≡
+          (if true && b then share_of e.table resource instr else 0)
       by None true = sym (none_taken e.table resource)
       by None false = refl
       by (Some op) true = some_taken e.table resource op
@@ -224,10 +236,12 @@ module _ (e : Ext) (o : Options) (x : List ℕ) (given : Given e o x) where
       rest = map (item_of e.table) (with_kind issues_kind (map place_of qs))
 
       by : taken_in (slot_of resource) rest x c ≡ sum_by (share resource b c) qs → (t : Bool) → issues_kind q.op.kind ≡ t
-          → taken_in (slot_of resource) (map (item_of e.table) (with_kind issues_kind (map place_of (q ∷ qs)))) x c ≡ sum_by (share resource b c) (q ∷ qs)
+          → taken_in (slot_of resource) (map (item_of e.table) (with_kind issues_kind (map place_of (q ∷ qs)))) x c ≡ sum_by
+          (share resource b c) (q ∷ qs)
       by more true k =
           let here = h q (inl refl) in
-          ap (λ (t : Bool). taken_in (slot_of resource) (map (item_of e.table) (if t then place_of q ∷ with_kind issues_kind (map place_of qs) else with_kind issues_kind (map place_of qs))) x c) k
+          ap (λ (t : Bool). taken_in (slot_of resource) (map (item_of e.table)
+          (if t then place_of q ∷ with_kind issues_kind (map place_of qs) else with_kind issues_kind (map place_of qs))) x c) k
           ∙ sum_by-cons (taken_by (slot_of resource) c x) (item_of e.table (place_of q)) rest
           ∙ ap (λ n. n + taken_in (slot_of resource) rest x c) (one_taken resource b c q here.0 here.1 k)
           ∙ ap (λ n. share resource b c q + n) more ∙ sym (sum_by-cons (share resource b c) q qs)
@@ -235,7 +249,8 @@ module _ (e : Ext) (o : Options) (x : List ℕ) (given : Given e o x) where
           let zero_here = not_taken resource b c q k in
           let cons = sum_by-cons (share resource b c) q qs in
           let next : sum_by (share resource b c) qs ≡ sum_by (share resource b c) (q ∷ qs) = omega arith in
-          ap (λ (t : Bool). taken_in (slot_of resource) (map (item_of e.table) (if t then place_of q ∷ with_kind issues_kind (map place_of qs) else with_kind issues_kind (map place_of qs))) x c) k
+          ap (λ (t : Bool). taken_in (slot_of resource) (map (item_of e.table)
+          (if t then place_of q ∷ with_kind issues_kind (map place_of qs) else with_kind issues_kind (map place_of qs))) x c) k
           ∙ more ∙ next
 
   abbrev items : Region → List Item
@@ -246,7 +261,8 @@ module _ (e : Ext) (o : Options) (x : List ℕ) (given : Given e o x) where
   region_taken resource r c m = all_taken resource r.block c (region_placed r) (λ q n. (in_all e o x r q m n, of_region r q n))
 
   -- what all operations take in a cycle of a block
-  pub whole_taken : (resource : Resource) (b c : ℕ) → taken e.table resource (issues_of (model_of e o) x) b c ≡ sum_by (share resource b c) (joined (map region_placed (blocks e o x)))
+  pub whole_taken : (resource : Resource) (b c : ℕ) → taken e.table resource (issues_of (model_of e o) x) b c ≡ sum_by (share resource b c)
+      (joined (map region_placed (blocks e o x)))
   whole_taken resource b c =
       ap (λ is. taken e.table resource is b c) (issues_are x 0 0 0 e.blocks) ∙ sum_map _ (issue_at x) (all e o x)
       ∙ ap (sum_by (share resource b c)) (placed_regions 0 0 0 e.blocks)
@@ -265,14 +281,17 @@ module _ (e : Ext) (o : Options) (x : List ℕ) (given : Given e o x) where
           by true e = absurd (h (grind (arith, nat_tests, e)))
 
   -- an operation issues before the horizon of its block
-  early : (q : Placed) → Member q (all e o x) → has_cycle q.op.kind ≡ true → (let owner = q.owner in slice_index x (cycle_var (place_of q)).0 < owner.horizon)
+  early : (q : Placed) → Member q (all e o x) → has_cycle q.op.kind ≡ true
+      → (let owner = q.owner in slice_index x (cycle_var (place_of q)).0 < owner.horizon)
   early q m timed = by q.op.kind refl timed
     where
-      below : (kind : ExtKind) (lo : ℕ) → q.op.kind ≡ kind → cycle_domain (own_horizon q.owner) kind ≡ Some (Range lo (own_horizon q.owner - 1)) → has_cycle kind ≡ true
+      below : (kind : ExtKind) (lo : ℕ) → q.op.kind ≡ kind → cycle_domain (own_horizon q.owner) kind ≡ Some
+          (Range lo (own_horizon q.owner - 1)) → has_cycle kind ≡ true
           → (let owner = q.owner in slice_index x (cycle_var (place_of q)).0 < owner.horizon)
       below kind lo k d h =
           let owner = q.owner in
-          let sits = cycle_sits e o x (in_entry e o x q) q (Range lo (own_horizon q.owner - 1)) (in_domains e o x given q m) (ap (cycle_domain (own_horizon q.owner)) k ∙ d) in
+          let sits = cycle_sits e o x (in_entry e o x q) q (Range lo (own_horizon q.owner - 1)) (in_domains e o x given q m)
+          (ap (cycle_domain (own_horizon q.owner)) k ∙ d) in
           let hi = sits.1 in
           let g = good_op e o x given q m in
           let b = g.block in
@@ -281,7 +300,8 @@ module _ (e : Ext) (o : Options) (x : List ℕ) (given : Given e o x) where
           ap (λ (t : Bool). slice_index x (var_or (var_if t (q.first + cycle_place q.op))).0) timed in
           omega arith
 
-      by : (kind : ExtKind) → q.op.kind ≡ kind → has_cycle kind ≡ true → (let owner = q.owner in slice_index x (cycle_var (place_of q)).0 < owner.horizon)
+      by : (kind : ExtKind) → q.op.kind ≡ kind → has_cycle kind ≡ true
+          → (let owner = q.owner in slice_index x (cycle_var (place_of q)).0 < owner.horizon)
       by In k h = absurd (cc h)
       by Out k h = absurd (cc h)
       by (Body so) k h = below (Body so) 1 k refl h
@@ -291,7 +311,8 @@ module _ (e : Ext) (o : Options) (x : List ℕ) (given : Given e o x) where
       by Leave k h = below Leave 0 k refl h
 
   -- an item of a block is an operation of it
-  item_place : (r : Region) (i : Item) → Member i (items r) → (q : Placed) × (Member q (region_placed r)) × (issues_kind q.op.kind ≡ true) × (item_of e.table (place_of q) ≡ i)
+  item_place : (r : Region) (i : Item) → Member i (items r) → (q : Placed) × (Member q (region_placed r)) × (issues_kind q.op.kind ≡ true)
+      × (item_of e.table (place_of q) ≡ i)
   item_place r i m =
       let a = member_map_of (item_of e.table) (with_kind issues_kind (region_places r)) i m in
       let f = member_of_filter (λ (p : Place). issues_kind p.it.kind) (region_places r) a.0 a.1 in
@@ -305,7 +326,8 @@ module _ (e : Ext) (o : Options) (x : List ℕ) (given : Given e o x) where
       let owner = r.owner in
       let posted : packets_in e.table r.block r.number r.owner (region_vars r) ≡ PerCycle (items r) owner.horizon ∷ [] =
       ap (λ (ps : List Place). PerCycle (map (item_of e.table) (with_kind issues_kind ps)) owner.horizon ∷ []) (places_in r) in (
-        λ h. subst (Met x) (sym posted) (fits_holds (items r) owner.horizon x (record {
+        λ h. subst (Met x) (sym posted) (
+          fits_holds (items r) owner.horizon x (record {
             room = λ s c.
                 let resource = resource_of s in
                 let same = region_taken resource r c mr in
@@ -326,7 +348,9 @@ module _ (e : Ext) (o : Options) (x : List ℕ) (given : Given e o x) where
                 let at = numbers e o x given (needs_by e.table) q.0 mq in
                 subst (λ (i : Item). is_active i.on x ≡ true → act_number i.on x < length i.uses) q.3
                 (λ on. length_get (by_number (needs_by e.table) q.0.op.kind) (act_number (act_of (place_of q.0)) x) _ at)));
-          }), tt),
+          }),
+          tt,
+        ),
         λ h resource c.
             let f = holds_fits (items r) owner.horizon x (subst (Met x) posted h).0 in
             let le = f.room (slot_of resource) c in
@@ -346,7 +370,9 @@ module _ (e : Ext) (o : Options) (x : List ℕ) (given : Given e o x) where
         λ h b c. (no_room e.table (issues_of (model_of e o) x) b c).0 (λ resource.
             let each = met.0 h in
             let whole = whole_taken resource b c in
-            let le = sum_one (share resource b c) b (places_of resource) (blocks e o x) (rising 0 0 0 e.blocks) (λ r m other. elsewhere resource b c r other)
-            (λ r m same. subst (λ n. sum_by (share resource n c) (region_placed r) ≤ places_of resource) same ((of_block r m).1 (each_member _ (blocks e o x) r each m) resource c)) in
+            let le = sum_one (share resource b c) b (places_of resource) (blocks e o x) (rising 0 0 0 e.blocks)
+            (λ r m other. elsewhere resource b c r other)
+            (λ r m same. subst (λ n. sum_by (share resource n c) (region_placed r) ≤ places_of resource) same
+            ((of_block r m).1 (each_member _ (blocks e o x) r each m) resource c)) in
             omega arith),
       )

@@ -1,10 +1,10 @@
 -- Calls find the clobbered registers free exactly where the constraints of calls are met, whose words on what is before and behind a
 -- call hold where the cycles keep the arcs.
-use Rattle.std.proofs.Common.{ℕ, zero, suc, ◌≡◌, ◌↔◌, ◌+◌, ◌<◌, ◌≤◌, max, Bool, true, false, List, [], ◌∷◌, ◌++◌, map, filter, refl, sym, ap, ◌∙◌, subst, arith, All, eq-eqb}
-use Rattle.std.specs.Prelude.{Option, Some, None, not, ◌&&◌, ◌||◌, ◌==◌, nat_eq, nat_le, nat_lt, slice_get, slice_index, if◌then◌else◌}
-use Rattle.std.specs.List.{list_all, list_any}
+use Rattle.std.proofs.Common.{ℕ, ◌≡◌, ◌↔◌, ◌+◌, ◌<◌, ◌≤◌, Bool, true, false, List, [], ◌∷◌, map, filter, refl, sym}
+use Rattle.std.proofs.Common.{ap, ◌∙◌, subst, arith, All, eq-eqb}
+use Rattle.std.specs.Prelude.{Option, Some, None, not, ◌&&◌, ◌||◌, ◌==◌, nat_le, nat_lt, slice_get, slice_index, if◌then◌else◌}
+use Rattle.std.specs.List.{list_any}
 use Rattle.std.proofs.lemmas.Bool.Decides.{nat_tests}
-use Rattle.un_base.specs.declared.ids.TempId.{TempId}
 use Rattle.un_base.specs.declared.ids.VarId.{VarId}
 use Rattle.un_isa.specs.Tables.{in_mask}
 use Rattle.un_isa.specs.declared.op.Op.{Op}
@@ -17,13 +17,14 @@ use Rattle.un_model.specs.declared.model.Arc.{Arc}
 use Rattle.un_model.specs.declared.model.Options.{Options}
 use Rattle.un_model.specs.declared.schedule.Issue.{Issue}
 use Rattle.un_model.specs.declared.schedule.LiveRange.{LiveRange}
-use Rattle.un_model.specs.Instructions.{instruction_of, copy_of, frame_instr}
+use Rattle.un_model.specs.Instructions.{instruction_of}
 use Rattle.un_model.specs.Schedules.{issues_of, value_by, cycle_by}
 use Rattle.un_model.specs.Solutions.{SparesRange, IsSpared}
 use Rattle.un_model.specs.Variables.{model_of, has_cycle, var_if}
-use Rattle.un_model.proofs.Lists.{Each, Member, each_of, each_member, each_map, each_of_map, member_map, member_map_of, member_filter, member_of_filter, any_of}
+use Rattle.un_model.proofs.Lists.{Each, Member, each_of, each_member, each_map, each_of_map, member_map, member_map_of, member_filter}
+use Rattle.un_model.proofs.Lists.{member_of_filter, any_of}
 use Rattle.un_model.proofs.Placed.{Placed, Region, region_placed, vars_of, issue_at, Spot}
-use Rattle.un_model.proofs.PlacedSchedules.{all, spots, spot_range, the_ranges}
+use Rattle.un_model.proofs.PlacedSchedules.{all, spot_range, the_ranges}
 use Rattle.un_prop.specs.declared.act.Temp.{Temp}
 use Rattle.un_prop.specs.declared.act.UserOf.{UserOf}
 use Rattle.un_prop.specs.Acts.{is_active, is_user, at_value}
@@ -33,16 +34,18 @@ use Rattle.un_rect.specs.declared.clobber.ClobberCall.{ClobberCall}
 use Rattle.un_post.specs.Constraints.{Constraint, meets, AllMet, Clobber}
 use Rattle.un_post.specs.Places.{Place, Definer, definers_of, definer_or}
 use Rattle.un_post.specs.Postings.{is_call_kind, is_call_op, cycle_var, var_or}
-use Rattle.un_post.specs.Rooms.{temp_by, results_in, users_of, is_before, is_behind, call_at, calls_but, arcs_or, spared_by, spared_at, spared_in, clobbers_of}
+use Rattle.un_post.specs.Rooms.{results_in, users_of, is_before, is_behind, call_at, calls_but, arcs_or, spared_by, spared_at}
+use Rattle.un_post.specs.Rooms.{spared_in, clobbers_of}
 use Rattle.un_post.proofs.Blocks.{blocks, region_places, region_vars, map_twice, places_in, regions_met, in_all, stands_in}
-use Rattle.un_post.proofs.BlockTemps.{region_spots, definer_in, temp_of, results_are, spots_in_blocks, spot_all, spot_block, on_is, start_is, end_is}
+use Rattle.un_post.proofs.BlockTemps.{region_spots, definer_in, temp_of, results_are, spots_in_blocks, spot_all, spot_block, on_is}
+use Rattle.un_post.proofs.BlockTemps.{start_is, end_is}
 use Rattle.un_post.proofs.Facts.{Given, numbered, times, definer_is}
 use Rattle.un_post.proofs.Meeting.{Met}
 use Rattle.un_post.proofs.NoSharing.{all_pass}
-use Rattle.un_post.proofs.Placing.{place_of, definer_at, definer_here}
+use Rattle.un_post.proofs.Placing.{place_of, definer_here}
 use Rattle.un_post.proofs.Regions.{of_region}
-use Rattle.un_post.proofs.Tests.{iff_then, iff_back, and_iff}
-use Rattle.un_post.proofs.Users.{UserPlace, user_in, users_in, user_reads}
+use Rattle.un_post.proofs.Tests.{and_iff}
+use Rattle.un_post.proofs.Users.{user_at, user_also, users_in, user_reads}
 use Rattle.un_post.proofs.Whole.{issues_each, ranges_each}
 
 -- ---- calls
@@ -101,7 +104,8 @@ call_timed Leave h = absurd (cc h)
 
 -- the variable of a cycle has the cycle
 cycle_by_kind : (kind : ExtKind) (v end : ℕ) (x : List ℕ) (instr : Option VarId) (choices : List VarId) → has_cycle kind ≡ true
-    → slice_index x (var_or (var_if (has_cycle kind) v)).0 ≡ cycle_by x end kind (record { instr = instr; cycle = var_if (has_cycle kind) v; choices = choices })
+    → slice_index x (var_or (var_if (has_cycle kind) v)).0 ≡ cycle_by x end kind
+    (record { instr = instr; cycle = var_if (has_cycle kind) v; choices = choices })
 cycle_by_kind In v end x instr choices h = absurd (cc h)
 cycle_by_kind Out v end x instr choices h = absurd (cc h)
 cycle_by_kind (Body so) v end x instr choices h = refl
@@ -149,13 +153,15 @@ to_plain mask t c x h = go (not (is_active t.on x && in_mask mask (slice_index x
 
 -- and of which it is known which users are behind it
 from_plain : (mask : ℕ) (t : Temp) (c : ClobberCall) (x : List ℕ) → spares mask t (plain c.at) x ≡ true
-    → (is_active t.on x ≡ true → in_mask mask (slice_index x t.reg.0) ≡ true → c.before ≡ true → list_any (λ (u : UserOf). is_user u x) c.behind ≡ true → ⊥)
+    → (is_active t.on x ≡ true → in_mask mask (slice_index x t.reg.0) ≡ true → c.before ≡ true
+    → list_any (λ (u : UserOf). is_user u x) c.behind ≡ true → ⊥)
     → spares mask t c x ≡ true
 from_plain mask t c x h none = go (is_active t.on x) (in_mask mask (slice_index x t.reg.0))
     (nat_lt (slice_index x c.at.0) (starts t x) || nat_le (ends t x) (slice_index x c.at.0))
     c.before (list_any (λ (u : UserOf). is_user u x) c.behind) h none
   where
-    go : (p q b f g : Bool) → (not (p && q) || (b && true)) ≡ true → (p ≡ true → q ≡ true → f ≡ true → g ≡ true → ⊥) → (not (p && q) || (b && not (f && g))) ≡ true
+    go : (p q b f g : Bool) → (not (p && q) || (b && true)) ≡ true → (p ≡ true → q ≡ true → f ≡ true → g ≡ true → ⊥)
+        → (not (p && q) || (b && not (f && g))) ≡ true
     go false q b f g h n = refl
     go true false b f g h n = refl
     go true true false f g h n = absurd (cc h)
@@ -175,26 +181,33 @@ module _ (clobbered : ℕ) (i : Issue) (h : LiveRange) where
       → h.active ≡ true → in_mask clobbered h.reg ≡ true → (h.from ≤ i.cycle) × (i.cycle ≤ h.last) → ⊥) → SparesRange clobbered i h
   unfolding SparesRange
   spares_range f call act block mask occupies = let a = i.op in let b = h.op in
-      differs a.0 b.0 (λ t. f call block (λ same. let z : (a.0 == b.0) ≡ true = eq-eqb a.0 b.0 same in let w : not (a.0 == b.0) ≡ false = ap not z in let y : true ≡ false = sym t ∙ w in cc y) act mask occupies)
+      differs a.0 b.0 (λ t. f call block (λ same. let z : (a.0 == b.0) ≡ true = eq-eqb a.0 b.0 same in let w : not (a.0 == b.0) ≡ false =
+      ap not z in let y : true ≡ false = sym t ∙ w in cc y) act mask occupies)
 
-  range_spared : SparesRange clobbered i h → i.instr ≡ Some Call → (let a = i.block in let b = h.block in a.0 ≡ b.0) → (let a = i.op in let b = h.op in a.0 ≡ b.0 → ⊥)
+  range_spared : SparesRange clobbered i h → i.instr ≡ Some Call → (let a = i.block in let b = h.block in a.0 ≡ b.0)
+      → (let a = i.op in let b = h.op in a.0 ≡ b.0 → ⊥)
       → h.active ≡ true → in_mask clobbered h.reg ≡ true → (h.from ≤ i.cycle) × (i.cycle ≤ h.last) → ⊥
   unfolding SparesRange
   range_spared s call block other act mask occupies = other (s call act block mask occupies)
 
-is_spared : (clobbered : ℕ) (issues : List Issue) (h : LiveRange) → All (λ (i : Issue). SparesRange clobbered i h) issues ↔ IsSpared clobbered issues h
+is_spared : (clobbered : ℕ) (issues : List Issue) (h : LiveRange)
+    → All (λ (i : Issue). SparesRange clobbered i h) issues ↔ IsSpared clobbered issues h
 unfolding IsSpared
 is_spared clobbered issues h = (λ k. k, λ k. k)
 
 user_time : (u : UserOf) (x : List ℕ) → is_user u x ≡ true → use_time x u ≡ at_value u.at x
 user_time u x h = ap (λ (b : Bool). if b then at_value u.at x else 0) h
 
+user_cycle : (u v : UserOf) (x : List ℕ) → u ≡ v → at_value u.at x ≡ at_value v.at x
+user_cycle u v x h = ap (λ (u : UserOf). at_value u.at x) h
+
 -- operations that are kept, by their places
 filter_map : {X Y : Type 0} (t : Y → Bool) (f : X → Y) (xs : List X) → filter t (map f xs) ≡ map f (filter (λ x. t (f x)) xs)
 filter_map t f [] = refl
 filter_map t f (x ∷ xs) = by (t (f x)) refl (filter_map t f xs)
   where
-    by : (b : Bool) → t (f x) ≡ b → filter t (map f xs) ≡ map f (filter (λ x. t (f x)) xs) → filter t (f x ∷ map f xs) ≡ map f (filter (λ x. t (f x)) (x ∷ xs))
+    by : (b : Bool) → t (f x) ≡ b → filter t (map f xs) ≡ map f (filter (λ x. t (f x)) xs)
+        → filter t (f x ∷ map f xs) ≡ map f (filter (λ x. t (f x)) (x ∷ xs))
     by true e h = ap (λ (b : Bool). if b then f x ∷ filter t (map f xs) else filter t (map f xs)) e ∙ ap (λ ys. f x ∷ ys) h
         ∙ sym (ap (λ (b : Bool). map f (if b then x ∷ filter (λ x. t (f x)) xs else filter (λ x. t (f x)) xs)) e)
     by false e h = ap (λ (b : Bool). if b then f x ∷ filter t (map f xs) else filter t (map f xs)) e ∙ h
@@ -250,19 +263,19 @@ module _ (e : Ext) (o : Options) (x : List ℕ) (given : Given e o x) (clobbered
         let p = users_in here s.temp u.0 mu in
         let f = member_of_filter (λ (p : Placed). is_behind arcs (place_of q) (place_of p)) (region_placed r) p.user p.member in
         let after = ordered.behind q p.user mq f.0 kind f.1 in
-        let full : Member u.0 (users_of (region_places r) s.temp) =
-        subst (λ u. Member u (users_of (region_places r) s.temp)) p.is
-        (user_in (region_placed r) s.temp p.user p.at p.place p.operand p.alternative f.0 p.stands p.reads p.same) in
+        let full = user_also here (region_placed r) s.temp u.0 p f.0 in
         let le = user_reads e o x given r s mr (spot_all e o x r s mr ms) (spot_block e o x r s ms) u.0 full in
         let at = u.0.at in
         let time : use_time x u.0 ≡ at_value at x = user_time u.0 x u.2 in
-        let cycle : at_value at x ≡ (issue_at x p.user).cycle = ap (λ (u : UserOf). at_value u.at x) (sym p.is) ∙ times e o x given p.user in
+        let cycle = user_cycle (user_at p.user p.at p.place) u.0 x p.is in
+        let own = times e o x given p.user in
         let from = ordered.before d q (definer_in (region_placed r) s ms) mq kind before in
         apart (from, omega arith)
 
     spared_here : Ordered r arcs → Spares s → clobber_holds clobbered (temp_of r s) (map call calls) x ≡ true
     spared_here ordered h =
-        let each = (issues_each e o x given (λ (i : Issue). SparesRange clobbered i (spot_range e o x s))).0 ((is_spared clobbered (issues_of (model_of e o) x) (spot_range e o x s)).1 h) in
+        let each = (issues_each e o x given (λ (i : Issue). SparesRange clobbered i (spot_range e o x s))).0
+        ((is_spared clobbered (issues_of (model_of e o) x) (spot_range e o x s)).1 h) in
         (all_pass (λ c. spares clobbered (temp_of r s) c x) (map call calls)).0 (each_of _ (map call calls) (λ c mc.
         let d = s.definer in
         let t = temp_of r s in
@@ -274,9 +287,11 @@ module _ (e : Ext) (o : Options) (x : List ℕ) (given : Given e o x) (clobbered
         let two = (and_iff (is_call_kind q.0.op.kind) (not (q.0.number == d.number))).1 pass in
         let v = vars_of q.0 in
         let block : q.0.block ≡ d.block = of_region r q.0 q.1 ∙ sym (spot_block e o x r s ms) in
-        let other : q.0.number ≡ d.number → ⊥ = λ same. (let z : not (q.0.number == d.number) ≡ false = ap not (eq-eqb q.0.number d.number same) in let y : true ≡ false = sym two.1 ∙ z in cc y) in
+        let other : q.0.number ≡ d.number → ⊥ = λ same. (let z : not (q.0.number == d.number) ≡ false =
+        ap not (eq-eqb q.0.number d.number same) in let y : true ≡ false = sym two.1 ∙ z in cc y) in
         let k = each_member _ (all e o x) q.0 each (in_all e o x r q.0 mr q.1) in
-        let apart = range_spared clobbered (issue_at x q.0) (spot_range e o x s) k (call_instr q.0.op.kind (value_by x v.instr) two.0) block other in
+        let apart = range_spared clobbered (issue_at x q.0) (spot_range e o x s) k (call_instr q.0.op.kind (value_by x v.instr) two.0) block
+        other in
         let holds = (one q.0 two.0).0 apart in
         let here = from_plain clobbered t (call (place_of q.0)) x holds (λ on mask before some.
         no_user ordered q.0 q.1 two.0 (apart (sym (on_is e o x given r s mr ms) ∙ on) mask) before some) in
@@ -285,7 +300,8 @@ module _ (e : Ext) (o : Options) (x : List ℕ) (given : Given e o x) (clobbered
     here_spared : clobber_holds clobbered (temp_of r s) (map call calls) x ≡ true → Spares s
     here_spared h =
         let each = (all_pass (λ c. spares clobbered (temp_of r s) c x) (map call calls)).1 h in
-        (is_spared clobbered (issues_of (model_of e o) x) (spot_range e o x s)).0 ((issues_each e o x given (λ (i : Issue). SparesRange clobbered i (spot_range e o x s))).1
+        (is_spared clobbered (issues_of (model_of e o) x) (spot_range e o x s)).0
+        ((issues_each e o x given (λ (i : Issue). SparesRange clobbered i (spot_range e o x s))).1
         (each_of _ (all e o x) (λ q mq. spares_range clobbered (issue_at x q) (spot_range e o x s) (λ call_is block other.
         let d = s.definer in
         let v = vars_of q in
@@ -294,8 +310,10 @@ module _ (e : Ext) (o : Options) (x : List ℕ) (given : Given e o x) (clobbered
         let off : (q.number == d.number) ≡ false = unequal q.number d.number other in
         let pass = (and_iff (is_call_kind q.op.kind) (not (q.number == d.number))).0 (kind, ap not off) in
         let mc : Member (call (place_of q)) (map call calls) = member_map call calls (place_of q)
-        (member_filter (λ (p : Place). is_call_kind p.it.kind && not (p.op == d.number)) (region_places r) (place_of q) (member_map place_of (region_placed r) q here) pass) in
-        (one q kind).1 (to_plain clobbered (temp_of r s) (call (place_of q)) x (each_member _ (map call calls) (call (place_of q)) each mc))))))
+        (member_filter (λ (p : Place). is_call_kind p.it.kind && not (p.op == d.number)) (region_places r) (place_of q)
+        (member_map place_of (region_placed r) q here) pass) in
+        (one q kind).1 (to_plain clobbered (temp_of r s) (call (place_of q)) x
+        (each_member _ (map call calls) (call (place_of q)) each mc))))))
       where
         unequal : (a b : ℕ) → (a ≡ b → ⊥) → (a == b) ≡ false
         unequal a b h = by (a == b) refl
@@ -305,7 +323,8 @@ module _ (e : Ext) (o : Options) (x : List ℕ) (given : Given e o x) (clobbered
             by true e = absurd (h (grind (arith, nat_tests, e)))
 
     -- what is posted of it
-    posted_is : spared_at clobbered arcs (definers_of (model_of e o)) (region_places r) s.temp ≡ Clobber clobbered (temp_of r s) (map call calls)
+    posted_is : spared_at clobbered arcs (definers_of (model_of e o)) (region_places r) s.temp ≡ Clobber clobbered (temp_of r s)
+        (map call calls)
     posted_is =
         let m = spot_all e o x r s mr ms in
         ap (λ (d : Option Definer). spared_by clobbered arcs (region_places r) s.temp (definer_or d))
@@ -325,17 +344,20 @@ module _ (e : Ext) (o : Options) (x : List ℕ) (given : Given e o x) (clobbered
         ∙ ap (map (spared_at clobbered own ds (region_places r))) (results_are (region_placed r))
         ∙ map_twice (spared_at clobbered own ds (region_places r)) (λ (s : Spot). s.temp) (region_spots r)
 
-    block_met : Ordered r own → Each Spares (region_spots r) → Met x (spared_in clobbered arcs (definers_of (model_of e o)) r.block r.number r.owner (region_vars r))
+    block_met : Ordered r own → Each Spares (region_spots r) → Met x
+        (spared_in clobbered arcs (definers_of (model_of e o)) r.block r.number r.owner (region_vars r))
     block_met ordered h =
         let P = λ (c : Constraint). meets c x ≡ true in
         subst (Met x) (sym posted) (each_map P posted_at (region_spots r) (each_of _ (region_spots r) (λ s m.
         subst P (sym (posted_is r s mr m own)) (spared_here r s mr m own ordered (each_member Spares (region_spots r) s h m)))))
 
-    met_block : Met x (spared_in clobbered arcs (definers_of (model_of e o)) r.block r.number r.owner (region_vars r)) → Each Spares (region_spots r)
+    met_block : Met x (spared_in clobbered arcs (definers_of (model_of e o)) r.block r.number r.owner (region_vars r))
+        → Each Spares (region_spots r)
     met_block h =
         let P = λ (c : Constraint). meets c x ≡ true in
         let each = each_of_map P posted_at (region_spots r) (subst (Met x) posted h) in
-        each_of Spares (region_spots r) (λ s m. here_spared r s mr m own (subst P (posted_is r s mr m own) (each_member _ (region_spots r) s each m)))
+        each_of Spares (region_spots r) (λ s m. here_spared r s mr m own
+        (subst P (posted_is r s mr m own) (each_member _ (region_spots r) s each m)))
 
 module _ (e : Ext) (o : Options) (x : List ℕ) (given : Given e o x) where
   abbrev pub mask : ℕ
@@ -350,7 +372,8 @@ module _ (e : Ext) (o : Options) (x : List ℕ) (given : Given e o x) where
       let ranges = ranges_each e o x given (IsSpared mask (issues_of (model_of e o) x)) in
       let split = spots_in_blocks e o x (λ s. IsSpared mask (issues_of (model_of e o) x) (spot_range e o x s)) in
       let b = (regions_met e o x (spared_in mask (model_of e o).arcs (definers_of (model_of e o)))).0 h in
-      ranges.1 (split.1 (each_of _ (blocks e o x) (λ r m. met_block e o x given mask (model_of e o).arcs r m (each_member _ (blocks e o x) r b m))))
+      ranges.1 (split.1 (each_of _ (blocks e o x) (λ r m. met_block e o x given mask (model_of e o).arcs r m
+      (each_member _ (blocks e o x) r b m))))
 
   -- calls that spare the temporaries meet it, where the cycles keep the arcs
   pub spared_met : ((r : Region) → Member r (blocks e o x) → Ordered e o x given mask r (arcs_or (slice_get (model_of e o).arcs r.block)))

@@ -1,7 +1,8 @@
 -- Each solution meets what is posted of two operands that read different values: both temporaries are there in the cycle before
 -- the operation's, so that they have different registers.
-use Rattle.std.proofs.Common.{ℕ, zero, suc, ◌≡◌, ◌+◌, ◌-◌, ◌<◌, ◌≤◌, Bool, true, false, List, [], ◌∷◌, ◌++◌, map, inl, inr, refl, sym, ap, ◌∙◌, subst, arith, AllPairs, eq-eqb}
-use Rattle.std.specs.Prelude.{Option, Some, None, not, is_some, ◌||◌, ◌&&◌, ◌==◌, nat_eq, slice_get, slice_index, if◌then◌else◌}
+use Rattle.std.proofs.Common.{ℕ, suc, ◌≡◌, ◌+◌, ◌-◌, ◌<◌, ◌≤◌, Bool, true, false, List, [], ◌∷◌, inl, inr, refl, sym, ap}
+use Rattle.std.proofs.Common.{◌∙◌, subst, arith, eq-eqb}
+use Rattle.std.specs.Prelude.{Option, Some, None, not, is_some, ◌||◌, ◌&&◌, nat_eq, slice_get, slice_index, if◌then◌else◌}
 use Rattle.std.specs.Option.{option_map}
 use Rattle.std.proofs.lemmas.Bool.Decides.{nat_tests}
 use Rattle.un_base.specs.declared.ids.TempId.{TempId}
@@ -24,17 +25,18 @@ use Rattle.un_model.specs.Pairs.{places_from, joined}
 use Rattle.un_model.specs.Schedules.{schedule_of, read_of, value_by, is_delimiter}
 use Rattle.un_model.specs.Solutions.{IsSchedule, InSpace, ShareNoCycle, latency_gap}
 use Rattle.un_model.specs.Variables.{model_of, var_at, choice_place, has_choices, register_place, carried as carried_here}
-use Rattle.un_model.proofs.Lists.{Each, Pairwise, Member, each_of, each_join, member_at, pairwise_all, pairwise_of_map, pairwise_two, slice_get-map}
+use Rattle.un_model.proofs.Lists.{Each, Pairwise, Member, each_of, each_join, member_at, pairwise_all, pairwise_of_map, pairwise_two}
+use Rattle.un_model.proofs.Lists.{slice_get-map}
 use Rattle.un_model.proofs.OpDomains.{in_entry, register_sits}
 use Rattle.un_model.proofs.Placed.{Placed, vars_of, issue_at, Spot}
 use Rattle.un_model.proofs.PlacedSchedules.{all, spots, spot_range, the_ranges, one_spot, has_read, good_read}
 use Rattle.un_alt.specs.Registers.{place_of as chosen_place}
-use Rattle.un_rect.specs.Operands.{Side, side_passes, operands_holds}
+use Rattle.un_rect.specs.Operands.{side_passes}
 use Rattle.un_post.specs.Constraints.{Constraint, meets, AllMet, Operands}
-use Rattle.un_post.specs.Places.{Place, Definer, definers_of, definers_at}
+use Rattle.un_post.specs.Places.{Definer, definers_of, definers_at}
 use Rattle.un_post.specs.Postings.{registers_in, registers_of}
 use Rattle.un_post.specs.Rooms.{each_two, side_of, two_by, one_value, two_at, twos_in, twos_of}
-use Rattle.un_post.proofs.Facts.{Given, Reading, numbered, all_member, in_domains, definer_is, choice_var, reading, read_temp, read_definer}
+use Rattle.un_post.proofs.Facts.{Given, numbered, all_member, in_domains, definer_is, choice_var, reading, read_temp, read_definer}
 use Rattle.un_post.proofs.Meeting.{Met, passes_get}
 use Rattle.un_post.proofs.Placing.{place_of, definer_at}
 use Rattle.un_post.proofs.RegisterBounds.{register_below}
@@ -53,7 +55,8 @@ each_from P f n (x ∷ xs) h =
     (each_from P f (n + 1) xs (λ j b at. let w : n + suc j ≡ n + 1 + j = omega arith in subst (λ k. Each P (f k b)) w (h (suc j) b at)))
 
 two_each : {X Y : Type 0} (P : Y → Type 0) (f : ℕ → X → ℕ → X → List Y) (n : ℕ) (xs : List X)
-    → ((i j : ℕ) (a b : X) → i < j → slice_get xs i ≡ Some a → slice_get xs j ≡ Some b → Each P (f (n + i) a (n + j) b)) → Each P (each_two f n xs)
+    → ((i j : ℕ) (a b : X) → i < j → slice_get xs i ≡ Some a → slice_get xs j ≡ Some b → Each P (f (n + i) a (n + j) b))
+    → Each P (each_two f n xs)
 two_each P f n [] h = tt
 two_each P f n (x ∷ xs) h =
     let z : n + 0 ≡ n = omega arith in
@@ -68,7 +71,8 @@ two_each P f n (x ∷ xs) h =
 
 -- ---- two spans
 
-registers_differ : (a b : LiveRange) (c : ℕ) → ShareNoCycle a b → a.active ≡ true → b.active ≡ true → (let i = a.block in let j = b.block in i.0 ≡ j.0)
+registers_differ : (a b : LiveRange) (c : ℕ) → ShareNoCycle a b → a.active ≡ true → b.active ≡ true
+    → (let i = a.block in let j = b.block in i.0 ≡ j.0)
     → a.from ≤ c → c ≤ a.last → b.from ≤ c → c ≤ b.last → a.reg ≡ b.reg → ⊥
 unfolding ShareNoCycle
 registers_differ a b c share p q block lo hi low high same = share p q block same c (lo, hi) (low, high)
@@ -95,7 +99,8 @@ module _ (e : Ext) (o : Options) (x : List ℕ) (given : Given e o x)
     pub member : Member spot (spots e o x)
     pub block : spot.definer.block ≡ q.block
     pub value : carried e.blocks spot.temp ≡ temp (first_of operand.alts)
-    pub register : slice_get (registers_of (definers_at ds operand.alts)) (slice_index x (q.first + choice_place q.op + j)) ≡ Some (definer_at spot).reg
+    pub register : slice_get (registers_of (definers_at ds operand.alts)) (slice_index x (q.first + choice_place q.op + j)) ≡ Some
+        (definer_at spot).reg
     pub active : (spot_range e o x spot).active ≡ true
     pub allowed : has (registers_in o.slots (space_read (issue_at x q).instr j)) (spot_range e o x spot).reg ≡ true
     pub from : (spot_range e o x spot).from + 1 ≤ (issue_at x q).cycle
@@ -114,7 +119,8 @@ module _ (e : Ext) (o : Options) (x : List ℕ) (given : Given e o x)
       let alts = definers_at ds operand.alts in
       let i = slice_index x (q.first + choice_place q.op + j) in
       let here : slice_get alts i ≡ Some (definer_at rd.spot) =
-      ap (λ (w : Option VarId). slice_get alts (chosen_place w x)) (sym (choice_var e o x given q j operand at c)) ∙ read_definer e o x given q j operand rd in
+      ap (λ (w : Option VarId). slice_get alts (chosen_place w x)) (sym (choice_var e o x given q j operand at c))
+      ∙ read_definer e o x given q j operand rd in
       let def = definer_is e o x given rd.spot rd.member in
       let p = rd.spot.definer in
       let bound = register_below e o (in_entry e o x p) p.owner p.op.kind rd.spot.place rd.spot.temp (carried_here p.op rd.spot.temp)
@@ -156,11 +162,12 @@ module _ (e : Ext) (o : Options) (x : List ℕ) (given : Given e o x)
       let pairs = pairwise_of_map ShareNoCycle (spot_range e o x) (spots e o x)
       (subst (Pairwise ShareNoCycle) (ranges_are e o x given) (pairwise_all ShareNoCycle (the_ranges e o x) regs.0)) in
       elim (pairwise_two (λ s u. ShareNoCycle (spot_range e o x s) (spot_range e o x u)) (spots e o x) s u pairs h.member k.member) [
-      | inl is ↦ distinct (ap (λ (s : Spot). carried e.blocks s.temp) is)
-      | inr two ↦ elim two [
-        | inl share ↦ registers_differ r t c share ra ta block l1 l2 l3 l4 (sym same)
-        | inr share ↦ registers_differ t r c share ta ra (sym block) l3 l4 l1 l2 same
-      ] ]
+        | inl is ↦ distinct (ap (λ (s : Spot). carried e.blocks s.temp) is)
+        | inr two ↦ elim two [
+          | inl share ↦ registers_differ r t c share ra ta block l1 l2 l3 l4 (sym same)
+          | inr share ↦ registers_differ t r c share ta ra (sym block) l3 l4 l1 l2 same
+        ]
+      ]
     where
       distinct : carried e.blocks h.spot.temp ≡ carried e.blocks k.spot.temp → ⊥
       distinct is =
@@ -169,9 +176,11 @@ module _ (e : Ext) (o : Options) (x : List ℕ) (given : Given e o x)
           let z : true ≡ false = sym t ∙ other in
           cc z
 
-  two_met : (q : Placed) (so : SrcOp) → q.op.kind ≡ Body so → Member q (all e o x) → (i j : ℕ) (a b : Operand) → slice_get q.op.operands i ≡ Some a
+  two_met : (q : Placed) (so : SrcOp) → q.op.kind ≡ Body so → Member q (all e o x) → (i j : ℕ) (a b : Operand)
+      → slice_get q.op.operands i ≡ Some a
       → slice_get q.op.operands j ≡ Some b → one_value a b ≡ false
-      → meets (Operands (side_of o.slots ds so.op i (var_at (q.first + choice_place q.op + i)) a) (side_of o.slots ds so.op j (var_at (q.first + choice_place q.op + j)) b)) x ≡ true
+      → meets (Operands (side_of o.slots ds so.op i (var_at (q.first + choice_place q.op + i)) a)
+      (side_of o.slots ds so.op j (var_at (q.first + choice_place q.op + j)) b)) x ≡ true
   two_met q so kind m i j a b at bt other =
       let v = vars_of q in
       let instr : (issue_at x q).instr ≡ Some so.op = ap (λ (c : ExtKind). instruction_of c (value_by x v.instr)) kind in
@@ -187,30 +196,36 @@ module _ (e : Ext) (o : Options) (x : List ℕ) (given : Given e o x)
       let hb : has sb.allowed g ≡ true = subst (λ (s : Option Op). has (registers_in o.slots (space_read s j)) g ≡ true) instr k.allowed in
       let differ = unequal g f (apart q i j a b h k other) in
       let inner : side_passes (λ r. not (nat_eq r f)) sb x ≡ true =
-      passes_get (λ (v : VarId). has sb.allowed (slice_index x v.0) && not (nat_eq (slice_index x v.0) f)) sb.regs (slice_index x (q.first + choice_place q.op + j)) _ k.register
+      passes_get (λ (v : VarId). has sb.allowed (slice_index x v.0) && not (nat_eq (slice_index x v.0) f)) sb.regs
+      (slice_index x (q.first + choice_place q.op + j)) _ k.register
       ∙ (and_iff (has sb.allowed g) (not (nat_eq g f))).0 (hb, differ) in
-      passes_get (λ (v : VarId). has sa.allowed (slice_index x v.0) && side_passes (λ r. not (nat_eq r (slice_index x v.0))) sb x) sa.regs (slice_index x (q.first + choice_place q.op + i)) _ h.register
+      passes_get (λ (v : VarId). has sa.allowed (slice_index x v.0) && side_passes (λ r. not (nat_eq r (slice_index x v.0))) sb x) sa.regs
+      (slice_index x (q.first + choice_place q.op + i)) _ h.register
       ∙ (and_iff (has sa.allowed f) (side_passes (λ r. not (nat_eq r f)) sb x)).0 (ha, inner)
     where
       active : q.op.kind ≡ Body so → (issue_at x q).active ≡ true
       active k = let v = vars_of q in ap (λ (c : ExtKind). is_delimiter c || is_some (instruction_of c (value_by x v.instr))) k
 
-  two_posted : (q : Placed) → Member q (all e o x) → (i j : ℕ) (a b : Operand) → slice_get q.op.operands i ≡ Some a → slice_get q.op.operands j ≡ Some b
+  two_posted : (q : Placed) → Member q (all e o x) → (i j : ℕ) (a b : Operand) → slice_get q.op.operands i ≡ Some a
+      → slice_get q.op.operands j ≡ Some b
       → Met x (two_at o.slots ds (place_of q) i a j b)
   two_posted q m i j a b at bt = by (one_value a b) refl
     where
       posted : List Constraint
       posted = two_by o.slots ds q.op.kind i a (slice_get (vars_of q).choices i) j b (slice_get (vars_of q).choices j)
 
-      none : (kind : ExtKind) → q.op.kind ≡ kind → two_by o.slots ds kind i a (slice_get (vars_of q).choices i) j b (slice_get (vars_of q).choices j) ≡ [] → Met x posted
-      none kind k h = subst (Met x) (sym (ap (λ (c : ExtKind). two_by o.slots ds c i a (slice_get (vars_of q).choices i) j b (slice_get (vars_of q).choices j)) k ∙ h)) tt
+      none : (kind : ExtKind) → q.op.kind ≡ kind → two_by o.slots ds kind i a (slice_get (vars_of q).choices i) j b
+          (slice_get (vars_of q).choices j) ≡ [] → Met x posted
+      none kind k h = subst (Met x) (sym (ap (λ (c : ExtKind). two_by o.slots ds c i a (slice_get (vars_of q).choices i) j b
+          (slice_get (vars_of q).choices j)) k ∙ h)) tt
 
       of_source : one_value a b ≡ false → (kind : ExtKind) → q.op.kind ≡ kind → Met x posted
       of_source other (Body so) k =
           let c : has_choices q.op.kind ≡ true = ap has_choices k in
           let va = choice_var e o x given q i a at c in
           let vb = choice_var e o x given q j b bt c in
-          let is : posted ≡ Operands (side_of o.slots ds so.op i (var_at (q.first + choice_place q.op + i)) a) (side_of o.slots ds so.op j (var_at (q.first + choice_place q.op + j)) b) ∷ [] =
+          let is : posted ≡ Operands (side_of o.slots ds so.op i (var_at (q.first + choice_place q.op + i)) a)
+          (side_of o.slots ds so.op j (var_at (q.first + choice_place q.op + j)) b) ∷ [] =
           ap (λ (c : ExtKind). two_by o.slots ds c i a (slice_get (vars_of q).choices i) j b (slice_get (vars_of q).choices j)) k
           ∙ ap (λ (v : Option VarId). two_by o.slots ds (Body so) i a v j b (slice_get (vars_of q).choices j)) va
           ∙ ap (λ (v : Option VarId). two_by o.slots ds (Body so) i a (Some (var_at (q.first + choice_place q.op + i))) j b v) vb in
@@ -231,4 +246,5 @@ module _ (e : Ext) (o : Options) (x : List ℕ) (given : Given e o x)
       two_each (λ (c : Constraint). meets c x ≡ true) (two_at o.slots ds (place_of q)) 0 q.op.operands (λ i j a b lt at bt.
       let zi : i ≡ 0 + i = omega arith in
       let zj : j ≡ 0 + j = omega arith in
-      subst (λ n. Met x (two_at o.slots ds (place_of q) (0 + i) a n b)) zj (subst (λ n. Met x (two_at o.slots ds (place_of q) n a j b)) zi (two_posted q m i j a b at bt)))))
+      subst (λ n. Met x (two_at o.slots ds (place_of q) (0 + i) a n b)) zj
+      (subst (λ n. Met x (two_at o.slots ds (place_of q) n a j b)) zi (two_posted q m i j a b at bt)))))

@@ -1,6 +1,7 @@
 -- The users of a temporary, as propagators name them, are its reads: it ends where its live range does.
-use Rattle.std.proofs.Common.{ℕ, zero, suc, ◌≡◌, ◌↔◌, ◌+◌, ◌<◌, ◌≤◌, ◌-◌, max, Bool, true, false, List, [], ◌∷◌, ◌++◌, length, map, fold, inl, inr, refl, sym, ap, ◌∙◌, subst, arith, eq-eqb, All}
-use Rattle.std.specs.Prelude.{Option, Some, None, slice_get, slice_index, nat_eq, ◌==◌, ◌&&◌, if◌then◌else◌, cond}
+use Rattle.std.proofs.Common.{ℕ, ◌≡◌, ◌+◌, ◌≤◌, max, Bool, true, false, List, [], ◌∷◌, length, map, fold}
+use Rattle.std.proofs.Common.{inl, inr, refl, sym, ap, ◌∙◌, subst, arith, eq-eqb, All}
+use Rattle.std.specs.Prelude.{Option, Some, None, slice_get, slice_index, ◌==◌, ◌&&◌, if◌then◌else◌}
 use Rattle.std.proofs.lemmas.Bool.Decides.{nat_tests}
 use Rattle.un_base.specs.declared.ids.TempId.{TempId}
 use Rattle.un_base.specs.declared.ids.VarId.{VarId}
@@ -14,17 +15,19 @@ use Rattle.un_ir.specs.Extended.{IsGoodKind}
 use Rattle.un_model.specs.declared.model.Options.{Options}
 use Rattle.un_model.specs.declared.schedule.Read.{Read}
 use Rattle.un_model.specs.Pairs.{places_from, joined}
-use Rattle.un_model.specs.Schedules.{read_of, value_by, cycle_for, last_read, choice_of}
-use Rattle.un_model.specs.Variables.{model_of, has_choices}
-use Rattle.un_model.proofs.Lists.{Each, Member, each_of, each_member, member_map, member_map_of, member_at, length_get}
+use Rattle.un_model.specs.Schedules.{read_of, value_by, cycle_for, last_read}
+use Rattle.un_model.specs.Variables.{has_choices}
+use Rattle.un_model.proofs.Lists.{Member, member_map, member_map_of, member_at, length_get}
 use Rattle.un_model.proofs.Placed.{Placed, vars_of, issue_at, reads_at, Spot, Region, region_placed, reads_are}
-use Rattle.un_model.proofs.PlacedSchedules.{all, spots, spot_range, the_reads, one_spot, member_joined, joined_member, member_places, places_member, has_read}
+use Rattle.un_model.proofs.PlacedSchedules.{all, spots, spot_range, the_reads, one_spot, member_joined, joined_member, member_places}
+use Rattle.un_model.proofs.PlacedSchedules.{places_member, has_read}
 use Rattle.un_prop.specs.Acts.{at_value, chooses, is_user, is_active}
 use Rattle.un_prop.specs.declared.act.UserOf.{UserOf}
 use Rattle.un_rect.specs.Spans.{use_time, last_use, starts, ends}
-use Rattle.un_post.specs.Places.{Place, act_of, time_of}
+use Rattle.un_post.specs.Places.{act_of, time_of}
 use Rattle.un_post.specs.Rooms.{user_if, operand_users, place_users, users_of, temp_by}
-use Rattle.un_post.proofs.Facts.{Given, Reading, numbered, good_op, all_member, acts, times, definer_times, choice_var, no_choice, reading, read_temp, reader_goes, alternative}
+use Rattle.un_post.proofs.Facts.{Given, numbered, good_op, all_member, acts, times, definer_times, choice_var, reading}
+use Rattle.un_post.proofs.Facts.{read_temp, reader_goes}
 use Rattle.un_post.proofs.Placing.{place_of, definer_at}
 use Rattle.un_post.proofs.Blocks.{blocks, region_places, in_all, stands_in}
 
@@ -43,7 +46,8 @@ grows : (t : ℕ) (rs : List Read) (a : ℕ) → a ≤ fold (λ (a : ℕ) (r : R
 grows t [] a = omega arith
 grows t (r ∷ rs) a = let k = grows t rs (max a (cycle_for t r)) in omega arith
 
-read_at : (t : ℕ) (rs : List Read) (a : ℕ) (r : Read) → Member r rs → cycle_for t r ≤ fold (λ (a : ℕ) (r : Read). max a (cycle_for t r)) a rs
+read_at : (t : ℕ) (rs : List Read) (a : ℕ) (r : Read) → Member r rs
+    → cycle_for t r ≤ fold (λ (a : ℕ) (r : Read). max a (cycle_for t r)) a rs
 read_at t [] a r m = elim m [ ]
 read_at t (s ∷ rs) a r (inl e) =
     let k = grows t rs (max a (cycle_for t s)) in
@@ -62,7 +66,8 @@ abbrev pub user_at : Placed → ℕ → ℕ → UserOf
 user_at q j i = record { on = act_of (place_of q); at = time_of (place_of q); choice = slice_get (vars_of q).choices j; value = i }
 
 pub user_in : (ps : List Placed) (t : TempId) (q : Placed) (j i : ℕ) (operand : Operand) (y : TempId) → Member q ps
-    → slice_get q.op.operands j ≡ Some operand → slice_get operand.alts i ≡ Some y → y.0 ≡ t.0 → Member (user_at q j i) (users_of (map place_of ps) t)
+    → slice_get q.op.operands j ≡ Some operand → slice_get operand.alts i ≡ Some y → y.0 ≡ t.0
+    → Member (user_at q j i) (users_of (map place_of ps) t)
 user_in ps t q j i operand y m at alt same =
     let p = place_of q in
     let choice = slice_get (vars_of q).choices j in
@@ -133,6 +138,13 @@ users_in ps t u m =
     only true v (inr m) = elim m [ ]
     only false v m = elim m [ ]
 
+-- it is a user of any operations that have its operation
+pub user_also : (qs ps : List Placed) (t : TempId) (u : UserOf) (p : UserPlace qs t u) → Member p.user ps
+    → Member u (users_of (map place_of ps) t)
+user_also qs ps t u p m =
+    subst (λ v. Member v (users_of (map place_of ps) t)) p.is
+    (user_in ps t p.user p.at p.place p.operand p.alternative m p.stands p.reads p.same)
+
 -- ---- choices
 
 pub chooses_iff : (c : Option VarId) (i : ℕ) (x : List ℕ) → value_by x c ≡ i → chooses c i x ≡ true
@@ -166,10 +178,12 @@ timed false n m h = omega arith
 module _ (e : Ext) (o : Options) (x : List ℕ) (given : Given e o x) where
   -- the alternative that a user reads is the one that is chosen
   value_is : (q : Placed) (j i : ℕ) (operand : Operand) (y : TempId) → Member q (all e o x) → slice_get q.op.operands j ≡ Some operand
-      → slice_get operand.alts i ≡ Some y → chooses (slice_get (vars_of q).choices j) i x ≡ true → value_by x (slice_get (vars_of q).choices j) ≡ i
+      → slice_get operand.alts i ≡ Some y → chooses (slice_get (vars_of q).choices j) i x ≡ true
+      → value_by x (slice_get (vars_of q).choices j) ≡ i
   value_is q j i operand y m at alt h = by (slice_get (vars_of q).choices j) refl h
     where
-      by : (c : Option VarId) → slice_get (vars_of q).choices j ≡ c → chooses c i x ≡ true → value_by x (slice_get (vars_of q).choices j) ≡ i
+      by : (c : Option VarId) → slice_get (vars_of q).choices j ≡ c → chooses c i x ≡ true
+          → value_by x (slice_get (vars_of q).choices j) ≡ i
       by (Some v) k t = ap (value_by x) k ∙ chosen_is v i x t
       by None k t = without (has_choices q.op.kind) refl
         where
@@ -177,13 +191,15 @@ module _ (e : Ext) (o : Options) (x : List ℕ) (given : Given e o x) where
           without false c =
               let g = good_op e o x given q m in
               let keeps = g.keeps in
-              let one = all_member (λ (a : Operand). length a.alts ≡ 1) q.op.operands operand (lone q.op.kind q.op c keeps.kind) (member_at q.op.operands j operand at) in
+              let one = all_member (λ (a : Operand). length a.alts ≡ 1) q.op.operands operand (lone q.op.kind q.op c keeps.kind)
+              (member_at q.op.operands j operand at) in
               let lt = length_get operand.alts i y alt in
               let none : value_by x (slice_get (vars_of q).choices j) ≡ 0 = ap (value_by x) k in
               omega arith
           without true c = absurd (let z : Some _ ≡ None = sym (choice_var e o x given q j operand at c) ∙ k in cc z)
 
-  module _ (r : Region) (s : Spot) (mr : Member r (blocks e o x)) (ms : Member s (spots e o x)) (own : (let q = s.definer in q.block ≡ r.block)) where
+  module _ (r : Region) (s : Spot) (mr : Member r (blocks e o x)) (ms : Member s (spots e o x))
+      (own : (let q = s.definer in q.block ≡ r.block)) where
     abbrev users : List UserOf
     users = users_of (region_places r) s.temp
 
@@ -196,13 +212,15 @@ module _ (e : Ext) (o : Options) (x : List ℕ) (given : Given e o x) where
             at a.0 a.1 (issue_at x a.0).active refl a.2
           where
             at : (q : Placed) → Member q (all e o x) → (b : Bool) → (issue_at x q).active ≡ b
-                → Member d (if b then places_from (read_of x (issue_at x q) (vars_of q)) 0 q.op.operands else []) → d.cycle ≤ last_use users x
+                → Member d (if b then places_from (read_of x (issue_at x q) (vars_of q)) 0 q.op.operands else [])
+                → d.cycle ≤ last_use users x
             at q mq false act m = elim m [ ]
             at q mq true act m =
                 let v = places_member (read_of x (issue_at x q) (vars_of q)) 0 q.op.operands d m in
                 let j = v.0 in
                 let z : 0 + j ≡ j = omega arith in
-                let is : read_of x (issue_at x q) (vars_of q) j v.1 ≡ d = ap (λ k. read_of x (issue_at x q) (vars_of q) k v.1) (sym z) ∙ v.3 in
+                let is : read_of x (issue_at x q) (vars_of q) j v.1 ≡ d = ap (λ k. read_of x (issue_at x q) (vars_of q) k v.1) (sym z)
+                ∙ v.3 in
                 let rd = reading e o x given q j v.1 mq v.2 in
                 let i = value_by x (slice_get (vars_of q).choices j) in
                 let chosen : d.temp ≡ rd.spot.temp = ap (λ (d : Read). d.temp) (sym is) ∙ read_temp e o x given q j v.1 rd in
@@ -211,15 +229,18 @@ module _ (e : Ext) (o : Options) (x : List ℕ) (given : Given e o x) where
                 let one = one_spot e o x (numbered e o x given) rd.spot s rd.member ms same in
                 let block : q.block ≡ r.block = sym rd.block ∙ ap (λ (s : Spot). s.definer.block) one ∙ own in
                 let u = user_at q j i in
-                let le = use_at users u x (user_in (region_placed r) s.temp q j i v.1 rd.spot.temp (stands_in e o x r q mr mq block) v.2 rd.at same) in
+                let le = use_at users u x (user_in (region_placed r) s.temp q j i v.1 rd.spot.temp (stands_in e o x r q mr mq block) v.2
+                rd.at same) in
                 let on : is_active (act_of (place_of q)) x ≡ true = acts e o x given q mq (reader_goes e o x given q j v.1 rd) ∙ act in
                 let uses : is_user u x ≡ true = ap (λ (b : Bool). b && chooses u.choice i x) on ∙ chooses_iff u.choice i x refl in
-                let time : use_time x u ≡ (issue_at x q).cycle = ap (λ (b : Bool). if b then at_value u.at x else 0) uses ∙ times e o x given q in
+                let time : use_time x u ≡ (issue_at x q).cycle = ap (λ (b : Bool). if b then at_value u.at x else 0) uses
+                ∙ times e o x given q in
                 let cycle : (issue_at x q).cycle ≡ d.cycle = ap (λ (d : Read). d.cycle) is in
                 omega arith
 
     pub user_reads : (u : UserOf) → Member u users → use_time x u ≤ last_read (the_reads e o x) s.temp.0
-    user_reads u mu = timed (is_user u x) (at_value u.at x) (last_read (the_reads e o x) s.temp.0) (λ h. go (users_in (region_placed r) s.temp u mu) h)
+    user_reads u mu = timed (is_user u x) (at_value u.at x) (last_read (the_reads e o x) s.temp.0)
+        (λ h. go (users_in (region_placed r) s.temp u mu) h)
       where
         go : UserPlace (region_placed r) s.temp u → is_user u x ≡ true → at_value u.at x ≤ last_read (the_reads e o x) s.temp.0
         go p h =
