@@ -51,7 +51,7 @@ use Rattle.un_post.proofs.Blocks.{blocks, in_all, past, region_close}
 use Rattle.un_post.proofs.Facts.{Given}
 use Rattle.un_post.proofs.Packets.{no_room, share, sum_part, whole_taken}
 use Rattle.un_post.proofs.Regions.{regions, of_region}
-use Rattle.un_post.proofs.Spared.{Ordered, mask, spared_met, call_instr}
+use Rattle.un_post.proofs.Spared.{Ordered, spared, call_instr}
 use Rattle.un_post.proofs.Tests.{and_iff}
 
 member_contains : {X : Type 0} (xs : List X) (x : X) → Member x xs → Contains xs x
@@ -370,7 +370,7 @@ module _ (e : Ext) (o : Options) (x : List ℕ) (given : Given e o x)
         by Enter k h = absurd (cc h)
         by Leave k h = absurd (cc h)
 
-    pub ordered : Ordered e o x given (mask e o x given) r arcs
+    pub ordered : Ordered x r arcs
     ordered = record {
       before = λ d c md mc call h. first d c md mc (is_in d.op.kind) refl h;
       behind = λ c q mc mq call h. second c q mc mq call (ends_block q.op.kind) refl h;
@@ -395,4 +395,4 @@ module _ (e : Ext) (o : Options) (x : List ℕ) (given : Given e o x)
 
   -- each solution meets what is posted of calls
   pub calls_met : AllMet (clobbers_of (model_of e o)) x
-  calls_met = let registers = schedule.registers in spared_met e o x given (λ r m. ordered r m) registers.1
+  calls_met = let registers = schedule.registers in (spared e o x given (λ r m. ordered r m)).0 registers.1

@@ -31,3 +31,4 @@ pub mod Packets
 pub mod TwoOperands
 pub mod CallOrder
 pub mod OfRooms
+pub mod Solved

@@ -213,16 +213,16 @@ filter_map t f (x ∷ xs) = by (t (f x)) refl (filter_map t f xs)
     by false e h = ap (λ (b : Bool). if b then f x ∷ filter t (map f xs) else filter t (map f xs)) e ∙ h
         ∙ sym (ap (λ (b : Bool). map f (if b then x ∷ filter (λ x. t (f x)) xs else filter (λ x. t (f x)) xs)) e)
 
+-- what the arcs of a block say of the cycles of its operations
+pub record Ordered (x : List ℕ) (r : Region) (arcs : List Arc) : Type 0 where
+  pub before : (d c : Placed) → Member d (region_placed r) → Member c (region_placed r) → is_call_kind c.op.kind ≡ true
+      → is_before arcs (place_of d) (place_of c) ≡ true → (issue_at x d).cycle ≤ (issue_at x c).cycle
+  pub behind : (c q : Placed) → Member c (region_placed r) → Member q (region_placed r) → is_call_kind c.op.kind ≡ true
+      → is_behind arcs (place_of c) (place_of q) ≡ true → (issue_at x c).cycle + 1 ≤ (issue_at x q).cycle
+
 module _ (e : Ext) (o : Options) (x : List ℕ) (given : Given e o x) (clobbered : ℕ) where
   abbrev Spares : Spot → Type 0
   Spares s = IsSpared clobbered (issues_of (model_of e o) x) (spot_range e o x s)
-
-  -- what the arcs of a block say of the cycles of its operations
-  pub record Ordered (r : Region) (arcs : List Arc) : Type 0 where
-    pub before : (d c : Placed) → Member d (region_placed r) → Member c (region_placed r) → is_call_kind c.op.kind ≡ true
-        → is_before arcs (place_of d) (place_of c) ≡ true → (issue_at x d).cycle ≤ (issue_at x c).cycle
-    pub behind : (c q : Placed) → Member c (region_placed r) → Member q (region_placed r) → is_call_kind c.op.kind ≡ true
-        → is_behind arcs (place_of c) (place_of q) ≡ true → (issue_at x c).cycle + 1 ≤ (issue_at x q).cycle
 
   module _ (r : Region) (s : Spot) (mr : Member r (blocks e o x)) (ms : Member s (region_spots r)) (arcs : List Arc) where
     abbrev calls : List Place
@@ -251,7 +251,7 @@ module _ (e : Ext) (o : Options) (x : List ℕ) (given : Given e o x) (clobbered
         (λ f. is ∙ iff.0 f, λ m. iff.1 (sym is ∙ m))
 
     -- a user behind a call reads after it, and what is defined before the call is there in the call's cycle
-    no_user : Ordered r arcs → (q : Placed) → Member q (region_placed r) → is_call_kind q.op.kind ≡ true
+    no_user : Ordered x r arcs → (q : Placed) → Member q (region_placed r) → is_call_kind q.op.kind ≡ true
         → (((spot_range e o x s).from ≤ (issue_at x q).cycle) × ((issue_at x q).cycle ≤ (spot_range e o x s).last) → ⊥)
         → (let c = call (place_of q) in c.before ≡ true → list_any (λ (u : UserOf). is_user u x) c.behind ≡ true → ⊥)
     no_user ordered q mq kind apart before some =
@@ -272,7 +272,7 @@ module _ (e : Ext) (o : Options) (x : List ℕ) (given : Given e o x) (clobbered
         let from = ordered.before d q (definer_in (region_placed r) s ms) mq kind before in
         apart (from, omega arith)
 
-    spared_here : Ordered r arcs → Spares s → clobber_holds clobbered (temp_of r s) (map call calls) x ≡ true
+    spared_here : Ordered x r arcs → Spares s → clobber_holds clobbered (temp_of r s) (map call calls) x ≡ true
     spared_here ordered h =
         let each = (issues_each e o x given (λ (i : Issue). SparesRange clobbered i (spot_range e o x s))).0
         ((is_spared clobbered (issues_of (model_of e o) x) (spot_range e o x s)).1 h) in
@@ -344,7 +344,7 @@ module _ (e : Ext) (o : Options) (x : List ℕ) (given : Given e o x) (clobbered
         ∙ ap (map (spared_at clobbered own ds (region_places r))) (results_are (region_placed r))
         ∙ map_twice (spared_at clobbered own ds (region_places r)) (λ (s : Spot). s.temp) (region_spots r)
 
-    block_met : Ordered r own → Each Spares (region_spots r) → Met x
+    block_met : Ordered x r own → Each Spares (region_spots r) → Met x
         (spared_in clobbered arcs (definers_of (model_of e o)) r.block r.number r.owner (region_vars r))
     block_met ordered h =
         let P = λ (c : Constraint). meets c x ≡ true in
@@ -375,12 +375,15 @@ module _ (e : Ext) (o : Options) (x : List ℕ) (given : Given e o x) where
       ranges.1 (split.1 (each_of _ (blocks e o x) (λ r m. met_block e o x given mask (model_of e o).arcs r m
       (each_member _ (blocks e o x) r b m))))
 
-  -- calls that spare the temporaries meet it, where the cycles keep the arcs
-  pub spared_met : ((r : Region) → Member r (blocks e o x) → Ordered e o x given mask r (arcs_or (slice_get (model_of e o).arcs r.block)))
-      → AreSpared → AllMet (clobbers_of (model_of e o)) x
-  spared_met ordered h =
-      let ranges = ranges_each e o x given (IsSpared mask (issues_of (model_of e o) x)) in
-      let split = spots_in_blocks e o x (λ s. IsSpared mask (issues_of (model_of e o) x) (spot_range e o x s)) in
-      let b = split.0 (ranges.0 h) in
-      (regions_met e o x (spared_in mask (model_of e o).arcs (definers_of (model_of e o)))).1 (each_of _ (blocks e o x) (λ r m.
-      block_met e o x given mask (model_of e o).arcs r m (ordered r m) (each_member _ (blocks e o x) r b m)))
+  -- and calls that spare them meet it, where the cycles keep the arcs
+  pub spared : ((r : Region) → Member r (blocks e o x) → Ordered x r (arcs_or (slice_get (model_of e o).arcs r.block)))
+      → AreSpared ↔ AllMet (clobbers_of (model_of e o)) x
+  spared ordered = (
+    λ h.
+        let ranges = ranges_each e o x given (IsSpared mask (issues_of (model_of e o) x)) in
+        let split = spots_in_blocks e o x (λ s. IsSpared mask (issues_of (model_of e o) x) (spot_range e o x s)) in
+        let b = split.0 (ranges.0 h) in
+        (regions_met e o x (spared_in mask (model_of e o).arcs (definers_of (model_of e o)))).1 (each_of _ (blocks e o x) (λ r m.
+        block_met e o x given mask (model_of e o).arcs r m (ordered r m) (each_member _ (blocks e o x) r b m))),
+    met_spared,
+  )
