@@ -14,7 +14,7 @@ use Rattle.un_prop.specs.declared.act.Temp.{Temp}
 use Rattle.un_prop.specs.Acts.{is_active}
 use Rattle.un_rect.specs.Spans.{starts, ends}
 use Rattle.un_post.specs.Places.{Definer, definers_of, definer_or}
-use Rattle.un_post.specs.Rooms.{temp_by, temp_at, results_in}
+use Rattle.un_post.specs.Rooms.{temp_by, temp_at, temps_in}
 use Rattle.un_post.proofs.Blocks.{blocks, region_places, joined_parts, map_twice}
 use Rattle.un_post.proofs.Facts.{Given, numbered, definer_is, definer_acts, definer_times}
 use Rattle.un_post.proofs.Meeting.{each_joined, joined_each}
@@ -35,7 +35,7 @@ own_temps : (q : Placed) (k : ℕ) (ts : List TempId) → map (λ (s : Spot). s.
 own_temps q k [] = refl
 own_temps q k (t ∷ ts) = ap (λ us. t ∷ us) (own_temps q (k + 1) ts)
 
-pub results_are : (qs : List Placed) → results_in (map place_of qs) ≡ map (λ (s : Spot). s.temp) (all_spots qs)
+pub results_are : (qs : List Placed) → temps_in (map place_of qs) ≡ map (λ (s : Spot). s.temp) (all_spots qs)
 results_are [] = refl
 results_are (q ∷ qs) =
     ap (λ ts. (q.op).results ++ ts) (results_are qs) ∙ ap (λ ts. ts ++ map (λ (s : Spot). s.temp) (all_spots qs))

@@ -21,7 +21,7 @@ use Rattle.un_rect.specs.Apart.{pair_holds, apart_holds}
 use Rattle.un_rect.specs.Spans.{starts, ends}
 use Rattle.un_post.specs.Constraints.{AllMet, Apart}
 use Rattle.un_post.specs.Places.{Place, definers_of}
-use Rattle.un_post.specs.Rooms.{temp_at, results_in, apart_in, aparts_of}
+use Rattle.un_post.specs.Rooms.{temp_at, temps_in, apart_in, aparts_of}
 use Rattle.un_post.proofs.Blocks.{blocks, region_places, region_vars, map_twice, places_in, regions_met}
 use Rattle.un_post.proofs.BlockTemps.{region_spots, temp_of, results_are, spots_by_blocks, spot_block, temp_is, on_is, start_is, end_is}
 use Rattle.un_post.proofs.Facts.{Given}
@@ -159,12 +159,12 @@ module _ (e : Ext) (o : Options) (x : List ℕ) (given : Given e o x) where
       let ps = region_places r in
       let H = λ (a b : Temp). pair_holds a b x ≡ true in
       let at = λ (s : Spot). temp_at ds ps s.temp in
-      let made : map (temp_at ds ps) (results_in ps) ≡ map at (region_spots r) =
+      let made : map (temp_at ds ps) (temps_in ps) ≡ map at (region_spots r) =
       ap (map (temp_at ds ps)) (results_are (region_placed r)) ∙ map_twice (temp_at ds ps) (λ (s : Spot). s.temp) (region_spots r) in
       let pairs = apart_pairs (map at (region_spots r)) x in
       let same : (s : Spot) → Member s (region_spots r) → at s ≡ temp_of r s = λ s m. temp_is e o x given r s mr m in
       let posted : apart_in ds r.block r.number r.owner (region_vars r) ≡ Apart (map at (region_spots r)) ∷ [] =
-      ap (λ (qs : List Place). Apart (map (temp_at ds qs) (results_in qs)) ∷ []) (places_in r) ∙ ap (λ ts. Apart ts ∷ []) made in (
+      ap (λ (qs : List Place). Apart (map (temp_at ds qs) (temps_in qs)) ∷ []) (places_in r) ∙ ap (λ ts. Apart ts ∷ []) made in (
         λ h. subst (Met x) (sym posted) (
           pairs.0 (pairwise_map H at (region_spots r)
               (pairwise_more Share (λ s u. H (at s) (at u)) (region_spots r)

@@ -34,7 +34,7 @@ use Rattle.un_rect.specs.declared.clobber.ClobberCall.{ClobberCall}
 use Rattle.un_post.specs.Constraints.{Constraint, meets, AllMet, Clobber}
 use Rattle.un_post.specs.Places.{Place, Definer, definers_of, definer_or}
 use Rattle.un_post.specs.Postings.{is_call_kind, is_call_op, cycle_var, var_or}
-use Rattle.un_post.specs.Rooms.{results_in, users_of, is_before, is_behind, call_at, calls_but, arcs_or, spared_by, spared_at}
+use Rattle.un_post.specs.Rooms.{temps_in, users_of, is_before, is_behind, call_at, calls_but, arcs_or, spared_by, spared_at}
 use Rattle.un_post.specs.Rooms.{spared_in, clobbers_of}
 use Rattle.un_post.proofs.Blocks.{blocks, region_places, region_vars, map_twice, places_in, regions_met, in_all, stands_in}
 use Rattle.un_post.proofs.BlockTemps.{region_spots, definer_in, temp_of, results_are, spots_in_blocks, spot_all, spot_block, on_is}
@@ -340,7 +340,7 @@ module _ (e : Ext) (o : Options) (x : List ℕ) (given : Given e o x) (clobbered
     posted : spared_in clobbered arcs (definers_of (model_of e o)) r.block r.number r.owner (region_vars r) ≡ map posted_at (region_spots r)
     posted =
         let ds = definers_of (model_of e o) in
-        ap (λ (qs : List Place). map (spared_at clobbered own ds qs) (results_in qs)) (places_in r)
+        ap (λ (qs : List Place). map (spared_at clobbered own ds qs) (temps_in qs)) (places_in r)
         ∙ ap (map (spared_at clobbered own ds (region_places r))) (results_are (region_placed r))
         ∙ map_twice (spared_at clobbered own ds (region_places r)) (λ (s : Spot). s.temp) (region_spots r)
 

@@ -52,12 +52,12 @@ abbrev pub temp_at : List Definer → List Place → TempId → Temp
 temp_at ds ps t = temp_by ps t (definer_or (slice_get ds t.0))
 
 -- the temporaries that these operations define, in order
-abbrev pub results_in : List Place → List TempId
-results_in ps = joined (map (λ (p : Place). p.it.results) ps)
+abbrev pub temps_in : List Place → List TempId
+temps_in ps = joined (map (λ (p : Place). p.it.results) ps)
 
 -- one block after another: no two of its temporaries share a register in a cycle
 abbrev pub apart_in : List Definer → ℕ → ℕ → ExtBlock → BlockVars → List Constraint
-apart_in ds b n block vars = let ps : List Place = block_places b n block vars in Apart (map (temp_at ds ps) (results_in ps)) ∷ []
+apart_in ds b n block vars = let ps : List Place = block_places b n block vars in Apart (map (temp_at ds ps) (temps_in ps)) ∷ []
 
 abbrev pub aparts_of : Model → List Constraint
 aparts_of m = over_blocks (apart_in (definers_of m)) 0 0 m.ext.blocks m.blocks
@@ -111,7 +111,7 @@ arcs_or (Some arcs) = arcs
 
 abbrev pub spared_in : ℕ → List (List Arc) → List Definer → ℕ → ℕ → ExtBlock → BlockVars → List Constraint
 spared_in clobbered arcs ds b n block vars =
-    let ps : List Place = block_places b n block vars in map (spared_at clobbered (arcs_or (slice_get arcs b)) ds ps) (results_in ps)
+    let ps : List Place = block_places b n block vars in map (spared_at clobbered (arcs_or (slice_get arcs b)) ds ps) (temps_in ps)
 
 abbrev pub clobbers_of : Model → List Constraint
 clobbers_of m = over_blocks (spared_in m.ext.table.clobbered m.arcs (definers_of m)) 0 0 m.ext.blocks m.blocks
@@ -143,8 +143,8 @@ each_two f i [] = []
 each_two f i (x ∷ xs) = joined (places_from (f i x) (i + 1) xs) ++ each_two f (i + 1) xs
 
 -- the operand at place j of an instruction, with the registers of the space that is asked for
-abbrev pub side_of : ℕ → List Definer → Op → ℕ → VarId → Operand → Side
-side_of k ds instr j choice operand = record {
+abbrev pub operand_side : ℕ → List Definer → Op → ℕ → VarId → Operand → Side
+operand_side k ds instr j choice operand = record {
   choice = choice;
   regs = registers_of (definers_at ds operand.alts);
   allowed = registers_in k (space_read (Some instr) j);
@@ -152,7 +152,7 @@ side_of k ds instr j choice operand = record {
 
 -- two operands of the source's operations
 abbrev pub two_by : ℕ → List Definer → ExtKind → ℕ → Operand → Option VarId → ℕ → Operand → Option VarId → List Constraint
-two_by k ds (Body o) i a (Some c) j b (Some d) = Operands (side_of k ds o.op i c a) (side_of k ds o.op j d b) ∷ []
+two_by k ds (Body o) i a (Some c) j b (Some d) = Operands (operand_side k ds o.op i c a) (operand_side k ds o.op j d b) ∷ []
 two_by k ds kind i a c j b d = []
 
 -- they read one value where their first alternatives are the same
