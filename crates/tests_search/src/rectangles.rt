@@ -14,7 +14,7 @@ use un_prop::propagator::Pruned;
 use un_rect::apart::Apart;
 
 /// Sets of the time, activity and register of a temporary and the time of its user, for two temporaries.
-static TWO: [Case; 9] = [
+static TWO: [Case; 11] = [
     // The first surely has its register from 2 to 4, and the second starts by 3 and ends after 4.
     Case {
         before: &[
@@ -90,6 +90,27 @@ static TWO: [Case; 9] = [
         answer: Pruned::Tighter,
         after: &[&[2], &[1], &[5], &[1], &[3], &[1], &[5], &[0]],
     },
+    // The second cannot end before the first starts, so it starts no sooner than the first can end.
+    Case {
+        before: &[&[1, 4], &[1], &[5], &[3, 6], &[2, 9], &[1], &[5], &[8, 9]],
+        answer: Pruned::Tighter,
+        after: &[&[1, 4], &[1], &[5], &[3, 6], &[9], &[1], &[5], &[8, 9]],
+    },
+    // And the first and its user are no later than the second.
+    Case {
+        before: &[
+            &[1, 9],
+            &[1],
+            &[5],
+            &[3, 12],
+            &[2, 7],
+            &[1],
+            &[5],
+            &[10, 11],
+        ],
+        answer: Pruned::Tighter,
+        after: &[&[1], &[1], &[5], &[3], &[7], &[1], &[5], &[10, 11]],
+    },
     // All is fixed, and one register is held twice at 4.
     Case {
         before: &[&[1], &[1], &[5], &[5], &[4], &[1], &[5], &[6]],
@@ -101,7 +122,7 @@ static TWO: [Case; 9] = [
 /// A value that is saved, spilled and reloaded, and another. Sets of: the time and register of the value; the instruction and
 /// time of its spill, and the slot; the instruction, time, choice and register of its reload; the time and choice of its
 /// user; the register of the other, which has it from 4 to 7.
-static FOUR: [Case; 6] = [
+static FOUR: [Case; 7] = [
     // The user reads what was reloaded: the value is free from 2 on.
     Case {
         before: &[
@@ -194,6 +215,38 @@ static FOUR: [Case; 6] = [
             &[1],
             &[5],
             &[10],
+            &[2],
+            &[3],
+        ],
+    },
+    // Also while it is open when it does so.
+    Case {
+        before: &[
+            &[1],
+            &[3],
+            &[2],
+            &[2],
+            &[40],
+            &[3],
+            &[8],
+            &[1],
+            &[5],
+            &[9, 10],
+            &[0, 2],
+            &[3],
+        ],
+        answer: Pruned::Tighter,
+        after: &[
+            &[1],
+            &[3],
+            &[2],
+            &[2],
+            &[40],
+            &[3],
+            &[8],
+            &[1],
+            &[5],
+            &[9, 10],
             &[2],
             &[3],
         ],

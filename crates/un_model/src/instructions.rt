@@ -48,7 +48,7 @@ fn frame_instruction(op: Op, n: u32) -> Option<Op>
 
 /// The instruction that an operation issues, whose variable of the instruction has the value `n`: None at the bounds of a
 /// block and where it is inactive.
-pub(crate) fn instruction(kind: &ExtKind, n: u32) -> Option<Op>
+pub fn instruction(kind: &ExtKind, n: u32) -> Option<Op>
     ensures { result ≡ instruction_of kind.now n }
 {
     match kind {
@@ -97,7 +97,7 @@ pub(crate) fn needs(t: &Table, op: Option<Op>) -> Needs
 }
 
 /// Whether an instruction is a control transfer that ends its block.
-pub(crate) fn is_transfer(op: Op) -> bool
+pub fn is_transfer(op: Op) -> bool
     ensures { result ≡ is_transfer op }
 {
     match op {

@@ -1,16 +1,15 @@
 -- The variable of a call's part that is left to decide.
-use Rattle.std.proofs.Common.{ℕ, zero, suc, ◌≡◌, ◌<◌, Bool, true, List, ◌∷◌, ◌++◌, length, get_or, set, filter, Some, All, refl, sym, ap}
-use Rattle.std.proofs.Common.{◌∙◌, subst, arith}
+use Rattle.std.proofs.Common.{ℕ, zero, suc, ◌≡◌, true, List, ◌∷◌, ◌++◌, set, Some, sym, ap, ◌∙◌, subst, arith}
 use Rattle.std.proofs.lemmas.List.Elements.{All-contains, All-append, recursion_from_All}
 use Rattle.un_base.specs.declared.ids.VarId.{VarId}
-use Rattle.un_domains.specs.Sets.{Sets, set_at, least, cut_by, NoneEmpty}
+use Rattle.un_domains.specs.Sets.{Sets, cut_by, NoneEmpty}
 use Rattle.un_prop.specs.Rounds.{HasVars}
 use Rattle.un_prop.specs.Among.{among, AllAmong}
 use Rattle.un_prop.specs.AmongLaws.{in_list}
 use Rattle.un_prop.specs.Last.{point}
 use Rattle.un_prop.specs.LastLaws.{Ascend}
 use Rattle.un_prop.specs.declared.act.Temp.{Temp}
-use Rattle.un_rect.specs.Spans.{UserVars, TempVars}
+use Rattle.un_rect.specs.Spans.{TempVars}
 use Rattle.un_rect.specs.Apart.{temp_vars, users_vars}
 use Rattle.un_rect.specs.Clobber.{spares, CallVars, call_vars, check_call}
 use Rattle.un_rect.specs.ClobberLaws.{part_looks, part_known}
@@ -21,8 +20,8 @@ use Rattle.un_rect.specs.declared.clobber.ClobberCall.{ClobberCall}
 use Rattle.un_rect.specs.declared.opened.Opened.{Opened}
 use Rattle.un_rect.specs.declared.opened.Opened.TheVariants.{Nothing, One, More}
 
-module _ (vs : List VarId) (mask : ℕ) (a : Temp) (c : ClobberCall) (ascend : Ascend vs) (ha : TempVars vs a) (hc : CallVars vs c) (s : Sets)
-    (k : HasVars vs s) (full : NoneEmpty s) where
+module _ (vs : List VarId) (mask : ℕ) (a : Temp) (c : ClobberCall) (ascend : Ascend vs) (ha : TempVars vs a) (hc : CallVars vs c)
+    (s : Sets) (k : HasVars vs s) (full : NoneEmpty s) where
   sub : (u : VarId) → among (temp_vars a ++ (c.at ∷ users_vars c.behind)) u ≡ true → among vs u ≡ true
   sub u h = All-contains (λ v. among vs v ≡ true) (temp_vars a ++ (c.at ∷ users_vars c.behind)) u
       (All-append (λ v. among vs v ≡ true) (temp_vars a) (c.at ∷ users_vars c.behind) (temp_all vs a ha) own)

@@ -1,6 +1,6 @@
 -- Steps of the checks.
-use Rattle.std.proofs.Common.{ℕ, ◌≡◌, ◌≢◌, ◌<◌, ◌⊎◌, Bool, true, false, ◌||◌, List, ◌++◌, length, get_or, set, filter, Some, All, refl, sym}
-use Rattle.std.proofs.Common.{ap, ◌∙◌, subst, inl, inr}
+use Rattle.std.proofs.Common.{ℕ, ◌≡◌, ◌≢◌, ◌<◌, Bool, true, false, ◌||◌, List, ◌++◌, length, get_or, set, Some, All, refl, sym, ap, ◌∙◌}
+use Rattle.std.proofs.Common.{subst, inl, inr}
 use Rattle.std.specs.declared.option.Option.{Option}
 use Rattle.std.specs.List.{AllByRecursion}
 use Rattle.std.proofs.lemmas.List.{get_or-set_same, get_or-set_other}
@@ -22,7 +22,7 @@ use Rattle.un_prop.specs.declared.propagator.Pruned.TheVariants.{Same, Failed}
 use Rattle.un_rect.specs.Spans.{TempVars}
 use Rattle.un_rect.specs.Apart.{temp_vars, pair_vars, pair_holds, check_pair}
 use Rattle.un_rect.specs.ApartLaws.{pair_looks}
-use Rattle.un_rect.specs.Checks.{is_off, differ, surely_apart}
+use Rattle.un_rect.specs.Checks.{is_off, differ}
 use Rattle.un_rect.specs.CheckLaws.{check_apart, ends_outside}
 use Rattle.un_rect.specs.Opened.{opened_after, is_more, Says}
 use Rattle.un_rect.specs.OpenedLaws.{after_append, more_is, says_of, says_more, last_many, last_more, last_one, last_none}
@@ -86,8 +86,8 @@ module _ (vs : List VarId) (a b : Temp) (ascend : Ascend vs) (ha : TempVars vs a
   left_nothing first last p q e = last_none (temp_vars a ++ temp_vars b) vs sub rises (pair_holds a b) looks s a.reg
       (among_left (temp_vars a) (temp_vars b) a.reg (among_here a.reg _)) known full (whole first last p q ∙ e)
 
-  pub left_one : (v : VarId) (first last : Opened) → first ≡ opened_after s (temp_vars a) Nothing
-      → last ≡ opened_after s (temp_vars b) first → last ≡ One v
+  pub left_one : (v : VarId) (first last : Opened) → first ≡ opened_after s (temp_vars a) Nothing → last ≡ opened_after s (temp_vars b)
+      first → last ≡ One v
       → (among vs v ≡ true) × (check_pair vs a b s ≡ cut_by (λ y. pair_holds a b (set (point s) v.0 y)) v.0 s)
   left_one v first last p q e =
       let is = whole first last p q ∙ e in (

@@ -49,5 +49,5 @@ choice_is q o v s e = ap (λ (p : Option VarId). choice_cut q p s) e
 pub in_choice : (vs : List VarId) (o : Option VarId) (v : VarId) (s : Sets) → o ≡ Some v → AllAmong vs (choice_vars o) → HasVars vs s
     → v.0 < length s
 in_choice vs None v s e all k = absurd (cc e)
-in_choice vs (Some u) v s e all k = let same : u.0 ≡ v.0 = ap (λ (w : VarId). w.0) (let e' : u ≡ v = cc e in e') in let lt =
-    has_among vs u s (all 0 u (omega arith)) k in omega (arith, same, lt)
+in_choice vs (Some u) v s e all k = let same : u.0 ≡ v.0 = ap (λ (w : VarId). w.0) (let e' : u ≡ v = cc e in e') in let lt = has_among vs
+    u s (all 0 u (omega arith)) k in omega (arith, same, lt)

@@ -1,25 +1,21 @@
 -- The laws of Apart.
-use Rattle.std.proofs.Common.{ℕ, zero, suc, ◌≡◌, ◌≢◌, ◌<◌, ◌≤◌, ◌+◌, ◌⊎◌, Bool, true, false, not, ◌&&◌, ◌||◌, List, [], ◌∷◌, ◌++◌, length}
-use Rattle.std.proofs.Common.{get_or, filter, map, max, nat_eq, nat_le, nat_lt, None, Some, option_and_then, MatchOption, All, refl, sym}
-use Rattle.std.proofs.Common.{ap, ◌∙◌, subst, arith, inl, inr}
-use Rattle.std.specs.declared.option.Option.{Option}
+use Rattle.std.proofs.Common.{ℕ, zero, suc, ◌≡◌, ◌<◌, ◌≤◌, ◌⊎◌, Bool, true, false, not, ◌&&◌, ◌||◌, List, [], ◌∷◌, ◌++◌, length, get_or}
+use Rattle.std.proofs.Common.{map, max, nat_eq, nat_le, nat_lt, Some, refl, sym, ap, ◌∙◌, subst, arith, inl, inr}
 use Rattle.std.specs.List.{AllByRecursion, Contains, list_all}
 use Rattle.std.proofs.lemmas.Bool.{cases_lt}
 use Rattle.std.proofs.lemmas.Bool.Decides.{nat_tests}
 use Rattle.std.proofs.lemmas.List.Elements.{recursion_from_All}
 use Rattle.un_base.specs.declared.ids.VarId.{VarId}
-use Rattle.un_domains.specs.Sets.{Sets, set_at, has, least, cut_by, IsIn, NoneEmpty, Kept}
-use Rattle.un_domains.specs.SetLaws.{same_or_not}
+use Rattle.un_domains.specs.Sets.{Sets, set_at, has, IsIn, NoneEmpty, Kept}
 use Rattle.un_domains.specs.CutLaws.{cut_by_kept}
 use Rattle.un_domains.specs.Order.{Below}
 use Rattle.un_prop.specs.Rounds.{HasVars}
 use Rattle.un_prop.specs.Parts.{Part, all_meet, SameAt, ChecksForward}
-use Rattle.un_prop.specs.Lawful.{Lawful, LawfulTest, Agree}
+use Rattle.un_prop.specs.Lawful.{Lawful, LawfulTest}
 use Rattle.un_prop.specs.Steps.{lawful_cut_by, lawful_then}
 use Rattle.un_prop.specs.ChainLaws.{then_kept, known_in, stable_then}
-use Rattle.un_prop.specs.Last.{last_cut}
 use Rattle.un_prop.specs.LastLaws.{Ascend, last_lawful, last_keeps, last_forward, passes_all}
-use Rattle.un_prop.specs.Among.{among, AllAmong}
+use Rattle.un_prop.specs.Among.{among}
 use Rattle.un_prop.specs.AmongLaws.{in_list, has_among, same_var, same_active}
 use Rattle.un_prop.specs.Acts.{is_active, Occupies}
 use Rattle.un_prop.specs.Looks.{sure}
@@ -32,10 +28,12 @@ use Rattle.un_rect.specs.Spans.{starts, ends, greatest_start, is_only, least_end
 use Rattle.un_rect.specs.SpansLaws.{only_is, only_below, occupied, occupies, starts_alike, ends_alike, greatest_start_below}
 use Rattle.un_rect.specs.SpansLaws.{least_end_below, greatest_start_alike, least_end_alike, starts_in, ends_in}
 use Rattle.un_rect.specs.Pairs.{each_pair}
-use Rattle.un_rect.specs.PairLaws.{Checks, checks_first, checks_second, pairs_check, pairs_keep, pairs_lawful, pairs_stable}
+use Rattle.un_rect.specs.PairLaws.{Checks, checks_second, pairs_check, pairs_keep, pairs_lawful, pairs_stable}
+use Rattle.un_rect.specs.Orders.{order_cut, order_pair}
+use Rattle.un_rect.specs.OrdersLaws.{order_keeps, order_pair_lawful}
 use Rattle.un_rect.specs.TempLaws.{filter_ascends, pair_first, pair_second, part_all, lawful_part}
 use Rattle.un_rect.specs.Apart.{pair_holds, apart_holds, IsApart, temp_vars, pair_vars, pair_part, apart_parts, overlap, clash_test}
-use Rattle.un_rect.specs.Apart.{clash_cut, clash_pair, check_pair, apart_cut, ApartVars, ApartStrong}
+use Rattle.un_rect.specs.Apart.{clash_cut, clash_pair, check_pair, bounds_cut, apart_cut, ApartVars, ApartStrong}
 
 -- What two temporaries mean
 
@@ -109,13 +107,13 @@ pub apart_pairs : (temps : List Temp) (x : List ℕ) → apart_holds temps x ≡
     → pair_holds (get_or temps i d) (get_or temps j d) x ≡ true
 apart_pairs [] x h i j d lt below = absurd (omega (arith, below))
 apart_pairs (a ∷ rest) x h i zero d lt below = absurd (omega (arith, lt))
-apart_pairs (a ∷ rest) x h zero (suc j) d lt below = all_at (λ b. pair_holds a b x) rest
-    (firsts (list_all (λ b. pair_holds a b x) rest) (apart_holds rest x) h).0 j d (omega (arith, below))
-apart_pairs (a ∷ rest) x h (suc i) (suc j) d lt below = apart_pairs rest x
-    (firsts (list_all (λ b. pair_holds a b x) rest) (apart_holds rest x) h).1 i j d (omega (arith, lt)) (omega (arith, below))
+apart_pairs (a ∷ rest) x h zero (suc j) d lt below = all_at (λ b. pair_holds a b x) rest (firsts (list_all (λ b. pair_holds a b x) rest)
+    (apart_holds rest x) h).0 j d (omega (arith, below))
+apart_pairs (a ∷ rest) x h (suc i) (suc j) d lt below = apart_pairs rest x (firsts (list_all (λ b. pair_holds a b x) rest)
+    (apart_holds rest x) h).1 i j d (omega (arith, lt)) (omega (arith, below))
 
-pub pairs_apart : (temps : List Temp) (x : List ℕ) → ((i j : ℕ) (d : Temp) → i < j → j < length temps
-    → pair_holds (get_or temps i d) (get_or temps j d) x ≡ true)
+pub pairs_apart : (temps : List Temp) (x : List ℕ) → ((i j : ℕ) (d : Temp) → i < j → j < length temps → pair_holds (get_or temps i d)
+    (get_or temps j d) x ≡ true)
     → apart_holds temps x ≡ true
 pairs_apart [] x h = refl
 pairs_apart (a ∷ rest) x h = both (list_all (λ b. pair_holds a b x) rest) (apart_holds rest x)
@@ -133,11 +131,11 @@ is_apart temps x h = pairs_apart temps x (λ i j d lt below. free_pair (get_or t
 
 -- Its parts
 
-meet_more : (f : Temp → Part) (x : List ℕ) (ps : List Part) (bs : List Temp)
-    → all_meet (map f bs ++ ps) x ≡ (list_all (λ b. (f b).meets x) bs && all_meet ps x)
+meet_more : (f : Temp → Part) (x : List ℕ) (ps : List Part) (bs : List Temp) → all_meet (map f bs ++ ps) x ≡ (list_all (λ b. (f b).meets x)
+    bs && all_meet ps x)
 meet_more f x ps [] = refl
-meet_more f x ps (b ∷ bs) = ap (λ (c : Bool). (f b).meets x && c) (meet_more f x ps bs)
-    ∙ assoc ((f b).meets x) (list_all (λ b. (f b).meets x) bs) (all_meet ps x)
+meet_more f x ps (b ∷ bs) = ap (λ (c : Bool). (f b).meets x && c) (meet_more f x ps bs) ∙ assoc ((f b).meets x)
+    (list_all (λ b. (f b).meets x) bs) (all_meet ps x)
   where
     assoc : (b c d : Bool) → (b && (c && d)) ≡ ((b && c) && d)
     assoc true c d = refl
@@ -150,8 +148,8 @@ apart_whole vs (a ∷ rest) x = ap (λ (c : Bool). list_all (λ b. pair_holds a 
 
 -- a part is that of two places
 abbrev pub PartOf : List VarId → List Temp → Part → Type 0
-PartOf vs temps part = (i : ℕ) × (j : ℕ) × (i < j) × (j < length temps)
-    × ((d : Temp) → pair_part vs (get_or temps i d) (get_or temps j d) ≡ part)
+PartOf vs temps part = (i : ℕ) × (j : ℕ) × (i < j) × (j < length temps) × ((d : Temp) → pair_part vs (get_or temps i d) (get_or temps j d) ≡
+    part)
 
 part_more : (f : Temp → Part) (ps : List Part) (bs : List Temp) (part : Part) → Contains (map f bs ++ ps) part
     → ((j : ℕ) × (j < length bs) × ((d : Temp) → f (get_or bs j d) ≡ part)) ⊎ Contains ps part
@@ -170,7 +168,8 @@ part_places vs (a ∷ rest) part c = elim (part_more (pair_part vs a) (apart_par
     suc (r.0),
     suc (r.1),
     (let lt = r.2 in omega (arith, lt)),
-    (let below = r.3 in omega (arith, below)),
+    (let below = r.3 in
+        omega (arith, below)),
     r.4,
   ))
 ]
@@ -194,8 +193,8 @@ pair_looks vs a b ha hb x y same = or_alike _ _ _ _
     (or_alike _ _ _ _ (num_alike nat_le _ _ _ _ (ends_alike vs x y same a ha) (starts_alike vs x y same b hb))
     (num_alike nat_le _ _ _ _ (ends_alike vs x y same b hb) (starts_alike vs x y same a ha)))
 
-row_looks : (vs : List VarId) (x y : List ℕ) → SameAt vs x y → (a : Temp) → TempVars vs a → (bs : List Temp)
-    → AllByRecursion (TempVars vs) bs
+row_looks : (vs : List VarId) (x y : List ℕ) → SameAt vs x y → (a : Temp) → TempVars vs a → (bs : List Temp) → AllByRecursion (TempVars vs)
+    bs
     → list_all (λ b. pair_holds a b x) bs ≡ list_all (λ b. pair_holds a b y) bs
 row_looks vs x y same a ha [] all = refl
 row_looks vs x y same a ha (b ∷ bs) all = and_alike _ _ _ _ (pair_looks vs a b ha all.0 x y same) (row_looks vs x y same a ha bs all.1)
@@ -309,13 +308,19 @@ module _ (vs : List VarId) (ascend : Ascend vs) where
     checks_lawful : Lawful vs (each_pair (check_pair vs) temps (length temps))
     checks_lawful = pairs_lawful vs (TempVars vs) (check_pair vs) temps check_lawful each (length temps)
 
+    orders_lawful : Lawful vs (each_pair order_pair temps (length temps))
+    orders_lawful = pairs_lawful vs (TempVars vs) order_pair temps (order_pair_lawful vs) each (length temps)
+
+    bounds_lawful : Lawful vs (bounds_cut temps)
+    bounds_lawful = lawful_then vs (each_pair clash_pair temps (length temps)) (each_pair order_pair temps (length temps)) clashes_lawful
+        orders_lawful
+
     pub apart_lawful : Lawful vs (apart_cut vs temps)
-    apart_lawful = lawful_then vs (each_pair clash_pair temps (length temps)) (each_pair (check_pair vs) temps (length temps))
-        clashes_lawful checks_lawful
+    apart_lawful = lawful_then vs (bounds_cut temps) (each_pair (check_pair vs) temps (length temps)) bounds_lawful checks_lawful
 
     pub apart_keeps : (s : Sets) (x : List ℕ) → HasVars vs s → IsIn x s → apart_holds temps x ≡ true → Kept x (apart_cut vs temps s)
-    apart_keeps s x k there holds = then_kept (each_pair (check_pair vs) temps (length temps)) x
-        (each_pair clash_pair temps (length temps) s)
+    apart_keeps s x k there holds = then_kept (each_pair (check_pair vs) temps (length temps)) x (bounds_cut temps s)
+        (then_kept (each_pair order_pair temps (length temps)) x (each_pair clash_pair temps (length temps) s)
         (pairs_keep vs (TempVars vs) clash_pair temps x (length temps) d (omega arith) (λ i j m lt below km in_m. (
         let a = get_or temps i d in
         let b = get_or temps j d in
@@ -323,8 +328,17 @@ module _ (vs : List VarId) (ascend : Ascend vs) where
         let hb = h j d below in
         let apart = pair_apart a b x (apart_pairs temps x holds i j d lt below) in
         then_kept (clash_cut b a) x (clash_cut a b m) (clash_keeps vs a b ha hb m x km in_m apart)
-        (λ u in_u. clash_keeps vs b a hb ha u x (known_in vs m u x in_m in_u km) in_u
-        (λ on_b on_a e. elim (apart on_a on_b (sym e)) [ inl le ↦ inr le | inr le ↦ inl le ])))) s k there)
+        (λ u in_u. clash_keeps vs b a hb ha u x (known_in vs m u x in_m in_u km) in_u (λ on_b on_a e. elim (apart on_a on_b (sym e))
+        [ inl le ↦ inr le | inr le ↦ inl le ])))) s k there)
+        (λ n in_n. pairs_keep vs (TempVars vs) order_pair temps x (length temps) d (omega arith) (λ i j m lt below km in_m. (
+        let a = get_or temps i d in
+        let b = get_or temps j d in
+        let ha = h i d (omega (arith, lt, below)) in
+        let hb = h j d below in
+        let apart = pair_apart a b x (apart_pairs temps x holds i j d lt below) in
+        then_kept (order_cut b a) x (order_cut a b m) (order_keeps vs a b ha hb m x km in_m apart)
+        (λ u in_u. order_keeps vs b a hb ha u x (known_in vs m u x in_m in_u km) in_u (λ on_b on_a e. elim (apart on_a on_b (sym e))
+        [ inl le ↦ inr le | inr le ↦ inl le ])))) n (known_in vs s n x there in_n k) in_n))
         (λ m in_m. pairs_keep vs (TempVars vs) (check_pair vs) temps x (length temps) d (omega arith) (λ i j u lt below ku in_u. (
         let a = get_or temps i d in
         let b = get_or temps j d in
@@ -339,8 +353,8 @@ module _ (vs : List VarId) (ascend : Ascend vs) where
         d = record { on = Always; at = Const 0; reg = record { 0 = 0 }; users = [] }
 
     -- a part is checked where it stands in the chain
-    check_forward : (a b : Temp) → TempVars vs a → TempVars vs b → (v : ℕ) (x : List ℕ)
-        → Checks vs (pair_vars vs a b) v x (pair_holds a b x) (check_pair vs a b)
+    check_forward : (a b : Temp) → TempVars vs a → TempVars vs b → (v : ℕ) (x : List ℕ) → Checks vs (pair_vars vs a b) v x
+        (pair_holds a b x) (check_pair vs a b)
     check_forward a b ha hb v x s u k full one is there = last_forward (pair_vars vs a b) (pair_holds a b)
         (pair_looks (pair_vars vs a b) a b (pair_first vs a b ha) (pair_second vs a b hb)) s u v x
         (filter_ascends (among (temp_vars a ++ temp_vars b)) vs ascend)
@@ -360,11 +374,11 @@ module _ (vs : List VarId) (ascend : Ascend vs) where
             let ha = h i d (omega (arith, lt, below)) in
             let hb = h j d below in
             let us = pair_vars vs a b in
-            let known : (m : Sets) → HasVars vs m → HasVars us m =
-            λ m km. part_all (λ v. v.0 < length m) (among (temp_vars a ++ temp_vars b)) vs km in
+            let known : (m : Sets) → HasVars vs m → HasVars us m = λ m km. part_all (λ v. v.0 < length m)
+            (among (temp_vars a ++ temp_vars b)) vs km in
             subst (λ (p : Part). ChecksForward p vs (apart_cut vs temps)) (same d) (λ s t v x k full grounded one is there.
-            checks_second vs us known v x (pair_holds a b x) (each_pair clash_pair temps (length temps))
-            (each_pair (check_pair vs) temps (length temps)) clashes_lawful
+            checks_second vs us known v x (pair_holds a b x) (bounds_cut temps) (each_pair (check_pair vs) temps (length temps))
+            bounds_lawful
             (pairs_check vs us known v x (pair_holds a b x) (TempVars vs) (check_pair vs) check_lawful temps each (length temps) i j d
             (omega arith) lt below hb (check_forward a b ha hb v x))
             s t k full one is there)
@@ -393,6 +407,7 @@ module _ (vs : List VarId) (ascend : Ascend vs) where
 
         stays : (m n : ℕ) → m < n → n < length temps → clash_pair (get_or temps m d) (get_or temps n d) s ≡ Some s
         stays m n lt below = pairs_stable vs (TempVars vs) clash_pair temps clash_pair_lawful each (length temps) s (omega arith) k full
-            (stable_then vs (each_pair clash_pair temps (length temps)) (each_pair (check_pair vs) temps (length temps)) clashes_lawful
-            checks_lawful s k full e).0
+            (stable_then vs (each_pair clash_pair temps (length temps)) (each_pair order_pair temps (length temps)) clashes_lawful
+            orders_lawful s k full
+            (stable_then vs (bounds_cut temps) (each_pair (check_pair vs) temps (length temps)) bounds_lawful checks_lawful s k full e).0).0
             m n d lt below (h n d below)

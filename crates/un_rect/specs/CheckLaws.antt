@@ -1,6 +1,6 @@
 -- Laws of what the code looks at.
-use Rattle.std.proofs.Common.{ℕ, ◌≡◌, ◌≢◌, ◌<◌, ◌≤◌, ◌⊎◌, Bool, true, false, not, ◌&&◌, ◌||◌, cond, List, [], ◌∷◌, ◌++◌, length, get_or}
-use Rattle.std.proofs.Common.{set, map, filter, nat_eq, None, Some, MatchOption, All, refl, sym, ap, ◌∙◌, subst, arith, inl, inr}
+use Rattle.std.proofs.Common.{ℕ, ◌≡◌, ◌≢◌, ◌<◌, ◌⊎◌, Bool, true, false, not, ◌||◌, List, [], ◌++◌, length, get_or, set, nat_eq, None, Some}
+use Rattle.std.proofs.Common.{MatchOption, refl, sym, ap, ◌∙◌, subst, arith, inl, inr}
 use Rattle.std.specs.declared.option.Option.{Option}
 use Rattle.std.specs.Bool.{⊤}
 use Rattle.std.proofs.lemmas.Bool.Decides.{nat_tests}
@@ -14,7 +14,7 @@ use Rattle.un_prop.specs.Steps.{has_var, cut_outside}
 use Rattle.un_prop.specs.ChainLaws.{least_in}
 use Rattle.un_prop.specs.Among.{among, AllAmong}
 use Rattle.un_prop.specs.AmongLaws.{has_among}
-use Rattle.un_prop.specs.Acts.{act_vars, act_number, is_active}
+use Rattle.un_prop.specs.Acts.{act_vars, is_active}
 use Rattle.un_prop.specs.Last.{last_of, last_cut, last_cut_at, point}
 use Rattle.un_prop.specs.LastLaws.{last_single, cut_all}
 use Rattle.un_prop.specs.LookLaws.{firsts}
@@ -75,22 +75,23 @@ differ_in s x there u v wu wv e same =
     let two = firsts (nat_eq (length (set_at s v.0)) 1) _ one.1 in
     let iu = only (set_at s u.0) (get_or x u.0 0) one.0 (there.each u.0 wu) in
     let iv = only (set_at s v.0) (get_or x v.0 0) two.0 (there.each v.0 wv) in
-    let is : nat_eq (least (set_at s u.0)) (least (set_at s v.0)) ≡ true =
-    (let alike : least (set_at s u.0) ≡ least (set_at s v.0) = sym iu ∙ (same ∙ iv) in grind (arith, nat_tests, alike)) in
+    let is : nat_eq (least (set_at s u.0)) (least (set_at s v.0)) ≡ true = (let alike : least (set_at s u.0) ≡ least (set_at s v.0) = sym iu
+    ∙ (same ∙ iv) in grind (arith, nat_tests, alike)) in
     let bad : false ≡ true = sym (ap not is) ∙ two.1 in cc bad
   where
     only : (xs : List ℕ) (y : ℕ) → nat_eq (length xs) 1 ≡ true → has xs y ≡ true → y ≡ least xs
-    only xs y e h = only_is xs (least xs) y (let here : nat_eq (least xs) (least xs) ≡ true = grind (arith, nat_tests) in rw (e, here) refl)
-        h
+    only xs y e h = only_is xs (least xs) y (let here : nat_eq (least xs) (least xs) ≡ true = grind (arith, nat_tests) in
+        rw (e, here) refl) h
 
 pub apart_in : (vs : List VarId) (a b : Temp) → TempVars vs a → TempVars vs b → (s : Sets) (x : List ℕ) → IsIn x s → HasVars vs s
     → surely_apart a b s ≡ true → pair_holds a b x ≡ true
-apart_in vs a b ha hb s x there k e = pair_is a b x (λ on_a on_b same.
-    elim (or_cases (is_off a.on s) (is_off b.on s || differ a.reg b.reg s) e) [
+apart_in vs a b ha hb s x there k e = pair_is a b x
+    (λ on_a on_b same. elim (or_cases (is_off a.on s) (is_off b.on s || differ a.reg b.reg s) e) [
       | inl off ↦ absurd (off_inactive vs s x there k a.on ha.of_on off on_a)
       | inr rest ↦ elim (or_cases (is_off b.on s) (differ a.reg b.reg s) rest) [
         | inl off ↦ absurd (off_inactive vs s x there k b.on hb.of_on off on_b)
-        | inr other ↦ absurd (differ_in s x there a.reg b.reg (has_among vs a.reg s ha.of_reg k) (has_among vs b.reg s hb.of_reg k) other same)
+        | inr other ↦ absurd (differ_in s x there a.reg b.reg (has_among vs a.reg s ha.of_reg k)
+            (has_among vs b.reg s hb.of_reg k) other same)
       ]
     ])
 

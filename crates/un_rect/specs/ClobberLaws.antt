@@ -1,31 +1,27 @@
 -- The laws of Clobber.
-use Rattle.std.proofs.Common.{ℕ, zero, suc, ◌≡◌, ◌≢◌, ◌<◌, ◌≤◌, ◌⊎◌, Bool, true, false, not, ◌&&◌, ◌||◌, List, [], ◌∷◌, ◌++◌, length}
-use Rattle.std.proofs.Common.{get_or, filter, map, nat_eq, nat_le, nat_lt, None, Some, option_and_then, All, refl, sym, ap, ◌∙◌, subst}
-use Rattle.std.proofs.Common.{arith, inl, inr}
+use Rattle.std.proofs.Common.{ℕ, zero, suc, ◌≡◌, ◌<◌, ◌≤◌, ◌⊎◌, Bool, true, false, not, ◌&&◌, ◌||◌, List, [], ◌∷◌, ◌++◌, length, get_or}
+use Rattle.std.proofs.Common.{nat_eq, nat_le, nat_lt, None, Some, option_and_then, All, refl, sym, ap, ◌∙◌, subst, arith, inl, inr}
 use Rattle.std.specs.declared.option.Option.{Option}
 use Rattle.std.specs.List.{AllByRecursion, Contains, list_any, list_all}
 use Rattle.std.proofs.lemmas.Bool.Decides.{nat_tests}
 use Rattle.std.proofs.lemmas.List.Elements.{recursion_from_All, All-from_recursion}
 use Rattle.un_base.specs.declared.ids.VarId.{VarId}
-use Rattle.un_domains.specs.Sets.{Sets, set_at, has, least, greatest, cut_by, IsIn, NoneEmpty, Kept}
+use Rattle.un_domains.specs.Sets.{Sets, set_at, has, least, greatest, IsIn, NoneEmpty, Kept}
 use Rattle.un_domains.specs.SetLaws.{least-le, has-fold_max}
 use Rattle.un_domains.specs.CutLaws.{cut_by_kept}
-use Rattle.un_domains.specs.Order.{Below}
-use Rattle.un_domains.specs.OrderLaws.{has_below, least_below, greatest_below, has_here}
+use Rattle.un_domains.specs.OrderLaws.{has_below, least_below, greatest_below}
 use Rattle.un_isa.specs.Tables.{in_mask}
 use Rattle.un_prop.specs.Rounds.{HasVars}
 use Rattle.un_prop.specs.Parts.{Part, all_meet, SameAt, ChecksForward}
-use Rattle.un_prop.specs.Lawful.{Lawful, LawfulTest, Agree}
+use Rattle.un_prop.specs.Lawful.{Lawful, LawfulTest}
 use Rattle.un_prop.specs.Steps.{lawful_cut_by, lawful_some, lawful_then}
 use Rattle.un_prop.specs.ChainLaws.{then_kept, known_in, stable_then, each_stable}
-use Rattle.un_prop.specs.Last.{last_cut}
 use Rattle.un_prop.specs.LastLaws.{Ascend, last_lawful, last_keeps, last_forward, passes_all}
 use Rattle.un_prop.specs.Among.{among, AllAmong}
 use Rattle.un_prop.specs.AmongLaws.{in_list, has_among, same_var, same_active}
 use Rattle.un_prop.specs.Acts.{act_vars, act_number, is_active, chooses, is_user}
 use Rattle.un_prop.specs.Looks.{sure}
-use Rattle.un_prop.specs.LookLaws.{both, firsts, not_or, or_not, not_true, not_from, set_alike, sure_alike, sure_below, sure_active}
-use Rattle.un_prop.specs.LookLaws.{known_below}
+use Rattle.un_prop.specs.LookLaws.{both, firsts, or_not, not_true, not_from, set_alike, sure_alike, sure_below, sure_active, known_below}
 use Rattle.un_prop.specs.PlaceLaws.{act_lawful, act_keeps}
 use Rattle.un_prop.specs.SomewhereLaws.{any_more, any_has}
 use Rattle.un_prop.specs.declared.act.Act.{Act}
@@ -40,7 +36,7 @@ use Rattle.un_rect.specs.Spans.{starts, ends, greatest_start, least_end, sure_us
 use Rattle.un_rect.specs.SpansLaws.{starts_alike, ends_alike, user_alike, greatest_start_below, least_end_below, sure_user_below}
 use Rattle.un_rect.specs.SpansLaws.{greatest_start_alike, least_end_alike, sure_user_alike, sure_user_reads, starts_in, ends_in}
 use Rattle.un_rect.specs.TempLaws.{among_left, among_right, among_here, among_later, among_filter, own_temp, own_users, users_wider}
-use Rattle.un_rect.specs.TempLaws.{users_shared, users_all, temp_wider, temp_shared, filter_ascends, part_all, lawful_part}
+use Rattle.un_rect.specs.TempLaws.{users_shared, temp_wider, temp_shared, filter_ascends, part_all, lawful_part}
 use Rattle.un_rect.specs.Clobber.{avoids, spares, clobber_holds, CallVars, call_vars, call_part, clobber_parts, may_survive, covers}
 use Rattle.un_rect.specs.Clobber.{is_read_behind, lasts, hit_test, hit_cut, off_test, off_cut, cycle_test, cycle_cut, reader_test}
 use Rattle.un_rect.specs.Clobber.{choice_cut, reader_cut, call_steps, check_call, clobber_cut, ClobberStrong}
@@ -48,8 +44,8 @@ use Rattle.un_rect.specs.declared.clobber.ClobberCall.{ClobberCall}
 
 -- Tests of lists
 
-any_entry : {A : Type 0} (P : A → Type 0) (p q : A → Bool) → ((a : A) → P a → p a ≡ true → q a ≡ true) → (xs : List A) → AllByRecursion P xs
-    → list_any p xs ≡ true → list_any q xs ≡ true
+any_entry : {A : Type 0} (P : A → Type 0) (p q : A → Bool) → ((a : A) → P a → p a ≡ true → q a ≡ true) → (xs : List A)
+    → AllByRecursion P xs → list_any p xs ≡ true → list_any q xs ≡ true
 any_entry P p q h [] all e = absurd (cc e)
 any_entry P p q h (a ∷ xs) all e = by (p a) (q a) (h a all.0) e (any_entry P p q h xs all.1)
   where
@@ -95,15 +91,15 @@ all_pass p (a ∷ xs) e = let two = firsts (p a) (list_all p xs) e in (two.0, al
 
 pub spared : (mask : ℕ) (a : Temp) (c : ClobberCall) (x : List ℕ) → spares mask a c x ≡ true → is_active a.on x ≡ true
     → in_mask mask (get_or x a.reg.0 0) ≡ true
-    → ((get_or x c.at.0 0 < starts a x) ⊎ (ends a x ≤ get_or x c.at.0 0))
-    × (c.before ≡ true → list_any (λ (u : UserOf). is_user u x) c.behind ≡ true → ⊥)
+    → ((get_or x c.at.0 0 < starts a x) ⊎ (ends a x ≤ get_or x c.at.0 0)) × (c.before ≡ true
+    → list_any (λ (u : UserOf). is_user u x) c.behind ≡ true → ⊥)
 spared mask a c x h on at =
     let two = firsts (nat_lt (get_or x c.at.0 0) (starts a x) || nat_le (ends a x) (get_or x c.at.0 0))
     (not (c.before && list_any (λ (u : UserOf). is_user u x) c.behind))
     (or_not (is_active a.on x && in_mask mask (get_or x a.reg.0 0)) (avoids a c x) h (both _ _ on at)) in (
       by (nat_lt (get_or x c.at.0 0) (starts a x)) refl two.0,
-      λ b r. not_true (c.before && list_any (λ (u : UserOf). is_user u x) c.behind)
-          two.1 (both _ _ b r),
+      λ b r. not_true
+          (c.before && list_any (λ (u : UserOf). is_user u x) c.behind) two.1 (both _ _ b r),
     )
   where
     by : (b : Bool) → nat_lt (get_or x c.at.0 0) (starts a x) ≡ b → (b || nat_le (ends a x) (get_or x c.at.0 0)) ≡ true
@@ -128,11 +124,11 @@ call_looks vs x y same mask a ha c hc =
     ∙ (ap (λ (n : ℕ). not (is_active a.on y && in_mask mask (get_or y a.reg.0 0)) ||
     ((nat_lt n (starts a x) || nat_le (ends a x) n) && not (c.before && list_any (λ (u : UserOf). is_user u x) c.behind))) at
     ∙ (ap (λ (n : ℕ). not (is_active a.on y && in_mask mask (get_or y a.reg.0 0)) ||
-    ((nat_lt (get_or y c.at.0 0) n || nat_le (ends a x) (get_or y c.at.0 0)) &&
-    not (c.before && list_any (λ (u : UserOf). is_user u x) c.behind))) start
+    ((nat_lt (get_or y c.at.0 0) n || nat_le (ends a x) (get_or y c.at.0 0)) && not
+    (c.before && list_any (λ (u : UserOf). is_user u x) c.behind))) start
     ∙ (ap (λ (n : ℕ). not (is_active a.on y && in_mask mask (get_or y a.reg.0 0)) ||
-    ((nat_lt (get_or y c.at.0 0) (starts a y) || nat_le n (get_or y c.at.0 0)) &&
-    not (c.before && list_any (λ (u : UserOf). is_user u x) c.behind))) end
+    ((nat_lt (get_or y c.at.0 0) (starts a y) || nat_le n (get_or y c.at.0 0)) && not
+    (c.before && list_any (λ (u : UserOf). is_user u x) c.behind))) end
     ∙ ap (λ (b : Bool). not (is_active a.on y && in_mask mask (get_or y a.reg.0 0)) ||
     ((nat_lt (get_or y c.at.0 0) (starts a y) || nat_le (ends a y) (get_or y c.at.0 0)) && not (c.before && b))) read))))
 
@@ -167,8 +163,8 @@ part_call vs mask a (c ∷ calls) part (suc i, lt, e) =
 module _ (vs : List VarId) (mask : ℕ) (a : Temp) (ha : TempVars vs a) where
   survive_lawful : LawfulTest vs (λ s y. may_survive mask a s)
   survive_lawful = record {
-    monotone = λ t s y k full le e. any_more (λ r. not (in_mask mask r)) (λ r. not (in_mask mask r)) (set_at t a.reg.0) (set_at s a.reg.0)
-        (λ r there is. (has_below t s a.reg.0 r le there, is)) e;
+    monotone = λ t s y k full le e. any_more (λ r. not (in_mask mask r)) (λ r. not (in_mask mask r)) (set_at t a.reg.0)
+        (set_at s a.reg.0) (λ r there is. (has_below t s a.reg.0 r le there, is)) e;
     local = λ s t y agree. ap (list_any (λ r. not (in_mask mask r))) (set_alike vs s t agree a.reg ha.of_reg);
   }
 
@@ -178,8 +174,8 @@ module _ (vs : List VarId) (mask : ℕ) (a : Temp) (ha : TempVars vs a) where
   sure_inherited : (on : Act) → AllAmong vs (act_vars on) → Inherited vs (λ s y. sure on s)
   sure_inherited on of_on = record {
     stays = λ t s y k full le e. sure_below vs t s le on e;
-    local =
-        λ s t y agree. sure_alike vs s t agree on of_on;
+    local = λ s t y agree. sure_alike vs s t
+        agree on of_on;
   }
 
   -- a register that is not left outside the mask is in it
@@ -195,13 +191,13 @@ module _ (vs : List VarId) (mask : ℕ) (a : Temp) (ha : TempVars vs a) where
   time_inherited : Inherited vs (λ s y. nat_le (greatest_start a s) y && nat_lt y (least_end a s))
   time_inherited = both_inherited vs (λ s y. nat_le (greatest_start a s) y) (λ s y. nat_lt y (least_end a s))
       (record {
-        stays = λ t s y k full le e. (let less = greatest_start_below vs t s le a in let p : greatest_start a s ≤ y =
-            grind (arith, nat_tests, e) in let q : greatest_start a t ≤ y = omega (arith, less, p) in grind (arith, nat_tests, q));
+        stays = λ t s y k full le e. (let less = greatest_start_below vs t s le a in let p : greatest_start a s ≤ y = grind
+            (arith, nat_tests, e) in let q : greatest_start a t ≤ y = omega (arith, less, p) in grind (arith, nat_tests, q));
         local = λ s t y agree. ap (λ (n : ℕ). nat_le n y) (greatest_start_alike vs s t agree a ha);
       })
       (record {
-        stays = λ t s y k full le e. (let more = least_end_below vs t s k full le a ha in let p : y < least_end a s =
-            grind (arith, nat_tests, e) in let q : y < least_end a t = omega (arith, more, p) in grind (arith, nat_tests, q));
+        stays = λ t s y k full le e. (let more = least_end_below vs t s k full le a ha in let p : y < least_end a s = grind
+            (arith, nat_tests, e) in let q : y < least_end a t = omega (arith, more, p) in grind (arith, nat_tests, q));
         local = λ s t y agree. ap (λ (n : ℕ). nat_lt y n) (least_end_alike vs s t agree a ha);
       })
 
@@ -237,8 +233,8 @@ module _ (vs : List VarId) (mask : ℕ) (a : Temp) (ha : TempVars vs a) where
         (record {
           stays = λ t s y k full le e. any_entry (UserVars vs) (λ u. sure_user u s) (λ u. sure_user u t)
               (λ u h. sure_user_below vs t s k full le u h) c.behind behind e;
-          local = λ s t y agree. any_alike (UserVars vs) (λ u. sure_user u s) (λ u. sure_user u t) (λ u h. sure_user_alike vs s t agree u h)
-              c.behind behind;
+          local = λ s t y agree. any_alike (UserVars vs) (λ u. sure_user u s) (λ u. sure_user u t)
+              (λ u h. sure_user_alike vs s t agree u h) c.behind behind;
         })
 
     lasts_inherited : Inherited vs (λ s y. lasts a c s)
@@ -251,8 +247,8 @@ module _ (vs : List VarId) (mask : ℕ) (a : Temp) (ha : TempVars vs a) where
         (both_inherited vs (λ s y. sure a.on s) (λ s y. lasts a c s) (sure_inherited a.on ha.of_on) lasts_inherited)))
 
     off_lawful : Lawful vs (off_cut mask a c)
-    off_lawful = act_lawful vs (off_test mask a c) a.on ha.of_on (refused vs
-        (λ s y. not (nat_eq y 0) && (not (may_survive mask a s) && lasts a c s))
+    off_lawful = act_lawful vs (off_test mask a c) a.on ha.of_on
+        (refused vs (λ s y. not (nat_eq y 0) && (not (may_survive mask a s) && lasts a c s))
         (both_inherited vs (λ s y. not (nat_eq y 0)) (λ s y. not (may_survive mask a s) && lasts a c s)
         (always_inherited vs (λ y. not (nat_eq y 0)))
         (both_inherited vs (λ s y. not (may_survive mask a s)) (λ s y. lasts a c s) doomed lasts_inherited)))
@@ -269,8 +265,8 @@ module _ (vs : List VarId) (mask : ℕ) (a : Temp) (ha : TempVars vs a) where
       where
         test : LawfulTest vs (reader_test mask a c u)
         test = refused vs (λ s y. nat_eq y u.value && (c.before && ((sure a.on s && sure u.on s) && not (may_survive mask a s))))
-            (both_inherited vs (λ s y. nat_eq y u.value) (λ s y. c.before && ((sure a.on s && sure u.on s) && not (may_survive mask a s)))
-            (always_inherited vs (λ y. nat_eq y u.value))
+            (both_inherited vs (λ s y. nat_eq y u.value) (λ s y. c.before &&
+            ((sure a.on s && sure u.on s) && not (may_survive mask a s))) (always_inherited vs (λ y. nat_eq y u.value))
             (both_inherited vs (λ s y. c.before) (λ s y. (sure a.on s && sure u.on s) && not (may_survive mask a s))
             (always_inherited vs (λ y. c.before))
             (both_inherited vs (λ s y. sure a.on s && sure u.on s) (λ s y. not (may_survive mask a s))
@@ -302,14 +298,14 @@ module _ (vs : List VarId) (mask : ℕ) (a : Temp) (ha : TempVars vs a) where
           → lasts a c s ≡ true → ⊥
       not_across s k there on at e = by (covers a c s) refl e
         where
-          free : ((get_or x c.at.0 0 < starts a x) ⊎ (ends a x ≤ get_or x c.at.0 0))
-              × (c.before ≡ true → list_any (λ (u : UserOf). is_user u x) c.behind ≡ true → ⊥)
+          free : ((get_or x c.at.0 0 < starts a x) ⊎ (ends a x ≤ get_or x c.at.0 0)) × (c.before ≡ true
+              → list_any (λ (u : UserOf). is_user u x) c.behind ≡ true → ⊥)
           free = spared mask a c x holds on at
 
           by : (b : Bool) → covers a c s ≡ b → (b || is_read_behind c s) ≡ true → ⊥
           by true is h =
-              let two = firsts (nat_le (greatest_start a s) (least (set_at s c.at.0))) (nat_lt (greatest (set_at s c.at.0)) (least_end a s))
-              is in
+              let two = firsts (nat_le (greatest_start a s) (least (set_at s c.at.0)))
+              (nat_lt (greatest (set_at s c.at.0)) (least_end a s)) is in
               let p : greatest_start a s ≤ least (set_at s c.at.0) = (let t = two.0 in grind (arith, nat_tests, t)) in
               let q : greatest (set_at s c.at.0) < least_end a s = (let t = two.1 in grind (arith, nat_tests, t)) in
               let here = there.each c.at.0 (has_among vs c.at s hc.of_at k) in
@@ -362,8 +358,8 @@ module _ (vs : List VarId) (mask : ℕ) (a : Temp) (ha : TempVars vs a) where
           by (Some v) all is = cut_by_kept (reader_test mask a c u s) v.0 s x (has_among vs v s (all 0 v (omega arith)) k) there
               (not_from (nat_eq (get_or x v.0 0) u.value && (c.before && ((sure a.on s && sure u.on s) && not (may_survive mask a s))))
               (λ e.
-              let one = firsts (nat_eq (get_or x v.0 0) u.value) (c.before && ((sure a.on s && sure u.on s) && not (may_survive mask a s)))
-              e in
+              let one = firsts (nat_eq (get_or x v.0 0) u.value)
+              (c.before && ((sure a.on s && sure u.on s) && not (may_survive mask a s))) e in
               let two = firsts c.before ((sure a.on s && sure u.on s) && not (may_survive mask a s)) one.1 in
               let three = firsts (sure a.on s && sure u.on s) (not (may_survive mask a s)) two.1 in
               let four = firsts (sure a.on s) (sure u.on s) three.0 in
@@ -436,8 +432,8 @@ module _ (vs : List VarId) (mask : ℕ) (a : Temp) (ha : TempVars vs a) where
     hit_strong s t r k full e one occ here =
         let outer = stable_then vs (λ s. option_and_then (cycle_cut mask a c) (option_and_then (off_cut mask a c) (hit_cut mask a c s)))
         (each_entry (reader_cut mask a c) c.behind) first_three readers_lawful s k full e in
-        let mid = stable_then vs (λ s. option_and_then (off_cut mask a c) (hit_cut mask a c s)) (cycle_cut mask a c) first_two cycle_lawful
-        s k full outer.0 in
+        let mid = stable_then vs (λ s. option_and_then (off_cut mask a c) (hit_cut mask a c s)) (cycle_cut mask a c) first_two
+        cycle_lawful s k full outer.0 in
         let inner = stable_then vs (hit_cut mask a c) (off_cut mask a c) hit_lawful off_lawful s k full mid.0 in
         let pass = passes_all (hit_test mask a c s) a.reg.0 s (has_among vs a.reg s ha.of_reg k) inner.0 r here in
         let from = occ.1 in
@@ -498,14 +494,14 @@ module _ (vs : List VarId) (mask : ℕ) (a : Temp) (ha : TempVars vs a) where
             (checks_each vs us (part_known c hc) v x (spares mask a c x) (entry_cut (check_call vs mask a) calls)
             (entry_lawful vs (CallVars vs) (check_call vs mask a) check_lawful calls each)
             (length calls) i lt
-            (λ m u km fm om em in_u. check_forward c hc ascend v x m u km fm om
-            (sym (entry_within (check_call vs mask a) calls i d m lt) ∙ em) in_u))
+            (λ m u km fm om em in_u. check_forward c hc ascend v x m u km fm om (sym (entry_within (check_call vs mask a) calls i d m lt)
+            ∙ em) in_u))
             s t k full one is in_t)
 
     pub clobber_strong : (s : Sets) → HasVars vs s → NoneEmpty s → clobber_cut vs mask a calls s ≡ Some s → ClobberStrong mask a calls s
     clobber_strong s k full e i t r d lt one occ here =
-        let first = (stable_then vs (each_entry (call_steps mask a) calls) (each_entry (check_call vs mask a) calls) all_steps all_checks s
-        k full e).0 in
-        let stays = each_stable vs (entry_cut (call_steps mask a) calls)
-        (entry_lawful vs (CallVars vs) (call_steps mask a) steps_lawful calls each) (length calls) s k full first i lt in
+        let first = (stable_then vs (each_entry (call_steps mask a) calls) (each_entry (check_call vs mask a) calls) all_steps all_checks
+        s k full e).0 in
+        let stays = each_stable vs (entry_cut (call_steps mask a) calls) (entry_lawful vs (CallVars vs) (call_steps mask a) steps_lawful
+        calls each) (length calls) s k full first i lt in
         hit_strong (get_or calls i d) (h i d lt) s t r k full (sym (entry_within (call_steps mask a) calls i d s lt) ∙ stays) one occ here

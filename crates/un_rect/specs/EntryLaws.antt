@@ -1,15 +1,15 @@
 -- Laws of cuts by an entry, and by the one place that a choice has left.
-use Rattle.std.proofs.Common.{ℕ, zero, suc, ◌≡◌, ◌<◌, ◌≤◌, ◌≢◌, ◌⊎◌, inl, inr, All, Bool, true, false, List, [], ◌∷◌, length, get_or}
-use Rattle.std.proofs.Common.{nat_eq, None, Some, option_and_then, MatchOption, refl, sym, ap, ◌∙◌, subst, arith}
+use Rattle.std.proofs.Common.{ℕ, zero, suc, ◌≡◌, ◌<◌, ◌≤◌, ◌≢◌, inl, inr, All, true, false, List, [], ◌∷◌, length, get_or, nat_eq, None}
+use Rattle.std.proofs.Common.{Some, MatchOption, refl, sym, ap, ◌∙◌, subst, arith}
 use Rattle.std.specs.declared.option.Option.{Option}
 use Rattle.std.specs.Bool.{⊤}
-use Rattle.std.specs.List.{AllByRecursion, slice_get}
+use Rattle.std.specs.List.{AllByRecursion}
 use Rattle.std.proofs.lemmas.Bool.Decides.{nat_tests}
 use Rattle.un_base.specs.declared.ids.VarId.{VarId}
 use Rattle.un_domains.specs.Sets.{Sets, set_at, has, least, IsIn, NoneEmpty, Kept}
 use Rattle.un_domains.specs.SetLaws.{has-cons}
 use Rattle.un_domains.specs.Order.{Below}
-use Rattle.un_domains.specs.OrderLaws.{Below-refl, Below-trans, single_below, has_here}
+use Rattle.un_domains.specs.OrderLaws.{Below-refl, Below-trans, single_below}
 use Rattle.un_prop.specs.Rounds.{HasVars}
 use Rattle.un_prop.specs.Lawful.{BelowOption, Agree, AgreeOption, Lawful}
 use Rattle.un_prop.specs.Steps.{lawful_some}
@@ -46,8 +46,8 @@ entry_keeps P f x m there h [] all i = there
 entry_keeps P f x m there h (a ∷ xs) all zero = h a all.0
 entry_keeps P f x m there h (a ∷ xs) all (suc i) = entry_keeps P f x m there h xs all.1 i
 
-pub entries_lawful_each : {A : Type 0} (vs : List VarId) (P : A → Type 0) (f : A → Sets → Option Sets) → ((a : A) → P a → Lawful vs (f a))
-    → (xs : List A)
+pub entries_lawful_each : {A : Type 0} (vs : List VarId) (P : A → Type 0) (f : A → Sets → Option Sets)
+    → ((a : A) → P a → Lawful vs (f a)) → (xs : List A)
     → AllByRecursion P xs → Lawful vs (each_entry f xs)
 entries_lawful_each vs P f h xs all = each_lawful vs (entry_cut f xs) (entry_lawful vs P f h xs all) (length xs)
 
@@ -65,8 +65,8 @@ pub fixed_lawful : (vs : List VarId) (f : ℕ → Sets → Option Sets) (v : Var
 fixed_lawful vs f v at h = record {
   shrinks = λ s k full. shrink s k full (set_at s v.0);
   monotone = λ t s k ft fs le. less t s k ft fs le (set_at s v.0) refl;
-  local = λ s t k fs ft e a. subst (λ (xs : List ℕ). AgreeOption vs (at_only f (set_at s v.0) s) (at_only f xs t)) (set_alike vs s t a v at)
-      (alike s t k fs ft e a (set_at s v.0));
+  local = λ s t k fs ft e a. subst (λ (xs : List ℕ). AgreeOption vs (at_only f (set_at s v.0) s) (at_only f xs t))
+      (set_alike vs s t a v at) (alike s t k fs ft e a (set_at s v.0));
   outside = λ s w other. far s w other (set_at s v.0);
 }
   where

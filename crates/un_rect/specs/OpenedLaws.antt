@@ -1,8 +1,7 @@
 -- Laws of what is open.
-use Rattle.std.proofs.Common.{ℕ, zero, suc, ◌≡◌, ◌≢◌, ◌<◌, ◌⊎◌, Bool, true, false, not, ◌||◌, cond, List, [], ◌∷◌, ◌++◌, length, get_or}
-use Rattle.std.proofs.Common.{set, filter, nat_eq, None, Some, All, refl, sym, ap, ◌∙◌, subst, arith, inl, inr}
+use Rattle.std.proofs.Common.{ℕ, suc, ◌≡◌, ◌≢◌, Bool, true, false, not, ◌||◌, cond, List, [], ◌∷◌, ◌++◌, length, set, filter, nat_eq, None}
+use Rattle.std.proofs.Common.{Some, refl, sym, ap, ◌∙◌, subst, arith, inl, inr}
 use Rattle.std.specs.declared.option.Option.{Option}
-use Rattle.std.specs.List.{Contains, AllByRecursion}
 use Rattle.std.proofs.lemmas.Bool.Decides.{nat_tests}
 use Rattle.std.proofs.lemmas.List.Elements.{All-contains}
 use Rattle.un_base.specs.declared.ids.VarId.{VarId}
@@ -54,8 +53,8 @@ or_right false c h = h
 self_eq : (v : VarId) (b : Bool) → (nat_eq v.0 v.0 || b) ≡ true
 self_eq v b = let e : nat_eq v.0 v.0 ≡ true = grind (arith, nat_tests) in rw e refl
 
-says_closed : (m : VarId → Bool) (s : Sets) (o : Opened) (v : VarId) → is_open s v ≡ false → Says m s o
-    → Says (λ u. nat_eq v.0 u.0 || m u) s o
+says_closed : (m : VarId → Bool) (s : Sets) (o : Opened) (v : VarId) → is_open s v ≡ false → Says m s o → Says (λ u. nat_eq v.0 u.0 || m u)
+    s o
 says_closed m s Nothing v shut h = λ u t. by u (nat_eq v.0 u.0) refl t
   where
     by : (u : VarId) (b : Bool) → nat_eq v.0 u.0 ≡ b → (b || m u) ≡ true → is_open s u ≡ false
@@ -64,8 +63,8 @@ says_closed m s Nothing v shut h = λ u t. by u (nat_eq v.0 u.0) refl t
 says_closed m s (One w) v shut h = (or_right (nat_eq v.0 w.0) (m w) h.0, h.1, λ u t wide. by u (nat_eq v.0 u.0) refl t wide)
   where
     by : (u : VarId) (b : Bool) → nat_eq v.0 u.0 ≡ b → (b || m u) ≡ true → is_open s u ≡ true → u.0 ≡ w.0
-    by u true e t wide = absurd (let bad : true ≡ false = sym wide
-        ∙ subst (λ (x : VarId). is_open s x ≡ false) (same_id v u e) shut in cc bad)
+    by u true e t wide = absurd (let bad : true ≡ false = sym wide ∙ subst (λ (x : VarId). is_open s x ≡ false) (same_id v u e) shut in
+        cc bad)
     by u false e t wide = h.2 u t wide
 says_closed m s More v shut (u, w, mu, mw, ou, ow, ne) = (
   u,
@@ -77,8 +76,8 @@ says_closed m s More v shut (u, w, mu, mw, ou, ow, ne) = (
   ne,
 )
 
-says_open : (m : VarId → Bool) (s : Sets) (o : Opened) (v : VarId) → is_open s v ≡ true → Says m s o
-    → Says (λ u. nat_eq v.0 u.0 || m u) s (opened_with o v)
+says_open : (m : VarId → Bool) (s : Sets) (o : Opened) (v : VarId) → is_open s v ≡ true → Says m s o → Says (λ u. nat_eq v.0 u.0 || m u) s
+    (opened_with o v)
 says_open m s Nothing v wide h = (self_eq v (m v), wide, λ u t also. by u (nat_eq v.0 u.0) refl t also)
   where
     by : (u : VarId) (b : Bool) → nat_eq v.0 u.0 ≡ b → (b || m u) ≡ true → is_open s u ≡ true → u.0 ≡ v.0
@@ -131,8 +130,8 @@ says_same m n s More e (u, w, mu, mw, ou, ow, ne) = (u, w, sym (e u) ∙ mu, sym
 pub says_more : (m n : VarId → Bool) (s : Sets) → ((u : VarId) → m u ≡ true → n u ≡ true) → Says m s More → Says n s More
 says_more m n s f (u, w, mu, mw, ou, ow, ne) = (u, w, f u mu, f w mw, ou, ow, ne)
 
-says_after : (m : VarId → Bool) (s : Sets) (vs : List VarId) (o : Opened) → Says m s o
-    → Says (λ u. among vs u || m u) s (opened_after s vs o)
+says_after : (m : VarId → Bool) (s : Sets) (vs : List VarId) (o : Opened) → Says m s o → Says (λ u. among vs u || m u) s
+    (opened_after s vs o)
 says_after m s [] o h = h
 says_after m s (v ∷ vs) o h = says_same (λ u. among vs u || (nat_eq v.0 u.0 || m u)) (λ u. (nat_eq v.0 u.0 || among vs u) || m u) s
     (opened_after s vs (opened_at s o v)) (λ u. swap (among vs u) (nat_eq v.0 u.0) (m u))
@@ -177,8 +176,8 @@ none_open s (w ∷ ws) h = ap (λ (b : Bool). cond b (w ∷ open_of ws s) (open_
 tail_ascends : (v : VarId) (vs : List VarId) → Ascend (v ∷ vs) → Ascend vs
 tail_ascends v vs h i j d lt below = h (suc i) (suc j) d (omega (arith, lt)) (omega (arith, below))
 
-one_open : (s : Sets) (v : VarId) (ws : List VarId) → Ascend ws → among ws v ≡ true → is_open s v ≡ true
-    → ((u : VarId) → among ws u ≡ true → is_open s u ≡ true → u.0 ≡ v.0)
+one_open : (s : Sets) (v : VarId) (ws : List VarId) → Ascend ws → among ws v ≡ true → is_open s v ≡ true → ((u : VarId) → among ws u ≡ true
+    → is_open s u ≡ true → u.0 ≡ v.0)
     → open_of ws s ≡ v ∷ []
 one_open s v [] g h wide only = absurd (cc h)
 one_open s v (w ∷ ws) g h wide only = by (nat_eq w.0 v.0) refl h (one_open s v ws (tail_ascends w ws g))

@@ -1,34 +1,34 @@
 -- What two operands look at, and what they let a store keep.
-use Rattle.std.proofs.Common.{ℕ, zero, suc, ◌≡◌, ◌<◌, ◌∙◌, Bool, true, false, not, ◌&&◌, ◌||◌, List, [], ◌∷◌, length, get_or, nat_eq, None}
-use Rattle.std.proofs.Common.{Some, option_and_then, All, refl, sym, subst, arith, ap}
-use Rattle.std.specs.declared.option.Option.{Option}
-use Rattle.std.specs.List.{AllByRecursion, list_any, slice_get}
+use Rattle.std.proofs.Common.{ℕ, zero, suc, ◌≡◌, ◌∙◌, Bool, true, false, not, ◌&&◌, ◌||◌, List, [], ◌∷◌, get_or, nat_eq, Some, refl, sym}
+use Rattle.std.proofs.Common.{subst, arith, ap}
+use Rattle.std.specs.List.{AllByRecursion, Contains, list_any, slice_get}
 use Rattle.std.proofs.lemmas.List.Elements.{recursion_from_All}
 use Rattle.std.proofs.lemmas.Bool.Decides.{nat_tests}
 use Rattle.un_base.specs.declared.ids.VarId.{VarId}
-use Rattle.un_domains.specs.Sets.{Sets, set_at, has, cut_by, IsIn, NoneEmpty, Kept}
+use Rattle.un_domains.specs.Sets.{Sets, set_at, has, cut_by, IsIn, Kept}
 use Rattle.un_domains.specs.CutLaws.{cut_by_kept}
-use Rattle.un_domains.specs.Order.{Below}
 use Rattle.un_domains.specs.OrderLaws.{has_below}
 use Rattle.un_prop.specs.Rounds.{HasVars}
-use Rattle.un_prop.specs.Parts.{SameAt}
+use Rattle.un_prop.specs.Parts.{Part, SameAt, ChecksForward}
+use Rattle.un_prop.specs.PartLaws.{one_part, lawful_checked, keeps_checked, forward_checked}
+use Rattle.un_prop.specs.LastLaws.{Ascend}
 use Rattle.un_prop.specs.Among.{among, AllAmong}
 use Rattle.un_prop.specs.AmongLaws.{in_list, has_among, same_var}
-use Rattle.un_prop.specs.Acts.{act_vars, is_active}
+use Rattle.un_prop.specs.Acts.{act_vars}
 use Rattle.un_prop.specs.Choices.{passes_at}
 use Rattle.un_prop.specs.ChoiceLaws.{passes_more, passes_agree, passes_get, passes_find, map_all, always}
 use Rattle.un_prop.specs.SomewhereLaws.{any_more, any_agree, any_has}
-use Rattle.un_prop.specs.Lawful.{Agree, Lawful, LawfulTest}
-use Rattle.un_prop.specs.LookLaws.{both, firsts, not_or, or_not, set_alike}
+use Rattle.un_prop.specs.Lawful.{Lawful, LawfulTest}
+use Rattle.un_prop.specs.LookLaws.{both, firsts, not_or, set_alike}
 use Rattle.un_prop.specs.Steps.{lawful_cut_by, lawful_then}
 use Rattle.un_prop.specs.ChainLaws.{then_kept, known_in}
 use Rattle.un_prop.specs.Places.{places_in, choice_steps}
 use Rattle.un_prop.specs.PlaceLaws.{entries_lawful, choice_lawful, choice_keeps}
 use Rattle.un_prop.specs.declared.act.Act.TheVariants.{Always}
-use Rattle.un_rect.specs.Entries.{entry_cut, each_entry, where_fixed}
+use Rattle.un_rect.specs.Entries.{entry_cut, each_entry}
 use Rattle.un_rect.specs.EntryLaws.{entry_lawful, entries_lawful_each, entries_keep, fixed_lawful, fixed_keeps}
 use Rattle.un_rect.specs.Operands.{Side, side_passes, operands_holds, SideVars, may_have, may_avoid, may_be, side_can, other_test}
-use Rattle.un_rect.specs.Operands.{other_cut, chosen_cut, fixed_cut, side_steps, operands_steps}
+use Rattle.un_rect.specs.Operands.{other_cut, chosen_cut, fixed_cut, side_steps, operands_steps, operands_cut}
 
 -- What is looked at
 
@@ -106,8 +106,8 @@ module _ (vs : List VarId) where
 
   avoid_lawful : (a : Side) → SideVars vs a → (r : ℕ) → LawfulTest vs (λ s y. may_avoid a s r)
   avoid_lawful a h r = record {
-    monotone = λ t s y k full le e. any_more (λ q. not (nat_eq q r) && may_have a t q) (λ q. not (nat_eq q r) && may_have a s q) a.allowed
-        a.allowed
+    monotone = λ t s y k full le e. any_more (λ q. not (nat_eq q r) && may_have a t q) (λ q. not (nat_eq q r) && may_have a s q)
+        a.allowed a.allowed
         (λ q there is. (
           there,
           (let two = firsts (not (nat_eq q r)) (may_have a t q) is in
@@ -196,8 +196,8 @@ module _ (vs : List VarId) where
       can_keeps : (m : Sets) → HasVars vs m → IsIn x m → side_can a b m (get_or x a.choice.0 0) ≡ true
       can_keeps m km there = passes_get (may_be a b m) a.regs (get_or x a.choice.0 0) c.v c.v_at
           ∙ any_has (λ r. has (set_at m c.v.0) r && may_avoid b m r) a.allowed (get_or x c.v.0 0) c.v_allowed
-          (both (has (set_at m c.v.0) (get_or x c.v.0 0)) (may_avoid b m (get_or x c.v.0 0)) (there.each c.v.0 (has_among vs c.v m v_in km))
-          (avoids m km there))
+          (both (has (set_at m c.v.0) (get_or x c.v.0 0)) (may_avoid b m (get_or x c.v.0 0))
+          (there.each c.v.0 (has_among vs c.v m v_in km)) (avoids m km there))
 
       other_keeps : (r : ℕ) (m : Sets) → HasVars vs m → IsIn x m → Kept x (other_cut b c.v r m)
       other_keeps r m km there = cut_by_kept (other_test b r m) c.v.0 m x (has_among vs c.v m v_in km) there
@@ -235,3 +235,19 @@ module _ (vs : List VarId) (a b : Side) (h : SideVars vs a) (k : SideVars vs b) 
       let c = chosen_by a b x holds in
       then_kept (side_steps b a) x (side_steps a b s) (side_keeps vs a b h k x c s ks there)
       (λ m in_m. side_keeps vs b a k h x (turned a b x c) m (known_in vs s m x there in_m ks) in_m)
+
+  module _ (ascend : Ascend vs) where
+    looks : (x y : List ℕ) → SameAt vs x y → operands_holds a b x ≡ operands_holds a b y
+    looks x y same = operands_looks vs x y same a b h k
+
+    pub operands_cut_lawful : Lawful vs (operands_cut vs a b)
+    operands_cut_lawful = lawful_checked vs (operands_holds a b) looks ascend (operands_steps a b) operands_lawful
+
+    pub operands_cut_keeps : (s : Sets) (x : List ℕ) → HasVars vs s → IsIn x s → operands_holds a b x ≡ true
+        → Kept x (operands_cut vs a b s)
+    operands_cut_keeps s x ks there holds = keeps_checked vs (operands_holds a b) looks ascend (operands_steps a b) operands_lawful s x ks
+        (operands_keeps s x ks there holds) there.long holds
+
+    pub operands_cut_forward : (part : Part) → Contains (one_part vs (operands_holds a b)) part
+        → ChecksForward part vs (operands_cut vs a b)
+    operands_cut_forward = forward_checked vs (operands_holds a b) looks ascend (operands_steps a b) operands_lawful

@@ -19,8 +19,8 @@ use Rattle.un_rect.specs.Pairs.{at_place, each_before, each_pair}
 
 -- The place of a list
 
-pub at_is : (f : Temp → Sets → Option Sets) (xs : List Temp) (i : ℕ) (d : Temp) (s : Sets) → i < length xs
-    → at_place f xs i s ≡ f (get_or xs i d) s
+pub at_is : {A : Type 0} (f : A → Sets → Option Sets) (xs : List A) (i : ℕ) (d : A) (s : Sets) → i < length xs → at_place f xs i s ≡ f
+    (get_or xs i d) s
 at_is f [] i d s lt = absurd (omega (arith, lt))
 at_is f (a ∷ rest) zero d s lt = refl
 at_is f (a ∷ rest) (suc i) d s lt = at_is f rest i d s (omega (arith, lt))
@@ -30,8 +30,8 @@ pub each_same : (f : ℕ → Sets → Option Sets) (n : ℕ) (s : Sets) → ((i 
 each_same f zero s h = refl
 each_same f (suc n) s h = ap (option_and_then (f n)) (each_same f n s h) ∙ h n
 
-pub at_same : (P : Temp → Type 0) (f : Temp → Sets → Option Sets) (xs : List Temp) (s : Sets) → AllByRecursion P xs
-    → ((a : Temp) → P a → f a s ≡ Some s) → (i : ℕ) → at_place f xs i s ≡ Some s
+pub at_same : {A : Type 0} (P : A → Type 0) (f : A → Sets → Option Sets) (xs : List A) (s : Sets) → AllByRecursion P xs
+    → ((a : A) → P a → f a s ≡ Some s) → (i : ℕ) → at_place f xs i s ≡ Some s
 at_same P f [] s all h i = refl
 at_same P f (a ∷ rest) s all h zero = h a all.0
 at_same P f (a ∷ rest) s all h (suc i) = at_same P f rest s all.1 h i
@@ -43,7 +43,7 @@ in_below u m x below there = record {
 }
 
 module _ (vs : List VarId) where
-  pub at_lawful : (P : Temp → Type 0) (f : Temp → Sets → Option Sets) → ((a : Temp) → P a → Lawful vs (f a)) → (xs : List Temp)
+  pub at_lawful : {A : Type 0} (P : A → Type 0) (f : A → Sets → Option Sets) → ((a : A) → P a → Lawful vs (f a)) → (xs : List A)
       → AllByRecursion P xs → (i : ℕ) → Lawful vs (at_place f xs i)
   at_lawful P f h [] all i = lawful_some vs
   at_lawful P f h (a ∷ rest) all zero = h a all.0
@@ -53,8 +53,8 @@ module _ (vs : List VarId) where
   keeps_below : (f : ℕ → Sets → Option Sets) (x : List ℕ) (n : ℕ) → ((i : ℕ) (m : Sets) → i < n → HasVars vs m → IsIn x m → Kept x (f i m))
       → (s : Sets) → HasVars vs s → IsIn x s → Kept x (each_place f n s)
   keeps_below f x zero h s k there = there
-  keeps_below f x (suc n) h s k there = then_kept (f n) x (each_place f n s)
-      (keeps_below f x n (λ i m lt. h i m (omega (arith, lt))) s k there)
+  keeps_below f x (suc n) h s k there = then_kept (f n) x (each_place f n s) (keeps_below f x n (λ i m lt. h i m (omega (arith, lt))) s k
+      there)
       (λ m in_m. h n m (omega arith) (known_in vs s m x there in_m k) in_m)
 
   -- where all of some variables but v have one value, x meets a test if it is left after a cut
@@ -107,8 +107,8 @@ module _ (vs : List VarId) where
           let later = get_or temps j d in
           let row = λ (k : ℕ) (c : Temp). each_place (at_place (λ a. f a c) temps) k in
           checks_each (λ k. at_place (row k) temps k)
-          (λ k. at_lawful P (row k) (λ c pc. each_lawful vs (at_place (λ a. f a c) temps)
-          (at_lawful P (λ a. f a c) (λ a pa. hf a c pa pc) temps all) k) temps all k)
+          (λ k. at_lawful P (row k) (λ c pc. each_lawful vs (at_place (λ a. f a c) temps) (at_lawful P (λ a. f a c) (λ a pa. hf a c pa pc)
+          temps all) k) temps all k)
           n j below
           (checks_at (row j) temps j d (omega (arith, below, few))
           (checks_each (at_place (λ a. f a later) temps) (at_lawful P (λ a. f a later) (λ a pa. hf a later pa of_j) temps all) j i lt

@@ -1,5 +1,5 @@
 -- Laws of starts and ends.
-use Rattle.std.proofs.Common.{ℕ, zero, suc, ◌≡◌, ◌≢◌, ◌≤◌, ◌<◌, ◌+◌, ◌⊎◌, Bool, true, false, cond, ◌&&◌, List, [], ◌∷◌, length, get_or, max}
+use Rattle.std.proofs.Common.{ℕ, zero, suc, ◌≡◌, ◌≤◌, ◌<◌, ◌+◌, ◌⊎◌, Bool, true, false, cond, ◌&&◌, List, [], ◌∷◌, length, get_or, max}
 use Rattle.std.proofs.Common.{nat_eq, None, Some, refl, sym, ap, ◌∙◌, subst, arith, inl, inr}
 use Rattle.std.specs.declared.option.Option.{Option}
 use Rattle.std.specs.List.{AllByRecursion}
@@ -13,7 +13,7 @@ use Rattle.un_domains.specs.OrderLaws.{single_below}
 use Rattle.un_prop.specs.Rounds.{HasVars}
 use Rattle.un_prop.specs.Parts.{SameAt}
 use Rattle.un_prop.specs.Lawful.{Agree}
-use Rattle.un_prop.specs.Among.{among, AllAmong}
+use Rattle.un_prop.specs.Among.{AllAmong}
 use Rattle.un_prop.specs.AmongLaws.{has_among, same_var, same_active, same_time}
 use Rattle.un_prop.specs.Acts.{is_active, at_value, chooses, is_user, Occupies}
 use Rattle.un_prop.specs.Looks.{at_set, sure}
@@ -22,7 +22,7 @@ use Rattle.un_prop.specs.LookLaws.{sure_below, sure_active, value_in}
 use Rattle.un_prop.specs.declared.act.UserOf.{UserOf}
 use Rattle.un_prop.specs.declared.act.Temp.{Temp}
 use Rattle.un_rect.specs.Spans.{starts, use_time, last_use, ends, least_start, greatest_start, is_only, sure_choice, sure_user, sure_use}
-use Rattle.un_rect.specs.Spans.{last_sure_use, least_end, SurelyOccupies, choice_vars, UserVars, TempVars}
+use Rattle.un_rect.specs.Spans.{last_sure_use, least_end, choice_vars, UserVars, TempVars}
 
 -- One value
 
@@ -34,8 +34,8 @@ only_is (z ∷ []) n y e h =
     let is : z ≡ n = (let t = (firsts (nat_eq (length (z ∷ [])) 1) (nat_eq (least (z ∷ [])) n) e).1 in grind (arith, nat_tests, t)) in
     elim (has-cons z y [] h) [ inl same ↦ same ∙ is | inr none ↦ absurd (cc none) ]
 
-pub only_below : (t s : Sets) (v n : ℕ) → Below t s → 0 < length (set_at t v) → is_only (set_at s v) n ≡ true
-    → is_only (set_at t v) n ≡ true
+pub only_below : (t s : Sets) (v n : ℕ) → Below t s → 0 < length (set_at t v) → is_only (set_at s v) n ≡ true → is_only (set_at t v)
+    n ≡ true
 only_below t s v n le some e =
     let one : length (set_at s v) ≡ 1 = (let b = (firsts (nat_eq (length (set_at s v)) 1) (nat_eq (least (set_at s v)) n) e).0 in
     grind (arith, nat_tests, b)) in
@@ -156,8 +156,8 @@ module _ (vs : List VarId) where
   pub greatest_start_below : (t s : Sets) → Below t s → (a : Temp) → greatest_start a t ≤ greatest_start a s
   greatest_start_below t s le a = greatest_at_below vs t s le a.at
 
-  pub least_start_below : (t s : Sets) → HasVars vs s → NoneEmpty t → Below t s → (a : Temp) → TempVars vs a
-      → least_start a s ≤ least_start a t
+  pub least_start_below : (t s : Sets) → HasVars vs s → NoneEmpty t → Below t s → (a : Temp) → TempVars vs a → least_start a s ≤ least_start
+      a t
   least_start_below t s k full le a h = least_at_below vs t s full le a.at h.of_at k
 
   pub least_end_below : (t s : Sets) → HasVars vs s → NoneEmpty t → Below t s → (a : Temp) → TempVars vs a → least_end a s ≤ least_end a t
@@ -218,8 +218,8 @@ module _ (vs : List VarId) where
           let low = (value_in vs s x there k u.at h.of_at).0 in
           omega (arith, is, low)
 
-  last_in : (s : Sets) (x : List ℕ) → IsIn x s → HasVars vs s → (us : List UserOf) → AllByRecursion (UserVars vs) us
-      → last_sure_use us s ≤ last_use us x
+  last_in : (s : Sets) (x : List ℕ) → IsIn x s → HasVars vs s → (us : List UserOf) → AllByRecursion (UserVars vs) us → last_sure_use us s ≤
+      last_use us x
   last_in s x there k [] all = omega arith
   last_in s x there k (u ∷ us) all =
       let first = use_in s x there k u all.0 in

@@ -1,6 +1,6 @@
 -- Laws of the variables of temporaries, and of cuts that look at some of the variables.
-use Rattle.std.proofs.Common.{ℕ, zero, suc, ◌≡◌, ◌≢◌, ◌<◌, ◌≤◌, ◌⊎◌, Bool, true, false, ◌||◌, cond, List, [], ◌∷◌, ◌++◌, length, get_or}
-use Rattle.std.proofs.Common.{filter, nat_eq, None, Some, option_and_then, MatchOption, All, refl, sym, ap, ◌∙◌, subst, arith, inl, inr}
+use Rattle.std.proofs.Common.{ℕ, zero, suc, ◌≡◌, ◌≢◌, ◌<◌, Bool, true, false, ◌||◌, cond, List, [], ◌∷◌, ◌++◌, length, get_or, filter}
+use Rattle.std.proofs.Common.{nat_eq, None, Some, MatchOption, All, refl, sym, ap, ◌∙◌, subst, arith, inl, inr}
 use Rattle.std.specs.declared.option.Option.{Option}
 use Rattle.std.specs.Bool.{⊤}
 use Rattle.std.specs.List.{AllByRecursion, Contains}
@@ -8,14 +8,12 @@ use Rattle.std.proofs.lemmas.Bool.Decides.{nat_tests}
 use Rattle.std.proofs.lemmas.List.Folds.{list_any-append}
 use Rattle.std.proofs.lemmas.List.Elements.{recursion_from_All, All-from_recursion, All-contains, All-append}
 use Rattle.un_base.specs.declared.ids.VarId.{VarId}
-use Rattle.un_domains.specs.Sets.{Sets, set_at, NoneEmpty}
-use Rattle.un_domains.specs.Order.{Below}
-use Rattle.un_prop.specs.Rounds.{HasVars}
+use Rattle.un_domains.specs.Sets.{Sets, set_at}
 use Rattle.un_prop.specs.Lawful.{Lawful, Agree, AgreeOption}
 use Rattle.un_prop.specs.Steps.{find_var}
 use Rattle.un_prop.specs.LastLaws.{Ascend}
 use Rattle.un_prop.specs.Among.{among, AllAmong}
-use Rattle.un_prop.specs.AmongLaws.{in_list, has_among}
+use Rattle.un_prop.specs.AmongLaws.{in_list}
 use Rattle.un_prop.specs.Acts.{act_vars, at_vars}
 use Rattle.un_prop.specs.declared.act.UserOf.{UserOf}
 use Rattle.un_prop.specs.declared.act.Temp.{Temp}
@@ -133,8 +131,7 @@ user_wider : (us vs : List VarId) (u : UserOf) → ((v : VarId) → among us v �
 user_wider us vs u f h = record {
   of_on = wider us vs (act_vars u.on) f h.of_on;
   of_at = wider us vs (at_vars u.at) f h.of_at;
-  of_choice =
-      wider us vs (choice_vars u.choice) f h.of_choice;
+  of_choice = wider us vs (choice_vars u.choice) f h.of_choice;
 }
 
 own_user : (u : UserOf) → UserVars (user_vars u) u
@@ -143,9 +140,8 @@ own_user u = record {
       (own_all (act_vars u.on));
   of_at = wider (at_vars u.at) (user_vars u) (at_vars u.at) (λ v h. among_right (act_vars u.on) (at_vars u.at ++ choice_vars u.choice) v
       (among_left (at_vars u.at) (choice_vars u.choice) v h)) (own_all (at_vars u.at));
-  of_choice = wider (choice_vars u.choice) (user_vars u) (choice_vars u.choice)
-      (λ v h. among_right (act_vars u.on) (at_vars u.at ++ choice_vars u.choice) v (among_right (at_vars u.at) (choice_vars u.choice) v h))
-      (own_all (choice_vars u.choice));
+  of_choice = wider (choice_vars u.choice) (user_vars u) (choice_vars u.choice) (λ v h. among_right (act_vars u.on)
+      (at_vars u.at ++ choice_vars u.choice) v (among_right (at_vars u.at) (choice_vars u.choice) v h)) (own_all (choice_vars u.choice));
 }
 
 pub users_wider : (us vs : List VarId) → ((v : VarId) → among us v ≡ true → among vs v ≡ true) → (xs : List UserOf)
@@ -162,8 +158,8 @@ own_users (u ∷ xs) = (
 
 pub own_temp : (a : Temp) → TempVars (temp_vars a) a
 own_temp a = record {
-  of_on = wider (act_vars a.on) (temp_vars a) (act_vars a.on) (λ v h. among_later a.reg v rest
-      (among_left (act_vars a.on) (at_vars a.at ++ users_vars a.users) v h)) (own_all (act_vars a.on));
+  of_on = wider (act_vars a.on) (temp_vars a) (act_vars a.on)
+      (λ v h. among_later a.reg v rest (among_left (act_vars a.on) (at_vars a.at ++ users_vars a.users) v h)) (own_all (act_vars a.on));
   of_at = wider (at_vars a.at) (temp_vars a) (at_vars a.at)
       (λ v h. among_later a.reg v rest (among_right (act_vars a.on) (at_vars a.at ++ users_vars a.users) v
       (among_left (at_vars a.at) (users_vars a.users) v h))) (own_all (at_vars a.at));
@@ -204,13 +200,13 @@ pair_all vs a b ha hb u h = All-contains (λ v. among vs v ≡ true) (temp_vars 
 
 -- both stand among those of the pair
 pub pair_first : (vs : List VarId) (a b : Temp) → TempVars vs a → TempVars (pair_vars vs a b) a
-pair_first vs a b h = temp_shared (temp_vars a ++ temp_vars b) vs (pair_vars vs a b) a
-    (λ v p q. among_filter (temp_vars a ++ temp_vars b) vs v p q)
+pair_first vs a b h = temp_shared (temp_vars a ++ temp_vars b) vs (pair_vars vs a b) a (λ v p q. among_filter (temp_vars a ++ temp_vars b)
+    vs v p q)
     (temp_wider (temp_vars a) (temp_vars a ++ temp_vars b) a (λ v. among_left (temp_vars a) (temp_vars b) v) (own_temp a)) h
 
 pub pair_second : (vs : List VarId) (a b : Temp) → TempVars vs b → TempVars (pair_vars vs a b) b
-pair_second vs a b h = temp_shared (temp_vars a ++ temp_vars b) vs (pair_vars vs a b) b
-    (λ v p q. among_filter (temp_vars a ++ temp_vars b) vs v p q)
+pair_second vs a b h = temp_shared (temp_vars a ++ temp_vars b) vs (pair_vars vs a b) b (λ v p q. among_filter (temp_vars a ++ temp_vars b)
+    vs v p q)
     (temp_wider (temp_vars b) (temp_vars a ++ temp_vars b) b (λ v. among_right (temp_vars a) (temp_vars b) v) (own_temp b)) h
 
 -- Cuts that look at a part of the variables
@@ -235,8 +231,8 @@ lawful_part q vs f h = record {
     by s t agree None (Some u) a os ot = absurd a
     by s t agree (Some m) None a os ot = absurd a
     by s t agree (Some m) (Some u) a os ot = λ i d lt. elim (find_var (filter q vs) (get_or vs i d).0) [
-      | inl v ↦ subst (λ (w : ℕ). set_at m w ≡ set_at u w) (sym v.2)
-          (All-contains (λ w. set_at m w.0 ≡ set_at u w.0) (filter q vs) v.0 a v.1)
-      | inr none ↦ (let other = All-from_recursion _ _ none in os (get_or vs i d).0 other
-          ∙ (agree i d lt ∙ sym (ot (get_or vs i d).0 other)))
+      | inl v ↦ subst (λ (w : ℕ). set_at m w ≡ set_at u w) (sym v.2) (All-contains (λ w. set_at m w.0 ≡ set_at u w.0) (filter q vs) v.0 a
+          v.1)
+      | inr none ↦ (let other = All-from_recursion _ _ none in
+          os (get_or vs i d).0 other ∙ (agree i d lt ∙ sym (ot (get_or vs i d).0 other)))
     ]

@@ -1,13 +1,12 @@
 //! Calls: a temporary that lives across a call has a register that the call keeps.
 
-ghost use Rattle.std.specs.Prelude.{◌≡◌, ◌≢◌, ◌<◌, ◌≤◌, ℕ, ◌&&◌, true, length, not, All, Some, MatchOption, slice_set};
+ghost use Rattle.std.specs.Prelude.{◌≡◌, ◌≢◌, ◌<◌, ◌≤◌, ℕ, ◌&&◌, true, length, not, All};
 ghost use Rattle.std.specs.List.{list_any};
-ghost use Rattle.un_domains.specs.Sets.{set_at, cut_by, NoneEmpty};
+ghost use Rattle.un_domains.specs.Sets.{NoneEmpty};
 ghost use Rattle.un_isa.specs.Tables.{in_mask};
 ghost use Rattle.un_prop.specs.Acts.{is_user};
 ghost use Rattle.un_prop.specs.Looks.{sure};
 ghost use Rattle.un_prop.specs.Among.{among};
-ghost use Rattle.un_prop.specs.Last.{point};
 ghost use Rattle.un_prop.specs.Rounds.{HasVars};
 ghost use Rattle.un_prop.specs.Going.{Stepped};
 ghost use Rattle.un_prop.specs.LastLaws.{Ascend};
@@ -15,7 +14,7 @@ ghost use Rattle.un_prop.specs.declared.propagator.Pruned.TheVariants.{Failed};
 ghost use Rattle.un_rect.specs.Spans.{sure_user, UserVars, TempVars};
 ghost use Rattle.un_rect.specs.Entries.{each_entry};
 ghost use Rattle.un_rect.specs.Clobber.{CallVars, avoids, spares, may_survive, covers, is_read_behind, lasts, hit_cut, off_cut, cycle_cut};
-ghost use Rattle.un_rect.specs.Clobber.{reader_cut, call_steps, check_call};
+ghost use Rattle.un_rect.specs.Clobber.{reader_cut, call_steps, check_call, IsOpen};
 
 use crate::opened::{Opened, is_more, with_temp, with_users, with_var};
 use crate::spans::{end, is_sure_user, least_end, reads};
@@ -409,10 +408,7 @@ fn undecided(w: &Window<'_>, p: &CallPart<'_>) -> Option<VarId>
     requires ascend { Ascend p.now.vars.now }
     requires known { HasVars p.now.vars.now w.now.store.now.sets }
     requires live { NoneEmpty w.now.store.now.sets }
-    ensures { MatchOption result (check_call p.now.vars.now p.now.mask p.now.temp.now p.now.call.now w.now.store.now.sets ≡ Some
-        w.now.store.now.sets) (λ v. (among p.now.vars.now v ≡ true)
-        × (check_call p.now.vars.now p.now.mask p.now.temp.now p.now.call.now w.now.store.now.sets ≡ cut_by
-        (λ y. spares p.now.mask p.now.temp.now p.now.call.now (slice_set (point w.now.store.now.sets) v.0 y)) v.0 w.now.store.now.sets)) }
+    ensures { IsOpen p.now.vars.now p.now.mask p.now.temp.now p.now.call.now w.now.store.now.sets result }
 {
     let first = with_temp(w, Opened::Nothing, p.temp);
     if is_more(first) {
@@ -502,8 +498,9 @@ impl Predicate for Clobber {
     }
 
     fn test(&self, fixed: &[u32]) -> bool {
-        for c in self.calls.as_slice() {
-            if !spares(fixed, self.mask, &self.temp, c) {
+        let calls = self.calls.as_slice();
+        for i in 0..calls.len() {
+            if !spares(fixed, self.mask, &self.temp, &calls[i]) {
                 return false;
             }
         }

@@ -1,7 +1,7 @@
 use Rattle.std.proofs.Common.{ℕ, List, Bool, ◌≡◌, ◌<◌, ◌+◌, ◌||◌, ◌∙◌, not, nat_eq, nat_le, set, arith, refl, sym, ap, subst}
 use Rattle.std.proofs.Common.{option_and_then}
 use Rattle.un_base.specs.declared.ids.VarId.{VarId}
-use Rattle.un_domains.specs.Sets.{Sets, set_at, cut_by, least, greatest}
+use Rattle.un_domains.specs.Sets.{set_at, cut_by, least, greatest}
 use Rattle.un_prop.specs.AmongLaws.{has_among}
 use Rattle.un_prop.specs.Going.{Stepped}
 use Rattle.un_prop.specs.GoingLaws.{stepped_same, stepped_by, stepped_chain}
@@ -38,8 +38,8 @@ loop-y-init c =
     let from : c.from-low.result ≡ least (set_at s.sets v.0) = c.from-low.ensures ∙ c.min.ensures in
     record {
       step = subst (λ (n : ℕ). Stepped vs (cut_by (λ z. nat_le n z || q z) v.0) s s Same Same) (sym from)
-          (stepped_same vs (cut_by (λ z. nat_le (least (set_at s.sets v.0)) z || q z) v.0) s Same
-          (λ live. try_first vs t looks s.sets v q within live));
+          (stepped_same vs (cut_by (λ z. nat_le (least (set_at s.sets v.0)) z || q z) v.0) s Same (λ live. try_first vs t looks s.sets v q
+          within live));
       others = λ u ne. refl;
       same_reference = refl;
       vars = refl;

@@ -14,8 +14,8 @@ pub keep_row-did-requires-clause-of_b : goal.keep_row-did-requires-clause-of_b
 keep_row-did-requires-clause-of_b c =
     let j = c.loop-j.j in
     subst (λ (us : List VarId). TempVars us c.index-temps-j.result) (sym (ap (λ r. r.now) c.loop-j.invariant.vars))
-    (subst (λ (a : Temp). TempVars c.args.w.now.vars.now a) (sym c.index-temps-j.is)
-    (c.requires.of_temps j c.index-temps-j.result (omega (arith, c.loop-j-test.true, c.loop-j.auto.j-end))))
+    (subst (λ (a : Temp). TempVars c.args.w.now.vars.now a) (sym c.index-temps-j.is) (c.requires.of_temps j c.index-temps-j.result
+    (omega (arith, c.loop-j-test.true, c.loop-j.auto.j-end))))
 
 pub loop-j-preserved : goal.loop-j-preserved
 loop-j-preserved c =

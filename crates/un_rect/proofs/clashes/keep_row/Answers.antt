@@ -30,8 +30,8 @@ pub keep_clashes-did-requires-clause-of_a : goal.keep_clashes-did-requires-claus
 keep_clashes-did-requires-clause-of_a c =
     let i = c.loop-i.i in
     subst (λ (us : List VarId). TempVars us c.index-temps-i.result) (sym (ap (λ r. r.now) c.loop-i.invariant.vars))
-    (subst (λ (a : Temp). TempVars c.args.w.now.vars.now a) (sym c.index-temps-i.is)
-    (c.requires.of_temps i c.index-temps-i.result (omega (arith, c.loop-i-test.true, c.loop-i.auto.i-end, c.requires.few))))
+    (subst (λ (a : Temp). TempVars c.args.w.now.vars.now a) (sym c.index-temps-i.is) (c.requires.of_temps i c.index-temps-i.result
+    (omega (arith, c.loop-i-test.true, c.loop-i.auto.i-end, c.requires.few))))
 
 pub loop-i-preserved : goal.loop-i-preserved
 loop-i-preserved c =

@@ -1,8 +1,8 @@
-use Rattle.std.proofs.Common.{List, ◌≡◌, ◌≢◌, ◌∙◌, Some, sym, ap, subst}
+use Rattle.std.proofs.Common.{sym, subst}
 use Rattle.std.specs.declared.option.Option.{Option}
 use Rattle.un_domains.specs.Sets.{Sets}
 use Rattle.un_prop.specs.AmongLaws.{in_list}
-use Rattle.un_prop.specs.GoingLaws.{stepped_then, stepped_same}
+use Rattle.un_prop.specs.GoingLaws.{stepped_then}
 use Rattle.un_prop.specs.Pruning.{IsPrune}
 use Rattle.un_rect.specs.Clobber.{check_call}
 use Rattle.un_rect.proofs.clobber.check.Goals as goal

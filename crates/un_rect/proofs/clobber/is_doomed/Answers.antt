@@ -12,5 +12,5 @@ is_sure-requires-2 c = known_of c.args.w.now.vars.now (act_vars c.args.u.now.on)
     c.requires.known
 
 pub may_survive-requires-clause-there : goal.may_survive-requires-clause-there
-may_survive-requires-clause-there c = has_among c.args.w.now.vars.now c.args.a.now.reg c.args.w.now.store.now.sets c.requires.of_temp.of_reg
-    c.requires.known
+may_survive-requires-clause-there c = has_among c.args.w.now.vars.now c.args.a.now.reg c.args.w.now.store.now.sets
+    c.requires.of_temp.of_reg c.requires.known

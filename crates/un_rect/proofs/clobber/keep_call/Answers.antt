@@ -1,4 +1,4 @@
-use Rattle.std.proofs.Common.{ℕ, List, ◌≡◌, ◌≢◌, ◌∙◌, option_and_then, sym, ap, subst}
+use Rattle.std.proofs.Common.{List, ◌∙◌, option_and_then, ap, subst}
 use Rattle.un_base.specs.declared.ids.VarId.{VarId}
 use Rattle.un_prop.specs.Going.{Stepped}
 use Rattle.un_prop.specs.GoingLaws.{stepped_chain}

@@ -1,4 +1,4 @@
-use Rattle.std.proofs.Common.{ℕ, List, ◌≡◌, ◌<◌, ◌∙◌, length, get_or, sym, ap, subst}
+use Rattle.std.proofs.Common.{List, ◌∙◌, get_or, sym, ap, subst}
 use Rattle.un_base.specs.declared.ids.VarId.{VarId}
 use Rattle.un_prop.specs.Going.{Stepped}
 use Rattle.un_rect.specs.Clobber.{CallVars, call_steps}
@@ -23,8 +23,8 @@ loop-c-preserved c =
       step = stepped_entry w.vars.now c.loop-c.w.vars.now f c.args.calls.now c.loop-c.c-index c.c-item.result w.store.now
           c.loop-c.w.store.now did.new.w.store.now
           c.args.before c.loop-c.did did.result (ap (λ r. r.now) inv.vars) c.loop-c-test.true inv.step
-          (subst (λ (x : ClobberCall). Stepped c.loop-c.w.vars.now (f x) c.loop-c.w.store.now did.new.w.store.now c.loop-c.did did.result)
-          c.c-item.is did.ensures.step);
+          (subst (λ (x : ClobberCall). Stepped c.loop-c.w.vars.now (f x) c.loop-c.w.store.now did.new.w.store.now c.loop-c.did
+          did.result) c.c-item.is did.ensures.step);
       same_reference = did.ensures.same_reference ∙ inv.same_reference;
       vars = did.ensures.vars ∙ inv.vars;
     }

@@ -1,4 +1,4 @@
-use Rattle.std.proofs.Common.{ℕ, ◌≡◌, ◌∙◌, Bool, not, ◌&&◌, nat_le, nat_lt, sym, ap}
+use Rattle.std.proofs.Common.{ℕ, ◌∙◌, not, ◌&&◌, nat_le, nat_lt, sym, ap}
 use Rattle.un_domains.specs.Sets.{cut_by}
 use Rattle.un_prop.specs.Acts.{act_vars, at_vars}
 use Rattle.un_prop.specs.AmongLaws.{has_among}
@@ -27,8 +27,8 @@ returns-then-not-is_sure-clause-step c =
     (no_left (sure a.on s.sets) (not (may_survive c.args.mask a s.sets)) (sym c.is_sure.ensures ∙ c.if-not-is_sure.true)))))
 
 pub may_survive-requires-clause-there : goal.may_survive-requires-clause-there
-may_survive-requires-clause-there c = has_among c.args.w.now.vars.now c.args.a.now.reg c.args.w.now.store.now.sets c.requires.of_temp.of_reg
-    c.requires.known
+may_survive-requires-clause-there c = has_among c.args.w.now.vars.now c.args.a.now.reg c.args.w.now.store.now.sets
+    c.requires.of_temp.of_reg c.requires.known
 
 pub returns-then-may_survive-clause-step : goal.returns-then-may_survive-clause-step
 returns-then-may_survive-clause-step c =

@@ -1,4 +1,4 @@
-use Rattle.std.proofs.Common.{ℕ, List, ◌≡◌, ◌<◌, ◌∙◌, Bool, true, not, ◌&&◌, length, nat_eq, nat_le, sym, ap, subst, arith}
+use Rattle.std.proofs.Common.{List, ◌≡◌, ◌∙◌, true, not, nat_eq, nat_le, sym, ap, subst, arith}
 use Rattle.un_base.specs.declared.ids.VarId.{VarId}
 use Rattle.un_domains.specs.Sets.{cut_by}
 use Rattle.un_prop.specs.Acts.{act_vars}
@@ -14,8 +14,8 @@ use Rattle.un_rect.proofs.Refusals.{no_left, no_right, passes_unmet, only_zero}
 use Rattle.un_rect.proofs.clobber.keep_off.Goals as goal
 
 pub may_survive-requires-clause-there : goal.may_survive-requires-clause-there
-may_survive-requires-clause-there c = has_among c.args.w.now.vars.now c.args.a.now.reg c.args.w.now.store.now.sets c.requires.of_temp.of_reg
-    c.requires.known
+may_survive-requires-clause-there c = has_among c.args.w.now.vars.now c.args.a.now.reg c.args.w.now.store.now.sets
+    c.requires.of_temp.of_reg c.requires.known
 
 pub returns-then-may_survive-clause-step : goal.returns-then-may_survive-clause-step
 returns-then-may_survive-clause-step c =

@@ -1,4 +1,4 @@
-use Rattle.std.proofs.Common.{ℕ, List, ◌≡◌, ◌<◌, ◌∙◌, length, get_or, None, sym, ap, subst}
+use Rattle.std.proofs.Common.{List, ◌<◌, ◌∙◌, length, get_or, None, sym, ap, subst}
 use Rattle.un_base.specs.declared.ids.VarId.{VarId}
 use Rattle.un_prop.specs.Going.{Stepped}
 use Rattle.un_prop.specs.declared.act.Act.TheVariants.{Always}

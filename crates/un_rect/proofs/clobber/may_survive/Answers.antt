@@ -1,5 +1,5 @@
-use Rattle.std.proofs.Common.{ℕ, ◌≡◌, ◌<◌, ◌∙◌, Bool, false, not, sym, ap, arith, inl, inr}
-use Rattle.un_domains.specs.Sets.{set_at, has, greatest}
+use Rattle.std.proofs.Common.{◌<◌, ◌∙◌, not, sym, ap, arith, inl, inr}
+use Rattle.un_domains.specs.Sets.{set_at, greatest}
 use Rattle.un_isa.specs.Tables.{in_mask}
 use Rattle.un_prop.specs.SomewhereLaws.{any_none, any_whole, any_has, none_next}
 use Rattle.un_rect.proofs.clobber.may_survive.Goals as goal

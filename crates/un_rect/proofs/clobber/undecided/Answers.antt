@@ -1,4 +1,4 @@
-use Rattle.std.proofs.Common.{List, ◌≡◌, ◌∙◌, sym, ap, subst, All}
+use Rattle.std.proofs.Common.{List, ◌∙◌, sym, ap, subst, All}
 use Rattle.un_base.specs.declared.ids.VarId.{VarId}
 use Rattle.un_prop.specs.declared.act.UserOf.{UserOf}
 use Rattle.un_rect.specs.Apart.{users_vars}

@@ -1,5 +1,5 @@
 -- the registers so far are not such ones
-use Rattle.std.proofs.Common.{ℕ, ◌≡◌, ◌&&◌, drop}
+use Rattle.std.proofs.Common.{◌≡◌, ◌&&◌, drop}
 use Rattle.std.specs.List.{list_any}
 use Rattle.un_domains.specs.Sets.{set_at, has}
 use Rattle.un_rect.specs.Operands.{may_avoid}

@@ -1,4 +1,4 @@
-use Rattle.std.proofs.Common.{ℕ, ◌≡◌, ◌<◌, ◌∙◌, Bool, false, sym, arith, inl, inr}
+use Rattle.std.proofs.Common.{◌<◌, ◌∙◌, sym, arith, inl, inr}
 use Rattle.un_base.specs.declared.ids.VarId.{VarId}
 use Rattle.un_domains.specs.Sets.{set_at, has, greatest}
 use Rattle.un_prop.specs.AmongLaws.{has_among}
@@ -33,8 +33,8 @@ loop-i-init c =
 pub returns-then-has_at : goal.returns-then-has_at
 returns-then-has_at c =
     let s = c.args.w.now.store.now.sets in
-    sym (any_has (passes_at (λ (v : VarId). has (set_at s v.0) c.args.r) c.args.o.now.regs.now) (set_at s c.args.o.now.choice.0) c.loop-i.i
-    (sym c.has.ensures ∙ c.if-has.true)
+    sym (any_has (passes_at (λ (v : VarId). has (set_at s v.0) c.args.r) c.args.o.now.regs.now) (set_at s c.args.o.now.choice.0)
+    c.loop-i.i (sym c.has.ensures ∙ c.if-has.true)
     (sym c.has_at.ensures ∙ c.if-has_at.true))
 
 pub loop-i-preserved : goal.loop-i-preserved

@@ -1,6 +1,5 @@
-use Rattle.std.proofs.Common.{ℕ, ◌≡◌, ◌≢◌, ◌≤◌, ◌<◌, ◌∙◌, true, get_or, length, Some, refl, sym, ap, subst, arith}
+use Rattle.std.proofs.Common.{ℕ, ◌∙◌, get_or, sym, ap}
 use Rattle.un_base.specs.declared.ids.VarId.{VarId}
-use Rattle.un_domains.specs.Sets.{Sets, set_at, least}
 use Rattle.un_prop.specs.AmongLaws.{has_among}
 use Rattle.un_prop.specs.GoingLaws.{stepped_same, stepped_by}
 use Rattle.un_rect.specs.Entries.{entry_cut}
@@ -44,8 +43,8 @@ returns-then-i-one-clause-step c =
     stepped_by w.vars.now (fixed_cut a b) (chosen_cut a b (get_or a.regs i d)) s c.keep_chosen.new.w.store.now c.args.before
     c.keep_chosen.result
     (λ live. fixed_at (entry_cut (chosen_cut a b) a.regs) a.choice.0 s.sets (sym c.is_single.ensures ∙ c.if-not-is_single.false)
-    ∙ (ap (λ (n : ℕ). entry_cut (chosen_cut a b) a.regs n s.sets) (sym c.min-i.ensures)
-    ∙ entry_within (chosen_cut a b) a.regs i d s.sets c.if-i-one.true))
+    ∙ (ap (λ (n : ℕ). entry_cut (chosen_cut a b) a.regs n s.sets) (sym c.min-i.ensures) ∙ entry_within (chosen_cut a b) a.regs i d s.sets
+    c.if-i-one.true))
     c.keep_chosen.ensures.step
 
 pub returns-else-i-one-clause-step : goal.returns-else-i-one-clause-step

@@ -1,13 +1,7 @@
-use Rattle.std.proofs.Common.{ℕ, ◌≡◌, ◌≢◌, ◌≤◌, ◌<◌, ◌+◌, ◌∙◌, true, List, get_or, length, option_and_then, refl, sym, ap, subst, arith}
+use Rattle.std.proofs.Common.{◌≡◌, ◌∙◌, true, List, sym, ap, subst}
 use Rattle.un_base.specs.declared.ids.VarId.{VarId}
-use Rattle.un_domains.specs.Sets.{Sets}
 use Rattle.un_prop.specs.Among.{among}
 use Rattle.un_prop.specs.Rounds.{HasVars}
-use Rattle.un_prop.specs.Going.{Stepped}
-use Rattle.un_prop.specs.GoingLaws.{stepped_same, stepped_by, stepped_chain}
-use Rattle.un_prop.specs.Places.{each_place}
-use Rattle.un_rect.specs.Entries.{entry_cut}
-use Rattle.un_rect.specs.EntryLaws.{entry_within}
 use Rattle.un_rect.specs.Operands.{SideVars, other_cut}
 use Rattle.un_rect.specs.Sides.{side_of}
 use Rattle.un_rect.proofs.Loops.{stepped_entry}

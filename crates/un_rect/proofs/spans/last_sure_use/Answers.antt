@@ -1,5 +1,4 @@
 use Rattle.std.proofs.Common.{None}
-use Rattle.un_prop.specs.Acts.{at_vars}
 use Rattle.un_prop.specs.LookLaws.{known_of}
 use Rattle.un_prop.specs.declared.act.Act.TheVariants.{Always}
 use Rattle.un_prop.specs.declared.act.At.TheVariants.{Const}

@@ -1,7 +1,7 @@
-use Rattle.std.proofs.Common.{ℕ, ◌≡◌, ◌≢◌, ◌<◌, ◌+◌, ◌||◌, ◌∙◌, Bool, true, List, not, nat_eq, nat_le, length, Some, option_and_then, refl}
-use Rattle.std.proofs.Common.{sym, ap, subst, arith}
+use Rattle.std.proofs.Common.{ℕ, ◌≡◌, ◌<◌, ◌+◌, ◌||◌, ◌∙◌, Bool, true, List, not, nat_eq, nat_le, Some, option_and_then, refl, sym, ap}
+use Rattle.std.proofs.Common.{subst, arith}
 use Rattle.un_base.specs.declared.ids.VarId.{VarId}
-use Rattle.un_domains.specs.Sets.{Sets, set_at, cut_by, least, greatest}
+use Rattle.un_domains.specs.Sets.{set_at, cut_by, least, greatest}
 use Rattle.un_prop.specs.AmongLaws.{has_among}
 use Rattle.un_prop.specs.Parts.{SameAt}
 use Rattle.un_prop.specs.Going.{Stepped}
