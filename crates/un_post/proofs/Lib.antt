@@ -1,5 +1,6 @@
 pub mod BlockTemps
 pub mod Blocks
+pub mod CallOrder
 pub mod Choices
 pub mod Congruences
 pub mod Cycles
@@ -19,6 +20,7 @@ pub mod Meeting
 pub mod Memory
 pub mod NoSharing
 pub mod OfPlaces
+pub mod OfRooms
 pub mod OneEnter
 pub mod Packets
 pub mod Placing
@@ -26,6 +28,7 @@ pub mod Posted
 pub mod Regions
 pub mod RegisterBounds
 pub mod Relaxed
+pub mod Solved
 pub mod SpaceSets
 pub mod Spaces
 pub mod Spared
