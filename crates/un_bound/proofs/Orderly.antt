@@ -120,12 +120,12 @@ abbrev all_ops : List ExtBlock → List ExtOp
 all_ops [] = []
 all_ops (block ∷ blocks) = block.ops ++ all_ops blocks
 
-get_left : {A : Type 0} (xs ys : List A) (k : ℕ) (x : A) → slice_get xs k ≡ Some x → slice_get (xs ++ ys) k ≡ Some x
+pub get_left : {A : Type 0} (xs ys : List A) (k : ℕ) (x : A) → slice_get xs k ≡ Some x → slice_get (xs ++ ys) k ≡ Some x
 get_left [] ys k x h = absurd (cc h)
 get_left (y ∷ xs) ys zero x h = h
 get_left (y ∷ xs) ys (suc k) x h = get_left xs ys k x h
 
-get_right : {A : Type 0} (xs ys : List A) (n k : ℕ) → n ≡ length xs + k → slice_get (xs ++ ys) n ≡ slice_get ys k
+pub get_right : {A : Type 0} (xs ys : List A) (n k : ℕ) → n ≡ length xs + k → slice_get (xs ++ ys) n ≡ slice_get ys k
 get_right [] ys n k e = ap (slice_get ys) (omega (arith, e))
 get_right (x ∷ xs) ys zero k e = absurd (omega (arith, e))
 get_right (x ∷ xs) ys (suc n) k e = get_right xs ys n k (omega (arith, e))
@@ -304,14 +304,18 @@ all_lead e fit n (block ∷ blocks) good numbered = (
       (numbered (length block.ops + k) op (get_right block.ops (all_ops blocks) (length block.ops + k) k refl ∙ at))),
 )
 
+pub all_leads : (m : Model) → IsModel m → IsExtended m.ext → IsFit m.ext.table → AllLeadOn 0 m.ext.blocks m.arcs
+all_leads m own extended fit =
+    subst (AllLeadOn 0 m.ext.blocks) (sym arcs) (all_lead m.ext fit 0 m.ext.blocks extended.good.each
+    (λ k op at. subst (λ (u : ℕ). slice_get (all_ops m.ext.blocks) u ≡ Some op) (omega arith) at))
+  where
+    arcs : m.arcs ≡ arcs_of m.ext
+    arcs = ap (λ (x : Model). x.arcs) own
+
 pub orderly : (m : Model) → IsModel m → IsExtended m.ext → IsFit m.ext.table → All IsShort m.ext.blocks → IsOrderly m
 orderly m own extended fit short = record {
   counts = record { blocks = extended.good.few; frequencies = λ k d lt. (extended.good.each k d lt).freq.1 };
   short = short;
   long = λ k d lt. omega (arith, (extended.good.each k d lt).horizon);
-  arcs = subst (AllLeadOn 0 m.ext.blocks) (sym arcs) (all_lead m.ext fit 0 m.ext.blocks extended.good.each
-      (λ k op at. subst (λ (u : ℕ). slice_get (all_ops m.ext.blocks) u ≡ Some op) (omega arith) at));
+  arcs = all_leads m own extended fit;
 }
-  where
-    arcs : m.arcs ≡ arcs_of m.ext
-    arcs = ap (λ (x : Model). x.arcs) own
