@@ -9,7 +9,7 @@ use un_ir::extended::{ExtKind, ExtOp};
 use un_model::instructions::instruction;
 use un_model::model::Arc;
 
-/// The most operations of a block for which there is room.
+/// The most operations of a block for which there is room: more than a block of any function has.
 pub const ROOM: usize = 2048;
 
 /// The first cycle of an operation that every solution issues.
