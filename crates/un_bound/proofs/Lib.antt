@@ -2,8 +2,10 @@ pub mod Boxes
 pub mod Earliest
 pub mod Knowns
 pub mod Leasts
+pub mod Members
 pub mod Nexts
 pub mod Orderly
 pub mod Placed
+pub mod Plains
 pub mod Stops
 pub mod Sums

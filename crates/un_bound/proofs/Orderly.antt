@@ -1,10 +1,11 @@
 -- The arcs of the model of an extended function lead on.
 use Rattle.std.proofs.Common.{◌≡◌, ℕ, zero, suc, ◌+◌, ◌-◌, ◌^◌, ◌≤◌, ◌<◌, ◌⊎◌, inl, inr, Bool, true, false, List, [], ◌∷◌, ◌++◌, length}
 use Rattle.std.proofs.Common.{get_or, take, Option, Some, None, refl, sym, ap, ◌∙◌, subst, arith}
-use Rattle.std.specs.Prelude.{slice_get, IfSome, All}
+use Rattle.std.specs.Prelude.{slice_get, sum_by, IfSome, All}
 use Rattle.std.specs.List.{list_any, AllZip}
 use Rattle.std.proofs.lemmas.Bool.{eqb-true}
 use Rattle.std.proofs.lemmas.List.Elements.{Contains-get_or}
+use Rattle.std.proofs.lemmas.List.Sums.{sum_by-cons, get_or-le-sum_by}
 use Rattle.std.proofs.lemmas.Option.{slice_get_within}
 use Rattle.un_base.specs.declared.ids.TempId.{TempId}
 use Rattle.un_isa.specs.Facts.{is_source}
@@ -19,6 +20,7 @@ use Rattle.un_ir.specs.declared.extended.ExtOp.{ExtOp}
 use Rattle.un_ir.specs.declared.extended.ExtBlock.{ExtBlock}
 use Rattle.un_ir.specs.declared.extended.Ext.{Ext}
 use Rattle.un_ir.specs.Extended.{IsExtended, IsGoodExtBlock, IsGoodOperand, IsGoodKind, Want, wants_of, result_count, results_of}
+use Rattle.un_ir.specs.Extended.{size_of}
 use Rattle.un_model.specs.declared.model.Arc.{Arc}
 use Rattle.un_model.specs.declared.model.Model.{Model}
 use Rattle.un_model.specs.declared.model.TempVars.{TempVars}
@@ -30,7 +32,7 @@ use Rattle.un_model.specs.Instructions.{instruction_of, is_transfer, latency_by}
 use Rattle.un_model.specs.Pairs.{places_from}
 use Rattle.un_model.specs.Solutions.{memory_distance, after_load, after_write}
 use Rattle.un_model.specs.Variables.{IsModel, arcs_of, register_place, var_count, block_count, op_temps, ops_temps, blocks_temps, temp_of}
-use Rattle.un_bound.specs.Arcs.{MayLead, MayWait, LeadsOn, LeadOn, IsBefore, AllLeadOn, IsShort, IsOrderly}
+use Rattle.un_bound.specs.Arcs.{MayLead, MayWait, LeadsOn, LeadOn, IsBefore, AllLeadOn, HasFewOps, IsOrderly}
 
 -- ---- gaps
 
@@ -120,12 +122,12 @@ abbrev all_ops : List ExtBlock → List ExtOp
 all_ops [] = []
 all_ops (block ∷ blocks) = block.ops ++ all_ops blocks
 
-get_left : {A : Type 0} (xs ys : List A) (k : ℕ) (x : A) → slice_get xs k ≡ Some x → slice_get (xs ++ ys) k ≡ Some x
+pub get_left : {A : Type 0} (xs ys : List A) (k : ℕ) (x : A) → slice_get xs k ≡ Some x → slice_get (xs ++ ys) k ≡ Some x
 get_left [] ys k x h = absurd (cc h)
 get_left (y ∷ xs) ys zero x h = h
 get_left (y ∷ xs) ys (suc k) x h = get_left xs ys k x h
 
-get_right : {A : Type 0} (xs ys : List A) (n k : ℕ) → n ≡ length xs + k → slice_get (xs ++ ys) n ≡ slice_get ys k
+pub get_right : {A : Type 0} (xs ys : List A) (n k : ℕ) → n ≡ length xs + k → slice_get (xs ++ ys) n ≡ slice_get ys k
 get_right [] ys n k e = ap (slice_get ys) (omega (arith, e))
 get_right (x ∷ xs) ys zero k e = absurd (omega (arith, e))
 get_right (x ∷ xs) ys (suc n) k e = get_right xs ys n k (omega (arith, e))
@@ -304,14 +306,32 @@ all_lead e fit n (block ∷ blocks) good numbered = (
       (numbered (length block.ops + k) op (get_right block.ops (all_ops blocks) (length block.ops + k) k refl ∙ at))),
 )
 
-pub orderly : (m : Model) → IsModel m → IsExtended m.ext → IsFit m.ext.table → All IsShort m.ext.blocks → IsOrderly m
-orderly m own extended fit short = record {
-  counts = record { blocks = extended.good.few; frequencies = λ k d lt. (extended.good.each k d lt).freq.1 };
-  short = short;
-  long = λ k d lt. omega (arith, (extended.good.each k d lt).horizon);
-  arcs = subst (AllLeadOn 0 m.ext.blocks) (sym arcs) (all_lead m.ext fit 0 m.ext.blocks extended.good.each
-      (λ k op at. subst (λ (u : ℕ). slice_get (all_ops m.ext.blocks) u ≡ Some op) (omega arith) at));
-}
+pub all_leads : (m : Model) → IsModel m → IsExtended m.ext → IsFit m.ext.table → AllLeadOn 0 m.ext.blocks m.arcs
+all_leads m own extended fit =
+    subst (AllLeadOn 0 m.ext.blocks) (sym arcs) (all_lead m.ext fit 0 m.ext.blocks extended.good.each
+    (λ k op at. subst (λ (u : ℕ). slice_get (all_ops m.ext.blocks) u ≡ Some op) (omega arith) at))
   where
     arcs : m.arcs ≡ arcs_of m.ext
     arcs = ap (λ (x : Model). x.arcs) own
+
+-- a block has at most as many operations as those and what they read and define
+abbrev op_size : ExtOp → ℕ
+op_size op = 1 + length op.operands + length op.results
+
+few_by_size : (ops : List ExtOp) → length ops ≤ sum_by op_size ops
+few_by_size [] = omega arith
+few_by_size (op ∷ ops) = omega (arith, sum_by-cons op_size op ops, few_by_size ops)
+
+few_ops : (blocks : List ExtBlock) → size_of blocks < 2 ^ 24 → All HasFewOps blocks
+few_ops blocks small k d lt =
+    let own = get_or-le-sum_by (λ (block : ExtBlock). sum_by op_size block.ops) blocks k d lt in
+    let block = get_or blocks k d in
+    omega (arith, small, own, few_by_size block.ops)
+
+pub orderly : (m : Model) → IsModel m → IsExtended m.ext → IsFit m.ext.table → IsOrderly m
+orderly m own extended fit = record {
+  counts = record { blocks = extended.good.few; frequencies = λ k d lt. (extended.good.each k d lt).freq.1 };
+  few = few_ops m.ext.blocks extended.good.small;
+  long = λ k d lt. omega (arith, (extended.good.each k d lt).horizon);
+  arcs = all_leads m own extended fit;
+}

@@ -53,5 +53,5 @@ block_at P blocks k block is all = subst P (get_or_from_slice_get blocks k block
     inside (inl there) = there.1
     inside (inr past) = absurd (cc (past.1, is))
 
-pub few_cycles : (freq packets : ℕ) → freq ≤ 1000000 → packets ≤ 262144 → freq * packets ≤ 262144000000
-few_cycles freq packets f p = omega (arith, mul-le freq packets 1000000 262144 f p)
+pub few_cycles : (freq packets : ℕ) → freq ≤ 1000000 → packets ≤ 524288 → freq * packets ≤ 524288000000
+few_cycles freq packets f p = omega (arith, mul-le freq packets 1000000 524288 f p)

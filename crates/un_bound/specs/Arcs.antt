@@ -45,8 +45,13 @@ AllLeadOn n [] arcs = Unit {0}
 AllLeadOn n (block ∷ blocks) [] = Unit {0}
 AllLeadOn n (block ∷ blocks) (here ∷ arcs) = LeadOn n block.ops here × AllLeadOn (n + length block.ops) blocks arcs
 
+-- there is room for the cycle of each operation
 abbrev pub IsShort : ExtBlock → Type 0
 IsShort block = length block.ops ≤ ROOM
+
+-- so few that the operations of all blocks can be numbered
+abbrev pub HasFewOps : ExtBlock → Type 0
+HasFewOps block = length block.ops < 2 ^ 24
 
 -- no horizon is so short that each operation has no cycle of its own
 abbrev pub IsLong : ExtBlock → Type 0
@@ -55,6 +60,6 @@ IsLong block = length block.ops ≤ block.horizon
 -- what bounds rest on: few blocks, which run rarely and have few operations, and arcs that lead on
 pub record IsOrderly (m : Model) : Type 0 where
   pub counts : HasSmallCounts m.ext
-  pub short : All IsShort m.ext.blocks
+  pub few : All HasFewOps m.ext.blocks
   pub long : All IsLong m.ext.blocks
   pub arcs : AllLeadOn 0 m.ext.blocks m.arcs

@@ -9,8 +9,8 @@ use un_ir::extended::{ExtKind, ExtOp};
 use un_model::instructions::instruction;
 use un_model::model::Arc;
 
-/// The most operations of a block for which there is room.
-pub const ROOM: usize = 1024;
+/// The most operations of a block for which there is room: more than a block of any function has.
+pub const ROOM: usize = 2048;
 
 /// The first cycle of an operation that every solution issues.
 pub(crate) fn first_cycle(kind: &ExtKind) -> u32

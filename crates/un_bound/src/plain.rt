@@ -68,6 +68,7 @@ fn block_bound(t: &Table, room: &mut [u32], first: usize, block: &ExtBlock, arcs
 /// The sum over the blocks of their frequencies times their least numbers of packets, by way of `room`.
 fn sum_of(m: &Model, room: &mut [u32]) -> u64
     requires orderly { IsOrderly m.now }
+    requires short { All IsShort m.now.ext.blocks }
     requires room { ROOM ≤ length room.old }
     ensures { IsPlainBound m.now result }
 {

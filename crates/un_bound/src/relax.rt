@@ -3,7 +3,7 @@
 ghost use Rattle.std.specs.Prelude.{◌≡◌, ◌+◌, ◌≤◌, All, length};
 ghost use Rattle.un_domains.specs.Sets.{NoneEmpty};
 ghost use Rattle.un_prop.specs.Pruning.{HasRoom};
-ghost use Rattle.un_bound.specs.Arcs.{IsShort, IsOrderly};
+ghost use Rattle.un_bound.specs.Arcs.{IsOrderly};
 ghost use Rattle.un_bound.specs.Choices.{AllKnown, HasPlaces};
 ghost use Rattle.un_bound.specs.Relaxations.{IsRelaxation};
 ghost use Rattle.un_ir.specs.Extended.{IsExtended};
@@ -52,7 +52,6 @@ pub fn relax_bound(m: &Model, store: &Store, scratch: &mut Scratch) -> RelaxAnsw
     requires model { IsModel m.now }
     requires extended { IsExtended m.now.ext }
     requires fit { IsFit m.now.ext.table }
-    requires short { All IsShort m.now.ext.blocks }
     requires known { length m.now.domains ≤ length store.now.sets }
     requires live { NoneEmpty store.now.sets }
     requires room { All (λ block. HasRoom (length store.now.sets) (block.horizon + 1) scratch.old) m.now.ext.blocks }

@@ -1,8 +1,9 @@
--- An extended function has at most seven times the size of its linear function.
+-- An extended function has at most seven times the size of its linear function, and a block at most twice as many operations as its
+-- linear block has operations, operands and results.
 use Rattle.std.proofs.Common.{◌≡◌, ℕ, zero, suc, ◌+◌, ◌-◌, ◌*◌, ◌<◌, ◌≤◌, ◌++◌, ◌||◌, Bool, true, false, if◌then◌else◌, List, [], ◌∷◌}
 use Rattle.std.proofs.Common.{Option, Some, None, map, length, replicate, slice_get, All, refl, sym, ap, ◌∙◌, arith}
 use Rattle.std.specs.List.{sum_by}
-use Rattle.std.proofs.lemmas.List.{length-append, length-map, length-replicate}
+use Rattle.std.proofs.lemmas.List.{length-append, length-map, length-replicate, length_push}
 use Rattle.std.proofs.lemmas.List.Elements.{All-head, All-tail}
 use Rattle.std.proofs.lemmas.List.FromFn.{length-map-range_with_len}
 use Rattle.std.proofs.lemmas.List.Sums.{sum_by-cons, sum_by_push}
@@ -145,3 +146,106 @@ extended_size t names old is_entry values next (was ∷ rest) good =
     let c = sum_by-cons (λ (block : ExtBlock). size block.ops) (with_ops was g.ops) (extended_blocks names false g.values g.next rest) in
     let d = sum_by-cons (λ (block : ExtBlock). size block.ops) was rest in
     omega (arith, a, b, c, d, z)
+
+-- ---- how many operations
+
+abbrev count : Growth → ℕ
+count g = length g.ops
+
+copies_count : (first second : NodeCopy) (kind : Kind) (copied : Bool) (ys : List TempId) (g : Growth)
+    → count (with_copies first second kind copied ys g) ≤ count g + 2
+copies_count first second kind false ys g = omega arith
+copies_count first second General true ys g = let a = length_push g.ops (copy_op first ys g.next) in omega (arith, a)
+copies_count first second Pred true ys g =
+    let a = length_push g.ops (copy_op first ys g.next) in
+    let b = length_push (g.ops ++ copy_op first ys g.next ∷ []) (copy_op second (ys ++ temp g.next ∷ []) (g.next + 1)) in
+    omega (arith, a, b)
+
+values_count : (n : ℕ) (sorts : List Sort) (g : Growth) → count (with_values n sorts g) ≤ count g + 2 * length sorts
+values_count n [] g = omega arith
+values_count n (sort ∷ sorts) g =
+    let a = copies_count D D2 sort.kind sort.copied (temp n ∷ []) g in
+    let b = values_count (n + 1) sorts (with_value n sort g) in
+    omega (arith, a, b)
+
+by_count : (i : ℕ) (o : Option Value) (g : Growth) → count (with_operand_by i o g) ≤ count g + 2
+by_count i None g = omega arith
+by_count i (Some v) g = copies_count U U2 (let sort = v.sort in sort.kind) (let sort = v.sort in sort.copied) v.own g
+
+operands_count : (xs : List Operand) (g : Growth) → count (with_operands xs g) ≤ count g + 2 * length xs
+operands_count [] g = omega arith
+operands_count (x ∷ xs) g =
+    let a = by_count (first_of x.alts) (slice_get g.values (first_of x.alts)) g in
+    let b = operands_count xs (with_operand x g) in
+    omega (arith, a, b)
+
+-- Leave stands before a terminator alone, and Enter behind a block's start alone
+abbrev leaves : ExtKind → ℕ
+leaves (End term) = 1
+leaves _ = 0
+
+abbrev enters : ExtKind → ℕ
+enters In = 1
+enters _ = 0
+
+one_frame : (kind : ExtKind) → leaves kind + enters kind ≤ 1
+one_frame In = omega arith
+one_frame (End term) = omega arith
+one_frame _ = omega arith
+
+leave_count : (kind : ExtKind) (g : Growth) → count (with_leave kind g) ≤ count g + leaves kind
+leave_count (End term) g = by (is_return term)
+  where
+    by : (v : Bool) → count (if v then with_op g (frame_op Leave) else g) ≤ count g + 1
+    by true = let a = length_push g.ops (frame_op Leave) in omega (arith, a)
+    by false = omega arith
+leave_count _ g = omega arith
+
+enter_count : (is_entry : Bool) (kind : ExtKind) (g : Growth) → count (with_enter is_entry kind g) ≤ count g + enters kind
+enter_count true In g = let a = length_push g.ops (frame_op Enter) in omega (arith, a)
+enter_count _ _ g = omega arith
+
+one_count : (t : Table) (names : List Kind) (block : ExtBlock) (is_entry saved : Bool) (op : ExtOp) (g : Growth)
+    → length op.results ≡ result_count t block op.kind
+    → count (with_extended names block.live_in is_entry saved op g) ≤ count g + 2 * op_size op
+one_count t names block is_entry saved op g c =
+    let before = with_leave op.kind g in
+    let read = with_operands op.operands before in
+    let results = length op.results in
+    let made : ExtOp = record { kind = op.kind; operands = new_operands op.operands before; results = new_temps read results } in
+    let here = with_results op.kind (new_operands op.operands before) results read in
+    let sorts = sorts_of names block.live_in saved op.kind results in
+    let a = leave_count op.kind g in
+    let b = operands_count op.operands before in
+    let d = length_push read.ops made in
+    let e = values_count read.next sorts here in
+    let f = sorts_length t names block saved op.kind results c in
+    let h = enter_count is_entry op.kind (with_values read.next sorts here) in
+    let i = one_frame op.kind in
+    omega (arith, a, b, d, e, f, h, i)
+
+all_count : (t : Table) (names : List Kind) (block : ExtBlock) (is_entry saved : Bool) (ops : List ExtOp) (g : Growth)
+    → ((k : ℕ) (op : ExtOp) → slice_get ops k ≡ Some op → length op.results ≡ result_count t block op.kind)
+    → count (with_all_extended names block.live_in is_entry saved ops g) ≤ count g + 2 * size ops
+all_count t names block is_entry saved [] g c = omega arith
+all_count t names block is_entry saved (op ∷ ops) g c =
+    let a = one_count t names block is_entry saved op g (c 0 op refl) in
+    let b = all_count t names block is_entry saved ops (with_extended names block.live_in is_entry saved op g) (λ k x h. c (suc k) x h) in
+    let d = sum_by-cons op_size op ops in
+    omega (arith, a, b, d)
+
+pub extended_counts : (t : Table) (names : List Kind) (old : List ExtBlock) (limit : ℕ) (is_entry : Bool) (values : List Value) (next : ℕ)
+    (rest : List ExtBlock)
+    → All (IsGoodExtBlock t names old) rest → All (λ (block : ExtBlock). size block.ops ≤ limit) rest
+    → All (λ (block : ExtBlock). length block.ops ≤ 2 * limit) (extended_blocks names is_entry values next rest)
+extended_counts t names old limit is_entry values next [] good few k d lt = absurd (omega (arith, lt))
+extended_counts t names old limit is_entry values next (was ∷ rest) good few zero d lt =
+    let own = good zero was (omega arith) in
+    let a = all_count t names was is_entry (is_entry || returns was) was.ops (record { ops = []; values = values; next = next })
+    (λ k op h. (let o = own.ops k op h in o.results)) in
+    let b = few zero was (omega arith) in
+    omega (arith, a, b)
+extended_counts t names old limit is_entry values next (was ∷ rest) good few (suc k) d lt =
+    let g = grown_block names is_entry values next was in
+    extended_counts t names old limit false g.values g.next rest (λ j x h. good (suc j) x (omega (arith, h)))
+    (λ j x h. few (suc j) x (omega (arith, h))) k d (omega (arith, lt))

@@ -51,6 +51,9 @@ Kept f = IsWellFormed f.name f.params f.names f.blocks
 pub all_ops_few : (f : Function) → length (flat_map (λ (block : Block). block.ops) f.blocks) ≤ 80
 all_ops_few f = ∥∥₁_elim f.well_formed le_prop (λ (w : Kept f). w.few_ops)
 
+pub block_ops_few : (f : Function) → All (λ (block : Block). length block.ops ≤ 80) f.blocks
+block_ops_few f k d h = let a = all_ops_few f in let b = within_all f.blocks k d h in omega (arith, a, b)
+
 pub ops_few : (f : Function) → All (λ (block : Block). length block.ops < 2 ^ 30) f.blocks
 ops_few f k d h = let a = all_ops_few f in let b = within_all f.blocks k d h in omega (arith, a, b)
 

@@ -46,7 +46,7 @@ use Rattle.un_lssa.specs.Making.{past_blocks}
 use Rattle.un_lssa.proofs.BlockLaws.{few_names}
 use Rattle.un_lssa.proofs.EnterSim.{body_ending, rest_ending, any_true, contains_among, filter_has}
 use Rattle.un_lssa.proofs.FunctionRuns.{params_few, entry_param}
-use Rattle.un_lssa.proofs.FunctionSizes.{filter_few, saved_few, all_ops_few, blocks_few, names_few, live_few}
+use Rattle.un_lssa.proofs.FunctionSizes.{filter_few, saved_few, all_ops_few, block_ops_few, blocks_few, names_few, live_few}
 use Rattle.un_lssa.proofs.KeptBlocks.{kinds, all_kept}
 use Rattle.un_lssa.proofs.LinearNumbers.{blocks_plain, numbers_blocks}
 
@@ -329,6 +329,22 @@ module _ (f : Function) (lists : List (List NameId)) (t : Table) (live : AreLive
       let b = blocks_few f in
       let c = all_ops_few f in
       omega (arith, a, b, c)
+
+  -- no block is large
+  pub small_blocks : All (λ (own : ExtBlock). ops_size own.ops ≤ 790) lin
+  small_blocks k d lt = by (lin_made k (get_or lin k d) (slice_get-get_or lin k d lt))
+    where
+      by : Made t count lists f.blocks k k (get_or lin k d) → (let own = get_or lin k d in ops_size own.ops) ≤ 790
+      by m =
+          let block = m.block in
+          let in_few = live_few f lists live k in
+          let names = names_few f in
+          let after = after_few lists count k block.term in
+          let a = block_size t f m.first (live_at lists k) (live_after lists count k block.term) block in_few
+          (omega (arith, after, names)) (λ j o h. op_good k j block o m.at h) in
+          let b : length block.ops ≤ 80 = subst (λ (x : Block). length x.ops ≤ 80) (get_or_from_slice_get f.blocks k block block m.at)
+          (block_ops_few f k block (slice_get_within f.blocks k block m.at)) in
+          subst (λ (x : ExtBlock). ops_size x.ops ≤ 790) m.is (omega (arith, a, b))
 
   entry : 0 < length lin
   entry = let a = entry_there f in let b = lin_length in omega (arith, a, b)

@@ -1,45 +1,21 @@
 -- The temporaries of each block, as propagators name them, with their live ranges.
-use Rattle.std.proofs.Common.{
-  ℕ,
-  zero,
-  suc,
-  ◌≡◌,
-  ◌↔◌,
-  ◌+◌,
-  ◌<◌,
-  ◌≤◌,
-  max,
-  Bool,
-  true,
-  false,
-  List,
-  [],
-  ◌∷◌,
-  ◌++◌,
-  map,
-  refl,
-  sym,
-  ap,
-  ◌∙◌,
-  subst,
-  arith,
-}
-use Rattle.std.specs.Prelude.{Option, Some, slice_get}
+use Rattle.std.proofs.Common.{ℕ, ◌≡◌, ◌↔◌, ◌+◌, List, [], ◌∷◌, ◌++◌, map, refl, sym, ap, ◌∙◌}
+use Rattle.std.proofs.Common.{subst}
+use Rattle.std.specs.Prelude.{Option}
 use Rattle.un_base.specs.declared.ids.TempId.{TempId}
 use Rattle.un_ir.specs.declared.extended.Ext.{Ext}
 use Rattle.un_model.specs.declared.model.Options.{Options}
-use Rattle.un_model.specs.declared.schedule.LiveRange.{LiveRange}
 use Rattle.un_model.specs.Pairs.{places_from, joined}
 use Rattle.un_model.specs.Variables.{model_of}
 use Rattle.un_model.proofs.Lists.{Each, Member, map-append, member_map}
 use Rattle.un_model.proofs.Placed.{Placed, Region, region_placed, Spot, spot, spots_of, all_spots}
-use Rattle.un_model.proofs.PlacedSchedules.{all, spots, spot_range, joined_member, places_member, member_joined}
+use Rattle.un_model.proofs.PlacedSchedules.{spots, spot_range, joined_member, places_member, member_joined}
 use Rattle.un_prop.specs.declared.act.Temp.{Temp}
 use Rattle.un_prop.specs.Acts.{is_active}
 use Rattle.un_rect.specs.Spans.{starts, ends}
-use Rattle.un_post.specs.Places.{Place, Definer, definers_of, definer_or}
-use Rattle.un_post.specs.Rooms.{temp_by, temp_at, results_in}
-use Rattle.un_post.proofs.Blocks.{blocks, region_places, joined_parts, map_twice, in_all}
+use Rattle.un_post.specs.Places.{Definer, definers_of, definer_or}
+use Rattle.un_post.specs.Rooms.{temp_by, temp_at, temps_in}
+use Rattle.un_post.proofs.Blocks.{blocks, region_places, joined_parts, map_twice}
 use Rattle.un_post.proofs.Facts.{Given, numbered, definer_is, definer_acts, definer_times}
 use Rattle.un_post.proofs.Meeting.{each_joined, joined_each}
 use Rattle.un_post.proofs.Placing.{place_of, definer_at, definer_here}
@@ -59,7 +35,7 @@ own_temps : (q : Placed) (k : ℕ) (ts : List TempId) → map (λ (s : Spot). s.
 own_temps q k [] = refl
 own_temps q k (t ∷ ts) = ap (λ us. t ∷ us) (own_temps q (k + 1) ts)
 
-pub results_are : (qs : List Placed) → results_in (map place_of qs) ≡ map (λ (s : Spot). s.temp) (all_spots qs)
+pub results_are : (qs : List Placed) → temps_in (map place_of qs) ≡ map (λ (s : Spot). s.temp) (all_spots qs)
 results_are [] = refl
 results_are (q ∷ qs) =
     ap (λ ts. (q.op).results ++ ts) (results_are qs) ∙ ap (λ ts. ts ++ map (λ (s : Spot). s.temp) (all_spots qs))

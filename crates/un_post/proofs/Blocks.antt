@@ -7,12 +7,12 @@ use Rattle.un_ir.specs.declared.extended.Ext.{Ext}
 use Rattle.un_model.specs.declared.model.BlockVars.{BlockVars}
 use Rattle.un_model.specs.declared.model.Options.{Options}
 use Rattle.un_model.specs.Pairs.{pairs_from, joined, over_blocks}
-use Rattle.un_model.specs.Variables.{model_of, op_vars, ops_vars, var_count, var_at, ops_count, block_count, block_vars, blocks_vars}
+use Rattle.un_model.specs.Variables.{op_vars, ops_vars, var_count, var_at, ops_count, block_count, block_vars, blocks_vars}
 use Rattle.un_model.proofs.Lists.{Each, Pairwise, Member, each_of, each_member, member_map, pairwise_two, place_of as position_of}
 use Rattle.un_model.proofs.Operations.{placed_is}
-use Rattle.un_model.proofs.Placed.{Placed, placed, block_placed, blocks_placed, Region, region_placed}
+use Rattle.un_model.proofs.Placed.{Placed, placed, Region, region_placed}
 use Rattle.un_model.proofs.PlacedSchedules.{all, member_joined, joined_member}
-use Rattle.un_post.specs.Constraints.{Constraint, meets, AllMet}
+use Rattle.un_post.specs.Constraints.{Constraint, AllMet}
 use Rattle.un_post.specs.Places.{Place, place_at, block_places}
 use Rattle.un_post.proofs.Meeting.{Met, met_all, all_met, each_joined, joined_each}
 use Rattle.un_post.proofs.Placing.{place_of}
@@ -64,7 +64,7 @@ places_in r = let owner = r.owner in op_places r.block owner (var_at (r.first + 
 
 -- ---- numbers of blocks
 
-past : (b n first : ℕ) (blocks : List ExtBlock) → Each (λ (r : Region). b ≤ r.block) (regions b n first blocks)
+pub past : (b n first : ℕ) (blocks : List ExtBlock) → Each (λ (r : Region). b ≤ r.block) (regions b n first blocks)
 past b n first [] = tt
 past b n first (block ∷ blocks) =
     let rest = regions (b + 1) (n + length block.ops) (first + block_count block) blocks in (
@@ -92,6 +92,15 @@ region_owner r q m =
     let k = position_of (region_placed r) q m in
     let is = placed_is r.block owner (var_at (r.first + ops_count owner.ops)) r.number r.first k.0 owner.ops q k.2 in
     is.3
+
+-- and its end
+pub region_close : (r : Region) (q : Placed) → Member q (region_placed r)
+    → (let owner = r.owner in var_at (r.first + ops_count owner.ops) ≡ q.close)
+region_close r q m =
+    let owner = r.owner in
+    let k = position_of (region_placed r) q m in
+    let is = placed_is r.block owner (var_at (r.first + ops_count owner.ops)) r.number r.first k.0 owner.ops q k.2 in
+    sym is.4
 
 module _ (e : Ext) (o : Options) (x : List ℕ) where
   abbrev pub blocks : List Region

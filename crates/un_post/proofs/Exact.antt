@@ -22,15 +22,12 @@ use Rattle.un_model.proofs.Lists.{Member}
 use Rattle.un_post.specs.Befores.{befores_of, all_postings_of}
 use Rattle.un_post.specs.Constraints.{AllMet}
 use Rattle.un_post.specs.Postings.{postings_of}
-use Rattle.un_post.specs.Rooms.{aparts_of, clobbers_of, packets_of, twos_of}
+use Rattle.un_post.specs.Rooms.{rooms_of}
 use Rattle.un_post.proofs.Facts.{Given}
 use Rattle.un_post.proofs.Memory.{befores, memory, contains_member, member_contains}
-use Rattle.un_post.proofs.NoSharing.{no_sharing}
-use Rattle.un_post.proofs.Packets.{packets}
-use Rattle.un_post.proofs.Posted.{posted, all_append}
+use Rattle.un_post.proofs.Posted.{all_append}
+use Rattle.un_post.proofs.Solved.{solved_by}
 use Rattle.un_post.proofs.SpaceSets.{has_run}
-use Rattle.un_post.proofs.Spared.{spared}
-use Rattle.un_post.proofs.TwoOperands.{two_operands}
 
 -- a solution that costs less than a limit, where there is one
 abbrev pub IsCheaper : Model → Option ℕ → Solution → Type 0
@@ -42,69 +39,17 @@ of_given : (e : Ext) (o : Options) (limit : Option ℕ) (x : List ℕ) → Given
     → IsCheaper (model_of e o) limit (record { values = x }) ↔ AllMet (all_postings_of (model_of e o) limit) x
 of_given e o limit x given =
     let m : Model = model_of e o in
-    let s : Solution = record { values = x } in
-    let after_calls = packets_of m ++ twos_of m in
-    let after_rooms = clobbers_of m ++ after_calls in
-    let after_arcs = aparts_of m ++ after_rooms in
-    let a = all_append x (postings_of m limit) (befores_of m ++ after_arcs) in
-    let b = all_append x (befores_of m) after_arcs in
-    let c = all_append x (aparts_of m) after_rooms in
-    let d = all_append x (clobbers_of m) after_calls in
-    let f = all_append x (packets_of m) (twos_of m) in
-    let p = posted e o limit s given in
-    let share = no_sharing e o x given in
-    let calls = spared e o x given in
-    let room = packets e o x given in (
+    let a = all_append x (postings_of m limit) (befores_of m ++ rooms_of m) in
+    let b = all_append x (befores_of m) (rooms_of m) in
+    let solved = solved_by e o limit (record { values = x }) given in (
       λ h.
-          let solved = h.0 in
-          let regs = solved.registers in
-          let own = p.0 (record {
-            singly = record {
-              zeros = solved.zeros;
-              choices = solved.choices;
-              spaces = solved.spaces;
-              latencies = solved.latencies;
-              homes = solved.homes;
-            };
-            congruences = solved.congruences;
-            frame = solved.frame;
-            cheaper = h.1;
-          }) in
-          a.1 (
-            own,
-            b.1 (
-              befores e o x given solved,
-              c.1 (
-                share.0 regs.0,
-                d.1 (
-                  calls.0 regs.1,
-                  f.1 (
-                    room.0 solved.packets,
-                    two_operands e o x given solved,
-                  ),
-                ),
-              ),
-            ),
-          ),
+          let s = h.0 in
+          let parts = (solved s.memory).0 h in
+          a.1 (parts.0, b.1 (befores e o x given s, parts.1)),
       λ h.
-          let u = a.0 h in let v = b.0 u.1 in let w = c.0 v.1 in let y = d.0 w.1 in let z = f.0 y.1 in
-          let own = p.1 u.0 in
-          let singly = own.singly in (
-            record {
-              in_domains = given.domains;
-              zeros = singly.zeros;
-              choices = singly.choices;
-              spaces = singly.spaces;
-              latencies = singly.latencies;
-              memory = memory e o x given v.0;
-              registers = (share.1 w.0, calls.1 y.0);
-              packets = room.1 z.0;
-              homes = singly.homes;
-              congruences = own.congruences;
-              frame = own.frame;
-            },
-            own.cheaper,
-          ),
+          let u = a.0 h in
+          let v = b.0 u.1 in
+          (solved (memory e o x given v.0)).1 (u.0, v.1),
     )
 
 pub exact : (e : Ext) (o : Options) (limit : Option ℕ) (x : List ℕ) → IsExtended e → IsFit e.table → AreOptions o

@@ -127,7 +127,7 @@ module _ (e : Ext) (o : Options) (x : List ℕ) (given : Given e o x) where
   abbrev placed_by : Placed → ExtKind → List Constraint
   placed_by q c = issue_by c (act_of (place_of q)) q.close (var_if (has_cycle c) (q.first + cycle_place q.op))
 
-  placed_at : (q : Placed) → Member q (all e o x) → IsPlaced (issue_at x q) ↔ Met x (issues_in (place_of q))
+  pub placed_at : (q : Placed) → Member q (all e o x) → IsPlaced (issue_at x q) ↔ Met x (issues_in (place_of q))
   placed_at q m = by q.op.kind refl
     where
       instr_is : (kind : ExtKind) → q.op.kind ≡ kind → (let v = vars_of q in

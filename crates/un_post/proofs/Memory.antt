@@ -141,7 +141,7 @@ some_larger (Some a) n = (max a n, refl)
 
 -- ---- arcs by blocks
 
-arcs_by_regions : (t : Table) (temps : List TempVars) (b n first : ℕ) (bs : List ExtBlock)
+pub arcs_by_regions : (t : Table) (temps : List TempVars) (b n first : ℕ) (bs : List ExtBlock)
     → blocks_arcs t temps n bs ≡ map (λ (r : Region). let owner = r.owner in block_arcs t temps r.number owner.ops) (regions b n first bs)
 arcs_by_regions t temps b n first [] = refl
 arcs_by_regions t temps b n first (block ∷ bs) = ap (λ xs. block_arcs t temps n block.ops ∷ xs)
@@ -158,7 +158,7 @@ module _ (e : Ext) (o : Options) (x : List ℕ) (given : Given e o x) where
   region_arcs r = let owner = r.owner in block_arcs e.table temps r.number owner.ops
 
   -- the constraint of an arc between two operations
-  one : (a : Arc) (p q : Placed) → slice_get places a.from.0 ≡ Some (place_of p) → slice_get places a.to.0 ≡ Some (place_of q)
+  pub one : (a : Arc) (p q : Placed) → slice_get places a.from.0 ≡ Some (place_of p) → slice_get places a.to.0 ≡ Some (place_of q)
       → ((issue_at x p).cycle + a.gap ≤ (issue_at x q).cycle) ↔ (meets (arc_before places a) x ≡ true)
   one a p q from to =
       let f : at_value (time_of (place_with places a.from.0)) x ≡ (issue_at x p).cycle =

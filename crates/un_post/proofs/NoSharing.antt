@@ -1,75 +1,33 @@
 -- No two active temporaries of a block occupy a register in one cycle exactly where the constraints of each block are met.
-use Rattle.std.proofs.Common.{
-  ℕ,
-  zero,
-  suc,
-  ◌≡◌,
-  ◌↔◌,
-  ◌+◌,
-  ◌<◌,
-  ◌≤◌,
-  max,
-  Bool,
-  true,
-  false,
-  List,
-  [],
-  ◌∷◌,
-  ◌++◌,
-  map,
-  refl,
-  sym,
-  ap,
-  ◌∙◌,
-  subst,
-  arith,
-  AllPairs,
-  inl,
-  inr,
-}
-use Rattle.std.specs.Prelude.{not, ◌&&◌, ◌||◌, nat_eq, nat_le, slice_index}
+use Rattle.std.proofs.Common.{ℕ, ◌≡◌, ◌↔◌, ◌+◌, ◌<◌, ◌≤◌, max, Bool, true, false, List, [], ◌∷◌, ◌++◌, map, refl, sym, ap, ◌∙◌}
+use Rattle.std.proofs.Common.{subst, arith, AllPairs, inl, inr}
+use Rattle.std.specs.Prelude.{not, ◌&&◌, ◌||◌, nat_eq, nat_le}
 use Rattle.std.specs.List.{list_all}
 use Rattle.std.proofs.lemmas.Bool.Decides.{nat_tests}
 use Rattle.std.proofs.lemmas.List.Kept.{AllPairs-cons}
-use Rattle.un_base.specs.declared.ids.TempId.{TempId}
 use Rattle.un_ir.specs.declared.extended.Ext.{Ext}
 use Rattle.un_model.specs.declared.model.Options.{Options}
 use Rattle.un_model.specs.declared.schedule.LiveRange.{LiveRange}
-use Rattle.un_model.specs.declared.schedule.Schedule.{Schedule}
 use Rattle.un_model.specs.Pairs.{joined}
-use Rattle.un_model.specs.Schedules.{schedule_of}
 use Rattle.un_model.specs.Solutions.{ShareNoCycle}
 use Rattle.un_model.specs.Variables.{model_of}
-use Rattle.un_model.proofs.Lists.{
-  Each,
-  Pairwise,
-  Member,
-  each_of,
-  each_member,
-  each_append,
-  each_join,
-  pairwise_all,
-  pairwise_map,
-  pairwise_of_map,
-  pairwise_more,
-  pairwise_append_left,
-  pairwise_append_right,
-}
-use Rattle.un_model.proofs.Placed.{Placed, Region, region_placed, Spot}
+use Rattle.un_model.proofs.Lists.{Each, Pairwise, Member, each_of, each_member, each_join, pairwise_all, pairwise_map}
+use Rattle.un_model.proofs.Lists.{pairwise_of_map, pairwise_more, pairwise_append_left, pairwise_append_right}
+use Rattle.un_model.proofs.Placed.{Region, region_placed, Spot}
 use Rattle.un_model.proofs.PlacedSchedules.{spots, spot_range, the_ranges, joined_member}
 use Rattle.un_prop.specs.declared.act.Temp.{Temp}
 use Rattle.un_prop.specs.Acts.{is_active}
 use Rattle.un_rect.specs.Apart.{pair_holds, apart_holds}
 use Rattle.un_rect.specs.Spans.{starts, ends}
 use Rattle.un_post.specs.Constraints.{AllMet, Apart}
-use Rattle.un_post.specs.Places.{Place, block_places, definers_of}
-use Rattle.un_post.specs.Rooms.{temp_at, results_in, apart_in, aparts_of}
+use Rattle.un_post.specs.Places.{Place, definers_of}
+use Rattle.un_post.specs.Rooms.{temp_at, temps_in, apart_in, aparts_of}
 use Rattle.un_post.proofs.Blocks.{blocks, region_places, region_vars, map_twice, places_in, regions_met}
 use Rattle.un_post.proofs.BlockTemps.{region_spots, temp_of, results_are, spots_by_blocks, spot_block, temp_is, on_is, start_is, end_is}
 use Rattle.un_post.proofs.Facts.{Given}
 use Rattle.un_post.proofs.Meeting.{Met, all_each}
 use Rattle.un_post.proofs.Blocks.{rising}
-use Rattle.un_post.proofs.Tests.{iff_then, iff_back, and_iff}
+use Rattle.un_post.proofs.Tests.{and_iff}
 use Rattle.un_post.proofs.Whole.{ranges_are}
 
 -- ---- each two of a list
@@ -201,12 +159,12 @@ module _ (e : Ext) (o : Options) (x : List ℕ) (given : Given e o x) where
       let ps = region_places r in
       let H = λ (a b : Temp). pair_holds a b x ≡ true in
       let at = λ (s : Spot). temp_at ds ps s.temp in
-      let made : map (temp_at ds ps) (results_in ps) ≡ map at (region_spots r) =
+      let made : map (temp_at ds ps) (temps_in ps) ≡ map at (region_spots r) =
       ap (map (temp_at ds ps)) (results_are (region_placed r)) ∙ map_twice (temp_at ds ps) (λ (s : Spot). s.temp) (region_spots r) in
       let pairs = apart_pairs (map at (region_spots r)) x in
       let same : (s : Spot) → Member s (region_spots r) → at s ≡ temp_of r s = λ s m. temp_is e o x given r s mr m in
       let posted : apart_in ds r.block r.number r.owner (region_vars r) ≡ Apart (map at (region_spots r)) ∷ [] =
-      ap (λ (qs : List Place). Apart (map (temp_at ds qs) (results_in qs)) ∷ []) (places_in r) ∙ ap (λ ts. Apart ts ∷ []) made in (
+      ap (λ (qs : List Place). Apart (map (temp_at ds qs) (temps_in qs)) ∷ []) (places_in r) ∙ ap (λ ts. Apart ts ∷ []) made in (
         λ h. subst (Met x) (sym posted) (
           pairs.0 (pairwise_map H at (region_spots r)
               (pairwise_more Share (λ s u. H (at s) (at u)) (region_spots r)

@@ -1,51 +1,8 @@
 -- The packets of all blocks have room exactly where the constraints of each block's packets are met.
-use Rattle.std.proofs.Common.{
-  ℕ,
-  zero,
-  suc,
-  ◌≡◌,
-  ◌↔◌,
-  ◌+◌,
-  ◌-◌,
-  ◌<◌,
-  ◌≤◌,
-  Bool,
-  true,
-  false,
-  List,
-  [],
-  ◌∷◌,
-  ◌++◌,
-  length,
-  map,
-  filter,
-  inl,
-  inr,
-  refl,
-  sym,
-  ap,
-  ◌∙◌,
-  subst,
-  arith,
-  All,
-  eq-eqb,
-}
-use Rattle.std.specs.Prelude.{
-  Option,
-  Some,
-  None,
-  not,
-  ◌&&◌,
-  ◌||◌,
-  ◌==◌,
-  nat_eq,
-  nat_lt,
-  slice_get,
-  slice_index,
-  sum_by,
-  is_some,
-  if◌then◌else◌,
-}
+use Rattle.std.proofs.Common.{ℕ, zero, suc, ◌≡◌, ◌↔◌, ◌+◌, ◌-◌, ◌<◌, ◌≤◌, Bool, true, false, List, [], ◌∷◌, ◌++◌, length, map, inl}
+use Rattle.std.proofs.Common.{inr, refl, sym, ap, ◌∙◌, subst, arith, eq-eqb}
+use Rattle.std.specs.Prelude.{Option, Some, None, ◌&&◌, ◌||◌, ◌==◌, nat_eq, slice_get, slice_index, sum_by, is_some}
+use Rattle.std.specs.Prelude.{if◌then◌else◌}
 use Rattle.std.proofs.lemmas.Bool.Decides.{nat_tests}
 use Rattle.std.proofs.lemmas.List.Sums.{sum_by-cons, sum_by-append}
 use Rattle.un_isa.specs.declared.op.Op.{Op}
@@ -64,31 +21,19 @@ use Rattle.un_model.specs.declared.schedule.Resource.TheVariants.{Instructions, 
 use Rattle.un_model.specs.Instructions.{instruction_of, needs_by}
 use Rattle.un_model.specs.Pairs.{joined}
 use Rattle.un_model.specs.Schedules.{schedule_of, issues_of, value_by, is_delimiter}
-use Rattle.un_model.specs.Solutions.{KeepsPackets, HasRoom, Fits, InDomain, share_of, issues_at, taken, places_of}
+use Rattle.un_model.specs.Solutions.{KeepsPackets, HasRoom, Fits, share_of, issues_at, taken, places_of}
 use Rattle.un_model.specs.Variables.{model_of, has_cycle, var_if, cycle_place, cycle_domain, own_horizon}
-use Rattle.un_model.proofs.Lists.{Each, Pairwise, Member, each_of, each_member, member_map_of, member_of_filter, length_get}
+use Rattle.un_model.proofs.Lists.{Pairwise, Member, each_of, each_member, member_map_of, member_of_filter, length_get}
 use Rattle.un_model.proofs.OpDomains.{in_entry}
 use Rattle.un_model.proofs.Placed.{Placed, Region, region_placed, vars_of, issue_at, issues_are}
 use Rattle.un_model.proofs.PlacedSchedules.{all}
 use Rattle.un_prop.specs.Acts.{act_number, is_active}
 use Rattle.un_slots.specs.declared.item.Item.{Item}
 use Rattle.un_slots.specs.declared.item.Resource.{Resource as Slot}
-use Rattle.un_slots.specs.declared.item.Resource.TheVariants.{
-  Instructions as OfInstructions,
-  Memory as OfMemory,
-  Stores as OfStores,
-  MultiplyOrControl as OfMultiplyOrControl,
-  Control as OfControl,
-}
-use Rattle.un_slots.specs.Slots.{
-  FitsCycles,
-  per_cycle_holds,
-  share_at,
-  taken_by,
-  taken as taken_in,
-  places_of as slots_of,
-  share_of as need_of,
-}
+use Rattle.un_slots.specs.declared.item.Resource.TheVariants.{Instructions as OfInstructions, Memory as OfMemory, Stores as OfStores}
+use Rattle.un_slots.specs.declared.item.Resource.TheVariants.{MultiplyOrControl as OfMultiplyOrControl, Control as OfControl}
+use Rattle.un_slots.specs.Slots.{share_at, taken_by, taken as taken_in, places_of as slots_of}
+use Rattle.un_slots.specs.Slots.{share_of as need_of}
 use Rattle.un_slots.specs.SlotLaws.{holds_fits, fits_holds}
 use Rattle.un_post.specs.Constraints.{AllMet, PerCycle}
 use Rattle.un_post.specs.Places.{Place, act_of, by_number}
@@ -192,7 +137,8 @@ sum_map : {X Y : Type 0} (f : Y → ℕ) (g : X → Y) (xs : List X) → sum_by 
 sum_map f g [] = refl
 sum_map f g (x ∷ xs) = sum_by-cons f (g x) (map g xs) ∙ ap (λ n. f (g x) + n) (sum_map f g xs) ∙ sym (sum_by-cons (λ x. f (g x)) x xs)
 
-sum_part : {X Y : Type 0} (f : Y → ℕ) (g : X → List Y) (xs : List X) (x : X) → Member x xs → sum_by f (g x) ≤ sum_by f (joined (map g xs))
+pub sum_part : {X Y : Type 0} (f : Y → ℕ) (g : X → List Y) (xs : List X) (x : X) → Member x xs
+    → sum_by f (g x) ≤ sum_by f (joined (map g xs))
 sum_part f g [] x m = elim m [ ]
 sum_part f g (y ∷ ys) x (inl e) =
     let a = sum_by-append f (g y) (joined (map g ys)) in
@@ -235,13 +181,13 @@ sum_one f b n (r ∷ rs) rise none one = by (r.block == b) refl (sum_one f b n r
         let whole = split in
         omega arith
 
-no_room : (t : Table) (issues : List Issue) (b c : ℕ) → ((resource : Resource) → Fits t issues b c resource) ↔ HasRoom t issues b c
+pub no_room : (t : Table) (issues : List Issue) (b c : ℕ) → ((resource : Resource) → Fits t issues b c resource) ↔ HasRoom t issues b c
 unfolding HasRoom
 no_room t issues b c = (λ h. h, λ h. h)
 
 module _ (e : Ext) (o : Options) (x : List ℕ) (given : Given e o x) where
   -- what an operation takes in cycle c, where it is of block b
-  abbrev share : Resource → ℕ → ℕ → Placed → ℕ
+  abbrev pub share : Resource → ℕ → ℕ → Placed → ℕ
   share resource b c q = if issues_at b c (issue_at x q) then share_of e.table resource (issue_at x q).instr else 0
 
   -- an operation as an item
@@ -315,7 +261,7 @@ module _ (e : Ext) (o : Options) (x : List ℕ) (given : Given e o x) where
   region_taken resource r c m = all_taken resource r.block c (region_placed r) (λ q n. (in_all e o x r q m n, of_region r q n))
 
   -- what all operations take in a cycle of a block
-  whole_taken : (resource : Resource) (b c : ℕ) → taken e.table resource (issues_of (model_of e o) x) b c ≡ sum_by (share resource b c)
+  pub whole_taken : (resource : Resource) (b c : ℕ) → taken e.table resource (issues_of (model_of e o) x) b c ≡ sum_by (share resource b c)
       (joined (map region_placed (blocks e o x)))
   whole_taken resource b c =
       ap (λ is. taken e.table resource is b c) (issues_are x 0 0 0 e.blocks) ∙ sum_map _ (issue_at x) (all e o x)

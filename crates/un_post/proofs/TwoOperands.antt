@@ -1,34 +1,8 @@
 -- Each solution meets what is posted of two operands that read different values: both temporaries are there in the cycle before
 -- the operation's, so that they have different registers.
-use Rattle.std.proofs.Common.{
-  ℕ,
-  zero,
-  suc,
-  ◌≡◌,
-  ◌+◌,
-  ◌-◌,
-  ◌<◌,
-  ◌≤◌,
-  Bool,
-  true,
-  false,
-  List,
-  [],
-  ◌∷◌,
-  ◌++◌,
-  map,
-  inl,
-  inr,
-  refl,
-  sym,
-  ap,
-  ◌∙◌,
-  subst,
-  arith,
-  AllPairs,
-  eq-eqb,
-}
-use Rattle.std.specs.Prelude.{Option, Some, None, not, is_some, ◌||◌, ◌&&◌, ◌==◌, nat_eq, slice_get, slice_index, if◌then◌else◌}
+use Rattle.std.proofs.Common.{ℕ, suc, ◌≡◌, ◌+◌, ◌-◌, ◌<◌, ◌≤◌, Bool, true, false, List, [], ◌∷◌, inl, inr, refl, sym, ap}
+use Rattle.std.proofs.Common.{◌∙◌, subst, arith, eq-eqb}
+use Rattle.std.specs.Prelude.{Option, Some, None, not, is_some, ◌||◌, ◌&&◌, nat_eq, slice_get, slice_index, if◌then◌else◌}
 use Rattle.std.specs.Option.{option_map}
 use Rattle.std.proofs.lemmas.Bool.Decides.{nat_tests}
 use Rattle.un_base.specs.declared.ids.TempId.{TempId}
@@ -51,28 +25,18 @@ use Rattle.un_model.specs.Pairs.{places_from, joined}
 use Rattle.un_model.specs.Schedules.{schedule_of, read_of, value_by, is_delimiter}
 use Rattle.un_model.specs.Solutions.{IsSchedule, InSpace, ShareNoCycle, latency_gap}
 use Rattle.un_model.specs.Variables.{model_of, var_at, choice_place, has_choices, register_place, carried as carried_here}
-use Rattle.un_model.proofs.Lists.{
-  Each,
-  Pairwise,
-  Member,
-  each_of,
-  each_join,
-  member_at,
-  pairwise_all,
-  pairwise_of_map,
-  pairwise_two,
-  slice_get-map,
-}
+use Rattle.un_model.proofs.Lists.{Each, Pairwise, Member, each_of, each_join, member_at, pairwise_all, pairwise_of_map, pairwise_two}
+use Rattle.un_model.proofs.Lists.{slice_get-map}
 use Rattle.un_model.proofs.OpDomains.{in_entry, register_sits}
 use Rattle.un_model.proofs.Placed.{Placed, vars_of, issue_at, Spot}
 use Rattle.un_model.proofs.PlacedSchedules.{all, spots, spot_range, the_ranges, one_spot, has_read, good_read}
 use Rattle.un_alt.specs.Registers.{place_of as chosen_place}
-use Rattle.un_rect.specs.Operands.{Side, side_passes, operands_holds}
+use Rattle.un_rect.specs.Operands.{side_passes}
 use Rattle.un_post.specs.Constraints.{Constraint, meets, AllMet, Operands}
-use Rattle.un_post.specs.Places.{Place, Definer, definers_of, definers_at}
+use Rattle.un_post.specs.Places.{Definer, definers_of, definers_at}
 use Rattle.un_post.specs.Postings.{registers_in, registers_of}
-use Rattle.un_post.specs.Rooms.{each_two, side_of, two_by, one_value, two_at, twos_in, twos_of}
-use Rattle.un_post.proofs.Facts.{Given, Reading, numbered, all_member, in_domains, definer_is, choice_var, reading, read_temp, read_definer}
+use Rattle.un_post.specs.Rooms.{each_two, operand_side, two_by, one_value, two_at, twos_in, twos_of}
+use Rattle.un_post.proofs.Facts.{Given, numbered, all_member, in_domains, definer_is, choice_var, reading, read_temp, read_definer}
 use Rattle.un_post.proofs.Meeting.{Met, passes_get}
 use Rattle.un_post.proofs.Placing.{place_of, definer_at}
 use Rattle.un_post.proofs.RegisterBounds.{register_below}
@@ -215,8 +179,8 @@ module _ (e : Ext) (o : Options) (x : List ℕ) (given : Given e o x)
   two_met : (q : Placed) (so : SrcOp) → q.op.kind ≡ Body so → Member q (all e o x) → (i j : ℕ) (a b : Operand)
       → slice_get q.op.operands i ≡ Some a
       → slice_get q.op.operands j ≡ Some b → one_value a b ≡ false
-      → meets (Operands (side_of o.slots ds so.op i (var_at (q.first + choice_place q.op + i)) a)
-      (side_of o.slots ds so.op j (var_at (q.first + choice_place q.op + j)) b)) x ≡ true
+      → meets (Operands (operand_side o.slots ds so.op i (var_at (q.first + choice_place q.op + i)) a)
+      (operand_side o.slots ds so.op j (var_at (q.first + choice_place q.op + j)) b)) x ≡ true
   two_met q so kind m i j a b at bt other =
       let v = vars_of q in
       let instr : (issue_at x q).instr ≡ Some so.op = ap (λ (c : ExtKind). instruction_of c (value_by x v.instr)) kind in
@@ -226,8 +190,8 @@ module _ (e : Ext) (o : Options) (x : List ℕ) (given : Given e o x)
       let k = held q j b m act c bt in
       let f = (spot_range e o x h.spot).reg in
       let g = (spot_range e o x k.spot).reg in
-      let sa = side_of o.slots ds so.op i (var_at (q.first + choice_place q.op + i)) a in
-      let sb = side_of o.slots ds so.op j (var_at (q.first + choice_place q.op + j)) b in
+      let sa = operand_side o.slots ds so.op i (var_at (q.first + choice_place q.op + i)) a in
+      let sb = operand_side o.slots ds so.op j (var_at (q.first + choice_place q.op + j)) b in
       let ha : has sa.allowed f ≡ true = subst (λ (s : Option Op). has (registers_in o.slots (space_read s i)) f ≡ true) instr h.allowed in
       let hb : has sb.allowed g ≡ true = subst (λ (s : Option Op). has (registers_in o.slots (space_read s j)) g ≡ true) instr k.allowed in
       let differ = unequal g f (apart q i j a b h k other) in
@@ -260,8 +224,8 @@ module _ (e : Ext) (o : Options) (x : List ℕ) (given : Given e o x)
           let c : has_choices q.op.kind ≡ true = ap has_choices k in
           let va = choice_var e o x given q i a at c in
           let vb = choice_var e o x given q j b bt c in
-          let is : posted ≡ Operands (side_of o.slots ds so.op i (var_at (q.first + choice_place q.op + i)) a)
-          (side_of o.slots ds so.op j (var_at (q.first + choice_place q.op + j)) b) ∷ [] =
+          let is : posted ≡ Operands (operand_side o.slots ds so.op i (var_at (q.first + choice_place q.op + i)) a)
+          (operand_side o.slots ds so.op j (var_at (q.first + choice_place q.op + j)) b) ∷ [] =
           ap (λ (c : ExtKind). two_by o.slots ds c i a (slice_get (vars_of q).choices i) j b (slice_get (vars_of q).choices j)) k
           ∙ ap (λ (v : Option VarId). two_by o.slots ds (Body so) i a v j b (slice_get (vars_of q).choices j)) va
           ∙ ap (λ (v : Option VarId). two_by o.slots ds (Body so) i a (Some (var_at (q.first + choice_place q.op + i))) j b v) vb in

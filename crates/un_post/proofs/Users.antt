@@ -1,37 +1,7 @@
 -- The users of a temporary, as propagators name them, are its reads: it ends where its live range does.
-use Rattle.std.proofs.Common.{
-  ℕ,
-  zero,
-  suc,
-  ◌≡◌,
-  ◌↔◌,
-  ◌+◌,
-  ◌<◌,
-  ◌≤◌,
-  ◌-◌,
-  max,
-  Bool,
-  true,
-  false,
-  List,
-  [],
-  ◌∷◌,
-  ◌++◌,
-  length,
-  map,
-  fold,
-  inl,
-  inr,
-  refl,
-  sym,
-  ap,
-  ◌∙◌,
-  subst,
-  arith,
-  eq-eqb,
-  All,
-}
-use Rattle.std.specs.Prelude.{Option, Some, None, slice_get, slice_index, nat_eq, ◌==◌, ◌&&◌, if◌then◌else◌, cond}
+use Rattle.std.proofs.Common.{ℕ, ◌≡◌, ◌+◌, ◌≤◌, max, Bool, true, false, List, [], ◌∷◌, length, map, fold}
+use Rattle.std.proofs.Common.{inl, inr, refl, sym, ap, ◌∙◌, subst, arith, eq-eqb, All}
+use Rattle.std.specs.Prelude.{Option, Some, None, slice_get, slice_index, ◌==◌, ◌&&◌, if◌then◌else◌}
 use Rattle.std.proofs.lemmas.Bool.Decides.{nat_tests}
 use Rattle.un_base.specs.declared.ids.TempId.{TempId}
 use Rattle.un_base.specs.declared.ids.VarId.{VarId}
@@ -45,43 +15,19 @@ use Rattle.un_ir.specs.Extended.{IsGoodKind}
 use Rattle.un_model.specs.declared.model.Options.{Options}
 use Rattle.un_model.specs.declared.schedule.Read.{Read}
 use Rattle.un_model.specs.Pairs.{places_from, joined}
-use Rattle.un_model.specs.Schedules.{read_of, value_by, cycle_for, last_read, choice_of}
-use Rattle.un_model.specs.Variables.{model_of, has_choices}
-use Rattle.un_model.proofs.Lists.{Each, Member, each_of, each_member, member_map, member_map_of, member_at, length_get}
+use Rattle.un_model.specs.Schedules.{read_of, value_by, cycle_for, last_read}
+use Rattle.un_model.specs.Variables.{has_choices}
+use Rattle.un_model.proofs.Lists.{Member, member_map, member_map_of, member_at, length_get}
 use Rattle.un_model.proofs.Placed.{Placed, vars_of, issue_at, reads_at, Spot, Region, region_placed, reads_are}
-use Rattle.un_model.proofs.PlacedSchedules.{
-  all,
-  spots,
-  spot_range,
-  the_reads,
-  one_spot,
-  member_joined,
-  joined_member,
-  member_places,
-  places_member,
-  has_read,
-}
+use Rattle.un_model.proofs.PlacedSchedules.{all, spots, spot_range, the_reads, one_spot, member_joined, joined_member, member_places}
+use Rattle.un_model.proofs.PlacedSchedules.{places_member, has_read}
 use Rattle.un_prop.specs.Acts.{at_value, chooses, is_user, is_active}
 use Rattle.un_prop.specs.declared.act.UserOf.{UserOf}
 use Rattle.un_rect.specs.Spans.{use_time, last_use, starts, ends}
-use Rattle.un_post.specs.Places.{Place, act_of, time_of}
+use Rattle.un_post.specs.Places.{act_of, time_of}
 use Rattle.un_post.specs.Rooms.{user_if, operand_users, place_users, users_of, temp_by}
-use Rattle.un_post.proofs.Facts.{
-  Given,
-  Reading,
-  numbered,
-  good_op,
-  all_member,
-  acts,
-  times,
-  definer_times,
-  choice_var,
-  no_choice,
-  reading,
-  read_temp,
-  reader_goes,
-  alternative,
-}
+use Rattle.un_post.proofs.Facts.{Given, numbered, good_op, all_member, acts, times, definer_times, choice_var, reading}
+use Rattle.un_post.proofs.Facts.{read_temp, reader_goes}
 use Rattle.un_post.proofs.Placing.{place_of, definer_at}
 use Rattle.un_post.proofs.Blocks.{blocks, region_places, in_all, stands_in}
 
@@ -192,6 +138,13 @@ users_in ps t u m =
     only true v (inr m) = elim m [ ]
     only false v m = elim m [ ]
 
+-- it is a user of any operations that have its operation
+pub user_also : (qs ps : List Placed) (t : TempId) (u : UserOf) (p : UserPlace qs t u) → Member p.user ps
+    → Member u (users_of (map place_of ps) t)
+user_also qs ps t u p m =
+    subst (λ v. Member v (users_of (map place_of ps) t)) p.is
+    (user_in ps t p.user p.at p.place p.operand p.alternative m p.stands p.reads p.same)
+
 -- ---- choices
 
 pub chooses_iff : (c : Option VarId) (i : ℕ) (x : List ℕ) → value_by x c ≡ i → chooses c i x ≡ true
@@ -285,7 +238,7 @@ module _ (e : Ext) (o : Options) (x : List ℕ) (given : Given e o x) where
                 let cycle : (issue_at x q).cycle ≡ d.cycle = ap (λ (d : Read). d.cycle) is in
                 omega arith
 
-    user_reads : (u : UserOf) → Member u users → use_time x u ≤ last_read (the_reads e o x) s.temp.0
+    pub user_reads : (u : UserOf) → Member u users → use_time x u ≤ last_read (the_reads e o x) s.temp.0
     user_reads u mu = timed (is_user u x) (at_value u.at x) (last_read (the_reads e o x) s.temp.0)
         (λ h. go (users_in (region_placed r) s.temp u mu) h)
       where

@@ -7,7 +7,7 @@ use Rattle.un_prop.specs.declared.act.Act.TheVariants.{Always}
 use Rattle.un_post.specs.Constraints.{Constraint, Before}
 use Rattle.un_post.specs.Places.{Place, no_place, time_of, places_of}
 use Rattle.un_post.specs.Postings.{postings_of}
-use Rattle.un_post.specs.Rooms.{aparts_of, clobbers_of, packets_of, twos_of}
+use Rattle.un_post.specs.Rooms.{rooms_of}
 
 -- ---- arcs
 
@@ -34,7 +34,6 @@ befores_of m = joined (map (befores_in (places_of m)) m.arcs)
 -- ---- the whole list
 
 -- All that is posted for a model, under a limit on the cost or none: of single operations, congruences, the frame and the limit;
--- of arcs; of registers; of calls; of packets; of two operands.
+-- of arcs; and of registers, calls, packets and two operands.
 abbrev pub all_postings_of : Model → Option ℕ → List Constraint
-all_postings_of m limit =
-    postings_of m limit ++ (befores_of m ++ (aparts_of m ++ (clobbers_of m ++ (packets_of m ++ twos_of m))))
+all_postings_of m limit = postings_of m limit ++ (befores_of m ++ rooms_of m)

@@ -3,3 +3,4 @@ pub mod Constraints
 pub mod Places
 pub mod Postings
 pub mod Rooms
+pub mod Strength

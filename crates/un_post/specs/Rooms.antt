@@ -1,35 +1,18 @@
 -- What is posted of the registers, the calls and the packets of each block, and of each two operands of an operation.
-use Rattle.std.specs.Prelude.{
-  ℕ,
-  ◌+◌,
-  ◌==◌,
-  Bool,
-  true,
-  false,
-  not,
-  ◌&&◌,
-  List,
-  [],
-  ◌∷◌,
-  ◌++◌,
-  Option,
-  Some,
-  None,
-  map,
-  filter,
-  slice_get,
-  if◌then◌else◌,
-}
+use Rattle.std.specs.Prelude.{ℕ, ◌+◌, ◌==◌, Bool, true, false, not, ◌&&◌, ◌||◌, fold, List, [], ◌∷◌, ◌++◌, Option, Some, None, map, filter}
+use Rattle.std.specs.Prelude.{slice_get, if◌then◌else◌}
 use Rattle.un_base.specs.declared.ids.TempId.{TempId}
 use Rattle.un_base.specs.declared.ids.VarId.{VarId}
 use Rattle.un_isa.specs.declared.op.Op.{Op}
 use Rattle.un_isa.specs.declared.table.Table.{Table}
-use Rattle.un_ir.specs.Linear.{first_of}
+use Rattle.un_ir.specs.Linear.{first_of, is_in}
+use Rattle.un_domains.specs.Sets.{has}
 use Rattle.un_ir.specs.declared.function.Term.TheVariants.{Fall}
 use Rattle.un_ir.specs.declared.extended.ExtKind.{ExtKind}
 use Rattle.un_ir.specs.declared.extended.ExtKind.TheVariants.{In, Out, Body, End}
 use Rattle.un_ir.specs.declared.extended.Operand.{Operand}
 use Rattle.un_ir.specs.declared.extended.ExtBlock.{ExtBlock}
+use Rattle.un_model.specs.declared.model.Arc.{Arc}
 use Rattle.un_model.specs.declared.model.Model.{Model}
 use Rattle.un_model.specs.declared.model.BlockVars.{BlockVars}
 use Rattle.un_model.specs.Instructions.{needs_by, space_read}
@@ -69,38 +52,69 @@ abbrev pub temp_at : List Definer → List Place → TempId → Temp
 temp_at ds ps t = temp_by ps t (definer_or (slice_get ds t.0))
 
 -- the temporaries that these operations define, in order
-abbrev pub results_in : List Place → List TempId
-results_in ps = joined (map (λ (p : Place). p.it.results) ps)
+abbrev pub temps_in : List Place → List TempId
+temps_in ps = joined (map (λ (p : Place). p.it.results) ps)
 
 -- one block after another: no two of its temporaries share a register in a cycle
 abbrev pub apart_in : List Definer → ℕ → ℕ → ExtBlock → BlockVars → List Constraint
-apart_in ds b n block vars = let ps : List Place = block_places b n block vars in Apart (map (temp_at ds ps) (results_in ps)) ∷ []
+apart_in ds b n block vars = let ps : List Place = block_places b n block vars in Apart (map (temp_at ds ps) (temps_in ps)) ∷ []
 
 abbrev pub aparts_of : Model → List Constraint
 aparts_of m = over_blocks (apart_in (definers_of m)) 0 0 m.ext.blocks m.blocks
 
 -- ---- calls
 
-abbrev pub call_at : Place → ClobberCall
-call_at p = record { at = cycle_var p; before = false; behind = [] }
+-- an arc leads on from what is reached
+abbrev pub led_by : List ℕ → Arc → List ℕ
+led_by reached a = if has reached a.from.0 then a.to.0 ∷ reached else reached
 
--- the calls among these operations, but for operation n, a call's own result being no concern of it
-abbrev pub calls_but : ℕ → List Place → List ClobberCall
-calls_but n ps = map call_at (filter (λ (p : Place). is_call_kind p.it.kind && not (p.op == n)) ps)
+-- the operations that operation n reaches by arcs, which stand by rising ends, and itself
+abbrev pub reached : List Arc → ℕ → List ℕ
+reached arcs n = fold led_by (n ∷ []) arcs
+
+-- a temporary is defined before a call, whatever the cycles: at the block's start, or by what reaches the call
+abbrev pub is_before : List Arc → Place → Place → Bool
+is_before arcs definer call = is_in definer.it.kind || has (reached arcs definer.op) call.op
+
+-- a transfer, and the block's end, which no call issues with or after
+abbrev pub ends_block : ExtKind → Bool
+ends_block Out = true
+ends_block (End Fall) = false
+ends_block (End term) = true
+ends_block _ = false
+
+-- an operation is behind a call, whatever the cycles: what ends the block, and what the call reaches
+abbrev pub is_behind : List Arc → Place → Place → Bool
+is_behind arcs call p = ends_block p.it.kind || (not (p.op == call.op) && has (reached arcs call.op) p.op)
+
+abbrev pub call_at : List Arc → List Place → TempId → Place → Place → ClobberCall
+call_at arcs ps t definer call = record {
+  at = cycle_var call;
+  before = is_before arcs definer call;
+  behind = users_of (filter (is_behind arcs call) ps) t;
+}
+
+-- the calls among these operations, but the one of which the temporary is the result
+abbrev pub calls_but : ℕ → List Place → List Place
+calls_but n ps = filter (λ (p : Place). is_call_kind p.it.kind && not (p.op == n)) ps
 
 -- the calls of a temporary's block spare it
-abbrev pub spared_by : ℕ → List Place → TempId → Definer → Constraint
-spared_by clobbered ps t d = Clobber clobbered (temp_by ps t d) (calls_but d.place.op ps)
+abbrev pub spared_by : ℕ → List Arc → List Place → TempId → Definer → Constraint
+spared_by clobbered arcs ps t d = Clobber clobbered (temp_by ps t d) (map (call_at arcs ps t d.place) (calls_but d.place.op ps))
 
-abbrev pub spared_at : ℕ → List Definer → List Place → TempId → Constraint
-spared_at clobbered ds ps t = spared_by clobbered ps t (definer_or (slice_get ds t.0))
+abbrev pub spared_at : ℕ → List Arc → List Definer → List Place → TempId → Constraint
+spared_at clobbered arcs ds ps t = spared_by clobbered arcs ps t (definer_or (slice_get ds t.0))
 
-abbrev pub spared_in : ℕ → List Definer → ℕ → ℕ → ExtBlock → BlockVars → List Constraint
-spared_in clobbered ds b n block vars =
-    let ps : List Place = block_places b n block vars in map (spared_at clobbered ds ps) (results_in ps)
+abbrev pub arcs_or : Option (List Arc) → List Arc
+arcs_or None = []
+arcs_or (Some arcs) = arcs
+
+abbrev pub spared_in : ℕ → List (List Arc) → List Definer → ℕ → ℕ → ExtBlock → BlockVars → List Constraint
+spared_in clobbered arcs ds b n block vars =
+    let ps : List Place = block_places b n block vars in map (spared_at clobbered (arcs_or (slice_get arcs b)) ds ps) (temps_in ps)
 
 abbrev pub clobbers_of : Model → List Constraint
-clobbers_of m = over_blocks (spared_in m.ext.table.clobbered (definers_of m)) 0 0 m.ext.blocks m.blocks
+clobbers_of m = over_blocks (spared_in m.ext.table.clobbered m.arcs (definers_of m)) 0 0 m.ext.blocks m.blocks
 
 -- ---- packets
 
@@ -129,8 +143,8 @@ each_two f i [] = []
 each_two f i (x ∷ xs) = joined (places_from (f i x) (i + 1) xs) ++ each_two f (i + 1) xs
 
 -- the operand at place j of an instruction, with the registers of the space that is asked for
-abbrev pub side_of : ℕ → List Definer → Op → ℕ → VarId → Operand → Side
-side_of k ds instr j choice operand = record {
+abbrev pub operand_side : ℕ → List Definer → Op → ℕ → VarId → Operand → Side
+operand_side k ds instr j choice operand = record {
   choice = choice;
   regs = registers_of (definers_at ds operand.alts);
   allowed = registers_in k (space_read (Some instr) j);
@@ -138,7 +152,7 @@ side_of k ds instr j choice operand = record {
 
 -- two operands of the source's operations
 abbrev pub two_by : ℕ → List Definer → ExtKind → ℕ → Operand → Option VarId → ℕ → Operand → Option VarId → List Constraint
-two_by k ds (Body o) i a (Some c) j b (Some d) = Operands (side_of k ds o.op i c a) (side_of k ds o.op j d b) ∷ []
+two_by k ds (Body o) i a (Some c) j b (Some d) = Operands (operand_side k ds o.op i c a) (operand_side k ds o.op j d b) ∷ []
 two_by k ds kind i a c j b d = []
 
 -- they read one value where their first alternatives are the same
@@ -155,3 +169,8 @@ twos_in k ds p = each_two (two_at k ds p) 0 p.it.operands
 
 abbrev pub twos_of : Model → List Constraint
 twos_of m = over_places (twos_in m.options.slots (definers_of m)) m
+
+-- ---- all of these
+
+abbrev pub rooms_of : Model → List Constraint
+rooms_of m = aparts_of m ++ (clobbers_of m ++ (packets_of m ++ twos_of m))

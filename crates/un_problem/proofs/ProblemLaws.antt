@@ -21,8 +21,9 @@ use Rattle.un_ir.specs.ExtendOf.{extended_blocks, extend_of, grown_block}
 use Rattle.un_ir.specs.Extended.{returns, IsLinear, IsExtended}
 use Rattle.un_ir.specs.LinearOf.{AreLive, linear_blocks, past_block, kind_of_pair, lin_of}
 use Rattle.un_ir.specs.WellFormed.{IsGoodBlock, IsWellFormed}
-use Rattle.un_lssa.proofs.KeptFunctions.{made_kept}
+use Rattle.un_lssa.proofs.KeptFunctions.{made_kept, small_blocks}
 use Rattle.un_extend.proofs.ExtendLinear.{made_kept as made_extended}
+use Rattle.un_extend.proofs.ExtendSize.{extended_counts}
 use Rattle.un_model.specs.Extended.{HasSmallCounts}
 use Rattle.un_model.specs.Options.{AreOptions}
 use Rattle.un_model.specs.Variables.{IsModel, model_of}
@@ -138,3 +139,18 @@ pub extended_kept : (t : Table) (f : Function) (lists : List (List NameId)) → 
 extended_kept t f lists live fit =
     let l = lin_of f lists t in
     made_extended l (linear_kept t f lists live fit) l.names (extended_blocks l.names true [] 0 l.blocks) refl refl
+
+-- and no block has many operations
+pub few_ops : (t : Table) (f : Function) (lists : List (List NameId)) → AreLive f.blocks lists → IsFit t
+    → (let e = extend_of (lin_of f lists t) in All (λ (block : ExtBlock). length block.ops ≤ 1580) e.blocks)
+few_ops t f lists live fit =
+    let l = lin_of f lists t in
+    let kept = linear_kept t f lists live fit in
+    extended_counts t l.names l.blocks 790 true [] 0 l.blocks kept.good.each (small_blocks f lists t live fit)
+
+-- nor has one of the model of a function
+pub few_model_ops : (t : Table) (f : Function) (o : Options) (m : Model) → IsFit t → IsModelOf t f o m
+    → All (λ (block : ExtBlock). length block.ops ≤ 1580) m.ext.blocks
+few_model_ops t f o m fit is =
+    subst (λ (e : Ext). All (λ (block : ExtBlock). length block.ops ≤ 1580) e.blocks) (sym is.ext.is_extended)
+    (few_ops t f is.ext.live is.ext.are_live fit)

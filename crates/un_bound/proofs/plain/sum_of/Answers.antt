@@ -16,7 +16,7 @@ block_bound-packets-requires-clause-arcs c =
 
 pub overflow_add-first : goal.overflow_add-first
 overflow_add-first c =
-    let short = block_at IsShort c.args.m.now.ext.blocks c.loop-k.k c.get-block.result.now c.get-block.ensures c.requires.orderly.short in
+    let short = block_at IsShort c.args.m.now.ext.blocks c.loop-k.k c.get-block.result.now c.get-block.ensures c.requires.short in
     omega (arith, short, c.requires.orderly.counts.blocks)
 
 pub loop-k-preserved : goal.loop-k-preserved
@@ -27,7 +27,7 @@ loop-k-preserved c =
     let here = c.as_slice.result.now in
     let packets = c.block_bound-packets.result in
     let is : slice_get m.arcs k ≡ Some here = c.get.ensures ∙ ap (λ (x : List Arc). Some x) (sym c.as_slice.ensures) in
-    let short = block_at IsShort m.ext.blocks k block c.get-block.ensures c.requires.orderly.short in
+    let short = block_at IsShort m.ext.blocks k block c.get-block.ensures c.requires.short in
     let rare = block_at IsRarelyRun m.ext.blocks k block c.get-block.ensures c.requires.orderly.counts.frequencies in
     let few = few_cycles c.from.result packets (omega (arith, rare, c.from.ensures)) c.block_bound-packets.ensures.few in
     let lead = (lead_here c.loop-k.first k m.ext.blocks m.arcs block here c.get-block.ensures is c.loop-k.invariant.lead).1 in

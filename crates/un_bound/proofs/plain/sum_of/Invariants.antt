@@ -8,6 +8,6 @@ invariant-loop-k l = record {
   plain : (rest : ℕ) → IsPlainSum l.m.ext.table l.first (drop l.k l.m.ext.blocks) (drop l.k l.m.arcs) rest
       → IsPlainSum l.m.ext.table 0 l.m.ext.blocks l.m.arcs (l.sum + rest);
   lead : AllLeadOn l.first (drop l.k l.m.ext.blocks) (drop l.k l.m.arcs);
-  first : l.first ≤ 1024 * l.k;
-  sum : l.sum ≤ (1000000 * 262144) * l.k;
+  first : l.first ≤ 2048 * l.k;
+  sum : l.sum ≤ (1000000 * 524288) * l.k;
 }

@@ -2,7 +2,7 @@ use Rattle.std.proofs.Common.{◌≡◌, ◌∙◌, length, List, Some, ap, sym,
 use Rattle.std.specs.Prelude.{slice_get}
 use Rattle.un_model.specs.declared.model.Arc.{Arc}
 use Rattle.un_model.specs.Extended.{IsRarelyRun}
-use Rattle.un_bound.specs.Arcs.{IsShort}
+use Rattle.un_bound.specs.Arcs.{HasFewOps}
 use Rattle.un_bound.specs.Choices.{HasPlaces, IsLeastSum}
 use Rattle.un_bound.proofs.Sums.{lead_here, block_at}
 use Rattle.un_bound.proofs.Leasts.{known_here, least_more, split, least_all, least_cost, few_cycles}
@@ -51,8 +51,8 @@ overflow_add-sum c =
 
 pub overflow_add-first : goal.overflow_add-first
 overflow_add-first c =
-    let short = block_at IsShort c.args.m.now.ext.blocks c.loop-k.k c.get-block.result.now c.get-block.ensures c.requires.orderly.short in
-    omega (arith, short, c.requires.orderly.counts.blocks)
+    let few_ops = block_at HasFewOps c.args.m.now.ext.blocks c.loop-k.k c.get-block.result.now c.get-block.ensures c.requires.orderly.few in
+    omega (arith, few_ops, c.requires.orderly.counts.blocks)
 
 pub loop-k-preserved : goal.loop-k-preserved
 loop-k-preserved c =
@@ -64,7 +64,7 @@ loop-k-preserved c =
     let vars = c.get-in-loop-k.result.now in
     let here = c.as_slice-arcs.result.now in
     let is : slice_get m.arcs k ≡ Some here = c.get.ensures ∙ ap (λ (x : List Arc). Some x) (sym c.as_slice-arcs.ensures) in
-    let short = block_at IsShort m.ext.blocks k block c.get-block.ensures c.requires.orderly.short in
+    let few_ops = block_at HasFewOps m.ext.blocks k block c.get-block.ensures c.requires.orderly.few in
     let rare = block_at IsRarelyRun m.ext.blocks k block c.get-block.ensures c.requires.orderly.counts.frequencies in
     let few = few_cycles c.from.result c.from-in-Some.result (omega (arith, rare, c.from.ensures)) (omega arith) in
     let lead = (lead_here n k m.ext.blocks m.arcs block here c.get-block.ensures is c.loop-k.invariant.lead).1 in
@@ -80,7 +80,7 @@ loop-k-preserved c =
           c.get-in-loop-k.ensures is left.0 left.1).1;
       lead = rw c.len-first.ensures lead;
       known = known;
-      first = omega (arith, short, c.loop-k.invariant.first, c.len-first.ensures);
+      first = omega (arith, few_ops, c.loop-k.invariant.first, c.len-first.ensures);
       sum = omega (arith, few, c.loop-k.invariant.sum);
     }
 

@@ -12,6 +12,6 @@ invariant-loop-k l = record {
       → (left : List Times) × AreRelaxed l.store.sets l.first (drop l.k l.m.ext.blocks) (drop l.k l.m.blocks) (drop l.k l.m.arcs) left;
   lead : AllLeadOn l.first (drop l.k l.m.ext.blocks) (drop l.k l.m.arcs);
   known : AllKnown (length l.store.sets) (drop l.k l.m.ext.blocks) (drop l.k l.m.blocks);
-  first : l.first ≤ 1024 * l.k;
+  first : l.first ≤ 16777216 * l.k;
   sum : l.sum ≤ 4294967296000000 * l.k;
 }
