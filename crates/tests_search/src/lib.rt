@@ -11,3 +11,5 @@ mod kinds;
 mod marks;
 #[cfg(test)]
 mod prunes;
+#[cfg(test)]
+mod rectangles;

@@ -305,7 +305,7 @@ module _ (vs : List VarId) (t : List ℕ → Bool) (looks : (x y : List ℕ) →
               sym (looks (set (point s) w.0 (get_or x w.0 0)) x (in_point s w x k inside left.1)) ∙ pass
 
   -- where the list of what is open is no longer than v, the cut is that of v
-  last_at : (s : Sets) (v : VarId) → HasVars vs s → NoneEmpty s → Contains vs v → ((open_of vs s ≡ []) ⊎ (open_of vs s ≡ v ∷ []))
+  pub last_at : (s : Sets) (v : VarId) → HasVars vs s → NoneEmpty s → Contains vs v → ((open_of vs s ≡ []) ⊎ (open_of vs s ≡ v ∷ []))
       → last_cut vs t s ≡ cut_by (λ y. t (set (point s) v.0 y)) v.0 s
   last_at s v k full c (inr e) = ap (λ (us : List VarId). last_cut_at t s (last_among us vs)) e
   last_at s v k full c (inl e) = by vs refl

@@ -37,7 +37,7 @@ fn find_last(vars: &[VarId], w: &Window<'_>) -> Option<VarId>
 }
 
 /// Writes the least value of each of these variables at its place.
-fn fill(vars: &[VarId], w: &Window<'_>, fixed: &mut [u32])
+pub fn fill(vars: &[VarId], w: &Window<'_>, fixed: &mut [u32])
     requires known { HasVars vars.now w.now.store.now.sets }
     requires live { NoneEmpty w.now.store.now.sets }
     requires room { length w.now.store.now.sets ≤ length fixed.old }

@@ -1,0 +1,3 @@
+pub mod CheckSteps
+pub mod ClashLaws
+pub mod Rows

@@ -1,0 +1,37 @@
+use Rattle.std.proofs.Common.{List, ◌≡◌, ◌∙◌, All, length, refl, sym, ap, subst}
+use Rattle.un_base.specs.declared.ids.VarId.{VarId}
+use Rattle.un_prop.specs.Going.{Stepped}
+use Rattle.un_prop.specs.GoingLaws.{stepped_chain}
+use Rattle.un_prop.specs.PartLaws.{checked}
+use Rattle.un_prop.specs.declared.act.Temp.{Temp}
+use Rattle.un_prop.specs.declared.propagator.Pruned.TheVariants.{Same}
+use Rattle.un_rect.specs.Spans.{TempVars}
+use Rattle.un_rect.specs.Apart.{clash_pair, check_pair, apart_cut, ApartVars}
+use Rattle.un_rect.specs.Pairs.{each_pair}
+use Rattle.un_rect.proofs.apart.ApartPropagator.prune_in.Goals as goal
+
+carried : (vs us : List VarId) (temps xs : List Temp) → us ≡ vs → xs ≡ temps → ApartVars vs temps → ApartVars us xs
+carried vs us temps xs e h all = subst (λ (ws : List VarId). ApartVars ws xs) (sym e) (subst (ApartVars vs) (sym h) all)
+
+pub keep_all-did-requires-clause-of_temps : goal.keep_all-did-requires-clause-of_temps
+keep_all-did-requires-clause-of_temps c = let p = c.args.self.now in carried p.vars c.args.w.now.vars.now p.temps c.as_slice-temps.result.now c.requires.vars c.as_slice-temps.ensures p.among
+
+pub check_all-requires-clause-of_temps : goal.check_all-requires-clause-of_temps
+check_all-requires-clause-of_temps c = let p = c.args.self.now in
+    carried p.vars c.keep_all-did.new.w.vars.now p.temps c.as_slice-temps.result.now (ap (λ r. r.now) c.keep_all-did.ensures.vars ∙ c.requires.vars) c.as_slice-temps.ensures p.among
+
+pub returns-clause-prune : goal.returns-clause-prune
+returns-clause-prune c =
+    let p = c.args.self.now in
+    let old = c.args.w.now.store.now in
+    let mid = c.keep_all-did.new.w.store.now in
+    let new = c.check_all.new.w.store.now in
+    let did = c.keep_all-did.result in
+    let e = c.as_slice-temps.ensures in
+    let first = subst (λ (xs : List Temp). Stepped p.vars (each_pair clash_pair xs (length xs)) old mid Same did) e
+    (subst (λ (us : List VarId). Stepped us (each_pair clash_pair c.as_slice-temps.result.now (length c.as_slice-temps.result.now)) old mid Same did) c.requires.vars c.keep_all-did.ensures.step) in
+    let second = subst (λ (xs : List Temp). Stepped p.vars (each_pair (check_pair p.vars) xs (length xs)) mid new did c.check_all.result) e
+    (subst (λ (us : List VarId). Stepped us (each_pair (check_pair us) c.as_slice-temps.result.now (length c.as_slice-temps.result.now)) mid new did c.check_all.result)
+    (ap (λ r. r.now) c.keep_all-did.ensures.vars ∙ c.requires.vars) c.check_all.ensures.step) in
+    let all = stepped_chain p.vars (each_pair clash_pair p.temps (length p.temps)) (each_pair (check_pair p.vars) p.temps (length p.temps)) old mid new Same did c.check_all.result first second in
+    checked p.vars p.vars (apart_cut p.vars p.temps) old new c.check_all.result refl c.requires.live all.goes

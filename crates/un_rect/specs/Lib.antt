@@ -1,0 +1,11 @@
+pub mod Apart
+pub mod ApartLaws
+pub mod CheckLaws
+pub mod Checks
+pub mod Opened
+pub mod OpenedLaws
+pub mod PairLaws
+pub mod Pairs
+pub mod Spans
+pub mod SpansLaws
+pub mod TempLaws

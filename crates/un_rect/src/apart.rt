@@ -1,0 +1,90 @@
+//! Apart: two active temporaries of a block with one register do not occupy it in one cycle.
+
+ghost use Rattle.std.specs.Prelude.{◌≡◌, ◌≤◌, length, drop};
+ghost use Rattle.std.specs.List.{list_all};
+ghost use Rattle.un_prop.specs.LastLaws.{Ascend};
+ghost use Rattle.un_rect.specs.Apart.{pair_holds, ApartVars};
+
+use crate::checks::{are_apart, check_all};
+use crate::clashes::keep_all;
+use un_base::ids::VarId;
+use un_domains::window::Window;
+use un_lists::items::Items;
+use un_prop::act::Temp;
+use un_prop::propagator::{Predicate, Propagator, Pruned, Scratch};
+
+/// Of each two of the temporaries not both are active, or they have other registers, or one ends before the other starts.
+#[derive(Drop)]
+pub struct Apart {
+    pub temps: Items<Temp>,
+    pub vars: Items<VarId>,
+    ghost ascend: { Ascend vars },
+    ghost among: { ApartVars vars temps },
+}
+
+/// Whether a temporary of an assignment is apart from each of a list, from a place on.
+fn is_apart_from(fixed: &[u32], a: &Temp, temps: &[Temp], from: usize) -> bool
+    requires { from ≤ length temps.now }
+    ensures { result ≡ list_all (λ b. pair_holds a.now b fixed.now) (drop from temps.now) }
+{
+    for j in from..temps.len() {
+        if !are_apart(fixed, a, &temps[j]) {
+            return false;
+        }
+    }
+    true
+}
+
+impl Predicate for Apart {
+    ghost use Rattle.un_rect.specs.Apart.{apart_holds};
+    ghost use Rattle.un_rect.specs.ApartLaws.{apart_looks};
+
+    ghost scope = { λ p. p.vars };
+
+    ghost holds = { λ p x. apart_holds p.temps x };
+
+    fn reads(&self) -> &[VarId] {
+        self.vars.as_slice()
+    }
+
+    fn test(&self, fixed: &[u32]) -> bool {
+        let temps = self.temps.as_slice();
+        for i in 0..temps.len() {
+            if !is_apart_from(fixed, &temps[i], temps, i + 1) {
+                return false;
+            }
+        }
+        true
+    }
+
+    ghost looks = { λ p x y same. apart_looks p.vars p.temps p.among x y same };
+}
+
+impl Propagator for Apart {
+    ghost use Rattle.un_rect.specs.Apart.{apart_cut, apart_parts, ApartStrong};
+    ghost use Rattle.un_rect.specs.ApartLaws.{apart_lawful, apart_keeps, apart_whole, apart_forward, apart_strong};
+
+    ghost cut = { λ p. apart_cut p.vars p.temps };
+
+    ghost parts = { λ p. apart_parts p.vars p.temps };
+
+    ghost strong = { λ p s. ApartStrong p.temps s };
+
+    ghost span = { λ p. 0 };
+
+    fn prune_in(&self, w: &mut Window<'_>, scratch: &mut Scratch) -> Pruned {
+        let temps = self.temps.as_slice();
+        let did = keep_all(w, Pruned::Same, temps);
+        check_all(w, did, temps, scratch.fixed.as_mut_slice())
+    }
+
+    ghost keeps = { λ p s x k full there holds. apart_keeps p.vars p.ascend p.temps p.among s x k there holds };
+
+    ghost lawful = { λ p. apart_lawful p.vars p.ascend p.temps p.among };
+
+    ghost whole = { λ p x. apart_whole p.vars p.temps x };
+
+    ghost forward = { λ p. apart_forward p.vars p.ascend p.temps p.among };
+
+    ghost strength = { λ p s k full words grounded e. apart_strong p.vars p.ascend p.temps p.among s k full e };
+}

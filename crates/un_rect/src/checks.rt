@@ -1,0 +1,299 @@
+//! Checks of two temporaries of which one variable is left to decide: it keeps the values that meet their part.
+
+ghost use Rattle.std.specs.Prelude.{◌≡◌, ◌≢◌, ◌≤◌, ◌<◌, ℕ, Bool, All, Some, MatchOption, ◌&&◌, ◌||◌, length, nat_eq, not, true, slice_index, slice_set, ◌⊎◌};
+ghost use Rattle.un_domains.specs.Sets.{set_at, least, cut_by, NoneEmpty};
+ghost use Rattle.un_prop.specs.Among.{among};
+ghost use Rattle.un_prop.specs.Acts.{act_vars, is_active};
+ghost use Rattle.un_prop.specs.Going.{Stepped};
+ghost use Rattle.un_prop.specs.Last.{point};
+ghost use Rattle.un_prop.specs.LastLaws.{Ascend};
+ghost use Rattle.un_prop.specs.Pruning.{IsPrune};
+ghost use Rattle.un_prop.specs.Rounds.{HasVars};
+ghost use Rattle.un_prop.specs.declared.propagator.Pruned.TheVariants.{Same, Failed};
+ghost use Rattle.un_rect.specs.Spans.{TempVars};
+ghost use Rattle.un_rect.specs.Apart.{pair_holds, temp_vars, check_pair};
+ghost use Rattle.un_rect.specs.Checks.{is_off, differ, surely_apart};
+ghost use Rattle.un_rect.specs.Opened.{opened_after, is_more};
+ghost use Rattle.un_rect.specs.Pairs.{each_before, each_pair};
+ghost use Rattle.un_rect.specs.declared.opened.Opened.TheVariants.{Nothing};
+
+use crate::opened::{Opened, is_more, with_temp};
+use crate::spans::end;
+use un_base::ids::VarId;
+use un_domains::window::Window;
+use un_prop::act::{Act, Temp, active, time, value};
+use un_prop::last::fill;
+use un_prop::propagator::Pruned;
+use un_prop::step::{drop_value, joined};
+
+/// Whether two temporaries are active and have one register.
+fn share(fixed: &[u32], a: &Temp, b: &Temp) -> bool
+    ensures { result ≡ (is_active a.now.on fixed.now && (is_active b.now.on fixed.now && nat_eq (slice_index fixed.now a.now.reg.0) (slice_index fixed.now b.now.reg.0))) }
+{
+    if !active(fixed, a.on) {
+        return false;
+    }
+    if !active(fixed, b.on) {
+        return false;
+    }
+    value(fixed, a.reg) == value(fixed, b.reg)
+}
+
+/// Whether an assignment meets the part of two temporaries.
+pub(crate) fn are_apart(fixed: &[u32], a: &Temp, b: &Temp) -> bool
+    ensures { result ≡ pair_holds a.now b.now fixed.now }
+{
+    if !share(fixed, a, b) {
+        return true;
+    }
+    if end(fixed, a) <= u64::from(time(fixed, b.at)) {
+        return true;
+    }
+    end(fixed, b) <= u64::from(time(fixed, a.at))
+}
+
+/// Whether an activity is surely off.
+fn is_off(w: &Window<'_>, on: Act) -> bool
+    requires known { HasVars (act_vars on) w.now.store.now.sets }
+    requires live { NoneEmpty w.now.store.now.sets }
+    ensures { result ≡ is_off on w.now.store.now.sets }
+{
+    match on {
+        Act::Always => false,
+        Act::Var(v) => w.max(v) == 0,
+    }
+}
+
+/// Whether two variables have one value each, and not the same.
+fn differ(w: &Window<'_>, u: VarId, v: VarId) -> bool
+    requires first { u.0 < length w.now.store.now.sets }
+    requires second { v.0 < length w.now.store.now.sets }
+    requires live { NoneEmpty w.now.store.now.sets }
+    ensures { result ≡ differ u v w.now.store.now.sets }
+{
+    if !w.is_single(u) {
+        return false;
+    }
+    if !w.is_single(v) {
+        return false;
+    }
+    w.min(u) != w.min(v)
+}
+
+/// Whether one of two temporaries is off, or their registers differ.
+fn surely_apart(w: &Window<'_>, a: &Temp, b: &Temp) -> bool
+    requires of_a { TempVars w.now.vars.now a.now }
+    requires of_b { TempVars w.now.vars.now b.now }
+    requires known { HasVars w.now.vars.now w.now.store.now.sets }
+    requires live { NoneEmpty w.now.store.now.sets }
+    ensures { result ≡ surely_apart a.now b.now w.now.store.now.sets }
+{
+    if is_off(w, a.on) {
+        return true;
+    }
+    if is_off(w, b.on) {
+        return true;
+    }
+    differ(w, a.reg, b.reg)
+}
+
+/// The variable of two temporaries that is left to decide, if there is one alone; their register where all have one value.
+fn undecided(w: &Window<'_>, a: &Temp, b: &Temp) -> Option<VarId>
+    requires ascend { Ascend w.now.vars.now }
+    requires of_a { TempVars w.now.vars.now a.now }
+    requires of_b { TempVars w.now.vars.now b.now }
+    requires known { HasVars w.now.vars.now w.now.store.now.sets }
+    requires live { NoneEmpty w.now.store.now.sets }
+    ensures { MatchOption result (check_pair w.now.vars.now a.now b.now w.now.store.now.sets ≡ Some w.now.store.now.sets) (λ v. (among w.now.vars.now v ≡ true) × (check_pair w.now.vars.now a.now b.now w.now.store.now.sets ≡ cut_by (λ y. pair_holds a.now b.now (slice_set (point w.now.store.now.sets) v.0 y)) v.0 w.now.store.now.sets)) }
+{
+    if surely_apart(w, a, b) {
+        return None;
+    }
+    let first = with_temp(w, Opened::Nothing, a);
+    match with_temp(w, first, b) {
+        Opened::Nothing => Some(a.reg),
+        Opened::One(v) => Some(v),
+        Opened::More => None,
+    }
+}
+
+/// Takes the value `y` from `v`, where two temporaries are not apart for it and what is written of the others.
+fn try_value(
+    w: &mut Window<'_>,
+    before: Pruned,
+    a: &Temp,
+    b: &Temp,
+    v: VarId,
+    y: u32,
+    fixed: &mut [u32],
+) -> Pruned
+    requires lent { among w.old.vars.now v ≡ true }
+    requires known { HasVars w.old.vars.now w.old.store.now.sets }
+    requires live { before ≢ Failed → NoneEmpty w.old.store.now.sets }
+    requires room { length w.old.store.now.sets ≤ length fixed.old }
+    ensures step { Stepped w.old.vars.now (cut_by (λ z. not (nat_eq z y) || pair_holds a.now b.now (slice_set fixed.old v.0 y)) v.0) w.old.store.now w.new.store.now before result }
+    ensures others { (u : ℕ) → u ≢ v.0 → slice_index fixed.new u ≡ slice_index fixed.old u }
+    ensures same_reference { w.new.store.ghost_name ≡ w.old.store.ghost_name }
+    ensures vars { w.new.vars ≡ w.old.vars }
+{
+    if before == Pruned::Failed {
+        return before;
+    }
+    fixed[v.0 as usize] = y;
+    if are_apart(fixed, a, b) {
+        return before;
+    }
+    drop_value(w, before, v, y)
+}
+
+/// Tries each value of `v`, with what is written of the others.
+fn try_all(w: &mut Window<'_>, a: &Temp, b: &Temp, v: VarId, fixed: &mut [u32]) -> Pruned
+    requires of_a { TempVars w.old.vars.now a.now }
+    requires of_b { TempVars w.old.vars.now b.now }
+    requires lent { among w.old.vars.now v ≡ true }
+    requires known { HasVars w.old.vars.now w.old.store.now.sets }
+    requires live { NoneEmpty w.old.store.now.sets }
+    requires room { length w.old.store.now.sets ≤ length fixed.old }
+    requires written { All (λ u. slice_index fixed.old u.0 ≡ least (set_at w.old.store.now.sets u.0)) w.old.vars.now }
+    ensures step { Stepped w.old.vars.now (cut_by (λ y. pair_holds a.now b.now (slice_set (point w.old.store.now.sets) v.0 y)) v.0) w.old.store.now w.new.store.now Same result }
+    ensures others { (u : ℕ) → u ≢ v.0 → slice_index fixed.new u ≡ slice_index fixed.old u }
+    ensures same_reference { w.new.store.ghost_name ≡ w.old.store.ghost_name }
+    ensures vars { w.new.vars ≡ w.old.vars }
+{
+    let low = u64::from(w.min(v));
+    let last = u64::from(w.max(v)) + 1;
+    let mut did = Pruned::Same;
+    for y in low..last {
+        did = try_value(w, did, a, b, v, y as u32, fixed);
+    }
+    did
+}
+
+/// Decides `v`, and writes its least value that is left.
+fn decide(
+    w: &mut Window<'_>,
+    before: Pruned,
+    a: &Temp,
+    b: &Temp,
+    v: VarId,
+    fixed: &mut [u32],
+) -> Pruned
+    requires of_a { TempVars w.old.vars.now a.now }
+    requires of_b { TempVars w.old.vars.now b.now }
+    requires lent { among w.old.vars.now v ≡ true }
+    requires known { HasVars w.old.vars.now w.old.store.now.sets }
+    requires going { before ≢ Failed }
+    requires live { NoneEmpty w.old.store.now.sets }
+    requires room { length w.old.store.now.sets ≤ length fixed.old }
+    requires written { All (λ u. slice_index fixed.old u.0 ≡ least (set_at w.old.store.now.sets u.0)) w.old.vars.now }
+    ensures step { Stepped w.old.vars.now (cut_by (λ y. pair_holds a.now b.now (slice_set (point w.old.store.now.sets) v.0 y)) v.0) w.old.store.now w.new.store.now before result }
+    ensures written { result ≢ Failed → All (λ u. slice_index fixed.new u.0 ≡ least (set_at w.new.store.now.sets u.0)) w.old.vars.now }
+    ensures same_reference { w.new.store.ghost_name ≡ w.old.store.ghost_name }
+    ensures vars { w.new.vars ≡ w.old.vars }
+{
+    let did = try_all(w, a, b, v, fixed);
+    if did == Pruned::Failed {
+        return Pruned::Failed;
+    }
+    fixed[v.0 as usize] = w.min(v);
+    joined(before, did)
+}
+
+/// Where one variable of two temporaries is left to decide, it keeps the values that meet their part.
+fn check(w: &mut Window<'_>, before: Pruned, a: &Temp, b: &Temp, fixed: &mut [u32]) -> Pruned
+    requires ascend { Ascend w.old.vars.now }
+    requires of_a { TempVars w.old.vars.now a.now }
+    requires of_b { TempVars w.old.vars.now b.now }
+    requires known { HasVars w.old.vars.now w.old.store.now.sets }
+    requires live { before ≢ Failed → NoneEmpty w.old.store.now.sets }
+    requires room { length w.old.store.now.sets ≤ length fixed.old }
+    requires written { before ≢ Failed → All (λ u. slice_index fixed.old u.0 ≡ least (set_at w.old.store.now.sets u.0)) w.old.vars.now }
+    ensures step { Stepped w.old.vars.now (check_pair w.old.vars.now a.now b.now) w.old.store.now w.new.store.now before result }
+    ensures written { result ≢ Failed → All (λ u. slice_index fixed.new u.0 ≡ least (set_at w.new.store.now.sets u.0)) w.old.vars.now }
+    ensures same_reference { w.new.store.ghost_name ≡ w.old.store.ghost_name }
+    ensures vars { w.new.vars ≡ w.old.vars }
+{
+    if before == Pruned::Failed {
+        return before;
+    }
+    match undecided(w, a, b) {
+        None => before,
+        Some(v) => decide(w, before, a, b, v, fixed),
+    }
+}
+
+/// Whether there is nothing to check of a temporary with any other: it is off, or more than one variable is open.
+fn is_idle(w: &Window<'_>, b: &Temp) -> bool
+    requires of_b { TempVars w.now.vars.now b.now }
+    requires known { HasVars w.now.vars.now w.now.store.now.sets }
+    requires live { NoneEmpty w.now.store.now.sets }
+    ensures { result ≡ (is_off b.now.on w.now.store.now.sets || is_more (opened_after w.now.store.now.sets (temp_vars b.now) Nothing)) }
+{
+    if is_off(w, b.on) {
+        return true;
+    }
+    is_more(with_temp(w, Opened::Nothing, b))
+}
+
+/// Of `b` with each of the first `n` temporaries.
+fn check_row(
+    w: &mut Window<'_>,
+    before: Pruned,
+    temps: &[Temp],
+    b: &Temp,
+    n: usize,
+    fixed: &mut [u32],
+) -> Pruned
+    requires few { n ≤ length temps.now }
+    requires ascend { Ascend w.old.vars.now }
+    requires of_temps { All (TempVars w.old.vars.now) temps.now }
+    requires of_b { TempVars w.old.vars.now b.now }
+    requires known { HasVars w.old.vars.now w.old.store.now.sets }
+    requires live { before ≢ Failed → NoneEmpty w.old.store.now.sets }
+    requires room { length w.old.store.now.sets ≤ length fixed.old }
+    requires written { before ≢ Failed → All (λ u. slice_index fixed.old u.0 ≡ least (set_at w.old.store.now.sets u.0)) w.old.vars.now }
+    ensures step { Stepped w.old.vars.now (each_before (check_pair w.old.vars.now) temps.now b.now n) w.old.store.now w.new.store.now before result }
+    ensures written { result ≢ Failed → All (λ u. slice_index fixed.new u.0 ≡ least (set_at w.new.store.now.sets u.0)) w.old.vars.now }
+    ensures same_reference { w.new.store.ghost_name ≡ w.old.store.ghost_name }
+    ensures vars { w.new.vars ≡ w.old.vars }
+{
+    if before == Pruned::Failed {
+        return before;
+    }
+    if is_idle(w, b) {
+        return before;
+    }
+    let mut did = before;
+    for i in 0..n {
+        did = check(w, did, &temps[i], b, fixed);
+    }
+    did
+}
+
+/// Of each two temporaries.
+pub(crate) fn check_all(
+    w: &mut Window<'_>,
+    before: Pruned,
+    temps: &[Temp],
+    fixed: &mut [u32],
+) -> Pruned
+    requires ascend { Ascend w.old.vars.now }
+    requires of_temps { All (TempVars w.old.vars.now) temps.now }
+    requires known { HasVars w.old.vars.now w.old.store.now.sets }
+    requires live { before ≢ Failed → NoneEmpty w.old.store.now.sets }
+    requires room { length w.old.store.now.sets ≤ length fixed.old }
+    ensures step { Stepped w.old.vars.now (each_pair (check_pair w.old.vars.now) temps.now (length temps.now)) w.old.store.now w.new.store.now before result }
+    ensures same_reference { w.new.store.ghost_name ≡ w.old.store.ghost_name }
+    ensures vars { w.new.vars ≡ w.old.vars }
+{
+    if before == Pruned::Failed {
+        return before;
+    }
+    let vars = w.vars;
+    fill(vars, w, fixed);
+    let mut did = before;
+    for j in 0..temps.len() {
+        did = check_row(w, did, temps, &temps[j], j, fixed);
+    }
+    did
+}

@@ -1,0 +1,156 @@
+//! Registers that a sure temporary takes from those that it surely overlaps.
+
+ghost use Rattle.std.specs.Prelude.{◌≡◌, ◌≢◌, ◌≤◌, ℕ, Bool, All, MatchOption, ◌&&◌, length, nat_eq, nat_lt, not, true};
+ghost use Rattle.un_domains.specs.Sets.{set_at, has, NoneEmpty};
+ghost use Rattle.un_prop.specs.Going.{Stepped};
+ghost use Rattle.un_prop.specs.Looks.{sure};
+ghost use Rattle.un_prop.specs.Rounds.{HasVars};
+ghost use Rattle.un_prop.specs.declared.propagator.Pruned.TheVariants.{Failed};
+ghost use Rattle.un_rect.specs.Spans.{last_sure_use, least_end, UserVars, TempVars};
+ghost use Rattle.un_rect.specs.Apart.{overlap, clash_test, clash_cut, clash_pair};
+ghost use Rattle.un_rect.specs.Pairs.{each_before, each_pair};
+
+use crate::spans::is_sure_user;
+use un_domains::window::Window;
+use un_prop::act::{Temp, UserOf};
+use un_prop::look::{greatest_time, is_sure, least_time};
+use un_prop::propagator::Pruned;
+use un_prop::step::drop_value;
+
+/// Whether the least time of some sure user is after `t`. Times are looked at first, since few are.
+fn is_used_after(w: &Window<'_>, users: &[UserOf], t: u32) -> bool
+    requires vars { All (UserVars w.now.vars.now) users.now }
+    requires known { HasVars w.now.vars.now w.now.store.now.sets }
+    requires live { NoneEmpty w.now.store.now.sets }
+    ensures { result ≡ nat_lt t (last_sure_use users.now w.now.store.now.sets) }
+{
+    for u in users {
+        if least_time(w, u.at) > t {
+            if is_sure_user(w, u) {
+                return true;
+            }
+        }
+    }
+    false
+}
+
+/// Whether the least end of a temporary is after `t`.
+fn ends_after(w: &Window<'_>, a: &Temp, t: u32) -> bool
+    requires vars { TempVars w.now.vars.now a.now }
+    requires known { HasVars w.now.vars.now w.now.store.now.sets }
+    requires live { NoneEmpty w.now.store.now.sets }
+    ensures { result ≡ nat_lt t (least_end a.now w.now.store.now.sets) }
+{
+    if least_time(w, a.at) >= t {
+        return true;
+    }
+    is_used_after(w, a.users.as_slice(), t)
+}
+
+/// Whether two temporaries are sure and overlap.
+fn overlaps(w: &Window<'_>, a: &Temp, b: &Temp) -> bool
+    requires of_a { TempVars w.now.vars.now a.now }
+    requires of_b { TempVars w.now.vars.now b.now }
+    requires known { HasVars w.now.vars.now w.now.store.now.sets }
+    requires live { NoneEmpty w.now.store.now.sets }
+    ensures { result ≡ (sure a.now.on w.now.store.now.sets && (sure b.now.on w.now.store.now.sets && overlap a.now b.now w.now.store.now.sets)) }
+{
+    if !is_sure(w, a.on) {
+        return false;
+    }
+    if !is_sure(w, b.on) {
+        return false;
+    }
+    if !ends_after(w, a, greatest_time(w, b.at)) {
+        return false;
+    }
+    ends_after(w, b, greatest_time(w, a.at))
+}
+
+/// The register that is left of `a`, where `b` has it and may not keep it.
+fn clash(w: &Window<'_>, a: &Temp, b: &Temp) -> Option<u32>
+    requires of_a { TempVars w.now.vars.now a.now }
+    requires of_b { TempVars w.now.vars.now b.now }
+    requires known { HasVars w.now.vars.now w.now.store.now.sets }
+    requires live { NoneEmpty w.now.store.now.sets }
+    ensures { MatchOption result ((y : ℕ) → has (set_at w.now.store.now.sets b.now.reg.0) y ≡ true → clash_test a.now b.now w.now.store.now.sets y ≡ true) (λ r. (y : ℕ) → clash_test a.now b.now w.now.store.now.sets y ≡ not (nat_eq y r)) }
+{
+    if !w.is_single(a.reg) {
+        return None;
+    }
+    let r = w.min(a.reg);
+    if !w.has(b.reg, r) {
+        return None;
+    }
+    if overlaps(w, a, b) { Some(r) } else { None }
+}
+
+/// Where both are sure and overlap, the one register that is left of `a` goes from `b`.
+fn keep_clash(w: &mut Window<'_>, before: Pruned, a: &Temp, b: &Temp) -> Pruned
+    requires of_a { TempVars w.old.vars.now a.now }
+    requires of_b { TempVars w.old.vars.now b.now }
+    requires known { HasVars w.old.vars.now w.old.store.now.sets }
+    requires live { before ≢ Failed → NoneEmpty w.old.store.now.sets }
+    ensures step { Stepped w.old.vars.now (clash_cut a.now b.now) w.old.store.now w.new.store.now before result }
+    ensures same_reference { w.new.store.ghost_name ≡ w.old.store.ghost_name }
+    ensures vars { w.new.vars ≡ w.old.vars }
+{
+    if before == Pruned::Failed {
+        return before;
+    }
+    match clash(w, a, b) {
+        None => before,
+        Some(r) => drop_value(w, before, b.reg, r),
+    }
+}
+
+/// And the other way round.
+fn keep_clashes(w: &mut Window<'_>, before: Pruned, a: &Temp, b: &Temp) -> Pruned
+    requires of_a { TempVars w.old.vars.now a.now }
+    requires of_b { TempVars w.old.vars.now b.now }
+    requires known { HasVars w.old.vars.now w.old.store.now.sets }
+    requires live { before ≢ Failed → NoneEmpty w.old.store.now.sets }
+    ensures step { Stepped w.old.vars.now (clash_pair a.now b.now) w.old.store.now w.new.store.now before result }
+    ensures same_reference { w.new.store.ghost_name ≡ w.old.store.ghost_name }
+    ensures vars { w.new.vars ≡ w.old.vars }
+{
+    let first = keep_clash(w, before, a, b);
+    keep_clash(w, first, b, a)
+}
+
+/// Of `b` with each of the first `n` temporaries. There is nothing to do where `b` is not sure.
+fn keep_row(w: &mut Window<'_>, before: Pruned, temps: &[Temp], b: &Temp, n: usize) -> Pruned
+    requires few { n ≤ length temps.now }
+    requires of_temps { All (TempVars w.old.vars.now) temps.now }
+    requires of_b { TempVars w.old.vars.now b.now }
+    requires known { HasVars w.old.vars.now w.old.store.now.sets }
+    requires live { before ≢ Failed → NoneEmpty w.old.store.now.sets }
+    ensures step { Stepped w.old.vars.now (each_before clash_pair temps.now b.now n) w.old.store.now w.new.store.now before result }
+    ensures same_reference { w.new.store.ghost_name ≡ w.old.store.ghost_name }
+    ensures vars { w.new.vars ≡ w.old.vars }
+{
+    if !is_sure(w, b.on) {
+        return before;
+    }
+    let mut did = before;
+    for i in 0..n {
+        did = keep_clashes(w, did, &temps[i], b);
+    }
+    did
+}
+
+/// Of each two temporaries.
+pub(crate) fn keep_all(w: &mut Window<'_>, before: Pruned, temps: &[Temp]) -> Pruned
+    requires of_temps { All (TempVars w.old.vars.now) temps.now }
+    requires known { HasVars w.old.vars.now w.old.store.now.sets }
+    requires live { before ≢ Failed → NoneEmpty w.old.store.now.sets }
+    ensures step { Stepped w.old.vars.now (each_pair clash_pair temps.now (length temps.now)) w.old.store.now w.new.store.now before result }
+    ensures same_reference { w.new.store.ghost_name ≡ w.old.store.ghost_name }
+    ensures vars { w.new.vars ≡ w.old.vars }
+{
+    let mut did = before;
+    for j in 0..temps.len() {
+        did = keep_row(w, did, temps, &temps[j], j);
+    }
+    did
+}

@@ -1,0 +1,111 @@
+//! When a temporary starts and ends: by an assignment, and what a store says of it.
+
+ghost use Rattle.std.specs.Prelude.{◌≡◌, ◌+◌, ◌<◌, All, length};
+ghost use Rattle.un_domains.specs.Sets.{set_at, NoneEmpty};
+ghost use Rattle.un_prop.specs.Among.{AllAmong};
+ghost use Rattle.un_prop.specs.Acts.{chooses, is_user};
+ghost use Rattle.un_prop.specs.Rounds.{HasVars};
+ghost use Rattle.un_rect.specs.Spans.{starts, last_use, ends, is_only, sure_choice, sure_user, last_sure_use, least_end, choice_vars, UserVars, TempVars};
+
+use un_base::ids::VarId;
+use un_domains::window::Window;
+use un_prop::act::{Temp, UserOf, active, time, value};
+use un_prop::look::{is_sure, least_time};
+
+/// Whether a user reads its temporary.
+fn reads(fixed: &[u32], u: &UserOf) -> bool
+    ensures { result ≡ is_user u.now fixed.now }
+{
+    if !active(fixed, u.on) {
+        return false;
+    }
+    match u.choice {
+        None => true,
+        Some(v) => value(fixed, v) == u.value,
+    }
+}
+
+/// The largest time of the users that read their temporary, or 0.
+fn last_use(fixed: &[u32], users: &[UserOf]) -> u32
+    ensures { result ≡ last_use users.now fixed.now }
+{
+    let mut last = 0;
+    for u in users {
+        if reads(fixed, u) {
+            last = time(fixed, u.at).max(last);
+        }
+    }
+    last
+}
+
+/// When a temporary ends.
+pub(crate) fn end(fixed: &[u32], a: &Temp) -> u64
+    ensures { result ≡ ends a.now fixed.now }
+{
+    let start = u64::from(time(fixed, a.at));
+    let last = u64::from(last_use(fixed, a.users.as_slice()));
+    last.max(start + 1)
+}
+
+/// Whether `n` is the one value left of a variable.
+pub(crate) fn is_only(w: &Window<'_>, v: VarId, n: u32) -> bool
+    requires there { v.0 < length w.now.store.now.sets }
+    requires live { NoneEmpty w.now.store.now.sets }
+    ensures { result ≡ is_only (set_at w.now.store.now.sets v.0) n }
+{
+    w.is_single(v) && w.min(v) == n
+}
+
+/// Whether a choice, where there is one, has this one value left.
+fn is_sure_choice(w: &Window<'_>, choice: Option<VarId>, n: u32) -> bool
+    requires vars { AllAmong w.now.vars.now (choice_vars choice) }
+    requires known { HasVars w.now.vars.now w.now.store.now.sets }
+    requires live { NoneEmpty w.now.store.now.sets }
+    ensures { result ≡ sure_choice choice n w.now.store.now.sets }
+{
+    match choice {
+        None => true,
+        Some(v) => is_only(w, v, n),
+    }
+}
+
+/// Whether a user surely reads its temporary.
+pub(crate) fn is_sure_user(w: &Window<'_>, u: &UserOf) -> bool
+    requires vars { UserVars w.now.vars.now u.now }
+    requires known { HasVars w.now.vars.now w.now.store.now.sets }
+    requires live { NoneEmpty w.now.store.now.sets }
+    ensures { result ≡ sure_user u.now w.now.store.now.sets }
+{
+    if !is_sure(w, u.on) {
+        return false;
+    }
+    is_sure_choice(w, u.choice, u.value)
+}
+
+/// The largest of the least times of the sure users, or 0.
+fn last_sure_use(w: &Window<'_>, users: &[UserOf]) -> u32
+    requires vars { All (UserVars w.now.vars.now) users.now }
+    requires known { HasVars w.now.vars.now w.now.store.now.sets }
+    requires live { NoneEmpty w.now.store.now.sets }
+    ensures { result ≡ last_sure_use users.now w.now.store.now.sets }
+{
+    let mut last = 0;
+    for u in users {
+        if is_sure_user(w, u) {
+            last = least_time(w, u.at).max(last);
+        }
+    }
+    last
+}
+
+/// The least end of a temporary.
+pub(crate) fn least_end(w: &Window<'_>, a: &Temp) -> u64
+    requires vars { TempVars w.now.vars.now a.now }
+    requires known { HasVars w.now.vars.now w.now.store.now.sets }
+    requires live { NoneEmpty w.now.store.now.sets }
+    ensures { result ≡ least_end a.now w.now.store.now.sets }
+{
+    let start = u64::from(least_time(w, a.at));
+    let last = u64::from(last_sure_use(w, a.users.as_slice()));
+    last.max(start + 1)
+}
