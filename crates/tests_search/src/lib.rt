@@ -4,6 +4,8 @@
 #[cfg(test)]
 mod build;
 #[cfg(test)]
+mod clobbers;
+#[cfg(test)]
 mod cuts;
 #[cfg(test)]
 mod kinds;

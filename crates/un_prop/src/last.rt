@@ -79,7 +79,7 @@ fn try_value<P: Predicate>(
 }
 
 /// Tries each value of `v`, with what is written of the others.
-fn try_all<P: Predicate>(p: &P, w: &mut Window<'_>, v: VarId, fixed: &mut [u32]) -> Pruned
+pub fn try_all<P: Predicate>(p: &P, w: &mut Window<'_>, v: VarId, fixed: &mut [u32]) -> Pruned
     requires vars { w.old.vars.now ≡ P.scope p.now }
     requires lent { Contains (P.scope p.now) v }
     requires known { HasVars (P.scope p.now) w.old.store.now.sets }

@@ -1,3 +1,6 @@
+pub mod CallSteps
 pub mod CheckSteps
 pub mod ClashLaws
+pub mod Loops
+pub mod Refusals
 pub mod Rows

@@ -78,7 +78,7 @@ module _ (vs : List VarId) where
             let w = (get_or us i d).0 in
             ap length (single_below m s w less.0 (less.1 w (known m km i d lt)) (one i d lt ne)) ∙ one i d lt ne)) end there
 
-    checks_each : (f : ℕ → Sets → Option Sets) → ((i : ℕ) → Lawful vs (f i)) → (n i : ℕ) → i < n → Checks us v x b (f i) → Checks us v x b (each_place f n)
+    pub checks_each : (f : ℕ → Sets → Option Sets) → ((i : ℕ) → Lawful vs (f i)) → (n i : ℕ) → i < n → Checks us v x b (f i) → Checks us v x b (each_place f n)
     checks_each f hf zero i lt h = absurd (omega (arith, lt))
     checks_each f hf (suc n) i lt h = elim (cases_lt i n) [
       | inl below ↦ checks_first (each_place f n) (f n) (each_lawful vs f hf n) (hf n) (checks_each f hf n i below h)

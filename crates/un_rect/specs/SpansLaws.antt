@@ -92,7 +92,7 @@ module _ (vs : List VarId) (x y : List ℕ) (same : SameAt vs x y) where
   choice_alike None n all = refl
   choice_alike (Some v) n all = ap (λ (m : ℕ). nat_eq m n) (same_var vs x y same v (all 0 v (omega arith)))
 
-  user_alike : (u : UserOf) → UserVars vs u → is_user u x ≡ is_user u y
+  pub user_alike : (u : UserOf) → UserVars vs u → is_user u x ≡ is_user u y
   user_alike u h = ap (λ (b : Bool). b && chooses u.choice u.value x) (same_active vs x y same u.on h.of_on)
       ∙ ap (λ (b : Bool). is_active u.on y && b) (choice_alike u.choice u.value h.of_choice)
 

@@ -92,7 +92,7 @@ filter_ascends q (v ∷ vs) h = by (q v) (filter_ascends q vs (λ i j d lt below
 shared : (us vs ws xs : List VarId) → ((v : VarId) → among us v ≡ true → among vs v ≡ true → among ws v ≡ true) → AllAmong us xs → AllAmong vs xs → AllAmong ws xs
 shared us vs ws xs f h k i d lt = f (get_or xs i d) (h i d lt) (k i d lt)
 
-users_shared : (us vs ws : List VarId) → ((v : VarId) → among us v ≡ true → among vs v ≡ true → among ws v ≡ true) → (xs : List UserOf)
+pub users_shared : (us vs ws : List VarId) → ((v : VarId) → among us v ≡ true → among vs v ≡ true → among ws v ≡ true) → (xs : List UserOf)
     → AllByRecursion (UserVars us) xs → AllByRecursion (UserVars vs) xs → AllByRecursion (UserVars ws) xs
 users_shared us vs ws f [] h k = tt
 users_shared us vs ws f (u ∷ xs) h k = (
@@ -130,11 +130,11 @@ own_user u = record {
   of_choice = wider (choice_vars u.choice) (user_vars u) (choice_vars u.choice) (λ v h. among_right (act_vars u.on) (at_vars u.at ++ choice_vars u.choice) v (among_right (at_vars u.at) (choice_vars u.choice) v h)) (own_all (choice_vars u.choice));
 }
 
-users_wider : (us vs : List VarId) → ((v : VarId) → among us v ≡ true → among vs v ≡ true) → (xs : List UserOf) → AllByRecursion (UserVars us) xs → AllByRecursion (UserVars vs) xs
+pub users_wider : (us vs : List VarId) → ((v : VarId) → among us v ≡ true → among vs v ≡ true) → (xs : List UserOf) → AllByRecursion (UserVars us) xs → AllByRecursion (UserVars vs) xs
 users_wider us vs f [] h = tt
 users_wider us vs f (u ∷ xs) h = (user_wider us vs u f h.0, users_wider us vs f xs h.1)
 
-own_users : (xs : List UserOf) → AllByRecursion (UserVars (users_vars xs)) xs
+pub own_users : (xs : List UserOf) → AllByRecursion (UserVars (users_vars xs)) xs
 own_users [] = tt
 own_users (u ∷ xs) = (
   user_wider (user_vars u) (users_vars (u ∷ xs)) u (λ v. among_left (user_vars u) (users_vars xs) v) (own_user u),
@@ -158,7 +158,7 @@ pub temp_wider : (us vs : List VarId) (a : Temp) → ((v : VarId) → among us v
 temp_wider us vs a f h = temp_shared us us vs a (λ v p q. f v p) h h
 
 -- they stand in each list in which its parts do
-users_all : (vs : List VarId) (xs : List UserOf) → AllByRecursion (UserVars vs) xs → AllAmong vs (users_vars xs)
+pub users_all : (vs : List VarId) (xs : List UserOf) → AllByRecursion (UserVars vs) xs → AllAmong vs (users_vars xs)
 users_all vs [] h = λ i d lt. absurd (omega (arith, lt))
 users_all vs (u ∷ xs) h = All-append (λ v. among vs v ≡ true) (user_vars u) (users_vars xs)
     (All-append (λ v. among vs v ≡ true) (act_vars u.on) (at_vars u.at ++ choice_vars u.choice) (h.0).of_on

@@ -4,5 +4,9 @@
 pub mod apart;
 mod checks;
 mod clashes;
+pub mod clobber;
 mod opened;
+mod operand;
+pub mod operands;
 pub mod spans;
+mod values;

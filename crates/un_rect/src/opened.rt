@@ -32,7 +32,7 @@ pub(crate) fn is_more(o: Opened) -> bool
 }
 
 /// What is open with one more variable.
-fn with_var(w: &Window<'_>, before: Opened, v: VarId) -> Opened
+pub(crate) fn with_var(w: &Window<'_>, before: Opened, v: VarId) -> Opened
     requires vars { among w.now.vars.now v ≡ true }
     requires known { HasVars w.now.vars.now w.now.store.now.sets }
     ensures { result ≡ opened_at w.now.store.now.sets before v }
@@ -95,7 +95,7 @@ fn with_user(w: &Window<'_>, before: Opened, u: &UserOf) -> Opened
 }
 
 /// With the variables of some users.
-fn with_users(w: &Window<'_>, before: Opened, users: &[UserOf]) -> Opened
+pub(crate) fn with_users(w: &Window<'_>, before: Opened, users: &[UserOf]) -> Opened
     requires vars { All (UserVars w.now.vars.now) users.now }
     requires known { HasVars w.now.vars.now w.now.store.now.sets }
     ensures { result ≡ opened_after w.now.store.now.sets (users_vars users.now) before }

@@ -13,7 +13,7 @@ use un_prop::act::{Temp, UserOf, active, time, value};
 use un_prop::look::{is_sure, least_time};
 
 /// Whether a user reads its temporary.
-fn reads(fixed: &[u32], u: &UserOf) -> bool
+pub(crate) fn reads(fixed: &[u32], u: &UserOf) -> bool
     ensures { result ≡ is_user u.now fixed.now }
 {
     if !active(fixed, u.on) {

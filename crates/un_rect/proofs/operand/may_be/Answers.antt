@@ -1,0 +1,5 @@
+use Rattle.un_prop.specs.AmongLaws.{has_among}
+use Rattle.un_rect.proofs.operand.may_be.Goals as goal
+
+pub has-requires : goal.has-requires
+has-requires c = has_among c.args.w.now.vars.now c.args.v c.args.w.now.store.now.sets c.requires.there c.requires.known
