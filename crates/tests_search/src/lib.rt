@@ -15,3 +15,5 @@ mod marks;
 mod prunes;
 #[cfg(test)]
 mod rectangles;
+#[cfg(test)]
+mod slots;

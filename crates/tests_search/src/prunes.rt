@@ -34,7 +34,7 @@ pub(crate) fn variables(alloc: Global, n: u32) -> Result<Items<VarId>, AllocErro
 }
 
 /// Whether there are these variables among so many.
-fn knows(vars: &[VarId], n: u32) -> bool
+pub(crate) fn knows(vars: &[VarId], n: u32) -> bool
     ensures { result ≡ true → All (λ v. v.0 < n) vars.now }
 {
     for v in vars {

@@ -1,0 +1,10 @@
+pub mod AmountLaws
+pub mod Amounts
+pub mod CrowdLaws
+pub mod Crowds
+pub mod ListingLaws
+pub mod Listings
+pub mod LoadLaws
+pub mod Loads
+pub mod SlotLaws
+pub mod Slots

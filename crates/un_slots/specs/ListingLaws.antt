@@ -1,0 +1,151 @@
+-- Laws of lists of settled items.
+use Rattle.std.proofs.Common.{ℕ, zero, suc, ◌≡◌, ◌≢◌, ◌<◌, ◌≤◌, ◌+◌, ◌-◌, ◌^◌, ◌⊎◌, ◌∙◌, Bool, true, false, not, ◌&&◌, if◌then◌else◌, List, [], ◌∷◌, length, get_or, take, sum_by, nat_eq, refl, sym, ap, subst, arith, inl, inr}
+use Rattle.std.proofs.lemmas.Bool.Decides.{nat_tests}
+use Rattle.std.proofs.lemmas.List.Sums.{sum_by-cons}
+use Rattle.un_domains.specs.Sets.{Sets, set_at, least}
+use Rattle.un_prop.specs.Looks.{act_set}
+use Rattle.un_prop.specs.Choices.{passes_at}
+use Rattle.un_prop.specs.ChoiceLaws.{passes_within}
+use Rattle.un_slots.specs.declared.item.Item.{Item}
+use Rattle.un_slots.specs.declared.item.Resource.{Resource}
+use Rattle.un_slots.specs.Slots.{share_at}
+use Rattle.un_slots.specs.Loads.{is_settled, settled_at, load_by, load}
+use Rattle.un_slots.specs.Listings.{last_settled, Listed, is_unmarked}
+
+-- the sum up to one place more
+pub sum_more : (f : Item → ℕ) (xs : List Item) (j : ℕ) (d : Item) → j < length xs → sum_by f (take (suc j) xs) ≡ sum_by f (take j xs) + f (get_or xs j d)
+sum_more f [] j d lt = absurd (omega (arith, lt))
+sum_more f (x ∷ xs) zero d lt = (let a = sum_by-cons f x [] in omega (arith, a))
+sum_more f (x ∷ xs) (suc j) d lt = (
+    let a = sum_by-cons f x (take (suc j) xs) in
+    let b = sum_by-cons f x (take j xs) in
+    let c = sum_more f xs j d (omega (arith, lt)) in
+    omega (arith, a, b, c))
+
+module _ (items : List Item) (s : Sets) (c : ℕ) where
+  pub last_le : (n : ℕ) → last_settled items s c n ≤ n
+  last_le zero = omega arith
+  last_le (suc n) = by (passes_at (settled_at s c) items n) (last_le n)
+    where
+      by : (b : Bool) → last_settled items s c n ≤ n → (if b then suc n else last_settled items s c n) ≤ suc n
+      by true le = omega arith
+      by false le = omega (arith, le)
+
+  -- the last is the last up to itself
+  pub last_own : (n : ℕ) → last_settled items s c (last_settled items s c n) ≡ last_settled items s c n
+  last_own zero = refl
+  last_own (suc n) = by (passes_at (settled_at s c) items n) refl (last_own n)
+    where
+      by : (b : Bool) → passes_at (settled_at s c) items n ≡ b → last_settled items s c (last_settled items s c n) ≡ last_settled items s c n
+          → last_settled items s c (if b then suc n else last_settled items s c n) ≡ (if b then suc n else last_settled items s c n)
+      by true e rest = ap (λ (b : Bool). if b then suc n else last_settled items s c n) e
+      by false e rest = rest
+
+  -- where it is its own last, and not the end, it is settled
+  pub last_here : (j : ℕ) → suc j ≡ last_settled items s c (suc j) → passes_at (settled_at s c) items j ≡ true
+  last_here j e = by (passes_at (settled_at s c) items j) refl e
+    where
+      by : (b : Bool) → passes_at (settled_at s c) items j ≡ b → suc j ≡ (if b then suc j else last_settled items s c j) → b ≡ true
+      by true is h = refl
+      by false is h = absurd (let le = last_le j in omega (arith, le, h))
+
+  pub settled_load : (r : Resource) (j : ℕ) (d : Item) → j < length items → passes_at (settled_at s c) items j ≡ true
+      → load_by r s c (get_or items j d) ≡ share_at r (get_or items j d).uses (least (act_set (get_or items j d).on s))
+  settled_load r j d lt e =
+      let i = get_or items j d in
+      ap (λ (b : Bool). if b then share_at r i.uses (least (act_set i.on s)) else 0) (sym (passes_within (settled_at s c) items j d lt) ∙ e)
+
+  -- what is after the last takes nothing
+  pub load_last : (r : Resource) (n : ℕ) → n ≤ length items → load r (take (last_settled items s c n) items) s c ≡ load r (take n items) s c
+  load_last r zero le = refl
+  load_last r (suc n) le = by (passes_at (settled_at s c) items n) refl (load_last r n (omega (arith, le)))
+    where
+      by : (b : Bool) → passes_at (settled_at s c) items n ≡ b → load r (take (last_settled items s c n) items) s c ≡ load r (take n items) s c
+          → load r (take (if b then suc n else last_settled items s c n) items) s c ≡ load r (take (suc n) items) s c
+      by true e rest = refl
+      by false e rest = at items refl
+        where
+          at : (xs : List Item) → items ≡ xs → load r (take (last_settled items s c n) items) s c ≡ load r (take (suc n) items) s c
+          at [] is = absurd (let none = ap length is in omega (arith, le, none))
+          at (x ∷ xs) is =
+              let lt : n < length items = omega (arith, le) in
+              let off : load_by r s c (get_or items n x) ≡ 0 =
+              ap (λ (b : Bool). if b then share_at r (get_or items n x).uses (least (act_set (get_or items n x).on s)) else 0)
+              (sym (passes_within (settled_at s c) items n x lt) ∙ e) in
+              let more = sum_more (load_by r s c) items n x lt in
+              omega (arith, rest, more, off)
+
+  -- what is taken up to an item that is settled here
+  pub load_step : (r : Resource) (j : ℕ) (d : Item) → j < length items → suc j ≡ last_settled items s c (suc j)
+      → load r (take (suc j) items) s c ≡ load r (take (last_settled items s c j) items) s c
+      + share_at r (get_or items j d).uses (least (act_set (get_or items j d).on s))
+  load_step r j d lt own = (
+      let more = sum_more (load_by r s c) items j d lt in
+      let here = settled_load r j d lt (last_here j own) in
+      let rest = load_last r j (omega (arith, lt)) in
+      omega (arith, more, here, rest))
+
+-- what stands at a cycle is no mark
+pub head_unmarked : (items : List Item) (s : Sets) (c n : ℕ) (cycles : List ℕ) → get_or cycles c 0 ≡ last_settled items s c n → n ≤ 2 ^ 32 - 2
+    → is_unmarked cycles c ≡ true
+head_unmarked items s c n cycles head small =
+    let le = last_le items s c n in
+    let less : get_or cycles c 0 ≤ 2 ^ 32 - 2 = omega (arith, head, le, small) in
+    let no : nat_eq (get_or cycles c 0) (2 ^ 32 - 1) ≡ false = grind (arith, nat_tests, less) in
+    ap not no
+
+-- One item more
+
+-- where an item is not settled in a cycle before the horizon, nothing changes
+pub listed_skip : (items : List Item) (horizon j : ℕ) (s : Sets) (cycles before : List ℕ) → Listed items horizon j s cycles before
+    → ((c : ℕ) → c < horizon → passes_at (settled_at s c) items j ≡ false) → Listed items horizon (suc j) s cycles before
+listed_skip items horizon j s cycles before h off = record {
+  heads = λ c lt. h.heads c lt ∙ sym (ap (λ (b : Bool). if b then suc j else last_settled items s c j) (off c lt));
+  nexts = λ c lt k less here. elim (cases k less) [
+    | inl below ↦ h.nexts c lt k below here
+    | inr is ↦ absurd (let on : true ≡ false = sym here ∙ (ap (passes_at (settled_at s c) items) is ∙ off c lt) in cc on)
+  ];
+}
+  where
+    cases : (k : ℕ) → k < suc j → (k < j) ⊎ (k ≡ j)
+    cases k less = grind (arith, less)
+
+-- where it is settled in cycle c, it becomes the last there
+pub listed_link : (items : List Item) (horizon j c : ℕ) (s : Sets) (cycles before cycles' before' : List ℕ) → Listed items horizon j s cycles before
+    → c < horizon → ((e : ℕ) → e < horizon → passes_at (settled_at s e) items j ≡ nat_eq c e)
+    → get_or cycles' c 0 ≡ suc j → ((e : ℕ) → e ≢ c → get_or cycles' e 0 ≡ get_or cycles e 0)
+    → get_or before' j 0 ≡ get_or cycles c 0 → ((k : ℕ) → k ≢ j → get_or before' k 0 ≡ get_or before k 0)
+    → Listed items horizon (suc j) s cycles' before'
+listed_link items horizon j c s cycles before cycles' before' h early on head rest next others = record {
+  heads = λ e lt. elim (same c e) [
+    | inl is ↦ subst (λ (n : ℕ). get_or cycles' n 0 ≡ last_settled items s n (suc j)) is
+        (head ∙ sym (ap (λ (b : Bool). if b then suc j else last_settled items s c j) (on c early ∙ yes_same c)))
+    | inr ne ↦ rest e (λ is. ne (sym is)) ∙ (h.heads e lt ∙ sym (ap (λ (b : Bool). if b then suc j else last_settled items s e j) (on e lt ∙ not_same c e ne)))
+  ];
+  nexts = λ e lt k less here. elim (cases k less) [
+    | inl below ↦ others k (λ is. omega (arith, below, is)) ∙ h.nexts e lt k below here
+    | inr is ↦ (
+        let settled : nat_eq c e ≡ true = sym (on e lt) ∙ (ap (passes_at (settled_at s e) items) (sym is) ∙ here) in
+        let at : c ≡ e = grind (arith, nat_tests, settled) in
+        ap (λ (n : ℕ). get_or before' n 0) is ∙ (next ∙ (ap (λ (n : ℕ). get_or cycles n 0) at ∙ (h.heads e lt ∙ ap (last_settled items s e) (sym is)))))
+  ];
+}
+  where
+    cases : (k : ℕ) → k < suc j → (k < j) ⊎ (k ≡ j)
+    cases k less = grind (arith, less)
+
+    same : (a b : ℕ) → (a ≡ b) ⊎ (a ≢ b)
+    same a b = grind arith
+
+    yes_same : (a : ℕ) → nat_eq a a ≡ true
+    yes_same a = grind (arith, nat_tests)
+
+    not_same : (a b : ℕ) → a ≢ b → nat_eq a b ≡ false
+    not_same a b ne = grind (arith, nat_tests, ne)
+
+-- whether an item is settled in a cycle, by whether it is settled and its least cycle
+pub settled_is : (s : Sets) (c : ℕ) (i : Item) → is_settled s i ≡ true → settled_at s c i ≡ nat_eq (least (set_at s i.at.0)) c
+settled_is s c i e = ap (λ (b : Bool). b && nat_eq (least (set_at s i.at.0)) c) e
+
+pub settled_not : (s : Sets) (c : ℕ) (i : Item) → is_settled s i ≡ false → settled_at s c i ≡ false
+settled_not s c i e = ap (λ (b : Bool). b && nat_eq (least (set_at s i.at.0)) c) e

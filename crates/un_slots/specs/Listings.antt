@@ -1,0 +1,34 @@
+-- Lists of the settled items of each cycle: the last one of a cycle stands at the cycle, and the one before it at each item. Each
+-- place is given as one more than it is, and 0 is the end.
+use Rattle.std.specs.Prelude.{ℕ, zero, suc, ◌≡◌, ◌<◌, ◌-◌, ◌^◌, Bool, true, not, ◌&&◌, if◌then◌else◌, List, length, min, nat_eq, nat_lt, slice_index}
+use Rattle.un_domains.specs.Sets.{Sets}
+use Rattle.un_prop.specs.Choices.{passes_at}
+use Rattle.un_slots.specs.declared.item.Item.{Item}
+use Rattle.un_slots.specs.Loads.{settled_at}
+
+-- the last of the first n items that is settled in cycle c
+abbrev pub last_settled : List Item → Sets → ℕ → ℕ → ℕ
+last_settled items s c zero = 0
+last_settled items s c (suc n) = if passes_at (settled_at s c) items n then suc n else last_settled items s c n
+
+-- before each of the first n items that is settled in cycle c stands the one before it
+abbrev pub Chained : List Item → ℕ → Sets → ℕ → List ℕ → Type 0
+Chained items n s c before =
+    (j : ℕ) → j < n → passes_at (settled_at s c) items j ≡ true → slice_index before j ≡ last_settled items s c j
+
+-- the first n items are listed
+pub record Listed (items : List Item) (horizon n : ℕ) (s : Sets) (cycles before : List ℕ) : Type 0 where
+  pub heads : (c : ℕ) → c < horizon → slice_index cycles c ≡ last_settled items s c n
+  pub nexts : (c : ℕ) → c < horizon → Chained items n s c before
+
+-- how many items can be listed in so many numbers
+abbrev pub listable : List Item → List ℕ → ℕ
+listable items before = min (min (length items) (length before)) (2 ^ 32 - 2)
+
+-- a cycle has no mark
+abbrev pub is_unmarked : List ℕ → ℕ → Bool
+is_unmarked marks c = not (nat_eq (slice_index marks c) (2 ^ 32 - 1))
+
+-- a cycle is before the horizon and has no mark
+abbrev pub is_left : List ℕ → ℕ → ℕ → Bool
+is_left marks horizon c = nat_lt c horizon && is_unmarked marks c

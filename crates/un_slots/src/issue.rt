@@ -1,0 +1,168 @@
+//! Whether an item can issue in a cycle beside the settled ones.
+
+ghost use Rattle.std.specs.Prelude.{◌≡◌, ◌<◌, ◌≤◌, ◌≢◌, ◌&&◌, ℕ, Some, false, length, nat_lt, slice_index, true};
+ghost use Rattle.std.specs.List.{list_any, slice_get};
+ghost use Rattle.un_domains.specs.Sets.{NoneEmpty, has, set_at};
+ghost use Rattle.un_prop.specs.Acts.{act_vars};
+ghost use Rattle.un_prop.specs.Looks.{act_set};
+ghost use Rattle.un_prop.specs.Rounds.{HasVars};
+ghost use Rattle.un_slots.specs.declared.item.Resource.{Resource};
+ghost use Rattle.un_slots.specs.Slots.{SlotVars, ItemVars};
+ghost use Rattle.un_slots.specs.Loads.{fits_beside, others, can_issue};
+ghost use Rattle.un_slots.specs.Amounts.{IsLoad};
+ghost use Rattle.un_slots.specs.Listings.{last_settled, Chained, Listed, listable, is_unmarked, is_left};
+
+use crate::item::Item;
+use crate::listing::load_at;
+use crate::load::{Load, is_settled, is_within, least_number, take};
+use un_base::ids::VarId;
+use un_domains::window::Window;
+use un_prop::act::Act;
+use un_prop::propagator::Scratch;
+
+/// What stands in `Scratch.cycles` at a cycle that is to go.
+pub(crate) const MARK: u32 = 0xFFFF_FFFF;
+
+/// Whether number `n` has needs, and they fit beside what is taken.
+fn fits(item: &Item, load: Load, n: u32) -> bool
+    ensures { (f : Resource → ℕ) → IsLoad load f → result ≡ fits_beside f item.now n }
+{
+    if n as usize >= item.uses.len() {
+        return false;
+    }
+    is_within(take(load, item.uses.as_slice(), n))
+}
+
+/// Whether some number that `v` has left fits beside what is taken.
+fn fits_left(w: &Window<'_>, item: &Item, v: VarId, load: Load) -> bool
+    requires there { v.0 < length w.now.store.now.sets }
+    requires live { NoneEmpty w.now.store.now.sets }
+    ensures { (f : Resource → ℕ) → IsLoad load f → result ≡ list_any (fits_beside f item.now) (set_at w.now.store.now.sets v.0) }
+{
+    let low = u64::from(w.min(v));
+    let end = u64::from(w.max(v)) + 1;
+    for n in low..end {
+        if w.has(v, n as u32) {
+            if fits(item, load, n as u32) {
+                return true;
+            }
+        }
+    }
+    false
+}
+
+/// Whether some number that an item has left fits beside what is taken.
+fn fits_some(w: &Window<'_>, item: &Item, load: Load) -> bool
+    requires known { HasVars (act_vars item.now.on) w.now.store.now.sets }
+    requires live { NoneEmpty w.now.store.now.sets }
+    ensures { (f : Resource → ℕ) → IsLoad load f → result ≡ list_any (fits_beside f item.now) (act_set item.now.on w.now.store.now.sets) }
+{
+    match item.on {
+        Act::Always => fits(item, load, 1),
+        Act::Var(v) => fits_left(w, item, v, load),
+    }
+}
+
+/// Whether the item at place `k` can issue in cycle `c`, one of its own, beside the others that are settled.
+fn can_issue(
+    items: &[Item],
+    w: &Window<'_>,
+    k: usize,
+    item: &Item,
+    c: u32,
+    scratch: &Scratch,
+) -> bool
+    requires item { slice_get items.now k ≡ Some item.now }
+    requires vars { SlotVars w.now.vars.now items.now }
+    requires of_item { ItemVars w.now.vars.now item.now }
+    requires known { HasVars w.now.vars.now w.now.store.now.sets }
+    requires live { NoneEmpty w.now.store.now.sets }
+    requires its_own { has (set_at w.now.store.now.sets item.now.at.0) c ≡ true }
+    requires span { c < length scratch.now.cycles.items }
+    requires head { slice_index scratch.now.cycles.items c ≡ last_settled items.now w.now.store.now.sets c (listable items.now scratch.now.fixed.items) }
+    requires nexts { Chained items.now (listable items.now scratch.now.fixed.items) w.now.store.now.sets c scratch.now.fixed.items }
+    ensures { result ≡ can_issue (others k items.now) item.now w.now.store.now.sets c }
+{
+    let load = load_at(
+        items,
+        w,
+        c,
+        scratch.cycles.as_slice(),
+        scratch.fixed.as_slice(),
+    );
+    if is_settled(w, item) {
+        if least_number(w, item.on) as usize >= item.uses.len() {
+            return false;
+        }
+        is_within(load)
+    } else {
+        fits_some(w, item, load)
+    }
+}
+
+/// Marks cycle `c`, where it is one of the item's and the item can't issue in it; whether it is marked.
+fn mark_at(
+    items: &[Item],
+    w: &Window<'_>,
+    k: usize,
+    item: &Item,
+    c: u32,
+    scratch: &mut Scratch,
+) -> bool
+    requires item { slice_get items.now k ≡ Some item.now }
+    requires vars { SlotVars w.now.vars.now items.now }
+    requires of_item { ItemVars w.now.vars.now item.now }
+    requires known { HasVars w.now.vars.now w.now.store.now.sets }
+    requires live { NoneEmpty w.now.store.now.sets }
+    requires span { c < length scratch.old.cycles.items }
+    requires head { slice_index scratch.old.cycles.items c ≡ last_settled items.now w.now.store.now.sets c (listable items.now scratch.old.fixed.items) }
+    requires nexts { Chained items.now (listable items.now scratch.old.fixed.items) w.now.store.now.sets c scratch.old.fixed.items }
+    ensures here { has (set_at w.now.store.now.sets item.now.at.0) c ≡ true → is_unmarked scratch.new.cycles.items c ≡ can_issue (others k items.now) item.now w.now.store.now.sets c }
+    ensures elsewhere { (e : ℕ) → e ≢ c → slice_index scratch.new.cycles.items e ≡ slice_index scratch.old.cycles.items e }
+    ensures none { result ≡ false → has (set_at w.now.store.now.sets item.now.at.0) c ≡ true → can_issue (others k items.now) item.now w.now.store.now.sets c ≡ true }
+    ensures same { result ≡ false → scratch.new.cycles.items ≡ scratch.old.cycles.items }
+    ensures fixed { scratch.new.fixed.items ≡ scratch.old.fixed.items }
+    ensures cycles { length scratch.new.cycles.items ≡ length scratch.old.cycles.items }
+{
+    if !w.has(item.at, c) {
+        return false;
+    }
+    if can_issue(items, w, k, item, c, scratch) {
+        return false;
+    }
+    scratch.cycles[c as usize] = MARK;
+    true
+}
+
+/// Marks each cycle of an item before the horizon in which it can't issue; whether there is one, or one at or past the horizon.
+pub(crate) fn mark(
+    items: &[Item],
+    horizon: u32,
+    w: &Window<'_>,
+    k: usize,
+    item: &Item,
+    scratch: &mut Scratch,
+) -> bool
+    requires item { slice_get items.now k ≡ Some item.now }
+    requires vars { SlotVars w.now.vars.now items.now }
+    requires of_item { ItemVars w.now.vars.now item.now }
+    requires known { HasVars w.now.vars.now w.now.store.now.sets }
+    requires live { NoneEmpty w.now.store.now.sets }
+    requires span { horizon ≤ length scratch.old.cycles.items }
+    requires listed { Listed items.now horizon (listable items.now scratch.old.fixed.items) w.now.store.now.sets scratch.old.cycles.items scratch.old.fixed.items }
+    ensures marks { (c : ℕ) → has (set_at w.now.store.now.sets item.now.at.0) c ≡ true → is_left scratch.new.cycles.items horizon c ≡ (nat_lt c horizon && can_issue (others k items.now) item.now w.now.store.now.sets c) }
+    ensures none { result ≡ false → (c : ℕ) → has (set_at w.now.store.now.sets item.now.at.0) c ≡ true → (nat_lt c horizon && can_issue (others k items.now) item.now w.now.store.now.sets c) ≡ true }
+    ensures same { result ≡ false → scratch.new.cycles.items ≡ scratch.old.cycles.items }
+    ensures fixed { scratch.new.fixed.items ≡ scratch.old.fixed.items }
+    ensures cycles { length scratch.new.cycles.items ≡ length scratch.old.cycles.items }
+{
+    let low = w.min(item.at);
+    let high = w.max(item.at);
+    let end = horizon.min(high.saturating_add(1));
+    let mut any = high >= horizon;
+    for c in low..end {
+        let here = mark_at(items, w, k, item, c, scratch);
+        any = any || here;
+    }
+    any
+}
