@@ -13,3 +13,4 @@ pub mod Cycles
 pub mod Latencies
 pub mod Limits
 pub mod OfPlaces
+pub mod Regions
