@@ -19,6 +19,13 @@ use Rattle.un_alt.specs.Spaces.{spaces_holds}
 use Rattle.un_alt.specs.Same.{same_holds}
 use Rattle.un_alt.specs.Home.{home_holds}
 use Rattle.un_alt.specs.Frame.{frame_holds}
+use Rattle.un_prop.specs.declared.act.Temp.{Temp}
+use Rattle.un_rect.specs.Apart.{apart_holds}
+use Rattle.un_rect.specs.Clobber.{clobber_holds}
+use Rattle.un_rect.specs.Operands.{Side, operands_holds}
+use Rattle.un_rect.specs.declared.clobber.ClobberCall.{ClobberCall}
+use Rattle.un_slots.specs.Slots.{per_cycle_holds}
+use Rattle.un_slots.specs.declared.item.Item.{Item}
 
 pub data Constraint : Type 0 where
   Before : At → Act → At → Act → ℕ → Constraint
@@ -32,6 +39,10 @@ pub data Constraint : Type 0 where
   Same : VarId → List VarId → VarId → Constraint
   Home : Option VarId → List VarId → ℕ → Constraint
   Frame : VarId → List VarId → List VarId → FrameOp → List FrameUse → List FrameLeave → Constraint
+  Apart : List Temp → Constraint
+  Clobber : ℕ → Temp → List ClobberCall → Constraint
+  Operands : Side → Side → Constraint
+  PerCycle : List Item → ℕ → Constraint
 
 -- whether an assignment meets it
 abbrev pub meets : Constraint → List ℕ → Bool
@@ -46,6 +57,10 @@ meets (Spaces on choice regs sets) x = spaces_holds on choice regs sets x
 meets (Same choice regs to) x = same_holds choice regs to x
 meets (Home choice regs home) x = home_holds choice regs home x
 meets (Frame flag touch ins enter entry leaves) x = frame_holds flag touch ins enter entry leaves x
+meets (Apart temps) x = apart_holds temps x
+meets (Clobber mask temp calls) x = clobber_holds mask temp calls x
+meets (Operands a b) x = operands_holds a b x
+meets (PerCycle items horizon) x = per_cycle_holds items horizon x
 
 -- it meets all of them
 abbrev pub AllMet : List Constraint → List ℕ → Type 0
