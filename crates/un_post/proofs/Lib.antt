@@ -14,3 +14,5 @@ pub mod Latencies
 pub mod Limits
 pub mod OfPlaces
 pub mod Regions
+pub mod Appends
+pub mod Rising

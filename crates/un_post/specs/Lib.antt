@@ -2,3 +2,4 @@ pub mod Constraints
 pub mod Places
 pub mod Postings
 pub mod AnyProps
+pub mod Scopes
