@@ -16,3 +16,4 @@ pub mod OfPlaces
 pub mod Regions
 pub mod Appends
 pub mod Rising
+pub mod Scoped

@@ -2,4 +2,5 @@
 #![tactic(auto)]
 
 pub mod any;
+pub mod make_prec;
 pub mod vars;
