@@ -3,3 +3,4 @@ pub mod Places
 pub mod Postings
 pub mod AnyProps
 pub mod Scopes
+pub mod Sites

@@ -2,5 +2,9 @@
 #![tactic(auto)]
 
 pub mod any;
+pub mod make_alt;
 pub mod make_prec;
+pub mod make_rect;
+pub mod props;
+pub mod sites;
 pub mod vars;
