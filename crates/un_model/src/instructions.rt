@@ -46,7 +46,7 @@ fn frame_instruction(op: Op, n: u32) -> Option<Op>
 
 /// The instruction that an operation issues, whose variable of the instruction has the value `n`: None at the bounds of a
 /// block and where it is inactive.
-pub(crate) fn instruction(kind: &ExtKind, n: u32) -> Option<Op>
+pub fn instruction(kind: &ExtKind, n: u32) -> Option<Op>
     ensures { result ≡ instruction_of kind.now n }
 {
     match kind {
@@ -60,7 +60,7 @@ pub(crate) fn instruction(kind: &ExtKind, n: u32) -> Option<Op>
 }
 
 /// The latency of an instruction, and 1 for the values at a block's start.
-pub(crate) fn latency(t: &Table, op: Option<Op>) -> u32
+pub fn latency(t: &Table, op: Option<Op>) -> u32
     ensures { result ≡ latency_by t.now op }
 {
     match op {
@@ -70,7 +70,7 @@ pub(crate) fn latency(t: &Table, op: Option<Op>) -> u32
 }
 
 /// How many instructions an operation is.
-pub(crate) fn width(op: Option<Op>) -> u32
+pub fn width(op: Option<Op>) -> u32
     ensures { result ≡ width_by op }
 {
     match op {
@@ -80,7 +80,7 @@ pub(crate) fn width(op: Option<Op>) -> u32
 }
 
 /// What an instruction needs of a packet.
-pub(crate) fn needs(t: &Table, op: Option<Op>) -> Needs
+pub fn needs(t: &Table, op: Option<Op>) -> Needs
     ensures { result ≡ needs_by t.now op }
 {
     match op {
@@ -112,7 +112,7 @@ pub(crate) fn gives_truth(op: Op) -> bool
 }
 
 /// The space that an instruction asks of its operand at place `j`; None where it may be in any.
-pub(crate) fn space_read(instruction: Option<Op>, j: u32) -> Option<Space>
+pub fn space_read(instruction: Option<Op>, j: u32) -> Option<Space>
     ensures { result ≡ space_read instruction j }
 {
     match instruction {
@@ -123,7 +123,7 @@ pub(crate) fn space_read(instruction: Option<Op>, j: u32) -> Option<Space>
 }
 
 /// The space that an instruction asks of its result; None where it may be in any.
-pub(crate) fn space_given(instruction: Option<Op>) -> Option<Space>
+pub fn space_given(instruction: Option<Op>) -> Option<Space>
     ensures { result ≡ space_given instruction }
 {
     match instruction {

@@ -17,3 +17,4 @@ pub mod Regions
 pub mod Appends
 pub mod Rising
 pub mod Scoped
+pub mod Parts

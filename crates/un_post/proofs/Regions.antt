@@ -149,7 +149,7 @@ ended t names blocks r good =
       inner = (
         in_stays start.kind h.start,
         each_join Stays p.inner (ending ++ p.late) (all_stay is_inner inner_stays p.inner h.inner)
-        (each_join Stays ending p.late (all_stay is_end end_stays ending h.ending) (all_stay is_copy copy_stays p.late h.late)),
+            (each_join Stays ending p.late (all_stay is_end end_stays ending h.ending) (all_stay is_copy copy_stays p.late h.late)),
       );
       is_end = out_is last.kind h.out;
     }

@@ -71,11 +71,7 @@ fn zeros_vars(
 }
 
 /// An optional operation that has only zeros where it is not active.
-pub fn make_zeros(
-    alloc: Global,
-    instr: VarId,
-    others: Items<VarId>,
-) -> Result<AnyProp, NoMemory>
+pub fn make_zeros(alloc: Global, instr: VarId, others: Items<VarId>) -> Result<AnyProp, NoMemory>
     ensures { IfOk result (Makes (constraint.Zeros instr others)) }
 {
     let vars = zeros_vars(alloc, instr, &others)?;

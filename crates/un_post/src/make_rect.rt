@@ -131,11 +131,7 @@ fn slot_vars(alloc: Global, items: &Items<Item>) -> Result<Items<VarId>, AllocEr
 }
 
 /// Operations that take no more of each resource in a cycle than a packet has.
-pub fn make_per_cycle(
-    alloc: Global,
-    items: Items<Item>,
-    horizon: u32,
-) -> Result<AnyProp, NoMemory>
+pub fn make_per_cycle(alloc: Global, items: Items<Item>, horizon: u32) -> Result<AnyProp, NoMemory>
     ensures { IfOk result (Makes (constraint.PerCycle items horizon)) }
 {
     let vars = slot_vars(alloc, &items)?;
