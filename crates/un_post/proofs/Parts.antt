@@ -1,5 +1,7 @@
 -- Lists of an operation's variables, and what is posted of them.
-use Rattle.std.proofs.Common.{ℕ, ◌≡◌, Bool, true, false, List, [], ◌∷◌, ◌++◌, Option, None, Some, refl, ap}
+use Rattle.std.proofs.Common.{ℕ, ◌≡◌, ◌+◌, Bool, true, false, List, [], ◌∷◌, ◌++◌, map, Option, None, Some, refl, ap, ◌∙◌, arith}
+use Rattle.std.specs.List.{range_with_len}
+use Rattle.std.proofs.lemmas.List.FromFn.{map-range_with_len_more}
 use Rattle.std.specs.Option.{option_to_list}
 use Rattle.un_base.specs.declared.ids.VarId.{VarId}
 use Rattle.un_ir.specs.declared.function.Term.TheVariants.{Fall, Jump, Branch, Ret}
@@ -12,6 +14,7 @@ use Rattle.un_post.specs.Constraints.{Constraint, Before, Zeros}
 use Rattle.un_post.specs.Postings.{zeros_by}
 use Rattle.un_post.specs.Scopes.{vars_in, own_var}
 use Rattle.un_post.specs.Sites.{is_fall}
+use Rattle.un_post.proofs.Appends.{three_added}
 
 pub own_vars : (vs : List VarId) → vars_in own_var vs ≡ vs
 own_vars [] = refl
@@ -85,3 +88,16 @@ zeros_other Enter None (Some at) others h = refl
 zeros_other Enter (Some v) (Some at) others h = refl
 zeros_other Leave None (Some at) others h = refl
 zeros_other Leave (Some v) (Some at) others h = refl
+
+-- the variables of an optional operation but that of its instruction
+pub idle_vars : (cycle : Option VarId) (choices regs a b new : List VarId) → a ≡ choice_vars cycle → b ≡ a ++ vars_in own_var choices
+    → new ≡ b ++ regs → new ≡ option_to_list cycle ++ (choices ++ regs)
+idle_vars cycle choices regs a b new h k l =
+    three_added [] a b new (choice_vars cycle) (vars_in own_var choices) regs h k l
+    ∙ ap (λ xs. xs ++ (vars_in own_var choices ++ regs)) (option_vars cycle) ∙ ap (λ ys. option_to_list cycle ++ (ys ++ regs)) (own_vars choices)
+
+-- ---- numbers
+
+pub range_added : {A : Type 0} (f : ℕ → A) (made next : List A) (y : A) (n : ℕ) → made ≡ map f (range_with_len 0 n) → y ≡ f n
+    → next ≡ made ++ y ∷ [] → next ≡ map f (range_with_len 0 (n + 1))
+range_added f made next y n h e g = rw (g, h, e, map-range_with_len_more f 0 n n (omega arith)) refl

@@ -1,0 +1,8 @@
+use Rattle.std.proofs.Common.{◌∙◌, ap}
+use Rattle.un_post.proofs.Parts.{idle_vars}
+use Rattle.un_post.proofs.post_own.idle_vars.Goals as goal
+
+pub returns : goal.returns
+returns c =
+    c.from_vec.ensures ∙ idle_vars c.args.p.now.vars.now.cycle c.args.p.now.vars.now.choices _ _ _ _
+    c.in_ok-add_to.ensures c.in_ok-add_to-2.ensures c.in_ok-add_registers.ensures
