@@ -18,3 +18,4 @@ pub mod Appends
 pub mod Rising
 pub mod Scoped
 pub mod Parts
+pub mod Tabled
