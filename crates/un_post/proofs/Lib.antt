@@ -14,6 +14,14 @@ pub mod Latencies
 pub mod Limits
 pub mod OfPlaces
 pub mod Regions
+pub mod Ends
+pub mod Congruences
+pub mod OneEnter
+pub mod FrameTags
+pub mod FrameOrder
+pub mod FrameTests
+pub mod Frames
+pub mod Posted
 pub mod Appends
 pub mod Rising
 pub mod Scoped
