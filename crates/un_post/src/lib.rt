@@ -8,6 +8,7 @@ pub mod make_rect;
 mod numbers;
 pub mod post_limit;
 pub mod post_own;
+pub mod post_packets;
 pub mod post_places;
 pub mod post_reads;
 pub mod post_spaces;
