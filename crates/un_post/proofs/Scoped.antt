@@ -60,7 +60,8 @@ none vs = All-nil (λ u. among vs u ≡ true)
 
 each : {A : Type 0} (f : A → List VarId) (vs : List VarId) (xs : List A) → AllAmong vs (vars_in f xs) → All (λ x. AllAmong vs (f x)) xs
 each f vs [] h = All-nil (λ x. AllAmong vs (f x))
-each f vs (x ∷ xs) h = All-cons (λ y. AllAmong vs (f y)) x xs (left vs (f x) (vars_in f xs) h) (each f vs xs (right vs (f x) (vars_in f xs) h))
+each f vs (x ∷ xs) h = All-cons (λ y. AllAmong vs (f y)) x xs (left vs (f x) (vars_in f xs) h)
+    (each f vs xs (right vs (f x) (vars_in f xs) h))
 
 owns : (vs xs : List VarId) → AllAmong vs (vars_in own_var xs) → AllAmong vs xs
 owns vs xs h i d lt = one vs (get_or xs i d) (each own_var vs xs h i d lt)

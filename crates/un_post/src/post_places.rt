@@ -44,7 +44,8 @@ fn post_read(
 ) -> Result<(), NoMemory>
     ensures { OnOk result (let choice = slice_get p.now.vars.now.choices j in let ds = definers_in alts.now in props.new ≡ props.old
         ++ (chosen_by (act_of (place_of p.now)) choice ds ++ (waits_by t.now (place_of p.now) choice ds
-        ++ (space_by slots p.now.it.now.kind (act_of (place_of p.now)) j choice (registers_of ds) ++ home_by choice (registers_of ds) home)))) }
+        ++ (space_by slots p.now.it.now.kind (act_of (place_of p.now)) j choice (registers_of ds)
+        ++ home_by choice (registers_of ds) home)))) }
 {
     let on = p.act();
     let choice = choice_at(p.vars.choices.as_slice(), j);
