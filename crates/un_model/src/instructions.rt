@@ -62,7 +62,7 @@ pub fn instruction(kind: &ExtKind, n: u32) -> Option<Op>
 }
 
 /// The latency of an instruction, and 1 for the values at a block's start.
-pub(crate) fn latency(t: &Table, op: Option<Op>) -> u32
+pub fn latency(t: &Table, op: Option<Op>) -> u32
     ensures { result ≡ latency_by t.now op }
 {
     match op {
@@ -72,7 +72,7 @@ pub(crate) fn latency(t: &Table, op: Option<Op>) -> u32
 }
 
 /// How many instructions an operation is.
-pub(crate) fn width(op: Option<Op>) -> u32
+pub fn width(op: Option<Op>) -> u32
     ensures { result ≡ width_by op }
 {
     match op {
@@ -82,7 +82,7 @@ pub(crate) fn width(op: Option<Op>) -> u32
 }
 
 /// What an instruction needs of a packet.
-pub(crate) fn needs(t: &Table, op: Option<Op>) -> Needs
+pub fn needs(t: &Table, op: Option<Op>) -> Needs
     ensures { result ≡ needs_by t.now op }
 {
     match op {
@@ -114,7 +114,7 @@ pub(crate) fn gives_truth(op: Op) -> bool
 }
 
 /// The space that an instruction asks of its operand at place `j`; None where it may be in any.
-pub(crate) fn space_read(instruction: Option<Op>, j: u32) -> Option<Space>
+pub fn space_read(instruction: Option<Op>, j: u32) -> Option<Space>
     ensures { result ≡ space_read instruction j }
 {
     match instruction {
@@ -125,7 +125,7 @@ pub(crate) fn space_read(instruction: Option<Op>, j: u32) -> Option<Space>
 }
 
 /// The space that an instruction asks of its result; None where it may be in any.
-pub(crate) fn space_given(instruction: Option<Op>) -> Option<Space>
+pub fn space_given(instruction: Option<Op>) -> Option<Space>
     ensures { result ≡ space_given instruction }
 {
     match instruction {

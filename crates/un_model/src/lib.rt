@@ -11,7 +11,7 @@ mod frame;
 mod homes;
 pub mod instructions;
 pub mod model;
-mod numbers;
+pub mod numbers;
 mod occupations;
 pub mod packets;
 pub mod placement;

@@ -5,7 +5,7 @@ ghost use Rattle.std.specs.Prelude.{◌≡◌, ◌+◌, IfOk};
 use un_base::memory_error::NoMemory;
 
 /// The number of a thing.
-pub(crate) fn number(n: usize) -> Result<u32, NoMemory>
+pub fn number(n: usize) -> Result<u32, NoMemory>
     ensures { IfOk result (λ k. k ≡ n) }
 {
     match u32::try_from(n) {
@@ -15,7 +15,7 @@ pub(crate) fn number(n: usize) -> Result<u32, NoMemory>
 }
 
 /// The number that stands so many places after `n`.
-pub(crate) fn advance(n: u32, count: usize) -> Result<u32, NoMemory>
+pub fn advance(n: u32, count: usize) -> Result<u32, NoMemory>
     ensures { IfOk result (λ k. k ≡ n + count) }
 {
     let more = number(count)?;

@@ -1,3 +1,4 @@
+pub mod Appends
 pub mod BlockTemps
 pub mod Blocks
 pub mod CallOrder
@@ -23,15 +24,19 @@ pub mod OfPlaces
 pub mod OfRooms
 pub mod OneEnter
 pub mod Packets
+pub mod Parts
 pub mod Placing
 pub mod Posted
 pub mod Regions
 pub mod RegisterBounds
 pub mod Relaxed
+pub mod Rising
+pub mod Scoped
 pub mod Solved
 pub mod SpaceSets
 pub mod Spaces
 pub mod Spared
+pub mod Tabled
 pub mod Tests
 pub mod TwoOperands
 pub mod Users

@@ -1,6 +1,9 @@
+pub mod AnyProps
 pub mod Befores
 pub mod Constraints
 pub mod Places
 pub mod Postings
 pub mod Rooms
+pub mod Scopes
+pub mod Sites
 pub mod Strength

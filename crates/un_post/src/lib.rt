@@ -1,2 +1,18 @@
 //! What is posted for a model: the propagators that hold exactly at its solutions.
 #![tactic(auto)]
+
+pub mod any;
+pub mod make_alt;
+pub mod make_prec;
+pub mod make_rect;
+mod numbers;
+pub mod post_limit;
+pub mod post_own;
+pub mod post_packets;
+pub mod post_places;
+pub mod post_reads;
+pub mod post_spaces;
+pub mod props;
+pub mod sites;
+pub mod tables;
+pub mod vars;
