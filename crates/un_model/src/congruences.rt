@@ -30,7 +30,7 @@ fn own_term(kind: &ExtKind) -> Option<Term>
 }
 
 /// The terminator of a block with these operations.
-fn term(ops: &Items<ExtOp>) -> Term
+pub fn term(ops: &Items<ExtOp>) -> Term
     ensures { result ≡ term_of ops.now }
 {
     for k in 0..ops.len() {
@@ -52,7 +52,7 @@ fn is_start(kind: &ExtKind) -> bool
 }
 
 /// The live-in temporaries of a block with these operations.
-fn live_in_temps(ops: &Items<ExtOp>) -> &[TempId]
+pub fn live_in_temps(ops: &Items<ExtOp>) -> &[TempId]
     ensures { result.now ≡ live_in_temps ops.now }
 {
     for k in 0..ops.len() {
@@ -77,7 +77,7 @@ fn position(names: &[NameId], name: NameId) -> usize
 }
 
 /// The place among what block `a` hands over of what block `b` takes at place `j`.
-fn place(a: &ExtBlock, b: &ExtBlock, j: usize) -> usize
+pub fn place(a: &ExtBlock, b: &ExtBlock, j: usize) -> usize
     requires { j < 2 ^ 62 }
     ensures { result ≡ place_over a.now b.now j }
 {

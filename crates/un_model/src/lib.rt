@@ -4,7 +4,7 @@
 mod arcs;
 pub mod build;
 mod clauses;
-mod congruences;
+pub mod congruences;
 pub mod cost;
 mod distances;
 mod frame;
