@@ -1,5 +1,5 @@
 -- The extended function of every function keeps what extended functions keep, and the blocks of its model are short.
-use Rattle.std.proofs.Common.{◌≤◌, sym, subst, arith}
+use Rattle.std.proofs.Common.{sym, subst, arith}
 use Rattle.std.specs.Prelude.{All}
 use Rattle.un_ir.specs.declared.extended.Ext.{Ext}
 use Rattle.un_ir.specs.declared.function.Function.{Function}
