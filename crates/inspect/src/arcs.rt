@@ -1,7 +1,14 @@
-//! The precedences of a model as text.
+//! The precedences of a model as text, and the bound that they give.
+
+ghost use Rattle.std.specs.Prelude.{All};
+ghost use Rattle.un_bound.specs.Arcs.{IsShort};
+ghost use Rattle.un_ir.specs.Extended.{IsExtended};
+ghost use Rattle.un_isa.specs.Fit.{IsFit};
+ghost use Rattle.un_model.specs.Variables.{IsModel};
 
 use std::alloc::Global;
 use un_base::memory_error::NoMemory;
+use un_bound::plain::plain_bound;
 use un_ir::text::{put_number, put_text};
 use un_model::model::{Arc, Model};
 use un_parts::pieces::put_op;
@@ -25,11 +32,29 @@ fn put_arcs(out: &mut Vec<u8>, arcs: &[Arc]) -> Result<(), NoMemory> {
     Ok(())
 }
 
-/// A line for each precedence, block by block.
-pub fn arcs_text(alloc: Global, m: &Model) -> Result<Vec<u8>, NoMemory> {
+/// Appends the line of what every solution costs at least, by precedences and counts of resources alone.
+fn put_bound(out: &mut Vec<u8>, m: &Model) -> Result<(), NoMemory>
+    requires model { IsModel m.now }
+    requires extended { IsExtended m.now.ext }
+    requires fit { IsFit m.now.ext.table }
+    requires short { All IsShort m.now.ext.blocks }
+{
+    put_text(out, b"bound ")?;
+    put_number(out, plain_bound(m))?;
+    put_text(out, b"\n")
+}
+
+/// A line for each precedence, block by block, and last the bound.
+pub fn arcs_text(alloc: Global, m: &Model) -> Result<Vec<u8>, NoMemory>
+    requires model { IsModel m.now }
+    requires extended { IsExtended m.now.ext }
+    requires fit { IsFit m.now.ext.table }
+    requires short { All IsShort m.now.ext.blocks }
+{
     let mut out = Vec::new(alloc);
     for arcs in m.arcs.as_slice() {
         put_arcs(&mut out, arcs.as_slice())?;
     }
+    put_bound(&mut out, m)?;
     Ok(out)
 }

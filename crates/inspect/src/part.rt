@@ -37,7 +37,7 @@ fn variables(alloc: Global, f: &Function, options: &Options) -> Result<Vec<u8>, 
     variables_text(alloc, &m)
 }
 
-/// The precedences of the model.
+/// The precedences of the model, and the bound that they give.
 fn arcs(alloc: Global, f: &Function, options: &Options) -> Result<Vec<u8>, NoMemory>
     requires { AreOptions options.now }
 {

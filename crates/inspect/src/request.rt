@@ -23,7 +23,7 @@ pub enum Part {
     Violations,
     /// The code of a solution, or the clauses that values break.
     Emit,
-    /// The precedences among the operations that every solution issues.
+    /// The precedences among the operations that every solution issues, and what every solution costs at least by them.
     Arcs,
 }
 
