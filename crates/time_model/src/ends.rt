@@ -7,13 +7,13 @@ ghost use Rattle.un_model.specs.Solutions.{IsSolution};
 ghost use Rattle.un_model.specs.Variables.{IsModel};
 ghost use Rattle.un_problem.specs.Problems.{IsModelOf, default_options};
 
+use crate::problem::default_model;
 use crate::times::{mean, now, write_time};
 use std::alloc::Global;
 use std::time::CpuClock;
 use un_ir::function::Function;
 use un_listing::report::print_first_report;
 use un_model::model::{Model, Solution};
-use un_problem::problem::{default_options, model};
 use un_reader::read::read_function;
 use un_spilled::spilled::spilled;
 use un_top::bound::full_packets;
@@ -83,7 +83,7 @@ fn time_report(
 
 /// The time of the solution, behind that of the model.
 fn time_behind_model(rt: &impl CpuClock, alloc: Global, f: &Function, rounds: u32) -> Option<u64> {
-    let m = model(alloc, f, &default_options()).ok()?;
+    let m = default_model(alloc, f)?;
     time_solution(rt, alloc, f, &m, rounds)
 }
 
@@ -110,7 +110,7 @@ fn time_behind_solution(
     f: &Function,
     rounds: u32,
 ) -> Option<u64> {
-    let m = model(alloc, f, &default_options()).ok()?;
+    let m = default_model(alloc, f)?;
     time_code_of(rt, alloc, f, &m, rounds)
 }
 

@@ -5,6 +5,7 @@
 
 mod ends;
 mod parts;
+mod problem;
 mod times;
 
 use crate::ends::write_ends;

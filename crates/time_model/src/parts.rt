@@ -4,6 +4,7 @@
 ghost use Rattle.un_ir.specs.LinearOf.{AreLive};
 ghost use Rattle.un_model.specs.Variables.{IsModel};
 
+use crate::problem::default_model;
 use crate::times::{mean, now, write_time};
 use std::alloc::Global;
 use std::time::CpuClock;
@@ -16,12 +17,12 @@ use un_lssa::linearize::linearize;
 use un_model::build::build;
 use un_model::model::{Model, Solution};
 use un_model::violations::violations;
-use un_problem::problem::{default_options, extended, model};
+use un_problem::problem::{default_options, extended};
 use un_spilled::spilled::spilled;
 
 /// How many variables the model of a function has.
 pub fn variables(alloc: Global, f: &Function) -> Option<usize> {
-    let m = model(alloc, f, &default_options()).ok()?;
+    let m = default_model(alloc, f)?;
     Some(m.domains.len())
 }
 
@@ -117,7 +118,7 @@ fn time_behind_extended(
 
 /// The time of the clauses that the solution which spills every name breaks, behind that of the model.
 fn time_behind_model(rt: &impl CpuClock, alloc: Global, f: &Function, rounds: u32) -> Option<u64> {
-    let m = model(alloc, f, &default_options()).ok()?;
+    let m = default_model(alloc, f)?;
     let s = spilled(alloc, f, &m).ok()?;
     time_violations(rt, alloc, &m, &s, rounds)
 }
