@@ -5,6 +5,7 @@ pub mod CallOrder
 pub mod Choices
 pub mod Congruences
 pub mod Cycles
+pub mod Edges
 pub mod Ends
 pub mod Exact
 pub mod Facts

@@ -6,6 +6,8 @@ pub mod make_alt;
 pub mod make_prec;
 pub mod make_rect;
 mod numbers;
+pub mod post_edges;
+pub mod post_frame;
 pub mod post_limit;
 pub mod post_own;
 pub mod post_packets;
