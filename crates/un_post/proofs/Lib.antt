@@ -3,6 +3,10 @@ pub mod Blocks
 pub mod Choices
 pub mod Meeting
 pub mod Placing
+pub mod Congruences
+pub mod Cycles
+pub mod Ends
+pub mod Exact
 pub mod Facts
 pub mod Whole
 pub mod Tests
@@ -11,7 +15,6 @@ pub mod SpaceSets
 pub mod RegisterBounds
 pub mod Spaces
 pub mod Zeros
-pub mod Cycles
 pub mod Latencies
 pub mod Limits
 pub mod OfPlaces
@@ -20,12 +23,11 @@ pub mod Appends
 pub mod Rising
 pub mod Scoped
 pub mod Parts
-pub mod Ends
-pub mod Congruences
 pub mod FrameOrder
 pub mod FrameTags
 pub mod FrameTests
 pub mod Frames
+pub mod Memory
 pub mod NoSharing
 pub mod OneEnter
 pub mod Packets

@@ -12,7 +12,7 @@ use Rattle.un_post.specs.Postings.{registers_in}
 use Rattle.un_post.proofs.Tests.{iff_then}
 
 -- a run of numbers has what is between its ends
-has_run : (a n r : ℕ) → ((a ≤ r) × (r < a + n)) ↔ (has (range_with_len a n) r ≡ true)
+pub has_run : (a n r : ℕ) → ((a ≤ r) × (r < a + n)) ↔ (has (range_with_len a n) r ≡ true)
 has_run a zero r = (λ h. let lo = h.0 in let hi = h.1 in absurd (omega arith), λ h. absurd (cc h))
 has_run a (suc n) r = go (has_run (a + 1) n r) (nat_eq r a) refl
   where

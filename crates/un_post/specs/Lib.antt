@@ -1,3 +1,4 @@
+pub mod Befores
 pub mod Constraints
 pub mod Places
 pub mod Postings
