@@ -38,3 +38,4 @@ pub mod Users
 pub mod CallOrder
 pub mod OfRooms
 pub mod Solved
+pub mod Tabled
