@@ -6,6 +6,7 @@ pub mod make_alt;
 pub mod make_prec;
 pub mod make_rect;
 mod numbers;
+pub mod post_arcs;
 pub mod post_limit;
 pub mod post_own;
 pub mod post_places;
