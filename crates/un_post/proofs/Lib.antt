@@ -39,3 +39,4 @@ pub mod CallOrder
 pub mod OfRooms
 pub mod Solved
 pub mod Tabled
+pub mod Pairing

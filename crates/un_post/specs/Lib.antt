@@ -6,3 +6,4 @@ pub mod AnyProps
 pub mod Scopes
 pub mod Sites
 pub mod Rooms
+pub mod Twos
