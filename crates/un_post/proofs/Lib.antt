@@ -40,3 +40,4 @@ pub mod OfRooms
 pub mod Solved
 pub mod Tabled
 pub mod Pairing
+pub mod Marking

@@ -7,3 +7,4 @@ pub mod Scopes
 pub mod Sites
 pub mod Rooms
 pub mod Twos
+pub mod Reach

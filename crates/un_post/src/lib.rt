@@ -2,6 +2,7 @@
 #![tactic(auto)]
 
 pub mod any;
+mod call_sides;
 pub mod make_alt;
 pub mod make_prec;
 pub mod make_rect;
@@ -14,7 +15,9 @@ pub mod post_reads;
 pub mod post_spaces;
 pub mod post_twos;
 pub mod props;
+mod reach;
 pub mod sites;
 mod space_sets;
+mod span;
 pub mod tables;
 pub mod vars;
