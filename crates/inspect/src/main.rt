@@ -3,6 +3,7 @@
 //! word says which part, options of the model may follow.
 #![tactic(auto)]
 
+mod arcs;
 mod domains;
 mod emission;
 mod input;

@@ -2,6 +2,7 @@
 
 ghost use Rattle.un_model.specs.Options.{AreOptions};
 
+use crate::arcs::arcs_text;
 use crate::emission::listing_text;
 use crate::request::{Part, Request};
 use crate::solution::{values_text, verdict_text};
@@ -34,6 +35,14 @@ fn variables(alloc: Global, f: &Function, options: &Options) -> Result<Vec<u8>, 
 {
     let m = model(alloc, f, options)?;
     variables_text(alloc, &m)
+}
+
+/// The precedences of the model.
+fn arcs(alloc: Global, f: &Function, options: &Options) -> Result<Vec<u8>, NoMemory>
+    requires { AreOptions options.now }
+{
+    let m = model(alloc, f, options)?;
+    arcs_text(alloc, &m)
 }
 
 /// The solution that keeps each name in a frame slot.
@@ -85,5 +94,6 @@ pub fn part_text(
         Part::Baseline => baseline(alloc, f),
         Part::Violations => verdict(alloc, f, &asked.options, s),
         Part::Emit => code(alloc, f, &asked.options, s),
+        Part::Arcs => arcs(alloc, f, &asked.options),
     }
 }

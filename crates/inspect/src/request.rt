@@ -23,6 +23,8 @@ pub enum Part {
     Violations,
     /// The code of a solution, or the clauses that values break.
     Emit,
+    /// The precedences among the operations that every solution issues.
+    Arcs,
 }
 
 /// A part under options of the model.
@@ -33,13 +35,14 @@ pub struct Request {
 }
 
 /// The words, and the part that each names.
-static PARTS: [(&[u8], Part); 6] = [
+static PARTS: [(&[u8], Part); 7] = [
     (b"live", Part::Live),
     (b"extended", Part::Extended),
     (b"variables", Part::Variables),
     (b"baseline", Part::Baseline),
     (b"violations", Part::Violations),
     (b"emit", Part::Emit),
+    (b"arcs", Part::Arcs),
 ];
 
 /// The part that a word names.

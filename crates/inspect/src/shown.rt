@@ -46,7 +46,7 @@ fn function(alloc: Global, text: &[u8]) -> Result<Function, Status> {
 fn takes_values(part: Part) -> bool {
     match part {
         Part::Violations | Part::Emit => true,
-        Part::Live | Part::Extended | Part::Variables | Part::Baseline => false,
+        Part::Live | Part::Extended | Part::Variables | Part::Baseline | Part::Arcs => false,
     }
 }
 

@@ -1,3 +1,4 @@
+pub mod BoundRows
 mod ModelRows
 mod RunRows
 mod ScheduleRows

@@ -2,7 +2,11 @@
 #![tactic(auto)]
 
 #[cfg(test)]
+mod bounds;
+#[cfg(test)]
 mod cases;
+#[cfg(test)]
+mod orders;
 #[cfg(test)]
 mod tests;
 #[cfg(test)]

@@ -29,7 +29,7 @@ fn numbers(alloc: Global, text: &str) -> Result<Items<u32>, Fail> {
 }
 
 /// The model of the function that a text is.
-fn model_of(alloc: Global, function: &[u8]) -> Result<Model, Fail>
+pub(crate) fn model_of(alloc: Global, function: &[u8]) -> Result<Model, Fail>
     ensures { IfOk result IsModel }
 {
     let f = read_function(alloc, function)?;

@@ -10,11 +10,15 @@ use Rattle.un_prop.specs.declared.act.Temp.{Temp}
 abbrev pub two_temps : List Temp
 two_temps =
     record {
-      on = ActVar (record { 0 = 1 }); at = Var (record { 0 = 0 }); reg = record { 0 = 2 };
+      on = ActVar (record { 0 = 1 });
+      at = Var (record { 0 = 0 });
+      reg = record { 0 = 2 };
       users = record { on = Always; at = Var (record { 0 = 3 }); choice = None; value = 0 } ∷ [];
     }
     ∷ record {
-      on = ActVar (record { 0 = 5 }); at = Var (record { 0 = 4 }); reg = record { 0 = 6 };
+      on = ActVar (record { 0 = 5 });
+      at = Var (record { 0 = 4 });
+      reg = record { 0 = 6 };
       users = record { on = Always; at = Var (record { 0 = 7 }); choice = None; value = 0 } ∷ [];
     }
     ∷ []
@@ -52,7 +56,9 @@ four_temps =
     ∷ record { on = ActVar (record { 0 = 2 }); at = Var (record { 0 = 3 }); reg = record { 0 = 4 }; users = slot_users }
     ∷ record { on = ActVar (record { 0 = 5 }); at = Var (record { 0 = 6 }); reg = record { 0 = 8 }; users = reload_users }
     ∷ record {
-      on = Always; at = Const 4; reg = record { 0 = 11 };
+      on = Always;
+      at = Const 4;
+      reg = record { 0 = 11 };
       users = record { on = Always; at = Const 7; choice = None; value = 0 } ∷ [];
     }
     ∷ []

@@ -35,7 +35,7 @@ struct Case {
     left: &'static [(u32, u32)],
 }
 
-static CASES: [Case; 28] = [
+static CASES: [Case; 44] = [
     // a range
     Case {
         first: Values::Range(0, 5),
@@ -121,6 +121,48 @@ static CASES: [Case; 28] = [
         answer: Cut::Emptied,
         left: &[],
     },
+    Case {
+        first: Values::Range(0, 0),
+        kept: Kept::AtMost(0),
+        answer: Cut::Same,
+        left: &[(0, 0)],
+    },
+    Case {
+        first: Values::Range(0, 1),
+        kept: Kept::Above(0),
+        answer: Cut::Changed,
+        left: &[(1, 1)],
+    },
+    Case {
+        first: Values::Range(3, 4),
+        kept: Kept::Without(4),
+        answer: Cut::Changed,
+        left: &[(3, 3)],
+    },
+    Case {
+        first: Values::Range(0, 63),
+        kept: Kept::Without(63),
+        answer: Cut::Changed,
+        left: &[(0, 62)],
+    },
+    Case {
+        first: Values::Range(0, 64),
+        kept: Kept::Only(64),
+        answer: Cut::Changed,
+        left: &[(64, 64)],
+    },
+    Case {
+        first: Values::Range(5, 69),
+        kept: Kept::AtMost(68),
+        answer: Cut::Changed,
+        left: &[(5, 68)],
+    },
+    Case {
+        first: Values::Range(60, 70),
+        kept: Kept::Above(64),
+        answer: Cut::Changed,
+        left: &[(65, 70)],
+    },
     // values with gaps
     Case {
         first: Values::Listed(&[1, 5]),
@@ -176,6 +218,48 @@ static CASES: [Case; 28] = [
         answer: Cut::Changed,
         left: &[(0, 0)],
     },
+    Case {
+        first: Values::Listed(&[3]),
+        kept: Kept::Without(3),
+        answer: Cut::Emptied,
+        left: &[],
+    },
+    Case {
+        first: Values::Listed(&[8]),
+        kept: Kept::Only(8),
+        answer: Cut::Same,
+        left: &[(8, 8)],
+    },
+    Case {
+        first: Values::Listed(&[2, 4, 8, 16]),
+        kept: Kept::AtMost(16),
+        answer: Cut::Same,
+        left: &[(2, 2), (4, 4), (8, 8), (16, 16)],
+    },
+    Case {
+        first: Values::Listed(&[2, 4, 8, 17]),
+        kept: Kept::Above(17),
+        answer: Cut::Emptied,
+        left: &[],
+    },
+    Case {
+        first: Values::Listed(&[0, 63, 64, 127, 128]),
+        kept: Kept::Above(63),
+        answer: Cut::Changed,
+        left: &[(64, 64), (127, 128)],
+    },
+    Case {
+        first: Values::Listed(&[0, 2, 3, 4, 100]),
+        kept: Kept::AtMost(3),
+        answer: Cut::Changed,
+        left: &[(0, 0), (2, 3)],
+    },
+    Case {
+        first: Values::Listed(&[10, 20, 30]),
+        kept: Kept::Without(20),
+        answer: Cut::Changed,
+        left: &[(10, 10), (30, 30)],
+    },
     // thousands of values
     Case {
         first: Values::Range(1000, 9000),
@@ -206,6 +290,18 @@ static CASES: [Case; 28] = [
         kept: Kept::Above(999),
         answer: Cut::Same,
         left: &[(1000, 9000)],
+    },
+    Case {
+        first: Values::Range(0, 4000),
+        kept: Kept::Without(4096),
+        answer: Cut::Same,
+        left: &[(0, 4000)],
+    },
+    Case {
+        first: Values::Range(2000, 7000),
+        kept: Kept::Only(1999),
+        answer: Cut::Emptied,
+        left: &[],
     },
 ];
 

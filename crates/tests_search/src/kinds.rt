@@ -1,7 +1,7 @@
 //! Stores before and after each kind of propagator prunes them.
 
 ghost use Rattle.std.specs.Prelude.{◌≡◌, IfOk};
-ghost use Rattle.tests_search.specs.Entries.{two_definers, one_leave};
+ghost use Rattle.tests_search.specs.Entries.{two_definers, one_copy, one_leave};
 
 use crate::prunes::{Case, prunes_all, variables};
 use std::alloc::{AllocError, Global};
@@ -24,7 +24,7 @@ use un_prop::act::{Act, At};
 use un_prop::propagator::Pruned;
 
 /// Sets of a time at least 2 after another, with their activities.
-static BEFORE: [Case; 6] = [
+static BEFORE: [Case; 7] = [
     Case {
         before: &[&[1, 2, 5], &[1], &[2, 3, 4, 9], &[1]],
         answer: Pruned::Tighter,
@@ -39,6 +39,11 @@ static BEFORE: [Case; 6] = [
         before: &[&[4], &[1], &[5], &[0, 1]],
         answer: Pruned::Tighter,
         after: &[&[4], &[1], &[5], &[0]],
+    },
+    Case {
+        before: &[&[4], &[0, 1], &[5], &[1]],
+        answer: Pruned::Tighter,
+        after: &[&[4], &[0], &[5], &[1]],
     },
     Case {
         before: &[&[1, 2], &[0, 1], &[1, 2], &[1]],
@@ -58,7 +63,7 @@ static BEFORE: [Case; 6] = [
 ];
 
 /// Sets of a cycle, its activity and an end.
-static INSIDE: [Case; 5] = [
+static INSIDE: [Case; 6] = [
     Case {
         before: &[&[0, 1, 3, 7], &[1], &[2, 5]],
         answer: Pruned::Tighter,
@@ -68,6 +73,11 @@ static INSIDE: [Case; 5] = [
         before: &[&[0], &[0, 1], &[1]],
         answer: Pruned::Tighter,
         after: &[&[0], &[0], &[1]],
+    },
+    Case {
+        before: &[&[3, 4], &[1], &[2, 5]],
+        answer: Pruned::Tighter,
+        after: &[&[3, 4], &[1], &[5]],
     },
     Case {
         before: &[&[1, 2], &[1], &[3, 4]],
@@ -375,7 +385,7 @@ static HOME: [Case; 6] = [
 
 /// Sets of the flag, a copy's instruction, a register at a block's start, Enter and its cycle, the copy's cycle, Leave and its
 /// cycle, a call's cycle.
-static FRAME: [Case; 8] = [
+static FRAME: [Case; 9] = [
     Case {
         before: &[&[0, 1], &[2], &[4], &[1], &[1], &[2], &[1], &[5], &[3]],
         answer: Pruned::Tighter,
@@ -405,6 +415,21 @@ static FRAME: [Case; 8] = [
         ],
         answer: Pruned::Tighter,
         after: &[&[1], &[2], &[4], &[1], &[3], &[4, 9], &[1], &[9], &[3]],
+    },
+    Case {
+        before: &[
+            &[1],
+            &[3],
+            &[4],
+            &[1],
+            &[1],
+            &[2, 3, 5, 6],
+            &[1],
+            &[5],
+            &[3],
+        ],
+        answer: Pruned::Tighter,
+        after: &[&[1], &[3], &[4], &[1], &[1], &[2, 3, 5], &[1], &[5], &[3]],
     },
     Case {
         before: &[&[1], &[2], &[4], &[1], &[1], &[2], &[1], &[5], &[4, 5, 6]],
@@ -588,18 +613,31 @@ fn home(alloc: Global) -> Result<Home, AllocError> {
     })
 }
 
-/// A Leave in a block with a call.
+/// A copy that accesses the frame where it is a Spill or a Reload.
+fn copy() -> FrameUse
+    ensures { result ≡ one_copy }
+{
+    FrameUse {
+        instr: Act::Var(VarId(1)),
+        least: 2,
+        most: 3,
+        at: VarId(5),
+    }
+}
+
+/// A Leave in a block with a copy and a call.
 fn leave(alloc: Global) -> Result<Items<FrameLeave>, AllocError>
     ensures { IfOk result (λ ls. ls ≡ one_leave) }
 {
     let calls = [VarId(8)].to_vec(alloc)?;
+    let copies = [copy()].to_vec(alloc)?;
     let mut leaves = Items::new(alloc);
     leaves.push(FrameLeave {
         leave: FrameOp {
             instr: VarId(6),
             at: VarId(7),
         },
-        copies: Items::new(alloc),
+        copies: Items::from_vec(copies),
         calls: Items::from_vec(calls),
     })?;
     Ok(leaves)
@@ -610,13 +648,7 @@ fn frame(alloc: Global) -> Result<Frame, AllocError> {
     let vars = variables(alloc, 9)?;
     let touch = [VarId(1)].to_vec(alloc)?;
     let ins = [VarId(2)].to_vec(alloc)?;
-    let copy = FrameUse {
-        instr: Act::Var(VarId(1)),
-        least: 2,
-        most: 3,
-        at: VarId(5),
-    };
-    let entry = [copy].to_vec(alloc)?;
+    let entry = [copy()].to_vec(alloc)?;
     let leaves = leave(alloc)?;
     Ok(Frame {
         flag: VarId(0),

@@ -14,6 +14,8 @@ mod marks;
 #[cfg(test)]
 mod prunes;
 #[cfg(test)]
+mod ranges;
+#[cfg(test)]
 mod rectangles;
 #[cfg(test)]
 mod slots;

@@ -21,7 +21,7 @@ use un_slots::per_cycle::PerCycle;
 /// Sets of the cycles of a load, a store, a control transfer and a load or a store of two cycles each before cycle 8, and the
 /// numbers of the last two: an operation that is a store or, by its number 2, none of the places for memory, and a copy that may
 /// be inactive, a register move, a store or a load.
-static SLOTS: [Case; 9] = [
+static SLOTS: [Case; 12] = [
     // One store and one load fill the places for memory in cycle 3: a load is not there.
     Case {
         before: &[&[3], &[3], &[5], &[2, 3], &[2], &[3, 4, 5], &[3]],
@@ -75,6 +75,24 @@ static SLOTS: [Case; 9] = [
         before: &[&[3, 4], &[3, 4], &[5], &[3], &[1], &[4, 5], &[2]],
         answer: Pruned::Tighter,
         after: &[&[3, 4], &[4], &[5], &[3], &[1], &[5], &[2]],
+    },
+    // Two stores have room in cycles 2 and 3.
+    Case {
+        before: &[&[5, 6], &[2, 3], &[5], &[2, 3], &[1], &[6, 7], &[2]],
+        answer: Pruned::Same,
+        after: &[&[5, 6], &[2, 3], &[5], &[2, 3], &[1], &[6, 7], &[2]],
+    },
+    // Three have not, though none is settled.
+    Case {
+        before: &[&[5, 6], &[2, 3], &[5], &[2, 3], &[1], &[2, 3], &[2]],
+        answer: Pruned::Failed,
+        after: &[],
+    },
+    // What may be no store is not counted.
+    Case {
+        before: &[&[5, 6], &[2, 3], &[5], &[2, 3], &[1], &[2, 3], &[1, 2]],
+        answer: Pruned::Same,
+        after: &[&[5, 6], &[2, 3], &[5], &[2, 3], &[1], &[2, 3], &[1, 2]],
     },
 ];
 

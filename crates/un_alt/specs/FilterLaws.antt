@@ -1,5 +1,6 @@
 -- Laws of filters of a choice that may be missing.
-use Rattle.std.proofs.Common.{ℕ, zero, suc, ◌≡◌, ◌<◌, Bool, true, false, List, [], ◌∷◌, length, get_or, None, Some, option_and_then, All, refl, ap, arith}
+use Rattle.std.proofs.Common.{ℕ, zero, suc, ◌≡◌, ◌<◌, Bool, true, false, List, [], ◌∷◌, length, get_or, None, Some, option_and_then, All}
+use Rattle.std.proofs.Common.{refl, ap, arith}
 use Rattle.std.specs.declared.option.Option.{Option}
 use Rattle.std.specs.List.{Contains}
 use Rattle.un_base.specs.declared.ids.VarId.{VarId}

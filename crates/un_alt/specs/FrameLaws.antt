@@ -1,5 +1,6 @@
 -- What Frame looks at.
-use Rattle.std.proofs.Common.{ℕ, ◌≡◌, ◌+◌, ◌∙◌, Bool, true, cond, not, ◌&&◌, ◌||◌, List, [], ◌∷◌, get_or, nat_eq, nat_le, nat_lt, All, refl, ap}
+use Rattle.std.proofs.Common.{ℕ, ◌≡◌, ◌+◌, ◌∙◌, Bool, true, cond, not, ◌&&◌, ◌||◌, List, [], ◌∷◌, get_or, nat_eq, nat_le, nat_lt, All, refl}
+use Rattle.std.proofs.Common.{ap}
 use Rattle.std.specs.List.{AllByRecursion, list_any, list_all}
 use Rattle.std.proofs.lemmas.List.Elements.{recursion_from_All}
 use Rattle.un_base.specs.declared.ids.VarId.{VarId}
@@ -12,7 +13,8 @@ use Rattle.un_alt.specs.declared.frame.FrameOp.{FrameOp}
 use Rattle.un_alt.specs.declared.frame.FrameUse.{FrameUse}
 use Rattle.un_alt.specs.declared.frame.FrameLeave.{FrameLeave}
 use Rattle.un_alt.specs.declared.frame.TheConstants.{SPILL, RELOAD}
-use Rattle.un_alt.specs.Frame.{is_access, is_slot, uses_frame, is_on, all_on, none_on, counts, is_after, is_until, is_left, in_order, frame_holds, FrameOpVars, FrameUseVars, FrameLeaveVars, FrameVars}
+use Rattle.un_alt.specs.Frame.{is_access, is_slot, uses_frame, is_on, all_on, none_on, counts, is_after, is_until, is_left, in_order}
+use Rattle.un_alt.specs.Frame.{frame_holds, FrameOpVars, FrameUseVars, FrameLeaveVars, FrameVars}
 
 -- tests that agree at each item agree on a list
 any_alike : {A : Type 0} (P : A → Type 0) (p q : A → Bool) → ((a : A) → P a → p a ≡ q a) → (xs : List A) → AllByRecursion P xs →

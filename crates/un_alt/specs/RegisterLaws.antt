@@ -1,5 +1,6 @@
 -- What a chosen register looks at.
-use Rattle.std.proofs.Common.{ℕ, zero, suc, ◌≡◌, ◌<◌, ◌≤◌, ◌∙◌, true, List, [], ◌∷◌, length, get_or, None, Some, MatchOption, All, refl, sym, ap, arith}
+use Rattle.std.proofs.Common.{ℕ, zero, suc, ◌≡◌, ◌<◌, ◌≤◌, ◌∙◌, true, List, [], ◌∷◌, length, get_or, None, Some, MatchOption, All, refl}
+use Rattle.std.proofs.Common.{sym, ap, arith}
 use Rattle.std.specs.declared.option.Option.{Option}
 use Rattle.std.specs.List.{AllByRecursion}
 use Rattle.std.proofs.lemmas.List.Elements.{recursion_from_All}
@@ -9,7 +10,8 @@ use Rattle.un_prop.specs.Among.{among, AllAmong}
 use Rattle.un_prop.specs.AmongLaws.{same_var}
 use Rattle.un_alt.specs.Registers.{place_of, value_at, chosen_value, choice_vars}
 
-pub value_within : (vs : List VarId) (i : ℕ) (x : List ℕ) (d : VarId) → i < length vs → value_at vs i x ≡ Some (get_or x (get_or vs i d).0 0)
+pub value_within : (vs : List VarId) (i : ℕ) (x : List ℕ) (d : VarId) → i < length vs
+    → value_at vs i x ≡ Some (get_or x (get_or vs i d).0 0)
 value_within [] i x d lt = absurd (omega (arith, lt))
 value_within (v ∷ vs) zero x d lt = refl
 value_within (v ∷ vs) (suc i) x d lt = value_within vs i x d (omega (arith, lt))
@@ -33,5 +35,7 @@ module _ (vs : List VarId) (x y : List ℕ) (same : SameAt vs x y) where
   places_alike None h = refl
   places_alike (Some v) h = same_var vs x y same v (h 0 v (omega arith))
 
-  pub chosen_alike : (choice : Option VarId) (regs : List VarId) → AllAmong vs (choice_vars choice) → AllAmong vs regs → chosen_value choice regs x ≡ chosen_value choice regs y
-  chosen_alike choice regs h all = ap (λ (i : ℕ). value_at regs i x) (places_alike choice h) ∙ values_alike regs (place_of choice y) (recursion_from_All _ _ all)
+  pub chosen_alike : (choice : Option VarId) (regs : List VarId) → AllAmong vs (choice_vars choice) → AllAmong vs regs
+      → chosen_value choice regs x ≡ chosen_value choice regs y
+  chosen_alike choice regs h all = ap (λ (i : ℕ). value_at regs i x) (places_alike choice h)
+      ∙ values_alike regs (place_of choice y) (recursion_from_All _ _ all)

@@ -17,4 +17,5 @@ zeros_looks vs instr others h x y same =
   where
     each : (us : List VarId) → AllByRecursion (λ u. among vs u ≡ true) us → all_zero us x ≡ all_zero us y
     each [] all = refl
-    each (u ∷ us) all = ap (λ (n : ℕ). nat_eq n 0 && all_zero us x) (same_var vs x y same u all.0) ∙ ap (λ (b : Bool). nat_eq (get_or y u.0 0) 0 && b) (each us all.1)
+    each (u ∷ us) all = ap (λ (n : ℕ). nat_eq n 0 && all_zero us x) (same_var vs x y same u all.0)
+        ∙ ap (λ (b : Bool). nat_eq (get_or y u.0 0) 0 && b) (each us all.1)

@@ -92,7 +92,8 @@ impl Propagator for Chosen {
     ghost use Rattle.un_alt.specs.Chosen.{chosen_holds, chosen_can};
     ghost use Rattle.un_alt.specs.ChosenLaws.{chosen_looks, chosen_lawful, chosen_fits};
 
-    ghost cut = { λ p s. option_and_then (last_cut p.vars (chosen_holds p.user p.choice p.alts)) (choice_cut p.user (Some p.choice) (chosen_can p.alts) (places_in p.alts) s) };
+    ghost cut = { λ p s. option_and_then (last_cut p.vars (chosen_holds p.user p.choice p.alts))
+        (choice_cut p.user (Some p.choice) (chosen_can p.alts) (places_in p.alts) s) };
 
     ghost parts = { λ p. one_part p.vars (chosen_holds p.user p.choice p.alts) };
 
@@ -106,13 +107,20 @@ impl Propagator for Chosen {
         check_last(self, w, scratch, did)
     }
 
-    ghost keeps = { λ p s x k full there holds. filtered_keeps p.vars (chosen_holds p.user p.choice p.alts) (chosen_looks p.vars p.user p.choice p.alts p.among) p.ascend p.user (Some p.choice) (chosen_can p.alts) (places_in p.alts) p.among.of_user (one_among p.vars p.choice p.among.of_choice) (chosen_lawful p.vars p.user p.choice p.alts p.among) (chosen_fits p.vars p.user p.choice p.alts p.among) s x k there holds };
+    ghost keeps = { λ p s x k full there holds. filtered_keeps p.vars (chosen_holds p.user p.choice p.alts)
+        (chosen_looks p.vars p.user p.choice p.alts p.among) p.ascend p.user (Some p.choice) (chosen_can p.alts) (places_in p.alts)
+        p.among.of_user (one_among p.vars p.choice p.among.of_choice) (chosen_lawful p.vars p.user p.choice p.alts p.among)
+        (chosen_fits p.vars p.user p.choice p.alts p.among) s x k there holds };
 
-    ghost lawful = { λ p. filtered_lawful p.vars (chosen_holds p.user p.choice p.alts) (chosen_looks p.vars p.user p.choice p.alts p.among) p.ascend p.user (Some p.choice) (chosen_can p.alts) (places_in p.alts) p.among.of_user (one_among p.vars p.choice p.among.of_choice) (chosen_lawful p.vars p.user p.choice p.alts p.among) };
+    ghost lawful = { λ p. filtered_lawful p.vars (chosen_holds p.user p.choice p.alts) (chosen_looks p.vars p.user p.choice p.alts p.among)
+        p.ascend p.user (Some p.choice) (chosen_can p.alts) (places_in p.alts) p.among.of_user (one_among p.vars p.choice p.among.of_choice)
+        (chosen_lawful p.vars p.user p.choice p.alts p.among) };
 
     ghost whole = { λ p x. one_whole p.vars (chosen_holds p.user p.choice p.alts) x };
 
-    ghost forward = { λ p. filtered_forward p.vars (chosen_holds p.user p.choice p.alts) (chosen_looks p.vars p.user p.choice p.alts p.among) p.ascend p.user (Some p.choice) (chosen_can p.alts) (places_in p.alts) p.among.of_user (one_among p.vars p.choice p.among.of_choice) (chosen_lawful p.vars p.user p.choice p.alts p.among) };
+    ghost forward = { λ p. filtered_forward p.vars (chosen_holds p.user p.choice p.alts)
+        (chosen_looks p.vars p.user p.choice p.alts p.among) p.ascend p.user (Some p.choice) (chosen_can p.alts) (places_in p.alts)
+        p.among.of_user (one_among p.vars p.choice p.among.of_choice) (chosen_lawful p.vars p.user p.choice p.alts p.among) };
 
     ghost strength = { λ p s k full words grounded e. tt };
 }

@@ -4,7 +4,8 @@ ghost use Rattle.std.specs.Prelude.{◌≡◌, ◌&&◌, not, nat_lt, slice_inde
 ghost use Rattle.un_base.specs.declared.ids.VarId.{VarId};
 ghost use Rattle.std.specs.List.{list_any, list_all};
 ghost use Rattle.un_prop.specs.LastLaws.{Ascend};
-ghost use Rattle.un_alt.specs.Frame.{is_access, is_slot, uses_frame, is_on, all_on, none_on, counts, is_after, is_until, is_left, in_order, FrameVars};
+ghost use Rattle.un_alt.specs.Frame.{is_access, is_slot, uses_frame, is_on, all_on, none_on, counts, is_after, is_until, is_left, in_order};
+ghost use Rattle.un_alt.specs.Frame.{FrameVars};
 
 use un_base::ids::VarId;
 use un_domains::window::Window;
@@ -278,13 +279,16 @@ impl Propagator for Frame {
         check_last(self, w, scratch, Pruned::Same)
     }
 
-    ghost keeps = { λ p s x k full there holds. last_keeps p.vars (frame_holds p.flag p.touch p.ins p.enter p.entry p.leaves) (λ x y same. frame_looks p.vars x y same p.flag p.touch p.ins p.enter p.entry p.leaves p.among) s x k there holds };
+    ghost keeps = { λ p s x k full there holds. last_keeps p.vars (frame_holds p.flag p.touch p.ins p.enter p.entry p.leaves)
+        (λ x y same. frame_looks p.vars x y same p.flag p.touch p.ins p.enter p.entry p.leaves p.among) s x k there holds };
 
-    ghost lawful = { λ p. last_lawful p.vars (frame_holds p.flag p.touch p.ins p.enter p.entry p.leaves) (λ x y same. frame_looks p.vars x y same p.flag p.touch p.ins p.enter p.entry p.leaves p.among) };
+    ghost lawful = { λ p. last_lawful p.vars (frame_holds p.flag p.touch p.ins p.enter p.entry p.leaves)
+        (λ x y same. frame_looks p.vars x y same p.flag p.touch p.ins p.enter p.entry p.leaves p.among) };
 
     ghost whole = { λ p x. one_whole p.vars (frame_holds p.flag p.touch p.ins p.enter p.entry p.leaves) x };
 
-    ghost forward = { λ p. forward_one p.vars (frame_holds p.flag p.touch p.ins p.enter p.entry p.leaves) (λ x y same. frame_looks p.vars x y same p.flag p.touch p.ins p.enter p.entry p.leaves p.among) p.ascend };
+    ghost forward = { λ p. forward_one p.vars (frame_holds p.flag p.touch p.ins p.enter p.entry p.leaves)
+        (λ x y same. frame_looks p.vars x y same p.flag p.touch p.ins p.enter p.entry p.leaves p.among) p.ascend };
 
     ghost strength = { λ p s k full words grounded e. tt };
 }

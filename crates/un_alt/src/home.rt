@@ -75,7 +75,8 @@ impl Propagator for Home {
     ghost use Rattle.un_alt.specs.Home.{home_holds, home_can};
     ghost use Rattle.un_alt.specs.HomeLaws.{home_looks, home_lawful, home_fits};
 
-    ghost cut = { λ p s. option_and_then (last_cut p.vars (home_holds p.choice p.regs p.home.0)) (choice_cut Always p.choice (home_can p.regs p.home.0) (places_in p.regs) s) };
+    ghost cut = { λ p s. option_and_then (last_cut p.vars (home_holds p.choice p.regs p.home.0))
+        (choice_cut Always p.choice (home_can p.regs p.home.0) (places_in p.regs) s) };
 
     ghost parts = { λ p. one_part p.vars (home_holds p.choice p.regs p.home.0) };
 
@@ -89,13 +90,20 @@ impl Propagator for Home {
         check_last(self, w, scratch, did)
     }
 
-    ghost keeps = { λ p s x k full there holds. filtered_keeps p.vars (home_holds p.choice p.regs p.home.0) (home_looks p.vars p.choice p.regs p.home.0 p.among) p.ascend Always p.choice (home_can p.regs p.home.0) (places_in p.regs) (none_among p.vars) p.among.of_choice (home_lawful p.vars p.choice p.regs p.home.0 p.among) (home_fits p.vars p.choice p.regs p.home.0 p.among) s x k there holds };
+    ghost keeps = { λ p s x k full there holds. filtered_keeps p.vars (home_holds p.choice p.regs p.home.0)
+        (home_looks p.vars p.choice p.regs p.home.0 p.among) p.ascend Always p.choice (home_can p.regs p.home.0) (places_in p.regs)
+        (none_among p.vars) p.among.of_choice (home_lawful p.vars p.choice p.regs p.home.0 p.among)
+        (home_fits p.vars p.choice p.regs p.home.0 p.among) s x k there holds };
 
-    ghost lawful = { λ p. filtered_lawful p.vars (home_holds p.choice p.regs p.home.0) (home_looks p.vars p.choice p.regs p.home.0 p.among) p.ascend Always p.choice (home_can p.regs p.home.0) (places_in p.regs) (none_among p.vars) p.among.of_choice (home_lawful p.vars p.choice p.regs p.home.0 p.among) };
+    ghost lawful = { λ p. filtered_lawful p.vars (home_holds p.choice p.regs p.home.0) (home_looks p.vars p.choice p.regs p.home.0 p.among)
+        p.ascend Always p.choice (home_can p.regs p.home.0) (places_in p.regs) (none_among p.vars) p.among.of_choice
+        (home_lawful p.vars p.choice p.regs p.home.0 p.among) };
 
     ghost whole = { λ p x. one_whole p.vars (home_holds p.choice p.regs p.home.0) x };
 
-    ghost forward = { λ p. filtered_forward p.vars (home_holds p.choice p.regs p.home.0) (home_looks p.vars p.choice p.regs p.home.0 p.among) p.ascend Always p.choice (home_can p.regs p.home.0) (places_in p.regs) (none_among p.vars) p.among.of_choice (home_lawful p.vars p.choice p.regs p.home.0 p.among) };
+    ghost forward = { λ p. filtered_forward p.vars (home_holds p.choice p.regs p.home.0)
+        (home_looks p.vars p.choice p.regs p.home.0 p.among) p.ascend Always p.choice (home_can p.regs p.home.0) (places_in p.regs)
+        (none_among p.vars) p.among.of_choice (home_lawful p.vars p.choice p.regs p.home.0 p.among) };
 
     ghost strength = { λ p s k full words grounded e. tt };
 }

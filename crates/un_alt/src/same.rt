@@ -96,7 +96,8 @@ impl Propagator for Same {
     ghost use Rattle.un_alt.specs.Same.{same_holds, same_can};
     ghost use Rattle.un_alt.specs.SameLaws.{same_looks, same_lawful, same_fits};
 
-    ghost cut = { λ p s. option_and_then (last_cut p.vars (same_holds p.choice p.regs p.to)) (choice_cut Always (Some p.choice) (same_can p.regs p.to) (places_in p.regs) s) };
+    ghost cut = { λ p s. option_and_then (last_cut p.vars (same_holds p.choice p.regs p.to))
+        (choice_cut Always (Some p.choice) (same_can p.regs p.to) (places_in p.regs) s) };
 
     ghost parts = { λ p. one_part p.vars (same_holds p.choice p.regs p.to) };
 
@@ -110,13 +111,20 @@ impl Propagator for Same {
         check_last(self, w, scratch, did)
     }
 
-    ghost keeps = { λ p s x k full there holds. filtered_keeps p.vars (same_holds p.choice p.regs p.to) (same_looks p.vars p.choice p.regs p.to p.among) p.ascend Always (Some p.choice) (same_can p.regs p.to) (places_in p.regs) (none_among p.vars) (one_among p.vars p.choice p.among.of_choice) (same_lawful p.vars p.choice p.regs p.to p.among) (same_fits p.vars p.choice p.regs p.to p.among) s x k there holds };
+    ghost keeps = { λ p s x k full there holds. filtered_keeps p.vars (same_holds p.choice p.regs p.to)
+        (same_looks p.vars p.choice p.regs p.to p.among) p.ascend Always (Some p.choice) (same_can p.regs p.to) (places_in p.regs)
+        (none_among p.vars) (one_among p.vars p.choice p.among.of_choice) (same_lawful p.vars p.choice p.regs p.to p.among)
+        (same_fits p.vars p.choice p.regs p.to p.among) s x k there holds };
 
-    ghost lawful = { λ p. filtered_lawful p.vars (same_holds p.choice p.regs p.to) (same_looks p.vars p.choice p.regs p.to p.among) p.ascend Always (Some p.choice) (same_can p.regs p.to) (places_in p.regs) (none_among p.vars) (one_among p.vars p.choice p.among.of_choice) (same_lawful p.vars p.choice p.regs p.to p.among) };
+    ghost lawful = { λ p. filtered_lawful p.vars (same_holds p.choice p.regs p.to) (same_looks p.vars p.choice p.regs p.to p.among) p.ascend
+        Always (Some p.choice) (same_can p.regs p.to) (places_in p.regs) (none_among p.vars) (one_among p.vars p.choice p.among.of_choice)
+        (same_lawful p.vars p.choice p.regs p.to p.among) };
 
     ghost whole = { λ p x. one_whole p.vars (same_holds p.choice p.regs p.to) x };
 
-    ghost forward = { λ p. filtered_forward p.vars (same_holds p.choice p.regs p.to) (same_looks p.vars p.choice p.regs p.to p.among) p.ascend Always (Some p.choice) (same_can p.regs p.to) (places_in p.regs) (none_among p.vars) (one_among p.vars p.choice p.among.of_choice) (same_lawful p.vars p.choice p.regs p.to p.among) };
+    ghost forward = { λ p. filtered_forward p.vars (same_holds p.choice p.regs p.to) (same_looks p.vars p.choice p.regs p.to p.among)
+        p.ascend Always (Some p.choice) (same_can p.regs p.to) (places_in p.regs) (none_among p.vars)
+        (one_among p.vars p.choice p.among.of_choice) (same_lawful p.vars p.choice p.regs p.to p.among) };
 
     ghost strength = { λ p s k full words grounded e. tt };
 }

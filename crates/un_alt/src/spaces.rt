@@ -162,7 +162,8 @@ impl Propagator for Spaces {
     ghost use Rattle.un_alt.specs.Spaces.{spaces_holds, spaces_can};
     ghost use Rattle.un_alt.specs.SpacesLaws.{spaces_looks, spaces_lawful, spaces_fits};
 
-    ghost cut = { λ p s. option_and_then (last_cut p.vars (spaces_holds p.on p.choice p.regs p.sets)) (choice_cut p.on p.choice (spaces_can p.on p.regs p.sets) (places_in p.regs) s) };
+    ghost cut = { λ p s. option_and_then (last_cut p.vars (spaces_holds p.on p.choice p.regs p.sets))
+        (choice_cut p.on p.choice (spaces_can p.on p.regs p.sets) (places_in p.regs) s) };
 
     ghost parts = { λ p. one_part p.vars (spaces_holds p.on p.choice p.regs p.sets) };
 
@@ -176,13 +177,20 @@ impl Propagator for Spaces {
         check_last(self, w, scratch, did)
     }
 
-    ghost keeps = { λ p s x k full there holds. filtered_keeps p.vars (spaces_holds p.on p.choice p.regs p.sets) (spaces_looks p.vars p.on p.choice p.regs p.sets p.among) p.ascend p.on p.choice (spaces_can p.on p.regs p.sets) (places_in p.regs) p.among.of_on p.among.of_choice (spaces_lawful p.vars p.on p.choice p.regs p.sets p.among) (spaces_fits p.vars p.on p.choice p.regs p.sets p.among) s x k there holds };
+    ghost keeps = { λ p s x k full there holds. filtered_keeps p.vars (spaces_holds p.on p.choice p.regs p.sets)
+        (spaces_looks p.vars p.on p.choice p.regs p.sets p.among) p.ascend p.on p.choice (spaces_can p.on p.regs p.sets) (places_in p.regs)
+        p.among.of_on p.among.of_choice (spaces_lawful p.vars p.on p.choice p.regs p.sets p.among)
+        (spaces_fits p.vars p.on p.choice p.regs p.sets p.among) s x k there holds };
 
-    ghost lawful = { λ p. filtered_lawful p.vars (spaces_holds p.on p.choice p.regs p.sets) (spaces_looks p.vars p.on p.choice p.regs p.sets p.among) p.ascend p.on p.choice (spaces_can p.on p.regs p.sets) (places_in p.regs) p.among.of_on p.among.of_choice (spaces_lawful p.vars p.on p.choice p.regs p.sets p.among) };
+    ghost lawful = { λ p. filtered_lawful p.vars (spaces_holds p.on p.choice p.regs p.sets)
+        (spaces_looks p.vars p.on p.choice p.regs p.sets p.among) p.ascend p.on p.choice (spaces_can p.on p.regs p.sets) (places_in p.regs)
+        p.among.of_on p.among.of_choice (spaces_lawful p.vars p.on p.choice p.regs p.sets p.among) };
 
     ghost whole = { λ p x. one_whole p.vars (spaces_holds p.on p.choice p.regs p.sets) x };
 
-    ghost forward = { λ p. filtered_forward p.vars (spaces_holds p.on p.choice p.regs p.sets) (spaces_looks p.vars p.on p.choice p.regs p.sets p.among) p.ascend p.on p.choice (spaces_can p.on p.regs p.sets) (places_in p.regs) p.among.of_on p.among.of_choice (spaces_lawful p.vars p.on p.choice p.regs p.sets p.among) };
+    ghost forward = { λ p. filtered_forward p.vars (spaces_holds p.on p.choice p.regs p.sets)
+        (spaces_looks p.vars p.on p.choice p.regs p.sets p.among) p.ascend p.on p.choice (spaces_can p.on p.regs p.sets) (places_in p.regs)
+        p.among.of_on p.among.of_choice (spaces_lawful p.vars p.on p.choice p.regs p.sets p.among) };
 
     ghost strength = { λ p s k full words grounded e. tt };
 }

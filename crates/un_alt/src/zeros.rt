@@ -76,7 +76,8 @@ impl Propagator for Zeros {
         check_last(self, w, scratch, Pruned::Same)
     }
 
-    ghost keeps = { λ p s x k full there holds. last_keeps p.vars (zeros_holds p.instr p.others) (zeros_looks p.vars p.instr p.others p.among) s x k there holds };
+    ghost keeps = { λ p s x k full there holds. last_keeps p.vars (zeros_holds p.instr p.others)
+        (zeros_looks p.vars p.instr p.others p.among) s x k there holds };
 
     ghost lawful = { λ p. last_lawful p.vars (zeros_holds p.instr p.others) (zeros_looks p.vars p.instr p.others p.among) };
 

@@ -1,5 +1,6 @@
 -- The laws of the lines of a text and of its pieces.
-use Rattle.std.proofs.Common.{◌≡◌, ◌≢◌, ℕ, Bool, true, false, not, suc, ◌==◌, ◌+◌, ◌<◌, ◌≤◌, List, [], ◌∷◌, ◌++◌, if◌then◌else◌, Some, None, refl, sym, ap, ◌∙◌, length, take, drop, arith, subst, add-one, cond, nat_lt}
+use Rattle.std.proofs.Common.{◌≡◌, ◌≢◌, ℕ, Bool, true, false, not, suc, ◌==◌, ◌+◌, ◌<◌, ◌≤◌, List, [], ◌∷◌, ◌++◌, if◌then◌else◌, Some, None}
+use Rattle.std.proofs.Common.{refl, sym, ap, ◌∙◌, length, take, drop, arith, subst, add-one, cond, nat_lt}
 use Rattle.std.proofs.lemmas.Bool.{eqb-true, eqb-false, ne_eqb}
 use Rattle.std.proofs.lemmas.Bool.Decides.{nat_tests}
 use Rattle.std.proofs.lemmas.List.Elements.{All-cons, All-nil}
@@ -19,9 +20,11 @@ first_feed-Some text i found = by (nat_lt (position_or_len is_line_feed text) (l
 pub first_feed-None : (text : List ℕ) → position is_line_feed text ≡ None → length text ≡ position_or_len is_line_feed text
 first_feed-None text none = by (nat_lt (position_or_len is_line_feed text) (length text)) refl none
   where
-    by : (v : Bool) → nat_lt (position_or_len is_line_feed text) (length text) ≡ v → cond v (Some (position_or_len is_line_feed text)) None ≡ None → length text ≡ position_or_len is_line_feed text
+    by : (v : Bool) → nat_lt (position_or_len is_line_feed text) (length text) ≡ v
+        → cond v (Some (position_or_len is_line_feed text)) None ≡ None → length text ≡ position_or_len is_line_feed text
     by true e f = absurd (cc f)
-    by false e f = let bound : position_or_len is_line_feed text ≤ length text = prefix_len-le-length (λ b. not (is_line_feed b)) text in grind (arith, nat_tests)
+    by false e f = let bound : position_or_len is_line_feed text ≤ length text = prefix_len-le-length (λ b. not (is_line_feed b)) text in
+        grind (arith, nat_tests)
 
 -- ---- lines
 
@@ -31,7 +34,8 @@ pub lines_of-first : (text : List ℕ) → (length text == 0) ≡ false
 lines_of-first [] some = absurd (cc some)
 lines_of-first (b ∷ []) some = by (b == 10)
   where
-    by : (v : Bool) → (if v then [] ∷ [] else onto_first b []) ≡ take (cond (not v) (1 + 0) 0) (b ∷ []) ∷ lines_of (drop (cond (not v) (1 + 0) 0 + 1) (b ∷ []))
+    by : (v : Bool) → (if v then [] ∷ [] else onto_first b []) ≡ take (cond (not v) (1 + 0) 0) (b ∷ []) ∷
+        lines_of (drop (cond (not v) (1 + 0) 0 + 1) (b ∷ []))
     by true = refl
     by false = refl
 lines_of-first (b ∷ c ∷ more) some = by (lines_of-first (c ∷ more) (ne_eqb (length (c ∷ more)) 0 (λ e. omega arith))) (b == 10)
@@ -40,13 +44,15 @@ lines_of-first (b ∷ c ∷ more) some = by (lines_of-first (c ∷ more) (ne_eqb
     i = position_or_len is_line_feed (c ∷ more)
 
     by : lines_of (c ∷ more) ≡ take i (c ∷ more) ∷ lines_of (drop (i + 1) (c ∷ more))
-        → (v : Bool) → (if v then [] ∷ lines_of (c ∷ more) else onto_first b (lines_of (c ∷ more))) ≡ take (cond (not v) (1 + i) 0) (b ∷ c ∷ more) ∷ lines_of (drop (cond (not v) (1 + i) 0 + 1) (b ∷ c ∷ more))
+        → (v : Bool) → (if v then [] ∷ lines_of (c ∷ more) else onto_first b (lines_of (c ∷ more))) ≡ take (cond (not v) (1 + i) 0)
+        (b ∷ c ∷ more) ∷ lines_of (drop (cond (not v) (1 + i) 0 + 1) (b ∷ c ∷ more))
     by rest true = refl
     by rest false =
         let one : 1 + i ≡ suc i = omega arith in
         let two : i + 1 ≡ suc i = omega arith in
         let rest' = rw two at rest in
-        subst (λ (n : ℕ). onto_first b (lines_of (c ∷ more)) ≡ take n (b ∷ c ∷ more) ∷ lines_of (drop (n + 1) (b ∷ c ∷ more))) (sym one) (rw (rest', add-one) refl)
+        subst (λ (n : ℕ). onto_first b (lines_of (c ∷ more)) ≡ take n (b ∷ c ∷ more) ∷ lines_of (drop (n + 1) (b ∷ c ∷ more))) (sym one)
+        (rw (rest', add-one) refl)
 
 pub lines_of-some : (b : ℕ) (bs : List ℕ) → 0 < length (lines_of (b ∷ bs))
 lines_of-some b bs = omega (arith, ap length (lines_of-first (b ∷ bs) (ne_eqb (length (b ∷ bs)) 0 (λ e. omega arith))))
@@ -72,14 +78,16 @@ joined_lines-lines_of (b ∷ c ∷ more) = by (joined_lines-lines_of (c ∷ more
 
 onto_first-no_feed : (b : ℕ) → b ≢ 10 → (lines : List (List ℕ)) → All HasNoFeed lines → All HasNoFeed (onto_first b lines)
 onto_first-no_feed b other [] all = All-cons HasNoFeed (b ∷ []) [] (All-cons (λ n. n ≢ 10) b [] other (All-nil (λ n. n ≢ 10))) all
-onto_first-no_feed b other (line ∷ lines) all = All-cons HasNoFeed (b ∷ line) lines (All-cons (λ n. n ≢ 10) b line other (all 0 [] (omega arith))) (λ k d below. all (suc k) d (omega arith))
+onto_first-no_feed b other (line ∷ lines) all = All-cons HasNoFeed (b ∷ line) lines
+    (All-cons (λ n. n ≢ 10) b line other (all 0 [] (omega arith))) (λ k d below. all (suc k) d (omega arith))
 
 -- no line has a line feed
 pub lines_of-no_feed : (text : List ℕ) → All HasNoFeed (lines_of text)
 lines_of-no_feed [] = All-nil HasNoFeed
 lines_of-no_feed (b ∷ bs) = by (lines_of-no_feed bs) (b == 10) refl
   where
-    by : All HasNoFeed (lines_of bs) → (v : Bool) → (b == 10) ≡ v → All HasNoFeed (if v then [] ∷ lines_of bs else onto_first b (lines_of bs))
+    by : All HasNoFeed (lines_of bs) → (v : Bool) → (b == 10) ≡ v
+        → All HasNoFeed (if v then [] ∷ lines_of bs else onto_first b (lines_of bs))
     by rest true e = All-cons HasNoFeed [] (lines_of bs) (All-nil (λ n. n ≢ 10)) rest
     by rest false e = onto_first-no_feed b (eqb-false b 10 e) (lines_of bs) rest
 
@@ -143,6 +151,8 @@ pub length-pieces_of : (text : List ℕ) → length (pieces_of text) ≡ length 
 length-pieces_of [] = refl
 length-pieces_of (b ∷ bs) = by (length-pieces_of bs) (b == 10)
   where
-    by : length (pieces_of bs) ≡ length (lines_of bs) → (v : Bool) → length (if v then (b ∷ []) ∷ pieces_of bs else onto_first b (pieces_of bs)) ≡ length (if v then [] ∷ lines_of bs else onto_first b (lines_of bs))
+    by : length (pieces_of bs) ≡ length (lines_of bs) → (v : Bool)
+        → length (if v then (b ∷ []) ∷ pieces_of bs else onto_first b (pieces_of bs)) ≡ length
+        (if v then [] ∷ lines_of bs else onto_first b (lines_of bs))
     by rest true = omega arith
     by rest false = onto_first-length b (pieces_of bs) (lines_of bs) rest

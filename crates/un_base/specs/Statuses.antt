@@ -1,7 +1,8 @@
 -- The numbers of the ends of a run.
 use Rattle.std.specs.Prelude.{ℕ}
 use Rattle.un_base.specs.declared.status.Status.{Status}
-use Rattle.un_base.specs.declared.status.Status.TheVariants.{Done, Infeasible, Spent, TextFault, Usage, ReadFault, WriteFault, NoMemory, No, BadReport}
+use Rattle.un_base.specs.declared.status.Status.TheVariants.{Done, Infeasible, Spent, TextFault, Usage, ReadFault, WriteFault, NoMemory, No}
+use Rattle.un_base.specs.declared.status.Status.TheVariants.{BadReport}
 
 -- the exit status of the program
 abbrev pub number_of : Status → ℕ

@@ -1,6 +1,7 @@
 //! Decimal numbers without sign or leading zeros.
 
-ghost use Rattle.std.specs.Prelude.{◌≡◌, ◌≢◌, ℕ, ◌+◌, ◌-◌, ◌*◌, ◌^◌, ◌<◌, ◌≤◌, ◌++◌, ◌⊎◌, ◌↔◌, true, false, IsTrue, IfSome, IfNone, OnOk, OnErr, decimal};
+ghost use Rattle.std.specs.Prelude.{◌≡◌, ◌≢◌, ℕ, ◌+◌, ◌-◌, ◌*◌, ◌^◌, ◌<◌, ◌≤◌, ◌++◌, ◌⊎◌, ◌↔◌, true, false, IsTrue, IfSome, IfNone, OnOk};
+ghost use Rattle.std.specs.Prelude.{OnErr, decimal};
 ghost use Rattle.std.specs.Str.{all_ascii_digits};
 ghost use Rattle.un_base.specs.Decimals.{value_of, HasLeadingZero, IsNoDecimal};
 

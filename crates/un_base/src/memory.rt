@@ -1,6 +1,7 @@
 //! The outside in memory, for tests and for callers that have the bytes at hand.
 
-ghost use Rattle.std.specs.Prelude.{◌≡◌, ℕ, ◌+◌, ◌-◌, ◌<◌, ◌≤◌, ◌^◌, ◌++◌, ◌⊎◌, min, List, Option, Some, None, [], length, take, drop, true, false, IfOk, IfSome, IsErr, vec_capacity};
+ghost use Rattle.std.specs.Prelude.{◌≡◌, ℕ, ◌+◌, ◌-◌, ◌<◌, ◌≤◌, ◌^◌, ◌++◌, ◌⊎◌, min, List, Option, Some, None, [], length, take, drop};
+ghost use Rattle.std.specs.Prelude.{true, false, IfOk, IfSome, IsErr, vec_capacity};
 ghost use Rattle.std.specs.Io.{ReadsAtMost, WritesAtMost};
 ghost use Rattle.std.specs.Io.KnownBytes.{ReadConsumes, WriteAppends};
 ghost use Rattle.un_base.specs.Causes.{HasCause, HasWriteCause};
@@ -63,7 +64,8 @@ impl MemSource {
 }
 
 impl Source for MemSource {
-    ghost use Rattle.un_base.specs.Memory.{source_left, source_faults, source_calls, source_piece, source_fails, source_fails_next, source_gives_next};
+    ghost use Rattle.un_base.specs.Memory.{source_left, source_faults, source_calls, source_piece, source_fails, source_fails_next};
+    ghost use Rattle.un_base.specs.Memory.{source_gives_next};
 
     ghost left = { source_left };
 
@@ -185,7 +187,8 @@ impl MemSink {
 }
 
 impl Sink for MemSink {
-    ghost use Rattle.un_base.specs.Memory.{sink_held, sink_faults, sink_calls, sink_room, sink_piece, sink_fails, sink_is_full, sink_fails_next, sink_takes_next};
+    ghost use Rattle.un_base.specs.Memory.{sink_held, sink_faults, sink_calls, sink_room, sink_piece, sink_fails, sink_is_full};
+    ghost use Rattle.un_base.specs.Memory.{sink_fails_next, sink_takes_next};
 
     ghost held = { sink_held };
 

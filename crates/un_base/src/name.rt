@@ -1,6 +1,7 @@
 //! Names of functions, blocks, values and callees.
 
-ghost use Rattle.std.specs.Prelude.{◌≡◌, ℕ, ◌-◌, ◌<◌, ◌≤◌, ◌++◌, ◌↔◌, replicate, List, [], ◌∷◌, length, take, drop, IsTrue, true, IfSome, IsSome};
+ghost use Rattle.std.specs.Prelude.{◌≡◌, ℕ, ◌-◌, ◌<◌, ◌≤◌, ◌++◌, ◌↔◌, replicate, List, [], ◌∷◌, length, take, drop, IsTrue, true, IfSome};
+ghost use Rattle.std.specs.Prelude.{IsSome};
 ghost use Rattle.std.specs.List.{list_all};
 ghost use Rattle.un_base.specs.Names.{is_name, is_first, is_rest};
 
@@ -22,7 +23,12 @@ impl Model for Name {
 
     ghost view = { λ a. take a.len a.bytes };
 
-    ghost invariant = { λ a. record { name : is_name (take a.len a.bytes) ≡ true; padded : a.bytes ≡ take a.len a.bytes ++ replicate (32 - a.len) 0; long : length (take a.len a.bytes) ≡ a.len } };
+    ghost invariant = { λ a. record {
+      name : is_name (take a.len a.bytes) ≡ true;
+      padded : a.bytes ≡ take a.len a.bytes ++
+          replicate (32 - a.len) 0;
+      long : length (take a.len a.bytes) ≡ a.len;
+    } };
 
     ghost inverse = { λ bs. record { bytes = bs ++ replicate (32 - length bs) 0; len = length bs } };
 

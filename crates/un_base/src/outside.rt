@@ -1,6 +1,7 @@
 //! The outside: where bytes come from and where they go to.
 
-ghost use Rattle.std.specs.Prelude.{◌≡◌, ℕ, Bool, true, false, ◌⊎◌, ◌+◌, ◌<◌, ◌≤◌, min, List, Option, None, IfSome, IfOk, IsErr, OnErr, length};
+ghost use Rattle.std.specs.Prelude.{◌≡◌, ℕ, Bool, true, false, ◌⊎◌, ◌+◌, ◌<◌, ◌≤◌, min, List, Option, None, IfSome, IfOk, IsErr, OnErr};
+ghost use Rattle.std.specs.Prelude.{length};
 ghost use Rattle.std.specs.Io.{ReadsAtMost, WritesAtMost};
 ghost use Rattle.std.specs.Io.KnownBytes.{ReadConsumes, WriteAppends};
 ghost use Rattle.un_base.specs.Causes.{HasCause, HasWriteCause};

@@ -106,7 +106,8 @@ pub fn write_all<K: Sink>(sink: &mut K, bytes: &[u8]) -> Result<(), Failed>
     ensures later { K.faults sink.old ≤ K.faults sink.new }
     ensures quiet { OnOk result (K.faults sink.new ≡ K.faults sink.old) }
     ensures calls { K.calls sink.new ≤ K.calls sink.old + length bytes.now }
-    ensures whole_rest { OnOk result (IfSome (K.piece sink.old) (λ p. IsCallForEach p (length bytes.now) (K.calls sink.old) (K.calls sink.new))) }
+    ensures whole_rest { OnOk result (IfSome (K.piece sink.old) (λ p. IsCallForEach p (length bytes.now) (K.calls sink.old)
+        (K.calls sink.new))) }
     ensures all { OnOk result (Appends (K.held sink.old) (K.held sink.new) bytes.now) }
     ensures failed { OnErr result (Rose (K.faults sink.old) (K.faults sink.new)) }
     ensures prefix { OnErr result (AppendsPrefix (K.held sink.old) (K.held sink.new) bytes.now) }

@@ -1,5 +1,6 @@
 -- The values of the plan that spills every name of a function lie in their domains.
-use Rattle.std.proofs.Common.{◌≡◌, ℕ, suc, ◌+◌, ◌-◌, ◌≤◌, Bool, true, false, List, [], ◌∷◌, ◌++◌, length, map, replicate, Option, Some, None, All, Contains, refl, sym, ap, subst, ◌∙◌, arith}
+use Rattle.std.proofs.Common.{◌≡◌, ℕ, suc, ◌+◌, ◌-◌, ◌≤◌, Bool, true, false, List, [], ◌∷◌, ◌++◌, length, map, replicate, Option, Some}
+use Rattle.std.proofs.Common.{None, All, Contains, refl, sym, ap, subst, ◌∙◌, arith}
 use Rattle.std.specs.Prelude.{◌||◌, slice_get}
 use Rattle.std.specs.List.{range_with_len}
 use Rattle.std.proofs.lemmas.List.{length-append, length-map, length-replicate}
@@ -23,7 +24,8 @@ use Rattle.un_ir.specs.declared.extended.Growth.{Growth}
 use Rattle.un_ir.specs.declared.extended.Value.{Value}
 use Rattle.un_ir.specs.Extended.{temp, returns, IsGoodExtBlock, IsExtended, IsLinear}
 use Rattle.un_ir.specs.ExtendOf.{sort_of_name, sorts_of, with_extended, grown_block, with_ops, extended_blocks, extend_of}
-use Rattle.un_ir.specs.LinearOf.{body_ops, past_block, first_temps, current_after, in_op, end_ops, out_op, linear_block, linear_blocks, live_at, live_after, lin_of, kind_of_pair}
+use Rattle.un_ir.specs.LinearOf.{body_ops, past_block, first_temps, current_after, in_op, end_ops, out_op, linear_block, linear_blocks}
+use Rattle.un_ir.specs.LinearOf.{live_at, live_after, lin_of, kind_of_pair}
 use Rattle.un_model.specs.declared.model.Options.{Options}
 use Rattle.un_model.specs.Registers.{is_home}
 use Rattle.un_model.specs.Congruences.{live_in_temps}
@@ -41,7 +43,8 @@ use Rattle.un_baseline.proofs.WalkIn.{good_each}
 use Rattle.un_baseline.proofs.BlockIn.{live, Walk, Inside, SourceOk}
 use Rattle.un_baseline.proofs.StartIn.{saved_sort, Begins, start_among, start_values, link_begins, link_home, start_good}
 use Rattle.un_baseline.proofs.CloseIn.{Known, AreSources, bodies_good, ends_good, out_good}
-use Rattle.un_baseline.proofs.FunctionIn.{AssignsWell, assigns_well, op_count, bodies_count, ends_count, LowResults, row_low, bodies_low, ends_low, reads_own}
+use Rattle.un_baseline.proofs.FunctionIn.{AssignsWell, assigns_well, op_count, bodies_count, ends_count, LowResults, row_low, bodies_low}
+use Rattle.un_baseline.proofs.FunctionIn.{ends_low, reads_own}
 
 -- ---- a block
 

@@ -17,7 +17,8 @@ use Rattle.un_ir.specs.declared.extended.Growth.{Growth}
 use Rattle.un_ir.specs.declared.extended.Value.{Value}
 use Rattle.un_ir.specs.Linear.{first_of}
 use Rattle.un_ir.specs.LinearOf.{reads, name_operand, body_ops, in_op, end_ops, out_op}
-use Rattle.un_ir.specs.ExtendOf.{frame_op, with_op, with_operand, with_operands, new_operands, with_results, with_extended, with_all_extended, new_temps}
+use Rattle.un_ir.specs.ExtendOf.{frame_op, with_op, with_operand, with_operands, new_operands, with_results, with_extended}
+use Rattle.un_ir.specs.ExtendOf.{with_all_extended, new_temps}
 use Rattle.un_model.specs.Congruences.{term_or, term_of}
 use Rattle.un_baseline.specs.declared.plan.Purpose.TheVariants.{Unread}
 use Rattle.un_baseline.specs.SpillEverywhere.{purpose_of_out, block_end}
@@ -25,7 +26,9 @@ use Rattle.un_baseline.proofs.SpillSteps.{EachOp}
 use Rattle.un_baseline.proofs.Fronts.{IsCalm, IsEnter, IsFrontKind, EntersOnce, AreFront}
 use Rattle.un_baseline.proofs.Layouts.{GoesOn, IsLaidOut, onward, back, each_weaker}
 use Rattle.un_baseline.proofs.Tails.{AreForLink}
-use Rattle.un_baseline.proofs.Shapes.{Adds, AddsSome, IsReadingOp, IsEarly, IsOnward, EarlyOp, OnwardOp, EachSource, each_append, some_then, adds_then, middle, middle_adds, early_middle, onward_middle, bodies_add, operand_adds, early_onward, early_reading_by, operands_add, link_reads}
+use Rattle.un_baseline.proofs.Shapes.{Adds, AddsSome, IsReadingOp, IsEarly, IsOnward, EarlyOp, OnwardOp, EachSource, each_append, some_then}
+use Rattle.un_baseline.proofs.Shapes.{adds_then, middle, middle_adds, early_middle, onward_middle, bodies_add, operand_adds, early_onward}
+use Rattle.un_baseline.proofs.Shapes.{early_reading_by, operands_add, link_reads}
 
 -- ---- fronts
 

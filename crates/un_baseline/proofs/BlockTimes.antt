@@ -1,5 +1,6 @@
 -- The times of a block of the plan: when each instruction issues, and that each comes behind those before it.
-use Rattle.std.proofs.Common.{◌≡◌, ◌≢◌, ℕ, ◌+◌, ◌<◌, ◌≤◌, Bool, true, false, List, [], ◌∷◌, ◌++◌, length, get_or, append-nil, Option, Some, None, refl, sym, ap, subst, ◌∙◌, arith}
+use Rattle.std.proofs.Common.{◌≡◌, ◌≢◌, ℕ, ◌+◌, ◌<◌, ◌≤◌, Bool, true, false, List, [], ◌∷◌, ◌++◌, length, get_or, append-nil, Option, Some}
+use Rattle.std.proofs.Common.{None, refl, sym, ap, subst, ◌∙◌, arith}
 use Rattle.std.specs.Prelude.{◌==◌, if◌then◌else◌, All, AllPairs}
 use Rattle.std.proofs.lemmas.List.Elements.{All-nil, All-cons}
 use Rattle.std.proofs.lemmas.List.Kept.{AllPairs-cons}
@@ -26,16 +27,21 @@ use Rattle.un_baseline.specs.declared.plan.Move.{Move}
 use Rattle.un_baseline.specs.declared.plan.Setting.{Setting}
 use Rattle.un_baseline.specs.declared.plan.Progress.{Progress}
 use Rattle.un_baseline.specs.Plans.{planned_issue, planned_issues}
-use Rattle.un_baseline.specs.SpillEverywhere.{purpose_of_out, purpose_of, purpose_at, first_alts, copy_move, next_cycle, step_of, progress_of, progress_after, setting_of, first_progress, first_cycle, leave_cycle, end_cycle, block_end, block_plan}
+use Rattle.un_baseline.specs.SpillEverywhere.{purpose_of_out, purpose_of, purpose_at, first_alts, copy_move, next_cycle, step_of}
+use Rattle.un_baseline.specs.SpillEverywhere.{progress_of, progress_after, setting_of, first_progress, first_cycle, leave_cycle, end_cycle}
+use Rattle.un_baseline.specs.SpillEverywhere.{block_end, block_plan}
 use Rattle.un_baseline.proofs.OneAtATime.{AreSeparated}
 use Rattle.un_baseline.proofs.SpillSteps.{EachOp, EachBlockOp}
 use Rattle.un_baseline.proofs.Timing.{Rise, still, enters, issues, pairs_nil, IsBetween, idle, entering, within, all_between, rise_bound}
 use Rattle.un_baseline.proofs.Fronts.{IsCalm, AreFront, IsFrontKind, issues_from, front_rises}
-use Rattle.un_baseline.proofs.Tails.{IsReading, first_one, second_one, AreForLink, IsIn, free, inside, IsTail, none_there as none_there_yet, reload_there, leave_there, return_there, IsEnd, return_end}
-use Rattle.un_baseline.proofs.Layouts.{GoesOn, Returns, IsLaidOut, AreLaidOut, onward, back, purpose_split, issues_split, each_weaker, each_of_all, are_calm, early_by}
+use Rattle.un_baseline.proofs.Tails.{IsReading, first_one, second_one, AreForLink, IsIn, free, inside, IsTail, none_there as none_there_yet}
+use Rattle.un_baseline.proofs.Tails.{reload_there, leave_there, return_there, IsEnd, return_end}
+use Rattle.un_baseline.proofs.Layouts.{GoesOn, Returns, IsLaidOut, AreLaidOut, onward, back, purpose_split, issues_split, each_weaker}
+use Rattle.un_baseline.proofs.Layouts.{each_of_all, are_calm, early_by}
 use Rattle.un_baseline.proofs.Shapes.{each_append, link_reads}
 use Rattle.un_baseline.proofs.BlockShapes.{goes_by, unread_out}
-use Rattle.un_baseline.proofs.Terminators.{IsLate, IsSourceKind, SourceOp, source_stays, AreEnded, LeavesLast, none_ends, none_leave, jumps_last, each_left}
+use Rattle.un_baseline.proofs.Terminators.{IsLate, IsSourceKind, SourceOp, source_stays, AreEnded, LeavesLast, none_ends, none_leave}
+use Rattle.un_baseline.proofs.Terminators.{jumps_last, each_left}
 
 -- ---- in turn
 

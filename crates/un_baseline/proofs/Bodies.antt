@@ -1,5 +1,6 @@
 -- An operation of the source: its operands are reloaded, it issues, and its result is spilled.
-use Rattle.std.proofs.Common.{◌≡◌, ◌≢◌, ℕ, ◌+◌, ◌≤◌, Bool, true, false, List, [], ◌∷◌, ◌++◌, length, map, replicate, Option, Some, None, refl, sym, ap, subst, ◌∙◌, append_assoc, arith}
+use Rattle.std.proofs.Common.{◌≡◌, ◌≢◌, ℕ, ◌+◌, ◌≤◌, Bool, true, false, List, [], ◌∷◌, ◌++◌, length, map, replicate, Option, Some, None}
+use Rattle.std.proofs.Common.{refl, sym, ap, subst, ◌∙◌, append_assoc, arith}
 use Rattle.std.specs.Prelude.{nat_lt, if◌then◌else◌, slice_index, IfSome, All}
 use Rattle.std.specs.Option.{option_to_list}
 use Rattle.std.proofs.lemmas.Bool.Decides.{nat_tests}
@@ -38,14 +39,16 @@ use Rattle.un_baseline.specs.declared.plan.Setting.{Setting}
 use Rattle.un_baseline.specs.declared.plan.Progress.{Progress}
 use Rattle.un_baseline.specs.declared.plan.TheConstants.{SPILL, FROM_PREDICATE, PREDICATE}
 use Rattle.un_baseline.specs.Plans.{Step, planned_issue, planned_read}
-use Rattle.un_baseline.specs.SpillEverywhere.{purpose_at, slot_of, last_place, kept_place, kept_by_kind, first_copy, second_copy, operand_place, copies_of, other_progress, assigning}
+use Rattle.un_baseline.specs.SpillEverywhere.{purpose_at, slot_of, last_place, kept_place, kept_by_kind, first_copy, second_copy}
+use Rattle.un_baseline.specs.SpillEverywhere.{operand_place, copies_of, other_progress, assigning}
 use Rattle.un_baseline.proofs.Made.{made_at}
 use Rattle.un_baseline.proofs.Carried.{Carries, carries_same, carries_operands, carries_value, carries_new, operands_onward}
 use Rattle.un_baseline.proofs.Grown.{copy_ops, operands_ops, extended_ops, value_next, enter_none, enter_same}
 use Rattle.un_baseline.proofs.Sound.{Seen, after}
 use Rattle.un_baseline.proofs.Standing.{IsFew, no_item, one_item, Stands, Front, goes_front, goes_ok, goes_stands, goes_new_stands}
 use Rattle.un_baseline.proofs.Walk.{Good, moving_copy}
-use Rattle.un_baseline.proofs.Arrivals.{Kept, AreArrived, AreFor, AreReady, operands_arrive, reads_good, reads_timed, last_places, slot_space, sort_by}
+use Rattle.un_baseline.proofs.Arrivals.{Kept, AreArrived, AreFor, AreReady, operands_arrive, reads_good, reads_timed, last_places}
+use Rattle.un_baseline.proofs.Arrivals.{slot_space, sort_by}
 use Rattle.un_baseline.proofs.Items.{append_nil}
 
 module _ (c : ℕ) (H : Seen → List Read → Type 0) (b end : ℕ) (e : Ext) (block : ExtBlock) (s : Setting) (fit : IsFit e.table) where

@@ -1,5 +1,6 @@
 -- How many cycles the operations of the source take: their operands are reloaded, they issue, and their results are spilled.
-use Rattle.std.proofs.Common.{◌≡◌, ℕ, zero, suc, ◌+◌, Bool, true, List, [], ◌∷◌, ◌++◌, length, map, take, replicate, Option, Some, None, Contains, refl, sym, ap, subst, ◌∙◌, append-nil, arith}
+use Rattle.std.proofs.Common.{◌≡◌, ℕ, zero, suc, ◌+◌, Bool, true, List, [], ◌∷◌, ◌++◌, length, map, take, replicate, Option, Some, None}
+use Rattle.std.proofs.Common.{Contains, refl, sym, ap, subst, ◌∙◌, append-nil, arith}
 use Rattle.std.specs.Prelude.{slice_get, slice_index, sum_by}
 use Rattle.std.specs.Option.{option_to_list}
 use Rattle.std.proofs.lemmas.List.{length-map}
@@ -25,7 +26,8 @@ use Rattle.un_ir.specs.declared.extended.Sort.{Sort}
 use Rattle.un_ir.specs.Extended.{temp, at_register, name_kind, results_of, word_in, anywhere, wants_of_op, IsGoodOperand, IsExtended}
 use Rattle.un_ir.specs.ExtendOf.{new_temps, with_operands, new_operands, with_results, with_values, with_extended}
 use Rattle.un_ir.specs.Linear.{first_of}
-use Rattle.un_ir.specs.LinearOf.{name_operand, argument_operands, source_operands, body_op, body_ops, assigned, past, past_all, current_after}
+use Rattle.un_ir.specs.LinearOf.{name_operand, argument_operands, source_operands, body_op, body_ops, assigned, past, past_all}
+use Rattle.un_ir.specs.LinearOf.{current_after}
 use Rattle.un_ir.specs.WellFormed.{operand_kinds, result_kind}
 use Rattle.un_model.specs.declared.model.Options.{Options}
 use Rattle.un_baseline.specs.declared.plan.Definer.TheVariants.{Assigns}
@@ -42,7 +44,8 @@ use Rattle.un_baseline.proofs.BlockIn.{good_block, place_of, Inside, SourceOk, b
 use Rattle.un_baseline.proofs.CloseIn.{zip_length, news_length}
 use Rattle.un_baseline.proofs.FunctionIn.{op_count, dst_count}
 use Rattle.un_baseline.proofs.Reaching.{Reach, AreCopied, operands_reach, result_reach}
-use Rattle.un_baseline.proofs.CopiedNames.{CopiedAt, copied_operands, copied_row, copied_past, NamesCopied, names_assigned, kinds_wanted, operands_copied}
+use Rattle.un_baseline.proofs.CopiedNames.{CopiedAt, copied_operands, copied_row, copied_past, NamesCopied, names_assigned, kinds_wanted}
+use Rattle.un_baseline.proofs.CopiedNames.{operands_copied}
 
 -- ---- operands by their names
 

@@ -1,5 +1,6 @@
 -- What a growth knows of a value: its own temporaries, and which alternatives operands have that read it.
-use Rattle.std.proofs.Common.{◌≡◌, ◌≢◌, ℕ, zero, suc, ◌+◌, ◌-◌, ◌<◌, ◌≤◌, nat_eq, Bool, true, false, List, [], ◌∷◌, ◌++◌, length, set, Option, Some, None, refl, sym, ap, ◌∙◌, append_assoc, length-set, arith}
+use Rattle.std.proofs.Common.{◌≡◌, ◌≢◌, ℕ, zero, suc, ◌+◌, ◌-◌, ◌<◌, ◌≤◌, nat_eq, Bool, true, false, List, [], ◌∷◌, ◌++◌, length, set}
+use Rattle.std.proofs.Common.{Option, Some, None, refl, sym, ap, ◌∙◌, append_assoc, length-set, arith}
 use Rattle.std.specs.Prelude.{slice_get, slice_set, unwrap_or}
 use Rattle.std.proofs.lemmas.Bool.{eqb-true}
 use Rattle.std.proofs.lemmas.List.{length-append}
@@ -12,7 +13,8 @@ use Rattle.un_ir.specs.declared.extended.Value.{Value}
 use Rattle.un_ir.specs.declared.extended.Sort.{Sort}
 use Rattle.un_ir.specs.Extended.{temp}
 use Rattle.un_ir.specs.Linear.{first_of}
-use Rattle.un_ir.specs.ExtendOf.{copy_count, new_temps, own_temps, value_of, with_value, with_values, with_operand_by, with_operand, with_operands, alternatives, chosen_from}
+use Rattle.un_ir.specs.ExtendOf.{copy_count, new_temps, own_temps, value_of, with_value, with_values, with_operand_by, with_operand}
+use Rattle.un_ir.specs.ExtendOf.{with_operands, alternatives, chosen_from}
 use Rattle.un_model.specs.Schedules.{chosen}
 use Rattle.un_baseline.specs.SpillEverywhere.{last_place}
 use Rattle.un_baseline.proofs.Grown.{operand_next_by}

@@ -1,5 +1,6 @@
 -- All operations of a block lie in their domains.
-use Rattle.std.proofs.Common.{◌≡◌, ⊎_elim, ℕ, zero, suc, ◌+◌, ◌<◌, ◌≤◌, Bool, true, false, List, [], ◌∷◌, ◌++◌, length, take, replicate, length-set, Option, Some, None, Contains, refl, sym, ap, subst, ◌∙◌, append_assoc, arith}
+use Rattle.std.proofs.Common.{◌≡◌, ⊎_elim, ℕ, zero, suc, ◌+◌, ◌<◌, ◌≤◌, Bool, true, false, List, [], ◌∷◌, ◌++◌, length, take, replicate}
+use Rattle.std.proofs.Common.{length-set, Option, Some, None, Contains, refl, sym, ap, subst, ◌∙◌, append_assoc, arith}
 use Rattle.std.specs.Prelude.{slice_get}
 use Rattle.std.specs.List.{AllZip}
 use Rattle.std.proofs.lemmas.List.{length-map}
@@ -21,10 +22,12 @@ use Rattle.un_ir.specs.declared.extended.ExtBlock.{ExtBlock}
 use Rattle.un_ir.specs.declared.extended.Ext.{Ext}
 use Rattle.un_ir.specs.declared.extended.Growth.{Growth}
 use Rattle.un_ir.specs.declared.extended.Value.{Value}
-use Rattle.un_ir.specs.Extended.{temp, results_of, word_in, anywhere, wants_of_op, wants_of, wants_of_out, IsGoodOperand, IsGoodExtOp, IsExtended}
+use Rattle.un_ir.specs.Extended.{temp, results_of, word_in, anywhere, wants_of_op, wants_of, wants_of_out, IsGoodOperand, IsGoodExtOp}
+use Rattle.un_ir.specs.Extended.{IsExtended}
 use Rattle.un_ir.specs.Linear.{first_of}
 use Rattle.un_ir.specs.LinearOf.{reads as reads_of, name_operand, body_op, body_ops, assigned, past, end_ops}
-use Rattle.un_ir.specs.ExtendOf.{frame_op, copy_count, new_temps, with_op, with_operand_by, with_operand, with_operands, new_operands, with_results, with_values, with_enter, with_extended}
+use Rattle.un_ir.specs.ExtendOf.{frame_op, copy_count, new_temps, with_op, with_operand_by, with_operand, with_operands, new_operands}
+use Rattle.un_ir.specs.ExtendOf.{with_results, with_values, with_enter, with_extended}
 use Rattle.un_ir.specs.WellFormed.{operand_kinds, result_kind}
 use Rattle.un_model.specs.declared.model.Options.{Options}
 use Rattle.un_model.specs.Registers.{is_home}
@@ -41,7 +44,8 @@ use Rattle.un_baseline.proofs.OutsIn.{ReadsFrom, news_have, term_same, out_in}
 use Rattle.un_baseline.proofs.SpillSteps.{EachOp}
 use Rattle.un_baseline.proofs.ValuesOk.{ValuesOk, set_cases, values_same, values_operand, values_operands}
 use Rattle.un_baseline.proofs.WalkIn.{AreReady, operands_good}
-use Rattle.un_baseline.proofs.BlockIn.{good_block, live, place_of, Walk, Inside, SourceOk, ready_operands, body_values, body_among, body_good}
+use Rattle.un_baseline.proofs.BlockIn.{good_block, live, place_of, Walk, Inside, SourceOk, ready_operands, body_values, body_among}
+use Rattle.un_baseline.proofs.BlockIn.{body_good}
 use Rattle.un_baseline.proofs.StartIn.{Begins, begins_values}
 
 -- ---- the link register's value stays

@@ -1,5 +1,6 @@
 -- What a block hands over stands in the registers in which the next block takes it.
-use Rattle.std.proofs.Common.{◌≡◌, ◌≢◌, ℕ, zero, suc, ◌+◌, ◌-◌, ◌<◌, ◌≤◌, ◌⊎◌, inl, inr, ◌||◌, ◌&&◌, Bool, true, false, List, [], ◌∷◌, ◌++◌, length, map, filter, replicate, get_or, Option, Some, None, refl, sym, ap, subst, ◌∙◌, arith}
+use Rattle.std.proofs.Common.{◌≡◌, ◌≢◌, ℕ, zero, suc, ◌+◌, ◌-◌, ◌<◌, ◌≤◌, ◌⊎◌, inl, inr, ◌||◌, ◌&&◌, Bool, true, false, List, [], ◌∷◌, ◌++◌}
+use Rattle.std.proofs.Common.{length, map, filter, replicate, get_or, Option, Some, None, refl, sym, ap, subst, ◌∙◌, arith}
 use Rattle.std.specs.Prelude.{◌==◌, is_none, if◌then◌else◌, slice_get, All, Contains}
 use Rattle.std.specs.List.{AllZip, range_with_len}
 use Rattle.std.specs.Option.{option_map}
@@ -34,9 +35,11 @@ use Rattle.un_model.specs.declared.schedule.Issue.{Issue}
 use Rattle.un_model.specs.declared.schedule.Read.{Read}
 use Rattle.un_model.specs.declared.schedule.LiveRange.{LiveRange}
 use Rattle.un_model.specs.declared.schedule.Schedule.{Schedule}
-use Rattle.un_model.specs.Congruences.{term_of, live_in_temps, is_live_out, live_out_reads, place_by, place_over, register_of, register_read, HandsOver, HandsOn, KeepsCongruences}
+use Rattle.un_model.specs.Congruences.{term_of, live_in_temps, is_live_out, live_out_reads, place_by, place_over, register_of}
+use Rattle.un_model.specs.Congruences.{register_read, HandsOver, HandsOn, KeepsCongruences}
 use Rattle.un_model.specs.Pairs.{places_from, pairs_from, joined}
-use Rattle.un_baseline.specs.Plans.{Step, BlockPlan, planned_issue, planned_issues, planned_read, planned_reads, planned_reads_by, over_plans}
+use Rattle.un_baseline.specs.Plans.{Step, BlockPlan, planned_issue, planned_issues, planned_read, planned_reads, planned_reads_by}
+use Rattle.un_baseline.specs.Plans.{over_plans}
 use Rattle.un_baseline.specs.SpillEverywhere.{slot_of, setting_of, block_plan, block_plans}
 use Rattle.un_baseline.proofs.Counts.{results_count}
 use Rattle.un_baseline.proofs.Lasts.{EndsOut, ends_start, ends_bodies, ends_tail, handed_at, filter_none, filter_parts}
@@ -46,7 +49,8 @@ use Rattle.un_baseline.proofs.Outs.{ReadsFrom}
 use Rattle.un_baseline.proofs.Sound.{Seen}
 use Rattle.un_baseline.proofs.Starts.{Fresh}
 use Rattle.un_baseline.proofs.Walk.{AreGoodSteps, seen_after, seen_is}
-use Rattle.un_baseline.proofs.Walked.{no_slot_clobbered, regs_kept, regs_apart, IsBelow, steps_below, steps_size, below_weaker, suits_of, more, more_behind, E, made_block, ext_from, grown_values, grown_next}
+use Rattle.un_baseline.proofs.Walked.{no_slot_clobbered, regs_kept, regs_apart, IsBelow, steps_below, steps_size, below_weaker, suits_of}
+use Rattle.un_baseline.proofs.Walked.{more, more_behind, E, made_block, ext_from, grown_values, grown_next}
 use Rattle.un_baseline.proofs.Whole.{bound_rooms, Handed, ops_are, term_is, starts, start_size, whole_good, start_made}
 use Rattle.un_baseline.proofs.Items.{get_left, get_right, get_map, append_nil}
 

@@ -1,5 +1,6 @@
 -- The values of names have copies.
-use Rattle.std.proofs.Common.{◌≡◌, ◌⊎◌, inl, inr, ⊎_elim, ℕ, zero, suc, ◌+◌, ◌<◌, ◌≤◌, Bool, true, List, [], ◌∷◌, ◌++◌, length, map, replicate, Option, Some, None, refl, sym, ap, subst, ◌∙◌, arith}
+use Rattle.std.proofs.Common.{◌≡◌, ◌⊎◌, inl, inr, ⊎_elim, ℕ, zero, suc, ◌+◌, ◌<◌, ◌≤◌, Bool, true, List, [], ◌∷◌, ◌++◌, length, map}
+use Rattle.std.proofs.Common.{replicate, Option, Some, None, refl, sym, ap, subst, ◌∙◌, arith}
 use Rattle.std.specs.Prelude.{slice_get, slice_set, slice_index}
 use Rattle.std.specs.List.{AllZip}
 use Rattle.std.proofs.lemmas.Option.{slice_get_within}
@@ -15,7 +16,8 @@ use Rattle.un_ir.specs.declared.extended.Value.{Value}
 use Rattle.un_ir.specs.Extended.{temp, kind_of_temp, Want, IsGoodOperand}
 use Rattle.un_ir.specs.Linear.{first_of}
 use Rattle.un_ir.specs.LinearOf.{assigned, first_temps}
-use Rattle.un_ir.specs.ExtendOf.{copy_count, new_temps, alternatives, value_of, with_value, with_values, with_operand_by, with_operand, with_operands, new_operands}
+use Rattle.un_ir.specs.ExtendOf.{copy_count, new_temps, alternatives, value_of, with_value, with_values, with_operand_by, with_operand}
+use Rattle.un_ir.specs.ExtendOf.{with_operands, new_operands}
 use Rattle.un_model.specs.declared.model.Options.{Options}
 use Rattle.un_baseline.specs.declared.plan.Setting.{Setting}
 use Rattle.un_baseline.specs.SpillEverywhere.{setting_of}

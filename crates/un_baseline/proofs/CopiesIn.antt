@@ -1,5 +1,6 @@
 -- What the copies of the plan that spills every name do lies in their domains.
-use Rattle.std.proofs.Common.{◌≡◌, ℕ, zero, suc, ◌+◌, ◌-◌, ◌<◌, ◌≤◌, Bool, true, false, List, [], ◌∷◌, length, replicate, Option, Some, None, refl, sym, subst, arith}
+use Rattle.std.proofs.Common.{◌≡◌, ℕ, zero, suc, ◌+◌, ◌-◌, ◌<◌, ◌≤◌, Bool, true, false, List, [], ◌∷◌, length, replicate, Option, Some}
+use Rattle.std.proofs.Common.{None, refl, sym, subst, arith}
 use Rattle.std.specs.Prelude.{◌==◌, if◌then◌else◌, Contains, IfSome, All, slice_get, unwrap_or}
 use Rattle.un_base.specs.declared.ids.NameId.{NameId}
 use Rattle.un_base.specs.declared.ids.TempId.{TempId}
@@ -24,7 +25,8 @@ use Rattle.un_baseline.specs.declared.plan.Setting.{Setting}
 use Rattle.un_baseline.specs.declared.plan.Progress.{Progress}
 use Rattle.un_baseline.specs.declared.plan.Move.{Move}
 use Rattle.un_baseline.specs.RoomyOptions.{AreRoomy}
-use Rattle.un_baseline.specs.SpillEverywhere.{slot_of, last_place, is_placed, kept_place, slot_at_start, no_move, spilled_to, kept_by_kind, first_copy, second_copy, operand_copy, truth_copy}
+use Rattle.un_baseline.specs.SpillEverywhere.{slot_of, last_place, is_placed, kept_place, slot_at_start, no_move, spilled_to, kept_by_kind}
+use Rattle.un_baseline.specs.SpillEverywhere.{first_copy, second_copy, operand_copy, truth_copy}
 use Rattle.un_baseline.proofs.InDomains.{StepIn}
 use Rattle.un_baseline.proofs.RegistersIn.{zero_in, with_zero_in, low_in, home_in, predicate_in, slot_in}
 

@@ -1,5 +1,6 @@
 -- What `extend` adds has as many temporaries as it counts, and ends as the block of the source does.
-use Rattle.std.proofs.Common.{◌≡◌, ℕ, zero, suc, ◌+◌, ◌-◌, ◌<◌, ◌≤◌, Bool, true, false, List, [], ◌∷◌, ◌++◌, length, Option, Some, None, refl, ap, ◌∙◌, append_assoc, arith}
+use Rattle.std.proofs.Common.{◌≡◌, ℕ, zero, suc, ◌+◌, ◌-◌, ◌<◌, ◌≤◌, Bool, true, false, List, [], ◌∷◌, ◌++◌, length, Option, Some, None}
+use Rattle.std.proofs.Common.{refl, ap, ◌∙◌, append_assoc, arith}
 use Rattle.std.specs.Prelude.{slice_get, map, replicate, if◌then◌else◌}
 use Rattle.std.specs.List.{range_with_len}
 use Rattle.std.specs.Option.{option_to_list}
@@ -24,13 +25,15 @@ use Rattle.un_ir.specs.declared.extended.Value.{Value}
 use Rattle.un_ir.specs.declared.extended.Sort.{Sort}
 use Rattle.un_ir.specs.Extended.{temp, is_return}
 use Rattle.un_ir.specs.Linear.{first_of, ending_of}
-use Rattle.un_ir.specs.ExtendOf.{copy_count_by, value_of, sort_of_name, with_value, with_values, with_operand_by, with_operand, with_operands, sorts_of, with_leave, with_enter, with_extended, with_all_extended}
+use Rattle.un_ir.specs.ExtendOf.{copy_count_by, value_of, sort_of_name, with_value, with_values, with_operand_by, with_operand}
+use Rattle.un_ir.specs.ExtendOf.{with_operands, sorts_of, with_leave, with_enter, with_extended, with_all_extended}
 use Rattle.un_ir.specs.LinearOf.{assigned, past, past_all, body_op, body_ops}
 use Rattle.un_ir.specs.WellFormed.{result_kind}
 use Rattle.un_model.specs.Congruences.{term_of}
 use Rattle.un_baseline.specs.SpillEverywhere.{first_number}
 use Rattle.un_baseline.proofs.Carried.{operands_onward}
-use Rattle.un_baseline.proofs.Grown.{copy_ops, value_ops, values_ops, value_next, operand_ops_by, operand_ops, operands_ops, operand_next_by, leave_ops, enter_ops, made_op, behind_op, extended_ops, all_ops}
+use Rattle.un_baseline.proofs.Grown.{copy_ops, value_ops, values_ops, value_next, operand_ops_by, operand_ops, operands_ops}
+use Rattle.un_baseline.proofs.Grown.{operand_next_by, leave_ops, enter_ops, made_op, behind_op, extended_ops, all_ops}
 
 -- how many temporaries operations define
 abbrev pub results_count : List ExtOp → ℕ

@@ -1,5 +1,6 @@
 -- Which operation defines a temporary: the live range of the temporary is that of a result of this operation.
-use Rattle.std.proofs.Common.{◌≡◌, ℕ, zero, suc, ◌+◌, ◌<◌, List, [], ◌∷◌, ◌++◌, length, map, get_or, take, Option, Some, Contains, refl, sym, ap, subst, ◌∙◌, arith}
+use Rattle.std.proofs.Common.{◌≡◌, ℕ, zero, suc, ◌+◌, ◌<◌, List, [], ◌∷◌, ◌++◌, length, map, get_or, take, Option, Some, Contains, refl}
+use Rattle.std.proofs.Common.{sym, ap, subst, ◌∙◌, arith}
 use Rattle.std.specs.Prelude.{slice_get, AllPairs}
 use Rattle.std.specs.List.{AllZip, range_with_len}
 use Rattle.std.specs.Option.{option_map}
@@ -14,7 +15,8 @@ use Rattle.un_model.specs.declared.schedule.Read.{Read}
 use Rattle.un_model.specs.declared.schedule.LiveRange.{LiveRange}
 use Rattle.un_model.specs.Pairs.{places_from, pairs_from}
 use Rattle.un_model.specs.Schedules.{last_read}
-use Rattle.un_baseline.specs.Plans.{Step, BlockPlan, Suits, SuitsAll, planned_issue, planned_issues, planned_reads, over_plans, Place, place_at, step_places, plan_places, planned_range, range_at, planned_schedule}
+use Rattle.un_baseline.specs.Plans.{Step, BlockPlan, Suits, SuitsAll, planned_issue, planned_issues, planned_reads, over_plans, Place}
+use Rattle.un_baseline.specs.Plans.{place_at, step_places, plan_places, planned_range, range_at, planned_schedule}
 use Rattle.un_baseline.proofs.Each.{Has, has_whole, has_left, has_right, has_first, EachStep, EachPlan}
 
 -- ---- numbers of temporaries

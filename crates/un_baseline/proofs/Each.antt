@@ -1,5 +1,6 @@
 -- What holds of each operation with its step, and what follows for the schedule of a plan.
-use Rattle.std.proofs.Common.{◌≡◌, ℕ, zero, suc, ◌+◌, ◌<◌, Bool, true, false, List, [], ◌∷◌, ◌++◌, length, map, Option, Some, refl, sym, ap, subst, ◌∙◌, arith}
+use Rattle.std.proofs.Common.{◌≡◌, ℕ, zero, suc, ◌+◌, ◌<◌, Bool, true, false, List, [], ◌∷◌, ◌++◌, length, map, Option, Some, refl, sym, ap}
+use Rattle.std.proofs.Common.{subst, ◌∙◌, arith}
 use Rattle.std.specs.Prelude.{slice_get, if◌then◌else◌, All, Contains}
 use Rattle.std.proofs.lemmas.List.{length-append}
 use Rattle.std.proofs.lemmas.List.Elements.{All-append, All-nil, All-cons}
@@ -11,7 +12,8 @@ use Rattle.un_model.specs.declared.schedule.Read.{Read}
 use Rattle.un_model.specs.declared.schedule.LiveRange.{LiveRange}
 use Rattle.un_model.specs.Pairs.{places_from, pairs_from, joined}
 use Rattle.un_model.specs.Schedules.{last_read}
-use Rattle.un_baseline.specs.Plans.{Step, BlockPlan, planned_issue, planned_issues, planned_read, planned_reads_by, planned_reads, over_plans, Place, place_at, step_places, plan_places, planned_range, range_at, planned_schedule}
+use Rattle.un_baseline.specs.Plans.{Step, BlockPlan, planned_issue, planned_issues, planned_read, planned_reads_by, planned_reads}
+use Rattle.un_baseline.specs.Plans.{over_plans, Place, place_at, step_places, plan_places, planned_range, range_at, planned_schedule}
 
 -- ---- parts of lists
 

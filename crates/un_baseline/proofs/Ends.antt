@@ -1,5 +1,6 @@
 -- The end of a block: its terminator, and what it hands over.
-use Rattle.std.proofs.Common.{◌≡◌, ◌≢◌, ℕ, suc, ◌+◌, ◌-◌, ◌<◌, ◌≤◌, inl, Bool, true, false, List, [], ◌∷◌, ◌++◌, length, map, Some, None, refl, sym, ap, subst, ◌∙◌, append_assoc, arith}
+use Rattle.std.proofs.Common.{◌≡◌, ◌≢◌, ℕ, suc, ◌+◌, ◌-◌, ◌<◌, ◌≤◌, inl, Bool, true, false, List, [], ◌∷◌, ◌++◌, length, map, Some, None}
+use Rattle.std.proofs.Common.{refl, sym, ap, subst, ◌∙◌, append_assoc, arith}
 use Rattle.std.specs.Prelude.{◌==◌, nat_lt, if◌then◌else◌, slice_get, slice_index, All}
 use Rattle.std.specs.List.{AllZip, range_with_len}
 use Rattle.std.proofs.lemmas.Bool.Decides.{nat_tests}
@@ -42,7 +43,8 @@ use Rattle.un_baseline.specs.declared.plan.Definer.TheVariants.{Other}
 use Rattle.un_baseline.specs.declared.plan.Setting.{Setting}
 use Rattle.un_baseline.specs.declared.plan.Progress.{Progress}
 use Rattle.un_baseline.specs.declared.plan.TheConstants.{PREDICATE}
-use Rattle.un_baseline.specs.SpillEverywhere.{purpose_of_out, slot_of, is_placed, kept_place, copies_of, out_place, handed_place, after_end, other_progress}
+use Rattle.un_baseline.specs.SpillEverywhere.{purpose_of_out, slot_of, is_placed, kept_place, copies_of, out_place, handed_place, after_end}
+use Rattle.un_baseline.specs.SpillEverywhere.{other_progress}
 use Rattle.un_baseline.proofs.Carried.{carries_same, carries_operands}
 use Rattle.un_baseline.proofs.Grown.{operands_ops, enter_ops, all_ops}
 use Rattle.un_baseline.proofs.Sound.{Seen}

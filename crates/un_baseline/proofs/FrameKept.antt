@@ -12,6 +12,7 @@ use Rattle.un_model.specs.Schedules.{schedule_of}
 use Rattle.un_model.specs.Solutions.{KeepsDomains, uses_frame, KeepsFrameOrder, KeepsFrame, KeepsSpaces, KeepsLatencies, latency_gap}
 use Rattle.un_baseline.specs.Plans.{planned_schedule}
 use Rattle.un_baseline.specs.RoomyOptions.{AreRoomy, IsSpillable}
+use Rattle.un_baseline.proofs.Grounds.{is_linear, is_extended}
 use Rattle.un_baseline.specs.SpillEverywhere.{block_plans, spilled_values}
 use Rattle.un_baseline.proofs.SpillSteps.{EachBlockOp}
 use Rattle.un_baseline.proofs.Terminators.{SourceOp, source_kind, each_of_at, made_ended}
@@ -47,7 +48,7 @@ module _ (e : Ext) where
 module _ (m : Model) (h : IsSpillable m) (values : List ℕ) (same : values ≡ spilled_values m.ext) where
   pub times_of_model : AreTimed m.ext true 0 0 m.ext.blocks
   times_of_model =
-      let good = h.kept.good in
+      let good = (is_extended m h).good in
       are_timed m.ext h.table true 0 0 m.ext.blocks (are_laid_out m h values same) (each_source m.ext m.ext.blocks good.each)
       (each_ended m.ext m.ext.blocks good.each)
 
@@ -57,7 +58,7 @@ module _ (m : Model) (h : IsSpillable m) (values : List ℕ) (same : values ≡ 
   pub latencies_of_model : KeepsLatencies (latency_gap m.ext.table) (schedule_of m values)
   latencies_of_model =
       subst (λ (t : Schedule). KeepsSpaces t → KeepsLatencies (latency_gap m.ext.table) t) planned_of_model
-      (keeps_latencies m.ext h.table h.kept times_of_model) (spaces_of_model m h values same)
+      (keeps_latencies m.ext h.table (is_extended m h) times_of_model) (spaces_of_model m h values same)
 
   frame_order : KeepsFrameOrder (schedule_of m values).issues
   frame_order = subst (λ (t : Schedule). KeepsFrameOrder t.issues) planned_of_model (keeps_frame_order m.ext h.table times_of_model)
@@ -67,7 +68,7 @@ module _ (m : Model) (h : IsSpillable m) (values : List ℕ) (same : values ≡ 
       let is = h.function.extended in
       subst (λ (t : Schedule). uses_frame t ≡ true) planned_of_model
       (subst (λ (e : Ext). 0 < length e.blocks → uses_frame (planned_schedule e.blocks (block_plans e true e.blocks)) ≡ true) (sym is)
-      (spilled_uses h.function.function h.function.lists m.ext.table) h.kept.good.entry)
+      (spilled_uses h.function.function h.function.lists m.ext.table) (is_extended m h).good.entry)
 
   pub frame_of_model : KeepsFrame (value_of values m.flag) (schedule_of m values)
   frame_of_model =
@@ -83,10 +84,11 @@ module _ (m : Model) (h : IsSpillable m) (values : List ℕ) (same : values ≡ 
   each_in =
       let of = h.function in
       subst (λ (e : Ext). AreRoomy e m.options → IsExtended e → AreIn e m.options true e.blocks) (sym of.extended)
-      (λ roomy kept. function_in of.function of.lists m.ext.table m.options h.table roomy kept of.linear) h.roomy h.kept
+      (λ roomy kept. function_in of.function of.lists m.ext.table m.options h.table roomy kept (is_linear m h of)) h.roomy (is_extended m h)
 
   pub domains_of_model : KeepsDomains m.domains values
   domains_of_model =
       let laid = are_laid_out m h values same in
-      let kept = keeps_domains m.ext m.options h.table laid h.kept.good.each times_of_model (all_real true m.ext.blocks laid) each_in in
+      let good = (is_extended m h).good in
+      let kept = keeps_domains m.ext m.options h.table laid good.each times_of_model (all_real true m.ext.blocks laid) each_in in
       subst (KeepsDomains m.domains) (sym same) (subst (λ (n : Model). KeepsDomains n.domains (spilled_values m.ext)) (sym h.model) kept)

@@ -1,5 +1,6 @@
 -- In the plan that spills every name Enter issues before the frame is used, and Leave behind.
-use Rattle.std.proofs.Common.{◌≡◌, ◌≢◌, ℕ, ◌+◌, ◌≤◌, Bool, true, false, List, [], ◌∷◌, ◌++◌, length, get_or, Option, Some, None, refl, sym, ap, subst, ◌∙◌, arith}
+use Rattle.std.proofs.Common.{◌≡◌, ◌≢◌, ℕ, ◌+◌, ◌≤◌, Bool, true, false, List, [], ◌∷◌, ◌++◌, length, get_or, Option, Some, None, refl, sym}
+use Rattle.std.proofs.Common.{ap, subst, ◌∙◌, arith}
 use Rattle.std.specs.Prelude.{All, IfSome}
 use Rattle.std.proofs.lemmas.List.Elements.{All-append, All-nil}
 use Rattle.un_isa.specs.declared.op.Op.{Op}
@@ -13,7 +14,8 @@ use Rattle.un_model.specs.Solutions.{Precedes, frame_distance, after_enter, befo
 use Rattle.un_baseline.specs.Plans.{planned_issues, over_plans, planned_schedule}
 use Rattle.un_baseline.specs.SpillEverywhere.{first_cycle, block_plan, block_plans}
 use Rattle.un_baseline.proofs.Layouts.{in_block, past_block}
-use Rattle.un_baseline.proofs.BlockTimes.{IsTimed, none_there, entered, early, reloads, leaves, returns, BlockTimes, AreTimed, behind_first, no_op, differ}
+use Rattle.un_baseline.proofs.BlockTimes.{IsTimed, none_there, entered, early, reloads, leaves, returns, BlockTimes, AreTimed, behind_first}
+use Rattle.un_baseline.proofs.BlockTimes.{no_op, differ}
 
 -- ---- distances
 

@@ -31,7 +31,8 @@ use Rattle.un_baseline.specs.declared.plan.Setting.{Setting}
 use Rattle.un_baseline.specs.declared.plan.Progress.{Progress}
 use Rattle.un_baseline.specs.declared.plan.Move.{Move}
 use Rattle.un_baseline.specs.Plans.{Step, planned_issue, planned_cycle}
-use Rattle.un_baseline.specs.SpillEverywhere.{purpose_at, no_move, spilled_to, kept_by_kind, first_copy, second_copy, first_alts, copy_move, after_move, next_cycle, step_of, progress_of, steps_of, progress_after}
+use Rattle.un_baseline.specs.SpillEverywhere.{purpose_at, no_move, spilled_to, kept_by_kind, first_copy, second_copy, first_alts, copy_move}
+use Rattle.un_baseline.specs.SpillEverywhere.{after_move, next_cycle, step_of, progress_of, steps_of, progress_after}
 use Rattle.un_baseline.proofs.SpillSteps.{EachOp}
 use Rattle.un_baseline.proofs.Timing.{Rise, nothing, still, enters, issues}
 

@@ -1,5 +1,6 @@
 -- All values of the plan that spills every name of a function lie in their domains.
-use Rattle.std.proofs.Common.{◌≡◌, ◌≢◌, ⊎_elim, ℕ, zero, suc, ◌+◌, ◌<◌, ◌≤◌, Bool, true, false, List, [], ◌∷◌, ◌++◌, length, length-set, map, take, replicate, Option, Some, None, All, Contains, refl, ap, subst, ◌∙◌, arith}
+use Rattle.std.proofs.Common.{◌≡◌, ◌≢◌, ⊎_elim, ℕ, zero, suc, ◌+◌, ◌<◌, ◌≤◌, Bool, true, false, List, [], ◌∷◌, ◌++◌, length, length-set}
+use Rattle.std.proofs.Common.{map, take, replicate, Option, Some, None, All, Contains, refl, ap, subst, ◌∙◌, arith}
 use Rattle.std.specs.Prelude.{slice_get}
 use Rattle.std.specs.List.{AllZip, range_with_len}
 use Rattle.std.specs.Option.{option_map, option_to_list}
@@ -30,7 +31,8 @@ use Rattle.un_ir.specs.declared.extended.Growth.{Growth}
 use Rattle.un_ir.specs.declared.extended.Sort.{Sort}
 use Rattle.un_ir.specs.declared.extended.Value.{Value}
 use Rattle.un_ir.specs.Extended.{temp, name_kind, results_of, Want, wants_of, IsGoodOperand, IsGoodExtBlock}
-use Rattle.un_ir.specs.ExtendOf.{sorts_of, value_of, with_leave, with_enter, with_value, with_values, with_operand_by, with_operand, with_operands, new_operands, with_results, with_extended, with_all_extended}
+use Rattle.un_ir.specs.ExtendOf.{sorts_of, value_of, with_leave, with_enter, with_value, with_values, with_operand_by, with_operand}
+use Rattle.un_ir.specs.ExtendOf.{with_operands, new_operands, with_results, with_extended, with_all_extended}
 use Rattle.un_ir.specs.Linear.{first_of}
 use Rattle.un_ir.specs.LinearOf.{reads as reads_of, name_operand, body_op, body_ops, assigned, past, past_all, end_ops, kind_of_pair}
 use Rattle.un_ir.specs.Names.{kind_of}

@@ -1,5 +1,6 @@
 -- The operations that `extend` adds for each operation of a linear function, as lists.
-use Rattle.std.proofs.Common.{◌≡◌, ℕ, ◌+◌, Bool, true, false, List, [], ◌∷◌, ◌++◌, length, Option, Some, None, refl, sym, ap, ◌∙◌, append_assoc, arith}
+use Rattle.std.proofs.Common.{◌≡◌, ℕ, ◌+◌, Bool, true, false, List, [], ◌∷◌, ◌++◌, length, Option, Some, None, refl, sym, ap, ◌∙◌}
+use Rattle.std.proofs.Common.{append_assoc, arith}
 use Rattle.std.specs.Prelude.{slice_get, if◌then◌else◌}
 use Rattle.un_base.specs.declared.ids.NameId.{NameId}
 use Rattle.un_base.specs.declared.ids.TempId.{TempId}
@@ -17,7 +18,9 @@ use Rattle.un_ir.specs.declared.extended.Value.{Value}
 use Rattle.un_ir.specs.declared.extended.Sort.{Sort}
 use Rattle.un_ir.specs.Extended.{temp, is_return}
 use Rattle.un_ir.specs.Linear.{first_of}
-use Rattle.un_ir.specs.ExtendOf.{copy_op, frame_op, with_op, with_copies, copy_count_by, copy_count, new_temps, with_value, with_values, with_operand_by, with_operand, with_operands, new_operands, sorts_of, with_results, with_leave, with_enter, with_extended, with_all_extended}
+use Rattle.un_ir.specs.ExtendOf.{copy_op, frame_op, with_op, with_copies, copy_count_by, copy_count, new_temps, with_value, with_values}
+use Rattle.un_ir.specs.ExtendOf.{with_operand_by, with_operand, with_operands, new_operands, sorts_of, with_results, with_leave, with_enter}
+use Rattle.un_ir.specs.ExtendOf.{with_extended, with_all_extended}
 use Rattle.un_baseline.proofs.Items.{append_nil}
 
 -- ---- copies

@@ -1,5 +1,6 @@
 -- In the plan that spills every name no cycle is past its block's horizon: each operation takes at most two.
-use Rattle.std.proofs.Common.{◌≡◌, ℕ, ◌+◌, ◌-◌, ◌*◌, ◌<◌, ◌≤◌, ⊎_elim, Bool, true, false, List, [], ◌∷◌, ◌++◌, length, Option, Some, None, refl, sym, ap, ◌∙◌, arith}
+use Rattle.std.proofs.Common.{◌≡◌, ℕ, ◌+◌, ◌-◌, ◌*◌, ◌<◌, ◌≤◌, ⊎_elim, Bool, true, false, List, [], ◌∷◌, ◌++◌, length, Option, Some, None}
+use Rattle.std.proofs.Common.{refl, sym, ap, ◌∙◌, arith}
 use Rattle.std.specs.Prelude.{◌==◌, ◌&&◌, ◌||◌, is_some, if◌then◌else◌, All, IfSome}
 use Rattle.std.specs.List.{AllZip, list_all}
 use Rattle.std.specs.Option.{option_to_list}
@@ -32,7 +33,8 @@ use Rattle.un_baseline.specs.declared.plan.Setting.{Setting}
 use Rattle.un_baseline.specs.declared.plan.Progress.{Progress}
 use Rattle.un_baseline.specs.declared.plan.Move.{Move}
 use Rattle.un_baseline.specs.Plans.{Step, value_if, planned_issue, planned_cycle}
-use Rattle.un_baseline.specs.SpillEverywhere.{purpose_of, purpose_at, first_alts, copy_move, after_move, next_cycle, after_end, progress_of, progress_after, setting_of, first_progress, first_cycle, block_end, block_plan, result_wait}
+use Rattle.un_baseline.specs.SpillEverywhere.{purpose_of, purpose_at, first_alts, copy_move, after_move, next_cycle, after_end, progress_of}
+use Rattle.un_baseline.specs.SpillEverywhere.{progress_after, setting_of, first_progress, first_cycle, block_end, block_plan, result_wait}
 use Rattle.un_baseline.proofs.Each.{EachStep}
 use Rattle.un_baseline.proofs.SpillSteps.{EachOp, Rests, IsReal, transfers}
 use Rattle.un_baseline.proofs.Layouts.{IsLaidOut, onward, back}

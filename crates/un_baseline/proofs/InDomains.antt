@@ -1,5 +1,6 @@
 -- The values of the plan that spills every name lie in their domains, where those of each operation do.
-use Rattle.std.proofs.Common.{◌≡◌, ℕ, ◌+◌, ◌*◌, Bool, true, false, List, [], ◌∷◌, ◌++◌, length, map, refl, sym, subst, ◌∙◌, append_assoc, arith}
+use Rattle.std.proofs.Common.{◌≡◌, ℕ, ◌+◌, ◌*◌, Bool, true, false, List, [], ◌∷◌, ◌++◌, length, map, refl, sym, subst, ◌∙◌, append_assoc}
+use Rattle.std.proofs.Common.{arith}
 use Rattle.std.specs.Prelude.{All}
 use Rattle.std.specs.List.{AllZip}
 use Rattle.std.specs.Option.{option_to_list}
@@ -14,7 +15,8 @@ use Rattle.un_domains.specs.declared.domain.Domain.TheVariants.{Range}
 use Rattle.un_model.specs.declared.model.Options.{Options}
 use Rattle.un_model.specs.Pairs.{places_from}
 use Rattle.un_model.specs.Solutions.{InDomain, KeepsDomains}
-use Rattle.un_model.specs.Variables.{is_optional, has_cycle, chosen_operands, instr_domain, cycle_domain, choice_domain, result_domain, carries_truth, op_domains, ops_domains, block_domains, blocks_domains, own_horizon, domains_of}
+use Rattle.un_model.specs.Variables.{is_optional, has_cycle, chosen_operands, instr_domain, cycle_domain, choice_domain, result_domain}
+use Rattle.un_model.specs.Variables.{carries_truth, op_domains, ops_domains, block_domains, blocks_domains, own_horizon, domains_of}
 use Rattle.un_baseline.specs.Plans.{Step, value_if, step_values, steps_values, block_values, blocks_values, planned_issues}
 use Rattle.un_baseline.specs.SpillEverywhere.{setting_of, first_progress, first_cycle, block_plan, block_plans, spilled_values}
 use Rattle.un_baseline.proofs.Each.{EachStep}

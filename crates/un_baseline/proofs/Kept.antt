@@ -1,5 +1,6 @@
 -- What the plan that spills every name keeps in the extended function of a function.
-use Rattle.std.proofs.Common.{◌≡◌, ◌≢◌, ℕ, suc, ◌+◌, Bool, true, false, List, [], ◌∷◌, ◌++◌, length, map, replicate, Some, refl, sym, ap, subst, ◌∙◌}
+use Rattle.std.proofs.Common.{◌≡◌, ◌≢◌, ℕ, suc, ◌+◌, Bool, true, false, List, [], ◌∷◌, ◌++◌, length, map, replicate, Some, refl, sym, ap}
+use Rattle.std.proofs.Common.{subst, ◌∙◌}
 use Rattle.std.specs.Prelude.{◌||◌, slice_get, All}
 use Rattle.std.proofs.Math.Logic.{∥∥₁_elim}
 use Rattle.un_base.specs.declared.ids.NameId.{NameId}
@@ -22,7 +23,8 @@ use Rattle.un_ir.specs.declared.extended.Value.{Value}
 use Rattle.un_ir.specs.declared.extended.Growth.{Growth}
 use Rattle.un_ir.specs.Extended.{returns}
 use Rattle.un_ir.specs.ExtendOf.{extend_of, grown_block, with_ops, extended_blocks, with_all_extended, with_extended}
-use Rattle.un_ir.specs.LinearOf.{lin_of, linear_blocks, linear_block, past_block, live_at, live_after, first_temps, current_after, body_ops, end_ops, out_op, in_op, kind_of_pair}
+use Rattle.un_ir.specs.LinearOf.{lin_of, linear_blocks, linear_block, past_block, live_at, live_after, first_temps, current_after, body_ops}
+use Rattle.un_ir.specs.LinearOf.{end_ops, out_op, in_op, kind_of_pair}
 use Rattle.un_ir.specs.WellFormed.{IsGoodOp, IsGoodBlock, IsWellFormed}
 use Rattle.un_ir.proofs.NameBounds.{at_all}
 use Rattle.un_isa.specs.Registers.{callee_saved, saved_registers}

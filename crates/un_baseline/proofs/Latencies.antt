@@ -1,5 +1,6 @@
 -- In the plan that spills every name each instruction issues in its block, and what reads a temporary waits for its definer.
-use Rattle.std.proofs.Common.{◌≡◌, ◌≢◌, ℕ, zero, suc, ◌+◌, ◌<◌, ◌≤◌, ◌⊎◌, inl, inr, ⊎_elim, Bool, true, false, List, [], ◌∷◌, ◌++◌, length, get_or, take, Option, Some, None, refl, sym, ap, subst, ◌∙◌, arith}
+use Rattle.std.proofs.Common.{◌≡◌, ◌≢◌, ℕ, zero, suc, ◌+◌, ◌<◌, ◌≤◌, ◌⊎◌, inl, inr, ⊎_elim, Bool, true, false, List, [], ◌∷◌, ◌++◌, length}
+use Rattle.std.proofs.Common.{get_or, take, Option, Some, None, refl, sym, ap, subst, ◌∙◌, arith}
 use Rattle.std.specs.Prelude.{◌||◌, ◌==◌, if◌then◌else◌, is_some, All, AllPairs, Contains, IfSome, slice_get, slice_index, unwrap_or}
 use Rattle.std.specs.List.{AllZip}
 use Rattle.std.specs.Option.{option_to_list}
@@ -11,7 +12,8 @@ use Rattle.un_base.specs.declared.ids.TempId.{TempId}
 use Rattle.un_isa.specs.Facts.{is_source}
 use Rattle.un_isa.specs.Fit.{IsFit}
 use Rattle.un_isa.specs.declared.op.Op.{Op}
-use Rattle.un_isa.specs.declared.op.Op.TheVariants.{Mov, Spill, Reload, P2R, R2P, Jump as JumpOp, JumpIf, JumpIfNot, Jumpr, Enter as EnterOp, Leave as LeaveOp}
+use Rattle.un_isa.specs.declared.op.Op.TheVariants.{Mov, Spill, Reload, P2R, R2P, Jump as JumpOp, JumpIf, JumpIfNot, Jumpr}
+use Rattle.un_isa.specs.declared.op.Op.TheVariants.{Enter as EnterOp, Leave as LeaveOp}
 use Rattle.un_isa.specs.Registers.{callee_saved, saved_registers}
 use Rattle.un_isa.specs.declared.reg.Space.TheVariants.{R, M}
 use Rattle.un_isa.specs.declared.reg.TheConstants.{LINK}
@@ -28,7 +30,8 @@ use Rattle.un_ir.specs.declared.extended.Operand.{Operand}
 use Rattle.un_ir.specs.declared.extended.ExtOp.{ExtOp}
 use Rattle.un_ir.specs.declared.extended.ExtBlock.{ExtBlock}
 use Rattle.un_ir.specs.declared.extended.Ext.{Ext}
-use Rattle.un_ir.specs.Extended.{results_of, all_results, wants_of, result_count, Want, IsGoodOperand, IsGoodExtOp, IsGoodExtBlock, IsExtended}
+use Rattle.un_ir.specs.Extended.{results_of, all_results, wants_of, result_count, Want, IsGoodOperand, IsGoodExtOp, IsGoodExtBlock}
+use Rattle.un_ir.specs.Extended.{IsExtended}
 use Rattle.un_ir.specs.Linear.{is_in}
 use Rattle.un_ir.proofs.GoodOps.{got_left}
 use Rattle.un_ir.proofs.NameBounds.{at_all}
@@ -38,14 +41,18 @@ use Rattle.un_model.specs.declared.schedule.LiveRange.{LiveRange}
 use Rattle.un_model.specs.Instructions.{copy_of, space_read, space_given, transfer_of, instruction_of, latency_by, is_transfer}
 use Rattle.un_model.specs.Pairs.{pairs_from}
 use Rattle.un_model.specs.Schedules.{is_delimiter, chosen, last_read}
-use Rattle.un_model.specs.Solutions.{IsLast, IsPlacedAs, IsPlaced, InSpace, ReadsInSpace, IsGivenInSpace, KeepsSpaces, LeavesGap, latency_gap, KeepsLatencies}
-use Rattle.un_baseline.specs.Plans.{Step, BlockPlan, planned_issue, planned_issues, planned_cycle, planned_read, over_plans, place_at, planned_range, planned_schedule}
+use Rattle.un_model.specs.Solutions.{IsLast, IsPlacedAs, IsPlaced, InSpace, ReadsInSpace, IsGivenInSpace, KeepsSpaces, LeavesGap}
+use Rattle.un_model.specs.Solutions.{latency_gap, KeepsLatencies}
+use Rattle.un_baseline.specs.Plans.{Step, BlockPlan, planned_issue, planned_issues, planned_cycle, planned_read, over_plans, place_at}
+use Rattle.un_baseline.specs.Plans.{planned_range, planned_schedule}
 use Rattle.un_baseline.specs.SpillEverywhere.{first_cycle, block_plan, block_plans}
 use Rattle.un_baseline.proofs.OneAtATime.{AreSeparated}
 use Rattle.un_baseline.proofs.Timing.{pairs_append}
 use Rattle.un_baseline.proofs.Terminators.{IsSourceKind, source_kind, source_stays, source_never_enters}
-use Rattle.un_baseline.proofs.BlockTimes.{IsInTurn, IsTimed, none_there, entered, early, reloads, leaves, returns, BlockTimes, AreTimed, behind_first, no_op, differ}
-use Rattle.un_baseline.proofs.Definers.{AreDefined, step_at, each_step, each_size, Definer, definer_of, pair_at, slice_get-pairs, temp_number, all_defined}
+use Rattle.un_baseline.proofs.BlockTimes.{IsInTurn, IsTimed, none_there, entered, early, reloads, leaves, returns, BlockTimes, AreTimed}
+use Rattle.un_baseline.proofs.BlockTimes.{behind_first, no_op, differ}
+use Rattle.un_baseline.proofs.Definers.{AreDefined, step_at, each_step, each_size, Definer, definer_of, pair_at, slice_get-pairs}
+use Rattle.un_baseline.proofs.Definers.{temp_number, all_defined}
 use Rattle.un_baseline.proofs.Each.{EachStep, EachPlan, reads_each}
 use Rattle.un_baseline.proofs.SpillSteps.{plan_suits}
 

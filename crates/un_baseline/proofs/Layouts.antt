@@ -1,5 +1,6 @@
 -- How the operations of a block stand, and that they issue one at a time in the plan that spills every name.
-use Rattle.std.proofs.Common.{◌≡◌, ◌≢◌, ℕ, suc, ◌+◌, ◌≤◌, Bool, true, false, List, [], ◌∷◌, ◌++◌, length, get_or, Option, Some, None, refl, sym, ap, subst, ◌∙◌, arith}
+use Rattle.std.proofs.Common.{◌≡◌, ◌≢◌, ℕ, suc, ◌+◌, ◌≤◌, Bool, true, false, List, [], ◌∷◌, ◌++◌, length, get_or, Option, Some, None, refl}
+use Rattle.std.proofs.Common.{sym, ap, subst, ◌∙◌, arith}
 use Rattle.std.specs.Prelude.{All, AllPairs}
 use Rattle.std.proofs.lemmas.List.Elements.{All-append, All-nil, All-cons, All-weaker}
 use Rattle.un_base.specs.declared.ids.NameId.{NameId}
@@ -24,12 +25,15 @@ use Rattle.un_baseline.specs.declared.plan.Purpose.TheVariants.{Unread}
 use Rattle.un_baseline.specs.declared.plan.Setting.{Setting}
 use Rattle.un_baseline.specs.declared.plan.Progress.{Progress}
 use Rattle.un_baseline.specs.Plans.{Step, BlockPlan, planned_issue, planned_issues, over_plans, planned_schedule}
-use Rattle.un_baseline.specs.SpillEverywhere.{purpose_of_out, purpose_of, purpose_at, step_of, progress_of, progress_after, setting_of, first_progress, first_cycle, leave_cycle, end_cycle, block_end, block_plan, block_plans}
+use Rattle.un_baseline.specs.SpillEverywhere.{purpose_of_out, purpose_of, purpose_at, step_of, progress_of, progress_after, setting_of}
+use Rattle.un_baseline.specs.SpillEverywhere.{first_progress, first_cycle, leave_cycle, end_cycle, block_end, block_plan, block_plans}
 use Rattle.un_baseline.proofs.OneAtATime.{AreSeparated, AreInOrder, separated_keep_packets, ordered_keep_memory}
 use Rattle.un_baseline.proofs.SpillSteps.{EachOp}
-use Rattle.un_baseline.proofs.Timing.{pairs_append, pairs_nil, IsBetween, idle, entering, within, all_between, rise_bound, rise_separated, rise_ordered}
+use Rattle.un_baseline.proofs.Timing.{pairs_append, pairs_nil, IsBetween, idle, entering, within, all_between, rise_bound, rise_separated}
+use Rattle.un_baseline.proofs.Timing.{rise_ordered}
 use Rattle.un_baseline.proofs.Fronts.{IsCalm, IsFrontKind, AreFront, AreCalm, issues_from, front_rises}
-use Rattle.un_baseline.proofs.Tails.{IsReading, AreForLink, IsIn, free, inside, IsTail, none_there, reload_there, leave_there, return_there, IsEnd, before_separated, return_end}
+use Rattle.un_baseline.proofs.Tails.{IsReading, AreForLink, IsIn, free, inside, IsTail, none_there, reload_there, leave_there, return_there}
+use Rattle.un_baseline.proofs.Tails.{IsEnd, before_separated, return_end}
 
 -- ---- layouts
 

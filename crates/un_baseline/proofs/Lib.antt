@@ -23,6 +23,7 @@ pub mod FrameOrder
 pub mod Fronts
 pub mod FunctionIn
 pub mod Going
+pub mod Grounds
 pub mod Grown
 pub mod Holding
 pub mod Horizons

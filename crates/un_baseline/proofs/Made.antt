@@ -10,7 +10,8 @@ use Rattle.un_model.specs.declared.schedule.Read.{Read}
 use Rattle.un_model.specs.declared.schedule.LiveRange.{LiveRange}
 use Rattle.un_model.specs.Pairs.{places_from, pairs_from}
 use Rattle.un_model.specs.Schedules.{last_read}
-use Rattle.un_baseline.specs.Plans.{Step, BlockPlan, Suits, SuitsAll, planned_issue, planned_issues, planned_reads, over_plans, place_at, step_places, plan_places, planned_range, range_at, planned_schedule}
+use Rattle.un_baseline.specs.Plans.{Step, BlockPlan, Suits, SuitsAll, planned_issue, planned_issues, planned_reads, over_plans, place_at}
+use Rattle.un_baseline.specs.Plans.{step_places, plan_places, planned_range, range_at, planned_schedule}
 use Rattle.un_baseline.proofs.Each.{Has, has_whole, has_left, has_right, has_first}
 
 -- the temporary that an operation that issues so defines in register r

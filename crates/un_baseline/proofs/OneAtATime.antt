@@ -1,6 +1,7 @@
 -- What a schedule keeps where no two instructions of a block issue closer together than the latency of the first: memory's
 -- order, the counts of a packet, and registers that are each read only until they are written again.
-use Rattle.std.proofs.Common.{◌≡◌, ◌≢◌, ℕ, zero, suc, ◌+◌, ◌-◌, ◌<◌, ◌≤◌, ◌⊎◌, ⊎_elim, max, Bool, true, false, List, [], ◌∷◌, length, get_or, Option, Some, None, refl, sym, ap, ◌∙◌, arith}
+use Rattle.std.proofs.Common.{◌≡◌, ◌≢◌, ℕ, zero, suc, ◌+◌, ◌-◌, ◌<◌, ◌≤◌, ◌⊎◌, ⊎_elim, max, Bool, true, false, List, [], ◌∷◌, length}
+use Rattle.std.proofs.Common.{get_or, Option, Some, None, refl, sym, ap, ◌∙◌, arith}
 use Rattle.std.specs.Prelude.{◌==◌, ◌&&◌, if◌then◌else◌, All, AllPairs, Contains, IfSome, IsSomeAnd, unwrap_or, fold, slice_get}
 use Rattle.std.proofs.lemmas.Bool.{cases_lt}
 use Rattle.std.proofs.lemmas.Bool.Decides.{nat_tests}
@@ -22,7 +23,8 @@ use Rattle.un_model.specs.declared.schedule.Resource.{Resource}
 use Rattle.un_model.specs.declared.schedule.Resource.TheVariants.{Instructions, Memory, Stores, MultiplyOrControl, Control}
 use Rattle.un_model.specs.Instructions.{needs_by, no_needs}
 use Rattle.un_model.specs.Schedules.{cycle_for, last_read}
-use Rattle.un_model.specs.Solutions.{share_of, places_of, issues_at, taken, HasRoom, KeepsPackets, ShareNoCycle, SparesRange, IsSpared, KeepsRegisters, after_write, after_load, memory_distance, Precedes, KeepsMemory}
+use Rattle.un_model.specs.Solutions.{share_of, places_of, issues_at, taken, HasRoom, KeepsPackets, ShareNoCycle, SparesRange, IsSpared}
+use Rattle.un_model.specs.Solutions.{KeepsRegisters, after_write, after_load, memory_distance, Precedes, KeepsMemory}
 
 -- ---- packets
 

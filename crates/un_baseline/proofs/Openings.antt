@@ -1,5 +1,6 @@
 -- Behind the start of a block each live name has its value in its slot, and the saved values stand where they are kept.
-use Rattle.std.proofs.Common.{◌≡◌, ◌≢◌, ℕ, zero, suc, ◌+◌, ◌-◌, ◌<◌, ◌≤◌, ◌⊎◌, inl, inr, Bool, true, false, List, [], ◌∷◌, ◌++◌, length, map, replicate, get_or, Some, None, refl, sym, ap, subst, ◌∙◌, append_assoc, length-set, arith}
+use Rattle.std.proofs.Common.{◌≡◌, ◌≢◌, ℕ, zero, suc, ◌+◌, ◌-◌, ◌<◌, ◌≤◌, ◌⊎◌, inl, inr, Bool, true, false, List, [], ◌∷◌, ◌++◌, length}
+use Rattle.std.proofs.Common.{map, replicate, get_or, Some, None, refl, sym, ap, subst, ◌∙◌, append_assoc, length-set, arith}
 use Rattle.std.specs.Prelude.{◌==◌, nat_lt, if◌then◌else◌, slice_get, slice_index, slice_set, All, AllPairs, Contains}
 use Rattle.std.proofs.lemmas.Bool.{cases_lt}
 use Rattle.std.proofs.lemmas.Bool.Decides.{nat_tests}
@@ -25,7 +26,8 @@ use Rattle.un_ir.specs.declared.extended.Ext.{Ext}
 use Rattle.un_ir.specs.declared.extended.Growth.{Growth}
 use Rattle.un_ir.specs.declared.extended.Sort.{Sort}
 use Rattle.un_ir.specs.Extended.{temp, name_kind}
-use Rattle.un_ir.specs.ExtendOf.{frame_op, copy_count, new_temps, own_temps, with_value, with_values, sort_of_name, with_results, with_enter, with_extended}
+use Rattle.un_ir.specs.ExtendOf.{frame_op, copy_count, new_temps, own_temps, with_value, with_values, sort_of_name, with_results}
+use Rattle.un_ir.specs.ExtendOf.{with_enter, with_extended}
 use Rattle.un_ir.specs.LinearOf.{kind_of_pair, first_temps, in_op}
 use Rattle.un_ir.specs.Live.{IsLive}
 use Rattle.un_ir.proofs.NameBounds.{at_all}
@@ -46,7 +48,8 @@ use Rattle.un_baseline.proofs.Arrivals.{sort_by}
 use Rattle.un_baseline.proofs.Bodies.{Named, own_size, not_placed}
 use Rattle.un_baseline.proofs.Going.{SavedAt, LinkAt, Going}
 use Rattle.un_baseline.proofs.Tailing.{enter_good}
-use Rattle.un_baseline.proofs.Starts.{AreApart, Fresh, start_at, start_good, value_at, values_size, values_ops_append, values_rest, params_spill, link_spills}
+use Rattle.un_baseline.proofs.Starts.{AreApart, Fresh, start_at, start_good, value_at, values_size, values_ops_append, values_rest}
+use Rattle.un_baseline.proofs.Starts.{params_spill, link_spills}
 use Rattle.un_baseline.proofs.Items.{get_left, get_right, get_map, get_replicate, append_nil}
 
 -- ---- lists

@@ -1,5 +1,6 @@
 -- What the operations of a block do besides copies lies in their domains.
-use Rattle.std.proofs.Common.{◌≡◌, ⊎_elim, ℕ, zero, suc, ◌+◌, ◌-◌, ◌<◌, ◌≤◌, Bool, true, false, List, [], ◌∷◌, ◌++◌, length, map, get_or, replicate, Option, Some, None, Contains, refl, sym, ap, subst, ◌∙◌, arith}
+use Rattle.std.proofs.Common.{◌≡◌, ⊎_elim, ℕ, zero, suc, ◌+◌, ◌-◌, ◌<◌, ◌≤◌, Bool, true, false, List, [], ◌∷◌, ◌++◌, length, map, get_or}
+use Rattle.std.proofs.Common.{replicate, Option, Some, None, Contains, refl, sym, ap, subst, ◌∙◌, arith}
 use Rattle.std.specs.Prelude.{◌==◌, ◌&&◌, ◌||◌, if◌then◌else◌, All, slice_get, slice_index, filter}
 use Rattle.std.specs.List.{AllZip, range_with_len, list_any}
 use Rattle.std.specs.Option.{option_map}
@@ -29,7 +30,8 @@ use Rattle.un_ir.proofs.NameBounds.{at_all}
 use Rattle.un_model.specs.declared.model.Options.{Options}
 use Rattle.un_model.specs.Instructions.{gives_truth}
 use Rattle.un_model.specs.Pairs.{places_from, any_from}
-use Rattle.un_model.specs.Registers.{reg_at, predicate_registers, general_registers, value_registers, start_home, saved_home, result_home, is_register, is_result_home, is_operand_home, is_home}
+use Rattle.un_model.specs.Registers.{reg_at, predicate_registers, general_registers, value_registers, start_home, saved_home, result_home}
+use Rattle.un_model.specs.Registers.{is_register, is_result_home, is_operand_home, is_home}
 use Rattle.un_model.specs.Solutions.{InDomain}
 use Rattle.un_model.specs.Variables.{choice_domain, home_domain, source_domain, start_domain}
 use Rattle.un_domains.specs.declared.domain.Domain.{Domain}

@@ -1,6 +1,7 @@
 -- The schedule of the values of a plan: what each operation issues and reads, and which registers temporaries occupy, as the
 -- plan has it.
-use Rattle.std.proofs.Common.{◌≡◌, ℕ, ◌+◌, Bool, true, false, List, [], ◌∷◌, ◌++◌, length, map, Option, Some, None, refl, sym, ap, ◌∙◌, arith}
+use Rattle.std.proofs.Common.{◌≡◌, ℕ, ◌+◌, Bool, true, false, List, [], ◌∷◌, ◌++◌, length, map, Option, Some, None, refl, sym, ap, ◌∙◌}
+use Rattle.std.proofs.Common.{arith}
 use Rattle.std.specs.Prelude.{◌==◌, ◌&&◌, ◌||◌, is_some, if◌then◌else◌, slice_get}
 use Rattle.std.specs.List.{AllZip, list_all}
 use Rattle.std.proofs.lemmas.List.{length-append}
@@ -24,10 +25,17 @@ use Rattle.un_model.specs.declared.schedule.Schedule.{Schedule}
 use Rattle.un_model.specs.Cost.{value_of}
 use Rattle.un_model.specs.Instructions.{instruction_of}
 use Rattle.un_model.specs.Pairs.{places_from, pairs_from, joined, over_blocks}
-use Rattle.un_model.specs.Schedules.{value_by, cycle_by, is_delimiter, is_frame_op, issue_of, block_issues, chosen, read_of, op_reads, reads_at, block_reads, last_read, range_by, range_of, schedule_of}
-use Rattle.un_model.specs.Variables.{is_optional, has_cycle, count_if, chosen_operands, cycle_place, choice_place, register_place, var_count, var_at, op_vars, ops_vars, ops_count, block_vars, block_count, blocks_vars, blocks_count, op_temps, ops_temps, blocks_temps, carried, model_of}
-use Rattle.un_baseline.specs.Plans.{Step, BlockPlan, value_if, step_values, steps_values, block_values, blocks_values, plan_values, Suits, SuitsBlock, SuitsAll, planned_cycle, planned_issue, planned_issues, planned_read, planned_reads_by, planned_reads, over_plans, Place, place_at, step_places, plan_places, planned_range, range_at, planned_schedule}
-use Rattle.un_baseline.proofs.Holding.{Holds, holds_whole, holds_left, holds_right, holds_first, value_there, value_behind, choice_there, zeros_there}
+use Rattle.un_model.specs.Schedules.{value_by, cycle_by, is_delimiter, is_frame_op, issue_of, block_issues, chosen, read_of, op_reads}
+use Rattle.un_model.specs.Schedules.{reads_at, block_reads, last_read, range_by, range_of, schedule_of}
+use Rattle.un_model.specs.Variables.{is_optional, has_cycle, count_if, chosen_operands, cycle_place, choice_place, register_place}
+use Rattle.un_model.specs.Variables.{var_count, var_at, op_vars, ops_vars, ops_count, block_vars, block_count, blocks_vars, blocks_count}
+use Rattle.un_model.specs.Variables.{op_temps, ops_temps, blocks_temps, carried, model_of}
+use Rattle.un_baseline.specs.Plans.{Step, BlockPlan, value_if, step_values, steps_values, block_values, blocks_values, plan_values, Suits}
+use Rattle.un_baseline.specs.Plans.{SuitsBlock, SuitsAll, planned_cycle, planned_issue, planned_issues, planned_read, planned_reads_by}
+use Rattle.un_baseline.specs.Plans.{planned_reads, over_plans, Place, place_at, step_places, plan_places, planned_range, range_at}
+use Rattle.un_baseline.specs.Plans.{planned_schedule}
+use Rattle.un_baseline.proofs.Holding.{Holds, holds_whole, holds_left, holds_right, holds_first, value_there, value_behind, choice_there}
+use Rattle.un_baseline.proofs.Holding.{zeros_there}
 
 -- ---- one operation
 

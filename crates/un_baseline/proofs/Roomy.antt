@@ -8,7 +8,6 @@ use Rattle.un_isa.specs.Fit.{IsFit}
 use Rattle.un_isa.specs.declared.reg.TheConstants.{SLOTS}
 use Rattle.un_isa.specs.declared.table.Table.{Table}
 use Rattle.un_ir.specs.declared.function.Function.{Function}
-use Rattle.un_ir.specs.Extended.{IsLinear, IsExtended}
 use Rattle.un_ir.specs.ExtendOf.{extend_of}
 use Rattle.un_ir.specs.LinearOf.{AreLive, lin_of, kind_of_pair}
 use Rattle.un_ir.specs.WellFormed.{IsWellFormed}
@@ -30,13 +29,11 @@ few_names f =
 
 -- what is asked of a model is met for every function
 pub every_function : (f : Function) (lists : List (List NameId)) (t : Table) → IsFit t → AreLive f.blocks lists
-    → IsLinear (lin_of f lists t)
-    → (let e = extend_of (lin_of f lists t) in IsExtended e → IsSpillable (model_of e all_room))
-every_function f lists t fit live linear kept = record {
+    → IsSpillable (model_of (extend_of (lin_of f lists t)) all_room)
+every_function f lists t fit live = record {
   model = refl;
   table = fit;
-  function = record { function = f; lists = lists; live = live; linear = linear; extended = refl };
-  kept = kept;
+  function = record { function = f; lists = lists; live = live; extended = refl };
   roomy = record {
     options = record { regs = tt; slots = omega arith };
     regs = tt;

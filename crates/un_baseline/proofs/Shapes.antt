@@ -1,5 +1,6 @@
 -- The blocks of an extended function are laid out in order.
-use Rattle.std.proofs.Common.{◌≡◌, ◌≢◌, ℕ, ◌+◌, Bool, true, false, List, [], ◌∷◌, ◌++◌, length, Option, Some, None, refl, sym, ap, subst, ◌∙◌, append_assoc}
+use Rattle.std.proofs.Common.{◌≡◌, ◌≢◌, ℕ, ◌+◌, Bool, true, false, List, [], ◌∷◌, ◌++◌, length, Option, Some, None, refl, sym, ap, subst}
+use Rattle.std.proofs.Common.{◌∙◌, append_assoc}
 use Rattle.std.specs.Prelude.{slice_get}
 use Rattle.un_base.specs.declared.ids.NameId.{NameId}
 use Rattle.un_base.specs.declared.ids.TempId.{TempId}
@@ -17,7 +18,8 @@ use Rattle.un_ir.specs.declared.extended.ExtKind.TheVariants.{In, Out, Body, End
 use Rattle.un_ir.specs.declared.extended.Operand.{Operand}
 use Rattle.un_ir.specs.declared.extended.ExtOp.{ExtOp}
 use Rattle.un_ir.specs.Linear.{first_of}
-use Rattle.un_ir.specs.ExtendOf.{copy_op, with_copies, with_value, with_values, with_operand_by, with_operand, with_operands, new_operands, sorts_of, with_results, with_extended, with_all_extended, new_temps}
+use Rattle.un_ir.specs.ExtendOf.{copy_op, with_copies, with_value, with_values, with_operand_by, with_operand, with_operands, new_operands}
+use Rattle.un_ir.specs.ExtendOf.{sorts_of, with_results, with_extended, with_all_extended, new_temps}
 use Rattle.un_ir.specs.declared.extended.Growth.{Growth}
 use Rattle.un_ir.specs.declared.extended.Value.{Value}
 use Rattle.un_ir.specs.declared.extended.Sort.{Sort}

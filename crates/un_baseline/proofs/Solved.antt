@@ -4,7 +4,8 @@ use Rattle.un_model.specs.declared.model.Model.{Model}
 use Rattle.un_model.specs.Solutions.{IsSolution}
 use Rattle.un_baseline.specs.RoomyOptions.{IsSpillable}
 use Rattle.un_baseline.specs.SpillEverywhere.{spilled_values}
-use Rattle.un_baseline.proofs.Kept.{zeros_of_model, memory_of_model, packets_of_model, choices_of_model, spaces_of_model, homes_of_model, registers_of_model, congruences_of_model}
+use Rattle.un_baseline.proofs.Kept.{zeros_of_model, memory_of_model, packets_of_model, choices_of_model, spaces_of_model, homes_of_model}
+use Rattle.un_baseline.proofs.Kept.{registers_of_model, congruences_of_model}
 use Rattle.un_baseline.proofs.FrameKept.{latencies_of_model, frame_of_model, domains_of_model}
 
 module _ (m : Model) (h : IsSpillable m) (values : List ℕ) (same : values ≡ spilled_values m.ext) where

@@ -1,6 +1,7 @@
 -- What the temporaries that operations make, and their reads, keep, as one operation comes after another; and that clauses of
 -- a solution follow.
-use Rattle.std.proofs.Common.{◌≡◌, ◌≢◌, ℕ, suc, ◌+◌, ◌-◌, ◌<◌, ◌≤◌, ◌⊎◌, ⊎_elim, inl, inr, max, nat_eq, Bool, true, false, List, [], ◌∷◌, ◌++◌, get_or, Option, Some, None, refl, sym, ap, subst, ◌∙◌, arith}
+use Rattle.std.proofs.Common.{◌≡◌, ◌≢◌, ℕ, suc, ◌+◌, ◌-◌, ◌<◌, ◌≤◌, ◌⊎◌, ⊎_elim, inl, inr, max, nat_eq, Bool, true, false, List, [], ◌∷◌}
+use Rattle.std.proofs.Common.{◌++◌, get_or, Option, Some, None, refl, sym, ap, subst, ◌∙◌, arith}
 use Rattle.std.specs.Prelude.{slice_get, All, AllPairs, Contains}
 use Rattle.std.proofs.lemmas.Bool.{cases_lt, eqb-true}
 use Rattle.std.proofs.lemmas.Option.{get_or_from_slice_get, slice_get_within}
@@ -16,7 +17,8 @@ use Rattle.un_model.specs.declared.schedule.Schedule.{Schedule}
 use Rattle.un_model.specs.Instructions.{space_read}
 use Rattle.un_model.specs.Pairs.{places_from}
 use Rattle.un_model.specs.Schedules.{last_read}
-use Rattle.un_model.specs.Solutions.{IsLive, KeepsChoices, InSpace, ReadsInSpace, IsGivenInSpace, KeepsSpaces, HasHome, ReadsHome, KeepsHomes, KeepsRegisters}
+use Rattle.un_model.specs.Solutions.{IsLive, KeepsChoices, InSpace, ReadsInSpace, IsGivenInSpace, KeepsSpaces, HasHome, ReadsHome}
+use Rattle.un_model.specs.Solutions.{KeepsHomes, KeepsRegisters}
 use Rattle.un_baseline.proofs.Made.{lasting, lasting_at, place_there, place_back}
 use Rattle.un_baseline.proofs.OneAtATime.{AreFresh, AreSpared, fresh_keep_registers}
 use Rattle.un_baseline.proofs.Timing.{pairs_append}

@@ -1,5 +1,6 @@
 -- The steps of the plan that spills every name suit its operations, and a copy that does nothing has zeros alone.
-use Rattle.std.proofs.Common.{◌≡◌, ℕ, zero, suc, ◌+◌, ◌⊎◌, inl, inr, Bool, true, false, List, [], ◌∷◌, length, replicate, Option, Some, None, refl, sym, ap, subst, ◌∙◌}
+use Rattle.std.proofs.Common.{◌≡◌, ℕ, zero, suc, ◌+◌, ◌⊎◌, inl, inr, Bool, true, false, List, [], ◌∷◌, length, replicate, Option, Some}
+use Rattle.std.proofs.Common.{None, refl, sym, ap, subst, ◌∙◌}
 use Rattle.std.specs.Prelude.{◌==◌, ◌&&◌, ◌||◌, is_some, if◌then◌else◌, All, Contains}
 use Rattle.std.specs.List.{AllZip, list_all}
 use Rattle.std.proofs.lemmas.List.{length-replicate, length-map}
@@ -32,7 +33,9 @@ use Rattle.un_baseline.specs.declared.plan.Setting.{Setting}
 use Rattle.un_baseline.specs.declared.plan.Progress.{Progress}
 use Rattle.un_baseline.specs.declared.plan.Move.{Move}
 use Rattle.un_baseline.specs.Plans.{Step, BlockPlan, Suits, SuitsBlock, SuitsAll, planned_issue, planned_range, place_at, planned_schedule}
-use Rattle.un_baseline.specs.SpillEverywhere.{purpose_at, no_move, spilled_to, kept_by_kind, first_copy, second_copy, operand_copy, truth_copy, first_alts, copy_move, step_of, progress_of, steps_of, setting_of, first_progress, block_plan, block_plans}
+use Rattle.un_baseline.specs.SpillEverywhere.{purpose_at, no_move, spilled_to, kept_by_kind, first_copy, second_copy, operand_copy}
+use Rattle.un_baseline.specs.SpillEverywhere.{truth_copy, first_alts, copy_move, step_of, progress_of, steps_of, setting_of, first_progress}
+use Rattle.un_baseline.specs.SpillEverywhere.{block_plan, block_plans}
 use Rattle.un_baseline.proofs.Each.{EachStep, EachPlan, issues_each, ranges_each}
 
 -- ---- what holds of each step

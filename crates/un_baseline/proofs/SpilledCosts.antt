@@ -1,5 +1,6 @@
 -- The plan that spills every name of a function costs what is stated of the function.
-use Rattle.std.proofs.Common.{◌≡◌, ℕ, suc, ◌+◌, ◌*◌, ◌≤◌, Bool, true, false, List, [], ◌∷◌, length, Option, Some, None, All, refl, sym, ap, subst, ◌∙◌, arith}
+use Rattle.std.proofs.Common.{◌≡◌, ℕ, suc, ◌+◌, ◌*◌, ◌≤◌, Bool, true, false, List, [], ◌∷◌, length, Option, Some, None, All, refl, sym, ap}
+use Rattle.std.proofs.Common.{subst, ◌∙◌, arith}
 use Rattle.std.specs.Prelude.{◌||◌, slice_get}
 use Rattle.std.proofs.lemmas.List.{length-append}
 use Rattle.std.proofs.lemmas.List.Elements.{All-head, All-tail}
@@ -21,6 +22,7 @@ use Rattle.un_model.specs.declared.model.Model.{Model}
 use Rattle.un_model.specs.declared.model.Options.{Options}
 use Rattle.un_model.specs.Cost.{cost_of}
 use Rattle.un_baseline.specs.RoomyOptions.{AreRoomy, IsOfFunction, IsSpillable}
+use Rattle.un_baseline.proofs.Grounds.{is_linear, is_extended}
 use Rattle.un_baseline.specs.SpilledCost.{block_packets, spilled_cost}
 use Rattle.un_baseline.specs.SpillEverywhere.{block_plans, spilled_values}
 use Rattle.un_baseline.proofs.FunctionIn.{assigns_well, reads_own}
@@ -109,4 +111,5 @@ cost_of_model m h values same source =
     ∙ subst (λ (e : Ext). AreRoomy e m.options → IsExtended e
     → plans_cost e.blocks (block_plans e true e.blocks) ≡ spilled_cost m.ext.table source.lists true 0 source.function.blocks)
     (sym source.extended)
-    (λ roomy kept. function_costs source.function source.lists m.ext.table m.options h.table roomy kept source.linear) h.roomy h.kept
+    (λ roomy kept. function_costs source.function source.lists m.ext.table m.options h.table roomy kept (is_linear m h source)) h.roomy
+    (is_extended m h)

@@ -1,5 +1,6 @@
 -- The start of a block makes values that are known, and lies in its domains.
-use Rattle.std.proofs.Common.{◌≡◌, ℕ, zero, suc, ◌+◌, ◌-◌, ◌<◌, ◌≤◌, Bool, true, false, List, [], ◌∷◌, ◌++◌, length, map, replicate, Option, Some, None, All, Contains, refl, sym, ap, subst, ◌∙◌, append_assoc, arith}
+use Rattle.std.proofs.Common.{◌≡◌, ℕ, zero, suc, ◌+◌, ◌-◌, ◌<◌, ◌≤◌, Bool, true, false, List, [], ◌∷◌, ◌++◌, length, map, replicate, Option}
+use Rattle.std.proofs.Common.{Some, None, All, Contains, refl, sym, ap, subst, ◌∙◌, append_assoc, arith}
 use Rattle.std.specs.Prelude.{if◌then◌else◌, slice_get, unwrap_or}
 use Rattle.std.specs.List.{range_with_len}
 use Rattle.std.specs.Option.{option_map}
@@ -21,7 +22,8 @@ use Rattle.un_ir.specs.declared.extended.Growth.{Growth}
 use Rattle.un_ir.specs.declared.extended.Sort.{Sort}
 use Rattle.un_ir.specs.declared.extended.Value.{Value}
 use Rattle.un_ir.specs.Extended.{temp, name_kind, in_kinds, IsExtended}
-use Rattle.un_ir.specs.ExtendOf.{frame_op, sort_of_name, sorts_of, with_results, with_value, with_values, with_enter, with_extended, value_of}
+use Rattle.un_ir.specs.ExtendOf.{frame_op, sort_of_name, sorts_of, with_results, with_value, with_values, with_enter, with_extended}
+use Rattle.un_ir.specs.ExtendOf.{value_of}
 use Rattle.un_model.specs.declared.model.Options.{Options}
 use Rattle.un_model.specs.Congruences.{live_in_temps}
 use Rattle.un_model.specs.Registers.{is_pred, is_pred_name, is_home, reg_at, start_home}

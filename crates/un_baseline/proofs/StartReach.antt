@@ -1,5 +1,6 @@
 -- How many cycles the start of a block takes: the entry spills the values of its names and of the link register.
-use Rattle.std.proofs.Common.{◌≡◌, ℕ, zero, suc, ◌+◌, ◌*◌, ◌≤◌, Bool, true, false, List, [], ◌∷◌, ◌++◌, length, map, replicate, Option, Some, None, refl, sym, ap, subst, ◌∙◌, append_assoc, arith}
+use Rattle.std.proofs.Common.{◌≡◌, ℕ, zero, suc, ◌+◌, ◌*◌, ◌≤◌, Bool, true, false, List, [], ◌∷◌, ◌++◌, length, map, replicate, Option}
+use Rattle.std.proofs.Common.{Some, None, refl, sym, ap, subst, ◌∙◌, append_assoc, arith}
 use Rattle.std.specs.Prelude.{◌==◌, if◌then◌else◌, slice_get}
 use Rattle.std.proofs.lemmas.Bool.Decides.{nat_tests}
 use Rattle.un_base.specs.declared.ids.NameId.{NameId}
@@ -21,7 +22,8 @@ use Rattle.un_baseline.specs.declared.plan.Definer.{Definer}
 use Rattle.un_baseline.specs.declared.plan.Definer.TheVariants.{Start, Other}
 use Rattle.un_baseline.specs.declared.plan.Setting.{Setting}
 use Rattle.un_baseline.specs.declared.plan.Progress.{Progress}
-use Rattle.un_baseline.specs.SpillEverywhere.{purpose_at, slot_at_start, no_move, spilled_to, first_copy, second_copy, after_move, progress_of}
+use Rattle.un_baseline.specs.SpillEverywhere.{purpose_at, slot_at_start, no_move, spilled_to, first_copy, second_copy, after_move}
+use Rattle.un_baseline.specs.SpillEverywhere.{progress_of}
 use Rattle.un_baseline.proofs.Grown.{copy_ops, value_ops, values_ops}
 use Rattle.un_baseline.proofs.Reaching.{Reach}
 use Rattle.un_baseline.proofs.StartIn.{saved_sort}

@@ -1,5 +1,6 @@
 -- The start of a block: its values are there, and in the entry parameters and the link register's value are spilled.
-use Rattle.std.proofs.Common.{◌≡◌, ◌≢◌, ℕ, zero, suc, ◌+◌, ◌<◌, ◌≤◌, ◌⊎◌, Bool, true, false, List, [], ◌∷◌, ◌++◌, length, map, replicate, get_or, Option, Some, None, refl, sym, ap, subst, ◌∙◌, append_assoc, arith}
+use Rattle.std.proofs.Common.{◌≡◌, ◌≢◌, ℕ, zero, suc, ◌+◌, ◌<◌, ◌≤◌, ◌⊎◌, Bool, true, false, List, [], ◌∷◌, ◌++◌, length, map, replicate}
+use Rattle.std.proofs.Common.{get_or, Option, Some, None, refl, sym, ap, subst, ◌∙◌, append_assoc, arith}
 use Rattle.std.specs.Prelude.{◌==◌, if◌then◌else◌, slice_get, All, AllPairs}
 use Rattle.std.proofs.lemmas.Bool.Decides.{nat_tests}
 use Rattle.std.proofs.lemmas.List.{length-append, length-map}
@@ -34,7 +35,8 @@ use Rattle.un_baseline.specs.declared.plan.Setting.{Setting}
 use Rattle.un_baseline.specs.declared.plan.Progress.{Progress}
 use Rattle.un_baseline.specs.declared.plan.TheConstants.{SPILL}
 use Rattle.un_baseline.specs.Plans.{Step, planned_issue}
-use Rattle.un_baseline.specs.SpillEverywhere.{purpose_at, slot_of, slot_at_start, start_register, spilled_to, first_copy, second_copy, no_move, other_progress, steps_of}
+use Rattle.un_baseline.specs.SpillEverywhere.{purpose_at, slot_of, slot_at_start, start_register, spilled_to, first_copy, second_copy}
+use Rattle.un_baseline.specs.SpillEverywhere.{no_move, other_progress, steps_of}
 use Rattle.un_baseline.proofs.Made.{made_at}
 use Rattle.un_baseline.proofs.Carried.{Carries, carries_values, carries_new}
 use Rattle.un_baseline.proofs.Grown.{copy_ops, value_ops, values_ops, value_next}

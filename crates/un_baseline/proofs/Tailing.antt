@@ -1,5 +1,6 @@
 -- Steps at the end of a block: transfers, and reloads that issue later than what stands behind them.
-use Rattle.std.proofs.Common.{◌≡◌, ◌≢◌, ℕ, suc, ◌+◌, ◌<◌, ◌≤◌, inl, inr, Bool, true, List, [], ◌∷◌, ◌++◌, length, map, get_or, Some, None, refl, sym, ap, subst, ◌∙◌, arith}
+use Rattle.std.proofs.Common.{◌≡◌, ◌≢◌, ℕ, suc, ◌+◌, ◌<◌, ◌≤◌, inl, inr, Bool, true, List, [], ◌∷◌, ◌++◌, length, map, get_or, Some, None}
+use Rattle.std.proofs.Common.{refl, sym, ap, subst, ◌∙◌, arith}
 use Rattle.std.specs.Prelude.{is_some, if◌then◌else◌, slice_get, slice_index, All}
 use Rattle.std.proofs.lemmas.Option.{slice_get_within}
 use Rattle.std.proofs.lemmas.List.{length-append}
@@ -28,10 +29,12 @@ use Rattle.un_baseline.specs.declared.plan.Setting.{Setting}
 use Rattle.un_baseline.specs.declared.plan.Progress.{Progress}
 use Rattle.un_baseline.specs.declared.plan.TheConstants.{RELOAD}
 use Rattle.un_baseline.specs.Plans.{Step, planned_issue, planned_read, planned_reads_by}
-use Rattle.un_baseline.specs.SpillEverywhere.{purpose_at, move, copy_move, next_cycle, leave_cycle, end_cycle, after_end, operand_place, other_progress, steps_of}
+use Rattle.un_baseline.specs.SpillEverywhere.{purpose_at, move, copy_move, next_cycle, leave_cycle, end_cycle, after_end, operand_place}
+use Rattle.un_baseline.specs.SpillEverywhere.{other_progress, steps_of}
 use Rattle.un_baseline.proofs.Made.{made_at}
 use Rattle.un_baseline.proofs.Sound.{Seen, after, GoodRead, NewOk, StepOk, IsOver, Differ, Avoids}
-use Rattle.un_baseline.proofs.Standing.{Stands, Timely, Known, IsCalled, good_read, stands_later, stands_new, timely_later, known_later, calls_later}
+use Rattle.un_baseline.proofs.Standing.{Stands, Timely, Known, IsCalled, good_read, stands_later, stands_new, timely_later, known_later}
+use Rattle.un_baseline.proofs.Standing.{calls_later}
 use Rattle.un_baseline.proofs.Timing.{pairs_nil}
 use Rattle.un_baseline.proofs.Walk.{AreGoodSteps, Good, Idle, copy_step, good_copy}
 use Rattle.un_baseline.proofs.Arrivals.{AreArrived, AreFor, reads_good, last_places, general_space, slot_space}

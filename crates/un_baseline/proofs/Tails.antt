@@ -1,5 +1,6 @@
 -- The end of a block that returns: its result is reloaded, then the address, then Leave and the return issue.
-use Rattle.std.proofs.Common.{◌≡◌, ℕ, zero, suc, ◌+◌, ◌<◌, ◌≤◌, ◌⊎◌, inl, inr, ⊎_elim, true, false, List, [], ◌∷◌, ◌++◌, get_or, Option, Some, None, refl, sym, ap, subst, ◌∙◌, arith}
+use Rattle.std.proofs.Common.{◌≡◌, ℕ, zero, suc, ◌+◌, ◌<◌, ◌≤◌, ◌⊎◌, inl, inr, ⊎_elim, true, false, List, [], ◌∷◌, ◌++◌, get_or, Option}
+use Rattle.std.proofs.Common.{Some, None, refl, sym, ap, subst, ◌∙◌, arith}
 use Rattle.std.specs.Prelude.{◌==◌, All, AllPairs}
 use Rattle.std.proofs.lemmas.Bool.Decides.{nat_tests}
 use Rattle.std.proofs.lemmas.List.Elements.{All-nil, All-cons, All-weaker}
@@ -24,7 +25,8 @@ use Rattle.un_baseline.specs.declared.plan.Purpose.TheVariants.{Link, Returned, 
 use Rattle.un_baseline.specs.declared.plan.Setting.{Setting}
 use Rattle.un_baseline.specs.declared.plan.Progress.{Progress}
 use Rattle.un_baseline.specs.Plans.{planned_issue, planned_cycle}
-use Rattle.un_baseline.specs.SpillEverywhere.{purpose_of, purpose_of_out, purpose_at, result_wait, leave_cycle, end_cycle, block_end, step_of, progress_of}
+use Rattle.un_baseline.specs.SpillEverywhere.{purpose_of, purpose_of_out, purpose_at, result_wait, leave_cycle, end_cycle, block_end}
+use Rattle.un_baseline.specs.SpillEverywhere.{step_of, progress_of}
 use Rattle.un_baseline.proofs.OneAtATime.{AreSeparated}
 use Rattle.un_baseline.proofs.SpillSteps.{EachOp}
 use Rattle.un_baseline.proofs.Timing.{pairs_nil}

@@ -1,11 +1,13 @@
 -- A terminator that goes on issues in its block's last cycle: behind it come copies that do nothing, and the block's end.
-use Rattle.std.proofs.Common.{◌≡◌, ◌≢◌, ℕ, suc, ◌+◌, Bool, true, false, List, [], ◌∷◌, ◌++◌, Option, Some, None, refl, sym, ap, subst, ◌∙◌, arith}
+use Rattle.std.proofs.Common.{◌≡◌, ◌≢◌, ℕ, suc, ◌+◌, Bool, true, false, List, [], ◌∷◌, ◌++◌, Option, Some, None, refl, sym, ap, subst, ◌∙◌}
+use Rattle.std.proofs.Common.{arith}
 use Rattle.std.specs.Prelude.{◌==◌, if◌then◌else◌, All, slice_get}
 use Rattle.std.specs.Option.{option_to_list}
 use Rattle.std.proofs.lemmas.List.Elements.{All-nil, All-cons, All-head, All-tail}
 use Rattle.un_isa.specs.Facts.{is_source}
 use Rattle.un_isa.specs.declared.op.Op.{Op}
-use Rattle.un_isa.specs.declared.op.Op.TheVariants.{Mov, Spill, Reload, P2R, R2P, Jump as JumpOp, JumpIf, JumpIfNot, Jumpr, Enter as EnterOp, Leave as LeaveOp}
+use Rattle.un_isa.specs.declared.op.Op.TheVariants.{Mov, Spill, Reload, P2R, R2P, Jump as JumpOp, JumpIf, JumpIfNot, Jumpr}
+use Rattle.un_isa.specs.declared.op.Op.TheVariants.{Enter as EnterOp, Leave as LeaveOp}
 use Rattle.un_isa.specs.Fit.{IsFit}
 use Rattle.un_ir.specs.declared.function.Term.TheVariants.{Fall, Jump, Branch, Ret}
 use Rattle.un_ir.specs.declared.extended.NodeCopy.TheVariants.{D, D2, U, U2}
@@ -25,7 +27,8 @@ use Rattle.un_baseline.specs.declared.plan.Definer.TheVariants.{Other}
 use Rattle.un_baseline.specs.declared.plan.Setting.{Setting}
 use Rattle.un_baseline.specs.declared.plan.Progress.{Progress}
 use Rattle.un_baseline.specs.Plans.{planned_issue, planned_cycle}
-use Rattle.un_baseline.specs.SpillEverywhere.{purpose_of, purpose_of_out, purpose_at, first_copy, second_copy, operand_copy, truth_copy, first_alts, after_move, next_cycle, step_of, progress_of, progress_after}
+use Rattle.un_baseline.specs.SpillEverywhere.{purpose_of, purpose_of_out, purpose_at, first_copy, second_copy, operand_copy, truth_copy}
+use Rattle.un_baseline.specs.SpillEverywhere.{first_alts, after_move, next_cycle, step_of, progress_of, progress_after}
 use Rattle.un_baseline.proofs.SpillSteps.{EachOp}
 use Rattle.un_baseline.proofs.Fronts.{IsFrontKind, AreFront, issues_from}
 use Rattle.un_baseline.proofs.Layouts.{each_weaker}

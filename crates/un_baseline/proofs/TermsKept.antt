@@ -23,7 +23,8 @@ use Rattle.un_ir.specs.Linear.{first_of}
 use Rattle.un_ir.specs.LinearOf.{body_ops, assigned, past, end_ops}
 use Rattle.un_ir.specs.ExtendOf.{frame_op, with_value, with_operand, with_operands, with_leave, sorts_of, with_extended}
 use Rattle.un_model.specs.Congruences.{term_or, term_of}
-use Rattle.un_baseline.proofs.Grown.{copy_ops, value_ops, values_ops, operand_ops_by, operand_ops, operands_ops, leave_ops, enter_ops, made_op, behind_op, extended_ops, all_ops}
+use Rattle.un_baseline.proofs.Grown.{copy_ops, value_ops, values_ops, operand_ops_by, operand_ops, operands_ops, leave_ops, enter_ops}
+use Rattle.un_baseline.proofs.Grown.{made_op, behind_op, extended_ops, all_ops}
 
 -- ---- what no terminator is among
 

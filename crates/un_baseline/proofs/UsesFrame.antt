@@ -1,5 +1,6 @@
 -- The plan that spills every name uses the frame: the entry spills the link register's value.
-use Rattle.std.proofs.Common.{◌≡◌, ℕ, zero, suc, ◌+◌, ◌-◌, ◌<◌, ◌≤◌, Bool, true, false, List, [], ◌∷◌, ◌++◌, length, map, drop, replicate, Option, Some, None, refl, sym, ap, subst, ◌∙◌, append_assoc, arith}
+use Rattle.std.proofs.Common.{◌≡◌, ℕ, zero, suc, ◌+◌, ◌-◌, ◌<◌, ◌≤◌, Bool, true, false, List, [], ◌∷◌, ◌++◌, length, map, drop, replicate}
+use Rattle.std.proofs.Common.{Option, Some, None, refl, sym, ap, subst, ◌∙◌, append_assoc, arith}
 use Rattle.std.specs.Prelude.{◌==◌, ◌||◌, if◌then◌else◌, slice_get}
 use Rattle.std.specs.List.{list_any}
 use Rattle.std.proofs.lemmas.Bool.Decides.{nat_tests}
@@ -31,14 +32,17 @@ use Rattle.un_model.specs.declared.schedule.Issue.{Issue}
 use Rattle.un_model.specs.Instructions.{copy_of, instruction_of}
 use Rattle.un_model.specs.Congruences.{live_in_temps, results_of_start}
 use Rattle.un_model.specs.Solutions.{is_frame_access, starts_in_slot, uses_frame}
-use Rattle.un_ir.specs.ExtendOf.{frame_op, copy_op, with_op, with_copies, with_value, with_values, with_leave, with_enter, with_operands, new_operands, sorts_of, sort_of_name, with_results, with_extended, with_all_extended, grown_block, with_ops, extended_blocks, extend_of, new_temps}
+use Rattle.un_ir.specs.ExtendOf.{frame_op, copy_op, with_op, with_copies, with_value, with_values, with_leave, with_enter, with_operands}
+use Rattle.un_ir.specs.ExtendOf.{new_operands, sorts_of, sort_of_name, with_results, with_extended, with_all_extended, grown_block}
+use Rattle.un_ir.specs.ExtendOf.{with_ops, extended_blocks, extend_of, new_temps}
 use Rattle.un_baseline.specs.declared.plan.Purpose.{Purpose}
 use Rattle.un_baseline.specs.declared.plan.Definer.{Definer}
 use Rattle.un_baseline.specs.declared.plan.Definer.TheVariants.{Start}
 use Rattle.un_baseline.specs.declared.plan.Setting.{Setting}
 use Rattle.un_baseline.specs.declared.plan.Progress.{Progress}
 use Rattle.un_baseline.specs.Plans.{planned_issue, planned_issues, over_plans, planned_schedule}
-use Rattle.un_baseline.specs.SpillEverywhere.{purpose_at, spilled_to, slot_at_start, first_copy, step_of, progress_of, setting_of, first_progress, block_plan, block_plans}
+use Rattle.un_baseline.specs.SpillEverywhere.{purpose_at, spilled_to, slot_at_start, first_copy, step_of, progress_of, setting_of}
+use Rattle.un_baseline.specs.SpillEverywhere.{first_progress, block_plan, block_plans}
 use Rattle.un_baseline.proofs.Fronts.{issues_from}
 use Rattle.un_baseline.proofs.Shapes.{Adds, adds_nothing, adds_then, operands_add, values_add}
 

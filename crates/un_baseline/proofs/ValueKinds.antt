@@ -1,5 +1,6 @@
 -- What is read off all operations of a function at the number of a temporary is what the operation gives that defines it.
-use Rattle.std.proofs.Common.{◌≡◌, ℕ, zero, suc, ◌+◌, ◌-◌, ◌<◌, ◌≤◌, List, [], ◌∷◌, ◌++◌, length, map, replicate, Option, Some, Contains, refl, sym, ap, ◌∙◌, arith}
+use Rattle.std.proofs.Common.{◌≡◌, ℕ, zero, suc, ◌+◌, ◌-◌, ◌<◌, ◌≤◌, List, [], ◌∷◌, ◌++◌, length, map, replicate, Option, Some, Contains}
+use Rattle.std.proofs.Common.{refl, sym, ap, ◌∙◌, arith}
 use Rattle.std.specs.Prelude.{slice_get, unwrap_or}
 use Rattle.std.specs.List.{flat_map, range_with_len}
 use Rattle.std.proofs.lemmas.List.{length-append, length-map, length-replicate}
@@ -11,7 +12,8 @@ use Rattle.un_ir.specs.declared.extended.ExtKind.{ExtKind}
 use Rattle.un_ir.specs.declared.extended.ExtKind.TheVariants.{In, Out, Body, End, Copy, Enter, Leave}
 use Rattle.un_ir.specs.declared.extended.ExtOp.{ExtOp}
 use Rattle.un_ir.specs.declared.extended.ExtBlock.{ExtBlock}
-use Rattle.un_ir.specs.Extended.{temp, results_of, all_results, carried_by, all_carried, carried, defined_kinds, all_kinds, kind_of_temp, name_kind, first_read}
+use Rattle.un_ir.specs.Extended.{temp, results_of, all_results, carried_by, all_carried, carried, defined_kinds, all_kinds, kind_of_temp}
+use Rattle.un_ir.specs.Extended.{name_kind, first_read}
 use Rattle.un_ir.proofs.GoodOps.{got_right}
 use Rattle.un_ir.specs.WellFormed.{result_kind}
 use Rattle.un_baseline.proofs.Definers.{temp_number, contains_at}

@@ -1,5 +1,6 @@
 -- The steps of a plan, one after another: what each asks of what was made and read before.
-use Rattle.std.proofs.Common.{◌≡◌, ◌≢◌, ℕ, ◌+◌, Bool, true, List, [], ◌∷◌, ◌++◌, length, map, replicate, Option, Some, None, refl, sym, ap, subst, ◌∙◌, append_assoc, arith}
+use Rattle.std.proofs.Common.{◌≡◌, ◌≢◌, ℕ, ◌+◌, Bool, true, List, [], ◌∷◌, ◌++◌, length, map, replicate, Option, Some, None, refl, sym, ap}
+use Rattle.std.proofs.Common.{subst, ◌∙◌, append_assoc, arith}
 use Rattle.std.specs.Prelude.{is_some, if◌then◌else◌, slice_index, All}
 use Rattle.std.specs.List.{AllZip}
 use Rattle.std.proofs.lemmas.List.{length-append}
@@ -35,7 +36,8 @@ use Rattle.un_baseline.specs.Plans.{Step, Suits, planned_issue, planned_read, pl
 use Rattle.un_baseline.specs.SpillEverywhere.{purpose_at, no_move, move, copy_move, next_cycle, next_value, next_operand, steps_of}
 use Rattle.un_baseline.proofs.Made.{made_at, steps_made}
 use Rattle.un_baseline.proofs.Sound.{Seen, after, GoodRead, Sound, StepOk, sound_step}
-use Rattle.un_baseline.proofs.Standing.{one_item, Stands, Timely, Known, Front, IsCalled, good_read, idle_stands, idle_timely, idle_known, idle_calls, idle_front, idle_ok, goes_front, goes_ok, goes_stands, goes_new_stands}
+use Rattle.un_baseline.proofs.Standing.{one_item, Stands, Timely, Known, Front, IsCalled, good_read, idle_stands, idle_timely, idle_known}
+use Rattle.un_baseline.proofs.Standing.{idle_calls, idle_front, idle_ok, goes_front, goes_ok, goes_stands, goes_new_stands}
 
 module _ (c : ℕ) (H : Seen → List Read → Type 0) (b end : ℕ) where
   -- ---- steps

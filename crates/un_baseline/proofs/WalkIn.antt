@@ -1,5 +1,6 @@
 -- The steps of a block of the plan lie in their domains: those of copies, one after another.
-use Rattle.std.proofs.Common.{◌≡◌, ℕ, ◌+◌, ◌<◌, ◌≤◌, Bool, true, false, List, [], ◌∷◌, ◌++◌, length, Option, Some, None, refl, sym, ap, subst, ◌∙◌, append_assoc, arith}
+use Rattle.std.proofs.Common.{◌≡◌, ℕ, ◌+◌, ◌<◌, ◌≤◌, Bool, true, false, List, [], ◌∷◌, ◌++◌, length, Option, Some, None, refl, sym, ap}
+use Rattle.std.proofs.Common.{subst, ◌∙◌, append_assoc, arith}
 use Rattle.std.specs.Prelude.{All, slice_get, unwrap_or}
 use Rattle.un_base.specs.declared.ids.NameId.{NameId}
 use Rattle.un_base.specs.declared.ids.TempId.{TempId}
@@ -26,7 +27,8 @@ use Rattle.un_baseline.specs.declared.plan.Definer.TheVariants.{Assigns}
 use Rattle.un_baseline.specs.declared.plan.Setting.{Setting}
 use Rattle.un_baseline.specs.declared.plan.Progress.{Progress}
 use Rattle.un_baseline.specs.RoomyOptions.{AreRoomy}
-use Rattle.un_baseline.specs.SpillEverywhere.{purpose_at, first_copy, second_copy, operand_copy, truth_copy, step_of, progress_of, steps_of, setting_of}
+use Rattle.un_baseline.specs.SpillEverywhere.{purpose_at, first_copy, second_copy, operand_copy, truth_copy, step_of, progress_of, steps_of}
+use Rattle.un_baseline.specs.SpillEverywhere.{setting_of}
 use Rattle.un_baseline.proofs.Each.{EachStep}
 use Rattle.un_baseline.proofs.Grown.{copy_ops, value_ops, values_ops, operand_ops_by, operand_ops, operands_ops}
 use Rattle.un_baseline.proofs.InDomains.{StepIn}

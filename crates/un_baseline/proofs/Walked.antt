@@ -1,5 +1,6 @@
 -- The plan of all blocks keeps the clauses on choices, spaces, registers and homes.
-use Rattle.std.proofs.Common.{◌≡◌, ◌≢◌, ℕ, zero, suc, ◌+◌, ◌<◌, ◌≤◌, ◌||◌, ◌&&◌, Bool, true, false, nat_le, List, [], ◌∷◌, ◌++◌, length, map, filter, replicate, get_or, Some, None, refl, sym, ap, subst, ◌∙◌, append_assoc, arith}
+use Rattle.std.proofs.Common.{◌≡◌, ◌≢◌, ℕ, zero, suc, ◌+◌, ◌<◌, ◌≤◌, ◌||◌, ◌&&◌, Bool, true, false, nat_le, List, [], ◌∷◌, ◌++◌, length}
+use Rattle.std.proofs.Common.{map, filter, replicate, get_or, Some, None, refl, sym, ap, subst, ◌∙◌, append_assoc, arith}
 use Rattle.std.specs.Prelude.{nat_eq, not, slice_get, if◌then◌else◌, All}
 use Rattle.std.specs.List.{AllZip, range_with_len}
 use Rattle.std.proofs.lemmas.Bool.Decides.{nat_tests}
@@ -28,7 +29,8 @@ use Rattle.un_ir.specs.declared.extended.Growth.{Growth}
 use Rattle.un_ir.specs.declared.extended.Value.{Value}
 use Rattle.un_ir.specs.Extended.{returns}
 use Rattle.un_ir.specs.ExtendOf.{sorts_of, extend_of, grown_block, with_ops, extended_blocks, with_extended}
-use Rattle.un_ir.specs.LinearOf.{AreLive, live_at, live_after, linear_block, linear_blocks, past_block, in_op, first_temps, current_after, reads, name_operand, end_ops, out_op, lin_of}
+use Rattle.un_ir.specs.LinearOf.{AreLive, live_at, live_after, linear_block, linear_blocks, past_block, in_op, first_temps, current_after}
+use Rattle.un_ir.specs.LinearOf.{reads, name_operand, end_ops, out_op, lin_of}
 use Rattle.un_model.specs.declared.schedule.Issue.{Issue}
 use Rattle.un_model.specs.declared.schedule.Read.{Read}
 use Rattle.un_model.specs.declared.schedule.LiveRange.{LiveRange}

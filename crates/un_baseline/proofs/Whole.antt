@@ -1,5 +1,6 @@
 -- The plan of a whole block.
-use Rattle.std.proofs.Common.{◌≡◌, ℕ, suc, ◌+◌, ◌<◌, ◌≤◌, ◌||◌, Bool, true, false, List, [], ◌∷◌, ◌++◌, length, map, replicate, Option, Some, None, refl, sym, ap, subst, ◌∙◌, arith}
+use Rattle.std.proofs.Common.{◌≡◌, ℕ, suc, ◌+◌, ◌<◌, ◌≤◌, ◌||◌, Bool, true, false, List, [], ◌∷◌, ◌++◌, length, map, replicate, Option}
+use Rattle.std.proofs.Common.{Some, None, refl, sym, ap, subst, ◌∙◌, arith}
 use Rattle.std.specs.Prelude.{slice_get, slice_index, if◌then◌else◌, IfSome, All, Contains}
 use Rattle.std.specs.List.{AllZip}
 use Rattle.std.proofs.lemmas.List.{length-append, length-map}
@@ -28,7 +29,8 @@ use Rattle.un_ir.specs.declared.extended.Operand.{Operand}
 use Rattle.un_ir.specs.Extended.{temp, name_kind, is_return, returns}
 use Rattle.un_ir.specs.Linear.{Ending, ending_of}
 use Rattle.un_ir.specs.ExtendOf.{new_temps, with_extended, grown_block, with_ops, extend_of}
-use Rattle.un_ir.specs.LinearOf.{AreLive, live_at, live_after, kind_of_pair, first_temps, current_after, past_all, in_op, body_ops, reads, name_operand, out_operands_of, end_ops, out_op, linear_block, lin_of}
+use Rattle.un_ir.specs.LinearOf.{AreLive, live_at, live_after, kind_of_pair, first_temps, current_after, past_all, in_op, body_ops, reads}
+use Rattle.un_ir.specs.LinearOf.{name_operand, out_operands_of, end_ops, out_op, linear_block, lin_of}
 use Rattle.un_ir.specs.Live.{IsLive, read_by_term}
 use Rattle.un_ir.specs.WellFormed.{TestsItsKind}
 use Rattle.un_ir.proofs.SourceFacts.{good_block}
@@ -40,8 +42,10 @@ use Rattle.un_baseline.proofs.Made.{made_at, steps_made}
 use Rattle.un_model.specs.Congruences.{term_of, live_in_temps}
 use Rattle.un_baseline.specs.declared.plan.Setting.{Setting}
 use Rattle.un_baseline.specs.declared.plan.Progress.{Progress}
-use Rattle.un_baseline.specs.SpillEverywhere.{purpose_of_out, slot_of, out_place, handed_place, first_number, setting_of, first_progress, first_cycle, steps_of}
-use Rattle.un_baseline.proofs.Counts.{term_start, term_bodies, term_out, term_jump, term_branch, term_return, ending_bodies, first_number_of}
+use Rattle.un_baseline.specs.SpillEverywhere.{purpose_of_out, slot_of, out_place, handed_place, first_number, setting_of, first_progress}
+use Rattle.un_baseline.specs.SpillEverywhere.{first_cycle, steps_of}
+use Rattle.un_baseline.proofs.Counts.{term_start, term_bodies, term_out, term_jump, term_branch, term_return, ending_bodies}
+use Rattle.un_baseline.proofs.Counts.{first_number_of}
 use Rattle.un_baseline.proofs.Ends.{fall_good, jump_good, branch_good}
 use Rattle.un_baseline.proofs.Going.{Going, bodies_good}
 use Rattle.un_baseline.proofs.Grown.{all_add, all_ops, extended_ops}

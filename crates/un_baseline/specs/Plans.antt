@@ -1,5 +1,6 @@
 -- A plan says of each operation what it does. The values of a model's variables are read off it, in their order.
-use Rattle.std.specs.Prelude.{ℕ, ◌≡◌, ◌+◌, ◌-◌, ◌==◌, ◌&&◌, ◌||◌, is_some, Bool, true, false, if◌then◌else◌, List, [], ◌∷◌, ◌++◌, Option, Some, None, map, max, length, slice_get, slice_index}
+use Rattle.std.specs.Prelude.{ℕ, ◌≡◌, ◌+◌, ◌-◌, ◌==◌, ◌&&◌, ◌||◌, is_some, Bool, true, false, if◌then◌else◌, List, [], ◌∷◌, ◌++◌, Option}
+use Rattle.std.specs.Prelude.{Some, None, map, max, length, slice_get, slice_index}
 use Rattle.std.specs.List.{AllZip, list_all}
 use Rattle.un_ir.specs.declared.extended.ExtKind.{ExtKind}
 use Rattle.un_ir.specs.declared.extended.ExtKind.TheVariants.{In, Out}

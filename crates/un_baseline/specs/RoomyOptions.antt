@@ -4,7 +4,6 @@ use Rattle.un_base.specs.declared.ids.NameId.{NameId}
 use Rattle.un_isa.specs.Fit.{IsFit}
 use Rattle.un_ir.specs.declared.function.Function.{Function}
 use Rattle.un_ir.specs.declared.extended.Ext.{Ext}
-use Rattle.un_ir.specs.Extended.{IsLinear, IsExtended}
 use Rattle.un_ir.specs.ExtendOf.{extend_of}
 use Rattle.un_ir.specs.LinearOf.{AreLive, lin_of}
 use Rattle.un_model.specs.declared.model.Options.{Options}
@@ -18,18 +17,16 @@ pub record AreRoomy (e : Ext) (o : Options) : Type 0 where
   pub regs : IfSome o.regs (λ (n : ℕ). 6 ≤ n)
   pub slots : length e.names < o.slots
 
--- it is the extended function of a function, of which the linear function is sound, as `linearize` answers it
+-- it is the extended function of a function
 pub record IsOfFunction (e : Ext) : Type 0 where
   pub function : Function
   pub lists : List (List NameId)
   pub live : AreLive function.blocks lists
-  pub linear : IsLinear (lin_of function lists e.table)
   pub extended : e ≡ extend_of (lin_of function lists e.table)
 
--- the model of a function's extended function, as `extend` answers it, under roomy options, for a table that the compiler works for
+-- the model of a function's extended function under roomy options, for a table that the compiler works for
 pub record IsSpillable (m : Model) : Type 0 where
   pub model : IsModel m
   pub table : IsFit m.ext.table
   pub function : IsOfFunction m.ext
-  pub kept : IsExtended m.ext
   pub roomy : AreRoomy m.ext m.options

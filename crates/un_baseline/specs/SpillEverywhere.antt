@@ -2,7 +2,8 @@
 -- stand in their slots at the bounds of blocks, the link register's value stands in its slot from its spill on, and the
 -- callee-saved registers stay as they are. One instruction issues in a packet, and the next as many cycles later as the
 -- latency of the one before.
-use Rattle.std.specs.Prelude.{ℕ, ◌+◌, ◌-◌, ◌==◌, nat_lt, Bool, true, false, if◌then◌else◌, List, [], ◌∷◌, Option, Some, None, map, replicate, length, slice_get, slice_index}
+use Rattle.std.specs.Prelude.{ℕ, ◌+◌, ◌-◌, ◌==◌, nat_lt, Bool, true, false, if◌then◌else◌, List, [], ◌∷◌, Option, Some, None, map}
+use Rattle.std.specs.Prelude.{replicate, length, slice_get, slice_index}
 use Rattle.un_base.specs.declared.ids.NameId.{NameId}
 use Rattle.un_base.specs.declared.ids.TempId.{TempId}
 use Rattle.un_isa.specs.Registers.{saved_registers}

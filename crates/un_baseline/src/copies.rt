@@ -6,7 +6,9 @@ ghost use Rattle.un_isa.specs.declared.op.Op.TheVariants.{Reload};
 ghost use Rattle.un_ir.specs.Extended.{name_kind};
 ghost use Rattle.un_ir.specs.Linear.{first_of};
 ghost use Rattle.un_model.specs.Instructions.{copy_of, latency_by};
-ghost use Rattle.un_baseline.specs.SpillEverywhere.{slot_of, last_place, is_placed, kept_place, slot_at_start, move, no_move, spilled_to, kept_by_kind, first_copy, second_copy, result_wait, operand_copy, truth_copy, first_alts, copy_move, after_move, next_cycle, next_value, next_operand};
+ghost use Rattle.un_baseline.specs.SpillEverywhere.{slot_of, last_place, is_placed, kept_place, slot_at_start, move, no_move, spilled_to};
+ghost use Rattle.un_baseline.specs.SpillEverywhere.{kept_by_kind, first_copy, second_copy, result_wait, operand_copy, truth_copy};
+ghost use Rattle.un_baseline.specs.SpillEverywhere.{first_alts, copy_move, after_move, next_cycle, next_value, next_operand};
 
 use crate::numbers::{later, number};
 use crate::plan::{
@@ -339,7 +341,13 @@ pub(crate) fn after_copy(
     node: NodeCopy,
 ) -> Result<Progress, NoMemory>
     ensures { IfOk result (λ after.
-        after ≡ record { cycle = next_cycle t.now p.now.cycle m.now purpose node; values = next_value p.now.values node; operands = next_operand p.now.operands node; definer = p.now.definer }) }
+        after ≡ record {
+          cycle = next_cycle t.now p.now.cycle m.now purpose node;
+          values = next_value p.now.values node;
+          operands =
+              next_operand p.now.operands node;
+          definer = p.now.definer;
+        }) }
 {
     Ok(Progress {
         cycle: next_cycle(t, p.cycle, m, purpose, node)?,

@@ -1,6 +1,7 @@
 //! The values of the solution that spills every name, operation by operation.
 
-ghost use Rattle.std.specs.Prelude.{◌≡◌, All, unwrap_or, ◌<◌, ℕ, ◌+◌, ◌++◌, [], ◌∷◌, if◌then◌else◌, replicate, map, drop, true, MatchOption, length, slice_get, slice_index, IfOk, OnOk};
+ghost use Rattle.std.specs.Prelude.{◌≡◌, All, unwrap_or, ◌<◌, ℕ, ◌+◌, ◌++◌, [], ◌∷◌, if◌then◌else◌, replicate, map, drop, true};
+ghost use Rattle.std.specs.Prelude.{MatchOption, length, slice_get, slice_index, IfOk, OnOk};
 ghost use Rattle.un_base.specs.declared.ids.TempId.{TempId};
 ghost use Rattle.un_isa.specs.Registers.{saved_registers};
 ghost use Rattle.un_isa.specs.declared.op.Op.TheVariants.{Jumpr};
@@ -21,7 +22,11 @@ ghost use Rattle.un_model.specs.Variables.{chosen_operands};
 ghost use Rattle.un_baseline.specs.RoomyOptions.{IsOfFunction, IsSpillable};
 ghost use Rattle.un_baseline.specs.SpilledCost.{spilled_cost};
 ghost use Rattle.un_baseline.specs.Plans.{step_values, steps_values, block_values, blocks_values};
-ghost use Rattle.un_baseline.specs.SpillEverywhere.{purpose_of_end, purpose_of_out, purpose_of, purpose_at, start_register, leave_cycle, end_cycle, copies_of, handed_place, out_place, operand_place, step_of, assigning, other_progress, after_end, progress_of, steps_of, progress_after, first_number, setting_of, first_cycle, first_progress, block_end, block_plan, block_plans, spilled_values};
+ghost use Rattle.un_baseline.specs.SpillEverywhere.{purpose_of_end, purpose_of_out, purpose_of, purpose_at, start_register, leave_cycle};
+ghost use Rattle.un_baseline.specs.SpillEverywhere.{end_cycle, copies_of, handed_place, out_place, operand_place, step_of, assigning};
+ghost use Rattle.un_baseline.specs.SpillEverywhere.{other_progress, after_end, progress_of, steps_of, progress_after, first_number};
+ghost use Rattle.un_baseline.specs.SpillEverywhere.{setting_of, first_cycle, first_progress, block_end, block_plan, block_plans};
+ghost use Rattle.un_baseline.specs.SpillEverywhere.{spilled_values};
 
 use crate::copies::{
     after_copy, copy_move, is_placed, last_place, name_at, name_kind, result_wait, slot_of,
@@ -184,7 +189,8 @@ fn push_starts(
 ) -> Result<(), NoMemory>
     requires { saved.now ≡ saved_registers t.now }
     ensures { OnOk result
-        (values.new ≡ values.old ++ places_from (λ (j : ℕ) (x : TempId). start_register t.now s.now live_in.now j (slice_get live_in.now j)) 0 results.now) }
+        (values.new ≡ values.old ++ places_from (λ (j : ℕ) (x : TempId). start_register t.now s.now live_in.now j (slice_get live_in.now j))
+        0 results.now) }
 {
     for j in 0..results.len() {
         let _x = results.get(j);
@@ -326,7 +332,13 @@ fn block_end(t: &Table, term: Term, now: u32) -> Result<u32, NoMemory>
 fn push_copy(values: &mut Items<u32>, op: &ExtOp, node: NodeCopy, m: &Move) -> Result<(), NoMemory>
     requires { op.now.kind ≡ Copy node }
     ensures { OnOk result
-        (values.new ≡ values.old ++ step_values op.now (record { instr = m.now.instr; cycle = m.now.cycle; choices = replicate (length (chosen_operands op.now)) m.now.place; registers = replicate (length op.now.results) m.now.register })) }
+        (values.new ≡ values.old ++ step_values op.now (record {
+          instr = m.now.instr;
+          cycle = m.now.cycle;
+          choices =
+              replicate (length (chosen_operands op.now)) m.now.place;
+          registers = replicate (length op.now.results) m.now.register;
+        })) }
 {
     values.push(m.instr)?;
     values.push(m.cycle)?;
@@ -430,7 +442,8 @@ fn plan_body(
     o: &SrcOp,
 ) -> Result<Progress, NoMemory>
     ensures values { OnOk result
-        (values.new ≡ values.old ++ p.now.cycle ∷ (map operand_place op.now.operands ++ replicate (length op.now.results) (if gives_truth o.now.op then PREDICATE else 0))) }
+        (values.new ≡ values.old ++ p.now.cycle ∷ (map operand_place op.now.operands ++
+        replicate (length op.now.results) (if gives_truth o.now.op then PREDICATE else 0))) }
     ensures progress { IfOk result (λ after. after ≡ other_progress (p.now.cycle + latency_of t.now o.now.op) (assigning o.now.dst)) }
 {
     push_mandatory(values, op, p.cycle, result_register(o.op))?;
@@ -447,7 +460,8 @@ fn plan_end(
     term: Term,
 ) -> Result<Progress, NoMemory>
     ensures values { OnOk result
-        (values.new ≡ values.old ++ end_cycle t.now term p.now.cycle ∷ (map operand_place op.now.operands ++ replicate (length op.now.results) 0)) }
+        (values.new ≡ values.old ++ end_cycle t.now term p.now.cycle ∷
+        (map operand_place op.now.operands ++ replicate (length op.now.results) 0)) }
     ensures progress { IfOk result (λ after. after ≡ other_progress (after_end t.now term p.now.cycle) Other) }
 {
     let cycle = end_cycle(t, term, p.cycle)?;
@@ -467,7 +481,9 @@ fn plan_start(
 ) -> Result<Progress, NoMemory>
     requires { saved.now ≡ saved_registers e.now.table }
     ensures values { OnOk result
-        (values.new ≡ values.old ++ (replicate (length op.now.operands) 0 ++ places_from (λ (j : ℕ) (x : TempId). start_register e.now.table s.now block.now.live_in j (slice_get block.now.live_in j)) 0 op.now.results)) }
+        (values.new ≡ values.old ++ (replicate (length op.now.operands) 0 ++
+        places_from (λ (j : ℕ) (x : TempId). start_register e.now.table s.now block.now.live_in j (slice_get block.now.live_in j)) 0
+        op.now.results)) }
     ensures progress { IfOk result (λ after. after ≡ other_progress p.now.cycle (if s.now.is_entry then Start else Other)) }
 {
     push_same(values, op.operands.len(), 0)?;
@@ -490,7 +506,8 @@ fn plan_out(
     op: &ExtOp,
 ) -> Result<Progress, NoMemory>
     ensures values { OnOk result
-        (values.new ≡ values.old ++ (places_from (out_place e.now.names block.now.live_out s.now (length op.now.operands) s.now.term) 0 op.now.operands ++ replicate (length op.now.results) 0)) }
+        (values.new ≡ values.old ++ (places_from (out_place e.now.names block.now.live_out s.now (length op.now.operands) s.now.term) 0
+        op.now.operands ++ replicate (length op.now.results) 0)) }
     ensures progress { IfOk result (λ after. after ≡ other_progress p.now.cycle Other) }
 {
     push_outs(values, &e.names, &block.live_out, s, &op.operands)?;

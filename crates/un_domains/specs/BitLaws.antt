@@ -1,5 +1,6 @@
 -- Laws of bounds and bits.
-use Rattle.std.proofs.Common.{ℕ, ◌≡◌, ◌≢◌, ◌<◌, ◌≤◌, ◌+◌, ◌-◌, ◌*◌, ◌/◌, ◌%◌, ◌^◌, Bool, true, false, ◌&&◌, List, length, get_or, set, filter, nat_eq, nat_le, nat_lt, bit_and, w64, refl, sym, ap, ◌∙◌, subst, add-one, arith, inl, inr}
+use Rattle.std.proofs.Common.{ℕ, ◌≡◌, ◌≢◌, ◌<◌, ◌≤◌, ◌+◌, ◌-◌, ◌*◌, ◌/◌, ◌%◌, ◌^◌, Bool, true, false, ◌&&◌, List, length, get_or, set}
+use Rattle.std.proofs.Common.{filter, nat_eq, nat_le, nat_lt, bit_and, w64, refl, sym, ap, ◌∙◌, subst, add-one, arith, inl, inr}
 use Rattle.std.specs.Int.{bit_at, bit_not, trailing_zeros}
 use Rattle.std.specs.List.{range_with_len}
 use Rattle.std.proofs.lemmas.Bool.{cases_lt}
@@ -9,7 +10,8 @@ use Rattle.std.proofs.lemmas.List.Elements.{filter_agree}
 use Rattle.std.proofs.lemmas.Nat.{shr-shr, shr_le, pow_pos, leading_top}
 use Rattle.std.proofs.Math.Nat.{mod-lt, div-add-mod, mul_comm, pow-succ', div-eq_of_lt-le}
 use Rattle.std.specs.Int.Count.{count_leading_zeros}
-use Rattle.std.proofs.lemmas.Nat.Bits.{bit_at-zero, bit_at_above, bit_at-trailing_zeros, bit_at_clear_same, bit_at_clear_other, bit_at_cat_low}
+use Rattle.std.proofs.lemmas.Nat.Bits.{bit_at-zero, bit_at_above, bit_at-trailing_zeros, bit_at_clear_same, bit_at_clear_other}
+use Rattle.std.proofs.lemmas.Nat.Bits.{bit_at_cat_low}
 use Rattle.un_domains.specs.SetLaws.{same_or_not}
 use Rattle.un_domains.specs.OrderLaws.{same_test, filter-filter, and_true}
 use Rattle.un_domains.specs.Bits.{bit, inside, members}
@@ -146,7 +148,8 @@ word_last ws last rest zeros is zeros_is fits some =
           let same : i / 64 ≡ last / 64 = omega (arith, low, le, sum) in
           let over : j + 1 ≤ i % 64 = omega (arith, low, same, sum) in
           not_one (bit_at (get_or ws (i / 64) 0) (i % 64))
-          (sym (bit_there ws last i same le) ∙ (ap (λ (n : ℕ). bit_at n (i % 64)) (sym is) ∙ bit_at_above rest (j + 1) (i % 64) high over))),
+          (sym (bit_there ws last i same le) ∙ (ap (λ (n : ℕ). bit_at n (i % 64)) (sym is)
+          ∙ bit_at_above rest (j + 1) (i % 64) high over))),
     )
   where
     top_bit : (a j : ℕ) → 2 ^ j ≤ a → a < 2 ^ (j + 1) → bit_at a j ≡ 1

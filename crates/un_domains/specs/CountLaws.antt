@@ -1,5 +1,6 @@
 -- How many numbers a set has, word by word.
-use Rattle.std.proofs.Common.{ℕ, zero, suc, ◌≡◌, ◌≢◌, ◌<◌, ◌≤◌, ◌+◌, ◌-◌, ◌*◌, ◌/◌, ◌%◌, ◌^◌, Bool, true, false, cond, not, List, [], ◌∷◌, length, get_or, filter, nat_eq, nat_lt, refl, sym, ap, ◌∙◌, subst, arith}
+use Rattle.std.proofs.Common.{ℕ, zero, suc, ◌≡◌, ◌≢◌, ◌<◌, ◌≤◌, ◌+◌, ◌-◌, ◌*◌, ◌/◌, ◌%◌, ◌^◌, Bool, true, false, cond, not, List, [], ◌∷◌}
+use Rattle.std.proofs.Common.{length, get_or, filter, nat_eq, nat_lt, refl, sym, ap, ◌∙◌, subst, arith}
 use Rattle.std.specs.Int.{bit_at}
 use Rattle.std.specs.Int.Count.{ones}
 use Rattle.std.specs.List.{range_with_len}

@@ -1,5 +1,6 @@
 -- Words with the old content of those that changed since each mark.
-use Rattle.std.specs.Prelude.{ℕ, ◌≡◌, ◌<◌, ◌≤◌, Bool, true, false, cond, List, [], ◌∷◌, length, slice_index, slice_index_or, slice_set, map, sum_by, vec_capacity, All}
+use Rattle.std.specs.Prelude.{ℕ, ◌≡◌, ◌<◌, ◌≤◌, Bool, true, false, cond, List, [], ◌∷◌, length, slice_index, slice_index_or, slice_set, map}
+use Rattle.std.specs.Prelude.{sum_by, vec_capacity, All}
 use Rattle.un_domains.specs.Sets.{has}
 use Rattle.un_domains.specs.declared.levels.Saved.{Saved}
 use Rattle.un_domains.specs.declared.levels.Level.{Level}

@@ -1,6 +1,11 @@
 -- Laws of sets in one list of words.
-use Rattle.std.proofs.Common.{ℕ, ◌≡◌, ◌≢◌, ◌<◌, ◌≤◌, ◌+◌, ◌-◌, ◌*◌, ◌/◌, ◌%◌, ◌^◌, zero, suc, replicate, ◌⊎◌, Bool, true, false, cond, not, ◌||◌, ◌&&◌, List, [], ◌∷◌, ◌++◌, Ok, Err, OnOk, OnErr, length, get_or, set, drop, map, filter, nat_eq, nat_lt, nat_le, All, refl, sym, ap, ◌∙◌, subst, arith, inl, inr, length-take-le, length-drop, append_assoc, length-append}
-use Rattle.std.proofs.lemmas.List.{get_or_append_left, get_or-set_same, get_or-take, get_or-drop, get_or-map, get_or_default, length-map, length-set, length_push, map-append, get_or-set_other, get_or-append-add, get_or-replicate, length-replicate, ext_get_or}
+use Rattle.std.proofs.Common.{ℕ, ◌≡◌, ◌≢◌, ◌<◌, ◌≤◌, ◌+◌, ◌-◌, ◌*◌, ◌/◌, ◌%◌, ◌^◌, zero, suc, replicate, ◌⊎◌, Bool, true, false, cond, not}
+use Rattle.std.proofs.Common.{◌||◌, ◌&&◌, List, [], ◌∷◌, ◌++◌, Ok, Err, OnOk, OnErr, length, get_or, set, drop, map, filter, nat_eq, nat_lt}
+use Rattle.std.proofs.Common.{nat_le, All, refl, sym, ap, ◌∙◌, subst, arith, inl, inr, length-take-le, length-drop, append_assoc}
+use Rattle.std.proofs.Common.{length-append}
+use Rattle.std.proofs.lemmas.List.{get_or_append_left, get_or-set_same, get_or-take, get_or-drop, get_or-map, get_or_default, length-map}
+use Rattle.std.proofs.lemmas.List.{length-set, length_push, map-append, get_or-set_other, get_or-append-add, get_or-replicate}
+use Rattle.std.proofs.lemmas.List.{length-replicate, ext_get_or}
 use Rattle.std.proofs.Math.Seq.{get_or-append_seam}
 use Rattle.std.proofs.lemmas.Bool.{cases_lt}
 use Rattle.std.specs.Int.{bit_at}
@@ -23,9 +28,11 @@ use Rattle.un_domains.specs.OrderLaws.{filter_agree_on, has_here, has_later, sam
 use Rattle.un_domains.specs.DomainLaws.{value_rises, all_values}
 use Rattle.un_domains.specs.Bits.{bit, inside, members, IsTight}
 use Rattle.un_domains.specs.BitLaws.{Inside, inside_of, of_inside}
-use Rattle.un_domains.specs.MemberLaws.{drop_none, drop_inner, has_is, has_members, members_some, some_members, members_has, least_is, greatest_is}
+use Rattle.un_domains.specs.MemberLaws.{drop_none, drop_inner, has_is, has_members, members_some, some_members, members_has, least_is}
+use Rattle.un_domains.specs.MemberLaws.{greatest_is}
 use Rattle.un_domains.specs.declared.shape.Shape.{Shape}
-use Rattle.un_domains.specs.Shapes.{row_of, places_of, set_of, sets_of, IsLaid, AreApart, IsStore, SameOutside, AnswerOf, IsPlacesCut, BoundsAnswer, IsCleared, SameBut, ClearedAnswer}
+use Rattle.un_domains.specs.Shapes.{row_of, places_of, set_of, sets_of, IsLaid, AreApart, IsStore, SameOutside, AnswerOf, IsPlacesCut}
+use Rattle.un_domains.specs.Shapes.{BoundsAnswer, IsCleared, SameBut, ClearedAnswer}
 
 pub length-row : (ws : List ℕ) (at n : ℕ) → at + 2 + n ≤ length ws → length (row_of ws at n) ≡ n
 length-row ws at n within = length-take-le n (drop (at + 2) ws) (omega (arith, within, length-drop (at + 2) ws))
@@ -575,7 +582,8 @@ cleared_cut at n k lo0 end0 lo end old mid new answer within place tight lo_is e
             ∙ but.same j (apart j away (at + 2 + k / 64) (omega arith) (omega (arith, place)))));
       };
       marked = marked ∙ mid_marked;
-      tight = tight_by (row_of new.words at n) (row_of mid.words at n) (get_or new.words at 0) lo (get_or new.words (at + 1) 0) end row lo_new
+      tight = tight_by (row_of new.words at n) (row_of mid.words at n) (get_or new.words at 0) lo (get_or new.words (at + 1) 0) end row
+          lo_new
           end_new tight';
       fewer = omega (arith, end_new, fewer, end_is);
       left = places ∙ (left ∙ gone);

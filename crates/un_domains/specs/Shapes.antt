@@ -1,5 +1,6 @@
 -- Sets of values in one list of words.
-use Rattle.std.specs.Prelude.{ℕ, ◌≡◌, ◌≢◌, ◌<◌, ◌≤◌, ◌+◌, ◌^◌, ◌⊎◌, Bool, false, List, length, map, filter, slice_index, slice_index_or, take, drop, All}
+use Rattle.std.specs.Prelude.{ℕ, ◌≡◌, ◌≢◌, ◌<◌, ◌≤◌, ◌+◌, ◌^◌, ◌⊎◌, Bool, false, List, length, map, filter, slice_index, slice_index_or}
+use Rattle.std.specs.Prelude.{take, drop, All}
 use Rattle.un_domains.specs.Domains.{values_of, value_at, IsDomain}
 use Rattle.un_domains.specs.Sets.{Sets, NoneEmpty}
 use Rattle.un_domains.specs.Bits.{bit, members, IsTight}

@@ -1,6 +1,7 @@
 //! The words that changed since a mark, with what they were: one level of them for each mark.
 
-ghost use Rattle.std.specs.Prelude.{◌≡◌, ℕ, ◌+◌, ◌<◌, ◌≤◌, List, [], ◌∷◌, ◌++◌, length, slice_index, slice_set, OnOk, OnErr, IfOk, All, replicate, false, vec_capacity};
+ghost use Rattle.std.specs.Prelude.{◌≡◌, ℕ, ◌+◌, ◌<◌, ◌≤◌, List, [], ◌∷◌, ◌++◌, length, slice_index, slice_set, OnOk, OnErr, IfOk, All};
+ghost use Rattle.std.specs.Prelude.{replicate, false, vec_capacity};
 ghost use Rattle.un_domains.specs.Levels.{IsLevel, IsSave, marked_of, unwind};
 
 use std::alloc::{AllocError, Global};
@@ -69,7 +70,8 @@ pub fn note(levels: &mut Vec<Level>, n: usize, i: usize, old: u64)
     requires levels { All (IsLevel n) levels.old.items }
     requires within { i < n }
     ensures levels { All (IsLevel n) levels.new.items }
-    ensures marked { (ws : List ℕ) (w : ℕ) → slice_index ws i ≡ old → i < length ws → marked_of levels.new.items (slice_set ws i w) ≡ marked_of levels.old.items ws }
+    ensures marked { (ws : List ℕ) (w : ℕ) → slice_index ws i ≡ old → i < length ws
+        → marked_of levels.new.items (slice_set ws i w) ≡ marked_of levels.old.items ws }
 {
     let depth = levels.len();
     if depth > 0 {

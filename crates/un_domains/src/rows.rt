@@ -1,6 +1,7 @@
 //! One variable's set of places among the words of all: its bounds at `at`, then `n` words of bits.
 
-ghost use Rattle.std.specs.Prelude.{◌≡◌, ℕ, ◌+◌, ◌*◌, ◌/◌, ◌^◌, ◌<◌, ◌≤◌, List, length, filter, nat_lt, nat_le, nat_eq, not, slice_index, slice_set};
+ghost use Rattle.std.specs.Prelude.{◌≡◌, ℕ, ◌+◌, ◌*◌, ◌/◌, ◌^◌, ◌<◌, ◌≤◌, List, length, filter, nat_lt, nat_le, nat_eq, not, slice_index};
+ghost use Rattle.std.specs.Prelude.{slice_set};
 ghost use Rattle.un_domains.specs.Bits.{bit, members, IsTight};
 ghost use Rattle.un_domains.specs.Shapes.{row_of, places_of, BoundsAnswer, IsPlacesCut, IsCleared, SameBut};
 

@@ -1,6 +1,7 @@
 //! A set of values for each variable, with marks that can be taken back.
 
-ghost use Rattle.std.specs.Prelude.{◌≡◌, ℕ, ◌+◌, ◌^◌, ◌<◌, ◌≤◌, List, [], ◌∷◌, ◌++◌, length, map, nat_le, nat_lt, nat_eq, not, All, OnOk, OnErr, IfOk, replicate, ◌-◌};
+ghost use Rattle.std.specs.Prelude.{◌≡◌, ℕ, ◌+◌, ◌^◌, ◌<◌, ◌≤◌, List, [], ◌∷◌, ◌++◌, length, map, nat_le, nat_lt, nat_eq, not, All, OnOk};
+ghost use Rattle.std.specs.Prelude.{OnErr, IfOk, replicate, ◌-◌};
 ghost use Rattle.un_domains.specs.Sets.{Sets, set_at, has, least, greatest, NoneEmpty};
 ghost use Rattle.un_domains.specs.Cuts.{Contents, IsCut};
 ghost use Rattle.un_domains.specs.Domains.{IsDomain, values_of};

@@ -1,5 +1,6 @@
 -- What a block of an extended function takes over at its start and hands over at its end, by the parts of its operations.
-use Rattle.std.proofs.Common.{◌≡◌, Bool, true, false, List, [], ◌∷◌, ◌++◌, ◌⊎◌, inl, inr, ⊎_elim, refl, sym, ap, ◌∙◌, subst, arith, append_assoc}
+use Rattle.std.proofs.Common.{◌≡◌, Bool, true, false, List, [], ◌∷◌, ◌++◌, ◌⊎◌, inl, inr, ⊎_elim, refl, sym, ap, ◌∙◌, subst, arith}
+use Rattle.std.proofs.Common.{append_assoc}
 use Rattle.std.specs.Prelude.{Option, Some, None, if◌then◌else◌}
 use Rattle.std.specs.Option.{option_to_list}
 use Rattle.un_ir.specs.declared.function.Term.{Term}
@@ -59,22 +60,28 @@ regroup p = p.start ∷ (middle p ++ p.out ∷ [])
 
 pub regrouped : (ops : List ExtOp) (p : Parts) → IsMadeOf ops p → ops ≡ p.start ∷ (middle p ++ p.out ∷ [])
 regrouped ops p h =
-    h.whole ∙ ap (λ xs. p.start ∷ (p.inner ++ xs)) (sym (append_assoc (option_to_list p.ending) p.late (p.out ∷ []))) ∙ ap (λ xs. p.start ∷ xs) (sym (append_assoc p.inner (option_to_list p.ending ++ p.late) (p.out ∷ [])))
+    h.whole ∙ ap (λ xs. p.start ∷ (p.inner ++ xs)) (sym (append_assoc (option_to_list p.ending) p.late (p.out ∷ [])))
+    ∙ ap (λ xs. p.start ∷ xs) (sym (append_assoc p.inner (option_to_list p.ending ++ p.late) (p.out ∷ [])))
 
 abbrev pub Neither : ExtOp → Type 0
 Neither op = (is_in op.kind ≡ false) × (is_out op.kind ≡ false)
 
 pub middle_neither : (ops : List ExtOp) (p : Parts) → IsMadeOf ops p → Each Neither (middle p)
 middle_neither ops p h =
-    each_join Neither p.inner (option_to_list p.ending ++ p.late) (each_more (λ (op : ExtOp). is_inner op.kind ≡ true) Neither p.inner (λ op q. let z = inner_not op.kind q in (z.0, z.1)) (each_all (λ (op : ExtOp). is_inner op.kind ≡ true) p.inner h.inner))
-    (each_join Neither (option_to_list p.ending) p.late (each_more (λ (op : ExtOp). is_end op.kind ≡ true) Neither (option_to_list p.ending) (λ op q. end_not op.kind q) (each_all (λ (op : ExtOp). is_end op.kind ≡ true) (option_to_list p.ending) h.ending))
-    (each_more (λ (op : ExtOp). is_copy op.kind ≡ true) Neither p.late (λ op q. let z = copy_not op.kind q in (z.0, z.1)) (each_all (λ (op : ExtOp). is_copy op.kind ≡ true) p.late h.late)))
+    each_join Neither p.inner (option_to_list p.ending ++ p.late)
+    (each_more (λ (op : ExtOp). is_inner op.kind ≡ true) Neither p.inner (λ op q. let z = inner_not op.kind q in (z.0, z.1))
+    (each_all (λ (op : ExtOp). is_inner op.kind ≡ true) p.inner h.inner))
+    (each_join Neither (option_to_list p.ending) p.late (each_more (λ (op : ExtOp). is_end op.kind ≡ true) Neither (option_to_list p.ending)
+    (λ op q. end_not op.kind q) (each_all (λ (op : ExtOp). is_end op.kind ≡ true) (option_to_list p.ending) h.ending))
+    (each_more (λ (op : ExtOp). is_copy op.kind ≡ true) Neither p.late (λ op q. let z = copy_not op.kind q in (z.0, z.1))
+    (each_all (λ (op : ExtOp). is_copy op.kind ≡ true) p.late h.late)))
 
 none_in : (ops : List ExtOp) (xs : List ExtOp) → Each (λ (op : ExtOp). is_in op.kind ≡ false) ops → in_temps (ops ++ xs) ≡ in_temps xs
 none_in [] xs h = refl
 none_in (op ∷ ops) xs h = ap (λ (b : Bool). (if b then op.results else []) ++ in_temps (ops ++ xs)) h.0 ∙ none_in ops xs h.1
 
-none_out : (ops : List ExtOp) (xs : List ExtOp) → Each (λ (op : ExtOp). is_out op.kind ≡ false) ops → out_operands (ops ++ xs) ≡ out_operands xs
+none_out : (ops : List ExtOp) (xs : List ExtOp) → Each (λ (op : ExtOp). is_out op.kind ≡ false) ops
+    → out_operands (ops ++ xs) ≡ out_operands xs
 none_out [] xs h = refl
 none_out (op ∷ ops) xs h = ap (λ (b : Bool). (if b then op.operands else []) ++ out_operands (ops ++ xs)) h.0 ∙ none_out ops xs h.1
 
@@ -90,7 +97,9 @@ starts ops p h =
     let last : is_in o.kind ≡ false = (out_not o.kind h.out).0 in
     ap in_temps (regrouped ops p h)
     ∙ ap (λ (b : Bool). (if b then (let s = p.start in s.results) else []) ++ in_temps (middle p ++ p.out ∷ [])) h.start
-    ∙ ap (λ xs. (let s = p.start in s.results) ++ xs) (none_in (middle p) (p.out ∷ []) (each_more Neither (λ (op : ExtOp). is_in op.kind ≡ false) (middle p) (λ op z. z.0) n) ∙ ap (λ (b : Bool). (if b then o.results else []) ++ []) last)
+    ∙ ap (λ xs. (let s = p.start in s.results) ++ xs) (none_in (middle p) (p.out ∷ [])
+    (each_more Neither (λ (op : ExtOp). is_in op.kind ≡ false) (middle p) (λ op z. z.0) n)
+    ∙ ap (λ (b : Bool). (if b then o.results else []) ++ []) last)
     ∙ append_nil (let s = p.start in s.results)
 
 -- what a block's end reads are the operands of its last operation
@@ -117,11 +126,13 @@ only_in ops p op h m q = go (subst (Member op) (regrouped ops p h) m)
     go : Member op (p.start ∷ (middle p ++ p.out ∷ [])) → op ≡ p.start
     go (inl e) = sym e
     go (inr n) = ⊎_elim
-        (λ (k : Member op (middle p)). let z = each_member Neither (middle p) op (middle_neither ops p h) k in let y : true ≡ false = sym q ∙ z.0 in absurd (cc y))
+        (λ (k : Member op (middle p)). let z = each_member Neither (middle p) op (middle_neither ops p h) k in let y : true ≡ false = sym q
+        ∙ z.0 in absurd (cc y))
         (λ (k : Member op (p.out ∷ [])). last k) (part (middle p) (p.out ∷ []) n)
       where
         last : Member op (p.out ∷ []) → op ≡ p.start
-        last (inl e) = let o = p.out in let y : true ≡ false = sym q ∙ ap (λ (x : ExtOp). is_in x.kind) (sym e) ∙ (out_not o.kind h.out).0 in absurd (cc y)
+        last (inl e) = let o = p.out in let y : true ≡ false = sym q ∙ ap (λ (x : ExtOp). is_in x.kind) (sym e)
+            ∙ (out_not o.kind h.out).0 in absurd (cc y)
         last (inr e) = elim e [ ]
 
 pub only_out : (ops : List ExtOp) (p : Parts) (op : ExtOp) → IsMadeOf ops p → Member op ops → is_out op.kind ≡ true → op ≡ p.out
@@ -133,9 +144,11 @@ only_out ops p op h m q = go (subst (Member op) (regrouped ops p h) m)
     part (z ∷ zs) ys (inr m) = ⊎_elim (λ (k : Member op zs). inl (inr k)) (λ (k : Member op ys). inr k) (part zs ys m)
 
     go : Member op (p.start ∷ (middle p ++ p.out ∷ [])) → op ≡ p.out
-    go (inl e) = let s = p.start in let y : true ≡ false = sym q ∙ ap (λ (x : ExtOp). is_out x.kind) (sym e) ∙ (in_not s.kind h.start).0 in absurd (cc y)
+    go (inl e) = let s = p.start in let y : true ≡ false = sym q ∙ ap (λ (x : ExtOp). is_out x.kind) (sym e)
+        ∙ (in_not s.kind h.start).0 in absurd (cc y)
     go (inr n) = ⊎_elim
-        (λ (k : Member op (middle p)). let z = each_member Neither (middle p) op (middle_neither ops p h) k in let y : true ≡ false = sym q ∙ z.1 in absurd (cc y))
+        (λ (k : Member op (middle p)). let z = each_member Neither (middle p) op (middle_neither ops p h) k in let y : true ≡ false = sym q
+        ∙ z.1 in absurd (cc y))
         (λ (k : Member op (p.out ∷ [])). last k) (part (middle p) (p.out ∷ []) n)
       where
         last : Member op (p.out ∷ []) → op ≡ p.out
@@ -152,7 +165,8 @@ out_in ops p h = subst (Member p.out) (sym (regrouped ops p h)) (inr (member_app
 pub live_in_is : (ops : List ExtOp) (p : Parts) → IsMadeOf ops p → live_in_temps ops ≡ (let s = p.start in s.results)
 live_in_is ops p h = ap live_in_temps h.whole ∙ go (let s = p.start in s.kind) h.start
   where
-    go : (k : ExtKind) → is_in k ≡ true → results_of_start k (let s = p.start in s.results) (live_in_temps (p.inner ++ (option_to_list p.ending ++ (p.late ++ p.out ∷ [])))) ≡ (let s = p.start in s.results)
+    go : (k : ExtKind) → is_in k ≡ true → results_of_start k (let s = p.start in s.results)
+        (live_in_temps (p.inner ++ (option_to_list p.ending ++ (p.late ++ p.out ∷ [])))) ≡ (let s = p.start in s.results)
     go In q = refl
     go _ q = absurd (cc q)
 
@@ -177,16 +191,23 @@ skip_end (op ∷ ops) xs h = go op.kind h.0 ∙ skip_end ops xs h.1
 -- the operation that ends a block, and that there is none else
 pub data EndsBy (ops : List ExtOp) : Type 0 where
   falls : ending_of ops ≡ record { term = Fall; operands = [] } → Each NotEnd ops → EndsBy ops
-  ends : (op : ExtOp) (term : Term) → op.kind ≡ End term → Member op ops → ending_of ops ≡ record { term = term; operands = op.operands } → ((x : ExtOp) → Member x ops → is_end x.kind ≡ true → x ≡ op) → EndsBy ops
+  ends : (op : ExtOp) (term : Term) → op.kind ≡ End term → Member op ops → ending_of ops ≡ record { term = term; operands = op.operands }
+      → ((x : ExtOp) → Member x ops → is_end x.kind ≡ true → x ≡ op) → EndsBy ops
 
 pub ends_by : (ops : List ExtOp) (p : Parts) → IsMadeOf ops p → EndsBy ops
 ends_by ops p h = subst EndsBy (sym h.whole) (go p.ending h.ending)
   where
     before : Each NotEnd (p.start ∷ p.inner)
-    before = let s = p.start in ((in_not s.kind h.start).1, each_more (λ (op : ExtOp). is_inner op.kind ≡ true) NotEnd p.inner (λ op q. let z = inner_not op.kind q in z.2) (each_all (λ (op : ExtOp). is_inner op.kind ≡ true) p.inner h.inner))
+    before = let s = p.start in (
+      (in_not s.kind h.start).1,
+      each_more (λ (op : ExtOp). is_inner op.kind ≡ true) NotEnd p.inner
+          (λ op q. let z = inner_not op.kind q in z.2) (each_all (λ (op : ExtOp). is_inner op.kind ≡ true) p.inner h.inner),
+    )
 
     after : Each NotEnd (p.late ++ p.out ∷ [])
-    after = let o = p.out in each_join NotEnd p.late (p.out ∷ []) (each_more (λ (op : ExtOp). is_copy op.kind ≡ true) NotEnd p.late (λ op q. let z = copy_not op.kind q in z.2) (each_all (λ (op : ExtOp). is_copy op.kind ≡ true) p.late h.late)) ((out_not o.kind h.out).1, tt)
+    after = let o = p.out in each_join NotEnd p.late (p.out ∷ [])
+        (each_more (λ (op : ExtOp). is_copy op.kind ≡ true) NotEnd p.late (λ op q. let z = copy_not op.kind q in z.2)
+        (each_all (λ (op : ExtOp). is_copy op.kind ≡ true) p.late h.late)) ((out_not o.kind h.out).1, tt)
 
     none_after : ending_of (p.late ++ p.out ∷ []) ≡ record { term = Fall; operands = [] }
     none_after = ap ending_of (sym (append_nil (p.late ++ p.out ∷ []))) ∙ skip_end (p.late ++ p.out ∷ []) [] after
@@ -199,14 +220,18 @@ ends_by ops p h = subst EndsBy (sym h.whole) (go p.ending h.ending)
     not_end : (xs : List ExtOp) (x : ExtOp) → Each NotEnd xs → Member x xs → is_end x.kind ≡ true → ⊥
     not_end xs x f m q = let z : true ≡ false = sym q ∙ each_member NotEnd xs x f m in absurd (cc z)
 
-    go : (o : Option ExtOp) → AllAre is_end (option_to_list o) → EndsBy (p.start ∷ (p.inner ++ (option_to_list o ++ (p.late ++ p.out ∷ []))))
-    go None f = falls (skip_end (p.start ∷ p.inner) (p.late ++ p.out ∷ []) before ∙ none_after) (each_join NotEnd (p.start ∷ p.inner) (p.late ++ p.out ∷ []) before after)
+    go : (o : Option ExtOp) → AllAre is_end (option_to_list o) → EndsBy
+        (p.start ∷ (p.inner ++ (option_to_list o ++ (p.late ++ p.out ∷ []))))
+    go None f = falls (skip_end (p.start ∷ p.inner) (p.late ++ p.out ∷ []) before ∙ none_after)
+        (each_join NotEnd (p.start ∷ p.inner) (p.late ++ p.out ∷ []) before after)
     go (Some op) f = by_kind op.kind refl (f 0 op (omega arith))
       where
         by_kind : (k : ExtKind) → op.kind ≡ k → is_end k ≡ true → EndsBy (p.start ∷ (p.inner ++ (op ∷ (p.late ++ p.out ∷ []))))
         by_kind (End term) q t = ends op term q (member_append_right (p.start ∷ p.inner) (op ∷ (p.late ++ p.out ∷ [])) op (inl refl))
-            (skip_end (p.start ∷ p.inner) (op ∷ (p.late ++ p.out ∷ [])) before ∙ ap (λ (k : ExtKind). ending_or k op.operands (ending_of (p.late ++ p.out ∷ []))) q)
-            (λ x m e. ⊎_elim (λ (k : Member x (p.start ∷ p.inner)). absurd (not_end (p.start ∷ p.inner) x before k e)) (λ (k : Member x (op ∷ (p.late ++ p.out ∷ []))). last x e k) (part (p.start ∷ p.inner) (op ∷ (p.late ++ p.out ∷ [])) x m))
+            (skip_end (p.start ∷ p.inner) (op ∷ (p.late ++ p.out ∷ [])) before
+            ∙ ap (λ (k : ExtKind). ending_or k op.operands (ending_of (p.late ++ p.out ∷ []))) q)
+            (λ x m e. ⊎_elim (λ (k : Member x (p.start ∷ p.inner)). absurd (not_end (p.start ∷ p.inner) x before k e))
+            (λ (k : Member x (op ∷ (p.late ++ p.out ∷ []))). last x e k) (part (p.start ∷ p.inner) (op ∷ (p.late ++ p.out ∷ [])) x m))
           where
             last : (x : ExtOp) → is_end x.kind ≡ true → Member x (op ∷ (p.late ++ p.out ∷ [])) → x ≡ op
             last x e (inl s) = sym s

@@ -1,10 +1,12 @@
 -- A block of a solution at its end: where the values stand that it hands over, and where it leads.
-use Rattle.std.proofs.Common.{ℕ, zero, suc, ◌≡◌, ◌<◌, ◌≤◌, ◌+◌, ◌-◌, Bool, true, false, List, [], ◌∷◌, map, get_or, ◌⊎◌, ⊎_elim, refl, sym, ap, ◌∙◌, subst, arith}
+use Rattle.std.proofs.Common.{ℕ, zero, suc, ◌≡◌, ◌<◌, ◌≤◌, ◌+◌, ◌-◌, Bool, true, false, List, [], ◌∷◌, map, get_or, ◌⊎◌, ⊎_elim, refl, sym}
+use Rattle.std.proofs.Common.{ap, ◌∙◌, subst, arith}
 use Rattle.std.specs.Prelude.{◌||◌, is_some, Option, Some, None, slice_get, slice_index, ◌==◌, if◌then◌else◌}
 use Rattle.std.specs.Option.{option_map}
 use Rattle.un_base.specs.declared.ids.TempId.{TempId}
 use Rattle.un_isa.specs.declared.op.Op.{Op}
-use Rattle.un_isa.specs.declared.op.Op.TheVariants.{Mov, Spill, Reload, P2R, R2P, Jump as JumpOp, JumpIf, JumpIfNot, Jumpr, Enter as EnterOp, Leave as LeaveOp}
+use Rattle.un_isa.specs.declared.op.Op.TheVariants.{Mov, Spill, Reload, P2R, R2P, Jump as JumpOp, JumpIf, JumpIfNot, Jumpr}
+use Rattle.un_isa.specs.declared.op.Op.TheVariants.{Enter as EnterOp, Leave as LeaveOp}
 use Rattle.un_isa.specs.declared.instr.Instr.{Instr}
 use Rattle.un_ir.specs.declared.function.Kind.{Kind}
 use Rattle.un_ir.specs.declared.function.Kind.TheVariants.{Pred}
@@ -32,7 +34,7 @@ use Rattle.un_emit.proofs.Exits.{transfer_of, is_false}
 use Rattle.un_emit.proofs.Cycles.{At, first_read}
 use Rattle.un_model.proofs.Placed.{Placed, vars_of, issue_at, end_of, region_placed}
 use Rattle.un_model.proofs.PlacedSchedules.{all, range_at}
-use Rattle.un_emit.proofs.Readings.{Solved, placed_good, Reading, reading}
+use Rattle.un_model.proofs.Readings.{Solved, placed_good, Reading, reading}
 use Rattle.un_emit.proofs.JobDeeds.{temps_of, active_in, TextClass, text_class, alu, load as loading, store as storing, call as calling}
 use Rattle.un_emit.proofs.Deeds.{alu_op}
 use Rattle.un_emit.proofs.BlockJobs.{InRegion, IsJob, job_from, some_active}
@@ -45,7 +47,8 @@ use Rattle.un_emit.proofs.JobValues.{Carries, choice_value, args_of}
 use Rattle.un_model.proofs.Operations.{placed_is}
 use Rattle.un_emit.proofs.BlockStarts.{parts, op_of, AtStart, scene, start_truths}
 
-module _ (e : Ext) (o : Options) (values : List ℕ) (h : Solved e o values) (k : ℕ) (block : ExtBlock) (r : InRegion (all e o values) k block) (at : slice_get e.blocks k ≡ Some block) where
+module _ (e : Ext) (o : Options) (values : List ℕ) (h : Solved e o values) (k : ℕ) (block : ExtBlock)
+    (r : InRegion (all e o values) k block) (at : slice_get e.blocks k ≡ Some block) where
   abbrev own_ops : List Placed
   own_ops = region_placed r.region
 
@@ -101,16 +104,20 @@ module _ (e : Ext) (o : Options) (values : List ℕ) (h : Solved e o values) (k 
       pub want : Want
       pub wanted : slice_get (wants_of e.table e.names e.blocks block Out (let p = out_op in let q = p.placed in q.op)) i ≡ Some want
       pub reading_is : Reading e o values h (let p = out_op in p.placed) i x want
-      pub held : held_at u (range_at e o values (let v = reading_is.spot in v.temp.0)).reg ≡ as_held want.kind (range_at e o values (let v = reading_is.spot in v.temp.0)).reg (slice_index handed i)
-      pub ready : (range_at e o values (let v = reading_is.spot in v.temp.0)).reg < 36 → get_or u.ready (range_at e o values (let v = reading_is.spot in v.temp.0)).reg 0 ≤ u.cycle + 1
+      pub held : held_at u (range_at e o values (let v = reading_is.spot in v.temp.0)).reg ≡ as_held want.kind
+          (range_at e o values (let v = reading_is.spot in v.temp.0)).reg (slice_index handed i)
+      pub ready : (range_at e o values (let v = reading_is.spot in v.temp.0)).reg < 36
+          → get_or u.ready (range_at e o values (let v = reading_is.spot in v.temp.0)).reg 0 ≤ u.cycle + 1
       pub truth : want.kind ≡ Pred → slice_index handed i < 2
 
-    pub hands : (i : ℕ) (x : Operand) (u : PacketState) → 1 ≤ the_end → At (scene e o values h k block r at base taken w s) (the_end - 1) u → (let p = out_op in let q = p.placed in slice_get q.op.operands i ≡ Some x) → Handed i x u
+    pub hands : (i : ℕ) (x : Operand) (u : PacketState) → 1 ≤ the_end → At (scene e o values h k block r at base taken w s) (the_end - 1) u
+        → (let p = out_op in let q = p.placed in slice_get q.op.operands i ≡ Some x) → Handed i x u
     hands i x u le au q =
         let out = out_op in
         let p = out.placed in
         let m = (of_all e o values h k block r p out.member).0 in
-        let act : (issue_at values p).active ≡ true = ap (λ (y : ExtKind). let z = instruction_of y (value_by values (vars_of p).instr) in is_delimiter y || is_some z) out.kind in
+        let act : (issue_at values p).active ≡ true = ap (λ (y : ExtKind). let z = instruction_of y (value_by values (vars_of p).instr) in
+        is_delimiter y || is_some z) out.kind in
         let rd = reading e o values h p i x m act q in
         let want = rd.0 in
         let g = rd.2 in
@@ -118,33 +125,40 @@ module _ (e : Ext) (o : Options) (values : List ℕ) (h : Solved e o values) (k 
         let n = v.temp.0 in
         let blk = its_block e o values h (words e o values h) (placing e o values h) k block r p out.member in
         let there : (range_at e o values n).block.0 ≡ k = g.there ∙ blk in
-        let cyc : (issue_at values p).cycle ≡ the_end = ap (λ (y : ExtKind). cycle_by values (end_of values p) y (vars_of p)) out.kind ∙ its_end e o values h (words e o values h) (placing e o values h) k block r p out.member in
+        let cyc : (issue_at values p).cycle ≡ the_end = ap (λ (y : ExtKind). cycle_by values (end_of values p) y (vars_of p)) out.kind
+        ∙ its_end e o values h (words e o values h) (placing e o values h) k block r p out.member in
         let timed = block_timed e o values h (words e o values h) (placing e o values h) k block r at in
         let temps = timed.temps in
         let actv = active_in e o values h n k g.active there in
         let quick = temps.quick n actv in
         let rdy = g.ready in
         let lst = g.last in
-        let stands : Stands (temps_of e o values h k) n (the_end - 1) = record { active = actv; begun = omega (arith, quick, rdy, cyc); held = omega (arith, lst, cyc, le) } in
+        let stands : Stands (temps_of e o values h k) n (the_end - 1) =
+        record { active = actv; begun = omega (arith, quick, rdy, cyc); held = omega (arith, lst, cyc, le) } in
         let time = au.time in
         let holds = au.holds in
         let value : val n ≡ slice_index handed i =
-        ap (λ (y : TempId). val y.0) g.is ∙ choice_value e o values h val p i x want (subst (λ b. Carries e o values h val b) (sym blk) (carries e o values h k block r taken w)) g
+        ap (λ (y : TempId). val y.0) g.is ∙ choice_value e o values h val p i x want
+        (subst (λ b. Carries e o values h val b) (sym blk) (carries e o values h k block r taken w)) g
         ∙ sym (index_map (value_of val) (out_operands block.ops) i x (ap (λ xs. slice_get xs i) out.operands ∙ q)) in
         let own : p.owner ≡ block = owner_of p out.member in
         record {
           want = want;
-          wanted = ap (λ (b : ExtBlock). slice_get (wants_of e.table e.names e.blocks b Out p.op) i) (sym own) ∙ ap (λ (y : ExtKind). slice_get (wants_of e.table e.names e.blocks p.owner y p.op) i) (sym out.kind) ∙ rd.1;
+          wanted = ap (λ (b : ExtBlock). slice_get (wants_of e.table e.names e.blocks b Out p.op) i) (sym own)
+              ∙ ap (λ (y : ExtKind). slice_get (wants_of e.table e.names e.blocks p.owner y p.op) i) (sym out.kind) ∙ rd.1;
           reading_is = g;
-          held = holds.held n stands ∙ ap (λ (kd : Kind). as_held kd (range_at e o values n).reg (val n)) g.kind ∙ ap (as_held want.kind (range_at e o values n).reg) value;
+          held = holds.held n stands ∙ ap (λ (kd : Kind). as_held kd (range_at e o values n).reg (val n)) g.kind
+              ∙ ap (as_held want.kind (range_at e o values n).reg) value;
           ready = λ lt. let z = time.ready n stands lt in let c = time.cycle in omega (arith, z, c, rdy, cyc, le);
-          truth = λ kd. subst (λ v. v < 2) value (truths e o values h k block r taken w (start_truths e o values h k block r at base taken w s a) n actv (g.kind ∙ kd));
+          truth = λ kd. subst (λ v. v < 2) value (truths e o values h k block r taken w
+              (start_truths e o values h k block r at base taken w s a) n actv (g.kind ∙ kd));
         }
 
   -- ---- the control transfer
 
   -- a job that transfers control is of the terminator
-  pub transfer_kind : (p : Placed) (op : Op) → Member p own_ops → instr_of values p.op (vars_of p) ≡ Some op → is_transfer op ≡ true → (term : Term) × (p.op.kind ≡ End term) × (transfer_op_of term ≡ Some op)
+  pub transfer_kind : (p : Placed) (op : Op) → Member p own_ops → instr_of values p.op (vars_of p) ≡ Some op → is_transfer op ≡ true
+      → (term : Term) × (p.op.kind ≡ End term) × (transfer_op_of term ≡ Some op)
   transfer_kind p op m q t = by_kind p.op.kind refl q
     where
       Goal : Type 0
@@ -153,7 +167,8 @@ module _ (e : Ext) (o : Options) (values : List ℕ) (h : Solved e o values) (k 
       never : is_transfer op ≡ false → Goal
       never f = let z : true ≡ false = sym t ∙ f in absurd (cc z)
 
-      with_kind : (x : ExtKind) → p.op.kind ≡ x → instr_of values p.op (vars_of p) ≡ Some op → instruction_of x (value_by values (vars_of p).instr) ≡ Some op
+      with_kind : (x : ExtKind) → p.op.kind ≡ x → instr_of values p.op (vars_of p) ≡ Some op
+          → instruction_of x (value_by values (vars_of p).instr) ≡ Some op
       with_kind x s g = ap (λ (y : ExtKind). instruction_of y (value_by values (vars_of p).instr)) (sym s) ∙ g
 
       framed : (f : Op) (n : ℕ) → is_transfer f ≡ false → frame_instr f n ≡ Some op → Goal
@@ -166,7 +181,9 @@ module _ (e : Ext) (o : Options) (values : List ℕ) (h : Solved e o values) (k 
       copied : (n : ℕ) → copy_of n ≡ Some op → Goal
       copied n f = by_test (n == 1) (n == 2) (n == 3) (n == 4) (n == 5) f
         where
-          by_test : (a b c d g : Bool) → (if a then Some Mov else (if b then Some Spill else (if c then Some Reload else (if d then Some P2R else (if g then Some R2P else None))))) ≡ Some op → Goal
+          by_test : (a b c d g : Bool) → (if a then Some Mov else
+              (if b then Some Spill else (if c then Some Reload else (if d then Some P2R else (if g then Some R2P else None))))) ≡ Some op
+              → Goal
           by_test true b c d g f = let y : Mov ≡ op = cc f in never (ap is_transfer (sym y))
           by_test false true c d g f = let y : Spill ≡ op = cc f in never (ap is_transfer (sym y))
           by_test false false true d g f = let y : Reload ≡ op = cc f in never (ap is_transfer (sym y))
@@ -226,11 +243,13 @@ module _ (e : Ext) (o : Options) (values : List ℕ) (h : Solved e o values) (k 
   -- how the block ends: by no transfer, or by the job of its terminator
   pub data EndJob : Type 0 where
     no_job : transfer_of jobs ≡ None → (let x = ending_of block.ops in x.term ≡ Fall) → EndJob
-    one_job : (p : Placed) (j : Job) (term : Term) → Member p own_ops → IsJob e o values h p j → transfer_of jobs ≡ Some j → p.op.kind ≡ End term → transfer_op_of term ≡ Some j.instr.op
+    one_job : (p : Placed) (j : Job) (term : Term) → Member p own_ops → IsJob e o values h p j → transfer_of jobs ≡ Some j
+        → p.op.kind ≡ End term → transfer_op_of term ≡ Some j.instr.op
         → ending_of block.ops ≡ record { term = term; operands = p.op.operands } → EndJob
 
   none_transfers : ((p : Placed) (term : Term) → Member p own_ops → p.op.kind ≡ End term → term ≡ Fall) → transfer_of jobs ≡ None
-  none_transfers f = find_none (λ (j : Job). is_transfer j.instr.op) jobs (each_of (λ (j : Job). is_transfer j.instr.op ≡ false) jobs (λ j m. is_false (is_transfer j.instr.op) (λ t.
+  none_transfers f = find_none (λ (j : Job). is_transfer j.instr.op) jobs
+      (each_of (λ (j : Job). is_transfer j.instr.op ≡ false) jobs (λ j m. is_false (is_transfer j.instr.op) (λ t.
       let x = job_from e o values h own_ops j m in
       let y = transfer_kind x.0 j.instr.op x.1 (job_op e o values h x.0 j x.2) t in
       let z = f x.0 y.0 x.1 y.1 in
@@ -243,7 +262,9 @@ module _ (e : Ext) (o : Options) (values : List ℕ) (h : Solved e o values) (k 
       not_end_kind x f term q = let z : true ≡ false = sym (ap is_end q) ∙ f in absurd (cc z)
 
       by_end : EndsBy block.ops → EndJob
-      by_end (falls q none) = no_job (none_transfers (λ p term m s. absurd (not_end_kind p.op.kind (each_member (λ (x : ExtOp). is_end x.kind ≡ false) block.ops p.op none (op_of e o values h k block r at p m)) term s))) (ap (λ (x : Ending). x.term) q)
+      by_end (falls q none) = no_job (none_transfers (λ p term m s. absurd
+          (not_end_kind p.op.kind (each_member (λ (x : ExtOp). is_end x.kind ≡ false) block.ops p.op none
+          (op_of e o values h k block r at p m)) term s))) (ap (λ (x : Ending). x.term) q)
       by_end (ends op term kd mem q only) = by_term term refl kd q
         where
           by_op : (tr : Op) → transfer_op_of term ≡ Some tr → EndJob
@@ -251,19 +272,27 @@ module _ (e : Ext) (o : Options) (values : List ℕ) (h : Solved e o values) (k 
               let z = placed_for e o values h k block r at op mem in
               let p = z.0 in
               let kp : p.op.kind ≡ End term = ap (λ (x : ExtOp). x.kind) z.2 ∙ kd in
-              let ins : instr_of values p.op (vars_of p) ≡ Some tr = ap (λ (y : ExtKind). instruction_of y (value_by values (vars_of p).instr)) kp ∙ s in
+              let ins : instr_of values p.op (vars_of p) ≡ Some tr =
+              ap (λ (y : ExtKind). instruction_of y (value_by values (vars_of p).instr)) kp ∙ s in
               let act = some_active e o values h p tr ins in
-              let j = has_job e o values h (words e o values h) (placing e o values h) k block r p z.1 act (λ y. let g : End term ≡ In = sym kp ∙ y in absurd (cc g)) (λ y. let g : End term ≡ Out = sym kp ∙ y in absurd (cc g)) in
+              let j = has_job e o values h (words e o values h) (placing e o values h) k block r p z.1 act
+              (λ y. let g : End term ≡ In = sym kp ∙ y in absurd (cc g)) (λ y. let g : End term ≡ Out = sym kp ∙ y in absurd (cc g)) in
               let jo : Some j.0.instr.op ≡ Some tr = sym (job_op e o values h p j.0 j.2) ∙ ins in
               let jo' : j.0.instr.op ≡ tr = cc jo in
               let t : is_transfer j.0.instr.op ≡ true = ap is_transfer jo' ∙ transfer_is term tr s in
-              one_job p j.0 term z.1 j.2 (first j.0 j.1 t (transfer_of jobs) refl) kp (s ∙ ap Some (sym jo')) (q ∙ ap (λ (x : ExtOp). let y : Ending = record { term = term; operands = x.operands } in y) (sym z.2))
+              one_job p j.0 term z.1 j.2 (first j.0 j.1 t (transfer_of jobs) refl) kp (s ∙ ap Some (sym jo'))
+              (q ∙ ap (λ (x : ExtOp). let y : Ending = record { term = term; operands = x.operands } in y) (sym z.2))
             where
-              first : (j : Job) → Member j jobs → is_transfer j.instr.op ≡ true → (x : Option Job) → transfer_of jobs ≡ x → transfer_of jobs ≡ Some j
-              first j m t None f = let z : true ≡ false = sym t ∙ each_member (λ (j : Job). is_transfer j.instr.op ≡ false) jobs j (none_found (λ (j : Job). is_transfer j.instr.op) jobs f) m in absurd (cc z)
-              first j m t (Some i) f = let g = found (λ (j : Job). is_transfer j.instr.op) jobs i f in f ∙ ap Some (one_transfer i j g.0 m g.1 t)
+              first : (j : Job) → Member j jobs → is_transfer j.instr.op ≡ true → (x : Option Job) → transfer_of jobs ≡ x
+                  → transfer_of jobs ≡ Some j
+              first j m t None f = let z : true ≡ false = sym t ∙
+                  each_member (λ (j : Job). is_transfer j.instr.op ≡ false) jobs j (none_found (λ (j : Job). is_transfer j.instr.op) jobs f)
+                  m in absurd (cc z)
+              first j m t (Some i) f = let g = found (λ (j : Job). is_transfer j.instr.op) jobs i f in f
+                  ∙ ap Some (one_transfer i j g.0 m g.1 t)
 
-          by_term : (x : Term) → term ≡ x → op.kind ≡ End term → ending_of block.ops ≡ record { term = term; operands = op.operands } → EndJob
+          by_term : (x : Term) → term ≡ x → op.kind ≡ End term → ending_of block.ops ≡ record { term = term; operands = op.operands }
+              → EndJob
           by_term Fall s kd q = no_job (none_transfers (λ p t m z.
               let g = only p.op (op_of e o values h k block r at p m) (ap is_end z) in
               let y : End t ≡ End term = sym z ∙ ap (λ (w : ExtOp). w.kind) g ∙ kd in
@@ -274,19 +303,26 @@ module _ (e : Ext) (o : Options) (values : List ℕ) (h : Solved e o values) (k 
           by_term (Ret value) s kd q = by_op Jumpr (ap transfer_op_of s)
 
   -- the label of the terminator's job
-  pub job_label : (p : Placed) (j : Job) (term : Term) → IsJob e o values h p j → p.op.kind ≡ End term → j.instr.label ≡ label_of e.blocks term
+  pub job_label : (p : Placed) (j : Job) (term : Term) → IsJob e o values h p j → p.op.kind ≡ End term
+      → j.instr.label ≡ label_of e.blocks term
   job_label p j term g q = ap (λ (x : Job). x.instr.label) g.is ∙ go (instr_of values p.op (vars_of p)) g.emitted
     where
-      go : (x : Option Op) → instr_if (model_of e o) values p.op (vars_of p) x ≡ Some g.instr → (let i = g.instr in i.label ≡ label_of e.blocks term)
+      go : (x : Option Op) → instr_if (model_of e o) values p.op (vars_of p) x ≡ Some g.instr
+          → (let i = g.instr in i.label ≡ label_of e.blocks term)
       go None s = absurd (cc s)
       go (Some op) s =
-          let made = ap (λ (y : ExtKind). instr_by e.blocks (frame_of (model_of e o) values) y op (operand_registers (model_of e o) values p.op (vars_of p)) (result_register (model_of e o) values p.op)) (sym q) ∙ s in
+          let made = ap (λ (y : ExtKind). instr_by e.blocks (frame_of (model_of e o) values) y op
+          (operand_registers (model_of e o) values p.op (vars_of p)) (result_register (model_of e o) values p.op)) (sym q) ∙ s in
           let z = ap (λ (x : Option Instr). option_map (λ (y : Instr). y.label) x) made in sym (cc z)
 
   -- the value of the terminator's operand
-  pub job_value : (taken : List ℕ) (w : World) (p : Placed) (j : Job) → Member p own_ops → IsJob e o values h p j → first_read (final e o values h k block r taken w) j ≡ slice_index (map (value_of (final e o values h k block r taken w)) p.op.operands) 0
+  pub job_value : (taken : List ℕ) (w : World) (p : Placed) (j : Job) → Member p own_ops → IsJob e o values h p j
+      → first_read (final e o values h k block r taken w) j ≡ slice_index
+      (map (value_of (final e o values h k block r taken w)) p.op.operands) 0
   job_value taken w p j m g =
       let v = final e o values h k block r taken w in
       let b = (of_all e o values h k block r p m).1 in
       ap (λ (x : Job). first_read v x) g.is
-      ∙ ap (λ xs. slice_index xs 0) (args_of e o values h v p (of_all e o values h k block r p m).0 (let i = g.instr in some_active e o values h p i.op g.issues) (subst (λ n. Carries e o values h v n) (sym b) (carries e o values h k block r taken w)))
+      ∙ ap (λ xs. slice_index xs 0) (args_of e o values h v p (of_all e o values h k block r p m).0
+      (let i = g.instr in some_active e o values h p i.op g.issues)
+      (subst (λ n. Carries e o values h v n) (sym b) (carries e o values h k block r taken w)))

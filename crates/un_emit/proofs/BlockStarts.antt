@@ -1,5 +1,6 @@
 -- A block of a solution from its start: where its values stand, it is a block under way.
-use Rattle.std.proofs.Common.{ℕ, zero, suc, ◌≡◌, ◌≢◌, ◌<◌, ◌≤◌, ◌+◌, ◌*◌, ◌/◌, ◌%◌, ◌^◌, Bool, true, false, List, [], ◌∷◌, length, map, get_or, ◌⊎◌, inl, inr, ⊎_elim, refl, sym, ap, ◌∙◌, subst, arith}
+use Rattle.std.proofs.Common.{ℕ, zero, suc, ◌≡◌, ◌≢◌, ◌<◌, ◌≤◌, ◌+◌, ◌*◌, ◌/◌, ◌%◌, ◌^◌, Bool, true, false, List, [], ◌∷◌, length, map}
+use Rattle.std.proofs.Common.{get_or, ◌⊎◌, inl, inr, ⊎_elim, refl, sym, ap, ◌∙◌, subst, arith}
 use Rattle.std.specs.Prelude.{not, Some, slice_get, slice_index}
 use Rattle.un_base.specs.declared.ids.TempId.{TempId}
 use Rattle.un_isa.specs.Fit.{IsFit}
@@ -28,7 +29,7 @@ use Rattle.un_emit.proofs.Cycles.{Scene, IsScene, At}
 use Rattle.un_model.proofs.Placed.{Placed, Spot, spot, spots_of, issue_at, vars_of, region_placed}
 use Rattle.un_model.proofs.PlacedSchedules.{all, spots, range_at, one_spot, member_joined, member_places, range_here}
 use Rattle.un_model.proofs.TempKinds.{kind_at, own_kind, carried_at}
-use Rattle.un_emit.proofs.Readings.{Solved, numbered, fit_kinds}
+use Rattle.un_model.proofs.Readings.{Solved, numbered, fit_kinds}
 use Rattle.un_emit.proofs.JobDeeds.{temps_of}
 use Rattle.un_emit.proofs.BlockJobs.{InRegion, active_of}
 use Rattle.un_emit.proofs.BlockTimed.{its_spot, definer_of, own_end, own_jobs, block_timed, memory_order, no_results}
@@ -53,7 +54,8 @@ calls_fit t fit = record {
 -- ---- values that a list defines
 
 defined_at : (values : Values) (xs : List TempId) (vs : List ℕ) (j : ℕ) (x : TempId) → slice_get xs j ≡ Some x → j < length vs
-    → ((i n : ℕ) (y z : TempId) → slice_get xs i ≡ Some y → slice_get xs n ≡ Some z → y.0 ≡ z.0 → i ≡ n) → defined_all values xs vs x.0 ≡ slice_index vs j
+    → ((i n : ℕ) (y z : TempId) → slice_get xs i ≡ Some y → slice_get xs n ≡ Some z → y.0 ≡ z.0 → i ≡ n)
+    → defined_all values xs vs x.0 ≡ slice_index vs j
 defined_at values [] vs j x q lt inj = absurd (cc q)
 defined_at values (y ∷ ys) [] j x q lt inj = absurd (omega arith)
 defined_at values (y ∷ ys) (v ∷ vs) zero x q lt inj =
@@ -67,14 +69,18 @@ defined_at values (y ∷ ys) (v ∷ vs) (suc j) x q lt inj =
 -- a temporary that each operation spares or has at the block's start keeps its value
 kept_in : (ps : List Placed) (s : LinearState) (y : ℕ) → Each (λ p. (p.op.kind ≡ In) ⊎ Spares y p) ps → (total ps s).values y ≡ s.values y
 kept_in [] s y h = refl
-kept_in (p ∷ ps) s y h = kept_in ps (total_by p.op.kind p.op s) y h.1 ∙ ⊎_elim (λ (q : p.op.kind ≡ In). ap (λ (k : ExtKind). (total_by k p.op s).values y) q) (λ (q : Spares y p). kept_by p.op.kind p.op s y q) h.0
+kept_in (p ∷ ps) s y h = kept_in ps (total_by p.op.kind p.op s) y h.1
+    ∙ ⊎_elim (λ (q : p.op.kind ≡ In). ap (λ (k : ExtKind). (total_by k p.op s).values y) q)
+    (λ (q : Spares y p). kept_by p.op.kind p.op s y q) h.0
 
-module _ (e : Ext) (o : Options) (values : List ℕ) (h : Solved e o values) (k : ℕ) (block : ExtBlock) (r : InRegion (all e o values) k block) (at : slice_get e.blocks k ≡ Some block) where
+module _ (e : Ext) (o : Options) (values : List ℕ) (h : Solved e o values) (k : ℕ) (block : ExtBlock)
+    (r : InRegion (all e o values) k block) (at : slice_get e.blocks k ≡ Some block) where
   abbrev own_ops : List Placed
   own_ops = region_placed r.region
 
   pub good_block : IsGoodExtBlock e.table e.names e.blocks block
-  good_block = let x = h.extended in let g = x.good in each_member (IsGoodExtBlock e.table e.names e.blocks) e.blocks block (each_all (IsGoodExtBlock e.table e.names e.blocks) e.blocks g.each) (member_at e.blocks k block at)
+  good_block = let x = h.extended in let g = x.good in each_member (IsGoodExtBlock e.table e.names e.blocks) e.blocks block
+      (each_all (IsGoodExtBlock e.table e.names e.blocks) e.blocks g.each) (member_at e.blocks k block at)
 
   pub parts : (p : Parts) × IsMadeOf block.ops p
   parts = let g = good_block in g.parts
@@ -89,7 +95,8 @@ module _ (e : Ext) (o : Options) (values : List ℕ) (h : Solved e o values) (k 
       starts block.ops ps.0 ps.1 ∙ ap (λ (x : ExtOp). x.results) (sym (only_in block.ops ps.0 p.op ps.1 (op_of p m) (ap is_in q)))
 
   -- a value at the block's start
-  pub start_value : (taken : List ℕ) (w : World) (u : Spot) → Member u (spots e o values) → u.definer.block ≡ k → (let p = u.definer in p.op.kind ≡ In) → length taken ≡ length (in_temps block.ops)
+  pub start_value : (taken : List ℕ) (w : World) (u : Spot) → Member u (spots e o values) → u.definer.block ≡ k
+      → (let p = u.definer in p.op.kind ≡ In) → length taken ≡ length (in_temps block.ops)
       → (slice_get (in_temps block.ops) u.place ≡ Some u.temp) × (final e o values h k block r taken w u.temp.0 ≡ slice_index taken u.place)
   start_value taken w u m b q l =
       let d = definer_of e o values h u m in
@@ -99,15 +106,18 @@ module _ (e : Ext) (o : Options) (values : List ℕ) (h : Solved e o values) (k 
       let get : slice_get (in_temps block.ops) u.place ≡ Some u.temp = ap (λ xs. slice_get xs u.place) res ∙ d.1 in
       let lt = length_get (in_temps block.ops) u.place u.temp get in (
         get,
-        kept_in own_ops (entered block taken w) u.temp.0 (each_of (λ p. (p.op.kind ≡ In) ⊎ Spares u.temp.0 p) own_ops (λ x mx. spare x mx (is_in x.op.kind) refl))
+        kept_in own_ops (entered block taken w) u.temp.0 (each_of (λ p. (p.op.kind ≡ In) ⊎ Spares u.temp.0 p) own_ops
+            (λ x mx. spare x mx (is_in x.op.kind) refl))
             ∙ defined_at (λ x. 0) (in_temps block.ops) taken u.place u.temp get (omega (arith, lt, l)) (λ i n y z qy qz s.
             let a = at_place p d.0 i y (ap (λ xs. slice_get xs i) (sym res) ∙ qy) in
             let c = at_place p d.0 n z (ap (λ xs. slice_get xs n) (sym res) ∙ qz) in
             ap (λ (v : Spot). v.place) (one_spot e o values (numbered e o values h) (spot p i y) (spot p n z) a c s)),
       )
     where
-      at_place : (p : Placed) → Member p (all e o values) → (n : ℕ) (x : TempId) → slice_get p.op.results n ≡ Some x → Member (spot p n x) (spots e o values)
-      at_place p mp n x s = member_joined (map spots_of (all e o values)) (spots_of p) (spot p n x) (member_map spots_of (all e o values) p mp) (member_places (spot p) p.op.results 0 n n x (omega arith) s)
+      at_place : (p : Placed) → Member p (all e o values) → (n : ℕ) (x : TempId) → slice_get p.op.results n ≡ Some x
+          → Member (spot p n x) (spots e o values)
+      at_place p mp n x s = member_joined (map spots_of (all e o values)) (spots_of p) (spot p n x)
+          (member_map spots_of (all e o values) p mp) (member_places (spot p) p.op.results 0 n n x (omega arith) s)
 
       in_kind : (x : ExtKind) → is_in x ≡ true → x ≡ In
       in_kind In q = refl
@@ -129,9 +139,13 @@ module _ (e : Ext) (o : Options) (values : List ℕ) (h : Solved e o values) (k 
     pub frame_start : s.frame_start ≡ base
     pub world : record { memory = s.memory; calls = s.calls; replies = s.replies } ≡ w
     pub taken_long : length taken ≡ length (in_temps block.ops)
-    pub places : (j : ℕ) (x : TempId) → slice_get (in_temps block.ops) j ≡ Some x → held_at s (range_at e o values x.0).reg ≡ as_held (kind_at e o values (numbered e o values h) (fit_kinds e o values h) x.0) (range_at e o values x.0).reg (slice_index taken j)
-    pub ready : (j : ℕ) (x : TempId) → slice_get (in_temps block.ops) j ≡ Some x → (range_at e o values x.0).reg < 36 → get_or s.ready (range_at e o values x.0).reg 0 ≤ s.cycle + 1
-    pub truths : (j : ℕ) (x : TempId) → slice_get (in_temps block.ops) j ≡ Some x → kind_at e o values (numbered e o values h) (fit_kinds e o values h) x.0 ≡ Pred → slice_index taken j < 2
+    pub places : (j : ℕ) (x : TempId) → slice_get (in_temps block.ops) j ≡ Some x
+        → held_at s (range_at e o values x.0).reg ≡ as_held (kind_at e o values (numbered e o values h) (fit_kinds e o values h) x.0)
+        (range_at e o values x.0).reg (slice_index taken j)
+    pub ready : (j : ℕ) (x : TempId) → slice_get (in_temps block.ops) j ≡ Some x → (range_at e o values x.0).reg < 36
+        → get_or s.ready (range_at e o values x.0).reg 0 ≤ s.cycle + 1
+    pub truths : (j : ℕ) (x : TempId) → slice_get (in_temps block.ops) j ≡ Some x
+        → kind_at e o values (numbered e o values h) (fit_kinds e o values h) x.0 ≡ Pred → slice_index taken j < 2
     pub stack : get_or s.regs STACK 0 ≡ stack_of e o values h k block r at base 0
     pub stack_ready : get_or s.ready STACK 0 ≤ s.cycle + 1
 
@@ -149,16 +163,19 @@ module _ (e : Ext) (o : Options) (values : List ℕ) (h : Solved e o values) (k 
     world = w;
   }
 
-  pub start_truths : (base : ℕ) (taken : List ℕ) (w : World) (s : PacketState) → AtStart base taken w s → StartTruths e o values h k block r taken w
+  pub start_truths : (base : ℕ) (taken : List ℕ) (w : World) (s : PacketState) → AtStart base taken w s
+      → StartTruths e o values h k block r taken w
   start_truths base taken w s a u m b q t =
       let v = start_value taken w u m b q a.taken_long in
       let kd = own_kind e o values (numbered e o values h) (fit_kinds e o values h) u m (ap (λ (y : ExtKind). carried_at y u) q) ∙ t in
       subst (λ n. n < 2) (sym v.1) (a.truths u.place u.temp v.0 kd)
 
-  pub is_scene : (base : ℕ) (taken : List ℕ) (w : World) (s : PacketState) → base % 4 ≡ 0 → base + bytes e o values h k block r at < 2 ^ 32 → AtStart base taken w s → IsScene (scene base taken w s)
+  pub is_scene : (base : ℕ) (taken : List ℕ) (w : World) (s : PacketState) → base % 4 ≡ 0 → base + bytes e o values h k block r at < 2 ^ 32
+      → AtStart base taken w s → IsScene (scene base taken w s)
   is_scene base taken w s even room a =
       let eq = its_equations e o values h k block r taken w in
-      let f = all_facts e o values h (final e o values h k block r taken w) own_ops k w (of_all e o values h k block r) (carries e o values h k block r taken w) eq.0 in
+      let f = all_facts e o values h (final e o values h k block r taken w) own_ops k w (of_all e o values h k block r)
+      (carries e o values h k block r taken w) eq.0 in
       record {
         fit = h.fit;
         calls = calls_fit e.table h.fit;
@@ -175,7 +192,8 @@ module _ (e : Ext) (o : Options) (values : List ℕ) (h : Solved e o values) (k 
       fourth n = omega arith
 
   -- what stands before the first cycle is a value of the block's start
-  from_start : (base : ℕ) → base + bytes e o values h k block r at < 2 ^ 32 → (x : ℕ) → Stands (temps_of e o values h k) x 0 → (u : Spot) × (Member u (spots e o values)) × (u.temp.0 ≡ x) × (u.definer.block ≡ k) × (let p = u.definer in p.op.kind ≡ In)
+  from_start : (base : ℕ) → base + bytes e o values h k block r at < 2 ^ 32 → (x : ℕ) → Stands (temps_of e o values h k) x 0 → (u : Spot)
+      × (Member u (spots e o values)) × (u.temp.0 ≡ x) × (u.definer.block ≡ k) × (let p = u.definer in p.op.kind ≡ In)
   from_start base room x st =
       let a = active_of e o values h x k st.active in
       let s = its_spot e o values h x a.0 in
@@ -189,14 +207,17 @@ module _ (e : Ext) (o : Options) (values : List ℕ) (h : Solved e o values) (k 
       let early = st.begun in
       (u, s.1, s.2, b, by_kind u.place u.temp p mine act d.1 (omega (arith, cyc, early)) p.op.kind refl)
     where
-      late : (p : Placed) → Member p own_ops → (issue_at values p).active ≡ true → (issue_at values p).cycle ≤ 0 → (x : ExtKind) → p.op.kind ≡ x → (x ≡ In → ⊥) → (x ≡ Out → ⊥) → ⊥
+      late : (p : Placed) → Member p own_ops → (issue_at values p).active ≡ true → (issue_at values p).cycle ≤ 0 → (x : ExtKind)
+          → p.op.kind ≡ x → (x ≡ In → ⊥) → (x ≡ Out → ⊥) → ⊥
       late p m act le x q ni nt =
           let z = inner_late e o values h k block r at base room p m (λ s. ni (sym q ∙ s)) (λ s. nt (sym q ∙ s)) act in
           let y = z.0 in absurd (omega arith)
 
-      by_kind : (n : ℕ) (y : TempId) (p : Placed) → Member p own_ops → (issue_at values p).active ≡ true → slice_get p.op.results n ≡ Some y → (issue_at values p).cycle ≤ 0 → (k : ExtKind) → p.op.kind ≡ k → p.op.kind ≡ In
+      by_kind : (n : ℕ) (y : TempId) (p : Placed) → Member p own_ops → (issue_at values p).active ≡ true → slice_get p.op.results n ≡ Some y
+          → (issue_at values p).cycle ≤ 0 → (k : ExtKind) → p.op.kind ≡ k → p.op.kind ≡ In
       by_kind n y p m act g le In q = q
-      by_kind n y p m act g le Out q = let z = no_results e o values h (words e o values h) (placing e o values h) k block r p (of_all e o values h k block r p m).0 q in let lt = length_get p.op.results n y g in absurd (omega (arith, z, lt))
+      by_kind n y p m act g le Out q = let z = no_results e o values h (words e o values h) (placing e o values h) k block r p
+          (of_all e o values h k block r p m).0 q in let lt = length_get p.op.results n y g in absurd (omega (arith, z, lt))
       by_kind n y p m act g le (Body so) q = absurd (late p m act le (Body so) q (λ s. absurd (cc s)) (λ s. absurd (cc s)))
       by_kind n y p m act g le (End term) q = absurd (late p m act le (End term) q (λ s. absurd (cc s)) (λ s. absurd (cc s)))
       by_kind n y p m act g le (Copy node) q = absurd (late p m act le (Copy node) q (λ s. absurd (cc s)) (λ s. absurd (cc s)))
@@ -204,7 +225,8 @@ module _ (e : Ext) (o : Options) (values : List ℕ) (h : Solved e o values) (k 
       by_kind n y p m act g le Leave q = absurd (late p m act le Leave q (λ s. absurd (cc s)) (λ s. absurd (cc s)))
 
   -- the state at the block's start is that after cycle 0
-  pub at_start : (base : ℕ) (taken : List ℕ) (w : World) (s : PacketState) → base + bytes e o values h k block r at < 2 ^ 32 → AtStart base taken w s → At (scene base taken w s) 0 s
+  pub at_start : (base : ℕ) (taken : List ℕ) (w : World) (s : PacketState) → base + bytes e o values h k block r at < 2 ^ 32
+      → AtStart base taken w s → At (scene base taken w s) 0 s
   at_start base taken w s room a = record {
     time = record {
       cycle = omega arith;
@@ -215,8 +237,12 @@ module _ (e : Ext) (o : Options) (values : List ℕ) (h : Solved e o values) (k 
           let v = start_value taken w u f.1 f.3 f.4 a.taken_long in
           let small : (range_at e o values u.temp.0).reg < 36 = subst (λ n. (range_at e o values n).reg < 36) (sym f.2) lt in
           let z = a.ready u.place u.temp v.0 small in
-          let lat : latency_by e.table (range_at e o values x).instr ≡ 1 = ap (λ n. latency_by e.table (range_at e o values n).instr) (sym f.2) ∙ ap (λ (v : LiveRange). latency_by e.table v.instr) (range_here e o values (numbered e o values h) u f.1) ∙ ap (λ (x : ExtKind). latency_by e.table (instruction_of x (let p = u.definer in value_by values (vars_of p).instr))) f.4 in
-          let z' : get_or s.ready (range_at e o values x).reg 0 ≤ s.cycle + 1 = subst (λ n. get_or s.ready (range_at e o values n).reg 0 ≤ s.cycle + 1) f.2 z in
+          let lat : latency_by e.table (range_at e o values x).instr ≡ 1 =
+          ap (λ n. latency_by e.table (range_at e o values n).instr) (sym f.2)
+          ∙ ap (λ (v : LiveRange). latency_by e.table v.instr) (range_here e o values (numbered e o values h) u f.1)
+          ∙ ap (λ (x : ExtKind). latency_by e.table (instruction_of x (let p = u.definer in value_by values (vars_of p).instr))) f.4 in
+          let z' : get_or s.ready (range_at e o values x).reg 0 ≤ s.cycle + 1 =
+          subst (λ n. get_or s.ready (range_at e o values n).reg 0 ≤ s.cycle + 1) f.2 z in
           omega (arith, z', lat);
       stack = let z = a.stack_ready in omega arith;
     };
@@ -228,10 +254,16 @@ module _ (e : Ext) (o : Options) (values : List ℕ) (h : Solved e o values) (k 
           let f = from_start base room x st in
           let u = f.0 in
           let v = start_value taken w u f.1 f.3 f.4 a.taken_long in
-          subst (λ n. held_at s (range_at e o values n).reg ≡ as_held (kind_at e o values (numbered e o values h) (fit_kinds e o values h) n) (range_at e o values n).reg (final e o values h k block r taken w n)) f.2
-          (a.places u.place u.temp v.0 ∙ ap (as_held (kind_at e o values (numbered e o values h) (fit_kinds e o values h) u.temp.0) (range_at e o values u.temp.0).reg) (sym v.1));
+          subst (λ n. held_at s (range_at e o values n).reg ≡ as_held
+          (kind_at e o values (numbered e o values h) (fit_kinds e o values h) n) (range_at e o values n).reg
+          (final e o values h k block r taken w n)) f.2
+          (a.places u.place u.temp v.0 ∙ ap (as_held (kind_at e o values (numbered e o values h) (fit_kinds e o values h) u.temp.0)
+          (range_at e o values u.temp.0).reg) (sym v.1));
       stack_is = a.stack;
     };
-    world = a.world ∙ sym (run_later (final e o values h k block r taken w) 1 (own_jobs e o values h (words e o values h) (placing e o values h) k block r) w
-        (let t = block_timed e o values h (words e o values h) (placing e o values h) k block r at in each_more (λ (j : Job). 1 ≤ j.cycle) (λ (j : Job). is_effect j.instr.op ≡ true → 1 ≤ j.cycle) (own_jobs e o values h (words e o values h) (placing e o values h) k block r) (λ j le q. le) t.late));
+    world = a.world ∙ sym (run_later (final e o values h k block r taken w) 1
+        (own_jobs e o values h (words e o values h) (placing e o values h) k block r) w
+        (let t = block_timed e o values h (words e o values h) (placing e o values h) k block r at in
+        each_more (λ (j : Job). 1 ≤ j.cycle) (λ (j : Job). is_effect j.instr.op ≡ true → 1 ≤ j.cycle)
+        (own_jobs e o values h (words e o values h) (placing e o values h) k block r) (λ j le q. le) t.late));
   }

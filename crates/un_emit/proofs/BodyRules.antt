@@ -15,7 +15,7 @@ use Rattle.un_packet.specs.declared.code.CodeBlock.{CodeBlock}
 use Rattle.un_emit.specs.Bounds.{HavePlaces, FitFrame}
 use Rattle.un_emit.specs.Emitted.{code_blocks}
 use Rattle.un_emit.proofs.BodyPlaces.{have_places}
-use Rattle.un_emit.proofs.Readings.{Solved}
+use Rattle.un_model.proofs.Readings.{Solved}
 use Rattle.un_emit.proofs.Rules.{keeps_rules}
 use Rattle.un_emit.proofs.RulesFrame.{small}
 use Rattle.un_emit.proofs.SolvedModels.{solved}

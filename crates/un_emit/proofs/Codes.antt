@@ -1,5 +1,6 @@
 -- The blocks of the emitted code: under distinct labels, each with the packets of its block's jobs.
-use Rattle.std.proofs.Common.{ℕ, zero, suc, ◌≡◌, ◌≢◌, ◌<◌, ◌+◌, ◌-◌, Bool, true, false, cond, not, ◌&&◌, List, [], ◌∷◌, map, ⊎_elim, refl, sym, ap, ◌∙◌, subst, arith, AllPairs}
+use Rattle.std.proofs.Common.{ℕ, zero, suc, ◌≡◌, ◌≢◌, ◌<◌, ◌+◌, ◌-◌, Bool, true, false, cond, not, ◌&&◌, List, [], ◌∷◌, map, ⊎_elim, refl}
+use Rattle.std.proofs.Common.{sym, ap, ◌∙◌, subst, arith, AllPairs}
 use Rattle.std.specs.Prelude.{Option, Some, None, slice_get, nat_eq}
 use Rattle.std.specs.List.{range_with_len, zip}
 use Rattle.std.specs.Cmp.Lexicographic.{pointwise}
@@ -42,13 +43,16 @@ same_list (x ∷ xs) (y ∷ ys) q = ⊎_elim (λ (e : x ≡ y). ap (λ v. v ∷ 
     head false s q = absurd (cc q)
 
 -- a label leads to its block where no block before has it
-label_first : (cs : List CodeBlock) (k : ℕ) (c : CodeBlock) → slice_get cs k ≡ Some c → ((i : ℕ) (b : CodeBlock) → i < k → slice_get cs i ≡ Some b → b.label ≢ c.label) → label_place cs c.label ≡ k
+label_first : (cs : List CodeBlock) (k : ℕ) (c : CodeBlock) → slice_get cs k ≡ Some c
+    → ((i : ℕ) (b : CodeBlock) → i < k → slice_get cs i ≡ Some b → b.label ≢ c.label) → label_place cs c.label ≡ k
 label_first [] k c q f = absurd (cc q)
 label_first (b ∷ cs) zero c q f =
     let z : b ≡ c = cc q in
-    let s : pointwise nat_eq b.label c.label ≡ true = ap (λ (d : CodeBlock). pointwise nat_eq d.label c.label) z ∙ list_reflexive nat_eq (λ n. grind (arith, nat_tests)) c.label in
+    let s : pointwise nat_eq b.label c.label ≡ true = ap (λ (d : CodeBlock). pointwise nat_eq d.label c.label) z
+    ∙ list_reflexive nat_eq (λ n. grind (arith, nat_tests)) c.label in
     ap (λ (t : Bool). cond (not t) (1 + label_place cs c.label) 0) s
-label_first (b ∷ cs) (suc k) c q f = go (label_first cs k c q (λ i d lt g. f (suc i) d (omega arith) g)) (pointwise nat_eq b.label c.label) refl
+label_first (b ∷ cs) (suc k) c q f = go (label_first cs k c q (λ i d lt g. f (suc i) d (omega arith) g)) (pointwise nat_eq b.label c.label)
+    refl
   where
     go : label_place cs c.label ≡ k → (t : Bool) → pointwise nat_eq b.label c.label ≡ t → label_place (b ∷ cs) c.label ≡ suc k
     go z true s = absurd (f 0 b (omega arith) refl (same_list b.label c.label s))
@@ -66,10 +70,12 @@ labels_kept m values first (block ∷ blocks) =
 
 -- ---- the block at a place
 
-get_pair : {A B C : Type 0} (f : A × B → C) (xs : List A) (ys : List B) (k : ℕ) (x : A) (y : B) → slice_get xs k ≡ Some x → slice_get ys k ≡ Some y → slice_get (map f (zip xs ys)) k ≡ Some (f (x, y))
+get_pair : {A B C : Type 0} (f : A × B → C) (xs : List A) (ys : List B) (k : ℕ) (x : A) (y : B) → slice_get xs k ≡ Some x
+    → slice_get ys k ≡ Some y → slice_get (map f (zip xs ys)) k ≡ Some (f (x, y))
 get_pair f [] ys k x y p q = absurd (cc p)
 get_pair f (a ∷ xs) [] k x y p q = absurd (cc q)
-get_pair f (a ∷ xs) (b ∷ ys) zero x y p q = let u : a ≡ x = cc p in let v : b ≡ y = cc q in ap (λ z. Some (f (z, b))) u ∙ ap (λ z. Some (f (x, z))) v
+get_pair f (a ∷ xs) (b ∷ ys) zero x y p q = let u : a ≡ x = cc p in let v : b ≡ y = cc q in ap (λ z. Some (f (z, b))) u
+    ∙ ap (λ z. Some (f (x, z))) v
 get_pair f (a ∷ xs) (b ∷ ys) (suc k) x y p q = get_pair f xs ys k x y p q
 
 map_map : {A B C : Type 0} (f : B → C) (g : A → B) (xs : List A) → map f (map g xs) ≡ map (λ x. f (g x)) xs
@@ -82,35 +88,50 @@ same_maps f g (x ∷ xs) h = ap (λ y. y ∷ map f xs) (h x) ∙ ap (λ ys. g x 
 
 -- the emitted packets of a block are those of its jobs
 pub packets_same : (m : Model) (values : List ℕ) (b n first : ℕ) (block : ExtBlock)
-    → map packet_with (block_packets m values block (block_vars first block)) ≡ packets_from (jobs_of m values (block_placed b n first block)) 1 (value_of values (var_at (first + ops_count block.ops)) - 1)
+    → map packet_with (block_packets m values block (block_vars first block)) ≡ packets_from
+    (jobs_of m values (block_placed b n first block)) 1 (value_of values (var_at (first + ops_count block.ops)) - 1)
 packets_same m values b n first block =
     let cs = range_with_len 1 (value_of values (var_at (first + ops_count block.ops)) - 1) in
     map_map packet_with (λ (c : ℕ). or_nop (instrs_in m values block (block_vars first block) c)) cs
-    ∙ same_maps (λ (c : ℕ). packet_with (or_nop (instrs_in m values block (block_vars first block) c))) (packet_of (jobs_of m values (block_placed b n first block))) cs (λ c. ap packet_with (sym (cycle_instrs m values b n first c block)))
+    ∙ same_maps (λ (c : ℕ). packet_with (or_nop (instrs_in m values block (block_vars first block) c)))
+    (packet_of (jobs_of m values (block_placed b n first block))) cs
+    (λ c. ap packet_with (sym (cycle_instrs m values b n first c block)))
 
-pairs_get : {X : Type 0} (R : X → X → Type 0) (xs : List X) → Pairwise R xs → (i k : ℕ) (a b : X) → i < k → slice_get xs i ≡ Some a → slice_get xs k ≡ Some b → R a b
+pairs_get : {X : Type 0} (R : X → X → Type 0) (xs : List X) → Pairwise R xs → (i k : ℕ) (a b : X) → i < k → slice_get xs i ≡ Some a
+    → slice_get xs k ≡ Some b → R a b
 pairs_get R [] h i k a b lt p q = absurd (cc p)
 pairs_get R (x ∷ xs) h zero zero a b lt p q = absurd (omega arith)
-pairs_get R (x ∷ xs) h zero (suc k) a b lt p q = let z : x ≡ a = cc p in subst (λ y. R y b) z (each_member (R x) xs b h.0 (member_at xs k b q))
+pairs_get R (x ∷ xs) h zero (suc k) a b lt p q = let z : x ≡ a = cc p in
+    subst (λ y. R y b) z (each_member (R x) xs b h.0 (member_at xs k b q))
 pairs_get R (x ∷ xs) h (suc i) zero a b lt p q = absurd (omega arith)
 pairs_get R (x ∷ xs) h (suc i) (suc k) a b lt p q = pairs_get R xs h.1 i k a b (omega arith) p q
 
 module _ (e : Ext) (o : Options) (values : List ℕ) where
   -- the numbers of block k, and its variables
-  pub region_vars : (k : ℕ) (block : ExtBlock) → slice_get e.blocks k ≡ Some block → (r : InRegion (all e o values) k block) × (slice_get (blocks_vars 0 e.blocks) k ≡ Some (let g = r.region in block_vars g.first block))
+  pub region_vars : (k : ℕ) (block : ExtBlock) → slice_get e.blocks k ≡ Some block → (r : InRegion (all e o values) k block)
+      × (slice_get (blocks_vars 0 e.blocks) k ≡ Some (let g = r.region in block_vars g.first block))
   region_vars k block at =
       let z : 0 + k ≡ k = omega arith in
-      subst (λ n. (r : InRegion (all e o values) n block) × (slice_get (blocks_vars 0 e.blocks) n ≡ Some (let g = r.region in block_vars g.first block))) z
-      (region_of 0 0 0 k e.blocks block at, subst (λ n. slice_get (blocks_vars 0 e.blocks) n ≡ Some (let r = region_of 0 0 0 k e.blocks block at in let g = r.region in block_vars g.first block)) (sym z) (vars_at 0 0 0 k e.blocks block at))
+      subst (λ n. (r : InRegion (all e o values) n block) × (slice_get (blocks_vars 0 e.blocks) n ≡ Some
+      (let g = r.region in block_vars g.first block))) z (
+        region_of 0 0 0 k e.blocks block at,
+        subst (λ n. slice_get (blocks_vars 0 e.blocks) n ≡ Some
+            (let r = region_of 0 0 0 k e.blocks block at in let g = r.region in block_vars g.first block)) (sym z)
+            (vars_at 0 0 0 k e.blocks block at),
+      )
 
-  pub block_there : (k : ℕ) (block : ExtBlock) (at : slice_get e.blocks k ≡ Some block) → slice_get (code_blocks (model_of e o) values) k ≡ Some (let r = region_vars k block at in let g = (r.0).region in code_block (model_of e o) values block (block_vars g.first block))
+  pub block_there : (k : ℕ) (block : ExtBlock) (at : slice_get e.blocks k ≡ Some block)
+      → slice_get (code_blocks (model_of e o) values) k ≡ Some (let r = region_vars k block at in let g = (r.0).region in
+      code_block (model_of e o) values block (block_vars g.first block))
   block_there k block at =
       let r = region_vars k block at in
       let g = (r.0).region in
-      get_pair (λ (b : ExtBlock × BlockVars). code_block (model_of e o) values b.0 b.1) e.blocks (blocks_vars 0 e.blocks) k block (block_vars g.first block) at r.1
+      get_pair (λ (b : ExtBlock × BlockVars). code_block (model_of e o) values b.0 b.1) e.blocks (blocks_vars 0 e.blocks) k block
+      (block_vars g.first block) at r.1
 
   -- distinct labels lead each to its block
-  pub label_leads_to : AllPairs (λ (a b : ExtBlock). a.label ≢ b.label) e.blocks → (k : ℕ) (block : ExtBlock) → slice_get e.blocks k ≡ Some block → label_place (code_blocks (model_of e o) values) block.label ≡ k
+  pub label_leads_to : AllPairs (λ (a b : ExtBlock). a.label ≢ b.label) e.blocks → (k : ℕ) (block : ExtBlock)
+      → slice_get e.blocks k ≡ Some block → label_place (code_blocks (model_of e o) values) block.label ≡ k
   label_leads_to distinct k block at =
       let r = region_vars k block at in
       let g = (r.0).region in
@@ -118,7 +139,8 @@ module _ (e : Ext) (o : Options) (values : List ℕ) where
       label_first (code_blocks (model_of e o) values) k c (block_there k block at) (λ i b lt q.
       let small = length_get e.blocks k block at in
       let other = get_below e.blocks i (omega (arith, small, lt)) in
-      let same : Some (let r = region_vars i other.0 other.1 in let g = (r.0).region in code_block (model_of e o) values other.0 (block_vars g.first other.0)) ≡ Some b = sym (block_there i other.0 other.1) ∙ q in
+      let same : Some (let r = region_vars i other.0 other.1 in let g = (r.0).region in
+      code_block (model_of e o) values other.0 (block_vars g.first other.0)) ≡ Some b = sym (block_there i other.0 other.1) ∙ q in
       let label : (other.0).label ≡ b.label = ap (λ (z : Option CodeBlock). label_or z) same in
       λ y. apart i k lt other.0 block other.1 at (label ∙ y))
     where
@@ -127,4 +149,5 @@ module _ (e : Ext) (o : Options) (values : List ℕ) where
       label_or (Some b) = b.label
 
       apart : (i k : ℕ) → i < k → (a b : ExtBlock) → slice_get e.blocks i ≡ Some a → slice_get e.blocks k ≡ Some b → a.label ≢ b.label
-      apart i k lt a b p q = pairs_get (λ (a b : ExtBlock). a.label ≢ b.label) e.blocks (pairwise_all (λ (a b : ExtBlock). a.label ≢ b.label) e.blocks distinct) i k a b lt p q
+      apart i k lt a b p q = pairs_get (λ (a b : ExtBlock). a.label ≢ b.label) e.blocks
+          (pairwise_all (λ (a b : ExtBlock). a.label ≢ b.label) e.blocks distinct) i k a b lt p q

@@ -21,17 +21,22 @@ length-range : (a n : ℕ) → length (range_with_len a n) ≡ n
 length-range a zero = refl
 length-range a (suc n) = ap suc (length-range (a + 1) n)
 
-pub packet_count : (m : Model) (values : List ℕ) (block : ExtBlock) (vars : BlockVars) → length (map packet_with (block_packets m values block vars)) ≡ value_of values vars.end - 1
+pub packet_count : (m : Model) (values : List ℕ) (block : ExtBlock) (vars : BlockVars)
+    → length (map packet_with (block_packets m values block vars)) ≡ value_of values vars.end - 1
 packet_count m values block vars =
     let cs = range_with_len 1 (value_of values vars.end - 1) in
-    length-mapped packet_with (block_packets m values block vars) ∙ length-mapped (λ (c : ℕ). or_nop (instrs_in m values block vars c)) cs ∙ length-range 1 (value_of values vars.end - 1)
+    length-mapped packet_with (block_packets m values block vars) ∙ length-mapped (λ (c : ℕ). or_nop (instrs_in m values block vars c)) cs
+    ∙ length-range 1 (value_of values vars.end - 1)
 
 pub costs : (m : Model) (values : List ℕ) (first : ℕ) (blocks : List ExtBlock)
-    → packet_cost blocks (map (λ (b : ExtBlock × BlockVars). code_block m values b.0 b.1) (zip blocks (blocks_vars first blocks))) ≡ blocks_cost values blocks (blocks_vars first blocks)
+    → packet_cost blocks (map (λ (b : ExtBlock × BlockVars). code_block m values b.0 b.1) (zip blocks (blocks_vars first blocks))) ≡
+    blocks_cost values blocks (blocks_vars first blocks)
 costs m values first [] = refl
 costs m values first (block ∷ blocks) =
-    ap (λ n. block.freq * n + packet_cost blocks (map (λ (b : ExtBlock × BlockVars). code_block m values b.0 b.1) (zip blocks (blocks_vars (first + block_count block) blocks)))) (packet_count m values block (block_vars first block))
-    ∙ ap (λ n. block.freq * (value_of values (let v = block_vars first block in v.end) - 1) + n) (costs m values (first + block_count block) blocks)
+    ap (λ n. block.freq * n + packet_cost blocks (map (λ (b : ExtBlock × BlockVars). code_block m values b.0 b.1)
+    (zip blocks (blocks_vars (first + block_count block) blocks)))) (packet_count m values block (block_vars first block))
+    ∙ ap (λ n. block.freq * (value_of values (let v = block_vars first block in v.end) - 1) + n)
+    (costs m values (first + block_count block) blocks)
 
 module _ (e : Ext) (o : Options) (values : List ℕ) where
   -- the cost of the solution
@@ -44,7 +49,8 @@ module _ (e : Ext) (o : Options) (values : List ℕ) where
   pub block_number : length (code_blocks (model_of e o) values) ≡ length e.blocks
   block_number = go 0 e.blocks
     where
-      go : (first : ℕ) (blocks : List ExtBlock) → length (map (λ (b : ExtBlock × BlockVars). code_block (model_of e o) values b.0 b.1) (zip blocks (blocks_vars first blocks))) ≡ length blocks
+      go : (first : ℕ) (blocks : List ExtBlock) → length (map (λ (b : ExtBlock × BlockVars). code_block (model_of e o) values b.0 b.1)
+          (zip blocks (blocks_vars first blocks))) ≡ length blocks
       go first [] = refl
       go first (block ∷ blocks) = ap suc (go (first + block_count block) blocks)
 

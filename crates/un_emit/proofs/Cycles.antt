@@ -1,6 +1,7 @@
 -- The packets of a block do what its jobs do in their order: an induction over the cycles, which joins that no packet waits, that
 -- occupied temporaries hold their values, and that effects come in order.
-use Rattle.std.proofs.Common.{ℕ, zero, suc, ◌≡◌, ◌<◌, ◌≤◌, ◌+◌, ◌-◌, Bool, true, false, List, [], ◌∷◌, ◌++◌, map, ◌⊎◌, inl, inr, ⊎_elim, refl, sym, ap, ◌∙◌, subst, arith}
+use Rattle.std.proofs.Common.{ℕ, zero, suc, ◌≡◌, ◌<◌, ◌≤◌, ◌+◌, ◌-◌, Bool, true, false, List, [], ◌∷◌, ◌++◌, map, ◌⊎◌, inl, inr, ⊎_elim}
+use Rattle.std.proofs.Common.{refl, sym, ap, ◌∙◌, subst, arith}
 use Rattle.std.specs.Prelude.{Option, Some, None, slice_index, is_none, unwrap_or, if◌then◌else◌}
 use Rattle.std.specs.List.{list_any, range_with_len}
 use Rattle.std.proofs.lemmas.Bool.{cases_lt, eq-eqb}
@@ -15,17 +16,24 @@ use Rattle.un_isa.specs.declared.outcome.CallRecord.{CallRecord}
 use Rattle.un_isa.specs.declared.start.Reply.{Reply}
 use Rattle.un_ir.specs.Linear.{World}
 use Rattle.un_packet.specs.declared.code.Packet.{Packet}
-use Rattle.un_packet.specs.Step.{PacketState, PacketStep, PacketStop, Went, Jumped, Stopped, Trapped, Waiting, traps, traps_by, reg_in, operand_in, record_of, packet_step, with_call, issue_cycle, value_of, value_by, frame_place}
+use Rattle.un_packet.specs.Step.{PacketState, PacketStep, PacketStop, Went, Jumped, Stopped, Trapped, Waiting, traps, traps_by, reg_in}
+use Rattle.un_packet.specs.Step.{operand_in, record_of, packet_step, with_call, issue_cycle, value_of, value_by, frame_place}
 use Rattle.un_packet.specs.Run.{packets_run, then_packets, goes_on_unless, NoneWaits}
-use Rattle.un_model.proofs.Lists.{Each, Pairwise, Member, Split, split_at, Places, ahead, level, behind, two_places, find_filter, pairwise_before, pairwise_after, each_member, each_of, each_filter, member_map, member_map_of, member_append_left, member_append_right, member_filter, member_of_filter, any_of, none_any, found, find_none}
+use Rattle.un_model.proofs.Lists.{Each, Pairwise, Member, Split, split_at, Places, ahead, level, behind, two_places, find_filter}
+use Rattle.un_model.proofs.Lists.{pairwise_before, pairwise_after, each_member, each_of, each_filter, member_map, member_map_of}
+use Rattle.un_model.proofs.Lists.{member_append_left, member_append_right, member_filter, member_of_filter, any_of, none_any, found}
+use Rattle.un_model.proofs.Lists.{find_none}
 use Rattle.un_emit.proofs.Packet.{moves_stack}
 use Rattle.un_emit.proofs.Settled.{settled, the_call, CanAnswer, first_result, step_settles}
-use Rattle.un_emit.proofs.Timed.{Job, Temps, IsInSlot, ReadsAll, Deed, computes, moves, spills, reloads, from_pred, to_pred, loads, stores, calls, shifts, leaves, rests, Timed, AreTemps, Together, together, packet_jobs, jobs_at, issues_at, or_rest, rest_job, instrs, is_transfer}
+use Rattle.un_emit.proofs.Timed.{Job, Temps, IsInSlot, ReadsAll, Deed, computes, moves, spills, reloads, from_pred, to_pred, loads, stores}
+use Rattle.un_emit.proofs.Timed.{calls, shifts, leaves, rests, Timed, AreTemps, Together, together, packet_jobs, jobs_at, issues_at}
+use Rattle.un_emit.proofs.Timed.{or_rest, rest_job, instrs, is_transfer}
 use Rattle.un_emit.proofs.Deeds.{alu_op, transfer_op, shift_op}
 use Rattle.un_emit.proofs.InTime.{InTime, CallsFit, issues, in_time_next, has_call, call_job}
 use Rattle.un_emit.proofs.FramePlace.{IsFrame}
 use Rattle.un_emit.proofs.Holds.{Flows, AreTruths, Stacks, Holds, Finds, operands, frame_at, holds_next, uses_frame}
-use Rattle.un_emit.proofs.Effects.{InOrder, is_access, is_effect, address, call_of, after_job, fails, fails_by, is_empty, run_jobs, run_before, run_until, access_sees, world_of, world_next, ReadRight}
+use Rattle.un_emit.proofs.Effects.{InOrder, is_access, is_effect, address, call_of, after_job, fails, fails_by, is_empty, run_jobs}
+use Rattle.un_emit.proofs.Effects.{run_before, run_until, access_sees, world_of, world_next, ReadRight}
 use Rattle.un_emit.proofs.Exits.{transfer_of, exit_by, exit_of, leads_exit, is_false}
 
 -- ---- what the jobs find and whether they fail, in their order
@@ -53,11 +61,13 @@ pub record Failing (val : ℕ → ℕ) (js : List Job) (w : World) : Type 0 wher
   pub passes : Passes val before w
   pub failed : fails val job (run_jobs val before w) ≡ true
 
-pub sees_at : (val : ℕ → ℕ) (before after : List Job) (j : Job) (w : World) → Sees val (before ++ j ∷ after) w → SeesOne val j (run_jobs val before w)
+pub sees_at : (val : ℕ → ℕ) (before after : List Job) (j : Job) (w : World) → Sees val (before ++ j ∷ after) w
+    → SeesOne val j (run_jobs val before w)
 sees_at val [] after j w h = h.0
 sees_at val (i ∷ is) after j w h = sees_at val is after j (after_job val i w) h.1
 
-pub passes_at : (val : ℕ → ℕ) (before after : List Job) (j : Job) (w : World) → Passes val (before ++ j ∷ after) w → fails val j (run_jobs val before w) ≡ false
+pub passes_at : (val : ℕ → ℕ) (before after : List Job) (j : Job) (w : World) → Passes val (before ++ j ∷ after) w
+    → fails val j (run_jobs val before w) ≡ false
 passes_at val [] after j w h = h.0
 passes_at val (i ∷ is) after j w h = passes_at val is after j (after_job val i w) h.1
 
@@ -67,7 +77,15 @@ decide_passes val (j ∷ js) w =
     let go : (b : Bool) → fails val j w ≡ b → Passes val (j ∷ js) w ⊎ Failing val (j ∷ js) w = elim [
       | true ↦ λ e. inr (record { before = []; job = j; after = js; is = refl; passes = tt; failed = e })
       | false ↦ λ e. ⊎_elim (λ (p : Passes val js (after_job val j w)). inl (e, p))
-          (λ (f : Failing val js (after_job val j w)). inr (record { before = j ∷ f.before; job = f.job; after = f.after; is = ap (λ ks. j ∷ ks) f.is; passes = (e, f.passes); failed = f.failed }))
+          (λ (f : Failing val js (after_job val j w)). inr (record {
+            before = j ∷ f.before;
+            job = f.job;
+            after = f.after;
+            is =
+                ap (λ ks. j ∷ ks) f.is;
+            passes = (e, f.passes);
+            failed = f.failed;
+          }))
           (decide_passes val js (after_job val j w))
     ] in
     go (fails val j w) refl
@@ -111,7 +129,8 @@ pub record At (x : Scene) (c : ℕ) (s : PacketState) : Type 0 where
 
 -- no job of the cycles up to c fails
 abbrev pub Unfailed : Scene → ℕ → Type 0
-Unfailed x c = (before after : List Job) (j : Job) → x.jobs ≡ before ++ j ∷ after → j.cycle ≤ c → fails x.val j (run_jobs x.val before x.world) ≡ false
+Unfailed x c = (before after : List Job) (j : Job) → x.jobs ≡ before ++ j ∷ after → j.cycle ≤ c
+    → fails x.val j (run_jobs x.val before x.world) ≡ false
 
 abbrev pub packet_of : List Job → ℕ → Packet
 packet_of jobs c = record { instrs = instrs (packet_jobs jobs c) }
@@ -137,8 +156,10 @@ first_read val j = slice_index (map val j.reads) 0
 
 -- what packets come to
 pub data Comes (x : Scene) (ps : List Packet) (s : PacketState) : Type 0 where
-  passes : (u : PacketState) → At x (x.end - 1) u → Passes x.val x.jobs x.world → packets_run x.table ps s ≡ exit_of (transfer_of x.jobs) (first_read x.val) u → NoneWaits x.table ps s → Comes x ps s
-  stops : (f : FirstFail x) (u : PacketState) → world_of x.val u ≡ run_jobs x.val f.before x.world → packets_run x.table ps s ≡ Stopped (stop_of x f) u → NoneWaits x.table ps s → Comes x ps s
+  passes : (u : PacketState) → At x (x.end - 1) u → Passes x.val x.jobs x.world
+      → packets_run x.table ps s ≡ exit_of (transfer_of x.jobs) (first_read x.val) u → NoneWaits x.table ps s → Comes x ps s
+  stops : (f : FirstFail x) (u : PacketState) → world_of x.val u ≡ run_jobs x.val f.before x.world
+      → packets_run x.table ps s ≡ Stopped (stop_of x f) u → NoneWaits x.table ps s → Comes x ps s
 
 pub each_packet : (P : Job → Type 0) (jobs : List Job) (c : ℕ) → Each P jobs → P (rest_job c) → Each P (packet_jobs jobs c)
 each_packet P jobs c h k = go (jobs_at jobs c) (each_filter P (issues_at c) jobs h)
@@ -197,10 +218,15 @@ module _ (x : Scene) (h : IsScene x) (c : ℕ) (s : PacketState) (lt : c + 1 < x
 
   -- an access traps where its job fails in the world of the state
   same_trap : (j : Job) → Right j → (j.instr.op ≡ Load) ⊎ (j.instr.op ≡ Store) → traps s j.instr ≡ fails x.val j (world_of x.val s)
-  same_trap j r (inl o) = ap (λ (op : Op). traps_by op s j.instr) o ∙ ap (λ xs. is_none (word_at (address_of (slice_index xs 0) j.instr.imm) s.memory)) r ∙ sym (ap (λ (op : Op). fails_by op x.val j (world_of x.val s)) o)
-  same_trap j r (inr o) = ap (λ (op : Op). traps_by op s j.instr) o ∙ ap (λ xs. is_none (word_at (address_of (slice_index xs 0) j.instr.imm) s.memory)) r ∙ sym (ap (λ (op : Op). fails_by op x.val j (world_of x.val s)) o)
+  same_trap j r (inl o) = ap (λ (op : Op). traps_by op s j.instr) o
+      ∙ ap (λ xs. is_none (word_at (address_of (slice_index xs 0) j.instr.imm) s.memory)) r
+      ∙ sym (ap (λ (op : Op). fails_by op x.val j (world_of x.val s)) o)
+  same_trap j r (inr o) = ap (λ (op : Op). traps_by op s j.instr) o
+      ∙ ap (λ xs. is_none (word_at (address_of (slice_index xs 0) j.instr.imm) s.memory)) r
+      ∙ sym (ap (λ (op : Op). fails_by op x.val j (world_of x.val s)) o)
 
-  frame_safe : (j : Job) (y : ℕ) → Member j js → uses_frame j.instr.op ≡ true → IsInSlot x.temps x.slots j y → is_none (frame_place s j.instr) ≡ false
+  frame_safe : (j : Job) (y : ℕ) → Member j js → uses_frame j.instr.op ≡ true → IsInSlot x.temps x.slots j y
+      → is_none (frame_place s j.instr) ≡ false
   frame_safe j y m u q = ap is_none (frame_at x.table x.temps x.val x.stack x.base x.slots c s j y h.frame a.holds (framed j m) u q)
 
   no_trap_op : (j : Job) (op : Op) → j.instr.op ≡ op → traps_by op s j.instr ≡ false → traps s j.instr ≡ true → ⊥
@@ -231,7 +257,8 @@ module _ (x : Scene) (h : IsScene x) (c : ℕ) (s : PacketState) (lt : c + 1 < x
   right = each_of (λ (j : Job). is_access j.instr.op ≡ true → Right j) js (λ j m q. access_right j m (deed j m) q)
 
   -- only a load or a store traps
-  traps_what : (j : Job) → Member j js → Deed x.table x.temps x.slots j → traps s j.instr ≡ true → (j.instr.op ≡ Load) ⊎ (j.instr.op ≡ Store)
+  traps_what : (j : Job) → Member j js → Deed x.table x.temps x.slots j → traps s j.instr ≡ true → (j.instr.op ≡ Load)
+      ⊎ (j.instr.op ≡ Store)
   traps_what j m (computes y o n r g p) e = let z : true ≡ false = sym e ∙ (alu_op j.instr.op o).traps s j.instr in absurd (cc z)
   traps_what j m (moves w y o z lx ly) e = absurd (no_trap_op j _ o refl e)
   traps_what j m (spills w y o z sr d p i) e = absurd (no_trap_op j _ o (frame_safe j y m (ap uses_frame o) i) e)
@@ -247,8 +274,10 @@ module _ (x : Scene) (h : IsScene x) (c : ℕ) (s : PacketState) (lt : c + 1 < x
 
   -- ---- the moment of an access of this cycle is the state's
 
-  moment : (before after : List Job) (j : Job) → x.jobs ≡ before ++ j ∷ after → j.cycle ≡ c + 1 → is_access j.instr.op ≡ true → world_of x.val s ≡ run_jobs x.val before x.world
-  moment before after j e n p = a.world ∙ ap (λ k. run_before x.val k x.jobs x.world) (sym n) ∙ access_sees x.val x.jobs before after j x.world e h.order p
+  moment : (before after : List Job) (j : Job) → x.jobs ≡ before ++ j ∷ after → j.cycle ≡ c + 1 → is_access j.instr.op ≡ true
+      → world_of x.val s ≡ run_jobs x.val before x.world
+  moment before after j e n p = a.world ∙ ap (λ k. run_before x.val k x.jobs x.world) (sym n)
+      ∙ access_sees x.val x.jobs before after j x.world e h.order p
 
   -- ---- the packet goes on
 
@@ -263,8 +292,10 @@ module _ (x : Scene) (h : IsScene x) (c : ℕ) (s : PacketState) (lt : c + 1 < x
         let m' = access_here j m (ap is_access o) in
         let p = split_at x.jobs j m'.0 in
         let see = sees_at x.val p.before p.after j x.world (subst (λ ks. Sees x.val ks x.world) p.is h.sees) in
-        see.loaded o y g ∙ ap (λ (w : World). unwrap_or (word_at (address x.val j) w.memory) 0) (sym (moment p.before p.after j p.is m'.1 (ap is_access o)))
-        ∙ ap (λ xs. unwrap_or (word_at (address_of (slice_index xs 0) j.instr.imm) s.memory) 0) (sym (access_right j m (deed j m) (ap is_access o)))
+        see.loaded o y g ∙ ap (λ (w : World). unwrap_or (word_at (address x.val j) w.memory) 0)
+        (sym (moment p.before p.after j p.is m'.1 (ap is_access o)))
+        ∙ ap (λ xs. unwrap_or (word_at (address_of (slice_index xs 0) j.instr.imm) s.memory) 0)
+        (sym (access_right j m (deed j m) (ap is_access o)))
         ∙ ap (λ (op : Op). value_by op s j.instr) (sym o));
     replied = each_of (λ (j : Job). j.instr.op ≡ Call → (y : ℕ) → j.gives ≡ Some y → x.val y ≡ first_result s.replies) js (λ j m o y g.
         let m' = access_here j m (ap is_access o) in
@@ -281,19 +312,23 @@ module _ (x : Scene) (h : IsScene x) (c : ℕ) (s : PacketState) (lt : c + 1 < x
       let w = all in
       record {
         time = in_time_next x.table x.temps x.slots x.start c js (the_call is) s h.fit h.calls temps all refl can a.time;
-        holds = holds_next x.table x.temps x.val x.stack x.base x.slots c js s temps all h.truths h.frame a.holds finds (the_call is) h.calls refl can;
-        world = world_next x.val x.table x.jobs js (c + 1) x.world h.order access_here in_packet w.one_write w.cycle s (the_call is) refl can right a.world;
+        holds = holds_next x.table x.temps x.val x.stack x.base x.slots c js s temps all h.truths h.frame a.holds finds (the_call is)
+            h.calls refl can;
+        world = world_next x.val x.table x.jobs js (c + 1) x.world h.order access_here in_packet w.one_write w.cycle s (the_call is) refl
+            can right a.world;
       }
 
   pub issues_now : issue_cycle s is ≡ s.cycle + 1
   issues_now = issues x.table x.temps x.slots x.start c js s temps all a.time
 
   -- no job of the packet fails where it neither traps nor lacks a reply
-  none_fails : (j : Job) → Member j js → list_any (traps s) is ≡ false → CanAnswer (the_call is) s.replies → fails x.val j (world_of x.val s) ≡ false
+  none_fails : (j : Job) → Member j js → list_any (traps s) is ≡ false → CanAnswer (the_call is) s.replies
+      → fails x.val j (world_of x.val s) ≡ false
   none_fails j m quiet can = is_false (fails x.val j (world_of x.val s)) (λ f. go j.instr.op refl f)
     where
       trap_free : traps s j.instr ≡ false
-      trap_free = each_member (λ (i : Instr). traps s i ≡ false) is j.instr (none_any (traps s) is quiet) (member_map (λ (j : Job). j.instr) js j m)
+      trap_free = each_member (λ (i : Instr). traps s i ≡ false) is j.instr (none_any (traps s) is quiet)
+          (member_map (λ (j : Job). j.instr) js j m)
 
       memory : (j.instr.op ≡ Load) ⊎ (j.instr.op ≡ Store) → is_access j.instr.op ≡ true → fails x.val j (world_of x.val s) ≡ true → ⊥
       memory o p f = let z : true ≡ false = sym f ∙ sym (same_trap j (access_right j m (deed j m) p) o) ∙ trap_free in absurd (cc z)
@@ -306,7 +341,8 @@ module _ (x : Scene) (h : IsScene x) (c : ℕ) (s : PacketState) (lt : c + 1 < x
       go : (op : Op) → j.instr.op ≡ op → fails x.val j (world_of x.val s) ≡ true → ⊥
       go Load e f = memory (inl e) (ap is_access e) f
       go Store e f = memory (inr e) (ap is_access e) f
-      go Call e f = answered (the_call is) s.replies (has_call js j (the_call is) m e refl) can (sym (ap (λ (op : Op). fails_by op x.val j (world_of x.val s)) e) ∙ f)
+      go Call e f = answered (the_call is) s.replies (has_call js j (the_call is) m e refl) can
+          (sym (ap (λ (op : Op). fails_by op x.val j (world_of x.val s)) e) ∙ f)
       go _ e f = let z : true ≡ false = sym f ∙ ap (λ (op : Op). fails_by op x.val j (world_of x.val s)) e in absurd (cc z)
 
   pub unfailed_next : list_any (traps s) is ≡ false → CanAnswer (the_call is) s.replies → Unfailed x (c + 1)
@@ -330,7 +366,8 @@ module _ (x : Scene) (h : IsScene x) (c : ℕ) (s : PacketState) (lt : c + 1 < x
 
   stops_here : (j : Job) → Member j js → is_access j.instr.op ≡ true → fails x.val j (world_of x.val s) ≡ true → StopsHere j
   stops_here j m p f = ⊎_elim
-      (λ (ok : Passes x.val x.jobs x.world). let z : true ≡ false = sym failed ∙ passes_at x.val at.before at.after j x.world (subst (λ ks. Passes x.val ks x.world) at.is ok) in absurd (cc z))
+      (λ (ok : Passes x.val x.jobs x.world). let z : true ≡ false = sym failed
+      ∙ passes_at x.val at.before at.after j x.world (subst (λ ks. Passes x.val ks x.world) at.is ok) in absurd (cc z))
       (λ (k : FirstFail x). by_place k (two_places k.before k.after at.before at.after k.job j (sym k.is ∙ at.is)))
       (decide_passes x.val x.jobs x.world)
     where
@@ -344,17 +381,20 @@ module _ (x : Scene) (h : IsScene x) (c : ℕ) (s : PacketState) (lt : c + 1 < x
       failed = ap (fails x.val j) (sym world_at) ∙ f
 
       late : (k : FirstFail x) → c + 1 ≤ k.job.cycle
-      late k = ⊎_elim (λ (old : k.job.cycle < c + 1). let z : true ≡ false = sym k.failed ∙ un k.before k.after k.job k.is (omega arith) in absurd (cc z)) (λ (le : c + 1 ≤ k.job.cycle). le) (cases_lt k.job.cycle (c + 1))
+      late k = ⊎_elim (λ (old : k.job.cycle < c + 1). let z : true ≡ false = sym k.failed
+          ∙ un k.before k.after k.job k.is (omega arith) in absurd (cc z)) (λ (le : c + 1 ≤ k.job.cycle). le) (cases_lt k.job.cycle (c + 1))
 
       by_place : (k : FirstFail x) → Places k.before at.before k.job j → StopsHere j
       by_place k (level e q) = record { first = k; world = world_at ∙ ap (λ ks. run_jobs x.val ks x.world) (sym e); alike = inl q }
       by_place k (behind ks e) =
-          let z : true ≡ false = sym failed ∙ passes_at x.val at.before ks j x.world (subst (λ ks. Passes x.val ks x.world) e k.passes) in absurd (cc z)
+          let z : true ≡ false = sym failed ∙ passes_at x.val at.before ks j x.world (subst (λ ks. Passes x.val ks x.world) e k.passes) in
+          absurd (cc z)
       by_place k (ahead ks e) =
           let q = at in
           let o = subst (Pairwise InOrder) q.is h.order in
           let prior = pairwise_before InOrder q.before q.after j o in
-          let kj : InOrder k.job j = each_member (λ (i : Job). InOrder i j) q.before k.job prior (subst (Member k.job) (sym e) (member_append_right k.before (k.job ∷ ks) k.job (inl refl))) in
+          let kj : InOrder k.job j = each_member (λ (i : Job). InOrder i j) q.before k.job prior
+          (subst (Member k.job) (sym e) (member_append_right k.before (k.job ∷ ks) k.job (inl refl))) in
           let ko = subst (Pairwise InOrder) k.is h.order in
           let later = pairwise_after InOrder k.before k.after k.job ko in
           let ka = fails_access k.job.instr.op x.val k.job (run_jobs x.val k.before x.world) k.failed in
@@ -362,16 +402,22 @@ module _ (x : Scene) (h : IsScene x) (c : ℕ) (s : PacketState) (lt : c + 1 < x
           let n = now j m in
           record {
             first = k;
-            world = a.world ∙ ap (λ ks. run_before x.val (c + 1) ks x.world) k.is ∙ run_until x.val (c + 1) k.before (k.job ∷ k.after) x.world
+            world = a.world ∙ ap (λ ks. run_before x.val (c + 1) ks x.world) k.is
+                ∙ run_until x.val (c + 1) k.before (k.job ∷ k.after) x.world
                 (each_of (λ (i : Job). is_effect i.instr.op ≡ true → i.cycle < c + 1) k.before (λ i mi u.
-                let ij : InOrder i j = each_member (λ (i : Job). InOrder i j) q.before i prior (subst (Member i) (sym e) (member_append_left k.before (k.job ∷ ks) i mi)) in
+                let ij : InOrder i j = each_member (λ (i : Job). InOrder i j) q.before i prior
+                (subst (Member i) (sym e) (member_append_left k.before (k.job ∷ ks) i mi)) in
                 let z = ij.after_effect u p in omega arith)) (
                   (λ u. l),
                   each_of (λ (i : Job). is_effect i.instr.op ≡ true → c + 1 ≤ i.cycle) k.after (λ i mi u.
                       let ki : InOrder k.job i = each_member (InOrder k.job) k.after i later mi in
                       let z = ki.before_effect ka u in omega arith),
                 );
-            alike = inr (load_op k.job.instr.op ka (λ u. let z = kj.after_effect u p in omega arith), λ u. let z = kj.before_call ka u in omega arith);
+            alike = inr (
+              load_op k.job.instr.op ka (λ u. let z = kj.after_effect u p in omega arith),
+              λ u. let z = kj.before_call ka u in
+                  omega arith,
+            );
           }
         where
           load_op : (op : Op) → is_access op ≡ true → (is_effect op ≡ true → ⊥) → op ≡ Load
@@ -383,7 +429,8 @@ module _ (x : Scene) (h : IsScene x) (c : ℕ) (s : PacketState) (lt : c + 1 < x
   -- the packet goes on, or it stops as the first job stops that fails
   pub data Stepped : Type 0 where
     goes : list_any (traps s) is ≡ false → CanAnswer (the_call is) s.replies → Stepped
-    halts : (f : FirstFail x) → world_of x.val s ≡ run_jobs x.val f.before x.world → packet_step x.table is s ≡ Stopped (stop_of x f) s → Stepped
+    halts : (f : FirstFail x) → world_of x.val s ≡ run_jobs x.val f.before x.world → packet_step x.table is s ≡ Stopped (stop_of x f) s
+        → Stepped
 
   trapped : (op : Op) (r : CallRecord) → (op ≡ Load) ⊎ (op ≡ Store) → stop_by op r ≡ Trapped
   trapped op r (inl e) = ap (λ (o : Op). stop_by o r) e
@@ -396,7 +443,8 @@ module _ (x : Scene) (h : IsScene x) (c : ℕ) (s : PacketState) (lt : c + 1 < x
       let j = r.0 in
       let trap : traps s j.instr ≡ true = ap (traps s) r.2 ∙ q.2 in
       let op = traps_what j r.1 (deed j r.1) trap in
-      let acc : is_access j.instr.op ≡ true = ⊎_elim (λ (e : j.instr.op ≡ Load). ap is_access e) (λ (e : j.instr.op ≡ Store). ap is_access e) op in
+      let acc : is_access j.instr.op ≡ true = ⊎_elim (λ (e : j.instr.op ≡ Load). ap is_access e)
+      (λ (e : j.instr.op ≡ Store). ap is_access e) op in
       let f : fails x.val j (world_of x.val s) ≡ true = sym (same_trap j (access_right j r.1 (deed j r.1) acc) op) ∙ trap in
       let g = stops_here j r.1 acc f in
       let k = g.first in
@@ -418,16 +466,19 @@ module _ (x : Scene) (h : IsScene x) (c : ℕ) (s : PacketState) (lt : c + 1 < x
       let f : fails x.val j (world_of x.val s) ≡ true = ap (λ (op : Op). fails_by op x.val j (world_of x.val s)) q.3 ∙ ap is_empty r in
       let g = stops_here j q.1 acc f in
       let k = g.first in
-      let same_job : k.job ≡ j = ⊎_elim (λ (e : k.job ≡ j). e) (λ (e : (k.job.instr.op ≡ Load) × (j.instr.op ≡ Call → ⊥)). absurd (e.1 q.3)) g.alike in
+      let same_job : k.job ≡ j = ⊎_elim (λ (e : k.job ≡ j). e) (λ (e : (k.job.instr.op ≡ Load) × (j.instr.op ≡ Call → ⊥)). absurd (e.1 q.3))
+      g.alike in
       let record_is : record_of s call ≡ call_of x.val k.job (run_jobs x.val k.before x.world) =
-      ap (record_of s) (sym q.2) ∙ ap (λ xs. let c : CallRecord = record { name = unwrap_or j.instr.label []; args = xs; memory = s.memory } in c) (access_right j q.1 (deed j q.1) acc)
+      ap (record_of s) (sym q.2) ∙ ap (λ xs. let c : CallRecord =
+      record { name = unwrap_or j.instr.label []; args = xs; memory = s.memory } in c) (access_right j q.1 (deed j q.1) acc)
       ∙ ap (λ (i : Job). call_of x.val i (world_of x.val s)) (sym same_job) ∙ ap (call_of x.val k.job) g.world in
       halts g.first g.world (
       ap (λ (b : Bool). if b then Stopped Trapped s else with_call x.table (the_call is) s.replies s is) t
       ∙ ap (λ (o : Option Instr). with_call x.table o s.replies s is) e
       ∙ ap (λ rs. with_call x.table (Some call) rs s is) r
       ∙ ap (λ (c : CallRecord). Stopped (Waiting c) s) record_is
-      ∙ ap (λ (p : PacketStop). Stopped p s) (sym (stop_waits k.job.instr.op (call_of x.val k.job (run_jobs x.val k.before x.world)) (ap (λ (i : Job). i.instr.op) same_job ∙ q.3))))
+      ∙ ap (λ (p : PacketStop). Stopped p s) (sym (stop_waits k.job.instr.op (call_of x.val k.job (run_jobs x.val k.before x.world))
+      (ap (λ (i : Job). i.instr.op) same_job ∙ q.3))))
 
   pub step : Stepped
   step = by_trap (list_any (traps s) is) refl
@@ -435,7 +486,8 @@ module _ (x : Scene) (h : IsScene x) (c : ℕ) (s : PacketState) (lt : c + 1 < x
       by_call : list_any (traps s) is ≡ false → (o : Option Instr) (rs : List Reply) → the_call is ≡ o → s.replies ≡ rs → Stepped
       by_call t None rs e r = goes t (subst (λ (o : Option Instr). CanAnswer o s.replies) (sym e) tt)
       by_call t (Some call) [] e r = halts_waiting call t e r
-      by_call t (Some call) (reply ∷ rest) e r = goes t (subst (λ (o : Option Instr). CanAnswer o s.replies) (sym e) (subst (CanAnswer (Some call)) (sym r) tt))
+      by_call t (Some call) (reply ∷ rest) e r = goes t (subst (λ (o : Option Instr). CanAnswer o s.replies) (sym e)
+          (subst (CanAnswer (Some call)) (sym r) tt))
 
       by_trap : (b : Bool) → list_any (traps s) is ≡ b → Stepped
       by_trap true t = halts_trapped t
@@ -460,23 +512,29 @@ module _ (x : Scene) (h : IsScene x) (c : ℕ) (s : PacketState) (lt : c + 1 < x
   not_nop : (j : Job) → is_transfer j.instr.op ≡ true → j.instr.op ≡ Nop → ⊥
   not_nop j p q = let z : true ≡ false = sym p ∙ ap is_transfer q in absurd (cc z)
 
-  settles : list_any (traps s) is ≡ false → CanAnswer (the_call is) s.replies → packet_step x.table is s ≡ exit_of (transfer_of js) (λ (j : Job). operand_in s j.instr 0) next
+  settles : list_any (traps s) is ≡ false → CanAnswer (the_call is) s.replies
+      → packet_step x.table is s ≡ exit_of (transfer_of js) (λ (j : Job). operand_in s j.instr 0) next
   settles t can = let w = all in step_settles x.table s is t can ∙ leads_exit (c + 1) js w.cycle w.one_control s next
 
   -- before the last cycle
-  pub goes_on : list_any (traps s) is ≡ false → CanAnswer (the_call is) s.replies → (c + 2 ≡ x.end → ⊥) → packet_step x.table is s ≡ Went next
+  pub goes_on : list_any (traps s) is ≡ false → CanAnswer (the_call is) s.replies → (c + 2 ≡ x.end → ⊥)
+      → packet_step x.table is s ≡ Went next
   goes_on t can later =
       let k = h.timed in
       settles t can ∙ ap (λ (o : Option Job). exit_of o (λ (j : Job). operand_in s j.instr 0) next)
-      (find_none (λ (j : Job). is_transfer j.instr.op) js (each_of (λ (j : Job). is_transfer j.instr.op ≡ false) js (λ j m. is_false (is_transfer j.instr.op) (λ p.
-      let z = each_member (λ (j : Job). is_transfer j.instr.op ≡ true → j.cycle + 1 ≡ x.end) x.jobs j k.last (of_packet j m (not_nop j p)) p in
+      (find_none (λ (j : Job). is_transfer j.instr.op) js (each_of (λ (j : Job). is_transfer j.instr.op ≡ false) js
+      (λ j m. is_false (is_transfer j.instr.op) (λ p.
+      let z = each_member (λ (j : Job). is_transfer j.instr.op ≡ true → j.cycle + 1 ≡ x.end) x.jobs j k.last (of_packet j m (not_nop j p)) p
+      in
       let n = now j m in later (omega arith)))))
 
   -- in the last one
-  pub exits : list_any (traps s) is ≡ false → CanAnswer (the_call is) s.replies → c + 2 ≡ x.end → packet_step x.table is s ≡ exit_of (transfer_of x.jobs) (first_read x.val) next
+  pub exits : list_any (traps s) is ≡ false → CanAnswer (the_call is) s.replies → c + 2 ≡ x.end
+      → packet_step x.table is s ≡ exit_of (transfer_of x.jobs) (first_read x.val) next
   exits t can last = settles t can ∙ values (transfer_of js) refl ∙ ap (λ (o : Option Job). exit_of o (first_read x.val) next) transfers
     where
-      values : (o : Option Job) → transfer_of js ≡ o → exit_of o (λ (j : Job). operand_in s j.instr 0) next ≡ exit_of o (first_read x.val) next
+      values : (o : Option Job) → transfer_of js ≡ o → exit_of o (λ (j : Job). operand_in s j.instr 0) next ≡ exit_of o (first_read x.val)
+          next
       values None e = refl
       values (Some j) e =
           let f = found (λ (j : Job). is_transfer j.instr.op) js j e in
@@ -485,7 +543,8 @@ module _ (x : Scene) (h : IsScene x) (c : ℕ) (s : PacketState) (lt : c + 1 < x
       here : transfer_of (jobs_at x.jobs (c + 1)) ≡ transfer_of x.jobs
       here =
           let k = h.timed in
-          find_filter (λ (j : Job). is_transfer j.instr.op) (issues_at (c + 1)) x.jobs (each_of (λ (j : Job). is_transfer j.instr.op ≡ true → issues_at (c + 1) j ≡ true) x.jobs (λ j m p.
+          find_filter (λ (j : Job). is_transfer j.instr.op) (issues_at (c + 1)) x.jobs
+          (each_of (λ (j : Job). is_transfer j.instr.op ≡ true → issues_at (c + 1) j ≡ true) x.jobs (λ j m p.
           let z = each_member (λ (j : Job). is_transfer j.instr.op ≡ true → j.cycle + 1 ≡ x.end) x.jobs j k.last m p in
           eq-eqb j.cycle (c + 1) (omega arith)))
 
@@ -501,11 +560,13 @@ module _ (x : Scene) (h : IsScene x) (c : ℕ) (s : PacketState) (lt : c + 1 < x
 all_pass : (x : Scene) → IsScene x → Unfailed x (x.end - 1) → Passes x.val x.jobs x.world
 all_pass x h un = ⊎_elim (λ (p : Passes x.val x.jobs x.world). p) (λ (f : FirstFail x).
     let k = h.timed in
-    let soon = each_member (λ (j : Job). j.cycle < x.end) x.jobs f.job k.soon (subst (Member f.job) (sym f.is) (member_append_right f.before (f.job ∷ f.after) f.job (inl refl))) in
+    let soon = each_member (λ (j : Job). j.cycle < x.end) x.jobs f.job k.soon
+    (subst (Member f.job) (sym f.is) (member_append_right f.before (f.job ∷ f.after) f.job (inl refl))) in
     let z : true ≡ false = sym f.failed ∙ un f.before f.after f.job f.is (omega arith) in absurd (cc z))
     (decide_passes x.val x.jobs x.world)
 
-comes_from : (x : Scene) (h : IsScene x) (d c : ℕ) (s : PacketState) → c + 2 + d ≡ x.end → At x c s → Unfailed x c → Comes x (packets_from x.jobs (c + 1) (suc d)) s
+comes_from : (x : Scene) (h : IsScene x) (d c : ℕ) (s : PacketState) → c + 2 + d ≡ x.end → At x c s → Unfailed x c
+    → Comes x (packets_from x.jobs (c + 1) (suc d)) s
 comes_from x h zero c s e a un = by_step (step x h c s (omega arith) a un)
   where
     lt : c + 1 < x.end
@@ -518,11 +579,13 @@ comes_from x h zero c s e a un = by_step (step x h c s (omega arith) a un)
     by_step (goes t can) =
         let u = next x h c s lt a un in
         let run = exits x h c s lt a un t can (omega arith) in
-        passes u (subst (λ k. At x k u) here (at_next x h c s lt a un can)) (all_pass x h (subst (Unfailed x) here (unfailed_next x h c s lt a un t can)))
+        passes u (subst (λ k. At x k u) here (at_next x h c s lt a un can))
+        (all_pass x h (subst (Unfailed x) here (unfailed_next x h c s lt a un t can)))
         (ap (λ (r : PacketStep). then_packets r (packets_run x.table [])) run ∙ ended (transfer_of x.jobs) u)
         (issues_now x h c s lt a un, nothing (packet_step x.table (instrs (packet_jobs x.jobs (c + 1))) s))
       where
-        ended_by : (op : Op) (v : ℕ) (label : Option (List ℕ)) (u : PacketState) → then_packets (exit_by op v label u) (packets_run x.table []) ≡ exit_by op v label u
+        ended_by : (op : Op) (v : ℕ) (label : Option (List ℕ)) (u : PacketState)
+            → then_packets (exit_by op v label u) (packets_run x.table []) ≡ exit_by op v label u
         ended_by op v label u = kept (exit_by op v label u)
           where
             kept : (r : PacketStep) → then_packets r (packets_run x.table []) ≡ r
@@ -530,7 +593,8 @@ comes_from x h zero c s e a un = by_step (step x h c s (omega arith) a un)
             kept (Jumped l q) = refl
             kept (Stopped p q) = refl
 
-        ended : (o : Option Job) (u : PacketState) → then_packets (exit_of o (first_read x.val) u) (packets_run x.table []) ≡ exit_of o (first_read x.val) u
+        ended : (o : Option Job) (u : PacketState) → then_packets (exit_of o (first_read x.val) u) (packets_run x.table []) ≡ exit_of o
+            (first_read x.val) u
         ended None u = refl
         ended (Some j) u = ended_by j.instr.op (first_read x.val j) j.instr.label u
 
@@ -546,22 +610,34 @@ comes_from x h (suc d) c s e a un = by_step (λ u b v. comes_from x h d (c + 1) 
     lt : c + 1 < x.end
     lt = omega arith
 
-    by_step : ((u : PacketState) → At x (c + 1) u → Unfailed x (c + 1) → Comes x (packets_from x.jobs (c + 1 + 1) (suc d)) u) → Stepped x h c s lt a un → Comes x (packet_of x.jobs (c + 1) ∷ packets_from x.jobs (c + 1 + 1) (suc d)) s
+    by_step : ((u : PacketState) → At x (c + 1) u → Unfailed x (c + 1) → Comes x (packets_from x.jobs (c + 1 + 1) (suc d)) u)
+        → Stepped x h c s lt a un → Comes x (packet_of x.jobs (c + 1) ∷ packets_from x.jobs (c + 1 + 1) (suc d)) s
     by_step rest (goes t can) =
         let u = next x h c s lt a un in
         let run = goes_on x h c s lt a un t can (λ z. omega arith) in
         further run (rest u (at_next x h c s lt a un can) (unfailed_next x h c s lt a un t can))
       where
-        further : {u : PacketState} → packet_step x.table (instrs (packet_jobs x.jobs (c + 1))) s ≡ Went u → Comes x (packets_from x.jobs (c + 1 + 1) (suc d)) u → Comes x (packet_of x.jobs (c + 1) ∷ packets_from x.jobs (c + 1 + 1) (suc d)) s
+        further : {u : PacketState} → packet_step x.table (instrs (packet_jobs x.jobs (c + 1))) s ≡ Went u
+            → Comes x (packets_from x.jobs (c + 1 + 1) (suc d)) u
+            → Comes x (packet_of x.jobs (c + 1) ∷ packets_from x.jobs (c + 1 + 1) (suc d)) s
         further run (passes v b p r n) =
-            passes v b p (ap (λ (q : PacketStep). then_packets q (packets_run x.table (packets_from x.jobs (c + 1 + 1) (suc d)))) run ∙ r)
-            (issues_now x h c s lt a un, subst (λ (q : PacketStep). goes_on_unless q (NoneWaits x.table (packets_from x.jobs (c + 1 + 1) (suc d)))) (sym run) n)
+            passes v b p (ap (λ (q : PacketStep). then_packets q (packets_run x.table (packets_from x.jobs (c + 1 + 1) (suc d)))) run ∙ r) (
+              issues_now x h c s lt a un,
+              subst (λ (q : PacketStep). goes_on_unless q
+                  (NoneWaits x.table (packets_from x.jobs (c + 1 + 1) (suc d)))) (sym run) n,
+            )
         further run (stops f v w r n) =
-            stops f v w (ap (λ (q : PacketStep). then_packets q (packets_run x.table (packets_from x.jobs (c + 1 + 1) (suc d)))) run ∙ r)
-            (issues_now x h c s lt a un, subst (λ (q : PacketStep). goes_on_unless q (NoneWaits x.table (packets_from x.jobs (c + 1 + 1) (suc d)))) (sym run) n)
+            stops f v w (ap (λ (q : PacketStep). then_packets q (packets_run x.table (packets_from x.jobs (c + 1 + 1) (suc d)))) run ∙ r) (
+              issues_now x h c s lt a un,
+              subst (λ (q : PacketStep). goes_on_unless q
+                  (NoneWaits x.table (packets_from x.jobs (c + 1 + 1) (suc d)))) (sym run) n,
+            )
     by_step rest (halts f w run) =
-        stops f s w (ap (λ (r : PacketStep). then_packets r (packets_run x.table (packets_from x.jobs (c + 1 + 1) (suc d)))) run)
-        (issues_now x h c s lt a un, subst (λ (r : PacketStep). goes_on_unless r (NoneWaits x.table (packets_from x.jobs (c + 1 + 1) (suc d)))) (sym run) tt)
+        stops f s w (ap (λ (r : PacketStep). then_packets r (packets_run x.table (packets_from x.jobs (c + 1 + 1) (suc d)))) run) (
+          issues_now x h c s lt a un,
+          subst (λ (r : PacketStep). goes_on_unless r
+              (NoneWaits x.table (packets_from x.jobs (c + 1 + 1) (suc d)))) (sym run) tt,
+        )
 
 -- what the packets of a block come to
 pub block_comes : (x : Scene) (h : IsScene x) (s : PacketState) → 1 ≤ x.end → At x 0 s → Comes x (packets_from x.jobs 1 (x.end - 1)) s
@@ -570,7 +646,8 @@ block_comes x h s le a = go (x.end - 1) refl
     early : Unfailed x 0
     early before after j e lt =
         let k = h.timed in
-        let late = each_member (λ (j : Job). 1 ≤ j.cycle) x.jobs j k.late (subst (Member j) (sym e) (member_append_right before (j ∷ after) j (inl refl))) in
+        let late = each_member (λ (j : Job). 1 ≤ j.cycle) x.jobs j k.late
+        (subst (Member j) (sym e) (member_append_right before (j ∷ after) j (inl refl))) in
         absurd (omega arith)
 
     no_jobs : x.end ≡ 1 → Each (λ (j : Job). is_transfer j.instr.op ≡ false) x.jobs
@@ -584,5 +661,6 @@ block_comes x h s le a = go (x.end - 1) refl
     go zero e =
         let one : x.end ≡ 1 = omega arith in
         passes s (subst (λ n. At x n s) (sym e) a) (all_pass x h (subst (Unfailed x) (sym e) early))
-        (sym (ap (λ (o : Option Job). exit_of o (first_read x.val) s) (find_none (λ (j : Job). is_transfer j.instr.op) x.jobs (no_jobs one)))) tt
+        (sym (ap (λ (o : Option Job). exit_of o (first_read x.val) s)
+        (find_none (λ (j : Job). is_transfer j.instr.op) x.jobs (no_jobs one)))) tt
     go (suc d) e = comes_from x h d 0 s (omega arith) a early

@@ -1,5 +1,6 @@
 -- What the instruction of a job reads and writes, whatever it does.
-use Rattle.std.proofs.Common.{ℕ, ◌≡◌, ◌≢◌, ◌<◌, ◌≤◌, ◌+◌, true, false, List, [], ◌∷◌, map, ◌⊎◌, inl, inr, ⊎_elim, refl, sym, ap, ◌∙◌, subst, arith}
+use Rattle.std.proofs.Common.{ℕ, ◌≡◌, ◌≢◌, ◌<◌, ◌≤◌, ◌+◌, true, false, List, [], ◌∷◌, map, ◌⊎◌, inl, inr, ⊎_elim, refl, sym, ap, ◌∙◌, subst}
+use Rattle.std.proofs.Common.{arith}
 use Rattle.std.specs.Prelude.{Some, None}
 use Rattle.std.specs.Option.{option_map}
 use Rattle.un_isa.specs.Operands.{is_alu}
@@ -13,7 +14,9 @@ use Rattle.un_isa.specs.declared.reg.TheConstants.{STACK}
 use Rattle.un_packet.specs.Step.{PacketState, is_call, is_return, traps_by, jumps_by, value_by, reads_by, reg_in}
 use Rattle.un_model.proofs.Lists.{Each, Pairwise, Member, each_member, each_of, each_map, pairwise_more, pairwise_map}
 use Rattle.un_emit.proofs.Packet.{moves_stack, target, target_by, is_store, slot_by, AreApart}
-use Rattle.un_emit.proofs.Timed.{Job, Temps, Stands, IsReadAt, numbers, is_transfer, ReadsAll, Gives, Copies, Deed, computes, moves, spills, reloads, from_pred, to_pred, loads, stores, calls, shifts, leaves, rests, AreTemps, NotBoth, GiveApart, writes_memory, is_control, Together, instrs}
+use Rattle.un_emit.proofs.Timed.{Job, Temps, Stands, IsReadAt, numbers, is_transfer, ReadsAll, Gives, Copies, Deed, computes, moves, spills}
+use Rattle.un_emit.proofs.Timed.{reloads, from_pred, to_pred, loads, stores, calls, shifts, leaves, rests, AreTemps, NotBoth, GiveApart}
+use Rattle.un_emit.proofs.Timed.{writes_memory, is_control, Together, instrs}
 
 -- ---- by operation
 
@@ -44,7 +47,20 @@ alu_op Reload h = absurd (cc h)
 alu_op Enter h = absurd (cc h)
 alu_op Leave h = absurd (cc h)
 alu_op Nop h = absurd (cc h)
-alu_op _ h = record { shifts = refl; calls = refl; returns = refl; transfers = refl; controls = refl; writes = refl; stores = refl; traps = λ s i. refl; jumps = λ s i. refl; slot = λ s i. refl; value = λ s i. refl }
+alu_op _ h = record {
+  shifts = refl;
+  calls = refl;
+  returns = refl;
+  transfers = refl;
+  controls = refl;
+  writes = refl;
+  stores = refl;
+  traps =
+      λ s i. refl;
+  jumps = λ s i. refl;
+  slot = λ s i. refl;
+  value = λ s i. refl;
+}
 
 -- what an operation that goes elsewhere does not do
 pub record Transfers (op : Op) : Type 0 where
@@ -57,10 +73,46 @@ pub record Transfers (op : Op) : Type 0 where
   pub slot : (s : PacketState) (i : Instr) → slot_by op s i ≡ None
 
 pub transfer_op : (op : Op) → is_transfer op ≡ true → Transfers op
-transfer_op Jump h = record { shifts = refl; calls = refl; controls = refl; writes = refl; stores = refl; traps = λ s i. refl; slot = λ s i. refl }
-transfer_op JumpIf h = record { shifts = refl; calls = refl; controls = refl; writes = refl; stores = refl; traps = λ s i. refl; slot = λ s i. refl }
-transfer_op JumpIfNot h = record { shifts = refl; calls = refl; controls = refl; writes = refl; stores = refl; traps = λ s i. refl; slot = λ s i. refl }
-transfer_op Jumpr h = record { shifts = refl; calls = refl; controls = refl; writes = refl; stores = refl; traps = λ s i. refl; slot = λ s i. refl }
+transfer_op Jump h = record {
+  shifts = refl;
+  calls = refl;
+  controls = refl;
+  writes = refl;
+  stores = refl;
+  traps = λ s i. refl;
+  slot =
+      λ s i. refl;
+}
+transfer_op JumpIf h = record {
+  shifts = refl;
+  calls = refl;
+  controls = refl;
+  writes = refl;
+  stores = refl;
+  traps = λ s i. refl;
+  slot =
+      λ s i. refl;
+}
+transfer_op JumpIfNot h = record {
+  shifts = refl;
+  calls = refl;
+  controls = refl;
+  writes = refl;
+  stores = refl;
+  traps = λ s i. refl;
+  slot =
+      λ s i. refl;
+}
+transfer_op Jumpr h = record {
+  shifts = refl;
+  calls = refl;
+  controls = refl;
+  writes = refl;
+  stores = refl;
+  traps = λ s i. refl;
+  slot =
+      λ s i. refl;
+}
 transfer_op _ h = absurd (cc h)
 
 -- what Enter and Leave do not do
@@ -76,8 +128,30 @@ pub record Shifts (op : Op) : Type 0 where
   pub target : (i : Instr) → target_by op i.dst ≡ Some STACK
 
 pub shift_op : (op : Op) → moves_stack op ≡ true → Shifts op
-shift_op Enter h = record { calls = refl; returns = refl; transfers = refl; writes = refl; stores = refl; traps = λ s i. refl; jumps = λ s i. refl; slot = λ s i. refl; target = λ i. refl }
-shift_op Leave h = record { calls = refl; returns = refl; transfers = refl; writes = refl; stores = refl; traps = λ s i. refl; jumps = λ s i. refl; slot = λ s i. refl; target = λ i. refl }
+shift_op Enter h = record {
+  calls = refl;
+  returns = refl;
+  transfers = refl;
+  writes = refl;
+  stores = refl;
+  traps = λ s i. refl;
+  jumps =
+      λ s i. refl;
+  slot = λ s i. refl;
+  target = λ i. refl;
+}
+shift_op Leave h = record {
+  calls = refl;
+  returns = refl;
+  transfers = refl;
+  writes = refl;
+  stores = refl;
+  traps = λ s i. refl;
+  jumps =
+      λ s i. refl;
+  slot = λ s i. refl;
+  target = λ i. refl;
+}
 shift_op _ h = absurd (cc h)
 
 target_of : (op : Op) (i : Instr) → moves_stack op ≡ false → target_by op i.dst ≡ option_map (λ (r : Reg). r.0) i.dst
@@ -99,14 +173,16 @@ each_read P _ i h k = k
 abbrev pub IsSource : Temps → ℕ → ℕ → Type 0
 IsSource T c r = (x : ℕ) × (IsReadAt T x c) × (T.place x ≡ r) × (r < 36)
 
-all_sources : (T : Temps) (c : ℕ) (xs : List ℕ) → Each (λ x. IsReadAt T x c) xs → Each (λ x. T.place x < 36) xs → Each (IsSource T c) (map T.place xs)
+all_sources : (T : Temps) (c : ℕ) (xs : List ℕ) → Each (λ x. IsReadAt T x c) xs → Each (λ x. T.place x < 36) xs
+    → Each (IsSource T c) (map T.place xs)
 all_sources T c [] h k = tt
 all_sources T c (x ∷ xs) h k = ((x, h.0, refl, k.0), all_sources T c xs h.1 k.1)
 
 read_sources : (T : Temps) (j : Job) → ReadsAll T j → Each (IsSource T j.cycle) (numbers j.instr.srcs)
 read_sources T j r = subst (Each (IsSource T j.cycle)) (sym r.srcs) (all_sources T j.cycle j.reads r.read r.regs)
 
-one_source : (t : Table) (T : Temps) (j : Job) (x y : ℕ) → Copies t T j x y → numbers j.instr.srcs ≡ T.place x ∷ [] → T.place x < 36 → Each (IsSource T j.cycle) (numbers j.instr.srcs)
+one_source : (t : Table) (T : Temps) (j : Job) (x y : ℕ) → Copies t T j x y → numbers j.instr.srcs ≡ T.place x ∷ [] → T.place x < 36
+    → Each (IsSource T j.cycle) (numbers j.instr.srcs)
 one_source t T j x y c e lt = subst (Each (IsSource T j.cycle)) (sym e) ((x, c.read, refl, lt), tt)
 
 none_read : (T : Temps) (j : Job) → j.instr.srcs ≡ [] → Each (IsSource T j.cycle) (numbers j.instr.srcs)
@@ -130,12 +206,14 @@ sources t T slots j (rests o s d g) = none_read T j s
 abbrev pub Writes : Table → Temps → Job → ℕ → Type 0
 Writes t T j r = ((r ≡ STACK) × (moves_stack j.instr.op ≡ true)) ⊎ ((x : ℕ) × (Gives t T j x) × (T.place x ≡ r))
 
-gives_there : (t : Table) (T : Temps) (j : Job) (x r : ℕ) → Gives t T j x → moves_stack j.instr.op ≡ false → option_map (λ (q : Reg). q.0) j.instr.dst ≡ Some (T.place x) → target j.instr ≡ Some r → Writes t T j r
+gives_there : (t : Table) (T : Temps) (j : Job) (x r : ℕ) → Gives t T j x → moves_stack j.instr.op ≡ false
+    → option_map (λ (q : Reg). q.0) j.instr.dst ≡ Some (T.place x) → target j.instr ≡ Some r → Writes t T j r
 gives_there t T j x r g m d e =
     let k : Some (T.place x) ≡ Some r = sym d ∙ sym (target_of j.instr.op j.instr m) ∙ e in
     let p : T.place x ≡ r = cc k in inr (x, g, p)
 
-gives_nowhere : (t : Table) (T : Temps) (j : Job) (r : ℕ) → moves_stack j.instr.op ≡ false → j.instr.dst ≡ None → target j.instr ≡ Some r → Writes t T j r
+gives_nowhere : (t : Table) (T : Temps) (j : Job) (r : ℕ) → moves_stack j.instr.op ≡ false → j.instr.dst ≡ None → target j.instr ≡ Some r
+    → Writes t T j r
 gives_nowhere t T j r m d e =
     let k : None ≡ Some r = ap (option_map (λ (q : Reg). q.0)) (sym d) ∙ sym (target_of j.instr.op j.instr m) ∙ e in absurd (cc k)
 
@@ -149,7 +227,8 @@ writes t T slots j r (to_pred x y o c k p q w) e = gives_there t T j y r c.copie
 writes t T slots j r (loads x o q g p) e = gives_there t T j x r g.given (ap moves_stack o) g.dst e
 writes t T slots j r (stores o q g d) e = gives_nowhere t T j r (ap moves_stack o) d e
 writes t T slots j r (calls o q d g) e = gives_nowhere t T j r (ap moves_stack o) d e
-writes t T slots j r (shifts o s g) e = let k : Some STACK ≡ Some r = sym ((shift_op j.instr.op o).target j.instr) ∙ e in let p : r ≡ STACK = cc k in inl (p, o)
+writes t T slots j r (shifts o s g) e = let k : Some STACK ≡ Some r = sym ((shift_op j.instr.op o).target j.instr)
+    ∙ e in let p : r ≡ STACK = cc k in inl (p, o)
 writes t T slots j r (leaves o q d g) e = gives_nowhere t T j r (transfer_op j.instr.op o).shifts d e
 writes t T slots j r (rests o s d g) e = gives_nowhere t T j r (ap moves_stack o) d e
 
@@ -157,20 +236,23 @@ writes t T slots j r (rests o s d g) e = gives_nowhere t T j r (ap moves_stack o
 abbrev pub Lands : Table → Temps → Job → ℕ → Type 0
 Lands t T j x = (target j.instr ≡ Some (T.place x)) ⊎ ((j.instr.op ≡ Call) × (T.place x ≡ t.result))
 
-lands_there : (t : Table) (T : Temps) (j : Job) (x y : ℕ) → Gives t T j y → moves_stack j.instr.op ≡ false → option_map (λ (q : Reg). q.0) j.instr.dst ≡ Some (T.place y) → j.gives ≡ Some x → Lands t T j x
+lands_there : (t : Table) (T : Temps) (j : Job) (x y : ℕ) → Gives t T j y → moves_stack j.instr.op ≡ false
+    → option_map (λ (q : Reg). q.0) j.instr.dst ≡ Some (T.place y) → j.gives ≡ Some x → Lands t T j x
 lands_there t T j x y g m d e = let k : y ≡ x = cc (g.gives, e) in inl (target_of j.instr.op j.instr m ∙ d ∙ ap (λ z. Some (T.place z)) k)
 
 pub lands : (t : Table) (T : Temps) (slots : ℕ) (j : Job) (x : ℕ) → Deed t T slots j → j.gives ≡ Some x → T.place x < 36 → Lands t T j x
 lands t T slots j x (computes y a n q g p) e lt = lands_there t T j x y g.given (alu_op j.instr.op a).shifts g.dst e
 lands t T slots j x (moves w y o c p q) e lt = lands_there t T j x y c.copies.given (ap moves_stack o) c.dst e
-lands t T slots j x (spills w y o c s d p q) e lt = let k : y ≡ x = cc (c.given.gives, e) in let h = q.slot in let g : 36 ≤ T.place x = subst (λ z. 36 ≤ T.place z) k h in absurd (omega arith)
+lands t T slots j x (spills w y o c s d p q) e lt = let k : y ≡ x = cc (c.given.gives, e) in let h = q.slot in let g : 36 ≤ T.place x =
+    subst (λ z. 36 ≤ T.place z) k h in absurd (omega arith)
 lands t T slots j x (reloads w y o c s d p q) e lt = lands_there t T j x y c.given (ap moves_stack o) d e
 lands t T slots j x (from_pred w y o c k p q r) e lt = lands_there t T j x y c.copies.given (ap moves_stack o) c.dst e
 lands t T slots j x (to_pred w y o c k p q r) e lt = lands_there t T j x y c.copies.given (ap moves_stack o) c.dst e
 lands t T slots j x (loads y o q g p) e lt = lands_there t T j x y g.given (ap moves_stack o) g.dst e
 lands t T slots j x (stores o q g d) e lt = absurd (cc (g, e))
 lands t T slots j x (calls o q d (inl g)) e lt = absurd (cc (g, e))
-lands t T slots j x (calls o q d (inr g)) e lt = let h = g.1 in let k : g.0 ≡ x = cc (h.gives, e) in inr (o, subst (λ z. T.place z ≡ t.result) k g.2)
+lands t T slots j x (calls o q d (inr g)) e lt = let h = g.1 in let k : g.0 ≡ x = cc (h.gives, e) in
+    inr (o, subst (λ z. T.place z ≡ t.result) k g.2)
 lands t T slots j x (shifts o s g) e lt = absurd (cc (g, e))
 lands t T slots j x (leaves o q d g) e lt = absurd (cc (g, e))
 lands t T slots j x (rests o s d g) e lt = absurd (cc (g, e))
@@ -184,15 +266,23 @@ stands_now t T slots c j x h g e =
     record { active = g.active; begun = omega arith; held = omega arith }
 
 -- no two instructions of a packet write one register
-pub apart_targets : (t : Table) (T : Temps) (slots c : ℕ) (js : List Job) → AreTemps T slots → Together t T slots c js → AreApart target (instrs js)
+pub apart_targets : (t : Table) (T : Temps) (slots c : ℕ) (js : List Job) → AreTemps T slots → Together t T slots c js
+    → AreApart target (instrs js)
 apart_targets t T slots c js h w = pairwise_map (λ i j. (r : ℕ) → target i ≡ Some r → target j ≢ Some r) (λ (j : Job). j.instr) js
-    (pairwise_more (λ i j. GiveApart i j × NotBoth moves_stack i j) (λ (i j : Job). (r : ℕ) → target i.instr ≡ Some r → target j.instr ≢ Some r) js two (both js w.give_apart w.one_shift))
+    (pairwise_more (λ i j. GiveApart i j × NotBoth moves_stack i j)
+    (λ (i j : Job). (r : ℕ) → target i.instr ≡ Some r → target j.instr ≢ Some r) js two (both js w.give_apart w.one_shift))
   where
-    both : (ks : List Job) → Pairwise GiveApart ks → Pairwise (NotBoth moves_stack) ks → Pairwise (λ i j. GiveApart i j × NotBoth moves_stack i j) ks
+    both : (ks : List Job) → Pairwise GiveApart ks → Pairwise (NotBoth moves_stack) ks
+        → Pairwise (λ i j. GiveApart i j × NotBoth moves_stack i j) ks
     both [] p q = tt
-    both (k ∷ ks) p q = (each_of (λ j. GiveApart k j × NotBoth moves_stack k j) ks (λ j m. (each_member (GiveApart k) ks j p.0 m, each_member (NotBoth moves_stack k) ks j q.0 m)), both ks p.1 q.1)
+    both (k ∷ ks) p q = (
+      each_of (λ j. GiveApart k j × NotBoth moves_stack k j) ks
+          (λ j m. (each_member (GiveApart k) ks j p.0 m, each_member (NotBoth moves_stack k) ks j q.0 m)),
+      both ks p.1 q.1,
+    )
 
-    two : (i j : Job) → Member i js → Member j js → GiveApart i j × NotBoth moves_stack i j → (r : ℕ) → target i.instr ≡ Some r → target j.instr ≢ Some r
+    two : (i j : Job) → Member i js → Member j js → GiveApart i j × NotBoth moves_stack i j → (r : ℕ) → target i.instr ≡ Some r
+        → target j.instr ≢ Some r
     two i j m n k r e f =
         let ci : i.cycle ≡ c = each_member (λ (a : Job). a.cycle ≡ c) js i w.cycle m in
         let cj : j.cycle ≡ c = each_member (λ (a : Job). a.cycle ≡ c) js j w.cycle n in
@@ -205,14 +295,17 @@ apart_targets t T slots c js h w = pairwise_map (λ i j. (r : ℕ) → target i 
         (λ (q : (r ≡ STACK) × (moves_stack j.instr.op ≡ true)). let g = p.1 in h.not_stack p.0 g.active (p.2 ∙ q.0))
         (λ (q : (x : ℕ) × (Gives t T j x) × (T.place x ≡ r)).
         let g = p.1 in let d = q.1 in
-        let same : p.0 ≡ q.0 = h.apart p.0 q.0 c (stands_now t T slots c i p.0 h p.1 ci) (stands_now t T slots c j q.0 h q.1 cj) (p.2 ∙ sym q.2) in
+        let same : p.0 ≡ q.0 = h.apart p.0 q.0 c (stands_now t T slots c i p.0 h p.1 ci) (stands_now t T slots c j q.0 h q.1 cj)
+        (p.2 ∙ sym q.2) in
         k.0 p.0 g.gives (d.gives ∙ ap Some (sym same)))
         (writes t T slots j r (each_member (Deed t T slots) js j w.deeds n) f))
         (writes t T slots i r (each_member (Deed t T slots) js i w.deeds m) e)
 
 -- no instruction of a packet writes the register of a temporary that stands from before
-pub unwritten : (t : Table) (T : Temps) (slots c x : ℕ) (js : List Job) → AreTemps T slots → Together t T slots (c + 1) js → Stands T x (c + 1) → T.from x ≤ c → Each (λ i. target i ≢ Some (T.place x)) (instrs js)
-unwritten t T slots c x js h w s old = each_map (λ i. target i ≢ Some (T.place x)) (λ (j : Job). j.instr) js (each_of (λ (j : Job). target j.instr ≢ Some (T.place x)) js (λ j m e.
+pub unwritten : (t : Table) (T : Temps) (slots c x : ℕ) (js : List Job) → AreTemps T slots → Together t T slots (c + 1) js
+    → Stands T x (c + 1) → T.from x ≤ c → Each (λ i. target i ≢ Some (T.place x)) (instrs js)
+unwritten t T slots c x js h w s old = each_map (λ i. target i ≢ Some (T.place x)) (λ (j : Job). j.instr) js
+    (each_of (λ (j : Job). target j.instr ≢ Some (T.place x)) js (λ j m e.
     let cj : j.cycle ≡ c + 1 = each_member (λ (a : Job). a.cycle ≡ c + 1) js j w.cycle m in
     ⊎_elim
     (λ (q : (T.place x ≡ STACK) × (moves_stack j.instr.op ≡ true)). h.not_stack x s.active q.0)

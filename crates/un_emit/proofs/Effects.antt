@@ -1,6 +1,7 @@
 -- The effects of packets are those of the jobs in their order: before the packet of a cycle, memory, the calls and the replies
 -- are what the jobs of earlier cycles left, and each access to memory finds what those before it in order left.
-use Rattle.std.proofs.Common.{ℕ, ◌≡◌, ◌≢◌, ◌<◌, ◌≤◌, ◌+◌, Bool, true, false, List, [], ◌∷◌, ◌++◌, map, ◌⊎◌, ⊎_elim, refl, sym, ap, ◌∙◌, subst, arith}
+use Rattle.std.proofs.Common.{ℕ, ◌≡◌, ◌≢◌, ◌<◌, ◌≤◌, ◌+◌, Bool, true, false, List, [], ◌∷◌, ◌++◌, map, ◌⊎◌, ⊎_elim, refl, sym, ap, ◌∙◌}
+use Rattle.std.proofs.Common.{subst, arith}
 use Rattle.std.specs.Prelude.{Option, Some, None, slice_index, nat_lt, is_none, unwrap_or}
 use Rattle.std.specs.List.{find}
 use Rattle.std.proofs.lemmas.Bool.{cases_eq, cases_lt}
@@ -14,7 +15,8 @@ use Rattle.un_isa.specs.declared.outcome.CallRecord.{CallRecord}
 use Rattle.un_isa.specs.declared.start.Reply.{Reply}
 use Rattle.un_ir.specs.Linear.{World}
 use Rattle.un_packet.specs.Step.{PacketState, reg_in, record_of, is_call, memory_after}
-use Rattle.un_model.proofs.Lists.{Each, Pairwise, Member, split_at, pairwise_before, pairwise_after, pairwise_two, each_member, each_of, each_map, member_map, member_map_of, found, none_found, pairwise_map, pairwise_more}
+use Rattle.un_model.proofs.Lists.{Each, Pairwise, Member, split_at, pairwise_before, pairwise_after, pairwise_two, each_member, each_of}
+use Rattle.un_model.proofs.Lists.{each_map, member_map, member_map_of, found, none_found, pairwise_map, pairwise_more}
 use Rattle.un_emit.proofs.Packet.{is_store, memory_none, memory_one}
 use Rattle.un_emit.proofs.Settled.{settled, the_call, CanAnswer}
 use Rattle.un_emit.proofs.Timed.{Job, instrs, NotBoth, writes_memory}
@@ -117,14 +119,16 @@ module _ (val : ℕ → ℕ) where
   done_one c j w h =
       let go : (b : Bool) → is_effect j.instr.op ≡ b → after_if (nat_lt j.cycle c) val j w ≡ after_job val j w = elim [
         | true ↦ λ e. ap (λ (x : Bool). after_if x val j w) (lt_true j.cycle c (h e))
-        | false ↦ λ e. let i = idle_by j.instr.op j w e in elim (nat_lt j.cycle c) as (λ x. after_if x val j w ≡ after_job val j w) [ true ↦ refl | false ↦ sym i ]
+        | false ↦ λ e. let i = idle_by j.instr.op j w e in elim (nat_lt j.cycle c) as
+            (λ x. after_if x val j w ≡ after_job val j w) [ true ↦ refl | false ↦ sym i ]
       ] in go (is_effect j.instr.op) refl
 
   later_one : (c : ℕ) (j : Job) (w : World) → Later c j → after_if (nat_lt j.cycle c) val j w ≡ w
   later_one c j w h =
       let go : (b : Bool) → is_effect j.instr.op ≡ b → after_if (nat_lt j.cycle c) val j w ≡ w = elim [
         | true ↦ λ e. ap (λ (x : Bool). after_if x val j w) (lt_false j.cycle c (h e))
-        | false ↦ λ e. let i = idle_by j.instr.op j w e in elim (nat_lt j.cycle c) as (λ x. after_if x val j w ≡ w) [ true ↦ i | false ↦ refl ]
+        | false ↦ λ e. let i = idle_by j.instr.op j w e in elim (nat_lt j.cycle c) as
+            (λ x. after_if x val j w ≡ w) [ true ↦ i | false ↦ refl ]
       ] in go (is_effect j.instr.op) refl
 
   pub run_done : (c : ℕ) (js : List Job) (w : World) → Each (Done c) js → run_before val c js w ≡ run_jobs val js w
@@ -136,22 +140,29 @@ module _ (val : ℕ → ℕ) where
   run_later c (j ∷ js) w h = ap (run_before val c js) (later_one c j w h.0) ∙ run_later c js w h.1
 
   -- before cycle c just the jobs before a place have had their effects
-  pub run_until : (c : ℕ) (before after : List Job) (w : World) → Each (Done c) before → Each (Later c) after → run_before val c (before ++ after) w ≡ run_jobs val before w
-  run_until c before after w h k = run_before_append c before after w ∙ run_later c after (run_before val c before w) k ∙ run_done c before w h
+  pub run_until : (c : ℕ) (before after : List Job) (w : World) → Each (Done c) before → Each (Later c) after
+      → run_before val c (before ++ after) w ≡ run_jobs val before w
+  run_until c before after w h k = run_before_append c before after w ∙ run_later c after (run_before val c before w) k
+      ∙ run_done c before w h
 
   -- before the cycle of an access just the jobs before it have had their effects
-  pub access_sees : (jobs before after : List Job) (j : Job) (w : World) → jobs ≡ before ++ j ∷ after → Pairwise InOrder jobs → is_access j.instr.op ≡ true → run_before val j.cycle jobs w ≡ run_jobs val before w
+  pub access_sees : (jobs before after : List Job) (j : Job) (w : World) → jobs ≡ before ++ j ∷ after → Pairwise InOrder jobs
+      → is_access j.instr.op ≡ true → run_before val j.cycle jobs w ≡ run_jobs val before w
   access_sees jobs before after j w e o a =
       let o' = subst (Pairwise InOrder) e o in
       let b = pairwise_before InOrder before after j o' in
       let f = pairwise_after InOrder before after j o' in
       ap (λ js. run_before val j.cycle js w) e
       ∙ run_until j.cycle before (j ∷ after) w
-      (each_of (Done j.cycle) before (λ i m q. let r = each_member (λ (i : Job). InOrder i j) before i b m in r.after_effect q a))
-      ((λ q. let z : j.cycle ≤ j.cycle = omega arith in z), each_of (Later j.cycle) after (λ i m q. let r = each_member (InOrder j) after i f m in r.before_effect a q))
+      (each_of (Done j.cycle) before (λ i m q. let r = each_member (λ (i : Job). InOrder i j) before i b m in r.after_effect q a)) (
+        (λ q. let z : j.cycle ≤ j.cycle = omega arith in z),
+        each_of (Later j.cycle) after
+            (λ i m q. let r = each_member (InOrder j) after i f m in r.before_effect a q),
+      )
 
   -- after the cycle of an effect it has been had too
-  pub effect_done : (jobs before after : List Job) (j : Job) (w : World) → jobs ≡ before ++ j ∷ after → Pairwise InOrder jobs → is_effect j.instr.op ≡ true → run_before val (j.cycle + 1) jobs w ≡ after_job val j (run_before val j.cycle jobs w)
+  pub effect_done : (jobs before after : List Job) (j : Job) (w : World) → jobs ≡ before ++ j ∷ after → Pairwise InOrder jobs
+      → is_effect j.instr.op ≡ true → run_before val (j.cycle + 1) jobs w ≡ after_job val j (run_before val j.cycle jobs w)
   effect_done jobs before after j w e o a =
       let o' = subst (Pairwise InOrder) e o in
       let b = pairwise_before InOrder before after j o' in
@@ -160,14 +171,17 @@ module _ (val : ℕ → ℕ) where
       ap (λ js. run_before val (c + 1) js w) e
       ∙ run_before_append (c + 1) before (j ∷ after) w
       ∙ ap (λ x. run_before val (c + 1) (j ∷ after) x) (run_done (c + 1) before w
-      (each_of (Done (c + 1)) before (λ i m q. let r = each_member (λ (i : Job). InOrder i j) before i b m in let z = r.after_effect q (effect_access j.instr.op a) in omega arith)))
+      (each_of (Done (c + 1)) before (λ i m q. let r = each_member (λ (i : Job). InOrder i j) before i b m in let z =
+      r.after_effect q (effect_access j.instr.op a) in omega arith)))
       ∙ ap (run_before val (c + 1) after) (done_one (c + 1) j (run_jobs val before w) (λ q. omega arith))
       ∙ run_later (c + 1) after (after_job val j (run_jobs val before w))
-      (each_of (Later (c + 1)) after (λ i m q. let r = each_member (InOrder j) after i f m in let z = r.after_effect a (effect_access i.instr.op q) in omega arith))
+      (each_of (Later (c + 1)) after (λ i m q. let r = each_member (InOrder j) after i f m in let z =
+      r.after_effect a (effect_access i.instr.op q) in omega arith))
       ∙ ap (after_job val j) (sym (access_sees jobs before after j w e o (effect_access j.instr.op a)))
 
   -- a cycle without an effect
-  pub none_done : (c : ℕ) (jobs : List Job) (w : World) → Each (λ j. j.cycle ≡ c → is_effect j.instr.op ≡ false) jobs → run_before val (c + 1) jobs w ≡ run_before val c jobs w
+  pub none_done : (c : ℕ) (jobs : List Job) (w : World) → Each (λ j. j.cycle ≡ c → is_effect j.instr.op ≡ false) jobs
+      → run_before val (c + 1) jobs w ≡ run_before val c jobs w
   none_done c [] w h = refl
   none_done c (j ∷ js) w h = ap (run_before val (c + 1) js) (one (h.0)) ∙ none_done c js (after_if (nat_lt j.cycle c) val j w) h.1
     where
@@ -175,8 +189,10 @@ module _ (val : ℕ → ℕ) where
       one g = ⊎_elim
           (λ (lt : j.cycle < c). ap (λ (x : Bool). after_if x val j w) (lt_true j.cycle (c + 1) (omega arith) ∙ sym (lt_true j.cycle c lt)))
           (λ (le : c ≤ j.cycle). ⊎_elim
-          (λ (e : j.cycle ≡ c). later_free (λ b. after_if b val j w) (nat_lt j.cycle (c + 1)) (nat_lt j.cycle c) (idle_by j.instr.op j w (g e)))
-          (λ (n : j.cycle ≢ c). ap (λ (x : Bool). after_if x val j w) (lt_false j.cycle (c + 1) (omega arith) ∙ sym (lt_false j.cycle c le))) (cases_eq j.cycle c))
+          (λ (e : j.cycle ≡ c). later_free (λ b. after_if b val j w) (nat_lt j.cycle (c + 1)) (nat_lt j.cycle c)
+          (idle_by j.instr.op j w (g e)))
+          (λ (n : j.cycle ≢ c). ap (λ (x : Bool). after_if x val j w)
+          (lt_false j.cycle (c + 1) (omega arith) ∙ sym (lt_false j.cycle c le))) (cases_eq j.cycle c))
           (cases_lt j.cycle c)
         where
           later_free : (f : Bool → World) (a b : Bool) → f true ≡ f false → f a ≡ f b
@@ -194,24 +210,32 @@ module _ (val : ℕ → ℕ) where
   abbrev pub ReadRight : PacketState → List Job → Type 0
   ReadRight s js = Each (λ j. is_access j.instr.op ≡ true → map (reg_in s) j.instr.srcs ≡ map val j.reads) js
 
-  world_kept : (t : Table) (o : Option Instr) (replies : List Reply) (s : PacketState) (is : List Instr) → o ≡ None → replies ≡ s.replies → memory_after s is s.memory ≡ s.memory → world_of (settled t o replies s is) ≡ world_of s
+  world_kept : (t : Table) (o : Option Instr) (replies : List Reply) (s : PacketState) (is : List Instr) → o ≡ None → replies ≡ s.replies
+      → memory_after s is s.memory ≡ s.memory → world_of (settled t o replies s is) ≡ world_of s
   world_kept t None replies s is e r m = ap (λ x. let w : World = record { memory = x; calls = s.calls; replies = s.replies } in w) m
   world_kept t (Some call) replies s is e r m = absurd (cc e)
 
-  world_stored : (t : Table) (o : Option Instr) (replies : List Reply) (s : PacketState) (is : List Instr) (m : List (ℕ × ℕ)) → o ≡ None → memory_after s is s.memory ≡ m → world_of (settled t o replies s is) ≡ record { memory = m; calls = s.calls; replies = s.replies }
+  world_stored : (t : Table) (o : Option Instr) (replies : List Reply) (s : PacketState) (is : List Instr) (m : List (ℕ × ℕ)) → o ≡ None
+      → memory_after s is s.memory ≡ m → world_of (settled t o replies s is) ≡ record { memory = m; calls = s.calls; replies = s.replies }
   world_stored t None replies s is m e k = ap (λ x. let w : World = record { memory = x; calls = s.calls; replies = s.replies } in w) k
   world_stored t (Some call) replies s is m e k = absurd (cc e)
 
-  world_called : (t : Table) (o : Option Instr) (replies : List Reply) (s : PacketState) (is : List Instr) (call : Instr) → o ≡ Some call → CanAnswer o replies → replies ≡ s.replies → memory_after s is s.memory ≡ s.memory
+  world_called : (t : Table) (o : Option Instr) (replies : List Reply) (s : PacketState) (is : List Instr) (call : Instr) → o ≡ Some call
+      → CanAnswer o replies → replies ≡ s.replies → memory_after s is s.memory ≡ s.memory
       → world_of (settled t o replies s is) ≡ replied_world (record_of s call) (world_of s) replies
   world_called t None replies s is call e k r m = absurd (cc e)
   world_called t (Some q) [] s is call e k r m = absurd k
   world_called t (Some q) (reply ∷ rest) s is call e k r m =
       let same : q ≡ call = cc e in
       ap (λ x. let w : World = record { memory = set_words reply.changed x; calls = s.calls ++ record_of s q ∷ []; replies = rest } in w) m
-      ∙ ap (λ (x : Instr). let w : World = record { memory = set_words reply.changed s.memory; calls = s.calls ++ record_of s x ∷ []; replies = rest } in w) same
+      ∙ ap (λ (x : Instr). let w : World = record {
+        memory = set_words reply.changed s.memory;
+        calls = s.calls ++ record_of s x ∷ [];
+        replies = rest;
+      } in w) same
 
-  store_by : (op : Op) (j : Job) (w : World) → op ≡ Store → after_by op val j w ≡ record w { memory = set_word (address val j) (slice_index (map val j.reads) 1) w.memory }
+  store_by : (op : Op) (j : Job) (w : World) → op ≡ Store → after_by op val j w ≡ record w
+      { memory = set_word (address val j) (slice_index (map val j.reads) 1) w.memory }
   store_by op j w e = ap (λ (p : Op). after_by p val j w) e
 
   call_by : (op : Op) (j : Job) (w : World) → op ≡ Call → after_by op val j w ≡ replied_world (call_of val j w) w w.replies
@@ -226,7 +250,9 @@ module _ (val : ℕ → ℕ) where
   store_op Store h = refl
   store_op _ h = absurd (cc h)
 
-  module _ (t : Table) (jobs js : List Job) (c : ℕ) (w : World) (order : Pairwise InOrder jobs) (here : (j : Job) → Member j js → is_access j.instr.op ≡ true → Member j jobs × (j.cycle ≡ c)) (all : (j : Job) → Member j jobs → j.cycle ≡ c → Member j js)
+  module _ (t : Table) (jobs js : List Job) (c : ℕ) (w : World) (order : Pairwise InOrder jobs)
+      (here : (j : Job) → Member j js → is_access j.instr.op ≡ true → Member j jobs × (j.cycle ≡ c))
+      (all : (j : Job) → Member j jobs → j.cycle ≡ c → Member j js)
       (one : Pairwise (NotBoth writes_memory) js) (same_cycle : Each (λ j. j.cycle ≡ c) js) where
     -- a store and a call never share a cycle
     apart : (i j : Job) → Member i js → Member j js → i.instr.op ≡ Store → j.instr.op ≡ Call → ⊥
@@ -242,17 +268,21 @@ module _ (val : ℕ → ℕ) where
     one_store : Pairwise (λ i j. i.op ≡ Store → j.op ≡ Store → ⊥) (instrs js)
     one_store = pairwise_map (λ i j. i.op ≡ Store → j.op ≡ Store → ⊥) (λ (j : Job). j.instr) js
         (pairwise_more (NotBoth writes_memory) (λ (i j : Job). i.instr.op ≡ Store → j.instr.op ≡ Store → ⊥) js
-        (λ i j m n b p q. b (each_member (λ (a : Job). a.cycle ≡ c) js i same_cycle m ∙ sym (each_member (λ (a : Job). a.cycle ≡ c) js j same_cycle n)) (ap writes_memory p) (ap writes_memory q)) one)
+        (λ i j m n b p q. b (each_member (λ (a : Job). a.cycle ≡ c) js i same_cycle m
+        ∙ sym (each_member (λ (a : Job). a.cycle ≡ c) js j same_cycle n)) (ap writes_memory p) (ap writes_memory q)) one)
 
     -- the effects of the packet of cycle c
-    pub world_next : (s : PacketState) (o : Option Instr) → the_call (instrs js) ≡ o → CanAnswer o s.replies → ReadRight s js → world_of s ≡ run_before val c jobs w → world_of (settled t o s.replies s (instrs js)) ≡ run_before val (c + 1) jobs w
+    pub world_next : (s : PacketState) (o : Option Instr) → the_call (instrs js) ≡ o → CanAnswer o s.replies → ReadRight s js
+        → world_of s ≡ run_before val c jobs w → world_of (settled t o s.replies s (instrs js)) ≡ run_before val (c + 1) jobs w
     world_next s (Some call) e can right now =
         let r = call_job js call e in
         let j = r.0 in
         let h = here j r.1 (ap is_access r.3) in
         let p = split_at jobs j h.0 in
-        let no_store = each_map (λ (i : Instr). is_store i.op ≡ false) (λ (j : Job). j.instr) js (each_of (λ (i : Job). is_store i.instr.op ≡ false) js (λ i m. not_store i.instr.op (λ q. apart i j m r.1 q r.3))) in
-        let args = each_member (λ (j : Job). is_access j.instr.op ≡ true → map (reg_in s) j.instr.srcs ≡ map val j.reads) js j right r.1 (ap is_access r.3) in
+        let no_store = each_map (λ (i : Instr). is_store i.op ≡ false) (λ (j : Job). j.instr) js
+        (each_of (λ (i : Job). is_store i.instr.op ≡ false) js (λ i m. not_store i.instr.op (λ q. apart i j m r.1 q r.3))) in
+        let args = each_member (λ (j : Job). is_access j.instr.op ≡ true → map (reg_in s) j.instr.srcs ≡ map val j.reads) js j right r.1
+        (ap is_access r.3) in
         world_called t (Some call) s.replies s (instrs js) call refl can refl (memory_none s (instrs js) s.memory no_store)
         ∙ ap (λ (i : Instr). replied_world (record_of s i) (world_of s) s.replies) (sym r.2)
         ∙ ap (λ xs. replied_world (record { name = unwrap_or j.instr.label []; args = xs; memory = s.memory }) (world_of s) s.replies) args
@@ -267,7 +297,8 @@ module _ (val : ℕ → ℕ) where
         not_store _ h = refl
     world_next s None e can right now = stored_or_not (find (λ (i : Instr). is_store i.op) (instrs js)) refl
       where
-        stored_or_not : (q : Option Instr) → find (λ (i : Instr). is_store i.op) (instrs js) ≡ q → world_of (settled t None s.replies s (instrs js)) ≡ run_before val (c + 1) jobs w
+        stored_or_not : (q : Option Instr) → find (λ (i : Instr). is_store i.op) (instrs js) ≡ q
+            → world_of (settled t None s.replies s (instrs js)) ≡ run_before val (c + 1) jobs w
         stored_or_not None q =
             let none = none_found (λ (i : Instr). is_store i.op) (instrs js) q in
             let no_call = none_found (λ (i : Instr). is_call i.op) (instrs js) e in
@@ -275,8 +306,10 @@ module _ (val : ℕ → ℕ) where
             ∙ sym (none_done c jobs w (each_of (λ (j : Job). j.cycle ≡ c → is_effect j.instr.op ≡ false) jobs (λ j m cj.
             let n = member_map (λ (j : Job). j.instr) js j (all j m cj) in
             not_effect j.instr.op
-            (λ p. let a = each_member (λ (i : Instr). is_store i.op ≡ false) (instrs js) j.instr none n in let z : true ≡ false = sym (ap is_store p) ∙ a in absurd (cc z))
-            (λ p. let a = each_member (λ (i : Instr). is_call i.op ≡ false) (instrs js) j.instr no_call n in let z : true ≡ false = sym (ap is_call p) ∙ a in absurd (cc z)))))
+            (λ p. let a = each_member (λ (i : Instr). is_store i.op ≡ false) (instrs js) j.instr none n in let z : true ≡ false =
+            sym (ap is_store p) ∙ a in absurd (cc z))
+            (λ p. let a = each_member (λ (i : Instr). is_call i.op ≡ false) (instrs js) j.instr no_call n in let z : true ≡ false =
+            sym (ap is_call p) ∙ a in absurd (cc z)))))
         stored_or_not (Some i) q =
             let r = found (λ (i : Instr). is_store i.op) (instrs js) i q in
             let x = member_map_of (λ (j : Job). j.instr) js i r.0 in
@@ -284,9 +317,15 @@ module _ (val : ℕ → ℕ) where
             let op : j.instr.op ≡ Store = ap (λ (i : Instr). i.op) x.2 ∙ store_op i.op r.1 in
             let h = here j x.1 (ap is_access op) in
             let p = split_at jobs j h.0 in
-            let args = each_member (λ (j : Job). is_access j.instr.op ≡ true → map (reg_in s) j.instr.srcs ≡ map val j.reads) js j right x.1 (ap is_access op) in
-            world_stored t None s.replies s (instrs js) _ refl (memory_one s (instrs js) s.memory j.instr (member_map (λ (j : Job). j.instr) js j x.1) op one_store)
-            ∙ ap (λ xs. let w : World = record { memory = set_word (address_of (slice_index xs 0) j.instr.imm) (slice_index xs 1) s.memory; calls = s.calls; replies = s.replies } in w) args
+            let args = each_member (λ (j : Job). is_access j.instr.op ≡ true → map (reg_in s) j.instr.srcs ≡ map val j.reads) js j right x.1
+            (ap is_access op) in
+            world_stored t None s.replies s (instrs js) _ refl (memory_one s (instrs js) s.memory j.instr
+            (member_map (λ (j : Job). j.instr) js j x.1) op one_store)
+            ∙ ap (λ xs. let w : World = record {
+              memory = set_word (address_of (slice_index xs 0) j.instr.imm) (slice_index xs 1) s.memory;
+              calls = s.calls;
+              replies = s.replies;
+            } in w) args
             ∙ sym (store_by j.instr.op j (world_of s) op)
             ∙ ap (after_job val j) now
             ∙ ap (λ n. after_job val j (run_before val n jobs w)) (sym h.1)

@@ -5,8 +5,10 @@ use Rattle.std.specs.List.{find}
 use Rattle.un_isa.specs.declared.op.Op.{Op}
 use Rattle.un_isa.specs.declared.op.Op.TheVariants.{Jump, JumpIf, JumpIfNot, Jumpr}
 use Rattle.un_isa.specs.declared.instr.Instr.{Instr}
-use Rattle.un_packet.specs.Step.{PacketState, PacketStep, Went, Jumped, Stopped, Returned, operand_in, is_return, jumps, jumps_by, leads, goes_on}
-use Rattle.un_model.proofs.Lists.{Each, Pairwise, Member, each_member, each_of, member_map, member_map_of, found, none_found, find_none, pairwise_two}
+use Rattle.un_packet.specs.Step.{PacketState, PacketStep, Went, Jumped, Stopped, Returned, operand_in, is_return, jumps, jumps_by, leads}
+use Rattle.un_packet.specs.Step.{goes_on}
+use Rattle.un_model.proofs.Lists.{Each, Pairwise, Member, each_member, each_of, member_map, member_map_of, found, none_found, find_none}
+use Rattle.un_model.proofs.Lists.{pairwise_two}
 use Rattle.un_emit.proofs.Settled.{the_return}
 use Rattle.un_emit.proofs.Timed.{Job, instrs, NotBoth, is_transfer, is_control}
 
@@ -26,11 +28,13 @@ abbrev pub exit_of : Option Job → (Job → ℕ) → PacketState → PacketStep
 exit_of None v u = Went u
 exit_of (Some j) v u = exit_by j.instr.op (v j) j.instr.label u
 
-found_one : (test : Instr → Bool) (js : List Job) (j : Job) → Member j js → test j.instr ≡ true → ((i : Job) → Member i js → test i.instr ≡ true → i ≡ j) → find test (instrs js) ≡ Some j.instr
+found_one : (test : Instr → Bool) (js : List Job) (j : Job) → Member j js → test j.instr ≡ true
+    → ((i : Job) → Member i js → test i.instr ≡ true → i ≡ j) → find test (instrs js) ≡ Some j.instr
 found_one test js j m p alone = go (find test (instrs js)) refl
   where
     go : (o : Option Instr) → find test (instrs js) ≡ o → find test (instrs js) ≡ Some j.instr
-    go None e = let k = each_member (λ (i : Instr). test i ≡ false) (instrs js) j.instr (none_found test (instrs js) e) (member_map (λ (j : Job). j.instr) js j m) in let z : true ≡ false = sym p ∙ k in absurd (cc z)
+    go None e = let k = each_member (λ (i : Instr). test i ≡ false) (instrs js) j.instr (none_found test (instrs js) e)
+        (member_map (λ (j : Job). j.instr) js j m) in let z : true ≡ false = sym p ∙ k in absurd (cc z)
     go (Some i) e =
         let f = found test (instrs js) i e in
         let r = member_map_of (λ (j : Job). j.instr) js i f.0 in
@@ -38,7 +42,8 @@ found_one test js j m p alone = go (find test (instrs js)) refl
         e ∙ ap Some (sym r.2 ∙ ap (λ (k : Job). k.instr) same)
 
 found_none : (test : Instr → Bool) (js : List Job) → ((i : Job) → Member i js → test i.instr ≡ false) → find test (instrs js) ≡ None
-found_none test js h = find_none test (instrs js) (Rattle.un_model.proofs.Lists.each_map (λ i. test i ≡ false) (λ (j : Job). j.instr) js (each_of (λ (i : Job). test i.instr ≡ false) js h))
+found_none test js h = find_none test (instrs js) (Rattle.un_model.proofs.Lists.each_map (λ i. test i ≡ false) (λ (j : Job). j.instr) js
+    (each_of (λ (i : Job). test i.instr ≡ false) js h))
 
 return_transfer : (op : Op) → is_return op ≡ true → is_transfer op ≡ true
 return_transfer Jumpr h = refl
@@ -81,37 +86,51 @@ module _ (c : ℕ) (js : List Job) (same : Each (λ j. j.cycle ≡ c) js) (one :
   by_none : transfer_of js ≡ None → leads (the_return (instrs js)) s (instrs js) u ≡ Went u
   by_none e =
       let none = none_found (λ (j : Job). is_transfer j.instr.op) js e in
-      let no : (i : Job) → Member i js → is_transfer i.instr.op ≡ true → ⊥ = λ i m p. let k = each_member (λ (j : Job). is_transfer j.instr.op ≡ false) js i none m in let z : true ≡ false = sym p ∙ k in absurd (cc z) in
-      let r = found_none (λ (i : Instr). is_return i.op) js (λ i m. is_false (is_return i.instr.op) (λ p. no i m (return_transfer i.instr.op p))) in
+      let no : (i : Job) → Member i js → is_transfer i.instr.op ≡ true
+      → ⊥ = λ i m p. let k = each_member (λ (j : Job). is_transfer j.instr.op ≡ false) js i none m in let z : true ≡ false = sym p
+      ∙ k in absurd (cc z) in
+      let r = found_none (λ (i : Instr). is_return i.op) js (λ i m. is_false (is_return i.instr.op)
+      (λ p. no i m (return_transfer i.instr.op p))) in
       let j = found_none (jumps s) js (λ i m. is_false (jumps s i.instr) (λ p. no i m (jump_transfer i.instr.op s i.instr p))) in
       ap (λ (x : Option Instr). leads x s (instrs js) u) r ∙ ap (λ (x : Option Instr). goes_on x u) j
 
   -- a jump that is taken or not
-  by_jump : (j : Job) → Member j js → is_transfer j.instr.op ≡ true → is_return j.instr.op ≡ false → leads (the_return (instrs js)) s (instrs js) u ≡ (if jumps s j.instr then Jumped (unwrap_or j.instr.label []) u else Went u)
+  by_jump : (j : Job) → Member j js → is_transfer j.instr.op ≡ true → is_return j.instr.op ≡ false
+      → leads (the_return (instrs js)) s (instrs js) u ≡ (if jumps s j.instr then Jumped (unwrap_or j.instr.label []) u else Went u)
   by_jump j m p q =
       let r = found_none (λ (i : Instr). is_return i.op) js (λ i n. is_false (is_return i.instr.op) (λ x.
-      let e = alone j m p i n (return_transfer i.instr.op x) in let z : true ≡ false = sym x ∙ ap (λ (k : Job). is_return k.instr.op) e ∙ q in absurd (cc z))) in
+      let e = alone j m p i n (return_transfer i.instr.op x) in let z : true ≡ false = sym x ∙ ap (λ (k : Job). is_return k.instr.op) e
+      ∙ q in absurd (cc z))) in
       ap (λ (x : Option Instr). leads x s (instrs js) u) r ∙ ⊎_elim
       (λ (t : jumps s j.instr ≡ true).
-      ap (λ (x : Option Instr). goes_on x u) (found_one (jumps s) js j m t (λ i n x. alone j m p i n (jump_transfer i.instr.op s i.instr x)))
+      ap (λ (x : Option Instr). goes_on x u) (found_one (jumps s) js j m t
+      (λ i n x. alone j m p i n (jump_transfer i.instr.op s i.instr x)))
       ∙ sym (ap (λ (b : Bool). if b then Jumped (unwrap_or j.instr.label []) u else Went u) t))
       (λ (f : jumps s j.instr ≡ false).
       ap (λ (x : Option Instr). goes_on x u) (found_none (jumps s) js (λ i n. is_false (jumps s i.instr) (λ x.
-      let e = alone j m p i n (jump_transfer i.instr.op s i.instr x) in let z : true ≡ false = sym x ∙ ap (λ (k : Job). jumps s k.instr) e ∙ f in absurd (cc z))))
+      let e = alone j m p i n (jump_transfer i.instr.op s i.instr x) in let z : true ≡ false = sym x ∙ ap (λ (k : Job). jumps s k.instr) e
+      ∙ f in absurd (cc z))))
       ∙ sym (ap (λ (b : Bool). if b then Jumped (unwrap_or j.instr.label []) u else Went u) f))
       (false_or_true (jumps s j.instr))
 
-  by_return : (j : Job) → Member j js → is_return j.instr.op ≡ true → leads (the_return (instrs js)) s (instrs js) u ≡ Stopped (Returned (slice_index u.regs 0) (v j)) u
+  by_return : (j : Job) → Member j js → is_return j.instr.op ≡ true
+      → leads (the_return (instrs js)) s (instrs js) u ≡ Stopped (Returned (slice_index u.regs 0) (v j)) u
   by_return j m p =
       ap (λ (x : Option Instr). leads x s (instrs js) u)
-      (found_one (λ (i : Instr). is_return i.op) js j m p (λ i n x. alone j m (return_transfer j.instr.op p) i n (return_transfer i.instr.op x)))
+      (found_one (λ (i : Instr). is_return i.op) js j m p (λ i n x. alone j m (return_transfer j.instr.op p) i n
+      (return_transfer i.instr.op x)))
 
-  by_op : (op : Op) (j : Job) → Member j js → op ≡ j.instr.op → is_transfer op ≡ true → leads (the_return (instrs js)) s (instrs js) u ≡ exit_by op (v j) j.instr.label u
-  by_op Jump j m e h = by_jump j m (ap is_transfer (sym e)) (ap is_return (sym e)) ∙ ap (λ (op : Op). if jumps_by op s j.instr then Jumped (unwrap_or j.instr.label []) u else Went u) (sym e)
+  by_op : (op : Op) (j : Job) → Member j js → op ≡ j.instr.op → is_transfer op ≡ true
+      → leads (the_return (instrs js)) s (instrs js) u ≡ exit_by op (v j) j.instr.label u
+  by_op Jump j m e h = by_jump j m (ap is_transfer (sym e)) (ap is_return (sym e))
+      ∙ ap (λ (op : Op). if jumps_by op s j.instr then Jumped (unwrap_or j.instr.label []) u else Went u) (sym e)
   by_op JumpIf j m e h =
-      by_jump j m (ap is_transfer (sym e)) (ap is_return (sym e)) ∙ ap (λ (op : Op). if jumps_by op s j.instr then Jumped (unwrap_or j.instr.label []) u else Went u) (sym e)
-      ∙ elim (nat_eq (v j) 0) as (λ b. (if not b then Jumped (unwrap_or j.instr.label []) u else Went u) ≡ (if b then Went u else Jumped (unwrap_or j.instr.label []) u)) [ true ↦ refl | false ↦ refl ]
-  by_op JumpIfNot j m e h = by_jump j m (ap is_transfer (sym e)) (ap is_return (sym e)) ∙ ap (λ (op : Op). if jumps_by op s j.instr then Jumped (unwrap_or j.instr.label []) u else Went u) (sym e)
+      by_jump j m (ap is_transfer (sym e)) (ap is_return (sym e))
+      ∙ ap (λ (op : Op). if jumps_by op s j.instr then Jumped (unwrap_or j.instr.label []) u else Went u) (sym e)
+      ∙ elim (nat_eq (v j) 0) as (λ b. (if not b then Jumped (unwrap_or j.instr.label []) u else Went u) ≡
+      (if b then Went u else Jumped (unwrap_or j.instr.label []) u)) [ true ↦ refl | false ↦ refl ]
+  by_op JumpIfNot j m e h = by_jump j m (ap is_transfer (sym e)) (ap is_return (sym e))
+      ∙ ap (λ (op : Op). if jumps_by op s j.instr then Jumped (unwrap_or j.instr.label []) u else Went u) (sym e)
   by_op Jumpr j m e h = by_return j m (ap is_return (sym e))
   by_op _ j m e h = absurd (cc h)
 

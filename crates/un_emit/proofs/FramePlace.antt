@@ -1,5 +1,6 @@
 -- The words of the frame that Spill and Reload reach, and predicates that stand in general registers or slots.
-use Rattle.std.proofs.Common.{ℕ, pos, ◌≡◌, ◌<◌, ◌≤◌, ◌+◌, ◌-◌, ◌*◌, ◌/◌, ◌%◌, ◌^◌, Bool, true, false, ◌&&◌, length, get_or, ◌⊎◌, inl, inr, refl, sym, ap, ◌∙◌, arith}
+use Rattle.std.proofs.Common.{ℕ, pos, ◌≡◌, ◌<◌, ◌≤◌, ◌+◌, ◌-◌, ◌*◌, ◌/◌, ◌%◌, ◌^◌, Bool, true, false, ◌&&◌, length, get_or, ◌⊎◌, inl, inr}
+use Rattle.std.proofs.Common.{refl, sym, ap, ◌∙◌, arith}
 use Rattle.std.specs.Prelude.{Option, Some, None, nat_eq, nat_lt, nat_le, if◌then◌else◌}
 use Rattle.std.proofs.lemmas.Bool.{eq-eqb}
 use Rattle.std.proofs.lemmas.Bool.Decides.{nat_tests}
@@ -45,7 +46,8 @@ placed base n words lt even =
     let b : nat_lt ((base + 4 * n - base) / 4) words ≡ true = lt_true ((base + 4 * n - base) / 4) words (omega (arith, q)) in
     let r : (base + 4 * n) % 4 ≡ 0 = omega arith in
     let c = eq-eqb ((base + 4 * n) % 4) 0 r in
-    let all : (nat_le base (base + 4 * n) && nat_lt ((base + 4 * n - base) / 4) words && nat_eq ((base + 4 * n) % 4) 0) ≡ true = rw (a, b, c) refl in
+    let all : (nat_le base (base + 4 * n) && nat_lt ((base + 4 * n - base) / 4) words && nat_eq ((base + 4 * n) % 4) 0) ≡ true =
+    rw (a, b, c) refl in
     ap (λ (x : Bool). if x then Some ((base + 4 * n - base) / 4) else None) all ∙ ap Some q
 
 -- the frame of a run: its first address and its words
@@ -54,11 +56,14 @@ pub record IsFrame (base slots : ℕ) : Type 0 where
   pub inside : base + 4 * slots < 2 ^ 32
 
 -- an access to word n of the frame
-pub frame_place_is : (s : PacketState) (i : Instr) (base slots n : ℕ) → IsFrame base slots → get_or s.regs STACK 0 ≡ base → s.frame_start ≡ base → length s.frame ≡ slots → n < slots → i.imm ≡ pos (4 * n) → frame_place s i ≡ Some n
+pub frame_place_is : (s : PacketState) (i : Instr) (base slots n : ℕ) → IsFrame base slots → get_or s.regs STACK 0 ≡ base
+    → s.frame_start ≡ base → length s.frame ≡ slots → n < slots → i.imm ≡ pos (4 * n) → frame_place s i ≡ Some n
 frame_place_is s i base slots n f stack start long lt e =
     let g = f.inside in
-    let a : address_of (get_or s.regs STACK 0) i.imm ≡ base + 4 * n = ap (λ x. address_of x i.imm) stack ∙ ap (address_of base) e ∙ near base (4 * n) (omega arith) in
-    ap (λ x. place_at x s.frame_start (length s.frame)) a ∙ ap (λ x. place_at (base + 4 * n) x (length s.frame)) start ∙ ap (place_at (base + 4 * n) base) long ∙ placed base n slots lt f.even
+    let a : address_of (get_or s.regs STACK 0) i.imm ≡ base + 4 * n = ap (λ x. address_of x i.imm) stack ∙ ap (address_of base) e
+    ∙ near base (4 * n) (omega arith) in
+    ap (λ x. place_at x s.frame_start (length s.frame)) a ∙ ap (λ x. place_at (base + 4 * n) x (length s.frame)) start
+    ∙ ap (place_at (base + 4 * n) base) long ∙ placed base n slots lt f.even
 
 -- ---- what stands at a place
 
@@ -80,7 +85,8 @@ pub held_wide : (p v : ℕ) → IsWide p → as_held Pred p v ≡ v * 255
 held_wide p v h = let e = wide_test p h in ap (λ (b : Bool). if b then v else v * 255) e
 
 pub held_pred : (p v : ℕ) → 32 ≤ p → p < 36 → as_held Pred p v ≡ v
-held_pred p v le lt = let a = le_true 32 p le in let b = lt_true p 36 lt in let e : (nat_le 32 p && nat_lt p 36) ≡ true = rw (a, b) refl in ap (λ (b : Bool). if b then v else v * 255) e
+held_pred p v le lt = let a = le_true 32 p le in let b = lt_true p 36 lt in let e : (nat_le 32 p && nat_lt p 36) ≡ true = rw (a, b) refl in
+    ap (λ (b : Bool). if b then v else v * 255) e
 
 -- in two such places a value stands alike
 pub held_alike : (k : Kind) (p q v : ℕ) → IsWide p → IsWide q → as_held k p v ≡ as_held k q v

@@ -14,7 +14,7 @@ use Rattle.un_model.proofs.Lists.{Member, member_map}
 use Rattle.un_model.proofs.Placed.{Placed, spot, spots_of, region_placed}
 use Rattle.un_model.proofs.PlacedSchedules.{all, member_joined, member_places}
 use Rattle.un_model.proofs.TempKinds.{kind_at, kind_or, own_kind, carried_at}
-use Rattle.un_emit.proofs.Readings.{Solved, numbered, fit_kinds, placed_good}
+use Rattle.un_model.proofs.Readings.{Solved, numbered, fit_kinds, placed_good}
 use Rattle.un_emit.proofs.BlockJobs.{InRegion}
 use Rattle.un_emit.proofs.BlockValues.{of_all}
 use Rattle.un_ir.specs.declared.extended.ExtOp.{ExtOp}
@@ -25,7 +25,8 @@ use Rattle.un_emit.proofs.BlockEnds.{owner_of}
 use Rattle.un_emit.proofs.BlockStarts.{parts}
 use Rattle.un_emit.proofs.Stack.{placed_for}
 
-module _ (e : Ext) (o : Options) (values : List ℕ) (h : Solved e o values) (k : ℕ) (block : ExtBlock) (r : InRegion (all e o values) k block) (at : slice_get e.blocks k ≡ Some block) where
+module _ (e : Ext) (o : Options) (values : List ℕ) (h : Solved e o values) (k : ℕ) (block : ExtBlock)
+    (r : InRegion (all e o values) k block) (at : slice_get e.blocks k ≡ Some block) where
   -- the values at the block's start
   pub record InOp : Type 0 where
     pub placed : Placed
@@ -56,16 +57,20 @@ module _ (e : Ext) (o : Options) (values : List ℕ) (h : Solved e o values) (k 
       let p = i.placed in
       let g = placed_good e o values h p (of_all e o values h k block r p i.member).0 in
       let f = g.keeps in
-      ap length i.results ∙ f.results ∙ ap (result_count e.table p.owner) i.kind ∙ ap (λ (b : ExtBlock). length b.live_in + length (saved_registers e.table)) (owner_of e o values h k block r at p i.member)
+      ap length i.results ∙ f.results ∙ ap (result_count e.table p.owner) i.kind
+      ∙ ap (λ (b : ExtBlock). length b.live_in + length (saved_registers e.table)) (owner_of e o values h k block r at p i.member)
 
-  pub start_kind : (j : ℕ) (x : TempId) → slice_get (in_temps block.ops) j ≡ Some x → kind_at e o values (numbered e o values h) (fit_kinds e o values h) x.0 ≡ kind_or (in_kinds e.names block.live_in (length (in_temps block.ops))) j
+  pub start_kind : (j : ℕ) (x : TempId) → slice_get (in_temps block.ops) j ≡ Some x
+      → kind_at e o values (numbered e o values h) (fit_kinds e o values h) x.0 ≡ kind_or
+      (in_kinds e.names block.live_in (length (in_temps block.ops))) j
   start_kind j x q =
       let i = in_op in
       let p = i.placed in
       let m = (of_all e o values h k block r p i.member).0 in
       let got : slice_get p.op.results j ≡ Some x = ap (λ xs. slice_get xs j) (sym i.results) ∙ q in
       let u = spot p j x in
-      let mu = member_joined (map spots_of (all e o values)) (spots_of p) u (member_map spots_of (all e o values) p m) (member_places (spot p) p.op.results 0 j j x (omega arith) got) in
+      let mu = member_joined (map spots_of (all e o values)) (spots_of p) u (member_map spots_of (all e o values) p m)
+      (member_places (spot p) p.op.results 0 j j x (omega arith) got) in
       own_kind e o values (numbered e o values h) (fit_kinds e o values h) u mu (ap (λ (y : ExtKind). carried_at y u) i.kind)
       ∙ ap (λ (y : ExtKind). kind_or (defined_kinds e.names p.owner y p.op) j) i.kind
       ∙ ap (λ (b : ExtBlock). kind_or (in_kinds e.names b.live_in (length p.op.results)) j) (owner_of e o values h k block r at p i.member)

@@ -1,5 +1,6 @@
 -- What each job of a solution's block is: its operands and its result lie where its instruction wants them.
-use Rattle.std.proofs.Common.{ℕ, ℤ, zero, suc, pos, ◌≡◌, ◌≢◌, ◌<◌, ◌≤◌, ◌+◌, ◌-◌, ◌*◌, Bool, true, false, ◌&&◌, List, [], ◌∷◌, length, map, take, inl, inr, ⊎_elim, refl, sym, ap, ◌∙◌, subst, arith}
+use Rattle.std.proofs.Common.{ℕ, ℤ, zero, suc, pos, ◌≡◌, ◌≢◌, ◌<◌, ◌≤◌, ◌+◌, ◌-◌, ◌*◌, Bool, true, false, ◌&&◌, List, [], ◌∷◌, length, map}
+use Rattle.std.proofs.Common.{take, inl, inr, ⊎_elim, refl, sym, ap, ◌∙◌, subst, arith}
 use Rattle.std.specs.Prelude.{Option, Some, None, slice_get, slice_index, unwrap_or, nat_eq, nat_lt, if◌then◌else◌}
 use Rattle.std.specs.Option.{option_map, option_to_list}
 use Rattle.std.specs.List.{AllZip}
@@ -12,7 +13,9 @@ use Rattle.un_isa.specs.Operands.{is_alu}
 use Rattle.un_isa.specs.Registers.{space_of}
 use Rattle.un_isa.specs.Tables.{latency_of}
 use Rattle.un_isa.specs.declared.op.Op.{Op}
-use Rattle.un_isa.specs.declared.op.Op.TheVariants.{Imm, Mov, Add, Sub, And, Or, Xor, Addi, Andi, Ori, Mux, CmpEq, CmpGt, CmpGtu, CmpEqi, CmpGti, Mpyi, Asl, Asr, Lsr, Load, Store, Call, Jump as JumpOp, JumpIf, JumpIfNot, Jumpr, Spill, Reload, P2R, R2P, Enter as EnterOp, Leave as LeaveOp, Nop}
+use Rattle.un_isa.specs.declared.op.Op.TheVariants.{Imm, Mov, Add, Sub, And, Or, Xor, Addi, Andi, Ori, Mux, CmpEq, CmpGt, CmpGtu, CmpEqi}
+use Rattle.un_isa.specs.declared.op.Op.TheVariants.{CmpGti, Mpyi, Asl, Asr, Lsr, Load, Store, Call, Jump as JumpOp, JumpIf, JumpIfNot}
+use Rattle.un_isa.specs.declared.op.Op.TheVariants.{Jumpr, Spill, Reload, P2R, R2P, Enter as EnterOp, Leave as LeaveOp, Nop}
 use Rattle.un_isa.specs.declared.reg.Reg.{Reg}
 use Rattle.un_isa.specs.declared.reg.Space.{Space}
 use Rattle.un_isa.specs.declared.reg.Space.TheVariants.{R, P, M}
@@ -29,10 +32,12 @@ use Rattle.un_ir.specs.declared.extended.Operand.{Operand}
 use Rattle.un_ir.specs.declared.extended.Ext.{Ext}
 use Rattle.un_ir.specs.Linear.{first_of}
 use Rattle.un_ir.specs.WellFormed.{operand_kinds, result_kind}
-use Rattle.un_ir.specs.Extended.{temp, Want, anywhere, word_in, wants_of, wants_of_op, wants_of_end, carried, IsGoodExtOp, IsGoodOperand, IsGoodKind, IsSourceOp, HasItsResult, result_count, defined_kinds, kind_of_temp, first_read}
+use Rattle.un_ir.specs.Extended.{temp, Want, anywhere, word_in, wants_of, wants_of_op, wants_of_end, carried, IsGoodExtOp, IsGoodOperand}
+use Rattle.un_ir.specs.Extended.{IsGoodKind, IsSourceOp, HasItsResult, result_count, defined_kinds, kind_of_temp, first_read}
 use Rattle.un_model.specs.declared.model.Options.{Options}
 use Rattle.un_model.specs.declared.schedule.LiveRange.{LiveRange}
-use Rattle.un_model.specs.Emission.{temp_register, operand_registers, result_register, source_instr, term_instr, copy_instr, stack_instr, slot_offset}
+use Rattle.un_model.specs.Emission.{temp_register, operand_registers, result_register, source_instr, term_instr, copy_instr, stack_instr}
+use Rattle.un_model.specs.Emission.{slot_offset}
 use Rattle.un_model.specs.Instructions.{latency_by, operand_space_in, result_space_in, space_read, space_given, transfer_of, copy_of}
 use Rattle.un_model.specs.Pairs.{places_from}
 use Rattle.un_model.specs.Schedules.{choice_of, value_by}
@@ -43,13 +48,14 @@ use Rattle.un_simulation.specs.Simulation.{as_held}
 use Rattle.un_model.proofs.Lists.{Each, Member, slice_get-map, member_map}
 use Rattle.un_emit.proofs.FramePlace.{held_pred}
 use Rattle.un_emit.proofs.Packet.{moves_stack}
-use Rattle.un_emit.proofs.Timed.{Temps, IsReadAt, IsPlain, numbers, is_copy, is_transfer, ReadsAll, Gives, GivesReg, GivesResult, Copies, IsInSlot, Deed, computes, moves, spills, reloads, from_pred, to_pred, loads, stores, calls, shifts, leaves}
+use Rattle.un_emit.proofs.Timed.{Temps, IsReadAt, IsPlain, numbers, is_copy, is_transfer, ReadsAll, Gives, GivesReg, GivesResult, Copies}
+use Rattle.un_emit.proofs.Timed.{IsInSlot, Deed, computes, moves, spills, reloads, from_pred, to_pred, loads, stores, calls, shifts, leaves}
 use Rattle.un_model.proofs.Placed.{Placed, vars_of, issue_at, spot, spots_of}
 use Rattle.un_model.proofs.PlacedSchedules.{all, spots, range_at, spot_range, range_here, given_space, member_joined}
 use Rattle.un_model.proofs.Operations.{contains_member}
 use Rattle.un_model.proofs.TempKinds.{kind_at, kind_or, carried_at, own_kind, same_kind, carried_is}
 use Rattle.un_model.proofs.OpDomains.{register_sits, in_entry}
-use Rattle.un_emit.proofs.Readings.{Solved, numbered, fit_kinds, placed_good, placed_domains, Reading, reading, register_is}
+use Rattle.un_model.proofs.Readings.{Solved, numbered, fit_kinds, placed_good, placed_domains, Reading, reading, register_is}
 use Rattle.un_emit.proofs.Jobs.{given_temp, job_with}
 
 -- ---- spaces
@@ -69,16 +75,19 @@ in_general r h = ⊎_elim (λ (lt : r < 32). lt) (λ (le : 32 ≤ r). absurd (ou
 
 pub in_predicates : (r : ℕ) → space_of r ≡ P → (32 ≤ r) × (r < 36)
 in_predicates r h = ⊎_elim
-    (λ (lt : r < 32). let a : nat_lt r 32 ≡ true = grind (arith, nat_tests) in let k : R ≡ P = sym (ap (λ (b : Bool). if b then R else if nat_lt r 36 then P else M) a) ∙ h in absurd (cc k))
+    (λ (lt : r < 32). let a : nat_lt r 32 ≡ true = grind (arith, nat_tests) in let k : R ≡ P =
+    sym (ap (λ (b : Bool). if b then R else if nat_lt r 36 then P else M) a) ∙ h in absurd (cc k))
     (λ (le : 32 ≤ r). ⊎_elim (λ (lt : r < 36). (le, lt)) (λ (ge : 36 ≤ r).
     let a : nat_lt r 32 ≡ false = grind (arith, nat_tests) in
     let b : nat_lt r 36 ≡ false = grind (arith, nat_tests) in
-    let k : M ≡ P = sym (ap (λ (b : Bool). if b then R else if nat_lt r 36 then P else M) a ∙ ap (λ (b : Bool). if b then P else M) b) ∙ h in absurd (cc k)) (cases_lt r 36))
+    let k : M ≡ P = sym (ap (λ (b : Bool). if b then R else if nat_lt r 36 then P else M) a ∙ ap (λ (b : Bool). if b then P else M) b)
+    ∙ h in absurd (cc k)) (cases_lt r 36))
     (cases_lt r 32)
 
 pub in_frame : (r : ℕ) → space_of r ≡ M → 36 ≤ r
 in_frame r h = ⊎_elim
-    (λ (lt : r < 36). absurd (out (nat_lt r 32) (let b : nat_lt r 36 ≡ true = grind (arith, nat_tests) in sym (ap (λ (b : Bool). if nat_lt r 32 then R else if b then P else M) b) ∙ h)))
+    (λ (lt : r < 36). absurd (out (nat_lt r 32) (let b : nat_lt r 36 ≡ true = grind (arith, nat_tests) in
+    sym (ap (λ (b : Bool). if nat_lt r 32 then R else if b then P else M) b) ∙ h)))
     (λ (ge : 36 ≤ r). ge) (cases_lt r 36)
   where
     out : (b : Bool) → (if b then R else P) ≡ M → ⊥
@@ -92,7 +101,11 @@ space_for Pred = P
 -- a value in the space of its kind stands as itself
 pub plain_in : (T : Temps) (x : ℕ) (k : Kind) → T.kind x ≡ k → space_of (T.place x) ≡ space_for k → (T.place x < 36) × IsPlain T x
 plain_in T x General e s = let lt = in_general (T.place x) s in (omega arith, λ v. ap (λ (k : Kind). as_held k (T.place x) v) e)
-plain_in T x Pred e s = let r = in_predicates (T.place x) s in (r.1, λ v. ap (λ (k : Kind). as_held k (T.place x) v) e ∙ held_pred (T.place x) v r.0 r.1)
+plain_in T x Pred e s = let r = in_predicates (T.place x) s in (
+  r.1,
+  λ v. ap (λ (k : Kind). as_held k (T.place x) v) e
+      ∙ held_pred (T.place x) v r.0 r.1,
+)
 
 via_kinds : (ks : List Kind) (j : ℕ) (k : Kind) → slice_get ks j ≡ Some k → slice_get (map space_for ks) j ≡ Some (space_for k)
 via_kinds ks j k e = slice_get-map space_for ks j ∙ ap (option_map space_for) e
@@ -192,12 +205,14 @@ module _ (e : Ext) (o : Options) (values : List ℕ) (h : Solved e o values) whe
     kind = λ k. kind_at e o values (numbered e o values h) (fit_kinds e o values h) k;
   }
 
-  pub active_in : (k b : ℕ) → (range_at e o values k).active ≡ true → (range_at e o values k).block.0 ≡ b → (let T = temps_of b in T.active k ≡ true)
+  pub active_in : (k b : ℕ) → (range_at e o values k).active ≡ true → (range_at e o values k).block.0 ≡ b
+      → (let T = temps_of b in T.active k ≡ true)
   active_in k b a w = let z = eq-eqb (range_at e o values k).block.0 b w in rw (a, z) refl
 
   -- what an operand reads, as a timed block has it
   pub record OperandFacts (p : Placed) (j : ℕ) (x : Operand) : Type 0 where
-    pub register : (temp_register (model_of e o) values (choice_of values (vars_of p) j x)).0 ≡ (let T = temps_of p.block in T.place (choice_of values (vars_of p) j x).0)
+    pub register : (temp_register (model_of e o) values (choice_of values (vars_of p) j x)).0 ≡
+        (let T = temps_of p.block in T.place (choice_of values (vars_of p) j x).0)
     pub read : IsReadAt (temps_of p.block) (choice_of values (vars_of p) j x).0 (issue_at values p).cycle
 
   module _ (p : Placed) (m : Member p (all e o values)) where
@@ -208,18 +223,24 @@ module _ (e : Ext) (o : Options) (values : List ℕ) (h : Solved e o values) whe
     operand_facts j x want r =
         let k = ap (λ (y : TempId). y.0) r.is in
         record {
-          register = ap (λ (y : TempId). (temp_register (model_of e o) values y).0) (sym r.is) ∙ register_is e o values h r.spot r.member ∙ ap (λ n. (range_at e o values n).reg) k;
-          read = subst (λ n. IsReadAt (temps_of p.block) n (issue_at values p).cycle) k (let l = r.last in record { active = active_in r.spot.temp.0 p.block r.active r.there; ready = r.ready; held = l });
+          register = ap (λ (y : TempId). (temp_register (model_of e o) values y).0) (sym r.is) ∙ register_is e o values h r.spot r.member
+              ∙ ap (λ n. (range_at e o values n).reg) k;
+          read = subst (λ n. IsReadAt (temps_of p.block) n (issue_at values p).cycle) k
+              (let l = r.last in record { active = active_in r.spot.temp.0 p.block r.active r.there; ready = r.ready; held = l });
         }
 
     -- the place, the kind and the space of what an operand reads
-    pub read_space : (j : ℕ) (x : Operand) (want : Want) (op : Op) (s : Space) → Reading e o values h p j x want → (issue_at values p).instr ≡ Some op → operand_space_in op j ≡ Some s → space_of (let T = temps_of p.block in T.place (choice_of values (vars_of p) j x).0) ≡ s
+    pub read_space : (j : ℕ) (x : Operand) (want : Want) (op : Op) (s : Space) → Reading e o values h p j x want
+        → (issue_at values p).instr ≡ Some op → operand_space_in op j ≡ Some s
+        → space_of (let T = temps_of p.block in T.place (choice_of values (vars_of p) j x).0) ≡ s
     read_space j x want op s r i q =
         let k = ap (λ (y : TempId). y.0) r.is in
-        let f = subst (λ (z : Option Space). InSpace (range_at e o values r.spot.temp.0).reg z) (ap (λ (z : Option Op). space_read z j) i ∙ q) r.space in
+        let f = subst (λ (z : Option Space). InSpace (range_at e o values r.spot.temp.0).reg z)
+        (ap (λ (z : Option Op). space_read z j) i ∙ q) r.space in
         subst (λ n. space_of (range_at e o values n).reg ≡ s) k f
 
-    pub read_kind : (j : ℕ) (x : Operand) (want : Want) → Reading e o values h p j x want → (let T = temps_of p.block in T.kind (choice_of values (vars_of p) j x).0) ≡ want.kind
+    pub read_kind : (j : ℕ) (x : Operand) (want : Want) → Reading e o values h p j x want
+        → (let T = temps_of p.block in T.kind (choice_of values (vars_of p) j x).0) ≡ want.kind
     read_kind j x want r = ap (λ (y : TempId). kind_at e o values (numbered e o values h) (fit_kinds e o values h) y.0) (sym r.is) ∙ r.kind
 
     abbrev reg_of : ℕ → Operand → Reg
@@ -228,35 +249,49 @@ module _ (e : Ext) (o : Options) (values : List ℕ) (h : Solved e o values) whe
     abbrev temp_of : ℕ → Operand → ℕ
     temp_of j x = (choice_of values (vars_of p) j x).0
 
-    same_numbers : (xs : List Operand) (k : ℕ) → ((j : ℕ) (x : Operand) → slice_get xs j ≡ Some x → OperandFacts p (k + j) x) → numbers (places_from reg_of k xs) ≡ map (let T = temps_of p.block in T.place) (places_from temp_of k xs)
+    same_numbers : (xs : List Operand) (k : ℕ) → ((j : ℕ) (x : Operand) → slice_get xs j ≡ Some x → OperandFacts p (k + j) x)
+        → numbers (places_from reg_of k xs) ≡ map (let T = temps_of p.block in T.place) (places_from temp_of k xs)
     same_numbers [] k f = refl
     same_numbers (x ∷ xs) k f =
         let g = f 0 x refl in
         let here : OperandFacts p k x = subst (λ n. OperandFacts p n x) (omega arith) g in
         ap (λ r. r ∷ numbers (places_from reg_of (k + 1) xs)) here.register
-        ∙ ap (λ rs. (range_at e o values (temp_of k x)).reg ∷ rs) (same_numbers xs (k + 1) (λ j y q. subst (λ n. OperandFacts p n y) (omega arith) (f (suc j) y q)))
+        ∙ ap (λ rs. (range_at e o values (temp_of k x)).reg ∷ rs)
+        (same_numbers xs (k + 1) (λ j y q. subst (λ n. OperandFacts p n y) (omega arith) (f (suc j) y q)))
 
-    each_temp : (Q : ℕ → Type 0) (xs : List Operand) (k : ℕ) → ((j : ℕ) (x : Operand) → slice_get xs j ≡ Some x → Q (temp_of (k + j) x)) → Each Q (places_from temp_of k xs)
+    each_temp : (Q : ℕ → Type 0) (xs : List Operand) (k : ℕ) → ((j : ℕ) (x : Operand) → slice_get xs j ≡ Some x → Q (temp_of (k + j) x))
+        → Each Q (places_from temp_of k xs)
     each_temp Q [] k f = tt
-    each_temp Q (x ∷ xs) k f = (subst (λ n. Q (temp_of n x)) (omega arith) (f 0 x refl), each_temp Q xs (k + 1) (λ j y q. subst (λ n. Q (temp_of n y)) (omega arith) (f (suc j) y q)))
+    each_temp Q (x ∷ xs) k f = (
+      subst (λ n. Q (temp_of n x)) (omega arith) (f 0 x refl),
+      each_temp Q xs (k + 1) (λ j y q. subst (λ n. Q (temp_of n y)) (omega arith) (f (suc j) y q)),
+    )
 
     -- all operands, where each is of a kind and in its space
     abbrev pub Fitting : Type 0
-    Fitting = (j : ℕ) (x : Operand) → slice_get p.op.operands j ≡ Some x → (want : Want) × Reading e o values h p j x want × ((let T = temps_of p.block in T.place (temp_of j x) < 36) × IsPlain (temps_of p.block) (temp_of j x))
+    Fitting = (j : ℕ) (x : Operand) → slice_get p.op.operands j ≡ Some x → (want : Want) × Reading e o values h p j x want
+        × ((let T = temps_of p.block in T.place (temp_of j x) < 36) × IsPlain (temps_of p.block) (temp_of j x))
 
-    pub reads_all : (i : Instr) → i.srcs ≡ operand_registers (model_of e o) values p.op (vars_of p) → Fitting → ReadsAll (temps_of p.block) (job_with values p i)
+    pub reads_all : (i : Instr) → i.srcs ≡ operand_registers (model_of e o) values p.op (vars_of p) → Fitting
+        → ReadsAll (temps_of p.block) (job_with values p i)
     reads_all i s f =
-        let at : (n j : ℕ) (x : Operand) → n ≡ j → OperandFacts p j x → OperandFacts p n x = λ n j x q g. subst (λ m. OperandFacts p m x) (sym q) g in
+        let at : (n j : ℕ) (x : Operand) → n ≡ j → OperandFacts p j x
+        → OperandFacts p n x = λ n j x q g. subst (λ m. OperandFacts p m x) (sym q) g in
         record {
-          srcs = ap numbers s ∙ same_numbers p.op.operands 0 (λ j x q. let r = f j x q in at (0 + j) j x (omega arith) (operand_facts j x r.0 r.1));
-          read = each_temp (λ n. IsReadAt (temps_of p.block) n (issue_at values p).cycle) p.op.operands 0 (λ j x q. let r = f j x q in let g = at (0 + j) j x (omega arith) (operand_facts j x r.0 r.1) in g.read);
-          regs = each_temp (λ n. let T = temps_of p.block in T.place n < 36) p.op.operands 0 (λ j x q. let r = f j x q in subst (λ n. let T = temps_of p.block in T.place (temp_of n x) < 36) (omega arith) (r.2.0));
-          plain = each_temp (λ n. IsPlain (temps_of p.block) n) p.op.operands 0 (λ j x q. let r = f j x q in subst (λ n. IsPlain (temps_of p.block) (temp_of n x)) (omega arith) (r.2.1));
+          srcs = ap numbers s ∙ same_numbers p.op.operands 0 (λ j x q. let r = f j x q in
+              at (0 + j) j x (omega arith) (operand_facts j x r.0 r.1));
+          read = each_temp (λ n. IsReadAt (temps_of p.block) n (issue_at values p).cycle) p.op.operands 0
+              (λ j x q. let r = f j x q in let g = at (0 + j) j x (omega arith) (operand_facts j x r.0 r.1) in g.read);
+          regs = each_temp (λ n. let T = temps_of p.block in T.place n < 36) p.op.operands 0
+              (λ j x q. let r = f j x q in subst (λ n. let T = temps_of p.block in T.place (temp_of n x) < 36) (omega arith) (r.2.0));
+          plain = each_temp (λ n. IsPlain (temps_of p.block) n) p.op.operands 0
+              (λ j x q. let r = f j x q in subst (λ n. IsPlain (temps_of p.block) (temp_of n x)) (omega arith) (r.2.1));
         }
 
     -- each operand in the space of the kind that is wanted
     fit_by : (op : Op) → (issue_at values p).active ≡ true → (issue_at values p).instr ≡ Some op
-        → ((j : ℕ) (want : Want) → slice_get (wants_of e.table e.names e.blocks p.owner p.op.kind p.op) j ≡ Some want → operand_space_in op j ≡ Some (space_for want.kind)) → Fitting
+        → ((j : ℕ) (want : Want) → slice_get (wants_of e.table e.names e.blocks p.owner p.op.kind p.op) j ≡ Some want
+        → operand_space_in op j ≡ Some (space_for want.kind)) → Fitting
     fit_by op act i f j x q =
         let r = reading e o values h p j x m act q in
         let want = r.0 in
@@ -274,7 +309,8 @@ module _ (e : Ext) (o : Options) (values : List ℕ) (h : Solved e o values) whe
     result_range : (y : TempId) → p.op.results ≡ y ∷ [] → range_at e o values y.0 ≡ spot_range e o values (spot p 0 y)
     result_range y q = range_here e o values (numbered e o values h) (spot p 0 y) (result_spot y q)
 
-    gives : (y : TempId) (i : Instr) (op : Op) → p.op.results ≡ y ∷ [] → (issue_at values p).active ≡ true → (issue_at values p).instr ≡ Some op → i.op ≡ op → Gives e.table (temps_of p.block) (job_with values p i) y.0
+    gives : (y : TempId) (i : Instr) (op : Op) → p.op.results ≡ y ∷ [] → (issue_at values p).active ≡ true
+        → (issue_at values p).instr ≡ Some op → i.op ≡ op → Gives e.table (temps_of p.block) (job_with values p i) y.0
     gives y i op q act ins same =
         let r = result_range y q in
         record {
@@ -284,10 +320,13 @@ module _ (e : Ext) (o : Options) (values : List ℕ) (h : Solved e o values) whe
           lat = ap (λ (v : LiveRange). latency_by e.table v.instr) r ∙ ap (latency_by e.table) ins ∙ ap (latency_of e.table) (sym same);
         }
 
-    result_place : (y : TempId) → p.op.results ≡ y ∷ [] → option_map (λ (r : Reg). r.0) (result_register (model_of e o) values p.op) ≡ Some (let T = temps_of p.block in T.place y.0)
-    result_place y q = ap (λ ys. option_map (λ (r : Reg). r.0) (option_map (temp_register (model_of e o) values) (slice_get ys 0))) q ∙ ap Some (register_is e o values h (spot p 0 y) (result_spot y q))
+    result_place : (y : TempId) → p.op.results ≡ y ∷ [] → option_map (λ (r : Reg). r.0) (result_register (model_of e o) values p.op) ≡ Some
+        (let T = temps_of p.block in T.place y.0)
+    result_place y q = ap (λ ys. option_map (λ (r : Reg). r.0) (option_map (temp_register (model_of e o) values) (slice_get ys 0))) q
+        ∙ ap Some (register_is e o values h (spot p 0 y) (result_spot y q))
 
-    pub result_space : (y : TempId) (op : Op) (s : Space) → p.op.results ≡ y ∷ [] → (issue_at values p).instr ≡ Some op → result_space_in op ≡ Some s → space_of (let T = temps_of p.block in T.place y.0) ≡ s
+    pub result_space : (y : TempId) (op : Op) (s : Space) → p.op.results ≡ y ∷ [] → (issue_at values p).instr ≡ Some op
+        → result_space_in op ≡ Some s → space_of (let T = temps_of p.block in T.place y.0) ≡ s
     result_space y op s q ins f =
         let r = result_range y q in
         let g = given_space e o values (numbered e o values h) (spot p 0 y) (result_spot y q) h.schedule in
@@ -327,7 +366,8 @@ module _ (e : Ext) (o : Options) (values : List ℕ) (h : Solved e o values) whe
     source_plain so Call n = absurd (n refl)
     source_plain so _ n = refl
 
-    get_mapped : {A B : Type 0} (f : A → B) (xs : List A) (j : ℕ) (y : B) → slice_get (map f xs) j ≡ Some y → (x : A) × (slice_get xs j ≡ Some x) × (f x ≡ y)
+    get_mapped : {A B : Type 0} (f : A → B) (xs : List A) (j : ℕ) (y : B) → slice_get (map f xs) j ≡ Some y → (x : A)
+        × (slice_get xs j ≡ Some x) × (f x ≡ y)
     get_mapped f [] j y q = absurd (cc q)
     get_mapped f (x ∷ xs) zero y q = (x, refl, cc q)
     get_mapped f (x ∷ xs) (suc j) y q = get_mapped f xs j y q
@@ -336,22 +376,31 @@ module _ (e : Ext) (o : Options) (values : List ℕ) (h : Solved e o values) whe
     wants_plain so Call n = absurd (n refl)
     wants_plain so _ n = refl
 
-    source_fits : (so : SrcOp) → p.op.kind ≡ Body so → (issue_at values p).active ≡ true → (issue_at values p).instr ≡ Some so.op → (so.op ≡ Call → ⊥) → Fitting
+    source_fits : (so : SrcOp) → p.op.kind ≡ Body so → (issue_at values p).active ≡ true → (issue_at values p).instr ≡ Some so.op
+        → (so.op ≡ Call → ⊥) → Fitting
     source_fits so k act ins n = fit_by so.op act ins (λ j want q.
-        let w : slice_get (map anywhere (operand_kinds so.op)) j ≡ Some want = ap (λ ws. slice_get ws j) (sym (ap (λ (x : ExtKind). wants_of e.table e.names e.blocks p.owner x p.op) k ∙ wants_plain so so.op n)) ∙ q in
+        let w : slice_get (map anywhere (operand_kinds so.op)) j ≡ Some want =
+        ap (λ ws. slice_get ws j) (sym (ap (λ (x : ExtKind). wants_of e.table e.names e.blocks p.owner x p.op) k
+        ∙ wants_plain so so.op n)) ∙ q in
         let r = get_mapped anywhere (operand_kinds so.op) j want w in
         source_space so.op j r.0 r.1 ∙ ap (λ (x : Want). Some (space_for x.kind)) r.2)
 
-    call_fits : (so : SrcOp) → p.op.kind ≡ Body so → (issue_at values p).active ≡ true → (issue_at values p).instr ≡ Some so.op → so.op ≡ Call → Fitting
+    call_fits : (so : SrcOp) → p.op.kind ≡ Body so → (issue_at values p).active ≡ true → (issue_at values p).instr ≡ Some so.op
+        → so.op ≡ Call → Fitting
     call_fits so k act ins c = fit_by so.op act ins (λ j want q.
-        let w : slice_get (map word_in (take (length so.srcs) (e.table).args)) j ≡ Some want = ap (λ ws. slice_get ws j) (sym (ap (λ (x : ExtKind). wants_of e.table e.names e.blocks p.owner x p.op) k ∙ ap (wants_of_op e.table so) c)) ∙ q in
+        let w : slice_get (map word_in (take (length so.srcs) (e.table).args)) j ≡ Some want =
+        ap (λ ws. slice_get ws j) (sym (ap (λ (x : ExtKind). wants_of e.table e.names e.blocks p.owner x p.op) k
+        ∙ ap (wants_of_op e.table so) c)) ∙ q in
         let r = get_mapped word_in (take (length so.srcs) (e.table).args) j want w in
         ap (λ (op : Op). operand_space_in op j) c ∙ ap (λ (x : Want). Some (space_for x.kind)) r.2)
 
-    source_kind : (so : SrcOp) (y : TempId) → p.op.kind ≡ Body so → p.op.results ≡ y ∷ [] → (let T = temps_of p.block in T.kind y.0) ≡ result_kind so.op
+    source_kind : (so : SrcOp) (y : TempId) → p.op.kind ≡ Body so → p.op.results ≡ y ∷ []
+        → (let T = temps_of p.block in T.kind y.0) ≡ result_kind so.op
     source_kind so y k q =
-        own_kind e o values (numbered e o values h) (fit_kinds e o values h) (spot p 0 y) (result_spot y q) (ap (λ (x : ExtKind). carried_at x (spot p 0 y)) k)
-        ∙ ap (λ (x : ExtKind). kind_or (defined_kinds e.names p.owner x p.op) 0) k ∙ ap (λ ys. kind_or (map (λ (y : TempId). result_kind so.op) ys) 0) q
+        own_kind e o values (numbered e o values h) (fit_kinds e o values h) (spot p 0 y) (result_spot y q)
+        (ap (λ (x : ExtKind). carried_at x (spot p 0 y)) k)
+        ∙ ap (λ (x : ExtKind). kind_or (defined_kinds e.names p.owner x p.op) 0) k
+        ∙ ap (λ ys. kind_or (map (λ (y : TempId). result_kind so.op) ys) 0) q
 
     pub has_result : (op : Op) (d : Option NameId) → HasItsResult op d → (op ≡ Store → ⊥) → (op ≡ Call → ⊥) → length (option_to_list d) ≡ 1
     has_result Store d r s c = absurd (s refl)
@@ -359,28 +408,39 @@ module _ (e : Ext) (o : Options) (values : List ℕ) (h : Solved e o values) whe
     has_result _ None r s c = absurd r
     has_result _ (Some n) r s c = refl
 
-    gives_reg : (y : TempId) (so : SrcOp) (s : Space) → p.op.results ≡ y ∷ [] → (issue_at values p).active ≡ true → (issue_at values p).instr ≡ Some so.op → (let T = temps_of p.block in T.place y.0 < 36) → GivesReg e.table (temps_of p.block) (job_with values p (plain_instr so so.op)) y.0
+    gives_reg : (y : TempId) (so : SrcOp) (s : Space) → p.op.results ≡ y ∷ [] → (issue_at values p).active ≡ true
+        → (issue_at values p).instr ≡ Some so.op → (let T = temps_of p.block in T.place y.0 < 36)
+        → GivesReg e.table (temps_of p.block) (job_with values p (plain_instr so so.op)) y.0
     gives_reg y so s q act ins lt = record { given = gives y (plain_instr so so.op) so.op q act ins refl; dst = result_place y q; reg = lt }
 
     -- what gives a register a value of its kind
-    result_plain : (so : SrcOp) (y : TempId) → p.op.kind ≡ Body so → p.op.results ≡ y ∷ [] → (issue_at values p).instr ≡ Some so.op → result_space_in so.op ≡ Some (space_for (result_kind so.op)) → (let T = temps_of p.block in T.place y.0 < 36) × IsPlain (temps_of p.block) y.0
-    result_plain so y k q ins f = plain_in (temps_of p.block) y.0 (result_kind so.op) (source_kind so y k q) (result_space y so.op (space_for (result_kind so.op)) q ins f)
+    result_plain : (so : SrcOp) (y : TempId) → p.op.kind ≡ Body so → p.op.results ≡ y ∷ [] → (issue_at values p).instr ≡ Some so.op
+        → result_space_in so.op ≡ Some (space_for (result_kind so.op)) → (let T = temps_of p.block in T.place y.0 < 36)
+        × IsPlain (temps_of p.block) y.0
+    result_plain so y k q ins f = plain_in (temps_of p.block) y.0 (result_kind so.op) (source_kind so y k q)
+        (result_space y so.op (space_for (result_kind so.op)) q ins f)
 
     -- a call's result is where results are
-    call_place : (so : SrcOp) (y : TempId) → p.op.kind ≡ Body so → so.op ≡ Call → p.op.results ≡ y ∷ [] → (range_at e o values y.0).reg ≡ (e.table).result
+    call_place : (so : SrcOp) (y : TempId) → p.op.kind ≡ Body so → so.op ≡ Call → p.op.results ≡ y ∷ []
+        → (range_at e o values y.0).reg ≡ (e.table).result
     call_place so y k c q =
         let ie = in_entry e o values p in
         let d = register_sits e o values ie p 0 y (placed_domains e o values h p m) (ap (λ ys. slice_get ys 0) q) in
-        let f : result_domain e o ie p.owner p.op 0 y ≡ Set ((e.table).result ∷ []) = ap (λ (x : ExtKind). register_domain e o ie p.owner x 0 y (value_carried p.op y)) k ∙ ap (λ (op : Op). source_domain e o ie p.owner op y) c in
+        let f : result_domain e o ie p.owner p.op 0 y ≡ Set ((e.table).result ∷ []) =
+        ap (λ (x : ExtKind). register_domain e o ie p.owner x 0 y (value_carried p.op y)) k
+        ∙ ap (λ (op : Op). source_domain e o ie p.owner op y) c in
         let c = subst (InDomain (slice_index values (p.first + register_place p.op + 0))) f d in
-        ap (λ (v : LiveRange). v.reg) (result_range y q) ∙ only (contains_member ((e.table).result ∷ []) (slice_index values (p.first + register_place p.op + 0)) c)
+        ap (λ (v : LiveRange). v.reg) (result_range y q) ∙ only (contains_member ((e.table).result ∷ [])
+        (slice_index values (p.first + register_place p.op + 0)) c)
       where
         only : {a b : ℕ} → Member a (b ∷ []) → a ≡ b
         only (inl e) = sym e
         only (inr n) = elim n [ ]
 
     -- what an instruction of the source is
-    pub deed_source : (slots : ℕ) (so : SrcOp) → p.op.kind ≡ Body so → (issue_at values p).active ≡ true → (issue_at values p).instr ≡ Some so.op → Deed e.table (temps_of p.block) slots (job_with values p (source_instr so so.op srcs dst))
+    pub deed_source : (slots : ℕ) (so : SrcOp) → p.op.kind ≡ Body so → (issue_at values p).active ≡ true
+        → (issue_at values p).instr ≡ Some so.op → Deed e.table (temps_of p.block) slots
+        (job_with values p (source_instr so so.op srcs dst))
     deed_source slots so k act ins = by_class (text_class so.op good_op.op)
       where
         good_op : IsSourceOp so
@@ -392,13 +452,15 @@ module _ (e : Ext) (o : Options) (values : List ℕ) (h : Solved e o values) whe
         has : (so.op ≡ Store → ⊥) → (so.op ≡ Call → ⊥) → (y : TempId) × (p.op.results ≡ y ∷ [])
         has s c = one_result (counted ∙ has_result so.op so.dst good_op.result s c)
 
-        as_plain : (so.op ≡ Call → ⊥) → Deed e.table (temps_of p.block) slots (job_with values p (plain_instr so so.op)) → Deed e.table (temps_of p.block) slots (job_with values p (source_instr so so.op srcs dst))
+        as_plain : (so.op ≡ Call → ⊥) → Deed e.table (temps_of p.block) slots (job_with values p (plain_instr so so.op))
+            → Deed e.table (temps_of p.block) slots (job_with values p (source_instr so so.op srcs dst))
         as_plain n d = subst (λ (i : Instr). Deed e.table (temps_of p.block) slots (job_with values p i)) (sym (source_plain so so.op n)) d
 
         not_op : (op : Op) → so.op ≡ op → (b : Bool) → is_alu op ≡ b → b ≡ false → is_alu so.op ≡ true → ⊥
         not_op op q b f g a = let z : true ≡ false = sym a ∙ ap is_alu q ∙ f ∙ g in absurd (cc z)
 
-        computing : is_alu so.op ≡ true → is_source so.op ≡ true → (c : Bool) → is_copy so.op ≡ c → Deed e.table (temps_of p.block) slots (job_with values p (source_instr so so.op srcs dst))
+        computing : is_alu so.op ≡ true → is_source so.op ≡ true → (c : Bool) → is_copy so.op ≡ c
+            → Deed e.table (temps_of p.block) slots (job_with values p (source_instr so so.op srcs dst))
         computing a s c f =
             let no_call : so.op ≡ Call → ⊥ = λ q. not_op Call q false refl refl a in
             let r = has (λ q. not_op Store q false refl refl a) no_call in
@@ -417,15 +479,21 @@ module _ (e : Ext) (o : Options) (values : List ℕ) (h : Solved e o values) whe
             copy_mov _ x y = absurd (cc x)
 
             -- a Mov of the source has one operand
-            moving : so.op ≡ Mov → (y : TempId) → p.op.results ≡ y ∷ [] → GivesReg e.table (temps_of p.block) (job_with values p (plain_instr so so.op)) y.0 → Deed e.table (temps_of p.block) slots (job_with values p (plain_instr so so.op))
+            moving : so.op ≡ Mov → (y : TempId) → p.op.results ≡ y ∷ []
+                → GivesReg e.table (temps_of p.block) (job_with values p (plain_instr so so.op)) y.0
+                → Deed e.table (temps_of p.block) slots (job_with values p (plain_instr so so.op))
             moving q y ry g =
                 let no_call : so.op ≡ Call → ⊥ = λ c. let z : Mov ≡ Call = sym q ∙ c in absurd (cc z) in
                 let ks = keeps in
-                let wanted : wants_of e.table e.names e.blocks p.owner p.op.kind p.op ≡ anywhere General ∷ [] = ap (λ (x : ExtKind). wants_of e.table e.names e.blocks p.owner x p.op) k ∙ ap (wants_of_op e.table so) q in
-                let one = one_zip (IsGoodOperand e.names e.blocks (let g = placed_good e o values h p m in g.before)) p.op.operands (anywhere General) (subst (AllZip (IsGoodOperand e.names e.blocks (let g = placed_good e o values h p m in g.before)) p.op.operands) wanted ks.operands) in
+                let wanted : wants_of e.table e.names e.blocks p.owner p.op.kind p.op ≡ anywhere General ∷ [] =
+                ap (λ (x : ExtKind). wants_of e.table e.names e.blocks p.owner x p.op) k ∙ ap (wants_of_op e.table so) q in
+                let one = one_zip (IsGoodOperand e.names e.blocks (let g = placed_good e o values h p m in g.before)) p.op.operands
+                (anywhere General) (subst (AllZip (IsGoodOperand e.names e.blocks (let g = placed_good e o values h p m in g.before))
+                p.op.operands) wanted ks.operands) in
                 let x = one.0 in
                 let rd = reading e o values h p 0 x m act (ap (λ xs. slice_get xs 0) one.1) in
-                let want_is : rd.0 ≡ anywhere General = let z : Some rd.0 ≡ Some (anywhere General) = sym rd.1 ∙ ap (λ ws. slice_get ws 0) wanted in cc z in
+                let want_is : rd.0 ≡ anywhere General = let z : Some rd.0 ≡ Some (anywhere General) = sym rd.1
+                ∙ ap (λ ws. slice_get ws 0) wanted in cc z in
                 let of = operand_facts 0 x rd.0 rd.2 in
                 let sp = read_space 0 x rd.0 Mov R rd.2 (ins ∙ ap Some q) refl in
                 let place_y = result_space y Mov R ry (ins ∙ ap Some q) refl in
@@ -440,8 +508,11 @@ module _ (e : Ext) (o : Options) (values : List ℕ) (h : Solved e o values) whe
                   dst = g.dst;
                 }) (in_general _ sp) (in_general _ place_y)
 
-            go : (c : Bool) → is_copy so.op ≡ c → is_alu so.op ≡ true → is_source so.op ≡ true → (so.op ≡ Call → ⊥) → (y : TempId) → p.op.results ≡ y ∷ [] → (let T = temps_of p.block in T.place y.0 < 36) → IsPlain (temps_of p.block) y.0
-                → ReadsAll (temps_of p.block) (job_with values p (plain_instr so so.op)) → GivesReg e.table (temps_of p.block) (job_with values p (plain_instr so so.op)) y.0 → Deed e.table (temps_of p.block) slots (job_with values p (plain_instr so so.op))
+            go : (c : Bool) → is_copy so.op ≡ c → is_alu so.op ≡ true → is_source so.op ≡ true → (so.op ≡ Call → ⊥) → (y : TempId)
+                → p.op.results ≡ y ∷ [] → (let T = temps_of p.block in T.place y.0 < 36) → IsPlain (temps_of p.block) y.0
+                → ReadsAll (temps_of p.block) (job_with values p (plain_instr so so.op))
+                → GivesReg e.table (temps_of p.block) (job_with values p (plain_instr so so.op)) y.0
+                → Deed e.table (temps_of p.block) slots (job_with values p (plain_instr so so.op))
             go true f a s n y ry lt pl every g = moving (copy_mov so.op f s) y ry g
             go false f a s n y ry lt pl every g = computes y.0 a f every g pl
 
@@ -450,14 +521,18 @@ module _ (e : Ext) (o : Options) (values : List ℕ) (h : Solved e o values) whe
         by_class (load q) =
             let no_call : so.op ≡ Call → ⊥ = λ c. let z : Load ≡ Call = sym q ∙ c in absurd (cc z) in
             let r = has (λ c. let z : Load ≡ Store = sym q ∙ c in absurd (cc z)) no_call in
-            let f : result_space_in so.op ≡ Some (space_for (result_kind so.op)) = ap result_space_in q ∙ sym (ap (λ (op : Op). Some (space_for (result_kind op))) q) in
+            let f : result_space_in so.op ≡ Some (space_for (result_kind so.op)) = ap result_space_in q
+            ∙ sym (ap (λ (op : Op). Some (space_for (result_kind op))) q) in
             let pl = result_plain so r.0 k r.1 ins f in
-            as_plain no_call (loads (r.0).0 q (reads_all (plain_instr so so.op) refl (source_fits so k act ins no_call)) (gives_reg r.0 so R r.1 act ins pl.0) pl.1)
+            as_plain no_call (loads (r.0).0 q (reads_all (plain_instr so so.op) refl (source_fits so k act ins no_call))
+            (gives_reg r.0 so R r.1 act ins pl.0) pl.1)
         by_class (store q) =
             let no_call : so.op ≡ Call → ⊥ = λ c. let z : Store ≡ Call = sym q ∙ c in absurd (cc z) in
             let none : so.dst ≡ None = let g = good_op in subst (λ (op : Op). HasItsResult op so.dst) q g.result in
             let empty : p.op.results ≡ [] = nothing p.op.results (counted ∙ ap (λ (d : Option NameId). length (option_to_list d)) none) in
-            as_plain no_call (stores q (reads_all (plain_instr so so.op) refl (source_fits so k act ins no_call)) (ap (λ ys. option_map (λ (x : TempId). x.0) (slice_get ys 0)) empty) (ap (λ ys. option_map (temp_register (model_of e o) values) (slice_get ys 0)) empty))
+            as_plain no_call (stores q (reads_all (plain_instr so so.op) refl (source_fits so k act ins no_call))
+            (ap (λ ys. option_map (λ (x : TempId). x.0) (slice_get ys 0)) empty)
+            (ap (λ ys. option_map (temp_register (model_of e o) values) (slice_get ys 0)) empty))
           where
             nothing : (ys : List TempId) → length ys ≡ 0 → ys ≡ []
             nothing [] l = refl
@@ -468,15 +543,22 @@ module _ (e : Ext) (o : Options) (values : List ℕ) (h : Solved e o values) whe
             subst (λ (i : Instr). Deed e.table (temps_of p.block) slots (job_with values p i)) (sym same)
             (calls refl (reads_all j refl (call_fits so k act ins q)) refl (result p.op.results refl))
           where
-            result : (ys : List TempId) → p.op.results ≡ ys → GivesResult e.table (temps_of p.block) (job_with values p (record { op = Call; dst = None; srcs = srcs; imm = so.imm; label = so.callee }))
+            result : (ys : List TempId) → p.op.results ≡ ys → GivesResult e.table (temps_of p.block)
+                (job_with values p (record { op = Call; dst = None; srcs = srcs; imm = so.imm; label = so.callee }))
             result [] r = inl (ap (λ ys. option_map (λ (x : TempId). x.0) (slice_get ys 0)) r)
             result (y ∷ []) r =
                 let place : (range_at e o values y.0).reg ≡ (e.table).result = call_place so y k q r in
                 let kind = source_kind so y k r ∙ ap result_kind q in
-                inr (y.0, gives y (record { op = Call; dst = None; srcs = srcs; imm = so.imm; label = so.callee }) so.op r act ins (sym q), place, λ v. ap (λ (k : Kind). as_held k (let T = temps_of p.block in T.place y.0) v) kind)
+                inr (
+                  y.0,
+                  gives y (record { op = Call; dst = None; srcs = srcs; imm = so.imm; label = so.callee }) so.op r act ins (sym q),
+                  place,
+                  λ v. ap (λ (k : Kind). as_held k (let T = temps_of p.block in T.place y.0) v) kind,
+                )
             result (y ∷ z ∷ ys) r = absurd (too_many so.dst (counted ∙ refl) (ap length r))
               where
-                too_many : (d : Option NameId) → length p.op.results ≡ length (option_to_list d) → length p.op.results ≡ suc (suc (length ys)) → ⊥
+                too_many : (d : Option NameId) → length p.op.results ≡ length (option_to_list d)
+                    → length p.op.results ≡ suc (suc (length ys)) → ⊥
                 too_many None a b = omega arith
                 too_many (Some n) a b = omega arith
 
@@ -490,27 +572,35 @@ module _ (e : Ext) (o : Options) (values : List ℕ) (h : Solved e o values) whe
     transfer_op (Ret value) op q = let k : Jumpr ≡ op = cc q in ap is_transfer (sym k)
 
     -- a terminator asks of its operand the space of its kind
-    end_space : (term : Term) (op : Op) (j : ℕ) (want : Want) → transfer_of term ≡ Some op → slice_get (wants_of_end term) j ≡ Some want → operand_space_in op j ≡ Some (space_for want.kind)
+    end_space : (term : Term) (op : Op) (j : ℕ) (want : Want) → transfer_of term ≡ Some op → slice_get (wants_of_end term) j ≡ Some want
+        → operand_space_in op j ≡ Some (space_for want.kind)
     end_space Fall op j want q w = absurd (cc w)
     end_space (Jump to) op j want q w = absurd (cc w)
-    end_space (Branch pred true to) op zero want q w = let k : JumpIf ≡ op = cc q in let z : anywhere Pred ≡ want = cc w in ap (λ (o : Op). operand_space_in o 0) (sym k) ∙ ap (λ (x : Want). Some (space_for x.kind)) z
+    end_space (Branch pred true to) op zero want q w = let k : JumpIf ≡ op = cc q in let z : anywhere Pred ≡ want = cc w in
+        ap (λ (o : Op). operand_space_in o 0) (sym k) ∙ ap (λ (x : Want). Some (space_for x.kind)) z
     end_space (Branch pred true to) op (suc j) want q w = absurd (cc w)
-    end_space (Branch pred false to) op zero want q w = let k : JumpIfNot ≡ op = cc q in let z : anywhere Pred ≡ want = cc w in ap (λ (o : Op). operand_space_in o 0) (sym k) ∙ ap (λ (x : Want). Some (space_for x.kind)) z
+    end_space (Branch pred false to) op zero want q w = let k : JumpIfNot ≡ op = cc q in let z : anywhere Pred ≡ want = cc w in
+        ap (λ (o : Op). operand_space_in o 0) (sym k) ∙ ap (λ (x : Want). Some (space_for x.kind)) z
     end_space (Branch pred false to) op (suc j) want q w = absurd (cc w)
-    end_space (Ret value) op zero want q w = let k : Jumpr ≡ op = cc q in let z : anywhere General ≡ want = cc w in ap (λ (o : Op). operand_space_in o 0) (sym k) ∙ ap (λ (x : Want). Some (space_for x.kind)) z
+    end_space (Ret value) op zero want q w = let k : Jumpr ≡ op = cc q in let z : anywhere General ≡ want = cc w in
+        ap (λ (o : Op). operand_space_in o 0) (sym k) ∙ ap (λ (x : Want). Some (space_for x.kind)) z
     end_space (Ret value) op (suc j) want q w = absurd (cc w)
 
-    pub deed_end : (slots : ℕ) (term : Term) (op : Op) → p.op.kind ≡ End term → (issue_at values p).active ≡ true → (issue_at values p).instr ≡ Some op → transfer_of term ≡ Some op
+    pub deed_end : (slots : ℕ) (term : Term) (op : Op) → p.op.kind ≡ End term → (issue_at values p).active ≡ true
+        → (issue_at values p).instr ≡ Some op → transfer_of term ≡ Some op
         → Deed e.table (temps_of p.block) slots (job_with values p (term_instr e.blocks term op srcs))
     deed_end slots term op k act ins q =
         let ks = keeps in
         leaves (transfer_op term op q)
-        (reads_all (term_instr e.blocks term op srcs) refl (fit_by op act ins (λ j want w. end_space term op j want q (ap (λ ws. slice_get ws j) (sym (ap (λ (x : ExtKind). wants_of e.table e.names e.blocks p.owner x p.op) k)) ∙ w))))
+        (reads_all (term_instr e.blocks term op srcs) refl (fit_by op act ins
+        (λ j want w. end_space term op j want q (ap (λ ws. slice_get ws j)
+        (sym (ap (λ (x : ExtKind). wants_of e.table e.names e.blocks p.owner x p.op) k)) ∙ w))))
         refl (no_result (ks.results ∙ ap (result_count e.table p.owner) k))
 
     -- ---- Enter and Leave
 
-    pub deed_shift : (slots : ℕ) (op : Op) (bytes : ℤ) → moves_stack op ≡ true → length p.op.results ≡ 0 → Deed e.table (temps_of p.block) slots (job_with values p (stack_instr op bytes))
+    pub deed_shift : (slots : ℕ) (op : Op) (bytes : ℤ) → moves_stack op ≡ true → length p.op.results ≡ 0
+        → Deed e.table (temps_of p.block) slots (job_with values p (stack_instr op bytes))
     deed_shift slots op bytes q l = shifts q refl (no_result l)
 
     -- ---- copies
@@ -542,7 +632,8 @@ module _ (e : Ext) (o : Options) (values : List ℕ) (h : Solved e o values) whe
     copy_op (suc (suc (suc zero))) op q = reload (cc q)
     copy_op (suc (suc (suc (suc zero)))) op q = p2r refl (cc q)
     copy_op (suc (suc (suc (suc (suc zero))))) op q = r2p refl (cc q)
-    copy_op (suc (suc (suc (suc (suc (suc n)))))) op q = let k : None ≡ Some op = sym (no_copy (suc (suc (suc (suc (suc (suc n)))))) (omega arith)) ∙ q in absurd (cc k)
+    copy_op (suc (suc (suc (suc (suc (suc n)))))) op q = let k : None ≡ Some op =
+        sym (no_copy (suc (suc (suc (suc (suc (suc n)))))) (omega arith)) ∙ q in absurd (cc k)
 
     -- a copy's operand and result
     pub record CopyParts : Type 0 where
@@ -557,23 +648,29 @@ module _ (e : Ext) (o : Options) (values : List ℕ) (h : Solved e o values) whe
     copy_parts node k act =
         let ks = keeps in
         let w = anywhere (unwrap_or (kind_of_temp e.names e.blocks (first_read p.op.operands)) General) in
-        let wanted : wants_of e.table e.names e.blocks p.owner p.op.kind p.op ≡ w ∷ [] = ap (λ (x : ExtKind). wants_of e.table e.names e.blocks p.owner x p.op) k in
-        let one = one_zip (IsGoodOperand e.names e.blocks (let g = placed_good e o values h p m in g.before)) p.op.operands w (subst (AllZip (IsGoodOperand e.names e.blocks (let g = placed_good e o values h p m in g.before)) p.op.operands) wanted ks.operands) in
+        let wanted : wants_of e.table e.names e.blocks p.owner p.op.kind p.op ≡ w ∷ [] =
+        ap (λ (x : ExtKind). wants_of e.table e.names e.blocks p.owner x p.op) k in
+        let one = one_zip (IsGoodOperand e.names e.blocks (let g = placed_good e o values h p m in g.before)) p.op.operands w
+        (subst (AllZip (IsGoodOperand e.names e.blocks (let g = placed_good e o values h p m in g.before)) p.op.operands) wanted
+        ks.operands) in
         let r = reading e o values h p 0 one.0 m act (ap (λ xs. slice_get xs 0) one.1) in
         let y = one_result (ks.results ∙ ap (result_count e.table p.owner) k) in
         record { operand = one.0; operands = one.1; result = y.0; results = y.1; want = r.0; reading = r.2 }
 
     -- what a copy carries is what it reads
-    copy_kind : (node : NodeCopy) → p.op.kind ≡ Copy node → (c : CopyParts) → (let T = temps_of p.block in T.kind c.result.0) ≡ (let T = temps_of p.block in T.kind (temp_of 0 c.operand))
+    copy_kind : (node : NodeCopy) → p.op.kind ≡ Copy node → (c : CopyParts)
+        → (let T = temps_of p.block in T.kind c.result.0) ≡ (let T = temps_of p.block in T.kind (temp_of 0 c.operand))
     copy_kind node k c =
         let r = c.reading in
         let x = c.operand in
         let carries : carried e.blocks c.result ≡ temp (first_of x.alts) =
         carried_is e o values (numbered e o values h) (fit_kinds e o values h) (spot p 0 c.result) (result_spot c.result c.results)
         ∙ ap (λ (z : ExtKind). carried_at z (spot p 0 c.result)) k ∙ ap first_read c.operands in
-        same_kind e o values (numbered e o values h) (fit_kinds e o values h) c.result r.spot.temp (carries ∙ sym r.value) ∙ ap (λ (y : TempId). kind_at e o values (numbered e o values h) (fit_kinds e o values h) y.0) r.is
+        same_kind e o values (numbered e o values h) (fit_kinds e o values h) c.result r.spot.temp (carries ∙ sym r.value)
+        ∙ ap (λ (y : TempId). kind_at e o values (numbered e o values h) (fit_kinds e o values h) y.0) r.is
 
-    pub deed_copy : (slots : ℕ) (node : NodeCopy) (op : Op) → p.op.kind ≡ Copy node → (issue_at values p).active ≡ true → (issue_at values p).instr ≡ Some op → copy_of (value_by values (vars_of p).instr) ≡ Some op
+    pub deed_copy : (slots : ℕ) (node : NodeCopy) (op : Op) → p.op.kind ≡ Copy node → (issue_at values p).active ≡ true
+        → (issue_at values p).instr ≡ Some op → copy_of (value_by values (vars_of p).instr) ≡ Some op
         → (4 ≤ value_by values (vars_of p).instr → (y : TempId) → p.op.results ≡ y ∷ [] → (let T = temps_of p.block in T.kind y.0) ≡ Pred)
         → ((x : ℕ) → (let T = temps_of p.block in T.active x ≡ true) → (let T = temps_of p.block in T.place x < 36 + slots))
         → Deed e.table (temps_of p.block) slots (job_with values p (copy_instr op srcs dst))
@@ -592,7 +689,13 @@ module _ (e : Ext) (o : Options) (values : List ℕ) (h : Solved e o values) whe
         facts = let d = c in operand_facts 0 d.operand d.want d.reading
 
         copies : (i : Instr) → i.op ≡ op → Copies e.table (temps_of p.block) (job_with values p i) x y
-        copies i s = let d = c in let f = facts in record { reads = ap (λ xs. places_from temp_of 0 xs) d.operands; read = f.read; given = gives d.result i op d.results act ins s; kind = copy_kind node k d }
+        copies i s = let d = c in let f = facts in record {
+          reads = ap (λ xs. places_from temp_of 0 xs) d.operands;
+          read = f.read;
+          given =
+              gives d.result i op d.results act ins s;
+          kind = copy_kind node k d;
+        }
 
         one_src : numbers srcs ≡ (let T = temps_of p.block in T.place x) ∷ []
         one_src = let d = c in let f = facts in ap (λ xs. numbers (places_from reg_of 0 xs)) d.operands ∙ ap (λ r. r ∷ []) f.register
@@ -607,7 +710,10 @@ module _ (e : Ext) (o : Options) (values : List ℕ) (h : Solved e o values) whe
         space_y s f = let d = c in result_space d.result op s d.results ins f
 
         dst_reg : (r : Reg) × (dst ≡ Some r)
-        dst_reg = let d = c in (temp_register (model_of e o) values d.result, ap (λ ys. option_map (temp_register (model_of e o) values) (slice_get ys 0)) d.results)
+        dst_reg = let d = c in (
+          temp_register (model_of e o) values d.result,
+          ap (λ ys. option_map (temp_register (model_of e o) values) (slice_get ys 0)) d.results,
+        )
 
         active_y : (let T = temps_of p.block in T.active y ≡ true)
         active_y = let g = copies (copy_instr op srcs dst) (copy_op_is op) in let z = g.given in z.active
@@ -620,7 +726,8 @@ module _ (e : Ext) (o : Options) (values : List ℕ) (h : Solved e o values) whe
         active_x : (let T = temps_of p.block in T.active x ≡ true)
         active_x = let f = facts in let r = f.read in r.active
 
-        slot_y : 36 ≤ (let T = temps_of p.block in T.place y) → IsInSlot (temps_of p.block) slots (job_with values p (copy_instr Spill srcs dst)) y
+        slot_y : 36 ≤ (let T = temps_of p.block in T.place y) → IsInSlot (temps_of p.block) slots
+            (job_with values p (copy_instr Spill srcs dst)) y
         slot_y le =
             let lt = inside y active_y in
             let r = dst_reg in
@@ -628,18 +735,31 @@ module _ (e : Ext) (o : Options) (values : List ℕ) (h : Solved e o values) whe
             let n' : (r.0).0 ≡ (let T = temps_of p.block in T.place y) = cc n in
             record { slot = le; within = omega arith; imm = ap slot_offset r.1 ∙ ap (λ z. pos (4 * (z - 36))) n' }
 
-        slot_x : 36 ≤ (let T = temps_of p.block in T.place x) → IsInSlot (temps_of p.block) slots (job_with values p (copy_instr Reload srcs dst)) x
+        slot_x : 36 ≤ (let T = temps_of p.block in T.place x) → IsInSlot (temps_of p.block) slots
+            (job_with values p (copy_instr Reload srcs dst)) x
         slot_x le =
             let lt = inside x active_x in
             let d = c in
             let f = facts in
-            record { slot = le; within = omega arith; imm = ap (λ xs. slot_offset (slice_get (places_from reg_of 0 xs) 0)) d.operands ∙ ap (λ z. pos (4 * (z - 36))) f.register }
+            record {
+              slot = le;
+              within = omega arith;
+              imm = ap (λ xs. slot_offset (slice_get (places_from reg_of 0 xs) 0)) d.operands
+                  ∙ ap (λ z. pos (4 * (z - 36))) f.register;
+            }
 
-        as_op : (q : Op) → op ≡ q → Deed e.table (temps_of p.block) slots (job_with values p (copy_instr q srcs dst)) → Deed e.table (temps_of p.block) slots (job_with values p (copy_instr op srcs dst))
+        as_op : (q : Op) → op ≡ q → Deed e.table (temps_of p.block) slots (job_with values p (copy_instr q srcs dst))
+            → Deed e.table (temps_of p.block) slots (job_with values p (copy_instr op srcs dst))
         as_op q s d = subst (λ (z : Op). Deed e.table (temps_of p.block) slots (job_with values p (copy_instr z srcs dst))) (sym s) d
 
-        by_op : CopyOp (value_by values (vars_of p).instr) op → Deed e.table (temps_of p.block) slots (job_with values p (copy_instr op srcs dst))
-        by_op (mov s) = as_op Mov s (moves x y refl (record { copies = copies (copy_instr Mov srcs dst) (sym s); srcs = one_src; dst = one_dst })
+        by_op : CopyOp (value_by values (vars_of p).instr) op → Deed e.table (temps_of p.block) slots
+            (job_with values p (copy_instr op srcs dst))
+        by_op (mov s) = as_op Mov s (moves x y refl (record {
+          copies = copies (copy_instr Mov srcs dst) (sym s);
+          srcs = one_src;
+          dst =
+              one_dst;
+        })
             (in_general _ (space_x R (ap (λ (z : Op). operand_space_in z 0) s))) (in_general _ (space_y R (ap result_space_in s))))
         by_op (spill s) = as_op Spill s (spills x y refl (copies (copy_instr Spill srcs dst) (sym s)) one_src refl
             (in_general _ (space_x R (ap (λ (z : Op). operand_space_in z 0) s))) (slot_y (in_frame _ (space_y M (ap result_space_in s)))))
@@ -649,9 +769,11 @@ module _ (e : Ext) (o : Options) (values : List ℕ) (h : Solved e o values) whe
             let d = c in
             let pl = in_predicates _ (space_x P (ap (λ (z : Op). operand_space_in z 0) s)) in
             let t = truth (omega arith) d.result d.results in
-            as_op P2R s (from_pred x y refl (record { copies = copies (copy_instr P2R srcs dst) (sym s); srcs = one_src; dst = one_dst }) (sym (copy_kind node k d) ∙ t) pl.0 pl.1 (in_general _ (space_y R (ap result_space_in s))))
+            as_op P2R s (from_pred x y refl (record { copies = copies (copy_instr P2R srcs dst) (sym s); srcs = one_src; dst = one_dst })
+            (sym (copy_kind node k d) ∙ t) pl.0 pl.1 (in_general _ (space_y R (ap result_space_in s))))
         by_op (r2p n s) =
             let d = c in
             let pl = in_predicates _ (space_y P (ap result_space_in s)) in
             let t = truth (omega arith) d.result d.results in
-            as_op R2P s (to_pred x y refl (record { copies = copies (copy_instr R2P srcs dst) (sym s); srcs = one_src; dst = one_dst }) (sym (copy_kind node k d) ∙ t) (in_general _ (space_x R (ap (λ (z : Op). operand_space_in z 0) s))) pl.0 pl.1)
+            as_op R2P s (to_pred x y refl (record { copies = copies (copy_instr R2P srcs dst) (sym s); srcs = one_src; dst = one_dst })
+            (sym (copy_kind node k d) ∙ t) (in_general _ (space_x R (ap (λ (z : Op). operand_space_in z 0) s))) pl.0 pl.1)

@@ -49,16 +49,20 @@ module _ (m : Model) (values : List ℕ) where
   filter-append t [] ys = refl
   filter-append t (x ∷ xs) ys =
       let k = filter-append t xs ys in
-      elim (t x) as (λ b. cond b (x ∷ filter t (xs ++ ys)) (filter t (xs ++ ys)) ≡ cond b (x ∷ filter t xs) (filter t xs) ++ filter t ys) [ true ↦ ap (λ zs. x ∷ zs) k | false ↦ k ]
+      elim (t x) as (λ b. cond b (x ∷ filter t (xs ++ ys)) (filter t (xs ++ ys)) ≡ cond b (x ∷ filter t xs) (filter t xs) ++
+      filter t ys) [ true ↦ ap (λ zs. x ∷ zs) k | false ↦ k ]
 
   abbrev issued : ℕ → Placed → List Instr
   issued c p = issued_in m values (end_of values p) c p.op (vars_of p)
 
-  one_issued : (c : ℕ) (p : Placed) (i : Option Instr) → instrs (filter (issues_at c) (job_by values p i)) ≡ (if cycle_of values (end_of values p) p.op (vars_of p) == c then option_to_list i else [])
-  one_issued c p None = elim (cycle_of values (end_of values p) p.op (vars_of p) == c) as (λ b. instrs [] ≡ (if b then [] else [])) [ true ↦ refl | false ↦ refl ]
+  one_issued : (c : ℕ) (p : Placed) (i : Option Instr) → instrs (filter (issues_at c) (job_by values p i)) ≡
+      (if cycle_of values (end_of values p) p.op (vars_of p) == c then option_to_list i else [])
+  one_issued c p None = elim (cycle_of values (end_of values p) p.op (vars_of p) == c) as
+      (λ b. instrs [] ≡ (if b then [] else [])) [ true ↦ refl | false ↦ refl ]
   one_issued c p (Some i) =
       let j = job_with values p i in
-      elim (cycle_of values (end_of values p) p.op (vars_of p) == c) as (λ b. instrs (cond b (j ∷ []) []) ≡ (if b then i ∷ [] else [])) [ true ↦ refl | false ↦ refl ]
+      elim (cycle_of values (end_of values p) p.op (vars_of p) == c) as
+      (λ b. instrs (cond b (j ∷ []) []) ≡ (if b then i ∷ [] else [])) [ true ↦ refl | false ↦ refl ]
 
   issued_are : (c : ℕ) (ps : List Placed) → instrs (jobs_at (jobs_of ps) c) ≡ joined (map (issued c) ps)
   issued_are c [] = refl
@@ -69,23 +73,27 @@ module _ (m : Model) (values : List ℕ) where
       ∙ ap (λ is. issued c p ++ is) (issued_are c ps)
 
   zipped : (c : ℕ) (b : ℕ) (owner : ExtBlock) (close : VarId) (n first : ℕ) (ops : List ExtOp)
-      → map (λ (o : ExtOp × OpVars). issued_in m values (value_of values close) c o.0 o.1) (zip ops (ops_vars first ops)) ≡ map (issued c) (placed b owner close n first ops)
+      → map (λ (o : ExtOp × OpVars). issued_in m values (value_of values close) c o.0 o.1) (zip ops (ops_vars first ops)) ≡ map (issued c)
+      (placed b owner close n first ops)
   zipped c b owner close n first [] = refl
-  zipped c b owner close n first (op ∷ ops) = ap (λ is. issued_in m values (value_of values close) c op (op_vars first op) ∷ is) (zipped c b owner close (n + 1) (first + var_count op) ops)
+  zipped c b owner close n first (op ∷ ops) = ap (λ is. issued_in m values (value_of values close) c op (op_vars first op) ∷ is)
+      (zipped c b owner close (n + 1) (first + var_count op) ops)
 
   rested : (c : ℕ) (ks : List Job) → instrs (or_rest c ks) ≡ or_nop (instrs ks)
   rested c [] = refl
   rested c (k ∷ ks) = refl
 
   -- the instructions of a cycle are those of its jobs
-  pub cycle_instrs : (b n first c : ℕ) (block : ExtBlock) → instrs (packet_jobs (jobs_of (block_placed b n first block)) c) ≡ or_nop (instrs_in m values block (block_vars first block) c)
+  pub cycle_instrs : (b n first c : ℕ) (block : ExtBlock) → instrs (packet_jobs (jobs_of (block_placed b n first block)) c) ≡ or_nop
+      (instrs_in m values block (block_vars first block) c)
   cycle_instrs b n first c block =
       let close = var_at (first + ops_count block.ops) in
       rested c (jobs_at (jobs_of (block_placed b n first block)) c)
       ∙ ap or_nop (issued_are c (block_placed b n first block) ∙ ap joined (sym (zipped c b block close n first block.ops)))
 
   pub block_instrs : (b n first : ℕ) (block : ExtBlock) (cs : List ℕ)
-      → map (λ (c : ℕ). instrs (packet_jobs (jobs_of (block_placed b n first block)) c)) cs ≡ map (λ (c : ℕ). or_nop (instrs_in m values block (block_vars first block) c)) cs
+      → map (λ (c : ℕ). instrs (packet_jobs (jobs_of (block_placed b n first block)) c)) cs ≡ map
+      (λ (c : ℕ). or_nop (instrs_in m values block (block_vars first block) c)) cs
   block_instrs b n first block [] = refl
   block_instrs b n first block (c ∷ cs) =
       ap (λ is. is ∷ map (λ (c : ℕ). instrs (packet_jobs (jobs_of (block_placed b n first block)) c)) cs) (cycle_instrs b n first c block)

@@ -30,7 +30,6 @@ pub mod OfFunction
 pub mod OfSource
 pub mod Packet
 pub mod Places
-pub mod Readings
 pub mod Right
 pub mod Rules
 pub mod RulesCounts

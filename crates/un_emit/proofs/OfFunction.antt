@@ -1,6 +1,6 @@
 -- The extended function that is made of a function, for a table that the compiler works for: it is one of that source, and keeps
 -- what extended functions keep.
-use Rattle.std.proofs.Common.{◌≡◌, true, List, [], length, map, refl, sym, subst}
+use Rattle.std.proofs.Common.{◌≡◌, List, refl, sym, subst}
 use Rattle.un_base.specs.declared.ids.NameId.{NameId}
 use Rattle.un_isa.specs.Fit.{IsFit}
 use Rattle.un_isa.specs.declared.table.Table.{Table}
@@ -23,7 +23,8 @@ module _ (f : Function) (lists : List (List NameId)) (t : Table) (live : AreLive
       refl (λ start n. extend_runs l start n (linear_kept t f lists live fit))
 
 -- the same where it is given by an equation
-module _ (f : Function) (lists : List (List NameId)) (e : Ext) (live : AreLive f.blocks lists) (fit : IsFit e.table) (is : e ≡ extend_of (lin_of f lists e.table)) where
+module _ (f : Function) (lists : List (List NameId)) (e : Ext) (live : AreLive f.blocks lists) (fit : IsFit e.table)
+    (is : e ≡ extend_of (lin_of f lists e.table)) where
   pub is_extended : IsExtended e
   is_extended = subst IsExtended (sym is) (extended_kept e.table f lists live fit)
 

@@ -26,7 +26,7 @@ use Rattle.un_model.proofs.Lists.{Pairwise, each_of, each_map, get_below, slice_
 use Rattle.un_model.proofs.Lists.{pairwise_of_map}
 use Rattle.un_model.proofs.Placed.{region_placed}
 use Rattle.un_emit.proofs.Places.{words, placing}
-use Rattle.un_emit.proofs.Readings.{Solved, good}
+use Rattle.un_model.proofs.Readings.{Solved, good}
 use Rattle.un_emit.proofs.RulesCounts.{few_packets}
 use Rattle.un_emit.proofs.RulesEnds.{packets, jobs, the_end, timed, AllLead, LastLeaves, transfers_last, targets, ends_by_leaving}
 use Rattle.un_emit.proofs.RulesFrame.{small}

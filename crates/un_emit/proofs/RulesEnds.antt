@@ -29,7 +29,7 @@ use Rattle.un_emit.proofs.JobDeeds.{temps_of}
 use Rattle.un_model.proofs.Lists.{Member, each_member, each_of, each_map, any_none, found, member_map, member_filter, slice_get-map}
 use Rattle.un_model.proofs.Placed.{Placed, region_placed}
 use Rattle.un_emit.proofs.Places.{words, placing, any_true}
-use Rattle.un_emit.proofs.Readings.{Solved, good}
+use Rattle.un_model.proofs.Readings.{Solved, good}
 use Rattle.un_emit.proofs.RulesInstrs.{end_leads}
 use Rattle.un_emit.proofs.RulesLists.{all_each, some_and}
 use Rattle.un_emit.proofs.RulesOps.{LeadsIn, there}

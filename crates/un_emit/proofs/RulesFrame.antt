@@ -32,7 +32,7 @@ use Rattle.un_emit.proofs.BlockTimed.{definer_of, range_in}
 use Rattle.un_model.proofs.OpDomains.{register_sits, in_entry}
 use Rattle.un_model.proofs.Lists.{Each, each_member, each_of, each_join, member_of_filter, place_of}
 use Rattle.un_model.proofs.Operations.{contains_member}
-use Rattle.un_emit.proofs.Readings.{Solved, numbered, placed_domains}
+use Rattle.un_model.proofs.Readings.{Solved, numbered, placed_domains}
 use Rattle.un_emit.proofs.RulesLists.{range_below}
 use Rattle.un_model.proofs.PlacedSchedules.{the_ranges, range_at, active_spot}
 

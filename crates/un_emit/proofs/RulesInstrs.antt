@@ -46,7 +46,7 @@ use Rattle.un_emit.proofs.JobDeeds.{copy_parts}
 use Rattle.un_model.proofs.Lists.{Each, Member, each_member, each_more, member_at, member_map, slice_get-map}
 use Rattle.un_model.proofs.Placed.{Placed, vars_of, issue_at, spot, spots_of}
 use Rattle.un_emit.proofs.Places.{not_stack}
-use Rattle.un_emit.proofs.Readings.{Solved, good, numbered, placed_good, reading, register_is}
+use Rattle.un_model.proofs.Readings.{Solved, good, numbered, placed_good, reading, register_is}
 use Rattle.un_emit.proofs.RulesFrame.{IsLow, low}
 use Rattle.un_emit.proofs.RulesLists.{zip_length}
 use Rattle.un_emit.proofs.RulesOps.{spaces_of, space_at, told_apart, space_listed, reads_plain, writes_plain, base_of, offset_fits}

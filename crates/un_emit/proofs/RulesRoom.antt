@@ -38,7 +38,7 @@ use Rattle.un_emit.proofs.Jobs.{job_with, job_by, instr_at, jobs_of}
 use Rattle.un_model.proofs.Lists.{Each, Member, each_of, each_map, each_filter, any_none}
 use Rattle.un_model.proofs.Placed.{Placed, vars_of, issue_at, issues_are, region_placed}
 use Rattle.un_emit.proofs.Places.{words, placing}
-use Rattle.un_emit.proofs.Readings.{Solved, placed_good}
+use Rattle.un_model.proofs.Readings.{Solved, placed_good}
 use Rattle.un_emit.proofs.RulesLists.{total, sum_total, total_map, total_append}
 use Rattle.un_emit.proofs.RulesOps.{IsCopyOp, mov, spill, reload, p2r, r2p, copy_is}
 use Rattle.un_model.proofs.PlacedSchedules.{all}

@@ -26,14 +26,15 @@ use Rattle.un_model.specs.Emission.{frame_of}
 use Rattle.un_model.specs.Variables.{model_of, blocks_vars}
 use Rattle.un_packet.specs.declared.code.Code.{Code}
 use Rattle.un_packet.specs.declared.code.CodeBlock.{CodeBlock}
-use Rattle.un_packet.specs.Step.{PacketState, PacketStop, Returned as ReturnedTo, Trapped as TrappedAt, Waiting as WaitingFor, Running as RunningAt}
+use Rattle.un_packet.specs.Step.{PacketState, PacketStop, Returned as ReturnedTo, Trapped as TrappedAt, Waiting as WaitingFor}
+use Rattle.un_packet.specs.Step.{Running as RunningAt}
 use Rattle.un_packet.specs.Run.{PacketRun, NeverWaits, first_state, enter, packet_run}
 use Rattle.un_simulation.specs.Simulation.{CanStart, Agrees, StopsAgree, Simulates}
 use Rattle.un_emit.specs.Emitted.{code_block, code_blocks, IsEmitted, start_places}
 use Rattle.un_emit.specs.OfSource.{IsOfSource}
 use Rattle.un_emit.proofs.Codes.{labels_kept}
 use Rattle.un_model.proofs.Lists.{Member, member_filter, slice_get-map}
-use Rattle.un_emit.proofs.Readings.{Solved}
+use Rattle.un_model.proofs.Readings.{Solved}
 use Rattle.un_emit.proofs.Runs.{RunsAlike, StopsAlike}
 use Rattle.un_emit.proofs.Emission.{runs_alike}
 use Rattle.un_emit.proofs.LiveStands.{live_stand}
@@ -41,7 +42,8 @@ use Rattle.un_emit.proofs.OfSource.{labels_at}
 
 member_range : (a n r : ℕ) → a ≤ r → r < a + n → Member r (range_with_len a n)
 member_range a zero r le lt = absurd (omega arith)
-member_range a (suc n) r le lt = ⊎_elim (λ (e : a ≡ r). inl e) (λ (ne : a ≢ r). inr (member_range (a + 1) n r (omega arith) (omega arith))) (cases_eq a r)
+member_range a (suc n) r le lt = ⊎_elim (λ (e : a ≡ r). inl e) (λ (ne : a ≢ r). inr (member_range (a + 1) n r (omega arith) (omega arith)))
+    (cases_eq a r)
 
 is_saved : (t : Table) (r : ℕ) → r < 32 → in_mask t.saved r ≡ true → Member r (callee_saved t)
 unfolding callee_saved
@@ -66,16 +68,20 @@ same_at f g (y ∷ xs) x q (inr m) = same_at f g xs x (ap rest q) m
 
 -- the labels of the code are those of the extended function
 labels_are : (m : Model) (values : List ℕ) (blocks : List ExtBlock) (b : ℕ)
-    → option_map (λ (c : CodeBlock). c.label) (slice_get (map (λ (b : ExtBlock × BlockVars). code_block m values b.0 b.1) (zip blocks (blocks_vars 0 blocks))) b)
+    → option_map (λ (c : CodeBlock). c.label) (slice_get (map (λ (b : ExtBlock × BlockVars). code_block m values b.0 b.1)
+    (zip blocks (blocks_vars 0 blocks))) b)
     ≡ option_map (λ (c : ExtBlock). c.label) (slice_get blocks b)
 labels_are m values blocks b =
     let cs = map (λ (b : ExtBlock × BlockVars). code_block m values b.0 b.1) (zip blocks (blocks_vars 0 blocks)) in
     sym (slice_get-map (λ (c : CodeBlock). c.label) cs b) ∙ ap (λ ls. slice_get ls b) (labels_kept m values 0 blocks)
     ∙ slice_get-map (λ (c : ExtBlock). c.label) blocks b
 
-module _ (e : Ext) (o : Options) (values : List ℕ) (h : Solved e o values) (f : Function) (lists : List (List NameId)) (of : IsOfSource f lists e) (code : Code) (is : IsEmitted (model_of e o) values code) where
+module _ (e : Ext) (o : Options) (values : List ℕ) (h : Solved e o values) (f : Function) (lists : List (List NameId))
+    (of : IsOfSource f lists e) (code : Code) (is : IsEmitted (model_of e o) values code) where
   module _ (start : Start) (can : CanStart start code.frame) where
-    stops : (x : SourceStop) (st : SourceState) (y : PacketStop) (p : PacketState) → StopsAlike e o values h (slice_index start.regs STACK) (stop_with e.table start lists st.values x) y p → StopsAgree e.table f (start_places (model_of e o) values) code start x st y p
+    stops : (x : SourceStop) (st : SourceState) (y : PacketStop) (p : PacketState)
+        → StopsAlike e o values h (slice_index start.regs STACK) (stop_with e.table start lists st.values x) y p
+        → StopsAgree e.table f (start_places (model_of e o) values) code start x st y p
     stops (Returned v) st (ReturnedTo r target) p a = (
       a.0,
       a.1,
@@ -108,14 +114,20 @@ module _ (e : Ext) (o : Options) (values : List ℕ) (h : Solved e o values) (f 
     can_here : CanStart start (frame_of (model_of e o) values)
     can_here = subst (CanStart start) is.frame can
 
-    run_is : (n : ℕ) → enter e.table (code_blocks (model_of e o) values) n 0 (first_state (frame_of (model_of e o) values) start) ≡ packet_run e.table code start n
-    run_is n = ap (λ (bs : List CodeBlock). enter e.table bs n 0 (first_state (frame_of (model_of e o) values) start)) (sym is.blocks) ∙ ap (λ (m : ℕ). enter e.table code.blocks n 0 (first_state m start)) (sym is.frame)
+    run_is : (n : ℕ) → enter e.table (code_blocks (model_of e o) values) n 0 (first_state (frame_of (model_of e o) values) start) ≡
+        packet_run e.table code start n
+    run_is n = ap (λ (bs : List CodeBlock). enter e.table bs n 0 (first_state (frame_of (model_of e o) values) start)) (sym is.blocks)
+        ∙ ap (λ (m : ℕ). enter e.table code.blocks n 0 (first_state m start)) (sym is.frame)
 
-    pub agrees : (n : ℕ) → Agrees e.table f (start_places (model_of e o) values) code start (source_run f start n) (packet_run e.table code start n)
+    pub agrees : (n : ℕ) → Agrees e.table f (start_places (model_of e o) values) code start (source_run f start n)
+        (packet_run e.table code start n)
     agrees n =
         let a = (runs_alike e o values h start can_here n).0 in
-        let b = subst (λ (l : LinearRun). RunsAlike e o values h (slice_index start.regs STACK) l (enter e.table (code_blocks (model_of e o) values) n 0 (first_state (frame_of (model_of e o) values) start))) (of.runs start n can.regs_len) a in
-        let c = subst (λ (p : PacketRun). RunsAlike e o values h (slice_index start.regs STACK) (as_linear e.table start lists (source_run f start n)) p) (run_is n) b in
+        let b = subst (λ (l : LinearRun). RunsAlike e o values h (slice_index start.regs STACK) l
+        (enter e.table (code_blocks (model_of e o) values) n 0 (first_state (frame_of (model_of e o) values) start)))
+        (of.runs start n can.regs_len) a in
+        let c = subst (λ (p : PacketRun). RunsAlike e o values h (slice_index start.regs STACK)
+        (as_linear e.table start lists (source_run f start n)) p) (run_is n) b in
         let x = source_run f start n in
         let y = packet_run e.table code start n in
         record {
@@ -127,7 +139,9 @@ module _ (e : Ext) (o : Options) (values : List ℕ) (h : Solved e o values) (f 
     pub never_waits : (n : ℕ) → NeverWaits e.table code.blocks n 0 (first_state code.frame start)
     never_waits n =
         let a = (runs_alike e o values h start can_here n).1 in
-        subst (λ (m : ℕ). NeverWaits e.table code.blocks n 0 (first_state m start)) (sym is.frame) (subst (λ (bs : List CodeBlock). NeverWaits e.table bs n 0 (first_state (frame_of (model_of e o) values) start)) (sym is.blocks) a)
+        subst (λ (m : ℕ). NeverWaits e.table code.blocks n 0 (first_state m start)) (sym is.frame)
+        (subst (λ (bs : List CodeBlock). NeverWaits e.table bs n 0 (first_state (frame_of (model_of e o) values) start)) (sym is.blocks)
+        a)
 
   -- the rules of code bound the frame, so there is a start with room for it
   frame_small : code.frame ≤ 256

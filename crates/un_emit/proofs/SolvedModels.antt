@@ -8,7 +8,7 @@ use Rattle.un_model.specs.Options.{AreOptions}
 use Rattle.un_model.specs.Schedules.{schedule_of}
 use Rattle.un_model.specs.Solutions.{IsSchedule, IsSolution, latency_gap}
 use Rattle.un_model.specs.Variables.{IsModel}
-use Rattle.un_emit.proofs.Readings.{Solved}
+use Rattle.un_model.proofs.Readings.{Solved}
 
 pub solved : (m : Model) (s : Solution) → IsModel m → IsExtended m.ext → IsFit m.ext.table → AreOptions m.options → IsSolution m s
     → Solved m.ext m.options s.values

@@ -1,5 +1,6 @@
 -- The function's start: with a frame's room below the stack pointer, what the entry takes stands in its places.
-use Rattle.std.proofs.Common.{ℕ, zero, suc, ◌≡◌, ◌<◌, ◌+◌, ◌-◌, ◌/◌, ◌%◌, ◌^◌, Bool, true, false, List, [], ◌∷◌, ◌++◌, length, map, replicate, get_or, inl, inr, refl, sym, ap, ◌∙◌, subst, arith}
+use Rattle.std.proofs.Common.{ℕ, zero, suc, ◌≡◌, ◌<◌, ◌+◌, ◌-◌, ◌/◌, ◌%◌, ◌^◌, Bool, true, false, List, [], ◌∷◌, ◌++◌, length, map}
+use Rattle.std.proofs.Common.{replicate, get_or, inl, inr, refl, sym, ap, ◌∙◌, subst, arith}
 use Rattle.std.specs.Prelude.{Option, Some, None, slice_get, slice_index, unwrap_or, nat_eq, ◌==◌, if◌then◌else◌}
 use Rattle.std.specs.Option.{option_map}
 use Rattle.std.specs.List.{range_with_len}
@@ -36,7 +37,7 @@ use Rattle.un_model.proofs.Placed.{Placed, spot, spots_of}
 use Rattle.un_model.proofs.PlacedSchedules.{all, spots, range_at, range_here, member_joined, member_places}
 use Rattle.un_model.proofs.OpDomains.{in_entry, register_sits}
 use Rattle.un_model.proofs.TempKinds.{kind_at, kind_or}
-use Rattle.un_emit.proofs.Readings.{Solved, numbered, fit_kinds, placed_domains}
+use Rattle.un_model.proofs.Readings.{Solved, numbered, fit_kinds, placed_domains}
 use Rattle.un_emit.proofs.BlockJobs.{InRegion}
 use Rattle.un_emit.proofs.BlockValues.{of_all}
 use Rattle.un_emit.proofs.FramePlace.{held_reg}
@@ -98,7 +99,8 @@ saved_small t r m = go (callee_saved t) (λ q n. callee_small t q n) m
     go (x ∷ xs) f (inl e) = let z = f r (inl e) in omega arith
     go (x ∷ xs) f (inr m) = go xs (λ q n. f q (inr n)) m
 
-module _ (e : Ext) (o : Options) (values : List ℕ) (h : Solved e o values) (entry : ExtBlock) (at : slice_get e.blocks 0 ≡ Some entry) (r : InRegion (all e o values) 0 entry) (s : Start) (can : CanStart s (frame_of (model_of e o) values)) where
+module _ (e : Ext) (o : Options) (values : List ℕ) (h : Solved e o values) (entry : ExtBlock) (at : slice_get e.blocks 0 ≡ Some entry)
+    (r : InRegion (all e o values) 0 entry) (s : Start) (can : CanStart s (frame_of (model_of e o) values)) where
   abbrev pub base : ℕ
   base = slice_index s.regs STACK - frame_of (model_of e o) values
 
@@ -126,7 +128,8 @@ module _ (e : Ext) (o : Options) (values : List ℕ) (h : Solved e o values) (en
       got = ap (λ xs. slice_get xs j) (sym i.results) ∙ q
 
       mu : Member (spot p j x) (spots e o values)
-      mu = member_joined (map spots_of (all e o values)) (spots_of p) (spot p j x) (member_map spots_of (all e o values) p in_all.0) (member_places (spot p) p.op.results 0 j j x (omega arith) got)
+      mu = member_joined (map spots_of (all e o values)) (spots_of p) (spot p j x) (member_map spots_of (all e o values) p in_all.0)
+          (member_places (spot p) p.op.results 0 j j x (omega arith) got)
 
       lt : j < length entry.live_in + length (saved_registers e.table)
       lt = let z = length_get (in_temps entry.ops) j x q in let y = start_count e o values h 0 entry r at in omega (arith, z, y)
@@ -139,25 +142,35 @@ module _ (e : Ext) (o : Options) (values : List ℕ) (h : Solved e o values) (en
           let reg = ap (λ (g : LiveRange). g.reg) (range_here e o values (numbered e o values h) (spot p j x) mu) in
           let d1 = subst (λ v. InDomain v (result_domain e o (in_entry e o values p) p.owner p.op j x)) (sym reg) d in
           let d2 = subst (λ b. InDomain (range_at e o values x.0).reg (result_domain e o b p.owner p.op j x)) ie d1 in
-          let d3 = subst (λ (k : ExtKind). InDomain (range_at e o values x.0).reg (register_domain e o true p.owner k j x (carried p.op x))) i.kind d2 in
-          subst (λ (b : ExtBlock). InDomain (range_at e o values x.0).reg (start_domain e o true b j x)) (owner_of e o values h 0 entry r at p i.member) d3
+          let d3 = subst (λ (k : ExtKind). InDomain (range_at e o values x.0).reg (register_domain e o true p.owner k j x (carried p.op x)))
+          i.kind d2 in
+          subst (λ (b : ExtBlock). InDomain (range_at e o values x.0).reg (start_domain e o true b j x))
+          (owner_of e o values h 0 entry r at p i.member) d3
 
-      kind_is : kind_at e o values (numbered e o values h) (fit_kinds e o values h) x.0 ≡ kind_or (in_kinds e.names entry.live_in (length (in_temps entry.ops))) j
+      kind_is : kind_at e o values (numbered e o values h) (fit_kinds e o values h) x.0 ≡ kind_or
+          (in_kinds e.names entry.live_in (length (in_temps entry.ops))) j
       kind_is = start_kind e o values h 0 entry r at j x q
 
       go : (n : Option NameId) → slice_get entry.live_in j ≡ n → Begins j x
       go (Some name) y =
           let ext = h.extended in
           let g = ext.good in
-          let par = each_member (λ (name : NameId). (name.0 < 6) × (name_kind e.names name ≡ General)) entry.live_in name (each_all (λ (name : NameId). (name.0 < 6) × (name_kind e.names name ≡ General)) entry.live_in (g.params entry at)) (member_at entry.live_in j name y) in
+          let par = each_member (λ (name : NameId). (name.0 < 6) × (name_kind e.names name ≡ General)) entry.live_in name
+          (each_all (λ (name : NameId). (name.0 < 6) × (name_kind e.names name ≡ General)) entry.live_in (g.params entry at))
+          (member_at entry.live_in j name y) in
           let small = length_get entry.live_in j name y in
           let len = length-mapped (λ (name : NameId). slice_index s.regs name.0) entry.live_in in
           record {
             place = name.0;
             small = let z = par.0 in omega arith;
-            register = home_is (slice_index (e.table).args name.0) (range_at e o values x.0).reg (subst (λ (n : Option NameId). InDomain (range_at e o values x.0).reg (home_domain (start_home e.table true entry.live_in j n))) y sits) ∙ arg_is e.table h.fit name.0 par.0;
-            value = index_left (map (λ (name : NameId). slice_index s.regs name.0) entry.live_in) (first_saved e.table s) j (omega (arith, small, len)) ∙ index_of_map (λ (name : NameId). slice_index s.regs name.0) entry.live_in j name y;
-            kind = kind_is ∙ ap (λ (z : Option Kind). unwrap_or z General) (get_left (map (name_kind e.names) entry.live_in) (replicate (length (in_temps entry.ops) - length entry.live_in) General) j (name_kind e.names name) (get_map (name_kind e.names) entry.live_in j name y)) ∙ par.1;
+            register = home_is (slice_index (e.table).args name.0) (range_at e o values x.0).reg
+                (subst (λ (n : Option NameId). InDomain (range_at e o values x.0).reg
+                (home_domain (start_home e.table true entry.live_in j n))) y sits) ∙ arg_is e.table h.fit name.0 par.0;
+            value = index_left (map (λ (name : NameId). slice_index s.regs name.0) entry.live_in) (first_saved e.table s) j
+                (omega (arith, small, len)) ∙ index_of_map (λ (name : NameId). slice_index s.regs name.0) entry.live_in j name y;
+            kind = kind_is ∙ ap (λ (z : Option Kind). unwrap_or z General)
+                (get_left (map (name_kind e.names) entry.live_in) (replicate (length (in_temps entry.ops) - length entry.live_in) General) j
+                (name_kind e.names name) (get_map (name_kind e.names) entry.live_in j name y)) ∙ par.1;
           }
       go None y =
           let le = none_past entry.live_in j y in
@@ -169,9 +182,18 @@ module _ (e : Ext) (o : Options) (values : List ℕ) (h : Solved e o values) (en
           record {
             place = sv.0;
             small = saved_small e.table sv.0 (member_at (saved_registers e.table) (j - length entry.live_in) sv.0 sv.1);
-            register = home_is sv.0 (range_at e o values x.0).reg (subst (λ (z : Option Reg). InDomain (range_at e o values x.0).reg (home_domain z)) (ap (option_map reg_at) sv.1) (subst (λ (n : Option NameId). InDomain (range_at e o values x.0).reg (home_domain (start_home e.table true entry.live_in j n))) y sits));
-            value = index_right (map (λ (name : NameId). slice_index s.regs name.0) entry.live_in) (first_saved e.table s) j (j - length entry.live_in) (omega (arith, len, le)) ∙ index_of_map (slice_index s.regs) (saved_registers e.table) (j - length entry.live_in) sv.0 sv.1;
-            kind = kind_is ∙ ap (λ (z : Option Kind). unwrap_or z General) (get_right (map (name_kind e.names) entry.live_in) (replicate (length (in_temps entry.ops) - length entry.live_in) General) j (j - length entry.live_in) (omega (arith, ln, le)) ∙ get_repeat (length (in_temps entry.ops) - length entry.live_in) (j - length entry.live_in) General (omega (arith, sc, l, le)));
+            register = home_is sv.0 (range_at e o values x.0).reg
+                (subst (λ (z : Option Reg). InDomain (range_at e o values x.0).reg (home_domain z)) (ap (option_map reg_at) sv.1)
+                (subst (λ (n : Option NameId). InDomain (range_at e o values x.0).reg
+                (home_domain (start_home e.table true entry.live_in j n))) y sits));
+            value = index_right (map (λ (name : NameId). slice_index s.regs name.0) entry.live_in) (first_saved e.table s) j
+                (j - length entry.live_in) (omega (arith, len, le))
+                ∙ index_of_map (slice_index s.regs) (saved_registers e.table) (j - length entry.live_in) sv.0 sv.1;
+            kind = kind_is ∙ ap (λ (z : Option Kind). unwrap_or z General)
+                (get_right (map (name_kind e.names) entry.live_in) (replicate (length (in_temps entry.ops) - length entry.live_in) General)
+                j (j - length entry.live_in) (omega (arith, ln, le))
+                ∙ get_repeat (length (in_temps entry.ops) - length entry.live_in) (j - length entry.live_in) General
+                (omega (arith, sc, l, le)));
           }
 
   -- where the frame's bytes fit below the stack pointer, which is a word and a multiple of 8
@@ -184,7 +206,8 @@ module _ (e : Ext) (o : Options) (values : List ℕ) (h : Solved e o values) (en
 
   pub base_even : base % 4 ≡ 0
   base_even =
-      let f = frame_eights (value_of values (let m = model_of e o in m.flag)) (largest_slot (let m = schedule_of (model_of e o) values in m.ranges)) in
+      let f = frame_eights (value_of values (let m = model_of e o in m.flag))
+      (largest_slot (let m = schedule_of (model_of e o) values in m.ranges)) in
       let a = can.aligned in
       let l = can.room in
       omega (arith, f, a, l)
@@ -199,7 +222,8 @@ module _ (e : Ext) (o : Options) (values : List ℕ) (h : Solved e o values) (en
       subst (λ v. v < 2 ^ 32) (sym (base_top ∙ index_some s.regs 29 n.0 n.1)) w
 
   -- the entry's start
-  pub at_first : AtStart e o values h 0 entry r at base (first_values e.table entry.live_in s) (first_world s) (first_state (frame_of (model_of e o) values) s)
+  pub at_first : AtStart e o values h 0 entry r at base (first_values e.table entry.live_in s) (first_world s)
+      (first_state (frame_of (model_of e o) values) s)
   at_first = record {
     regs_long = can.regs_len;
     ready_long = length-repeat 36 0;
@@ -215,7 +239,8 @@ module _ (e : Ext) (o : Options) (values : List ℕ) (h : Solved e o values) (en
         let b = begins j x q in
         let n = (range_at e o values x.0).reg in
         let st = first_state (frame_of (model_of e o) values) s in
-        ap (held_at st) b.register ∙ held_reg st b.place b.small ∙ sym b.value ∙ ap (λ (k : Kind). as_held k n (slice_index (first_values e.table entry.live_in s) j)) (sym b.kind);
+        ap (held_at st) b.register ∙ held_reg st b.place b.small ∙ sym b.value
+        ∙ ap (λ (k : Kind). as_held k n (slice_index (first_values e.table entry.live_in s) j)) (sym b.kind);
     ready = λ j x q lt. let z = get_zeros 36 (range_at e o values x.0).reg in omega (arith, z);
     truths = λ j x q k. let b = begins j x q in let z : General ≡ Pred = sym b.kind ∙ k in absurd (cc z);
     stack = sym base_top ∙ sym (stack_first e o values h 0 entry r at base base_room refl);

@@ -1,6 +1,7 @@
 -- A timed block: its instructions with their cycles, and where each temporary stands from which cycle to which. Only facts
 -- that the packets need are here: no variables, no domains and no values.
-use Rattle.std.proofs.Common.{ℕ, pos, ◌≡◌, ◌≢◌, ◌<◌, ◌≤◌, ◌+◌, ◌-◌, ◌*◌, Bool, true, false, List, [], ◌∷◌, map, filter, ◌⊎◌, inl, inr, ⊎_elim, refl, sym, ◌∙◌, subst, arith}
+use Rattle.std.proofs.Common.{ℕ, pos, ◌≡◌, ◌≢◌, ◌<◌, ◌≤◌, ◌+◌, ◌-◌, ◌*◌, Bool, true, false, List, [], ◌∷◌, map, filter, ◌⊎◌, inl, inr}
+use Rattle.std.proofs.Common.{⊎_elim, refl, sym, ◌∙◌, subst, arith}
 use Rattle.std.specs.Prelude.{Option, Some, None, nat_eq}
 use Rattle.std.specs.Option.{option_map}
 use Rattle.std.proofs.lemmas.Bool.{cases_eq, eq-eqb}
@@ -114,12 +115,17 @@ GivesResult t T j = (j.gives ≡ None) ⊎ ((x : ℕ) × (Gives t T j x) × (T.p
 
 -- what the instruction of a job is, with the temporaries that it reads and gives
 pub data Deed (t : Table) (T : Temps) (slots : ℕ) (j : Job) : Type 0 where
-  computes : (x : ℕ) → is_alu j.instr.op ≡ true → is_copy j.instr.op ≡ false → ReadsAll T j → GivesReg t T j x → IsPlain T x → Deed t T slots j
+  computes : (x : ℕ) → is_alu j.instr.op ≡ true → is_copy j.instr.op ≡ false → ReadsAll T j → GivesReg t T j x → IsPlain T x
+      → Deed t T slots j
   moves : (x y : ℕ) → j.instr.op ≡ Mov → CopiesRegs t T j x y → T.place x < 32 → T.place y < 32 → Deed t T slots j
-  spills : (x y : ℕ) → j.instr.op ≡ Spill → Copies t T j x y → numbers j.instr.srcs ≡ T.place x ∷ [] → j.instr.dst ≡ None → T.place x < 32 → IsInSlot T slots j y → Deed t T slots j
-  reloads : (x y : ℕ) → j.instr.op ≡ Reload → Copies t T j x y → j.instr.srcs ≡ [] → option_map (λ (r : Reg). r.0) j.instr.dst ≡ Some (T.place y) → IsInSlot T slots j x → T.place y < 32 → Deed t T slots j
-  from_pred : (x y : ℕ) → j.instr.op ≡ P2R → CopiesRegs t T j x y → T.kind x ≡ Pred → 32 ≤ T.place x → T.place x < 36 → T.place y < 32 → Deed t T slots j
-  to_pred : (x y : ℕ) → j.instr.op ≡ R2P → CopiesRegs t T j x y → T.kind x ≡ Pred → T.place x < 32 → 32 ≤ T.place y → T.place y < 36 → Deed t T slots j
+  spills : (x y : ℕ) → j.instr.op ≡ Spill → Copies t T j x y → numbers j.instr.srcs ≡ T.place x ∷ [] → j.instr.dst ≡ None → T.place x < 32
+      → IsInSlot T slots j y → Deed t T slots j
+  reloads : (x y : ℕ) → j.instr.op ≡ Reload → Copies t T j x y → j.instr.srcs ≡ []
+      → option_map (λ (r : Reg). r.0) j.instr.dst ≡ Some (T.place y) → IsInSlot T slots j x → T.place y < 32 → Deed t T slots j
+  from_pred : (x y : ℕ) → j.instr.op ≡ P2R → CopiesRegs t T j x y → T.kind x ≡ Pred → 32 ≤ T.place x → T.place x < 36 → T.place y < 32
+      → Deed t T slots j
+  to_pred : (x y : ℕ) → j.instr.op ≡ R2P → CopiesRegs t T j x y → T.kind x ≡ Pred → T.place x < 32 → 32 ≤ T.place y → T.place y < 36
+      → Deed t T slots j
   loads : (x : ℕ) → j.instr.op ≡ Load → ReadsAll T j → GivesReg t T j x → IsPlain T x → Deed t T slots j
   stores : j.instr.op ≡ Store → ReadsAll T j → j.gives ≡ None → j.instr.dst ≡ None → Deed t T slots j
   calls : j.instr.op ≡ Call → ReadsAll T j → j.instr.dst ≡ None → GivesResult t T j → Deed t T slots j
@@ -158,7 +164,8 @@ is_control _ = false
 
 -- no active temporary but the call's own result stands in a clobbered register in a call's cycle
 abbrev pub Clobbers : Table → Temps → Job → Type 0
-Clobbers t T j = j.instr.op ≡ Call → (x : ℕ) → Stands T x j.cycle → T.place x < 36 → in_mask t.clobbered (T.place x) ≡ true → j.gives ≡ Some x
+Clobbers t T j = j.instr.op ≡ Call → (x : ℕ) → Stands T x j.cycle → T.place x < 36 → in_mask t.clobbered (T.place x) ≡ true
+    → j.gives ≡ Some x
 
 -- a block whose end is `end`, with its jobs in the order of the block's operations
 pub record Timed (t : Table) (T : Temps) (slots end : ℕ) (jobs : List Job) : Type 0 where
@@ -218,7 +225,8 @@ gives_where t T slots j x (computes y a n r g p) e = let k : y ≡ x = cc (g.giv
 gives_where t T slots j x (moves w y o c p q) e = let k : y ≡ x = cc (c.copies.given.gives, e) in subst (Gives t T j) k c.copies.given
 gives_where t T slots j x (spills w y o c s d p q) e = let k : y ≡ x = cc (c.given.gives, e) in subst (Gives t T j) k c.given
 gives_where t T slots j x (reloads w y o c s d p q) e = let k : y ≡ x = cc (c.given.gives, e) in subst (Gives t T j) k c.given
-gives_where t T slots j x (from_pred w y o c k p q r) e = let k : y ≡ x = cc (c.copies.given.gives, e) in subst (Gives t T j) k c.copies.given
+gives_where t T slots j x (from_pred w y o c k p q r) e = let k : y ≡ x = cc (c.copies.given.gives, e) in
+    subst (Gives t T j) k c.copies.given
 gives_where t T slots j x (to_pred w y o c k p q r) e = let k : y ≡ x = cc (c.copies.given.gives, e) in subst (Gives t T j) k c.copies.given
 gives_where t T slots j x (loads y o r g p) e = let k : y ≡ x = cc (g.given.gives, e) in subst (Gives t T j) k g.given
 gives_where t T slots j x (stores o r g d) e = absurd (cc (g, e))
@@ -232,7 +240,8 @@ gives_where t T slots j x (rests o r d g) e = absurd (cc (g, e))
 pub gives_of : (t : Table) (T : Temps) (slots : ℕ) (j : Job) (x : ℕ) → Deed t T slots j → j.gives ≡ Some x → Gives t T j x
 gives_of t T slots j x d e = gives_where t T slots j x d e
 
-rest_together : (t : Table) (T : Temps) (slots c : ℕ) → ((x : ℕ) → T.active x ≡ true → T.from x ≡ c → ⊥) → Together t T slots c (rest_job c ∷ [])
+rest_together : (t : Table) (T : Temps) (slots c : ℕ) → ((x : ℕ) → T.active x ≡ true → T.from x ≡ c → ⊥)
+    → Together t T slots c (rest_job c ∷ [])
 rest_together t T slots c none = record {
   deeds = (rests refl refl refl refl, tt);
   cycle = (refl, tt);
@@ -244,13 +253,15 @@ rest_together t T slots c none = record {
   one_shift = (tt, tt);
 }
 
-pub together : (t : Table) (T : Temps) (slots end : ℕ) (jobs : List Job) (c : ℕ) → Timed t T slots end jobs → 1 ≤ c → Together t T slots c (packet_jobs jobs c)
+pub together : (t : Table) (T : Temps) (slots end : ℕ) (jobs : List Job) (c : ℕ) → Timed t T slots end jobs → 1 ≤ c
+    → Together t T slots c (packet_jobs jobs c)
 together t T slots end jobs c h le = go (jobs_at jobs c) refl
   where
     at : (js : List Job) → js ≡ jobs_at jobs c → Together t T slots c js
     at js e = subst (Together t T slots c) (sym e) (record {
       deeds = each_filter (Deed t T slots) (issues_at c) jobs h.deeds;
-      cycle = each_more (λ j. issues_at c j ≡ true) (λ j. j.cycle ≡ c) (jobs_at jobs c) (λ j k. is_cycle j.cycle c k) (each_passes (issues_at c) jobs);
+      cycle = each_more (λ j. issues_at c j ≡ true) (λ j. j.cycle ≡ c) (jobs_at jobs c) (λ j k. is_cycle j.cycle c k)
+          (each_passes (issues_at c) jobs);
       giver = λ x a f.
           let late : 1 ≤ T.from x = omega arith in
           let r = h.giver x a late in

@@ -17,7 +17,7 @@ use Rattle.un_model.specs.Pairs.{places_from}
 use Rattle.un_model.proofs.Lists.{Each, Member, each_of, member_map, place_of}
 use Rattle.un_model.proofs.Placed.{Placed, Spot, spot, spots_of, Counts}
 use Rattle.un_model.proofs.PlacedSchedules.{all, spots, one_spot, member_joined, member_places}
-use Rattle.un_emit.proofs.Readings.{Solved, numbered}
+use Rattle.un_model.proofs.Readings.{Solved, numbered}
 
 -- ---- the run past failures
 
@@ -52,7 +52,8 @@ defined_other values x v y n = let e : nat_eq y x.0 ≡ false = not_same y x.0 n
 pub defined_own : (values : Values) (x : TempId) (v : ℕ) → defined values x v x.0 ≡ v
 defined_own values x v = let e = eq-eqb x.0 x.0 refl in ap (λ (b : Bool). if b then v else values x.0) e
 
-pub kept_all : (values : Values) (xs : List TempId) (vs : List ℕ) (y : ℕ) → Each (λ (x : TempId). y ≢ x.0) xs → defined_all values xs vs y ≡ values y
+pub kept_all : (values : Values) (xs : List TempId) (vs : List ℕ) (y : ℕ) → Each (λ (x : TempId). y ≢ x.0) xs
+    → defined_all values xs vs y ≡ values y
 kept_all values [] vs y h = refl
 kept_all values (x ∷ xs) [] y h = refl
 kept_all values (x ∷ xs) (v ∷ vs) y h = kept_all (defined values x v) xs vs y h.1 ∙ defined_other values x v y h.0
@@ -61,8 +62,10 @@ kept_all values (x ∷ xs) (v ∷ vs) y h = kept_all (defined values x v) xs vs 
 abbrev pub Spares : ℕ → Placed → Type 0
 Spares y p = Each (λ (x : TempId). y ≢ x.0) p.op.results
 
-pub kept_by : (kind : ExtKind) (op : ExtOp) (s : LinearState) (y : ℕ) → Each (λ (x : TempId). y ≢ x.0) op.results → (total_by kind op s).values y ≡ s.values y
-kept_by (Body so) op s y h = kept_all s.values op.results (effect_value (effect_of so (map (value_of s.values) op.operands) s.world) ∷ []) y h
+pub kept_by : (kind : ExtKind) (op : ExtOp) (s : LinearState) (y : ℕ) → Each (λ (x : TempId). y ≢ x.0) op.results
+    → (total_by kind op s).values y ≡ s.values y
+kept_by (Body so) op s y h = kept_all s.values op.results (effect_value (effect_of so (map (value_of s.values) op.operands) s.world) ∷ []) y
+    h
 kept_by (Copy node) op s y h = kept_all s.values op.results (map (value_of s.values) op.operands) y h
 kept_by In op s y h = refl
 kept_by Out op s y h = refl
@@ -82,8 +85,10 @@ world_by val (Body so) op w = effect_world w (effect_of so (map (value_of val) o
 world_by val _ op w = w
 
 pub record Equation (val : Values) (p : Placed) (w : World) : Type 0 where
-  pub source : (so : SrcOp) (y : TempId) → p.op.kind ≡ Body so → p.op.results ≡ y ∷ [] → val y.0 ≡ effect_value (effect_of so (map (value_of val) p.op.operands) w)
-  pub copy : (node : NodeCopy) (y : TempId) (x : Operand) → p.op.kind ≡ Copy node → p.op.results ≡ y ∷ [] → p.op.operands ≡ x ∷ [] → val y.0 ≡ value_of val x
+  pub source : (so : SrcOp) (y : TempId) → p.op.kind ≡ Body so → p.op.results ≡ y ∷ []
+      → val y.0 ≡ effect_value (effect_of so (map (value_of val) p.op.operands) w)
+  pub copy : (node : NodeCopy) (y : TempId) (x : Operand) → p.op.kind ≡ Copy node → p.op.results ≡ y ∷ [] → p.op.operands ≡ x ∷ []
+      → val y.0 ≡ value_of val x
 
 abbrev pub Equations : Values → List Placed → World → Type 0
 Equations val [] w = Unit {0}
@@ -95,13 +100,15 @@ world_after val (p ∷ ps) w = world_after val ps (world_by val p.op.kind p.op w
 
 module _ (e : Ext) (o : Options) (values : List ℕ) (h : Solved e o values) where
   -- a result of an operation that comes later is another temporary
-  spares : (n : ℕ) (ps : List Placed) (s : Spot) → Counts n ps → ((p : Placed) → Member p ps → Member p (all e o values)) → Member s (spots e o values) → s.definer.number < n → Each (Spares s.temp.0) ps
+  spares : (n : ℕ) (ps : List Placed) (s : Spot) → Counts n ps → ((p : Placed) → Member p ps → Member p (all e o values))
+      → Member s (spots e o values) → s.definer.number < n → Each (Spares s.temp.0) ps
   spares n [] s c into m lt = tt
   spares n (p ∷ ps) s c into m lt = (
     each_of (λ (x : TempId). s.temp.0 ≢ x.0) p.op.results (λ x mx q.
         let r = place_of p.op.results x mx in
         let u = spot p r.0 x in
-        let mu = member_joined (map spots_of (all e o values)) (spots_of p) u (member_map spots_of (all e o values) p (into p (inl refl))) (member_places (spot p) p.op.results 0 r.0 r.0 x (omega arith) r.2) in
+        let mu = member_joined (map spots_of (all e o values)) (spots_of p) u (member_map spots_of (all e o values) p (into p (inl refl)))
+        (member_places (spot p) p.op.results 0 r.0 r.0 x (omega arith) r.2) in
         let same = one_spot e o values (numbered e o values h) s u m mu q in
         let num : s.definer.number ≡ p.number = ap (λ (z : Spot). z.definer.number) same in
         let here = c.0 in omega arith),
@@ -115,42 +122,51 @@ module _ (e : Ext) (o : Options) (values : List ℕ) (h : Solved e o values) whe
       pub into : (p : Placed) → Member p ps → Member p (all e o values)
       pub end : (x : ℕ) → val x ≡ (total ps s).values x
 
-    pub agrees : (n : ℕ) (ps : List Placed) (s : LinearState) (u : Spot) → Runs n ps s → Member u (spots e o values) → u.definer.number < n → val u.temp.0 ≡ s.values u.temp.0
+    pub agrees : (n : ℕ) (ps : List Placed) (s : LinearState) (u : Spot) → Runs n ps s → Member u (spots e o values) → u.definer.number < n
+        → val u.temp.0 ≡ s.values u.temp.0
     agrees n ps s u r m lt = r.end u.temp.0 ∙ kept ps s u.temp.0 (spares n ps u r.counts r.into m lt)
 
     -- the first alternatives of an operation's operands are defined before it
     abbrev pub FirstsBefore : Placed → Type 0
-    FirstsBefore p = (x : Operand) → Member x p.op.operands → (u : Spot) × (Member u (spots e o values)) × (u.temp.0 ≡ first_of x.alts) × (u.definer.number < p.number)
+    FirstsBefore p = (x : Operand) → Member x p.op.operands → (u : Spot) × (Member u (spots e o values)) × (u.temp.0 ≡ first_of x.alts)
+        × (u.definer.number < p.number)
 
-    pub same_operands : (n : ℕ) (p : Placed) (ps : List Placed) (s : LinearState) → Runs n (p ∷ ps) s → FirstsBefore p → map (value_of s.values) p.op.operands ≡ map (value_of val) p.op.operands
+    pub same_operands : (n : ℕ) (p : Placed) (ps : List Placed) (s : LinearState) → Runs n (p ∷ ps) s → FirstsBefore p
+        → map (value_of s.values) p.op.operands ≡ map (value_of val) p.op.operands
     same_operands n p ps s r f = go p.op.operands (λ x m. m)
       where
         num : p.number ≡ n
         num = let c = r.counts in c.0
 
-        go : (xs : List Operand) → ((x : Operand) → Member x xs → Member x p.op.operands) → map (value_of s.values) xs ≡ map (value_of val) xs
+        go : (xs : List Operand) → ((x : Operand) → Member x xs → Member x p.op.operands)
+            → map (value_of s.values) xs ≡ map (value_of val) xs
         go [] i = refl
         go (x ∷ xs) i =
             let u = f x (i x (inl refl)) in
             let lt = u.3 in let a = num in
-            let v : s.values (first_of x.alts) ≡ val (first_of x.alts) = sym (subst (λ (y : ℕ). val y ≡ s.values y) u.2 (agrees n (p ∷ ps) s u.0 r u.1 (omega arith))) in
+            let v : s.values (first_of x.alts) ≡ val (first_of x.alts) =
+            sym (subst (λ (y : ℕ). val y ≡ s.values y) u.2 (agrees n (p ∷ ps) s u.0 r u.1 (omega arith))) in
             ap (λ y. y ∷ map (value_of s.values) xs) v ∙ ap (λ ys. val (first_of x.alts) ∷ ys) (go xs (λ y m. i y (inr m)))
 
     pub next : (n : ℕ) (p : Placed) (ps : List Placed) (s : LinearState) → Runs n (p ∷ ps) s → Runs (n + 1) ps (total_by p.op.kind p.op s)
     next n p ps s r = let c = r.counts in record { counts = c.1; into = λ q m. r.into q (inr m); end = r.end }
 
     -- a result of the operation has at the end what the operation gave
-    own_value : (n : ℕ) (p : Placed) (ps : List Placed) (s : LinearState) (y : TempId) → Runs n (p ∷ ps) s → p.op.results ≡ y ∷ [] → val y.0 ≡ (total_by p.op.kind p.op s).values y.0
+    own_value : (n : ℕ) (p : Placed) (ps : List Placed) (s : LinearState) (y : TempId) → Runs n (p ∷ ps) s → p.op.results ≡ y ∷ []
+        → val y.0 ≡ (total_by p.op.kind p.op s).values y.0
     own_value n p ps s y r q =
         let u = spot p 0 y in
-        let mu = member_joined (map spots_of (all e o values)) (spots_of p) u (member_map spots_of (all e o values) p (r.into p (inl refl))) (subst (λ ys. Member u (places_from (spot p) 0 ys)) (sym q) (inl refl)) in
+        let mu = member_joined (map spots_of (all e o values)) (spots_of p) u (member_map spots_of (all e o values) p (r.into p (inl refl)))
+        (subst (λ ys. Member u (places_from (spot p) 0 ys)) (sym q) (inl refl)) in
         let c = r.counts in let here = c.0 in
         agrees (n + 1) ps (total_by p.op.kind p.op s) u (next n p ps s r) mu (omega arith)
 
-    pub world_step : (n : ℕ) (p : Placed) (ps : List Placed) (s : LinearState) → Runs n (p ∷ ps) s → FirstsBefore p → (total_by p.op.kind p.op s).world ≡ world_by val p.op.kind p.op s.world
+    pub world_step : (n : ℕ) (p : Placed) (ps : List Placed) (s : LinearState) → Runs n (p ∷ ps) s → FirstsBefore p
+        → (total_by p.op.kind p.op s).world ≡ world_by val p.op.kind p.op s.world
     world_step n p ps s r f = by_kind p.op.kind (same_operands n p ps s r f)
       where
-        by_kind : (k : ExtKind) → map (value_of s.values) p.op.operands ≡ map (value_of val) p.op.operands → (total_by k p.op s).world ≡ world_by val k p.op s.world
+        by_kind : (k : ExtKind) → map (value_of s.values) p.op.operands ≡ map (value_of val) p.op.operands
+            → (total_by k p.op s).world ≡ world_by val k p.op s.world
         by_kind (Body so) q = ap (λ xs. effect_world s.world (effect_of so xs s.world)) q
         by_kind (Copy node) q = refl
         by_kind In q = refl
@@ -174,7 +190,8 @@ module _ (e : Ext) (o : Options) (values : List ℕ) (h : Solved e o values) whe
     }
 
     -- all operations
-    pub equations : (n : ℕ) (ps : List Placed) (s : LinearState) → Runs n ps s → Each FirstsBefore ps → Equations val ps s.world × (world_after val ps s.world ≡ (total ps s).world)
+    pub equations : (n : ℕ) (ps : List Placed) (s : LinearState) → Runs n ps s → Each FirstsBefore ps → Equations val ps s.world
+        × (world_after val ps s.world ≡ (total ps s).world)
     equations n [] s r f = (tt, refl)
     equations n (p ∷ ps) s r f =
         let w = world_step n p ps s r f.0 in

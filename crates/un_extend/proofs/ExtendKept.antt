@@ -1,5 +1,7 @@
 -- What an extended block keeps while it grows: each operation is good, and each value has its temporaries, which carry it.
-use Rattle.std.proofs.Common.{◌≡◌, ◌⊎◌, inl, inr, ℕ, zero, suc, ◌+◌, ◌-◌, ◌<◌, ◌≤◌, ◌++◌, Bool, true, false, if◌then◌else◌, List, [], ◌∷◌, Option, Some, None, unwrap_or, map, length, set, get_or, slice_get, replicate, All, AllPairs, Contains, refl, sym, ap, ◌∙◌, arith, subst, append_assoc, append-nil, length-set}
+use Rattle.std.proofs.Common.{◌≡◌, ◌⊎◌, inl, inr, ℕ, zero, suc, ◌+◌, ◌-◌, ◌<◌, ◌≤◌, ◌++◌, Bool, true, false, if◌then◌else◌, List, [], ◌∷◌}
+use Rattle.std.proofs.Common.{Option, Some, None, unwrap_or, map, length, set, get_or, slice_get, replicate, All, AllPairs, Contains, refl}
+use Rattle.std.proofs.Common.{sym, ap, ◌∙◌, arith, subst, append_assoc, append-nil, length-set}
 use Rattle.std.specs.List.{flat_map, range_with_len, AllZip}
 use Rattle.std.specs.Option.{option_map}
 use Rattle.std.proofs.lemmas.Grind.{flat_map-append}
@@ -26,11 +28,17 @@ use Rattle.un_ir.specs.declared.extended.ExtBlock.{ExtBlock}
 use Rattle.un_ir.specs.declared.extended.Growth.{Growth}
 use Rattle.un_ir.specs.declared.extended.Sort.{Sort}
 use Rattle.un_ir.specs.declared.extended.Value.{Value}
-use Rattle.un_ir.specs.Extended.{temp, name_kind, is_return, is_linear_kind, wants_of, wants_of_out, result_count, IsPlainOp, carried, carried_by, all_carried, all_kinds, defined_kinds, kind_of_temp, results_of, Want, anywhere, IsGoodKind, IsGoodOperand, IsGoodExtOp}
-use Rattle.un_ir.specs.ExtendOf.{frame_op, with_op, with_leave, with_enter, with_results, with_extended, with_all_extended, sorts_of, sort_of_name, copy_op, with_copy, copy_count_by, copy_count, with_copies, new_temps, own_temps, value_of, with_value, with_values, with_operand_by, with_operand, alternatives, chosen_from, with_operands, new_operands}
+use Rattle.un_ir.specs.Extended.{temp, name_kind, is_return, is_linear_kind, wants_of, wants_of_out, result_count, IsPlainOp, carried}
+use Rattle.un_ir.specs.Extended.{carried_by, all_carried, all_kinds, defined_kinds, kind_of_temp, results_of, Want, anywhere, IsGoodKind}
+use Rattle.un_ir.specs.Extended.{IsGoodOperand, IsGoodExtOp}
+use Rattle.un_ir.specs.ExtendOf.{frame_op, with_op, with_leave, with_enter, with_results, with_extended, with_all_extended, sorts_of}
+use Rattle.un_ir.specs.ExtendOf.{sort_of_name, copy_op, with_copy, copy_count_by, copy_count, with_copies, new_temps, own_temps, value_of}
+use Rattle.un_ir.specs.ExtendOf.{with_value, with_values, with_operand_by, with_operand, alternatives, chosen_from, with_operands}
+use Rattle.un_ir.specs.ExtendOf.{new_operands}
 use Rattle.un_ir.specs.Linear.{first_of, ending_of}
 use Rattle.un_ir.specs.WellFormed.{result_kind}
-use Rattle.un_ir.proofs.GoodOps.{got_left, got_right, temps, temps_append, Numbers, numbers_row, numbers_append, numbers_has, AreGoodOps, good_append, results_append}
+use Rattle.un_ir.proofs.GoodOps.{got_left, got_right, temps, temps_append, Numbers, numbers_row, numbers_append, numbers_has, AreGoodOps}
+use Rattle.un_ir.proofs.GoodOps.{good_append, results_append}
 
 -- ---- lists
 
@@ -38,11 +46,13 @@ regroup : {X : Type 0} (a b c d : List X) → (a ++ (b ++ c)) ++ d ≡ (a ++ b) 
 regroup {X} a b c d = ap (λ (zs : List X). zs ++ d) (sym (append_assoc a b c)) ∙ append_assoc (a ++ b) c d
 
 -- what stands behind a front
-place : {X : Type 0} (front a b more all : List X) (n j : ℕ) (x : X) → all ≡ (front ++ (a ++ (b ++ []))) ++ more → length front + length a ≡ n
+place : {X : Type 0} (front a b more all : List X) (n j : ℕ) (x : X) → all ≡ (front ++ (a ++ (b ++ []))) ++ more
+    → length front + length a ≡ n
     → slice_get b j ≡ Some x → slice_get all (n + j) ≡ Some x
 place {X} front a b more all n j x is long got =
     let l : n ≡ length (front ++ a) = sym long ∙ sym (length-append front a) in
-    ap (λ (k : ℕ). slice_get all (k + j)) l ∙ ap (λ (zs : List X). slice_get zs (length (front ++ a) + j)) (is ∙ regroup front a (b ++ []) more)
+    ap (λ (k : ℕ). slice_get all (k + j)) l ∙ ap (λ (zs : List X). slice_get zs (length (front ++ a) + j))
+    (is ∙ regroup front a (b ++ []) more)
     ∙ got_right (front ++ a) ((b ++ []) ++ more) j ∙ got_left (b ++ []) more j x (got_left b [] j x got)
 
 push_cases : {X : Type 0} (xs : List X) (x : X) (k : ℕ) (w : X) → slice_get (xs ++ x ∷ []) k ≡ Some w
@@ -73,7 +83,8 @@ numbers_bounds n m xs x a has = by (subst (λ (zs : List TempId). Contains zs (t
     by (j, below, is) =
         let l = length-map-range_with_len temp n a.count in
         let r = a.reach in
-        let e : n + j ≡ x = ap (λ (y : TempId). y.0) (sym (get_or-map-range_with_len temp n a.count j (n + j) (temp x) (omega (arith, l, below)) refl) ∙ is) in
+        let e : n + j ≡ x = ap (λ (y : TempId). y.0) (sym (get_or-map-range_with_len temp n a.count j (n + j) (temp x)
+        (omega (arith, l, below)) refl) ∙ is) in
         (omega (arith, e), omega (arith, e, l, r, below))
 
 -- numbers of one list after another
@@ -87,7 +98,8 @@ numbers_split n m [] ys a =
     record { front = record { count = 0; are = refl; reach = refl }; back = subst (λ (k : ℕ). Numbers k ys m) z a }
 numbers_split n m (x ∷ xs) ys a = by (λ b. numbers_split (n + 1) m xs ys b) a.count a.are a.reach
   where
-    by : (Numbers (n + 1) (xs ++ ys) m → Split (n + 1) xs ys m) → (count : ℕ) → (x ∷ xs) ++ ys ≡ temps n count → n + count ≡ m → Split n (x ∷ xs) ys m
+    by : (Numbers (n + 1) (xs ++ ys) m → Split (n + 1) xs ys m) → (count : ℕ) → (x ∷ xs) ++ ys ≡ temps n count → n + count ≡ m
+        → Split n (x ∷ xs) ys m
     by ih zero e r = absurd (cc e)
     by ih (suc count) e r =
         let first : x ≡ temp n = cc e in
@@ -95,7 +107,8 @@ numbers_split n m (x ∷ xs) ys a = by (λ b. numbers_split (n + 1) m xs ys b) a
         let s = ih (record { count = count; are = others; reach = omega (arith, r) }) in
         let z : (n + 1) + length xs ≡ n + suc (length xs) = omega arith in
         record {
-          front = numbers_append n (n + 1) (n + suc (length xs)) (x ∷ []) xs (record { count = 1; are = ap (λ (y : TempId). y ∷ []) first; reach = refl })
+          front = numbers_append n (n + 1) (n + suc (length xs)) (x ∷ []) xs
+              (record { count = 1; are = ap (λ (y : TempId). y ∷ []) first; reach = refl })
               (subst (λ (k : ℕ). Numbers (n + 1) xs k) z s.front);
           back = subst (λ (k : ℕ). Numbers k ys m) z s.back;
         }
@@ -125,9 +138,11 @@ module _ (t : Table) (names : List Kind) (old new : List ExtBlock) (owner : ExtB
   fits_less xs ys h = record {
     cmore = carried_of ys ++ h.cmore;
     kmore = kinds_of ys ++ h.kmore;
-    carries = h.carries ∙ ap (λ (zs : List TempId). (cfront ++ zs) ++ h.cmore) (flat_map-append (λ (op : ExtOp). carried_by op.kind op) xs ys)
+    carries = h.carries ∙ ap (λ (zs : List TempId). (cfront ++ zs) ++ h.cmore)
+        (flat_map-append (λ (op : ExtOp). carried_by op.kind op) xs ys)
         ∙ regroup cfront (carried_of xs) (carried_of ys) h.cmore;
-    kinds = h.kinds ∙ ap (λ (zs : List Kind). (kfront ++ zs) ++ h.kmore) (flat_map-append (λ (op : ExtOp). defined_kinds names owner op.kind op) xs ys)
+    kinds = h.kinds ∙ ap (λ (zs : List Kind). (kfront ++ zs) ++ h.kmore)
+        (flat_map-append (λ (op : ExtOp). defined_kinds names owner op.kind op) xs ys)
         ∙ regroup kfront (kinds_of xs) (kinds_of ys) h.kmore;
   }
 
@@ -169,16 +184,19 @@ module _ (t : Table) (names : List Kind) (old new : List ExtBlock) (owner : ExtB
       let z : n + 0 ≡ n = omega arith in
       let first : carried new (temp n) ≡ temp x = ap (λ (k : ℕ). carried new (temp k)) (sym z) ∙ is 0 (omega arith) in
       let r = alts_row (n + 1) x count (ys ++ temp n ∷ []) (omega (arith, h))
-      (λ j below. ap (λ (k : ℕ). carried new (temp k)) (let q : (n + 1) + j ≡ n + suc j = omega arith in q) ∙ is (suc j) (omega arith)) (alts_push n x ys h first a) in
+      (λ j below. ap (λ (k : ℕ). carried new (temp k)) (let q : (n + 1) + j ≡ n + suc j = omega arith in q) ∙ is (suc j) (omega arith))
+      (alts_push n x ys h first a) in
       let q : (n + 1) + count ≡ n + suc count = omega arith in
-      subst (λ (k : ℕ). Alts k x (ys ++ temps n (suc count))) q (subst (λ (zs : List TempId). Alts ((n + 1) + count) x zs) (append_assoc ys (temp n ∷ []) (temps (n + 1) count)) r)
+      subst (λ (k : ℕ). Alts k x (ys ++ temps n (suc count))) q (subst (λ (zs : List TempId). Alts ((n + 1) + count) x zs)
+      (append_assoc ys (temp n ∷ []) (temps (n + 1) count)) r)
 
   alts_alone : (n m : ℕ) → start ≤ n → n < m → carried new (temp n) ≡ temp n → Alts m n (temp n ∷ [])
   alts_alone n m low high is = record {
     chooses = omega arith;
     first = refl;
     rising = λ i j d lt below. absurd (omega arith);
-    bounds = All-cons (λ (y : TempId). (start ≤ y.0) × (y.0 < m)) (temp n) [] (low, high) (All-nil (λ (y : TempId). (start ≤ y.0) × (y.0 < m)));
+    bounds = All-cons (λ (y : TempId). (start ≤ y.0) × (y.0 < m)) (temp n) [] (low, high)
+        (All-nil (λ (y : TempId). (start ≤ y.0) × (y.0 < m)));
     one = All-cons (λ (y : TempId). carried new y ≡ temp n) (temp n) [] is (All-nil (λ (y : TempId). carried new y ≡ temp n));
   }
 
@@ -191,7 +209,13 @@ module _ (t : Table) (names : List Kind) (old new : List ExtBlock) (owner : ExtB
     pub was : kind_of_temp names old (temp i) ≡ Some (let sort = v.sort in sort.kind)
 
   value_more : (n m i : ℕ) (v : Value) → n ≤ m → IsValue n i v → IsValue m i v
-  value_more n m i v h a = record { x = a.x; all = alts_more n m a.x v.all h a.all; own = alts_more n m a.x v.own h a.own; kind = a.kind; was = a.was }
+  value_more n m i v h a = record {
+    x = a.x;
+    all = alts_more n m a.x v.all h a.all;
+    own = alts_more n m a.x v.own h a.own;
+    kind = a.kind;
+    was = a.was;
+  }
 
   pub record Facts (g : Growth) : Type 0 where
     pub numbers : Numbers start (results_of g.ops) g.next
@@ -208,16 +232,24 @@ module _ (t : Table) (names : List Kind) (old new : List ExtBlock) (owner : ExtB
   abbrev pushed : Growth → ExtOp → ℕ → Growth
   pushed g op count = record { ops = g.ops ++ op ∷ []; values = g.values; next = g.next + count }
 
-  pub add_op : (g : Growth) (op : ExtOp) (count : ℕ) → Facts g → IsGoodExtOp t names new owner (results_of g.ops) op → op.results ≡ temps g.next count
+  pub add_op : (g : Growth) (op : ExtOp) (count : ℕ) → Facts g → IsGoodExtOp t names new owner (results_of g.ops) op
+      → op.results ≡ temps g.next count
       → length (carried_by op.kind op) ≡ count → length (defined_kinds names owner op.kind op) ≡ count → Facts (pushed g op count)
   add_op g op count f good is c k = record {
-    numbers = (let n = numbers_append start g.next (g.next + count) (results_of g.ops) op.results f.numbers (record { count = count; are = is; reach = refl }) in
-        record { count = n.count; are = results_append g.ops (op ∷ []) ∙ ap (λ (zs : List TempId). results_of g.ops ++ zs) (append-nil op.results) ∙ n.are; reach = n.reach });
+    numbers = (let n = numbers_append start g.next (g.next + count) (results_of g.ops) op.results f.numbers
+        (record { count = count; are = is; reach = refl }) in
+        record {
+          count = n.count;
+          are = results_append g.ops (op ∷ [])
+              ∙ ap (λ (zs : List TempId). results_of g.ops ++ zs) (append-nil op.results) ∙ n.are;
+          reach = n.reach;
+        });
     clength = (let a = ap (λ (zs : List TempId). length zs) (flat_map-append (λ (op : ExtOp). carried_by op.kind op) g.ops (op ∷ [])) in
         let b = length-append (carried_of g.ops) (carried_by op.kind op ++ []) in
         let d = ap (λ (zs : List TempId). length zs) (append-nil (carried_by op.kind op)) in
         let e = f.clength in omega (arith, a, b, c, d, e));
-    klength = (let a = ap (λ (zs : List Kind). length zs) (flat_map-append (λ (op : ExtOp). defined_kinds names owner op.kind op) g.ops (op ∷ [])) in
+    klength = (let a = ap (λ (zs : List Kind). length zs) (flat_map-append (λ (op : ExtOp). defined_kinds names owner op.kind op) g.ops
+        (op ∷ [])) in
         let b = length-append (kinds_of g.ops) (defined_kinds names owner op.kind op ++ []) in
         let d = ap (λ (zs : List Kind). length zs) (append-nil (defined_kinds names owner op.kind op)) in
         let e = f.klength in omega (arith, a, b, k, d, e));
@@ -225,22 +257,28 @@ module _ (t : Table) (names : List Kind) (old new : List ExtBlock) (owner : ExtB
     vals = λ i v got h. value_more g.next (g.next + count) i v (omega arith) (f.vals i v got h);
   }
 
-  pub carried_new : (g : Growth) (op : ExtOp) → Facts g → Fits (g.ops ++ op ∷ []) → (j : ℕ) (y : TempId) → slice_get (carried_by op.kind op) j ≡ Some y
+  pub carried_new : (g : Growth) (op : ExtOp) → Facts g → Fits (g.ops ++ op ∷ []) → (j : ℕ) (y : TempId)
+      → slice_get (carried_by op.kind op) j ≡ Some y
       → carried new (temp (g.next + j)) ≡ y
   carried_new g op f h j y got =
       let e = f.clength in
-      let is = h.carries ∙ ap (λ (zs : List TempId). (cfront ++ zs) ++ h.cmore) (flat_map-append (λ (op : ExtOp). carried_by op.kind op) g.ops (op ∷ [])) in
+      let is = h.carries ∙ ap (λ (zs : List TempId). (cfront ++ zs) ++ h.cmore)
+      (flat_map-append (λ (op : ExtOp). carried_by op.kind op) g.ops (op ∷ [])) in
       ap (λ (o : Option TempId). unwrap_or o (temp (g.next + j)))
       (place cfront (carried_of g.ops) (carried_by op.kind op) h.cmore (all_carried new) g.next j y is (omega (arith, e, clong)) got)
 
-  pub kind_new : (g : Growth) (op : ExtOp) → Facts g → Fits (g.ops ++ op ∷ []) → (j : ℕ) (kind : Kind) → slice_get (defined_kinds names owner op.kind op) j ≡ Some kind
+  pub kind_new : (g : Growth) (op : ExtOp) → Facts g → Fits (g.ops ++ op ∷ []) → (j : ℕ) (kind : Kind)
+      → slice_get (defined_kinds names owner op.kind op) j ≡ Some kind
       → slice_get (all_kinds names new) (g.next + j) ≡ Some kind
   kind_new g op f h j kind got =
       let e = f.klength in
-      let is = h.kinds ∙ ap (λ (zs : List Kind). (kfront ++ zs) ++ h.kmore) (flat_map-append (λ (op : ExtOp). defined_kinds names owner op.kind op) g.ops (op ∷ [])) in
-      place kfront (kinds_of g.ops) (defined_kinds names owner op.kind op) h.kmore (all_kinds names new) g.next j kind is (omega (arith, e, klong)) got
+      let is = h.kinds ∙ ap (λ (zs : List Kind). (kfront ++ zs) ++ h.kmore)
+      (flat_map-append (λ (op : ExtOp). defined_kinds names owner op.kind op) g.ops (op ∷ [])) in
+      place kfront (kinds_of g.ops) (defined_kinds names owner op.kind op) h.kmore (all_kinds names new) g.next j kind is
+      (omega (arith, e, klong)) got
 
-  pub good_alts : (before : List TempId) (n x : ℕ) (ys : List TempId) (home : Option Reg) (kind : Kind) → Numbers start before n → Alts n x ys
+  pub good_alts : (before : List TempId) (n x : ℕ) (ys : List TempId) (home : Option Reg) (kind : Kind) → Numbers start before n
+      → Alts n x ys
       → kind_of_temp names new (temp x) ≡ Some kind
       → IsGoodOperand names new before (record { alts = ys; home = home }) (record { kind = kind; home = home })
   good_alts before n x ys home kind numbers a is = record {
@@ -258,15 +296,21 @@ module _ (t : Table) (names : List Kind) (old new : List ExtBlock) (owner : ExtB
       → Facts g → Alts g.next x ys → kind_of_temp names new (temp x) ≡ Some kind → Facts (with_copy node ys g)
   copy_step node ys g x kind good f a is =
       let at : kind_of_temp names new (temp (first_of ys)) ≡ Some kind = ap (λ (k : ℕ). kind_of_temp names new (temp k)) a.first ∙ is in
-      let same : unwrap_or (kind_of_temp names new (temp (first_of ys))) General ≡ kind = ap (λ (o : Option Kind). unwrap_or o General) at in
+      let same : unwrap_or (kind_of_temp names new (temp (first_of ys))) General ≡ kind =
+      ap (λ (o : Option Kind). unwrap_or o General) at in
       add_op g (copy_op node ys g.next) 1 f
       (record {
         kind = good;
-        operands = (good_alts (results_of g.ops) g.next x ys None (unwrap_or (kind_of_temp names new (temp (first_of ys))) General) f.numbers a (is ∙ ap Some (sym same)), tt);
+        operands = (
+          good_alts (results_of g.ops) g.next x ys None (unwrap_or (kind_of_temp names new (temp (first_of ys))) General)
+              f.numbers a (is ∙ ap Some (sym same)),
+          tt,
+        );
         results = refl;
       }) refl refl refl
 
-  copy_carried : (node : NodeCopy) (ys : List TempId) (g : Growth) (x : ℕ) → Facts g → Fits (g.ops ++ copy_op node ys g.next ∷ []) → first_of ys ≡ x
+  copy_carried : (node : NodeCopy) (ys : List TempId) (g : Growth) (x : ℕ) → Facts g → Fits (g.ops ++ copy_op node ys g.next ∷ [])
+      → first_of ys ≡ x
       → carried new (temp g.next) ≡ temp x
   copy_carried node ys g x f h is =
       let z : g.next ≡ g.next + 0 = omega arith in
@@ -283,18 +327,21 @@ module _ (t : Table) (names : List Kind) (old new : List ExtBlock) (owner : ExtB
   copies_grow first second kind false ys g h = h
   copies_grow first second General true ys g h = fits_less g.ops (copy_op first ys g.next ∷ []) h
   copies_grow first second Pred true ys g h =
-      fits_less g.ops (copy_op first ys g.next ∷ []) (fits_less (g.ops ++ copy_op first ys g.next ∷ []) (copy_op second (ys ++ temp g.next ∷ []) (g.next + 1) ∷ []) h)
+      fits_less g.ops (copy_op first ys g.next ∷ []) (fits_less (g.ops ++ copy_op first ys g.next ∷ [])
+      (copy_op second (ys ++ temp g.next ∷ []) (g.next + 1) ∷ []) h)
 
   copies_step : (first second : NodeCopy) (kind : Kind) (copied : Bool) (ys : List TempId) (g : Growth) (x : ℕ) (own : Kind)
       → IsGoodKind (Copy first) (copy_op first ys g.next) → ((zs : List TempId) (n : ℕ) → IsGoodKind (Copy second) (copy_op second zs n))
-      → Fits (let grown = with_copies first second kind copied ys g in grown.ops) → Facts g → Alts g.next x ys → kind_of_temp names new (temp x) ≡ Some own
+      → Fits (let grown = with_copies first second kind copied ys g in grown.ops) → Facts g → Alts g.next x ys
+      → kind_of_temp names new (temp x) ≡ Some own
       → Copies g (with_copies first second kind copied ys g) x (copy_count_by kind copied)
   copies_step first second kind false ys g x own one two h f a is =
       record { facts = f; next = omega arith; each = λ j below. absurd (omega arith); same = refl }
   copies_step first second General true ys g x own one two h f a is = record {
     facts = copy_step first ys g x own one f a is;
     next = refl;
-    each = λ j below. (let z : g.next + j ≡ g.next = omega (arith, below) in ap (λ (k : ℕ). carried new (temp k)) z ∙ copy_carried first ys g x f h a.first);
+    each = λ j below. (let z : g.next + j ≡ g.next = omega (arith, below) in ap (λ (k : ℕ). carried new (temp k)) z
+        ∙ copy_carried first ys g x f h a.first);
     same = refl;
   }
   copies_step first second Pred true ys g x own one two h f a is =
@@ -310,7 +357,8 @@ module _ (t : Table) (names : List Kind) (old new : List ExtBlock) (owner : ExtB
         same = refl;
       }
     where
-      each : carried new (temp g.next) ≡ temp x → carried new (temp (g.next + 1)) ≡ temp x → (j : ℕ) → j < 2 → carried new (temp (g.next + j)) ≡ temp x
+      each : carried new (temp g.next) ≡ temp x → carried new (temp (g.next + 1)) ≡ temp x → (j : ℕ) → j < 2
+          → carried new (temp (g.next + j)) ≡ temp x
       each c1 c2 zero below = let z : g.next + 0 ≡ g.next = omega arith in ap (λ (k : ℕ). carried new (temp k)) z ∙ c1
       each c1 c2 (suc zero) below = c2
       each c1 c2 (suc (suc j)) below = absurd (omega arith)
@@ -321,17 +369,21 @@ module _ (t : Table) (names : List Kind) (old new : List ExtBlock) (owner : ExtB
   value_grow n sort g h = copies_grow D D2 sort.kind sort.copied (temp n ∷ []) g h
 
   value_step : (n : ℕ) (sort : Sort) (g : Growth) → Fits (let grown = with_value n sort g in grown.ops) → Facts g → start ≤ n → n < g.next
-      → carried new (temp n) ≡ temp n → kind_of_temp names new (temp n) ≡ Some sort.kind → kind_of_temp names old (temp (length g.values)) ≡ Some sort.kind
+      → carried new (temp n) ≡ temp n → kind_of_temp names new (temp n) ≡ Some sort.kind
+      → kind_of_temp names old (temp (length g.values)) ≡ Some sort.kind
       → Facts (with_value n sort g)
   value_step n sort g h f below above is kind was =
       let a = alts_alone n g.next below above is in
-      let c = copies_step D D2 sort.kind sort.copied (temp n ∷ []) g n sort.kind (All-cons (λ (x : Operand). length x.alts ≡ 1) _ [] refl (All-nil (λ (x : Operand). length x.alts ≡ 1)))
+      let c = copies_step D D2 sort.kind sort.copied (temp n ∷ []) g n sort.kind
+      (All-cons (λ (x : Operand). length x.alts ≡ 1) _ [] refl (All-nil (λ (x : Operand). length x.alts ≡ 1)))
       (λ zs m. tt) h f a kind in
       let facts = c.facts in
       let e = c.next in
-      let all : Alts (g.next + copy_count sort) n (own_temps n sort g) = alts_row g.next n (copy_count sort) (temp n ∷ []) (start_below g f) c.each a in
+      let all : Alts (g.next + copy_count sort) n (own_temps n sort g) =
+      alts_row g.next n (copy_count sort) (temp n ∷ []) (start_below g f) c.each a in
       let v : IsValue (let grown = with_value n sort g in grown.next) (length g.values) (value_of n sort g) =
-      subst (λ (k : ℕ). IsValue k (length g.values) (value_of n sort g)) (sym e) (record { x = n; all = all; own = all; kind = kind; was = was }) in
+      subst (λ (k : ℕ). IsValue k (length g.values) (value_of n sort g)) (sym e)
+      (record { x = n; all = all; own = all; kind = kind; was = was }) in
       record {
         numbers = facts.numbers;
         clength = facts.clength;
@@ -339,7 +391,8 @@ module _ (t : Table) (names : List Kind) (old new : List ExtBlock) (owner : ExtB
         good = facts.good;
         vals = λ i w got low. elim (push_cases g.values (value_of n sort g) i w got) [
           | inl at ↦ facts.vals i w (ap (λ (vs : List Value). slice_get vs i) c.same ∙ at) low
-          | inr at ↦ subst (λ (k : ℕ). IsValue (let grown = with_value n sort g in grown.next) k w) (sym at.0) (subst (IsValue (let grown = with_value n sort g in grown.next) (length g.values)) at.1 v)
+          | inr at ↦ subst (λ (k : ℕ). IsValue (let grown = with_value n sort g in grown.next) k w) (sym at.0)
+              (subst (IsValue (let grown = with_value n sort g in grown.next) (length g.values)) at.1 v)
         ];
       }
 
@@ -376,7 +429,8 @@ module _ (t : Table) (names : List Kind) (old new : List ExtBlock) (owner : ExtB
       let k = value_count n sort g in
       let itself : carried new (temp n) ≡ temp n = ap (λ (m : ℕ). carried new (temp m)) (sym z) ∙ one.itself ∙ ap temp z in
       let kind : kind_of_temp names new (temp n) ≡ Some sort.kind = ap (λ (m : ℕ). kind_of_temp names new (temp m)) (sym z) ∙ one.kind in
-      let was : kind_of_temp names old (temp (length g.values)) ≡ Some sort.kind = ap (λ (m : ℕ). kind_of_temp names old (temp m)) (sym y) ∙ one.was in
+      let was : kind_of_temp names old (temp (length g.values)) ≡ Some sort.kind = ap (λ (m : ℕ). kind_of_temp names old (temp m)) (sym y)
+      ∙ one.was in
       values_step (n + 1) sorts (with_value n sort g) h
       (value_step n sort g (values_grow (n + 1) sorts (with_value n sort g) h) f below (omega (arith, above)) itself kind was)
       (omega (arith, below)) (omega (arith, above, up))
@@ -410,7 +464,8 @@ module _ (t : Table) (names : List Kind) (old new : List ExtBlock) (owner : ExtB
     pub next : g.next ≤ grown.next
     pub count : length grown.values ≡ length g.values
 
-  read_by : (i : ℕ) (o : Option Value) (g : Growth) (kind : Kind) → slice_get g.values i ≡ o → Fits (let grown = with_operand_by i o g in grown.ops)
+  read_by : (i : ℕ) (o : Option Value) (g : Growth) (kind : Kind) → slice_get g.values i ≡ o
+      → Fits (let grown = with_operand_by i o g in grown.ops)
       → Facts g → low ≤ i → i < length g.values → kind_of_temp names old (temp i) ≡ Some kind → Read g (with_operand_by i o g) i kind
   read_by i None g kind at h f above below was = absurd (let e = sym at ∙ got in cc e)
     where
@@ -440,7 +495,8 @@ module _ (t : Table) (names : List Kind) (old new : List ExtBlock) (owner : ExtB
           klength = facts.klength;
           good = facts.good;
           vals = λ j w got up. elim (set_cases g.values i longer j w got) [
-            | inl is ↦ subst (λ (k : ℕ). IsValue next k w) (sym is.0) (subst (IsValue next i) is.1 (record { x = value.x; all = all; own = own; kind = value.kind; was = value.was }))
+            | inl is ↦ subst (λ (k : ℕ). IsValue next k w) (sym is.0)
+                (subst (IsValue next i) is.1 (record { x = value.x; all = all; own = own; kind = value.kind; was = value.was }))
             | inr is ↦ facts.vals j w (ap (λ (vs : List Value). slice_get vs j) c.same ∙ is) up
           ];
         };
@@ -475,7 +531,8 @@ module _ (t : Table) (names : List Kind) (old new : List ExtBlock) (owner : ExtB
         next = omega (arith, up, more);
         count = rest.count ∙ one.count;
         good = λ before numbers. (
-          subst (λ (home : Option Reg). IsGoodOperand names new before (chosen_from x (with_operand x g)) (record { kind = w.kind; home = home })) o.home
+          subst (λ (home : Option Reg). IsGoodOperand names new before (chosen_from x (with_operand x g))
+              (record { kind = w.kind; home = home })) o.home
               (good_alts before top one.x (alternatives (slice_get (let grown = with_operand x g in grown.values) i)) x.home w.kind numbers
               (alts_more (let grown = with_operand x g in grown.next) top one.x _ more one.alts) one.kind_is),
           rest.good before numbers,
@@ -484,7 +541,8 @@ module _ (t : Table) (names : List Kind) (old new : List ExtBlock) (owner : ExtB
 
   -- ---- Leave and Enter
 
-  add_frame : (kind : ExtKind) (g : Growth) → IsGoodExtOp t names new owner (results_of g.ops) (frame_op kind) → carried_by kind (frame_op kind) ≡ []
+  add_frame : (kind : ExtKind) (g : Growth) → IsGoodExtOp t names new owner (results_of g.ops) (frame_op kind)
+      → carried_by kind (frame_op kind) ≡ []
       → defined_kinds names owner kind (frame_op kind) ≡ [] → Facts g → Facts (with_op g (frame_op kind))
   add_frame kind g good c k f =
       let z : g.next + 0 ≡ g.next = omega arith in
@@ -527,16 +585,19 @@ module _ (t : Table) (names : List Kind) (old new : List ExtBlock) (owner : ExtB
   enter_grow true In g = λ h. fits_less g.ops (frame_op Enter ∷ []) h
   enter_grow _ _ g = λ h. h
 
-  values_count : (n : ℕ) (sorts : List Sort) (g : Growth) → length (let grown = with_values n sorts g in grown.values) ≡ length g.values + length sorts
+  values_count : (n : ℕ) (sorts : List Sort) (g : Growth) → length (let grown = with_values n sorts g in grown.values) ≡ length g.values +
+      length sorts
   values_count n [] g = omega arith
-  values_count n (sort ∷ sorts) g = let a = values_count (n + 1) sorts (with_value n sort g) in let b = value_count n sort g in omega (arith, a, b)
+  values_count n (sort ∷ sorts) g = let a = values_count (n + 1) sorts (with_value n sort g) in let b = value_count n sort g in
+      omega (arith, a, b)
 
   -- ---- an operation with its copies
 
   module _ (was : ExtBlock) (same_in : owner.live_in ≡ was.live_in) (same_out : owner.live_out ≡ was.live_out)
       (same_end : (let a = ending_of owner.ops in a.term) ≡ (let b = ending_of was.ops in b.term))
       (alone : (x : ℕ) → carried old (temp x) ≡ temp x) where
-    wants_kept : (kind : ExtKind) (a b : ExtOp) → is_linear_kind kind ≡ true → wants_of t names old was kind a ≡ wants_of t names new owner kind b
+    wants_kept : (kind : ExtKind) (a b : ExtOp) → is_linear_kind kind ≡ true
+        → wants_of t names old was kind a ≡ wants_of t names new owner kind b
     wants_kept In a b h = refl
     wants_kept Out a b h =
         ap (λ (term : Term). wants_of_out t names was.live_out term) (sym same_end)
@@ -570,7 +631,8 @@ module _ (t : Table) (names : List Kind) (old new : List ExtBlock) (owner : ExtB
     name_kinds [] = refl
     name_kinds (name ∷ live_in) = ap (λ (ks : List Kind). name_kind names name ∷ ks) (name_kinds live_in)
 
-    result_kinds : (ys : List TempId) (kind : Kind) (copied : Bool) → map (λ (s : Sort). s.kind) (replicate (length ys) (record { kind = kind; copied = copied })) ≡ map (λ (y : TempId). kind) ys
+    result_kinds : (ys : List TempId) (kind : Kind) (copied : Bool)
+        → map (λ (s : Sort). s.kind) (replicate (length ys) (record { kind = kind; copied = copied })) ≡ map (λ (y : TempId). kind) ys
     result_kinds [] kind copied = refl
     result_kinds (y ∷ ys) kind copied = ap (λ (ks : List Kind). kind ∷ ks) (result_kinds ys kind copied)
 
@@ -579,12 +641,16 @@ module _ (t : Table) (names : List Kind) (old new : List ExtBlock) (owner : ExtB
     no_kinds (y ∷ ys) h = absurd (omega (arith, h))
 
     -- the kinds of the values that an operation defines are those of their sorts
-    sorts_kinds : (block : ExtBlock) (saved : Bool) (kind : ExtKind) (op : ExtOp) → is_linear_kind kind ≡ true → length op.results ≡ result_count t block kind
+    sorts_kinds : (block : ExtBlock) (saved : Bool) (kind : ExtKind) (op : ExtOp) → is_linear_kind kind ≡ true
+        → length op.results ≡ result_count t block kind
         → map (λ (s : Sort). s.kind) (sorts_of names block.live_in saved kind (length op.results)) ≡ defined_kinds names block kind op
     sorts_kinds block saved In op h c =
-        map-append (λ (s : Sort). s.kind) (map (sort_of_name names) block.live_in) (replicate (length op.results - length block.live_in) (record { kind = General; copied = saved }))
-        ∙ ap (λ (ks : List Kind). ks ++ map (λ (s : Sort). s.kind) (replicate (length op.results - length block.live_in) (record { kind = General; copied = saved }))) (name_kinds block.live_in)
-        ∙ ap (λ (ks : List Kind). map (name_kind names) block.live_in ++ ks) (same_kinds (length op.results - length block.live_in) (record { kind = General; copied = saved }))
+        map-append (λ (s : Sort). s.kind) (map (sort_of_name names) block.live_in)
+        (replicate (length op.results - length block.live_in) (record { kind = General; copied = saved }))
+        ∙ ap (λ (ks : List Kind). ks ++ map (λ (s : Sort). s.kind)
+        (replicate (length op.results - length block.live_in) (record { kind = General; copied = saved }))) (name_kinds block.live_in)
+        ∙ ap (λ (ks : List Kind). map (name_kind names) block.live_in ++ ks)
+        (same_kinds (length op.results - length block.live_in) (record { kind = General; copied = saved }))
     sorts_kinds block saved (Body o) op h c = result_kinds op.results (result_kind o.op) true
     sorts_kinds block saved Out op h c = no_kinds op.results c
     sorts_kinds block saved (End term) op h c = no_kinds op.results c
@@ -592,7 +658,8 @@ module _ (t : Table) (names : List Kind) (old new : List ExtBlock) (owner : ExtB
     sorts_kinds block saved Enter op h c = absurd (cc h)
     sorts_kinds block saved Leave op h c = absurd (cc h)
 
-    kinds_length : (block : ExtBlock) (kind : ExtKind) (op : ExtOp) → length op.results ≡ result_count t block kind → length (defined_kinds names block kind op) ≡ length op.results
+    kinds_length : (block : ExtBlock) (kind : ExtKind) (op : ExtOp) → length op.results ≡ result_count t block kind
+        → length (defined_kinds names block kind op) ≡ length op.results
     kinds_length block In op c =
         let a = length-append (map (name_kind names) block.live_in) (replicate (length op.results - length block.live_in) General) in
         let b = length-map block.live_in (name_kind names) in
@@ -601,11 +668,13 @@ module _ (t : Table) (names : List Kind) (old new : List ExtBlock) (owner : ExtB
     kinds_length block (Body o) op c = length-map op.results (λ (y : TempId). result_kind o.op)
     kinds_length block _ op c = length-map op.results (λ (y : TempId). General)
 
-    first_known : (before : List TempId) (ys : List TempId) → 0 < length ys → All (Contains before) ys → Contains before (temp (first_of ys))
+    first_known : (before : List TempId) (ys : List TempId) → 0 < length ys → All (Contains before) ys
+        → Contains before (temp (first_of ys))
     first_known before [] h all = absurd (omega arith)
     first_known before (y ∷ ys) h all = All-head (Contains before) y ys all
 
-    reads_old : (before : List TempId) (i : ℕ) (xs : List Operand) (ws : List Want) → Numbers low before i → AllZip (IsGoodOperand names old before) xs ws
+    reads_old : (before : List TempId) (i : ℕ) (xs : List Operand) (ws : List Want) → Numbers low before i
+        → AllZip (IsGoodOperand names old before) xs ws
         → AllZip (ReadsOld i) xs ws
     reads_old before i [] [] numbers h = tt
     reads_old before i [] (w ∷ ws) numbers h = absurd h
@@ -617,7 +686,8 @@ module _ (t : Table) (names : List Kind) (old new : List ExtBlock) (owner : ExtB
 
     is_new : (read : Growth) (count : ℕ) (made : ExtOp) → made.results ≡ new_temps read count → Facts read → Fits (read.ops ++ made ∷ [])
         → carried_by made.kind made ≡ made.results → (j : ℕ) (sort : Sort) (i : ℕ)
-        → j < count → slice_get (defined_kinds names owner made.kind made) j ≡ Some sort.kind → slice_get (all_kinds names old) i ≡ Some sort.kind
+        → j < count → slice_get (defined_kinds names owner made.kind made) j ≡ Some sort.kind
+        → slice_get (all_kinds names old) i ≡ Some sort.kind
         → IsNew (read.next + j) i sort
     is_new read count made are f h same j sort i inside kind was =
         let l = length-map-range_with_len temp read.next count in
@@ -667,22 +737,27 @@ module _ (t : Table) (names : List Kind) (old new : List ExtBlock) (owner : ExtB
         let v0 : length before.values ≡ length g.values = ap (λ (vs : List Value). length vs) (leave_values op.kind g) in
         let wants = wants_of t names old was op.kind op in
         let r = operands_step op.operands wants before h3 (leave_step op.kind g f)
-        (subst (λ (k : ℕ). AllZip (ReadsOld k) op.operands wants) (sym v0) (reads_old seen (length g.values) op.operands wants seen_numbers good.operands)) in
+        (subst (λ (k : ℕ). AllZip (ReadsOld k) op.operands wants) (sym v0)
+        (reads_old seen (length g.values) op.operands wants seen_numbers good.operands)) in
         let f1 = r.facts in
         let width : length (new_temps read count) ≡ count = length-map-range_with_len temp read.next count in
         let c0 : length op.results ≡ result_count t was op.kind = good.results in
         let c1 : length (new_temps read count) ≡ result_count t owner op.kind = width ∙ c0 ∙ count_kept op.kind in
         let made_good : IsGoodExtOp t names new owner (results_of read.ops) made = record {
           kind = kind_kept op.kind op made plain.kind good.kind;
-          operands = subst (λ (ws : List Want). AllZip (IsGoodOperand names new (results_of read.ops)) (new_operands op.operands before) ws) (wants_kept op.kind op made plain.kind)
+          operands = subst (λ (ws : List Want). AllZip (IsGoodOperand names new (results_of read.ops)) (new_operands op.operands before) ws)
+              (wants_kept op.kind op made plain.kind)
               (r.good (results_of read.ops) f1.numbers);
           results = c1;
         } in
-        let f2 : Facts here = add_op read made count f1 made_good refl (ap (λ (xs : List TempId). length xs) (carried_plain op.kind made plain.kind) ∙ width) (kinds_length owner op.kind made c1 ∙ width) in
+        let f2 : Facts here = add_op read made count f1 made_good refl
+        (ap (λ (xs : List TempId). length xs) (carried_plain op.kind made plain.kind) ∙ width)
+        (kinds_length owner op.kind made c1 ∙ width) in
         let ks0 : map (λ (s : Sort). s.kind) sorts ≡ defined_kinds names was op.kind op = sorts_kinds was saved op.kind op plain.kind c0 in
         let ks1 : map (λ (s : Sort). s.kind) sorts ≡ defined_kinds names owner op.kind made =
         ap (λ (xs : List NameId). map (λ (s : Sort). s.kind) (sorts_of names xs saved op.kind count)) (sym same_in)
-        ∙ ap (λ (k : ℕ). map (λ (s : Sort). s.kind) (sorts_of names owner.live_in saved op.kind k)) (sym width) ∙ sorts_kinds owner saved op.kind made plain.kind c1 in
+        ∙ ap (λ (k : ℕ). map (λ (s : Sort). s.kind) (sorts_of names owner.live_in saved op.kind k)) (sym width)
+        ∙ sorts_kinds owner saved op.kind made plain.kind c1 in
         let total : length sorts ≡ count =
         sym (length-map sorts (λ (s : Sort). s.kind)) ∙ ap (λ (ks : List Kind). length ks) ks0 ∙ kinds_length was op.kind op c0 in
         let v1 : length here.values ≡ length g.values = r.count ∙ v0 in
@@ -690,13 +765,17 @@ module _ (t : Table) (names : List Kind) (old new : List ExtBlock) (owner : ExtB
         let f3 : Facts all = values_step read.next sorts here h1 f2 low_ok (omega (arith, total))
         (λ j sort got. is_new read count made refl f1 h2 (carried_plain op.kind made plain.kind) j sort (length here.values + j)
         (let b = slice_get_within sorts j sort got in omega (arith, b, total))
-        (sym (ap (λ (ks : List Kind). slice_get ks j) ks1) ∙ slice_get-map (λ (s : Sort). s.kind) sorts j ∙ ap (option_map (λ (s : Sort). s.kind)) got)
-        (ap (λ (k : ℕ). slice_get (all_kinds names old) (k + j)) (v1 ∙ sym long) ∙ ap (λ (ks : List Kind). slice_get ks (length front + j)) is
+        (sym (ap (λ (ks : List Kind). slice_get ks j) ks1) ∙ slice_get-map (λ (s : Sort). s.kind) sorts j
+        ∙ ap (option_map (λ (s : Sort). s.kind)) got)
+        (ap (λ (k : ℕ). slice_get (all_kinds names old) (k + j)) (v1 ∙ sym long)
+        ∙ ap (λ (ks : List Kind). slice_get ks (length front + j)) is
         ∙ got_right front (defined_kinds names was op.kind op ++ more) j
         ∙ got_left (defined_kinds names was op.kind op) more j sort.kind
-        (sym (ap (λ (ks : List Kind). slice_get ks j) ks0) ∙ slice_get-map (λ (s : Sort). s.kind) sorts j ∙ ap (option_map (λ (s : Sort). s.kind)) got))) in
+        (sym (ap (λ (ks : List Kind). slice_get ks j) ks0) ∙ slice_get-map (λ (s : Sort). s.kind) sorts j
+        ∙ ap (option_map (λ (s : Sort). s.kind)) got))) in
         let v2 = values_count read.next sorts here in
-        let v3 : length (let grown = with_enter is_entry op.kind all in grown.values) ≡ length all.values = ap (λ (vs : List Value). length vs) (enter_values is_entry op.kind all) in
+        let v3 : length (let grown = with_enter is_entry op.kind all in grown.values) ≡ length all.values =
+        ap (λ (vs : List Value). length vs) (enter_values is_entry op.kind all) in
         record { facts = enter_step is_entry op.kind all f3; values = omega (arith, v1, v2, v3, total) }
 
     -- ---- all operations of a block
@@ -707,9 +786,11 @@ module _ (t : Table) (names : List Kind) (old new : List ExtBlock) (owner : ExtB
     all_grow : (is_entry saved : Bool) (ops : List ExtOp) (g : Growth)
         → Fits (let grown = with_all_extended names was.live_in is_entry saved ops g in grown.ops) → Fits g.ops
     all_grow is_entry saved [] g h = h
-    all_grow is_entry saved (op ∷ ops) g h = extended_grow is_entry saved op g (all_grow is_entry saved ops (with_extended names was.live_in is_entry saved op g) h)
+    all_grow is_entry saved (op ∷ ops) g h = extended_grow is_entry saved op g
+        (all_grow is_entry saved ops (with_extended names was.live_in is_entry saved op g) h)
 
-    pub all_step : (is_entry saved : Bool) (ops : List ExtOp) (g : Growth) (seen : List TempId) (front more : List Kind) (m : ℕ) → All IsPlainOp ops
+    pub all_step : (is_entry saved : Bool) (ops : List ExtOp) (g : Growth) (seen : List TempId) (front more : List Kind) (m : ℕ)
+        → All IsPlainOp ops
         → AreGoodOps t names old was seen ops → Numbers low seen (length g.values) → Numbers (length g.values) (results_of ops) m
         → all_kinds names old ≡ front ++ (was_kinds ops ++ more) → length front ≡ length g.values
         → Fits (let grown = with_all_extended names was.live_in is_entry saved ops g in grown.ops) → Facts g
@@ -718,17 +799,21 @@ module _ (t : Table) (names : List Kind) (old new : List ExtBlock) (owner : ExtB
     all_step is_entry saved (op ∷ ops) g seen front more m plain good seen_numbers numbers is long h f =
         let next = with_extended names was.live_in is_entry saved op g in
         let here = defined_kinds names was op.kind op in
-        let apart : all_kinds names old ≡ front ++ (here ++ (was_kinds ops ++ more)) = is ∙ ap (λ (ks : List Kind). front ++ ks) (append_assoc here (was_kinds ops) more) in
-        let joined : all_kinds names old ≡ (front ++ here) ++ (was_kinds ops ++ more) = apart ∙ sym (append_assoc front here (was_kinds ops ++ more)) in
+        let apart : all_kinds names old ≡ front ++ (here ++ (was_kinds ops ++ more)) = is
+        ∙ ap (λ (ks : List Kind). front ++ ks) (append_assoc here (was_kinds ops) more) in
+        let joined : all_kinds names old ≡ (front ++ here) ++ (was_kinds ops ++ more) = apart
+        ∙ sym (append_assoc front here (was_kinds ops ++ more)) in
         let one_good = good.0 in
-        let one = extended_step is_entry saved op g seen front (was_kinds ops ++ more) (All-head IsPlainOp op ops plain) one_good seen_numbers apart long
+        let one = extended_step is_entry saved op g seen front (was_kinds ops ++ more) (All-head IsPlainOp op ops plain) one_good
+        seen_numbers apart long
         (all_grow is_entry saved ops next h) f in
         let split = numbers_split (length g.values) m op.results (results_of ops) numbers in
         let width = kinds_length was op.kind op one_good.results in
         let l = length-append front here in
         let v = one.values in
         let rest = all_step is_entry saved ops next (seen ++ op.results) (front ++ here) more m (All-tail IsPlainOp op ops plain) good.1
-        (subst (λ (k : ℕ). Numbers low (seen ++ op.results) k) (sym v) (numbers_append low (length g.values) (length g.values + length op.results) seen op.results seen_numbers split.front))
+        (subst (λ (k : ℕ). Numbers low (seen ++ op.results) k) (sym v)
+        (numbers_append low (length g.values) (length g.values + length op.results) seen op.results seen_numbers split.front))
         (subst (λ (k : ℕ). Numbers k (results_of ops) m) (sym v) split.back) joined (omega (arith, l, width, long, v)) h one.facts in
         let w = rest.values in
         let q = length-append op.results (results_of ops) in

@@ -1,5 +1,7 @@
 -- The extended function of every linear function is extended.
-use Rattle.std.proofs.Common.{◌≡◌, ◌≢◌, ℕ, zero, suc, ◌+◌, ◌<◌, ◌≤◌, ◌++◌, ◌^◌, ◌==◌, ◌||◌, Bool, true, false, List, [], ◌∷◌, Option, Some, None, unwrap_or, map, length, get_or, slice_get, count_by, All, AllPairs, Contains, refl, sym, ap, ◌∙◌, arith, subst, add-one}
+use Rattle.std.proofs.Common.{◌≡◌, ◌≢◌, ℕ, zero, suc, ◌+◌, ◌<◌, ◌≤◌, ◌++◌, ◌^◌, ◌==◌, ◌||◌, Bool, true, false, List, [], ◌∷◌, Option, Some}
+use Rattle.std.proofs.Common.{None, unwrap_or, map, length, get_or, slice_get, count_by, All, AllPairs, Contains, refl, sym, ap, ◌∙◌, arith}
+use Rattle.std.proofs.Common.{subst, add-one}
 use Rattle.std.specs.List.{flat_map}
 use Rattle.std.proofs.lemmas.List.Elements.{All-head, All-tail}
 use Rattle.std.proofs.lemmas.List.Sums.{sum_by-cons}
@@ -17,7 +19,9 @@ use Rattle.un_ir.specs.declared.extended.ExtBlock.{ExtBlock}
 use Rattle.un_ir.specs.declared.extended.Ext.{Ext}
 use Rattle.un_ir.specs.declared.extended.Lssa.{Lssa}
 use Rattle.un_ir.specs.declared.extended.Value.{Value}
-use Rattle.un_ir.specs.Extended.{temp, name_kind, returns, one_if, is_enter, is_leave, is_return, is_linear_kind, carried, carried_by, all_carried, all_results, results_of, size_of, LeadsOn, HandsNamesOver, IsPlainOp, IsGoodExtBlock, IsLinear, IsExtended}
+use Rattle.un_ir.specs.Extended.{temp, name_kind, returns, one_if, is_enter, is_leave, is_return, is_linear_kind, carried, carried_by}
+use Rattle.un_ir.specs.Extended.{all_carried, all_results, results_of, size_of, LeadsOn, HandsNamesOver, IsPlainOp, IsGoodExtBlock}
+use Rattle.un_ir.specs.Extended.{IsLinear, IsExtended}
 use Rattle.un_ir.specs.Linear.{ending_of}
 use Rattle.un_ir.specs.Live.{targets_of}
 use Rattle.un_ir.specs.ExtendOf.{grown_block, with_ops, extended_blocks, extend_of}
@@ -56,7 +60,8 @@ temps_at n (suc count) (suc i) =
     let z : n + suc i ≡ (n + 1) + i = omega arith in
     ap (λ (k : ℕ). get_or (temps (n + 1) count) i (temp k)) z ∙ temps_at (n + 1) count i ∙ ap temp (sym z)
 
-carried_itself : (blocks : List ExtBlock) (m : ℕ) → All Plain blocks → Numbers 0 (all_results blocks) m → (x : ℕ) → carried blocks (temp x) ≡ temp x
+carried_itself : (blocks : List ExtBlock) (m : ℕ) → All Plain blocks → Numbers 0 (all_results blocks) m → (x : ℕ)
+    → carried blocks (temp x) ≡ temp x
 carried_itself blocks m all numbers x =
     let z : 0 + x ≡ x = omega arith in
     unwrap_or-slice_get (all_carried blocks) x (temp x)
@@ -67,7 +72,8 @@ carried_itself blocks m all numbers x =
 
 count_same : (test : ExtKind → Bool) (ops : List ExtOp) → count_by (λ (op : ExtOp). test op.kind) ops ≡ count test ops
 count_same test [] = refl
-count_same test (op ∷ ops) = sum_by-cons (λ (x : ExtOp). one_if (test x.kind)) op ops ∙ ap (λ (k : ℕ). one_if (test op.kind) + k) (count_same test ops)
+count_same test (op ∷ ops) = sum_by-cons (λ (x : ExtOp). one_if (test x.kind)) op ops
+    ∙ ap (λ (k : ℕ). one_if (test op.kind) + k) (count_same test ops)
 
 extended_length : (names : List Kind) (is_entry : Bool) (values : List Value) (next : ℕ) (rest : List ExtBlock)
     → length (extended_blocks names is_entry values next rest) ≡ length rest
@@ -112,9 +118,18 @@ module _ (l : Lssa) (lin : IsLinear l) where
       let saved : Bool = is_entry || returns was in
       let good_was = All-head Good was rest good in
       let p = good_was.parts in
-      let s = shaped l.names was.live_in is_entry saved was.ops p.0 values next p.1 (All-head Plain was rest plain) (start_reads_none l.table l.names old new alone was p.0 good_was p.1) in
+      let s = shaped l.names was.live_in is_entry saved was.ops p.0 values next p.1 (All-head Plain was rest plain)
+      (start_reads_none l.table l.names old new alone was p.0 good_was p.1) in
       let e : with_ops was g.ops ≡ own = cc h in
-      subst (From is_entry (was ∷ rest) 0) e (record { was = was; ops = g.ops; at = refl; is = refl; ends = s.ends; enters = s.enters; leaves = s.leaves })
+      subst (From is_entry (was ∷ rest) 0) e (record {
+        was = was;
+        ops = g.ops;
+        at = refl;
+        is = refl;
+        ends = s.ends;
+        enters = s.enters;
+        leaves = s.leaves;
+      })
   from is_entry values next (was ∷ rest) (suc k) own good plain h =
       let g = grown_block l.names is_entry values next was in
       let r = from false g.values g.next rest k own (All-tail Good was rest good) (All-tail Plain was rest plain) h in
@@ -168,7 +183,8 @@ module _ (l : Lssa) (lin : IsLinear l) where
       let g = lin.good in
       let grown = extended_size l.table l.names old true [] 0 old g.each in
       let little = g.small in
-      let b = blocks_good l.table l.names old new alone true [] 0 old [] [] [] (length (all_results old)) refl refl refl refl refl refl numbers_old g.each lin.plain in
+      let b = blocks_good l.table l.names old new alone true [] 0 old [] [] [] (length (all_results old)) refl refl refl refl refl refl
+      numbers_old g.each lin.plain in
       let e = same_length in
       let some = g.entry in
       let few = g.few in
@@ -182,7 +198,8 @@ module _ (l : Lssa) (lin : IsLinear l) where
           hands_over = hands_over;
           distinct_labels = distinct_labels;
           params = λ entry h. (let f = got 0 entry h in let was = f.was in
-              subst (λ (xs : List NameId). All (λ (name : NameId). (name.0 < PARAMS) × (name_kind l.names name ≡ General)) xs) (ap (λ (x : ExtBlock). x.live_in) f.is) (g.params was f.at));
+              subst (λ (xs : List NameId). All (λ (name : NameId). (name.0 < PARAMS) × (name_kind l.names name ≡ General)) xs)
+              (ap (λ (x : ExtBlock). x.live_in) f.is) (g.params was f.at));
           small = omega (arith, grown, little);
         };
         frames = record {
@@ -201,4 +218,5 @@ module _ (l : Lssa) (lin : IsLinear l) where
       → IsExtended (let e : Ext = record { table = l.table; names = names; blocks = blocks } in e)
   made_kept names blocks e1 e2 =
       subst (λ (ns : List Kind). IsExtended (let e : Ext = record { table = l.table; names = ns; blocks = blocks } in e)) (sym e1)
-      (subst (λ (bs : List ExtBlock). IsExtended (let e : Ext = record { table = l.table; names = l.names; blocks = bs } in e)) (sym e2) extended_kept)
+      (subst (λ (bs : List ExtBlock). IsExtended (let e : Ext = record { table = l.table; names = l.names; blocks = bs } in e)) (sym e2)
+      extended_kept)

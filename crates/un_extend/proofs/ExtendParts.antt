@@ -1,5 +1,6 @@
 -- An extended block has the parts of a block, with Enter and Leave once where they are to be, and the terminator of the linear one.
-use Rattle.std.proofs.Common.{◌≡◌, ℕ, zero, suc, ◌+◌, ◌<◌, ◌++◌, Bool, true, false, List, [], ◌∷◌, Option, Some, None, length, get_or, All, refl, sym, ap, ◌∙◌, arith, subst, append_assoc, append-nil}
+use Rattle.std.proofs.Common.{◌≡◌, ℕ, zero, suc, ◌+◌, ◌<◌, ◌++◌, Bool, true, false, List, [], ◌∷◌, Option, Some, None, length, get_or, All}
+use Rattle.std.proofs.Common.{refl, sym, ap, ◌∙◌, arith, subst, append_assoc, append-nil}
 use Rattle.std.specs.Option.{option_to_list}
 use Rattle.std.proofs.lemmas.List.Elements.{All-nil, All-cons, All-head, All-tail, All-append}
 use Rattle.std.proofs.lemmas.List.{get_or_append_left, length-append}
@@ -14,10 +15,12 @@ use Rattle.un_ir.specs.declared.extended.Operand.{Operand}
 use Rattle.un_ir.specs.declared.extended.ExtOp.{ExtOp}
 use Rattle.un_ir.specs.declared.extended.Growth.{Growth}
 use Rattle.un_ir.specs.declared.extended.Value.{Value}
-use Rattle.un_ir.specs.Extended.{AllAre, is_copy, is_end, is_enter, is_leave, is_inner, is_return, is_linear_kind, IsPlainOp, Parts, IsMadeOf, one_if}
+use Rattle.un_ir.specs.Extended.{AllAre, is_copy, is_end, is_enter, is_leave, is_inner, is_return, is_linear_kind, IsPlainOp, Parts}
+use Rattle.un_ir.specs.Extended.{IsMadeOf, one_if}
 use Rattle.un_ir.specs.Linear.{is_in, is_out, ending_of, ending_or, Ending}
 use Rattle.un_ir.specs.ExtendOf.{with_extended, with_all_extended}
-use Rattle.un_extend.proofs.ExtendShape.{count, count_append, Adds, Begun, Ended, Closed, start_add, end_add, out_add, all_inner_add, parts_end, end_term}
+use Rattle.un_extend.proofs.ExtendShape.{count, count_append, Adds, Begun, Ended, Closed, start_add, end_add, out_add, all_inner_add}
+use Rattle.un_extend.proofs.ExtendShape.{parts_end, end_term}
 
 all_left : {X : Type 0} (P : X → Type 0) (xs ys : List X) → All P (xs ++ ys) → All P xs
 all_left P xs ys all k d h = subst P (get_or_append_left xs ys d k h) (all k d (let l = length-append xs ys in omega (arith, l, h)))
@@ -28,7 +31,8 @@ all_right P (x ∷ xs) ys all = all_right P xs ys (All-tail P x (xs ++ ys) all)
 
 late_none : (xs : List ExtOp) → AllAre is_copy xs → All IsPlainOp xs → xs ≡ []
 late_none [] c p = refl
-late_none (x ∷ xs) c p = let h = All-head IsPlainOp x xs p in absurd (by x.kind (All-head (λ (op : ExtOp). is_copy op.kind ≡ true) x xs c) h.kind)
+late_none (x ∷ xs) c p = let h = All-head IsPlainOp x xs p in absurd
+    (by x.kind (All-head (λ (op : ExtOp). is_copy op.kind ≡ true) x xs c) h.kind)
   where
     by : (kind : ExtKind) → is_copy kind ≡ true → is_linear_kind kind ≡ true → ⊥
     by (Copy node) a b = cc b
@@ -80,17 +84,25 @@ module _ (names : List Kind) (live_in : List NameId) (is_entry saved : Bool) whe
     leaves : count is_leave (option_to_list ending) ≡ 0
 
   fall_term : (out : ExtOp) → is_out out.kind ≡ true → (let e = ending_of (out ∷ []) in e.term) ≡ Fall
-  fall_term out h = ap (λ (k : ExtKind). (let e = ending_or k out.operands (record { term = Fall; operands = [] }) in e.term)) (out_is out.kind h)
+  fall_term out h = ap (λ (k : ExtKind). (let e = ending_or k out.operands (record { term = Fall; operands = [] }) in e.term))
+      (out_is out.kind h)
 
   own_term : (op out : ExtOp) (term : Term) → op.kind ≡ End term → (let e = ending_of (op ∷ out ∷ []) in e.term) ≡ term
   own_term op out term is = ap (λ (k : ExtKind). (let e = ending_or k op.operands (ending_of (out ∷ [])) in e.term)) is
 
-  end_part : (o : Option ExtOp) (g : Growth) → AllAre is_end (option_to_list o) → (term : Term) × EndPart o term g (all (option_to_list o) g)
+  end_part : (o : Option ExtOp) (g : Growth) → AllAre is_end (option_to_list o) → (term : Term)
+      × EndPart o term g (all (option_to_list o) g)
   end_part None g h = (
     Fall,
     record {
       front = g.ops;
-      before = record { more = []; is = sym (append-nil g.ops); all = All-nil (λ (op : ExtOp). is_inner op.kind ≡ true); enter = refl; leave = refl };
+      before = record {
+        more = [];
+        is = sym (append-nil g.ops);
+        all = All-nil (λ (op : ExtOp). is_inner op.kind ≡ true);
+        enter = refl;
+        leave = refl;
+      };
       ending = None;
       are_ends = h;
       whole = sym (append-nil g.ops);
@@ -103,14 +115,16 @@ module _ (names : List Kind) (live_in : List NameId) (is_entry saved : Bool) whe
   end_part (Some op) g h =
       let k = end_term op.kind (All-head (λ (op : ExtOp). is_end op.kind ≡ true) op [] h) in
       let e : Ended names live_in is_entry saved k.0 g (with_extended names live_in is_entry saved op g) =
-      subst (λ (kind : ExtKind). Ended names live_in is_entry saved k.0 g (with_extended names live_in is_entry saved (record { kind = kind; operands = op.operands; results = op.results }) g)) (sym k.1)
+      subst (λ (kind : ExtKind). Ended names live_in is_entry saved k.0 g
+      (with_extended names live_in is_entry saved (record { kind = kind; operands = op.operands; results = op.results }) g)) (sym k.1)
       (end_add names live_in is_entry saved k.0 op.operands op.results g) in (
         k.0,
         record {
           front = e.front;
           before = e.before;
           ending = Some e.last;
-          are_ends = All-cons (λ (op : ExtOp). is_end op.kind ≡ true) e.last [] (ap is_end e.is_last) (All-nil (λ (op : ExtOp). is_end op.kind ≡ true));
+          are_ends = All-cons (λ (op : ExtOp). is_end op.kind ≡ true) e.last [] (ap is_end e.is_last)
+              (All-nil (λ (op : ExtOp). is_end op.kind ≡ true));
           whole = e.whole;
           term_was = λ out q. own_term op out k.0 k.1;
           term_is = λ out q. own_term e.last out k.0 e.is_last;
@@ -131,17 +145,20 @@ module _ (names : List Kind) (live_in : List NameId) (is_entry saved : Bool) whe
       append_assoc (((x ∷ a) ++ b) ++ c) d (e ++ f)
       ∙ ap (λ (xs : List ExtOp). xs ++ (d ++ (e ++ f))) (append_assoc (x ∷ a) b c)
 
-  pub shaped : (was : List ExtOp) (p : Parts) (values : List Value) (next : ℕ) → IsMadeOf was p → All IsPlainOp was → (let s = p.start in s.operands) ≡ []
+  pub shaped : (was : List ExtOp) (p : Parts) (values : List Value) (next : ℕ) → IsMadeOf was p → All IsPlainOp was
+      → (let s = p.start in s.operands) ≡ []
       → Shaped (let grown = all was (record { ops = []; values = values; next = next }) in grown.ops) was
   shaped was p values next m plain none =
       let g0 : Growth = record { ops = []; values = values; next = next } in
       let first = p.start in
       let out = p.out in
       let ends = option_to_list p.ending in
-      let all_plain : All IsPlainOp (first ∷ (p.inner ++ (ends ++ (p.late ++ out ∷ [])))) = subst (λ (xs : List ExtOp). All IsPlainOp xs) m.whole plain in
+      let all_plain : All IsPlainOp (first ∷ (p.inner ++ (ends ++ (p.late ++ out ∷ [])))) =
+      subst (λ (xs : List ExtOp). All IsPlainOp xs) m.whole plain in
       let behind = All-tail IsPlainOp first (p.inner ++ (ends ++ (p.late ++ out ∷ []))) all_plain in
       let inner_plain = all_left IsPlainOp p.inner (ends ++ (p.late ++ out ∷ [])) behind in
-      let late_plain = all_left IsPlainOp p.late (out ∷ []) (all_right IsPlainOp ends (p.late ++ out ∷ []) (all_right IsPlainOp p.inner (ends ++ (p.late ++ out ∷ [])) behind)) in
+      let late_plain = all_left IsPlainOp p.late (out ∷ []) (all_right IsPlainOp ends (p.late ++ out ∷ [])
+      (all_right IsPlainOp p.inner (ends ++ (p.late ++ out ∷ [])) behind)) in
       let no_late = late_none p.late m.late late_plain in
       let g1 = with_extended names live_in is_entry saved first g0 in
       let g2 = all p.inner g1 in
@@ -159,15 +176,20 @@ module _ (names : List Kind) (live_in : List NameId) (is_entry saved : Bool) whe
       let c = e.before in
       let o = out_add names live_in is_entry saved out.kind out.operands out.results g3 m.out in
       let d = o.before in
-      let whole : (let grown = all was g0 in grown.ops) ≡ s.first ∷ ((a.more ++ (b.more ++ c.more)) ++ (option_to_list e.ending ++ (d.more ++ o.last ∷ []))) =
-      ap (λ (g : Growth). g.ops) same ∙ o.whole ∙ ap (λ (xs : List ExtOp). xs ++ o.last ∷ []) d.is ∙ append_assoc g3.ops d.more (o.last ∷ [])
-      ∙ ap (λ (xs : List ExtOp). xs ++ (d.more ++ o.last ∷ [])) (e.whole ∙ ap (λ (xs : List ExtOp). xs ++ option_to_list e.ending) (c.is ∙ ap (λ (xs : List ExtOp). xs ++ c.more) (b.is ∙ ap (λ (xs : List ExtOp). xs ++ b.more) a.is)))
+      let whole : (let grown = all was g0 in grown.ops) ≡ s.first ∷
+      ((a.more ++ (b.more ++ c.more)) ++ (option_to_list e.ending ++ (d.more ++ o.last ∷ []))) =
+      ap (λ (g : Growth). g.ops) same ∙ o.whole ∙ ap (λ (xs : List ExtOp). xs ++ o.last ∷ []) d.is
+      ∙ append_assoc g3.ops d.more (o.last ∷ [])
+      ∙ ap (λ (xs : List ExtOp). xs ++ (d.more ++ o.last ∷ [])) (e.whole
+      ∙ ap (λ (xs : List ExtOp). xs ++ option_to_list e.ending)
+      (c.is ∙ ap (λ (xs : List ExtOp). xs ++ c.more) (b.is ∙ ap (λ (xs : List ExtOp). xs ++ b.more) a.is)))
       ∙ join s.first a.more b.more c.more (option_to_list e.ending) d.more (o.last ∷ []) in
       let q : Parts = record { start = s.first; inner = a.more ++ (b.more ++ c.more); ending = e.ending; late = d.more; out = o.last } in
       let made : IsMadeOf (let grown = all was g0 in grown.ops) q = record {
         whole = whole;
         start = s.is_first;
-        inner = All-append (λ (op : ExtOp). is_inner op.kind ≡ true) a.more (b.more ++ c.more) a.all (All-append (λ (op : ExtOp). is_inner op.kind ≡ true) b.more c.more b.all c.all);
+        inner = All-append (λ (op : ExtOp). is_inner op.kind ≡ true) a.more (b.more ++ c.more) a.all
+            (All-append (λ (op : ExtOp). is_inner op.kind ≡ true) b.more c.more b.all c.all);
         ending = e.are_ends;
         late = d.all;
         out = o.is_last;
@@ -178,14 +200,17 @@ module _ (names : List Kind) (live_in : List NameId) (is_entry saved : Bool) whe
         made = made;
         ends = ap (λ (x : Ending). x.term) (parts_end _ q made) ∙ e.term_is o.last o.is_last ∙ sym was_term;
         enters = total is_enter s.first a.more b.more c.more (option_to_list e.ending) d.more (o.last ∷ []) _ whole
-            (count_one is_enter s.first In (in_is (let x = s.first in x.kind) s.is_first) refl) (count_one is_enter o.last Out (out_is (let x = o.last in x.kind) o.is_last) refl)
+            (count_one is_enter s.first In (in_is (let x = s.first in x.kind) s.is_first) refl)
+            (count_one is_enter o.last Out (out_is (let x = o.last in x.kind) o.is_last) refl)
             b.enter c.enter e.enters d.enter ∙ a.enter;
         leaves = total_late is_leave s.first a.more b.more c.more (option_to_list e.ending) d.more (o.last ∷ []) _ whole
-            (count_one is_leave s.first In (in_is (let x = s.first in x.kind) s.is_first) refl) (count_one is_leave o.last Out (out_is (let x = o.last in x.kind) o.is_last) refl)
+            (count_one is_leave s.first In (in_is (let x = s.first in x.kind) s.is_first) refl)
+            (count_one is_leave o.last Out (out_is (let x = o.last in x.kind) o.is_last) refl)
             a.leave b.leave e.leaves d.leave ∙ c.leave ∙ ap (λ (x : Term). one_if (is_return x)) (sym was_term);
       }
     where
-      sums : (test : ExtKind → Bool) (x : ExtOp) (a b c d e f : List ExtOp) (ops : List ExtOp) → ops ≡ x ∷ ((a ++ (b ++ c)) ++ (d ++ (e ++ f)))
+      sums : (test : ExtKind → Bool) (x : ExtOp) (a b c d e f : List ExtOp) (ops : List ExtOp)
+          → ops ≡ x ∷ ((a ++ (b ++ c)) ++ (d ++ (e ++ f)))
           → count test ops ≡ count test (x ∷ []) + count test a + count test b + count test c + count test d + count test e + count test f
       sums test x a b c d e f ops is =
           let s = ap (count test) is in
@@ -196,10 +221,14 @@ module _ (names : List Kind) (live_in : List NameId) (is_entry saved : Bool) whe
           let l = count_append test e f in
           omega (arith, s, h, i, j, k, l)
 
-      total : (test : ExtKind → Bool) (x : ExtOp) (a b c d e f : List ExtOp) (ops : List ExtOp) → ops ≡ x ∷ ((a ++ (b ++ c)) ++ (d ++ (e ++ f)))
-          → count test (x ∷ []) ≡ 0 → count test f ≡ 0 → count test b ≡ 0 → count test c ≡ 0 → count test d ≡ 0 → count test e ≡ 0 → count test ops ≡ count test a
+      total : (test : ExtKind → Bool) (x : ExtOp) (a b c d e f : List ExtOp) (ops : List ExtOp)
+          → ops ≡ x ∷ ((a ++ (b ++ c)) ++ (d ++ (e ++ f)))
+          → count test (x ∷ []) ≡ 0 → count test f ≡ 0 → count test b ≡ 0 → count test c ≡ 0 → count test d ≡ 0 → count test e ≡ 0
+          → count test ops ≡ count test a
       total test x a b c d e f ops is h i j k l m = let s = sums test x a b c d e f ops is in omega (arith, s, h, i, j, k, l, m)
 
-      total_late : (test : ExtKind → Bool) (x : ExtOp) (a b c d e f : List ExtOp) (ops : List ExtOp) → ops ≡ x ∷ ((a ++ (b ++ c)) ++ (d ++ (e ++ f)))
-          → count test (x ∷ []) ≡ 0 → count test f ≡ 0 → count test a ≡ 0 → count test b ≡ 0 → count test d ≡ 0 → count test e ≡ 0 → count test ops ≡ count test c
+      total_late : (test : ExtKind → Bool) (x : ExtOp) (a b c d e f : List ExtOp) (ops : List ExtOp)
+          → ops ≡ x ∷ ((a ++ (b ++ c)) ++ (d ++ (e ++ f)))
+          → count test (x ∷ []) ≡ 0 → count test f ≡ 0 → count test a ≡ 0 → count test b ≡ 0 → count test d ≡ 0 → count test e ≡ 0
+          → count test ops ≡ count test c
       total_late test x a b c d e f ops is h i j k l m = let s = sums test x a b c d e f ops is in omega (arith, s, h, i, j, k, l, m)

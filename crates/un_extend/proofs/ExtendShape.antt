@@ -1,5 +1,6 @@
 -- The parts of an extended block: its copies, Enter and Leave stand around the operations of the linear block.
-use Rattle.std.proofs.Common.{◌≡◌, ℕ, zero, suc, ◌+◌, ◌-◌, ◌*◌, ◌≤◌, ◌++◌, Bool, true, false, if◌then◌else◌, List, [], ◌∷◌, Option, Some, None, length, slice_get, count_by, All, refl, sym, ap, ◌∙◌, arith, subst, append_assoc, append-nil}
+use Rattle.std.proofs.Common.{◌≡◌, ℕ, zero, suc, ◌+◌, ◌-◌, ◌*◌, ◌≤◌, ◌++◌, Bool, true, false, if◌then◌else◌, List, [], ◌∷◌, Option, Some}
+use Rattle.std.proofs.Common.{None, length, slice_get, count_by, All, refl, sym, ap, ◌∙◌, arith, subst, append_assoc, append-nil}
 use Rattle.std.specs.Option.{option_to_list}
 use Rattle.std.proofs.lemmas.List.Elements.{All-nil, All-cons, All-head, All-tail, All-append, All-weaker}
 use Rattle.un_base.specs.declared.ids.NameId.{NameId}
@@ -17,9 +18,12 @@ use Rattle.un_ir.specs.declared.extended.ExtOp.{ExtOp}
 use Rattle.un_ir.specs.declared.extended.Growth.{Growth}
 use Rattle.un_ir.specs.declared.extended.Sort.{Sort}
 use Rattle.un_ir.specs.declared.extended.Value.{Value}
-use Rattle.un_ir.specs.Extended.{temp, AllAre, is_copy, is_end, is_enter, is_leave, is_inner, is_return, is_linear_kind, IsPlainOp, Parts, IsMadeOf, one_if}
+use Rattle.un_ir.specs.Extended.{temp, AllAre, is_copy, is_end, is_enter, is_leave, is_inner, is_return, is_linear_kind, IsPlainOp, Parts}
+use Rattle.un_ir.specs.Extended.{IsMadeOf, one_if}
 use Rattle.un_ir.specs.Linear.{is_in, is_out, first_of, ending_of, ending_or, Ending}
-use Rattle.un_ir.specs.ExtendOf.{frame_op, with_op, with_leave, with_enter, with_results, with_extended, with_all_extended, sorts_of, copy_op, with_copy, with_copies, new_temps, with_value, with_values, with_operand_by, with_operand, with_operands, new_operands}
+use Rattle.un_ir.specs.ExtendOf.{frame_op, with_op, with_leave, with_enter, with_results, with_extended, with_all_extended, sorts_of}
+use Rattle.un_ir.specs.ExtendOf.{copy_op, with_copy, with_copies, new_temps, with_value, with_values, with_operand_by, with_operand}
+use Rattle.un_ir.specs.ExtendOf.{with_operands, new_operands}
 
 abbrev pub count : (ExtKind → Bool) → List ExtOp → ℕ
 count test [] = 0
@@ -38,9 +42,17 @@ pub record Adds (test : ExtKind → Bool) (enters leaves : ℕ) (xs ys : List Ex
   pub leave : count is_leave more ≡ leaves
 
 adds_none : (test : ExtKind → Bool) (xs : List ExtOp) → Adds test 0 0 xs xs
-adds_none test xs = record { more = []; is = sym (append-nil xs); all = All-nil (λ (op : ExtOp). test op.kind ≡ true); enter = refl; leave = refl }
+adds_none test xs = record {
+  more = [];
+  is = sym (append-nil xs);
+  all = All-nil (λ (op : ExtOp). test op.kind ≡ true);
+  enter = refl;
+  leave =
+      refl;
+}
 
-pub adds_then : (test : ExtKind → Bool) (a b c d : ℕ) (xs ys zs : List ExtOp) → Adds test a b xs ys → Adds test c d ys zs → Adds test (a + c) (b + d) xs zs
+pub adds_then : (test : ExtKind → Bool) (a b c d : ℕ) (xs ys zs : List ExtOp) → Adds test a b xs ys → Adds test c d ys zs
+    → Adds test (a + c) (b + d) xs zs
 adds_then test a b c d xs ys zs p q = record {
   more = p.more ++ q.more;
   is = q.is ∙ ap (λ (ws : List ExtOp). ws ++ q.more) p.is ∙ append_assoc xs p.more q.more;
@@ -49,7 +61,8 @@ adds_then test a b c d xs ys zs p q = record {
   leave = (let e = count_append is_leave p.more q.more in let f = p.leave in let g = q.leave in omega (arith, e, f, g));
 }
 
-adds_one : (test : ExtKind → Bool) (xs : List ExtOp) (op : ExtOp) → test op.kind ≡ true → Adds test (one_if (is_enter op.kind)) (one_if (is_leave op.kind)) xs (xs ++ op ∷ [])
+adds_one : (test : ExtKind → Bool) (xs : List ExtOp) (op : ExtOp) → test op.kind ≡ true
+    → Adds test (one_if (is_enter op.kind)) (one_if (is_leave op.kind)) xs (xs ++ op ∷ [])
 adds_one test xs op h = record {
   more = op ∷ [];
   is = refl;
@@ -58,7 +71,8 @@ adds_one test xs op h = record {
   leave = omega arith;
 }
 
-adds_wider : (test other : ExtKind → Bool) (a b : ℕ) (xs ys : List ExtOp) → ((kind : ExtKind) → test kind ≡ true → other kind ≡ true) → Adds test a b xs ys
+adds_wider : (test other : ExtKind → Bool) (a b : ℕ) (xs ys : List ExtOp) → ((kind : ExtKind) → test kind ≡ true → other kind ≡ true)
+    → Adds test a b xs ys
     → Adds other a b xs ys
 adds_wider test other a b xs ys h p = record {
   more = p.more;
@@ -80,7 +94,8 @@ copy_inner Leave h = absurd (cc h)
 abbrev Copied : Growth → Growth → Type 0
 Copied g grown = Adds is_copy 0 0 g.ops grown.ops
 
-copies_add : (first second : NodeCopy) (kind : Kind) (copied : Bool) (ys : List TempId) (g : Growth) → Copied g (with_copies first second kind copied ys g)
+copies_add : (first second : NodeCopy) (kind : Kind) (copied : Bool) (ys : List TempId) (g : Growth)
+    → Copied g (with_copies first second kind copied ys g)
 copies_add first second kind false ys g = adds_none is_copy g.ops
 copies_add first second General true ys g = adds_one is_copy g.ops (copy_op first ys g.next) refl
 copies_add first second Pred true ys g =
@@ -116,17 +131,21 @@ module _ (names : List Kind) (live_in : List NameId) (is_entry saved : Bool) whe
   abbrev Inner : ℕ → ℕ → Growth → Growth → Type 0
   Inner enters leaves g grown = Adds is_inner enters leaves g.ops grown.ops
 
-  inner_add : (kind : ExtKind) (operands : List Operand) (results : List TempId) (g : Growth) → is_inner kind ≡ true → is_linear_kind kind ≡ true
+  inner_add : (kind : ExtKind) (operands : List Operand) (results : List TempId) (g : Growth) → is_inner kind ≡ true
+      → is_linear_kind kind ≡ true
       → Inner 0 0 g (grows (record { kind = kind; operands = operands; results = results }) g)
   inner_add (Body o) operands results g h k =
       let read = with_operands operands g in
       let here = with_results (Body o) (new_operands operands g) (length results) read in
       let all = with_values read.next (sorts_of names live_in saved (Body o) (length results)) here in
       subst (λ (grown : Growth). Adds is_inner 0 0 g.ops grown.ops) (sym (enter_same is_entry (Body o) all refl))
-      (adds_then is_inner 0 0 0 0 g.ops read.ops all.ops (adds_wider is_copy is_inner 0 0 g.ops read.ops copy_inner (operands_add operands g))
+      (adds_then is_inner 0 0 0 0 g.ops read.ops all.ops (adds_wider is_copy is_inner 0 0 g.ops read.ops copy_inner
+      (operands_add operands g))
       (adds_then is_inner 0 0 0 0 read.ops here.ops all.ops
-      (adds_one is_inner read.ops (record { kind = Body o; operands = new_operands operands g; results = new_temps read (length results) }) refl)
-      (adds_wider is_copy is_inner 0 0 here.ops all.ops copy_inner (values_add read.next (sorts_of names live_in saved (Body o) (length results)) here))))
+      (adds_one is_inner read.ops (record { kind = Body o; operands = new_operands operands g; results = new_temps read (length results) })
+      refl)
+      (adds_wider is_copy is_inner 0 0 here.ops all.ops copy_inner
+      (values_add read.next (sorts_of names live_in saved (Body o) (length results)) here))))
   inner_add In operands results g h k = absurd (cc h)
   inner_add Out operands results g h k = absurd (cc h)
   inner_add (End term) operands results g h k = absurd (cc h)
@@ -134,11 +153,13 @@ module _ (names : List Kind) (live_in : List NameId) (is_entry saved : Bool) whe
   inner_add Enter operands results g h k = absurd (cc k)
   inner_add Leave operands results g h k = absurd (cc k)
 
-  pub all_inner_add : (ops : List ExtOp) (g : Growth) → AllAre is_inner ops → All IsPlainOp ops → Inner 0 0 g (with_all_extended names live_in is_entry saved ops g)
+  pub all_inner_add : (ops : List ExtOp) (g : Growth) → AllAre is_inner ops → All IsPlainOp ops
+      → Inner 0 0 g (with_all_extended names live_in is_entry saved ops g)
   all_inner_add [] g h k = adds_none is_inner g.ops
   all_inner_add (op ∷ ops) g h k =
       let p = All-head IsPlainOp op ops k in
-      adds_then is_inner 0 0 0 0 g.ops (let grown = grows op g in grown.ops) (let grown = with_all_extended names live_in is_entry saved (op ∷ ops) g in grown.ops)
+      adds_then is_inner 0 0 0 0 g.ops (let grown = grows op g in grown.ops)
+      (let grown = with_all_extended names live_in is_entry saved (op ∷ ops) g in grown.ops)
       (inner_add op.kind op.operands op.results g (All-head (λ (op : ExtOp). is_inner op.kind ≡ true) op ops h) p.kind)
       (all_inner_add ops (grows op g) (All-tail (λ (op : ExtOp). is_inner op.kind ≡ true) op ops h) (All-tail IsPlainOp op ops k))
 
@@ -159,7 +180,8 @@ module _ (names : List Kind) (live_in : List NameId) (is_entry saved : Bool) whe
         first = made;
         is_first = refl;
         later = (let a = adds_then is_inner 0 0 (one_if is_entry) 0 here.ops all.ops (let grown = with_enter is_entry In all in grown.ops)
-            (adds_wider is_copy is_inner 0 0 here.ops all.ops copy_inner (values_add g.next (sorts_of names live_in saved In (length results)) here)) (by is_entry all) in
+            (adds_wider is_copy is_inner 0 0 here.ops all.ops copy_inner
+            (values_add g.next (sorts_of names live_in saved In (length results)) here)) (by is_entry all) in
             record { more = a.more; is = a.is; all = a.all; enter = (let e = a.enter in omega (arith, e)); leave = a.leave });
       }
     where
@@ -193,7 +215,8 @@ module _ (names : List Kind) (live_in : List NameId) (is_entry saved : Bool) whe
             record { more = a.more; is = a.is; all = a.all; enter = a.enter; leave = (let e = a.leave in omega (arith, e)) });
         last = record { kind = End term; operands = new_operands operands before; results = new_temps read (length results) };
         is_last = refl;
-        whole = ap (λ (grown : Growth). grown.ops) (enter_same is_entry (End term) (with_results (End term) (new_operands operands before) (length results) read) refl);
+        whole = ap (λ (grown : Growth). grown.ops) (enter_same is_entry (End term)
+            (with_results (End term) (new_operands operands before) (length results) read) refl);
       }
     where
       by : (v : Bool) → Adds is_inner 0 (one_if v) g.ops (let grown = if v then with_op g (frame_op Leave) else g in grown.ops)
@@ -217,7 +240,8 @@ module _ (names : List Kind) (live_in : List NameId) (is_entry saved : Bool) whe
         before = operands_add operands g;
         last = record { kind = Out; operands = new_operands operands g; results = new_temps read (length results) };
         is_last = refl;
-        whole = ap (λ (grown : Growth). grown.ops) (enter_same is_entry Out (with_results Out (new_operands operands g) (length results) read) refl);
+        whole = ap (λ (grown : Growth). grown.ops) (enter_same is_entry Out
+            (with_results Out (new_operands operands g) (length results) read) refl);
       }
   out_add In operands results g h = absurd (cc h)
   out_add (Body o) operands results g h = absurd (cc h)
@@ -232,7 +256,8 @@ passes_end : (kind : ExtKind) (operands : List Operand) (later : Ending) → is_
 passes_end (End term) operands later h = absurd (cc h)
 passes_end _ operands later h = refl
 
-no_end : (test : ExtKind → Bool) → ((kind : ExtKind) → test kind ≡ true → is_end kind ≡ false) → (xs ys : List ExtOp) → AllAre test xs → ending_of (xs ++ ys) ≡ ending_of ys
+no_end : (test : ExtKind → Bool) → ((kind : ExtKind) → test kind ≡ true → is_end kind ≡ false) → (xs ys : List ExtOp) → AllAre test xs
+    → ending_of (xs ++ ys) ≡ ending_of ys
 no_end test h [] ys all = refl
 no_end test h (x ∷ xs) ys all =
     passes_end x.kind x.operands (ending_of (xs ++ ys)) (h x.kind (All-head (λ (op : ExtOp). test op.kind ≡ true) x xs all))

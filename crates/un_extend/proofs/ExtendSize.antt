@@ -1,5 +1,6 @@
 -- An extended function has at most seven times the size of its linear function.
-use Rattle.std.proofs.Common.{◌≡◌, ℕ, zero, suc, ◌+◌, ◌-◌, ◌*◌, ◌<◌, ◌≤◌, ◌++◌, ◌||◌, Bool, true, false, if◌then◌else◌, List, [], ◌∷◌, Option, Some, None, map, length, replicate, slice_get, All, refl, sym, ap, ◌∙◌, arith}
+use Rattle.std.proofs.Common.{◌≡◌, ℕ, zero, suc, ◌+◌, ◌-◌, ◌*◌, ◌<◌, ◌≤◌, ◌++◌, ◌||◌, Bool, true, false, if◌then◌else◌, List, [], ◌∷◌}
+use Rattle.std.proofs.Common.{Option, Some, None, map, length, replicate, slice_get, All, refl, sym, ap, ◌∙◌, arith}
 use Rattle.std.specs.List.{sum_by}
 use Rattle.std.proofs.lemmas.List.{length-append, length-map, length-replicate}
 use Rattle.std.proofs.lemmas.List.Elements.{All-head, All-tail}
@@ -25,7 +26,9 @@ use Rattle.un_ir.specs.declared.extended.Sort.{Sort}
 use Rattle.un_ir.specs.declared.extended.Value.{Value}
 use Rattle.un_ir.specs.Extended.{temp, returns, is_return, result_count, results_of, size_of, IsGoodExtBlock}
 use Rattle.un_ir.specs.Linear.{first_of}
-use Rattle.un_ir.specs.ExtendOf.{frame_op, with_op, with_leave, with_enter, with_results, with_extended, with_all_extended, sorts_of, sort_of_name, copy_op, with_copies, new_temps, with_value, with_values, with_operand_by, with_operand, with_operands, new_operands, grown_block, with_ops, extended_blocks}
+use Rattle.un_ir.specs.ExtendOf.{frame_op, with_op, with_leave, with_enter, with_results, with_extended, with_all_extended, sorts_of}
+use Rattle.un_ir.specs.ExtendOf.{sort_of_name, copy_op, with_copies, new_temps, with_value, with_values, with_operand_by, with_operand}
+use Rattle.un_ir.specs.ExtendOf.{with_operands, new_operands, grown_block, with_ops, extended_blocks}
 
 abbrev op_size : ExtOp → ℕ
 op_size op = 1 + length op.operands + length op.results
@@ -36,7 +39,8 @@ size ops = sum_by op_size ops
 abbrev of : Growth → ℕ
 of g = size g.ops
 
-copies_size : (first second : NodeCopy) (kind : Kind) (copied : Bool) (ys : List TempId) (g : Growth) → of (with_copies first second kind copied ys g) ≤ of g + 6
+copies_size : (first second : NodeCopy) (kind : Kind) (copied : Bool) (ys : List TempId) (g : Growth)
+    → of (with_copies first second kind copied ys g) ≤ of g + 6
 copies_size first second kind false ys g = omega arith
 copies_size first second General true ys g = let a = sum_by_push op_size g.ops (copy_op first ys g.next) in omega (arith, a)
 copies_size first second Pred true ys g =
@@ -78,7 +82,8 @@ enter_size : (is_entry : Bool) (kind : ExtKind) (g : Growth) → of (with_enter 
 enter_size true In g = let a = sum_by_push op_size g.ops (frame_op Enter) in omega (arith, a)
 enter_size _ _ g = omega arith
 
-sorts_length : (t : Table) (names : List Kind) (block : ExtBlock) (saved : Bool) (kind : ExtKind) (count : ℕ) → count ≡ result_count t block kind
+sorts_length : (t : Table) (names : List Kind) (block : ExtBlock) (saved : Bool) (kind : ExtKind) (count : ℕ)
+    → count ≡ result_count t block kind
     → length (sorts_of names block.live_in saved kind count) ≤ count
 sorts_length t names block saved In count c =
     let a = length-append (map (sort_of_name names) block.live_in) (replicate (count - length block.live_in) (sort_by saved)) in
@@ -95,7 +100,8 @@ sorts_length t names block saved (Body o) count c =
     sort_one op = record { kind = result_kind op; copied = true }
 sorts_length t names block saved _ count c = omega arith
 
-one_size : (t : Table) (names : List Kind) (block : ExtBlock) (is_entry saved : Bool) (op : ExtOp) (g : Growth) → length op.results ≡ result_count t block op.kind
+one_size : (t : Table) (names : List Kind) (block : ExtBlock) (is_entry saved : Bool) (op : ExtOp) (g : Growth)
+    → length op.results ≡ result_count t block op.kind
     → of (with_extended names block.live_in is_entry saved op g) ≤ of g + 7 * op_size op
 one_size t names block is_entry saved op g c =
     let before = with_leave op.kind g in
@@ -125,14 +131,16 @@ all_size t names block is_entry saved (op ∷ ops) g c =
     let d = sum_by-cons op_size op ops in
     omega (arith, a, b, d)
 
-pub extended_size : (t : Table) (names : List Kind) (old : List ExtBlock) (is_entry : Bool) (values : List Value) (next : ℕ) (rest : List ExtBlock)
+pub extended_size : (t : Table) (names : List Kind) (old : List ExtBlock) (is_entry : Bool) (values : List Value) (next : ℕ)
+    (rest : List ExtBlock)
     → All (IsGoodExtBlock t names old) rest → size_of (extended_blocks names is_entry values next rest) ≤ 7 * size_of rest
 extended_size t names old is_entry values next [] good = omega arith
 extended_size t names old is_entry values next (was ∷ rest) good =
     let g = grown_block names is_entry values next was in
     let own = All-head (IsGoodExtBlock t names old) was rest good in
     let z : size [] ≡ 0 = refl in
-    let a = all_size t names was is_entry (is_entry || returns was) was.ops (record { ops = []; values = values; next = next }) (λ k op h. (let o = own.ops k op h in o.results)) in
+    let a = all_size t names was is_entry (is_entry || returns was) was.ops (record { ops = []; values = values; next = next })
+    (λ k op h. (let o = own.ops k op h in o.results)) in
     let b = extended_size t names old false g.values g.next rest (All-tail (IsGoodExtBlock t names old) was rest good) in
     let c = sum_by-cons (λ (block : ExtBlock). size block.ops) (with_ops was g.ops) (extended_blocks names false g.values g.next rest) in
     let d = sum_by-cons (λ (block : ExtBlock). size block.ops) was rest in

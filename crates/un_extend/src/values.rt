@@ -4,7 +4,8 @@ ghost use Rattle.std.specs.Prelude.{◌≡◌, ◌++◌, [], ◌∷◌, ◌<◌,
 ghost use Rattle.std.specs.List.{range_with_len};
 ghost use Rattle.un_ir.specs.Extended.{temp};
 ghost use Rattle.un_ir.specs.Linear.{first_of};
-ghost use Rattle.un_ir.specs.ExtendOf.{with_value, with_values, with_operand, chosen_from, with_operand_by, alternatives, with_operands, new_operands, copy_count};
+ghost use Rattle.un_ir.specs.ExtendOf.{with_value, with_values, with_operand, chosen_from, with_operand_by, alternatives, with_operands};
+ghost use Rattle.un_ir.specs.ExtendOf.{new_operands, copy_count};
 
 use crate::copies::{copy_count, number_past, push_copies, push_temps};
 use std::alloc::Global;
@@ -74,7 +75,8 @@ fn all_temps(alloc: Global, v: &Value, next: u32) -> Result<Items<TempId>, NoMem
 fn read_value(alloc: Global, g: &mut Growth, x: usize) -> Result<Items<TempId>, NoMemory>
     requires { x < length g.old.values }
     ensures grown { OnOk result (g.new ≡ with_operand_by x (slice_get g.old.values x) g.old) }
-    ensures alternatives { IfOk result (λ alts. alts ≡ alternatives (slice_get (let grown = with_operand_by x (slice_get g.old.values x) g.old in grown.values) x)) }
+    ensures alternatives { IfOk result (λ alts. alts ≡ alternatives
+        (slice_get (let grown = with_operand_by x (slice_get g.old.values x) g.old in grown.values) x)) }
 {
     let v = g.values.get(x);
     let sort = v.sort;

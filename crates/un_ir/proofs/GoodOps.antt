@@ -1,5 +1,6 @@
 -- The operations of a block, one after another, and lists that meet.
-use Rattle.std.proofs.Common.{◌≡◌, ℕ, zero, suc, ◌+◌, ◌-◌, ◌<◌, ◌≤◌, ◌++◌, List, [], ◌∷◌, Option, Some, None, map, length, take, get_or, slice_get, All, Contains, refl, sym, ap, ◌∙◌, arith, subst, append_assoc, append-nil}
+use Rattle.std.proofs.Common.{◌≡◌, ℕ, zero, suc, ◌+◌, ◌-◌, ◌<◌, ◌≤◌, ◌++◌, List, [], ◌∷◌, Option, Some, None, map, length, take, get_or}
+use Rattle.std.proofs.Common.{slice_get, All, Contains, refl, sym, ap, ◌∙◌, arith, subst, append_assoc, append-nil}
 use Rattle.std.specs.List.{flat_map, range_with_len, AllZip}
 use Rattle.std.proofs.lemmas.Grind.{flat_map-append}
 use Rattle.std.proofs.lemmas.List.{length-append}
@@ -27,7 +28,8 @@ got_left (y ∷ xs) ys (suc i) x h = got_left xs ys i x h
 
 pub got_right : {X : Type 0} (xs ys : List X) (i : ℕ) → slice_get (xs ++ ys) (length xs + i) ≡ slice_get ys i
 got_right [] ys i = ap (slice_get ys) (let z : 0 + i ≡ i = omega arith in z)
-got_right (x ∷ xs) ys i = ap (slice_get (x ∷ (xs ++ ys))) (let z : suc (length xs) + i ≡ suc (length xs + i) = omega arith in z) ∙ got_right xs ys i
+got_right (x ∷ xs) ys i = ap (slice_get (x ∷ (xs ++ ys))) (let z : suc (length xs) + i ≡ suc (length xs + i) = omega arith in z)
+    ∙ got_right xs ys i
 
 -- ---- temporaries in a row
 
@@ -35,16 +37,22 @@ abbrev pub temps : ℕ → ℕ → List TempId
 temps n count = map temp (range_with_len n count)
 
 pub temps_append : (n a b : ℕ) → temps n a ++ temps (n + a) b ≡ temps n (a + b)
-temps_append n zero b = ap (λ (k : ℕ). temps k b) (let z : n + 0 ≡ n = omega arith in z) ∙ ap (temps n) (let z : b ≡ 0 + b = omega arith in z)
+temps_append n zero b = ap (λ (k : ℕ). temps k b) (let z : n + 0 ≡ n = omega arith in z)
+    ∙ ap (temps n) (let z : b ≡ 0 + b = omega arith in z)
 temps_append n (suc a) b =
     let z : n + suc a ≡ (n + 1) + a = omega arith in
     let q : suc a + b ≡ suc (a + b) = omega arith in
-    ap (λ (k : ℕ). temp n ∷ (temps (n + 1) a ++ temps k b)) z ∙ ap (λ (xs : List TempId). temp n ∷ xs) (temps_append (n + 1) a b) ∙ ap (temps n) (sym q)
+    ap (λ (k : ℕ). temp n ∷ (temps (n + 1) a ++ temps k b)) z ∙ ap (λ (xs : List TempId). temp n ∷ xs) (temps_append (n + 1) a b)
+    ∙ ap (temps n) (sym q)
 
 pub temps_has : (n count x : ℕ) → n ≤ x → x < n + count → Contains (temps n count) (temp x)
 temps_has n count x low high =
-    let l = length-map-range_with_len temp n count in
-    (x - n, omega (arith, l, low, high), get_or-map-range_with_len temp n count (x - n) x (temp x) (omega (arith, low, high)) (omega (arith, low)))
+    let l = length-map-range_with_len temp n count in (
+      x - n,
+      omega (arith, l, low, high),
+      get_or-map-range_with_len temp n count (x - n) x (temp x) (omega (arith, low, high))
+          (omega (arith, low)),
+    )
 
 -- temporaries are those from n to before m
 pub record Numbers (n : ℕ) (xs : List TempId) (m : ℕ) : Type 0 where
@@ -74,7 +82,8 @@ numbers_has n m xs x a low high =
     let r = a.reach in subst (λ (zs : List TempId). Contains zs (temp x)) (sym a.are) (temps_has n a.count x low (omega (arith, r, high)))
 
 pub numbers_length : (n m : ℕ) (xs : List TempId) → Numbers n xs m → n + length xs ≡ m
-numbers_length n m xs a = ap (λ (zs : List TempId). n + length zs) a.are ∙ ap (λ (k : ℕ). n + k) (length-map-range_with_len temp n a.count) ∙ a.reach
+numbers_length n m xs a = ap (λ (zs : List TempId). n + length zs) a.are ∙ ap (λ (k : ℕ). n + k) (length-map-range_with_len temp n a.count)
+    ∙ a.reach
 
 pub numbers_whole : (m : ℕ) (xs : List TempId) → Numbers 0 xs m → xs ≡ temps 0 (length xs)
 numbers_whole m xs a = a.are ∙ ap (temps 0) (sym (ap (λ (zs : List TempId). length zs) a.are ∙ length-map-range_with_len temp 0 a.count))
@@ -87,7 +96,8 @@ results_append xs ys = flat_map-append (λ (op : ExtOp). op.results) xs ys
 -- the operations are good where these temporaries are defined before them
 abbrev pub AreGoodOps : Table → List Kind → List ExtBlock → ExtBlock → List TempId → List ExtOp → Type 0
 AreGoodOps t names blocks block before [] = Unit {0}
-AreGoodOps t names blocks block before (op ∷ ops) = IsGoodExtOp t names blocks block before op × AreGoodOps t names blocks block (before ++ op.results) ops
+AreGoodOps t names blocks block before (op ∷ ops) = IsGoodExtOp t names blocks block before op
+    × AreGoodOps t names blocks block (before ++ op.results) ops
 
 module _ (t : Table) (names : List Kind) (blocks : List ExtBlock) (block : ExtBlock) where
   pub good_at : (before : List TempId) (ops : List ExtOp) (k : ℕ) (op : ExtOp) → AreGoodOps t names blocks block before ops
@@ -95,7 +105,8 @@ module _ (t : Table) (names : List Kind) (blocks : List ExtBlock) (block : ExtBl
   good_at before [] k op g h = absurd (cc h)
   good_at before (o ∷ ops) zero op g h =
       let e : o ≡ op = cc h in
-      subst (IsGoodExtOp t names blocks block (before ++ [])) e (subst (λ (xs : List TempId). IsGoodExtOp t names blocks block xs o) (sym (append-nil before)) g.0)
+      subst (IsGoodExtOp t names blocks block (before ++ [])) e (subst (λ (xs : List TempId). IsGoodExtOp t names blocks block xs o)
+      (sym (append-nil before)) g.0)
   good_at before (o ∷ ops) (suc k) op g h =
       subst (λ (xs : List TempId). IsGoodExtOp t names blocks block xs op) (append_assoc before o.results (results_of (take k ops)))
       (good_at (before ++ o.results) ops k op g.1 h)

@@ -1,5 +1,6 @@
 -- What the blocks and the operations of every function keep.
-use Rattle.std.proofs.Common.{◌≡◌, ℕ, ◌<◌, ◌≤◌, ℤ, Bool, true, List, [], ◌∷◌, Option, Some, None, unwrap_or, map, length, slice_get, All, refl, ap, ◌∙◌, arith}
+use Rattle.std.proofs.Common.{◌≡◌, ℕ, ◌<◌, ◌≤◌, ℤ, Bool, true, List, [], ◌∷◌, Option, Some, None, unwrap_or, map, length, slice_get, All}
+use Rattle.std.proofs.Common.{refl, ap, ◌∙◌, arith}
 use Rattle.std.proofs.Props.{props}
 use Rattle.std.proofs.Math.Logic.{∥∥₁_elim}
 use Rattle.std.proofs.lemmas.Option.{slice_get-map}
@@ -10,7 +11,9 @@ use Rattle.un_isa.specs.Operands.{HasLiteral, IsLiteralOf}
 use Rattle.un_isa.specs.declared.facts.Range.{Range}
 use Rattle.un_isa.specs.declared.facts.Range.TheVariants.{Signed16, Signed10, Unsigned5, Offset, FrameOffset}
 use Rattle.un_isa.specs.declared.op.Op.{Op}
-use Rattle.un_isa.specs.declared.op.Op.TheVariants.{Imm, Mov, Add, Sub, And, Or, Xor, Addi, Andi, Ori, Mux, CmpEq, CmpGt, CmpGtu, CmpEqi, CmpGti, Mpyi, Asl, Asr, Lsr, Load, Store, Call, Jump as JumpTo, JumpIf, JumpIfNot, Jumpr, Spill, Reload, P2R, R2P, Enter, Leave, Nop}
+use Rattle.un_isa.specs.declared.op.Op.TheVariants.{Imm, Mov, Add, Sub, And, Or, Xor, Addi, Andi, Ori, Mux, CmpEq, CmpGt, CmpGtu, CmpEqi}
+use Rattle.un_isa.specs.declared.op.Op.TheVariants.{CmpGti, Mpyi, Asl, Asr, Lsr, Load, Store, Call, Jump as JumpTo, JumpIf, JumpIfNot}
+use Rattle.un_isa.specs.declared.op.Op.TheVariants.{Jumpr, Spill, Reload, P2R, R2P, Enter, Leave, Nop}
 use Rattle.un_isa.specs.declared.reg.Space.{Space}
 use Rattle.un_ir.specs.declared.function.Kind.{Kind}
 use Rattle.un_ir.specs.declared.function.Kind.TheVariants.{General, Pred}
@@ -23,7 +26,8 @@ use Rattle.un_ir.specs.declared.function.TheConstants.{PARAMS}
 use Rattle.un_ir.specs.Extended.{name_kind, HasItsResult, IsSourceOp}
 use Rattle.un_ir.specs.LinearOf.{kind_of_pair}
 use Rattle.un_ir.specs.Names.{kind_of}
-use Rattle.un_ir.specs.WellFormed.{Names, IsOfKind, IsGoodOp, IsGoodBlock, IsWellFormed, ReadsItsKinds, AssignsItsKind, TestsItsKind, AreRead, IsAssigned, IsCallee, operand_kinds, result_kind}
+use Rattle.un_ir.specs.WellFormed.{Names, IsOfKind, IsGoodOp, IsGoodBlock, IsWellFormed, ReadsItsKinds, AssignsItsKind, TestsItsKind}
+use Rattle.un_ir.specs.WellFormed.{AreRead, IsAssigned, IsCallee, operand_kinds, result_kind}
 use Rattle.un_ir.proofs.NameBounds.{at_all}
 
 -- ---- they hold in one way
@@ -32,7 +36,8 @@ reads_prop : (names : Names) (operands : Operands) (srcs : List NameId) → IsPr
 reads_prop names (Fixed spaces) srcs = hlevel (props)
 reads_prop names Arguments srcs = hlevel (props)
 
-assigns_prop : (names : Names) (operands : Operands) (space : Option Space) (dst : Option NameId) → IsProp (IsAssigned names operands space dst)
+assigns_prop : (names : Names) (operands : Operands) (space : Option Space) (dst : Option NameId)
+    → IsProp (IsAssigned names operands space dst)
 assigns_prop names (Fixed spaces) None dst = hlevel (props)
 assigns_prop names Arguments None dst = hlevel (props)
 assigns_prop names (Fixed spaces) (Some space) None = hlevel (props)

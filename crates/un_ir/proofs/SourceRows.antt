@@ -96,7 +96,8 @@ call_returns : told (enter sum_after_call 5 0 (state (8 ∷ 5 ∷ 0 ∷ 0 ∷ []
 call_returns = refl
 
 -- without a reply the run waits, and the record is not among the calls
-call_waits : told (enter sum_after_call 5 0 (state (8 ∷ 5 ∷ 0 ∷ 0 ∷ []) call_memory [])) ≡ (Waiting (seen (5 ∷ 8 ∷ []) at_call), at_call, [])
+call_waits : told (enter sum_after_call 5 0 (state (8 ∷ 5 ∷ 0 ∷ 0 ∷ []) call_memory [])) ≡
+    (Waiting (seen (5 ∷ 8 ∷ []) at_call), at_call, [])
 call_waits = refl
 
 -- ---- a load and a store that trap keep the memory before them
@@ -104,7 +105,8 @@ call_waits = refl
 abbrev loads_and_stores : List Block
 loads_and_stores =
     block (codes "e")
-    (op Load (Some 2) (0 ∷ []) (pos 0) ∷ op Store None (0 ∷ 1 ∷ []) (pos 0) ∷ op Load (Some 3) (1 ∷ []) (pos 0) ∷ op Store None (1 ∷ 0 ∷ []) (pos 4) ∷ [])
+    (op Load (Some 2) (0 ∷ []) (pos 0) ∷ op Store None (0 ∷ 1 ∷ []) (pos 0) ∷ op Load (Some 3) (1 ∷ []) (pos 0) ∷
+    op Store None (1 ∷ 0 ∷ []) (pos 4) ∷ [])
     (Ret (Some (name 2)))
     ∷ []
 

@@ -2,7 +2,8 @@
 -- operand has a copy u, and one that reads a predicate a second copy u2. An operand may choose its value, the value's own
 -- copies, and the copies of the operands up to itself that read the value. Saved values, and operands that read them, have
 -- copies only in the entry and in blocks that return. The temporaries are numbered anew, in the order of definition.
-use Rattle.std.specs.Prelude.{ℕ, ◌≡◌, ◌+◌, ◌-◌, ◌*◌, ◌||◌, Bool, true, false, nat_eq, if◌then◌else◌, List, [], ◌∷◌, ◌++◌, Option, Some, None, unwrap_or, map, length, slice_get, slice_set, replicate}
+use Rattle.std.specs.Prelude.{ℕ, ◌≡◌, ◌+◌, ◌-◌, ◌*◌, ◌||◌, Bool, true, false, nat_eq, if◌then◌else◌, List, [], ◌∷◌, ◌++◌, Option, Some}
+use Rattle.std.specs.Prelude.{None, unwrap_or, map, length, slice_get, slice_set, replicate}
 use Rattle.std.specs.List.{range_with_len}
 use Rattle.un_base.specs.declared.ids.NameId.{NameId}
 use Rattle.un_base.specs.declared.ids.TempId.{TempId}
@@ -71,7 +72,8 @@ value_of n sort g = record { own = own_temps n sort g; all = own_temps n sort g;
 
 abbrev pub with_value : ℕ → Sort → Growth → Growth
 with_value n sort g =
-    let grown = with_copies D D2 sort.kind sort.copied (temp n ∷ []) g in record { ops = grown.ops; values = g.values ++ value_of n sort g ∷ []; next = grown.next }
+    let grown = with_copies D D2 sort.kind sort.copied (temp n ∷ []) g in
+    record { ops = grown.ops; values = g.values ++ value_of n sort g ∷ []; next = grown.next }
 
 -- values whose temporaries begin with n
 abbrev pub with_values : ℕ → List Sort → Growth → Growth
@@ -85,7 +87,12 @@ abbrev pub with_operand_by : ℕ → Option Value → Growth → Growth
 with_operand_by x None g = g
 with_operand_by x (Some v) g =
     let grown = with_copies U U2 v.sort.kind v.sort.copied v.own g in
-    record { ops = grown.ops; values = slice_set g.values x (record v { all = v.all ++ new_temps g (copy_count v.sort) }); next = grown.next }
+    record {
+      ops = grown.ops;
+      values = slice_set g.values x (record v { all = v.all ++ new_temps g (copy_count v.sort) });
+      next =
+          grown.next;
+    }
 
 abbrev pub with_operand : Operand → Growth → Growth
 with_operand x g = with_operand_by (first_of x.alts) (slice_get g.values (first_of x.alts)) g

@@ -1,5 +1,7 @@
 -- What every linear and every extended function keeps.
-use Rattle.std.specs.Prelude.{ℕ, ◌≡◌, ◌≢◌, ◌+◌, ◌*◌, ◌<◌, ◌≤◌, ◌-◌, ◌^◌, ◌==◌, Bool, true, false, if◌then◌else◌, List, [], ◌∷◌, ◌++◌, Option, Some, None, unwrap_or, map, take, replicate, length, slice_get, sum_by, count_by, All, AllPairs, Contains}
+use Rattle.std.specs.Prelude.{ℕ, ◌≡◌, ◌≢◌, ◌+◌, ◌*◌, ◌<◌, ◌≤◌, ◌-◌, ◌^◌, ◌==◌, Bool, true, false, if◌then◌else◌, List, [], ◌∷◌, ◌++◌}
+use Rattle.std.specs.Prelude.{Option, Some, None, unwrap_or, map, take, replicate, length, slice_get, sum_by, count_by, All, AllPairs}
+use Rattle.std.specs.Prelude.{Contains}
 use Rattle.std.specs.List.{flat_map, range_with_len, AllZip}
 use Rattle.std.specs.Option.{option_to_list}
 use Rattle.un_base.specs.declared.ids.NameId.{NameId}
@@ -152,7 +154,8 @@ IsGoodKind (Body o) op = IsSourceOp o
 IsGoodKind (Copy D) op = All (λ (x : Operand). length x.alts ≡ 1) op.operands
 IsGoodKind _ op = Unit {0}
 
-pub record IsGoodExtOp (t : Table) (names : List Kind) (blocks : List ExtBlock) (block : ExtBlock) (before : List TempId) (op : ExtOp) : Type 0 where
+pub record IsGoodExtOp (t : Table) (names : List Kind) (blocks : List ExtBlock) (block : ExtBlock) (before : List TempId)
+    (op : ExtOp) : Type 0 where
   pub kind : IsGoodKind op.kind op
   pub operands : AllZip (IsGoodOperand names blocks before) op.operands (wants_of t names blocks block op.kind op)
   pub results : length op.results ≡ result_count t block op.kind
@@ -244,7 +247,8 @@ pub record AreGoodBlocks (t : Table) (names : List Kind) (blocks : List ExtBlock
   pub hands_over : HandsNamesOver blocks
   pub distinct_labels : AllPairs (λ (a b : ExtBlock). a.label ≢ b.label) blocks
   -- only parameters are live at the entry's start
-  pub params : (entry : ExtBlock) → slice_get blocks 0 ≡ Some entry → All (λ (name : NameId). (name.0 < PARAMS) × (name_kind names name ≡ General)) entry.live_in
+  pub params : (entry : ExtBlock) → slice_get blocks 0 ≡ Some entry
+      → All (λ (name : NameId). (name.0 < PARAMS) × (name_kind names name ≡ General)) entry.live_in
   pub small : size_of blocks < limit
 
 abbrev pub is_linear_kind : ExtKind → Bool
@@ -274,7 +278,8 @@ one_if b = if b then 1 else 0
 
 -- one Enter in the entry, one Leave in each block that returns
 pub record FramesOnce (blocks : List ExtBlock) : Type 0 where
-  pub enters : (b : ℕ) (block : ExtBlock) → slice_get blocks b ≡ Some block → count_by (λ (op : ExtOp). is_enter op.kind) block.ops ≡ one_if (b == 0)
+  pub enters : (b : ℕ) (block : ExtBlock) → slice_get blocks b ≡ Some block
+      → count_by (λ (op : ExtOp). is_enter op.kind) block.ops ≡ one_if (b == 0)
   pub leaves : All (λ (block : ExtBlock). count_by (λ (op : ExtOp). is_leave op.kind) block.ops ≡ one_if (returns block)) blocks
 
 pub record IsExtended (e : Ext) : Type 0 where

@@ -1,7 +1,8 @@
 -- What a linear or an extended function does, block by block. Every temporary is local to its block. The values at a block's
 -- start are a list: those of the names that are live there, in their order, then the saved values, which are those that the
 -- callee-saved registers and the link register had when the function was entered.
-use Rattle.std.specs.Prelude.{ℕ, zero, suc, ◌+◌, ◌-◌, ◌==◌, Bool, true, false, nat_eq, if◌then◌else◌, List, [], ◌∷◌, ◌++◌, Option, Some, None, unwrap_or, map, length, drop, slice_get, slice_index}
+use Rattle.std.specs.Prelude.{ℕ, zero, suc, ◌+◌, ◌-◌, ◌==◌, Bool, true, false, nat_eq, if◌then◌else◌, List, [], ◌∷◌, ◌++◌, Option, Some}
+use Rattle.std.specs.Prelude.{None, unwrap_or, map, length, drop, slice_get, slice_index}
 use Rattle.std.specs.List.{flat_map, position_or_len}
 use Rattle.un_base.specs.declared.ids.NameId.{NameId}
 use Rattle.un_base.specs.declared.ids.TempId.{TempId}
@@ -175,7 +176,8 @@ place_over a b j = place_by a b j (slice_get b.live_in j)
 -- what block b takes of the values that block a hands over: those of its names by name, and the saved values by order
 abbrev pub taken_by : ExtBlock → List ℕ → ExtBlock → List ℕ
 taken_by a handed b =
-    map (λ (name : NameId). slice_index handed (position_or_len (λ (n : NameId). n.0 == name.0) a.live_out)) b.live_in ++ drop (length a.live_out) handed
+    map (λ (name : NameId). slice_index handed (position_or_len (λ (n : NameId). n.0 == name.0) a.live_out)) b.live_in ++
+    drop (length a.live_out) handed
 
 abbrev pub taken_over : ExtBlock → List ℕ → Option ExtBlock → List ℕ
 taken_over a handed None = []
@@ -192,7 +194,10 @@ leave b (JumpTo to) read handed w go = go to.0
 leave b (Branch pred true to) read handed w go = if nat_eq (slice_index read 0) 0 then go (b + 1) else go to.0
 leave b (Branch pred false to) read handed w go = if nat_eq (slice_index read 0) 0 then go to.0 else go (b + 1)
 leave b (Ret None) read handed w go = record { stop = Returned None (slice_index read 0) handed; world = w }
-leave b (Ret (Some name)) read handed w go = record { stop = Returned (Some (slice_index handed 0)) (slice_index read 0) (drop 1 handed); world = w }
+leave b (Ret (Some name)) read handed w go = record {
+  stop = Returned (Some (slice_index handed 0)) (slice_index read 0) (drop 1 handed);
+  world = w;
+}
 
 -- goes on at a block, which takes over what block a hands over
 abbrev pub hand_over : List ExtBlock → ExtBlock → List ℕ → World → (ℕ → List ℕ → World → LinearRun) → ℕ → LinearRun

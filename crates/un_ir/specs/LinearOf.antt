@@ -1,6 +1,7 @@
 -- The linear function of a function: every block defines its own temporaries, first one for each value at its start. The
 -- temporaries are numbered over the whole function in the order in which they are defined.
-use Rattle.std.specs.Prelude.{ℕ, ◌≡◌, ◌+◌, ◌*◌, ◌<◌, Bool, nat_eq, List, [], ◌∷◌, ◌++◌, Option, Some, None, unwrap_or, map, filter, length, slice_get, slice_index, slice_set, replicate, All, AllPairs, Contains, ◌↔◌}
+use Rattle.std.specs.Prelude.{ℕ, ◌≡◌, ◌+◌, ◌*◌, ◌<◌, Bool, nat_eq, List, [], ◌∷◌, ◌++◌, Option, Some, None, unwrap_or, map, filter, length}
+use Rattle.std.specs.Prelude.{slice_get, slice_index, slice_set, replicate, All, AllPairs, Contains, ◌↔◌}
 use Rattle.std.specs.List.{range_with_len, list_any, sum_by}
 use Rattle.std.specs.Option.{option_to_list}
 use Rattle.un_base.specs.declared.ids.NameId.{NameId}
@@ -124,7 +125,8 @@ kept_operands n (r ∷ rs) = reads n (at_register r) ∷ kept_operands (n + 1) r
 -- result and the callee-saved registers' values, each in its register
 abbrev pub out_operands_of : Table → List ℕ → ℕ → List NameId → Term → List Operand
 out_operands_of t current first live_out (Ret None) = kept_operands first (callee_saved t)
-out_operands_of t current first live_out (Ret (Some name)) = name_operand current (at_register t.result) name ∷ kept_operands first (callee_saved t)
+out_operands_of t current first live_out (Ret (Some name)) = name_operand current (at_register t.result) name ∷
+    kept_operands first (callee_saved t)
 out_operands_of t current first live_out term =
     map (name_operand current None) live_out ++ map (λ (n : ℕ). reads n None) (range_with_len first (length (saved_registers t)))
 
@@ -142,7 +144,8 @@ linear_ops t names n live_in live_out block =
     let current = first_temps (replicate names 0) n live_in in
     let after = current_after current first block.ops in
     in_op n (length live_in + length (saved_registers t))
-    ∷ (body_ops t current first block.ops ++ (end_ops after (saved + length (callee_saved t)) block.term ++ out_op t after saved live_out block.term ∷ []))
+    ∷ (body_ops t current first block.ops ++ (end_ops after (saved + length (callee_saved t)) block.term ++
+    out_op t after saved live_out block.term ∷ []))
 
 abbrev pub block_of : Block → List NameId → List NameId → List ExtOp → ExtBlock
 block_of block live_in live_out ops = record {

@@ -47,5 +47,7 @@ next_of b k block = next_by b k (slice_get block.ops k) block.term
 
 -- the name is live at place k of block b: a path from there ends at a use of it, and has no assignment to it before
 pub data IsLive (blocks : List Block) (name : NameId) : ℕ → ℕ → Type 0 where
-  used : (b k : ℕ) (block : Block) → slice_get blocks b ≡ Some block → k ≤ length block.ops → Contains (read_at block k) name → IsLive blocks name b k
-  kept : (b k : ℕ) (block : Block) (c l : ℕ) → slice_get blocks b ≡ Some block → k ≤ length block.ops → assigned_at block k ≢ Some name → Contains (next_of b k block) (c, l) → IsLive blocks name c l → IsLive blocks name b k
+  used : (b k : ℕ) (block : Block) → slice_get blocks b ≡ Some block → k ≤ length block.ops → Contains (read_at block k) name
+      → IsLive blocks name b k
+  kept : (b k : ℕ) (block : Block) (c l : ℕ) → slice_get blocks b ≡ Some block → k ≤ length block.ops → assigned_at block k ≢ Some name
+      → Contains (next_of b k block) (c, l) → IsLive blocks name c l → IsLive blocks name b k

@@ -8,7 +8,8 @@ use Rattle.un_isa.specs.declared.table.Table.{Table}
 use Rattle.un_ir.specs.declared.function.Function.{Function}
 use Rattle.un_ir.specs.declared.extended.Lssa.{Lssa}
 use Rattle.un_ir.specs.Source.{SourceState, SourceStop, SourceRun, Returned, Trapped, Waiting, Running, source_run}
-use Rattle.un_ir.specs.Linear.{World, LinearStop, LinearRun, first_saved, linear_run, Returned as ReturnedTo, Trapped as Traps, Waiting as Waits, Running as RunningWith}
+use Rattle.un_ir.specs.Linear.{World, LinearStop, LinearRun, first_saved, linear_run, Returned as ReturnedTo, Trapped as Traps}
+use Rattle.un_ir.specs.Linear.{Waiting as Waits, Running as RunningWith}
 use Rattle.un_ir.specs.LinearOf.{live_at}
 
 abbrev pub world_of : SourceState → World
@@ -32,4 +33,5 @@ as_linear t start lists run = let s = run.state in record { stop = stop_with t s
 
 -- from each start, and where at most n blocks are entered, the linear function comes to what the function comes to
 abbrev pub RunsAsSource : Function → List (List NameId) → Table → Lssa → Type 0
-RunsAsSource f lists t l = (start : Start) (n : ℕ) → length start.regs ≡ REGISTERS → linear_run l.table l.blocks start n ≡ as_linear t start lists (source_run f start n)
+RunsAsSource f lists t l = (start : Start) (n : ℕ) → length start.regs ≡ REGISTERS
+    → linear_run l.table l.blocks start n ≡ as_linear t start lists (source_run f start n)

@@ -1,5 +1,6 @@
 -- What a function does, operation by operation.
-use Rattle.std.specs.Prelude.{ℕ, zero, suc, ◌+◌, ◌-◌, true, false, nat_eq, if◌then◌else◌, List, [], ◌∷◌, ◌++◌, Option, Some, None, unwrap_or, map, length, take, slice_get, slice_index, slice_set, replicate}
+use Rattle.std.specs.Prelude.{ℕ, zero, suc, ◌+◌, ◌-◌, true, false, nat_eq, if◌then◌else◌, List, [], ◌∷◌, ◌++◌, Option, Some, None}
+use Rattle.std.specs.Prelude.{unwrap_or, map, length, take, slice_get, slice_index, slice_set, replicate}
 use Rattle.un_isa.specs.Memories.{word_at, set_word, set_words}
 use Rattle.un_isa.specs.Words.{eval, address_of}
 use Rattle.un_isa.specs.declared.op.Op.{Op}

@@ -2,7 +2,8 @@
 
 ghost use Rattle.std.specs.Prelude.{◌≡◌, ◌++◌, [], ◌∷◌, Some, OnOk, IfOk, codes, map, if◌then◌else◌};
 ghost use Rattle.std.specs.List.{flat_map};
-ghost use Rattle.un_ir.specs.Text.{name_text, spaced, result_text, callee_text, literal_text, with_literal, operand_texts, op_line, label_of, term_lines, block_line, block_lines, func_line, function_text, ended};
+ghost use Rattle.un_ir.specs.Text.{name_text, spaced, result_text, callee_text, literal_text, with_literal, operand_texts, op_line};
+ghost use Rattle.un_ir.specs.Text.{label_of, term_lines, block_line, block_lines, func_line, function_text, ended};
 
 use crate::function::{Block, Function, Kind, SrcOp, Term};
 use crate::text::{put_number, put_signed_number, put_text};

@@ -1,5 +1,6 @@
 -- HEXAGON, entry by entry.
-use Rattle.std.proofs.Common.{ℕ, zero, suc, ◌≡◌, ◌<◌, Bool, true, false, ◌&&◌, not, slice_get, Some, IsSomeAnd, refl, arith, lit<, lit≤, ◌⊎◌, inl, inr}
+use Rattle.std.proofs.Common.{ℕ, zero, suc, ◌≡◌, ◌<◌, Bool, true, false, ◌&&◌, not, slice_get, Some, IsSomeAnd, refl, arith, lit<, lit≤}
+use Rattle.std.proofs.Common.{◌⊎◌, inl, inr}
 use Rattle.std.proofs.lemmas.Bool.{cases_lt}
 use Rattle.un_isa.specs.declared.op.Op.{Op}
 use Rattle.un_isa.specs.declared.op.Op.TheVariants.{Imm, Store, Jump, JumpIf, JumpIfNot, Jumpr, Spill, Enter, Leave, Nop}
@@ -59,8 +60,10 @@ pub hexagon_entries : IsHexagon HEXAGON
 hexagon_entries = record {
   latencies = latencies;
   needs = needs;
-  clobbered = λ r h. agree_same (in_mask HEXAGON.clobbered r) (is_clobbered r) (below_holds (λ r. agree (in_mask HEXAGON.clobbered r) (is_clobbered r)) 36 refl r h);
-  saved = λ r h. agree_same (in_mask HEXAGON.saved r) (is_saved r) (below_holds (λ r. agree (in_mask HEXAGON.saved r) (is_saved r)) 36 refl r h);
+  clobbered = λ r h. agree_same (in_mask HEXAGON.clobbered r) (is_clobbered r)
+      (below_holds (λ r. agree (in_mask HEXAGON.clobbered r) (is_clobbered r)) 36 refl r h);
+  saved = λ r h. agree_same (in_mask HEXAGON.saved r) (is_saved r)
+      (below_holds (λ r. agree (in_mask HEXAGON.saved r) (is_saved r)) 36 refl r h);
   no_others = (lit< tt, lit< tt);
   args = refl;
   result = refl;
@@ -89,7 +92,9 @@ hexagon_fit = record {
   args = refl;
   result = refl;
   kept = λ r h. so_holds (is_saved r) (in_mask HEXAGON.saved r) (below_holds (λ r. so (is_saved r) (in_mask HEXAGON.saved r)) 36 refl r h);
-  saved = λ r h. so_holds (in_mask HEXAGON.saved r) (may_be_saved r) (below_holds (λ r. so (in_mask HEXAGON.saved r) (may_be_saved r)) 36 refl r h);
-  clobbered = λ r h. agree_same (in_mask HEXAGON.clobbered r) (is_clobbered r && not (in_mask HEXAGON.saved r)) (below_holds (λ r. agree (in_mask HEXAGON.clobbered r) (is_clobbered r && not (in_mask HEXAGON.saved r))) 36 refl r h);
+  saved = λ r h. so_holds (in_mask HEXAGON.saved r) (may_be_saved r)
+      (below_holds (λ r. so (in_mask HEXAGON.saved r) (may_be_saved r)) 36 refl r h);
+  clobbered = λ r h. agree_same (in_mask HEXAGON.clobbered r) (is_clobbered r && not (in_mask HEXAGON.saved r))
+      (below_holds (λ r. agree (in_mask HEXAGON.clobbered r) (is_clobbered r && not (in_mask HEXAGON.saved r))) 36 refl r h);
   no_others = (lit< tt, lit< tt);
 }

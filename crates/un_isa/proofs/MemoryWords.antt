@@ -1,5 +1,6 @@
 -- What is found in a memory, and what a write does to it.
-use Rattle.std.proofs.Common.{◌≡◌, ℕ, zero, suc, ◌+◌, ◌<◌, ◌≤◌, ◌≢◌, ◌%◌, Bool, true, false, nat_eq, List, [], ◌∷◌, length, get_or, set, Some, None, Result, Ok, Err, IfOk, IfErr, refl, sym, ap, arith}
+use Rattle.std.proofs.Common.{◌≡◌, ℕ, zero, suc, ◌+◌, ◌<◌, ◌≤◌, ◌≢◌, ◌%◌, Bool, true, false, nat_eq, List, [], ◌∷◌, length, get_or, set}
+use Rattle.std.proofs.Common.{Some, None, Result, Ok, Err, IfOk, IfErr, refl, sym, ap, arith}
 use Rattle.std.specs.List.Sorted.{IsSearchInRange, IsBinarySearchResult, IsNonDecreasingBy}
 use Rattle.std.specs.Ordering.{nat_cmp, ordering_index}
 use Rattle.std.proofs.lemmas.Cmp.{ranked}
@@ -42,8 +43,12 @@ module _ (l : List (ℕ × ℕ)) (sorted : IsRising l) (k : ℕ) where
       grind (arith, nat_tests))
 
   -- a binary search by address ends at the address, or at the gap for it
-  searched_sorted : (r : Result ℕ ℕ) → IsSearchInRange r (length l) → IsBinarySearchResult (λ word. nat_cmp word.0 k) l r → record { found : IfOk r (IsAddressAt l k); absent : IfErr r (IsGapAt l k) }
-  searched_sorted (Ok at) in_range equal = record { found = record { in_range = in_range; address = ranked _ k _ (sym (equal (0, 0))) }; absent = tt }
+  searched_sorted : (r : Result ℕ ℕ) → IsSearchInRange r (length l) → IsBinarySearchResult (λ word. nat_cmp word.0 k) l r
+      → record { found : IfOk r (IsAddressAt l k); absent : IfErr r (IsGapAt l k) }
+  searched_sorted (Ok at) in_range equal = record {
+    found = record { in_range = in_range; address = ranked _ k _ (sym (equal (0, 0))) };
+    absent = tt;
+  }
   searched_sorted (Err at) in_range parted = record {
     found = tt;
     absent = record {
@@ -53,7 +58,8 @@ module _ (l : List (ℕ × ℕ)) (sorted : IsRising l) (k : ℕ) where
     };
   }
 
-pub searched : (l : List (ℕ × ℕ)) → is_memory l ≡ true → (k : ℕ) (r : Result ℕ ℕ) → IsSearchInRange r (length l) → IsBinarySearchResult (λ word. nat_cmp word.0 k) l r → record { found : IfOk r (IsAddressAt l k); absent : IfErr r (IsGapAt l k) }
+pub searched : (l : List (ℕ × ℕ)) → is_memory l ≡ true → (k : ℕ) (r : Result ℕ ℕ) → IsSearchInRange r (length l)
+    → IsBinarySearchResult (λ word. nat_cmp word.0 k) l r → record { found : IfOk r (IsAddressAt l k); absent : IfErr r (IsGapAt l k) }
 searched l h k r in_range found = searched_sorted l (rising 0 l h) k r in_range found
 
 -- no word before place i has the address
@@ -79,12 +85,22 @@ kept (w ∷ ws) a v none = grind (arith, nat_tests, none 0 (omega arith), kept w
 present : (ws : List (ℕ × ℕ)) (a i : ℕ) → IsAddressAt ws a i → NoneBefore ws a i → word_at a ws ≡ Some (get_or ws i (0, 0)).1
 present [] a i at none = absurd (omega (arith, at.in_range))
 present (w ∷ ws) a zero at none = grind (arith, nat_tests, at.address)
-present (w ∷ ws) a (suc i) at none = grind (arith, nat_tests, none 0 (omega arith), present ws a i (at_in_tail w ws a i at) (none_in_tail w ws a i none))
+present (w ∷ ws) a (suc i) at none = grind (
+  arith,
+  nat_tests,
+  none 0 (omega arith),
+  present ws a i (at_in_tail w ws a i at) (none_in_tail w ws a i none),
+)
 
 put : (ws : List (ℕ × ℕ)) (a v i : ℕ) → IsAddressAt ws a i → NoneBefore ws a i → set_word a v ws ≡ set ws i (a, v)
 put [] a v i at none = absurd (omega (arith, at.in_range))
 put (w ∷ ws) a v zero at none = grind (arith, nat_tests, at.address)
-put (w ∷ ws) a v (suc i) at none = grind (arith, nat_tests, none 0 (omega arith), put ws a v i (at_in_tail w ws a i at) (none_in_tail w ws a i none))
+put (w ∷ ws) a v (suc i) at none = grind (
+  arith,
+  nat_tests,
+  none 0 (omega arith),
+  put ws a v i (at_in_tail w ws a i at) (none_in_tail w ws a i none),
+)
 
 before : (ws : List (ℕ × ℕ)) → is_memory ws ≡ true → (a i : ℕ) → IsAddressAt ws a i → NoneBefore ws a i
 before ws h a i at j less same = omega (arith, rising 0 ws h j i less at.in_range, at.address)
@@ -105,7 +121,8 @@ pub word_kept : (ws : List (ℕ × ℕ)) (a v i : ℕ) → IsGapAt ws a i → se
 word_kept ws a v i gap = kept ws a v (in_gap ws a i gap)
 
 -- a write keeps the addresses
-kept_by : (a v low : ℕ) (w : ℕ × ℕ) (ws : List (ℕ × ℕ)) → is_memory_from (w.0 + 1) (set_word a v ws) ≡ is_memory_from (w.0 + 1) ws → (b : Bool) → nat_eq w.0 a ≡ b → is_memory_from low (set_word a v (w ∷ ws)) ≡ is_memory_from low (w ∷ ws)
+kept_by : (a v low : ℕ) (w : ℕ × ℕ) (ws : List (ℕ × ℕ)) → is_memory_from (w.0 + 1) (set_word a v ws) ≡ is_memory_from (w.0 + 1) ws
+    → (b : Bool) → nat_eq w.0 a ≡ b → is_memory_from low (set_word a v (w ∷ ws)) ≡ is_memory_from low (w ∷ ws)
 kept_by a v low w ws more true e = let same : w.0 ≡ a = grind (arith, nat_tests) in rw e (rw same refl)
 kept_by a v low w ws more false e = rw e (rw more refl)
 

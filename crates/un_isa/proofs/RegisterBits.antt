@@ -1,5 +1,6 @@
 -- The bits of a set with one more register, and of two sets together.
-use Rattle.std.proofs.Common.{ℕ, ◌≡◌, ◌≢◌, ◌*◌, ◌^◌, ◌%◌, ◌<◌, Bool, true, false, nat_eq, max, ⊎_elim, bit_or, w64, refl, ap, subst, sym, ◌∙◌, arith}
+use Rattle.std.proofs.Common.{ℕ, ◌≡◌, ◌≢◌, ◌*◌, ◌^◌, ◌%◌, ◌<◌, Bool, true, false, nat_eq, max, ⊎_elim, bit_or, w64, refl, ap, subst, sym}
+use Rattle.std.proofs.Common.{◌∙◌, arith}
 use Rattle.std.specs.Prelude.{◌||◌}
 use Rattle.std.specs.Int.{bit_at}
 use Rattle.std.proofs.lemmas.Bool.{cases_eq}
@@ -29,7 +30,8 @@ inserted v k q lt = ⊎_elim (λ (e : k ≡ q). same e) (λ (ne : k ≢ q). othe
     other : k ≢ q → has (bit_or v (1 * 2 ^ k % 2 ^ 64)) q ≡ (has v q || nat_eq k q)
     other ne =
         let t : nat_eq k q ≡ false = grind (arith, nat_tests) in
-        ap (λ (n : ℕ). nat_eq n 1) (bit_at_set_other w64 v k (omega arith) q (λ e. ne (sym e))) ∙ or_false (has v q) ∙ ap (λ (b : Bool). has v q || b) (sym t)
+        ap (λ (n : ℕ). nat_eq n 1) (bit_at_set_other w64 v k (omega arith) q (λ e. ne (sym e))) ∙ or_false (has v q)
+        ∙ ap (λ (b : Bool). has v q || b) (sym t)
 
 either : (a b : ℕ) → a < 2 → b < 2 → nat_eq (max a b) 1 ≡ (nat_eq a 1 || nat_eq b 1)
 either a b la lb = grind (arith, nat_tests)

@@ -1,5 +1,6 @@
 -- Equal registers and instructions are identical.
-use Rattle.std.proofs.Common.{ℕ, ℤ, ◌≡◌, ◌-◌, Bool, true, false, ◌&&◌, List, [], ◌∷◌, ◌++◌, length, replicate, Option, Some, None, nat_eq, refl, rules, ap, arith}
+use Rattle.std.proofs.Common.{ℕ, ℤ, ◌≡◌, ◌-◌, Bool, true, false, ◌&&◌, List, [], ◌∷◌, ◌++◌, length, replicate, Option, Some, None, nat_eq}
+use Rattle.std.proofs.Common.{refl, rules, ap, arith}
 use Rattle.std.proofs.lemmas.Bool.Decides.{nat_tests}
 use Rattle.std.proofs.lemmas.Bool.Decides.{Decides-int_eq}
 use denote.Enum.Bare.{sameb, same_true, true_same}
@@ -65,7 +66,8 @@ padded_same a b = pointwise nat_eq (a ++ replicate (32 - length a) 0) (b ++ repl
 
 name_exact : Identifies (List ℕ) padded_same
 name_exact a b h =
-    let parts = both (pointwise nat_eq (a ++ replicate (32 - length a) 0) (b ++ replicate (32 - length b) 0)) (nat_eq (length a) (length b)) h in
+    let parts = both (pointwise nat_eq (a ++ replicate (32 - length a) 0) (b ++ replicate (32 - length b) 0)) (nat_eq (length a) (length b))
+    h in
     front a b _ _ (list_exact nat_eq nat_exact _ _ parts.0) (nat_exact _ _ parts.1)
 
 name_reflexive : Accepts (List ℕ) padded_same
@@ -81,10 +83,13 @@ op_reflexive a = true_same the_type a a refl
 abbrev made : Op → Option Reg → List Reg → ℤ → Option (List ℕ) → Instr
 made o d s n l = record { op = o; dst = d; srcs = s; imm = n; label = l }
 
-made_same : (o p : Op) (d e : Option Reg) (s t : List Reg) (m n : ℤ) (k l : Option (List ℕ)) → o ≡ p → d ≡ e → s ≡ t → m ≡ n → k ≡ l → made o d s m k ≡ made p e t n l
+made_same : (o p : Op) (d e : Option Reg) (s t : List Reg) (m n : ℤ) (k l : Option (List ℕ)) → o ≡ p → d ≡ e → s ≡ t → m ≡ n → k ≡ l
+    → made o d s m k ≡ made p e t n l
 made_same o p d e s t m n k l h1 h2 h3 h4 h5 = rw (h1, h2, h3, h4, h5) refl
 
-pub instr_exact : (a b : Instr) → (sameb the_type a.op b.op && (option_eq (λ (r q : Reg). nat_eq r.0 q.0) a.dst b.dst && (pointwise (λ (r q : Reg). nat_eq r.0 q.0) a.srcs b.srcs && (int_eq a.imm b.imm && option_eq padded_same a.label b.label)))) ≡ true → a ≡ b
+pub instr_exact : (a b : Instr) → (sameb the_type a.op b.op && (option_eq (λ (r q : Reg). nat_eq r.0 q.0) a.dst b.dst &&
+    (pointwise (λ (r q : Reg). nat_eq r.0 q.0) a.srcs b.srcs && (int_eq a.imm b.imm && option_eq padded_same a.label b.label)))) ≡ true
+    → a ≡ b
 instr_exact a b h =
     let s1 = both _ _ h in
     let s2 = both _ _ s1.1 in
@@ -97,5 +102,12 @@ instr_exact a b h =
     let e5 = option_exact padded_same name_exact a.label b.label s4.1 in
     made_same _ _ _ _ _ _ _ _ _ _ e1 e2 e3 e4 e5
 
-pub instr_reflexive : (a : Instr) → (sameb the_type a.op a.op && (option_eq (λ (r q : Reg). nat_eq r.0 q.0) a.dst a.dst && (pointwise (λ (r q : Reg). nat_eq r.0 q.0) a.srcs a.srcs && (int_eq a.imm a.imm && option_eq padded_same a.label a.label)))) ≡ true
-instr_reflexive a = rw (op_reflexive a.op, option_reflexive (λ (r q : Reg). nat_eq r.0 q.0) reg_reflexive a.dst, list_reflexive (λ (r q : Reg). nat_eq r.0 q.0) reg_reflexive a.srcs, int_reflexive a.imm) (option_reflexive padded_same name_reflexive a.label)
+pub instr_reflexive : (a : Instr) → (sameb the_type a.op a.op && (option_eq (λ (r q : Reg). nat_eq r.0 q.0) a.dst a.dst &&
+    (pointwise (λ (r q : Reg). nat_eq r.0 q.0) a.srcs a.srcs && (int_eq a.imm a.imm && option_eq padded_same a.label a.label)))) ≡ true
+instr_reflexive a = rw (
+  op_reflexive a.op,
+  option_reflexive (λ (r q : Reg). nat_eq r.0 q.0) reg_reflexive a.dst,
+  list_reflexive (λ (r q : Reg). nat_eq r.0 q.0) reg_reflexive a.srcs,
+  int_reflexive a.imm,
+)
+    (option_reflexive padded_same name_reflexive a.label)

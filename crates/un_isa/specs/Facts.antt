@@ -1,7 +1,9 @@
 -- One datum an operation. What any table says of an operation is read off it.
 use Rattle.std.specs.Prelude.{ℕ, Bool, is_some, List, [], ◌∷◌, Option, Some, None, length, codes, slice_get, unwrap_or}
 use Rattle.un_isa.specs.declared.op.Op.{Op}
-use Rattle.un_isa.specs.declared.op.Op.TheVariants.{Imm, Mov, Add, Sub, And, Or, Xor, Addi, Andi, Ori, Mux, CmpEq, CmpGt, CmpGtu, CmpEqi, CmpGti, Mpyi, Asl, Asr, Lsr, Load, Store, Call, Jump, JumpIf, JumpIfNot, Jumpr, Spill, Reload, P2R, R2P, Enter, Leave, Nop}
+use Rattle.un_isa.specs.declared.op.Op.TheVariants.{Imm, Mov, Add, Sub, And, Or, Xor, Addi, Andi, Ori, Mux, CmpEq, CmpGt, CmpGtu, CmpEqi}
+use Rattle.un_isa.specs.declared.op.Op.TheVariants.{CmpGti, Mpyi, Asl, Asr, Lsr, Load, Store, Call, Jump, JumpIf, JumpIfNot, Jumpr, Spill}
+use Rattle.un_isa.specs.declared.op.Op.TheVariants.{Reload, P2R, R2P, Enter, Leave, Nop}
 use Rattle.un_isa.specs.declared.reg.Space.{Space}
 use Rattle.un_isa.specs.declared.reg.Space.TheVariants.{R, P}
 use Rattle.un_isa.specs.declared.facts.Class.{Class}
@@ -104,7 +106,8 @@ facts_of Nop = in_code Nothing 1 none None None (codes "nop")
 
 -- all operations, by their numbers
 abbrev pub all_ops : List Op
-all_ops = Imm ∷ Mov ∷ Add ∷ Sub ∷ And ∷ Or ∷ Xor ∷ Addi ∷ Andi ∷ Ori ∷ Mux ∷ CmpEq ∷ CmpGt ∷ CmpGtu ∷ CmpEqi ∷ CmpGti ∷ Mpyi ∷ Asl ∷ Asr ∷ Lsr ∷ Load ∷ Store ∷ Call ∷ Jump ∷ JumpIf ∷ JumpIfNot ∷ Jumpr ∷ Spill ∷ Reload ∷ P2R ∷ R2P ∷ Enter ∷ Leave ∷ Nop ∷ []
+all_ops = Imm ∷ Mov ∷ Add ∷ Sub ∷ And ∷ Or ∷ Xor ∷ Addi ∷ Andi ∷ Ori ∷ Mux ∷ CmpEq ∷ CmpGt ∷ CmpGtu ∷ CmpEqi ∷ CmpGti ∷ Mpyi ∷ Asl ∷ Asr ∷
+    Lsr ∷ Load ∷ Store ∷ Call ∷ Jump ∷ JumpIf ∷ JumpIfNot ∷ Jumpr ∷ Spill ∷ Reload ∷ P2R ∷ R2P ∷ Enter ∷ Leave ∷ Nop ∷ []
 
 abbrev pub class_of : Op → Class
 class_of op = (facts_of op).class

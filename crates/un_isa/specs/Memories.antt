@@ -1,5 +1,6 @@
 -- Memory as a list of (address, word).
-use Rattle.std.specs.Prelude.{ℕ, ◌≡◌, ◌<◌, ◌≤◌, ◌+◌, ◌%◌, length, slice_index_or, Bool, true, ◌&&◌, nat_eq, nat_le, List, [], ◌∷◌, Option, Some, None, if◌then◌else◌}
+use Rattle.std.specs.Prelude.{ℕ, ◌≡◌, ◌<◌, ◌≤◌, ◌+◌, ◌%◌, length, slice_index_or, Bool, true, ◌&&◌, nat_eq, nat_le, List, [], ◌∷◌, Option}
+use Rattle.std.specs.Prelude.{Some, None, if◌then◌else◌}
 
 -- each address is a multiple of 4, and they rise from `low` on
 abbrev pub is_memory_from : ℕ → List (ℕ × ℕ) → Bool

@@ -1,7 +1,8 @@
 //! What the tables say of each operation, as functions of the operation.
 
 ghost use Rattle.std.specs.Prelude.{◌≡◌, ◌↔◌, IsTrue};
-ghost use Rattle.un_isa.specs.Facts.{class_of, latency_by, operand_spaces, operand_space, result_space, literal_range, is_source, source_name, printed_name};
+ghost use Rattle.un_isa.specs.Facts.{class_of, latency_by, operand_spaces, operand_space, result_space, literal_range, is_source};
+ghost use Rattle.un_isa.specs.Facts.{source_name, printed_name};
 ghost use Rattle.un_isa.specs.Operands.{InRange};
 
 use crate::op::Op;

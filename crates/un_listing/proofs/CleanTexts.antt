@@ -1,5 +1,6 @@
 -- No semicolon and no line feed stands in an instruction's text.
-use Rattle.std.proofs.Common.{◌≡◌, ℕ, ℤ, suc, zero, ◌<◌, ◌≤◌, ◌==◌, ◌||◌, not, Bool, true, false, List, [], ◌∷◌, ◌++◌, map, codes, slice_get, Option, Some, None, IfSome, option_map, lit≤, refl, arith, unsigned_abs}
+use Rattle.std.proofs.Common.{◌≡◌, ℕ, ℤ, suc, zero, ◌<◌, ◌≤◌, ◌==◌, ◌||◌, not, Bool, true, false, List, [], ◌∷◌, ◌++◌, map, codes}
+use Rattle.std.proofs.Common.{slice_get, Option, Some, None, IfSome, option_map, lit≤, refl, arith, unsigned_abs}
 use Rattle.std.specs.List.{list_all, flat_map}
 use Rattle.std.specs.Fmt.{signed_decimal}
 use Rattle.std.proofs.lemmas.List.Folds.{list_all-append}
@@ -17,10 +18,12 @@ use Rattle.un_isa.specs.Facts.{operand_spaces, result_space, literal_range}
 use Rattle.un_isa.specs.Operands.{IsLiteralOf}
 use Rattle.un_packet.specs.CodeRules.{IsGoodInstr, ReadsItsSpaces, WritesItsSpace, HasItsNumber}
 use Rattle.un_listing.specs.declared.form.Form.{Form}
-use Rattle.un_listing.specs.declared.form.Form.TheVariants.{Literal, Copied, Computed, WithLiteral, Loaded, Stored, Reloaded, Spilled, StackMoved, Called, Jumped, JumpedIf, JumpedIfNot, Returned, Idle}
+use Rattle.un_listing.specs.declared.form.Form.TheVariants.{Literal, Copied, Computed, WithLiteral, Loaded, Stored, Reloaded, Spilled}
+use Rattle.un_listing.specs.declared.form.Form.TheVariants.{StackMoved, Called, Jumped, JumpedIf, JumpedIfNot, Returned, Idle}
 use Rattle.un_listing.specs.declared.word.Word.{Word}
 use Rattle.un_listing.specs.Forms.{form_of, mnemonic}
-use Rattle.un_listing.specs.Listing.{joined, reg_text, some_reg_text, operand_text, operands_text, literal_text, result_text, word_text, label_text, text_in, instr_text}
+use Rattle.un_listing.specs.Listing.{joined, reg_text, some_reg_text, operand_text, operands_text, literal_text, result_text, word_text}
+use Rattle.un_listing.specs.Listing.{label_text, text_in, instr_text}
 use Rattle.un_listing.specs.ListingWords.{is_between}
 use Rattle.un_listing.specs.PacketWords.{IsNamed}
 use Rattle.un_listing.proofs.WordTexts.{Says, reg_back, name_says, literal_says, all_weaker, other_byte}
@@ -40,7 +43,7 @@ clean_append a b ha hb = rw (list_all-append is_clean a b, ha, hb) refl
 inner_clean : (b : ℕ) → not (is_between b) ≡ true → is_clean b ≡ true
 inner_clean b h = rw (other_byte (λ b. not (is_between b)) b 59 h refl, other_byte (λ b. not (is_between b)) b 10 h refl) refl
 
-says_clean : (text : List ℕ) (w : Word) → Says text w → IsClean text
+pub says_clean : (text : List ℕ) (w : Word) → Says text w → IsClean text
 says_clean text w says = all_weaker (λ b. not (is_between b)) is_clean inner_clean text says.inner
 
 reg_clean : (r : Reg) → r.0 < 36 → IsClean (reg_text r)
@@ -68,7 +71,8 @@ home n s h e = below n s (λ m. by s m h) e
     by P m k = cc m
     by M m k = cc k
 
-are_home : (spaces : List Space) (srcs : List Reg) → list_all is_home spaces ≡ true → map (λ (r : Reg). space_of r.0) srcs ≡ spaces → AreRegs srcs
+are_home : (spaces : List Space) (srcs : List Reg) → list_all is_home spaces ≡ true → map (λ (r : Reg). space_of r.0) srcs ≡ spaces
+    → AreRegs srcs
 are_home spaces [] h e = tt
 are_home [] (r ∷ rs) h e = absurd (cc e)
 are_home (s ∷ ss) (r ∷ rs) h e =
@@ -79,7 +83,8 @@ reads_regs : (op : Op) (srcs : List Reg) → ReadsItsSpaces op srcs → AreRegs 
 reads_regs Call srcs r = let few = r.1 in counted 0 srcs r.0 (omega arith)
 reads_regs op srcs r = are_home (operand_spaces op) srcs refl r
 
-result_home : (dst : Option Reg) (space : Option Space) → IfSome space (λ s. is_home s ≡ true) → option_map (λ (r : Reg). space_of r.0) dst ≡ space → IfSome dst (λ r. r.0 < 36)
+result_home : (dst : Option Reg) (space : Option Space) → IfSome space (λ s. is_home s ≡ true)
+    → option_map (λ (r : Reg). space_of r.0) dst ≡ space → IfSome dst (λ r. r.0 < 36)
 result_home None space h e = tt
 result_home (Some r) None h e = absurd (cc e)
 result_home (Some r) (Some s) h e = home r.0 s h (cc e)
@@ -132,11 +137,13 @@ operand_clean (r ∷ rs) regs (suc k) = operand_clean rs regs.1 k
 
 more_clean : (rs : List Reg) → AreRegs rs → IsClean (flat_map (λ (r : Reg). codes "," ++ reg_text r) rs)
 more_clean [] regs = refl
-more_clean (r ∷ rs) regs = clean_append (codes "," ++ reg_text r) (flat_map (λ (r : Reg). codes "," ++ reg_text r) rs) (reg_clean r regs.0) (more_clean rs regs.1)
+more_clean (r ∷ rs) regs = clean_append (codes "," ++ reg_text r) (flat_map (λ (r : Reg). codes "," ++ reg_text r) rs) (reg_clean r regs.0)
+    (more_clean rs regs.1)
 
 joined_clean : (rs : List Reg) → AreRegs rs → IsClean (joined (codes ",") reg_text rs)
 joined_clean [] regs = refl
-joined_clean (r ∷ rs) regs = clean_append (reg_text r) (flat_map (λ (r : Reg). codes "," ++ reg_text r) rs) (reg_clean r regs.0) (more_clean rs regs.1)
+joined_clean (r ∷ rs) regs = clean_append (reg_text r) (flat_map (λ (r : Reg). codes "," ++ reg_text r) rs) (reg_clean r regs.0)
+    (more_clean rs regs.1)
 
 operands_clean : (rs : List Reg) → AreRegs rs → IsClean (codes "(" ++ joined (codes ",") reg_text rs ++ codes ")")
 operands_clean rs regs = clean_append (joined (codes ",") reg_text rs) (codes ")") (joined_clean rs regs) refl
@@ -165,20 +172,24 @@ module _ (i : Instr) (t : IsTame i) where
       (clean_append (base ++ codes "+") (literal_text i) (clean_append base (codes "+") h refl) literal_clean) refl
 
   branch_clean : IsClean (operand_text i 0 ++ codes ") jump " ++ label_text i.label)
-  branch_clean = clean_append (operand_text i 0 ++ codes ") jump ") (label_text i.label) (clean_append (operand_text i 0) (codes ") jump ") (operand_at 0) refl) (label_clean i.label t.label)
+  branch_clean = clean_append (operand_text i 0 ++ codes ") jump ") (label_text i.label)
+      (clean_append (operand_text i 0) (codes ") jump ") (operand_at 0) refl) (label_clean i.label t.label)
 
   text_clean : (form : Form) → IsClean (text_in form i)
   text_clean Literal = clean_append (result_text i) (literal_text i) result_clean literal_clean
   text_clean Copied = clean_append (result_text i) (operand_text i 0) result_clean (operand_at 0)
-  text_clean Computed = clean_append (result_text i ++ mnemonic i.op) (operands_text i) (clean_append (result_text i) (mnemonic i.op) result_clean (mnemonic_clean i.op)) (operands_clean i.srcs t.operands)
+  text_clean Computed = clean_append (result_text i ++ mnemonic i.op) (operands_text i)
+      (clean_append (result_text i) (mnemonic i.op) result_clean (mnemonic_clean i.op)) (operands_clean i.srcs t.operands)
   text_clean WithLiteral =
       clean_append (result_text i ++ mnemonic i.op ++ codes "(" ++ operand_text i 0 ++ codes "," ++ literal_text i) (codes ")")
       (clean_append (result_text i ++ mnemonic i.op ++ codes "(" ++ operand_text i 0 ++ codes ",") (literal_text i)
       (clean_append (result_text i ++ mnemonic i.op ++ codes "(" ++ operand_text i 0) (codes ",")
       (clean_append (result_text i ++ mnemonic i.op ++ codes "(") (operand_text i 0)
-      (clean_append (result_text i ++ mnemonic i.op) (codes "(") (clean_append (result_text i) (mnemonic i.op) result_clean (mnemonic_clean i.op)) refl)
+      (clean_append (result_text i ++ mnemonic i.op) (codes "(")
+      (clean_append (result_text i) (mnemonic i.op) result_clean (mnemonic_clean i.op)) refl)
       (operand_at 0)) refl) literal_clean) refl
-  text_clean Loaded = clean_append (result_text i) (word_text (operand_text i 0) i) result_clean (word_clean (operand_text i 0) (operand_at 0))
+  text_clean Loaded = clean_append (result_text i) (word_text (operand_text i 0) i) result_clean
+      (word_clean (operand_text i 0) (operand_at 0))
   text_clean Stored =
       clean_append (word_text (operand_text i 0) i ++ codes " = ") (operand_text i 1)
       (clean_append (word_text (operand_text i 0) i) (codes " = ") (word_clean (operand_text i 0) (operand_at 0)) refl) (operand_at 1)

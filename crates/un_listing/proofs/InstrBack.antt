@@ -1,9 +1,13 @@
 -- An instruction of code is what the words of its text spell.
-use Rattle.std.proofs.Common.{◌≡◌, ◌≢◌, ℕ, ℤ, pos, negsuc, suc, zero, ◌+◌, ◌<◌, ◌≤◌, Bool, true, false, nat_lt, List, [], ◌∷◌, map, length, take, codes, Option, Some, None, if◌then◌else◌, IfSome, option_map, refl, ap, ◌∙◌, arith, unsigned_abs, lt-ltb, ne_eqb}
+use Rattle.std.proofs.Common.{◌≡◌, ◌≢◌, ℕ, ℤ, pos, negsuc, suc, zero, ◌+◌, ◌<◌, ◌≤◌, Bool, true, false, nat_lt, List, [], ◌∷◌, map, length}
+use Rattle.std.proofs.Common.{take, codes, Option, Some, None, if◌then◌else◌, IfSome, option_map, refl, ap, ◌∙◌, arith, unsigned_abs}
+use Rattle.std.proofs.Common.{lt-ltb, ne_eqb}
 use Rattle.std.proofs.lemmas.Bool.Decides.{nat_tests}
 use Rattle.un_base.specs.Names.{is_name}
 use Rattle.un_isa.specs.declared.op.Op.{Op}
-use Rattle.un_isa.specs.declared.op.Op.TheVariants.{Imm, Mov, Add, Sub, And, Or, Xor, Addi, Andi, Ori, Mux, CmpEq, CmpGt, CmpGtu, CmpEqi, CmpGti, Mpyi, Asl, Asr, Lsr, Load, Store, Call, Jump, JumpIf, JumpIfNot, Jumpr, Spill, Reload, P2R, R2P, Enter, Leave, Nop}
+use Rattle.un_isa.specs.declared.op.Op.TheVariants.{Imm, Mov, Add, Sub, And, Or, Xor, Addi, Andi, Ori, Mux, CmpEq, CmpGt, CmpGtu, CmpEqi}
+use Rattle.un_isa.specs.declared.op.Op.TheVariants.{CmpGti, Mpyi, Asl, Asr, Lsr, Load, Store, Call, Jump, JumpIf, JumpIfNot, Jumpr, Spill}
+use Rattle.un_isa.specs.declared.op.Op.TheVariants.{Reload, P2R, R2P, Enter, Leave, Nop}
 use Rattle.un_isa.specs.declared.reg.Space.{Space}
 use Rattle.un_isa.specs.declared.reg.Space.TheVariants.{R, P, M}
 use Rattle.un_isa.specs.declared.reg.Reg.{Reg}
@@ -27,7 +31,9 @@ use Rattle.un_isa.specs.Operands.{InRange}
 use Rattle.un_listing.specs.Listing.{text_in}
 use Rattle.un_packet.specs.CodeRules.{number, HasItsBase, IsThere}
 use Rattle.un_listing.proofs.WordTexts.{reg_back}
-use Rattle.un_listing.proofs.InstrWords.{reg_word, AreRegs, literal_words, copied_words, computed_words, with_literal_words, loaded_words, stored_words, moved_words, called_words, jumped_words, jumped_if_words, jumped_if_not_words, returned_words, stack_says}
+use Rattle.un_listing.proofs.InstrWords.{reg_word, AreRegs, literal_words, copied_words, computed_words, with_literal_words, loaded_words}
+use Rattle.un_listing.proofs.InstrWords.{stored_words, moved_words, called_words, jumped_words, jumped_if_words, jumped_if_not_words}
+use Rattle.un_listing.proofs.InstrWords.{returned_words, stack_says}
 
 -- ---- registers by their spaces
 
@@ -124,8 +130,10 @@ below n M h e = absurd (h refl)
 in_space : Space → Option Reg → Type 0
 in_space s dst = option_map (λ (r : Reg). space_of r.0) dst ≡ Some s
 
-two_op : (op : Op) (s : Space) → IsMnemonic op Computed computed_ops → s ≢ M → (dst : Option Reg) (srcs : List Reg) (imm : ℤ) (label : Option (List ℕ))
-    → option_map (λ (r : Reg). space_of r.0) dst ≡ Some s → Spaces srcs (R ∷ R ∷ []) → imm ≡ pos 0 → label ≡ None → IsBack (instr op dst srcs imm label)
+two_op : (op : Op) (s : Space) → IsMnemonic op Computed computed_ops → s ≢ M
+    → (dst : Option Reg) (srcs : List Reg) (imm : ℤ) (label : Option (List ℕ))
+    → option_map (λ (r : Reg). space_of r.0) dst ≡ Some s → Spaces srcs (R ∷ R ∷ []) → imm ≡ pos 0 → label ≡ None
+    → IsBack (instr op dst srcs imm label)
 two_op op s m h None srcs imm label w r l n = absurd (cc w)
 two_op op s m h (Some d) [] imm label w r l n = absurd (cc r)
 two_op op s m h (Some d) (a ∷ []) imm label w r l n = absurd (cc r)
@@ -138,8 +146,10 @@ two_op op s m h (Some d) (a ∷ b ∷ []) imm label w r l n =
     ∙ ap instr_of (computed_words d (mnemonic op) (a ∷ b ∷ []) hd m.name (ha, (hb, tt)))
     ∙ two_back op m d a b hd ha hb)
 
-with_literal_op : (op : Op) (s : Space) (range : Range) → IsMnemonic op WithLiteral literal_ops → s ≢ M → (dst : Option Reg) (srcs : List Reg) (imm : ℤ) (label : Option (List ℕ))
-    → option_map (λ (r : Reg). space_of r.0) dst ≡ Some s → dst ≢ Some (record { 0 = 29 }) → Spaces srcs (R ∷ []) → InRange range imm → label ≡ None → IsBack (instr op dst srcs imm label)
+with_literal_op : (op : Op) (s : Space) (range : Range) → IsMnemonic op WithLiteral literal_ops → s ≢ M
+    → (dst : Option Reg) (srcs : List Reg) (imm : ℤ) (label : Option (List ℕ))
+    → option_map (λ (r : Reg). space_of r.0) dst ≡ Some s → dst ≢ Some (record { 0 = 29 }) → Spaces srcs (R ∷ []) → InRange range imm
+    → label ≡ None → IsBack (instr op dst srcs imm label)
 with_literal_op op s range m h None srcs imm label w o r l n = absurd (cc w)
 with_literal_op op s range m h (Some d) [] imm label w o r l n = absurd (cc r)
 with_literal_op op s range m h (Some d) (a ∷ b ∷ more) imm label w o r l n = absurd (cc r)
@@ -152,7 +162,8 @@ with_literal_op op s range m h (Some d) (a ∷ []) imm label w o r l n =
     ∙ with_literal_back op m d a imm hd ha other)
 
 mux_op : (dst : Option Reg) (srcs : List Reg) (imm : ℤ) (label : Option (List ℕ))
-    → option_map (λ (r : Reg). space_of r.0) dst ≡ Some R → Spaces srcs (P ∷ R ∷ R ∷ []) → imm ≡ pos 0 → label ≡ None → IsBack (instr Mux dst srcs imm label)
+    → option_map (λ (r : Reg). space_of r.0) dst ≡ Some R → Spaces srcs (P ∷ R ∷ R ∷ []) → imm ≡ pos 0 → label ≡ None
+    → IsBack (instr Mux dst srcs imm label)
 mux_op None srcs imm label w r l n = absurd (cc w)
 mux_op (Some d) [] imm label w r l n = absurd (cc r)
 mux_op (Some d) (a ∷ []) imm label w r l n = absurd (cc r)
@@ -168,7 +179,8 @@ mux_op (Some d) (a ∷ b ∷ e ∷ []) imm label w r l n =
     ∙ three_back Mux m d a b e hd ha hb he)
 
 imm_op : (dst : Option Reg) (srcs : List Reg) (imm : ℤ) (label : Option (List ℕ))
-    → option_map (λ (r : Reg). space_of r.0) dst ≡ Some R → Spaces srcs [] → InRange Signed16 imm → label ≡ None → IsBack (instr Imm dst srcs imm label)
+    → option_map (λ (r : Reg). space_of r.0) dst ≡ Some R → Spaces srcs [] → InRange Signed16 imm → label ≡ None
+    → IsBack (instr Imm dst srcs imm label)
 imm_op None srcs imm label w r l n = absurd (cc w)
 imm_op (Some d) (a ∷ more) imm label w r l n = absurd (cc r)
 imm_op (Some d) [] imm label w r l n =
@@ -184,7 +196,8 @@ not_general_of : (n : ℕ) → space_of n ≡ P → nat_lt n 32 ≡ false
 not_general_of n e = let k = (predicate n e).0 in grind (arith, nat_tests)
 
 mov_op : (dst : Option Reg) (srcs : List Reg) (imm : ℤ) (label : Option (List ℕ))
-    → option_map (λ (r : Reg). space_of r.0) dst ≡ Some R → Spaces srcs (R ∷ []) → imm ≡ pos 0 → label ≡ None → IsBack (instr Mov dst srcs imm label)
+    → option_map (λ (r : Reg). space_of r.0) dst ≡ Some R → Spaces srcs (R ∷ []) → imm ≡ pos 0 → label ≡ None
+    → IsBack (instr Mov dst srcs imm label)
 mov_op None srcs imm label w r l n = absurd (cc w)
 mov_op (Some d) [] imm label w r l n = absurd (cc r)
 mov_op (Some d) (a ∷ b ∷ more) imm label w r l n = absurd (cc r)
@@ -199,7 +212,8 @@ mov_op (Some d) (a ∷ []) imm label w r l n =
     ∙ rw ((reg_back d hd).reg, (reg_back a ha).reg) refl)
 
 p2r_op : (dst : Option Reg) (srcs : List Reg) (imm : ℤ) (label : Option (List ℕ))
-    → option_map (λ (r : Reg). space_of r.0) dst ≡ Some R → Spaces srcs (P ∷ []) → imm ≡ pos 0 → label ≡ None → IsBack (instr P2R dst srcs imm label)
+    → option_map (λ (r : Reg). space_of r.0) dst ≡ Some R → Spaces srcs (P ∷ []) → imm ≡ pos 0 → label ≡ None
+    → IsBack (instr P2R dst srcs imm label)
 p2r_op None srcs imm label w r l n = absurd (cc w)
 p2r_op (Some d) [] imm label w r l n = absurd (cc r)
 p2r_op (Some d) (a ∷ b ∷ more) imm label w r l n = absurd (cc r)
@@ -214,7 +228,8 @@ p2r_op (Some d) (a ∷ []) imm label w r l n =
     ∙ rw ((reg_back d hd).reg, (reg_back a ha).reg) refl)
 
 r2p_op : (dst : Option Reg) (srcs : List Reg) (imm : ℤ) (label : Option (List ℕ))
-    → option_map (λ (r : Reg). space_of r.0) dst ≡ Some P → Spaces srcs (R ∷ []) → imm ≡ pos 0 → label ≡ None → IsBack (instr R2P dst srcs imm label)
+    → option_map (λ (r : Reg). space_of r.0) dst ≡ Some P → Spaces srcs (R ∷ []) → imm ≡ pos 0 → label ≡ None
+    → IsBack (instr R2P dst srcs imm label)
 r2p_op None srcs imm label w r l n = absurd (cc w)
 r2p_op (Some d) [] imm label w r l n = absurd (cc r)
 r2p_op (Some d) (a ∷ b ∷ more) imm label w r l n = absurd (cc r)
@@ -234,7 +249,8 @@ not_stack : (a : Reg) → a.0 ≢ 29 → is_stack a ≡ false
 not_stack a h = ne_eqb a.0 29 h
 
 load_op : (dst : Option Reg) (srcs : List Reg) (imm : ℤ) (label : Option (List ℕ))
-    → option_map (λ (r : Reg). space_of r.0) dst ≡ Some R → HasItsBase Load srcs → Spaces srcs (R ∷ []) → InRange Offset imm → label ≡ None → IsBack (instr Load dst srcs imm label)
+    → option_map (λ (r : Reg). space_of r.0) dst ≡ Some R → HasItsBase Load srcs → Spaces srcs (R ∷ []) → InRange Offset imm → label ≡ None
+    → IsBack (instr Load dst srcs imm label)
 load_op None srcs imm label w o r l n = absurd (cc w)
 load_op (Some d) [] imm label w o r l n = absurd (cc r)
 load_op (Some d) (a ∷ b ∷ more) imm label w o r l n = absurd (cc r)
@@ -245,7 +261,8 @@ load_op (Some d) (a ∷ []) imm label w o r l n =
     ∙ rw ((reg_back d hd).reg, (reg_back a ha).reg, not_stack a o) (rw (reg_back a ha).reg refl))
 
 reload_op : (dst : Option Reg) (srcs : List Reg) (imm : ℤ) (label : Option (List ℕ))
-    → option_map (λ (r : Reg). space_of r.0) dst ≡ Some R → Spaces srcs [] → InRange FrameOffset imm → label ≡ None → IsBack (instr Reload dst srcs imm label)
+    → option_map (λ (r : Reg). space_of r.0) dst ≡ Some R → Spaces srcs [] → InRange FrameOffset imm → label ≡ None
+    → IsBack (instr Reload dst srcs imm label)
 reload_op None srcs imm label w r l n = absurd (cc w)
 reload_op (Some d) (a ∷ more) imm label w r l n = absurd (cc r)
 reload_op (Some d) [] imm label w r l n =
@@ -254,7 +271,8 @@ reload_op (Some d) [] imm label w r l n =
     ∙ rw ((reg_back d hd).reg) refl)
 
 store_op : (dst : Option Reg) (srcs : List Reg) (imm : ℤ) (label : Option (List ℕ))
-    → option_map (λ (r : Reg). space_of r.0) dst ≡ None → HasItsBase Store srcs → Spaces srcs (R ∷ R ∷ []) → InRange Offset imm → label ≡ None → IsBack (instr Store dst srcs imm label)
+    → option_map (λ (r : Reg). space_of r.0) dst ≡ None → HasItsBase Store srcs → Spaces srcs (R ∷ R ∷ []) → InRange Offset imm
+    → label ≡ None → IsBack (instr Store dst srcs imm label)
 store_op (Some d) srcs imm label w o r l n = absurd (cc w)
 store_op None [] imm label w o r l n = absurd (cc r)
 store_op None (a ∷ []) imm label w o r l n = absurd (cc r)
@@ -266,7 +284,8 @@ store_op None (a ∷ b ∷ []) imm label w o r l n =
     ∙ rw ((reg_back a ha).reg, not_stack a o) (rw ((reg_back a ha).reg, (reg_back b hb).reg) refl))
 
 spill_op : (dst : Option Reg) (srcs : List Reg) (imm : ℤ) (label : Option (List ℕ))
-    → option_map (λ (r : Reg). space_of r.0) dst ≡ None → Spaces srcs (R ∷ []) → InRange FrameOffset imm → label ≡ None → IsBack (instr Spill dst srcs imm label)
+    → option_map (λ (r : Reg). space_of r.0) dst ≡ None → Spaces srcs (R ∷ []) → InRange FrameOffset imm → label ≡ None
+    → IsBack (instr Spill dst srcs imm label)
 spill_op (Some d) srcs imm label w r l n = absurd (cc w)
 spill_op None [] imm label w r l n = absurd (cc r)
 spill_op None (a ∷ b ∷ more) imm label w r l n = absurd (cc r)
@@ -278,14 +297,16 @@ spill_op None (a ∷ []) imm label w r l n =
 -- ---- the stack pointer
 
 enter_op : (frame : ℕ) (dst : Option Reg) (srcs : List Reg) (imm : ℤ) (label : Option (List ℕ)) → frame ≤ 256
-    → option_map (λ (r : Reg). space_of r.0) dst ≡ None → Spaces srcs [] → (0 < frame) × (imm ≡ minus frame) → label ≡ None → IsBack (instr Enter dst srcs imm label)
+    → option_map (λ (r : Reg). space_of r.0) dst ≡ None → Spaces srcs [] → (0 < frame) × (imm ≡ minus frame) → label ≡ None
+    → IsBack (instr Enter dst srcs imm label)
 enter_op frame (Some d) srcs imm label small w r l n = absurd (cc w)
 enter_op frame None (a ∷ more) imm label small w r l n = absurd (cc r)
 enter_op zero None [] imm label small w r l n = let k = l.0 in absurd (omega arith)
 enter_op (suc k) None [] imm label small w r l n = rw (l.1, n) (ap instr_of (moved_words (negsuc k) (omega arith)))
 
 leave_op : (frame : ℕ) (dst : Option Reg) (srcs : List Reg) (imm : ℤ) (label : Option (List ℕ)) → frame ≤ 256
-    → option_map (λ (r : Reg). space_of r.0) dst ≡ None → Spaces srcs [] → (0 < frame) × (imm ≡ pos frame) → label ≡ None → IsBack (instr Leave dst srcs imm label)
+    → option_map (λ (r : Reg). space_of r.0) dst ≡ None → Spaces srcs [] → (0 < frame) × (imm ≡ pos frame) → label ≡ None
+    → IsBack (instr Leave dst srcs imm label)
 leave_op frame (Some d) srcs imm label small w r l n = absurd (cc w)
 leave_op frame None (a ∷ more) imm label small w r l n = absurd (cc r)
 leave_op frame None [] imm label small w r l n = rw (l.1, n) (ap instr_of (moved_words (pos frame) (omega arith)))
@@ -310,7 +331,8 @@ counted k (r ∷ rs) e h =
     (omega arith, counted (k + 1) rs rest (omega arith))
 
 call_op : (dst : Option Reg) (srcs : List Reg) (imm : ℤ) (label : Option (List ℕ))
-    → dst ≡ None → (map number srcs ≡ range_with_len 0 (length srcs)) × (length srcs ≤ 6) → imm ≡ pos 0 → IsThere label → IfSome label (λ l. is_name l ≡ true)
+    → dst ≡ None → (map number srcs ≡ range_with_len 0 (length srcs)) × (length srcs ≤ 6) → imm ≡ pos 0 → IsThere label
+    → IfSome label (λ l. is_name l ≡ true)
     → IsBack (instr Call dst srcs imm label)
 call_op dst srcs imm None w r l n named = absurd n
 call_op dst srcs imm (Some label) w r l n named =
@@ -319,7 +341,8 @@ call_op dst srcs imm (Some label) w r l n named =
     rw (w, l) (ap instr_of (called_words label srcs named regs) ∙ rw (regs_back 6 srcs few regs, no_literal srcs) refl)
 
 jump_op : (dst : Option Reg) (srcs : List Reg) (imm : ℤ) (label : Option (List ℕ))
-    → option_map (λ (r : Reg). space_of r.0) dst ≡ None → Spaces srcs [] → imm ≡ pos 0 → IsThere label → IfSome label (λ l. is_name l ≡ true)
+    → option_map (λ (r : Reg). space_of r.0) dst ≡ None → Spaces srcs [] → imm ≡ pos 0 → IsThere label
+    → IfSome label (λ l. is_name l ≡ true)
     → IsBack (instr Jump dst srcs imm label)
 jump_op (Some d) srcs imm label w r l n named = absurd (cc w)
 jump_op None (a ∷ more) imm label w r l n named = absurd (cc r)
@@ -327,7 +350,8 @@ jump_op None [] imm None w r l n named = absurd n
 jump_op None [] imm (Some label) w r l n named = rw l (ap instr_of (jumped_words label named))
 
 jump_if_op : (dst : Option Reg) (srcs : List Reg) (imm : ℤ) (label : Option (List ℕ))
-    → option_map (λ (r : Reg). space_of r.0) dst ≡ None → Spaces srcs (P ∷ []) → imm ≡ pos 0 → IsThere label → IfSome label (λ l. is_name l ≡ true)
+    → option_map (λ (r : Reg). space_of r.0) dst ≡ None → Spaces srcs (P ∷ []) → imm ≡ pos 0 → IsThere label
+    → IfSome label (λ l. is_name l ≡ true)
     → IsBack (instr JumpIf dst srcs imm label)
 jump_if_op (Some d) srcs imm label w r l n named = absurd (cc w)
 jump_if_op None [] imm label w r l n named = absurd (cc r)
@@ -338,7 +362,8 @@ jump_if_op None (a ∷ []) imm (Some label) w r l n named =
     rw l (ap instr_of (jumped_if_words a label ha named) ∙ rw ((reg_back a ha).reg) refl)
 
 jump_if_not_op : (dst : Option Reg) (srcs : List Reg) (imm : ℤ) (label : Option (List ℕ))
-    → option_map (λ (r : Reg). space_of r.0) dst ≡ None → Spaces srcs (P ∷ []) → imm ≡ pos 0 → IsThere label → IfSome label (λ l. is_name l ≡ true)
+    → option_map (λ (r : Reg). space_of r.0) dst ≡ None → Spaces srcs (P ∷ []) → imm ≡ pos 0 → IsThere label
+    → IfSome label (λ l. is_name l ≡ true)
     → IsBack (instr JumpIfNot dst srcs imm label)
 jump_if_not_op (Some d) srcs imm label w r l n named = absurd (cc w)
 jump_if_not_op None [] imm label w r l n named = absurd (cc r)
@@ -349,7 +374,8 @@ jump_if_not_op None (a ∷ []) imm (Some label) w r l n named =
     rw l (ap instr_of (jumped_if_not_words a label ha named))
 
 jumpr_op : (dst : Option Reg) (srcs : List Reg) (imm : ℤ) (label : Option (List ℕ))
-    → option_map (λ (r : Reg). space_of r.0) dst ≡ None → Spaces srcs (R ∷ []) → imm ≡ pos 0 → label ≡ None → IsBack (instr Jumpr dst srcs imm label)
+    → option_map (λ (r : Reg). space_of r.0) dst ≡ None → Spaces srcs (R ∷ []) → imm ≡ pos 0 → label ≡ None
+    → IsBack (instr Jumpr dst srcs imm label)
 jumpr_op (Some d) srcs imm label w r l n = absurd (cc w)
 jumpr_op None [] imm label w r l n = absurd (cc r)
 jumpr_op None (a ∷ b ∷ more) imm label w r l n = absurd (cc r)
@@ -358,7 +384,8 @@ jumpr_op None (a ∷ []) imm label w r l n =
     rw (l, n) (ap instr_of (returned_words a ha) ∙ rw ((reg_back a ha).reg) refl)
 
 nop_op : (dst : Option Reg) (srcs : List Reg) (imm : ℤ) (label : Option (List ℕ))
-    → option_map (λ (r : Reg). space_of r.0) dst ≡ None → Spaces srcs [] → imm ≡ pos 0 → label ≡ None → IsBack (instr Nop dst srcs imm label)
+    → option_map (λ (r : Reg). space_of r.0) dst ≡ None → Spaces srcs [] → imm ≡ pos 0 → label ≡ None
+    → IsBack (instr Nop dst srcs imm label)
 nop_op (Some d) srcs imm label w r l n = absurd (cc w)
 nop_op None (a ∷ more) imm label w r l n = absurd (cc r)
 nop_op None [] imm label w r l n = rw (l, n) refl
@@ -385,36 +412,53 @@ instr_back frame small JumpIfNot dst srcs imm label g named = jump_if_not_op dst
 instr_back frame small Jumpr dst srcs imm label g named = jumpr_op dst srcs imm label g.writes g.reads g.literal g.label
 instr_back frame small Nop dst srcs imm label g named = nop_op dst srcs imm label g.writes g.reads g.literal g.label
 instr_back frame small Add dst srcs imm label g named =
-    two_op Add R (record { printed = refl; name = refl; reg = refl; other = refl; found = refl }) (λ e. cc e) dst srcs imm label g.writes g.reads g.literal g.label
+    two_op Add R (record { printed = refl; name = refl; reg = refl; other = refl; found = refl })
+    (λ e. cc e) dst srcs imm label g.writes g.reads g.literal g.label
 instr_back frame small Sub dst srcs imm label g named =
-    two_op Sub R (record { printed = refl; name = refl; reg = refl; other = refl; found = refl }) (λ e. cc e) dst srcs imm label g.writes g.reads g.literal g.label
+    two_op Sub R (record { printed = refl; name = refl; reg = refl; other = refl; found = refl })
+    (λ e. cc e) dst srcs imm label g.writes g.reads g.literal g.label
 instr_back frame small And dst srcs imm label g named =
-    two_op And R (record { printed = refl; name = refl; reg = refl; other = refl; found = refl }) (λ e. cc e) dst srcs imm label g.writes g.reads g.literal g.label
+    two_op And R (record { printed = refl; name = refl; reg = refl; other = refl; found = refl })
+    (λ e. cc e) dst srcs imm label g.writes g.reads g.literal g.label
 instr_back frame small Or dst srcs imm label g named =
-    two_op Or R (record { printed = refl; name = refl; reg = refl; other = refl; found = refl }) (λ e. cc e) dst srcs imm label g.writes g.reads g.literal g.label
+    two_op Or R (record { printed = refl; name = refl; reg = refl; other = refl; found = refl })
+    (λ e. cc e) dst srcs imm label g.writes g.reads g.literal g.label
 instr_back frame small Xor dst srcs imm label g named =
-    two_op Xor R (record { printed = refl; name = refl; reg = refl; other = refl; found = refl }) (λ e. cc e) dst srcs imm label g.writes g.reads g.literal g.label
+    two_op Xor R (record { printed = refl; name = refl; reg = refl; other = refl; found = refl })
+    (λ e. cc e) dst srcs imm label g.writes g.reads g.literal g.label
 instr_back frame small Mpyi dst srcs imm label g named =
-    two_op Mpyi R (record { printed = refl; name = refl; reg = refl; other = refl; found = refl }) (λ e. cc e) dst srcs imm label g.writes g.reads g.literal g.label
+    two_op Mpyi R (record { printed = refl; name = refl; reg = refl; other = refl; found = refl })
+    (λ e. cc e) dst srcs imm label g.writes g.reads g.literal g.label
 instr_back frame small CmpEq dst srcs imm label g named =
-    two_op CmpEq P (record { printed = refl; name = refl; reg = refl; other = refl; found = refl }) (λ e. cc e) dst srcs imm label g.writes g.reads g.literal g.label
+    two_op CmpEq P (record { printed = refl; name = refl; reg = refl; other = refl; found = refl })
+    (λ e. cc e) dst srcs imm label g.writes g.reads g.literal g.label
 instr_back frame small CmpGt dst srcs imm label g named =
-    two_op CmpGt P (record { printed = refl; name = refl; reg = refl; other = refl; found = refl }) (λ e. cc e) dst srcs imm label g.writes g.reads g.literal g.label
+    two_op CmpGt P (record { printed = refl; name = refl; reg = refl; other = refl; found = refl })
+    (λ e. cc e) dst srcs imm label g.writes g.reads g.literal g.label
 instr_back frame small CmpGtu dst srcs imm label g named =
-    two_op CmpGtu P (record { printed = refl; name = refl; reg = refl; other = refl; found = refl }) (λ e. cc e) dst srcs imm label g.writes g.reads g.literal g.label
+    two_op CmpGtu P (record { printed = refl; name = refl; reg = refl; other = refl; found = refl })
+    (λ e. cc e) dst srcs imm label g.writes g.reads g.literal g.label
 instr_back frame small Addi dst srcs imm label g named =
-    with_literal_op Addi R Signed16 (record { printed = refl; name = refl; reg = refl; other = refl; found = refl }) (λ e. cc e) dst srcs imm label g.writes g.stack g.reads g.literal g.label
+    with_literal_op Addi R Signed16 (record { printed = refl; name = refl; reg = refl; other = refl; found = refl })
+    (λ e. cc e) dst srcs imm label g.writes g.stack g.reads g.literal g.label
 instr_back frame small Andi dst srcs imm label g named =
-    with_literal_op Andi R Signed10 (record { printed = refl; name = refl; reg = refl; other = refl; found = refl }) (λ e. cc e) dst srcs imm label g.writes g.stack g.reads g.literal g.label
+    with_literal_op Andi R Signed10 (record { printed = refl; name = refl; reg = refl; other = refl; found = refl })
+    (λ e. cc e) dst srcs imm label g.writes g.stack g.reads g.literal g.label
 instr_back frame small Ori dst srcs imm label g named =
-    with_literal_op Ori R Signed10 (record { printed = refl; name = refl; reg = refl; other = refl; found = refl }) (λ e. cc e) dst srcs imm label g.writes g.stack g.reads g.literal g.label
+    with_literal_op Ori R Signed10 (record { printed = refl; name = refl; reg = refl; other = refl; found = refl })
+    (λ e. cc e) dst srcs imm label g.writes g.stack g.reads g.literal g.label
 instr_back frame small CmpEqi dst srcs imm label g named =
-    with_literal_op CmpEqi P Signed10 (record { printed = refl; name = refl; reg = refl; other = refl; found = refl }) (λ e. cc e) dst srcs imm label g.writes g.stack g.reads g.literal g.label
+    with_literal_op CmpEqi P Signed10 (record { printed = refl; name = refl; reg = refl; other = refl; found = refl })
+    (λ e. cc e) dst srcs imm label g.writes g.stack g.reads g.literal g.label
 instr_back frame small CmpGti dst srcs imm label g named =
-    with_literal_op CmpGti P Signed10 (record { printed = refl; name = refl; reg = refl; other = refl; found = refl }) (λ e. cc e) dst srcs imm label g.writes g.stack g.reads g.literal g.label
+    with_literal_op CmpGti P Signed10 (record { printed = refl; name = refl; reg = refl; other = refl; found = refl })
+    (λ e. cc e) dst srcs imm label g.writes g.stack g.reads g.literal g.label
 instr_back frame small Asl dst srcs imm label g named =
-    with_literal_op Asl R Unsigned5 (record { printed = refl; name = refl; reg = refl; other = refl; found = refl }) (λ e. cc e) dst srcs imm label g.writes g.stack g.reads g.literal g.label
+    with_literal_op Asl R Unsigned5 (record { printed = refl; name = refl; reg = refl; other = refl; found = refl })
+    (λ e. cc e) dst srcs imm label g.writes g.stack g.reads g.literal g.label
 instr_back frame small Asr dst srcs imm label g named =
-    with_literal_op Asr R Unsigned5 (record { printed = refl; name = refl; reg = refl; other = refl; found = refl }) (λ e. cc e) dst srcs imm label g.writes g.stack g.reads g.literal g.label
+    with_literal_op Asr R Unsigned5 (record { printed = refl; name = refl; reg = refl; other = refl; found = refl })
+    (λ e. cc e) dst srcs imm label g.writes g.stack g.reads g.literal g.label
 instr_back frame small Lsr dst srcs imm label g named =
-    with_literal_op Lsr R Unsigned5 (record { printed = refl; name = refl; reg = refl; other = refl; found = refl }) (λ e. cc e) dst srcs imm label g.writes g.stack g.reads g.literal g.label
+    with_literal_op Lsr R Unsigned5 (record { printed = refl; name = refl; reg = refl; other = refl; found = refl })
+    (λ e. cc e) dst srcs imm label g.writes g.stack g.reads g.literal g.label

@@ -1,5 +1,6 @@
 -- The words of an instruction's text.
-use Rattle.std.proofs.Common.{◌≡◌, ℕ, ℤ, ◌<◌, ◌≤◌, true, List, [], ◌∷◌, ◌++◌, map, codes, refl, sym, ap, ◌∙◌, append_assoc, append-nil, unsigned_abs}
+use Rattle.std.proofs.Common.{◌≡◌, ℕ, ℤ, ◌<◌, ◌≤◌, true, List, [], ◌∷◌, ◌++◌, map, codes, refl, sym, ap, ◌∙◌, append_assoc, append-nil}
+use Rattle.std.proofs.Common.{unsigned_abs}
 use Rattle.std.specs.List.{flat_map}
 use Rattle.std.specs.Fmt.{signed_decimal}
 use Rattle.un_base.specs.Names.{is_name}
@@ -49,7 +50,8 @@ only_word text w says = sym (ap words_of (append-nil text)) ∙ first_word text 
 reg_end : (r : Reg) → r.0 < 36 → words_of (reg_text r) ≡ reg_word r ∷ []
 reg_end r h = only_word (reg_text r) (reg_word r) (reg_back r h).says
 
-literal_then : (z : ℤ) → unsigned_abs z ≤ 65535 → (rest : List ℕ) → stops rest ≡ true → words_of ((codes "#" ++ signed_decimal z) ++ rest) ≡ Literal z ∷ words_of rest
+literal_then : (z : ℤ) → unsigned_abs z ≤ 65535 → (rest : List ℕ) → stops rest ≡ true
+    → words_of ((codes "#" ++ signed_decimal z) ++ rest) ≡ Literal z ∷ words_of rest
 literal_then z h rest stop = first_word (codes "#" ++ signed_decimal z) (Literal z) (literal_says z h) rest stop
 
 literal_end : (z : ℤ) → unsigned_abs z ≤ 65535 → words_of (codes "#" ++ signed_decimal z) ≡ Literal z ∷ []
@@ -107,7 +109,8 @@ word_words base w z says hz rest stop =
     ∙ and_then w _ _ (literal_then z hz (codes ")" ++ rest) refl))
 
 word_end : (base : List ℕ) (w : Word) (z : ℤ) → Says base w → unsigned_abs z ≤ 65535
-    → words_of (codes "memw(" ++ base ++ codes "+" ++ (codes "#" ++ signed_decimal z) ++ codes ")") ≡ Named (codes "memw") ∷ w ∷ Literal z ∷ []
+    → words_of (codes "memw(" ++ base ++ codes "+" ++ (codes "#" ++ signed_decimal z) ++ codes ")")
+    ≡ Named (codes "memw") ∷ w ∷ Literal z ∷ []
 word_end base w z says hz =
     sym (ap words_of (append-nil (codes "memw(" ++ base ++ codes "+" ++ (codes "#" ++ signed_decimal z) ++ codes ")")))
     ∙ word_words base w z says hz [] refl
@@ -130,20 +133,23 @@ pub stored_words : (base : List ℕ) (w : Word) (b : Reg) (z : ℤ) → Says bas
     → words_of ((codes "memw(" ++ base ++ codes "+" ++ (codes "#" ++ signed_decimal z) ++ codes ")") ++ codes " = " ++ reg_text b)
     ≡ Named (codes "memw") ∷ w ∷ Literal z ∷ reg_word b ∷ []
 stored_words base w b z says hb hz =
-    ap words_of (append_assoc (codes "memw(" ++ base ++ codes "+" ++ (codes "#" ++ signed_decimal z) ++ codes ")") (codes " = ") (reg_text b))
+    ap words_of (append_assoc (codes "memw(" ++ base ++ codes "+" ++ (codes "#" ++ signed_decimal z) ++ codes ")") (codes " = ")
+    (reg_text b))
     ∙ word_words base w z says hz (codes " = " ++ reg_text b) refl
     ∙ ap (λ (ws : List Word). Named (codes "memw") ∷ w ∷ Literal z ∷ ws) (reg_end b hb)
 
 pub moved_words : (z : ℤ) → unsigned_abs z ≤ 65535
     → words_of (codes "r29 = add(r29," ++ (codes "#" ++ signed_decimal z) ++ codes ")")
     ≡ Named (codes "r29") ∷ Named (codes "add") ∷ Named (codes "r29") ∷ Literal z ∷ []
-moved_words z hz = ap (λ (ws : List Word). Named (codes "r29") ∷ Named (codes "add") ∷ Named (codes "r29") ∷ ws) (literal_then z hz (codes ")") refl)
+moved_words z hz = ap (λ (ws : List Word). Named (codes "r29") ∷ Named (codes "add") ∷ Named (codes "r29") ∷ ws)
+    (literal_then z hz (codes ")") refl)
 
 pub called_words : (label : List ℕ) (srcs : List Reg) → is_name label ≡ true → AreRegs srcs
     → words_of (codes "call " ++ label ++ (codes "(" ++ joined (codes ",") reg_text srcs ++ codes ")"))
     ≡ Named (codes "call") ∷ Named label ∷ map reg_word srcs
 called_words label srcs hl hs =
-    and_then (Named (codes "call")) _ _ (first_word label (Named label) (name_says label hl) (codes "(" ++ joined (codes ",") reg_text srcs ++ codes ")") refl
+    and_then (Named (codes "call")) _ _ (first_word label (Named label) (name_says label hl)
+    (codes "(" ++ joined (codes ",") reg_text srcs ++ codes ")") refl
     ∙ and_then (Named label) _ _ (operand_words srcs (codes ")") hs refl ∙ append-nil (map reg_word srcs)))
 
 label_end : (label : List ℕ) → is_name label ≡ true → words_of label ≡ Named label ∷ []
@@ -153,14 +159,16 @@ pub jumped_words : (label : List ℕ) → is_name label ≡ true → words_of (c
 jumped_words label hl = and_then (Named (codes "jump")) _ _ (label_end label hl)
 
 pub jumped_if_words : (p : Reg) (label : List ℕ) → p.0 < 36 → is_name label ≡ true
-    → words_of (codes "if (" ++ reg_text p ++ codes ") jump " ++ label) ≡ Named (codes "if") ∷ reg_word p ∷ Named (codes "jump") ∷ Named label ∷ []
+    → words_of (codes "if (" ++ reg_text p ++ codes ") jump " ++ label)
+    ≡ Named (codes "if") ∷ reg_word p ∷ Named (codes "jump") ∷ Named label ∷ []
 jumped_if_words p label hp hl =
     and_then (Named (codes "if")) _ _ (ap words_of (append_assoc (reg_text p) (codes ") jump ") label)
     ∙ reg_then p hp (codes ") jump " ++ label) refl
     ∙ and_then (reg_word p) _ _ (and_then (Named (codes "jump")) _ _ (label_end label hl)))
 
 pub jumped_if_not_words : (p : Reg) (label : List ℕ) → p.0 < 36 → is_name label ≡ true
-    → words_of (codes "if (!" ++ reg_text p ++ codes ") jump " ++ label) ≡ Named (codes "if") ∷ Negated p ∷ Named (codes "jump") ∷ Named label ∷ []
+    → words_of (codes "if (!" ++ reg_text p ++ codes ") jump " ++ label)
+    ≡ Named (codes "if") ∷ Negated p ∷ Named (codes "jump") ∷ Named label ∷ []
 jumped_if_not_words p label hp hl =
     and_then (Named (codes "if")) _ _ (ap words_of (append_assoc (33 ∷ reg_text p) (codes ") jump ") label)
     ∙ first_word (33 ∷ reg_text p) (Negated p) (negated_says (reg_text p) p (reg_back p hp)) (codes ") jump " ++ label) refl

@@ -1,5 +1,6 @@
 -- The label of an instruction that words spell is a name.
-use Rattle.std.proofs.Common.{◌≡◌, ℕ, ℤ, suc, zero, ◌==◌, Bool, true, false, List, [], ◌∷◌, map, filter, Option, Some, None, IfSome, All, option_map, refl, subst, if◌then◌else◌}
+use Rattle.std.proofs.Common.{◌≡◌, ℕ, ℤ, suc, zero, ◌==◌, Bool, true, false, List, [], ◌∷◌, map, filter, Option, Some, None, IfSome, All}
+use Rattle.std.proofs.Common.{option_map, refl, subst, if◌then◌else◌}
 use Rattle.std.specs.List.{slice_split}
 use Rattle.std.specs.Option.{option_and_then}
 use Rattle.std.proofs.lemmas.List.Elements.{All-nil, All-cons}
@@ -38,7 +39,8 @@ word_name : (bytes : List ℕ) → IsNameWord (word_of bytes)
 word_name [] = tt
 word_name (b ∷ bs) = by (b == 35) (b == 33)
   where
-    by : (u v : Bool) → IsNameWord (if u then word_by Literal (literal_of bs) else (if v then word_by Negated (reg_of bs) else word_by Named (name_of (b ∷ bs))))
+    by : (u v : Bool) → IsNameWord (if u then word_by Literal (literal_of bs) else
+        (if v then word_by Negated (reg_of bs) else word_by Named (name_of (b ∷ bs))))
     by true v = literal_word (literal_of bs)
     by false true = negated_word (reg_of bs)
     by false false = named_word (b ∷ bs)
@@ -69,7 +71,8 @@ all_named [] instrs e = let same : [] ≡ instrs = cc e in subst (λ (is : List 
 all_named (part ∷ parts) instrs e = by (instr_of (words_of part)) (instrs_in parts) refl (λ is h. all_named parts is h) e
   where
     by : (o : Option Instr) (rest : Option (List Instr)) → instr_of (words_of part) ≡ o
-        → ((is : List Instr) → rest ≡ Some is → All IsNamed is) → option_and_then (λ i. put_before i rest) o ≡ Some instrs → All IsNamed instrs
+        → ((is : List Instr) → rest ≡ Some is → All IsNamed is) → option_and_then (λ i. put_before i rest) o ≡ Some instrs
+        → All IsNamed instrs
     by None rest read more h = absurd (cc h)
     by (Some i) None read more h = absurd (cc h)
     by (Some i) (Some is) read more h =

@@ -1,4 +1,5 @@
 pub mod CleanTexts
+pub mod CodeBack
 pub mod CodeRead
 pub mod InstrBack
 pub mod InstrWords
@@ -6,6 +7,9 @@ pub mod Judged
 pub mod LabelEq
 pub mod LabelNames
 pub mod LineCuts
+pub mod LineTexts
+pub mod LinesBack
+pub mod LinesStand
 pub mod NeedLaws
 pub mod Noting
 pub mod PacketBack

@@ -1,5 +1,6 @@
 -- A line between a text and its line feed.
-use Rattle.std.proofs.Common.{◌≡◌, ◌≢◌, ℕ, ◌+◌, ◌-◌, true, false, Bor, List, [], ◌∷◌, ◌++◌, Option, Some, None, MatchOption, IfSome, IfNone, length, take, drop, refl, sym, ap, ◌∙◌, true≢false}
+use Rattle.std.proofs.Common.{◌≡◌, ◌≢◌, ℕ, ◌+◌, ◌-◌, true, false, Bor, List, [], ◌∷◌, ◌++◌, Option, Some, None, MatchOption, IfSome, IfNone}
+use Rattle.std.proofs.Common.{length, take, drop, refl, sym, ap, ◌∙◌, true≢false}
 use Rattle.std.specs.Str.{bytes_eq}
 use Rattle.std.proofs.lemmas.List.{take-append-drop}
 use Rattle.std.proofs.lemmas.Slice.Eq.{bytes_eq-Decides}
@@ -25,7 +26,8 @@ none_within None p = p
 none_within (Some x) p = tt
 
 pub some_within : (answer : Option (Bor (List ℕ))) (line start y : List ℕ) → line ≡ start ++ y
-    → MatchOption answer (bytes_eq (drop (length y - 1) y) (10 ∷ []) ≡ false) (λ x. (bytes_eq (drop (length y - 1) y) (10 ∷ []) ≡ true) × (x.now ≡ take (length y - 1) y) × (length x.now + 1 ≡ length y))
+    → MatchOption answer (bytes_eq (drop (length y - 1) y) (10 ∷ []) ≡ false)
+    (λ x. (bytes_eq (drop (length y - 1) y) (10 ∷ []) ≡ true) × (x.now ≡ take (length y - 1) y) × (length x.now + 1 ≡ length y))
     → IfSome answer (λ rest. line ≡ start ++ (rest.now ++ 10 ∷ []))
 some_within None line start y e h = tt
 some_within (Some x) line start y e h =
@@ -34,7 +36,8 @@ some_within (Some x) line start y e h =
 -- the same text before the line feed
 pub same_within : (start a b : List ℕ) → start ++ (a ++ 10 ∷ []) ≡ start ++ (b ++ 10 ∷ []) → a ≡ b
 same_within start a b e =
-    let tails : a ++ 10 ∷ [] ≡ b ++ 10 ∷ [] = sym (drop-append_seam start (a ++ 10 ∷ [])) ∙ ap (drop (length start)) e ∙ drop-append_seam start (b ++ 10 ∷ []) in
+    let tails : a ++ 10 ∷ [] ≡ b ++ 10 ∷ [] = sym (drop-append_seam start (a ++ 10 ∷ [])) ∙ ap (drop (length start)) e
+    ∙ drop-append_seam start (b ++ 10 ∷ []) in
     fronts a b tails
   where
     fronts : (a b : List ℕ) → a ++ 10 ∷ [] ≡ b ++ 10 ∷ [] → a ≡ b

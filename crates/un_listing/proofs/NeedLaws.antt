@@ -1,5 +1,6 @@
 -- What the needs of instructions come to, and what lists of registers are by the tests on them.
-use Rattle.std.proofs.Common.{◌≡◌, ◌≢◌, ◌↔◌, IsTrue, ℕ, suc, zero, ◌+◌, ◌<◌, ◌≤◌, ◌==◌, ◌||◌, not, Bool, true, false, List, [], ◌∷◌, map, length, get_or, sum_by, refl, sym, ap, ◌∙◌, arith, lit≤, ne_eqb, eq-eqb, true≢false}
+use Rattle.std.proofs.Common.{◌≡◌, ◌≢◌, ◌↔◌, IsTrue, ℕ, suc, zero, ◌+◌, ◌<◌, ◌≤◌, ◌==◌, ◌||◌, not, Bool, true, false, List, [], ◌∷◌, map}
+use Rattle.std.proofs.Common.{length, get_or, sum_by, refl, sym, ap, ◌∙◌, arith, lit≤, ne_eqb, eq-eqb, true≢false}
 use Rattle.std.specs.List.{AllPairs, list_any, range_with_len}
 use Rattle.std.proofs.lemmas.Bool.{and_parts, eqb-true}
 use Rattle.std.proofs.lemmas.List.Sums.{sum_by-cons}
@@ -12,7 +13,8 @@ use Rattle.un_packet.specs.CodeRules.{needs_of, number}
 use Rattle.un_listing.specs.declared.needs.Resource.{Resource}
 use Rattle.un_listing.specs.Needed.{need_of, counts_from, is_distinct}
 
-pub totals_fit : (resource : Resource) (instrs : List Instr) → sum_by (need_of resource) (map needs_of instrs) ≡ sum_by (λ (i : Instr). need_of resource (needs_of i)) instrs
+pub totals_fit : (resource : Resource) (instrs : List Instr)
+    → sum_by (need_of resource) (map needs_of instrs) ≡ sum_by (λ (i : Instr). need_of resource (needs_of i)) instrs
 totals_fit resource [] = refl
 totals_fit resource (i ∷ is) =
     sum_by-cons (need_of resource) (needs_of i) (map needs_of is)
@@ -87,7 +89,11 @@ some_same n (m ∷ ms) h =
 distinct_back : (ns : List ℕ) → AllPairs (λ (a b : ℕ). a ≢ b) ns → is_distinct ns ≡ true
 distinct_back [] h = refl
 distinct_back (n ∷ ns) h =
-    rw (some_same n ns (λ k d below. h zero (suc k) d (omega arith) (omega arith)), distinct_back ns (λ i j d below inside. h (suc i) (suc j) d (omega arith) (omega arith))) refl
+    rw (
+      some_same n ns (λ k d below. h zero (suc k) d (omega arith) (omega arith)),
+      distinct_back ns
+          (λ i j d below inside. h (suc i) (suc j) d (omega arith) (omega arith)),
+    ) refl
 
 pub distinct_decides : (ns : List ℕ) → IsTrue (is_distinct ns) ↔ AllPairs (λ (a b : ℕ). a ≢ b) ns
 distinct_decides ns = decided (is_distinct ns) _ (distinct_true ns) (distinct_back ns)

@@ -1,5 +1,7 @@
 -- One line more before.
-use Rattle.std.proofs.Common.{◌≡◌, ◌≢◌, ◌↔◌, ◌⊎◌, inl, inr, ⊎_elim, ℕ, ◌+◌, ◌-◌, ◌^◌, min, Bool, true, false, IsTrue, List, [], ◌∷◌, ◌++◌, Contains, length, Option, Some, None, if◌then◌else◌, refl, sym, ap, ◌∙◌, subst, arith, length-append, append-nil, add-zero}
+use Rattle.std.proofs.Common.{◌≡◌, ◌≢◌, ◌↔◌, ◌⊎◌, inl, inr, ⊎_elim, ℕ, ◌+◌, ◌-◌, ◌^◌, min, Bool, true, false, IsTrue, List, [], ◌∷◌, ◌++◌}
+use Rattle.std.proofs.Common.{Contains, length, Option, Some, None, if◌then◌else◌, refl, sym, ap, ◌∙◌, subst, arith, length-append}
+use Rattle.std.proofs.Common.{append-nil, add-zero}
 use Rattle.std.proofs.lemmas.List.Elements.{Contains-append_left, Contains-push, Contains-push_cases}
 use Rattle.un_packet.specs.declared.code.Packet.{Packet}
 use Rattle.un_listing.specs.declared.line.Line.{Line}
@@ -20,7 +22,7 @@ packets_append (None ∷ ls) ms = packets_append ls ms
 packets_append (Some (BlockLine l) ∷ ls) ms = packets_append ls ms
 packets_append (Some (PacketLine p) ∷ ls) ms = let e = packets_append ls ms in omega arith
 
-some_more : {X : Type 0} (xs : List X) (x : X) → xs ++ x ∷ [] ≢ []
+pub some_more : {X : Type 0} (xs : List X) (x : X) → xs ++ x ∷ [] ≢ []
 some_more [] x e = absurd (cc e)
 some_more (y ∷ ys) x e = absurd (cc e)
 
@@ -30,17 +32,20 @@ always b e p = (λ t. p, λ q. e)
 pub add_contains : (labels : List (List ℕ)) (label l : List ℕ) → Contains (add_label labels label) l ↔ (Contains labels l ⊎ (label ≡ l))
 add_contains labels label l = by (has_label labels label) refl
   where
-    by : (v : Bool) → has_label labels label ≡ v → Contains (if v then labels else labels ++ label ∷ []) l ↔ (Contains labels l ⊎ (label ≡ l))
+    by : (v : Bool) → has_label labels label ≡ v
+        → Contains (if v then labels else labels ++ label ∷ []) l ↔ (Contains labels l ⊎ (label ≡ l))
     by true e = (
       λ c. inl c,
       λ s. ⊎_elim (λ c. c) (λ f. subst (λ (x : List ℕ). Contains labels x) f ((has_decides labels label).0 e)) s,
     )
     by false e = (
       λ c. Contains-push_cases labels label l c,
-      λ s. ⊎_elim (λ c. Contains-append_left labels (label ∷ []) l c) (λ f. subst (λ (x : List ℕ). Contains (labels ++ label ∷ []) x) f (Contains-push labels label)) s,
+      λ s. ⊎_elim (λ c. Contains-append_left labels (label ∷ []) l c)
+          (λ f. subst (λ (x : List ℕ). Contains (labels ++ label ∷ []) x) f (Contains-push labels label)) s,
     )
 
-module _ (lines : List (Option Line)) (labels : List (List ℕ)) (blocks packets : ℕ) (some : Bool) (known : IsBefore (record { labels = labels; blocks = blocks; packets = packets; some = some }) lines) where
+module _ (lines : List (Option Line)) (labels : List (List ℕ)) (blocks packets : ℕ) (some : Bool)
+    (known : IsBefore (record { labels = labels; blocks = blocks; packets = packets; some = some }) lines) where
   pub none_noted : IsBefore (record { labels = labels; blocks = blocks; packets = packets; some = true }) (lines ++ None ∷ [])
   none_noted = record {
     labels = rw (labels_append lines (None ∷ []), append-nil (labels_in lines)) known.labels;
@@ -49,7 +54,9 @@ module _ (lines : List (Option Line)) (labels : List (List ℕ)) (blocks packets
     some = always true refl (some_more lines None);
   }
 
-  pub packet_noted : (p : Packet) → IsBefore (record { labels = labels; blocks = blocks; packets = min (packets + 1) (2 ^ 32 - 1); some = true }) (lines ++ Some (PacketLine p) ∷ [])
+  pub packet_noted : (p : Packet)
+      → IsBefore (record { labels = labels; blocks = blocks; packets = min (packets + 1) (2 ^ 32 - 1); some = true })
+      (lines ++ Some (PacketLine p) ∷ [])
   packet_noted p = record {
     labels = rw (labels_append lines (Some (PacketLine p) ∷ []), append-nil (labels_in lines)) known.labels;
     blocks = rw (labels_append lines (Some (PacketLine p) ∷ []), append-nil (labels_in lines)) known.blocks;
@@ -57,14 +64,20 @@ module _ (lines : List (Option Line)) (labels : List (List ℕ)) (blocks packets
     some = always true refl (some_more lines (Some (PacketLine p)));
   }
 
-  pub block_noted : (label : List ℕ) → IsBefore (record { labels = add_label labels label; blocks = min (blocks + 1) (2 ^ 32 - 1); packets = packets; some = true }) (lines ++ Some (BlockLine label) ∷ [])
+  pub block_noted : (label : List ℕ)
+      → IsBefore (record { labels = add_label labels label; blocks = min (blocks + 1) (2 ^ 32 - 1); packets = packets; some = true })
+      (lines ++ Some (BlockLine label) ∷ [])
   block_noted label = record {
     labels = rw (labels_append lines (Some (BlockLine label) ∷ [])) (λ l. (
       λ c. ⊎_elim (λ d. Contains-append_left (labels_in lines) (label ∷ []) l ((known.labels l).0 d))
-          (λ f. subst (λ (x : List ℕ). Contains (labels_in lines ++ label ∷ []) x) f (Contains-push (labels_in lines) label)) ((add_contains labels label l).0 c),
-      λ c. (add_contains labels label l).1 (⊎_elim (λ d. inl ((known.labels l).1 d)) (λ f. inr f) (Contains-push_cases (labels_in lines) label l c)),
+          (λ f. subst (λ (x : List ℕ). Contains (labels_in lines ++ label ∷ []) x) f (Contains-push (labels_in lines) label))
+          ((add_contains labels label l).0 c),
+      λ c. (add_contains labels label l).1 (⊎_elim (λ d. inl ((known.labels l).1 d)) (λ f. inr f)
+          (Contains-push_cases (labels_in lines) label l c)),
     ));
-    blocks = (let e = ap length (labels_append lines (Some (BlockLine label) ∷ [])) in let f = known.blocks in let g = length-append (labels_in lines) (label ∷ []) in omega arith);
-    packets = known.packets ∙ ap (λ n. min n (2 ^ 32 - 1)) (sym (packets_append lines (Some (BlockLine label) ∷ []) ∙ add-zero (packets_in lines)));
+    blocks = (let e = ap length (labels_append lines (Some (BlockLine label) ∷ [])) in let f = known.blocks in
+        let g = length-append (labels_in lines) (label ∷ []) in omega arith);
+    packets = known.packets ∙ ap (λ n. min n (2 ^ 32 - 1))
+        (sym (packets_append lines (Some (BlockLine label) ∷ []) ∙ add-zero (packets_in lines)));
     some = always true refl (some_more lines (Some (BlockLine label)));
   }

@@ -1,5 +1,6 @@
 -- A packet of code is read back from its line.
-use Rattle.std.proofs.Common.{◌≡◌, ℕ, ◌<◌, ◌≤◌, ◌==◌, ◌&&◌, ◌||◌, not, cond, Bool, true, false, List, [], ◌∷◌, ◌++◌, map, filter, length, codes, Option, Some, All, refl, ap, ◌∙◌, append_assoc, append-nil, arith}
+use Rattle.std.proofs.Common.{◌≡◌, ℕ, ◌<◌, ◌≤◌, ◌==◌, ◌&&◌, ◌||◌, not, cond, Bool, true, false, List, [], ◌∷◌, ◌++◌, map, filter, length}
+use Rattle.std.proofs.Common.{codes, Option, Some, All, refl, ap, ◌∙◌, append_assoc, append-nil, arith}
 use Rattle.std.specs.List.{slice_split, onto_first, list_all, flat_map}
 use Rattle.std.specs.Option.{option_and_then}
 use Rattle.std.proofs.lemmas.List.{map-append}
@@ -19,11 +20,13 @@ use Rattle.un_listing.proofs.CleanTexts.{is_clean, instr_clean}
 
 -- ---- words before a byte that is in none
 
-onto_append : {X : Type 0} (c : X) (parts more : List (List X)) → 0 < length parts → onto_first c (parts ++ more) ≡ onto_first c parts ++ more
+onto_append : {X : Type 0} (c : X) (parts more : List (List X)) → 0 < length parts
+    → onto_first c (parts ++ more) ≡ onto_first c parts ++ more
 onto_append c [] more some = absurd (omega arith)
 onto_append c (p ∷ ps) more some = refl
 
-split_append : (p : ℕ → Bool) (text : List ℕ) (b : ℕ) (rest : List ℕ) → p b ≡ true → slice_split p (text ++ b ∷ rest) ≡ slice_split p text ++ slice_split p rest
+split_append : (p : ℕ → Bool) (text : List ℕ) (b : ℕ) (rest : List ℕ) → p b ≡ true
+    → slice_split p (text ++ b ∷ rest) ≡ slice_split p text ++ slice_split p rest
 split_append p [] b rest h = rw h refl
 split_append p (c ∷ cs) b rest h = by (p c) (split_append p cs b rest h)
   where
@@ -105,14 +108,16 @@ are_back frame small (i ∷ is) good named =
       are_back frame small is (All-tail (IsGoodInstr frame) i is good) (All-tail IsNamed i is named),
     )
 
-line_back : (is : List Instr) → 0 < length is → AreBack is → instrs_in (parts_of (codes "{ " ++ joined (codes "; ") instr_text is ++ codes " }" ++ codes "\n")) ≡ Some is
+line_back : (is : List Instr) → 0 < length is → AreBack is
+    → instrs_in (parts_of (codes "{ " ++ joined (codes "; ") instr_text is ++ codes " }" ++ codes "\n")) ≡ Some is
 line_back [] some back = absurd (omega arith)
 line_back (i ∷ is) some back =
     ap (λ (t : List ℕ). instrs_in (parts_of (123 ∷ 32 ∷ t))) (regroup (instr_text i) (more_text is) (codes " }") (codes "\n"))
     ∙ parts_back (123 ∷ 32 ∷ instr_text i) i is back.1 back.0 back.2
 
 -- the instructions of a packet's line
-pub packet_back : (frame : ℕ) → frame ≤ 256 → (line : List ℕ) (p : Packet) → IsPacketLine frame line p → instrs_in (parts_of line) ≡ Some p.instrs
+pub packet_back : (frame : ℕ) → frame ≤ 256 → (line : List ℕ) (p : Packet) → IsPacketLine frame line p
+    → instrs_in (parts_of line) ≡ Some p.instrs
 packet_back frame small line p h =
     ap (λ (t : List ℕ). instrs_in (parts_of t)) h.text
     ∙ line_back p.instrs h.packet.rules.some (are_back frame small p.instrs h.packet.rules.instrs h.packet.names)

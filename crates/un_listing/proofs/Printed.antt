@@ -2,7 +2,9 @@
 use Rattle.std.specs.Prelude.{pos, negsuc, ◌≡◌, List, [], ◌∷◌, None, codes, map}
 use Rattle.std.proofs.Common.{refl, lit<}
 use Rattle.std.proofs.lemmas.Fmt.{decimal_digit}
-use Rattle.un_isa.specs.declared.op.Op.TheVariants.{Imm, Mov, Add, Sub, And, Or, Xor, Addi, Andi, Ori, Mux, CmpEq, CmpGt, CmpGtu, CmpEqi, CmpGti, Mpyi, Asl, Asr, Lsr, Load, Store, Call, Jump, JumpIf, JumpIfNot, Jumpr, Spill, Reload, P2R, R2P, Enter, Leave, Nop}
+use Rattle.un_isa.specs.declared.op.Op.TheVariants.{Imm, Mov, Add, Sub, And, Or, Xor, Addi, Andi, Ori, Mux, CmpEq, CmpGt, CmpGtu, CmpEqi}
+use Rattle.un_isa.specs.declared.op.Op.TheVariants.{CmpGti, Mpyi, Asl, Asr, Lsr, Load, Store, Call, Jump, JumpIf, JumpIfNot, Jumpr, Spill}
+use Rattle.un_isa.specs.declared.op.Op.TheVariants.{Reload, P2R, R2P, Enter, Leave, Nop}
 use Rattle.un_isa.specs.declared.instr.Instr.{Instr}
 use Rattle.un_packet.proofs.Assembly.{r, named, i, packet, block}
 use Rattle.un_listing.specs.Listing.{instr_text, block_lines}
@@ -95,6 +97,7 @@ texts = simp (
   decimal_digit 8 (lit< tt),
 ) refl
 
-lines : block_lines (block (codes "loop") (packet (i Nop None [] (pos 0) None ∷ []) ∷ packet (i Nop None [] (pos 0) None ∷ i Jump None [] (pos 0) (named (codes "f")) ∷ []) ∷ []))
+lines : block_lines (block (codes "loop") (packet (i Nop None [] (pos 0) None ∷ [])
+    ∷ packet (i Nop None [] (pos 0) None ∷ i Jump None [] (pos 0) (named (codes "f")) ∷ []) ∷ []))
     ≡ codes "block loop" ∷ codes "{ nop }" ∷ codes "{ nop; jump f }" ∷ []
 lines = refl

@@ -1,5 +1,6 @@
 -- Blocks whose lines all stand keep the rules of code.
-use Rattle.std.proofs.Common.{◌≡◌, ◌≢◌, ◌<◌, ℕ, suc, zero, ◌+◌, Bool, true, false, List, [], ◌∷◌, ◌++◌, Option, Some, length, slice_get, IsSomeAnd, All, Contains, sum_by, refl, sym, ap, ◌∙◌, subst, arith, append-nil, append_assoc, length-append}
+use Rattle.std.proofs.Common.{◌≡◌, ◌≢◌, ◌<◌, ℕ, suc, zero, ◌+◌, Bool, true, false, List, [], ◌∷◌, ◌++◌, Option, Some, length, slice_get}
+use Rattle.std.proofs.Common.{IsSomeAnd, All, Contains, sum_by, refl, sym, ap, ◌∙◌, subst, arith, append-nil, append_assoc, length-append}
 use Rattle.std.specs.List.{AllByRecursion as Each}
 use Rattle.std.specs.Bool.{OnTrue}
 use Rattle.std.proofs.lemmas.List.Elements.{All-cons, All-nil, Contains-append_left, Contains-push}
@@ -8,7 +9,8 @@ use Rattle.un_words.proofs.Each.{EachPair, EachPair-AllPairs}
 use Rattle.un_packet.specs.declared.code.TheConstants.{PACKETS, BLOCKS}
 use Rattle.un_packet.specs.declared.code.Packet.{Packet}
 use Rattle.un_packet.specs.declared.code.CodeBlock.{CodeBlock}
-use Rattle.un_packet.specs.CodeRules.{LeadsToOneOf, transfers, TransfersLast, EndsByLeaving, IsGoodPacket, IsGoodCodeBlock, KeepsRules, labels_of}
+use Rattle.un_packet.specs.CodeRules.{LeadsToOneOf, transfers, TransfersLast, EndsByLeaving, IsGoodPacket, IsGoodCodeBlock, KeepsRules}
+use Rattle.un_packet.specs.CodeRules.{labels_of}
 use Rattle.un_listing.specs.declared.line.Line.{Line}
 use Rattle.un_listing.specs.declared.line.Line.TheVariants.{Block as BlockLine, Packet as PacketLine}
 use Rattle.un_listing.specs.Reading.{labels_in, packets_in, AllStand, lines_in, packet_lines, IsFrameLine}
@@ -88,14 +90,14 @@ module _ (all : List (List ℕ)) where
       omega arith
 
   -- behind a block
-  abbrev past : List (Option Line) → CodeBlock → List (Option Line)
+  abbrev pub past : List (Option Line) → CodeBlock → List (Option Line)
   past before b = (before ++ Some (BlockLine b.label) ∷ []) ++ packet_lines b.packets
 
   behind_block : (before : List (Option Line)) (b : CodeBlock) (bs : List CodeBlock) → StandFrom all before (lines_in (b ∷ bs))
       → StandFrom all (past before b) (lines_in bs)
   behind_block before b bs (here, more) = behind_packets (before ++ Some (BlockLine b.label) ∷ []) b.packets (lines_in bs) more
 
-  labels_past : (before : List (Option Line)) (b : CodeBlock) → labels_in (past before b) ≡ labels_in before ++ b.label ∷ []
+  pub labels_past : (before : List (Option Line)) (b : CodeBlock) → labels_in (past before b) ≡ labels_in before ++ b.label ∷ []
   labels_past before b =
       labels_append (before ++ Some (BlockLine b.label) ∷ []) (packet_lines b.packets)
       ∙ ap (λ (ls : List (List ℕ)). labels_in (before ++ Some (BlockLine b.label) ∷ []) ++ ls)
@@ -107,7 +109,7 @@ module _ (all : List (List ℕ)) where
   packets_none [] = refl
   packets_none (p ∷ ps) = ap suc (packets_none ps)
 
-  packets_past : (before : List (Option Line)) (b : CodeBlock) → packets_in (past before b) ≡ packets_in before + length b.packets
+  pub packets_past : (before : List (Option Line)) (b : CodeBlock) → packets_in (past before b) ≡ packets_in before + length b.packets
   packets_past before b =
       let e = packets_append (before ++ Some (BlockLine b.label) ∷ []) (packet_lines b.packets) in
       let f = packets_append before (Some (BlockLine b.label) ∷ []) in

@@ -1,5 +1,7 @@
 -- Lines that stand, one after another.
-use Rattle.std.proofs.Common.{◌≡◌, ◌↔◌, ◌<◌, ◌≤◌, ℕ, suc, zero, ◌+◌, Bool, IsTrue, List, [], ◌∷◌, ◌++◌, Option, Some, None, take, drop, length, get_or, ◌-◌, slice_get, refl, sym, ap, ◌∙◌, subst, arith, append-nil, add-one, append_assoc, Contains, ◌⊎◌, inl, inr, ⊎_elim, length-append}
+use Rattle.std.proofs.Common.{◌≡◌, ◌↔◌, ◌<◌, ◌≤◌, ℕ, suc, zero, ◌+◌, Bool, IsTrue, List, [], ◌∷◌, ◌++◌, Option, Some, None, take, drop}
+use Rattle.std.proofs.Common.{length, get_or, ◌-◌, slice_get, refl, sym, ap, ◌∙◌, subst, arith, append-nil, add-one, append_assoc, Contains}
+use Rattle.std.proofs.Common.{◌⊎◌, inl, inr, ⊎_elim, length-append}
 use Rattle.std.proofs.Math.Seq.{take-append_seam}
 use Rattle.std.proofs.lemmas.List.Elements.{Contains-append_left, Contains-push, Contains-push_cases}
 use Rattle.std.proofs.lemmas.List.{take_more, take_all, length-drop}

@@ -1,5 +1,7 @@
 -- The words that registers, names and literals are.
-use Rattle.std.proofs.Common.{rules, ◌≡◌, ℕ, ℤ, pos, negsuc, suc, ◌+◌, ◌-◌, ◌^◌, ◌<◌, ◌≤◌, min, Bool, true, false, not, ◌&&◌, ◌||◌, ◌==◌, nat_lt, nat_le, List, [], ◌∷◌, ◌++◌, if◌then◌else◌, map, filter, length, slice_index, Some, refl, sym, ap, ◌∙◌, subst, append-nil, arith, lt-ltb, ne_eqb, true≢false, zero-add, decimal, unsigned_abs}
+use Rattle.std.proofs.Common.{rules, ◌≡◌, ℕ, ℤ, pos, negsuc, suc, ◌+◌, ◌-◌, ◌^◌, ◌<◌, ◌≤◌, min, Bool, true, false, not, ◌&&◌, ◌||◌, ◌==◌}
+use Rattle.std.proofs.Common.{nat_lt, nat_le, List, [], ◌∷◌, ◌++◌, if◌then◌else◌, map, filter, length, slice_index, Some, refl, sym, ap}
+use Rattle.std.proofs.Common.{◌∙◌, subst, append-nil, arith, lt-ltb, ne_eqb, true≢false, zero-add, decimal, unsigned_abs}
 use Rattle.std.specs.Fmt.{signed_decimal}
 use Rattle.std.specs.Char.{is_ascii_digit}
 use Rattle.std.specs.List.{list_all, slice_split}
@@ -50,14 +52,16 @@ split_here (c ∷ cs) b rest inner stop =
     let h = inside c (list_all (λ b. not (is_between b)) cs) inner in
     rw (h.0, split_here cs b rest h.1 stop) refl
 
-kept_first : (text : List ℕ) (parts : List (List ℕ)) → is_some_text text ≡ true → filter is_some_text (text ∷ parts) ≡ text ∷ filter is_some_text parts
+kept_first : (text : List ℕ) (parts : List (List ℕ)) → is_some_text text ≡ true
+    → filter is_some_text (text ∷ parts) ≡ text ∷ filter is_some_text parts
 kept_first text parts some = rw some refl
 
 between_first : (b : ℕ) (rest : List ℕ) → is_between b ≡ true → words_of (b ∷ rest) ≡ words_of rest
 between_first b rest stop = rw stop refl
 
 -- a word ends where no byte of a word follows
-pub first_word : (text : List ℕ) (w : Word) → Says text w → (rest : List ℕ) → stops rest ≡ true → words_of (text ++ rest) ≡ w ∷ words_of rest
+pub first_word : (text : List ℕ) (w : Word) → Says text w → (rest : List ℕ) → stops rest ≡ true
+    → words_of (text ++ rest) ≡ w ∷ words_of rest
 first_word text w says [] stop =
     ap words_of (append-nil text)
     ∙ ap (λ (ps : List (List ℕ)). map word_of (filter is_some_text ps)) (split_whole text says.inner)
@@ -152,7 +156,8 @@ decimal_writes n h =
       few = length-decimal-le 10 n (omega arith) (omega arith) wide;
     }
 
-digits_read : (negative : Bool) (text : List ℕ) (n : ℕ) → Writes text n → digits_of negative text ≡ Some (record { negative = negative; size = n })
+digits_read : (negative : Bool) (text : List ℕ) (n : ℕ) → Writes text n
+    → digits_of negative text ≡ Some (record { negative = negative; size = n })
 digits_read negative text n w =
     let some : nat_lt 0 (length text) ≡ true = lt-ltb _ _ w.some in
     let kept : min n (2 ^ 32 - 1) ≡ n = omega (arith, w.small) in
@@ -177,19 +182,30 @@ pub record IsRegText (text : List ℕ) (r : Reg) : Type 0 where
 sigil_name : (c n : ℕ) → is_first c ≡ true → is_rest c ≡ true → n < 2 ^ 32 → is_name (c ∷ decimal n) ≡ true
 sigil_name c n first rest h =
     let w = decimal_writes n h in
-    is_name_by (c ∷ decimal n) (record { some = omega arith; short = omega (arith, w.few); first = first; rest = rw (rest, digits_rest (decimal n) n w) refl })
+    is_name_by (c ∷ decimal n) (record {
+      some = omega arith;
+      short = omega (arith, w.few);
+      first = first;
+      rest = rw (rest, digits_rest (decimal n) n w) refl;
+    })
 
 general_text : (n : ℕ) → n < 32 → IsRegText (114 ∷ decimal n) (record { 0 = n })
 general_text n h =
     let w = decimal_writes n (omega arith) in
     let below : nat_lt n 32 ≡ true = lt-ltb _ _ h in
-    record { says = name_says (114 ∷ decimal n) (sigil_name 114 n refl refl (omega arith)); reg = rw (number_read (decimal n) n w, below, zero-add n) refl }
+    record {
+      says = name_says (114 ∷ decimal n) (sigil_name 114 n refl refl (omega arith));
+      reg = rw (number_read (decimal n) n w, below, zero-add n) refl;
+    }
 
 predicate_text : (n : ℕ) → n < 4 → IsRegText (112 ∷ decimal n) (record { 0 = 32 + n })
 predicate_text n h =
     let w = decimal_writes n (omega arith) in
     let below : nat_lt n 4 ≡ true = lt-ltb _ _ h in
-    record { says = name_says (112 ∷ decimal n) (sigil_name 112 n refl refl (omega arith)); reg = rw (number_read (decimal n) n w, below) refl }
+    record {
+      says = name_says (112 ∷ decimal n) (sigil_name 112 n refl refl (omega arith));
+      reg = rw (number_read (decimal n) n w, below) refl;
+    }
 
 -- a register is read back
 pub reg_back : (r : Reg) → r.0 < 36 → IsRegText (reg_text r) r
@@ -209,7 +225,8 @@ negated_says text r t = record { some = refl; inner = t.says.inner; spelt = rw t
 
 -- ---- literals
 
-literal_digits : (negative : Bool) (n : ℕ) (text : List ℕ) → n ≤ 65535 → number_of text ≡ Some (record { negative = negative; size = n }) → word_of (35 ∷ text) ≡ Literal (signed_by negative n)
+literal_digits : (negative : Bool) (n : ℕ) (text : List ℕ) → n ≤ 65535 → number_of text ≡ Some (record { negative = negative; size = n })
+    → word_of (35 ∷ text) ≡ Literal (signed_by negative n)
 literal_digits negative n text h read =
     let low : nat_le n 65535 ≡ true = grind (arith, nat_tests) in
     rw (read, low) refl

@@ -1,5 +1,6 @@
 -- The words of an instruction's text: the longest parts of letters, digits and the bytes `_`, `.`, `#`, `-` and `!`.
-use Rattle.std.specs.Prelude.{ℕ, ℤ, pos, Bool, true, false, not, ◌||◌, ◌&&◌, ◌==◌, ◌+◌, nat_lt, nat_le, List, [], ◌∷◌, Option, Some, None, map, filter, if◌then◌else◌}
+use Rattle.std.specs.Prelude.{ℕ, ℤ, pos, Bool, true, false, not, ◌||◌, ◌&&◌, ◌==◌, ◌+◌, nat_lt, nat_le, List, [], ◌∷◌, Option, Some, None}
+use Rattle.std.specs.Prelude.{map, filter, if◌then◌else◌}
 use Rattle.std.specs.List.{slice_split}
 use Rattle.std.specs.Option.{option_and_then, option_map_or}
 use Rattle.un_base.specs.Names.{is_name, is_rest}

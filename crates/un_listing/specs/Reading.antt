@@ -1,5 +1,6 @@
 -- Reading a listing: what its lines spell, which of them stand at their places, and the first that does not.
-use Rattle.std.specs.Prelude.{ℕ, suc, ◌≡◌, ◌≢◌, ◌+◌, ◌<◌, ◌≤◌, ◌%◌, ◌⊎◌, Bool, true, false, List, [], ◌∷◌, ◌++◌, Option, Some, None, All, Contains, IsSomeAnd, map, length, take, drop, slice_get, codes}
+use Rattle.std.specs.Prelude.{ℕ, suc, ◌≡◌, ◌≢◌, ◌+◌, ◌<◌, ◌≤◌, ◌%◌, ◌⊎◌, Bool, true, false, List, [], ◌∷◌, ◌++◌, Option, Some, None, Result}
+use Rattle.std.specs.Prelude.{Ok, Err, All, Contains, IsSomeAnd, map, length, take, drop, slice_get, codes}
 use Rattle.std.specs.Bool.{OnTrue}
 use Rattle.std.specs.List.{AllZip}
 use Rattle.std.specs.Fmt.{decimal}
@@ -9,13 +10,14 @@ use Rattle.un_isa.specs.declared.reg.TheConstants.{FRAME}
 use Rattle.un_packet.specs.declared.code.TheConstants.{PACKETS, BLOCKS}
 use Rattle.un_packet.specs.declared.code.Packet.{Packet}
 use Rattle.un_packet.specs.declared.code.CodeBlock.{CodeBlock}
+use Rattle.un_packet.specs.declared.code.Code.{Code}
 use Rattle.un_packet.specs.CodeRules.{LeadsToOneOf, transfers, leaves}
 use Rattle.un_listing.specs.declared.line.Line.{Line}
 use Rattle.un_listing.specs.declared.line.Line.TheVariants.{Block as BlockLine, Packet as PacketLine}
 use Rattle.un_listing.specs.declared.read.ListingError.{ListingError}
 use Rattle.un_listing.specs.declared.read.ListingError.TheVariants.{NoMemory, BadListing}
-use Rattle.un_listing.specs.Listing.{packet_line}
-use Rattle.un_listing.specs.PacketWords.{IsCodePacket}
+use Rattle.un_listing.specs.Listing.{packet_line, code_text}
+use Rattle.un_listing.specs.PacketWords.{IsNamed, IsCodePacket}
 
 abbrev pub LineValue : Type 0
 LineValue = Line
@@ -144,3 +146,20 @@ IsFirstBad text number = IsFirstBadIn (pieces_of text) number
 abbrev pub IsErrorOf : List ℕ → ListingError → Type 0
 IsErrorOf text NoMemory = Unit {0}
 IsErrorOf text (BadListing line) = IsFirstBad text line
+
+-- ---- the listing of code
+
+-- the label of the block is a name, and so are those in its packets
+pub record HasNames (block : CodeBlock) : Type 0 where
+  pub label : is_name block.label ≡ true
+  pub packets : All (λ (p : Packet). All IsNamed p.instrs) block.packets
+
+-- the text is the listing of code, which keeps the rules of its type, and whose labels are names
+pub record IsListingOf (text : List ℕ) (c : Code) : Type 0 where
+  pub names : All HasNames c.blocks
+  pub spelled : text ≡ code_text c
+
+-- an answer to the listing of code is that code, or there was no memory
+abbrev pub IsReadBack : Code → Result Code ListingError → Type 0
+IsReadBack c (Ok read) = read ≡ c
+IsReadBack c (Err e) = e ≡ NoMemory

@@ -2,7 +2,8 @@
 
 ghost use Rattle.std.specs.Prelude.{◌≡◌, ◌++◌, OnOk, codes};
 ghost use Rattle.std.specs.List.{flat_map};
-ghost use Rattle.un_listing.specs.Listing.{joined, reg_text, some_reg_text, operand_text, operands_text, literal_text, result_text, word_text, label_text};
+ghost use Rattle.un_listing.specs.Listing.{joined, reg_text, some_reg_text, operand_text, operands_text, literal_text, result_text};
+ghost use Rattle.un_listing.specs.Listing.{word_text, label_text};
 
 use un_base::memory_error::NoMemory;
 use un_base::name::Name;

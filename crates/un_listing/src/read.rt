@@ -1,8 +1,8 @@
 //! Code from its listing.
 
 ghost use Rattle.std.specs.Prelude.{◌≡◌, ◌+◌, ◌<◌, ◌^◌, ◌++◌, ◌∷◌, [], ℕ, List, Option, IfOk, IfErr, OnOk, MatchOption};
-ghost use Rattle.un_listing.specs.Listing.{code_text};
-ghost use Rattle.un_listing.specs.Reading.{AllStand, IsErrorOf, IsFirstBad, IsFirstBadOf, IsUnder, LineValue, labels_in, lines_in};
+ghost use Rattle.un_listing.specs.Reading.{AllStand, IsErrorOf, IsFirstBad, IsFirstBadOf, IsListingOf, IsReadBack, IsUnder, LineValue};
+ghost use Rattle.un_listing.specs.Reading.{labels_in, lines_in};
 ghost use Rattle.un_listing.specs.LabelSets.{IsBefore, SameLabels};
 
 use crate::judge::stands;
@@ -140,14 +140,15 @@ fn refusal(place: usize) -> ListingError
     }
 }
 
-/// The code whose listing this is. A label's line at which there would be 2^28 blocks is bad, and a packet's line at which there
-/// would be 2^28 packets.
+/// The code whose listing this is; the listing of each code is read back as that code. A label's line at which there would be 2^28
+/// blocks is bad, and a packet's line at which there would be 2^28 packets.
 ///
 /// # Errors
 /// `BadListing` with the first line outside the grammar, from 1; `NoMemory` where there is no memory for the code.
 pub fn read_code(alloc: Global, text: &[u8]) -> Result<Code, ListingError>
-    ensures ok { IfOk result (λ c. text.now ≡ code_text c) }
+    ensures ok { IfOk result (IsListingOf text.now) }
     ensures bad { IfErr result (IsErrorOf text.now) }
+    ensures whole { (c : Code) → IsListingOf text.now c → IsReadBack c result }
 {
     if text.is_empty() {
         return Err(ListingError::BadListing { line: 1 });

@@ -3,7 +3,10 @@
 ghost use Rattle.std.specs.Prelude.{◌≡◌, IfOk, OnOk, ◌++◌, slice_get, take, drop, is_some, if◌then◌else◌};
 ghost use Rattle.std.specs.List.{filter_map, find};
 ghost use Rattle.std.specs.Option.{option_and_then};
-ghost use Rattle.un_listing.specs.Recognized.{name_in, name_at, is_word_at, reg_in, reg_at, is_general, is_stack, is_stack_at, literal_in, literal_at, is_negated, is_negated_at, literal_or, literal_of_words, op_with, computed_ops, literal_ops, copy_between, is_minus, moved_by, assigned_op, worded_op, op_of, has_result, first_operand, operand_words, operands_in, label_in, result_in, instr_with, instr_of};
+ghost use Rattle.un_listing.specs.Recognized.{name_in, name_at, is_word_at, reg_in, reg_at, is_general, is_stack, is_stack_at, literal_in};
+ghost use Rattle.un_listing.specs.Recognized.{literal_at, is_negated, is_negated_at, literal_or, literal_of_words, op_with, computed_ops};
+ghost use Rattle.un_listing.specs.Recognized.{literal_ops, copy_between, is_minus, moved_by, assigned_op, worded_op, op_of, has_result};
+ghost use Rattle.un_listing.specs.Recognized.{first_operand, operand_words, operands_in, label_in, result_in, instr_with, instr_of};
 
 use crate::form::{Form, form_of, mnemonic};
 use crate::word::{Word, read_reg};

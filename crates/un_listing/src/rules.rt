@@ -1,12 +1,14 @@
 //! The rules of an instruction and of a packet of code, decided.
 
-ghost use Rattle.std.specs.Prelude.{◌≡◌, ◌≢◌, ◌≤◌, ◌<◌, ◌+◌, ◌↔◌, ◌++◌, ◌==◌, IsTrue, ℕ, true, length, map, sum_by, All, AllPairs, OnOk, IfOk};
+ghost use Rattle.std.specs.Prelude.{◌≡◌, ◌≢◌, ◌≤◌, ◌<◌, ◌+◌, ◌↔◌, ◌++◌, ◌==◌, IsTrue, ℕ, true, length, map, sum_by, All, AllPairs, OnOk};
+ghost use Rattle.std.specs.Prelude.{IfOk};
 ghost use Rattle.std.specs.List.{list_any, range_with_len, flat_map};
 ghost use Rattle.std.specs.Bool.{OnTrue};
 ghost use Rattle.un_isa.specs.PacketCounts.{FitPacket};
 ghost use Rattle.un_isa.specs.Registers.{space_of};
 ghost use Rattle.un_listing.specs.Needed.{counts_from, is_distinct};
-ghost use Rattle.un_packet.specs.CodeRules.{ReadsItsSpaces, WritesItsSpace, HasItsBase, HasItsNumber, HasItsLabel, IsGoodInstr, IsGoodPacket, written, needs_of, is_nop, number};
+ghost use Rattle.un_packet.specs.CodeRules.{ReadsItsSpaces, WritesItsSpace, HasItsBase, HasItsNumber, HasItsLabel, IsGoodInstr};
+ghost use Rattle.un_packet.specs.CodeRules.{IsGoodPacket, written, needs_of, is_nop, number};
 
 use crate::needs::fit_packet;
 use std::alloc::Global;

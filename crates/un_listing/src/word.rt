@@ -1,9 +1,11 @@
 //! The words of an instruction's text.
 
-ghost use Rattle.std.specs.Prelude.{◌≡◌, ◌+◌, ◌-◌, ◌<◌, ◌≤◌, take, drop, ◌++◌, ◌==◌, ◌∷◌, [], IfOk, OnOk, nat_lt, nat_le, length, map, filter, option_map};
+ghost use Rattle.std.specs.Prelude.{◌≡◌, ◌+◌, ◌-◌, ◌<◌, ◌≤◌, take, drop, ◌++◌, ◌==◌, ◌∷◌, [], IfOk, OnOk, nat_lt, nat_le, length, map};
+ghost use Rattle.std.specs.Prelude.{filter, option_map};
 ghost use Rattle.std.specs.List.{slice_split, position_or_len};
 ghost use Rattle.std.specs.Option.{option_and_then};
-ghost use Rattle.un_listing.specs.ListingWords.{name_of, register_in, reg_of, signed, small, literal_of, word_by, word_of, is_between, spelled, words_of};
+ghost use Rattle.un_listing.specs.ListingWords.{name_of, register_in, reg_of, signed, small, literal_of, word_by, word_of, is_between};
+ghost use Rattle.un_listing.specs.ListingWords.{spelled, words_of};
 
 use std::alloc::Global;
 use un_base::memory_error::NoMemory;

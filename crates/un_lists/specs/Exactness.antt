@@ -6,7 +6,8 @@ both : (b c : Bool) → (b && c) ≡ true → (b ≡ true) × (c ≡ true)
 both true c h = (refl, h)
 both false c h = absurd (cc h)
 
-pub list_exact : {T : Type 0} (eq : T → T → Bool) → ((a b : T) → eq a b ≡ true → a ≡ b) → (xs ys : List T) → pointwise eq xs ys ≡ true → xs ≡ ys
+pub list_exact : {T : Type 0} (eq : T → T → Bool) → ((a b : T) → eq a b ≡ true → a ≡ b) → (xs ys : List T) → pointwise eq xs ys ≡ true
+    → xs ≡ ys
 list_exact eq f [] [] h = refl
 list_exact eq f [] (y ∷ ys) h = absurd (cc h)
 list_exact eq f (x ∷ xs) [] h = absurd (cc h)

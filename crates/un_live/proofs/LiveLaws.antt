@@ -1,5 +1,7 @@
 -- Marking the blocks at whose start a name is live: what is marked is live, and what is live is marked in the end.
-use Rattle.std.proofs.Common.{◌≡◌, ◌≢◌, ℕ, zero, suc, ◌+◌, ◌-◌, ◌<◌, ◌≤◌, ◌||◌, ◌⊎◌, inl, inr, Bool, true, false, nat_eq, List, [], ◌∷◌, Option, Some, None, map, length, drop, set, replicate, slice_get, get_or, Contains, if◌then◌else◌, refl, sym, ap, add-one, ◌∙◌, arith, subst}
+use Rattle.std.proofs.Common.{◌≡◌, ◌≢◌, ℕ, zero, suc, ◌+◌, ◌-◌, ◌<◌, ◌≤◌, ◌||◌, ◌⊎◌, inl, inr, Bool, true, false, nat_eq, List, [], ◌∷◌}
+use Rattle.std.proofs.Common.{Option, Some, None, map, length, drop, set, replicate, slice_get, get_or, Contains, if◌then◌else◌, refl, sym}
+use Rattle.std.proofs.Common.{ap, add-one, ◌∙◌, arith, subst}
 use Rattle.std.specs.Option.{option_map_or}
 use Rattle.std.proofs.lemmas.Bool.{eqb-true}
 use Rattle.std.proofs.lemmas.Option.{slice_get_past, slice_get-get_or}
@@ -31,13 +33,15 @@ pub reads-Contains : (name : NameId) (names : List NameId) → reads name names 
 reads-Contains name [] h = absurd (cc h)
 reads-Contains name (n ∷ names) h = elim (or_cases (nat_eq n.0 name.0) (reads name names) h) [
   | inl here ↦ (0, omega arith, same_id n name here)
-  | inr later ↦ (λ (found : Contains names name). (let r : Contains (n ∷ names) name = (suc found.0, omega (arith, found.1), found.2) in r)) (reads-Contains name names later)
+  | inr later ↦ (λ (found : Contains names name). (let r : Contains (n ∷ names) name = (suc found.0, omega (arith, found.1), found.2) in r))
+      (reads-Contains name names later)
 ]
 
 pub Contains-reads : (name : NameId) (names : List NameId) → Contains names name → reads name names ≡ true
 Contains-reads name [] (k, below, is) = absurd (omega arith)
 Contains-reads name (n ∷ names) (zero, below, is) = rw (is, own_id name) refl
-Contains-reads name (n ∷ names) (suc k, below, is) = or_true (nat_eq n.0 name.0) (reads name names) (Contains-reads name names (k, omega arith, is))
+Contains-reads name (n ∷ names) (suc k, below, is) = or_true (nat_eq n.0 name.0) (reads name names)
+    (Contains-reads name names (k, omega arith, is))
   where
     or_true : (a b : Bool) → b ≡ true → (a || b) ≡ true
     or_true true b h = refl
@@ -84,7 +88,8 @@ pair_place : (xs : List ℕ) (c : ℕ) → Contains xs c → Contains {X = ℕ �
 pair_place [] c (k, below, is) = absurd (omega arith)
 pair_place (x ∷ xs) c (zero, below, is) = (0, omega arith, ap (λ (n : ℕ). (n, 0)) is)
 pair_place (x ∷ xs) c (suc k, below, is) =
-    (λ (r : Contains {X = ℕ × ℕ} (map (λ (n : ℕ). (n, 0)) xs) (c, 0)). (let t : Contains {X = ℕ × ℕ} (map (λ (n : ℕ). (n, 0)) (x ∷ xs)) (c, 0) = (suc r.0, omega (arith, r.1), r.2) in t))
+    (λ (r : Contains {X = ℕ × ℕ} (map (λ (n : ℕ). (n, 0)) xs) (c, 0)).
+    (let t : Contains {X = ℕ × ℕ} (map (λ (n : ℕ). (n, 0)) (x ∷ xs)) (c, 0) = (suc r.0, omega (arith, r.1), r.2) in t))
     (pair_place xs c (k, omega arith, is))
 
 only : {X : Type 0} (x y : X) → Contains (x ∷ []) y → x ≡ y
@@ -161,17 +166,20 @@ kept_meets : (blocks : List Block) (name : NameId) (marks : List Bool) → AreCl
     → Meets name marks b k block
 kept_meets blocks name marks closed b k block is h na c l nx next there ih = elim (at_place block.ops k h) [
   | inl (none, empty) ↦
-      let places : Contains {X = ℕ × ℕ} (map (λ (n : ℕ). (n, 0)) (targets_of b block.term)) (c, l) = subst (λ (o : Option SrcOp). Contains {X = ℕ × ℕ} (next_by b k o block.term) (c, l)) none nx in
+      let places : Contains {X = ℕ × ℕ} (map (λ (n : ℕ). (n, 0)) (targets_of b block.term)) (c, l) =
+      subst (λ (o : Option SrcOp). Contains {X = ℕ × ℕ} (next_by b k o block.term) (c, l)) none nx in
       let has = pair_first (targets_of b block.term) c l places in
       let start : Meets name marks c 0 next = subst (λ (n : ℕ). Meets name marks c n next) has.1 (ih next there) in
       let live : lives_at blocks name marks c ≡ true = rw there start in
       let led : leads marks b block.term ≡ true = target_leads marks b block.term c has.0 (closed c live) in
       rw (empty, led) (decided (reads name (read_by_term block.term)) Neither true (λ no. refl))
   | inr s ↦
-      let place : Contains {X = ℕ × ℕ} ((b, k + 1) ∷ []) (c, l) = subst (λ (o : Option SrcOp). Contains {X = ℕ × ℕ} (next_by b k o block.term) (c, l)) s.got nx in
+      let place : Contains {X = ℕ × ℕ} ((b, k + 1) ∷ []) (c, l) =
+      subst (λ (o : Option SrcOp). Contains {X = ℕ × ℕ} (next_by b k o block.term) (c, l)) s.got nx in
       let same : ◌≡◌ {A = ℕ × ℕ} (b, k + 1) (c, l) = only {X = ℕ × ℕ} (b, k + 1) (c, l) place in
       let dst : s.item.dst ≢ Some name = subst (λ (o : Option SrcOp). assigned_by o ≢ Some name) s.got na in
-      let after : Meets name marks b (k + 1) block = subst (λ (p : ℕ × ℕ). (other : Block) → slice_get blocks p.0 ≡ Some other → Meets name marks p.0 p.1 other) (sym same) ih block is in
+      let after : Meets name marks b (k + 1) block = subst (λ (p : ℕ × ℕ). (other : Block) → slice_get blocks p.0 ≡ Some other
+      → Meets name marks p.0 p.1 other) (sym same) ih block is in
       let later : Meets name marks b (suc k) block = rw add-one at after in
       rw s.front (decided (reads name s.item.srcs) _ (leads marks b block.term) (λ no. rw (unassigned name s.item.dst dst) later))
 ]
@@ -180,12 +188,15 @@ live_meets : (blocks : List Block) (name : NameId) (marks : List Bool) → AreCl
     → (b k : ℕ) → IsLive blocks name b k → (block : Block) → slice_get blocks b ≡ Some block → Meets name marks b k block
 live_meets blocks name marks closed b k (used b2 k2 own g h has) block is =
     let e : own ≡ block = same_some own block (sym g ∙ is) in
-    read_meets name marks b2 k2 block (subst (λ (x : Block). k2 ≤ length x.ops) e h) (subst (λ (x : Block). Contains (read_at x k2) name) e has)
+    read_meets name marks b2 k2 block (subst (λ (x : Block). k2 ≤ length x.ops) e h)
+    (subst (λ (x : Block). Contains (read_at x k2) name) e has)
 live_meets blocks name marks closed b k (kept b2 k2 own c l g h na nx live) block is =
     let e : own ≡ block = same_some own block (sym g ∙ is) in
     let next = live_block blocks name c l live in
-    kept_meets blocks name marks closed b2 k2 block is (subst (λ (x : Block). k2 ≤ length x.ops) e h) (subst (λ (x : Block). assigned_at x k2 ≢ Some name) e na)
-    c l (subst (λ (x : Block). Contains {X = ℕ × ℕ} (next_of b2 k2 x) (c, l)) e nx) next.0 next.1 (live_meets blocks name marks closed c l live)
+    kept_meets blocks name marks closed b2 k2 block is (subst (λ (x : Block). k2 ≤ length x.ops) e h)
+    (subst (λ (x : Block). assigned_at x k2 ≢ Some name) e na)
+    c l (subst (λ (x : Block). Contains {X = ℕ × ℕ} (next_of b2 k2 x) (c, l)) e nx) next.0 next.1
+    (live_meets blocks name marks closed c l live)
 
 -- where no block is left to be marked, each block at whose start the name is live is marked
 pub live_marked : (blocks : List Block) (name : NameId) (marks : List Bool) → AreClosed blocks name marks → (b : ℕ)
@@ -213,12 +224,14 @@ meets_live blocks name b block is l out [] k drops h hyp = elim (at_place block.
   where
     by : slice_get block.ops k ≡ None → (v : Bool) → reads name (read_by_term block.term) ≡ v
         → live_by (if v then Read else Neither) l ≡ true → IsLive blocks name b k
-    by none true e hyp = used b k block is h (subst (λ (o : Option SrcOp). Contains (read_by o block.term) name) (sym none) (reads-Contains name (read_by_term block.term) e))
+    by none true e hyp = used b k block is h (subst (λ (o : Option SrcOp). Contains (read_by o block.term) name) (sym none)
+        (reads-Contains name (read_by_term block.term) e))
     by none false e hyp =
         let t = out hyp in
         kept b k block t.0 0 is h
         (subst (λ (o : Option SrcOp). assigned_by o ≢ Some name) (sym none) (λ e. cc e))
-        (subst (λ (o : Option SrcOp). Contains {X = ℕ × ℕ} (next_by b k o block.term) (t.0, 0)) (sym none) (pair_place (targets_of b block.term) t.0 t.1))
+        (subst (λ (o : Option SrcOp). Contains {X = ℕ × ℕ} (next_by b k o block.term) (t.0, 0)) (sym none)
+        (pair_place (targets_of b block.term) t.0 t.1))
         t.2
 meets_live blocks name b block is l out (o ∷ os) k drops h hyp = elim (at_place block.ops k h) [
   | inl (none, empty) ↦ absurd (cc (sym empty ∙ drops))
@@ -236,7 +249,8 @@ meets_live blocks name b block is l out (o ∷ os) k drops h hyp = elim (at_plac
         → (live_by (meeting name os block.term) l ≡ true → IsLive blocks name b (k + 1))
         → (v : Bool) → reads name o.srcs ≡ v → (w : Bool) → assigns name o.dst ≡ w
         → live_by (if v then Read else (if w then Assigned else meeting name os block.term)) l ≡ true → IsLive blocks name b k
-    by got bound later true e w f hyp = used b k block is h (subst (λ (x : Option SrcOp). Contains (read_by x block.term) name) (sym got) (reads-Contains name o.srcs e))
+    by got bound later true e w f hyp = used b k block is h (subst (λ (x : Option SrcOp). Contains (read_by x block.term) name) (sym got)
+        (reads-Contains name o.srcs e))
     by got bound later false e true f hyp = absurd (cc hyp)
     by got bound later false e false f hyp =
         kept b k block b (k + 1) is h
@@ -411,15 +425,18 @@ ClosedFrom blocks name marks rest = (b : ℕ) → rest ≤ b → lives_at blocks
 
 -- none of the blocks past the last is to be marked
 pub closed_past : (blocks : List Block) (name : NameId) (marks : List Bool) → ClosedFrom blocks name marks (length blocks)
-closed_past blocks name marks b past h = let none : slice_get blocks b ≡ None = slice_get_past blocks b past in absurd (cc (sym (rw none at h)))
+closed_past blocks name marks b past h = let none : slice_get blocks b ≡ None = slice_get_past blocks b past in
+    absurd (cc (sym (rw none at h)))
 
 pub closed_more : (blocks : List Block) (name : NameId) (marks : List Bool) (b rest : ℕ) → rest ≡ b + 1 → ClosedFrom blocks name marks rest
     → (lives_at blocks name marks b ≡ true → marked marks b ≡ true) → ClosedFrom blocks name marks b
 closed_more blocks name marks b rest one closed here c from h = by (nat_eq b c) refl
   where
     by : (v : Bool) → nat_eq b c ≡ v → marked marks c ≡ true
-    by true e = let same : b ≡ c = eqb-true b c e in subst (λ (k : ℕ). lives_at blocks name marks k ≡ true → marked marks k ≡ true) same here h
-    by false e = let other : b ≢ c = λ same. (let yes : nat_eq b c ≡ true = rw same (grind arith) in cc (sym e ∙ yes)) in closed c (omega arith) h
+    by true e = let same : b ≡ c = eqb-true b c e in subst (λ (k : ℕ). lives_at blocks name marks k ≡ true → marked marks k ≡ true) same
+        here h
+    by false e = let other : b ≢ c = λ same. (let yes : nat_eq b c ≡ true = rw same (grind arith) in cc (sym e ∙ yes)) in
+        closed c (omega arith) h
 
 -- A pass that has come down to block `rest` from the marks `first`: what is marked is live, and where nothing was marked yet
 -- none of the blocks from there on is left to be marked.

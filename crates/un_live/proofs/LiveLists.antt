@@ -1,5 +1,6 @@
 -- The lists of live names, made from the marks of each name.
-use Rattle.std.proofs.Common.{◌≡◌, ◌⊎◌, inl, inr, ℕ, zero, suc, ◌+◌, ◌<◌, ◌≤◌, Bool, true, false, List, [], ◌∷◌, ◌++◌, Some, map, length, drop, slice_get, get_or, All, AllPairs, Contains, if◌then◌else◌, refl, sym, ap, ◌∙◌, arith, subst}
+use Rattle.std.proofs.Common.{◌≡◌, ◌⊎◌, inl, inr, ℕ, zero, suc, ◌+◌, ◌<◌, ◌≤◌, Bool, true, false, List, [], ◌∷◌, ◌++◌, Some, map, length}
+use Rattle.std.proofs.Common.{drop, slice_get, get_or, All, AllPairs, Contains, if◌then◌else◌, refl, sym, ap, ◌∙◌, arith, subst}
 use Rattle.std.specs.List.{range_with_len}
 use Rattle.std.proofs.lemmas.List.{length_push, drop_more, drop_all}
 use Rattle.std.proofs.lemmas.List.Elements.{All-nil, All-cons, All-weaker}
@@ -45,7 +46,14 @@ names_marks k (marks ∷ columns) b name has = by (names_marks (k + 1) columns b
     later h = record { place = suc h.place; marks = h.marks; got = h.got; number = h.number ∙ shift k h.place; yes = h.yes }
 
     here : (v : Bool) → marked marks b ≡ v → v ≡ true → name_of k ≡ name → HasMarks k (marks ∷ columns) b name
-    here v e t is = record { place = 0; marks = marks; got = refl; number = sym is ∙ ap name_of (let z : k ≡ k + 0 = omega arith in z); yes = e ∙ t }
+    here v e t is = record {
+      place = 0;
+      marks = marks;
+      got = refl;
+      number = sym is
+          ∙ ap name_of (let z : k ≡ k + 0 = omega arith in z);
+      yes = e ∙ t;
+    }
 
     by : (Contains (names_from (k + 1) columns b) name → HasMarks (k + 1) columns b name) → (v : Bool) → marked marks b ≡ v
         → Contains (if v then name_of k ∷ names_from (k + 1) columns b else names_from (k + 1) columns b) name
@@ -63,7 +71,8 @@ marks_names k [] b place marks got is = absurd (cc got)
 marks_names k (own ∷ columns) b zero marks got is =
     let same : own ≡ marks = cc got in
     let here : marked own b ≡ true = rw same is in
-    rw here (subst (λ (n : ℕ). Contains (name_of k ∷ names_from (k + 1) columns b) (name_of n)) (let z : k ≡ k + 0 = omega arith in z) (contains_head (name_of k) (names_from (k + 1) columns b)))
+    rw here (subst (λ (n : ℕ). Contains (name_of k ∷ names_from (k + 1) columns b) (name_of n)) (let z : k ≡ k + 0 = omega arith in z)
+    (contains_head (name_of k) (names_from (k + 1) columns b)))
 marks_names k (own ∷ columns) b (suc place) marks got is =
     by (subst (Contains (names_from (k + 1) columns b)) (shift k place) (marks_names (k + 1) columns b place marks got is)) (marked own b)
   where
@@ -80,7 +89,8 @@ From k name = k ≤ name.0
 names_above : (k : ℕ) (columns : List (List Bool)) (b : ℕ) → All (From k) (names_from k columns b)
 names_above k [] b = All-nil (From k)
 names_above k (marks ∷ columns) b =
-    by (All-weaker (From (k + 1)) (From k) (λ x h. omega arith) (names_from (k + 1) columns b) (names_above (k + 1) columns b)) (marked marks b)
+    by (All-weaker (From (k + 1)) (From k) (λ x h. omega arith) (names_from (k + 1) columns b) (names_above (k + 1) columns b))
+    (marked marks b)
   where
     by : All (From k) (names_from (k + 1) columns b) → (v : Bool)
         → All (From k) (if v then name_of k ∷ names_from (k + 1) columns b else names_from (k + 1) columns b)
@@ -117,7 +127,8 @@ within : (columns : List (List Bool)) (blocks b : ℕ) → b < blocks → live_a
 within columns blocks b h =
     let long : b < length (Lists columns blocks) = rw (length-map-range_with_len (names_from 0 columns) 0 blocks) h in
     let got = slice_get-get_or (Lists columns blocks) b [] long in
-    let is : get_or (Lists columns blocks) b [] ≡ names_from 0 columns b = get_or-map-range_with_len (names_from 0 columns) 0 blocks b b [] h (omega arith) in
+    let is : get_or (Lists columns blocks) b [] ≡ names_from 0 columns b =
+    get_or-map-range_with_len (names_from 0 columns) 0 blocks b b [] h (omega arith) in
     rw got is
 
 past : (columns : List (List Bool)) (blocks b : ℕ) → blocks ≤ b → live_at (Lists columns blocks) b ≡ []
@@ -163,7 +174,8 @@ live_lists blocks names columns are small = record {
 
     sound : (b : ℕ) (name : NameId) → Contains (live_at (Lists columns (length blocks)) b) name → IsLive blocks name b 0
     sound b name has = elim (cases b (length blocks)) [
-      | inl h ↦ from_marks b name (names_marks 0 columns b name (subst (λ (xs : List NameId). Contains xs name) (within columns (length blocks) b h) has))
+      | inl h ↦ from_marks b name (names_marks 0 columns b name (subst (λ (xs : List NameId). Contains xs name)
+          (within columns (length blocks) b h) has))
       | inr h ↦ none b name (subst (λ (xs : List NameId). Contains xs name) (past columns (length blocks) b h) has)
     ]
 
@@ -174,7 +186,8 @@ live_lists blocks names columns are small = record {
         let got = slice_get-get_or columns name.0 [] long in
         let column = are.each name.0 marks got in
         let yes = (column.exact b).1 live in
-        let has : Contains (names_from 0 columns b) name = subst (Contains (names_from 0 columns b)) (zero_more name.0) (marks_names 0 columns b name.0 marks got yes) in
+        let has : Contains (names_from 0 columns b) name = subst (Contains (names_from 0 columns b)) (zero_more name.0)
+        (marks_names 0 columns b name.0 marks got yes) in
         subst (λ (xs : List NameId). Contains xs name) (sym (within columns (length blocks) b (live_block blocks name b 0 live))) has
 
 -- one more name
@@ -184,7 +197,8 @@ columns_more blocks names columns marks are column = record {
   whole = length_push columns marks ∙ ap (λ (n : ℕ). n + 1) are.whole;
   each = λ k own got. elim (push_cases columns marks k own got) [
     | inl old ↦ are.each k own old
-    | inr new ↦ subst (λ (m : List Bool). IsColumn blocks (name_of k) m) new.1 (subst (λ (n : ℕ). IsColumn blocks (name_of n) marks) (sym (new.0 ∙ are.whole)) column)
+    | inr new ↦ subst (λ (m : List Bool). IsColumn blocks (name_of k) m) new.1
+        (subst (λ (n : ℕ). IsColumn blocks (name_of n) marks) (sym (new.0 ∙ are.whole)) column)
   ];
 }
   where
@@ -200,7 +214,8 @@ no_columns blocks = record { whole = refl; each = λ k marks got. absurd (cc got
 
 -- the names of the columns from the one at place k on, name by name
 pub names_step : (columns : List (List Bool)) (k b : ℕ) (d : List Bool) → k < length columns
-    → names_from k (drop k columns) b ≡ (if marked (get_or columns k d) b then name_of k ∷ [] else []) ++ names_from (k + 1) (drop (k + 1) columns) b
+    → names_from k (drop k columns) b ≡ (if marked (get_or columns k d) b then name_of k ∷ [] else []) ++
+    names_from (k + 1) (drop (k + 1) columns) b
 names_step columns k b d h = rw (drop_more columns k d h) (by (marked (get_or columns k d) b))
   where
     by : (v : Bool) → (if v then name_of k ∷ names_from (k + 1) (drop (k + 1) columns) b else names_from (k + 1) (drop (k + 1) columns) b)
@@ -217,5 +232,7 @@ pub live_lists_at : (own blocks : List Block) (n names : ℕ) (columns : List (L
     → AreColumns own n columns → lists ≡ map (names_from 0 columns) (range_with_len 0 (length own))
     → ((name : NameId) (b : ℕ) → IsLive blocks name b 0 → name.0 < names) → AreLive blocks lists
 live_lists_at own blocks n names columns lists same count are is small =
-    let there : AreColumns blocks names columns = subst (λ (bs : List Block). AreColumns bs names columns) same (subst (λ (k : ℕ). AreColumns own k columns) count are) in
-    subst (AreLive blocks) (sym (is ∙ ap (λ (bs : List Block). Lists columns (length bs)) same)) (live_lists blocks names columns there small)
+    let there : AreColumns blocks names columns = subst (λ (bs : List Block). AreColumns bs names columns) same
+    (subst (λ (k : ℕ). AreColumns own k columns) count are) in
+    subst (AreLive blocks) (sym (is ∙ ap (λ (bs : List Block). Lists columns (length bs)) same))
+    (live_lists blocks names columns there small)

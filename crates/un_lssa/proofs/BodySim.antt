@@ -1,5 +1,7 @@
 -- The operations of a block: each name that is live has its value in its temporary.
-use Rattle.std.proofs.Common.{◌≡◌, ◌≢◌, ℕ, zero, suc, ◌+◌, ◌<◌, ◌≤◌, ◌++◌, Bool, true, false, nat_eq, List, [], ◌∷◌, Option, Some, None, map, length, drop, get_or, slice_get, Contains, if◌then◌else◌, refl, sym, ap, ◌∙◌, arith, subst, add-one, length-set}
+use Rattle.std.proofs.Common.{◌≡◌, ◌≢◌, ℕ, zero, suc, ◌+◌, ◌<◌, ◌≤◌, ◌++◌, Bool, true, false, nat_eq, List, [], ◌∷◌, Option, Some, None}
+use Rattle.std.proofs.Common.{map, length, drop, get_or, slice_get, Contains, if◌then◌else◌, refl, sym, ap, ◌∙◌, arith, subst, add-one}
+use Rattle.std.proofs.Common.{length-set}
 use Rattle.std.specs.Option.{option_to_list}
 use Rattle.std.proofs.lemmas.Bool.{eqb-true}
 use Rattle.std.proofs.lemmas.List.{get_or-set_same, get_or-set_other}
@@ -15,7 +17,8 @@ use Rattle.un_ir.specs.declared.extended.ExtOp.{ExtOp}
 use Rattle.un_ir.specs.Extended.{temp}
 use Rattle.un_ir.specs.Live.{IsLive, used, kept, read_by, read_at, assigned_by, next_by}
 use Rattle.un_ir.specs.Source.{SourceState, SourceStep, SourceStop, BlockEnd, op_step, ops_run, then_ops, value_in, assigned as valued}
-use Rattle.un_ir.specs.Linear.{World, Effect, Values, effect_of, defined, defined_all, after_effect, LinearStop, LinearEnd, then_ops as then_linear, ops_run as linear_run_ops}
+use Rattle.un_ir.specs.Linear.{World, Effect, Values, effect_of, defined, defined_all, after_effect, LinearStop, LinearEnd}
+use Rattle.un_ir.specs.Linear.{then_ops as then_linear, ops_run as linear_run_ops}
 use Rattle.un_ir.specs.LinearOf.{assigned, past, body_ops, current_after, past_all}
 use Rattle.un_ir.specs.Runs.{world_of, stop_with}
 use Rattle.un_ir.proofs.NameBounds.{NamesAreSmall}
@@ -39,7 +42,8 @@ at_end (y ∷ ys) zero e h = absurd (cc e)
 at_end (y ∷ ys) (suc k) e h = ap suc (at_end ys k e (omega arith))
 
 module _ (blocks : List Block) (names : ℕ) (small : NamesAreSmall names blocks)
-    (stores : (b k : ℕ) (block : Block) (o : SrcOp) → slice_get blocks b ≡ Some block → slice_get block.ops k ≡ Some o → o.op ≡ Store → o.dst ≡ None)
+    (stores : (b k : ℕ) (block : Block) (o : SrcOp) → slice_get blocks b ≡ Some block → slice_get block.ops k ≡ Some o → o.op ≡ Store
+    → o.dst ≡ None)
     (t : Table) (start : Start) (lists : List (List NameId)) (b : ℕ) (block : Block) (here : slice_get blocks b ≡ Some block) where
   -- each name that is live at place k has its value in its temporary, which is below n
   pub record Agrees (k : ℕ) (current : List ℕ) (n : ℕ) (v : Values) (values : List ℕ) : Type 0 where
@@ -62,7 +66,8 @@ module _ (blocks : List Block) (names : ℕ) (small : NamesAreSmall names blocks
   read_values k o current n v values got a j d below =
       let name = get_or o.srcs j d in
       let h : k ≤ length block.ops = let r = slice_get_within block.ops k o got in omega (arith, r) in
-      let has : Contains (read_at block k) name = subst (λ (x : Option SrcOp). Contains (read_by x block.term) name) (sym got) (Contains-get_or o.srcs j d below) in
+      let has : Contains (read_at block k) name = subst (λ (x : Option SrcOp). Contains (read_by x block.term) name) (sym got)
+      (Contains-get_or o.srcs j d below) in
       a.same name (used b k block here h has)
 
   -- a temporary that is not the one defined keeps its value
@@ -105,7 +110,8 @@ module _ (blocks : List Block) (names : ℕ) (small : NamesAreSmall names blocks
       other name off is = let on : nat_eq d.0 name.0 ≡ true = rw is (grind arith) in cc (sym off ∙ on)
 
       before : (name : NameId) → IsLive blocks name b (k + 1) → nat_eq d.0 name.0 ≡ false → IsLive blocks name b k
-      before name live off = live_before k o name got live (λ is. (let s : Some d ≡ Some name = sym e ∙ is in let q : d ≡ name = cc s in other name off (ap (λ (m : NameId). m.0) (sym q))))
+      before name live off = live_before k o name got live (λ is.
+          (let s : Some d ≡ Some name = sym e ∙ is in let q : d ≡ name = cc s in other name off (ap (λ (m : NameId). m.0) (sym q))))
 
       kept_temp : (name : NameId) → nat_eq d.0 name.0 ≡ false → get_or (assigned current (Some d) n) name.0 0 ≡ get_or current name.0 0
       kept_temp name off = get_or-set_other current d.0 name.0 n 0 (other name off)
@@ -134,7 +140,8 @@ module _ (blocks : List Block) (names : ℕ) (small : NamesAreSmall names blocks
   -- the source's operations and those of the linear function, with `rest` behind them, stop alike, or both go on
   pub data BodySim (n : ℕ) (v : Values) (after : List ℕ) (last : ℕ) (rest : List ExtOp) : BlockEnd → LinearEnd → Type 0 where
     stops : (e : SourceStop) (l : LinearStop) (s : SourceState) (w : Values) → ((values : List ℕ) → stop_with t start lists values e ≡ l)
-        → BodySim n v after last rest (record { stop = Some e; state = s }) (record { stop = Some l; state = record { values = w; world = world_of s } })
+        → BodySim n v after last rest (record { stop = Some e; state = s })
+        (record { stop = Some l; state = record { values = w; world = world_of s } })
     ends : (s : SourceState) (w : Values) → Agrees (length block.ops) after last w s.values → ((x : ℕ) → x < n → w x ≡ v x)
         → BodySim n v after last rest (record { stop = None; state = s }) (linear_run_ops rest (record { values = w; world = world_of s }))
 
@@ -153,11 +160,14 @@ module _ (blocks : List Block) (names : ℕ) (small : NamesAreSmall names blocks
   past_least (Some d) n = omega arith
 
   by_step : (o : SrcOp) (os : List SrcOp) (current : List ℕ) (n : ℕ) (v : Values) (s : SourceState) (rest : List ExtOp)
-      → ((x : ℕ) (w : World) → BodySim (past o.dst n) (After o.dst v n x) (current_after (assigned current o.dst n) (past o.dst n) os) (past_all (past o.dst n) os) rest
-      (ops_run os (gone o s x w)) (linear_run_ops (body_ops t (assigned current o.dst n) (past o.dst n) os ++ rest) (record { values = After o.dst v n x; world = w })))
+      → ((x : ℕ) (w : World) → BodySim (past o.dst n) (After o.dst v n x) (current_after (assigned current o.dst n) (past o.dst n) os)
+      (past_all (past o.dst n) os) rest
+      (ops_run os (gone o s x w)) (linear_run_ops (body_ops t (assigned current o.dst n) (past o.dst n) os ++ rest)
+      (record { values = After o.dst v n x; world = w })))
       → (q : SourceStep) (r : Effect) → StepSim o s q r
       → BodySim n v (current_after current n (o ∷ os)) (past_all n (o ∷ os)) rest (then_ops q s (ops_run os))
-      (then_linear (after_effect (map (λ (name : NameId). temp n) (option_to_list o.dst)) (record { values = v; world = world_of s }) r) (record { values = v; world = world_of s })
+      (then_linear (after_effect (map (λ (name : NameId). temp n) (option_to_list o.dst)) (record { values = v; world = world_of s }) r)
+      (record { values = v; world = world_of s })
       (linear_run_ops (body_ops t (assigned current o.dst n) (past o.dst n) os ++ rest)))
   by_step o os current n v s rest ih q r (goes x w) =
       weaken n (past o.dst n) v (After o.dst v n x) _ _ rest _ _ (past_least o.dst n) (λ y h. after_old o.dst v n x y h) (ih x w)
@@ -167,8 +177,10 @@ module _ (blocks : List Block) (names : ℕ) (small : NamesAreSmall names blocks
   pub body_sim : (os : List SrcOp) (k : ℕ) (current : List ℕ) (n : ℕ) (v : Values) (s : SourceState) (rest : List ExtOp)
       → drop k block.ops ≡ os → k ≤ length block.ops
       → Agrees k current n v s.values
-      → BodySim n v (current_after current n os) (past_all n os) rest (ops_run os s) (linear_run_ops (body_ops t current n os ++ rest) (record { values = v; world = world_of s }))
-  body_sim [] k current n v s rest e h a = ends s v (subst (λ (m : ℕ). Agrees m current n v s.values) (at_end block.ops k e h) a) (λ x below. refl)
+      → BodySim n v (current_after current n os) (past_all n os) rest (ops_run os s)
+      (linear_run_ops (body_ops t current n os ++ rest) (record { values = v; world = world_of s }))
+  body_sim [] k current n v s rest e h a = ends s v (subst (λ (m : ℕ). Agrees m current n v s.values) (at_end block.ops k e h) a)
+      (λ x below. refl)
   body_sim (o ∷ os) k current n v s rest e h a =
       let st = standing block.ops k o os e in
       let xs = operands_values t v current s.values o.op o.srcs (read_values k o current n v s.values st.got a) in

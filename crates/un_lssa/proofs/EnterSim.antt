@@ -1,5 +1,7 @@
 -- The values at a block's start and at its end.
-use Rattle.std.proofs.Common.{◌≡◌, ◌≢◌, ℕ, zero, suc, ◌+◌, ◌==◌, ◌<◌, ◌≤◌, ◌++◌, ◌||◌, Bool, true, false, nat_eq, List, [], ◌∷◌, None, map, filter, length, set, get_or, All, AllPairs, Contains, if◌then◌else◌, refl, sym, ap, ◌∙◌, arith, length-set, append-nil}
+use Rattle.std.proofs.Common.{◌≡◌, ◌≢◌, ℕ, zero, suc, ◌+◌, ◌==◌, ◌<◌, ◌≤◌, ◌++◌, ◌||◌, Bool, true, false, nat_eq, List, [], ◌∷◌, None, map}
+use Rattle.std.proofs.Common.{filter, length, set, get_or, All, AllPairs, Contains, if◌then◌else◌, refl, sym, ap, ◌∙◌, arith, length-set}
+use Rattle.std.proofs.Common.{append-nil}
 use Rattle.std.specs.List.{range_with_len, list_any, position_or_len}
 use Rattle.std.proofs.Math.Numerals.{one-add}
 use Rattle.std.proofs.lemmas.Bool.{eqb-true}
@@ -14,7 +16,8 @@ use Rattle.un_ir.specs.declared.extended.ExtOp.{ExtOp}
 use Rattle.un_ir.specs.declared.extended.Operand.{Operand}
 use Rattle.un_ir.specs.Extended.{temp}
 use Rattle.un_ir.specs.Linear.{Values, value_of, defined, defined_all, in_temps, out_operands, ending_of, LinearState, ops_run}
-use Rattle.un_ir.specs.LinearOf.{assigned, past, first_temps, reads, name_of, is_among, body_ops, end_ops, out_op, kept_operands, out_operands_of}
+use Rattle.un_ir.specs.LinearOf.{assigned, past, first_temps, reads, name_of, is_among, body_ops, end_ops, out_op, kept_operands}
+use Rattle.un_ir.specs.LinearOf.{out_operands_of}
 
 -- ---- values of consecutive temporaries
 
@@ -150,7 +153,8 @@ kept_values v f n [] h = refl
 kept_values v f n (r ∷ rs) h =
     let z : n + 0 ≡ n = omega arith in
     let first : v n ≡ f r = ap v (sym z) ∙ h 0 (omega arith) in
-    let rest = kept_values v f (n + 1) rs (λ j below. ap v (let q : (n + 1) + j ≡ n + suc j = omega arith in q) ∙ h (suc j) (omega arith)) in
+    let rest = kept_values v f (n + 1) rs (λ j below. ap v (let q : (n + 1) + j ≡ n + suc j = omega arith in q) ∙ h (suc j) (omega arith))
+    in
     rw (first, rest) refl
 
 -- ---- names over an edge
@@ -162,7 +166,8 @@ among_contains (name ∷ names) n h = by (among_contains names n) (nat_eq name.0
     by : (is_among names n ≡ true → Contains names (name_of n)) → (w : Bool) → nat_eq name.0 n ≡ w → (w || is_among names n) ≡ true
         → Contains (name ∷ names) (name_of n)
     by ih true e h = (0, omega arith, ap name_of (eqb-true name.0 n e))
-    by ih false e h = (λ (r : Contains names (name_of n)). (let q : Contains (name ∷ names) (name_of n) = (suc r.0, (let below = r.1 in omega arith), r.2) in q)) (ih h)
+    by ih false e h = (λ (r : Contains names (name_of n)). (let q : Contains (name ∷ names) (name_of n) =
+        (suc r.0, (let below = r.1 in omega arith), r.2) in q)) (ih h)
 
 pub contains_among : (names : List NameId) (name : NameId) → Contains names name → is_among names name.0 ≡ true
 contains_among [] name (k, below, is) = absurd (omega arith)
@@ -180,7 +185,9 @@ any_found p (x ∷ xs) h = by (any_found p xs) (p x) refl h
     by : (list_any p xs ≡ true → (c : ℕ) × Contains xs c × (p c ≡ true)) → (w : Bool) → p x ≡ w → (w || list_any p xs) ≡ true
         → (c : ℕ) × Contains (x ∷ xs) c × (p c ≡ true)
     by ih true e h = (x, (0, omega arith, refl), e)
-    by ih false e h = (λ (r : (c : ℕ) × Contains xs c × (p c ≡ true)). (let q : (c : ℕ) × Contains (x ∷ xs) c × (p c ≡ true) = (r.0, (suc r.1.0, (let below = r.1.1 in omega arith), r.1.2), r.2) in q)) (ih h)
+    by ih false e h = (λ (r : (c : ℕ) × Contains xs c × (p c ≡ true)).
+        (let q : (c : ℕ) × Contains (x ∷ xs) c × (p c ≡ true) = (r.0, (suc r.1.0, (let below = r.1.1 in omega arith), r.1.2), r.2) in q))
+        (ih h)
 
 pub any_true : (p : ℕ → Bool) (xs : List ℕ) (c : ℕ) → Contains xs c → p c ≡ true → list_any p xs ≡ true
 any_true p [] c (k, below, is) h = absurd (omega arith)
@@ -214,7 +221,8 @@ filter_all p k zero = All-nil (λ (name : NameId). p name.0 ≡ true)
 filter_all p k (suc n) = by (filter_all p (k + 1) n) (p k) refl
   where
     by : All (λ (name : NameId). p name.0 ≡ true) (map name_of (filter p (range_with_len (k + 1) n))) → (w : Bool) → p k ≡ w
-        → All (λ (name : NameId). p name.0 ≡ true) (map name_of (if w then k ∷ filter p (range_with_len (k + 1) n) else filter p (range_with_len (k + 1) n)))
+        → All (λ (name : NameId). p name.0 ≡ true) (map name_of (if w then k ∷
+        filter p (range_with_len (k + 1) n) else filter p (range_with_len (k + 1) n)))
     by rest true e = All-cons (λ (name : NameId). p name.0 ≡ true) (name_of k) (map name_of (filter p (range_with_len (k + 1) n))) e rest
     by rest false e = rest
 
@@ -234,4 +242,5 @@ value_by_place f (m ∷ names) others name has = by (λ later. value_by_place f 
 pub map_same : (f g : NameId → ℕ) (names : List NameId)
     → ((k : ℕ) (d : NameId) → k < length names → f (get_or names k d) ≡ g (get_or names k d)) → map f names ≡ map g names
 map_same f g [] h = refl
-map_same f g (name ∷ names) h = let first : f name ≡ g name = h 0 name (omega arith) in let rest = map_same f g names (λ k d below. h (suc k) d (omega arith)) in rw (first, rest) refl
+map_same f g (name ∷ names) h = let first : f name ≡ g name = h 0 name (omega arith) in let rest =
+    map_same f g names (λ k d below. h (suc k) d (omega arith)) in rw (first, rest) refl

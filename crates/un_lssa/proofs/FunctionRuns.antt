@@ -1,5 +1,7 @@
 -- The linear function of every function runs as the function does.
-use Rattle.std.proofs.Common.{◌≡◌, ◌≢◌, ℕ, suc, ◌+◌, ◌-◌, ◌<◌, ◌≤◌, ◌++◌, ◌||◌, Bool, true, false, nat_eq, List, [], ◌∷◌, Option, Some, None, map, length, take, replicate, get_or, slice_get, slice_index, AllPairs, Contains, if◌then◌else◌, refl, sym, ap, ◌∙◌, arith, subst, append_assoc, append-nil}
+use Rattle.std.proofs.Common.{◌≡◌, ◌≢◌, ℕ, suc, ◌+◌, ◌-◌, ◌<◌, ◌≤◌, ◌++◌, ◌||◌, Bool, true, false, nat_eq, List, [], ◌∷◌, Option, Some}
+use Rattle.std.proofs.Common.{None, map, length, take, replicate, get_or, slice_get, slice_index, AllPairs, Contains, if◌then◌else◌, refl}
+use Rattle.std.proofs.Common.{sym, ap, ◌∙◌, arith, subst, append_assoc, append-nil}
 use Rattle.std.specs.List.{flat_map, fold, list_any, range_with_len}
 use Rattle.std.proofs.Math.Bridge.{le_prop}
 use Rattle.std.proofs.Math.Logic.{∥∥₁_elim}
@@ -34,8 +36,10 @@ Kept f = IsWellFormed f.name f.params f.names f.blocks
 
 small_names : (f : Function) → NamesAreSmall (length f.names) f.blocks
 small_names f = record {
-  reads = λ b k block name at has. ∥∥₁_elim f.well_formed le_prop (λ (w : Kept f). (let small = names_small f.names f.blocks w.good_blocks in small.reads b k block name at has));
-  assigns = λ b k block o name at here is. ∥∥₁_elim f.well_formed le_prop (λ (w : Kept f). (let small = names_small f.names f.blocks w.good_blocks in small.assigns b k block o name at here is));
+  reads = λ b k block name at has. ∥∥₁_elim f.well_formed le_prop
+      (λ (w : Kept f). (let small = names_small f.names f.blocks w.good_blocks in small.reads b k block name at has));
+  assigns = λ b k block o name at here is. ∥∥₁_elim f.well_formed le_prop
+      (λ (w : Kept f). (let small = names_small f.names f.blocks w.good_blocks in small.assigns b k block o name at here is));
 }
 
 -- a Store has no result
@@ -49,7 +53,8 @@ stores_none f b k block o at here is = by o.dst refl
     by : (d : Option NameId) → o.dst ≡ d → d ≡ None
     by None e = refl
     by (Some name) e = absurd (∥∥₁_elim f.well_formed (λ (x y : ⊥). absurd x)
-        (λ (w : Kept f). (let g = at_all (IsGoodOp f.names) block.ops k o (let h = at_all (IsGoodBlock f.names) f.blocks b block w.good_blocks at in h.ops) here in
+        (λ (w : Kept f). (let g = at_all (IsGoodOp f.names) block.ops k o
+        (let h = at_all (IsGoodBlock f.names) f.blocks b block w.good_blocks at in h.ops) here in
         not_some name (subst (λ (op : Op). AssignsItsKind f.names op (Some name)) is (subst (AssignsItsKind f.names o.op) e g.assigns)))))
 
 -- ---- the parameters are the first names
@@ -88,13 +93,22 @@ record Begins (seen : List ℕ) (params rest : List NameId) : Type 0 where
 
 begins : (seen : List ℕ) (params rest : List NameId) → AllPairs (λ (a b : NameId). a ≢ b) params → AreNew seen params
     → Begins seen params rest
-begins seen [] rest apart new = let g = grows seen rest in record { more = g.more; is = g.is ∙ ap (λ (xs : List ℕ). xs ++ g.more) (sym (append-nil seen)) }
+begins seen [] rest apart new = let g = grows seen rest in record {
+  more = g.more;
+  is = g.is
+      ∙ ap (λ (xs : List ℕ). xs ++ g.more) (sym (append-nil seen));
+}
 begins seen (p ∷ params) rest apart new =
     let first : list_any (nat_eq p.0) seen ≡ false = new 0 p (omega arith) in
     let later = begins (seen ++ p.0 ∷ []) params rest
     (λ i j d lt below. apart (suc i) (suc j) d (omega arith) (omega arith))
-    (λ j d below. (let q = get_or params j d in any_push q.0 p.0 seen (new (suc j) d (omega arith)) (differ q (apart 0 (suc j) d (omega arith) (omega arith))))) in
-    record { more = later.more; is = ap (λ (v : Bool). fold see (if v then seen else seen ++ p.0 ∷ []) (params ++ rest)) first ∙ later.is ∙ ap (λ (xs : List ℕ). xs ++ later.more) (append_assoc seen (p.0 ∷ []) (numbers params)) }
+    (λ j d below. (let q = get_or params j d in any_push q.0 p.0 seen (new (suc j) d (omega arith))
+    (differ q (apart 0 (suc j) d (omega arith) (omega arith))))) in
+    record {
+      more = later.more;
+      is = ap (λ (v : Bool). fold see (if v then seen else seen ++ p.0 ∷ []) (params ++ rest)) first ∙ later.is
+          ∙ ap (λ (xs : List ℕ). xs ++ later.more) (append_assoc seen (p.0 ∷ []) (numbers params));
+    }
   where
     differ : (q : NameId) → p ≢ q → nat_eq q.0 p.0 ≡ false
     differ q other = by (nat_eq q.0 p.0) refl
@@ -144,7 +158,8 @@ params_names f = ∥∥₁_elim f.well_formed le_prop
 
 pub entry_param : (f : Function) (name : NameId) → IsLive f.blocks name 0 0 → name.0 < length f.params
 entry_param f name l = ∥∥₁_elim f.well_formed le_prop
-    (λ (w : Kept f). (let n = numbered f.params (flat_map names_in_block f.blocks) (length f.names) w.distinct_params w.numbered in n.below name (w.live name l)))
+    (λ (w : Kept f). (let n = numbered f.params (flat_map names_in_block f.blocks) (length f.names) w.distinct_params w.numbered in
+    n.below name (w.live name l)))
 
 -- ---- the theorem
 
@@ -156,7 +171,8 @@ linear_runs f lists t start n live regs =
     let entry = get_or f.blocks 0 no_block in
     let here = slice_get-get_or f.blocks 0 no_block (entry_there f) in
     let there = block_at t (length f.names) lists 0 0 f.blocks 0 entry here in
-    let got : slice_get (linear_blocks t (length f.names) lists 0 0 f.blocks) 0 ≡ Some (linear_block t (length f.names) lists 0 there.first entry) = there.got in
+    let got : slice_get (linear_blocks t (length f.names) lists 0 0 f.blocks) 0 ≡ Some
+    (linear_block t (length f.names) lists 0 there.first entry) = there.got in
     let first = first_state f start in
     let a = params_few f in
     let c = params_names f in
@@ -164,17 +180,22 @@ linear_runs f lists t start n live regs =
     let e = length-take (length f.params) start.regs in
     let g = length-replicate {A = ℕ} (length f.names - length f.params) 0 in
     let wide : length first.values ≡ length f.names = omega (arith, a, c, d, e, g, regs) in
-    let taken : first_taken t (slice_get (linear_blocks t (length f.names) lists 0 0 f.blocks) 0) start ≡ values_at t start lists 0 first.values =
+    let taken : first_taken t (slice_get (linear_blocks t (length f.names) lists 0 0 f.blocks) 0) start ≡ values_at t start lists 0
+    first.values =
     ap (λ (x : Option ExtBlock). first_taken t x start) got
-    ∙ ap (λ (xs : List ℕ). xs ++ first_saved t start) (map_same_values (slice_index start.regs) (slice_index first.values) (live_at lists 0) value) in
-    enter_sim f.blocks (length f.names) (small_names f) (stores_none f) (λ name b l. live_name_small f name b 0 l) (λ b block c at has. (leads_inside f b block c at has).1)
-    t start lists live n 0 first (first_taken t (slice_get (linear_blocks t (length f.names) lists 0 0 f.blocks) 0) start) (entry_there f) wide taken
+    ∙ ap (λ (xs : List ℕ). xs ++ first_saved t start) (map_same_values (slice_index start.regs) (slice_index first.values) (live_at lists 0)
+    value) in
+    enter_sim f.blocks (length f.names) (small_names f) (stores_none f) (λ name b l. live_name_small f name b 0 l)
+    (λ b block c at has. (leads_inside f b block c at has).1)
+    t start lists live n 0 first (first_taken t (slice_get (linear_blocks t (length f.names) lists 0 0 f.blocks) 0) start) (entry_there f)
+    wide taken
   where
     no_block : Block
     no_block = record { label = []; freq = 0; ops = []; term = Fall }
 
     value : (k : ℕ) (x : NameId) → k < length (live_at lists 0)
-        → (let name = get_or (live_at lists 0) k x in slice_index start.regs name.0 ≡ (let s = first_state f start in slice_index s.values name.0))
+        → (let name = get_or (live_at lists 0) k x in slice_index start.regs name.0 ≡
+        (let s = first_state f start in slice_index s.values name.0))
     value k x h =
         let name = get_or (live_at lists 0) k x in
         let l = (live.exact 0 name).0 (Contains-get_or (live_at lists 0) k x h) in

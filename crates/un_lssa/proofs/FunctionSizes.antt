@@ -1,5 +1,6 @@
 -- The linear function of every function is small.
-use Rattle.std.proofs.Common.{ℕ, zero, suc, ◌+◌, ◌*◌, ◌<◌, ◌≤◌, ◌^◌, Bool, true, false, List, [], ◌∷◌, filter, length, get_or, if◌then◌else◌, All, arith}
+use Rattle.std.proofs.Common.{ℕ, zero, suc, ◌+◌, ◌*◌, ◌<◌, ◌≤◌, ◌^◌, Bool, true, false, List, [], ◌∷◌, filter, length, get_or}
+use Rattle.std.proofs.Common.{if◌then◌else◌, All, arith}
 use Rattle.std.specs.List.{flat_map, range_with_len}
 use Rattle.std.proofs.Math.Bridge.{le_prop}
 use Rattle.std.proofs.Math.Logic.{∥∥₁_elim}
@@ -38,9 +39,11 @@ saved_few t =
 within_all : (blocks : List Block) (k : ℕ) (d : Block) → k < length blocks
     → (let block = get_or blocks k d in length block.ops) ≤ length (flat_map (λ (block : Block). block.ops) blocks)
 within_all [] k d h = absurd (omega arith)
-within_all (block ∷ blocks) zero d h = let e = length-append block.ops (flat_map (λ (block : Block). block.ops) blocks) in rw e (omega arith)
+within_all (block ∷ blocks) zero d h = let e = length-append block.ops (flat_map (λ (block : Block). block.ops) blocks) in
+    rw e (omega arith)
 within_all (block ∷ blocks) (suc k) d h =
-    let e = length-append block.ops (flat_map (λ (block : Block). block.ops) blocks) in let r = within_all blocks k d (omega arith) in rw e (omega (arith, r))
+    let e = length-append block.ops (flat_map (λ (block : Block). block.ops) blocks) in let r = within_all blocks k d (omega arith) in
+    rw e (omega (arith, r))
 
 abbrev Kept : Function → Type 0
 Kept f = IsWellFormed f.name f.params f.names f.blocks
@@ -66,7 +69,8 @@ few_function_names f = let a = names_few f in omega (arith, a)
 pub live_few : (f : Function) (lists : List (List NameId)) → AreLive f.blocks lists → (b : ℕ) → length (live_at lists b) ≤ 40
 live_few f lists live b =
     let high : All (λ (name : NameId). name.0 < length f.names) (live_at lists b) = λ k d h.
-    live_name_small f (get_or (live_at lists b) k d) b 0 ((live.exact b (get_or (live_at lists b) k d)).0 (Contains-get_or (live_at lists b) k d h)) in
+    live_name_small f (get_or (live_at lists b) k d) b 0 ((live.exact b (get_or (live_at lists b) k d)).0
+    (Contains-get_or (live_at lists b) k d h)) in
     let a = few_names (length f.names) (live_at lists b) (live.rising b) high in
     let c = names_few f in
     omega (arith, a, c)

@@ -1,5 +1,7 @@
 -- What the blocks of a linear function keep: each name that is live has a temporary of its kind, which is defined before.
-use Rattle.std.proofs.Common.{◌≡◌, ◌≢◌, ℕ, zero, suc, ◌+◌, ◌-◌, ◌*◌, ◌<◌, ◌≤◌, ◌++◌, Bool, true, false, nat_eq, List, [], ◌∷◌, Option, Some, None, map, length, take, drop, replicate, get_or, slice_get, All, AllPairs, Contains, refl, sym, ap, ◌∙◌, arith, subst, append_assoc, append-nil, add-one, length-set}
+use Rattle.std.proofs.Common.{◌≡◌, ◌≢◌, ℕ, zero, suc, ◌+◌, ◌-◌, ◌*◌, ◌<◌, ◌≤◌, ◌++◌, Bool, true, false, nat_eq, List, [], ◌∷◌, Option, Some}
+use Rattle.std.proofs.Common.{None, map, length, take, drop, replicate, get_or, slice_get, All, AllPairs, Contains, refl, sym, ap, ◌∙◌}
+use Rattle.std.proofs.Common.{arith, subst, append_assoc, append-nil, add-one, length-set}
 use Rattle.std.specs.List.{flat_map, range_with_len, list_any, AllZip}
 use Rattle.std.specs.Option.{option_map, option_to_list}
 use Rattle.std.proofs.lemmas.Bool.{eqb-true}
@@ -27,19 +29,25 @@ use Rattle.un_ir.specs.declared.extended.ExtKind.TheVariants.{In, Out, Body, End
 use Rattle.un_ir.specs.declared.extended.Operand.{Operand}
 use Rattle.un_ir.specs.declared.extended.ExtOp.{ExtOp}
 use Rattle.un_ir.specs.declared.extended.ExtBlock.{ExtBlock}
-use Rattle.un_ir.specs.Extended.{temp, at_register, carried, name_kind, in_kinds, all_kinds, all_results, results_of, defined_kinds, kind_of_temp, Want, anywhere, word_in, wants_of, wants_of_op, wants_of_out, IsGoodOperand, IsGoodExtOp, IsGoodExtBlock, Parts, IsMadeOf, AllAre, is_inner, is_end, is_copy}
+use Rattle.un_ir.specs.Extended.{temp, at_register, carried, name_kind, in_kinds, all_kinds, all_results, results_of, defined_kinds}
+use Rattle.un_ir.specs.Extended.{kind_of_temp, Want, anywhere, word_in, wants_of, wants_of_op, wants_of_out, IsGoodOperand, IsGoodExtOp}
+use Rattle.un_ir.specs.Extended.{IsGoodExtBlock, Parts, IsMadeOf, AllAre, is_inner, is_end, is_copy}
 use Rattle.un_ir.specs.Linear.{ending_of, Ending}
 use Rattle.un_ir.specs.Live.{IsLive, used, kept, read_by, read_at, read_by_term, assigned_by, next_by, targets_of}
-use Rattle.un_ir.specs.LinearOf.{AreLive, live_at, is_among, live_after, name_of, kind_of_pair, reads, name_operand, argument_operands, source_operands, kept_operands, out_operands_of, first_temps, assigned, past, body_op, body_ops, current_after, in_op, end_ops, out_op, past_all, past_block, linear_ops, linear_block, linear_blocks}
+use Rattle.un_ir.specs.LinearOf.{AreLive, live_at, is_among, live_after, name_of, kind_of_pair, reads, name_operand, argument_operands}
+use Rattle.un_ir.specs.LinearOf.{source_operands, kept_operands, out_operands_of, first_temps, assigned, past, body_op, body_ops}
+use Rattle.un_ir.specs.LinearOf.{current_after, in_op, end_ops, out_op, past_all, past_block, linear_ops, linear_block, linear_blocks}
 use Rattle.un_ir.specs.Names.{kind_of}
 use Rattle.un_ir.specs.WellFormed.{IsOfKind, IsGoodOp, IsGoodBlock, AssignsItsKind, TestsItsKind, operand_kinds, result_kind}
-use Rattle.un_ir.proofs.GoodOps.{zip_append, got_left, got_right, temps, Numbers, numbers_none, numbers_row, numbers_append, numbers_has, numbers_length, AreGoodOps, good_append, all_good, results_append}
+use Rattle.un_ir.proofs.GoodOps.{zip_append, got_left, got_right, temps, Numbers, numbers_none, numbers_row, numbers_append, numbers_has}
+use Rattle.un_ir.proofs.GoodOps.{numbers_length, AreGoodOps, good_append, all_good, results_append}
 use Rattle.un_ir.proofs.NameBounds.{at_all, live_name_small}
 use Rattle.un_ir.proofs.SourceFacts.{good_block, source_op, Reads, reads_kinds, assigns_kind, kind_is}
 use Rattle.un_lssa.specs.Making.{past_blocks}
 use Rattle.un_lssa.proofs.Operands.{past_all_grows, saved_count}
 use Rattle.un_lssa.proofs.EnterSim.{first_temp, first_length, body_ending, rest_ending, any_found, among_contains, filter_all}
-use Rattle.un_lssa.proofs.LinearNumbers.{kinds_of, numbers_body, numbers_dst, body_kinds, rest_kinds, rest_results, carried_itself, blocks_plain, numbers_blocks, in_count, ops_kinds, inner_body}
+use Rattle.un_lssa.proofs.LinearNumbers.{kinds_of, numbers_body, numbers_dst, body_kinds, rest_kinds, rest_results, carried_itself}
+use Rattle.un_lssa.proofs.LinearNumbers.{blocks_plain, numbers_blocks, in_count, ops_kinds, inner_body}
 
 -- what stands at a place
 record Standing {X : Type 0} (xs : List X) (k : ℕ) (x : X) (rest : List X) : Type 0 where
@@ -78,12 +86,14 @@ module _ (f : Function) (lists : List (List NameId)) (t : Table) (live : AreLive
   every = all_kinds kinds whole
 
   carried_same : (x : ℕ) → carried whole (temp x) ≡ temp x
-  carried_same x = carried_itself whole (past_blocks t lists 0 0 f.blocks) (blocks_plain t count lists 0 0 f.blocks) (numbers_blocks t count lists 0 0 f.blocks) x
+  carried_same x = carried_itself whole (past_blocks t lists 0 0 f.blocks) (blocks_plain t count lists 0 0 f.blocks)
+      (numbers_blocks t count lists 0 0 f.blocks) x
 
   small : (name : NameId) (kind : Kind) → IsOfKind f.names kind name → name.0 < count
   small name kind h = by (slice_get f.names name.0) refl h
     where
-      by : (o : Option (List ℕ × Kind)) → slice_get f.names name.0 ≡ o → option_map (λ (n : List ℕ × Kind). n.1) o ≡ Some kind → name.0 < count
+      by : (o : Option (List ℕ × Kind)) → slice_get f.names name.0 ≡ o → option_map (λ (n : List ℕ × Kind). n.1) o ≡ Some kind
+          → name.0 < count
       by None e h = absurd (cc h)
       by (Some n) e h = slice_get_within f.names name.0 n e
 
@@ -132,7 +142,8 @@ module _ (f : Function) (lists : List (List NameId)) (t : Table) (live : AreLive
         other name off is = let on : nat_eq d.0 name.0 ≡ true = rw is (grind arith) in cc (sym off ∙ on)
 
         before : (name : NameId) → IsLive f.blocks name b (k + 1) → nat_eq d.0 name.0 ≡ false → IsLive f.blocks name b k
-        before name l off = live_before k o name got l (λ is. (let s : Some d ≡ Some name = sym e ∙ is in let q : d ≡ name = cc s in other name off (ap (λ (m : NameId). m.0) (sym q))))
+        before name l off = live_before k o name got l (λ is. (let s : Some d ≡ Some name = sym e
+            ∙ is in let q : d ≡ name = cc s in other name off (ap (λ (m : NameId). m.0) (sym q))))
 
         old : (name : NameId) → nat_eq d.0 name.0 ≡ false → get_or (assigned current (Some d) n) name.0 0 ≡ get_or current name.0 0
         old name off = get_or-set_other current d.0 name.0 n 0 (other name off)
@@ -142,11 +153,13 @@ module _ (f : Function) (lists : List (List NameId)) (t : Table) (live : AreLive
             let i = (fresh d refl).0 in
             let long : d.0 < length current = rw a.long i in rw (← eqb-true d.0 name.0 on) (get_or-set_same current d.0 n 0 long)
 
-        low : (name : NameId) → IsLive f.blocks name b (k + 1) → (w : Bool) → nat_eq d.0 name.0 ≡ w → m ≤ get_or (assigned current (Some d) n) name.0 0
+        low : (name : NameId) → IsLive f.blocks name b (k + 1) → (w : Bool) → nat_eq d.0 name.0 ≡ w
+            → m ≤ get_or (assigned current (Some d) n) name.0 0
         low name l true on = let q = new name on in omega (arith, q, h)
         low name l false off = let q = old name off in let r = a.low name (before name l off) in omega (arith, q, r)
 
-        below : (name : NameId) → IsLive f.blocks name b (k + 1) → (w : Bool) → nat_eq d.0 name.0 ≡ w → get_or (assigned current (Some d) n) name.0 0 < n + 1
+        below : (name : NameId) → IsLive f.blocks name b (k + 1) → (w : Bool) → nat_eq d.0 name.0 ≡ w
+            → get_or (assigned current (Some d) n) name.0 0 < n + 1
         below name l true on = let q = new name on in omega (arith, q)
         below name l false off = let q = old name off in let r = a.below name (before name l off) in omega (arith, q, r)
 
@@ -165,7 +178,8 @@ module _ (f : Function) (lists : List (List NameId)) (t : Table) (live : AreLive
       chooses = omega arith;
       rising = λ i j d lt below. absurd (omega arith);
       known = All-cons (Contains before) (temp x) [] (numbers_has m n before x numbers low high) (All-nil (Contains before));
-      one_value = All-cons (λ (y : TempId). carried whole y ≡ temp x) (temp x) [] (carried_same x) (All-nil (λ (y : TempId). carried whole y ≡ temp x));
+      one_value = All-cons (λ (y : TempId). carried whole y ≡ temp x) (temp x) [] (carried_same x)
+          (All-nil (λ (y : TempId). carried whole y ≡ temp x));
       kind = ap (λ (v : TempId). slice_get every v.0) (carried_same x) ∙ is;
       home = refl;
     }
@@ -192,7 +206,8 @@ module _ (f : Function) (lists : List (List NameId)) (t : Table) (live : AreLive
 
       arguments_read : (registers : List ℕ) (names : List NameId) → ((name : NameId) → Contains names name → IsLive f.blocks name b k)
           → All (IsOfKind f.names General) names → length names ≤ length registers
-          → AllZip (IsGoodOperand kinds whole before) (argument_operands current registers names) (map word_in (take (length names) registers))
+          → AllZip (IsGoodOperand kinds whole before) (argument_operands current registers names)
+          (map word_in (take (length names) registers))
       arguments_read registers [] l g h = tt
       arguments_read [] (name ∷ names) l g h = absurd (omega arith)
       arguments_read (r ∷ rs) (name ∷ names) l g h = (
@@ -209,7 +224,8 @@ module _ (f : Function) (lists : List (List NameId)) (t : Table) (live : AreLive
           l : (name : NameId) → Contains o.srcs name → IsLive f.blocks name b k
           l name has = read_live k o name got has
 
-          by : (op : Op) → Reads f.names op o.srcs → AllZip (IsGoodOperand kinds whole before) (source_operands t current op o.srcs) (wants_of_op t o op)
+          by : (op : Op) → Reads f.names op o.srcs → AllZip (IsGoodOperand kinds whole before) (source_operands t current op o.srcs)
+              (wants_of_op t o op)
           by Call r = let few = r.1 in arguments_read t.args o.srcs l r.0 (omega (arith, few, args))
           by op r = names_read o.srcs (operand_kinds op) l r
 
@@ -235,11 +251,15 @@ module _ (f : Function) (lists : List (List NameId)) (t : Table) (live : AreLive
         → (d : NameId) → o.dst ≡ Some d → (d.0 < count) × (slice_get every n ≡ Some (name_kind kinds d))
     fresh o k n front rest got long is d e =
         let g = op_good k o got in
-        let its : IsOfKind f.names (result_kind o.op) d = assigns_kind f.names o.op d g.op (subst (λ (x : Option NameId). AssignsItsKind f.names o.op x) e g.assigns) in
-        let made : every ≡ front ++ (result_kind o.op ∷ rest) = is ∙ ap (λ (x : Option NameId). front ++ (map (λ (y : TempId). result_kind o.op) (map (λ (name : NameId). temp n) (option_to_list x)) ++ rest)) e in
+        let its : IsOfKind f.names (result_kind o.op) d = assigns_kind f.names o.op d g.op
+        (subst (λ (x : Option NameId). AssignsItsKind f.names o.op x) e g.assigns) in
+        let made : every ≡ front ++ (result_kind o.op ∷ rest) = is
+        ∙ ap (λ (x : Option NameId). front ++ (map (λ (y : TempId). result_kind o.op)
+        (map (λ (name : NameId). temp n) (option_to_list x)) ++ rest)) e in
         let z : n ≡ length front + 0 = omega (arith, long) in (
           small d (result_kind o.op) its,
-          ap (slice_get every) z ∙ ap (λ (xs : List Kind). slice_get xs (length front + 0)) made ∙ got_right front (result_kind o.op ∷ rest) 0
+          ap (slice_get every) z ∙ ap (λ (xs : List Kind). slice_get xs (length front + 0)) made
+              ∙ got_right front (result_kind o.op ∷ rest) 0
               ∙ ap Some (sym (kind_is f.names (result_kind o.op) d its)),
         )
 
@@ -255,7 +275,8 @@ module _ (f : Function) (lists : List (List NameId)) (t : Table) (live : AreLive
         let new = map (λ (name : NameId). temp n) (option_to_list o.dst) in
         let here_kinds = map (λ (y : TempId). result_kind o.op) new in
         let others = kinds_of kinds own (body_ops t (assigned current o.dst n) (past o.dst n) os) in
-        let apart : every ≡ front ++ (here_kinds ++ (others ++ more)) = is ∙ ap (λ (xs : List Kind). front ++ xs) (append_assoc here_kinds others more) in
+        let apart : every ≡ front ++ (here_kinds ++ (others ++ more)) = is
+        ∙ ap (λ (xs : List Kind). front ++ xs) (append_assoc here_kinds others more) in
         let joined : every ≡ (front ++ here_kinds) ++ (others ++ more) = apart ∙ sym (append_assoc front here_kinds (others ++ more)) in
         let grows = numbers_dst o.dst n in
         let longer : length (front ++ here_kinds) ≡ past o.dst n =
@@ -317,9 +338,11 @@ module _ (f : Function) (lists : List (List NameId)) (t : Table) (live : AreLive
           let e : kinds_of kinds own own.ops ≡ own_kinds ++ kinds_of kinds own (body_ops t current first block.ops) =
           ap (λ (xs : List Kind). own_kinds ++ xs)
           (flat_map-append (λ (op : ExtOp). defined_kinds kinds own op.kind op) (body_ops t current first block.ops) rest
-          ∙ ap (λ (xs : List Kind). kinds_of kinds own (body_ops t current first block.ops) ++ xs) (rest_kinds kinds own t after link saved names_out block.term block.term)
+          ∙ ap (λ (xs : List Kind). kinds_of kinds own (body_ops t current first block.ops) ++ xs)
+          (rest_kinds kinds own t after link saved names_out block.term block.term)
           ∙ append-nil (kinds_of kinds own (body_ops t current first block.ops))) in
-          is ∙ ap (λ (xs : List Kind). front ++ (xs ++ more)) e ∙ ap (λ (xs : List Kind). front ++ xs) (append_assoc own_kinds (kinds_of kinds own (body_ops t current first block.ops)) more)
+          is ∙ ap (λ (xs : List Kind). front ++ (xs ++ more)) e ∙
+          ap (λ (xs : List Kind). front ++ xs) (append_assoc own_kinds (kinds_of kinds own (body_ops t current first block.ops)) more)
 
       own_at : (i : ℕ) (kind : Kind) → slice_get own_kinds i ≡ Some kind → slice_get every (m + i) ≡ Some kind
       own_at i kind h =
@@ -327,7 +350,8 @@ module _ (f : Function) (lists : List (List NameId)) (t : Table) (live : AreLive
           ∙ got_right front (own_kinds ++ (kinds_of kinds own (body_ops t current first block.ops) ++ more)) i
           ∙ got_left own_kinds (kinds_of kinds own (body_ops t current first block.ops) ++ more) i kind h
 
-      name_kind_at : (i : ℕ) (name : NameId) → i < length names_in → get_or names_in i name ≡ name → slice_get every (m + i) ≡ Some (name_kind kinds name)
+      name_kind_at : (i : ℕ) (name : NameId) → i < length names_in → get_or names_in i name ≡ name
+          → slice_get every (m + i) ≡ Some (name_kind kinds name)
       name_kind_at i name h same =
           let got : slice_get names_in i ≡ Some name = slice_get-get_or names_in i name h ∙ ap Some same in
           own_at i (name_kind kinds name)
@@ -357,19 +381,23 @@ module _ (f : Function) (lists : List (List NameId)) (t : Table) (live : AreLive
           its_temp : (name : NameId) (l : IsLive f.blocks name b 0) → get_or current name.0 0 ≡ m + ((live.exact b name).1 l).0
           its_temp name l =
               let i = (live.exact b name).1 l in
-              let wide : All (λ (n : NameId). n.0 < length {A = ℕ} (replicate count 0)) names_in = λ k d below. (let r = names_in_below k d below in let e = length-replicate {A = ℕ} count 0 in omega (arith, r, e)) in
-              ap (λ (n : NameId). get_or current n.0 0) (sym i.2) ∙ first_temp (replicate count 0) m names_in i.0 name (live.rising b) wide i.1
+              let wide : All (λ (n : NameId). n.0 < length {A = ℕ} (replicate count 0)) names_in =
+              λ k d below. (let r = names_in_below k d below in let e = length-replicate {A = ℕ} count 0 in omega (arith, r, e)) in
+              ap (λ (n : NameId). get_or current n.0 0) (sym i.2)
+              ∙ first_temp (replicate count 0) m names_in i.0 name (live.rising b) wide i.1
 
       -- ---- a block's end
 
       no_op : slice_get block.ops (length block.ops) ≡ None
       no_op = slice_get_past block.ops (length block.ops) (omega arith)
 
-      end_live : (c : ℕ) (name : NameId) → Contains (targets_of b block.term) c → IsLive f.blocks name c 0 → IsLive f.blocks name b (length block.ops)
+      end_live : (c : ℕ) (name : NameId) → Contains (targets_of b block.term) c → IsLive f.blocks name c 0
+          → IsLive f.blocks name b (length block.ops)
       end_live c name target l =
           kept b (length block.ops) block c 0 here (omega arith)
           (subst (λ (x : Option SrcOp). assigned_by x ≢ Some name) (sym no_op) (λ e. cc e))
-          (subst (λ (x : Option SrcOp). Contains {X = ℕ × ℕ} (next_by b (length block.ops) x block.term) (c, 0)) (sym no_op) (pair (targets_of b block.term) target))
+          (subst (λ (x : Option SrcOp). Contains {X = ℕ × ℕ} (next_by b (length block.ops) x block.term) (c, 0)) (sym no_op)
+          (pair (targets_of b block.term) target))
           l
         where
           pair : (xs : List ℕ) → Contains xs c → Contains {X = ℕ × ℕ} (map (λ (x : ℕ). (x, 0)) xs) (c, 0)
@@ -378,7 +406,8 @@ module _ (f : Function) (lists : List (List NameId)) (t : Table) (live : AreLive
               (k, omega (arith, e, below), get_or-map (λ (x : ℕ). (x, 0)) xs k c (c, 0) below ∙ ap (λ (x : ℕ). (x, 0)) is)
 
       term_live : (name : NameId) → Contains (read_by_term block.term) name → IsLive f.blocks name b (length block.ops)
-      term_live name has = used b (length block.ops) block here (omega arith) (subst (λ (x : Option SrcOp). Contains (read_by x block.term) name) (sym no_op) has)
+      term_live name has = used b (length block.ops) block here (omega arith)
+          (subst (λ (x : Option SrcOp). Contains (read_by x block.term) name) (sym no_op) has)
 
       out_live : (k : ℕ) (d : NameId) → k < length names_out → IsLive f.blocks (get_or names_out k d) b (length block.ops)
       out_live k d h =
@@ -393,7 +422,8 @@ module _ (f : Function) (lists : List (List NameId)) (t : Table) (live : AreLive
 
         saved_read : (j : ℕ) (home : Option Reg) → j < length (saved_registers t)
             → IsGoodOperand kinds whole before (reads (saved + j) home) (record { kind = General; home = home })
-        saved_read j home h = let r = reach in good_read before last (saved + j) home General numbers (omega arith) (omega (arith, r, h)) (saved_kind_at j h)
+        saved_read j home h = let r = reach in good_read before last (saved + j) home General numbers (omega arith) (omega (arith, r, h))
+            (saved_kind_at j h)
 
         kept_read : (j : ℕ) (rs : List ℕ) → j + length rs ≤ length (saved_registers t)
             → AllZip (IsGoodOperand kinds whole before) (kept_operands (saved + j) rs) (map word_in rs)
@@ -401,26 +431,32 @@ module _ (f : Function) (lists : List (List NameId)) (t : Table) (live : AreLive
         kept_read j (r ∷ rs) h =
             let z : (saved + j) + 1 ≡ saved + (j + 1) = omega arith in (
               saved_read j (at_register r) (omega (arith, h)),
-              subst (λ (k : ℕ). AllZip (IsGoodOperand kinds whole before) (kept_operands k rs) (map word_in rs)) (sym z) (kept_read (j + 1) rs (omega (arith, h))),
+              subst (λ (k : ℕ). AllZip (IsGoodOperand kinds whole before) (kept_operands k rs) (map word_in rs)) (sym z)
+                  (kept_read (j + 1) rs (omega (arith, h))),
             )
 
         all_kept_read : AllZip (IsGoodOperand kinds whole before) (kept_operands saved (callee_saved t)) (map word_in (callee_saved t))
         all_kept_read =
             let s = saved_count t in
             let z : saved + 0 ≡ saved = omega arith in
-            subst (λ (k : ℕ). AllZip (IsGoodOperand kinds whole before) (kept_operands k (callee_saved t)) (map word_in (callee_saved t))) z (kept_read 0 (callee_saved t) (omega (arith, s)))
+            subst (λ (k : ℕ). AllZip (IsGoodOperand kinds whole before) (kept_operands k (callee_saved t)) (map word_in (callee_saved t))) z
+            (kept_read 0 (callee_saved t) (omega (arith, s)))
 
         handed_read : (j : ℕ) (rs : List ℕ) → j + length rs ≤ length (saved_registers t)
-            → AllZip (IsGoodOperand kinds whole before) (map (λ (n : ℕ). reads n None) (range_with_len (saved + j) (length rs))) (map (λ (r : ℕ). anywhere General) rs)
+            → AllZip (IsGoodOperand kinds whole before) (map (λ (n : ℕ). reads n None) (range_with_len (saved + j) (length rs)))
+            (map (λ (r : ℕ). anywhere General) rs)
         handed_read j [] h = tt
         handed_read j (r ∷ rs) h =
             let z : (saved + j) + 1 ≡ saved + (j + 1) = omega arith in (
               saved_read j None (omega (arith, h)),
-              subst (λ (k : ℕ). AllZip (IsGoodOperand kinds whole before) (map (λ (n : ℕ). reads n None) (range_with_len k (length rs))) (map (λ (r : ℕ). anywhere General) rs)) (sym z) (handed_read (j + 1) rs (omega (arith, h))),
+              subst (λ (k : ℕ). AllZip (IsGoodOperand kinds whole before) (map (λ (n : ℕ). reads n None) (range_with_len k (length rs)))
+                  (map (λ (r : ℕ). anywhere General) rs)) (sym z) (handed_read (j + 1) rs (omega (arith, h))),
             )
 
-        out_names_read : (names : List NameId) → ((k : ℕ) (d : NameId) → k < length names → IsLive f.blocks (get_or names k d) b (length block.ops))
-            → AllZip (IsGoodOperand kinds whole before) (map (name_operand after None) names) (map (λ (name : NameId). anywhere (name_kind kinds name)) names)
+        out_names_read : (names : List NameId) → ((k : ℕ) (d : NameId) → k < length names
+            → IsLive f.blocks (get_or names k d) b (length block.ops))
+            → AllZip (IsGoodOperand kinds whole before) (map (name_operand after None) names)
+            (map (λ (name : NameId). anywhere (name_kind kinds name)) names)
         out_names_read [] l = tt
         out_names_read (name ∷ names) l = (
           name_read (length block.ops) after last before name None (name_kind kinds name) a numbers (l 0 name (omega arith)) refl,
@@ -432,10 +468,13 @@ module _ (f : Function) (lists : List (List NameId)) (t : Table) (live : AreLive
             (map (λ (name : NameId). anywhere (name_kind kinds name)) names_out ++ map (λ (r : ℕ). anywhere General) (saved_registers t))
         next_read =
             let z : saved + 0 ≡ saved = omega arith in
-            zip_append (IsGoodOperand kinds whole before) (map (name_operand after None) names_out) (map (λ (n : ℕ). reads n None) (range_with_len saved (length (saved_registers t))))
+            zip_append (IsGoodOperand kinds whole before) (map (name_operand after None) names_out)
+            (map (λ (n : ℕ). reads n None) (range_with_len saved (length (saved_registers t))))
             (map (λ (name : NameId). anywhere (name_kind kinds name)) names_out) (map (λ (r : ℕ). anywhere General) (saved_registers t))
             (out_names_read names_out out_live)
-            (subst (λ (k : ℕ). AllZip (IsGoodOperand kinds whole before) (map (λ (n : ℕ). reads n None) (range_with_len k (length (saved_registers t)))) (map (λ (r : ℕ). anywhere General) (saved_registers t))) z
+            (subst (λ (k : ℕ). AllZip (IsGoodOperand kinds whole before)
+            (map (λ (n : ℕ). reads n None) (range_with_len k (length (saved_registers t))))
+            (map (λ (r : ℕ). anywhere General) (saved_registers t))) z
             (handed_read 0 (saved_registers t) (omega arith)))
 
         out_read : (term : Term) → block.term ≡ term → TestsItsKind f.names term
@@ -445,11 +484,15 @@ module _ (f : Function) (lists : List (List NameId)) (t : Table) (live : AreLive
         out_read (Branch pred sense to) e h = next_read
         out_read (Ret None) e h = all_kept_read
         out_read (Ret (Some name)) e h =
-            let l = term_live name (subst (λ (x : Term). Contains (read_by_term x) name) (sym e) (0, omega arith, refl)) in
-            (name_read (length block.ops) after last before name (at_register t.result) General a numbers l (kind_is f.names General name h), all_kept_read)
+            let l = term_live name (subst (λ (x : Term). Contains (read_by_term x) name) (sym e) (0, omega arith, refl)) in (
+              name_read (length block.ops) after last before name (at_register t.result) General a numbers l
+                  (kind_is f.names General name h),
+              all_kept_read,
+            )
 
         ending_is : (let ending = ending_of own.ops in ending.term) ≡ block.term
-        ending_is = ap (λ (e : Ending). e.term) (body_ending t current first block.ops rest ∙ rest_ending t after link saved names_out block.term)
+        ending_is = ap (λ (e : Ending). e.term) (body_ending t current first block.ops rest
+            ∙ rest_ending t after link saved names_out block.term)
 
         tests : TestsItsKind f.names block.term
         tests = let g = good_block f b block here in g.tests
@@ -458,9 +501,11 @@ module _ (f : Function) (lists : List (List NameId)) (t : Table) (live : AreLive
         out_good xs e = (
           record {
             kind = tt;
-            operands = subst (λ (ys : List TempId). AllZip (IsGoodOperand kinds whole ys) (out_operands_of t after saved names_out block.term)
+            operands = subst (λ (ys : List TempId). AllZip (IsGoodOperand kinds whole ys)
+                (out_operands_of t after saved names_out block.term)
                 (wants_of_out t kinds names_out (let ending = ending_of own.ops in ending.term))) (sym e)
-                (subst (λ (x : Term). AllZip (IsGoodOperand kinds whole before) (out_operands_of t after saved names_out block.term) (wants_of_out t kinds names_out x)) (sym ending_is)
+                (subst (λ (x : Term). AllZip (IsGoodOperand kinds whole before) (out_operands_of t after saved names_out block.term)
+                (wants_of_out t kinds names_out x)) (sym ending_is)
                 (out_read block.term refl tests));
             results = refl;
           },
@@ -470,7 +515,8 @@ module _ (f : Function) (lists : List (List NameId)) (t : Table) (live : AreLive
         link_read : IsGoodOperand kinds whole before (reads link None) (record { kind = General; home = None })
         link_read = let s = saved_count t in saved_read (length (callee_saved t)) None (omega (arith, s))
 
-        end_good : (term : Term) → block.term ≡ term → TestsItsKind f.names term → AreGoodOps t kinds whole own before (end_ops after link term)
+        end_good : (term : Term) → block.term ≡ term → TestsItsKind f.names term
+            → AreGoodOps t kinds whole own before (end_ops after link term)
         end_good Fall e h = tt
         end_good (Jump to) e h = (record { kind = tt; operands = tt; results = refl }, tt)
         end_good (Branch pred sense to) e h =
@@ -504,14 +550,16 @@ module _ (f : Function) (lists : List (List NameId)) (t : Table) (live : AreLive
           let w = width_is in
           let c = in_count kinds own names_in (length (temps m width)) (omega (arith, w)) in
           let l : length (front ++ own_kinds) ≡ first = let q = length-append front own_kinds in omega (arith, q, c, w, long) in
-          body_good block.ops 0 current first (temps m width) (front ++ own_kinds) more refl (omega arith) (omega arith) start_agrees start_numbers l
+          body_good block.ops 0 current first (temps m width) (front ++ own_kinds) more refl (omega arith) (omega arith) start_agrees
+          start_numbers l
           (parts_are ∙ sym (append_assoc front own_kinds (kinds_of kinds own (body_ops t current first block.ops) ++ more)))
 
       ops_good : AreGoodOps t kinds whole own [] own.ops
       ops_good =
           let body = body_ops t current first block.ops in
           let k = body_kept in
-          let all = numbers_append m first last (temps m width) (results_of body) start_numbers (numbers_body t current first block.ops) in (
+          let after = numbers_body t current first block.ops in
+          let all = numbers_append m first last (temps m width) (results_of body) start_numbers after in (
             record { kind = tt; operands = tt; results = width_is },
             good_append t kinds whole own (temps m width) body rest k.ops (rest_good (temps m width ++ results_of body) all k.agrees),
           )
@@ -537,9 +585,17 @@ module _ (f : Function) (lists : List (List NameId)) (t : Table) (live : AreLive
       parts : (p : Parts) × IsMadeOf own.ops p
       parts =
           let e = ending_parts block.term in (
-            record { start = in_op m width; inner = body_ops t current first block.ops; ending = e.0; late = []; out = out_op t after saved names_out block.term },
             record {
-              whole = ap (λ (xs : List ExtOp). in_op m width ∷ (body_ops t current first block.ops ++ (xs ++ out_op t after saved names_out block.term ∷ []))) e.1;
+              start = in_op m width;
+              inner = body_ops t current first block.ops;
+              ending = e.0;
+              late = [];
+              out =
+                  out_op t after saved names_out block.term;
+            },
+            record {
+              whole = ap (λ (xs : List ExtOp). in_op m width ∷ (body_ops t current first block.ops ++
+                  (xs ++ out_op t after saved names_out block.term ∷ []))) e.1;
               start = refl;
               inner = inner_body t current first block.ops;
               ending = e.2;
@@ -563,7 +619,8 @@ module _ (f : Function) (lists : List (List NameId)) (t : Table) (live : AreLive
             horizon = refl;
           }
 
-  blocks_kept : (b m : ℕ) (blocks : List Block) (front : List Kind) → ((k : ℕ) (block : Block) → slice_get blocks k ≡ Some block → slice_get f.blocks (b + k) ≡ Some block)
+  blocks_kept : (b m : ℕ) (blocks : List Block) (front : List Kind)
+      → ((k : ℕ) (block : Block) → slice_get blocks k ≡ Some block → slice_get f.blocks (b + k) ≡ Some block)
       → length front ≡ m → every ≡ front ++ all_kinds kinds (linear_blocks t count lists b m blocks)
       → All (IsGoodExtBlock t kinds whole) (linear_blocks t count lists b m blocks)
   blocks_kept b m [] front at long is = All-nil (IsGoodExtBlock t kinds whole)
@@ -575,9 +632,11 @@ module _ (f : Function) (lists : List (List NameId)) (t : Table) (live : AreLive
       let others = linear_blocks t count lists (b + 1) next blocks in
       let mine = kinds_of kinds own own.ops in
       let joined : every ≡ (front ++ mine) ++ all_kinds kinds others = is ∙ sym (append_assoc front mine (all_kinds kinds others)) in
-      let longer : length (front ++ mine) ≡ next = length-append front mine ∙ ap (λ (k : ℕ). k + length mine) long ∙ ops_kinds kinds own t count m (live_at lists b) (live_after lists count b block.term) block refl in
+      let longer : length (front ++ mine) ≡ next = length-append front mine ∙ ap (λ (k : ℕ). k + length mine) long
+      ∙ ops_kinds kinds own t count m (live_at lists b) (live_after lists count b block.term) block refl in
       All-cons (IsGoodExtBlock t kinds whole) own others (block_kept b m block here front (all_kinds kinds others) long is)
-      (blocks_kept (b + 1) next blocks (front ++ mine) (λ k other h. (let q : (b + 1) + k ≡ b + suc k = omega arith in ap (slice_get f.blocks) q ∙ at (suc k) other h)) longer joined)
+      (blocks_kept (b + 1) next blocks (front ++ mine) (λ k other h.
+      (let q : (b + 1) + k ≡ b + suc k = omega arith in ap (slice_get f.blocks) q ∙ at (suc k) other h)) longer joined)
 
   -- every block is good
   pub all_kept : All (IsGoodExtBlock t kinds whole) whole

@@ -1,5 +1,6 @@
 -- What the linear function of every function keeps.
-use Rattle.std.proofs.Common.{◌≡◌, ◌≢◌, ℕ, zero, suc, ◌+◌, ◌*◌, ◌<◌, ◌≤◌, ◌++◌, ◌^◌, Bool, List, [], ◌∷◌, Option, Some, None, map, filter, length, replicate, get_or, slice_get, All, AllPairs, Contains, refl, sym, ap, ◌∙◌, arith, subst, mul-suc}
+use Rattle.std.proofs.Common.{◌≡◌, ◌≢◌, ℕ, zero, suc, ◌+◌, ◌*◌, ◌<◌, ◌≤◌, ◌++◌, ◌^◌, Bool, List, [], ◌∷◌, Option, Some, None, map, filter}
+use Rattle.std.proofs.Common.{length, replicate, get_or, slice_get, All, AllPairs, Contains, refl, sym, ap, ◌∙◌, arith, subst, mul-suc}
 use Rattle.std.specs.List.{flat_map, range_with_len, list_any, sum_by}
 use Rattle.std.specs.Option.{option_to_list}
 use Rattle.std.proofs.Math.Bridge.{le_prop}
@@ -32,7 +33,9 @@ use Rattle.un_ir.specs.declared.extended.Lssa.{Lssa}
 use Rattle.un_ir.specs.Extended.{temp, all_results, name_kind, size_of, LeadsOn, HandsNamesOver, AreGoodBlocks, IsLinear}
 use Rattle.un_ir.specs.Linear.{ending_of, Ending}
 use Rattle.un_ir.specs.Live.{IsLive, targets_of}
-use Rattle.un_ir.specs.LinearOf.{AreLive, live_at, is_among, live_after, name_of, kind_of_pair, reads, name_operand, argument_operands, source_operands, kept_operands, out_operands_of, first_temps, assigned, past, body_op, body_ops, current_after, in_op, end_ops, out_op, past_block, linear_ops, linear_block, linear_blocks, lin_of}
+use Rattle.un_ir.specs.LinearOf.{AreLive, live_at, is_among, live_after, name_of, kind_of_pair, reads, name_operand, argument_operands}
+use Rattle.un_ir.specs.LinearOf.{source_operands, kept_operands, out_operands_of, first_temps, assigned, past, body_op, body_ops}
+use Rattle.un_ir.specs.LinearOf.{current_after, in_op, end_ops, out_op, past_block, linear_ops, linear_block, linear_blocks, lin_of}
 use Rattle.un_ir.specs.Names.{kind_of}
 use Rattle.un_ir.specs.WellFormed.{IsOfKind, IsWellFormed, IsGoodOp, operand_kinds}
 use Rattle.un_ir.proofs.FunctionFacts.{entry_there, leads_inside}
@@ -117,13 +120,18 @@ body_size t f current n (o ∷ os) g =
 
 out_size : (t : Table) (current : List ℕ) (n : ℕ) (live_out : List NameId) (term : Term) → length live_out ≤ 40
     → length (out_operands_of t current n live_out term) ≤ 73
-out_size t current n live_out Fall h = let a = next_length current n (length (saved_registers t)) live_out in let s = saved_few t in omega (arith, a, s, h)
-out_size t current n live_out (Jump to) h = let a = next_length current n (length (saved_registers t)) live_out in let s = saved_few t in omega (arith, a, s, h)
-out_size t current n live_out (Branch pred sense to) h = let a = next_length current n (length (saved_registers t)) live_out in let s = saved_few t in omega (arith, a, s, h)
+out_size t current n live_out Fall h = let a = next_length current n (length (saved_registers t)) live_out in let s = saved_few t in
+    omega (arith, a, s, h)
+out_size t current n live_out (Jump to) h = let a = next_length current n (length (saved_registers t)) live_out in let s = saved_few t in
+    omega (arith, a, s, h)
+out_size t current n live_out (Branch pred sense to) h = let a = next_length current n (length (saved_registers t)) live_out in let s =
+    saved_few t in omega (arith, a, s, h)
 out_size t current n live_out (Ret None) h =
-    let a = kept_length n (callee_saved t) in let s = saved_few t in let c = length-append (callee_saved t) (LINK ∷ []) in omega (arith, a, s, c)
+    let a = kept_length n (callee_saved t) in let s = saved_few t in let c = length-append (callee_saved t) (LINK ∷ []) in
+    omega (arith, a, s, c)
 out_size t current n live_out (Ret (Some name)) h =
-    let a = kept_length n (callee_saved t) in let s = saved_few t in let c = length-append (callee_saved t) (LINK ∷ []) in omega (arith, a, s, c)
+    let a = kept_length n (callee_saved t) in let s = saved_few t in let c = length-append (callee_saved t) (LINK ∷ []) in
+    omega (arith, a, s, c)
 
 end_size : (current : List ℕ) (link : ℕ) (term : Term) → ops_size (end_ops current link term) ≤ 2
 end_size current link Fall = omega arith
@@ -131,7 +139,8 @@ end_size current link (Jump to) = omega arith
 end_size current link (Branch pred sense to) = omega arith
 end_size current link (Ret value) = omega arith
 
-block_size : (t : Table) (f : Function) (n : ℕ) (live_in live_out : List NameId) (block : Block) → length live_in ≤ 40 → length live_out ≤ 40
+block_size : (t : Table) (f : Function) (n : ℕ) (live_in live_out : List NameId) (block : Block) → length live_in ≤ 40
+    → length live_out ≤ 40
     → ((k : ℕ) (o : SrcOp) → slice_get block.ops k ≡ Some o → IsGoodOp f.names o)
     → ops_size (linear_ops t (length f.names) n live_in live_out block) ≤ 150 + 8 * length block.ops
 block_size t f n live_in live_out block few_in few_out g =
@@ -166,17 +175,22 @@ after_few lists names b term =
 blocks_size : (t : Table) (f : Function) (lists : List (List NameId)) → length f.names ≤ 40 → ((b : ℕ) → length (live_at lists b) ≤ 40)
     → (b n : ℕ) (blocks : List Block)
     → ((j k : ℕ) (block : Block) (o : SrcOp) → slice_get blocks j ≡ Some block → slice_get block.ops k ≡ Some o → IsGoodOp f.names o)
-    → size_of (linear_blocks t (length f.names) lists b n blocks) ≤ 150 * length blocks + 8 * length (flat_map (λ (block : Block). block.ops) blocks)
+    → size_of (linear_blocks t (length f.names) lists b n blocks) ≤ 150 * length blocks + 8 * length
+    (flat_map (λ (block : Block). block.ops) blocks)
 blocks_size t f lists few live b n [] g = omega arith
 blocks_size t f lists few live b n (block ∷ blocks) g =
     let o = after_few lists (length f.names) b block.term in
-    let a = block_size t f n (live_at lists b) (live_after lists (length f.names) b block.term) block (live b) (omega (arith, o, few)) (λ k x h. g 0 k block x refl h) in
+    let a = block_size t f n (live_at lists b) (live_after lists (length f.names) b block.term) block (live b) (omega (arith, o, few))
+    (λ k x h. g 0 k block x refl h) in
     let r = blocks_size t f lists few live (b + 1) (past_block t lists b n block) blocks (λ j k other x h i. g (suc j) k other x h i) in
-    let k : length (flat_map (λ (block : Block). block.ops) (block ∷ blocks)) ≡ length block.ops + length (flat_map (λ (block : Block). block.ops) blocks) =
+    let k : length (flat_map (λ (block : Block). block.ops) (block ∷ blocks)) ≡ length block.ops + length
+    (flat_map (λ (block : Block). block.ops) blocks) =
     length-append block.ops (flat_map (λ (block : Block). block.ops) blocks) in
     let x : size_of (linear_blocks t (length f.names) lists b n (block ∷ blocks))
-    ≡ ops_size (linear_ops t (length f.names) n (live_at lists b) (live_after lists (length f.names) b block.term) block) + size_of (linear_blocks t (length f.names) lists (b + 1) (past_block t lists b n block) blocks) =
-    sum_by-cons (λ (own : ExtBlock). ops_size own.ops) (linear_block t (length f.names) lists b n block) (linear_blocks t (length f.names) lists (b + 1) (past_block t lists b n block) blocks) in
+    ≡ ops_size (linear_ops t (length f.names) n (live_at lists b) (live_after lists (length f.names) b block.term) block) + size_of
+    (linear_blocks t (length f.names) lists (b + 1) (past_block t lists b n block) blocks) =
+    sum_by-cons (λ (own : ExtBlock). ops_size own.ops) (linear_block t (length f.names) lists b n block)
+    (linear_blocks t (length f.names) lists (b + 1) (past_block t lists b n block) blocks) in
     omega (arith, a, r, k, x)
 
 -- ---- from blocks to blocks
@@ -216,12 +230,14 @@ module _ (f : Function) (lists : List (List NameId)) (t : Table) (live : AreLive
   lin_length = blocks_length t count lists 0 0 f.blocks
 
   lin_made : (k : ℕ) (own : ExtBlock) → slice_get lin k ≡ Some own → Made t count lists f.blocks k k own
-  lin_made k own h = let z : 0 + k ≡ k = omega arith in subst (λ (c : ℕ). Made t count lists f.blocks k c own) z (made t count lists 0 0 f.blocks k own h)
+  lin_made k own h = let z : 0 + k ≡ k = omega arith in subst (λ (c : ℕ). Made t count lists f.blocks k c own) z
+      (made t count lists 0 0 f.blocks k own h)
 
   args_there : PARAMS ≤ length t.args
   args_there = let e = ap (λ (xs : List ℕ). length xs) fit.args in omega (arith, e)
 
-  ending_term : (b m : ℕ) (block : Block) → (let ending = ending_of (let own = linear_block t count lists b m block in own.ops) in ending.term) ≡ block.term
+  ending_term : (b m : ℕ) (block : Block) → (let ending = ending_of (let own = linear_block t count lists b m block in own.ops) in
+      ending.term) ≡ block.term
   ending_term b m block =
       let saved = m + length (live_at lists b) in
       let first = saved + length (saved_registers t) in
@@ -233,7 +249,8 @@ module _ (f : Function) (lists : List (List NameId)) (t : Table) (live : AreLive
       (body_ending t current first block.ops (end_ops after link block.term ++ out_op t after saved out block.term ∷ [])
       ∙ rest_ending t after link saved out block.term)
 
-  own_term : (k : ℕ) (own : ExtBlock) (m : Made t count lists f.blocks k k own) → (let ending = ending_of own.ops in ending.term) ≡ (let block = m.block in block.term)
+  own_term : (k : ℕ) (own : ExtBlock) (m : Made t count lists f.blocks k k own)
+      → (let ending = ending_of own.ops in ending.term) ≡ (let block = m.block in block.term)
   own_term k own m = ap (λ (x : ExtBlock). (let ending = ending_of x.ops in ending.term)) (sym m.is) ∙ ending_term k m.first m.block
 
   leads : (b : ℕ) (own : ExtBlock) → slice_get lin b ≡ Some own → LeadsOn lin b own
@@ -261,14 +278,17 @@ module _ (f : Function) (lists : List (List NameId)) (t : Table) (live : AreLive
           → Contains (live_after lists count k block.term) name
       out_has block to name has =
           let h = live_name_small f name l 0 ((live.exact l name).0 has) in
-          filter_has (λ (n : ℕ). list_any (λ (c : ℕ). is_among (live_at lists c) n) (targets_of k block.term)) 0 count name.0 (omega arith) (omega (arith, h))
-          (any_true (λ (c : ℕ). is_among (live_at lists c) name.0) (targets_of k block.term) l to (contains_among (live_at lists l) name has))
+          filter_has (λ (n : ℕ). list_any (λ (c : ℕ). is_among (live_at lists c) n) (targets_of k block.term)) 0 count name.0 (omega arith)
+          (omega (arith, h))
+          (any_true (λ (c : ℕ). is_among (live_at lists c) name.0) (targets_of k block.term) l to
+          (contains_among (live_at lists l) name has))
 
   distinct : (i j : ℕ) (a b : Block) → i < j → slice_get f.blocks i ≡ Some a → slice_get f.blocks j ≡ Some b → a.label ≢ b.label
   distinct i j a b lt at_a at_b same = ∥∥₁_elim f.well_formed (λ (x y : ⊥). absurd x)
       (λ (w : IsWellFormed f.name f.params f.names f.blocks).
       w.distinct_labels i j a lt (slice_get_within f.blocks j b at_b)
-      (ap (λ (x : Block). x.label) (get_or_from_slice_get f.blocks i a a at_a) ∙ same ∙ ap (λ (x : Block). x.label) (sym (get_or_from_slice_get f.blocks j b a at_b))))
+      (ap (λ (x : Block). x.label) (get_or_from_slice_get f.blocks i a a at_a) ∙ same
+      ∙ ap (λ (x : Block). x.label) (sym (get_or_from_slice_get f.blocks j b a at_b))))
 
   distinct_labels : AllPairs (λ (a b : ExtBlock). a.label ≢ b.label) lin
   distinct_labels i j d lt below same =
@@ -296,7 +316,8 @@ module _ (f : Function) (lists : List (List NameId)) (t : Table) (live : AreLive
   params entry h =
       let m = lin_made 0 entry h in
       let into : live_at lists 0 ≡ entry.live_in = ap (λ (x : ExtBlock). x.live_in) m.is in
-      subst (λ (xs : List NameId). All (λ (name : NameId). (name.0 < PARAMS) × (name_kind (map kind_of_pair f.names) name ≡ General)) xs) into
+      subst (λ (xs : List NameId). All (λ (name : NameId). (name.0 < PARAMS) × (name_kind (map kind_of_pair f.names) name ≡ General)) xs)
+      into
       (λ j d below. entry_word (get_or (live_at lists 0) j d) (Contains-get_or (live_at lists 0) j d below))
 
   op_good : (j k : ℕ) (block : Block) (o : SrcOp) → slice_get f.blocks j ≡ Some block → slice_get block.ops k ≡ Some o → IsGoodOp f.names o
@@ -337,4 +358,5 @@ module _ (f : Function) (lists : List (List NameId)) (t : Table) (live : AreLive
       → IsLinear (let l : Lssa = record { table = t; names = names; blocks = blocks } in l)
   made_kept names blocks e1 e2 =
       subst (λ (ns : List Kind). IsLinear (let l : Lssa = record { table = t; names = ns; blocks = blocks } in l)) (sym e1)
-      (subst (λ (bs : List ExtBlock). IsLinear (let l : Lssa = record { table = t; names = map kind_of_pair f.names; blocks = bs } in l)) (sym e2) linear_kept)
+      (subst (λ (bs : List ExtBlock). IsLinear (let l : Lssa = record { table = t; names = map kind_of_pair f.names; blocks = bs } in l))
+      (sym e2) linear_kept)

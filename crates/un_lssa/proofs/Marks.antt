@@ -1,5 +1,6 @@
 -- The names that are live where a block ends, by marks.
-use Rattle.std.proofs.Common.{◌≡◌, ◌≢◌, ℕ, suc, ◌+◌, ◌<◌, ◌≤◌, ◌||◌, ◌++◌, Bool, true, false, nat_eq, List, [], ◌∷◌, map, filter, length, set, drop, replicate, get_or, if◌then◌else◌, refl, sym, ap, ◌∙◌, arith, length-set}
+use Rattle.std.proofs.Common.{◌≡◌, ◌≢◌, ℕ, suc, ◌+◌, ◌<◌, ◌≤◌, ◌||◌, ◌++◌, Bool, true, false, nat_eq, List, [], ◌∷◌, map, filter, length}
+use Rattle.std.proofs.Common.{set, drop, replicate, get_or, if◌then◌else◌, refl, sym, ap, ◌∙◌, arith, length-set}
 use Rattle.std.specs.List.{range_with_len, list_any}
 use Rattle.std.proofs.lemmas.Bool.{eqb-true}
 use Rattle.std.proofs.lemmas.List.{drop_more, drop_all, get_or-set_same, get_or-set_other, length-replicate, get_or-replicate}
@@ -17,7 +18,8 @@ set_at marks name n h = by (nat_eq name n) refl
   where
     by : (v : Bool) → nat_eq name n ≡ v → at (set marks name true) n ≡ (v || at marks n)
     by true e = let same : name ≡ n = eqb-true name n e in rw same (get_or-set_same marks n true false h)
-    by false e = let other : n ≢ name = λ same. (let yes : nat_eq name n ≡ true = rw same (grind arith) in cc (sym e ∙ yes)) in get_or-set_other marks name n true false other
+    by false e = let other : n ≢ name = λ same. (let yes : nat_eq name n ≡ true = rw same (grind arith) in cc (sym e ∙ yes)) in
+        get_or-set_other marks name n true false other
 
 or_assoc : (a b c : Bool) → ((a || b) || c) ≡ (b || (a || c))
 or_assoc true true c = refl
@@ -61,7 +63,8 @@ names_filter : (p : ℕ → Bool) (k : ℕ) (marks : List Bool) → ((i : ℕ) �
 names_filter p k [] h = refl
 names_filter p k (mark ∷ marks) h =
     let first : mark ≡ p k = h 0 (omega arith) ∙ ap p (let z : k + 0 ≡ k = omega arith in z) in
-    let rest = names_filter p (k + 1) marks (λ i below. h (suc i) (omega arith) ∙ ap p (let z : k + suc i ≡ (k + 1) + i = omega arith in z)) in
+    let rest = names_filter p (k + 1) marks (λ i below. h (suc i) (omega arith) ∙ ap p (let z : k + suc i ≡ (k + 1) + i = omega arith in z))
+    in
     rw (first, rest) (by (p k))
   where
     by : (v : Bool) → ((if v then name_of k ∷ [] else []) ++ map name_of (filter p (range_with_len (k + 1) (length marks))))

@@ -1,5 +1,6 @@
 -- Operands of calls, and numbers of temporaries.
-use Rattle.std.proofs.Common.{◌≡◌, ◌⊎◌, inl, inr, ℕ, zero, suc, ◌+◌, ◌<◌, ◌≤◌, ◌++◌, ◌^◌, Bool, List, [], ◌∷◌, Option, Some, None, Result, IfOk, map, subst, length, drop, get_or, refl, sym, ap, ◌∙◌, arith, append_assoc}
+use Rattle.std.proofs.Common.{◌≡◌, ◌⊎◌, inl, inr, ℕ, zero, suc, ◌+◌, ◌<◌, ◌≤◌, ◌++◌, ◌^◌, Bool, List, [], ◌∷◌, Option, Some, None, Result}
+use Rattle.std.proofs.Common.{IfOk, map, subst, length, drop, get_or, refl, sym, ap, ◌∙◌, arith, append_assoc}
 use Rattle.std.specs.List.{range_with_len}
 use Rattle.std.proofs.lemmas.List.{drop_more, drop_all, length_push}
 use Rattle.std.proofs.lemmas.Option.{slice_get_past, slice_get-get_or}
@@ -24,7 +25,8 @@ cases (suc b) (suc n) = elim (cases b n) [ inl h ↦ inl (omega arith) | inr h �
 
 -- one argument after another
 pub argument_step : (current registers : List ℕ) (names : List NameId) (k : ℕ) (d : NameId) → k < length names
-    → argument_operands current (drop k registers) (drop k names) ≡ name_operand current (home_at registers k) (get_or names k d) ∷ argument_operands current (drop (k + 1) registers) (drop (k + 1) names)
+    → argument_operands current (drop k registers) (drop k names) ≡ name_operand current (home_at registers k) (get_or names k d) ∷
+    argument_operands current (drop (k + 1) registers) (drop (k + 1) names)
 argument_step current registers names k d h = elim (cases k (length registers)) [
   | inl below ↦
       let got = slice_get-get_or registers k 0 below in
@@ -57,7 +59,8 @@ body_below n first k source o name h is past small dst =
     let same : past_all n (o ∷ drop (k + 1) source) ≡ past_all first source = ap (past_all n) (sym e) ∙ past in
     dst_below n (2 ^ 32) o (drop (k + 1) source) name dst (rw same small)
 
-pub arguments_more : (operands : List Operand) (current registers : List ℕ) (names : List NameId) (k : ℕ) (d : NameId) (whole : List Operand) (operand : Operand) → k < length names
+pub arguments_more : (operands : List Operand) (current registers : List ℕ) (names : List NameId) (k : ℕ) (d : NameId)
+    (whole : List Operand) (operand : Operand) → k < length names
     → operands ++ argument_operands current (drop k registers) (drop k names) ≡ whole
     → operand ≡ name_operand current (home_at registers k) (get_or names k d)
     → (operands ++ operand ∷ []) ++ argument_operands current (drop (k + 1) registers) (drop (k + 1) names) ≡ whole
@@ -85,17 +88,22 @@ module _ (t : Table) (current : List ℕ) (first saved : ℕ) (live_out : List N
   count kept e = e ∙ ap (λ (rs : List ℕ). length rs + 1) kept ∙ sym (saved_count t)
 
   abbrev AreNext : Result (List Operand) NoMemory → Type 0
-  AreNext r = IfOk r (λ (operands : List Operand). operands ≡ map (name_operand current None) live_out ++ map (λ (n : ℕ). reads n None) (range_with_len first saved))
+  AreNext r = IfOk r (λ (operands : List Operand). operands ≡ map (name_operand current None) live_out ++
+      map (λ (n : ℕ). reads n None) (range_with_len first saved))
 
   pub falls : (term : Term) (r : Result (List Operand) NoMemory) → registers ≡ callee_saved t → saved ≡ length registers + 1
       → term ≡ Fall → AreNext r → Are term r
-  falls term r kept e is h = rw is (subst (λ (n : ℕ). IfOk r (λ (operands : List Operand). operands ≡ map (name_operand current None) live_out ++ map (λ (n : ℕ). reads n None) (range_with_len first n))) (count kept e) h)
+  falls term r kept e is h = rw is (subst (λ (n : ℕ). IfOk r (λ (operands : List Operand). operands ≡ map (name_operand current None)
+      live_out ++ map (λ (n : ℕ). reads n None) (range_with_len first n))) (count kept e) h)
 
   pub jumps : (term : Term) (r : Result (List Operand) NoMemory) (to : BlockId) → registers ≡ callee_saved t
       → saved ≡ length registers + 1 → term ≡ Jump to → AreNext r → Are term r
-  jumps term r to kept e is h = rw is (subst (λ (n : ℕ). IfOk r (λ (operands : List Operand). operands ≡ map (name_operand current None) live_out ++ map (λ (n : ℕ). reads n None) (range_with_len first n))) (count kept e) h)
+  jumps term r to kept e is h = rw is (subst (λ (n : ℕ). IfOk r (λ (operands : List Operand). operands ≡ map (name_operand current None)
+      live_out ++ map (λ (n : ℕ). reads n None) (range_with_len first n))) (count kept e) h)
 
   pub branches : (term : Term) (r : Result (List Operand) NoMemory) (pred : NameId) (sense : Bool) (to : BlockId)
       → registers ≡ callee_saved t → saved ≡ length registers + 1
       → term ≡ Branch pred sense to → AreNext r → Are term r
-  branches term r pred sense to kept e is h = rw is (subst (λ (n : ℕ). IfOk r (λ (operands : List Operand). operands ≡ map (name_operand current None) live_out ++ map (λ (n : ℕ). reads n None) (range_with_len first n))) (count kept e) h)
+  branches term r pred sense to kept e is h = rw is (subst (λ (n : ℕ). IfOk r
+      (λ (operands : List Operand). operands ≡ map (name_operand current None) live_out ++
+      map (λ (n : ℕ). reads n None) (range_with_len first n))) (count kept e) h)

@@ -8,8 +8,11 @@ use Rattle.un_isa.specs.declared.outcome.CallRecord.{CallRecord}
 use Rattle.un_isa.specs.declared.start.Reply.{Reply}
 use Rattle.un_isa.specs.declared.table.Table.{Table}
 use Rattle.un_ir.specs.declared.function.SrcOp.{SrcOp}
-use Rattle.un_ir.specs.Source.{SourceState, SourceStep, Went, Stopped, op_step, step_by, value_in, assigned, loads, stores, calls_with, record_of, address_in, Trapped, Waiting}
-use Rattle.un_ir.specs.Linear.{World, Effect, Gives, Stops, effect_of, effect_by, Values, value_of, loads as loads_value, stores as stores_value, calls_with as calls_value, record_of as record_for, Trapped as Traps, Waiting as Waits}
+use Rattle.un_ir.specs.Source.{SourceState, SourceStep, Went, Stopped, op_step, step_by, value_in, assigned, loads, stores, calls_with}
+use Rattle.un_ir.specs.Source.{record_of, address_in, Trapped, Waiting}
+use Rattle.un_ir.specs.Linear.{World, Effect, Gives, Stops, effect_of, effect_by, Values, value_of, loads as loads_value}
+use Rattle.un_ir.specs.Linear.{stores as stores_value, calls_with as calls_value, record_of as record_for, Trapped as Traps}
+use Rattle.un_ir.specs.Linear.{Waiting as Waits}
 use Rattle.un_ir.specs.LinearOf.{name_operand, argument_operands, source_operands}
 use Rattle.un_ir.specs.Runs.{world_of}
 
@@ -31,7 +34,13 @@ module _ (o : SrcOp) (s : SourceState) where
   store_sim a v None none = traps
   store_sim a v (Some old) none =
       let same : assigned s.values o.dst 0 ≡ s.values = ap (λ (d : Option NameId). assigned s.values d 0) none in
-      subst (λ (values : List ℕ). StepSim o s (Went (record { values = values; memory = set_word a v s.memory; calls = s.calls; replies = s.replies })) (Gives 0 (record { memory = set_word a v s.memory; calls = s.calls; replies = s.replies })))
+      subst (λ (values : List ℕ). StepSim o s (Went (record {
+        values = values;
+        memory = set_word a v s.memory;
+        calls = s.calls;
+        replies =
+            s.replies;
+      })) (Gives 0 (record { memory = set_word a v s.memory; calls = s.calls; replies = s.replies })))
       same (goes 0 (record { memory = set_word a v s.memory; calls = s.calls; replies = s.replies }))
 
   call_sim : (replies : List Reply)

@@ -2,7 +2,8 @@
 
 ghost use Rattle.std.specs.Prelude.{◌≡◌, ◌+◌, ◌<◌, ◌≤◌, ◌^◌, ◌++◌, [], ◌∷◌, length, replicate, IfOk, All};
 ghost use Rattle.un_isa.specs.Registers.{callee_saved};
-ghost use Rattle.un_ir.specs.LinearOf.{first_temps, live_at, live_after, in_op, body_ops, current_after, end_ops, out_op, past_all, linear_ops, linear_block, linear_blocks, past_block};
+ghost use Rattle.un_ir.specs.LinearOf.{first_temps, live_at, live_after, in_op, body_ops, current_after, end_ops, out_op, past_all};
+ghost use Rattle.un_ir.specs.LinearOf.{linear_ops, linear_block, linear_blocks, past_block};
 ghost use Rattle.un_ir.specs.declared.function.Block.{Block};
 ghost use Rattle.un_lssa.specs.Making.{past_blocks};
 

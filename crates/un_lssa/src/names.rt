@@ -1,6 +1,7 @@
 //! The temporaries of names, and the names that are live where a block ends.
 
-ghost use Rattle.std.specs.Prelude.{◌≡◌, ◌+◌, ◌<◌, ◌^◌, ◌++◌, [], ◌∷◌, length, replicate, slice_index, IfOk, OnOk, List, Some, false, if◌then◌else◌};
+ghost use Rattle.std.specs.Prelude.{◌≡◌, ◌+◌, ◌<◌, ◌^◌, ◌++◌, [], ◌∷◌, length, replicate, slice_index, IfOk, OnOk, List, Some, false};
+ghost use Rattle.std.specs.Prelude.{if◌then◌else◌};
 ghost use Rattle.un_ir.specs.Live.{targets_of};
 ghost use Rattle.un_ir.specs.LinearOf.{assigned, first_temps, live_at, name_of, live_after};
 ghost use Rattle.un_lssa.specs.Making.{marked_with, marked_at, names_of_marks};

@@ -4,7 +4,8 @@ ghost use Rattle.std.specs.Prelude.{◌≡◌, ◌+◌, ◌<◌, ◌≤◌, ◌^
 ghost use Rattle.std.specs.List.{range_with_len};
 ghost use Rattle.un_isa.specs.Registers.{callee_saved, saved_registers};
 ghost use Rattle.un_ir.specs.Extended.{temp, at_register};
-ghost use Rattle.un_ir.specs.LinearOf.{reads, assigned, past, name_operand, argument_operands, source_operands, body_op, body_ops, current_after, past_all, in_op, end_ops, kept_operands, out_operands_of, out_op};
+ghost use Rattle.un_ir.specs.LinearOf.{reads, assigned, past, name_operand, argument_operands, source_operands, body_op, body_ops};
+ghost use Rattle.un_ir.specs.LinearOf.{current_after, past_all, in_op, end_ops, kept_operands, out_operands_of, out_op};
 ghost use Rattle.un_ir.specs.declared.function.Term.{Term};
 ghost use Rattle.un_base.specs.declared.ids.NameId.{NameId};
 ghost use Rattle.un_lssa.specs.Making.{home_at};
@@ -228,7 +229,8 @@ fn returned_operands(
 ) -> Result<Items<Operand>, NoMemory>
     requires kept { registers.now ≡ callee_saved t.now }
     requires fit { first + length registers.now + 1 < 2 ^ 32 }
-    ensures { (live_out : List NameId) → IfOk result (λ operands. operands ≡ out_operands_of t.now current.now first live_out (Term.Ret value)) }
+    ensures { (live_out : List NameId) → IfOk result (λ operands. operands ≡ out_operands_of t.now current.now first live_out
+        (Term.Ret value)) }
 {
     let mut operands = Items::new(alloc);
     if let Some(name) = value {

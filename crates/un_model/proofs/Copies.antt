@@ -8,7 +8,8 @@ use Rattle.un_ir.specs.declared.extended.Ext.{Ext}
 use Rattle.un_domains.specs.declared.domain.Domain.TheVariants.{Set}
 use Rattle.un_model.specs.declared.model.Options.{Options}
 use Rattle.un_model.specs.Options.{AreOptions, IsCountOfRegisters}
-use Rattle.un_model.specs.Registers.{is_assignable, general_registers, value_registers, is_home, is_truth, predicate_registers, slots_of, begins_with_zero, with_zero}
+use Rattle.un_model.specs.Registers.{is_assignable, general_registers, value_registers, is_home, is_truth, predicate_registers, slots_of}
+use Rattle.un_model.specs.Registers.{begins_with_zero, with_zero}
 use Rattle.un_model.specs.Variables.{copy_registers}
 use Rattle.std.specs.Prelude.{IfSome, filter, if◌then◌else◌, ◌||◌, ◌++◌, []}
 use Rattle.std.specs.List.{range_with_len}
@@ -25,7 +26,8 @@ begins : (e : Ext) (regs : Option ℕ) (slots : ℕ) (is_entry : Bool) (block : 
 unfolding general_registers
 begins e regs slots is_entry block x h =
     head_kept (λ (r : ℕ). is_assignable regs r || is_home e.table is_entry block x r) (range_with_len 1 31)
-    (if is_truth e.names block x then predicate_registers else []) (slots_of slots) (ap (λ (b : Bool). b || is_home e.table is_entry block x 0) h)
+    (if is_truth e.names block x then predicate_registers else []) (slots_of slots)
+    (ap (λ (b : Bool). b || is_home e.table is_entry block x 0) h)
 
 with_zero_same : (registers : List ℕ) → begins_with_zero registers ≡ true → with_zero registers ≡ registers
 with_zero_same registers h = rw h refl

@@ -1,5 +1,6 @@
 -- What goes over an edge, found by loops.
-use Rattle.std.proofs.Common.{◌≡◌, ◌↔◌, ℕ, ◌+◌, ◌<◌, Bool, true, false, IsTrue, Option, Some, None, List, [], ◌∷◌, length, drop, slice_get, get_or, refl, sym, ap, ◌∙◌, subst}
+use Rattle.std.proofs.Common.{◌≡◌, ◌↔◌, ℕ, ◌+◌, ◌<◌, Bool, true, false, IsTrue, Option, Some, None, List, [], ◌∷◌, length, drop, slice_get}
+use Rattle.std.proofs.Common.{get_or, refl, sym, ap, ◌∙◌, subst}
 use Rattle.std.specs.Prelude.{unwrap_or, if◌then◌else◌, ◌==◌, ◌&&◌, is_none}
 use Rattle.std.specs.List.{filter}
 use Rattle.std.proofs.lemmas.Option.{slice_get_within, get_or_from_slice_get, slice_get-get_or}
@@ -11,7 +12,8 @@ use Rattle.un_model.specs.Orders.{HandsAll, AllHandOn}
 use Rattle.un_base.specs.declared.ids.TempId.{TempId}
 use Rattle.un_ir.specs.declared.function.Term.{Term}
 use Rattle.un_ir.specs.declared.extended.ExtOp.{ExtOp}
-use Rattle.un_model.specs.Congruences.{term_or, term_of, results_of_start, live_in_temps, live_out_reads, HandsOver, HandsOn, KeepsCongruences}
+use Rattle.un_model.specs.Congruences.{term_or, term_of, results_of_start, live_in_temps, live_out_reads, HandsOver, HandsOn}
+use Rattle.un_model.specs.Congruences.{KeepsCongruences}
 use Rattle.un_model.proofs.Steps.{drop_at}
 
 pub term_found : (ops : List ExtOp) (k : ℕ) (op : ExtOp) (o : Option Term) (found : Term) → slice_get ops k ≡ Some op

@@ -1,5 +1,6 @@
 -- A mask with one more register, and the registers that the masks say.
-use Rattle.std.proofs.Common.{None, [], ◌∷◌, ◌+◌, ◌≤◌, ◌≡◌, ◌≢◌, ℕ, ◌*◌, ◌^◌, ◌%◌, ◌<◌, Bool, true, false, nat_eq, ⊎_elim, List, Option, Some, bit_or, w64, refl, ap, ◌∙◌, sym, subst, arith}
+use Rattle.std.proofs.Common.{None, [], ◌∷◌, ◌+◌, ◌≤◌, ◌≡◌, ◌≢◌, ℕ, ◌*◌, ◌^◌, ◌%◌, ◌<◌, Bool, true, false, nat_eq, ⊎_elim, List, Option}
+use Rattle.std.proofs.Common.{Some, bit_or, w64, refl, ap, ◌∙◌, sym, subst, arith}
 use Rattle.std.specs.Prelude.{◌==◌, ◌||◌, ◌&&◌, filter, unwrap_or}
 use Rattle.std.specs.BTreeMap.{BTreeMap, get, Updates}
 use Rattle.std.specs.Cmp.{unsigned_tied}
@@ -15,11 +16,13 @@ use Rattle.un_isa.specs.Tables.{in_mask}
 use Rattle.un_isa.specs.declared.reg.Reg.{Reg}
 use Rattle.un_ir.specs.declared.extended.ExtOp.{ExtOp}
 use Rattle.un_ir.specs.declared.extended.Operand.{Operand}
-use Rattle.un_model.specs.Homes.{mask_of, AddsMarks, is_mark, is_operand_mark, is_result_mark, is_results_mark, is_op_mark, is_block_mark, TellsHomes}
+use Rattle.un_model.specs.Homes.{mask_of, AddsMarks, is_mark, is_operand_mark, is_result_mark, is_results_mark, is_op_mark, is_block_mark}
+use Rattle.un_model.specs.Homes.{TellsHomes}
 use Rattle.un_ir.specs.declared.extended.Ext.{Ext}
 use Rattle.un_ir.specs.declared.extended.ExtBlock.{ExtBlock}
 use Rattle.un_model.specs.Pairs.{any_from}
-use Rattle.un_model.specs.Registers.{is_assignable, is_register, reads_value, is_operand_home, is_result_home, is_home, result_home, gives_truth_at, is_truth_of, is_truth, general_registers}
+use Rattle.un_model.specs.Registers.{is_assignable, is_register, reads_value, is_operand_home, is_result_home, is_home, result_home}
+use Rattle.un_model.specs.Registers.{gives_truth_at, is_truth_of, is_truth, general_registers}
 use Rattle.un_model.proofs.HomeSteps.{any_and, filter_below, below_range}
 use Rattle.un_model.proofs.Steps.{or_false}
 

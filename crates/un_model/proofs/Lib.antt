@@ -1,3 +1,4 @@
+pub mod ArcSteps
 pub mod Steps
 pub mod Costs
 pub mod Domains
@@ -18,8 +19,10 @@ pub mod HomeSteps
 pub mod HomeMasks
 pub mod Verdicts
 pub mod Lists
-pub mod Placed
 pub mod OpDomains
 pub mod PlacedSchedules
 pub mod Operations
+pub mod Placed
 pub mod TempKinds
+pub mod Readings
+pub mod ArcsKept

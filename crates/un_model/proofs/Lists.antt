@@ -1,5 +1,6 @@
 -- What holds of each element of a list, of each two of them, and which elements it has, by recursion over the list.
-use Rattle.std.proofs.Common.{ℕ, zero, suc, ◌≡◌, ◌<◌, Bool, true, false, cond, List, [], ◌∷◌, ◌++◌, length, map, filter, ◌⊎◌, inl, inr, refl, sym, ap, ◌∙◌, subst, arith, All, AllPairs, slice_index_or}
+use Rattle.std.proofs.Common.{ℕ, zero, suc, ◌≡◌, ◌<◌, Bool, true, false, cond, List, [], ◌∷◌, ◌++◌, length, map, filter, ◌⊎◌, inl, inr}
+use Rattle.std.proofs.Common.{refl, sym, ap, ◌∙◌, subst, arith, All, AllPairs, slice_index_or}
 use Rattle.std.specs.List.{list_any, find}
 use Rattle.std.specs.Prelude.{Some, None, slice_get}
 use Rattle.std.specs.Option.{option_map}
@@ -36,14 +37,18 @@ pub each_map : {X Y : Type 0} (P : Y → Type 0) (f : X → Y) (xs : List X) →
 each_map P f [] h = tt
 each_map P f (y ∷ ys) h = (h.0, each_map P f ys h.1)
 
-pub pairwise_map : {X Y : Type 0} (R : Y → Y → Type 0) (f : X → Y) (xs : List X) → Pairwise (λ x y. R (f x) (f y)) xs → Pairwise R (map f xs)
+pub pairwise_map : {X Y : Type 0} (R : Y → Y → Type 0) (f : X → Y) (xs : List X) → Pairwise (λ x y. R (f x) (f y)) xs
+    → Pairwise R (map f xs)
 pairwise_map R f [] h = tt
 pairwise_map R f (y ∷ ys) h = (each_map (R (f y)) f ys h.0, pairwise_map R f ys h.1)
 
-pub pairwise_more : {X : Type 0} (R S : X → X → Type 0) (xs : List X) → ((x y : X) → Member x xs → Member y xs → R x y → S x y) → Pairwise R xs → Pairwise S xs
+pub pairwise_more : {X : Type 0} (R S : X → X → Type 0) (xs : List X) → ((x y : X) → Member x xs → Member y xs → R x y → S x y)
+    → Pairwise R xs → Pairwise S xs
 pairwise_more R S [] f h = tt
-pairwise_more R S (x ∷ xs) f h =
-    (each_of (S x) xs (λ y m. f x y (inl refl) (inr m) (each_member (R x) xs y h.0 m)), pairwise_more R S xs (λ y z m n r. f y z (inr m) (inr n) r) h.1)
+pairwise_more R S (x ∷ xs) f h = (
+  each_of (S x) xs (λ y m. f x y (inl refl) (inr m) (each_member (R x) xs y h.0 m)),
+  pairwise_more R S xs (λ y z m n r. f y z (inr m) (inr n) r) h.1,
+)
 
 pub member_map : {X Y : Type 0} (f : X → Y) (xs : List X) (x : X) → Member x xs → Member (f x) (map f xs)
 member_map f [] x m = elim m [ ]
@@ -125,7 +130,8 @@ split_at [] x m = elim m [ ]
 split_at (y ∷ ys) x (inl e) = record { before = []; after = ys; is = ap (λ z. z ∷ ys) e }
 split_at (y ∷ ys) x (inr m) = let r = split_at ys x m in record { before = y ∷ r.before; after = r.after; is = ap (λ zs. y ∷ zs) r.is }
 
-pub pairwise_before : {X : Type 0} (R : X → X → Type 0) (before after : List X) (x : X) → Pairwise R (before ++ x ∷ after) → Each (λ y. R y x) before
+pub pairwise_before : {X : Type 0} (R : X → X → Type 0) (before after : List X) (x : X) → Pairwise R (before ++ x ∷ after)
+    → Each (λ y. R y x) before
 pairwise_before R [] after x h = tt
 pairwise_before R (y ∷ ys) after x h = (((each_append (R y) ys (x ∷ after) h.0).1).0, pairwise_before R ys after x h.1)
 
@@ -134,7 +140,8 @@ pairwise_after R [] after x h = h.0
 pairwise_after R (y ∷ ys) after x h = pairwise_after R ys after x h.1
 
 -- two elements stand in one order or the other, or are one place
-pub pairwise_two : {X : Type 0} (R : X → X → Type 0) (xs : List X) (x y : X) → Pairwise R xs → Member x xs → Member y xs → (x ≡ y) ⊎ (R x y) ⊎ (R y x)
+pub pairwise_two : {X : Type 0} (R : X → X → Type 0) (xs : List X) (x y : X) → Pairwise R xs → Member x xs → Member y xs → (x ≡ y) ⊎ (R x y)
+    ⊎ (R y x)
 pairwise_two R [] x y h m n = elim m [ ]
 pairwise_two R (z ∷ zs) x y h (inl e) (inl f) = inl (sym e ∙ f)
 pairwise_two R (z ∷ zs) x y h (inl e) (inr n) = inr (inl (subst (λ w. R w y) e (each_member (R z) zs y h.0 n)))
@@ -211,7 +218,8 @@ two_places (z ∷ a) b (u ∷ c) d x y e =
     more (behind m p) k = behind m (ap (λ w. w ∷ a) k ∙ ap (λ ws. u ∷ ws) p)
 
 -- looking for an element that a filter keeps
-pub find_filter : {X : Type 0} (t keep : X → Bool) (xs : List X) → Each (λ x. t x ≡ true → keep x ≡ true) xs → find t (filter keep xs) ≡ find t xs
+pub find_filter : {X : Type 0} (t keep : X → Bool) (xs : List X) → Each (λ x. t x ≡ true → keep x ≡ true) xs
+    → find t (filter keep xs) ≡ find t xs
 find_filter t keep [] h = refl
 find_filter t keep (x ∷ xs) h =
     let rest = find_filter t keep xs h.1 in
@@ -233,13 +241,17 @@ each_all P (x ∷ xs) h = (h 0 x (omega arith), each_all P xs (λ k d lt. h (suc
 
 pub pairwise_all : {X : Type 0} (R : X → X → Type 0) (xs : List X) → AllPairs R xs → Pairwise R xs
 pairwise_all R [] h = tt
-pairwise_all R (x ∷ xs) h = (each_all (R x) xs (λ k d lt. h 0 (suc k) d (omega arith) (omega arith)), pairwise_all R xs (λ i j d lt l. h (suc i) (suc j) d (omega arith) (omega arith)))
+pairwise_all R (x ∷ xs) h = (
+  each_all (R x) xs (λ k d lt. h 0 (suc k) d (omega arith) (omega arith)),
+  pairwise_all R xs (λ i j d lt l. h (suc i) (suc j) d (omega arith) (omega arith)),
+)
 
 pub each_of_map : {X Y : Type 0} (P : Y → Type 0) (f : X → Y) (xs : List X) → Each P (map f xs) → Each (λ x. P (f x)) xs
 each_of_map P f [] h = tt
 each_of_map P f (x ∷ xs) h = (h.0, each_of_map P f xs h.1)
 
-pub pairwise_of_map : {X Y : Type 0} (R : Y → Y → Type 0) (f : X → Y) (xs : List X) → Pairwise R (map f xs) → Pairwise (λ x y. R (f x) (f y)) xs
+pub pairwise_of_map : {X Y : Type 0} (R : Y → Y → Type 0) (f : X → Y) (xs : List X) → Pairwise R (map f xs)
+    → Pairwise (λ x y. R (f x) (f y)) xs
 pairwise_of_map R f [] h = tt
 pairwise_of_map R f (x ∷ xs) h = (each_of_map (R (f x)) f xs h.0, pairwise_of_map R f xs h.1)
 

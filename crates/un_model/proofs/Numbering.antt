@@ -1,5 +1,6 @@
 -- The loops that number variables: what is made so far, and what is made of the rest, are the whole.
-use Rattle.std.proofs.Common.{◌≡◌, ℕ, suc, subst, ◌+◌, Bool, true, false, nat_eq, List, [], ◌∷◌, ◌++◌, length, map, drop, Option, Some, None, slice_get, refl, ap, ◌∙◌, sym, append_assoc, length-append, arith}
+use Rattle.std.proofs.Common.{◌≡◌, ℕ, suc, subst, ◌+◌, Bool, true, false, nat_eq, List, [], ◌∷◌, ◌++◌, length, map, drop, Option, Some}
+use Rattle.std.proofs.Common.{None, slice_get, refl, ap, ◌∙◌, sym, append_assoc, length-append, arith}
 use Rattle.std.specs.Prelude.{is_some}
 use Rattle.std.specs.List.{range_with_len}
 use Rattle.std.specs.Option.{option_to_list}
@@ -18,8 +19,13 @@ use Rattle.un_model.specs.declared.model.TempVars.{TempVars}
 use Rattle.un_model.specs.declared.model.OpVars.{OpVars}
 use Rattle.un_model.specs.declared.model.BlockVars.{BlockVars}
 use Rattle.un_model.specs.declared.model.Model.{Model}
+use Rattle.un_model.specs.declared.model.Arc.{Arc}
+use Rattle.un_model.specs.Arcs.{blocks_arcs}
 use Rattle.un_model.specs.Pairs.{places_from}
-use Rattle.un_model.specs.Variables.{is_optional, has_cycle, count_if, chosen_operands, cycle_place, choice_place, register_place, var_count, var_at, op_vars, ops_vars, ops_count, block_vars, block_count, blocks_vars, blocks_count, op_temps, ops_temps, blocks_temps, instr_domain, cycle_domain, choice_domain, result_domain, carries_truth, op_domains, ops_domains, block_domains, blocks_domains, own_horizon, IsModel, model_of}
+use Rattle.un_model.specs.Variables.{is_optional, has_cycle, count_if, chosen_operands, cycle_place, choice_place, register_place}
+use Rattle.un_model.specs.Variables.{var_count, var_at, op_vars, ops_vars, ops_count, block_vars, block_count, blocks_vars, blocks_count}
+use Rattle.un_model.specs.Variables.{op_temps, ops_temps, blocks_temps, instr_domain, cycle_domain, choice_domain, result_domain}
+use Rattle.un_model.specs.Variables.{carries_truth, op_domains, ops_domains, block_domains, blocks_domains, own_horizon, IsModel, model_of}
 use Rattle.un_model.proofs.Steps.{drop_at, longer}
 
 -- ---- lengths
@@ -216,12 +222,14 @@ end_at e o is_entry block d0 d1 ops end v g p q f =
     f ∙ rw (p, q, l) refl
 
 pub model_made : (e ext : Ext) (o : Options) (ds all : List Domain) (temps : List TempVars) (blocks : List BlockVars) (flag : VarId)
+    (arcs : List (List Arc))
     → ds ≡ blocks_domains e o own_horizon true e.blocks → all ≡ ds ++ Range 0 1 ∷ [] → temps ≡ blocks_temps 0 0 e.blocks
-    → blocks ≡ blocks_vars 0 e.blocks → flag ≡ var_at (length ds) → ext ≡ e
-    → (let m : Model = record { ext = ext; options = o; domains = all; temps = temps; blocks = blocks; flag = flag } in m ≡ model_of e o)
-model_made e ext o ds all temps blocks flag hd ha ht hb hf hx =
+    → blocks ≡ blocks_vars 0 e.blocks → flag ≡ var_at (length ds) → arcs ≡ blocks_arcs e.table temps 0 e.blocks → ext ≡ e
+    → (let m : Model = record
+    { ext = ext; options = o; domains = all; temps = temps; blocks = blocks; flag = flag; arcs = arcs } in m ≡ model_of e o)
+model_made e ext o ds all temps blocks flag arcs hd ha ht hb hf hr hx =
     let l : length ds ≡ blocks_count e.blocks = ap length hd ∙ length-blocks_domains e o true e.blocks in
-    rw (hx, hb, ha, hf, l, hd, ht) refl
+    rw (hx, hb, ha, hf, l, hr, hd, ht) refl
 
 pub is_model : (m : Model) (e : Ext) (o : Options) → m ≡ model_of e o → IsModel m
 is_model m e o h = subst IsModel (sym h) refl

@@ -18,7 +18,9 @@ use Rattle.un_model.specs.declared.model.Options.{Options}
 use Rattle.un_model.specs.Cost.{value_of}
 use Rattle.un_model.specs.Pairs.{places_from}
 use Rattle.un_model.specs.Solutions.{InDomain, KeepsDomains}
-use Rattle.un_model.specs.Variables.{var_count, var_at, ops_count, block_count, count_if, is_optional, has_cycle, chosen_operands, register_place, choice_place, instr_domain, cycle_domain, choice_domain, carries_truth, result_domain, op_domains, ops_domains, block_domains, blocks_domains, own_horizon, domains_of, blocks_count}
+use Rattle.un_model.specs.Variables.{var_count, var_at, ops_count, block_count, count_if, is_optional, has_cycle, chosen_operands}
+use Rattle.un_model.specs.Variables.{register_place, choice_place, instr_domain, cycle_domain, choice_domain, carries_truth, result_domain}
+use Rattle.un_model.specs.Variables.{op_domains, ops_domains, block_domains, blocks_domains, own_horizon, domains_of, blocks_count}
 use Rattle.un_model.proofs.Lists.{Each, each_join}
 use Rattle.un_model.proofs.Placed.{Placed, placed, block_placed, blocks_placed, end_of}
 
@@ -26,7 +28,8 @@ use Rattle.un_model.proofs.Placed.{Placed, placed, block_placed, blocks_placed, 
 abbrev pub Sits : List ℕ → List Domain → ℕ → Type 0
 Sits values ds k = (i : ℕ) (d : Domain) → slice_get ds i ≡ Some d → InDomain (slice_index values (k + i)) d
 
-zip_sits : (values : List ℕ) (ds : List Domain) (i : ℕ) (d : Domain) → AllZip InDomain values ds → slice_get ds i ≡ Some d → InDomain (slice_index values i) d
+zip_sits : (values : List ℕ) (ds : List Domain) (i : ℕ) (d : Domain) → AllZip InDomain values ds → slice_get ds i ≡ Some d
+    → InDomain (slice_index values i) d
 zip_sits [] [] i d h e = absurd (cc e)
 zip_sits [] (c ∷ cs) i d h e = absurd h
 zip_sits (v ∷ vs) [] i d h e = absurd h
@@ -50,7 +53,8 @@ pub sits_left : (values : List ℕ) (xs ys : List Domain) (k : ℕ) → Sits val
 sits_left values xs ys k h i d e = h i d (get_left xs ys i d e)
 
 pub sits_right : (values : List ℕ) (xs ys : List Domain) (k m : ℕ) → m ≡ k + length xs → Sits values (xs ++ ys) k → Sits values ys m
-sits_right values xs ys k m e h i d g = subst (λ n. InDomain (slice_index values n) d) (omega arith) (h (length xs + i) d (get_right xs ys i (length xs + i) refl ∙ g))
+sits_right values xs ys k m e h i d g = subst (λ n. InDomain (slice_index values n) d) (omega arith)
+    (h (length xs + i) d (get_right xs ys i (length xs + i) refl ∙ g))
 
 length-places : {A B : Type 0} (f : ℕ → A → B) (i : ℕ) (xs : List A) → length (places_from f i xs) ≡ length xs
 length-places f i [] = refl
@@ -106,22 +110,28 @@ module _ (e : Ext) (o : Options) (values : List ℕ) where
     pub close : 1 ≤ end_of values p
 
   -- the domain of its instruction
-  pub instr_sits : (ie : Bool) (p : Placed) (d : Domain) → InDomains ie p → instr_domain (carries_truth e p.owner p.op p.op.results) p.op.kind ≡ Some d → InDomain (slice_index values p.first) d
+  pub instr_sits : (ie : Bool) (p : Placed) (d : Domain) → InDomains ie p
+      → instr_domain (carries_truth e p.owner p.op p.op.results) p.op.kind ≡ Some d → InDomain (slice_index values p.first) d
   instr_sits ie p d h q =
-      let first : slice_get (option_to_list (instr_domain (carries_truth e p.owner p.op p.op.results) p.op.kind)) 0 ≡ Some d = ap (λ (x : Option Domain). slice_get (option_to_list x) 0) q in
+      let first : slice_get (option_to_list (instr_domain (carries_truth e p.owner p.op p.op.results) p.op.kind)) 0 ≡ Some d =
+      ap (λ (x : Option Domain). slice_get (option_to_list x) 0) q in
       subst (λ k. InDomain (slice_index values k) d) (omega arith)
       (let a = instrs_d ie p.owner p.op in
       let b = option_to_list (cycle_domain (own_horizon p.owner) p.op.kind) in
       let c = map choice_domain (chosen_operands p.op) in
-      sits_left values a b p.first (sits_left values (a ++ b) c p.first (sits_left values (a ++ b ++ c) (regs_d ie p.owner p.op) p.first h.all)) 0 d first)
+      sits_left values a b p.first (sits_left values (a ++ b) c p.first
+      (sits_left values (a ++ b ++ c) (regs_d ie p.owner p.op) p.first h.all)) 0 d first)
 
-  pub get_places : {A B : Type 0} (f : ℕ → A → B) (xs : List A) (i k n : ℕ) (x : A) → n ≡ i + k → slice_get xs k ≡ Some x → slice_get (places_from f i xs) k ≡ Some (f n x)
+  pub get_places : {A B : Type 0} (f : ℕ → A → B) (xs : List A) (i k n : ℕ) (x : A) → n ≡ i + k → slice_get xs k ≡ Some x
+      → slice_get (places_from f i xs) k ≡ Some (f n x)
   get_places f [] i k n x m q = absurd (cc q)
-  get_places f (y ∷ ys) i zero n x m q = let same : y ≡ x = cc q in let place : i ≡ n = omega arith in ap (λ z. Some (f i z)) same ∙ ap (λ j. Some (f j x)) place
+  get_places f (y ∷ ys) i zero n x m q = let same : y ≡ x = cc q in let place : i ≡ n = omega arith in ap (λ z. Some (f i z)) same
+      ∙ ap (λ j. Some (f j x)) place
   get_places f (y ∷ ys) i (suc k) n x m q = get_places f ys (i + 1) k n x (omega arith) q
 
   -- the domain of the register of its result at place k
-  pub register_sits : (ie : Bool) (p : Placed) (k : ℕ) (x : TempId) → InDomains ie p → slice_get p.op.results k ≡ Some x → InDomain (slice_index values (p.first + register_place p.op + k)) (result_domain e o ie p.owner p.op k x)
+  pub register_sits : (ie : Bool) (p : Placed) (k : ℕ) (x : TempId) → InDomains ie p → slice_get p.op.results k ≡ Some x
+      → InDomain (slice_index values (p.first + register_place p.op + k)) (result_domain e o ie p.owner p.op k x)
   register_sits ie p k x h q =
       let a = instrs_d ie p.owner p.op in
       let b = option_to_list (cycle_domain (own_horizon p.owner) p.op.kind) in
@@ -141,7 +151,8 @@ module _ (e : Ext) (o : Options) (values : List ℕ) where
   get_map f (y ∷ ys) (suc k) x q = get_map f ys k x q
 
   -- the domain of its choice at place j
-  pub choice_sits : (ie : Bool) (p : Placed) (j : ℕ) (x : Operand) → InDomains ie p → slice_get (chosen_operands p.op) j ≡ Some x → InDomain (slice_index values (p.first + choice_place p.op + j)) (choice_domain x)
+  pub choice_sits : (ie : Bool) (p : Placed) (j : ℕ) (x : Operand) → InDomains ie p → slice_get (chosen_operands p.op) j ≡ Some x
+      → InDomain (slice_index values (p.first + choice_place p.op + j)) (choice_domain x)
   choice_sits ie p j x h q =
       let a = instrs_d ie p.owner p.op in
       let b = option_to_list (cycle_domain (own_horizon p.owner) p.op.kind) in
@@ -149,21 +160,32 @@ module _ (e : Ext) (o : Options) (values : List ℕ) where
       let la = length-instr (carries_truth e p.owner p.op p.op.results) p.op.kind in
       let lb = length-cycle (own_horizon p.owner) p.op.kind in
       let e3 = length-append a b in
-      sits_right values (a ++ b) c p.first (p.first + choice_place p.op) (omega arith) (sits_left values (a ++ b ++ c) (regs_d ie p.owner p.op) p.first h.all) j (choice_domain x) (get_map choice_domain (chosen_operands p.op) j x q)
+      sits_right values (a ++ b) c p.first (p.first + choice_place p.op) (omega arith)
+      (sits_left values (a ++ b ++ c) (regs_d ie p.owner p.op) p.first h.all) j (choice_domain x)
+      (get_map choice_domain (chosen_operands p.op) j x q)
 
-  placed_sit : (ie : Bool) (b : ℕ) (owner : ExtBlock) (close : VarId) (n first : ℕ) (ops : List ExtOp) → Sits values (ops_domains e o ie owner (own_horizon owner) ops) first → 1 ≤ value_of values close → Each (InDomains ie) (placed b owner close n first ops)
+  placed_sit : (ie : Bool) (b : ℕ) (owner : ExtBlock) (close : VarId) (n first : ℕ) (ops : List ExtOp)
+      → Sits values (ops_domains e o ie owner (own_horizon owner) ops) first → 1 ≤ value_of values close
+      → Each (InDomains ie) (placed b owner close n first ops)
   placed_sit ie b owner close n first [] h le = tt
   placed_sit ie b owner close n first (op ∷ ops) h le =
       let here = op_domains e o ie owner (own_horizon owner) op in
       let rest = ops_domains e o ie owner (own_horizon owner) ops in
-      let l = length-op_domains ie owner (own_horizon owner) op in
-      (record { all = sits_left values here rest first h; close = le }, placed_sit ie b owner close (n + 1) (first + var_count op) ops (sits_right values here rest first (first + var_count op) (omega arith) h) le)
+      let l = length-op_domains ie owner (own_horizon owner) op in (
+        record { all = sits_left values here rest first h; close = le },
+        placed_sit ie b owner close (n + 1) (first + var_count op) ops
+            (sits_right values here rest first (first + var_count op) (omega arith) h) le,
+      )
 
-  pub length-ops_domains : (ie : Bool) (block : ExtBlock) (h : ℕ) (ops : List ExtOp) → length (ops_domains e o ie block h ops) ≡ ops_count ops
+  pub length-ops_domains : (ie : Bool) (block : ExtBlock) (h : ℕ) (ops : List ExtOp)
+      → length (ops_domains e o ie block h ops) ≡ ops_count ops
   length-ops_domains ie block h [] = refl
-  length-ops_domains ie block h (op ∷ ops) = length-append (op_domains e o ie block h op) (ops_domains e o ie block h ops) ∙ ap (λ n. n + length (ops_domains e o ie block h ops)) (length-op_domains ie block h op) ∙ ap (λ n. var_count op + n) (length-ops_domains ie block h ops)
+  length-ops_domains ie block h (op ∷ ops) = length-append (op_domains e o ie block h op) (ops_domains e o ie block h ops)
+      ∙ ap (λ n. n + length (ops_domains e o ie block h ops)) (length-op_domains ie block h op)
+      ∙ ap (λ n. var_count op + n) (length-ops_domains ie block h ops)
 
-  block_sit : (ie : Bool) (b n first : ℕ) (block : ExtBlock) → Sits values (block_domains e o ie (own_horizon block) block) first → Each (InDomains ie) (block_placed b n first block)
+  block_sit : (ie : Bool) (b n first : ℕ) (block : ExtBlock) → Sits values (block_domains e o ie (own_horizon block) block) first
+      → Each (InDomains ie) (block_placed b n first block)
   block_sit ie b n first block h =
       let ds = ops_domains e o ie block (own_horizon block) block.ops in
       let l = length-ops_domains ie block (own_horizon block) block.ops in
@@ -171,22 +193,26 @@ module _ (e : Ext) (o : Options) (values : List ℕ) where
       let range = last 0 (Range 1 (own_horizon block)) refl in
       let e0 : first + ops_count block.ops + 0 ≡ first + ops_count block.ops = omega arith in
       let le : 1 ≤ slice_index values (first + ops_count block.ops) = subst (λ k. 1 ≤ slice_index values k) e0 range.0 in
-      placed_sit ie b block (var_at (first + ops_count block.ops)) n first block.ops (sits_left values ds (Range 1 (own_horizon block) ∷ []) first h) le
+      placed_sit ie b block (var_at (first + ops_count block.ops)) n first block.ops
+      (sits_left values ds (Range 1 (own_horizon block) ∷ []) first h) le
 
   pub length-block : (ie : Bool) (block : ExtBlock) → length (block_domains e o ie (own_horizon block) block) ≡ block_count block
-  length-block ie block = length-append (ops_domains e o ie block (own_horizon block) block.ops) (Range 1 (own_horizon block) ∷ []) ∙ ap (λ n. n + 1) (length-ops_domains ie block (own_horizon block) block.ops)
+  length-block ie block = length-append (ops_domains e o ie block (own_horizon block) block.ops) (Range 1 (own_horizon block) ∷ [])
+      ∙ ap (λ n. n + 1) (length-ops_domains ie block (own_horizon block) block.ops)
 
   -- whether an operation is of the entry
   abbrev pub in_entry : Placed → Bool
   in_entry p = nat_eq p.block 0
 
-  entry_of : (ie : Bool) (b : ℕ) (owner : ExtBlock) (close : VarId) (n first : ℕ) (ops : List ExtOp) → ie ≡ nat_eq b 0 → Each (InDomains ie) (placed b owner close n first ops) → Each (λ p. InDomains (in_entry p) p) (placed b owner close n first ops)
+  entry_of : (ie : Bool) (b : ℕ) (owner : ExtBlock) (close : VarId) (n first : ℕ) (ops : List ExtOp) → ie ≡ nat_eq b 0
+      → Each (InDomains ie) (placed b owner close n first ops) → Each (λ p. InDomains (in_entry p) p) (placed b owner close n first ops)
   entry_of ie b owner close n first [] q h = tt
   entry_of ie b owner close n first (op ∷ ops) q h =
       let p : Placed = record { block = b; owner = owner; close = close; number = n; first = first; op = op } in
       (subst (λ i. InDomains i p) q h.0, entry_of ie b owner close (n + 1) (first + var_count op) ops q h.1)
 
-  pub all_sit : (ie : Bool) (b n first : ℕ) (blocks : List ExtBlock) → ie ≡ nat_eq b 0 → Sits values (blocks_domains e o own_horizon ie blocks) first → Each (λ p. InDomains (in_entry p) p) (blocks_placed b n first blocks)
+  pub all_sit : (ie : Bool) (b n first : ℕ) (blocks : List ExtBlock) → ie ≡ nat_eq b 0
+      → Sits values (blocks_domains e o own_horizon ie blocks) first → Each (λ p. InDomains (in_entry p) p) (blocks_placed b n first blocks)
   all_sit ie b n first [] q h = tt
   all_sit ie b n first (block ∷ blocks) q h =
       let here = block_domains e o ie (own_horizon block) block in
@@ -194,22 +220,26 @@ module _ (e : Ext) (o : Options) (values : List ℕ) where
       let l = length-block ie block in
       let close = var_at (first + ops_count block.ops) in
       let later : false ≡ nat_eq (b + 1) 0 = grind arith in
-      each_join (λ p. InDomains (in_entry p) p) (block_placed b n first block) (blocks_placed (b + 1) (n + length block.ops) (first + block_count block) blocks)
+      each_join (λ p. InDomains (in_entry p) p) (block_placed b n first block)
+      (blocks_placed (b + 1) (n + length block.ops) (first + block_count block) blocks)
       (entry_of ie b block close n first block.ops q (block_sit ie b n first block (sits_left values here rest first h)))
-      (all_sit false (b + 1) (n + length block.ops) (first + block_count block) blocks later (sits_right values here rest first (first + block_count block) (omega arith) h))
+      (all_sit false (b + 1) (n + length block.ops) (first + block_count block) blocks later
+      (sits_right values here rest first (first + block_count block) (omega arith) h))
 
   length-blocks : (ie : Bool) (blocks : List ExtBlock) → length (blocks_domains e o own_horizon ie blocks) ≡ blocks_count blocks
   length-blocks ie [] = refl
   length-blocks ie (block ∷ blocks) =
       length-append (block_domains e o ie (own_horizon block) block) (blocks_domains e o own_horizon false blocks)
-      ∙ ap (λ n. n + length (blocks_domains e o own_horizon false blocks)) (length-block ie block) ∙ ap (λ n. block_count block + n) (length-blocks false blocks)
+      ∙ ap (λ n. n + length (blocks_domains e o own_horizon false blocks)) (length-block ie block)
+      ∙ ap (λ n. block_count block + n) (length-blocks false blocks)
 
   -- the frame flag is 0 or 1
   pub flag_sits : KeepsDomains (domains_of own_horizon e o) values → slice_index values (blocks_count e.blocks) ≤ 1
   flag_sits h =
       let ds = blocks_domains e o own_horizon true e.blocks in
       let l = length-blocks true e.blocks in
-      let last = sits_right values ds (Range 0 1 ∷ []) 0 (blocks_count e.blocks) (omega arith) (keeps_sits values (domains_of own_horizon e o) h) in
+      let last = sits_right values ds (Range 0 1 ∷ []) 0 (blocks_count e.blocks) (omega arith)
+      (keeps_sits values (domains_of own_horizon e o) h) in
       let z = last 0 (Range 0 1) refl in
       let e0 : blocks_count e.blocks + 0 ≡ blocks_count e.blocks = omega arith in
       subst (λ k. slice_index values k ≤ 1) e0 z.1

@@ -69,7 +69,8 @@ small_domains = refl
 
 -- the copy carries the value that it reads
 small_temps : (let x : TempVars = record { op = record { 0 = 1 }; value = temp 0; reg = record { 0 = 1 } } in
-    let d : TempVars = record { op = record { 0 = 2 }; value = temp 0; reg = record { 0 = 4 } } in blocks_temps 0 0 small.blocks ≡ x ∷ d ∷ [])
+    let d : TempVars = record { op = record { 0 = 2 }; value = temp 0; reg = record { 0 = 4 } } in blocks_temps 0 0 small.blocks ≡ x ∷
+    d ∷ [])
 small_temps = refl
 
 -- the constant in cycle 1 in r0, the copy a Spill into the first slot in cycle 2

@@ -1,5 +1,6 @@
 -- Loops over lists: what is made so far, and what is made of the rest, are the whole.
-use Rattle.std.proofs.Common.{◌≡◌, ℕ, ◌+◌, ◌≤◌, ◌⊎◌, inl, inr, zero, suc, Bool, true, false, List, [], ◌∷◌, ◌++◌, length, map, drop, min, Some, slice_get, refl, ap, ◌∙◌, sym, append_assoc, length-append, add-one, arith}
+use Rattle.std.proofs.Common.{◌≡◌, ℕ, ◌+◌, ◌≤◌, ◌⊎◌, inl, inr, zero, suc, Bool, true, false, List, [], ◌∷◌, ◌++◌, length, map, drop, min}
+use Rattle.std.proofs.Common.{Some, slice_get, refl, ap, ◌∙◌, sym, append_assoc, length-append, add-one, arith}
 use Rattle.std.specs.Prelude.{◌||◌}
 use Rattle.std.specs.List.{list_any}
 use Rattle.std.proofs.lemmas.Bool.{cases_lt}

@@ -30,7 +30,8 @@ carried_at _ s = s.temp
 abbrev pub spot_carried : Spot → TempId
 spot_carried s = carried_at s.definer.op.kind s
 
-carried_op : (kind : ExtKind) (p : Placed) (i : ℕ) (xs : List TempId) → map (carried_at kind) (places_from (spot p) i xs) ≡ carried_by kind (record { kind = kind; operands = p.op.operands; results = xs })
+carried_op : (kind : ExtKind) (p : Placed) (i : ℕ) (xs : List TempId)
+    → map (carried_at kind) (places_from (spot p) i xs) ≡ carried_by kind (record { kind = kind; operands = p.op.operands; results = xs })
 carried_op kind p i [] = none kind
   where
     none : (k : ExtKind) → [] ≡ carried_by k (record { kind = k; operands = p.op.operands; results = [] })
@@ -38,12 +39,15 @@ carried_op kind p i [] = none kind
     none _ = refl
 carried_op kind p i (x ∷ xs) = more kind (carried_op kind p (i + 1) xs)
   where
-    more : (k : ExtKind) → map (carried_at k) (places_from (spot p) (i + 1) xs) ≡ carried_by k (record { kind = k; operands = p.op.operands; results = xs })
-        → carried_at k (spot p i x) ∷ map (carried_at k) (places_from (spot p) (i + 1) xs) ≡ carried_by k (record { kind = k; operands = p.op.operands; results = x ∷ xs })
+    more : (k : ExtKind) → map (carried_at k) (places_from (spot p) (i + 1) xs) ≡ carried_by k
+        (record { kind = k; operands = p.op.operands; results = xs })
+        → carried_at k (spot p i x) ∷ map (carried_at k) (places_from (spot p) (i + 1) xs) ≡ carried_by k
+        (record { kind = k; operands = p.op.operands; results = x ∷ xs })
     more (Copy node) h = ap (λ ys. first_read p.op.operands ∷ ys) h
     more _ h = ap (λ ys. x ∷ ys) h
 
-placed_carried : (b : ℕ) (owner : ExtBlock) (close : VarId) (n first : ℕ) (ops : List ExtOp) → map spot_carried (all_spots (placed b owner close n first ops)) ≡ flat_map (λ (op : ExtOp). carried_by op.kind op) ops
+placed_carried : (b : ℕ) (owner : ExtBlock) (close : VarId) (n first : ℕ) (ops : List ExtOp)
+    → map spot_carried (all_spots (placed b owner close n first ops)) ≡ flat_map (λ (op : ExtOp). carried_by op.kind op) ops
 placed_carried b owner close n first [] = refl
 placed_carried b owner close n first (op ∷ ops) =
     let p : Placed = record { block = b; owner = owner; close = close; number = n; first = first; op = op } in
@@ -52,11 +56,15 @@ placed_carried b owner close n first (op ∷ ops) =
     ∙ ap (λ xs. xs ++ map spot_carried (all_spots rest)) (own op.kind 0 op.results ∙ carried_op op.kind p 0 op.results)
     ∙ ap (λ xs. carried_by op.kind op ++ xs) (placed_carried b owner close (n + 1) (first + var_count op) ops)
   where
-    own : (kind : ExtKind) (i : ℕ) (xs : List TempId) → let p : Placed = record { block = b; owner = owner; close = close; number = n; first = first; op = op } in map spot_carried (places_from (spot p) i xs) ≡ map (carried_at op.kind) (places_from (spot p) i xs)
+    own : (kind : ExtKind) (i : ℕ) (xs : List TempId) → let p : Placed =
+        record { block = b; owner = owner; close = close; number = n; first = first; op = op } in
+        map spot_carried (places_from (spot p) i xs) ≡ map (carried_at op.kind) (places_from (spot p) i xs)
     own kind i [] = refl
-    own kind i (x ∷ xs) = let p : Placed = record { block = b; owner = owner; close = close; number = n; first = first; op = op } in ap (λ ys. carried_at op.kind (spot p i x) ∷ ys) (own kind (i + 1) xs)
+    own kind i (x ∷ xs) = let p : Placed = record { block = b; owner = owner; close = close; number = n; first = first; op = op } in
+        ap (λ ys. carried_at op.kind (spot p i x) ∷ ys) (own kind (i + 1) xs)
 
-pub carried_are : (b n first : ℕ) (blocks : List ExtBlock) → map spot_carried (all_spots (blocks_placed b n first blocks)) ≡ all_carried blocks
+pub carried_are : (b n first : ℕ) (blocks : List ExtBlock) → map spot_carried (all_spots (blocks_placed b n first blocks)) ≡ all_carried
+    blocks
 carried_are b n first [] = refl
 carried_are b n first (block ∷ blocks) =
     let here = block_placed b n first block in
@@ -64,7 +72,8 @@ carried_are b n first (block ∷ blocks) =
     ap (map spot_carried) (joined_map-append spots_of here rest)
     ∙ map-append spot_carried (all_spots here) (all_spots rest)
     ∙ ap (λ xs. xs ++ map spot_carried (all_spots rest)) (placed_carried b block (var_at (first + ops_count block.ops)) n first block.ops)
-    ∙ ap (λ xs. flat_map (λ (op : ExtOp). carried_by op.kind op) block.ops ++ xs) (carried_are (b + 1) (n + length block.ops) (first + block_count block) blocks)
+    ∙ ap (λ xs. flat_map (λ (op : ExtOp). carried_by op.kind op) block.ops ++ xs)
+    (carried_are (b + 1) (n + length block.ops) (first + block_count block) blocks)
 
 -- ---- kinds
 
@@ -78,13 +87,16 @@ kinds_at names p = defined_kinds names p.owner p.op.kind p.op
 abbrev pub spot_kind : List Kind → Spot → Kind
 spot_kind names s = kind_or (kinds_at names s.definer) s.place
 
-read_off : (names : List Kind) (p : Placed) (ks : List Kind) (before : List Kind) (xs : List TempId) (i : ℕ) → kinds_at names p ≡ before ++ ks → length before ≡ i → length ks ≡ length xs → map (spot_kind names) (places_from (spot p) i xs) ≡ ks
+read_off : (names : List Kind) (p : Placed) (ks : List Kind) (before : List Kind) (xs : List TempId) (i : ℕ)
+    → kinds_at names p ≡ before ++ ks → length before ≡ i → length ks ≡ length xs → map (spot_kind names) (places_from (spot p) i xs) ≡ ks
 read_off names p [] before [] i e l n = refl
 read_off names p [] before (x ∷ xs) i e l n = absurd (omega arith)
 read_off names p (k ∷ ks) before [] i e l n = absurd (omega arith)
 read_off names p (k ∷ ks) before (x ∷ xs) i e l n =
-    ap (λ (y : Kind). y ∷ map (spot_kind names) (places_from (spot p) (i + 1) xs)) (ap (λ (zs : List Kind). kind_or zs i) e ∙ middle before i l)
-    ∙ ap (λ ys. k ∷ ys) (read_off names p ks (before ++ k ∷ []) xs (i + 1) (e ∙ sym (append_assoc before (k ∷ []) ks)) (length-append before (k ∷ []) ∙ ap (λ m. m + 1) l) (omega arith))
+    ap (λ (y : Kind). y ∷ map (spot_kind names) (places_from (spot p) (i + 1) xs))
+    (ap (λ (zs : List Kind). kind_or zs i) e ∙ middle before i l)
+    ∙ ap (λ ys. k ∷ ys) (read_off names p ks (before ++ k ∷ []) xs (i + 1) (e ∙ sym (append_assoc before (k ∷ []) ks))
+    (length-append before (k ∷ []) ∙ ap (λ m. m + 1) l) (omega arith))
   where
     middle : (bs : List Kind) (i : ℕ) → length bs ≡ i → kind_or (bs ++ k ∷ ks) i ≡ k
     middle [] zero e = refl
@@ -96,8 +108,10 @@ read_off names p (k ∷ ks) before (x ∷ xs) i e l n =
 abbrev pub FitKinds : List Kind → Placed → Type 0
 FitKinds names p = length (kinds_at names p) ≡ length p.op.results
 
-placed_kinds : (names : List Kind) (b : ℕ) (owner : ExtBlock) (close : VarId) (n first : ℕ) (ops : List ExtOp) → Each (FitKinds names) (placed b owner close n first ops)
-    → map (spot_kind names) (all_spots (placed b owner close n first ops)) ≡ flat_map (λ (op : ExtOp). defined_kinds names owner op.kind op) ops
+placed_kinds : (names : List Kind) (b : ℕ) (owner : ExtBlock) (close : VarId) (n first : ℕ) (ops : List ExtOp)
+    → Each (FitKinds names) (placed b owner close n first ops)
+    → map (spot_kind names) (all_spots (placed b owner close n first ops)) ≡ flat_map (λ (op : ExtOp). defined_kinds names owner op.kind op)
+    ops
 placed_kinds names b owner close n first [] h = refl
 placed_kinds names b owner close n first (op ∷ ops) h =
     let p : Placed = record { block = b; owner = owner; close = close; number = n; first = first; op = op } in
@@ -106,7 +120,8 @@ placed_kinds names b owner close n first (op ∷ ops) h =
     ∙ ap (λ xs. xs ++ map (spot_kind names) (all_spots rest)) (read_off names p (kinds_at names p) [] op.results 0 refl refl h.0)
     ∙ ap (λ xs. defined_kinds names owner op.kind op ++ xs) (placed_kinds names b owner close (n + 1) (first + var_count op) ops h.1)
 
-pub kinds_are : (names : List Kind) (b n first : ℕ) (blocks : List ExtBlock) → Each (FitKinds names) (blocks_placed b n first blocks) → map (spot_kind names) (all_spots (blocks_placed b n first blocks)) ≡ all_kinds names blocks
+pub kinds_are : (names : List Kind) (b n first : ℕ) (blocks : List ExtBlock) → Each (FitKinds names) (blocks_placed b n first blocks)
+    → map (spot_kind names) (all_spots (blocks_placed b n first blocks)) ≡ all_kinds names blocks
 kinds_are names b n first [] h = refl
 kinds_are names b n first (block ∷ blocks) h =
     let here = block_placed b n first block in
@@ -114,21 +129,27 @@ kinds_are names b n first (block ∷ blocks) h =
     let parts = each_append (FitKinds names) here rest h in
     ap (map (spot_kind names)) (joined_map-append spots_of here rest)
     ∙ map-append (spot_kind names) (all_spots here) (all_spots rest)
-    ∙ ap (λ xs. xs ++ map (spot_kind names) (all_spots rest)) (placed_kinds names b block (var_at (first + ops_count block.ops)) n first block.ops parts.0)
-    ∙ ap (λ xs. flat_map (λ (op : ExtOp). defined_kinds names block op.kind op) block.ops ++ xs) (kinds_are names (b + 1) (n + length block.ops) (first + block_count block) blocks parts.1)
+    ∙ ap (λ xs. xs ++ map (spot_kind names) (all_spots rest)) (placed_kinds names b block (var_at (first + ops_count block.ops)) n first
+    block.ops parts.0)
+    ∙ ap (λ xs. flat_map (λ (op : ExtOp). defined_kinds names block op.kind op) block.ops ++ xs)
+    (kinds_are names (b + 1) (n + length block.ops) (first + block_count block) blocks parts.1)
 
 -- ---- by temporaries
 
-module _ (e : Ext) (o : Options) (values : List ℕ) (numbered : all_results e.blocks ≡ map temp (range_with_len 0 (length (all_results e.blocks)))) (fit : Each (FitKinds e.names) (blocks_placed 0 0 0 e.blocks)) where
+module _ (e : Ext) (o : Options) (values : List ℕ) (numbered : all_results e.blocks ≡ map temp
+    (range_with_len 0 (length (all_results e.blocks)))) (fit : Each (FitKinds e.names) (blocks_placed 0 0 0 e.blocks)) where
   -- what a result carries
   pub carried_is : (s : Spot) → Member s (spots e o values) → carried e.blocks s.temp ≡ spot_carried s
   carried_is s m = ap (λ (x : Option TempId). unwrap_or x s.temp) (
-      ap (λ xs. slice_get xs s.temp.0) (sym (carried_are 0 0 0 e.blocks)) ∙ slice_get-map spot_carried (spots e o values) s.temp.0 ∙ ap (option_map spot_carried) (spot_here e o values numbered s m))
+      ap (λ xs. slice_get xs s.temp.0) (sym (carried_are 0 0 0 e.blocks)) ∙ slice_get-map spot_carried (spots e o values) s.temp.0
+      ∙ ap (option_map spot_carried) (spot_here e o values numbered s m))
 
   -- the kind of a result that no copy gives
   pub kind_listed : (s : Spot) → Member s (spots e o values) → slice_get (all_kinds e.names e.blocks) s.temp.0 ≡ Some (spot_kind e.names s)
   kind_listed s m =
-      ap (λ xs. slice_get xs s.temp.0) (sym (kinds_are e.names 0 0 0 e.blocks fit)) ∙ slice_get-map (spot_kind e.names) (spots e o values) s.temp.0 ∙ ap (option_map (spot_kind e.names)) (spot_here e o values numbered s m)
+      ap (λ xs. slice_get xs s.temp.0) (sym (kinds_are e.names 0 0 0 e.blocks fit))
+      ∙ slice_get-map (spot_kind e.names) (spots e o values) s.temp.0
+      ∙ ap (option_map (spot_kind e.names)) (spot_here e o values numbered s m)
 
   -- the kind of the temporary with a number
   abbrev pub kind_at : ℕ → Kind
@@ -137,7 +158,8 @@ module _ (e : Ext) (o : Options) (values : List ℕ) (numbered : all_results e.b
   -- the kind of what is not a copy's
   pub own_kind : (s : Spot) → Member s (spots e o values) → spot_carried s ≡ s.temp → kind_at s.temp.0 ≡ spot_kind e.names s
   own_kind s m c =
-      ap (λ (x : TempId). unwrap_or (slice_get (all_kinds e.names e.blocks) x.0) General) (carried_is s m ∙ c) ∙ ap (λ (x : Option Kind). unwrap_or x General) (kind_listed s m)
+      ap (λ (x : TempId). unwrap_or (slice_get (all_kinds e.names e.blocks) x.0) General) (carried_is s m ∙ c)
+      ∙ ap (λ (x : Option Kind). unwrap_or x General) (kind_listed s m)
 
   -- two temporaries that carry one value have one kind
   pub same_kind : (x y : TempId) → carried e.blocks x ≡ carried e.blocks y → kind_at x.0 ≡ kind_at y.0

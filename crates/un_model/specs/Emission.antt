@@ -1,6 +1,7 @@
 -- The code of a solution: which instructions issue in each cycle of a block, how large the frame is, and where the values at a
 -- block's start stand.
-use Rattle.std.specs.Prelude.{ℕ, ◌+◌, ◌-◌, ◌*◌, ◌/◌, ◌==◌, ◌&&◌, nat_le, ℤ, pos, neg_ℤ, if◌then◌else◌, List, [], ◌∷◌, Option, Some, None, map, fold, max, slice_get}
+use Rattle.std.specs.Prelude.{ℕ, ◌+◌, ◌-◌, ◌*◌, ◌/◌, ◌==◌, ◌&&◌, nat_le, ℤ, pos, neg_ℤ, if◌then◌else◌, List, [], ◌∷◌, Option, Some, None}
+use Rattle.std.specs.Prelude.{map, fold, max, slice_get}
 use Rattle.std.specs.List.{range_with_len, position_or_len, zip}
 use Rattle.std.specs.Option.{option_map, option_to_list}
 use Rattle.un_base.specs.declared.ids.BlockId.{BlockId}

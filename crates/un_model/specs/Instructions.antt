@@ -5,7 +5,8 @@ use Rattle.un_isa.specs.declared.facts.Class.{Class}
 use Rattle.un_isa.specs.declared.facts.Class.TheVariants.{Control}
 use Rattle.un_isa.specs.Tables.{number_of, latency_of}
 use Rattle.un_isa.specs.declared.op.Op.{Op}
-use Rattle.un_isa.specs.declared.op.Op.TheVariants.{Mov, Call as CallOp, Jump as JumpOp, JumpIf, JumpIfNot, Jumpr, Spill, Reload, P2R, R2P, Enter as EnterOp, Leave as LeaveOp}
+use Rattle.un_isa.specs.declared.op.Op.TheVariants.{Mov, Call as CallOp, Jump as JumpOp, JumpIf, JumpIfNot, Jumpr, Spill, Reload, P2R, R2P}
+use Rattle.un_isa.specs.declared.op.Op.TheVariants.{Enter as EnterOp, Leave as LeaveOp}
 use Rattle.un_isa.specs.declared.reg.Space.{Space}
 use Rattle.un_isa.specs.declared.reg.Space.TheVariants.{P, M}
 use Rattle.un_isa.specs.declared.table.Needs.{Needs}

@@ -1,3 +1,5 @@
+pub mod ArcLaws
+pub mod Arcs
 pub mod Congruences
 pub mod Cost
 pub mod Emission

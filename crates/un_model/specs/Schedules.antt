@@ -1,5 +1,6 @@
 -- A solution read as a schedule.
-use Rattle.std.specs.Prelude.{ℕ, ◌-◌, Bool, true, false, ◌==◌, ◌&&◌, ◌||◌, if◌then◌else◌, List, [], Option, Some, None, is_some, unwrap_or, fold, max, slice_get}
+use Rattle.std.specs.Prelude.{ℕ, ◌-◌, Bool, true, false, ◌==◌, ◌&&◌, ◌||◌, if◌then◌else◌, List, [], Option, Some, None, is_some, unwrap_or}
+use Rattle.std.specs.Prelude.{fold, max, slice_get}
 use Rattle.std.specs.List.{list_all}
 use Rattle.un_base.specs.declared.ids.VarId.{VarId}
 use Rattle.un_base.specs.declared.ids.TempId.{TempId}

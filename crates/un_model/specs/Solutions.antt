@@ -1,5 +1,6 @@
 -- What a solution is: the ten clauses, each on the schedule that the values make.
-use Rattle.std.specs.Prelude.{ℕ, ◌≡◌, ◌+◌, ◌<◌, ◌≤◌, ◌↔◌, ◌⊎◌, nat_le, Bool, true, false, ◌==◌, ◌&&◌, ◌||◌, IsTrue, is_none, if◌then◌else◌, List, [], ◌∷◌, ◌++◌, Option, Some, None, All, AllPairs, Contains, IfSome, slice_get, sum_by}
+use Rattle.std.specs.Prelude.{ℕ, ◌≡◌, ◌+◌, ◌<◌, ◌≤◌, ◌↔◌, ◌⊎◌, nat_le, Bool, true, false, ◌==◌, ◌&&◌, ◌||◌, IsTrue, is_none, if◌then◌else◌}
+use Rattle.std.specs.Prelude.{List, [], ◌∷◌, ◌++◌, Option, Some, None, All, AllPairs, Contains, IfSome, slice_get, sum_by}
 use Rattle.std.specs.List.{AllZip, list_any}
 use Rattle.un_isa.specs.declared.op.Op.{Op}
 use Rattle.un_isa.specs.declared.op.Op.TheVariants.{Load, Store, Call, Spill, Reload, Enter, Leave}

@@ -1,5 +1,6 @@
 -- The variables of an extended function under options, with their domains.
-use Rattle.std.specs.Prelude.{ℕ, ◌≡◌, ◌+◌, ◌-◌, Bool, true, false, if◌then◌else◌, List, [], ◌∷◌, ◌++◌, Option, Some, None, map, length, slice_get, unwrap_or}
+use Rattle.std.specs.Prelude.{ℕ, ◌≡◌, ◌+◌, ◌-◌, Bool, true, false, if◌then◌else◌, List, [], ◌∷◌, ◌++◌, Option, Some, None, map, length}
+use Rattle.std.specs.Prelude.{slice_get, unwrap_or}
 use Rattle.std.specs.List.{range_with_len}
 use Rattle.std.specs.Option.{option_to_list}
 use Rattle.un_base.specs.declared.ids.TempId.{TempId}
@@ -21,6 +22,8 @@ use Rattle.un_model.specs.declared.model.TempVars.{TempVars}
 use Rattle.un_model.specs.declared.model.OpVars.{OpVars}
 use Rattle.un_model.specs.declared.model.BlockVars.{BlockVars}
 use Rattle.un_model.specs.declared.model.Model.{Model}
+use Rattle.un_model.specs.declared.model.Arc.{Arc}
+use Rattle.un_model.specs.Arcs.{blocks_arcs}
 use Rattle.un_model.specs.Instructions.{gives_truth}
 use Rattle.un_model.specs.Pairs.{places_from}
 use Rattle.un_model.specs.Registers.{result_home, is_truth, predicate_registers, general_registers, value_registers, with_zero, reg_at}
@@ -228,6 +231,10 @@ domains_of horizon e o = blocks_domains e o horizon true e.blocks ++ Range 0 1 �
 
 -- ---- the model
 
+-- the arcs of each block
+abbrev pub arcs_of : Ext → List (List Arc)
+arcs_of e = blocks_arcs e.table (blocks_temps 0 0 e.blocks) 0 e.blocks
+
 -- the model of an extended function under options
 abbrev pub model_of : Ext → Options → Model
 model_of e o = record {
@@ -237,6 +244,7 @@ model_of e o = record {
   temps = blocks_temps 0 0 e.blocks;
   blocks = blocks_vars 0 e.blocks;
   flag = var_at (blocks_count e.blocks);
+  arcs = arcs_of e;
 }
 
 -- it is the model of its own function under its own options

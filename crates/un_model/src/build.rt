@@ -7,8 +7,12 @@ ghost use Rattle.un_isa.specs.Registers.{saved_registers};
 ghost use Rattle.un_model.specs.Homes.{IsScope};
 ghost use Rattle.un_model.specs.Options.{AreOptions};
 ghost use Rattle.un_model.specs.Pairs.{places_from};
-ghost use Rattle.un_model.specs.Variables.{is_optional, has_cycle, has_choices, chosen_operands, register_place, var_at, var_if, op_vars, ops_vars, block_vars, blocks_vars, op_temps, ops_temps, blocks_temps, copy_domain, instr_domain, cycle_domain, choice_domain, result_domain, carries_truth, op_domains, ops_domains, block_domains, blocks_domains, own_horizon, IsModel, model_of};
+ghost use Rattle.un_model.specs.Variables.{is_optional, has_cycle, has_choices, chosen_operands, register_place, var_at, var_if, op_vars};
+ghost use Rattle.un_model.specs.Variables.{ops_vars, block_vars, blocks_vars, op_temps, ops_temps, blocks_temps, copy_domain, instr_domain};
+ghost use Rattle.un_model.specs.Variables.{cycle_domain, choice_domain, result_domain, carries_truth, op_domains, ops_domains};
+ghost use Rattle.un_model.specs.Variables.{block_domains, blocks_domains, own_horizon, IsModel, model_of};
 
+use crate::arcs::arcs;
 use crate::homes::homes;
 use crate::model::{BlockVars, Model, OpVars, Options, TempVars};
 use crate::numbers::{advance, number};
@@ -141,7 +145,8 @@ fn add_results(
     requires scope { IsScope scope.now.ext.now scope.now.is_entry scope.now.block.now scope.now.saved.now scope.now.homes.now }
     requires slots { scope.now.options.now.slots ≤ SLOTS }
     ensures domains { OnOk result
-        (domains.new ≡ domains.old ++ places_from (result_domain scope.now.ext.now scope.now.options.now scope.now.is_entry scope.now.block.now op.now) 0 op.now.results) }
+        (domains.new ≡ domains.old ++ places_from (result_domain scope.now.ext.now scope.now.options.now scope.now.is_entry
+        scope.now.block.now op.now) 0 op.now.results) }
     ensures temps { OnOk result (temps.new ≡ temps.old ++ op_temps n (length domains.old) op.now) }
 {
     for j in 0..op.results.len() {
@@ -180,7 +185,8 @@ fn add_op(
     requires scope { IsScope scope.now.ext.now scope.now.is_entry scope.now.block.now scope.now.saved.now scope.now.homes.now }
     requires slots { scope.now.options.now.slots ≤ SLOTS }
     ensures domains { OnOk result
-        (domains.new ≡ domains.old ++ op_domains scope.now.ext.now scope.now.options.now scope.now.is_entry scope.now.block.now scope.now.block.now.horizon op.now) }
+        (domains.new ≡ domains.old ++ op_domains scope.now.ext.now scope.now.options.now scope.now.is_entry scope.now.block.now
+        scope.now.block.now.horizon op.now) }
     ensures temps { OnOk result
         (temps.new ≡ temps.old ++ op_temps n (length domains.old + register_place op.now) op.now) }
     ensures vars { IfOk result (λ vars. vars ≡ op_vars (length domains.old) op.now) }
@@ -207,7 +213,8 @@ fn add_ops(
     requires scope { IsScope scope.now.ext.now scope.now.is_entry scope.now.block.now scope.now.saved.now scope.now.homes.now }
     requires slots { scope.now.options.now.slots ≤ SLOTS }
     ensures domains { OnOk result
-        (domains.new ≡ domains.old ++ ops_domains scope.now.ext.now scope.now.options.now scope.now.is_entry scope.now.block.now scope.now.block.now.horizon scope.now.block.now.ops) }
+        (domains.new ≡ domains.old ++ ops_domains scope.now.ext.now scope.now.options.now scope.now.is_entry scope.now.block.now
+        scope.now.block.now.horizon scope.now.block.now.ops) }
     ensures temps { OnOk result
         (temps.new ≡ temps.old ++ ops_temps first (length domains.old) scope.now.block.now.ops) }
     ensures vars { IfOk result
@@ -235,7 +242,8 @@ fn add_block(
     requires scope { IsScope scope.now.ext.now scope.now.is_entry scope.now.block.now scope.now.saved.now scope.now.homes.now }
     requires slots { scope.now.options.now.slots ≤ SLOTS }
     ensures domains { OnOk result
-        (domains.new ≡ domains.old ++ block_domains scope.now.ext.now scope.now.options.now scope.now.is_entry scope.now.block.now.horizon scope.now.block.now) }
+        (domains.new ≡ domains.old ++ block_domains scope.now.ext.now scope.now.options.now scope.now.is_entry scope.now.block.now.horizon
+        scope.now.block.now) }
     ensures temps { OnOk result
         (temps.new ≡ temps.old ++ ops_temps first (length domains.old) scope.now.block.now.ops) }
     ensures vars { IfOk result (λ vars. vars ≡ block_vars (length domains.old) scope.now.block.now) }
@@ -320,6 +328,7 @@ pub fn build(alloc: Global, e: &Ext, o: &Options) -> Result<Model, NoMemory>
     let mut temps = Items::new(alloc);
     let blocks = add_blocks(alloc, &mut domains, &mut temps, e, o)?;
     let flag = add(&mut domains, Domain::Range { lo: 0, hi: 1 })?;
+    let arcs = arcs(alloc, e, temps.as_slice())?;
     let ext = e.clone()?;
     Ok(Model {
         ext,
@@ -328,5 +337,6 @@ pub fn build(alloc: Global, e: &Ext, o: &Options) -> Result<Model, NoMemory>
         temps,
         blocks,
         flag,
+        arcs,
     })
 }

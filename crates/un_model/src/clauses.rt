@@ -2,7 +2,9 @@
 
 ghost use Rattle.std.specs.Prelude.{◌≡◌, ℕ, ◌+◌, ◌<◌, ◌≤◌, ◌↔◌, ◌⊎◌, IsTrue, true, All, Contains, IfSome, length, slice_get};
 ghost use Rattle.un_model.specs.Instructions.{latency_by, is_transfer, space_read, space_given};
-ghost use Rattle.un_model.specs.Solutions.{InDomain, KeepsDomains, IsIdleAtZero, IsZeroRange, IsLive, InSpace, ReadsInSpace, IsGivenInSpace, IsLast, IsWithin, IsPlacedAs, IsPlaced, LeavesGap, latency_gap, HasHome, ReadsHome};
+ghost use Rattle.un_model.specs.Solutions.{InDomain, KeepsDomains, IsIdleAtZero, IsZeroRange, IsLive, InSpace, ReadsInSpace};
+ghost use Rattle.un_model.specs.Solutions.{IsGivenInSpace, IsLast, IsWithin, IsPlacedAs, IsPlaced, LeavesGap, latency_gap, HasHome};
+ghost use Rattle.un_model.specs.Solutions.{ReadsHome};
 
 use crate::instructions::{is_transfer, latency, space_given, space_read};
 use crate::schedule::{Issue, LiveRange, Read};

@@ -1,12 +1,14 @@
 //! Whether values stand in one register where a block hands them over and where the next one takes them.
 
-ghost use Rattle.std.specs.Prelude.{◌≡◌, ℕ, ◌+◌, ◌-◌, ◌^◌, ◌<◌, ◌==◌, ◌↔◌, IsTrue, unwrap_or, if◌then◌else◌, List, IfOk, Some, None, is_none, Contains, length, slice_get};
+ghost use Rattle.std.specs.Prelude.{◌≡◌, ℕ, ◌+◌, ◌-◌, ◌^◌, ◌<◌, ◌==◌, ◌↔◌, IsTrue, unwrap_or, if◌then◌else◌, List, IfOk, Some, None};
+ghost use Rattle.std.specs.Prelude.{is_none, Contains, length, slice_get};
 ghost use Rattle.std.specs.List.{filter, position_or_len};
 ghost use Rattle.un_base.specs.declared.ids.TempId.{TempId};
 ghost use Rattle.un_ir.specs.declared.extended.ExtBlock.{ExtBlock};
 ghost use Rattle.un_ir.specs.declared.function.Term.{Term};
 ghost use Rattle.un_model.specs.declared.schedule.Read.{Read};
-ghost use Rattle.un_model.specs.Congruences.{term_or, term_of, results_of_start, live_in_temps, live_out_reads, place_by, place_over, register_of, register_read, KeepsCongruences};
+ghost use Rattle.un_model.specs.Congruences.{term_or, term_of, results_of_start, live_in_temps, live_out_reads, place_by, place_over};
+ghost use Rattle.un_model.specs.Congruences.{register_of, register_read, KeepsCongruences};
 ghost use Rattle.un_model.specs.Orders.{AllCongruent, HandsAll, AllHandOn};
 
 use crate::schedule::{LiveRange, Read, Schedule};

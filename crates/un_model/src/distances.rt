@@ -1,9 +1,11 @@
 //! Whether operations of a block are as far apart as their instructions ask: accesses to memory, and uses of the frame.
 
-ghost use Rattle.std.specs.Prelude.{◌≡◌, ℕ, ◌+◌, ◌<◌, ◌≤◌, ◌↔◌, IsTrue, IfOk, OnOk, Some, max, All, AllPairs, List, [], ◌∷◌, ◌++◌, length, get_or};
+ghost use Rattle.std.specs.Prelude.{◌≡◌, ℕ, ◌+◌, ◌<◌, ◌≤◌, ◌↔◌, IsTrue, IfOk, OnOk, Some, max, All, AllPairs, List, [], ◌∷◌, ◌++◌, length};
+ghost use Rattle.std.specs.Prelude.{get_or};
 ghost use Rattle.un_model.specs.declared.schedule.Issue.{Issue};
 ghost use Rattle.un_model.specs.Orders.{cycle_after, bound_for, AreBounds, HaveBounds, IsAfter, distance_of};
-ghost use Rattle.un_model.specs.Solutions.{after_write, after_load, memory_distance, after_enter, before_leave, frame_distance, Precedes, KeepsFrameOrder};
+ghost use Rattle.un_model.specs.Solutions.{after_write, after_load, memory_distance, after_enter, before_leave, frame_distance, Precedes};
+ghost use Rattle.un_model.specs.Solutions.{KeepsFrameOrder};
 
 use crate::schedule::Issue;
 use std::alloc::Global;
@@ -49,7 +51,7 @@ fn after_load(later: Option<Op>) -> Option<u32>
 }
 
 /// How far after an access to memory an instruction issues.
-fn memory_distance(earlier: Option<Op>, later: Option<Op>) -> Option<u32>
+pub(crate) fn memory_distance(earlier: Option<Op>, later: Option<Op>) -> Option<u32>
     ensures { result ≡ memory_distance earlier later }
 {
     match earlier {
@@ -169,7 +171,8 @@ fn no_bounds(alloc: Global, n: usize) -> Result<Vec<Bounds>, NoMemory>
 /// The bounds of all blocks after a further operation.
 fn add_issue(rule: Rule, table: &mut Vec<Bounds>, i: &Issue)
     requires { i.now.block.0 < length table.old.items }
-    ensures { (issues : List Issue) (n : ℕ) → HaveBounds rule issues n table.old.items → HaveBounds rule (issues ++ i.now ∷ []) n table.new.items }
+    ensures { (issues : List Issue) (n : ℕ) → HaveBounds rule issues n table.old.items
+        → HaveBounds rule (issues ++ i.now ∷ []) n table.new.items }
 {
     let b = i.block.0 as usize;
     table[b] = after(rule, &table[b], i);

@@ -5,7 +5,8 @@ ghost use Rattle.std.specs.List.{list_any};
 ghost use Rattle.un_base.specs.declared.ids.TempId.{TempId};
 ghost use Rattle.un_isa.specs.Registers.{saved_registers};
 ghost use Rattle.un_isa.specs.Tables.{in_mask};
-ghost use Rattle.un_model.specs.Homes.{mask_of, AddsMarks, is_mark, is_operand_mark, is_operands_mark, is_result_mark, is_results_mark, is_op_mark, is_block_mark, TellsHomes};
+ghost use Rattle.un_model.specs.Homes.{mask_of, AddsMarks, is_mark, is_operand_mark, is_operands_mark, is_result_mark, is_results_mark};
+ghost use Rattle.un_model.specs.Homes.{is_op_mark, is_block_mark, TellsHomes};
 
 use crate::registers::{gives_truth_at, result_home};
 use std::alloc::Global;

@@ -1,7 +1,9 @@
 //! What the operations of an extended function are as instructions.
 
 ghost use Rattle.std.specs.Prelude.{◌≡◌};
-ghost use Rattle.un_model.specs.Instructions.{transfer_of, copy_of, frame_instr, instruction_of, latency_by, width_by, needs_by, no_needs, is_control, is_transfer, operand_space_in, result_space_in, space_read, space_given, is_predicate_space, gives_truth};
+ghost use Rattle.un_model.specs.Instructions.{transfer_of, copy_of, frame_instr, instruction_of, latency_by, width_by, needs_by, no_needs};
+ghost use Rattle.un_model.specs.Instructions.{is_control, is_transfer, operand_space_in, result_space_in, space_read, space_given};
+ghost use Rattle.un_model.specs.Instructions.{is_predicate_space, gives_truth};
 
 use un_ir::extended::ExtKind;
 use un_ir::function::Term;
@@ -95,7 +97,7 @@ pub fn needs(t: &Table, op: Option<Op>) -> Needs
 }
 
 /// Whether an instruction is a control transfer that ends its block.
-pub(crate) fn is_transfer(op: Op) -> bool
+pub fn is_transfer(op: Op) -> bool
     ensures { result ≡ is_transfer op }
 {
     match op {

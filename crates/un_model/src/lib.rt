@@ -1,6 +1,7 @@
 //! The model of a function: its variables with their domains, its solutions and their cost.
 #![tactic(auto)]
 
+mod arcs;
 pub mod build;
 mod clauses;
 mod congruences;
@@ -12,7 +13,7 @@ pub mod instructions;
 pub mod model;
 pub mod numbers;
 mod occupations;
-mod packets;
+pub mod packets;
 pub mod placement;
 mod registers;
 pub mod schedule;

@@ -1,6 +1,8 @@
 //! Models and solutions.
 
-use un_base::ids::{OpId, TempId, VarId};
+ghost use Rattle.std.specs.Prelude.{◌≡◌, ◌<◌, length, slice_get, Some};
+
+use un_base::ids::{BlockId, OpId, TempId, VarId};
 use un_domains::domain::Domain;
 use un_ir::extended::Ext;
 use un_lists::items::Items;
@@ -39,7 +41,16 @@ pub struct BlockVars {
     pub end: VarId,
 }
 
-/// The variables of an extended function under some options. OpIds and TempIds are numbered over the whole function.
+/// A precedence between two operations of a block that every solution issues: `to` issues at least `gap` cycles after `from`.
+#[derive(Clone, Copy, Default, PartialEq, Eq)]
+pub struct Arc {
+    pub from: OpId,
+    pub to: OpId,
+    pub gap: u32,
+}
+
+/// The variables of an extended function under some options, and the arcs of each block. OpIds and TempIds are numbered over
+/// the whole function.
 #[derive(PartialEq, Eq, Drop)]
 pub struct Model {
     pub ext: Ext,
@@ -48,6 +59,17 @@ pub struct Model {
     pub temps: Items<TempVars>,
     pub blocks: Items<BlockVars>,
     pub flag: VarId,
+    pub arcs: Items<Items<Arc>>,
+}
+
+impl Model {
+    /// The arcs of block `b`: each pair of operations once, with its largest gap, by rising `to` and then rising `from`.
+    pub fn arcs(&self, b: BlockId) -> &[Arc]
+        requires { b.0 < length self.now.arcs }
+        ensures { slice_get self.now.arcs b.0 ≡ Some result.now }
+    {
+        self.arcs.get(b.0 as usize).as_slice()
+    }
 }
 
 /// A value for each variable, in the order of the model.

@@ -1,11 +1,14 @@
 //! How a solution is read as a schedule.
 
-ghost use Rattle.std.specs.Prelude.{◌≡◌, ◌==◌, ℕ, ◌+◌, ◌-◌, ◌<◌, ◌≤◌, List, [], ◌∷◌, ◌++◌, length, IfOk, OnOk, OnErr, max, map, slice_index, slice_get};
+ghost use Rattle.std.specs.Prelude.{◌≡◌, ◌==◌, ℕ, ◌+◌, ◌-◌, ◌<◌, ◌≤◌, List, [], ◌∷◌, ◌++◌, length, IfOk, OnOk, OnErr, max, map};
+ghost use Rattle.std.specs.Prelude.{slice_index, slice_get};
 ghost use Rattle.std.specs.List.{list_all};
 ghost use Rattle.un_model.specs.Cost.{value_of};
 ghost use Rattle.un_model.specs.Orders.{HasLastReads};
 ghost use Rattle.un_model.specs.Pairs.{places_from, pairs_from, joined, over_blocks};
-ghost use Rattle.un_model.specs.Schedules.{value_by, instr_of, cycle_by, cycle_of, is_delimiter, is_frame_op, is_active, is_zero, issue_of, block_issues, issues_of, chosen, choice_of, read_of, op_reads, reads_at, block_reads, reads_of, last_read, cycle_for, range_by, range_of, ranges_of, schedule_of};
+ghost use Rattle.un_model.specs.Schedules.{value_by, instr_of, cycle_by, cycle_of, is_delimiter, is_frame_op, is_active, is_zero, issue_of};
+ghost use Rattle.un_model.specs.Schedules.{block_issues, issues_of, chosen, choice_of, read_of, op_reads, reads_at, block_reads, reads_of};
+ghost use Rattle.un_model.specs.Schedules.{last_read, cycle_for, range_by, range_of, ranges_of, schedule_of};
 
 use crate::cost::value;
 use crate::instructions::instruction;
@@ -106,7 +109,7 @@ fn issue(values: &[u32], b: u32, end: u32, n: u32, op: &ExtOp, vars: &OpVars) ->
 }
 
 /// The temporary at place `c` of the alternatives.
-fn chosen(alts: &Items<TempId>, c: u32) -> TempId
+pub(crate) fn chosen(alts: &Items<TempId>, c: u32) -> TempId
     ensures { result ≡ chosen alts.now c }
 {
     alts.as_slice()

@@ -1,13 +1,17 @@
 //! The registers that a value may have.
 
-ghost use Rattle.std.specs.Prelude.{◌≡◌, ℕ, ◌+◌, ◌-◌, ◌<◌, ◌≤◌, ◌^◌, ◌||◌, if◌then◌else◌, ◌∷◌, ◌++◌, [], length, IfOk, OnOk, filter, slice_get, slice_index};
+ghost use Rattle.std.specs.Prelude.{◌≡◌, ℕ, ◌+◌, ◌-◌, ◌<◌, ◌≤◌, ◌^◌, ◌||◌, if◌then◌else◌, ◌∷◌, ◌++◌, [], length, IfOk, OnOk, filter};
+ghost use Rattle.std.specs.Prelude.{slice_get, slice_index};
 ghost use Rattle.std.specs.List.{range_with_len};
 ghost use Rattle.std.specs.Option.{option_map};
 ghost use Rattle.un_isa.specs.Registers.{saved_registers};
 ghost use Rattle.un_isa.specs.Tables.{in_mask};
-ghost use Rattle.un_model.specs.Registers.{is_assignable, reg_at, name_home, start_home, call_home, result_home, is_pred, is_pred_name, gives_truth_at, is_truth, predicate_registers, general_registers, value_registers, begins_with_zero, with_zero};
+ghost use Rattle.un_model.specs.Registers.{is_assignable, reg_at, name_home, start_home, call_home, result_home, is_pred, is_pred_name};
+ghost use Rattle.un_model.specs.Registers.{gives_truth_at, is_truth, predicate_registers, general_registers, value_registers};
+ghost use Rattle.un_model.specs.Registers.{begins_with_zero, with_zero};
 ghost use Rattle.un_model.specs.Homes.{mask_of, IsScope};
-ghost use Rattle.un_model.specs.Variables.{first_alternative, carried, home_domain, source_domain, start_domain, copy_registers, result_domain};
+ghost use Rattle.un_model.specs.Variables.{first_alternative, carried, home_domain, source_domain, start_domain, copy_registers};
+ghost use Rattle.un_model.specs.Variables.{result_domain};
 
 use crate::homes::{Homes, mask};
 use crate::instructions::gives_truth;
@@ -248,7 +252,8 @@ fn value_registers(alloc: Global, scope: &Scope<'_>, x: TempId) -> Result<Items<
     requires scope { IsScope scope.now.ext.now scope.now.is_entry scope.now.block.now scope.now.saved.now scope.now.homes.now }
     requires slots { scope.now.options.now.slots ≤ SLOTS }
     ensures { IfOk result
-        (λ registers. registers ≡ value_registers scope.now.ext.now scope.now.options.now.regs scope.now.options.now.slots scope.now.is_entry scope.now.block.now x) }
+        (λ registers. registers ≡ value_registers scope.now.ext.now scope.now.options.now.regs scope.now.options.now.slots
+        scope.now.is_entry scope.now.block.now x) }
 {
     let mut registers = general(alloc, scope, x)?;
     push_predicates(&mut registers, is_truth(scope, x))?;

@@ -3,7 +3,8 @@
 ghost use Rattle.std.specs.Prelude.{◌≡◌, ◌↔◌, ◌++◌, ◌∷◌, [], IsTrue, IfOk, OnOk, map, length};
 ghost use Rattle.un_model.specs.Congruences.{KeepsCongruences};
 ghost use Rattle.un_model.specs.Schedules.{schedule_of};
-ghost use Rattle.un_model.specs.Solutions.{latency_gap, KeepsRegisters, KeepsHomes, Tells, broken, broken_after, broken_clauses, IsSolution, ListsBroken};
+ghost use Rattle.un_model.specs.Solutions.{latency_gap, KeepsRegisters, KeepsHomes, Tells, broken, broken_after, broken_clauses};
+ghost use Rattle.un_model.specs.Solutions.{IsSolution, ListsBroken};
 ghost use Rattle.un_model.specs.Variables.{IsModel};
 
 use crate::clauses::{

@@ -20,7 +20,13 @@ named label = Some label
 
 -- an instruction: its operation, its register, its operands, its literal and its label
 abbrev pub i : Op → Option Reg → List ℕ → ℤ → Option (List ℕ) → Instr
-i op dst srcs imm label = record { op = op; dst = dst; srcs = map (λ (n : ℕ). let reg : Reg = record { 0 = n } in reg) srcs; imm = imm; label = label }
+i op dst srcs imm label = record {
+  op = op;
+  dst = dst;
+  srcs = map (λ (n : ℕ). let reg : Reg = record { 0 = n } in reg) srcs;
+  imm = imm;
+  label = label;
+}
 
 abbrev pub packet : List Instr → Packet
 packet is = record { instrs = is }

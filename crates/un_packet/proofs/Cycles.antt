@@ -21,7 +21,8 @@ put_by : (b v : ℕ) (ws : List (ℕ × ℕ)) (xs : List ℕ) → IsReadyBy b xs
 put_by b v [] xs h small = h
 put_by b v (w ∷ ws) xs h small = put_by b v ws (set xs w.0 v) (set_by b xs w.0 v h small) small
 
-after_by : (b : ℕ) (t : Table) (c : ℕ) (s : PacketState) (is : List Instr) (xs : List ℕ) → IsFit t → c + 2 ≤ b → IsReadyBy b xs → IsReadyBy b (ready_after t c s is xs)
+after_by : (b : ℕ) (t : Table) (c : ℕ) (s : PacketState) (is : List Instr) (xs : List ℕ) → IsFit t → c + 2 ≤ b → IsReadyBy b xs
+    → IsReadyBy b (ready_after t c s is xs)
 after_by b t c s [] xs fit room h = h
 after_by b t c s (i ∷ is) xs fit room h =
     let short = (fit.latencies i.op).1 in
@@ -50,7 +51,8 @@ soon s is h = record {
 looser : (a b : ℕ) (xs : List ℕ) → a ≤ b → IsReadyBy a xs → IsReadyBy b xs
 looser a b xs less h r = omega (arith, h r)
 
-pub still_ready : (t : Table) (s : PacketState) (is : List Instr) → IsFit t → IsReadyBy (s.cycle + 2) s.ready → IsReadyBy (issue_cycle s is + 2) (ready_after t (issue_cycle s is) s is s.ready)
+pub still_ready : (t : Table) (s : PacketState) (is : List Instr) → IsFit t → IsReadyBy (s.cycle + 2) s.ready
+    → IsReadyBy (issue_cycle s is + 2) (ready_after t (issue_cycle s is) s is s.ready)
 still_ready t s is fit h =
     let c = issue_cycle s is in
     let facts = soon s is h in
@@ -61,7 +63,8 @@ none_waits b zero r = omega arith
 none_waits b (suc n) zero = omega arith
 none_waits b (suc n) (suc r) = none_waits b n r
 
-each_by : (b : ℕ) (f : ℕ → ℕ → ℕ) → ((r v : ℕ) → v ≤ b → f r v ≤ b) → (r : ℕ) (xs : List ℕ) → IsReadyBy b xs → IsReadyBy b (each_from f r xs)
+each_by : (b : ℕ) (f : ℕ → ℕ → ℕ) → ((r v : ℕ) → v ≤ b → f r v ≤ b) → (r : ℕ) (xs : List ℕ) → IsReadyBy b xs
+    → IsReadyBy b (each_from f r xs)
 each_by b f h r [] small k = omega arith
 each_by b f h r (x ∷ xs) small zero = h r x (small zero)
 each_by b f h r (x ∷ xs) small (suc k) = each_by b f h (r + 1) xs (λ q. small (suc q)) k
@@ -71,4 +74,5 @@ call_by t c v true short h = omega arith
 call_by t c v false short h = h
 
 pub ready_by_call : (t : Table) (c : ℕ) (xs : List ℕ) → IsFit t → IsReadyBy (c + 2) xs → IsReadyBy (c + 2) (each_from (call_ready t c) 0 xs)
-ready_by_call t c xs fit h = each_by (c + 2) (call_ready t c) (λ r v small. call_by t c v (in_mask t.clobbered r) ((fit.latencies Call).1) small) 0 xs h
+ready_by_call t c xs fit h = each_by (c + 2) (call_ready t c) (λ r v small. call_by t c v (in_mask t.clobbered r) ((fit.latencies Call).1)
+    small) 0 xs h

@@ -12,7 +12,8 @@ each_at f r k [] lt = absurd (omega arith)
 each_at f r zero (x ∷ xs) lt = let e : r + 0 ≡ r = omega arith in rw e refl
 each_at f r (suc k) (x ∷ xs) lt = let e : r + suc k ≡ (r + 1) + k = omega arith in rw e (each_at f (r + 1) k xs (omega arith))
 
-pub is_each : (f : ℕ → ℕ → ℕ) (xs ys : List ℕ) → length ys ≡ length xs → ((k : ℕ) → k < length xs → get_or ys k 0 ≡ f k (get_or xs k 0)) → ys ≡ each_from f 0 xs
+pub is_each : (f : ℕ → ℕ → ℕ) (xs ys : List ℕ) → length ys ≡ length xs → ((k : ℕ) → k < length xs → get_or ys k 0 ≡ f k (get_or xs k 0))
+    → ys ≡ each_from f 0 xs
 is_each f xs ys long h = same_number_lists ys (each_from f 0 xs) (long ∙ sym (length-each f 0 xs)) (λ k lt.
     let short : k < length xs = omega (arith, long) in
     let e : 0 + k ≡ k = omega arith in

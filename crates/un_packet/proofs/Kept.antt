@@ -1,12 +1,14 @@
 -- The rules of code can be kept, without a frame and with the largest one.
-use Rattle.std.proofs.Common.{ℕ, zero, suc, pos, negsuc, ◌≡◌, ◌≢◌, ◌+◌, ◌<◌, false, List, [], ◌∷◌, slice_get, None, IsSomeAnd, All, AllPairs, refl, arith, lit<, lit≤}
+use Rattle.std.proofs.Common.{ℕ, zero, suc, pos, negsuc, ◌≡◌, ◌≢◌, ◌+◌, ◌<◌, false, List, [], ◌∷◌, slice_get, None, IsSomeAnd, All}
+use Rattle.std.proofs.Common.{AllPairs, refl, arith, lit<, lit≤}
 use Rattle.std.specs.Prelude.{codes}
 use Rattle.std.proofs.lemmas.List.Elements.{All-from_recursion}
 use Rattle.un_isa.specs.declared.op.Op.TheVariants.{Jumpr, Enter, Leave}
 use Rattle.un_isa.specs.declared.instr.Instr.{Instr}
 use Rattle.un_packet.specs.declared.code.Packet.{Packet}
 use Rattle.un_packet.specs.declared.code.CodeBlock.{CodeBlock}
-use Rattle.un_packet.specs.CodeRules.{KeepsRules, IsGoodCodeBlock, IsGoodPacket, IsGoodInstr, LeadsToOneOf, EndsByLeaving, labels_of, transfers}
+use Rattle.un_packet.specs.CodeRules.{KeepsRules, IsGoodCodeBlock, IsGoodPacket, IsGoodInstr, LeadsToOneOf, EndsByLeaving, labels_of}
+use Rattle.un_packet.specs.CodeRules.{transfers}
 use Rattle.un_packet.proofs.Assembly.{i, packet, block}
 
 one_only : {X : Type 0} (R : X → X → Type 0) (x : X) → AllPairs R (x ∷ [])
@@ -46,7 +48,8 @@ kept_without_frame = record {
     record {
       packets = All-from_recursion (IsGoodPacket 0) (returning ∷ []) (good_returning 0, tt);
       transfers_last = λ k lt. absurd (omega arith);
-      targets = All-from_recursion (λ (p : Packet). All (LeadsToOneOf (labels_of without_frame)) p.instrs) (returning ∷ []) (All-from_recursion (LeadsToOneOf (labels_of without_frame)) (back ∷ []) (tt, tt), tt);
+      targets = All-from_recursion (λ (p : Packet). All (LeadsToOneOf (labels_of without_frame)) p.instrs) (returning ∷ [])
+          (All-from_recursion (LeadsToOneOf (labels_of without_frame)) (back ∷ []) (tt, tt), tt);
     },
     tt,
   );

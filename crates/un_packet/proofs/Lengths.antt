@@ -7,7 +7,8 @@ use Rattle.un_isa.specs.declared.instr.Instr.{Instr}
 use Rattle.un_isa.specs.Memories.{set_word, set_words}
 use Rattle.un_packet.specs.Step.{PacketState, memory_by, memory_after}
 
-length-choice : (b : Bool) (w : ℕ × ℕ) (c : ℕ × ℕ) (ws vs : List (ℕ × ℕ)) → length ws ≡ length vs → length (if b then w ∷ ws else c ∷ vs) ≡ suc (length ws)
+length-choice : (b : Bool) (w : ℕ × ℕ) (c : ℕ × ℕ) (ws vs : List (ℕ × ℕ)) → length ws ≡ length vs
+    → length (if b then w ∷ ws else c ∷ vs) ≡ suc (length ws)
 length-choice true w c ws vs e = refl
 length-choice false w c ws vs e = rw e refl
 

@@ -1,5 +1,6 @@
 -- What the rules of code give to the machine.
-use Rattle.std.proofs.Common.{ℕ, ℤ, zero, suc, ◌≡◌, ◌+◌, ◌<◌, ◌≤◌, Bool, true, false, List, [], ◌∷◌, length, map, get_or, slice_get, Option, Some, None, IsSomeAnd, All, find, refl, ap, subst, arith, ◌^◌}
+use Rattle.std.proofs.Common.{ℕ, ℤ, zero, suc, ◌≡◌, ◌+◌, ◌<◌, ◌≤◌, Bool, true, false, List, [], ◌∷◌, length, map, get_or, slice_get, Option}
+use Rattle.std.proofs.Common.{Some, None, IsSomeAnd, All, find, refl, ap, subst, arith, ◌^◌}
 use Rattle.std.specs.Prelude.{◌||◌, sum_by, unwrap_or, Contains, nat_eq, if◌then◌else◌}
 use Rattle.std.specs.Bool.{OnTrue}
 use Rattle.std.specs.List.{list_any}
@@ -27,11 +28,13 @@ use Rattle.un_isa.specs.Registers.{space_of}
 use Rattle.un_isa.specs.Operands.{IsLiteralOf, IsShift, IsShiftOf}
 use Rattle.un_packet.specs.declared.code.Packet.{Packet}
 use Rattle.un_packet.specs.declared.code.CodeBlock.{CodeBlock}
-use Rattle.un_packet.specs.CodeRules.{KeepsRules, IsGoodCodeBlock, IsGoodPacket, IsGoodInstr, HasItsNumber, HasItsLabel, ReadsItsSpaces, IsThere, LeadsToOneOf, labels_of, is_jump, is_leaving, leaves, EndsByLeaving}
+use Rattle.un_packet.specs.CodeRules.{KeepsRules, IsGoodCodeBlock, IsGoodPacket, IsGoodInstr, HasItsNumber, HasItsLabel, ReadsItsSpaces}
+use Rattle.un_packet.specs.CodeRules.{IsThere, LeadsToOneOf, labels_of, is_jump, is_leaving, leaves, EndsByLeaving}
 use Rattle.un_packet.specs.Machine.{LeadsTo}
 use Rattle.un_packet.specs.Run.{packets_run, then_packets, label_place}
 use Rattle.un_packet.specs.Runnable.{IsRunnable, AreRunnable}
-use Rattle.un_packet.specs.Step.{PacketState, PacketStep, Went, Jumped, Stopped, Trapped, traps, packet_step, with_call, leads, jumps, jumps_by, is_call, is_return, after, answered, issue_cycle, record_of}
+use Rattle.un_packet.specs.Step.{PacketState, PacketStep, Went, Jumped, Stopped, Trapped, traps, packet_step, with_call, leads, jumps}
+use Rattle.un_packet.specs.Step.{jumps_by, is_call, is_return, after, answered, issue_cycle, record_of}
 
 pub at_all : {X : Type 0} (P : X → Type 0) (xs : List X) (k : ℕ) (x : X) → All P xs → slice_get xs k ≡ Some x → P x
 at_all P [] k x h e = absurd (cc e)
@@ -55,7 +58,8 @@ shift_of frame op n h = shift_in (literal_range op) n h
 
 few_of : (op : Op) (srcs : List Reg) → ReadsItsSpaces op srcs → length srcs ≤ 6
 few_of Call srcs h = h.1
-few_of op srcs h = let e : length (map (λ (r : Reg). space_of r.0) srcs) ≡ length (operand_spaces op) = ap length h in let m = length-map srcs (λ (r : Reg). space_of r.0) in omega (arith, e, m)
+few_of op srcs h = let e : length (map (λ (r : Reg). space_of r.0) srcs) ≡ length (operand_spaces op) = ap length h in let m =
+    length-map srcs (λ (r : Reg). space_of r.0) in omega (arith, e, m)
 
 label_of : (op : Op) (label : Option (List ℕ)) → HasItsLabel op label → OnTrue (is_call op || is_jump op) (IsThere label)
 label_of Call label h = h
@@ -65,7 +69,12 @@ label_of JumpIfNot label h = h
 label_of _ label h = tt
 
 runnable : (frame : ℕ) (i : Instr) → IsGoodInstr frame i → IsRunnable i
-runnable frame i h = record { shift = shift_of frame i.op i.imm h.literal; few = few_of i.op i.srcs h.reads; label = label_of i.op i.label h.label }
+runnable frame i h = record {
+  shift = shift_of frame i.op i.imm h.literal;
+  few = few_of i.op i.srcs h.reads;
+  label =
+      label_of i.op i.label h.label;
+}
 
 shift_prop : (range : Option Range) (n : ℤ) → IsProp (IsShiftOf range n)
 shift_prop None n = hlevel (le_prop, T_prop)
@@ -81,11 +90,17 @@ on_prop true P h = h
 on_prop false P h = hlevel (le_prop, T_prop)
 
 runnable_prop : (i : Instr) → IsProp (IsRunnable i)
-runnable_prop i = hlevel (shift_prop (literal_range i.op) i.imm, on_prop (is_call i.op || is_jump i.op) (IsThere i.label) (there_prop i.label), le_prop)
+runnable_prop i = hlevel (
+  shift_prop (literal_range i.op) i.imm,
+  on_prop (is_call i.op || is_jump i.op) (IsThere i.label)
+      (there_prop i.label),
+  le_prop,
+)
 
 -- ---- where packets lead
 
-head_none : {X : Type 0} (p : X → Bool) (x : X) (xs : List X) (b : Bool) → p x ≡ b → find p (x ∷ xs) ≡ None → (p x ≡ false) × (find p xs ≡ None)
+head_none : {X : Type 0} (p : X → Bool) (x : X) (xs : List X) (b : Bool) → p x ≡ b → find p (x ∷ xs) ≡ None → (p x ≡ false)
+    × (find p xs ≡ None)
 head_none p x xs true e h = absurd (let k = rw e at h in cc k)
 head_none p x xs false e h = let k = rw e at h in (e, k)
 
@@ -94,7 +109,8 @@ not_leaving Jump s i r j = absurd (cc j)
 not_leaving Jumpr s i r j = absurd (cc r)
 not_leaving _ s i r j = refl
 
-none_leaves : (s : PacketState) (is : List Instr) → find (λ (i : Instr). is_return i.op) is ≡ None → find (jumps s) is ≡ None → list_any (λ (i : Instr). is_leaving i.op) is ≡ false
+none_leaves : (s : PacketState) (is : List Instr) → find (λ (i : Instr). is_return i.op) is ≡ None → find (jumps s) is ≡ None
+    → list_any (λ (i : Instr). is_leaving i.op) is ≡ false
 none_leaves s [] r j = refl
 none_leaves s (i ∷ is) r j =
     let a = head_none (λ (i : Instr). is_return i.op) i is (is_return i.op) refl r in
@@ -107,14 +123,17 @@ IsInside labels is (Went s) = list_any (λ (i : Instr). is_leaving i.op) is ≡ 
 IsInside labels is (Jumped label s) = Contains labels label
 IsInside labels is (Stopped stop s) = Unit {0}
 
-found_by : (labels : List (List ℕ)) (s : PacketState) (j : Instr) (js : List Instr) (i : Instr) (b : Bool) → jumps s j ≡ b → LeadsToOneOf labels j → find (jumps s) (j ∷ js) ≡ Some i
+found_by : (labels : List (List ℕ)) (s : PacketState) (j : Instr) (js : List Instr) (i : Instr) (b : Bool) → jumps s j ≡ b
+    → LeadsToOneOf labels j → find (jumps s) (j ∷ js) ≡ Some i
     → (find (jumps s) js ≡ Some i → LeadsToOneOf labels i × (jumps s i ≡ true)) → LeadsToOneOf labels i × (jumps s i ≡ true)
 found_by labels s j js i true e one f more = let k = rw e at f in let same : j ≡ i = cc k in rw (← same) (one, e)
 found_by labels s j js i false e one f more = let k = rw e at f in more k
 
-found_jump : (labels : List (List ℕ)) (s : PacketState) (is : List Instr) (i : Instr) → All (LeadsToOneOf labels) is → find (jumps s) is ≡ Some i → LeadsToOneOf labels i × (jumps s i ≡ true)
+found_jump : (labels : List (List ℕ)) (s : PacketState) (is : List Instr) (i : Instr) → All (LeadsToOneOf labels) is
+    → find (jumps s) is ≡ Some i → LeadsToOneOf labels i × (jumps s i ≡ true)
 found_jump labels s [] i all f = absurd (cc f)
-found_jump labels s (j ∷ js) i all f = found_by labels s j js i (jumps s j) refl (all 0 j (omega arith)) f (found_jump labels s js i (λ n d lt. all (suc n) d (omega arith)))
+found_jump labels s (j ∷ js) i all f = found_by labels s j js i (jumps s j) refl (all 0 j (omega arith)) f
+    (found_jump labels s js i (λ n d lt. all (suc n) d (omega arith)))
 
 jumping : (op : Op) (s : PacketState) (i : Instr) → jumps_by op s i ≡ true → is_jump op ≡ true
 jumping Jump s i h = refl
@@ -126,21 +145,28 @@ label_in : (labels : List (List ℕ)) (o : Option (List ℕ)) → IsSomeAnd o (C
 label_in labels None h = absurd h
 label_in labels (Some label) h = h
 
-leads_in : (labels : List (List ℕ)) (s u : PacketState) (is : List Instr) → All (LeadsToOneOf labels) is → (r j : Option Instr) → find (λ (i : Instr). is_return i.op) is ≡ r → find (jumps s) is ≡ j → IsInside labels is (leads r s is u)
+leads_in : (labels : List (List ℕ)) (s u : PacketState) (is : List Instr) → All (LeadsToOneOf labels) is → (r j : Option Instr)
+    → find (λ (i : Instr). is_return i.op) is ≡ r → find (jumps s) is ≡ j → IsInside labels is (leads r s is u)
 leads_in labels s u is all (Some i) j er ej = tt
 leads_in labels s u is all None None er ej = rw ej (none_leaves s is er ej)
 leads_in labels s u is all None (Some i) er ej =
     let f = found_jump labels s is i all ej in
     rw ej (label_in labels i.label (OnTrue_at (jumping i.op s i f.1) f.0))
 
-with_in : (t : Table) (labels : List (List ℕ)) (s : PacketState) (is : List Instr) → All (LeadsToOneOf labels) is → (call : Option Instr) (replies : List Reply) → IsInside labels is (with_call t call replies s is)
-with_in t labels s is all None replies = leads_in labels s (after t (issue_cycle s is) s is) is all (find (λ (i : Instr). is_return i.op) is) (find (jumps s) is) refl refl
+with_in : (t : Table) (labels : List (List ℕ)) (s : PacketState) (is : List Instr) → All (LeadsToOneOf labels) is
+    → (call : Option Instr) (replies : List Reply) → IsInside labels is (with_call t call replies s is)
+with_in t labels s is all None replies = leads_in labels s (after t (issue_cycle s is) s is) is all
+    (find (λ (i : Instr). is_return i.op) is) (find (jumps s) is) refl refl
 with_in t labels s is all (Some call) [] = tt
-with_in t labels s is all (Some call) (reply ∷ rest) = leads_in labels s (answered t (record_of s call) reply rest (after t (issue_cycle s is) s is)) is all (find (λ (i : Instr). is_return i.op) is) (find (jumps s) is) refl refl
+with_in t labels s is all (Some call) (reply ∷ rest) = leads_in labels s
+    (answered t (record_of s call) reply rest (after t (issue_cycle s is) s is)) is all (find (λ (i : Instr). is_return i.op) is)
+    (find (jumps s) is) refl refl
 
-packet_in : (t : Table) (labels : List (List ℕ)) (s : PacketState) (is : List Instr) → All (LeadsToOneOf labels) is → IsInside labels is (packet_step t is s)
+packet_in : (t : Table) (labels : List (List ℕ)) (s : PacketState) (is : List Instr) → All (LeadsToOneOf labels) is
+    → IsInside labels is (packet_step t is s)
 packet_in t labels s is all =
-    elim (list_any (traps s) is) as (λ b. IsInside labels is (if b then Stopped Trapped s else with_call t (find (λ (i : Instr). is_call i.op) is) s.replies s is)) [
+    elim (list_any (traps s) is) as (λ b. IsInside labels is (if b then Stopped Trapped s else with_call t
+    (find (λ (i : Instr). is_call i.op) is) s.replies s is)) [
       | true ↦ tt
       | false ↦ with_in t labels s is all (find (λ (i : Instr). is_call i.op) is) s.replies
     ]
@@ -161,7 +187,9 @@ one_packet : (p : Packet) → leaves p ≡ false → (k : ℕ) → k + 1 ≡ 1 �
 one_packet p h zero e = h
 one_packet p h (suc k) e = absurd (omega (arith, e))
 
-more_packets : (p q : Packet) (qs : List Packet) → ((k : ℕ) → k + 1 ≡ length (q ∷ qs) → IsSomeAnd (slice_get (q ∷ qs) k) (λ p. leaves p ≡ false)) → (k : ℕ) → k + 1 ≡ length (p ∷ q ∷ qs) → IsSomeAnd (slice_get (p ∷ q ∷ qs) k) (λ p. leaves p ≡ false)
+more_packets : (p q : Packet) (qs : List Packet) → ((k : ℕ) → k + 1 ≡ length (q ∷ qs)
+    → IsSomeAnd (slice_get (q ∷ qs) k) (λ p. leaves p ≡ false)) → (k : ℕ) → k + 1 ≡ length (p ∷ q ∷ qs)
+    → IsSomeAnd (slice_get (p ∷ q ∷ qs) k) (λ p. leaves p ≡ false)
 more_packets p q qs g zero e = absurd (omega (arith, e))
 more_packets p q qs g (suc k) e = g k (omega (arith, e))
 
@@ -171,7 +199,8 @@ module _ (t : Table) (labels : List (List ℕ)) where
   onward p q qs (Jumped label s) g = g
   onward p q qs (Went s) g = more_packets p q qs g
 
-  then_in : (p : Packet) (ps : List Packet) (one : PacketStep) → IsInside labels p.instrs one → ((s : PacketState) → AreInside labels ps (packets_run t ps s)) → AreInside labels (p ∷ ps) (then_packets one (packets_run t ps))
+  then_in : (p : Packet) (ps : List Packet) (one : PacketStep) → IsInside labels p.instrs one
+      → ((s : PacketState) → AreInside labels ps (packets_run t ps s)) → AreInside labels (p ∷ ps) (then_packets one (packets_run t ps))
   then_in p ps (Stopped stop s) h more = tt
   then_in p ps (Jumped label s) h more = h
   then_in p [] (Went s) h more = one_packet p h
@@ -179,54 +208,66 @@ module _ (t : Table) (labels : List (List ℕ)) where
 
   packets_in : (ps : List Packet) → HaveTargets labels ps → (s : PacketState) → AreInside labels ps (packets_run t ps s)
   packets_in [] h s = λ k e. absurd (omega (arith, e))
-  packets_in (p ∷ ps) h s = then_in p ps (packet_step t p.instrs s) (packet_in t labels s p.instrs (h 0 p (omega arith))) (packets_in ps (rest_targets labels p ps h))
+  packets_in (p ∷ ps) h s = then_in p ps (packet_step t p.instrs s) (packet_in t labels s p.instrs (h 0 p (omega arith)))
+      (packets_in ps (rest_targets labels p ps h))
 
 -- ---- labels
 
-placed_by : (b : CodeBlock) (bs : List CodeBlock) (label : List ℕ) (test : Bool) → pointwise nat_eq b.label label ≡ test → (test ≡ false → label_place bs label < length bs) → label_place (b ∷ bs) label < length (b ∷ bs)
+placed_by : (b : CodeBlock) (bs : List CodeBlock) (label : List ℕ) (test : Bool) → pointwise nat_eq b.label label ≡ test
+    → (test ≡ false → label_place bs label < length bs) → label_place (b ∷ bs) label < length (b ∷ bs)
 placed_by b bs label true h more = rw h (omega arith)
 placed_by b bs label false h more = let rest = more refl in rw h (omega (arith, rest))
 
-placed : (blocks : List CodeBlock) (label : List ℕ) (k : ℕ) → k < length (labels_of blocks) → get_or (labels_of blocks) k label ≡ label → label_place blocks label < length blocks
+placed : (blocks : List CodeBlock) (label : List ℕ) (k : ℕ) → k < length (labels_of blocks) → get_or (labels_of blocks) k label ≡ label
+    → label_place blocks label < length blocks
 placed [] label k lt e = absurd (omega (arith, lt))
 placed (b ∷ bs) label zero lt e =
     let same : pointwise nat_eq b.label label ≡ true = rw e (list_reflexive nat_eq (λ n. grind (arith, nat_tests)) label) in
     placed_by b bs label true same (λ h. absurd (cc h))
-placed (b ∷ bs) label (suc k) lt e = placed_by b bs label (pointwise nat_eq b.label label) refl (λ h. placed bs label k (omega (arith, lt)) e)
+placed (b ∷ bs) label (suc k) lt e = placed_by b bs label (pointwise nat_eq b.label label) refl
+    (λ h. placed bs label k (omega (arith, lt)) e)
 
 -- ---- code
 
-not_last : (block : CodeBlock) → ((k : ℕ) → k + 1 ≡ length block.packets → IsSomeAnd (slice_get block.packets k) (λ p. leaves p ≡ false)) → EndsByLeaving block → ⊥
+not_last : (block : CodeBlock) → ((k : ℕ) → k + 1 ≡ length block.packets → IsSomeAnd (slice_get block.packets k) (λ p. leaves p ≡ false))
+    → EndsByLeaving block → ⊥
 not_last block h (k, long, e) = clash (slice_get block.packets k) (h k long) e
   where
     clash : (o : Option Packet) → IsSomeAnd o (λ p. leaves p ≡ false) → IsSomeAnd o (λ p. leaves p ≡ true) → ⊥
     clash None a b = absurd a
     clash (Some p) a b = cc
 
-module _ (t : Table) (frame : ℕ) (blocks : List CodeBlock) (kept : KeepsRules frame blocks) (b : ℕ) (block : CodeBlock) (at : slice_get blocks b ≡ Some block) (below : b < length blocks) where
+module _ (t : Table) (frame : ℕ) (blocks : List CodeBlock) (kept : KeepsRules frame blocks) (b : ℕ) (block : CodeBlock)
+    (at : slice_get blocks b ≡ Some block) (below : b < length blocks) where
   good : IsGoodCodeBlock frame (labels_of blocks) block
   good = at_all (IsGoodCodeBlock frame (labels_of blocks)) blocks b block kept.good_blocks at
 
-  next_inside : ((k : ℕ) → k + 1 ≡ length block.packets → IsSomeAnd (slice_get block.packets k) (λ p. leaves p ≡ false)) → b + 1 < length blocks
+  next_inside : ((k : ℕ) → k + 1 ≡ length block.packets → IsSomeAnd (slice_get block.packets k) (λ p. leaves p ≡ false))
+      → b + 1 < length blocks
   next_inside h = grind (arith, not_inside)
     where
       not_inside : b + 1 ≡ length blocks → ⊥
       not_inside e = not_last block h (let l = rw at at (kept.last b e) in l)
 
-  leads_inside : (step : PacketStep) (to : ℕ) (new : PacketState) → AreInside (labels_of blocks) block.packets step → LeadsTo blocks b step to new → to < length blocks
+  leads_inside : (step : PacketStep) (to : ℕ) (new : PacketState) → AreInside (labels_of blocks) block.packets step
+      → LeadsTo blocks b step to new → to < length blocks
   leads_inside (Went s) to new h l = rw (l.0) (next_inside h)
   leads_inside (Jumped label s) to new h l = rw (l.0) (placed blocks label h.0 h.1 h.2)
   leads_inside (Stopped stop s) to new h l = absurd l
 
   run_inside : (s : PacketState) (to : ℕ) (new : PacketState) → LeadsTo blocks b (packets_run t block.packets s) to new → to < length blocks
-  run_inside s to new l = leads_inside (packets_run t block.packets s) to new (packets_in t (labels_of blocks) block.packets good.targets s) l
+  run_inside s to new l = leads_inside (packets_run t block.packets s) to new (packets_in t (labels_of blocks) block.packets good.targets s)
+      l
 
   all_run : (k : ℕ) (p : Packet) → slice_get block.packets k ≡ Some p → AreRunnable p.instrs
-  all_run k p e = all_from (IsGoodInstr frame) IsRunnable (runnable frame) p.instrs (at_all (IsGoodPacket frame) block.packets k p good.packets e).instrs
+  all_run k p e = all_from (IsGoodInstr frame) IsRunnable (runnable frame) p.instrs
+      (at_all (IsGoodPacket frame) block.packets k p good.packets e).instrs
 
-length_in_sum : (blocks : List CodeBlock) (b : ℕ) (block : CodeBlock) → slice_get blocks b ≡ Some block → length block.packets ≤ sum_by (λ (x : CodeBlock). length x.packets) blocks
+length_in_sum : (blocks : List CodeBlock) (b : ℕ) (block : CodeBlock) → slice_get blocks b ≡ Some block
+    → length block.packets ≤ sum_by (λ (x : CodeBlock). length x.packets) blocks
 length_in_sum blocks b block e =
-    subst (λ (x : CodeBlock). length x.packets ≤ sum_by (λ (x : CodeBlock). length x.packets) blocks) (get_or_from_slice_get blocks b block block e)
+    subst (λ (x : CodeBlock). length x.packets ≤ sum_by (λ (x : CodeBlock). length x.packets) blocks)
+    (get_or_from_slice_get blocks b block block e)
     (get_or-le-sum_by (λ (x : CodeBlock). length x.packets) blocks b block (slice_get_within blocks b block e))
 
 -- what code keeps, seen from the machine
@@ -238,10 +279,13 @@ module _ (frame : ℕ) (blocks : List CodeBlock) (rules : ∥ KeepsRules frame b
   some_blocks = ∥∥₁_elim rules le_prop (λ k. k.some)
 
   pub few_packets : (b : ℕ) (block : CodeBlock) → slice_get blocks b ≡ Some block → length block.packets < 2 ^ 28
-  few_packets b block e = ∥∥₁_elim rules le_prop (λ k. let few = k.few_packets in let more = length_in_sum blocks b block e in omega (arith, few, more))
+  few_packets b block e = ∥∥₁_elim rules le_prop (λ k. let few = k.few_packets in let more = length_in_sum blocks b block e in
+      omega (arith, few, more))
 
-  pub runs : (b k : ℕ) (block : CodeBlock) (p : Packet) → slice_get blocks b ≡ Some block → b < length blocks → slice_get block.packets k ≡ Some p → AreRunnable p.instrs
+  pub runs : (b k : ℕ) (block : CodeBlock) (p : Packet) → slice_get blocks b ≡ Some block → b < length blocks
+      → slice_get block.packets k ≡ Some p → AreRunnable p.instrs
   runs b k block p at below e = ∥∥₁_elim rules (hlevel runnable_prop) (λ kept. all_run HEXAGON frame blocks kept b block at below k p e)
 
-  pub stays : (t : Table) (b : ℕ) (block : CodeBlock) (s : PacketState) (to : ℕ) (new : PacketState) → slice_get blocks b ≡ Some block → b < length blocks → LeadsTo blocks b (packets_run t block.packets s) to new → to < length blocks
+  pub stays : (t : Table) (b : ℕ) (block : CodeBlock) (s : PacketState) (to : ℕ) (new : PacketState) → slice_get blocks b ≡ Some block
+      → b < length blocks → LeadsTo blocks b (packets_run t block.packets s) to new → to < length blocks
   stays t b block s to new at below l = ∥∥₁_elim rules le_prop (λ kept. run_inside t frame blocks kept b block at below s to new l)

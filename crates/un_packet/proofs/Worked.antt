@@ -1,7 +1,8 @@
 -- Runs of code that were worked out by hand.
 use Rattle.std.specs.Prelude.{ℕ, pos, negsuc, ◌≡◌, List, [], ◌∷◌, ◌++◌, None, codes, replicate}
 use Rattle.std.proofs.Common.{refl}
-use Rattle.un_isa.specs.declared.op.Op.TheVariants.{Imm, Mov, Add, Addi, CmpEq, CmpGti, Mpyi, Load, Store, Call, JumpIf, Jumpr, Spill, Reload, P2R, Enter, Leave, Nop}
+use Rattle.un_isa.specs.declared.op.Op.TheVariants.{Imm, Mov, Add, Addi, CmpEq, CmpGti, Mpyi, Load, Store, Call, JumpIf, Jumpr, Spill}
+use Rattle.un_isa.specs.declared.op.Op.TheVariants.{Reload, P2R, Enter, Leave, Nop}
 use Rattle.un_isa.specs.declared.start.Start.{Start}
 use Rattle.un_packet.specs.declared.code.CodeBlock.{CodeBlock}
 use Rattle.un_packet.specs.Step.{Returned, Trapped, Waiting, Running}
@@ -41,7 +42,12 @@ exchange_start = record {
   well = refl;
 }
 
-exchange : told (run_of 8 exchange_blocks exchange_start 5) ≡ (Returned 0 100, exchange_memory, record_of (codes "h") (9 ∷ 5 ∷ []) exchange_memory ∷ [], 4)
+exchange : told (run_of 8 exchange_blocks exchange_start 5) ≡ (
+  Returned 0 100,
+  exchange_memory,
+  record_of (codes "h") (9 ∷ 5 ∷ []) exchange_memory ∷ [],
+  4,
+)
 exchange = refl
 
 -- A loop over two arrays, which runs twice.
@@ -175,7 +181,12 @@ call_once_start = record {
   well = refl;
 }
 
-call_once : told (run_of 8 call_once_blocks call_once_start 5) ≡ (Returned 12 100, call_once_memory, record_of (codes "h") (5 ∷ []) call_once_memory ∷ [], 5)
+call_once : told (run_of 8 call_once_blocks call_once_start 5) ≡ (
+  Returned 12 100,
+  call_once_memory,
+  record_of (codes "h") (5 ∷ []) call_once_memory ∷ [],
+  5,
+)
 call_once = refl
 
 -- The same without a reply: the packet with the call does not complete.
@@ -215,7 +226,8 @@ call_waits_start = record {
   well = refl;
 }
 
-call_waits : told (run_of 8 call_waits_blocks call_waits_start 5) ≡ (Waiting (record_of (codes "h") (5 ∷ []) call_waits_memory), call_waits_memory, [], 2)
+call_waits : told (run_of 8 call_waits_blocks call_waits_start 5) ≡
+    (Waiting (record_of (codes "h") (5 ∷ []) call_waits_memory), call_waits_memory, [], 2)
 call_waits = refl
 
 -- The store of a trapped packet is not kept.
@@ -339,5 +351,6 @@ reply_writes_start = record {
   well = refl;
 }
 
-reply_writes : told (run_of 0 reply_writes_blocks reply_writes_start 2) ≡ (Returned 1050 77, ((8, 2) ∷ []), record_of (codes "h") (5 ∷ []) reply_writes_memory ∷ [], 3)
+reply_writes : told (run_of 0 reply_writes_blocks reply_writes_start 2) ≡
+    (Returned 1050 77, ((8, 2) ∷ []), record_of (codes "h") (5 ∷ []) reply_writes_memory ∷ [], 3)
 reply_writes = refl

@@ -13,8 +13,10 @@ use Rattle.un_packet.specs.Machine.{MachineState, moved, halted, GoesOn, WhereIt
 
 -- one packet of a block of so many packets: the machine goes on to the next packet, leaves the block, or ends
 abbrev pub IsPacketStep : List CodeBlock → ℕ → MachineState → PacketStep → MachineState → Stepped → Type 0
-IsPacketStep blocks packets old step new Went = (old.place + 1 < packets) × GoesOn step new.state × (new ≡ moved old new.state old.block (old.place + 1))
-IsPacketStep blocks packets old step new (Left to) = WhereItGoesOn step (packets ≡ old.place + 1) × LeadsTo blocks old.block step to.0 new.state × (new ≡ moved old new.state to.0 0)
+IsPacketStep blocks packets old step new Went = (old.place + 1 < packets) × GoesOn step new.state
+    × (new ≡ moved old new.state old.block (old.place + 1))
+IsPacketStep blocks packets old step new (Left to) = WhereItGoesOn step (packets ≡ old.place + 1)
+    × LeadsTo blocks old.block step to.0 new.state × (new ≡ moved old new.state to.0 0)
 IsPacketStep blocks packets old step new (Ended e) = EndsBy blocks step e new.state × (new ≡ halted old new.state)
 
 -- behind a packet: the next one of a block of so many packets, or the next block

@@ -1,5 +1,6 @@
 -- What a packet does.
-use Rattle.std.specs.Prelude.{ℕ, ◌+◌, ◌-◌, ◌/◌, ◌%◌, max, Bool, true, false, ◌&&◌, not, nat_eq, nat_lt, nat_le, if◌then◌else◌, List, [], ◌∷◌, ◌++◌, Option, Some, None, is_none, unwrap_or, map, length, slice_index, slice_set}
+use Rattle.std.specs.Prelude.{ℕ, ◌+◌, ◌-◌, ◌/◌, ◌%◌, max, Bool, true, false, ◌&&◌, not, nat_eq, nat_lt, nat_le, if◌then◌else◌, List, []}
+use Rattle.std.specs.Prelude.{◌∷◌, ◌++◌, Option, Some, None, is_none, unwrap_or, map, length, slice_index, slice_set}
 use Rattle.std.specs.List.{list_any, find, fold, flat_map}
 use Rattle.std.specs.Option.{option_to_list}
 use Rattle.un_isa.specs.Memories.{word_at, set_word, set_words}

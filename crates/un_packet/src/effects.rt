@@ -1,12 +1,14 @@
 //! What the instructions of a packet read and write, all by the state before it.
 
-ghost use Rattle.std.specs.Prelude.{◌≡◌, ◌<◌, ◌≤◌, ◌+◌, ◌-◌, ◌^◌, ℕ, List, length, true, false, max, map, slice_index, find, MatchOption, Some, None};
+ghost use Rattle.std.specs.Prelude.{◌≡◌, ◌<◌, ◌≤◌, ◌+◌, ◌-◌, ◌^◌, ℕ, List, length, true, false, max, map, slice_index, find, MatchOption};
+ghost use Rattle.std.specs.Prelude.{Some, None};
 ghost use Rattle.std.specs.List.{fold, list_any};
 ghost use Rattle.std.specs.Option.{option_to_list, option_map};
 ghost use Rattle.un_isa.specs.Operands.{IsShift};
 ghost use Rattle.un_isa.specs.Words.{address_of};
 ghost use Rattle.un_packet.specs.Runnable.{IsRunnable, AreRunnable};
-ghost use Rattle.un_packet.specs.Step.{reg_in, operand_in, word_place, frame_place, traps, value_of, writes_of, reads_of, issue_cycle, regs_after, ready_after, is_return, is_call, jumps};
+ghost use Rattle.un_packet.specs.Step.{reg_in, operand_in, word_place, frame_place, traps, value_of, writes_of, reads_of, issue_cycle};
+ghost use Rattle.un_packet.specs.Step.{regs_after, ready_after, is_return, is_call, jumps};
 
 use crate::state::{State, at, put, put_ready, ready_at};
 use un_base::name::Name;

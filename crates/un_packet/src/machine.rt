@@ -45,7 +45,8 @@ impl Model for Machine {
 
     ghost view = { λ m. record { table = m.table; state = m.state; block = m.block; place = m.place; ended = m.ended } };
 
-    ghost invariant = { λ m. IsFit m.table × All (IsSpare (length m.state.memory)) m.spares.items × (m.ended ≡ false → vec_len m.spares ≡ length m.state.replies + 1) };
+    ghost invariant = { λ m. IsFit m.table × All (IsSpare (length m.state.memory)) m.spares.items
+        × (m.ended ≡ false → vec_len m.spares ≡ length m.state.replies + 1) };
 }
 
 /// What a step came to: the next packet of the block, another block, or the end of the run.

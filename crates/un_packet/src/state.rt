@@ -35,9 +35,19 @@ impl Model for State {
 
     ghost Value = { PacketState };
 
-    ghost view = { λ s. record { regs = s.regs; memory = s.memory; frame = s.frame; frame_start = s.frame_start; calls = s.calls.items; replies = drop s.answered s.replies; cycle = s.cycle; ready = s.ready } };
+    ghost view = { λ s. record {
+      regs = s.regs;
+      memory = s.memory;
+      frame = s.frame;
+      frame_start = s.frame_start;
+      calls = s.calls.items;
+      replies = drop s.answered s.replies;
+      cycle = s.cycle;
+      ready = s.ready;
+    } };
 
-    ghost invariant = { λ s. IsReadyBy (s.cycle + 2) s.ready × (s.answered ≤ length s.replies) × (vec_len s.calls + length s.replies ≤ vec_capacity s.calls + s.answered) };
+    ghost invariant = { λ s. IsReadyBy (s.cycle + 2) s.ready × (s.answered ≤ length s.replies)
+        × (vec_len s.calls + length s.replies ≤ vec_capacity s.calls + s.answered) };
 }
 
 /// Room for the record of a call to come: for its arguments and its memory.

@@ -3,7 +3,8 @@
 ghost use Rattle.std.specs.Prelude.{◌≡◌, ◌<◌, ◌-◌, ◌^◌, slice_set, ℕ, List, length, map, drop, slice_index};
 ghost use Rattle.un_isa.specs.Words.{address_of};
 ghost use Rattle.un_packet.specs.Runnable.{IsSpare};
-ghost use Rattle.un_packet.specs.Step.{PacketState, memory_by, memory_after, frame_by, frame_after, each_from, replied, call_ready, record_of};
+ghost use Rattle.un_packet.specs.Step.{PacketState, memory_by, memory_after, frame_by, frame_after, each_from, replied, call_ready};
+ghost use Rattle.un_packet.specs.Step.{record_of};
 
 use crate::effects::{address, word_place};
 use crate::state::{Spare, State, at};

@@ -2,6 +2,7 @@
 -- constraints of places and latencies are met.
 use Rattle.std.proofs.Common.{ℕ, zero, suc, ◌≡◌, ◌↔◌, ◌+◌, ◌-◌, ◌≤◌, Bool, true, false, List, [], ◌∷◌, length, map, refl, sym, ap, ◌∙◌}
 use Rattle.std.proofs.Common.{subst, arith, All}
+use Rattle.std.proofs.lemmas.List.{length-map}
 use Rattle.std.specs.Prelude.{Option, Some, None, IfSome, slice_get, slice_index, not, ◌||◌, ◌&&◌, nat_eq, nat_le, is_some, if◌then◌else◌}
 use Rattle.std.specs.Option.{option_map}
 use Rattle.un_base.specs.declared.ids.TempId.{TempId}
@@ -105,10 +106,6 @@ index_get [] k a e = absurd (cc e)
 index_get (b ∷ xs) zero a e = let same : b ≡ a = cc e in same
 index_get (b ∷ xs) (suc k) a e = index_get xs k a e
 
-length-mapped : {X Y : Type 0} (f : X → Y) (xs : List X) → length (map f xs) ≡ length xs
-length-mapped f [] = refl
-length-mapped f (x ∷ xs) = ap suc (length-mapped f xs)
-
 -- an operand without a choice is that of a first copy, and has one alternative
 lone : (kind : ExtKind) (xs : List Operand) (results : List TempId) → has_choices kind ≡ false
     → IsGoodKind kind (record { kind = kind; operands = xs; results = results }) → All (λ (y : Operand). length y.alts ≡ 1) xs
@@ -155,7 +152,8 @@ module _ (e : Ext) (o : Options) (x : List ℕ) (given : Given e o x) where
           ∙ made in
           let active : (issue_at x q).active ≡ is_some (issue_at x q).instr =
           ap (λ (b : Bool). b || is_some (issue_at x q).instr) (ap is_delimiter h ∙ inner) in
-          let tests = λ (b : Bool). λ (c : ℕ). (not (true && b) || nat_le (0 + 1) c) && (not (b && true) || nat_le (c + 1) (end_of x q)) in
+          let end = end_of x q in
+          let tests = λ (b : Bool). λ (c : ℕ). (not (true && b) || nat_le (0 + 1) c) && (not (b && true) || nat_le (c + 1) end) in
           let one = met_one x (Inside (var_at at) (act_of (place_of q)) q.close) (tests (issue_at x q).active (issue_at x q).cycle)
           (ap (λ (b : Bool). tests b (slice_index x at)) (acts e o x given q m (ap falls h ∙ goes))
           ∙ ap (tests (issue_at x q).active) (sym cycle)) in
@@ -293,8 +291,8 @@ module _ (e : Ext) (o : Options) (x : List ℕ) (given : Given e o x) where
             (lone q.op.kind q.op.operands q.op.results c keeps.kind) (member_at q.op.operands j operand at) in
             let here : slice_get ds 0 ≡ Some d = ap (λ (w : Option VarId). slice_get ds (chosen_place w x))
             (sym (no_choice e o x given q j c)) ∙ read_definer e o x given q j operand r in
-            let just : ds ≡ d ∷ [] = single ds d (length-mapped (λ (y : TempId). definer_or (slice_get (definers_of (model_of e o)) y.0))
-            operand.alts ∙ one_alt) here in
+            let just : ds ≡ d ∷ [] = single ds d (length-map operand.alts
+            (λ (y : TempId). definer_or (slice_get (definers_of (model_of e o)) y.0)) ∙ one_alt) here in
             let own = lone_value e o x given q j operand r c in
             let fixed = value_kind e o x given r.spot r.member own in
             let first : slice_get (gaps_of e.table d) 1 ≡ Some (latency_by e.table h.instr) =

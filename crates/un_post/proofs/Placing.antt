@@ -26,7 +26,7 @@ definer_at s = record { place = place_of s.definer; reg = var_at (s.definer.firs
 
 -- ---- operations
 
-placed_places : (b : ℕ) (owner : ExtBlock) (close : VarId) (n first : ℕ) (ops : List ExtOp)
+pub placed_places : (b : ℕ) (owner : ExtBlock) (close : VarId) (n first : ℕ) (ops : List ExtOp)
     → pairs_from (place_at b close) n ops (ops_vars first ops) ≡ map place_of (placed b owner close n first ops)
 placed_places b owner close n first [] = refl
 placed_places b owner close n first (op ∷ ops) = ap (λ ps. place_at b close n op (op_vars first op) ∷ ps)

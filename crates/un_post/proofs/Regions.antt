@@ -1,6 +1,7 @@
 -- The blocks of a model with the first numbers of their operations and variables, and the operation at the end of each.
-use Rattle.std.proofs.Common.{ℕ, zero, suc, ◌≡◌, ◌+◌, Bool, true, false, List, [], ◌∷◌, ◌++◌, length, map, inl, inr, refl, sym, ap, ◌∙◌, subst, arith, append_assoc, All}
-use Rattle.std.specs.Prelude.{Option, Some, None, slice_get}
+use Rattle.std.proofs.Common.{ℕ, zero, suc, ◌≡◌, ◌+◌, Bool, true, false, List, [], ◌∷◌, ◌++◌, length, map, refl, sym, ap, ◌∙◌, subst, arith}
+use Rattle.std.proofs.Common.{append_assoc}
+use Rattle.std.specs.Prelude.{Some, slice_get}
 use Rattle.std.specs.Option.{option_to_list}
 use Rattle.un_base.specs.declared.ids.VarId.{VarId}
 use Rattle.un_isa.specs.declared.table.Table.{Table}
@@ -10,11 +11,11 @@ use Rattle.un_ir.specs.declared.extended.ExtKind.TheVariants.{In, Out, Body, End
 use Rattle.un_ir.specs.declared.extended.ExtOp.{ExtOp}
 use Rattle.un_ir.specs.declared.extended.ExtBlock.{ExtBlock}
 use Rattle.un_ir.specs.Linear.{is_in, is_out}
-use Rattle.un_ir.specs.Extended.{is_copy, is_end, is_inner, AllAre, Parts, IsMadeOf, IsGoodExtBlock}
+use Rattle.un_ir.specs.Extended.{is_copy, is_end, is_inner, AllAre, IsGoodExtBlock}
 use Rattle.un_model.specs.declared.model.BlockVars.{BlockVars}
 use Rattle.un_model.specs.Pairs.{joined, over_blocks}
 use Rattle.un_model.specs.Variables.{var_at, var_count, ops_count, block_count, block_vars, blocks_vars}
-use Rattle.un_model.proofs.Lists.{Each, Member, each_all, each_join, each_more, place_of as position_of, member_append_right}
+use Rattle.un_model.proofs.Lists.{Each, Member, each_all, each_join, each_more, place_of as position_of}
 use Rattle.un_model.proofs.Operations.{placed_is}
 use Rattle.un_model.proofs.Placed.{Placed, placed, blocks_placed, Region, region_placed}
 use Rattle.un_post.specs.Places.{Place}
@@ -23,10 +24,12 @@ use Rattle.un_post.specs.Postings.{last_place}
 abbrev pub regions : ℕ → ℕ → ℕ → List ExtBlock → List Region
 regions b n first [] = []
 regions b n first (block ∷ blocks) =
-    record { block = b; number = n; first = first; owner = block } ∷ regions (b + 1) (n + length block.ops) (first + block_count block) blocks
+    record { block = b; number = n; first = first; owner = block } ∷
+    regions (b + 1) (n + length block.ops) (first + block_count block) blocks
 
 -- all operations are those of the regions
-pub placed_regions : (b n first : ℕ) (blocks : List ExtBlock) → blocks_placed b n first blocks ≡ joined (map region_placed (regions b n first blocks))
+pub placed_regions : (b n first : ℕ) (blocks : List ExtBlock) → blocks_placed b n first blocks ≡ joined
+    (map region_placed (regions b n first blocks))
 placed_regions b n first [] = refl
 placed_regions b n first (block ∷ blocks) =
     let r : Region = record { block = b; number = n; first = first; owner = block } in
@@ -34,9 +37,11 @@ placed_regions b n first (block ∷ blocks) =
 
 -- what is listed block by block
 pub over_regions : {A : Type 0} (f : ℕ → ℕ → ExtBlock → BlockVars → List A) (b n first : ℕ) (blocks : List ExtBlock)
-    → over_blocks f b n blocks (blocks_vars first blocks) ≡ joined (map (λ (r : Region). f r.block r.number r.owner (block_vars r.first r.owner)) (regions b n first blocks))
+    → over_blocks f b n blocks (blocks_vars first blocks) ≡ joined
+    (map (λ (r : Region). f r.block r.number r.owner (block_vars r.first r.owner)) (regions b n first blocks))
 over_regions f b n first [] = refl
-over_regions f b n first (block ∷ blocks) = ap (λ xs. f b n block (block_vars first block) ++ xs) (over_regions f (b + 1) (n + length block.ops) (first + block_count block) blocks)
+over_regions f b n first (block ∷ blocks) = ap (λ xs. f b n block (block_vars first block) ++ xs)
+    (over_regions f (b + 1) (n + length block.ops) (first + block_count block) blocks)
 
 pub region_is : (b n first : ℕ) (blocks : List ExtBlock) (k : ℕ) (r : Region) → slice_get (regions b n first blocks) k ≡ Some r
     → (slice_get blocks k ≡ Some r.owner) × (r.block ≡ b + k)
@@ -65,7 +70,8 @@ of_region r q m =
 -- ---- the operation at a block's end
 
 pub placed_append : (b : ℕ) (owner : ExtBlock) (close : VarId) (n first : ℕ) (xs ys : List ExtOp)
-    → placed b owner close n first (xs ++ ys) ≡ placed b owner close n first xs ++ placed b owner close (n + length xs) (first + ops_count xs) ys
+    → placed b owner close n first (xs ++ ys) ≡ placed b owner close n first xs ++
+    placed b owner close (n + length xs) (first + ops_count xs) ys
 placed_append b owner close n first [] ys =
     ap (λ m. placed b owner close m first ys) (omega arith) ∙ ap (λ m. placed b owner close (n + 0) m ys) (omega arith)
 placed_append b owner close n first (x ∷ xs) ys =
@@ -131,8 +137,10 @@ out_is Leave h = absurd (cc h)
 abbrev Stays : ExtOp → Type 0
 Stays op = is_out op.kind ≡ false
 
-all_stay : (test : ExtKind → Bool) → ((k : ExtKind) → test k ≡ true → is_out k ≡ false) → (ops : List ExtOp) → AllAre test ops → Each Stays ops
-all_stay test stays ops h = each_more (λ (op : ExtOp). test op.kind ≡ true) Stays ops (λ op t. stays op.kind t) (each_all (λ (op : ExtOp). test op.kind ≡ true) ops h)
+all_stay : (test : ExtKind → Bool) → ((k : ExtKind) → test k ≡ true → is_out k ≡ false) → (ops : List ExtOp) → AllAre test ops
+    → Each Stays ops
+all_stay test stays ops h = each_more (λ (op : ExtOp). test op.kind ≡ true) Stays ops (λ op t. stays op.kind t)
+    (each_all (λ (op : ExtOp). test op.kind ≡ true) ops h)
 
 pub ended : (t : Table) (names : List Kind) (blocks : List ExtBlock) (r : Region) → IsGoodExtBlock t names blocks r.owner → Ended r
 ended t names blocks r good =
@@ -145,7 +153,8 @@ ended t names blocks r good =
     record {
       front = p.start ∷ (p.inner ++ (ending ++ p.late));
       out = p.out;
-      whole = h.whole ∙ ap (λ ops. p.start ∷ ops) (ap (λ ops. p.inner ++ ops) (sym (append_assoc ending p.late (p.out ∷ []))) ∙ sym (append_assoc p.inner (ending ++ p.late) (p.out ∷ [])));
+      whole = h.whole ∙ ap (λ ops. p.start ∷ ops) (ap (λ ops. p.inner ++ ops) (sym (append_assoc ending p.late (p.out ∷ [])))
+          ∙ sym (append_assoc p.inner (ending ++ p.late) (p.out ∷ [])));
       inner = (
         in_stays start.kind h.start,
         each_join Stays p.inner (ending ++ p.late) (all_stay is_inner inner_stays p.inner h.inner)

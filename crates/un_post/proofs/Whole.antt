@@ -2,6 +2,7 @@
 -- operands and results.
 use Rattle.std.proofs.Common.{ℕ, zero, suc, ◌≡◌, ◌+◌, ◌↔◌, Bool, true, false, List, [], ◌∷◌, ◌++◌, length, map, refl, sym, ap, ◌∙◌, subst}
 use Rattle.std.proofs.Common.{arith, All}
+use Rattle.std.proofs.lemmas.List.{length-map}
 use Rattle.std.specs.Prelude.{Some, slice_get, if◌then◌else◌}
 use Rattle.std.specs.Option.{option_map}
 use Rattle.un_base.specs.declared.ids.TempId.{TempId}
@@ -32,10 +33,6 @@ use Rattle.un_post.proofs.Facts.{Given, numbered}
 length-places : {X Y : Type 0} (f : ℕ → X → Y) (i : ℕ) (xs : List X) → length (places_from f i xs) ≡ length xs
 length-places f i [] = refl
 length-places f i (x ∷ xs) = ap suc (length-places f (i + 1) xs)
-
-length-mapped : {X Y : Type 0} (f : X → Y) (xs : List X) → length (map f xs) ≡ length xs
-length-mapped f [] = refl
-length-mapped f (x ∷ xs) = ap suc (length-mapped f xs)
 
 same_entries : {X : Type 0} (xs ys : List X) → length xs ≡ length ys → ((k : ℕ) (y : X) → slice_get ys k ≡ Some y → slice_get xs k ≡ Some y)
     → ys ≡ xs
@@ -71,9 +68,9 @@ module _ (e : Ext) (o : Options) (x : List ℕ) (given : Given e o x) where
       ∙ ap (λ (r : LiveRange). Some r) s.3)
     where
       long : length (map (spot_range e o x) (spots e o x)) ≡ length (the_ranges e o x)
-      long = length-mapped (spot_range e o x) (spots e o x) ∙ sym
+      long = length-map (spots e o x) (spot_range e o x) ∙ sym
           (length-places (range_of x (issues_of (model_of e o) x) (reads_of (model_of e o) x)) 0 (model_of e o).temps
-          ∙ ap length (temps_are 0 0 0 e.blocks) ∙ length-mapped temp_vars (spots e o x))
+          ∙ ap length (temps_are 0 0 0 e.blocks) ∙ length-map (spots e o x) temp_vars)
 
   pub ranges_each : (P : LiveRange → Type 0) → All P (the_ranges e o x) ↔ Each (λ s. P (spot_range e o x s)) (spots e o x)
   ranges_each P = (
@@ -114,8 +111,8 @@ module _ (e : Ext) (o : Options) (x : List ℕ) (given : Given e o x) where
     λ h. each_of P (registers_at ds q.op.results) (λ v n.
         let r = position_of (registers_at ds q.op.results) v n in
         let lt = r.1 in
-        let l1 = length-mapped (λ (d : Definer). d.reg) (definers_at ds q.op.results) in
-        let l2 = length-mapped (λ (y : TempId). definer_or (slice_get ds y.0)) q.op.results in
+        let l1 = length-map (definers_at ds q.op.results) (λ (d : Definer). d.reg) in
+        let l2 = length-map q.op.results (λ (y : TempId). definer_or (slice_get ds y.0)) in
         let y = get_below q.op.results r.0 (omega arith) in
         let same : Some (definer_at (spot q r.0 y.0)).reg ≡ Some v = sym (result_register q r.0 y.0 m y.1) ∙ r.2 in
         subst P (cc same) (h r.0 y.0 y.1)),

@@ -4,3 +4,4 @@ pub mod Postings
 pub mod AnyProps
 pub mod Scopes
 pub mod Sites
+pub mod Rooms

@@ -13,9 +13,11 @@ use Rattle.un_isa.specs.declared.reg.TheConstants.{GENERALS, FIRST_SLOT}
 use Rattle.un_isa.specs.declared.table.Table.{Table}
 use Rattle.un_ir.specs.declared.function.Term.TheVariants.{Fall}
 use Rattle.un_ir.specs.declared.extended.ExtKind.{ExtKind}
-use Rattle.un_ir.specs.declared.extended.ExtKind.TheVariants.{In, Out, Body, End, Copy, Enter, Leave}
+use Rattle.un_ir.specs.declared.extended.ExtKind.TheVariants.{Out, Body, End, Copy}
 use Rattle.un_ir.specs.declared.extended.Operand.{Operand}
 use Rattle.un_ir.specs.declared.extended.ExtBlock.{ExtBlock}
+use Rattle.un_ir.specs.Extended.{is_copy, is_enter, is_leave}
+use Rattle.un_ir.specs.Linear.{is_in}
 use Rattle.un_ir.specs.Live.{targets_of}
 use Rattle.un_model.specs.declared.model.Model.{Model}
 use Rattle.un_model.specs.declared.model.BlockVars.{BlockVars}
@@ -174,10 +176,6 @@ edges_of blocks ds k n a vars =
 
 -- ---- the frame
 
-abbrev pub is_copy_kind : ExtKind → Bool
-is_copy_kind (Copy node) = true
-is_copy_kind _ = false
-
 abbrev pub is_call_op : Op → Bool
 is_call_op Call = true
 is_call_op op = false
@@ -185,18 +183,6 @@ is_call_op op = false
 abbrev pub is_call_kind : ExtKind → Bool
 is_call_kind (Body o) = is_call_op o.op
 is_call_kind _ = false
-
-abbrev pub is_enter_kind : ExtKind → Bool
-is_enter_kind Enter = true
-is_enter_kind _ = false
-
-abbrev pub is_leave_kind : ExtKind → Bool
-is_leave_kind Leave = true
-is_leave_kind _ = false
-
-abbrev pub is_in_kind : ExtKind → Bool
-is_in_kind In = true
-is_in_kind _ = false
 
 abbrev pub with_kind : (ExtKind → Bool) → List Place → List Place
 with_kind is ps = filter (λ (p : Place). is p.it.kind) ps
@@ -222,29 +208,29 @@ abbrev pub single_use : Place → FrameUse
 single_use p = record { instr = act_of p; least = 1; most = 1; at = cycle_var p }
 
 abbrev pub uses_of : List Place → List FrameUse
-uses_of ps = map copy_use (with_kind is_copy_kind ps) ++ (map single_use (with_kind is_call_kind ps) ++
-    map single_use (with_kind is_leave_kind ps))
+uses_of ps = map copy_use (with_kind is_copy ps) ++ (map single_use (with_kind is_call_kind ps) ++
+    map single_use (with_kind is_leave ps))
 
 abbrev pub leave_of : List Place → Place → FrameLeave
 leave_of ps p = record {
   leave = frame_op p;
-  copies = map copy_use (with_kind is_copy_kind ps);
+  copies = map copy_use (with_kind is_copy ps);
   calls = map cycle_var (with_kind is_call_kind ps);
 }
 
 abbrev pub leaves_in : ℕ → ℕ → ExtBlock → BlockVars → List FrameLeave
-leaves_in b n block vars = let ps : List Place = block_places b n block vars in map (leave_of ps) (with_kind is_leave_kind ps)
+leaves_in b n block vars = let ps : List Place = block_places b n block vars in map (leave_of ps) (with_kind is_leave ps)
 
 abbrev pub in_entry : List Place → List Place
 in_entry ps = filter (λ (p : Place). p.block == 0) ps
 
 abbrev pub frame_by : Model → List Definer → List Place → Place → Constraint
-frame_by m ds ps enter = Frame m.flag (map instr_var (with_kind is_copy_kind ps))
-    (joined (map (λ (p : Place). registers_at ds p.it.results) (with_kind is_in_kind ps))) (frame_op enter) (uses_of (in_entry ps))
+frame_by m ds ps enter = Frame m.flag (map instr_var (with_kind is_copy ps))
+    (joined (map (λ (p : Place). registers_at ds p.it.results) (with_kind is_in ps))) (frame_op enter) (uses_of (in_entry ps))
     (over_blocks leaves_in 0 0 m.ext.blocks m.blocks)
 
 abbrev pub frame_of : Model → List Definer → List Place → List Constraint
-frame_of m ds ps = map (frame_by m ds ps) (with_kind is_enter_kind ps)
+frame_of m ds ps = map (frame_by m ds ps) (with_kind is_enter ps)
 
 -- ---- the cost
 

@@ -19,9 +19,11 @@ module _ (vs : List VarId) (a : At) (a_on : Act) (b : At) (b_on : Act) (gap : �
   pub before_lawful : Lawful vs (before_steps vs a a_on b b_on gap)
   before_lawful = link_lawful vs (before_link a a_on b b_on gap) h
 
-  pub before_keeps : (s : Sets) (x : List ℕ) → HasVars vs s → IsIn x s → before_holds a a_on b b_on gap x ≡ true → Kept x (before_steps vs a a_on b b_on gap s)
+  pub before_keeps : (s : Sets) (x : List ℕ) → HasVars vs s → IsIn x s → before_holds a a_on b b_on gap x ≡ true
+      → Kept x (before_steps vs a a_on b b_on gap s)
   before_keeps = link_keeps vs (before_link a a_on b b_on gap) h
 
-  pub before_strong : (s : Sets) → HasVars vs s → NoneEmpty s → InWords s → (length vs ≡ 0 → (x : List ℕ) → before_holds a a_on b b_on gap x ≡ true)
+  pub before_strong : (s : Sets) → HasVars vs s → NoneEmpty s → InWords s
+      → (length vs ≡ 0 → (x : List ℕ) → before_holds a a_on b b_on gap x ≡ true)
       → before_steps vs a a_on b b_on gap s ≡ Some s → BeforeStrong a a_on b b_on gap s
   before_strong = link_strong vs (before_link a a_on b b_on gap) h

@@ -1,5 +1,6 @@
 -- The laws of Below.
-use Rattle.std.proofs.Common.{ℕ, ◌≡◌, ◌≤◌, ◌<◌, ◌+◌, ◌-◌, ◌*◌, ◌∙◌, Bool, true, List, [], ◌∷◌, length, get_or, map, nat_lt, Some, refl, sym, ap, subst, arith, inl, inr}
+use Rattle.std.proofs.Common.{ℕ, ◌≡◌, ◌≤◌, ◌<◌, ◌+◌, ◌-◌, ◌*◌, ◌∙◌, Bool, true, List, [], ◌∷◌, length, get_or, map, nat_lt, Some, refl, sym}
+use Rattle.std.proofs.Common.{ap, subst, arith, inl, inr}
 use Rattle.std.proofs.lemmas.Bool.Decides.{nat_tests}
 use Rattle.std.proofs.lemmas.List.{get_or-map, length-map}
 use Rattle.std.proofs.Math.Nat.{mul-le-mul_left}
@@ -26,7 +27,8 @@ use Rattle.un_prec.specs.Below.{cost_of, cost_at, least_cost, below_holds, below
 -- ends alike cost alike, and no later ends cost no more
 cost_alike : (es : List Weighted) (f g : VarId → ℕ) → AllByRecursion (λ (e : Weighted). f e.end ≡ g e.end) es → cost_of es f ≡ cost_of es g
 cost_alike [] f g all = refl
-cost_alike (e ∷ es) f g all = ap (λ (n : ℕ). e.freq * (n - 1) + cost_of es f) all.0 ∙ ap (λ (n : ℕ). e.freq * (g e.end - 1) + n) (cost_alike es f g all.1)
+cost_alike (e ∷ es) f g all = ap (λ (n : ℕ). e.freq * (n - 1) + cost_of es f) all.0
+    ∙ ap (λ (n : ℕ). e.freq * (g e.end - 1) + n) (cost_alike es f g all.1)
 
 cost_le : (es : List Weighted) (f g : VarId → ℕ) → AllByRecursion (λ (e : Weighted). f e.end ≤ g e.end) es → cost_of es f ≤ cost_of es g
 cost_le [] f g all = omega arith
@@ -44,37 +46,48 @@ module _ (vs : List VarId) (es : List Weighted) (limit : ℕ) (h : BelowVars vs 
 
   pub below_looks : (x y : List ℕ) → SameAt vs x y → below_holds es limit x ≡ below_holds es limit y
   below_looks x y same = ap (λ (n : ℕ). nat_lt n limit) (cost_alike es (λ v. get_or x v.0 0) (λ v. get_or y v.0 0)
-      (each (λ e. among vs e.end ≡ true) (λ e. get_or x e.end.0 0 ≡ get_or y e.end.0 0) (λ e there. same_var vs x y same e.end there) es among_all))
+      (each (λ e. among vs e.end ≡ true) (λ e. get_or x e.end.0 0 ≡ get_or y e.end.0 0) (λ e there. same_var vs x y same e.end there) es
+      among_all))
 
   below_lawful_test : LawfulTest vs (below_test es limit)
   below_lawful_test = record {
     monotone = λ t s y k full le pass.
-        (let low = cost_le es (λ v. least (set_at s v.0)) (λ v. least (set_at t v.0)) (each (λ e. among vs e.end ≡ true) (λ e. least (set_at s e.end.0) ≤ least (set_at t e.end.0))
-        (λ e there. least_below t s e.end.0 le (full e.end.0 (let here = has_among vs e.end s there k in omega (arith, here, le.long)))) es among_all) in
+        (let low = cost_le es (λ v. least (set_at s v.0)) (λ v. least (set_at t v.0))
+        (each (λ e. among vs e.end ≡ true) (λ e. least (set_at s e.end.0) ≤ least (set_at t e.end.0))
+        (λ e there. least_below t s e.end.0 le (full e.end.0 (let here = has_among vs e.end s there k in omega (arith, here, le.long)))) es
+        among_all) in
         grind (arith, nat_tests, pass, low));
     local = λ s t y agree. ap (λ (n : ℕ). nat_lt n limit) (cost_alike es (λ v. least (set_at s v.0)) (λ v. least (set_at t v.0))
-        (each (λ e. among vs e.end ≡ true) (λ e. least (set_at s e.end.0) ≡ least (set_at t e.end.0)) (λ e there. ap least (All-contains (λ u. set_at s u.0 ≡ set_at t u.0) vs e.end agree (in_list vs e.end there))) es among_all));
+        (each (λ e. among vs e.end ≡ true) (λ e. least (set_at s e.end.0) ≡ least (set_at t e.end.0))
+        (λ e there. ap least (All-contains (λ u. set_at s u.0 ≡ set_at t u.0) vs e.end agree (in_list vs e.end there))) es among_all));
   }
 
   pub below_lawful : Lawful vs (below_steps vs es limit)
   below_lawful = first_lawful (below_test es limit) vs below_lawful_test
 
   low_cost : (s : Sets) (x : List ℕ) → HasVars vs s → IsIn x s → least_cost es s ≤ cost_at es x
-  low_cost s x k there = cost_le es (λ v. least (set_at s v.0)) (λ v. get_or x v.0 0) (each (λ e. among vs e.end ≡ true) (λ e. least (set_at s e.end.0) ≤ get_or x e.end.0 0)
+  low_cost s x k there = cost_le es (λ v. least (set_at s v.0)) (λ v. get_or x v.0 0)
+      (each (λ e. among vs e.end ≡ true) (λ e. least (set_at s e.end.0) ≤ get_or x e.end.0 0)
       (λ e h. least-le (set_at s e.end.0) (get_or x e.end.0 0) (there.each e.end.0 (has_among vs e.end s h k))) es among_all)
 
   pub below_keeps : (s : Sets) (x : List ℕ) → HasVars vs s → IsIn x s → below_holds es limit x ≡ true → Kept x (below_steps vs es limit s)
-  below_keeps s x k there holds = first_keeps (below_test es limit) vs s x k there (λ y. let low = low_cost s x k there in grind (arith, nat_tests, holds, low))
+  below_keeps s x k there holds = first_keeps (below_test es limit) vs s x k there
+      (λ y. let low = low_cost s x k there in grind (arith, nat_tests, holds, low))
 
   pub below_strong : (s : Sets) → HasVars vs s → NoneEmpty s → InWords s → (length vs ≡ 0 → (x : List ℕ) → below_holds es limit x ≡ true)
       → below_steps vs es limit s ≡ Some s → BelowStrong es limit s
   below_strong s k full words grounded e = by vs refl
     where
       by : (us : List VarId) → vs ≡ us → least_cost es s < limit
-      by (u ∷ us) is = let r = first_passes (below_test es limit) vs s (omega (arith, ap length is)) k full e in let pass = r.1 in grind (arith, nat_tests, pass)
+      by (u ∷ us) is = let r = first_passes (below_test es limit) vs s (omega (arith, ap length is)) k full e in let pass = r.1 in
+          grind (arith, nat_tests, pass)
       by [] is =
           let x = map least s in
-          let there : IsIn x s = record { long = length-map s least; each = λ v lt. rw (get_or-map least s v [] 0 lt) (least_in (set_at s v) (full v lt)) } in
+          let there : IsIn x s = record {
+            long = length-map s least;
+            each =
+                λ v lt. rw (get_or-map least s v [] 0 lt) (least_in (set_at s v) (full v lt));
+          } in
           let holds = grounded (ap length is) x in
           let low = low_cost s x k there in
           grind (arith, nat_tests, holds, low)

@@ -1,5 +1,6 @@
 -- Links of times, and what they let a store keep.
-use Rattle.std.specs.Prelude.{ℕ, ◌≡◌, ◌+◌, ◌-◌, ◌^◌, ◌≤◌, Bool, true, not, ◌&&◌, ◌||◌, List, [], ◌∷◌, ◌++◌, min, nat_le, nat_lt, Some, option_and_then}
+use Rattle.std.specs.Prelude.{ℕ, ◌≡◌, ◌+◌, ◌-◌, ◌^◌, ◌≤◌, Bool, true, not, ◌&&◌, ◌||◌, List, [], ◌∷◌, ◌++◌, min, nat_le, nat_lt, Some}
+use Rattle.std.specs.Prelude.{option_and_then}
 use Rattle.std.specs.declared.option.Option.{Option}
 use Rattle.un_base.specs.declared.ids.VarId.{VarId}
 use Rattle.un_domains.specs.Sets.{Sets, cut_by, least, greatest}
@@ -49,7 +50,8 @@ close_test l s y = not (both_sure l s) || nat_le (least (at_set l.to s)) (y + l.
 
 -- all that a link lets a store keep
 abbrev pub link_steps : List VarId → Link → Sets → Option Sets
-link_steps vs l s = option_and_then (at_cut (earlier_test l) l.from) (option_and_then (at_cut (later_test l) l.to) (first_cut (apart_test l) vs s))
+link_steps vs l s = option_and_then (at_cut (earlier_test l) l.from)
+    (option_and_then (at_cut (later_test l) l.to) (first_cut (apart_test l) vs s))
 
 -- what is so of a link that lets all of a store stay
 abbrev pub LinkStrong : Link → Sets → Type 0

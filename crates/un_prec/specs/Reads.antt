@@ -1,5 +1,6 @@
 -- Reads: an active user issues late enough after the definer of the temporary that it chooses.
-use Rattle.std.specs.Prelude.{ℕ, ◌≡◌, ◌+◌, ◌^◌, ◌≤◌, Bool, true, not, ◌||◌, List, [], ◌∷◌, nat_le, slice_index, slice_get, Some, option_and_then, All}
+use Rattle.std.specs.Prelude.{ℕ, ◌≡◌, ◌+◌, ◌^◌, ◌≤◌, Bool, true, not, ◌||◌, List, [], ◌∷◌, nat_le, slice_index, slice_get, Some}
+use Rattle.std.specs.Prelude.{option_and_then, All}
 use Rattle.std.specs.declared.option.Option.{Option}
 use Rattle.std.specs.List.{list_any}
 use Rattle.un_base.specs.declared.ids.VarId.{VarId}

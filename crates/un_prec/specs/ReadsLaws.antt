@@ -1,5 +1,6 @@
 -- The laws of Reads.
-use Rattle.std.proofs.Common.{ℕ, ◌≡◌, ◌≤◌, ◌<◌, ◌+◌, ◌^◌, ◌∙◌, Bool, true, false, not, ◌||◌, List, [], ◌∷◌, length, get_or, nat_le, Some, option_and_then, All, refl, sym, ap, subst, arith}
+use Rattle.std.proofs.Common.{ℕ, ◌≡◌, ◌≤◌, ◌<◌, ◌+◌, ◌^◌, ◌∙◌, Bool, true, false, not, ◌||◌, List, [], ◌∷◌, length, get_or, nat_le, Some}
+use Rattle.std.proofs.Common.{option_and_then, All, refl, sym, ap, subst, arith}
 use Rattle.std.specs.List.{AllByRecursion, list_any, slice_get}
 use Rattle.std.proofs.lemmas.Bool.Decides.{nat_tests}
 use Rattle.std.proofs.lemmas.List.Elements.{recursion_from_All}
@@ -19,7 +20,8 @@ use Rattle.un_prop.specs.Choices.{passes_at}
 use Rattle.un_prop.specs.ChoiceLaws.{passes_agree, passes_get, passes_find, passes_more, get_within, map_all, always}
 use Rattle.un_prop.specs.ChainLaws.{then_kept, known_in, stable_then, least_in}
 use Rattle.un_prop.specs.Looks.{at_set, act_set, sure, InWords}
-use Rattle.un_prop.specs.LookLaws.{not_or, or_not, set_alike, at_alike, act_alike, act_below, number_in, sure_alike, sure_below, sure_active, least_at_below, greatest_at_below, value_in}
+use Rattle.un_prop.specs.LookLaws.{not_or, or_not, set_alike, at_alike, act_alike, act_below, number_in, sure_alike, sure_below}
+use Rattle.un_prop.specs.LookLaws.{sure_active, least_at_below, greatest_at_below, value_in}
 use Rattle.un_prop.specs.Places.{places_in, choice_steps}
 use Rattle.un_prop.specs.PlaceLaws.{choice_lawful, choice_keeps, choice_strong}
 use Rattle.un_prop.specs.SomewhereLaws.{any_find, any_has, any_more, any_agree}
@@ -29,7 +31,8 @@ use Rattle.un_prop.specs.declared.act.At.TheVariants.{Const, Var}
 use Rattle.un_prec.specs.Links.{at_cut}
 use Rattle.un_prec.specs.LinkLaws.{at_lawful, at_keeps}
 use Rattle.un_prec.specs.declared.reads.ReadAlt.{ReadAlt}
-use Rattle.un_prec.specs.Reads.{is_late, reads_holds, may_be_late, reads_can, may_read, soon_test, reads_steps, ReadAltVars, ReadsVars, ReadsStrong}
+use Rattle.un_prec.specs.Reads.{is_late, reads_holds, may_be_late, reads_can, may_read, soon_test, reads_steps, ReadAltVars, ReadsVars}
+use Rattle.un_prec.specs.Reads.{ReadsStrong}
 
 -- more pass the second part of a choice of tests
 or_more : (b c d : Bool) → (c ≡ true → d ≡ true) → (b || c) ≡ true → (b || d) ≡ true

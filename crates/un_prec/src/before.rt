@@ -59,7 +59,8 @@ impl Propagator for Before {
     ghost use Rattle.un_prec.specs.Before.{before_link, before_holds, before_steps, BeforeVars, BeforeStrong};
     ghost use Rattle.un_prec.specs.BeforeLaws.{before_looks, before_lawful, before_keeps, before_strong};
 
-    ghost cut = { λ p s. option_and_then (last_cut p.vars (before_holds p.a p.a_on p.b p.b_on p.gap)) (before_steps p.vars p.a p.a_on p.b p.b_on p.gap s) };
+    ghost cut = { λ p s. option_and_then (last_cut p.vars (before_holds p.a p.a_on p.b p.b_on p.gap))
+        (before_steps p.vars p.a p.a_on p.b p.b_on p.gap s) };
 
     ghost parts = { λ p. one_part p.vars (before_holds p.a p.a_on p.b p.b_on p.gap) };
 
@@ -79,13 +80,22 @@ impl Propagator for Before {
         check_last(self, w, scratch, did)
     }
 
-    ghost keeps = { λ p s x k full there holds. keeps_checked p.vars (before_holds p.a p.a_on p.b p.b_on p.gap) (before_looks p.vars p.a p.a_on p.b p.b_on p.gap p.among) p.ascend (before_steps p.vars p.a p.a_on p.b p.b_on p.gap) (before_lawful p.vars p.a p.a_on p.b p.b_on p.gap p.among) s x k (before_keeps p.vars p.a p.a_on p.b p.b_on p.gap p.among s x k there holds) there.long holds };
+    ghost keeps = { λ p s x k full there holds. keeps_checked p.vars (before_holds p.a p.a_on p.b p.b_on p.gap)
+        (before_looks p.vars p.a p.a_on p.b p.b_on p.gap p.among) p.ascend (before_steps p.vars p.a p.a_on p.b p.b_on p.gap)
+        (before_lawful p.vars p.a p.a_on p.b p.b_on p.gap p.among) s x k
+        (before_keeps p.vars p.a p.a_on p.b p.b_on p.gap p.among s x k there holds) there.long holds };
 
-    ghost lawful = { λ p. lawful_checked p.vars (before_holds p.a p.a_on p.b p.b_on p.gap) (before_looks p.vars p.a p.a_on p.b p.b_on p.gap p.among) p.ascend (before_steps p.vars p.a p.a_on p.b p.b_on p.gap) (before_lawful p.vars p.a p.a_on p.b p.b_on p.gap p.among) };
+    ghost lawful = { λ p. lawful_checked p.vars (before_holds p.a p.a_on p.b p.b_on p.gap)
+        (before_looks p.vars p.a p.a_on p.b p.b_on p.gap p.among) p.ascend (before_steps p.vars p.a p.a_on p.b p.b_on p.gap)
+        (before_lawful p.vars p.a p.a_on p.b p.b_on p.gap p.among) };
 
     ghost whole = { λ p x. one_whole p.vars (before_holds p.a p.a_on p.b p.b_on p.gap) x };
 
-    ghost forward = { λ p. forward_checked p.vars (before_holds p.a p.a_on p.b p.b_on p.gap) (before_looks p.vars p.a p.a_on p.b p.b_on p.gap p.among) p.ascend (before_steps p.vars p.a p.a_on p.b p.b_on p.gap) (before_lawful p.vars p.a p.a_on p.b p.b_on p.gap p.among) };
+    ghost forward = { λ p. forward_checked p.vars (before_holds p.a p.a_on p.b p.b_on p.gap)
+        (before_looks p.vars p.a p.a_on p.b p.b_on p.gap p.among) p.ascend (before_steps p.vars p.a p.a_on p.b p.b_on p.gap)
+        (before_lawful p.vars p.a p.a_on p.b p.b_on p.gap p.among) };
 
-    ghost strength = { λ p s k full words grounded e. before_strong p.vars p.a p.a_on p.b p.b_on p.gap p.among s k full words grounded (stable_first p.vars (before_holds p.a p.a_on p.b p.b_on p.gap) (before_looks p.vars p.a p.a_on p.b p.b_on p.gap p.among) p.ascend (before_steps p.vars p.a p.a_on p.b p.b_on p.gap) (before_lawful p.vars p.a p.a_on p.b p.b_on p.gap p.among) s k full e) };
+    ghost strength = { λ p s k full words grounded e. before_strong p.vars p.a p.a_on p.b p.b_on p.gap p.among s k full words grounded
+        (stable_first p.vars (before_holds p.a p.a_on p.b p.b_on p.gap) (before_looks p.vars p.a p.a_on p.b p.b_on p.gap p.among) p.ascend
+        (before_steps p.vars p.a p.a_on p.b p.b_on p.gap) (before_lawful p.vars p.a p.a_on p.b p.b_on p.gap p.among) s k full e) };
 }

@@ -120,13 +120,19 @@ impl Propagator for Below {
         check_last(self, w, scratch, did)
     }
 
-    ghost keeps = { λ p s x k full there holds. keeps_checked p.vars (below_holds p.ends p.limit) (below_looks p.vars p.ends p.limit p.among) p.ascend (below_steps p.vars p.ends p.limit) (below_lawful p.vars p.ends p.limit p.among) s x k (below_keeps p.vars p.ends p.limit p.among s x k there holds) there.long holds };
+    ghost keeps = { λ p s x k full there holds. keeps_checked p.vars (below_holds p.ends p.limit)
+        (below_looks p.vars p.ends p.limit p.among) p.ascend (below_steps p.vars p.ends p.limit)
+        (below_lawful p.vars p.ends p.limit p.among) s x k (below_keeps p.vars p.ends p.limit p.among s x k there holds) there.long holds };
 
-    ghost lawful = { λ p. lawful_checked p.vars (below_holds p.ends p.limit) (below_looks p.vars p.ends p.limit p.among) p.ascend (below_steps p.vars p.ends p.limit) (below_lawful p.vars p.ends p.limit p.among) };
+    ghost lawful = { λ p. lawful_checked p.vars (below_holds p.ends p.limit) (below_looks p.vars p.ends p.limit p.among) p.ascend
+        (below_steps p.vars p.ends p.limit) (below_lawful p.vars p.ends p.limit p.among) };
 
     ghost whole = { λ p x. one_whole p.vars (below_holds p.ends p.limit) x };
 
-    ghost forward = { λ p. forward_checked p.vars (below_holds p.ends p.limit) (below_looks p.vars p.ends p.limit p.among) p.ascend (below_steps p.vars p.ends p.limit) (below_lawful p.vars p.ends p.limit p.among) };
+    ghost forward = { λ p. forward_checked p.vars (below_holds p.ends p.limit) (below_looks p.vars p.ends p.limit p.among) p.ascend
+        (below_steps p.vars p.ends p.limit) (below_lawful p.vars p.ends p.limit p.among) };
 
-    ghost strength = { λ p s k full words grounded e. below_strong p.vars p.ends p.limit p.among s k full words grounded (stable_first p.vars (below_holds p.ends p.limit) (below_looks p.vars p.ends p.limit p.among) p.ascend (below_steps p.vars p.ends p.limit) (below_lawful p.vars p.ends p.limit p.among) s k full e) };
+    ghost strength = { λ p s k full words grounded e. below_strong p.vars p.ends p.limit p.among s k full words grounded
+        (stable_first p.vars (below_holds p.ends p.limit) (below_looks p.vars p.ends p.limit p.among) p.ascend
+        (below_steps p.vars p.ends p.limit) (below_lawful p.vars p.ends p.limit p.among) s k full e) };
 }

@@ -95,13 +95,20 @@ impl Propagator for Inside {
         check_last(self, w, scratch, did)
     }
 
-    ghost keeps = { λ p s x k full there holds. keeps_checked p.vars (inside_holds p.at p.on p.end) (inside_looks p.vars p.at p.on p.end p.among) p.ascend (inside_steps p.vars p.at p.on p.end) (inside_lawful p.vars p.at p.on p.end p.among) s x k (inside_keeps p.vars p.at p.on p.end p.among s x k there holds) there.long holds };
+    ghost keeps = { λ p s x k full there holds. keeps_checked p.vars (inside_holds p.at p.on p.end)
+        (inside_looks p.vars p.at p.on p.end p.among) p.ascend (inside_steps p.vars p.at p.on p.end)
+        (inside_lawful p.vars p.at p.on p.end p.among) s x k (inside_keeps p.vars p.at p.on p.end p.among s x k there holds) there.long
+        holds };
 
-    ghost lawful = { λ p. lawful_checked p.vars (inside_holds p.at p.on p.end) (inside_looks p.vars p.at p.on p.end p.among) p.ascend (inside_steps p.vars p.at p.on p.end) (inside_lawful p.vars p.at p.on p.end p.among) };
+    ghost lawful = { λ p. lawful_checked p.vars (inside_holds p.at p.on p.end) (inside_looks p.vars p.at p.on p.end p.among) p.ascend
+        (inside_steps p.vars p.at p.on p.end) (inside_lawful p.vars p.at p.on p.end p.among) };
 
     ghost whole = { λ p x. one_whole p.vars (inside_holds p.at p.on p.end) x };
 
-    ghost forward = { λ p. forward_checked p.vars (inside_holds p.at p.on p.end) (inside_looks p.vars p.at p.on p.end p.among) p.ascend (inside_steps p.vars p.at p.on p.end) (inside_lawful p.vars p.at p.on p.end p.among) };
+    ghost forward = { λ p. forward_checked p.vars (inside_holds p.at p.on p.end) (inside_looks p.vars p.at p.on p.end p.among) p.ascend
+        (inside_steps p.vars p.at p.on p.end) (inside_lawful p.vars p.at p.on p.end p.among) };
 
-    ghost strength = { λ p s k full words grounded e. inside_strong p.vars p.at p.on p.end p.among s k full words grounded (stable_first p.vars (inside_holds p.at p.on p.end) (inside_looks p.vars p.at p.on p.end p.among) p.ascend (inside_steps p.vars p.at p.on p.end) (inside_lawful p.vars p.at p.on p.end p.among) s k full e) };
+    ghost strength = { λ p s k full words grounded e. inside_strong p.vars p.at p.on p.end p.among s k full words grounded
+        (stable_first p.vars (inside_holds p.at p.on p.end) (inside_looks p.vars p.at p.on p.end p.among) p.ascend
+        (inside_steps p.vars p.at p.on p.end) (inside_lawful p.vars p.at p.on p.end p.among) s k full e) };
 }

@@ -71,13 +71,19 @@ impl Propagator for Last {
         check_last(self, w, scratch, did)
     }
 
-    ghost keeps = { λ p s x k full there holds. keeps_checked p.vars (last_holds p.at p.end) (last_looks p.vars p.at p.end p.among) p.ascend (last_steps p.vars p.at p.end) (last_steps_lawful p.vars p.at p.end p.among) s x k (last_steps_keep p.vars p.at p.end p.among s x k there holds) there.long holds };
+    ghost keeps = { λ p s x k full there holds. keeps_checked p.vars (last_holds p.at p.end) (last_looks p.vars p.at p.end p.among) p.ascend
+        (last_steps p.vars p.at p.end) (last_steps_lawful p.vars p.at p.end p.among) s x k
+        (last_steps_keep p.vars p.at p.end p.among s x k there holds) there.long holds };
 
-    ghost lawful = { λ p. lawful_checked p.vars (last_holds p.at p.end) (last_looks p.vars p.at p.end p.among) p.ascend (last_steps p.vars p.at p.end) (last_steps_lawful p.vars p.at p.end p.among) };
+    ghost lawful = { λ p. lawful_checked p.vars (last_holds p.at p.end) (last_looks p.vars p.at p.end p.among) p.ascend
+        (last_steps p.vars p.at p.end) (last_steps_lawful p.vars p.at p.end p.among) };
 
     ghost whole = { λ p x. one_whole p.vars (last_holds p.at p.end) x };
 
-    ghost forward = { λ p. forward_checked p.vars (last_holds p.at p.end) (last_looks p.vars p.at p.end p.among) p.ascend (last_steps p.vars p.at p.end) (last_steps_lawful p.vars p.at p.end p.among) };
+    ghost forward = { λ p. forward_checked p.vars (last_holds p.at p.end) (last_looks p.vars p.at p.end p.among) p.ascend
+        (last_steps p.vars p.at p.end) (last_steps_lawful p.vars p.at p.end p.among) };
 
-    ghost strength = { λ p s k full words grounded e. last_strong p.vars p.at p.end p.among s k full words grounded (stable_first p.vars (last_holds p.at p.end) (last_looks p.vars p.at p.end p.among) p.ascend (last_steps p.vars p.at p.end) (last_steps_lawful p.vars p.at p.end p.among) s k full e) };
+    ghost strength = { λ p s k full words grounded e. last_strong p.vars p.at p.end p.among s k full words grounded
+        (stable_first p.vars (last_holds p.at p.end) (last_looks p.vars p.at p.end p.among) p.ascend (last_steps p.vars p.at p.end)
+        (last_steps_lawful p.vars p.at p.end p.among) s k full e) };
 }

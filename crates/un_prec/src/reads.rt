@@ -84,7 +84,8 @@ fn end_of_gap(least: u32, gaps: &[u32], n: u32) -> Option<u64>
 fn first_end(w: &Window<'_>, v: VarId, least: u32, gaps: &[u32]) -> Option<u64>
     requires there { v.0 < length w.now.store.now.sets }
     requires live { NoneEmpty w.now.store.now.sets }
-    ensures { (t : ℕ) → is_by result t ≡ list_any (λ n. passes_at (λ g. nat_le (least + g) t) gaps.now n) (set_at w.now.store.now.sets v.0) }
+    ensures { (t : ℕ) → is_by result t ≡ list_any (λ n. passes_at (λ g. nat_le (least + g) t) gaps.now n)
+        (set_at w.now.store.now.sets v.0) }
 {
     let low = u64::from(w.min(v));
     let end = u64::from(w.max(v)) + 1;
@@ -149,7 +150,8 @@ fn first_read(w: &Window<'_>, choice: VarId, alts: &[ReadAlt]) -> Option<u64>
 
 /// What a time has to be greater than for a first time to come by then; none where each time will do.
 fn below(first: Option<u64>) -> Option<u32>
-    ensures { MatchOption result ((y : ℕ) → (nat_le (2 ^ 32) y || is_by first y) ≡ true) (λ b. (y : ℕ) → (nat_le (2 ^ 32) y || is_by first y) ≡ nat_lt b y) }
+    ensures { MatchOption result ((y : ℕ) → (nat_le (2 ^ 32) y || is_by first y) ≡ true)
+        (λ b. (y : ℕ) → (nat_le (2 ^ 32) y || is_by first y) ≡ nat_lt b y) }
 {
     match first {
         None => Some(u32::MAX),
@@ -169,7 +171,8 @@ fn keep_soon(w: &mut Window<'_>, before: Pruned, reads: &Reads) -> Pruned
     requires vars { w.old.vars.now ≡ reads.now.vars }
     requires known { HasVars reads.now.vars w.old.store.now.sets }
     requires live { before ≢ Failed → NoneEmpty w.old.store.now.sets }
-    ensures step { Stepped w.old.vars.now (at_cut (soon_test reads.now.user_on reads.now.choice reads.now.alts) reads.now.user) w.old.store.now w.new.store.now before result }
+    ensures step { Stepped w.old.vars.now (at_cut (soon_test reads.now.user_on reads.now.choice reads.now.alts) reads.now.user)
+        w.old.store.now w.new.store.now before result }
     ensures same_reference { w.new.store.ghost_name ≡ w.old.store.ghost_name }
     ensures vars { w.new.vars ≡ w.old.vars }
 {
@@ -248,7 +251,8 @@ impl Propagator for Reads {
     ghost use Rattle.un_prec.specs.Reads.{reads_holds, reads_steps, ReadsStrong};
     ghost use Rattle.un_prec.specs.ReadsLaws.{reads_looks, reads_lawful, reads_keeps, reads_strong};
 
-    ghost cut = { λ p s. option_and_then (last_cut p.vars (reads_holds p.user p.user_on p.choice p.alts)) (reads_steps p.user p.user_on p.choice p.alts s) };
+    ghost cut = { λ p s. option_and_then (last_cut p.vars (reads_holds p.user p.user_on p.choice p.alts))
+        (reads_steps p.user p.user_on p.choice p.alts s) };
 
     ghost parts = { λ p. one_part p.vars (reads_holds p.user p.user_on p.choice p.alts) };
 
@@ -263,13 +267,23 @@ impl Propagator for Reads {
         check_last(self, w, scratch, did)
     }
 
-    ghost keeps = { λ p s x k full there holds. keeps_checked p.vars (reads_holds p.user p.user_on p.choice p.alts) (reads_looks p.vars p.user p.user_on p.choice p.alts p.among) p.ascend (reads_steps p.user p.user_on p.choice p.alts) (reads_lawful p.vars p.user p.user_on p.choice p.alts p.among) s x k (reads_keeps p.vars p.user p.user_on p.choice p.alts p.among s x k there holds) there.long holds };
+    ghost keeps = { λ p s x k full there holds. keeps_checked p.vars (reads_holds p.user p.user_on p.choice p.alts)
+        (reads_looks p.vars p.user p.user_on p.choice p.alts p.among) p.ascend (reads_steps p.user p.user_on p.choice p.alts)
+        (reads_lawful p.vars p.user p.user_on p.choice p.alts p.among) s x k
+        (reads_keeps p.vars p.user p.user_on p.choice p.alts p.among s x k there holds) there.long holds };
 
-    ghost lawful = { λ p. lawful_checked p.vars (reads_holds p.user p.user_on p.choice p.alts) (reads_looks p.vars p.user p.user_on p.choice p.alts p.among) p.ascend (reads_steps p.user p.user_on p.choice p.alts) (reads_lawful p.vars p.user p.user_on p.choice p.alts p.among) };
+    ghost lawful = { λ p. lawful_checked p.vars (reads_holds p.user p.user_on p.choice p.alts)
+        (reads_looks p.vars p.user p.user_on p.choice p.alts p.among) p.ascend (reads_steps p.user p.user_on p.choice p.alts)
+        (reads_lawful p.vars p.user p.user_on p.choice p.alts p.among) };
 
     ghost whole = { λ p x. one_whole p.vars (reads_holds p.user p.user_on p.choice p.alts) x };
 
-    ghost forward = { λ p. forward_checked p.vars (reads_holds p.user p.user_on p.choice p.alts) (reads_looks p.vars p.user p.user_on p.choice p.alts p.among) p.ascend (reads_steps p.user p.user_on p.choice p.alts) (reads_lawful p.vars p.user p.user_on p.choice p.alts p.among) };
+    ghost forward = { λ p. forward_checked p.vars (reads_holds p.user p.user_on p.choice p.alts)
+        (reads_looks p.vars p.user p.user_on p.choice p.alts p.among) p.ascend (reads_steps p.user p.user_on p.choice p.alts)
+        (reads_lawful p.vars p.user p.user_on p.choice p.alts p.among) };
 
-    ghost strength = { λ p s k full words grounded e. reads_strong p.vars p.user p.user_on p.choice p.alts p.among s k full words (stable_first p.vars (reads_holds p.user p.user_on p.choice p.alts) (reads_looks p.vars p.user p.user_on p.choice p.alts p.among) p.ascend (reads_steps p.user p.user_on p.choice p.alts) (reads_lawful p.vars p.user p.user_on p.choice p.alts p.among) s k full e) };
+    ghost strength = { λ p s k full words grounded e. reads_strong p.vars p.user p.user_on p.choice p.alts p.among s k full words
+        (stable_first p.vars (reads_holds p.user p.user_on p.choice p.alts) (reads_looks p.vars p.user p.user_on p.choice p.alts p.among)
+        p.ascend (reads_steps p.user p.user_on p.choice p.alts) (reads_lawful p.vars p.user p.user_on p.choice p.alts p.among) s k full
+        e) };
 }

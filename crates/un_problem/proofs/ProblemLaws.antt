@@ -1,5 +1,6 @@
 -- What the extended function of every function keeps of it.
-use Rattle.std.proofs.Common.{◌≡◌, ℕ, zero, suc, false, true, ◌+◌, ◌<◌, ◌≤◌, Bool, List, [], ◌∷◌, map, length, get_or, All, refl, sym, ap, ◌∙◌, arith, subst}
+use Rattle.std.proofs.Common.{◌≡◌, ℕ, zero, suc, false, true, ◌+◌, ◌<◌, ◌≤◌, Bool, List, [], ◌∷◌, map, length, get_or, All, refl, sym, ap}
+use Rattle.std.proofs.Common.{◌∙◌, arith, subst}
 use Rattle.std.proofs.Math.Bridge.{le_prop}
 use Rattle.std.proofs.Math.Logic.{∥∥₁_elim}
 use Rattle.std.proofs.lemmas.List.{get_or-map, length-map}
@@ -62,7 +63,8 @@ pub few_blocks : (f : Function) → length f.blocks ≤ 16
 few_blocks f = ∥∥₁_elim f.well_formed le_prop (λ (w : Kept f). w.few_blocks)
 
 pub rarely_run : (f : Function) (k : ℕ) (d : Block) → k < length f.blocks → (let block = get_or f.blocks k d in block.freq) ≤ 1000000
-rarely_run f k d h = ∥∥₁_elim f.well_formed le_prop (λ (w : Kept f). let good : IsGoodBlock f.names (get_or f.blocks k d) = w.good_blocks k d h in good.freq.1)
+rarely_run f k d h = ∥∥₁_elim f.well_formed le_prop (λ (w : Kept f). let good : IsGoodBlock f.names (get_or f.blocks k d) =
+    w.good_blocks k d h in good.freq.1)
 
 all_rare : (blocks : List Block) → ((k : ℕ) (d : Block) → k < length blocks → (let block = get_or blocks k d in block.freq) ≤ 1000000)
     → (k : ℕ) → k < length blocks → get_or (frequencies blocks) k 0 ≤ 1000000

@@ -1,5 +1,6 @@
 -- Steps of a round, and of rounds.
-use Rattle.std.proofs.Common.{ℕ, suc, ◌≡◌, ◌≢◌, ◌<◌, ◌≤◌, ◌+◌, Bool, true, false, List, [], ◌∷◌, length, get_or, drop, drop-cons, add-one, None, Some, option_and_then, MatchOption, All, refl, sym, ap, ◌∙◌, subst, arith}
+use Rattle.std.proofs.Common.{ℕ, suc, ◌≡◌, ◌≢◌, ◌<◌, ◌≤◌, ◌+◌, Bool, true, false, List, [], ◌∷◌, length, get_or, drop, drop-cons, add-one}
+use Rattle.std.proofs.Common.{None, Some, option_and_then, MatchOption, All, refl, sym, ap, ◌∙◌, subst, arith}
 use Rattle.std.specs.declared.option.Option.{Option}
 use Rattle.std.specs.Bool.{MatchBool, ⊤}
 use Rattle.std.specs.List.{AllByRecursion}
@@ -32,7 +33,8 @@ none_of None old new h = (refl, h.1)
 none_of (Some left) old new h = absurd h.answers
 
 -- what a propagator reads is there while no variable goes
-pub item_known : {P : Type 0} (scope : P → List VarId) (ps : List P) (i : ℕ) (p : P) (first s : Sets) → All (λ q. HasVars (scope q) first) ps
+pub item_known : {P : Type 0} (scope : P → List VarId) (ps : List P) (i : ℕ) (p : P) (first s : Sets)
+    → All (λ q. HasVars (scope q) first) ps
     → i < length ps → p ≡ get_or ps i p → length s ≡ length first → HasVars (scope p) s
 item_known scope ps i p first s all below at long =
     let here : HasVars (scope p) first = subst (λ q. HasVars (scope q) first) (sym at) (all i p below) in
@@ -45,14 +47,16 @@ nonempty_has (y ∷ ys) x h = omega arith
 pub IsIn-full : (x : List ℕ) (s : Sets) → IsIn x s → NoneEmpty s
 IsIn-full x s h v below = nonempty_has (set_at s v) (get_or x v 0) (h.each v below)
 
-then_kept : (f : Sets → Option Sets) (x : List ℕ) (c : Option Sets) → Kept x c → ((t : Sets) → IsIn x t → Kept x (f t)) → Kept x (option_and_then f c)
+then_kept : (f : Sets → Option Sets) (x : List ℕ) (c : Option Sets) → Kept x c → ((t : Sets) → IsIn x t → Kept x (f t))
+    → Kept x (option_and_then f c)
 then_kept f x None h g = absurd h
 then_kept f x (Some t) h g = g t h
 
 module _ {P : Type 0} (scope : P → List VarId) (cut : P → Sets → Option Sets) (lawful : (p : P) → Lawful (scope p) (cut p)) where
   module _ (holds : P → List ℕ → Bool)
       (keeps : (p : P) (s : Sets) (x : List ℕ) → HasVars (scope p) s → NoneEmpty s → IsIn x s → holds p x ≡ true → Kept x (cut p s)) where
-    pub round_kept : (ps : List P) (s : Sets) (x : List ℕ) → Known scope cut lawful ps s → IsIn x s → AllByRecursion (λ p. holds p x ≡ true) ps
+    pub round_kept : (ps : List P) (s : Sets) (x : List ℕ) → Known scope cut lawful ps s → IsIn x s
+        → AllByRecursion (λ p. holds p x ≡ true) ps
         → Kept x (round cut ps s)
     round_kept [] s x k h all = h
     round_kept (p ∷ ps) s x k h all =
@@ -73,24 +77,29 @@ module _ {P : Type 0} (scope : P → List VarId) (cut : P → Sets → Option Se
         → round cut (drop (i + 1) ps) t ≡ round cut (drop i ps) s
     round_step i p s t below at e =
         let cons : drop i ps ≡ p ∷ drop (i + 1) ps =
-        subst (λ (n : ℕ). drop i ps ≡ p ∷ drop n ps) (sym (add-one i)) (drop-cons ps i p below ∙ ap (λ (q : P). q ∷ drop (suc i) ps) (sym at)) in
+        subst (λ (n : ℕ). drop i ps ≡ p ∷ drop n ps) (sym (add-one i))
+        (drop-cons ps i p below ∙ ap (λ (q : P). q ∷ drop (suc i) ps) (sym at)) in
         sym (ap (λ (qs : List P). round cut qs s) cons ∙ ap (option_and_then (round cut (drop (i + 1) ps))) e)
 
     pub round_failed : (i : ℕ) (p : P) (s : Contents) (changed : Bool) → SoFar i s changed → i < length ps → p ≡ get_or ps i p
         → cut p s.sets ≡ None → round cut ps first.sets ≡ None
     round_failed i p s changed sofar below at e =
         let cons : drop i ps ≡ p ∷ drop (i + 1) ps =
-        subst (λ (n : ℕ). drop i ps ≡ p ∷ drop n ps) (sym (add-one i)) (drop-cons ps i p below ∙ ap (λ (q : P). q ∷ drop (suc i) ps) (sym at)) in
+        subst (λ (n : ℕ). drop i ps ≡ p ∷ drop n ps) (sym (add-one i))
+        (drop-cons ps i p below ∙ ap (λ (q : P). q ∷ drop (suc i) ps) (sym at)) in
         sym sofar.rest ∙ (ap (λ (qs : List P). round cut qs s.sets) cons ∙ ap (option_and_then (round cut (drop (i + 1) ps))) e)
 
-    module _ (i : ℕ) (p : P) (s t : Contents) (changed : Bool) (sofar : SoFar i s changed) (known : HasVars (scope p) s.sets) (below : i < length ps)
+    module _ (i : ℕ) (p : P) (s t : Contents) (changed : Bool) (sofar : SoFar i s changed) (known : HasVars (scope p) s.sets)
+        (below : i < length ps)
         (at : p ≡ get_or ps i p) where
       went : (answer : Pruned) → answer ≢ Failed → IsPrune (scope p) (cut p s.sets) s t answer → (changed' : Bool)
-          → (Answers answer s.sets t.sets → MatchBool changed' (total t.sets < total first.sets) (t.sets ≡ first.sets)) → SoFar (i + 1) t changed'
+          → (Answers answer s.sets t.sets → MatchBool changed' (total t.sets < total first.sets) (t.sets ≡ first.sets))
+          → SoFar (i + 1) t changed'
       went answer other h changed' f =
           let left = left_of (cut p s.sets) s.sets t.sets answer h.ends other in
           let fewer : Below t.sets s.sets × NoneEmpty t.sets =
-          subst (λ (c : Option Sets). MatchOption c ⊤ (λ u. Below u s.sets × NoneEmpty u)) left.0 ((lawful p).shrinks s.sets known sofar.full) in
+          subst (λ (c : Option Sets). MatchOption c ⊤ (λ u. Below u s.sets × NoneEmpty u)) left.0
+          ((lawful p).shrinks s.sets known sofar.full) in
           record {
             rest = round_step i p s.sets t.sets below at left.0 ∙ sofar.rest;
             full = left.1;
@@ -116,7 +125,8 @@ module _ {P : Type 0} (scope : P → List VarId) (cut : P → Sets → Option Se
   -- one more round, which took some value
   pub fix_goes : (holds : P → List ℕ → Bool)
       → ((p : P) (s : Sets) (x : List ℕ) → HasVars (scope p) s → NoneEmpty s → IsIn x s → holds p x ≡ true → Kept x (cut p s))
-      → (ps : List P) (first s t : Contents) → FixSoFar holds ps first s → Known scope cut lawful ps first.sets → round cut ps s.sets ≡ Some t.sets
+      → (ps : List P) (first s t : Contents) → FixSoFar holds ps first s → Known scope cut lawful ps first.sets
+      → round cut ps s.sets ≡ Some t.sets
       → t.marked ≡ s.marked → FixSoFar holds ps first t
   fix_goes holds keeps ps first s t sofar k e marked =
       let known = known_long scope cut lawful ps first.sets s.sets sofar.below.long k in

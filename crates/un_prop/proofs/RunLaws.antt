@@ -1,5 +1,6 @@
 -- A run so far.
-use Rattle.std.proofs.Common.{ℕ, ◌≡◌, ◌≢◌, ◌<◌, ◌≤◌, ◌+◌, ◌*◌, ◌⊎◌, Bool, true, false, List, [], ◌∷◌, length, get_or, set, None, Some, MatchOption, All, sym, ap, ◌∙◌, subst, arith, inl, inr}
+use Rattle.std.proofs.Common.{ℕ, ◌≡◌, ◌≢◌, ◌<◌, ◌≤◌, ◌+◌, ◌*◌, ◌⊎◌, Bool, true, false, List, [], ◌∷◌, length, get_or, set, None, Some}
+use Rattle.std.proofs.Common.{MatchOption, All, sym, ap, ◌∙◌, subst, arith, inl, inr}
 use Rattle.std.specs.declared.option.Option.{Option}
 use Rattle.std.specs.Bool.{⊤}
 use Rattle.std.specs.List.{sum_by}
@@ -19,7 +20,8 @@ use Rattle.un_prop.specs.Fixes.{Stable, order_free, stays_below}
 use Rattle.un_prop.specs.Queues.{IsTable, IsReady, IsSizes, waits, flag, Grows, AllWait}
 use Rattle.un_prop.specs.QueueLaws.{ready_after}
 
-module _ {P : Type 0} (scope : P → List VarId) (cut : P → Sets → Option Sets) (lawful : (p : P) → Lawful (scope p) (cut p)) (ps : List P) (first : Sets) where
+module _ {P : Type 0} (scope : P → List VarId) (cut : P → Sets → Option Sets) (lawful : (p : P) → Lawful (scope p) (cut p)) (ps : List P)
+    (first : Sets) where
   -- no stable store is lost, and what does not wait leaves the store as it is
   pub record SoFar (s : Sets) (ws : List Bool) (sizes : List ℕ) : Type 0 where
     pub full : NoneEmpty s
@@ -33,7 +35,8 @@ module _ {P : Type 0} (scope : P → List VarId) (cut : P → Sets → Option Se
     known_now : (s : Sets) (ws : List Bool) (sizes : List ℕ) → SoFar s ws sizes → All (λ p. HasVars (scope p) s) ps
     known_now s ws sizes h i d lt k x below = rw h.below.long (known i d lt k x below)
 
-    pub run_first : (s : Sets) (ws : List Bool) (sizes : List ℕ) → s ≡ first → IsReady cut ps ws first → length ws ≡ length ps → IsSizes sizes first → SoFar s ws sizes
+    pub run_first : (s : Sets) (ws : List Bool) (sizes : List ℕ) → s ≡ first → IsReady cut ps ws first → length ws ≡ length ps
+        → IsSizes sizes first → SoFar s ws sizes
     run_first s ws sizes e ready flags counted = record {
       full = subst NoneEmpty (sym e) full;
       below = subst (λ (t : Sets). Below t first) (sym e) (Below-refl first);
@@ -44,7 +47,8 @@ module _ {P : Type 0} (scope : P → List VarId) (cut : P → Sets → Option Se
     }
 
     -- where none waits, the run has ended
-    pub run_ends : (s : Sets) (ws : List Bool) (sizes : List ℕ) → SoFar s ws sizes → ((i : ℕ) → waits ws i ≡ false) → fix_of cut ps first ≡ Some s
+    pub run_ends : (s : Sets) (ws : List Bool) (sizes : List ℕ) → SoFar s ws sizes → ((i : ℕ) → waits ws i ≡ false)
+        → fix_of cut ps first ≡ Some s
     run_ends s ws sizes h rests = order_free scope cut lawful ps first (Some s) (recursion_from_All _ _ known) full (record {
       below = h.below;
       full = h.full;
@@ -53,21 +57,25 @@ module _ {P : Type 0} (scope : P → List VarId) (cut : P → Sets → Option Se
     })
 
     stable_at : (u : Sets) (i : ℕ) (p : P) → i < length ps → p ≡ get_or ps i p → Stable cut ps u → cut p u ≡ Some u
-    stable_at u i p lt at stable = subst (λ (q : P). cut q u ≡ Some u) (sym at) (All-from_recursion (λ q. cut q u ≡ Some u) ps stable i p lt)
+    stable_at u i p lt at stable = subst (λ (q : P). cut q u ≡ Some u) (sym at)
+        (All-from_recursion (λ q. cut q u ≡ Some u) ps stable i p lt)
 
-    module _ (s : Sets) (ws : List Bool) (sizes : List ℕ) (h : SoFar s ws sizes) (i : ℕ) (p : P) (lt : i < length ps) (at : p ≡ get_or ps i p) where
+    module _ (s : Sets) (ws : List Bool) (sizes : List ℕ) (h : SoFar s ws sizes) (i : ℕ) (p : P) (lt : i < length ps)
+        (at : p ≡ get_or ps i p) where
       known_at : HasVars (scope p) s
       known_at = subst (λ (q : P). HasVars (scope q) s) (sym at) (known_now s ws sizes h i p lt)
 
       pub run_long : (t : Sets) → cut p s ≡ Some t → (length t ≡ length s) × (length t ≡ length first) × HasVars (scope p) t
       run_long t e =
-          let less : Below t s × NoneEmpty t = subst (λ (c : Option Sets). MatchOption c ⊤ (λ x. Below x s × NoneEmpty x)) e ((lawful p).shrinks s known_at h.full) in
+          let less : Below t s × NoneEmpty t = subst (λ (c : Option Sets). MatchOption c ⊤ (λ x. Below x s × NoneEmpty x)) e
+          ((lawful p).shrinks s known_at h.full) in
           (less.0.long, less.0.long ∙ h.below.long, λ k d below. rw less.0.long (known_at k d below))
 
       -- where one fails, the rounds fail
       pub run_fails : cut p s ≡ None → fix_of cut ps first ≡ None
       run_fails e = order_free scope cut lawful ps first None (recursion_from_All _ _ known) full
-          (λ u b fu stable. subst (BelowOption (Some u)) e (stays_below scope cut lawful p u s known_at fu h.full (h.above u b fu stable) (stable_at u i p lt at stable)))
+          (λ u b fu stable. subst (BelowOption (Some u)) e (stays_below scope cut lawful p u s known_at fu h.full (h.above u b fu stable)
+          (stable_at u i p lt at stable)))
 
       -- one that changed nothing waits no more
       pub run_same : (t : Sets) → cut p s ≡ Some t → t ≡ s → SoFar t (set ws i false) sizes
@@ -76,7 +84,8 @@ module _ {P : Type 0} (scope : P → List VarId) (cut : P → Sets → Option Se
         below = subst (λ (x : Sets). Below x first) (sym same) h.below;
         above = λ u b fu stable. subst (Below u) (sym same) (h.above u b fu stable);
         ready = subst (IsReady cut ps (set ws i false)) (sym same) (λ j d below rests. elim (same_or_not j i) [
-          | inl is ↦ subst (λ (k : ℕ). cut (get_or ps k d) s ≡ Some s) (sym is) (subst (λ (q : P). cut q s ≡ Some s) (at ∙ get_or_default ps i p d lt) (e ∙ ap (λ (x : Sets). Some x) same))
+          | inl is ↦ subst (λ (k : ℕ). cut (get_or ps k d) s ≡ Some s) (sym is)
+              (subst (λ (q : P). cut q s ≡ Some s) (at ∙ get_or_default ps i p d lt) (e ∙ ap (λ (x : Sets). Some x) same))
           | inr ne ↦ h.ready j d below (sym (get_or-set_other ws i j false false ne) ∙ rests)
         ]);
         flags = length-set ws i false ∙ h.flags;
@@ -86,16 +95,21 @@ module _ {P : Type 0} (scope : P → List VarId) (cut : P → Sets → Option Se
       -- after one that changed something, those wait that read what changed
       pub run_tighter : (t : Sets) (table : Sets) (vs : List VarId) (ws' : List Bool) (sizes' : List ℕ) → cut p s ≡ Some t
           → IsTable scope ps (length first) table → vs ≡ scope p → length ws' ≡ length ws → length sizes' ≡ length sizes → Grows ws ws'
-          → All (λ v. get_or sizes' v.0 0 ≡ length (set_at t v.0)) vs → ((w : ℕ) → All (λ v. (w ≡ v.0) → ⊥) vs → get_or sizes' w 0 ≡ get_or sizes w 0) → ((w : ℕ) → (get_or sizes' w 0 ≡ get_or sizes w 0) ⊎ AllWait table ws' w)
+          → All (λ v. get_or sizes' v.0 0 ≡ length (set_at t v.0)) vs
+          → ((w : ℕ) → All (λ v. (w ≡ v.0) → ⊥) vs → get_or sizes' w 0 ≡ get_or sizes w 0)
+          → ((w : ℕ) → (get_or sizes' w 0 ≡ get_or sizes w 0) ⊎ AllWait table ws' w)
           → SoFar t ws' sizes'
       run_tighter t table vs ws' sizes' e tab is flags long grows counted others woken = record {
         full = less.1;
         below = Below-trans t s first less.0 h.below;
-        above = λ u b fu stable. subst (BelowOption (Some u)) e (stays_below scope cut lawful p u s known_at fu h.full (h.above u b fu stable) (stable_at u i p lt at stable));
-        ready = ready_after scope cut lawful ps (length first) table ws ws' s t tab (known_now s ws sizes h) h.full less.1 less.0.long (λ v below. elim (woken v) [
-          | inl same ↦ inl (sym (set_same t s v less.0 (sym (noted_all v (omega (arith, below, less.0.long))) ∙ (same ∙ h.noted.each v below))))
-          | inr all ↦ inr all
-        ]) grows h.ready;
+        above = λ u b fu stable. subst (BelowOption (Some u)) e (stays_below scope cut lawful p u s known_at fu h.full
+            (h.above u b fu stable) (stable_at u i p lt at stable));
+        ready = ready_after scope cut lawful ps (length first) table ws ws' s t tab (known_now s ws sizes h) h.full less.1 less.0.long
+            (λ v below. elim (woken v) [
+              | inl same ↦ inl (sym (set_same t s v less.0 (sym (noted_all v (omega (arith, below, less.0.long)))
+                  ∙ (same ∙ h.noted.each v below))))
+              | inr all ↦ inr all
+            ]) grows h.ready;
         flags = flags ∙ h.flags;
         noted = record { long = long ∙ (h.noted.long ∙ sym less.0.long); each = noted_all };
       }
@@ -105,8 +119,13 @@ module _ {P : Type 0} (scope : P → List VarId) (cut : P → Sets → Option Se
 
           noted_all : (v : ℕ) → v < length t → get_or sizes' v 0 ≡ length (set_at t v)
           noted_all v below = elim (find_var vs v) [
-            | inl there ↦ subst (λ (w : ℕ). get_or sizes' w 0 ≡ length (set_at t w)) (sym there.2) (All-contains (λ u. get_or sizes' u.0 0 ≡ length (set_at t u.0)) vs there.0 counted there.1)
-            | inr all ↦ others v (All-from_recursion (λ u. v ≢ u.0) vs all) ∙ (h.noted.each v (omega (arith, below, less.0.long)) ∙ ap length (sym (subst (λ (c : Option Sets). MatchOption c ⊤ (λ x. set_at x v ≡ set_at s v)) e ((lawful p).outside s v (subst (λ (us : List VarId). All (λ u. v ≢ u.0) us) is (All-from_recursion (λ u. v ≢ u.0) vs all))))))
+            | inl there ↦ subst (λ (w : ℕ). get_or sizes' w 0 ≡ length (set_at t w)) (sym there.2)
+                (All-contains (λ u. get_or sizes' u.0 0 ≡ length (set_at t u.0)) vs there.0 counted there.1)
+            | inr all ↦ others v (All-from_recursion (λ u. v ≢ u.0) vs all)
+                ∙ (h.noted.each v (omega (arith, below, less.0.long))
+                ∙ ap length (sym (subst (λ (c : Option Sets). MatchOption c ⊤ (λ x. set_at x v ≡ set_at s v)) e
+                ((lawful p).outside s v (subst (λ (us : List VarId). All (λ u. v ≢ u.0) us) is
+                (All-from_recursion (λ u. v ≢ u.0) vs all))))))
           ]
 
 -- the measure: values, and then flags
@@ -123,9 +142,13 @@ flags-le (w ∷ ws) = omega (arith, sum_by-cons flag w ws, flags-le ws, flag-le 
 
 -- fewer values are less work, however many wait
 pub less_work : (n : ℕ) (t s : Sets) (ws ws' : List Bool) → total t < total s → length ws' ≡ n → work n t ws' < work n s ws
-less_work n t s ws ws' lt e = let more : (total t + 1) * (n + 1) ≤ total s * (n + 1) = mul-le-mul_right (n + 1) (omega (arith, lt)) in omega (arith, more, flags-le ws', e)
+less_work n t s ws ws' lt e = let more : (total t + 1) * (n + 1) ≤ total s * (n + 1) = mul-le-mul_right (n + 1) (omega (arith, lt)) in
+    omega (arith, more, flags-le ws', e)
 
 -- and as many values with a flag less are
-pub one_less : (n : ℕ) (t s : Sets) (ws : List Bool) (i : ℕ) → t ≡ s → i < length ws → waits ws i ≡ true → work n t (set ws i false) < work n s ws
+pub one_less : (n : ℕ) (t s : Sets) (ws : List Bool) (i : ℕ) → t ≡ s → i < length ws → waits ws i ≡ true
+    → work n t (set ws i false) < work n s ws
 one_less n t s ws i e lt is = subst (λ (x : Sets). work n x (set ws i false) < work n s ws) (sym e)
-    (let sums : sum_by flag (set ws i false) + 1 ≡ sum_by flag ws + 0 = subst (λ (b : Bool). sum_by flag (set ws i false) + flag b ≡ sum_by flag ws + 0) is (sum_by-set flag ws i false false lt) in omega (arith, sums))
+    (let sums : sum_by flag (set ws i false) + 1 ≡ sum_by flag ws + 0 =
+    subst (λ (b : Bool). sum_by flag (set ws i false) + flag b ≡ sum_by flag ws + 0) is (sum_by-set flag ws i false false lt) in
+    omega (arith, sums))

@@ -1,5 +1,6 @@
 -- Places that wait, as flags and as a list.
-use Rattle.std.proofs.Common.{ℕ, ◌≡◌, ◌≢◌, ◌<◌, ◌+◌, Bool, true, false, cond, List, ◌∷◌, length, set, nat_eq, sym, ap, ◌∙◌, subst, arith, inl, inr}
+use Rattle.std.proofs.Common.{ℕ, ◌≡◌, ◌≢◌, ◌<◌, ◌+◌, Bool, true, false, cond, List, ◌∷◌, length, set, nat_eq, sym, ap, ◌∙◌, subst, arith}
+use Rattle.std.proofs.Common.{inl, inr}
 use Rattle.std.specs.List.{sum_by, count_by}
 use Rattle.std.proofs.lemmas.Bool.{cases_lt}
 use Rattle.std.proofs.lemmas.Bool.Decides.{nat_tests}
@@ -60,7 +61,14 @@ module _ (ws : List Bool) (ps : List ℕ) (size i : ℕ) where
     queue_taken = record {
       once = λ j. elim (same_or_not j i) [
         | inl e ↦ subst (λ (k : ℕ). count_by (λ x. nat_eq x k) ps ≡ flag (waits (set ws i false) k)) (sym e)
-            (omega (arith, h.once i, count_first i, ap flag first_waits.1, at_same i, ap flag (get_or-set_same ws i false false first_waits.0)))
+            (omega (
+              arith,
+              h.once i,
+              count_first i,
+              ap flag first_waits.1,
+              at_same i,
+              ap flag (get_or-set_same ws i false false first_waits.0),
+            ))
         | inr ne ↦ omega (arith, h.once j, count_first j, at_other j i ne, ap flag (get_or-set_other ws i j false false ne))
       ];
       long = omega (arith, sum_by-cons flag false ws, flags_down first_waits.0 first_waits.1, h.long);

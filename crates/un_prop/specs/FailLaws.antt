@@ -12,7 +12,8 @@ use Rattle.un_prop.specs.Steps.{lawful_cut_by, lawful_some}
 use Rattle.un_prop.specs.LastLaws.{cut_all, cut_same, passes_all}
 use Rattle.un_prop.specs.Failing.{first_cut, fail_cut}
 
-pub first_is : (q : Sets → ℕ → Bool) (vs : List VarId) (v : VarId) (s : Sets) → Some v ≡ slice_get vs 0 → (first_cut q vs s ≡ cut_by (q s) v.0 s) × Contains vs v
+pub first_is : (q : Sets → ℕ → Bool) (vs : List VarId) (v : VarId) (s : Sets) → Some v ≡ slice_get vs 0
+    → (first_cut q vs s ≡ cut_by (q s) v.0 s) × Contains vs v
 first_is q [] v s e = absurd (cc e)
 first_is q (u ∷ us) v s e = let same : u ≡ v = cc e in (ap (λ (x : VarId). cut_by (q s) x.0 s) same, (0, omega arith, same))
 
@@ -21,7 +22,8 @@ first_none q [] s e = refl
 first_none q (u ∷ us) s e = absurd (cc e)
 
 -- the cut where all pass, and where none does
-pub first_all : (q : Sets → ℕ → Bool) (vs : List VarId) (s : Sets) → HasVars vs s → NoneEmpty s → ((y : ℕ) → q s y ≡ true) → first_cut q vs s ≡ Some s
+pub first_all : (q : Sets → ℕ → Bool) (vs : List VarId) (s : Sets) → HasVars vs s → NoneEmpty s → ((y : ℕ) → q s y ≡ true)
+    → first_cut q vs s ≡ Some s
 first_all q [] s k full h = refl
 first_all q (u ∷ us) s k full h = cut_all (q s) u.0 s (k 0 u (omega arith)) full (λ y there. h y)
 
@@ -33,12 +35,14 @@ pub first_lawful : (q : Sets → ℕ → Bool) (vs : List VarId) → LawfulTest 
 first_lawful q [] h = lawful_some []
 first_lawful q (u ∷ us) h = lawful_cut_by (u ∷ us) u q (0, omega arith, refl) h
 
-pub first_keeps : (q : Sets → ℕ → Bool) (vs : List VarId) (s : Sets) (x : List ℕ) → HasVars vs s → IsIn x s → ((y : ℕ) → q s y ≡ true) → Kept x (first_cut q vs s)
+pub first_keeps : (q : Sets → ℕ → Bool) (vs : List VarId) (s : Sets) (x : List ℕ) → HasVars vs s → IsIn x s → ((y : ℕ) → q s y ≡ true)
+    → Kept x (first_cut q vs s)
 first_keeps q [] s x k there h = there
 first_keeps q (u ∷ us) s x k there h = cut_by_kept (q s) u.0 s x (k 0 u (omega arith)) there (h _)
 
 -- what stays passes, where there is a variable
-pub first_passes : (q : Sets → ℕ → Bool) (vs : List VarId) (s : Sets) → 0 < length vs → HasVars vs s → NoneEmpty s → first_cut q vs s ≡ Some s
+pub first_passes : (q : Sets → ℕ → Bool) (vs : List VarId) (s : Sets) → 0 < length vs → HasVars vs s → NoneEmpty s
+    → first_cut q vs s ≡ Some s
     → (y : ℕ) × (q s y ≡ true)
 first_passes q [] s some k full e = absurd (omega arith)
 first_passes q (u ∷ us) s some k full e = at (set_at s u.0) refl (full u.0 (k 0 u (omega arith)))

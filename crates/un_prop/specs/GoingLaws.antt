@@ -1,5 +1,6 @@
 -- Laws of steps.
-use Rattle.std.proofs.Common.{ℕ, ◌≡◌, ◌≢◌, ◌<◌, Bool, true, false, cond, List, [], ◌∷◌, length, filter, set, nat_eq, nat_le, nat_lt, None, Some, option_and_then, All, refl, sym, ap, ◌∙◌, subst, arith}
+use Rattle.std.proofs.Common.{ℕ, ◌≡◌, ◌≢◌, ◌<◌, Bool, true, false, cond, List, [], ◌∷◌, length, filter, set, nat_eq, nat_le, nat_lt, None}
+use Rattle.std.proofs.Common.{Some, option_and_then, All, refl, sym, ap, ◌∙◌, subst, arith}
 use Rattle.std.specs.declared.option.Option.{Option}
 use Rattle.std.specs.List.{Contains}
 use Rattle.std.proofs.lemmas.Bool.Decides.{nat_tests}
@@ -26,7 +27,8 @@ module _ (p : ℕ → Bool) (v : ℕ) (old new : Contents) (within : v < length 
       → Ends (cut_by p v old.sets) old.sets new.sets answer
   some_left answer e some answers =
       let no : nat_eq (length (set_at new.sets v)) 0 ≡ false = grind (arith, nat_tests) in
-      let there : nat_eq (length (filter p (set_at old.sets v))) 0 ≡ false = subst (λ (xs : List ℕ). nat_eq (length xs) 0 ≡ false) (at_new e) no in
+      let there : nat_eq (length (filter p (set_at old.sets v))) 0 ≡ false =
+      subst (λ (xs : List ℕ). nat_eq (length xs) 0 ≡ false) (at_new e) no in
       let more : 0 < length (filter p (set_at old.sets v)) = subst (λ (xs : List ℕ). 0 < length xs) (at_new e) some in
       rw there (record { sets = e; live = kept_full p old.sets v within live more; answers = subst (Answers answer old.sets) e answers })
 
@@ -34,25 +36,40 @@ module _ (p : ℕ → Bool) (v : ℕ) (old new : Contents) (within : v < length 
   pub cut_ends : (cut : Cut) → IsCut p v old new cut → Ends (cut_by p v old.sets) old.sets new.sets (answer_of cut)
   cut_ends CutSame h =
       let as_many = (h.same.0 refl).1 in
-      let whole : filter p (set_at old.sets v) ≡ set_at old.sets v = filter_whole p (set_at old.sets v) (sym (ap length (at_new h.sets)) ∙ as_many) in
+      let whole : filter p (set_at old.sets v) ≡ set_at old.sets v =
+      filter_whole p (set_at old.sets v) (sym (ap length (at_new h.sets)) ∙ as_many) in
       some_left Same h.sets (h.same.0 refl).0 (h.sets ∙ (ap (λ (xs : List ℕ). set old.sets v xs) whole ∙ set-get_or old.sets v []))
   cut_ends Changed h =
       let ne : length (set_at new.sets v) ≢ 0 = λ z. cc (h.emptied.1 z) in
       let some : 0 < length (set_at new.sets v) = omega (arith, ne) in
       let below = kept_below p old.sets v within in
-      let other : total new.sets ≢ total old.sets = λ e. cc (h.same.1 (some, ap (λ (s : Sets). length (set_at s v)) (h.sets ∙ total_same (kept p old.sets v) old.sets below (sym (ap total h.sets) ∙ e)))) in
+      let other : total new.sets ≢ total old.sets = λ e. cc (h.same.1 (
+        some,
+        ap (λ (s : Sets). length (set_at s v)) (h.sets ∙
+            total_same (kept p old.sets v) old.sets below (sym (ap total h.sets) ∙ e)),
+      )) in
       let less = total_below (kept p old.sets v) old.sets below in
       some_left Tighter h.sets some (omega (arith, other, less, ap total h.sets))
   cut_ends Emptied h =
       let none : length (set_at new.sets v) ≡ 0 = h.emptied.0 refl in
-      let gone : nat_eq (length (filter p (set_at old.sets v))) 0 ≡ true = sym (ap (λ (xs : List ℕ). nat_eq (length xs) 0) (at_new h.sets)) ∙ ap (λ (n : ℕ). nat_eq n 0) none in
-      rw gone (refl, λ full. (let some = full v (omega (arith, within, ap length h.sets, length-set old.sets v (filter p (set_at old.sets v)))) in omega (arith, some, none)))
+      let gone : nat_eq (length (filter p (set_at old.sets v))) 0 ≡ true = sym (ap (λ (xs : List ℕ). nat_eq (length xs) 0) (at_new h.sets))
+      ∙ ap (λ (n : ℕ). nat_eq n 0) none in
+      rw gone (
+        refl,
+        λ full. (let some = full v (omega (
+          arith,
+          within,
+          ap length h.sets,
+          length-set old.sets v (filter p (set_at old.sets v)),
+        )) in omega (arith, some, none)),
+      )
 
   pub cut_untouched : (vs : List VarId) (x : VarId) (cut : Cut) → x.0 ≡ v → Contains vs x → IsCut p v old new cut → Untouched vs old new
   cut_untouched vs x cut e there h = record {
     long = ap length h.sets ∙ length-set old.sets v (filter p (set_at old.sets v));
     marked = h.marked;
-    others = λ w other. ap (λ (s : Sets). set_at s w) h.sets ∙ get_or-set_other old.sets v w (filter p (set_at old.sets v)) [] (λ same. All-contains (λ u. w ≢ u.0) vs x other there (same ∙ sym e));
+    others = λ w other. ap (λ (s : Sets). set_at s w) h.sets ∙ get_or-set_other old.sets v w (filter p (set_at old.sets v)) []
+        (λ same. All-contains (λ u. w ≢ u.0) vs x other there (same ∙ sym e));
   }
 
 pub untouched_then : (vs : List VarId) (a b c : Contents) → Untouched vs a b → Untouched vs b c → Untouched vs a c
@@ -116,18 +133,23 @@ goes_failed vs f old c start so_far = record { ends = by c so_far.ends; untouche
     by (Some left) e = absurd e.answers
 
 -- a cut that leaves the store as it is, or that does there what another does
-pub goes_by : (vs : List VarId) (f g : Sets → Option Sets) (old new : Contents) (before after : Pruned) → (NoneEmpty old.sets → f old.sets ≡ g old.sets)
+pub goes_by : (vs : List VarId) (f g : Sets → Option Sets) (old new : Contents) (before after : Pruned)
+    → (NoneEmpty old.sets → f old.sets ≡ g old.sets)
     → Goes vs g old new before after → Goes vs f old new before after
 goes_by vs f g old new before after e h c start so_far = by c so_far (h c start so_far)
   where
-    by : (c : Option Sets) → IsPrune vs c start old before → IsPrune vs (option_and_then g c) start new after → IsPrune vs (option_and_then f c) start new after
+    by : (c : Option Sets) → IsPrune vs c start old before → IsPrune vs (option_and_then g c) start new after
+        → IsPrune vs (option_and_then f c) start new after
     by None a b = b
-    by (Some left) a b = subst (λ (o : Option Sets). IsPrune vs o start new after) (sym (subst (λ (s : Sets). f s ≡ g s) a.ends.sets (e (subst NoneEmpty (sym a.ends.sets) a.ends.live)))) b
+    by (Some left) a b = subst (λ (o : Option Sets). IsPrune vs o start new after)
+        (sym (subst (λ (s : Sets). f s ≡ g s) a.ends.sets (e (subst NoneEmpty (sym a.ends.sets) a.ends.live)))) b
 
-pub goes_same : (vs : List VarId) (f : Sets → Option Sets) (old : Contents) (before : Pruned) → (NoneEmpty old.sets → f old.sets ≡ Some old.sets) → Goes vs f old old before before
+pub goes_same : (vs : List VarId) (f : Sets → Option Sets) (old : Contents) (before : Pruned)
+    → (NoneEmpty old.sets → f old.sets ≡ Some old.sets) → Goes vs f old old before before
 goes_same vs f old before e = goes_by vs f (λ s. Some s) old old before before e (λ c start so_far. by c start so_far)
   where
-    by : (c : Option Sets) (start : Contents) → IsPrune vs c start old before → IsPrune vs (option_and_then (λ s. Some s) c) start old before
+    by : (c : Option Sets) (start : Contents) → IsPrune vs c start old before
+        → IsPrune vs (option_and_then (λ s. Some s) c) start old before
     by None start a = a
     by (Some left) start a = a
 
@@ -141,30 +163,37 @@ ends_live : (c : Option Sets) (old new : Sets) (answer : Pruned) → Ends c old 
 ends_live None old new answer e other = absurd (other e.0)
 ends_live (Some left) old new answer e other = subst NoneEmpty (sym e.sets) e.live
 
-pub stepped_then : (vs : List VarId) (f : Sets → Option Sets) (old new : Contents) (before did after : Pruned) → before ≢ Failed → after ≡ join before did
-    → length new.sets ≡ length old.sets → (NoneEmpty old.sets → Ends (f old.sets) old.sets new.sets did × Untouched vs old new) → Stepped vs f old new before after
+pub stepped_then : (vs : List VarId) (f : Sets → Option Sets) (old new : Contents) (before did after : Pruned) → before ≢ Failed
+    → after ≡ join before did
+    → length new.sets ≡ length old.sets → (NoneEmpty old.sets → Ends (f old.sets) old.sets new.sets did × Untouched vs old new)
+    → Stepped vs f old new before after
 stepped_then vs f old new before did after other is long h = record {
   goes = subst (λ (a : Pruned). Goes vs f old new before a) (sym is) (goes_then vs f old new before did other h);
   long = long;
-  live = λ full still. ends_live (f old.sets) old.sets new.sets did ((h (full other)).0) (λ e. still (is ∙ (ap (join before) e ∙ join_failed before)));
+  live = λ full still. ends_live (f old.sets) old.sets new.sets did ((h (full other)).0)
+      (λ e. still (is ∙ (ap (join before) e ∙ join_failed before)));
 }
 
-pub stepped_failed : (vs : List VarId) (f : Sets → Option Sets) (old : Contents) (before : Pruned) → before ≡ Failed → Stepped vs f old old before before
+pub stepped_failed : (vs : List VarId) (f : Sets → Option Sets) (old : Contents) (before : Pruned) → before ≡ Failed
+    → Stepped vs f old old before before
 stepped_failed vs f old before e = record {
   goes = subst (λ (a : Pruned). Goes vs f old old a a) (sym e) (goes_failed vs f old);
   long = refl;
   live = λ full still. absurd (still e);
 }
 
-pub stepped_same : (vs : List VarId) (f : Sets → Option Sets) (old : Contents) (before : Pruned) → (NoneEmpty old.sets → f old.sets ≡ Some old.sets)
+pub stepped_same : (vs : List VarId) (f : Sets → Option Sets) (old : Contents) (before : Pruned)
+    → (NoneEmpty old.sets → f old.sets ≡ Some old.sets)
     → Stepped vs f old old before before
 stepped_same vs f old before e = record { goes = goes_same vs f old before e; long = refl; live = λ full still. full still }
 
-pub stepped_by : (vs : List VarId) (f g : Sets → Option Sets) (old new : Contents) (before after : Pruned) → (NoneEmpty old.sets → f old.sets ≡ g old.sets)
+pub stepped_by : (vs : List VarId) (f g : Sets → Option Sets) (old new : Contents) (before after : Pruned)
+    → (NoneEmpty old.sets → f old.sets ≡ g old.sets)
     → Stepped vs g old new before after → Stepped vs f old new before after
 stepped_by vs f g old new before after e h = record { goes = goes_by vs f g old new before after e h.goes; long = h.long; live = h.live }
 
-pub stepped_chain : (vs : List VarId) (f g : Sets → Option Sets) (old mid new : Contents) (a b c : Pruned) → Stepped vs f old mid a b → Stepped vs g mid new b c
+pub stepped_chain : (vs : List VarId) (f g : Sets → Option Sets) (old mid new : Contents) (a b c : Pruned) → Stepped vs f old mid a b
+    → Stepped vs g mid new b c
     → Stepped vs (λ s. option_and_then g (f s)) old new a c
 stepped_chain vs f g old mid new a b c p q = record {
   goes = λ o start so_far. by o start (q.goes (option_and_then f o) start (p.goes o start so_far));
@@ -178,7 +207,8 @@ stepped_chain vs f g old mid new a b c p q = record {
     by (Some s) start h = h
 
 -- some steps, and then the check of the last variable
-pub goes_chain : (vs : List VarId) (f g : Sets → Option Sets) (old mid new : Contents) (a b c : Pruned) → Stepped vs f old mid a b → Goes vs g mid new b c
+pub goes_chain : (vs : List VarId) (f g : Sets → Option Sets) (old mid new : Contents) (a b c : Pruned) → Stepped vs f old mid a b
+    → Goes vs g mid new b c
     → Goes vs (λ s. option_and_then g (f s)) old new a c
 goes_chain vs f g old mid new a b c p q o start so_far = by o (q (option_and_then f o) start (p.goes o start so_far))
   where
@@ -189,11 +219,13 @@ goes_chain vs f g old mid new a b c p q o start so_far = by o (q (option_and_the
 
 -- Failing
 
-pub untouched_cut : (p : ℕ → Bool) (vs : List VarId) (v : VarId) (old new : Contents) → Contains vs v → new.sets ≡ kept p old.sets v.0 → new.marked ≡ old.marked → Untouched vs old new
+pub untouched_cut : (p : ℕ → Bool) (vs : List VarId) (v : VarId) (old new : Contents) → Contains vs v → new.sets ≡ kept p old.sets v.0
+    → new.marked ≡ old.marked → Untouched vs old new
 untouched_cut p vs v old new there sets marked = record {
   long = ap length sets ∙ length-set old.sets v.0 (filter p (set_at old.sets v.0));
   marked = marked;
-  others = λ w other. ap (λ (s : Sets). set_at s w) sets ∙ get_or-set_other old.sets v.0 w (filter p (set_at old.sets v.0)) [] (λ same. All-contains (λ u. w ≢ u.0) vs v other there same);
+  others = λ w other. ap (λ (s : Sets). set_at s w) sets ∙ get_or-set_other old.sets v.0 w (filter p (set_at old.sets v.0)) []
+      (λ same. All-contains (λ u. w ≢ u.0) vs v other there same);
 }
 
 -- no number is both
@@ -201,8 +233,11 @@ none_both : (xs : List ℕ) → filter (λ y. nat_lt 0 y) (filter (λ y. nat_le 
 none_both [] = refl
 none_both (x ∷ xs) = by (nat_le x 0) refl (none_both xs)
   where
-    by : (b : Bool) → nat_le x 0 ≡ b → filter (λ y. nat_lt 0 y) (filter (λ y. nat_le y 0) xs) ≡ [] → filter (λ y. nat_lt 0 y) (cond b (x ∷ filter (λ y. nat_le y 0) xs) (filter (λ y. nat_le y 0) xs)) ≡ []
-    by true e rest = let no : nat_lt 0 x ≡ false = grind (arith, nat_tests) in ap (λ (b : Bool). cond b (x ∷ filter (λ y. nat_lt 0 y) (filter (λ y. nat_le y 0) xs)) (filter (λ y. nat_lt 0 y) (filter (λ y. nat_le y 0) xs))) no ∙ rest
+    by : (b : Bool) → nat_le x 0 ≡ b → filter (λ y. nat_lt 0 y) (filter (λ y. nat_le y 0) xs) ≡ []
+        → filter (λ y. nat_lt 0 y) (cond b (x ∷ filter (λ y. nat_le y 0) xs) (filter (λ y. nat_le y 0) xs)) ≡ []
+    by true e rest = let no : nat_lt 0 x ≡ false = grind (arith, nat_tests) in
+        ap (λ (b : Bool). cond b (x ∷ filter (λ y. nat_lt 0 y) (filter (λ y. nat_le y 0) xs))
+        (filter (λ y. nat_lt 0 y) (filter (λ y. nat_le y 0) xs))) no ∙ rest
     by false e rest = rest
 
 none_left : (xs : List ℕ) → filter (λ y. false) xs ≡ []
@@ -210,15 +245,19 @@ none_left [] = refl
 none_left (x ∷ xs) = none_left xs
 
 -- one variable without a value
-pub all_cut : (vs : List VarId) (v : VarId) (old mid new : Contents) → Contains vs v → v.0 < length old.sets → mid.sets ≡ kept (λ y. nat_le y 0) old.sets v.0 → mid.marked ≡ old.marked
-    → new.sets ≡ kept (λ y. nat_lt 0 y) mid.sets v.0 → new.marked ≡ mid.marked → Ends (cut_by (λ y. false) v.0 old.sets) old.sets new.sets Failed × Untouched vs old new
+pub all_cut : (vs : List VarId) (v : VarId) (old mid new : Contents) → Contains vs v → v.0 < length old.sets
+    → mid.sets ≡ kept (λ y. nat_le y 0) old.sets v.0 → mid.marked ≡ old.marked
+    → new.sets ≡ kept (λ y. nat_lt 0 y) mid.sets v.0 → new.marked ≡ mid.marked
+    → Ends (cut_by (λ y. false) v.0 old.sets) old.sets new.sets Failed × Untouched vs old new
 all_cut vs v old mid new there within sets marked sets' marked' = (
   ends,
-  untouched_then vs old mid new (untouched_cut (λ y. nat_le y 0) vs v old mid there sets marked) (untouched_cut (λ y. nat_lt 0 y) vs v mid new there sets' marked'),
+  untouched_then vs old mid new (untouched_cut (λ y. nat_le y 0) vs v old mid there sets marked)
+      (untouched_cut (λ y. nat_lt 0 y) vs v mid new there sets' marked'),
 )
   where
     long : v.0 < length mid.sets
-    long = let e = ap length sets in let f = length-set old.sets v.0 (filter (λ y. nat_le y 0) (set_at old.sets v.0)) in omega (arith, within, e, f)
+    long = let e = ap length sets in let f = length-set old.sets v.0 (filter (λ y. nat_le y 0) (set_at old.sets v.0)) in
+        omega (arith, within, e, f)
 
     at_mid : set_at mid.sets v.0 ≡ filter (λ y. nat_le y 0) (set_at old.sets v.0)
     at_mid = ap (λ (s : Sets). set_at s v.0) sets ∙ get_or-set_same old.sets v.0 (filter (λ y. nat_le y 0) (set_at old.sets v.0)) [] within
@@ -228,5 +267,10 @@ all_cut vs v old mid new there within sets marked sets' marked' = (
         ∙ (ap (filter (λ y. nat_lt 0 y)) at_mid ∙ none_both (set_at old.sets v.0)))
 
     ends : Ends (cut_by (λ y. false) v.0 old.sets) old.sets new.sets Failed
-    ends = subst (λ (xs : List ℕ). Ends (cond (nat_eq (length xs) 0) None (Some (set old.sets v.0 xs))) old.sets new.sets Failed) (sym (none_left (set_at old.sets v.0)))
-        (refl, λ full. (let some = full v.0 (let e = ap length sets' in let f = length-set mid.sets v.0 (filter (λ y. nat_lt 0 y) (set_at mid.sets v.0)) in omega (arith, long, e, f)) in let none = ap length at_new in omega (arith, some, none)))
+    ends = subst (λ (xs : List ℕ). Ends (cond (nat_eq (length xs) 0) None (Some (set old.sets v.0 xs))) old.sets new.sets Failed)
+        (sym (none_left (set_at old.sets v.0))) (
+          refl,
+          λ full. (let some = full v.0 (let e = ap length sets' in let f =
+              length-set mid.sets v.0 (filter (λ y. nat_lt 0 y) (set_at mid.sets v.0)) in omega (arith, long, e, f)) in let none =
+              ap length at_new in omega (arith, some, none)),
+        )

@@ -1,5 +1,6 @@
 -- Laws of looks at times and activities.
-use Rattle.std.proofs.Common.{ℕ, ◌≡◌, ◌<◌, ◌≤◌, Bool, true, false, not, ◌&&◌, ◌||◌, List, [], ◌∷◌, length, get_or, nat_eq, refl, ap, subst, arith}
+use Rattle.std.proofs.Common.{ℕ, ◌≡◌, ◌<◌, ◌≤◌, Bool, true, false, not, ◌&&◌, ◌||◌, List, [], ◌∷◌, length, get_or, nat_eq, refl, ap, subst}
+use Rattle.std.proofs.Common.{arith}
 use Rattle.std.proofs.lemmas.Bool.Decides.{nat_tests}
 use Rattle.std.proofs.lemmas.List.Elements.{All-contains}
 use Rattle.un_base.specs.declared.ids.VarId.{VarId}
@@ -65,9 +66,11 @@ module _ (vs : List VarId) where
   pub known_below : (t s : Sets) → Below t s → HasVars vs s → HasVars vs t
   known_below t s le k i d lt = rw le.long (k i d lt)
 
-  pub least_at_below : (t s : Sets) → NoneEmpty t → Below t s → (at : At) → AllAmong vs (at_vars at) → HasVars vs s → least (at_set at s) ≤ least (at_set at t)
+  pub least_at_below : (t s : Sets) → NoneEmpty t → Below t s → (at : At) → AllAmong vs (at_vars at) → HasVars vs s
+      → least (at_set at s) ≤ least (at_set at t)
   least_at_below t s full le (Const n) all k = omega arith
-  least_at_below t s full le (Var v) all k = least_below t s v.0 le (full v.0 (has_among vs v t (all 0 v (omega arith)) (known_below t s le k)))
+  least_at_below t s full le (Var v) all k = least_below t s v.0 le
+      (full v.0 (has_among vs v t (all 0 v (omega arith)) (known_below t s le k)))
 
   pub greatest_at_below : (t s : Sets) → Below t s → (at : At) → greatest (at_set at t) ≤ greatest (at_set at s)
   greatest_at_below t s le (Const n) = omega arith
@@ -77,11 +80,13 @@ module _ (vs : List VarId) where
   sure_below t s le Always h = refl
   sure_below t s le (ActVar v) h = not_from (has (set_at t v.0) 0) (λ e. not_true (has (set_at s v.0) 0) h (has_below t s v.0 0 le e))
 
-  pub sure_active : (s : Sets) (x : List ℕ) → IsIn x s → HasVars vs s → (on : Act) → AllAmong vs (act_vars on) → sure on s ≡ true → is_active on x ≡ true
+  pub sure_active : (s : Sets) (x : List ℕ) → IsIn x s → HasVars vs s → (on : Act) → AllAmong vs (act_vars on) → sure on s ≡ true
+      → is_active on x ≡ true
   sure_active s x there k Always all h = refl
   sure_active s x there k (ActVar v) all h = not_from (nat_eq (get_or x v.0 0) 0) (λ e.
       let zero : get_or x v.0 0 ≡ 0 = grind (arith, nat_tests) in
-      not_true (has (set_at s v.0) 0) h (subst (λ (n : ℕ). has (set_at s v.0) n ≡ true) zero (there.each v.0 (has_among vs v s (all 0 v (omega arith)) k))))
+      not_true (has (set_at s v.0) 0) h (subst (λ (n : ℕ). has (set_at s v.0) n ≡ true) zero
+      (there.each v.0 (has_among vs v s (all 0 v (omega arith)) k))))
 
   pub value_in : (s : Sets) (x : List ℕ) → IsIn x s → HasVars vs s → (at : At) → AllAmong vs (at_vars at)
       → (least (at_set at s) ≤ at_value at x) × (at_value at x ≤ greatest (at_set at s))
@@ -99,7 +104,8 @@ module _ (vs : List VarId) where
   act_below t s n le Always h = h
   act_below t s n le (ActVar v) h = has_below t s v.0 n le h
 
-  pub number_in : (s : Sets) (x : List ℕ) → IsIn x s → HasVars vs s → (on : Act) → AllAmong vs (act_vars on) → has (act_set on s) (act_number on x) ≡ true
+  pub number_in : (s : Sets) (x : List ℕ) → IsIn x s → HasVars vs s → (on : Act) → AllAmong vs (act_vars on)
+      → has (act_set on s) (act_number on x) ≡ true
   number_in s x there k Always all = has_here 1 []
   number_in s x there k (ActVar v) all = there.each v.0 (has_among vs v s (all 0 v (omega arith)) k)
 

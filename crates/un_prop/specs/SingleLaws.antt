@@ -1,5 +1,6 @@
 -- On single values a propagator fails exactly where it does not hold.
-use Rattle.std.proofs.Common.{ℕ, ◌≡◌, ◌<◌, Bool, true, false, ◌&&◌, List, [], ◌∷◌, length, get_or, None, Some, MatchOption, All, refl, sym, ap, ◌∙◌, subst, arith}
+use Rattle.std.proofs.Common.{ℕ, ◌≡◌, ◌<◌, Bool, true, false, ◌&&◌, List, [], ◌∷◌, length, get_or, None, Some, MatchOption, All, refl, sym}
+use Rattle.std.proofs.Common.{ap, ◌∙◌, subst, arith}
 use Rattle.std.specs.declared.option.Option.{Option}
 use Rattle.std.specs.Bool.{⊤}
 use Rattle.std.specs.List.{Contains, AllByRecursion}
@@ -36,17 +37,21 @@ single_in s t x single le full = record {
       subst (λ (xs : List ℕ). has xs (get_or x v 0) ≡ true) (sym (same ∙ single.each v below)) (has_here (get_or x v 0) []));
 }
 
-module _ (scope : List VarId) (holds : List ℕ → Bool) (cut : Sets → Option Sets) (parts : List Part) (whole : (x : List ℕ) → holds x ≡ all_meet parts x)
+module _ (scope : List VarId) (holds : List ℕ → Bool) (cut : Sets → Option Sets) (parts : List Part)
+    (whole : (x : List ℕ) → holds x ≡ all_meet parts x)
     (forward : (q : Part) → Contains parts q → ChecksForward q scope cut) (lawful : Lawful scope cut)
     (keeps : (s : Sets) (x : List ℕ) → HasVars scope s → NoneEmpty s → IsIn x s → holds x ≡ true → Kept x (cut s)) where
-  pub single_fails : (s : Sets) (x : List ℕ) → HasVars scope s → IsSingle x s → 0 < length scope → (q_known : All (λ (q : Part). HasVars q.vars s) parts) → holds x ≡ false → cut s ≡ None
+  pub single_fails : (s : Sets) (x : List ℕ) → HasVars scope s → IsSingle x s → 0 < length scope
+      → (q_known : All (λ (q : Part). HasVars q.vars s) parts) → holds x ≡ false → cut s ≡ None
   single_fails s x k single some known fails = by (cut s) refl (lawful.shrinks s k (single_full s x single))
     where
       by : (c : Option Sets) → cut s ≡ c → MatchOption c ⊤ (λ t. Below t s × NoneEmpty t) → cut s ≡ None
       by None is h = is
       by (Some t) is h =
-          let met : All (λ (q : Part). q.meets x ≡ true) parts = λ i d lt. forward (get_or parts i d) (i, lt, get_or_default parts i (get_or parts i d) d lt) s t 0 x k (single_full s x single)
-          (λ none. absurd (omega (arith, some, none))) (λ j e lt' ne. single_one s x single (get_or (get_or parts i d).vars j e).0 (known i d lt j e lt')) is (single_in s t x single h.0 h.1) in
+          let met : All (λ (q : Part). q.meets x ≡ true) parts = λ i d lt. forward (get_or parts i d)
+          (i, lt, get_or_default parts i (get_or parts i d) d lt) s t 0 x k (single_full s x single)
+          (λ none. absurd (omega (arith, some, none))) (λ j e lt' ne. single_one s x single (get_or (get_or parts i d).vars j e).0
+          (known i d lt j e lt')) is (single_in s t x single h.0 h.1) in
           let yes_all : holds x ≡ true = whole x ∙ meet_all x parts (recursion_from_All _ _ met) in
           absurd (cc (sym fails ∙ yes_all))
 
@@ -55,4 +60,9 @@ module _ (scope : List VarId) (holds : List ℕ → Bool) (cut : Sets → Option
     where
       by : (b : Bool) → holds x ≡ b → holds x ≡ false
       by false e = e
-      by true e = absurd (subst (Kept x) none (keeps s x k (single_full s x single) (record { long = single.long; each = λ v lt. subst (λ (xs : List ℕ). has xs (get_or x v 0) ≡ true) (sym (single.each v lt)) (has_here (get_or x v 0) []) }) e))
+      by true e = absurd (subst (Kept x) none (keeps s x k (single_full s x single)
+          (record {
+            long = single.long;
+            each = λ v lt. subst (λ (xs : List ℕ). has xs (get_or x v 0) ≡ true) (sym (single.each v lt))
+                (has_here (get_or x v 0) []);
+          }) e))

@@ -60,7 +60,8 @@ pub fn run_child<P: Propagator>(
     ensures fixed { length scratch.new.fixed.items ≡ length scratch.old.fixed.items }
     ensures cycles { length scratch.new.cycles.items ≡ length scratch.old.cycles.items }
     ensures flags { length waiting.new ≡ length waiting.old }
-    ensures child { (box : Sets) → NoneEmpty box → All (λ p. HasVars (P.scope p) box) props.now → v.0 < length box → fix_of P.cut props.now box ≡ Some store.old.sets
+    ensures child { (box : Sets) → NoneEmpty box → All (λ p. HasVars (P.scope p) box) props.now → v.0 < length box
+        → fix_of P.cut props.now box ≡ Some store.old.sets
         → IsFix (option_and_then (fix_of P.cut props.now) (cut_by (side_test side x) v.0 box)) store.new.sets result }
 {
     match decide(store, v, x, side) {

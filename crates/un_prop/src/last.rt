@@ -62,7 +62,8 @@ fn try_value<P: Predicate>(
     requires some { before ≢ Failed → 0 < length (set_at w.old.store.now.sets v.0) }
     requires room { length w.old.store.now.sets ≤ length fixed.old }
     requires known { HasVars (P.scope p.now) w.old.store.now.sets }
-    ensures goes { Goes w.old.vars.now (cut_by (λ z. not (nat_eq z y) || P.holds p.now (slice_set fixed.old v.0 y)) v.0) w.old.store.now w.new.store.now before result }
+    ensures goes { Goes w.old.vars.now (cut_by (λ z. not (nat_eq z y) || P.holds p.now (slice_set fixed.old v.0 y)) v.0) w.old.store.now
+        w.new.store.now before result }
     ensures fixed { (u : ℕ) → u ≢ v.0 → slice_index fixed.new u ≡ slice_index fixed.old u }
     ensures same_reference { w.new.store.ghost_name ≡ w.old.store.ghost_name }
     ensures vars { w.new.vars ≡ w.old.vars }
@@ -86,7 +87,8 @@ pub fn try_all<P: Predicate>(p: &P, w: &mut Window<'_>, v: VarId, fixed: &mut [u
     requires live { NoneEmpty w.old.store.now.sets }
     requires room { length w.old.store.now.sets ≤ length fixed.old }
     requires written { All (λ u. slice_index fixed.old u.0 ≡ least (set_at w.old.store.now.sets u.0)) (P.scope p.now) }
-    ensures prune { IsPrune w.old.vars.now (cut_by (λ y. P.holds p.now (slice_set (point w.old.store.now.sets) v.0 y)) v.0 w.old.store.now.sets) w.old.store.now w.new.store.now result }
+    ensures prune { IsPrune w.old.vars.now (cut_by (λ y. P.holds p.now (slice_set (point w.old.store.now.sets) v.0 y)) v.0
+        w.old.store.now.sets) w.old.store.now w.new.store.now result }
     ensures same_reference { w.new.store.ghost_name ≡ w.old.store.ghost_name }
     ensures vars { w.new.vars ≡ w.old.vars }
 {

@@ -1,6 +1,7 @@
 //! What a propagator is: a predicate on assignments, and a cut of stores that keeps each assignment for which it holds.
 
-ghost use Rattle.std.specs.Prelude.{◌≡◌, ℕ, ◌<◌, ◌≤◌, Option, Some, MatchOption, ⊤, List, length, All, true, IfOk, Bool, Contains, replicate, ◌+◌};
+ghost use Rattle.std.specs.Prelude.{◌≡◌, ℕ, ◌<◌, ◌≤◌, Option, Some, MatchOption, ⊤, List, length, All, true, IfOk, Bool, Contains};
+ghost use Rattle.std.specs.Prelude.{replicate, ◌+◌};
 ghost use Rattle.un_base.specs.declared.ids.VarId.{VarId};
 ghost use Rattle.un_domains.specs.Sets.{Sets, IsIn, NoneEmpty, Kept};
 ghost use Rattle.un_prop.specs.Rounds.{HasVars};
@@ -116,7 +117,8 @@ pub trait Propagator: Predicate {
     }
 
     /// No assignment for which it holds is lost; so it fails only where there is none.
-    ghost keeps: { (p : Self) (s : Sets) (x : List ℕ) → HasVars (Self.scope p) s → NoneEmpty s → IsIn x s → Self.holds p x ≡ true → Kept x (cut p s) };
+    ghost keeps: { (p : Self) (s : Sets) (x : List ℕ) → HasVars (Self.scope p) s → NoneEmpty s → IsIn x s → Self.holds p x ≡ true
+        → Kept x (cut p s) };
 
     /// Values are only taken away, less is left where less was there, and only its variables are looked at and cut.
     ghost lawful: { (p : Self) → Lawful (Self.scope p) (cut p) };

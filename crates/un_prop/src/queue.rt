@@ -1,6 +1,7 @@
 //! Which propagators wait, since a variable that they read has changed.
 
-ghost use Rattle.std.specs.Prelude.{◌≡◌, ℕ, ◌<◌, ◌≤◌, ◌^◌, ◌⊎◌, List, [], ◌∷◌, length, All, IfOk, MatchOption, true, false, slice_index, slice_index_or, slice_set, replicate};
+ghost use Rattle.std.specs.Prelude.{◌≡◌, ℕ, ◌<◌, ◌≤◌, ◌^◌, ◌⊎◌, List, [], ◌∷◌, length, All, IfOk, MatchOption, true, false, slice_index};
+ghost use Rattle.std.specs.Prelude.{slice_index_or, slice_set, replicate};
 ghost use Rattle.un_domains.specs.Sets.{Sets, set_at, has};
 ghost use Rattle.un_prop.specs.Queues.{waits, Grows, AllWait, IsSizes};
 

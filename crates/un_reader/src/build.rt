@@ -154,7 +154,13 @@ fn source_block(
 ) -> Result<Block, NoMemory>
     requires names { length names.now < 2 ^ 32 }
     requires labels { length labels.now < 2 ^ 32 }
-    ensures { IfOk result (λ block. block ≡ record { label = label; freq = freq; ops = ops_of names.now lines.now; term = term_by names.now labels.now (term_of lines.now) }) }
+    ensures { IfOk result (λ block. block ≡ record {
+      label = label;
+      freq = freq;
+      ops = ops_of names.now lines.now;
+      term =
+          term_by names.now labels.now (term_of lines.now);
+    }) }
 {
     let ops = source_ops(alloc, names, lines)?;
     let term = source_term(names, labels, &find_term(lines));

@@ -4,7 +4,8 @@ ghost use Rattle.std.specs.Prelude.{◌≡◌, ◌+◌, ◌<◌, ◌^◌, ◌≤
 ghost use Rattle.std.specs.List.{list_any};
 ghost use Rattle.un_base.specs.declared.ids.NameId.{NameId};
 ghost use Rattle.un_ir.specs.Live.{IsLive, read_by_term};
-ghost use Rattle.un_reader.specs.Entry.{IsLiveAtEntry, HasNoneLive, reads, assigns, meeting, marked, leads, live_by, lives, lives_at, AreSound, AreClosed};
+ghost use Rattle.un_reader.specs.Entry.{IsLiveAtEntry, HasNoneLive, reads, assigns, meeting, marked, leads, live_by, lives, lives_at};
+ghost use Rattle.un_reader.specs.Entry.{AreSound, AreClosed};
 
 use crate::draft::Draft;
 use crate::meeting::Meeting;
@@ -168,7 +169,8 @@ fn is_live_name(alloc: Global, parts: &Draft, name: NameId) -> Result<bool, NoMe
 pub fn has_live(alloc: Global, parts: &Draft) -> Result<bool, NoMemory>
     requires names { length parts.now.names < 2 ^ 32 }
     requires blocks { length parts.now.blocks < 2 ^ 32 }
-    ensures yes { IfOk result (λ live. live ≡ true → (name : NameId) × IsLiveAtEntry parts.now.params parts.now.names parts.now.blocks name) }
+    ensures yes { IfOk result (λ live. live ≡ true → (name : NameId)
+        × IsLiveAtEntry parts.now.params parts.now.names parts.now.blocks name) }
     ensures no { IfOk result (λ live. live ≡ false → HasNoneLive parts.now.params parts.now.names parts.now.blocks) }
 {
     for i in 0..parts.names.len() {

@@ -4,7 +4,10 @@ ghost use Rattle.std.specs.Prelude.{◌≡◌, ◌==◌, ◌&&◌, ◌||◌, not
 ghost use Rattle.std.specs.List.{list_any, list_all, zip};
 ghost use Rattle.un_ir.specs.WellFormed.{kind_in};
 ghost use Rattle.std.specs.Str.{bytes_eq};
-ghost use Rattle.un_reader.specs.LineFaults.{is_plain_byte, has_repeat, is_misplaced, is_predicate, misfits, operands_clash, result_clashes, term_clashes, has_clash, is_over_limit, has_too_many, fits_signed, fits_unsigned, fits_range, literal_fits, is_wide, freq_fits, has_bad_freq, repeats_label, is_body, is_before_block, is_after_end, first_of, faults_on, line_fault};
+ghost use Rattle.un_reader.specs.LineFaults.{is_plain_byte, has_repeat, is_misplaced, is_predicate, misfits, operands_clash};
+ghost use Rattle.un_reader.specs.LineFaults.{result_clashes, term_clashes, has_clash, is_over_limit, has_too_many, fits_signed};
+ghost use Rattle.un_reader.specs.LineFaults.{fits_unsigned, fits_range, literal_fits, is_wide, freq_fits, has_bad_freq, repeats_label};
+ghost use Rattle.un_reader.specs.LineFaults.{is_body, is_before_block, is_after_end, first_of, faults_on, line_fault};
 ghost use Rattle.un_words.specs.Shapes.{line_of};
 
 use crate::before::{Before, same_kind};

@@ -1,15 +1,15 @@
 -- The variable of a call's part that is left to decide.
-use Rattle.std.proofs.Common.{ℕ, zero, suc, ◌≡◌, ◌<◌, Bool, true, List, ◌∷◌, ◌++◌, length, get_or, set, filter, Some, All, refl, sym, ap, ◌∙◌, subst, arith}
+use Rattle.std.proofs.Common.{ℕ, zero, suc, ◌≡◌, true, List, ◌∷◌, ◌++◌, set, Some, sym, ap, ◌∙◌, subst, arith}
 use Rattle.std.proofs.lemmas.List.Elements.{All-contains, All-append, recursion_from_All}
 use Rattle.un_base.specs.declared.ids.VarId.{VarId}
-use Rattle.un_domains.specs.Sets.{Sets, set_at, least, cut_by, NoneEmpty}
+use Rattle.un_domains.specs.Sets.{Sets, cut_by, NoneEmpty}
 use Rattle.un_prop.specs.Rounds.{HasVars}
 use Rattle.un_prop.specs.Among.{among, AllAmong}
 use Rattle.un_prop.specs.AmongLaws.{in_list}
 use Rattle.un_prop.specs.Last.{point}
 use Rattle.un_prop.specs.LastLaws.{Ascend}
 use Rattle.un_prop.specs.declared.act.Temp.{Temp}
-use Rattle.un_rect.specs.Spans.{UserVars, TempVars}
+use Rattle.un_rect.specs.Spans.{TempVars}
 use Rattle.un_rect.specs.Apart.{temp_vars, users_vars}
 use Rattle.un_rect.specs.Clobber.{spares, CallVars, call_vars, check_call}
 use Rattle.un_rect.specs.ClobberLaws.{part_looks, part_known}
@@ -20,10 +20,12 @@ use Rattle.un_rect.specs.declared.clobber.ClobberCall.{ClobberCall}
 use Rattle.un_rect.specs.declared.opened.Opened.{Opened}
 use Rattle.un_rect.specs.declared.opened.Opened.TheVariants.{Nothing, One, More}
 
-module _ (vs : List VarId) (mask : ℕ) (a : Temp) (c : ClobberCall) (ascend : Ascend vs) (ha : TempVars vs a) (hc : CallVars vs c) (s : Sets) (k : HasVars vs s) (full : NoneEmpty s) where
+module _ (vs : List VarId) (mask : ℕ) (a : Temp) (c : ClobberCall) (ascend : Ascend vs) (ha : TempVars vs a) (hc : CallVars vs c)
+    (s : Sets) (k : HasVars vs s) (full : NoneEmpty s) where
   sub : (u : VarId) → among (temp_vars a ++ (c.at ∷ users_vars c.behind)) u ≡ true → among vs u ≡ true
   sub u h = All-contains (λ v. among vs v ≡ true) (temp_vars a ++ (c.at ∷ users_vars c.behind)) u
-      (All-append (λ v. among vs v ≡ true) (temp_vars a) (c.at ∷ users_vars c.behind) (temp_all vs a ha) own) (in_list (temp_vars a ++ (c.at ∷ users_vars c.behind)) u h)
+      (All-append (λ v. among vs v ≡ true) (temp_vars a) (c.at ∷ users_vars c.behind) (temp_all vs a ha) own)
+      (in_list (temp_vars a ++ (c.at ∷ users_vars c.behind)) u h)
     where
       own : AllAmong vs (c.at ∷ users_vars c.behind)
       own zero d lt = hc.of_at
@@ -32,30 +34,41 @@ module _ (vs : List VarId) (mask : ℕ) (a : Temp) (c : ClobberCall) (ascend : A
   rises : Ascend (call_vars vs a c)
   rises = filter_ascends (among (temp_vars a ++ (c.at ∷ users_vars c.behind))) vs ascend
 
-  whole : (first second last : Opened) → first ≡ opened_after s (temp_vars a) Nothing → second ≡ opened_at s first c.at → last ≡ opened_after s (users_vars c.behind) second
+  whole : (first second last : Opened) → first ≡ opened_after s (temp_vars a) Nothing → second ≡ opened_at s first c.at
+      → last ≡ opened_after s (users_vars c.behind) second
       → opened_after s (temp_vars a ++ (c.at ∷ users_vars c.behind)) Nothing ≡ last
   whole first second last p q r = after_append s (temp_vars a) (c.at ∷ users_vars c.behind) Nothing
-      ∙ (ap (λ (o : Opened). opened_after s (users_vars c.behind) (opened_at s o c.at)) (sym p) ∙ (ap (opened_after s (users_vars c.behind)) (sym q) ∙ sym r))
+      ∙ (ap (λ (o : Opened). opened_after s (users_vars c.behind) (opened_at s o c.at)) (sym p)
+      ∙ (ap (opened_after s (users_vars c.behind)) (sym q) ∙ sym r))
 
-  pub call_nothing : (first second last : Opened) → first ≡ opened_after s (temp_vars a) Nothing → second ≡ opened_at s first c.at → last ≡ opened_after s (users_vars c.behind) second
+  pub call_nothing : (first second last : Opened) → first ≡ opened_after s (temp_vars a) Nothing → second ≡ opened_at s first c.at
+      → last ≡ opened_after s (users_vars c.behind) second
       → last ≡ Nothing → check_call vs mask a c s ≡ cut_by (λ y. spares mask a c (set (point s) a.reg.0 y)) a.reg.0 s
-  call_nothing first second last p q r e = last_none (temp_vars a ++ (c.at ∷ users_vars c.behind)) vs sub rises (spares mask a c) (part_looks vs mask a ha c hc) s a.reg
-      (among_left (temp_vars a) (c.at ∷ users_vars c.behind) a.reg (among_here a.reg _)) (part_known vs mask a ha c hc s k) full (whole first second last p q r ∙ e)
+  call_nothing first second last p q r e = last_none (temp_vars a ++ (c.at ∷ users_vars c.behind)) vs sub rises (spares mask a c)
+      (part_looks vs mask a ha c hc) s a.reg
+      (among_left (temp_vars a) (c.at ∷ users_vars c.behind) a.reg (among_here a.reg _)) (part_known vs mask a ha c hc s k) full
+      (whole first second last p q r ∙ e)
 
   pub call_one : (v : VarId) (first second last : Opened) → first ≡ opened_after s (temp_vars a) Nothing → second ≡ opened_at s first c.at
       → last ≡ opened_after s (users_vars c.behind) second → last ≡ One v
       → (among vs v ≡ true) × (check_call vs mask a c s ≡ cut_by (λ y. spares mask a c (set (point s) v.0 y)) v.0 s)
   call_one v first second last p q r e =
       let is = whole first second last p q r ∙ e in (
-        sub v (subst (Says (among (temp_vars a ++ (c.at ∷ users_vars c.behind))) s) is (says_of s (temp_vars a ++ (c.at ∷ users_vars c.behind)))).0,
-        last_one (temp_vars a ++ (c.at ∷ users_vars c.behind)) vs sub rises (spares mask a c) (part_looks vs mask a ha c hc) s v (part_known vs mask a ha c hc s k) full is,
+        sub v (subst (Says (among (temp_vars a ++ (c.at ∷ users_vars c.behind))) s) is
+            (says_of s (temp_vars a ++ (c.at ∷ users_vars c.behind)))).0,
+        last_one (temp_vars a ++ (c.at ∷ users_vars c.behind)) vs sub rises (spares mask a c) (part_looks vs mask a ha c hc) s v
+            (part_known vs mask a ha c hc s k) full is,
       )
 
-  pub call_more : (first second last : Opened) → first ≡ opened_after s (temp_vars a) Nothing → second ≡ opened_at s first c.at → last ≡ opened_after s (users_vars c.behind) second
+  pub call_more : (first second last : Opened) → first ≡ opened_after s (temp_vars a) Nothing → second ≡ opened_at s first c.at
+      → last ≡ opened_after s (users_vars c.behind) second
       → last ≡ More → check_call vs mask a c s ≡ Some s
-  call_more first second last p q r e = last_more (temp_vars a ++ (c.at ∷ users_vars c.behind)) vs sub rises (spares mask a c) (part_looks vs mask a ha c hc) s (whole first second last p q r ∙ e)
+  call_more first second last p q r e = last_more (temp_vars a ++ (c.at ∷ users_vars c.behind)) vs sub rises (spares mask a c)
+      (part_looks vs mask a ha c hc) s (whole first second last p q r ∙ e)
 
   -- more are open of the temporary alone
   pub temp_more : (first : Opened) → first ≡ opened_after s (temp_vars a) Nothing → is_more first ≡ true → check_call vs mask a c s ≡ Some s
-  temp_more first p e = last_more (temp_vars a ++ (c.at ∷ users_vars c.behind)) vs sub rises (spares mask a c) (part_looks vs mask a ha c hc) s
-      (after_append s (temp_vars a) (c.at ∷ users_vars c.behind) Nothing ∙ (ap (opened_after s (c.at ∷ users_vars c.behind)) (sym p ∙ more_is first e) ∙ after_more s (c.at ∷ users_vars c.behind)))
+  temp_more first p e = last_more (temp_vars a ++ (c.at ∷ users_vars c.behind)) vs sub rises (spares mask a c)
+      (part_looks vs mask a ha c hc) s
+      (after_append s (temp_vars a) (c.at ∷ users_vars c.behind) Nothing
+      ∙ (ap (opened_after s (c.at ∷ users_vars c.behind)) (sym p ∙ more_is first e) ∙ after_more s (c.at ∷ users_vars c.behind)))

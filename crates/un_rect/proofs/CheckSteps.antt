@@ -1,5 +1,6 @@
 -- Steps of the checks.
-use Rattle.std.proofs.Common.{ℕ, ◌≡◌, ◌≢◌, ◌<◌, ◌⊎◌, Bool, true, false, ◌||◌, List, ◌++◌, length, get_or, set, filter, Some, All, refl, sym, ap, ◌∙◌, subst, inl, inr}
+use Rattle.std.proofs.Common.{ℕ, ◌≡◌, ◌≢◌, ◌<◌, Bool, true, false, ◌||◌, List, ◌++◌, length, get_or, set, Some, All, refl, sym, ap, ◌∙◌}
+use Rattle.std.proofs.Common.{subst, inl, inr}
 use Rattle.std.specs.declared.option.Option.{Option}
 use Rattle.std.specs.List.{AllByRecursion}
 use Rattle.std.proofs.lemmas.List.{get_or-set_same, get_or-set_other}
@@ -21,7 +22,7 @@ use Rattle.un_prop.specs.declared.propagator.Pruned.TheVariants.{Same, Failed}
 use Rattle.un_rect.specs.Spans.{TempVars}
 use Rattle.un_rect.specs.Apart.{temp_vars, pair_vars, pair_holds, check_pair}
 use Rattle.un_rect.specs.ApartLaws.{pair_looks}
-use Rattle.un_rect.specs.Checks.{is_off, differ, surely_apart}
+use Rattle.un_rect.specs.Checks.{is_off, differ}
 use Rattle.un_rect.specs.CheckLaws.{check_apart, ends_outside}
 use Rattle.un_rect.specs.Opened.{opened_after, is_more, Says}
 use Rattle.un_rect.specs.OpenedLaws.{after_append, more_is, says_of, says_more, last_many, last_more, last_one, last_none}
@@ -33,19 +34,24 @@ use Rattle.un_rect.specs.declared.opened.Opened.TheVariants.{Nothing, One, More}
 
 -- A step that starts anew, after others
 
-pub step_after : (vs : List VarId) (f : Sets → Option Sets) (old new : Contents) (before did after : Pruned) → before ≢ Failed → after ≡ join before did
+pub step_after : (vs : List VarId) (f : Sets → Option Sets) (old new : Contents) (before did after : Pruned) → before ≢ Failed
+    → after ≡ join before did
     → Stepped vs f old new Same did → Stepped vs f old new before after
 step_after vs f old new before did after other is q = stepped_then vs f old new before did after other is q.long
     (λ live. let p = q.goes (Some old.sets) old (starts vs old live) in (p.ends, p.untouched))
 
 -- what it leaves of other variables
-pub step_outside : (vs : List VarId) (p : ℕ → Bool) (v : ℕ) (old new : Contents) (did : Pruned) → NoneEmpty old.sets → Stepped vs (cut_by p v) old new Same did → did ≢ Failed
+pub step_outside : (vs : List VarId) (p : ℕ → Bool) (v : ℕ) (old new : Contents) (did : Pruned) → NoneEmpty old.sets
+    → Stepped vs (cut_by p v) old new Same did → did ≢ Failed
     → (w : ℕ) → w ≢ v → set_at new.sets w ≡ set_at old.sets w
-step_outside vs p v old new did live q other = ends_outside p v old.sets new.sets did (q.goes (Some old.sets) old (starts vs old live)).ends other
+step_outside vs p v old new did live q other = ends_outside p v old.sets new.sets did (q.goes (Some old.sets) old (starts vs old live)).ends
+    other
 
 -- the least values, written again for v
-pub written_after : (vs : List VarId) (v : ℕ) (old new : Sets) (first mid : List ℕ) (m : ℕ) → All (λ u. get_or first u.0 0 ≡ least (set_at old u.0)) vs
-    → ((u : ℕ) → u ≢ v → get_or mid u 0 ≡ get_or first u 0) → ((w : ℕ) → w ≢ v → set_at new w ≡ set_at old w) → v < length mid → m ≡ least (set_at new v)
+pub written_after : (vs : List VarId) (v : ℕ) (old new : Sets) (first mid : List ℕ) (m : ℕ)
+    → All (λ u. get_or first u.0 0 ≡ least (set_at old u.0)) vs
+    → ((u : ℕ) → u ≢ v → get_or mid u 0 ≡ get_or first u 0) → ((w : ℕ) → w ≢ v → set_at new w ≡ set_at old w) → v < length mid
+    → m ≡ least (set_at new v)
     → All (λ u. get_or (set mid v m) u.0 0 ≡ least (set_at new u.0)) vs
 written_after vs v old new first mid m written others outside within is i d lt =
     let u = (get_or vs i d).0 in
@@ -56,7 +62,8 @@ written_after vs v old new first mid m written others outside within is i d lt =
 
 -- The variable that is left to decide
 
-module _ (vs : List VarId) (a b : Temp) (ascend : Ascend vs) (ha : TempVars vs a) (hb : TempVars vs b) (s : Sets) (k : HasVars vs s) (full : NoneEmpty s) where
+module _ (vs : List VarId) (a b : Temp) (ascend : Ascend vs) (ha : TempVars vs a) (hb : TempVars vs b) (s : Sets) (k : HasVars vs s)
+    (full : NoneEmpty s) where
   sub : (u : VarId) → among (temp_vars a ++ temp_vars b) u ≡ true → among vs u ≡ true
   sub = pair_all vs a b ha hb
 
@@ -69,15 +76,18 @@ module _ (vs : List VarId) (a b : Temp) (ascend : Ascend vs) (ha : TempVars vs a
   known : HasVars (pair_vars vs a b) s
   known = part_all (λ v. v.0 < length s) (among (temp_vars a ++ temp_vars b)) vs k
 
-  whole : (first last : Opened) → first ≡ opened_after s (temp_vars a) Nothing → last ≡ opened_after s (temp_vars b) first → opened_after s (temp_vars a ++ temp_vars b) Nothing ≡ last
+  whole : (first last : Opened) → first ≡ opened_after s (temp_vars a) Nothing → last ≡ opened_after s (temp_vars b) first
+      → opened_after s (temp_vars a ++ temp_vars b) Nothing ≡ last
   whole first last p q = after_append s (temp_vars a) (temp_vars b) Nothing ∙ (ap (opened_after s (temp_vars b)) (sym p) ∙ sym q)
 
-  pub left_nothing : (first last : Opened) → first ≡ opened_after s (temp_vars a) Nothing → last ≡ opened_after s (temp_vars b) first → last ≡ Nothing
+  pub left_nothing : (first last : Opened) → first ≡ opened_after s (temp_vars a) Nothing → last ≡ opened_after s (temp_vars b) first
+      → last ≡ Nothing
       → check_pair vs a b s ≡ cut_by (λ y. pair_holds a b (set (point s) a.reg.0 y)) a.reg.0 s
   left_nothing first last p q e = last_none (temp_vars a ++ temp_vars b) vs sub rises (pair_holds a b) looks s a.reg
       (among_left (temp_vars a) (temp_vars b) a.reg (among_here a.reg _)) known full (whole first last p q ∙ e)
 
-  pub left_one : (v : VarId) (first last : Opened) → first ≡ opened_after s (temp_vars a) Nothing → last ≡ opened_after s (temp_vars b) first → last ≡ One v
+  pub left_one : (v : VarId) (first last : Opened) → first ≡ opened_after s (temp_vars a) Nothing → last ≡ opened_after s (temp_vars b)
+      first → last ≡ One v
       → (among vs v ≡ true) × (check_pair vs a b s ≡ cut_by (λ y. pair_holds a b (set (point s) v.0 y)) v.0 s)
   left_one v first last p q e =
       let is = whole first last p q ∙ e in (
@@ -85,7 +95,8 @@ module _ (vs : List VarId) (a b : Temp) (ascend : Ascend vs) (ha : TempVars vs a
         last_one (temp_vars a ++ temp_vars b) vs sub rises (pair_holds a b) looks s v known full is,
       )
 
-  pub left_more : (first last : Opened) → first ≡ opened_after s (temp_vars a) Nothing → last ≡ opened_after s (temp_vars b) first → last ≡ More → check_pair vs a b s ≡ Some s
+  pub left_more : (first last : Opened) → first ≡ opened_after s (temp_vars a) Nothing → last ≡ opened_after s (temp_vars b) first
+      → last ≡ More → check_pair vs a b s ≡ Some s
   left_more first last p q e = last_more (temp_vars a ++ temp_vars b) vs sub rises (pair_holds a b) looks s (whole first last p q ∙ e)
 
   -- nothing to check with any other
@@ -102,7 +113,8 @@ module _ (vs : List VarId) (a b : Temp) (ascend : Ascend vs) (ha : TempVars vs a
           (says_more (among (temp_vars b)) (among (temp_vars a ++ temp_vars b)) s (λ u. among_right (temp_vars a) (temp_vars b) u)
           (subst (Says (among (temp_vars b)) s) (more_is (opened_after s (temp_vars b) Nothing) t) (says_of s (temp_vars b))))
 
-pub checks_idle : (vs : List VarId) (temps : List Temp) (b : Temp) (s : Sets) → Ascend vs → AllByRecursion (TempVars vs) temps → TempVars vs b → HasVars vs s → NoneEmpty s
+pub checks_idle : (vs : List VarId) (temps : List Temp) (b : Temp) (s : Sets) → Ascend vs → AllByRecursion (TempVars vs) temps
+    → TempVars vs b → HasVars vs s → NoneEmpty s
     → (is_off b.on s || is_more (opened_after s (temp_vars b) Nothing)) ≡ true → (n : ℕ) → each_before (check_pair vs) temps b n s ≡ Some s
 checks_idle vs temps b s ascend all hb k full e n = each_same (at_place (λ a. check_pair vs a b) temps) n s
     (at_same (TempVars vs) (λ a. check_pair vs a b) temps s all (λ a ha. check_idle vs a b ascend ha hb s k full e))

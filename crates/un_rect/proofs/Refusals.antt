@@ -1,5 +1,6 @@
 -- Tests that refuse a value where a condition is met, as the code finds them.
-use Rattle.std.proofs.Common.{ℕ, ◌≡◌, ◌<◌, Bool, true, false, not, ◌&&◌, List, length, nat_eq, nat_le, None, Some, refl, sym, ap, ◌∙◌, arith}
+use Rattle.std.proofs.Common.{ℕ, ◌≡◌, ◌<◌, Bool, true, false, not, ◌&&◌, List, length, nat_eq, nat_le, None, Some, refl, sym, ap, ◌∙◌}
+use Rattle.std.proofs.Common.{arith}
 use Rattle.std.specs.declared.option.Option.{Option}
 use Rattle.std.proofs.lemmas.Bool.Decides.{nat_tests}
 use Rattle.un_base.specs.declared.ids.VarId.{VarId}
@@ -36,7 +37,8 @@ only_zero y c e = refuses_met (not (nat_eq y 0)) c e ∙ by (nat_eq y 0) refl
     by false h = let z : nat_le y 0 ≡ false = grind (arith, nat_tests, h) in sym z
 
 -- a cut of a choice
-pub choice_same : (vs : List VarId) (q : Sets → ℕ → Bool) (o : Option VarId) (s : Sets) → AllAmong vs (choice_vars o) → HasVars vs s → NoneEmpty s → ((y : ℕ) → q s y ≡ true)
+pub choice_same : (vs : List VarId) (q : Sets → ℕ → Bool) (o : Option VarId) (s : Sets) → AllAmong vs (choice_vars o) → HasVars vs s
+    → NoneEmpty s → ((y : ℕ) → q s y ≡ true)
     → choice_cut q o s ≡ Some s
 choice_same vs q None s all k full h = refl
 choice_same vs q (Some v) s all k full h = cut_all (q s) v.0 s (has_among vs v s (all 0 v (omega arith)) k) full (λ y there. h y)
@@ -44,6 +46,8 @@ choice_same vs q (Some v) s all k full h = cut_all (q s) v.0 s (has_among vs v s
 pub choice_is : (q : Sets → ℕ → Bool) (o : Option VarId) (v : VarId) (s : Sets) → o ≡ Some v → choice_cut q o s ≡ cut_by (q s) v.0 s
 choice_is q o v s e = ap (λ (p : Option VarId). choice_cut q p s) e
 
-pub in_choice : (vs : List VarId) (o : Option VarId) (v : VarId) (s : Sets) → o ≡ Some v → AllAmong vs (choice_vars o) → HasVars vs s → v.0 < length s
+pub in_choice : (vs : List VarId) (o : Option VarId) (v : VarId) (s : Sets) → o ≡ Some v → AllAmong vs (choice_vars o) → HasVars vs s
+    → v.0 < length s
 in_choice vs None v s e all k = absurd (cc e)
-in_choice vs (Some u) v s e all k = let same : u.0 ≡ v.0 = ap (λ (w : VarId). w.0) (let e' : u ≡ v = cc e in e') in let lt = has_among vs u s (all 0 u (omega arith)) k in omega (arith, same, lt)
+in_choice vs (Some u) v s e all k = let same : u.0 ≡ v.0 = ap (λ (w : VarId). w.0) (let e' : u ≡ v = cc e in e') in let lt = has_among vs
+    u s (all 0 u (omega arith)) k in omega (arith, same, lt)

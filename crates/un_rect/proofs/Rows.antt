@@ -6,13 +6,16 @@ use Rattle.un_domains.specs.Sets.{Sets}
 use Rattle.un_domains.specs.Cuts.{Contents}
 use Rattle.un_prop.specs.Going.{Stepped}
 use Rattle.un_prop.specs.GoingLaws.{stepped_by, stepped_chain}
+use Rattle.un_prop.specs.Places.{each_place}
 use Rattle.un_prop.specs.declared.act.Temp.{Temp}
 use Rattle.un_prop.specs.declared.propagator.Pruned.{Pruned}
 use Rattle.un_rect.specs.Pairs.{at_place, each_before, each_pair}
 use Rattle.un_rect.specs.PairLaws.{at_is}
 
-pub row_next : (f : Temp → Temp → Sets → Option Sets) (temps : List Temp) (a b : Temp) (i : ℕ) (vs us : List VarId) (old mid new : Contents) (before did after : Pruned)
-    → us ≡ vs → a ≡ get_or temps i a → i < length temps → Stepped vs (each_before f temps b i) old mid before did → Stepped us (f a b) mid new did after
+pub row_next : (f : Temp → Temp → Sets → Option Sets) (temps : List Temp) (a b : Temp) (i : ℕ) (vs us : List VarId) (old mid new : Contents)
+    (before did after : Pruned)
+    → us ≡ vs → a ≡ get_or temps i a → i < length temps → Stepped vs (each_before f temps b i) old mid before did → Stepped us (f a b) mid
+    new did after
     → Stepped vs (each_before f temps b (i + 1)) old new before after
 row_next f temps a b i vs us old mid new before did after e is lt p q =
     let one = stepped_by us (at_place (λ c. f c b) temps i) (f a b) mid new did after
@@ -22,8 +25,10 @@ row_next f temps a b i vs us old mid new before did after e is lt p q =
     (stepped_chain vs (each_before f temps b i) (at_place (λ c. f c b) temps i) old mid new before did after p
     (subst (λ (ws : List VarId). Stepped ws (at_place (λ c. f c b) temps i) mid new did after) e one))
 
-pub rows_next : (f : Temp → Temp → Sets → Option Sets) (temps : List Temp) (b : Temp) (j : ℕ) (vs us : List VarId) (old mid new : Contents) (before did after : Pruned)
-    → us ≡ vs → b ≡ get_or temps j b → j < length temps → Stepped vs (each_pair f temps j) old mid before did → Stepped us (each_before f temps b j) mid new did after
+pub rows_next : (f : Temp → Temp → Sets → Option Sets) (temps : List Temp) (b : Temp) (j : ℕ) (vs us : List VarId) (old mid new : Contents)
+    (before did after : Pruned)
+    → us ≡ vs → b ≡ get_or temps j b → j < length temps → Stepped vs (each_pair f temps j) old mid before did
+    → Stepped us (each_before f temps b j) mid new did after
     → Stepped vs (each_pair f temps (j + 1)) old new before after
 rows_next f temps b j vs us old mid new before did after e is lt p q =
     let row = λ (c : Temp). each_before f temps c j in
@@ -33,3 +38,16 @@ rows_next f temps b j vs us old mid new before did after e is lt p q =
     subst (λ (k : ℕ). Stepped vs (each_pair f temps k) old new before after) next
     (stepped_chain vs (each_pair f temps j) (at_place row temps j) old mid new before did after p
     (subst (λ (ws : List VarId). Stepped ws (at_place row temps j) mid new did after) e one))
+
+pub place_next : {A : Type 0} (f : A → Sets → Option Sets) (xs : List A) (a : A) (i : ℕ) (vs us : List VarId) (old mid new : Contents)
+    (before did after : Pruned)
+    → us ≡ vs → a ≡ get_or xs i a → i < length xs → Stepped vs (each_place (at_place f xs) i) old mid before did → Stepped us (f a) mid new
+    did after
+    → Stepped vs (each_place (at_place f xs) (i + 1)) old new before after
+place_next f xs a i vs us old mid new before did after e is lt p q =
+    let one = stepped_by us (at_place f xs i) (f a) mid new did after
+    (λ live. at_is f xs i a mid.sets lt ∙ ap (λ c. f c mid.sets) (sym is)) q in
+    let next : suc i ≡ i + 1 = omega arith in
+    subst (λ (k : ℕ). Stepped vs (each_place (at_place f xs) k) old new before after) next
+    (stepped_chain vs (each_place (at_place f xs) i) (at_place f xs i) old mid new before did after p
+    (subst (λ (ws : List VarId). Stepped ws (at_place f xs i) mid new did after) e one))

@@ -1,5 +1,6 @@
 -- Calls leave a temporary its register.
-use Rattle.std.specs.Prelude.{ℕ, ◌≡◌, ◌<◌, Bool, true, false, not, ◌&&◌, ◌||◌, List, [], ◌∷◌, ◌++◌, length, filter, map, nat_eq, nat_le, nat_lt, slice_index, slice_index_or, All, option_and_then, None, Some}
+use Rattle.std.specs.Prelude.{ℕ, ◌≡◌, ◌<◌, Bool, true, false, not, ◌&&◌, ◌||◌, List, [], ◌∷◌, ◌++◌, length, filter, map, nat_eq, nat_le}
+use Rattle.std.specs.Prelude.{nat_lt, slice_index, slice_index_or, slice_set, All, option_and_then, None, Some}
 use Rattle.std.specs.declared.option.Option.{Option}
 use Rattle.std.specs.List.{list_any, list_all}
 use Rattle.un_base.specs.declared.ids.VarId.{VarId}
@@ -7,7 +8,7 @@ use Rattle.un_domains.specs.Sets.{Sets, set_at, has, cut_by, least, greatest}
 use Rattle.un_isa.specs.Tables.{in_mask}
 use Rattle.un_prop.specs.Acts.{is_active, is_user}
 use Rattle.un_prop.specs.Among.{among}
-use Rattle.un_prop.specs.Last.{last_cut}
+use Rattle.un_prop.specs.Last.{last_cut, point}
 use Rattle.un_prop.specs.Looks.{sure}
 use Rattle.un_prop.specs.Parts.{Part}
 use Rattle.un_prop.specs.Places.{act_cut}
@@ -15,7 +16,7 @@ use Rattle.un_prop.specs.declared.act.Temp.{Temp}
 use Rattle.un_prop.specs.declared.act.UserOf.{UserOf}
 use Rattle.un_rect.specs.Apart.{temp_vars, users_vars}
 use Rattle.un_rect.specs.Entries.{each_entry}
-use Rattle.un_rect.specs.Spans.{starts, ends, greatest_start, least_end, sure_user, SurelyOccupies, UserVars, TempVars}
+use Rattle.un_rect.specs.Spans.{starts, ends, greatest_start, least_end, sure_user, SurelyOccupies, UserVars}
 use Rattle.un_rect.specs.declared.clobber.ClobberCall.{ClobberCall}
 
 -- a temporary does not live across a call: it starts after the call's cycle or ends by then and, where it is defined before the call
@@ -116,5 +117,12 @@ clobber_cut vs mask a calls s = option_and_then (each_entry (check_call vs mask 
 
 -- where the temporary is sure and a call's cycle has one value that it surely occupies, no register of the mask is left for it
 abbrev pub ClobberStrong : ℕ → Temp → List ClobberCall → Sets → Type 0
-ClobberStrong mask a calls s = (i t r : ℕ) (d : ClobberCall) → i < length calls → set_at s (slice_index_or calls i d).at.0 ≡ t ∷ [] → SurelyOccupies a t s
+ClobberStrong mask a calls s = (i t r : ℕ) (d : ClobberCall) → i < length calls → set_at s (slice_index_or calls i d).at.0 ≡ t ∷ []
+    → SurelyOccupies a t s
     → has (set_at s a.reg.0) r ≡ true → in_mask mask r ≡ false
+
+-- the variable of a call's part that is left to decide, or none where there is nothing to check
+abbrev pub IsOpen : List VarId → ℕ → Temp → ClobberCall → Sets → Option VarId → Type 0
+IsOpen vs mask a c s None = check_call vs mask a c s ≡ Some s
+IsOpen vs mask a c s (Some v) =
+    (among vs v ≡ true) × (check_call vs mask a c s ≡ cut_by (λ y. spares mask a c (slice_set (point s) v.0 y)) v.0 s)

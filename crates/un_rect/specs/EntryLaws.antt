@@ -1,14 +1,15 @@
 -- Laws of cuts by an entry, and by the one place that a choice has left.
-use Rattle.std.proofs.Common.{ℕ, zero, suc, ◌≡◌, ◌<◌, ◌≤◌, ◌≢◌, ◌⊎◌, inl, inr, All, Bool, true, false, List, [], ◌∷◌, length, get_or, nat_eq, None, Some, option_and_then, MatchOption, refl, sym, ap, ◌∙◌, subst, arith}
+use Rattle.std.proofs.Common.{ℕ, zero, suc, ◌≡◌, ◌<◌, ◌≤◌, ◌≢◌, inl, inr, All, true, false, List, [], ◌∷◌, length, get_or, nat_eq, None}
+use Rattle.std.proofs.Common.{Some, MatchOption, refl, sym, ap, ◌∙◌, subst, arith}
 use Rattle.std.specs.declared.option.Option.{Option}
 use Rattle.std.specs.Bool.{⊤}
-use Rattle.std.specs.List.{AllByRecursion, slice_get}
+use Rattle.std.specs.List.{AllByRecursion}
 use Rattle.std.proofs.lemmas.Bool.Decides.{nat_tests}
 use Rattle.un_base.specs.declared.ids.VarId.{VarId}
 use Rattle.un_domains.specs.Sets.{Sets, set_at, has, least, IsIn, NoneEmpty, Kept}
 use Rattle.un_domains.specs.SetLaws.{has-cons}
 use Rattle.un_domains.specs.Order.{Below}
-use Rattle.un_domains.specs.OrderLaws.{Below-refl, Below-trans, single_below, has_here}
+use Rattle.un_domains.specs.OrderLaws.{Below-refl, Below-trans, single_below}
 use Rattle.un_prop.specs.Rounds.{HasVars}
 use Rattle.un_prop.specs.Lawful.{BelowOption, Agree, AgreeOption, Lawful}
 use Rattle.un_prop.specs.Steps.{lawful_some}
@@ -20,7 +21,8 @@ use Rattle.un_rect.specs.Entries.{entry_cut, each_entry, at_only, where_fixed}
 
 -- Entries
 
-pub entry_within : {A : Type 0} (f : A → Sets → Option Sets) (xs : List A) (i : ℕ) (d : A) (s : Sets) → i < length xs → entry_cut f xs i s ≡ f (get_or xs i d) s
+pub entry_within : {A : Type 0} (f : A → Sets → Option Sets) (xs : List A) (i : ℕ) (d : A) (s : Sets) → i < length xs
+    → entry_cut f xs i s ≡ f (get_or xs i d) s
 entry_within f [] i d s lt = absurd (omega (arith, lt))
 entry_within f (x ∷ xs) zero d s lt = refl
 entry_within f (x ∷ xs) (suc i) d s lt = entry_within f xs i d s (omega (arith, lt))
@@ -30,35 +32,41 @@ entry_past f [] i s le = refl
 entry_past f (x ∷ xs) zero s le = absurd (omega (arith, le))
 entry_past f (x ∷ xs) (suc i) s le = entry_past f xs i s (omega (arith, le))
 
-pub entry_lawful : {A : Type 0} (vs : List VarId) (P : A → Type 0) (f : A → Sets → Option Sets) → ((a : A) → P a → Lawful vs (f a)) → (xs : List A) → AllByRecursion P xs
+pub entry_lawful : {A : Type 0} (vs : List VarId) (P : A → Type 0) (f : A → Sets → Option Sets) → ((a : A) → P a → Lawful vs (f a))
+    → (xs : List A) → AllByRecursion P xs
     → (i : ℕ) → Lawful vs (entry_cut f xs i)
 entry_lawful vs P f h [] all i = lawful_some vs
 entry_lawful vs P f h (x ∷ xs) all zero = h x all.0
 entry_lawful vs P f h (x ∷ xs) all (suc i) = entry_lawful vs P f h xs all.1 i
 
-pub entry_keeps : {A : Type 0} (P : A → Type 0) (f : A → Sets → Option Sets) (x : List ℕ) (m : Sets) → IsIn x m → ((a : A) → P a → Kept x (f a m)) → (xs : List A)
+pub entry_keeps : {A : Type 0} (P : A → Type 0) (f : A → Sets → Option Sets) (x : List ℕ) (m : Sets) → IsIn x m
+    → ((a : A) → P a → Kept x (f a m)) → (xs : List A)
     → AllByRecursion P xs → (i : ℕ) → Kept x (entry_cut f xs i m)
 entry_keeps P f x m there h [] all i = there
 entry_keeps P f x m there h (a ∷ xs) all zero = h a all.0
 entry_keeps P f x m there h (a ∷ xs) all (suc i) = entry_keeps P f x m there h xs all.1 i
 
-pub entries_lawful_each : {A : Type 0} (vs : List VarId) (P : A → Type 0) (f : A → Sets → Option Sets) → ((a : A) → P a → Lawful vs (f a)) → (xs : List A)
+pub entries_lawful_each : {A : Type 0} (vs : List VarId) (P : A → Type 0) (f : A → Sets → Option Sets)
+    → ((a : A) → P a → Lawful vs (f a)) → (xs : List A)
     → AllByRecursion P xs → Lawful vs (each_entry f xs)
 entries_lawful_each vs P f h xs all = each_lawful vs (entry_cut f xs) (entry_lawful vs P f h xs all) (length xs)
 
 pub entries_keep : {A : Type 0} (vs : List VarId) (P : A → Type 0) (f : A → Sets → Option Sets) (x : List ℕ)
-    → ((a : A) → P a → (m : Sets) → HasVars vs m → IsIn x m → Kept x (f a m)) → (xs : List A) → AllByRecursion P xs → (s : Sets) → HasVars vs s → IsIn x s
+    → ((a : A) → P a → (m : Sets) → HasVars vs m → IsIn x m → Kept x (f a m)) → (xs : List A) → AllByRecursion P xs → (s : Sets)
+    → HasVars vs s → IsIn x s
     → Kept x (each_entry f xs s)
 entries_keep vs P f x h xs all s k there = each_keeps vs (entry_cut f xs) x
     (λ i m km in_m. entry_keeps P f x m in_m (λ a p. h a p m km in_m) xs all i) (length xs) s k there
 
 -- The one value
 
-pub fixed_lawful : (vs : List VarId) (f : ℕ → Sets → Option Sets) (v : VarId) → among vs v ≡ true → ((i : ℕ) → Lawful vs (f i)) → Lawful vs (where_fixed f v)
+pub fixed_lawful : (vs : List VarId) (f : ℕ → Sets → Option Sets) (v : VarId) → among vs v ≡ true → ((i : ℕ) → Lawful vs (f i))
+    → Lawful vs (where_fixed f v)
 fixed_lawful vs f v at h = record {
   shrinks = λ s k full. shrink s k full (set_at s v.0);
   monotone = λ t s k ft fs le. less t s k ft fs le (set_at s v.0) refl;
-  local = λ s t k fs ft e a. subst (λ (xs : List ℕ). AgreeOption vs (at_only f (set_at s v.0) s) (at_only f xs t)) (set_alike vs s t a v at) (alike s t k fs ft e a (set_at s v.0));
+  local = λ s t k fs ft e a. subst (λ (xs : List ℕ). AgreeOption vs (at_only f (set_at s v.0) s) (at_only f xs t))
+      (set_alike vs s t a v at) (alike s t k fs ft e a (set_at s v.0));
   outside = λ s w other. far s w other (set_at s v.0);
 }
   where
@@ -93,7 +101,8 @@ fixed_lawful vs f v at h = record {
     far s w other (i ∷ []) = (h i).outside s w other
     far s w other (i ∷ j ∷ is) = refl
 
-pub fixed_keeps : (vs : List VarId) (f : ℕ → Sets → Option Sets) (v : VarId) → among vs v ≡ true → (s : Sets) (x : List ℕ) → HasVars vs s → IsIn x s
+pub fixed_keeps : (vs : List VarId) (f : ℕ → Sets → Option Sets) (v : VarId) → among vs v ≡ true → (s : Sets) (x : List ℕ) → HasVars vs s
+    → IsIn x s
     → Kept x (f (get_or x v.0 0) s) → Kept x (where_fixed f v s)
 fixed_keeps vs f v at s x k there h = by (set_at s v.0) (there.each v.0 (has_among vs v s at k))
   where
@@ -106,7 +115,8 @@ fixed_keeps vs f v at s x k there h = by (set_at s v.0) (there.each v.0 (has_amo
     by (i ∷ j ∷ is) e = there
 
 -- as the code has it
-pub fixed_at : (f : ℕ → Sets → Option Sets) (v : ℕ) (s : Sets) → nat_eq (length (set_at s v)) 1 ≡ true → at_only f (set_at s v) s ≡ f (least (set_at s v)) s
+pub fixed_at : (f : ℕ → Sets → Option Sets) (v : ℕ) (s : Sets) → nat_eq (length (set_at s v)) 1 ≡ true
+    → at_only f (set_at s v) s ≡ f (least (set_at s v)) s
 fixed_at f v s one = by (set_at s v) one
   where
     by : (xs : List ℕ) → nat_eq (length xs) 1 ≡ true → at_only f xs s ≡ f (least xs) s

@@ -1,5 +1,5 @@
 -- Conditions that stay met where less is left.
-use Rattle.std.proofs.Common.{ℕ, ◌≡◌, Bool, true, false, not, ◌&&◌, ◌||◌, List, refl, sym, ap, ◌∙◌}
+use Rattle.std.proofs.Common.{ℕ, ◌≡◌, Bool, true, false, not, ◌&&◌, ◌||◌, List, refl, ap, ◌∙◌}
 use Rattle.un_base.specs.declared.ids.VarId.{VarId}
 use Rattle.un_domains.specs.Sets.{Sets, NoneEmpty}
 use Rattle.un_domains.specs.Order.{Below}
@@ -31,7 +31,8 @@ module _ (vs : List VarId) where
 
   pub both_inherited : (q r : Sets → ℕ → Bool) → Inherited vs q → Inherited vs r → Inherited vs (λ s y. q s y && r s y)
   both_inherited q r h k = record {
-    stays = λ t s y kn full le e. let two = firsts (q s y) (r s y) e in both (q t y) (r t y) (h.stays t s y kn full le two.0) (k.stays t s y kn full le two.1);
+    stays = λ t s y kn full le e. let two = firsts (q s y) (r s y) e in both (q t y) (r t y) (h.stays t s y kn full le two.0)
+        (k.stays t s y kn full le two.1);
     local = λ s t y agree. ap (λ (b : Bool). b && r s y) (h.local s t y agree) ∙ ap (λ (b : Bool). q t y && b) (k.local s t y agree);
   }
 

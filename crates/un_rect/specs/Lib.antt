@@ -11,6 +11,8 @@ pub mod Opened
 pub mod OpenedLaws
 pub mod Operands
 pub mod OperandsLaws
+pub mod Orders
+pub mod OrdersLaws
 pub mod PairLaws
 pub mod Pairs
 pub mod Sides

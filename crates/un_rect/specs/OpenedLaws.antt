@@ -1,7 +1,7 @@
 -- Laws of what is open.
-use Rattle.std.proofs.Common.{ℕ, zero, suc, ◌≡◌, ◌≢◌, ◌<◌, ◌⊎◌, Bool, true, false, not, ◌||◌, cond, List, [], ◌∷◌, ◌++◌, length, get_or, set, filter, nat_eq, None, Some, All, refl, sym, ap, ◌∙◌, subst, arith, inl, inr}
+use Rattle.std.proofs.Common.{ℕ, suc, ◌≡◌, ◌≢◌, Bool, true, false, not, ◌||◌, cond, List, [], ◌∷◌, ◌++◌, length, set, filter, nat_eq, None}
+use Rattle.std.proofs.Common.{Some, refl, sym, ap, ◌∙◌, subst, arith, inl, inr}
 use Rattle.std.specs.declared.option.Option.{Option}
-use Rattle.std.specs.List.{Contains, AllByRecursion}
 use Rattle.std.proofs.lemmas.Bool.Decides.{nat_tests}
 use Rattle.std.proofs.lemmas.List.Elements.{All-contains}
 use Rattle.un_base.specs.declared.ids.VarId.{VarId}
@@ -53,7 +53,8 @@ or_right false c h = h
 self_eq : (v : VarId) (b : Bool) → (nat_eq v.0 v.0 || b) ≡ true
 self_eq v b = let e : nat_eq v.0 v.0 ≡ true = grind (arith, nat_tests) in rw e refl
 
-says_closed : (m : VarId → Bool) (s : Sets) (o : Opened) (v : VarId) → is_open s v ≡ false → Says m s o → Says (λ u. nat_eq v.0 u.0 || m u) s o
+says_closed : (m : VarId → Bool) (s : Sets) (o : Opened) (v : VarId) → is_open s v ≡ false → Says m s o → Says (λ u. nat_eq v.0 u.0 || m u)
+    s o
 says_closed m s Nothing v shut h = λ u t. by u (nat_eq v.0 u.0) refl t
   where
     by : (u : VarId) (b : Bool) → nat_eq v.0 u.0 ≡ b → (b || m u) ≡ true → is_open s u ≡ false
@@ -62,11 +63,21 @@ says_closed m s Nothing v shut h = λ u t. by u (nat_eq v.0 u.0) refl t
 says_closed m s (One w) v shut h = (or_right (nat_eq v.0 w.0) (m w) h.0, h.1, λ u t wide. by u (nat_eq v.0 u.0) refl t wide)
   where
     by : (u : VarId) (b : Bool) → nat_eq v.0 u.0 ≡ b → (b || m u) ≡ true → is_open s u ≡ true → u.0 ≡ w.0
-    by u true e t wide = absurd (let bad : true ≡ false = sym wide ∙ subst (λ (x : VarId). is_open s x ≡ false) (same_id v u e) shut in cc bad)
+    by u true e t wide = absurd (let bad : true ≡ false = sym wide ∙ subst (λ (x : VarId). is_open s x ≡ false) (same_id v u e) shut in
+        cc bad)
     by u false e t wide = h.2 u t wide
-says_closed m s More v shut (u, w, mu, mw, ou, ow, ne) = (u, w, or_right (nat_eq v.0 u.0) (m u) mu, or_right (nat_eq v.0 w.0) (m w) mw, ou, ow, ne)
+says_closed m s More v shut (u, w, mu, mw, ou, ow, ne) = (
+  u,
+  w,
+  or_right (nat_eq v.0 u.0) (m u) mu,
+  or_right (nat_eq v.0 w.0) (m w) mw,
+  ou,
+  ow,
+  ne,
+)
 
-says_open : (m : VarId → Bool) (s : Sets) (o : Opened) (v : VarId) → is_open s v ≡ true → Says m s o → Says (λ u. nat_eq v.0 u.0 || m u) s (opened_with o v)
+says_open : (m : VarId → Bool) (s : Sets) (o : Opened) (v : VarId) → is_open s v ≡ true → Says m s o → Says (λ u. nat_eq v.0 u.0 || m u) s
+    (opened_with o v)
 says_open m s Nothing v wide h = (self_eq v (m v), wide, λ u t also. by u (nat_eq v.0 u.0) refl t also)
   where
     by : (u : VarId) (b : Bool) → nat_eq v.0 u.0 ≡ b → (b || m u) ≡ true → is_open s u ≡ true → u.0 ≡ v.0
@@ -79,9 +90,30 @@ says_open m s (One w) v wide h = at (nat_eq w.0 v.0) refl
     by u false e same t also = h.2 u t also
 
     at : (b : Bool) → nat_eq w.0 v.0 ≡ b → Says (λ u. nat_eq v.0 u.0 || m u) s (cond b (One w) More)
-    at true e = (or_right (nat_eq v.0 w.0) (m w) h.0, h.1, λ u t also. by u (nat_eq v.0 u.0) refl (let is : w.0 ≡ v.0 = grind (arith, nat_tests, e) in is) t also)
-    at false e = (w, v, or_right (nat_eq v.0 w.0) (m w) h.0, self_eq v (m v), h.1, wide, (let ne : w.0 ≢ v.0 = grind (arith, nat_tests, e) in ne))
-says_open m s More v wide (u, w, mu, mw, ou, ow, ne) = (u, w, or_right (nat_eq v.0 u.0) (m u) mu, or_right (nat_eq v.0 w.0) (m w) mw, ou, ow, ne)
+    at true e = (
+      or_right (nat_eq v.0 w.0) (m w) h.0,
+      h.1,
+      λ u t also. by u (nat_eq v.0 u.0) refl
+          (let is : w.0 ≡ v.0 = grind (arith, nat_tests, e) in is) t also,
+    )
+    at false e = (
+      w,
+      v,
+      or_right (nat_eq v.0 w.0) (m w) h.0,
+      self_eq v (m v),
+      h.1,
+      wide,
+      (let ne : w.0 ≢ v.0 = grind (arith, nat_tests, e) in ne),
+    )
+says_open m s More v wide (u, w, mu, mw, ou, ow, ne) = (
+  u,
+  w,
+  or_right (nat_eq v.0 u.0) (m u) mu,
+  or_right (nat_eq v.0 w.0) (m w) mw,
+  ou,
+  ow,
+  ne,
+)
 
 says_at : (m : VarId → Bool) (s : Sets) (o : Opened) (v : VarId) → Says m s o → Says (λ u. nat_eq v.0 u.0 || m u) s (opened_at s o v)
 says_at m s o v h = by (is_open s v) refl
@@ -98,7 +130,8 @@ says_same m n s More e (u, w, mu, mw, ou, ow, ne) = (u, w, sym (e u) ∙ mu, sym
 pub says_more : (m n : VarId → Bool) (s : Sets) → ((u : VarId) → m u ≡ true → n u ≡ true) → Says m s More → Says n s More
 says_more m n s f (u, w, mu, mw, ou, ow, ne) = (u, w, f u mu, f w mw, ou, ow, ne)
 
-says_after : (m : VarId → Bool) (s : Sets) (vs : List VarId) (o : Opened) → Says m s o → Says (λ u. among vs u || m u) s (opened_after s vs o)
+says_after : (m : VarId → Bool) (s : Sets) (vs : List VarId) (o : Opened) → Says m s o → Says (λ u. among vs u || m u) s
+    (opened_after s vs o)
 says_after m s [] o h = h
 says_after m s (v ∷ vs) o h = says_same (λ u. among vs u || (nat_eq v.0 u.0 || m u)) (λ u. (nat_eq v.0 u.0 || among vs u) || m u) s
     (opened_after s vs (opened_at s o v)) (λ u. swap (among vs u) (nat_eq v.0 u.0) (m u))
@@ -125,22 +158,26 @@ passes : (q : VarId → Bool) (vs : List VarId) (u : VarId) → among (filter q 
 passes q [] u h = absurd (cc h)
 passes q (v ∷ vs) u h = by (q v) refl h (passes q vs u)
   where
-    or_cases : (b : Bool) → nat_eq v.0 u.0 ≡ b → (b || among (filter q vs) u) ≡ true → q v ≡ true → (among (filter q vs) u ≡ true → q u ≡ true) → q u ≡ true
+    or_cases : (b : Bool) → nat_eq v.0 u.0 ≡ b → (b || among (filter q vs) u) ≡ true → q v ≡ true
+        → (among (filter q vs) u ≡ true → q u ≡ true) → q u ≡ true
     or_cases true e t on rest = subst (λ (w : VarId). q w ≡ true) (same_id v u e) on
     or_cases false e t on rest = rest t
 
-    by : (b : Bool) → q v ≡ b → among (cond b (v ∷ filter q vs) (filter q vs)) u ≡ true → (among (filter q vs) u ≡ true → q u ≡ true) → q u ≡ true
+    by : (b : Bool) → q v ≡ b → among (cond b (v ∷ filter q vs) (filter q vs)) u ≡ true → (among (filter q vs) u ≡ true → q u ≡ true)
+        → q u ≡ true
     by true e t rest = or_cases (nat_eq v.0 u.0) refl t e rest
     by false e t rest = rest t
 
 none_open : (s : Sets) (ws : List VarId) → ((u : VarId) → among ws u ≡ true → is_open s u ≡ false) → open_of ws s ≡ []
 none_open s [] h = refl
-none_open s (w ∷ ws) h = ap (λ (b : Bool). cond b (w ∷ open_of ws s) (open_of ws s)) (h w (among_here w ws)) ∙ none_open s ws (λ u t. h u (among_later w u ws t))
+none_open s (w ∷ ws) h = ap (λ (b : Bool). cond b (w ∷ open_of ws s) (open_of ws s)) (h w (among_here w ws))
+    ∙ none_open s ws (λ u t. h u (among_later w u ws t))
 
 tail_ascends : (v : VarId) (vs : List VarId) → Ascend (v ∷ vs) → Ascend vs
 tail_ascends v vs h i j d lt below = h (suc i) (suc j) d (omega (arith, lt)) (omega (arith, below))
 
-one_open : (s : Sets) (v : VarId) (ws : List VarId) → Ascend ws → among ws v ≡ true → is_open s v ≡ true → ((u : VarId) → among ws u ≡ true → is_open s u ≡ true → u.0 ≡ v.0)
+one_open : (s : Sets) (v : VarId) (ws : List VarId) → Ascend ws → among ws v ≡ true → is_open s v ≡ true → ((u : VarId) → among ws u ≡ true
+    → is_open s u ≡ true → u.0 ≡ v.0)
     → open_of ws s ≡ v ∷ []
 one_open s v [] g h wide only = absurd (cc h)
 one_open s v (w ∷ ws) g h wide only = by (nat_eq w.0 v.0) refl h (one_open s v ws (tail_ascends w ws g))
@@ -153,7 +190,8 @@ one_open s v (w ∷ ws) g h wide only = by (nat_eq w.0 v.0) refl h (one_open s v
         at true e = absurd (ne (only u t e))
 
     by : (b : Bool) → nat_eq w.0 v.0 ≡ b → (b || among ws v) ≡ true
-        → (among ws v ≡ true → is_open s v ≡ true → ((u : VarId) → among ws u ≡ true → is_open s u ≡ true → u.0 ≡ v.0) → open_of ws s ≡ v ∷ [])
+        → (among ws v ≡ true → is_open s v ≡ true → ((u : VarId) → among ws u ≡ true → is_open s u ≡ true → u.0 ≡ v.0)
+        → open_of ws s ≡ v ∷ [])
         → open_of (w ∷ ws) s ≡ v ∷ []
     by true e t rest =
         let same : w ≡ v = same_id w v e in
@@ -171,7 +209,8 @@ one_open s v (w ∷ ws) g h wide only = by (nat_eq w.0 v.0) refl h (one_open s v
             omega (arith, less, here, is, first)
     by false e t rest =
         let ne : w.0 ≢ v.0 = grind (arith, nat_tests, e) in
-        ap (λ (b : Bool). cond b (w ∷ open_of ws s) (open_of ws s)) (shut w ne (among_here w ws)) ∙ rest t wide (λ u there. only u (among_later w u ws there))
+        ap (λ (b : Bool). cond b (w ∷ open_of ws s) (open_of ws s)) (shut w ne (among_here w ws))
+        ∙ rest t wide (λ u there. only u (among_later w u ws there))
 
 module _ (us vs : List VarId) (sub : (u : VarId) → among us u ≡ true → among vs u ≡ true) (ascend : Ascend (filter (among us) vs))
     (t : List ℕ → Bool) (looks : (x y : List ℕ) → SameAt (filter (among us) vs) x y → t x ≡ t y) (s : Sets) where
@@ -185,7 +224,8 @@ module _ (us vs : List VarId) (sub : (u : VarId) → among us u ≡ true → amo
       single x v m o is = elim (same_or_not x.0 v.0) [
         | inl e ↦ e
         | inr ne ↦ absurd (
-            let one = All-contains (λ (w : VarId). w.0 ≢ v.0 → length (set_at s w.0) ≡ 1) (filter (among us) vs) x (last_single (filter (among us) vs) s v is).1 (in_list (filter (among us) vs) x (inside x m)) ne in
+            let one = All-contains (λ (w : VarId). w.0 ≢ v.0 → length (set_at s w.0) ≡ 1) (filter (among us) vs) x
+            (last_single (filter (among us) vs) s v is).1 (in_list (filter (among us) vs) x (inside x m)) ne in
             let b : nat_eq (length (set_at s x.0)) 1 ≡ true = grind (arith, nat_tests, one) in
             let bad : true ≡ false = sym o ∙ ap not b in cc bad)
       ]

@@ -6,6 +6,7 @@ use Rattle.un_base.specs.declared.ids.VarId.{VarId}
 use Rattle.un_domains.specs.Sets.{Sets, set_at, has, cut_by}
 use Rattle.un_prop.specs.Among.{among, AllAmong}
 use Rattle.un_prop.specs.Choices.{passes_at}
+use Rattle.un_prop.specs.Last.{last_cut}
 use Rattle.un_prop.specs.Places.{places_in, choice_steps}
 use Rattle.un_prop.specs.declared.act.Act.TheVariants.{Always}
 use Rattle.un_rect.specs.Entries.{entry_cut, each_entry, where_fixed}
@@ -72,3 +73,6 @@ side_steps a b s = option_and_then (fixed_cut a b) (choice_steps Always a.choice
 
 abbrev pub operands_steps : Side → Side → Sets → Option Sets
 operands_steps a b s = option_and_then (side_steps b a) (side_steps a b s)
+
+abbrev pub operands_cut : List VarId → Side → Side → Sets → Option Sets
+operands_cut vs a b s = option_and_then (last_cut vs (operands_holds a b)) (operands_steps a b s)

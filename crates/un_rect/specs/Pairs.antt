@@ -5,8 +5,8 @@ use Rattle.un_domains.specs.Sets.{Sets}
 use Rattle.un_prop.specs.Places.{each_place}
 use Rattle.un_prop.specs.declared.act.Temp.{Temp}
 
--- the cut of the temporary at a place; there is none past the end
-abbrev pub at_place : (Temp → Sets → Option Sets) → List Temp → ℕ → Sets → Option Sets
+-- the cut of the item at a place; there is none past the end
+abbrev pub at_place : {A : Type 0} → (A → Sets → Option Sets) → List A → ℕ → Sets → Option Sets
 at_place f [] i s = Some s
 at_place f (a ∷ rest) zero s = f a s
 at_place f (a ∷ rest) (suc i) s = at_place f rest i s

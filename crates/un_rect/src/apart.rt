@@ -6,7 +6,7 @@ ghost use Rattle.un_prop.specs.LastLaws.{Ascend};
 ghost use Rattle.un_rect.specs.Apart.{pair_holds, ApartVars};
 
 use crate::checks::{are_apart, check_all};
-use crate::clashes::keep_all;
+use crate::{clashes, orders};
 use un_base::ids::VarId;
 use un_domains::window::Window;
 use un_lists::items::Items;
@@ -74,8 +74,9 @@ impl Propagator for Apart {
 
     fn prune_in(&self, w: &mut Window<'_>, scratch: &mut Scratch) -> Pruned {
         let temps = self.temps.as_slice();
-        let did = keep_all(w, Pruned::Same, temps);
-        check_all(w, did, temps, scratch.fixed.as_mut_slice())
+        let first = clashes::keep_all(w, Pruned::Same, temps);
+        let second = orders::keep_all(w, first, temps);
+        check_all(w, second, temps, scratch.fixed.as_mut_slice())
     }
 
     ghost keeps = { λ p s x k full there holds. apart_keeps p.vars p.ascend p.temps p.among s x k there holds };

@@ -1,20 +1,17 @@
 //! Checks of two temporaries of which one variable is left to decide: it keeps the values that meet their part.
 
-ghost use Rattle.std.specs.Prelude.{◌≡◌, ◌≢◌, ◌≤◌, ◌<◌, ℕ, Bool, All, Some, MatchOption, ◌&&◌, ◌||◌, length, nat_eq, not, true, slice_index, slice_set, ◌⊎◌};
-ghost use Rattle.un_domains.specs.Sets.{set_at, least, cut_by, NoneEmpty};
+ghost use Rattle.std.specs.Prelude.{◌≡◌, ◌≢◌, ◌≤◌, ◌<◌, ℕ, All, ◌||◌, length, true, slice_index};
+ghost use Rattle.un_domains.specs.Sets.{NoneEmpty};
 ghost use Rattle.un_prop.specs.Among.{among};
-ghost use Rattle.un_prop.specs.Acts.{act_vars, is_active};
+ghost use Rattle.un_prop.specs.Acts.{act_vars};
 ghost use Rattle.un_prop.specs.Going.{Stepped};
-ghost use Rattle.un_prop.specs.Last.{point};
 ghost use Rattle.un_prop.specs.LastLaws.{Ascend};
-ghost use Rattle.un_prop.specs.Pruning.{IsPrune};
 ghost use Rattle.un_prop.specs.Rounds.{HasVars};
 ghost use Rattle.un_prop.specs.declared.propagator.Pruned.TheVariants.{Same, Failed};
 ghost use Rattle.un_rect.specs.Spans.{TempVars};
-ghost use Rattle.un_rect.specs.Apart.{pair_holds, temp_vars, check_pair};
-ghost use Rattle.un_rect.specs.Checks.{is_off, differ, surely_apart};
+ghost use Rattle.un_rect.specs.Apart.{shares, pair_holds, temp_vars, check_pair, check_row, checks_cut};
+ghost use Rattle.un_rect.specs.Checks.{is_off, differ, surely_apart, Written, decide_cut, try_cut, IsUndecided};
 ghost use Rattle.un_rect.specs.Opened.{opened_after, is_more};
-ghost use Rattle.un_rect.specs.Pairs.{each_before, each_pair};
 ghost use Rattle.un_rect.specs.declared.opened.Opened.TheVariants.{Nothing};
 
 use crate::opened::{Opened, is_more, with_temp};
@@ -28,7 +25,7 @@ use un_prop::step::{drop_value, joined};
 
 /// Whether two temporaries are active and have one register.
 fn share(fixed: &[u32], a: &Temp, b: &Temp) -> bool
-    ensures { result ≡ (is_active a.now.on fixed.now && (is_active b.now.on fixed.now && nat_eq (slice_index fixed.now a.now.reg.0) (slice_index fixed.now b.now.reg.0))) }
+    ensures { result ≡ shares a.now b.now fixed.now }
 {
     if !active(fixed, a.on) {
         return false;
@@ -104,7 +101,7 @@ fn undecided(w: &Window<'_>, a: &Temp, b: &Temp) -> Option<VarId>
     requires of_b { TempVars w.now.vars.now b.now }
     requires known { HasVars w.now.vars.now w.now.store.now.sets }
     requires live { NoneEmpty w.now.store.now.sets }
-    ensures { MatchOption result (check_pair w.now.vars.now a.now b.now w.now.store.now.sets ≡ Some w.now.store.now.sets) (λ v. (among w.now.vars.now v ≡ true) × (check_pair w.now.vars.now a.now b.now w.now.store.now.sets ≡ cut_by (λ y. pair_holds a.now b.now (slice_set (point w.now.store.now.sets) v.0 y)) v.0 w.now.store.now.sets)) }
+    ensures { IsUndecided w.now.vars.now a.now b.now w.now.store.now.sets result }
 {
     if surely_apart(w, a, b) {
         return None;
@@ -131,7 +128,7 @@ fn try_value(
     requires known { HasVars w.old.vars.now w.old.store.now.sets }
     requires live { before ≢ Failed → NoneEmpty w.old.store.now.sets }
     requires room { length w.old.store.now.sets ≤ length fixed.old }
-    ensures step { Stepped w.old.vars.now (cut_by (λ z. not (nat_eq z y) || pair_holds a.now b.now (slice_set fixed.old v.0 y)) v.0) w.old.store.now w.new.store.now before result }
+    ensures step { Stepped w.old.vars.now (try_cut a.now b.now v y fixed.old) w.old.store.now w.new.store.now before result }
     ensures others { (u : ℕ) → u ≢ v.0 → slice_index fixed.new u ≡ slice_index fixed.old u }
     ensures same_reference { w.new.store.ghost_name ≡ w.old.store.ghost_name }
     ensures vars { w.new.vars ≡ w.old.vars }
@@ -154,8 +151,8 @@ fn try_all(w: &mut Window<'_>, a: &Temp, b: &Temp, v: VarId, fixed: &mut [u32]) 
     requires known { HasVars w.old.vars.now w.old.store.now.sets }
     requires live { NoneEmpty w.old.store.now.sets }
     requires room { length w.old.store.now.sets ≤ length fixed.old }
-    requires written { All (λ u. slice_index fixed.old u.0 ≡ least (set_at w.old.store.now.sets u.0)) w.old.vars.now }
-    ensures step { Stepped w.old.vars.now (cut_by (λ y. pair_holds a.now b.now (slice_set (point w.old.store.now.sets) v.0 y)) v.0) w.old.store.now w.new.store.now Same result }
+    requires written { Written w.old.vars.now w.old.store.now.sets fixed.old }
+    ensures step { Stepped w.old.vars.now (decide_cut a.now b.now v w.old.store.now.sets) w.old.store.now w.new.store.now Same result }
     ensures others { (u : ℕ) → u ≢ v.0 → slice_index fixed.new u ≡ slice_index fixed.old u }
     ensures same_reference { w.new.store.ghost_name ≡ w.old.store.ghost_name }
     ensures vars { w.new.vars ≡ w.old.vars }
@@ -185,9 +182,9 @@ fn decide(
     requires going { before ≢ Failed }
     requires live { NoneEmpty w.old.store.now.sets }
     requires room { length w.old.store.now.sets ≤ length fixed.old }
-    requires written { All (λ u. slice_index fixed.old u.0 ≡ least (set_at w.old.store.now.sets u.0)) w.old.vars.now }
-    ensures step { Stepped w.old.vars.now (cut_by (λ y. pair_holds a.now b.now (slice_set (point w.old.store.now.sets) v.0 y)) v.0) w.old.store.now w.new.store.now before result }
-    ensures written { result ≢ Failed → All (λ u. slice_index fixed.new u.0 ≡ least (set_at w.new.store.now.sets u.0)) w.old.vars.now }
+    requires written { Written w.old.vars.now w.old.store.now.sets fixed.old }
+    ensures step { Stepped w.old.vars.now (decide_cut a.now b.now v w.old.store.now.sets) w.old.store.now w.new.store.now before result }
+    ensures written { result ≢ Failed → Written w.old.vars.now w.new.store.now.sets fixed.new }
     ensures same_reference { w.new.store.ghost_name ≡ w.old.store.ghost_name }
     ensures vars { w.new.vars ≡ w.old.vars }
 {
@@ -207,9 +204,9 @@ fn check(w: &mut Window<'_>, before: Pruned, a: &Temp, b: &Temp, fixed: &mut [u3
     requires known { HasVars w.old.vars.now w.old.store.now.sets }
     requires live { before ≢ Failed → NoneEmpty w.old.store.now.sets }
     requires room { length w.old.store.now.sets ≤ length fixed.old }
-    requires written { before ≢ Failed → All (λ u. slice_index fixed.old u.0 ≡ least (set_at w.old.store.now.sets u.0)) w.old.vars.now }
+    requires written { before ≢ Failed → Written w.old.vars.now w.old.store.now.sets fixed.old }
     ensures step { Stepped w.old.vars.now (check_pair w.old.vars.now a.now b.now) w.old.store.now w.new.store.now before result }
-    ensures written { result ≢ Failed → All (λ u. slice_index fixed.new u.0 ≡ least (set_at w.new.store.now.sets u.0)) w.old.vars.now }
+    ensures written { result ≢ Failed → Written w.old.vars.now w.new.store.now.sets fixed.new }
     ensures same_reference { w.new.store.ghost_name ≡ w.old.store.ghost_name }
     ensures vars { w.new.vars ≡ w.old.vars }
 {
@@ -251,9 +248,9 @@ fn check_row(
     requires known { HasVars w.old.vars.now w.old.store.now.sets }
     requires live { before ≢ Failed → NoneEmpty w.old.store.now.sets }
     requires room { length w.old.store.now.sets ≤ length fixed.old }
-    requires written { before ≢ Failed → All (λ u. slice_index fixed.old u.0 ≡ least (set_at w.old.store.now.sets u.0)) w.old.vars.now }
-    ensures step { Stepped w.old.vars.now (each_before (check_pair w.old.vars.now) temps.now b.now n) w.old.store.now w.new.store.now before result }
-    ensures written { result ≢ Failed → All (λ u. slice_index fixed.new u.0 ≡ least (set_at w.new.store.now.sets u.0)) w.old.vars.now }
+    requires written { before ≢ Failed → Written w.old.vars.now w.old.store.now.sets fixed.old }
+    ensures step { Stepped w.old.vars.now (check_row w.old.vars.now temps.now b.now n) w.old.store.now w.new.store.now before result }
+    ensures written { result ≢ Failed → Written w.old.vars.now w.new.store.now.sets fixed.new }
     ensures same_reference { w.new.store.ghost_name ≡ w.old.store.ghost_name }
     ensures vars { w.new.vars ≡ w.old.vars }
 {
@@ -282,7 +279,7 @@ pub(crate) fn check_all(
     requires known { HasVars w.old.vars.now w.old.store.now.sets }
     requires live { before ≢ Failed → NoneEmpty w.old.store.now.sets }
     requires room { length w.old.store.now.sets ≤ length fixed.old }
-    ensures step { Stepped w.old.vars.now (each_pair (check_pair w.old.vars.now) temps.now (length temps.now)) w.old.store.now w.new.store.now before result }
+    ensures step { Stepped w.old.vars.now (checks_cut w.old.vars.now temps.now) w.old.store.now w.new.store.now before result }
     ensures same_reference { w.new.store.ghost_name ≡ w.old.store.ghost_name }
     ensures vars { w.new.vars ≡ w.old.vars }
 {

@@ -1,14 +1,14 @@
 //! Registers that a sure temporary takes from those that it surely overlaps.
 
-ghost use Rattle.std.specs.Prelude.{◌≡◌, ◌≢◌, ◌≤◌, ℕ, Bool, All, MatchOption, ◌&&◌, length, nat_eq, nat_lt, not, true};
-ghost use Rattle.un_domains.specs.Sets.{set_at, has, NoneEmpty};
+ghost use Rattle.std.specs.Prelude.{◌≡◌, ◌≢◌, ◌≤◌, All, length, nat_lt};
+ghost use Rattle.un_domains.specs.Sets.{NoneEmpty};
 ghost use Rattle.un_prop.specs.Going.{Stepped};
-ghost use Rattle.un_prop.specs.Looks.{sure};
 ghost use Rattle.un_prop.specs.Rounds.{HasVars};
 ghost use Rattle.un_prop.specs.declared.propagator.Pruned.TheVariants.{Failed};
 ghost use Rattle.un_rect.specs.Spans.{last_sure_use, least_end, UserVars, TempVars};
-ghost use Rattle.un_rect.specs.Apart.{overlap, clash_test, clash_cut, clash_pair};
-ghost use Rattle.un_rect.specs.Pairs.{each_before, each_pair};
+ghost use Rattle.un_rect.specs.Apart.{sure_overlap, clash_cut, clash_pair, clashes_cut};
+ghost use Rattle.un_rect.specs.Checks.{IsClash};
+ghost use Rattle.un_rect.specs.Pairs.{each_before};
 
 use crate::spans::is_sure_user;
 use un_domains::window::Window;
@@ -35,7 +35,7 @@ fn is_used_after(w: &Window<'_>, users: &[UserOf], t: u32) -> bool
 }
 
 /// Whether the least end of a temporary is after `t`.
-fn ends_after(w: &Window<'_>, a: &Temp, t: u32) -> bool
+pub(crate) fn ends_after(w: &Window<'_>, a: &Temp, t: u32) -> bool
     requires vars { TempVars w.now.vars.now a.now }
     requires known { HasVars w.now.vars.now w.now.store.now.sets }
     requires live { NoneEmpty w.now.store.now.sets }
@@ -53,7 +53,7 @@ fn overlaps(w: &Window<'_>, a: &Temp, b: &Temp) -> bool
     requires of_b { TempVars w.now.vars.now b.now }
     requires known { HasVars w.now.vars.now w.now.store.now.sets }
     requires live { NoneEmpty w.now.store.now.sets }
-    ensures { result ≡ (sure a.now.on w.now.store.now.sets && (sure b.now.on w.now.store.now.sets && overlap a.now b.now w.now.store.now.sets)) }
+    ensures { result ≡ sure_overlap a.now b.now w.now.store.now.sets }
 {
     if !is_sure(w, a.on) {
         return false;
@@ -73,7 +73,7 @@ fn clash(w: &Window<'_>, a: &Temp, b: &Temp) -> Option<u32>
     requires of_b { TempVars w.now.vars.now b.now }
     requires known { HasVars w.now.vars.now w.now.store.now.sets }
     requires live { NoneEmpty w.now.store.now.sets }
-    ensures { MatchOption result ((y : ℕ) → has (set_at w.now.store.now.sets b.now.reg.0) y ≡ true → clash_test a.now b.now w.now.store.now.sets y ≡ true) (λ r. (y : ℕ) → clash_test a.now b.now w.now.store.now.sets y ≡ not (nat_eq y r)) }
+    ensures { IsClash a.now b.now w.now.store.now.sets result }
 {
     if !w.is_single(a.reg) {
         return None;
@@ -144,7 +144,7 @@ pub(crate) fn keep_all(w: &mut Window<'_>, before: Pruned, temps: &[Temp]) -> Pr
     requires of_temps { All (TempVars w.old.vars.now) temps.now }
     requires known { HasVars w.old.vars.now w.old.store.now.sets }
     requires live { before ≢ Failed → NoneEmpty w.old.store.now.sets }
-    ensures step { Stepped w.old.vars.now (each_pair clash_pair temps.now (length temps.now)) w.old.store.now w.new.store.now before result }
+    ensures step { Stepped w.old.vars.now (clashes_cut temps.now) w.old.store.now w.new.store.now before result }
     ensures same_reference { w.new.store.ghost_name ≡ w.old.store.ghost_name }
     ensures vars { w.new.vars ≡ w.old.vars }
 {

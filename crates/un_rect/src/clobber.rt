@@ -1,20 +1,20 @@
 //! Calls: a temporary that lives across a call has a register that the call keeps.
 
-ghost use Rattle.std.specs.Prelude.{◌≡◌, ◌≢◌, ◌<◌, ◌≤◌, ℕ, ◌&&◌, true, length, not, All, Some, MatchOption, slice_set};
+ghost use Rattle.std.specs.Prelude.{◌≡◌, ◌≢◌, ◌<◌, ◌≤◌, ℕ, ◌&&◌, true, length, not, All};
 ghost use Rattle.std.specs.List.{list_any};
-ghost use Rattle.un_domains.specs.Sets.{set_at, cut_by, NoneEmpty};
+ghost use Rattle.un_domains.specs.Sets.{NoneEmpty};
 ghost use Rattle.un_isa.specs.Tables.{in_mask};
 ghost use Rattle.un_prop.specs.Acts.{is_user};
 ghost use Rattle.un_prop.specs.Looks.{sure};
 ghost use Rattle.un_prop.specs.Among.{among};
-ghost use Rattle.un_prop.specs.Last.{point};
 ghost use Rattle.un_prop.specs.Rounds.{HasVars};
 ghost use Rattle.un_prop.specs.Going.{Stepped};
 ghost use Rattle.un_prop.specs.LastLaws.{Ascend};
 ghost use Rattle.un_prop.specs.declared.propagator.Pruned.TheVariants.{Failed};
 ghost use Rattle.un_rect.specs.Spans.{sure_user, UserVars, TempVars};
 ghost use Rattle.un_rect.specs.Entries.{each_entry};
-ghost use Rattle.un_rect.specs.Clobber.{CallVars, avoids, spares, may_survive, covers, is_read_behind, lasts, hit_cut, off_cut, cycle_cut, reader_cut, call_steps, check_call};
+ghost use Rattle.un_rect.specs.Clobber.{CallVars, avoids, spares, may_survive, covers, is_read_behind, lasts, hit_cut, off_cut, cycle_cut};
+ghost use Rattle.un_rect.specs.Clobber.{reader_cut, call_steps, check_call, IsOpen};
 
 use crate::opened::{Opened, is_more, with_temp, with_users, with_var};
 use crate::spans::{end, is_sure_user, least_end, reads};
@@ -255,7 +255,8 @@ fn is_doomed(w: &Window<'_>, mask: u64, a: &Temp, u: &UserOf) -> bool
     requires of_user { UserVars w.now.vars.now u.now }
     requires known { HasVars w.now.vars.now w.now.store.now.sets }
     requires live { NoneEmpty w.now.store.now.sets }
-    ensures { result ≡ ((sure a.now.on w.now.store.now.sets && sure u.now.on w.now.store.now.sets) && not (may_survive mask a.now w.now.store.now.sets)) }
+    ensures { result ≡ ((sure a.now.on w.now.store.now.sets && sure u.now.on w.now.store.now.sets) &&
+        not (may_survive mask a.now w.now.store.now.sets)) }
 {
     if !is_sure(w, a.on) {
         return false;
@@ -308,7 +309,8 @@ fn keep_readers(w: &mut Window<'_>, before: Pruned, mask: u64, a: &Temp, c: &Clo
     requires of_call { CallVars w.old.vars.now c.now }
     requires known { HasVars w.old.vars.now w.old.store.now.sets }
     requires live { before ≢ Failed → NoneEmpty w.old.store.now.sets }
-    ensures step { Stepped w.old.vars.now (each_entry (reader_cut mask a.now c.now) c.now.behind) w.old.store.now w.new.store.now before result }
+    ensures step { Stepped w.old.vars.now (each_entry (reader_cut mask a.now c.now) c.now.behind) w.old.store.now w.new.store.now before
+        result }
     ensures same_reference { w.new.store.ghost_name ≡ w.old.store.ghost_name }
     ensures vars { w.new.vars ≡ w.old.vars }
 {
@@ -406,7 +408,7 @@ fn undecided(w: &Window<'_>, p: &CallPart<'_>) -> Option<VarId>
     requires ascend { Ascend p.now.vars.now }
     requires known { HasVars p.now.vars.now w.now.store.now.sets }
     requires live { NoneEmpty w.now.store.now.sets }
-    ensures { MatchOption result (check_call p.now.vars.now p.now.mask p.now.temp.now p.now.call.now w.now.store.now.sets ≡ Some w.now.store.now.sets) (λ v. (among p.now.vars.now v ≡ true) × (check_call p.now.vars.now p.now.mask p.now.temp.now p.now.call.now w.now.store.now.sets ≡ cut_by (λ y. spares p.now.mask p.now.temp.now p.now.call.now (slice_set (point w.now.store.now.sets) v.0 y)) v.0 w.now.store.now.sets)) }
+    ensures { IsOpen p.now.vars.now p.now.mask p.now.temp.now p.now.call.now w.now.store.now.sets result }
 {
     let first = with_temp(w, Opened::Nothing, p.temp);
     if is_more(first) {
@@ -427,7 +429,8 @@ fn check(w: &mut Window<'_>, before: Pruned, p: &CallPart<'_>, fixed: &mut [u32]
     requires known { HasVars p.now.vars.now w.old.store.now.sets }
     requires live { before ≢ Failed → NoneEmpty w.old.store.now.sets }
     requires room { length w.old.store.now.sets ≤ length fixed.old }
-    ensures step { Stepped w.old.vars.now (check_call p.now.vars.now p.now.mask p.now.temp.now p.now.call.now) w.old.store.now w.new.store.now before result }
+    ensures step { Stepped w.old.vars.now (check_call p.now.vars.now p.now.mask p.now.temp.now p.now.call.now) w.old.store.now
+        w.new.store.now before result }
     ensures same_reference { w.new.store.ghost_name ≡ w.old.store.ghost_name }
     ensures vars { w.new.vars ≡ w.old.vars }
 {
@@ -463,7 +466,8 @@ fn check_calls(w: &mut Window<'_>, before: Pruned, p: &Clobber, fixed: &mut [u32
     requires known { HasVars p.now.vars w.old.store.now.sets }
     requires live { before ≢ Failed → NoneEmpty w.old.store.now.sets }
     requires room { length w.old.store.now.sets ≤ length fixed.old }
-    ensures step { Stepped w.old.vars.now (each_entry (check_call p.now.vars p.now.mask p.now.temp) p.now.calls) w.old.store.now w.new.store.now before result }
+    ensures step { Stepped w.old.vars.now (each_entry (check_call p.now.vars p.now.mask p.now.temp) p.now.calls) w.old.store.now
+        w.new.store.now before result }
     ensures same_reference { w.new.store.ghost_name ≡ w.old.store.ghost_name }
     ensures vars { w.new.vars ≡ w.old.vars }
 {
@@ -494,8 +498,9 @@ impl Predicate for Clobber {
     }
 
     fn test(&self, fixed: &[u32]) -> bool {
-        for c in self.calls.as_slice() {
-            if !spares(fixed, self.mask, &self.temp, c) {
+        let calls = self.calls.as_slice();
+        for i in 0..calls.len() {
+            if !spares(fixed, self.mask, &self.temp, &calls[i]) {
                 return false;
             }
         }
@@ -528,7 +533,8 @@ impl Propagator for Clobber {
         check_calls(w, did, self, scratch.fixed.as_mut_slice())
     }
 
-    ghost keeps = { λ p s x k full there holds. clobber_keeps p.vars p.mask p.temp p.of_temp p.ascend p.calls p.of_calls s x k there holds };
+    ghost keeps = { λ p s x k full there holds. clobber_keeps p.vars p.mask p.temp p.of_temp p.ascend p.calls p.of_calls s x k there
+        holds };
 
     ghost lawful = { λ p. clobber_lawful p.vars p.mask p.temp p.of_temp p.ascend p.calls p.of_calls };
 
@@ -536,5 +542,6 @@ impl Propagator for Clobber {
 
     ghost forward = { λ p. clobber_forward p.vars p.mask p.temp p.of_temp p.ascend p.calls p.of_calls };
 
-    ghost strength = { λ p s k full words grounded e. clobber_strong p.vars p.mask p.temp p.of_temp p.ascend p.calls p.of_calls s k full e };
+    ghost strength = { λ p s k full words grounded e. clobber_strong p.vars p.mask p.temp p.of_temp p.ascend p.calls p.of_calls s k full
+        e };
 }

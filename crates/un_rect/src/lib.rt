@@ -8,5 +8,6 @@ pub mod clobber;
 mod opened;
 mod operand;
 pub mod operands;
+mod orders;
 pub mod spans;
 mod values;

@@ -109,7 +109,8 @@ pub(crate) fn is_in(set: &[u32], n: u32) -> bool
 
 /// The register of an operand, where it has an allowed one.
 fn chosen(fixed: &[u32], o: &Operand<'_>) -> Option<u32>
-    ensures { MatchOption result ((p : ℕ → Bool) → side_passes p (side_of o.now) fixed.now ≡ false) (λ r. (p : ℕ → Bool) → side_passes p (side_of o.now) fixed.now ≡ p r) }
+    ensures { MatchOption result ((p : ℕ → Bool) → side_passes p (side_of o.now) fixed.now ≡ false)
+        (λ r. (p : ℕ → Bool) → side_passes p (side_of o.now) fixed.now ≡ p r) }
 {
     let i = value(fixed, o.choice) as usize;
     if i >= o.regs.len() {

@@ -64,7 +64,8 @@ fn keep_others(w: &mut Window<'_>, before: Pruned, other: &Operand<'_>, v: VarId
     requires vars { SideVars w.old.vars.now (side_of other.now) }
     requires known { HasVars w.old.vars.now w.old.store.now.sets }
     requires live { before ≢ Failed → NoneEmpty w.old.store.now.sets }
-    ensures step { Stepped w.old.vars.now (each_entry (other_cut (side_of other.now) v) other.now.allowed.now) w.old.store.now w.new.store.now before result }
+    ensures step { Stepped w.old.vars.now (each_entry (other_cut (side_of other.now) v) other.now.allowed.now) w.old.store.now
+        w.new.store.now before result }
     ensures same_reference { w.new.store.ghost_name ≡ w.old.store.ghost_name }
     ensures vars { w.new.vars ≡ w.old.vars }
 {
@@ -87,7 +88,8 @@ fn keep_chosen(
     requires vars { SideVars w.old.vars.now (side_of other.now) }
     requires known { HasVars w.old.vars.now w.old.store.now.sets }
     requires live { before ≢ Failed → NoneEmpty w.old.store.now.sets }
-    ensures step { Stepped w.old.vars.now (chosen_cut (side_of one.now) (side_of other.now) v) w.old.store.now w.new.store.now before result }
+    ensures step { Stepped w.old.vars.now (chosen_cut (side_of one.now) (side_of other.now) v) w.old.store.now w.new.store.now before
+        result }
     ensures same_reference { w.new.store.ghost_name ≡ w.old.store.ghost_name }
     ensures vars { w.new.vars ≡ w.old.vars }
 {
@@ -125,7 +127,8 @@ fn keep_operand(w: &mut Window<'_>, before: Pruned, f: &Facing<'_>) -> Pruned
     requires vars { w.old.vars.now ≡ f.now.vars.now }
     requires known { HasVars f.now.vars.now w.old.store.now.sets }
     requires live { before ≢ Failed → NoneEmpty w.old.store.now.sets }
-    ensures step { Stepped w.old.vars.now (side_steps (side_of f.now.one) (side_of f.now.other)) w.old.store.now w.new.store.now before result }
+    ensures step { Stepped w.old.vars.now (side_steps (side_of f.now.one) (side_of f.now.other)) w.old.store.now w.new.store.now before
+        result }
     ensures same_reference { w.new.store.ghost_name ≡ w.old.store.ghost_name }
     ensures vars { w.new.vars ≡ w.old.vars }
 {
@@ -205,19 +208,19 @@ impl Predicate for Operands {
         self.first_facing().test(fixed)
     }
 
-    ghost looks = { λ p x y same. operands_looks p.vars x y same (side p.first p.first_regs p.first_set) (side p.second p.second_regs p.second_set) p.of_first p.of_second };
+    ghost looks = { λ p x y same. operands_looks p.vars x y same (side p.first p.first_regs p.first_set)
+        (side p.second p.second_regs p.second_set) p.of_first p.of_second };
 }
 
 impl Propagator for Operands {
-    ghost use Rattle.std.specs.Prelude.{option_and_then};
-    ghost use Rattle.un_prop.specs.Last.{last_cut};
-    ghost use Rattle.un_prop.specs.PartLaws.{one_part, one_whole, lawful_checked, keeps_checked, forward_checked};
-    ghost use Rattle.un_rect.specs.Operands.{operands_holds, operands_steps};
-    ghost use Rattle.un_rect.specs.OperandsLaws.{operands_looks, operands_lawful, operands_keeps};
+    ghost use Rattle.un_prop.specs.PartLaws.{one_part, one_whole};
+    ghost use Rattle.un_rect.specs.Operands.{operands_holds, operands_cut};
+    ghost use Rattle.un_rect.specs.OperandsLaws.{operands_cut_lawful, operands_cut_keeps, operands_cut_forward};
 
-    ghost cut = { λ p s. option_and_then (last_cut p.vars (operands_holds (side p.first p.first_regs p.first_set) (side p.second p.second_regs p.second_set))) (operands_steps (side p.first p.first_regs p.first_set) (side p.second p.second_regs p.second_set) s) };
+    ghost cut = { λ p. operands_cut p.vars (side p.first p.first_regs p.first_set) (side p.second p.second_regs p.second_set) };
 
-    ghost parts = { λ p. one_part p.vars (operands_holds (side p.first p.first_regs p.first_set) (side p.second p.second_regs p.second_set)) };
+    ghost parts = { λ p. one_part p.vars (operands_holds (side p.first p.first_regs p.first_set)
+        (side p.second p.second_regs p.second_set)) };
 
     ghost strong = { λ p s. Unit {0} };
 
@@ -229,13 +232,17 @@ impl Propagator for Operands {
         check_last(self, w, scratch, did)
     }
 
-    ghost keeps = { λ p s x k full there holds. keeps_checked p.vars (operands_holds (side p.first p.first_regs p.first_set) (side p.second p.second_regs p.second_set)) (λ x y same. operands_looks p.vars x y same (side p.first p.first_regs p.first_set) (side p.second p.second_regs p.second_set) p.of_first p.of_second) p.ascend (operands_steps (side p.first p.first_regs p.first_set) (side p.second p.second_regs p.second_set)) (operands_lawful p.vars (side p.first p.first_regs p.first_set) (side p.second p.second_regs p.second_set) p.of_first p.of_second) s x k (operands_keeps p.vars (side p.first p.first_regs p.first_set) (side p.second p.second_regs p.second_set) p.of_first p.of_second s x k there holds) there.long holds };
+    ghost keeps = { λ p s x k full. operands_cut_keeps p.vars (side p.first p.first_regs p.first_set)
+        (side p.second p.second_regs p.second_set) p.of_first p.of_second p.ascend s x k };
 
-    ghost lawful = { λ p. lawful_checked p.vars (operands_holds (side p.first p.first_regs p.first_set) (side p.second p.second_regs p.second_set)) (λ x y same. operands_looks p.vars x y same (side p.first p.first_regs p.first_set) (side p.second p.second_regs p.second_set) p.of_first p.of_second) p.ascend (operands_steps (side p.first p.first_regs p.first_set) (side p.second p.second_regs p.second_set)) (operands_lawful p.vars (side p.first p.first_regs p.first_set) (side p.second p.second_regs p.second_set) p.of_first p.of_second) };
+    ghost lawful = { λ p. operands_cut_lawful p.vars (side p.first p.first_regs p.first_set) (side p.second p.second_regs p.second_set)
+        p.of_first p.of_second p.ascend };
 
-    ghost whole = { λ p x. one_whole p.vars (operands_holds (side p.first p.first_regs p.first_set) (side p.second p.second_regs p.second_set)) x };
+    ghost whole = { λ p x. one_whole p.vars (operands_holds (side p.first p.first_regs p.first_set)
+        (side p.second p.second_regs p.second_set)) x };
 
-    ghost forward = { λ p. forward_checked p.vars (operands_holds (side p.first p.first_regs p.first_set) (side p.second p.second_regs p.second_set)) (λ x y same. operands_looks p.vars x y same (side p.first p.first_regs p.first_set) (side p.second p.second_regs p.second_set) p.of_first p.of_second) p.ascend (operands_steps (side p.first p.first_regs p.first_set) (side p.second p.second_regs p.second_set)) (operands_lawful p.vars (side p.first p.first_regs p.first_set) (side p.second p.second_regs p.second_set) p.of_first p.of_second) };
+    ghost forward = { λ p. operands_cut_forward p.vars (side p.first p.first_regs p.first_set) (side p.second p.second_regs p.second_set)
+        p.of_first p.of_second p.ascend };
 
     ghost strength = { λ p s k full words grounded e. tt };
 }

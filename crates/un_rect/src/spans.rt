@@ -5,7 +5,8 @@ ghost use Rattle.un_domains.specs.Sets.{set_at, NoneEmpty};
 ghost use Rattle.un_prop.specs.Among.{AllAmong};
 ghost use Rattle.un_prop.specs.Acts.{chooses, is_user};
 ghost use Rattle.un_prop.specs.Rounds.{HasVars};
-ghost use Rattle.un_rect.specs.Spans.{starts, last_use, ends, is_only, sure_choice, sure_user, last_sure_use, least_end, choice_vars, UserVars, TempVars};
+ghost use Rattle.un_rect.specs.Spans.{last_use, ends, is_only, sure_choice, sure_user, last_sure_use, least_end};
+ghost use Rattle.un_rect.specs.Spans.{choice_vars, UserVars, TempVars};
 
 use un_base::ids::VarId;
 use un_domains::window::Window;
@@ -83,7 +84,7 @@ pub(crate) fn is_sure_user(w: &Window<'_>, u: &UserOf) -> bool
 }
 
 /// The largest of the least times of the sure users, or 0.
-fn last_sure_use(w: &Window<'_>, users: &[UserOf]) -> u32
+pub(crate) fn last_sure_use(w: &Window<'_>, users: &[UserOf]) -> u32
     requires vars { All (UserVars w.now.vars.now) users.now }
     requires known { HasVars w.now.vars.now w.now.store.now.sets }
     requires live { NoneEmpty w.now.store.now.sets }

@@ -27,7 +27,8 @@ fn keep_value<T: ValueTest>(t: &T, w: &mut Window<'_>, before: Pruned, v: VarId,
     requires lent { among w.old.vars.now v ≡ true }
     requires known { HasVars w.old.vars.now w.old.store.now.sets }
     requires live { before ≢ Failed → NoneEmpty w.old.store.now.sets }
-    ensures step { Stepped w.old.vars.now (cut_by (λ z. not (nat_eq z y) || T.lets t.now y) v.0) w.old.store.now w.new.store.now before result }
+    ensures step { Stepped w.old.vars.now (cut_by (λ z. not (nat_eq z y) || T.lets t.now y) v.0) w.old.store.now w.new.store.now before
+        result }
     ensures same_reference { w.new.store.ghost_name ≡ w.old.store.ghost_name }
     ensures vars { w.new.vars ≡ w.old.vars }
 {

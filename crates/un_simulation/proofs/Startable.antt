@@ -9,8 +9,10 @@ use Rattle.un_simulation.specs.Simulation.{IsWord, CanStart}
 
 words : (xs : List ℕ) → list_all (λ v. nat_lt v (2 ^ 32)) xs ≡ true → All IsWord xs
 words [] h k d lt = absurd (omega arith)
-words (x ∷ xs) h zero d lt = let p = and_parts (nat_lt x (2 ^ 32)) (list_all (λ v. nat_lt v (2 ^ 32)) xs) h in let a = p.0 in grind (arith, nat_tests, a)
-words (x ∷ xs) h (suc k) d lt = let p = and_parts (nat_lt x (2 ^ 32)) (list_all (λ v. nat_lt v (2 ^ 32)) xs) h in words xs p.1 k d (omega arith)
+words (x ∷ xs) h zero d lt = let p = and_parts (nat_lt x (2 ^ 32)) (list_all (λ v. nat_lt v (2 ^ 32)) xs) h in let a = p.0 in
+    grind (arith, nat_tests, a)
+words (x ∷ xs) h (suc k) d lt = let p = and_parts (nat_lt x (2 ^ 32)) (list_all (λ v. nat_lt v (2 ^ 32)) xs) h in
+    words xs p.1 k d (omega arith)
 
 -- every general register is 256, and every predicate false
 abbrev regs : List ℕ

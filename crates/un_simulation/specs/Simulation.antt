@@ -1,5 +1,6 @@
 -- What it means that packets do what a function does.
-use Rattle.std.specs.Prelude.{ℕ, ◌≡◌, ◌-◌, ◌*◌, ◌%◌, ◌<◌, ◌≤◌, ◌^◌, true, ◌&&◌, nat_lt, nat_le, Some, IfSome, All, length, slice_get, slice_index, if◌then◌else◌}
+use Rattle.std.specs.Prelude.{ℕ, ◌≡◌, ◌-◌, ◌*◌, ◌%◌, ◌<◌, ◌≤◌, ◌^◌, true, ◌&&◌, nat_lt, nat_le, Some, IfSome, All, length, slice_get}
+use Rattle.std.specs.Prelude.{slice_index, if◌then◌else◌}
 use Rattle.std.specs.Option.{option_map}
 use Rattle.un_base.specs.declared.ids.NameId.{NameId}
 use Rattle.un_isa.specs.Starts.{is_start}
@@ -16,7 +17,8 @@ use Rattle.un_ir.specs.Live.{IsLive}
 use Rattle.un_ir.specs.Source.{SourceStop, SourceRun, SourceState, Returned, Trapped, Waiting, Running, source_run}
 use Rattle.un_packet.specs.declared.code.CodeBlock.{CodeBlock}
 use Rattle.un_packet.specs.declared.code.Code.{Code}
-use Rattle.un_packet.specs.Step.{PacketState, PacketStop, Returned as ReturnedTo, Trapped as TrappedAt, Waiting as WaitingFor, Running as RunningAt}
+use Rattle.un_packet.specs.Step.{PacketState, PacketStop, Returned as ReturnedTo, Trapped as TrappedAt, Waiting as WaitingFor}
+use Rattle.un_packet.specs.Step.{Running as RunningAt}
 use Rattle.un_packet.specs.Run.{PacketRun, packet_run, first_state, NeverWaits}
 
 abbrev pub IsWord : ℕ → Type 0
@@ -57,7 +59,8 @@ as_held Pred place v = if nat_le GENERALS place && nat_lt place FIRST_SLOT then 
 
 -- each name that is live at the start of block b stands in its place
 abbrev pub LiveStand : Function → (ℕ → ℕ → ℕ) → ℕ → SourceState → PacketState → Type 0
-LiveStand f places b s p = (name : NameId) (kind : Kind) → option_map (λ n. n.1) (slice_get f.names name.0) ≡ Some kind → IsLive f.blocks name b 0
+LiveStand f places b s p = (name : NameId) (kind : Kind) → option_map (λ n. n.1) (slice_get f.names name.0) ≡ Some kind
+    → IsLive f.blocks name b 0
     → held_at p (places b name.0) ≡ as_held kind (places b name.0) (slice_index s.values name.0)
 
 -- the source and the packets stop in one way, where `places` has the place of each name at each block's start
@@ -67,11 +70,13 @@ StopsAgree t f places code start (Returned value) s (ReturnedTo result target) p
 StopsAgree t f places code start Trapped s TrappedAt p = Unit {0}
 StopsAgree t f places code start (Waiting call) s (WaitingFor other) p = call ≡ other
 StopsAgree t f places code start (Running b) s (RunningAt c) p =
-    (option_map (λ (block : Block). block.label) (slice_get f.blocks b) ≡ option_map (λ (block : CodeBlock). block.label) (slice_get code.blocks c)) × LiveStand f places b s p
+    (option_map (λ (block : Block). block.label) (slice_get f.blocks b) ≡ option_map (λ (block : CodeBlock). block.label)
+    (slice_get code.blocks c)) × LiveStand f places b s p
 StopsAgree t f places code start stop s other p = ⊥
 
 -- a run of the source and one of the packets come to the same
-pub record Agrees (t : Table) (f : Function) (places : ℕ → ℕ → ℕ) (code : Code) (start : Start) (source : SourceRun) (packets : PacketRun) : Type 0 where
+pub record Agrees (t : Table) (f : Function) (places : ℕ → ℕ → ℕ) (code : Code) (start : Start) (source : SourceRun)
+    (packets : PacketRun) : Type 0 where
   pub stop : StopsAgree t f places code start source.stop source.state packets.stop packets.state
   pub memory : source.state.memory ≡ packets.state.memory
   pub calls : source.state.calls ≡ packets.state.calls

@@ -1,12 +1,13 @@
 -- Laws of crowds.
-use Rattle.std.proofs.Common.{ℕ, zero, suc, ◌≡◌, ◌<◌, ◌≤◌, ◌+◌, ◌-◌, ◌*◌, ◌^◌, ◌⊎◌, ◌∙◌, Bool, true, false, not, ◌&&◌, if◌then◌else◌, List, [], ◌∷◌, length, get_or, take, sum_by, nat_eq, nat_le, nat_lt, Some, All, refl, sym, ap, subst, arith, inl, inr}
-use Rattle.std.specs.List.{list_any, list_all, AllByRecursion}
+use Rattle.std.proofs.Common.{ℕ, zero, suc, ◌≡◌, ◌<◌, ◌≤◌, ◌+◌, ◌-◌, ◌*◌, ◌^◌, ◌∙◌, Bool, true, false, not, ◌&&◌, if◌then◌else◌, List, []}
+use Rattle.std.proofs.Common.{◌∷◌, get_or, take, sum_by, nat_eq, nat_le, refl, sym, ap, subst, arith, inl, inr}
+use Rattle.std.specs.List.{list_any, AllByRecursion}
 use Rattle.std.proofs.lemmas.Bool.{cases_lt}
 use Rattle.std.proofs.lemmas.Bool.Decides.{nat_tests}
 use Rattle.std.proofs.lemmas.List.Sums.{sum_by-cons, sum_by-take-le}
 use Rattle.std.proofs.lemmas.List.Elements.{recursion_from_All}
 use Rattle.un_base.specs.declared.ids.VarId.{VarId}
-use Rattle.un_domains.specs.Sets.{Sets, set_at, has, least, greatest, IsIn, NoneEmpty, Kept}
+use Rattle.un_domains.specs.Sets.{Sets, set_at, least, greatest, IsIn, NoneEmpty, Kept}
 use Rattle.un_domains.specs.SetLaws.{least-le, has-fold_max}
 use Rattle.un_domains.specs.Order.{Below}
 use Rattle.un_domains.specs.OrderLaws.{same_test, least_below, greatest_below}
@@ -16,12 +17,13 @@ use Rattle.un_prop.specs.FailLaws.{first_lawful, first_keeps}
 use Rattle.un_prop.specs.AmongLaws.{has_among}
 use Rattle.un_prop.specs.Acts.{act_number, is_active}
 use Rattle.un_prop.specs.Looks.{act_set, sure}
-use Rattle.un_prop.specs.LookLaws.{both, firsts, not_true, not_from, set_alike, sure_alike, sure_below, sure_active, act_alike, act_below, number_in}
+use Rattle.un_prop.specs.LookLaws.{both, firsts, not_true, not_from, set_alike, sure_alike, sure_below, sure_active, act_alike, act_below}
+use Rattle.un_prop.specs.LookLaws.{number_in}
 use Rattle.un_prop.specs.SomewhereLaws.{any_more, any_has}
 use Rattle.un_slots.specs.declared.item.Item.{Item}
 use Rattle.un_slots.specs.declared.item.Resource.{Resource}
 use Rattle.un_slots.specs.declared.item.Resource.TheVariants.{Instructions, Memory, Stores, MultiplyOrControl, Control}
-use Rattle.un_slots.specs.Slots.{resources, places_of, share_at, issues_at, taken_by, taken, per_cycle_holds, ItemVars, SlotVars}
+use Rattle.un_slots.specs.Slots.{places_of, share_at, issues_at, taken_by, taken, per_cycle_holds, ItemVars, SlotVars}
 use Rattle.un_slots.specs.SlotLaws.{map_each, sum_alike, for_each, of_each, holds_fits}
 use Rattle.un_slots.specs.LoadLaws.{sum_le}
 use Rattle.un_slots.specs.Crowds.{surely_takes, lies_in, crowded, crowd, crowd_fits, all_below, counted, crowds_fit, crowd_cut}
@@ -39,10 +41,10 @@ pub each_below : (p : ℕ → Bool) (n : ℕ) → ((k : ℕ) → k < n → p k �
 each_below p zero h = refl
 each_below p (suc n) h = both (all_below p n) (p n) (each_below p n (λ k lt. h k (omega (arith, lt)))) (h n (omega arith))
 
-true_le : (a b : ℕ) → nat_le a b ≡ true → a ≤ b
+pub true_le : (a b : ℕ) → nat_le a b ≡ true → a ≤ b
 true_le a b h = grind (arith, nat_tests, h)
 
-le_true : (a b : ℕ) → a ≤ b → nat_le a b ≡ true
+pub le_true : (a b : ℕ) → a ≤ b → nat_le a b ≡ true
 le_true a b le = grind (arith, nat_tests, le)
 
 less_true : (a b c : ℕ) → a ≤ b → nat_le b c ≡ true → nat_le a c ≡ true
@@ -62,7 +64,7 @@ abbrev taken_in : Resource → ℕ → ℕ → List ℕ → Item → ℕ
 taken_in r low zero x i = 0
 taken_in r low (suc n) x i = taken_in r low n x i + taken_by r (low + n) x i
 
-sum_plus : (f g : Item → ℕ) (xs : List Item) → sum_by (λ i. f i + g i) xs ≡ sum_by f xs + sum_by g xs
+pub sum_plus : (f g : Item → ℕ) (xs : List Item) → sum_by (λ i. f i + g i) xs ≡ sum_by f xs + sum_by g xs
 sum_plus f g [] = refl
 sum_plus f g (x ∷ xs) = (
     let a = sum_by-cons (λ i. f i + g i) x xs in
@@ -71,7 +73,7 @@ sum_plus f g (x ∷ xs) = (
     let d = sum_plus f g xs in
     omega (arith, a, b, c, d))
 
-sum_none : (xs : List Item) → sum_by (λ (i : Item). 0) xs ≡ 0
+pub sum_none : (xs : List Item) → sum_by (λ (i : Item). 0) xs ≡ 0
 sum_none [] = refl
 sum_none (x ∷ xs) = (let a = sum_by-cons (λ (i : Item). 0) x xs in let b = sum_none xs in omega (arith, a, b))
 
@@ -103,7 +105,8 @@ module _ (vs : List VarId) where
       (any_more (λ n. nat_eq (share_at r i.uses n) 0) (λ n. nat_eq (share_at r i.uses n) 0) (act_set i.on t) (act_set i.on s)
       (λ n here none. (act_below vs t s n le i.on here, none)) some)))
 
-  lies_below : (low high : ℕ) (t s : Sets) → HasVars vs s → NoneEmpty t → Below t s → (i : Item) → ItemVars vs i → lies_in low high s i ≡ true
+  lies_below : (low high : ℕ) (t s : Sets) → HasVars vs s → NoneEmpty t → Below t s → (i : Item) → ItemVars vs i
+      → lies_in low high s i ≡ true
       → lies_in low high t i ≡ true
   lies_below low high t s known full le i h lies =
       let two = firsts (nat_le low (least (set_at s i.at.0))) _ lies in
@@ -125,15 +128,18 @@ module _ (vs : List VarId) where
       by true e =
           let two = firsts (surely_takes r s i) (lies_in low high s i) e in
           let now : (surely_takes r t i && lies_in low high t i) ≡ true = both (surely_takes r t i) _ (takes_below r t s le i two.0)
-              (lies_below low high t s known full le i h two.1) in
+          (lies_below low high t s known full le i h two.1) in
           let is : crowded r low high t i ≡ 1 = ap (λ (b : Bool). if b then 1 else 0) now in
           omega (arith, is)
 
-  crowded_alike : (r : Resource) (low high : ℕ) (s t : Sets) → Agree vs s t → (i : Item) → ItemVars vs i → crowded r low high s i ≡ crowded r low high t i
+  crowded_alike : (r : Resource) (low high : ℕ) (s t : Sets) → Agree vs s t → (i : Item) → ItemVars vs i
+      → crowded r low high s i ≡ crowded r low high t i
   crowded_alike r low high s t agree i h =
-      ap (λ (b : Bool). if (b && not (list_any (λ n. nat_eq (share_at r i.uses n) 0) (act_set i.on s))) && lies_in low high s i then 1 else 0)
+      ap (λ (b : Bool). if (b && not (list_any (λ n. nat_eq (share_at r i.uses n) 0)
+      (act_set i.on s))) && lies_in low high s i then 1 else 0)
       (sure_alike vs s t agree i.on h.of_on)
-      ∙ (ap (λ (xs : List ℕ). if (sure i.on t && not (list_any (λ n. nat_eq (share_at r i.uses n) 0) xs)) && lies_in low high s i then 1 else 0)
+      ∙ (ap (λ (xs : List ℕ). if (sure i.on t && not (list_any (λ n. nat_eq
+      (share_at r i.uses n) 0) xs)) && lies_in low high s i then 1 else 0)
       (act_alike vs s t agree i.on h.of_on)
       ∙ ap (λ (xs : List ℕ). if surely_takes r t i && (nat_le low (least xs) && nat_le (greatest xs) high) then 1 else 0)
       (set_alike vs s t agree i.at h.of_at))
@@ -158,7 +164,7 @@ module _ (vs : List VarId) where
           let n = act_number i.on x in
           let on = sure_active vs s x there known i.on h.of_on takes.0 in
           let some : 0 < share_at r i.uses n = positive (share_at r i.uses n) (λ none. not_true _ takes.1
-              (any_has (λ m. nat_eq (share_at r i.uses m) 0) (act_set i.on s) n (number_in vs s x there known i.on h.of_on) none)) in
+          (any_has (λ m. nat_eq (share_at r i.uses m) 0) (act_set i.on s) n (number_in vs s x there known i.on h.of_on) none)) in
           let here : issues_at c x i ≡ true = both (is_active i.on x) (nat_eq c c) on (grind (arith, nat_tests)) in
           let own_share : taken_by r c x i ≡ share_at r i.uses n = ap (λ (b : Bool). if b then share_at r i.uses n else 0) here in
           let at = taken_at r low (high + 1 - low) (c - low) x i (omega (arith, from, to, least_c, most_c)) in
@@ -172,7 +178,7 @@ module _ (vs : List VarId) where
 
 -- The cut
 
-take_each : (P : Item → Type 0) (n : ℕ) (items : List Item) → AllByRecursion P items → AllByRecursion P (take n items)
+pub take_each : (P : Item → Type 0) (n : ℕ) (items : List Item) → AllByRecursion P items → AllByRecursion P (take n items)
 take_each P zero items all = tt
 take_each P (suc n) [] all = tt
 take_each P (suc n) (i ∷ rest) all = (all.0, take_each P n rest all.1)
@@ -181,7 +187,8 @@ module _ (vs : List VarId) (items : List Item) (horizon : ℕ) (among_all : Slot
   each_counted : AllByRecursion (ItemVars vs) (counted items)
   each_counted = take_each (ItemVars vs) (2 ^ 32 - 1) items (recursion_from_All _ _ among_all)
 
-  fits_all : (s : Sets) → ((r : Resource) (high low : ℕ) → high < horizon → crowd_fits r (counted items) s high low ≡ true) → crowds_fit items horizon s ≡ true
+  fits_all : (s : Sets) → ((r : Resource) (high low : ℕ) → high < horizon → crowd_fits r (counted items) s high low ≡ true)
+      → crowds_fit items horizon s ≡ true
   fits_all s h = for_each (λ r. all_below (λ high. all_below (crowd_fits r (counted items) s high) (high + 1)) horizon)
       (λ r. each_below (λ high. all_below (crowd_fits r (counted items) s high) (high + 1)) horizon
       (λ high early. each_below (crowd_fits r (counted items) s high) (high + 1) (λ low less. h r high low early)))
@@ -194,36 +201,45 @@ module _ (vs : List VarId) (items : List Item) (horizon : ℕ) (among_all : Slot
 
   crowd_test : LawfulTest vs (λ s c. crowds_fit items horizon s)
   crowd_test = record {
-    monotone = λ t s c known full le pass. for_each (λ r. all_below (λ high. all_below (crowd_fits r (counted items) s high) (high + 1)) horizon)
+    monotone = λ t s c known full le pass. for_each (λ r. all_below (λ high. all_below (crowd_fits r (counted items) s high)
+        (high + 1)) horizon)
         (λ r. each_below (λ high. all_below (crowd_fits r (counted items) s high) (high + 1)) horizon
         (λ high early. each_below (crowd_fits r (counted items) s high) (high + 1) (λ low less. (
         let fewer = sum_le (crowded r low high s) (crowded r low high t) (counted items)
-            (map_each (ItemVars vs) (λ i. crowded r low high s i ≤ crowded r low high t i) (crowded_below vs r low high t s known full le) (counted items) each_counted) in
+        (map_each (ItemVars vs) (λ i. crowded r low high s i ≤ crowded r low high t i) (crowded_below vs r low high t s known full le)
+        (counted items) each_counted) in
         less_true (crowd r (counted items) low high s) (crowd r (counted items) low high t) (places_of r * (high + 1 - low)) fewer
         (fits_each t pass r high low early less)))));
-    local = λ s t c agree. same_test (crowds_fit items horizon s) (crowds_fit items horizon t) (go s t (λ r low high. same s t agree r low high))
+    local = λ s t c agree. same_test (crowds_fit items horizon s) (crowds_fit items horizon t) (go s t
+        (λ r low high. same s t agree r low high))
         (go t s (λ r low high. sym (same s t agree r low high)));
   }
     where
-      same : (s t : Sets) → Agree vs s t → (r : Resource) (low high : ℕ) → crowd r (counted items) low high s ≡ crowd r (counted items) low high t
+      same : (s t : Sets) → Agree vs s t → (r : Resource) (low high : ℕ)
+          → crowd r (counted items) low high s ≡ crowd r (counted items) low high t
       same s t agree r low high = sum_alike (crowded r low high s) (crowded r low high t) (counted items)
-          (map_each (ItemVars vs) (λ i. crowded r low high s i ≡ crowded r low high t i) (crowded_alike vs r low high s t agree) (counted items) each_counted)
+          (map_each (ItemVars vs) (λ i. crowded r low high s i
+          ≡ crowded r low high t i) (crowded_alike vs r low high s t agree) (counted items) each_counted)
 
       go : (a b : Sets) → ((r : Resource) (low high : ℕ) → crowd r (counted items) low high a ≡ crowd r (counted items) low high b)
           → crowds_fit items horizon a ≡ true → crowds_fit items horizon b ≡ true
       go a b alike h = for_each (λ r. all_below (λ high. all_below (crowd_fits r (counted items) b high) (high + 1)) horizon)
           (λ r. each_below (λ high. all_below (crowd_fits r (counted items) b high) (high + 1)) horizon
           (λ high early. each_below (crowd_fits r (counted items) b high) (high + 1)
-          (λ low less. ap (λ (n : ℕ). nat_le n (places_of r * (high + 1 - low))) (sym (alike r low high)) ∙ fits_each a h r high low early less)))
+          (λ low less. ap (λ (n : ℕ). nat_le n (places_of r * (high + 1 - low))) (sym (alike r low high))
+          ∙ fits_each a h r high low early less)))
 
   pub crowd_lawful : Lawful vs (crowd_cut vs items horizon)
   crowd_lawful = first_lawful (λ s c. crowds_fit items horizon s) vs crowd_test
 
-  pub crowd_keeps : (s : Sets) (x : List ℕ) → HasVars vs s → IsIn x s → per_cycle_holds items horizon x ≡ true → Kept x (crowd_cut vs items horizon s)
-  crowd_keeps s x known there holds = first_keeps (λ s c. crowds_fit items horizon s) vs s x known there (λ c. fits_all s (λ r high low early. (
+  pub crowd_keeps : (s : Sets) (x : List ℕ) → HasVars vs s → IsIn x s → per_cycle_holds items horizon x ≡ true
+      → Kept x (crowd_cut vs items horizon s)
+  crowd_keeps s x known there holds = first_keeps (λ s c. crowds_fit items horizon s) vs s x known there (λ c. fits_all s
+      (λ r high low early. (
       let room = (holds_fits items horizon x holds).room r in
       let n = high + 1 - low in
-      let each = map_each (ItemVars vs) (λ i. crowded r low high s i ≤ taken_in r low n x i) (crowded_taken vs r low high s x known there) (counted items) each_counted in
+      let each = map_each (ItemVars vs) (λ i. crowded r low high s i ≤ taken_in r low n x i)
+      (crowded_taken vs r low high s x known there) (counted items) each_counted in
       let less = sum_le (crowded r low high s) (taken_in r low n x) (counted items) each in
       let some = sum_by-take-le (taken_in r low n x) items (2 ^ 32 - 1) in
       let whole = taken_all r low n x items room in

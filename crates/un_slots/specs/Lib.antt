@@ -1,10 +1,12 @@
 pub mod AmountLaws
 pub mod Amounts
+pub mod CountLaws
 pub mod CrowdLaws
 pub mod Crowds
 pub mod ListingLaws
 pub mod Listings
 pub mod LoadLaws
 pub mod Loads
+pub mod PerCycleLaws
 pub mod SlotLaws
 pub mod Slots

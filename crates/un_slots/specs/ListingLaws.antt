@@ -1,19 +1,28 @@
 -- Laws of lists of settled items.
-use Rattle.std.proofs.Common.{ℕ, zero, suc, ◌≡◌, ◌≢◌, ◌<◌, ◌≤◌, ◌+◌, ◌-◌, ◌^◌, ◌⊎◌, ◌∙◌, Bool, true, false, not, ◌&&◌, if◌then◌else◌, List, [], ◌∷◌, length, get_or, take, sum_by, nat_eq, refl, sym, ap, subst, arith, inl, inr}
+use Rattle.std.proofs.Common.{ℕ, zero, suc, ◌≡◌, ◌≢◌, ◌<◌, ◌≤◌, ◌+◌, ◌-◌, ◌^◌, ◌⊎◌, ◌∙◌, Bool, true, false, not, ◌&&◌, if◌then◌else◌}
+use Rattle.std.proofs.Common.{List, [], ◌∷◌, length, get_or, take, sum_by, Some, nat_eq, nat_le, nat_lt, refl, sym, ap, subst, arith, inl}
+use Rattle.std.proofs.Common.{inr}
 use Rattle.std.proofs.lemmas.Bool.Decides.{nat_tests}
 use Rattle.std.proofs.lemmas.List.Sums.{sum_by-cons}
 use Rattle.un_domains.specs.Sets.{Sets, set_at, least}
 use Rattle.un_prop.specs.Looks.{act_set}
+use Rattle.un_prop.specs.LookLaws.{both, firsts}
 use Rattle.un_prop.specs.Choices.{passes_at}
 use Rattle.un_prop.specs.ChoiceLaws.{passes_within}
 use Rattle.un_slots.specs.declared.item.Item.{Item}
 use Rattle.un_slots.specs.declared.item.Resource.{Resource}
-use Rattle.un_slots.specs.Slots.{share_at}
-use Rattle.un_slots.specs.Loads.{is_settled, settled_at, load_by, load}
+use Rattle.std.specs.List.{list_any, slice_get}
+use Rattle.std.proofs.Math.Seq.{take-length}
+use Rattle.un_prop.specs.SomewhereLaws.{any_more}
+use Rattle.un_slots.specs.Slots.{places_of, share_at}
+use Rattle.un_slots.specs.SlotLaws.{for_each, of_each}
+use Rattle.un_slots.specs.LoadLaws.{sum_others}
+use Rattle.un_slots.specs.Loads.{is_settled, settled_at, load_by, load, others, fits_beside, fits, can_issue}
 use Rattle.un_slots.specs.Listings.{last_settled, Listed, is_unmarked}
 
 -- the sum up to one place more
-pub sum_more : (f : Item → ℕ) (xs : List Item) (j : ℕ) (d : Item) → j < length xs → sum_by f (take (suc j) xs) ≡ sum_by f (take j xs) + f (get_or xs j d)
+pub sum_more : (f : Item → ℕ) (xs : List Item) (j : ℕ) (d : Item) → j < length xs
+    → sum_by f (take (suc j) xs) ≡ sum_by f (take j xs) + f (get_or xs j d)
 sum_more f [] j d lt = absurd (omega (arith, lt))
 sum_more f (x ∷ xs) zero d lt = (let a = sum_by-cons f x [] in omega (arith, a))
 sum_more f (x ∷ xs) (suc j) d lt = (
@@ -36,7 +45,8 @@ module _ (items : List Item) (s : Sets) (c : ℕ) where
   last_own zero = refl
   last_own (suc n) = by (passes_at (settled_at s c) items n) refl (last_own n)
     where
-      by : (b : Bool) → passes_at (settled_at s c) items n ≡ b → last_settled items s c (last_settled items s c n) ≡ last_settled items s c n
+      by : (b : Bool) → passes_at (settled_at s c) items n ≡ b
+          → last_settled items s c (last_settled items s c n) ≡ last_settled items s c n
           → last_settled items s c (if b then suc n else last_settled items s c n) ≡ (if b then suc n else last_settled items s c n)
       by true e rest = ap (λ (b : Bool). if b then suc n else last_settled items s c n) e
       by false e rest = rest
@@ -60,7 +70,8 @@ module _ (items : List Item) (s : Sets) (c : ℕ) where
   load_last r zero le = refl
   load_last r (suc n) le = by (passes_at (settled_at s c) items n) refl (load_last r n (omega (arith, le)))
     where
-      by : (b : Bool) → passes_at (settled_at s c) items n ≡ b → load r (take (last_settled items s c n) items) s c ≡ load r (take n items) s c
+      by : (b : Bool) → passes_at (settled_at s c) items n ≡ b
+          → load r (take (last_settled items s c n) items) s c ≡ load r (take n items) s c
           → load r (take (if b then suc n else last_settled items s c n) items) s c ≡ load r (take (suc n) items) s c
       by true e rest = refl
       by false e rest = at items refl
@@ -85,8 +96,31 @@ module _ (items : List Item) (s : Sets) (c : ℕ) where
       let rest = load_last r j (omega (arith, lt)) in
       omega (arith, more, here, rest))
 
+-- in a cycle that no settled item has, of all, an item can issue that can beside none
+pub free_issues : (items : List Item) (s : Sets) (c k : ℕ) (i : Item) → slice_get items k ≡ Some i
+    → last_settled items s c (length items) ≡ 0
+    → list_any (fits_beside (λ r. 0) i) (act_set i.on s) ≡ true → can_issue (others k items) i s c ≡ true
+free_issues items s c k i e none alone = any_more (fits_beside (λ r. 0) i) (fits (others k items) i s c) (act_set i.on s) (act_set i.on s)
+    (λ n here fit. (
+      here,
+      (
+          let two = firsts (nat_lt n (length i.uses)) _ fit in
+          both (nat_lt n (length i.uses)) _ two.0 (for_each (λ r. nat_le (load r (others k items) s c + share_at r i.uses n) (places_of r))
+          (λ r. ap (λ (m : ℕ). nat_le (m + share_at r i.uses n) (places_of r)) (nothing r)
+          ∙ of_each (λ r. nat_le (0 + share_at r i.uses n) (places_of r)) two.1 r))),
+    )) alone
+  where
+    nothing : (r : Resource) → load r (others k items) s c ≡ 0
+    nothing r = (
+        let last = load_last items s c r (length items) (omega arith) in
+        let start = ap (λ (m : ℕ). load r (take m items) s c) none in
+        let all = ap (λ (xs : List Item). load r xs s c) (take-length items) in
+        let whole = sum_others (load_by r s c) items k i e in
+        omega (arith, last, start, all, whole))
+
 -- what stands at a cycle is no mark
-pub head_unmarked : (items : List Item) (s : Sets) (c n : ℕ) (cycles : List ℕ) → get_or cycles c 0 ≡ last_settled items s c n → n ≤ 2 ^ 32 - 2
+pub head_unmarked : (items : List Item) (s : Sets) (c n : ℕ) (cycles : List ℕ) → get_or cycles c 0 ≡ last_settled items s c n
+    → n ≤ 2 ^ 32 - 2
     → is_unmarked cycles c ≡ true
 head_unmarked items s c n cycles head small =
     let le = last_le items s c n in
@@ -111,7 +145,8 @@ listed_skip items horizon j s cycles before h off = record {
     cases k less = grind (arith, less)
 
 -- where it is settled in cycle c, it becomes the last there
-pub listed_link : (items : List Item) (horizon j c : ℕ) (s : Sets) (cycles before cycles' before' : List ℕ) → Listed items horizon j s cycles before
+pub listed_link : (items : List Item) (horizon j c : ℕ) (s : Sets) (cycles before cycles' before' : List ℕ)
+    → Listed items horizon j s cycles before
     → c < horizon → ((e : ℕ) → e < horizon → passes_at (settled_at s e) items j ≡ nat_eq c e)
     → get_or cycles' c 0 ≡ suc j → ((e : ℕ) → e ≢ c → get_or cycles' e 0 ≡ get_or cycles e 0)
     → get_or before' j 0 ≡ get_or cycles c 0 → ((k : ℕ) → k ≢ j → get_or before' k 0 ≡ get_or before k 0)
@@ -120,14 +155,16 @@ listed_link items horizon j c s cycles before cycles' before' h early on head re
   heads = λ e lt. elim (same c e) [
     | inl is ↦ subst (λ (n : ℕ). get_or cycles' n 0 ≡ last_settled items s n (suc j)) is
         (head ∙ sym (ap (λ (b : Bool). if b then suc j else last_settled items s c j) (on c early ∙ yes_same c)))
-    | inr ne ↦ rest e (λ is. ne (sym is)) ∙ (h.heads e lt ∙ sym (ap (λ (b : Bool). if b then suc j else last_settled items s e j) (on e lt ∙ not_same c e ne)))
+    | inr ne ↦ rest e (λ is. ne (sym is)) ∙ (h.heads e lt ∙ sym (ap (λ (b : Bool). if b then suc j else last_settled items s e j)
+        (on e lt ∙ not_same c e ne)))
   ];
   nexts = λ e lt k less here. elim (cases k less) [
     | inl below ↦ others k (λ is. omega (arith, below, is)) ∙ h.nexts e lt k below here
     | inr is ↦ (
         let settled : nat_eq c e ≡ true = sym (on e lt) ∙ (ap (passes_at (settled_at s e) items) (sym is) ∙ here) in
         let at : c ≡ e = grind (arith, nat_tests, settled) in
-        ap (λ (n : ℕ). get_or before' n 0) is ∙ (next ∙ (ap (λ (n : ℕ). get_or cycles n 0) at ∙ (h.heads e lt ∙ ap (last_settled items s e) (sym is)))))
+        ap (λ (n : ℕ). get_or before' n 0) is ∙ (next ∙ (ap (λ (n : ℕ). get_or cycles n 0) at ∙ (h.heads e lt
+        ∙ ap (last_settled items s e) (sym is)))))
   ];
 }
   where

@@ -1,6 +1,7 @@
 -- Lists of the settled items of each cycle: the last one of a cycle stands at the cycle, and the one before it at each item. Each
 -- place is given as one more than it is, and 0 is the end.
-use Rattle.std.specs.Prelude.{ℕ, zero, suc, ◌≡◌, ◌<◌, ◌-◌, ◌^◌, Bool, true, not, ◌&&◌, if◌then◌else◌, List, length, min, nat_eq, nat_lt, slice_index}
+use Rattle.std.specs.Prelude.{ℕ, zero, suc, ◌≡◌, ◌<◌, ◌-◌, ◌^◌, Bool, true, not, ◌&&◌, if◌then◌else◌, List, length, min, nat_eq, nat_lt}
+use Rattle.std.specs.Prelude.{slice_index}
 use Rattle.un_domains.specs.Sets.{Sets}
 use Rattle.un_prop.specs.Choices.{passes_at}
 use Rattle.un_slots.specs.declared.item.Item.{Item}

@@ -1,5 +1,6 @@
 -- What is known of packets before all is fixed: cycles that the items that are settled leave no room in are lost by the others.
-use Rattle.std.specs.Prelude.{ℕ, zero, suc, ◌≡◌, ◌+◌, ◌≤◌, Bool, true, not, ◌&&◌, ◌||◌, if◌then◌else◌, List, [], ◌∷◌, length, sum_by, nat_eq, nat_le, nat_lt, Option, None, Some}
+use Rattle.std.specs.Prelude.{ℕ, zero, suc, ◌≡◌, ◌+◌, ◌≤◌, Bool, true, not, ◌&&◌, ◌||◌, if◌then◌else◌, List, [], ◌∷◌, length, sum_by}
+use Rattle.std.specs.Prelude.{nat_eq, nat_le, nat_lt, Option, None, Some}
 use Rattle.std.specs.List.{list_any, list_all, slice_get}
 use Rattle.un_domains.specs.Sets.{Sets, set_at, has, least, cut_by}
 use Rattle.un_prop.specs.Looks.{act_set, sure}

@@ -1,5 +1,6 @@
 -- Laws of packets.
-use Rattle.std.proofs.Common.{ℕ, zero, suc, ◌≡◌, ◌<◌, ◌≤◌, ◌+◌, ◌⊎◌, ◌∙◌, Bool, true, false, not, ◌&&◌, ◌||◌, if◌then◌else◌, List, [], ◌∷◌, length, get_or, sum_by, nat_eq, nat_le, nat_lt, refl, sym, ap, subst, arith, inl, inr}
+use Rattle.std.proofs.Common.{ℕ, zero, suc, ◌≡◌, ◌<◌, ◌≤◌, ◌+◌, ◌⊎◌, ◌∙◌, Bool, true, false, not, ◌&&◌, ◌||◌, if◌then◌else◌, List, []}
+use Rattle.std.proofs.Common.{◌∷◌, length, get_or, sum_by, nat_eq, nat_le, nat_lt, refl, sym, ap, subst, arith, inl, inr}
 use Rattle.std.specs.List.{list_all, AllByRecursion}
 use Rattle.std.proofs.lemmas.Bool.Decides.{nat_tests}
 use Rattle.std.proofs.lemmas.List.Sums.{sum_by-cons}
@@ -13,7 +14,8 @@ use Rattle.un_prop.specs.LookLaws.{both, firsts, not_or, or_not}
 use Rattle.un_slots.specs.declared.item.Item.{Item}
 use Rattle.un_slots.specs.declared.item.Resource.{Resource}
 use Rattle.un_slots.specs.declared.item.Resource.TheVariants.{Instructions, Memory, Stores, MultiplyOrControl, Control}
-use Rattle.un_slots.specs.Slots.{resources, places_of, share_of, share_at, issues_at, taken_by, taken, has_room, item_holds, per_cycle_holds, FitsCycles, ItemVars, SlotVars}
+use Rattle.un_slots.specs.Slots.{resources, places_of, share_of, share_at, issues_at, taken_by, taken, has_room, item_holds}
+use Rattle.un_slots.specs.Slots.{per_cycle_holds, FitsCycles, ItemVars, SlotVars}
 
 -- Lists
 
@@ -72,7 +74,8 @@ idle_or_room : (items : List Item) (horizon : ℕ) (x : List ℕ) (r : Resource)
 idle_or_room items horizon x r c [] all = inl refl
 idle_or_room items horizon x r c (i ∷ rest) all = by (issues_at c x i) refl (idle_or_room items horizon x r c rest all.1)
   where
-    by : (b : Bool) → issues_at c x i ≡ b → (taken r rest x c ≡ 0) ⊎ (has_room items x c ≡ true) → (taken r (i ∷ rest) x c ≡ 0) ⊎ (has_room items x c ≡ true)
+    by : (b : Bool) → issues_at c x i ≡ b → (taken r rest x c ≡ 0) ⊎ (has_room items x c ≡ true)
+        → (taken r (i ∷ rest) x c ≡ 0) ⊎ (has_room items x c ≡ true)
     by true e more =
         let two = firsts (is_active i.on x) (nat_eq (get_or x i.at.0 0) c) e in
         let at = two.1 in
@@ -92,10 +95,13 @@ holds_fits items horizon x h = record {
     | inl none ↦ omega (arith, none)
     | inr room ↦ (let le = of_each (λ r. nat_le (taken r items x c) (places_of r)) room r in grind (arith, nat_tests, le))
   ];
-  early = All-from_recursion _ _ (map_each (λ i. item_holds items horizon x i ≡ true) (λ i. is_active i.on x ≡ true → get_or x i.at.0 0 < horizon)
-      (λ i holds on. (let lt = (firsts (nat_lt (get_or x i.at.0 0) horizon) _ (or_not (is_active i.on x) _ holds on)).0 in grind (arith, nat_tests, lt)))
+  early = All-from_recursion _ _ (map_each (λ i. item_holds items horizon x i ≡ true) (λ i. is_active i.on x ≡ true
+      → get_or x i.at.0 0 < horizon)
+      (λ i holds on. (let lt = (firsts (nat_lt (get_or x i.at.0 0) horizon) _ (or_not (is_active i.on x) _ holds on)).0 in
+      grind (arith, nat_tests, lt)))
       items each);
-  known = All-from_recursion _ _ (map_each (λ i. item_holds items horizon x i ≡ true) (λ i. is_active i.on x ≡ true → act_number i.on x < length i.uses)
+  known = All-from_recursion _ _ (map_each (λ i. item_holds items horizon x i ≡ true) (λ i. is_active i.on x ≡ true
+      → act_number i.on x < length i.uses)
       (λ i holds on. (let rest = (firsts (nat_lt (get_or x i.at.0 0) horizon) _ (or_not (is_active i.on x) _ holds on)).1 in
       let lt = (firsts (nat_lt (act_number i.on x) (length i.uses)) _ rest).0 in grind (arith, nat_tests, lt)))
       items each);
@@ -105,7 +111,8 @@ holds_fits items horizon x h = record {
     each = each_true (item_holds items horizon x) items h
 
 pub fits_holds : (items : List Item) (horizon : ℕ) (x : List ℕ) → FitsCycles items horizon x → per_cycle_holds items horizon x ≡ true
-fits_holds items horizon x f = all_true (item_holds items horizon x) items (each items (recursion_from_All _ _ f.early) (recursion_from_All _ _ f.known))
+fits_holds items horizon x f = all_true (item_holds items horizon x) items (each items (recursion_from_All _ _ f.early)
+    (recursion_from_All _ _ f.known))
   where
     room : (c : ℕ) → has_room items x c ≡ true
     room c = for_each (λ r. nat_le (taken r items x c) (places_of r)) (λ r. (let le = f.room r c in grind (arith, nat_tests, le)))
@@ -116,7 +123,8 @@ fits_holds items horizon x f = all_true (item_holds items horizon x) items (each
     each [] early known = tt
     each (i ∷ rest) early known = (
       not_or (is_active i.on x) _ (λ on. both (nat_lt (get_or x i.at.0 0) horizon) _ (let lt = early.0 on in grind (arith, nat_tests, lt))
-          (both (nat_lt (act_number i.on x) (length i.uses)) _ (let lt = known.0 on in grind (arith, nat_tests, lt)) (room (get_or x i.at.0 0)))),
+          (both (nat_lt (act_number i.on x) (length i.uses)) _ (let lt = known.0 on in
+          grind (arith, nat_tests, lt)) (room (get_or x i.at.0 0)))),
       each rest early.1 known.1,
     )
 
@@ -146,10 +154,12 @@ module _ (vs : List VarId) (items : List Item) (horizon : ℕ) (among : SlotVars
       let room = room_alike (get_or x i.at.0 0) ∙ ap (λ (n : ℕ). has_room items y n) cycle in
       let known = ap (λ (n : ℕ). nat_lt n (length i.uses)) (same_number vs x y same i.on h.of_on) in
       let early = ap (λ (n : ℕ). nat_lt n horizon) cycle in
-      ap (λ (b : Bool). not b || (nat_lt (get_or x i.at.0 0) horizon && (nat_lt (act_number i.on x) (length i.uses) && has_room items x (get_or x i.at.0 0))))
+      ap (λ (b : Bool). not b || (nat_lt (get_or x i.at.0 0) horizon && (nat_lt (act_number i.on x) (length i.uses) && has_room items x
+      (get_or x i.at.0 0))))
       (same_active vs x y same i.on h.of_on)
       ∙ ap (λ (b : Bool). not (is_active i.on y) || b) (and_alike _ _ _ _ early (and_alike _ _ _ _ known room))
 
   pub per_cycle_looks : per_cycle_holds items horizon x ≡ per_cycle_holds items horizon y
   per_cycle_looks = all_alike (item_holds items horizon x) (item_holds items horizon y) items
-      (map_each (ItemVars vs) (λ i. item_holds items horizon x i ≡ item_holds items horizon y i) item_alike items (recursion_from_All _ _ among))
+      (map_each (ItemVars vs) (λ i. item_holds items horizon x i
+      ≡ item_holds items horizon y i) item_alike items (recursion_from_All _ _ among))

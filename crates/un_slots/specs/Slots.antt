@@ -1,5 +1,6 @@
 -- Packets: in each cycle the active items take no more of each resource than a packet has.
-use Rattle.std.specs.Prelude.{ℕ, zero, suc, ◌≡◌, ◌<◌, ◌≤◌, Bool, true, not, ◌&&◌, ◌||◌, if◌then◌else◌, List, [], ◌∷◌, length, sum_by, nat_eq, nat_le, nat_lt, slice_index, All}
+use Rattle.std.specs.Prelude.{ℕ, zero, suc, ◌≡◌, ◌<◌, ◌≤◌, Bool, true, not, ◌&&◌, ◌||◌, if◌then◌else◌, List, [], ◌∷◌, length, sum_by}
+use Rattle.std.specs.Prelude.{nat_eq, nat_le, nat_lt, slice_index, All}
 use Rattle.std.specs.List.{list_all}
 use Rattle.un_base.specs.declared.ids.VarId.{VarId}
 use Rattle.un_isa.specs.declared.packet_counts.TheConstants.{PACKET, MEM_PLACES, STORE_PLACES, XC_PLACES, CONTROL_PLACES}

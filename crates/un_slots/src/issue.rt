@@ -13,8 +13,8 @@ ghost use Rattle.un_slots.specs.Amounts.{IsLoad};
 ghost use Rattle.un_slots.specs.Listings.{last_settled, Chained, Listed, listable, is_unmarked, is_left};
 
 use crate::item::Item;
-use crate::listing::load_at;
-use crate::load::{Load, is_settled, is_within, least_number, take};
+use crate::listing::{listable, load_at};
+use crate::load::{Load, empty, is_settled, is_within, least_number, take};
 use un_base::ids::VarId;
 use un_domains::window::Window;
 use un_prop::act::Act;
@@ -79,7 +79,8 @@ fn can_issue(
     requires live { NoneEmpty w.now.store.now.sets }
     requires its_own { has (set_at w.now.store.now.sets item.now.at.0) c ≡ true }
     requires span { c < length scratch.now.cycles.items }
-    requires head { slice_index scratch.now.cycles.items c ≡ last_settled items.now w.now.store.now.sets c (listable items.now scratch.now.fixed.items) }
+    requires head { slice_index scratch.now.cycles.items c ≡ last_settled items.now w.now.store.now.sets c
+        (listable items.now scratch.now.fixed.items) }
     requires nexts { Chained items.now (listable items.now scratch.now.fixed.items) w.now.store.now.sets c scratch.now.fixed.items }
     ensures { result ≡ can_issue (others k items.now) item.now w.now.store.now.sets c }
 {
@@ -100,12 +101,28 @@ fn can_issue(
     }
 }
 
-/// Marks cycle `c`, where it is one of the item's and the item can't issue in it; whether it is marked.
+/// Whether all items are listed, and an item can issue in a cycle that no settled item has.
+fn is_free(items: &[Item], w: &Window<'_>, item: &Item, before: &[u32]) -> bool
+    requires of_item { ItemVars w.now.vars.now item.now }
+    requires known { HasVars w.now.vars.now w.now.store.now.sets }
+    requires live { NoneEmpty w.now.store.now.sets }
+    ensures alone { result ≡ true → list_any (fits_beside (λ r. 0) item.now) (act_set item.now.on w.now.store.now.sets) ≡ true }
+    ensures whole { result ≡ true → listable items.now before.now ≡ length items.now }
+{
+    if listable(items, before) != items.len() {
+        return false;
+    }
+    fits_some(w, item, empty())
+}
+
+/// Marks cycle `c`, where it is one of the item's and the item can't issue in it; whether it is marked. Where the item is free, it
+/// can issue in each cycle that no settled item has.
 fn mark_at(
     items: &[Item],
     w: &Window<'_>,
     k: usize,
     item: &Item,
+    free: bool,
     c: u32,
     scratch: &mut Scratch,
 ) -> bool
@@ -115,15 +132,25 @@ fn mark_at(
     requires known { HasVars w.now.vars.now w.now.store.now.sets }
     requires live { NoneEmpty w.now.store.now.sets }
     requires span { c < length scratch.old.cycles.items }
-    requires head { slice_index scratch.old.cycles.items c ≡ last_settled items.now w.now.store.now.sets c (listable items.now scratch.old.fixed.items) }
+    requires head { slice_index scratch.old.cycles.items c ≡ last_settled items.now w.now.store.now.sets c
+        (listable items.now scratch.old.fixed.items) }
     requires nexts { Chained items.now (listable items.now scratch.old.fixed.items) w.now.store.now.sets c scratch.old.fixed.items }
-    ensures here { has (set_at w.now.store.now.sets item.now.at.0) c ≡ true → is_unmarked scratch.new.cycles.items c ≡ can_issue (others k items.now) item.now w.now.store.now.sets c }
+    requires alone { free ≡ true → list_any (fits_beside (λ r. 0) item.now) (act_set item.now.on w.now.store.now.sets) ≡ true }
+    requires whole { free ≡ true → listable items.now scratch.old.fixed.items ≡ length items.now }
+    ensures here { has (set_at w.now.store.now.sets item.now.at.0) c ≡ true
+        → is_unmarked scratch.new.cycles.items c ≡ can_issue (others k items.now) item.now w.now.store.now.sets c }
     ensures elsewhere { (e : ℕ) → e ≢ c → slice_index scratch.new.cycles.items e ≡ slice_index scratch.old.cycles.items e }
-    ensures none { result ≡ false → has (set_at w.now.store.now.sets item.now.at.0) c ≡ true → can_issue (others k items.now) item.now w.now.store.now.sets c ≡ true }
+    ensures none { result ≡ false → has (set_at w.now.store.now.sets item.now.at.0) c ≡ true
+        → can_issue (others k items.now) item.now w.now.store.now.sets c ≡ true }
     ensures same { result ≡ false → scratch.new.cycles.items ≡ scratch.old.cycles.items }
     ensures fixed { scratch.new.fixed.items ≡ scratch.old.fixed.items }
     ensures cycles { length scratch.new.cycles.items ≡ length scratch.old.cycles.items }
 {
+    if free {
+        if scratch.cycles[c as usize] == 0 {
+            return false;
+        }
+    }
     if !w.has(item.at, c) {
         return false;
     }
@@ -149,9 +176,13 @@ pub(crate) fn mark(
     requires known { HasVars w.now.vars.now w.now.store.now.sets }
     requires live { NoneEmpty w.now.store.now.sets }
     requires span { horizon ≤ length scratch.old.cycles.items }
-    requires listed { Listed items.now horizon (listable items.now scratch.old.fixed.items) w.now.store.now.sets scratch.old.cycles.items scratch.old.fixed.items }
-    ensures marks { (c : ℕ) → has (set_at w.now.store.now.sets item.now.at.0) c ≡ true → is_left scratch.new.cycles.items horizon c ≡ (nat_lt c horizon && can_issue (others k items.now) item.now w.now.store.now.sets c) }
-    ensures none { result ≡ false → (c : ℕ) → has (set_at w.now.store.now.sets item.now.at.0) c ≡ true → (nat_lt c horizon && can_issue (others k items.now) item.now w.now.store.now.sets c) ≡ true }
+    requires listed { Listed items.now horizon (listable items.now scratch.old.fixed.items) w.now.store.now.sets scratch.old.cycles.items
+        scratch.old.fixed.items }
+    ensures marks { (c : ℕ) → has (set_at w.now.store.now.sets item.now.at.0) c ≡ true
+        → is_left scratch.new.cycles.items horizon c ≡ (nat_lt c horizon && can_issue
+        (others k items.now) item.now w.now.store.now.sets c) }
+    ensures none { result ≡ false → (c : ℕ) → has (set_at w.now.store.now.sets item.now.at.0) c ≡ true
+        → (nat_lt c horizon && can_issue (others k items.now) item.now w.now.store.now.sets c) ≡ true }
     ensures same { result ≡ false → scratch.new.cycles.items ≡ scratch.old.cycles.items }
     ensures fixed { scratch.new.fixed.items ≡ scratch.old.fixed.items }
     ensures cycles { length scratch.new.cycles.items ≡ length scratch.old.cycles.items }
@@ -159,9 +190,10 @@ pub(crate) fn mark(
     let low = w.min(item.at);
     let high = w.max(item.at);
     let end = horizon.min(high.saturating_add(1));
+    let free = is_free(items, w, item, scratch.fixed.as_slice());
     let mut any = high >= horizon;
     for c in low..end {
-        let here = mark_at(items, w, k, item, c, scratch);
+        let here = mark_at(items, w, k, item, free, c, scratch);
         any = any || here;
     }
     any

@@ -45,7 +45,8 @@ fn keep_at(
     requires lent { among w.old.vars.now v ≡ true }
     requires span { horizon ≤ length marks.now }
     requires some { before ≢ Failed → 0 < length (set_at w.old.store.now.sets v.0) }
-    ensures goes { Goes w.old.vars.now (cut_by (λ z. not (nat_eq z c) || is_left marks.now horizon c) v.0) w.old.store.now w.new.store.now before result }
+    ensures goes { Goes w.old.vars.now (cut_by (λ z. not (nat_eq z c) || is_left marks.now horizon c) v.0) w.old.store.now
+        w.new.store.now before result }
     ensures long { length w.new.store.now.sets ≡ length w.old.store.now.sets }
     ensures same_reference { w.new.store.ghost_name ≡ w.old.store.ghost_name }
     ensures vars { w.new.vars ≡ w.old.vars }
@@ -65,7 +66,8 @@ fn keep_left(w: &mut Window<'_>, v: VarId, horizon: u32, marks: &[u32]) -> Prune
     requires lent { among w.old.vars.now v ≡ true }
     requires span { horizon ≤ length marks.now }
     requires live { NoneEmpty w.old.store.now.sets }
-    ensures prune { IsPrune w.old.vars.now (cut_by (is_left marks.now horizon) v.0 w.old.store.now.sets) w.old.store.now w.new.store.now result }
+    ensures prune { IsPrune w.old.vars.now (cut_by (is_left marks.now horizon) v.0 w.old.store.now.sets) w.old.store.now w.new.store.now
+        result }
     ensures same_reference { w.new.store.ghost_name ≡ w.old.store.ghost_name }
     ensures vars { w.new.vars ≡ w.old.vars }
 {
@@ -92,9 +94,11 @@ fn keep_item(
     requires known { HasVars w.old.vars.now w.old.store.now.sets }
     requires live { before ≢ Failed → NoneEmpty w.old.store.now.sets }
     requires span { horizon ≤ length scratch.old.cycles.items }
-    requires listed { before ≢ Failed → Listed items.now horizon (listable items.now scratch.old.fixed.items) w.old.store.now.sets scratch.old.cycles.items scratch.old.fixed.items }
+    requires listed { before ≢ Failed → Listed items.now horizon
+        (listable items.now scratch.old.fixed.items) w.old.store.now.sets scratch.old.cycles.items scratch.old.fixed.items }
     ensures step { Stepped w.old.vars.now (slot_cut items.now horizon k) w.old.store.now w.new.store.now before result }
-    ensures listed { result ≢ Failed → Listed items.now horizon (listable items.now scratch.new.fixed.items) w.new.store.now.sets scratch.new.cycles.items scratch.new.fixed.items }
+    ensures listed { result ≢ Failed → Listed items.now horizon
+        (listable items.now scratch.new.fixed.items) w.new.store.now.sets scratch.new.cycles.items scratch.new.fixed.items }
     ensures fixed { length scratch.new.fixed.items ≡ length scratch.old.fixed.items }
     ensures cycles { length scratch.new.cycles.items ≡ length scratch.old.cycles.items }
     ensures same_reference { w.new.store.ghost_name ≡ w.old.store.ghost_name }
@@ -131,7 +135,8 @@ pub(crate) fn keep_items(
     requires known { HasVars w.old.vars.now w.old.store.now.sets }
     requires live { NoneEmpty w.old.store.now.sets }
     requires span { horizon ≤ length scratch.old.cycles.items }
-    ensures step { Stepped w.old.vars.now (each_place (slot_cut items.now horizon) (length items.now)) w.old.store.now w.new.store.now Same result }
+    ensures step { Stepped w.old.vars.now (each_place (slot_cut items.now horizon)
+        (length items.now)) w.old.store.now w.new.store.now Same result }
     ensures fixed { length scratch.new.fixed.items ≡ length scratch.old.fixed.items }
     ensures cycles { length scratch.new.cycles.items ≡ length scratch.old.cycles.items }
     ensures same_reference { w.new.store.ghost_name ≡ w.old.store.ghost_name }

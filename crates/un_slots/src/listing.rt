@@ -19,16 +19,17 @@ use un_prop::propagator::Scratch;
 const MOST: usize = 0xFFFF_FFFE;
 
 /// How many items can be listed.
-fn listable(items: &[Item], before: &[u32]) -> usize
+pub(crate) fn listable(items: &[Item], before: &[u32]) -> usize
     ensures { result ≡ listable items.now before.now }
 {
     items.len().min(before.len()).min(MOST)
 }
 
 /// No cycle before the horizon has an item.
-fn clear(cycles: &mut [u32], horizon: u32)
+pub(crate) fn clear(cycles: &mut [u32], horizon: u32)
     requires { horizon ≤ length cycles.old }
     ensures none { (c : ℕ) → c < horizon → slice_index cycles.new c ≡ 0 }
+    ensures long { length cycles.new ≡ length cycles.old }
 {
     for c in 0..horizon {
         cycles[c as usize] = 0;
@@ -65,7 +66,8 @@ pub(crate) fn list(items: &[Item], horizon: u32, w: &Window<'_>, scratch: &mut S
     requires vars { SlotVars w.now.vars.now items.now }
     requires known { HasVars w.now.vars.now w.now.store.now.sets }
     requires live { NoneEmpty w.now.store.now.sets }
-    ensures listed { Listed items.now horizon (listable items.now scratch.new.fixed.items) w.now.store.now.sets scratch.new.cycles.items scratch.new.fixed.items }
+    ensures listed { Listed items.now horizon (listable items.now scratch.new.fixed.items) w.now.store.now.sets scratch.new.cycles.items
+        scratch.new.fixed.items }
     ensures fixed { length scratch.new.fixed.items ≡ length scratch.old.fixed.items }
     ensures cycles { length scratch.new.cycles.items ≡ length scratch.old.cycles.items }
 {

@@ -4,6 +4,7 @@ ghost use Rattle.std.specs.Prelude.{◌≡◌};
 ghost use Rattle.un_prop.specs.LastLaws.{Ascend};
 ghost use Rattle.un_slots.specs.Slots.{SlotVars, has_room, item_holds};
 
+use crate::crowd::keep_crowds;
 use crate::item::Item;
 use crate::keep::keep_items;
 use crate::load::{is_within, taken};
@@ -72,16 +73,17 @@ impl Predicate for PerCycle {
 }
 
 impl Propagator for PerCycle {
-    ghost use Rattle.std.specs.Prelude.{length, option_and_then};
+    ghost use Rattle.std.specs.Prelude.{option_and_then};
     ghost use Rattle.un_prop.specs.Last.{last_cut};
     ghost use Rattle.un_prop.specs.PartLaws.{one_part, one_whole, lawful_checked, keeps_checked, forward_checked, stable_first};
-    ghost use Rattle.un_prop.specs.Places.{each_place};
     ghost use Rattle.un_slots.specs.Slots.{per_cycle_holds};
     ghost use Rattle.un_slots.specs.SlotLaws.{per_cycle_looks};
-    ghost use Rattle.un_slots.specs.Loads.{slot_cut, SlotsStrong};
-    ghost use Rattle.un_slots.specs.LoadLaws.{slots_lawful, slots_keeps, slots_strong};
+    ghost use Rattle.un_slots.specs.Loads.{SlotsStrong};
+    ghost use Rattle.un_slots.specs.Crowds.{per_cycle_steps};
+    ghost use Rattle.un_slots.specs.PerCycleLaws.{steps_lawful, steps_keeps, steps_strong};
 
-    ghost cut = { λ p s. option_and_then (last_cut p.vars (per_cycle_holds p.items p.horizon)) (each_place (slot_cut p.items p.horizon) (length p.items) s) };
+    ghost cut = { λ p s. option_and_then (last_cut p.vars (per_cycle_holds p.items p.horizon))
+        (per_cycle_steps p.vars p.items p.horizon s) };
 
     ghost parts = { λ p. one_part p.vars (per_cycle_holds p.items p.horizon) };
 
@@ -90,17 +92,28 @@ impl Propagator for PerCycle {
     ghost span = { λ p. p.horizon };
 
     fn prune_in(&self, w: &mut Window<'_>, scratch: &mut Scratch) -> Pruned {
-        let did = keep_items(self.items.as_slice(), self.horizon, w, scratch);
+        let items = self.items.as_slice();
+        let kept = keep_items(items, self.horizon, w, scratch);
+        let did = keep_crowds(items, self.horizon, w, kept, scratch);
         check_last(self, w, scratch, did)
     }
 
-    ghost keeps = { λ p s x k full there holds. keeps_checked p.vars (per_cycle_holds p.items p.horizon) (per_cycle_looks p.vars p.items p.horizon p.among) p.ascend (each_place (slot_cut p.items p.horizon) (length p.items)) (slots_lawful p.vars p.items p.horizon p.among (length p.items)) s x k (slots_keeps p.vars p.items p.horizon p.among (length p.items) s x k there holds) there.long holds };
+    ghost keeps = { λ p s x k full there holds. keeps_checked p.vars (per_cycle_holds p.items p.horizon)
+        (per_cycle_looks p.vars p.items p.horizon p.among) p.ascend (per_cycle_steps p.vars p.items p.horizon)
+        (steps_lawful p.vars p.items p.horizon p.among) s x k
+        (steps_keeps p.vars p.items p.horizon p.among s x k there holds) there.long holds };
 
-    ghost lawful = { λ p. lawful_checked p.vars (per_cycle_holds p.items p.horizon) (per_cycle_looks p.vars p.items p.horizon p.among) p.ascend (each_place (slot_cut p.items p.horizon) (length p.items)) (slots_lawful p.vars p.items p.horizon p.among (length p.items)) };
+    ghost lawful = { λ p. lawful_checked p.vars (per_cycle_holds p.items p.horizon)
+        (per_cycle_looks p.vars p.items p.horizon p.among) p.ascend (per_cycle_steps p.vars p.items p.horizon)
+        (steps_lawful p.vars p.items p.horizon p.among) };
 
     ghost whole = { λ p x. one_whole p.vars (per_cycle_holds p.items p.horizon) x };
 
-    ghost forward = { λ p. forward_checked p.vars (per_cycle_holds p.items p.horizon) (per_cycle_looks p.vars p.items p.horizon p.among) p.ascend (each_place (slot_cut p.items p.horizon) (length p.items)) (slots_lawful p.vars p.items p.horizon p.among (length p.items)) };
+    ghost forward = { λ p. forward_checked p.vars (per_cycle_holds p.items p.horizon)
+        (per_cycle_looks p.vars p.items p.horizon p.among) p.ascend (per_cycle_steps p.vars p.items p.horizon)
+        (steps_lawful p.vars p.items p.horizon p.among) };
 
-    ghost strength = { λ p s k full words grounded e. slots_strong p.vars p.items p.horizon p.among s k full (stable_first p.vars (per_cycle_holds p.items p.horizon) (per_cycle_looks p.vars p.items p.horizon p.among) p.ascend (each_place (slot_cut p.items p.horizon) (length p.items)) (slots_lawful p.vars p.items p.horizon p.among (length p.items)) s k full e) };
+    ghost strength = { λ p s k full words grounded e. steps_strong p.vars p.items p.horizon p.among s k full (stable_first p.vars
+        (per_cycle_holds p.items p.horizon) (per_cycle_looks p.vars p.items p.horizon p.among) p.ascend
+        (per_cycle_steps p.vars p.items p.horizon) (steps_lawful p.vars p.items p.horizon p.among) s k full e) };
 }

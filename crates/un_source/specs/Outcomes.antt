@@ -2,7 +2,8 @@
 use Rattle.std.specs.Prelude.{ℕ, ◌≡◌, List, [], Option, Some, None, map, slice_get, slice_index}
 use Rattle.un_base.specs.declared.ids.NameId.{NameId}
 use Rattle.un_isa.specs.declared.outcome.End.{End}
-use Rattle.un_isa.specs.declared.outcome.End.TheVariants.{Returned as EndsReturned, Trapped as EndsTrapped, Waiting as EndsWaiting, Running as EndsRunning}
+use Rattle.un_isa.specs.declared.outcome.End.TheVariants.{Returned as EndsReturned, Trapped as EndsTrapped, Waiting as EndsWaiting}
+use Rattle.un_isa.specs.declared.outcome.End.TheVariants.{Running as EndsRunning}
 use Rattle.un_isa.specs.declared.outcome.Outcome.{Outcome}
 use Rattle.un_isa.specs.declared.start.Start.{Start}
 use Rattle.un_ir.specs.declared.function.Block.{Block}

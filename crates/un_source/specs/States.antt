@@ -1,5 +1,6 @@
 -- The state that a run keeps, as a state of the source.
-use Rattle.std.specs.Prelude.{ℕ, ◌≡◌, ◌<◌, ◌^◌, All, Contains, slice_get, List, [], ◌∷◌, Option, Some, None, IsSome, map, drop, slice_index, length}
+use Rattle.std.specs.Prelude.{ℕ, ◌≡◌, ◌<◌, ◌^◌, All, Contains, slice_get, List, [], ◌∷◌, Option, Some, None, IsSome, map, drop, slice_index}
+use Rattle.std.specs.Prelude.{length}
 use Rattle.std.specs.Option.{option_map}
 use Rattle.un_base.specs.declared.ids.NameId.{NameId}
 use Rattle.un_isa.specs.declared.start.Reply.{Reply}
@@ -10,7 +11,8 @@ use Rattle.un_isa.specs.declared.op.Op.TheVariants.{Call}
 use Rattle.un_ir.specs.Live.{targets_of}
 use Rattle.un_ir.specs.declared.function.Block.{Block}
 use Rattle.un_ir.specs.declared.function.SrcOp.{SrcOp}
-use Rattle.un_ir.specs.Source.{SourceState, SourceStop, SourceStep, SourceRun, BlockEnd, stores, calls_with, address_in, value_in, Went, Stopped, Returned, Trapped, Waiting, Running}
+use Rattle.un_ir.specs.Source.{SourceState, SourceStop, SourceStep, SourceRun, BlockEnd, stores, calls_with, address_in, value_in, Went}
+use Rattle.un_ir.specs.Source.{Stopped, Returned, Trapped, Waiting, Running}
 use Rattle.un_source.specs.declared.state.State.{State}
 use Rattle.un_source.specs.declared.blocks.Left.{Left}
 use Rattle.un_source.specs.declared.blocks.Left.TheVariants.{To, Ended}

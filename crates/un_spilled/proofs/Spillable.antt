@@ -4,11 +4,10 @@ use Rattle.un_isa.specs.Hexagon.{HEXAGON}
 use Rattle.un_isa.specs.declared.table.Table.{Table}
 use Rattle.un_ir.specs.declared.extended.Ext.{Ext}
 use Rattle.un_ir.specs.declared.function.Function.{Function}
-use Rattle.un_ir.specs.Extended.{IsExtended}
 use Rattle.un_model.specs.declared.model.Model.{Model}
 use Rattle.un_model.specs.declared.model.Options.{Options}
 use Rattle.un_problem.specs.Problems.{IsExtOf, IsModelOf, default_options}
-use Rattle.un_problem.proofs.ProblemLaws.{small_names, default_are, of_function, fit_table, options_are, own_model, linear_kept, extended_kept}
+use Rattle.un_problem.proofs.ProblemLaws.{small_names, default_are, of_function, fit_table, options_are, own_model}
 use Rattle.un_baseline.specs.RoomyOptions.{AreRoomy, IsOfFunction, IsSpillable}
 
 -- default options leave each name a slot, and one more
@@ -18,19 +17,7 @@ roomy t f m is =
     (record { options = default_are; regs = tt; slots = small_names t f m.ext is.ext })
 
 is_of_function : (f : Function) (e : Ext) → IsExtOf HEXAGON f e → IsOfFunction e
-is_of_function f e is =
-    let h = of_function HEXAGON f e is in
-    record {
-      function = f;
-      lists = h.0;
-      live = h.1;
-      linear = linear_kept e.table f h.0 h.1 (fit_table f e is);
-      extended = h.2;
-    }
-
-is_kept : (f : Function) (e : Ext) → IsExtOf HEXAGON f e → IsExtended e
-is_kept f e is =
-    let h = of_function HEXAGON f e is in subst IsExtended (sym h.2) (extended_kept e.table f h.0 h.1 (fit_table f e is))
+is_of_function f e is = let h = of_function HEXAGON f e is in record { function = f; lists = h.0; live = h.1; extended = h.2 }
 
 -- so all of its names can be spilled
 pub spillable : (f : Function) (m : Model) → IsModelOf HEXAGON f default_options m → IsSpillable m
@@ -38,6 +25,5 @@ spillable f m is = record {
   model = own_model HEXAGON f default_options m is;
   table = fit_table f m.ext is.ext;
   function = is_of_function f m.ext is.ext;
-  kept = is_kept f m.ext is.ext;
   roomy = roomy HEXAGON f m is;
 }

@@ -29,7 +29,8 @@ own_options t f m is = subst AreOptions (sym (options_are t f default_options m 
 
 -- the code of a solution, with its cost
 pub code_is : (f : Function) (m : Model) (s : Solution) (code : Code) (cost : ℕ) → IsModelOf HEXAGON f default_options m → IsSolution m s
-    → IsEmitted m s.values code → Simulates m.ext.table f (start_places m s.values) code → count_of f code ≡ cost_of m s → cost ≡ cost_of m s
+    → IsEmitted m s.values code → Simulates m.ext.table f (start_places m s.values) code → count_of f code ≡ cost_of m s
+    → cost ≡ cost_of m s
     → IsCodeOf HEXAGON f code cost
 code_is f m s code cost is solves emitted simulates counted costs =
     let e = is.ext in

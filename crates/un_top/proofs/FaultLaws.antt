@@ -1,5 +1,6 @@
 -- A text is a function or has one fault.
-use Rattle.std.proofs.Common.{ℕ, zero, suc, ◌≡◌, ◌+◌, ◌<◌, ◌≤◌, ◌⊎◌, inl, inr, List, [], ◌∷◌, Some, None, Option, unwrap_or, length, slice_get, refl, sym, ap, ◌∙◌, subst, arith}
+use Rattle.std.proofs.Common.{ℕ, zero, suc, ◌≡◌, ◌+◌, ◌<◌, ◌≤◌, ◌⊎◌, inl, inr, List, [], ◌∷◌, Some, None, Option, unwrap_or, length}
+use Rattle.std.proofs.Common.{slice_get, refl, sym, ap, ◌∙◌, subst, arith}
 use Rattle.std.proofs.lemmas.Bool.{cases_lt}
 use Rattle.un_ir.specs.declared.function.Function.{Function}
 use Rattle.un_reader.specs.Codes.{code_of}
@@ -12,7 +13,8 @@ use Rattle.un_reader.specs.declared.fault.Fault.TheVariants.{TooMany}
 use Rattle.un_reader.proofs.OneAnswer.{no_line_fault, language_or_fault}
 use Rattle.un_top.specs.Faults.{IsFault}
 
-first_line_unique : (lines : List (List ℕ)) (l line : ℕ) (f fault : Fault) → IsFirstLineFault lines l f → IsFirstLineFault lines line fault → (l ≡ line) × (f ≡ fault)
+first_line_unique : (lines : List (List ℕ)) (l line : ℕ) (f fault : Fault) → IsFirstLineFault lines l f → IsFirstLineFault lines line fault
+    → (l ≡ line) × (f ≡ fault)
 first_line_unique lines l line f fault a b = by (cases_lt a.place b.place)
   where
     same : a.place ≡ b.place → (l ≡ line) × (f ≡ fault)
@@ -34,21 +36,26 @@ same_pair l line f fault e =
     (ap (λ (o : Option (ℕ × Fault)). (unwrap_or o (0, TooMany)).0) e, ap (λ (o : Option (ℕ × Fault)). (unwrap_or o (0, TooMany)).1) e)
 
 -- the first fault of the language is one
-language_unique : (text : List ℕ) (l line : ℕ) (f fault : Fault) → IsTextFault text l f → IsTextFault text line fault → (l ≡ line) × (f ≡ fault)
+language_unique : (text : List ℕ) (l line : ℕ) (f fault : Fault) → IsTextFault text l f → IsTextFault text line fault → (l ≡ line)
+    × (f ≡ fault)
 language_unique text _ _ _ _ (too_long a) (too_long b) = (refl, refl)
 language_unique text _ _ _ _ (too_long a) (on_line line fault within first) = absurd (omega arith)
 language_unique text _ _ _ _ (too_long a) (in_whole line fault within none whole) = absurd (omega arith)
 language_unique text _ _ _ _ (too_long a) (at_entry name within none whole live) = absurd (omega arith)
 language_unique text _ _ _ _ (on_line l f within a) (too_long b) = absurd (omega arith)
 language_unique text _ _ _ _ (on_line l f within a) (on_line line fault within' b) = first_line_unique (lines_in text) l line f fault a b
-language_unique text _ _ _ _ (on_line l f within a) (in_whole line fault within' none whole) = absurd (no_line_fault (lines_in text) l f none a)
-language_unique text _ _ _ _ (on_line l f within a) (at_entry name within' none whole live) = absurd (no_line_fault (lines_in text) l f none a)
+language_unique text _ _ _ _ (on_line l f within a) (in_whole line fault within' none whole) =
+    absurd (no_line_fault (lines_in text) l f none a)
+language_unique text _ _ _ _ (on_line l f within a) (at_entry name within' none whole live) =
+    absurd (no_line_fault (lines_in text) l f none a)
 language_unique text _ _ _ _ (in_whole l f within none a) (too_long b) = absurd (omega arith)
-language_unique text _ _ _ _ (in_whole l f within none a) (on_line line fault within' b) = absurd (no_line_fault (lines_in text) line fault none b)
+language_unique text _ _ _ _ (in_whole l f within none a) (on_line line fault within' b) =
+    absurd (no_line_fault (lines_in text) line fault none b)
 language_unique text _ _ _ _ (in_whole l f within none a) (in_whole line fault within' none' b) = same_pair l line f fault (sym a ∙ b)
 language_unique text _ _ _ _ (in_whole l f within none a) (at_entry name within' none' whole live) = absurd (cc)
 language_unique text _ _ _ _ (at_entry name within none whole live) (too_long b) = absurd (omega arith)
-language_unique text _ _ _ _ (at_entry name within none whole live) (on_line line fault within' b) = absurd (no_line_fault (lines_in text) line fault none b)
+language_unique text _ _ _ _ (at_entry name within none whole live) (on_line line fault within' b) =
+    absurd (no_line_fault (lines_in text) line fault none b)
 language_unique text _ _ _ _ (at_entry name within none whole live) (in_whole line fault within' none' b) = absurd (cc)
 language_unique text _ _ _ _ (at_entry name within none whole live) (at_entry name' within' none' whole' live') = (refl, refl)
 

@@ -3,7 +3,8 @@
 ghost use Rattle.std.specs.Prelude.{◌≡◌, ◌==◌, ◌&&◌, ◌||◌, not, length, drop, codes, IfOk, true, false, if◌then◌else◌};
 ghost use Rattle.std.specs.List.{list_all, zip};
 ghost use Rattle.std.specs.Str.{bytes_eq};
-ghost use Rattle.un_words.specs.Shapes.{is_slot, have_forms, alternate, is_list, word_in, word_at, is_word_at, plain_in, plain_at, name_in, name_at, condition_in, condition_at, names_at, literal_at, literal_or, zero_number};
+ghost use Rattle.un_words.specs.Shapes.{is_slot, have_forms, alternate, is_list, word_in, word_at, is_word_at, plain_in, plain_at, name_in};
+ghost use Rattle.un_words.specs.Shapes.{name_at, condition_in, condition_at, names_at, literal_at, literal_or, zero_number};
 
 use crate::slot::Slot;
 use crate::token::{Number, Token};

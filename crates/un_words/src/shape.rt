@@ -4,7 +4,9 @@ ghost use Rattle.std.specs.Prelude.{◌≡◌, ◌==◌, ◌&&◌, codes, IfOk, 
 ghost use Rattle.std.specs.Option.{option_and_then, option_map_or};
 ghost use Rattle.std.specs.Str.{bytes_eq};
 ghost use Rattle.un_ir.specs.WellFormed.{is_call};
-ghost use Rattle.un_words.specs.Shapes.{is_slot, word_at, text_ops, op_named, slots_of, result_fits, operands_fit, callee_of, op_line_of, op_shape, operation_shape, func_shape, block_shape, jump_shape, branch_shape, return_shape, assigned_shape, head_word, head_of, shape_by, shape_of};
+ghost use Rattle.un_words.specs.Shapes.{is_slot, word_at, text_ops, op_named, slots_of, result_fits, operands_fit, callee_of, op_line_of};
+ghost use Rattle.un_words.specs.Shapes.{op_shape, operation_shape, func_shape, block_shape, jump_shape, branch_shape, return_shape};
+ghost use Rattle.un_words.specs.Shapes.{assigned_shape, head_word, head_of, shape_by, shape_of};
 
 use crate::forms::{
     are_names, condition_at, from_place, have_forms, is_list, is_slot, is_text, is_word_at,

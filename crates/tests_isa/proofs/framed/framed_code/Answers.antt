@@ -8,5 +8,14 @@ use Rattle.tests_isa.proofs.framed.framed_code.Goals as goal
 -- the blocks are those of which the rules are known
 pub invariant_of-result : goal.invariant_of-result
 invariant_of-result c =
-    let same : c.push-3.new.self ≡ framed = c.in_ok-push-3.ensures.ok ∙ rw (c.new-blocks.ensures, c.label-label.ensures, c.in_ok-push-2.ensures.ok, c.in_ok-push.ensures.ok, c.new-packets.ensures, c.in_ok-entering.ensures, c.in_ok-leaving.ensures) refl in
+    let same : c.push-3.new.self ≡ framed = c.in_ok-push-3.ensures.ok
+    ∙ rw (
+      c.new-blocks.ensures,
+      c.label-label.ensures,
+      c.in_ok-push-2.ensures.ok,
+      c.in_ok-push.ensures.ok,
+      c.new-packets.ensures,
+      c.in_ok-entering.ensures,
+      c.in_ok-leaving.ensures,
+    ) refl in
     record { rules = ∣ subst (λ (bs : List CodeBlock). KeepsRules 256 bs) (sym same) kept_with_frame ∣₁ }

@@ -1,8 +1,7 @@
-use Rattle.std.proofs.Common.{zero, All, MatchOption, subst}
+use Rattle.std.proofs.Common.{All, MatchOption, subst}
 use Rattle.std.specs.Prelude.{⊤}
 use Rattle.tests_search.proofs.StoreLaws.{full}
 use Rattle.un_domains.specs.Domains.{IsDomain}
-use Rattle.un_domains.specs.declared.domain.Domain.{Domain}
 use Rattle.un_domains.specs.declared.domain.Domain.TheVariants.{Range}
 use Rattle.tests_search.proofs.build.store_of.Goals as goal
 

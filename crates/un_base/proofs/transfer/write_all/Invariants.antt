@@ -12,7 +12,8 @@ invariant-loop-at g l = record {
   within : l.at ≤ length l.bytes;
   front : Appends (g.K.Sink.held l.fn.sink) (g.K.Sink.held l.sink) (take l.at l.bytes);
   same_piece : g.K.Sink.piece l.sink ≡ g.K.Sink.piece l.fn.sink;
-  paced : IfSome (g.K.Sink.piece l.fn.sink) (IsPaced l.at (length l.bytes) (g.K.Sink.calls l.fn.sink) (g.K.Sink.calls l.sink) (g.K.Sink.is_full l.sink));
+  paced : IfSome (g.K.Sink.piece l.fn.sink) (IsPaced l.at (length l.bytes) (g.K.Sink.calls l.fn.sink) (g.K.Sink.calls l.sink)
+      (g.K.Sink.is_full l.sink));
 }
 
 abbrev pub decreases-loop-at : goal.decreases-loop-at

@@ -5,4 +5,5 @@ use Rattle.un_listing.proofs.judge.block_stands.Goals as goal
 
 pub returns : goal.returns
 returns c = λ lines after known ends.
-    block_decides c.args.before.now c.args.is_last lines after c.args.label.now known ends c.if-is_last.false (omega arith) c.has.result c.has.ensures
+    block_decides c.args.before.now c.args.is_last lines after c.args.label.now known ends c.if-is_last.false
+    (omega arith) c.has.result c.has.ensures

@@ -7,4 +7,5 @@ use Rattle.un_listing.proofs.judge.leads.Goals as goal
 pub returns-in-Some : goal.returns-in-Some
 returns-in-Some c = λ all same.
     let jump : is_jump c.args.i.now.op ≡ true = search rules in
-    leads_some c.args.labels.now all same (is_jump c.args.i.now.op) jump c.args.i.now.label c.in-Some.label (search rules) c.has.result c.has.ensures
+    leads_some c.args.labels.now all same (is_jump c.args.i.now.op) jump c.args.i.now.label c.in-Some.label
+    (search rules) c.has.result c.has.ensures

@@ -7,7 +7,8 @@ use Rattle.un_listing.specs.Reading.{IsReadAs}
 use Rattle.un_listing.proofs.lines.read_lines.Given as goal
 
 abbrev pub invariant-loop-rest : goal.invariant-loop-rest
-invariant-loop-rest l = (more : List (Option Line)) → AllZip (IsReadAs l.frame) (pieces_of l.rest) more → AllZip (IsReadAs l.frame) (pieces_of l.text) (l.lines ++ more)
+invariant-loop-rest l = (more : List (Option Line)) → AllZip (IsReadAs l.frame) (pieces_of l.rest) more
+    → AllZip (IsReadAs l.frame) (pieces_of l.text) (l.lines ++ more)
 
 abbrev pub decreases-loop-rest : goal.decreases-loop-rest
 decreases-loop-rest l = length l.rest

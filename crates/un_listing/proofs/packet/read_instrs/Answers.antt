@@ -11,16 +11,19 @@ use Rattle.un_listing.proofs.packet.read_instrs.Goals as goal
 pub returns-in-None : goal.returns-in-None
 returns-in-None c =
     let read : instr_of (words_of (take c.part_end-end.result c.parts.rest.now)) ≡ None = grind (arith, common_steps) in
-    sym (no_instr (instrs_in (parts_of c.args.text.now)) c.parts.found c.parts.rest.now c.part_end-end.result c.parts.invariant c.part_end-end.ensures.place read)
+    sym (no_instr (instrs_in (parts_of c.args.text.now)) c.parts.found c.parts.rest.now
+    c.part_end-end.result c.parts.invariant c.part_end-end.ensures.place read)
 
 pub returns-then-end-rest : goal.returns-then-end-rest
 returns-then-end-rest c =
     let read : instr_of (words_of (take c.part_end-end.result c.parts.rest.now)) ≡ Some c.in-Some.instr = grind (arith, common_steps) in
-    let e = the_last (instrs_in (parts_of c.args.text.now)) c.parts.found c.parts.rest.now c.part_end-end.result c.parts.invariant c.part_end-end.ensures.place c.in-Some.instr (omega arith) read in
+    let e = the_last (instrs_in (parts_of c.args.text.now)) c.parts.found c.parts.rest.now
+    c.part_end-end.result c.parts.invariant c.part_end-end.ensures.place c.in-Some.instr (omega arith) read in
     ap (λ (is : List Instr). Some is) c.in_ok-push-in-Some.ensures.ok ∙ sym e
 
 pub parts-preserved : goal.parts-preserved
 parts-preserved c =
     let read : instr_of (words_of (take c.part_end-end.result c.parts.rest.now)) ≡ Some c.in-Some.instr = grind (arith, common_steps) in
-    let e = one_more (instrs_in (parts_of c.args.text.now)) c.parts.found c.parts.rest.now c.part_end-end.result c.parts.invariant c.part_end-end.ensures.place c.in-Some.instr (omega arith) read in
+    let e = one_more (instrs_in (parts_of c.args.text.now)) c.parts.found c.parts.rest.now
+    c.part_end-end.result c.parts.invariant c.part_end-end.ensures.place c.in-Some.instr (omega arith) read in
     rw (c.in_ok-push-in-Some.ensures.ok, c.behind-rest.ensures) e

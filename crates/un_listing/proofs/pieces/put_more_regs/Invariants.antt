@@ -6,4 +6,5 @@ use Rattle.un_listing.proofs.pieces.put_more_regs.Given as goal
 -- the text so far with what is left is the whole
 abbrev pub invariant-loop-reg : goal.invariant-loop-reg
 invariant-loop-reg l =
-    l.out.items ++ flat_map (λ r. codes "," ++ reg_text r) (drop l.reg-index l.regs) ≡ l.initial.out.items ++ flat_map (λ r. codes "," ++ reg_text r) l.regs
+    l.out.items ++ flat_map (λ r. codes "," ++ reg_text r) (drop l.reg-index l.regs)
+    ≡ l.initial.out.items ++ flat_map (λ r. codes "," ++ reg_text r) l.regs

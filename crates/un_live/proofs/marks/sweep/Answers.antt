@@ -12,7 +12,8 @@ loop-rest-preserved-then-mark c =
     let e : c.mark.new.marks ≡ set l.marks (l.rest - 1) true = rw c.if-mark.true at c.mark.ensures.marks in
     let found = c.mark.ensures.yes c.if-mark.true in
     subst (λ (m : List Bool). IsPass c.args.blocks.now (name_of c.args.name) c.args.marks.now m true (l.rest - 1)) (sym e)
-    (pass_marked c.args.blocks.now (name_of c.args.name) c.args.marks.now l.marks l.changed l.rest l.invariant c.loop-rest-test.true found.0 found.1)
+    (pass_marked c.args.blocks.now (name_of c.args.name) c.args.marks.now l.marks l.changed l.rest l.invariant c.loop-rest-test.true found.0
+    found.1)
 
 pub loop-rest-preserved : goal.loop-rest-preserved
 loop-rest-preserved c =

@@ -11,7 +11,8 @@ loop-i-preserved c =
     let led = has_led c.args.c.now old new c.in-Left.field-0 c.in-Left.ensures.run in
     let block : new.block ≡ c.in-Left.field-0.0 = ap (λ (m : MachineState). m.block) led.moves in
     record {
-      rest = run_goes c.args.machine.now.table c.args.c.now c.args.n c.loop-i._i old new c.in-Left.field-0.0 _ c.loop-i-test.true c.loop-i.invariant.table led c.loop-i.invariant.rest;
+      rest = run_goes c.args.machine.now.table c.args.c.now c.args.n c.loop-i._i old new c.in-Left.field-0.0 _ c.loop-i-test.true
+          c.loop-i.invariant.table led c.loop-i.invariant.rest;
       table = ap (λ (m : MachineState). m.table) led.moves ∙ c.loop-i.invariant.table;
       going = ap (λ (m : MachineState). m.ended) led.moves ∙ c.loop-i.invariant.going;
       place = ap (λ (m : MachineState). m.place) led.moves;
@@ -21,5 +22,6 @@ loop-i-preserved c =
 
 pub returns : goal.returns
 returns c =
-    run_left c.args.machine.now.table c.args.c.now.blocks c.as_slice.result.now c.args.n c.loop-i._i c.block.result c.loop-i.machine c.index-as_slice-block.result _ _ _ c.loop-i-test.false c.loop-i.invariant.rest c.as_slice.ensures c.block.ensures
+    run_left c.args.machine.now.table c.args.c.now.blocks c.as_slice.result.now c.args.n c.loop-i._i c.block.result c.loop-i.machine
+    c.index-as_slice-block.result _ _ _ c.loop-i-test.false c.loop-i.invariant.rest c.as_slice.ensures c.block.ensures
     c.loop-i.invariant.block c.index-as_slice-block.is (ap (λ (b : CodeBlock). b.label) (sym c.index-as_slice-block.is)) c.new.ensures

@@ -16,5 +16,6 @@ returns c =
     let x = c.args.fixed.now in
     let none = drop_all es c.loop-e.e-index (omega (arith, c.loop-e-test.false)) in
     let end : min (c.loop-e.total + 0) (2 ^ 64 - 1) ≡ min (cost_at es x) (2 ^ 64 - 1) =
-    subst (λ (us : List Weighted). min (c.loop-e.total + cost_at us x) (2 ^ 64 - 1) ≡ min (cost_at es x) (2 ^ 64 - 1)) none c.loop-e.invariant.so_far in
+    subst (λ (us : List Weighted). min (c.loop-e.total + cost_at us x) (2 ^ 64 - 1) ≡ min (cost_at es x) (2 ^ 64 - 1)) none
+    c.loop-e.invariant.so_far in
     omega (arith, end, c.loop-e.invariant.small)

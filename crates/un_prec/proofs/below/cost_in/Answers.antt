@@ -13,10 +13,12 @@ drop_all (e ∷ es) zero le = absurd (omega (arith, le))
 drop_all (e ∷ es) (suc i) le = drop_all es i (omega (arith, le))
 
 pub min-requires-clause-there : goal.min-requires-clause-there
-min-requires-clause-there c = has_among c.args.w.now.vars.now _ c.args.w.now.store.now.sets (c.requires.vars c.loop-e.e-index (record { end = record { 0 = 0 }; freq = 0 }) c.loop-e-test.true) c.requires.known
+min-requires-clause-there c = has_among c.args.w.now.vars.now _ c.args.w.now.store.now.sets
+    (c.requires.vars c.loop-e.e-index (record { end = record { 0 = 0 }; freq = 0 }) c.loop-e-test.true) c.requires.known
 
 pub min-requires-clause-some : goal.min-requires-clause-some
-min-requires-clause-some c = c.requires.live _ (has_among c.args.w.now.vars.now _ c.args.w.now.store.now.sets (c.requires.vars c.loop-e.e-index (record { end = record { 0 = 0 }; freq = 0 }) c.loop-e-test.true) c.requires.known)
+min-requires-clause-some c = c.requires.live _ (has_among c.args.w.now.vars.now _ c.args.w.now.store.now.sets
+    (c.requires.vars c.loop-e.e-index (record { end = record { 0 = 0 }; freq = 0 }) c.loop-e-test.true) c.requires.known)
 
 pub returns : goal.returns
 returns c =
@@ -24,5 +26,6 @@ returns c =
     let s = c.args.w.now.store.now.sets in
     let none = drop_all es c.loop-e.e-index (omega (arith, c.loop-e-test.false)) in
     let end : min (c.loop-e.total + 0) (2 ^ 64 - 1) ≡ min (least_cost es s) (2 ^ 64 - 1) =
-    subst (λ (us : List Weighted). min (c.loop-e.total + least_cost us s) (2 ^ 64 - 1) ≡ min (least_cost es s) (2 ^ 64 - 1)) none c.loop-e.invariant.so_far in
+    subst (λ (us : List Weighted). min (c.loop-e.total + least_cost us s) (2 ^ 64 - 1) ≡ min (least_cost es s) (2 ^ 64 - 1)) none
+    c.loop-e.invariant.so_far in
     omega (arith, end, c.loop-e.invariant.small)

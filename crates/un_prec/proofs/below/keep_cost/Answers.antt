@@ -14,7 +14,8 @@ returns-then-cost_in-limit-clause-step c =
     let s = c.args.w.now.store.now in
     let es = c.args.ends.now in
     let less : least_cost es s.sets < c.args.limit = omega (arith, c.cost_in.ensures, c.if-cost_in-limit.true, c.ranges.limit) in
-    stepped_same vs (below_steps vs es c.args.limit) s Same (λ live. first_all (below_test es c.args.limit) vs s.sets c.requires.known live (λ y. grind (arith, nat_tests, less)))
+    stepped_same vs (below_steps vs es c.args.limit) s Same (λ live. first_all (below_test es c.args.limit) vs s.sets c.requires.known live
+    (λ y. grind (arith, nat_tests, less)))
 
 pub returns-clause-step : goal.returns-clause-step
 returns-clause-step c =

@@ -1,4 +1,5 @@
-use Rattle.std.proofs.Common.{ℕ, List, Bool, ◌≡◌, ◌≢◌, ◌<◌, ◌≤◌, ◌+◌, ◌-◌, ◌^◌, ◌∙◌, min, nat_lt, nat_le, true, false, refl, sym, ap, subst, arith}
+use Rattle.std.proofs.Common.{ℕ, List, Bool, ◌≡◌, ◌≢◌, ◌<◌, ◌≤◌, ◌+◌, ◌-◌, ◌^◌, ◌∙◌, min, nat_lt, nat_le, true, false, refl, sym, ap, subst}
+use Rattle.std.proofs.Common.{arith}
 use Rattle.un_base.specs.declared.ids.VarId.{VarId}
 use Rattle.un_domains.specs.Sets.{Sets, cut_by, least, greatest}
 use Rattle.un_prop.specs.Acts.{act_vars, at_vars}
@@ -24,10 +25,12 @@ returns-then-not-are_sure-clause-step c =
     (λ y. apart_unsure l s.sets y (sym c.if-not-are_sure.ensures)))
 
 pub least_time-requires-clause-known : goal.least_time-requires-clause-known
-least_time-requires-clause-known c = known_of c.args.w.now.vars.now (at_vars c.args.link.from) c.args.w.now.store.now.sets c.requires.vars.of_from c.requires.known
+least_time-requires-clause-known c = known_of c.args.w.now.vars.now (at_vars c.args.link.from) c.args.w.now.store.now.sets
+    c.requires.vars.of_from c.requires.known
 
 pub greatest_time-requires-clause-known : goal.greatest_time-requires-clause-known
-greatest_time-requires-clause-known c = known_of c.args.w.now.vars.now (at_vars c.args.link.to) c.args.w.now.store.now.sets c.requires.vars.of_to c.requires.known
+greatest_time-requires-clause-known c = known_of c.args.w.now.vars.now (at_vars c.args.link.to) c.args.w.now.store.now.sets
+    c.requires.vars.of_to c.requires.known
 
 pub returns-then-low-high-clause-step : goal.returns-then-low-high-clause-step
 returns-then-low-high-clause-step c =
@@ -35,7 +38,16 @@ returns-then-low-high-clause-step c =
     let vs = w.vars.now in
     let s = w.store.now in
     let l = c.args.link in
-    let near : least (at_set l.from s.sets) + l.gap ≤ greatest (at_set l.to s.sets) = omega (arith, c.from-least.ensures, c.from-gap.ensures, c.least_time.ensures, c.from-high.ensures, c.greatest_time.ensures, c.if-low-high.true) in
+    let near : least (at_set l.from s.sets) + l.gap ≤ greatest (at_set l.to s.sets) =
+    omega (
+      arith,
+      c.from-least.ensures,
+      c.from-gap.ensures,
+      c.least_time.ensures,
+      c.from-high.ensures,
+      c.greatest_time.ensures,
+      c.if-low-high.true,
+    ) in
     stepped_same vs (first_cut (apart_test l) vs) s c.args.before (λ live. first_all (apart_test l) vs s.sets c.requires.known live
     (λ y. apart_near l s.sets y near))
 
@@ -45,6 +57,15 @@ returns-clause-step c =
     let vs = w.vars.now in
     let s = w.store.now in
     let l = c.args.link in
-    let far : greatest (at_set l.to s.sets) < least (at_set l.from s.sets) + l.gap = omega (arith, c.from-least.ensures, c.from-gap.ensures, c.least_time.ensures, c.from-high.ensures, c.greatest_time.ensures, c.if-low-high.false) in
+    let far : greatest (at_set l.to s.sets) < least (at_set l.from s.sets) + l.gap =
+    omega (
+      arith,
+      c.from-least.ensures,
+      c.from-gap.ensures,
+      c.least_time.ensures,
+      c.from-high.ensures,
+      c.greatest_time.ensures,
+      c.if-low-high.false,
+    ) in
     stepped_by vs (first_cut (apart_test l) vs) (fail_cut vs) s c.fail.new.w.store.now c.args.before c.fail.result
     (λ live. first_fails (apart_test l) vs s.sets (λ y. apart_far l s.sets y (sym c.if-not-are_sure.ensures) far)) c.fail.ensures.step

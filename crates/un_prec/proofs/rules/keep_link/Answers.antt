@@ -12,19 +12,24 @@ known_at : (vs us : List VarId) (s t : Sets) → us ≡ vs → length t ≡ leng
 known_at vs us s t e long k = subst (λ (ws : List VarId). HasVars ws t) (sym e) (λ i d lt. rw long (k i d lt))
 
 pub later-second-requires-clause-vars : goal.later-second-requires-clause-vars
-later-second-requires-clause-vars c = subst (λ (us : List VarId). LinkVars us c.args.link) (sym (ap (λ r. r.now) c.apart-first.ensures.vars)) c.requires.vars
+later-second-requires-clause-vars c = subst (λ (us : List VarId). LinkVars us c.args.link)
+    (sym (ap (λ r. r.now) c.apart-first.ensures.vars)) c.requires.vars
 
 pub later-second-requires-clause-known : goal.later-second-requires-clause-known
-later-second-requires-clause-known c = known_at c.args.w.now.vars.now _ c.args.w.now.store.now.sets c.apart-first.new.w.store.now.sets (ap (λ r. r.now) c.apart-first.ensures.vars) c.apart-first.ensures.step.long c.requires.known
+later-second-requires-clause-known c = known_at c.args.w.now.vars.now _ c.args.w.now.store.now.sets c.apart-first.new.w.store.now.sets
+    (ap (λ r. r.now) c.apart-first.ensures.vars) c.apart-first.ensures.step.long c.requires.known
 
 pub later-second-requires-clause-live : goal.later-second-requires-clause-live
 later-second-requires-clause-live c still = c.apart-first.ensures.step.live c.requires.live still
 
 pub earlier-requires-clause-vars : goal.earlier-requires-clause-vars
-earlier-requires-clause-vars c = subst (λ (us : List VarId). LinkVars us c.args.link) (sym (ap (λ r. r.now) (c.later-second.ensures.vars ∙ c.apart-first.ensures.vars))) c.requires.vars
+earlier-requires-clause-vars c = subst (λ (us : List VarId). LinkVars us c.args.link)
+    (sym (ap (λ r. r.now) (c.later-second.ensures.vars ∙ c.apart-first.ensures.vars))) c.requires.vars
 
 pub earlier-requires-clause-known : goal.earlier-requires-clause-known
-earlier-requires-clause-known c = known_at c.args.w.now.vars.now _ c.args.w.now.store.now.sets c.later-second.new.w.store.now.sets (ap (λ r. r.now) (c.later-second.ensures.vars ∙ c.apart-first.ensures.vars)) (c.later-second.ensures.step.long ∙ c.apart-first.ensures.step.long) c.requires.known
+earlier-requires-clause-known c = known_at c.args.w.now.vars.now _ c.args.w.now.store.now.sets c.later-second.new.w.store.now.sets
+    (ap (λ r. r.now) (c.later-second.ensures.vars ∙ c.apart-first.ensures.vars))
+    (c.later-second.ensures.step.long ∙ c.apart-first.ensures.step.long) c.requires.known
 
 pub earlier-requires-clause-live : goal.earlier-requires-clause-live
 earlier-requires-clause-live c still = c.later-second.ensures.step.live (c.apart-first.ensures.step.live c.requires.live) still
@@ -39,7 +44,11 @@ returns-clause-step c =
     let s3 = c.earlier.new.w.store.now in
     let a = c.apart-first.result in
     let b = c.later-second.result in
-    let step2 = subst (λ (us : List VarId). Stepped us (at_cut (later_test l) l.to) s1 s2 a b) (ap (λ r. r.now) c.apart-first.ensures.vars) c.later-second.ensures.step in
-    let step3 = subst (λ (us : List VarId). Stepped us (at_cut (earlier_test l) l.from) s2 s3 b c.earlier.result) (ap (λ r. r.now) (c.later-second.ensures.vars ∙ c.apart-first.ensures.vars)) c.earlier.ensures.step in
-    stepped_chain vs (λ s. option_and_then (at_cut (later_test l) l.to) (first_cut (apart_test l) vs s)) (at_cut (earlier_test l) l.from) s0 s2 s3 c.args.before b c.earlier.result
-    (stepped_chain vs (first_cut (apart_test l) vs) (at_cut (later_test l) l.to) s0 s1 s2 c.args.before a b c.apart-first.ensures.step step2) step3
+    let step2 = subst (λ (us : List VarId). Stepped us (at_cut (later_test l) l.to) s1 s2 a b) (ap (λ r. r.now) c.apart-first.ensures.vars)
+    c.later-second.ensures.step in
+    let step3 = subst (λ (us : List VarId). Stepped us (at_cut (earlier_test l) l.from) s2 s3 b c.earlier.result)
+    (ap (λ r. r.now) (c.later-second.ensures.vars ∙ c.apart-first.ensures.vars)) c.earlier.ensures.step in
+    stepped_chain vs (λ s. option_and_then (at_cut (later_test l) l.to) (first_cut (apart_test l) vs s)) (at_cut (earlier_test l) l.from) s0
+    s2 s3 c.args.before b c.earlier.result
+    (stepped_chain vs (first_cut (apart_test l) vs) (at_cut (later_test l) l.to) s0 s1 s2 c.args.before a b c.apart-first.ensures.step
+    step2) step3

@@ -26,6 +26,7 @@ returns-in-Above c =
     let q = λ (y : ℕ). nat_lt c.args.x y in
     let v = c.args.v.0 in
     let ends = cut_ends q v s new c.requires.there c.requires.live c.keep_gt.result c.keep_gt.ensures in
-    let as_side = subst (λ (d : Side). Ends (cut_by (side_test d c.args.x) v s.sets) s.sets new.sets c.answer-in-Above.result) (sym c.in-Above.is)
+    let as_side = subst (λ (d : Side). Ends (cut_by (side_test d c.args.x) v s.sets) s.sets new.sets c.answer-in-Above.result)
+    (sym c.in-Above.is)
     (subst (λ (a : Pruned). Ends (cut_by q v s.sets) s.sets new.sets a) (sym c.answer-in-Above.ensures) ends) in
     record { ends = as_side; marked = c.keep_gt.ensures.marked; long = ap length c.keep_gt.ensures.sets ∙ length-set _ _ _ }

@@ -1,4 +1,5 @@
-use Rattle.std.proofs.Common.{ℕ, List, Bool, ◌≡◌, ◌≢◌, ◌<◌, ◌+◌, ◌||◌, ◌∙◌, not, nat_eq, nat_le, set, length, arith, refl, sym, ap, subst, option_and_then, Some, None}
+use Rattle.std.proofs.Common.{ℕ, List, Bool, ◌≡◌, ◌≢◌, ◌<◌, ◌+◌, ◌||◌, ◌∙◌, not, nat_eq, nat_le, set, length, arith, refl, sym, ap, subst}
+use Rattle.std.proofs.Common.{option_and_then, Some, None}
 use Rattle.std.specs.declared.option.Option.{Option}
 use Rattle.un_base.specs.declared.ids.VarId.{VarId}
 use Rattle.un_domains.specs.Sets.{Sets, set_at, cut_by, least, greatest, NoneEmpty}
@@ -28,8 +29,10 @@ returns-in-Some-clause-goes g c =
     let s = c.args.w.now.store.now in
     let new = c.try_all-did.new.w.store.now in
     let v = c.in-Some.v in
-    let is : last_of (P.scope p) s.sets ≡ Some v = ap (λ (us : List VarId). last_of us s.sets) (sym c.reads.ensures) ∙ sym c.in-Some.ensures in
+    let is : last_of (P.scope p) s.sets ≡ Some v = ap (λ (us : List VarId). last_of us s.sets) (sym c.reads.ensures)
+    ∙ sym c.in-Some.ensures in
     let cut = λ (u : Sets). last_cut (P.scope p) (P.holds p) u in
     subst (λ (a : Pruned). Goes vs cut s new c.args.before a) (sym c.joined.ensures)
     (goes_then vs cut s new c.args.before c.try_all-did.result (λ e. let h = rw e at c.if-eq.ensures in cc h)
-    (λ live. let done = subst (λ (o : Option Sets). IsPrune vs o s new c.try_all-did.result) (sym (ap (last_cut_at (P.holds p) s.sets) is)) c.try_all-did.ensures.prune in (done.ends, done.untouched)))
+    (λ live. let done = subst (λ (o : Option Sets). IsPrune vs o s new c.try_all-did.result) (sym (ap (last_cut_at (P.holds p) s.sets) is))
+    c.try_all-did.ensures.prune in (done.ends, done.untouched)))

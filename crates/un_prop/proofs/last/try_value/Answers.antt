@@ -13,7 +13,8 @@ returns-then-test-clause-goes g c =
     let v = c.args.v in
     let t = g.P.Predicate.holds c.args.p.now (set c.args.fixed.now v.0 c.args.y) in
     goes_same w.vars.now (cut_by (λ z. not (nat_eq z c.args.y) || t) v.0) w.store.now c.args.before
-    (λ live. cut_all (λ z. not (nat_eq z c.args.y) || t) v.0 w.store.now.sets c.requires.there live (λ y there. passes_tested (not (nat_eq y c.args.y)) t (sym c.if-test.ensures)))
+    (λ live. cut_all (λ z. not (nat_eq z c.args.y) || t) v.0 w.store.now.sets c.requires.there live
+    (λ y there. passes_tested (not (nat_eq y c.args.y)) t (sym c.if-test.ensures)))
 
 pub returns-clause-goes : goal.returns-clause-goes
 returns-clause-goes g c =
@@ -24,9 +25,12 @@ returns-clause-goes g c =
     let new = c.drop_value.new.self.store.now in
     let q = λ (z : ℕ). not (nat_eq z c.args.y) in
     goes_by w.vars.now (cut_by (λ z. not (nat_eq z c.args.y) || t) v.0) (cut_by q v.0) old new c.args.before c.joined.result
-    (λ live. cut_same (λ z. not (nat_eq z c.args.y) || t) q v.0 old.sets (λ y there. dropped_tested (not (nat_eq y c.args.y)) t (sym c.if-test.ensures)))
-    (subst (λ (a : Pruned). Goes w.vars.now (cut_by q v.0) old new c.args.before a) (sym (c.joined.ensures ∙ ap (join c.args.before) c.answer-did.ensures))
-    (goes_then w.vars.now (cut_by q v.0) old new c.args.before (answer_of c.drop_value.result) (λ e. let h = rw e at c.if-eq.ensures in cc h) (λ live. (
+    (λ live. cut_same (λ z. not (nat_eq z c.args.y) || t) q v.0 old.sets
+    (λ y there. dropped_tested (not (nat_eq y c.args.y)) t (sym c.if-test.ensures)))
+    (subst (λ (a : Pruned). Goes w.vars.now (cut_by q v.0) old new c.args.before a)
+    (sym (c.joined.ensures ∙ ap (join c.args.before) c.answer-did.ensures))
+    (goes_then w.vars.now (cut_by q v.0) old new c.args.before (answer_of c.drop_value.result)
+    (λ e. let h = rw e at c.if-eq.ensures in cc h) (λ live. (
       cut_ends q v.0 old new c.requires.there live c.drop_value.result c.drop_value.ensures.cut,
       cut_untouched q v.0 old new c.requires.there live w.vars.now v c.drop_value.result refl c.requires.lent c.drop_value.ensures.cut,
     ))))

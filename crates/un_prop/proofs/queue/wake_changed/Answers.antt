@@ -10,7 +10,11 @@ use Rattle.un_prop.proofs.queue.wake_changed.Goals.{then-size-sizes, else-size-s
 pub wake-requires : goal.wake-requires
 wake-requires c i h =
     let at = (get_or c.args.vars.now c.loop-v.v-index (record { 0 = 0 })).0 in
-    let there : at < length c.args.table.now = omega (arith, c.requires.known c.loop-v.v-index (record { 0 = 0 }) c.loop-v-test.true, c.requires.table) in
+    let there : at < length c.args.table.now = omega (
+      arith,
+      c.requires.known c.loop-v.v-index (record { 0 = 0 }) c.loop-v-test.true,
+      c.requires.table,
+    ) in
     let row = row_at c.args.table.now at c.index-table-at.result there c.index-table-at.is in
     let here = c.requires.within at i (subst (λ xs. has xs i ≡ true) (c.as_slice.ensures ∙ row) h) in
     omega (arith, here, c.loop-v.invariant.flags)
@@ -21,26 +25,32 @@ loop-v-preserved c =
     let vars = c.args.vars.now in
     let at = (get_or vars k (record { 0 = 0 })).0 in
     let known : at < length c.args.store.now.sets = c.requires.known k (record { 0 = 0 }) c.loop-v-test.true in
-    let is : (d : VarId) → (get_or vars k d).0 ≡ at = λ d. (let e = get_or_default vars k d (record { 0 = 0 }) c.loop-v-test.true in subst (λ (v : VarId). (get_or vars k d).0 ≡ v.0) e refl) in
+    let is : (d : VarId) → (get_or vars k d).0 ≡ at = λ d. (let e = get_or_default vars k d (record { 0 = 0 }) c.loop-v-test.true in
+    subst (λ (v : VarId). (get_or vars k d).0 ≡ v.0) e refl) in
     let inv = c.loop-v.invariant in
     let within : at < length c.loop-v.sizes = omega (arith, known, inv.long, c.requires.sizes) in
     elim c.if-size-sizes.branch [
       | then-size-sizes w ↦ (
           let there : at < length c.args.table.now = omega (arith, known, c.requires.table) in
           let row = row_at c.args.table.now at w.index-table-at.result there w.index-table-at.is in
-          let all : AllWait c.args.table.now w.wake.new.waiting at = λ i h. w.wake.ensures.there i (subst (λ xs. has xs i ≡ true) (sym (w.as_slice.ensures ∙ row)) h) in
+          let all : AllWait c.args.table.now w.wake.new.waiting at =
+          λ i h. w.wake.ensures.there i (subst (λ xs. has xs i ≡ true) (sym (w.as_slice.ensures ∙ row)) h) in
           rw (w.sizes-is, w.waiting-is) (record {
             long = length-set c.loop-v.sizes at _ ∙ inv.long;
             flags = w.wake.ensures.flags ∙ inv.flags;
-            noted = noted_then vars c.args.store.now.sets c.loop-v.sizes k at c.size-size.result c.loop-v-test.true is within c.size-size.ensures inv.noted;
-            others = λ u other. get_or-set_other c.loop-v.sizes at u c.size-size.result 0 (other k (record { 0 = 0 }) c.loop-v-test.true) ∙ inv.others u other;
-            woken = woken_then c.args.table.now c.args.sizes.now c.loop-v.sizes c.loop-v.waiting w.wake.new.waiting at c.size-size.result all w.wake.ensures.grows inv.woken;
+            noted = noted_then vars c.args.store.now.sets c.loop-v.sizes k at c.size-size.result c.loop-v-test.true is within
+                c.size-size.ensures inv.noted;
+            others = λ u other. get_or-set_other c.loop-v.sizes at u c.size-size.result 0 (other k (record { 0 = 0 }) c.loop-v-test.true)
+                ∙ inv.others u other;
+            woken = woken_then c.args.table.now c.args.sizes.now c.loop-v.sizes c.loop-v.waiting w.wake.new.waiting at c.size-size.result
+                all w.wake.ensures.grows inv.woken;
             grows = λ i h. w.wake.ensures.grows i (inv.grows i h);
           }))
       | else-size-sizes w ↦ rw (w.sizes-is, w.waiting-is) (record {
         long = inv.long;
         flags = inv.flags;
-        noted = noted_else vars c.args.store.now.sets c.loop-v.sizes k at c.size-size.result c.loop-v-test.true is within c.size-size.ensures inv.noted w.if-size-sizes.false;
+        noted = noted_else vars c.args.store.now.sets c.loop-v.sizes k at c.size-size.result c.loop-v-test.true is within
+            c.size-size.ensures inv.noted w.if-size-sizes.false;
         others = inv.others;
         woken = inv.woken;
         grows = inv.grows;

@@ -6,6 +6,8 @@ returns g c s x k known single some =
     let P = g.P.Propagator in
     let m = g.met.P.Propagator in
     let p = c.args.p.now in (
-      λ none. single_holds (g.P.Predicate.scope p) (g.P.Predicate.holds p) (P.cut p) (P.parts p) (m.whole p) (m.forward p) (m.lawful p) (m.keeps p) s x k single none,
-      λ fails. single_fails (g.P.Predicate.scope p) (g.P.Predicate.holds p) (P.cut p) (P.parts p) (m.whole p) (m.forward p) (m.lawful p) (m.keeps p) s x k single some known fails,
+      λ none. single_holds (g.P.Predicate.scope p) (g.P.Predicate.holds p) (P.cut p) (P.parts p) (m.whole p) (m.forward p) (m.lawful p)
+          (m.keeps p) s x k single none,
+      λ fails. single_fails (g.P.Predicate.scope p) (g.P.Predicate.holds p) (P.cut p) (P.parts p) (m.whole p) (m.forward p) (m.lawful p)
+          (m.keeps p) s x k single some known fails,
     )

@@ -18,7 +18,8 @@ prune-requires-clause-room g c =
     let inv = c.loop-p.invariant in
     let p = c.p-item.result in
     room_kept _ _ _ c.args.scratch.now c.loop-p.scratch inv.so_far.below.long inv.fixed inv.cycles
-    (subst (λ q. HasRoom (length c.args.store.now.sets) (g.P.Propagator.span q) c.args.scratch.now) (sym c.p-item.is) (c.requires.room c.loop-p.p-index p c.loop-p-test.true))
+    (subst (λ q. HasRoom (length c.args.store.now.sets) (g.P.Propagator.span q) c.args.scratch.now) (sym c.p-item.is)
+    (c.requires.room c.loop-p.p-index p c.loop-p-test.true))
 
 pub loop-p-preserved : goal.loop-p-preserved
 loop-p-preserved g c =
@@ -29,10 +30,14 @@ loop-p-preserved g c =
     c.requires.known c.loop-p-test.true c.p-item.is sofar.below.long in
     record {
       so_far = elim c.match-prune.branch [
-        | in-Same w ↦ rw w.changed-is (goes_same P.Predicate.scope P.Propagator.cut g.met.P.Propagator.lawful c.args.props.now c.args.store.now
-            c.loop-p.p-index c.p-item.result c.loop-p.store c.prune.new.store c.loop-p.changed sofar known c.loop-p-test.true c.p-item.is w.in-Same.ensures.prune)
-        | in-Tighter w ↦ rw w.changed-is (goes_tighter P.Predicate.scope P.Propagator.cut g.met.P.Propagator.lawful c.args.props.now c.args.store.now
-            c.loop-p.p-index c.p-item.result c.loop-p.store c.prune.new.store c.loop-p.changed sofar known c.loop-p-test.true c.p-item.is w.in-Tighter.ensures.prune)
+        | in-Same w ↦ rw w.changed-is (goes_same P.Predicate.scope P.Propagator.cut g.met.P.Propagator.lawful c.args.props.now
+            c.args.store.now
+            c.loop-p.p-index c.p-item.result c.loop-p.store c.prune.new.store c.loop-p.changed sofar known c.loop-p-test.true c.p-item.is
+            w.in-Same.ensures.prune)
+        | in-Tighter w ↦ rw w.changed-is (goes_tighter P.Predicate.scope P.Propagator.cut g.met.P.Propagator.lawful c.args.props.now
+            c.args.store.now
+            c.loop-p.p-index c.p-item.result c.loop-p.store c.prune.new.store c.loop-p.changed sofar known c.loop-p-test.true c.p-item.is
+            w.in-Tighter.ensures.prune)
       ];
       fixed = c.prune.ensures.fixed ∙ inv.fixed;
       cycles = c.prune.ensures.cycles ∙ inv.cycles;

@@ -19,7 +19,8 @@ returns-clause-step c =
     let v = c.args.v in
     let there = in_list w.vars.now v c.requires.lent in
     stepped_then w.vars.now (cut_by q v.0) old new c.args.before (answer_of c.drop_value.result) c.joined.result c.requires.going
-    (c.joined.ensures ∙ ap (join c.args.before) c.answer-did.ensures) (ap length c.drop_value.ensures.cut.sets ∙ length-set _ _ _) (λ live. (
+    (c.joined.ensures ∙ ap (join c.args.before) c.answer-did.ensures) (ap length c.drop_value.ensures.cut.sets ∙ length-set _ _ _)
+    (λ live. (
       cut_ends q v.0 old new c.requires.there live c.drop_value.result c.drop_value.ensures.cut,
       cut_untouched q v.0 old new c.requires.there live w.vars.now v c.drop_value.result refl there c.drop_value.ensures.cut,
     ))

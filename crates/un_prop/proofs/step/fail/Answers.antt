@@ -11,7 +11,8 @@ use Rattle.un_prop.proofs.step.fail.Goals as goal
 pub keep_le-requires-clause-there : goal.keep_le-requires-clause-there
 keep_le-requires-clause-there c =
     let w = c.args.w.now in
-    has_var w.vars.now c.in-Some.v.now w.store.now.sets (first_is (λ s y. false) w.vars.now c.in-Some.v.now w.store.now.sets c.in-Some.ensures.value).1 c.requires.known
+    has_var w.vars.now c.in-Some.v.now w.store.now.sets (first_is (λ s y. false) w.vars.now c.in-Some.v.now w.store.now.sets
+    c.in-Some.ensures.value).1 c.requires.known
 
 pub keep_le-requires-clause-lent : goal.keep_le-requires-clause-lent
 keep_le-requires-clause-lent c =
@@ -38,4 +39,5 @@ returns-in-Some-clause-step c =
 pub returns-in-None-clause-step : goal.returns-in-None-clause-step
 returns-in-None-clause-step c =
     let w = c.args.w.now in
-    stepped_same w.vars.now (fail_cut w.vars.now) w.store.now c.args.before (λ live. first_none (λ s y. false) w.vars.now w.store.now.sets c.in-None.ensures.value)
+    stepped_same w.vars.now (fail_cut w.vars.now) w.store.now c.args.before
+    (λ live. first_none (λ s y. false) w.vars.now w.store.now.sets c.in-None.ensures.value)

@@ -1,4 +1,4 @@
-use Rattle.std.proofs.Common.{ℕ, List, ◌≡◌, ◌≢◌, ◌∙◌, All, get_or, sym, ap, subst, arith}
+use Rattle.std.proofs.Common.{List, ◌≡◌, ◌≢◌, ◌∙◌, All, get_or, sym, ap, subst, arith}
 use Rattle.un_base.specs.declared.ids.VarId.{VarId}
 use Rattle.un_domains.specs.Sets.{set_at, least}
 use Rattle.un_prop.specs.Going.{Stepped}
@@ -11,13 +11,15 @@ use Rattle.un_rect.proofs.Rows.{rows_next}
 use Rattle.un_rect.proofs.checks.check_all.Goals as goal
 
 pub check_row-did-requires-clause-of_temps : goal.check_row-did-requires-clause-of_temps
-check_row-did-requires-clause-of_temps c = subst (λ (us : List VarId). All (TempVars us) c.args.temps.now) (sym (ap (λ r. r.now) c.loop-j.invariant.vars)) c.requires.of_temps
+check_row-did-requires-clause-of_temps c = subst (λ (us : List VarId). All (TempVars us) c.args.temps.now)
+    (sym (ap (λ r. r.now) c.loop-j.invariant.vars)) c.requires.of_temps
 
 pub check_row-did-requires-clause-of_b : goal.check_row-did-requires-clause-of_b
 check_row-did-requires-clause-of_b c =
     let j = c.loop-j.j in
     subst (λ (us : List VarId). TempVars us c.index-temps-j.result) (sym (ap (λ r. r.now) c.loop-j.invariant.vars))
-    (subst (λ (a : Temp). TempVars c.args.w.now.vars.now a) (sym c.index-temps-j.is) (c.requires.of_temps j c.index-temps-j.result (omega (arith, c.loop-j-test.true, c.loop-j.auto.j-end))))
+    (subst (λ (a : Temp). TempVars c.args.w.now.vars.now a) (sym c.index-temps-j.is) (c.requires.of_temps j c.index-temps-j.result
+    (omega (arith, c.loop-j-test.true, c.loop-j.auto.j-end))))
 
 pub loop-j-preserved : goal.loop-j-preserved
 loop-j-preserved c =
@@ -27,10 +29,13 @@ loop-j-preserved c =
     let vs = c.args.w.now.vars.now in
     let us = c.loop-j.w.vars.now in
     record {
-      step = rows_next (check_pair vs) c.args.temps.now c.index-temps-j.result c.loop-j.j vs us c.args.w.now.store.now c.loop-j.w.store.now did.new.w.store.now
+      step = rows_next (check_pair vs) c.args.temps.now c.index-temps-j.result c.loop-j.j vs us c.args.w.now.store.now c.loop-j.w.store.now
+          did.new.w.store.now
           c.args.before c.loop-j.did did.result e c.index-temps-j.is (omega (arith, c.loop-j-test.true, c.loop-j.auto.j-end)) inv.step
-          (subst (λ (ws : List VarId). Stepped us (each_before (check_pair ws) c.args.temps.now c.index-temps-j.result c.loop-j.j) c.loop-j.w.store.now did.new.w.store.now c.loop-j.did did.result) e did.ensures.step);
-      written = subst (λ (ws : List VarId). did.result ≢ Failed → All (λ u. get_or did.new.fixed u.0 0 ≡ least (set_at did.new.w.store.now.sets u.0)) ws) e did.ensures.written;
+          (subst (λ (ws : List VarId). Stepped us (each_before (check_pair ws) c.args.temps.now c.index-temps-j.result c.loop-j.j)
+          c.loop-j.w.store.now did.new.w.store.now c.loop-j.did did.result) e did.ensures.step);
+      written = subst (λ (ws : List VarId). did.result ≢ Failed
+          → All (λ u. get_or did.new.fixed u.0 0 ≡ least (set_at did.new.w.store.now.sets u.0)) ws) e did.ensures.written;
       same_reference = did.ensures.same_reference ∙ inv.same_reference;
       vars = did.ensures.vars ∙ inv.vars;
     }

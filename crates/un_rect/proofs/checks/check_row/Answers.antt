@@ -1,4 +1,4 @@
-use Rattle.std.proofs.Common.{ℕ, List, ◌≡◌, ◌≢◌, ◌∙◌, All, get_or, sym, ap, subst, arith}
+use Rattle.std.proofs.Common.{List, ◌≡◌, ◌≢◌, ◌∙◌, All, get_or, sym, ap, subst, arith}
 use Rattle.std.proofs.lemmas.List.Elements.{recursion_from_All}
 use Rattle.un_base.specs.declared.ids.VarId.{VarId}
 use Rattle.un_domains.specs.Sets.{set_at, least}
@@ -20,14 +20,16 @@ returns-then-is_idle-clause-step c =
     let temps = c.args.temps.now in
     let b = c.args.b.now in
     stepped_same vs (each_before (check_pair vs) temps b c.args.n) s c.args.before
-    (λ live. checks_idle vs temps b s.sets c.requires.ascend (recursion_from_All (TempVars vs) temps c.requires.of_temps) c.requires.of_b c.requires.known live
+    (λ live. checks_idle vs temps b s.sets c.requires.ascend (recursion_from_All (TempVars vs) temps c.requires.of_temps) c.requires.of_b
+    c.requires.known live
     (sym c.is_idle.ensures ∙ c.if-is_idle.true) c.args.n)
 
 pub check-did-requires-clause-of_a : goal.check-did-requires-clause-of_a
 check-did-requires-clause-of_a c =
     let i = c.loop-i.i in
     subst (λ (us : List VarId). TempVars us c.index-temps-i.result) (sym (ap (λ r. r.now) c.loop-i.invariant.vars))
-    (subst (λ (a : Temp). TempVars c.args.w.now.vars.now a) (sym c.index-temps-i.is) (c.requires.of_temps i c.index-temps-i.result (omega (arith, c.loop-i-test.true, c.loop-i.auto.i-end, c.requires.few))))
+    (subst (λ (a : Temp). TempVars c.args.w.now.vars.now a) (sym c.index-temps-i.is) (c.requires.of_temps i c.index-temps-i.result
+    (omega (arith, c.loop-i-test.true, c.loop-i.auto.i-end, c.requires.few))))
 
 pub loop-i-preserved : goal.loop-i-preserved
 loop-i-preserved c =
@@ -37,10 +39,14 @@ loop-i-preserved c =
     let vs = c.args.w.now.vars.now in
     let us = c.loop-i.w.vars.now in
     record {
-      step = row_next (check_pair vs) c.args.temps.now c.index-temps-i.result c.args.b.now c.loop-i.i vs us c.args.w.now.store.now c.loop-i.w.store.now did.new.w.store.now
-          c.args.before c.loop-i.did did.result e c.index-temps-i.is (omega (arith, c.loop-i-test.true, c.loop-i.auto.i-end, c.requires.few)) inv.step
-          (subst (λ (ws : List VarId). Stepped us (check_pair ws c.index-temps-i.result c.args.b.now) c.loop-i.w.store.now did.new.w.store.now c.loop-i.did did.result) e did.ensures.step);
-      written = subst (λ (ws : List VarId). did.result ≢ Failed → All (λ u. get_or did.new.fixed u.0 0 ≡ least (set_at did.new.w.store.now.sets u.0)) ws) e did.ensures.written;
+      step = row_next (check_pair vs) c.args.temps.now c.index-temps-i.result c.args.b.now c.loop-i.i vs us c.args.w.now.store.now
+          c.loop-i.w.store.now did.new.w.store.now
+          c.args.before c.loop-i.did did.result e c.index-temps-i.is
+          (omega (arith, c.loop-i-test.true, c.loop-i.auto.i-end, c.requires.few)) inv.step
+          (subst (λ (ws : List VarId). Stepped us (check_pair ws c.index-temps-i.result c.args.b.now) c.loop-i.w.store.now
+          did.new.w.store.now c.loop-i.did did.result) e did.ensures.step);
+      written = subst (λ (ws : List VarId). did.result ≢ Failed
+          → All (λ u. get_or did.new.fixed u.0 0 ≡ least (set_at did.new.w.store.now.sets u.0)) ws) e did.ensures.written;
       same_reference = did.ensures.same_reference ∙ inv.same_reference;
       vars = did.ensures.vars ∙ inv.vars;
     }

@@ -9,7 +9,8 @@ use Rattle.un_rect.proofs.checks.check_row.Given as goal
 
 abbrev pub invariant-loop-i : goal.invariant-loop-i
 invariant-loop-i l = record {
-  step : Stepped l.fn.w.vars.now (each_before (check_pair l.fn.w.vars.now) l.temps l.b l.i) l.fn.w.store.now l.w.store.now l.fn.before l.did;
+  step : Stepped l.fn.w.vars.now (each_before (check_pair l.fn.w.vars.now) l.temps l.b l.i) l.fn.w.store.now l.w.store.now l.fn.before
+      l.did;
   written : l.did ≢ Failed → All (λ u. get_or l.fixed u.0 0 ≡ least (set_at l.w.store.now.sets u.0)) l.fn.w.vars.now;
   same_reference : l.w.store.ghost_name ≡ l.fn.w.store.ghost_name;
   vars : l.w.vars ≡ l.fn.w.vars;

@@ -1,4 +1,4 @@
-use Rattle.std.proofs.Common.{ℕ, rules, ◌≡◌, ◌≢◌, ◌<◌, ◌∙◌, length, set, refl, sym, ap, arith}
+use Rattle.std.proofs.Common.{rules, ◌≡◌, ◌∙◌, set, sym, ap, arith}
 use Rattle.un_domains.specs.Sets.{NoneEmpty, cut_by}
 use Rattle.un_prop.specs.AmongLaws.{has_among}
 use Rattle.un_prop.specs.GoingLaws.{join_failed}
@@ -15,7 +15,8 @@ returns-then-eq-clause-step c =
     let v = c.args.v in
     let did = c.try_all-did in
     let failed : did.result ≡ Failed = search rules in
-    step_after c.args.w.now.vars.now (cut_by (λ y. pair_holds c.args.a.now c.args.b.now (set (point s.sets) v.0 y)) v.0) s did.new.w.store.now c.args.before did.result Failed
+    step_after c.args.w.now.vars.now (cut_by (λ y. pair_holds c.args.a.now c.args.b.now (set (point s.sets) v.0 y)) v.0) s
+    did.new.w.store.now c.args.before did.result Failed
     c.requires.going (sym (ap (join c.args.before) failed ∙ join_failed c.args.before)) did.ensures.step
 
 pub min-requires-clause-there : goal.min-requires-clause-there
@@ -26,7 +27,8 @@ min-requires-clause-there c =
 pub min-requires-clause-some : goal.min-requires-clause-some
 min-requires-clause-some c =
     let within = has_among c.args.w.now.vars.now c.args.v c.args.w.now.store.now.sets c.requires.lent c.requires.known in
-    let full : NoneEmpty c.try_all-did.new.w.store.now.sets = c.try_all-did.ensures.step.live (λ ne. c.requires.live) (λ e. let h = rw e at c.if-eq.ensures in cc h) in
+    let full : NoneEmpty c.try_all-did.new.w.store.now.sets = c.try_all-did.ensures.step.live (λ ne. c.requires.live)
+    (λ e. let h = rw e at c.if-eq.ensures in cc h) in
     full c.args.v.0 (omega (arith, within, c.try_all-did.ensures.step.long))
 
 pub bounds-fixed-v : goal.bounds-fixed-v
@@ -39,7 +41,8 @@ returns-clause-step c =
     let s = c.args.w.now.store.now in
     let v = c.args.v in
     let did = c.try_all-did in
-    step_after c.args.w.now.vars.now (cut_by (λ y. pair_holds c.args.a.now c.args.b.now (set (point s.sets) v.0 y)) v.0) s did.new.w.store.now c.args.before did.result c.joined.result
+    step_after c.args.w.now.vars.now (cut_by (λ y. pair_holds c.args.a.now c.args.b.now (set (point s.sets) v.0 y)) v.0) s
+    did.new.w.store.now c.args.before did.result c.joined.result
     c.requires.going c.joined.ensures did.ensures.step
 
 pub returns-clause-written : goal.returns-clause-written
@@ -48,7 +51,9 @@ returns-clause-written c still =
     let v = c.args.v in
     let did = c.try_all-did in
     let within = has_among c.args.w.now.vars.now v s.sets c.requires.lent c.requires.known in
-    written_after c.args.w.now.vars.now v.0 s.sets did.new.w.store.now.sets c.args.fixed.now did.new.fixed c.min.result c.requires.written did.ensures.others
-    (step_outside c.args.w.now.vars.now (λ y. pair_holds c.args.a.now c.args.b.now (set (point s.sets) v.0 y)) v.0 s did.new.w.store.now did.result c.requires.live did.ensures.step
+    written_after c.args.w.now.vars.now v.0 s.sets did.new.w.store.now.sets c.args.fixed.now did.new.fixed c.min.result c.requires.written
+    did.ensures.others
+    (step_outside c.args.w.now.vars.now (λ y. pair_holds c.args.a.now c.args.b.now (set (point s.sets) v.0 y)) v.0 s did.new.w.store.now
+    did.result c.requires.live did.ensures.step
     (λ e. let h = rw e at c.if-eq.ensures in cc h))
     (omega (arith, within, c.requires.room, did.auto.fixed)) c.min.ensures

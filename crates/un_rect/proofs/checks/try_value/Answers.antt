@@ -35,7 +35,8 @@ returns-clause-step c =
     let v = c.args.v in
     let t = pair_holds c.args.a.now c.args.b.now (set c.args.fixed.now v.0 c.args.y) in
     let q = λ (z : ℕ). not (nat_eq z c.args.y) in
-    stepped_by c.args.w.now.vars.now (cut_by (λ z. not (nat_eq z c.args.y) || t) v.0) (cut_by q v.0) s c.drop_value.new.w.store.now c.args.before c.drop_value.result
+    stepped_by c.args.w.now.vars.now (cut_by (λ z. not (nat_eq z c.args.y) || t) v.0) (cut_by q v.0) s c.drop_value.new.w.store.now
+    c.args.before c.drop_value.result
     (λ live. cut_same (λ z. not (nat_eq z c.args.y) || t) q v.0 s.sets
     (λ z there. dropped_tested (not (nat_eq z c.args.y)) t (sym c.are_apart.ensures ∙ c.if-are_apart.false)))
     c.drop_value.ensures.step

@@ -1,6 +1,4 @@
-use Rattle.std.proofs.Common.{◌∙◌, sym}
 use Rattle.un_prop.specs.AmongLaws.{has_among}
-use Rattle.un_rect.proofs.ClashLaws.{clash_many, clash_lost, clash_free, clash_goes}
 use Rattle.un_rect.proofs.clashes.clash.Goals as goal
 
 pub is_single-requires : goal.is_single-requires

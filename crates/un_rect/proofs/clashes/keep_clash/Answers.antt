@@ -7,7 +7,8 @@ use Rattle.un_rect.specs.Apart.{clash_test, clash_cut}
 use Rattle.un_rect.proofs.clashes.keep_clash.Goals as goal
 
 pub drop_value-requires-clause-there : goal.drop_value-requires-clause-there
-drop_value-requires-clause-there c = has_among c.args.w.now.vars.now c.args.b.now.reg c.args.w.now.store.now.sets c.requires.of_b.of_reg c.requires.known
+drop_value-requires-clause-there c = has_among c.args.w.now.vars.now c.args.b.now.reg c.args.w.now.store.now.sets c.requires.of_b.of_reg
+    c.requires.known
 
 pub drop_value-requires-clause-some : goal.drop_value-requires-clause-some
 drop_value-requires-clause-some c = c.requires.live (λ e. let h = rw e at c.if-eq.ensures in cc h) c.args.b.now.reg.0
@@ -19,7 +20,8 @@ returns-in-None-clause-step c =
     let a = c.args.a.now in
     let b = c.args.b.now in
     stepped_same c.args.w.now.vars.now (clash_cut a b) s c.args.before
-    (λ live. cut_all (clash_test a b s.sets) b.reg.0 s.sets (has_among c.args.w.now.vars.now b.reg s.sets c.requires.of_b.of_reg c.requires.known) live c.in-None.ensures)
+    (λ live. cut_all (clash_test a b s.sets) b.reg.0 s.sets (has_among c.args.w.now.vars.now b.reg s.sets c.requires.of_b.of_reg
+    c.requires.known) live c.in-None.ensures)
 
 pub returns-in-Some-clause-step : goal.returns-in-Some-clause-step
 returns-in-Some-clause-step c =

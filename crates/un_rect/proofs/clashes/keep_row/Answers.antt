@@ -13,7 +13,8 @@ use Rattle.un_rect.proofs.Rows.{row_next}
 use Rattle.un_rect.proofs.clashes.keep_row.Goals as goal
 
 pub is_sure-requires : goal.is_sure-requires
-is_sure-requires c = known_of c.args.w.now.vars.now (act_vars c.args.b.now.on) c.args.w.now.store.now.sets c.requires.of_b.of_on c.requires.known
+is_sure-requires c = known_of c.args.w.now.vars.now (act_vars c.args.b.now.on) c.args.w.now.store.now.sets c.requires.of_b.of_on
+    c.requires.known
 
 pub returns-then-not-is_sure-clause-step : goal.returns-then-not-is_sure-clause-step
 returns-then-not-is_sure-clause-step c =
@@ -22,13 +23,15 @@ returns-then-not-is_sure-clause-step c =
     let temps = c.args.temps.now in
     let b = c.args.b.now in
     stepped_same vs (each_before clash_pair temps b c.args.n) s c.args.before
-    (λ live. row_idle vs temps b s.sets (recursion_from_All (TempVars vs) temps c.requires.of_temps) c.requires.of_b c.requires.known live (sym c.is_sure.ensures ∙ c.if-not-is_sure.true) c.args.n)
+    (λ live. row_idle vs temps b s.sets (recursion_from_All (TempVars vs) temps c.requires.of_temps) c.requires.of_b c.requires.known live
+    (sym c.is_sure.ensures ∙ c.if-not-is_sure.true) c.args.n)
 
 pub keep_clashes-did-requires-clause-of_a : goal.keep_clashes-did-requires-clause-of_a
 keep_clashes-did-requires-clause-of_a c =
     let i = c.loop-i.i in
     subst (λ (us : List VarId). TempVars us c.index-temps-i.result) (sym (ap (λ r. r.now) c.loop-i.invariant.vars))
-    (subst (λ (a : Temp). TempVars c.args.w.now.vars.now a) (sym c.index-temps-i.is) (c.requires.of_temps i c.index-temps-i.result (omega (arith, c.loop-i-test.true, c.loop-i.auto.i-end, c.requires.few))))
+    (subst (λ (a : Temp). TempVars c.args.w.now.vars.now a) (sym c.index-temps-i.is) (c.requires.of_temps i c.index-temps-i.result
+    (omega (arith, c.loop-i-test.true, c.loop-i.auto.i-end, c.requires.few))))
 
 pub loop-i-preserved : goal.loop-i-preserved
 loop-i-preserved c =
@@ -36,8 +39,10 @@ loop-i-preserved c =
     let did = c.keep_clashes-did in
     let e = ap (λ r. r.now) inv.vars in
     record {
-      step = row_next clash_pair c.args.temps.now c.index-temps-i.result c.args.b.now c.loop-i.i c.args.w.now.vars.now c.loop-i.w.vars.now c.args.w.now.store.now c.loop-i.w.store.now did.new.w.store.now
-          c.args.before c.loop-i.did did.result e c.index-temps-i.is (omega (arith, c.loop-i-test.true, c.loop-i.auto.i-end, c.requires.few)) inv.step did.ensures.step;
+      step = row_next clash_pair c.args.temps.now c.index-temps-i.result c.args.b.now c.loop-i.i c.args.w.now.vars.now c.loop-i.w.vars.now
+          c.args.w.now.store.now c.loop-i.w.store.now did.new.w.store.now
+          c.args.before c.loop-i.did did.result e c.index-temps-i.is
+          (omega (arith, c.loop-i-test.true, c.loop-i.auto.i-end, c.requires.few)) inv.step did.ensures.step;
       same_reference = did.ensures.same_reference ∙ inv.same_reference;
       vars = did.ensures.vars ∙ inv.vars;
     }

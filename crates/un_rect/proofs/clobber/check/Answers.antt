@@ -1,8 +1,8 @@
-use Rattle.std.proofs.Common.{List, ◌≡◌, ◌≢◌, ◌∙◌, Some, sym, ap, subst}
+use Rattle.std.proofs.Common.{sym, subst}
 use Rattle.std.specs.declared.option.Option.{Option}
 use Rattle.un_domains.specs.Sets.{Sets}
 use Rattle.un_prop.specs.AmongLaws.{in_list}
-use Rattle.un_prop.specs.GoingLaws.{stepped_then, stepped_same}
+use Rattle.un_prop.specs.GoingLaws.{stepped_then}
 use Rattle.un_prop.specs.Pruning.{IsPrune}
 use Rattle.un_rect.specs.Clobber.{check_call}
 use Rattle.un_rect.proofs.clobber.check.Goals as goal
@@ -19,5 +19,6 @@ returns-in-Some-clause-step c =
     let new = did.new.w.store.now in
     let f = check_call p.vars.now p.mask p.temp.now p.call.now in
     let done = subst (λ (o : Option Sets). IsPrune vs o s new did.result) (sym c.in-Some.ensures.1) did.ensures.prune in
-    stepped_then vs f s new c.args.before did.result c.joined.result (λ e. let h = rw e at c.if-eq.ensures in cc h) c.joined.ensures done.untouched.long
+    stepped_then vs f s new c.args.before did.result c.joined.result (λ e. let h = rw e at c.if-eq.ensures in cc h) c.joined.ensures
+    done.untouched.long
     (λ live. (done.ends, done.untouched))

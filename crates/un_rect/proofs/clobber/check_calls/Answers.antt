@@ -1,4 +1,4 @@
-use Rattle.std.proofs.Common.{ℕ, List, ◌≡◌, ◌<◌, ◌∙◌, length, get_or, sym, ap, subst}
+use Rattle.std.proofs.Common.{List, ◌<◌, ◌∙◌, length, get_or, sym, ap, subst}
 use Rattle.un_base.specs.declared.ids.VarId.{VarId}
 use Rattle.un_prop.specs.Going.{Stepped}
 use Rattle.un_rect.specs.Spans.{TempVars}
@@ -34,10 +34,13 @@ loop-call-preserved c =
     let us = c.loop-call.w.vars.now in
     record {
       step = stepped_entry w.vars.now us (check_call p.vars p.mask p.temp) p.calls k item w.store.now s t
-          c.args.before c.loop-call.did did.result (ap (λ r. r.now) inv.vars) (subst (λ (xs : List ClobberCall). k < length xs) c.as_slice-call-items.ensures c.loop-call-test.true) inv.step
-          (subst (λ (xs : List ClobberCall). Stepped us (check_call p.vars p.mask p.temp (get_or xs k item)) s t c.loop-call.did did.result) c.as_slice-call-items.ensures
+          c.args.before c.loop-call.did did.result (ap (λ r. r.now) inv.vars)
+          (subst (λ (xs : List ClobberCall). k < length xs) c.as_slice-call-items.ensures c.loop-call-test.true) inv.step
+          (subst (λ (xs : List ClobberCall). Stepped us (check_call p.vars p.mask p.temp (get_or xs k item)) s t c.loop-call.did
+          did.result) c.as_slice-call-items.ensures
           (subst (λ (x : ClobberCall). Stepped us (check_call p.vars p.mask p.temp x) s t c.loop-call.did did.result) c.call-item.is
-          (subst (λ (vs : List VarId). Stepped us (check_call vs p.mask p.temp item) s t c.loop-call.did did.result) c.as_slice-vars.ensures did.ensures.step)));
+          (subst (λ (vs : List VarId). Stepped us (check_call vs p.mask p.temp item) s t c.loop-call.did did.result)
+          c.as_slice-vars.ensures did.ensures.step)));
       same_reference = did.ensures.same_reference ∙ inv.same_reference;
       vars = did.ensures.vars ∙ inv.vars;
     }

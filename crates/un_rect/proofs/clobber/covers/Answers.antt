@@ -4,16 +4,21 @@ use Rattle.un_prop.specs.LookLaws.{known_of}
 use Rattle.un_rect.proofs.clobber.covers.Goals as goal
 
 pub greatest_time-requires-clause-known : goal.greatest_time-requires-clause-known
-greatest_time-requires-clause-known c = known_of c.args.w.now.vars.now (at_vars c.args.a.now.at) c.args.w.now.store.now.sets c.requires.of_temp.of_at c.requires.known
+greatest_time-requires-clause-known c = known_of c.args.w.now.vars.now (at_vars c.args.a.now.at) c.args.w.now.store.now.sets
+    c.requires.of_temp.of_at c.requires.known
 
 pub min-requires-clause-there : goal.min-requires-clause-there
-min-requires-clause-there c = has_among c.args.w.now.vars.now c.args.c.now.at c.args.w.now.store.now.sets c.requires.of_call.of_at c.requires.known
+min-requires-clause-there c = has_among c.args.w.now.vars.now c.args.c.now.at c.args.w.now.store.now.sets c.requires.of_call.of_at
+    c.requires.known
 
 pub min-requires-clause-some : goal.min-requires-clause-some
-min-requires-clause-some c = c.requires.live _ (has_among c.args.w.now.vars.now c.args.c.now.at c.args.w.now.store.now.sets c.requires.of_call.of_at c.requires.known)
+min-requires-clause-some c = c.requires.live _ (has_among c.args.w.now.vars.now c.args.c.now.at c.args.w.now.store.now.sets
+    c.requires.of_call.of_at c.requires.known)
 
 pub max-requires-clause-there : goal.max-requires-clause-there
-max-requires-clause-there c = has_among c.args.w.now.vars.now c.args.c.now.at c.args.w.now.store.now.sets c.requires.of_call.of_at c.requires.known
+max-requires-clause-there c = has_among c.args.w.now.vars.now c.args.c.now.at c.args.w.now.store.now.sets c.requires.of_call.of_at
+    c.requires.known
 
 pub max-requires-clause-some : goal.max-requires-clause-some
-max-requires-clause-some c = c.requires.live _ (has_among c.args.w.now.vars.now c.args.c.now.at c.args.w.now.store.now.sets c.requires.of_call.of_at c.requires.known)
+max-requires-clause-some c = c.requires.live _ (has_among c.args.w.now.vars.now c.args.c.now.at c.args.w.now.store.now.sets
+    c.requires.of_call.of_at c.requires.known)

@@ -1,4 +1,4 @@
-use Rattle.std.proofs.Common.{ℕ, List, ◌≡◌, ◌≢◌, ◌∙◌, option_and_then, sym, ap, subst}
+use Rattle.std.proofs.Common.{List, ◌∙◌, option_and_then, ap, subst}
 use Rattle.un_base.specs.declared.ids.VarId.{VarId}
 use Rattle.un_prop.specs.Going.{Stepped}
 use Rattle.un_prop.specs.GoingLaws.{stepped_chain}
@@ -7,7 +7,8 @@ use Rattle.un_rect.specs.Clobber.{hit_cut, off_cut, cycle_cut, reader_cut}
 use Rattle.un_rect.proofs.clobber.keep_call.Goals as goal
 
 pub keep_readers-requires-clause-live : goal.keep_readers-requires-clause-live
-keep_readers-requires-clause-live c = c.keep_cycle-third.ensures.step.live (c.keep_off-second.ensures.step.live (c.keep_register-first.ensures.step.live c.requires.live))
+keep_readers-requires-clause-live c = c.keep_cycle-third.ensures.step.live
+    (c.keep_off-second.ensures.step.live (c.keep_register-first.ensures.step.live c.requires.live))
 
 pub returns-clause-step : goal.returns-clause-step
 returns-clause-step c =
@@ -30,8 +31,11 @@ returns-clause-step c =
     let s4 = four.new.w.store.now in
     let f12 = stepped_chain vs (hit_cut m a call) (off_cut m a call) s s1 s2 c.args.before one.result two.result one.ensures.step
     (subst (λ (us : List VarId). Stepped us (off_cut m a call) s1 s2 one.result two.result) v1 two.ensures.step) in
-    let f123 = stepped_chain vs (λ t. option_and_then (off_cut m a call) (hit_cut m a call t)) (cycle_cut m a call) s s2 s3 c.args.before two.result three.result f12
+    let f123 = stepped_chain vs (λ t. option_and_then (off_cut m a call) (hit_cut m a call t)) (cycle_cut m a call) s s2 s3 c.args.before
+    two.result three.result f12
     (subst (λ (us : List VarId). Stepped us (cycle_cut m a call) s2 s3 two.result three.result) v2 three.ensures.step) in
-    stepped_chain vs (λ t. option_and_then (cycle_cut m a call) (option_and_then (off_cut m a call) (hit_cut m a call t))) (each_entry (reader_cut m a call) call.behind) s s3 s4
+    stepped_chain vs (λ t. option_and_then (cycle_cut m a call) (option_and_then (off_cut m a call) (hit_cut m a call t)))
+    (each_entry (reader_cut m a call) call.behind) s s3 s4
     c.args.before three.result four.result f123
-    (subst (λ (us : List VarId). Stepped us (each_entry (reader_cut m a call) call.behind) s3 s4 three.result four.result) v3 four.ensures.step)
+    (subst (λ (us : List VarId). Stepped us (each_entry (reader_cut m a call) call.behind) s3 s4 three.result four.result) v3
+    four.ensures.step)

@@ -1,8 +1,8 @@
-use Rattle.std.proofs.Common.{ℕ, List, ◌≡◌, ◌≢◌, ◌<◌, ◌∙◌, Bool, true, not, ◌&&◌, length, nat_eq, Some, sym, ap, subst, arith}
+use Rattle.std.proofs.Common.{◌∙◌, not, ◌&&◌, nat_eq, sym, subst, arith}
 use Rattle.std.specs.declared.option.Option.{Option}
 use Rattle.un_base.specs.declared.ids.VarId.{VarId}
 use Rattle.un_domains.specs.Sets.{cut_by}
-use Rattle.un_prop.specs.Among.{among, AllAmong}
+use Rattle.un_prop.specs.Among.{AllAmong}
 use Rattle.un_prop.specs.Looks.{sure}
 use Rattle.un_prop.specs.LookLaws.{both}
 use Rattle.un_prop.specs.LastLaws.{cut_same}
@@ -20,18 +20,22 @@ returns-then-not-c-clause-step c =
     let u = c.args.u.now in
     let rest = (sure a.on s.sets && sure u.on s.sets) && not (may_survive c.args.mask a s.sets) in
     stepped_same w.vars.now (reader_cut c.args.mask a c.args.c.now u) s c.args.before
-    (λ live. choice_same w.vars.now (reader_test c.args.mask a c.args.c.now u) u.choice s.sets c.requires.of_user.of_choice c.requires.known live
+    (λ live. choice_same w.vars.now (reader_test c.args.mask a c.args.c.now u) u.choice s.sets c.requires.of_user.of_choice
+    c.requires.known live
     (λ y. passes_unmet _ (no_right (nat_eq y u.value) _ (no_left c.args.c.now.before rest c.if-not-c.true))))
 
 pub drop_value-requires-clause-there : goal.drop_value-requires-clause-there
-drop_value-requires-clause-there c = in_choice c.args.w.now.vars.now c.args.u.now.choice c.in-Some.v c.args.w.now.store.now.sets c.in-Some.is c.requires.of_user.of_choice c.requires.known
+drop_value-requires-clause-there c = in_choice c.args.w.now.vars.now c.args.u.now.choice c.in-Some.v c.args.w.now.store.now.sets
+    c.in-Some.is c.requires.of_user.of_choice c.requires.known
 
 pub drop_value-requires-clause-some : goal.drop_value-requires-clause-some
 drop_value-requires-clause-some c = c.requires.live (λ e. let h = rw e at c.if-eq.ensures in cc h) c.in-Some.v.0
-    (in_choice c.args.w.now.vars.now c.args.u.now.choice c.in-Some.v c.args.w.now.store.now.sets c.in-Some.is c.requires.of_user.of_choice c.requires.known)
+    (in_choice c.args.w.now.vars.now c.args.u.now.choice c.in-Some.v c.args.w.now.store.now.sets c.in-Some.is
+    c.requires.of_user.of_choice c.requires.known)
 
 pub drop_value-requires-clause-lent : goal.drop_value-requires-clause-lent
-drop_value-requires-clause-lent c = subst (λ (o : Option VarId). AllAmong c.args.w.now.vars.now (choice_vars o)) c.in-Some.is c.requires.of_user.of_choice 0 c.in-Some.v (omega arith)
+drop_value-requires-clause-lent c = subst (λ (o : Option VarId). AllAmong c.args.w.now.vars.now (choice_vars o)) c.in-Some.is
+    c.requires.of_user.of_choice 0 c.in-Some.v (omega arith)
 
 pub returns-then-is_doomed-clause-step : goal.returns-then-is_doomed-clause-step
 returns-then-is_doomed-clause-step c =
@@ -42,9 +46,12 @@ returns-then-is_doomed-clause-step c =
     let v = c.in-Some.v in
     let q = reader_test c.args.mask a c.args.c.now u in
     let rest = (sure a.on s.sets && sure u.on s.sets) && not (may_survive c.args.mask a s.sets) in
-    stepped_by w.vars.now (reader_cut c.args.mask a c.args.c.now u) (cut_by (λ y. not (nat_eq y u.value)) v.0) s c.drop_value.new.w.store.now c.args.before c.drop_value.result
+    stepped_by w.vars.now (reader_cut c.args.mask a c.args.c.now u) (cut_by (λ y. not (nat_eq y u.value)) v.0) s
+    c.drop_value.new.w.store.now c.args.before c.drop_value.result
     (λ live. choice_is q u.choice v s.sets c.in-Some.is
-    ∙ cut_same (q s.sets) (λ y. not (nat_eq y u.value)) v.0 s.sets (λ y there. refuses_met (nat_eq y u.value) _ (both c.args.c.now.before rest c.if-not-c.false (sym c.is_doomed.ensures ∙ c.if-is_doomed.true))))
+    ∙ cut_same (q s.sets) (λ y. not (nat_eq y u.value)) v.0 s.sets
+    (λ y there. refuses_met (nat_eq y u.value) _ (both c.args.c.now.before rest c.if-not-c.false (sym c.is_doomed.ensures
+    ∙ c.if-is_doomed.true))))
     c.drop_value.ensures.step
 
 pub returns-else-is_doomed-clause-step : goal.returns-else-is_doomed-clause-step
@@ -55,5 +62,7 @@ returns-else-is_doomed-clause-step c =
     let u = c.args.u.now in
     let rest = (sure a.on s.sets && sure u.on s.sets) && not (may_survive c.args.mask a s.sets) in
     stepped_same w.vars.now (reader_cut c.args.mask a c.args.c.now u) s c.args.before
-    (λ live. choice_same w.vars.now (reader_test c.args.mask a c.args.c.now u) u.choice s.sets c.requires.of_user.of_choice c.requires.known live
-    (λ y. passes_unmet _ (no_right (nat_eq y u.value) _ (no_right c.args.c.now.before rest (sym c.is_doomed.ensures ∙ c.if-is_doomed.false)))))
+    (λ live. choice_same w.vars.now (reader_test c.args.mask a c.args.c.now u) u.choice s.sets c.requires.of_user.of_choice
+    c.requires.known live
+    (λ y. passes_unmet _ (no_right (nat_eq y u.value) _ (no_right c.args.c.now.before rest (sym c.is_doomed.ensures
+    ∙ c.if-is_doomed.false)))))

@@ -1,4 +1,4 @@
-use Rattle.std.proofs.Common.{ℕ, List, ◌≡◌, ◌<◌, ◌∙◌, length, get_or, None, sym, ap, subst}
+use Rattle.std.proofs.Common.{List, ◌<◌, ◌∙◌, length, get_or, None, sym, ap, subst}
 use Rattle.un_base.specs.declared.ids.VarId.{VarId}
 use Rattle.un_prop.specs.Going.{Stepped}
 use Rattle.un_prop.specs.declared.act.Act.TheVariants.{Always}
@@ -27,9 +27,11 @@ loop-u-preserved c =
     let f = reader_cut c.args.mask c.args.a.now c.args.c.now in
     let us = c.args.c.now.behind in
     record {
-      step = stepped_entry w.vars.now c.loop-u.w.vars.now f us k d w.store.now c.loop-u.w.store.now did.new.w.store.now c.args.before c.loop-u.did did.result
+      step = stepped_entry w.vars.now c.loop-u.w.vars.now f us k d w.store.now c.loop-u.w.store.now did.new.w.store.now c.args.before
+          c.loop-u.did did.result
           (ap (λ r. r.now) inv.vars) (subst (λ (xs : List UserOf). k < length xs) c.as_slice-u-items.ensures c.loop-u-test.true) inv.step
-          (subst (λ (xs : List UserOf). Stepped c.loop-u.w.vars.now (f (get_or xs k d)) c.loop-u.w.store.now did.new.w.store.now c.loop-u.did did.result) c.as_slice-u-items.ensures did.ensures.step);
+          (subst (λ (xs : List UserOf). Stepped c.loop-u.w.vars.now (f (get_or xs k d)) c.loop-u.w.store.now did.new.w.store.now
+          c.loop-u.did did.result) c.as_slice-u-items.ensures did.ensures.step);
       same_reference = did.ensures.same_reference ∙ inv.same_reference;
       vars = did.ensures.vars ∙ inv.vars;
     }

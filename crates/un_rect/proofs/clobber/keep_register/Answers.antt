@@ -1,4 +1,4 @@
-use Rattle.std.proofs.Common.{ℕ, ◌≡◌, ◌∙◌, Bool, not, ◌&&◌, sym, ap}
+use Rattle.std.proofs.Common.{◌∙◌, not, sym}
 use Rattle.un_domains.specs.Sets.{cut_by}
 use Rattle.un_isa.specs.Tables.{in_mask}
 use Rattle.un_prop.specs.Acts.{act_vars}
@@ -12,7 +12,8 @@ use Rattle.un_rect.proofs.Refusals.{no_left, no_right, passes_unmet, refuses_met
 use Rattle.un_rect.proofs.clobber.keep_register.Goals as goal
 
 pub is_sure-requires : goal.is_sure-requires
-is_sure-requires c = known_of c.args.w.now.vars.now (act_vars c.args.a.now.on) c.args.w.now.store.now.sets c.requires.of_temp.of_on c.requires.known
+is_sure-requires c = known_of c.args.w.now.vars.now (act_vars c.args.a.now.on) c.args.w.now.store.now.sets c.requires.of_temp.of_on
+    c.requires.known
 
 pub returns-then-not-is_sure-clause-step : goal.returns-then-not-is_sure-clause-step
 returns-then-not-is_sure-clause-step c =
@@ -20,8 +21,10 @@ returns-then-not-is_sure-clause-step c =
     let s = w.store.now in
     let a = c.args.a.now in
     stepped_same w.vars.now (hit_cut c.args.mask a c.args.c.now) s c.args.before
-    (λ live. cut_all (hit_test c.args.mask a c.args.c.now s.sets) a.reg.0 s.sets (has_among w.vars.now a.reg s.sets c.requires.of_temp.of_reg c.requires.known) live
-    (λ y there. passes_unmet _ (no_right (in_mask c.args.mask y) _ (no_left (sure a.on s.sets) (lasts a c.args.c.now s.sets) (sym c.is_sure.ensures ∙ c.if-not-is_sure.true)))))
+    (λ live. cut_all (hit_test c.args.mask a c.args.c.now s.sets) a.reg.0 s.sets
+    (has_among w.vars.now a.reg s.sets c.requires.of_temp.of_reg c.requires.known) live
+    (λ y there. passes_unmet _ (no_right (in_mask c.args.mask y) _ (no_left (sure a.on s.sets) (lasts a c.args.c.now s.sets)
+    (sym c.is_sure.ensures ∙ c.if-not-is_sure.true)))))
 
 pub returns-then-not-lasts-clause-step : goal.returns-then-not-lasts-clause-step
 returns-then-not-lasts-clause-step c =
@@ -29,15 +32,19 @@ returns-then-not-lasts-clause-step c =
     let s = w.store.now in
     let a = c.args.a.now in
     stepped_same w.vars.now (hit_cut c.args.mask a c.args.c.now) s c.args.before
-    (λ live. cut_all (hit_test c.args.mask a c.args.c.now s.sets) a.reg.0 s.sets (has_among w.vars.now a.reg s.sets c.requires.of_temp.of_reg c.requires.known) live
-    (λ y there. passes_unmet _ (no_right (in_mask c.args.mask y) _ (no_right (sure a.on s.sets) (lasts a c.args.c.now s.sets) (sym c.lasts.ensures ∙ c.if-not-lasts.true)))))
+    (λ live. cut_all (hit_test c.args.mask a c.args.c.now s.sets) a.reg.0 s.sets
+    (has_among w.vars.now a.reg s.sets c.requires.of_temp.of_reg c.requires.known) live
+    (λ y there. passes_unmet _ (no_right (in_mask c.args.mask y) _ (no_right (sure a.on s.sets) (lasts a c.args.c.now s.sets)
+    (sym c.lasts.ensures ∙ c.if-not-lasts.true)))))
 
 pub returns-clause-step : goal.returns-clause-step
 returns-clause-step c =
     let w = c.args.w.now in
     let s = w.store.now in
     let a = c.args.a.now in
-    stepped_by w.vars.now (hit_cut c.args.mask a c.args.c.now) (cut_by (λ y. not (in_mask c.args.mask y)) a.reg.0) s c.keep_passing.new.w.store.now c.args.before c.keep_passing.result
+    stepped_by w.vars.now (hit_cut c.args.mask a c.args.c.now) (cut_by (λ y. not (in_mask c.args.mask y)) a.reg.0) s
+    c.keep_passing.new.w.store.now c.args.before c.keep_passing.result
     (λ live. cut_same (hit_test c.args.mask a c.args.c.now s.sets) (λ y. not (in_mask c.args.mask y)) a.reg.0 s.sets
-    (λ y there. refuses_met (in_mask c.args.mask y) _ (both (sure a.on s.sets) (lasts a c.args.c.now s.sets) (sym c.is_sure.ensures ∙ c.if-not-is_sure.false) (sym c.lasts.ensures ∙ c.if-not-lasts.false))))
+    (λ y there. refuses_met (in_mask c.args.mask y) _ (both (sure a.on s.sets) (lasts a c.args.c.now s.sets) (sym c.is_sure.ensures
+    ∙ c.if-not-is_sure.false) (sym c.lasts.ensures ∙ c.if-not-lasts.false))))
     c.keep_passing.ensures.step

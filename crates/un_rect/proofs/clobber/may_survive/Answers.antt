@@ -1,5 +1,5 @@
-use Rattle.std.proofs.Common.{ℕ, ◌≡◌, ◌<◌, ◌∙◌, Bool, false, not, sym, ap, arith, inl, inr}
-use Rattle.un_domains.specs.Sets.{set_at, has, greatest}
+use Rattle.std.proofs.Common.{◌<◌, ◌∙◌, not, sym, ap, arith, inl, inr}
+use Rattle.un_domains.specs.Sets.{set_at, greatest}
 use Rattle.un_isa.specs.Tables.{in_mask}
 use Rattle.un_prop.specs.SomewhereLaws.{any_none, any_whole, any_has, none_next}
 use Rattle.un_rect.proofs.clobber.may_survive.Goals as goal
@@ -8,7 +8,8 @@ use Rattle.un_rect.proofs.clobber.may_survive.Goals.{then-has+else-not-is_in_mas
 pub loop-r-init : goal.loop-r-init
 loop-r-init c =
     let s = c.args.w.now.store.now.sets in
-    any_none (λ r. not (in_mask c.args.mask r)) (set_at s c.args.a.now.reg.0) c.from-low.result (omega (arith, c.from-low.ensures, c.min.ensures))
+    any_none (λ r. not (in_mask c.args.mask r)) (set_at s c.args.a.now.reg.0) c.from-low.result
+    (omega (arith, c.from-low.ensures, c.min.ensures))
 
 pub returns-then-not-is_in_mask : goal.returns-then-not-is_in_mask
 returns-then-not-is_in_mask c =

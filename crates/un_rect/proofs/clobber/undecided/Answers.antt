@@ -1,4 +1,4 @@
-use Rattle.std.proofs.Common.{List, ◌≡◌, ◌∙◌, sym, ap, subst, All}
+use Rattle.std.proofs.Common.{List, ◌∙◌, sym, ap, subst, All}
 use Rattle.un_base.specs.declared.ids.VarId.{VarId}
 use Rattle.un_prop.specs.declared.act.UserOf.{UserOf}
 use Rattle.un_rect.specs.Apart.{users_vars}
@@ -10,7 +10,8 @@ use Rattle.un_rect.proofs.clobber.undecided.Goals as goal
 pub returns-then-is_more : goal.returns-then-is_more
 returns-then-is_more c =
     let p = c.args.p.now in
-    temp_more p.vars.now p.mask p.temp.now p.call.now c.requires.ascend p.of_temp p.of_call c.args.w.now.store.now.sets c.requires.known c.requires.live
+    temp_more p.vars.now p.mask p.temp.now p.call.now c.requires.ascend p.of_temp p.of_call c.args.w.now.store.now.sets c.requires.known
+    c.requires.live
     c.with_temp-first.result c.with_temp-first.ensures (sym c.is_more.ensures ∙ c.if-is_more.true)
 
 pub with_users-requires-clause-vars : goal.with_users-requires-clause-vars

@@ -9,4 +9,5 @@ pub returns-then-is_more : goal.returns-then-is_more
 returns-then-is_more c =
     let s = c.args.w.now.store.now.sets in
     let rest = users_vars (drop c.loop-u.u-index c.args.users.now) in
-    sym (after_more s rest) ∙ (ap (λ (o : Opened). opened_after s rest o) (sym (more_is c.loop-u.so_far (sym c.is_more.ensures ∙ c.if-is_more.true))) ∙ c.loop-u.invariant)
+    sym (after_more s rest) ∙ (ap (λ (o : Opened). opened_after s rest o)
+    (sym (more_is c.loop-u.so_far (sym c.is_more.ensures ∙ c.if-is_more.true))) ∙ c.loop-u.invariant)

@@ -5,4 +5,5 @@ use Rattle.un_rect.specs.Opened.{opened_after}
 use Rattle.un_rect.proofs.opened.with_users.Given as goal
 
 abbrev pub invariant-loop-u : goal.invariant-loop-u
-invariant-loop-u l = opened_after l.w.store.now.sets (users_vars (drop l.u-index l.users)) l.so_far ≡ opened_after l.w.store.now.sets (users_vars l.users) l.fn.before
+invariant-loop-u l = opened_after l.w.store.now.sets (users_vars (drop l.u-index l.users)) l.so_far ≡ opened_after l.w.store.now.sets
+    (users_vars l.users) l.fn.before

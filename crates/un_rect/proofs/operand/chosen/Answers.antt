@@ -1,4 +1,4 @@
-use Rattle.std.proofs.Common.{ℕ, ◌≡◌, ◌∙◌, Bool, true, false, ◌&&◌, List, get_or, sym, ap}
+use Rattle.std.proofs.Common.{ℕ, ◌∙◌, Bool, ◌&&◌, get_or, sym, ap}
 use Rattle.un_base.specs.declared.ids.VarId.{VarId}
 use Rattle.un_domains.specs.Sets.{has}
 use Rattle.un_prop.specs.Choices.{passes_at}

@@ -1,5 +1,5 @@
 -- the registers so far are not such ones
-use Rattle.std.proofs.Common.{ℕ, ◌≡◌, ◌&&◌, not, nat_eq, drop}
+use Rattle.std.proofs.Common.{◌≡◌, ◌&&◌, not, nat_eq, drop}
 use Rattle.std.specs.List.{list_any}
 use Rattle.un_rect.specs.Operands.{may_have}
 use Rattle.un_rect.specs.Sides.{side_of}

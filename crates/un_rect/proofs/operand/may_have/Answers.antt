@@ -1,4 +1,4 @@
-use Rattle.std.proofs.Common.{ℕ, ◌≡◌, ◌<◌, ◌∙◌, Bool, false, sym, arith, inl, inr}
+use Rattle.std.proofs.Common.{◌<◌, ◌∙◌, sym, arith, inl, inr}
 use Rattle.un_base.specs.declared.ids.VarId.{VarId}
 use Rattle.un_domains.specs.Sets.{set_at, has, greatest}
 use Rattle.un_prop.specs.AmongLaws.{has_among}
@@ -11,13 +11,15 @@ pub min-requires-clause-there : goal.min-requires-clause-there
 min-requires-clause-there c = has_among c.args.w.now.vars.now _ c.args.w.now.store.now.sets c.requires.vars.of_choice c.requires.known
 
 pub min-requires-clause-some : goal.min-requires-clause-some
-min-requires-clause-some c = c.requires.live _ (has_among c.args.w.now.vars.now _ c.args.w.now.store.now.sets c.requires.vars.of_choice c.requires.known)
+min-requires-clause-some c = c.requires.live _ (has_among c.args.w.now.vars.now _ c.args.w.now.store.now.sets c.requires.vars.of_choice
+    c.requires.known)
 
 pub max-requires-clause-there : goal.max-requires-clause-there
 max-requires-clause-there c = has_among c.args.w.now.vars.now _ c.args.w.now.store.now.sets c.requires.vars.of_choice c.requires.known
 
 pub max-requires-clause-some : goal.max-requires-clause-some
-max-requires-clause-some c = c.requires.live _ (has_among c.args.w.now.vars.now _ c.args.w.now.store.now.sets c.requires.vars.of_choice c.requires.known)
+max-requires-clause-some c = c.requires.live _ (has_among c.args.w.now.vars.now _ c.args.w.now.store.now.sets c.requires.vars.of_choice
+    c.requires.known)
 
 pub has-requires : goal.has-requires
 has-requires c = has_among c.args.w.now.vars.now _ c.args.w.now.store.now.sets c.requires.vars.of_choice c.requires.known
@@ -25,18 +27,21 @@ has-requires c = has_among c.args.w.now.vars.now _ c.args.w.now.store.now.sets c
 pub loop-i-init : goal.loop-i-init
 loop-i-init c =
     let s = c.args.w.now.store.now.sets in
-    any_none (passes_at (λ (v : VarId). has (set_at s v.0) c.args.r) c.args.o.now.regs.now) (set_at s c.args.o.now.choice.0) c.from-low.result (omega (arith, c.from-low.ensures, c.min.ensures))
+    any_none (passes_at (λ (v : VarId). has (set_at s v.0) c.args.r) c.args.o.now.regs.now) (set_at s c.args.o.now.choice.0)
+    c.from-low.result (omega (arith, c.from-low.ensures, c.min.ensures))
 
 pub returns-then-has_at : goal.returns-then-has_at
 returns-then-has_at c =
     let s = c.args.w.now.store.now.sets in
-    sym (any_has (passes_at (λ (v : VarId). has (set_at s v.0) c.args.r) c.args.o.now.regs.now) (set_at s c.args.o.now.choice.0) c.loop-i.i (sym c.has.ensures ∙ c.if-has.true)
+    sym (any_has (passes_at (λ (v : VarId). has (set_at s v.0) c.args.r) c.args.o.now.regs.now) (set_at s c.args.o.now.choice.0)
+    c.loop-i.i (sym c.has.ensures ∙ c.if-has.true)
     (sym c.has_at.ensures ∙ c.if-has_at.true))
 
 pub loop-i-preserved : goal.loop-i-preserved
 loop-i-preserved c =
     let s = c.args.w.now.store.now.sets in
-    none_next (passes_at (λ (v : VarId). has (set_at s v.0) c.args.r) c.args.o.now.regs.now) (set_at s c.args.o.now.choice.0) c.loop-i.i c.loop-i.invariant (elim c.if-has.branch [
+    none_next (passes_at (λ (v : VarId). has (set_at s v.0) c.args.r) c.args.o.now.regs.now) (set_at s c.args.o.now.choice.0) c.loop-i.i
+    c.loop-i.invariant (elim c.if-has.branch [
       | then-has+else-has_at w ↦ inr (sym w.has_at.ensures ∙ w.if-has_at.false)
       | else-has w ↦ inl (sym c.has.ensures ∙ w.if-has.false)
     ])
@@ -46,4 +51,5 @@ returns c =
     let s = c.args.w.now.store.now.sets in
     let xs = set_at s c.args.o.now.choice.0 in
     let high : greatest xs < c.loop-i.i = omega (arith, c.loop-i-test.false, c.from-end.ensures, c.max.ensures) in
-    sym (sym (any_whole (passes_at (λ (v : VarId). has (set_at s v.0) c.args.r) c.args.o.now.regs.now) xs c.loop-i.i high) ∙ c.loop-i.invariant)
+    sym (sym (any_whole (passes_at (λ (v : VarId). has (set_at s v.0) c.args.r) c.args.o.now.regs.now) xs c.loop-i.i high)
+    ∙ c.loop-i.invariant)

@@ -1,6 +1,5 @@
-use Rattle.std.proofs.Common.{ℕ, ◌≡◌, ◌≢◌, ◌≤◌, ◌<◌, ◌∙◌, true, get_or, length, Some, refl, sym, ap, subst, arith}
+use Rattle.std.proofs.Common.{ℕ, ◌∙◌, get_or, sym, ap}
 use Rattle.un_base.specs.declared.ids.VarId.{VarId}
-use Rattle.un_domains.specs.Sets.{Sets, set_at, least}
 use Rattle.un_prop.specs.AmongLaws.{has_among}
 use Rattle.un_prop.specs.GoingLaws.{stepped_same, stepped_by}
 use Rattle.un_rect.specs.Entries.{entry_cut}
@@ -10,10 +9,12 @@ use Rattle.un_rect.specs.Sides.{side_of}
 use Rattle.un_rect.proofs.operands.keep_fixed.Goals as goal
 
 pub is_single-requires : goal.is_single-requires
-is_single-requires c = has_among c.args.w.now.vars.now c.args.one.now.choice c.args.w.now.store.now.sets c.requires.of_one.of_choice c.requires.known
+is_single-requires c = has_among c.args.w.now.vars.now c.args.one.now.choice c.args.w.now.store.now.sets c.requires.of_one.of_choice
+    c.requires.known
 
 pub min-i-requires-clause-there : goal.min-i-requires-clause-there
-min-i-requires-clause-there c = has_among c.args.w.now.vars.now c.args.one.now.choice c.args.w.now.store.now.sets c.requires.of_one.of_choice c.requires.known
+min-i-requires-clause-there c = has_among c.args.w.now.vars.now c.args.one.now.choice c.args.w.now.store.now.sets
+    c.requires.of_one.of_choice c.requires.known
 
 pub min-i-requires-clause-some : goal.min-i-requires-clause-some
 min-i-requires-clause-some c = c.requires.live (λ e. let h = rw e at c.if-eq.ensures in cc h) c.args.one.now.choice.0
@@ -39,9 +40,11 @@ returns-then-i-one-clause-step c =
     let b = side_of c.args.other.now in
     let d : VarId = record { 0 = 0 } in
     let i = c.min-i.result in
-    stepped_by w.vars.now (fixed_cut a b) (chosen_cut a b (get_or a.regs i d)) s c.keep_chosen.new.w.store.now c.args.before c.keep_chosen.result
+    stepped_by w.vars.now (fixed_cut a b) (chosen_cut a b (get_or a.regs i d)) s c.keep_chosen.new.w.store.now c.args.before
+    c.keep_chosen.result
     (λ live. fixed_at (entry_cut (chosen_cut a b) a.regs) a.choice.0 s.sets (sym c.is_single.ensures ∙ c.if-not-is_single.false)
-    ∙ (ap (λ (n : ℕ). entry_cut (chosen_cut a b) a.regs n s.sets) (sym c.min-i.ensures) ∙ entry_within (chosen_cut a b) a.regs i d s.sets c.if-i-one.true))
+    ∙ (ap (λ (n : ℕ). entry_cut (chosen_cut a b) a.regs n s.sets) (sym c.min-i.ensures) ∙ entry_within (chosen_cut a b) a.regs i d s.sets
+    c.if-i-one.true))
     c.keep_chosen.ensures.step
 
 pub returns-else-i-one-clause-step : goal.returns-else-i-one-clause-step
@@ -53,4 +56,5 @@ returns-else-i-one-clause-step c =
     let i = c.min-i.result in
     stepped_same w.vars.now (fixed_cut a b) s c.args.before
     (λ live. fixed_at (entry_cut (chosen_cut a b) a.regs) a.choice.0 s.sets (sym c.is_single.ensures ∙ c.if-not-is_single.false)
-    ∙ (ap (λ (n : ℕ). entry_cut (chosen_cut a b) a.regs n s.sets) (sym c.min-i.ensures) ∙ entry_past (chosen_cut a b) a.regs i s.sets c.if-i-one.false))
+    ∙ (ap (λ (n : ℕ). entry_cut (chosen_cut a b) a.regs n s.sets) (sym c.min-i.ensures)
+    ∙ entry_past (chosen_cut a b) a.regs i s.sets c.if-i-one.false))

@@ -1,4 +1,4 @@
-use Rattle.std.proofs.Common.{ℕ, List, ◌≡◌, ◌∙◌, ap, subst, sym}
+use Rattle.std.proofs.Common.{ℕ, List, ap, subst}
 use Rattle.un_base.specs.declared.ids.VarId.{VarId}
 use Rattle.un_prop.specs.Going.{Stepped}
 use Rattle.un_prop.specs.GoingLaws.{stepped_chain}
@@ -17,6 +17,8 @@ returns-clause-step c =
     let first = c.keep_choice-first in
     let did = c.keep_fixed in
     let f = λ (n : ℕ). choice_steps Always a.choice (side_can a b) n in
-    stepped_chain vs (f (places_in a.regs)) (fixed_cut a b) w.store.now first.new.w.store.now did.new.w.store.now c.args.before first.result did.result
+    stepped_chain vs (f (places_in a.regs)) (fixed_cut a b) w.store.now first.new.w.store.now did.new.w.store.now c.args.before
+    first.result did.result
     (subst (λ (n : ℕ). Stepped vs (f n) w.store.now first.new.w.store.now c.args.before first.result) c.places-n.ensures first.ensures.step)
-    (subst (λ (us : List VarId). Stepped us (fixed_cut a b) first.new.w.store.now did.new.w.store.now first.result did.result) (ap (λ r. r.now) first.ensures.vars) did.ensures.step)
+    (subst (λ (us : List VarId). Stepped us (fixed_cut a b) first.new.w.store.now did.new.w.store.now first.result did.result)
+    (ap (λ r. r.now) first.ensures.vars) did.ensures.step)

@@ -1,4 +1,4 @@
-use Rattle.std.proofs.Common.{ℕ, ◌≡◌, ◌≢◌, ◌||◌, ◌∙◌, Bool, true, false, List, not, nat_eq, sym, ap, subst, refl, arith}
+use Rattle.std.proofs.Common.{ℕ, ◌≡◌, ◌||◌, ◌∙◌, Bool, true, false, List, not, nat_eq, sym, ap, refl, arith}
 use Rattle.std.proofs.lemmas.Bool.Decides.{nat_tests}
 use Rattle.un_domains.specs.Sets.{set_at, has, cut_by}
 use Rattle.un_prop.specs.AmongLaws.{has_among}
@@ -53,7 +53,8 @@ returns-clause-step c =
     let b = side_of c.args.other.now in
     let v = c.args.v in
     let r = c.args.r in
-    stepped_by w.vars.now (other_cut b v r) (cut_by (λ y. not (nat_eq y r)) v.0) s c.drop_value.new.w.store.now c.args.before c.drop_value.result
+    stepped_by w.vars.now (other_cut b v r) (cut_by (λ y. not (nat_eq y r)) v.0) s c.drop_value.new.w.store.now c.args.before
+    c.drop_value.result
     (λ live. cut_same (other_test b r s.sets) (λ y. not (nat_eq y r)) v.0 s.sets
     (λ y there. dropped_tested (not (nat_eq y r)) (may_avoid b s.sets r) (sym c.may_avoid.ensures ∙ c.if-may_avoid.false)))
     c.drop_value.ensures.step

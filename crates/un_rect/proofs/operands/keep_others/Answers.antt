@@ -1,26 +1,23 @@
-use Rattle.std.proofs.Common.{ℕ, ◌≡◌, ◌≢◌, ◌≤◌, ◌<◌, ◌+◌, ◌∙◌, true, List, get_or, length, option_and_then, refl, sym, ap, subst, arith}
+use Rattle.std.proofs.Common.{◌≡◌, ◌∙◌, true, List, sym, ap, subst}
 use Rattle.un_base.specs.declared.ids.VarId.{VarId}
-use Rattle.un_domains.specs.Sets.{Sets}
 use Rattle.un_prop.specs.Among.{among}
 use Rattle.un_prop.specs.Rounds.{HasVars}
-use Rattle.un_prop.specs.Going.{Stepped}
-use Rattle.un_prop.specs.GoingLaws.{stepped_same, stepped_by, stepped_chain}
-use Rattle.un_prop.specs.Places.{each_place}
-use Rattle.un_rect.specs.Entries.{entry_cut}
-use Rattle.un_rect.specs.EntryLaws.{entry_within}
 use Rattle.un_rect.specs.Operands.{SideVars, other_cut}
 use Rattle.un_rect.specs.Sides.{side_of}
 use Rattle.un_rect.proofs.Loops.{stepped_entry}
 use Rattle.un_rect.proofs.operands.keep_others.Goals as goal
 
 pub keep_other-did-requires-clause-lent : goal.keep_other-did-requires-clause-lent
-keep_other-did-requires-clause-lent c = subst (λ (us : List VarId). among us c.args.v ≡ true) (sym (ap (λ r. r.now) c.loop-r.invariant.vars)) c.requires.lent
+keep_other-did-requires-clause-lent c = subst (λ (us : List VarId). among us c.args.v ≡ true)
+    (sym (ap (λ r. r.now) c.loop-r.invariant.vars)) c.requires.lent
 
 pub keep_other-did-requires-clause-vars : goal.keep_other-did-requires-clause-vars
-keep_other-did-requires-clause-vars c = subst (λ (us : List VarId). SideVars us (side_of c.args.other.now)) (sym (ap (λ r. r.now) c.loop-r.invariant.vars)) c.requires.vars
+keep_other-did-requires-clause-vars c = subst (λ (us : List VarId). SideVars us (side_of c.args.other.now))
+    (sym (ap (λ r. r.now) c.loop-r.invariant.vars)) c.requires.vars
 
 pub keep_other-did-requires-clause-known : goal.keep_other-did-requires-clause-known
-keep_other-did-requires-clause-known c = subst (λ (us : List VarId). HasVars us c.loop-r.w.store.now.sets) (sym (ap (λ r. r.now) c.loop-r.invariant.vars))
+keep_other-did-requires-clause-known c = subst (λ (us : List VarId). HasVars us c.loop-r.w.store.now.sets)
+    (sym (ap (λ r. r.now) c.loop-r.invariant.vars))
     (λ i d lt. rw c.loop-r.invariant.step.long (c.requires.known i d lt))
 
 pub keep_other-did-requires-clause-live : goal.keep_other-did-requires-clause-live
@@ -33,7 +30,8 @@ loop-r-preserved c =
     let did = c.keep_other-did in
     let b = side_of c.args.other.now in
     record {
-      step = stepped_entry w.vars.now c.loop-r.w.vars.now (other_cut b c.args.v) b.allowed c.loop-r.r-index 0 w.store.now c.loop-r.w.store.now did.new.w.store.now c.args.before
+      step = stepped_entry w.vars.now c.loop-r.w.vars.now (other_cut b c.args.v) b.allowed c.loop-r.r-index 0 w.store.now
+          c.loop-r.w.store.now did.new.w.store.now c.args.before
           c.loop-r.did did.result (ap (λ r. r.now) inv.vars) c.loop-r-test.true inv.step did.ensures.step;
       same_reference = did.ensures.same_reference ∙ inv.same_reference;
       vars = did.ensures.vars ∙ inv.vars;

@@ -6,7 +6,9 @@ use Rattle.un_rect.specs.Spans.{UserVars}
 use Rattle.un_rect.proofs.spans.least_end.Goals as goal
 
 pub least_time-requires-clause-known : goal.least_time-requires-clause-known
-least_time-requires-clause-known c = known_of c.args.w.now.vars.now (at_vars c.args.a.now.at) c.args.w.now.store.now.sets c.requires.vars.of_at c.requires.known
+least_time-requires-clause-known c = known_of c.args.w.now.vars.now (at_vars c.args.a.now.at) c.args.w.now.store.now.sets
+    c.requires.vars.of_at c.requires.known
 
 pub last_sure_use-requires-clause-vars : goal.last_sure_use-requires-clause-vars
-last_sure_use-requires-clause-vars c = subst (λ (us : List UserOf). All (UserVars c.args.w.now.vars.now) us) (sym c.as_slice.ensures) c.requires.vars.of_users
+last_sure_use-requires-clause-vars c = subst (λ (us : List UserOf). All (UserVars c.args.w.now.vars.now) us) (sym c.as_slice.ensures)
+    c.requires.vars.of_users

@@ -1,6 +1,7 @@
-use Rattle.std.proofs.Common.{ℕ, ◌≡◌, ◌≢◌, ◌<◌, ◌+◌, ◌||◌, ◌∙◌, Bool, true, List, not, nat_eq, nat_le, length, Some, option_and_then, refl, sym, ap, subst, arith}
+use Rattle.std.proofs.Common.{ℕ, ◌≡◌, ◌<◌, ◌+◌, ◌||◌, ◌∙◌, Bool, true, List, not, nat_eq, nat_le, Some, option_and_then, refl, sym, ap}
+use Rattle.std.proofs.Common.{subst, arith}
 use Rattle.un_base.specs.declared.ids.VarId.{VarId}
-use Rattle.un_domains.specs.Sets.{Sets, set_at, cut_by, least, greatest}
+use Rattle.un_domains.specs.Sets.{set_at, cut_by, least, greatest}
 use Rattle.un_prop.specs.AmongLaws.{has_among}
 use Rattle.un_prop.specs.Parts.{SameAt}
 use Rattle.un_prop.specs.Going.{Stepped}
@@ -12,13 +13,15 @@ pub min-requires-clause-there : goal.min-requires-clause-there
 min-requires-clause-there g c = has_among c.args.w.now.vars.now c.args.v c.args.w.now.store.now.sets c.requires.lent c.requires.known
 
 pub min-requires-clause-some : goal.min-requires-clause-some
-min-requires-clause-some g c = c.requires.live (λ e. let h = rw e at c.if-eq.ensures in cc h) c.args.v.0 (has_among c.args.w.now.vars.now c.args.v c.args.w.now.store.now.sets c.requires.lent c.requires.known)
+min-requires-clause-some g c = c.requires.live (λ e. let h = rw e at c.if-eq.ensures in cc h) c.args.v.0
+    (has_among c.args.w.now.vars.now c.args.v c.args.w.now.store.now.sets c.requires.lent c.requires.known)
 
 pub max-requires-clause-there : goal.max-requires-clause-there
 max-requires-clause-there g c = has_among c.args.w.now.vars.now c.args.v c.args.w.now.store.now.sets c.requires.lent c.requires.known
 
 pub max-requires-clause-some : goal.max-requires-clause-some
-max-requires-clause-some g c = c.requires.live (λ e. let h = rw e at c.if-eq.ensures in cc h) c.args.v.0 (has_among c.args.w.now.vars.now c.args.v c.args.w.now.store.now.sets c.requires.lent c.requires.known)
+max-requires-clause-some g c = c.requires.live (λ e. let h = rw e at c.if-eq.ensures in cc h) c.args.v.0
+    (has_among c.args.w.now.vars.now c.args.v c.args.w.now.store.now.sets c.requires.lent c.requires.known)
 
 -- what holds for each assignment looks at none
 yes_to_all : List ℕ → Bool
@@ -39,7 +42,8 @@ loop-y-init g c =
     let from : c.from-low.result ≡ least (set_at s.sets v.0) = c.from-low.ensures ∙ c.min.ensures in
     record {
       step = stepped_same vs (cut_by (λ z. nat_le c.from-low.result z || q z) v.0) s c.args.before
-          (λ live. subst (λ (n : ℕ). cut_by (λ z. nat_le n z || q z) v.0 s.sets ≡ Some s.sets) (sym from) (try_first vs yes_to_all (alike vs) s.sets v q within live));
+          (λ live. subst (λ (n : ℕ). cut_by (λ z. nat_le n z || q z) v.0 s.sets ≡ Some s.sets) (sym from)
+          (try_first vs yes_to_all (alike vs) s.sets v q within live));
       same_reference = refl;
       vars = refl;
     }
@@ -58,7 +62,8 @@ loop-y-preserved g c =
     let e = ap (λ r. r.now) inv.vars in
     let f = λ (n : ℕ). cut_by (λ z. nat_le n z || q z) v.0 in
     let here = cut_by (λ z. not (nat_eq z y) || q y) v.0 in
-    let step = subst (λ (us : List VarId). Stepped us here c.loop-y.w.store.now did.new.w.store.now c.loop-y.did did.result) e did.ensures.step in
+    let step = subst (λ (us : List VarId). Stepped us here c.loop-y.w.store.now did.new.w.store.now c.loop-y.did did.result) e
+    did.ensures.step in
     record {
       step = stepped_by vs (f (y + 1)) (λ t. option_and_then here (f y t)) s did.new.w.store.now c.args.before did.result
           (λ live. sym (try_next vs yes_to_all (alike vs) s.sets v y q within))

@@ -1,4 +1,4 @@
-use Rattle.std.proofs.Common.{ℕ, ◌≡◌, ◌||◌, ◌∙◌, Bool, not, nat_eq, sym}
+use Rattle.std.proofs.Common.{◌||◌, ◌∙◌, not, nat_eq, sym}
 use Rattle.un_domains.specs.Sets.{cut_by}
 use Rattle.un_prop.specs.AmongLaws.{has_among}
 use Rattle.un_prop.specs.LastLaws.{cut_all, cut_same, passes_tested, dropped_tested}
@@ -11,7 +11,8 @@ returns-then-passes-clause-step g c =
     let v = c.args.v in
     let t = g.T.ValueTest.lets c.args.t.now c.args.y in
     stepped_same w.vars.now (cut_by (λ z. not (nat_eq z c.args.y) || t) v.0) w.store.now c.args.before
-    (λ live. cut_all (λ z. not (nat_eq z c.args.y) || t) v.0 w.store.now.sets (has_among w.vars.now v w.store.now.sets c.requires.lent c.requires.known) live
+    (λ live. cut_all (λ z. not (nat_eq z c.args.y) || t) v.0 w.store.now.sets (has_among w.vars.now v w.store.now.sets c.requires.lent
+    c.requires.known) live
     (λ y there. passes_tested (not (nat_eq y c.args.y)) t (sym c.passes.ensures ∙ c.if-passes.true)))
 
 pub drop_value-requires-clause-there : goal.drop_value-requires-clause-there
@@ -26,7 +27,8 @@ returns-clause-step g c =
     let w = c.args.w.now in
     let v = c.args.v in
     let t = g.T.ValueTest.lets c.args.t.now c.args.y in
-    stepped_by w.vars.now (cut_by (λ z. not (nat_eq z c.args.y) || t) v.0) (cut_by (λ z. not (nat_eq z c.args.y)) v.0) w.store.now c.drop_value.new.w.store.now
+    stepped_by w.vars.now (cut_by (λ z. not (nat_eq z c.args.y) || t) v.0) (cut_by (λ z. not (nat_eq z c.args.y)) v.0) w.store.now
+    c.drop_value.new.w.store.now
     c.args.before c.drop_value.result
     (λ live. cut_same (λ z. not (nat_eq z c.args.y) || t) (λ z. not (nat_eq z c.args.y)) v.0 w.store.now.sets
     (λ y there. dropped_tested (not (nat_eq y c.args.y)) t (sym c.passes.ensures ∙ c.if-passes.false)))

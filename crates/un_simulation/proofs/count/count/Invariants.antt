@@ -6,4 +6,5 @@ use Rattle.un_simulation.specs.Count.{packets_under, count_of}
 use Rattle.un_simulation.proofs.count.count.Given as goal
 
 abbrev pub invariant-loop-block : goal.invariant-loop-block
-invariant-loop-block l = l.total + sum_by (λ (b : Block). b.freq * packets_under l.code.blocks b.label) (drop l.block-index l.f.blocks) ≡ count_of l.f l.code
+invariant-loop-block l = l.total + sum_by (λ (b : Block). b.freq * packets_under l.code.blocks b.label) (drop l.block-index l.f.blocks) ≡
+    count_of l.f l.code

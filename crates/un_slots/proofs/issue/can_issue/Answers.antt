@@ -24,4 +24,5 @@ returns-else-least_number-len c =
     let s = c.args.w.now.store.now.sets in
     c.is_within.ensures ∙ (within_is c.load_at-load.result (λ r. load r items s c.args.c) c.load_at-load.ensures
     ∙ sym (settled_fits items c.args.k c.args.item.now s c.args.c c.requires.item (sym c.is_settled.ensures ∙ c.if-is_settled.true)
-    c.requires.its_own (let few = c.if-least_number-len.false in let n = c.least_number.ensures in let m = c.len.ensures in grind (arith, few, n, m))))
+    c.requires.its_own (let few = c.if-least_number-len.false in let n = c.least_number.ensures in let m = c.len.ensures in
+    grind (arith, few, n, m))))

@@ -1,4 +1,5 @@
-use Rattle.std.proofs.Common.{ℕ, ◌≡◌, ◌<◌, ◌+◌, ◌-◌, ◌^◌, ◌⊎◌, ◌∙◌, Bool, true, false, ◌&&◌, not, nat_eq, nat_lt, refl, sym, ap, subst, arith, inl, inr}
+use Rattle.std.proofs.Common.{ℕ, ◌≡◌, ◌<◌, ◌+◌, ◌-◌, ◌^◌, ◌⊎◌, ◌∙◌, Bool, true, false, ◌&&◌, not, nat_eq, nat_lt, refl, sym, ap, subst}
+use Rattle.std.proofs.Common.{arith, inl, inr}
 use Rattle.std.proofs.lemmas.Bool.Decides.{nat_tests}
 use Rattle.std.proofs.lemmas.Bool.{cases_lt}
 use Rattle.un_domains.specs.Sets.{set_at, has}
@@ -58,13 +59,16 @@ loop-c-preserved c =
     ]) in
     record {
       marked = λ e lt own. elim (less_or e n lt) [
-        | inl below ↦ ap (λ (y : ℕ). not (nat_eq y (2 ^ 32 - 1))) (did.elsewhere e (λ is. omega (arith, below, is))) ∙ inv.marked e below own
-        | inr is ↦ subst (λ (y : ℕ). is_unmarked now y ≡ can_issue os i s y) (sym is) (did.here (subst (λ (y : ℕ). has (set_at s i.at.0) y ≡ true) is own))
+        | inl below ↦ ap (λ (y : ℕ). not (nat_eq y (2 ^ 32 - 1))) (did.elsewhere e (λ is. omega (arith, below, is)))
+            ∙ inv.marked e below own
+        | inr is ↦ subst (λ (y : ℕ). is_unmarked now y ≡ can_issue os i s y) (sym is) (did.here (subst (λ (y : ℕ). has
+            (set_at s i.at.0) y ≡ true) is own))
       ];
       rest = λ e le. did.elsewhere e (λ is. omega (arith, le, is)) ∙ inv.rest e (omega (arith, le));
       none = λ off e lt own. elim (less_or e n lt) [
         | inl below ↦ inv.none (neither off).0 e below own
-        | inr is ↦ subst (λ (y : ℕ). can_issue os i s y ≡ true) (sym is) (did.none (neither off).1 (subst (λ (y : ℕ). has (set_at s i.at.0) y ≡ true) is own))
+        | inr is ↦ subst (λ (y : ℕ). can_issue os i s y ≡ true) (sym is) (did.none (neither off).1 (subst (λ (y : ℕ). has
+            (set_at s i.at.0) y ≡ true) is own))
       ];
       same = λ off. did.same (neither off).1 ∙ inv.same (neither off).0;
       early = λ off. inv.early (neither off).0;
@@ -82,7 +86,16 @@ returns-clause-marks c e own =
           let high = has-fold_max 0 xs e own in
           let top = c.max-high.ensures in
           let done = c.loop-c-test.false in
-          let below : e < c.loop-c.c = omega (arith, early, high, top, done, c.min-end.ensures, c.saturating_add.ensures, c.ranges.horizon) in
+          let below : e < c.loop-c.c = omega (
+            arith,
+            early,
+            high,
+            top,
+            done,
+            c.min-end.ensures,
+            c.saturating_add.ensures,
+            c.ranges.horizon,
+          ) in
           ap (λ (b : Bool). nat_lt e c.args.horizon && b) (c.loop-c.invariant.marked e below own))
       | inr late ↦ (
           let no : nat_lt e c.args.horizon ≡ false = grind (arith, nat_tests, late) in

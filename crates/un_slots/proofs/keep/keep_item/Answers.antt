@@ -19,14 +19,16 @@ use Rattle.un_slots.specs.LoadLaws.{slot_unsure, slot_is, slot_all}
 use Rattle.un_slots.specs.Listings.{is_left}
 use Rattle.un_slots.proofs.keep.keep_item.Goals as goal
 
-vars_of : (vs : List VarId) (items : List Item) (k : ℕ) (i : Item) → SlotVars vs items → k < length items → i ≡ get_or items k i → ItemVars vs i
+vars_of : (vs : List VarId) (items : List Item) (k : ℕ) (i : Item) → SlotVars vs items → k < length items → i ≡ get_or items k i
+    → ItemVars vs i
 vars_of vs items k i all lt is = subst (ItemVars vs) (sym is) (all k i lt)
 
 item_at : (items : List Item) (k : ℕ) (i : Item) → k < length items → i ≡ get_or items k i → slice_get items k ≡ Some i
 item_at items k i lt is = slice_get_read items (length items) k i refl lt is
 
 -- a cut that is another's by its tests
-cut_is : (vs : List VarId) (o p : Option Sets) (old new : Contents) (answer : Pruned) → o ≡ p → IsPrune vs p old new answer → IsPrune vs o old new answer
+cut_is : (vs : List VarId) (o p : Option Sets) (old new : Contents) (answer : Pruned) → o ≡ p → IsPrune vs p old new answer
+    → IsPrune vs o old new answer
 cut_is vs o p old new answer e h = subst (λ (x : Option Sets). IsPrune vs x old new answer) (sym e) h
 
 pub is_sure-requires : goal.is_sure-requires
@@ -87,7 +89,8 @@ returns-in-Failed-clause-step c =
     (λ live. (let p = cut_is vs (slot_cut items c.args.horizon c.args.k s.sets) (cut_by q i.at.0 s.sets) s new did.result
     (slot_is items c.args.horizon c.args.k i s.sets q (item_at items c.args.k i c.requires.there c.index-items-k.is)
     (sym c.is_sure.ensures ∙ c.if-not-is_sure.false)
-    (λ y own. ap (λ (ms : List ℕ). is_left ms c.args.horizon y) c.as_slice.ensures.value ∙ c.mark.ensures.marks y own)) did.ensures.prune in (p.ends, p.untouched)))
+    (λ y own. ap (λ (ms : List ℕ). is_left ms c.args.horizon y) c.as_slice.ensures.value
+    ∙ c.mark.ensures.marks y own)) did.ensures.prune in (p.ends, p.untouched)))
 
 pub list-requires-clause-vars : goal.list-requires-clause-vars
 list-requires-clause-vars c = subst (λ (us : List VarId). SlotVars us c.args.items.now) (sym (ap (λ r. r.now) c.keep_left-did.ensures.vars))
@@ -108,4 +111,5 @@ returns-in_default-clause-step c =
     (λ live. (let p = cut_is vs (slot_cut items c.args.horizon c.args.k s.sets) (cut_by q i.at.0 s.sets) s new did.result
     (slot_is items c.args.horizon c.args.k i s.sets q (item_at items c.args.k i c.requires.there c.index-items-k.is)
     (sym c.is_sure.ensures ∙ c.if-not-is_sure.false)
-    (λ y own. ap (λ (ms : List ℕ). is_left ms c.args.horizon y) c.as_slice.ensures.value ∙ c.mark.ensures.marks y own)) did.ensures.prune in (p.ends, p.untouched)))
+    (λ y own. ap (λ (ms : List ℕ). is_left ms c.args.horizon y) c.as_slice.ensures.value
+    ∙ c.mark.ensures.marks y own)) did.ensures.prune in (p.ends, p.untouched)))

@@ -40,7 +40,8 @@ loop-c-preserved c =
     try_next vs (λ x. true) (λ x y same. refl) s.sets v y q c.requires.there in
     record {
       prune = subst (λ (o : Option Sets). IsPrune vs o s did.new.w.store.now did.result) next
-          (subst (λ (us : List VarId). IsPrune us (option_and_then (cut_by (λ z. not (nat_eq z y) || q y) v.0) now) s did.new.w.store.now did.result) e step);
+          (subst (λ (us : List VarId). IsPrune us (option_and_then (cut_by (λ z. not
+          (nat_eq z y) || q y) v.0) now) s did.new.w.store.now did.result) e step);
       same_reference = did.ensures.same_reference ∙ inv.same_reference;
       vars = did.ensures.vars ∙ inv.vars;
     }

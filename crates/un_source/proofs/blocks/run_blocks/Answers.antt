@@ -10,7 +10,8 @@ use Rattle.un_source.proofs.blocks.run_blocks.Goals as goal
 pub pass-requires-clause-ops : goal.pass-requires-clause-ops
 pass-requires-clause-ops c =
     let block = c.index-blocks-b.result in
-    let here = slice_get_read c.args.blocks.now (length c.args.blocks.now) c.loop-i.b block refl c.loop-i.invariant.place c.index-blocks-b.is in
+    let here = slice_get_read c.args.blocks.now (length c.args.blocks.now) c.loop-i.b block refl c.loop-i.invariant.place
+    c.index-blocks-b.is in
     c.requires.ops c.loop-i.b block here
 
 pub returns-in-Ended : goal.returns-in-Ended
@@ -34,6 +35,7 @@ loop-i-preserved c =
     let here = slice_get_read blocks (length blocks) l.b block refl l.invariant.place c.index-blocks-b.is in
     let step = run_step blocks c.args.n l.i l.b old new block c.in_ok-next.field-0 c.loop-i-test.true here c.in_ok-next.ensures.led in
     record {
-      place = c.requires.leads l.b block c.in-To.next here (subst (LeadsTo (targets_of l.b block.term)) c.in-To.is c.in_ok-next.ensures.inside);
+      place = c.requires.leads l.b block c.in-To.next here (subst (LeadsTo (targets_of l.b block.term)) c.in-To.is
+          c.in_ok-next.ensures.inside);
       run = l.invariant.run ∙ step ∙ ap (λ (x : Left). led x new (enter blocks (c.args.n - (l.i + 1)))) c.in-To.is;
     }

@@ -17,7 +17,8 @@ ready_after-ready-requires-clause-room c =
 pub invariant_of-self : goal.invariant_of-self
 invariant_of-self c = (
   λ r.
-      let ready = still_ready c.args.t.now c.args.self.now c.args.packet.now c.requires.fit (subst IsReady c.self.view_is c.self.invariant.0) r in
+      let ready = still_ready c.args.t.now c.args.self.now c.args.packet.now c.requires.fit
+      (subst IsReady c.self.view_is c.self.invariant.0) r in
       rw (c.ready_after-ready.ensures, c.issue_cycle-cycle.ensures) ready,
   c.self.invariant.1,
   c.self.invariant.2,

@@ -8,7 +8,9 @@ use Rattle.un_packet.proofs.Cycles.{none_waits}
 use Rattle.un_packet.proofs.state.State.first.Goals as goal
 
 -- a state that is told part by part
-told : (size : ℕ) (start : Start) (u : PacketState) → u.regs ≡ start.regs → u.memory ≡ start.memory → u.frame ≡ (first_state size start).frame → u.frame_start ≡ (first_state size start).frame_start → u.calls ≡ [] → u.replies ≡ start.replies → u.cycle ≡ 0 → u.ready ≡ replicate 36 0 → u ≡ first_state size start
+told : (size : ℕ) (start : Start) (u : PacketState) → u.regs ≡ start.regs → u.memory ≡ start.memory
+    → u.frame ≡ (first_state size start).frame → u.frame_start ≡ (first_state size start).frame_start → u.calls ≡ []
+    → u.replies ≡ start.replies → u.cycle ≡ 0 → u.ready ≡ replicate 36 0 → u ≡ first_state size start
 told size start u a b c d e f g h = rw (a, b, c, d, e, f, g, h) refl
 
 pub invariant_of-result : goal.invariant_of-result

@@ -13,7 +13,8 @@ on_first true c P h e = h
 on_first false c P h e = absurd (cc e)
 
 pub record-call-requires-clause-few : goal.record-call-requires-clause-few
-record-call-requires-clause-few c = (found (λ (i : Instr). is_call i.op) IsRunnable c.args.packet.now c.in-Some.i.now c.requires.runnable c.in-Some.ensures).0.few
+record-call-requires-clause-few c = (found (λ (i : Instr). is_call i.op) IsRunnable c.args.packet.now c.in-Some.i.now c.requires.runnable
+    c.in-Some.ensures).0.few
 
 pub record-call-requires-clause-named : goal.record-call-requires-clause-named
 record-call-requires-clause-named c =

@@ -23,6 +23,8 @@ returns-clause-prune c =
     let l = before_link p.a p.a_on p.b p.b_on p.gap in
     let t = before_holds p.a p.a_on p.b p.b_on p.gap in
     let step = subst (λ (us : List VarId). Stepped us (link_steps us l) old mid Same did) c.requires.vars c.keep_link-did.ensures.step in
-    let last = subst (λ (us : List VarId). Goes us (last_cut p.vars t) mid new did c.check_last.result) (ap (λ r. r.now) c.keep_link-did.ensures.vars ∙ c.requires.vars) c.check_last.ensures.goes in
-    checked p.vars p.vars (λ s. option_and_then (last_cut p.vars t) (link_steps p.vars l s)) old new c.check_last.result refl c.requires.live
+    let last = subst (λ (us : List VarId). Goes us (last_cut p.vars t) mid new did c.check_last.result)
+    (ap (λ r. r.now) c.keep_link-did.ensures.vars ∙ c.requires.vars) c.check_last.ensures.goes in
+    checked p.vars p.vars (λ s. option_and_then (last_cut p.vars t) (link_steps p.vars l s)) old new c.check_last.result refl
+    c.requires.live
     (goes_chain p.vars (link_steps p.vars l) (last_cut p.vars t) old mid new Same did c.check_last.result step last)

@@ -27,7 +27,8 @@ returns-clause-prune c =
     let t = inside_holds p.at p.on p.end in
     let e1 = ap (λ r. r.now) c.keep_link-first.ensures.vars ∙ c.requires.vars in
     let e2 = ap (λ r. r.now) c.keep_link-did.ensures.vars ∙ e1 in
-    let step1 = subst (λ (us : List VarId). Stepped us (link_steps us a) old one Same first) c.requires.vars c.keep_link-first.ensures.step in
+    let step1 = subst (λ (us : List VarId). Stepped us (link_steps us a) old one Same first) c.requires.vars c.keep_link-first.ensures.step
+    in
     let step2 = subst (λ (us : List VarId). Stepped us (link_steps us b) one mid first did) e1 c.keep_link-did.ensures.step in
     let last = subst (λ (us : List VarId). Goes us (last_cut p.vars t) mid new did c.check_last.result) e2 c.check_last.ensures.goes in
     let steps = λ (s : Sets). option_and_then (link_steps p.vars b) (link_steps p.vars a s) in

@@ -28,7 +28,8 @@ returns-clause-prune c =
     let e1 = ap (λ r. r.now) c.keep_link-first.ensures.vars ∙ c.requires.vars in
     let e2 = ap (λ r. r.now) c.close-did.ensures.vars ∙ e1 in
     let g = at_cut (close_test l) (Var p.at) in
-    let step1 = subst (λ (us : List VarId). Stepped us (link_steps us l) old one Same first) c.requires.vars c.keep_link-first.ensures.step in
+    let step1 = subst (λ (us : List VarId). Stepped us (link_steps us l) old one Same first) c.requires.vars c.keep_link-first.ensures.step
+    in
     let step2 = subst (λ (us : List VarId). Stepped us g one mid first did) e1 c.close-did.ensures.step in
     let last = subst (λ (us : List VarId). Goes us (last_cut p.vars t) mid new did c.check_last.result) e2 c.check_last.ensures.goes in
     let steps = λ (s : Sets). option_and_then g (link_steps p.vars l s) in

@@ -4,5 +4,6 @@ use Rattle.std.specs.List.{list_all}
 use Rattle.un_rect.specs.Clobber.{spares}
 use Rattle.un_rect.proofs.clobber.ClobberPredicate.test.Given as goal
 
-abbrev pub invariant-loop-c : goal.invariant-loop-c
-invariant-loop-c l = list_all (λ c. spares l.self.mask l.self.temp c l.fixed) (drop l.c-index l.self.calls) ≡ list_all (λ c. spares l.self.mask l.self.temp c l.fixed) l.self.calls
+abbrev pub invariant-loop-i : goal.invariant-loop-i
+invariant-loop-i l = list_all (λ c. spares l.self.mask l.self.temp c l.fixed) (drop l.i l.calls)
+    ≡ list_all (λ c. spares l.self.mask l.self.temp c l.fixed) l.calls

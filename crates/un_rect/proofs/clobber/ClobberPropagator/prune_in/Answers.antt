@@ -1,4 +1,4 @@
-use Rattle.std.proofs.Common.{ℕ, List, ◌≡◌, ◌∙◌, All, refl, sym, ap, subst}
+use Rattle.std.proofs.Common.{List, ◌∙◌, All, refl, sym, ap, subst}
 use Rattle.un_base.specs.declared.ids.VarId.{VarId}
 use Rattle.un_prop.specs.Going.{Stepped}
 use Rattle.un_prop.specs.GoingLaws.{stepped_chain}
@@ -26,7 +26,9 @@ returns-clause-prune c =
     let f = each_entry (call_steps p.mask p.temp) p.calls in
     let g = each_entry (check_call p.vars p.mask p.temp) p.calls in
     let step1 = subst (λ (us : List VarId). Stepped us f old mid Same one.result) c.requires.vars
-    (subst (λ (xs : List ClobberCall). Stepped c.args.w.now.vars.now (each_entry (call_steps p.mask p.temp) xs) old mid Same one.result) c.as_slice.ensures one.ensures.step) in
-    let step2 = subst (λ (us : List VarId). Stepped us g mid new one.result two.result) (ap (λ r. r.now) one.ensures.vars ∙ c.requires.vars) two.ensures.step in
+    (subst (λ (xs : List ClobberCall). Stepped c.args.w.now.vars.now (each_entry (call_steps p.mask p.temp) xs) old mid Same one.result)
+    c.as_slice.ensures one.ensures.step) in
+    let step2 = subst (λ (us : List VarId). Stepped us g mid new one.result two.result) (ap (λ r. r.now) one.ensures.vars
+    ∙ c.requires.vars) two.ensures.step in
     checked p.vars p.vars (clobber_cut p.vars p.mask p.temp p.calls) old new two.result refl c.requires.live
     (stepped_chain p.vars f g old mid new Same one.result two.result step1 step2).goes

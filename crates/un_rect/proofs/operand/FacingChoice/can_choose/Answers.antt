@@ -7,7 +7,8 @@ use Rattle.un_rect.proofs.operand.FacingChoice.can_choose.Goals as goal
 pub returns-then-i-self : goal.returns-then-i-self
 returns-then-i-self c =
     let p = c.args.self.now in
-    c.may_be.ensures ∙ sym (passes_within (may_be (side_of p.one) (side_of p.other) c.args.w.now.store.now.sets) p.one.regs.now c.args.i (record { 0 = 0 }) c.if-i-self.true)
+    c.may_be.ensures ∙ sym (passes_within (may_be (side_of p.one) (side_of p.other) c.args.w.now.store.now.sets) p.one.regs.now c.args.i
+    (record { 0 = 0 }) c.if-i-self.true)
 
 pub returns-else-i-self : goal.returns-else-i-self
 returns-else-i-self c =

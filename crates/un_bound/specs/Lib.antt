@@ -1,0 +1,6 @@
+pub mod Arcs
+pub mod Choices
+pub mod Lengths
+pub mod Plain
+pub mod Relaxations
+pub mod Timings

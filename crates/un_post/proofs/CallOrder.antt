@@ -1,0 +1,398 @@
+-- A solution keeps the arcs: what is before a call and behind it, whatever the cycles, is so in its cycles. So each solution meets
+-- what is posted of calls.
+use Rattle.std.proofs.Common.{ℕ, zero, suc, ◌≡◌, ◌+◌, ◌<◌, ◌≤◌, ◌⊎◌, Bool, true, false, List, [], ◌∷◌, length, fold, inl, inr, refl, sym}
+use Rattle.std.proofs.Common.{ap, ◌∙◌, subst, arith, Contains, eq-eqb}
+use Rattle.std.specs.Prelude.{Option, Some, None, IfSome, not, ◌&&◌, ◌||◌, ◌==◌, nat_eq, slice_get, slice_index}
+use Rattle.std.specs.Prelude.{sum_by, unwrap_or, IsSomeAnd, if◌then◌else◌}
+use Rattle.std.proofs.lemmas.Bool.Decides.{nat_tests}
+use Rattle.std.proofs.lemmas.List.Sums.{sum_by-cons}
+use Rattle.un_isa.specs.Fit.{IsFit, AreFitNeeds}
+use Rattle.un_isa.specs.declared.op.Op.{Op}
+use Rattle.un_isa.specs.declared.op.Op.TheVariants.{Call, Load, Store, Jump as JumpOp, JumpIf, JumpIfNot, Jumpr}
+use Rattle.un_isa.specs.declared.facts.Class.{Class}
+use Rattle.un_isa.specs.declared.facts.Class.TheVariants.{Alu32, Xtype, Loading, Storing, Control as ControlClass, Nothing}
+use Rattle.un_isa.specs.Facts.{class_of}
+use Rattle.un_isa.specs.Hexagon.{needs_by as least_needs}
+use Rattle.un_isa.specs.Tables.{number_of}
+use Rattle.un_isa.specs.declared.table.Needs.{Needs}
+use Rattle.un_isa.specs.declared.table.Table.{Table}
+use Rattle.un_ir.specs.declared.function.Term.{Term}
+use Rattle.un_ir.specs.declared.function.Term.TheVariants.{Fall, Jump, Branch, Ret}
+use Rattle.un_ir.specs.Linear.{is_in}
+use Rattle.un_ir.specs.declared.extended.ExtKind.{ExtKind}
+use Rattle.un_ir.specs.declared.extended.ExtKind.TheVariants.{In, Out, Body, End, Copy, Enter, Leave}
+use Rattle.un_ir.specs.declared.extended.ExtBlock.{ExtBlock}
+use Rattle.un_ir.specs.declared.extended.ExtOp.{ExtOp}
+use Rattle.un_ir.specs.declared.extended.Ext.{Ext}
+use Rattle.un_domains.specs.Sets.{has}
+use Rattle.un_model.specs.declared.model.Arc.{Arc}
+use Rattle.un_model.specs.declared.model.Options.{Options}
+use Rattle.un_model.specs.declared.model.TempVars.{TempVars}
+use Rattle.un_base.specs.declared.ids.VarId.{VarId}
+use Rattle.un_model.specs.declared.model.OpVars.{OpVars}
+use Rattle.un_model.specs.declared.schedule.Issue.{Issue}
+use Rattle.un_model.specs.declared.schedule.Resource.TheVariants.{Control}
+use Rattle.un_model.specs.ArcLaws.{arc_told}
+use Rattle.un_model.specs.Arcs.{reads_from, own_instr, NeedsGap, block_arcs, blocks_arcs}
+use Rattle.un_model.specs.Arcs.NeedsGap.{ByData, ByMemory}
+use Rattle.un_model.specs.Instructions.{instruction_of, latency_by, needs_by, no_needs, is_control, is_transfer, transfer_of}
+use Rattle.un_model.specs.Schedules.{schedule_of, issues_of, value_by, cycle_by}
+use Rattle.un_model.specs.Solutions.{IsSchedule, IsPlaced, IsPlacedAs, IsLast, latency_gap, after_write, memory_distance}
+use Rattle.un_model.specs.Variables.{model_of, arcs_of, blocks_temps, block_count, ops_count, var_at}
+use Rattle.un_model.proofs.ArcsKept.{KeepsArc, arcs_kept}
+use Rattle.un_model.proofs.Lists.{Member, each_member, index_get, place_of as position_of}
+use Rattle.un_model.proofs.Operations.{placed_is}
+use Rattle.un_model.proofs.Placed.{Placed, Region, region_placed, vars_of, issue_at}
+use Rattle.un_model.proofs.PlacedSchedules.{all, issue_here, each_issue}
+use Rattle.un_post.specs.Constraints.{AllMet}
+use Rattle.un_post.specs.Postings.{is_call_kind}
+use Rattle.un_post.specs.Rooms.{led_by, reached, ends_block, arcs_or, clobbers_of}
+use Rattle.un_post.proofs.Blocks.{blocks, in_all, past, region_close}
+use Rattle.un_post.proofs.Facts.{Given}
+use Rattle.un_post.proofs.Packets.{no_room, share, sum_part, whole_taken}
+use Rattle.un_post.proofs.Regions.{regions, of_region}
+use Rattle.un_post.proofs.Spared.{Ordered, spared, call_instr}
+use Rattle.un_post.proofs.Tests.{and_iff}
+
+member_contains : {X : Type 0} (xs : List X) (x : X) → Member x xs → Contains xs x
+member_contains xs x m = let r = position_of xs x m in (r.0, r.1, index_get xs r.0 x x r.2)
+
+-- ---- what is reached
+
+-- what holds of the numbers that are reached, and is handed on by arcs, holds of all that they lead to
+leads : (P : ℕ → Type 0) (arcs : List Arc) (from : List ℕ) → ((a : Arc) → Member a arcs → P a.from.0 → P a.to.0)
+    → ((n : ℕ) → has from n ≡ true → P n) → (n : ℕ) → has (fold led_by from arcs) n ≡ true → P n
+leads P [] from step start n h = start n h
+leads P (a ∷ arcs) from step start n h =
+    leads P arcs (led_by from a) (λ b m. step b (inr m)) (λ k there. by (has from a.from.0) refl k there) n h
+  where
+    by : (t : Bool) → has from a.from.0 ≡ t → (k : ℕ) → has (if has from a.from.0 then a.to.0 ∷ from else from) k ≡ true → P k
+    by false e k there = start k (subst (λ (t : Bool). has (if t then a.to.0 ∷ from else from) k ≡ true) e there)
+    by true e k there = last (nat_eq k a.to.0) refl (subst (λ (t : Bool). has (if t then a.to.0 ∷ from else from) k ≡ true) e there)
+      where
+        last : (t : Bool) → nat_eq k a.to.0 ≡ t → (nat_eq k a.to.0 || has from k) ≡ true → P k
+        last true same there = let is : a.to.0 ≡ k = grind (arith, nat_tests, same) in subst P is (step a (inl refl) (start a.from.0 e))
+        last false same there = start k (subst (λ (t : Bool). (t || has from k) ≡ true) same there)
+
+-- ---- the arcs of a block
+
+arcs_here : (t : Table) (temps : List TempVars) (b n first k : ℕ) (blocks : List ExtBlock) (r : Region)
+    → Member r (regions b n first blocks) → r.block ≡ b + k
+    → (let owner = r.owner in slice_get (blocks_arcs t temps n blocks) k ≡ Some (block_arcs t temps r.number owner.ops))
+arcs_here t temps b n first k [] r m e = elim m [ ]
+arcs_here t temps b n first zero (c ∷ cs) r (inl h) e = ap (λ (r : Region). let owner = r.owner in
+    Some (block_arcs t temps r.number owner.ops)) h
+arcs_here t temps b n first (suc k) (c ∷ cs) r (inl h) e = let s : b ≡ r.block = ap (λ (r : Region). r.block) h in absurd (omega arith)
+arcs_here t temps b n first zero (c ∷ cs) r (inr m) e =
+    let le = each_member (λ (r : Region). b + 1 ≤ r.block) _ r (past (b + 1) (n + length c.ops) (first + block_count c) cs) m in
+    absurd (omega arith)
+arcs_here t temps b n first (suc k) (c ∷ cs) r (inr m) e = arcs_here t temps (b + 1) (n + length c.ops) (first + block_count c) k cs r m
+    (omega arith)
+
+write_gap : (i : Option Op) (g : ℕ) → after_write i ≡ Some g → 1 ≤ g
+write_gap None g h = absurd (cc h)
+write_gap (Some Load) g h = let e : 1 ≡ g = cc h in omega arith
+write_gap (Some Store) g h = let e : 1 ≡ g = cc h in omega arith
+write_gap (Some Call) g h = let e : 1 ≡ g = cc h in omega arith
+write_gap (Some op) g h = absurd (cc h)
+
+some_gap : (a b : ℕ) → Some a ≡ Some b → a ≡ b
+some_gap a b h = cc h
+
+-- no user of what a call gives, nor a later access to memory, issues in its cycle
+call_gap : (t : Table) → IsFit t → (reads : Bool) (from to : ExtOp) (gap : ℕ) → own_instr from ≡ Some Call → NeedsGap t reads from to gap
+    → 1 ≤ gap
+call_gap t fit true from to gap call (ByData h) =
+    let l = fit.latencies Call in
+    let lo = l.0 in
+    let e = some_gap (latency_by t (own_instr from)) gap h in
+    let f : latency_by t (own_instr from) ≡ latency_by t (Some Call) = ap (latency_by t) call in
+    omega arith
+call_gap t fit false from to gap call (ByData h) = absurd (cc h)
+call_gap t fit reads from to gap call (ByMemory h) =
+    write_gap (own_instr to) gap (ap (λ (i : Option Op). memory_distance i (own_instr to)) (sym call) ∙ h)
+
+start_cycle : (kind : ExtKind) (values : List ℕ) (end : ℕ) (vars : OpVars) → is_in kind ≡ true → cycle_by values end kind vars ≡ 0
+start_cycle In values end vars h = refl
+start_cycle Out values end vars h = absurd (cc h)
+start_cycle (Body so) values end vars h = absurd (cc h)
+start_cycle (End term) values end vars h = absurd (cc h)
+start_cycle (Copy node) values end vars h = absurd (cc h)
+start_cycle Enter values end vars h = absurd (cc h)
+start_cycle Leave values end vars h = absurd (cc h)
+
+less : (a b : ℕ) → a ≤ b → (a ≡ b → ⊥) → a + 1 ≤ b
+less a b le apart = by (nat_eq a b) refl
+  where
+    by : (t : Bool) → nat_eq a b ≡ t → a + 1 ≤ b
+    by true e = absurd (apart (grind (arith, nat_tests, e)))
+    by false e = grind (arith, nat_tests, e, le)
+
+-- ---- control transfers
+
+sum_here : (f : Placed → ℕ) (ps : List Placed) (a : Placed) → Member a ps → f a ≤ sum_by f ps
+sum_here f [] a m = elim m [ ]
+sum_here f (p ∷ ps) a (inl e) = let cons = sum_by-cons f p ps in let same : f p ≡ f a = ap f e in omega arith
+sum_here f (p ∷ ps) a (inr m) = let cons = sum_by-cons f p ps in let le = sum_here f ps a m in omega arith
+
+sum_two : (f : Placed → ℕ) (ps : List Placed) (a b : Placed) → Member a ps → Member b ps → (a ≡ b → ⊥) → f a + f b ≤ sum_by f ps
+sum_two f [] a b m n apart = elim m [ ]
+sum_two f (p ∷ ps) a b (inl e) (inl g) apart = absurd (apart (sym e ∙ g))
+sum_two f (p ∷ ps) a b (inl e) (inr n) apart =
+    let cons = sum_by-cons f p ps in let same : f p ≡ f a = ap f e in let le = sum_here f ps b n in omega arith
+sum_two f (p ∷ ps) a b (inr m) (inl g) apart =
+    let cons = sum_by-cons f p ps in let same : f p ≡ f b = ap f g in let le = sum_here f ps a m in omega arith
+sum_two f (p ∷ ps) a b (inr m) (inr n) apart =
+    let cons = sum_by-cons f p ps in let le = sum_two f ps a b m n apart in omega arith
+
+needs_control : (t : Table) → IsFit t → (op : Op) → is_control (class_of op) ≡ true → 1 ≤ (needs_by t (Some op)).control
+needs_control t fit op class = need (slice_get t.uses (number_of op)) (fit.needs op)
+  where
+    one : (c : Class) → is_control c ≡ true → 1 ≤ (least_needs c).control
+    one ControlClass h = omega arith
+    one Alu32 h = absurd (cc h)
+    one Xtype h = absurd (cc h)
+    one Loading h = absurd (cc h)
+    one Storing h = absurd (cc h)
+    one Nothing h = absurd (cc h)
+
+    need : (u : Option Needs) → IsSomeAnd u (AreFitNeeds (least_needs (class_of op))) → 1 ≤ (unwrap_or u no_needs).control
+    need None h = absurd h
+    need (Some u) h = let c = h.control in let lo = c.0 in let k = one (class_of op) class in omega arith
+
+is_control_of : (op : Op) → is_transfer op ≡ true → is_control (class_of op) ≡ true
+is_control_of Call h = refl
+is_control_of op h = h
+
+module _ (e : Ext) (o : Options) (x : List ℕ) (given : Given e o x)
+    (schedule : IsSchedule (latency_gap e.table) (model_of e o).domains (model_of e o) x (schedule_of (model_of e o) x)) where
+  abbrev temps : List TempVars
+  temps = blocks_temps 0 0 e.blocks
+
+  module _ (r : Region) (mr : Member r (blocks e o x)) where
+    abbrev arcs : List Arc
+    arcs = arcs_or (slice_get (arcs_of e) r.block)
+
+    at : (let owner = r.owner in slice_get (arcs_of e) r.block ≡ Some (block_arcs e.table temps r.number owner.ops))
+    at = arcs_here e.table temps 0 0 0 r.block e.blocks r mr (omega arith)
+
+    arcs_are : (let owner = r.owner in arcs ≡ block_arcs e.table temps r.number owner.ops)
+    arcs_are = ap arcs_or at
+
+    kept : (a : Arc) → Member a arcs → KeepsArc (issues_of (model_of e o) x) a
+    kept a m =
+        let owner = r.owner in
+        arcs_kept (model_of e o) (record { values = x }) refl given.extended given.fit given.options schedule r.block
+        (block_arcs e.table temps r.number owner.ops) a at
+        (member_contains _ a (subst (Member a) arcs_are m))
+
+    -- the cycle of an operation by its number
+    cycle_at : (q : Placed) → Member q (region_placed r) → (i : Issue) → slice_get (issues_of (model_of e o) x) q.number ≡ Some i
+        → (issue_at x q).cycle ≡ i.cycle
+    cycle_at q m i h =
+        let same : Some (issue_at x q) ≡ Some i = sym (issue_here e o x q (in_all e o x r q mr m)) ∙ h in
+        ap (λ (j : Option Issue). cycle_or j) same
+      where
+        cycle_or : Option Issue → ℕ
+        cycle_or None = 0
+        cycle_or (Some i) = i.cycle
+
+    -- an arc from a call has a gap
+    leaves_gap : (c : Placed) (a : Arc) → Member c (region_placed r) → is_call_kind c.op.kind ≡ true → Member a arcs → a.from.0 ≡ c.number
+        → 1 ≤ a.gap
+    leaves_gap c a mc call ma same =
+        let owner = r.owner in
+        let is = arc_told e.table temps r.number owner.ops a (member_contains _ a (subst (Member a) arcs_are ma)) in
+        let k = position_of (region_placed r) c mc in
+        let p = placed_is r.block owner (var_at (r.first + ops_count owner.ops)) r.number r.first k.0 owner.ops c k.2 in
+        let n1 = is.numbers.0 in
+        let n2 = p.1 in
+        let place : is.earlier ≡ k.0 = omega arith in
+        let one : Some is.from ≡ Some c.op = sym is.from_at ∙ ap (slice_get owner.ops) place ∙ p.0 in
+        let from : is.from ≡ c.op = cc one in
+        let instr : own_instr is.from ≡ Some Call = ap own_instr from ∙ call_instr c.op.kind 0 call in
+        let gap = is.gap in
+        call_gap e.table given.fit (reads_from temps a.from.0 is.to) is.from is.to a.gap instr gap.asked
+
+    -- an operation that another one reaches does not issue before it
+    not_before : (d c : Placed) → Member d (region_placed r) → Member c (region_placed r) → has (reached arcs d.number) c.number ≡ true
+        → (issue_at x d).cycle ≤ (issue_at x c).cycle
+    not_before d c md mc h =
+        let P = λ (n : ℕ). (i : Issue) → slice_get (issues_of (model_of e o) x) n ≡ Some i → (issue_at x d).cycle ≤ i.cycle in
+        leads P arcs (d.number ∷ []) (λ a ma hp i hi.
+        let k = kept a ma in
+        let gap = k.kept in
+        let from = hp k.earlier k.from_at in
+        let same : Some k.later ≡ Some i = sym k.to_at ∙ hi in
+        let is : k.later ≡ i = cc same in
+        let cycle : k.later.cycle ≡ i.cycle = ap (λ (i : Issue). i.cycle) is in
+        omega arith)
+        (λ n there i hi.
+        let num : d.number ≡ n = first_of d.number n there in
+        let c = cycle_at d md i (ap (slice_get (issues_of (model_of e o) x)) num ∙ hi) in
+        omega arith)
+        c.number h (issue_at x c) (issue_here e o x c (in_all e o x r c mr mc))
+      where
+        first_of : (a n : ℕ) → (nat_eq n a || false) ≡ true → a ≡ n
+        first_of a n h = by (nat_eq n a) refl h
+          where
+            by : (t : Bool) → nat_eq n a ≡ t → (t || false) ≡ true → a ≡ n
+            by true e h = grind (arith, nat_tests, e)
+            by false e h = absurd (cc h)
+
+    -- another one that a call reaches issues after it
+    later : (c q : Placed) → Member c (region_placed r) → Member q (region_placed r) → is_call_kind c.op.kind ≡ true
+        → (q.number ≡ c.number → ⊥) → has (reached arcs c.number) q.number ≡ true → (issue_at x c).cycle + 1 ≤ (issue_at x q).cycle
+    later c q mc mq call other h =
+        let P = λ (n : ℕ). (i : Issue) → slice_get (issues_of (model_of e o) x) n ≡ Some i
+        → ((n ≡ c.number) × ((issue_at x c).cycle ≤ i.cycle)) ⊎ ((issue_at x c).cycle + 1 ≤ i.cycle) in
+        let found = leads P arcs (c.number ∷ []) (λ a ma hp i hi.
+        let k = kept a ma in
+        let gap = k.kept in
+        let same : Some k.later ≡ Some i = sym k.to_at ∙ hi in
+        let is : k.later ≡ i = cc same in
+        let cycle : k.later.cycle ≡ i.cycle = ap (λ (i : Issue). i.cycle) is in
+        elim (hp k.earlier k.from_at) [
+          | inl own ↦ inr (let one = leaves_gap c a mc call ma own.0 in let le = own.1 in omega arith)
+          | inr far ↦ inr (omega arith)
+        ])
+        (λ n there i hi.
+        let num : c.number ≡ n = first_of c.number n there in
+        let k = cycle_at c mc i (ap (slice_get (issues_of (model_of e o) x)) num ∙ hi) in
+        inl (sym num, omega arith))
+        q.number h (issue_at x q) (issue_here e o x q (in_all e o x r q mr mq)) in
+        elim found [ inl own ↦ absurd (other own.0) | inr far ↦ far ]
+      where
+        first_of : (a n : ℕ) → (nat_eq n a || false) ≡ true → a ≡ n
+        first_of a n h = by (nat_eq n a) refl h
+          where
+            by : (t : Bool) → nat_eq n a ≡ t → (t || false) ≡ true → a ≡ n
+            by true e h = grind (arith, nat_tests, e)
+            by false e h = absurd (cc h)
+
+    -- a call issues before its block's end
+    inside : (c : Placed) → Member c (region_placed r) → is_call_kind c.op.kind ≡ true → (issue_at x c).cycle < (issue_at x c).end
+    inside c mc call =
+        let v = vars_of c in
+        let latencies = schedule.latencies in
+        let placed = each_member (λ q. IsPlaced (issue_at x q)) (all e o x) c (each_issue e o x IsPlaced latencies.0)
+        (in_all e o x r c mr mc) in
+        let instr = call_instr c.op.kind (value_by x v.instr) call in
+        let there = subst (λ (i : Option Op). IfSome i (IsPlacedAs (issue_at x c).cycle (issue_at x c).end)) instr placed in
+        there.0.1
+
+    -- a transfer issues after a call: it takes the last cycle, and a packet has room for one of both
+    transfer_after : (c q : Placed) → Member c (region_placed r) → Member q (region_placed r) → is_call_kind c.op.kind ≡ true
+        → (op : Op) → (issue_at x q).instr ≡ Some op → is_transfer op ≡ true → is_call_kind q.op.kind ≡ false
+        → (issue_at x c).cycle + 1 ≤ (issue_at x q).cycle
+    transfer_after c q mc mq call op instr transfer other = by (nat_eq (issue_at x c).cycle (issue_at x q).cycle) refl
+      where
+        last : (issue_at x q).cycle + 1 ≡ (issue_at x q).end
+        last =
+            let latencies = schedule.latencies in
+            let placed = each_member (λ q. IsPlaced (issue_at x q)) (all e o x) q (each_issue e o x IsPlaced latencies.0)
+            (in_all e o x r q mr mq) in
+            let there = subst (λ (i : Option Op). IfSome i (IsPlacedAs (issue_at x q).cycle (issue_at x q).end)) instr placed in
+            subst (IsLast (issue_at x q).cycle (issue_at x q).end) transfer there.1
+
+        same_end : (issue_at x c).end ≡ (issue_at x q).end
+        same_end = ap (λ (v : VarId). slice_index x v.0) (sym (region_close r c mc) ∙ region_close r q mq)
+
+        crowded : (issue_at x c).cycle ≡ (issue_at x q).cycle → ⊥
+        crowded same =
+            let v = vars_of c in
+            let f = share e o x given Control r.block (issue_at x q).cycle in
+            let packets = schedule.packets in
+            let fits = (no_room e.table (issues_of (model_of e o) x) r.block (issue_at x q).cycle).1 (packets r.block (issue_at x q).cycle)
+            Control in
+            let whole = whole_taken e o x given Control r.block (issue_at x q).cycle in
+            let part = sum_part f region_placed (blocks e o x) r mr in
+            let two = sum_two f (region_placed r) c q mc mq (λ is.
+            (let z : is_call_kind c.op.kind ≡ is_call_kind q.op.kind = ap (λ (p : Placed). is_call_kind p.op.kind) is in
+            let y : true ≡ false = sym call ∙ z ∙ other in cc y)) in
+            let one = takes_control c Call (call_instr c.op.kind (value_by x v.instr) call) refl mc same in
+            let more = takes_control q op instr (is_control_of op transfer) mq refl in
+            omega arith
+          where
+            takes_control : (p : Placed) (op : Op) → (issue_at x p).instr ≡ Some op → is_control (class_of op) ≡ true
+                → Member p (region_placed r)
+                → (issue_at x p).cycle ≡ (issue_at x q).cycle → 1 ≤ share e o x given Control r.block (issue_at x q).cycle p
+            takes_control p op instr class mp same =
+                let n = (issue_at x q).cycle in
+                let here : (p.block == r.block) ≡ true = eq-eqb p.block r.block (of_region r p mp) in
+                let now : ((issue_at x p).cycle == n) ≡ true = eq-eqb (issue_at x p).cycle n same in
+                let need = needs_control e.table given.fit op class in
+                let is : share e o x given Control r.block n p ≡ (needs_by e.table (Some op)).control =
+                ap (λ (b : Bool). if b && ((issue_at x p).cycle == n) then (needs_by e.table (issue_at x p).instr).control else 0) here
+                ∙ ap (λ (b : Bool). if b then (needs_by e.table (issue_at x p).instr).control else 0) now
+                ∙ ap (λ (i : Option Op). (needs_by e.table i).control) instr in
+                omega arith
+
+        by : (t : Bool) → nat_eq (issue_at x c).cycle (issue_at x q).cycle ≡ t → (issue_at x c).cycle + 1 ≤ (issue_at x q).cycle
+        by true e = absurd (crowded (let is : (issue_at x c).cycle ≡ (issue_at x q).cycle = grind (arith, nat_tests, e) in is))
+        by false e =
+            let lt = inside c mc call in
+            let a = last in
+            let b = same_end in
+            let apart : (issue_at x c).cycle ≡ (issue_at x q).cycle
+            → ⊥ = λ s. (let t : nat_eq (issue_at x c).cycle (issue_at x q).cycle ≡ true = grind (arith, nat_tests, s) in
+            let z : true ≡ false = sym t ∙ e in cc z) in
+            less (issue_at x c).cycle (issue_at x q).cycle (omega arith) apart
+
+    -- what ends a block issues after its calls
+    end_after : (c q : Placed) → Member c (region_placed r) → Member q (region_placed r) → is_call_kind c.op.kind ≡ true
+        → ends_block q.op.kind ≡ true → (issue_at x c).cycle + 1 ≤ (issue_at x q).cycle
+    end_after c q mc mq call ends = by q.op.kind refl ends
+      where
+        transfer : (term : Term) (op : Op) → q.op.kind ≡ End term → transfer_of term ≡ Some op → is_transfer op ≡ true
+            → (issue_at x c).cycle + 1 ≤ (issue_at x q).cycle
+        transfer term op k t is =
+            let v = vars_of q in
+            let instr : (issue_at x q).instr ≡ Some op = ap (λ (k : ExtKind). instruction_of k (value_by x v.instr)) k ∙ t in
+            transfer_after c q mc mq call op instr is (ap is_call_kind k)
+
+        by : (kind : ExtKind) → q.op.kind ≡ kind → ends_block kind ≡ true → (issue_at x c).cycle + 1 ≤ (issue_at x q).cycle
+        by Out k h =
+            let v = vars_of q in
+            let z : (issue_at x q).cycle ≡ (issue_at x q).end = ap (λ (k : ExtKind). cycle_by x (issue_at x q).end k v) k in
+            let lt = inside c mc call in
+            let same : (issue_at x c).end ≡ (issue_at x q).end = ap (λ (v : VarId). slice_index x v.0)
+            (sym (region_close r c mc) ∙ region_close r q mq) in
+            omega arith
+        by (End Fall) k h = absurd (cc h)
+        by (End (Jump to)) k h = transfer (Jump to) JumpOp k refl refl
+        by (End (Branch pred true to)) k h = transfer (Branch pred true to) JumpIf k refl refl
+        by (End (Branch pred false to)) k h = transfer (Branch pred false to) JumpIfNot k refl refl
+        by (End (Ret value)) k h = transfer (Ret value) Jumpr k refl refl
+        by In k h = absurd (cc h)
+        by (Body so) k h = absurd (cc h)
+        by (Copy node) k h = absurd (cc h)
+        by Enter k h = absurd (cc h)
+        by Leave k h = absurd (cc h)
+
+    pub ordered : Ordered x r arcs
+    ordered = record {
+      before = λ d c md mc call h. first d c md mc (is_in d.op.kind) refl h;
+      behind = λ c q mc mq call h. second c q mc mq call (ends_block q.op.kind) refl h;
+    }
+      where
+        first : (d c : Placed) → Member d (region_placed r) → Member c (region_placed r) → (t : Bool) → is_in d.op.kind ≡ t
+            → (is_in d.op.kind || has (reached arcs d.number) c.number) ≡ true → (issue_at x d).cycle ≤ (issue_at x c).cycle
+        first d c md mc true k h =
+            let z = start_cycle d.op.kind x (issue_at x d).end (vars_of d) k in omega arith
+        first d c md mc false k h = not_before d c md mc (subst (λ (t : Bool). (t || has (reached arcs d.number) c.number) ≡ true) k h)
+
+        second : (c q : Placed) → Member c (region_placed r) → Member q (region_placed r) → is_call_kind c.op.kind ≡ true → (t : Bool)
+            → ends_block q.op.kind ≡ t
+            → (ends_block q.op.kind || (not (q.number == c.number) && has (reached arcs c.number) q.number)) ≡ true
+            → (issue_at x c).cycle + 1 ≤ (issue_at x q).cycle
+        second c q mc mq call true k h = end_after c q mc mq call k
+        second c q mc mq call false k h =
+            let two = (and_iff (not (q.number == c.number)) (has (reached arcs c.number) q.number)).1
+            (subst (λ (t : Bool). (t || (not (q.number == c.number) && has (reached arcs c.number) q.number)) ≡ true) k h) in
+            later c q mc mq call (λ same. (let t : not (q.number == c.number) ≡ false = ap not (eq-eqb q.number c.number same) in
+            let z : true ≡ false = sym two.0 ∙ t in cc z)) two.1
+
+  -- each solution meets what is posted of calls
+  pub calls_met : AllMet (clobbers_of (model_of e o)) x
+  calls_met = let registers = schedule.registers in (spared e o x given (λ r m. ordered r m)).0 registers.1

@@ -1,0 +1,46 @@
+use Rattle.std.proofs.Common.{List, ◌∙◌, sym, ap, subst, arith}
+use Rattle.std.proofs.lemmas.List.Elements.{recursion_from_All}
+use Rattle.un_base.specs.declared.ids.VarId.{VarId}
+use Rattle.un_prop.specs.AmongLaws.{has_among}
+use Rattle.un_prop.specs.GoingLaws.{stepped_same}
+use Rattle.un_prop.specs.declared.act.Temp.{Temp}
+use Rattle.un_rect.specs.Spans.{TempVars}
+use Rattle.un_rect.specs.Orders.{order_pair}
+use Rattle.un_rect.specs.Pairs.{each_before}
+use Rattle.un_rect.proofs.OrderSteps.{row_idle}
+use Rattle.un_rect.proofs.Rows.{row_next}
+use Rattle.un_rect.proofs.orders.keep_row.Goals as goal
+
+pub is_single-requires : goal.is_single-requires
+is_single-requires c = has_among c.args.w.now.vars.now c.args.b.now.reg c.args.w.now.store.now.sets c.requires.of_b.of_reg c.requires.known
+
+pub returns-then-not-is_single-clause-step : goal.returns-then-not-is_single-clause-step
+returns-then-not-is_single-clause-step c =
+    let vs = c.args.w.now.vars.now in
+    let s = c.args.w.now.store.now in
+    let temps = c.args.temps.now in
+    let b = c.args.b.now in
+    stepped_same vs (each_before order_pair temps b c.args.n) s c.args.before
+    (λ live. row_idle vs temps b s.sets (recursion_from_All (TempVars vs) temps c.requires.of_temps) c.requires.of_b c.requires.known live
+    (sym c.is_single.ensures ∙ c.if-not-is_single.true) c.args.n)
+
+pub keep_orders-did-requires-clause-of_a : goal.keep_orders-did-requires-clause-of_a
+keep_orders-did-requires-clause-of_a c =
+    let i = c.loop-i.i in
+    subst (λ (us : List VarId). TempVars us c.index-temps-i.result) (sym (ap (λ r. r.now) c.loop-i.invariant.vars))
+    (subst (λ (a : Temp). TempVars c.args.w.now.vars.now a) (sym c.index-temps-i.is) (c.requires.of_temps i c.index-temps-i.result
+    (omega (arith, c.loop-i-test.true, c.loop-i.auto.i-end, c.requires.few))))
+
+pub loop-i-preserved : goal.loop-i-preserved
+loop-i-preserved c =
+    let inv = c.loop-i.invariant in
+    let did = c.keep_orders-did in
+    let e = ap (λ r. r.now) inv.vars in
+    record {
+      step = row_next order_pair c.args.temps.now c.index-temps-i.result c.args.b.now c.loop-i.i c.args.w.now.vars.now c.loop-i.w.vars.now
+          c.args.w.now.store.now c.loop-i.w.store.now did.new.w.store.now
+          c.args.before c.loop-i.did did.result e c.index-temps-i.is
+          (omega (arith, c.loop-i-test.true, c.loop-i.auto.i-end, c.requires.few)) inv.step did.ensures.step;
+      same_reference = did.ensures.same_reference ∙ inv.same_reference;
+      vars = did.ensures.vars ∙ inv.vars;
+    }

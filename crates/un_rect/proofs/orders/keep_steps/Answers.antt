@@ -1,0 +1,36 @@
+use Rattle.std.proofs.Common.{List, ◌∙◌, All, length, sym, ap, subst, option_and_then}
+use Rattle.un_base.specs.declared.ids.VarId.{VarId}
+use Rattle.un_prop.specs.Going.{Stepped}
+use Rattle.un_prop.specs.GoingLaws.{stepped_chain}
+use Rattle.un_prop.specs.declared.act.UserOf.{UserOf}
+use Rattle.un_rect.specs.Spans.{UserVars}
+use Rattle.un_rect.specs.Orders.{time_cut, late_test, early_test, users_cut}
+use Rattle.un_rect.proofs.orders.keep_steps.Goals as goal
+
+pub keep_users-requires-clause-of_users : goal.keep_users-requires-clause-of_users
+keep_users-requires-clause-of_users c = subst (λ (vs : List VarId). All (UserVars vs) c.as_slice.result.now)
+    (sym (ap (λ r. r.now) (c.keep_early-second.ensures.vars ∙ c.keep_late-first.ensures.vars)))
+    (subst (λ (us : List UserOf). All (UserVars c.args.w.now.vars.now) us) (sym c.as_slice.ensures) c.requires.of_a.of_users)
+
+pub returns-clause-step : goal.returns-clause-step
+returns-clause-step c =
+    let a = c.args.a.now in
+    let b = c.args.b.now in
+    let vs = c.args.w.now.vars.now in
+    let s0 = c.args.w.now.store.now in
+    let s1 = c.keep_late-first.new.w.store.now in
+    let s2 = c.keep_early-second.new.w.store.now in
+    let s3 = c.keep_users.new.w.store.now in
+    let p = c.keep_late-first.result in
+    let q = c.keep_early-second.result in
+    let r = c.keep_users.result in
+    let e1 = ap (λ r. r.now) c.keep_late-first.ensures.vars in
+    let e2 = ap (λ r. r.now) (c.keep_early-second.ensures.vars ∙ c.keep_late-first.ensures.vars) in
+    let f1 = time_cut (late_test a) b.at in
+    let f2 = time_cut (early_test b) a.at in
+    let step2 = subst (λ (us : List VarId). Stepped us f2 s1 s2 p q) e1 c.keep_early-second.ensures.step in
+    let step3 = subst (λ (xs : List UserOf). Stepped vs (users_cut b xs (length xs)) s2 s3 q r) c.as_slice.ensures
+    (subst (λ (us : List VarId). Stepped us (users_cut b c.as_slice.result.now (length c.as_slice.result.now)) s2 s3 q r) e2
+    c.keep_users.ensures.step) in
+    stepped_chain vs (λ s. option_and_then f2 (f1 s)) (users_cut b a.users (length a.users)) s0 s2 s3 c.args.before q r
+    (stepped_chain vs f1 f2 s0 s1 s2 c.args.before p q c.keep_late-first.ensures.step step2) step3

@@ -1,0 +1,9 @@
+use Rattle.un_prop.specs.AmongLaws.{has_among}
+use Rattle.un_rect.proofs.orders.share_one.Goals as goal
+
+pub is_single-requires : goal.is_single-requires
+is_single-requires c = has_among c.args.w.now.vars.now c.args.a.now.reg c.args.w.now.store.now.sets c.requires.of_a.of_reg c.requires.known
+
+pub is_only-requires-clause-there : goal.is_only-requires-clause-there
+is_only-requires-clause-there c = has_among c.args.w.now.vars.now c.args.b.now.reg c.args.w.now.store.now.sets c.requires.of_b.of_reg
+    c.requires.known
