@@ -157,7 +157,7 @@ module _ (e : Ext) (o : Options) (x : List ℕ) (given : Given e o x) where
           let one = met_one x (Inside (var_at at) (act_of (place_of q)) q.close) (tests (issue_at x q).active (issue_at x q).cycle)
           (ap (λ (b : Bool). tests b (slice_index x at)) (acts e o x given q m (ap falls h ∙ goes))
           ∙ ap (tests (issue_at x q).active) (sym cycle)) in
-          let whole = iff_then (inside_iff (issue_at x q).active (issue_at x q).instr (issue_at x q).cycle (end_of x q) active stays) one in (
+          let whole = iff_then (inside_iff (issue_at x q).active (issue_at x q).instr (issue_at x q).cycle end active stays) one in (
             λ p. subst (Met x) (sym posted) (whole.0 p),
             λ t. whole.1 (subst (Met x) posted t),
           )

@@ -16,10 +16,6 @@ pub mod Latencies
 pub mod Limits
 pub mod OfPlaces
 pub mod Regions
-pub mod Appends
-pub mod Rising
-pub mod Scoped
-pub mod Parts
 pub mod Ends
 pub mod Congruences
 pub mod FrameOrder
@@ -36,3 +32,8 @@ pub mod Users
 pub mod CallOrder
 pub mod OfRooms
 pub mod Solved
+pub mod Appends
+pub mod Rising
+pub mod Scoped
+pub mod Parts
+pub mod Tabled

@@ -90,10 +90,10 @@ zeros_other Leave None (Some at) others h = refl
 zeros_other Leave (Some v) (Some at) others h = refl
 
 -- the variables of an optional operation but that of its instruction
-pub idle_vars : (cycle : Option VarId) (choices regs a b new : List VarId) → a ≡ choice_vars cycle → b ≡ a ++ vars_in own_var choices
-    → new ≡ b ++ regs → new ≡ option_to_list cycle ++ (choices ++ regs)
-idle_vars cycle choices regs a b new h k l =
-    three_added [] a b new (choice_vars cycle) (vars_in own_var choices) regs h k l
+pub idle_vars : (cycle : Option VarId) (choices regs none a b new : List VarId) → none ≡ [] → a ≡ none ++ choice_vars cycle
+    → b ≡ a ++ vars_in own_var choices → new ≡ b ++ regs → new ≡ option_to_list cycle ++ (choices ++ regs)
+idle_vars cycle choices regs none a b new e h k l =
+    three_added [] a b new (choice_vars cycle) (vars_in own_var choices) regs (h ∙ ap (λ xs. xs ++ choice_vars cycle) e) k l
     ∙ ap (λ xs. xs ++ (vars_in own_var choices ++ regs)) (option_vars cycle) ∙ ap (λ ys. option_to_list cycle ++ (ys ++ regs)) (own_vars choices)
 
 -- ---- numbers

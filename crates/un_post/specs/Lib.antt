@@ -1,7 +1,7 @@
 pub mod Constraints
 pub mod Places
 pub mod Postings
+pub mod Rooms
 pub mod AnyProps
 pub mod Scopes
 pub mod Sites
-pub mod Rooms

@@ -2,8 +2,8 @@
 
 ghost use Rattle.std.specs.Prelude.{◌≡◌, ◌++◌, OnOk, map, slice_get};
 ghost use Rattle.un_model.specs.Pairs.{joined};
-ghost use Rattle.un_post.specs.Places.{act_of, asked, asked_by};
-ghost use Rattle.un_post.specs.Postings.{chosen_by, waits_by, space_by, home_by, registers_of, of_operand, of_place};
+ghost use Rattle.un_post.specs.Places.{act_of, asked, asked_by, places_of, definers_of};
+ghost use Rattle.un_post.specs.Postings.{chosen_by, waits_by, space_by, home_by, registers_of, of_operand, of_place, over_places};
 ghost use Rattle.un_post.specs.Sites.{place_of, definers_in};
 
 use crate::post_own::{post_issue, post_zeros};
@@ -16,6 +16,7 @@ use un_base::memory_error::NoMemory;
 use un_ir::extended::Operand;
 use un_isa::reg::Reg;
 use un_isa::table::Table;
+use un_model::model::Model;
 use un_model::numbers::number;
 
 /// The variable of a choice, where there is one.
@@ -122,5 +123,21 @@ pub fn post_places(
     for p in spots {
         post_place(props, t, slots, sites, p)?;
     }
+    Ok(())
+}
+
+/// What is posted of all operations of a model, of which these are the tables.
+pub fn post_operations(
+    props: &mut Props,
+    m: &Model,
+    sites: &[Site<'_>],
+    spots: &[Spot<'_>],
+) -> Result<(), NoMemory>
+    requires sites { definers_in sites.now ≡ definers_of m.now }
+    requires spots { map place_of spots.now ≡ places_of m.now }
+    ensures { OnOk result (props.new ≡ props.old
+        ++ over_places (of_place m.now.ext.table m.now.options.slots (definers_of m.now)) m.now) }
+{
+    post_places(props, &m.ext.table, m.options.slots, sites, spots)?;
     Ok(())
 }
