@@ -37,3 +37,4 @@ pub mod Rising
 pub mod Scoped
 pub mod Parts
 pub mod Tabled
+pub mod Gathering

@@ -5,3 +5,4 @@ pub mod Rooms
 pub mod AnyProps
 pub mod Scopes
 pub mod Sites
+pub mod Gathered
