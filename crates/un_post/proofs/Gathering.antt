@@ -1,16 +1,27 @@
 -- Users that are gathered in one pass, a list for each temporary.
 use Rattle.std.proofs.Common.{ℕ, zero, suc, ◌≡◌, ◌<◌, ◌≤◌, ◌+◌, ◌-◌, Bool, true, false, ◌⊎◌, inl, inr, refl, sym, ap, ◌∙◌, arith}
-use Rattle.std.proofs.Common.{List, [], ◌∷◌, ◌++◌, length, map, take, set, get_or, replicate, append_assoc}
+use Rattle.std.proofs.Common.{subst, All, Option, List, [], ◌∷◌, ◌++◌, length, map, take, set, get_or, replicate, append_assoc}
 use Rattle.std.specs.Prelude.{◌==◌, if◌then◌else◌, Some, slice_get}
 use Rattle.std.specs.List.{range_with_len}
 use Rattle.std.proofs.lemmas.Bool.Decides.{nat_tests}
+use Rattle.std.proofs.lemmas.List.{length-map, take_all}
+use Rattle.std.proofs.lemmas.Option.{slice_get-get_or}
 use Rattle.std.proofs.lemmas.List.FromFn.{length-map-range_with_len, get_or-map-range_with_len}
 use Rattle.un_base.specs.declared.ids.TempId.{TempId}
 use Rattle.un_ir.specs.Extended.{temp}
+use Rattle.un_prop.specs.declared.act.Temp.{Temp}
 use Rattle.un_prop.specs.declared.act.UserOf.{UserOf}
 use Rattle.un_model.specs.Pairs.{places_from, joined}
 use Rattle.un_model.proofs.Steps.{append-nil}
-use Rattle.un_post.specs.Gathered.{gathered, Gathers}
+use Rattle.un_prop.specs.declared.act.Act.{Act}
+use Rattle.un_prop.specs.declared.act.At.{At}
+use Rattle.un_ir.specs.declared.extended.Operand.{Operand}
+use Rattle.un_base.specs.declared.ids.VarId.{VarId}
+use Rattle.un_post.specs.Gathered.{gathered, Gathers, IsAmong, temp_with}
+use Rattle.un_post.specs.Places.{Place, Definer, act_of, time_of}
+use Rattle.un_post.specs.Rooms.{user_if, operand_users, place_users, users_of}
+use Rattle.un_post.specs.Sites.{place_of}
+use Rattle.un_post.specs.declared.sites.Spot.{Spot}
 
 map_alike : {A B : Type 0} (f g : A → B) (xs : List A) → ((x : A) → f x ≡ g x) → map f xs ≡ map g xs
 map_alike f g [] h = refl
@@ -42,7 +53,9 @@ places_next f n (suc i) (y ∷ xs) x h =
 pub placed_next : {A B : Type 0} (f : ℕ → A → List B) (i : ℕ) (xs : List A) (x : A) → slice_get xs i ≡ Some x
     → joined (places_from f 0 (take i xs)) ++ f i x ≡ joined (places_from f 0 (take (i + 1) xs))
 placed_next {B = B} f i xs x h =
-    sym (joined-last (places_from f 0 (take i xs)) (f i x)) ∙ ap (joined {A = B}) (sym (places_next f 0 i xs x h))
+    let m : i ≡ 0 + i = omega arith in
+    sym (joined-last (places_from f 0 (take i xs)) (f i x)) ∙ ap (joined {A = B})
+    (ap (λ k. places_from f 0 (take i xs) ++ f k x ∷ []) m ∙ sym (places_next f 0 i xs x h))
 
 mapped_next : {A B : Type 0} (f : A → B) (i : ℕ) (xs : List A) (x : A) → slice_get xs i ≡ Some x
     → map f (take (i + 1) xs) ≡ map f (take i xs) ++ f x ∷ []
@@ -79,6 +92,17 @@ gathers_all first f whole a b p e h n are =
 pub gathers_first : (first n : ℕ) (f : TempId → List UserOf) (a b : List (List UserOf)) → a ≡ replicate n [] → Gathers first f a b
     → b ≡ gathered first n f
 gathers_first first n f a b e h = h (λ (t : TempId). []) n (e ∙ map_empty first n)
+
+-- what stands at place k
+range_at : {A : Type 0} (f : ℕ → A) (first n k : ℕ) (x : A) → slice_get (map f (range_with_len first n)) k ≡ Some x → x ≡ f (first + k)
+range_at f first zero k x h = absurd (cc h)
+range_at f first (suc n) zero x h =
+    let e : x ≡ f first = cc h in
+    let m : first ≡ first + 0 = omega arith in
+    e ∙ ap f m
+range_at f first (suc n) (suc k) x h =
+    let m : first + 1 + k ≡ first + suc k = omega arith in
+    range_at f (first + 1) n k x h ∙ ap f m
 
 -- ---- one user more
 
@@ -135,3 +159,79 @@ module _ (first : ℕ) (x : TempId) (user : UserOf) (lists : List (List UserOf))
       let at = λ (k : ℕ). f (temp k) in
       let long : length lists ≡ n = ap length are ∙ length-map-range_with_len at first n in
       are ∙ same_outside at x.0 (user ∷ []) first n (elim h [ inl p ↦ inl p | inr p ↦ inr (omega (arith, long)) ])
+
+-- ---- an alternative, an operand and an operation more
+
+pub got : {A : Type 0} (xs : List A) (k : ℕ) (x : A) → k < length xs → x ≡ get_or xs k x → slice_get xs k ≡ Some x
+got {A = A} xs k x below e = slice_get-get_or xs k x below ∙ ap (λ (y : A). Some y) (sym e)
+
+get_map : {A B : Type 0} (f : A → B) (i : ℕ) (xs : List A) (x : A) → slice_get xs i ≡ Some x → slice_get (map f xs) i ≡ Some (f x)
+get_map f i [] x h = absurd (cc h)
+get_map f zero (y ∷ xs) x h = let e : y ≡ x = cc h in ap (λ z. Some (f z)) e
+get_map f (suc i) (y ∷ xs) x h = get_map f i xs x h
+
+-- the users among the alternatives of an operand with this choice
+abbrev pub alts_users : Place → Option VarId → List TempId → TempId → List UserOf
+alts_users p choice alts t = joined (places_from (user_if t p choice) 0 alts)
+
+pub alts_more : (first : ℕ) (p : Place) (choice : Option VarId) (i : ℕ) (alts : List TempId) (x : TempId) (on : Act) (at : At) (value : ℕ)
+    (a b c : List (List UserOf)) → Gathers first (alts_users p choice (take i alts)) a b
+    → Gathers first (λ (t : TempId). let user : UserOf = record { on = on; at = at; choice = choice; value = value } in
+        if x.0 == t.0 then user ∷ [] else []) b c
+    → on ≡ act_of p → at ≡ time_of p → value ≡ i → slice_get alts i ≡ Some x → Gathers first (alts_users p choice (take (i + 1) alts)) a c
+alts_more first p choice i alts x on at value a b c h g e k l q =
+    let made = λ (u : Act). λ (v : At). λ (n : ℕ). λ (t : TempId).
+    (let user : UserOf = record { on = u; at = v; choice = choice; value = n } in if x.0 == t.0 then user ∷ [] else []) in
+    let one = subst (λ (u : Act). Gathers first (made u at value) b c) e g in
+    let two = subst (λ (v : At). Gathers first (made (act_of p) v value) b c) k one in
+    let three = subst (λ (n : ℕ). Gathers first (made (act_of p) (time_of p) n) b c) l two in
+    gathers_more first (alts_users p choice (take i alts)) (λ (t : TempId). user_if t p choice i x) (alts_users p choice (take (i + 1) alts))
+    a b c h three (λ t. placed_next (user_if t p choice) i alts x q)
+
+pub operands_more : (first : ℕ) (p : Place) (j : ℕ) (operands : List Operand) (operand : Operand) (choice : Option VarId)
+    (a b c : List (List UserOf)) → Gathers first (λ (t : TempId). joined (places_from (operand_users t p) 0 (take j operands))) a b
+    → Gathers first (alts_users p choice operand.alts) b c → choice ≡ slice_get p.vars.choices j → slice_get operands j ≡ Some operand
+    → Gathers first (λ (t : TempId). joined (places_from (operand_users t p) 0 (take (j + 1) operands))) a c
+operands_more first p j operands operand choice a b c h g e q =
+    gathers_more first (λ (t : TempId). joined (places_from (operand_users t p) 0 (take j operands)))
+    (λ (t : TempId). operand_users t p j operand) (λ (t : TempId). joined (places_from (operand_users t p) 0 (take (j + 1) operands))) a b c h
+    (subst (λ (o : Option VarId). Gathers first (alts_users p o operand.alts) b c) e g)
+    (λ t. placed_next (operand_users t p) j operands operand q)
+
+pub spots_more : (first i : ℕ) (spots : List Spot) (p : Spot) (a b c : List (List UserOf))
+    → Gathers first (users_of (take i (map place_of spots))) a b → Gathers first (λ (t : TempId). place_users t (place_of p)) b c
+    → i < length spots → p ≡ get_or spots i p → Gathers first (users_of (take (i + 1) (map place_of spots))) a c
+spots_more first i spots p a b c h g below e =
+    gathers_more first (users_of (take i (map place_of spots))) (λ (t : TempId). place_users t (place_of p))
+    (users_of (take (i + 1) (map place_of spots))) a b c h g
+    (λ t. joined_next (place_users t) i (map place_of spots) (place_of p) (get_map place_of i spots p (got spots i p below e)))
+
+pub spots_all : (first i : ℕ) (spots : List Spot) (a b : List (List UserOf)) → Gathers first (users_of (take i (map place_of spots))) a b
+    → length spots ≤ i → Gathers first (users_of (map place_of spots)) a b
+spots_all first i spots a b h le =
+    let long = length-map spots place_of in
+    subst (λ (ps : List Place). Gathers first (users_of ps) a b) (take_all i (map place_of spots) (omega (arith, long))) h
+
+-- ---- lists that are looked up
+
+pub span_among : (first count : ℕ) (f : TempId → List UserOf) (lists : List (List UserOf)) (one two : List TempId)
+    → lists ≡ gathered first count f → one ≡ two → All (IsAmong first count) one → All (IsAmong first (length lists)) two
+span_among first count f lists one two e a h =
+    let long : count ≡ length lists = sym (ap length e ∙ length-map-range_with_len (λ (k : ℕ). f (temp k)) first count) in
+    subst (λ (n : ℕ). All (IsAmong first n) two) long (subst (λ (ts : List TempId). All (IsAmong first count) ts) a h)
+
+pub gathered_long : (first count : ℕ) (f : TempId → List UserOf) (lists : List (List UserOf)) → lists ≡ gathered first count f
+    → lists ≡ gathered first (length lists) f
+gathered_long first count f lists e =
+    let long : count ≡ length lists = sym (ap length e ∙ length-map-range_with_len (λ (k : ℕ). f (temp k)) first count) in
+    e ∙ ap (λ (n : ℕ). gathered first n f) long
+
+pub users_at : (first n k : ℕ) (f : TempId → List UserOf) (lists : List (List UserOf)) (t : TempId) (users : List UserOf)
+    → lists ≡ gathered first n f → slice_get lists k ≡ Some users → first + k ≡ t.0 → users ≡ f t
+users_at first n k f lists t users e h m =
+    range_at (λ (i : ℕ). f (temp i)) first n k users (ap (λ (ls : List (List UserOf)). slice_get ls k) (sym e) ∙ h)
+    ∙ ap (λ (i : ℕ). f (temp i)) m
+
+pub temp_made : (made : Temp) (d e : Definer) (us vs ws : List UserOf) → made ≡ temp_with d us → d ≡ e → us ≡ vs → vs ≡ ws
+    → made ≡ temp_with e ws
+temp_made made d e us vs ws h k l m = h ∙ ap (λ (x : Definer). temp_with x us) k ∙ ap (temp_with e) (l ∙ m)

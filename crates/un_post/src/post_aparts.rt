@@ -103,19 +103,20 @@ fn add_operand(
     first: u32,
     p: &Spot<'_>,
     choice: Option<VarId>,
-    alts: &[TempId],
+    alts: &Items<TempId>,
 ) -> Result<(), NoMemory>
     ensures { OnOk result (Gathers first (λ (t : TempId). joined (places_from (user_if t (place_of p.now) choice) 0 alts.now))
         lists.old.items lists.new.items) }
 {
     for i in 0..alts.len() {
+        let value = number(i)?;
         let user = UserOf {
             on: p.act(),
             at: p.time(),
             choice,
-            value: number(i)?,
+            value,
         };
-        add_user(lists, first, alts[i], user)?;
+        add_user(lists, first, *alts.get(i), user)?;
     }
     Ok(())
 }
@@ -141,7 +142,7 @@ fn add_place(
 {
     for j in 0..p.it.operands.len() {
         let operand = p.it.operands.get(j);
-        add_operand(lists, first, p, choice_at(p, j), operand.alts.as_slice())?;
+        add_operand(lists, first, p, choice_at(p, j), &operand.alts)?;
     }
     Ok(())
 }
@@ -160,23 +161,23 @@ fn add_places(
     Ok(())
 }
 
-/// The users of each of these temporaries.
+/// The users of each of so many temporaries from `first` on.
 fn all_users(
     alloc: Global,
     first: u32,
     count: usize,
     spots: &[Spot<'_>],
-) -> Result<Vec<Items<UserOf>>, NoMemory>
-    ensures { IfOk result (λ lists. lists.items ≡ gathered first count (users_of (map place_of spots.now))) }
+) -> Result<Items<Items<UserOf>>, NoMemory>
+    ensures { IfOk result (λ lists. lists ≡ gathered first count (users_of (map place_of spots.now))) }
 {
     let mut lists = no_users(alloc, count)?;
     add_places(&mut lists, first, spots)?;
-    Ok(lists)
+    Ok(Items::from_vec(lists))
 }
 
 /// A temporary with these users.
-fn temp_with(alloc: Global, site: Site<'_>, users: &[UserOf]) -> Result<Temp, AllocError>
-    ensures { IfOk result (λ temp. temp ≡ temp_with (definer_at site) users.now) }
+fn temp_with(alloc: Global, site: &Site<'_>, users: &[UserOf]) -> Result<Temp, AllocError>
+    ensures { IfOk result (λ temp. temp ≡ temp_with (definer_at site.now) users.now) }
 {
     let mut list = Vec::new(alloc);
     for user in users {
@@ -190,12 +191,30 @@ fn temp_with(alloc: Global, site: Site<'_>, users: &[UserOf]) -> Result<Temp, Al
     })
 }
 
-/// These temporaries with their users, of which the lists stand from `first` on.
+/// A temporary with its users, where the lists of users stand from `first` on.
+fn temp_at(
+    alloc: Global,
+    sites: &[Site<'_>],
+    first: u32,
+    lists: &Items<Items<UserOf>>,
+    t: TempId,
+) -> Result<Temp, AllocError>
+    requires { IsAmong first (length lists.now) t }
+    ensures { IfOk result (λ made. (f : TempId → List UserOf) → lists.now ≡ gathered first (length lists.now) f
+        → made ≡ temp_with (definer_or (slice_get (definers_in sites.now) t.0)) (f t)) }
+{
+    let site = site_of(sites, t);
+    let users = lists.get((t.0 - first) as usize);
+    let made = temp_with(alloc, &site, users.as_slice())?;
+    Ok(made)
+}
+
+/// Temporaries with their users, where the lists of users stand from `first` on.
 fn with_users(
     alloc: Global,
     sites: &[Site<'_>],
     first: u32,
-    lists: &[Items<UserOf>],
+    lists: &Items<Items<UserOf>>,
     temps: &[TempId],
 ) -> Result<Items<Temp>, AllocError>
     requires { All (IsAmong first (length lists.now)) temps.now }
@@ -204,8 +223,7 @@ fn with_users(
 {
     let mut made = Items::new(alloc);
     for t in temps {
-        let users = &lists[(t.0 - first) as usize];
-        made.push(temp_with(alloc, site_of(sites, *t), users.as_slice())?)?;
+        made.push(temp_at(alloc, sites, first, lists, *t)?)?;
     }
     Ok(made)
 }
@@ -218,13 +236,7 @@ fn temps_at(alloc: Global, sites: &[Site<'_>], spots: &[Spot<'_>]) -> Result<Ite
     let temps = temps_in(alloc, spots)?;
     let span = span_of(temps.as_slice());
     let lists = all_users(alloc, span.first, span.count, spots)?;
-    let made = with_users(
-        alloc,
-        sites,
-        span.first,
-        lists.as_slice(),
-        temps.as_slice(),
-    )?;
+    let made = with_users(alloc, sites, span.first, &lists, temps.as_slice())?;
     Ok(made)
 }
 
