@@ -41,3 +41,4 @@ pub mod Solved
 pub mod Tabled
 pub mod Pairing
 pub mod Marking
+pub mod Gathering

@@ -21,12 +21,13 @@ use Rattle.un_prec.specs.Last.{LastStrong, last_holds, last_steps}
 use Rattle.un_prec.specs.Reads.{ReadsStrong, reads_holds, reads_steps}
 use Rattle.un_prop.specs.Last.{last_cut}
 use Rattle.un_prop.specs.PartLaws.{one_part}
-use Rattle.un_prop.specs.Places.{each_place, places_in}
+use Rattle.un_prop.specs.Places.{places_in}
 use Rattle.un_prop.specs.declared.act.Act.TheVariants.{Always}
 use Rattle.un_rect.specs.Apart.{ApartStrong, apart_cut, apart_parts}
 use Rattle.un_rect.specs.Clobber.{ClobberStrong, clobber_cut, clobber_parts}
 use Rattle.un_rect.specs.Operands.{side, operands_holds, operands_steps}
-use Rattle.un_slots.specs.Loads.{SlotsStrong, slot_cut}
+use Rattle.un_slots.specs.Crowds.{per_cycle_steps}
+use Rattle.un_slots.specs.Loads.{SlotsStrong}
 use Rattle.un_slots.specs.Slots.{per_cycle_holds}
 use Rattle.un_prec.specs.contracts.before.BeforePredicate.TheImpl.Laws as before_looks
 use Rattle.un_prec.specs.contracts.before.BeforePropagator.TheImpl.Laws as before_laws
@@ -136,7 +137,7 @@ cut_of (Operands p) s = option_and_then
     (operands_steps (side p.first p.first_regs p.first_set) (side p.second p.second_regs p.second_set) s)
 cut_of (PerCycle p) s = option_and_then
     (last_cut p.vars (per_cycle_holds p.items p.horizon))
-    (each_place (slot_cut p.items p.horizon) (length p.items) s)
+    (per_cycle_steps p.vars p.items p.horizon s)
 
 -- the parts that are all met where it holds
 abbrev pub parts_of : AnyProp → List Part

@@ -8,3 +8,4 @@ pub mod Sites
 pub mod Rooms
 pub mod Twos
 pub mod Reach
+pub mod Gathered
