@@ -42,3 +42,4 @@ pub mod Tabled
 pub mod Pairing
 pub mod Marking
 pub mod Gathering
+pub mod Sparing

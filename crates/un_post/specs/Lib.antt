@@ -9,3 +9,4 @@ pub mod Rooms
 pub mod Twos
 pub mod Reach
 pub mod Gathered
+pub mod Calls

@@ -2,6 +2,7 @@
 #![tactic(auto)]
 
 pub mod any;
+mod call_rows;
 mod call_sides;
 pub mod make_alt;
 pub mod make_prec;

@@ -34,8 +34,8 @@ fn with_arcs(span: Span, arcs: &[Arc]) -> Span
 {
     let mut wider = span;
     for arc in arcs {
-        wider = with_number(wider, arc.from.0);
-        wider = with_number(wider, arc.to.0);
+        let one = with_number(wider, arc.from.0);
+        wider = with_number(one, arc.to.0);
     }
     wider
 }

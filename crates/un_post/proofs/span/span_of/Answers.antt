@@ -1,4 +1,4 @@
-use Rattle.std.proofs.Common.{◌<◌, length, get_or, All, arith}
+use Rattle.std.proofs.Common.{subst}
 use Rattle.std.proofs.lemmas.List.Elements.{All-more}
 use Rattle.un_post.specs.Reach.{IsBetween}
 use Rattle.un_post.specs.declared.sites.Spot.{Spot}
@@ -6,7 +6,7 @@ use Rattle.un_post.proofs.span.span_of.Goals as goal
 
 pub loop-p-preserved : goal.loop-p-preserved
 loop-p-preserved c =
-    let is = c.p-item.is in
     All-more (λ (p : Spot). IsBetween c.with_number-span.result.low c.with_number-span.result.past p.op) c.args.spots.now c.loop-p.p-index
-    c.p-item.result c.loop-p-test.true
-    (λ k d lt. c.with_number-span.ensures.kept _ (c.loop-p.invariant k d lt)) ?
+    c.p-item.result c.loop-p-test.true (λ k d lt. c.with_number-span.ensures.kept _ (c.loop-p.invariant k d lt))
+    (subst (λ (p : Spot). IsBetween c.with_number-span.result.low c.with_number-span.result.past p.op) c.p-item.is
+    c.with_number-span.ensures.it)
