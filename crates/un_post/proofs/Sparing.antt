@@ -84,16 +84,16 @@ module _ (arcs : List Arc) (ps qs : List Place) (first : ℕ) (calls : List Call
   pub calls_yes : (s : CallSite) (own : ℕ) (next : List ClobberCall) (y : ClobberCall) → slice_get calls i ≡ Some s
       → ((q : Place) → SeesCall arcs ps first q s → y ≡ call_at arcs ps t definer q) → own ≡ definer.op → (s.op == own) ≡ false
       → next ≡ made ++ y ∷ [] → next ++ map (call_at arcs ps t definer) (filter (but definer.op) (drop (i + 1) qs)) ≡ whole
-  calls_yes s own next y g each e no n =
+  calls_yes s own next y g each e other n =
       let at = zip_at (SeesCall arcs ps first) qs calls i s zip g in
-      let same : (at.0.op == definer.op) ≡ false = ap (λ (m : ℕ). m == definer.op) (sym at.1.1.op) ∙ ap (λ (m : ℕ). s.op == m) (sym e) ∙ no in
+      let same : (at.0.op == definer.op) ≡ false = ap (λ (m : ℕ). m == definer.op) (sym at.1.1.op) ∙ ap (λ (m : ℕ). s.op == m) (sym e) ∙ other in
       passing_yes (but definer.op) (call_at arcs ps t definer) i qs at.0 made next whole y h at.1.0 (ap not same) (each at.0 at.1.1) n
 
   pub calls_no : (s : CallSite) (own : ℕ) (next : List ClobberCall) → slice_get calls i ≡ Some s → own ≡ definer.op
       → (s.op == own) ≡ true → next ≡ made → next ++ map (call_at arcs ps t definer) (filter (but definer.op) (drop (i + 1) qs)) ≡ whole
-  calls_no s own next g e yes n =
+  calls_no s own next g e equal n =
       let at = zip_at (SeesCall arcs ps first) qs calls i s zip g in
-      let same : (at.0.op == definer.op) ≡ true = ap (λ (m : ℕ). m == definer.op) (sym at.1.1.op) ∙ ap (λ (m : ℕ). s.op == m) (sym e) ∙ yes in
+      let same : (at.0.op == definer.op) ≡ true = ap (λ (m : ℕ). m == definer.op) (sym at.1.1.op) ∙ ap (λ (m : ℕ). s.op == m) (sym e) ∙ equal in
       passing_no (but definer.op) (call_at arcs ps t definer) i qs at.0 made next whole h at.1.0 (ap not same) n
 
   pub calls_all : length calls ≤ i → made ≡ whole
