@@ -43,3 +43,4 @@ pub mod Pairing
 pub mod Marking
 pub mod Gathering
 pub mod Sparing
+pub mod Spares

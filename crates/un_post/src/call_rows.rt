@@ -51,7 +51,7 @@ fn op_of(definer: &Site<'_>) -> u32
 }
 
 /// The same users.
-fn copy_users(alloc: Global, users: &[UserOf]) -> Result<Items<UserOf>, AllocError>
+pub fn copy_users(alloc: Global, users: &[UserOf]) -> Result<Items<UserOf>, AllocError>
     ensures { IfOk result (λ list. list ≡ users.now) }
 {
     let mut list = Vec::new(alloc);

@@ -10,6 +10,7 @@ pub mod make_rect;
 mod numbers;
 pub mod post_arcs;
 pub mod post_aparts;
+pub mod post_clobbers;
 pub mod post_limit;
 pub mod post_own;
 pub mod post_packets;
