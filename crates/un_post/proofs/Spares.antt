@@ -1,5 +1,5 @@
 -- The constraint that calls spare a temporary, from its parts.
-use Rattle.std.proofs.Common.{ℕ, ◌≡◌, Bool, true, false, List, [], ◌∷◌, map, refl, sym, ap, ◌∙◌}
+use Rattle.std.proofs.Common.{ℕ, ◌≡◌, Bool, true, false, List, [], ◌∷◌, length, map, All, refl, sym, ap, subst, ◌∙◌}
 use Rattle.std.specs.Prelude.{◌==◌, ◌&&◌, not, filter, cond}
 use Rattle.un_base.specs.declared.ids.TempId.{TempId}
 use Rattle.un_prop.specs.declared.act.Temp.{Temp}
@@ -7,10 +7,11 @@ use Rattle.un_prop.specs.declared.act.UserOf.{UserOf}
 use Rattle.un_rect.specs.declared.clobber.ClobberCall.{ClobberCall}
 use Rattle.un_model.specs.declared.model.Arc.{Arc}
 use Rattle.un_post.specs.Constraints.{Constraint, Clobber}
-use Rattle.un_post.specs.Gathered.{temp_with}
+use Rattle.un_post.specs.Gathered.{temp_with, IsAmong}
 use Rattle.un_post.specs.Places.{Place, Definer}
 use Rattle.un_post.specs.Postings.{is_call_kind, with_kind}
 use Rattle.un_post.specs.Rooms.{call_at, calls_but, spared_by, users_of}
+use Rattle.un_post.specs.declared.call_rows.CallSite.{CallSite}
 use Rattle.un_post.proofs.Sparing.{but}
 
 both_step : {A : Type 0} (a b : Bool) (x : A) (xs ys : List A) (p : A → Bool) → p x ≡ b → xs ≡ filter p ys
@@ -32,3 +33,8 @@ spared_is mask arcs ps t d e temp found us vs made h k l m f c =
     c ∙ ap (λ (a : Temp). Clobber mask a found) (h ∙ ap (temp_with d) (l ∙ m))
     ∙ ap (Clobber mask (temp_with d (users_of ps t))) (f ∙ ap (map (call_at arcs ps t d.place)) (sym calls))
     ∙ ap (spared_by mask arcs ps t) k
+
+-- the lists of each call's users are as long as those of all users
+pub among_all : (first n : ℕ) (t : TempId) (calls : List CallSite) → IsAmong first n t → All (λ (s : CallSite). length s.users ≡ n) calls
+    → All (λ (s : CallSite). IsAmong first (length s.users) t) calls
+among_all first n t calls h long k d lt = subst (λ (m : ℕ). IsAmong first m t) (sym (long k d lt)) h

@@ -1,6 +1,6 @@
 //! What is posted of the calls of a block, for a temporary: it has no register of those that calls do not keep, across a call.
 
-ghost use Rattle.std.specs.Prelude.{◌≡◌, [], ◌∷◌, ◌++◌, List, All, IfOk, OnOk, filter, length};
+ghost use Rattle.std.specs.Prelude.{◌≡◌, [], ◌∷◌, ◌++◌, List, All, IfOk, OnOk, length, map};
 ghost use Rattle.std.specs.List.{AllZip};
 ghost use Rattle.un_model.specs.declared.model.Arc.{Arc};
 ghost use Rattle.un_post.specs.Calls.{SeesCall};
@@ -56,5 +56,27 @@ pub fn post_spared(
     let temp = temp_of(props.alloc(), &site, users.as_slice())?;
     let made = make_clobber(props.alloc(), mask, temp, found)?;
     props.push(made)?;
+    Ok(())
+}
+
+/// What is posted of the calls of a block for each of these temporaries, where the users of these stand from `first` on.
+pub fn post_spared_all(
+    props: &mut Props,
+    mask: u64,
+    sites: &[Site<'_>],
+    calls: &[CallSite],
+    first: u32,
+    lists: &Items<Items<UserOf>>,
+    temps: &[TempId],
+) -> Result<(), NoMemory>
+    requires users { All (IsAmong first (length lists.now)) temps.now }
+    requires calls { All (λ (s : CallSite). length s.users ≡ length lists.now) calls.now }
+    ensures { OnOk result ((arcs : List Arc) (ps : List Place) → lists.now ≡ gathered first (length lists.now) (users_of ps)
+        → AllZip (SeesCall arcs ps first) (with_kind is_call_kind ps) calls.now
+        → props.new ≡ props.old ++ map (spared_at mask arcs (definers_in sites.now) ps) temps.now) }
+{
+    for t in temps {
+        post_spared(props, mask, sites, calls, first, lists, *t)?;
+    }
     Ok(())
 }
