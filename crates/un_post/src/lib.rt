@@ -20,6 +20,7 @@ pub mod post_spaces;
 pub mod post_twos;
 pub mod props;
 mod reach;
+pub mod see_calls;
 pub mod sites;
 mod space_sets;
 mod span;
