@@ -177,7 +177,7 @@ alts_users p choice alts t = joined (places_from (user_if t p choice) 0 alts)
 pub alts_more : (first : ℕ) (p : Place) (choice : Option VarId) (i : ℕ) (alts : List TempId) (x : TempId) (on : Act) (at : At) (value : ℕ)
     (a b c : List (List UserOf)) → Gathers first (alts_users p choice (take i alts)) a b
     → Gathers first (λ (t : TempId). let user : UserOf = record { on = on; at = at; choice = choice; value = value } in
-        if x.0 == t.0 then user ∷ [] else []) b c
+    if x.0 == t.0 then user ∷ [] else []) b c
     → on ≡ act_of p → at ≡ time_of p → value ≡ i → slice_get alts i ≡ Some x → Gathers first (alts_users p choice (take (i + 1) alts)) a c
 alts_more first p choice i alts x on at value a b c h g e k l q =
     let made = λ (u : Act). λ (v : At). λ (n : ℕ). λ (t : TempId).

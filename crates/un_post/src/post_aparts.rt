@@ -133,11 +133,7 @@ fn choice_at(p: &Spot<'_>, j: usize) -> Option<VarId>
 }
 
 /// The users of each temporary that an operation is.
-fn add_place(
-    lists: &mut Vec<Items<UserOf>>,
-    first: u32,
-    p: &Spot<'_>,
-) -> Result<(), NoMemory>
+fn add_place(lists: &mut Vec<Items<UserOf>>, first: u32, p: &Spot<'_>) -> Result<(), NoMemory>
     ensures { OnOk result (Gathers first (λ (t : TempId). place_users t (place_of p.now)) lists.old.items lists.new.items) }
 {
     for j in 0..p.it.operands.len() {
