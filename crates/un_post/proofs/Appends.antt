@@ -1,5 +1,5 @@
 -- What is added to a list, one part after another.
-use Rattle.std.proofs.Common.{ℕ, ◌≡◌, ◌+◌, ◌≤◌, List, [], ◌∷◌, ◌++◌, length, map, drop, Some, slice_get, refl, ap, ◌∙◌, sym, append_assoc}
+use Rattle.std.proofs.Common.{ℕ, ◌≡◌, ◌+◌, ◌≤◌, List, [], ◌∷◌, ◌++◌, length, map, drop, Some, slice_get, ap, ◌∙◌, sym, append_assoc}
 use Rattle.std.proofs.lemmas.List.{map-append}
 use Rattle.un_model.specs.Pairs.{joined, places_from}
 use Rattle.un_model.proofs.Steps.{drop_at, drop_past, append-nil}

@@ -177,7 +177,7 @@ alts_users p choice alts t = joined (places_from (user_if t p choice) 0 alts)
 pub alts_more : (first : ℕ) (p : Place) (choice : Option VarId) (i : ℕ) (alts : List TempId) (x : TempId) (on : Act) (at : At) (value : ℕ)
     (a b c : List (List UserOf)) → Gathers first (alts_users p choice (take i alts)) a b
     → Gathers first (λ (t : TempId). let user : UserOf = record { on = on; at = at; choice = choice; value = value } in
-        if x.0 == t.0 then user ∷ [] else []) b c
+    if x.0 == t.0 then user ∷ [] else []) b c
     → on ≡ act_of p → at ≡ time_of p → value ≡ i → slice_get alts i ≡ Some x → Gathers first (alts_users p choice (take (i + 1) alts)) a c
 alts_more first p choice i alts x on at value a b c h g e k l q =
     let made = λ (u : Act). λ (v : At). λ (n : ℕ). λ (t : TempId).
@@ -185,8 +185,8 @@ alts_more first p choice i alts x on at value a b c h g e k l q =
     let one = subst (λ (u : Act). Gathers first (made u at value) b c) e g in
     let two = subst (λ (v : At). Gathers first (made (act_of p) v value) b c) k one in
     let three = subst (λ (n : ℕ). Gathers first (made (act_of p) (time_of p) n) b c) l two in
-    gathers_more first (alts_users p choice (take i alts)) (λ (t : TempId). user_if t p choice i x) (alts_users p choice (take (i + 1) alts))
-    a b c h three (λ t. placed_next (user_if t p choice) i alts x q)
+    gathers_more first (alts_users p choice (take i alts)) (λ (t : TempId). user_if t p choice i x)
+    (alts_users p choice (take (i + 1) alts)) a b c h three (λ t. placed_next (user_if t p choice) i alts x q)
 
 pub operands_more : (first : ℕ) (p : Place) (j : ℕ) (operands : List Operand) (operand : Operand) (choice : Option VarId)
     (a b c : List (List UserOf)) → Gathers first (λ (t : TempId). joined (places_from (operand_users t p) 0 (take j operands))) a b
@@ -194,8 +194,8 @@ pub operands_more : (first : ℕ) (p : Place) (j : ℕ) (operands : List Operand
     → Gathers first (λ (t : TempId). joined (places_from (operand_users t p) 0 (take (j + 1) operands))) a c
 operands_more first p j operands operand choice a b c h g e q =
     gathers_more first (λ (t : TempId). joined (places_from (operand_users t p) 0 (take j operands)))
-    (λ (t : TempId). operand_users t p j operand) (λ (t : TempId). joined (places_from (operand_users t p) 0 (take (j + 1) operands))) a b c h
-    (subst (λ (o : Option VarId). Gathers first (alts_users p o operand.alts) b c) e g)
+    (λ (t : TempId). operand_users t p j operand) (λ (t : TempId). joined (places_from (operand_users t p) 0 (take (j + 1) operands)))
+    a b c h (subst (λ (o : Option VarId). Gathers first (alts_users p o operand.alts) b c) e g)
     (λ t. placed_next (operand_users t p) j operands operand q)
 
 pub spots_more : (first i : ℕ) (spots : List Spot) (p : Spot) (a b c : List (List UserOf))

@@ -1,5 +1,5 @@
 -- Lists of an operation's variables, and what is posted of them.
-use Rattle.std.proofs.Common.{ℕ, ◌≡◌, ◌+◌, Bool, true, false, List, [], ◌∷◌, ◌++◌, map, Option, None, Some, refl, ap, ◌∙◌, arith}
+use Rattle.std.proofs.Common.{ℕ, ◌≡◌, ◌+◌, true, false, List, [], ◌∷◌, ◌++◌, map, Option, None, Some, refl, ap, ◌∙◌, arith}
 use Rattle.std.specs.List.{range_with_len}
 use Rattle.std.proofs.lemmas.List.FromFn.{map-range_with_len_more}
 use Rattle.std.specs.Option.{option_to_list}
@@ -94,7 +94,8 @@ pub idle_vars : (cycle : Option VarId) (choices regs none a b new : List VarId) 
     → b ≡ a ++ vars_in own_var choices → new ≡ b ++ regs → new ≡ option_to_list cycle ++ (choices ++ regs)
 idle_vars cycle choices regs none a b new e h k l =
     three_added [] a b new (choice_vars cycle) (vars_in own_var choices) regs (h ∙ ap (λ xs. xs ++ choice_vars cycle) e) k l
-    ∙ ap (λ xs. xs ++ (vars_in own_var choices ++ regs)) (option_vars cycle) ∙ ap (λ ys. option_to_list cycle ++ (ys ++ regs)) (own_vars choices)
+    ∙ ap (λ xs. xs ++ (vars_in own_var choices ++ regs)) (option_vars cycle)
+    ∙ ap (λ ys. option_to_list cycle ++ (ys ++ regs)) (own_vars choices)
 
 -- ---- numbers
 

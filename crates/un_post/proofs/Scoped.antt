@@ -1,13 +1,11 @@
 -- The variables of each kind's fields stand in a list that has them all.
-use Rattle.std.proofs.Common.{ℕ, ◌≡◌, true, List, [], ◌∷◌, ◌++◌, length, get_or, map, All, Option, ◌∙◌, arith}
+use Rattle.std.proofs.Common.{ℕ, ◌≡◌, true, List, [], ◌∷◌, ◌++◌, get_or, All, Option, ◌∙◌, arith}
 use Rattle.std.proofs.lemmas.List.Elements.{All-nil, All-cons, All-head, All-tail}
 use Rattle.un_base.specs.declared.ids.VarId.{VarId}
 use Rattle.un_prop.specs.Acts.{act_vars, at_vars}
 use Rattle.un_prop.specs.Among.{among, AllAmong}
 use Rattle.un_prop.specs.declared.act.Act.{Act}
-use Rattle.un_prop.specs.declared.act.Act.TheVariants.{Always}
 use Rattle.un_prop.specs.declared.act.At.{At}
-use Rattle.un_prop.specs.declared.act.At.TheVariants.{Const, Var}
 use Rattle.un_prop.specs.declared.act.UserOf.{UserOf}
 use Rattle.un_prop.specs.declared.act.Temp.{Temp}
 use Rattle.un_prec.specs.declared.below.Weighted.{Weighted}
@@ -32,7 +30,7 @@ use Rattle.un_rect.specs.Clobber.{CallVars}
 use Rattle.un_rect.specs.Operands.{Side, SideVars}
 use Rattle.un_rect.specs.Spans.{UserVars, TempVars, choice_vars as user_choice}
 use Rattle.un_rect.specs.declared.clobber.ClobberCall.{ClobberCall}
-use Rattle.un_slots.specs.Slots.{ItemVars, SlotVars}
+use Rattle.un_slots.specs.Slots.{SlotVars}
 use Rattle.un_slots.specs.declared.item.Item.{Item}
 use Rattle.un_post.specs.Scopes.{IsScope, vars_in, own_var, alt_vars, end_var, op_vars, use_vars, leave_vars}
 use Rattle.un_post.specs.Scopes.{rectangle_vars, clobber_vars, item_vars, side_vars}
@@ -60,7 +58,8 @@ none vs = All-nil (λ u. among vs u ≡ true)
 
 each : {A : Type 0} (f : A → List VarId) (vs : List VarId) (xs : List A) → AllAmong vs (vars_in f xs) → All (λ x. AllAmong vs (f x)) xs
 each f vs [] h = All-nil (λ x. AllAmong vs (f x))
-each f vs (x ∷ xs) h = All-cons (λ y. AllAmong vs (f y)) x xs (left vs (f x) (vars_in f xs) h) (each f vs xs (right vs (f x) (vars_in f xs) h))
+each f vs (x ∷ xs) h = All-cons (λ y. AllAmong vs (f y)) x xs (left vs (f x) (vars_in f xs) h)
+    (each f vs xs (right vs (f x) (vars_in f xs) h))
 
 owns : (vs xs : List VarId) → AllAmong vs (vars_in own_var xs) → AllAmong vs xs
 owns vs xs h i d lt = one vs (get_or xs i d) (each own_var vs xs h i d lt)

@@ -12,6 +12,7 @@ ghost use Rattle.un_post.specs.Rooms.{user_if, place_users, users_of, temp_at, t
 ghost use Rattle.un_post.specs.Sites.{place_of, definer_at, definers_in};
 
 use crate::make_rect::make_apart;
+use crate::post_places::choice_at;
 use crate::props::Props;
 use crate::sites::{Site, Spot, site_of};
 use crate::tables::add_block;
@@ -121,28 +122,15 @@ fn add_operand(
     Ok(())
 }
 
-/// The choice of the operand at place `j` of an operation.
-fn choice_at(p: &Spot<'_>, j: usize) -> Option<VarId>
-    ensures { result ≡ slice_get p.now.vars.now.choices j }
-{
-    if j < p.vars.choices.len() {
-        Some(*p.vars.choices.get(j))
-    } else {
-        None
-    }
-}
-
 /// The users of each temporary that an operation is.
-fn add_place(
-    lists: &mut Vec<Items<UserOf>>,
-    first: u32,
-    p: &Spot<'_>,
-) -> Result<(), NoMemory>
+fn add_place(lists: &mut Vec<Items<UserOf>>, first: u32, p: &Spot<'_>) -> Result<(), NoMemory>
     ensures { OnOk result (Gathers first (λ (t : TempId). place_users t (place_of p.now)) lists.old.items lists.new.items) }
 {
     for j in 0..p.it.operands.len() {
         let operand = p.it.operands.get(j);
-        add_operand(lists, first, p, choice_at(p, j), &operand.alts)?;
+        let place = number(j)?;
+        let choice = choice_at(p.vars.choices.as_slice(), place);
+        add_operand(lists, first, p, choice, &operand.alts)?;
     }
     Ok(())
 }

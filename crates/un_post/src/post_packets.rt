@@ -1,10 +1,10 @@
-//! What is posted of packets: those of each block have room for what its operations issue.
+//! What is posted of packets: they have room for what the operations of a block issue.
 
 ghost use Rattle.std.specs.Prelude.{◌≡◌, [], ◌∷◌, ◌++◌, IfOk, OnOk, map};
 ghost use Rattle.un_model.specs.Instructions.{needs_by};
 ghost use Rattle.un_post.specs.Constraints as constraint;
-ghost use Rattle.un_post.specs.Places.{by_number, block_places};
-ghost use Rattle.un_post.specs.Postings.{cycle_var, with_kind, var_or};
+ghost use Rattle.un_post.specs.Places.{by_number};
+ghost use Rattle.un_post.specs.Postings.{cycle_var, with_kind};
 ghost use Rattle.un_post.specs.Rooms.{issues_kind, item_of, packets_in, packets_of};
 ghost use Rattle.un_post.specs.Sites.{place_of};
 
@@ -26,24 +26,19 @@ use un_model::numbers::{advance, number};
 use un_slots::item::Item;
 
 /// Whether an operation issues an instruction where it is active.
-fn issues_kind(kind: &ExtKind) -> bool
+fn is_issued(kind: &ExtKind) -> bool
     ensures { result ≡ issues_kind kind.now }
 {
     match kind {
-        ExtKind::In => false,
-        ExtKind::Out => false,
-        ExtKind::End(Term::Fall) => false,
+        ExtKind::In | ExtKind::Out | ExtKind::End(Term::Fall) => false,
         ExtKind::End(Term::Jump(_)) => true,
         ExtKind::End(Term::Branch { .. }) => true,
         ExtKind::End(Term::Ret(_)) => true,
-        ExtKind::Body(_) => true,
-        ExtKind::Copy(_) => true,
-        ExtKind::Enter => true,
-        ExtKind::Leave => true,
+        ExtKind::Body(_) | ExtKind::Copy(_) | ExtKind::Enter | ExtKind::Leave => true,
     }
 }
 
-/// What an operation takes of a packet, by its numbers.
+/// What an operation needs, by its numbers.
 fn needs_of(alloc: Global, t: &Table, kind: &ExtKind) -> Result<Items<Needs>, AllocError>
     ensures { IfOk result (λ uses. uses ≡ by_number (needs_by t.now) kind.now) }
 {
@@ -54,24 +49,24 @@ fn needs_of(alloc: Global, t: &Table, kind: &ExtKind) -> Result<Items<Needs>, Al
     Ok(uses)
 }
 
-/// The variable, where there is one.
-fn var_or(v: Option<VarId>) -> VarId
-    ensures { result ≡ var_or v }
+/// The variable of an operation's cycle.
+fn cycle_var(p: &Spot<'_>) -> VarId
+    ensures { result ≡ cycle_var (place_of p.now) }
 {
-    match v {
+    match p.vars.cycle {
         None => VarId(0),
         Some(v) => v,
     }
 }
 
-/// An operation, as packets have room for it.
+/// An operation as what takes resources.
 fn item_of(alloc: Global, t: &Table, p: &Spot<'_>) -> Result<Item, AllocError>
     ensures { IfOk result (λ item. item ≡ item_of t.now (place_of p.now)) }
 {
     let uses = needs_of(alloc, t, &p.it.kind)?;
     Ok(Item {
         on: p.act(),
-        at: var_or(p.vars.cycle),
+        at: cycle_var(p),
         uses,
     })
 }
@@ -82,47 +77,48 @@ fn items_of(alloc: Global, t: &Table, spots: &[Spot<'_>]) -> Result<Items<Item>,
 {
     let mut items = Items::new(alloc);
     for p in spots {
-        if issues_kind(&p.it.kind) {
+        if is_issued(&p.it.kind) {
             items.push(item_of(alloc, t, p)?)?;
         }
     }
     Ok(items)
 }
 
-/// What is posted of the packets of a block with these operations.
-fn post_packets_of(
+/// The operations of a block that issue instructions.
+fn block_items(
+    alloc: Global,
+    t: &Table,
+    b: u32,
+    n: u32,
+    block: &ExtBlock,
+    vars: &BlockVars,
+) -> Result<Items<Item>, NoMemory>
+    ensures { IfOk result (λ items. constraint.PerCycle items block.now.horizon ∷ [] ≡ packets_in t.now b n block.now vars.now) }
+{
+    let mut spots = Items::new(alloc);
+    add_block(&mut spots, b, n, block, vars)?;
+    let items = items_of(alloc, t, spots.as_slice())?;
+    Ok(items)
+}
+
+/// The packets of a block have room for what its operations issue.
+fn post_block(
     props: &mut Props,
     t: &Table,
-    horizon: u32,
-    spots: &[Spot<'_>],
+    b: u32,
+    n: u32,
+    block: &ExtBlock,
+    vars: &BlockVars,
 ) -> Result<(), NoMemory>
-    ensures { OnOk result (props.new ≡ props.old
-        ++ constraint.PerCycle (map (item_of t.now) (with_kind issues_kind (map place_of spots.now))) horizon ∷ []) }
+    ensures { OnOk result (props.new ≡ props.old ++ packets_in t.now b n block.now vars.now) }
 {
-    let items = items_of(props.alloc(), t, spots)?;
-    let made = make_per_cycle(props.alloc(), items, horizon)?;
+    let items = block_items(props.alloc(), t, b, n, block, vars)?;
+    let made = make_per_cycle(props.alloc(), items, block.horizon)?;
     props.push(made)?;
     Ok(())
 }
 
-/// What is posted of the packets of block `b`, of which the first operation has the number `first`.
-fn post_packets_in(
-    props: &mut Props,
-    t: &Table,
-    b: u32,
-    first: u32,
-    block: &ExtBlock,
-    vars: &BlockVars,
-) -> Result<(), NoMemory>
-    ensures { OnOk result (props.new ≡ props.old ++ packets_in t.now b first block.now vars.now) }
-{
-    let mut spots = Items::new(props.alloc());
-    add_block(&mut spots, b, first, block, vars)?;
-    post_packets_of(props, t, block.horizon, spots.as_slice())?;
-    Ok(())
-}
-
-/// What is posted of the packets of all blocks.
+/// Packets have room for what the operations of each block issue.
 pub fn post_packets(props: &mut Props, m: &Model) -> Result<(), NoMemory>
     ensures { OnOk result (props.new ≡ props.old ++ packets_of m.now) }
 {
@@ -130,7 +126,7 @@ pub fn post_packets(props: &mut Props, m: &Model) -> Result<(), NoMemory>
     for k in 0..m.ext.blocks.len().min(m.blocks.len()) {
         let b = number(k)?;
         let block = m.ext.blocks.get(k);
-        post_packets_in(props, &m.ext.table, b, n, block, m.blocks.get(k))?;
+        post_block(props, &m.ext.table, b, n, block, m.blocks.get(k))?;
         n = advance(n, block.ops.len())?;
     }
     Ok(())

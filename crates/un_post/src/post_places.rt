@@ -20,7 +20,7 @@ use un_model::model::Model;
 use un_model::numbers::number;
 
 /// The variable of a choice, where there is one.
-fn choice_at(choices: &[VarId], j: u32) -> Option<VarId>
+pub fn choice_at(choices: &[VarId], j: u32) -> Option<VarId>
     ensures { result ≡ slice_get choices.now j }
 {
     let j = j as usize;
@@ -44,7 +44,8 @@ fn post_read(
 ) -> Result<(), NoMemory>
     ensures { OnOk result (let choice = slice_get p.now.vars.now.choices j in let ds = definers_in alts.now in props.new ≡ props.old
         ++ (chosen_by (act_of (place_of p.now)) choice ds ++ (waits_by t.now (place_of p.now) choice ds
-        ++ (space_by slots p.now.it.now.kind (act_of (place_of p.now)) j choice (registers_of ds) ++ home_by choice (registers_of ds) home)))) }
+        ++ (space_by slots p.now.it.now.kind (act_of (place_of p.now)) j choice (registers_of ds)
+        ++ home_by choice (registers_of ds) home)))) }
 {
     let on = p.act();
     let choice = choice_at(p.vars.choices.as_slice(), j);

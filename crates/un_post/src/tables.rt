@@ -15,7 +15,7 @@ use un_model::model::{BlockVars, Model, TempVars};
 use un_model::numbers::{advance, number};
 
 /// Adds the operations of block `b`, of which the first has the number `first`.
-pub fn add_block<'a>(
+pub(crate) fn add_block<'a>(
     spots: &mut Items<Spot<'a>>,
     b: u32,
     first: u32,

@@ -1,6 +1,5 @@
-use Rattle.std.proofs.Common.{◌≡◌, map, Option}
+use Rattle.std.proofs.Common.{◌≡◌, map}
 use Rattle.std.specs.List.{range_with_len}
-use Rattle.un_isa.specs.declared.op.Op.{Op}
 use Rattle.un_model.specs.Instructions.{instruction_of, latency_by}
 use Rattle.un_post.proofs.numbers.latencies.Given as goal
 

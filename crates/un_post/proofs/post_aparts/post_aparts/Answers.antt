@@ -1,4 +1,4 @@
-use Rattle.std.proofs.Common.{arith, ◌≡◌, ◌++◌, ◌∙◌, ap, List}
+use Rattle.std.proofs.Common.{arith, ◌++◌, ◌∙◌, ap, List}
 use Rattle.un_model.specs.Pairs.{over_blocks}
 use Rattle.un_model.proofs.Steps.{blocks_more, blocks_all}
 use Rattle.un_post.specs.Places.{Definer}

@@ -1,6 +1,6 @@
 use Rattle.std.proofs.Common.{◌≡◌, ◌++◌, drop}
 use Rattle.un_model.specs.Pairs.{over_blocks}
-use Rattle.un_post.specs.Rooms.{apart_in, aparts_of}
+use Rattle.un_post.specs.Rooms.{apart_in}
 use Rattle.un_post.specs.Sites.{definers_in}
 use Rattle.un_post.proofs.post_aparts.post_aparts.Given as goal
 

@@ -12,5 +12,6 @@ with_users-requires c =
 pub returns : goal.returns
 returns c =
     c.in_ok-made.ensures (users_of (map place_of c.args.spots.now))
-    (gathered_long c.span_of-span.result.first c.span_of-span.result.count (users_of (map place_of c.args.spots.now)) _ c.in_ok-lists.ensures)
+    (gathered_long c.span_of-span.result.first c.span_of-span.result.count (users_of (map place_of c.args.spots.now)) _
+    c.in_ok-lists.ensures)
     ∙ ap (map (temp_at (definers_in c.args.sites.now) (map place_of c.args.spots.now))) (c.as_slice-2.ensures.value ∙ c.in_ok-temps.ensures)

@@ -1,4 +1,4 @@
-use Rattle.std.proofs.Common.{◌∙◌, ap}
+use Rattle.std.proofs.Common.{◌∙◌}
 use Rattle.un_post.proofs.Parts.{idle_vars}
 use Rattle.un_post.proofs.post_own.idle_vars.Goals as goal
 
