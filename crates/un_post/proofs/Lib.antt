@@ -14,10 +14,12 @@ pub mod FrameOrder
 pub mod FrameTags
 pub mod FrameTests
 pub mod Frames
+pub mod Gathering
 pub mod Homes
 pub mod Latencies
 pub mod LeastValues
 pub mod Limits
+pub mod Marking
 pub mod Meeting
 pub mod Memory
 pub mod NoSharing
@@ -25,6 +27,7 @@ pub mod OfPlaces
 pub mod OfRooms
 pub mod OneEnter
 pub mod Packets
+pub mod Pairing
 pub mod Parts
 pub mod Placing
 pub mod Posted
@@ -37,6 +40,8 @@ pub mod Solved
 pub mod SpaceSets
 pub mod Spaces
 pub mod Spared
+pub mod Spares
+pub mod Sparing
 pub mod Tabled
 pub mod Tests
 pub mod TwoOperands
