@@ -5,6 +5,7 @@ pub mod CallOrder
 pub mod Choices
 pub mod Congruences
 pub mod Cycles
+pub mod Edges
 pub mod Ends
 pub mod Exact
 pub mod Facts
@@ -13,10 +14,12 @@ pub mod FrameOrder
 pub mod FrameTags
 pub mod FrameTests
 pub mod Frames
+pub mod Gathering
 pub mod Homes
 pub mod Latencies
 pub mod LeastValues
 pub mod Limits
+pub mod Marking
 pub mod Meeting
 pub mod Memory
 pub mod NoSharing
@@ -24,6 +27,7 @@ pub mod OfPlaces
 pub mod OfRooms
 pub mod OneEnter
 pub mod Packets
+pub mod Pairing
 pub mod Parts
 pub mod Placing
 pub mod Posted
@@ -36,6 +40,8 @@ pub mod Solved
 pub mod SpaceSets
 pub mod Spaces
 pub mod Spared
+pub mod Spares
+pub mod Sparing
 pub mod Tabled
 pub mod Tests
 pub mod TwoOperands

@@ -1,9 +1,13 @@
 pub mod AnyProps
 pub mod Befores
+pub mod Calls
 pub mod Constraints
+pub mod Gathered
 pub mod Places
 pub mod Postings
+pub mod Reach
 pub mod Rooms
 pub mod Scopes
 pub mod Sites
 pub mod Strength
+pub mod Twos

@@ -32,3 +32,8 @@ cycle_time (Some v) = Var v
 abbrev pub is_fall : ExtKind → Bool
 is_fall (End Fall) = true
 is_fall _ = false
+
+-- an operation, where there is one
+abbrev pub place_in : Option Spot → Place
+place_in None = no_place
+place_in (Some p) = place_of p

@@ -2,17 +2,29 @@
 #![tactic(auto)]
 
 pub mod any;
+mod call_rows;
+mod call_sides;
 pub mod make_alt;
 pub mod make_prec;
 pub mod make_rect;
 mod numbers;
+pub mod post_aparts;
+pub mod post_arcs;
+pub mod post_clobbers;
+pub mod post_edges;
+pub mod post_frame;
 pub mod post_limit;
 pub mod post_own;
 pub mod post_packets;
 pub mod post_places;
 pub mod post_reads;
 pub mod post_spaces;
+pub mod post_twos;
 pub mod props;
+mod reach;
+pub mod see_calls;
 pub mod sites;
+mod space_sets;
+mod span;
 pub mod tables;
 pub mod vars;

@@ -50,7 +50,7 @@ fn needs_of(alloc: Global, t: &Table, kind: &ExtKind) -> Result<Items<Needs>, Al
 }
 
 /// The variable of an operation's cycle.
-fn cycle_var(p: &Spot<'_>) -> VarId
+pub(crate) fn cycle_var(p: &Spot<'_>) -> VarId
     ensures { result ≡ cycle_var (place_of p.now) }
 {
     match p.vars.cycle {

@@ -20,7 +20,7 @@ use un_model::model::Model;
 use un_model::numbers::number;
 
 /// The variable of a choice, where there is one.
-fn choice_at(choices: &[VarId], j: u32) -> Option<VarId>
+pub fn choice_at(choices: &[VarId], j: u32) -> Option<VarId>
     ensures { result ≡ slice_get choices.now j }
 {
     let j = j as usize;
