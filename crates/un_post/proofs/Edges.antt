@@ -55,7 +55,8 @@ none_handed ds x operands choices k old le =
 pub none_chosen : (ds : List Definer) (x : TempId) (operands : List Operand) (choices : List VarId) (k : ℕ) (old : List Constraint)
     → length choices ≤ k → old ≡ old ++ same_by ds x (slice_get operands k) (slice_get choices k)
 none_chosen ds x operands choices k old le =
-    sym (append-nil old) ∙ ap (λ zs. old ++ zs) (sym (unread ds x (slice_get operands k) (slice_get choices k) (slice_get_past choices k le)))
+    sym (append-nil old) ∙ ap (λ zs. old ++ zs) (sym (unread ds x (slice_get operands k) (slice_get choices k)
+    (slice_get_past choices k le)))
 
 pub none_there : (ds : List Definer) (out : Place) (a : ExtBlock) (blocks : List ExtBlock) (l : ℕ) (old : List Constraint)
     → length blocks ≤ l → old ≡ old ++ over_edge ds out a (slice_get blocks l)

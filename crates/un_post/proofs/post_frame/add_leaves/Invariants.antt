@@ -5,4 +5,5 @@ use Rattle.un_post.specs.Sites.{place_of}
 use Rattle.un_post.proofs.post_frame.add_leaves.Given as goal
 
 abbrev pub invariant-loop-p : goal.invariant-loop-p
-invariant-loop-p l = l.uses ++ map single_use (with_kind is_leave (map place_of (drop l.p-index l.spots))) ≡ l.initial.uses ++ map single_use (with_kind is_leave (map place_of l.spots))
+invariant-loop-p l = l.uses ++ map single_use (with_kind is_leave (map place_of (drop l.p-index l.spots))) ≡ l.initial.uses ++
+    map single_use (with_kind is_leave (map place_of l.spots))

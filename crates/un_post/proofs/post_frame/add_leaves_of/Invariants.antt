@@ -5,5 +5,6 @@ use Rattle.un_post.specs.Sites.{place_of}
 use Rattle.un_post.proofs.post_frame.add_leaves_of.Given as goal
 
 abbrev pub invariant-loop-p : goal.invariant-loop-p
-invariant-loop-p l = l.leaves ++ map (leave_of (map place_of l.spots)) (with_kind is_leave (map place_of (drop l.p-index l.spots))) ≡ l.initial.leaves ++ map
+invariant-loop-p l = l.leaves ++ map (leave_of (map place_of l.spots)) (with_kind is_leave (map place_of (drop l.p-index l.spots))) ≡
+    l.initial.leaves ++ map
     (leave_of (map place_of l.spots)) (with_kind is_leave (map place_of l.spots))

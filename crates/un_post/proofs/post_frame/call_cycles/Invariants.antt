@@ -4,4 +4,5 @@ use Rattle.un_post.specs.Sites.{place_of}
 use Rattle.un_post.proofs.post_frame.call_cycles.Given as goal
 
 abbrev pub invariant-loop-p : goal.invariant-loop-p
-invariant-loop-p l = l.vars.items ++ map cycle_var (with_kind is_call_kind (map place_of (drop l.p-index l.spots))) ≡ map cycle_var (with_kind is_call_kind (map place_of l.spots))
+invariant-loop-p l = l.vars.items ++ map cycle_var (with_kind is_call_kind (map place_of (drop l.p-index l.spots))) ≡ map cycle_var
+    (with_kind is_call_kind (map place_of l.spots))

@@ -5,5 +5,6 @@ use Rattle.un_post.specs.Sites.{place_of, definers_in}
 use Rattle.un_post.proofs.post_frame.post_frame.Given as goal
 
 abbrev pub invariant-loop-p : goal.invariant-loop-p
-invariant-loop-p l = l.props ++ map (frame_by l.m (definers_in l.sites) (map place_of l.spots)) (with_kind is_enter (map place_of (drop l.p-index l.spots))) ≡ l.initial.props ++ frame_of l.m
+invariant-loop-p l = l.props ++ map (frame_by l.m (definers_in l.sites) (map place_of l.spots))
+    (with_kind is_enter (map place_of (drop l.p-index l.spots))) ≡ l.initial.props ++ frame_of l.m
     (definers_in l.sites) (map place_of l.spots)

@@ -7,5 +7,6 @@ use Rattle.un_post.specs.Sites.{place_of, definers_in}
 use Rattle.un_post.proofs.post_frame.taken.Given as goal
 
 abbrev pub invariant-loop-p : goal.invariant-loop-p
-invariant-loop-p l = l.vars.items ++ joined (map (λ (p : Place). registers_at (definers_in l.sites) p.it.results) (with_kind is_in (map place_of (drop l.p-index l.spots)))) ≡ joined
+invariant-loop-p l = l.vars.items ++ joined (map (λ (p : Place). registers_at (definers_in l.sites) p.it.results)
+    (with_kind is_in (map place_of (drop l.p-index l.spots)))) ≡ joined
     (map (λ (p : Place). registers_at (definers_in l.sites) p.it.results) (with_kind is_in (map place_of l.spots)))
