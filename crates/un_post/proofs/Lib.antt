@@ -36,6 +36,7 @@ pub mod RegisterBounds
 pub mod Relaxed
 pub mod Rising
 pub mod Scoped
+pub mod Seeing
 pub mod Solved
 pub mod SpaceSets
 pub mod Spaces

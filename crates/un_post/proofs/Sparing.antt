@@ -12,7 +12,6 @@ use Rattle.un_model.proofs.Steps.{drop_at, drop_past, append-nil}
 use Rattle.un_post.specs.Calls.{SeesCall, before_by}
 use Rattle.un_post.specs.Places.{Place}
 use Rattle.un_post.specs.Postings.{cycle_var}
-use Rattle.un_post.specs.Reach.{leading}
 use Rattle.un_post.specs.Rooms.{call_at, is_before, is_behind, users_of}
 use Rattle.un_post.specs.declared.call_rows.CallSite.{CallSite}
 use Rattle.un_post.proofs.Gathering.{users_at}
