@@ -58,13 +58,12 @@ abbrev IsLong : ℕ → CallSite → Type 0
 IsLong count s = length s.users ≡ count
 
 module _ (R : Place → CallSite → Type 0) (count i : ℕ) (spots : List Spot) (p : Spot) (calls next : List CallSite)
-  (h : AllZip R (calls_to i spots) calls) (long : All (IsLong count) calls) (g : slice_get spots i ≡ Some p)
-  (b : Bool) (is : b ≡ is_call_at (place_of p)) where
+    (h : AllZip R (calls_to i spots) calls) (long : All (IsLong count) calls) (g : slice_get spots i ≡ Some p)
+    (b : Bool) (is : b ≡ is_call_at (place_of p)) where
   pub seen_more : b ≡ true → (s : CallSite) → R (place_of p) s → length s.users ≡ count → next ≡ calls ++ s ∷ []
       → AllZip R (calls_to (i + 1) spots) next × All (IsLong count) next
   seen_more t s r l n =
-      let to = next_calls i spots p g ∙ ap (λ (ps : List Place). calls_to i spots ++ ps) (one_yes is_call_at (place_of p) (sym is ∙ t)) in
-      (
+      let to = next_calls i spots p g ∙ ap (λ (ps : List Place). calls_to i spots ++ ps) (one_yes is_call_at (place_of p) (sym is ∙ t)) in (
         subst (λ (ps : List Place). AllZip R ps next) (sym to)
             (subst (AllZip R (calls_to i spots ++ place_of p ∷ [])) (sym n) (zip_push R (calls_to i spots) calls (place_of p) s h r)),
         subst (All (IsLong count)) (sym n) (All-push (IsLong count) calls s long l),
@@ -73,8 +72,7 @@ module _ (R : Place → CallSite → Type 0) (count i : ℕ) (spots : List Spot)
   pub seen_same : b ≡ false → next ≡ calls → AllZip R (calls_to (i + 1) spots) next × All (IsLong count) next
   seen_same t n =
       let to = next_calls i spots p g ∙ ap (λ (ps : List Place). calls_to i spots ++ ps) (one_no is_call_at (place_of p) (sym is ∙ t))
-          ∙ append-nil (calls_to i spots) in
-      (
+      ∙ append-nil (calls_to i spots) in (
         subst (λ (ps : List Place). AllZip R ps next) (sym to) (subst (AllZip R (calls_to i spots)) (sym n) h),
         subst (All (IsLong count)) (sym n) long,
       )

@@ -105,7 +105,15 @@ fn post_span(
     let reach = reach_of(spots, arcs);
     let lists = all_users(props.alloc(), span.first, span.count, spots)?;
     let calls = see_calls(props.alloc(), reach, arcs, span, spots)?;
-    post_spared_all(props, mask, sites, calls.as_slice(), span.first, &lists, temps)?;
+    post_spared_all(
+        props,
+        mask,
+        sites,
+        calls.as_slice(),
+        span.first,
+        &lists,
+        temps,
+    )?;
     Ok(())
 }
 
