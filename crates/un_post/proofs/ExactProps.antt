@@ -1,5 +1,5 @@
 -- Propagators that ask for all that is posted for a model hold for exactly its solutions that cost less than the limit.
-use Rattle.std.proofs.Common.{ℕ, ◌≡◌, ◌↔◌, true, List, [], ◌∷◌, All, map, Option, refl, sym, subst}
+use Rattle.std.proofs.Common.{ℕ, ◌≡◌, true, List, [], ◌∷◌, All, map, Option, sym, subst}
 use Rattle.std.proofs.lemmas.List.Elements.{All-nil, All-cons, All-head, All-tail, All-map}
 use Rattle.un_isa.specs.Fit.{IsFit}
 use Rattle.un_domains.specs.Domains.{values_of}
@@ -13,7 +13,7 @@ use Rattle.un_model.specs.Variables.{IsModel, model_of}
 use Rattle.un_post.specs.AnyProps.{constraint_of}
 use Rattle.un_post.specs.Befores.{all_postings_of}
 use Rattle.un_post.specs.Constraints.{Constraint, AllMet, meets}
-use Rattle.un_post.specs.Posts.{AllHold, IsExact}
+use Rattle.un_post.specs.Posts.{IsExact}
 use Rattle.un_post.specs.declared.any.AnyProp.{AnyProp}
 use Rattle.un_post.proofs.Exact.{exact_in}
 
