@@ -52,10 +52,10 @@ module _ (low n : ℕ) (marks : List Bool) (ns : List ℕ) (within : IsWithin lo
   pub marks_more : Marks low (set marks (n - low) true) (n ∷ ns)
   marks_more m =
       elim (cases_lt m n) [
-        inl a ↦ elsewhere m (λ e. omega arith)
-      | inr a ↦ elim (cases_lt n m) [
-          inl b ↦ elsewhere m (λ e. omega arith)
-        | inr b ↦ let e : n ≡ m = omega arith in subst (λ (k : ℕ). mark_at low (set marks (n - low) true) k ≡ has (n ∷ ns) k) e at_it
+        | inl a ↦ elsewhere m (λ e. omega arith)
+        | inr a ↦ elim (cases_lt n m) [
+          | inl b ↦ elsewhere m (λ e. omega arith)
+          | inr b ↦ let e : n ≡ m = omega arith in subst (λ (k : ℕ). mark_at low (set marks (n - low) true) k ≡ has (n ∷ ns) k) e at_it
         ]
       ]
 
@@ -166,7 +166,7 @@ get_some (x ∷ xs) zero d h = refl
 get_some (x ∷ xs) (suc i) d h = get_some xs i d (omega arith)
 
 module _ (low k : ℕ) (first marks : List Bool) (arcs : List Arc) (d : Arc) (ns : List ℕ) (within : All (IsArcWithin low (length first)) arcs)
-  (long : length marks ≡ length first) (more : k < length arcs) (h : Marks low marks (leading (drop (length arcs - k) arcs) ns)) where
+    (long : length marks ≡ length first) (more : k < length arcs) (h : Marks low marks (leading (drop (length arcs - k) arcs) ns)) where
   abbrev at : ℕ
   at = length arcs - 1 - k
 

@@ -79,8 +79,8 @@ abbrev pub but : ℕ → Place → Bool
 but own p = not (p.op == own)
 
 module _ (arcs : List Arc) (ps qs : List Place) (first : ℕ) (calls : List CallSite) (zip : AllZip (SeesCall arcs ps first) qs calls)
-  (t : TempId) (definer : Place) (i : ℕ) (made whole : List ClobberCall)
-  (h : made ++ map (call_at arcs ps t definer) (filter (but definer.op) (drop i qs)) ≡ whole) where
+    (t : TempId) (definer : Place) (i : ℕ) (made whole : List ClobberCall)
+    (h : made ++ map (call_at arcs ps t definer) (filter (but definer.op) (drop i qs)) ≡ whole) where
   pub calls_yes : (s : CallSite) (own : ℕ) (next : List ClobberCall) (y : ClobberCall) → slice_get calls i ≡ Some s
       → ((q : Place) → SeesCall arcs ps first q s → y ≡ call_at arcs ps t definer q) → own ≡ definer.op → (s.op == own) ≡ false
       → next ≡ made ++ y ∷ [] → next ++ map (call_at arcs ps t definer) (filter (but definer.op) (drop (i + 1) qs)) ≡ whole
