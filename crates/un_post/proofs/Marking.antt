@@ -166,7 +166,8 @@ get_some [] i d h = absurd (omega arith)
 get_some (x ∷ xs) zero d h = refl
 get_some (x ∷ xs) (suc i) d h = get_some xs i d (omega arith)
 
-module _ (low k : ℕ) (first marks : List Bool) (arcs : List Arc) (d : Arc) (ns : List ℕ) (within : All (IsArcWithin low (length first)) arcs)
+module _ (low k : ℕ) (first marks : List Bool) (arcs : List Arc) (d : Arc) (ns : List ℕ)
+    (within : All (IsArcWithin low (length first)) arcs)
     (long : length marks ≡ length first) (more : k < length arcs) (h : Marks low marks (leading (drop (length arcs - k) arcs) ns)) where
   abbrev at : ℕ
   at = length arcs - 1 - k
