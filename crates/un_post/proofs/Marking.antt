@@ -1,5 +1,6 @@
 -- Marks of the operations of a block, as loops over its arcs set them.
-use Rattle.std.proofs.Common.{ℕ, zero, suc, ◌≡◌, ◌≢◌, ◌<◌, ◌≤◌, ◌+◌, ◌-◌, nat_lt, nat_eq, Bool, true, false, ◌⊎◌, inl, inr, refl, sym, ap, subst, ◌∙◌, arith}
+use Rattle.std.proofs.Common.{ℕ, zero, suc, ◌≡◌, ◌≢◌, ◌<◌, ◌≤◌, ◌+◌, ◌-◌, nat_lt, nat_eq}
+use Rattle.std.proofs.Common.{Bool, true, false, ◌⊎◌, inl, inr, refl, sym, ap, subst, ◌∙◌, arith}
 use Rattle.std.proofs.Common.{List, [], ◌∷◌, length, take, drop, set, get_or, get_or-set_same, get_or-set_other, fold, replicate, All}
 use Rattle.std.specs.Prelude.{◌||◌, if◌then◌else◌, Some, slice_get}
 use Rattle.std.specs.List.{list_any}
@@ -165,7 +166,8 @@ get_some [] i d h = absurd (omega arith)
 get_some (x ∷ xs) zero d h = refl
 get_some (x ∷ xs) (suc i) d h = get_some xs i d (omega arith)
 
-module _ (low k : ℕ) (first marks : List Bool) (arcs : List Arc) (d : Arc) (ns : List ℕ) (within : All (IsArcWithin low (length first)) arcs)
+module _ (low k : ℕ) (first marks : List Bool) (arcs : List Arc) (d : Arc) (ns : List ℕ)
+    (within : All (IsArcWithin low (length first)) arcs)
     (long : length marks ≡ length first) (more : k < length arcs) (h : Marks low marks (leading (drop (length arcs - k) arcs) ns)) where
   abbrev at : ℕ
   at = length arcs - 1 - k
