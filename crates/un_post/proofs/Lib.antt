@@ -8,6 +8,7 @@ pub mod Cycles
 pub mod Edges
 pub mod Ends
 pub mod Exact
+pub mod ExactProps
 pub mod Facts
 pub mod Failing
 pub mod FrameOrder

@@ -1,5 +1,6 @@
 -- Marks of the operations of a block, as loops over its arcs set them.
-use Rattle.std.proofs.Common.{ℕ, zero, suc, ◌≡◌, ◌≢◌, ◌<◌, ◌≤◌, ◌+◌, ◌-◌, nat_lt, nat_eq, Bool, true, false, inl, inr, refl, sym, ap, subst, ◌∙◌, arith}
+use Rattle.std.proofs.Common.{ℕ, zero, suc, ◌≡◌, ◌≢◌, ◌<◌, ◌≤◌, ◌+◌, ◌-◌, nat_lt, nat_eq}
+use Rattle.std.proofs.Common.{Bool, true, false, ◌⊎◌, inl, inr, refl, sym, ap, subst, ◌∙◌, arith}
 use Rattle.std.proofs.Common.{List, [], ◌∷◌, length, take, drop, set, get_or, get_or-set_same, get_or-set_other, fold, replicate, All}
 use Rattle.std.specs.Prelude.{◌||◌, if◌then◌else◌, Some, slice_get}
 use Rattle.std.specs.List.{list_any}
@@ -52,10 +53,10 @@ module _ (low n : ℕ) (marks : List Bool) (ns : List ℕ) (within : IsWithin lo
   pub marks_more : Marks low (set marks (n - low) true) (n ∷ ns)
   marks_more m =
       elim (cases_lt m n) [
-        inl a ↦ elsewhere m (λ e. omega arith)
-      | inr a ↦ elim (cases_lt n m) [
-          inl b ↦ elsewhere m (λ e. omega arith)
-        | inr b ↦ let e : n ≡ m = omega arith in subst (λ (k : ℕ). mark_at low (set marks (n - low) true) k ≡ has (n ∷ ns) k) e at_it
+        | inl a ↦ elsewhere m (λ e. omega arith)
+        | inr a ↦ elim (cases_lt n m) [
+          | inl b ↦ elsewhere m (λ e. omega arith)
+          | inr b ↦ let e : n ≡ m = omega arith in subst (λ (k : ℕ). mark_at low (set marks (n - low) true) k ≡ has (n ∷ ns) k) e at_it
         ]
       ]
 
@@ -165,8 +166,9 @@ get_some [] i d h = absurd (omega arith)
 get_some (x ∷ xs) zero d h = refl
 get_some (x ∷ xs) (suc i) d h = get_some xs i d (omega arith)
 
-module _ (low k : ℕ) (first marks : List Bool) (arcs : List Arc) (d : Arc) (ns : List ℕ) (within : All (IsArcWithin low (length first)) arcs)
-  (long : length marks ≡ length first) (more : k < length arcs) (h : Marks low marks (leading (drop (length arcs - k) arcs) ns)) where
+module _ (low k : ℕ) (first marks : List Bool) (arcs : List Arc) (d : Arc) (ns : List ℕ)
+    (within : All (IsArcWithin low (length first)) arcs)
+    (long : length marks ≡ length first) (more : k < length arcs) (h : Marks low marks (leading (drop (length arcs - k) arcs) ns)) where
   abbrev at : ℕ
   at = length arcs - 1 - k
 

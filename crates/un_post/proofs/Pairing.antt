@@ -1,5 +1,6 @@
 -- What is added for each two of a list, as loops add it.
-use Rattle.std.proofs.Common.{ℕ, ◌≡◌, ◌+◌, ◌≤◌, Bool, true, false, List, [], ◌∷◌, ◌++◌, length, drop, cond, Option, None, Some, slice_get, refl, ap, ◌∙◌, sym, append_assoc}
+use Rattle.std.proofs.Common.{ℕ, ◌≡◌, ◌+◌, ◌≤◌, Bool, true, false, List, [], ◌∷◌, ◌++◌}
+use Rattle.std.proofs.Common.{length, drop, cond, Option, None, Some, slice_get, refl, ap, ◌∙◌, sym, append_assoc}
 use Rattle.un_base.specs.declared.ids.VarId.{VarId}
 use Rattle.un_ir.specs.declared.extended.ExtKind.{ExtKind}
 use Rattle.un_ir.specs.declared.extended.ExtKind.TheVariants.{In, Out, Body, End, Copy, Enter, Leave}
@@ -71,5 +72,6 @@ two-none k ds Leave i a c j b d h = refl
 pub twos_none : (k : ℕ) (ds : List Definer) (p : Place) → is_source p.it.kind ≡ false → twos_in k ds p ≡ []
 twos_none k ds p h =
     each-none (two_at k ds p) 0 p.it.operands
-    (λ i a j b. elim (one_value a b) as (λ (same : Bool). cond same [] (two_by k ds p.it.kind i a (slice_get p.vars.choices i) j b (slice_get p.vars.choices j)) ≡ [])
+    (λ i a j b. elim (one_value a b) as (λ (same : Bool). cond same []
+    (two_by k ds p.it.kind i a (slice_get p.vars.choices i) j b (slice_get p.vars.choices j)) ≡ [])
     [ true ↦ refl | false ↦ two-none k ds p.it.kind i a (slice_get p.vars.choices i) j b (slice_get p.vars.choices j) h ])

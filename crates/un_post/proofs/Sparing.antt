@@ -1,5 +1,6 @@
 -- What a temporary knows of the calls of its block, as loops over them make it.
-use Rattle.std.proofs.Common.{ℕ, zero, suc, ◌≡◌, ◌+◌, ◌-◌, ◌≤◌, ◌<◌, Bool, true, false, List, [], ◌∷◌, ◌++◌, length, map, drop, Some, slice_get, refl, sym, ap, subst, ◌∙◌, append_assoc, arith}
+use Rattle.std.proofs.Common.{ℕ, zero, suc, ◌≡◌, ◌+◌, ◌-◌, ◌≤◌, ◌<◌, Bool, true, false, List, []}
+use Rattle.std.proofs.Common.{◌∷◌, ◌++◌, length, map, drop, Some, slice_get, refl, sym, ap, subst, ◌∙◌, append_assoc, arith}
 use Rattle.std.specs.Prelude.{◌==◌, not, ◌||◌, filter}
 use Rattle.std.specs.List.{AllZip}
 use Rattle.un_base.specs.declared.ids.TempId.{TempId}
@@ -29,7 +30,8 @@ module _ (arcs : List Arc) (ps : List Place) (first : ℕ) (q : Place) (s : Call
   call_is t definer at before behind users e g h k le lt =
       let made : VarId → Bool → List UserOf → ClobberCall = λ a b us. record { at = a; before = b; behind = us } in
       let there : first + (t.0 - first) ≡ t.0 = omega arith in
-      let them = users_at first (length s.users) (t.0 - first) (users_of (filter (is_behind arcs q) ps)) s.users t users sees.users k there in
+      let them = users_at first (length s.users) (t.0 - first) (users_of (filter (is_behind arcs q) ps)) s.users t users
+      sees.users k there in
       ap (λ (a : VarId). made a before behind) (e ∙ sees.at) ∙ ap (λ (b : Bool). made (cycle_var q) b behind) (g ∙ before_is definer)
       ∙ ap (λ (us : List UserOf). made (cycle_var q) (is_before arcs definer q) us) (h ∙ them)
 
@@ -78,21 +80,23 @@ abbrev pub but : ℕ → Place → Bool
 but own p = not (p.op == own)
 
 module _ (arcs : List Arc) (ps qs : List Place) (first : ℕ) (calls : List CallSite) (zip : AllZip (SeesCall arcs ps first) qs calls)
-  (t : TempId) (definer : Place) (i : ℕ) (made whole : List ClobberCall)
-  (h : made ++ map (call_at arcs ps t definer) (filter (but definer.op) (drop i qs)) ≡ whole) where
+    (t : TempId) (definer : Place) (i : ℕ) (made whole : List ClobberCall)
+    (h : made ++ map (call_at arcs ps t definer) (filter (but definer.op) (drop i qs)) ≡ whole) where
   pub calls_yes : (s : CallSite) (own : ℕ) (next : List ClobberCall) (y : ClobberCall) → slice_get calls i ≡ Some s
       → ((q : Place) → SeesCall arcs ps first q s → y ≡ call_at arcs ps t definer q) → own ≡ definer.op → (s.op == own) ≡ false
       → next ≡ made ++ y ∷ [] → next ++ map (call_at arcs ps t definer) (filter (but definer.op) (drop (i + 1) qs)) ≡ whole
   calls_yes s own next y g each e other n =
       let at = zip_at (SeesCall arcs ps first) qs calls i s zip g in
-      let same : (at.0.op == definer.op) ≡ false = ap (λ (m : ℕ). m == definer.op) (sym at.1.1.op) ∙ ap (λ (m : ℕ). s.op == m) (sym e) ∙ other in
+      let same : (at.0.op == definer.op) ≡ false = ap (λ (m : ℕ). m == definer.op) (sym at.1.1.op)
+      ∙ ap (λ (m : ℕ). s.op == m) (sym e) ∙ other in
       passing_yes (but definer.op) (call_at arcs ps t definer) i qs at.0 made next whole y h at.1.0 (ap not same) (each at.0 at.1.1) n
 
   pub calls_no : (s : CallSite) (own : ℕ) (next : List ClobberCall) → slice_get calls i ≡ Some s → own ≡ definer.op
       → (s.op == own) ≡ true → next ≡ made → next ++ map (call_at arcs ps t definer) (filter (but definer.op) (drop (i + 1) qs)) ≡ whole
   calls_no s own next g e equal n =
       let at = zip_at (SeesCall arcs ps first) qs calls i s zip g in
-      let same : (at.0.op == definer.op) ≡ true = ap (λ (m : ℕ). m == definer.op) (sym at.1.1.op) ∙ ap (λ (m : ℕ). s.op == m) (sym e) ∙ equal in
+      let same : (at.0.op == definer.op) ≡ true = ap (λ (m : ℕ). m == definer.op) (sym at.1.1.op)
+      ∙ ap (λ (m : ℕ). s.op == m) (sym e) ∙ equal in
       passing_no (but definer.op) (call_at arcs ps t definer) i qs at.0 made next whole h at.1.0 (ap not same) n
 
   pub calls_all : length calls ≤ i → made ≡ whole

@@ -41,11 +41,8 @@ fn ends_block(kind: &ExtKind) -> bool
         ExtKind::End(Term::Jump(_)) => true,
         ExtKind::End(Term::Branch { .. }) => true,
         ExtKind::End(Term::Ret(_)) => true,
-        ExtKind::In
-        | ExtKind::Body(_)
-        | ExtKind::Copy(_)
-        | ExtKind::Enter
-        | ExtKind::Leave => false,
+        ExtKind::In | ExtKind::Body(_) | ExtKind::Copy(_) | ExtKind::Enter | ExtKind::Leave =>
+            false,
     }
 }
 

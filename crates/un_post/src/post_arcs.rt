@@ -54,11 +54,7 @@ fn post_arcs_in(props: &mut Props, spots: &[Spot<'_>], arcs: &[Arc]) -> Result<(
 }
 
 /// What is posted of the arcs of one block after another.
-fn post_blocks(
-    props: &mut Props,
-    spots: &[Spot<'_>],
-    blocks: &[Items<Arc>],
-) -> Result<(), NoMemory>
+fn post_blocks(props: &mut Props, spots: &[Spot<'_>], blocks: &[Items<Arc>]) -> Result<(), NoMemory>
     ensures { OnOk result (props.new ≡ props.old ++ joined (map (befores_in (map place_of spots.now)) blocks.now)) }
 {
     for arcs in blocks {

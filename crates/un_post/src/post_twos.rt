@@ -131,7 +131,8 @@ fn post_two_by(
     b: Read<'_>,
 ) -> Result<(), NoMemory>
     ensures { OnOk result (props.new ≡ props.old
-        ++ two_by slots (definers_in sites.now) kind.now a.entry.at a.entry.it.now a.entry.choice b.entry.at b.entry.it.now b.entry.choice) }
+        ++ two_by slots (definers_in sites.now) kind.now
+        a.entry.at a.entry.it.now a.entry.choice b.entry.at b.entry.it.now b.entry.choice) }
 {
     let ExtKind::Body(source) = kind else {
         return Ok(());

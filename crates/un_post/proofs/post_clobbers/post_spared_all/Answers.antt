@@ -9,7 +9,8 @@ use Rattle.std.proofs.Common.{refl}
 
 pub post_spared-requires-clause-calls : goal.post_spared-requires-clause-calls
 post_spared-requires-clause-calls c =
-    among_all c.args.first (length c.args.lists.now) _ c.args.calls.now (c.requires.users c.loop-t.t-index _ c.loop-t-test.true) c.requires.calls
+    among_all c.args.first (length c.args.lists.now) _ c.args.calls.now (c.requires.users c.loop-t.t-index _ c.loop-t-test.true)
+    c.requires.calls
 
 pub loop-t-preserved : goal.loop-t-preserved
 loop-t-preserved c = λ arcs ps lists zip.
