@@ -1,6 +1,6 @@
 -- What is posted of the edges between blocks, as loops make it.
 use Rattle.std.proofs.Common.{ℕ, ◌≡◌, ◌+◌, ◌-◌, List, [], ◌∷◌, ◌++◌, length, map, drop, Some, slice_get, refl, ap, ◌∙◌, sym, append_assoc}
-use Rattle.std.proofs.Common.{zero, suc, ◌≤◌, Option, None, arith}
+use Rattle.std.proofs.Common.{suc, ◌≤◌, Option, None, arith}
 use Rattle.un_base.specs.declared.ids.TempId.{TempId}
 use Rattle.un_base.specs.declared.ids.VarId.{VarId}
 use Rattle.un_ir.specs.declared.extended.Operand.{Operand}

@@ -1,7 +1,7 @@
 -- What is posted for a model is met by exactly its solutions that cost less than the limit.
 use Rattle.std.proofs.Common.{ℕ, zero, suc, ◌≡◌, ◌↔◌, ◌+◌, ◌-◌, ◌<◌, ◌++◌, Bool, true, false, List, [], ◌∷◌, length, map, inl, inr}
 use Rattle.std.proofs.Common.{refl, sym, ap, subst, arith}
-use Rattle.std.specs.Prelude.{Option, IfSome, slice_index, nat_eq, ◌||◌}
+use Rattle.std.specs.Prelude.{Option, slice_index, nat_eq, ◌||◌}
 use Rattle.std.specs.List.{list_any}
 use Rattle.std.proofs.lemmas.Bool.Decides.{nat_tests}
 use Rattle.un_isa.specs.Fit.{IsFit}
@@ -13,25 +13,20 @@ use Rattle.un_ir.specs.declared.extended.Ext.{Ext}
 use Rattle.un_ir.specs.Extended.{IsExtended}
 use Rattle.un_model.specs.declared.model.Options.{Options}
 use Rattle.un_model.specs.declared.model.Model.{Model}
-use Rattle.un_model.specs.declared.model.Solution.{Solution}
-use Rattle.un_model.specs.Cost.{cost_of}
 use Rattle.un_model.specs.Options.{AreOptions}
-use Rattle.un_model.specs.Solutions.{IsSolution, InDomain, KeepsDomains}
+use Rattle.un_model.specs.Solutions.{InDomain, KeepsDomains}
 use Rattle.un_model.specs.Variables.{model_of}
 use Rattle.un_model.proofs.Lists.{Member}
 use Rattle.un_post.specs.Befores.{befores_of, all_postings_of}
 use Rattle.un_post.specs.Constraints.{AllMet}
 use Rattle.un_post.specs.Postings.{postings_of}
+use Rattle.un_post.specs.Posts.{IsCheaper}
 use Rattle.un_post.specs.Rooms.{rooms_of}
 use Rattle.un_post.proofs.Facts.{Given}
 use Rattle.un_post.proofs.Memory.{befores, memory, contains_member, member_contains}
 use Rattle.un_post.proofs.Posted.{all_append}
 use Rattle.un_post.proofs.Solved.{solved_by}
 use Rattle.un_post.proofs.SpaceSets.{has_run}
-
--- a solution that costs less than a limit, where there is one
-abbrev pub IsCheaper : Model → Option ℕ → Solution → Type 0
-IsCheaper m limit s = IsSolution m s × IfSome limit (λ n. cost_of m s < n)
 
 -- ---- of values within the domains
 

@@ -57,7 +57,7 @@ placed_next {B = B} f i xs x h =
     sym (joined-last (places_from f 0 (take i xs)) (f i x)) ∙ ap (joined {A = B})
     (ap (λ k. places_from f 0 (take i xs) ++ f k x ∷ []) m ∙ sym (places_next f 0 i xs x h))
 
-mapped_next : {A B : Type 0} (f : A → B) (i : ℕ) (xs : List A) (x : A) → slice_get xs i ≡ Some x
+pub mapped_next : {A B : Type 0} (f : A → B) (i : ℕ) (xs : List A) (x : A) → slice_get xs i ≡ Some x
     → map f (take (i + 1) xs) ≡ map f (take i xs) ++ f x ∷ []
 mapped_next f i [] x h = absurd (cc h)
 mapped_next f zero (y ∷ xs) x h = let e : y ≡ x = cc h in ap (λ z. f z ∷ []) e

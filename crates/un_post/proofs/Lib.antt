@@ -8,6 +8,7 @@ pub mod Cycles
 pub mod Edges
 pub mod Ends
 pub mod Exact
+pub mod ExactProps
 pub mod Facts
 pub mod Failing
 pub mod FrameOrder
@@ -36,6 +37,7 @@ pub mod RegisterBounds
 pub mod Relaxed
 pub mod Rising
 pub mod Scoped
+pub mod Seeing
 pub mod Solved
 pub mod SpaceSets
 pub mod Spaces

@@ -1,6 +1,6 @@
 -- The constraint that calls spare a temporary, from its parts.
 use Rattle.std.proofs.Common.{ℕ, ◌≡◌, Bool, true, false, List, [], ◌∷◌, length, map, All, refl, sym, ap, subst, ◌∙◌}
-use Rattle.std.specs.Prelude.{◌==◌, ◌&&◌, not, filter, cond}
+use Rattle.std.specs.Prelude.{◌&&◌, filter, cond}
 use Rattle.un_base.specs.declared.ids.TempId.{TempId}
 use Rattle.un_prop.specs.declared.act.Temp.{Temp}
 use Rattle.un_prop.specs.declared.act.UserOf.{UserOf}
@@ -10,7 +10,7 @@ use Rattle.un_post.specs.Constraints.{Constraint, Clobber}
 use Rattle.un_post.specs.Gathered.{temp_with, IsAmong}
 use Rattle.un_post.specs.Places.{Place, Definer}
 use Rattle.un_post.specs.Postings.{is_call_kind, with_kind}
-use Rattle.un_post.specs.Rooms.{call_at, calls_but, spared_by, users_of}
+use Rattle.un_post.specs.Rooms.{call_at, spared_by, users_of}
 use Rattle.un_post.specs.declared.call_rows.CallSite.{CallSite}
 use Rattle.un_post.proofs.Sparing.{but}
 

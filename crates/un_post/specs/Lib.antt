@@ -5,6 +5,7 @@ pub mod Constraints
 pub mod Gathered
 pub mod Places
 pub mod Postings
+pub mod Posts
 pub mod Reach
 pub mod Rooms
 pub mod Scopes

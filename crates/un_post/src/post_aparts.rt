@@ -27,9 +27,9 @@ use un_prop::act::{Temp, UserOf};
 
 /// Consecutive numbers of temporaries.
 #[derive(Clone, Copy)]
-struct Span {
-    first: u32,
-    count: usize,
+pub struct Span {
+    pub first: u32,
+    pub count: usize,
 }
 
 /// Adds temporaries.
@@ -43,7 +43,7 @@ fn add_temps(temps: &mut Vec<TempId>, more: &[TempId]) -> Result<(), AllocError>
 }
 
 /// The temporaries that operations define.
-fn temps_in(alloc: Global, spots: &[Spot<'_>]) -> Result<Vec<TempId>, AllocError>
+pub fn temps_in(alloc: Global, spots: &[Spot<'_>]) -> Result<Vec<TempId>, AllocError>
     ensures { IfOk result (λ temps. temps.items ≡ temps_in (map place_of spots.now)) }
 {
     let mut temps = Vec::new(alloc);
@@ -54,7 +54,7 @@ fn temps_in(alloc: Global, spots: &[Spot<'_>]) -> Result<Vec<TempId>, AllocError
 }
 
 /// The numbers from the least of these temporaries to the greatest.
-fn span_of(temps: &[TempId]) -> Span
+pub fn span_of(temps: &[TempId]) -> Span
     ensures { All (IsAmong result.first result.count) temps.now }
 {
     let mut first = u32::MAX;
@@ -150,7 +150,7 @@ fn add_places(
 }
 
 /// The users of each of so many temporaries from `first` on.
-fn all_users(
+pub fn all_users(
     alloc: Global,
     first: u32,
     count: usize,

@@ -70,7 +70,7 @@ fn is_in(kind: &ExtKind) -> bool
 }
 
 /// Whether an operation is a call.
-fn is_call(kind: &ExtKind) -> bool
+pub(crate) fn is_call(kind: &ExtKind) -> bool
     ensures { result ≡ is_call_kind kind.now }
 {
     match kind {

@@ -1,19 +1,26 @@
-//! A call of a block, as its temporaries see it.
+//! The calls of a block, as its temporaries see them.
 
-ghost use Rattle.std.specs.Prelude.{◌≡◌, ℕ, List, All, IfOk, filter, length};
+ghost use Rattle.std.specs.Prelude.{◌≡◌, ℕ, List, All, IfOk, filter, length, map};
+ghost use Rattle.std.specs.List.{AllZip};
 ghost use Rattle.un_post.specs.Calls.{SeesCall};
 ghost use Rattle.un_post.specs.Gathered.{gathered};
 ghost use Rattle.un_post.specs.Places.{Place};
-ghost use Rattle.un_post.specs.Postings.{cycle_var};
+ghost use Rattle.un_post.specs.Postings.{cycle_var, is_call_kind, with_kind};
 ghost use Rattle.un_post.specs.Reach.{IsWithin, IsArcWithin};
 ghost use Rattle.un_post.specs.Rooms.{is_behind, users_of};
 ghost use Rattle.un_post.specs.Sites.{place_of};
+ghost use Rattle.un_post.specs.declared.call_rows.CallSite.{CallSite};
+ghost use Rattle.un_post.specs.declared.sites.Spot.{Spot};
 
 use crate::call_rows::CallSite;
+use crate::call_sides::behind;
+use crate::post_aparts::{Span, all_users};
+use crate::post_frame::is_call;
 use crate::reach::{Reach, mark_leading};
 use crate::sites::Spot;
 use std::alloc::{AllocError, Global};
 use un_base::ids::VarId;
+use un_base::memory_error::NoMemory;
 use un_lists::items::Items;
 use un_model::model::Arc;
 use un_prop::act::UserOf;
@@ -50,4 +57,47 @@ pub fn see_call(
         leading: Items::from_vec(marks),
         users,
     })
+}
+
+/// A call among the operations of a block, with the users of the temporaries of a span.
+fn see_among(
+    alloc: Global,
+    reach: Reach,
+    arcs: &[Arc],
+    span: Span,
+    spots: &[Spot<'_>],
+    call: &Spot<'_>,
+) -> Result<CallSite, NoMemory>
+    requires arcs { All (IsArcWithin reach.low reach.count) arcs.now }
+    requires call { IsWithin reach.low reach.count call.now.op }
+    ensures sees { IfOk result (SeesCall arcs.now (map place_of spots.now) span.first (place_of call.now)) }
+    ensures long { IfOk result (λ s. length s.users ≡ span.count) }
+{
+    let later = behind(alloc, reach, arcs, call, spots)?;
+    let users = all_users(alloc, span.first, span.count, later.as_slice())?;
+    let site = see_call(alloc, reach, arcs, call, users)?;
+    Ok(site)
+}
+
+/// The calls among the operations of a block, each with the users of the temporaries of a span.
+pub fn see_calls(
+    alloc: Global,
+    reach: Reach,
+    arcs: &[Arc],
+    span: Span,
+    spots: &[Spot<'_>],
+) -> Result<Items<CallSite>, NoMemory>
+    requires arcs { All (IsArcWithin reach.low reach.count) arcs.now }
+    requires spots { All (λ (p : Spot). IsWithin reach.low reach.count p.op) spots.now }
+    ensures sees { IfOk result (AllZip (SeesCall arcs.now (map place_of spots.now) span.first)
+        (with_kind is_call_kind (map place_of spots.now))) }
+    ensures long { IfOk result (All (λ (s : CallSite). length s.users ≡ span.count)) }
+{
+    let mut calls = Items::new(alloc);
+    for p in spots {
+        if is_call(&p.it.kind) {
+            calls.push(see_among(alloc, reach, arcs, span, spots, p)?)?;
+        }
+    }
+    Ok(calls)
 }

@@ -1,9 +1,6 @@
-use Rattle.std.proofs.Common.{subst, sym, length}
-use Rattle.std.specs.Prelude.{slice_get}
+use Rattle.std.proofs.Common.{length}
 use Rattle.std.proofs.lemmas.Option.{slice_get-get_or}
-use Rattle.un_base.specs.declared.ids.TempId.{TempId}
 use Rattle.un_model.proofs.Steps.{map_more}
-use Rattle.un_post.specs.Gathered.{IsAmong}
 use Rattle.un_post.specs.Rooms.{spared_at}
 use Rattle.un_post.specs.Sites.{definers_in}
 use Rattle.un_post.proofs.Spares.{among_all}

@@ -1,4 +1,4 @@
-use Rattle.std.proofs.Common.{ap, arith, ◌∙◌, sym}
+use Rattle.std.proofs.Common.{arith}
 use Rattle.std.proofs.lemmas.Option.{slice_get-get_or}
 use Rattle.un_model.specs.Congruences.{live_in_temps}
 use Rattle.un_post.specs.Postings.{congruence}

@@ -1,0 +1,24 @@
+use Rattle.std.proofs.Common.{◌∙◌, ap, map, List}
+use Rattle.std.specs.Prelude.{filter}
+use Rattle.un_post.specs.Gathered.{gathered}
+use Rattle.un_post.specs.Places.{Place}
+use Rattle.un_post.specs.Rooms.{is_behind, users_of}
+use Rattle.un_post.specs.Sites.{place_of}
+use Rattle.un_post.specs.declared.sites.Spot.{Spot}
+use Rattle.un_post.proofs.Gathering.{gathered_long}
+use Rattle.un_post.proofs.Seeing.{long_as}
+use Rattle.un_post.proofs.see_calls.see_among.Goals as goal
+
+pub returns-clause-sees : goal.returns-clause-sees
+returns-clause-sees c =
+    let ps = map place_of c.args.spots.now in
+    c.in_ok-site.ensures.sees ps c.args.span.first
+    (gathered_long c.args.span.first c.args.span.count (users_of (filter (is_behind c.args.arcs.now (place_of c.args.call.now)) ps)) _
+    (c.in_ok-users.ensures
+    ∙ ap (λ (spots : List Spot). gathered c.args.span.first c.args.span.count (users_of (map place_of spots))) c.as_slice.ensures
+    ∙ ap (λ (qs : List Place). gathered c.args.span.first c.args.span.count (users_of qs)) c.in_ok-later.ensures))
+
+pub returns-clause-long : goal.returns-clause-long
+returns-clause-long c =
+    c.in_ok-site.ensures.long
+    ∙ long_as c.args.span.first c.args.span.count (users_of (map place_of c.as_slice.result.now)) _ c.in_ok-users.ensures

@@ -1,0 +1,27 @@
+-- What posting gives: exactly the solutions that cost less than the limit.
+use Rattle.std.specs.Prelude.{ℕ, ◌≡◌, ◌<◌, ◌↔◌, true, List, Option, IfSome, All, map, fold, max}
+use Rattle.un_domains.specs.Sets.{Sets, IsIn}
+use Rattle.un_ir.specs.declared.extended.ExtBlock.{ExtBlock}
+use Rattle.un_model.specs.declared.model.Model.{Model}
+use Rattle.un_model.specs.declared.model.Solution.{Solution}
+use Rattle.un_model.specs.Cost.{cost_of}
+use Rattle.un_model.specs.Solutions.{IsSolution}
+use Rattle.un_model.specs.Variables.{own_horizon}
+use Rattle.un_post.specs.AnyProps.{holds_of}
+use Rattle.un_post.specs.declared.any.AnyProp.{AnyProp}
+
+-- a solution that costs less than a limit, where there is one
+abbrev pub IsCheaper : Model → Option ℕ → Solution → Type 0
+IsCheaper m limit s = IsSolution m s × IfSome limit (λ n. cost_of m s < n)
+
+-- each propagator holds
+abbrev pub AllHold : List AnyProp → List ℕ → Type 0
+AllHold ps x = All (λ (p : AnyProp). holds_of p x ≡ true) ps
+
+-- the solutions that cost less than the limit are exactly the assignments of the store for which each propagator holds
+unfoldable pub IsExact : Model → Option ℕ → Sets → List AnyProp → Type 0
+IsExact m limit s ps = (x : List ℕ) → IsCheaper m limit (record { values = x }) ↔ (IsIn x s × AllHold ps x)
+
+-- the largest horizon of the blocks
+abbrev pub largest_horizon : List ExtBlock → ℕ
+largest_horizon blocks = fold max 0 (map own_horizon blocks)
