@@ -1,14 +1,6 @@
 -- Marks of the operations of a block, as loops over its arcs set them.
-<<<<<<< HEAD
-use Rattle.std.proofs.Common.{ℕ, zero, suc, ◌≡◌, ◌≢◌, ◌<◌, ◌≤◌, ◌+◌, ◌-◌, nat_lt, nat_eq, Bool, true, false, ◌⊎◌, inl, inr, refl, sym, ap}
-use Rattle.std.proofs.Common.{subst, ◌∙◌, arith}
-||||||| 27dc7ea
-use Rattle.std.proofs.Common.{ℕ, zero, suc, ◌≡◌, ◌≢◌, ◌<◌, ◌≤◌, ◌+◌, ◌-◌, nat_lt, nat_eq, Bool, true, false, ◌⊎◌, inl, inr, refl, sym, ap}
-use Rattle.std.proofs.Common.{subst, ◌∙◌, arith}
-=======
 use Rattle.std.proofs.Common.{ℕ, zero, suc, ◌≡◌, ◌≢◌, ◌<◌, ◌≤◌, ◌+◌, ◌-◌, nat_lt, nat_eq}
 use Rattle.std.proofs.Common.{Bool, true, false, ◌⊎◌, inl, inr, refl, sym, ap, subst, ◌∙◌, arith}
->>>>>>> 6244c0c79b5a9606aab7caa20a14efe7a94c0e01
 use Rattle.std.proofs.Common.{List, [], ◌∷◌, length, take, drop, set, get_or, get_or-set_same, get_or-set_other, fold, replicate, All}
 use Rattle.std.specs.Prelude.{◌||◌, if◌then◌else◌, Some, slice_get}
 use Rattle.std.specs.List.{list_any}

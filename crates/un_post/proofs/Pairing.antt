@@ -1,14 +1,6 @@
 -- What is added for each two of a list, as loops add it.
-<<<<<<< HEAD
-use Rattle.std.proofs.Common.{ℕ, ◌≡◌, ◌+◌, ◌≤◌, Bool, true, false, List, [], ◌∷◌, ◌++◌, length, drop, cond, Option, None, Some, slice_get}
-use Rattle.std.proofs.Common.{refl, ap, ◌∙◌, sym, append_assoc}
-||||||| 27dc7ea
-use Rattle.std.proofs.Common.{ℕ, ◌≡◌, ◌+◌, ◌≤◌, Bool, true, false, List, [], ◌∷◌, ◌++◌, length, drop, cond, Option, None, Some, slice_get}
-use Rattle.std.proofs.Common.{refl, ap, ◌∙◌, sym, append_assoc}
-=======
 use Rattle.std.proofs.Common.{ℕ, ◌≡◌, ◌+◌, ◌≤◌, Bool, true, false, List, [], ◌∷◌, ◌++◌}
 use Rattle.std.proofs.Common.{length, drop, cond, Option, None, Some, slice_get, refl, ap, ◌∙◌, sym, append_assoc}
->>>>>>> 6244c0c79b5a9606aab7caa20a14efe7a94c0e01
 use Rattle.un_base.specs.declared.ids.VarId.{VarId}
 use Rattle.un_ir.specs.declared.extended.ExtKind.{ExtKind}
 use Rattle.un_ir.specs.declared.extended.ExtKind.TheVariants.{In, Out, Body, End, Copy, Enter, Leave}

@@ -1,14 +1,6 @@
 -- What a temporary knows of the calls of its block, as loops over them make it.
-<<<<<<< HEAD
-use Rattle.std.proofs.Common.{ℕ, zero, suc, ◌≡◌, ◌+◌, ◌-◌, ◌≤◌, ◌<◌, Bool, true, false, List, [], ◌∷◌, ◌++◌, length, map, drop, Some}
-use Rattle.std.proofs.Common.{slice_get, refl, sym, ap, subst, ◌∙◌, append_assoc, arith}
-||||||| 27dc7ea
-use Rattle.std.proofs.Common.{ℕ, zero, suc, ◌≡◌, ◌+◌, ◌-◌, ◌≤◌, ◌<◌, Bool, true, false, List, [], ◌∷◌, ◌++◌, length, map, drop, Some}
-use Rattle.std.proofs.Common.{slice_get, refl, sym, ap, subst, ◌∙◌, append_assoc, arith}
-=======
 use Rattle.std.proofs.Common.{ℕ, zero, suc, ◌≡◌, ◌+◌, ◌-◌, ◌≤◌, ◌<◌, Bool, true, false, List, []}
 use Rattle.std.proofs.Common.{◌∷◌, ◌++◌, length, map, drop, Some, slice_get, refl, sym, ap, subst, ◌∙◌, append_assoc, arith}
->>>>>>> 6244c0c79b5a9606aab7caa20a14efe7a94c0e01
 use Rattle.std.specs.Prelude.{◌==◌, not, ◌||◌, filter}
 use Rattle.std.specs.List.{AllZip}
 use Rattle.un_base.specs.declared.ids.TempId.{TempId}
@@ -38,16 +30,8 @@ module _ (arcs : List Arc) (ps : List Place) (first : ℕ) (q : Place) (s : Call
   call_is t definer at before behind users e g h k le lt =
       let made : VarId → Bool → List UserOf → ClobberCall = λ a b us. record { at = a; before = b; behind = us } in
       let there : first + (t.0 - first) ≡ t.0 = omega arith in
-<<<<<<< HEAD
-      let them = users_at first (length s.users) (t.0 - first) (users_of (filter (is_behind arcs q) ps)) s.users t users sees.users k there
-      in
-||||||| 27dc7ea
-      let them = users_at first (length s.users) (t.0 - first) (users_of (filter (is_behind arcs q) ps)) s.users t users sees.users k there
-          in
-=======
       let them = users_at first (length s.users) (t.0 - first) (users_of (filter (is_behind arcs q) ps)) s.users t users
       sees.users k there in
->>>>>>> 6244c0c79b5a9606aab7caa20a14efe7a94c0e01
       ap (λ (a : VarId). made a before behind) (e ∙ sees.at) ∙ ap (λ (b : Bool). made (cycle_var q) b behind) (g ∙ before_is definer)
       ∙ ap (λ (us : List UserOf). made (cycle_var q) (is_before arcs definer q) us) (h ∙ them)
 
@@ -103,32 +87,16 @@ module _ (arcs : List Arc) (ps qs : List Place) (first : ℕ) (calls : List Call
       → next ≡ made ++ y ∷ [] → next ++ map (call_at arcs ps t definer) (filter (but definer.op) (drop (i + 1) qs)) ≡ whole
   calls_yes s own next y g each e other n =
       let at = zip_at (SeesCall arcs ps first) qs calls i s zip g in
-<<<<<<< HEAD
-      let same : (at.0.op == definer.op) ≡ false = ap (λ (m : ℕ). m == definer.op) (sym at.1.1.op) ∙ ap (λ (m : ℕ). s.op == m) (sym e)
-      ∙ other in
-||||||| 27dc7ea
-      let same : (at.0.op == definer.op) ≡ false = ap (λ (m : ℕ). m == definer.op) (sym at.1.1.op) ∙ ap (λ (m : ℕ). s.op == m) (sym e)
-          ∙ other in
-=======
       let same : (at.0.op == definer.op) ≡ false = ap (λ (m : ℕ). m == definer.op) (sym at.1.1.op)
       ∙ ap (λ (m : ℕ). s.op == m) (sym e) ∙ other in
->>>>>>> 6244c0c79b5a9606aab7caa20a14efe7a94c0e01
       passing_yes (but definer.op) (call_at arcs ps t definer) i qs at.0 made next whole y h at.1.0 (ap not same) (each at.0 at.1.1) n
 
   pub calls_no : (s : CallSite) (own : ℕ) (next : List ClobberCall) → slice_get calls i ≡ Some s → own ≡ definer.op
       → (s.op == own) ≡ true → next ≡ made → next ++ map (call_at arcs ps t definer) (filter (but definer.op) (drop (i + 1) qs)) ≡ whole
   calls_no s own next g e equal n =
       let at = zip_at (SeesCall arcs ps first) qs calls i s zip g in
-<<<<<<< HEAD
-      let same : (at.0.op == definer.op) ≡ true = ap (λ (m : ℕ). m == definer.op) (sym at.1.1.op) ∙ ap (λ (m : ℕ). s.op == m) (sym e)
-      ∙ equal in
-||||||| 27dc7ea
-      let same : (at.0.op == definer.op) ≡ true = ap (λ (m : ℕ). m == definer.op) (sym at.1.1.op) ∙ ap (λ (m : ℕ). s.op == m) (sym e)
-          ∙ equal in
-=======
       let same : (at.0.op == definer.op) ≡ true = ap (λ (m : ℕ). m == definer.op) (sym at.1.1.op)
       ∙ ap (λ (m : ℕ). s.op == m) (sym e) ∙ equal in
->>>>>>> 6244c0c79b5a9606aab7caa20a14efe7a94c0e01
       passing_no (but definer.op) (call_at arcs ps t definer) i qs at.0 made next whole h at.1.0 (ap not same) n
 
   pub calls_all : length calls ≤ i → made ≡ whole

@@ -131,16 +131,8 @@ fn post_two_by(
     b: Read<'_>,
 ) -> Result<(), NoMemory>
     ensures { OnOk result (props.new ≡ props.old
-<<<<<<< HEAD
-        ++ two_by slots (definers_in sites.now) kind.now a.entry.at a.entry.it.now a.entry.choice b.entry.at b.entry.it.now
-        b.entry.choice) }
-||||||| 27dc7ea
-        ++ two_by slots (definers_in sites.now) kind.now a.entry.at a.entry.it.now a.entry.choice b.entry.at b.entry.it.now
-            b.entry.choice) }
-=======
         ++ two_by slots (definers_in sites.now) kind.now
         a.entry.at a.entry.it.now a.entry.choice b.entry.at b.entry.it.now b.entry.choice) }
->>>>>>> 6244c0c79b5a9606aab7caa20a14efe7a94c0e01
 {
     let ExtKind::Body(source) = kind else {
         return Ok(());

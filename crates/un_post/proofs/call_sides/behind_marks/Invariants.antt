@@ -7,15 +7,7 @@ use Rattle.un_post.specs.Sites.{place_of}
 use Rattle.un_post.proofs.call_sides.behind_marks.Given as goal
 
 abbrev pub invariant-loop-p : goal.invariant-loop-p
-<<<<<<< HEAD
-invariant-loop-p l = map place_of l.found ++ filter (λ (p : Place). ends_block p.it.kind ||
-    (not (p.op == l.call) && mark_at l.low l.marks p.op))
-||||||| 27dc7ea
-invariant-loop-p l = map place_of l.found ++ filter (λ (p : Place). ends_block p.it.kind ||
-    (not (p.op == l.call) && mark_at l.low l.marks p.op))
-=======
 invariant-loop-p l = map place_of l.found ++ filter
     (λ (p : Place). ends_block p.it.kind || (not (p.op == l.call) && mark_at l.low l.marks p.op))
->>>>>>> 6244c0c79b5a9606aab7caa20a14efe7a94c0e01
     (map place_of (drop l.p-index l.spots)) ≡ filter
     (λ (p : Place). ends_block p.it.kind || (not (p.op == l.call) && mark_at l.low l.marks p.op)) (map place_of l.spots)

@@ -6,14 +6,6 @@ use Rattle.un_post.proofs.post_twos.post_following.Given as goal
 
 abbrev pub invariant-loop-j : goal.invariant-loop-j
 invariant-loop-j l = l.props ++ joined (places_from (two_at l.slots (definers_in l.sites) (place_of l.p) l.i l.a.it.now) l.j
-<<<<<<< HEAD
-    (drop l.j l.p.it.now.operands)) ≡ l.initial.props ++ joined (places_from
-    (two_at l.slots (definers_in l.sites) (place_of l.p) l.i l.a.it.now)
-||||||| 27dc7ea
-    (drop l.j l.p.it.now.operands)) ≡ l.initial.props ++ joined (places_from
-        (two_at l.slots (definers_in l.sites) (place_of l.p) l.i l.a.it.now)
-=======
     (drop l.j l.p.it.now.operands)) ≡ l.initial.props ++ joined
     (places_from (two_at l.slots (definers_in l.sites) (place_of l.p) l.i l.a.it.now)
->>>>>>> 6244c0c79b5a9606aab7caa20a14efe7a94c0e01
     (l.i + 1) (drop (l.i + 1) l.p.it.now.operands))
