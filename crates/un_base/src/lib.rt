@@ -8,6 +8,7 @@ pub mod lines;
 pub mod memory;
 pub mod memory_error;
 pub mod name;
+pub mod numbers;
 pub mod outside;
 pub mod status;
 pub mod transfer;

@@ -10,13 +10,13 @@ ghost use Rattle.un_baseline.specs.SpillEverywhere.{slot_of, last_place, is_plac
 ghost use Rattle.un_baseline.specs.SpillEverywhere.{kept_by_kind, first_copy, second_copy, result_wait, operand_copy, truth_copy};
 ghost use Rattle.un_baseline.specs.SpillEverywhere.{first_alts, copy_move, after_move, next_cycle, next_value, next_operand};
 
-use crate::numbers::{later, number};
 use crate::plan::{
     Definer, FROM_PREDICATE, Move, PREDICATE, Progress, Purpose, RELOAD, SPILL, Setting,
     TO_PREDICATE,
 };
 use un_base::ids::{NameId, TempId};
 use un_base::memory_error::NoMemory;
+use un_base::numbers::{later, number};
 use un_ir::extended::{Ext, ExtOp, NodeCopy};
 use un_ir::function::{Kind, Term};
 use un_isa::op::Op;

@@ -2,6 +2,5 @@
 #![tactic(auto)]
 
 mod copies;
-mod numbers;
 pub mod plan;
 pub mod spill;

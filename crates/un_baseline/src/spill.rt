@@ -31,11 +31,11 @@ ghost use Rattle.un_baseline.specs.SpillEverywhere.{spilled_values};
 use crate::copies::{
     after_copy, copy_move, is_placed, last_place, name_at, name_kind, result_wait, slot_of,
 };
-use crate::numbers::{later, number};
 use crate::plan::{Definer, Move, PREDICATE, Progress, Purpose, Setting};
 use std::alloc::Global;
 use un_base::ids::{NameId, TempId};
 use un_base::memory_error::NoMemory;
+use un_base::numbers::{later, number};
 use un_ir::extended::{Ext, ExtBlock, ExtKind, ExtOp, NodeCopy, Operand};
 use un_ir::function::{Kind, SrcOp, Term};
 use un_isa::facts::result_space;

@@ -8,6 +8,7 @@ ghost use Rattle.un_ir.specs.ExtendOf.{copy_op, frame_op, with_op, with_copy, wi
 use std::alloc::Global;
 use un_base::ids::TempId;
 use un_base::memory_error::NoMemory;
+use un_base::numbers::later;
 use un_ir::extended::{ExtKind, ExtOp, Growth, NodeCopy, Operand, Sort};
 use un_ir::function::Kind;
 use un_lists::items::Items;
@@ -20,22 +21,12 @@ fn copied(alloc: Global, temps: &[TempId]) -> Result<Items<TempId>, NoMemory>
     Ok(Items::from_vec(own))
 }
 
-/// The number that is `k` past `n`.
-pub fn number_past(n: u32, k: u32) -> Result<u32, NoMemory>
-    ensures { IfOk result (λ m. m ≡ n + k) }
-{
-    match n.checked_add(k) {
-        Some(m) => Ok(m),
-        None => Err(NoMemory),
-    }
-}
-
 /// So many temporaries from number `first` on, behind those so far.
 pub fn push_temps(temps: &mut Items<TempId>, first: u32, count: u32) -> Result<(), NoMemory>
     ensures { OnOk result (temps.new ≡ temps.old ++ map temp (range_with_len first count)) }
 {
     for k in 0..count {
-        temps.push(TempId(number_past(first, k)?))?;
+        temps.push(TempId(later(first, k)?))?;
     }
     Ok(())
 }
@@ -74,7 +65,7 @@ fn push_copy(alloc: Global, g: &mut Growth, node: NodeCopy, alts: &[TempId]) -> 
 {
     let op = copy_op(alloc, node, alts, g.next)?;
     g.ops.push(op)?;
-    g.next = number_past(g.next, 1)?;
+    g.next = later(g.next, 1)?;
     Ok(())
 }
 

@@ -5,11 +5,12 @@ ghost use Rattle.un_ir.specs.Extended.{is_return};
 ghost use Rattle.un_ir.specs.ExtendOf.{with_leave, with_enter, with_results, with_extended, with_all_extended, sorts_of, sort_of_name};
 ghost use Rattle.un_ir.specs.WellFormed.{result_kind};
 
-use crate::copies::{number_past, push_frame_op, push_temps};
+use crate::copies::{push_frame_op, push_temps};
 use crate::values::{push_operands, push_values};
 use std::alloc::Global;
 use un_base::ids::NameId;
 use un_base::memory_error::NoMemory;
+use un_base::numbers::later;
 use un_ir::extended::{ExtKind, ExtOp, Growth, Operand, Sort};
 use un_ir::function::{Kind, Term};
 use un_isa::facts::result_space;
@@ -77,7 +78,7 @@ fn push_op(
         operands,
         results,
     })?;
-    g.next = number_past(g.next, count)?;
+    g.next = later(g.next, count)?;
     Ok(())
 }
 

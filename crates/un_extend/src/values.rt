@@ -7,10 +7,11 @@ ghost use Rattle.un_ir.specs.Linear.{first_of};
 ghost use Rattle.un_ir.specs.ExtendOf.{with_value, with_values, with_operand, chosen_from, with_operand_by, alternatives, with_operands};
 ghost use Rattle.un_ir.specs.ExtendOf.{new_operands, copy_count};
 
-use crate::copies::{copy_count, number_past, push_copies, push_temps};
+use crate::copies::{copy_count, push_copies, push_temps};
 use std::alloc::Global;
 use un_base::ids::TempId;
 use un_base::memory_error::NoMemory;
+use un_base::numbers::later;
 use un_ir::extended::{Growth, NodeCopy, Operand, Sort, Value};
 use un_lists::items::Items;
 
@@ -47,7 +48,7 @@ pub fn push_values(
     let mut n = first;
     for sort in sorts {
         push_value(alloc, g, n, *sort)?;
-        n = number_past(n, 1)?;
+        n = later(n, 1)?;
     }
     Ok(())
 }

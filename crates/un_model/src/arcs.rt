@@ -8,11 +8,11 @@ ghost use Rattle.un_model.specs.Arcs.{arc, arcs_between, arcs_into, block_arcs, 
 use crate::distances::memory_distance;
 use crate::instructions::{instruction, latency};
 use crate::model::{Arc, TempVars};
-use crate::numbers::advance;
 use crate::placement::chosen;
 use std::alloc::Global;
 use un_base::ids::OpId;
 use un_base::memory_error::NoMemory;
+use un_base::numbers::advance;
 use un_ir::extended::{Ext, ExtKind, ExtOp, Operand};
 use un_isa::table::Table;
 use un_lists::items::Items;

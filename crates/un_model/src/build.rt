@@ -15,11 +15,11 @@ ghost use Rattle.un_model.specs.Variables.{block_domains, blocks_domains, own_ho
 use crate::arcs::arcs;
 use crate::homes::homes;
 use crate::model::{BlockVars, Model, OpVars, Options, TempVars};
-use crate::numbers::{advance, number};
 use crate::registers::{Scope, carried, domain, is_truth, saved};
 use std::alloc::Global;
 use un_base::ids::{OpId, TempId, VarId};
 use un_base::memory_error::NoMemory;
+use un_base::numbers::{advance, number};
 use un_domains::domain::Domain;
 use un_ir::extended::{Ext, ExtBlock, ExtKind, ExtOp, NodeCopy, Operand};
 use un_isa::reg::SLOTS;

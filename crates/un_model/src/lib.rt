@@ -11,7 +11,6 @@ mod frame;
 mod homes;
 pub mod instructions;
 pub mod model;
-pub mod numbers;
 mod occupations;
 pub mod packets;
 pub mod placement;

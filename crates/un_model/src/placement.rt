@@ -13,11 +13,11 @@ ghost use Rattle.un_model.specs.Schedules.{last_read, cycle_for, range_by, range
 use crate::cost::value;
 use crate::instructions::instruction;
 use crate::model::{BlockVars, Model, OpVars, Solution, TempVars};
-use crate::numbers::{advance, number};
 use crate::schedule::{Issue, LiveRange, Read, Schedule};
 use std::alloc::Global;
 use un_base::ids::{BlockId, OpId, TempId, VarId};
 use un_base::memory_error::NoMemory;
+use un_base::numbers::{advance, number};
 use un_ir::extended::{ExtBlock, ExtKind, ExtOp, Operand};
 use un_isa::op::Op;
 use un_lists::items::Items;

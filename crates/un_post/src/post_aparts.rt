@@ -19,10 +19,10 @@ use crate::tables::add_block;
 use std::alloc::{AllocError, Global};
 use un_base::ids::{TempId, VarId};
 use un_base::memory_error::NoMemory;
+use un_base::numbers::{advance, number};
 use un_ir::extended::{ExtBlock, Operand};
 use un_lists::items::Items;
 use un_model::model::{BlockVars, Model};
-use un_model::numbers::{advance, number};
 use un_prop::act::{Temp, UserOf};
 
 /// Consecutive numbers of temporaries.

@@ -17,12 +17,12 @@ use crate::tables::add_block;
 use std::alloc::{AllocError, Global};
 use un_base::ids::{TempId, VarId};
 use un_base::memory_error::NoMemory;
+use un_base::numbers::{advance, number};
 use un_ir::extended::{ExtBlock, Operand};
 use un_ir::function::Term;
 use un_lists::items::Items;
 use un_model::congruences::{live_in_temps, place, term};
 use un_model::model::{BlockVars, Model};
-use un_model::numbers::{advance, number};
 
 /// The last of these operations.
 #[tactic(auto, using(crate::proofs::Edges::last_is))]

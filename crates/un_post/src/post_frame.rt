@@ -19,11 +19,11 @@ use std::alloc::{AllocError, Global};
 use un_alt::frame::{FrameLeave, FrameOp, FrameUse, RELOAD, SPILL};
 use un_base::ids::VarId;
 use un_base::memory_error::NoMemory;
+use un_base::numbers::{advance, number};
 use un_ir::extended::{ExtBlock, ExtKind};
 use un_isa::op::Op;
 use un_lists::items::Items;
 use un_model::model::{BlockVars, Model};
-use un_model::numbers::{advance, number};
 
 /// Whether an operation is a copy.
 fn is_copy(kind: &ExtKind) -> bool

@@ -16,13 +16,13 @@ use crate::tables::add_block;
 use std::alloc::{AllocError, Global};
 use un_base::ids::VarId;
 use un_base::memory_error::NoMemory;
+use un_base::numbers::{advance, number};
 use un_ir::extended::{ExtBlock, ExtKind};
 use un_ir::function::Term;
 use un_isa::table::{Needs, Table};
 use un_lists::items::Items;
 use un_model::instructions::{instruction, needs};
 use un_model::model::{BlockVars, Model};
-use un_model::numbers::{advance, number};
 use un_slots::item::Item;
 
 /// Whether an operation issues an instruction where it is active.

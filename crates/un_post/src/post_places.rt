@@ -13,11 +13,11 @@ use crate::props::Props;
 use crate::sites::{Site, Spot, sites_at};
 use un_base::ids::VarId;
 use un_base::memory_error::NoMemory;
+use un_base::numbers::number;
 use un_ir::extended::Operand;
 use un_isa::reg::Reg;
 use un_isa::table::Table;
 use un_model::model::Model;
-use un_model::numbers::number;
 
 /// The variable of a choice, where there is one.
 pub fn choice_at(choices: &[VarId], j: u32) -> Option<VarId>

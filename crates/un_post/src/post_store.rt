@@ -6,11 +6,11 @@ ghost use Rattle.un_post.specs.Posts.{largest_horizon};
 
 use std::alloc::{AllocError, Global};
 use un_base::memory_error::NoMemory;
+use un_base::numbers::number;
 use un_domains::domain::Domain;
 use un_domains::store::Store;
 use un_ir::extended::ExtBlock;
 use un_lists::items::Items;
-use un_model::numbers::number;
 
 /// The same domain once more.
 fn copy_domain(alloc: Global, domain: &Domain) -> Result<Domain, AllocError>

@@ -18,12 +18,12 @@ use crate::space_sets::space_registers;
 use std::alloc::{AllocError, Global};
 use un_base::ids::{TempId, VarId};
 use un_base::memory_error::NoMemory;
+use un_base::numbers::number;
 use un_ir::extended::{ExtKind, Operand};
 use un_isa::op::Op;
 use un_lists::items::Items;
 use un_model::instructions::space_read;
 use un_model::model::Model;
-use un_model::numbers::number;
 
 /// The operand at place `at` of an operation, with the variable of its choice.
 #[derive(Clone, Copy)]

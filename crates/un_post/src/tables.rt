@@ -9,10 +9,10 @@ use crate::sites::{Site, Spot};
 use std::alloc::{AllocError, Global};
 use un_base::ids::OpId;
 use un_base::memory_error::NoMemory;
+use un_base::numbers::{advance, number};
 use un_ir::extended::ExtBlock;
 use un_lists::items::Items;
 use un_model::model::{BlockVars, Model, TempVars};
-use un_model::numbers::{advance, number};
 
 /// Adds the operations of block `b`, of which the first has the number `first`.
 pub(crate) fn add_block<'a>(

@@ -8,4 +8,4 @@ pub loop-k-preserved : goal.loop-k-preserved
 loop-k-preserved c =
     let e = map-range_with_len_more temp c.args.first c.loop-k.k (c.args.first + c.loop-k.k) refl in
     let a = append_assoc c.args.temps.now (map temp (range_with_len c.args.first c.loop-k.k)) (temp (c.args.first + c.loop-k.k) ∷ []) in
-    cc (c.in_ok-push.ensures.ok, c.in_ok-number_past.ensures)
+    cc (c.in_ok-push.ensures.ok, c.in_ok-later.ensures.later)
