@@ -21,7 +21,8 @@ use Rattle.un_listing.specs.declared.form.Form.{Form}
 use Rattle.un_listing.specs.declared.form.Form.TheVariants.{Literal, Copied, Computed, WithLiteral, Loaded, Stored, Reloaded, Spilled}
 use Rattle.un_listing.specs.declared.form.Form.TheVariants.{StackMoved, Called, Jumped, JumpedIf, JumpedIfNot, Returned, Idle}
 use Rattle.un_listing.specs.declared.word.Word.{Word}
-use Rattle.un_listing.specs.Forms.{form_of, mnemonic}
+use Rattle.un_isa.specs.Facts.{printed_name}
+use Rattle.un_listing.specs.Forms.{form_of}
 use Rattle.un_listing.specs.Listing.{joined, reg_text, some_reg_text, operand_text, operands_text, literal_text, result_text, word_text}
 use Rattle.un_listing.specs.Listing.{label_text, text_in, instr_text}
 use Rattle.un_listing.specs.ListingWords.{is_between}
@@ -152,9 +153,9 @@ label_clean : (label : Option (List ℕ)) → IfSome label (λ l. is_name l ≡ 
 label_clean None h = refl
 label_clean (Some label) h = says_clean label _ (name_says label h)
 
-mnemonic_clean : (op : Op) → IsClean (mnemonic op)
-mnemonic_clean Add = refl
-mnemonic_clean _ = refl
+printed_clean : (op : Op) → IsClean (printed_name op)
+printed_clean Add = refl
+printed_clean _ = refl
 
 module _ (i : Instr) (t : IsTame i) where
   literal_clean : IsClean (literal_text i)
@@ -178,15 +179,15 @@ module _ (i : Instr) (t : IsTame i) where
   text_clean : (form : Form) → IsClean (text_in form i)
   text_clean Literal = clean_append (result_text i) (literal_text i) result_clean literal_clean
   text_clean Copied = clean_append (result_text i) (operand_text i 0) result_clean (operand_at 0)
-  text_clean Computed = clean_append (result_text i ++ mnemonic i.op) (operands_text i)
-      (clean_append (result_text i) (mnemonic i.op) result_clean (mnemonic_clean i.op)) (operands_clean i.srcs t.operands)
+  text_clean Computed = clean_append (result_text i ++ printed_name i.op) (operands_text i)
+      (clean_append (result_text i) (printed_name i.op) result_clean (printed_clean i.op)) (operands_clean i.srcs t.operands)
   text_clean WithLiteral =
-      clean_append (result_text i ++ mnemonic i.op ++ codes "(" ++ operand_text i 0 ++ codes "," ++ literal_text i) (codes ")")
-      (clean_append (result_text i ++ mnemonic i.op ++ codes "(" ++ operand_text i 0 ++ codes ",") (literal_text i)
-      (clean_append (result_text i ++ mnemonic i.op ++ codes "(" ++ operand_text i 0) (codes ",")
-      (clean_append (result_text i ++ mnemonic i.op ++ codes "(") (operand_text i 0)
-      (clean_append (result_text i ++ mnemonic i.op) (codes "(")
-      (clean_append (result_text i) (mnemonic i.op) result_clean (mnemonic_clean i.op)) refl)
+      clean_append (result_text i ++ printed_name i.op ++ codes "(" ++ operand_text i 0 ++ codes "," ++ literal_text i) (codes ")")
+      (clean_append (result_text i ++ printed_name i.op ++ codes "(" ++ operand_text i 0 ++ codes ",") (literal_text i)
+      (clean_append (result_text i ++ printed_name i.op ++ codes "(" ++ operand_text i 0) (codes ",")
+      (clean_append (result_text i ++ printed_name i.op ++ codes "(") (operand_text i 0)
+      (clean_append (result_text i ++ printed_name i.op) (codes "(")
+      (clean_append (result_text i) (printed_name i.op) result_clean (printed_clean i.op)) refl)
       (operand_at 0)) refl) literal_clean) refl
   text_clean Loaded = clean_append (result_text i) (word_text (operand_text i 0) i) result_clean
       (word_clean (operand_text i 0) (operand_at 0))

@@ -18,7 +18,8 @@ use Rattle.un_listing.specs.declared.form.Form.{Form}
 use Rattle.un_listing.specs.declared.form.Form.TheVariants.{Computed, WithLiteral}
 use Rattle.un_listing.specs.declared.word.Word.{Word}
 use Rattle.un_listing.specs.declared.word.Word.TheVariants.{Named, Literal}
-use Rattle.un_listing.specs.Forms.{form_of, mnemonic}
+use Rattle.un_isa.specs.Facts.{printed_name}
+use Rattle.un_listing.specs.Forms.{form_of}
 use Rattle.un_listing.specs.Listing.{reg_text, instr_text}
 use Rattle.un_listing.specs.ListingWords.{reg_of, words_of}
 use Rattle.un_listing.specs.Recognized.{computed_ops, literal_ops, literal_of_words, reg_in, op_with, is_stack, op_of, instr_with, instr_of}
@@ -61,41 +62,41 @@ Spaces regs spaces = map (λ (r : Reg). space_of r.0) regs ≡ spaces
 -- an operation that is printed by a mnemonic, which no other of these operations has
 record IsMnemonic (op : Op) (form : Form) (ops : List Op) : Type 0 where
   printed : form_of op ≡ form
-  name : is_name (mnemonic op) ≡ true
-  reg : reg_of (mnemonic op) ≡ None
-  other : bytes_eq (mnemonic op) (codes "memw") ≡ false
-  found : op_with ops (mnemonic op) ≡ Some op
+  name : is_name (printed_name op) ≡ true
+  reg : reg_of (printed_name op) ≡ None
+  other : bytes_eq (printed_name op) (codes "memw") ≡ false
+  found : op_with ops (printed_name op) ≡ Some op
 
 two_back : (op : Op) → IsMnemonic op Computed computed_ops → (d a b : Reg) → d.0 < 36 → a.0 < 36 → b.0 < 36
-    → instr_of (reg_word d ∷ Named (mnemonic op) ∷ reg_word a ∷ reg_word b ∷ [])
+    → instr_of (reg_word d ∷ Named (printed_name op) ∷ reg_word a ∷ reg_word b ∷ [])
     ≡ Some (record { op = op; dst = Some d; srcs = a ∷ b ∷ []; imm = pos 0; label = None })
 two_back op m d a b hd ha hb =
     let rd = (reg_back d hd).reg in
     let ra = (reg_back a ha).reg in
     let rb = (reg_back b hb).reg in
-    let ws : List Word = reg_word d ∷ Named (mnemonic op) ∷ reg_word a ∷ reg_word b ∷ [] in
+    let ws : List Word = reg_word d ∷ Named (printed_name op) ∷ reg_word a ∷ reg_word b ∷ [] in
     let found : op_of ws ≡ Some op = rw (rd, m.reg, m.other) m.found in
     ap (option_map (λ op. instr_with op ws)) found ∙ rw (m.printed, rd, ra, rb) refl
 
 three_back : (op : Op) → IsMnemonic op Computed computed_ops → (d a b e : Reg) → d.0 < 36 → a.0 < 36 → b.0 < 36 → e.0 < 36
-    → instr_of (reg_word d ∷ Named (mnemonic op) ∷ reg_word a ∷ reg_word b ∷ reg_word e ∷ [])
+    → instr_of (reg_word d ∷ Named (printed_name op) ∷ reg_word a ∷ reg_word b ∷ reg_word e ∷ [])
     ≡ Some (record { op = op; dst = Some d; srcs = a ∷ b ∷ e ∷ []; imm = pos 0; label = None })
 three_back op m d a b e hd ha hb he =
     let rd = (reg_back d hd).reg in
     let ra = (reg_back a ha).reg in
     let rb = (reg_back b hb).reg in
     let re = (reg_back e he).reg in
-    let ws : List Word = reg_word d ∷ Named (mnemonic op) ∷ reg_word a ∷ reg_word b ∷ reg_word e ∷ [] in
+    let ws : List Word = reg_word d ∷ Named (printed_name op) ∷ reg_word a ∷ reg_word b ∷ reg_word e ∷ [] in
     let found : op_of ws ≡ Some op = rw (rd, m.reg, m.other) m.found in
     ap (option_map (λ op. instr_with op ws)) found ∙ rw (m.printed, rd, ra, rb, re) refl
 
 with_literal_back : (op : Op) → IsMnemonic op WithLiteral literal_ops → (d a : Reg) (z : ℤ) → d.0 < 36 → a.0 < 36 → is_stack d ≡ false
-    → instr_of (reg_word d ∷ Named (mnemonic op) ∷ reg_word a ∷ Literal z ∷ [])
+    → instr_of (reg_word d ∷ Named (printed_name op) ∷ reg_word a ∷ Literal z ∷ [])
     ≡ Some (record { op = op; dst = Some d; srcs = a ∷ []; imm = z; label = None })
 with_literal_back op m d a z hd ha other =
     let rd = (reg_back d hd).reg in
     let ra = (reg_back a ha).reg in
-    let ws : List Word = reg_word d ∷ Named (mnemonic op) ∷ reg_word a ∷ Literal z ∷ [] in
+    let ws : List Word = reg_word d ∷ Named (printed_name op) ∷ reg_word a ∷ Literal z ∷ [] in
     let found : op_of ws ≡ Some op = rw (rd, m.reg, m.other, other) m.found in
     ap (option_map (λ op. instr_with op ws)) found ∙ rw (m.printed, rd, ra) refl
 
@@ -143,7 +144,7 @@ two_op op s m h (Some d) (a ∷ b ∷ []) imm label w r l n =
     let ha : a.0 < 36 = below a.0 R (λ e. cc e) (cc) in
     let hb : b.0 < 36 = below b.0 R (λ e. cc e) (cc) in
     rw (l, n) (ap (λ f. instr_of (words_of (text_in f (instr op (Some d) (a ∷ b ∷ []) (pos 0) None)))) m.printed
-    ∙ ap instr_of (computed_words d (mnemonic op) (a ∷ b ∷ []) hd m.name (ha, (hb, tt)))
+    ∙ ap instr_of (computed_words d (printed_name op) (a ∷ b ∷ []) hd m.name (ha, (hb, tt)))
     ∙ two_back op m d a b hd ha hb)
 
 with_literal_op : (op : Op) (s : Space) (range : Range) → IsMnemonic op WithLiteral literal_ops → s ≢ M
@@ -158,7 +159,7 @@ with_literal_op op s range m h (Some d) (a ∷ []) imm label w o r l n =
     let ha : a.0 < 36 = below a.0 R (λ e. cc e) (cc) in
     let other : is_stack d ≡ false = ne_eqb d.0 29 (λ e. o (ap (λ (k : ℕ). let reg : Reg = record { 0 = k } in Some reg) e)) in
     rw n (ap (λ f. instr_of (words_of (text_in f (instr op (Some d) (a ∷ []) imm None)))) m.printed
-    ∙ ap instr_of (with_literal_words d a (mnemonic op) imm hd ha m.name (small_literal range imm l))
+    ∙ ap instr_of (with_literal_words d a (printed_name op) imm hd ha m.name (small_literal range imm l))
     ∙ with_literal_back op m d a imm hd ha other)
 
 mux_op : (dst : Option Reg) (srcs : List Reg) (imm : ℤ) (label : Option (List ℕ))

@@ -1,5 +1,4 @@
 -- The forms in which instructions are printed.
-use Rattle.std.specs.Prelude.{ℕ, List, [], codes}
 use Rattle.un_isa.specs.declared.op.Op.{Op}
 use Rattle.un_isa.specs.declared.op.Op.TheVariants.{Imm, Mov, Add, Sub, And, Or, Xor, Addi, Andi, Ori, Mux, CmpEq, CmpGt, CmpGtu, CmpEqi}
 use Rattle.un_isa.specs.declared.op.Op.TheVariants.{CmpGti, Mpyi, Asl, Asr, Lsr, Load, Store, Call, Jump, JumpIf, JumpIfNot, Jumpr, Spill}
@@ -35,25 +34,3 @@ form_of JumpIfNot = JumpedIfNot
 form_of Jumpr = Returned
 form_of Nop = Idle
 form_of _ = Computed
-
--- the word before the operands of an operation that is printed with one
-abbrev pub mnemonic : Op → List ℕ
-mnemonic Add = codes "add"
-mnemonic Addi = codes "add"
-mnemonic Sub = codes "sub"
-mnemonic And = codes "and"
-mnemonic Andi = codes "and"
-mnemonic Or = codes "or"
-mnemonic Ori = codes "or"
-mnemonic Xor = codes "xor"
-mnemonic Mux = codes "mux"
-mnemonic CmpEq = codes "cmp.eq"
-mnemonic CmpEqi = codes "cmp.eq"
-mnemonic CmpGt = codes "cmp.gt"
-mnemonic CmpGti = codes "cmp.gt"
-mnemonic CmpGtu = codes "cmp.gtu"
-mnemonic Mpyi = codes "mpyi"
-mnemonic Asl = codes "asl"
-mnemonic Asr = codes "asr"
-mnemonic Lsr = codes "lsr"
-mnemonic _ = []

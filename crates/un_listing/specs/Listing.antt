@@ -12,7 +12,8 @@ use Rattle.un_packet.specs.declared.code.Code.{Code}
 use Rattle.un_listing.specs.declared.form.Form.{Form}
 use Rattle.un_listing.specs.declared.form.Form.TheVariants.{Literal, Copied, Computed, WithLiteral, Loaded, Stored, Reloaded, Spilled}
 use Rattle.un_listing.specs.declared.form.Form.TheVariants.{StackMoved, Called, Jumped, JumpedIf, JumpedIfNot, Returned, Idle}
-use Rattle.un_listing.specs.Forms.{form_of, mnemonic}
+use Rattle.un_isa.specs.Facts.{printed_name}
+use Rattle.un_listing.specs.Forms.{form_of}
 
 -- the texts of things, with a separator between them
 abbrev pub joined : {X : Type 0} → List ℕ → (X → List ℕ) → List X → List ℕ
@@ -54,8 +55,8 @@ label_text (Some label) = label
 abbrev pub text_in : Form → Instr → List ℕ
 text_in Literal i = result_text i ++ literal_text i
 text_in Copied i = result_text i ++ operand_text i 0
-text_in Computed i = result_text i ++ mnemonic i.op ++ operands_text i
-text_in WithLiteral i = result_text i ++ mnemonic i.op ++ codes "(" ++ operand_text i 0 ++ codes "," ++ literal_text i ++ codes ")"
+text_in Computed i = result_text i ++ printed_name i.op ++ operands_text i
+text_in WithLiteral i = result_text i ++ printed_name i.op ++ codes "(" ++ operand_text i 0 ++ codes "," ++ literal_text i ++ codes ")"
 text_in Loaded i = result_text i ++ word_text (operand_text i 0) i
 text_in Stored i = word_text (operand_text i 0) i ++ codes " = " ++ operand_text i 1
 text_in Reloaded i = result_text i ++ word_text (codes "r29") i

@@ -14,7 +14,8 @@ use Rattle.un_isa.specs.declared.instr.Instr.{Instr}
 use Rattle.un_listing.specs.declared.form.Form.{Form}
 use Rattle.un_listing.specs.declared.form.Form.TheVariants.{Literal as LiteralForm, Reloaded, Spilled, StackMoved, Called, Jumped, JumpedIf}
 use Rattle.un_listing.specs.declared.form.Form.TheVariants.{JumpedIfNot, Idle, Stored, Returned, Copied, Computed, WithLiteral, Loaded}
-use Rattle.un_listing.specs.Forms.{form_of, mnemonic}
+use Rattle.un_isa.specs.Facts.{printed_name}
+use Rattle.un_listing.specs.Forms.{form_of}
 use Rattle.un_listing.specs.declared.word.Word.{Word}
 use Rattle.un_listing.specs.declared.word.Word.TheVariants.{Named, Literal, Negated}
 use Rattle.un_listing.specs.ListingWords.{reg_of}
@@ -82,7 +83,7 @@ abbrev pub literal_ops : List Op
 literal_ops = Addi ∷ Andi ∷ Ori ∷ CmpEqi ∷ CmpGti ∷ Asl ∷ Asr ∷ Lsr ∷ []
 
 abbrev pub op_with : List Op → List ℕ → Option Op
-op_with ops word = find (λ op. bytes_eq word (mnemonic op)) ops
+op_with ops word = find (λ op. bytes_eq word (printed_name op)) ops
 
 -- a copy, by whether the register that is written and the one that is read are general
 abbrev pub copy_between : Bool → Bool → Op

@@ -1,7 +1,7 @@
 //! The forms in which instructions are printed.
 
 ghost use Rattle.std.specs.Prelude.{◌≡◌};
-ghost use Rattle.un_listing.specs.Forms.{form_of, mnemonic};
+ghost use Rattle.un_listing.specs.Forms.{form_of};
 
 use un_isa::op::Op;
 
@@ -63,27 +63,5 @@ pub fn form_of(op: Op) -> Form
         Op::JumpIfNot => Form::JumpedIfNot,
         Op::Jumpr => Form::Returned,
         Op::Nop => Form::Idle,
-    }
-}
-
-/// The word before the operands of an operation that is printed with one, else the empty text.
-pub fn mnemonic(op: Op) -> &'static [u8]
-    ensures { result.now ≡ mnemonic op }
-{
-    match op {
-        Op::Add | Op::Addi => b"add",
-        Op::Sub => b"sub",
-        Op::And | Op::Andi => b"and",
-        Op::Or | Op::Ori => b"or",
-        Op::Xor => b"xor",
-        Op::Mux => b"mux",
-        Op::CmpEq | Op::CmpEqi => b"cmp.eq",
-        Op::CmpGt | Op::CmpGti => b"cmp.gt",
-        Op::CmpGtu => b"cmp.gtu",
-        Op::Mpyi => b"mpyi",
-        Op::Asl => b"asl",
-        Op::Asr => b"asr",
-        Op::Lsr => b"lsr",
-        _ => b"",
     }
 }

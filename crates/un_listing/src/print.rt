@@ -5,13 +5,14 @@ ghost use Rattle.std.specs.List.{flat_map};
 ghost use Rattle.un_base.specs.Lines.{joined_lines};
 ghost use Rattle.un_listing.specs.Listing.{joined, operand_text, label_text, instr_text, text_in, packet_line, block_lines, code_text};
 
-use crate::form::{Form, form_of, mnemonic};
+use crate::form::{Form, form_of};
 use crate::pieces::{
     put_frame_word, put_label, put_literal, put_operand, put_operands, put_result, put_word,
 };
 use std::alloc::Global;
 use un_base::memory_error::NoMemory;
 use un_ir::text::{put_number, put_text};
+use un_isa::facts::printed_name;
 use un_isa::instr::Instr;
 use un_packet::code::{Code, CodeBlock, Packet};
 
@@ -20,7 +21,7 @@ fn put_computed(out: &mut Vec<u8>, instr: &Instr) -> Result<(), NoMemory>
     ensures { OnOk result (out.new.items ≡ out.old.items ++ text_in Form.Computed instr.now) }
 {
     put_result(out, instr)?;
-    put_text(out, mnemonic(instr.op))?;
+    put_text(out, printed_name(instr.op))?;
     put_operands(out, instr)
 }
 
@@ -29,7 +30,7 @@ fn put_with_literal(out: &mut Vec<u8>, instr: &Instr) -> Result<(), NoMemory>
     ensures { OnOk result (out.new.items ≡ out.old.items ++ text_in Form.WithLiteral instr.now) }
 {
     put_result(out, instr)?;
-    put_text(out, mnemonic(instr.op))?;
+    put_text(out, printed_name(instr.op))?;
     put_text(out, b"(")?;
     put_operand(out, instr, 0)?;
     put_text(out, b",")?;

@@ -8,11 +8,12 @@ ghost use Rattle.un_listing.specs.Recognized.{literal_at, is_negated, is_negated
 ghost use Rattle.un_listing.specs.Recognized.{literal_ops, copy_between, is_minus, moved_by, assigned_op, worded_op, op_of, has_result};
 ghost use Rattle.un_listing.specs.Recognized.{first_operand, operand_words, operands_in, label_in, result_in, instr_with, instr_of};
 
-use crate::form::{Form, form_of, mnemonic};
+use crate::form::{Form, form_of};
 use crate::word::{Word, read_reg};
 use std::alloc::Global;
 use un_base::memory_error::NoMemory;
 use un_base::name::Name;
+use un_isa::facts::printed_name;
 use un_isa::instr::Instr;
 use un_isa::op::Op;
 use un_isa::reg::{GENERALS, Reg, STACK};
@@ -129,7 +130,9 @@ fn literal_of(words: &[Word]) -> i32
 fn op_with(ops: &[Op], word: &[u8]) -> Option<Op>
     ensures { result ≡ op_with ops.now word.now }
 {
-    ops.iter().copied().find(|op| is_text(word, mnemonic(*op)))
+    ops.iter()
+        .copied()
+        .find(|op| is_text(word, printed_name(*op)))
 }
 
 /// A copy between registers.

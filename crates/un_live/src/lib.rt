@@ -2,6 +2,6 @@
 #![tactic(auto)]
 
 pub mod live;
-mod marks;
+pub mod marks;
 mod meeting;
 mod tables;

@@ -34,6 +34,23 @@ fn columns(
     Ok(columns)
 }
 
+/// Of each of so many names and each block, whether the name is live at the block's start.
+///
+/// # Errors
+/// `NoMemory` where there is no memory for them.
+pub fn columns_of(
+    alloc: Global,
+    blocks: &[Block],
+    names: usize,
+) -> Result<Items<Items<bool>>, NoMemory>
+    requires { length blocks.now < 2 ^ 32 }
+    ensures { IfOk result (λ columns. AreColumns blocks.now names columns) }
+{
+    let tables = block_tables(alloc, blocks, names)?;
+    let columns = columns(alloc, blocks, &tables, names)?;
+    Ok(columns)
+}
+
 /// Adds the name with this number, where block `b` is marked.
 fn push_marked(
     names: &mut Items<NameId>,
@@ -88,8 +105,7 @@ pub fn live_in(alloc: Global, f: &Function) -> Result<LiveSets, NoMemory>
 {
     let blocks = f.blocks.as_slice();
     let names = f.names.len();
-    let tables = block_tables(alloc, blocks, names)?;
-    let columns = columns(alloc, blocks, &tables, names)?;
+    let columns = columns_of(alloc, blocks, names)?;
     let at_start = all_names(alloc, &columns, blocks.len())?;
     Ok(LiveSets { at_start })
 }

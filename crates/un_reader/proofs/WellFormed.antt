@@ -18,8 +18,8 @@ use Rattle.un_words.specs.Shapes.{line_of}
 use Rattle.un_reader.specs.Lines.{HasNoLineFault}
 use Rattle.un_reader.specs.TextFaults.{falls_off, jumps_outside, jumps_to_entry, mixed_return, placed, no_block, first_there, shape_fault}
 use Rattle.un_reader.specs.Functions.{name_id, blocks_of, params_of}
-use Rattle.un_reader.specs.Entry.{reads}
-use Rattle.un_reader.proofs.EntryLaws.{reads-Contains, Contains-reads}
+use Rattle.un_live.specs.Tables.{reads}
+use Rattle.un_live.proofs.LiveLaws.{reads-Contains, Contains-reads}
 use Rattle.un_reader.proofs.ReadLaws.{kept_all}
 use Rattle.un_words.proofs.Each.{Each-weaken, Each-map, Each-left, Each-right, Each-unflat, Each-at, Each-in, EachPair, EachPair-AllPairs}
 use Rattle.un_words.proofs.Each.{EachPair-unmap}

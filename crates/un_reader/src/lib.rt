@@ -10,7 +10,6 @@ pub mod error;
 pub mod fault;
 pub mod limits;
 pub mod line_fault;
-pub mod meeting;
 pub mod names;
 mod new_names;
 pub mod read;
