@@ -10,6 +10,7 @@ use un_base::memory_error::NoMemory;
 use un_ir::function::Function;
 use un_isa::memory::Memory;
 use un_isa::outcome::{End, Outcome};
+use un_isa::reg::{LINK, REGISTERS, STACK};
 use un_isa::start::{Reply, Start};
 use un_isa::table::hexagon;
 use un_lists::items::Items;
@@ -53,7 +54,7 @@ fn reply(alloc: Global, given: u32) -> Reply
     Reply {
         result: given,
         changed: Items::new(alloc),
-        junk: [0; 36],
+        junk: [0; REGISTERS as usize],
     }
 }
 
@@ -73,12 +74,12 @@ fn replies_of(alloc: Global, memory: &Memory) -> Result<Items<Reply>, NoMemory>
 fn start_of(alloc: Global, row: &Row) -> Result<Start, NoMemory> {
     let memory = memory_of(alloc, row.before.as_slice())?;
     let replies = replies_of(alloc, &memory)?;
-    let mut regs = [0; 36];
+    let mut regs = [0; REGISTERS as usize];
     regs[0] = row.args[0];
     regs[1] = row.args[1];
     regs[2] = row.args[2];
-    regs[29] = 4096;
-    regs[31] = 64;
+    regs[STACK as usize] = 4096;
+    regs[LINK as usize] = 64;
     Ok(Start {
         regs,
         memory,

@@ -8,6 +8,7 @@ ghost use Rattle.un_isa.specs.Starts.{are_predicates, is_reply};
 use std::alloc::Global;
 use std::test::Fail;
 use un_isa::memory::Memory;
+use un_isa::reg::REGISTERS;
 use un_isa::start::{Reply, Start};
 use un_lists::items::Items;
 
@@ -27,7 +28,7 @@ pub struct Given {
 }
 
 /// The registers that hold the parameters; every other is 0.
-fn registers(p: &[u32; 6]) -> [u32; 36]
+fn registers(p: &[u32; 6]) -> [u32; REGISTERS as usize]
     ensures { are_predicates result ≡ true }
 {
     [
@@ -72,7 +73,7 @@ fn reply(alloc: Global, memory: &Memory, answer: &Answer) -> Result<Reply, Fail>
     Ok(Reply {
         result: answer.result,
         changed,
-        junk: [0; 36],
+        junk: [0; REGISTERS as usize],
     })
 }
 

@@ -2,6 +2,7 @@
 use Rattle.std.specs.Prelude.{pos, negsuc, List, [], ◌∷◌, None, codes}
 use Rattle.un_isa.specs.declared.op.Op.TheVariants.{Jumpr, Enter, Leave}
 use Rattle.un_isa.specs.declared.instr.Instr.{Instr}
+use Rattle.un_isa.specs.declared.reg.TheConstants.{LINK}
 use Rattle.un_packet.specs.declared.code.Packet.{Packet}
 use Rattle.un_packet.specs.declared.code.CodeBlock.{CodeBlock}
 
@@ -12,7 +13,7 @@ abbrev pub up : Instr
 up = record { op = Leave; dst = None; srcs = []; imm = pos 256; label = None }
 
 abbrev pub back : Instr
-back = record { op = Jumpr; dst = None; srcs = record { 0 = 31 } ∷ []; imm = pos 0; label = None }
+back = record { op = Jumpr; dst = None; srcs = record { 0 = LINK } ∷ []; imm = pos 0; label = None }
 
 abbrev pub entering : Packet
 entering = record { instrs = down ∷ [] }

@@ -8,7 +8,7 @@ use un_base::memory_error::NoMemory;
 use un_base::name::Name;
 use un_isa::instr::Instr;
 use un_isa::op::Op;
-use un_isa::reg::Reg;
+use un_isa::reg::{LINK, Reg};
 use un_lists::few::Few;
 use un_lists::items::Items;
 use un_packet::code::{Code, CodeBlock, Packet};
@@ -33,7 +33,7 @@ fn leaving(alloc: Global) -> Result<Packet, NoMemory>
     ensures { IfOk result (λ p. p ≡ leaving) }
 {
     let mut srcs = Few::new(alloc);
-    srcs.push(Reg(31))?;
+    srcs.push(Reg(LINK))?;
     let mut instrs = Items::new(alloc);
     instrs.push(Instr {
         op: Op::Leave,

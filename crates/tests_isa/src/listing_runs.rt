@@ -8,6 +8,7 @@ use std::alloc::{AllocError, Global};
 use un_base::memory_error::NoMemory;
 use un_isa::memory::Memory;
 use un_isa::outcome::{CallRecord, End, Outcome};
+use un_isa::reg::{LINK, REGISTERS, STACK};
 use un_isa::start::{Reply, Start};
 use un_isa::table::hexagon;
 use un_listing::read::read_code;
@@ -174,7 +175,7 @@ fn reply_with(alloc: Global, given: u32) -> Reply
     Reply {
         result: given,
         changed: Items::new(alloc),
-        junk: [0; 36],
+        junk: [0; REGISTERS as usize],
     }
 }
 
@@ -194,13 +195,13 @@ fn replies_of(alloc: Global, memory: &Memory, given: Option<u32>) -> Result<Item
 fn start_of(alloc: Global, case: &Case) -> Result<Start, NoMemory> {
     let memory = memory_of(alloc, case.memory)?;
     let replies = replies_of(alloc, &memory, case.reply)?;
-    let mut regs = [0; 36];
+    let mut regs = [0; REGISTERS as usize];
     regs[0] = case.regs[0];
     regs[1] = case.regs[1];
     regs[2] = case.regs[2];
     regs[16] = case.regs[3];
-    regs[29] = 4096;
-    regs[31] = 100;
+    regs[STACK as usize] = 4096;
+    regs[LINK as usize] = 100;
     Ok(Start {
         regs,
         memory,

@@ -8,6 +8,7 @@ use un_isa::facts::{Range, is_in_range};
 use un_isa::memory::Memory;
 use un_isa::op::Op;
 use un_isa::outcome::End;
+use un_isa::reg::{LINK, REGISTERS, STACK};
 use un_isa::reg_set::{RegSet, callee_saved};
 use un_isa::start::Start;
 use un_isa::table::{hexagon, latency};
@@ -53,9 +54,9 @@ fn processor_answers(rt: HostRuntime) -> Result<(), Fail> {
 /// A start without memory, with 4096 in r29 and 100 in r31.
 fn start(alloc: Global) -> Result<Start, Fail> {
     let memory = Memory::new(Vec::new(alloc)).ok_or("no words")?;
-    let mut regs = [0; 36];
-    regs[29] = 4096;
-    regs[31] = 100;
+    let mut regs = [0; REGISTERS as usize];
+    regs[STACK as usize] = 4096;
+    regs[LINK as usize] = 100;
     Ok(Start {
         regs,
         memory,

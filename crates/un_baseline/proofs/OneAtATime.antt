@@ -19,11 +19,12 @@ use Rattle.un_model.specs.declared.schedule.Issue.{Issue}
 use Rattle.un_model.specs.declared.schedule.Read.{Read}
 use Rattle.un_model.specs.declared.schedule.LiveRange.{LiveRange}
 use Rattle.un_model.specs.declared.schedule.Schedule.{Schedule}
-use Rattle.un_model.specs.declared.schedule.Resource.{Resource}
-use Rattle.un_model.specs.declared.schedule.Resource.TheVariants.{Instructions, Memory, Stores, MultiplyOrControl, Control}
+use Rattle.un_isa.specs.declared.packet_counts.Resource.{Resource}
+use Rattle.un_isa.specs.declared.packet_counts.Resource.TheVariants.{Instructions, Memory, Stores, MultiplyOrControl, Control}
 use Rattle.un_model.specs.Instructions.{needs_by, no_needs}
 use Rattle.un_model.specs.Schedules.{cycle_for, last_read}
-use Rattle.un_model.specs.Solutions.{share_of, places_of, issues_at, taken, HasRoom, KeepsPackets, ShareNoCycle, SparesRange, IsSpared}
+use Rattle.un_model.specs.Solutions.{share_of, issues_at, taken, HasRoom, KeepsPackets, ShareNoCycle, SparesRange, IsSpared}
+use Rattle.un_isa.specs.PacketCounts.{places_of}
 use Rattle.un_model.specs.Solutions.{KeepsRegisters, after_write, after_load, memory_distance, Precedes, KeepsMemory}
 
 -- ---- packets

@@ -2,6 +2,7 @@
 
 use un_base::ids::NameId;
 use un_ir::function::Term;
+use un_isa::reg::GENERALS;
 
 /// The number of a copy's instruction that writes a frame slot.
 pub const SPILL: u32 = 2;
@@ -16,7 +17,7 @@ pub const FROM_PREDICATE: u32 = 4;
 pub const TO_PREDICATE: u32 = 5;
 
 /// The predicate that holds each truth value: p0.
-pub const PREDICATE: u32 = 32;
+pub const PREDICATE: u32 = GENERALS;
 
 /// What the copies of operands before an operation are for: the operands of an operation or of a branch, the address to which
 /// a return goes, the result at a block's end, or nothing.

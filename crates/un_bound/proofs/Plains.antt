@@ -21,14 +21,15 @@ use Rattle.un_model.specs.declared.model.Model.{Model}
 use Rattle.un_model.specs.declared.model.OpVars.{OpVars}
 use Rattle.un_model.specs.declared.model.Solution.{Solution}
 use Rattle.un_model.specs.declared.schedule.Issue.{Issue}
-use Rattle.un_model.specs.declared.schedule.Resource.{Resource}
-use Rattle.un_model.specs.declared.schedule.Resource.TheVariants.{Instructions, Memory, Stores, MultiplyOrControl, Control}
+use Rattle.un_isa.specs.declared.packet_counts.Resource.{Resource}
+use Rattle.un_isa.specs.declared.packet_counts.Resource.TheVariants.{Instructions, Memory, Stores, MultiplyOrControl, Control}
 use Rattle.un_model.specs.Cost.{value_of, blocks_cost, cost_of}
 use Rattle.un_model.specs.Instructions.{instruction_of}
 use Rattle.un_model.specs.Options.{AreOptions}
 use Rattle.un_model.specs.Pairs.{pairs_from, over_blocks}
 use Rattle.un_model.specs.Schedules.{value_by, issue_of, block_issues, issues_of}
-use Rattle.un_model.specs.Solutions.{IsPlacedAs, IsPlaced, IsSolution, HasRoom, issues_at, share_of, places_of, taken}
+use Rattle.un_model.specs.Solutions.{IsPlacedAs, IsPlaced, IsSolution, HasRoom, issues_at, share_of, taken}
+use Rattle.un_isa.specs.PacketCounts.{places_of}
 use Rattle.un_model.specs.Variables.{IsModel, block_count, blocks_vars}
 use Rattle.un_model.proofs.Lists.{Each, each_all, each_append}
 use Rattle.un_bound.specs.Plain.{needed, packets_for, IsPlainSum, IsPlainBound}

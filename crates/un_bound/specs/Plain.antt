@@ -6,10 +6,11 @@ use Rattle.un_ir.specs.declared.extended.ExtBlock.{ExtBlock}
 use Rattle.un_model.specs.declared.model.Arc.{Arc}
 use Rattle.un_bound.specs.Timings.{IsLeastLength}
 use Rattle.un_model.specs.declared.model.Model.{Model}
-use Rattle.un_model.specs.declared.schedule.Resource.{Resource}
-use Rattle.un_model.specs.declared.schedule.Resource.TheVariants.{Instructions, Memory, Stores, MultiplyOrControl}
+use Rattle.un_isa.specs.declared.packet_counts.Resource.{Resource}
+use Rattle.un_isa.specs.declared.packet_counts.Resource.TheVariants.{Instructions, Memory, Stores, MultiplyOrControl}
 use Rattle.un_model.specs.Instructions.{instruction_of}
-use Rattle.un_model.specs.Solutions.{share_of, places_of}
+use Rattle.un_model.specs.Solutions.{share_of}
+use Rattle.un_isa.specs.PacketCounts.{places_of}
 
 -- how much of a resource the operations that every solution issues take
 abbrev pub needed : Table → Resource → List ExtOp → ℕ

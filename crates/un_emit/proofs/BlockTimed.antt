@@ -29,15 +29,16 @@ use Rattle.un_ir.specs.Extended.{result_count, IsSourceOp, IsGoodKind, is_enter,
 use Rattle.un_model.specs.declared.model.Options.{Options}
 use Rattle.un_model.specs.declared.schedule.LiveRange.{LiveRange}
 use Rattle.un_model.specs.declared.schedule.Issue.{Issue}
-use Rattle.un_model.specs.declared.schedule.Resource.{Resource}
-use Rattle.un_model.specs.declared.schedule.Resource.TheVariants.{Stores, Control}
+use Rattle.un_isa.specs.declared.packet_counts.Resource.{Resource}
+use Rattle.un_isa.specs.declared.packet_counts.Resource.TheVariants.{Stores, Control}
 use Rattle.un_model.specs.Cost.{value_of}
 use Rattle.un_model.specs.Instructions.{latency_by, needs_by, no_needs, instruction_of, transfer_of, copy_of, frame_instr}
 use Rattle.un_model.specs.Instructions.{is_transfer as ends_block}
 use Rattle.un_model.specs.Emission.{instr_if, instr_by, frame_of, operand_registers, result_register}
 use Rattle.un_model.specs.Schedules.{instr_of, issues_of, value_by, cycle_by, is_delimiter, is_frame_op}
 use Rattle.un_model.specs.Solutions.{IsPlaced, IsPlacedAs, Precedes, memory_distance, ShareNoCycle, SparesRange, IsSpared, HasRoom}
-use Rattle.un_model.specs.Solutions.{share_of, taken, issues_at, places_of, HasFrame, frame_distance, IsLast}
+use Rattle.un_model.specs.Solutions.{share_of, taken, issues_at, HasFrame, frame_distance, IsLast}
+use Rattle.un_isa.specs.PacketCounts.{places_of}
 use Rattle.un_model.specs.Variables.{model_of, var_at, var_count, ops_count}
 use Rattle.un_model.proofs.Lists.{Each, Pairwise, Member, each_member, each_of, each_all, pairwise_of_map, pairwise_more, member_at}
 use Rattle.un_model.proofs.Lists.{member_map, length_get}

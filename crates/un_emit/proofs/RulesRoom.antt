@@ -25,11 +25,12 @@ use Rattle.un_ir.specs.declared.extended.Ext.{Ext}
 use Rattle.un_ir.specs.Extended.{IsGoodKind}
 use Rattle.un_model.specs.declared.model.Options.{Options}
 use Rattle.un_model.specs.declared.schedule.Issue.{Issue}
-use Rattle.un_model.specs.declared.schedule.Resource.{Resource}
-use Rattle.un_model.specs.declared.schedule.Resource.TheVariants.{Instructions, Memory, Stores, MultiplyOrControl, Control}
+use Rattle.un_isa.specs.declared.packet_counts.Resource.{Resource}
+use Rattle.un_isa.specs.declared.packet_counts.Resource.TheVariants.{Instructions, Memory, Stores, MultiplyOrControl, Control}
 use Rattle.un_model.specs.Instructions.{needs_by, no_needs, instruction_of, transfer_of, frame_instr}
 use Rattle.un_model.specs.Schedules.{issues_of, value_by}
-use Rattle.un_model.specs.Solutions.{HasRoom, share_of, taken, issues_at as issues_in, places_of}
+use Rattle.un_model.specs.Solutions.{HasRoom, share_of, taken, issues_at as issues_in}
+use Rattle.un_isa.specs.PacketCounts.{places_of}
 use Rattle.un_model.specs.Variables.{model_of}
 use Rattle.un_packet.specs.CodeRules.{needs_of, is_nop}
 use Rattle.un_emit.proofs.BlockJobs.{InRegion, job_is, each_job}

@@ -1,7 +1,8 @@
 -- Which tables the compiler works for: HEXAGON, and those that differ from it in these ways alone.
-use Rattle.std.specs.Prelude.{ℕ, ◌≡◌, ◌<◌, ◌≤◌, ◌^◌, Bool, true, ◌&&◌, not, is_none, nat_le, slice_get, IsSomeAnd}
+use Rattle.std.specs.Prelude.{ℕ, ◌≡◌, ◌<◌, ◌≤◌, ◌^◌, Bool, true, ◌&&◌, not, is_none, nat_le, nat_lt, slice_get, IsSomeAnd}
 use Rattle.std.specs.Bool.{OnTrue}
 use Rattle.un_isa.specs.declared.op.Op.{Op}
+use Rattle.un_isa.specs.declared.reg.TheConstants.{STACK, REGISTERS}
 use Rattle.un_isa.specs.declared.table.Needs.{Needs}
 use Rattle.un_isa.specs.declared.table.Table.{Table}
 use Rattle.un_isa.specs.Tables.{number_of, latency_of, in_mask}
@@ -30,7 +31,7 @@ pub record AreFitNeeds (least needs : Needs) : Type 0 where
 
 -- the registers that a function may keep: r6 to r28
 abbrev pub may_be_saved : ℕ → Bool
-may_be_saved r = nat_le 6 r && nat_le r 28
+may_be_saved r = nat_le 6 r && nat_lt r STACK
 
 -- The arguments and the result are those of HEXAGON. r16 to r27 are saved, and of the others only r6 to r15 and r28 may
 -- be. A call clobbers what it clobbers on HEXAGON, but for what is saved.
@@ -39,7 +40,7 @@ pub record IsFit (t : Table) : Type 0 where
   pub needs : (op : Op) → IsSomeAnd (slice_get t.uses (number_of op)) (AreFitNeeds (needs_by (class_of op)))
   pub args : t.args ≡ HEXAGON.args
   pub result : t.result ≡ HEXAGON.result
-  pub kept : (r : ℕ) → r < 36 → is_saved r ≡ true → in_mask t.saved r ≡ true
-  pub saved : (r : ℕ) → r < 36 → in_mask t.saved r ≡ true → may_be_saved r ≡ true
-  pub clobbered : (r : ℕ) → r < 36 → in_mask t.clobbered r ≡ (is_clobbered r && not (in_mask t.saved r))
-  pub no_others : (t.clobbered < 2 ^ 36) × (t.saved < 2 ^ 36)
+  pub kept : (r : ℕ) → r < REGISTERS → is_saved r ≡ true → in_mask t.saved r ≡ true
+  pub saved : (r : ℕ) → r < REGISTERS → in_mask t.saved r ≡ true → may_be_saved r ≡ true
+  pub clobbered : (r : ℕ) → r < REGISTERS → in_mask t.clobbered r ≡ (is_clobbered r && not (in_mask t.saved r))
+  pub no_others : (t.clobbered < 2 ^ REGISTERS) × (t.saved < 2 ^ REGISTERS)

@@ -3,6 +3,7 @@ use Rattle.std.specs.Prelude.{ℕ, ◌≡◌, ◌<◌, ◌^◌, Bool, ◌&&◌, 
 use Rattle.un_isa.specs.declared.op.Op.{Op}
 use Rattle.un_isa.specs.declared.facts.Class.{Class}
 use Rattle.un_isa.specs.declared.facts.Class.TheVariants.{Alu32, Xtype, Loading, Storing, Control, Nothing}
+use Rattle.un_isa.specs.declared.reg.TheConstants.{REGISTERS}
 use Rattle.un_isa.specs.declared.table.Needs.{Needs}
 use Rattle.un_isa.specs.declared.table.Table.{Table}
 use Rattle.un_isa.specs.Facts.{class_of, latency_by, all_ops}
@@ -54,8 +55,8 @@ is_saved r = nat_le 16 r && nat_le r 27
 pub record IsHexagon (t : Table) : Type 0 where
   pub latencies : (op : Op) → latency_of t op ≡ latency_by op
   pub needs : (op : Op) → slice_get t.uses (number_of op) ≡ Some (needs_by (class_of op))
-  pub clobbered : (r : ℕ) → r < 36 → in_mask t.clobbered r ≡ is_clobbered r
-  pub saved : (r : ℕ) → r < 36 → in_mask t.saved r ≡ is_saved r
-  pub no_others : (t.clobbered < 2 ^ 36) × (t.saved < 2 ^ 36)
+  pub clobbered : (r : ℕ) → r < REGISTERS → in_mask t.clobbered r ≡ is_clobbered r
+  pub saved : (r : ℕ) → r < REGISTERS → in_mask t.saved r ≡ is_saved r
+  pub no_others : (t.clobbered < 2 ^ REGISTERS) × (t.saved < 2 ^ REGISTERS)
   pub args : t.args ≡ 0 ∷ 1 ∷ 2 ∷ 3 ∷ 4 ∷ 5 ∷ []
   pub result : t.result ≡ 0

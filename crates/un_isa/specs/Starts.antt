@@ -2,15 +2,16 @@
 use Rattle.std.specs.Prelude.{ℕ, ◌+◌, Bool, true, ◌&&◌, ◌||◌, nat_eq, nat_lt, nat_le, List, [], ◌∷◌, is_some, drop}
 use Rattle.std.specs.List.{list_all}
 use Rattle.un_isa.specs.Memories.{is_memory, word_at}
+use Rattle.un_isa.specs.declared.reg.TheConstants.{LINK, GENERALS}
 use Rattle.un_isa.specs.declared.start.Reply.{Reply}
 
 -- r0 to r15, r28, r31 and p0 to p3: what a call writes
 abbrev pub is_clobbered : ℕ → Bool
-is_clobbered r = nat_lt r 16 || nat_eq r 28 || nat_eq r 31 || nat_le 32 r
+is_clobbered r = nat_lt r 16 || nat_eq r 28 || nat_eq r LINK || nat_le GENERALS r
 
 -- each predicate is 0 or 1
 abbrev pub are_predicates : List ℕ → Bool
-are_predicates regs = list_all (λ v. nat_lt v 2) (drop 32 regs)
+are_predicates regs = list_all (λ v. nat_lt v 2) (drop GENERALS regs)
 
 -- register by register from r: nothing but in clobbered registers other than r0
 abbrev pub is_junk_from : ℕ → List ℕ → Bool

@@ -16,10 +16,10 @@ pub const GENERALS: u32 = 32;
 pub const PREDICATES: u32 = 4;
 
 /// How many registers there are, general ones and predicates.
-pub const REGISTERS: u32 = 36;
+pub const REGISTERS: u32 = GENERALS + PREDICATES;
 
 /// The number of the first frame slot.
-pub const FIRST_SLOT: u32 = 36;
+pub const FIRST_SLOT: u32 = REGISTERS;
 
 /// How many slots a frame may have.
 pub const SLOTS: u32 = 64;

@@ -3,12 +3,20 @@
 ghost use Rattle.std.specs.Prelude.{◌≡◌, ℕ, ◌<◌, ◌≤◌, ◌||◌, nat_eq, false, length, IfOk};
 ghost use Rattle.un_isa.specs.RegSets.{has, members};
 ghost use Rattle.un_isa.specs.Registers.{callee_saved};
+ghost use Rattle.un_isa.specs.Tables.{in_mask};
 
 use crate::reg::{GENERALS, REGISTERS};
 use crate::table::Table;
 use std::alloc::Global;
 use std::marker::Model;
 use un_base::memory_error::NoMemory;
+
+/// Whether a register is in a mask, in which bit r stands for register r.
+pub fn is_in_mask(mask: u64, r: u32) -> bool
+    ensures { result ≡ in_mask mask r }
+{
+    r < 64 && (mask >> r) & 1 == 1
+}
 
 /// A set of registers below 64, of which contracts see who is in it.
 #[derive(Clone, Copy, PartialEq, Eq)]
@@ -43,10 +51,9 @@ impl RegSet {
 
     /// Whether a register is in the set.
     pub fn contains(&self, r: u32) -> bool
-        requires { r < 64 }
         ensures { result ≡ has self.now r }
     {
-        (self.mask >> r) & 1 == 1
+        is_in_mask(self.mask, r)
     }
 
     /// Puts a register into the set.

@@ -4,6 +4,7 @@ ghost use Rattle.std.specs.Prelude.{◌≡◌, true};
 ghost use Rattle.un_isa.specs.Starts.{is_start};
 
 use crate::memory::Memory;
+use crate::reg::REGISTERS;
 use std::alloc::AllocError;
 use un_lists::items::Items;
 
@@ -13,7 +14,7 @@ use un_lists::items::Items;
 pub struct Reply {
     pub result: u32,
     pub changed: Items<(u32, u32)>,
-    pub junk: [u32; 36],
+    pub junk: [u32; REGISTERS as usize],
 }
 
 impl Clone for Reply {
@@ -35,7 +36,7 @@ impl Clone for Reply {
 /// only addresses of the memory, and leaves junk only in clobbered registers other than r0.
 #[derive(Debug, Drop)]
 pub struct Start {
-    pub regs: [u32; 36],
+    pub regs: [u32; REGISTERS as usize],
     pub memory: Memory,
     pub replies: Items<Reply>,
     ghost well: { is_start regs memory replies ≡ true },

@@ -5,6 +5,7 @@ use Rattle.std.specs.List.{flat_map}
 use Rattle.std.specs.Fmt.{decimal, signed_decimal}
 use Rattle.un_base.specs.Lines.{joined_lines}
 use Rattle.un_isa.specs.declared.reg.Reg.{Reg}
+use Rattle.un_isa.specs.declared.reg.TheConstants.{GENERALS}
 use Rattle.un_isa.specs.declared.instr.Instr.{Instr}
 use Rattle.un_packet.specs.declared.code.Packet.{Packet}
 use Rattle.un_packet.specs.declared.code.CodeBlock.{CodeBlock}
@@ -22,7 +23,7 @@ joined separator text (x ∷ xs) = text x ++ flat_map (λ y. separator ++ text y
 
 -- `r0` to `r31`, then `p0` and so on
 abbrev pub reg_text : Reg → List ℕ
-reg_text r = if nat_lt r.0 32 then codes "r" ++ decimal r.0 else codes "p" ++ decimal (r.0 - 32)
+reg_text r = if nat_lt r.0 GENERALS then codes "r" ++ decimal r.0 else codes "p" ++ decimal (r.0 - GENERALS)
 
 -- a register that is not there has the empty text
 abbrev pub some_reg_text : Option Reg → List ℕ

@@ -50,7 +50,7 @@ fn need(resource: Resource, instr: &Instr) -> u32
 
 /// How many places of a resource the instructions take.
 fn total(resource: Resource, instrs: &[Instr]) -> u32
-    requires { length instrs.now ≤ 4 }
+    requires { length instrs.now ≤ PACKET }
     ensures { result ≡ sum_by (λ i. need_of resource (needs_of i)) instrs.now }
 {
     let mut total = 0;

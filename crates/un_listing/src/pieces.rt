@@ -9,7 +9,7 @@ use un_base::memory_error::NoMemory;
 use un_base::name::Name;
 use un_ir::text::{put_number, put_signed_number, put_text};
 use un_isa::instr::Instr;
-use un_isa::reg::Reg;
+use un_isa::reg::{GENERALS, Reg};
 
 /// Appends `#` and the number of an instruction.
 pub fn put_literal(out: &mut Vec<u8>, instr: &Instr) -> Result<(), NoMemory>
@@ -23,12 +23,12 @@ pub fn put_literal(out: &mut Vec<u8>, instr: &Instr) -> Result<(), NoMemory>
 pub fn put_reg(out: &mut Vec<u8>, reg: Reg) -> Result<(), NoMemory>
     ensures { OnOk result (out.new.items ≡ out.old.items ++ reg_text reg) }
 {
-    if reg.0 < 32 {
+    if reg.0 < GENERALS {
         put_text(out, b"r")?;
         put_number(out, u64::from(reg.0))
     } else {
         put_text(out, b"p")?;
-        put_number(out, u64::from(reg.0 - 32))
+        put_number(out, u64::from(reg.0 - GENERALS))
     }
 }
 

@@ -17,11 +17,23 @@ use un_base::name::Name;
 use un_isa::facts::{is_in_range, literal_range, operand_spaces, result_space};
 use un_isa::instr::Instr;
 use un_isa::op::Op;
-use un_isa::reg::{Reg, STACK, Space, space_of};
+use un_isa::reg::{GENERALS, LINK, Reg, STACK, Space, space_of};
 use un_packet::code::{ARGUMENTS, Packet};
 
 /// The registers that a call counts as writing: r0 to r5, the link register and the predicates.
-const CALL_WRITES: [u32; 11] = [0, 1, 2, 3, 4, 5, 31, 32, 33, 34, 35];
+const CALL_WRITES: [u32; 11] = [
+    0,
+    1,
+    2,
+    3,
+    4,
+    5,
+    LINK,
+    GENERALS,
+    GENERALS + 1,
+    GENERALS + 2,
+    GENERALS + 3,
+];
 
 /// Whether the registers are r0, r1 and so on.
 fn count_up(regs: &[Reg]) -> bool

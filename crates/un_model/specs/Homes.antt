@@ -1,5 +1,5 @@
--- Words of private contracts: the homes of values, and which are truth values, as masks. Bit r below 32 is the home r, bit 32
--- says that the value is a truth value.
+-- Words of private contracts: the homes of values, and which are truth values, as masks. The bit of a general register says that
+-- it is a home, and the bit after those that the value is a truth value.
 use Rattle.std.specs.Prelude.{ℕ, ◌≡◌, ◌≤◌, ◌<◌, Bool, false, ◌==◌, ◌||◌, ◌&&◌, if◌then◌else◌, List, Option, unwrap_or}
 use Rattle.std.specs.BTreeMap.{BTreeMap, get}
 use Rattle.std.specs.List.{list_any}
@@ -9,6 +9,7 @@ use Rattle.un_base.specs.declared.ids.TempId.{TempId}
 use Rattle.un_isa.specs.Registers.{saved_registers}
 use Rattle.un_isa.specs.Tables.{in_mask}
 use Rattle.un_isa.specs.declared.reg.Reg.{Reg}
+use Rattle.un_isa.specs.declared.reg.TheConstants.{GENERALS}
 use Rattle.un_ir.specs.declared.extended.ExtBlock.{ExtBlock}
 use Rattle.un_ir.specs.declared.extended.Ext.{Ext}
 use Rattle.un_ir.specs.declared.extended.ExtOp.{ExtOp}
@@ -22,11 +23,11 @@ mask_of masks x = unwrap_or (get nat_cmp masks x.0) 0
 
 -- the new masks have the bits that are new, and those of the old masks
 abbrev pub AddsMarks : (TempId → ℕ → Bool) → BTreeMap ℕ ℕ → BTreeMap ℕ ℕ → Type 0
-AddsMarks is_new old new = (x : TempId) (r : ℕ) → r ≤ 32 → in_mask (mask_of new x) r ≡ (in_mask (mask_of old x) r || is_new x r)
+AddsMarks is_new old new = (x : TempId) (r : ℕ) → r ≤ GENERALS → in_mask (mask_of new x) r ≡ (in_mask (mask_of old x) r || is_new x r)
 
 -- bit r of a value with this home, which is a truth value or not
 abbrev pub is_mark : Bool → Option Reg → ℕ → Bool
-is_mark truth home r = if r == 32 then truth else is_register home r
+is_mark truth home r = if r == GENERALS then truth else is_register home r
 
 abbrev pub is_operand_mark : Operand → TempId → ℕ → Bool
 is_operand_mark operand x r = reads_value operand x && is_mark false operand.home r
@@ -49,8 +50,8 @@ is_block_mark e is_entry block x r = list_any (is_op_mark e is_entry block.live_
 
 -- the masks have the homes of each value of the block, and say which are truth values
 pub record TellsHomes (e : Ext) (is_entry : Bool) (block : ExtBlock) (masks : BTreeMap ℕ ℕ) : Type 0 where
-  pub homes : (x : TempId) (r : ℕ) → r < 32 → in_mask (mask_of masks x) r ≡ is_home e.table is_entry block x r
-  pub truths : (x : TempId) → in_mask (mask_of masks x) 32 ≡ is_truth e.names block x
+  pub homes : (x : TempId) (r : ℕ) → r < GENERALS → in_mask (mask_of masks x) r ≡ is_home e.table is_entry block x r
+  pub truths : (x : TempId) → in_mask (mask_of masks x) GENERALS ≡ is_truth e.names block x
 
 -- the registers that a function hands back, and the homes of the values of a block
 pub record IsScope (e : Ext) (is_entry : Bool) (block : ExtBlock) (saved : List ℕ) (masks : BTreeMap ℕ ℕ) : Type 0 where

@@ -59,11 +59,6 @@ abbrev pub needs_by : Table → Option Op → Needs
 needs_by t None = no_needs
 needs_by t (Some op) = unwrap_or (slice_get t.uses (number_of op)) no_needs
 
--- how many instructions these are
-abbrev pub width_by : Option Op → ℕ
-width_by None = 0
-width_by (Some op) = 1
-
 abbrev pub is_control : Class → Bool
 is_control Control = true
 is_control _ = false

@@ -6,7 +6,7 @@ use Rattle.std.specs.Option.{option_map}
 use Rattle.un_base.specs.declared.ids.NameId.{NameId}
 use Rattle.un_base.specs.declared.ids.TempId.{TempId}
 use Rattle.un_isa.specs.Registers.{saved_registers}
-use Rattle.un_isa.specs.declared.reg.TheConstants.{GENERALS, FIRST_SLOT}
+use Rattle.un_isa.specs.declared.reg.TheConstants.{STACK, LINK, GENERALS, PREDICATES, FIRST_SLOT}
 use Rattle.un_isa.specs.declared.op.Op.{Op}
 use Rattle.un_isa.specs.declared.op.Op.TheVariants.{Call}
 use Rattle.un_isa.specs.declared.reg.Reg.{Reg}
@@ -26,12 +26,12 @@ use Rattle.un_model.specs.Pairs.{any_from}
 
 -- r0 to r(n - 1), or all of r0 to r28 and r31
 abbrev pub is_assignable : Option ℕ → ℕ → Bool
-is_assignable None r = nat_lt r 29 || r == 31
+is_assignable None r = nat_lt r STACK || r == LINK
 is_assignable (Some n) r = nat_lt r n
 
 -- p0 to p3
 abbrev pub predicate_registers : List ℕ
-predicate_registers = 32 ∷ 33 ∷ 34 ∷ 35 ∷ []
+predicate_registers = range_with_len GENERALS PREDICATES
 
 -- the slots of a frame that has so many
 abbrev pub slots_of : ℕ → List ℕ

@@ -14,17 +14,16 @@ use Rattle.un_domains.specs.declared.domain.Domain.{Domain}
 use Rattle.un_domains.specs.declared.domain.Domain.TheVariants.{Range, Set}
 use Rattle.un_model.specs.declared.model.Model.{Model}
 use Rattle.un_model.specs.declared.model.Solution.{Solution}
-use Rattle.un_model.specs.declared.schedule.Resource.{Resource}
-use Rattle.un_model.specs.declared.schedule.Resource.TheVariants.{Instructions, Memory, Stores, MultiplyOrControl, Control}
+use Rattle.un_isa.specs.declared.packet_counts.Resource.{Resource}
+use Rattle.un_isa.specs.PacketCounts.{places_of, share_of as share_by}
 use Rattle.un_model.specs.declared.schedule.Issue.{Issue}
 use Rattle.un_model.specs.declared.schedule.Read.{Read}
 use Rattle.un_model.specs.declared.schedule.LiveRange.{LiveRange}
 use Rattle.un_model.specs.declared.schedule.Schedule.{Schedule}
 use Rattle.un_model.specs.declared.verdict.Verdict.{Verdict}
-use Rattle.un_isa.specs.declared.packet_counts.TheConstants.{PACKET, MEM_PLACES, STORE_PLACES, XC_PLACES, CONTROL_PLACES}
 use Rattle.un_model.specs.Congruences.{KeepsCongruences}
 use Rattle.un_model.specs.Cost.{value_of}
-use Rattle.un_model.specs.Instructions.{latency_by, needs_by, width_by, is_transfer, space_read, space_given}
+use Rattle.un_model.specs.Instructions.{latency_by, needs_by, is_transfer, space_read, space_given}
 use Rattle.un_model.specs.Schedules.{schedule_of}
 
 -- the least number of cycles from the instruction of one operation to that of another, none where they may be in any order
@@ -164,21 +163,10 @@ KeepsRegisters clobbered t = AllPairs ShareNoCycle t.ranges × All (IsSpared clo
 abbrev pub issues_at : ℕ → ℕ → Issue → Bool
 issues_at b c i = i.block.0 == b && i.cycle == c
 
--- how much of a resource an instruction takes
+-- how much of a resource an instruction takes, if there is one
 abbrev pub share_of : Table → Resource → Option Op → ℕ
-share_of t Instructions instr = width_by instr
-share_of t Memory instr = (needs_by t instr).mem
-share_of t Stores instr = (needs_by t instr).store
-share_of t MultiplyOrControl instr = (needs_by t instr).xc
-share_of t Control instr = (needs_by t instr).control
-
--- how much of it a packet has
-abbrev pub places_of : Resource → ℕ
-places_of Instructions = PACKET
-places_of Memory = MEM_PLACES
-places_of Stores = STORE_PLACES
-places_of MultiplyOrControl = XC_PLACES
-places_of Control = CONTROL_PLACES
+share_of t resource None = 0
+share_of t resource (Some op) = share_by resource (needs_by t (Some op))
 
 -- how much of it the operations of block b in cycle c take together
 abbrev pub taken : Table → Resource → List Issue → ℕ → ℕ → ℕ

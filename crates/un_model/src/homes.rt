@@ -17,8 +17,8 @@ use un_ir::extended::{Ext, ExtBlock, ExtOp, Operand};
 use un_isa::reg::{GENERALS, Reg};
 use un_lists::items::Items;
 
-/// A mask for each value, by its number: bit `r` below 32 is set where register `r` is a home of it, bit 32 where it is a
-/// truth value.
+/// A mask for each value, by its number: the bit of a general register is set where that register is a home of it, the bit after
+/// those where it is a truth value.
 pub(crate) type Homes = BTreeMap<u32, u64>;
 
 /// The mask of a value, 0 where it has no home and is no truth value.
@@ -30,7 +30,7 @@ pub(crate) fn mask(homes: &Homes, x: TempId) -> u64
 
 /// Bit `r` of a value.
 fn add_mark(homes: &mut Homes, x: TempId, r: u32) -> Result<(), NoMemory>
-    requires { r ≤ 32 }
+    requires { r ≤ GENERALS }
     ensures { OnOk result (AddsMarks (λ y i. x.0 == y.0 && r == i) homes.old homes.new) }
 {
     let old = mask(homes, x);
@@ -42,7 +42,7 @@ fn add_mark(homes: &mut Homes, x: TempId, r: u32) -> Result<(), NoMemory>
 
 /// Bit `r` of each of these values.
 fn add_alternatives(homes: &mut Homes, alts: &Items<TempId>, r: u32) -> Result<(), NoMemory>
-    requires { r ≤ 32 }
+    requires { r ≤ GENERALS }
     ensures { OnOk result
         (AddsMarks (λ y i. list_any (λ t. t.0 == y.0 && r == i) alts.now) homes.old homes.new) }
 {
@@ -76,7 +76,7 @@ fn add_operands(homes: &mut Homes, op: &ExtOp) -> Result<(), NoMemory>
 
 /// That a value is a truth value, where it is.
 fn add_truth(homes: &mut Homes, x: TempId, truth: bool) -> Result<(), NoMemory>
-    ensures { OnOk result (AddsMarks (λ y i. x.0 == y.0 && (truth && 32 == i)) homes.old homes.new) }
+    ensures { OnOk result (AddsMarks (λ y i. x.0 == y.0 && (truth && GENERALS == i)) homes.old homes.new) }
 {
     if truth {
         add_mark(homes, x, GENERALS)?;

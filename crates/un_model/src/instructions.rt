@@ -1,7 +1,7 @@
 //! What the operations of an extended function are as instructions.
 
 ghost use Rattle.std.specs.Prelude.{◌≡◌};
-ghost use Rattle.un_model.specs.Instructions.{transfer_of, copy_of, frame_instr, instruction_of, latency_by, width_by, needs_by, no_needs};
+ghost use Rattle.un_model.specs.Instructions.{transfer_of, copy_of, frame_instr, instruction_of, latency_by, needs_by, no_needs};
 ghost use Rattle.un_model.specs.Instructions.{is_control, is_transfer, operand_space_in, result_space_in, space_read, space_given};
 ghost use Rattle.un_model.specs.Instructions.{is_predicate_space, gives_truth};
 
@@ -68,16 +68,6 @@ pub fn latency(t: &Table, op: Option<Op>) -> u32
     match op {
         None => 1,
         Some(instruction) => table::latency(t, instruction),
-    }
-}
-
-/// How many instructions an operation is.
-pub fn width(op: Option<Op>) -> u32
-    ensures { result ≡ width_by op }
-{
-    match op {
-        None => 0,
-        Some(_) => 1,
     }
 }
 

@@ -5,10 +5,11 @@ ghost use Rattle.std.specs.Prelude.{◌≡◌, ◌<◌, length, slice_get, Some}
 use un_base::ids::{BlockId, OpId, TempId, VarId};
 use un_domains::domain::Domain;
 use un_ir::extended::Ext;
+use un_isa::reg::STACK;
 use un_lists::items::Items;
 
 /// The largest number of registers that an option may name: r0 to r28 may be assigned.
-pub const ASSIGNABLE: u32 = 29;
+pub const ASSIGNABLE: u32 = STACK;
 
 /// Which registers may be assigned, r0 to r(n − 1) or all of r0 to r28 and r31, and how many frame slots there are.
 #[derive(Clone, Copy, PartialEq, Eq)]

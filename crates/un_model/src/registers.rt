@@ -23,8 +23,8 @@ use un_domains::domain::Domain;
 use un_ir::extended::{Ext, ExtBlock, ExtKind, ExtOp, Operand};
 use un_ir::function::Kind;
 use un_isa::op::Op;
-use un_isa::reg::{FIRST_SLOT, GENERALS, LINK, PREDICATES, Reg, SLOTS};
-use un_isa::reg_set::callee_saved;
+use un_isa::reg::{FIRST_SLOT, GENERALS, LINK, PREDICATES, Reg, SLOTS, STACK};
+use un_isa::reg_set::{callee_saved, is_in_mask};
 use un_isa::table::Table;
 use un_lists::items::Items;
 
@@ -33,17 +33,9 @@ fn is_assignable(regs: Option<u32>, r: u32) -> bool
     ensures { result ≡ is_assignable regs r }
 {
     match regs {
-        None => r < 29 || r == 31,
+        None => r < STACK || r == LINK,
         Some(n) => r < n,
     }
-}
-
-/// Whether a register is in a mask.
-fn is_in(mask: u64, r: u32) -> bool
-    requires { r < 64 }
-    ensures { result ≡ in_mask mask r }
-{
-    (mask >> r) & 1 == 1
 }
 
 /// The home of a name in the entry or elsewhere.
@@ -200,10 +192,10 @@ pub(crate) fn carried(op: &ExtOp, x: TempId) -> TempId
 /// The assignable registers and those of a mask.
 fn assignable(alloc: Global, regs: Option<u32>, mask: u64) -> Result<Vec<u32>, NoMemory>
     ensures { IfOk result
-        (λ registers. registers.items ≡ filter (λ r. is_assignable regs r || in_mask mask r) (range_with_len 0 32)) }
+        (λ registers. registers.items ≡ filter (λ r. is_assignable regs r || in_mask mask r) (range_with_len 0 GENERALS)) }
 {
     let registers = (0..GENERALS)
-        .filter(|r| is_assignable(regs, *r) || is_in(mask, *r))
+        .filter(|r| is_assignable(regs, *r) || is_in_mask(mask, *r))
         .collect(alloc)?;
     Ok(registers)
 }
@@ -223,7 +215,7 @@ pub(crate) fn is_truth(scope: &Scope<'_>, x: TempId) -> bool
     requires { IsScope scope.now.ext.now scope.now.is_entry scope.now.block.now scope.now.saved.now scope.now.homes.now }
     ensures { result ≡ is_truth scope.now.ext.now.names scope.now.block.now x }
 {
-    is_in(mask(scope.homes, x), GENERALS)
+    is_in_mask(mask(scope.homes, x), GENERALS)
 }
 
 /// So many numbers from the first on, after those so far.

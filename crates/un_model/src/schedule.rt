@@ -5,17 +5,6 @@ use un_isa::op::Op;
 use un_isa::reg::Reg;
 use un_lists::items::Items;
 
-/// What the instructions of a packet share: its places for instructions, for loads and stores, for stores, for
-/// multiplications, shifts, predicate moves and control transfers, and for control transfers.
-#[derive(Clone, Copy, PartialEq, Eq)]
-pub enum Resource {
-    Instructions,
-    Memory,
-    Stores,
-    MultiplyOrControl,
-    Control,
-}
-
 /// An operation as a solution issues it.
 #[derive(Clone, Copy, PartialEq, Eq)]
 pub struct Issue {

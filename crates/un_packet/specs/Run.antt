@@ -3,7 +3,7 @@ use Rattle.std.specs.Prelude.{ℕ, zero, suc, ◌≡◌, ◌+◌, ◌-◌, ◌/�
 use Rattle.std.specs.Prelude.{replicate}
 use Rattle.std.specs.List.{position_or_len}
 use Rattle.std.specs.Cmp.Lexicographic.{pointwise}
-use Rattle.un_isa.specs.declared.reg.TheConstants.{STACK}
+use Rattle.un_isa.specs.declared.reg.TheConstants.{STACK, REGISTERS}
 use Rattle.un_isa.specs.declared.table.Table.{Table}
 use Rattle.un_isa.specs.declared.start.Start.{Start}
 use Rattle.un_packet.specs.declared.code.Packet.{Packet}
@@ -54,7 +54,7 @@ first_state frame s = record {
   calls = [];
   replies = s.replies;
   cycle = 0;
-  ready = replicate 36 0;
+  ready = replicate REGISTERS 0;
 }
 
 -- what code comes to from a start, where at most n labels are entered

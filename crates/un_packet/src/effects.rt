@@ -15,11 +15,11 @@ use un_base::name::Name;
 use un_isa::alu::value;
 use un_isa::instr::Instr;
 use un_isa::op::Op;
-use un_isa::reg::{Reg, STACK};
+use un_isa::reg::{REGISTERS, Reg, STACK};
 use un_isa::table::{Table, latency};
 
 /// The latest of a cycle and of those from which registers can be read.
-fn latest(ready: &[u64; 36], regs: &[Reg], cycle: u64) -> u64
+fn latest(ready: &[u64; REGISTERS as usize], regs: &[Reg], cycle: u64) -> u64
     ensures { result ≡ fold max cycle (map (slice_index ready.now) (map (λ r. r.0) regs.now)) }
 {
     let mut latest = cycle;
@@ -171,7 +171,7 @@ impl State {
     }
 
     /// The registers after the writes of a packet.
-    pub(crate) fn regs_after(&self, packet: &[Instr]) -> [u32; 36]
+    pub(crate) fn regs_after(&self, packet: &[Instr]) -> [u32; REGISTERS as usize]
         requires { AreRunnable packet.now }
         ensures { result ≡ regs_after self.now packet.now self.now.regs }
     {
@@ -211,7 +211,12 @@ impl State {
     }
 
     /// The cycles from which the registers can be read, after a packet that issues in this cycle.
-    pub(crate) fn ready_after(&self, t: &Table, cycle: u64, packet: &[Instr]) -> [u64; 36]
+    pub(crate) fn ready_after(
+        &self,
+        t: &Table,
+        cycle: u64,
+        packet: &[Instr],
+    ) -> [u64; REGISTERS as usize]
         requires runnable { AreRunnable packet.now }
         requires room { cycle < 2 ^ 64 - 2 ^ 32 }
         ensures { result ≡ ready_after t.now cycle self.now packet.now self.now.ready }

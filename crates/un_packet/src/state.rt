@@ -9,7 +9,7 @@ use std::marker::Model;
 use un_base::memory_error::NoMemory;
 use un_isa::memory::Memory;
 use un_isa::outcome::{CallRecord, End, Outcome};
-use un_isa::reg::STACK;
+use un_isa::reg::{REGISTERS, STACK};
 use un_isa::start::{Reply, Start};
 use un_lists::items::Items;
 
@@ -17,7 +17,7 @@ use un_lists::items::Items;
 /// reply that is left.
 #[derive(Drop)]
 pub struct State {
-    pub(crate) regs: [u32; 36],
+    pub(crate) regs: [u32; REGISTERS as usize],
     pub(crate) memory: Memory,
     pub(crate) frame: Items<u32>,
     pub(crate) frame_start: u32,
@@ -25,7 +25,7 @@ pub struct State {
     pub(crate) replies: Items<Reply>,
     pub(crate) answered: usize,
     pub(crate) cycle: u64,
-    pub(crate) ready: [u64; 36],
+    pub(crate) ready: [u64; REGISTERS as usize],
 }
 
 impl Model for State {
@@ -102,14 +102,14 @@ impl State {
 }
 
 /// Every register can be read at once.
-fn read_at_once() -> [u64; 36]
-    ensures { result ≡ replicate 36 0 }
+fn read_at_once() -> [u64; REGISTERS as usize]
+    ensures { result ≡ replicate REGISTERS 0 }
 {
-    [0; 36]
+    [0; REGISTERS as usize]
 }
 
 /// The number at a place, 0 where there is none.
-pub(crate) fn at(regs: &[u32; 36], r: u32) -> u32
+pub(crate) fn at(regs: &[u32; REGISTERS as usize], r: u32) -> u32
     ensures { result ≡ slice_index regs.now r }
 {
     let place = r as usize;
@@ -117,7 +117,7 @@ pub(crate) fn at(regs: &[u32; 36], r: u32) -> u32
 }
 
 /// Puts another value into a register. A register that is not there stays out.
-pub(crate) fn put(regs: &mut [u32; 36], r: u32, value: u32)
+pub(crate) fn put(regs: &mut [u32; REGISTERS as usize], r: u32, value: u32)
     ensures { regs.new ≡ slice_set regs.old r value }
 {
     let place = r as usize;
@@ -127,7 +127,7 @@ pub(crate) fn put(regs: &mut [u32; 36], r: u32, value: u32)
 }
 
 /// The cycle from which a register can be read, 0 where there is none.
-pub(crate) fn ready_at(ready: &[u64; 36], r: u32) -> u64
+pub(crate) fn ready_at(ready: &[u64; REGISTERS as usize], r: u32) -> u64
     ensures { result ≡ slice_index ready.now r }
 {
     let place = r as usize;
@@ -135,7 +135,7 @@ pub(crate) fn ready_at(ready: &[u64; 36], r: u32) -> u64
 }
 
 /// Puts another cycle for a register.
-pub(crate) fn put_ready(ready: &mut [u64; 36], r: u32, cycle: u64)
+pub(crate) fn put_ready(ready: &mut [u64; REGISTERS as usize], r: u32, cycle: u64)
     ensures { ready.new ≡ slice_set ready.old r cycle }
 {
     let place = r as usize;

@@ -19,7 +19,7 @@ use un_isa::table::{Table, latency};
 use un_lists::items::Items;
 
 /// The value of an operand in these registers, 0 where there is none.
-fn operand_of(regs: &[u32; 36], i: &Instr, k: usize) -> u32
+fn operand_of(regs: &[u32; REGISTERS as usize], i: &Instr, k: usize) -> u32
     ensures { result ≡ slice_index (map (λ r. slice_index regs.now r.0) i.now.srcs) k }
 {
     let srcs = i.srcs.as_slice();
@@ -31,7 +31,7 @@ fn operand_of(regs: &[u32; 36], i: &Instr, k: usize) -> u32
 }
 
 /// What an instruction stores, by the registers before its packet.
-fn store(memory: &mut Memory, regs: &[u32; 36], i: &Instr)
+fn store(memory: &mut Memory, regs: &[u32; REGISTERS as usize], i: &Instr)
     ensures { (s : PacketState) → s.regs ≡ regs.now → memory.new ≡ memory_by i.now.op s i.now memory.old }
 {
     match i.op {
@@ -44,7 +44,7 @@ fn store(memory: &mut Memory, regs: &[u32; 36], i: &Instr)
 }
 
 /// The stores of a packet, by the registers before it.
-pub(crate) fn store_all(memory: &mut Memory, regs: &[u32; 36], packet: &[Instr])
+pub(crate) fn store_all(memory: &mut Memory, regs: &[u32; REGISTERS as usize], packet: &[Instr])
     ensures { (s : PacketState) → s.regs ≡ regs.now → memory.new ≡ memory_after s packet.now memory.old }
 {
     for i in packet {
@@ -62,14 +62,14 @@ fn put_word(frame: &mut Items<u32>, place: usize, word: u32)
 }
 
 /// The address of the frame word of an instruction.
-fn frame_address(regs: &[u32; 36], i: &Instr) -> u32
-    ensures { result ≡ address_of (slice_index regs.now 29) i.now.imm }
+fn frame_address(regs: &[u32; REGISTERS as usize], i: &Instr) -> u32
+    ensures { result ≡ address_of (slice_index regs.now STACK) i.now.imm }
 {
     address(at(regs, STACK), i.imm)
 }
 
 /// What an instruction spills, by the registers before its packet.
-fn spill(frame: &mut Items<u32>, start: u32, regs: &[u32; 36], i: &Instr)
+fn spill(frame: &mut Items<u32>, start: u32, regs: &[u32; REGISTERS as usize], i: &Instr)
     ensures word { (s : PacketState) → s.regs ≡ regs.now → s.frame_start ≡ start → length s.frame ≡ length frame.old
         → frame.new ≡ frame_by i.now.op s i.now frame.old }
     ensures long { length frame.new ≡ length frame.old }
@@ -85,7 +85,12 @@ fn spill(frame: &mut Items<u32>, start: u32, regs: &[u32; 36], i: &Instr)
 }
 
 /// The spills of a packet, by the registers before it.
-pub(crate) fn spill_all(frame: &mut Items<u32>, start: u32, regs: &[u32; 36], packet: &[Instr])
+pub(crate) fn spill_all(
+    frame: &mut Items<u32>,
+    start: u32,
+    regs: &[u32; REGISTERS as usize],
+    packet: &[Instr],
+)
     ensures { (s : PacketState) → s.regs ≡ regs.now → s.frame_start ≡ start → length s.frame ≡ length frame.old
         → frame.new ≡ frame_after s packet.now frame.old }
 {
@@ -95,7 +100,7 @@ pub(crate) fn spill_all(frame: &mut Items<u32>, start: u32, regs: &[u32; 36], pa
 }
 
 /// What a call's reply leaves in the registers: its result, and junk in the other clobbered ones.
-pub(crate) fn take_reply(regs: &mut [u32; 36], t: &Table, reply: &Reply)
+pub(crate) fn take_reply(regs: &mut [u32; REGISTERS as usize], t: &Table, reply: &Reply)
     ensures { regs.new ≡ each_from (replied t.now reply.now) 0 regs.old }
 {
     let clobbered = RegSet::of_mask(t.clobbered);
@@ -112,7 +117,7 @@ pub(crate) fn take_reply(regs: &mut [u32; 36], t: &Table, reply: &Reply)
 }
 
 /// From when on the registers can be read after a call in this cycle.
-pub(crate) fn wait_for_call(ready: &mut [u64; 36], t: &Table, cycle: u64)
+pub(crate) fn wait_for_call(ready: &mut [u64; REGISTERS as usize], t: &Table, cycle: u64)
     requires { cycle < 2 ^ 64 - 2 ^ 32 }
     ensures { ready.new ≡ each_from (call_ready t.now cycle) 0 ready.old }
 {

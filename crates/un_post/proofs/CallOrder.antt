@@ -31,7 +31,7 @@ use Rattle.un_model.specs.declared.model.TempVars.{TempVars}
 use Rattle.un_base.specs.declared.ids.VarId.{VarId}
 use Rattle.un_model.specs.declared.model.OpVars.{OpVars}
 use Rattle.un_model.specs.declared.schedule.Issue.{Issue}
-use Rattle.un_model.specs.declared.schedule.Resource.TheVariants.{Control}
+use Rattle.un_isa.specs.declared.packet_counts.Resource.TheVariants.{Control}
 use Rattle.un_model.specs.ArcLaws.{arc_told}
 use Rattle.un_model.specs.Arcs.{reads_from, own_instr, NeedsGap, block_arcs, blocks_arcs}
 use Rattle.un_model.specs.Arcs.NeedsGap.{ByData, ByMemory}

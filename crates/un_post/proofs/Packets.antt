@@ -16,12 +16,12 @@ use Rattle.un_ir.specs.declared.extended.ExtBlock.{ExtBlock}
 use Rattle.un_ir.specs.declared.extended.Ext.{Ext}
 use Rattle.un_model.specs.declared.model.Options.{Options}
 use Rattle.un_model.specs.declared.schedule.Issue.{Issue}
-use Rattle.un_model.specs.declared.schedule.Resource.{Resource}
-use Rattle.un_model.specs.declared.schedule.Resource.TheVariants.{Instructions, Memory, Stores, MultiplyOrControl, Control}
+use Rattle.un_isa.specs.declared.packet_counts.Resource.{Resource}
 use Rattle.un_model.specs.Instructions.{instruction_of, needs_by}
 use Rattle.un_model.specs.Pairs.{joined}
 use Rattle.un_model.specs.Schedules.{schedule_of, issues_of, value_by, is_delimiter}
-use Rattle.un_model.specs.Solutions.{KeepsPackets, HasRoom, Fits, share_of, issues_at, taken, places_of}
+use Rattle.un_model.specs.Solutions.{KeepsPackets, HasRoom, Fits, share_of, issues_at, taken}
+use Rattle.un_isa.specs.PacketCounts.{places_of, share_of as need_of}
 use Rattle.un_model.specs.Variables.{model_of, has_cycle, var_if, cycle_place, cycle_domain, own_horizon}
 use Rattle.un_model.proofs.Lists.{Pairwise, Member, each_of, each_member, member_map_of, member_of_filter, length_get}
 use Rattle.un_model.proofs.OpDomains.{in_entry}
@@ -29,11 +29,7 @@ use Rattle.un_model.proofs.Placed.{Placed, Region, region_placed, vars_of, issue
 use Rattle.un_model.proofs.PlacedSchedules.{all}
 use Rattle.un_prop.specs.Acts.{act_number, is_active}
 use Rattle.un_slots.specs.declared.item.Item.{Item}
-use Rattle.un_slots.specs.declared.item.Resource.{Resource as Slot}
-use Rattle.un_slots.specs.declared.item.Resource.TheVariants.{Instructions as OfInstructions, Memory as OfMemory, Stores as OfStores}
-use Rattle.un_slots.specs.declared.item.Resource.TheVariants.{MultiplyOrControl as OfMultiplyOrControl, Control as OfControl}
-use Rattle.un_slots.specs.Slots.{share_at, taken_by, taken as taken_in, places_of as slots_of}
-use Rattle.un_slots.specs.Slots.{share_of as need_of}
+use Rattle.un_slots.specs.Slots.{share_at, taken_by, taken as taken_in}
 use Rattle.un_slots.specs.SlotLaws.{holds_fits, fits_holds}
 use Rattle.un_post.specs.Constraints.{AllMet, PerCycle}
 use Rattle.un_post.specs.Places.{Place, act_of, by_number}
@@ -49,50 +45,14 @@ use Rattle.un_post.proofs.Spared.{cycle_is}
 
 -- ---- resources
 
-abbrev slot_of : Resource → Slot
-slot_of Instructions = OfInstructions
-slot_of Memory = OfMemory
-slot_of Stores = OfStores
-slot_of MultiplyOrControl = OfMultiplyOrControl
-slot_of Control = OfControl
-
-abbrev resource_of : Slot → Resource
-resource_of OfInstructions = Instructions
-resource_of OfMemory = Memory
-resource_of OfStores = Stores
-resource_of OfMultiplyOrControl = MultiplyOrControl
-resource_of OfControl = Control
-
-slot_back : (r : Slot) → slot_of (resource_of r) ≡ r
-slot_back OfInstructions = refl
-slot_back OfMemory = refl
-slot_back OfStores = refl
-slot_back OfMultiplyOrControl = refl
-slot_back OfControl = refl
-
-same_places : (r : Resource) → slots_of (slot_of r) ≡ places_of r
-same_places Instructions = refl
-same_places Memory = refl
-same_places Stores = refl
-same_places MultiplyOrControl = refl
-same_places Control = refl
-
 -- what issues nothing takes nothing
 none_taken : (t : Table) (r : Resource) → share_of t r None ≡ 0
-none_taken t Instructions = refl
-none_taken t Memory = refl
-none_taken t Stores = refl
-none_taken t MultiplyOrControl = refl
-none_taken t Control = refl
+none_taken t r = refl
 
-some_taken : (t : Table) (r : Resource) (op : Op) → need_of (slot_of r) (needs_by t (Some op)) ≡ share_of t r (Some op)
-some_taken t Instructions op = refl
-some_taken t Memory op = refl
-some_taken t Stores op = refl
-some_taken t MultiplyOrControl op = refl
-some_taken t Control op = refl
+some_taken : (t : Table) (r : Resource) (op : Op) → need_of r (needs_by t (Some op)) ≡ share_of t r (Some op)
+some_taken t r op = refl
 
-share_get : (r : Slot) (us : List Needs) (n : ℕ) (u : Needs) → slice_get us n ≡ Some u → share_at r us n ≡ need_of r u
+share_get : (r : Resource) (us : List Needs) (n : ℕ) (u : Needs) → slice_get us n ≡ Some u → share_at r us n ≡ need_of r u
 share_get r [] n u e = absurd (cc e)
 share_get r (v ∷ us) zero u e = let same : v ≡ u = cc e in ap (need_of r) same
 share_get r (v ∷ us) (suc n) u e = share_get r us n u e
@@ -192,23 +152,23 @@ module _ (e : Ext) (o : Options) (x : List ℕ) (given : Given e o x) where
 
   -- an operation as an item
   one_taken : (resource : Resource) (b c : ℕ) (q : Placed) → Member q (all e o x) → q.block ≡ b → issues_kind q.op.kind ≡ true
-      → taken_by (slot_of resource) c x (item_of e.table (place_of q)) ≡ share resource b c q
+      → taken_by resource c x (item_of e.table (place_of q)) ≡ share resource b c q
   one_taken resource b c q m block kind =
       let known = issues_some q.op.kind kind in
       let i = issue_at x q in
       let on = act_of (place_of q) in
       let at = slice_index x (cycle_var (place_of q)).0 in
-      let u = share_at (slot_of resource) (by_number (needs_by e.table) q.op.kind) (act_number on x) in
+      let u = share_at resource (by_number (needs_by e.table) q.op.kind) (act_number on x) in
       let here : (q.block == b) ≡ true = eq-eqb q.block b block in
       let act : i.active ≡ is_some i.instr = ap (λ d. d || is_some i.instr) known.2 in
       ap (λ a. if a && nat_eq at c then u else 0) (acts e o x given q m known.1 ∙ act)
       ∙ ap (λ n. if is_some i.instr && nat_eq n c then u else 0) (cycle_is q x known.0)
       ∙ ap (λ n. if is_some i.instr && nat_eq i.cycle c then n else 0)
-      (share_get (slot_of resource) _ (act_number on x) _ (numbers e o x given (needs_by e.table) q m))
+      (share_get resource _ (act_number on x) _ (numbers e o x given (needs_by e.table) q m))
       ∙ by i.instr (nat_eq i.cycle c)
       ∙ ap (λ a. if a && nat_eq i.cycle c then share_of e.table resource i.instr else 0) (sym here)
     where
-      by : (instr : Option Op) (b : Bool) → (if is_some instr && b then need_of (slot_of resource) (needs_by e.table instr) else 0) ≡
+      by : (instr : Option Op) (b : Bool) → (if is_some instr && b then need_of resource (needs_by e.table instr) else 0) ≡
           (if true && b then share_of e.table resource instr else 0)
       by None true = sym (none_taken e.table resource)
       by None false = refl
@@ -228,28 +188,28 @@ module _ (e : Ext) (o : Options) (x : List ℕ) (given : Given e o x) where
 
   -- the items of a block take what its operations take
   all_taken : (resource : Resource) (b c : ℕ) (qs : List Placed) → ((q : Placed) → Member q qs → (Member q (all e o x)) × (q.block ≡ b))
-      → taken_in (slot_of resource) (map (item_of e.table) (with_kind issues_kind (map place_of qs))) x c ≡ sum_by (share resource b c) qs
+      → taken_in resource (map (item_of e.table) (with_kind issues_kind (map place_of qs))) x c ≡ sum_by (share resource b c) qs
   all_taken resource b c [] h = refl
   all_taken resource b c (q ∷ qs) h = by (all_taken resource b c qs (λ p m. h p (inr m))) (issues_kind q.op.kind) refl
     where
       rest : List Item
       rest = map (item_of e.table) (with_kind issues_kind (map place_of qs))
 
-      by : taken_in (slot_of resource) rest x c ≡ sum_by (share resource b c) qs → (t : Bool) → issues_kind q.op.kind ≡ t
-          → taken_in (slot_of resource) (map (item_of e.table) (with_kind issues_kind (map place_of (q ∷ qs)))) x c ≡ sum_by
+      by : taken_in resource rest x c ≡ sum_by (share resource b c) qs → (t : Bool) → issues_kind q.op.kind ≡ t
+          → taken_in resource (map (item_of e.table) (with_kind issues_kind (map place_of (q ∷ qs)))) x c ≡ sum_by
           (share resource b c) (q ∷ qs)
       by more true k =
           let here = h q (inl refl) in
-          ap (λ (t : Bool). taken_in (slot_of resource) (map (item_of e.table)
+          ap (λ (t : Bool). taken_in resource (map (item_of e.table)
           (if t then place_of q ∷ with_kind issues_kind (map place_of qs) else with_kind issues_kind (map place_of qs))) x c) k
-          ∙ sum_by-cons (taken_by (slot_of resource) c x) (item_of e.table (place_of q)) rest
-          ∙ ap (λ n. n + taken_in (slot_of resource) rest x c) (one_taken resource b c q here.0 here.1 k)
+          ∙ sum_by-cons (taken_by resource c x) (item_of e.table (place_of q)) rest
+          ∙ ap (λ n. n + taken_in resource rest x c) (one_taken resource b c q here.0 here.1 k)
           ∙ ap (λ n. share resource b c q + n) more ∙ sym (sum_by-cons (share resource b c) q qs)
       by more false k =
           let zero_here = not_taken resource b c q k in
           let cons = sum_by-cons (share resource b c) q qs in
           let next : sum_by (share resource b c) qs ≡ sum_by (share resource b c) (q ∷ qs) = omega arith in
-          ap (λ (t : Bool). taken_in (slot_of resource) (map (item_of e.table)
+          ap (λ (t : Bool). taken_in resource (map (item_of e.table)
           (if t then place_of q ∷ with_kind issues_kind (map place_of qs) else with_kind issues_kind (map place_of qs))) x c) k
           ∙ more ∙ next
 
@@ -257,7 +217,7 @@ module _ (e : Ext) (o : Options) (x : List ℕ) (given : Given e o x) where
   items r = map (item_of e.table) (with_kind issues_kind (region_places r))
 
   region_taken : (resource : Resource) (r : Region) (c : ℕ) → Member r (blocks e o x)
-      → taken_in (slot_of resource) (items r) x c ≡ sum_by (share resource r.block c) (region_placed r)
+      → taken_in resource (items r) x c ≡ sum_by (share resource r.block c) (region_placed r)
   region_taken resource r c m = all_taken resource r.block c (region_placed r) (λ q n. (in_all e o x r q m n, of_region r q n))
 
   -- what all operations take in a cycle of a block
@@ -328,13 +288,10 @@ module _ (e : Ext) (o : Options) (x : List ℕ) (given : Given e o x) where
       ap (λ (ps : List Place). PerCycle (map (item_of e.table) (with_kind issues_kind ps)) owner.horizon ∷ []) (places_in r) in (
         λ h. subst (Met x) (sym posted) (
           fits_holds (items r) owner.horizon x (record {
-            room = λ s c.
-                let resource = resource_of s in
+            room = λ resource c.
                 let same = region_taken resource r c mr in
                 let le = h resource c in
-                let places = same_places resource in
-                let k : taken_in (slot_of resource) (items r) x c ≤ slots_of (slot_of resource) = omega arith in
-                subst (λ t. taken_in t (items r) x c ≤ slots_of t) (slot_back s) k;
+                omega arith;
             early = all_each _ (items r) (each_of _ (items r) (λ i m.
                 let q = item_place r i m in
                 let mq = in_all e o x r q.0 mr q.1 in
@@ -353,9 +310,8 @@ module _ (e : Ext) (o : Options) (x : List ℕ) (given : Given e o x) where
         ),
         λ h resource c.
             let f = holds_fits (items r) owner.horizon x (subst (Met x) posted h).0 in
-            let le = f.room (slot_of resource) c in
+            let le = f.room resource c in
             let same = region_taken resource r c mr in
-            let places = same_places resource in
             omega arith,
       )
 

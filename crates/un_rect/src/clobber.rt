@@ -21,6 +21,7 @@ use crate::spans::{end, is_sure_user, least_end, reads};
 use crate::values::{ValueTest, keep_passing};
 use un_base::ids::VarId;
 use un_domains::window::Window;
+use un_isa::reg_set::is_in_mask;
 use un_lists::items::Items;
 use un_prop::act::{Act, Temp, UserOf, active, time, value};
 use un_prop::last::{fill, try_all};
@@ -35,13 +36,6 @@ pub struct ClobberCall {
     pub at: VarId,
     pub before: bool,
     pub behind: Items<UserOf>,
-}
-
-/// Whether a register is in a mask.
-fn is_in_mask(mask: u64, r: u32) -> bool
-    ensures { result ≡ in_mask mask r }
-{
-    r < 64 && (mask >> r) & 1 == 1
 }
 
 /// The registers outside a mask.

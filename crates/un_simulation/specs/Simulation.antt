@@ -48,7 +48,7 @@ pub record Keeps (t : Table) (s : Start) (p : PacketState) : Type 0 where
   pub saved : (r : ℕ) → r < GENERALS → in_mask t.saved r ≡ true → slice_index p.regs r ≡ slice_index s.regs r
   pub stack : slice_index p.regs STACK ≡ slice_index s.regs STACK
 
--- what a place of the register array holds: a register, or from 36 on a word of the frame
+-- what a place of the register array holds: a register, or after those a word of the frame
 abbrev pub held_at : PacketState → ℕ → ℕ
 held_at p place = if nat_lt place FIRST_SLOT then slice_index p.regs place else slice_index p.frame (place - FIRST_SLOT)
 

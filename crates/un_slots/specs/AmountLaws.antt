@@ -3,10 +3,10 @@ use Rattle.std.proofs.Common.{ℕ, ◌≡◌, ◌≤◌, ◌-◌, ◌^◌, ◌�
 use Rattle.std.specs.List.{list_all}
 use Rattle.std.proofs.lemmas.Bool.Decides.{nat_tests}
 use Rattle.un_domains.specs.OrderLaws.{same_test}
-use Rattle.un_slots.specs.declared.item.Resource.{Resource}
-use Rattle.un_slots.specs.declared.item.Resource.TheVariants.{Instructions, Memory, Stores, MultiplyOrControl, Control}
+use Rattle.un_isa.specs.declared.packet_counts.Resource.{Resource}
+use Rattle.un_isa.specs.declared.packet_counts.Resource.TheVariants.{Instructions, Memory, Stores, MultiplyOrControl, Control}
 use Rattle.un_slots.specs.declared.load.Load.{Load}
-use Rattle.un_slots.specs.Slots.{resources, places_of}
+use Rattle.un_isa.specs.PacketCounts.{resources, places_of}
 use Rattle.un_slots.specs.SlotLaws.{for_each, of_each}
 use Rattle.un_slots.specs.Amounts.{amount, IsLoad}
 

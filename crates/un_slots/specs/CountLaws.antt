@@ -13,12 +13,13 @@ use Rattle.un_domains.specs.OrderLaws.{same_test}
 use Rattle.un_prop.specs.ChainLaws.{least_in}
 use Rattle.un_prop.specs.LookLaws.{both, firsts, or_not}
 use Rattle.un_slots.specs.declared.item.Item.{Item}
-use Rattle.un_slots.specs.declared.item.Resource.{Resource}
+use Rattle.un_isa.specs.declared.packet_counts.Resource.{Resource}
 use Rattle.un_base.specs.declared.ids.VarId.{VarId}
 use Rattle.un_prop.specs.Rounds.{HasVars}
 use Rattle.un_prop.specs.AmongLaws.{has_among}
 use Rattle.std.proofs.lemmas.List.Elements.{recursion_from_All}
-use Rattle.un_slots.specs.Slots.{places_of, ItemVars, SlotVars}
+use Rattle.un_slots.specs.Slots.{ItemVars, SlotVars}
+use Rattle.un_isa.specs.PacketCounts.{places_of}
 use Rattle.un_slots.specs.SlotLaws.{map_each, sum_alike}
 use Rattle.un_slots.specs.Crowds.{surely_takes, lies_in, crowded, crowd, crowd_fits, all_below, starts, sum_from, ends_fit, counted}
 use Rattle.un_slots.specs.CrowdLaws.{below_each, each_below, le_true, true_le, sum_plus, sum_none, places_more, take_each}

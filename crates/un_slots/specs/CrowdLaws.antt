@@ -21,9 +21,10 @@ use Rattle.un_prop.specs.LookLaws.{both, firsts, not_true, not_from, set_alike, 
 use Rattle.un_prop.specs.LookLaws.{number_in}
 use Rattle.un_prop.specs.SomewhereLaws.{any_more, any_has}
 use Rattle.un_slots.specs.declared.item.Item.{Item}
-use Rattle.un_slots.specs.declared.item.Resource.{Resource}
-use Rattle.un_slots.specs.declared.item.Resource.TheVariants.{Instructions, Memory, Stores, MultiplyOrControl, Control}
-use Rattle.un_slots.specs.Slots.{places_of, share_at, issues_at, taken_by, taken, per_cycle_holds, ItemVars, SlotVars}
+use Rattle.un_isa.specs.declared.packet_counts.Resource.{Resource}
+use Rattle.un_isa.specs.declared.packet_counts.Resource.TheVariants.{Instructions, Memory, Stores, MultiplyOrControl, Control}
+use Rattle.un_slots.specs.Slots.{share_at, issues_at, taken_by, taken, per_cycle_holds, ItemVars, SlotVars}
+use Rattle.un_isa.specs.PacketCounts.{places_of}
 use Rattle.un_slots.specs.SlotLaws.{map_each, sum_alike, for_each, of_each, holds_fits}
 use Rattle.un_slots.specs.LoadLaws.{sum_le}
 use Rattle.un_slots.specs.Crowds.{surely_takes, lies_in, crowded, crowd, crowd_fits, all_below, counted, crowds_fit, crowd_cut}

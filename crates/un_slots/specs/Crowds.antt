@@ -8,8 +8,9 @@ use Rattle.un_domains.specs.Sets.{Sets, set_at, least, greatest}
 use Rattle.un_prop.specs.Failing.{first_cut}
 use Rattle.un_prop.specs.Looks.{act_set, sure}
 use Rattle.un_slots.specs.declared.item.Item.{Item}
-use Rattle.un_slots.specs.declared.item.Resource.{Resource}
-use Rattle.un_slots.specs.Slots.{resources, places_of, share_at}
+use Rattle.un_isa.specs.declared.packet_counts.Resource.{Resource}
+use Rattle.un_slots.specs.Slots.{share_at}
+use Rattle.un_isa.specs.PacketCounts.{resources, places_of}
 
 -- an item surely takes some of a resource: it is sure, and no number that is left takes none
 abbrev pub surely_takes : Resource → Sets → Item → Bool

@@ -23,9 +23,10 @@ use Rattle.un_prop.specs.Looks.{act_set, sure}
 use Rattle.un_prop.specs.LookLaws.{both, firsts, not_or, or_not, sure_alike, act_alike}
 use Rattle.un_prop.specs.LastLaws.{cut_all, cut_same}
 use Rattle.un_slots.specs.declared.item.Item.{Item}
-use Rattle.un_slots.specs.declared.item.Resource.{Resource}
-use Rattle.un_slots.specs.declared.item.Resource.TheVariants.{Instructions, Memory, Stores, MultiplyOrControl, Control}
-use Rattle.un_slots.specs.Slots.{places_of, share_at, taken, taken_by, per_cycle_holds, ItemVars, SlotVars}
+use Rattle.un_isa.specs.declared.packet_counts.Resource.{Resource}
+use Rattle.un_isa.specs.declared.packet_counts.Resource.TheVariants.{Instructions, Memory, Stores, MultiplyOrControl, Control}
+use Rattle.un_slots.specs.Slots.{share_at, taken, taken_by, per_cycle_holds, ItemVars, SlotVars}
+use Rattle.un_isa.specs.PacketCounts.{places_of}
 use Rattle.un_slots.specs.SlotLaws.{map_each, sum_alike, holds_fits}
 use Rattle.un_slots.specs.Loads.{others}
 use Rattle.un_slots.specs.LoadLaws.{sum_le, sum_others, each_other, one_of}

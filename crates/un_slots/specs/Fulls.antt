@@ -7,11 +7,11 @@ use Rattle.un_base.specs.declared.ids.VarId.{VarId}
 use Rattle.un_domains.specs.Sets.{Sets, cut_by}
 use Rattle.un_prop.specs.Places.{each_place}
 use Rattle.un_slots.specs.declared.item.Item.{Item}
-use Rattle.un_slots.specs.declared.item.Resource.{Resource}
-use Rattle.un_slots.specs.declared.item.Resource.TheVariants.{Instructions, Memory, Stores, MultiplyOrControl, Control}
+use Rattle.un_isa.specs.declared.packet_counts.Resource.{Resource}
+use Rattle.un_isa.specs.declared.packet_counts.Resource.TheVariants.{Instructions, Memory, Stores, MultiplyOrControl, Control}
 use Rattle.un_slots.specs.Crowds.{surely_takes, crowd, counted, crowd_cut}
 use Rattle.un_slots.specs.Loads.{others, slot_cut}
-use Rattle.un_slots.specs.Slots.{places_of}
+use Rattle.un_isa.specs.PacketCounts.{places_of}
 
 -- cycle c is not from low to high
 abbrev pub outside : ℕ → ℕ → ℕ → Bool

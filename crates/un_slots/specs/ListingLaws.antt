@@ -10,11 +10,12 @@ use Rattle.un_prop.specs.LookLaws.{both, firsts}
 use Rattle.un_prop.specs.Choices.{passes_at}
 use Rattle.un_prop.specs.ChoiceLaws.{passes_within}
 use Rattle.un_slots.specs.declared.item.Item.{Item}
-use Rattle.un_slots.specs.declared.item.Resource.{Resource}
+use Rattle.un_isa.specs.declared.packet_counts.Resource.{Resource}
 use Rattle.std.specs.List.{list_any, slice_get}
 use Rattle.std.proofs.Math.Seq.{take-length}
 use Rattle.un_prop.specs.SomewhereLaws.{any_more}
-use Rattle.un_slots.specs.Slots.{places_of, share_at}
+use Rattle.un_slots.specs.Slots.{share_at}
+use Rattle.un_isa.specs.PacketCounts.{places_of}
 use Rattle.un_slots.specs.SlotLaws.{for_each, of_each}
 use Rattle.un_slots.specs.LoadLaws.{sum_others}
 use Rattle.un_slots.specs.Loads.{is_settled, settled_at, load_by, load, others, fits_beside, fits, can_issue}

@@ -28,8 +28,9 @@ use Rattle.un_prop.specs.SomewhereLaws.{any_find, any_has, any_more, any_agree}
 use Rattle.un_prop.specs.declared.act.Act.{Act}
 use Rattle.un_prop.specs.declared.act.Act.TheVariants.{Always, Var as ActVar}
 use Rattle.un_slots.specs.declared.item.Item.{Item}
-use Rattle.un_slots.specs.declared.item.Resource.{Resource}
-use Rattle.un_slots.specs.Slots.{resources, places_of, share_at, issues_at, taken_by, taken, per_cycle_holds, ItemVars, SlotVars}
+use Rattle.un_isa.specs.declared.packet_counts.Resource.{Resource}
+use Rattle.un_slots.specs.Slots.{share_at, issues_at, taken_by, taken, per_cycle_holds, ItemVars, SlotVars}
+use Rattle.un_isa.specs.PacketCounts.{resources, places_of}
 use Rattle.un_slots.specs.SlotLaws.{map_each, sum_alike, for_each, of_each, holds_fits}
 use Rattle.un_slots.specs.Loads.{is_settled, settled_at, load_by, load, others, fits, can_issue, slot_test, slot_cut_of, slot_cut}
 use Rattle.un_slots.specs.Loads.{SlotsStrong}

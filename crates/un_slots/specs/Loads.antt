@@ -5,8 +5,9 @@ use Rattle.std.specs.List.{list_any, list_all, slice_get}
 use Rattle.un_domains.specs.Sets.{Sets, set_at, has, least, cut_by}
 use Rattle.un_prop.specs.Looks.{act_set, sure}
 use Rattle.un_slots.specs.declared.item.Item.{Item}
-use Rattle.un_slots.specs.declared.item.Resource.{Resource}
-use Rattle.un_slots.specs.Slots.{resources, places_of, share_at}
+use Rattle.un_isa.specs.declared.packet_counts.Resource.{Resource}
+use Rattle.un_slots.specs.Slots.{share_at}
+use Rattle.un_isa.specs.PacketCounts.{resources, places_of}
 
 -- an item is settled where it is sure, has one cycle and one number left
 abbrev pub is_settled : Sets → Item → Bool

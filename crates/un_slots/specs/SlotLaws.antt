@@ -12,9 +12,10 @@ use Rattle.un_prop.specs.AmongLaws.{same_var, same_number, same_active}
 use Rattle.un_prop.specs.Acts.{act_number, is_active}
 use Rattle.un_prop.specs.LookLaws.{both, firsts, not_or, or_not}
 use Rattle.un_slots.specs.declared.item.Item.{Item}
-use Rattle.un_slots.specs.declared.item.Resource.{Resource}
-use Rattle.un_slots.specs.declared.item.Resource.TheVariants.{Instructions, Memory, Stores, MultiplyOrControl, Control}
-use Rattle.un_slots.specs.Slots.{resources, places_of, share_of, share_at, issues_at, taken_by, taken, has_room, item_holds}
+use Rattle.un_isa.specs.declared.packet_counts.Resource.{Resource}
+use Rattle.un_isa.specs.declared.packet_counts.Resource.TheVariants.{Instructions, Memory, Stores, MultiplyOrControl, Control}
+use Rattle.un_slots.specs.Slots.{share_at, issues_at, taken_by, taken, has_room, item_holds}
+use Rattle.un_isa.specs.PacketCounts.{resources, places_of, share_of}
 use Rattle.un_slots.specs.Slots.{per_cycle_holds, FitsCycles, ItemVars, SlotVars}
 
 -- Lists

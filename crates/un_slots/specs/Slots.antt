@@ -3,35 +3,14 @@ use Rattle.std.specs.Prelude.{ℕ, zero, suc, ◌≡◌, ◌<◌, ◌≤◌, Boo
 use Rattle.std.specs.Prelude.{nat_eq, nat_le, nat_lt, slice_index, All}
 use Rattle.std.specs.List.{list_all}
 use Rattle.un_base.specs.declared.ids.VarId.{VarId}
-use Rattle.un_isa.specs.declared.packet_counts.TheConstants.{PACKET, MEM_PLACES, STORE_PLACES, XC_PLACES, CONTROL_PLACES}
 use Rattle.un_isa.specs.declared.table.Needs.{Needs}
 use Rattle.un_prop.specs.Among.{among, AllAmong}
 use Rattle.un_prop.specs.Acts.{act_vars, act_number, is_active}
 use Rattle.un_slots.specs.declared.item.Item.{Item}
-use Rattle.un_slots.specs.declared.item.Resource.{Resource}
-use Rattle.un_slots.specs.declared.item.Resource.TheVariants.{Instructions, Memory, Stores, MultiplyOrControl, Control}
+use Rattle.un_isa.specs.declared.packet_counts.Resource.{Resource}
+use Rattle.un_isa.specs.PacketCounts.{resources, places_of, share_of}
 
--- all resources
-abbrev pub resources : List Resource
-resources = Instructions ∷ Memory ∷ Stores ∷ MultiplyOrControl ∷ Control ∷ []
-
--- how much of a resource a packet has
-abbrev pub places_of : Resource → ℕ
-places_of Instructions = PACKET
-places_of Memory = MEM_PLACES
-places_of Stores = STORE_PLACES
-places_of MultiplyOrControl = XC_PLACES
-places_of Control = CONTROL_PLACES
-
--- how much of it an instruction with these needs takes
-abbrev pub share_of : Resource → Needs → ℕ
-share_of Instructions n = 1
-share_of Memory n = n.mem
-share_of Stores n = n.store
-share_of MultiplyOrControl n = n.xc
-share_of Control n = n.control
-
--- how much of it the entry at a place takes; nothing past the end
+-- how much of a resource the entry at a place takes; nothing past the end
 abbrev pub share_at : Resource → List Needs → ℕ → ℕ
 share_at r [] n = 0
 share_at r (u ∷ us) zero = share_of r u

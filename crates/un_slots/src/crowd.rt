@@ -9,46 +9,21 @@ ghost use Rattle.un_prop.specs.Going.{Stepped};
 ghost use Rattle.un_prop.specs.Looks.{act_set};
 ghost use Rattle.un_prop.specs.Rounds.{HasVars};
 ghost use Rattle.un_prop.specs.declared.propagator.Pruned.TheVariants.{Failed};
-ghost use Rattle.un_slots.specs.Slots.{ItemVars, SlotVars, places_of, share_of, share_at};
+ghost use Rattle.un_slots.specs.Slots.{ItemVars, SlotVars, share_at};
+ghost use Rattle.un_isa.specs.PacketCounts.{places_of, share_of};
 ghost use Rattle.un_slots.specs.Crowds.{surely_takes, starts, crowd, crowd_fits, all_below, counted, crowds_fit, crowd_cut};
 ghost use Rattle.un_slots.specs.Crowds.{sum_from, ends_fit};
 
-use crate::item::{Item, Resource};
+use crate::item::Item;
 use crate::listing::clear;
 use un_base::ids::VarId;
 use un_domains::window::Window;
-use un_isa::packet_counts::{CONTROL_PLACES, MEM_PLACES, PACKET, STORE_PLACES, XC_PLACES};
+use un_isa::packet_counts::{Resource, places, share};
 use un_isa::table::Needs;
 use un_prop::act::Act;
 use un_prop::look::is_sure;
 use un_prop::propagator::{Pruned, Scratch};
 use un_prop::step::fail;
-
-/// How much of a resource a packet has.
-pub(crate) fn places(r: Resource) -> u32
-    ensures { result ≡ places_of r }
-{
-    match r {
-        Resource::Instructions => PACKET,
-        Resource::Memory => MEM_PLACES,
-        Resource::Stores => STORE_PLACES,
-        Resource::MultiplyOrControl => XC_PLACES,
-        Resource::Control => CONTROL_PLACES,
-    }
-}
-
-/// How much of it an instruction with these needs takes.
-fn share(r: Resource, n: Needs) -> u8
-    ensures { result ≡ share_of r n }
-{
-    match r {
-        Resource::Instructions => 1,
-        Resource::Memory => n.mem,
-        Resource::Stores => n.store,
-        Resource::MultiplyOrControl => n.xc,
-        Resource::Control => n.control,
-    }
-}
 
 /// Whether the entry of `uses` at place `n` takes none of it.
 fn takes_none(r: Resource, uses: &[Needs], n: u32) -> bool

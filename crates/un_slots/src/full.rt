@@ -10,14 +10,16 @@ ghost use Rattle.un_prop.specs.Places.{each_place};
 ghost use Rattle.un_prop.specs.Pruning.{IsPrune};
 ghost use Rattle.un_prop.specs.Rounds.{HasVars};
 ghost use Rattle.un_prop.specs.declared.propagator.Pruned.TheVariants.{Failed};
-ghost use Rattle.un_slots.specs.Slots.{ItemVars, SlotVars, places_of};
+ghost use Rattle.un_slots.specs.Slots.{ItemVars, SlotVars};
+ghost use Rattle.un_isa.specs.PacketCounts.{places_of};
 ghost use Rattle.un_slots.specs.Crowds.{counted, crowd, crowded, lies_in, surely_takes};
 ghost use Rattle.un_slots.specs.Fulls.{clear_between, clear_of, clear_to, full_cut, full_cuts, outside, resource_at};
 
-use crate::crowd::{fits_to, places, surely_takes};
-use crate::item::{Item, Resource};
+use crate::crowd::{fits_to, surely_takes};
+use crate::item::Item;
 use un_base::ids::VarId;
 use un_domains::window::Window;
+use un_isa::packet_counts::{Resource, places};
 use un_prop::propagator::{Pruned, Scratch};
 use un_prop::step::{drop_value, joined};
 

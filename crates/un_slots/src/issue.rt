@@ -6,7 +6,7 @@ ghost use Rattle.un_domains.specs.Sets.{NoneEmpty, has, set_at};
 ghost use Rattle.un_prop.specs.Acts.{act_vars};
 ghost use Rattle.un_prop.specs.Looks.{act_set};
 ghost use Rattle.un_prop.specs.Rounds.{HasVars};
-ghost use Rattle.un_slots.specs.declared.item.Resource.{Resource};
+ghost use Rattle.un_isa.specs.declared.packet_counts.Resource.{Resource};
 ghost use Rattle.un_slots.specs.Slots.{SlotVars, ItemVars};
 ghost use Rattle.un_slots.specs.Loads.{fits_beside, others, can_issue};
 ghost use Rattle.un_slots.specs.Amounts.{IsLoad};

@@ -5,17 +5,6 @@ use un_isa::table::Needs;
 use un_lists::items::Items;
 use un_prop::act::Act;
 
-/// What the instructions of a packet share: its places for instructions, for loads and stores, for stores, for
-/// multiplications, shifts, predicate moves and control transfers, and for control transfers.
-#[derive(Clone, Copy, PartialEq, Eq)]
-pub enum Resource {
-    Instructions,
-    Memory,
-    Stores,
-    MultiplyOrControl,
-    Control,
-}
-
 /// An operation. Where `on` is active, it takes one place for an instruction in cycle `at`, and what the entry of `uses` at the
 /// number of `on` says.
 #[derive(Drop)]

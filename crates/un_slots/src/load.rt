@@ -6,7 +6,8 @@ ghost use Rattle.un_domains.specs.Sets.{NoneEmpty, least};
 ghost use Rattle.un_prop.specs.Acts.{act_vars};
 ghost use Rattle.un_prop.specs.Looks.{act_set};
 ghost use Rattle.un_prop.specs.Rounds.{HasVars};
-ghost use Rattle.un_slots.specs.Slots.{resources, places_of, share_of, share_at, issues_at, taken_by, taken, ItemVars, SlotVars};
+ghost use Rattle.un_slots.specs.Slots.{share_at, issues_at, taken_by, taken, ItemVars, SlotVars};
+ghost use Rattle.un_isa.specs.PacketCounts.{resources, places_of, share_of};
 ghost use Rattle.un_slots.specs.Loads.{is_settled, load_by, load};
 ghost use Rattle.un_slots.specs.Amounts.{amount, IsLoad};
 

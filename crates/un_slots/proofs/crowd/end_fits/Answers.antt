@@ -5,7 +5,7 @@ use Rattle.un_prop.specs.Acts.{act_vars}
 use Rattle.un_prop.specs.AmongLaws.{has_among}
 use Rattle.un_prop.specs.LookLaws.{known_of}
 use Rattle.un_slots.specs.Crowds.{surely_takes, crowd, crowd_fits, all_below, counted}
-use Rattle.un_slots.specs.Slots.{places_of}
+use Rattle.un_isa.specs.PacketCounts.{places_of}
 use Rattle.un_slots.specs.CountLaws.{below_same}
 use Rattle.un_slots.proofs.crowd.end_fits.Goals as goal
 

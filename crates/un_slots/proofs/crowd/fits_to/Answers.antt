@@ -1,6 +1,6 @@
 use Rattle.std.proofs.Common.{ℕ, ◌≡◌, ◌+◌, ◌-◌, ◌*◌, ◌∙◌, slice_index, sum_by, nat_le, ap, arith}
 use Rattle.un_slots.specs.Crowds.{crowd, counted, starts}
-use Rattle.un_slots.specs.Slots.{places_of}
+use Rattle.un_isa.specs.PacketCounts.{places_of}
 use Rattle.un_slots.specs.CountLaws.{below_same, from_same, crowd_sum, ordered_counted}
 use Rattle.un_slots.proofs.crowd.fits_to.Goals as goal
 

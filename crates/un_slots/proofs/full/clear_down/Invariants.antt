@@ -4,7 +4,7 @@ use Rattle.un_prop.specs.Going.{Stepped}
 use Rattle.un_prop.specs.Places.{each_place}
 use Rattle.un_slots.specs.Crowds.{counted}
 use Rattle.un_slots.specs.Fulls.{clear_between}
-use Rattle.un_slots.specs.Slots.{places_of}
+use Rattle.un_isa.specs.PacketCounts.{places_of}
 use Rattle.un_slots.proofs.full.clear_down.Given as goal
 
 abbrev pub invariant-loop-m : goal.invariant-loop-m

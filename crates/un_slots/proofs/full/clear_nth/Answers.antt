@@ -1,6 +1,6 @@
 use Rattle.std.proofs.Common.{subst}
 use Rattle.un_prop.specs.Going.{Stepped}
-use Rattle.un_slots.specs.declared.item.Resource.{Resource}
+use Rattle.un_isa.specs.declared.packet_counts.Resource.{Resource}
 use Rattle.un_slots.specs.Crowds.{counted}
 use Rattle.un_slots.specs.Fulls.{clear_of}
 use Rattle.un_slots.proofs.full.clear_nth.Goals as goal

@@ -2,7 +2,7 @@
 use Rattle.std.proofs.Common.{ℕ, ◌≡◌, false}
 use Rattle.un_domains.specs.Sets.{set_at}
 use Rattle.un_prop.specs.Somewhere.{any_before}
-use Rattle.un_slots.specs.declared.item.Resource.{Resource}
+use Rattle.un_isa.specs.declared.packet_counts.Resource.{Resource}
 use Rattle.un_slots.specs.Loads.{fits_beside}
 use Rattle.un_slots.specs.Amounts.{IsLoad}
 use Rattle.un_slots.proofs.issue.fits_left.Given as goal

@@ -1,6 +1,6 @@
 -- what is taken so far, and by the items before the next that is settled here
 use Rattle.std.proofs.Common.{◌≡◌, ◌≤◌, ◌+◌, ◌-◌, ◌^◌, take, min}
-use Rattle.un_slots.specs.declared.item.Resource.{Resource}
+use Rattle.un_isa.specs.declared.packet_counts.Resource.{Resource}
 use Rattle.un_slots.specs.Loads.{load}
 use Rattle.un_slots.specs.Amounts.{amount}
 use Rattle.un_slots.specs.Listings.{last_settled, listable}

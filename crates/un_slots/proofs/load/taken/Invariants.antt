@@ -1,6 +1,6 @@
 -- what those before take, and the rest
 use Rattle.std.proofs.Common.{◌≡◌, ◌+◌, ◌-◌, ◌^◌, drop, min}
-use Rattle.un_slots.specs.declared.item.Resource.{Resource}
+use Rattle.un_isa.specs.declared.packet_counts.Resource.{Resource}
 use Rattle.un_slots.specs.Slots.{taken}
 use Rattle.un_slots.specs.Amounts.{amount}
 use Rattle.un_slots.proofs.load.taken.Given as goal
