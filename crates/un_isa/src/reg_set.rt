@@ -11,7 +11,7 @@ use std::marker::Model;
 use un_base::memory_error::NoMemory;
 
 /// A set of registers below 64, of which contracts see who is in it.
-#[derive(Clone, Copy, PartialEq, Eq)]
+#[derive(Clone, Copy, PartialEq)]
 pub struct RegSet {
     mask: u64,
 }
