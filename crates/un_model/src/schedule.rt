@@ -7,7 +7,7 @@ use un_lists::items::Items;
 
 /// What the instructions of a packet share: its places for instructions, for loads and stores, for stores, for
 /// multiplications, shifts, predicate moves and control transfers, and for control transfers.
-#[derive(Clone, Copy)]
+#[derive(Clone, Copy, PartialEq, Eq)]
 pub enum Resource {
     Instructions,
     Memory,
