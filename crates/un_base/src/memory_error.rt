@@ -3,7 +3,7 @@
 use std::alloc::AllocError;
 
 /// There was no memory for what a call needed.
-#[derive(Clone, Copy, Debug, PartialEq, Eq)]
+#[derive(Clone, Copy, Debug, PartialEq)]
 pub struct NoMemory;
 
 impl From<AllocError> for NoMemory {

@@ -9,7 +9,7 @@ use std::marker::Model;
 
 /// A name of 1 to 32 bytes without its sigil: a letter or `_`, then letters, digits, `_` and `.`. Contracts see it as
 /// the list of its bytes, and it is copied without memory.
-#[derive(Clone, Copy, Debug, Hash, PartialEq, Eq)]
+#[derive(Clone, Copy, Hash, PartialEq, Eq)]
 pub struct Name {
     bytes: [u8; 32],
     len: usize,

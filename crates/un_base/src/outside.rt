@@ -7,7 +7,7 @@ ghost use Rattle.std.specs.Io.KnownBytes.{ReadConsumes, WriteAppends};
 ghost use Rattle.un_base.specs.Causes.{HasCause, HasWriteCause};
 
 /// The outside has failed. Its count of faults says so too.
-#[derive(Clone, Copy, Debug, PartialEq, Eq)]
+#[derive(Clone, Copy, PartialEq)]
 pub struct Failed;
 
 /// Where bytes come from. Contracts see the bytes that are left, where it tells them, a count of faults that never

@@ -4,7 +4,7 @@ ghost use Rattle.std.specs.Prelude.{◌≡◌};
 ghost use Rattle.un_base.specs.Statuses.{number_of};
 
 /// Why a report is not accepted.
-#[derive(Clone, Copy, PartialEq, Eq)]
+#[derive(Clone, Copy, PartialEq)]
 pub enum NoCause {
     /// The report is on a function of another name.
     Name,
@@ -29,7 +29,7 @@ pub enum NoCause {
 }
 
 /// How a run of the program ended.
-#[derive(Clone, Copy, PartialEq, Eq)]
+#[derive(Clone, Copy, PartialEq)]
 pub enum Status {
     /// The output was written whole.
     Done,

@@ -9,7 +9,7 @@ use crate::outside::{Failed, Sink, Source};
 use std::alloc::{AllocError, Global};
 
 /// Why not all bytes of a source were read.
-#[derive(Clone, Copy, Debug, PartialEq, Eq)]
+#[derive(Clone, Copy, Debug, PartialEq)]
 pub enum ReadAll {
     /// The source has failed.
     ReadFault,

@@ -7,7 +7,7 @@ ghost use Rattle.un_domains.specs.Bits.{bit, inside, members, IsTight};
 use crate::scan::{last_set, next_set, test};
 
 /// The first place of a set, and the place after its last. They are one where the set is empty.
-#[derive(Clone, Copy, PartialEq, Eq)]
+#[derive(Clone, Copy)]
 pub struct Bounds {
     pub lo: usize,
     pub end: usize,

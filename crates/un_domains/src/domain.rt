@@ -3,7 +3,7 @@
 use un_lists::items::Items;
 
 /// The values that a variable may have: those from `lo` to `hi`, or a rising list of them.
-#[derive(Debug, PartialEq, Eq, Drop)]
+#[derive(Drop)]
 pub enum Domain {
     Range { lo: u32, hi: u32 },
     Set(Items<u32>),

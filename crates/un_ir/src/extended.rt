@@ -12,13 +12,13 @@ use un_isa::table::Table;
 use un_lists::items::Items;
 
 /// The names that are live at the start of each block, those of a block in the order of their first appearance.
-#[derive(PartialEq, Eq, Drop)]
+#[derive(Drop)]
 pub struct LiveSets {
     pub at_start: Items<Items<NameId>>,
 }
 
 /// Which copy of a value or of an operand: the first or second of the value, the first or second of the operand.
-#[derive(Clone, Copy, PartialEq, Eq)]
+#[derive(Clone, Copy, PartialEq)]
 pub enum NodeCopy {
     D,
     D2,
@@ -28,7 +28,7 @@ pub enum NodeCopy {
 
 /// What an operation of an extended block is: the values at its start, those at its end, an operation or terminator of the
 /// source, an optional copy, and the optional operations that move the stack pointer.
-#[derive(PartialEq, Eq, Drop)]
+#[derive(Drop)]
 pub enum ExtKind {
     In,
     Out,
@@ -57,7 +57,7 @@ impl Clone for ExtKind {
 }
 
 /// An operand: the temporaries that it may choose, in order, and the register to which it is preassigned.
-#[derive(PartialEq, Eq, Drop)]
+#[derive(Drop)]
 pub struct Operand {
     pub alts: Items<TempId>,
     pub home: Option<Reg>,
@@ -76,7 +76,7 @@ impl Clone for Operand {
 }
 
 /// An operation of an extended block, with the temporaries that it defines.
-#[derive(PartialEq, Eq, Drop)]
+#[derive(Drop)]
 pub struct ExtOp {
     pub kind: ExtKind,
     pub operands: Items<Operand>,
@@ -100,7 +100,7 @@ impl Clone for ExtOp {
 
 /// An extended block. `live_in` are the names of the first values of `In`, `live_out` those that `Out` reads before the
 /// saved values; no cycle of the block is past `horizon`.
-#[derive(PartialEq, Eq, Drop)]
+#[derive(Drop)]
 pub struct ExtBlock {
     pub freq: u32,
     pub label: Name,
@@ -129,7 +129,7 @@ impl Clone for ExtBlock {
 }
 
 /// An extended function with its table. `names` has the kind of each name of the function, by its number.
-#[derive(PartialEq, Eq, Drop)]
+#[derive(Drop)]
 pub struct Ext {
     pub table: Table,
     pub names: Items<Kind>,
@@ -154,7 +154,7 @@ impl Clone for Ext {
 pub type LssaBlock = ExtBlock;
 
 /// A linear function with its table. `names` has the kind of each name of the function, by its number.
-#[derive(PartialEq, Eq, Drop)]
+#[derive(Drop)]
 pub struct Lssa {
     pub table: Table,
     pub names: Items<Kind>,

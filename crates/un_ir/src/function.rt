@@ -34,7 +34,7 @@ pub enum Kind {
 
 /// An operation: `dst` is the name that it assigns, `srcs` are the names that it reads, in the order of the text, `imm`
 /// is its literal or 0, `callee` is the function that a Call calls.
-#[derive(PartialEq, Eq, Drop)]
+#[derive(Drop)]
 pub struct SrcOp {
     pub op: Op,
     pub dst: Option<NameId>,
@@ -59,7 +59,7 @@ impl Clone for SrcOp {
 }
 
 /// How a block ends: it falls through to the next, jumps, jumps where a predicate has the value `sense`, or returns.
-#[derive(Clone, Copy, PartialEq, Eq)]
+#[derive(Clone, Copy, PartialEq)]
 pub enum Term {
     Fall,
     Jump(BlockId),
@@ -72,7 +72,7 @@ pub enum Term {
 }
 
 /// A block: how often it runs for each run of the function, its operations and its terminator.
-#[derive(PartialEq, Eq, Drop)]
+#[derive(Drop)]
 pub struct Block {
     pub label: Name,
     pub freq: u32,
@@ -88,7 +88,7 @@ pub struct Block {
 /// each operation reads and assigns names of its kinds, and its literal is in range; each terminator leads to a block of
 /// the function and never to the entry, so the last block jumps or returns; all returns give a value or none does; and
 /// only parameters are live at the start of the entry.
-#[derive(PartialEq, Eq, Drop)]
+#[derive(Drop)]
 pub struct Function {
     pub name: Name,
     pub params: Items<NameId>,

@@ -9,7 +9,7 @@ use crate::op::Op;
 use crate::reg::Space;
 
 /// The classes of instructions. Nop has none.
-#[derive(Clone, Copy, Debug, PartialEq, Eq)]
+#[derive(Clone, Copy, PartialEq)]
 pub enum Class {
     Alu32,
     Xtype,
@@ -20,7 +20,7 @@ pub enum Class {
 }
 
 /// The ranges of literals.
-#[derive(Clone, Copy, Debug, PartialEq, Eq)]
+#[derive(Clone, Copy, PartialEq)]
 pub enum Range {
     /// -32768 to 32767.
     Signed16,

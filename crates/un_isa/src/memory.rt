@@ -8,7 +8,7 @@ use std::marker::Model;
 use un_lists::items::Items;
 
 /// Words under rising addresses, each a multiple of 4. Contracts see the list of (address, word).
-#[derive(Debug, PartialEq, Eq, Drop)]
+#[derive(PartialEq, Drop)]
 pub struct Memory {
     words: Items<(u32, u32)>,
 }

@@ -1,7 +1,7 @@
 //! Operations.
 
 /// An operation of the source or an instruction of the processor. `docs/DEFINITIONS.md` lists what each does.
-#[derive(Clone, Copy, Debug, PartialEq, Eq)]
+#[derive(Clone, Copy, PartialEq)]
 pub enum Op {
     Imm,
     Mov,

@@ -6,7 +6,7 @@ use un_base::name::Name;
 use un_lists::items::Items;
 
 /// A call as its callee saw it: its name, its arguments and the memory at that moment.
-#[derive(Debug, PartialEq, Eq, Drop)]
+#[derive(PartialEq, Drop)]
 pub struct CallRecord {
     pub name: Name,
     pub args: Items<u32>,
@@ -14,7 +14,7 @@ pub struct CallRecord {
 }
 
 /// How a run ended.
-#[derive(Debug, PartialEq, Eq, Drop)]
+#[derive(PartialEq, Drop)]
 pub enum End {
     /// The function returned: with a result where it has one, and for packets to the address `target`.
     Returned {
@@ -33,7 +33,7 @@ pub enum End {
 }
 
 /// How a run ended, with the memory and the calls up to then, and for packets the cycle counter.
-#[derive(Debug, PartialEq, Eq, Drop)]
+#[derive(PartialEq, Drop)]
 pub struct Outcome {
     pub end: End,
     pub memory: Memory,

@@ -19,7 +19,7 @@ pub fn is_in_mask(mask: u64, r: u32) -> bool
 }
 
 /// A set of registers below 64, of which contracts see who is in it.
-#[derive(Clone, Copy, PartialEq, Eq)]
+#[derive(Clone, Copy, PartialEq)]
 pub struct RegSet {
     mask: u64,
 }

@@ -10,7 +10,7 @@ use un_lists::items::Items;
 
 /// What a called function did: its result, the words of memory that it changed, by rising addresses, and what it left in
 /// the registers that a call clobbers.
-#[derive(Debug, Drop)]
+#[derive(Drop)]
 pub struct Reply {
     pub result: u32,
     pub changed: Items<(u32, u32)>,
@@ -34,7 +34,7 @@ impl Clone for Reply {
 
 /// Registers and memory at the start, and the replies of the calls in order. Predicates are 0 or 1. Each reply changes
 /// only addresses of the memory, and leaves junk only in clobbered registers other than r0.
-#[derive(Debug, Drop)]
+#[derive(Drop)]
 pub struct Start {
     pub regs: [u32; REGISTERS as usize],
     pub memory: Memory,

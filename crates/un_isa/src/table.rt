@@ -8,7 +8,7 @@ ghost use Rattle.un_isa.specs.Fit.{IsFit};
 use crate::op::Op;
 
 /// How many of each resource of a packet an instruction takes.
-#[derive(Clone, Copy, Debug, PartialEq, Eq)]
+#[derive(Clone, Copy)]
 pub struct Needs {
     /// Of the two places for loads and stores together.
     pub mem: u8,
@@ -21,7 +21,7 @@ pub struct Needs {
 }
 
 /// Latencies, resources and the calling convention. Bit i of a mask stands for register i.
-#[derive(Clone, Copy, Debug, PartialEq, Eq)]
+#[derive(Clone, Copy)]
 pub struct Table {
     /// The latency of each operation, in cycles, by its number.
     pub lat: [u8; 34],

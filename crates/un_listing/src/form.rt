@@ -7,7 +7,7 @@ use un_isa::op::Op;
 
 /// How an instruction is printed, as the Hexagon V4 Programmer's Reference Manual writes it. `rD` is its register, `rA`
 /// and `rB` are its operands, `n` is its number and `L` its label.
-#[derive(Clone, Copy, Debug, PartialEq, Eq)]
+#[derive(Clone, Copy)]
 pub enum Form {
     /// `rD = #n`
     Literal,

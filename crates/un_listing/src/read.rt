@@ -17,7 +17,7 @@ use un_packet::code::{Code, CodeBlock, Packet};
 use un_words::pieces::first_len;
 
 /// Why there is no code: there was no memory, or a line is bad, counted from 1.
-#[derive(Clone, Copy, PartialEq, Eq)]
+#[derive(Clone, Copy)]
 pub enum ListingError {
     NoMemory,
     BadListing { line: u32 },

@@ -10,7 +10,7 @@ use std::marker::Model;
 use std::slice;
 
 /// A list that keeps up to six items without an allocation, which contracts see as the list of its items.
-#[derive(Debug, Drop)]
+#[derive(Drop)]
 pub struct Few<T> {
     items: SmallVec<T, 6, Global>,
 }

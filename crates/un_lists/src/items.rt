@@ -10,7 +10,7 @@ use std::marker::Model;
 use std::slice;
 
 /// A list over a `Vec`, which contracts see as the list of its items.
-#[derive(Debug, Drop)]
+#[derive(Drop)]
 pub struct Items<T> {
     items: Vec<T>,
 }

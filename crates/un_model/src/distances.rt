@@ -13,14 +13,14 @@ use un_base::memory_error::NoMemory;
 use un_isa::op::Op;
 
 /// Which operations are kept apart: accesses to memory, or uses of the frame.
-#[derive(Clone, Copy, PartialEq, Eq)]
+#[derive(Clone, Copy)]
 pub enum Rule {
     Memory,
     Frame,
 }
 
 /// From which cycles of a block on a further Load, Store, Call, Spill or Reload, and Leave may issue.
-#[derive(Clone, Copy, PartialEq, Eq)]
+#[derive(Clone, Copy)]
 pub struct Bounds {
     pub load: u64,
     pub store: u64,

@@ -12,14 +12,14 @@ use un_lists::items::Items;
 pub const ASSIGNABLE: u32 = STACK;
 
 /// Which registers may be assigned, r0 to r(n − 1) or all of r0 to r28 and r31, and how many frame slots there are.
-#[derive(Clone, Copy, PartialEq, Eq)]
+#[derive(Clone, Copy)]
 pub struct Options {
     pub regs: Option<u32>,
     pub slots: u32,
 }
 
 /// A temporary: its definer, the value that it carries and the variable of its register.
-#[derive(Clone, Copy, Default, PartialEq, Eq)]
+#[derive(Clone, Copy)]
 pub struct TempVars {
     pub op: OpId,
     pub value: TempId,
@@ -28,7 +28,7 @@ pub struct TempVars {
 
 /// The variables of an operation: its instruction where it is optional, its cycle, and the choice of each operand. The operand
 /// of a copy d has one alternative and no choice.
-#[derive(PartialEq, Eq, Drop)]
+#[derive(Drop)]
 pub struct OpVars {
     pub instr: Option<VarId>,
     pub cycle: Option<VarId>,
@@ -36,14 +36,14 @@ pub struct OpVars {
 }
 
 /// The variables of a block: those of each operation, and its end.
-#[derive(PartialEq, Eq, Drop)]
+#[derive(Drop)]
 pub struct BlockVars {
     pub ops: Items<OpVars>,
     pub end: VarId,
 }
 
 /// A precedence between two operations of a block that every solution issues: `to` issues at least `gap` cycles after `from`.
-#[derive(Clone, Copy, Default, PartialEq, Eq)]
+#[derive(Clone, Copy)]
 pub struct Arc {
     pub from: OpId,
     pub to: OpId,
@@ -52,7 +52,7 @@ pub struct Arc {
 
 /// The variables of an extended function under some options, and the arcs of each block. OpIds and TempIds are numbered over
 /// the whole function.
-#[derive(PartialEq, Eq, Drop)]
+#[derive(Drop)]
 pub struct Model {
     pub ext: Ext,
     pub options: Options,
@@ -74,7 +74,7 @@ impl Model {
 }
 
 /// A value for each variable, in the order of the model.
-#[derive(PartialEq, Eq, Drop)]
+#[derive(Drop)]
 pub struct Solution {
     pub values: Items<u32>,
 }

@@ -6,7 +6,7 @@ use un_isa::reg::Reg;
 use un_lists::items::Items;
 
 /// An operation as a solution issues it.
-#[derive(Clone, Copy, PartialEq, Eq)]
+#[derive(Clone, Copy)]
 pub struct Issue {
     pub block: BlockId,
     pub op: OpId,
@@ -23,7 +23,7 @@ pub struct Issue {
 }
 
 /// An operand of an active operation, with the temporary that it chooses.
-#[derive(Clone, Copy, PartialEq, Eq)]
+#[derive(Clone, Copy)]
 pub struct Read {
     pub block: BlockId,
     /// The operation that reads.
@@ -40,7 +40,7 @@ pub struct Read {
 }
 
 /// The live range of a temporary: its register, which it occupies from cycle `from` to cycle `last`, both inclusive.
-#[derive(Clone, Copy, PartialEq, Eq)]
+#[derive(Clone, Copy)]
 pub struct LiveRange {
     pub block: BlockId,
     /// The operation that defines the temporary.
@@ -55,7 +55,7 @@ pub struct LiveRange {
 
 /// A solution as a schedule: an issue for each operation and a live range for each temporary, by their numbers, and a read for
 /// each operand of each active operation, in their order.
-#[derive(PartialEq, Eq, Drop)]
+#[derive(Drop)]
 pub struct Schedule {
     pub issues: Items<Issue>,
     pub reads: Items<Read>,

@@ -1,13 +1,13 @@
 //! What is found of each clause of a solution.
 
 /// A clause of a solution that is broken, by its number from 1 to 10.
-#[derive(Clone, Copy, PartialEq, Eq)]
+#[derive(Clone, Copy)]
 pub struct Broken {
     pub clause: u8,
 }
 
 /// Whether each clause of a solution is kept.
-#[derive(Clone, Copy, PartialEq, Eq)]
+#[derive(Clone, Copy)]
 pub struct Verdict {
     /// 1: each value is in its domain, and there are as many as variables.
     pub domains: bool,

@@ -16,13 +16,13 @@ pub const BLOCKS: u32 = 0x1000_0000;
 pub const ARGUMENTS: u32 = 6;
 
 /// Instructions that issue in one cycle: all read the state before it, and write together at its end.
-#[derive(PartialEq, Eq, Drop)]
+#[derive(Drop)]
 pub struct Packet {
     pub instrs: Items<Instr>,
 }
 
 /// The packets under a label.
-#[derive(PartialEq, Eq, Drop)]
+#[derive(Drop)]
 pub struct CodeBlock {
     pub label: Name,
     pub packets: Items<Packet>,
@@ -35,7 +35,7 @@ pub struct CodeBlock {
 /// last packet, and the last block ends by a jump or a return; a packet has an instruction, keeps the counts of a packet, has
 /// a `nop` only alone and one writer of each register; and each instruction has operands, a result, a literal and a label as
 /// its operation asks, where only Enter and Leave write the stack pointer.
-#[derive(PartialEq, Eq, Drop)]
+#[derive(Drop)]
 pub struct Code {
     pub frame: u32,
     pub blocks: Items<CodeBlock>,

@@ -50,7 +50,7 @@ impl Model for Machine {
 }
 
 /// What a step came to: the next packet of the block, another block, or the end of the run.
-#[derive(PartialEq, Eq, Drop)]
+#[derive(Drop)]
 pub enum Stepped {
     Went,
     Left(BlockId),

@@ -17,7 +17,7 @@ use un_domains::window::Window;
 
 /// What a pruning did: it took no value away, it took some and left some of each variable, or it found that no
 /// assignment of the store holds, and left some variable without a value.
-#[derive(Clone, Copy, PartialEq, Eq)]
+#[derive(Clone, Copy, PartialEq)]
 pub enum Pruned {
     Same,
     Tighter,

@@ -11,7 +11,7 @@ use crate::propagator::{Propagator, Pruned, Scratch};
 use un_domains::store::Store;
 
 /// How rounds ended: at a store that no propagator changes, or at a propagator that failed.
-#[derive(Clone, Copy, PartialEq, Eq)]
+#[derive(Clone, Copy, PartialEq)]
 pub enum Fix {
     Stable,
     Failed,
