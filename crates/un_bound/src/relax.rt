@@ -16,7 +16,7 @@ use un_model::model::Model;
 use un_prop::propagator::Scratch;
 
 /// What the relaxation has: no member, or members of which the cheapest costs so much.
-#[derive(Clone, Copy, Debug, PartialEq, Eq)]
+#[derive(Clone, Copy, PartialEq)]
 pub enum RelaxAnswer {
     Empty,
     Least(u64),

@@ -1,8 +1,8 @@
 //! Operations with their copies.
 
-ghost use Rattle.std.specs.Prelude.{◌≡◌, ◌++◌, map, replicate, length, IfOk, OnOk, unwrap_or, slice_get};
+ghost use Rattle.std.specs.Prelude.{◌≡◌, ◌++◌, map, replicate, IfOk, OnOk, unwrap_or, slice_get};
 ghost use Rattle.un_ir.specs.Extended.{is_return};
-ghost use Rattle.un_ir.specs.ExtendOf.{with_leave, with_enter, with_results, with_extended, with_all_extended, with_values, sorts_of, sort_of_name};
+ghost use Rattle.un_ir.specs.ExtendOf.{with_leave, with_enter, with_results, with_extended, with_all_extended, sorts_of, sort_of_name};
 ghost use Rattle.un_ir.specs.WellFormed.{result_kind};
 
 use crate::copies::{push_frame_op, push_temps};
@@ -170,23 +170,6 @@ fn sorts_of(
     }
 }
 
-/// Adds the values that an operation defines, of which the first has temporary `first`, each with its copies.
-fn push_defined(
-    alloc: Global,
-    g: &mut Growth,
-    names: &[Kind],
-    live_in: &[NameId],
-    saved: bool,
-    op: &ExtOp,
-    first: u32,
-) -> Result<(), NoMemory>
-    ensures { OnOk result (g.new ≡ with_values first
-        (sorts_of names.now live_in.now saved op.now.kind (length op.now.results)) g.old) }
-{
-    let sorts = sorts_of(alloc, names, live_in, saved, &op.kind, op.results.len())?;
-    push_values(alloc, g, first, sorts.as_slice())
-}
-
 /// Adds an operation with its copies: those of its operands, itself, those of its results.
 fn push_extended(
     alloc: Global,
@@ -199,12 +182,13 @@ fn push_extended(
 ) -> Result<(), NoMemory>
     ensures { OnOk result (g.new ≡ with_extended names.now live_in.now is_entry saved op.now g.old) }
 {
-    let count = number_of(op.results.len())?;
     push_leave(alloc, g, &op.kind)?;
     let operands = push_operands(alloc, g, op.operands.as_slice())?;
     let first = g.next;
-    push_op(alloc, g, &op.kind, operands, count)?;
-    push_defined(alloc, g, names, live_in, saved, op, first)?;
+    let count = op.results.len();
+    push_op(alloc, g, &op.kind, operands, number_of(count)?)?;
+    let sorts = sorts_of(alloc, names, live_in, saved, &op.kind, count)?;
+    push_values(alloc, g, first, sorts.as_slice())?;
     push_enter(alloc, g, is_entry, &op.kind)
 }
 

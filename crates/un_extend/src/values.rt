@@ -1,11 +1,11 @@
 //! Values with their copies, and operands that read them.
 
-ghost use Rattle.std.specs.Prelude.{◌≡◌, ◌++◌, [], ◌∷◌, ◌<◌, map, length, slice_get, IfSome, IfOk, OnOk};
+ghost use Rattle.std.specs.Prelude.{◌≡◌, ◌++◌, [], ◌∷◌, ◌<◌, map, length, slice_get, IfOk, OnOk};
 ghost use Rattle.std.specs.List.{range_with_len};
 ghost use Rattle.un_ir.specs.Extended.{temp};
 ghost use Rattle.un_ir.specs.Linear.{first_of};
 ghost use Rattle.un_ir.specs.ExtendOf.{with_value, with_values, with_operand, chosen_from, with_operand_by, alternatives, with_operands};
-ghost use Rattle.un_ir.specs.ExtendOf.{new_operands, copy_count, value_of, new_temps};
+ghost use Rattle.un_ir.specs.ExtendOf.{new_operands, copy_count};
 
 use crate::copies::{copy_count, push_copies, push_temps};
 use std::alloc::Global;
@@ -25,22 +25,14 @@ fn own_temps(alloc: Global, n: u32, sort: Sort, next: u32) -> Result<Items<TempI
     Ok(own)
 }
 
-/// The value of this sort with temporary `n`, whose copies are the next temporaries.
-fn new_value(alloc: Global, g: &Growth, n: u32, sort: Sort) -> Result<Value, NoMemory>
-    ensures { IfOk result (λ v. v ≡ value_of n sort g.now) }
-{
-    let own = own_temps(alloc, n, sort, g.next)?;
-    let all = own.clone()?;
-    Ok(Value { own, all, sort })
-}
-
 /// Adds a value with temporary `n`, with its copies.
 fn push_value(alloc: Global, g: &mut Growth, n: u32, sort: Sort) -> Result<(), NoMemory>
     ensures { OnOk result (g.new ≡ with_value n sort g.old) }
 {
-    let v = new_value(alloc, g, n, sort)?;
+    let own = own_temps(alloc, n, sort, g.next)?;
+    let all = own.clone()?;
     push_copies(alloc, g, NodeCopy::D, NodeCopy::D2, sort, &[TempId(n)])?;
-    g.values.push(v)?;
+    g.values.push(Value { own, all, sort })?;
     Ok(())
 }
 
@@ -80,18 +72,6 @@ fn all_temps(alloc: Global, v: &Value, next: u32) -> Result<Items<TempId>, NoMem
     Ok(all)
 }
 
-/// The value behind the copies of an operand that reads it, which are the next temporaries.
-fn read_once(alloc: Global, g: &Growth, x: usize) -> Result<Value, NoMemory>
-    requires { x < length g.now.values }
-    ensures { IfOk result (λ v. IfSome (slice_get g.now.values x)
-        (λ w. v ≡ record w { all = w.all ++ new_temps g.now (copy_count w.sort) })) }
-{
-    let v = g.values.get(x);
-    let own = v.own.clone()?;
-    let all = all_temps(alloc, v, g.next)?;
-    Ok(Value { own, all, sort: v.sort })
-}
-
 /// Adds the copies of an operand that reads this value, which has number `x`, and answers all its alternatives.
 fn read_value(alloc: Global, g: &mut Growth, x: usize) -> Result<Items<TempId>, NoMemory>
     requires { x < length g.old.values }
@@ -99,10 +79,13 @@ fn read_value(alloc: Global, g: &mut Growth, x: usize) -> Result<Items<TempId>, 
     ensures alternatives { IfOk result (λ alts. alts ≡ alternatives
         (slice_get (let grown = with_operand_by x (slice_get g.old.values x) g.old in grown.values) x)) }
 {
-    let v = read_once(alloc, g, x)?;
-    let alts = v.all.clone()?;
-    push_copies(alloc, g, NodeCopy::U, NodeCopy::U2, v.sort, v.own.as_slice())?;
-    g.values.set(x, v);
+    let v = g.values.get(x);
+    let sort = v.sort;
+    let own = v.own.clone()?;
+    let all = all_temps(alloc, v, g.next)?;
+    let alts = all.clone()?;
+    push_copies(alloc, g, NodeCopy::U, NodeCopy::U2, sort, own.as_slice())?;
+    g.values.set(x, Value { own, all, sort });
     Ok(alts)
 }
 

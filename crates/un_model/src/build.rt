@@ -291,33 +291,6 @@ fn add_scoped(
     Ok(vars)
 }
 
-/// The variables of all blocks, of a function whose calls preserve these registers.
-fn add_each(
-    alloc: Global,
-    domains: &mut Items<Domain>,
-    temps: &mut Items<TempVars>,
-    e: &Ext,
-    o: &Options,
-    saved: &Items<u32>,
-) -> Result<Items<BlockVars>, NoMemory>
-    requires saved { saved.now ≡ saved_registers e.now.table }
-    requires slots { o.now.slots ≤ SLOTS }
-    ensures domains { OnOk result
-        (domains.new ≡ domains.old ++ blocks_domains e.now o.now own_horizon true e.now.blocks) }
-    ensures temps { OnOk result (temps.new ≡ temps.old ++ blocks_temps 0 (length domains.old) e.now.blocks) }
-    ensures vars { IfOk result (λ vars. vars ≡ blocks_vars (length domains.old) e.now.blocks) }
-{
-    let mut vars = Items::new(alloc);
-    let mut n = 0;
-    for k in 0..e.blocks.len() {
-        let block = e.blocks.get(k);
-        let v = add_scoped(alloc, domains, temps, e, o, saved, k == 0, block, n)?;
-        vars.push(v)?;
-        n = advance(n, block.ops.len())?;
-    }
-    Ok(vars)
-}
-
 /// The variables of all blocks.
 fn add_blocks(
     alloc: Global,
@@ -333,7 +306,14 @@ fn add_blocks(
     ensures vars { IfOk result (λ vars. vars ≡ blocks_vars (length domains.old) e.now.blocks) }
 {
     let saved = saved(alloc, &e.table)?;
-    let vars = add_each(alloc, domains, temps, e, o, &saved)?;
+    let mut vars = Items::new(alloc);
+    let mut n = 0;
+    for k in 0..e.blocks.len() {
+        let block = e.blocks.get(k);
+        let v = add_scoped(alloc, domains, temps, e, o, &saved, k == 0, block, n)?;
+        vars.push(v)?;
+        n = advance(n, block.ops.len())?;
+    }
     Ok(vars)
 }
 

@@ -85,40 +85,24 @@ fn push_broken(list: &mut Vec<Broken>, clause: u8, kept: bool) -> Result<(), NoM
     Ok(())
 }
 
-/// The clauses of a schedule's form that a verdict says are not kept, after those so far.
-fn push_forms(list: &mut Vec<Broken>, v: Verdict) -> Result<(), NoMemory>
-    ensures { OnOk result (map (λ b. b.clause) list.new.items ≡ map (λ b. b.clause) list.old.items ++
-        (broken 2 v.zeros ++ broken 3 v.choices ++ broken 4 v.spaces ++ broken 5 v.latencies)) }
-{
-    push_broken(list, 2, v.zeros)?;
-    push_broken(list, 3, v.choices)?;
-    push_broken(list, 4, v.spaces)?;
-    push_broken(list, 5, v.latencies)
-}
-
-/// All clauses but the first that a verdict says are not kept, after those so far.
-fn push_others(list: &mut Vec<Broken>, v: Verdict) -> Result<(), NoMemory>
-    ensures { OnOk result
-        (map (λ b. b.clause) list.new.items ≡ map (λ b. b.clause) list.old.items ++ broken_after v) }
-{
-    push_forms(list, v)?;
-    push_broken(list, 6, v.memory)?;
-    push_broken(list, 7, v.registers)?;
-    push_broken(list, 8, v.packets)?;
-    push_broken(list, 9, v.homes)?;
-    push_broken(list, 10, v.frame)
-}
-
 /// The clauses that a verdict says are not kept.
 fn listed(alloc: Global, v: Verdict) -> Result<Vec<Broken>, NoMemory>
     ensures { IfOk result (λ list. map (λ b. b.clause) list.items ≡ broken_clauses v) }
 {
     let mut list = Vec::new(alloc);
-    if v.domains {
-        push_others(&mut list, v)?;
-    } else {
+    if !v.domains {
         push_broken(&mut list, 1, false)?;
+        return Ok(list);
     }
+    push_broken(&mut list, 2, v.zeros)?;
+    push_broken(&mut list, 3, v.choices)?;
+    push_broken(&mut list, 4, v.spaces)?;
+    push_broken(&mut list, 5, v.latencies)?;
+    push_broken(&mut list, 6, v.memory)?;
+    push_broken(&mut list, 7, v.registers)?;
+    push_broken(&mut list, 8, v.packets)?;
+    push_broken(&mut list, 9, v.homes)?;
+    push_broken(&mut list, 10, v.frame)?;
     Ok(list)
 }
 

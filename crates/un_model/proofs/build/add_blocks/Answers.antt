@@ -1,6 +1,6 @@
 use Rattle.std.proofs.Common.{length, nat_eq}
 use Rattle.un_model.proofs.Numbering.{blocks_domains_more, blocks_temps_more, blocks_vars_more, block_longer}
-use Rattle.un_model.proofs.build.add_each.Goals as goal
+use Rattle.un_model.proofs.build.add_blocks.Goals as goal
 
 pub loop-k-preserved : goal.loop-k-preserved
 loop-k-preserved c =

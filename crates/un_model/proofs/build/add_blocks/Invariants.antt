@@ -1,6 +1,6 @@
 use Rattle.std.proofs.Common.{◌≡◌, ◌++◌, drop, length, nat_eq, true}
 use Rattle.un_model.specs.Variables.{blocks_domains, own_horizon, blocks_temps, blocks_vars}
-use Rattle.un_model.proofs.build.add_each.Given as goal
+use Rattle.un_model.proofs.build.add_blocks.Given as goal
 
 abbrev pub invariant-loop-k : goal.invariant-loop-k
 invariant-loop-k l = record {
