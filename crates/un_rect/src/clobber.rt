@@ -246,6 +246,9 @@ fn keep_cycle(w: &mut Window<'_>, before: Pruned, mask: u64, a: &Temp, c: &Clobb
     }
     let start = greatest_time(w, a.at);
     let end = least_end(w, a);
+    if end <= u64::from(start) {
+        return before;
+    }
     keep_passing(&Outside { start, end }, w, before, c.at)
 }
 
