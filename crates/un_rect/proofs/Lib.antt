@@ -5,3 +5,4 @@ pub mod Loops
 pub mod OrderSteps
 pub mod Refusals
 pub mod Rows
+pub mod Survivors

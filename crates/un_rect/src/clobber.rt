@@ -240,6 +240,9 @@ fn keep_cycle(w: &mut Window<'_>, before: Pruned, mask: u64, a: &Temp, c: &Clobb
     }
     let start = greatest_time(w, a.at);
     let end = least_end(w, a);
+    if end <= u64::from(start) {
+        return before;
+    }
     keep_passing(&Outside { start, end }, w, before, c.at)
 }
 
@@ -331,6 +334,47 @@ fn keep_call(w: &mut Window<'_>, before: Pruned, mask: u64, a: &Temp, c: &Clobbe
     keep_readers(w, third, mask, a, c)
 }
 
+/// The same. Where some register is left outside the mask, a call takes registers alone, and leaves one that is outside.
+fn keep_one(
+    w: &mut Window<'_>,
+    before: Pruned,
+    mask: u64,
+    a: &Temp,
+    c: &ClobberCall,
+    survives: bool,
+) -> Pruned
+    requires of_temp { TempVars w.old.vars.now a.now }
+    requires of_call { CallVars w.old.vars.now c.now }
+    requires known { HasVars w.old.vars.now w.old.store.now.sets }
+    requires live { before ≢ Failed → NoneEmpty w.old.store.now.sets }
+    requires survives { before ≢ Failed → survives ≡ true → may_survive mask a.now w.old.store.now.sets ≡ true }
+    ensures step { Stepped w.old.vars.now (call_steps mask a.now c.now) w.old.store.now w.new.store.now before result }
+    ensures survives { result ≢ Failed → survives ≡ true → may_survive mask a.now w.new.store.now.sets ≡ true }
+    ensures same_reference { w.new.store.ghost_name ≡ w.old.store.ghost_name }
+    ensures vars { w.new.vars ≡ w.old.vars }
+{
+    if !survives {
+        return keep_call(w, before, mask, a, c);
+    }
+    if before == Pruned::Failed {
+        return before;
+    }
+    let did = keep_register(w, Pruned::Same, mask, a, c);
+    joined(before, did)
+}
+
+/// Whether some register is left outside the mask; not after a failure.
+fn survives(w: &Window<'_>, before: Pruned, mask: u64, a: &Temp) -> bool
+    requires there { a.now.reg.0 < length w.now.store.now.sets }
+    requires live { before ≢ Failed → NoneEmpty w.now.store.now.sets }
+    ensures { result ≡ true → may_survive mask a.now w.now.store.now.sets ≡ true }
+{
+    if before == Pruned::Failed {
+        return false;
+    }
+    may_survive(w, mask, a)
+}
+
 /// All that is known of a temporary and each call.
 fn keep_calls(
     w: &mut Window<'_>,
@@ -347,9 +391,10 @@ fn keep_calls(
     ensures same_reference { w.new.store.ghost_name ≡ w.old.store.ghost_name }
     ensures vars { w.new.vars ≡ w.old.vars }
 {
+    let survives = survives(w, before, mask, a);
     let mut did = before;
     for c in calls {
-        did = keep_call(w, did, mask, a, c);
+        did = keep_one(w, did, mask, a, c, survives);
     }
     did
 }

@@ -1,7 +1,7 @@
 -- Laws of counts of crowds.
 use Rattle.std.proofs.Common.{ℕ, zero, suc, ◌≡◌, ◌≢◌, ◌<◌, ◌≤◌, ◌+◌, ◌-◌, ◌*◌, ◌^◌, ◌⊎◌, ◌∙◌, Bool, true, false, not, ◌&&◌, ◌||◌}
 use Rattle.std.proofs.Common.{if◌then◌else◌, List, [], ◌∷◌, length, get_or, take, sum_by, min, nat_eq, nat_le, nat_lt, refl, sym, ap}
-use Rattle.std.proofs.Common.{subst, arith, inl, inr}
+use Rattle.std.proofs.Common.{slice_index, subst, arith, inl, inr}
 use Rattle.std.specs.List.{list_any, AllByRecursion}
 use Rattle.std.proofs.lemmas.Bool.{cases_lt}
 use Rattle.std.proofs.lemmas.Bool.Decides.{nat_tests}
@@ -22,7 +22,9 @@ use Rattle.un_slots.specs.Slots.{ItemVars, SlotVars}
 use Rattle.un_isa.specs.PacketCounts.{places_of}
 use Rattle.un_slots.specs.SlotLaws.{map_each, sum_alike}
 use Rattle.un_slots.specs.Crowds.{surely_takes, lies_in, crowded, crowd, crowd_fits, all_below, starts, sum_from, ends_fit, counted}
+use Rattle.un_slots.specs.Crowds.{AreCounts, ends_at, is_roomy}
 use Rattle.un_slots.specs.CrowdLaws.{below_each, each_below, le_true, true_le, sum_plus, sum_none, places_more, take_each}
+use Rattle.un_slots.specs.CrowdLaws.{places_some}
 
 -- Numbers
 
@@ -63,6 +65,10 @@ not_below p n k lt off = by (all_below p n) refl
 pub below_same : (p q : ℕ → Bool) (n : ℕ) → ((k : ℕ) → k < n → p k ≡ q k) → all_below p n ≡ all_below q n
 below_same p q n h = same_test (all_below p n) (all_below q n)
     (λ e. each_below q n (λ k lt. sym (h k lt) ∙ below_each p n e k lt)) (λ e. each_below p n (λ k lt. h k lt ∙ below_each q n e k lt))
+
+pub none_any : {A : Type 0} (p : A → Bool) (xs : List A) → AllByRecursion (λ a. p a ≡ false) xs → list_any p xs ≡ false
+none_any p [] h = refl
+none_any p (x ∷ xs) h = ap (λ (b : Bool). b || list_any p xs) h.0 ∙ none_any p xs h.1
 
 pub more_false : (a b : ℕ) → b < a → nat_le a b ≡ false
 more_false a b lt = grind (arith, nat_tests, lt)
@@ -142,7 +148,7 @@ always_each P h [] = tt
 always_each P h (x ∷ xs) = (h x, always_each P h xs)
 
 module _ (r : Resource) (s : Sets) (xs : List Item) where
-  crowd_step : (low high : ℕ) → crowd r xs low high s ≡ sum_by (starts r high s low) xs + crowd r xs (suc low) high s
+  pub crowd_step : (low high : ℕ) → crowd r xs low high s ≡ sum_by (starts r high s low) xs + crowd r xs (suc low) high s
   crowd_step low high = sum_alike (crowded r low high s) (λ i. starts r high s low i + crowded r (suc low) high s i) xs
       (always_each (λ i. crowded r low high s i ≡ starts r high s low i + crowded r (suc low) high s i)
       (λ i. pick (surely_takes r s i) (nat_le (greatest (set_at s i.at.0)) high) low (least (set_at s i.at.0))) xs)
@@ -150,7 +156,7 @@ module _ (r : Resource) (s : Sets) (xs : List Item) where
 
   -- no cycle is after the last
   module _ (ordered : AllByRecursion (λ (i : Item). least (set_at s i.at.0) ≤ greatest (set_at s i.at.0)) xs) where
-    crowd_none : (low high : ℕ) → high < low → crowd r xs low high s ≡ 0
+    pub crowd_none : (low high : ℕ) → high < low → crowd r xs low high s ≡ 0
     crowd_none low high lt = sum_alike (crowded r low high s) (λ i. 0) xs (map_each (λ (i : Item). least (set_at s i.at.0) ≤ greatest
         (set_at s i.at.0))
         (λ i. crowded r low high s i ≡ 0) one xs ordered) ∙ sum_none xs
@@ -175,17 +181,14 @@ module _ (r : Resource) (s : Sets) (xs : List Item) where
 
     -- Where the intervals up to each item's end have room, all have
 
-    abbrev ends_at : ℕ → Item → Bool
-    ends_at high i = surely_takes r s i && nat_eq (greatest (set_at s i.at.0)) high
-
     found : (high : ℕ) (horizon : ℕ) (ys : List Item) → high < horizon → AllByRecursion (λ (i : Item). ends_fit r xs horizon s i ≡ true) ys
-        → list_any (ends_at high) ys ≡ true → all_below (crowd_fits r xs s high) (high + 1) ≡ true
+        → list_any (ends_at r s high) ys ≡ true → all_below (crowd_fits r xs s high) (high + 1) ≡ true
     found high horizon [] early all some = absurd (cc some)
     found high horizon (y ∷ ys) early all some = by (surely_takes r s y && nat_eq (greatest (set_at s y.at.0)) high) refl some
         (found high horizon ys early all.1)
       where
-        by : (b : Bool) → (surely_takes r s y && nat_eq (greatest (set_at s y.at.0)) high) ≡ b → (b || list_any (ends_at high) ys) ≡ true
-            → (list_any (ends_at high) ys ≡ true → all_below (crowd_fits r xs s high) (high + 1) ≡ true)
+        by : (b : Bool) → (surely_takes r s y && nat_eq (greatest (set_at s y.at.0)) high) ≡ b → (b || list_any (ends_at r s high) ys) ≡ true
+            → (list_any (ends_at r s high) ys ≡ true → all_below (crowd_fits r xs s high) (high + 1) ≡ true)
             → all_below (crowd_fits r xs s high) (high + 1) ≡ true
         by false e rest more = more rest
         by true e rest more =
@@ -197,7 +200,7 @@ module _ (r : Resource) (s : Sets) (xs : List Item) where
             let fit = or_not (nat_lt (greatest (set_at s y.at.0)) horizon) _ (or_not (surely_takes r s y) _ all.0 two.0) less in
             subst (λ (h : ℕ). all_below (crowd_fits r xs s h) (h + 1) ≡ true) is fit
 
-    none_ends : (high : ℕ) (ys : List Item) → list_any (ends_at (suc high)) ys ≡ false → (low : ℕ)
+    none_ends : (high : ℕ) (ys : List Item) → list_any (ends_at r s (suc high)) ys ≡ false → (low : ℕ)
         → sum_by (crowded r low (suc high) s) ys ≤ sum_by (crowded r low high s) ys
     none_ends high [] off low = omega arith
     none_ends high (y ∷ ys) off low = by (surely_takes r s y && nat_eq (greatest (set_at s y.at.0)) (suc high)) refl off
@@ -223,8 +226,8 @@ module _ (r : Resource) (s : Sets) (xs : List Item) where
                 omega (arith, is)
 
         by : (b : Bool) → (surely_takes r s y && nat_eq (greatest (set_at s y.at.0)) (suc high)) ≡ b
-            → (b || list_any (ends_at (suc high)) ys) ≡ false
-            → (list_any (ends_at (suc high)) ys ≡ false → sum_by (crowded r low (suc high) s) ys ≤ sum_by (crowded r low high s) ys)
+            → (b || list_any (ends_at r s (suc high)) ys) ≡ false
+            → (list_any (ends_at r s (suc high)) ys ≡ false → sum_by (crowded r low (suc high) s) ys ≤ sum_by (crowded r low high s) ys)
             → sum_by (crowded r low (suc high) s) (y ∷ ys) ≤ sum_by (crowded r low high s) (y ∷ ys)
         by true e rest more = absurd (cc rest)
         by false e rest more = (
@@ -235,7 +238,7 @@ module _ (r : Resource) (s : Sets) (xs : List Item) where
             omega (arith, a, b, c, d))
 
     -- an item of cycle 0 alone ends there
-    none_first : (ys : List Item) → list_any (ends_at 0) ys ≡ false → sum_by (crowded r 0 0 s) ys ≡ 0
+    none_first : (ys : List Item) → list_any (ends_at r s 0) ys ≡ false → sum_by (crowded r 0 0 s) ys ≡ 0
     none_first [] off = refl
     none_first (y ∷ ys) off = by (surely_takes r s y && nat_eq (greatest (set_at s y.at.0)) 0) refl off (none_first ys)
       where
@@ -253,25 +256,25 @@ module _ (r : Resource) (s : Sets) (xs : List Item) where
                 ≡ true = both (surely_takes r s y) _ two.0 (grind (arith, nat_tests, is)) in
                 absurd (let bad : true ≡ false = sym now ∙ no_end in cc bad)
 
-        by : (b : Bool) → (surely_takes r s y && nat_eq (greatest (set_at s y.at.0)) 0) ≡ b → (b || list_any (ends_at 0) ys) ≡ false
-            → (list_any (ends_at 0) ys ≡ false → sum_by (crowded r 0 0 s) ys ≡ 0) → sum_by (crowded r 0 0 s) (y ∷ ys) ≡ 0
+        by : (b : Bool) → (surely_takes r s y && nat_eq (greatest (set_at s y.at.0)) 0) ≡ b → (b || list_any (ends_at r s 0) ys) ≡ false
+            → (list_any (ends_at r s 0) ys ≡ false → sum_by (crowded r 0 0 s) ys ≡ 0) → sum_by (crowded r 0 0 s) (y ∷ ys) ≡ 0
         by true e rest more = absurd (cc rest)
         by false e rest more = (let a = sum_by-cons (crowded r 0 0 s) y ys in let c = more rest in let d = one e in omega (arith, a, c, d))
 
     pub ends_all : (horizon high : ℕ) → high < horizon → AllByRecursion (λ (i : Item). ends_fit r xs horizon s i ≡ true) xs
         → all_below (crowd_fits r xs s high) (high + 1) ≡ true
-    ends_all horizon zero early all = by (list_any (ends_at 0) xs) refl
+    ends_all horizon zero early all = by (list_any (ends_at r s 0) xs) refl
       where
-        by : (b : Bool) → list_any (ends_at 0) xs ≡ b → all_below (crowd_fits r xs s 0) (0 + 1) ≡ true
+        by : (b : Bool) → list_any (ends_at r s 0) xs ≡ b → all_below (crowd_fits r xs s 0) (0 + 1) ≡ true
         by true e = found 0 horizon xs early all e
         by false e = each_below (crowd_fits r xs s 0) (0 + 1) (λ low lt. le_true (crowd r xs low 0 s) (places_of r * (0 + 1 - low))
             (let first : low ≡ 0 = omega (arith, lt) in
             let same = ap (λ (k : ℕ). crowd r xs k 0 s) first in
             let none = none_first xs e in
             omega (arith, same, none)))
-    ends_all horizon (suc high) early all = by (list_any (ends_at (suc high)) xs) refl (ends_all horizon high (omega (arith, early)) all)
+    ends_all horizon (suc high) early all = by (list_any (ends_at r s (suc high)) xs) refl (ends_all horizon high (omega (arith, early)) all)
       where
-        by : (b : Bool) → list_any (ends_at (suc high)) xs ≡ b → all_below (crowd_fits r xs s high) (high + 1) ≡ true
+        by : (b : Bool) → list_any (ends_at r s (suc high)) xs ≡ b → all_below (crowd_fits r xs s high) (high + 1) ≡ true
             → all_below (crowd_fits r xs s (suc high)) (suc high + 1) ≡ true
         by true e before = found (suc high) horizon xs early all e
         by false e before = each_below (crowd_fits r xs s (suc high)) (suc high + 1)
@@ -290,6 +293,64 @@ module _ (r : Resource) (s : Sets) (xs : List Item) where
                 let fewer = none_ends high xs e low in
                 let none = crowd_none low high (omega (arith, last)) in
                 omega (arith, fewer, none))
+
+    -- Where the intervals that end right before a cycle have room, and no item ends with it, those that end with it have room for one
+    -- more
+
+    pub roomy_next : (high : ℕ) → all_below (λ low. nat_le (crowd r xs low high s + 1) (places_of r * (high + 1 - low))) (high + 1) ≡ true
+        → is_roomy r xs s (suc high) ≡ true
+    roomy_next high h = each_below (crowd_fits r xs s high) (high + 1)
+        (λ low lt. (let le = true_le (crowd r xs low high s + 1) (places_of r * (high + 1 - low))
+        (below_each (λ low. nat_le (crowd r xs low high s + 1) (places_of r * (high + 1 - low))) (high + 1) h low lt) in
+        le_true (crowd r xs low high s) (places_of r * (high + 1 - low)) (omega (arith, le))))
+
+    pub next_roomy : (high : ℕ) → is_roomy r xs s high ≡ true → list_any (ends_at r s high) xs ≡ false
+        → all_below (λ low. nat_le (crowd r xs low high s + 1) (places_of r * (high + 1 - low))) (high + 1) ≡ true
+    next_roomy zero before off = each_below (λ low. nat_le (crowd r xs low 0 s + 1) (places_of r * (0 + 1 - low))) (0 + 1)
+        (λ low lt. le_true (crowd r xs low 0 s + 1) (places_of r * (0 + 1 - low))
+        (let first : low ≡ 0 = omega (arith, lt) in
+        let same = ap (λ (k : ℕ). crowd r xs k 0 s) first in
+        let none = none_first xs off in
+        let some = places_some r (0 + 1 - low) (omega (arith, lt)) in
+        omega (arith, same, none, some)))
+    next_roomy (suc high) before off =
+        each_below (λ low. nat_le (crowd r xs low (suc high) s + 1) (places_of r * (suc high + 1 - low))) (suc high + 1)
+        (λ low lt. le_true (crowd r xs low (suc high) s + 1) (places_of r * (suc high + 1 - low)) (room low lt (cases_lt low (high + 1))))
+      where
+        room : (low : ℕ) → low < suc high + 1 → (low < high + 1) ⊎ (high + 1 ≤ low)
+            → crowd r xs low (suc high) s + 1 ≤ places_of r * (suc high + 1 - low)
+        room low lt (inl less) = (
+            let fewer = none_ends high xs off low in
+            let fit = true_le (crowd r xs low high s) (places_of r * (high + 1 - low)) (below_each (crowd_fits r xs s high)
+            (high + 1) before low less) in
+            let n : suc high + 1 - low ≡ suc (high + 1 - low) = omega (arith, less) in
+            let more = ap (λ (k : ℕ). places_of r * k) n ∙ places_more r (high + 1 - low) in
+            let some = places_some r 1 (omega arith) in
+            omega (arith, fewer, fit, more, some))
+        room low lt (inr last) = (
+            let fewer = none_ends high xs off low in
+            let none = crowd_none low high (omega (arith, last)) in
+            let some = places_some r (suc high + 1 - low) (omega (arith, lt)) in
+            omega (arith, fewer, none, some))
+
+    pub gap_roomy : (from k : ℕ) → is_roomy r xs s from ≡ true
+        → ((c : ℕ) → from ≤ c → c < from + k → list_any (ends_at r s c) xs ≡ false) → is_roomy r xs s (from + k) ≡ true
+    gap_roomy from zero h off = (let same : from ≡ from + 0 = omega arith in subst (λ (n : ℕ). is_roomy r xs s n ≡ true) same h)
+    gap_roomy from (suc k) h off = (
+        let next : suc (from + k) ≡ from + suc k = omega arith in
+        let before = gap_roomy from k h (λ c le lt. off c le (omega (arith, lt))) in
+        let here = next_roomy (from + k) before (off (from + k) (omega arith) (omega arith)) in
+        subst (λ (n : ℕ). is_roomy r xs s n ≡ true) next (roomy_next (from + k) here))
+
+  -- what is counted at a cycle is in the interval that begins with it, and not in the next
+  pub count_next : (low high n : ℕ) (cycles : List ℕ) → AreCounts r xs high s cycles → low ≤ high → n ≡ crowd r xs (low + 1) high s
+      → n + slice_index cycles low ≡ crowd r xs low high s
+  count_next low high n cycles counts le e = (
+      let next : low + 1 ≡ suc low = omega arith in
+      let rest = ap (λ (k : ℕ). crowd r xs k high s) next in
+      let step = crowd_step low high in
+      let here = counts low le in
+      omega (arith, e, rest, step, here))
 
 -- no item's least cycle is after its greatest
 pub ordered_counted : (vs : List VarId) (items : List Item) (s : Sets) → SlotVars vs items → HasVars vs s → NoneEmpty s

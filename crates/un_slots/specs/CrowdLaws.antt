@@ -60,6 +60,13 @@ places_more Stores n = omega arith
 places_more MultiplyOrControl n = omega arith
 places_more Control n = omega arith
 
+pub places_some : (r : Resource) (n : ℕ) → 0 < n → 1 ≤ places_of r * n
+places_some Instructions n lt = omega (arith, lt)
+places_some Memory n lt = omega (arith, lt)
+places_some Stores n lt = omega (arith, lt)
+places_some MultiplyOrControl n lt = omega (arith, lt)
+places_some Control n lt = omega (arith, lt)
+
 -- what an item takes in n cycles from low on
 abbrev pub taken_in : Resource → ℕ → ℕ → List ℕ → Item → ℕ
 taken_in r low zero x i = 0

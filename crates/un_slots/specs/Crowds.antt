@@ -1,6 +1,6 @@
 -- Crowds: where the sure items whose cycles all lie in an interval need more of a resource than its packets have, nothing holds.
-use Rattle.std.specs.Prelude.{ℕ, zero, suc, ◌+◌, ◌-◌, ◌*◌, ◌^◌, Bool, true, not, ◌&&◌, ◌||◌, if◌then◌else◌, List}
-use Rattle.std.specs.Prelude.{take, sum_by, nat_eq, nat_le, nat_lt}
+use Rattle.std.specs.Prelude.{ℕ, zero, suc, ◌≡◌, ◌≤◌, ◌+◌, ◌-◌, ◌*◌, ◌^◌, Bool, true, not, ◌&&◌, ◌||◌, if◌then◌else◌, List}
+use Rattle.std.specs.Prelude.{take, sum_by, nat_eq, nat_le, nat_lt, slice_index}
 use Rattle.std.specs.declared.option.Option.{Option}
 use Rattle.std.specs.List.{list_any, list_all}
 use Rattle.un_base.specs.declared.ids.VarId.{VarId}
@@ -44,6 +44,19 @@ counted items = take (2 ^ 32 - 1) items
 abbrev pub starts : Resource → ℕ → Sets → ℕ → Item → ℕ
 starts r high s c i = if surely_takes r s i && (nat_eq (least (set_at s i.at.0)) c && nat_le (greatest
     (set_at s i.at.0)) high) then 1 else 0
+
+-- the items are counted at their least cycles, up to high
+abbrev pub AreCounts : Resource → List Item → ℕ → Sets → List ℕ → Type 0
+AreCounts r items high s cycles = (c : ℕ) → c ≤ high → slice_index cycles c ≡ sum_by (starts r high s c) items
+
+-- whether an item surely takes some and has this cycle as its last
+abbrev pub ends_at : Resource → Sets → ℕ → Item → Bool
+ends_at r s high i = surely_takes r s i && nat_eq (greatest (set_at s i.at.0)) high
+
+-- all intervals that end right before a cycle have room
+abbrev pub is_roomy : Resource → List Item → Sets → ℕ → Bool
+is_roomy r items s zero = true
+is_roomy r items s (suc high) = all_below (crowd_fits r items s high) (high + 1)
 
 -- the sum of n numbers from low on
 abbrev pub sum_from : (ℕ → ℕ) → ℕ → ℕ → ℕ

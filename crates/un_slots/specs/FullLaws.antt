@@ -11,7 +11,7 @@ use Rattle.un_domains.specs.Sets.{Sets, set_at, has, least, greatest, cut_by, Is
 use Rattle.un_domains.specs.CutLaws.{cut_by_kept}
 use Rattle.un_domains.specs.Cuts.{Contents}
 use Rattle.un_prop.specs.Going.{Stepped}
-use Rattle.un_prop.specs.GoingLaws.{stepped_chain}
+use Rattle.un_prop.specs.GoingLaws.{stepped_chain, stepped_same}
 use Rattle.un_prop.specs.declared.propagator.Pruned.{Pruned}
 use Rattle.un_prop.specs.Rounds.{HasVars}
 use Rattle.un_prop.specs.Lawful.{Agree, Lawful, LawfulTest}
@@ -30,7 +30,8 @@ use Rattle.un_isa.specs.PacketCounts.{places_of}
 use Rattle.un_slots.specs.SlotLaws.{map_each, sum_alike, holds_fits}
 use Rattle.un_slots.specs.Loads.{others}
 use Rattle.un_slots.specs.LoadLaws.{sum_le, sum_others, each_other, one_of}
-use Rattle.un_slots.specs.Crowds.{surely_takes, lies_in, crowded, crowd, counted, all_below}
+use Rattle.un_slots.specs.Crowds.{surely_takes, lies_in, crowded, crowd, counted, all_below, ends_at, is_roomy}
+use Rattle.un_slots.specs.CountLaws.{gap_roomy, next_roomy}
 use Rattle.un_slots.specs.CrowdLaws.{taken_in, taken_all, takes_below, crowded_below, crowded_alike, takes_some, crowded_taken}
 use Rattle.un_slots.specs.CrowdLaws.{each_counted}
 use Rattle.un_slots.specs.Fulls.{outside, leaves_some, full_test, full_cut_of, full_cut, clear_between, clear_to, clear_of, resource_at}
@@ -276,6 +277,16 @@ module _ (vs : List VarId) (xs : List Item) (each : AllByRecursion (ItemVars vs)
       (below_each (λ low. nat_le (crowd r xs low high s + 1) (places_of r * (high + 1 - low))) (high + 1) fit (high - m)
       (omega (arith, lt))))))
 
+  -- no interval is full that ends where no item does, right behind intervals that have room
+  pub gap_idle : (s : Sets) → HasVars vs s → NoneEmpty s
+      → AllByRecursion (λ (i : Item). least (set_at s i.at.0) ≤ greatest (set_at s i.at.0)) xs → (from next : ℕ)
+      → is_roomy r xs s from ≡ true → ((c : ℕ) → from ≤ c → c < next → list_any (ends_at r s c) xs ≡ false)
+      → (c : ℕ) → from ≤ c → c < next → clear_to r xs c s ≡ Some s
+  gap_idle s known live ordered from next room off c le lt = (
+      let at : from + (c - from) ≡ c = omega (arith, le) in
+      let before = gap_roomy r s xs ordered from (c - from) room (λ d more less. off d more (omega (arith, less, at, lt))) in
+      to_idle c s known live (next_roomy r s xs ordered c (subst (λ (n : ℕ). is_roomy r xs s n ≡ true) at before) (off c le lt)))
+
 -- One cycle more
 
 pub room_next : (r : Resource) (m a e : ℕ) → a ≡ places_of r * m → e ≡ places_of r → a + e ≡ places_of r * (m + 1)
@@ -302,3 +313,23 @@ pub next_place : (vs : List VarId) (f : ℕ → Sets → Option Sets) (n : ℕ) 
 next_place vs f n old mid new a b c p q =
     let next : suc n ≡ n + 1 = omega arith in
     subst (λ (k : ℕ). Stepped vs (each_place f k) old new a c) next (stepped_chain vs (each_place f n) (f n) old mid new a b c p q)
+
+-- places at which nothing is to be done
+pub skip_places : (vs : List VarId) (f : ℕ → Sets → Option Sets) (n k : ℕ) (old mid : Contents) (a b : Pruned)
+    → Stepped vs (each_place f n) old mid a b → ((c : ℕ) → n ≤ c → c < n + k → f c mid.sets ≡ Some mid.sets)
+    → Stepped vs (each_place f (n + k)) old mid a b
+skip_places vs f n zero old mid a b p idle = (let same : n ≡ n + 0 = omega arith in
+    subst (λ (m : ℕ). Stepped vs (each_place f m) old mid a b) same p)
+skip_places vs f n (suc k) old mid a b p idle =
+    let next : n + k + 1 ≡ n + suc k = omega arith in
+    let before = skip_places vs f n k old mid a b p (λ c le lt. idle c le (omega (arith, lt))) in
+    let here = stepped_same vs (f (n + k)) mid b (λ live. idle (n + k) (omega arith) (omega arith)) in
+    subst (λ (m : ℕ). Stepped vs (each_place f m) old mid a b) next (next_place vs f (n + k) old mid mid a b b before here)
+
+pub skip_to : (vs : List VarId) (f : ℕ → Sets → Option Sets) (n m : ℕ) (old mid : Contents) (a b : Pruned)
+    → Stepped vs (each_place f n) old mid a b → n ≤ m → ((c : ℕ) → n ≤ c → c < m → f c mid.sets ≡ Some mid.sets)
+    → Stepped vs (each_place f m) old mid a b
+skip_to vs f n m old mid a b p le idle =
+    let at : n + (m - n) ≡ m = omega (arith, le) in
+    subst (λ (k : ℕ). Stepped vs (each_place f k) old mid a b) at
+    (skip_places vs f n (m - n) old mid a b p (λ c more less. idle c more (omega (arith, less, at))))

@@ -12,7 +12,7 @@ ghost use Rattle.un_prop.specs.declared.propagator.Pruned.TheVariants.{Failed};
 ghost use Rattle.un_slots.specs.Slots.{ItemVars, SlotVars, share_at};
 ghost use Rattle.un_isa.specs.PacketCounts.{places_of, share_of};
 ghost use Rattle.un_slots.specs.Crowds.{surely_takes, starts, crowd, crowd_fits, all_below, counted, crowds_fit, crowd_cut};
-ghost use Rattle.un_slots.specs.Crowds.{sum_from, ends_fit};
+ghost use Rattle.un_slots.specs.Crowds.{sum_from, ends_fit, AreCounts};
 
 use crate::item::Item;
 use crate::listing::clear;
@@ -79,8 +79,8 @@ fn count(w: &Window<'_>, r: Resource, item: &Item, high: u32, cycles: &mut [u32]
     requires small { (c : ℕ) → c ≤ high → slice_index cycles.old c < 2 ^ 32 - 1 }
     ensures { (c : ℕ) → c ≤ high → slice_index cycles.new c ≡ slice_index cycles.old c + starts r high w.now.store.now.sets c item.now }
 {
-    if surely_takes(w, r, item) {
-        if w.max(item.at) <= high {
+    if w.max(item.at) <= high {
+        if surely_takes(w, r, item) {
             let c = w.min(item.at) as usize;
             cycles[c] = cycles[c] + 1;
         }
@@ -99,6 +99,19 @@ fn count_all(items: &[Item], w: &Window<'_>, r: Resource, high: u32, cycles: &mu
     for j in 0..items.len().min(0xFFFF_FFFF) {
         count(w, r, &items[j], high, cycles);
     }
+}
+
+/// Counts the items that surely take some of a resource and have no cycle after `high`, at their least cycles.
+pub(crate) fn count_to(items: &[Item], w: &Window<'_>, r: Resource, high: u32, cycles: &mut [u32])
+    requires vars { SlotVars w.now.vars.now items.now }
+    requires known { HasVars w.now.vars.now w.now.store.now.sets }
+    requires live { NoneEmpty w.now.store.now.sets }
+    requires span { high < length cycles.old }
+    requires top { high < 2 ^ 32 - 1 }
+    ensures { AreCounts r (counted items.now) high w.now.store.now.sets cycles.new }
+{
+    clear(cycles, high + 1);
+    count_all(items, w, r, high, cycles);
 }
 
 /// Whether from no cycle to `high` there are more than the packets have, less `spare` in all.
@@ -135,11 +148,11 @@ pub(crate) fn fits_to(
     requires live { NoneEmpty w.now.store.now.sets }
     requires span { high < length cycles.old }
     requires top { high < 2 ^ 32 - 1 }
-    ensures { result ≡ all_below (λ low. nat_le (crowd r (counted items.now) low high w.now.store.now.sets + spare)
+    ensures fits { result ≡ all_below (λ low. nat_le (crowd r (counted items.now) low high w.now.store.now.sets + spare)
         (places_of r * (high + 1 - low))) (high + 1) }
+    ensures counts { AreCounts r (counted items.now) high w.now.store.now.sets cycles.new }
 {
-    clear(cycles, high + 1);
-    count_all(items, w, r, high, cycles);
+    count_to(items, w, r, high, cycles);
     fits_down(cycles, high, places(r), spare)
 }
 

@@ -1,8 +1,9 @@
 //! Full intervals: where the sure items whose cycles all lie in an interval need all of a resource that its packets have, the other
 //! items that surely take some lose its cycles.
 
-ghost use Rattle.std.specs.Prelude.{◌≡◌, ◌≢◌, ◌+◌, ◌-◌, ◌*◌, ◌<◌, ◌≤◌, ◌&&◌, ◌||◌, ◌^◌, ℕ, false, length, min, nat_eq, nat_le, not, true};
-ghost use Rattle.std.specs.List.{slice_get};
+ghost use Rattle.std.specs.Prelude.{◌≡◌, ◌≢◌, ◌+◌, ◌-◌, ◌*◌, ◌<◌, ◌≤◌, ◌&&◌, ◌||◌, ◌^◌, ℕ, Some, false, length, min, nat_eq, nat_le, not};
+ghost use Rattle.std.specs.Prelude.{true};
+ghost use Rattle.std.specs.List.{list_any, slice_get};
 ghost use Rattle.un_domains.specs.Sets.{NoneEmpty, cut_by, greatest, least, set_at};
 ghost use Rattle.un_prop.specs.Among.{among};
 ghost use Rattle.un_prop.specs.Going.{Goes, Stepped};
@@ -12,10 +13,10 @@ ghost use Rattle.un_prop.specs.Rounds.{HasVars};
 ghost use Rattle.un_prop.specs.declared.propagator.Pruned.TheVariants.{Failed};
 ghost use Rattle.un_slots.specs.Slots.{ItemVars, SlotVars};
 ghost use Rattle.un_isa.specs.PacketCounts.{places_of};
-ghost use Rattle.un_slots.specs.Crowds.{counted, crowd, crowded, lies_in, surely_takes};
+ghost use Rattle.un_slots.specs.Crowds.{AreCounts, counted, crowd, crowded, ends_at, is_roomy, lies_in, surely_takes};
 ghost use Rattle.un_slots.specs.Fulls.{clear_between, clear_of, clear_to, full_cut, full_cuts, outside, resource_at};
 
-use crate::crowd::{fits_to, surely_takes};
+use crate::crowd::{count_to, fits_to, surely_takes};
 use crate::item::Item;
 use un_base::ids::VarId;
 use un_domains::window::Window;
@@ -231,28 +232,53 @@ fn clear_between(
     did
 }
 
-/// The items lose the cycles of the full intervals that end with `high`, the shortest first.
-fn clear_down(items: &[Item], w: &mut Window<'_>, before: Pruned, r: Resource, high: u32) -> Pruned
+/// Where an interval is full, the items lose its cycles. `number` items lay in the interval without its first cycle, and lie in it
+/// afterwards.
+fn clear_at(
+    items: &[Item],
+    w: &mut Window<'_>,
+    before: Pruned,
+    r: Resource,
+    low: u32,
+    high: u32,
+    room: u64,
+    number: &mut u32,
+    cycles: &mut [u32],
+) -> Pruned
     requires vars { SlotVars w.old.vars.now items.now }
     requires known { HasVars w.old.vars.now w.old.store.now.sets }
     requires live { before ≢ Failed → NoneEmpty w.old.store.now.sets }
-    ensures step { Stepped w.old.vars.now (clear_to r (counted items.now) high) w.old.store.now w.new.store.now before result }
+    requires room { room ≡ places_of r * (high + 1 - low) }
+    requires small { room < 2 ^ 63 }
+    requires within { low ≤ high }
+    requires span { high < length cycles.old }
+    requires top { high < 2 ^ 32 - 1 }
+    requires counts { before ≢ Failed → AreCounts r (counted items.now) high w.old.store.now.sets cycles.old }
+    requires number { before ≢ Failed → number.old ≡ crowd r (counted items.now) (low + 1) high w.old.store.now.sets }
+    ensures step { Stepped w.old.vars.now (clear_between r (counted items.now) low high) w.old.store.now w.new.store.now before result }
+    ensures counts { result ≢ Failed → AreCounts r (counted items.now) high w.new.store.now.sets cycles.new }
+    ensures number { result ≢ Failed → number.new ≡ crowd r (counted items.now) low high w.new.store.now.sets }
     ensures same_reference { w.new.store.ghost_name ≡ w.old.store.ghost_name }
     ensures vars { w.new.vars ≡ w.old.vars }
 {
-    let each = u64::from(places(r));
-    let top = u64::from(high);
-    let mut did = before;
-    let mut room = 0;
-    for m in 0..top + 1 {
-        room += each;
-        did = clear_between(items, w, did, r, (top - m) as u32, high, room);
+    if before == Pruned::Failed {
+        return before;
     }
+    *number += cycles[low as usize];
+    if u64::from(*number) < room {
+        return before;
+    }
+    let did = clear_between(items, w, before, r, low, high, room);
+    if did == Pruned::Failed {
+        return did;
+    }
+    count_to(items, w, r, high, cycles);
+    *number = count_in(items, w, r, low, high);
     did
 }
 
-/// The same, with a look at all intervals first whether one is full.
-fn clear_to(
+/// The items lose the cycles of the full intervals that end with `high`, the shortest first. They are counted before.
+fn clear_down(
     items: &[Item],
     w: &mut Window<'_>,
     before: Pruned,
@@ -265,21 +291,125 @@ fn clear_to(
     requires live { before ≢ Failed → NoneEmpty w.old.store.now.sets }
     requires span { high < length cycles.old }
     requires top { high < 2 ^ 32 - 1 }
+    requires counts { before ≢ Failed → AreCounts r (counted items.now) high w.old.store.now.sets cycles.old }
     ensures step { Stepped w.old.vars.now (clear_to r (counted items.now) high) w.old.store.now w.new.store.now before result }
     ensures same_reference { w.new.store.ghost_name ≡ w.old.store.ghost_name }
     ensures vars { w.new.vars ≡ w.old.vars }
 {
+    let each = u64::from(places(r));
+    let top = u64::from(high);
+    let mut did = before;
+    let mut room = 0;
+    let mut number = 0;
+    for m in 0..top + 1 {
+        room += each;
+        let low = (top - m) as u32;
+        did = clear_at(items, w, did, r, low, high, room, &mut number, cycles);
+    }
+    did
+}
+
+/// The same, with a look at all intervals first whether one is full; where none is, they are `roomy`.
+fn clear_to(
+    items: &[Item],
+    w: &mut Window<'_>,
+    before: Pruned,
+    r: Resource,
+    high: u32,
+    cycles: &mut [u32],
+    roomy: &mut bool,
+) -> Pruned
+    requires vars { SlotVars w.old.vars.now items.now }
+    requires known { HasVars w.old.vars.now w.old.store.now.sets }
+    requires live { before ≢ Failed → NoneEmpty w.old.store.now.sets }
+    requires span { high < length cycles.old }
+    requires top { high < 2 ^ 32 - 1 }
+    ensures step { Stepped w.old.vars.now (clear_to r (counted items.now) high) w.old.store.now w.new.store.now before result }
+    ensures roomy { roomy.new ≡ true → is_roomy r (counted items.now) w.new.store.now.sets (high + 1) ≡ true }
+    ensures same_reference { w.new.store.ghost_name ≡ w.old.store.ghost_name }
+    ensures vars { w.new.vars ≡ w.old.vars }
+{
+    *roomy = false;
     if before == Pruned::Failed {
         return before;
     }
     if fits_to(items, w, r, high, 1, cycles) {
+        *roomy = true;
         return before;
     }
-    clear_down(items, w, before, r, high)
+    clear_down(items, w, before, r, high, cycles)
 }
 
-/// The items lose the cycles of the full intervals of a resource. A cycle with which no full interval ends costs a pass over the
-/// items and the cycles up to it; a full interval costs a pass over the items, and one more for each item that loses cycles.
+/// The greatest cycle of an item that surely takes some of a resource, where it is from `from` on and before `end`; else `end`.
+fn sooner(w: &Window<'_>, r: Resource, item: &Item, from: u32, end: u32) -> u32
+    requires vars { ItemVars w.now.vars.now item.now }
+    requires known { HasVars w.now.vars.now w.now.store.now.sets }
+    requires live { NoneEmpty w.now.store.now.sets }
+    ensures least { from ≤ end → from ≤ result }
+    ensures most { result ≤ end }
+    ensures none { (c : ℕ) → from ≤ c → c < result → ends_at r w.now.store.now.sets c item.now ≡ false }
+{
+    let last = w.max(item.at);
+    if last < from {
+        return end;
+    }
+    if last >= end {
+        return end;
+    }
+    if surely_takes(w, r, item) {
+        last
+    } else {
+        end
+    }
+}
+
+/// The first cycle from `from` on and before `end` with which an item ends that surely takes some of a resource; else `end`.
+fn next_end(items: &[Item], w: &Window<'_>, r: Resource, from: u32, end: u32) -> u32
+    requires vars { SlotVars w.now.vars.now items.now }
+    requires known { HasVars w.now.vars.now w.now.store.now.sets }
+    requires live { NoneEmpty w.now.store.now.sets }
+    ensures least { from ≤ end → from ≤ result }
+    ensures most { result ≤ end }
+    ensures none { (c : ℕ) → from ≤ c → c < result → list_any (ends_at r w.now.store.now.sets c) (counted items.now) ≡ false }
+{
+    let mut next = end;
+    for j in 0..items.len().min(0xFFFF_FFFF) {
+        next = sooner(w, r, &items[j], from, next);
+    }
+    next
+}
+
+/// The first cycle from `high` on with which a full interval may end, or the horizon. Where the intervals that end right before
+/// `high` are roomy, an item ends there.
+fn next_high(
+    items: &[Item],
+    w: &Window<'_>,
+    before: Pruned,
+    r: Resource,
+    high: u32,
+    horizon: u32,
+    roomy: bool,
+) -> u32
+    requires vars { SlotVars w.now.vars.now items.now }
+    requires known { HasVars w.now.vars.now w.now.store.now.sets }
+    requires live { before ≢ Failed → NoneEmpty w.now.store.now.sets }
+    requires early { high < horizon }
+    requires roomy { roomy ≡ true → is_roomy r (counted items.now) w.now.store.now.sets high ≡ true }
+    ensures least { high ≤ result }
+    ensures most { result ≤ horizon }
+    ensures idle { (c : ℕ) → high ≤ c → c < result → clear_to r (counted items.now) c w.now.store.now.sets ≡ Some w.now.store.now.sets }
+{
+    if before == Pruned::Failed {
+        return high;
+    }
+    if !roomy {
+        return high;
+    }
+    next_end(items, w, r, high, horizon)
+}
+
+/// The items lose the cycles of the full intervals of a resource. A cycle with which an item ends, but no full interval, costs two
+/// passes over the items and one over the cycles up to it; a full interval costs two more, and one for each item that loses cycles.
 fn clear_of(
     items: &[Item],
     horizon: u32,
@@ -297,8 +427,15 @@ fn clear_of(
     ensures vars { w.new.vars ≡ w.old.vars }
 {
     let mut did = before;
-    for high in 0..horizon {
-        did = clear_to(items, w, did, r, high, cycles);
+    let mut roomy = true;
+    let mut high = 0;
+    while high < horizon {
+        let next = next_high(items, w, did, r, high, horizon, roomy);
+        if next >= horizon {
+            return did;
+        }
+        did = clear_to(items, w, did, r, next, cycles, &mut roomy);
+        high = next + 1;
     }
     did
 }

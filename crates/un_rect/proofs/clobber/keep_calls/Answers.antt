@@ -1,23 +1,28 @@
 use Rattle.std.proofs.Common.{List, ◌∙◌, get_or, sym, ap, subst}
 use Rattle.un_base.specs.declared.ids.VarId.{VarId}
+use Rattle.un_prop.specs.AmongLaws.{has_among}
 use Rattle.un_prop.specs.Going.{Stepped}
 use Rattle.un_rect.specs.Clobber.{CallVars, call_steps}
 use Rattle.un_rect.specs.declared.clobber.ClobberCall.{ClobberCall}
 use Rattle.un_rect.proofs.Loops.{stepped_entry}
 use Rattle.un_rect.proofs.clobber.keep_calls.Goals as goal
 
-pub keep_call-did-requires-clause-of_call : goal.keep_call-did-requires-clause-of_call
-keep_call-did-requires-clause-of_call c =
+pub keep_one-did-requires-clause-of_call : goal.keep_one-did-requires-clause-of_call
+keep_one-did-requires-clause-of_call c =
     subst (λ (x : ClobberCall). CallVars c.loop-c.w.vars.now x) (sym c.c-item.is)
     (subst (λ (us : List VarId). CallVars us (get_or c.args.calls.now c.loop-c.c-index c.c-item.result))
     (sym (ap (λ r. r.now) c.loop-c.invariant.vars))
     (c.requires.of_calls c.loop-c.c-index c.c-item.result c.loop-c-test.true))
 
+pub survives-survives-requires-clause-there : goal.survives-survives-requires-clause-there
+survives-survives-requires-clause-there c = has_among c.args.w.now.vars.now c.args.a.now.reg c.args.w.now.store.now.sets
+    c.requires.of_temp.of_reg c.requires.known
+
 pub loop-c-preserved : goal.loop-c-preserved
 loop-c-preserved c =
     let w = c.args.w.now in
     let inv = c.loop-c.invariant in
-    let did = c.keep_call-did in
+    let did = c.keep_one-did in
     let f = call_steps c.args.mask c.args.a.now in
     record {
       step = stepped_entry w.vars.now c.loop-c.w.vars.now f c.args.calls.now c.loop-c.c-index c.c-item.result w.store.now
@@ -25,6 +30,7 @@ loop-c-preserved c =
           c.args.before c.loop-c.did did.result (ap (λ r. r.now) inv.vars) c.loop-c-test.true inv.step
           (subst (λ (x : ClobberCall). Stepped c.loop-c.w.vars.now (f x) c.loop-c.w.store.now did.new.w.store.now c.loop-c.did
           did.result) c.c-item.is did.ensures.step);
+      survives = did.ensures.survives;
       same_reference = did.ensures.same_reference ∙ inv.same_reference;
       vars = did.ensures.vars ∙ inv.vars;
     }

@@ -1,4 +1,6 @@
-use Rattle.std.proofs.Common.{ℕ, ◌∙◌, not, ◌&&◌, nat_le, nat_lt, sym, ap}
+use Rattle.std.proofs.Common.{ℕ, ◌≡◌, ◌≤◌, ◌∙◌, false, not, ◌&&◌, nat_le, nat_lt, sym, ap, arith, inl, inr}
+use Rattle.std.proofs.lemmas.Bool.{cases_lt}
+use Rattle.std.proofs.lemmas.Bool.Decides.{nat_tests}
 use Rattle.un_domains.specs.Sets.{cut_by}
 use Rattle.un_prop.specs.Acts.{act_vars, at_vars}
 use Rattle.un_prop.specs.AmongLaws.{has_among}
@@ -10,6 +12,12 @@ use Rattle.un_rect.specs.Spans.{greatest_start, least_end}
 use Rattle.un_rect.specs.Clobber.{may_survive, cycle_test, cycle_cut}
 use Rattle.un_rect.proofs.Refusals.{no_left, no_right, passes_unmet, refuses_met}
 use Rattle.un_rect.proofs.clobber.keep_cycle.Goals as goal
+
+empty_time : (start end y : ℕ) → end ≤ start → (nat_le start y && nat_lt y end) ≡ false
+empty_time start end y le = elim (cases_lt y end) [
+  | inl less ↦ (let no : nat_le start y ≡ false = grind (arith, nat_tests, le, less) in no_left (nat_le start y) (nat_lt y end) no)
+  | inr more ↦ (let no : nat_lt y end ≡ false = grind (arith, nat_tests, more) in no_right (nat_le start y) (nat_lt y end) no)
+]
 
 pub is_sure-requires : goal.is_sure-requires
 is_sure-requires c = known_of c.args.w.now.vars.now (act_vars c.args.a.now.on) c.args.w.now.store.now.sets c.requires.of_temp.of_on
@@ -44,6 +52,19 @@ returns-then-may_survive-clause-step c =
 pub greatest_time-start-requires-clause-known : goal.greatest_time-start-requires-clause-known
 greatest_time-start-requires-clause-known c = known_of c.args.w.now.vars.now (at_vars c.args.a.now.at) c.args.w.now.store.now.sets
     c.requires.of_temp.of_at c.requires.known
+
+pub returns-then-end-from-clause-step : goal.returns-then-end-from-clause-step
+returns-then-end-from-clause-step c =
+    let w = c.args.w.now in
+    let s = w.store.now in
+    let a = c.args.a.now in
+    let none : least_end a s.sets ≤ greatest_start a s.sets =
+    omega (arith, c.if-end-from.true, c.from.ensures, c.greatest_time-start.ensures, c.least_end-end.ensures) in
+    stepped_same w.vars.now (cycle_cut c.args.mask a c.args.c.now) s c.args.before
+    (λ live. cut_all (cycle_test c.args.mask a s.sets) c.args.c.now.at.0 s.sets
+    (has_among w.vars.now c.args.c.now.at s.sets c.requires.of_call.of_at c.requires.known) live
+    (λ y there. passes_unmet _ (no_left (nat_le (greatest_start a s.sets) y && nat_lt y (least_end a s.sets)) _
+    (empty_time (greatest_start a s.sets) (least_end a s.sets) y none))))
 
 pub returns-clause-step : goal.returns-clause-step
 returns-clause-step c =

@@ -34,8 +34,8 @@ bounds-cycles-c c =
     let le = least_most xs some in
     omega (arith, le, c.min-c.ensures, c.max.ensures, c.if-max-high.true, c.requires.room)
 
-pub bounds-cycles-c-then-max-high : goal.bounds-cycles-c-then-max-high
-bounds-cycles-c-then-max-high c =
+pub bounds-cycles-c-then-surely_takes : goal.bounds-cycles-c-then-surely_takes
+bounds-cycles-c-then-surely_takes c =
     let xs = set_at c.args.w.now.store.now.sets c.args.item.now.at.0 in
     let some = c.requires.live c.args.item.now.at.0 (has_among c.args.w.now.vars.now c.args.item.now.at
     c.args.w.now.store.now.sets c.requires.vars.of_at c.requires.known) in

@@ -32,7 +32,7 @@ returns c =
     let top : high ≡ greatest (set_at s i.at.0) = c.max-high.ensures in
     let early : nat_lt high c.args.horizon ≡ true = (let lt = c.if-high-horizon.false in grind (arith, nat_tests, lt)) in
     let fits : c.fits_to.result ≡ all_below (crowd_fits r xs s high) (high + 1) =
-    c.fits_to.ensures ∙ below_same _ (crowd_fits r xs s high) (high + 1)
+    c.fits_to.ensures.fits ∙ below_same _ (crowd_fits r xs s high) (high + 1)
     (λ low lt. (let none : crowd r xs low high s + 0 ≡ crowd r xs low high s = omega arith in
     ap (λ (m : ℕ). nat_le m (places_of r * (high + 1 - low))) none)) in
     let whole : all_below (crowd_fits r xs s high) (high + 1) ≡ (not (surely_takes r s i) || (not (nat_lt high c.args.horizon)
