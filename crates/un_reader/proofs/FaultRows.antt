@@ -1,5 +1,5 @@
 -- Faults of lines that were worked out by hand: what each rule refuses, and which of two faults of one line is told.
-use Rattle.std.specs.Prelude.{ℕ, ◌≡◌, List, [], ◌∷◌, Option, Some, None, codes}
+use Rattle.std.specs.Prelude.{ℕ, ◌≡◌, List, [], ◌∷◌, Some, None, codes}
 use Rattle.std.proofs.Common.{refl}
 use Rattle.un_reader.specs.declared.fault.Fault.TheVariants.{BadLine, KindClash, TooMany, WideLiteral, BadFreq, DupLabel, NoBlock, AfterEnd}
 use Rattle.un_reader.specs.LineFaults.{fault_at}

@@ -1,10 +1,9 @@
 pub mod BeforeLaws
-pub mod BlockFacts
 pub mod CheckLaws
-pub mod Counts
 pub mod EntryLaws
 pub mod FirstNames
-pub mod Leads
+pub mod Fits
+pub mod TextLines
 pub mod LineTests
 pub mod NameEq
 pub mod OneAnswer
@@ -13,7 +12,7 @@ pub mod PartLaws
 pub mod Ranges
 pub mod ReadLaws
 pub mod RepeatLaws
-pub mod Stands
-pub mod Targets
+pub mod Rules
 pub mod WellFormed
+pub mod Whole
 mod FaultRows

@@ -1,5 +1,5 @@
--- Literals in their ranges, from the tests on the numbers as they are written.
-use Rattle.std.proofs.Common.{◌≡◌, ℕ, pos, negsuc, zero, suc, ◌-◌, ◌%◌, ◌^◌, ◌<◌, ◌≤◌, ◌≤ℤ◌, ◌==◌, Bool, true, false, min, if◌then◌else◌}
+-- Literals are in their ranges exactly where the tests on the numbers as they are written say so.
+use Rattle.std.proofs.Common.{◌≡◌, ℕ, pos, negsuc, zero, suc, ◌-◌, ◌%◌, ◌^◌, ◌<◌, ◌≤◌, ◌≤ℤ◌, ◌==◌, ◌&&◌, Bool, true, false, min, if◌then◌else◌}
 use Rattle.std.proofs.Common.{refl, ap, arith}
 use Rattle.std.specs.Int.{int_rem_euclid}
 use Rattle.std.proofs.lemmas.Int.{ints}
@@ -94,3 +94,59 @@ by_parts FrameOffset v k h =
 -- a literal that fits is in its range
 pub in_range : (range : Range) (n : Number) → fits_range range n ≡ true → InRange range (literal_value n)
 in_range range n h = by_parts range n.negative n.size h
+
+-- ---- and back
+
+negated_most : (limit k : ℕ) → negsuc limit ≤ℤ negated k → k ≤ suc limit
+negated_most limit zero h = omega arith
+negated_most limit (suc k) h = omega (arith, ints)
+
+signed_back : (limit : ℕ) (v : Bool) (k : ℕ) → suc limit < 2147483647 → negsuc limit ≤ℤ literal_value (number v k)
+    → literal_value (number v k) ≤ℤ pos limit → fits_signed (suc limit) (number v k) ≡ true
+signed_back limit true k room low high =
+    let most = negated_most limit (min k (2 ^ 31 - 1)) low in let few : k ≤ suc limit = omega arith in grind (arith, nat_tests)
+signed_back limit false k room low high =
+    let most : min k (2 ^ 31 - 1) ≤ limit = omega (arith, ints) in let few : k < suc limit = omega arith in grind (arith, nat_tests)
+
+none_below : (k : ℕ) → pos 0 ≤ℤ negated k → k ≡ 0
+none_below zero h = refl
+none_below (suc k) h = absurd (omega (arith, ints))
+
+unsigned_back : (limit : ℕ) (v : Bool) (k : ℕ) → suc limit < 2147483647 → pos 0 ≤ℤ literal_value (number v k)
+    → literal_value (number v k) ≤ℤ pos limit → fits_unsigned (suc limit) (number v k) ≡ true
+unsigned_back limit true k room low high =
+    let none = none_below (min k (2 ^ 31 - 1)) low in let zero_size : k ≡ 0 = omega arith in rw zero_size (grind (arith, nat_tests))
+unsigned_back limit false k room low high =
+    let most : min k (2 ^ 31 - 1) ≤ limit = omega (arith, ints) in let few : k < suc limit = omega arith in grind (arith, nat_tests)
+
+words_back : (v : Bool) (k : ℕ) → k < 2147483648 → int_rem_euclid (literal_value (number v k)) (pos 4) ≡ pos 0 → (k % 4 == 0) ≡ true
+words_back true zero room h = refl
+words_back true (suc k) room h =
+    let e = rw (small true (suc k) room) at h in
+    let none : 3 - k % 4 ≡ 0 = cc in
+    let four : suc k % 4 ≡ 0 = omega arith in
+    grind (arith, nat_tests)
+words_back false k room h =
+    let e : min k (2 ^ 31 - 1) ≡ k = omega arith in
+    let kept : min k (2 ^ 31 - 1) % 4 ≡ 0 = cc in
+    let four : k % 4 ≡ 0 = rw e at kept in
+    grind (arith, nat_tests)
+
+pub range_fits : (range : Range) (n : Number) → InRange range (literal_value n) → fits_range range n ≡ true
+range_fits range n h = by range n.negative n.size h
+  where
+    both : (a b : Bool) → a ≡ true → b ≡ true → (a && b) ≡ true
+    both a b e f = rw (e, f) refl
+
+    by : (range : Range) (v : Bool) (k : ℕ) → InRange range (literal_value (number v k)) → fits_range range (number v k) ≡ true
+    by Signed16 v k (low, high) = signed_back 32767 v k (omega arith) low high
+    by Signed10 v k (low, high) = signed_back 511 v k (omega arith) low high
+    by Unsigned5 v k (low, high) = unsigned_back 31 v k (omega arith) low high
+    by Offset v k (low, high, four) =
+        let fits = signed_back 4095 v k (omega arith) low (omega (arith, ints)) in
+        let most = at_most 4096 v k fits in
+        both _ _ fits (words_back v k (omega arith) four)
+    by FrameOffset v k (low, high, four) =
+        let fits = unsigned_back 4095 v k (omega arith) low (omega (arith, ints)) in
+        let most = below_unsigned 4096 v k fits in
+        both _ _ fits (words_back v k (omega arith) four)

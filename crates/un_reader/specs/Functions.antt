@@ -1,14 +1,14 @@
 -- The function that lines are.
 use Rattle.std.specs.Prelude.{ℕ, zero, suc, ℤ, pos, negsuc, ◌≡◌, ◌-◌, ◌^◌, min, List, [], ◌∷◌, Option, Some, None, map, unwrap_or}
 use Rattle.std.specs.Prelude.{if◌then◌else◌}
-use Rattle.std.specs.List.{position_or_len, cons_option}
+use Rattle.std.specs.List.{position_or_len}
 use Rattle.std.specs.Option.{option_map}
 use Rattle.std.specs.Str.{bytes_eq}
 use Rattle.un_reader.specs.Vocabulary.{NameId, BlockId, SrcOp, Term, Fall, JumpTo, BranchTo, Return, SourceBlock, Number, OpLine, TermLine}
-use Rattle.un_reader.specs.Vocabulary.{Jump, Branch, Ret, Line, Func, Block, Operation, Spelled}
+use Rattle.un_reader.specs.Vocabulary.{Jump, Branch, Ret, Line, Func, Spelled}
 use Rattle.un_ir.specs.declared.function.Function.{Function}
 use Rattle.un_reader.specs.Before.{same_name, names_of, labels_of, name_of}
-use Rattle.un_reader.specs.TextFaults.{term_of}
+use Rattle.un_reader.specs.Groups.{Group, grouped}
 
 -- the number of a name is its place among the names
 abbrev pub name_id : List Spelled → Spelled → NameId
@@ -43,25 +43,11 @@ term_by names labels (Some (Jump to)) = JumpTo (block_id labels to)
 term_by names labels (Some (Branch pred sense to)) = BranchTo (name_id names pred) sense (block_id labels to)
 term_by names labels (Some (Ret value)) = Return (option_map (name_id names) value)
 
-abbrev pub op_or : List Spelled → Line → List SrcOp → List SrcOp
-op_or names (Operation o) later = op_of names o ∷ later
-op_or names (Block label freq) later = []
-op_or names _ later = later
-
--- the operations of a block, by the lines behind its block line
-abbrev pub ops_of : List Spelled → List Line → List SrcOp
-ops_of names [] = []
-ops_of names (line ∷ lines) = op_or names line (ops_of names lines)
-
--- the block that a block line begins, by the lines behind it
-abbrev pub block_on : List Spelled → List (List ℕ) → Line → List Line → Option SourceBlock
-block_on names labels (Block label freq) rest =
-    Some (record { label = label; freq = freq.size; ops = ops_of names rest; term = term_by names labels (term_of rest) })
-block_on names labels _ rest = None
+abbrev pub block_of : List Spelled → List (List ℕ) → Group → SourceBlock
+block_of names labels g = record { label = g.label; freq = g.freq.size; ops = map (op_of names) g.ops; term = term_by names labels g.term }
 
 abbrev pub blocks_of : List Spelled → List (List ℕ) → List Line → List SourceBlock
-blocks_of names labels [] = []
-blocks_of names labels (line ∷ lines) = cons_option (block_on names labels line lines) (blocks_of names labels lines)
+blocks_of names labels lines = map (block_of names labels) (grouped lines)
 
 abbrev pub params_or : Line → List Spelled → List Spelled
 params_or (Func name params) later = params

@@ -3,6 +3,7 @@ pub mod Codes
 pub mod Entry
 pub mod Errors
 pub mod Functions
+pub mod Groups
 pub mod LineFaults
 pub mod Lines
 pub mod Named

@@ -7,22 +7,13 @@ use Rattle.un_reader.specs.Vocabulary.{TermLine, Jump, Branch, Ret, Line, Block,
 use Rattle.un_reader.specs.declared.fault.Fault.{Fault}
 use Rattle.un_reader.specs.declared.fault.Fault.TheVariants.{NoBlock, FallsOff, UnknownLabel, JumpToEntry, MixedResult}
 use Rattle.un_reader.specs.Before.{labels_of}
+use Rattle.un_reader.specs.Groups.{term_of}
 
 -- ---- blocks
 
 abbrev pub is_block : Line → Bool
 is_block (Block label freq) = true
 is_block _ = false
-
-abbrev pub term_or : Line → Option TermLine → Option TermLine
-term_or (Terminator term) later = Some term
-term_or (Block label freq) later = None
-term_or _ later = later
-
--- the terminator of a block, by the lines behind its block line
-abbrev pub term_of : List Line → Option TermLine
-term_of [] = None
-term_of (line ∷ lines) = term_or line (term_of lines)
 
 abbrev pub later_block : Option ℕ → ℕ × Line → Option ℕ
 later_block last p = if is_block p.1 then Some p.0 else last

@@ -5,8 +5,8 @@ ghost use Rattle.std.specs.Option.{option_map};
 ghost use Rattle.std.specs.List.{position_or_len};
 ghost use Rattle.std.specs.Str.{bytes_eq};
 ghost use Rattle.un_reader.specs.Before.{same_name, names_of, labels_of, name_of};
-ghost use Rattle.un_reader.specs.TextFaults.{term_of};
-ghost use Rattle.un_reader.specs.Functions.{name_id, block_id, literal_value, op_of, term_by, ops_of, blocks_of, params_of, ArePartsOf};
+ghost use Rattle.un_reader.specs.Groups.{ops_of, term_of};
+ghost use Rattle.un_reader.specs.Functions.{name_id, block_id, literal_value, op_of, term_by, blocks_of, params_of, ArePartsOf};
 
 use crate::draft::Draft;
 use crate::names::Names;
@@ -112,13 +112,14 @@ fn source_op(alloc: Global, names: &Names, o: &OpLine) -> Result<SrcOp, NoMemory
 /// The operations of a block, by the lines behind its block line.
 fn source_ops(alloc: Global, names: &Names, lines: &[Line]) -> Result<Items<SrcOp>, NoMemory>
     requires { length names.now < 2 ^ 32 }
-    ensures { IfOk result (λ ops. ops ≡ ops_of names.now lines.now) }
+    ensures { IfOk result (λ ops. ops ≡ map (op_of names.now) (ops_of lines.now)) }
 {
     let mut ops = Items::new(alloc);
     for line in lines {
         match line {
             Line::Operation(o) => ops.push(source_op(alloc, names, o)?)?,
             Line::Block { .. } => return Ok(ops),
+            Line::Terminator(_) => return Ok(ops),
             _ => {}
         }
     }
@@ -157,7 +158,7 @@ fn source_block(
     ensures { IfOk result (λ block. block ≡ record {
       label = label;
       freq = freq;
-      ops = ops_of names.now lines.now;
+      ops = map (op_of names.now) (ops_of lines.now);
       term =
           term_by names.now labels.now (term_of lines.now);
     }) }

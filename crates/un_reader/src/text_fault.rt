@@ -4,7 +4,8 @@ ghost use Rattle.std.specs.Prelude.{◌≡◌, ◌+◌, ◌<◌, ◌^◌, ◌≤
 ghost use Rattle.std.specs.List.{list_any, position};
 ghost use Rattle.std.specs.Str.{bytes_eq};
 ghost use Rattle.un_reader.specs.Before.{labels_of};
-ghost use Rattle.un_reader.specs.TextFaults.{is_block, term_of, last_block, ends_well, falls_off, target_of, target_on, jumps_outside};
+ghost use Rattle.un_reader.specs.Groups.{term_of};
+ghost use Rattle.un_reader.specs.TextFaults.{is_block, last_block, ends_well, falls_off, target_of, target_on, jumps_outside};
 ghost use Rattle.un_reader.specs.TextFaults.{is_entry, jumps_to_entry, value_on_term, value_on, first_value, returns_else, mixed_return};
 ghost use Rattle.un_reader.specs.TextFaults.{shape_fault};
 

@@ -3,7 +3,7 @@ use Rattle.std.proofs.Common.{◌≡◌, ℕ, ℤ, ◌≤◌, ◌++◌, true, Li
 use Rattle.std.proofs.Common.{if◌then◌else◌, refl, sym, ap, ◌∙◌, arith}
 use Rattle.std.proofs.lemmas.List.{length-map}
 use Rattle.std.proofs.lemmas.List.Elements.{All-head, All-tail}
-use Rattle.un_reader.specs.Vocabulary.{NameId, SrcOp, Number, Token, OpLine, Operation, Spelled}
+use Rattle.un_reader.specs.Vocabulary.{NameId, Kind, SrcOp, Number, Token, OpLine, Operation, Spelled}
 use Rattle.un_base.specs.Names.{is_name}
 use Rattle.un_isa.specs.declared.op.Op.{Op}
 use Rattle.un_isa.specs.declared.op.Op.TheVariants.{Imm, Call}
@@ -16,25 +16,21 @@ use Rattle.un_ir.specs.Text.{Names, op_line, name_text, literal_text, with_liter
 use Rattle.un_ir.specs.WellFormed.{IsName, IsOfKind, kind_in, takes_arguments, AreRead, IsAssigned, IsCallee, IsGoodOp}
 use Rattle.un_words.specs.declared.token.Token.TheVariants.{Named, Literal, Word}
 use Rattle.un_words.specs.declared.slot.Head.TheVariants.{Bare}
-use Rattle.un_words.specs.Tokens.{tokens_of}
 use Rattle.un_words.specs.Shapes.{word_at, names_at, literal_at, have_forms, op_named, head_word, slots_by, result_by, is_call_list}
-use Rattle.un_words.specs.Shapes.{shape_of}
 use Rattle.un_reread.specs.Printed.{spelled_at, as_number, op_as_line}
-use Rattle.un_reread.proofs.WordsOf.{AllSay}
+use Rattle.un_reread.proofs.WordsOf.{AllSay, IsLine}
 use Rattle.un_reread.proofs.NamesAt.{AreNames, name_at_says}
 use Rattle.un_reread.proofs.NumberWords.{literal_says}
 use Rattle.un_reread.proofs.Literals.{small_abs}
-use Rattle.un_reread.proofs.NameKinds.{same_count}
-use Rattle.un_reread.proofs.Neat.{IsNeat}
 use Rattle.un_reread.proofs.OpTokens.{joined, callee_tokens, IsOfSomeKind}
-use Rattle.un_reread.proofs.OpShapes.{HasWord, Fits, IsRead, fits_read}
+use Rattle.un_reread.proofs.OpShapes.{HasWord, Fits, fits_read}
 use Rattle.un_reread.proofs.OpForms.{says_literal, slots_fit, are_list, names_joined, literal_joined, names_there, no_literal}
 use Rattle.un_reread.proofs.OpForms.{literal_there, length_literal}
 
 -- ---- the operation's word
 
 has_word : (op : Op) → is_source op ≡ true → HasWord op
-has_word op text = record { name = name op text; bare = bare op; own = own op text; brief = brief op }
+has_word op text = record { name = name op text; bare = bare op; own = own op text }
   where
     name : (op : Op) → is_source op ≡ true → is_name (source_name op) ≡ true
     name Imm h = cc
@@ -48,10 +44,6 @@ has_word op text = record { name = name op text; bare = bare op; own = own op te
     own Imm h = cc
     own _ h = cc
 
-    brief : (op : Op) → length (source_name op) ≤ 6
-    brief Imm = omega arith
-    brief _ = omega arith
-
 -- ---- what an operation reads and assigns
 
 -- there is room for the operands and a literal; a call has no literal
@@ -64,6 +56,12 @@ has_room Call = refl
 has_room _ = omega arith
 
 module _ (names : Names) where
+  same_count : (spaces : List Space) (srcs : List NameId) → map (kind_of names) srcs ≡ map Some (map kind_in spaces)
+      → length srcs ≡ length spaces
+  same_count spaces srcs h =
+      sym (length-map srcs (kind_of names)) ∙ ap length h ∙ length-map (map kind_in spaces) (λ (k : Kind). Some k)
+      ∙ length-map spaces kind_in
+
   abbrev AllSpelled : List NameId → Type 0
   AllSpelled [] = Unit {0}
   AllSpelled (name ∷ srcs) = IsOfSomeKind names name × AllSpelled srcs
@@ -92,7 +90,7 @@ module _ (names : Names) where
       → length (with_literal literal (Literal n) (map Named (map (spelled_at names) srcs))) ≤ 6
   few_tokens (Fixed spaces) literal srcs n room h =
       let most = length_literal literal (Literal n) (map Named (map (spelled_at names) srcs)) in
-      let count = same_count names spaces srcs h in
+      let count = same_count spaces srcs h in
       let same = length-map (map (spelled_at names) srcs) Named ∙ length-map srcs (spelled_at names) in
       omega (arith, most, count, same, room)
   few_tokens Arguments literal srcs n room h =
@@ -188,13 +186,6 @@ module _ (names : Names) (o : SrcOp) (all : AreNames names) (good : IsGoodOp nam
       ns : List Spelled
       ns = map (spelled_at names) o.srcs
 
-  op_told : IsRead names o
-  op_told = fits_read names o (tokens names o) all (op_fits)
-
-  -- the line of an operation is read as the operation
-  pub op_read : shape_of (tokens_of (op_line names o)) ≡ Some (Operation (op_as_line names o))
-  op_read = (op_told).told
-
-  -- and is neat
-  pub op_line_neat : IsNeat 300 (op_line names o)
-  op_line_neat = (op_told).neat
+  -- the line of an operation is neat, and is read as the operation
+  pub op_read : IsLine (op_line names o) (Operation (op_as_line names o))
+  op_read = fits_read names o (tokens names o) all op_fits

@@ -1,147 +1,185 @@
--- The blocks that the lines of a function are, are its blocks.
-use Rattle.std.proofs.Common.{◌≡◌, ℕ, ◌++◌, List, [], ◌∷◌, Option, Some, None, map, length, refl, ap, ◌∙◌, append_assoc}
-use Rattle.std.specs.List.{All, flat_map}
+-- The parts that the lines of a function give are its parts.
+use Rattle.std.proofs.Common.{◌≡◌, ◌≢◌, ℕ, zero, suc, ◌+◌, ◌<◌, ◌++◌, List, [], ◌∷◌, Option, Some, None, map, length, get_or, slice_get, refl, sym, ap, ◌∙◌}
+use Rattle.std.proofs.Common.{arith, subst}
+use Rattle.std.specs.List.{AllByRecursion as Each, flat_map, position_or_len}
 use Rattle.std.specs.Option.{option_map, option_to_list}
-use Rattle.std.proofs.lemmas.List.Elements.{All-head, All-tail}
-use Rattle.un_reader.specs.Vocabulary.{NameId, SrcOp, Term, Fall, JumpTo, BranchTo, Return, SourceBlock, Line}
+use Rattle.std.specs.Str.{bytes_eq}
+use Rattle.std.proofs.lemmas.Bool.{false_from_ne_true}
+use Rattle.std.proofs.lemmas.List.{length-map, map-append}
+use Rattle.std.proofs.lemmas.List.Elements.{All-nil, recursion_from_All as Each-from}
+use Rattle.std.proofs.lemmas.List.Sums.{position_or_len_is}
+use Rattle.std.proofs.lemmas.Slice.Eq.{bytes_eq-Decides}
+use Rattle.un_reader.specs.Vocabulary.{NameId, BlockId, SrcOp, Term, Fall, JumpTo, BranchTo, Return, SourceBlock}
 use Rattle.un_ir.specs.Live.{read_by_term}
-use Rattle.un_ir.specs.Names.{names_on_op, names_in_block}
-use Rattle.un_ir.specs.Text.{Names}
-use Rattle.un_ir.specs.WellFormed.{IsWellFormed}
-use Rattle.un_isa.specs.Operands.{HasLiteral as IsLiteralIn}
-use Rattle.un_reader.specs.TextFaults.{term_of}
-use Rattle.un_reader.specs.Functions.{name_id, literal_value, op_of, term_by, ops_of, blocks_of}
-use Rattle.un_reread.specs.Printed.{spelled_at, as_number, op_as_line, term_as_lines, printed_lines}
-use Rattle.un_reread.proofs.Lists.{all_parts}
-use Rattle.un_reread.proofs.Spelling.{AreDistinct, IsPlace, place_back}
-use Rattle.un_reread.proofs.NamesBack.{ids_back, blocks_named}
+use Rattle.un_ir.specs.Names.{names_on_op, names_in_block, appearances}
+use Rattle.un_ir.specs.Text.{Names, label_of}
+use Rattle.un_ir.specs.WellFormed.{IsWellFormed, LeadsInside, IsGoodBlock, IsGoodOp}
+use Rattle.un_isa.specs.Operands.{HasLiteral}
+use Rattle.un_reader.specs.Before.{numbered, names_of}
+use Rattle.un_reader.specs.Groups.{Group}
+use Rattle.un_words.specs.LineNames.{names_on}
+use Rattle.un_reader.specs.Functions.{name_id, block_id, literal_value, op_of, term_by, block_of}
+use Rattle.un_words.proofs.Each.{Each-left, Each-right, Each-unflat}
+use Rattle.un_reader.proofs.TextLines.{text_lines, names_on_line, names_at_end, group_names, names_of_groups}
+use Rattle.un_reread.specs.Printed.{spelled_at, as_number, op_as_line, term_as_line, as_group}
+use Rattle.un_reread.proofs.Spelling.{IsPlace, at_place, place_back}
+use Rattle.un_reread.proofs.Appearances.{AreBelow, seen_below, range_below, numbered_is, all_places}
 use Rattle.un_reread.proofs.Literals.{value_back}
-use Rattle.un_reread.proofs.Labels.{op_lines, body_lines, lines_of}
-use Rattle.un_reread.proofs.Jumps.{labels, AreOnce, labels_once, block_back, GoesInside, go_inside}
 
--- ---- operations
+-- ---- the names on the lines
 
-abbrev pub HasLiteral : SrcOp → Type 0
-HasLiteral o = IsLiteralIn o.op o.imm
+op_names : (names : Names) (o : SrcOp) → names_on_line (op_as_line names o) ≡ map (spelled_at names) (names_on_op o)
+op_names names o = by o.dst
+  where
+    by : (dst : Option NameId) → option_to_list (option_map (spelled_at names) dst) ++ map (spelled_at names) o.srcs
+        ≡ map (spelled_at names) (option_to_list dst ++ o.srcs)
+    by None = refl
+    by (Some name) = refl
 
-result_back : (names : Names) → AreDistinct names → (dst : Option NameId) → All (IsPlace names) (option_to_list dst)
-    → option_map (name_id names) (option_map (spelled_at names) dst) ≡ dst
-result_back names distinct None all = refl
-result_back names distinct (Some name) all = ap Some (place_back names distinct name (All-head (IsPlace names) name [] all))
+ops_names : (names : Names) (ops : List SrcOp)
+    → flat_map names_on_line (map (op_as_line names) ops) ≡ map (spelled_at names) (flat_map names_on_op ops)
+ops_names names [] = refl
+ops_names names (o ∷ ops) =
+    rw (op_names names o, ops_names names ops) (sym (map-append (spelled_at names) (names_on_op o) (flat_map names_on_op ops)))
 
-op_back : (names : Names) → AreDistinct names → (o : SrcOp) → All (IsPlace names) (names_on_op o) → HasLiteral o
-    → op_of names (op_as_line names o) ≡ o
-op_back names distinct o all literal =
-    let t = all_parts (IsPlace names) (option_to_list o.dst) o.srcs all in
-    let dst : option_map (name_id names) (option_map (spelled_at names) o.dst) ≡ o.dst = result_back names distinct o.dst t.0 in
-    let srcs : map (name_id names) (map (spelled_at names) o.srcs) ≡ o.srcs = ids_back names distinct o.srcs t.1 in
-    let imm : literal_value (as_number o.imm) ≡ o.imm = value_back o.op o.imm literal in
-    rw (dst, srcs, imm) refl
+term_names : (blocks : List SourceBlock) (names : Names) (term : Term)
+    → names_at_end (term_as_line blocks names term) ≡ map (spelled_at names) (read_by_term term)
+term_names blocks names (Return (Some name)) = refl
+term_names blocks names _ = refl
 
-ops_back : (names : Names) → AreDistinct names → (ops : List SrcOp) → All (IsPlace names) (flat_map names_on_op ops) → All HasLiteral ops
-    → (rest : List Line) → ops_of names rest ≡ [] → ops_of names (op_lines names ops ++ rest) ≡ ops
-ops_back names distinct [] all literals rest none = none
-ops_back names distinct (o ∷ ops) all literals rest none =
-    let t = all_parts (IsPlace names) (names_on_op o) (flat_map names_on_op ops) all in
-    let here = op_back names distinct o t.0 (All-head HasLiteral o ops literals) in
-    let later = ops_back names distinct ops t.1 (All-tail HasLiteral o ops literals) rest none in
-    rw (here, later) refl
+blocks_names : (blocks : List SourceBlock) (names : Names) (some : List SourceBlock)
+    → flat_map group_names (map (as_group blocks names) some) ≡ map (spelled_at names) (flat_map names_in_block some)
+blocks_names blocks names [] = refl
+blocks_names blocks names (b ∷ some) =
+    let ops = ops_names names b.ops in
+    let term = term_names blocks names b.term in
+    let here : group_names (as_group blocks names b) ≡ map (spelled_at names) (names_in_block b) =
+    rw (ops, term) (sym (map-append (spelled_at names) (flat_map names_on_op b.ops) (read_by_term b.term))) in
+    rw (here, blocks_names blocks names some) (sym (map-append (spelled_at names) (names_in_block b) (flat_map names_in_block some)))
 
--- ---- terminators
+-- each name as often as it stands in the lines
+names_there : (name : List ℕ) (params : List NameId) (names : Names) (blocks : List SourceBlock)
+    → flat_map names_on (text_lines name (map (spelled_at names) params) (map (as_group blocks names) blocks))
+    ≡ map (spelled_at names) (appearances params blocks)
+names_there name params names blocks =
+    rw (names_of_groups (map (as_group blocks names) blocks), blocks_names blocks names blocks)
+    (sym (map-append (spelled_at names) params (flat_map names_in_block blocks)))
 
--- the lines of operations are no terminator
-pub term_behind : (names : Names) (ops : List SrcOp) (rest : List Line) → term_of (op_lines names ops ++ rest) ≡ term_of rest
-term_behind names [] rest = refl
-term_behind names (o ∷ ops) rest = term_behind names ops rest
+-- ---- labels
 
-term_back : (names : Names) (blocks : List SourceBlock) → AreDistinct names → AreOnce (labels blocks) → (term : Term)
-    → All (IsPlace names) (read_by_term term)
-    → GoesInside (length blocks) term → (rest : List Line) → term_of rest ≡ None
-    → term_by names (labels blocks) (term_of (term_as_lines blocks names term ++ rest)) ≡ term
-term_back names blocks distinct once Fall all inside rest none = rw none refl
-term_back names blocks distinct once (JumpTo to) all (low, high) rest none = ap JumpTo (block_back blocks once to high)
-term_back names blocks distinct once (BranchTo pred sense to) all (low, high) rest none =
-    let p = place_back names distinct pred (All-head (IsPlace names) pred [] all) in
-    let t = block_back blocks once to high in
-    rw (p, t) refl
-term_back names blocks distinct once (Return None) all inside rest none = refl
-term_back names blocks distinct once (Return (Some name)) all inside rest none =
-    let p = place_back names distinct name (All-head (IsPlace names) name [] all) in
-    rw p refl
+abbrev pub labels : List SourceBlock → List (List ℕ)
+labels blocks = map (λ (b : SourceBlock). b.label) blocks
 
-no_ops : (blocks : List SourceBlock) (names : Names) (term : Term) (rest : List Line) → ops_of names rest ≡ []
-    → ops_of names (term_as_lines blocks names term ++ rest) ≡ []
-no_ops blocks names Fall rest none = none
-no_ops blocks names (JumpTo to) rest none = none
-no_ops blocks names (BranchTo pred sense to) rest none = none
-no_ops blocks names (Return value) rest none = none
+pub labels_there : (blocks : List SourceBlock) (names : Names) (some : List SourceBlock)
+    → map (λ (g : Group). g.label) (map (as_group blocks names) some) ≡ labels some
+labels_there blocks names [] = refl
+labels_there blocks names (b ∷ some) = ap (λ (ls : List (List ℕ)). b.label ∷ ls) (labels_there blocks names some)
 
--- ---- blocks
+label_at : (blocks : List SourceBlock) (k : ℕ) → label_of blocks k ≡ get_or (labels blocks) k []
+label_at [] k = refl
+label_at (b ∷ blocks) zero = refl
+label_at (b ∷ blocks) (suc k) = label_at blocks k
 
--- what the lines behind a block line tell of the block ends where the next begins
-ops_end : (blocks : List SourceBlock) (names : Names) (some : List SourceBlock) → ops_of names (lines_of blocks names some) ≡ []
-ops_end blocks names [] = refl
-ops_end blocks names (block ∷ some) = refl
+-- ---- the parts
 
-term_end : (blocks : List SourceBlock) (names : Names) (some : List SourceBlock) → term_of (lines_of blocks names some) ≡ None
-term_end blocks names [] = refl
-term_end blocks names (block ∷ some) = refl
+module _ (name : List ℕ) (params : List NameId) (names : Names) (blocks : List SourceBlock)
+    (w : IsWellFormed name params names blocks) where
+  all_named : Each (IsPlace names) (appearances params blocks)
+  all_named = Each-from (IsPlace names) (appearances params blocks) (seen_below (length names) [] (appearances params blocks)
+      (subst (AreBelow (length names)) (sym w.numbered) (range_below (length names)))).1
 
-past_ops : (names : Names) (ls : List (List ℕ)) (ops : List SrcOp) (rest : List Line)
-    → blocks_of names ls (op_lines names ops ++ rest) ≡ blocks_of names ls rest
-past_ops names ls [] rest = refl
-past_ops names ls (o ∷ ops) rest = past_ops names ls ops rest
+  -- the names of the lines, each at its first appearance, are the function's
+  pub names_again : names_of (text_lines name (map (spelled_at names) params) (map (as_group blocks names) blocks)) ≡ names
+  names_again =
+      ap (numbered []) (names_there name params names blocks)
+      ∙ numbered_is names w.distinct_names [] (appearances params blocks) (All-nil (λ (n : ℕ). n < length names))
+      (seen_below (length names) [] (appearances params blocks)
+      (subst (AreBelow (length names)) (sym w.numbered) (range_below (length names)))).1
+      ∙ ap (map (at_place names)) w.numbered
+      ∙ all_places names
 
-past_term : (blocks : List SourceBlock) (names : Names) (ls : List (List ℕ)) (term : Term) (rest : List Line)
-    → blocks_of names ls (term_as_lines blocks names term ++ rest) ≡ blocks_of names ls rest
-past_term blocks names ls Fall rest = refl
-past_term blocks names ls (JumpTo to) rest = refl
-past_term blocks names ls (BranchTo pred sense to) rest = refl
-past_term blocks names ls (Return value) rest = refl
+  ids_back : (ids : List NameId) → Each (IsPlace names) ids → map (name_id names) (map (spelled_at names) ids) ≡ ids
+  ids_back [] all = refl
+  ids_back (id ∷ ids) all =
+      let here : name_id names (spelled_at names id) ≡ id = place_back names w.distinct_names id all.0 in
+      rw (here, ids_back ids all.1) refl
 
--- a block that its lines give back
-pub record IsKept (names : Names) (count : ℕ) (block : SourceBlock) : Type 0 where
-  pub named : All (IsPlace names) (names_in_block block)
-  pub literals : All HasLiteral block.ops
-  pub inside : GoesInside count block.term
+  pub params_again : map (name_id names) (map (spelled_at names) params) ≡ params
+  params_again = ids_back params (Each-left (IsPlace names) params (flat_map names_in_block blocks) all_named)
 
-pub blocks_kept : (name : List ℕ) (params : List NameId) (names : Names) (blocks : List SourceBlock) → IsWellFormed name params names blocks
-    → All (IsKept names (length blocks)) blocks
-blocks_kept name params names blocks w k d h = record {
-  named = blocks_named name params names blocks w k d h;
-  literals = λ j e low. ((w.good_blocks k d h).ops j e low).literal;
-  inside = go_inside name params names blocks w k d h;
-}
+  op_back : (o : SrcOp) → Each (IsPlace names) (names_on_op o) → HasLiteral o.op o.imm → op_of names (op_as_line names o) ≡ o
+  op_back o all literal =
+      let dst = by o.dst (Each-left (IsPlace names) (option_to_list o.dst) o.srcs all) in
+      let srcs = ids_back o.srcs (Each-right (IsPlace names) (option_to_list o.dst) o.srcs all) in
+      let imm : literal_value (as_number o.imm) ≡ o.imm = value_back o.op o.imm literal in
+      rw (dst, srcs, imm) refl
+    where
+      by : (dst : Option NameId) → Each (IsPlace names) (option_to_list dst)
+          → option_map (name_id names) (option_map (spelled_at names) dst) ≡ dst
+      by None all = refl
+      by (Some id) all = ap Some (place_back names w.distinct_names id all.0)
 
-block_again : (names : Names) (blocks : List SourceBlock) → AreDistinct names → AreOnce (labels blocks) → (block : SourceBlock)
-    → IsKept names (length blocks) block
-    → (some : List SourceBlock) → blocks_of names (labels blocks) (lines_of blocks names some) ≡ some
-    → blocks_of names (labels blocks) (lines_of blocks names (block ∷ some)) ≡ block ∷ some
-block_again names blocks distinct once block k some later =
-    let rest = lines_of blocks names some in
-    let terms = term_as_lines blocks names block.term in
-    let t = all_parts (IsPlace names) (flat_map names_on_op block.ops) (read_by_term block.term) k.named in
-    let split : body_lines blocks names block ++ rest ≡ op_lines names block.ops ++ (terms ++ rest) =
-    append_assoc (op_lines names block.ops) terms rest in
-    let ops : ops_of names (op_lines names block.ops ++ (terms ++ rest)) ≡ block.ops =
-    ops_back names distinct block.ops t.0 k.literals (terms ++ rest) (no_ops blocks names block.term rest (ops_end blocks names some)) in
-    let term : term_by names (labels blocks) (term_of (op_lines names block.ops ++ (terms ++ rest))) ≡ block.term =
-    ap (term_by names (labels blocks)) (term_behind names block.ops (terms ++ rest))
-    ∙ term_back names blocks distinct once block.term t.1 k.inside rest (term_end blocks names some) in
-    let others : blocks_of names (labels blocks) (op_lines names block.ops ++ (terms ++ rest)) ≡ some =
-    past_ops names (labels blocks) block.ops (terms ++ rest) ∙ past_term blocks names (labels blocks) block.term rest ∙ later in
-    rw (split, ops, term, others) refl
+  ops_back : (ops : List SrcOp) → Each (IsPlace names) (flat_map names_on_op ops) → Each (IsGoodOp names) ops
+      → map (op_of names) (map (op_as_line names) ops) ≡ ops
+  ops_back [] all good = refl
+  ops_back (o ∷ ops) all good =
+      let here = op_back o (Each-left (IsPlace names) (names_on_op o) (flat_map names_on_op ops) all) good.0.literal in
+      rw (here, ops_back ops (Each-right (IsPlace names) (names_on_op o) (flat_map names_on_op ops) all) good.1) refl
 
-blocks_back : (names : Names) (blocks : List SourceBlock) → AreDistinct names → AreOnce (labels blocks) → (some : List SourceBlock)
-    → All (IsKept names (length blocks)) some → blocks_of names (labels blocks) (lines_of blocks names some) ≡ some
-blocks_back names blocks distinct once [] all = refl
-blocks_back names blocks distinct once (block ∷ some) all =
-    block_again names blocks distinct once block (All-head (IsKept names (length blocks)) block some all) some
-    (blocks_back names blocks distinct once some (All-tail (IsKept names (length blocks)) block some all))
+  -- the place of a block's label
+  block_back : (to : BlockId) → to.0 < length blocks → block_id (labels blocks) (label_of blocks to.0) ≡ to
+  block_back to h =
+      let len = length-map blocks (λ (b : SourceBlock). b.label) in
+      let place : position_or_len (bytes_eq (get_or (labels blocks) to.0 [])) (labels blocks) ≡ to.0 =
+      position_or_len_is (bytes_eq (get_or (labels blocks) to.0 [])) (labels blocks) to.0 [] (omega arith)
+      (λ j below. false_from_ne_true (bytes_eq (get_or (labels blocks) to.0 []) (get_or (labels blocks) j []))
+      (λ e. apart j to.0 below h (sym ((bytes_eq-Decides _ _).0 e))))
+      (λ below. (bytes_eq-Decides (get_or (labels blocks) to.0 []) _).1 refl) in
+      let make : ℕ → BlockId = λ k. record { 0 = k } in
+      rw (label_at blocks to.0) (ap make place)
+    where
+      got : (some : List SourceBlock) (k : ℕ) (d : SourceBlock) → k < length some → get_or (labels some) k [] ≡ (get_or some k d).label
+      got [] k d h = absurd (omega arith)
+      got (b ∷ some) zero d h = refl
+      got (b ∷ some) (suc k) d h = got some k d (omega arith)
 
--- the blocks of the lines are the function's
-pub blocks_again : (name : List ℕ) (params : List NameId) (names : Names) (blocks : List SourceBlock)
-    → IsWellFormed name params names blocks
-    → blocks_of names (map (λ (b : SourceBlock). b.label) blocks) (printed_lines name params names blocks) ≡ blocks
-blocks_again name params names blocks w =
-    blocks_back names blocks w.distinct_names (labels_once name params names blocks w) blocks (blocks_kept name params names blocks w)
+      any : SourceBlock
+      any = record { label = []; freq = 0; ops = []; term = Fall }
+
+      apart : (j k : ℕ) → j < k → k < length blocks → get_or (labels blocks) j [] ≢ get_or (labels blocks) k []
+      apart j k low high e = w.distinct_labels j k any low high (sym (got blocks j any (omega arith)) ∙ e ∙ got blocks k any high)
+
+  term_back : (b : ℕ) (term : Term) → Each (IsPlace names) (read_by_term term) → LeadsInside blocks b term
+      → term_by names (labels blocks) (term_as_line blocks names term) ≡ term
+  term_back b Fall all leads = refl
+  term_back b (JumpTo to) all leads = ap JumpTo (block_back to (leads 0 0 (omega arith)).1)
+  term_back b (BranchTo pred sense to) all leads =
+      let p = place_back names w.distinct_names pred all.0 in let t = block_back to (leads 1 0 (omega arith)).1 in rw (p, t) refl
+  term_back b (Return None) all leads = refl
+  term_back b (Return (Some id)) all leads = let p = place_back names w.distinct_names id all.0 in rw p refl
+
+  block_again : (k : ℕ) (b : SourceBlock) → slice_get blocks k ≡ Some b → Each (IsPlace names) (names_in_block b) → IsGoodBlock names b
+      → block_of names (labels blocks) (as_group blocks names b) ≡ b
+  block_again k b got all good =
+      let ops = ops_back b.ops (Each-left (IsPlace names) (flat_map names_on_op b.ops) (read_by_term b.term) all)
+      (Each-from (IsGoodOp names) b.ops good.ops) in
+      let term = term_back k b.term (Each-right (IsPlace names) (flat_map names_on_op b.ops) (read_by_term b.term) all) (w.leads k b got) in
+      rw (ops, term) refl
+
+  -- blocks of the function, from one on
+  some_again : (k : ℕ) (some : List SourceBlock) → ((j : ℕ) (b : SourceBlock) → slice_get some j ≡ Some b → slice_get blocks (k + j) ≡ Some b)
+      → Each (λ (b : SourceBlock). Each (IsPlace names) (names_in_block b)) some → Each (IsGoodBlock names) some
+      → map (block_of names (labels blocks)) (map (as_group blocks names) some) ≡ some
+  some_again k [] got all good = refl
+  some_again k (b ∷ some) got all good =
+      let here = block_again (k + 0) b (got 0 b refl) all.0 good.0 in
+      let later = some_again (k + 1) some (λ j c g. (let place : k + 1 + j ≡ k + suc j = omega arith in
+      subst (λ (n : ℕ). slice_get blocks n ≡ Some c) (sym place) (got (suc j) c g))) all.1 good.1 in
+      rw (here, later) refl
+
+  -- the blocks of the lines are the function's
+  pub blocks_again : map (block_of names (labels blocks)) (map (as_group blocks names) blocks) ≡ blocks
+  blocks_again =
+      some_again 0 blocks (λ j b g. (let place : 0 + j ≡ j = omega arith in subst (λ (n : ℕ). slice_get blocks n ≡ Some b) (sym place) g))
+      (Each-unflat (IsPlace names) names_in_block blocks (Each-right (IsPlace names) params (flat_map names_in_block blocks) all_named))
+      (Each-from (IsGoodBlock names) blocks w.good_blocks)

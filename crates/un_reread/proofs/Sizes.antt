@@ -12,11 +12,11 @@ use Rattle.un_ir.specs.WellFormed.{IsWellFormed}
 use Rattle.un_reader.specs.declared.limits.TheConstants.{TEXT}
 use Rattle.un_reread.proofs.Neat.{IsNeat}
 
-joined_size : (lines : List (List ℕ)) → All (IsNeat 300) lines → length (flat_map ended lines) ≤ 301 * length lines
+joined_size : (lines : List (List ℕ)) → All (IsNeat 330) lines → length (flat_map ended lines) ≤ 331 * length lines
 joined_size [] all = omega arith
 joined_size (line ∷ lines) all =
-    let here : length line ≤ 300 = (All-head (IsNeat 300) line lines all).short in
-    let later = joined_size lines (All-tail (IsNeat 300) line lines all) in
+    let here : length line ≤ 330 = (All-head (IsNeat 330) line lines all).short in
+    let later = joined_size lines (All-tail (IsNeat 330) line lines all) in
     let with_end = length-append line (10 ∷ []) in
     let whole = length-append (ended line) (flat_map ended lines) in
     omega arith
@@ -38,7 +38,7 @@ line_count blocks names (block ∷ some) =
     let all = length-append block.ops (flat_map (λ (b : Block). b.ops) some) in
     omega arith
 
-pub text_within : (f : Function) → IsWellFormed f.name f.params f.names f.blocks → All (IsNeat 300) (function_lines f)
+pub text_within : (f : Function) → IsWellFormed f.name f.params f.names f.blocks → All (IsNeat 330) (function_lines f)
     → length (function_text f) ≤ TEXT
 text_within f w short =
     let size = joined_size (function_lines f) short in

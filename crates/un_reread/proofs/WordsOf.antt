@@ -1,11 +1,13 @@
 -- The words of a line that is put together from words, blanks and marks.
-use Rattle.std.proofs.Common.{◌≡◌, ℕ, ◌<◌, Bool, true, false, ◌&&◌, ◌||◌, not, List, [], ◌∷◌, ◌++◌, map, length, refl, sym, ap, ◌∙◌, arith}
+use Rattle.std.proofs.Common.{◌≡◌, ℕ, ◌+◌, ◌<◌, Bool, true, false, ◌&&◌, ◌||◌, not, List, [], ◌∷◌, ◌++◌, map, length, Some, ◌≤◌, refl, sym, ap, ◌∙◌, arith}
 use Rattle.std.proofs.Common.{append-nil}
 use Rattle.std.specs.List.{list_all, onto_first}
 use Rattle.un_words.specs.declared.token.Token.{Token}
 use Rattle.un_words.specs.Words.{is_blank, is_mark, is_inner, goes_on, words_of}
 use Rattle.un_words.specs.Tokens.{token_of, tokens_of}
-use Rattle.un_reread.proofs.Neat.{IsNeat}
+use Rattle.un_words.specs.Shapes.{shape_of}
+use Rattle.un_words.specs.declared.line.Line.{Line}
+use Rattle.un_reread.proofs.Neat.{IsNeat, neat_append, neat_more}
 
 -- a longer word, which a reader takes for this token; a name with its sigil behind an exclamation mark is the longest
 pub record Says (word : List ℕ) (token : Token) : Type 0 where
@@ -50,12 +52,54 @@ first_word (b ∷ c ∷ more) rest some inner stops =
     let j = inner_byte c (list_all is_inner more) i.1 in
     one_more b c (more ++ rest) i.0 (goes_in c j.0) ∙ ap (onto_first b) (first_word (c ∷ more) rest (omega arith) i.1 stops)
 
--- so the first token is the word's
-pub first_token : (word : List ℕ) (token : Token) → Says word token → (rest : List ℕ) → goes_on rest ≡ false
-    → tokens_of (word ++ rest) ≡ token ∷ tokens_of rest
-first_token word token says rest stops =
-    ap (map token_of) (first_word word rest says.some says.inner stops) ∙ ap (λ (t : Token). t ∷ tokens_of rest) says.spelt
+-- ---- texts that are put together
 
--- and the only one, where the line ends
-pub only_token : (word : List ℕ) (token : Token) → Says word token → tokens_of word ≡ token ∷ []
-only_token word token says = sym (ap tokens_of (append-nil word)) ∙ first_token word token says [] refl
+-- a clean text of so many bytes at most, which is read as these tokens
+pub record Reads (most : ℕ) (text : List ℕ) (tokens : List Token) : Type 0 where
+  pub neat : IsNeat most text
+  pub told : tokens_of text ≡ tokens
+
+-- a word before a text that does not go on with it
+pub first : (word : List ℕ) (token : Token) (most : ℕ) (rest : List ℕ) (tokens : List Token) → Says word token → Reads most rest tokens
+    → goes_on rest ≡ false → Reads (34 + most) (word ++ rest) (token ∷ tokens)
+first word token most rest tokens says r stops = record {
+  neat = neat_append 34 most word rest says.neat r.neat;
+  told =
+      ap (map token_of) (first_word word rest says.some says.inner stops) ∙ ap (λ (t : Token). t ∷ tokens_of rest) says.spelt
+      ∙ ap (λ (ts : List Token). token ∷ ts) r.told;
+}
+
+-- the text is a word
+pub only : (word : List ℕ) (token : Token) → Says word token → Reads 34 word (token ∷ [])
+only word token says = record {
+  neat = says.neat;
+  told = sym (ap tokens_of (append-nil word)) ∙ ap (map token_of) (first_word word [] says.some says.inner refl)
+      ∙ ap (λ (t : Token). t ∷ []) says.spelt;
+}
+
+-- bytes that are read as some tokens, before a text
+pub before : (front : List ℕ) (own : List Token) (few most : ℕ) (rest : List ℕ) (tokens : List Token) → IsNeat few front
+    → ((after : List ℕ) → tokens_of (front ++ after) ≡ own ++ tokens_of after) → Reads most rest tokens
+    → Reads (few + most) (front ++ rest) (own ++ tokens)
+before front own few most rest tokens neat told r = record {
+  neat = neat_append few most front rest neat r.neat;
+  told = told rest ∙ ap (λ (ts : List Token). own ++ ts) r.told;
+}
+
+-- ---- lines
+
+-- the text is a neat line, and is read as this one
+pub record IsLine (text : List ℕ) (line : Line) : Type 0 where
+  pub neat : IsNeat 330 text
+  pub shape : shape_of (tokens_of text) ≡ Some line
+
+pub is_line : (most : ℕ) (text : List ℕ) (tokens : List Token) (line : Line) → most ≤ 330 → Reads most text tokens
+    → shape_of tokens ≡ Some line → IsLine text line
+is_line most text tokens line few r shape =
+    record { neat = neat_more most 330 text few r.neat; shape = ap shape_of r.told ∙ shape }
+
+-- the texts are these lines, one for one
+abbrev pub AreLines : List (List ℕ) → List Line → Type 0
+AreLines [] [] = Unit {0}
+AreLines (text ∷ texts) (line ∷ lines) = IsLine text line × AreLines texts lines
+AreLines _ _ = ⊥

@@ -1,9 +1,9 @@
 -- What holds of each element of a list, by recursion on the list: more on std's word for it.
 use Rattle.std.proofs.Common.{◌≡◌, ℕ, zero, suc, ◌++◌, Bool, false, List, [], ◌∷◌, Some, map, slice_get, Contains}
-use Rattle.std.proofs.Common.{arith, subst}
+use Rattle.std.proofs.Common.{arith, refl, subst}
 use Rattle.std.proofs.lemmas.Bool.{or_parts}
 use Rattle.std.specs.List.{AllByRecursion as Each, AllPairs, flat_map, list_any}
-use Rattle.std.proofs.lemmas.List.Elements.{All-from_recursion as Each-All}
+use Rattle.std.proofs.lemmas.List.Elements.{All-from_recursion as Each-All, recursion_from_All as Each-from}
 use Rattle.std.proofs.lemmas.List.Kept.{AllPairs-cons}
 
 pub Each-weaken : {X : Type 0} (P Q : X → Type 0) → ((x : X) → P x → Q x) → (xs : List X) → Each P xs → Each Q xs
@@ -30,6 +30,10 @@ pub Each-map : {X Y : Type 0} (P : Y → Type 0) (f : X → Y) (xs : List X) →
 Each-map P f [] e = tt
 Each-map P f (x ∷ xs) (here, later) = (here, Each-map P f xs later)
 
+pub Each-unmap : {X Y : Type 0} (P : Y → Type 0) (f : X → Y) (xs : List X) → Each P (map f xs) → Each (λ (x : X). P (f x)) xs
+Each-unmap P f [] e = tt
+Each-unmap P f (x ∷ xs) (here, later) = (here, Each-unmap P f xs later)
+
 pub Each-unflat : {X Y : Type 0} (P : Y → Type 0) (f : X → List Y) (xs : List X) → Each P (flat_map f xs)
     → Each (λ (x : X). Each P (f x)) xs
 Each-unflat P f [] e = tt
@@ -54,10 +58,21 @@ pub EachPair-AllPairs : {X : Type 0} (R : X → X → Type 0) (xs : List X) → 
 EachPair-AllPairs R [] e = λ i j d before below. absurd (omega arith)
 EachPair-AllPairs R (x ∷ xs) (here, later) = AllPairs-cons R x xs (Each-All (R x) xs here) (EachPair-AllPairs R xs later)
 
+pub EachPair-from : {X : Type 0} (R : X → X → Type 0) (xs : List X) → AllPairs R xs → EachPair R xs
+EachPair-from R [] h = tt
+EachPair-from R (x ∷ xs) h = (
+  Each-from (R x) xs (λ k d below. h 0 (suc k) d (omega arith) (omega arith)),
+  EachPair-from R xs (λ i j d low high. h (suc i) (suc j) d (omega arith) (omega arith)),
+)
+
 pub EachPair-push : {X : Type 0} (R : X → X → Type 0) (xs : List X) (y : X) → EachPair R xs → Each (λ (x : X). R x y) xs
     → EachPair R (xs ++ y ∷ [])
 EachPair-push R [] y e f = (tt, tt)
 EachPair-push R (x ∷ xs) y (here, later) (last, rest) = (Each-append (R x) xs (y ∷ []) here (last, tt), EachPair-push R xs y later rest)
+
+pub EachPair-left : {X : Type 0} (R : X → X → Type 0) (xs ys : List X) → EachPair R (xs ++ ys) → EachPair R xs
+EachPair-left R [] ys e = tt
+EachPair-left R (x ∷ xs) ys (here, later) = (Each-left (R x) xs ys here, EachPair-left R xs ys later)
 
 pub EachPair-alike : {X : Type 0} (P : X → Type 0) (R : X → X → Type 0) → ((a b : X) → P a → P b → R a b) → (xs : List X) → Each P xs
     → EachPair R xs
@@ -72,14 +87,14 @@ EachPair-map R f (x ∷ xs) (here, later) = (Each-map (R (f x)) f xs here, EachP
 pub EachPair-unmap : {X Y : Type 0} (R : Y → Y → Type 0) (f : X → Y) (xs : List X) → EachPair R (map f xs)
     → EachPair (λ (a b : X). R (f a) (f b)) xs
 EachPair-unmap R f [] e = tt
-EachPair-unmap R f (x ∷ xs) (here, later) = (unmap xs here, EachPair-unmap R f xs later)
-  where
-    unmap : (ys : List _) → Each (R (f x)) (map f ys) → Each (λ b. R (f x) (f b)) ys
-    unmap [] e = tt
-    unmap (y ∷ ys) (h, l) = (h, unmap ys l)
+EachPair-unmap R f (x ∷ xs) (here, later) = (Each-unmap (R (f x)) f xs here, EachPair-unmap R f xs later)
 
 -- ---- tests
 
 pub Each-none : {X : Type 0} (p : X → Bool) (xs : List X) → list_any p xs ≡ false → Each (λ (x : X). p x ≡ false) xs
 Each-none p [] h = tt
 Each-none p (x ∷ xs) h = let b = or_parts (p x) (list_any p xs) h in (b.0, Each-none p xs b.1)
+
+pub any_none : {X : Type 0} (p : X → Bool) (xs : List X) → Each (λ (x : X). p x ≡ false) xs → list_any p xs ≡ false
+any_none p [] e = refl
+any_none p (x ∷ xs) e = rw (e.0, any_none p xs e.1) refl
