@@ -21,7 +21,7 @@ pub const PREDICATE: u32 = GENERALS;
 
 /// What the copies of operands before an operation are for: the operands of an operation or of a branch, the address to which
 /// a return goes, the result at a block's end, or nothing.
-#[derive(Clone, Copy, PartialEq, Eq)]
+#[derive(Clone, Copy)]
 pub enum Purpose {
     Operands,
     Link,
@@ -31,7 +31,7 @@ pub enum Purpose {
 
 /// What defined the values whose copies come next: the start of the entry, an operation that assigns a name, or what has no
 /// values to keep.
-#[derive(Clone, Copy, PartialEq, Eq)]
+#[derive(Clone, Copy)]
 pub enum Definer {
     Start,
     Assigns(NameId),
@@ -39,7 +39,7 @@ pub enum Definer {
 }
 
 /// What holds in the whole of a block.
-#[derive(Clone, Copy, PartialEq, Eq)]
+#[derive(Clone, Copy)]
 pub struct Setting {
     pub is_entry: bool,
     pub term: Term,
@@ -53,7 +53,7 @@ pub struct Setting {
 
 /// How far the plan of a block has come: the next cycle, and since the last operation that is no copy, how many values and how
 /// many operands have had their first copy, and what that operation was.
-#[derive(Clone, Copy, PartialEq, Eq)]
+#[derive(Clone, Copy)]
 pub struct Progress {
     pub cycle: u32,
     pub values: u32,
@@ -62,7 +62,7 @@ pub struct Progress {
 }
 
 /// What a copy does: its instruction, cycle, choice and register. All are 0 where it does nothing.
-#[derive(Clone, Copy, PartialEq, Eq)]
+#[derive(Clone, Copy)]
 pub struct Move {
     pub instr: u32,
     pub cycle: u32,
