@@ -187,7 +187,8 @@ module _ (r : Resource) (s : Sets) (xs : List Item) where
     found high horizon (y ∷ ys) early all some = by (surely_takes r s y && nat_eq (greatest (set_at s y.at.0)) high) refl some
         (found high horizon ys early all.1)
       where
-        by : (b : Bool) → (surely_takes r s y && nat_eq (greatest (set_at s y.at.0)) high) ≡ b → (b || list_any (ends_at r s high) ys) ≡ true
+        by : (b : Bool) → (surely_takes r s y && nat_eq (greatest (set_at s y.at.0)) high) ≡ b
+            → (b || list_any (ends_at r s high) ys) ≡ true
             → (list_any (ends_at r s high) ys ≡ true → all_below (crowd_fits r xs s high) (high + 1) ≡ true)
             → all_below (crowd_fits r xs s high) (high + 1) ≡ true
         by false e rest more = more rest
@@ -272,7 +273,8 @@ module _ (r : Resource) (s : Sets) (xs : List Item) where
             let same = ap (λ (k : ℕ). crowd r xs k 0 s) first in
             let none = none_first xs e in
             omega (arith, same, none)))
-    ends_all horizon (suc high) early all = by (list_any (ends_at r s (suc high)) xs) refl (ends_all horizon high (omega (arith, early)) all)
+    ends_all horizon (suc high) early all = by (list_any (ends_at r s (suc high)) xs) refl
+        (ends_all horizon high (omega (arith, early)) all)
       where
         by : (b : Bool) → list_any (ends_at r s (suc high)) xs ≡ b → all_below (crowd_fits r xs s high) (high + 1) ≡ true
             → all_below (crowd_fits r xs s (suc high)) (suc high + 1) ≡ true
@@ -297,7 +299,8 @@ module _ (r : Resource) (s : Sets) (xs : List Item) where
     -- Where the intervals that end right before a cycle have room, and no item ends with it, those that end with it have room for one
     -- more
 
-    pub roomy_next : (high : ℕ) → all_below (λ low. nat_le (crowd r xs low high s + 1) (places_of r * (high + 1 - low))) (high + 1) ≡ true
+    pub roomy_next : (high : ℕ)
+        → all_below (λ low. nat_le (crowd r xs low high s + 1) (places_of r * (high + 1 - low))) (high + 1) ≡ true
         → is_roomy r xs s (suc high) ≡ true
     roomy_next high h = each_below (crowd_fits r xs s high) (high + 1)
         (λ low lt. (let le = true_le (crowd r xs low high s + 1) (places_of r * (high + 1 - low))

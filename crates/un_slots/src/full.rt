@@ -356,11 +356,7 @@ fn sooner(w: &Window<'_>, r: Resource, item: &Item, from: u32, end: u32) -> u32
     if last >= end {
         return end;
     }
-    if surely_takes(w, r, item) {
-        last
-    } else {
-        end
-    }
+    if surely_takes(w, r, item) { last } else { end }
 }
 
 /// The first cycle from `from` on and before `end` with which an item ends that surely takes some of a resource; else `end`.

@@ -33,7 +33,8 @@ loop-high-preserved c =
     let next = c.next_high-next in
     let did = c.clear_to-did in
     let mid = c.loop-high.w.store.now in
-    let before = skip_to vs f c.loop-high.high next.result s mid c.args.before c.loop-high.did inv.step next.ensures.least next.ensures.idle in
+    let before = skip_to vs f c.loop-high.high next.result s mid c.args.before c.loop-high.did inv.step next.ensures.least
+    next.ensures.idle in
     record {
       within = omega (arith, c.if-next-horizon.false);
       step = next_place vs f next.result s mid did.new.w.store.now c.args.before c.loop-high.did did.result before

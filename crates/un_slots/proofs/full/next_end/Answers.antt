@@ -1,4 +1,4 @@
-use Rattle.std.proofs.Common.{ℕ, ◌≡◌, ◌<◌, ◌≤◌, ◌+◌, ◌-◌, ◌^◌, ◌⊎◌, ◌∙◌, false, get_or, sym, ap, subst, arith, inl, inr}
+use Rattle.std.proofs.Common.{ℕ, ◌≡◌, ◌<◌, ◌+◌, ◌-◌, ◌^◌, ◌⊎◌, ◌∙◌, false, get_or, sym, ap, subst, arith, inl, inr}
 use Rattle.std.proofs.lemmas.List.{get_or_default}
 use Rattle.un_slots.specs.declared.item.Item.{Item}
 use Rattle.un_slots.specs.Slots.{ItemVars}
