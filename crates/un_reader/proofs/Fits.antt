@@ -64,8 +64,7 @@ module _ (names : List Spelled) where
   apart [] k h = tt
   apart (x ∷ params) k h =
       let parts = or_parts (list_any (same_name x) params) (has_repeat params) h in
-      let P : Spelled → Type 0 = λ y. IsKept names y × (same_name x y ≡ false) in
-      (
+      let P : Spelled → Type 0 = λ y. IsKept names y × (same_name x y ≡ false) in (
         Each-weaken P (λ (y : Spelled). name_id names x ≢ name_id names y) (λ y p. numbers_differ names x y k.0 p.0 p.1) params
             (Each-both (IsKept names) (λ (y : Spelled). same_name x y ≡ false) params k.1 (Each-none (same_name x) params parts.0)),
         apart params k.1 parts.1,
@@ -76,7 +75,8 @@ module _ (names : List Spelled) where
   once [] h = refl
   once (x ∷ params) h =
       let here : list_any (same_name x) params ≡ false =
-      any_none (same_name x) params (Each-weaken (λ (y : Spelled). name_id names x ≢ name_id names y) (λ (y : Spelled). same_name x y ≡ false)
+      any_none (same_name x) params
+      (Each-weaken (λ (y : Spelled). name_id names x ≢ name_id names y) (λ (y : Spelled). same_name x y ≡ false)
       (λ y n. name_differs x y (λ e. n (ap (name_id names) e))) params h.0) in
       rw (here, once params h.1) refl
 
@@ -118,7 +118,8 @@ module _ (names : List Spelled) (labels : List (List ℕ)) where
     },
   )
   line_fits (Block label freq) shaped good k =
-      let outer = and_parts (not freq.negative && nat_le 1 freq.size) (nat_le freq.size FREQUENCY) (not-false (freq_fits freq) good.often) in
+      let fit = not-false (freq_fits freq) good.often in
+      let outer = and_parts (not freq.negative && nat_le 1 freq.size) (nat_le freq.size FREQUENCY) fit in
       let inner = and_parts (not freq.negative) (nat_le 1 freq.size) outer.0 in
       (shaped, leb-true 1 freq.size inner.1, leb-true freq.size FREQUENCY outer.1)
   line_fits (Operation o) shaped good k =

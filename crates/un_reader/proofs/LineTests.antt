@@ -1,5 +1,6 @@
 -- Texts without a fault on a line: their lines have shapes and keep the rules, and texts whose lines do have none.
-use Rattle.std.proofs.Common.{◌≡◌, ℕ, zero, suc, ◌+◌, ◌<◌, ◌++◌, Bool, true, false, List, [], ◌∷◌, Option, Some, None, map, length, unwrap_or}
+use Rattle.std.proofs.Common.{◌≡◌, ℕ, zero, suc, ◌+◌, ◌<◌, ◌++◌, Bool, true, false, List, [], ◌∷◌, Option, Some, None, map, length}
+use Rattle.std.proofs.Common.{unwrap_or}
 use Rattle.std.proofs.Common.{if◌then◌else◌, refl, sym, ap, ◌∙◌, arith, subst, append_assoc}
 use Rattle.std.specs.List.{AllByRecursion as Each, list_all}
 use Rattle.std.proofs.lemmas.List.{map_push, length-append}

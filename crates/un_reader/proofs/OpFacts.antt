@@ -1,5 +1,6 @@
 -- An operation keeps what every operation keeps exactly where its line has no fault, where its names have their places.
-use Rattle.std.proofs.Common.{◌≡◌, ◌≤◌, ◌++◌, true, false, not, List, [], ◌∷◌, Option, Some, None, map, length, if◌then◌else◌, refl, sym, ap}
+use Rattle.std.proofs.Common.{◌≡◌, ◌≤◌, ◌++◌, true, false, not, List, [], ◌∷◌, Option, Some, None, map, length, if◌then◌else◌, refl, sym}
+use Rattle.std.proofs.Common.{ap}
 use Rattle.std.proofs.Common.{◌∙◌, arith}
 use Rattle.std.specs.List.{AllByRecursion as Each, list_any, zip}
 use Rattle.std.specs.Option.{option_map, option_map_or, option_to_list}

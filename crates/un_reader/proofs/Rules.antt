@@ -17,7 +17,8 @@ use Rattle.un_reader.specs.Before.{same_name, add_name, numbered, label_on, is_o
 use Rattle.un_words.specs.LineNames.{names_on}
 use Rattle.un_reader.specs.Named.{IsNamed}
 use Rattle.un_reader.specs.Noted.{noted}
-use Rattle.un_reader.specs.LineFaults.{has_repeat, is_misplaced, has_clash, is_over_limit, has_too_many, is_wide, has_bad_freq, repeats_label}
+use Rattle.un_reader.specs.LineFaults.{has_repeat, is_misplaced, has_clash, is_over_limit, has_too_many, is_wide, has_bad_freq}
+use Rattle.un_reader.specs.LineFaults.{repeats_label}
 use Rattle.un_reader.specs.LineFaults.{is_before_block, is_after_end, faults_on, first_of}
 use Rattle.un_words.proofs.Each.{Each-weaken, Each-none, Each-right, EachPair, EachPair-push, EachPair-left}
 use Rattle.un_reader.proofs.BeforeLaws.{before_of_push}

@@ -1,5 +1,6 @@
 -- Lines in order, without the blank ones, are a `func` line and then the lines of each block.
-use Rattle.std.proofs.Common.{◌≡◌, ℕ, ◌+◌, ◌++◌, ◌==◌, Bool, true, false, List, [], ◌∷◌, Option, Some, None, is_some, is_none, unwrap_or, map, length}
+use Rattle.std.proofs.Common.{◌≡◌, ℕ, ◌+◌, ◌++◌, ◌==◌, Bool, true, false, List, [], ◌∷◌, Option, Some, None, is_some, is_none, unwrap_or}
+use Rattle.std.proofs.Common.{map, length}
 use Rattle.std.proofs.Common.{refl, sym, ap, ◌∙◌, arith, append-nil, append_assoc, cond}
 use Rattle.std.specs.List.{AllByRecursion as Each, flat_map, count_by}
 use Rattle.std.specs.Option.{option_map, option_to_list}

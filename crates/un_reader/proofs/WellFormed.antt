@@ -1,5 +1,6 @@
 -- The parts of lines are well formed exactly where the lines have no fault, and no name is live at the start of the entry.
-use Rattle.std.proofs.Common.{◌≡◌, ◌≢◌, ℕ, ◌+◌, ◌<◌, ◌≤◌, ◌==◌, Bool, true, false, List, [], ◌∷◌, Option, Some, None, is_none, unwrap_or, map}
+use Rattle.std.proofs.Common.{◌≡◌, ◌≢◌, ℕ, ◌+◌, ◌<◌, ◌≤◌, ◌==◌, Bool, true, false, List, [], ◌∷◌, Option, Some, None, is_none, unwrap_or}
+use Rattle.std.proofs.Common.{map}
 use Rattle.std.proofs.Common.{length, slice_get, Contains, cond, if◌then◌else◌, refl, sym, ap, ◌∙◌, arith, subst}
 use Rattle.std.specs.List.{AllByRecursion as Each, list_any, flat_map, count_by, position}
 use Rattle.std.specs.Option.{option_or, option_to_list}
@@ -7,7 +8,8 @@ use Rattle.std.proofs.lemmas.Bool.Decides.{nat_tests}
 use Rattle.std.proofs.lemmas.List.{length-map, length-append}
 use Rattle.std.proofs.lemmas.List.Sums.{sum_by-cons}
 use Rattle.std.proofs.lemmas.List.Elements.{All-from_recursion as Each-All, recursion_from_All as Each-from}
-use Rattle.un_reader.specs.Vocabulary.{NameId, Kind, General, SrcOp, SourceBlock, OpLine, TermLine, Line, Func, Block, Operation, Terminator}
+use Rattle.un_reader.specs.Vocabulary.{NameId, Kind, General, SrcOp, SourceBlock, OpLine, TermLine, Line, Func, Block, Operation}
+use Rattle.un_reader.specs.Vocabulary.{Terminator}
 use Rattle.un_reader.specs.Vocabulary.{Spelled}
 use Rattle.un_ir.specs.Live.{IsLive, targets_of, used, kept, read_by_term, read_by, read_at}
 use Rattle.un_ir.specs.Names.{names_on_op, names_in_block, appearances, first_appearances}
@@ -35,7 +37,8 @@ use Rattle.un_reader.proofs.Rules.{AreApart, IsGoodBefore, IsGoodLine, AreFaultl
 use Rattle.un_reader.proofs.TextLines.{solid, text_lines, group_lines, laid, Each-solid, names_solid, ops_solid, group_labels, EachOf}
 use Rattle.un_reader.proofs.TextLines.{from_groups, to_groups, count_groups, text_names, groups_back, text_order}
 use Rattle.un_reader.proofs.Fits.{IsKept, IsAsked, IsPlain, AreFit, lines_fit, fit_lines}
-use Rattle.un_reader.proofs.Whole.{IsInside, HasTarget, StaysInside, has_target, stays_inside, none_passes, passes_none, last_ends, last_well}
+use Rattle.un_reader.proofs.Whole.{IsInside, HasTarget, StaysInside, has_target, stays_inside, none_passes, passes_none, last_ends}
+use Rattle.un_reader.proofs.Whole.{last_well}
 use Rattle.un_reader.proofs.Whole.{well_last, blocks_lead, lead_blocks, AlikeWith, all_alike, alike_all, blocks_alike, alike_blocks}
 
 -- ---- the whole has no fault
@@ -129,7 +132,8 @@ lines_spelled (line ∷ lines) s =
 -- the names on lines have their places among them
 pub all_placed : (lines : List Line) → Each (λ (x : Spelled). IsPlaced (same_name x) x (names_of lines)) (flat_map names_on lines)
 all_placed lines =
-    Each-weaken (λ (x : Spelled). list_any (same_name x) (names_of lines) ≡ true) (λ (x : Spelled). IsPlaced (same_name x) x (names_of lines))
+    Each-weaken (λ (x : Spelled). list_any (same_name x) (names_of lines) ≡ true)
+    (λ (x : Spelled). IsPlaced (same_name x) x (names_of lines))
     (λ x h. name_placed (names_of lines) x h) (flat_map names_on lines) (in_numbered [] (flat_map names_on lines))
 
 kept_names : (lines : List Line) → Each (λ (l : Line). Each (IsKept (names_of lines)) (names_on l)) lines
@@ -198,7 +202,7 @@ module _ (all : List (List ℕ)) (good : HasNoLineFault all) (whole : shape_faul
     where
       by : (o : Option (List ℕ)) → name_of lines ≡ o → is_none o ≡ false
       by None e =
-          let none = (kept_all all good).named e in let some = is_of.blocks in let count = ap length none in absurd (omega (arith, count, some))
+          let none = ap length ((kept_all all good).named e) in let some = is_of.blocks in absurd (omega (arith, none, some))
       by (Some name) e = refl
 
   is_text : solid lines ≡ text
@@ -239,7 +243,9 @@ module _ (all : List (List ℕ)) (good : HasNoLineFault all) (whole : shape_faul
       groups (in_groups (StaysInside labels) stays) in
       let some : groups ≢ [] = λ e. (let count = group_count in let more = is_of.blocks in let none = ap length e in
       omega (arith, count, more, none)) in
-      let inside = blocks_lead names labels 0 groups (let same = group_count in omega (arith, same)) targets false (last_well lines some is_of.ends) b block got in
+      let same = group_count in
+      let ends = last_well lines some is_of.ends in
+      let inside = blocks_lead names labels 0 groups (omega (arith, same)) targets false ends b block got in
       Each-All (λ (c : ℕ). (0 < c) × (c < length blocks)) (targets_of b block.term)
       (subst (λ (n : ℕ). Each (IsInside n) (targets_of b block.term)) (sym block_count)
       (subst (λ (n : ℕ). Each (IsInside (length labels)) (targets_of n block.term)) (omega arith) inside))
@@ -384,8 +390,11 @@ module _ (name : List ℕ) (params : List Spelled) (gs : List Group) (plain : Ea
     spared : (P : Line → Type 0) → P (Func name params) → ((label : List ℕ) (freq : _) → P (Block label freq))
         → ((o : OpLine) → P (Operation o))
         → Each (λ (g : Group). IfThere (λ (t : TermLine). P (Terminator t)) g.term) gs → Each P written
-    spared P func block op terms = (func, to_groups P gs (Each-weaken (λ (g : Group). IfThere (λ (t : TermLine). P (Terminator t)) g.term)
-        (EachOf P) (λ g t. record { block = block g.label g.freq; ops = ops g.ops; term = t }) gs terms))
+    spared P func block op terms = (
+      func,
+      to_groups P gs (Each-weaken (λ (g : Group). IfThere (λ (t : TermLine). P (Terminator t)) g.term)
+          (EachOf P) (λ g t. record { block = block g.label g.freq; ops = ops g.ops; term = t }) gs terms),
+    )
       where
         ops : (os : List OpLine) → Each (λ (o : OpLine). P (Operation o)) os
         ops [] = tt
@@ -410,6 +419,11 @@ module _ (name : List ℕ) (params : List Spelled) (gs : List Group) (plain : Ea
         by None t = tt
         by (Some term) t = stays_inside their_labels term t
 
+    none_there : (p : List (List ℕ) → Line → Bool) → Each (λ (l : Line). p their_labels l ≡ false) written
+        → position (p (labels_of written)) written ≡ None
+    none_there p e =
+        subst (λ (ls : List (List ℕ)). position (p ls) written ≡ None) (sym labels_back) (passes_none (p their_labels) written e)
+
     -- and the whole has none
     pub text_whole : shape_fault written ≡ None
     text_whole =
@@ -419,10 +433,10 @@ module _ (name : List ℕ) (params : List Spelled) (gs : List Group) (plain : Ea
           blocks = let some = w.entry in let same = ap length labels_back in let a = group_number in let b = block_number in
               omega (arith, some, same, a, b);
           ends = well_last written ends;
-          outside = subst (λ (ls : List (List ℕ)). position (jumps_outside ls) written ≡ None) (sym labels_back) (passes_none (jumps_outside their_labels) written
-              (Each-weaken (StaysInside their_labels) (λ (l : Line). jumps_outside their_labels l ≡ false) (λ l s. s.0) written stays));
-          entry = subst (λ (ls : List (List ℕ)). position (jumps_to_entry ls) written ≡ None) (sym labels_back) (passes_none (jumps_to_entry their_labels) written
-              (Each-weaken (StaysInside their_labels) (λ (l : Line). jumps_to_entry their_labels l ≡ false) (λ l s. s.1) written stays));
+          outside = none_there jumps_outside
+              (Each-weaken (StaysInside their_labels) (λ (l : Line). jumps_outside their_labels l ≡ false) (λ l s. s.0) written stays);
+          entry = none_there jumps_to_entry
+              (Each-weaken (StaysInside their_labels) (λ (l : Line). jumps_to_entry their_labels l ≡ false) (λ l s. s.1) written stays);
           alike = alike_all written (record {
             valued = a.valued;
             alike = spared (AlikeWith a.valued) (λ x e. absurd (cc e)) (λ l f x e. absurd (cc e)) (λ o x e. absurd (cc e)) a.alike;

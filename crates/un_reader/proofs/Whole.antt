@@ -133,15 +133,15 @@ last_found : (lines : List Line) → NoBlockLine lines ⊎ LastBlock lines
 last_found [] = inl (record { same = λ n last. refl; none = refl })
 last_found (Block label freq ∷ lines) = elim (last_found lines) [
   | inl b ↦ inr (record {
-      place = 0;
-      found = λ n last. b.same (n + 1) (Some n) ∙ ap Some (omega arith);
-      ends = λ v. rw b.none refl;
-    })
+    place = 0;
+    found = λ n last. b.same (n + 1) (Some n) ∙ ap Some (omega arith);
+    ends = λ v. rw b.none refl;
+  })
   | inr l ↦ inr (record {
-      place = suc l.place;
-      found = λ n last. l.found (n + 1) (Some n) ∙ ap Some (omega arith);
-      ends = λ v. l.ends (ends_well (term_of lines));
-    })
+    place = suc l.place;
+    found = λ n last. l.found (n + 1) (Some n) ∙ ap Some (omega arith);
+    ends = λ v. l.ends (ends_well (term_of lines));
+  })
 ]
 last_found (_ ∷ lines) = elim (last_found lines) [
   | inl b ↦ inl (record { same = λ n last. b.same (n + 1) last; none = b.none })
@@ -211,7 +211,8 @@ module _ (names : List Spelled) (labels : List (List ℕ)) where
   blocks_lead b [] count t v ends k block got = absurd (cc got)
   blocks_lead b (g ∷ gs) count t v ends zero block got =
       let same : block_of names labels g ≡ block = same_some (block_of names labels g) block got in
-      let here : Each (IsInside (length labels)) (targets_of b (block_of names labels g).term) = term_leads b g.term t.0 (next gs count ends) in
+      let here : Each (IsInside (length labels)) (targets_of b (block_of names labels g).term) =
+      term_leads b g.term t.0 (next gs count ends) in
       let place : b ≡ b + 0 = omega arith in
       subst (λ (n : ℕ). Each (IsInside (length labels)) (targets_of n block.term)) place
       (subst (λ (x : SourceBlock). Each (IsInside (length labels)) (targets_of b x.term)) same here)
@@ -287,13 +288,16 @@ all_alike lines h = by (first_value lines) refl h
         → AllAlike lines
     by None e hyp = record { valued = true; alike = no_value true lines e }
     by (Some v) e hyp =
-        record { valued = v; alike = Each-weaken (λ (l : Line). returns_else v l ≡ false) (AlikeWith v) (unlike_none v) lines
-            (none_passes (returns_else v) lines hyp) }
+        record {
+          valued = v;
+          alike = Each-weaken (λ (l : Line). returns_else v l ≡ false) (AlikeWith v) (unlike_none v) lines
+              (none_passes (returns_else v) lines hyp);
+        }
 
 first_alike : (v : Bool) (lines : List Line) → Each (AlikeWith v) lines → (x : Bool) → first_value lines ≡ Some x → x ≡ v
 first_alike v [] e x f = absurd (cc f)
 first_alike v (l ∷ lines) e x f = by (value_on l) refl f
-  (first_alike v lines e.1 x)
+    (first_alike v lines e.1 x)
   where
     by : (o : Option Bool) → value_on l ≡ o → option_or o (first_value lines) ≡ Some x → (first_value lines ≡ Some x → x ≡ v) → x ≡ v
     by None g h later = later h
@@ -302,7 +306,8 @@ first_alike v (l ∷ lines) e x f = by (value_on l) refl f
 pub alike_all : (lines : List Line) → AllAlike lines → mixed_return lines ≡ None
 alike_all lines a = by (first_value lines) (first_alike a.valued lines a.alike)
   where
-    by : (o : Option Bool) → ((x : Bool) → o ≡ Some x → x ≡ a.valued) → option_and_then (λ (v : Bool). position (returns_else v) lines) o ≡ None
+    by : (o : Option Bool) → ((x : Bool) → o ≡ Some x → x ≡ a.valued)
+        → option_and_then (λ (v : Bool). position (returns_else v) lines) o ≡ None
     by None f = refl
     by (Some v) f =
         let same : v ≡ a.valued = f v refl in
@@ -359,4 +364,5 @@ module _ (names : List Spelled) (labels : List (List ℕ)) where
       by : (o : Option Bool) → gives_value (block_of names labels g).term ≡ o → AlikeGroups gs → AlikeGroups (g ∷ gs)
       by None e later =
           record { valued = later.valued; alike = (at later.valued g.term (λ x f. absurd (cc (sym e ∙ f))), later.alike) }
-      by (Some v) e later = record { valued = v; alike = (at v g.term (λ x f. let same : Some v ≡ Some x = sym e ∙ f in cc same), each v gs e p.0) }
+      by (Some v) e later =
+          record { valued = v; alike = (at v g.term (λ x f. let same : Some v ≡ Some x = sym e ∙ f in cc same), each v gs e p.0) }

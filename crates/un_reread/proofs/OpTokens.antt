@@ -1,5 +1,6 @@
 -- The words of the line of an operation, by their form, and how long the line is.
-use Rattle.std.proofs.Common.{◌≡◌, ℕ, ◌+◌, ◌*◌, ◌≤◌, true, false, List, [], ◌∷◌, ◌++◌, map, codes, length, Option, Some, None, IfSome, option_map}
+use Rattle.std.proofs.Common.{◌≡◌, ℕ, ◌+◌, ◌*◌, ◌≤◌, true, false, List, [], ◌∷◌, ◌++◌, map, codes, length, Option, Some, None, IfSome}
+use Rattle.std.proofs.Common.{option_map}
 use Rattle.std.proofs.Common.{refl, sym, arith, subst, append_assoc}
 use Rattle.un_reader.specs.Vocabulary.{NameId, Kind, SrcOp, Token, Spelled}
 use Rattle.un_base.specs.Names.{is_name}

@@ -22,9 +22,10 @@ module _ (names : Names) (blocks : List SourceBlock) (named : AreNames names) (l
       → AreLines (map (op_line names) ops ++ (term_lines blocks names term ++ texts))
       (body_lines (map (op_as_line names) ops) (term_as_line blocks names term) lines)
   body_read [] b term texts lines good tests leads later = term_read blocks names b named labelled texts lines later term tests leads
-  body_read (o ∷ ops) b term texts lines good tests leads later =
-      (op_read names o named good.0,
-      body_read ops b term texts lines good.1 tests leads later)
+  body_read (o ∷ ops) b term texts lines good tests leads later = (
+    op_read names o named good.0,
+    body_read ops b term texts lines good.1 tests leads later,
+  )
 
   -- blocks of the function, from one on
   blocks_read : (k : ℕ) (some : List SourceBlock) → ((j : ℕ) (b : SourceBlock) → slice_get some j ≡ Some b → slice_get blocks (k + j) ≡ Some b)
@@ -34,10 +35,11 @@ module _ (names : Names) (blocks : List SourceBlock) (named : AreNames names) (l
   blocks_read k (b ∷ some) got leads good =
       let later = blocks_read (k + 1) some (λ j c g. (let place : k + 1 + j ≡ k + suc j = omega arith in
       subst (λ (n : ℕ). slice_get blocks n ≡ Some c) (sym place) (got (suc j) c g))) leads good.1 in
-      rw (append_assoc (map (op_line names) b.ops) (term_lines blocks names b.term) (flat_map (block_lines blocks names) some))
-      (block_read b good.0.label good.0.freq,
-      body_read b.ops (k + 0) b.term (flat_map (block_lines blocks names) some) (group_lines (map (as_group blocks names) some))
-      (Each-from (IsGoodOp names) b.ops good.0.ops) good.0.tests (leads (k + 0) b (got 0 b refl)) later)
+      rw (append_assoc (map (op_line names) b.ops) (term_lines blocks names b.term) (flat_map (block_lines blocks names) some)) (
+        block_read b good.0.label good.0.freq,
+        body_read b.ops (k + 0) b.term (flat_map (block_lines blocks names) some) (group_lines (map (as_group blocks names) some))
+            (Each-from (IsGoodOp names) b.ops good.0.ops) good.0.tests (leads (k + 0) b (got 0 b refl)) later,
+      )
 
 pub function_read : (f : Function) → IsWellFormed f.name f.params f.names f.blocks
     → AreLines (function_lines f) (text_lines f.name (map (spelled_at f.names) f.params) (map (as_group f.blocks f.names) f.blocks))
