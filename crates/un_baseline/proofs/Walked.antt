@@ -102,7 +102,7 @@ regs_kept t fit = all_filtered (in_mask t.saved) (IsKept t.clobbered) (λ (r : �
 
     kept : (r : ℕ) → r < 0 + 32 → in_mask t.saved r ≡ true → IsKept t.clobbered r
     kept r lt is =
-        let may = both_true (nat_le 6 r) (nat_le r 28) (fit.saved r (omega arith) is) in
+        let may = both_true (nat_le 6 r) (nat_lt r 29) (fit.saved r (omega arith) is) in
         let low = may.0 in
         let high = may.1 in
         record {
