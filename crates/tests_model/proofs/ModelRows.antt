@@ -15,9 +15,9 @@ use Rattle.un_ir.specs.declared.function.Term.TheVariants.{Fall, Jump as JumpTo,
 use Rattle.un_ir.specs.declared.extended.ExtKind.TheVariants.{In, Body}
 use Rattle.un_isa.specs.declared.packet_counts.Resource.TheVariants.{Instructions, Memory, Stores, MultiplyOrControl, Control}
 use Rattle.un_model.specs.Emission.{frame_bytes, slot_offset}
-use Rattle.un_model.specs.Instructions.{copy_of, frame_instr, transfer_of, latency_by, width_by, is_transfer, space_read, space_given}
+use Rattle.un_model.specs.Instructions.{copy_of, frame_instr, transfer_of, latency_by, is_transfer, space_read, space_given}
 use Rattle.un_model.specs.Registers.{is_assignable, predicate_registers, slots_of, with_zero, result_home}
-use Rattle.un_model.specs.Solutions.{latency_gap, memory_distance, frame_distance, broken_clauses}
+use Rattle.un_model.specs.Solutions.{latency_gap, memory_distance, frame_distance, share_of, broken_clauses}
 use Rattle.un_isa.specs.PacketCounts.{places_of}
 
 -- ---- registers
@@ -96,7 +96,7 @@ gaps : latency_gap HEXAGON (Some Load) (Some Add) ∷ latency_gap HEXAGON (Some 
     ≡ 2 ∷ 1 ∷ 1 ∷ []
 gaps = refl
 
-widths : width_by None ∷ width_by (Some Enter) ∷ [] ≡ 0 ∷ 1 ∷ []
+widths : map (share_of HEXAGON Instructions) (None ∷ Some Enter ∷ []) ≡ 0 ∷ 1 ∷ []
 widths = refl
 
 -- ---- spaces: of the first operand and of the result

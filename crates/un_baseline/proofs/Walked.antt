@@ -1,6 +1,6 @@
 -- The plan of all blocks keeps the clauses on choices, spaces, registers and homes.
 use Rattle.std.proofs.Common.{◌≡◌, ◌≢◌, ℕ, zero, suc, ◌+◌, ◌<◌, ◌≤◌, ◌||◌, ◌&&◌, Bool, true, false, nat_le, List, [], ◌∷◌, ◌++◌, length}
-use Rattle.std.proofs.Common.{map, filter, replicate, get_or, Some, None, refl, sym, ap, subst, ◌∙◌, append_assoc, arith}
+use Rattle.std.proofs.Common.{nat_lt, map, filter, replicate, get_or, Some, None, refl, sym, ap, subst, ◌∙◌, append_assoc, arith}
 use Rattle.std.specs.Prelude.{nat_eq, not, slice_get, if◌then◌else◌, All}
 use Rattle.std.specs.List.{AllZip, range_with_len}
 use Rattle.std.proofs.lemmas.Bool.Decides.{nat_tests}
@@ -102,7 +102,7 @@ regs_kept t fit = all_filtered (in_mask t.saved) (IsKept t.clobbered) (λ (r : �
 
     kept : (r : ℕ) → r < 0 + 32 → in_mask t.saved r ≡ true → IsKept t.clobbered r
     kept r lt is =
-        let may = both_true (nat_le 6 r) (nat_le r 28) (fit.saved r (omega arith) is) in
+        let may = both_true (nat_le 6 r) (nat_lt r 29) (fit.saved r (omega arith) is) in
         let low = may.0 in
         let high = may.1 in
         record {

@@ -37,7 +37,7 @@ use Rattle.un_model.specs.Arcs.{reads_from, own_instr, NeedsGap, block_arcs, blo
 use Rattle.un_model.specs.Arcs.NeedsGap.{ByData, ByMemory}
 use Rattle.un_model.specs.Instructions.{instruction_of, latency_by, needs_by, no_needs, is_control, is_transfer, transfer_of}
 use Rattle.un_model.specs.Schedules.{schedule_of, issues_of, value_by, cycle_by}
-use Rattle.un_model.specs.Solutions.{IsSchedule, IsPlaced, IsPlacedAs, IsLast, latency_gap, after_write, memory_distance}
+use Rattle.un_model.specs.Solutions.{share_of, IsSchedule, IsPlaced, IsPlacedAs, IsLast, latency_gap, after_write, memory_distance}
 use Rattle.un_model.specs.Variables.{model_of, arcs_of, blocks_temps, block_count, ops_count, var_at}
 use Rattle.un_model.proofs.ArcsKept.{KeepsArc, arcs_kept}
 use Rattle.un_model.proofs.Lists.{Member, each_member, index_get, place_of as position_of}
@@ -323,9 +323,9 @@ module _ (e : Ext) (o : Options) (x : List ℕ) (given : Given e o x)
                 let now : ((issue_at x p).cycle == n) ≡ true = eq-eqb (issue_at x p).cycle n same in
                 let need = needs_control e.table given.fit op class in
                 let is : share e o x given Control r.block n p ≡ (needs_by e.table (Some op)).control =
-                ap (λ (b : Bool). if b && ((issue_at x p).cycle == n) then (needs_by e.table (issue_at x p).instr).control else 0) here
-                ∙ ap (λ (b : Bool). if b then (needs_by e.table (issue_at x p).instr).control else 0) now
-                ∙ ap (λ (i : Option Op). (needs_by e.table i).control) instr in
+                ap (λ (b : Bool). if b && ((issue_at x p).cycle == n) then share_of e.table Control (issue_at x p).instr else 0) here
+                ∙ ap (λ (b : Bool). if b then share_of e.table Control (issue_at x p).instr else 0) now
+                ∙ ap (share_of e.table Control) instr in
                 omega arith
 
         by : (t : Bool) → nat_eq (issue_at x c).cycle (issue_at x q).cycle ≡ t → (issue_at x c).cycle + 1 ≤ (issue_at x q).cycle
