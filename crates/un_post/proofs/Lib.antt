@@ -1,7 +1,9 @@
 pub mod Appends
 pub mod BlockTemps
 pub mod Blocks
+pub mod CallBefores
 pub mod CallOrder
+pub mod CallWalks
 pub mod Choices
 pub mod Congruences
 pub mod Cycles
