@@ -1,6 +1,7 @@
 pub mod Appends
 pub mod BlockTemps
 pub mod Blocks
+pub mod CallAnew
 pub mod CallBefores
 pub mod CallOrder
 pub mod CallWalks
