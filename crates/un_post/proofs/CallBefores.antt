@@ -45,7 +45,8 @@ use Rattle.un_model.proofs.Readings.{Solved, Reading, reading, fit_kinds, number
 use Rattle.un_model.proofs.TempKinds.{carried_at, spot_carried, carried_is}
 use Rattle.un_prop.specs.Acts.{at_value}
 use Rattle.un_prop.specs.declared.act.Act.TheVariants.{Always}
-use Rattle.un_post.specs.CallBefores.{is_clobbered_home, reads_clobbered, is_home, reads_reply, reads_anew, waits_anew, anew_after}
+use Rattle.un_post.specs.CallBefores.{is_clobbered_home, reads_clobbered, is_home, reads_reply, reads_anew, waits_anew, anew_count, anew_gap}
+use Rattle.un_post.specs.CallBefores.{anew_after}
 use Rattle.un_post.specs.CallBefores.{is_between, of_call, of_call_at, of_calls, call_befores_by, call_befores_in, call_befores_of}
 use Rattle.un_post.specs.Constraints.{Constraint, meets, AllMet, Before}
 use Rattle.un_post.specs.Places.{Place, time_of}
@@ -53,6 +54,7 @@ use Rattle.un_post.specs.Postings.{is_call_kind, is_call_op, with_kind}
 use Rattle.un_post.specs.Rooms.{arcs_or, is_behind}
 use Rattle.un_post.proofs.Blocks.{blocks, region_places, region_vars, places_in, regions_met, in_all}
 use Rattle.un_post.proofs.CallAnew.{rewritten}
+use Rattle.un_post.proofs.CallCounts.{three_after}
 use Rattle.un_post.proofs.CallOrder.{ordered}
 use Rattle.un_post.proofs.Facts.{Given, falls, in_domains, definer_is, reader_goes, times, reading as asked_of}
 use Rattle.un_post.proofs.Meeting.{Met, each_places, joined_each}
@@ -100,6 +102,18 @@ module _ (e : Ext) (o : Options) (x : List ℕ) (given : Given e o x)
         let early = w.early in
         omega arith
 
+    gap_after : waits_anew e.table (place_of c) (place_of q) ≡ true
+        → (issue_at x c).cycle + anew_gap e.table (place_of c) (place_of q) ≤ (issue_at x q).cycle
+    gap_after h = by (is_call_kind q.op.kind) (nat_lt 4 (anew_count e.table (place_of c) (place_of q))) refl refl
+      where
+        by : (t b : Bool) → is_call_kind q.op.kind ≡ t → nat_lt 4 (anew_count e.table (place_of c) (place_of q)) ≡ b
+            → (issue_at x c).cycle + (if t && b then 3 else 2) ≤ (issue_at x q).cycle
+        by true true later many =
+            three_after e o x given schedule r mr c q mc mq call behind later mandatory
+            (let lt : 4 < anew_count e.table (place_of c) (place_of q) = grind (arith, nat_tests, many) in omega (arith, lt))
+        by true false later many = two_after h
+        by false b later many = two_after h
+
   -- ---- blocks
 
   behind_of : (arcs : List Arc) (c : Place) (next : Option Place) (u : Place) → is_between arcs c next u ≡ true
@@ -119,15 +133,17 @@ module _ (e : Ext) (o : Options) (x : List ℕ) (given : Given e o x)
     one_met c q mc mq call behind = by (waits_anew e.table (place_of c) (place_of q)) refl
       where
         by : (b : Bool) → waits_anew e.table (place_of c) (place_of q) ≡ b
-            → Met x (if b then Before (time_of (place_of c)) Always (time_of (place_of q)) Always 2 ∷ [] else [])
+            → Met x (if b then Before (time_of (place_of c)) Always (time_of (place_of q)) Always
+            (anew_gap e.table (place_of c) (place_of q)) ∷ [] else [])
         by false h = tt
         by true h =
             let two = and_iff (is_mandatory q.op.kind) (any_from (reads_anew e.table (place_of c) q.op.kind) 0 q.op.operands) in
             let order = ordered e o x given schedule r mr in
-            let le = two_after r mr c q mc mq call (order.behind c q mc mq call behind) (two.1 h).0 h in
+            let le = gap_after r mr c q mc mq call (order.behind c q mc mq call behind) (two.1 h).0 h in
             let a = times e o x given c in
             let b = times e o x given q in
-            ((le_iff (at_value (time_of (place_of c)) x + 2) (at_value (time_of (place_of q)) x)).0 (omega (arith, le, a, b)), tt)
+            let gap = anew_gap e.table (place_of c) (place_of q) in
+            ((le_iff (at_value (time_of (place_of c)) x + gap) (at_value (time_of (place_of q)) x)).0 (omega (arith, le, a, b)), tt)
 
     call_met : (next : Option Place) (c : Place) → Member c (with_kind is_call_kind ps) → Met x (of_call e.table arcs ps next c)
     call_met next c m =

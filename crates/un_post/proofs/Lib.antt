@@ -3,6 +3,7 @@ pub mod BlockTemps
 pub mod Blocks
 pub mod CallAnew
 pub mod CallBefores
+pub mod CallCounts
 pub mod CallOrder
 pub mod CallWalks
 pub mod Choices

@@ -1,10 +1,11 @@
 -- What is posted of what calls separate. A call leaves nothing in the registers that it clobbers but its own result, so an
 -- operation behind it that reads such a register waits for an instruction that writes the register after the call.
-use Rattle.std.specs.Prelude.{ℕ, ◌+◌, ◌==◌, Bool, true, false, not, ◌&&◌, ◌||◌, List, [], ◌∷◌, Option, Some, None, map, filter, slice_get}
-use Rattle.std.specs.Prelude.{if◌then◌else◌}
+use Rattle.std.specs.Prelude.{ℕ, ◌+◌, ◌==◌, nat_lt, Bool, true, false, not, ◌&&◌, ◌||◌, List, [], ◌∷◌, Option, Some, None, map}
+use Rattle.std.specs.Prelude.{filter, slice_get, if◌then◌else◌}
 use Rattle.std.specs.List.{list_any}
 use Rattle.un_base.specs.declared.ids.TempId.{TempId}
 use Rattle.un_isa.specs.Tables.{in_mask}
+use Rattle.un_isa.specs.declared.packet_counts.TheConstants.{PACKET}
 use Rattle.un_isa.specs.declared.reg.Reg.{Reg}
 use Rattle.un_isa.specs.declared.table.Table.{Table}
 use Rattle.un_ir.specs.Linear.{first_of}
@@ -17,6 +18,7 @@ use Rattle.un_model.specs.declared.model.BlockVars.{BlockVars}
 use Rattle.un_model.specs.Arcs.{is_mandatory}
 use Rattle.un_model.specs.Instructions.{instruction_of, space_read, is_predicate_space}
 use Rattle.un_model.specs.Pairs.{any_from, places_from, joined, over_blocks}
+use Rattle.un_model.specs.Variables.{count_if}
 use Rattle.un_prop.specs.declared.act.Act.TheVariants.{Always}
 use Rattle.un_post.specs.Constraints.{Constraint, Before}
 use Rattle.un_post.specs.Places.{Place, time_of, block_places}
@@ -52,9 +54,22 @@ reads_anew t c kind j x = reads_clobbered t.clobbered kind j x && not (reads_rep
 abbrev pub waits_anew : Table → Place → Place → Bool
 waits_anew t c u = is_mandatory u.it.kind && any_from (reads_anew t c u.it.kind) 0 u.it.operands
 
--- it is one cycle after an instruction that is one cycle after the call, at least
+-- how many places, counted from i, pass
+abbrev pub count_from : {A : Type 0} → (ℕ → A → Bool) → ℕ → List A → ℕ
+count_from p i [] = 0
+count_from p i (x ∷ xs) = count_if (p i x) + count_from p (i + 1) xs
+
+-- how many of its operands are such
+abbrev pub anew_count : Table → Place → Place → ℕ
+anew_count t c u = count_from (reads_anew t c u.it.kind) 0 u.it.operands
+
+-- What writes such an operand is at least one cycle after the call, and one before the operation. The arguments of a call are in
+-- different registers, so where more of them have to be written than a packet has places, another cycle lies between.
+abbrev pub anew_gap : Table → Place → Place → ℕ
+anew_gap t c u = if is_call_kind u.it.kind && nat_lt PACKET (anew_count t c u) then 3 else 2
+
 abbrev pub anew_after : Table → Place → Place → List Constraint
-anew_after t c u = if waits_anew t c u then Before (time_of c) Always (time_of u) Always 2 ∷ [] else []
+anew_after t c u = if waits_anew t c u then Before (time_of c) Always (time_of u) Always (anew_gap t c u) ∷ [] else []
 
 -- behind a call, but not behind the next one: what is behind that waits for more
 abbrev pub is_between : List Arc → Place → Option Place → Place → Bool

@@ -9,7 +9,8 @@ ghost use Rattle.un_isa.specs.Tables.{in_mask};
 ghost use Rattle.un_model.specs.Arcs.{is_mandatory};
 ghost use Rattle.un_model.specs.Pairs.{any_from, joined};
 ghost use Rattle.un_prop.specs.declared.act.Act.TheVariants.{Always};
-ghost use Rattle.un_post.specs.CallBefores.{is_clobbered_home, reads_clobbered, is_home, reads_reply, reads_anew, waits_anew, anew_after};
+ghost use Rattle.un_post.specs.CallBefores.{is_clobbered_home, reads_clobbered, is_home, reads_reply, reads_anew, waits_anew};
+ghost use Rattle.un_post.specs.CallBefores.{anew_count, anew_gap, anew_after};
 ghost use Rattle.un_post.specs.CallBefores.{is_between, of_call, of_calls, call_befores_by, call_befores_in, call_befores_of};
 ghost use Rattle.un_post.specs.Constraints as constraint;
 ghost use Rattle.un_post.specs.Places.{time_of};
@@ -33,6 +34,7 @@ use std::alloc::{AllocError, Global};
 use un_base::ids::TempId;
 use un_base::memory_error::NoMemory;
 use un_ir::extended::{ExtBlock, ExtKind, Operand};
+use un_isa::packet_counts::PACKET;
 use un_isa::reg::{Reg, Space};
 use un_isa::table::Table;
 use un_lists::items::Items;
@@ -130,10 +132,44 @@ fn waits_anew(t: &Table, call: &Spot<'_>, u: &Spot<'_>) -> Result<bool, NoMemory
     }
 }
 
+/// How many operands of an operation read what has to be written after a call.
+fn anew_count(t: &Table, call: &Spot<'_>, u: &Spot<'_>) -> Result<usize, NoMemory>
+    ensures { IfOk result (λ k. k ≡ anew_count t.now (place_of call.now) (place_of u.now)) }
+{
+    let mut count = 0;
+    for j in 0..u.it.operands.len() {
+        let at = number(j)?;
+        if reads_anew(t, call, &u.it.kind, at, u.it.operands.get(j)) {
+            count += 1;
+        }
+    }
+    Ok(count)
+}
+
+/// How many cycles such an operation is after the call, at least.
+fn anew_gap(t: &Table, call: &Spot<'_>, u: &Spot<'_>) -> Result<u32, NoMemory>
+    ensures { IfOk result (λ gap. gap ≡ anew_gap t.now (place_of call.now) (place_of u.now)) }
+{
+    if !is_call(&u.it.kind) {
+        return Ok(2);
+    }
+    let count = anew_count(t, call, u)?;
+    if PACKET as usize < count {
+        Ok(3)
+    } else {
+        Ok(2)
+    }
+}
+
 /// An operation waits for what is written after a call.
-fn post_wait(props: &mut Props, call: &Spot<'_>, u: &Spot<'_>) -> Result<(), NoMemory>
+fn post_wait(
+    props: &mut Props,
+    call: &Spot<'_>,
+    u: &Spot<'_>,
+    gap: u32,
+) -> Result<(), NoMemory>
     ensures { OnOk result (props.new ≡ props.old
-        ++ constraint.Before (time_of (place_of call.now)) Always (time_of (place_of u.now)) Always 2 ∷ []) }
+        ++ constraint.Before (time_of (place_of call.now)) Always (time_of (place_of u.now)) Always gap ∷ []) }
 {
     let made = make_before(
         props.alloc(),
@@ -141,7 +177,7 @@ fn post_wait(props: &mut Props, call: &Spot<'_>, u: &Spot<'_>) -> Result<(), NoM
         Act::Always,
         u.time(),
         Act::Always,
-        2,
+        gap,
     )?;
     props.push(made)?;
     Ok(())
@@ -157,7 +193,8 @@ fn post_anew(
     ensures { OnOk result (props.new ≡ props.old ++ anew_after t.now (place_of call.now) (place_of u.now)) }
 {
     if waits_anew(t, call, u)? {
-        post_wait(props, call, u)?;
+        let gap = anew_gap(t, call, u)?;
+        post_wait(props, call, u, gap)?;
     }
     Ok(())
 }
