@@ -54,7 +54,7 @@ use Rattle.un_post.specs.Postings.{is_call_kind, is_call_op, with_kind}
 use Rattle.un_post.specs.Rooms.{arcs_or, is_behind}
 use Rattle.un_post.proofs.Blocks.{blocks, region_places, region_vars, places_in, regions_met, in_all}
 use Rattle.un_post.proofs.CallOrder.{ordered}
-use Rattle.un_post.proofs.Facts.{Given, falls, in_domains, definer_is, reader_goes, times, reading as asked_of}
+use Rattle.un_post.proofs.Facts.{Given, falls, in_domains, definer_is, reader_goes, Reading as Asking, reading as asked_of}
 use Rattle.un_post.proofs.Meeting.{Met, each_places, joined_each}
 use Rattle.un_post.proofs.Memory.{contains_member}
 use Rattle.un_post.proofs.Placing.{place_of}
@@ -193,34 +193,35 @@ module _ (e : Ext) (o : Options) (x : List ℕ) (given : Given e o x)
   solved = record { extended = given.extended; fit = given.fit; options = given.options; schedule = schedule }
 
   -- what a call gives is in the register of results
-  result_register : (s : Spot) → Member s (spots e o x) → (let q = s.definer in is_call_kind q.op.kind ≡ true)
-      → (spot_range e o x s).reg ≡ (e.table).result
-  result_register s m call = by q.op.kind refl call
-    where
-      abbrev q : Placed
-      q = s.definer
+  module _ (s : Spot) (m : Member s (spots e o x)) where
+    abbrev maker : Placed
+    maker = s.definer
 
-      abbrev reg : ℕ
-      reg = (spot_range e o x s).reg
+    abbrev reg : ℕ
+    reg = (spot_range e o x s).reg
 
-      sits : InDomain reg (register_domain e o (in_entry e o x q) q.owner q.op.kind s.place s.temp (carried q.op s.temp))
-      sits =
-          let d = definer_is e o x given s m in
-          register_sits e o x (in_entry e o x q) q s.place s.temp (in_domains e o x given q d.0) d.1
+    sits : InDomain reg (register_domain e o (in_entry e o x maker) maker.owner maker.op.kind s.place s.temp (carried maker.op s.temp))
+    sits =
+        let d = definer_is e o x given s m in
+        register_sits e o x (in_entry e o x maker) maker s.place s.temp (in_domains e o x given maker d.0) d.1
 
-      by : (kind : ExtKind) → q.op.kind ≡ kind → is_call_kind kind ≡ true → reg ≡ (e.table).result
-      by (Body so) k c =
-          let here = subst (λ (k : ExtKind). InDomain reg (register_domain e o (in_entry e o x q) q.owner k s.place s.temp
-          (carried q.op s.temp))) k sits in
-          let own = subst (λ (op : Op). InDomain reg (source_domain e o (in_entry e o x q) q.owner op s.temp)) (call_op so.op c) here in
-          let is = contains_member ((e.table).result ∷ []) reg own in
-          elim is [ inl same ↦ sym same | inr none ↦ elim none [ ] ]
-      by In k c = absurd (cc c)
-      by Out k c = absurd (cc c)
-      by (End term) k c = absurd (cc c)
-      by (Copy node) k c = absurd (cc c)
-      by Enter k c = absurd (cc c)
-      by Leave k c = absurd (cc c)
+    result_register : is_call_kind maker.op.kind ≡ true → reg ≡ (e.table).result
+    result_register call = by maker.op.kind refl call
+      where
+        by : (kind : ExtKind) → maker.op.kind ≡ kind → is_call_kind kind ≡ true → reg ≡ (e.table).result
+        by (Body so) k c =
+            let here = subst (λ (k : ExtKind). InDomain reg (register_domain e o (in_entry e o x maker) maker.owner k s.place s.temp
+            (carried maker.op s.temp))) k sits in
+            let own = subst (λ (op : Op). InDomain reg (source_domain e o (in_entry e o x maker) maker.owner op s.temp))
+            (call_op so.op c) here in
+            let is = contains_member ((e.table).result ∷ []) reg own in
+            elim is [ inl same ↦ sym same | inr none ↦ elim none [ ] ]
+        by In k c = absurd (cc c)
+        by Out k c = absurd (cc c)
+        by (End term) k c = absurd (cc c)
+        by (Copy node) k c = absurd (cc c)
+        by Enter k c = absurd (cc c)
+        by Leave k c = absurd (cc c)
 
   -- what an operand reads, where it is defined after a call: it waits for that
   pub record Rewritten (c q : Placed) (operand : Operand) : Type 0 where
@@ -234,117 +235,111 @@ module _ (e : Ext) (o : Options) (x : List ℕ) (given : Given e o x)
 
   module _ (r : Region) (mr : Member r (blocks e o x)) (c q : Placed) (mc : Member c (region_placed r)) (mq : Member q (region_placed r))
       (call : is_call_kind c.op.kind ≡ true) (behind : (issue_at x c).cycle + 1 ≤ (issue_at x q).cycle)
-      (mandatory : is_mandatory q.op.kind ≡ true) where
-    pub rewritten : (j : ℕ) (operand : Operand) → slice_get q.op.operands j ≡ Some operand
-        → reads_anew e.table (place_of c) q.op.kind j operand ≡ true → Rewritten c q operand
-    rewritten j operand at anew = given_by read.0 read.1 read.2
-      where
-        q_in : Member q (all e o x)
-        q_in = in_all e o x r q mr mq
+      (mandatory : is_mandatory q.op.kind ≡ true) (j : ℕ) (operand : Operand) (at : slice_get q.op.operands j ≡ Some operand)
+      (anew : reads_anew e.table (place_of c) q.op.kind j operand ≡ true) where
+    q_in : Member q (all e o x)
+    q_in = in_all e o x r q mr mq
 
-        asked = asked_of e o x given q j operand q_in at
+    two : (reads_clobbered (e.table).clobbered q.op.kind j operand ≡ true)
+        × (not (reads_reply (e.table).result (place_of c) operand) ≡ true)
+    two = (and_iff (reads_clobbered (e.table).clobbered q.op.kind j operand) (not (reads_reply (e.table).result (place_of c) operand))).1
+        anew
 
-        act : (issue_at x q).active ≡ true
-        act = let v = vars_of q in always_active q.op.kind (value_by x v.instr) mandatory (reader_goes e o x given q j operand asked)
+    module _ (asked : Asking e o x given q j operand) (want : Want)
+        (wants : slice_get (wants_of e.table e.names e.blocks q.owner q.op.kind q.op) j ≡ Some want)
+        (rd : Reading e o x solved q j operand want) where
+      abbrev s : Spot
+      s = rd.spot
 
-        read = reading e o x solved q j operand q_in act at
+      abbrev h : LiveRange
+      h = spot_range e o x s
 
-        two = (and_iff (reads_clobbered (e.table).clobbered q.op.kind j operand) (not (reads_reply (e.table).result (place_of c) operand))).1
-            anew
+      range : range_at e o x s.temp.0 ≡ h
+      range = range_here e o x (solved_numbered e o x solved) s rd.member
 
-        given_by : (want : Want) → slice_get (wants_of e.table e.names e.blocks q.owner q.op.kind q.op) j ≡ Some want
-            → Reading e o x solved q j operand want → Rewritten c q operand
-        given_by want wants rd = record {
-          spot = s;
-          member = rd.member;
-          block = rd.block;
-          active = active;
-          home = home;
-          late = late;
-          early = early;
-        }
-          where
-            abbrev s : Spot
-            s = rd.spot
+      active : h.active ≡ true
+      active = subst (λ (v : LiveRange). v.active ≡ true) range rd.active
 
-            abbrev h : LiveRange
-            h = spot_range e o x s
+      home : HasHome operand.home h
+      home =
+          let fits = asked.fits in
+          let same : Some asked.want ≡ Some want = sym asked.wants ∙ wants in
+          let one : asked.want ≡ want = cc same in
+          let is : operand.home ≡ want.home = fits.home ∙ ap (λ (w : Want). w.home) one in
+          subst (λ (r : Option Reg). HasHome r h) (sym is) (subst (λ (v : LiveRange). HasHome want.home v) range rd.home)
 
-            range : range_at e o x s.temp.0 ≡ h
-            range = range_here e o x (solved_numbered e o x solved) s rd.member
+      space : InSpace h.reg (space_read (instruction_of q.op.kind 0) j)
+      space =
+          let v = vars_of q in
+          subst (λ (i : Option Op). InSpace h.reg (space_read i j)) (own_instruction q.op.kind (value_by x v.instr) mandatory)
+          (subst (λ (v : LiveRange). InSpace v.reg (space_read (issue_at x q).instr j)) range rd.space)
 
-            active : h.active ≡ true
-            active = subst (λ (v : LiveRange). v.active ≡ true) range rd.active
+      there : Clobbered e.table h.reg operand.home
+      there = clobbered e.table given.fit q.op.kind j operand h.reg two.0 space home
 
-            home : HasHome operand.home h
-            home =
-                let fits = asked.fits in
-                let same : Some asked.want ≡ Some want = sym asked.wants ∙ wants in
-                let one : asked.want ≡ want = cc same in
-                let is : operand.home ≡ want.home = fits.home ∙ ap (λ (w : Want). w.home) one in
-                subst (λ (r : Option Reg). HasHome r h) (sym is) (subst (λ (v : LiveRange). HasHome want.home v) range rd.home)
+      -- the call's own result would be read where the call gives it
+      own : s.definer ≡ c → ⊥
+      own is =
+          let kind : is_call_kind s.definer.op.kind ≡ true = ap (λ (p : Placed). is_call_kind p.op.kind) is ∙ call in
+          let value : s.temp ≡ temp (first_of operand.alts) =
+          sym (call_carries s.definer.op.kind s kind)
+          ∙ sym (carried_is e o x (solved_numbered e o x solved) (fit_kinds e o x solved) s rd.member) ∙ rd.value in
+          let place = (definer_is e o x given s rd.member).1 in
+          let listed : slice_get c.op.results s.place ≡ Some s.temp =
+          sym (ap (λ (p : Placed). slice_get p.op.results s.place) is) ∙ place in
+          let some = any_at (λ (y : TempId). y.0 == first_of operand.alts) c.op.results s.place s.temp listed
+          (eq-eqb s.temp.0 (first_of operand.alts) (ap (λ (t : TempId). t.0) value)) in
+          let at_home = there.reply (result_register s rd.member kind) in
+          let reply : reads_reply (e.table).result (place_of c) operand ≡ true =
+          (and_iff (list_any (λ (y : TempId). y.0 == first_of operand.alts) c.op.results)
+          (is_home (e.table).result operand.home)).0 (some, at_home) in
+          let no : true ≡ false = sym two.1 ∙ ap not reply in
+          cc no
 
-            space : InSpace h.reg (space_read (instruction_of q.op.kind 0) j)
-            space =
-                let v = vars_of q in
-                subst (λ (i : Option Op). InSpace h.reg (space_read i j)) (own_instruction q.op.kind (value_by x v.instr) mandatory)
-                (subst (λ (v : LiveRange). InSpace v.reg (space_read (issue_at x q).instr j)) range rd.space)
+      other : c.number ≡ s.definer.number → ⊥
+      other same =
+          let d = definer_is e o x given s rd.member in
+          let c_in = in_all e o x r c mr mc in
+          let a = at_number 0 (all e o x) s.definer c.number (all_count 0 0 0 e.blocks) d.0 (sym same ∙ omega arith) in
+          let b = at_number 0 (all e o x) c c.number (all_count 0 0 0 e.blocks) c_in (omega arith) in
+          let one : Some s.definer ≡ Some c = sym a ∙ b in
+          own (cc one)
 
-            there : Clobbered e.table h.reg operand.home
-            there = clobbered e.table given.fit q.op.kind j operand h.reg two.0 space home
+      spared : SparesRange (e.table).clobbered (issue_at x c) h
+      spared =
+          let registers = schedule.registers in
+          let mask = (e.table).clobbered in
+          let issues = issues_of (model_of e o) x in
+          let each = (ranges_each e o x given (IsSpared mask issues)).0 registers.1 in
+          let mine = all_spared mask issues h (each_member _ (spots e o x) s each rd.member) in
+          each_member _ (all e o x) c ((issues_each e o x given (λ (i : Issue). SparesRange mask i h)).0 mine) (in_all e o x r c mr mc)
 
-            -- the call's own result would be read where the call gives it
-            own : s.definer ≡ c → ⊥
-            own is =
-                let kind : is_call_kind s.definer.op.kind ≡ true = ap (λ (p : Placed). is_call_kind p.op.kind) is ∙ call in
-                let value : s.temp ≡ temp (first_of operand.alts) =
-                sym (call_carries s.definer.op.kind s kind)
-                ∙ sym (carried_is e o x (solved_numbered e o x solved) (fit_kinds e o x solved) s rd.member) ∙ rd.value in
-                let place = (definer_is e o x given s rd.member).1 in
-                let listed : slice_get c.op.results s.place ≡ Some s.temp =
-                sym (ap (λ (p : Placed). slice_get p.op.results s.place) is) ∙ place in
-                let some = any_at (λ (y : TempId). y.0 == first_of operand.alts) c.op.results s.place s.temp listed
-                (eq-eqb s.temp.0 (first_of operand.alts) (ap (λ (t : TempId). t.0) value)) in
-                let at_home = there.reply (result_register s rd.member kind) in
-                let reply : reads_reply (e.table).result (place_of c) operand ≡ true =
-                (and_iff (list_any (λ (y : TempId). y.0 == first_of operand.alts) c.op.results)
-                (is_home (e.table).result operand.home)).0 (some, at_home) in
-                let no : true ≡ false = sym two.1 ∙ ap not reply in
-                cc no
+      apart : (h.from ≤ (issue_at x c).cycle) × ((issue_at x c).cycle ≤ h.last) → ⊥
+      apart =
+          let v = vars_of c in
+          let block : c.block ≡ s.definer.block = of_region r c mc ∙ sym (of_region r q mq) ∙ sym rd.block in
+          not_there (e.table).clobbered (issue_at x c) h spared (call_instr c.op.kind (value_by x v.instr) call) block other active
+          there.mask
 
-            other : c.number ≡ s.definer.number → ⊥
-            other same =
-                let d = definer_is e o x given s rd.member in
-                let c_in = in_all e o x r c mr mc in
-                let a = at_number 0 (all e o x) s.definer c.number (all_count 0 0 0 e.blocks) d.0 (sym same ∙ omega arith) in
-                let b = at_number 0 (all e o x) c c.number (all_count 0 0 0 e.blocks) c_in (omega arith) in
-                let one : Some s.definer ≡ Some c = sym a ∙ b in
-                own (cc one)
+      late : (issue_at x c).cycle + 1 ≤ (issue_at x s.definer).cycle
+      late =
+          let last : (issue_at x q).cycle ≤ h.last + 1 = subst (λ (v : LiveRange). (issue_at x q).cycle ≤ v.last + 1) range rd.last in
+          elim (cases_lt (issue_at x c).cycle h.from) [ inl lt ↦ omega arith | inr le ↦ absurd (apart (le, omega (arith, last, behind))) ]
 
-            spared : SparesRange (e.table).clobbered (issue_at x c) h
-            spared =
-                let registers = schedule.registers in
-                let mask = (e.table).clobbered in
-                let issues = issues_of (model_of e o) x in
-                let each = (ranges_each e o x given (IsSpared mask issues)).0 registers.1 in
-                let mine = all_spared mask issues h (each_member _ (spots e o x) s each rd.member) in
-                each_member _ (all e o x) c ((issues_each e o x given (λ (i : Issue). SparesRange mask i h)).0 mine) (in_all e o x r c mr mc)
+      early : (issue_at x s.definer).cycle + 1 ≤ (issue_at x q).cycle
+      early =
+          let ready : h.from + latency_by e.table h.instr ≤ (issue_at x q).cycle =
+          subst (λ (v : LiveRange). v.from + latency_by e.table v.instr ≤ (issue_at x q).cycle) range rd.ready in
+          let one = waits_one e.table given.fit h.instr in
+          omega (arith, ready, one)
 
-            apart : (h.from ≤ (issue_at x c).cycle) × ((issue_at x c).cycle ≤ h.last) → ⊥
-            apart =
-                let v = vars_of c in
-                let block : c.block ≡ s.definer.block = of_region r c mc ∙ sym (of_region r q mq) ∙ sym rd.block in
-                not_there (e.table).clobbered (issue_at x c) h spared (call_instr c.op.kind (value_by x v.instr) call) block other active
-                there.mask
+      found : Rewritten c q operand
+      found = record { spot = s; member = rd.member; block = rd.block; active = active; home = home; late = late; early = early }
 
-            late : (issue_at x c).cycle + 1 ≤ (issue_at x s.definer).cycle
-            late =
-                let last : (issue_at x q).cycle ≤ h.last + 1 = subst (λ (v : LiveRange). (issue_at x q).cycle ≤ v.last + 1) range rd.last in
-                elim (cases_lt (issue_at x c).cycle h.from) [ inl lt ↦ omega arith | inr le ↦ absurd (apart (le, omega arith)) ]
-
-            early : (issue_at x s.definer).cycle + 1 ≤ (issue_at x q).cycle
-            early =
-                let ready : h.from + latency_by e.table h.instr ≤ (issue_at x q).cycle =
-                subst (λ (v : LiveRange). v.from + latency_by e.table v.instr ≤ (issue_at x q).cycle) range rd.ready in
-                let one = waits_one e.table given.fit h.instr in
-                omega arith
+    pub rewritten : Rewritten c q operand
+    rewritten =
+        let asked = asked_of e o x given q j operand q_in at in
+        let v = vars_of q in
+        let act = always_active q.op.kind (value_by x v.instr) mandatory (reader_goes e o x given q j operand asked) in
+        let read = reading e o x solved q j operand q_in act at in
+        found asked read.0 read.1 read.2

@@ -16,6 +16,7 @@ use Rattle.un_ir.specs.declared.extended.ExtKind.{ExtKind}
 use Rattle.un_ir.specs.declared.extended.ExtKind.TheVariants.{In, Out, Body, End, Copy, Enter, Leave}
 use Rattle.un_ir.specs.declared.extended.Operand.{Operand}
 use Rattle.un_ir.specs.declared.extended.Ext.{Ext}
+use Rattle.un_ir.specs.declared.extended.ExtBlock.{ExtBlock}
 use Rattle.un_ir.specs.declared.function.SrcOp.{SrcOp}
 use Rattle.un_ir.specs.Extended.{Want, word_in, at_register, wants_of, wants_of_op, result_count}
 use Rattle.un_model.specs.declared.model.Options.{Options}
@@ -33,7 +34,7 @@ use Rattle.un_post.specs.CallBefores.{reads_anew, count_from}
 use Rattle.un_post.specs.Postings.{is_call_kind, is_call_op}
 use Rattle.un_post.proofs.Blocks.{blocks, in_all, stands_in}
 use Rattle.un_post.proofs.CallAnew.{Rewritten, rewritten}
-use Rattle.un_post.proofs.Facts.{Given, numbered, good_op, definer_is, reading as asked_of}
+use Rattle.un_post.proofs.Facts.{Given, numbered, good_op, definer_is, Reading as Asking, reading as asked_of}
 use Rattle.un_post.proofs.Packets.{no_room, share, sum_part, whole_taken}
 use Rattle.un_post.proofs.Placing.{place_of}
 use Rattle.un_post.proofs.Regions.{of_region}
@@ -129,27 +130,28 @@ home_is (Some r) reg a e h = let same : r ≡ record { 0 = a } = cc e in h ∙ a
 
 module _ (e : Ext) (o : Options) (x : List ℕ) (given : Given e o x) where
   -- what the argument at place j reads is in register j
+  arg_home : (q : Placed) (j : ℕ) (operand : Operand) (reg : ℕ) (asked : Asking e o x given q j operand) (kind : ExtKind)
+      → is_call_kind kind ≡ true → slice_get (wants_of e.table e.names e.blocks q.owner kind q.op) j ≡ Some asked.want
+      → IfSome operand.home (λ (r : Reg). reg ≡ r.0) → reg ≡ j
+  arg_home q j operand reg asked (Body so) c wants home =
+      let fit = given.fit in
+      let fits = asked.fits in
+      let here = subst (λ (op : Op). slice_get (wants_of_op e.table so op) j ≡ Some asked.want) (call_op so.op c) wants in
+      let w = word_at (e.table).args (length so.srcs) j asked.want here in
+      let a = arg_is j w.0 (subst (λ (args : List ℕ). slice_get args j ≡ Some w.0) fit.args w.1) in
+      home_is operand.home reg w.0 (fits.home ∙ w.2) home ∙ a
+  arg_home q j operand reg asked In c wants home = absurd (cc c)
+  arg_home q j operand reg asked Out c wants home = absurd (cc c)
+  arg_home q j operand reg asked (End term) c wants home = absurd (cc c)
+  arg_home q j operand reg asked (Copy node) c wants home = absurd (cc c)
+  arg_home q j operand reg asked Enter c wants home = absurd (cc c)
+  arg_home q j operand reg asked Leave c wants home = absurd (cc c)
+
   arg_register : (q : Placed) (j : ℕ) (operand : Operand) (reg : ℕ) → Member q (all e o x) → is_call_kind q.op.kind ≡ true
       → slice_get q.op.operands j ≡ Some operand → IfSome operand.home (λ (r : Reg). reg ≡ r.0) → reg ≡ j
-  arg_register q j operand reg mq call at home = by q.op.kind call asked.wants
-    where
-      asked = asked_of e o x given q j operand mq at
-
-      by : (kind : ExtKind) → is_call_kind kind ≡ true
-          → slice_get (wants_of e.table e.names e.blocks q.owner kind q.op) j ≡ Some asked.want → reg ≡ j
-      by (Body so) c wants =
-          let fit = given.fit in
-          let fits = asked.fits in
-          let here = subst (λ (op : Op). slice_get (wants_of_op e.table so op) j ≡ Some asked.want) (call_op so.op c) wants in
-          let w = word_at (e.table).args (length so.srcs) j asked.want here in
-          let a = arg_is j w.0 (subst (λ (args : List ℕ). slice_get args j ≡ Some w.0) fit.args w.1) in
-          home_is operand.home reg w.0 (fits.home ∙ w.2) home ∙ a
-      by In c wants = absurd (cc c)
-      by Out c wants = absurd (cc c)
-      by (End term) c wants = absurd (cc c)
-      by (Copy node) c wants = absurd (cc c)
-      by Enter c wants = absurd (cc c)
-      by Leave c wants = absurd (cc c)
+  arg_register q j operand reg mq call at home =
+      let asked = asked_of e o x given q j operand mq at in
+      arg_home q j operand reg asked q.op.kind call asked.wants home
 
   -- ---- one result an operation
 
@@ -234,7 +236,7 @@ module _ (e : Ext) (o : Options) (x : List ℕ) (given : Given e o x) where
         by None h = absurd (cc h)
         by (Some op) h = refl
 
-    no_delimiter : (k : ExtKind) (owner : _) → (k ≡ In → ⊥) → 0 < result_count e.table owner k → is_delimiter k ≡ false
+    no_delimiter : (k : ExtKind) (owner : ExtBlock) → (k ≡ In → ⊥) → 0 < result_count e.table owner k → is_delimiter k ≡ false
     no_delimiter In owner no some = absurd (no refl)
     no_delimiter Out owner no some = absurd (omega arith)
     no_delimiter (Body so) owner no some = refl
@@ -254,42 +256,46 @@ module _ (e : Ext) (o : Options) (x : List ℕ) (given : Given e o x) where
         reg : (spot_range e o x spot).reg ≡ j
         issued : Issued ((issue_at x c).cycle + 1) d
 
+      module _ (j : ℕ) (operand : Operand) (at : slice_get q.op.operands j ≡ Some operand)
+          (anew : reads_anew e.table (place_of c) q.op.kind j operand ≡ true) (w : Rewritten e o x given schedule c q operand) where
+        abbrev s : Spot
+        s = w.spot
+
+        abbrev d : Placed
+        d = s.definer
+
+        cycle : (issue_at x d).cycle ≡ (issue_at x c).cycle + 1
+        cycle = let late = w.late in let early = w.early in omega (arith, late, early, close)
+
+        here : Member d (region_placed r)
+        here = stands_in e o x r d mr (definer_is e o x given s w.member).0 (w.block ∙ of_region r q mq)
+
+        width : width_by (issue_at x d).instr ≡ 1
+        width =
+            let v = vars_of d in
+            let p = definer_is e o x given s w.member in
+            let g = good_op e o x given d p.0 in
+            let keeps = g.keeps in
+            let count = keeps.results in
+            let lt = length_get d.op.results s.place s.temp p.1 in
+            let start = start_cycle d (let z = cycle in omega (arith, z)) in
+            width_one d.op.kind (value_by x v.instr) w.active (no_delimiter d.op.kind d.owner start (omega (arith, count, lt)))
+
+        found : Writes j d
+        found = record {
+          spot = s;
+          member = w.member;
+          is = refl;
+          reg = arg_register q j operand (spot_range e o x s).reg (in_all e o x r q mr mq) later at w.home;
+          issued = record { member = here; cycle = cycle; width = width };
+        }
+
       writes : (j : ℕ) (operand : Operand) → slice_get q.op.operands j ≡ Some operand
           → reads_anew e.table (place_of c) q.op.kind j operand ≡ true → (d : Placed) × Writes j d
-      writes j operand at anew = (d, record {
-        spot = s;
-        member = w.member;
-        is = refl;
-        reg = arg_register q j operand (spot_range e o x s).reg (in_all e o x r q mr mq) later at w.home;
-        issued = record { member = here; cycle = cycle; width = width };
-      })
-        where
-          w : Rewritten e o x given schedule c q operand
-          w = rewritten e o x given schedule r mr c q mc mq call behind mandatory j operand at anew
-
-          abbrev s : Spot
-          s = w.spot
-
-          abbrev d : Placed
-          d = s.definer
-
-          cycle : (issue_at x d).cycle ≡ (issue_at x c).cycle + 1
-          cycle = let late = w.late in let early = w.early in omega (arith, late, early, close)
-
-          here : Member d (region_placed r)
-          here = stands_in e o x r d mr (definer_is e o x given s w.member).0 (w.block ∙ of_region r q mq)
-
-          width : width_by (issue_at x d).instr ≡ 1
-          width =
-              let v = vars_of d in
-              let p = definer_is e o x given s w.member in
-              let g = good_op e o x given d p.0 in
-              let keeps = g.keeps in
-              let count = keeps.results in
-              let lt = length_get d.op.results s.place s.temp p.1 in
-              let start = start_cycle d (omega (arith, cycle)) in
-              width_one d.op.kind (value_by x v.instr) w.active
-              (no_delimiter d.op.kind d.owner start (omega (arith, count, lt)))
+      writes j operand at anew =
+          let w = rewritten e o x given schedule r mr c q mc mq call behind mandatory j operand at anew in
+          let spot = w.spot in
+          (spot.definer, found j operand at anew w)
 
       different : (j k : ℕ) (a b : Placed) → j < k → Writes j a → Writes k b → Apart a b
       different j k a b lt wa wb same =
