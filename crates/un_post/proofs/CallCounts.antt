@@ -24,6 +24,7 @@ use Rattle.un_model.specs.declared.schedule.Issue.{Issue}
 use Rattle.un_model.specs.declared.schedule.Resource.TheVariants.{Instructions}
 use Rattle.un_model.specs.Arcs.{is_mandatory}
 use Rattle.un_model.specs.Instructions.{instruction_of, width_by}
+use Rattle.un_model.specs.Registers.{reg_at}
 use Rattle.un_model.specs.Schedules.{schedule_of, issues_of, value_by, cycle_by, is_delimiter}
 use Rattle.un_model.specs.Solutions.{IsSchedule, latency_gap, HasHome}
 use Rattle.un_model.specs.Variables.{model_of, count_if}
@@ -126,7 +127,7 @@ call_op op h = absurd (cc h)
 
 home_is : (home : Option Reg) (reg a : ℕ) → home ≡ at_register a → IfSome home (λ (r : Reg). reg ≡ r.0) → reg ≡ a
 home_is None reg a e h = absurd (cc e)
-home_is (Some r) reg a e h = let same : r ≡ record { 0 = a } = cc e in h ∙ ap (λ (r : Reg). r.0) same
+home_is (Some r) reg a e h = let same : r ≡ reg_at a = cc e in h ∙ ap (λ (r : Reg). r.0) same
 
 module _ (e : Ext) (o : Options) (x : List ℕ) (given : Given e o x) where
   -- what the argument at place j reads is in register j
@@ -215,7 +216,8 @@ module _ (e : Ext) (o : Options) (x : List ℕ) (given : Given e o x) where
         let fits = (no_room e.table (issues_of (model_of e o) x) r.block n).1 (packets r.block n) Instructions in
         let whole = whole_taken e o x given Instructions r.block n in
         let part = sum_part f region_placed (blocks e o x) r mr in
-        let many = sum_many f (region_placed r) ds (each_more _ _ ds (λ d i. (i.member, takes d i)) h) apart in
+        let many = sum_many f (region_placed r) ds
+        (each_more (Issued n) (λ d. Member d (region_placed r) × (1 ≤ f d)) ds (λ d i. (i.member, takes d i)) h) apart in
         omega arith
       where
         takes : (d : Placed) → Issued n d → 1 ≤ share e o x given Instructions r.block n d
