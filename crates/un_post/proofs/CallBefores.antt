@@ -68,9 +68,9 @@ use Rattle.un_post.proofs.Whole.{issues_each, ranges_each}
 
 -- ---- lists
 
-each_lists : {X : Type 0} (P : X → Type 0) (xss : List (List X)) → Each (Each P) xss → Each P (joined xss)
-each_lists P [] h = tt
-each_lists P (xs ∷ xss) h = each_join P xs (joined xss) h.0 (each_lists P xss h.1)
+each_lists : {X : Type 0} (Q : X → Type 0) (xss : List (List X)) → Each (Each Q) xss → Each Q (joined xss)
+each_lists Q [] h = tt
+each_lists Q (xs ∷ xss) h = each_join Q xs (joined xss) h.0 (each_lists Q xss h.1)
 
 -- a place that passes
 any_place : {X : Type 0} (p : ℕ → X → Bool) (i : ℕ) (xs : List X) → any_from p i xs ≡ true

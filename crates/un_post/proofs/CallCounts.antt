@@ -163,17 +163,17 @@ module _ (e : Ext) (o : Options) (x : List ℕ) (given : Given e o x) where
       absurd (omega (arith, z, le))
 
   few_results : (q : Placed) (kind : ExtKind) → (kind ≡ In → ⊥) → result_count e.table q.owner kind ≤ 1
-  few_results q In no = absurd (no refl)
-  few_results q (Body so) no = by so.dst
+  few_results q In start = absurd (start refl)
+  few_results q (Body so) start = by so.dst
     where
       by : (dst : Option NameId) → length (option_to_list dst) ≤ 1
       by None = omega arith
       by (Some name) = omega arith
-  few_results q (Copy node) no = omega arith
-  few_results q Out no = omega arith
-  few_results q (End term) no = omega arith
-  few_results q Enter no = omega arith
-  few_results q Leave no = omega arith
+  few_results q (Copy node) start = omega arith
+  few_results q Out start = omega arith
+  few_results q (End term) start = omega arith
+  few_results q Enter start = omega arith
+  few_results q Leave start = omega arith
 
   -- two results of one operation that is not at a block's start are one
   one_result : (s t : Spot) → Member s (spots e o x) → Member t (spots e o x) → (let a = s.definer in let b = t.definer in
@@ -232,20 +232,20 @@ module _ (e : Ext) (o : Options) (x : List ℕ) (given : Given e o x) where
 
     width_one : (k : ExtKind) (n : ℕ) → (is_delimiter k || is_some (instruction_of k n)) ≡ true → is_delimiter k ≡ false
         → width_by (instruction_of k n) ≡ 1
-    width_one k n act no = by (instruction_of k n) (subst (λ (b : Bool). (b || is_some (instruction_of k n)) ≡ true) no act)
+    width_one k n act off = by (instruction_of k n) (subst (λ (b : Bool). (b || is_some (instruction_of k n)) ≡ true) off act)
       where
         by : (i : Option Op) → is_some i ≡ true → width_by i ≡ 1
         by None h = absurd (cc h)
         by (Some op) h = refl
 
     no_delimiter : (k : ExtKind) (owner : ExtBlock) → (k ≡ In → ⊥) → 0 < result_count e.table owner k → is_delimiter k ≡ false
-    no_delimiter In owner no some = absurd (no refl)
-    no_delimiter Out owner no some = absurd (omega arith)
-    no_delimiter (Body so) owner no some = refl
-    no_delimiter (End term) owner no some = refl
-    no_delimiter (Copy node) owner no some = refl
-    no_delimiter Enter owner no some = refl
-    no_delimiter Leave owner no some = refl
+    no_delimiter In owner off some = absurd (off refl)
+    no_delimiter Out owner off some = absurd (omega arith)
+    no_delimiter (Body so) owner off some = refl
+    no_delimiter (End term) owner off some = refl
+    no_delimiter (Copy node) owner off some = refl
+    no_delimiter Enter owner off some = refl
+    no_delimiter Leave owner off some = refl
 
     module _ (c q : Placed) (mc : Member c (region_placed r)) (mq : Member q (region_placed r)) (call : is_call_kind c.op.kind ≡ true)
         (behind : (issue_at x c).cycle + 1 ≤ (issue_at x q).cycle) (later : is_call_kind q.op.kind ≡ true)
@@ -333,13 +333,13 @@ module _ (e : Ext) (o : Options) (x : List ℕ) (given : Given e o x) where
           let w = f (suc j) operand at (subst (λ n. anew n operand ≡ true) (sym z) t) in
           (w.0, subst (λ n. Writes n w.0) z w.1)))
         where
-          more : (d : Placed) → Later (i + 1) d → Later i d
-          more d l = let le = l.1 in (l.0, omega (arith, le), l.2)
+          more : (p : Placed) → Later (i + 1) p → Later i p
+          more p l = let le = l.1 in (l.0, omega (arith, le), l.2)
 
           by : (b : Bool) → anew i y ≡ b → Collected (i + 1) ys → Collected i (y ∷ ys)
           by false t rest = record {
             found = rest.found;
-            many = rest.many ∙ sym (ap (λ (b : Bool). count_if b + count_from anew (i + 1) ys) t);
+            many = (let m = rest.many in let z : count_if (anew i y) ≡ 0 = ap count_if t in omega (arith, m, z));
             each = each_more (Later (i + 1)) (Later i) rest.found more rest.each;
             apart = rest.apart;
           }
@@ -348,14 +348,13 @@ module _ (e : Ext) (o : Options) (x : List ℕ) (given : Given e o x) where
               let w = f 0 y refl (subst (λ n. anew n y ≡ true) (sym z) t) in
               let mine = subst (λ n. Writes n w.0) z w.1 in
               let many = rest.many in
-              let one : 1 + length rest.found ≡ count_from anew i (y ∷ ys) =
-              ap (λ n. 1 + n) many ∙ sym (ap (λ (b : Bool). count_if b + count_from anew (i + 1) ys) t) in
+              let one : count_if (anew i y) ≡ 1 = ap count_if t in
               record {
                 found = w.0 ∷ rest.found;
-                many = omega (arith, one);
+                many = omega (arith, many, one);
                 each = ((i, omega arith, mine), each_more (Later (i + 1)) (Later i) rest.found more rest.each);
                 apart = (
-                  each_more (Later (i + 1)) (Apart w.0) rest.found (λ d l. let le = l.1 in different i l.0 w.0 d (omega (arith, le)) mine l.2)
+                  each_more (Later (i + 1)) (Apart w.0) rest.found (λ p l. let le = l.1 in different i l.0 w.0 p (omega (arith, le)) mine l.2)
                   rest.each,
                   rest.apart,
                 );

@@ -154,7 +154,7 @@ fn anew_gap(t: &Table, call: &Spot<'_>, u: &Spot<'_>) -> Result<u32, NoMemory>
         return Ok(2);
     }
     let count = anew_count(t, call, u)?;
-    if PACKET as usize < count {
+    if count > PACKET as usize {
         Ok(3)
     } else {
         Ok(2)
@@ -228,12 +228,15 @@ fn between<'a>(
     requires call { IsWithin reach.low reach.count call.now.op }
     requires next { IfSome next (λ (d : Spot). IsWithin reach.low reach.count d.op) }
     ensures { IfOk result (λ found. map place_of found
-        ≡ filter (is_between arcs.now (place_of call.now) (option_map place_of next)) (map place_of spots.now)) }
+        ≡ filter (is_between arcs.now (place_of call.now) (option_map place_of next.entry)) (map place_of spots.now)) }
 {
     let found = behind(alloc, reach, arcs, call, spots)?;
     match next {
         None => Ok(found),
-        Some(d) => not_behind(alloc, reach, arcs, &d, found.as_slice()),
+        Some(d) => {
+            let rest = not_behind(alloc, reach, arcs, &d, found.as_slice())?;
+            Ok(rest)
+        }
     }
 }
 
@@ -262,7 +265,7 @@ fn post_call<'a>(
     requires call { IsWithin reach.low reach.count call.now.op }
     requires next { IfSome next (λ (d : Spot). IsWithin reach.low reach.count d.op) }
     ensures { OnOk result (props.new ≡ props.old
-        ++ of_call t.now arcs.now (map place_of spots.now) (option_map place_of next) (place_of call.now)) }
+        ++ of_call t.now arcs.now (map place_of spots.now) (option_map place_of next.entry) (place_of call.now)) }
 {
     let found = between(props.alloc(), reach, arcs, call, next, spots)?;
     post_all_anew(props, t, call, found.as_slice())?;

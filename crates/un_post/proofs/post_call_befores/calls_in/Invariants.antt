@@ -7,4 +7,4 @@ use Rattle.un_post.proofs.post_call_befores.calls_in.Given as goal
 
 abbrev pub invariant-loop-p : goal.invariant-loop-p
 invariant-loop-p l = (map place_of l.calls ++ with_kind is_call_kind (map place_of (drop l.p-index l.spots)) ≡
-    with_kind is_call_kind (map place_of l.spots)) × All (λ (p : Spot). IsWithin l.reach.low l.reach.count p.op) l.calls
+    with_kind is_call_kind (map place_of l.spots)) × All (λ (p : Spot). IsWithin l.fn.reach.low l.fn.reach.count p.op) l.calls
