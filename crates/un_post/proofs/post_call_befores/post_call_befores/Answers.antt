@@ -1,7 +1,6 @@
 use Rattle.std.proofs.Common.{arith}
 use Rattle.un_model.proofs.Steps.{blocks_more, blocks_all}
 use Rattle.un_post.specs.CallBefores.{call_befores_in}
-use Rattle.un_post.proofs.CallBefores.{call_befores_hold}
 use Rattle.un_post.proofs.post_call_befores.post_call_befores.Goals as goal
 
 pub loop-k-preserved : goal.loop-k-preserved
