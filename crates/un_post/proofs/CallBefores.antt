@@ -1,70 +1,41 @@
 -- Each solution meets what is posted of what calls separate.
-use Rattle.std.proofs.Common.{ℕ, zero, suc, ◌≡◌, ◌+◌, ◌<◌, ◌≤◌, Bool, true, false, List, [], ◌∷◌, inl, inr, refl, sym, ap, ◌∙◌, subst}
-use Rattle.std.proofs.Common.{arith, eq-eqb, All}
-use Rattle.std.specs.Prelude.{Option, Some, None, IfSome, not, ◌&&◌, ◌||◌, ◌==◌, nat_eq, nat_le, nat_lt, is_some, filter, map, slice_get}
-use Rattle.std.specs.Prelude.{slice_index, if◌then◌else◌}
-use Rattle.std.specs.List.{list_any}
+use Rattle.std.proofs.Common.{ℕ, suc, ◌≡◌, ◌+◌, ◌<◌, ◌≤◌, Bool, true, false, List, [], ◌∷◌, refl, sym, ap, ◌∙◌, subst}
+use Rattle.std.proofs.Common.{arith}
+use Rattle.std.specs.Prelude.{Option, Some, None, not, ◌&&◌, ◌||◌, nat_lt, filter, slice_get}
+use Rattle.std.specs.Prelude.{if◌then◌else◌}
 use Rattle.std.proofs.lemmas.Bool.Decides.{nat_tests}
-use Rattle.std.proofs.lemmas.Bool.{cases_lt}
-use Rattle.un_base.specs.declared.ids.TempId.{TempId}
 use Rattle.un_isa.specs.Fit.{IsFit}
-use Rattle.un_isa.specs.Registers.{space_of}
-use Rattle.un_isa.specs.Tables.{in_mask}
-use Rattle.un_isa.specs.declared.op.Op.{Op}
-use Rattle.un_isa.specs.declared.op.Op.TheVariants.{Call}
-use Rattle.un_isa.specs.declared.reg.Reg.{Reg}
-use Rattle.un_isa.specs.declared.reg.Space.{Space}
-use Rattle.un_isa.specs.declared.reg.Space.TheVariants.{R, P, M}
-use Rattle.un_isa.specs.declared.table.Table.{Table}
-use Rattle.un_ir.specs.declared.function.Term.TheVariants.{Fall, Jump, Branch, Ret}
-use Rattle.un_ir.specs.declared.extended.ExtKind.{ExtKind}
-use Rattle.un_ir.specs.declared.extended.ExtKind.TheVariants.{In, Out, Body, End, Copy, Enter, Leave}
-use Rattle.un_ir.specs.declared.extended.Operand.{Operand}
 use Rattle.un_ir.specs.declared.extended.Ext.{Ext}
-use Rattle.un_ir.specs.Extended.{IsExtended, Want, wants_of, temp}
-use Rattle.un_ir.specs.Linear.{first_of}
+use Rattle.un_ir.specs.Extended.{IsExtended}
 use Rattle.un_model.specs.declared.model.Arc.{Arc}
 use Rattle.un_model.specs.declared.model.Model.{Model}
 use Rattle.un_model.specs.declared.model.Options.{Options}
 use Rattle.un_model.specs.declared.model.Solution.{Solution}
-use Rattle.un_model.specs.declared.schedule.Issue.{Issue}
-use Rattle.un_model.specs.declared.schedule.LiveRange.{LiveRange}
 use Rattle.un_model.specs.Arcs.{is_mandatory}
-use Rattle.un_model.specs.Instructions.{instruction_of, latency_by, space_read, is_predicate_space}
 use Rattle.un_model.specs.Options.{AreOptions}
 use Rattle.un_model.specs.Pairs.{any_from, places_from, joined}
-use Rattle.un_model.specs.Registers.{reg_at}
-use Rattle.un_model.specs.Schedules.{schedule_of, issues_of, value_by, is_delimiter}
-use Rattle.un_model.specs.Solutions.{IsSchedule, IsSolution, latency_gap, InDomain, InSpace, HasHome, SparesRange, IsSpared}
-use Rattle.un_model.specs.Variables.{IsModel, model_of, arcs_of, register_domain, source_domain, carried}
-use Rattle.un_model.proofs.Lists.{Each, Member, each_of, each_member, each_join, member_map_of, member_of_filter, member_at}
-use Rattle.un_model.proofs.OpDomains.{in_entry, register_sits}
-use Rattle.un_model.proofs.Placed.{Placed, Region, region_placed, vars_of, issue_at, Spot, all_count, at_number}
-use Rattle.un_model.proofs.PlacedSchedules.{all, spots, spot_range, range_at, range_here}
-use Rattle.un_model.proofs.Readings.{Solved, Reading, reading, fit_kinds, numbered as solved_numbered}
-use Rattle.un_model.proofs.TempKinds.{carried_at, spot_carried, carried_is}
+use Rattle.un_model.specs.Schedules.{schedule_of}
+use Rattle.un_model.specs.Solutions.{IsSchedule, IsSolution, latency_gap}
+use Rattle.un_model.specs.Variables.{IsModel, model_of, arcs_of}
+use Rattle.un_model.proofs.Lists.{Each, Member, each_of, each_join, member_map_of, member_of_filter, member_at}
+use Rattle.un_model.proofs.Placed.{Placed, Region, region_placed, issue_at}
 use Rattle.un_prop.specs.Acts.{at_value}
 use Rattle.un_prop.specs.declared.act.Act.TheVariants.{Always}
-use Rattle.un_post.specs.CallBefores.{is_clobbered_home, reads_clobbered, is_home, reads_reply, reads_anew, waits_anew, anew_count, anew_gap}
+use Rattle.un_post.specs.CallBefores.{reads_anew, waits_anew, anew_count, anew_gap}
 use Rattle.un_post.specs.CallBefores.{anew_after}
-use Rattle.un_post.specs.CallBefores.{is_between, of_call, of_call_at, of_calls, call_befores_by, call_befores_in, call_befores_of}
-use Rattle.un_post.specs.Constraints.{Constraint, meets, AllMet, Before}
+use Rattle.un_post.specs.CallBefores.{is_between, of_call, of_call_at, call_befores_by, call_befores_in, call_befores_of}
+use Rattle.un_post.specs.Constraints.{AllMet, Before}
 use Rattle.un_post.specs.Places.{Place, time_of}
-use Rattle.un_post.specs.Postings.{is_call_kind, is_call_op, with_kind}
+use Rattle.un_post.specs.Postings.{is_call_kind, with_kind}
 use Rattle.un_post.specs.Rooms.{arcs_or, is_behind}
-use Rattle.un_post.proofs.Blocks.{blocks, region_places, region_vars, places_in, regions_met, in_all}
+use Rattle.un_post.proofs.Blocks.{blocks, region_places, region_vars, places_in, regions_met}
 use Rattle.un_post.proofs.CallAnew.{rewritten}
 use Rattle.un_post.proofs.CallCounts.{three_after}
 use Rattle.un_post.proofs.CallOrder.{ordered}
-use Rattle.un_post.proofs.Facts.{Given, falls, in_domains, definer_is, reader_goes, times, reading as asked_of}
+use Rattle.un_post.proofs.Facts.{Given, in_domains, times}
 use Rattle.un_post.proofs.Meeting.{Met, each_places, joined_each}
-use Rattle.un_post.proofs.Memory.{contains_member}
 use Rattle.un_post.proofs.Placing.{place_of}
-use Rattle.un_post.proofs.Regions.{of_region}
-use Rattle.un_post.proofs.SpaceSets.{predicate}
-use Rattle.un_post.proofs.Spared.{call_instr}
 use Rattle.un_post.proofs.Tests.{and_iff, le_iff}
-use Rattle.un_post.proofs.Whole.{issues_each, ranges_each}
 
 -- ---- lists
 

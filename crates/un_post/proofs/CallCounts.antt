@@ -2,10 +2,9 @@
 -- for four.
 use Rattle.std.proofs.Common.{ℕ, zero, suc, ◌≡◌, ◌+◌, ◌<◌, ◌≤◌, Bool, true, false, List, [], ◌∷◌, inl, inr, refl, sym, ap, ◌∙◌, subst}
 use Rattle.std.proofs.Common.{arith, eq-eqb, length, map, take}
-use Rattle.std.specs.Prelude.{Option, Some, None, IfSome, not, ◌&&◌, ◌||◌, ◌==◌, nat_eq, is_some, slice_get, sum_by, if◌then◌else◌}
+use Rattle.std.specs.Prelude.{Option, Some, None, IfSome, ◌&&◌, ◌||◌, ◌==◌, is_some, slice_get, sum_by, if◌then◌else◌}
 use Rattle.std.specs.Option.{option_to_list}
 use Rattle.std.proofs.lemmas.Bool.{cases_lt, eqb-true}
-use Rattle.std.proofs.lemmas.Bool.Decides.{nat_tests}
 use Rattle.std.proofs.lemmas.List.Sums.{sum_by-cons}
 use Rattle.un_base.specs.declared.ids.NameId.{NameId}
 use Rattle.un_base.specs.declared.ids.TempId.{TempId}
@@ -17,16 +16,14 @@ use Rattle.un_ir.specs.declared.extended.ExtKind.TheVariants.{In, Out, Body, End
 use Rattle.un_ir.specs.declared.extended.Operand.{Operand}
 use Rattle.un_ir.specs.declared.extended.Ext.{Ext}
 use Rattle.un_ir.specs.declared.extended.ExtBlock.{ExtBlock}
-use Rattle.un_ir.specs.declared.function.SrcOp.{SrcOp}
 use Rattle.un_ir.specs.Extended.{Want, word_in, at_register, wants_of, wants_of_op, result_count}
 use Rattle.un_model.specs.declared.model.Options.{Options}
-use Rattle.un_model.specs.declared.schedule.Issue.{Issue}
 use Rattle.un_model.specs.declared.schedule.Resource.TheVariants.{Instructions}
 use Rattle.un_model.specs.Arcs.{is_mandatory}
 use Rattle.un_model.specs.Instructions.{instruction_of, width_by}
 use Rattle.un_model.specs.Registers.{reg_at}
 use Rattle.un_model.specs.Schedules.{schedule_of, issues_of, value_by, cycle_by, is_delimiter}
-use Rattle.un_model.specs.Solutions.{IsSchedule, latency_gap, HasHome}
+use Rattle.un_model.specs.Solutions.{IsSchedule, latency_gap}
 use Rattle.un_model.specs.Variables.{model_of, count_if}
 use Rattle.un_model.proofs.Lists.{Each, Pairwise, Member, each_of, each_more, each_member, length_get}
 use Rattle.un_model.proofs.Placed.{Placed, Region, region_placed, vars_of, issue_at, Spot, all_count, at_number}
@@ -355,7 +352,7 @@ module _ (e : Ext) (o : Options) (x : List ℕ) (given : Given e o x) where
                 each = ((i, omega arith, mine), each_more (Later (i + 1)) (Later i) rest.found more rest.each);
                 apart = (
                   each_more (Later (i + 1)) (Apart w.0) rest.found (λ p l. let le = l.1 in different i l.0 w.0 p (omega (arith, le)) mine l.2)
-                  rest.each,
+                      rest.each,
                   rest.apart,
                 );
               }

@@ -104,7 +104,7 @@ module _ (P : Spot → Type 0) (i : ℕ) (spots : List Spot) (p : Spot) (calls n
       ap (λ zs. with_kind is_call_kind (map place_of zs)) (drop_at spots i p g)
       ∙ filter_yes is_call_at (place_of p) (map place_of (drop (i + 1) spots)) t in (
         ap (λ ns. map place_of ns ++ rest) e ∙ ap (λ zs. zs ++ rest) (map-append place_of calls (p ∷ []))
-        ∙ append_assoc (map place_of calls) (place_of p ∷ []) rest ∙ ap (λ zs. map place_of calls ++ zs) (sym s) ∙ h.0,
+            ∙ append_assoc (map place_of calls) (place_of p ∷ []) rest ∙ ap (λ zs. map place_of calls ++ zs) (sym s) ∙ h.0,
         subst (All P) (sym e) (All-push P calls p h.1 (all_member P spots p known (member_at spots i p g))),
       )
 

@@ -1,6 +1,6 @@
 -- What is posted of what calls separate. A call leaves nothing in the registers that it clobbers but its own result, so an
 -- operation behind it that reads such a register waits for an instruction that writes the register after the call.
-use Rattle.std.specs.Prelude.{ℕ, ◌+◌, ◌==◌, nat_lt, Bool, true, false, not, ◌&&◌, ◌||◌, List, [], ◌∷◌, Option, Some, None, map}
+use Rattle.std.specs.Prelude.{ℕ, ◌+◌, ◌==◌, nat_lt, Bool, false, not, ◌&&◌, ◌||◌, List, [], ◌∷◌, Option, Some, None, map}
 use Rattle.std.specs.Prelude.{filter, slice_get, if◌then◌else◌}
 use Rattle.std.specs.List.{list_any}
 use Rattle.un_base.specs.declared.ids.TempId.{TempId}

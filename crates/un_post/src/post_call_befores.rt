@@ -1,7 +1,7 @@
 //! What is posted of what calls separate: an operation behind a call that reads a register which the call clobbers waits for what
 //! writes it after the call.
 
-ghost use Rattle.std.specs.Prelude.{◌≡◌, ◌+◌, ◌<◌, ◌==◌, [], ◌∷◌, ◌++◌, All, IfOk, IfSome, OnOk, length, map, filter, slice_get, Some};
+ghost use Rattle.std.specs.Prelude.{◌≡◌, ◌+◌, ◌<◌, ◌==◌, [], ◌∷◌, ◌++◌, All, IfOk, IfSome, OnOk, map, filter, slice_get, Some};
 ghost use Rattle.std.specs.List.{list_any};
 ghost use Rattle.std.specs.Option.{option_map};
 ghost use Rattle.un_base.specs.declared.ids.TempId.{TempId};
@@ -16,7 +16,6 @@ ghost use Rattle.un_post.specs.Constraints as constraint;
 ghost use Rattle.un_post.specs.Places.{time_of};
 ghost use Rattle.un_post.specs.Postings.{is_call_kind, with_kind};
 ghost use Rattle.un_post.specs.Reach.{IsWithin, IsArcWithin};
-ghost use Rattle.un_post.specs.Rooms.{arcs_or};
 ghost use Rattle.un_post.specs.Sites.{place_of};
 ghost use Rattle.un_post.specs.declared.sites.Spot.{Spot};
 
@@ -162,12 +161,7 @@ fn anew_gap(t: &Table, call: &Spot<'_>, u: &Spot<'_>) -> Result<u32, NoMemory>
 }
 
 /// An operation waits for what is written after a call.
-fn post_wait(
-    props: &mut Props,
-    call: &Spot<'_>,
-    u: &Spot<'_>,
-    gap: u32,
-) -> Result<(), NoMemory>
+fn post_wait(props: &mut Props, call: &Spot<'_>, u: &Spot<'_>, gap: u32) -> Result<(), NoMemory>
     ensures { OnOk result (props.new ≡ props.old
         ++ constraint.Before (time_of (place_of call.now)) Always (time_of (place_of u.now)) Always gap ∷ []) }
 {
@@ -184,12 +178,7 @@ fn post_wait(
 }
 
 /// What is posted of an operation behind a call.
-fn post_anew(
-    props: &mut Props,
-    t: &Table,
-    call: &Spot<'_>,
-    u: &Spot<'_>,
-) -> Result<(), NoMemory>
+fn post_anew(props: &mut Props, t: &Table, call: &Spot<'_>, u: &Spot<'_>) -> Result<(), NoMemory>
     ensures { OnOk result (props.new ≡ props.old ++ anew_after t.now (place_of call.now) (place_of u.now)) }
 {
     if waits_anew(t, call, u)? {
@@ -294,7 +283,11 @@ fn post_calls<'a>(
 }
 
 /// The calls among the operations of a block.
-fn calls_in<'a>(alloc: Global, reach: Reach, spots: &[Spot<'a>]) -> Result<Items<Spot<'a>>, AllocError>
+fn calls_in<'a>(
+    alloc: Global,
+    reach: Reach,
+    spots: &[Spot<'a>],
+) -> Result<Items<Spot<'a>>, AllocError>
     requires { All (λ (p : Spot). IsWithin reach.low reach.count p.op) spots.now }
     ensures calls { IfOk result (λ calls. map place_of calls ≡ with_kind is_call_kind (map place_of spots.now)) }
     ensures within { IfOk result (All (λ (p : Spot). IsWithin reach.low reach.count p.op)) }
