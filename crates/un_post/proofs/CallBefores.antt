@@ -39,7 +39,7 @@ use Rattle.un_post.proofs.Tests.{and_iff, le_iff}
 
 -- ---- lists
 
-each_lists : {X : Type 0} (Q : X → Type 0) (xss : List (List X)) → Each (Each Q) xss → Each Q (joined xss)
+pub each_lists : {X : Type 0} (Q : X → Type 0) (xss : List (List X)) → Each (Each Q) xss → Each Q (joined xss)
 each_lists Q [] h = tt
 each_lists Q (xs ∷ xss) h = each_join Q xs (joined xss) h.0 (each_lists Q xss h.1)
 

@@ -5,6 +5,7 @@ pub mod CallAnew
 pub mod CallBefores
 pub mod CallCounts
 pub mod CallOrder
+pub mod CallPins
 pub mod CallWalks
 pub mod Choices
 pub mod Congruences
