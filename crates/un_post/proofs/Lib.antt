@@ -27,6 +27,7 @@ pub mod LeastValues
 pub mod Limits
 pub mod Marking
 pub mod Meeting
+pub mod ModelDomains
 pub mod Memory
 pub mod NoSharing
 pub mod OfPlaces
@@ -37,6 +38,9 @@ pub mod Pairing
 pub mod Parts
 pub mod Placing
 pub mod Posted
+pub mod Reading
+pub mod ReadingModel
+pub mod Ready
 pub mod Regions
 pub mod RegisterBounds
 pub mod Relaxed
