@@ -6,6 +6,7 @@ pub mod CallBefores
 pub mod CallCounts
 pub mod CallOrder
 pub mod CallPins
+pub mod CallReads
 pub mod CallWalks
 pub mod Choices
 pub mod Congruences
