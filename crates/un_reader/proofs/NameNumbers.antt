@@ -156,7 +156,8 @@ module _ (names : List Spelled) (distinct : AreDistinct names) where
       (λ i h. get_or-map-range_with_len (at_place names) 0 (length names) i i ([], General) (omega arith) (omega arith))
 
   -- names with numbers that are each the next or an earlier one are numbered so
-  pub names_first : (ids : List NameId) → first_appearances ids ≡ range_with_len 0 (length names) → numbered [] (map (name_at names) ids) ≡ names
+  pub names_first : (ids : List NameId) → first_appearances ids ≡ range_with_len 0 (length names)
+      → numbered [] (map (name_at names) ids) ≡ names
   names_first ids h = numbered_is [] ids tt (numbers_placed names ids h) ∙ ap (map (at_place names)) h ∙ all_places
 
   same_numbers : (ms ns : List ℕ) → AreBelow (length names) ms → AreBelow (length names) ns

@@ -177,7 +177,8 @@ module _ (name : List ℕ) (params : List NameId) (names : Names) (blocks : List
       rw (ops, term) refl
 
   -- blocks of the function, from one on
-  some_again : (k : ℕ) (some : List SourceBlock) → StandAt blocks k some → Each (λ (b : SourceBlock). Each (IsPlace names) (names_in_block b)) some → Each (IsGoodBlock names) some
+  some_again : (k : ℕ) (some : List SourceBlock) → StandAt blocks k some
+      → Each (λ (b : SourceBlock). Each (IsPlace names) (names_in_block b)) some → Each (IsGoodBlock names) some
       → map (block_of names (labels blocks)) (map (as_group blocks names) some) ≡ some
   some_again k [] got all good = refl
   some_again k (b ∷ some) got all good =
