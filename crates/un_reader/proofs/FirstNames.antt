@@ -1,17 +1,14 @@
 -- Names at their first appearance: their places, and the numbers that follow from these.
-use Rattle.std.proofs.Common.{◌≡◌, ◌≢◌, ℕ, zero, suc, ◌+◌, ◌<◌, ◌≤◌, ◌++◌, ◌||◌, Bool, true, false, nat_eq, List, [], ◌∷◌, Some, map}
+use Rattle.std.proofs.Common.{◌≡◌, ◌≢◌, ◌<◌, ◌++◌, ◌||◌, Bool, true, false, List, [], ◌∷◌, Some}
 use Rattle.std.proofs.Common.{length, slice_get, if◌then◌else◌, refl, sym, ap, ◌∙◌, arith, subst, append-nil, append_assoc}
 use Rattle.std.proofs.Math.Numerals.{one-add}
-use Rattle.std.specs.List.{AllByRecursion as Each, list_any, fold, position_or_len, range_with_len}
+use Rattle.std.specs.List.{AllByRecursion as Each, list_any, position_or_len}
 use Rattle.std.specs.Str.{bytes_eq}
-use Rattle.std.proofs.lemmas.Bool.Decides.{Decides-eqb}
 use Rattle.std.proofs.lemmas.Slice.Eq.{bytes_eq-Decides}
-use Rattle.std.proofs.lemmas.Bool.{and_parts, or_left, or_right, ne_eqb, false_from_ne_true}
+use Rattle.std.proofs.lemmas.Bool.{and_parts, or_left, or_right, false_from_ne_true}
 use Rattle.std.proofs.lemmas.List.Folds.{list_any-append}
 use Rattle.un_reader.specs.Vocabulary.{Kind, General, Pred, Spelled}
-use Rattle.un_ir.specs.Names.{see, first_appearances}
 use Rattle.un_reader.specs.Before.{same_kind, same_name, add_name, numbered}
-use Rattle.un_reader.specs.Functions.{name_id}
 use Rattle.un_words.proofs.Each.{Each-weaken, Each-append, EachPair, EachPair-push, Each-none}
 
 -- ---- the test for a name
@@ -52,27 +49,6 @@ placed p x only (y ∷ ys) h = by (λ t. placed p x only ys t) (p y) refl h
     by : (list_any p ys ≡ true → IsPlaced p x ys) → (v : Bool) → p y ≡ v → (v || list_any p ys) ≡ true → IsPlaced p x (y ∷ ys)
     by later true e hyp = record { below = rw e (omega arith); got = rw e (ap Some (sym (only y e))) }
     by later false e hyp = let r = later hyp in record { below = rw e (omega (arith, r.below)); got = rw (e, one-add) r.got }
-
--- further names change no place
-pub place_kept : {X : Type 0} (p : X → Bool) (xs ys : List X) → list_any p xs ≡ true → position_or_len p (xs ++ ys) ≡ position_or_len p xs
-place_kept p [] ys h = absurd (cc h)
-place_kept p (x ∷ xs) ys h = by (λ t. place_kept p xs ys t) (p x) refl h
-  where
-    by : (list_any p xs ≡ true → position_or_len p (xs ++ ys) ≡ position_or_len p xs) → (v : Bool) → p x ≡ v → (v || list_any p xs) ≡ true
-        → position_or_len p ((x ∷ xs) ++ ys) ≡ position_or_len p (x ∷ xs)
-    by later true e hyp = rw e refl
-    by later false e hyp = let r = later hyp in rw e (omega (arith, r))
-
--- a new name has the next place
-pub place_new : {X : Type 0} (p : X → Bool) (xs : List X) (y : X) (ys : List X) → list_any p xs ≡ false → p y ≡ true
-    → position_or_len p (xs ++ (y ∷ ys)) ≡ length xs
-place_new p [] y ys h is = rw is refl
-place_new p (x ∷ xs) y ys h is = by (λ t. place_new p xs y ys t is) (p x) refl h
-  where
-    by : (list_any p xs ≡ false → position_or_len p (xs ++ (y ∷ ys)) ≡ length xs) → (v : Bool) → p x ≡ v → (v || list_any p xs) ≡ false
-        → position_or_len p ((x ∷ xs) ++ (y ∷ ys)) ≡ length (x ∷ xs)
-    by later true e hyp = absurd (cc hyp)
-    by later false e hyp = let r = later hyp in rw e (omega (arith, r))
 
 any_append : {X : Type 0} (p : X → Bool) (xs ys : List X) → list_any p xs ≡ true → list_any p (xs ++ ys) ≡ true
 any_append p xs ys h = list_any-append p xs ys ∙ or_left (list_any p xs) (list_any p ys) h
@@ -139,66 +115,3 @@ numbered_apart seen (x ∷ xs) s = numbered_apart (add_name seen x) xs (by (list
     by true e = s
     by false e = EachPair-push (λ (a b : Spelled). a ≢ b) seen x s
         (Each-weaken (λ (y : Spelled). same_name x y ≡ false) (λ (y : Spelled). y ≢ x) other seen (Each-none (same_name x) seen e))
-
--- ---- numbers
-
-range_has : (a n k : ℕ) → a ≤ k → k < a + n → list_any (nat_eq k) (range_with_len a n) ≡ true
-range_has a zero k low high = absurd (omega arith)
-range_has a (suc n) k low high = by (λ (t : a + 1 ≤ k). range_has (a + 1) n k t (omega arith)) (nat_eq k a) refl
-  where
-    by : (a + 1 ≤ k → list_any (nat_eq k) (range_with_len (a + 1) n) ≡ true) → (v : Bool) → nat_eq k a ≡ v
-        → (v || list_any (nat_eq k) (range_with_len (a + 1) n)) ≡ true
-    by later true e = refl
-    by later false e = let apart : k ≢ a = λ is. cc (sym e ∙ same k a is) in later (omega arith)
-      where
-        same : (i j : ℕ) → i ≡ j → nat_eq i j ≡ true
-        same i j is = (Decides-eqb i j).1 is
-
-range_lacks : (a n k : ℕ) → a + n ≤ k → list_any (nat_eq k) (range_with_len a n) ≡ false
-range_lacks a zero k high = refl
-range_lacks a (suc n) k high = rw (ne_eqb k a (λ is. omega arith)) (range_lacks (a + 1) n k (omega arith))
-
-range_push : (a n k : ℕ) → a + n ≡ k → range_with_len a n ++ k ∷ [] ≡ range_with_len a (suc n)
-range_push a zero k e = let s : k ≡ a = omega arith in ap (λ (j : ℕ). j ∷ []) s
-range_push a (suc n) k e = ap (λ (ks : List ℕ). a ∷ ks) (range_push (a + 1) n k (omega arith))
-
-length_more : {X : Type 0} (xs : List X) (y : X) → length (xs ++ y ∷ []) ≡ suc (length xs)
-length_more [] y = refl
-length_more (x ∷ xs) y = ap suc (length_more xs y)
-
--- the numbers of names, where those that were seen have the first
-numbers_from : (seen xs names : List Spelled) → names ≡ numbered seen xs
-    → fold see (range_with_len 0 (length seen)) (map (name_id names) xs) ≡ range_with_len 0 (length names)
-numbers_from seen [] names is = ap (λ (ns : List Spelled). range_with_len 0 (length ns)) (sym is)
-numbers_from seen (x ∷ xs) names is =
-    by (numbers_from seen xs names) (numbers_from (seen ++ x ∷ []) xs names) (list_any (same_name x) seen) refl
-  where
-    by : (names ≡ numbered seen xs → fold see (range_with_len 0 (length seen)) (map (name_id names) xs) ≡ range_with_len 0 (length names))
-        → (names ≡ numbered (seen ++ x ∷ []) xs
-        → fold see (range_with_len 0 (length (seen ++ x ∷ []))) (map (name_id names) xs) ≡ range_with_len 0 (length names))
-        → (v : Bool) → list_any (same_name x) seen ≡ v
-        → fold see (see (range_with_len 0 (length seen)) (name_id names x)) (map (name_id names) xs) ≡ range_with_len 0 (length names)
-    by old new true e =
-        let whole : names ≡ numbered seen xs = is ∙ ap (λ (v : Bool). numbered (if v then seen else seen ++ x ∷ []) xs) e in
-        let front = numbered_front seen xs in
-        let place : (name_id names x).0 ≡ position_or_len (same_name x) seen =
-        ap (position_or_len (same_name x)) (whole ∙ front.is) ∙ place_kept (same_name x) seen front.more e in
-        let below : position_or_len (same_name x) seen < length seen = (name_placed seen x e).below in
-        let has : list_any (nat_eq (name_id names x).0) (range_with_len 0 (length seen)) ≡ true =
-        range_has 0 (length seen) (name_id names x).0 (omega arith) (omega (arith, place, below)) in
-        rw has (old whole)
-    by old new false e =
-        let whole : names ≡ numbered (seen ++ x ∷ []) xs = is ∙ ap (λ (v : Bool). numbered (if v then seen else seen ++ x ∷ []) xs) e in
-        let front = numbered_front (seen ++ x ∷ []) xs in
-        let cut : names ≡ seen ++ (x ∷ front.more) = whole ∙ front.is ∙ append_assoc seen (x ∷ []) front.more in
-        let place : (name_id names x).0 ≡ length seen =
-        ap (position_or_len (same_name x)) cut ∙ place_new (same_name x) seen x front.more e (name_itself x) in
-        let lacks : list_any (nat_eq (name_id names x).0) (range_with_len 0 (length seen)) ≡ false =
-        range_lacks 0 (length seen) (name_id names x).0 (omega (arith, place)) in
-        let more : range_with_len 0 (length seen) ++ (name_id names x).0 ∷ [] ≡ range_with_len 0 (length (seen ++ x ∷ [])) =
-        range_push 0 (length seen) (name_id names x).0 (omega (arith, place)) ∙ ap (range_with_len 0) (sym (length_more seen x)) in
-        rw (lacks, more) (new whole)
-
--- names have the numbers of their first appearance
-pub numbers_first : (xs : List Spelled) → first_appearances (map (name_id (numbered [] xs)) xs) ≡ range_with_len 0 (length (numbered [] xs))
-numbers_first xs = numbers_from [] xs (numbered [] xs) refl

@@ -3,9 +3,9 @@ pub mod CheckLaws
 pub mod EntryLaws
 pub mod FirstNames
 pub mod Fits
-pub mod TextLines
 pub mod LineTests
 pub mod NameEq
+pub mod NameNumbers
 pub mod OneAnswer
 pub mod OpFacts
 pub mod PartLaws
@@ -13,6 +13,7 @@ pub mod Ranges
 pub mod ReadLaws
 pub mod RepeatLaws
 pub mod Rules
+pub mod TextLines
 pub mod WellFormed
 pub mod Whole
 mod FaultRows

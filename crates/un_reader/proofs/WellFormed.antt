@@ -29,7 +29,8 @@ use Rattle.un_live.proofs.LiveLaws.{reads-Contains, Contains-reads}
 use Rattle.un_reader.proofs.ReadLaws.{kept_all}
 use Rattle.un_words.proofs.Each.{Each-weaken, Each-both, Each-map, Each-unmap, Each-append, Each-left, Each-right, Each-unflat, Each-at}
 use Rattle.un_words.proofs.Each.{Each-in, EachPair, EachPair-AllPairs, EachPair-from, EachPair-map, EachPair-unmap}
-use Rattle.un_reader.proofs.FirstNames.{IsPlaced, in_numbered, name_placed, Each-numbered, numbered_apart, numbers_first}
+use Rattle.un_reader.proofs.FirstNames.{IsPlaced, in_numbered, name_placed, Each-numbered, numbered_apart}
+use Rattle.un_reader.proofs.NameNumbers.{numbers_first}
 use Rattle.un_words.proofs.TokenFacts.{IfThere, IsSpelled}
 use Rattle.un_words.proofs.LineShapes.{IsShaped}
 use Rattle.un_reader.proofs.LineTests.{all_shaped, all_keep, all_good}
@@ -285,9 +286,10 @@ module _ (all : List (List ℕ)) (good : HasNoLineFault all) (whole : shape_faul
       let few = last.few_ops in
       omega (arith, counted, few)
 
-  all_kept : ((name : NameId) → name.0 < length names → (Contains params name → ⊥) → IsLive blocks name 0 0 → ⊥)
+  -- what lines without a fault are is well formed, where no name is live at the start of the entry but parameters
+  pub well_formed : ((name : NameId) → name.0 < length names → (Contains params name → ⊥) → IsLive blocks name 0 0 → ⊥)
       → IsWellFormed (unwrap_or (name_of lines) []) params names blocks
-  all_kept none_live =
+  well_formed none_live =
       let param = fit.params_good in
       let count = block_count in
       record {
@@ -314,15 +316,6 @@ module _ (all : List (List ℕ)) (good : HasNoLineFault all) (whole : shape_faul
       by : (name : NameId) → IsLive blocks name 0 0 → (v : Bool) → reads name params ≡ v → Contains params name
       by name live true e = reads-Contains name params e
       by name live false e = absurd (none_live name (live_below name live) (λ has. cc (sym e ∙ Contains-reads name params has)) live)
-
--- what lines without a fault are is well formed, where no name is live at the start of the entry but parameters
-pub well_formed : (all : List (List ℕ)) → HasNoLineFault all → shape_fault (map line_of all) ≡ None
-    → ((name : NameId) → name.0 < length (names_of (map line_of all))
-    → (Contains (map (name_id (names_of (map line_of all))) (params_of (map line_of all))) name → ⊥)
-    → IsLive (blocks_of (names_of (map line_of all)) (labels_of (map line_of all)) (map line_of all)) name 0 0 → ⊥)
-    → IsWellFormed (unwrap_or (name_of (map line_of all)) []) (map (name_id (names_of (map line_of all))) (params_of (map line_of all)))
-    (names_of (map line_of all)) (blocks_of (names_of (map line_of all)) (labels_of (map line_of all)) (map line_of all))
-well_formed all good whole none_live = all_kept all good whole none_live
 
 -- ---- to lines without a fault
 

@@ -1,8 +1,9 @@
 -- Lines without a line end, a comment or a byte that no text may have, and how they are cut from a text.
-use Rattle.std.proofs.Common.{◌≡◌, ◌≢◌, ℕ, zero, suc, ◌+◌, ◌-◌, ◌<◌, ◌≤◌, ◌==◌, Bool, true, false, ◌&&◌, ◌||◌, not, nat_lt, nat_le, List}
+use Rattle.std.proofs.Common.{◌≡◌, ◌≢◌, ℕ, zero, suc, ◌+◌, ◌-◌, ◌<◌, ◌≤◌, ◌==◌, Bool, true, false, ◌&&◌, not, nat_lt, nat_le, List}
 use Rattle.std.proofs.Common.{[], ◌∷◌, ◌++◌, map, length, take, refl, ap, ◌∙◌, arith, All, flat_map, append_assoc, get_or, length-append}
 use Rattle.std.proofs.Common.{ne_eqb, one-add, lt-ltb}
 use Rattle.std.specs.List.{list_all}
+use Rattle.std.proofs.lemmas.Bool.{and_parts, leb-true, not-true, or_right}
 use Rattle.std.proofs.lemmas.Bool.Decides.{nat_tests}
 use Rattle.std.proofs.lemmas.List.Elements.{All-cons, All-nil, All-head, All-tail}
 use Rattle.std.proofs.lemmas.List.Folds.{list_all-append}
@@ -28,27 +29,16 @@ record Clean (b : ℕ) : Type 0 where
   other : (b == 59) ≡ false
 
 clean_byte : (b : ℕ) → is_clean_byte b ≡ true → Clean b
-clean_byte b h = by (nat_le 32 b) (nat_le b 126) (b == 59) refl refl refl h
-  where
-    by : (u v w : Bool) → nat_le 32 b ≡ u → nat_le b 126 ≡ v → (b == 59) ≡ w → (u && (v && not w)) ≡ true → Clean b
-    by true true false d e f k = record { low = grind (arith, nat_tests); high = grind (arith, nat_tests); other = f }
-    by true true true d e f k = absurd (cc k)
-    by true false w d e f k = absurd (cc k)
-    by false v w d e f k = absurd (cc k)
+clean_byte b h =
+    let low = and_parts (nat_le 32 b) (nat_le b 126 && not (b == 59)) h in
+    let high = and_parts (nat_le b 126) (not (b == 59)) low.1 in
+    record { low = leb-true 32 b low.0; high = leb-true b 126 high.0; other = not-true (b == 59) high.1 }
 
 pub clean_head : (b : ℕ) (bs : List ℕ) → IsClean (b ∷ bs) → is_clean_byte b ≡ true
-clean_head b bs h = by (is_clean_byte b) (list_all is_clean_byte bs) h
-  where
-    by : (u v : Bool) → (u && v) ≡ true → u ≡ true
-    by true v k = refl
-    by false v k = absurd (cc k)
+clean_head b bs h = (and_parts (is_clean_byte b) (list_all is_clean_byte bs) h).0
 
 pub clean_tail : (b : ℕ) (bs : List ℕ) → IsClean (b ∷ bs) → IsClean bs
-clean_tail b bs h = by (is_clean_byte b) (list_all is_clean_byte bs) h
-  where
-    by : (u v : Bool) → (u && v) ≡ true → v ≡ true
-    by true v k = k
-    by false v k = absurd (cc k)
+clean_tail b bs h = (and_parts (is_clean_byte b) (list_all is_clean_byte bs) h).1
 
 -- lines that are clean, one behind the other
 pub clean_append : (xs ys : List ℕ) → IsClean xs → IsClean ys → IsClean (xs ++ ys)
@@ -62,12 +52,7 @@ clean_plain (b ∷ bs) h =
     let low : nat_le 32 b ≡ true = grind (arith, nat_tests, c.low) in
     let high : nat_le b 126 ≡ true = grind (arith, nat_tests, c.high) in
     let rest = clean_plain bs (clean_tail b bs h) in
-    by (b == 9) low high rest
-  where
-    by : (t : Bool) → nat_le 32 b ≡ true → nat_le b 126 ≡ true → list_all is_plain_byte bs ≡ true
-        → ((t || (nat_le 32 b && nat_le b 126)) && list_all is_plain_byte bs) ≡ true
-    by true low high rest = rest
-    by false low high rest = rw (low, high, rest) refl
+    rw (low, high, rest, or_right (b == 9) true refl) refl
 
 no_feed : (line : List ℕ) → IsClean line → HasNoFeed line
 no_feed [] h = All-nil (λ b. b ≢ 10)
@@ -132,3 +117,17 @@ lines_read (line ∷ lines) h =
     ap pieces_of whole ∙ pieces_of-line line (flat_map ended lines) (no_feed line clean) in
     let first : cut (ended line) ≡ line = ap without_comment (end_cut line clean) ∙ no_comment line clean in
     ap (map cut) pieces ∙ ap (λ (l : List ℕ). l ∷ lines_in (flat_map ended lines)) first ∙ ap (λ (ls : List (List ℕ)). line ∷ ls) rest
+
+-- ---- short lines
+
+-- a clean line of so many bytes at most
+pub record IsNeat (most : ℕ) (line : List ℕ) : Type 0 where
+  pub clean : IsClean line
+  pub short : length line ≤ most
+
+pub neat_append : (a b : ℕ) (xs ys : List ℕ) → IsNeat a xs → IsNeat b ys → IsNeat (a + b) (xs ++ ys)
+neat_append a b xs ys h k =
+    record { clean = clean_append xs ys h.clean k.clean; short = omega (arith, length-append xs ys, h.short, k.short) }
+
+pub neat_more : (a b : ℕ) (xs : List ℕ) → a ≤ b → IsNeat a xs → IsNeat b xs
+neat_more a b xs less h = record { clean = h.clean; short = omega (arith, h.short) }

@@ -1,15 +1,20 @@
 -- The words that names are: without a sigil, with one, and behind an exclamation mark.
-use Rattle.std.proofs.Common.{◌≡◌, ℕ, ◌<◌, ◌≤◌, ◌==◌, Bool, true, false, ◌&&◌, nat_lt, nat_le, List, [], ◌∷◌, length, slice_index, refl}
+use Rattle.std.proofs.Common.{◌≡◌, ℕ, ◌<◌, ◌≤◌, ◌==◌, Bool, true, false, nat_lt, nat_le, List, [], ◌∷◌, ◌++◌, length, slice_index, refl}
 use Rattle.std.proofs.Common.{sym, ap, ◌∙◌, arith, ne_eqb, true≢false}
 use Rattle.std.specs.List.{list_all}
+use Rattle.std.proofs.lemmas.Bool.{and_parts, leb-true, ltb-true}
 use Rattle.std.proofs.lemmas.Bool.Decides.{nat_tests}
+use Rattle.std.proofs.lemmas.List.{length-append}
+use Rattle.std.proofs.lemmas.List.Folds.{list_all-append}
 use Rattle.un_base.specs.Names.{is_first, is_rest}
 use Rattle.un_reader.specs.Vocabulary.{Kind, General, Pred}
 use Rattle.un_ir.specs.Text.{with_sigil}
 use Rattle.un_ir.specs.WellFormed.{IsName}
+use Rattle.un_words.specs.declared.token.Token.{Token}
 use Rattle.un_words.specs.declared.token.Token.TheVariants.{Named, Negated, Word}
+use Rattle.un_words.specs.Tokens.{token_of}
 use Rattle.un_words.specs.Words.{is_inner}
-use Rattle.un_reread.proofs.Bytes.{is_clean_byte, IsClean}
+use Rattle.un_reread.proofs.Bytes.{is_clean_byte, IsClean, clean_append}
 use Rattle.un_reread.proofs.WordsOf.{Says}
 
 -- ---- tests of bytes
@@ -20,11 +25,7 @@ other_byte test b k passes fails = ne_eqb b k (λ e. true≢false (sym passes �
 
 pub all_weaker : (p q : ℕ → Bool) → ((b : ℕ) → p b ≡ true → q b ≡ true) → (bs : List ℕ) → list_all p bs ≡ true → list_all q bs ≡ true
 all_weaker p q h [] e = refl
-all_weaker p q h (b ∷ bs) e = by (all_weaker p q h bs) (p b) refl e
-  where
-    by : (list_all p bs ≡ true → list_all q bs ≡ true) → (v : Bool) → p b ≡ v → (v && list_all p bs) ≡ true → (q b && list_all q bs) ≡ true
-    by more true d k = rw (h b d, more k) refl
-    by more false d k = absurd (cc k)
+all_weaker p q h (b ∷ bs) e = let t = and_parts (p b) (list_all p bs) e in rw (h b t.0, all_weaker p q h bs t.1) refl
 
 rest_inner : (b : ℕ) → is_rest b ≡ true → is_inner b ≡ true
 rest_inner b h =
@@ -46,15 +47,10 @@ pub record NameParts (name : List ℕ) : Type 0 where
 
 pub name_parts : (name : List ℕ) → IsName name → NameParts name
 name_parts name h =
-    by (nat_lt 0 (length name)) (nat_le (length name) 32) (is_first (slice_index name 0)) (list_all is_rest name) refl refl refl refl h
-  where
-    by : (s t u v : Bool) → nat_lt 0 (length name) ≡ s → nat_le (length name) 32 ≡ t → is_first (slice_index name 0) ≡ u
-        → list_all is_rest name ≡ v → (s && t && u && v) ≡ true → NameParts name
-    by true true true true a b c d k = record { some = grind (arith, nat_tests); short = grind (arith, nat_tests); first = c; rest = d }
-    by true true true false a b c d k = absurd (cc k)
-    by true true false v a b c d k = absurd (cc k)
-    by true false u v a b c d k = absurd (cc k)
-    by false t u v a b c d k = absurd (cc k)
+    let c = and_parts _ (list_all is_rest name) h in
+    let b = and_parts _ (is_first (slice_index name 0)) c.0 in
+    let a = and_parts (nat_lt 0 (length name)) (nat_le (length name) 32) b.0 in
+    record { some = ltb-true 0 (length name) a.0; short = leb-true (length name) 32 a.1; first = b.1; rest = c.1 }
 
 pub name_clean : (name : List ℕ) → IsName name → IsClean name
 name_clean name h = all_weaker is_rest is_clean_byte rest_clean name (name_parts name h).rest
@@ -83,48 +79,25 @@ word_says (b ∷ bs) h =
           ) refl;
     }
 
+-- a name behind other bytes
+behind : (front name : List ℕ) (token : Token) → (0 < length front) × (length front ≤ 2) → list_all is_inner front ≡ true → IsClean front
+    → IsName name → token_of (front ++ name) ≡ token → Says (front ++ name) token
+behind front name token size inner clean h spelt = record {
+  some = let all = length-append front name in omega (arith, size.0, all);
+  inner = list_all-append is_inner front name ∙ rw (inner, name_inner name h) refl;
+  neat = record {
+    clean = clean_append front name clean (name_clean name h);
+    short = let all = length-append front name in let few = (name_parts name h).short in omega (arith, size.1, all, few);
+  };
+  spelt = spelt;
+}
+
 -- a name with its sigil
 pub name_says : (name : List ℕ) (kind : Kind) → IsName name → Says (with_sigil kind name) (Named (name, kind))
-name_says name General h =
-    record {
-      some =
-          omega arith;
-      inner =
-          name_inner name h;
-      neat =
-          record { clean = name_clean name h; short = omega (arith, (name_parts name h).short) };
-      spelt = rw h refl;
-    }
-name_says name Pred h =
-    record {
-      some =
-          omega arith;
-      inner =
-          name_inner name h;
-      neat =
-          record { clean = name_clean name h; short = omega (arith, (name_parts name h).short) };
-      spelt = rw h refl;
-    }
+name_says name General h = behind (37 ∷ []) name (Named (name, General)) (omega arith, omega arith) refl refl h (rw h refl)
+name_says name Pred h = behind (36 ∷ []) name (Named (name, Pred)) (omega arith, omega arith) refl refl h (rw h refl)
 
 -- a name behind an exclamation mark
 pub negated_says : (name : List ℕ) (kind : Kind) → IsName name → Says (33 ∷ with_sigil kind name) (Negated (name, kind))
-negated_says name General h =
-    record {
-      some =
-          omega arith;
-      inner =
-          name_inner name h;
-      neat =
-          record { clean = name_clean name h; short = omega (arith, (name_parts name h).short) };
-      spelt = rw h refl;
-    }
-negated_says name Pred h =
-    record {
-      some =
-          omega arith;
-      inner =
-          name_inner name h;
-      neat =
-          record { clean = name_clean name h; short = omega (arith, (name_parts name h).short) };
-      spelt = rw h refl;
-    }
+negated_says name General h = behind (33 ∷ 37 ∷ []) name (Negated (name, General)) (omega arith, omega arith) refl refl h (rw h refl)
+negated_says name Pred h = behind (33 ∷ 36 ∷ []) name (Negated (name, Pred)) (omega arith, omega arith) refl refl h (rw h refl)

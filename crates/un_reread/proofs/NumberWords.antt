@@ -6,6 +6,7 @@ use Rattle.std.specs.Char.{is_ascii_digit}
 use Rattle.std.specs.List.{list_all}
 use Rattle.std.specs.Str.{all_ascii_digits}
 use Rattle.std.proofs.lemmas.Fmt.{length-decimal-le, decimal_nonempty, digits_decimal, digits_value-decimal}
+use Rattle.std.proofs.lemmas.Bool.{and_parts}
 use Rattle.std.proofs.lemmas.Bool.Decides.{nat_tests}
 use Rattle.std.proofs.lemmas.Str.Parse.{IsNumeralModel, numerals_by_fold}
 use Rattle.un_base.specs.Names.{is_first, is_rest, is_name}
@@ -47,12 +48,8 @@ decimal_writes n h =
 
 all_digits : (text : List ℕ) → all_ascii_digits text ≡ true → list_all is_ascii_digit text ≡ true
 all_digits [] h = refl
-all_digits (b ∷ bs) h = by (all_digits bs) (is_ascii_digit b) refl h
-  where
-    by : (all_ascii_digits bs ≡ true → list_all is_ascii_digit bs ≡ true) → (v : Bool) → is_ascii_digit b ≡ v
-        → (v && all_ascii_digits bs) ≡ true → (is_ascii_digit b && list_all is_ascii_digit bs) ≡ true
-    by more true e k = rw (e, more k) refl
-    by more false e k = absurd (cc k)
+all_digits (b ∷ bs) h =
+    let p = and_parts (is_ascii_digit b) (all_ascii_digits bs) h in rw (p.0, all_digits bs p.1) refl
 
 digit_inner : (b : ℕ) → is_ascii_digit b ≡ true → is_inner b ≡ true
 digit_inner b h =
@@ -82,11 +79,7 @@ no_name b bs h =
     and_no (nat_lt 0 (length (b ∷ bs))) (nat_le (length (b ∷ bs)) 32) (is_first b) (list_all is_rest (b ∷ bs)) (digit_not_first b h)
 
 first_digit : (b : ℕ) (bs : List ℕ) → all_ascii_digits (b ∷ bs) ≡ true → is_ascii_digit b ≡ true
-first_digit b bs h = by (is_ascii_digit b) h
-  where
-    by : (v : Bool) → (v && all_ascii_digits bs) ≡ true → v ≡ true
-    by true k = refl
-    by false k = absurd (cc k)
+first_digit b bs h = (and_parts (is_ascii_digit b) (all_ascii_digits bs) h).0
 
 -- ---- numbers
 

@@ -12,20 +12,62 @@ use Rattle.un_isa.specs.declared.facts.Range.{Range}
 use Rattle.un_isa.specs.Facts.{Operands, Fixed, Arguments, facts_of, fixed_spaces, result_space, literal_range, is_source, source_name}
 use Rattle.un_isa.specs.Operands.{IsLiteralOf}
 use Rattle.un_ir.specs.Names.{kind_of}
-use Rattle.un_ir.specs.Text.{Names, op_line, name_text, literal_text, with_literal}
+use Rattle.un_ir.specs.Text.{Names, op_line, name_text, literal_text, with_literal, operand_texts}
 use Rattle.un_ir.specs.WellFormed.{IsName, IsOfKind, kind_in, takes_arguments, AreRead, IsAssigned, IsCallee, IsGoodOp}
 use Rattle.un_words.specs.declared.token.Token.TheVariants.{Named, Literal, Word}
 use Rattle.un_words.specs.declared.slot.Head.TheVariants.{Bare}
 use Rattle.un_words.specs.Shapes.{word_at, names_at, literal_at, have_forms, op_named, head_word, slots_by, result_by, is_call_list}
+use Rattle.un_words.specs.Shapes.{result_fits, operands_fit, op_line_of, op_shape, shape_of}
 use Rattle.un_reread.specs.Printed.{spelled_at, as_number, op_as_line}
-use Rattle.un_reread.proofs.WordsOf.{AllSay, IsLine}
+use Rattle.un_reread.proofs.WordsOf.{AllSay, IsLine, is_line}
 use Rattle.un_reread.proofs.NamesAt.{AreNames, name_at_says}
 use Rattle.un_reread.proofs.NumberWords.{literal_says}
 use Rattle.un_reread.proofs.Literals.{small_abs}
-use Rattle.un_reread.proofs.OpTokens.{joined, callee_tokens, IsOfSomeKind}
-use Rattle.un_reread.proofs.OpShapes.{HasWord, Fits, fits_read}
+use Rattle.un_reread.proofs.OpTokens.{joined, callee_tokens, IsOfSomeKind, result_tokens, op_tokens}
 use Rattle.un_reread.proofs.OpForms.{says_literal, slots_fit, are_list, names_joined, literal_joined, names_there, no_literal}
 use Rattle.un_reread.proofs.OpForms.{literal_there, length_literal}
+
+-- ---- the shape of the words of an operation
+
+-- the operation's word is a name, begins no other line, and is no other operation's
+pub record HasWord (op : Op) : Type 0 where
+  pub name : is_name (source_name op) ≡ true
+  pub bare : head_word (source_name op) ≡ Bare
+  pub own : op_named (source_name op) ≡ Some op
+
+-- the words of an operation, its operands among them, as they are printed
+abbrev pub behind : SrcOp → List Token → List Token
+behind o operands = Word (source_name o.op) ∷ (callee_tokens o.callee ++ joined operands)
+
+-- the operation's words say what it is
+pub record Fits (names : Names) (o : SrcOp) (operands : List Token) : Type 0 where
+  pub word : HasWord o.op
+  pub says : AllSay (operand_texts o.op o (map (name_text names) o.srcs)) operands
+  pub few : length operands ≤ 6
+  pub kind : IfSome o.dst (IsOfSomeKind names)
+  pub callee : IfSome o.callee IsName
+  pub result : result_fits o.op (option_map (spelled_at names) o.dst) ≡ true
+  pub forms : operands_fit o.op (behind o operands) ≡ true
+  pub line : op_line_of o.op (option_map (spelled_at names) o.dst) (behind o operands) ≡ op_as_line names o
+
+by_word : (op : Op) (dst : Option Spelled) (rest : List Token) → HasWord op
+    → shape_of (result_tokens dst ++ (Word (source_name op) ∷ rest)) ≡ op_shape dst (Word (source_name op) ∷ rest) op
+by_word op None rest w = rw (w.bare, w.own) refl
+by_word op (Some d) rest w = rw w.own refl
+
+by_fit : (op : Op) (dst : Option Spelled) (ts : List Token) → result_fits op dst ≡ true → operands_fit op ts ≡ true
+    → op_shape dst ts op ≡ Some (Operation (op_line_of op dst ts))
+by_fit op dst ts h k = rw (h, k) refl
+
+-- the line of an operation is read as the operation
+pub fits_read : (names : Names) (o : SrcOp) (operands : List Token) → AreNames names → Fits names o operands
+    → IsLine (op_line names o) (Operation (op_as_line names o))
+fits_read names o operands all f =
+    is_line 325 (op_line names o) (result_tokens (option_map (spelled_at names) o.dst) ++ behind o operands)
+    (Operation (op_as_line names o)) (omega arith) (op_tokens names o operands all f.word.name f.says f.few f.kind f.callee)
+    (by_word o.op (option_map (spelled_at names) o.dst) (callee_tokens o.callee ++ joined operands) f.word
+    ∙ by_fit o.op (option_map (spelled_at names) o.dst) (behind o operands) f.result f.forms
+    ∙ ap (λ (line : OpLine). Some (Operation line)) f.line)
 
 -- ---- the operation's word
 

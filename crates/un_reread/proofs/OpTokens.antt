@@ -10,7 +10,7 @@ use Rattle.un_ir.specs.WellFormed.{IsName, IsOfKind}
 use Rattle.un_words.specs.declared.token.Token.TheVariants.{Comma, Equals, Named, Word}
 use Rattle.un_words.specs.Words.{goes_on}
 use Rattle.un_reread.specs.Printed.{spelled_at}
-use Rattle.un_reread.proofs.Neat.{neat_more}
+use Rattle.un_reread.proofs.Bytes.{neat_more}
 use Rattle.un_reread.proofs.WordsOf.{AllSay, Reads, first, only, before}
 use Rattle.un_reread.proofs.NameWords.{word_says}
 use Rattle.un_reread.proofs.NamesAt.{AreNames, name_at_says}

@@ -16,7 +16,7 @@ use Rattle.un_words.specs.Words.{goes_on}
 use Rattle.un_words.specs.Shapes.{shape_of, is_slot, names_at}
 use Rattle.un_reader.proofs.TextLines.{body_lines}
 use Rattle.un_reread.specs.Printed.{spelled_at, term_as_line}
-use Rattle.un_reread.proofs.Neat.{neat_more}
+use Rattle.un_reread.proofs.Bytes.{neat_more}
 use Rattle.un_reread.proofs.WordsOf.{Says, Reads, first, only, before, IsLine, is_line, AreLines}
 use Rattle.un_reread.proofs.NameWords.{word_says}
 use Rattle.un_reread.proofs.NamesAt.{AreNames, name_at_says, negated_at_says}
@@ -103,12 +103,14 @@ branch_read word token label line says named shape =
     let jump = before (codes " jump ") (Word (codes "jump") ∷ []) 6 34 label (Word label ∷ [])
     (record { clean = refl; short = omega arith }) (λ rest. refl) (only label (Word label) (word_says label named)) in
     let test = first word token 40 (codes " jump " ++ label) (Word (codes "jump") ∷ Word label ∷ []) says jump refl in
-    is_line 79 (codes "  if " ++ (word ++ (codes " jump " ++ label))) (Word (codes "if") ∷ token ∷ Word (codes "jump") ∷ Word label ∷ []) line
-    (omega arith) (before (codes "  if ") (Word (codes "if") ∷ []) 5 74 (word ++ (codes " jump " ++ label))
+    is_line 79 (codes "  if " ++ (word ++ (codes " jump " ++ label)))
+    (Word (codes "if") ∷ token ∷ Word (codes "jump") ∷ Word label ∷ []) line (omega arith)
+    (before (codes "  if ") (Word (codes "if") ∷ []) 5 74 (word ++ (codes " jump " ++ label))
     (token ∷ Word (codes "jump") ∷ Word label ∷ []) (record { clean = refl; short = omega arith }) (λ rest. refl) test) shape
 
-module _ (blocks : List SourceBlock) (names : Names) (b : ℕ) (all : AreNames names) (labels : All (λ (x : SourceBlock). IsName x.label) blocks)
-    (texts : List (List ℕ)) (lines : List Line) (later : AreLines texts lines) where
+module _ (blocks : List SourceBlock) (names : Names) (b : ℕ) (all : AreNames names)
+    (labels : All (λ (x : SourceBlock). IsName x.label) blocks) (texts : List (List ℕ)) (lines : List Line)
+    (later : AreLines texts lines) where
   pub term_read : (term : Term) → TestsItsKind names term → LeadsInside blocks b term
       → AreLines (term_lines blocks names term ++ texts) (body_lines [] (term_as_line blocks names term) lines)
   term_read Fall tests leads = later

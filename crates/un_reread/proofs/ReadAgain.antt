@@ -21,8 +21,7 @@ use Rattle.un_reader.proofs.LineTests.{lines_are, no_line_fault}
 use Rattle.un_reader.proofs.TextLines.{text_lines, group_labels, groups_back}
 use Rattle.un_reader.proofs.WellFormed.{text_faultless, text_whole}
 use Rattle.un_reread.specs.Printed.{spelled_at, as_group}
-use Rattle.un_reread.proofs.Bytes.{IsClean, lines_read}
-use Rattle.un_reread.proofs.Neat.{IsNeat}
+use Rattle.un_reread.proofs.Bytes.{IsClean, lines_read, IsNeat}
 use Rattle.un_reread.proofs.ReadLines.{function_read, lines_neat, lines_read_as}
 use Rattle.un_reread.proofs.Rebuilt.{labels, labels_there, names_again, params_again, blocks_again}
 use Rattle.un_reread.proofs.Sizes.{text_within}

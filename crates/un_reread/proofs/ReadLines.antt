@@ -1,5 +1,5 @@
 -- The lines of a function's text are neat, and are read as the lines of its blocks.
-use Rattle.std.proofs.Common.{◌≡◌, ℕ, suc, ◌+◌, ◌++◌, List, [], ◌∷◌, Some, map, slice_get, refl, arith, subst, sym, append_assoc}
+use Rattle.std.proofs.Common.{◌≡◌, ℕ, ◌+◌, ◌++◌, List, [], ◌∷◌, Some, map, slice_get, refl, append_assoc}
 use Rattle.std.specs.List.{All, AllByRecursion as Each, flat_map}
 use Rattle.std.proofs.lemmas.List.Elements.{All-nil, All-cons, All-weaker, recursion_from_All as Each-from}
 use Rattle.un_reader.specs.Vocabulary.{SrcOp, Term, SourceBlock, Line}
@@ -9,14 +9,15 @@ use Rattle.un_ir.specs.WellFormed.{IsName, IsGoodOp, IsGoodBlock, TestsItsKind, 
 use Rattle.un_reader.proofs.LineTests.{AreReadAs}
 use Rattle.un_reader.proofs.TextLines.{body_lines, group_lines, text_lines}
 use Rattle.un_reread.specs.Printed.{spelled_at, op_as_line, term_as_line, as_group}
-use Rattle.un_reread.proofs.Bytes.{clean_plain}
+use Rattle.un_reread.proofs.Bytes.{clean_plain, IsNeat}
 use Rattle.un_reread.proofs.NamesAt.{AreNames}
-use Rattle.un_reread.proofs.Neat.{IsNeat}
 use Rattle.un_reread.proofs.OpLines.{op_read}
 use Rattle.un_reread.proofs.OtherLines.{func_read, block_read, term_read}
+use Rattle.un_reread.proofs.Rebuilt.{StandAt, stand_all, stand_later}
 use Rattle.un_reread.proofs.WordsOf.{AreLines}
 
-module _ (names : Names) (blocks : List SourceBlock) (named : AreNames names) (labelled : All (λ (b : SourceBlock). IsName b.label) blocks) where
+module _ (names : Names) (blocks : List SourceBlock) (named : AreNames names)
+    (labelled : All (λ (b : SourceBlock). IsName b.label) blocks) where
   body_read : (ops : List SrcOp) (b : ℕ) (term : Term) (texts : List (List ℕ)) (lines : List Line) → Each (IsGoodOp names) ops
       → TestsItsKind names term → LeadsInside blocks b term → AreLines texts lines
       → AreLines (map (op_line names) ops ++ (term_lines blocks names term ++ texts))
@@ -28,13 +29,12 @@ module _ (names : Names) (blocks : List SourceBlock) (named : AreNames names) (l
   )
 
   -- blocks of the function, from one on
-  blocks_read : (k : ℕ) (some : List SourceBlock) → ((j : ℕ) (b : SourceBlock) → slice_get some j ≡ Some b → slice_get blocks (k + j) ≡ Some b)
+  blocks_read : (k : ℕ) (some : List SourceBlock) → StandAt blocks k some
       → ((j : ℕ) (b : SourceBlock) → slice_get blocks j ≡ Some b → LeadsInside blocks j b.term) → Each (IsGoodBlock names) some
       → AreLines (flat_map (block_lines blocks names) some) (group_lines (map (as_group blocks names) some))
   blocks_read k [] got leads good = tt
   blocks_read k (b ∷ some) got leads good =
-      let later = blocks_read (k + 1) some (λ j c g. (let place : k + 1 + j ≡ k + suc j = omega arith in
-      subst (λ (n : ℕ). slice_get blocks n ≡ Some c) (sym place) (got (suc j) c g))) leads good.1 in
+      let later = blocks_read (k + 1) some (stand_later blocks k b some got) leads good.1 in
       rw (append_assoc (map (op_line names) b.ops) (term_lines blocks names b.term) (flat_map (block_lines blocks names) some)) (
         block_read b good.0.label good.0.freq,
         body_read b.ops (k + 0) b.term (flat_map (block_lines blocks names) some) (group_lines (map (as_group blocks names) some))
@@ -47,7 +47,7 @@ function_read f w = (
   func_read f w.named w.all_named w.params_are_words w.few_params,
   blocks_read f.names f.blocks w.all_named
       (All-weaker (IsGoodBlock f.names) (λ (b : SourceBlock). IsName b.label) (λ b g. g.label) f.blocks w.good_blocks)
-      0 f.blocks (λ j b g. (let place : 0 + j ≡ j = omega arith in subst (λ (n : ℕ). slice_get f.blocks n ≡ Some b) (sym place) g))
+      0 f.blocks (stand_all f.blocks)
       w.leads (Each-from (IsGoodBlock f.names) f.blocks w.good_blocks),
 )
 

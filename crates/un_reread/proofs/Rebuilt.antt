@@ -7,7 +7,7 @@ use Rattle.std.specs.Option.{option_map, option_to_list}
 use Rattle.std.specs.Str.{bytes_eq}
 use Rattle.std.proofs.lemmas.Bool.{false_from_ne_true}
 use Rattle.std.proofs.lemmas.List.{length-map, map-append}
-use Rattle.std.proofs.lemmas.List.Elements.{All-nil, recursion_from_All as Each-from}
+use Rattle.std.proofs.lemmas.List.Elements.{recursion_from_All as Each-from}
 use Rattle.std.proofs.lemmas.List.Sums.{position_or_len_is}
 use Rattle.std.proofs.lemmas.Slice.Eq.{bytes_eq-Decides}
 use Rattle.un_reader.specs.Vocabulary.{NameId, BlockId, SrcOp, Term, Fall, JumpTo, BranchTo, Return, SourceBlock}
@@ -21,10 +21,9 @@ use Rattle.un_reader.specs.Groups.{Group}
 use Rattle.un_words.specs.LineNames.{names_on}
 use Rattle.un_reader.specs.Functions.{name_id, block_id, literal_value, op_of, term_by, block_of}
 use Rattle.un_words.proofs.Each.{Each-left, Each-right, Each-unflat}
+use Rattle.un_reader.proofs.NameNumbers.{IsPlace, place_back, numbers_placed, names_first}
 use Rattle.un_reader.proofs.TextLines.{text_lines, names_on_line, names_at_end, group_names, names_of_groups}
 use Rattle.un_reread.specs.Printed.{spelled_at, as_number, op_as_line, term_as_line, as_group}
-use Rattle.un_reread.proofs.Spelling.{IsPlace, at_place, place_back}
-use Rattle.un_reread.proofs.Appearances.{AreBelow, seen_below, range_below, numbered_is, all_places}
 use Rattle.un_reread.proofs.Literals.{value_back}
 
 -- ---- the names on the lines
@@ -81,23 +80,33 @@ label_at [] k = refl
 label_at (b ∷ blocks) zero = refl
 label_at (b ∷ blocks) (suc k) = label_at blocks k
 
+-- ---- blocks among all blocks
+
+-- these are the blocks from a place on
+abbrev pub StandAt : List SourceBlock → ℕ → List SourceBlock → Type 0
+StandAt blocks k some = (j : ℕ) (b : SourceBlock) → slice_get some j ≡ Some b → slice_get blocks (k + j) ≡ Some b
+
+pub stand_all : (blocks : List SourceBlock) → StandAt blocks 0 blocks
+stand_all blocks j b got = let place : 0 + j ≡ j = omega arith in subst (λ (n : ℕ). slice_get blocks n ≡ Some b) (sym place) got
+
+pub stand_later : (blocks : List SourceBlock) (k : ℕ) (first : SourceBlock) (some : List SourceBlock) → StandAt blocks k (first ∷ some)
+    → StandAt blocks (k + 1) some
+stand_later blocks k first some stand j b got =
+    let place : k + 1 + j ≡ k + suc j = omega arith in
+    subst (λ (n : ℕ). slice_get blocks n ≡ Some b) (sym place) (stand (suc j) b got)
+
 -- ---- the parts
 
 module _ (name : List ℕ) (params : List NameId) (names : Names) (blocks : List SourceBlock)
     (w : IsWellFormed name params names blocks) where
   all_named : Each (IsPlace names) (appearances params blocks)
-  all_named = Each-from (IsPlace names) (appearances params blocks) (seen_below (length names) [] (appearances params blocks)
-      (subst (AreBelow (length names)) (sym w.numbered) (range_below (length names)))).1
+  all_named = numbers_placed names (appearances params blocks) w.numbered
 
   -- the names of the lines, each at its first appearance, are the function's
   pub names_again : names_of (text_lines name (map (spelled_at names) params) (map (as_group blocks names) blocks)) ≡ names
   names_again =
       ap (numbered []) (names_there name params names blocks)
-      ∙ numbered_is names w.distinct_names [] (appearances params blocks) (All-nil (λ (n : ℕ). n < length names))
-      (seen_below (length names) [] (appearances params blocks)
-      (subst (AreBelow (length names)) (sym w.numbered) (range_below (length names)))).1
-      ∙ ap (map (at_place names)) w.numbered
-      ∙ all_places names
+      ∙ names_first names w.distinct_names (appearances params blocks) w.numbered
 
   ids_back : (ids : List NameId) → Each (IsPlace names) ids → map (name_id names) (map (spelled_at names) ids) ≡ ids
   ids_back [] all = refl
@@ -168,19 +177,18 @@ module _ (name : List ℕ) (params : List NameId) (names : Names) (blocks : List
       rw (ops, term) refl
 
   -- blocks of the function, from one on
-  some_again : (k : ℕ) (some : List SourceBlock) → ((j : ℕ) (b : SourceBlock) → slice_get some j ≡ Some b → slice_get blocks (k + j) ≡ Some b)
+  some_again : (k : ℕ) (some : List SourceBlock) → StandAt blocks k some
       → Each (λ (b : SourceBlock). Each (IsPlace names) (names_in_block b)) some → Each (IsGoodBlock names) some
       → map (block_of names (labels blocks)) (map (as_group blocks names) some) ≡ some
   some_again k [] got all good = refl
   some_again k (b ∷ some) got all good =
       let here = block_again (k + 0) b (got 0 b refl) all.0 good.0 in
-      let later = some_again (k + 1) some (λ j c g. (let place : k + 1 + j ≡ k + suc j = omega arith in
-      subst (λ (n : ℕ). slice_get blocks n ≡ Some c) (sym place) (got (suc j) c g))) all.1 good.1 in
+      let later = some_again (k + 1) some (stand_later blocks k b some got) all.1 good.1 in
       rw (here, later) refl
 
   -- the blocks of the lines are the function's
   pub blocks_again : map (block_of names (labels blocks)) (map (as_group blocks names) blocks) ≡ blocks
   blocks_again =
-      some_again 0 blocks (λ j b g. (let place : 0 + j ≡ j = omega arith in subst (λ (n : ℕ). slice_get blocks n ≡ Some b) (sym place) g))
+      some_again 0 blocks (stand_all blocks)
       (Each-unflat (IsPlace names) names_in_block blocks (Each-right (IsPlace names) params (flat_map names_in_block blocks) all_named))
       (Each-from (IsGoodBlock names) blocks w.good_blocks)

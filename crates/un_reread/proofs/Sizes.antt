@@ -10,7 +10,7 @@ use Rattle.un_ir.specs.declared.function.Function.{Function}
 use Rattle.un_ir.specs.Text.{Names, op_line, term_lines, block_lines, function_lines, function_text, ended}
 use Rattle.un_ir.specs.WellFormed.{IsWellFormed}
 use Rattle.un_reader.specs.declared.limits.TheConstants.{TEXT}
-use Rattle.un_reread.proofs.Neat.{IsNeat}
+use Rattle.un_reread.proofs.Bytes.{IsNeat}
 
 joined_size : (lines : List (List ℕ)) → All (IsNeat 330) lines → length (flat_map ended lines) ≤ 331 * length lines
 joined_size [] all = omega arith

@@ -1,14 +1,15 @@
 -- The words of a line that is put together from words, blanks and marks.
-use Rattle.std.proofs.Common.{◌≡◌, ℕ, ◌+◌, ◌<◌, Bool, true, false, ◌&&◌, ◌||◌, not, List, [], ◌∷◌, ◌++◌, map, length, Some, ◌≤◌, refl}
+use Rattle.std.proofs.Common.{◌≡◌, ℕ, ◌+◌, ◌<◌, Bool, true, false, ◌&&◌, ◌||◌, List, [], ◌∷◌, ◌++◌, map, length, Some, ◌≤◌, refl}
 use Rattle.std.proofs.Common.{sym, ap, ◌∙◌, arith}
 use Rattle.std.proofs.Common.{append-nil}
 use Rattle.std.specs.List.{list_all, onto_first}
+use Rattle.std.proofs.lemmas.Bool.{and_parts, or_parts, not-true}
 use Rattle.un_words.specs.declared.token.Token.{Token}
 use Rattle.un_words.specs.Words.{is_blank, is_mark, is_inner, goes_on, words_of}
 use Rattle.un_words.specs.Tokens.{token_of, tokens_of}
 use Rattle.un_words.specs.Shapes.{shape_of}
 use Rattle.un_words.specs.declared.line.Line.{Line}
-use Rattle.un_reread.proofs.Neat.{IsNeat, neat_append, neat_more}
+use Rattle.un_reread.proofs.Bytes.{IsNeat, neat_append, neat_more}
 
 -- a longer word, which a reader takes for this token; a name with its sigil behind an exclamation mark is the longest
 pub record Says (word : List ℕ) (token : Token) : Type 0 where
@@ -27,13 +28,10 @@ record Inner (b : ℕ) : Type 0 where
   mark : is_mark b ≡ false
 
 inner_byte : (b : ℕ) (v : Bool) → (is_inner b && v) ≡ true → Inner b × (v ≡ true)
-inner_byte b v h = by (is_blank b) (is_mark b) refl refl v h
-  where
-    by : (p q : Bool) → is_blank b ≡ p → is_mark b ≡ q → (w : Bool) → (not (p || q) && w) ≡ true → Inner b × (w ≡ true)
-    by false false d e true k = (record { blank = d; mark = e }, refl)
-    by false false d e false k = absurd (cc k)
-    by false true d e w k = absurd (cc k)
-    by true q d e w k = absurd (cc k)
+inner_byte b v h =
+    let p = and_parts (is_inner b) v h in
+    let q = or_parts (is_blank b) (is_mark b) (not-true (is_blank b || is_mark b) p.0) in
+    (record { blank = q.0; mark = q.1 }, p.1)
 
 one_more : (b c : ℕ) (bs : List ℕ) → Inner b → is_inner c ≡ true → words_of (b ∷ c ∷ bs) ≡ onto_first b (words_of (c ∷ bs))
 one_more b c bs i e = rw (i.blank, i.mark, e) refl
