@@ -15,7 +15,7 @@ fn put_run(out: &mut Vec<u8>, low: u32, high: u32) -> Result<(), NoMemory> {
 }
 
 /// Appends rising values, those that follow one another as one run.
-fn put_values(out: &mut Vec<u8>, values: &[u32]) -> Result<(), NoMemory> {
+pub fn put_values(out: &mut Vec<u8>, values: &[u32]) -> Result<(), NoMemory> {
     let Some(first) = values.first() else {
         return Ok(());
     };

@@ -1,4 +1,4 @@
-//! Standard input in two parts: a function's text, and after a line `---` whole numbers.
+//! Standard input in two parts: a function's text, and after a line `---` what is asked of it.
 
 use std::alloc::Global;
 use un_base::decimal::read_decimal;
@@ -45,6 +45,28 @@ fn is_between(byte: u8) -> bool {
     byte == b' ' || byte == b'\t' || byte == b'\r'
 }
 
+/// The words of a line.
+///
+/// # Errors
+/// `NoMemory`.
+pub fn words<'a>(alloc: Global, line: &'a [u8]) -> Result<Vec<&'a [u8]>, Status> {
+    let mut words = Vec::new(alloc);
+    for word in line.split(|b| is_between(*b)) {
+        if word.is_empty() {
+            continue;
+        }
+        if words.push(word).is_err() {
+            return Err(Status::NoMemory);
+        }
+    }
+    Ok(words)
+}
+
+/// The number below 2^32 that a word is.
+pub fn small_number(word: &[u8]) -> Option<u32> {
+    read_decimal(word).and_then(|n| u32::try_from(n).ok())
+}
+
 /// Adds the numbers of a line.
 ///
 /// # Errors
@@ -54,8 +76,7 @@ fn add_numbers(values: &mut Vec<u32>, line: &[u8], number: u32) -> Result<(), St
         if word.is_empty() {
             continue;
         }
-        let value = read_decimal(word).and_then(|n| u32::try_from(n).ok());
-        let Some(value) = value else {
+        let Some(value) = small_number(word) else {
             return Err(Status::BadReport { line: number });
         };
         if values.push(value).is_err() {

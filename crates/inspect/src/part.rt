@@ -1,17 +1,23 @@
 //! The text of a part of a function's problem.
 
+ghost use Rattle.un_ir.specs.Extended.{IsExtended};
+ghost use Rattle.un_isa.specs.Fit.{IsFit};
 ghost use Rattle.un_model.specs.Options.{AreOptions};
+ghost use Rattle.un_model.specs.Variables.{IsModel};
 
 use crate::arcs::arcs_text;
 use crate::emission::listing_text;
+use crate::node::node_of;
 use crate::request::{Part, Request};
-use crate::solution::{values_text, verdict_text};
+use crate::rounds::rounds_text;
+use crate::solution::{solution_of, values_text, verdict_text};
 use crate::variables::variables_text;
 use std::alloc::Global;
 use un_base::memory_error::NoMemory;
+use un_base::status::Status;
 use un_ir::function::Function;
 use un_live::live::live_in;
-use un_model::model::{Options, Solution};
+use un_model::model::{Model, Options, Solution};
 use un_parts::extended::extended_text;
 use un_parts::live::live_text;
 use un_problem::problem::{default_options, extended, model};
@@ -78,22 +84,70 @@ fn code(alloc: Global, f: &Function, options: &Options, s: &Solution) -> Result<
     listing_text(alloc, f, options, &m, s)
 }
 
-/// The text of the part that is asked for, of a function and the values that stand behind it.
+/// A text, or the status for want of memory.
+fn told(text: Result<Vec<u8>, NoMemory>) -> Result<Vec<u8>, Status> {
+    text.map_err(|_| Status::NoMemory)
+}
+
+/// What the values that stand behind a function come to.
+fn verdict_on(
+    alloc: Global,
+    f: &Function,
+    options: &Options,
+    rest: &[u8],
+) -> Result<Vec<u8>, Status>
+    requires { AreOptions options.now }
+{
+    let s = solution_of(alloc, rest)?;
+    told(verdict(alloc, f, options, &s))
+}
+
+/// The code of the values that stand behind a function.
+fn code_of(alloc: Global, f: &Function, options: &Options, rest: &[u8]) -> Result<Vec<u8>, Status>
+    requires { AreOptions options.now }
+{
+    let s = solution_of(alloc, rest)?;
+    told(code(alloc, f, options, &s))
+}
+
+/// What the rounds leave at the node that a text describes, of a model.
+fn rounds_at(alloc: Global, m: &Model, rest: &[u8]) -> Result<Vec<u8>, Status>
+    requires model { IsModel m.now }
+    requires extended { IsExtended m.now.ext }
+    requires fit { IsFit m.now.ext.table }
+    requires options { AreOptions m.now.options }
+{
+    let node = node_of(alloc, rest, m.domains.len())?;
+    told(rounds_text(alloc, m, &node))
+}
+
+/// What the rounds leave at the node that stands behind a function.
+fn rounds(alloc: Global, f: &Function, options: &Options, rest: &[u8]) -> Result<Vec<u8>, Status>
+    requires { AreOptions options.now }
+{
+    match model(alloc, f, options) {
+        Ok(m) => rounds_at(alloc, &m, rest),
+        Err(_) => Err(Status::NoMemory),
+    }
+}
+
+/// The text of the part that is asked for, of a function and what stands behind it.
 pub fn part_text(
     alloc: Global,
     asked: &Request,
     f: &Function,
-    s: &Solution,
-) -> Result<Vec<u8>, NoMemory>
+    rest: &[u8],
+) -> Result<Vec<u8>, Status>
     requires { AreOptions asked.now.options }
 {
     match asked.part {
-        Part::Live => live(alloc, f),
-        Part::Extended => extension(alloc, f),
-        Part::Variables => variables(alloc, f, &asked.options),
-        Part::Baseline => baseline(alloc, f),
-        Part::Violations => verdict(alloc, f, &asked.options, s),
-        Part::Emit => code(alloc, f, &asked.options, s),
-        Part::Arcs => arcs(alloc, f, &asked.options),
+        Part::Live => told(live(alloc, f)),
+        Part::Extended => told(extension(alloc, f)),
+        Part::Variables => told(variables(alloc, f, &asked.options)),
+        Part::Baseline => told(baseline(alloc, f)),
+        Part::Violations => verdict_on(alloc, f, &asked.options, rest),
+        Part::Emit => code_of(alloc, f, &asked.options, rest),
+        Part::Arcs => told(arcs(alloc, f, &asked.options)),
+        Part::Rounds => rounds(alloc, f, &asked.options, rest),
     }
 }

@@ -25,6 +25,8 @@ pub enum Part {
     Emit,
     /// The precedences among the operations that every solution issues, and what every solution costs at least by them.
     Arcs,
+    /// What rounds of propagators leave of the variables' domains, under a limit on the cost and decisions.
+    Rounds,
 }
 
 /// A part under options of the model.
@@ -35,7 +37,7 @@ pub struct Request {
 }
 
 /// The words, and the part that each names.
-static PARTS: [(&[u8], Part); 7] = [
+static PARTS: [(&[u8], Part); 8] = [
     (b"live", Part::Live),
     (b"extended", Part::Extended),
     (b"variables", Part::Variables),
@@ -43,6 +45,7 @@ static PARTS: [(&[u8], Part); 7] = [
     (b"violations", Part::Violations),
     (b"emit", Part::Emit),
     (b"arcs", Part::Arcs),
+    (b"rounds", Part::Rounds),
 ];
 
 /// The part that a word names.

@@ -2,7 +2,7 @@
 
 ghost use Rattle.un_model.specs.Options.{AreOptions};
 
-use crate::input::{Parts, numbers, split_input};
+use crate::input::{Parts, split_input};
 use crate::part::part_text;
 use crate::request::{Part, Request};
 use std::alloc::Global;
@@ -10,8 +10,6 @@ use un_base::outside::Source;
 use un_base::status::Status;
 use un_base::transfer::{ReadAll, read_all};
 use un_ir::function::Function;
-use un_lists::items::Items;
-use un_model::model::Solution;
 use un_reader::error::ReadError;
 use un_reader::limits::TEXT;
 use un_reader::read::read_function;
@@ -42,17 +40,17 @@ fn function(alloc: Global, text: &[u8]) -> Result<Function, Status> {
     }
 }
 
-/// Whether values stand behind the function.
-fn takes_values(part: Part) -> bool {
+/// Whether something stands behind the function.
+fn has_rest(part: Part) -> bool {
     match part {
-        Part::Violations | Part::Emit => true,
+        Part::Violations | Part::Emit | Part::Rounds => true,
         Part::Live | Part::Extended | Part::Variables | Part::Baseline | Part::Arcs => false,
     }
 }
 
 /// An input in its parts.
 fn input_of(part: Part, text: &[u8]) -> Parts<'_> {
-    if takes_values(part) {
+    if has_rest(part) {
         split_input(text)
     } else {
         Parts {
@@ -62,22 +60,13 @@ fn input_of(part: Part, text: &[u8]) -> Parts<'_> {
     }
 }
 
-/// The values that a text writes.
-fn solution(alloc: Global, text: &[u8]) -> Result<Solution, Status> {
-    let values = numbers(alloc, text)?;
-    Ok(Solution {
-        values: Items::from_vec(values),
-    })
-}
-
 /// The text of the part that is asked for, of an input.
 fn text_of(alloc: Global, asked: &Request, text: &[u8]) -> Result<Vec<u8>, Status>
     requires { AreOptions asked.now.options }
 {
     let input = input_of(asked.part, text);
     let f = function(alloc, input.function)?;
-    let s = solution(alloc, input.rest)?;
-    part_text(alloc, asked, &f, &s).map_err(|_| Status::NoMemory)
+    part_text(alloc, asked, &f, input.rest)
 }
 
 /// The bytes of a source.

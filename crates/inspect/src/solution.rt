@@ -3,13 +3,27 @@
 ghost use Rattle.un_model.specs.Extended.{HasSmallCounts};
 ghost use Rattle.un_model.specs.Variables.{IsModel};
 
+use crate::input::numbers;
 use std::alloc::Global;
 use un_base::memory_error::NoMemory;
+use un_base::status::Status;
 use un_ir::text::{put_number, put_text};
+use un_lists::items::Items;
 use un_model::cost::cost;
 use un_model::model::{Model, Solution};
 use un_model::verdict::Broken;
 use un_model::violations::violations;
+
+/// The values that a text writes.
+///
+/// # Errors
+/// `BadReport` with the first line, from 1, on which something else than numbers stands; `NoMemory`.
+pub fn solution_of(alloc: Global, text: &[u8]) -> Result<Solution, Status> {
+    let values = numbers(alloc, text)?;
+    Ok(Solution {
+        values: Items::from_vec(values),
+    })
+}
 
 /// The line for broken clauses.
 pub fn broken_text(alloc: Global, broken: &[Broken]) -> Result<Vec<u8>, NoMemory> {

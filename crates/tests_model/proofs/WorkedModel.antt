@@ -32,19 +32,19 @@ use Rattle.un_model.specs.Variables.{model_of}
 
 -- ---- the function: the entry loads at a parameter and hands the word to r5, the other block compares and calls
 
-abbrev names : List ℕ → List NameId
+abbrev pub names : List ℕ → List NameId
 names ns = map (λ (n : ℕ). let name : NameId = record { 0 = n } in name) ns
 
-abbrev temps : List ℕ → List TempId
+abbrev pub temps : List ℕ → List TempId
 temps ns = map (λ (n : ℕ). let temp : TempId = record { 0 = n } in temp) ns
 
-abbrev reads : List ℕ → Option Reg → Operand
+abbrev pub reads : List ℕ → Option Reg → Operand
 reads alternatives home = record { alts = temps alternatives; home = home }
 
-abbrev op : ExtKind → List Operand → List ℕ → ExtOp
+abbrev pub op : ExtKind → List Operand → List ℕ → ExtOp
 op kind operands results = record { kind = kind; operands = operands; results = temps results }
 
-abbrev source : Op → ℤ → ExtKind
+abbrev pub source : Op → ℤ → ExtKind
 source o imm = Body (record { op = o; dst = None; srcs = []; imm = imm; callee = None })
 
 abbrev r5 : Option Reg
@@ -85,7 +85,7 @@ later = record {
 }
 
 -- r0 and r1 may be assigned, and there is one slot
-abbrev model : Model
+abbrev pub model : Model
 model =
     model_of (record { table = HEXAGON; names = General ∷ Pred ∷ []; blocks = entry ∷ later ∷ [] })
     (record { regs = Some 2; slots = 1 })
