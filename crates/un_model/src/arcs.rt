@@ -18,7 +18,7 @@ use un_isa::table::Table;
 use un_lists::items::Items;
 
 /// Whether every solution issues an operation.
-fn is_mandatory(kind: &ExtKind) -> bool
+pub fn is_mandatory(kind: &ExtKind) -> bool
     ensures { result ≡ is_mandatory kind.now }
 {
     match kind {

@@ -1,7 +1,7 @@
 //! The model of a function: its variables with their domains, its solutions and their cost.
 #![tactic(auto)]
 
-mod arcs;
+pub mod arcs;
 pub mod build;
 mod clauses;
 pub mod congruences;

@@ -5,8 +5,6 @@ ghost use Rattle.std.specs.Prelude.{◌≡◌, ◌+◌, ◌<◌, ◌==◌, [], �
 ghost use Rattle.std.specs.List.{list_any};
 ghost use Rattle.std.specs.Option.{option_map};
 ghost use Rattle.un_base.specs.declared.ids.TempId.{TempId};
-ghost use Rattle.un_isa.specs.Tables.{in_mask};
-ghost use Rattle.un_model.specs.Arcs.{is_mandatory};
 ghost use Rattle.un_model.specs.Pairs.{any_from, joined};
 ghost use Rattle.un_prop.specs.declared.act.Act.TheVariants.{Always};
 ghost use Rattle.un_post.specs.CallBefores.{is_clobbered_home, reads_clobbered, is_home, reads_reply, reads_anew, waits_anew};
@@ -32,22 +30,17 @@ use crate::tables::add_block;
 use std::alloc::{AllocError, Global};
 use un_base::ids::TempId;
 use un_base::memory_error::NoMemory;
+use un_base::numbers::{advance, number};
 use un_ir::extended::{ExtBlock, ExtKind, Operand};
 use un_isa::packet_counts::PACKET;
 use un_isa::reg::{Reg, Space};
+use un_isa::reg_set::is_in_mask;
 use un_isa::table::Table;
 use un_lists::items::Items;
+use un_model::arcs::is_mandatory;
 use un_model::instructions::{instruction, space_read};
 use un_model::model::{Arc, BlockVars, Model};
-use un_model::numbers::{advance, number};
 use un_prop::act::Act;
-
-/// Whether a register is in a mask.
-fn is_in_mask(mask: u64, r: u32) -> bool
-    ensures { result ≡ in_mask mask r }
-{
-    r < 64 && (mask >> r) & 1 == 1
-}
 
 /// Whether calls clobber a home.
 fn is_clobbered_home(mask: u64, home: Option<Reg>) -> bool
@@ -108,16 +101,6 @@ fn any_anew(t: &Table, call: &Spot<'_>, u: &Spot<'_>) -> Result<bool, NoMemory>
         }
     }
     Ok(false)
-}
-
-/// Whether every solution issues an operation.
-fn is_mandatory(kind: &ExtKind) -> bool
-    ensures { result ≡ is_mandatory kind.now }
-{
-    match kind {
-        ExtKind::In | ExtKind::Out | ExtKind::Body(_) | ExtKind::End(_) => true,
-        ExtKind::Copy(_) | ExtKind::Enter | ExtKind::Leave => false,
-    }
 }
 
 /// Whether an operation that every solution issues has such an operand.
