@@ -351,8 +351,8 @@ module _ (e : Ext) (o : Options) (x : List ℕ) (given : Given e o x) where
                 many = omega (arith, many, one);
                 each = ((i, omega arith, mine), each_more (Later (i + 1)) (Later i) rest.found more rest.each);
                 apart = (
-                  each_more (Later (i + 1)) (Apart w.0) rest.found (λ p l. let le = l.1 in different i l.0 w.0 p (omega (arith, le)) mine l.2)
-                      rest.each,
+                  each_more (Later (i + 1)) (Apart w.0) rest.found
+                      (λ p l. let le = l.1 in different i l.0 w.0 p (omega (arith, le)) mine l.2) rest.each,
                   rest.apart,
                 );
               }

@@ -1,6 +1,6 @@
 -- What is posted of what calls separate is on variables of the model, and on some.
 use Rattle.std.proofs.Common.{ℕ, ◌≡◌, ◌+◌, ◌<◌, Bool, true, false, List, [], ◌∷◌, ◌++◌, map, refl, ap, ◌∙◌, subst, arith}
-use Rattle.std.specs.Prelude.{Option, Some, None, IfSome, filter, slice_get, if◌then◌else◌}
+use Rattle.std.specs.Prelude.{Option, Some, None, filter, slice_get, if◌then◌else◌}
 use Rattle.un_base.specs.declared.ids.VarId.{VarId}
 use Rattle.un_isa.specs.declared.table.Table.{Table}
 use Rattle.un_ir.specs.declared.extended.ExtKind.{ExtKind}
@@ -13,7 +13,7 @@ use Rattle.un_model.proofs.Placed.{Placed}
 use Rattle.un_prop.specs.Acts.{at_vars}
 use Rattle.un_prop.specs.declared.act.Act.TheVariants.{Always}
 use Rattle.un_post.specs.CallBefores.{waits_anew, anew_gap, anew_after, is_between, of_call, of_call_at, call_befores_by}
-use Rattle.un_post.specs.Constraints.{Constraint, Before}
+use Rattle.un_post.specs.Constraints.{Before}
 use Rattle.un_post.specs.Places.{Place, time_by, time_of}
 use Rattle.un_post.specs.Postings.{is_call_kind, with_kind}
 use Rattle.un_post.proofs.CallBefores.{each_lists}
