@@ -1,7 +1,8 @@
 -- Each domain of a model is one that a variable may have: rising values, one at least, and fewer than 2^32.
-use Rattle.std.proofs.Common.{ℕ, zero, suc, ◌≡◌, ◌+◌, ◌-◌, ◌*◌, ◌<◌, ◌≤◌, ◌^◌, Bool, true, false, List, [], ◌∷◌, ◌++◌, length, map, filter, take}
-use Rattle.std.proofs.Common.{inl, inr, refl, sym, ap, ◌∙◌, subst, arith, All, get_or}
-use Rattle.std.specs.Prelude.{Option, Some, None, IfSome, slice_get, slice_index, nat_eq, ◌||◌, ◌==◌, if◌then◌else◌, sum_by}
+use Rattle.std.proofs.Common.{ℕ, zero, suc, ◌≡◌, ◌+◌, ◌-◌, ◌<◌, ◌≤◌, ◌^◌, Bool, true, false, List}
+use Rattle.std.proofs.Common.{[], ◌∷◌, ◌++◌, length, map, filter, take}
+use Rattle.std.proofs.Common.{inl, inr, refl, sym, ap, subst, arith, All}
+use Rattle.std.specs.Prelude.{Option, Some, None, IfSome, slice_get, slice_index, nat_eq, ◌||◌, if◌then◌else◌, sum_by}
 use Rattle.std.specs.List.{range_with_len, AllZip}
 use Rattle.std.specs.Option.{option_map, option_to_list}
 use Rattle.std.proofs.lemmas.Bool.Decides.{nat_tests}
@@ -11,18 +12,17 @@ use Rattle.std.proofs.lemmas.List.Sums.{sum_by-cons}
 use Rattle.un_base.specs.declared.ids.NameId.{NameId}
 use Rattle.un_base.specs.declared.ids.TempId.{TempId}
 use Rattle.un_isa.specs.Fit.{IsFit}
-use Rattle.un_isa.specs.Registers.{callee_saved, saved_registers}
+use Rattle.un_isa.specs.Registers.{saved_registers}
 use Rattle.un_isa.specs.declared.op.Op.{Op}
 use Rattle.un_isa.specs.declared.op.Op.TheVariants.{Call}
-use Rattle.un_isa.specs.declared.reg.Reg.{Reg}
-use Rattle.un_isa.specs.declared.table.Table.{Table}
 use Rattle.un_ir.specs.declared.extended.Ext.{Ext}
 use Rattle.un_ir.specs.declared.extended.ExtBlock.{ExtBlock}
 use Rattle.un_ir.specs.declared.extended.ExtKind.{ExtKind}
 use Rattle.un_ir.specs.declared.extended.ExtKind.TheVariants.{In, Out, Body, End, Copy, Enter, Leave}
 use Rattle.un_ir.specs.declared.extended.ExtOp.{ExtOp}
 use Rattle.un_ir.specs.declared.extended.Operand.{Operand}
-use Rattle.un_ir.specs.Extended.{IsExtended, IsGoodExtBlock, IsGoodExtOp, IsGoodOperand, Want, result_count, results_of, all_results, size_of}
+use Rattle.un_ir.specs.Extended.{IsExtended, IsGoodExtBlock, IsGoodExtOp, IsGoodOperand, Want, result_count}
+use Rattle.un_ir.specs.Extended.{results_of, all_results, size_of}
 use Rattle.un_ir.specs.Extended.{temp, wants_of}
 use Rattle.un_domains.specs.Domains.{IsDomain, Rises, values_of}
 use Rattle.un_domains.specs.Sets.{NoneEmpty}
@@ -39,7 +39,8 @@ use Rattle.un_model.specs.Variables.{IsModel, instr_domain, cycle_domain, choice
 use Rattle.un_model.specs.Variables.{result_domain, carries_truth, has_choices, chosen_operands, op_domains, ops_domains, blocks_domains}
 use Rattle.un_model.specs.Variables.{own_horizon, domains_of, model_of}
 use Rattle.un_model.proofs.Lists.{Each, Pairwise, Member, each_of, each_member, each_more, each_map, each_join, each_all, pairwise_filter}
-use Rattle.un_model.proofs.Lists.{pairwise_map, pairwise_all, member_filter, member_map_of, member_append_left, member_append_right, place_of}
+use Rattle.un_model.proofs.Lists.{pairwise_map, pairwise_all, member_filter, member_map_of}
+use Rattle.un_model.proofs.Lists.{member_append_left, member_append_right, place_of}
 use Rattle.un_model.proofs.Lists.{length_get, get_below, member_at}
 use Rattle.un_model.proofs.Operations.{contains_member}
 use Rattle.un_post.proofs.Meeting.{all_each, each_places}
@@ -174,7 +175,8 @@ module _ (e : Ext) (o : Options) (ie : Bool) (block : ExtBlock) where
       join_rises 36 (generals ++ truths b) (slots_of o.slots)
       (join_rises 32 generals (truths b) (generals_rise x) (truths_rise b) (general_below e o ie block x) (truths_from b))
       (run_rises 36 o.slots)
-      (each_join (λ r. r < 36) generals (truths b) (below_more 32 36 generals (omega arith) (general_below e o ie block x)) (truths_below b))
+      (each_join (λ r. r < 36) generals (truths b)
+      (below_more 32 36 generals (omega arith) (general_below e o ie block x)) (truths_below b))
       (each_of (λ r. 36 ≤ r) (slots_of o.slots) (λ r m. run_from 36 o.slots r m))
 
   values_some : (x : TempId) → AreOptions o → 0 < length (value_registers e o.regs o.slots ie block x)
@@ -237,7 +239,8 @@ module _ (e : Ext) (o : Options) (fit : IsFit e.table) (options : AreOptions o) 
     where
       go : (b : Bool) → IsWordDomain (Set (if b then predicate_registers else general_registers e o.regs ie block x))
       go true = set_is 36 predicate_registers (omega arith) (run_rises 32 4) predicates_below (omega arith)
-      go false = set_is 32 (general_registers e o.regs ie block x) (omega arith) (generals_rise e o ie block x) (general_below e o ie block x)
+      go false = set_is 32 (general_registers e o.regs ie block x) (omega arith) (generals_rise e o ie block x)
+          (general_below e o ie block x)
           (generals_some e o ie block x options)
 
   registers_are : (ie : Bool) (block : ExtBlock) (kind : ExtKind) (j : ℕ) (x y : TempId) → j < result_count e.table block kind
@@ -274,7 +277,8 @@ module _ (e : Ext) (o : Options) (fit : IsFit e.table) (options : AreOptions o) 
   instrs_are truth (Body so) = tt
   instrs_are truth (End term) = tt
 
-  cycles_are : (horizon : ℕ) (kind : ExtKind) → 2 ≤ horizon → horizon < 2 ^ 32 → Each IsWordDomain (option_to_list (cycle_domain horizon kind))
+  cycles_are : (horizon : ℕ) (kind : ExtKind) → 2 ≤ horizon → horizon < 2 ^ 32
+      → Each IsWordDomain (option_to_list (cycle_domain horizon kind))
   cycles_are horizon In some small = tt
   cycles_are horizon Out some small = tt
   cycles_are horizon (Body so) some small = (range_is 1 (horizon - 1) (omega arith) (omega arith), tt)
@@ -458,7 +462,8 @@ in_words (d ∷ ds) h zero y has = each_member (λ v. v < 2 ^ 32) (values_of d) 
 in_words (d ∷ ds) h (suc v) y has = in_words ds h.1 v y has
 
 -- all their values are below 2^32
-pub domains_in_words : (e : Ext) (o : Options) → IsExtended e → IsFit e.table → AreOptions o → InWords (map values_of (model_of e o).domains)
+pub domains_in_words : (e : Ext) (o : Options) → IsExtended e → IsFit e.table → AreOptions o
+    → InWords (map values_of (model_of e o).domains)
 domains_in_words e o extended fit options =
     in_words (domains_of own_horizon e o) (domains_each e o extended fit options)
 

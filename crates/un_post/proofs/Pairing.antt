@@ -1,13 +1,12 @@
 -- What is added for each two of a list, as loops add it.
 use Rattle.std.proofs.Common.{ℕ, ◌≡◌, ◌+◌, ◌≤◌, Bool, true, false, List, [], ◌∷◌, ◌++◌}
-use Rattle.std.proofs.Common.{length, drop, cond, Option, None, Some, slice_get, refl, ap, ◌∙◌, sym, append_assoc}
+use Rattle.std.proofs.Common.{length, drop, cond, Option, Some, slice_get, refl, ap, ◌∙◌, sym, append_assoc}
 use Rattle.un_base.specs.declared.ids.VarId.{VarId}
 use Rattle.un_ir.specs.declared.extended.ExtKind.{ExtKind}
 use Rattle.un_ir.specs.declared.extended.ExtKind.TheVariants.{In, Out, Body, End, Copy, Enter, Leave}
 use Rattle.un_ir.specs.declared.extended.Operand.{Operand}
 use Rattle.un_model.specs.Pairs.{joined, places_from}
 use Rattle.un_model.proofs.Steps.{drop_at, drop_past, append-nil}
-use Rattle.un_post.specs.Constraints.{Constraint}
 use Rattle.un_post.specs.Places.{Place, Definer}
 use Rattle.un_post.specs.Rooms.{each_two, one_value, two_at, two_by, twos_in}
 use Rattle.un_post.specs.Twos.{is_source}

@@ -1,8 +1,7 @@
 -- What is posted reads variables of the store alone, holds where it reads none, and counts over no more cycles than the largest horizon.
-use Rattle.std.proofs.Common.{ℕ, zero, suc, ◌≡◌, ◌+◌, ◌-◌, ◌<◌, ◌≤◌, Bool, true, false, List, [], ◌∷◌, ◌++◌, length, map, filter}
-use Rattle.std.proofs.Common.{inl, inr, refl, sym, ap, ◌∙◌, subst, arith}
+use Rattle.std.proofs.Common.{ℕ, zero, suc, ◌≡◌, ◌+◌, ◌<◌, ◌≤◌, Bool, true, false, List, [], ◌∷◌, ◌++◌, map, filter}
+use Rattle.std.proofs.Common.{◌⊎◌, inl, inr, refl, arith}
 use Rattle.std.specs.Prelude.{Option, Some, None, IfSome, slice_get, ◌==◌, ◌&&◌, not, if◌then◌else◌}
-use Rattle.std.specs.List.{range_with_len}
 use Rattle.std.specs.Option.{option_to_list}
 use Rattle.un_base.specs.declared.ids.TempId.{TempId}
 use Rattle.un_base.specs.declared.ids.VarId.{VarId}
@@ -10,20 +9,17 @@ use Rattle.un_isa.specs.declared.op.Op.{Op}
 use Rattle.un_isa.specs.declared.reg.Reg.{Reg}
 use Rattle.un_isa.specs.declared.table.Table.{Table}
 use Rattle.un_ir.specs.declared.function.Term.TheVariants.{Fall}
-use Rattle.un_ir.specs.declared.extended.ExtBlock.{ExtBlock}
 use Rattle.un_ir.specs.declared.extended.ExtKind.{ExtKind}
 use Rattle.un_ir.specs.declared.extended.ExtKind.TheVariants.{In, Out, Body, End, Copy}
 use Rattle.un_ir.specs.declared.extended.Operand.{Operand}
-use Rattle.un_ir.specs.Extended.{is_copy, is_enter, is_leave}
+use Rattle.un_ir.specs.Extended.{is_copy, is_leave}
 use Rattle.un_ir.specs.Linear.{is_in}
 use Rattle.un_model.specs.declared.model.Arc.{Arc}
 use Rattle.un_model.specs.Pairs.{places_from, joined}
-use Rattle.un_model.specs.Variables.{var_at}
-use Rattle.un_model.proofs.Lists.{Each, Member, each_of, each_member, each_more, each_map, each_join, each_filter, member_at}
+use Rattle.un_model.proofs.Lists.{Each, each_of, each_member, each_more, each_map, each_join, each_filter, member_at}
 use Rattle.un_prop.specs.Acts.{act_vars, at_vars}
 use Rattle.un_prop.specs.declared.act.Act.{Act}
 use Rattle.un_prop.specs.declared.act.Act.TheVariants.{Always}
-use Rattle.un_prop.specs.declared.act.At.{At}
 use Rattle.un_prop.specs.declared.act.At.TheVariants.{Const, Var}
 use Rattle.un_prop.specs.declared.act.Temp.{Temp}
 use Rattle.un_prop.specs.declared.act.UserOf.{UserOf}
@@ -33,21 +29,21 @@ use Rattle.un_alt.specs.Registers.{choice_vars}
 use Rattle.un_prec.specs.declared.below.Weighted.{Weighted}
 use Rattle.un_prec.specs.declared.reads.ReadAlt.{ReadAlt}
 use Rattle.un_rect.specs.Apart.{user_vars}
-use Rattle.un_rect.specs.Operands.{Side}
 use Rattle.un_rect.specs.Spans.{choice_vars as user_choice}
 use Rattle.un_rect.specs.declared.clobber.ClobberCall.{ClobberCall}
 use Rattle.un_slots.specs.declared.item.Item.{Item}
 use Rattle.un_post.specs.Befores.{place_or, place_with, arc_before}
 use Rattle.un_post.specs.Constraints.{Constraint, Before, Reads, Inside, Last, Below, Chosen, Zeros, Spaces, Same, Home, Frame, meets}
 use Rattle.un_post.specs.Constraints.{Apart, Clobber, Operands, PerCycle}
-use Rattle.un_post.specs.Places.{Place, Definer, Asked, act_by, act_of, time_by, time_of, definers_at, definer_or, registers_at, asked, asked_by}
-use Rattle.un_post.specs.Places.{no_place, nowhere}
+use Rattle.un_post.specs.Places.{Place, Definer, Asked, act_by, act_of, time_by, time_of, definers_at}
+use Rattle.un_post.specs.Places.{definer_or, registers_at, asked, asked_by}
+use Rattle.un_post.specs.Places.{no_place}
 use Rattle.un_post.specs.Postings.{zeros_by, zeros_of, issue_by, issues_in, chosen_by, chosen_of, read_alt, lone_read, waits_by, waits_of}
 use Rattle.un_post.specs.Postings.{registers_of, space_by, operand_sets, spaces_of, home_by, homes_of, of_operand, result_by, result_sets}
 use Rattle.un_post.specs.Postings.{results_in, of_place, last_place, same_by, var_or, instr_var, cycle_var, frame_op, with_kind, copy_use}
 use Rattle.un_post.specs.Postings.{single_use, uses_of, leave_of, in_entry, is_call_kind}
 use Rattle.un_post.specs.Rooms.{user_if, operand_users, place_users, users_of, temp_by, temp_at, temps_in, is_behind, call_at, calls_but}
-use Rattle.un_post.specs.Rooms.{spared_by, spared_at, item_of, issues_kind, each_two, operand_side, two_by, one_value, two_at, twos_in}
+use Rattle.un_post.specs.Rooms.{spared_at, item_of, issues_kind, each_two, operand_side, two_by, one_value, two_at, twos_in}
 use Rattle.un_post.specs.Scopes.{vars_of, vars_in, own_var, alt_vars, end_var, op_vars, use_vars, leave_vars, rectangle_vars, clobber_vars}
 use Rattle.un_post.specs.Scopes.{item_vars, side_vars}
 use Rattle.un_post.proofs.Meeting.{each_places, joined_each}
@@ -438,7 +434,8 @@ module _ (n : ℕ) (pos : 0 < n) where
       two_are k (Body so) i a (Some c) j b (Some d) h l =
           let p = operand_side k ds so.op i c a in
           let q = operand_side k ds so.op j d b in
-          (sound (Operands p q) (two_in (side_vars p) (side_vars q) (side_in k so.op i c a h) (side_in k so.op j d b l)) (λ e. cc e) refl, tt)
+          let within = two_in (side_vars p) (side_vars q) (side_in k so.op i c a h) (side_in k so.op j d b l) in
+          (sound (Operands p q) within (λ e. cc e) refl, tt)
       two_are k kind i a c j b d h l = tt
 
       pub twos_are : (k : ℕ) (p : Place) → PlaceIn p → Sound (twos_in k ds p)
@@ -531,14 +528,22 @@ module _ (n : ℕ) (pos : 0 < n) where
         go None e = no_place_in
         go (Some p) e = each_member PlaceIn ps p h (member_at ps k p e)
 
+    -- an operation waits for another, where one of them has a variable for its time
+    pub waits_always : (p q : Place) (gap : ℕ) → PlaceIn p → PlaceIn q → Timed p ⊎ Timed q
+        → IsSound n most (Before (time_of p) Always (time_of q) Always gap)
+    waits_always p q gap h k timed =
+        let from = at_vars (time_of p) in
+        let to = at_vars (time_of q) in
+        sound (Before (time_of p) Always (time_of q) Always gap)
+        (two_in (from ++ [] ++ to) [] (two_in (from ++ []) to (two_in from [] (time_in p h) tt) (time_in q k)) tt)
+        (some_first (from ++ [] ++ to) [] (elim timed [
+          | inl t ↦ some_first (from ++ []) to (some_first from [] t)
+          | inr t ↦ some_last (from ++ []) to t
+        ])) refl
+
     pub arc_are : (ps : List Place) (a : Arc) → Each PlaceIn ps → Timed (place_with ps a.to.0) → IsSound n most (arc_before ps a)
-    arc_are ps a h timed =
-        let from = at_vars (time_of (place_with ps a.from.0)) in
-        let to = at_vars (time_of (place_with ps a.to.0)) in
-        sound (arc_before ps a)
-        (two_in (from ++ [] ++ to) [] (two_in (from ++ []) to (two_in from [] (time_in _ (place_with_in ps a.from.0 h)) tt)
-        (time_in _ (place_with_in ps a.to.0 h))) tt)
-        (some_first (from ++ [] ++ to) [] (some_last (from ++ []) to timed)) refl
+    arc_are ps a h timed = waits_always (place_with ps a.from.0) (place_with ps a.to.0) a.gap (place_with_in ps a.from.0 h)
+        (place_with_in ps a.to.0 h) (inr timed)
 
     pub packet_are : (t : Table) (ps : List Place) (horizon : ℕ) → horizon ≤ most → Each PlaceIn ps
         → IsSound n most (PerCycle (map (item_of t) (with_kind issues_kind ps)) horizon)
@@ -562,8 +567,8 @@ module _ (n : ℕ) (pos : 0 < n) where
     pub below_are : (ends : List Weighted) (limit : ℕ) → Each (λ (w : Weighted). w.end.0 < n) ends → (ends ≡ [] → ⊥)
         → IsSound n most (Below ends limit)
     below_are ends limit h some =
-        sound (Below ends limit) (each_in end_var ends (each_more (λ (w : Weighted). w.end.0 < n) (λ (w : Weighted). Within (end_var w)) ends
-        (λ w lt. (lt, tt)) h)) (by ends some) refl
+        let each = each_more (λ (w : Weighted). w.end.0 < n) (λ (w : Weighted). Within (end_var w)) ends (λ w lt. (lt, tt)) h in
+        sound (Below ends limit) (each_in end_var ends each) (by ends some) refl
       where
         by : (ends : List Weighted) → (ends ≡ [] → ⊥) → vars_in end_var ends ≡ [] → ⊥
         by [] some e = some refl

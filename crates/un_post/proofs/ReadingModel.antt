@@ -13,8 +13,9 @@ use Rattle.un_ir.specs.declared.extended.ExtKind.{ExtKind}
 use Rattle.un_ir.specs.declared.extended.ExtKind.TheVariants.{In, Out, Body, End, Copy, Enter, Leave}
 use Rattle.un_ir.specs.declared.extended.ExtOp.{ExtOp}
 use Rattle.un_ir.specs.declared.extended.Operand.{Operand}
-use Rattle.un_ir.specs.Extended.{IsExtended, IsGoodExtBlock, IsGoodOperand, IsMadeOf, Parts, AllAre, Want, wants_of, is_inner, is_end, is_copy}
-use Rattle.un_ir.specs.Extended.{is_enter, is_leave}
+use Rattle.un_ir.specs.Extended.{IsExtended, IsGoodExtBlock, IsGoodOperand, IsMadeOf, Parts, AllAre, Want}
+use Rattle.un_ir.specs.Extended.{wants_of, is_inner, is_end, is_copy}
+use Rattle.un_ir.specs.Extended.{is_enter}
 use Rattle.un_ir.specs.Linear.{is_in, is_out}
 use Rattle.un_ir.specs.Live.{targets_of}
 use Rattle.un_model.specs.declared.model.Arc.{Arc}
@@ -25,14 +26,17 @@ use Rattle.un_model.specs.declared.model.TempVars.{TempVars}
 use Rattle.un_model.specs.ArcLaws.{arc_told}
 use Rattle.un_model.specs.Arcs.{block_arcs, IsArcOf}
 use Rattle.un_model.specs.Congruences.{term_of, live_in_temps, place_over}
-use Rattle.un_model.specs.Pairs.{joined, over_blocks}
+use Rattle.un_model.specs.Pairs.{over_blocks}
 use Rattle.un_model.specs.Variables.{model_of, var_at, var_if, var_count, ops_count, block_count, blocks_count, blocks_vars, blocks_temps}
-use Rattle.un_model.specs.Variables.{count_if, is_optional, has_cycle, cycle_place, choice_place, register_place, chosen_operands, own_horizon}
-use Rattle.un_model.proofs.Lists.{Each, Member, each_of, each_member, each_more, each_map, each_join, each_all, each_filter, member_at, member_map}
+use Rattle.un_model.specs.Variables.{count_if, is_optional, has_cycle, cycle_place, choice_place}
+use Rattle.un_model.specs.Variables.{chosen_operands, own_horizon}
+use Rattle.un_model.proofs.Lists.{Each, Member, each_of, each_member, each_more, each_map, each_join}
+use Rattle.un_model.proofs.Lists.{each_all, each_filter, member_at, member_map}
 use Rattle.un_model.proofs.Lists.{length_get}
 use Rattle.un_model.proofs.Lists.{place_of as position_of}
 use Rattle.un_model.proofs.Operations.{GoodPlaced, all_good, placed_get}
-use Rattle.un_model.proofs.Placed.{Placed, placed, block_placed, blocks_placed, Region, region_placed, Spot, spot, spots_of, all_spots, temp_vars}
+use Rattle.un_model.proofs.Placed.{Placed, placed, block_placed, blocks_placed, Region, region_placed, Spot}
+use Rattle.un_model.proofs.Placed.{spot, spots_of, all_spots, temp_vars}
 use Rattle.un_model.proofs.Placed.{temps_are}
 use Rattle.un_model.proofs.PlacedSchedules.{joined_member, places_member}
 use Rattle.un_prop.specs.Acts.{at_vars}
@@ -42,7 +46,8 @@ use Rattle.un_post.specs.Befores.{place_or, place_with, arc_before, befores_in, 
 use Rattle.un_post.specs.CallBefores.{call_befores_by, call_befores_in, call_befores_of}
 use Rattle.un_post.specs.Constraints.{Constraint}
 use Rattle.un_post.specs.Places.{Place, Definer, time_by, block_places, places_of, definer_by, definer_of, definers_of}
-use Rattle.un_post.specs.Postings.{over_places, of_place, last_place, congruence, over_edge, edges_of, with_kind, leaves_in, frame_by, frame_of}
+use Rattle.un_post.specs.Postings.{over_places, of_place, last_place, congruence, over_edge, edges_of}
+use Rattle.un_post.specs.Postings.{with_kind, leaves_in, frame_by, frame_of}
 use Rattle.un_post.specs.Postings.{ends_by, limit_of, postings_of}
 use Rattle.un_post.specs.Posts.{largest_horizon}
 use Rattle.un_post.specs.Rooms.{apart_in, aparts_of, spared_in, spared_at, arcs_or, clobbers_of, packets_in, packets_of, twos_in, twos_of}
@@ -55,11 +60,12 @@ use Rattle.un_post.proofs.Meeting.{joined_each}
 use Rattle.un_post.proofs.Memory.{member_contains, arcs_by_regions}
 use Rattle.un_post.proofs.ModelDomains.{zip_each}
 use Rattle.un_post.proofs.Placing.{place_of, places_are, place_here}
-use Rattle.un_post.proofs.Reading.{IsSound, PlaceIn, DefinerIn, MayBe, Within, OperandsIn, Sound, no_place_in, get_in, place_are, last_in}
+use Rattle.un_post.proofs.Reading.{IsSound, PlaceIn, DefinerIn, MayBe, Within, OperandsIn, no_place_in, get_in, place_are, last_in}
 use Rattle.un_post.proofs.Reading.{Timed}
-use Rattle.un_post.proofs.Reading.{same_are, apart_are, spared_are, twos_are, leaves_are, frame_are, arc_are, packet_are, below_are, joined_places}
+use Rattle.un_post.proofs.Reading.{same_are, apart_are, spared_are, twos_are, leaves_are, frame_are}
+use Rattle.un_post.proofs.Reading.{arc_are, packet_are, below_are, joined_places}
 use Rattle.un_post.proofs.RegisterBounds.{run_below}
-use Rattle.un_post.proofs.Regions.{regions, over_regions, region_is}
+use Rattle.un_post.proofs.Regions.{over_regions, region_is}
 
 -- ---- what stands at a block's start stands nowhere else
 
@@ -298,8 +304,8 @@ module _ (e : Ext) (o : Options) (extended : IsExtended e) where
       edge a out g (Some b) = joined_places IsOk (congruence the_definers out a b) 0 (live_in_temps b.ops) (λ j x.
           let it = out.it in
           let v = out.vars in
-          same_are n pos most the_definers definers_known x (slice_get it.operands (place_over a b j)) (slice_get v.choices (place_over a b j))
-          (get_in n pos v.choices (place_over a b j) g.choices))
+          let k = place_over a b j in
+          same_are n pos most the_definers definers_known x (slice_get it.operands k) (slice_get v.choices k) (get_in n pos v.choices k g.choices))
 
   frame_ok : Each IsOk (frame_of m the_definers the_places)
   frame_ok =
@@ -315,10 +321,9 @@ module _ (e : Ext) (o : Options) (extended : IsExtended e) where
   limit_ok : (limit : Option ℕ) → Each IsOk (limit_of m limit)
   limit_ok None = tt
   limit_ok (Some l) =
-      let good = extended.good in (
-        below_are n pos most (ends_by e.blocks (blocks_vars 0 e.blocks)) l (ends_in n 0 e.blocks (omega arith)) (ends_some e.blocks good.entry),
-        tt,
-      )
+      let good = extended.good in
+      let ends = ends_by e.blocks (blocks_vars 0 e.blocks) in
+      (below_are n pos most ends l (ends_in n 0 e.blocks (omega arith)) (ends_some e.blocks good.entry), tt)
 
   arcs_ok : (r : Region) → Member r (blocks e o []) → (let owner = r.owner in
       Each IsOk (befores_in the_places (block_arcs e.table (blocks_temps 0 0 e.blocks) r.number owner.ops)))
@@ -373,11 +378,9 @@ module _ (e : Ext) (o : Options) (extended : IsExtended e) where
 
   packets_ok : Each IsOk (packets_of m)
   packets_ok = over_are IsOk (packets_in e.table) (λ r mr.
-      let owner = r.owner in (
-        packet_are n pos most e.table (places_at r) owner.horizon
-            (most_of 0 (map own_horizon e.blocks) owner.horizon (member_map own_horizon e.blocks owner (owner_member r mr))) (block_known r mr),
-        tt,
-      ))
+      let owner = r.owner in
+      let le = most_of 0 (map own_horizon e.blocks) owner.horizon (member_map own_horizon e.blocks owner (owner_member r mr)) in
+      (packet_are n pos most e.table (places_at r) owner.horizon le (block_known r mr), tt))
 
   twos_ok : Each IsOk (twos_of m)
   twos_ok = joined_each IsOk (twos_in o.slots the_definers) the_places

@@ -1,8 +1,7 @@
 -- Propagators for all that is posted for a model are ready for rounds over its store, and fail where its relaxation has no member.
-use Rattle.std.proofs.Common.{ℕ, zero, suc, ◌≡◌, ◌+◌, ◌<◌, ◌≤◌, Bool, true, false, List, [], ◌∷◌, length, map, get_or, nat_eq, ◌||◌}
+use Rattle.std.proofs.Common.{ℕ, ◌≡◌, ◌+◌, ◌<◌, ◌≤◌, Bool, true, false, List, [], ◌∷◌, length, map, get_or, nat_eq, ◌||◌}
 use Rattle.std.proofs.Common.{refl, sym, ap, ◌∙◌, subst, arith, All}
-use Rattle.std.specs.Prelude.{Option, Some}
-use Rattle.std.specs.List.{AllByRecursion}
+use Rattle.std.specs.Prelude.{Option}
 use Rattle.std.proofs.lemmas.Bool.Decides.{nat_tests}
 use Rattle.std.proofs.lemmas.List.{length-append, length-map}
 use Rattle.un_base.specs.declared.ids.VarId.{VarId}
@@ -27,12 +26,12 @@ use Rattle.un_prop.specs.Looks.{InWords}
 use Rattle.un_prop.specs.Rounds.{HasVars}
 use Rattle.un_post.specs.AnyProps.{constraint_of, scope_of, cut_of, strong_of, span_of, any_lawful, any_strength}
 use Rattle.un_post.specs.Befores.{all_postings_of}
-use Rattle.un_post.specs.Constraints.{Constraint}
 use Rattle.un_post.specs.Posts.{largest_horizon, ReadsFrom, IsGrounded, SpansAtMost, FailsWhereEmpty}
 use Rattle.un_post.specs.Scopes.{IsScope, IsTight, vars_of}
 use Rattle.un_post.specs.Strength.{Strong}
 use Rattle.un_post.specs.declared.any.AnyProp.{AnyProp}
-use Rattle.un_post.specs.declared.any.AnyProp.TheVariants.{Before, Reads, Inside, Last, Below as BelowProp, Chosen, Zeros, Spaces, Same, Home}
+use Rattle.un_post.specs.declared.any.AnyProp.TheVariants.{Before, Reads, Inside, Last, Below as BelowProp, Chosen}
+use Rattle.un_post.specs.declared.any.AnyProp.TheVariants.{Zeros, Spaces, Same, Home}
 use Rattle.un_post.specs.declared.any.AnyProp.TheVariants.{Frame, Apart, Clobber, Operands, PerCycle}
 use Rattle.un_post.proofs.Failing.{rounds_fail}
 use Rattle.un_post.proofs.Meeting.{all_each}
@@ -173,7 +172,8 @@ module _ (m : Model) (limit : Option ℕ) (s : Sets) (ps : List AnyProp) where
   posted_grounded = of_model (λ k. All IsGrounded ps) (λ e o extended fit options same asks tight.
       grounded_each e o limit ps extended asks tight)
 
-  pub posted_spans : (horizon : ℕ) → horizon ≡ largest_horizon m.ext.blocks → IsModel m → IsExtended m.ext → IsFit m.ext.table → AreOptions m.options → s ≡ map values_of m.domains
+  pub posted_spans : (horizon : ℕ) → horizon ≡ largest_horizon m.ext.blocks → IsModel m → IsExtended m.ext → IsFit m.ext.table
+      → AreOptions m.options → s ≡ map values_of m.domains
       → map constraint_of ps ≡ all_postings_of m limit → All IsTight ps → All (SpansAtMost horizon) ps
   posted_spans horizon is model extended fit options same asks tight =
       subst (λ (h : ℕ). All (SpansAtMost h) ps) (sym is)

@@ -130,7 +130,6 @@ fn all_props(alloc: Global, m: &Model, limit: Option<u64>) -> Result<Props, NoMe
 
 /// What is posted for a model under a limit on the cost, or none. It fails where memory is short, or where there are more
 /// variables or operations than numbers below 2^32.
-#[tactic(auto, using(crate::proofs::ExactProps::exact_props, crate::proofs::Ready::posted_reads, crate::proofs::Ready::posted_live, crate::proofs::Ready::posted_grounded, crate::proofs::Ready::posted_spans, crate::proofs::Ready::posted_fails))]
 pub fn post(alloc: Global, m: &Model, limit: Option<u64>) -> Result<Posted, NoMemory>
     requires model { IsModel m.now }
     requires extended { IsExtended m.now.ext }
