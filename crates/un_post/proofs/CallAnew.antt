@@ -1,7 +1,7 @@
 -- What an operation behind a call reads in a register that the call clobbers, and that is not the call's own result, is defined after
 -- the call.
 use Rattle.std.proofs.Common.{ℕ, zero, suc, ◌≡◌, ◌+◌, ◌<◌, ◌≤◌, Bool, true, false, List, [], ◌∷◌, inl, inr, refl, sym, ap, ◌∙◌, subst}
-use Rattle.std.proofs.Common.{arith, eq-eqb, All}
+use Rattle.std.proofs.Common.{arith, eq-eqb}
 use Rattle.std.specs.Prelude.{Option, Some, None, IfSome, not, ◌||◌, ◌==◌, nat_eq, nat_le, nat_lt, is_some, slice_get}
 use Rattle.std.specs.List.{list_any}
 use Rattle.std.proofs.lemmas.Bool.Decides.{nat_tests}
@@ -10,7 +10,6 @@ use Rattle.un_base.specs.declared.ids.TempId.{TempId}
 use Rattle.un_isa.specs.Fit.{IsFit}
 use Rattle.un_isa.specs.Tables.{in_mask}
 use Rattle.un_isa.specs.declared.op.Op.{Op}
-use Rattle.un_isa.specs.declared.op.Op.TheVariants.{Call}
 use Rattle.un_isa.specs.declared.reg.Reg.{Reg}
 use Rattle.un_isa.specs.declared.reg.Space.{Space}
 use Rattle.un_isa.specs.declared.reg.Space.TheVariants.{R, P, M}
@@ -37,14 +36,14 @@ use Rattle.un_model.proofs.PlacedSchedules.{all, spots, spot_range, range_at, ra
 use Rattle.un_model.proofs.Readings.{Solved, Reading, reading, fit_kinds, numbered as solved_numbered}
 use Rattle.un_model.proofs.TempKinds.{carried_at, carried_is}
 use Rattle.un_post.specs.CallBefores.{is_clobbered_home, reads_clobbered, is_home, reads_reply, reads_anew}
-use Rattle.un_post.specs.Postings.{is_call_kind, is_call_op}
+use Rattle.un_post.specs.Postings.{is_call_kind}
 use Rattle.un_post.proofs.Blocks.{blocks, in_all}
 use Rattle.un_post.proofs.Facts.{Given, falls, in_domains, definer_is, reader_goes, Reading as Asking, reading as asked_of}
 use Rattle.un_post.proofs.Memory.{contains_member}
 use Rattle.un_post.proofs.Placing.{place_of}
 use Rattle.un_post.proofs.Regions.{of_region}
 use Rattle.un_post.proofs.SpaceSets.{predicate}
-use Rattle.un_post.proofs.Spared.{call_instr}
+use Rattle.un_post.proofs.Spared.{call_instr, call_op, is_spared, range_spared}
 use Rattle.un_post.proofs.Tests.{and_iff, le_iff}
 use Rattle.un_post.proofs.Whole.{issues_each, ranges_each}
 
@@ -145,10 +144,6 @@ always_active Leave n h f = absurd (cc h)
 
 -- ---- calls
 
-call_op : (op : Op) → is_call_op op ≡ true → op ≡ Call
-call_op Call h = refl
-call_op op h = absurd (cc h)
-
 call_carries : (k : ExtKind) (s : Spot) → is_call_kind k ≡ true → carried_at k s ≡ s.temp
 call_carries (Body o) s h = refl
 call_carries In s h = absurd (cc h)
@@ -157,19 +152,6 @@ call_carries (End term) s h = absurd (cc h)
 call_carries (Copy node) s h = absurd (cc h)
 call_carries Enter s h = absurd (cc h)
 call_carries Leave s h = absurd (cc h)
-
-module _ (mask : ℕ) (i : Issue) (h : LiveRange) where
-  -- a call spares what is not its own
-  not_there : SparesRange mask i h → i.instr ≡ Some Call → (let a = i.block in let b = h.block in a.0 ≡ b.0)
-      → (let a = i.op in let b = h.op in a.0 ≡ b.0 → ⊥) → h.active ≡ true → in_mask mask h.reg ≡ true
-      → (h.from ≤ i.cycle) × (i.cycle ≤ h.last) → ⊥
-  unfolding SparesRange
-  not_there s call block other act bit occupies = other (s call act block bit occupies)
-
-all_spared : (mask : ℕ) (issues : List Issue) (h : LiveRange) → IsSpared mask issues h
-    → All (λ (i : Issue). SparesRange mask i h) issues
-unfolding IsSpared
-all_spared mask issues h k = k
 
 module _ (e : Ext) (o : Options) (x : List ℕ) (given : Given e o x)
     (schedule : IsSchedule (latency_gap e.table) (model_of e o).domains (model_of e o) x (schedule_of (model_of e o) x)) where
@@ -295,14 +277,14 @@ module _ (e : Ext) (o : Options) (x : List ℕ) (given : Given e o x)
           let mask = (e.table).clobbered in
           let issues = issues_of (model_of e o) x in
           let each = (ranges_each e o x given (IsSpared mask issues)).0 registers.1 in
-          let mine = all_spared mask issues h (each_member _ (spots e o x) s each rd.member) in
+          let mine = (is_spared mask issues h).1 (each_member _ (spots e o x) s each rd.member) in
           each_member _ (all e o x) c ((issues_each e o x given (λ (i : Issue). SparesRange mask i h)).0 mine) (in_all e o x r c mr mc)
 
       apart : (h.from ≤ (issue_at x c).cycle) × ((issue_at x c).cycle ≤ h.last) → ⊥
       apart =
           let v = vars_of c in
           let block : c.block ≡ s.definer.block = of_region r c mc ∙ sym (of_region r q mq) ∙ sym rd.block in
-          not_there (e.table).clobbered (issue_at x c) h spared (call_instr c.op.kind (value_by x v.instr) call) block other active
+          range_spared (e.table).clobbered (issue_at x c) h spared (call_instr c.op.kind (value_by x v.instr) call) block other active
           there.mask
 
       late : (issue_at x c).cycle + 1 ≤ (issue_at x s.definer).cycle

@@ -32,7 +32,7 @@ use Rattle.un_post.proofs.Blocks.{blocks, region_places, region_vars, places_in,
 use Rattle.un_post.proofs.CallAnew.{rewritten}
 use Rattle.un_post.proofs.CallCounts.{three_after}
 use Rattle.un_post.proofs.CallOrder.{ordered}
-use Rattle.un_post.proofs.Facts.{Given, in_domains, times}
+use Rattle.un_post.proofs.Facts.{Given, times}
 use Rattle.un_post.proofs.Meeting.{Met, each_places, joined_each}
 use Rattle.un_post.proofs.Placing.{place_of}
 use Rattle.un_post.proofs.Tests.{and_iff, le_iff}

@@ -9,7 +9,6 @@ use Rattle.std.proofs.lemmas.List.Sums.{sum_by-cons}
 use Rattle.un_base.specs.declared.ids.NameId.{NameId}
 use Rattle.un_base.specs.declared.ids.TempId.{TempId}
 use Rattle.un_isa.specs.declared.op.Op.{Op}
-use Rattle.un_isa.specs.declared.op.Op.TheVariants.{Call}
 use Rattle.un_isa.specs.declared.reg.Reg.{Reg}
 use Rattle.un_ir.specs.declared.extended.ExtKind.{ExtKind}
 use Rattle.un_ir.specs.declared.extended.ExtKind.TheVariants.{In, Out, Body, End, Copy, Enter, Leave}
@@ -29,13 +28,14 @@ use Rattle.un_model.proofs.Lists.{Each, Pairwise, Member, each_of, each_more, ea
 use Rattle.un_model.proofs.Placed.{Placed, Region, region_placed, vars_of, issue_at, Spot, all_count, at_number}
 use Rattle.un_model.proofs.PlacedSchedules.{all, spots, spot_range, one_spot}
 use Rattle.un_post.specs.CallBefores.{reads_anew, count_from}
-use Rattle.un_post.specs.Postings.{is_call_kind, is_call_op}
+use Rattle.un_post.specs.Postings.{is_call_kind}
 use Rattle.un_post.proofs.Blocks.{blocks, in_all, stands_in}
 use Rattle.un_post.proofs.CallAnew.{Rewritten, rewritten}
 use Rattle.un_post.proofs.Facts.{Given, numbered, good_op, definer_is, Reading as Asking, reading as asked_of}
 use Rattle.un_post.proofs.Packets.{no_room, share, sum_part, whole_taken}
 use Rattle.un_post.proofs.Placing.{place_of}
 use Rattle.un_post.proofs.Regions.{of_region}
+use Rattle.un_post.proofs.Spared.{call_op}
 
 -- ---- sums
 
@@ -117,10 +117,6 @@ arg_is (suc (suc (suc zero))) a h = let e : 3 ≡ a = cc h in sym e
 arg_is (suc (suc (suc (suc zero)))) a h = let e : 4 ≡ a = cc h in sym e
 arg_is (suc (suc (suc (suc (suc zero))))) a h = let e : 5 ≡ a = cc h in sym e
 arg_is (suc (suc (suc (suc (suc (suc j)))))) a h = absurd (cc h)
-
-call_op : (op : Op) → is_call_op op ≡ true → op ≡ Call
-call_op Call h = refl
-call_op op h = absurd (cc h)
 
 home_is : (home : Option Reg) (reg a : ℕ) → home ≡ at_register a → IfSome home (λ (r : Reg). reg ≡ r.0) → reg ≡ a
 home_is None reg a e h = absurd (cc e)
@@ -351,8 +347,8 @@ module _ (e : Ext) (o : Options) (x : List ℕ) (given : Given e o x) where
                 many = omega (arith, many, one);
                 each = ((i, omega arith, mine), each_more (Later (i + 1)) (Later i) rest.found more rest.each);
                 apart = (
-                  each_more (Later (i + 1)) (Apart w.0) rest.found (λ p l. let le = l.1 in different i l.0 w.0 p (omega (arith, le)) mine l.2)
-                      rest.each,
+                  each_more (Later (i + 1)) (Apart w.0) rest.found
+                      (λ p l. let le = l.1 in different i l.0 w.0 p (omega (arith, le)) mine l.2) rest.each,
                   rest.apart,
                 );
               }

@@ -1,16 +1,13 @@
 -- What calls separate in a small block: a call that gives a value, a truth value that a jump reads, a call with arguments, the end.
-use Rattle.std.proofs.Common.{◌≡◌, ◌<◌, ◌+◌, ℕ, List, [], ◌∷◌, ◌++◌, map, Option, Some, None, true, pos, refl}
+use Rattle.std.proofs.Common.{◌≡◌, ℕ, List, [], ◌∷◌, Some, None, true, pos, refl}
 use Rattle.un_base.specs.declared.ids.TempId.{TempId}
 use Rattle.un_isa.specs.Hexagon.{HEXAGON}
 use Rattle.un_isa.specs.declared.op.Op.{Op}
 use Rattle.un_isa.specs.declared.op.Op.TheVariants.{Call, CmpEqi, Mux}
-use Rattle.un_isa.specs.declared.reg.Reg.{Reg}
-use Rattle.un_ir.specs.declared.function.SrcOp.{SrcOp}
 use Rattle.un_ir.specs.declared.function.Term.TheVariants.{Branch}
 use Rattle.un_ir.specs.declared.extended.ExtKind.{ExtKind}
 use Rattle.un_ir.specs.declared.extended.ExtKind.TheVariants.{Out, Body, End}
 use Rattle.un_ir.specs.declared.extended.Operand.{Operand}
-use Rattle.un_model.specs.declared.model.Arc.{Arc}
 use Rattle.un_model.specs.Arcs.{arc}
 use Rattle.un_model.specs.Variables.{var_at}
 use Rattle.un_prop.specs.declared.act.Act.TheVariants.{Always}
@@ -68,7 +65,7 @@ calls xs ys = call_befores_by HEXAGON (arc 1 2 1 ∷ []) (first_call ∷ place 2
 own_results : calls (at 0 7 ∷ []) (at 0 8 ∷ at 16 4 ∷ []) ≡ []
 own_results = refl
 
-other_results : calls (at 0 5 ∷ at 1 7 ∷ []) (at 0 7 ∷ at 16 4 ∷ []) ≡ waits 1 2 2 ∷ (Before (Var (var_at 2)) Always (Var (var_at 9)) Always 2 ∷ [])
+other_results : calls (at 0 5 ∷ at 1 7 ∷ []) (at 0 7 ∷ at 16 4 ∷ []) ≡ waits 1 2 2 ∷ waits 2 9 2 ∷ []
 other_results = refl
 
 -- five arguments are more than a packet writes

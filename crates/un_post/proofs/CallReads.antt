@@ -1,6 +1,6 @@
 -- What is posted of what calls separate is on variables of the model, and on some.
-use Rattle.std.proofs.Common.{ℕ, ◌≡◌, ◌+◌, ◌<◌, Bool, true, false, List, [], ◌∷◌, ◌++◌, map, refl, ap, ◌∙◌, subst, arith}
-use Rattle.std.specs.Prelude.{Option, Some, None, IfSome, filter, slice_get, if◌then◌else◌}
+use Rattle.std.proofs.Common.{ℕ, ◌≡◌, ◌+◌, ◌<◌, Bool, true, false, List, [], ◌∷◌, map, inl, ap, ◌∙◌, subst}
+use Rattle.std.specs.Prelude.{Option, filter, slice_get, if◌then◌else◌}
 use Rattle.un_base.specs.declared.ids.VarId.{VarId}
 use Rattle.un_isa.specs.declared.table.Table.{Table}
 use Rattle.un_ir.specs.declared.extended.ExtKind.{ExtKind}
@@ -8,22 +8,18 @@ use Rattle.un_ir.specs.declared.extended.ExtKind.TheVariants.{In, Out, Body, End
 use Rattle.un_model.specs.declared.model.Arc.{Arc}
 use Rattle.un_model.specs.Pairs.{places_from}
 use Rattle.un_model.specs.Variables.{has_cycle, var_if, cycle_place}
-use Rattle.un_model.proofs.Lists.{Each, each_of, each_member, each_join, member_at, member_of_filter, member_map_of}
+use Rattle.un_model.proofs.Lists.{Each, each_of, each_member, member_at, member_of_filter, member_map_of}
 use Rattle.un_model.proofs.Placed.{Placed}
 use Rattle.un_prop.specs.Acts.{at_vars}
 use Rattle.un_prop.specs.declared.act.Act.TheVariants.{Always}
 use Rattle.un_post.specs.CallBefores.{waits_anew, anew_gap, anew_after, is_between, of_call, of_call_at, call_befores_by}
-use Rattle.un_post.specs.Constraints.{Constraint, Before}
+use Rattle.un_post.specs.Constraints.{Before}
 use Rattle.un_post.specs.Places.{Place, time_by, time_of}
 use Rattle.un_post.specs.Postings.{is_call_kind, with_kind}
 use Rattle.un_post.proofs.CallBefores.{each_lists}
 use Rattle.un_post.proofs.Meeting.{each_places, joined_each}
 use Rattle.un_post.proofs.Placing.{place_of}
-use Rattle.un_post.proofs.Reading.{IsSound, PlaceIn, MayBe, Within, Timed}
-
-some_before : (xs ys : List VarId) → (xs ≡ [] → ⊥) → xs ++ ys ≡ [] → ⊥
-some_before [] ys h e = h refl
-some_before (x ∷ xs) ys h e = cc e
+use Rattle.un_post.proofs.Reading.{IsSound, PlaceIn, Timed, waits_always}
 
 -- a call has a variable for its cycle
 call_timed : (kind : ExtKind) (end : VarId) (v : ℕ) → is_call_kind kind ≡ true
@@ -37,27 +33,6 @@ call_timed Enter end v h e = cc h
 call_timed Leave end v h e = cc h
 
 module _ (n : ℕ) (pos : 0 < n) (most : ℕ) where
-  time_in : (end : VarId) (kind : ExtKind) (cycle : Option VarId) → end.0 < n → MayBe n pos cycle
-      → Within n pos (at_vars (time_by end kind cycle))
-  time_in end In cycle h k = tt
-  time_in end Out cycle h k = (h, tt)
-  time_in end kind None h k = tt
-  time_in end kind (Some v) h k = (k, tt)
-
-  wait_sound : (c u : Place) (gap : ℕ) → PlaceIn n pos c → PlaceIn n pos u → Timed n pos c
-      → IsSound n most (Before (time_of c) Always (time_of u) Always gap)
-  wait_sound c u gap h k timed =
-      let from = at_vars (time_of c) in
-      let to = at_vars (time_of u) in
-      let Q = λ (v : VarId). v.0 < n in
-      record {
-        within = each_join Q (from ++ [] ++ to) [] (each_join Q (from ++ []) to
-            (each_join Q from [] (time_in c.end c.it.kind c.vars.cycle h.end h.cycle) tt)
-            (time_in u.end u.it.kind u.vars.cycle k.end k.cycle)) tt;
-        grounded = λ e x. absurd (some_before (from ++ [] ++ to) [] (some_before (from ++ []) to (some_before from [] timed)) e);
-        spans = omega arith;
-      }
-
   module _ (t : Table) (arcs : List Arc) (qs : List Placed) (known : Each (PlaceIn n pos) (map place_of qs)) where
     abbrev ps : List Place
     ps = map place_of qs
@@ -66,7 +41,7 @@ module _ (n : ℕ) (pos : 0 < n) (most : ℕ) where
     after_sound c u h k timed = by (waits_anew t c u)
       where
         by : (b : Bool) → Each (IsSound n most) (if b then Before (time_of c) Always (time_of u) Always (anew_gap t c u) ∷ [] else [])
-        by true = (wait_sound c u (anew_gap t c u) h k timed, tt)
+        by true = (waits_always n pos most c u (anew_gap t c u) h k (inl timed), tt)
         by false = tt
 
     call_sound : (next : Option Place) (c : Place) → PlaceIn n pos c → Timed n pos c → Each (IsSound n most) (of_call t arcs ps next c)
