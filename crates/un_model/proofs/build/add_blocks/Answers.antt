@@ -8,7 +8,7 @@ loop-k-preserved c =
     let o = c.args.o.now in
     let k = block_longer e o (nat_eq c.loop-k.k 0) c.get-block.result.now c.loop-k.domains c.add_scoped.new.domains
     c.in_ok-v.ensures.domains in
-    let n = rw c.len.ensures at c.in_ok-n.ensures in
+    let n = rw c.len.ensures at c.in_ok-n.ensures.later in
     record {
       domains = blocks_domains_more e o c.loop-k.k e.blocks c.get-block.result.now c.loop-k.domains _ c.add_scoped.new.domains
           c.loop-k.invariant.domains c.get-block.ensures c.in_ok-v.ensures.domains;

@@ -13,7 +13,7 @@ loop-i-preserved c =
           c.add_op.new.domains c.loop-i.invariant.domains c.get.ensures c.in_ok-v.ensures.domains;
       temps = ops_temps_more c.loop-i.n c.in_ok-n.n c.loop-i.i (length c.loop-i.domains) (length c.add_op.new.domains) b.ops
           c.get.result.now c.loop-i.temps _ c.add_op.new.temps c.loop-i.invariant.temps c.get.ensures c.in_ok-v.ensures.temps
-          c.in_ok-n.ensures k;
+          c.in_ok-n.ensures.later k;
       vars = ops_vars_more c.loop-i.i (length c.loop-i.domains) (length c.add_op.new.domains) b.ops c.get.result.now c.loop-i.vars _
           c.push.new.self c.in_ok-v.v c.loop-i.invariant.vars c.get.ensures c.in_ok-v.ensures.vars c.in_ok-push.ensures.ok k;
     }

@@ -5,9 +5,9 @@ use Rattle.un_model.proofs.placement.push_blocks.Goals as goal
 
 pub loop-k-preserved : goal.loop-k-preserved
 loop-k-preserved c =
-    let issues = rw c.in_ok-b.ensures at c.in_ok-push_block.ensures.issues in
-    let reads = rw c.in_ok-b.ensures at c.in_ok-push_block.ensures.reads in
-    let n = rw c.len-in-loop-k.ensures at c.in_ok-n.ensures in
+    let issues = rw c.in_ok-b.ensures.number at c.in_ok-push_block.ensures.issues in
+    let reads = rw c.in_ok-b.ensures.number at c.in_ok-push_block.ensures.reads in
+    let n = rw c.len-in-loop-k.ensures at c.in_ok-n.ensures.later in
     record {
       issues = blocks_more (block_issues c.args.values.now) c.loop-k.k c.loop-k.n c.in_ok-n.n c.loop-k.k c.args.m.now.ext.blocks
           c.args.m.now.blocks c.get-block.result.now c.get.result.now c.loop-k.issues _ c.push_block.new.issues c.loop-k.invariant.issues

@@ -8,7 +8,7 @@ use Rattle.un_post.proofs.post_call_befores.anew_count.Goals.{then-reads_anew, e
 pub loop-j-preserved : goal.loop-j-preserved
 loop-j-preserved c =
     let p = reads_anew c.args.t.now (place_of c.args.call.now) c.args.u.now.it.now.kind in
-    let is = rw c.in_ok-at.ensures at c.reads_anew.ensures in
+    let is = rw c.in_ok-at.ensures.number at c.reads_anew.ensures in
     elim c.if-reads_anew.branch [
       | then-reads_anew w ↦ count_yes p c.loop-j.j c.args.u.now.it.now.operands c.get.result.now c.loop-j.count c.if-reads_anew.count _
           c.loop-j.invariant c.get.ensures (sym is ∙ w.if-reads_anew.true) w.count-is

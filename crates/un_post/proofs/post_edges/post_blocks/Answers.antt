@@ -7,7 +7,7 @@ use Rattle.un_post.proofs.post_edges.post_blocks.Goals as goal
 pub loop-k-preserved : goal.loop-k-preserved
 loop-k-preserved c =
     let more = c.in_ok-post_block.ensures c.get-in-loop-k.result.now c.get-in-loop-k.ensures in
-    let n = rw c.len-in-loop-k.ensures at c.in_ok-n.ensures in
+    let n = rw c.len-in-loop-k.ensures at c.in_ok-n.ensures.later in
     blocks_more (edges_of c.args.blocks.now (definers_in c.args.sites.now)) c.loop-k.k c.loop-k.n c.in_ok-n.n c.loop-k.k c.args.blocks.now
     c.args.vars.now c.get-in-loop-k.result.now c.get.result.now c.loop-k.props _ _ c.loop-k.invariant c.get-in-loop-k.ensures
     c.get.ensures more n

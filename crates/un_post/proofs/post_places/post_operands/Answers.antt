@@ -8,4 +8,4 @@ pub loop-i-preserved : goal.loop-i-preserved
 loop-i-preserved c =
     placed_added (of_operand c.args.t.now c.args.slots) (asked (definers_in c.args.sites.now) (place_of c.args.p.now)) c.loop-i.i
     c.args.p.now.it.now.operands c.get.result.now c.loop-i.props _ c.post_operand.new.props c.loop-i.invariant c.get.ensures
-    (rw c.in_ok-j.ensures at c.in_ok-post_operand.ensures)
+    (rw c.in_ok-j.ensures.number at c.in_ok-post_operand.ensures)
