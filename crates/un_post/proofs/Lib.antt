@@ -1,7 +1,13 @@
 pub mod Appends
 pub mod BlockTemps
 pub mod Blocks
+pub mod CallAnew
+pub mod CallBefores
+pub mod CallCounts
 pub mod CallOrder
+pub mod CallPins
+pub mod CallReads
+pub mod CallWalks
 pub mod Choices
 pub mod Congruences
 pub mod Cycles

@@ -43,6 +43,7 @@ use Rattle.un_prop.specs.Acts.{at_vars}
 use Rattle.un_alt.specs.declared.frame.FrameLeave.{FrameLeave}
 use Rattle.un_prec.specs.declared.below.Weighted.{Weighted}
 use Rattle.un_post.specs.Befores.{place_or, place_with, arc_before, befores_in, befores_of, all_postings_of}
+use Rattle.un_post.specs.CallBefores.{call_befores_by, call_befores_in, call_befores_of}
 use Rattle.un_post.specs.Constraints.{Constraint}
 use Rattle.un_post.specs.Places.{Place, Definer, time_by, block_places, places_of, definer_by, definer_of, definers_of}
 use Rattle.un_post.specs.Postings.{over_places, of_place, last_place, congruence, over_edge, edges_of}
@@ -53,6 +54,7 @@ use Rattle.un_post.specs.Rooms.{apart_in, aparts_of, spared_in, spared_at, arcs_
 use Rattle.un_post.specs.Rooms.{rooms_of, temps_in}
 use Rattle.un_post.specs.Scopes.{leave_vars}
 use Rattle.un_post.proofs.Blocks.{blocks, in_all, region_vars, places_in}
+use Rattle.un_post.proofs.CallReads.{calls_sound}
 use Rattle.un_post.proofs.Congruences.{in_is}
 use Rattle.un_post.proofs.Meeting.{joined_each}
 use Rattle.un_post.proofs.Memory.{member_contains, arcs_by_regions}
@@ -386,6 +388,12 @@ module _ (e : Ext) (o : Options) (extended : IsExtended e) where
       (each_more (PlaceIn n pos) (λ p. Each IsOk (twos_in o.slots the_definers p)) the_places
       (λ p g. twos_are n pos most the_definers definers_known o.slots p g) places_known)
 
+  call_befores_ok : Each IsOk (call_befores_of m)
+  call_befores_ok = over_are IsOk (call_befores_in e.table m.arcs) (λ r mr.
+      let arcs = arcs_or (slice_get m.arcs r.block) in
+      subst (λ (ps : List Place). Each IsOk (call_befores_by e.table arcs ps)) (sym (places_in r))
+      (calls_sound n pos most e.table arcs (region_placed r) (subst (Each (PlaceIn n pos)) (places_in r) (block_known r mr))))
+
   join : (cs ds : List Constraint) → Each IsOk cs → Each IsOk ds → Each IsOk (cs ++ ds)
   join cs ds h k = each_join IsOk cs ds h k
 
@@ -395,10 +403,11 @@ module _ (e : Ext) (o : Options) (extended : IsExtended e) where
   all_sound limit =
       let edges = over_blocks (edges_of e.blocks the_definers) 0 0 e.blocks (blocks_vars 0 e.blocks) in
       let frame = frame_of m the_definers the_places in
-      join (postings_of m limit) (befores_of m ++ rooms_of m)
+      join (postings_of m limit) (befores_of m ++ (rooms_of m ++ call_befores_of m))
       (join (over_places (of_place e.table o.slots the_definers) m) (edges ++ (frame ++ limit_of m limit)) of_places_ok
       (join edges (frame ++ limit_of m limit) edges_ok (join frame (limit_of m limit) frame_ok (limit_ok limit))))
-      (join (befores_of m) (rooms_of m) befores_ok
+      (join (befores_of m) (rooms_of m ++ call_befores_of m) befores_ok
+      (join (rooms_of m) (call_befores_of m)
       (join (aparts_of m) (clobbers_of m ++ (packets_of m ++ twos_of m)) aparts_ok
       (join (clobbers_of m) (packets_of m ++ twos_of m) clobbers_ok
-      (join (packets_of m) (twos_of m) packets_ok twos_ok))))
+      (join (packets_of m) (twos_of m) packets_ok twos_ok))) call_befores_ok))

@@ -53,7 +53,7 @@ use Rattle.un_post.proofs.Whole.{issues_each, ranges_each}
 some_op : (a b : Op) → Some a ≡ Some b → a ≡ b
 some_op a b h = cc h
 
-call_op : (op : Op) → is_call_op op ≡ true → op ≡ Call
+pub call_op : (op : Op) → is_call_op op ≡ true → op ≡ Call
 call_op Call h = refl
 call_op op h = absurd (cc h)
 
@@ -184,13 +184,13 @@ module _ (clobbered : ℕ) (i : Issue) (h : LiveRange) where
       differs a.0 b.0 (λ t. f call block (λ same. let z : (a.0 == b.0) ≡ true = eq-eqb a.0 b.0 same in let w : not (a.0 == b.0) ≡ false =
       ap not z in let y : true ≡ false = sym t ∙ w in cc y) act mask occupies)
 
-  range_spared : SparesRange clobbered i h → i.instr ≡ Some Call → (let a = i.block in let b = h.block in a.0 ≡ b.0)
+  pub range_spared : SparesRange clobbered i h → i.instr ≡ Some Call → (let a = i.block in let b = h.block in a.0 ≡ b.0)
       → (let a = i.op in let b = h.op in a.0 ≡ b.0 → ⊥)
       → h.active ≡ true → in_mask clobbered h.reg ≡ true → (h.from ≤ i.cycle) × (i.cycle ≤ h.last) → ⊥
   unfolding SparesRange
   range_spared s call block other act mask occupies = other (s call act block mask occupies)
 
-is_spared : (clobbered : ℕ) (issues : List Issue) (h : LiveRange)
+pub is_spared : (clobbered : ℕ) (issues : List Issue) (h : LiveRange)
     → All (λ (i : Issue). SparesRange clobbered i h) issues ↔ IsSpared clobbered issues h
 unfolding IsSpared
 is_spared clobbered issues h = (λ k. k, λ k. k)

@@ -4,6 +4,7 @@ use Rattle.un_model.specs.declared.model.Arc.{Arc}
 use Rattle.un_model.specs.declared.model.Model.{Model}
 use Rattle.un_model.specs.Pairs.{joined}
 use Rattle.un_prop.specs.declared.act.Act.TheVariants.{Always}
+use Rattle.un_post.specs.CallBefores.{call_befores_of}
 use Rattle.un_post.specs.Constraints.{Constraint, Before}
 use Rattle.un_post.specs.Places.{Place, no_place, time_of, places_of}
 use Rattle.un_post.specs.Postings.{postings_of}
@@ -34,6 +35,6 @@ befores_of m = joined (map (befores_in (places_of m)) m.arcs)
 -- ---- the whole list
 
 -- All that is posted for a model, under a limit on the cost or none: of single operations, congruences, the frame and the limit;
--- of arcs; and of registers, calls, packets and two operands.
+-- of arcs; of registers, calls, packets and two operands; and of what calls separate, which the rest implies.
 abbrev pub all_postings_of : Model → Option ℕ → List Constraint
-all_postings_of m limit = postings_of m limit ++ (befores_of m ++ rooms_of m)
+all_postings_of m limit = postings_of m limit ++ (befores_of m ++ (rooms_of m ++ call_befores_of m))

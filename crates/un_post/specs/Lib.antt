@@ -1,5 +1,6 @@
 pub mod AnyProps
 pub mod Befores
+pub mod CallBefores
 pub mod Calls
 pub mod Constraints
 pub mod Gathered

@@ -89,3 +89,41 @@ pub fn behind<'a>(
     let found = behind_marks(alloc, reach.low, marks.as_slice(), call.op, spots)?;
     Ok(found)
 }
+
+/// Those of the operations that are not behind the call with a number, of which the marks say what it reaches.
+fn other_marks<'a>(
+    alloc: Global,
+    low: u32,
+    marks: &[bool],
+    call: u32,
+    spots: &[Spot<'a>],
+) -> Result<Items<Spot<'a>>, AllocError>
+    ensures { IfOk result (λ found. map place_of found ≡ filter
+        (λ (p : Place). not (ends_block p.it.kind || (not (p.op == call) && mark_at low marks.now p.op))) (map place_of spots.now)) }
+{
+    let mut found = Items::new(alloc);
+    for p in spots {
+        if !is_behind(low, marks, call, p) {
+            found.push(*p)?;
+        }
+    }
+    Ok(found)
+}
+
+/// Those of the operations that are not behind a call.
+pub fn not_behind<'a>(
+    alloc: Global,
+    reach: Reach,
+    arcs: &[Arc],
+    call: &Spot<'a>,
+    spots: &[Spot<'a>],
+) -> Result<Items<Spot<'a>>, AllocError>
+    requires arcs { All (IsArcWithin reach.low reach.count) arcs.now }
+    requires call { IsWithin reach.low reach.count call.now.op }
+    ensures { IfOk result (λ found. map place_of found
+        ≡ filter (λ (p : Place). not (is_behind arcs.now (place_of call.now) p)) (map place_of spots.now)) }
+{
+    let marks = mark_reached(alloc, reach, arcs, call.op)?;
+    let found = other_marks(alloc, reach.low, marks.as_slice(), call.op, spots)?;
+    Ok(found)
+}

@@ -11,6 +11,7 @@ mod numbers;
 pub mod post;
 pub mod post_aparts;
 pub mod post_arcs;
+pub mod post_call_befores;
 pub mod post_clobbers;
 pub mod post_edges;
 pub mod post_frame;

@@ -18,6 +18,7 @@ ghost use Rattle.un_post.specs.Sites.{place_of, definers_in};
 use crate::any::AnyProp;
 use crate::post_aparts::post_aparts;
 use crate::post_arcs::post_arcs;
+use crate::post_call_befores::post_call_befores;
 use crate::post_clobbers::post_clobbers;
 use crate::post_packets::post_packets;
 use crate::post_single::post_single;
@@ -81,7 +82,7 @@ fn post_rooms(
 }
 
 /// All that is posted for a model, of which these are the tables.
-#[tactic(auto, using(crate::proofs::Appends::three_added))]
+#[tactic(auto, using(crate::proofs::Appends::four_added))]
 fn post_each(
     props: &mut Props,
     m: &Model,
@@ -96,6 +97,7 @@ fn post_each(
     post_single(props, m, limit, sites, spots)?;
     post_arcs(props, m, spots)?;
     post_rooms(props, m, sites, spots)?;
+    post_call_befores(props, m)?;
     Ok(())
 }
 

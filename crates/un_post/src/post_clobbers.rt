@@ -121,7 +121,7 @@ fn post_block(
 }
 
 /// The arcs of block `b`; a block that is not there has none.
-fn arcs_at(arcs: &Items<Items<Arc>>, b: u32) -> &[Arc]
+pub(crate) fn arcs_at(arcs: &Items<Items<Arc>>, b: u32) -> &[Arc]
     ensures { result.now ≡ arcs_or (slice_get arcs.now b) }
 {
     let i = b as usize;

@@ -49,7 +49,7 @@ fn is_source(kind: &ExtKind) -> bool
 }
 
 /// The number of the first of these temporaries.
-fn first_of(xs: &[TempId]) -> u32
+pub(crate) fn first_of(xs: &[TempId]) -> u32
     ensures { result ≡ first_of xs.now }
 {
     match xs {
