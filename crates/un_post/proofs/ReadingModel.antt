@@ -305,7 +305,8 @@ module _ (e : Ext) (o : Options) (extended : IsExtended e) where
           let it = out.it in
           let v = out.vars in
           let k = place_over a b j in
-          same_are n pos most the_definers definers_known x (slice_get it.operands k) (slice_get v.choices k) (get_in n pos v.choices k g.choices))
+          same_are n pos most the_definers definers_known x (slice_get it.operands k) (slice_get v.choices k)
+          (get_in n pos v.choices k g.choices))
 
   frame_ok : Each IsOk (frame_of m the_definers the_places)
   frame_ok =

@@ -11,6 +11,7 @@ ghost use Rattle.un_post.specs.Places.{definer_or, definers_of};
 ghost use Rattle.un_post.specs.Rooms.{user_if, place_users, users_of, temp_at, temps_in, apart_in, aparts_of};
 ghost use Rattle.un_post.specs.Sites.{place_of, definer_at, definers_in};
 
+use crate::call_rows::copy_users;
 use crate::make_rect::make_apart;
 use crate::post_places::choice_at;
 use crate::props::Props;
@@ -164,18 +165,19 @@ pub fn all_users(
 }
 
 /// A temporary with these users.
-fn temp_with(alloc: Global, site: &Site<'_>, users: &[UserOf]) -> Result<Temp, AllocError>
+pub(crate) fn temp_with(
+    alloc: Global,
+    site: &Site<'_>,
+    users: &[UserOf],
+) -> Result<Temp, AllocError>
     ensures { IfOk result (λ temp. temp ≡ temp_with (definer_at site.now) users.now) }
 {
-    let mut list = Vec::new(alloc);
-    for user in users {
-        list.push(*user)?;
-    }
+    let list = copy_users(alloc, users)?;
     Ok(Temp {
         on: site.act(),
         at: site.time(),
         reg: site.reg,
-        users: Items::from_vec(list),
+        users: list,
     })
 }
 

@@ -1,45 +1,31 @@
 //! What is posted of the calls of a block: across a call, none of its temporaries has a register that calls do not keep.
 
-ghost use Rattle.std.specs.Prelude.{◌≡◌, [], ◌∷◌, ◌++◌, List, All, IfOk, OnOk, length, map, slice_get};
+ghost use Rattle.std.specs.Prelude.{◌≡◌, [], ◌∷◌, ◌++◌, List, All, OnOk, length, map, slice_get};
 ghost use Rattle.std.specs.List.{AllZip};
 ghost use Rattle.un_model.specs.declared.model.Arc.{Arc};
 ghost use Rattle.un_post.specs.Calls.{SeesCall};
-ghost use Rattle.un_post.specs.Gathered.{gathered, IsAmong, temp_with};
+ghost use Rattle.un_post.specs.Gathered.{gathered, IsAmong};
 ghost use Rattle.un_post.specs.Places.{Place, definers_of};
 ghost use Rattle.un_post.specs.Postings.{is_call_kind, with_kind};
 ghost use Rattle.un_post.specs.Rooms.{arcs_or, clobbers_of, spared_at, spared_in, temps_in, users_of};
-ghost use Rattle.un_post.specs.Sites.{definer_at, definers_in, place_of};
+ghost use Rattle.un_post.specs.Sites.{definers_in, place_of};
 ghost use Rattle.un_post.specs.declared.call_rows.CallSite.{CallSite};
 
-use crate::call_rows::{CallSite, calls_but, copy_users};
+use crate::call_rows::{CallSite, calls_but};
 use crate::make_rect::make_clobber;
-use crate::post_aparts::{Span, all_users, span_of, temps_in};
+use crate::post_aparts::{Span, all_users, span_of, temp_with, temps_in};
 use crate::props::Props;
 use crate::see_calls::see_calls;
 use crate::sites::{Site, Spot, site_of};
 use crate::span::reach_of;
 use crate::tables::add_block;
-use std::alloc::{AllocError, Global};
 use un_base::ids::TempId;
 use un_base::memory_error::NoMemory;
 use un_base::numbers::{advance, number};
 use un_ir::extended::ExtBlock;
 use un_lists::items::Items;
 use un_model::model::{Arc, BlockVars, Model};
-use un_prop::act::{Temp, UserOf};
-
-/// A temporary with this definer and these users.
-fn temp_of(alloc: Global, site: &Site<'_>, users: &[UserOf]) -> Result<Temp, AllocError>
-    ensures { IfOk result (λ temp. temp ≡ temp_with (definer_at site.now) users.now) }
-{
-    let list = copy_users(alloc, users)?;
-    Ok(Temp {
-        on: site.act(),
-        at: site.time(),
-        reg: site.reg,
-        users: list,
-    })
-}
+use un_prop::act::UserOf;
 
 /// What is posted of the calls of a block for one of its temporaries, where the users of these stand from `first` on.
 pub fn post_spared(
@@ -60,7 +46,7 @@ pub fn post_spared(
     let site = site_of(sites, t);
     let found = calls_but(props.alloc(), calls, first, t, &site)?;
     let users = lists.get((t.0 - first) as usize);
-    let temp = temp_of(props.alloc(), &site, users.as_slice())?;
+    let temp = temp_with(props.alloc(), &site, users.as_slice())?;
     let made = make_clobber(props.alloc(), mask, temp, found)?;
     props.push(made)?;
     Ok(())

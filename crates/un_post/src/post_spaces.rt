@@ -1,52 +1,24 @@
 //! What is posted of spaces: an operand and a copy's result lie in the space of the operation's instruction.
 
-ghost use Rattle.std.specs.Prelude.{◌≡◌, ◌+◌, ◌<◌, ◌^◌, [], ◌∷◌, ◌++◌, IfOk, OnOk, map, None, Some};
-ghost use Rattle.std.specs.List.{range_with_len};
+ghost use Rattle.std.specs.Prelude.{◌≡◌, [], ◌∷◌, ◌++◌, IfOk, OnOk, map, None};
 ghost use Rattle.un_base.specs.declared.ids.VarId.{VarId};
 ghost use Rattle.un_post.specs.Constraints as constraint;
 ghost use Rattle.un_post.specs.Places.{act_of, registers_at};
-ghost use Rattle.un_post.specs.Postings.{registers_in, operand_sets, result_sets, registers_of, space_by, results_in};
+ghost use Rattle.un_post.specs.Postings.{operand_sets, result_sets, registers_of, space_by, results_in};
 ghost use Rattle.un_post.specs.Sites.{place_of, definers_in};
 
 use crate::make_alt::make_spaces;
 use crate::numbers::number_count;
 use crate::props::Props;
 use crate::sites::{Site, Spot, registers_of, site_of};
-use std::alloc::{AllocError, Global};
+use crate::space_sets::space_registers;
+use std::alloc::Global;
 use un_base::ids::{TempId, VarId};
 use un_base::memory_error::NoMemory;
 use un_ir::extended::ExtKind;
-use un_isa::reg::{FIRST_SLOT, GENERALS, PREDICATES, Space};
 use un_lists::items::Items;
 use un_model::instructions::{instruction, space_given, space_read};
 use un_prop::act::Act;
-
-/// So many numbers from `first` on.
-fn range(alloc: Global, first: u32, n: u32) -> Result<Items<u32>, AllocError>
-    requires { first + n < 2 ^ 32 }
-    ensures { IfOk result (λ rs. rs ≡ range_with_len first n) }
-{
-    let mut numbers = Vec::new(alloc);
-    for i in 0..n {
-        numbers.push(first + i)?;
-    }
-    Ok(Items::from_vec(numbers))
-}
-
-/// The registers of a space of a machine with so many slots; where no space is asked for, all of them.
-fn registers_in(alloc: Global, slots: u32, space: Option<Space>) -> Result<Items<u32>, NoMemory>
-    ensures { IfOk result (λ rs. rs ≡ registers_in slots space) }
-{
-    let Some(end) = FIRST_SLOT.checked_add(slots) else {
-        return Err(NoMemory);
-    };
-    match space {
-        None => Ok(range(alloc, 0, end)?),
-        Some(Space::R) => Ok(range(alloc, 0, GENERALS)?),
-        Some(Space::P) => Ok(range(alloc, GENERALS, PREDICATES)?),
-        Some(Space::M) => Ok(range(alloc, FIRST_SLOT, slots)?),
-    }
-}
 
 /// The registers that each number of an operation lets its operand at place `j` have.
 fn operand_sets(
@@ -59,7 +31,7 @@ fn operand_sets(
 {
     let mut sets = Items::new(alloc);
     for n in 0..number_count(kind) {
-        let set = registers_in(alloc, slots, space_read(instruction(kind, n), j))?;
+        let set = space_registers(alloc, slots, space_read(instruction(kind, n), j))?;
         sets.push(set)?;
     }
     Ok(sets)
@@ -71,7 +43,7 @@ fn result_sets(alloc: Global, slots: u32, kind: &ExtKind) -> Result<Items<Items<
 {
     let mut sets = Items::new(alloc);
     for n in 0..number_count(kind) {
-        let set = registers_in(alloc, slots, space_given(instruction(kind, n)))?;
+        let set = space_registers(alloc, slots, space_given(instruction(kind, n)))?;
         sets.push(set)?;
     }
     Ok(sets)

@@ -5,7 +5,7 @@ ghost use Rattle.std.specs.List.{AllZip};
 ghost use Rattle.un_post.specs.Calls.{SeesCall};
 ghost use Rattle.un_post.specs.Gathered.{gathered};
 ghost use Rattle.un_post.specs.Places.{Place};
-ghost use Rattle.un_post.specs.Postings.{cycle_var, is_call_kind, with_kind};
+ghost use Rattle.un_post.specs.Postings.{is_call_kind, with_kind};
 ghost use Rattle.un_post.specs.Reach.{IsWithin, IsArcWithin};
 ghost use Rattle.un_post.specs.Rooms.{is_behind, users_of};
 ghost use Rattle.un_post.specs.Sites.{place_of};
@@ -16,24 +16,14 @@ use crate::call_rows::CallSite;
 use crate::call_sides::behind;
 use crate::post_aparts::{Span, all_users};
 use crate::post_frame::is_call;
+use crate::post_packets::cycle_var;
 use crate::reach::{Reach, mark_leading};
 use crate::sites::Spot;
 use std::alloc::{AllocError, Global};
-use un_base::ids::VarId;
 use un_base::memory_error::NoMemory;
 use un_lists::items::Items;
 use un_model::model::Arc;
 use un_prop::act::UserOf;
-
-/// The variable of an operation's cycle.
-fn cycle_of(p: &Spot<'_>) -> VarId
-    ensures { result ≡ cycle_var (place_of p.now) }
-{
-    match p.vars.cycle {
-        None => VarId(0),
-        Some(v) => v,
-    }
-}
 
 /// A call, with the users of each temporary among what is behind it.
 pub fn see_call(
@@ -52,7 +42,7 @@ pub fn see_call(
     let marks = mark_leading(alloc, reach, arcs, call.op)?;
     Ok(CallSite {
         op: call.op,
-        at: cycle_of(call),
+        at: cycle_var(call),
         low: reach.low,
         leading: Items::from_vec(marks),
         users,

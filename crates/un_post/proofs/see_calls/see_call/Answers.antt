@@ -5,7 +5,7 @@ use Rattle.un_post.proofs.see_calls.see_call.Goals as goal
 pub returns-clause-sees : goal.returns-clause-sees
 returns-clause-sees c = λ ps first users. record {
   op = refl;
-  at = c.cycle_of.ensures;
+  at = c.cycle_var.ensures;
   leads = subst (λ (ms : List Bool). Marks c.args.reach.low ms (leading c.args.arcs.now (c.args.call.now.op ∷ []))) (sym c.from_vec.ensures)
       c.in_ok-marks.ensures;
   users = users;
