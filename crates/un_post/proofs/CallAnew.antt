@@ -44,7 +44,7 @@ use Rattle.un_post.proofs.Placing.{place_of}
 use Rattle.un_post.proofs.Regions.{of_region}
 use Rattle.un_post.proofs.SpaceSets.{predicate}
 use Rattle.un_post.proofs.Spared.{call_instr, call_op, is_spared, range_spared}
-use Rattle.un_post.proofs.Tests.{and_iff, le_iff}
+use Rattle.un_post.proofs.Tests.{and_iff, le_iff, lt_iff}
 use Rattle.un_post.proofs.Whole.{issues_each, ranges_each}
 
 -- ---- lists
@@ -79,8 +79,8 @@ module _ (t : Table) (fit : IsFit t) where
       by : (b : Bool) → in_mask t.saved r ≡ b → not b ≡ true
       by false e = refl
       by true e =
-          let two = (and_iff (nat_le 6 r) (nat_le r 28)).1 (fit.saved r hi e) in
-          let most = (le_iff r 28).1 two.1 in absurd (omega arith)
+          let two = (and_iff (nat_le 6 r) (nat_lt r 29)).1 (fit.saved r hi e) in
+          let most = (lt_iff r 29).1 two.1 in absurd (omega arith)
 
   predicates_clobbered : (r : ℕ) → 32 ≤ r → r < 36 → in_mask t.clobbered r ≡ true
   predicates_clobbered r lo hi =

@@ -9,6 +9,7 @@ use Rattle.std.proofs.lemmas.List.Sums.{sum_by-cons}
 use Rattle.un_base.specs.declared.ids.NameId.{NameId}
 use Rattle.un_base.specs.declared.ids.TempId.{TempId}
 use Rattle.un_isa.specs.declared.op.Op.{Op}
+use Rattle.un_isa.specs.declared.packet_counts.Resource.TheVariants.{Instructions}
 use Rattle.un_isa.specs.declared.reg.Reg.{Reg}
 use Rattle.un_ir.specs.declared.extended.ExtKind.{ExtKind}
 use Rattle.un_ir.specs.declared.extended.ExtKind.TheVariants.{In, Out, Body, End, Copy, Enter, Leave}
@@ -17,12 +18,11 @@ use Rattle.un_ir.specs.declared.extended.Ext.{Ext}
 use Rattle.un_ir.specs.declared.extended.ExtBlock.{ExtBlock}
 use Rattle.un_ir.specs.Extended.{Want, word_in, at_register, wants_of, wants_of_op, result_count}
 use Rattle.un_model.specs.declared.model.Options.{Options}
-use Rattle.un_model.specs.declared.schedule.Resource.TheVariants.{Instructions}
 use Rattle.un_model.specs.Arcs.{is_mandatory}
-use Rattle.un_model.specs.Instructions.{instruction_of, width_by}
+use Rattle.un_model.specs.Instructions.{instruction_of}
 use Rattle.un_model.specs.Registers.{reg_at}
 use Rattle.un_model.specs.Schedules.{schedule_of, issues_of, value_by, cycle_by, is_delimiter}
-use Rattle.un_model.specs.Solutions.{IsSchedule, latency_gap}
+use Rattle.un_model.specs.Solutions.{IsSchedule, latency_gap, share_of}
 use Rattle.un_model.specs.Variables.{model_of, count_if}
 use Rattle.un_model.proofs.Lists.{Each, Pairwise, Member, each_of, each_more, each_member, length_get}
 use Rattle.un_model.proofs.Placed.{Placed, Region, region_placed, vars_of, issue_at, Spot, all_count, at_number}
@@ -200,7 +200,7 @@ module _ (e : Ext) (o : Options) (x : List ℕ) (given : Given e o x) where
     record Issued (n : ℕ) (d : Placed) : Type 0 where
       member : Member d (region_placed r)
       cycle : (issue_at x d).cycle ≡ n
-      width : width_by (issue_at x d).instr ≡ 1
+      width : share_of e.table Instructions (issue_at x d).instr ≡ 1
 
     room : (n : ℕ) (ds : List Placed) → Each (Issued n) ds → Pairwise Apart ds → length ds ≤ 4
     room n ds h apart =
@@ -217,17 +217,17 @@ module _ (e : Ext) (o : Options) (x : List ℕ) (given : Given e o x) where
         takes d i =
             let here : (d.block == r.block) ≡ true = eq-eqb d.block r.block (of_region r d i.member) in
             let now : ((issue_at x d).cycle == n) ≡ true = eq-eqb (issue_at x d).cycle n i.cycle in
-            let is : share e o x given Instructions r.block n d ≡ width_by (issue_at x d).instr =
-            ap (λ (b : Bool). if b && ((issue_at x d).cycle == n) then width_by (issue_at x d).instr else 0) here
-            ∙ ap (λ (b : Bool). if b then width_by (issue_at x d).instr else 0) now in
+            let is : share e o x given Instructions r.block n d ≡ share_of e.table Instructions (issue_at x d).instr =
+            ap (λ (b : Bool). if b && ((issue_at x d).cycle == n) then share_of e.table Instructions (issue_at x d).instr else 0) here
+            ∙ ap (λ (b : Bool). if b then share_of e.table Instructions (issue_at x d).instr else 0) now in
             let one = i.width in
             omega (arith, is, one)
 
     width_one : (k : ExtKind) (n : ℕ) → (is_delimiter k || is_some (instruction_of k n)) ≡ true → is_delimiter k ≡ false
-        → width_by (instruction_of k n) ≡ 1
+        → share_of e.table Instructions (instruction_of k n) ≡ 1
     width_one k n act off = by (instruction_of k n) (subst (λ (b : Bool). (b || is_some (instruction_of k n)) ≡ true) off act)
       where
-        by : (i : Option Op) → is_some i ≡ true → width_by i ≡ 1
+        by : (i : Option Op) → is_some i ≡ true → share_of e.table Instructions i ≡ 1
         by None h = absurd (cc h)
         by (Some op) h = refl
 
@@ -265,7 +265,7 @@ module _ (e : Ext) (o : Options) (x : List ℕ) (given : Given e o x) where
         here : Member d (region_placed r)
         here = stands_in e o x r d mr (definer_is e o x given s w.member).0 (w.block ∙ of_region r q mq)
 
-        width : width_by (issue_at x d).instr ≡ 1
+        width : share_of e.table Instructions (issue_at x d).instr ≡ 1
         width =
             let v = vars_of d in
             let p = definer_is e o x given s w.member in
