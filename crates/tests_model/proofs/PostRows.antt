@@ -1,6 +1,6 @@
 -- What is posted for three small functions, written down by hand from the descriptions of models and of propagators: which variables
 -- each propagator speaks of, in order.
-use Rattle.std.specs.Prelude.{ℕ, ◌≡◌, Bool, true, false, List, [], ◌∷◌, ◌++◌, Option, Some, None, codes, map, pos}
+use Rattle.std.specs.Prelude.{ℕ, ◌≡◌, Bool, true, false, List, [], ◌∷◌, Option, Some, None, codes, map, pos}
 use Rattle.std.specs.List.{range_with_len}
 use Rattle.std.proofs.Common.{refl}
 use Rattle.un_base.specs.declared.ids.VarId.{VarId}
@@ -27,12 +27,12 @@ use Rattle.un_alt.specs.declared.frame.FrameLeave.{FrameLeave}
 use Rattle.un_rect.specs.Operands.{Side}
 use Rattle.un_rect.specs.declared.clobber.ClobberCall.{ClobberCall}
 use Rattle.un_slots.specs.declared.item.Item.{Item}
-use Rattle.un_post.specs.Constraints.{Constraint, Before, Reads, Inside, Last, Below, Chosen, Zeros, Spaces, Same, Home, Frame}
+use Rattle.un_post.specs.Constraints.{Before, Reads, Inside, Last, Below, Chosen, Zeros, Spaces, Same, Home, Frame}
 use Rattle.un_post.specs.Constraints.{Apart, Clobber, Operands, PerCycle}
 use Rattle.un_post.specs.Postings.{postings_of}
 use Rattle.un_post.specs.Befores.{befores_of}
 use Rattle.un_post.specs.Rooms.{aparts_of, clobbers_of, packets_of, twos_of}
-use Rattle.tests_model.proofs.WorkedModel.{model, names, temps, reads, op, source}
+use Rattle.tests_model.proofs.WorkedModel.{model, names, reads, op, source}
 
 -- ---- variables, times, activities
 
@@ -170,7 +170,7 @@ truth_value = temp Always (Const 0) 16 (user (on 18) (at 19) None 0 ∷ [])
 worked_aparts : aparts_of model ≡
     Apart (parameter ∷ saved ∷ copy_of_parameter ∷ loaded ∷ [])
     ∷ Apart (truth_value ∷ temp Always (Const 0) 17 [] ∷ temp (on 18) (at 19) 20 [] ∷ temp Always (at 21) 22 [] ∷
-        temp Always (at 23) 24 [] ∷ []) ∷ []
+    temp Always (at 23) 24 [] ∷ []) ∷ []
 worked_aparts = refl
 
 -- ---- calls: r0 to r15, r28, r31 and p0 to p3 are not kept
@@ -223,7 +223,7 @@ transfers = needs 0 0 1 1 ∷ needs 0 0 1 1 ∷ []
 
 worked_packets : packets_of model ≡
     PerCycle (item (on 2) 3 copy_needs ∷ item (on 5) 6 frame_needs ∷ item Always 7 loads ∷ item (on 10) 11 frame_needs ∷
-        item Always 12 transfers ∷ []) 8
+    item Always 12 transfers ∷ []) 8
     ∷ PerCycle (item (on 18) 19 copy_needs ∷ item Always 21 free ∷ item Always 23 transfers ∷ []) 4 ∷ []
 worked_packets = refl
 
@@ -308,11 +308,11 @@ sum_twos = refl
 
 sum_aparts : aparts_of summing ≡
     Apart (temp Always (Const 0) 0 (user Always (at 2) (Some (v 3)) 0 ∷ []) ∷
-        temp Always (Const 0) 1 (user Always (at 2) (Some (v 4)) 0 ∷ []) ∷
-        temp Always (at 2) 5 (user (on 6) (at 7) None 0 ∷ user Always (at 10) (Some (v 9)) 0 ∷ []) ∷
-        temp (on 6) (at 7) 8 (user Always (at 10) (Some (v 9)) 1 ∷ []) ∷ [])
+    temp Always (Const 0) 1 (user Always (at 2) (Some (v 4)) 0 ∷ []) ∷
+    temp Always (at 2) 5 (user (on 6) (at 7) None 0 ∷ user Always (at 10) (Some (v 9)) 0 ∷ []) ∷
+    temp (on 6) (at 7) 8 (user Always (at 10) (Some (v 9)) 1 ∷ []) ∷ [])
     ∷ Apart (temp Always (Const 0) 11 (user Always (at 12) (Some (v 13)) 0 ∷ user Always (at 12) (Some (v 14)) 0 ∷ []) ∷
-        temp Always (at 12) 15 [] ∷ []) ∷ []
+    temp Always (at 12) 15 [] ∷ []) ∷ []
 sum_aparts = refl
 
 -- ---- a load, a call and a store in one block
@@ -351,8 +351,8 @@ call_befores = refl
 -- the address and the word are there before the call, by the start and by the order of memory, and the store reads them behind it
 call_clobbers : clobbers_of calling ≡
     Clobber lost (temp Always (Const 0) 0 (user Always (at 1) (Some (v 2)) 0 ∷ user Always (at 6) (Some (v 7)) 0 ∷ []))
-        (call 4 true (user Always (at 6) (Some (v 7)) 0 ∷ []) ∷ [])
+    (call 4 true (user Always (at 6) (Some (v 7)) 0 ∷ []) ∷ [])
     ∷ Clobber lost (temp Always (at 1) 3 (user Always (at 6) (Some (v 8)) 0 ∷ []))
-        (call 4 true (user Always (at 6) (Some (v 8)) 0 ∷ []) ∷ [])
+    (call 4 true (user Always (at 6) (Some (v 8)) 0 ∷ []) ∷ [])
     ∷ Clobber lost (temp Always (at 4) 5 (user Always (at 10) (Some (v 9)) 0 ∷ [])) [] ∷ []
 call_clobbers = refl
