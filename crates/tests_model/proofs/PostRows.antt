@@ -1,6 +1,6 @@
 -- What is posted for three small functions, written down by hand from the descriptions of models and of propagators: which variables
 -- each propagator speaks of, in order.
-use Rattle.std.specs.Prelude.{ℕ, ◌≡◌, Bool, true, false, List, [], ◌∷◌, ◌++◌, Option, Some, None, codes, map, pos}
+use Rattle.std.specs.Prelude.{ℕ, ◌≡◌, Bool, true, false, List, [], ◌∷◌, Option, Some, None, codes, map, pos}
 use Rattle.std.specs.List.{range_with_len}
 use Rattle.std.proofs.Common.{refl}
 use Rattle.un_base.specs.declared.ids.VarId.{VarId}
@@ -27,12 +27,12 @@ use Rattle.un_alt.specs.declared.frame.FrameLeave.{FrameLeave}
 use Rattle.un_rect.specs.Operands.{Side}
 use Rattle.un_rect.specs.declared.clobber.ClobberCall.{ClobberCall}
 use Rattle.un_slots.specs.declared.item.Item.{Item}
-use Rattle.un_post.specs.Constraints.{Constraint, Before, Reads, Inside, Last, Below, Chosen, Zeros, Spaces, Same, Home, Frame}
+use Rattle.un_post.specs.Constraints.{Before, Reads, Inside, Last, Below, Chosen, Zeros, Spaces, Same, Home, Frame}
 use Rattle.un_post.specs.Constraints.{Apart, Clobber, Operands, PerCycle}
 use Rattle.un_post.specs.Postings.{postings_of}
 use Rattle.un_post.specs.Befores.{befores_of}
 use Rattle.un_post.specs.Rooms.{aparts_of, clobbers_of, packets_of, twos_of}
-use Rattle.tests_model.proofs.WorkedModel.{model, names, temps, reads, op, source}
+use Rattle.tests_model.proofs.WorkedModel.{model, names, reads, op, source}
 
 -- ---- variables, times, activities
 

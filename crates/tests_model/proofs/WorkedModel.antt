@@ -35,7 +35,7 @@ use Rattle.un_model.specs.Variables.{model_of}
 abbrev pub names : List ℕ → List NameId
 names ns = map (λ (n : ℕ). let name : NameId = record { 0 = n } in name) ns
 
-abbrev pub temps : List ℕ → List TempId
+abbrev temps : List ℕ → List TempId
 temps ns = map (λ (n : ℕ). let temp : TempId = record { 0 = n } in temp) ns
 
 abbrev pub reads : List ℕ → Option Reg → Operand

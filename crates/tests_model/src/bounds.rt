@@ -22,7 +22,7 @@ use un_prop::propagator::Scratch;
 use un_reader::read::read_function;
 
 /// A loop of two loads, a product of what they give and a sum: its packets are at 1, 3 and 5 at the earliest.
-static DOT: &[u8] = b"func dot %x %y %n
+pub(crate) static DOT: &[u8] = b"func dot %x %y %n
 block entry freq 1
   %s = imm #0
 block loop freq 100
@@ -40,7 +40,7 @@ block exit freq 1
 ";
 
 /// Five constants and their sum, in steps of two: four steps one after another.
-static FULL: &[u8] = b"func s
+pub(crate) static FULL: &[u8] = b"func s
 block e freq 1
   %a = imm #1
   %b = imm #2
@@ -55,7 +55,7 @@ block e freq 1
 ";
 
 /// Sixteen loads before a call, and a sum of sixteen steps behind it.
-static LOADS: &[u8] = b"func w %x
+pub(crate) static LOADS: &[u8] = b"func w %x
 block e freq 1
   %v0 = load %x, #0
   %v1 = load %x, #4
@@ -94,7 +94,7 @@ block e freq 1
 ";
 
 /// A call whose result is read, and a return in the cycle of that.
-static CALL: &[u8] = b"func c %a
+pub(crate) static CALL: &[u8] = b"func c %a
 block e freq 1
   %r = call h %a
   %s = add %r, %a
@@ -102,7 +102,7 @@ block e freq 1
 ";
 
 /// A call beside a return.
-static EXCHANGE: &[u8] = b"func x %a %b
+pub(crate) static EXCHANGE: &[u8] = b"func x %a %b
 block e freq 1
   call h %b, %a
   ret

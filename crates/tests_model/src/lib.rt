@@ -8,6 +8,8 @@ mod cases;
 #[cfg(test)]
 mod orders;
 #[cfg(test)]
+mod posts;
+#[cfg(test)]
 mod tests;
 #[cfg(test)]
 mod ways;
