@@ -1,6 +1,6 @@
 -- Calls of a temporary that has some register left outside the mask.
-use Rattle.std.proofs.Common.{ℕ, zero, suc, ◌≡◌, ◌≢◌, ◌<◌, Bool, true, false, not, ◌&&◌, List, [], ◌∷◌, length, filter, nat_eq, nat_le, nat_lt, cond}
-use Rattle.std.proofs.Common.{None, Some, option_and_then, refl, sym, ap, ◌∙◌, subst, arith}
+use Rattle.std.proofs.Common.{ℕ, zero, suc, ◌≡◌, ◌≢◌, ◌<◌, Bool, true, false, not, ◌&&◌, List, [], ◌∷◌, length, filter, nat_eq, nat_le, nat_lt}
+use Rattle.std.proofs.Common.{cond, None, Some, option_and_then, refl, sym, ap, ◌∙◌, subst, arith}
 use Rattle.std.specs.declared.option.Option.{Option}
 use Rattle.std.specs.List.{list_any, AllByRecursion}
 use Rattle.std.proofs.lemmas.Bool.Decides.{nat_tests}
@@ -89,9 +89,12 @@ module _ (vs : List VarId) (mask : ℕ) (a : Temp) (c : ClobberCall) (ha : TempV
         (sym (get_or-set_same s a.reg.0 (filter (hit_test mask a c s) (set_at s a.reg.0)) [] within))
         (any_more (λ r. not (in_mask mask r)) (λ r. not (in_mask mask r)) (set_at s a.reg.0)
         (filter (hit_test mask a c s) (set_at s a.reg.0))
-        (λ y h out. (has-filter (hit_test mask a c s) y (set_at s a.reg.0)
-        ∙ both (hit_test mask a c s y) (has (set_at s a.reg.0) y) (passes_unmet _ (no_left (in_mask mask y) _ (of_not (in_mask mask y) out)))
-        h, out)) alive)
+        (λ y h out. (let here = passes_unmet _ (no_left (in_mask mask y) _ (of_not (in_mask mask y) out)) in (
+          has-filter (hit_test mask a c s) y (set_at s a.reg.0)
+              ∙ both (hit_test mask a c s y) (has (set_at s a.reg.0) y) here
+              h,
+          out,
+        ))) alive)
       where
         of_not : (b : Bool) → not b ≡ true → b ≡ false
         of_not false e = refl
