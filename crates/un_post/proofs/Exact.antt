@@ -70,7 +70,7 @@ any_first : (v y : ℕ) (ys : List ℕ) (b : Bool) → nat_eq v y ≡ b → (lis
 any_first v y ys true e rest t = inl (grind (arith, nat_tests, e))
 any_first v y ys false e rest t = inr (rest t)
 
-any_equal : (v : ℕ) (xs : List ℕ) → list_any (nat_eq v) xs ≡ true → Member v xs
+pub any_equal : (v : ℕ) (xs : List ℕ) → list_any (nat_eq v) xs ≡ true → Member v xs
 any_equal v [] h = absurd (cc h)
 any_equal v (y ∷ ys) h = any_first v y ys (nat_eq v y) refl (λ t. any_equal v ys t) h
 

@@ -22,6 +22,7 @@ pub mod LeastValues
 pub mod Limits
 pub mod Marking
 pub mod Meeting
+pub mod ModelDomains
 pub mod Memory
 pub mod NoSharing
 pub mod OfPlaces
@@ -32,6 +33,9 @@ pub mod Pairing
 pub mod Parts
 pub mod Placing
 pub mod Posted
+pub mod Reading
+pub mod ReadingModel
+pub mod Ready
 pub mod Regions
 pub mod RegisterBounds
 pub mod Relaxed

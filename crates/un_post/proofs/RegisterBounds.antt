@@ -33,28 +33,28 @@ use Rattle.un_post.proofs.SpaceSets.{general, predicate}
 
 -- ---- runs
 
-run_below : (a n r : ℕ) → Member r (range_with_len a n) → r < a + n
+pub run_below : (a n r : ℕ) → Member r (range_with_len a n) → r < a + n
 run_below a zero r m = elim m [ ]
 run_below a (suc n) r (inl e) = omega arith
 run_below a (suc n) r (inr m) = let k = run_below (a + 1) n r m in omega arith
 
-run_from : (a n r : ℕ) → Member r (range_with_len a n) → a ≤ r
+pub run_from : (a n r : ℕ) → Member r (range_with_len a n) → a ≤ r
 run_from a zero r m = elim m [ ]
 run_from a (suc n) r (inl e) = omega arith
 run_from a (suc n) r (inr m) = let k = run_from (a + 1) n r m in omega arith
 
-abbrev Below : ℕ → List ℕ → Type 0
+abbrev pub Below : ℕ → List ℕ → Type 0
 Below n rs = Each (λ r. r < n) rs
 
-below_more : (n m : ℕ) (rs : List ℕ) → n ≤ m → Below n rs → Below m rs
+pub below_more : (n m : ℕ) (rs : List ℕ) → n ≤ m → Below n rs → Below m rs
 below_more n m rs le h = each_more (λ r. r < n) (λ r. r < m) rs (λ r lt. omega arith) h
 
 -- ---- homes
 
-abbrev HomeBelow : Option Reg → Type 0
+abbrev pub HomeBelow : Option Reg → Type 0
 HomeBelow home = IfSome home (λ (r : Reg). r.0 < 32)
 
-saved_below : (t : Table) → Below 32 (saved_registers t)
+pub saved_below : (t : Table) → Below 32 (saved_registers t)
 unfolding callee_saved
 saved_below t = each_join (λ r. r < 32) (callee_saved t) (31 ∷ [])
     (each_of (λ r. r < 32) (callee_saved t) (λ r m. let s = member_of_filter (in_mask t.saved) (range_with_len 0 32) r m in let k =
@@ -79,7 +79,7 @@ args_below t fit = subst (Below 32) (sym fit.args) (
   ),
 )
 
-start_below : (t : Table) (ie : Bool) (live : List NameId) (j : ℕ) (x : Option NameId) → IsFit t → HomeBelow (start_home t ie live j x)
+pub start_below : (t : Table) (ie : Bool) (live : List NameId) (j : ℕ) (x : Option NameId) → IsFit t → HomeBelow (start_home t ie live j x)
 start_below t ie live j None fit = get_below (saved_registers t) (j - length live) (saved_below t)
 start_below t true live j (Some name) fit = index_below t.args name.0 (args_below t fit)
 start_below t false live j (Some name) fit = tt
@@ -88,21 +88,21 @@ homes_below : (home : Option Reg) → HomeBelow home → Below 32 (map (λ (r : 
 homes_below None h = tt
 homes_below (Some r) h = (h, tt)
 
-result_below : (t : Table) → IsFit t → t.result < 32
+pub result_below : (t : Table) → IsFit t → t.result < 32
 result_below t fit = let z = fit.result in omega arith
 
 -- ---- sets
 
-general_below : (e : Ext) (o : Options) (ie : Bool) (block : ExtBlock) (x : TempId) → Below 32 (general_registers e o.regs ie block x)
+pub general_below : (e : Ext) (o : Options) (ie : Bool) (block : ExtBlock) (x : TempId) → Below 32 (general_registers e o.regs ie block x)
 unfolding general_registers
 general_below e o ie block x = each_of (λ r. r < 32) (general_registers e o.regs ie block x) (λ r m.
     let s = member_of_filter (λ (r : ℕ). is_assignable o.regs r || is_home e.table ie block x r) (range_with_len 0 32) r m in
     let k = run_below 0 32 r s.0 in omega arith)
 
-predicates_below : Below 36 predicate_registers
+pub predicates_below : Below 36 predicate_registers
 predicates_below = (omega arith, (omega arith, (omega arith, (omega arith, tt))))
 
-values_below : (e : Ext) (o : Options) (ie : Bool) (block : ExtBlock) (x : TempId)
+pub values_below : (e : Ext) (o : Options) (ie : Bool) (block : ExtBlock) (x : TempId)
     → Below (36 + o.slots) (value_registers e o.regs o.slots ie block x)
 values_below e o ie block x =
     let most = 36 + o.slots in
@@ -117,7 +117,7 @@ values_below e o ie block x =
     go most le true = below_more 36 most predicate_registers le predicates_below
     go most le false = tt
 
-zero_below : (n : ℕ) (rs : List ℕ) → 0 < n → Below n rs → Below n (with_zero rs)
+pub zero_below : (n : ℕ) (rs : List ℕ) → 0 < n → Below n rs → Below n (with_zero rs)
 zero_below n [] pos h = (pos, tt)
 zero_below n (r ∷ rs) pos h = go (r == 0)
   where

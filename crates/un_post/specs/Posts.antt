@@ -1,13 +1,16 @@
--- What posting gives: exactly the solutions that cost less than the limit.
-use Rattle.std.specs.Prelude.{ℕ, ◌≡◌, ◌<◌, ◌↔◌, true, List, Option, IfSome, All, map, fold, max}
-use Rattle.un_domains.specs.Sets.{Sets, IsIn}
+-- What posting gives: exactly the solutions that cost less than the limit, and a failure of rounds where there is no relaxed one.
+use Rattle.std.specs.Prelude.{ℕ, ◌≡◌, ◌<◌, ◌≤◌, ◌↔◌, true, List, Option, None, IfSome, All, length, map, fold, max}
+use Rattle.un_domains.specs.Order.{Below}
+use Rattle.un_domains.specs.Sets.{Sets, IsIn, NoneEmpty}
 use Rattle.un_ir.specs.declared.extended.ExtBlock.{ExtBlock}
 use Rattle.un_model.specs.declared.model.Model.{Model}
 use Rattle.un_model.specs.declared.model.Solution.{Solution}
 use Rattle.un_model.specs.Cost.{cost_of}
 use Rattle.un_model.specs.Solutions.{IsSolution}
 use Rattle.un_model.specs.Variables.{own_horizon}
-use Rattle.un_post.specs.AnyProps.{holds_of}
+use Rattle.un_prop.specs.Rounds.{HasVars, fix_of}
+use Rattle.un_bound.specs.Relaxations.{Times, IsMemberUnder}
+use Rattle.un_post.specs.AnyProps.{scope_of, holds_of, cut_of, span_of}
 use Rattle.un_post.specs.declared.any.AnyProp.{AnyProp}
 
 -- a solution that costs less than a limit, where there is one
@@ -25,3 +28,20 @@ IsExact m limit s ps = (x : List ℕ) → IsCheaper m limit (record { values = x
 -- the largest horizon of the blocks
 abbrev pub largest_horizon : List ExtBlock → ℕ
 largest_horizon blocks = fold max 0 (map own_horizon blocks)
+
+-- a propagator reads variables of the store alone
+abbrev pub ReadsFrom : Sets → AnyProp → Type 0
+ReadsFrom s p = HasVars (scope_of p) s
+
+-- one that reads no variable holds
+abbrev pub IsGrounded : AnyProp → Type 0
+IsGrounded p = length (scope_of p) ≡ 0 → (x : List ℕ) → holds_of p x ≡ true
+
+-- it counts over no more cycles than these
+abbrev pub SpansAtMost : ℕ → AnyProp → Type 0
+SpansAtMost horizon p = span_of p ≤ horizon
+
+-- on each store within the first one, rounds fail where its relaxation under the limit has no member
+unfoldable pub FailsWhereEmpty : Model → Option ℕ → Sets → List AnyProp → Type 0
+FailsWhereEmpty m limit first ps = (s : Sets) → Below s first → NoneEmpty s → ((times : List Times) → IsMemberUnder limit m s times → ⊥)
+    → fix_of cut_of ps s ≡ None

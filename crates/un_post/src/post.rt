@@ -1,19 +1,31 @@
 //! What is posted for a model: a store and propagators that all hold for exactly the solutions that cost less than a limit.
 
-ghost use Rattle.std.specs.Prelude.{◌≡◌, ℕ, [], All, IfOk, Option, map};
+ghost use Rattle.std.specs.Prelude.{◌≡◌, [], ◌++◌, All, IfOk, OnOk, Option, map};
 ghost use Rattle.un_isa.specs.Fit.{IsFit};
-ghost use Rattle.un_domains.specs.Domains.{IsDomain, values_of};
+ghost use Rattle.un_domains.specs.Domains.{values_of};
+ghost use Rattle.un_domains.specs.Sets.{NoneEmpty};
 ghost use Rattle.un_ir.specs.Extended.{IsExtended};
 ghost use Rattle.un_model.specs.Options.{AreOptions};
 ghost use Rattle.un_model.specs.Variables.{IsModel};
 ghost use Rattle.un_post.specs.AnyProps.{constraint_of};
 ghost use Rattle.un_post.specs.Befores.{all_postings_of};
-ghost use Rattle.un_post.specs.Posts.{IsExact, largest_horizon};
+ghost use Rattle.un_post.specs.Places.{definers_of, places_of};
+ghost use Rattle.un_post.specs.Posts.{IsExact, ReadsFrom, IsGrounded, SpansAtMost, FailsWhereEmpty, largest_horizon};
+ghost use Rattle.un_post.specs.Rooms.{rooms_of};
 ghost use Rattle.un_post.specs.Scopes.{IsTight};
+ghost use Rattle.un_post.specs.Sites.{place_of, definers_in};
 
 use crate::any::AnyProp;
+use crate::post_aparts::post_aparts;
+use crate::post_arcs::post_arcs;
+use crate::post_clobbers::post_clobbers;
+use crate::post_packets::post_packets;
+use crate::post_single::post_single;
 use crate::post_store::{largest_horizon, store_of};
+use crate::post_twos::post_twos;
 use crate::props::Props;
+use crate::sites::{Site, Spot};
+use crate::tables::{all_sites, all_spots};
 use std::alloc::Global;
 use un_base::memory_error::NoMemory;
 use un_domains::store::Store;
@@ -28,18 +40,15 @@ pub struct Posted {
 }
 
 /// The store and the horizon of a model, with propagators for it.
-#[tactic(auto, using(crate::proofs::ExactProps::exact_props))]
-pub fn with_store(alloc: Global, m: &Model, props: Props) -> Result<Posted, NoMemory>
+#[tactic(auto, using(crate::proofs::ModelDomains::domains_are))]
+fn with_store(alloc: Global, m: &Model, props: Props) -> Result<Posted, NoMemory>
     requires model { IsModel m.now }
     requires extended { IsExtended m.now.ext }
     requires fit { IsFit m.now.ext.table }
     requires options { AreOptions m.now.options }
-    requires domains { All IsDomain m.now.domains }
     ensures asks { IfOk result (λ p. map constraint_of p.props.items ≡ props) }
     ensures sets { IfOk result (λ p. p.store.sets ≡ map values_of m.now.domains) }
     ensures marked { IfOk result (λ p. p.store.marked ≡ []) }
-    ensures exact { IfOk result (λ p. (limit : Option ℕ) → props ≡ all_postings_of m.now limit
-        → IsExact m.now limit p.store.sets p.props.items) }
     ensures horizon { IfOk result (λ p. p.horizon ≡ largest_horizon m.now.ext.blocks) }
     ensures tight { IfOk result (λ p. All IsTight p.props.items) }
 {
@@ -50,4 +59,98 @@ pub fn with_store(alloc: Global, m: &Model, props: Props) -> Result<Posted, NoMe
         store,
         horizon,
     })
+}
+
+/// What is posted of registers, calls, packets and two operands of a model, of which these are the tables.
+#[tactic(auto, using(crate::proofs::Appends::four_added))]
+fn post_rooms(
+    props: &mut Props,
+    m: &Model,
+    sites: &[Site<'_>],
+    spots: &[Spot<'_>],
+) -> Result<(), NoMemory>
+    requires sites { definers_in sites.now ≡ definers_of m.now }
+    requires spots { map place_of spots.now ≡ places_of m.now }
+    ensures { OnOk result (props.new ≡ props.old ++ rooms_of m.now) }
+{
+    post_aparts(props, m, sites)?;
+    post_clobbers(props, m, sites)?;
+    post_packets(props, m)?;
+    post_twos(props, m, sites, spots)?;
+    Ok(())
+}
+
+/// All that is posted for a model, of which these are the tables.
+#[tactic(auto, using(crate::proofs::Appends::three_added))]
+fn post_each(
+    props: &mut Props,
+    m: &Model,
+    limit: Option<u64>,
+    sites: &[Site<'_>],
+    spots: &[Spot<'_>],
+) -> Result<(), NoMemory>
+    requires sites { definers_in sites.now ≡ definers_of m.now }
+    requires spots { map place_of spots.now ≡ places_of m.now }
+    ensures { OnOk result (props.new ≡ props.old ++ all_postings_of m.now limit) }
+{
+    post_single(props, m, limit, sites, spots)?;
+    post_arcs(props, m, spots)?;
+    post_rooms(props, m, sites, spots)?;
+    Ok(())
+}
+
+/// The propagators of a model, of which these are the tables.
+fn with_tables(
+    alloc: Global,
+    m: &Model,
+    limit: Option<u64>,
+    sites: &[Site<'_>],
+    spots: &[Spot<'_>],
+) -> Result<Props, NoMemory>
+    requires sites { definers_in sites.now ≡ definers_of m.now }
+    requires spots { map place_of spots.now ≡ places_of m.now }
+    ensures { IfOk result (λ ps. ps ≡ all_postings_of m.now limit) }
+{
+    let mut props = Props::new(alloc);
+    post_each(&mut props, m, limit, sites, spots)?;
+    Ok(props)
+}
+
+/// The propagators of a model.
+fn all_props(alloc: Global, m: &Model, limit: Option<u64>) -> Result<Props, NoMemory>
+    ensures { IfOk result (λ ps. ps ≡ all_postings_of m.now limit) }
+{
+    let spots = all_spots(alloc, m)?;
+    let sites = all_sites(alloc, spots.as_slice(), m.temps.as_slice())?;
+    let props = with_tables(alloc, m, limit, sites.as_slice(), spots.as_slice())?;
+    Ok(props)
+}
+
+/// What is posted for a model under a limit on the cost, or none. It fails where memory is short, or where there are more
+/// variables or operations than numbers below 2^32.
+#[tactic(auto, using(crate::proofs::ExactProps::exact_props, crate::proofs::Ready::posted_reads, crate::proofs::Ready::posted_live, crate::proofs::Ready::posted_grounded, crate::proofs::Ready::posted_spans, crate::proofs::Ready::posted_fails))]
+pub fn post(alloc: Global, m: &Model, limit: Option<u64>) -> Result<Posted, NoMemory>
+    requires model { IsModel m.now }
+    requires extended { IsExtended m.now.ext }
+    requires fit { IsFit m.now.ext.table }
+    requires options { AreOptions m.now.options }
+    ensures asks { IfOk result (λ p. map constraint_of p.props.items ≡ all_postings_of m.now limit) }
+    ensures sets { IfOk result (λ p. p.store.sets ≡ map values_of m.now.domains) }
+    ensures marked { IfOk result (λ p. p.store.marked ≡ []) }
+
+    // The solutions below the limit are exactly the assignments of the store for which all propagators hold.
+    ensures exact { IfOk result (λ p. IsExact m.now limit p.store.sets p.props.items) }
+
+    // Rounds may begin on the store, and fail on each within it where the relaxation under the limit has no member.
+    ensures live { IfOk result (λ p. NoneEmpty p.store.sets) }
+    ensures reads { IfOk result (λ p. All (ReadsFrom p.store.sets) p.props.items) }
+    ensures tight { IfOk result (λ p. All IsTight p.props.items) }
+    ensures grounded { IfOk result (λ p. All IsGrounded p.props.items) }
+    ensures horizon { IfOk result (λ p. p.horizon ≡ largest_horizon m.now.ext.blocks) }
+    ensures spans { IfOk result (λ p. All (SpansAtMost p.horizon) p.props.items) }
+    ensures fails { IfOk result (λ p. FailsWhereEmpty m.now limit p.store.sets p.props.items) }
+{
+    let props = all_props(alloc, m, limit)?;
+    let posted = with_store(alloc, m, props)?;
+    Ok(posted)
 }
