@@ -9,17 +9,18 @@ use Rattle.un_isa.specs.declared.instr.Instr.{Instr}
 use Rattle.un_isa.specs.declared.op.Op.{Op}
 use Rattle.un_isa.specs.declared.op.Op.TheVariants.{Add}
 use Rattle.un_isa.specs.Facts.{operand_spaces}
+use Rattle.un_isa.specs.PacketCounts.{share_of}
+use Rattle.un_isa.specs.declared.packet_counts.Resource.{Resource}
 use Rattle.un_packet.specs.CodeRules.{needs_of, number}
-use Rattle.un_listing.specs.declared.needs.Resource.{Resource}
-use Rattle.un_listing.specs.Needed.{need_of, counts_from, is_distinct}
+use Rattle.un_listing.specs.Needed.{counts_from, is_distinct}
 
 pub totals_fit : (resource : Resource) (instrs : List Instr)
-    → sum_by (need_of resource) (map needs_of instrs) ≡ sum_by (λ (i : Instr). need_of resource (needs_of i)) instrs
+    → sum_by (share_of resource) (map needs_of instrs) ≡ sum_by (λ (i : Instr). share_of resource (needs_of i)) instrs
 totals_fit resource [] = refl
 totals_fit resource (i ∷ is) =
-    sum_by-cons (need_of resource) (needs_of i) (map needs_of is)
-    ∙ ap (λ n. need_of resource (needs_of i) + n) (totals_fit resource is)
-    ∙ sym (sum_by-cons (λ (i : Instr). need_of resource (needs_of i)) i is)
+    sum_by-cons (share_of resource) (needs_of i) (map needs_of is)
+    ∙ ap (λ n. share_of resource (needs_of i) + n) (totals_fit resource is)
+    ∙ sym (sum_by-cons (λ (i : Instr). share_of resource (needs_of i)) i is)
 
 -- a test that passes exactly where P holds
 decided : (b : Bool) (P : Type 0) → (b ≡ true → P) → (P → b ≡ true) → IsTrue b ↔ P
