@@ -1,7 +1,7 @@
 -- What Chosen looks at.
-use Rattle.std.proofs.Common.{ℕ, ◌≡◌, ◌<◌, ◌≤◌, Bool, true, not, ◌||◌, List, [], ◌∷◌, All, get_or, nat_eq, nat_lt, ap, arith, ◌∙◌}
+use Rattle.std.proofs.Common.{ℕ, ◌≡◌, ◌≤◌, Bool, true, not, ◌||◌, List, [], ◌∷◌, get_or, nat_eq, nat_lt, ap, arith, ◌∙◌}
 use Rattle.std.proofs.lemmas.Bool.Decides.{nat_tests}
-use Rattle.un_domains.specs.Sets.{Sets, greatest, IsIn, NoneEmpty}
+use Rattle.un_domains.specs.Sets.{Sets, greatest, IsIn}
 use Rattle.un_domains.specs.SetLaws.{has-fold_max}
 use Rattle.un_domains.specs.Order.{Below}
 use Rattle.un_domains.specs.OrderLaws.{greatest_below}
@@ -11,7 +11,7 @@ use Rattle.un_prop.specs.Looks.{act_set}
 use Rattle.un_prop.specs.LookLaws.{or_not, act_alike, number_in}
 use Rattle.un_prop.specs.PlaceLaws.{entries_lawful}
 use Rattle.un_prop.specs.declared.act.Act.TheVariants.{Always, Var}
-use Rattle.std.proofs.lemmas.List.Elements.{recursion_from_All, All-from_recursion}
+use Rattle.std.proofs.lemmas.List.Elements.{recursion_from_All}
 use Rattle.std.specs.List.{AllByRecursion}
 use Rattle.un_base.specs.declared.ids.VarId.{VarId}
 use Rattle.un_prop.specs.Among.{AllAmong}

@@ -1,10 +1,10 @@
 -- Laws of filters of a choice that may be missing.
-use Rattle.std.proofs.Common.{ℕ, zero, suc, ◌≡◌, ◌<◌, Bool, true, false, List, [], ◌∷◌, length, get_or, None, Some, option_and_then, All}
-use Rattle.std.proofs.Common.{refl, ap, arith}
+use Rattle.std.proofs.Common.{ℕ, zero, suc, ◌≡◌, Bool, true, List, [], ◌∷◌, get_or, None, Some, option_and_then}
+use Rattle.std.proofs.Common.{refl, arith}
 use Rattle.std.specs.declared.option.Option.{Option}
 use Rattle.std.specs.List.{Contains}
 use Rattle.un_base.specs.declared.ids.VarId.{VarId}
-use Rattle.un_domains.specs.Sets.{Sets, IsIn, NoneEmpty, Kept}
+use Rattle.un_domains.specs.Sets.{Sets, IsIn, Kept}
 use Rattle.un_prop.specs.Rounds.{HasVars}
 use Rattle.un_prop.specs.Parts.{Part, SameAt, ChecksForward}
 use Rattle.un_prop.specs.PartLaws.{one_part, lawful_checked, keeps_checked, forward_checked}

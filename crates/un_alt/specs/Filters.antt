@@ -1,5 +1,5 @@
 -- Filters of a choice that may be missing.
-use Rattle.std.specs.Prelude.{ℕ, Bool, List, None, Some}
+use Rattle.std.specs.Prelude.{ℕ, Bool, None, Some}
 use Rattle.std.specs.declared.option.Option.{Option}
 use Rattle.un_base.specs.declared.ids.VarId.{VarId}
 use Rattle.un_domains.specs.Sets.{Sets}

@@ -1,5 +1,5 @@
 -- Frame: the flag, Enter and Leave agree with the use of the frame.
-use Rattle.std.specs.Prelude.{ℕ, ◌≡◌, ◌+◌, Bool, true, cond, not, ◌&&◌, ◌||◌, List, nat_eq, nat_le, nat_lt, slice_index, All}
+use Rattle.std.specs.Prelude.{ℕ, ◌≡◌, Bool, true, cond, not, ◌&&◌, ◌||◌, List, nat_eq, nat_le, nat_lt, slice_index, All}
 use Rattle.std.specs.List.{list_any, list_all}
 use Rattle.un_base.specs.declared.ids.VarId.{VarId}
 use Rattle.un_isa.specs.declared.reg.TheConstants.{FIRST_SLOT}

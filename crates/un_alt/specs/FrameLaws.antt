@@ -1,5 +1,5 @@
 -- What Frame looks at.
-use Rattle.std.proofs.Common.{ℕ, ◌≡◌, ◌+◌, ◌∙◌, Bool, true, cond, not, ◌&&◌, ◌||◌, List, [], ◌∷◌, get_or, nat_eq, nat_le, nat_lt, All, refl}
+use Rattle.std.proofs.Common.{ℕ, ◌≡◌, ◌∙◌, Bool, true, cond, not, ◌&&◌, ◌||◌, List, [], ◌∷◌, get_or, nat_eq, nat_le, nat_lt, All, refl}
 use Rattle.std.proofs.Common.{ap}
 use Rattle.std.specs.List.{AllByRecursion, list_any, list_all}
 use Rattle.std.proofs.lemmas.List.Elements.{recursion_from_All}
@@ -8,7 +8,6 @@ use Rattle.un_isa.specs.declared.reg.TheConstants.{FIRST_SLOT}
 use Rattle.un_prop.specs.Parts.{SameAt}
 use Rattle.un_prop.specs.Among.{among, AllAmong}
 use Rattle.un_prop.specs.AmongLaws.{same_var, same_number}
-use Rattle.un_prop.specs.Acts.{act_number}
 use Rattle.un_alt.specs.declared.frame.FrameOp.{FrameOp}
 use Rattle.un_alt.specs.declared.frame.FrameUse.{FrameUse}
 use Rattle.un_alt.specs.declared.frame.FrameLeave.{FrameLeave}

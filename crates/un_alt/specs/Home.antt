@@ -1,5 +1,5 @@
 -- A preassigned operand or result.
-use Rattle.std.specs.Prelude.{ℕ, ◌≡◌, Bool, List, nat_eq, Option}
+use Rattle.std.specs.Prelude.{ℕ, Bool, List, nat_eq, Option}
 use Rattle.un_base.specs.declared.ids.VarId.{VarId}
 use Rattle.un_domains.specs.Sets.{Sets, set_at, has}
 use Rattle.un_prop.specs.Choices.{passes_at}

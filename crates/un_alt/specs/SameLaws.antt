@@ -1,29 +1,26 @@
 -- What Same looks at.
-use Rattle.std.proofs.Common.{ℕ, ◌≡◌, ◌<◌, ◌∙◌, Bool, true, false, not, ◌&&◌, ◌||◌, List, [], ◌∷◌, get_or, nat_eq, All, refl, sym, subst}
+use Rattle.std.proofs.Common.{ℕ, ◌≡◌, ◌∙◌, true, List, get_or, nat_eq, sym, subst}
 use Rattle.std.proofs.Common.{arith, ap}
-use Rattle.std.specs.declared.option.Option.{Option}
 use Rattle.std.specs.List.{AllByRecursion}
 use Rattle.std.proofs.lemmas.List.Elements.{recursion_from_All}
 use Rattle.std.proofs.lemmas.Bool.Decides.{nat_tests}
 use Rattle.std.specs.List.{list_any}
-use Rattle.un_domains.specs.Sets.{Sets, set_at, has, IsIn, NoneEmpty}
+use Rattle.un_domains.specs.Sets.{Sets, set_at, has, IsIn}
 use Rattle.un_domains.specs.OrderLaws.{has_below}
 use Rattle.un_prop.specs.Rounds.{HasVars}
-use Rattle.un_prop.specs.Acts.{act_number, is_active}
+use Rattle.un_prop.specs.Acts.{is_active}
 use Rattle.un_prop.specs.Lawful.{LawfulTest}
-use Rattle.un_prop.specs.Looks.{act_set}
-use Rattle.un_prop.specs.LookLaws.{or_not, set_alike, act_alike, act_below, number_in}
+use Rattle.un_prop.specs.LookLaws.{set_alike}
 use Rattle.un_prop.specs.AmongLaws.{has_among}
-use Rattle.un_prop.specs.ChoiceLaws.{passes_more, always}
+use Rattle.un_prop.specs.ChoiceLaws.{passes_more}
 use Rattle.un_prop.specs.SomewhereLaws.{any_more, any_has}
 use Rattle.un_prop.specs.PlaceLaws.{entries_lawful}
-use Rattle.un_prop.specs.declared.act.Act.{Act}
 use Rattle.un_prop.specs.declared.act.Act.TheVariants.{Always}
 use Rattle.un_alt.specs.FilterLaws.{some_at}
 use Rattle.un_base.specs.declared.ids.VarId.{VarId}
 use Rattle.un_prop.specs.Parts.{SameAt}
-use Rattle.un_prop.specs.Among.{among, AllAmong}
-use Rattle.un_prop.specs.AmongLaws.{same_var, same_active, same_number}
+use Rattle.un_prop.specs.Among.{among}
+use Rattle.un_prop.specs.AmongLaws.{same_var}
 use Rattle.std.proofs.Common.{Some}
 use Rattle.un_alt.specs.Registers.{chosen_value, some_passes}
 use Rattle.un_alt.specs.RegisterLaws.{chosen_alike, one_among}

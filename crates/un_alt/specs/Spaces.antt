@@ -1,5 +1,5 @@
 -- The registers of an active operand or result lie in the set that its activity's number names.
-use Rattle.std.specs.Prelude.{ℕ, ◌≡◌, Bool, not, ◌||◌, List, Option}
+use Rattle.std.specs.Prelude.{ℕ, Bool, not, ◌||◌, List, Option}
 use Rattle.un_base.specs.declared.ids.VarId.{VarId}
 use Rattle.std.specs.List.{list_any}
 use Rattle.un_domains.specs.Sets.{Sets, set_at, has}

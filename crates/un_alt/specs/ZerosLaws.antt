@@ -1,12 +1,11 @@
 -- What Zeros looks at.
-use Rattle.std.proofs.Common.{ℕ, ◌≡◌, ◌<◌, ◌∙◌, Bool, true, false, not, ◌&&◌, ◌||◌, List, [], ◌∷◌, get_or, nat_eq, All, refl, ap}
-use Rattle.std.specs.declared.option.Option.{Option}
+use Rattle.std.proofs.Common.{ℕ, ◌≡◌, ◌∙◌, Bool, true, not, ◌&&◌, ◌||◌, List, [], ◌∷◌, get_or, nat_eq, refl, ap}
 use Rattle.std.specs.List.{AllByRecursion}
 use Rattle.std.proofs.lemmas.List.Elements.{recursion_from_All}
 use Rattle.un_base.specs.declared.ids.VarId.{VarId}
 use Rattle.un_prop.specs.Parts.{SameAt}
-use Rattle.un_prop.specs.Among.{among, AllAmong}
-use Rattle.un_prop.specs.AmongLaws.{same_var, same_active, same_number}
+use Rattle.un_prop.specs.Among.{among}
+use Rattle.un_prop.specs.AmongLaws.{same_var}
 use Rattle.un_alt.specs.Zeros.{all_zero, zeros_holds, ZerosVars}
 
 pub zeros_looks : (vs : List VarId) (instr : VarId) (others : List VarId) → ZerosVars vs instr others → (x y : List ℕ) → SameAt vs x y

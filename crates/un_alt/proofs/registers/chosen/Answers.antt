@@ -1,5 +1,5 @@
-use Rattle.std.proofs.Common.{ℕ, ◌∙◌, sym, ap, Some, None, get_or}
-use Rattle.un_alt.specs.Registers.{place_of, value_at}
+use Rattle.std.proofs.Common.{ℕ, ◌∙◌, sym, ap, Some}
+use Rattle.un_alt.specs.Registers.{value_at}
 use Rattle.un_alt.specs.RegisterLaws.{value_within, value_past}
 use Rattle.un_alt.proofs.registers.chosen.Goals as goal
 

@@ -1,4 +1,4 @@
-use Rattle.std.proofs.Common.{ℕ, ◌≡◌, ◌<◌, ◌∙◌, Bool, false, sym, arith, inl, inr}
+use Rattle.std.proofs.Common.{◌<◌, ◌∙◌, sym, arith, inl, inr}
 use Rattle.un_domains.specs.Sets.{set_at, has, greatest}
 use Rattle.un_prop.specs.SomewhereLaws.{any_none, any_whole, any_has, none_next}
 use Rattle.un_alt.proofs.same.meet.Goals as goal

@@ -1,6 +1,5 @@
 use Rattle.std.proofs.Common.{ℕ, List, ◌∙◌, sym, ap}
 use Rattle.un_domains.specs.Sets.{has}
-use Rattle.un_prop.specs.Choices.{passes_at}
 use Rattle.un_prop.specs.ChoiceLaws.{passes_within, passes_past}
 use Rattle.un_alt.proofs.spaces.is_in.Goals as goal
 

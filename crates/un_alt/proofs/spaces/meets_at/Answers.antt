@@ -1,4 +1,4 @@
-use Rattle.std.proofs.Common.{ℕ, List, ◌∙◌, sym, ap}
+use Rattle.std.proofs.Common.{◌∙◌, sym, ap}
 use Rattle.std.specs.List.{list_any}
 use Rattle.un_domains.specs.Sets.{set_at, has}
 use Rattle.un_prop.specs.ChoiceLaws.{passes_within, passes_past}

@@ -1,4 +1,4 @@
-use Rattle.std.proofs.Common.{ℕ, ◌≡◌, ◌<◌, ◌∙◌, Bool, false, sym, arith, inl, inr}
+use Rattle.std.proofs.Common.{◌<◌, ◌∙◌, sym, arith, inl, inr}
 use Rattle.std.specs.List.{list_any}
 use Rattle.un_domains.specs.Sets.{set_at, has, greatest}
 use Rattle.un_prop.specs.Choices.{passes_at}

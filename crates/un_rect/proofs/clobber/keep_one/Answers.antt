@@ -1,11 +1,10 @@
-use Rattle.std.proofs.Common.{◌≡◌, ◌≢◌, ◌∙◌, Some, sym, ap, subst}
+use Rattle.std.proofs.Common.{◌≢◌, ◌∙◌, Some, sym, ap, subst}
 use Rattle.std.specs.declared.option.Option.{Option}
-use Rattle.un_domains.specs.Sets.{Sets, NoneEmpty}
+use Rattle.un_domains.specs.Sets.{Sets}
 use Rattle.un_prop.specs.GoingLaws.{starts, stepped_then, join_failed}
 use Rattle.un_prop.specs.Pruning.{IsPrune, join}
-use Rattle.un_prop.specs.declared.propagator.Pruned.{Pruned}
 use Rattle.un_prop.specs.declared.propagator.Pruned.TheVariants.{Failed}
-use Rattle.un_rect.specs.Clobber.{call_steps, hit_cut}
+use Rattle.un_rect.specs.Clobber.{call_steps}
 use Rattle.un_rect.proofs.Survivors.{survivor_steps, survivor_left}
 use Rattle.un_rect.proofs.clobber.keep_one.Goals as goal
 

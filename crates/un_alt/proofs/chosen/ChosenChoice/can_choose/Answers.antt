@@ -1,4 +1,4 @@
-use Rattle.std.proofs.Common.{ℕ, List, ◌<◌, ◌∙◌, length, get_or, sym, subst, arith}
+use Rattle.std.proofs.Common.{List, get_or, sym, subst, arith}
 use Rattle.un_prop.specs.Acts.{act_vars}
 use Rattle.un_prop.specs.ChoiceLaws.{passes_past}
 use Rattle.un_prop.specs.LookLaws.{known_of}

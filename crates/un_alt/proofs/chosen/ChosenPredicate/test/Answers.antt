@@ -1,4 +1,4 @@
-use Rattle.std.proofs.Common.{ℕ, Bool, not, ◌||◌, ◌∙◌, sym, ap, get_or}
+use Rattle.std.proofs.Common.{Bool, not, ◌||◌, ◌∙◌, sym, ap, get_or}
 use Rattle.un_prop.specs.Acts.{is_active}
 use Rattle.un_prop.specs.Choices.{passes_at}
 use Rattle.un_prop.specs.ChoiceLaws.{passes_within, passes_past}

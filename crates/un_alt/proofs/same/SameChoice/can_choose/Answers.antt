@@ -1,9 +1,8 @@
-use Rattle.std.proofs.Common.{ℕ, ◌<◌, ◌∙◌, length, sym, ap, arith}
+use Rattle.std.proofs.Common.{sym, arith}
 use Rattle.un_base.specs.declared.ids.VarId.{VarId}
 use Rattle.un_domains.specs.Sets.{set_at, has}
 use Rattle.std.specs.List.{list_any}
 use Rattle.un_prop.specs.AmongLaws.{has_among}
-use Rattle.un_prop.specs.Choices.{passes_at}
 use Rattle.un_prop.specs.ChoiceLaws.{passes_past}
 use Rattle.un_alt.proofs.Entries.{known_at, entry_at}
 use Rattle.un_alt.proofs.same.SameChoice.can_choose.Goals as goal

@@ -1,6 +1,5 @@
 use Rattle.std.proofs.Common.{ℕ, List, Some, ◌≡◌, ◌∙◌, ap, subst, refl, option_and_then}
 use Rattle.un_base.specs.declared.ids.VarId.{VarId}
-use Rattle.un_domains.specs.Sets.{Sets}
 use Rattle.un_prop.specs.Last.{last_cut}
 use Rattle.un_prop.specs.Going.{Goes, Stepped}
 use Rattle.un_prop.specs.GoingLaws.{goes_chain}

@@ -1,10 +1,7 @@
-use Rattle.std.proofs.Common.{ℕ, ◌<◌, ◌∙◌, length, get_or, sym, ap, arith}
-use Rattle.un_base.specs.declared.ids.VarId.{VarId}
-use Rattle.un_domains.specs.Sets.{set_at, has}
+use Rattle.std.proofs.Common.{◌∙◌, get_or, sym, ap, arith}
 use Rattle.un_prop.specs.Acts.{act_vars}
 use Rattle.un_prop.specs.LookLaws.{known_of}
 use Rattle.un_alt.specs.Spaces.{may_lie}
-use Rattle.un_prop.specs.Choices.{passes_at}
 use Rattle.un_prop.specs.ChoiceLaws.{passes_past}
 use Rattle.un_alt.proofs.Entries.{known_at, entry_at}
 use Rattle.un_alt.proofs.spaces.SpacesChoice.can_choose.Goals as goal

@@ -1,16 +1,12 @@
-use Rattle.std.proofs.Common.{ℕ, List, Some, ◌≡◌, ◌∙◌, ap, subst, refl, option_and_then}
+use Rattle.std.proofs.Common.{ℕ, List, ◌≡◌, ◌∙◌, ap, subst, refl, option_and_then}
 use Rattle.un_base.specs.declared.ids.VarId.{VarId}
-use Rattle.un_domains.specs.Sets.{Sets}
 use Rattle.un_prop.specs.Last.{last_cut}
 use Rattle.un_prop.specs.Going.{Goes, Stepped}
 use Rattle.un_prop.specs.GoingLaws.{goes_chain}
 use Rattle.un_prop.specs.PartLaws.{checked}
 use Rattle.un_prop.specs.Places.{places_in}
-use Rattle.un_prop.specs.declared.act.Act.TheVariants.{Always}
 use Rattle.un_prop.specs.declared.propagator.Pruned.TheVariants.{Same}
 use Rattle.un_alt.specs.Filters.{choice_cut}
-use Rattle.un_alt.specs.FilterLaws.{none_among}
-use Rattle.un_alt.specs.RegisterLaws.{one_among}
 use Rattle.un_alt.specs.Spaces.{spaces_holds, spaces_can}
 use Rattle.un_alt.proofs.spaces.SpacesPropagator.prune_in.Goals as goal
 
