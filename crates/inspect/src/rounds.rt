@@ -20,7 +20,7 @@ use un_domains::cut::Cut;
 use un_domains::store::Store;
 use un_ir::text::{put_number, put_text};
 use un_model::model::Model;
-use un_post::any::AnyProp;
+use un_kinds::any::AnyProp;
 use un_post::post::{Posted, post};
 use un_prop::propagator::Scratch;
 use un_prop::run::{Fix, run_all};

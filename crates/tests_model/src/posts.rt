@@ -15,7 +15,7 @@ use un_base::memory_error::NoMemory;
 use un_domains::store::Store;
 use un_isa::reg::SLOTS;
 use un_model::model::{Model, Options};
-use un_post::any::AnyProp;
+use un_kinds::any::AnyProp;
 use un_post::post::{Posted, post};
 use un_problem::problem::{default_options, model};
 use un_prop::propagator::Scratch;

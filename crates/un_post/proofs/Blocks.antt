@@ -12,7 +12,7 @@ use Rattle.un_model.proofs.Lists.{Each, Pairwise, Member, each_of, each_member, 
 use Rattle.un_model.proofs.Operations.{placed_is}
 use Rattle.un_model.proofs.Placed.{Placed, placed, Region, region_placed}
 use Rattle.un_model.proofs.PlacedSchedules.{all, member_joined, joined_member}
-use Rattle.un_post.specs.Constraints.{Constraint, AllMet}
+use Rattle.un_kinds.specs.Constraints.{Constraint, AllMet}
 use Rattle.un_post.specs.Places.{Place, place_at, block_places}
 use Rattle.un_post.proofs.Meeting.{Met, met_all, all_met, each_joined, joined_each}
 use Rattle.un_post.proofs.Placing.{place_of}

@@ -24,7 +24,7 @@ use Rattle.un_prop.specs.declared.act.Act.TheVariants.{Always}
 use Rattle.un_post.specs.CallBefores.{reads_anew, waits_anew, anew_count, anew_gap}
 use Rattle.un_post.specs.CallBefores.{anew_after}
 use Rattle.un_post.specs.CallBefores.{is_between, of_call, of_call_at, call_befores_by, call_befores_in, call_befores_of}
-use Rattle.un_post.specs.Constraints.{AllMet, Before}
+use Rattle.un_kinds.specs.Constraints.{AllMet, Before}
 use Rattle.un_post.specs.Places.{Place, time_of}
 use Rattle.un_post.specs.Postings.{is_call_kind, with_kind}
 use Rattle.un_post.specs.Rooms.{arcs_or, is_behind}

@@ -13,7 +13,7 @@ use Rattle.un_model.specs.Variables.{var_at}
 use Rattle.un_prop.specs.declared.act.Act.TheVariants.{Always}
 use Rattle.un_prop.specs.declared.act.At.TheVariants.{Var}
 use Rattle.un_post.specs.CallBefores.{call_befores_by}
-use Rattle.un_post.specs.Constraints.{Constraint, Before}
+use Rattle.un_kinds.specs.Constraints.{Constraint, Before}
 use Rattle.un_post.specs.Places.{Place}
 
 abbrev source : Op → ExtKind

@@ -11,7 +11,7 @@ use Rattle.un_model.specs.Variables.{count_if}
 use Rattle.un_model.proofs.Lists.{slice_get-map, map-append, member_at}
 use Rattle.un_model.proofs.Steps.{drop_at, drop_past}
 use Rattle.un_post.specs.CallBefores.{of_call, of_call_at, of_calls, count_from, is_between}
-use Rattle.un_post.specs.Constraints.{Constraint}
+use Rattle.un_kinds.specs.Constraints.{Constraint}
 use Rattle.un_post.specs.Places.{Place}
 use Rattle.un_post.specs.Postings.{is_call_kind, with_kind}
 use Rattle.un_post.specs.Rooms.{is_behind}

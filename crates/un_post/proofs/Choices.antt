@@ -25,7 +25,7 @@ use Rattle.un_prop.specs.Acts.{is_active}
 use Rattle.un_prop.specs.Choices.{passes_at}
 use Rattle.un_prop.specs.declared.act.Act.{Act}
 use Rattle.un_alt.specs.Registers.{place_of as chosen_place}
-use Rattle.un_post.specs.Constraints.{AllMet, Chosen}
+use Rattle.un_kinds.specs.Constraints.{AllMet, Chosen}
 use Rattle.un_post.specs.Places.{Definer, act_by, act_of, definers_of, definers_at}
 use Rattle.un_post.specs.Postings.{over_operands, chosen_of, chosen_by}
 use Rattle.un_post.proofs.Meeting.{Met, passes_get, where_on}

@@ -8,7 +8,7 @@ use Rattle.std.proofs.lemmas.Option.{slice_get_past}
 use Rattle.un_ir.specs.declared.extended.ExtBlock.{ExtBlock}
 use Rattle.un_model.specs.Pairs.{joined, places_from}
 use Rattle.un_model.proofs.Steps.{drop_at, append-nil}
-use Rattle.un_post.specs.Constraints.{Constraint}
+use Rattle.un_kinds.specs.Constraints.{Constraint}
 use Rattle.un_post.specs.Places.{Place, Definer}
 use Rattle.un_post.specs.Postings.{last_place, same_by, over_edge}
 use Rattle.un_post.specs.Sites.{place_of}

@@ -19,7 +19,7 @@ use Rattle.un_model.specs.Variables.{model_of}
 use Rattle.un_model.proofs.Lists.{Member}
 use Rattle.un_post.specs.Befores.{befores_of, all_postings_of}
 use Rattle.un_post.specs.CallBefores.{call_befores_of}
-use Rattle.un_post.specs.Constraints.{AllMet}
+use Rattle.un_kinds.specs.Constraints.{AllMet}
 use Rattle.un_post.specs.Postings.{postings_of}
 use Rattle.un_post.specs.Posts.{IsCheaper}
 use Rattle.un_post.specs.Rooms.{rooms_of}

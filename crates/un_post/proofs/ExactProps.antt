@@ -10,11 +10,11 @@ use Rattle.un_model.specs.declared.model.Options.{Options}
 use Rattle.un_model.specs.declared.model.Model.{Model}
 use Rattle.un_model.specs.Options.{AreOptions}
 use Rattle.un_model.specs.Variables.{IsModel, model_of}
-use Rattle.un_post.specs.AnyProps.{constraint_of}
+use Rattle.un_kinds.specs.AnyProps.{constraint_of}
 use Rattle.un_post.specs.Befores.{all_postings_of}
-use Rattle.un_post.specs.Constraints.{Constraint, AllMet, meets}
+use Rattle.un_kinds.specs.Constraints.{Constraint, AllMet, meets}
 use Rattle.un_post.specs.Posts.{IsExact}
-use Rattle.un_post.specs.declared.any.AnyProp.{AnyProp}
+use Rattle.un_kinds.specs.declared.any.AnyProp.{AnyProp}
 use Rattle.un_post.proofs.Exact.{exact_in}
 
 map_all : {A B : Type 0} (P : B → Type 0) (f : A → B) (xs : List A) → All P (map f xs) → All (λ (a : A). P (f a)) xs

@@ -28,7 +28,7 @@ use Rattle.un_model.proofs.PlacedSchedules.{all, spots, spot_range, the_ranges, 
 use Rattle.un_prop.specs.Acts.{act_number, is_active}
 use Rattle.un_alt.specs.declared.frame.FrameLeave.{FrameLeave}
 use Rattle.un_alt.specs.Frame.{uses_frame as touches_frame, is_access, is_slot, is_on, all_on, none_on, in_order}
-use Rattle.un_post.specs.Constraints.{AllMet}
+use Rattle.un_kinds.specs.Constraints.{AllMet}
 use Rattle.un_post.specs.Places.{Place, act_by, places_of, definers_of, registers_at}
 use Rattle.un_post.specs.Postings.{with_kind, in_entry, var_or, instr_var, frame_op, uses_of, frame_by, frame_of}
 use Rattle.un_post.proofs.Congruences.{in_is}

@@ -16,7 +16,7 @@ use Rattle.un_prop.specs.Looks.{at_set, sure}
 use Rattle.un_prec.specs.Before.{before_holds}
 use Rattle.un_prec.specs.Below.{cost_of}
 use Rattle.un_prec.specs.declared.below.Weighted.{Weighted}
-use Rattle.un_post.specs.Constraints.{Constraint, meets, Before, Inside, Last, Below}
+use Rattle.un_kinds.specs.Constraints.{Constraint, meets, Before, Inside, Last, Below}
 use Rattle.un_post.specs.Strength.{is_timing, Strong}
 use Rattle.un_post.proofs.Tests.{le_iff, lt_iff, eq_iff, and_iff}
 

@@ -45,8 +45,6 @@ pub mod Ready
 pub mod Regions
 pub mod RegisterBounds
 pub mod Relaxed
-pub mod Rising
-pub mod Scoped
 pub mod Seeing
 pub mod Solved
 pub mod SpaceSets

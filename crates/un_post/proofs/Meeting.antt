@@ -8,7 +8,7 @@ use Rattle.un_model.proofs.Lists.{Each, each_all, each_join, each_append, each_o
 use Rattle.un_model.proofs.PlacedSchedules.{member_places, places_member}
 use Rattle.un_prop.specs.Choices.{passes_at}
 use Rattle.un_alt.specs.Registers.{value_at}
-use Rattle.un_post.specs.Constraints.{Constraint, meets, AllMet}
+use Rattle.un_kinds.specs.Constraints.{Constraint, meets, AllMet}
 
 -- ---- each of a list
 

@@ -32,7 +32,7 @@ use Rattle.un_model.proofs.Placed.{Placed, Region, region_placed, vars_of, issue
 use Rattle.un_model.proofs.PlacedSchedules.{all}
 use Rattle.un_prop.specs.Acts.{at_value}
 use Rattle.un_post.specs.Befores.{place_or, place_with, arc_before, befores_in, befores_of}
-use Rattle.un_post.specs.Constraints.{meets, AllMet}
+use Rattle.un_kinds.specs.Constraints.{meets, AllMet}
 use Rattle.un_post.specs.Places.{Place, time_of, places_of}
 use Rattle.un_post.proofs.Blocks.{blocks, in_all, rising}
 use Rattle.un_post.proofs.Facts.{Given, times}

@@ -19,7 +19,7 @@ use Rattle.un_prop.specs.declared.act.Temp.{Temp}
 use Rattle.un_prop.specs.Acts.{is_active}
 use Rattle.un_rect.specs.Apart.{pair_holds, apart_holds}
 use Rattle.un_rect.specs.Spans.{starts, ends}
-use Rattle.un_post.specs.Constraints.{AllMet, Apart}
+use Rattle.un_kinds.specs.Constraints.{AllMet, Apart}
 use Rattle.un_post.specs.Places.{Place, definers_of}
 use Rattle.un_post.specs.Rooms.{temp_at, temps_in, apart_in, aparts_of}
 use Rattle.un_post.proofs.Blocks.{blocks, region_places, region_vars, map_twice, places_in, regions_met}

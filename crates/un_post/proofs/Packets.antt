@@ -31,7 +31,7 @@ use Rattle.un_prop.specs.Acts.{act_number, is_active}
 use Rattle.un_slots.specs.declared.item.Item.{Item}
 use Rattle.un_slots.specs.Slots.{share_at, taken_by, taken as taken_in}
 use Rattle.un_slots.specs.SlotLaws.{holds_fits, fits_holds}
-use Rattle.un_post.specs.Constraints.{AllMet, PerCycle}
+use Rattle.un_kinds.specs.Constraints.{AllMet, PerCycle}
 use Rattle.un_post.specs.Places.{Place, act_of, by_number}
 use Rattle.un_post.specs.Postings.{cycle_var, var_or, with_kind}
 use Rattle.un_post.specs.Rooms.{issues_kind, item_of, packets_in, packets_of}

@@ -10,11 +10,11 @@ use Rattle.un_ir.specs.declared.extended.ExtKind.TheVariants.{In, Out, Body, End
 use Rattle.un_prop.specs.declared.act.Act.TheVariants.{Always}
 use Rattle.un_prop.specs.declared.act.At.TheVariants.{Const, Var}
 use Rattle.un_alt.specs.Registers.{choice_vars}
-use Rattle.un_post.specs.Constraints.{Constraint, Before, Zeros}
+use Rattle.un_kinds.specs.Constraints.{Constraint, Before, Zeros}
 use Rattle.un_post.specs.Postings.{zeros_by}
-use Rattle.un_post.specs.Scopes.{vars_in, own_var}
+use Rattle.un_kinds.specs.Scopes.{vars_in, own_var}
 use Rattle.un_post.specs.Sites.{is_fall}
-use Rattle.un_post.proofs.Appends.{three_added}
+use Rattle.un_kinds.proofs.Appends.{three_added}
 
 pub own_vars : (vs : List VarId) → vars_in own_var vs ≡ vs
 own_vars [] = refl

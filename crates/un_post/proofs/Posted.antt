@@ -11,7 +11,7 @@ use Rattle.un_model.specs.Pairs.{over_blocks}
 use Rattle.un_model.specs.Schedules.{schedule_of}
 use Rattle.un_model.specs.Solutions.{KeepsFrame}
 use Rattle.un_model.specs.Variables.{model_of}
-use Rattle.un_post.specs.Constraints.{Constraint, AllMet}
+use Rattle.un_kinds.specs.Constraints.{Constraint, AllMet}
 use Rattle.un_post.specs.Places.{definers_of, places_of}
 use Rattle.un_post.specs.Postings.{over_places, of_place, edges_of, frame_of, limit_of, postings_of}
 use Rattle.un_post.proofs.Congruences.{congruences}

@@ -33,8 +33,8 @@ use Rattle.un_rect.specs.Spans.{choice_vars as user_choice}
 use Rattle.un_rect.specs.declared.clobber.ClobberCall.{ClobberCall}
 use Rattle.un_slots.specs.declared.item.Item.{Item}
 use Rattle.un_post.specs.Befores.{place_or, place_with, arc_before}
-use Rattle.un_post.specs.Constraints.{Constraint, Before, Reads, Inside, Last, Below, Chosen, Zeros, Spaces, Same, Home, Frame, meets}
-use Rattle.un_post.specs.Constraints.{Apart, Clobber, Operands, PerCycle}
+use Rattle.un_kinds.specs.Constraints.{Constraint, Before, Reads, Inside, Last, Below, Chosen, Zeros, Spaces, Same, Home, Frame, meets}
+use Rattle.un_kinds.specs.Constraints.{Apart, Clobber, Operands, PerCycle}
 use Rattle.un_post.specs.Places.{Place, Definer, Asked, act_by, act_of, time_by, time_of, definers_at}
 use Rattle.un_post.specs.Places.{definer_or, registers_at, asked, asked_by}
 use Rattle.un_post.specs.Places.{no_place}
@@ -44,8 +44,8 @@ use Rattle.un_post.specs.Postings.{results_in, of_place, last_place, same_by, va
 use Rattle.un_post.specs.Postings.{single_use, uses_of, leave_of, in_entry, is_call_kind}
 use Rattle.un_post.specs.Rooms.{user_if, operand_users, place_users, users_of, temp_by, temp_at, temps_in, is_behind, call_at, calls_but}
 use Rattle.un_post.specs.Rooms.{spared_at, item_of, issues_kind, each_two, operand_side, two_by, one_value, two_at, twos_in}
-use Rattle.un_post.specs.Scopes.{vars_of, vars_in, own_var, alt_vars, end_var, op_vars, use_vars, leave_vars, rectangle_vars, clobber_vars}
-use Rattle.un_post.specs.Scopes.{item_vars, side_vars}
+use Rattle.un_kinds.specs.Scopes.{vars_of, vars_in, own_var, alt_vars, end_var, op_vars, use_vars, leave_vars, rectangle_vars, clobber_vars}
+use Rattle.un_kinds.specs.Scopes.{item_vars, side_vars}
 use Rattle.un_post.proofs.Meeting.{each_places, joined_each}
 
 -- how many cycles a constraint counts over
@@ -134,7 +134,8 @@ module _ (n : ℕ) (pos : 0 < n) where
   or_in (Some v) h = h
 
   each_in : {A : Type 0} (f : A → List VarId) (xs : List A) → Each (λ (a : A). Within (f a)) xs → Within (vars_in f xs)
-  each_in f xs h = joined_each (λ (v : VarId). v.0 < n) f xs h
+  each_in f [] h = tt
+  each_in f (x ∷ xs) h = each_join (λ (v : VarId). v.0 < n) (f x) (vars_in f xs) h.0 (each_in f xs h.1)
 
   owns_in : (vs : List VarId) → Within vs → Within (vars_in own_var vs)
   owns_in vs h = each_in own_var vs (each_more (λ (v : VarId). v.0 < n) (λ (v : VarId). Within (own_var v)) vs (λ v lt. (lt, tt)) h)

@@ -24,22 +24,22 @@ use Rattle.un_prop.specs.AmongLaws.{in_list}
 use Rattle.un_prop.specs.Fixes.{Known}
 use Rattle.un_prop.specs.Looks.{InWords}
 use Rattle.un_prop.specs.Rounds.{HasVars}
-use Rattle.un_post.specs.AnyProps.{constraint_of, scope_of, cut_of, strong_of, span_of, any_lawful, any_strength}
+use Rattle.un_kinds.specs.AnyProps.{constraint_of, scope_of, cut_of, strong_of, span_of, any_lawful, any_strength}
 use Rattle.un_post.specs.Befores.{all_postings_of}
 use Rattle.un_post.specs.Posts.{largest_horizon, ReadsFrom, IsGrounded, SpansAtMost, FailsWhereEmpty}
-use Rattle.un_post.specs.Scopes.{IsScope, IsTight, vars_of}
+use Rattle.un_kinds.specs.Scopes.{IsScope, IsTight, vars_of}
 use Rattle.un_post.specs.Strength.{Strong}
-use Rattle.un_post.specs.declared.any.AnyProp.{AnyProp}
-use Rattle.un_post.specs.declared.any.AnyProp.TheVariants.{Before, Reads, Inside, Last, Below as BelowProp, Chosen}
-use Rattle.un_post.specs.declared.any.AnyProp.TheVariants.{Zeros, Spaces, Same, Home}
-use Rattle.un_post.specs.declared.any.AnyProp.TheVariants.{Frame, Apart, Clobber, Operands, PerCycle}
+use Rattle.un_kinds.specs.declared.any.AnyProp.{AnyProp}
+use Rattle.un_kinds.specs.declared.any.AnyProp.TheVariants.{Before, Reads, Inside, Last, Below as BelowProp, Chosen}
+use Rattle.un_kinds.specs.declared.any.AnyProp.TheVariants.{Zeros, Spaces, Same, Home}
+use Rattle.un_kinds.specs.declared.any.AnyProp.TheVariants.{Frame, Apart, Clobber, Operands, PerCycle}
 use Rattle.un_post.proofs.Failing.{rounds_fail}
 use Rattle.un_post.proofs.Meeting.{all_each}
 use Rattle.un_post.proofs.Memory.{contains_member}
 use Rattle.un_post.proofs.ModelDomains.{domains_in_words, domains_live}
 use Rattle.un_post.proofs.Reading.{IsSound, cycles_of}
 use Rattle.un_post.proofs.ReadingModel.{all_sound}
-use Rattle.un_post.proofs.Rising.{among_own}
+use Rattle.un_kinds.proofs.Rising.{among_own}
 
 -- ---- the list that a propagator keeps, and the variables of its fields
 

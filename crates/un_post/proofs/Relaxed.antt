@@ -44,7 +44,7 @@ use Rattle.un_bound.specs.Timings.{IsTimed, IsKept}
 use Rattle.un_bound.proofs.Knowns.{known_model}
 use Rattle.un_post.specs.Befores.{arc_before, befores_in, befores_of, all_postings_of}
 use Rattle.un_post.specs.CallBefores.{call_befores_of}
-use Rattle.un_post.specs.Constraints.{Constraint, AllMet}
+use Rattle.un_kinds.specs.Constraints.{Constraint, AllMet}
 use Rattle.un_post.specs.Places.{Place, act_of, places_of, definers_of, asked_by}
 use Rattle.un_post.specs.Postings.{over_places, of_place, of_operand, zeros_of, issue_by, issues_in, results_in, edges_of, frame_of}
 use Rattle.un_post.specs.Postings.{limit_of, postings_of}

@@ -9,7 +9,7 @@ use Rattle.un_model.specs.Cost.{cost_of}
 use Rattle.un_model.specs.Schedules.{schedule_of}
 use Rattle.un_model.specs.Solutions.{IsSolution, KeepsMemory}
 use Rattle.un_model.specs.Variables.{model_of}
-use Rattle.un_post.specs.Constraints.{AllMet}
+use Rattle.un_kinds.specs.Constraints.{AllMet}
 use Rattle.un_post.specs.Postings.{postings_of}
 use Rattle.un_post.specs.Rooms.{rooms_of}
 use Rattle.un_post.proofs.Facts.{Given}

@@ -31,7 +31,7 @@ use Rattle.un_prop.specs.Acts.{is_active, is_user, at_value}
 use Rattle.un_rect.specs.Clobber.{spares, clobber_holds}
 use Rattle.un_rect.specs.Spans.{starts, ends, use_time}
 use Rattle.un_rect.specs.declared.clobber.ClobberCall.{ClobberCall}
-use Rattle.un_post.specs.Constraints.{Constraint, meets, AllMet, Clobber}
+use Rattle.un_kinds.specs.Constraints.{Constraint, meets, AllMet, Clobber}
 use Rattle.un_post.specs.Places.{Place, Definer, definers_of, definer_or}
 use Rattle.un_post.specs.Postings.{is_call_kind, is_call_op, cycle_var, var_or}
 use Rattle.un_post.specs.Rooms.{temps_in, users_of, is_before, is_behind, call_at, calls_but, arcs_or, spared_by, spared_at}

@@ -6,7 +6,7 @@ use Rattle.un_prop.specs.declared.act.Temp.{Temp}
 use Rattle.un_prop.specs.declared.act.UserOf.{UserOf}
 use Rattle.un_rect.specs.declared.clobber.ClobberCall.{ClobberCall}
 use Rattle.un_model.specs.declared.model.Arc.{Arc}
-use Rattle.un_post.specs.Constraints.{Constraint, Clobber}
+use Rattle.un_kinds.specs.Constraints.{Constraint, Clobber}
 use Rattle.un_post.specs.Gathered.{temp_with, IsAmong}
 use Rattle.un_post.specs.Places.{Place, Definer}
 use Rattle.un_post.specs.Postings.{is_call_kind, with_kind}

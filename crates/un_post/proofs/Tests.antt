@@ -2,7 +2,7 @@
 use Rattle.std.proofs.Common.{ℕ, ◌≡◌, ◌≤◌, ◌<◌, ◌↔◌, Bool, true, false, List, [], ◌∷◌, refl, sym, ◌∙◌, arith}
 use Rattle.std.specs.Prelude.{nat_eq, nat_le, nat_lt, ◌&&◌}
 use Rattle.std.proofs.lemmas.Bool.Decides.{nat_tests}
-use Rattle.un_post.specs.Constraints.{Constraint, meets}
+use Rattle.un_kinds.specs.Constraints.{Constraint, meets}
 use Rattle.un_post.proofs.Meeting.{Met}
 
 pub iff_then : {A B C : Type 0} → A ↔ B → B ↔ C → A ↔ C

@@ -32,7 +32,7 @@ use Rattle.un_model.proofs.Placed.{Placed, vars_of, issue_at, Spot}
 use Rattle.un_model.proofs.PlacedSchedules.{all, spots, spot_range, the_ranges, one_spot, has_read, good_read}
 use Rattle.un_alt.specs.Registers.{place_of as chosen_place}
 use Rattle.un_rect.specs.Operands.{side_passes}
-use Rattle.un_post.specs.Constraints.{Constraint, meets, AllMet, Operands}
+use Rattle.un_kinds.specs.Constraints.{Constraint, meets, AllMet, Operands}
 use Rattle.un_post.specs.Places.{Definer, definers_of, definers_at}
 use Rattle.un_post.specs.Postings.{registers_in, registers_of}
 use Rattle.un_post.specs.Rooms.{each_two, operand_side, two_by, one_value, two_at, twos_in, twos_of}

@@ -21,7 +21,7 @@ use Rattle.un_model.proofs.Lists.{member_map, member_at, place_of as position_of
 use Rattle.un_model.proofs.Placed.{Placed, vars_of, issue_at, reads_at, Spot, spot, spots_of, temp_vars, issues_are, reads_are, temps_are}
 use Rattle.un_model.proofs.PlacedSchedules.{all, spots, spot_range, the_ranges, each_issue, active_spot, spot_here, member_joined}
 use Rattle.un_model.proofs.PlacedSchedules.{member_places}
-use Rattle.un_post.specs.Constraints.{Constraint, AllMet}
+use Rattle.un_kinds.specs.Constraints.{Constraint, AllMet}
 use Rattle.un_post.specs.Places.{Place, Definer, Asked, places_of, definers_of, definers_at, definer_or, registers_at, asked, asked_by}
 use Rattle.un_post.specs.Postings.{over_places, over_operands}
 use Rattle.un_post.proofs.Meeting.{all_each, each_joined, joined_each, each_places, places_each, Met, met_all, all_met}

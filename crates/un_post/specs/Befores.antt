@@ -5,7 +5,7 @@ use Rattle.un_model.specs.declared.model.Model.{Model}
 use Rattle.un_model.specs.Pairs.{joined}
 use Rattle.un_prop.specs.declared.act.Act.TheVariants.{Always}
 use Rattle.un_post.specs.CallBefores.{call_befores_of}
-use Rattle.un_post.specs.Constraints.{Constraint, Before}
+use Rattle.un_kinds.specs.Constraints.{Constraint, Before}
 use Rattle.un_post.specs.Places.{Place, no_place, time_of, places_of}
 use Rattle.un_post.specs.Postings.{postings_of}
 use Rattle.un_post.specs.Rooms.{rooms_of}

@@ -20,7 +20,7 @@ use Rattle.un_model.specs.Instructions.{instruction_of, space_read, is_predicate
 use Rattle.un_model.specs.Pairs.{any_from, places_from, joined, over_blocks}
 use Rattle.un_model.specs.Variables.{count_if}
 use Rattle.un_prop.specs.declared.act.Act.TheVariants.{Always}
-use Rattle.un_post.specs.Constraints.{Constraint, Before}
+use Rattle.un_kinds.specs.Constraints.{Constraint, Before}
 use Rattle.un_post.specs.Places.{Place, time_of, block_places}
 use Rattle.un_post.specs.Postings.{is_call_kind, with_kind}
 use Rattle.un_post.specs.Rooms.{arcs_or, is_behind}

@@ -1,15 +1,12 @@
-pub mod AnyProps
 pub mod Befores
 pub mod CallBefores
 pub mod Calls
-pub mod Constraints
 pub mod Gathered
 pub mod Places
 pub mod Postings
 pub mod Posts
 pub mod Reach
 pub mod Rooms
-pub mod Scopes
 pub mod Sites
 pub mod Strength
 pub mod Twos

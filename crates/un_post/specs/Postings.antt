@@ -36,7 +36,7 @@ use Rattle.un_alt.specs.declared.frame.FrameUse.{FrameUse}
 use Rattle.un_alt.specs.declared.frame.FrameLeave.{FrameLeave}
 use Rattle.un_post.specs.Places.{Place, Definer, Asked, act_of, time_of, by_number, block_places, places_of, definers_of, definer_or}
 use Rattle.un_post.specs.Places.{registers_at, asked_by, no_place}
-use Rattle.un_post.specs.Constraints.{Constraint, Before, Reads, Inside, Last, Below, Chosen, Zeros, Spaces, Same, Home, Frame}
+use Rattle.un_kinds.specs.Constraints.{Constraint, Before, Reads, Inside, Last, Below, Chosen, Zeros, Spaces, Same, Home, Frame}
 
 -- ---- what is posted of each operation, and of each operand
 

@@ -10,8 +10,8 @@ use Rattle.un_model.specs.Solutions.{IsSolution}
 use Rattle.un_model.specs.Variables.{own_horizon}
 use Rattle.un_prop.specs.Rounds.{HasVars, fix_of}
 use Rattle.un_bound.specs.Relaxations.{Times, IsMemberUnder}
-use Rattle.un_post.specs.AnyProps.{scope_of, holds_of, cut_of, span_of}
-use Rattle.un_post.specs.declared.any.AnyProp.{AnyProp}
+use Rattle.un_kinds.specs.AnyProps.{scope_of, holds_of, cut_of, span_of}
+use Rattle.un_kinds.specs.declared.any.AnyProp.{AnyProp}
 
 -- a solution that costs less than a limit, where there is one
 abbrev pub IsCheaper : Model → Option ℕ → Solution → Type 0

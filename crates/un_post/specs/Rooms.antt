@@ -24,7 +24,7 @@ use Rattle.un_rect.specs.declared.clobber.ClobberCall.{ClobberCall}
 use Rattle.un_slots.specs.declared.item.Item.{Item}
 use Rattle.un_post.specs.Places.{Place, Definer, act_of, time_of, by_number, block_places, definers_of, definer_or, definers_at}
 use Rattle.un_post.specs.Postings.{over_places, registers_in, registers_of, cycle_var, is_call_kind, with_kind}
-use Rattle.un_post.specs.Constraints.{Constraint, Apart, Clobber, Operands, PerCycle}
+use Rattle.un_kinds.specs.Constraints.{Constraint, Apart, Clobber, Operands, PerCycle}
 
 -- ---- users
 

@@ -5,7 +5,7 @@ use Rattle.un_prec.specs.Before.{BeforeStrong}
 use Rattle.un_prec.specs.Below.{BelowStrong}
 use Rattle.un_prec.specs.Inside.{InsideStrong}
 use Rattle.un_prec.specs.Last.{LastStrong}
-use Rattle.un_post.specs.Constraints.{Constraint, Before, Inside, Last, Below}
+use Rattle.un_kinds.specs.Constraints.{Constraint, Before, Inside, Last, Below}
 
 -- it is of cycles and ends alone
 abbrev pub is_timing : Constraint → Bool

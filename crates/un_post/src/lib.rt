@@ -1,12 +1,8 @@
 //! What is posted for a model: the propagators that hold exactly at its solutions.
 #![tactic(auto)]
 
-pub mod any;
 mod call_rows;
 mod call_sides;
-pub mod make_alt;
-pub mod make_prec;
-pub mod make_rect;
 mod numbers;
 pub mod post;
 pub mod post_aparts;
@@ -31,4 +27,3 @@ pub mod sites;
 mod space_sets;
 mod span;
 pub mod tables;
-pub mod vars;

@@ -7,15 +7,14 @@ ghost use Rattle.un_domains.specs.Sets.{NoneEmpty};
 ghost use Rattle.un_ir.specs.Extended.{IsExtended};
 ghost use Rattle.un_model.specs.Options.{AreOptions};
 ghost use Rattle.un_model.specs.Variables.{IsModel};
-ghost use Rattle.un_post.specs.AnyProps.{constraint_of};
+ghost use Rattle.un_kinds.specs.AnyProps.{constraint_of};
 ghost use Rattle.un_post.specs.Befores.{all_postings_of};
 ghost use Rattle.un_post.specs.Places.{definers_of, places_of};
 ghost use Rattle.un_post.specs.Posts.{IsExact, ReadsFrom, IsGrounded, SpansAtMost, FailsWhereEmpty, largest_horizon};
 ghost use Rattle.un_post.specs.Rooms.{rooms_of};
-ghost use Rattle.un_post.specs.Scopes.{IsTight};
+ghost use Rattle.un_kinds.specs.Scopes.{IsTight};
 ghost use Rattle.un_post.specs.Sites.{place_of, definers_in};
 
-use crate::any::AnyProp;
 use crate::post_aparts::post_aparts;
 use crate::post_arcs::post_arcs;
 use crate::post_call_befores::post_call_befores;
@@ -30,6 +29,7 @@ use crate::tables::{all_sites, all_spots};
 use std::alloc::Global;
 use un_base::memory_error::NoMemory;
 use un_domains::store::Store;
+use un_kinds::any::AnyProp;
 use un_model::model::Model;
 
 /// The propagators of a model, the store with its domains, and its largest horizon.
@@ -63,7 +63,7 @@ fn with_store(alloc: Global, m: &Model, props: Props) -> Result<Posted, NoMemory
 }
 
 /// What is posted of registers, calls, packets and two operands of a model, of which these are the tables.
-#[tactic(auto, using(crate::proofs::Appends::four_added))]
+#[tactic(auto, using(un_kinds::proofs::Appends::four_added))]
 fn post_rooms(
     props: &mut Props,
     m: &Model,
@@ -82,7 +82,7 @@ fn post_rooms(
 }
 
 /// All that is posted for a model, of which these are the tables.
-#[tactic(auto, using(crate::proofs::Appends::four_added))]
+#[tactic(auto, using(un_kinds::proofs::Appends::four_added))]
 fn post_each(
     props: &mut Props,
     m: &Model,

@@ -4,7 +4,7 @@
 ghost use Rattle.std.specs.Prelude.{◌≡◌, ◌==◌, [], ◌∷◌, ◌++◌, ℕ, List, All, IfOk, OnOk, length, map, slice_get, replicate, if◌then◌else◌};
 ghost use Rattle.un_base.specs.declared.ids.TempId.{TempId};
 ghost use Rattle.un_prop.specs.declared.act.UserOf.{UserOf};
-ghost use Rattle.un_post.specs.Constraints as constraint;
+ghost use Rattle.un_kinds.specs.Constraints as constraint;
 ghost use Rattle.un_post.specs.Gathered.{gathered, Gathers, IsAmong, temp_with};
 ghost use Rattle.un_model.specs.Pairs.{joined, places_from};
 ghost use Rattle.un_post.specs.Places.{definer_or, definers_of};
@@ -12,7 +12,6 @@ ghost use Rattle.un_post.specs.Rooms.{user_if, place_users, users_of, temp_at, t
 ghost use Rattle.un_post.specs.Sites.{place_of, definer_at, definers_in};
 
 use crate::call_rows::copy_users;
-use crate::make_rect::make_apart;
 use crate::post_places::choice_at;
 use crate::props::Props;
 use crate::sites::{Site, Spot, site_of};
@@ -22,6 +21,7 @@ use un_base::ids::{TempId, VarId};
 use un_base::memory_error::NoMemory;
 use un_base::numbers::{advance, number};
 use un_ir::extended::{ExtBlock, Operand};
+use un_kinds::make_rect::make_apart;
 use un_lists::items::Items;
 use un_model::model::{BlockVars, Model};
 use un_prop::act::{Temp, UserOf};

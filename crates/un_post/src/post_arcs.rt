@@ -6,11 +6,11 @@ ghost use Rattle.un_post.specs.Befores.{arc_before, befores_in, befores_of, plac
 ghost use Rattle.un_post.specs.Places.{places_of, time_of};
 ghost use Rattle.un_post.specs.Sites.{place_of};
 
-use crate::make_prec::make_before;
 use crate::props::Props;
 use crate::sites::Spot;
 use un_base::ids::OpId;
 use un_base::memory_error::NoMemory;
+use un_kinds::make_prec::make_before;
 use un_lists::items::Items;
 use un_model::model::{Arc, Model};
 use un_prop::act::{Act, At};

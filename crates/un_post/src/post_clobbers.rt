@@ -12,7 +12,6 @@ ghost use Rattle.un_post.specs.Sites.{definers_in, place_of};
 ghost use Rattle.un_post.specs.declared.call_rows.CallSite.{CallSite};
 
 use crate::call_rows::{CallSite, calls_but};
-use crate::make_rect::make_clobber;
 use crate::post_aparts::{Span, all_users, span_of, temp_with, temps_in};
 use crate::props::Props;
 use crate::see_calls::see_calls;
@@ -23,6 +22,7 @@ use un_base::ids::TempId;
 use un_base::memory_error::NoMemory;
 use un_base::numbers::{advance, number};
 use un_ir::extended::ExtBlock;
+use un_kinds::make_rect::make_clobber;
 use un_lists::items::Items;
 use un_model::model::{Arc, BlockVars, Model};
 use un_prop::act::UserOf;

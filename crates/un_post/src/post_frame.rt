@@ -4,13 +4,12 @@ ghost use Rattle.std.specs.Prelude.{◌≡◌, [], ◌∷◌, ◌++◌, IfOk, On
 ghost use Rattle.un_ir.specs.Extended.{is_copy, is_enter, is_leave};
 ghost use Rattle.un_ir.specs.Linear.{is_in};
 ghost use Rattle.un_model.specs.Pairs.{joined, over_blocks};
-ghost use Rattle.un_post.specs.Constraints as constraint;
+ghost use Rattle.un_kinds.specs.Constraints as constraint;
 ghost use Rattle.un_post.specs.Places.{Place, registers_at};
 ghost use Rattle.un_post.specs.Postings.{copy_use, cycle_var, frame_by, frame_of, frame_op, in_entry, instr_var, is_call_kind};
 ghost use Rattle.un_post.specs.Postings.{leave_of, leaves_in, single_use, uses_of, with_kind};
 ghost use Rattle.un_post.specs.Sites.{place_of, definers_in};
 
-use crate::make_alt::{FrameFields, make_frame};
 use crate::post_packets::cycle_var;
 use crate::props::Props;
 use crate::sites::{Site, Spot, add_registers};
@@ -22,6 +21,7 @@ use un_base::memory_error::NoMemory;
 use un_base::numbers::{advance, number};
 use un_ir::extended::{ExtBlock, ExtKind};
 use un_isa::op::Op;
+use un_kinds::make_alt::{FrameFields, make_frame};
 use un_lists::items::Items;
 use un_model::model::{BlockVars, Model};
 
@@ -201,7 +201,7 @@ fn add_leaves(uses: &mut Items<FrameUse>, spots: &[Spot<'_>]) -> Result<(), Allo
 }
 
 /// The operations that may need the frame.
-#[tactic(auto, using(crate::proofs::Appends::three_added))]
+#[tactic(auto, using(un_kinds::proofs::Appends::three_added))]
 fn uses_of(alloc: Global, spots: &[Spot<'_>]) -> Result<Items<FrameUse>, AllocError>
     ensures { IfOk result (λ uses. uses ≡ uses_of (map place_of spots.now)) }
 {

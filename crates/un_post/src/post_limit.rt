@@ -3,11 +3,11 @@
 ghost use Rattle.std.specs.Prelude.{◌≡◌, ◌++◌, IfOk, OnOk};
 ghost use Rattle.un_post.specs.Postings.{ends_by, limit_of};
 
-use crate::make_prec::make_below;
 use crate::props::Props;
 use std::alloc::Global;
 use un_base::memory_error::NoMemory;
 use un_ir::extended::ExtBlock;
+use un_kinds::make_prec::make_below;
 use un_lists::items::Items;
 use un_model::model::{BlockVars, Model};
 use un_prec::below::Weighted;

@@ -4,21 +4,21 @@ ghost use Rattle.std.specs.Prelude.{◌≡◌, [], ◌∷◌, ◌++◌, IfOk, On
 ghost use Rattle.std.specs.Option.{option_to_list};
 ghost use Rattle.un_prop.specs.declared.act.Act.TheVariants as activity;
 ghost use Rattle.un_prop.specs.declared.act.At.TheVariants as moment;
-ghost use Rattle.un_post.specs.Constraints as constraint;
+ghost use Rattle.un_kinds.specs.Constraints as constraint;
 ghost use Rattle.un_post.specs.Places.{registers_at};
 ghost use Rattle.un_post.specs.Postings.{zeros_of, issue_by, issues_in};
 ghost use Rattle.un_post.specs.Sites.{place_of, definers_in};
 
-use crate::make_alt::make_zeros;
-use crate::make_prec::{make_before, make_inside, make_last};
 use crate::props::Props;
 use crate::sites::{Site, Spot, add_registers, is_fall};
-use crate::vars::Naming;
 use std::alloc::{AllocError, Global};
 use un_base::ids::VarId;
 use un_base::memory_error::NoMemory;
 use un_ir::extended::ExtKind;
 use un_ir::function::Term;
+use un_kinds::make_alt::make_zeros;
+use un_kinds::make_prec::{make_before, make_inside, make_last};
+use un_kinds::vars::Naming;
 use un_lists::items::Items;
 use un_prop::act::{Act, At};
 

@@ -2,13 +2,12 @@
 
 ghost use Rattle.std.specs.Prelude.{◌≡◌, [], ◌∷◌, ◌++◌, IfOk, OnOk, map};
 ghost use Rattle.un_model.specs.Instructions.{needs_by};
-ghost use Rattle.un_post.specs.Constraints as constraint;
+ghost use Rattle.un_kinds.specs.Constraints as constraint;
 ghost use Rattle.un_post.specs.Places.{by_number};
 ghost use Rattle.un_post.specs.Postings.{cycle_var, with_kind};
 ghost use Rattle.un_post.specs.Rooms.{issues_kind, item_of, packets_in, packets_of};
 ghost use Rattle.un_post.specs.Sites.{place_of};
 
-use crate::make_rect::make_per_cycle;
 use crate::numbers::number_count;
 use crate::props::Props;
 use crate::sites::Spot;
@@ -20,6 +19,7 @@ use un_base::numbers::{advance, number};
 use un_ir::extended::{ExtBlock, ExtKind};
 use un_ir::function::Term;
 use un_isa::table::{Needs, Table};
+use un_kinds::make_rect::make_per_cycle;
 use un_lists::items::Items;
 use un_model::instructions::{instruction, needs};
 use un_model::model::{BlockVars, Model};

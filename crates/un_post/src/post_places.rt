@@ -32,7 +32,7 @@ pub fn choice_at(choices: &[VarId], j: u32) -> Option<VarId>
 }
 
 /// What is posted of an operand at place `j` with this choice, these alternatives and this home.
-#[tactic(auto, using(crate::proofs::Appends::four_added))]
+#[tactic(auto, using(un_kinds::proofs::Appends::four_added))]
 fn post_read(
     props: &mut Props,
     t: &Table,
@@ -93,7 +93,7 @@ fn post_operands(
 }
 
 /// What is posted of an operation.
-#[tactic(auto, using(crate::proofs::Appends::four_added))]
+#[tactic(auto, using(un_kinds::proofs::Appends::four_added))]
 fn post_place(
     props: &mut Props,
     t: &Table,

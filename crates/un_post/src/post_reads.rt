@@ -7,8 +7,6 @@ ghost use Rattle.un_post.specs.Places.{Definer, act_of, asked, numbers_of, by_nu
 ghost use Rattle.un_post.specs.Postings.{chosen_by, gaps_of, read_alt, lone_read, waits_by, home_by, registers_of};
 ghost use Rattle.un_post.specs.Sites.{place_of, definer_at, definers_in};
 
-use crate::make_alt::{make_chosen, make_home};
-use crate::make_prec::{make_before, make_reads};
 use crate::numbers::{first_gap, gaps};
 use crate::props::Props;
 use crate::sites::{Site, Spot, registers_of};
@@ -17,6 +15,8 @@ use un_base::ids::VarId;
 use un_base::memory_error::NoMemory;
 use un_isa::reg::Reg;
 use un_isa::table::Table;
+use un_kinds::make_alt::{make_chosen, make_home};
+use un_kinds::make_prec::{make_before, make_reads};
 use un_lists::items::Items;
 use un_prec::reads::ReadAlt;
 use un_prop::act::Act;

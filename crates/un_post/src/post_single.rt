@@ -15,7 +15,7 @@ use un_base::memory_error::NoMemory;
 use un_model::model::Model;
 
 /// What is posted of single operations, of edges, of the frame and of the cost of a model, of which these are the tables.
-#[tactic(auto, using(crate::proofs::Appends::four_added))]
+#[tactic(auto, using(un_kinds::proofs::Appends::four_added))]
 pub fn post_single(
     props: &mut Props,
     m: &Model,

@@ -2,12 +2,11 @@
 
 ghost use Rattle.std.specs.Prelude.{◌≡◌, [], ◌∷◌, ◌++◌, IfOk, OnOk, map, None};
 ghost use Rattle.un_base.specs.declared.ids.VarId.{VarId};
-ghost use Rattle.un_post.specs.Constraints as constraint;
+ghost use Rattle.un_kinds.specs.Constraints as constraint;
 ghost use Rattle.un_post.specs.Places.{act_of, registers_at};
 ghost use Rattle.un_post.specs.Postings.{operand_sets, result_sets, registers_of, space_by, results_in};
 ghost use Rattle.un_post.specs.Sites.{place_of, definers_in};
 
-use crate::make_alt::make_spaces;
 use crate::numbers::number_count;
 use crate::props::Props;
 use crate::sites::{Site, Spot, registers_of, site_of};
@@ -16,6 +15,7 @@ use std::alloc::Global;
 use un_base::ids::{TempId, VarId};
 use un_base::memory_error::NoMemory;
 use un_ir::extended::ExtKind;
+use un_kinds::make_alt::make_spaces;
 use un_lists::items::Items;
 use un_model::instructions::{instruction, space_given, space_read};
 use un_prop::act::Act;

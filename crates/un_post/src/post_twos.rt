@@ -4,14 +4,13 @@
 ghost use Rattle.std.specs.Prelude.{◌≡◌, ◌+◌, ◌<◌, [], ◌∷◌, ◌++◌, IfOk, OnOk, drop, length, map, slice_get, Some, if◌then◌else◌};
 ghost use Rattle.un_ir.specs.Linear.{first_of};
 ghost use Rattle.un_model.specs.Pairs.{joined, places_from};
-ghost use Rattle.un_post.specs.Constraints as constraint;
+ghost use Rattle.un_kinds.specs.Constraints as constraint;
 ghost use Rattle.un_post.specs.Places.{definers_of, places_of, registers_at};
 ghost use Rattle.un_post.specs.Rooms.{one_value, operand_side, two_at, two_by, twos_in, twos_of};
 ghost use Rattle.un_post.specs.Sites.{place_of, definers_in};
 ghost use Rattle.un_post.specs.Twos.{is_source};
 ghost use Rattle.un_rect.specs.Operands.{side};
 
-use crate::make_rect::{OperandFields, make_operands};
 use crate::props::Props;
 use crate::sites::{Site, Spot, add_registers};
 use crate::space_sets::space_registers;
@@ -21,6 +20,7 @@ use un_base::memory_error::NoMemory;
 use un_base::numbers::number;
 use un_ir::extended::{ExtKind, Operand};
 use un_isa::op::Op;
+use un_kinds::make_rect::{OperandFields, make_operands};
 use un_lists::items::Items;
 use un_model::instructions::space_read;
 use un_model::model::Model;

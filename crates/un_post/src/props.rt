@@ -1,14 +1,14 @@
 //! A list of propagators, seen as what they ask for.
 
 ghost use Rattle.std.specs.Prelude.{◌≡◌, [], ◌∷◌, ◌++◌, All, OnOk, map};
-ghost use Rattle.un_post.specs.Constraints.{Constraint};
-ghost use Rattle.un_post.specs.AnyProps.{constraint_of};
-ghost use Rattle.un_post.specs.Scopes.{IsTight};
+ghost use Rattle.un_kinds.specs.Constraints.{Constraint};
+ghost use Rattle.un_kinds.specs.AnyProps.{constraint_of};
+ghost use Rattle.un_kinds.specs.Scopes.{IsTight};
 
-use crate::any::AnyProp;
 use std::alloc::Global;
 use std::marker::Model;
 use un_base::memory_error::NoMemory;
+use un_kinds::any::AnyProp;
 use un_lists::items::Items;
 
 /// A list of propagators, each with exactly the variables of its fields. Contracts see what they ask for.
@@ -20,9 +20,9 @@ pub struct Props {
 
 impl Model for Props {
     ghost use Rattle.std.specs.Prelude.{List, All, map};
-    ghost use Rattle.un_post.specs.Constraints.{Constraint};
-    ghost use Rattle.un_post.specs.AnyProps.{constraint_of};
-    ghost use Rattle.un_post.specs.Scopes.{IsTight};
+    ghost use Rattle.un_kinds.specs.Constraints.{Constraint};
+    ghost use Rattle.un_kinds.specs.AnyProps.{constraint_of};
+    ghost use Rattle.un_kinds.specs.Scopes.{IsTight};
 
     ghost Value = { List Constraint };
 

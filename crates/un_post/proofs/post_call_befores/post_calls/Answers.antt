@@ -1,5 +1,5 @@
 use Rattle.std.proofs.Common.{arith, ◌++◌, ◌∙◌, ap, map, List}
-use Rattle.un_post.specs.Constraints.{Constraint}
+use Rattle.un_kinds.specs.Constraints.{Constraint}
 use Rattle.un_post.specs.Sites.{place_of}
 use Rattle.un_post.proofs.CallWalks.{spot_call, calls_are}
 use Rattle.un_post.proofs.Gathering.{got}

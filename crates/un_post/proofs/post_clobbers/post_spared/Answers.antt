@@ -1,5 +1,5 @@
 use Rattle.std.proofs.Common.{[], ◌∷◌, ◌++◌, ◌-◌, length, ap, ◌∙◌, arith}
-use Rattle.un_post.specs.Constraints.{Constraint}
+use Rattle.un_kinds.specs.Constraints.{Constraint}
 use Rattle.un_post.specs.Postings.{is_call_kind, with_kind}
 use Rattle.un_post.specs.Rooms.{users_of}
 use Rattle.un_post.proofs.Gathering.{users_at}

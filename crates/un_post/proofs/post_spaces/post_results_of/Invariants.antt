@@ -1,6 +1,6 @@
 use Rattle.std.proofs.Common.{◌≡◌, [], ◌∷◌, ◌++◌, drop, map, None}
 use Rattle.un_base.specs.declared.ids.VarId.{VarId}
-use Rattle.un_post.specs.Constraints as constraint
+use Rattle.un_kinds.specs.Constraints as constraint
 use Rattle.un_post.specs.Places.{registers_at}
 use Rattle.un_post.specs.Postings.{result_sets}
 use Rattle.un_post.specs.Sites.{definers_in}

@@ -1,6 +1,6 @@
 use Rattle.std.proofs.Common.{List, All, subst, sym}
-use Rattle.un_post.specs.Scopes.{IsTight}
-use Rattle.un_post.specs.declared.any.AnyProp.{AnyProp}
+use Rattle.un_kinds.specs.Scopes.{IsTight}
+use Rattle.un_kinds.specs.declared.any.AnyProp.{AnyProp}
 use Rattle.un_post.proofs.props.Props.into_vec.Goals as goal
 
 pub returns-clause-tight : goal.returns-clause-tight

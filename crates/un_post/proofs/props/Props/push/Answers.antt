@@ -1,7 +1,7 @@
 use Rattle.std.proofs.Common.{List, [], ◌∷◌, All, subst, sym}
 use Rattle.std.proofs.lemmas.List.Elements.{All-nil, All-cons, All-append}
-use Rattle.un_post.specs.Scopes.{IsTight}
-use Rattle.un_post.specs.declared.any.AnyProp.{AnyProp}
+use Rattle.un_kinds.specs.Scopes.{IsTight}
+use Rattle.un_kinds.specs.declared.any.AnyProp.{AnyProp}
 use Rattle.un_post.proofs.props.Props.push.Goals as goal
 
 pub invariant_of-self : goal.invariant_of-self

@@ -1,0 +1,5 @@
+use Rattle.un_kinds.proofs.Scoped.{zeros_vars}
+use Rattle.un_kinds.proofs.make_alt.make_zeros.Goals as goal
+
+pub invariant_of-made : goal.invariant_of-made
+invariant_of-made c = record { ascend = c.in_ok-vars.ensures.rises; among = zeros_vars _ _ _ c.in_ok-vars.ensures }

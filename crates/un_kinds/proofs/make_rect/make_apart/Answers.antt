@@ -1,0 +1,5 @@
+use Rattle.un_kinds.proofs.Scoped.{apart_vars}
+use Rattle.un_kinds.proofs.make_rect.make_apart.Goals as goal
+
+pub invariant_of-made : goal.invariant_of-made
+invariant_of-made c = record { ascend = c.in_ok-vars.ensures.rises; among = apart_vars _ _ c.in_ok-vars.ensures }

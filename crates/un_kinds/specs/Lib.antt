@@ -1,0 +1,3 @@
+pub mod AnyProps
+pub mod Constraints
+pub mod Scopes

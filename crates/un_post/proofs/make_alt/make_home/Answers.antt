@@ -1,5 +1,0 @@
-use Rattle.un_post.proofs.Scoped.{home_vars}
-use Rattle.un_post.proofs.make_alt.make_home.Goals as goal
-
-pub invariant_of-made : goal.invariant_of-made
-invariant_of-made c = record { ascend = c.in_ok-vars.ensures.rises; among = home_vars _ _ _ c.in_ok-vars.ensures }
