@@ -1,7 +1,9 @@
 -- Which operands and literals the operations take.
-use Rattle.std.specs.Prelude.{ℕ, ℤ, pos, negsuc, ◌≡◌, ◌<◌, ◌≤ℤ◌, Bool, true, false, ◌&&◌, is_some, List, [], ◌∷◌, length, Option, Some}
+use Rattle.std.specs.Prelude.{ℕ, ℤ, pos, negsuc, ◌≡◌, ◌<◌, ◌≤ℤ◌, int_le, Bool, true, false, not, ◌&&◌, ◌||◌, is_some, List, [], ◌∷◌}
+use Rattle.std.specs.Prelude.{length, Option, Some}
 use Rattle.std.specs.Prelude.{None}
 use Rattle.std.specs.Int.{int_rem_euclid}
+use Rattle.std.specs.Ordering.{int_eq}
 use Rattle.un_isa.specs.declared.op.Op.{Op}
 use Rattle.un_isa.specs.declared.reg.Space.{Space}
 use Rattle.un_isa.specs.declared.reg.Space.TheVariants.{R, P, M}
@@ -11,29 +13,46 @@ use Rattle.un_isa.specs.declared.facts.Range.{Range}
 use Rattle.un_isa.specs.declared.facts.Range.TheVariants.{Signed16, Signed10, Unsigned5, Offset, FrameOffset}
 use Rattle.un_isa.specs.Facts.{class_of, operand_spaces, operand_count, result_space, literal_range}
 
--- the ranges of literals: signed ones of 16 and 10 bits, unsigned ones of 5 bits, and offsets, which are multiples of 4
-abbrev pub IsSigned16 : ℤ → Type 0
-IsSigned16 n = (negsuc 32767 ≤ℤ n) × (n ≤ℤ pos 32767)
+-- the ranges of literals, each from its least number to its greatest: signed ones of 16 and 10 bits, unsigned ones of 5 bits, and
+-- offsets of memory and of frame words, which are multiples of 4
+abbrev pub least : Range → ℤ
+least Signed16 = negsuc 32767
+least Signed10 = negsuc 511
+least Unsigned5 = pos 0
+least Offset = negsuc 4095
+least FrameOffset = pos 0
 
-abbrev pub IsSigned10 : ℤ → Type 0
-IsSigned10 n = (negsuc 511 ≤ℤ n) × (n ≤ℤ pos 511)
+abbrev pub greatest : Range → ℤ
+greatest Signed16 = pos 32767
+greatest Signed10 = pos 511
+greatest Unsigned5 = pos 31
+greatest Offset = pos 4092
+greatest FrameOffset = pos 4092
 
-abbrev pub IsUnsigned5 : ℤ → Type 0
-IsUnsigned5 n = (pos 0 ≤ℤ n) × (n ≤ℤ pos 31)
+abbrev pub are_words : Range → Bool
+are_words Signed16 = false
+are_words Signed10 = false
+are_words Unsigned5 = false
+are_words Offset = true
+are_words FrameOffset = true
 
-abbrev pub IsOffset : ℤ → Type 0
-IsOffset n = (negsuc 4095 ≤ℤ n) × (n ≤ℤ pos 4092) × (int_rem_euclid n (pos 4) ≡ pos 0)
-
--- the offset of a frame word, from the start of the frame
-abbrev pub IsFrameOffset : ℤ → Type 0
-IsFrameOffset n = (pos 0 ≤ℤ n) × (n ≤ℤ pos 4092) × (int_rem_euclid n (pos 4) ≡ pos 0)
+abbrev InWords : Range → ℤ → Bool → Type 0
+InWords range n false = (least range ≤ℤ n) × (n ≤ℤ greatest range)
+InWords range n true = (least range ≤ℤ n) × (n ≤ℤ greatest range) × (int_rem_euclid n (pos 4) ≡ pos 0)
 
 abbrev pub InRange : Range → ℤ → Type 0
-InRange Signed16 n = IsSigned16 n
-InRange Signed10 n = IsSigned10 n
-InRange Unsigned5 n = IsUnsigned5 n
-InRange Offset n = IsOffset n
-InRange FrameOffset n = IsFrameOffset n
+InRange range n = InWords range n (are_words range)
+
+-- the same as a test
+abbrev pub in_range : Range → ℤ → Bool
+in_range range n =
+    int_le (least range) n && int_le n (greatest range) && (not (are_words range) || int_eq (int_rem_euclid n (pos 4)) (pos 0))
+
+abbrev pub IsSigned16 : ℤ → Type 0
+IsSigned16 n = InRange Signed16 n
+
+abbrev pub IsUnsigned5 : ℤ → Type 0
+IsUnsigned5 n = InRange Unsigned5 n
 
 abbrev pub IsInRangeOf : Option Range → ℤ → Type 0
 IsInRangeOf None n = Unit {0}

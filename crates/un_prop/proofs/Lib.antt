@@ -1,4 +1,5 @@
 pub mod ChildLaws
+pub mod RoomLaws
 pub mod RoundLaws
 pub mod RunLaws
 pub mod WakeLaws

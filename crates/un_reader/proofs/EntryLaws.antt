@@ -16,8 +16,8 @@ module _ (params : List NameId) (names : List Spelled) (blocks : List Block) (na
     live = (column.exact 0).0 is;
   }
 
-  pub parameter_entry : reads name params ≡ true → IsLiveAtEntry params names blocks name → ⊥
-  parameter_entry is live = live.is_local (reads-Contains name params is)
+  pub param_entry : reads name params ≡ true → IsLiveAtEntry params names blocks name → ⊥
+  param_entry is live = live.is_local (reads-Contains name params is)
 
   pub dead_entry : marked marks 0 ≡ false → IsLiveAtEntry params names blocks name → ⊥
   dead_entry dead live = cc (sym dead ∙ (column.exact 0).1 live.live)

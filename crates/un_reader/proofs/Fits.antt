@@ -13,7 +13,8 @@ use Rattle.un_ir.specs.declared.function.TheConstants.{FREQUENCY, PARAMS}
 use Rattle.un_reader.specs.Before.{same_name}
 use Rattle.un_words.specs.LineNames.{names_on, names_on_term}
 use Rattle.un_reader.specs.Groups.{Group}
-use Rattle.un_reader.specs.LineFaults.{has_repeat, term_clashes, literal_fits, freq_fits, operands_clash}
+use Rattle.un_reader.specs.LineFaults.{has_repeat, term_clashes, freq_fits, operands_clash}
+use Rattle.un_reader.specs.Literals.{literal_fits}
 use Rattle.un_reader.specs.LineFaults.{result_clashes}
 use Rattle.un_reader.specs.Functions.{name_id, op_of, term_by, block_of}
 use Rattle.un_words.proofs.Each.{Each-weaken, Each-map, Each-unmap, Each-both, EachPair, EachPair-map, EachPair-unmap, Each-none, any_none}

@@ -9,7 +9,6 @@ pub mod NameNumbers
 pub mod OneAnswer
 pub mod OpFacts
 pub mod PartLaws
-pub mod Ranges
 pub mod ReadLaws
 pub mod RepeatLaws
 pub mod Rules

@@ -19,11 +19,13 @@ use Rattle.un_ir.specs.WellFormed.{kind_in, takes_arguments, IsOfKind, AreRead, 
 use Rattle.un_ir.specs.declared.function.TheConstants.{PARAMS}
 use Rattle.un_words.specs.Shapes.{result_by}
 use Rattle.un_reader.specs.Before.{same_kind}
-use Rattle.un_reader.specs.LineFaults.{is_predicate, misfits, operands_clash, result_clashes, fits_range, literal_fits}
-use Rattle.un_reader.specs.Functions.{name_id, literal_value, op_of}
+use Rattle.un_reader.specs.LineFaults.{is_predicate, misfits, operands_clash, result_clashes}
+use Rattle.un_reader.specs.Literals.{literal_value, literal_fits}
+use Rattle.un_reader.specs.Functions.{name_id, op_of}
 use Rattle.un_words.proofs.Each.{Each-left, Each-right}
 use Rattle.un_words.proofs.OpShapes.{Counted, LacksLiteral, IsShapedOp}
-use Rattle.un_reader.proofs.Ranges.{in_range, range_fits}
+use Rattle.un_isa.proofs.RangeTests.{decides}
+use Rattle.un_isa.specs.Operands.{in_range}
 
 -- the number of the name leads to its kind
 abbrev pub IsKnown : List Spelled → Spelled → Type 0
@@ -139,11 +141,12 @@ assigned_is names operands _ None known h = refl
 
 -- ---- the literal
 
-has_literal : (literal : Option Range) (n : Number) → option_map_or (λ (range : Range). fits_range range n) literal true ≡ true
+has_literal : (literal : Option Range) (n : Number)
+    → option_map_or (λ (range : Range). in_range range (literal_value n)) literal true ≡ true
     → LacksLiteral literal n
     → IsLiteralOf literal (literal_value n)
 has_literal None n fits lacks = ap literal_value lacks
-has_literal (Some range) n fits lacks = in_range range n fits
+has_literal (Some range) n fits lacks = (decides range (literal_value n)).0 fits
 
 -- what an operation's line without a fault says of its operation
 pub op_good : (names : List Spelled) (o : OpLine) → IsShapedOp o → Each (IsKnown names) (option_to_list o.dst ++ o.srcs)
@@ -161,9 +164,9 @@ op_good names o s known result operands few literal = record {
 }
 
 literal_in : (literal : Option Range) (n : Number) → IsLiteralOf literal (literal_value n)
-    → option_map_or (λ (range : Range). fits_range range n) literal true ≡ true
+    → option_map_or (λ (range : Range). in_range range (literal_value n)) literal true ≡ true
 literal_in None n h = refl
-literal_in (Some range) n h = range_fits range n h
+literal_in (Some range) n h = (decides range (literal_value n)).1 h
 
 -- what a line has whose operation keeps what every operation keeps
 pub record IsFitOp (o : OpLine) : Type 0 where

@@ -9,6 +9,7 @@ use Rattle.un_reader.specs.Vocabulary.{Jump, Branch, Ret, Line, Func, Spelled}
 use Rattle.un_ir.specs.declared.function.Function.{Function}
 use Rattle.un_reader.specs.Before.{same_name, names_of, labels_of, name_of}
 use Rattle.un_reader.specs.Groups.{Group, grouped}
+use Rattle.un_reader.specs.Literals.{literal_value}
 
 -- the number of a name is its place among the names
 abbrev pub name_id : List Spelled → Spelled → NameId
@@ -17,14 +18,6 @@ name_id names name = record { 0 = position_or_len (same_name name) names }
 -- the number of a block is the place of its label
 abbrev pub block_id : List (List ℕ) → List ℕ → BlockId
 block_id labels label = record { 0 = position_or_len (bytes_eq label) labels }
-
-abbrev pub negated : ℕ → ℤ
-negated zero = pos 0
-negated (suc n) = negsuc n
-
--- the number that is written; one that does not fit 32 bits is kept as the nearest that does
-abbrev pub literal_value : Number → ℤ
-literal_value n = if n.negative then negated (min n.size (2 ^ 31 - 1)) else pos (min n.size (2 ^ 31 - 1))
 
 abbrev pub op_of : List Spelled → OpLine → SrcOp
 op_of names o =

@@ -6,6 +6,7 @@ pub mod Functions
 pub mod Groups
 pub mod LineFaults
 pub mod Lines
+pub mod Literals
 pub mod Named
 pub mod Noted
 pub mod Read

@@ -20,6 +20,7 @@ use Rattle.un_words.specs.Tokens.{tokens_of}
 use Rattle.un_words.specs.Shapes.{shape_of, line_of}
 use Rattle.un_reader.specs.Before.{same_kind, same_name, numbered, before_of}
 use Rattle.un_words.specs.LineNames.{names_on}
+use Rattle.un_reader.specs.Literals.{literal_fits}
 
 -- a tab, or a byte from a space to a tilde
 abbrev pub is_plain_byte : ℕ → Bool
@@ -84,26 +85,7 @@ has_too_many before line = is_over_limit before line || nat_lt NAMES (length (nu
 
 -- ---- numbers
 
--- at least -limit, and less than limit
-abbrev pub fits_signed : ℕ → Number → Bool
-fits_signed limit n = nat_lt n.size limit || (n.negative && n.size == limit)
-
--- at least 0, and less than limit; -0 is 0
-abbrev pub fits_unsigned : ℕ → Number → Bool
-fits_unsigned limit n = nat_lt n.size limit && (not n.negative || n.size == 0)
-
--- a literal in a range; an offset is a multiple of 4
-abbrev pub fits_range : Range → Number → Bool
-fits_range Signed16 n = fits_signed 32768 n
-fits_range Signed10 n = fits_signed 512 n
-fits_range Unsigned5 n = fits_unsigned 32 n
-fits_range Offset n = fits_signed 4096 n && n.size % 4 == 0
-fits_range FrameOffset n = fits_unsigned 4096 n && n.size % 4 == 0
-
--- the literal is in the range of its operation, where that has one
-abbrev pub literal_fits : Op → Number → Bool
-literal_fits op n = option_map_or (λ range. fits_range range n) (literal_range op) true
-
+-- the literal is outside the range of its operation
 abbrev pub is_wide : Line → Bool
 is_wide (Operation o) = not (literal_fits o.op o.imm)
 is_wide _ = false

@@ -6,9 +6,10 @@ ghost use Rattle.std.specs.List.{position_or_len};
 ghost use Rattle.std.specs.Str.{bytes_eq};
 ghost use Rattle.un_reader.specs.Before.{same_name, names_of, labels_of, name_of};
 ghost use Rattle.un_reader.specs.Groups.{ops_of, term_of};
-ghost use Rattle.un_reader.specs.Functions.{name_id, block_id, literal_value, op_of, term_by, blocks_of, params_of, ArePartsOf};
+ghost use Rattle.un_reader.specs.Functions.{name_id, block_id, op_of, term_by, blocks_of, params_of, ArePartsOf};
 
 use crate::draft::Draft;
+use crate::literal::literal_value;
 use crate::names::Names;
 use crate::text_fault::find_term;
 use std::alloc::Global;
@@ -20,7 +21,6 @@ use un_lists::few::Few;
 use un_lists::items::Items;
 use un_words::forms::is_text;
 use un_words::line::{Line, OpLine, TermLine};
-use un_words::token::Number;
 
 /// The number of a name.
 fn name_id(names: &Names, name: &(Name, Kind)) -> NameId
@@ -49,14 +49,6 @@ fn block_id(labels: &[Name], label: &Name) -> BlockId
     ensures { result ≡ block_id labels.now label.now }
 {
     BlockId(label_place(labels, label) as u32)
-}
-
-/// The number that is written, or the nearest that fits.
-fn literal_value(n: Number) -> i32
-    ensures { result ≡ literal_value n }
-{
-    let size = n.size.min(i32::MAX as u32) as i32;
-    if n.negative { -size } else { size }
 }
 
 /// The numbers of names.

@@ -21,7 +21,7 @@ fn is_parameter(params: &[NameId], name: NameId) -> bool
 }
 
 /// Whether the name, with the marks of the blocks at whose start it is live, is no parameter and is live at the start of the entry.
-#[tactic(auto, using(crate::proofs::EntryLaws::live_entry, crate::proofs::EntryLaws::parameter_entry, crate::proofs::EntryLaws::dead_entry))]
+#[tactic(auto, using(crate::proofs::EntryLaws::live_entry, crate::proofs::EntryLaws::param_entry, crate::proofs::EntryLaws::dead_entry))]
 fn is_live_name(parts: &Draft, name: NameId, marks: &[bool]) -> bool
     requires number { name.0 < length parts.now.names }
     requires column { IsColumn parts.now.blocks name marks.now }

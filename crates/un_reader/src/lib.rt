@@ -10,6 +10,7 @@ pub mod error;
 pub mod fault;
 pub mod limits;
 pub mod line_fault;
+mod literal;
 pub mod names;
 mod new_names;
 pub mod read;

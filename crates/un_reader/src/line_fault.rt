@@ -5,20 +5,21 @@ ghost use Rattle.std.specs.List.{list_any, list_all, zip};
 ghost use Rattle.un_ir.specs.WellFormed.{kind_in};
 ghost use Rattle.std.specs.Str.{bytes_eq};
 ghost use Rattle.un_reader.specs.LineFaults.{is_plain_byte, has_repeat, is_misplaced, is_predicate, misfits, operands_clash};
-ghost use Rattle.un_reader.specs.LineFaults.{result_clashes, term_clashes, has_clash, is_over_limit, has_too_many, fits_signed};
-ghost use Rattle.un_reader.specs.LineFaults.{fits_unsigned, fits_range, literal_fits, is_wide, freq_fits, has_bad_freq, repeats_label};
+ghost use Rattle.un_reader.specs.LineFaults.{result_clashes, term_clashes, has_clash, is_over_limit, has_too_many};
+ghost use Rattle.un_reader.specs.LineFaults.{is_wide, freq_fits, has_bad_freq, repeats_label};
 ghost use Rattle.un_reader.specs.LineFaults.{is_body, is_before_block, is_after_end, first_of, faults_on, line_fault};
 ghost use Rattle.un_words.specs.Shapes.{line_of};
 
 use crate::before::{Before, same_kind};
 use crate::fault::Fault;
+use crate::literal::literal_fits;
 use crate::names::Names;
 use crate::new_names::new_names;
 use std::alloc::Global;
 use un_base::memory_error::NoMemory;
 use un_base::name::Name;
 use un_ir::function::{BLOCKS, FREQUENCY, Kind, NAMES, OPS, PARAMS};
-use un_isa::facts::{Range, literal_range, operand_spaces, result_space};
+use un_isa::facts::{operand_spaces, result_space};
 use un_isa::op::Op;
 use un_isa::reg::Space;
 use un_words::forms::is_text;
@@ -181,43 +182,6 @@ fn has_too_many(alloc: Global, before: &Before, line: &Line) -> Result<bool, NoM
     }
     let new = new_names(alloc, &before.names, line)?;
     Ok((NAMES as usize) < before.names.len() + new.len())
-}
-
-/// Whether the number is at least `-limit` and less than `limit`.
-fn fits_signed(limit: u32, n: Number) -> bool
-    ensures { result ≡ fits_signed limit n }
-{
-    n.size < limit || (n.negative && n.size == limit)
-}
-
-/// Whether the number is at least 0 and less than `limit`.
-fn fits_unsigned(limit: u32, n: Number) -> bool
-    ensures { result ≡ fits_unsigned limit n }
-{
-    n.size < limit && (!n.negative || n.size == 0)
-}
-
-/// Whether the number is in the range. An offset is a multiple of 4.
-fn fits_range(range: Range, n: Number) -> bool
-    ensures { result ≡ fits_range range n }
-{
-    match range {
-        Range::Signed16 => fits_signed(32768, n),
-        Range::Signed10 => fits_signed(512, n),
-        Range::Unsigned5 => fits_unsigned(32, n),
-        Range::Offset => fits_signed(4096, n) && n.size % 4 == 0,
-        Range::FrameOffset => fits_unsigned(4096, n) && n.size % 4 == 0,
-    }
-}
-
-/// Whether the literal is in the range of its operation, where that has one.
-fn literal_fits(op: Op, n: Number) -> bool
-    ensures { result ≡ literal_fits op n }
-{
-    match literal_range(op) {
-        None => true,
-        Some(range) => fits_range(range, n),
-    }
 }
 
 /// Whether the line's literal is outside the range of its operation.

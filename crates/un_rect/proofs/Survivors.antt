@@ -1,5 +1,6 @@
 -- Calls of a temporary that has some register left outside the mask.
-use Rattle.std.proofs.Common.{ℕ, zero, suc, ◌≡◌, ◌≢◌, ◌<◌, Bool, true, false, not, ◌&&◌, List, [], ◌∷◌, length, filter, nat_eq, nat_le, nat_lt, cond}
+use Rattle.std.proofs.Common.{ℕ, zero, suc, ◌≡◌, ◌≢◌, ◌<◌, Bool, true, false, not, ◌&&◌, List, [], ◌∷◌, length, filter}
+use Rattle.std.proofs.Common.{nat_eq, nat_le, nat_lt, cond}
 use Rattle.std.proofs.Common.{None, Some, option_and_then, refl, sym, ap, ◌∙◌, subst, arith}
 use Rattle.std.specs.declared.option.Option.{Option}
 use Rattle.std.specs.List.{list_any, AllByRecursion}
@@ -83,6 +84,10 @@ module _ (vs : List VarId) (mask : ℕ) (a : Temp) (c : ClobberCall) (ha : TempV
     abbrev left : Sets
     left = kept (hit_test mask a c s) s a.reg.0
 
+    -- one outside the mask is not hit
+    kept_out : (y : ℕ) → not (in_mask mask y) ≡ true → hit_test mask a c s y ≡ true
+    kept_out y out = passes_unmet _ (no_left (in_mask mask y) _ (of_not (in_mask mask y) out))
+
     -- a register outside the mask is left
     left_alive : may_survive mask a left ≡ true
     left_alive = subst (λ (xs : List ℕ). list_any (λ r. not (in_mask mask r)) xs ≡ true)
@@ -91,8 +96,7 @@ module _ (vs : List VarId) (mask : ℕ) (a : Temp) (c : ClobberCall) (ha : TempV
         (filter (hit_test mask a c s) (set_at s a.reg.0))
         (λ y h out. (
           has-filter (hit_test mask a c s) y (set_at s a.reg.0)
-              ∙ both (hit_test mask a c s y) (has (set_at s a.reg.0) y) (passes_unmet _ (no_left (in_mask mask y) _ (of_not (in_mask mask y) out)))
-              h,
+              ∙ both (hit_test mask a c s y) (has (set_at s a.reg.0) y) (kept_out y out) h,
           out,
         )) alive)
       where

@@ -19,7 +19,8 @@ use Rattle.un_isa.specs.Operands.{HasLiteral}
 use Rattle.un_reader.specs.Before.{numbered, names_of}
 use Rattle.un_reader.specs.Groups.{Group}
 use Rattle.un_words.specs.LineNames.{names_on}
-use Rattle.un_reader.specs.Functions.{name_id, block_id, literal_value, op_of, term_by, block_of}
+use Rattle.un_reader.specs.Functions.{name_id, block_id, op_of, term_by, block_of}
+use Rattle.un_reader.specs.Literals.{literal_value}
 use Rattle.un_words.proofs.Each.{Each-left, Each-right, Each-unflat}
 use Rattle.un_reader.proofs.NameNumbers.{IsPlace, place_back, numbers_placed, names_first}
 use Rattle.un_reader.proofs.TextLines.{text_lines, names_on_line, names_at_end, group_names, names_of_groups}

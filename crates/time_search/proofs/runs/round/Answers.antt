@@ -1,5 +1,5 @@
 use Rattle.std.proofs.Common.{length, ap, refl}
-use Rattle.time_search.proofs.RoomLaws.{room_stays}
+use Rattle.un_prop.proofs.RoomLaws.{room_stays}
 use Rattle.time_search.proofs.runs.round.Goals as goal
 
 pub run_child-requires-clause-room : goal.run_child-requires-clause-room

@@ -1,6 +1,6 @@
 use Rattle.std.proofs.Common.{length, ap}
 use Rattle.un_domains.specs.Cuts.{Contents}
-use Rattle.time_search.proofs.RoomLaws.{room_stays}
+use Rattle.un_prop.proofs.RoomLaws.{room_stays}
 use Rattle.time_search.proofs.runs.rounds.Goals as goal
 
 pub round-requires-clause-room : goal.round-requires-clause-room

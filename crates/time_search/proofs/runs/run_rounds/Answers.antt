@@ -2,7 +2,7 @@ use Rattle.std.proofs.Common.{◌≡◌, Some, length, ap, refl}
 use Rattle.std.proofs.lemmas.List.Elements.{All-from_recursion}
 use Rattle.un_prop.specs.declared.run.Fix.{Fix}
 use Rattle.un_prop.specs.declared.run.Fix.TheVariants.{Stable, Failed}
-use Rattle.time_search.proofs.RoomLaws.{room_stays}
+use Rattle.un_prop.proofs.RoomLaws.{room_stays}
 use Rattle.time_search.proofs.runs.run_rounds.Goals as goal
 
 stable_of : (r : Fix) → (r ≡ Failed → ⊥) → r ≡ Stable

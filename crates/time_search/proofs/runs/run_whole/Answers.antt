@@ -1,6 +1,6 @@
 use Rattle.std.proofs.Common.{length, ap, refl, ◌∙◌}
 use Rattle.std.proofs.lemmas.List.{length-set}
-use Rattle.time_search.proofs.RoomLaws.{room_stays}
+use Rattle.un_prop.proofs.RoomLaws.{room_stays}
 use Rattle.time_search.proofs.runs.run_whole.Goals as goal
 
 pub run_all-requires-clause-room : goal.run_all-requires-clause-room

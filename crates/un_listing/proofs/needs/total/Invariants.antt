@@ -5,4 +5,5 @@ use Rattle.un_isa.specs.PacketCounts.{share_of}
 use Rattle.un_listing.proofs.needs.total.Given as goal
 
 abbrev pub invariant-loop-instr : goal.invariant-loop-instr
-invariant-loop-instr l = (l.total ≡ sum_by (λ i. share_of l.resource (needs_of i)) (take l.instr-index l.instrs)) × (l.total ≤ l.instr-index)
+invariant-loop-instr l = (l.total ≡ sum_by (λ i. share_of l.resource (needs_of i)) (take l.instr-index l.instrs))
+    × (l.total ≤ l.instr-index)
