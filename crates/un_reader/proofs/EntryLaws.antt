@@ -1,5 +1,5 @@
 -- A name is live at the start of the entry or not, by its marks.
-use Rattle.std.proofs.Common.{◌≡◌, ◌∙◌, ℕ, ◌<◌, Bool, true, false, List, length, sym}
+use Rattle.std.proofs.Common.{◌≡◌, ◌∙◌, ◌<◌, Bool, true, false, List, length, sym}
 use Rattle.un_ir.specs.declared.function.Block.{Block}
 use Rattle.un_live.specs.Marks.{marked, IsColumn}
 use Rattle.un_live.specs.Tables.{reads}

@@ -1,5 +1,5 @@
 -- Liveness at the start of the entry.
-use Rattle.std.specs.Prelude.{ℕ, ◌<◌, List, length, Contains}
+use Rattle.std.specs.Prelude.{◌<◌, List, length, Contains}
 use Rattle.un_reader.specs.Vocabulary.{NameId, Spelled}
 use Rattle.un_ir.specs.declared.function.Block.{Block}
 use Rattle.un_ir.specs.Live.{IsLive}

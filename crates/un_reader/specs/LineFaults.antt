@@ -1,14 +1,12 @@
 -- The faults of one line, given what stands before it.
-use Rattle.std.specs.Prelude.{ℕ, ◌==◌, ◌%◌, ◌&&◌, ◌||◌, Bool, true, false, not, nat_lt, nat_le, List, [], ◌∷◌, length, Option, Some, None}
+use Rattle.std.specs.Prelude.{ℕ, ◌==◌, ◌&&◌, ◌||◌, Bool, true, false, not, nat_lt, nat_le, List, [], ◌∷◌, length, Option, Some, None}
 use Rattle.std.specs.Prelude.{is_some, is_none, map, take, slice_get, if◌then◌else◌}
 use Rattle.std.specs.List.{list_all, list_any, zip}
 use Rattle.std.specs.Option.{option_map_or, option_and_then}
 use Rattle.std.specs.Str.{bytes_eq}
 use Rattle.un_isa.specs.declared.op.Op.{Op}
 use Rattle.un_isa.specs.declared.reg.Space.{Space}
-use Rattle.un_isa.specs.declared.facts.Range.{Range}
-use Rattle.un_isa.specs.declared.facts.Range.TheVariants.{Signed16, Signed10, Unsigned5, Offset, FrameOffset}
-use Rattle.un_isa.specs.Facts.{operand_spaces, result_space, literal_range}
+use Rattle.un_isa.specs.Facts.{operand_spaces, result_space}
 use Rattle.un_ir.specs.WellFormed.{kind_in, is_call}
 use Rattle.un_reader.specs.Vocabulary.{Pred, Number, TermLine, Jump, Branch, Ret, Line, Blank, Func, Block, Operation, Terminator, Spelled}
 use Rattle.un_ir.specs.declared.function.TheConstants.{BLOCKS, OPS, NAMES, FREQUENCY, PARAMS}
