@@ -58,9 +58,9 @@ fn read_more<S: Source>(src: &mut S, bytes: &mut Vec<u8>, room: usize) -> Result
     ensures err { OnErr result ((more : List ℕ) × Consumes (S.left src.old) (S.left src.new) more) }
 {
     let mut chunk = [0u8; CHUNK];
-    let room = room.min(CHUNK);
-    let count = src.read(&mut chunk[..room])?;
-    bytes.extend_from_slice(&chunk[..count])?;
+    let front = &mut chunk[..room.min(CHUNK)];
+    let count = src.read(front)?;
+    bytes.extend_from_slice(&front[..count])?;
     Ok(count)
 }
 

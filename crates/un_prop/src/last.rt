@@ -124,8 +124,9 @@ pub fn check_last<P: Predicate>(
     match find_last(p.reads(), w) {
         None => before,
         Some(v) => {
-            fill(p.reads(), w, scratch.fixed.as_mut_slice());
-            let did = try_all(p, w, v, scratch.fixed.as_mut_slice());
+            let fixed = scratch.fixed.as_mut_slice();
+            fill(p.reads(), w, fixed);
+            let did = try_all(p, w, v, fixed);
             joined(before, did)
         }
     }

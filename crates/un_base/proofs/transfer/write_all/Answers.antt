@@ -1,4 +1,5 @@
-use Rattle.std.proofs.Common.{ℕ, ◌≡◌, ◌≤◌, ◌⊎◌, true, min, IfSome, arith, ◌∙◌, subst}
+use Rattle.std.proofs.Common.{ℕ, ◌≡◌, ◌≤◌, ◌⊎◌, true, min, IfSome, arith, ◌∙◌, subst, take_all}
+use Rattle.std.specs.Io.KnownBytes.{Appends}
 use Rattle.un_base.proofs.Pieces.{prefix_kept, prefix_longer, front_longer, length-rest_of}
 use Rattle.un_base.proofs.Paces.{paces_on, paced_whole}
 use Rattle.un_base.proofs.transfer.write_all.Goals as goal
@@ -30,3 +31,7 @@ returns-in-Err-clause-prefix g c = prefix_kept _ _ _ c.loop-at.at c.args.bytes.n
 pub returns-clause-whole_rest : goal.returns-clause-whole_rest
 returns-clause-whole_rest g c = paced_whole c.loop-at.at _ _ _ _ _ (omega (arith, c.loop-at-test.false)) c.loop-at.invariant.within
     c.loop-at.invariant.paced
+
+pub returns-clause-all : goal.returns-clause-all
+returns-clause-all g c = subst (Appends _ _) (take_all c.loop-at.at c.args.bytes.now (omega (arith, c.loop-at-test.false)))
+    c.loop-at.invariant.front

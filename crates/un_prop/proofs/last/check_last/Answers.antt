@@ -1,5 +1,5 @@
 use Rattle.std.proofs.Common.{ℕ, List, Bool, ◌≡◌, ◌≢◌, ◌<◌, ◌+◌, ◌||◌, ◌∙◌, not, nat_eq, nat_le, set, length, arith, refl, sym, ap, subst}
-use Rattle.std.proofs.Common.{option_and_then, Some, None}
+use Rattle.std.proofs.Common.{option_and_then, Some, None, ◌++◌, take, drop, length-take-le, length-append, length-drop}
 use Rattle.std.specs.declared.option.Option.{Option}
 use Rattle.un_base.specs.declared.ids.VarId.{VarId}
 use Rattle.un_domains.specs.Sets.{Sets, set_at, cut_by, least, greatest, NoneEmpty}
@@ -36,3 +36,17 @@ returns-in-Some-clause-goes g c =
     (goes_then vs cut s new c.args.before c.try_all-did.result (λ e. let h = rw e at c.if-eq.ensures in cc h)
     (λ live. let done = subst (λ (o : Option Sets). IsPrune vs o s new c.try_all-did.result) (sym (ap (last_cut_at (P.holds p) s.sets) is))
     c.try_all-did.ensures.prune in (done.ends, done.untouched)))
+
+pub try_all-did-requires-clause-written : goal.try_all-did-requires-clause-written
+try_all-did-requires-clause-written g c = rw c.reads-in-Some.ensures at c.fill.ensures
+
+-- a front that is written over is as long as before
+same_length : (n : ℕ) (xs ys : List ℕ) → length ys ≡ n → length xs ≡ length ys → length (take n (xs ++ drop (length xs) ys)) ≡ length ys
+same_length n xs ys whole same = length-take-le n (xs ++ drop (length xs) ys)
+    (omega (arith, length-append xs (drop (length xs) ys), length-drop (length xs) ys)) ∙ sym whole
+
+pub returns-in-Some-clause-fixed : goal.returns-in-Some-clause-fixed
+returns-in-Some-clause-fixed g c =
+    let lent = c.as_mut_slice-fixed.ensures in
+    same_length c.args.scratch.now.fixed.len c.try_all-did.new.fixed c.args.scratch.now.fixed.items (sym (ap length lent.value) ∙ lent.len)
+    (c.try_all-did.auto.fixed ∙ c.fill.auto.fixed ∙ ap length lent.value)
