@@ -2,6 +2,7 @@ use Rattle.std.proofs.Common.{refl}
 use Rattle.un_prop.specs.GoingLaws.{stepped_by, stepped_failed, stepped_same}
 use Rattle.un_rect.specs.Apart.{check_pair}
 use Rattle.un_rect.specs.Checks.{decide_cut}
+use Rattle.un_rect.proofs.Going.{going}
 use Rattle.un_rect.proofs.checks.check.Goals as goal
 
 pub undecided-requires-clause-ascend : goal.undecided-requires-clause-ascend
@@ -17,7 +18,7 @@ pub undecided-requires-clause-known : goal.undecided-requires-clause-known
 undecided-requires-clause-known c = c.requires.known
 
 pub undecided-requires-clause-live : goal.undecided-requires-clause-live
-undecided-requires-clause-live c = c.requires.live (λ e. let h = rw e at c.if-eq.ensures in cc h)
+undecided-requires-clause-live c = c.requires.live (going c.args.before c.if-eq.ensures)
 
 pub returns-in-None-clause-step : goal.returns-in-None-clause-step
 returns-in-None-clause-step c = stepped_same c.args.w.now.vars.now (check_pair c.args.w.now.vars.now c.args.a.now c.args.b.now)
@@ -39,16 +40,16 @@ pub decide-requires-clause-known : goal.decide-requires-clause-known
 decide-requires-clause-known c = c.requires.known
 
 pub decide-requires-clause-going : goal.decide-requires-clause-going
-decide-requires-clause-going c = λ e. let h = rw e at c.if-eq.ensures in cc h
+decide-requires-clause-going c = going c.args.before c.if-eq.ensures
 
 pub decide-requires-clause-live : goal.decide-requires-clause-live
-decide-requires-clause-live c = c.requires.live (λ e. let h = rw e at c.if-eq.ensures in cc h)
+decide-requires-clause-live c = c.requires.live (going c.args.before c.if-eq.ensures)
 
 pub decide-requires-clause-room : goal.decide-requires-clause-room
 decide-requires-clause-room c = c.requires.room
 
 pub decide-requires-clause-written : goal.decide-requires-clause-written
-decide-requires-clause-written c = c.requires.written (λ e. let h = rw e at c.if-eq.ensures in cc h)
+decide-requires-clause-written c = c.requires.written (going c.args.before c.if-eq.ensures)
 
 pub returns-in-Some-clause-step : goal.returns-in-Some-clause-step
 returns-in-Some-clause-step c =

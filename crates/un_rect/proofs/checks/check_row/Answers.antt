@@ -11,6 +11,7 @@ use Rattle.un_rect.specs.Apart.{check_pair}
 use Rattle.un_rect.specs.Pairs.{each_before}
 use Rattle.un_rect.proofs.CheckSteps.{checks_idle}
 use Rattle.un_rect.proofs.Rows.{row_next, same_ascend, same_known, same_temp, same_written}
+use Rattle.un_rect.proofs.Going.{going}
 use Rattle.un_rect.proofs.checks.check_row.Goals as goal
 
 pub returns-then-is_idle-clause-step : goal.returns-then-is_idle-clause-step
@@ -31,7 +32,7 @@ pub is_idle-requires-clause-known : goal.is_idle-requires-clause-known
 is_idle-requires-clause-known c = c.requires.known
 
 pub is_idle-requires-clause-live : goal.is_idle-requires-clause-live
-is_idle-requires-clause-live c = c.requires.live (λ e. let h = rw e at c.if-eq.ensures in cc h)
+is_idle-requires-clause-live c = c.requires.live (going c.args.before c.if-eq.ensures)
 
 pub check-did-requires-clause-ascend : goal.check-did-requires-clause-ascend
 check-did-requires-clause-ascend c = same_ascend c.args.w.now.vars.now c.loop-i.w.vars.now (ap (λ r. r.now) c.loop-i.invariant.vars)
