@@ -1,16 +1,37 @@
 -- One step further in a row, and one row further.
-use Rattle.std.proofs.Common.{ℕ, suc, ◌≡◌, ◌<◌, ◌+◌, List, length, get_or, sym, ap, ◌∙◌, subst, arith}
+use Rattle.std.proofs.Common.{ℕ, suc, ◌≡◌, ◌≢◌, ◌<◌, ◌+◌, List, length, get_or, sym, ap, ◌∙◌, subst, arith}
 use Rattle.std.specs.declared.option.Option.{Option}
 use Rattle.un_base.specs.declared.ids.VarId.{VarId}
 use Rattle.un_domains.specs.Sets.{Sets}
 use Rattle.un_domains.specs.Cuts.{Contents}
 use Rattle.un_prop.specs.Going.{Stepped}
 use Rattle.un_prop.specs.GoingLaws.{stepped_by, stepped_chain}
+use Rattle.un_prop.specs.LastLaws.{Ascend}
 use Rattle.un_prop.specs.Places.{each_place}
+use Rattle.un_prop.specs.Rounds.{HasVars}
 use Rattle.un_prop.specs.declared.act.Temp.{Temp}
 use Rattle.un_prop.specs.declared.propagator.Pruned.{Pruned}
+use Rattle.un_prop.specs.declared.propagator.Pruned.TheVariants.{Failed}
+use Rattle.un_rect.specs.Checks.{Written}
+use Rattle.un_rect.specs.Spans.{TempVars}
 use Rattle.un_rect.specs.Pairs.{at_place, each_before, each_pair}
 use Rattle.un_rect.specs.PairLaws.{at_is}
+
+-- what holds of the list of variables holds of the same list after some steps
+
+pub same_ascend : (vs us : List VarId) → us ≡ vs → Ascend vs → Ascend us
+same_ascend vs us e h = subst Ascend (sym e) h
+
+pub same_temp : (vs us : List VarId) (a : Temp) → us ≡ vs → TempVars vs a → TempVars us a
+same_temp vs us a e h = subst (λ (ws : List VarId). TempVars ws a) (sym e) h
+
+pub same_known : (vs us : List VarId) (old new : Sets) → us ≡ vs → length new ≡ length old → HasVars vs old → HasVars us new
+same_known vs us old new e long h = subst (λ (ws : List VarId). HasVars ws new) (sym e)
+    (λ i d lt. (let known = h i d lt in omega (arith, known, long)))
+
+pub same_written : (vs us : List VarId) (s : Sets) (fixed : List ℕ) (did : Pruned) → us ≡ vs → (did ≢ Failed → Written vs s fixed)
+    → did ≢ Failed → Written us s fixed
+same_written vs us s fixed did e h going = subst (λ (ws : List VarId). Written ws s fixed) (sym e) (h going)
 
 pub row_next : (f : Temp → Temp → Sets → Option Sets) (temps : List Temp) (a b : Temp) (i : ℕ) (vs us : List VarId) (old mid new : Contents)
     (before did after : Pruned)

@@ -87,6 +87,10 @@ module _ (vs : List VarId) (mask : ℕ) (a : Temp) (c : ClobberCall) (ha : TempV
     -- one outside the mask is not hit
     kept_out : (y : ℕ) → not (in_mask mask y) ≡ true → hit_test mask a c s y ≡ true
     kept_out y out = passes_unmet _ (no_left (in_mask mask y) _ (of_not (in_mask mask y) out))
+      where
+        of_not : (b : Bool) → not b ≡ true → b ≡ false
+        of_not false e = refl
+        of_not true e = absurd (cc e)
 
     -- a register outside the mask is left
     left_alive : may_survive mask a left ≡ true
@@ -99,10 +103,6 @@ module _ (vs : List VarId) (mask : ℕ) (a : Temp) (c : ClobberCall) (ha : TempV
               ∙ both (hit_test mask a c s y) (has (set_at s a.reg.0) y) (kept_out y out) h,
           out,
         )) alive)
-      where
-        of_not : (b : Bool) → not b ≡ true → b ≡ false
-        of_not false e = refl
-        of_not true e = absurd (cc e)
 
     pub survivor_steps : call_steps mask a c s ≡ hit_cut mask a c s
     survivor_steps = by (nat_eq (length (filter (hit_test mask a c s) (set_at s a.reg.0))) 0) refl

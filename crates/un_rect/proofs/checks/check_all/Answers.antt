@@ -7,7 +7,7 @@ use Rattle.un_prop.specs.declared.propagator.Pruned.TheVariants.{Failed}
 use Rattle.un_rect.specs.Spans.{TempVars}
 use Rattle.un_rect.specs.Apart.{check_pair}
 use Rattle.un_rect.specs.Pairs.{each_before}
-use Rattle.un_rect.proofs.Rows.{rows_next}
+use Rattle.un_rect.proofs.Rows.{rows_next, same_ascend, same_known, same_temp, same_written}
 use Rattle.un_rect.proofs.checks.check_all.Goals as goal
 
 pub check_row-did-requires-clause-of_temps : goal.check_row-did-requires-clause-of_temps
@@ -17,9 +17,24 @@ check_row-did-requires-clause-of_temps c = subst (λ (us : List VarId). All (Tem
 pub check_row-did-requires-clause-of_b : goal.check_row-did-requires-clause-of_b
 check_row-did-requires-clause-of_b c =
     let j = c.loop-j.j in
-    subst (λ (us : List VarId). TempVars us c.index-temps-j.result) (sym (ap (λ r. r.now) c.loop-j.invariant.vars))
+    same_temp c.args.w.now.vars.now c.loop-j.w.vars.now c.index-temps-j.result (ap (λ r. r.now) c.loop-j.invariant.vars)
     (subst (λ (a : Temp). TempVars c.args.w.now.vars.now a) (sym c.index-temps-j.is) (c.requires.of_temps j c.index-temps-j.result
     (omega (arith, c.loop-j-test.true, c.loop-j.auto.j-end))))
+
+pub check_row-did-requires-clause-ascend : goal.check_row-did-requires-clause-ascend
+check_row-did-requires-clause-ascend c = same_ascend c.args.w.now.vars.now c.loop-j.w.vars.now
+    (ap (λ r. r.now) c.loop-j.invariant.vars) c.requires.ascend
+
+pub check_row-did-requires-clause-known : goal.check_row-did-requires-clause-known
+check_row-did-requires-clause-known c = same_known c.args.w.now.vars.now c.loop-j.w.vars.now c.args.w.now.store.now.sets
+    c.loop-j.w.store.now.sets (ap (λ r. r.now) c.loop-j.invariant.vars) c.loop-j.invariant.step.long c.requires.known
+
+pub check_row-did-requires-clause-live : goal.check_row-did-requires-clause-live
+check_row-did-requires-clause-live c = c.loop-j.invariant.step.live c.requires.live
+
+pub check_row-did-requires-clause-written : goal.check_row-did-requires-clause-written
+check_row-did-requires-clause-written c = same_written c.args.w.now.vars.now c.loop-j.w.vars.now c.loop-j.w.store.now.sets
+    c.loop-j.fixed c.loop-j.did (ap (λ r. r.now) c.loop-j.invariant.vars) c.loop-j.invariant.written
 
 pub loop-j-preserved : goal.loop-j-preserved
 loop-j-preserved c =

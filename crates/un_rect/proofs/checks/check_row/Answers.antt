@@ -1,4 +1,4 @@
-use Rattle.std.proofs.Common.{List, ◌≡◌, ◌≢◌, ◌∙◌, All, get_or, sym, ap, subst, arith}
+use Rattle.std.proofs.Common.{List, ◌≡◌, ◌≢◌, ◌∙◌, All, get_or, refl, sym, ap, subst, arith}
 use Rattle.std.proofs.lemmas.List.Elements.{recursion_from_All}
 use Rattle.un_base.specs.declared.ids.VarId.{VarId}
 use Rattle.un_domains.specs.Sets.{set_at, least}
@@ -10,7 +10,8 @@ use Rattle.un_rect.specs.Spans.{TempVars}
 use Rattle.un_rect.specs.Apart.{check_pair}
 use Rattle.un_rect.specs.Pairs.{each_before}
 use Rattle.un_rect.proofs.CheckSteps.{checks_idle}
-use Rattle.un_rect.proofs.Rows.{row_next}
+use Rattle.un_rect.proofs.Rows.{row_next, same_ascend, same_known, same_temp, same_written}
+use Rattle.un_rect.proofs.Going.{going}
 use Rattle.un_rect.proofs.checks.check_row.Goals as goal
 
 pub returns-then-is_idle-clause-step : goal.returns-then-is_idle-clause-step
@@ -24,12 +25,54 @@ returns-then-is_idle-clause-step c =
     c.requires.known live
     (sym c.is_idle.ensures ∙ c.if-is_idle.true) c.args.n)
 
+pub is_idle-requires-clause-of_b : goal.is_idle-requires-clause-of_b
+is_idle-requires-clause-of_b c = c.requires.of_b
+
+pub is_idle-requires-clause-known : goal.is_idle-requires-clause-known
+is_idle-requires-clause-known c = c.requires.known
+
+pub is_idle-requires-clause-live : goal.is_idle-requires-clause-live
+is_idle-requires-clause-live c = c.requires.live (going c.args.before c.if-eq.ensures)
+
+pub check-did-requires-clause-ascend : goal.check-did-requires-clause-ascend
+check-did-requires-clause-ascend c = same_ascend c.args.w.now.vars.now c.loop-i.w.vars.now (ap (λ r. r.now) c.loop-i.invariant.vars)
+    c.requires.ascend
+
 pub check-did-requires-clause-of_a : goal.check-did-requires-clause-of_a
 check-did-requires-clause-of_a c =
     let i = c.loop-i.i in
-    subst (λ (us : List VarId). TempVars us c.index-temps-i.result) (sym (ap (λ r. r.now) c.loop-i.invariant.vars))
+    same_temp c.args.w.now.vars.now c.loop-i.w.vars.now c.index-temps-i.result (ap (λ r. r.now) c.loop-i.invariant.vars)
     (subst (λ (a : Temp). TempVars c.args.w.now.vars.now a) (sym c.index-temps-i.is) (c.requires.of_temps i c.index-temps-i.result
     (omega (arith, c.loop-i-test.true, c.loop-i.auto.i-end, c.requires.few))))
+
+pub check-did-requires-clause-of_b : goal.check-did-requires-clause-of_b
+check-did-requires-clause-of_b c = same_temp c.args.w.now.vars.now c.loop-i.w.vars.now c.args.b.now
+    (ap (λ r. r.now) c.loop-i.invariant.vars) c.requires.of_b
+
+pub check-did-requires-clause-known : goal.check-did-requires-clause-known
+check-did-requires-clause-known c = same_known c.args.w.now.vars.now c.loop-i.w.vars.now c.args.w.now.store.now.sets
+    c.loop-i.w.store.now.sets (ap (λ r. r.now) c.loop-i.invariant.vars) c.loop-i.invariant.step.long c.requires.known
+
+pub check-did-requires-clause-live : goal.check-did-requires-clause-live
+check-did-requires-clause-live c = c.loop-i.invariant.step.live c.requires.live
+
+pub check-did-requires-clause-room : goal.check-did-requires-clause-room
+check-did-requires-clause-room c = omega (arith, c.loop-i.invariant.step.long, c.requires.room, c.loop-i.auto.fixed)
+
+pub check-did-requires-clause-written : goal.check-did-requires-clause-written
+check-did-requires-clause-written c = same_written c.args.w.now.vars.now c.loop-i.w.vars.now c.loop-i.w.store.now.sets c.loop-i.fixed
+    c.loop-i.did (ap (λ r. r.now) c.loop-i.invariant.vars) c.loop-i.invariant.written
+
+pub loop-i-init : goal.loop-i-init
+loop-i-init c =
+    let vs = c.args.w.now.vars.now in
+    record {
+      step = stepped_same vs (each_before (check_pair vs) c.args.temps.now c.args.b.now 0) c.args.w.now.store.now c.args.before
+          (λ live. refl);
+      written = c.requires.written;
+      same_reference = refl;
+      vars = refl;
+    }
 
 pub loop-i-preserved : goal.loop-i-preserved
 loop-i-preserved c =

@@ -1,4 +1,4 @@
-use Rattle.std.proofs.Common.{rules, ◌≡◌, ◌∙◌, set, sym, ap, arith}
+use Rattle.std.proofs.Common.{◌≡◌, ◌∙◌, set, sym, ap, arith}
 use Rattle.un_domains.specs.Sets.{NoneEmpty, cut_by}
 use Rattle.un_prop.specs.AmongLaws.{has_among}
 use Rattle.un_prop.specs.GoingLaws.{join_failed}
@@ -7,6 +7,7 @@ use Rattle.un_prop.specs.Pruning.{join}
 use Rattle.un_prop.specs.declared.propagator.Pruned.TheVariants.{Failed}
 use Rattle.un_rect.specs.Apart.{pair_holds}
 use Rattle.un_rect.proofs.CheckSteps.{step_after, step_outside, written_after}
+use Rattle.un_rect.proofs.Going.{going, failed}
 use Rattle.un_rect.proofs.checks.decide.Goals as goal
 
 pub returns-then-eq-clause-step : goal.returns-then-eq-clause-step
@@ -14,10 +15,10 @@ returns-then-eq-clause-step c =
     let s = c.args.w.now.store.now in
     let v = c.args.v in
     let did = c.try_all-did in
-    let failed : did.result ≡ Failed = search rules in
+    let none = failed did.result c.if-eq.ensures in
     step_after c.args.w.now.vars.now (cut_by (λ y. pair_holds c.args.a.now c.args.b.now (set (point s.sets) v.0 y)) v.0) s
     did.new.w.store.now c.args.before did.result Failed
-    c.requires.going (sym (ap (join c.args.before) failed ∙ join_failed c.args.before)) did.ensures.step
+    c.requires.going (sym (ap (join c.args.before) none ∙ join_failed c.args.before)) did.ensures.step
 
 pub min-requires-clause-there : goal.min-requires-clause-there
 min-requires-clause-there c =
@@ -28,7 +29,7 @@ pub min-requires-clause-some : goal.min-requires-clause-some
 min-requires-clause-some c =
     let within = has_among c.args.w.now.vars.now c.args.v c.args.w.now.store.now.sets c.requires.lent c.requires.known in
     let full : NoneEmpty c.try_all-did.new.w.store.now.sets = c.try_all-did.ensures.step.live (λ ne. c.requires.live)
-    (λ e. let h = rw e at c.if-eq.ensures in cc h) in
+    (going c.try_all-did.result c.if-eq.ensures) in
     full c.args.v.0 (omega (arith, within, c.try_all-did.ensures.step.long))
 
 pub bounds-fixed-v : goal.bounds-fixed-v
@@ -55,5 +56,26 @@ returns-clause-written c still =
     did.ensures.others
     (step_outside c.args.w.now.vars.now (λ y. pair_holds c.args.a.now c.args.b.now (set (point s.sets) v.0 y)) v.0 s did.new.w.store.now
     did.result c.requires.live did.ensures.step
-    (λ e. let h = rw e at c.if-eq.ensures in cc h))
+    (going c.try_all-did.result c.if-eq.ensures))
     (omega (arith, within, c.requires.room, did.auto.fixed)) c.min.ensures
+
+pub try_all-did-requires-clause-of_a : goal.try_all-did-requires-clause-of_a
+try_all-did-requires-clause-of_a c = c.requires.of_a
+
+pub try_all-did-requires-clause-of_b : goal.try_all-did-requires-clause-of_b
+try_all-did-requires-clause-of_b c = c.requires.of_b
+
+pub try_all-did-requires-clause-lent : goal.try_all-did-requires-clause-lent
+try_all-did-requires-clause-lent c = c.requires.lent
+
+pub try_all-did-requires-clause-known : goal.try_all-did-requires-clause-known
+try_all-did-requires-clause-known c = c.requires.known
+
+pub try_all-did-requires-clause-live : goal.try_all-did-requires-clause-live
+try_all-did-requires-clause-live c = c.requires.live
+
+pub try_all-did-requires-clause-room : goal.try_all-did-requires-clause-room
+try_all-did-requires-clause-room c = c.requires.room
+
+pub try_all-did-requires-clause-written : goal.try_all-did-requires-clause-written
+try_all-did-requires-clause-written c = c.requires.written

@@ -4,6 +4,7 @@ use Rattle.un_prop.specs.AmongLaws.{has_among}
 use Rattle.un_prop.specs.LastLaws.{cut_all, cut_same, passes_tested, dropped_tested}
 use Rattle.un_prop.specs.GoingLaws.{stepped_same, stepped_by}
 use Rattle.un_rect.specs.Apart.{pair_holds}
+use Rattle.un_rect.proofs.Going.{going}
 use Rattle.un_rect.proofs.checks.try_value.Goals as goal
 
 pub bounds-fixed-v : goal.bounds-fixed-v
@@ -26,7 +27,7 @@ pub drop_value-requires-clause-there : goal.drop_value-requires-clause-there
 drop_value-requires-clause-there c = has_among c.args.w.now.vars.now c.args.v c.args.w.now.store.now.sets c.requires.lent c.requires.known
 
 pub drop_value-requires-clause-some : goal.drop_value-requires-clause-some
-drop_value-requires-clause-some c = c.requires.live (λ e. let h = rw e at c.if-eq.ensures in cc h) c.args.v.0
+drop_value-requires-clause-some c = c.requires.live (going c.args.before c.if-eq.ensures) c.args.v.0
     (has_among c.args.w.now.vars.now c.args.v c.args.w.now.store.now.sets c.requires.lent c.requires.known)
 
 pub returns-clause-step : goal.returns-clause-step
@@ -40,3 +41,9 @@ returns-clause-step c =
     (λ live. cut_same (λ z. not (nat_eq z c.args.y) || t) q v.0 s.sets
     (λ z there. dropped_tested (not (nat_eq z c.args.y)) t (sym c.are_apart.ensures ∙ c.if-are_apart.false)))
     c.drop_value.ensures.step
+
+pub drop_value-requires-clause-lent : goal.drop_value-requires-clause-lent
+drop_value-requires-clause-lent c = c.requires.lent
+
+pub drop_value-requires-clause-going : goal.drop_value-requires-clause-going
+drop_value-requires-clause-going c = going c.args.before c.if-eq.ensures

@@ -4,6 +4,7 @@ use Rattle.un_prop.specs.AmongLaws.{has_among}
 use Rattle.un_prop.specs.LastLaws.{cut_all, cut_same}
 use Rattle.un_prop.specs.GoingLaws.{stepped_same, stepped_by}
 use Rattle.un_rect.specs.Apart.{clash_test, clash_cut}
+use Rattle.un_rect.proofs.Going.{going}
 use Rattle.un_rect.proofs.clashes.keep_clash.Goals as goal
 
 pub drop_value-requires-clause-there : goal.drop_value-requires-clause-there
@@ -11,7 +12,7 @@ drop_value-requires-clause-there c = has_among c.args.w.now.vars.now c.args.b.no
     c.requires.known
 
 pub drop_value-requires-clause-some : goal.drop_value-requires-clause-some
-drop_value-requires-clause-some c = c.requires.live (λ e. let h = rw e at c.if-eq.ensures in cc h) c.args.b.now.reg.0
+drop_value-requires-clause-some c = c.requires.live (going c.args.before c.if-eq.ensures) c.args.b.now.reg.0
     (has_among c.args.w.now.vars.now c.args.b.now.reg c.args.w.now.store.now.sets c.requires.of_b.of_reg c.requires.known)
 
 pub returns-in-None-clause-step : goal.returns-in-None-clause-step

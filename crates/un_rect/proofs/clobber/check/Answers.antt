@@ -5,6 +5,7 @@ use Rattle.un_prop.specs.AmongLaws.{in_list}
 use Rattle.un_prop.specs.GoingLaws.{stepped_then}
 use Rattle.un_prop.specs.Pruning.{IsPrune}
 use Rattle.un_rect.specs.Clobber.{check_call}
+use Rattle.un_rect.proofs.Going.{going}
 use Rattle.un_rect.proofs.clobber.check.Goals as goal
 
 pub try_all-did-requires-clause-lent : goal.try_all-did-requires-clause-lent
@@ -19,6 +20,6 @@ returns-in-Some-clause-step c =
     let new = did.new.w.store.now in
     let f = check_call p.vars.now p.mask p.temp.now p.call.now in
     let done = subst (λ (o : Option Sets). IsPrune vs o s new did.result) (sym c.in-Some.ensures.1) did.ensures.prune in
-    stepped_then vs f s new c.args.before did.result c.joined.result (λ e. let h = rw e at c.if-eq.ensures in cc h) c.joined.ensures
+    stepped_then vs f s new c.args.before did.result c.joined.result (going c.args.before c.if-eq.ensures) c.joined.ensures
     done.untouched.long
     (λ live. (done.ends, done.untouched))

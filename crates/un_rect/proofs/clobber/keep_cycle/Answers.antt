@@ -11,6 +11,7 @@ use Rattle.un_prop.specs.GoingLaws.{stepped_same, stepped_by}
 use Rattle.un_rect.specs.Spans.{greatest_start, least_end}
 use Rattle.un_rect.specs.Clobber.{may_survive, cycle_test, cycle_cut}
 use Rattle.un_rect.proofs.Refusals.{no_left, no_right, passes_unmet, refuses_met}
+use Rattle.un_rect.proofs.Going.{going}
 use Rattle.un_rect.proofs.clobber.keep_cycle.Goals as goal
 
 empty_time : (start end y : ℕ) → end ≤ start → (nat_le start y && nat_lt y end) ≡ false
@@ -82,3 +83,27 @@ returns-clause-step c =
     ∙ (ap (λ (n : ℕ). not (nat_le n y && nat_lt y (least_end a s.sets))) (sym c.greatest_time-start.ensures)
     ∙ ap (λ (n : ℕ). not (nat_le start y && nat_lt y n)) (sym c.least_end-end.ensures))))
     c.keep_passing.ensures.step
+
+pub may_survive-requires-clause-live : goal.may_survive-requires-clause-live
+may_survive-requires-clause-live c = c.requires.live (going c.args.before c.if-eq.ensures)
+
+pub greatest_time-start-requires-clause-live : goal.greatest_time-start-requires-clause-live
+greatest_time-start-requires-clause-live c = c.requires.live (going c.args.before c.if-eq.ensures)
+
+pub least_end-end-requires-clause-vars : goal.least_end-end-requires-clause-vars
+least_end-end-requires-clause-vars c = c.requires.of_temp
+
+pub least_end-end-requires-clause-known : goal.least_end-end-requires-clause-known
+least_end-end-requires-clause-known c = c.requires.known
+
+pub least_end-end-requires-clause-live : goal.least_end-end-requires-clause-live
+least_end-end-requires-clause-live c = c.requires.live (going c.args.before c.if-eq.ensures)
+
+pub keep_passing-requires-clause-lent : goal.keep_passing-requires-clause-lent
+keep_passing-requires-clause-lent c = c.requires.of_call.of_at
+
+pub keep_passing-requires-clause-known : goal.keep_passing-requires-clause-known
+keep_passing-requires-clause-known c = c.requires.known
+
+pub keep_passing-requires-clause-live : goal.keep_passing-requires-clause-live
+keep_passing-requires-clause-live c = c.requires.live

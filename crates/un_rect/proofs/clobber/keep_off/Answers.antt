@@ -11,6 +11,7 @@ use Rattle.un_prop.specs.declared.act.Act.{Act}
 use Rattle.un_prop.specs.declared.act.Act.TheVariants.{Var}
 use Rattle.un_rect.specs.Clobber.{may_survive, lasts, off_test, off_cut}
 use Rattle.un_rect.proofs.Refusals.{no_left, no_right, passes_unmet, only_zero}
+use Rattle.un_rect.proofs.Going.{going}
 use Rattle.un_rect.proofs.clobber.keep_off.Goals as goal
 
 pub may_survive-requires-clause-there : goal.may_survive-requires-clause-there
@@ -61,3 +62,21 @@ returns-else-lasts-clause-step c =
     (λ live. act_same w.vars.now q a.on s.sets c.requires.of_temp.of_on c.requires.known live
     (λ y. passes_unmet _ (no_right (not (nat_eq y 0)) _ (no_right (not (may_survive c.args.mask a s.sets)) (lasts a c.args.c.now s.sets)
     (sym c.lasts.ensures ∙ c.if-lasts.false)))))
+
+pub may_survive-requires-clause-live : goal.may_survive-requires-clause-live
+may_survive-requires-clause-live c = c.requires.live (going c.args.before c.if-eq.ensures)
+
+pub lasts-requires-clause-of_temp : goal.lasts-requires-clause-of_temp
+lasts-requires-clause-of_temp c = c.requires.of_temp
+
+pub lasts-requires-clause-of_call : goal.lasts-requires-clause-of_call
+lasts-requires-clause-of_call c = c.requires.of_call
+
+pub lasts-requires-clause-known : goal.lasts-requires-clause-known
+lasts-requires-clause-known c = c.requires.known
+
+pub lasts-requires-clause-live : goal.lasts-requires-clause-live
+lasts-requires-clause-live c = c.requires.live (going c.args.before c.if-eq.ensures)
+
+pub keep_le-requires-clause-going : goal.keep_le-requires-clause-going
+keep_le-requires-clause-going c = going c.args.before c.if-eq.ensures

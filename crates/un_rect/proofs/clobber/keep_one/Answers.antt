@@ -6,6 +6,7 @@ use Rattle.un_prop.specs.Pruning.{IsPrune, join}
 use Rattle.un_prop.specs.declared.propagator.Pruned.TheVariants.{Failed}
 use Rattle.un_rect.specs.Clobber.{call_steps}
 use Rattle.un_rect.proofs.Survivors.{survivor_steps, survivor_left}
+use Rattle.un_rect.proofs.Going.{going}
 use Rattle.un_rect.proofs.clobber.keep_one.Goals as goal
 
 pub returns-clause-step : goal.returns-clause-step
@@ -17,7 +18,7 @@ returns-clause-step c =
     let call = c.args.c.now in
     let did = c.keep_register-did in
     let new = did.new.w.store.now in
-    let going : c.args.before ≢ Failed = λ e. let h = rw e at c.if-eq.ensures in cc h in
+    let going : c.args.before ≢ Failed = going c.args.before c.if-eq.ensures in
     let live = c.requires.live going in
     let alive = c.requires.survives going c.if-not-survives.false in
     let one = did.ensures.step.goes (Some s.sets) s (starts vs s live) in
@@ -34,7 +35,7 @@ returns-clause-survives c still on =
     let a = c.args.a.now in
     let call = c.args.c.now in
     let did = c.keep_register-did in
-    let going : c.args.before ≢ Failed = λ e. let h = rw e at c.if-eq.ensures in cc h in
+    let going : c.args.before ≢ Failed = going c.args.before c.if-eq.ensures in
     let live = c.requires.live going in
     let alive = c.requires.survives going c.if-not-survives.false in
     let one = did.ensures.step.goes (Some s.sets) s (starts vs s live) in

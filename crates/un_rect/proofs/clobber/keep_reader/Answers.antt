@@ -10,6 +10,7 @@ use Rattle.un_prop.specs.GoingLaws.{stepped_same, stepped_by}
 use Rattle.un_rect.specs.Spans.{choice_vars}
 use Rattle.un_rect.specs.Clobber.{may_survive, reader_test, reader_cut}
 use Rattle.un_rect.proofs.Refusals.{no_left, no_right, passes_unmet, refuses_met, choice_same, choice_is, in_choice}
+use Rattle.un_rect.proofs.Going.{going}
 use Rattle.un_rect.proofs.clobber.keep_reader.Goals as goal
 
 pub returns-then-not-c-clause-step : goal.returns-then-not-c-clause-step
@@ -29,7 +30,7 @@ drop_value-requires-clause-there c = in_choice c.args.w.now.vars.now c.args.u.no
     c.in-Some.is c.requires.of_user.of_choice c.requires.known
 
 pub drop_value-requires-clause-some : goal.drop_value-requires-clause-some
-drop_value-requires-clause-some c = c.requires.live (λ e. let h = rw e at c.if-eq.ensures in cc h) c.in-Some.v.0
+drop_value-requires-clause-some c = c.requires.live (going c.args.before c.if-eq.ensures) c.in-Some.v.0
     (in_choice c.args.w.now.vars.now c.args.u.now.choice c.in-Some.v c.args.w.now.store.now.sets c.in-Some.is
     c.requires.of_user.of_choice c.requires.known)
 

@@ -6,6 +6,7 @@ use Rattle.un_rect.specs.Entries.{entry_cut}
 use Rattle.un_rect.specs.EntryLaws.{entry_within, entry_past, fixed_at, not_fixed}
 use Rattle.un_rect.specs.Operands.{chosen_cut, fixed_cut}
 use Rattle.un_rect.specs.Sides.{side_of}
+use Rattle.un_rect.proofs.Going.{going}
 use Rattle.un_rect.proofs.operands.keep_fixed.Goals as goal
 
 pub is_single-requires : goal.is_single-requires
@@ -17,7 +18,7 @@ min-i-requires-clause-there c = has_among c.args.w.now.vars.now c.args.one.now.c
     c.requires.of_one.of_choice c.requires.known
 
 pub min-i-requires-clause-some : goal.min-i-requires-clause-some
-min-i-requires-clause-some c = c.requires.live (λ e. let h = rw e at c.if-eq.ensures in cc h) c.args.one.now.choice.0
+min-i-requires-clause-some c = c.requires.live (going c.args.before c.if-eq.ensures) c.args.one.now.choice.0
     (has_among c.args.w.now.vars.now c.args.one.now.choice c.args.w.now.store.now.sets c.requires.of_one.of_choice c.requires.known)
 
 pub returns-then-not-is_single-clause-step : goal.returns-then-not-is_single-clause-step

@@ -8,6 +8,7 @@ use Rattle.un_rect.specs.Spans.{greatest_start}
 use Rattle.un_rect.specs.Orders.{time_cut, early_test}
 use Rattle.un_rect.specs.OrdersLaws.{time_is}
 use Rattle.un_rect.proofs.OrderSteps.{time_in}
+use Rattle.un_rect.proofs.Going.{going}
 use Rattle.un_rect.proofs.orders.keep_early.Goals as goal
 
 pub greatest_time-requires-clause-known : goal.greatest_time-requires-clause-known
@@ -33,3 +34,9 @@ returns-in-Var-clause-step c =
     c.args.before c.keep_le.result
     (λ live. time_is (early_test b) (λ y. nat_le y high) at v s.sets c.in-Var.is (λ y. ap (λ (n : ℕ). nat_le y n) (sym is)))
     c.keep_le.ensures.step
+
+pub greatest_time-requires-clause-live : goal.greatest_time-requires-clause-live
+greatest_time-requires-clause-live c = c.requires.live (going c.args.before c.if-eq.ensures)
+
+pub keep_le-requires-clause-going : goal.keep_le-requires-clause-going
+keep_le-requires-clause-going c = going c.args.before c.if-eq.ensures

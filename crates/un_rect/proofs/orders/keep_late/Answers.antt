@@ -5,6 +5,7 @@ use Rattle.un_prop.specs.GoingLaws.{stepped_by}
 use Rattle.un_rect.specs.Orders.{time_cut, late_test}
 use Rattle.un_rect.specs.OrdersLaws.{time_is}
 use Rattle.un_rect.proofs.OrderSteps.{time_in, late_is}
+use Rattle.un_rect.proofs.Going.{going}
 use Rattle.un_rect.proofs.orders.keep_late.Goals as goal
 
 pub keep_gt-requires-clause-there : goal.keep_gt-requires-clause-there
@@ -25,3 +26,15 @@ returns-in-Var-clause-step c =
     c.keep_gt.result
     (λ live. time_is (late_test a) (λ y. nat_lt last y) at v s.sets c.in-Var.is (λ y. late_is last _ y c.last_cycle-last.ensures))
     c.keep_gt.ensures.step
+
+pub last_cycle-last-requires-clause-vars : goal.last_cycle-last-requires-clause-vars
+last_cycle-last-requires-clause-vars c = c.requires.of_a
+
+pub last_cycle-last-requires-clause-known : goal.last_cycle-last-requires-clause-known
+last_cycle-last-requires-clause-known c = c.requires.known
+
+pub last_cycle-last-requires-clause-live : goal.last_cycle-last-requires-clause-live
+last_cycle-last-requires-clause-live c = c.requires.live (going c.args.before c.if-eq.ensures)
+
+pub keep_gt-requires-clause-going : goal.keep_gt-requires-clause-going
+keep_gt-requires-clause-going c = going c.args.before c.if-eq.ensures

@@ -5,6 +5,7 @@ use Rattle.un_prop.specs.GoingLaws.{stepped_same, stepped_by}
 use Rattle.un_rect.specs.Orders.{choice_cut, reader_test}
 use Rattle.un_rect.specs.OrdersLaws.{choice_same, choice_is}
 use Rattle.un_rect.proofs.OrderSteps.{choice_in, reader_stays, reader_goes}
+use Rattle.un_rect.proofs.Going.{going}
 use Rattle.un_rect.proofs.orders.keep_reader.Goals as goal
 
 pub drop_value-requires-clause-there : goal.drop_value-requires-clause-there
@@ -12,7 +13,7 @@ drop_value-requires-clause-there c = has_among c.args.w.now.vars.now c.in-Some.v
     (choice_in c.args.w.now.vars.now c.in-Some.v c.args.u.now.choice c.in-Some.is c.requires.of_u.of_choice) c.requires.known
 
 pub drop_value-requires-clause-some : goal.drop_value-requires-clause-some
-drop_value-requires-clause-some c = c.requires.live (λ e. let h = rw e at c.if-eq.ensures in cc h) c.in-Some.v.0
+drop_value-requires-clause-some c = c.requires.live (going c.args.before c.if-eq.ensures) c.in-Some.v.0
     (has_among c.args.w.now.vars.now c.in-Some.v c.args.w.now.store.now.sets (choice_in c.args.w.now.vars.now c.in-Some.v
     c.args.u.now.choice c.in-Some.is c.requires.of_u.of_choice) c.requires.known)
 

@@ -8,6 +8,7 @@ use Rattle.un_rect.specs.Spans.{greatest_start}
 use Rattle.un_rect.specs.Orders.{time_cut, user_test}
 use Rattle.un_rect.specs.OrdersLaws.{time_same, time_is}
 use Rattle.un_rect.proofs.OrderSteps.{time_in}
+use Rattle.un_rect.proofs.Going.{going}
 use Rattle.un_rect.proofs.orders.keep_user.Goals as goal
 
 pub returns-then-not-is_sure_user-clause-step : goal.returns-then-not-is_sure_user-clause-step
@@ -44,3 +45,18 @@ returns-in-Var-clause-step c =
     (λ y. ap (λ (d : Bool). not d || nat_le y (greatest_start b s.sets)) (sym c.is_sure_user.ensures ∙ c.if-not-is_sure_user.false)
     ∙ ap (λ (n : ℕ). nat_le y n) (sym c.greatest_time-high.ensures)))
     c.keep_le.ensures.step
+
+pub is_sure_user-requires-clause-vars : goal.is_sure_user-requires-clause-vars
+is_sure_user-requires-clause-vars c = c.requires.of_u
+
+pub is_sure_user-requires-clause-known : goal.is_sure_user-requires-clause-known
+is_sure_user-requires-clause-known c = c.requires.known
+
+pub is_sure_user-requires-clause-live : goal.is_sure_user-requires-clause-live
+is_sure_user-requires-clause-live c = c.requires.live (going c.args.before c.if-eq.ensures)
+
+pub greatest_time-high-requires-clause-live : goal.greatest_time-high-requires-clause-live
+greatest_time-high-requires-clause-live c = c.requires.live (going c.args.before c.if-eq.ensures)
+
+pub keep_le-requires-clause-going : goal.keep_le-requires-clause-going
+keep_le-requires-clause-going c = going c.args.before c.if-eq.ensures

@@ -7,20 +7,21 @@ use Rattle.un_prop.specs.Parts.{SameAt}
 use Rattle.un_prop.specs.Going.{Stepped}
 use Rattle.un_prop.specs.GoingLaws.{stepped_same, stepped_by, stepped_chain}
 use Rattle.un_prop.specs.LastLaws.{try_first, try_next, try_last}
+use Rattle.un_rect.proofs.Going.{going}
 use Rattle.un_rect.proofs.values.keep_passing.Goals as goal
 
 pub min-requires-clause-there : goal.min-requires-clause-there
 min-requires-clause-there g c = has_among c.args.w.now.vars.now c.args.v c.args.w.now.store.now.sets c.requires.lent c.requires.known
 
 pub min-requires-clause-some : goal.min-requires-clause-some
-min-requires-clause-some g c = c.requires.live (λ e. let h = rw e at c.if-eq.ensures in cc h) c.args.v.0
+min-requires-clause-some g c = c.requires.live (going c.args.before c.if-eq.ensures) c.args.v.0
     (has_among c.args.w.now.vars.now c.args.v c.args.w.now.store.now.sets c.requires.lent c.requires.known)
 
 pub max-requires-clause-there : goal.max-requires-clause-there
 max-requires-clause-there g c = has_among c.args.w.now.vars.now c.args.v c.args.w.now.store.now.sets c.requires.lent c.requires.known
 
 pub max-requires-clause-some : goal.max-requires-clause-some
-max-requires-clause-some g c = c.requires.live (λ e. let h = rw e at c.if-eq.ensures in cc h) c.args.v.0
+max-requires-clause-some g c = c.requires.live (going c.args.before c.if-eq.ensures) c.args.v.0
     (has_among c.args.w.now.vars.now c.args.v c.args.w.now.store.now.sets c.requires.lent c.requires.known)
 
 -- what holds for each assignment looks at none

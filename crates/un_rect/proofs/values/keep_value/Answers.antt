@@ -3,6 +3,7 @@ use Rattle.un_domains.specs.Sets.{cut_by}
 use Rattle.un_prop.specs.AmongLaws.{has_among}
 use Rattle.un_prop.specs.LastLaws.{cut_all, cut_same, passes_tested, dropped_tested}
 use Rattle.un_prop.specs.GoingLaws.{stepped_same, stepped_by}
+use Rattle.un_rect.proofs.Going.{going}
 use Rattle.un_rect.proofs.values.keep_value.Goals as goal
 
 pub returns-then-passes-clause-step : goal.returns-then-passes-clause-step
@@ -19,7 +20,7 @@ pub drop_value-requires-clause-there : goal.drop_value-requires-clause-there
 drop_value-requires-clause-there g c = has_among c.args.w.now.vars.now c.args.v c.args.w.now.store.now.sets c.requires.lent c.requires.known
 
 pub drop_value-requires-clause-some : goal.drop_value-requires-clause-some
-drop_value-requires-clause-some g c = c.requires.live (λ e. let h = rw e at c.if-eq.ensures in cc h) c.args.v.0
+drop_value-requires-clause-some g c = c.requires.live (going c.args.before c.if-eq.ensures) c.args.v.0
     (has_among c.args.w.now.vars.now c.args.v c.args.w.now.store.now.sets c.requires.lent c.requires.known)
 
 pub returns-clause-step : goal.returns-clause-step

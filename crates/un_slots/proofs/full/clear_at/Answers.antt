@@ -8,15 +8,16 @@ use Rattle.un_slots.specs.CrowdLaws.{each_counted}
 use Rattle.un_slots.specs.CountLaws.{count_next, few_below}
 use Rattle.un_slots.specs.Fulls.{clear_between}
 use Rattle.un_slots.specs.FullLaws.{between_idle, crowd_less, crowded_one}
+use Rattle.un_slots.proofs.Going.{going}
 use Rattle.un_slots.proofs.full.clear_at.Goals as goal
 
 pub overflow_add-number : goal.overflow_add-number
 overflow_add-number c =
     let s = c.args.w.now.store.now.sets in
     let r = c.args.r in
-    let going : c.args.before ≢ Failed = λ e. let h = rw e at c.if-eq.ensures in cc h in
+    let still : c.args.before ≢ Failed = going c.args.before c.if-eq.ensures in
     let is = count_next r s (counted c.args.items.now) c.args.low c.args.high c.args.number.now c.args.cycles.now
-    (c.requires.counts going) c.requires.within (c.requires.number going) in
+    (c.requires.counts still) c.requires.within (c.requires.number still) in
     let few = few_below (crowded r c.args.low c.args.high s) c.args.items.now (2 ^ 32 - 1) (crowded_one r c.args.low c.args.high s) in
     omega (arith, is, few)
 
@@ -26,9 +27,9 @@ returns-then-from-room-clause-step c =
     let s = c.args.w.now.store.now in
     let r = c.args.r in
     let xs = counted c.args.items.now in
-    let going : c.args.before ≢ Failed = λ e. let h = rw e at c.if-eq.ensures in cc h in
+    let still : c.args.before ≢ Failed = going c.args.before c.if-eq.ensures in
     let is = count_next r s.sets xs c.args.low c.args.high c.args.number.now c.args.cycles.now
-    (c.requires.counts going) c.requires.within (c.requires.number going) in
+    (c.requires.counts still) c.requires.within (c.requires.number still) in
     stepped_same vs (clear_between r xs c.args.low c.args.high) s c.args.before
     (λ live. between_idle vs xs (each_counted vs c.args.items.now c.requires.vars) r c.args.low c.args.high s.sets
     c.requires.known live (crowd_less is c.from.ensures c.if-from-room.true c.requires.room))

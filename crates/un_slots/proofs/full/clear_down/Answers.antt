@@ -8,11 +8,25 @@ use Rattle.un_slots.specs.Crowds.{counted, crowd}
 use Rattle.un_slots.specs.CountLaws.{crowd_none, ordered_counted}
 use Rattle.un_slots.specs.Fulls.{clear_between}
 use Rattle.un_slots.specs.FullLaws.{next_place, places_few, room_next}
+use Rattle.un_slots.proofs.Carried.{same_known, same_vars}
 use Rattle.un_slots.proofs.full.clear_down.Goals as goal
 
 pub clear_at-did-requires-clause-vars : goal.clear_at-did-requires-clause-vars
-clear_at-did-requires-clause-vars c = subst (λ (us : List VarId). SlotVars us c.args.items.now)
-    (sym (ap (λ r. r.now) c.loop-m.invariant.vars)) c.requires.vars
+clear_at-did-requires-clause-vars c = same_vars c.args.w.now.vars.now c.loop-m.w.vars.now c.args.items.now
+    (ap (λ r. r.now) c.loop-m.invariant.vars) c.requires.vars
+
+pub clear_at-did-requires-clause-known : goal.clear_at-did-requires-clause-known
+clear_at-did-requires-clause-known c = same_known c.args.w.now.vars.now c.loop-m.w.vars.now c.args.w.now.store.now.sets
+    c.loop-m.w.store.now.sets (ap (λ r. r.now) c.loop-m.invariant.vars) c.loop-m.invariant.step.long c.requires.known
+
+pub clear_at-did-requires-clause-live : goal.clear_at-did-requires-clause-live
+clear_at-did-requires-clause-live c = c.loop-m.invariant.step.live c.requires.live
+
+pub clear_at-did-requires-clause-top : goal.clear_at-did-requires-clause-top
+clear_at-did-requires-clause-top c = c.requires.top
+
+pub clear_at-did-requires-clause-span : goal.clear_at-did-requires-clause-span
+clear_at-did-requires-clause-span c = omega (arith, c.requires.span, c.loop-m.auto.cycles)
 
 pub clear_at-did-requires-clause-counts : goal.clear_at-did-requires-clause-counts
 clear_at-did-requires-clause-counts c going = c.loop-m.invariant.counts going

@@ -15,6 +15,7 @@ use Rattle.un_slots.specs.Slots.{ItemVars, SlotVars}
 use Rattle.un_slots.specs.Crowds.{counted}
 use Rattle.un_slots.specs.Fulls.{full_cut, outside}
 use Rattle.un_slots.specs.FullLaws.{taken_get, full_idle, full_is, not_lost, is_lost}
+use Rattle.un_slots.proofs.Going.{going}
 use Rattle.un_slots.proofs.full.clear_item.Goals as goal
 
 few : (n k : ℕ) → k < min n (2 ^ 32 - 1) → k < n
@@ -52,7 +53,7 @@ returns-then-not-loses-clause-step c =
     let high = c.args.high in
     let vars = vars_of vs items c.args.k i c.requires.vars c.requires.there c.index-items-k.is in
     let at = item_at items c.args.k i c.requires.there c.index-items-k.is in
-    let number = c.requires.crowd (λ e. let h = rw e at c.if-eq.ensures in cc h) in
+    let number = c.requires.crowd (going c.args.before c.if-eq.ensures) in
     stepped_same vs (full_cut r (counted items) low high c.args.k) s c.args.before
     (λ live. full_idle r (counted items) low high s.sets c.args.k i at (has_among vs i.at s.sets vars.of_at c.requires.known) live
     (not_lost r (counted items) low high s.sets c.args.k i at c.args.room c.args.number.now c.requires.room number
@@ -78,10 +79,10 @@ returns-in-Failed-clause-step c =
     let new = did.new.w.store.now in
     let at = item_at items c.args.k i c.requires.there c.index-items-k.is in
     let lost = is_lost r (counted items) low high s.sets c.args.k i at c.args.room c.args.number.now c.requires.room
-    (c.requires.crowd (λ e. let h = rw e at c.if-eq.ensures in cc h)) (sym c.loses.ensures ∙ c.if-not-loses.false) in
+    (c.requires.crowd (going c.args.before c.if-eq.ensures)) (sym c.loses.ensures ∙ c.if-not-loses.false) in
     let failed : did.result ≡ Failed = c.in-Failed.is in
     stepped_then vs (full_cut r (counted items) low high c.args.k) s new c.args.before did.result did.result
-    (λ e. let h = rw e at c.if-eq.ensures in cc h)
+    (going c.args.before c.if-eq.ensures)
     (failed ∙ sym (ap (join c.args.before) failed ∙ join_failed c.args.before)) did.ensures.prune.untouched.long
     (λ live. (let p = cut_is vs (full_cut r (counted items) low high c.args.k s.sets) (cut_by (outside low high) i.at.0 s.sets) s new
     did.result (full_is r (counted items) low high s.sets c.args.k i at lost.0 lost.1) did.ensures.prune in (p.ends, p.untouched)))
@@ -116,9 +117,9 @@ returns-in_default-clause-step c =
     let new = did.new.w.store.now in
     let at = item_at items c.args.k i c.requires.there c.index-items-k.is in
     let lost = is_lost r (counted items) low high s.sets c.args.k i at c.args.room c.args.number.now c.requires.room
-    (c.requires.crowd (λ e. let h = rw e at c.if-eq.ensures in cc h)) (sym c.loses.ensures ∙ c.if-not-loses.false) in
+    (c.requires.crowd (going c.args.before c.if-eq.ensures)) (sym c.loses.ensures ∙ c.if-not-loses.false) in
     stepped_then vs (full_cut r (counted items) low high c.args.k) s new c.args.before did.result c.joined.result
-    (λ e. let h = rw e at c.if-eq.ensures in cc h)
+    (going c.args.before c.if-eq.ensures)
     c.joined.ensures did.ensures.prune.untouched.long
     (λ live. (let p = cut_is vs (full_cut r (counted items) low high c.args.k s.sets) (cut_by (outside low high) i.at.0 s.sets) s new
     did.result (full_is r (counted items) low high s.sets c.args.k i at lost.0 lost.1) did.ensures.prune in (p.ends, p.untouched)))

@@ -6,6 +6,7 @@ use Rattle.un_slots.specs.CountLaws.{ordered_counted, roomy_next}
 use Rattle.un_slots.specs.CrowdLaws.{each_counted}
 use Rattle.un_slots.specs.Fulls.{clear_to}
 use Rattle.un_slots.specs.FullLaws.{to_idle}
+use Rattle.un_slots.proofs.Going.{going}
 use Rattle.un_slots.proofs.full.clear_to.Goals as goal
 
 pub returns-then-fits_to-clause-step : goal.returns-then-fits_to-clause-step
@@ -21,7 +22,7 @@ pub returns-then-fits_to-clause-roomy : goal.returns-then-fits_to-clause-roomy
 returns-then-fits_to-clause-roomy c on =
     let s = c.args.w.now.store.now.sets in
     let xs = counted c.args.items.now in
-    let going : c.args.before ≢ Failed = λ e. let h = rw e at c.if-eq.ensures in cc h in
+    let going : c.args.before ≢ Failed = going c.args.before c.if-eq.ensures in
     let ordered = ordered_counted c.args.w.now.vars.now c.args.items.now s c.requires.vars c.requires.known (c.requires.live going) in
     let next : suc c.args.high ≡ c.args.high + 1 = omega arith in
     subst (λ (n : ℕ). is_roomy c.args.r xs s n ≡ true) next

@@ -4,6 +4,7 @@ use Rattle.un_slots.specs.Crowds.{counted}
 use Rattle.un_slots.specs.CrowdLaws.{each_counted}
 use Rattle.un_slots.specs.CountLaws.{ordered_counted}
 use Rattle.un_slots.specs.FullLaws.{gap_idle}
+use Rattle.un_slots.proofs.Going.{going}
 use Rattle.un_slots.proofs.full.next_high.Goals as goal
 
 pub returns-clause-idle : goal.returns-clause-idle
@@ -11,7 +12,7 @@ returns-clause-idle c =
     let vs = c.args.w.now.vars.now in
     let s = c.args.w.now.store.now.sets in
     let items = c.args.items.now in
-    let going : c.args.before ≢ Failed = λ e. let h = rw e at c.if-eq.ensures in cc h in
+    let going : c.args.before ≢ Failed = going c.args.before c.if-eq.ensures in
     let live = c.requires.live going in
     let ordered = ordered_counted vs items s c.requires.vars c.requires.known live in
     gap_idle vs (counted items) (each_counted vs items c.requires.vars) c.args.r s c.requires.known live ordered c.args.high

@@ -17,6 +17,8 @@ use Rattle.un_slots.specs.Slots.{ItemVars, SlotVars}
 use Rattle.un_slots.specs.Loads.{slot_cut}
 use Rattle.un_slots.specs.LoadLaws.{slot_unsure, slot_is, slot_all}
 use Rattle.un_slots.specs.Listings.{is_left}
+use Rattle.un_slots.proofs.Carried.{same_known, same_vars}
+use Rattle.un_slots.proofs.Going.{going}
 use Rattle.un_slots.proofs.keep.keep_item.Goals as goal
 
 vars_of : (vs : List VarId) (items : List Item) (k : ℕ) (i : Item) → SlotVars vs items → k < length items → i ≡ get_or items k i
@@ -84,7 +86,7 @@ returns-in-Failed-clause-step c =
     let q = is_left c.as_slice.result.now c.args.horizon in
     let failed : did.result ≡ Failed = c.in-Failed.is in
     stepped_then vs (slot_cut items c.args.horizon c.args.k) s new c.args.before did.result did.result
-    (λ e. let h = rw e at c.if-eq.ensures in cc h)
+    (going c.args.before c.if-eq.ensures)
     (failed ∙ sym (ap (join c.args.before) failed ∙ join_failed c.args.before)) did.ensures.prune.untouched.long
     (λ live. (let p = cut_is vs (slot_cut items c.args.horizon c.args.k s.sets) (cut_by q i.at.0 s.sets) s new did.result
     (slot_is items c.args.horizon c.args.k i s.sets q (item_at items c.args.k i c.requires.there c.index-items-k.is)
@@ -92,9 +94,36 @@ returns-in-Failed-clause-step c =
     (λ y own. ap (λ (ms : List ℕ). is_left ms c.args.horizon y) c.as_slice.ensures.value
     ∙ c.mark.ensures.marks y own)) did.ensures.prune in (p.ends, p.untouched)))
 
+pub mark-requires-clause-vars : goal.mark-requires-clause-vars
+mark-requires-clause-vars c = c.requires.vars
+
+pub mark-requires-clause-known : goal.mark-requires-clause-known
+mark-requires-clause-known c = c.requires.known
+
+pub mark-requires-clause-live : goal.mark-requires-clause-live
+mark-requires-clause-live c = c.requires.live (going c.args.before c.if-eq.ensures)
+
+pub mark-requires-clause-span : goal.mark-requires-clause-span
+mark-requires-clause-span c = c.requires.span
+
+pub mark-requires-clause-listed : goal.mark-requires-clause-listed
+mark-requires-clause-listed c = c.requires.listed (going c.args.before c.if-eq.ensures)
+
+pub keep_left-did-requires-clause-live : goal.keep_left-did-requires-clause-live
+keep_left-did-requires-clause-live c = c.requires.live (going c.args.before c.if-eq.ensures)
+
+pub keep_left-did-requires-clause-lent : goal.keep_left-did-requires-clause-lent
+keep_left-did-requires-clause-lent c = (vars_of c.args.w.now.vars.now c.args.items.now c.args.k c.index-items-k.result c.requires.vars
+    c.requires.there c.index-items-k.is).of_at
+
 pub list-requires-clause-vars : goal.list-requires-clause-vars
-list-requires-clause-vars c = subst (λ (us : List VarId). SlotVars us c.args.items.now) (sym (ap (λ r. r.now) c.keep_left-did.ensures.vars))
-    c.requires.vars
+list-requires-clause-vars c = same_vars c.args.w.now.vars.now c.keep_left-did.new.w.vars.now c.args.items.now
+    (ap (λ r. r.now) c.keep_left-did.ensures.vars) c.requires.vars
+
+pub list-requires-clause-known : goal.list-requires-clause-known
+list-requires-clause-known c = same_known c.args.w.now.vars.now c.keep_left-did.new.w.vars.now c.args.w.now.store.now.sets
+    c.keep_left-did.new.w.store.now.sets (ap (λ r. r.now) c.keep_left-did.ensures.vars) c.keep_left-did.ensures.prune.untouched.long
+    c.requires.known
 
 pub returns-in_default-clause-step : goal.returns-in_default-clause-step
 returns-in_default-clause-step c =
@@ -106,7 +135,7 @@ returns-in_default-clause-step c =
     let new = did.new.w.store.now in
     let q = is_left c.as_slice.result.now c.args.horizon in
     stepped_then vs (slot_cut items c.args.horizon c.args.k) s new c.args.before did.result c.joined.result
-    (λ e. let h = rw e at c.if-eq.ensures in cc h)
+    (going c.args.before c.if-eq.ensures)
     c.joined.ensures did.ensures.prune.untouched.long
     (λ live. (let p = cut_is vs (slot_cut items c.args.horizon c.args.k s.sets) (cut_by q i.at.0 s.sets) s new did.result
     (slot_is items c.args.horizon c.args.k i s.sets q (item_at items c.args.k i c.requires.there c.index-items-k.is)

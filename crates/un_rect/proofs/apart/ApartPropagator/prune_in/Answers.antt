@@ -8,6 +8,11 @@ use Rattle.un_prop.specs.declared.propagator.Pruned.TheVariants.{Same}
 use Rattle.un_rect.specs.Apart.{clash_pair, check_pair, bounds_cut, apart_cut, ApartVars}
 use Rattle.un_rect.specs.Orders.{order_pair}
 use Rattle.un_rect.specs.Pairs.{each_pair}
+use Rattle.un_domains.specs.Sets.{Sets}
+use Rattle.un_prop.specs.LastLaws.{Ascend}
+use Rattle.un_prop.specs.Rounds.{HasVars}
+use Rattle.un_rect.proofs.Rows.{same_ascend, same_known}
+use Rattle.std.proofs.Common.{arith}
 use Rattle.un_rect.proofs.apart.ApartPropagator.prune_in.Goals as goal
 
 carried : (vs us : List VarId) (temps xs : List Temp) → us ≡ vs → xs ≡ temps → ApartVars vs temps → ApartVars us xs
@@ -53,3 +58,31 @@ returns-clause-prune c =
     let all = stepped_chain p.vars (bounds_cut p.temps) (each_pair (check_pair p.vars) p.temps (length p.temps)) old low new Same more
     c.check_all.result bounds third in
     checked p.vars p.vars (apart_cut p.vars p.temps) old new c.check_all.result refl c.requires.live all.goes
+
+pub keep_all-first-requires-clause-known : goal.keep_all-first-requires-clause-known
+keep_all-first-requires-clause-known c = same_known c.args.self.now.vars c.args.w.now.vars.now c.args.w.now.store.now.sets c.args.w.now.store.now.sets c.requires.vars refl
+    c.requires.known
+
+pub keep_all-first-requires-clause-live : goal.keep_all-first-requires-clause-live
+keep_all-first-requires-clause-live c = λ still. c.requires.live
+
+pub keep_all-second-requires-clause-known : goal.keep_all-second-requires-clause-known
+keep_all-second-requires-clause-known c = same_known c.args.self.now.vars c.keep_all-first.new.w.vars.now c.args.w.now.store.now.sets
+    c.keep_all-first.new.w.store.now.sets (ap (λ r. r.now) c.keep_all-first.ensures.vars ∙ c.requires.vars)
+    c.keep_all-first.ensures.step.long c.requires.known
+
+pub keep_all-second-requires-clause-live : goal.keep_all-second-requires-clause-live
+keep_all-second-requires-clause-live c = c.keep_all-first.ensures.step.live (λ still. c.requires.live)
+
+pub check_all-requires-clause-ascend : goal.check_all-requires-clause-ascend
+check_all-requires-clause-ascend c = same_ascend c.args.self.now.vars c.keep_all-second.new.w.vars.now
+    (ap (λ r. r.now) (c.keep_all-second.ensures.vars ∙ c.keep_all-first.ensures.vars) ∙ c.requires.vars) c.args.self.now.ascend
+
+pub check_all-requires-clause-known : goal.check_all-requires-clause-known
+check_all-requires-clause-known c = same_known c.args.self.now.vars c.keep_all-second.new.w.vars.now c.args.w.now.store.now.sets
+    c.keep_all-second.new.w.store.now.sets
+    (ap (λ r. r.now) (c.keep_all-second.ensures.vars ∙ c.keep_all-first.ensures.vars) ∙ c.requires.vars)
+    (c.keep_all-second.ensures.step.long ∙ c.keep_all-first.ensures.step.long) c.requires.known
+
+pub check_all-requires-clause-live : goal.check_all-requires-clause-live
+check_all-requires-clause-live c = c.keep_all-second.ensures.step.live (c.keep_all-first.ensures.step.live (λ still. c.requires.live))
