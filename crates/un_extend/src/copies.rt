@@ -3,7 +3,7 @@
 ghost use Rattle.std.specs.Prelude.{◌≡◌, ◌+◌, ◌++◌, [], ◌∷◌, map, IfOk, OnOk, None};
 ghost use Rattle.std.specs.List.{range_with_len};
 ghost use Rattle.un_ir.specs.Extended.{temp};
-ghost use Rattle.un_ir.specs.ExtendOf.{copy_op, frame_op, with_op, with_copy, with_copies, copy_count};
+ghost use Rattle.un_ir.specs.ExtendOf.{frame_op, with_op, with_copy, with_copies, copy_count};
 
 use std::alloc::Global;
 use un_base::ids::TempId;
@@ -13,11 +13,11 @@ use un_ir::extended::{ExtKind, ExtOp, Growth, NodeCopy, Operand, Sort};
 use un_ir::function::Kind;
 use un_lists::items::Items;
 
-/// Temporaries, as a list of its own.
-fn copied(alloc: Global, temps: &[TempId]) -> Result<Items<TempId>, NoMemory>
-    ensures { IfOk result (λ own. own ≡ temps.now) }
+/// These items, as a list of their own.
+pub fn copied<T: Copy>(alloc: Global, items: &[T]) -> Result<Items<T>, NoMemory>
+    ensures { IfOk result (λ own. own ≡ items.now) }
 {
-    let own = Vec::from_slice(alloc, temps)?;
+    let own = Vec::from_slice(alloc, items)?;
     Ok(Items::from_vec(own))
 }
 
@@ -31,42 +31,49 @@ pub fn push_temps(temps: &mut Items<TempId>, first: u32, count: u32) -> Result<(
     Ok(())
 }
 
-/// A copy that may read these temporaries, which defines temporary `n`.
-fn copy_op(alloc: Global, node: NodeCopy, alts: &[TempId], n: u32) -> Result<ExtOp, NoMemory>
-    ensures { IfOk result (λ op. op ≡ copy_op node alts.now n) }
+/// Adds an operation of these parts.
+pub fn add_op(
+    g: &mut Growth,
+    kind: ExtKind,
+    operands: Items<Operand>,
+    results: Items<TempId>,
+) -> Result<(), NoMemory>
+    ensures { OnOk result (g.new ≡ with_op g.old (record { kind = kind; operands = operands; results = results })) }
 {
-    let alts = copied(alloc, alts)?;
-    let mut operands = Items::new(alloc);
-    operands.push(Operand { alts, home: None })?;
-    let mut results = Items::new(alloc);
-    results.push(TempId(n))?;
-    Ok(ExtOp {
-        kind: ExtKind::Copy(node),
+    g.ops.push(ExtOp {
+        kind,
         operands,
         results,
-    })
+    })?;
+    Ok(())
 }
 
 /// Adds the operation that moves the stack pointer, Enter or Leave.
 pub fn push_frame_op(alloc: Global, g: &mut Growth, kind: ExtKind) -> Result<(), NoMemory>
     ensures { OnOk result (g.new ≡ with_op g.old (frame_op kind)) }
 {
-    g.ops.push(ExtOp {
-        kind,
-        operands: Items::new(alloc),
-        results: Items::new(alloc),
-    })?;
-    Ok(())
+    add_op(g, kind, Items::new(alloc), Items::new(alloc))
+}
+
+/// An operand alone, which may read these temporaries.
+fn reader(alloc: Global, alts: &[TempId]) -> Result<Items<Operand>, NoMemory>
+    ensures { IfOk result (λ operands. operands ≡ record { alts = alts.now; home = None } ∷ []) }
+{
+    let alts = copied(alloc, alts)?;
+    let mut operands = Items::new(alloc);
+    operands.push(Operand { alts, home: None })?;
+    Ok(operands)
 }
 
 /// Adds a copy that may read these temporaries.
 fn push_copy(alloc: Global, g: &mut Growth, node: NodeCopy, alts: &[TempId]) -> Result<(), NoMemory>
     ensures { OnOk result (g.new ≡ with_copy node alts.now g.old) }
 {
-    let op = copy_op(alloc, node, alts, g.next)?;
-    g.ops.push(op)?;
-    g.next = later(g.next, 1)?;
-    Ok(())
+    let n = g.next;
+    g.next = later(n, 1)?;
+    let operands = reader(alloc, alts)?;
+    let results = copied(alloc, &[TempId(n)])?;
+    add_op(g, ExtKind::Copy(node), operands, results)
 }
 
 /// Adds two copies: the first may read these temporaries, and the second the first besides.

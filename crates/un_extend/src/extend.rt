@@ -1,15 +1,17 @@
 //! Making an extended function.
 
-ghost use Rattle.std.specs.Prelude.{◌≡◌, ◌+◌, ◌*◌, [], true, IfOk};
+ghost use Rattle.std.specs.Prelude.{◌≡◌, ◌+◌, ◌*◌, ◌++◌, [], ◌∷◌, true, IfOk, OnOk};
 ghost use Rattle.un_extend.specs.Returns.{returns_by};
 ghost use Rattle.un_extend.specs.Runs.{RunsAsLinear};
 ghost use Rattle.un_ir.specs.Extended.{IsExtended, IsLinear};
 ghost use Rattle.un_ir.specs.ExtendOf.{grown_block, with_ops, extended_blocks, extend_of};
 
+use crate::copies::copied;
 use crate::ops::{is_return, push_all_extended};
 use std::alloc::Global;
+use std::mem;
 use un_base::memory_error::NoMemory;
-use un_ir::extended::{Ext, ExtBlock, ExtKind, ExtOp, Growth, Lssa, LssaBlock, Value};
+use un_ir::extended::{Ext, ExtBlock, ExtKind, ExtOp, Growth, Lssa, LssaBlock};
 use un_ir::function::Kind;
 use un_lists::items::Items;
 
@@ -25,42 +27,38 @@ fn has_return(ops: &[ExtOp]) -> bool
     false
 }
 
-/// The block with its operations extended, and the values and the number of the next temporary behind it.
+/// Adds the block's operations, extended, to a growth that has no operations yet.
 fn grow_block(
     alloc: Global,
+    g: &mut Growth,
     names: &[Kind],
     is_entry: bool,
-    values: Items<Value>,
-    next: u32,
     block: &LssaBlock,
-) -> Result<Growth, NoMemory>
-    ensures { IfOk result (λ g. g ≡ grown_block names.now is_entry values next block.now) }
+) -> Result<(), NoMemory>
+    requires { g.old.ops ≡ [] }
+    ensures { OnOk result (g.new ≡ grown_block names.now is_entry g.old.values g.old.next block.now) }
 {
     let saved = is_entry || has_return(block.ops.as_slice());
-    let mut g = Growth {
-        ops: Items::new(alloc),
-        values,
-        next,
-    };
     push_all_extended(
         alloc,
-        &mut g,
+        g,
         names,
         block.live_in.as_slice(),
         is_entry,
         saved,
         block.ops.as_slice(),
-    )?;
-    Ok(g)
+    )
 }
 
-/// The block with other operations, and the horizon that fits them.
-fn with_ops(block: &LssaBlock, ops: Items<ExtOp>) -> Result<ExtBlock, NoMemory>
-    ensures { IfOk result (λ b. b ≡ with_ops block.now ops) }
+/// The block with the operations that were added, which leave the growth, and the horizon that fits them.
+fn with_ops(alloc: Global, g: &mut Growth, block: &LssaBlock) -> Result<ExtBlock, NoMemory>
+    ensures block { IfOk result (λ b. b ≡ with_ops block.now g.old.ops) }
+    ensures rest { OnOk result (g.new ≡ record g.old { ops = [] }) }
 {
-    let horizon = horizon_of(ops.len())?;
-    let live_in = block.live_in.clone()?;
-    let live_out = block.live_out.clone()?;
+    let horizon = horizon_of(g.ops.len())?;
+    let live_in = copied(alloc, block.live_in.as_slice())?;
+    let live_out = copied(alloc, block.live_out.as_slice())?;
+    let ops = mem::replace(&mut g.ops, Items::new(alloc));
     Ok(ExtBlock {
         freq: block.freq,
         label: block.label,
@@ -81,6 +79,27 @@ fn horizon_of(count: usize) -> Result<u32, NoMemory>
     Ok(2 * count as u32 + 2)
 }
 
+/// Adds the block with its operations extended, and leaves in the growth the values and the number behind it.
+fn push_block(
+    alloc: Global,
+    extended: &mut Items<ExtBlock>,
+    g: &mut Growth,
+    names: &[Kind],
+    is_entry: bool,
+    block: &LssaBlock,
+) -> Result<(), NoMemory>
+    requires { g.old.ops ≡ [] }
+    ensures block { OnOk result (extended.new ≡
+        (let grown = grown_block names.now is_entry g.old.values g.old.next block.now in extended.old ++ with_ops block.now grown.ops ∷ [])) }
+    ensures rest { OnOk result (g.new ≡
+        (let grown = grown_block names.now is_entry g.old.values g.old.next block.now in record grown { ops = [] })) }
+{
+    grow_block(alloc, g, names, is_entry, block)?;
+    let block = with_ops(alloc, g, block)?;
+    extended.push(block)?;
+    Ok(())
+}
+
 /// The blocks with their operations extended.
 fn extended_all(
     alloc: Global,
@@ -90,19 +109,14 @@ fn extended_all(
     ensures { IfOk result (λ bs. bs ≡ extended_blocks names.now true [] 0 blocks.now) }
 {
     let mut extended = Items::new(alloc);
-    let mut values = Items::new(alloc);
-    let mut next = 0;
+    let mut g = Growth {
+        ops: Items::new(alloc),
+        values: Items::new(alloc),
+        next: 0,
+    };
     let mut is_entry = true;
     for block in blocks {
-        let g = grow_block(alloc, names, is_entry, values, next, block)?;
-        let Growth {
-            ops,
-            values: known,
-            next: after,
-        } = g;
-        extended.push(with_ops(block, ops)?)?;
-        values = known;
-        next = after;
+        push_block(alloc, &mut extended, &mut g, names, is_entry, block)?;
         is_entry = false;
     }
     Ok(extended)
@@ -118,7 +132,7 @@ pub fn extend(alloc: Global, l: &Lssa) -> Result<Ext, NoMemory>
     ensures runs { IsLinear l.now → IfOk result (RunsAsLinear l.now) }
     ensures kept { IsLinear l.now → IfOk result IsExtended }
 {
-    let names = l.names.clone()?;
+    let names = copied(alloc, l.names.as_slice())?;
     let blocks = extended_all(alloc, l.names.as_slice(), l.blocks.as_slice())?;
     Ok(Ext {
         table: l.table,

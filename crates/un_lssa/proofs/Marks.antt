@@ -40,7 +40,7 @@ with_length : (marks : List Bool) (names : List NameId) → length (marked_with 
 with_length marks [] = refl
 with_length marks (name ∷ names) = with_length (set marks name.0 true) names ∙ length-set marks name.0 true
 
-at_length : (lists : List (List NameId)) (marks : List Bool) (cs : List ℕ) → length (marked_at lists marks cs) ≡ length marks
+pub at_length : (lists : List (List NameId)) (marks : List Bool) (cs : List ℕ) → length (marked_at lists marks cs) ≡ length marks
 at_length lists marks [] = refl
 at_length lists marks (c ∷ cs) = at_length lists (marked_with marks (live_at lists c)) cs ∙ with_length marks (live_at lists c)
 

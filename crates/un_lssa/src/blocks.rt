@@ -1,6 +1,6 @@
 //! Blocks of a linear function.
 
-ghost use Rattle.std.specs.Prelude.{◌≡◌, ◌+◌, ◌<◌, ◌≤◌, ◌^◌, ◌++◌, [], ◌∷◌, length, replicate, IfOk, All};
+ghost use Rattle.std.specs.Prelude.{◌≡◌, ◌+◌, ◌<◌, ◌≤◌, ◌^◌, ◌++◌, [], ◌∷◌, length, replicate, IfOk, OnOk, All};
 ghost use Rattle.un_isa.specs.Registers.{callee_saved};
 ghost use Rattle.un_ir.specs.LinearOf.{first_temps, live_at, live_after, in_op, body_ops, current_after, end_ops, out_op, past_all};
 ghost use Rattle.un_ir.specs.LinearOf.{linear_ops, linear_block, linear_blocks, past_block};
@@ -8,7 +8,7 @@ ghost use Rattle.un_ir.specs.declared.function.Block.{Block};
 ghost use Rattle.un_lssa.specs.Making.{past_blocks};
 
 use crate::names::{assign_all, live_after, live_at};
-use crate::ops::{in_op, out_op, push_body, push_end};
+use crate::ops::{push_body, push_end, push_in, push_out};
 use std::alloc::Global;
 use un_base::ids::NameId;
 use un_base::memory_error::NoMemory;
@@ -17,21 +17,6 @@ use un_ir::function::{Block, SrcOp, Term};
 use un_isa::table::Table;
 use un_lists::items::Items;
 
-/// The operations of a block up to its terminator, the temporary of each name behind them, and the next temporary.
-#[derive(Drop)]
-struct Body {
-    ops: Items<ExtOp>,
-    current: Vec<u32>,
-    next: u32,
-}
-
-/// The operations of a block, and the next temporary.
-#[derive(Drop)]
-pub struct BlockOps {
-    pub ops: Items<ExtOp>,
-    pub next: u32,
-}
-
 /// A block, and the next temporary.
 #[derive(Drop)]
 pub struct Numbered {
@@ -39,41 +24,25 @@ pub struct Numbered {
     pub next: u32,
 }
 
-/// The temporary of each of so many names at a block's start, whose first temporary is `n`.
-fn first_current(
-    alloc: Global,
-    names: usize,
-    n: u32,
-    live_in: &[NameId],
-) -> Result<Vec<u32>, NoMemory>
-    requires { n + length live_in.now < 2 ^ 32 }
-    ensures { IfOk result (λ current. current.items ≡ first_temps (replicate names 0) n live_in.now) }
-{
-    let mut current = vec![in alloc; 0; names]?;
-    assign_all(&mut current, n, live_in);
-    Ok(current)
-}
-
-/// A block's values at its start, of which the first is temporary `n`, and its operations behind them.
+/// A block's values at its start, of which the first is temporary `n`, and its operations behind them. Answers the next
+/// temporary.
 #[tactic(auto, using(crate::proofs::Operands::past_all_grows))]
-fn make_body(
+fn push_start(
     alloc: Global,
     t: &Table,
-    current: Vec<u32>,
+    ops: &mut Items<ExtOp>,
+    current: &mut [u32],
     n: u32,
     count: u32,
     source: &[SrcOp],
-) -> Result<Body, NoMemory>
+) -> Result<u32, NoMemory>
     requires { past_all (n + count) source.now < 2 ^ 32 }
-    ensures ops { IfOk result (λ b. b.ops ≡ in_op n count ∷ body_ops t.now current.items (n + count) source.now) }
-    ensures current { IfOk result (λ b. b.current.items ≡ current_after current.items (n + count) source.now) }
-    ensures next { IfOk result (λ b. b.next ≡ past_all (n + count) source.now) }
+    ensures ops { OnOk result (ops.new ≡ ops.old ++ in_op n count ∷ body_ops t.now current.old (n + count) source.now) }
+    ensures current { OnOk result (current.new ≡ current_after current.old (n + count) source.now) }
+    ensures next { IfOk result (λ next. next ≡ past_all (n + count) source.now) }
 {
-    let mut current = current;
-    let mut ops = Items::new(alloc);
-    ops.push(in_op(alloc, n, count)?)?;
-    let next = push_body(alloc, t, &mut ops, &mut current, n + count, source)?;
-    Ok(Body { ops, current, next })
+    push_in(alloc, ops, n, count)?;
+    push_body(alloc, t, ops, current, n + count, source)
 }
 
 /// The terminator and the values at the block's end, behind the operations. The first saved value is temporary `saved`.
@@ -81,52 +50,87 @@ fn finish(
     alloc: Global,
     t: &Table,
     registers: &[u32],
-    body: Body,
+    ops: &mut Items<ExtOp>,
+    current: &[u32],
     saved: u32,
     live_out: &[NameId],
     term: Term,
-) -> Result<BlockOps, NoMemory>
+) -> Result<(), NoMemory>
     requires kept { registers.now ≡ callee_saved t.now }
     requires fit { saved + length registers.now + 1 < 2 ^ 32 }
-    ensures ops { IfOk result (λ r. r.ops ≡ body.ops ++ (end_ops body.current.items (saved + length registers.now) term
-        ++ out_op t.now body.current.items saved live_out.now term ∷ [])) }
-    ensures next { IfOk result (λ r. r.next ≡ body.next) }
+    ensures { OnOk result (ops.new ≡ ops.old ++ (end_ops current.now (saved + length registers.now) term
+        ++ out_op t.now current.now saved live_out.now term ∷ [])) }
 {
-    let Body {
-        mut ops,
-        current,
-        next,
-    } = body;
     let link = saved + registers.len() as u32;
-    push_end(alloc, &mut ops, &current, link, term)?;
-    ops.push(out_op(alloc, t, registers, &current, saved, live_out, term)?)?;
-    Ok(BlockOps { ops, next })
+    push_end(alloc, ops, current, link, term)?;
+    push_out(alloc, t, registers, ops, current, saved, live_out, term)
 }
 
-/// The operations of a block whose first temporary is `n`, of a function with so many names.
+/// The operations of a block whose first temporary is `n`. Answers the next temporary. `current` has a place for each name of
+/// the function.
+fn push_ops(
+    alloc: Global,
+    t: &Table,
+    registers: &[u32],
+    ops: &mut Items<ExtOp>,
+    current: &mut [u32],
+    n: u32,
+    live_in: &[NameId],
+    live_out: &[NameId],
+    block: &Block,
+) -> Result<u32, NoMemory>
+    requires kept { registers.now ≡ callee_saved t.now }
+    requires empty { ops.old ≡ [] }
+    requires fresh { current.old ≡ replicate (length current.old) 0 }
+    requires room { n + (length live_in.now + length registers.now + 1) < 2 ^ 32 }
+    requires fit { past_all (n + (length live_in.now + length registers.now + 1)) block.now.ops < 2 ^ 32 }
+    ensures ops { OnOk result (ops.new ≡ linear_ops t.now (length current.old) n live_in.now live_out.now block.now) }
+    ensures few { OnOk result (length ops.new ≤ length block.now.ops + 3) }
+    ensures next { IfOk result (λ next. next ≡ past_all (n + (length live_in.now + length registers.now + 1)) block.now.ops) }
+{
+    let saved = n + live_in.len() as u32;
+    let count = live_in.len() as u32 + registers.len() as u32 + 1;
+    assign_all(current, n, live_in);
+    let source = block.ops.as_slice();
+    let next = push_start(alloc, t, ops, current, n, count, source)?;
+    finish(
+        alloc, t, registers, ops, current, saved, live_out, block.term,
+    )?;
+    Ok(next)
+}
+
+/// The operations of a block whose first temporary is `n`, of a function with so many names. Answers the next temporary.
 fn block_ops(
     alloc: Global,
     t: &Table,
     registers: &[u32],
+    ops: &mut Items<ExtOp>,
     names: usize,
     n: u32,
     live_in: &[NameId],
     live_out: &[NameId],
     block: &Block,
-) -> Result<BlockOps, NoMemory>
+) -> Result<u32, NoMemory>
     requires kept { registers.now ≡ callee_saved t.now }
+    requires empty { ops.old ≡ [] }
     requires room { n + (length live_in.now + length registers.now + 1) < 2 ^ 32 }
     requires fit { past_all (n + (length live_in.now + length registers.now + 1)) block.now.ops < 2 ^ 32 }
-    ensures ops { IfOk result (λ r. r.ops ≡ linear_ops t.now names n live_in.now live_out.now block.now) }
-    ensures few { IfOk result (λ r. length r.ops ≤ length block.now.ops + 3) }
-    ensures next { IfOk result (λ r. r.next ≡ past_all (n + (length live_in.now + length registers.now + 1)) block.now.ops) }
+    ensures ops { OnOk result (ops.new ≡ linear_ops t.now names n live_in.now live_out.now block.now) }
+    ensures few { OnOk result (length ops.new ≤ length block.now.ops + 3) }
+    ensures next { IfOk result (λ next. next ≡ past_all (n + (length live_in.now + length registers.now + 1)) block.now.ops) }
 {
-    let current = first_current(alloc, names, n, live_in)?;
-    let saved = n + live_in.len() as u32;
-    let count = live_in.len() as u32 + registers.len() as u32 + 1;
-    let body = make_body(alloc, t, current, n, count, block.ops.as_slice())?;
-    let made = finish(alloc, t, registers, body, saved, live_out, block.term)?;
-    Ok(made)
+    let mut current = vec![in alloc; 0; names]?;
+    push_ops(
+        alloc,
+        t,
+        registers,
+        ops,
+        &mut current,
+        n,
+        live_in,
+        live_out,
+        block,
+    )
 }
 
 /// The block at place `b` of a function with so many names, whose first temporary is `n`.
@@ -150,17 +154,18 @@ fn linear_block(
 {
     let names_in = live_at(live, b);
     let live_out = live_after(alloc, live, names, b, &block.term)?;
-    let made = block_ops(
+    let mut ops = Items::new(alloc);
+    let next = block_ops(
         alloc,
         t,
         registers,
+        &mut ops,
         names,
         n,
         names_in,
         live_out.as_slice(),
         block,
     )?;
-    let BlockOps { ops, next } = made;
     let copied = Vec::from_slice(alloc, names_in)?;
     let live_in = Items::from_vec(copied);
     let horizon = 2 * ops.len() as u32 + 2;

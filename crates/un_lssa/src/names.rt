@@ -64,29 +64,20 @@ fn mark(marks: &mut [bool], names: &[NameId])
     }
 }
 
-/// Of so many names, which are live at the start of a block to which block `b` may lead.
-fn next_marks(
-    alloc: Global,
-    live: &LiveSets,
-    names: usize,
-    b: usize,
-    term: &Term,
-) -> Result<Vec<bool>, NoMemory>
+/// Marks the names that are live at the start of a block to which block `b` may lead.
+fn mark_next(marks: &mut [bool], live: &LiveSets, b: usize, term: &Term)
     requires { b < 2 ^ 32 }
-    ensures marks { IfOk result (λ marks. marks.items ≡ marked_at live.now.at_start (replicate names false) (targets_of b term.now)) }
-    ensures len { IfOk result (λ marks. length marks.items ≡ names) }
+    ensures { marks.new ≡ marked_at live.now.at_start marks.old (targets_of b term.now) }
 {
-    let mut marks = vec![in alloc; false; names]?;
     match term {
-        Term::Fall => mark(&mut marks, live_at(live, b + 1)),
-        Term::Jump(to) => mark(&mut marks, live_at(live, to.0 as usize)),
+        Term::Fall => mark(marks, live_at(live, b + 1)),
+        Term::Jump(to) => mark(marks, live_at(live, to.0 as usize)),
         Term::Branch { to, .. } => {
-            mark(&mut marks, live_at(live, b + 1));
-            mark(&mut marks, live_at(live, to.0 as usize));
+            mark(marks, live_at(live, b + 1));
+            mark(marks, live_at(live, to.0 as usize));
         }
         Term::Ret(_) => {}
     }
-    Ok(marks)
 }
 
 /// Adds the name with this number where it is marked.
@@ -112,8 +103,25 @@ fn marked_names(alloc: Global, marks: &[bool]) -> Result<Items<NameId>, NoMemory
     Ok(names)
 }
 
+/// The names that are live at the start of a block to which block `b` may lead. `marks` has a place for each name, of which
+/// none is marked.
+fn live_by_marks(
+    alloc: Global,
+    marks: &mut [bool],
+    live: &LiveSets,
+    b: usize,
+    term: &Term,
+) -> Result<Items<NameId>, NoMemory>
+    requires place { b < 2 ^ 32 }
+    requires fresh { marks.old ≡ replicate (length marks.old) false }
+    requires names { length marks.old < 2 ^ 32 }
+    ensures { IfOk result (λ after. after ≡ live_after live.now.at_start (length marks.old) b term.now) }
+{
+    mark_next(marks, live, b, term);
+    marked_names(alloc, marks)
+}
+
 /// Of so many names those that are live at the start of a block to which block `b` may lead.
-#[tactic(auto, using(crate::proofs::Marks::marks_live))]
 pub fn live_after(
     alloc: Global,
     live: &LiveSets,
@@ -125,6 +133,6 @@ pub fn live_after(
     requires names { names < 2 ^ 32 }
     ensures { IfOk result (λ after. after ≡ live_after live.now.at_start names b term.now) }
 {
-    let marks = next_marks(alloc, live, names, b, term)?;
-    marked_names(alloc, &marks)
+    let mut marks = vec![in alloc; false; names]?;
+    live_by_marks(alloc, &mut marks, live, b, term)
 }

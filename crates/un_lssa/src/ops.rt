@@ -2,10 +2,12 @@
 
 ghost use Rattle.std.specs.Prelude.{◌≡◌, ◌+◌, ◌<◌, ◌≤◌, ◌^◌, ◌++◌, [], ◌∷◌, length, map, slice_index, IfOk, OnOk, List, Some, None};
 ghost use Rattle.std.specs.List.{range_with_len};
+ghost use Rattle.std.specs.Option.{option_to_list};
 ghost use Rattle.un_isa.specs.Registers.{callee_saved, saved_registers};
 ghost use Rattle.un_ir.specs.Extended.{temp, at_register};
 ghost use Rattle.un_ir.specs.LinearOf.{reads, assigned, past, name_operand, argument_operands, source_operands, body_op, body_ops};
 ghost use Rattle.un_ir.specs.LinearOf.{current_after, past_all, in_op, end_ops, kept_operands, out_operands_of, out_op};
+ghost use Rattle.un_ir.specs.declared.extended.ExtKind.{ExtKind};
 ghost use Rattle.un_ir.specs.declared.function.Term.{Term};
 ghost use Rattle.un_base.specs.declared.ids.NameId.{NameId};
 ghost use Rattle.un_lssa.specs.Making.{home_at};
@@ -30,12 +32,26 @@ fn reads(alloc: Global, n: u32, home: Option<Reg>) -> Result<Operand, NoMemory>
     Ok(Operand { alts, home })
 }
 
+/// An operand that reads one temporary, behind those so far.
+fn push_read(
+    alloc: Global,
+    operands: &mut Items<Operand>,
+    n: u32,
+    home: Option<Reg>,
+) -> Result<(), NoMemory>
+    ensures { OnOk result (operands.new ≡ operands.old ++ reads n home ∷ []) }
+{
+    let operand = reads(alloc, n, home)?;
+    operands.push(operand)?;
+    Ok(())
+}
+
 /// An operand alone.
 fn only(alloc: Global, n: u32, home: Option<Reg>) -> Result<Items<Operand>, NoMemory>
     ensures { IfOk result (λ operands. operands ≡ reads n home ∷ []) }
 {
     let mut operands = Items::new(alloc);
-    operands.push(reads(alloc, n, home)?)?;
+    push_read(alloc, &mut operands, n, home)?;
     Ok(operands)
 }
 
@@ -49,7 +65,7 @@ fn push_names(
     ensures { OnOk result (operands.new ≡ operands.old ++ map (name_operand current.now None) names.now) }
 {
     for name in names {
-        operands.push(reads(alloc, current_temp(current, *name), None)?)?;
+        push_read(alloc, operands, current_temp(current, *name), None)?;
     }
     Ok(())
 }
@@ -76,7 +92,8 @@ fn arguments(
 {
     let mut operands = Items::new(alloc);
     for (j, name) in names.iter().enumerate() {
-        operands.push(reads(alloc, current_temp(current, *name), home_at(t, j))?)?;
+        let n = current_temp(current, *name);
+        push_read(alloc, &mut operands, n, home_at(t, j))?;
     }
     Ok(operands)
 }
@@ -101,20 +118,73 @@ fn source_operands(
     }
 }
 
-/// An operation of the source, which defines temporary `n` where it has a result.
-fn body_op(alloc: Global, t: &Table, current: &[u32], n: u32, o: &SrcOp) -> Result<ExtOp, NoMemory>
-    ensures { IfOk result (λ op. op ≡ body_op t.now current.now n o.now) }
+/// Adds an operation of these parts.
+fn add_op(
+    ops: &mut Items<ExtOp>,
+    kind: ExtKind,
+    operands: Items<Operand>,
+    results: Items<TempId>,
+) -> Result<(), NoMemory>
+    ensures { OnOk result (ops.new ≡ ops.old ++ record { kind = kind; operands = operands; results = results } ∷ []) }
 {
-    let operands = source_operands(alloc, t, current, o)?;
+    ops.push(ExtOp {
+        kind,
+        operands,
+        results,
+    })?;
+    Ok(())
+}
+
+/// So many temporaries, the first of which is temporary `n`.
+fn new_temps(alloc: Global, n: u32, count: u32) -> Result<Items<TempId>, NoMemory>
+    requires { n + count < 2 ^ 32 }
+    ensures { IfOk result (λ temps. temps ≡ map temp (range_with_len n count)) }
+{
+    let mut temps = Items::new(alloc);
+    for k in 0..count {
+        temps.push(TempId(n + k))?;
+    }
+    Ok(temps)
+}
+
+/// What an operation of the source defines: temporary `n` where it has a result.
+fn body_results(alloc: Global, n: u32, o: &SrcOp) -> Result<Items<TempId>, NoMemory>
+    ensures { IfOk result (λ results. results ≡ map (λ (name : NameId). temp n) (option_to_list o.now.dst)) }
+{
     let mut results = Items::new(alloc);
     if o.dst.is_some() {
         results.push(TempId(n))?;
     }
-    Ok(ExtOp {
-        kind: ExtKind::Body(o.clone()?),
-        operands,
-        results,
-    })
+    Ok(results)
+}
+
+/// Adds an operation of the source with these operands and results.
+fn add_body_op(
+    ops: &mut Items<ExtOp>,
+    o: &SrcOp,
+    operands: Items<Operand>,
+    results: Items<TempId>,
+) -> Result<(), NoMemory>
+    ensures { OnOk result (ops.new ≡ ops.old ++ record { kind = ExtKind.Body o.now; operands = operands; results = results } ∷ []) }
+{
+    let o = o.clone()?;
+    add_op(ops, ExtKind::Body(o), operands, results)
+}
+
+/// An operation of the source behind those so far, which defines temporary `n` where it has a result.
+fn push_body_op(
+    alloc: Global,
+    t: &Table,
+    ops: &mut Items<ExtOp>,
+    current: &[u32],
+    n: u32,
+    o: &SrcOp,
+) -> Result<(), NoMemory>
+    ensures { OnOk result (ops.new ≡ ops.old ++ body_op t.now current.now n o.now ∷ []) }
+{
+    let operands = source_operands(alloc, t, current, o)?;
+    let results = body_results(alloc, n, o)?;
+    add_body_op(ops, o, operands, results)
 }
 
 /// The operations of the source behind those so far, and the first temporary that they do not define. The first of them
@@ -135,7 +205,7 @@ pub fn push_body(
 {
     let mut n = first;
     for o in source {
-        ops.push(body_op(alloc, t, current, n, o)?)?;
+        push_body_op(alloc, t, ops, current, n, o)?;
         if let Some(name) = o.dst {
             assign(current, name, n);
             n += 1;
@@ -144,20 +214,13 @@ pub fn push_body(
     Ok(n)
 }
 
-/// The values at a block's start.
-pub fn in_op(alloc: Global, n: u32, count: u32) -> Result<ExtOp, NoMemory>
+/// The values at a block's start, behind the operations so far.
+pub fn push_in(alloc: Global, ops: &mut Items<ExtOp>, n: u32, count: u32) -> Result<(), NoMemory>
     requires { n + count < 2 ^ 32 }
-    ensures { IfOk result (λ op. op ≡ in_op n count) }
+    ensures { OnOk result (ops.new ≡ ops.old ++ in_op n count ∷ []) }
 {
-    let mut results = Items::new(alloc);
-    for k in 0..count {
-        results.push(TempId(n + k))?;
-    }
-    Ok(ExtOp {
-        kind: ExtKind::In,
-        operands: Items::new(alloc),
-        results,
-    })
+    let results = new_temps(alloc, n, count)?;
+    add_op(ops, ExtKind::In, Items::new(alloc), results)
 }
 
 /// The terminator behind the operations so far, where there is one. A return reads the saved value of the link register.
@@ -176,12 +239,7 @@ pub fn push_end(
         Term::Branch { pred, .. } => only(alloc, current_temp(current, pred), None)?,
         Term::Ret(_) => only(alloc, link, None)?,
     };
-    ops.push(ExtOp {
-        kind: ExtKind::End(term),
-        operands,
-        results: Items::new(alloc),
-    })?;
-    Ok(())
+    add_op(ops, ExtKind::End(term), operands, Items::new(alloc))
 }
 
 /// Saved values in registers, behind the operands so far. The first is temporary `first`.
@@ -196,7 +254,7 @@ fn push_kept(
 {
     let mut n = first;
     for r in registers {
-        operands.push(reads(alloc, n, Some(Reg(*r)))?)?;
+        push_read(alloc, operands, n, Some(Reg(*r)))?;
         n += 1;
     }
     Ok(())
@@ -213,7 +271,7 @@ fn push_saved(
     ensures { OnOk result (operands.new ≡ operands.old ++ map (λ n. reads n None) (range_with_len first count)) }
 {
     for k in 0..count {
-        operands.push(reads(alloc, first + k, None)?)?;
+        push_read(alloc, operands, first + k, None)?;
     }
     Ok(())
 }
@@ -235,7 +293,7 @@ fn returned_operands(
     let mut operands = Items::new(alloc);
     if let Some(name) = value {
         let home = Some(Reg(u32::from(t.result)));
-        operands.push(reads(alloc, current_temp(current, name), home)?)?;
+        push_read(alloc, &mut operands, current_temp(current, name), home)?;
     }
     push_kept(alloc, &mut operands, first, registers)?;
     Ok(operands)
@@ -282,24 +340,21 @@ fn out_operands(
     }
 }
 
-/// The values at a block's end.
-pub fn out_op(
+/// The values at a block's end, behind the operations so far.
+pub fn push_out(
     alloc: Global,
     t: &Table,
     registers: &[u32],
+    ops: &mut Items<ExtOp>,
     current: &[u32],
     first: u32,
     live_out: &[NameId],
     term: Term,
-) -> Result<ExtOp, NoMemory>
+) -> Result<(), NoMemory>
     requires kept { registers.now ≡ callee_saved t.now }
     requires fit { first + length registers.now + 1 < 2 ^ 32 }
-    ensures { IfOk result (λ op. op ≡ out_op t.now current.now first live_out.now term) }
+    ensures { OnOk result (ops.new ≡ ops.old ++ out_op t.now current.now first live_out.now term ∷ []) }
 {
     let operands = out_operands(alloc, t, registers, current, first, live_out, term)?;
-    Ok(ExtOp {
-        kind: ExtKind::Out,
-        operands,
-        results: Items::new(alloc),
-    })
+    add_op(ops, ExtKind::Out, operands, Items::new(alloc))
 }

@@ -9,4 +9,4 @@ loop-k-preserved c =
     let e = map-range_with_len_more (λ (n : ℕ). reads n None) c.args.first c.loop-k.k (c.args.first + c.loop-k.k) refl in
     let a = append_assoc c.args.operands.now (map (λ (n : ℕ). reads n None) (range_with_len c.args.first c.loop-k.k))
     (reads (c.args.first + c.loop-k.k) None ∷ []) in
-    cc (c.in_ok-push.ensures.ok, c.in_ok-reads.ensures)
+    cc (c.in_ok-push_read.ensures)

@@ -1,7 +1,7 @@
 use Rattle.std.proofs.Common.{◌+◌, refl}
 use Rattle.std.proofs.lemmas.List.FromFn.{map-range_with_len_more}
 use Rattle.un_ir.specs.Extended.{temp}
-use Rattle.un_lssa.proofs.ops.in_op.Goals as goal
+use Rattle.un_lssa.proofs.ops.new_temps.Goals as goal
 
 pub loop-k-preserved : goal.loop-k-preserved
 loop-k-preserved c =
