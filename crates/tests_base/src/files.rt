@@ -54,7 +54,7 @@ static SCRIPTS: [&[Option<usize>]; 5] = [
     &[Some(5000), Some(8192)],
 ];
 
-/// Whether each answer is the script's.
+/// Whether a source over a script gives each of its answers.
 fn reads_as_scripted(answers: &[Option<usize>]) -> bool {
     let mut buf = [0u8; 8192];
     let mut source = StdSource::new(Scripted { answers, at: 0 });
@@ -66,7 +66,7 @@ fn reads_as_scripted(answers: &[Option<usize>]) -> bool {
     true
 }
 
-/// Whether each answer is the script's.
+/// Whether a sink over a script gives each of its answers.
 fn writes_as_scripted(answers: &[Option<usize>]) -> bool {
     let buf = [0u8; 8192];
     let mut sink = StdSink::new(Scripted { answers, at: 0 });
@@ -78,14 +78,18 @@ fn writes_as_scripted(answers: &[Option<usize>]) -> bool {
     true
 }
 
-#[test]
-fn a_source_answers_what_its_reader_does(rt: HostRuntime) {
-    let well = SCRIPTS.iter().all(|answers| reads_as_scripted(answers));
-    assert!(rt; well);
+/// Whether sources and sinks answer what their readers and writers do.
+fn all_answer_as_scripted() -> bool {
+    for answers in SCRIPTS.iter() {
+        if !reads_as_scripted(answers) || !writes_as_scripted(answers) {
+            return false;
+        }
+    }
+    true
 }
 
 #[test]
-fn a_sink_answers_what_its_writer_does(rt: HostRuntime) {
-    let well = SCRIPTS.iter().all(|answers| writes_as_scripted(answers));
+fn adapters_answer_as_std_does(rt: HostRuntime) {
+    let well = all_answer_as_scripted();
     assert!(rt; well);
 }

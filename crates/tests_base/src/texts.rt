@@ -1,9 +1,9 @@
 //! Decimal numbers, lines and words.
 
 use std::alloc::Global;
-use std::test::Fail;
 use un_base::decimal::{read_decimal, write_decimal};
 use un_base::lines::lines;
+use un_base::memory_error::NoMemory;
 use un_base::words::Word;
 
 /// Texts, and the numbers that they write.
@@ -20,68 +20,75 @@ static NUMBERS: [(&[u8], Option<u64>); 10] = [
     (b"7 ", None),
 ];
 
-/// Texts, and their lines joined with `|`.
-static LINES: [(&[u8], &[u8]); 5] = [
-    (b"first\r\n\nlast", b"first\r||last|"),
-    (b"", b""),
-    (b"one\n", b"one|"),
-    (b"\n\n", b"||"),
-    (b"a\nb\n", b"a|b|"),
-];
+/// Texts, whose lines are joined with `|`.
+static TEXTS: [&[u8]; 5] = [b"first\r\n\nlast", b"", b"one\n", b"\n\n", b"a\nb\n"];
 
-/// Whether each text is read as its number, and each number is written as its text.
-fn numbers_are_read_and_written(alloc: Global) -> Result<bool, Fail> {
+/// Three of the numbers as they are written, and the joined lines of each text, all on lines of their own.
+static WRITTEN: &[u8] = b"0\n4096\n18446744073709551615\nfirst\r||last|\n\none|\n||\na|b|\n";
+
+/// Whether each text is read as its number.
+fn numbers_are_read() -> bool {
     for (text, number) in NUMBERS.iter() {
         if read_decimal(text) != *number {
-            return Ok(false);
-        }
-        let mut out = Vec::new(alloc);
-        write_decimal(alloc, &mut out, number.unwrap_or(7))?;
-        if number.is_some() && out.as_slice() != *text {
-            return Ok(false);
+            return false;
         }
     }
-    Ok(true)
+    true
 }
 
-/// Whether each text has its lines.
-fn lines_are_lent(alloc: Global) -> Result<bool, Fail> {
-    for (text, joined) in LINES.iter() {
-        let mut out = Vec::new(alloc);
-        for line in lines(text) {
-            out.extend_from_slice(line)?;
-            out.push(b'|')?;
-        }
-        if out.as_slice() != *joined {
-            return Ok(false);
-        }
+/// Writes each number on a line.
+fn put_numbers(alloc: Global, out: &mut Vec<u8>) -> Result<(), NoMemory> {
+    for number in [0, 4096, u64::MAX] {
+        write_decimal(alloc, out, number)?;
+        out.extend_from_slice(b"\n")?;
     }
-    Ok(true)
+    Ok(())
+}
+
+/// Writes the lines of a text, each before `|`.
+fn put_joined(out: &mut Vec<u8>, text: &[u8]) -> Result<(), NoMemory> {
+    for line in lines(text) {
+        out.extend_from_slice(line)?;
+        out.extend_from_slice(b"|")?;
+    }
+    Ok(())
+}
+
+/// Writes the joined lines of each text on a line.
+fn put_texts(out: &mut Vec<u8>) -> Result<(), NoMemory> {
+    for text in TEXTS.iter() {
+        put_joined(out, text)?;
+        out.extend_from_slice(b"\n")?;
+    }
+    Ok(())
+}
+
+/// Whether numbers are written as their texts, and texts have their lines.
+fn texts_are_written(alloc: Global) -> Result<bool, NoMemory> {
+    let mut out = Vec::new(alloc);
+    put_numbers(alloc, &mut out)?;
+    put_texts(&mut out)?;
+    Ok(out.as_slice() == WRITTEN)
+}
+
+/// Whether a word has these bytes.
+fn has_bytes(word: &Word, bytes: &[u8]) -> bool {
+    word.is(bytes) && word.as_bytes() == bytes && !word.is(b"--node")
 }
 
 /// Whether a word keeps its bytes.
-fn words_are_kept(alloc: Global) -> Result<bool, Fail> {
+fn words_are_kept(alloc: Global) -> Result<bool, NoMemory> {
     let word = Word::new(alloc, "--nodes")?;
-    Ok(word.is(b"--nodes") && !word.is(b"--node") && word.as_bytes() == b"--nodes".as_slice())
+    Ok(has_bytes(&word, b"--nodes"))
+}
+
+/// Whether all is read, written and kept.
+fn texts_go_well(alloc: Global) -> Result<bool, NoMemory> {
+    Ok(numbers_are_read() && texts_are_written(alloc)? && words_are_kept(alloc)?)
 }
 
 #[test]
-fn reads_and_writes_numbers(rt: HostRuntime) -> Result<(), Fail> {
-    let well = numbers_are_read_and_written(rt.alloc())?;
+fn reads_and_writes_texts(rt: HostRuntime) {
+    let well = matches!(texts_go_well(rt.alloc()), Ok(true));
     assert!(rt; well);
-    Ok(())
-}
-
-#[test]
-fn lends_lines(rt: HostRuntime) -> Result<(), Fail> {
-    let well = lines_are_lent(rt.alloc())?;
-    assert!(rt; well);
-    Ok(())
-}
-
-#[test]
-fn keeps_words(rt: HostRuntime) -> Result<(), Fail> {
-    let well = words_are_kept(rt.alloc())?;
-    assert!(rt; well);
-    Ok(())
 }
