@@ -62,7 +62,12 @@ place_of-k-requires c =
     let a = c.self.inside in
     let h = c.index-shape.result.now in
     let below : c.args.v.0 < length a.shapes.items =
-    omega (arith, c.requires.there, ap (λ (s : Contents). length s.sets) c.self.view_is, length-map a.shapes.items (set_of a.words.words)) in
+    omega (
+      arith,
+      c.requires.there,
+      ap length (ap (λ (s : Contents). s.sets) c.self.view_is),
+      length-map a.shapes.items (set_of a.words.words),
+    ) in
     (domain_at a.shapes.items a.words.words a.words.marked c.self.invariant c.args.v.0 h below c.index-shape.ensures).rises
 
 pub drop_place-requires-clause-small : goal.drop_place-requires-clause-small
@@ -70,7 +75,12 @@ drop_place-requires-clause-small c =
     let a = c.self.inside in
     let h = c.index-shape.result.now in
     let below : c.args.v.0 < length a.shapes.items =
-    omega (arith, c.requires.there, ap (λ (s : Contents). length s.sets) c.self.view_is, length-map a.shapes.items (set_of a.words.words)) in
+    omega (
+      arith,
+      c.requires.there,
+      ap length (ap (λ (s : Contents). s.sets) c.self.view_is),
+      length-map a.shapes.items (set_of a.words.words),
+    ) in
     let laid = laid_at a.shapes.items a.words.words a.words.marked c.self.invariant c.args.v.0 h below c.index-shape.ensures in
     omega (arith, laid.small)
 
@@ -79,7 +89,12 @@ drop_place-requires-clause-tight c =
     let a = c.self.inside in
     let h = c.index-shape.result.now in
     let below : c.args.v.0 < length a.shapes.items =
-    omega (arith, c.requires.there, ap (λ (s : Contents). length s.sets) c.self.view_is, length-map a.shapes.items (set_of a.words.words)) in
+    omega (
+      arith,
+      c.requires.there,
+      ap length (ap (λ (s : Contents). s.sets) c.self.view_is),
+      length-map a.shapes.items (set_of a.words.words),
+    ) in
     (laid_at a.shapes.items a.words.words a.words.marked c.self.invariant c.args.v.0 h below c.index-shape.ensures).tight
 
 pub drop_place-requires-clause-within : goal.drop_place-requires-clause-within
@@ -87,5 +102,10 @@ drop_place-requires-clause-within c =
     let a = c.self.inside in
     let h = c.index-shape.result.now in
     let below : c.args.v.0 < length a.shapes.items =
-    omega (arith, c.requires.there, ap (λ (s : Contents). length s.sets) c.self.view_is, length-map a.shapes.items (set_of a.words.words)) in
+    omega (
+      arith,
+      c.requires.there,
+      ap length (ap (λ (s : Contents). s.sets) c.self.view_is),
+      length-map a.shapes.items (set_of a.words.words),
+    ) in
     (laid_at a.shapes.items a.words.words a.words.marked c.self.invariant c.args.v.0 h below c.index-shape.ensures).within
