@@ -45,8 +45,9 @@ loop-p-preserved g c =
 pub returns-in-Failed-clause-ends : goal.returns-in-Failed-clause-ends
 returns-in-Failed-clause-ends g c =
     let P = g.P in
-    round_lost P.Predicate.scope P.Propagator.cut g.met.P.Propagator.lawful c.args.props.now c.args.store.now c.loop-p.p-index c.p-item.result
-    c.loop-p.store c.prune.new.store c.loop-p.changed c.loop-p.invariant.so_far c.loop-p-test.true c.p-item.is c.in-Failed.ensures.prune.ends
+    round_lost P.Predicate.scope P.Propagator.cut g.met.P.Propagator.lawful c.args.props.now c.args.store.now c.loop-p.p-index
+    c.p-item.result c.loop-p.store c.prune.new.store c.loop-p.changed c.loop-p.invariant.so_far c.loop-p-test.true c.p-item.is
+    c.in-Failed.ensures.prune.ends
 
 pub returns-then-changed-clause-ends : goal.returns-then-changed-clause-ends
 returns-then-changed-clause-ends g c =
