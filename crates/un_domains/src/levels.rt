@@ -1,7 +1,7 @@
 //! The words that changed since a mark, with what they were: one level of them for each mark.
 
 ghost use Rattle.std.specs.Prelude.{◌≡◌, ℕ, ◌+◌, ◌<◌, ◌≤◌, List, [], ◌∷◌, ◌++◌, length, slice_index, slice_set, OnOk, OnErr, IfOk, All};
-ghost use Rattle.std.specs.Prelude.{replicate, false, vec_capacity};
+ghost use Rattle.std.specs.Prelude.{vec_capacity};
 ghost use Rattle.un_domains.specs.Levels.{IsLevel, IsSave, marked_of, unwind};
 
 use std::alloc::{AllocError, Global};
@@ -20,22 +20,11 @@ pub struct Level {
     pub entries: Vec<Saved>,
 }
 
-/// As many flags, none of them raised.
-fn no_flags(alloc: Global, n: usize) -> Result<Vec<bool>, AllocError>
-    ensures { IfOk result (λ v. v.items ≡ replicate n false) }
-{
-    let mut flags = Vec::with_capacity(alloc, n)?;
-    for _ in 0..n {
-        flags.push(false)?;
-    }
-    Ok(flags)
-}
-
 /// A level in which no word is saved, with room for `n`.
 pub fn new_level(alloc: Global, n: usize) -> Result<Level, AllocError>
     ensures { IfOk result (λ l. IsLevel n l × (l.entries.items ≡ [])) }
 {
-    let saved = no_flags(alloc, n)?;
+    let saved = vec![in alloc; false; n]?;
     let entries = Vec::with_capacity(alloc, n)?;
     Ok(Level { saved, entries })
 }

@@ -1,6 +1,7 @@
 -- Steps of a round, and of rounds.
 use Rattle.std.proofs.Common.{ℕ, suc, ◌≡◌, ◌≢◌, ◌<◌, ◌≤◌, ◌+◌, Bool, true, false, List, [], ◌∷◌, length, get_or, drop, drop-cons, add-one}
 use Rattle.std.proofs.Common.{None, Some, option_and_then, MatchOption, All, refl, sym, ap, ◌∙◌, subst, arith}
+use Rattle.std.proofs.lemmas.List.{drop_all}
 use Rattle.std.specs.declared.option.Option.{Option}
 use Rattle.std.specs.Bool.{MatchBool, ⊤}
 use Rattle.std.specs.List.{AllByRecursion}
@@ -88,6 +89,27 @@ module _ {P : Type 0} (scope : P → List VarId) (cut : P → Sets → Option Se
         subst (λ (n : ℕ). drop i ps ≡ p ∷ drop n ps) (sym (add-one i))
         (drop-cons ps i p below ∙ ap (λ (q : P). q ∷ drop (suc i) ps) (sym at)) in
         sym sofar.rest ∙ (ap (λ (qs : List P). round cut qs s.sets) cons ∙ ap (option_and_then (round cut (drop (i + 1) ps))) e)
+
+    -- where one failed, the round did
+    pub round_lost : (i : ℕ) (p : P) (s t : Contents) (changed : Bool) → SoFar i s changed → i < length ps → p ≡ get_or ps i p
+        → Ends (cut p s.sets) s.sets t.sets Failed → Ends (round cut ps first.sets) first.sets t.sets Failed
+    round_lost i p s t changed sofar below at lost =
+        let none = none_of (cut p s.sets) s.sets t.sets lost in
+        subst (λ (c : Option Sets). Ends c first.sets t.sets Failed) (sym (round_failed i p s changed sofar below at none.0)) (refl, none.1)
+
+    -- after the last propagator
+    round_over : (i : ℕ) (s : Contents) (changed : Bool) → SoFar i s changed → length ps ≤ i → (answer : Pruned)
+        → Answers answer first.sets s.sets
+        → Ends (round cut ps first.sets) first.sets s.sets answer
+    round_over i s changed sofar all answer answers = subst (λ (c : Option Sets). Ends c first.sets s.sets answer)
+        (ap (λ (qs : List P). round cut qs s.sets) (sym (drop_all i ps all)) ∙ sofar.rest)
+        (record { sets = refl; live = sofar.full; answers = answers })
+
+    pub round_same : (i : ℕ) (s : Contents) → SoFar i s false → length ps ≤ i → Ends (round cut ps first.sets) first.sets s.sets Same
+    round_same i s sofar all = round_over i s false sofar all Same sofar.so_far
+
+    pub round_tighter : (i : ℕ) (s : Contents) → SoFar i s true → length ps ≤ i → Ends (round cut ps first.sets) first.sets s.sets Tighter
+    round_tighter i s sofar all = round_over i s true sofar all Tighter sofar.so_far
 
     module _ (i : ℕ) (p : P) (s t : Contents) (changed : Bool) (sofar : SoFar i s changed) (known : HasVars (scope p) s.sets)
         (below : i < length ps)

@@ -1,7 +1,6 @@
 //! What a propagator is: a predicate on assignments, and a cut of stores that keeps each assignment for which it holds.
 
-ghost use Rattle.std.specs.Prelude.{◌≡◌, ℕ, ◌<◌, ◌≤◌, Option, Some, MatchOption, ⊤, List, length, All, true, IfOk, Bool, Contains};
-ghost use Rattle.std.specs.Prelude.{replicate, ◌+◌};
+ghost use Rattle.std.specs.Prelude.{◌≡◌, ℕ, ◌+◌, ◌<◌, ◌≤◌, Option, Some, MatchOption, ⊤, List, length, All, true, IfOk, Bool, Contains};
 ghost use Rattle.un_base.specs.declared.ids.VarId.{VarId};
 ghost use Rattle.un_domains.specs.Sets.{Sets, IsIn, NoneEmpty, Kept};
 ghost use Rattle.un_prop.specs.Rounds.{HasVars};
@@ -9,7 +8,7 @@ ghost use Rattle.un_prop.specs.Lawful.{Lawful};
 ghost use Rattle.un_prop.specs.Looks.{InWords};
 ghost use Rattle.un_prop.specs.Parts.{Part, all_meet, SameAt, ChecksForward};
 
-use std::alloc::{AllocError, Global};
+use std::alloc::Global;
 use un_base::ids::VarId;
 use un_base::memory_error::NoMemory;
 use un_domains::store::Store;
@@ -31,17 +30,6 @@ pub struct Scratch {
     pub cycles: Vec<u32>,
 }
 
-/// As many zeros.
-fn zeros(alloc: Global, n: usize) -> Result<Vec<u32>, AllocError>
-    ensures { IfOk result (λ v. v.items ≡ replicate n 0) }
-{
-    let mut items = Vec::with_capacity(alloc, n)?;
-    for _ in 0..n {
-        items.push(0)?;
-    }
-    Ok(items)
-}
-
 impl Scratch {
     ghost use Rattle.un_prop.specs.Pruning.{HasRoom};
 
@@ -49,8 +37,8 @@ impl Scratch {
     pub fn new(alloc: Global, vars: u32, horizon: u32) -> Result<Scratch, NoMemory>
         ensures { IfOk result (HasRoom vars (horizon + 1)) }
     {
-        let fixed = zeros(alloc, vars as usize)?;
-        let cycles = zeros(alloc, horizon as usize + 1)?;
+        let fixed = vec![in alloc; 0; vars as usize]?;
+        let cycles = vec![in alloc; 0; horizon as usize + 1]?;
         Ok(Scratch { fixed, cycles })
     }
 }

@@ -32,17 +32,6 @@ impl Model for Queue {
     ghost invariant = { λ a. IsQueue a.flags.items a.places.items (deque_capacity a.places) };
 }
 
-/// As many flags, none of them raised.
-fn no_flags(alloc: Global, n: usize) -> Result<Vec<bool>, AllocError>
-    ensures { IfOk result (λ v. v.items ≡ replicate n false) }
-{
-    let mut flags = Vec::with_capacity(alloc, n)?;
-    for _ in 0..n {
-        flags.push(false)?;
-    }
-    Ok(flags)
-}
-
 impl Queue {
     ghost use Rattle.un_prop.specs.Queues.{waits};
 
@@ -50,7 +39,7 @@ impl Queue {
     pub fn new(alloc: Global, n: usize) -> Result<Queue, AllocError>
         ensures { IfOk result (λ q. q ≡ replicate n false) }
     {
-        let flags = no_flags(alloc, n)?;
+        let flags = vec![in alloc; false; n]?;
         let places = VecDeque::with_capacity(alloc, n)?;
         Ok(Queue { flags, places })
     }

@@ -55,3 +55,15 @@ returns-else-new c =
     c.requires.within place c.requires.tight (b.ensures.lo ∙ ap (λ (us : List ℕ). get_or us at 0) c.as_slice-all.ensures)
     end_is there c.clear.ensures.row c.clear.ensures.outside c.clear.ensures.marked tight t.ensures.within left c.write.ensures.words
     c.write.ensures.marked c.if-new.false
+
+pub clear-requires-clause-place : goal.clear-requires-clause-place
+clear-requires-clause-place c =
+    let ws = c.args.words.now.words in
+    let at = c.args.at in
+    let n = c.args.n in
+    let b = c.bounds_at-old in
+    let row_is : c.row.result.now ≡ row_of ws at n = c.row.ensures ∙ ap (λ (us : List ℕ). row_of us at n) c.as_slice-all.ensures in
+    let there = subst (λ (r : List ℕ). inside r b.result.lo b.result.end c.args.k ≡ true) row_is (sym c.if-not-has.ensures) in
+    let end_is : b.result.end ≡ get_or ws (at + 1) 0 = b.ensures.end ∙ ap (λ (us : List ℕ). get_or us (at + 1) 0) c.as_slice-all.ensures in
+    let high = (inside_of (row_of ws at n) b.result.lo b.result.end c.args.k there).high in
+    omega (arith, high, end_is, c.requires.tight.within, length-row ws at n c.requires.within)

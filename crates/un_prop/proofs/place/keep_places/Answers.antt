@@ -32,4 +32,6 @@ loop-i-preserved g c =
     }
 
 pub returns-clause-step : goal.returns-clause-step
-returns-clause-step g c = let end : c.loop-i.i ≡ c.args.n = omega (arith, c.loop-i-test.false, c.loop-i.auto.i-end) in rw end at c.loop-i.invariant.step
+returns-clause-step g c =
+    let end : c.loop-i.i ≡ c.args.n = omega (arith, c.loop-i-test.false, c.loop-i.auto.i-end) in
+    rw end at c.loop-i.invariant.step

@@ -1,8 +1,7 @@
 use Rattle.std.proofs.Common.{length, refl, ◌∙◌, subst, sym}
 use Rattle.un_domains.specs.OrderLaws.{Below-refl}
-use Rattle.un_prop.specs.Pruning.{Ends, HasRoom}
-use Rattle.un_prop.specs.declared.propagator.Pruned.TheVariants.{Failed}
-use Rattle.un_prop.proofs.RoundLaws.{item_known, goes_same, goes_tighter, none_of, round_failed, room_kept}
+use Rattle.un_prop.specs.Pruning.{HasRoom}
+use Rattle.un_prop.proofs.RoundLaws.{item_known, goes_same, goes_tighter, round_lost, round_same, round_tighter, room_kept}
 use Rattle.un_prop.proofs.run.run_round.Goals as goal
 use Rattle.un_prop.proofs.run.run_round.Goals.{in-Same, in-Tighter}
 
@@ -42,3 +41,22 @@ loop-p-preserved g c =
       fixed = c.prune.ensures.fixed ∙ inv.fixed;
       cycles = c.prune.ensures.cycles ∙ inv.cycles;
     }
+
+pub returns-in-Failed-clause-ends : goal.returns-in-Failed-clause-ends
+returns-in-Failed-clause-ends g c =
+    let P = g.P in
+    round_lost P.Predicate.scope P.Propagator.cut g.met.P.Propagator.lawful c.args.props.now c.args.store.now c.loop-p.p-index
+    c.p-item.result c.loop-p.store c.prune.new.store c.loop-p.changed c.loop-p.invariant.so_far c.loop-p-test.true c.p-item.is
+    c.in-Failed.ensures.prune.ends
+
+pub returns-then-changed-clause-ends : goal.returns-then-changed-clause-ends
+returns-then-changed-clause-ends g c =
+    let P = g.P in
+    round_tighter P.Predicate.scope P.Propagator.cut g.met.P.Propagator.lawful c.args.props.now c.args.store.now c.loop-p.p-index
+    c.loop-p.store (rw c.if-changed.true at c.loop-p.invariant.so_far) c.loop-p-test.false
+
+pub returns-else-changed-clause-ends : goal.returns-else-changed-clause-ends
+returns-else-changed-clause-ends g c =
+    let P = g.P in
+    round_same P.Predicate.scope P.Propagator.cut g.met.P.Propagator.lawful c.args.props.now c.args.store.now c.loop-p.p-index
+    c.loop-p.store (rw c.if-changed.false at c.loop-p.invariant.so_far) c.loop-p-test.false

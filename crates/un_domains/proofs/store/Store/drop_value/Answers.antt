@@ -3,7 +3,7 @@ use Rattle.std.proofs.lemmas.List.{length-map}
 use Rattle.un_domains.specs.Cuts.{Contents, IsCut}
 use Rattle.un_domains.specs.Domains.{value_at}
 use Rattle.un_domains.specs.Shapes.{set_of, sets_of}
-use Rattle.un_domains.specs.ShapeLaws.{cut_store, cut_is, places_some}
+use Rattle.un_domains.specs.ShapeLaws.{laid_at, domain_at, cut_store, cut_is, places_some}
 use Rattle.un_domains.proofs.store.Store.drop_value.Goals as goal
 
 pub drop_place-requires-clause-some : goal.drop_place-requires-clause-some
@@ -45,3 +45,67 @@ returns c =
       marked =
           map (sets_of a.shapes.items) c.drop_place.new.words.marked;
     }) c.drop_place.result) c.self.view_is cut
+
+pub index-shape-requires : goal.index-shape-requires
+index-shape-requires c =
+    let a = c.self.inside in
+    omega (
+      arith,
+      c.requires.there,
+      ap (λ (s : Contents). length s.sets) c.self.view_is,
+      length-map a.shapes.items (set_of a.words.words),
+      a.shapes.ok.0,
+    )
+
+pub place_of-k-requires : goal.place_of-k-requires
+place_of-k-requires c =
+    let a = c.self.inside in
+    let h = c.index-shape.result.now in
+    let below : c.args.v.0 < length a.shapes.items =
+    omega (
+      arith,
+      c.requires.there,
+      ap length (ap (λ (s : Contents). s.sets) c.self.view_is),
+      length-map a.shapes.items (set_of a.words.words),
+    ) in
+    (domain_at a.shapes.items a.words.words a.words.marked c.self.invariant c.args.v.0 h below c.index-shape.ensures).rises
+
+pub drop_place-requires-clause-small : goal.drop_place-requires-clause-small
+drop_place-requires-clause-small c =
+    let a = c.self.inside in
+    let h = c.index-shape.result.now in
+    let below : c.args.v.0 < length a.shapes.items =
+    omega (
+      arith,
+      c.requires.there,
+      ap length (ap (λ (s : Contents). s.sets) c.self.view_is),
+      length-map a.shapes.items (set_of a.words.words),
+    ) in
+    let laid = laid_at a.shapes.items a.words.words a.words.marked c.self.invariant c.args.v.0 h below c.index-shape.ensures in
+    omega (arith, laid.small)
+
+pub drop_place-requires-clause-tight : goal.drop_place-requires-clause-tight
+drop_place-requires-clause-tight c =
+    let a = c.self.inside in
+    let h = c.index-shape.result.now in
+    let below : c.args.v.0 < length a.shapes.items =
+    omega (
+      arith,
+      c.requires.there,
+      ap length (ap (λ (s : Contents). s.sets) c.self.view_is),
+      length-map a.shapes.items (set_of a.words.words),
+    ) in
+    (laid_at a.shapes.items a.words.words a.words.marked c.self.invariant c.args.v.0 h below c.index-shape.ensures).tight
+
+pub drop_place-requires-clause-within : goal.drop_place-requires-clause-within
+drop_place-requires-clause-within c =
+    let a = c.self.inside in
+    let h = c.index-shape.result.now in
+    let below : c.args.v.0 < length a.shapes.items =
+    omega (
+      arith,
+      c.requires.there,
+      ap length (ap (λ (s : Contents). s.sets) c.self.view_is),
+      length-map a.shapes.items (set_of a.words.words),
+    ) in
+    (laid_at a.shapes.items a.words.words a.words.marked c.self.invariant c.args.v.0 h below c.index-shape.ensures).within

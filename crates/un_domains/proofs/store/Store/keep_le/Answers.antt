@@ -3,7 +3,7 @@ use Rattle.std.proofs.lemmas.List.{length-map}
 use Rattle.un_domains.specs.Cuts.{Contents, IsCut}
 use Rattle.un_domains.specs.Domains.{value_at}
 use Rattle.un_domains.specs.Shapes.{set_of, sets_of}
-use Rattle.un_domains.specs.ShapeLaws.{cut_store, cut_is, turned}
+use Rattle.un_domains.specs.ShapeLaws.{laid_at, domain_at, cut_store, cut_is, turned}
 use Rattle.un_domains.proofs.store.Store.keep_le.Goals as goal
 
 pub invariant_of-self : goal.invariant_of-self
@@ -31,3 +31,47 @@ returns c =
       marked =
           map (sets_of a.shapes.items) c.keep_before.new.words.marked;
     }) c.keep_before.result) c.self.view_is cut
+
+pub index-shape-requires : goal.index-shape-requires
+index-shape-requires c =
+    let a = c.self.inside in
+    omega (
+      arith,
+      c.requires,
+      ap (λ (s : Contents). length s.sets) c.self.view_is,
+      length-map a.shapes.items (set_of a.words.words),
+      a.shapes.ok.0,
+    )
+
+pub places_to-k-requires : goal.places_to-k-requires
+places_to-k-requires c =
+    let a = c.self.inside in
+    let h = c.index-shape.result.now in
+    let below : c.args.v.0 < length a.shapes.items =
+    omega (arith, c.requires, ap (λ (s : Contents). length s.sets) c.self.view_is, length-map a.shapes.items (set_of a.words.words)) in
+    (domain_at a.shapes.items a.words.words a.words.marked c.self.invariant c.args.v.0 h below c.index-shape.ensures).rises
+
+pub keep_before-requires-clause-small : goal.keep_before-requires-clause-small
+keep_before-requires-clause-small c =
+    let a = c.self.inside in
+    let h = c.index-shape.result.now in
+    let below : c.args.v.0 < length a.shapes.items =
+    omega (arith, c.requires, ap (λ (s : Contents). length s.sets) c.self.view_is, length-map a.shapes.items (set_of a.words.words)) in
+    let laid = laid_at a.shapes.items a.words.words a.words.marked c.self.invariant c.args.v.0 h below c.index-shape.ensures in
+    omega (arith, laid.small)
+
+pub keep_before-requires-clause-tight : goal.keep_before-requires-clause-tight
+keep_before-requires-clause-tight c =
+    let a = c.self.inside in
+    let h = c.index-shape.result.now in
+    let below : c.args.v.0 < length a.shapes.items =
+    omega (arith, c.requires, ap (λ (s : Contents). length s.sets) c.self.view_is, length-map a.shapes.items (set_of a.words.words)) in
+    (laid_at a.shapes.items a.words.words a.words.marked c.self.invariant c.args.v.0 h below c.index-shape.ensures).tight
+
+pub keep_before-requires-clause-within : goal.keep_before-requires-clause-within
+keep_before-requires-clause-within c =
+    let a = c.self.inside in
+    let h = c.index-shape.result.now in
+    let below : c.args.v.0 < length a.shapes.items =
+    omega (arith, c.requires, ap (λ (s : Contents). length s.sets) c.self.view_is, length-map a.shapes.items (set_of a.words.words)) in
+    (laid_at a.shapes.items a.words.words a.words.marked c.self.invariant c.args.v.0 h below c.index-shape.ensures).within
