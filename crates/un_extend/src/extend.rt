@@ -89,8 +89,8 @@ fn push_block(
     block: &LssaBlock,
 ) -> Result<(), NoMemory>
     requires { g.old.ops ≡ [] }
-    ensures block { OnOk result (extended.new ≡
-        (let grown = grown_block names.now is_entry g.old.values g.old.next block.now in extended.old ++ with_ops block.now grown.ops ∷ [])) }
+    ensures block { OnOk result (extended.new ≡ extended.old
+        ++ (let grown = grown_block names.now is_entry g.old.values g.old.next block.now in with_ops block.now grown.ops ∷ [])) }
     ensures rest { OnOk result (g.new ≡
         (let grown = grown_block names.now is_entry g.old.values g.old.next block.now in record grown { ops = [] })) }
 {

@@ -2,7 +2,8 @@
 
 ghost use Rattle.std.specs.Prelude.{◌≡◌, ◌+◌, ◌++◌, map, length, replicate, IfOk, OnOk, unwrap_or, slice_get};
 ghost use Rattle.un_ir.specs.Extended.{is_return};
-ghost use Rattle.un_ir.specs.ExtendOf.{new_temps, with_op, with_leave, with_enter, with_results, with_extended, with_all_extended, sorts_of, sort_of_name};
+ghost use Rattle.un_ir.specs.ExtendOf.{new_temps, with_op, with_leave, with_enter, with_results, with_extended, with_all_extended};
+ghost use Rattle.un_ir.specs.ExtendOf.{sorts_of, sort_of_name};
 ghost use Rattle.un_ir.specs.declared.extended.ExtKind.{ExtKind};
 ghost use Rattle.un_ir.specs.ExtendOf.{new_operands, with_operands, with_values};
 ghost use Rattle.un_ir.specs.WellFormed.{result_kind};

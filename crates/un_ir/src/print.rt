@@ -36,6 +36,14 @@ fn put_comma(out: &mut Vec<u8>) -> Result<(), NoMemory>
     put_text(out, b", ")
 }
 
+/// Appends a space and a name.
+fn put_first(out: &mut Vec<u8>, names: &[(Name, Kind)], name: NameId) -> Result<(), NoMemory>
+    ensures { OnOk result (out.new.items ≡ out.old.items ++ (codes " " ++ name_text names.now name)) }
+{
+    put_text(out, b" ")?;
+    put_name(out, names, name)
+}
+
 /// Appends each name after a comma.
 fn put_more_names(
     out: &mut Vec<u8>,
@@ -60,8 +68,7 @@ fn put_names(out: &mut Vec<u8>, names: &[(Name, Kind)], list: &[NameId]) -> Resu
     match list {
         [] => Ok(()),
         [first, rest @ ..] => {
-            put_text(out, b" ")?;
-            put_name(out, names, *first)?;
+            put_first(out, names, *first)?;
             put_more_names(out, names, rest)
         }
     }
@@ -75,6 +82,22 @@ fn put_literal(out: &mut Vec<u8>, o: &SrcOp) -> Result<(), NoMemory>
     put_signed_number(out, o.imm)
 }
 
+/// Appends a space and the literal of an operation.
+fn put_only_literal(out: &mut Vec<u8>, o: &SrcOp) -> Result<(), NoMemory>
+    ensures { OnOk result (out.new.items ≡ out.old.items ++ (codes " " ++ literal_text o.now)) }
+{
+    put_text(out, b" ")?;
+    put_literal(out, o)
+}
+
+/// Appends a comma and the literal of an operation.
+fn put_next_literal(out: &mut Vec<u8>, o: &SrcOp) -> Result<(), NoMemory>
+    ensures { OnOk result (out.new.items ≡ out.old.items ++ (codes ", " ++ literal_text o.now)) }
+{
+    put_comma(out)?;
+    put_literal(out, o)
+}
+
 /// Appends a space, and with commas between them names and last the literal of an operation.
 fn put_names_and_literal(
     out: &mut Vec<u8>,
@@ -86,16 +109,11 @@ fn put_names_and_literal(
         ++ spaced (map (name_text names.now) list.now ++ literal_text o.now ∷ [])) }
 {
     match list {
-        [] => {
-            put_text(out, b" ")?;
-            put_literal(out, o)
-        }
+        [] => put_only_literal(out, o),
         [first, rest @ ..] => {
-            put_text(out, b" ")?;
-            put_name(out, names, *first)?;
+            put_first(out, names, *first)?;
             put_more_names(out, names, rest)?;
-            put_comma(out)?;
-            put_literal(out, o)
+            put_next_literal(out, o)
         }
     }
 }
@@ -111,15 +129,10 @@ fn put_base_and_offset(
         ++ spaced (with_literal (Some Range.Offset) (literal_text o.now) (map (name_text names.now) list.now))) }
 {
     match list {
-        [] => {
-            put_text(out, b" ")?;
-            put_literal(out, o)
-        }
+        [] => put_only_literal(out, o),
         [base, rest @ ..] => {
-            put_text(out, b" ")?;
-            put_name(out, names, *base)?;
-            put_comma(out)?;
-            put_literal(out, o)?;
+            put_first(out, names, *base)?;
+            put_next_literal(out, o)?;
             put_more_names(out, names, rest)
         }
     }
@@ -309,8 +322,7 @@ fn put_params(out: &mut Vec<u8>, names: &[(Name, Kind)], params: &[NameId]) -> R
         ++ flat_map (λ p. codes " " ++ name_text names.now p) params.now) }
 {
     for param in params {
-        put_text(out, b" ")?;
-        put_name(out, names, *param)?;
+        put_first(out, names, *param)?;
     }
     Ok(())
 }

@@ -1,6 +1,6 @@
 //! The names that are live at the start of each block.
 
-ghost use Rattle.std.specs.Prelude.{◌≡◌, ◌<◌, ◌≤◌, ◌^◌, ◌++◌, ℕ, [], ◌∷◌, map, length, IfOk, OnOk, if◌then◌else◌};
+ghost use Rattle.std.specs.Prelude.{◌≡◌, ◌+◌, ◌<◌, ◌≤◌, ◌^◌, ◌++◌, ℕ, [], ◌∷◌, map, length, IfOk, OnOk, if◌then◌else◌};
 ghost use Rattle.std.specs.List.{range_with_len};
 ghost use Rattle.un_ir.specs.LinearOf.{AreLive};
 ghost use Rattle.un_live.specs.Tables.{table_of};
@@ -16,6 +16,25 @@ use un_ir::extended::LiveSets;
 use un_ir::function::{Block, Function};
 use un_lists::items::Items;
 
+/// Adds of each block whether the name with this number is live at its start, behind the same of the names before it.
+#[tactic(auto, using(crate::proofs::LiveLists::columns_more))]
+fn push_column(
+    alloc: Global,
+    columns: &mut Items<Items<bool>>,
+    blocks: &[Block],
+    tables: &Items<Items<Meeting>>,
+    name: usize,
+) -> Result<(), NoMemory>
+    requires few { length blocks.now < 2 ^ 32 }
+    requires tables { (names : ℕ) × (name < names) × (tables.now ≡ map (table_of names) blocks.now) }
+    requires before { AreColumns blocks.now name columns.old }
+    ensures { OnOk result (AreColumns blocks.now (name + 1) columns.new) }
+{
+    let marks = column(alloc, blocks, tables, name)?;
+    columns.push(Items::from_vec(marks))?;
+    Ok(())
+}
+
 /// Of each name and each block, whether the name is live at the block's start.
 fn columns(
     alloc: Global,
@@ -29,7 +48,7 @@ fn columns(
 {
     let mut columns = Items::new(alloc);
     for name in 0..names {
-        columns.push(Items::from_vec(column(alloc, blocks, tables, name)?))?;
+        push_column(alloc, &mut columns, blocks, tables, name)?;
     }
     Ok(columns)
 }
@@ -80,6 +99,21 @@ fn block_names(alloc: Global, columns: &[Items<bool>], b: usize) -> Result<Items
     Ok(names)
 }
 
+/// Adds the names that are live at the start of block `b`.
+fn push_names(
+    alloc: Global,
+    lists: &mut Items<Items<NameId>>,
+    columns: &Items<Items<bool>>,
+    b: usize,
+) -> Result<(), NoMemory>
+    requires { length columns.now < 2 ^ 32 }
+    ensures { OnOk result (lists.new ≡ lists.old ++ names_from 0 columns.now b ∷ []) }
+{
+    let names = block_names(alloc, columns.as_slice(), b)?;
+    lists.push(names)?;
+    Ok(())
+}
+
 /// The same of each block.
 fn all_names(
     alloc: Global,
@@ -91,7 +125,7 @@ fn all_names(
 {
     let mut lists = Items::new(alloc);
     for b in 0..blocks {
-        lists.push(block_names(alloc, columns.as_slice(), b)?)?;
+        push_names(alloc, &mut lists, columns, b)?;
     }
     Ok(lists)
 }

@@ -1,6 +1,6 @@
 //! What each block does to each name first, in one pass over its operations.
 
-ghost use Rattle.std.specs.Prelude.{◌≡◌, ◌++◌, length, map, replicate, slice_set, IfOk};
+ghost use Rattle.std.specs.Prelude.{◌≡◌, ◌++◌, [], ◌∷◌, length, map, replicate, slice_set, IfOk, OnOk};
 ghost use Rattle.un_ir.specs.Live.{read_by_term};
 ghost use Rattle.un_live.specs.Tables.{meet, met, noted, noted_all, noted_dst, noted_ops, noted_term, table_of};
 ghost use Rattle.un_live.specs.declared.meeting.Meeting.{Meeting};
@@ -63,16 +63,37 @@ fn note_term(table: &mut [Meeting], term: &Term)
     }
 }
 
+/// Notes what a block does.
+fn note_block(table: &mut [Meeting], block: &Block)
+    ensures { table.new ≡ noted_term (noted_ops table.old block.now.ops) block.now.term }
+{
+    for o in block.ops.as_slice() {
+        note_op(table, o);
+    }
+    note_term(table, &block.term);
+}
+
 /// What a block does first to each of so many names.
 fn block_table(alloc: Global, block: &Block, names: usize) -> Result<Vec<Meeting>, NoMemory>
     ensures { IfOk result (λ table. table.items ≡ table_of names block.now) }
 {
     let mut table = vec![in alloc; Meeting::Neither; names]?;
-    for o in block.ops.as_slice() {
-        note_op(&mut table, o);
-    }
-    note_term(&mut table, &block.term);
+    note_block(&mut table, block);
     Ok(table)
+}
+
+/// Adds the table of a block.
+fn push_table(
+    alloc: Global,
+    tables: &mut Items<Items<Meeting>>,
+    block: &Block,
+    names: usize,
+) -> Result<(), NoMemory>
+    ensures { OnOk result (tables.new ≡ tables.old ++ table_of names block.now ∷ []) }
+{
+    let table = block_table(alloc, block, names)?;
+    tables.push(Items::from_vec(table))?;
+    Ok(())
 }
 
 /// The same of each block.
@@ -85,8 +106,7 @@ pub fn block_tables(
 {
     let mut tables = Items::new(alloc);
     for block in blocks {
-        let table = Items::from_vec(block_table(alloc, block, names)?);
-        tables.push(table)?;
+        push_table(alloc, &mut tables, block, names)?;
     }
     Ok(tables)
 }

@@ -1,6 +1,7 @@
 //! What a packet writes to memory and to the frame, and what a call's reply writes.
 
-ghost use Rattle.std.specs.Prelude.{◌≡◌, ◌<◌, ◌-◌, ◌^◌, slice_set, ℕ, List, length, map, drop, slice_index};
+ghost use Rattle.std.specs.Prelude.{◌≡◌, ◌<◌, ◌≤◌, ◌+◌, ◌-◌, ◌^◌, ◌++◌, [], ◌∷◌, slice_set, ℕ, List, length, map, drop, slice_index};
+ghost use Rattle.std.specs.Prelude.{vec_len, vec_capacity};
 ghost use Rattle.un_isa.specs.Words.{address_of};
 ghost use Rattle.un_packet.specs.Runnable.{IsSpare};
 ghost use Rattle.un_packet.specs.Step.{PacketState, memory_by, memory_after, frame_by, frame_after, each_from, replied, call_ready};
@@ -130,6 +131,19 @@ pub(crate) fn wait_for_call(ready: &mut [u64; REGISTERS as usize], t: &Table, cy
     }
 }
 
+/// Puts a word behind those of a list that has room for it.
+fn push_within(args: &mut Vec<u32>, word: u32)
+    requires { vec_len args.old < vec_capacity args.old }
+    ensures items { args.new.items ≡ args.old.items ++ word ∷ [] }
+    ensures len { vec_len args.new ≡ vec_len args.old + 1 }
+    ensures room { vec_capacity args.old ≤ vec_capacity args.new }
+{
+    match args.push(word) {
+        Ok(()) => {}
+        Err(_) => unreachable!(),
+    }
+}
+
 impl State {
     ghost use Rattle.std.specs.Prelude.{◌≡◌, ◌≤◌, map, length, [], vec_capacity};
     ghost use Rattle.un_packet.specs.CodeRules.{IsThere};
@@ -142,10 +156,7 @@ impl State {
         ensures { args.new.items ≡ map (reg_in self.now) srcs.now }
     {
         for r in srcs {
-            match args.push(at(&self.regs, r.0)) {
-                Ok(()) => {}
-                Err(_) => unreachable!(),
-            }
+            push_within(args, at(&self.regs, r.0));
         }
     }
 

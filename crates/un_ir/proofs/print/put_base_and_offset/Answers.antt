@@ -4,8 +4,8 @@ use Rattle.un_ir.specs.Text.{name_text, literal_text}
 use Rattle.un_ir.proofs.Commas.{spaced-map-offset}
 use Rattle.un_ir.proofs.print.put_base_and_offset.Goals as goal
 
-pub returns-in_ok-put_literal-in-len1-up : goal.returns-in_ok-put_literal-in-len1-up
-returns-in_ok-put_literal-in-len1-up c =
+pub returns-in_ok-put_next_literal-in-len1-up : goal.returns-in_ok-put_next_literal-in-len1-up
+returns-in_ok-put_next_literal-in-len1-up c =
     grind (
       arith,
       common_steps,

@@ -4,8 +4,8 @@ use Rattle.un_ir.specs.Text.{name_text, literal_text}
 use Rattle.un_ir.proofs.Commas.{spaced-map-literal}
 use Rattle.un_ir.proofs.print.put_names_and_literal.Goals as goal
 
-pub returns-in_ok-put_comma-in-len1-up : goal.returns-in_ok-put_comma-in-len1-up
-returns-in_ok-put_comma-in-len1-up c =
+pub returns-in_ok-put_more_names-in-len1-up : goal.returns-in_ok-put_more_names-in-len1-up
+returns-in_ok-put_more_names-in-len1-up c =
     grind (
       arith,
       common_steps,

@@ -10,8 +10,8 @@ pub returns-clause-runs : goal.returns-clause-runs
 returns-clause-runs c = λ start n regs.
     let f = c.args.f.now in
     let t = c.args.t.now in
-    ap (λ (bs : List ExtBlock). linear_run t bs start n) c.in_ok-blocks.ensures ∙ linear_runs f c.args.live.now.at_start t start n c.requires
-    regs
+    ap (λ (bs : List ExtBlock). linear_run t bs start n) c.in_ok-blocks.ensures
+    ∙ linear_runs f c.args.live.now.at_start t start n c.requires regs
 
 pub returns-clause-kept : goal.returns-clause-kept
 returns-clause-kept c = λ fit.

@@ -11,7 +11,8 @@ loop-j-preserved c =
     let names = c.args.names.now in
     let current = c.args.current.now in
     let registers = c.args.t.now.args in
-    let operand : reads c.current_temp-n.result c.home_at.result ≡ name_operand current (home_at registers l.j) (get_or names l.j (record { 0 = 0 })) =
+    let name = get_or names l.j (record { 0 = 0 }) in
+    let operand : reads c.current_temp-n.result c.home_at.result ≡ name_operand current (home_at registers l.j) name =
     cc (c.current_temp-n.ensures, c.home_at.ensures) in
     let next = arguments_more l.operands current registers names l.j (record { 0 = 0 }) (argument_operands current registers names)
     (reads c.current_temp-n.result c.home_at.result) c.loop-j-test.true l.invariant operand in
