@@ -13,7 +13,7 @@ use un_emit::emit::emit;
 use un_ir::function::Function;
 use un_listing::print::print_code;
 use un_model::model::{Model, Options, Solution};
-use un_model::violations::violations;
+use un_violations::violations::violations;
 
 /// The listing of the code of a solution.
 fn listing(

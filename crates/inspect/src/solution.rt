@@ -12,7 +12,7 @@ use un_lists::items::Items;
 use un_model::cost::cost;
 use un_model::model::{Model, Solution};
 use un_model::verdict::Broken;
-use un_model::violations::violations;
+use un_violations::violations::violations;
 
 /// The values that a text writes.
 ///

@@ -12,7 +12,7 @@ use un_ir::function::Function;
 use un_listing::print::print_code;
 use un_lists::items::Items;
 use un_model::model::{Model, Solution};
-use un_model::violations::violations;
+use un_violations::violations::violations;
 use un_problem::problem::{default_options, model};
 use un_reader::read::read_function;
 use un_top::code::code_by;

@@ -16,7 +16,7 @@ use un_live::live::live_in;
 use un_lssa::linearize::linearize;
 use un_model::build::build;
 use un_model::model::{Model, Solution};
-use un_model::violations::violations;
+use un_violations::violations::violations;
 use un_problem::problem::{default_options, extended};
 use un_spilled::spilled::spilled;
 

@@ -11,9 +11,8 @@ use crate::lengths::{ROOM, least_length};
 use un_ir::extended::{ExtBlock, ExtOp};
 use un_isa::packet_counts::{Resource, places};
 use un_isa::table::Table;
-use un_model::instructions::instruction;
+use un_model::instructions::{instruction, share};
 use un_model::model::{Arc, Model};
-use un_model::packets::share;
 
 /// How much of a resource the operations of a block take that every solution issues.
 fn needed(t: &Table, resource: Resource, ops: &[ExtOp]) -> u32

@@ -7,7 +7,6 @@ pub mod Extended
 pub mod Homes
 pub mod Instructions
 pub mod Options
-pub mod Orders
 pub mod Pairs
 pub mod Registers
 pub mod Schedules

@@ -1,6 +1,6 @@
 -- A solution read as a schedule.
 use Rattle.std.specs.Prelude.{ℕ, ◌-◌, Bool, true, false, ◌==◌, ◌&&◌, ◌||◌, if◌then◌else◌, List, [], Option, Some, None, is_some, unwrap_or}
-use Rattle.std.specs.Prelude.{fold, max, slice_get}
+use Rattle.std.specs.Prelude.{◌≡◌, ◌<◌, fold, length, max, slice_get, slice_index}
 use Rattle.std.specs.List.{list_all}
 use Rattle.un_base.specs.declared.ids.VarId.{VarId}
 use Rattle.un_base.specs.declared.ids.TempId.{TempId}
@@ -125,6 +125,10 @@ cycle_for t r = if r.temp.0 == t then r.cycle else 0
 -- the largest cycle of the users of temporary t, 0 where it has none
 abbrev pub last_read : List Read → ℕ → ℕ
 last_read reads t = fold (λ (a : ℕ) (r : Read). max a (cycle_for t r)) 0 reads
+
+-- the numbers are the last reads of so many temporaries
+abbrev pub HasLastReads : List Read → ℕ → List ℕ → Type 0
+HasLastReads reads n lasts = (length lasts ≡ n) × ((k : ℕ) → k < n → slice_index lasts k ≡ last_read reads k)
 
 -- a temporary occupies its register from its definer's cycle to the one before its last read, and at least in the first
 abbrev pub range_by : List ℕ → TempVars → ℕ → Option Issue → LiveRange

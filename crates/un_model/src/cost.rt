@@ -10,7 +10,7 @@ use un_base::ids::VarId;
 use un_ir::extended::ExtBlock;
 
 /// The value of a variable, 0 where there is none.
-pub(crate) fn value(values: &[u32], v: VarId) -> u32
+pub fn value(values: &[u32], v: VarId) -> u32
     ensures { result ≡ value_of values.now v }
 {
     values.get(v.0 as usize).copied().unwrap_or(0)

@@ -1,14 +1,16 @@
 //! What the operations of an extended function are as instructions.
 
-ghost use Rattle.std.specs.Prelude.{◌≡◌};
+ghost use Rattle.std.specs.Prelude.{◌≡◌, ◌^◌, ◌<◌};
 ghost use Rattle.un_model.specs.Instructions.{transfer_of, copy_of, frame_instr, instruction_of, latency_by, needs_by, no_needs};
 ghost use Rattle.un_model.specs.Instructions.{is_control, is_transfer, operand_space_in, result_space_in, space_read, space_given};
 ghost use Rattle.un_model.specs.Instructions.{is_predicate_space, gives_truth};
+ghost use Rattle.un_model.specs.Solutions.{share_of};
 
 use un_ir::extended::ExtKind;
 use un_ir::function::Term;
 use un_isa::facts::{Class, class_of, operand_space, result_space};
 use un_isa::op::Op;
+use un_isa::packet_counts::{self, Resource};
 use un_isa::reg::Space;
 use un_isa::table::{self, Needs, Table};
 
@@ -122,5 +124,16 @@ pub fn space_given(instruction: Option<Op>) -> Option<Space>
         None => None,
         Some(Op::Spill) => Some(Space::M),
         Some(op) => result_space(op),
+    }
+}
+
+/// How much of a resource an instruction takes, if there is one.
+pub fn share(t: &Table, resource: Resource, instr: Option<Op>) -> u32
+    ensures value { result ≡ share_of t.now resource instr }
+    ensures few { result < 2 ^ 8 }
+{
+    match instr {
+        None => 0,
+        Some(_) => u32::from(packet_counts::share(resource, needs(t, instr))),
     }
 }

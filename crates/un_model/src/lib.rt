@@ -1,20 +1,15 @@
-//! The model of a function: its variables with their domains, its solutions and their cost.
+//! The model of a function: its variables with their domains, its solutions read as schedules, and their cost.
 #![tactic(auto)]
 
 pub mod arcs;
 pub mod build;
-mod clauses;
-pub mod congruences;
 pub mod cost;
-mod distances;
-mod frame;
+pub mod distances;
+pub mod ends;
 mod homes;
 pub mod instructions;
 pub mod model;
-mod occupations;
-pub mod packets;
 pub mod placement;
 mod registers;
 pub mod schedule;
 pub mod verdict;
-pub mod violations;

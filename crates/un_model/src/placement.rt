@@ -4,7 +4,7 @@ ghost use Rattle.std.specs.Prelude.{◌≡◌, ◌==◌, ℕ, ◌+◌, ◌-◌, 
 ghost use Rattle.std.specs.Prelude.{slice_index, slice_get};
 ghost use Rattle.std.specs.List.{list_all};
 ghost use Rattle.un_model.specs.Cost.{value_of};
-ghost use Rattle.un_model.specs.Orders.{HasLastReads};
+ghost use Rattle.un_model.specs.Schedules.{HasLastReads};
 ghost use Rattle.un_model.specs.Pairs.{places_from, pairs_from, joined, over_blocks};
 ghost use Rattle.un_model.specs.Schedules.{value_by, instr_of, cycle_by, cycle_of, is_delimiter, is_frame_op, is_active, is_zero, issue_of};
 ghost use Rattle.un_model.specs.Schedules.{block_issues, issues_of, chosen, choice_of, read_of, op_reads, reads_at, block_reads, reads_of};

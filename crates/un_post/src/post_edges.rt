@@ -21,7 +21,7 @@ use un_ir::extended::{ExtBlock, Operand};
 use un_ir::function::Term;
 use un_kinds::make_alt::make_same;
 use un_lists::items::Items;
-use un_model::congruences::{live_in_temps, place, term};
+use un_model::ends::{live_in_temps, place, term};
 use un_model::model::{BlockVars, Model};
 
 /// The last of these operations.

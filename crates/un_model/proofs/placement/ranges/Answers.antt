@@ -4,7 +4,7 @@ use Rattle.un_model.specs.declared.model.TempVars.{TempVars}
 use Rattle.un_model.specs.declared.schedule.Issue.{Issue}
 use Rattle.un_model.specs.declared.schedule.LiveRange.{LiveRange}
 use Rattle.un_model.specs.declared.schedule.Read.{Read}
-use Rattle.un_model.specs.Orders.{HasLastReads}
+use Rattle.un_model.specs.Schedules.{HasLastReads}
 use Rattle.un_model.specs.Schedules.{range_by, range_of, last_read}
 use Rattle.un_model.proofs.Steps.{places_more, places_all}
 use Rattle.un_model.proofs.placement.ranges.Goals as goal

@@ -1,0 +1,12 @@
+pub mod Apart
+pub mod Apartness
+pub mod Calls
+pub mod Domains
+pub mod Edges
+pub mod Orders
+pub mod Places
+pub mod Rooms
+pub mod SameRoom
+pub mod Symmetric
+pub mod Verdicts
+pub mod Zeros

@@ -1,0 +1,10 @@
+//! The clauses of a solution that values of a model's variables break.
+#![tactic(auto)]
+
+mod bounds;
+mod clauses;
+mod congruences;
+mod frame;
+mod occupations;
+mod packets;
+pub mod violations;
