@@ -10,6 +10,8 @@ use Rattle.un_rect.proofs.OrderSteps.{row_idle}
 use Rattle.un_rect.proofs.Rows.{row_next}
 use Rattle.un_rect.proofs.Rows.{same_known, same_temp}
 use Rattle.std.proofs.Common.{refl}
+use Rattle.un_prop.specs.Going.{Stepped}
+use Rattle.std.proofs.Common.{ℕ, ◌≡◌, length}
 use Rattle.un_rect.proofs.orders.keep_row.Goals as goal
 
 pub is_single-requires : goal.is_single-requires
@@ -64,3 +66,10 @@ loop-i-init c = record {
   same_reference = refl;
   vars = refl;
 }
+
+pub returns-clause-step : goal.returns-clause-step
+returns-clause-step c =
+    let vs = c.args.w.now.vars.now in
+    let end : c.loop-i.i ≡ c.args.n = omega (arith, c.loop-i-test.false, c.loop-i.auto.i-end) in
+    subst (λ (k : ℕ). Stepped vs (each_before order_pair c.args.temps.now c.args.b.now k) c.args.w.now.store.now c.loop-i.w.store.now c.args.before c.loop-i.did) end
+    c.loop-i.invariant.step
