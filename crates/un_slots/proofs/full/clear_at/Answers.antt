@@ -1,8 +1,6 @@
-use Rattle.std.proofs.Common.{List, ◌≢◌, ◌^◌, ◌-◌, sym, ap, subst, arith}
-use Rattle.un_base.specs.declared.ids.VarId.{VarId}
+use Rattle.std.proofs.Common.{◌≢◌, ◌^◌, ◌-◌, ap, arith}
 use Rattle.un_prop.specs.GoingLaws.{stepped_same}
 use Rattle.un_prop.specs.declared.propagator.Pruned.TheVariants.{Failed}
-use Rattle.un_slots.specs.Slots.{SlotVars}
 use Rattle.un_slots.specs.Crowds.{counted, crowded}
 use Rattle.un_slots.specs.CrowdLaws.{each_counted}
 use Rattle.un_slots.specs.CountLaws.{count_next, few_below}

@@ -1,15 +1,13 @@
-use Rattle.std.proofs.Common.{ℕ, List, ◌≡◌, ◌-◌, ◌^◌, ◌∙◌, length, sym, ap, subst, arith}
+use Rattle.std.proofs.Common.{ℕ, List, ◌≡◌, ◌-◌, ◌^◌, ◌∙◌, length, ap, subst, arith}
 use Rattle.un_base.specs.declared.ids.VarId.{VarId}
 use Rattle.un_prop.specs.Going.{Stepped}
 use Rattle.un_prop.specs.GoingLaws.{stepped_same}
 use Rattle.un_prop.specs.Places.{each_place}
-use Rattle.un_slots.specs.Slots.{SlotVars}
 use Rattle.un_slots.specs.Crowds.{counted}
 use Rattle.un_slots.specs.CrowdLaws.{each_counted}
 use Rattle.un_slots.specs.Fulls.{clear_between, full_cut}
 use Rattle.un_slots.specs.FullLaws.{between_idle, crowd_less, next_place, taken_long}
 use Rattle.un_slots.proofs.Carried.{same_known, same_vars}
-use Rattle.std.proofs.Common.{refl}
 use Rattle.un_slots.proofs.Going.{going}
 use Rattle.un_slots.proofs.full.clear_between.Goals as goal
 

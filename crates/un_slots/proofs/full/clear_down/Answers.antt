@@ -3,7 +3,6 @@ use Rattle.un_base.specs.declared.ids.VarId.{VarId}
 use Rattle.un_prop.specs.Going.{Stepped}
 use Rattle.un_prop.specs.GoingLaws.{stepped_same}
 use Rattle.un_prop.specs.Places.{each_place}
-use Rattle.un_slots.specs.Slots.{SlotVars}
 use Rattle.un_slots.specs.Crowds.{counted, crowd}
 use Rattle.un_slots.specs.CountLaws.{crowd_none, ordered_counted}
 use Rattle.un_slots.specs.Fulls.{clear_between}
