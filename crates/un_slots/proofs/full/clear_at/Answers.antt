@@ -84,3 +84,12 @@ count_to-requires-clause-top c = c.requires.top
 
 pub count_to-requires-clause-span : goal.count_to-requires-clause-span
 count_to-requires-clause-span c = c.requires.span
+
+pub returns-clause-step : goal.returns-clause-step
+returns-clause-step c = c.clear_between-did.ensures.step
+
+pub returns-clause-counts : goal.returns-clause-counts
+returns-clause-counts c = λ still. c.count_to.ensures
+
+pub returns-clause-number : goal.returns-clause-number
+returns-clause-number c = λ still. c.count_in.ensures

@@ -16,7 +16,7 @@ use Rattle.un_slots.specs.Crowds.{counted}
 use Rattle.un_slots.specs.Fulls.{full_cut, outside}
 use Rattle.un_slots.specs.FullLaws.{taken_get, full_idle, full_is, not_lost, is_lost}
 use Rattle.un_slots.proofs.Going.{going}
-use Rattle.un_slots.proofs.Carried.{same_known, same_vars}
+use Rattle.un_slots.proofs.Carried.{live_after, same_known, same_vars}
 use Rattle.un_slots.proofs.full.clear_item.Goals as goal
 
 few : (n k : ℕ) → k < min n (2 ^ 32 - 1) → k < n
@@ -87,11 +87,6 @@ returns-in-Failed-clause-step c =
     (failed ∙ sym (ap (join c.args.before) failed ∙ join_failed c.args.before)) did.ensures.prune.untouched.long
     (λ live. (let p = cut_is vs (full_cut r (counted items) low high c.args.k s.sets) (cut_by (outside low high) i.at.0 s.sets) s new
     did.result (full_is r (counted items) low high s.sets c.args.k i at lost.0 lost.1) did.ensures.prune in (p.ends, p.untouched)))
-
-live_after : (vs : List VarId) (o : Option Sets) (old new : Contents) (answer : Pruned) → IsPrune vs o old new answer → answer ≢ Failed
-    → NoneEmpty new.sets
-live_after vs None old new answer h other = absurd (other h.ends.0)
-live_after vs (Some m) old new answer h other = subst NoneEmpty (sym h.ends.sets) h.ends.live
 
 pub count_in-requires-clause-live : goal.count_in-requires-clause-live
 count_in-requires-clause-live c =

@@ -19,6 +19,9 @@ use Rattle.un_slots.specs.LoadLaws.{slot_unsure, slot_is, slot_all}
 use Rattle.un_slots.specs.Listings.{is_left}
 use Rattle.un_slots.proofs.Carried.{same_known, same_vars}
 use Rattle.un_slots.proofs.Going.{going}
+use Rattle.un_slots.proofs.Carried.{live_after}
+use Rattle.std.proofs.Common.{arith}
+use Rattle.un_slots.specs.Listings.{Listed, listable}
 use Rattle.un_slots.proofs.keep.keep_item.Goals as goal
 
 vars_of : (vs : List VarId) (items : List Item) (k : ℕ) (i : Item) → SlotVars vs items → k < length items → i ≡ get_or items k i
@@ -142,3 +145,24 @@ returns-in_default-clause-step c =
     (sym c.is_sure.ensures ∙ c.if-not-is_sure.false)
     (λ y own. ap (λ (ms : List ℕ). is_left ms c.args.horizon y) c.as_slice.ensures.value
     ∙ c.mark.ensures.marks y own)) did.ensures.prune in (p.ends, p.untouched)))
+
+pub list-requires-clause-live : goal.list-requires-clause-live
+list-requires-clause-live c =
+    let i = c.index-items-k.result in
+    let s = c.args.w.now.store.now in
+    let did = c.keep_left-did in
+    live_after c.args.w.now.vars.now (cut_by (is_left c.as_slice.result.now c.args.horizon) i.at.0 s.sets) s did.new.w.store.now did.result
+    did.ensures.prune c.in_default.not-Failed
+
+pub list-requires-clause-span : goal.list-requires-clause-span
+list-requires-clause-span c = omega (arith, c.mark.ensures.cycles, c.requires.span)
+
+pub returns-then-not-mark-clause-listed : goal.returns-then-not-mark-clause-listed
+returns-then-not-mark-clause-listed c still =
+    let items = c.args.items.now in
+    let s = c.args.w.now.store.now.sets in
+    let fixed = c.mark.new.scratch.fixed.items in
+    subst (λ (cycles : List ℕ). Listed items c.args.horizon (listable items fixed) s cycles fixed)
+    (sym (c.mark.ensures.same c.if-not-mark.true))
+    (subst (λ (all : List ℕ). Listed items c.args.horizon (listable items all) s c.args.scratch.now.cycles.items all)
+    (sym c.mark.ensures.fixed) (c.requires.listed still))
