@@ -166,3 +166,32 @@ returns-then-not-mark-clause-listed c still =
     (sym (c.mark.ensures.same c.if-not-mark.true))
     (subst (λ (all : List ℕ). Listed items c.args.horizon (listable items all) s c.args.scratch.now.cycles.items all)
     (sym c.mark.ensures.fixed) (c.requires.listed still))
+
+pub keep_left-did-requires-clause-span : goal.keep_left-did-requires-clause-span
+keep_left-did-requires-clause-span c =
+    let long : length c.as_slice.result.now ≡ length c.mark.new.scratch.cycles.items = ap length c.as_slice.ensures.value in
+    omega (arith, long, c.mark.ensures.cycles, c.requires.span)
+
+pub returns-then-not-mark-clause-fixed : goal.returns-then-not-mark-clause-fixed
+returns-then-not-mark-clause-fixed c = ap length c.mark.ensures.fixed
+
+pub returns-then-not-mark-clause-cycles : goal.returns-then-not-mark-clause-cycles
+returns-then-not-mark-clause-cycles c = c.mark.ensures.cycles
+
+pub returns-in-Failed-clause-listed : goal.returns-in-Failed-clause-listed
+returns-in-Failed-clause-listed c = λ still. absurd (still c.in-Failed.is)
+
+pub returns-in-Failed-clause-fixed : goal.returns-in-Failed-clause-fixed
+returns-in-Failed-clause-fixed c = ap length c.mark.ensures.fixed
+
+pub returns-in-Failed-clause-cycles : goal.returns-in-Failed-clause-cycles
+returns-in-Failed-clause-cycles c = c.mark.ensures.cycles
+
+pub returns-in_default-clause-listed : goal.returns-in_default-clause-listed
+returns-in_default-clause-listed c = λ still. c.list.ensures.listed
+
+pub returns-in_default-clause-fixed : goal.returns-in_default-clause-fixed
+returns-in_default-clause-fixed c = c.list.ensures.fixed ∙ ap length c.mark.ensures.fixed
+
+pub returns-in_default-clause-cycles : goal.returns-in_default-clause-cycles
+returns-in_default-clause-cycles c = c.list.ensures.cycles ∙ c.mark.ensures.cycles
