@@ -1,19 +1,21 @@
 -- One step further in a row, and one row further.
-use Rattle.std.proofs.Common.{ℕ, suc, ◌≡◌, ◌≢◌, ◌<◌, ◌+◌, List, length, get_or, sym, ap, ◌∙◌, subst, arith}
+use Rattle.std.proofs.Common.{ℕ, suc, ◌≡◌, ◌≢◌, ◌<◌, ◌+◌, true, List, length, get_or, sym, ap, ◌∙◌, subst, arith}
 use Rattle.std.specs.declared.option.Option.{Option}
 use Rattle.un_base.specs.declared.ids.VarId.{VarId}
 use Rattle.un_domains.specs.Sets.{Sets}
 use Rattle.un_domains.specs.Cuts.{Contents}
+use Rattle.un_prop.specs.Among.{among}
 use Rattle.un_prop.specs.Going.{Stepped}
 use Rattle.un_prop.specs.GoingLaws.{stepped_by, stepped_chain}
 use Rattle.un_prop.specs.LastLaws.{Ascend}
 use Rattle.un_prop.specs.Places.{each_place}
 use Rattle.un_prop.specs.Rounds.{HasVars}
 use Rattle.un_prop.specs.declared.act.Temp.{Temp}
+use Rattle.un_prop.specs.declared.act.UserOf.{UserOf}
 use Rattle.un_prop.specs.declared.propagator.Pruned.{Pruned}
 use Rattle.un_prop.specs.declared.propagator.Pruned.TheVariants.{Failed}
 use Rattle.un_rect.specs.Checks.{Written}
-use Rattle.un_rect.specs.Spans.{TempVars}
+use Rattle.un_rect.specs.Spans.{TempVars, UserVars}
 use Rattle.un_rect.specs.Pairs.{at_place, each_before, each_pair}
 use Rattle.un_rect.specs.PairLaws.{at_is}
 
@@ -24,6 +26,12 @@ same_ascend vs us e h = subst Ascend (sym e) h
 
 pub same_temp : (vs us : List VarId) (a : Temp) → us ≡ vs → TempVars vs a → TempVars us a
 same_temp vs us a e h = subst (λ (ws : List VarId). TempVars ws a) (sym e) h
+
+pub same_user : (vs us : List VarId) (u : UserOf) → us ≡ vs → UserVars vs u → UserVars us u
+same_user vs us u e h = subst (λ (ws : List VarId). UserVars ws u) (sym e) h
+
+pub same_among : (vs us : List VarId) (v : VarId) → us ≡ vs → among vs v ≡ true → among us v ≡ true
+same_among vs us v e h = subst (λ (ws : List VarId). among ws v ≡ true) (sym e) h
 
 pub same_known : (vs us : List VarId) (old new : Sets) → us ≡ vs → length new ≡ length old → HasVars vs old → HasVars us new
 same_known vs us old new e long h = subst (λ (ws : List VarId). HasVars ws new) (sym e)

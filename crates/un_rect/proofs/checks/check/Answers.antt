@@ -1,5 +1,4 @@
-use Rattle.std.proofs.Common.{refl}
-use Rattle.un_prop.specs.GoingLaws.{stepped_by, stepped_failed, stepped_same}
+use Rattle.un_prop.specs.GoingLaws.{stepped_by, stepped_same}
 use Rattle.un_rect.specs.Apart.{check_pair}
 use Rattle.un_rect.specs.Checks.{decide_cut}
 use Rattle.un_rect.proofs.Going.{going}

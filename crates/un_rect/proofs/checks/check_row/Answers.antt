@@ -12,6 +12,7 @@ use Rattle.un_rect.specs.Pairs.{each_before}
 use Rattle.un_rect.proofs.CheckSteps.{checks_idle}
 use Rattle.un_rect.proofs.Rows.{row_next, same_ascend, same_known, same_temp, same_written}
 use Rattle.un_rect.proofs.Going.{going}
+use Rattle.std.proofs.Common.{ℕ, length}
 use Rattle.un_rect.proofs.checks.check_row.Goals as goal
 
 pub returns-then-is_idle-clause-step : goal.returns-then-is_idle-clause-step
@@ -93,3 +94,13 @@ loop-i-preserved c =
       same_reference = did.ensures.same_reference ∙ inv.same_reference;
       vars = did.ensures.vars ∙ inv.vars;
     }
+
+pub returns-clause-step : goal.returns-clause-step
+returns-clause-step c =
+    let vs = c.args.w.now.vars.now in
+    let end : c.loop-i.i ≡ c.args.n = omega (arith, c.loop-i-test.false, c.loop-i.auto.i-end) in
+    subst (λ (k : ℕ). Stepped vs (each_before (check_pair vs) c.args.temps.now c.args.b.now k) c.args.w.now.store.now c.loop-i.w.store.now c.args.before c.loop-i.did) end
+    c.loop-i.invariant.step
+
+pub returns-clause-written : goal.returns-clause-written
+returns-clause-written c = c.loop-i.invariant.written

@@ -1,4 +1,4 @@
-use Rattle.std.proofs.Common.{◌≡◌, ◌∙◌, set, sym, ap, arith}
+use Rattle.std.proofs.Common.{◌∙◌, set, sym, ap, arith}
 use Rattle.un_domains.specs.Sets.{NoneEmpty, cut_by}
 use Rattle.un_prop.specs.AmongLaws.{has_among}
 use Rattle.un_prop.specs.GoingLaws.{join_failed}

@@ -10,6 +10,7 @@ use Rattle.un_prop.specs.LastLaws.{try_first, try_next, try_last, same_tried}
 use Rattle.un_prop.specs.declared.propagator.Pruned.TheVariants.{Same}
 use Rattle.un_rect.specs.Apart.{pair_holds}
 use Rattle.un_rect.specs.ApartLaws.{pair_looks}
+use Rattle.un_rect.proofs.Rows.{same_among, same_known}
 use Rattle.un_rect.proofs.checks.try_all.Goals as goal
 
 pub min-requires-clause-there : goal.min-requires-clause-there
@@ -86,3 +87,14 @@ returns-clause-step c =
     let high : greatest (set_at s.sets v.0) < c.loop-y.y = omega (arith, c.loop-y-test.false, c.from-last.ensures, c.max.ensures) in
     stepped_by vs (cut_by q v.0) (cut_by (λ z. nat_le c.loop-y.y z || q z) v.0) s c.loop-y.w.store.now Same c.loop-y.did
     (λ live. sym (try_last vs t looks s.sets v q c.loop-y.y high)) c.loop-y.invariant.step
+
+pub try_value-did-requires-clause-lent : goal.try_value-did-requires-clause-lent
+try_value-did-requires-clause-lent c = same_among c.args.w.now.vars.now c.loop-y.w.vars.now c.args.v (ap (λ r. r.now) c.loop-y.invariant.vars) c.requires.lent
+
+pub try_value-did-requires-clause-known : goal.try_value-did-requires-clause-known
+try_value-did-requires-clause-known c = same_known c.args.w.now.vars.now c.loop-y.w.vars.now c.args.w.now.store.now.sets
+    c.loop-y.w.store.now.sets (ap (λ r. r.now) c.loop-y.invariant.vars)
+    (c.loop-y.invariant.step.long) c.requires.known
+
+pub try_value-did-requires-clause-live : goal.try_value-did-requires-clause-live
+try_value-did-requires-clause-live c = c.loop-y.invariant.step.live (λ still. c.requires.live)

@@ -23,3 +23,15 @@ returns-in-Some-clause-step c =
     stepped_then vs f s new c.args.before did.result c.joined.result (going c.args.before c.if-eq.ensures) c.joined.ensures
     done.untouched.long
     (λ live. (done.ends, done.untouched))
+
+pub undecided-requires-clause-vars : goal.undecided-requires-clause-vars
+undecided-requires-clause-vars c = c.requires.vars
+
+pub undecided-requires-clause-ascend : goal.undecided-requires-clause-ascend
+undecided-requires-clause-ascend c = c.requires.ascend
+
+pub undecided-requires-clause-known : goal.undecided-requires-clause-known
+undecided-requires-clause-known c = c.requires.known
+
+pub undecided-requires-clause-live : goal.undecided-requires-clause-live
+undecided-requires-clause-live c = c.requires.live (going c.args.before c.if-eq.ensures)

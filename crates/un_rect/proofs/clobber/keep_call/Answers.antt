@@ -4,6 +4,9 @@ use Rattle.un_prop.specs.Going.{Stepped}
 use Rattle.un_prop.specs.GoingLaws.{stepped_chain}
 use Rattle.un_rect.specs.Entries.{each_entry}
 use Rattle.un_rect.specs.Clobber.{hit_cut, off_cut, cycle_cut, reader_cut}
+use Rattle.un_rect.proofs.Rows.{same_known, same_temp}
+use Rattle.std.proofs.Common.{sym}
+use Rattle.un_rect.specs.Clobber.{CallVars}
 use Rattle.un_rect.proofs.clobber.keep_call.Goals as goal
 
 pub keep_readers-requires-clause-live : goal.keep_readers-requires-clause-live
@@ -39,3 +42,60 @@ returns-clause-step c =
     c.args.before three.result four.result f123
     (subst (λ (us : List VarId). Stepped us (each_entry (reader_cut m a call) call.behind) s3 s4 three.result four.result) v3
     four.ensures.step)
+
+pub keep_register-first-requires-clause-of_temp : goal.keep_register-first-requires-clause-of_temp
+keep_register-first-requires-clause-of_temp c = c.requires.of_temp
+
+pub keep_register-first-requires-clause-of_call : goal.keep_register-first-requires-clause-of_call
+keep_register-first-requires-clause-of_call c = c.requires.of_call
+
+pub keep_register-first-requires-clause-known : goal.keep_register-first-requires-clause-known
+keep_register-first-requires-clause-known c = c.requires.known
+
+pub keep_register-first-requires-clause-live : goal.keep_register-first-requires-clause-live
+keep_register-first-requires-clause-live c = c.requires.live
+
+pub keep_off-second-requires-clause-of_temp : goal.keep_off-second-requires-clause-of_temp
+keep_off-second-requires-clause-of_temp c = same_temp c.args.w.now.vars.now c.keep_register-first.new.w.vars.now c.args.a.now
+    (ap (λ r. r.now) c.keep_register-first.ensures.vars) c.requires.of_temp
+
+pub keep_off-second-requires-clause-known : goal.keep_off-second-requires-clause-known
+keep_off-second-requires-clause-known c = same_known c.args.w.now.vars.now c.keep_register-first.new.w.vars.now c.args.w.now.store.now.sets
+    c.keep_register-first.new.w.store.now.sets (ap (λ r. r.now) c.keep_register-first.ensures.vars)
+    (c.keep_register-first.ensures.step.long) c.requires.known
+
+pub keep_off-second-requires-clause-live : goal.keep_off-second-requires-clause-live
+keep_off-second-requires-clause-live c = c.keep_register-first.ensures.step.live c.requires.live
+
+pub keep_off-second-requires-clause-of_call : goal.keep_off-second-requires-clause-of_call
+keep_off-second-requires-clause-of_call c = subst (λ (us : List VarId). CallVars us c.args.c.now) (sym (ap (λ r. r.now) c.keep_register-first.ensures.vars))
+    c.requires.of_call
+
+pub keep_cycle-third-requires-clause-of_temp : goal.keep_cycle-third-requires-clause-of_temp
+keep_cycle-third-requires-clause-of_temp c = same_temp c.args.w.now.vars.now c.keep_off-second.new.w.vars.now c.args.a.now
+    (ap (λ r. r.now) (c.keep_off-second.ensures.vars ∙ c.keep_register-first.ensures.vars)) c.requires.of_temp
+
+pub keep_cycle-third-requires-clause-known : goal.keep_cycle-third-requires-clause-known
+keep_cycle-third-requires-clause-known c = same_known c.args.w.now.vars.now c.keep_off-second.new.w.vars.now c.args.w.now.store.now.sets
+    c.keep_off-second.new.w.store.now.sets (ap (λ r. r.now) (c.keep_off-second.ensures.vars ∙ c.keep_register-first.ensures.vars))
+    (c.keep_off-second.ensures.step.long ∙ c.keep_register-first.ensures.step.long) c.requires.known
+
+pub keep_cycle-third-requires-clause-live : goal.keep_cycle-third-requires-clause-live
+keep_cycle-third-requires-clause-live c = c.keep_off-second.ensures.step.live (c.keep_register-first.ensures.step.live c.requires.live)
+
+pub keep_cycle-third-requires-clause-of_call : goal.keep_cycle-third-requires-clause-of_call
+keep_cycle-third-requires-clause-of_call c = subst (λ (us : List VarId). CallVars us c.args.c.now) (sym (ap (λ r. r.now) (c.keep_off-second.ensures.vars ∙ c.keep_register-first.ensures.vars)))
+    c.requires.of_call
+
+pub keep_readers-requires-clause-of_temp : goal.keep_readers-requires-clause-of_temp
+keep_readers-requires-clause-of_temp c = same_temp c.args.w.now.vars.now c.keep_cycle-third.new.w.vars.now c.args.a.now
+    (ap (λ r. r.now) (c.keep_cycle-third.ensures.vars ∙ (c.keep_off-second.ensures.vars ∙ c.keep_register-first.ensures.vars))) c.requires.of_temp
+
+pub keep_readers-requires-clause-known : goal.keep_readers-requires-clause-known
+keep_readers-requires-clause-known c = same_known c.args.w.now.vars.now c.keep_cycle-third.new.w.vars.now c.args.w.now.store.now.sets
+    c.keep_cycle-third.new.w.store.now.sets (ap (λ r. r.now) (c.keep_cycle-third.ensures.vars ∙ (c.keep_off-second.ensures.vars ∙ c.keep_register-first.ensures.vars)))
+    (c.keep_cycle-third.ensures.step.long ∙ (c.keep_off-second.ensures.step.long ∙ c.keep_register-first.ensures.step.long)) c.requires.known
+
+pub keep_readers-requires-clause-of_call : goal.keep_readers-requires-clause-of_call
+keep_readers-requires-clause-of_call c = subst (λ (us : List VarId). CallVars us c.args.c.now) (sym (ap (λ r. r.now) (c.keep_cycle-third.ensures.vars ∙ (c.keep_off-second.ensures.vars ∙ c.keep_register-first.ensures.vars))))
+    c.requires.of_call

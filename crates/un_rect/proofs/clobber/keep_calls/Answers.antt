@@ -5,6 +5,11 @@ use Rattle.un_prop.specs.Going.{Stepped}
 use Rattle.un_rect.specs.Clobber.{CallVars, call_steps}
 use Rattle.un_rect.specs.declared.clobber.ClobberCall.{ClobberCall}
 use Rattle.un_rect.proofs.Loops.{stepped_entry}
+use Rattle.un_rect.proofs.Rows.{same_known, same_temp}
+use Rattle.std.proofs.Common.{refl}
+use Rattle.un_prop.specs.GoingLaws.{stepped_same}
+use Rattle.un_prop.specs.Places.{each_place}
+use Rattle.un_rect.specs.Entries.{entry_cut}
 use Rattle.un_rect.proofs.clobber.keep_calls.Goals as goal
 
 pub keep_one-did-requires-clause-of_call : goal.keep_one-did-requires-clause-of_call
@@ -34,3 +39,30 @@ loop-c-preserved c =
       same_reference = did.ensures.same_reference ∙ inv.same_reference;
       vars = did.ensures.vars ∙ inv.vars;
     }
+
+pub survives-survives-requires-clause-live : goal.survives-survives-requires-clause-live
+survives-survives-requires-clause-live c = c.requires.live
+
+pub keep_one-did-requires-clause-of_temp : goal.keep_one-did-requires-clause-of_temp
+keep_one-did-requires-clause-of_temp c = same_temp c.args.w.now.vars.now c.loop-c.w.vars.now c.args.a.now
+    (ap (λ r. r.now) c.loop-c.invariant.vars) c.requires.of_temp
+
+pub keep_one-did-requires-clause-known : goal.keep_one-did-requires-clause-known
+keep_one-did-requires-clause-known c = same_known c.args.w.now.vars.now c.loop-c.w.vars.now c.args.w.now.store.now.sets
+    c.loop-c.w.store.now.sets (ap (λ r. r.now) c.loop-c.invariant.vars)
+    (c.loop-c.invariant.step.long) c.requires.known
+
+pub keep_one-did-requires-clause-live : goal.keep_one-did-requires-clause-live
+keep_one-did-requires-clause-live c = c.loop-c.invariant.step.live c.requires.live
+
+pub keep_one-did-requires-clause-survives : goal.keep_one-did-requires-clause-survives
+keep_one-did-requires-clause-survives c = c.loop-c.invariant.survives
+
+pub loop-c-init : goal.loop-c-init
+loop-c-init c = record {
+  step = stepped_same c.args.w.now.vars.now (each_place (entry_cut (call_steps c.args.mask c.args.a.now) c.args.calls.now) 0) c.args.w.now.store.now
+      c.args.before (λ live. refl);
+  survives = λ going. c.survives-survives.ensures;
+  same_reference = refl;
+  vars = refl;
+}

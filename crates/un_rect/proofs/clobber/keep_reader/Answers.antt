@@ -67,3 +67,18 @@ returns-else-is_doomed-clause-step c =
     c.requires.known live
     (λ y. passes_unmet _ (no_right (nat_eq y u.value) _ (no_right c.args.c.now.before rest (sym c.is_doomed.ensures
     ∙ c.if-is_doomed.false)))))
+
+pub is_doomed-requires-clause-of_temp : goal.is_doomed-requires-clause-of_temp
+is_doomed-requires-clause-of_temp c = c.requires.of_temp
+
+pub is_doomed-requires-clause-of_user : goal.is_doomed-requires-clause-of_user
+is_doomed-requires-clause-of_user c = c.requires.of_user
+
+pub is_doomed-requires-clause-known : goal.is_doomed-requires-clause-known
+is_doomed-requires-clause-known c = c.requires.known
+
+pub is_doomed-requires-clause-live : goal.is_doomed-requires-clause-live
+is_doomed-requires-clause-live c = c.requires.live (going c.args.before c.if-eq.ensures)
+
+pub drop_value-requires-clause-going : goal.drop_value-requires-clause-going
+drop_value-requires-clause-going c = going c.args.before c.if-eq.ensures

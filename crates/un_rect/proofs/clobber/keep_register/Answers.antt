@@ -9,6 +9,7 @@ use Rattle.un_prop.specs.LastLaws.{cut_all, cut_same}
 use Rattle.un_prop.specs.GoingLaws.{stepped_same, stepped_by}
 use Rattle.un_rect.specs.Clobber.{lasts, hit_test, hit_cut}
 use Rattle.un_rect.proofs.Refusals.{no_left, no_right, passes_unmet, refuses_met}
+use Rattle.un_rect.proofs.Going.{going}
 use Rattle.un_rect.proofs.clobber.keep_register.Goals as goal
 
 pub is_sure-requires : goal.is_sure-requires
@@ -48,3 +49,24 @@ returns-clause-step c =
     (λ y there. refuses_met (in_mask c.args.mask y) _ (both (sure a.on s.sets) (lasts a c.args.c.now s.sets) (sym c.is_sure.ensures
     ∙ c.if-not-is_sure.false) (sym c.lasts.ensures ∙ c.if-not-lasts.false))))
     c.keep_passing.ensures.step
+
+pub lasts-requires-clause-of_temp : goal.lasts-requires-clause-of_temp
+lasts-requires-clause-of_temp c = c.requires.of_temp
+
+pub lasts-requires-clause-of_call : goal.lasts-requires-clause-of_call
+lasts-requires-clause-of_call c = c.requires.of_call
+
+pub lasts-requires-clause-known : goal.lasts-requires-clause-known
+lasts-requires-clause-known c = c.requires.known
+
+pub lasts-requires-clause-live : goal.lasts-requires-clause-live
+lasts-requires-clause-live c = c.requires.live (going c.args.before c.if-eq.ensures)
+
+pub keep_passing-requires-clause-lent : goal.keep_passing-requires-clause-lent
+keep_passing-requires-clause-lent c = c.requires.of_temp.of_reg
+
+pub keep_passing-requires-clause-known : goal.keep_passing-requires-clause-known
+keep_passing-requires-clause-known c = c.requires.known
+
+pub keep_passing-requires-clause-live : goal.keep_passing-requires-clause-live
+keep_passing-requires-clause-live c = c.requires.live

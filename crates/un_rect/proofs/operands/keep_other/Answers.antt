@@ -6,6 +6,7 @@ use Rattle.un_prop.specs.LastLaws.{cut_all, cut_same, passes_tested, dropped_tes
 use Rattle.un_prop.specs.GoingLaws.{stepped_same, stepped_by}
 use Rattle.un_rect.specs.Operands.{may_avoid, other_test, other_cut}
 use Rattle.un_rect.specs.Sides.{side_of}
+use Rattle.un_rect.proofs.Going.{going}
 use Rattle.un_rect.proofs.operands.keep_other.Goals as goal
 
 pub has-requires : goal.has-requires
@@ -58,3 +59,25 @@ returns-clause-step c =
     (λ live. cut_same (other_test b r s.sets) (λ y. not (nat_eq y r)) v.0 s.sets
     (λ y there. dropped_tested (not (nat_eq y r)) (may_avoid b s.sets r) (sym c.may_avoid.ensures ∙ c.if-may_avoid.false)))
     c.drop_value.ensures.step
+
+pub may_avoid-requires-clause-vars : goal.may_avoid-requires-clause-vars
+may_avoid-requires-clause-vars c = c.requires.vars
+
+pub may_avoid-requires-clause-known : goal.may_avoid-requires-clause-known
+may_avoid-requires-clause-known c = c.requires.known
+
+pub may_avoid-requires-clause-live : goal.may_avoid-requires-clause-live
+may_avoid-requires-clause-live c = c.requires.live (going c.args.before c.if-eq.ensures)
+
+pub drop_value-requires-clause-there : goal.drop_value-requires-clause-there
+drop_value-requires-clause-there c = has_among c.args.w.now.vars.now c.args.v c.args.w.now.store.now.sets c.requires.lent c.requires.known
+
+pub drop_value-requires-clause-some : goal.drop_value-requires-clause-some
+drop_value-requires-clause-some c = c.requires.live (going c.args.before c.if-eq.ensures) c.args.v.0
+    (has_among c.args.w.now.vars.now c.args.v c.args.w.now.store.now.sets c.requires.lent c.requires.known)
+
+pub drop_value-requires-clause-lent : goal.drop_value-requires-clause-lent
+drop_value-requires-clause-lent c = c.requires.lent
+
+pub drop_value-requires-clause-going : goal.drop_value-requires-clause-going
+drop_value-requires-clause-going c = going c.args.before c.if-eq.ensures

@@ -41,3 +41,18 @@ returns-else-is_late-clause-step c =
     stepped_same vs (choice_cut (reader_test b u) u.choice) s c.args.before
     (λ live. choice_same vs (reader_test b u) u.choice s.sets c.requires.of_u.of_choice c.requires.known live
     (λ y. reader_stays b u s.sets y (sym c.is_late.ensures ∙ c.if-is_late.false)))
+
+pub is_late-requires-clause-of_b : goal.is_late-requires-clause-of_b
+is_late-requires-clause-of_b c = c.requires.of_b
+
+pub is_late-requires-clause-of_u : goal.is_late-requires-clause-of_u
+is_late-requires-clause-of_u c = c.requires.of_u
+
+pub is_late-requires-clause-known : goal.is_late-requires-clause-known
+is_late-requires-clause-known c = c.requires.known
+
+pub is_late-requires-clause-live : goal.is_late-requires-clause-live
+is_late-requires-clause-live c = c.requires.live (going c.args.before c.if-eq.ensures)
+
+pub drop_value-requires-clause-going : goal.drop_value-requires-clause-going
+drop_value-requires-clause-going c = going c.args.before c.if-eq.ensures

@@ -5,6 +5,7 @@ use Rattle.un_prop.specs.GoingLaws.{stepped_chain}
 use Rattle.un_prop.specs.declared.act.UserOf.{UserOf}
 use Rattle.un_rect.specs.Spans.{UserVars}
 use Rattle.un_rect.specs.Orders.{time_cut, late_test, early_test, users_cut}
+use Rattle.un_rect.proofs.Rows.{same_known, same_temp}
 use Rattle.un_rect.proofs.orders.keep_steps.Goals as goal
 
 pub keep_users-requires-clause-of_users : goal.keep_users-requires-clause-of_users
@@ -34,3 +35,43 @@ returns-clause-step c =
     c.keep_users.ensures.step) in
     stepped_chain vs (λ s. option_and_then f2 (f1 s)) (users_cut b a.users (length a.users)) s0 s2 s3 c.args.before q r
     (stepped_chain vs f1 f2 s0 s1 s2 c.args.before p q c.keep_late-first.ensures.step step2) step3
+
+pub keep_late-first-requires-clause-of_a : goal.keep_late-first-requires-clause-of_a
+keep_late-first-requires-clause-of_a c = c.requires.of_a
+
+pub keep_late-first-requires-clause-of_b : goal.keep_late-first-requires-clause-of_b
+keep_late-first-requires-clause-of_b c = c.requires.of_b
+
+pub keep_late-first-requires-clause-known : goal.keep_late-first-requires-clause-known
+keep_late-first-requires-clause-known c = c.requires.known
+
+pub keep_late-first-requires-clause-live : goal.keep_late-first-requires-clause-live
+keep_late-first-requires-clause-live c = c.requires.live
+
+pub keep_early-second-requires-clause-of_a : goal.keep_early-second-requires-clause-of_a
+keep_early-second-requires-clause-of_a c = same_temp c.args.w.now.vars.now c.keep_late-first.new.w.vars.now c.args.a.now
+    (ap (λ r. r.now) c.keep_late-first.ensures.vars) c.requires.of_a
+
+pub keep_early-second-requires-clause-of_b : goal.keep_early-second-requires-clause-of_b
+keep_early-second-requires-clause-of_b c = same_temp c.args.w.now.vars.now c.keep_late-first.new.w.vars.now c.args.b.now
+    (ap (λ r. r.now) c.keep_late-first.ensures.vars) c.requires.of_b
+
+pub keep_early-second-requires-clause-known : goal.keep_early-second-requires-clause-known
+keep_early-second-requires-clause-known c = same_known c.args.w.now.vars.now c.keep_late-first.new.w.vars.now c.args.w.now.store.now.sets
+    c.keep_late-first.new.w.store.now.sets (ap (λ r. r.now) c.keep_late-first.ensures.vars)
+    (c.keep_late-first.ensures.step.long) c.requires.known
+
+pub keep_early-second-requires-clause-live : goal.keep_early-second-requires-clause-live
+keep_early-second-requires-clause-live c = c.keep_late-first.ensures.step.live c.requires.live
+
+pub keep_users-requires-clause-of_b : goal.keep_users-requires-clause-of_b
+keep_users-requires-clause-of_b c = same_temp c.args.w.now.vars.now c.keep_early-second.new.w.vars.now c.args.b.now
+    (ap (λ r. r.now) (c.keep_early-second.ensures.vars ∙ c.keep_late-first.ensures.vars)) c.requires.of_b
+
+pub keep_users-requires-clause-known : goal.keep_users-requires-clause-known
+keep_users-requires-clause-known c = same_known c.args.w.now.vars.now c.keep_early-second.new.w.vars.now c.args.w.now.store.now.sets
+    c.keep_early-second.new.w.store.now.sets (ap (λ r. r.now) (c.keep_early-second.ensures.vars ∙ c.keep_late-first.ensures.vars))
+    (c.keep_early-second.ensures.step.long ∙ c.keep_late-first.ensures.step.long) c.requires.known
+
+pub keep_users-requires-clause-live : goal.keep_users-requires-clause-live
+keep_users-requires-clause-live c = c.keep_early-second.ensures.step.live (c.keep_late-first.ensures.step.live c.requires.live)

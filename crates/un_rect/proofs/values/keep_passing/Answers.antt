@@ -8,6 +8,7 @@ use Rattle.un_prop.specs.Going.{Stepped}
 use Rattle.un_prop.specs.GoingLaws.{stepped_same, stepped_by, stepped_chain}
 use Rattle.un_prop.specs.LastLaws.{try_first, try_next, try_last}
 use Rattle.un_rect.proofs.Going.{going}
+use Rattle.un_rect.proofs.Rows.{same_among, same_known}
 use Rattle.un_rect.proofs.values.keep_passing.Goals as goal
 
 pub min-requires-clause-there : goal.min-requires-clause-there
@@ -83,3 +84,14 @@ returns-clause-step g c =
     let high : greatest (set_at s.sets v.0) < c.loop-y.y = omega (arith, c.loop-y-test.false, c.from-end.ensures, c.max.ensures) in
     stepped_by vs (cut_by q v.0) (cut_by (λ z. nat_le c.loop-y.y z || q z) v.0) s c.loop-y.w.store.now c.args.before c.loop-y.did
     (λ live. sym (try_last vs yes_to_all (alike vs) s.sets v q c.loop-y.y high)) c.loop-y.invariant.step
+
+pub keep_value-did-requires-clause-lent : goal.keep_value-did-requires-clause-lent
+keep_value-did-requires-clause-lent g c = same_among c.args.w.now.vars.now c.loop-y.w.vars.now c.args.v (ap (λ r. r.now) c.loop-y.invariant.vars) c.requires.lent
+
+pub keep_value-did-requires-clause-known : goal.keep_value-did-requires-clause-known
+keep_value-did-requires-clause-known g c = same_known c.args.w.now.vars.now c.loop-y.w.vars.now c.args.w.now.store.now.sets
+    c.loop-y.w.store.now.sets (ap (λ r. r.now) c.loop-y.invariant.vars)
+    (c.loop-y.invariant.step.long) c.requires.known
+
+pub keep_value-did-requires-clause-live : goal.keep_value-did-requires-clause-live
+keep_value-did-requires-clause-live g c = c.loop-y.invariant.step.live c.requires.live

@@ -34,3 +34,9 @@ returns-clause-step g c =
     (λ live. cut_same (λ z. not (nat_eq z c.args.y) || t) (λ z. not (nat_eq z c.args.y)) v.0 w.store.now.sets
     (λ y there. dropped_tested (not (nat_eq y c.args.y)) t (sym c.passes.ensures ∙ c.if-passes.false)))
     c.drop_value.ensures.step
+
+pub drop_value-requires-clause-lent : goal.drop_value-requires-clause-lent
+drop_value-requires-clause-lent g c = c.requires.lent
+
+pub drop_value-requires-clause-going : goal.drop_value-requires-clause-going
+drop_value-requires-clause-going g c = going c.args.before c.if-eq.ensures

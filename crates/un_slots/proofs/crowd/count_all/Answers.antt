@@ -21,3 +21,12 @@ returns c n le =
     let items = c.args.items.now in
     let end : c.loop-j.j ≡ min (length items) (2 ^ 32 - 1) = omega (arith, c.loop-j-test.false, c.min-j-end.ensures, c.loop-j.auto.j-end) in
     c.loop-j.invariant n le ∙ ap (sum_by (starts c.args.r c.args.high s n)) (take_min items c.loop-j.j (2 ^ 32 - 1) end)
+
+pub count-requires-clause-known : goal.count-requires-clause-known
+count-requires-clause-known c = c.requires.known
+
+pub count-requires-clause-live : goal.count-requires-clause-live
+count-requires-clause-live c = c.requires.live
+
+pub count-requires-clause-room : goal.count-requires-clause-room
+count-requires-clause-room c = omega (arith, c.requires.room, c.loop-j.auto.cycles)

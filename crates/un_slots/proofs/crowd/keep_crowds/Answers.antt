@@ -4,6 +4,7 @@ use Rattle.un_prop.specs.FailLaws.{first_all, first_fails}
 use Rattle.un_prop.specs.GoingLaws.{stepped_same, stepped_by}
 use Rattle.un_slots.specs.Crowds.{crowds_fit, crowd_cut}
 use Rattle.un_slots.proofs.Going.{going}
+use Rattle.std.proofs.Common.{ℕ, List, ◌≤◌, length, subst}
 use Rattle.un_slots.proofs.crowd.keep_crowds.Goals as goal
 
 pub all_fit-requires-clause-vars : goal.all_fit-requires-clause-vars
@@ -36,3 +37,7 @@ returns-clause-step c =
     stepped_by vs (crowd_cut vs c.args.items.now c.args.horizon) (fail_cut vs) s c.fail.new.w.store.now c.args.before c.fail.result
     (λ live. first_fails (λ t y. crowds_fit c.args.items.now c.args.horizon t) vs s.sets (λ y. sym c.all_fit.ensures ∙ c.if-all_fit.false))
     c.fail.ensures.step
+
+pub all_fit-requires-clause-span : goal.all_fit-requires-clause-span
+all_fit-requires-clause-span c = subst (λ (cycles : List ℕ). c.args.horizon ≤ length cycles) (sym c.as_mut_slice.ensures.value)
+    c.requires.span

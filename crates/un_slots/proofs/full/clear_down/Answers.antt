@@ -3,12 +3,13 @@ use Rattle.un_base.specs.declared.ids.VarId.{VarId}
 use Rattle.un_prop.specs.Going.{Stepped}
 use Rattle.un_prop.specs.GoingLaws.{stepped_same}
 use Rattle.un_prop.specs.Places.{each_place}
-use Rattle.un_slots.specs.Slots.{SlotVars}
 use Rattle.un_slots.specs.Crowds.{counted, crowd}
 use Rattle.un_slots.specs.CountLaws.{crowd_none, ordered_counted}
 use Rattle.un_slots.specs.Fulls.{clear_between}
 use Rattle.un_slots.specs.FullLaws.{next_place, places_few, room_next}
 use Rattle.un_slots.proofs.Carried.{same_known, same_vars}
+use Rattle.std.proofs.Common.{◌*◌}
+use Rattle.un_isa.specs.PacketCounts.{places_of}
 use Rattle.un_slots.proofs.full.clear_down.Goals as goal
 
 pub clear_at-did-requires-clause-vars : goal.clear_at-did-requires-clause-vars
@@ -82,3 +83,17 @@ loop-m-preserved c =
       same_reference = did.ensures.same_reference ∙ inv.same_reference;
       vars = did.ensures.vars ∙ inv.vars;
     }
+
+pub clear_at-did-requires-clause-room : goal.clear_at-did-requires-clause-room
+clear_at-did-requires-clause-room c =
+    let m = c.loop-m.m in
+    let low : m + 1 ≡ c.args.high + 1 - (c.from-top.result - m) = omega (arith, c.from-top.ensures, c.loop-m-test.true) in
+    room_next c.args.r m c.loop-m.room c.from-each.result c.loop-m.invariant.room (c.from-each.ensures ∙ c.places.ensures)
+    ∙ ap (λ (k : ℕ). places_of c.args.r * k) low
+
+pub returns-clause-step : goal.returns-clause-step
+returns-clause-step c =
+    let high = c.args.high in
+    let end : c.loop-m.m ≡ high + 1 = omega (arith, c.loop-m-test.false, c.loop-m.auto.m-end, c.from-top.ensures) in
+    subst (λ (n : ℕ). Stepped c.args.w.now.vars.now (each_place (λ m. clear_between c.args.r (counted c.args.items.now) (high - m) high) n)
+    c.args.w.now.store.now c.loop-m.w.store.now c.args.before c.loop-m.did) end c.loop-m.invariant.step

@@ -16,6 +16,7 @@ use Rattle.un_slots.specs.Crowds.{counted}
 use Rattle.un_slots.specs.Fulls.{full_cut, outside}
 use Rattle.un_slots.specs.FullLaws.{taken_get, full_idle, full_is, not_lost, is_lost}
 use Rattle.un_slots.proofs.Going.{going}
+use Rattle.un_slots.proofs.Carried.{live_after, same_known, same_vars}
 use Rattle.un_slots.proofs.full.clear_item.Goals as goal
 
 few : (n k : ℕ) → k < min n (2 ^ 32 - 1) → k < n
@@ -87,11 +88,6 @@ returns-in-Failed-clause-step c =
     (λ live. (let p = cut_is vs (full_cut r (counted items) low high c.args.k s.sets) (cut_by (outside low high) i.at.0 s.sets) s new
     did.result (full_is r (counted items) low high s.sets c.args.k i at lost.0 lost.1) did.ensures.prune in (p.ends, p.untouched)))
 
-live_after : (vs : List VarId) (o : Option Sets) (old new : Contents) (answer : Pruned) → IsPrune vs o old new answer → answer ≢ Failed
-    → NoneEmpty new.sets
-live_after vs None old new answer h other = absurd (other h.ends.0)
-live_after vs (Some m) old new answer h other = subst NoneEmpty (sym h.ends.sets) h.ends.live
-
 pub count_in-requires-clause-live : goal.count_in-requires-clause-live
 count_in-requires-clause-live c =
     let i = c.index-items-k.result in
@@ -101,8 +97,8 @@ count_in-requires-clause-live c =
     did.ensures.prune c.in_default.not-Failed
 
 pub count_in-requires-clause-vars : goal.count_in-requires-clause-vars
-count_in-requires-clause-vars c = subst (λ (us : List VarId). SlotVars us c.args.items.now)
-    (sym (ap (λ r. r.now) c.keep_outside-did.ensures.vars)) c.requires.vars
+count_in-requires-clause-vars c = same_vars c.args.w.now.vars.now c.keep_outside-did.new.w.vars.now c.args.items.now
+    (ap (λ r. r.now) c.keep_outside-did.ensures.vars) c.requires.vars
 
 pub returns-in_default-clause-step : goal.returns-in_default-clause-step
 returns-in_default-clause-step c =
@@ -123,3 +119,24 @@ returns-in_default-clause-step c =
     c.joined.ensures did.ensures.prune.untouched.long
     (λ live. (let p = cut_is vs (full_cut r (counted items) low high c.args.k s.sets) (cut_by (outside low high) i.at.0 s.sets) s new
     did.result (full_is r (counted items) low high s.sets c.args.k i at lost.0 lost.1) did.ensures.prune in (p.ends, p.untouched)))
+
+pub loses-requires-clause-known : goal.loses-requires-clause-known
+loses-requires-clause-known c = c.requires.known
+
+pub loses-requires-clause-live : goal.loses-requires-clause-live
+loses-requires-clause-live c = c.requires.live (going c.args.before c.if-eq.ensures)
+
+pub loses-requires-clause-small : goal.loses-requires-clause-small
+loses-requires-clause-small c = c.requires.small
+
+pub keep_outside-did-requires-clause-lent : goal.keep_outside-did-requires-clause-lent
+keep_outside-did-requires-clause-lent c = (vars_of c.args.w.now.vars.now c.args.items.now c.args.k c.index-items-k.result c.requires.vars
+    c.requires.there c.index-items-k.is).of_at
+
+pub keep_outside-did-requires-clause-live : goal.keep_outside-did-requires-clause-live
+keep_outside-did-requires-clause-live c = c.requires.live (going c.args.before c.if-eq.ensures)
+
+pub count_in-requires-clause-known : goal.count_in-requires-clause-known
+count_in-requires-clause-known c = same_known c.args.w.now.vars.now c.keep_outside-did.new.w.vars.now c.args.w.now.store.now.sets
+    c.keep_outside-did.new.w.store.now.sets (ap (λ r. r.now) c.keep_outside-did.ensures.vars)
+    c.keep_outside-did.ensures.prune.untouched.long c.requires.known

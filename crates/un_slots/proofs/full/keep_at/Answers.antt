@@ -3,6 +3,7 @@ use Rattle.un_domains.specs.Sets.{cut_by}
 use Rattle.un_prop.specs.GoingLaws.{goes_same, goes_by}
 use Rattle.un_prop.specs.LastLaws.{cut_same, cut_all, passes_tested, dropped_tested}
 use Rattle.un_slots.specs.Fulls.{outside}
+use Rattle.un_slots.proofs.Going.{going}
 use Rattle.un_slots.proofs.full.keep_at.Goals as goal
 
 pub returns-then-is_outside-clause-goes : goal.returns-then-is_outside-clause-goes
@@ -24,3 +25,15 @@ returns-clause-goes c =
     (λ live. cut_same (λ z. not (nat_eq z c.args.c) || t) (λ z. not (nat_eq z c.args.c)) v.0 w.store.now.sets
     (λ y there. dropped_tested (not (nat_eq y c.args.c)) t (sym c.is_outside.ensures ∙ c.if-is_outside.false)))
     c.drop_value.ensures.step.goes
+
+pub drop_value-requires-clause-there : goal.drop_value-requires-clause-there
+drop_value-requires-clause-there c = c.requires.there
+
+pub drop_value-requires-clause-lent : goal.drop_value-requires-clause-lent
+drop_value-requires-clause-lent c = c.requires.lent
+
+pub drop_value-requires-clause-some : goal.drop_value-requires-clause-some
+drop_value-requires-clause-some c = c.requires.some (going c.args.before c.if-eq.ensures)
+
+pub drop_value-requires-clause-going : goal.drop_value-requires-clause-going
+drop_value-requires-clause-going c = going c.args.before c.if-eq.ensures

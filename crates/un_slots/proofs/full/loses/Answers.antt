@@ -22,3 +22,15 @@ max-requires-clause-there c = has_among c.args.w.now.vars.now c.args.item.now.at
 pub max-requires-clause-some : goal.max-requires-clause-some
 max-requires-clause-some c = c.requires.live c.args.item.now.at.0
     (has_among c.args.w.now.vars.now c.args.item.now.at c.args.w.now.store.now.sets c.requires.vars.of_at c.requires.known)
+
+pub surely_takes-requires-clause-live : goal.surely_takes-requires-clause-live
+surely_takes-requires-clause-live c = c.requires.live
+
+pub crowded-requires-clause-vars : goal.crowded-requires-clause-vars
+crowded-requires-clause-vars c = c.requires.vars
+
+pub crowded-requires-clause-known : goal.crowded-requires-clause-known
+crowded-requires-clause-known c = c.requires.known
+
+pub crowded-requires-clause-live : goal.crowded-requires-clause-live
+crowded-requires-clause-live c = c.requires.live

@@ -39,3 +39,27 @@ returns-then-index-eq0-clause-none c off own =
     let last : last_settled items s c.args.c (length items) ≡ 0 = ap (last_settled items s c.args.c) (sym (c.requires.whole c.if-free.true))
     ∙ (sym c.requires.head ∙ none) in
     free_issues items s c.args.c c.args.k c.args.item.now c.requires.item last (c.requires.alone c.if-free.true)
+
+pub can_issue-requires-clause-item : goal.can_issue-requires-clause-item
+can_issue-requires-clause-item c = c.requires.item
+
+pub can_issue-requires-clause-vars : goal.can_issue-requires-clause-vars
+can_issue-requires-clause-vars c = c.requires.vars
+
+pub can_issue-requires-clause-of_item : goal.can_issue-requires-clause-of_item
+can_issue-requires-clause-of_item c = c.requires.of_item
+
+pub can_issue-requires-clause-known : goal.can_issue-requires-clause-known
+can_issue-requires-clause-known c = c.requires.known
+
+pub can_issue-requires-clause-live : goal.can_issue-requires-clause-live
+can_issue-requires-clause-live c = c.requires.live
+
+pub can_issue-requires-clause-span : goal.can_issue-requires-clause-span
+can_issue-requires-clause-span c = c.requires.span
+
+pub can_issue-requires-clause-head : goal.can_issue-requires-clause-head
+can_issue-requires-clause-head c = c.requires.head
+
+pub can_issue-requires-clause-nexts : goal.can_issue-requires-clause-nexts
+can_issue-requires-clause-nexts c = c.requires.nexts

@@ -19,6 +19,9 @@ use Rattle.un_slots.specs.LoadLaws.{slot_unsure, slot_is, slot_all}
 use Rattle.un_slots.specs.Listings.{is_left}
 use Rattle.un_slots.proofs.Carried.{same_known, same_vars}
 use Rattle.un_slots.proofs.Going.{going}
+use Rattle.un_slots.proofs.Carried.{live_after}
+use Rattle.std.proofs.Common.{arith}
+use Rattle.un_slots.specs.Listings.{Listed, listable}
 use Rattle.un_slots.proofs.keep.keep_item.Goals as goal
 
 vars_of : (vs : List VarId) (items : List Item) (k : ℕ) (i : Item) → SlotVars vs items → k < length items → i ≡ get_or items k i
@@ -142,3 +145,53 @@ returns-in_default-clause-step c =
     (sym c.is_sure.ensures ∙ c.if-not-is_sure.false)
     (λ y own. ap (λ (ms : List ℕ). is_left ms c.args.horizon y) c.as_slice.ensures.value
     ∙ c.mark.ensures.marks y own)) did.ensures.prune in (p.ends, p.untouched)))
+
+pub list-requires-clause-live : goal.list-requires-clause-live
+list-requires-clause-live c =
+    let i = c.index-items-k.result in
+    let s = c.args.w.now.store.now in
+    let did = c.keep_left-did in
+    live_after c.args.w.now.vars.now (cut_by (is_left c.as_slice.result.now c.args.horizon) i.at.0 s.sets) s did.new.w.store.now did.result
+    did.ensures.prune c.in_default.not-Failed
+
+pub list-requires-clause-span : goal.list-requires-clause-span
+list-requires-clause-span c = omega (arith, c.mark.ensures.cycles, c.requires.span)
+
+pub returns-then-not-mark-clause-listed : goal.returns-then-not-mark-clause-listed
+returns-then-not-mark-clause-listed c still =
+    let items = c.args.items.now in
+    let s = c.args.w.now.store.now.sets in
+    let fixed = c.mark.new.scratch.fixed.items in
+    subst (λ (cycles : List ℕ). Listed items c.args.horizon (listable items fixed) s cycles fixed)
+    (sym (c.mark.ensures.same c.if-not-mark.true))
+    (subst (λ (all : List ℕ). Listed items c.args.horizon (listable items all) s c.args.scratch.now.cycles.items all)
+    (sym c.mark.ensures.fixed) (c.requires.listed still))
+
+pub keep_left-did-requires-clause-span : goal.keep_left-did-requires-clause-span
+keep_left-did-requires-clause-span c =
+    let long : length c.as_slice.result.now ≡ length c.mark.new.scratch.cycles.items = ap length c.as_slice.ensures.value in
+    omega (arith, long, c.mark.ensures.cycles, c.requires.span)
+
+pub returns-then-not-mark-clause-fixed : goal.returns-then-not-mark-clause-fixed
+returns-then-not-mark-clause-fixed c = ap length c.mark.ensures.fixed
+
+pub returns-then-not-mark-clause-cycles : goal.returns-then-not-mark-clause-cycles
+returns-then-not-mark-clause-cycles c = c.mark.ensures.cycles
+
+pub returns-in-Failed-clause-listed : goal.returns-in-Failed-clause-listed
+returns-in-Failed-clause-listed c = λ still. absurd (still c.in-Failed.is)
+
+pub returns-in-Failed-clause-fixed : goal.returns-in-Failed-clause-fixed
+returns-in-Failed-clause-fixed c = ap length c.mark.ensures.fixed
+
+pub returns-in-Failed-clause-cycles : goal.returns-in-Failed-clause-cycles
+returns-in-Failed-clause-cycles c = c.mark.ensures.cycles
+
+pub returns-in_default-clause-listed : goal.returns-in_default-clause-listed
+returns-in_default-clause-listed c = λ still. c.list.ensures.listed
+
+pub returns-in_default-clause-fixed : goal.returns-in_default-clause-fixed
+returns-in_default-clause-fixed c = c.list.ensures.fixed ∙ ap length c.mark.ensures.fixed
+
+pub returns-in_default-clause-cycles : goal.returns-in_default-clause-cycles
+returns-in_default-clause-cycles c = c.list.ensures.cycles ∙ c.mark.ensures.cycles

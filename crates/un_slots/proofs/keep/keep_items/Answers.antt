@@ -4,6 +4,11 @@ use Rattle.un_prop.specs.Places.{each_place}
 use Rattle.un_prop.specs.declared.propagator.Pruned.TheVariants.{Same}
 use Rattle.un_slots.specs.Loads.{slot_cut}
 use Rattle.un_slots.proofs.Carried.{same_known, same_vars}
+use Rattle.std.proofs.Common.{ℕ, ◌≡◌, length, subst}
+use Rattle.un_prop.specs.Going.{Stepped}
+use Rattle.std.proofs.Common.{◌∙◌, List}
+use Rattle.un_base.specs.declared.ids.VarId.{VarId}
+use Rattle.un_slots.specs.FullLaws.{next_place}
 use Rattle.un_slots.proofs.keep.keep_items.Goals as goal
 
 pub list-requires-clause-span : goal.list-requires-clause-span
@@ -48,3 +53,28 @@ loop-k-init c = record {
   same_reference = refl;
   vars = refl;
 }
+
+pub returns-clause-step : goal.returns-clause-step
+returns-clause-step c =
+    let items = c.args.items.now in
+    let end : c.loop-k.k ≡ length items = omega (arith, c.loop-k-test.false, c.loop-k.auto.k-end) in
+    subst (λ (n : ℕ). Stepped c.args.w.now.vars.now (each_place (slot_cut items c.args.horizon) n) c.args.w.now.store.now
+    c.loop-k.w.store.now Same c.loop-k.did) end c.loop-k.invariant.step
+
+pub loop-k-preserved : goal.loop-k-preserved
+loop-k-preserved c =
+    let vs = c.args.w.now.vars.now in
+    let f = slot_cut c.args.items.now c.args.horizon in
+    let inv = c.loop-k.invariant in
+    let did = c.keep_item-did in
+    let mid = c.loop-k.w.store.now in
+    record {
+      step = next_place vs f c.loop-k.k c.args.w.now.store.now mid did.new.w.store.now Same c.loop-k.did did.result inv.step
+          (subst (λ (us : List VarId). Stepped us (f c.loop-k.k) mid did.new.w.store.now c.loop-k.did did.result)
+          (ap (λ r. r.now) inv.vars) did.ensures.step);
+      listed = did.ensures.listed;
+      fixed = did.ensures.fixed ∙ inv.fixed;
+      cycles = did.ensures.cycles ∙ inv.cycles;
+      same_reference = did.ensures.same_reference ∙ inv.same_reference;
+      vars = did.ensures.vars ∙ inv.vars;
+    }

@@ -77,3 +77,15 @@ loop-last-preserved c =
       own = next ∙ (sym (last_own items s at j) ∙ ap (last_settled items s at) (sym next));
       within = (let le = last_le items s at j in let w = inv.within in omega (arith, next, le, w));
     }
+
+pub load_from-load-requires-clause-vars : goal.load_from-load-requires-clause-vars
+load_from-load-requires-clause-vars c = c.requires.vars
+
+pub load_from-load-requires-clause-known : goal.load_from-load-requires-clause-known
+load_from-load-requires-clause-known c = c.requires.known
+
+pub load_from-load-requires-clause-live : goal.load_from-load-requires-clause-live
+load_from-load-requires-clause-live c = c.requires.live
+
+pub least_number-requires-clause-live : goal.least_number-requires-clause-live
+least_number-requires-clause-live c = c.requires.live

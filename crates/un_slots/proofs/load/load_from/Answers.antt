@@ -15,3 +15,9 @@ returns c r = (
     (omega (arith, c.loop-j-test.false))) in
     let h = c.loop-j.invariant r in
     omega (arith, e, h))
+
+pub add_settled-load-requires-clause-known : goal.add_settled-load-requires-clause-known
+add_settled-load-requires-clause-known c = c.requires.known
+
+pub add_settled-load-requires-clause-live : goal.add_settled-load-requires-clause-live
+add_settled-load-requires-clause-live c = c.requires.live

@@ -8,11 +8,7 @@ use Rattle.un_prop.specs.declared.propagator.Pruned.TheVariants.{Same}
 use Rattle.un_rect.specs.Apart.{clash_pair, check_pair, bounds_cut, apart_cut, ApartVars}
 use Rattle.un_rect.specs.Orders.{order_pair}
 use Rattle.un_rect.specs.Pairs.{each_pair}
-use Rattle.un_domains.specs.Sets.{Sets}
-use Rattle.un_prop.specs.LastLaws.{Ascend}
-use Rattle.un_prop.specs.Rounds.{HasVars}
 use Rattle.un_rect.proofs.Rows.{same_ascend, same_known}
-use Rattle.std.proofs.Common.{arith}
 use Rattle.un_rect.proofs.apart.ApartPropagator.prune_in.Goals as goal
 
 carried : (vs us : List VarId) (temps xs : List Temp) → us ≡ vs → xs ≡ temps → ApartVars vs temps → ApartVars us xs
