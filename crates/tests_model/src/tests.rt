@@ -14,9 +14,9 @@ use un_base::memory_error::NoMemory;
 use un_lists::items::Items;
 use un_model::model::{Model, Solution};
 use un_model::verdict::Broken;
-use un_violations::violations::violations;
 use un_problem::problem::{default_options, model};
 use un_reader::read::read_function;
+use un_violations::violations::violations;
 
 /// The numbers of a text that blanks separate.
 fn numbers(alloc: Global, text: &str) -> Result<Items<u32>, Fail> {

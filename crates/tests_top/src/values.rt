@@ -12,10 +12,10 @@ use un_ir::function::Function;
 use un_listing::print::print_code;
 use un_lists::items::Items;
 use un_model::model::{Model, Solution};
-use un_violations::violations::violations;
 use un_problem::problem::{default_options, model};
 use un_reader::read::read_function;
 use un_top::code::code_by;
+use un_violations::violations::violations;
 
 /// Three blocks, of which the last returns at once.
 const EMPTY: &[u8] = b"func e\nblock a freq 3\nblock b freq 7\nblock c freq 2\n  ret\n";

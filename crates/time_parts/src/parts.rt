@@ -16,9 +16,9 @@ use un_live::live::live_in;
 use un_lssa::linearize::linearize;
 use un_model::build::build;
 use un_model::model::{Model, Solution};
-use un_violations::violations::violations;
 use un_problem::problem::{default_options, extended};
 use un_spilled::spilled::spilled;
+use un_violations::violations::violations;
 
 /// The mean time of finding live names.
 fn time_live(rt: &impl CpuClock, alloc: Global, f: &Function, rounds: u32) -> Option<u64> {
