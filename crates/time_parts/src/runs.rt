@@ -7,7 +7,7 @@ ghost use Rattle.un_prop.specs.Queues.{IsSizes, IsTable};
 ghost use Rattle.un_prop.specs.Rounds.{HasVars};
 
 use crate::times::{mean, now, write_time};
-use std::alloc::{AllocError, Global};
+use std::alloc::Global;
 use std::time::CpuClock;
 use un_base::ids::VarId;
 use un_base::memory_error::NoMemory;
@@ -184,17 +184,6 @@ fn time_decisions<P: Propagator>(
     mean(rt, start, n)
 }
 
-/// As many zeros.
-fn zeros(alloc: Global, n: usize) -> Result<Vec<u32>, AllocError>
-    ensures { IfOk result (λ v. length v.items ≡ n) }
-{
-    let mut items = Vec::new(alloc);
-    for _ in 0..n {
-        items.push(0)?;
-    }
-    Ok(items)
-}
-
 /// Prints the mean times, with a table and room for it.
 fn write_with<P: Propagator>(
     rt: &(impl CpuClock + Print),
@@ -238,7 +227,7 @@ pub fn write_runs<P: Propagator>(
     let readers = Readers::new(alloc, props, n as usize).ok()?;
     let mut scratch = Scratch::new(alloc, n, horizon).ok()?;
     let mut waiting = Queue::new(alloc, props.len()).ok()?;
-    let mut sizes = zeros(alloc, n as usize).ok()?;
+    let mut sizes = vec![in alloc; 0; n as usize].ok()?;
     write_with(
         rt,
         props,

@@ -203,17 +203,6 @@ fn rounds<P: Propagator, C: Clock>(
     Ok(passed)
 }
 
-/// As many zeros.
-fn zeros(alloc: Global, n: usize) -> Result<Vec<u32>, AllocError>
-    ensures { IfOk result (λ v. length v.items ≡ n) }
-{
-    let mut items = Vec::new(alloc);
-    for _ in 0..n {
-        items.push(0)?;
-    }
-    Ok(items)
-}
-
 /// Rounds from where rounds of all end.
 fn run_rounds<P: Propagator, C: Clock>(
     alloc: Global,
@@ -238,7 +227,7 @@ fn run_rounds<P: Propagator, C: Clock>(
         return Ok(Duration::ZERO);
     }
     let mut waiting = Queue::new(alloc, props.len())?;
-    let mut sizes = zeros(alloc, store.len() as usize)?;
+    let mut sizes = vec![in alloc; 0; store.len() as usize]?;
     measure(store, sizes.as_mut_slice());
     rounds(
         clock,
