@@ -99,7 +99,8 @@ pub returns-clause-step : goal.returns-clause-step
 returns-clause-step c =
     let vs = c.args.w.now.vars.now in
     let end : c.loop-i.i ≡ c.args.n = omega (arith, c.loop-i-test.false, c.loop-i.auto.i-end) in
-    subst (λ (k : ℕ). Stepped vs (each_before (check_pair vs) c.args.temps.now c.args.b.now k) c.args.w.now.store.now c.loop-i.w.store.now c.args.before c.loop-i.did) end
+    subst (λ (k : ℕ). Stepped vs (each_before (check_pair vs) c.args.temps.now c.args.b.now k) c.args.w.now.store.now
+    c.loop-i.w.store.now c.args.before c.loop-i.did) end
     c.loop-i.invariant.step
 
 pub returns-clause-written : goal.returns-clause-written

@@ -89,7 +89,8 @@ returns-clause-step c =
     (λ live. sym (try_last vs t looks s.sets v q c.loop-y.y high)) c.loop-y.invariant.step
 
 pub try_value-did-requires-clause-lent : goal.try_value-did-requires-clause-lent
-try_value-did-requires-clause-lent c = same_among c.args.w.now.vars.now c.loop-y.w.vars.now c.args.v (ap (λ r. r.now) c.loop-y.invariant.vars) c.requires.lent
+try_value-did-requires-clause-lent c = same_among c.args.w.now.vars.now c.loop-y.w.vars.now c.args.v
+    (ap (λ r. r.now) c.loop-y.invariant.vars) c.requires.lent
 
 pub try_value-did-requires-clause-known : goal.try_value-did-requires-clause-known
 try_value-did-requires-clause-known c = same_known c.args.w.now.vars.now c.loop-y.w.vars.now c.args.w.now.store.now.sets

@@ -20,7 +20,8 @@ pub overlaps-requires-clause-live : goal.overlaps-requires-clause-live
 overlaps-requires-clause-live c = c.requires.live
 
 pub min-r-requires-clause-there : goal.min-r-requires-clause-there
-min-r-requires-clause-there c = has_among c.args.w.now.vars.now c.args.a.now.reg c.args.w.now.store.now.sets c.requires.of_a.of_reg c.requires.known
+min-r-requires-clause-there c = has_among c.args.w.now.vars.now c.args.a.now.reg c.args.w.now.store.now.sets c.requires.of_a.of_reg
+    c.requires.known
 
 pub min-r-requires-clause-some : goal.min-r-requires-clause-some
 min-r-requires-clause-some c = c.requires.live c.args.a.now.reg.0

@@ -15,13 +15,16 @@ pub keep_clash-first-requires-clause-live : goal.keep_clash-first-requires-claus
 keep_clash-first-requires-clause-live c = c.requires.live
 
 pub keep_clash-requires-clause-of_a : goal.keep_clash-requires-clause-of_a
-keep_clash-requires-clause-of_a c = same_temp c.args.w.now.vars.now c.keep_clash-first.new.w.vars.now c.args.b.now (ap (λ r. r.now) c.keep_clash-first.ensures.vars) c.requires.of_b
+keep_clash-requires-clause-of_a c = same_temp c.args.w.now.vars.now c.keep_clash-first.new.w.vars.now c.args.b.now
+    (ap (λ r. r.now) c.keep_clash-first.ensures.vars) c.requires.of_b
 
 pub keep_clash-requires-clause-of_b : goal.keep_clash-requires-clause-of_b
-keep_clash-requires-clause-of_b c = same_temp c.args.w.now.vars.now c.keep_clash-first.new.w.vars.now c.args.a.now (ap (λ r. r.now) c.keep_clash-first.ensures.vars) c.requires.of_a
+keep_clash-requires-clause-of_b c = same_temp c.args.w.now.vars.now c.keep_clash-first.new.w.vars.now c.args.a.now
+    (ap (λ r. r.now) c.keep_clash-first.ensures.vars) c.requires.of_a
 
 pub keep_clash-requires-clause-known : goal.keep_clash-requires-clause-known
-keep_clash-requires-clause-known c = same_known c.args.w.now.vars.now c.keep_clash-first.new.w.vars.now c.args.w.now.store.now.sets c.keep_clash-first.new.w.store.now.sets
+keep_clash-requires-clause-known c = same_known c.args.w.now.vars.now c.keep_clash-first.new.w.vars.now c.args.w.now.store.now.sets
+    c.keep_clash-first.new.w.store.now.sets
     (ap (λ r. r.now) c.keep_clash-first.ensures.vars) c.keep_clash-first.ensures.step.long c.requires.known
 
 pub keep_clash-requires-clause-live : goal.keep_clash-requires-clause-live

@@ -68,7 +68,8 @@ pub keep_off-second-requires-clause-live : goal.keep_off-second-requires-clause-
 keep_off-second-requires-clause-live c = c.keep_register-first.ensures.step.live c.requires.live
 
 pub keep_off-second-requires-clause-of_call : goal.keep_off-second-requires-clause-of_call
-keep_off-second-requires-clause-of_call c = subst (λ (us : List VarId). CallVars us c.args.c.now) (sym (ap (λ r. r.now) c.keep_register-first.ensures.vars))
+keep_off-second-requires-clause-of_call c = subst (λ (us : List VarId). CallVars us c.args.c.now)
+    (sym (ap (λ r. r.now) c.keep_register-first.ensures.vars))
     c.requires.of_call
 
 pub keep_cycle-third-requires-clause-of_temp : goal.keep_cycle-third-requires-clause-of_temp
@@ -84,18 +85,23 @@ pub keep_cycle-third-requires-clause-live : goal.keep_cycle-third-requires-claus
 keep_cycle-third-requires-clause-live c = c.keep_off-second.ensures.step.live (c.keep_register-first.ensures.step.live c.requires.live)
 
 pub keep_cycle-third-requires-clause-of_call : goal.keep_cycle-third-requires-clause-of_call
-keep_cycle-third-requires-clause-of_call c = subst (λ (us : List VarId). CallVars us c.args.c.now) (sym (ap (λ r. r.now) (c.keep_off-second.ensures.vars ∙ c.keep_register-first.ensures.vars)))
+keep_cycle-third-requires-clause-of_call c = subst (λ (us : List VarId). CallVars us c.args.c.now)
+    (sym (ap (λ r. r.now) (c.keep_off-second.ensures.vars ∙ c.keep_register-first.ensures.vars)))
     c.requires.of_call
 
 pub keep_readers-requires-clause-of_temp : goal.keep_readers-requires-clause-of_temp
 keep_readers-requires-clause-of_temp c = same_temp c.args.w.now.vars.now c.keep_cycle-third.new.w.vars.now c.args.a.now
-    (ap (λ r. r.now) (c.keep_cycle-third.ensures.vars ∙ (c.keep_off-second.ensures.vars ∙ c.keep_register-first.ensures.vars))) c.requires.of_temp
+    (ap (λ r. r.now) (c.keep_cycle-third.ensures.vars ∙ (c.keep_off-second.ensures.vars ∙ c.keep_register-first.ensures.vars)))
+    c.requires.of_temp
 
 pub keep_readers-requires-clause-known : goal.keep_readers-requires-clause-known
 keep_readers-requires-clause-known c = same_known c.args.w.now.vars.now c.keep_cycle-third.new.w.vars.now c.args.w.now.store.now.sets
-    c.keep_cycle-third.new.w.store.now.sets (ap (λ r. r.now) (c.keep_cycle-third.ensures.vars ∙ (c.keep_off-second.ensures.vars ∙ c.keep_register-first.ensures.vars)))
-    (c.keep_cycle-third.ensures.step.long ∙ (c.keep_off-second.ensures.step.long ∙ c.keep_register-first.ensures.step.long)) c.requires.known
+    c.keep_cycle-third.new.w.store.now.sets (ap (λ r. r.now)
+    (c.keep_cycle-third.ensures.vars ∙ (c.keep_off-second.ensures.vars ∙ c.keep_register-first.ensures.vars)))
+    (c.keep_cycle-third.ensures.step.long ∙ (c.keep_off-second.ensures.step.long ∙ c.keep_register-first.ensures.step.long))
+    c.requires.known
 
 pub keep_readers-requires-clause-of_call : goal.keep_readers-requires-clause-of_call
-keep_readers-requires-clause-of_call c = subst (λ (us : List VarId). CallVars us c.args.c.now) (sym (ap (λ r. r.now) (c.keep_cycle-third.ensures.vars ∙ (c.keep_off-second.ensures.vars ∙ c.keep_register-first.ensures.vars))))
+keep_readers-requires-clause-of_call c = subst (λ (us : List VarId). CallVars us c.args.c.now)
+    (sym (ap (λ r. r.now) (c.keep_cycle-third.ensures.vars ∙ (c.keep_off-second.ensures.vars ∙ c.keep_register-first.ensures.vars))))
     c.requires.of_call

@@ -60,7 +60,8 @@ keep_one-did-requires-clause-survives c = c.loop-c.invariant.survives
 
 pub loop-c-init : goal.loop-c-init
 loop-c-init c = record {
-  step = stepped_same c.args.w.now.vars.now (each_place (entry_cut (call_steps c.args.mask c.args.a.now) c.args.calls.now) 0) c.args.w.now.store.now
+  step = stepped_same c.args.w.now.vars.now (each_place (entry_cut (call_steps c.args.mask c.args.a.now) c.args.calls.now) 0)
+      c.args.w.now.store.now
       c.args.before (λ live. refl);
   survives = λ going. c.survives-survives.ensures;
   same_reference = refl;

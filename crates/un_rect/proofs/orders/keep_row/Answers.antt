@@ -62,7 +62,8 @@ keep_orders-did-requires-clause-live c = c.loop-i.invariant.step.live c.requires
 
 pub loop-i-init : goal.loop-i-init
 loop-i-init c = record {
-  step = stepped_same c.args.w.now.vars.now (each_before order_pair c.args.temps.now c.args.b.now 0) c.args.w.now.store.now c.args.before (λ live. refl);
+  step = stepped_same c.args.w.now.vars.now (each_before order_pair c.args.temps.now c.args.b.now 0) c.args.w.now.store.now
+      c.args.before (λ live. refl);
   same_reference = refl;
   vars = refl;
 }
@@ -71,5 +72,6 @@ pub returns-clause-step : goal.returns-clause-step
 returns-clause-step c =
     let vs = c.args.w.now.vars.now in
     let end : c.loop-i.i ≡ c.args.n = omega (arith, c.loop-i-test.false, c.loop-i.auto.i-end) in
-    subst (λ (k : ℕ). Stepped vs (each_before order_pair c.args.temps.now c.args.b.now k) c.args.w.now.store.now c.loop-i.w.store.now c.args.before c.loop-i.did) end
+    subst (λ (k : ℕ). Stepped vs (each_before order_pair c.args.temps.now c.args.b.now k) c.args.w.now.store.now c.loop-i.w.store.now
+    c.args.before c.loop-i.did) end
     c.loop-i.invariant.step

@@ -86,7 +86,8 @@ returns-clause-step g c =
     (λ live. sym (try_last vs yes_to_all (alike vs) s.sets v q c.loop-y.y high)) c.loop-y.invariant.step
 
 pub keep_value-did-requires-clause-lent : goal.keep_value-did-requires-clause-lent
-keep_value-did-requires-clause-lent g c = same_among c.args.w.now.vars.now c.loop-y.w.vars.now c.args.v (ap (λ r. r.now) c.loop-y.invariant.vars) c.requires.lent
+keep_value-did-requires-clause-lent g c = same_among c.args.w.now.vars.now c.loop-y.w.vars.now c.args.v
+    (ap (λ r. r.now) c.loop-y.invariant.vars) c.requires.lent
 
 pub keep_value-did-requires-clause-known : goal.keep_value-did-requires-clause-known
 keep_value-did-requires-clause-known g c = same_known c.args.w.now.vars.now c.loop-y.w.vars.now c.args.w.now.store.now.sets

@@ -61,7 +61,8 @@ pub count_in-number-requires-clause-live : goal.count_in-number-requires-clause-
 count_in-number-requires-clause-live c = c.requires.live (going c.args.before c.if-eq.ensures)
 
 pub clear_item-did-requires-clause-known : goal.clear_item-did-requires-clause-known
-clear_item-did-requires-clause-known c = same_known c.args.w.now.vars.now c.loop-k.w.vars.now c.args.w.now.store.now.sets c.loop-k.w.store.now.sets
+clear_item-did-requires-clause-known c = same_known c.args.w.now.vars.now c.loop-k.w.vars.now c.args.w.now.store.now.sets
+    c.loop-k.w.store.now.sets
     (ap (λ r. r.now) c.loop-k.invariant.vars) c.loop-k.invariant.step.long c.requires.known
 
 pub clear_item-did-requires-clause-live : goal.clear_item-did-requires-clause-live

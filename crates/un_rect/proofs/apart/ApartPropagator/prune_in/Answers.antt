@@ -56,7 +56,8 @@ returns-clause-prune c =
     checked p.vars p.vars (apart_cut p.vars p.temps) old new c.check_all.result refl c.requires.live all.goes
 
 pub keep_all-first-requires-clause-known : goal.keep_all-first-requires-clause-known
-keep_all-first-requires-clause-known c = same_known c.args.self.now.vars c.args.w.now.vars.now c.args.w.now.store.now.sets c.args.w.now.store.now.sets c.requires.vars refl
+keep_all-first-requires-clause-known c = same_known c.args.self.now.vars c.args.w.now.vars.now c.args.w.now.store.now.sets
+    c.args.w.now.store.now.sets c.requires.vars refl
     c.requires.known
 
 pub keep_all-first-requires-clause-live : goal.keep_all-first-requires-clause-live

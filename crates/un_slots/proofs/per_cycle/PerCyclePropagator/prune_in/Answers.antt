@@ -71,21 +71,24 @@ returns-clause-prune c =
     (goes_chain p.vars (per_cycle_steps p.vars p.items p.horizon) (last_cut p.vars t) old clear new Same did c.check_last.result step last)
 
 pub keep_items-kept-requires-clause-known : goal.keep_items-kept-requires-clause-known
-keep_items-kept-requires-clause-known c = same_known c.args.self.now.vars c.args.w.now.vars.now c.args.w.now.store.now.sets c.args.w.now.store.now.sets c.requires.vars refl
+keep_items-kept-requires-clause-known c = same_known c.args.self.now.vars c.args.w.now.vars.now c.args.w.now.store.now.sets
+    c.args.w.now.store.now.sets c.requires.vars refl
     c.requires.known
 
 pub keep_items-kept-requires-clause-live : goal.keep_items-kept-requires-clause-live
 keep_items-kept-requires-clause-live c = c.requires.live
 
 pub keep_crowds-crowds-requires-clause-known : goal.keep_crowds-crowds-requires-clause-known
-keep_crowds-crowds-requires-clause-known c = same_known c.args.self.now.vars c.keep_items-kept.new.w.vars.now c.args.w.now.store.now.sets c.keep_items-kept.new.w.store.now.sets
+keep_crowds-crowds-requires-clause-known c = same_known c.args.self.now.vars c.keep_items-kept.new.w.vars.now
+    c.args.w.now.store.now.sets c.keep_items-kept.new.w.store.now.sets
     (ap (λ r. r.now) c.keep_items-kept.ensures.vars ∙ c.requires.vars) c.keep_items-kept.ensures.step.long c.requires.known
 
 pub keep_crowds-crowds-requires-clause-live : goal.keep_crowds-crowds-requires-clause-live
 keep_crowds-crowds-requires-clause-live c = c.keep_items-kept.ensures.step.live (λ going. c.requires.live)
 
 pub keep_fulls-did-requires-clause-known : goal.keep_fulls-did-requires-clause-known
-keep_fulls-did-requires-clause-known c = same_known c.args.self.now.vars c.keep_crowds-crowds.new.w.vars.now c.args.w.now.store.now.sets c.keep_crowds-crowds.new.w.store.now.sets
+keep_fulls-did-requires-clause-known c = same_known c.args.self.now.vars c.keep_crowds-crowds.new.w.vars.now c.args.w.now.store.now.sets
+    c.keep_crowds-crowds.new.w.store.now.sets
     (ap (λ r. r.now) c.keep_crowds-crowds.ensures.vars ∙ (ap (λ r. r.now) c.keep_items-kept.ensures.vars ∙ c.requires.vars))
     (c.keep_crowds-crowds.ensures.step.long ∙ c.keep_items-kept.ensures.step.long) c.requires.known
 
