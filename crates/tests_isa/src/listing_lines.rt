@@ -51,6 +51,16 @@ static BAD: [&[u8]; 18] = [
     b"{ r0 = r1; r2 = r1; r3 = r1; r4 = r1; r5 = r1 }\n",
 ];
 
+/// Lines, and the frames that they are read as.
+static FRAMES: [(&[u8], Option<u32>); 6] = [
+    (b"frame 0\n", Some(0)),
+    (b"frame 256\n", Some(256)),
+    (b"frame 264\n", None),
+    (b"frame 12\n", None),
+    (b"frame 08\n", None),
+    (b"frame 8", None),
+];
+
 /// Whether the line spells something.
 fn is_read(alloc: Global, line: &[u8]) -> bool {
     match read_line(alloc, 8, line) {
@@ -59,29 +69,29 @@ fn is_read(alloc: Global, line: &[u8]) -> bool {
     }
 }
 
-/// The place of the first line that is not answered so.
-fn first_other(alloc: Global, lines: &[&[u8]], answer: bool) -> Option<usize> {
-    lines.iter().position(|line| is_read(alloc, line) != answer)
+/// Whether each line is answered so.
+fn all_answer(alloc: Global, lines: &[&[u8]], answer: bool) -> bool {
+    for line in lines {
+        if is_read(alloc, line) != answer {
+            return false;
+        }
+    }
+    true
+}
+
+/// Whether each frame is read.
+fn frames_are_read() -> bool {
+    for (line, frame) in FRAMES.iter() {
+        if read_frame(line) != *frame {
+            return false;
+        }
+    }
+    true
 }
 
 #[test]
-fn reads_lines_of_code(rt: HostRuntime) {
-    let other = first_other(rt.alloc(), &GOOD, true);
-    assert!(rt; other.is_none(), "{other:?}");
-}
-
-#[test]
-fn refuses_other_lines(rt: HostRuntime) {
-    let other = first_other(rt.alloc(), &BAD, false);
-    assert!(rt; other.is_none(), "{other:?}");
-}
-
-#[test]
-fn reads_frames(rt: HostRuntime) {
-    assert!(rt; read_frame(b"frame 0\n") == Some(0));
-    assert!(rt; read_frame(b"frame 256\n") == Some(256));
-    assert!(rt; read_frame(b"frame 264\n").is_none());
-    assert!(rt; read_frame(b"frame 12\n").is_none());
-    assert!(rt; read_frame(b"frame 08\n").is_none());
-    assert!(rt; read_frame(b"frame 8").is_none());
+fn reads_lines(rt: HostRuntime) {
+    let good = all_answer(rt.alloc(), &GOOD, true);
+    let bad = all_answer(rt.alloc(), &BAD, false);
+    assert!(rt; good && bad && frames_are_read());
 }

@@ -4,7 +4,7 @@ ghost use Rattle.std.specs.Prelude.{◌≡◌, ℕ, List, IfOk, true};
 ghost use Rattle.std.specs.List.{list_all};
 ghost use Rattle.un_isa.specs.Starts.{is_reply};
 
-use std::alloc::{AllocError, Global};
+use std::alloc::Global;
 use un_base::memory_error::NoMemory;
 use un_isa::memory::Memory;
 use un_isa::outcome::{CallRecord, End, Outcome};
@@ -13,27 +13,26 @@ use un_isa::start::{Reply, Start};
 use un_isa::table::hexagon;
 use un_listing::read::read_code;
 use un_lists::items::Items;
+use un_packet::code::Code;
 use un_packet::run::run_packets;
 
 /// How a run is to end: with a result at byte 100, by a trap, or at a call with these arguments.
-#[derive(Clone, Copy)]
-enum Want {
+pub(crate) enum Want {
     Returned(u32),
     Trapped,
     Waiting(&'static [u32]),
 }
 
-/// A listing with a start: r0, r1, r2 and r16, memory, and whether calls have replies, and what: then how its run ends, the memory
+/// A start: r0, r1, r2 and r16, memory, and whether calls have replies, and what: then how a run ends, the memory
 /// and the arguments of the calls, and the cycles.
-struct Case {
-    listing: &'static [u8],
-    regs: [u32; 4],
-    memory: &'static [(u32, u32)],
-    reply: Option<u32>,
-    want: Want,
-    after: &'static [(u32, u32)],
-    calls: &'static [&'static [u32]],
-    cycles: u64,
+pub(crate) struct Case {
+    pub(crate) regs: [u32; 4],
+    pub(crate) memory: &'static [(u32, u32)],
+    pub(crate) reply: Option<u32>,
+    pub(crate) want: Want,
+    pub(crate) after: &'static [(u32, u32)],
+    pub(crate) calls: &'static [&'static [u32]],
+    pub(crate) cycles: u64,
 }
 
 const EXCHANGE: &[u8] =
@@ -58,114 +57,122 @@ const SPILLED: &[u8] =
 
 const WORDS: [(u32, u32); 4] = [(256, 3), (260, 4), (272, 5), (276, 6)];
 
-static CASES: [Case; 9] = [
-    Case {
-        listing: EXCHANGE,
-        regs: [5, 9, 0, 44],
-        memory: &[],
-        reply: Some(0),
-        want: Want::Returned(0),
-        after: &[],
-        calls: &[&[9, 5]],
-        cycles: 4,
-    },
-    Case {
-        listing: CALL,
-        regs: [5, 0, 0, 0],
-        memory: &[],
-        reply: Some(7),
-        want: Want::Returned(12),
-        after: &[],
-        calls: &[&[5]],
-        cycles: 5,
-    },
-    Case {
-        listing: CALL,
-        regs: [5, 0, 0, 0],
-        memory: &[],
-        reply: None,
-        want: Want::Waiting(&[5]),
-        after: &[],
-        calls: &[],
-        cycles: 2,
-    },
-    Case {
-        listing: DOT,
-        regs: [256, 272, 2, 0],
-        memory: &WORDS,
-        reply: None,
-        want: Want::Returned(39),
-        after: &WORDS,
-        calls: &[],
-        cycles: 12,
-    },
-    Case {
-        listing: TRAP,
-        regs: [256, 258, 9, 0],
-        memory: &[(256, 17)],
-        reply: None,
-        want: Want::Trapped,
-        after: &[(256, 17)],
-        calls: &[],
-        cycles: 0,
-    },
-    Case {
-        listing: TOGETHER,
-        regs: [256, 0, 9, 0],
-        memory: &[(256, 17)],
-        reply: None,
-        want: Want::Returned(17),
-        after: &[(256, 9)],
-        calls: &[],
-        cycles: 3,
-    },
-    Case {
-        listing: PREDICATE,
-        regs: [5, 9, 0, 0],
-        memory: &[],
-        reply: Some(0),
-        want: Want::Returned(9),
-        after: &[],
-        calls: &[&[5]],
-        cycles: 26,
-    },
-    Case {
-        listing: PREDICATE,
-        regs: [9, 9, 0, 0],
-        memory: &[],
-        reply: Some(0),
-        want: Want::Returned(9),
-        after: &[],
-        calls: &[&[9]],
-        cycles: 26,
-    },
-    Case {
-        listing: SPILLED,
-        regs: [256, 0, 2, 0],
-        memory: &WORDS,
-        reply: None,
-        want: Want::Returned(7),
-        after: &WORDS,
-        calls: &[],
-        cycles: 13,
-    },
+/// Listings, and their runs.
+static CASES: [(&[u8], Case); 9] = [
+    (
+        EXCHANGE,
+        Case {
+            regs: [5, 9, 0, 44],
+            memory: &[],
+            reply: Some(0),
+            want: Want::Returned(0),
+            after: &[],
+            calls: &[&[9, 5]],
+            cycles: 4,
+        },
+    ),
+    (
+        CALL,
+        Case {
+            regs: [5, 0, 0, 0],
+            memory: &[],
+            reply: Some(7),
+            want: Want::Returned(12),
+            after: &[],
+            calls: &[&[5]],
+            cycles: 5,
+        },
+    ),
+    (
+        CALL,
+        Case {
+            regs: [5, 0, 0, 0],
+            memory: &[],
+            reply: None,
+            want: Want::Waiting(&[5]),
+            after: &[],
+            calls: &[],
+            cycles: 2,
+        },
+    ),
+    (
+        DOT,
+        Case {
+            regs: [256, 272, 2, 0],
+            memory: &WORDS,
+            reply: None,
+            want: Want::Returned(39),
+            after: &WORDS,
+            calls: &[],
+            cycles: 12,
+        },
+    ),
+    (
+        TRAP,
+        Case {
+            regs: [256, 258, 9, 0],
+            memory: &[(256, 17)],
+            reply: None,
+            want: Want::Trapped,
+            after: &[(256, 17)],
+            calls: &[],
+            cycles: 0,
+        },
+    ),
+    (
+        TOGETHER,
+        Case {
+            regs: [256, 0, 9, 0],
+            memory: &[(256, 17)],
+            reply: None,
+            want: Want::Returned(17),
+            after: &[(256, 9)],
+            calls: &[],
+            cycles: 3,
+        },
+    ),
+    (
+        PREDICATE,
+        Case {
+            regs: [5, 9, 0, 0],
+            memory: &[],
+            reply: Some(0),
+            want: Want::Returned(9),
+            after: &[],
+            calls: &[&[5]],
+            cycles: 26,
+        },
+    ),
+    (
+        PREDICATE,
+        Case {
+            regs: [9, 9, 0, 0],
+            memory: &[],
+            reply: Some(0),
+            want: Want::Returned(9),
+            after: &[],
+            calls: &[&[9]],
+            cycles: 26,
+        },
+    ),
+    (
+        SPILLED,
+        Case {
+            regs: [256, 0, 2, 0],
+            memory: &WORDS,
+            reply: None,
+            want: Want::Returned(7),
+            after: &WORDS,
+            calls: &[],
+            cycles: 13,
+        },
+    ),
 ];
-
-/// The words of memory.
-fn words(alloc: Global, pairs: &[(u32, u32)]) -> Result<Vec<(u32, u32)>, AllocError> {
-    let mut words = Vec::new(alloc);
-    for pair in pairs {
-        words.push(*pair)?;
-    }
-    Ok(words)
-}
 
 /// The memory of these words.
 fn memory_of(alloc: Global, pairs: &[(u32, u32)]) -> Result<Memory, NoMemory> {
-    match Memory::new(words(alloc, pairs)?) {
-        Some(memory) => Ok(memory),
-        None => Err(NoMemory),
-    }
+    let words = pairs.to_vec(alloc)?;
+    Memory::new(words).ok_or(NoMemory)
 }
 
 /// A reply that changes no memory and leaves no junk.
@@ -210,57 +217,65 @@ fn start_of(alloc: Global, case: &Case) -> Result<Start, NoMemory> {
 }
 
 /// Whether a run ended so.
-fn ended(end: &End, want: Want) -> bool {
+fn ended(end: &End, want: &Want) -> bool {
     match (end, want) {
         (End::Returned { result, target }, Want::Returned(n)) => {
-            *result == Some(n) && *target == Some(100)
+            *result == Some(*n) && *target == Some(100)
         }
         (End::Trapped, Want::Trapped) => true,
-        (End::Waiting(call), Want::Waiting(args)) => call.args.as_slice() == args,
+        (End::Waiting(call), Want::Waiting(args)) => call.args.as_slice() == *args,
         _ => false,
     }
 }
 
 /// Whether the calls had these arguments.
 fn called(calls: &[CallRecord], args: &[&[u32]]) -> bool {
-    calls.len() == args.len()
-        && calls
-            .iter()
-            .zip(args.iter())
-            .all(|(a, b)| a.args.as_slice() == *b)
+    if calls.len() != args.len() {
+        return false;
+    }
+    for i in 0..calls.len() {
+        if calls[i].args.as_slice() != args[i] {
+            return false;
+        }
+    }
+    true
 }
 
 /// Whether a run came to what is wanted.
 fn came_to(outcome: &Outcome, case: &Case) -> bool {
-    ended(&outcome.end, case.want)
+    ended(&outcome.end, &case.want)
         && outcome.memory.words() == case.after
         && outcome.cycles == Some(case.cycles)
         && called(outcome.calls.as_slice(), case.calls)
 }
 
-/// Whether a listing is read, and its run comes to what is wanted.
-fn runs(alloc: Global, case: &Case) -> Result<bool, NoMemory> {
-    let Ok(code) = read_code(alloc, case.listing) else {
-        return Ok(false);
-    };
+/// Whether a run of code comes to what is wanted.
+pub(crate) fn runs_to(alloc: Global, code: &Code, case: &Case) -> Result<bool, NoMemory> {
     let start = start_of(alloc, case)?;
-    let outcome = run_packets(alloc, &code, &hexagon(), &start, 10)?;
+    let outcome = run_packets(alloc, code, &hexagon(), &start, 10)?;
     Ok(came_to(&outcome, case))
 }
 
-/// The number of the first case that does not run so, where there is one.
-fn first_wrong(alloc: Global) -> Result<Option<usize>, NoMemory> {
-    for (n, case) in CASES.iter().enumerate() {
-        if !runs(alloc, case)? {
-            return Ok(Some(n));
+/// Whether a listing is read, and its run comes to what is wanted.
+fn runs(alloc: Global, listing: &[u8], case: &Case) -> Result<bool, NoMemory> {
+    match read_code(alloc, listing) {
+        Ok(code) => runs_to(alloc, &code, case),
+        Err(_) => Ok(false),
+    }
+}
+
+/// Whether each listing does so.
+fn all_run(alloc: Global) -> Result<bool, NoMemory> {
+    for (listing, case) in CASES.iter() {
+        if !runs(alloc, listing, case)? {
+            return Ok(false);
         }
     }
-    Ok(None)
+    Ok(true)
 }
 
 #[test]
-fn listings_run(rt: HostRuntime) -> Result<(), std::test::Fail> {
-    let wrong = first_wrong(rt.alloc())?;
-    assert!(rt; wrong.is_none());
-    Ok(())
+fn listings_run(rt: HostRuntime) {
+    let well = matches!(all_run(rt.alloc()), Ok(true));
+    assert!(rt; well);
 }

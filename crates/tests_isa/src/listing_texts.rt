@@ -3,6 +3,7 @@
 use std::alloc::Global;
 use un_listing::print::print_code;
 use un_listing::read::{ListingError, read_code};
+use un_packet::code::Code;
 
 /// Texts and the first bad line, 0 where there is none.
 static TEXTS: [(&[u8], u32); 21] = [
@@ -41,22 +42,35 @@ static TEXTS: [(&[u8], u32); 21] = [
     (b"frame 0\nblock e\n{ r0 = r1; jumpr r31 }\n\n", 4),
 ];
 
+/// 0 where code is printed as a text, and another number where it is not.
+fn printed_as(alloc: Global, code: &Code, text: &[u8]) -> u32 {
+    match print_code(alloc, code) {
+        Ok(printed) => { if printed.as_slice() == text { 0 } else { 98 } }
+        Err(_) => 97,
+    }
+}
+
 /// The first bad line of a text, 0 where it is the listing of what is read, and another number where neither is so.
 fn answer(alloc: Global, text: &[u8]) -> u32 {
     match read_code(alloc, text) {
-        Ok(code) => match print_code(alloc, &code) {
-            Ok(printed) => { if printed.as_slice() == text { 0 } else { 98 } }
-            Err(_) => 97,
-        },
+        Ok(code) => printed_as(alloc, &code, text),
         Err(ListingError::NoMemory) => 99,
         Err(ListingError::BadListing { line }) => line,
     }
 }
 
+/// Whether each text has its answer.
+fn all_answer(alloc: Global) -> bool {
+    for (text, line) in TEXTS.iter() {
+        if answer(alloc, text) != *line {
+            return false;
+        }
+    }
+    true
+}
+
 #[test]
 fn texts_have_their_answers(rt: HostRuntime) {
-    let other = TEXTS
-        .iter()
-        .position(|(text, line)| answer(rt.alloc(), text) != *line);
-    assert!(rt; other.is_none());
+    let well = all_answer(rt.alloc());
+    assert!(rt; well);
 }

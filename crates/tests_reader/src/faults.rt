@@ -1,8 +1,7 @@
 //! Texts with the answers that the input language gives them.
 
 use crate::outside::{FIRST, SECOND, THIRD};
-use std::alloc::Global;
-use std::test::Fail;
+use std::alloc::{AllocError, Global};
 use un_reader::error::ReadError;
 use un_reader::read::read_function;
 
@@ -340,19 +339,29 @@ fn fault(alloc: Global, text: &[u8]) -> (u32, u8) {
     }
 }
 
-/// The place of the first text whose fault is another.
-fn first_other(alloc: Global, texts: &[(&[u8], u32, u8)]) -> Option<usize> {
-    texts
-        .iter()
-        .position(|(text, line, code)| fault(alloc, text) != (*line, *code))
+/// Whether each text has its fault.
+fn all_are_found(alloc: Global, texts: &[(&[u8], u32, u8)]) -> bool {
+    for (text, line, code) in texts {
+        if fault(alloc, text) != (*line, *code) {
+            return false;
+        }
+    }
+    true
+}
+
+/// Writes the text with a third line in place of what stood there.
+fn put_third(text: &mut Vec<u8>, line: &[u8]) -> Result<(), AllocError> {
+    text.clear();
+    text.extend_from_slice(b"func f %a %b\nblock e freq 1\n")?;
+    text.extend_from_slice(line)?;
+    text.extend_from_slice(b"\nret\n")
 }
 
 /// Whether each third line has its fault.
-fn third_lines_have_their_faults(alloc: Global) -> Result<bool, Fail> {
+fn third_lines_have_their_faults(alloc: Global) -> Result<bool, AllocError> {
+    let mut text = Vec::new(alloc);
     for (line, code) in THIRD_LINES.iter() {
-        let mut text = Vec::from_slice(alloc, b"func f %a %b\nblock e freq 1\n")?;
-        text.extend_from_slice(line)?;
-        text.extend_from_slice(b"\nret\n")?;
+        put_third(&mut text, line)?;
         let at = if *code == 0 { 0 } else { 3 };
         if fault(alloc, text.as_slice()) != (at, *code) {
             return Ok(false);
@@ -361,19 +370,25 @@ fn third_lines_have_their_faults(alloc: Global) -> Result<bool, Fail> {
     Ok(true)
 }
 
-/// The text that is meant.
-fn text_of(alloc: Global, r: &Repeated) -> Result<String, Fail> {
-    let mut text = String::from_str(alloc, r.head)?;
+/// Writes the lines that are repeated.
+fn put_lines(alloc: Global, text: &mut String, r: &Repeated) -> Result<(), AllocError> {
     for i in 0..r.count {
         let next = format!(in alloc; "{}{i} {}\n", r.line, r.after)?;
         text.push_str(next.as_str())?;
     }
+    Ok(())
+}
+
+/// The text that is meant.
+fn text_of(alloc: Global, r: &Repeated) -> Result<String, AllocError> {
+    let mut text = String::from_str(alloc, r.head)?;
+    put_lines(alloc, &mut text, r)?;
     text.push_str(r.end)?;
     Ok(text)
 }
 
 /// Whether each text at a limit has its fault.
-fn limits_are_kept(alloc: Global) -> Result<bool, Fail> {
+fn limits_are_kept(alloc: Global) -> Result<bool, AllocError> {
     for (r, line, code) in LIMITS.iter() {
         let text = text_of(alloc, r)?;
         if fault(alloc, text.as_str().as_bytes()) != (*line, *code) {
@@ -383,53 +398,46 @@ fn limits_are_kept(alloc: Global) -> Result<bool, Fail> {
     Ok(true)
 }
 
-/// Whether a text may have 65,536 bytes and no more.
-fn bytes_are_counted(alloc: Global) -> Result<bool, Fail> {
-    let mut text = Vec::from_slice(alloc, b"func f\nblock e freq 1\nret\n")?;
+/// Whether a text that is filled with line feeds may have 65,536 bytes and no more.
+fn is_full(alloc: Global, text: &mut Vec<u8>) -> Result<bool, AllocError> {
     text.resize(65536, b'\n')?;
     let whole = fault(alloc, text.as_slice());
-    text.push(b'\n')?;
+    text.extend_from_slice(b"\n")?;
     Ok(whole == (0, 0) && fault(alloc, text.as_slice()) == (0, 13))
 }
 
+/// Whether bytes are counted.
+fn bytes_are_counted(alloc: Global) -> Result<bool, AllocError> {
+    let mut text = Vec::from_slice(alloc, b"func f\nblock e freq 1\nret\n")?;
+    is_full(alloc, &mut text)
+}
+
+/// Whether each text that is put together has its fault.
+fn made_texts_have_their_faults(alloc: Global) -> Result<bool, AllocError> {
+    Ok(
+        third_lines_have_their_faults(alloc)?
+            && limits_are_kept(alloc)?
+            && bytes_are_counted(alloc)?,
+    )
+}
+
+/// Whether each text that is given has its fault.
+fn given_texts_have_their_faults(alloc: Global) -> bool {
+    all_are_found(alloc, &TEXTS)
+        && all_are_found(alloc, &PAIRS)
+        && all_are_found(alloc, &FIRST)
+        && all_are_found(alloc, &SECOND)
+        && all_are_found(alloc, &THIRD)
+}
+
 #[test]
-fn finds_faults_of_a_third_line(rt: HostRuntime) -> Result<(), Fail> {
-    let well = third_lines_have_their_faults(rt.alloc())?;
+fn finds_faults_of_given_texts(rt: HostRuntime) {
+    let well = given_texts_have_their_faults(rt.alloc());
     assert!(rt; well);
-    Ok(())
 }
 
 #[test]
-fn finds_faults_of_texts(rt: HostRuntime) {
-    let other = first_other(rt.alloc(), &TEXTS);
-    assert!(rt; other.is_none(), "{other:?}");
-}
-
-#[test]
-fn finds_the_first_of_two_faults(rt: HostRuntime) {
-    let other = first_other(rt.alloc(), &PAIRS);
-    assert!(rt; other.is_none(), "{other:?}");
-}
-
-#[test]
-fn finds_faults_as_another_reading_does(rt: HostRuntime) {
-    let first = first_other(rt.alloc(), &FIRST);
-    let second = first_other(rt.alloc(), &SECOND);
-    let third = first_other(rt.alloc(), &THIRD);
-    let well = first.is_none() && second.is_none() && third.is_none();
+fn finds_faults_of_made_texts(rt: HostRuntime) {
+    let well = matches!(made_texts_have_their_faults(rt.alloc()), Ok(true));
     assert!(rt; well);
-}
-
-#[test]
-fn keeps_the_limits(rt: HostRuntime) -> Result<(), Fail> {
-    let well = limits_are_kept(rt.alloc())?;
-    assert!(rt; well);
-    Ok(())
-}
-
-#[test]
-fn keeps_the_limit_of_bytes(rt: HostRuntime) -> Result<(), Fail> {
-    let well = bytes_are_counted(rt.alloc())?;
-    assert!(rt; well);
-    Ok(())
 }

@@ -1,7 +1,8 @@
 -- A new store has a value of each variable.
-use Rattle.std.proofs.Common.{ℕ, ◌≡◌, ◌<◌, ◌≤◌, ◌+◌, ◌-◌, List, [], length, map, All, IfOk, Ok, Err, sym, ap, subst, arith}
+use Rattle.std.proofs.Common.{ℕ, ◌≡◌, ◌<◌, ◌≤◌, ◌+◌, ◌-◌, List, [], ◌∷◌, length, map, All, IfOk, Ok, Err, sym, ap, subst, arith}
 use Rattle.std.specs.declared.result.Result.{Result}
 use Rattle.std.proofs.lemmas.List.{get_or-map, length-map}
+use Rattle.std.proofs.lemmas.List.Elements.{All-cons, All-nil}
 use Rattle.std.proofs.lemmas.List.FromFn.{length-range_with_len, get_or-range_with_len}
 use Rattle.un_domains.specs.declared.domain.Domain.{Domain}
 use Rattle.un_domains.specs.declared.domain.Domain.TheVariants.{Range}
@@ -20,6 +21,9 @@ pub new_full : {E : Type 0} (ds : List Domain) (d : Domain) → All IsDomain ds 
     (λ s. s.sets ≡ map values_of ds) → IfOk r (λ s. NoneEmpty s.sets)
 new_full ds d all (Ok s) h = full ds d all s.sets h
 new_full ds d all (Err e) h = h
+
+pub each_of_two : (a b : Domain) → IsDomain a → IsDomain b → All IsDomain (a ∷ b ∷ [])
+each_of_two a b x y = All-cons IsDomain a (b ∷ []) x (All-cons IsDomain b [] y (All-nil IsDomain))
 
 -- a range that has a value is a domain
 pub range_is : (lo hi : ℕ) → lo ≤ hi → hi < 10000 → IsDomain (Range lo hi)

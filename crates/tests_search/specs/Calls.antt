@@ -1,6 +1,5 @@
 -- A temporary and two calls, of tests.
-use Rattle.std.specs.Prelude.{Bool, true, List, [], ◌∷◌, None, Some}
-use Rattle.un_base.specs.declared.ids.VarId.{VarId}
+use Rattle.std.specs.Prelude.{true, List, [], ◌∷◌, None, Some}
 use Rattle.un_prop.specs.declared.act.Act.TheVariants.{Always, Var as ActVar}
 use Rattle.un_prop.specs.declared.act.At.TheVariants.{Var}
 use Rattle.un_prop.specs.declared.act.UserOf.{UserOf}

@@ -1,6 +1,5 @@
 -- The temporaries of tests.
 use Rattle.std.specs.Prelude.{List, [], ◌∷◌, None, Some}
-use Rattle.un_base.specs.declared.ids.VarId.{VarId}
 use Rattle.un_prop.specs.declared.act.Act.TheVariants.{Always, Var as ActVar}
 use Rattle.un_prop.specs.declared.act.At.TheVariants.{Const, Var}
 use Rattle.un_prop.specs.declared.act.UserOf.{UserOf}
@@ -42,14 +41,7 @@ slot_users =
 abbrev pub reload_users : List UserOf
 reload_users = record { on = Always; at = Var (record { 0 = 9 }); choice = Some (record { 0 = 10 }); value = 2 } ∷ []
 
--- the value and its slot
-abbrev pub saved_temps : List Temp
-saved_temps =
-    record { on = Always; at = Var (record { 0 = 0 }); reg = record { 0 = 1 }; users = value_users }
-    ∷ record { on = ActVar (record { 0 = 2 }); at = Var (record { 0 = 3 }); reg = record { 0 = 4 }; users = slot_users }
-    ∷ []
-
--- these, what is reloaded, and another from 4 to 7
+-- the value, its slot, what is reloaded, and another from 4 to 7
 abbrev pub four_temps : List Temp
 four_temps =
     record { on = Always; at = Var (record { 0 = 0 }); reg = record { 0 = 1 }; users = value_users }

@@ -1,376 +1,94 @@
 //! Stores before and after the propagators of operands and of calls prune them.
 
-ghost use Rattle.std.specs.Prelude.{◌≡◌, IfOk, [], ◌∷◌};
+ghost use Rattle.std.specs.Prelude.{◌≡◌, IfOk, [], ◌∷◌, true};
 ghost use Rattle.tests_search.specs.Calls.{copy_user, choosing_user, only_user, two_calls};
 
-use crate::prunes::{Case, prunes_all, variables};
+use crate::build::{alone, both, list_of};
+use crate::prunes::{prunes_all, variables};
 use std::alloc::{AllocError, Global};
-use std::test::Fail;
 use un_base::ids::VarId;
+use un_base::memory_error::NoMemory;
 use un_lists::items::Items;
 use un_prop::act::{Act, At, Temp, UserOf};
-use un_prop::propagator::Pruned;
 use un_rect::clobber::{Clobber, ClobberCall};
 use un_rect::operands::Operands;
 
 /// Sets of the place and the registers of an operand that may have 1, 2 and 3, and of one that may have 2, 3 and 4.
-static OPERANDS: [Case; 9] = [
-    // Both have 2, whatever they choose.
-    Case {
-        before: &[&[0, 1], &[2], &[2], &[0, 1], &[2], &[2, 7]],
-        answer: Pruned::Failed,
-        after: &[],
-    },
-    // The first has 2, so the second has not.
-    Case {
-        before: &[&[0, 1], &[2], &[2], &[0], &[2, 3, 4], &[9]],
-        answer: Pruned::Tighter,
-        after: &[&[0, 1], &[2], &[2], &[0], &[3, 4], &[9]],
-    },
-    // The second has 2, so the first has not.
-    Case {
-        before: &[&[1], &[9], &[1, 2, 3], &[0, 1], &[2], &[0, 2]],
-        answer: Pruned::Tighter,
-        after: &[&[1], &[9], &[1, 3], &[0, 1], &[2], &[0, 2]],
-    },
-    // What has no register of its set is not chosen.
-    Case {
-        before: &[&[0], &[1, 2], &[9], &[0, 1], &[5, 6], &[3, 4]],
-        answer: Pruned::Tighter,
-        after: &[&[0], &[1, 2], &[9], &[1], &[5, 6], &[3, 4]],
-    },
-    // Nor is what has the other's register alone.
-    Case {
-        before: &[&[0, 1], &[3], &[1, 2], &[1], &[9], &[3]],
-        answer: Pruned::Tighter,
-        after: &[&[1], &[3], &[1, 2], &[1], &[9], &[3]],
-    },
-    // What is chosen has registers of its set.
-    Case {
-        before: &[&[0], &[0, 1, 2], &[9], &[0], &[2, 3, 8], &[9]],
-        answer: Pruned::Tighter,
-        after: &[&[0], &[1, 2], &[9], &[0], &[2, 3], &[9]],
-    },
-    Case {
-        before: &[&[0], &[1, 2], &[9], &[0], &[2, 3], &[9]],
-        answer: Pruned::Same,
-        after: &[&[0], &[1, 2], &[9], &[0], &[2, 3], &[9]],
-    },
-    Case {
-        before: &[&[1], &[9], &[2], &[0], &[4], &[9]],
-        answer: Pruned::Same,
-        after: &[&[1], &[9], &[2], &[0], &[4], &[9]],
-    },
-    // There is no third register to choose.
-    Case {
-        before: &[&[2], &[1], &[1], &[0], &[4], &[4]],
-        answer: Pruned::Failed,
-        after: &[],
-    },
-];
+static OPERANDS: &[u8] = b"# Both have 2, whatever they choose.
+0,1 2 2 0,1 2 2,7 > failed
+# The first has 2, so the second has not.
+0,1 2 2 0 2,3,4 9 > 0,1 2 2 0 3,4 9
+# The second has 2, so the first has not.
+1 9 1,2,3 0,1 2 0,2 > 1 9 1,3 0,1 2 0,2
+# What has no register of its set is not chosen.
+0 1,2 9 0,1 5,6 3,4 > 0 1,2 9 1 5,6 3,4
+# Nor is what has the other's register alone.
+0,1 3 1,2 1 9 3 > 1 3 1,2 1 9 3
+# What is chosen has registers of its set.
+0 0,1,2 9 0 2,3,8 9 > 0 1,2 9 0 2,3 9
+0 1,2 9 0 2,3 9 > same
+1 9 2 0 4 9 > same
+# There is no third register to choose.
+2 1 1 0 4 4 > failed
+";
 
 /// Sets of: the time, activity and register of a temporary, where calls take the registers 0 to 7; the instruction and time of
 /// its copy; the time and place of a user that may choose it; the times of two calls, which are after it, the first before the
 /// copy and the second before that user; the time of a user that reads it.
-static CLOBBER: [Case; 12] = [
-    // The first call is at 4, when the temporary surely has its register.
-    Case {
-        before: &[
-            &[1, 2],
-            &[1],
-            &[3, 16],
-            &[0],
-            &[0],
-            &[9],
-            &[0],
-            &[4],
-            &[20],
-            &[6, 7],
-        ],
-        answer: Pruned::Tighter,
-        after: &[
-            &[1, 2],
-            &[1],
-            &[16],
-            &[0],
-            &[0],
-            &[9],
-            &[0],
-            &[4],
-            &[20],
-            &[6, 7],
-        ],
-    },
-    // So is the second.
-    Case {
-        before: &[
-            &[1, 2],
-            &[1],
-            &[3, 16],
-            &[0],
-            &[0],
-            &[9],
-            &[0],
-            &[20],
-            &[4],
-            &[6, 7],
-        ],
-        answer: Pruned::Tighter,
-        after: &[
-            &[1, 2],
-            &[1],
-            &[16],
-            &[0],
-            &[0],
-            &[9],
-            &[0],
-            &[20],
-            &[4],
-            &[6, 7],
-        ],
-    },
-    // It has no other register.
-    Case {
-        before: &[
-            &[1, 2],
-            &[1],
-            &[3, 5],
-            &[0],
-            &[0],
-            &[9],
-            &[0],
-            &[3, 4, 5],
-            &[20],
-            &[6, 7],
-        ],
-        answer: Pruned::Failed,
-        after: &[],
-    },
-    // The call is before it or after it.
-    Case {
-        before: &[
-            &[1, 2],
-            &[1],
-            &[3, 5],
-            &[0],
-            &[0],
-            &[9],
-            &[0],
-            &[1, 2, 5, 6, 8],
-            &[20],
-            &[6, 7],
-        ],
-        answer: Pruned::Tighter,
-        after: &[
-            &[1, 2],
-            &[1],
-            &[3, 5],
-            &[0],
-            &[0],
-            &[9],
-            &[0],
-            &[1, 6, 8],
-            &[20],
-            &[6, 7],
-        ],
-    },
-    // The copy reads it behind the first call, whatever the times.
-    Case {
-        before: &[
-            &[1, 2],
-            &[1],
-            &[3, 16],
-            &[2],
-            &[8, 9],
-            &[9],
-            &[0],
-            &[3, 20],
-            &[30],
-            &[2],
-        ],
-        answer: Pruned::Tighter,
-        after: &[
-            &[1, 2],
-            &[1],
-            &[16],
-            &[2],
-            &[8, 9],
-            &[9],
-            &[0],
-            &[3, 20],
-            &[30],
-            &[2],
-        ],
-    },
-    // The user that has chosen it reads it behind the second.
-    Case {
-        before: &[
-            &[1, 2],
-            &[1],
-            &[3, 16],
-            &[0],
-            &[0],
-            &[8, 9],
-            &[1],
-            &[30],
-            &[3, 20],
-            &[2],
-        ],
-        answer: Pruned::Tighter,
-        after: &[
-            &[1, 2],
-            &[1],
-            &[16],
-            &[0],
-            &[0],
-            &[8, 9],
-            &[1],
-            &[30],
-            &[3, 20],
-            &[2],
-        ],
-    },
-    // What does not survive the second call is not chosen behind it.
-    Case {
-        before: &[
-            &[1, 2],
-            &[1],
-            &[3, 5],
-            &[0],
-            &[0],
-            &[8, 9],
-            &[0, 1],
-            &[30],
-            &[3, 20],
-            &[2],
-        ],
-        answer: Pruned::Tighter,
-        after: &[
-            &[1, 2],
-            &[1],
-            &[3, 5],
-            &[0],
-            &[0],
-            &[8, 9],
-            &[0],
-            &[30],
-            &[3, 20],
-            &[2],
-        ],
-    },
-    // Where it is read behind a call and has no other register, it is inactive.
-    Case {
-        before: &[
-            &[0, 2],
-            &[0, 1],
-            &[0, 3],
-            &[2],
-            &[8, 9],
-            &[9],
-            &[0],
-            &[3, 20],
-            &[30],
-            &[2],
-        ],
-        answer: Pruned::Tighter,
-        after: &[
-            &[0, 2],
-            &[0],
-            &[0, 3],
-            &[2],
-            &[8, 9],
-            &[9],
-            &[0],
-            &[3, 20],
-            &[30],
-            &[2],
-        ],
-    },
-    // Each call may be before it or after it.
-    Case {
-        before: &[
-            &[1, 2],
-            &[1],
-            &[3, 16],
-            &[0],
-            &[0],
-            &[9],
-            &[0],
-            &[5, 6],
-            &[1, 9],
-            &[6, 7],
-        ],
-        answer: Pruned::Same,
-        after: &[
-            &[1, 2],
-            &[1],
-            &[3, 16],
-            &[0],
-            &[0],
-            &[9],
-            &[0],
-            &[5, 6],
-            &[1, 9],
-            &[6, 7],
-        ],
-    },
-    // It ends by the call.
-    Case {
-        before: &[
-            &[2],
-            &[1],
-            &[3],
-            &[0],
-            &[0],
-            &[9],
-            &[0],
-            &[4],
-            &[20],
-            &[3, 4, 5],
-        ],
-        answer: Pruned::Tighter,
-        after: &[
-            &[2],
-            &[1],
-            &[3],
-            &[0],
-            &[0],
-            &[9],
-            &[0],
-            &[4],
-            &[20],
-            &[3, 4],
-        ],
-    },
-    Case {
-        before: &[&[2], &[1], &[3], &[0], &[0], &[9], &[0], &[1], &[5], &[6]],
-        answer: Pruned::Failed,
-        after: &[],
-    },
-    // An inactive temporary has no register.
-    Case {
-        before: &[&[0], &[0], &[0], &[0], &[0], &[9], &[0], &[4], &[5], &[6]],
-        answer: Pruned::Same,
-        after: &[&[0], &[0], &[0], &[0], &[0], &[9], &[0], &[4], &[5], &[6]],
-    },
-];
+static CLOBBER: &[u8] = b"# The first call is at 4, when the temporary surely has its register.
+1,2 1 3,16 0 0 9 0 4 20 6,7 > 1,2 1 16 0 0 9 0 4 20 6,7
+# So is the second.
+1,2 1 3,16 0 0 9 0 20 4 6,7 > 1,2 1 16 0 0 9 0 20 4 6,7
+# It has no other register.
+1,2 1 3,5 0 0 9 0 3,4,5 20 6,7 > failed
+# The call is before it or after it.
+1,2 1 3,5 0 0 9 0 1,2,5,6,8 20 6,7 > 1,2 1 3,5 0 0 9 0 1,6,8 20 6,7
+# The copy reads it behind the first call, whatever the times.
+1,2 1 3,16 2 8,9 9 0 3,20 30 2 > 1,2 1 16 2 8,9 9 0 3,20 30 2
+# The user that has chosen it reads it behind the second.
+1,2 1 3,16 0 0 8,9 1 30 3,20 2 > 1,2 1 16 0 0 8,9 1 30 3,20 2
+# What does not survive the second call is not chosen behind it.
+1,2 1 3,5 0 0 8,9 0,1 30 3,20 2 > 1,2 1 3,5 0 0 8,9 0 30 3,20 2
+# Where it is read behind a call and has no other register, it is inactive.
+0,2 0,1 0,3 2 8,9 9 0 3,20 30 2 > 0,2 0 0,3 2 8,9 9 0 3,20 30 2
+# Each call may be before it or after it.
+1,2 1 3,16 0 0 9 0 5,6 1,9 6,7 > same
+# It ends by the call.
+2 1 3 0 0 9 0 4 20 3,4,5 > 2 1 3 0 0 9 0 4 20 3,4
+2 1 3 0 0 9 0 1 5 6 > failed
+# An inactive temporary has no register.
+0 0 0 0 0 9 0 4 5 6 > same
+";
 
-/// The propagator of `OPERANDS`.
-fn operands(alloc: Global) -> Result<Operands, AllocError> {
+/// Two registers of an operand, and the set of which it has them.
+fn operand(
+    alloc: Global,
+    first: u32,
+    second: u32,
+    set: &[u32],
+) -> Result<(Items<VarId>, Items<u32>), AllocError>
+    ensures { IfOk result (λ o. o ≡ (record { 0 = first } ∷ record { 0 = second } ∷ [], set.now)) }
+{
+    let regs = both(alloc, VarId(first), VarId(second))?;
+    let set = list_of(alloc, set)?;
+    Ok((regs, set))
+}
+
+/// Whether operands prune as was worked out.
+fn operands_prune(alloc: Global) -> Result<bool, NoMemory> {
     let vars = variables(alloc, 6)?;
-    let first_regs = [VarId(1), VarId(2)].to_vec(alloc)?;
-    let first_set = [1, 2, 3].to_vec(alloc)?;
-    let second_regs = [VarId(4), VarId(5)].to_vec(alloc)?;
-    let second_set = [2, 3, 4].to_vec(alloc)?;
-    Ok(Operands {
+    let (first_regs, first_set) = operand(alloc, 1, 2, &[1, 2, 3])?;
+    let (second_regs, second_set) = operand(alloc, 4, 5, &[2, 3, 4])?;
+    let p = Operands {
         first: VarId(0),
-        first_regs: Items::from_vec(first_regs),
-        first_set: Items::from_vec(first_set),
+        first_regs,
+        first_set,
         second: VarId(3),
-        second_regs: Items::from_vec(second_regs),
-        second_set: Items::from_vec(second_set),
+        second_regs,
+        second_set,
         vars,
-    })
+    };
+    prunes_all(alloc, p, OPERANDS)
 }
 
 /// A copy of the temporary.
@@ -401,76 +119,63 @@ fn choosing_user() -> UserOf
 fn users(alloc: Global) -> Result<Items<UserOf>, AllocError>
     ensures { IfOk result (λ us. us ≡ copy_user ∷ choosing_user ∷ only_user ∷ []) }
 {
-    let mut users = Items::new(alloc);
-    users.push(copy_user())?;
-    users.push(choosing_user())?;
-    users.push(UserOf {
+    let only = UserOf {
         on: Act::Always,
         at: At::Var(VarId(9)),
         choice: None,
         value: 0,
-    })?;
-    Ok(users)
+    };
+    list_of(alloc, &[copy_user(), choosing_user(), only])
 }
 
-/// A list of one user.
-fn alone(alloc: Global, user: UserOf) -> Result<Items<UserOf>, AllocError>
-    ensures { IfOk result (λ us. us ≡ user ∷ []) }
+/// A call that is after the temporary and before a user.
+fn call(alloc: Global, at: u32, user: UserOf) -> Result<ClobberCall, AllocError>
+    ensures { IfOk result (λ c. c ≡ record { at = record { 0 = at }; before = true; behind = user ∷ [] }) }
 {
-    let mut users = Items::new(alloc);
-    users.push(user)?;
-    Ok(users)
+    let behind = alone(alloc, user)?;
+    Ok(ClobberCall {
+        at: VarId(at),
+        before: true,
+        behind,
+    })
 }
 
 /// The calls.
 fn calls(alloc: Global) -> Result<Items<ClobberCall>, AllocError>
     ensures { IfOk result (λ cs. cs ≡ two_calls) }
 {
-    let mut calls = Items::new(alloc);
-    let behind = alone(alloc, copy_user())?;
-    calls.push(ClobberCall {
-        at: VarId(7),
-        before: true,
-        behind,
-    })?;
-    let behind = alone(alloc, choosing_user())?;
-    calls.push(ClobberCall {
-        at: VarId(8),
-        before: true,
-        behind,
-    })?;
-    Ok(calls)
+    let first = call(alloc, 7, copy_user())?;
+    let second = call(alloc, 8, choosing_user())?;
+    both(alloc, first, second)
 }
 
-/// The propagator of `CLOBBER`.
-fn clobber(alloc: Global) -> Result<Clobber, AllocError> {
+/// Whether calls prune as was worked out.
+fn clobber_prunes(alloc: Global) -> Result<bool, NoMemory> {
     let vars = variables(alloc, 10)?;
-    let calls = calls(alloc)?;
     let users = users(alloc)?;
+    let calls = calls(alloc)?;
     let temp = Temp {
         on: Act::Var(VarId(1)),
         at: At::Var(VarId(0)),
         reg: VarId(2),
         users,
     };
-    Ok(Clobber {
+    let p = Clobber {
         calls,
         temp,
         mask: 0xFF,
         vars,
-    })
+    };
+    prunes_all(alloc, p, CLOBBER)
+}
+
+/// Whether operands and calls do so.
+fn operands_and_calls_prune(alloc: Global) -> Result<bool, NoMemory> {
+    Ok(operands_prune(alloc)? && clobber_prunes(alloc)?)
 }
 
 #[test]
-fn operands_prune_as_was_worked_out(rt: HostRuntime) -> Result<(), Fail> {
-    let p = operands(rt.alloc())?;
-    assert!(rt; prunes_all(rt.alloc(), &p, &OPERANDS)?);
-    Ok(())
-}
-
-#[test]
-fn clobber_prunes_as_was_worked_out(rt: HostRuntime) -> Result<(), Fail> {
-    let p = clobber(rt.alloc())?;
-    assert!(rt; prunes_all(rt.alloc(), &p, &CLOBBER)?);
-    Ok(())
+fn operands_and_calls_prune_as_was_worked_out(rt: HostRuntime) {
+    let well = matches!(operands_and_calls_prune(rt.alloc()), Ok(true));
+    assert!(rt; well);
 }

@@ -1,12 +1,11 @@
 //! What each cut of a small store answers and leaves.
 
-ghost use Rattle.std.specs.Prelude.{◌≡◌, ◌<◌, length, All, IfOk, MatchOption, ⊤};
+ghost use Rattle.std.specs.Prelude.{◌≡◌, ◌<◌, length, IfOk, MatchOption, ⊤};
 ghost use Rattle.un_domains.specs.Domains.{IsDomain};
 ghost use Rattle.un_domains.specs.Sets.{set_at, NoneEmpty};
 
-use crate::build::listed;
+use crate::build::{listed, store_of_two};
 use std::alloc::{AllocError, Global};
-use std::test::Fail;
 use un_base::ids::VarId;
 use un_base::memory_error::NoMemory;
 use un_domains::cut::Cut;
@@ -322,28 +321,6 @@ fn domain_of(alloc: Global, values: &Values) -> Result<Option<Domain>, AllocErro
     }
 }
 
-/// The domain of two values, and another.
-fn two_domains(alloc: Global, domain: Domain) -> Result<Vec<Domain>, AllocError>
-    requires { IsDomain domain }
-    ensures long { IfOk result (λ v. length v.items ≡ 2) }
-    ensures each { IfOk result (λ v. All IsDomain v.items) }
-{
-    let mut domains = Vec::new(alloc);
-    domains.push(Domain::Range { lo: 3, hi: 4 })?;
-    domains.push(domain)?;
-    Ok(domains)
-}
-
-/// The store of a variable with a domain, after one of two values.
-fn store_with(alloc: Global, domain: Domain) -> Result<Store, NoMemory>
-    requires { IsDomain domain }
-    ensures long { IfOk result (λ s. length s.sets ≡ 2) }
-    ensures live { IfOk result (λ s. NoneEmpty s.sets) }
-{
-    let domains = two_domains(alloc, domain)?;
-    Store::new(alloc, domains)
-}
-
 /// Cuts the second variable.
 fn cut(store: &mut Store, kept: &Kept) -> Cut
     requires long { length store.old.sets ≡ 2 }
@@ -395,28 +372,41 @@ fn has_runs(store: &Store, v: VarId, runs: &[(u32, u32)]) -> bool
 fn is_left(store: &Store, runs: &[(u32, u32)]) -> bool
     requires { length store.now.sets ≡ 2 }
 {
-    if !has_runs(store, VarId(0), &[(3, 4)]) {
-        return false;
-    }
-    has_runs(store, VarId(1), runs)
+    has_runs(store, VarId(0), &[(3, 4)]) && has_runs(store, VarId(1), runs)
 }
 
-/// Whether a cut answers and leaves what a case says.
+/// Whether a cut of a store answers and leaves what a case says.
+fn cuts(store: &mut Store, case: &Case) -> bool
+    requires long { length store.old.sets ≡ 2 }
+    requires live { NoneEmpty store.old.sets }
+{
+    cut(store, &case.kept) == case.answer && is_left(store, case.left)
+}
+
+/// Whether a cut answers and leaves what a case says. A variable with two values stands before the one that is cut.
 fn is_cut(alloc: Global, case: &Case) -> Result<bool, NoMemory> {
     match domain_of(alloc, &case.first)? {
         None => Ok(false),
         Some(domain) => {
-            let mut store = store_with(alloc, domain)?;
-            let answer = cut(&mut store, &case.kept);
-            Ok(answer == case.answer && is_left(&store, case.left))
+            let two = Domain::Range { lo: 3, hi: 4 };
+            let mut store = store_of_two(alloc, two, domain)?;
+            Ok(cuts(&mut store, case))
         }
     }
 }
 
-#[test]
-fn cuts_leave_what_was_worked_out(rt: HostRuntime) -> Result<(), Fail> {
+/// Whether each cut does so.
+fn all_cut(alloc: Global) -> Result<bool, NoMemory> {
     for case in CASES.iter() {
-        assert!(rt; is_cut(rt.alloc(), case)?);
+        if !is_cut(alloc, case)? {
+            return Ok(false);
+        }
     }
-    Ok(())
+    Ok(true)
+}
+
+#[test]
+fn cuts_leave_what_was_worked_out(rt: HostRuntime) {
+    let well = matches!(all_cut(rt.alloc()), Ok(true));
+    assert!(rt; well);
 }
