@@ -222,50 +222,34 @@ fn relaxed_is(
     Ok(relaxed(alloc, &m, v, most)? == Some(answer))
 }
 
-#[test]
-fn bounds_a_dot_product(rt: HostRuntime) -> Result<(), Fail> {
-    assert!(rt; bound_is(rt.alloc(), DOT, 502)?);
-    Ok(())
+/// Whether the bound of each function is what was worked out.
+fn bounds_are(alloc: Global) -> Result<bool, Fail> {
+    Ok(
+        bound_is(alloc, DOT, 502)?
+            && bound_is(alloc, FULL, 4)?
+            && bound_is(alloc, LOADS, 18)?
+            && bound_is(alloc, CALL, 2)?
+            && bound_is(alloc, EXCHANGE, 1)?,
+    )
 }
 
 #[test]
-fn bounds_a_full_packet(rt: HostRuntime) -> Result<(), Fail> {
-    assert!(rt; bound_is(rt.alloc(), FULL, 4)?);
+fn bounds_functions(rt: HostRuntime) -> Result<(), Fail> {
+    assert!(rt; bounds_are(rt.alloc())?);
     Ok(())
 }
 
-#[test]
-fn bounds_sixteen_loads(rt: HostRuntime) -> Result<(), Fail> {
-    assert!(rt; bound_is(rt.alloc(), LOADS, 18)?);
-    Ok(())
+/// Whether the relaxation of functions costs what was worked out, and has no member where an end is too early.
+fn relaxations_are(alloc: Global) -> Result<bool, Fail> {
+    Ok(
+        relaxed_is(alloc, DOT, 1, 6, RelaxAnswer::Least(502))?
+            && relaxed_is(alloc, FULL, 0, 9999, RelaxAnswer::Least(4))?
+            && relaxed_is(alloc, DOT, 1, 5, RelaxAnswer::Empty)?,
+    )
 }
 
 #[test]
-fn bounds_a_call(rt: HostRuntime) -> Result<(), Fail> {
-    assert!(rt; bound_is(rt.alloc(), CALL, 2)?);
-    Ok(())
-}
-
-#[test]
-fn bounds_an_exchange(rt: HostRuntime) -> Result<(), Fail> {
-    assert!(rt; bound_is(rt.alloc(), EXCHANGE, 1)?);
-    Ok(())
-}
-
-#[test]
-fn relaxes_a_dot_product(rt: HostRuntime) -> Result<(), Fail> {
-    assert!(rt; relaxed_is(rt.alloc(), DOT, 1, 6, RelaxAnswer::Least(502))?);
-    Ok(())
-}
-
-#[test]
-fn relaxes_a_full_packet(rt: HostRuntime) -> Result<(), Fail> {
-    assert!(rt; relaxed_is(rt.alloc(), FULL, 0, 9999, RelaxAnswer::Least(4))?);
-    Ok(())
-}
-
-#[test]
-fn finds_that_an_end_is_too_early(rt: HostRuntime) -> Result<(), Fail> {
-    assert!(rt; relaxed_is(rt.alloc(), DOT, 1, 5, RelaxAnswer::Empty)?);
+fn relaxes_functions(rt: HostRuntime) -> Result<(), Fail> {
+    assert!(rt; relaxations_are(rt.alloc())?);
     Ok(())
 }

@@ -1,16 +1,16 @@
 //! Which precedences a block has, worked out by hand.
 
-use crate::tests::model_of;
+use crate::tests::{model_of, numbers};
 use std::alloc::Global;
 use std::test::Fail;
 use un_base::ids::BlockId;
 use un_model::model::{Arc, Model};
 
-/// A function, a block of it by its number, and the precedences there: the earlier operation, the later one and the gap.
+/// A function, a block of it by its number, and the precedences there, a line each: the earlier operation, the later one and the gap.
 struct Ordered {
     function: &'static [u8],
     block: u32,
-    arcs: &'static [(u32, u32, u32)],
+    arcs: &'static [u8],
 }
 
 /// A dot product's loop: both loads feed the product and that the sum; the loads are free among themselves.
@@ -31,24 +31,22 @@ static DOT: Ordered = Ordered {
         block exit freq 1\n\
           ret %s",
     block: 1,
-    arcs: &[
-        (38, 44, 1),
-        (38, 47, 1),
-        (44, 51, 2),
-        (47, 51, 2),
-        (38, 55, 1),
-        (51, 55, 2),
-        (38, 58, 1),
-        (38, 61, 1),
-        (38, 64, 1),
-        (64, 67, 1),
-        (67, 72, 1),
-        (38, 77, 1),
-        (55, 77, 1),
-        (58, 77, 1),
-        (61, 77, 1),
-        (64, 77, 1),
-    ],
+    arcs: b"38 44 1
+38 47 1
+44 51 2
+47 51 2
+38 55 1
+51 55 2
+38 58 1
+38 61 1
+38 64 1
+64 67 1
+67 72 1
+38 77 1
+55 77 1
+58 77 1
+61 77 1
+64 77 1",
 };
 
 /// A Load, a Store, a Load, a Call and a Store: by data and by memory the larger gap counts.
@@ -62,66 +60,67 @@ static MEMORY: Ordered = Ordered {
           store %a, #12, %y\n\
           ret",
     block: 0,
-    arcs: &[
-        (0, 17, 1),
-        (0, 21, 1),
-        (17, 21, 2),
-        (0, 23, 1),
-        (21, 23, 1),
-        (17, 26, 1),
-        (21, 26, 1),
-        (23, 26, 2),
-        (0, 29, 1),
-        (17, 29, 0),
-        (21, 29, 1),
-        (23, 29, 2),
-        (26, 29, 1),
-        (0, 32, 1),
-        (0, 45, 1),
-    ],
+    arcs: b"0 17 1
+0 21 1
+17 21 2
+0 23 1
+21 23 1
+17 26 1
+21 26 1
+23 26 2
+0 29 1
+17 29 0
+21 29 1
+23 29 2
+26 29 1
+0 32 1
+0 45 1",
 };
 
 /// A call's result that one operation reads twice.
 static TWICE: Ordered = Ordered {
     function: b"func twice\nblock e freq 1\n  %r = call g\n  %s = add %r, %r\n  ret %s",
     block: 0,
-    arcs: &[(15, 19, 1), (0, 23, 1), (0, 37, 1), (19, 37, 1)],
+    arcs: b"15 19 1
+0 23 1
+0 37 1
+19 37 1",
 };
 
-/// Whether an arc is between these operations and asks for this gap.
-fn is_arc(arc: &Arc, (from, to, gap): (u32, u32, u32)) -> bool {
-    arc.from.0 == from && arc.to.0 == to && arc.gap == gap
+/// Whether arcs are these: for each the earlier operation, the later one and the gap.
+fn are(found: &[Arc], numbers: &[u32]) -> bool {
+    if numbers.len() / 3 != found.len() {
+        return false;
+    }
+    for k in 0..numbers.len() / 3 {
+        let arc = &found[k];
+        let gap = (arc.from.0, arc.to.0, arc.gap);
+        if gap != (numbers[3 * k], numbers[3 * k + 1], numbers[3 * k + 2]) {
+            return false;
+        }
+    }
+    true
 }
 
 /// Whether the arcs of a block are these.
-fn has_arcs(m: &Model, block: u32, arcs: &[(u32, u32, u32)]) -> bool {
-    if block as usize >= m.arcs.len() {
-        return false;
-    }
-    let found = m.arcs(BlockId(block));
-    found.len() == arcs.len() && found.iter().zip(arcs).all(|(a, b)| is_arc(a, *b))
+fn has_arcs(m: &Model, block: u32, numbers: &[u32]) -> bool {
+    (block as usize) < m.arcs.len() && are(m.arcs(BlockId(block)), numbers)
 }
 
 /// Whether the block of a function has the precedences that stand there.
 fn is_ordered(alloc: Global, ordered: &Ordered) -> Result<bool, Fail> {
+    let arcs = numbers(alloc, ordered.arcs)?;
     let m = model_of(alloc, ordered.function)?;
-    Ok(has_arcs(&m, ordered.block, ordered.arcs))
+    Ok(has_arcs(&m, ordered.block, arcs.as_slice()))
+}
+
+/// Whether each function has the precedences that stand there.
+fn are_ordered(alloc: Global) -> Result<bool, Fail> {
+    Ok(is_ordered(alloc, &DOT)? && is_ordered(alloc, &MEMORY)? && is_ordered(alloc, &TWICE)?)
 }
 
 #[test]
-fn orders_a_dot_product(rt: HostRuntime) -> Result<(), Fail> {
-    assert!(rt; is_ordered(rt.alloc(), &DOT)?);
-    Ok(())
-}
-
-#[test]
-fn orders_accesses_to_memory(rt: HostRuntime) -> Result<(), Fail> {
-    assert!(rt; is_ordered(rt.alloc(), &MEMORY)?);
-    Ok(())
-}
-
-#[test]
-fn orders_two_reads_once(rt: HostRuntime) -> Result<(), Fail> {
-    assert!(rt; is_ordered(rt.alloc(), &TWICE)?);
+fn orders_operations(rt: HostRuntime) -> Result<(), Fail> {
+    assert!(rt; are_ordered(rt.alloc())?);
     Ok(())
 }

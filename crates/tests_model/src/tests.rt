@@ -5,11 +5,12 @@ ghost use Rattle.un_model.specs.Variables.{IsModel};
 
 use crate::cases::{CASES, Case};
 use crate::ways::{
-    CALLING, CALLING_WAYS, FRAMELESS, FRAMELESS_WAYS, SPILLED, SPILLED_WAYS, Solved, Way,
+    CALLING, CALLING_WAYS, FRAMELESS, FRAMELESS_WAYS, SPILLED, SPILLED_WAYS, Solved,
 };
 use std::alloc::Global;
 use std::test::Fail;
 use un_base::decimal::read_decimal;
+use un_base::lines::lines;
 use un_base::memory_error::NoMemory;
 use un_lists::items::Items;
 use un_model::model::{Model, Solution};
@@ -18,12 +19,21 @@ use un_problem::problem::{default_options, model};
 use un_reader::read::read_function;
 use un_violations::violations::violations;
 
-/// The numbers of a text that blanks separate.
-fn numbers(alloc: Global, text: &str) -> Result<Items<u32>, Fail> {
+/// The number of a word, and for another word one that no test has.
+fn number(word: &[u8]) -> u32 {
+    match read_decimal(word) {
+        Some(n) => if n < 100_000 { n as u32 } else { 100_000 },
+        None => 100_000,
+    }
+}
+
+/// The numbers of a text, between spaces and at the ends of lines.
+pub(crate) fn numbers(alloc: Global, text: &[u8]) -> Result<Items<u32>, NoMemory> {
     let mut list = Items::new(alloc);
-    for word in text.split_whitespace() {
-        let n = read_decimal(word.as_bytes()).ok_or("no number")?;
-        list.push(u32::try_from(n)?)?;
+    for word in text.split(|b| *b == b' ' || *b == b'\n') {
+        if !word.is_empty() {
+            list.push(number(word))?;
+        }
     }
     Ok(list)
 }
@@ -37,23 +47,45 @@ pub(crate) fn model_of(alloc: Global, function: &[u8]) -> Result<Model, Fail>
 }
 
 /// Whether these are the broken clauses.
-fn are(found: &[Broken], clauses: &[u8]) -> bool {
-    found.len() == clauses.len() && found.iter().zip(clauses).all(|(b, n)| b.clause == *n)
+fn are(found: &[Broken], clauses: &[u32]) -> bool {
+    if found.len() != clauses.len() {
+        return false;
+    }
+    for k in 0..clauses.len() {
+        if u32::from(found[k].clause) != clauses[k] {
+            return false;
+        }
+    }
+    true
 }
 
 /// Whether values break exactly these clauses.
-fn breaks(alloc: Global, m: &Model, s: &Solution, clauses: &[u8]) -> Result<bool, NoMemory>
+fn breaks(alloc: Global, m: &Model, s: &Solution, clauses: &[u32]) -> Result<bool, NoMemory>
     requires { IsModel m.now }
 {
     let found = violations(alloc, m, s)?;
     Ok(are(found.as_slice(), clauses))
 }
 
+/// Whether these values break the clauses that a text lists.
+fn values_break(
+    alloc: Global,
+    m: &Model,
+    values: Items<u32>,
+    clauses: &[u8],
+) -> Result<bool, NoMemory>
+    requires { IsModel m.now }
+{
+    let s = Solution { values };
+    let clauses = numbers(alloc, clauses)?;
+    breaks(alloc, m, &s, clauses.as_slice())
+}
+
 /// Whether the values of a case break the clauses that stand there.
 fn case_breaks(alloc: Global, case: &Case) -> Result<bool, Fail> {
-    let m = model_of(alloc, case.function.as_bytes())?;
     let values = numbers(alloc, case.values)?;
-    Ok(breaks(alloc, &m, &Solution { values }, case.broken)?)
+    let m = model_of(alloc, case.function)?;
+    Ok(values_break(alloc, &m, values, case.broken)?)
 }
 
 /// Whether the values of each case break the clauses that stand there.
@@ -66,42 +98,51 @@ fn cases_break(alloc: Global) -> Result<bool, Fail> {
     Ok(true)
 }
 
-#[test]
-fn finds_the_clauses_that_values_break(rt: HostRuntime) -> Result<(), Fail> {
-    assert!(rt; cases_break(rt.alloc())?);
-    Ok(())
-}
-
-/// The values with others at these places.
-fn changed(values: &Items<u32>, changes: &[(usize, u32)]) -> Result<Items<u32>, NoMemory> {
+/// The values with others at the places that come before them.
+fn changed(values: &Items<u32>, changes: &[u32]) -> Result<Items<u32>, NoMemory> {
     let mut list = values.clone()?;
-    for (place, value) in changes {
-        if *place < list.len() {
-            list.set(*place, *value);
+    for k in 0..changes.len() / 2 {
+        let place = changes[2 * k] as usize;
+        if place < list.len() {
+            list.set(place, changes[2 * k + 1]);
         }
     }
     Ok(list)
 }
 
-/// Whether values with the changes of a way break the clauses that stand there.
-fn way_breaks(alloc: Global, m: &Model, values: &Items<u32>, way: &Way) -> Result<bool, NoMemory>
-    requires { IsModel m.now }
-{
-    let values = changed(values, way.changes)?;
-    breaks(alloc, m, &Solution { values }, way.broken)
-}
-
-/// Whether values with the changes of each way break the clauses that stand there.
-fn each_breaks(
+/// Whether values with these changes break the clauses that a text lists.
+fn changes_break(
     alloc: Global,
     m: &Model,
     values: &Items<u32>,
-    ways: &[Way],
+    changes: &[u8],
+    clauses: &[u8],
 ) -> Result<bool, NoMemory>
     requires { IsModel m.now }
 {
-    for way in ways {
-        if !way_breaks(alloc, m, values, way)? {
+    let changes = numbers(alloc, changes)?;
+    let values = changed(values, changes.as_slice())?;
+    values_break(alloc, m, values, clauses)
+}
+
+/// Whether a line is a comment, or values with the changes before `>` break the clauses behind it.
+fn line_breaks(alloc: Global, m: &Model, values: &Items<u32>, line: &[u8]) -> Result<bool, NoMemory>
+    requires { IsModel m.now }
+{
+    if line.starts_with(b"#") {
+        return Ok(true);
+    }
+    let mark = line.iter().position(|b| *b == b'>').unwrap_or(0);
+    let clauses = &line[mark.saturating_add(1).min(line.len())..];
+    changes_break(alloc, m, values, &line[..mark], clauses)
+}
+
+/// Whether values with the changes of each line break the clauses that stand there.
+fn each_breaks(alloc: Global, m: &Model, values: &Items<u32>, ways: &[u8]) -> Result<bool, NoMemory>
+    requires { IsModel m.now }
+{
+    for line in lines(ways) {
+        if !line_breaks(alloc, m, values, line)? {
             return Ok(false);
         }
     }
@@ -109,36 +150,38 @@ fn each_breaks(
 }
 
 /// The same for the values of a solution.
-fn ways_break(alloc: Global, solved: &Solved, ways: &[Way]) -> Result<bool, Fail> {
-    let m = model_of(alloc, solved.function)?;
+fn ways_break(alloc: Global, solved: &Solved, ways: &[u8]) -> Result<bool, Fail> {
     let values = numbers(alloc, solved.values)?;
+    let m = model_of(alloc, solved.function)?;
     Ok(each_breaks(alloc, &m, &values, ways)?)
+}
+
+/// Whether a solution with one value more breaks the first clause alone.
+fn one_more_breaks(alloc: Global, solved: &Solved) -> Result<bool, Fail> {
+    let mut values = numbers(alloc, solved.values)?;
+    values.push(0)?;
+    let m = model_of(alloc, solved.function)?;
+    Ok(values_break(alloc, &m, values, b"1")?)
 }
 
 /// Whether each way of each table breaks the clauses that stand there.
 fn all_ways_break(alloc: Global) -> Result<bool, Fail> {
-    let spilled = ways_break(alloc, &SPILLED, &SPILLED_WAYS)?;
-    let calling = ways_break(alloc, &CALLING, &CALLING_WAYS)?;
-    let frameless = ways_break(alloc, &FRAMELESS, &FRAMELESS_WAYS)?;
-    Ok(spilled && calling && frameless)
+    Ok(
+        ways_break(alloc, &SPILLED, SPILLED_WAYS)?
+            && ways_break(alloc, &CALLING, CALLING_WAYS)?
+            && ways_break(alloc, &FRAMELESS, FRAMELESS_WAYS)?
+            && one_more_breaks(alloc, &FRAMELESS)?,
+    )
+}
+
+#[test]
+fn finds_the_clauses_that_values_break(rt: HostRuntime) -> Result<(), Fail> {
+    assert!(rt; cases_break(rt.alloc())?);
+    Ok(())
 }
 
 #[test]
 fn finds_each_way_to_break_a_clause(rt: HostRuntime) -> Result<(), Fail> {
     assert!(rt; all_ways_break(rt.alloc())?);
-    Ok(())
-}
-
-/// Whether a solution with one value more breaks the first clause alone.
-fn one_more_breaks(alloc: Global, solved: &Solved) -> Result<bool, Fail> {
-    let m = model_of(alloc, solved.function)?;
-    let mut values = numbers(alloc, solved.values)?;
-    values.push(0)?;
-    Ok(breaks(alloc, &m, &Solution { values }, &[1])?)
-}
-
-#[test]
-fn counts_values(rt: HostRuntime) -> Result<(), Fail> {
-    assert!(rt; one_more_breaks(rt.alloc(), &FRAMELESS)?);
     Ok(())
 }
