@@ -1,8 +1,8 @@
 //! `run` over sources and sinks in memory.
 
-use std::alloc::Global;
-use std::test::Fail;
+use std::alloc::{AllocError, Global};
 use un_base::memory::{MemSink, MemSource};
+use un_base::memory_error::NoMemory;
 use un_base::status::Status;
 use un_base::words::Word;
 use un_top::run::run;
@@ -54,25 +54,59 @@ struct Want<'a> {
     err: &'a [u8],
 }
 
+/// Adds a word.
+fn add(words: &mut Vec<Word>, word: Word) -> Result<(), AllocError> {
+    words.push(word)?;
+    Ok(())
+}
+
 /// The words of a command line.
-fn words_of(alloc: Global, texts: &[&str]) -> Result<Vec<Word>, Fail> {
+fn words_of(alloc: Global, texts: &[&str]) -> Result<Vec<Word>, NoMemory> {
     let mut words = Vec::new(alloc);
     for text in texts {
-        words.push(Word::new(alloc, text)?)?;
+        let word = Word::new(alloc, text)?;
+        add(&mut words, word)?;
     }
     Ok(words)
 }
 
 /// The source over a text.
-fn source(alloc: Global, text: &[u8], outside: Outside) -> Result<MemSource, Fail> {
+fn source(alloc: Global, text: &[u8], outside: Outside) -> Result<MemSource, AllocError> {
     let fails = [outside.read_fails].to_vec(alloc)?;
-    Ok(MemSource::new(text.to_vec(alloc)?, outside.piece.max(1), fails))
+    let bytes = text.to_vec(alloc)?;
+    Ok(MemSource::new(bytes, outside.piece.max(1), fails))
 }
 
 /// A sink with so much room, whose call of this number fails.
-fn sink(alloc: Global, room: usize, piece: usize, fails: u64) -> Result<MemSink, Fail> {
+fn sink(alloc: Global, room: usize, piece: usize, fails: u64) -> Result<MemSink, NoMemory> {
     let fails = [fails].to_vec(alloc)?;
-    Ok(MemSink::new(alloc, room, piece.max(1), fails)?)
+    MemSink::new(alloc, room, piece.max(1), fails)
+}
+
+/// Whether a run over this source and `out` leaves what is wanted.
+fn leaves_in(
+    alloc: Global,
+    words: &[Word],
+    src: &mut MemSource,
+    out: &mut MemSink,
+    err_fails: u64,
+    want: Want<'_>,
+) -> Result<bool, NoMemory> {
+    let mut err = sink(alloc, 4096, 4096, err_fails)?;
+    let status = run(alloc, words, src, out, &mut err);
+    Ok(status == want.status && out.bytes() == want.out && err.bytes() == want.err)
+}
+
+/// Whether a run over this source leaves what is wanted.
+fn leaves_from(
+    alloc: Global,
+    words: &[Word],
+    src: &mut MemSource,
+    outside: Outside,
+    want: Want<'_>,
+) -> Result<bool, NoMemory> {
+    let mut out = sink(alloc, outside.room, outside.piece, outside.write_fails)?;
+    leaves_in(alloc, words, src, &mut out, outside.err_fails, want)
 }
 
 /// Whether a run with these words leaves what is wanted.
@@ -82,13 +116,10 @@ fn leaves(
     text: &[u8],
     outside: Outside,
     want: Want<'_>,
-) -> Result<bool, Fail> {
+) -> Result<bool, NoMemory> {
     let words = words_of(alloc, words)?;
     let mut src = source(alloc, text, outside)?;
-    let mut out = sink(alloc, outside.room, outside.piece, outside.write_fails)?;
-    let mut err = sink(alloc, 4096, 4096, outside.err_fails)?;
-    let status = run(alloc, words.as_slice(), &mut src, &mut out, &mut err);
-    Ok(status == want.status && out.bytes() == want.out && err.bytes() == want.err)
+    leaves_from(alloc, words.as_slice(), &mut src, outside, want)
 }
 
 /// What is left where the smallest function's report was written.
@@ -99,7 +130,7 @@ const DONE: Want<'static> = Want {
 };
 
 /// Whether the report of the smallest function is written, by pieces of any size and in any spelling.
-fn the_smallest_is_reported(alloc: Global) -> Result<bool, Fail> {
+fn the_smallest_is_reported(alloc: Global) -> Result<bool, NoMemory> {
     let slow = Outside { piece: 1, ..SOUND };
     Ok(
         leaves(alloc, &["alloc"], SMALLEST, SOUND, DONE)?
@@ -117,7 +148,7 @@ static WORDS: [(&[&str], u32, &[u8]); 4] = [
 ];
 
 /// Whether words that are no command are refused.
-fn words_are_refused(alloc: Global) -> Result<bool, Fail> {
+fn words_are_refused(alloc: Global) -> Result<bool, NoMemory> {
     for (words, word, line) in WORDS.iter() {
         let want = Want {
             status: Status::Usage { word: *word },
@@ -205,7 +236,7 @@ static FAULTS: [(&[u8], u32, u8, &[u8]); 14] = [
 ];
 
 /// Whether texts are refused at their first fault.
-fn texts_are_refused(alloc: Global) -> Result<bool, Fail> {
+fn texts_are_refused(alloc: Global) -> Result<bool, NoMemory> {
     for (text, line, code, err) in FAULTS.iter() {
         let want = Want {
             status: Status::TextFault {
@@ -223,7 +254,7 @@ fn texts_are_refused(alloc: Global) -> Result<bool, Fail> {
 }
 
 /// Whether a text may have 65,536 bytes and no more.
-fn long_texts_are_refused(alloc: Global) -> Result<bool, Fail> {
+fn long_texts_are_refused(alloc: Global) -> Result<bool, NoMemory> {
     let bytes = vec![in alloc; b'x'; 65537]?;
     let within = Want {
         status: Status::TextFault { line: 1, code: 2 },
@@ -243,7 +274,7 @@ fn long_texts_are_refused(alloc: Global) -> Result<bool, Fail> {
 }
 
 /// Whether each call of the source may fail: two that give bytes, and one that gives none.
-fn faults_of_reading_are_told(alloc: Global) -> Result<bool, Fail> {
+fn faults_of_reading_are_told(alloc: Global) -> Result<bool, NoMemory> {
     let want = Want {
         status: Status::ReadFault,
         out: b"",
@@ -263,7 +294,7 @@ fn faults_of_reading_are_told(alloc: Global) -> Result<bool, Fail> {
 }
 
 /// Whether each of the first calls of `out` may fail, and leaves the pieces before it.
-fn faults_of_writing_are_told(alloc: Global) -> Result<bool, Fail> {
+fn faults_of_writing_are_told(alloc: Global) -> Result<bool, NoMemory> {
     for (call, front) in REPORT.chunks(16).enumerate().take(5) {
         let outside = Outside {
             piece: 16,
@@ -284,7 +315,7 @@ fn faults_of_writing_are_told(alloc: Global) -> Result<bool, Fail> {
 }
 
 /// Whether `out` keeps what has room, and a fault of `err` changes no status.
-fn full_sinks_are_told(alloc: Global) -> Result<bool, Fail> {
+fn full_sinks_are_told(alloc: Global) -> Result<bool, NoMemory> {
     let little = Outside { room: 10, ..SOUND };
     let full = Want {
         status: Status::WriteFault,
@@ -306,68 +337,59 @@ fn full_sinks_are_told(alloc: Global) -> Result<bool, Fail> {
     )
 }
 
-/// Whether the report of a sum begins with its costs: each operand is reloaded, each result is spilled.
-fn sums_are_reported(alloc: Global) -> Result<bool, Fail> {
-    let words = words_of(alloc, &["alloc"])?;
-    let mut src = source(alloc, SUM, SOUND)?;
+/// Whether a run over a source is done, and its report begins with these costs.
+fn costs(
+    alloc: Global,
+    words: &[Word],
+    src: &mut MemSource,
+    want: &[u8],
+) -> Result<bool, NoMemory> {
     let mut out = sink(alloc, 4096, 4096, NEVER)?;
     let mut err = sink(alloc, 4096, 4096, NEVER)?;
-    let status = run(alloc, words.as_slice(), &mut src, &mut out, &mut err);
-    Ok(status == Status::Done && out.bytes().starts_with(SUM_COSTS))
+    let status = run(alloc, words, src, &mut out, &mut err);
+    Ok(status == Status::Done && out.bytes().starts_with(want))
+}
+
+/// Whether the report of a sum begins with its costs: each operand is reloaded, each result is spilled.
+fn sums_are_reported(alloc: Global) -> Result<bool, NoMemory> {
+    let words = words_of(alloc, &["alloc"])?;
+    let mut src = source(alloc, SUM, SOUND)?;
+    costs(alloc, words.as_slice(), &mut src, SUM_COSTS)
+}
+
+/// Whether functions are reported.
+fn functions_are_reported(alloc: Global) -> Result<bool, NoMemory> {
+    Ok(the_smallest_is_reported(alloc)? && sums_are_reported(alloc)?)
+}
+
+/// Whether words and texts are refused that are none.
+fn others_are_refused(alloc: Global) -> Result<bool, NoMemory> {
+    Ok(words_are_refused(alloc)? && texts_are_refused(alloc)? && long_texts_are_refused(alloc)?)
+}
+
+/// Whether faults of the outside are told.
+fn faults_are_told(alloc: Global) -> Result<bool, NoMemory> {
+    Ok(
+        faults_of_reading_are_told(alloc)?
+            && faults_of_writing_are_told(alloc)?
+            && full_sinks_are_told(alloc)?,
+    )
 }
 
 #[test]
-fn reports_the_smallest_function(rt: HostRuntime) -> Result<(), Fail> {
-    let well = the_smallest_is_reported(rt.alloc())?;
+fn reports_functions(rt: HostRuntime) {
+    let well = matches!(functions_are_reported(rt.alloc()), Ok(true));
     assert!(rt; well);
-    Ok(())
 }
 
 #[test]
-fn reports_a_sum(rt: HostRuntime) -> Result<(), Fail> {
-    let well = sums_are_reported(rt.alloc())?;
+fn refuses_words_and_texts(rt: HostRuntime) {
+    let well = matches!(others_are_refused(rt.alloc()), Ok(true));
     assert!(rt; well);
-    Ok(())
 }
 
 #[test]
-fn refuses_words(rt: HostRuntime) -> Result<(), Fail> {
-    let well = words_are_refused(rt.alloc())?;
+fn tells_faults_of_the_outside(rt: HostRuntime) {
+    let well = matches!(faults_are_told(rt.alloc()), Ok(true));
     assert!(rt; well);
-    Ok(())
-}
-
-#[test]
-fn refuses_texts(rt: HostRuntime) -> Result<(), Fail> {
-    let well = texts_are_refused(rt.alloc())?;
-    assert!(rt; well);
-    Ok(())
-}
-
-#[test]
-fn refuses_long_texts(rt: HostRuntime) -> Result<(), Fail> {
-    let well = long_texts_are_refused(rt.alloc())?;
-    assert!(rt; well);
-    Ok(())
-}
-
-#[test]
-fn tells_faults_of_reading(rt: HostRuntime) -> Result<(), Fail> {
-    let well = faults_of_reading_are_told(rt.alloc())?;
-    assert!(rt; well);
-    Ok(())
-}
-
-#[test]
-fn tells_faults_of_writing(rt: HostRuntime) -> Result<(), Fail> {
-    let well = faults_of_writing_are_told(rt.alloc())?;
-    assert!(rt; well);
-    Ok(())
-}
-
-#[test]
-fn tells_full_sinks(rt: HostRuntime) -> Result<(), Fail> {
-    let well = full_sinks_are_told(rt.alloc())?;
-    assert!(rt; well);
-    Ok(())
 }
