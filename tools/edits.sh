@@ -4,21 +4,20 @@
 # that they break; so they are tried by hand, when contracts change.
 set -eu
 top=$(cd "$(dirname "$0")/.." && pwd)
-cd "$top/crates"
+cd "$top"
 
 # An edit that is tried for now has `late` in its name; at the end it gets its own back.
 back() {
-  for edit in */must-fail/*.late.edit; do
+  for edit in "$top"/crates/*/must-fail/*.late.edit; do
     [ ! -e "$edit" ] || mv "$edit" "${edit%.late.edit}.md"
   done
 }
 trap back EXIT
 
-[ $# -gt 0 ] || set -- $(printf '%s\n' */must-fail/*.md | cut -d/ -f1 | sort -u)
+[ $# -gt 0 ] || set -- $(printf '%s\n' crates/*/must-fail/*.md | cut -d/ -f2 | sort -u)
 for name; do
-  for edit in "$name"/must-fail/*.md; do
+  for edit in "crates/$name"/must-fail/*.md; do
     [ ! -e "$edit" ] || mv "$edit" "${edit%.md}.late.edit"
   done
 done
-cd "$top"
 rt must-fail "$@"
