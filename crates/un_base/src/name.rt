@@ -7,17 +7,21 @@ ghost use Rattle.un_base.specs.Names.{is_name, is_first, is_rest};
 
 use std::marker::Model;
 
-/// A name of 1 to 32 bytes without its sigil: a letter or `_`, then letters, digits, `_` and `.`. Contracts see it as
+/// The most bytes of a name.
+pub const NAME_BYTES: usize = 32;
+
+/// A name of 1 to `NAME_BYTES` bytes without its sigil: a letter or `_`, then letters, digits, `_` and `.`. Contracts see it as
 /// the list of its bytes, and it is copied without memory.
 #[derive(Clone, Copy, Hash, PartialEq, Eq)]
 pub struct Name {
-    bytes: [u8; 32],
+    bytes: [u8; NAME_BYTES],
     len: usize,
 }
 
 impl Model for Name {
     ghost use Rattle.std.specs.Prelude.{◌≡◌, ℕ, ◌-◌, List, ◌++◌, length, take, drop, replicate, true, refl};
     ghost use Rattle.un_base.specs.Names.{is_name, is_first, is_rest};
+    ghost use Rattle.un_base.specs.declared.name.TheConstants.{NAME_BYTES};
 
     ghost Value = { List ℕ };
 
@@ -26,11 +30,11 @@ impl Model for Name {
     ghost invariant = { λ a. record {
       name : is_name (take a.len a.bytes) ≡ true;
       padded : a.bytes ≡ take a.len a.bytes ++
-          replicate (32 - a.len) 0;
+          replicate (NAME_BYTES - a.len) 0;
       long : length (take a.len a.bytes) ≡ a.len;
     } };
 
-    ghost inverse = { λ bs. record { bytes = bs ++ replicate (32 - length bs) 0; len = length bs } };
+    ghost inverse = { λ bs. record { bytes = bs ++ replicate (NAME_BYTES - length bs) 0; len = length bs } };
 
     ghost inverse_ok = { λ a h. Prim.rw (h.long, ← h.padded) refl };
 }
@@ -60,7 +64,7 @@ fn are_rest(text: &[u8]) -> bool
 fn is_name(text: &[u8]) -> bool
     ensures { result ≡ is_name text.now }
 {
-    if text.is_empty() || text.len() > 32 {
+    if text.is_empty() || text.len() > NAME_BYTES {
         return false;
     }
     if !is_first(text[0]) {
@@ -70,9 +74,9 @@ fn is_name(text: &[u8]) -> bool
 }
 
 /// The bytes, and zeros.
-fn padded(text: &[u8]) -> [u8; 32]
-    requires { length text.now ≤ 32 }
-    ensures { result ≡ text.now ++ replicate (32 - length text.now) 0 }
+fn padded(text: &[u8]) -> [u8; NAME_BYTES]
+    requires { length text.now ≤ NAME_BYTES }
+    ensures { result ≡ text.now ++ replicate (NAME_BYTES - length text.now) 0 }
 {
     let mut bytes = [0; 32];
     for (i, b) in text.iter().enumerate() {

@@ -8,6 +8,7 @@ use Rattle.std.specs.Cmp.Lexicographic.{pointwise}
 use Rattle.std.specs.Option.{option_eq}
 use Rattle.std.specs.Ordering.{int_eq}
 use Rattle.un_lists.specs.Exactness.{list_exact, list_reflexive}
+use Rattle.un_base.specs.declared.name.TheConstants.{NAME_BYTES}
 use Rattle.un_isa.specs.declared.op.Op.{Op}
 use Rattle.un_isa.specs.contracts.op.Op.{the_type}
 use Rattle.un_isa.specs.declared.reg.Reg.{Reg}
@@ -52,7 +53,7 @@ int_exact a b h = grind (arith, Decides-int_eq a b)
 int_reflexive : (a : ℤ) → int_eq a a ≡ true
 int_reflexive a = grind (arith, Decides-int_eq a a)
 
--- names: their bytes with zeros after them up to 32, and their lengths
+-- names: their bytes with zeros after them up to the most bytes of a name, and their lengths
 front : (a b pad_a pad_b : List ℕ) → a ++ pad_a ≡ b ++ pad_b → length a ≡ length b → a ≡ b
 front [] [] p q e l = refl
 front [] (y ∷ b) p q e l = absurd (omega (arith, l))
@@ -62,16 +63,16 @@ front (x ∷ a) (y ∷ b) p q e l =
     let rest = front a b p q (cc e) (omega (arith, l)) in cc
 
 abbrev pub padded_same : List ℕ → List ℕ → Bool
-padded_same a b = pointwise nat_eq (a ++ replicate (32 - length a) 0) (b ++ replicate (32 - length b) 0) && nat_eq (length a) (length b)
+padded_same a b = pointwise nat_eq (a ++ replicate (NAME_BYTES - length a) 0) (b ++ replicate (NAME_BYTES - length b) 0) && nat_eq (length a) (length b)
 
 name_exact : Identifies (List ℕ) padded_same
 name_exact a b h =
-    let parts = both (pointwise nat_eq (a ++ replicate (32 - length a) 0) (b ++ replicate (32 - length b) 0)) (nat_eq (length a) (length b))
+    let parts = both (pointwise nat_eq (a ++ replicate (NAME_BYTES - length a) 0) (b ++ replicate (NAME_BYTES - length b) 0)) (nat_eq (length a) (length b))
     h in
     front a b _ _ (list_exact nat_eq nat_exact _ _ parts.0) (nat_exact _ _ parts.1)
 
 name_reflexive : Accepts (List ℕ) padded_same
-name_reflexive a = rw (list_reflexive nat_eq nat_same (a ++ replicate (32 - length a) 0)) (nat_same (length a))
+name_reflexive a = rw (list_reflexive nat_eq nat_same (a ++ replicate (NAME_BYTES - length a) 0)) (nat_same (length a))
 
 op_exact : Identifies Op (sameb the_type)
 op_exact a b h = same_true the_type (search rules) a b h

@@ -36,12 +36,12 @@ are_words Unsigned5 = false
 are_words Offset = true
 are_words FrameOffset = true
 
-abbrev InWords : Range → ℤ → Bool → Type 0
-InWords range n false = (least range ≤ℤ n) × (n ≤ℤ greatest range)
-InWords range n true = (least range ≤ℤ n) × (n ≤ℤ greatest range) × (int_rem_euclid n (pos 4) ≡ pos 0)
+abbrev InSteps : Range → ℤ → Bool → Type 0
+InSteps range n false = (least range ≤ℤ n) × (n ≤ℤ greatest range)
+InSteps range n true = (least range ≤ℤ n) × (n ≤ℤ greatest range) × (int_rem_euclid n (pos 4) ≡ pos 0)
 
 abbrev pub InRange : Range → ℤ → Type 0
-InRange range n = InWords range n (are_words range)
+InRange range n = InSteps range n (are_words range)
 
 -- the same as a test
 abbrev pub in_range : Range → ℤ → Bool
