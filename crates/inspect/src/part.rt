@@ -21,7 +21,7 @@ use un_model::model::{Model, Options, Solution};
 use un_parts::extended::extended_text;
 use un_parts::live::live_text;
 use un_problem::problem::{default_options, extended, model};
-use un_spilled::spilled::spilled;
+use un_baseline::spilled::spilled;
 
 /// The names live at each block's start.
 fn live(alloc: Global, f: &Function) -> Result<Vec<u8>, NoMemory> {

@@ -15,7 +15,7 @@ use un_ir::function::Function;
 use un_listing::report::print_first_report;
 use un_model::model::{Model, Solution};
 use un_reader::read::read_function;
-use un_spilled::spilled::spilled;
+use un_baseline::spilled::spilled;
 use un_top::bound::full_packets;
 use un_top::code::{Costed, code_by, costed_code};
 

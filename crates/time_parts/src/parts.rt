@@ -17,7 +17,7 @@ use un_lssa::linearize::linearize;
 use un_model::build::build;
 use un_model::model::{Model, Solution};
 use un_problem::problem::{default_options, extended};
-use un_spilled::spilled::spilled;
+use un_baseline::spilled::spilled;
 use un_violations::violations::violations;
 
 /// The mean time of finding live names.

@@ -55,6 +55,7 @@ pub mod Solved
 pub mod Sound
 pub mod Sources
 pub mod SpillSteps
+mod Spillable
 pub mod SpilledCosts
 pub mod Standing
 pub mod StartIn

@@ -4,3 +4,4 @@
 mod copies;
 pub mod plan;
 pub mod spill;
+pub mod spilled;

@@ -16,7 +16,7 @@ use un_model::cost::cost;
 use un_model::model::{Model, Solution};
 use un_packet::code::Code;
 use un_problem::problem::{default_options, model};
-use un_spilled::spilled::spilled;
+use un_baseline::spilled::spilled;
 
 /// Code with its cost.
 #[derive(Drop)]

@@ -6,9 +6,9 @@ ghost use Rattle.un_baseline.specs.SpillEverywhere.{spilled_values};
 ghost use Rattle.un_model.specs.Solutions.{IsSolution};
 ghost use Rattle.un_problem.specs.Problems.{IsModelOf, default_options};
 
+use crate::spill::spill_everywhere;
 use std::alloc::Global;
 use un_base::memory_error::NoMemory;
-use un_baseline::spill::spill_everywhere;
 use un_ir::function::Function;
 use un_model::model::{Model, Solution};
 

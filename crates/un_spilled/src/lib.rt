@@ -1,4 +1,0 @@
-//! The solution of a function's model that spills every name.
-#![tactic(auto)]
-
-pub mod spilled;
