@@ -85,24 +85,44 @@ fn push_broken(list: &mut Vec<Broken>, clause: u8, kept: bool) -> Result<(), NoM
     Ok(())
 }
 
+/// The clauses after the first that are not kept, after those so far.
+fn push_all(list: &mut Vec<Broken>, v: Verdict) -> Result<(), NoMemory>
+    ensures { OnOk result
+        (map (λ b. b.clause) list.new.items ≡ map (λ b. b.clause) list.old.items ++ broken_after v) }
+{
+    push_broken(list, 2, v.zeros)?;
+    push_broken(list, 3, v.choices)?;
+    push_broken(list, 4, v.spaces)?;
+    push_broken(list, 5, v.latencies)?;
+    push_broken(list, 6, v.memory)?;
+    push_broken(list, 7, v.registers)?;
+    push_broken(list, 8, v.packets)?;
+    push_broken(list, 9, v.homes)?;
+    push_broken(list, 10, v.frame)
+}
+
 /// The clauses that a verdict says are not kept.
 fn listed(alloc: Global, v: Verdict) -> Result<Vec<Broken>, NoMemory>
     ensures { IfOk result (λ list. map (λ b. b.clause) list.items ≡ broken_clauses v) }
 {
     let mut list = Vec::new(alloc);
-    if !v.domains {
+    if v.domains {
+        push_all(&mut list, v)?;
+    } else {
         push_broken(&mut list, 1, false)?;
-        return Ok(list);
     }
-    push_broken(&mut list, 2, v.zeros)?;
-    push_broken(&mut list, 3, v.choices)?;
-    push_broken(&mut list, 4, v.spaces)?;
-    push_broken(&mut list, 5, v.latencies)?;
-    push_broken(&mut list, 6, v.memory)?;
-    push_broken(&mut list, 7, v.registers)?;
-    push_broken(&mut list, 8, v.packets)?;
-    push_broken(&mut list, 9, v.homes)?;
-    push_broken(&mut list, 10, v.frame)?;
+    Ok(list)
+}
+
+/// The clauses that a schedule breaks.
+fn broken_in(alloc: Global, m: &Model, s: &Solution, t: &Schedule) -> Result<Vec<Broken>, NoMemory>
+    requires { t.now ≡ schedule_of m.now s.now.values }
+    ensures lists { IfOk result
+        (λ list. ListsBroken (latency_gap m.now.ext.table) m.now.domains m.now s.now.values (map (λ b. b.clause) list.items)) }
+    ensures solves { IfOk result (λ list. (list.items ≡ []) ↔ IsSolution m.now s.now) }
+{
+    let found = verdict(alloc, m, s.values.as_slice(), t)?;
+    let list = listed(alloc, found)?;
     Ok(list)
 }
 
@@ -115,7 +135,5 @@ pub fn violations(alloc: Global, m: &Model, s: &Solution) -> Result<Vec<Broken>,
     ensures solves { IfOk result (λ list. (list.items ≡ []) ↔ IsSolution m.now s.now) }
 {
     let t = schedule(alloc, m, s)?;
-    let found = verdict(alloc, m, s.values.as_slice(), &t)?;
-    let list = listed(alloc, found)?;
-    Ok(list)
+    broken_in(alloc, m, s, &t)
 }

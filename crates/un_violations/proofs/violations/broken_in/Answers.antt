@@ -3,16 +3,16 @@ use Rattle.un_model.specs.declared.verdict.Broken.{Broken}
 use Rattle.un_model.specs.Schedules.{schedule_of}
 use Rattle.un_model.specs.Solutions.{latency_gap}
 use Rattle.un_violations.proofs.Verdicts.{solves, unbroken, map_empty}
-use Rattle.un_violations.proofs.violations.violations.Goals as goal
+use Rattle.un_violations.proofs.violations.broken_in.Goals as goal
 
 pub returns-clause-lists : goal.returns-clause-lists
 returns-clause-lists c =
-    let h = rw (c.as_slice.ensures, c.in_ok-t.ensures) at c.in_ok-found.ensures in
+    let h = rw (c.as_slice.ensures, c.requires) at c.in_ok-found.ensures in
     (c.in_ok-found.found, (h, c.in_ok-list.ensures))
 
 pub returns-clause-solves : goal.returns-clause-solves
 returns-clause-solves c =
-    let h = rw (c.as_slice.ensures, c.in_ok-t.ensures) at c.in_ok-found.ensures in
+    let h = rw (c.as_slice.ensures, c.requires) at c.in_ok-found.ensures in
     let m = c.args.m.now in
     let values = c.args.s.now.values in
     let t = schedule_of m values in
