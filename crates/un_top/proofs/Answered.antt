@@ -1,11 +1,13 @@
 -- What the answers before writing say of the answer of a run.
-use Rattle.std.proofs.Common.{ℕ, ◌≡◌, ◌<◌, ◌⊎◌, inl, inr, List, length, subst, refl, sym, ap, ◌∙◌, Vec, Global}
+use Rattle.std.proofs.Common.{ℕ, ◌≡◌, ◌<◌, ◌⊎◌, inl, inr, List, [], append-nil, length, subst, refl, sym, ap, ◌∙◌, Vec, Global}
 use Rattle.std.specs.declared.option.Option.{Option}
 use Rattle.std.specs.declared.option.Option.TheVariants.{Some, None}
 use Rattle.std.specs.declared.result.Result.{Result}
 use Rattle.std.specs.declared.result.Result.TheVariants.{Ok, Err}
 use Rattle.std.specs.Option.{IfSome}
-use Rattle.std.specs.Result.{IfErr, IfOk, OnOk}
+use Rattle.std.specs.Io.KnownBytes.{Appends}
+use Rattle.std.specs.Result.{IfErr, IfOk, OnErr, OnOk}
+use Rattle.un_base.specs.Causes.{AppendsPrefix}
 use Rattle.un_base.specs.declared.status.Status.{Status}
 use Rattle.un_base.specs.declared.status.Status.TheVariants.{Done, Infeasible, Spent, TextFault, Usage, ReadFault, WriteFault, NoMemory, No}
 use Rattle.un_base.specs.declared.status.Status.TheVariants.{BadReport}
@@ -14,7 +16,7 @@ use Rattle.un_reader.specs.Read.{IsRead, IsTextFault, too_long}
 use Rattle.un_reader.specs.declared.fault.Fault.TheVariants.{TooMany}
 use Rattle.un_top.specs.Faults.{IsFault}
 use Rattle.un_top.specs.Reports.{IsReportOf}
-use Rattle.un_top.specs.Runs.{AnswersFault, AnswersAccepted, IsRefusal}
+use Rattle.un_top.specs.Runs.{AnswersFault, AnswersAccepted, IsAnswer, IsRefusal, KeepsOut, OutAfter}
 use Rattle.un_top.proofs.FaultLaws.{fault_unique, read_has_no_fault}
 
 -- a text that is too long has its fault
@@ -75,3 +77,77 @@ pub answers_accepted : (told : Option (List ℕ)) (status : Status)
     → IfSome told (λ (text : List ℕ). (f : Function) → IsRead text f → AnswersAccepted status)
 answers_accepted None status fault = tt
 answers_accepted (Some text) status fault = λ f read. accepted_by text f status read fault
+
+-- what `out` holds after a refusal before writing, over whatever text
+refused_out : (s : Status) (text : List ℕ) (old new : Option (List ℕ)) → IsRefusal s → new ≡ old → OutAfter s text old new
+refused_out Done text old new r k = absurd r
+refused_out Infeasible text old new r k = absurd r
+refused_out Spent text old new r k = absurd r
+refused_out (TextFault l c) text old new r k = k
+refused_out (Usage place) text old new r k = k
+refused_out ReadFault text old new r k = k
+refused_out WriteFault text old new r k = absurd r
+refused_out NoMemory text old new r k = k
+refused_out (No cause) text old new r k = absurd r
+refused_out (BadReport l) text old new r k = absurd r
+
+-- what `out` holds after a run that wrote, or refused before it
+pub out_after : (told : Option (List ℕ)) (outcome : Result (Vec ℕ Global) Status) (status : Status) (old new : Option (List ℕ))
+    → IfErr outcome IsRefusal → IfErr outcome (λ e. status ≡ e) → OnErr outcome (new ≡ old)
+    → (status ≡ Done → IfOk outcome (λ out. Appends old new out.items))
+    → (status ≡ WriteFault → IfOk outcome (λ out. AppendsPrefix old new out.items))
+    → OnOk outcome ((status ≡ Done) ⊎ (status ≡ WriteFault))
+    → IfOk outcome (λ out. IfSome told (λ (text : List ℕ). IsReportOf text out.items))
+    → IfSome told (λ (text : List ℕ). OutAfter status text old new)
+out_after None outcome status old new r e k d p w o = tt
+out_after (Some text) (Ok out) status old new r e k d p (inl done) o =
+    subst (λ (s : Status). OutAfter s text old new) (sym done) (out.items, o, d done)
+out_after (Some text) (Ok out) status old new r e k d p (inr wrote) o =
+    subst (λ (s : Status). OutAfter s text old new) (sym wrote) (out.items, o, p wrote)
+out_after (Some text) (Err x) status old new r e k d p w o =
+    subst (λ (s : Status). OutAfter s text old new) (sym e) (refused_out x text old new r k)
+
+-- a refusal before writing keeps `out`, and is an answer of today's command
+refused_keeps : (s : Status) (old new : Option (List ℕ)) → IsRefusal s → new ≡ old → KeepsOut s old new × IsAnswer s
+refused_keeps Done old new r k = absurd r
+refused_keeps Infeasible old new r k = absurd r
+refused_keeps Spent old new r k = absurd r
+refused_keeps (TextFault l c) old new r k = (k, tt)
+refused_keeps (Usage place) old new r k = (k, tt)
+refused_keeps ReadFault old new r k = (k, tt)
+refused_keeps WriteFault old new r k = absurd r
+refused_keeps NoMemory old new r k = (k, tt)
+refused_keeps (No cause) old new r k = absurd r
+refused_keeps (BadReport l) old new r k = absurd r
+
+pub kept_and_answered : {T : Type 0} (outcome : Result T Status) (status : Status) (old new : Option (List ℕ))
+    → IfErr outcome IsRefusal → IfErr outcome (λ e. status ≡ e) → OnErr outcome (new ≡ old)
+    → OnOk outcome ((status ≡ Done) ⊎ (status ≡ WriteFault)) → KeepsOut status old new × IsAnswer status
+kept_and_answered (Ok x) status old new r e k (inl done) =
+    subst (λ (s : Status). KeepsOut s old new × IsAnswer s) (sym done) (tt, tt)
+kept_and_answered (Ok x) status old new r e k (inr fault) =
+    subst (λ (s : Status). KeepsOut s old new × IsAnswer s) (sym fault) (tt, tt)
+kept_and_answered (Err x) status old new r e k w =
+    subst (λ (s : Status). KeepsOut s old new × IsAnswer s) (sym e) (refused_keeps x old new r k)
+
+-- what holds of an output holds where the run is done
+pub when_done : {T : Type 0} (outcome : Result T Status) (status : Status) (P : Type 0) → IfErr outcome IsRefusal
+    → IfErr outcome (λ e. status ≡ e) → IfOk outcome (λ x. P) → status ≡ Done → P
+when_done (Ok x) status P r e h done = h
+when_done (Err x) status P r e h done = absurd (subst IsRefusal (sym e ∙ done) r)
+
+-- a refusal is the status
+pub status_of : {T : Type 0} (outcome : Result T Status) (status s : Status) → IfErr outcome (λ e. status ≡ e) → outcome ≡ Err s
+    → status ≡ s
+status_of (Ok x) status s e is = absurd (cc is)
+status_of (Err x) status s e is = let same : x ≡ s = cc is in e ∙ same
+
+-- the line that is written whole, or to a prefix of it
+pub line_written : {T E : Type 0} (written : Result T E) (old new : Option (List ℕ)) (line : List ℕ) → OnOk written (Appends old new line)
+    → OnErr written (AppendsPrefix old new line) → AppendsPrefix old new line
+line_written (Ok x) old new line all prefix = (line, [], append-nil line, all)
+line_written (Err x) old new line all prefix = prefix
+
+pub line_whole : {T E : Type 0} (written : Result T E) (A R : Type 0) → OnOk written A → OnErr written R → R ⊎ A
+line_whole (Ok x) A R all failed = inr all
+line_whole (Err x) A R all failed = inl failed

@@ -10,13 +10,13 @@ ghost use Rattle.un_top.specs.Reports.{IsCodeOf};
 
 use std::alloc::Global;
 use un_base::memory_error::NoMemory;
+use un_baseline::spilled::spilled;
 use un_emit::emit::emit;
 use un_ir::function::Function;
 use un_model::cost::cost;
 use un_model::model::{Model, Solution};
 use un_packet::code::Code;
 use un_problem::problem::{default_options, model};
-use un_baseline::spilled::spilled;
 
 /// Code with its cost.
 #[derive(Drop)]
@@ -51,8 +51,7 @@ fn spilled_code(alloc: Global, f: &Function, model: &Model) -> Result<Costed, No
     ensures { IfOk result (λ c. IsCodeOf HEXAGON f.now c.code c.cost) }
 {
     let solution = spilled(alloc, f, model)?;
-    let costed = code_by(alloc, f, model, &solution)?;
-    Ok(costed)
+    code_by(alloc, f, model, &solution)
 }
 
 /// The code of a function, by the solution of its model that keeps each name in a frame slot of its own, with its cost.
@@ -63,6 +62,5 @@ pub fn costed_code(alloc: Global, f: &Function) -> Result<Costed, NoMemory>
     ensures { IfOk result (λ c. IsCodeOf HEXAGON f.now c.code c.cost) }
 {
     let model = model(alloc, f, &default_options())?;
-    let costed = spilled_code(alloc, f, &model)?;
-    Ok(costed)
+    spilled_code(alloc, f, &model)
 }

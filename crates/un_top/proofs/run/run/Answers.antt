@@ -1,11 +1,71 @@
-use Rattle.un_base.specs.declared.status.Status.TheVariants.{TextFault, Usage}
-use Rattle.un_top.proofs.Answered.{from_before, answers_fault, answers_accepted}
+use Rattle.std.proofs.Common.{refl, ap, List}
+use Rattle.std.specs.Io.KnownBytes.{IsAtEnd}
+use Rattle.un_base.specs.declared.status.Status.TheVariants.{TextFault, Usage, ReadFault}
+use Rattle.un_top.proofs.Answered.{from_before, answers_fault, answers_accepted, out_after, kept_and_answered, when_done, status_of}
+use Rattle.un_top.proofs.Answered.{line_written, line_whole}
 use Rattle.un_top.proofs.run.run.Goals as goal
+
+pub returns-clause-out : goal.returns-clause-out
+returns-clause-out g c =
+    let f = c.finish-status.ensures in
+    let p = c.produce-outcome.ensures in
+    out_after _ c.produce-outcome.result c.finish-status.result _ _ p.only f.err f.kept f.done f.prefix f.which p.ok
+
+pub returns-clause-kept : goal.returns-clause-kept
+returns-clause-kept g c =
+    let f = c.finish-status.ensures in
+    (kept_and_answered c.produce-outcome.result c.finish-status.result _ _ c.produce-outcome.ensures.only f.err f.kept f.which).0
+
+pub returns-clause-answers : goal.returns-clause-answers
+returns-clause-answers g c =
+    let f = c.finish-status.ensures in
+    (kept_and_answered c.produce-outcome.result c.finish-status.result _ _ c.produce-outcome.ensures.only f.err f.kept f.which).1
+
+pub returns-clause-read_whole : goal.returns-clause-read_whole
+returns-clause-read_whole g c =
+    when_done c.produce-outcome.result c.finish-status.result _ c.produce-outcome.ensures.only c.finish-status.ensures.err
+    c.produce-outcome.ensures.read_all
 
 pub returns-clause-usage : goal.returns-clause-usage
 returns-clause-usage g c = λ place e.
     c.produce-outcome.ensures.usage place (from_before c.produce-outcome.result c.finish-status.result (Usage place)
     c.finish-status.ensures.err c.finish-status.ensures.which e (λ h. cc h) (λ h. cc h))
+
+pub returns-clause-unread : goal.returns-clause-unread
+returns-clause-unread g c = λ place e.
+    c.produce-outcome.ensures.unread place (from_before c.produce-outcome.result c.finish-status.result (Usage place)
+    c.finish-status.ensures.err c.finish-status.ensures.which e (λ h. cc h) (λ h. cc h))
+
+pub returns-clause-not_called : goal.returns-clause-not_called
+returns-clause-not_called g c = λ place e.
+    c.produce-outcome.ensures.not_called place (from_before c.produce-outcome.result c.finish-status.result (Usage place)
+    c.finish-status.ensures.err c.finish-status.ensures.which e (λ h. cc h) (λ h. cc h))
+
+pub returns-clause-exactly_usage : goal.returns-clause-exactly_usage
+returns-clause-exactly_usage g c = λ place bad.
+    status_of c.produce-outcome.result c.finish-status.result (Usage place) c.finish-status.ensures.err
+    (c.produce-outcome.ensures.exactly_usage place bad)
+
+pub returns-clause-read : goal.returns-clause-read
+returns-clause-read g c = λ e.
+    c.produce-outcome.ensures.read (from_before c.produce-outcome.result c.finish-status.result ReadFault
+    c.finish-status.ensures.err c.finish-status.ensures.which e (λ h. cc h) (λ h. cc h))
+
+pub returns-clause-fault : goal.returns-clause-fault
+returns-clause-fault g c = λ line code e.
+    c.produce-outcome.ensures.fault line code (from_before c.produce-outcome.result c.finish-status.result (TextFault line code)
+    c.finish-status.ensures.err c.finish-status.ensures.which e (λ h. cc h) (λ h. cc h))
+
+pub returns-clause-write : goal.returns-clause-write
+returns-clause-write g c = c.finish-status.ensures.fault
+
+pub returns-clause-err_line : goal.returns-clause-err_line
+returns-clause-err_line g c =
+    line_written c.write_line.result _ _ _ c.write_line.ensures.all c.write_line.ensures.prefix
+
+pub returns-clause-err_whole : goal.returns-clause-err_whole
+returns-clause-err_whole g c =
+    line_whole c.write_line.result _ _ c.write_line.ensures.all c.write_line.ensures.failed
 
 pub returns-clause-exactly_fault : goal.returns-clause-exactly_fault
 returns-clause-exactly_fault g c =
