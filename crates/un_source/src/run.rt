@@ -3,6 +3,7 @@
 ghost use Rattle.std.specs.Prelude.{◌≡◌, ℕ, IfOk, List, length};
 ghost use Rattle.un_base.specs.declared.ids.NameId.{NameId};
 ghost use Rattle.un_ir.specs.declared.function.Block.{Block};
+ghost use Rattle.un_ir.specs.LinearOf.{AreLive};
 ghost use Rattle.un_source.specs.States.{stop_of, left_stop, StopsInside};
 ghost use Rattle.un_source.specs.Outcomes.{named_values, end_by, IsSourceOutcome};
 
@@ -71,6 +72,29 @@ fn end_of(
     }
 }
 
+/// What a function, with the names live at its blocks' starts, comes to from a start where at most `n` blocks are entered.
+fn run_with(
+    alloc: Global,
+    f: &Function,
+    live: &LiveSets,
+    start: &Start,
+    n: u32,
+) -> Result<Outcome, NoMemory>
+    requires { AreLive f.now.blocks live.now.at_start }
+    ensures { IfOk result (IsSourceOutcome f.now start.now n) }
+{
+    let mut s = first_state(alloc, f, start)?;
+    let blocks = f.blocks.as_slice();
+    let left = run_blocks(alloc, blocks, start.replies.as_slice(), n, &mut s)?;
+    let end = end_of(alloc, blocks, live, s.values.as_slice(), left)?;
+    Ok(Outcome {
+        end,
+        memory: s.memory,
+        calls: s.calls,
+        cycles: None,
+    })
+}
+
 /// What a function comes to from a start where at most `n` blocks are entered, the entry being the first: it returns, an
 /// access traps, a call waits for a reply, or a further block would be entered, with the values of the names live at its
 /// start.
@@ -81,14 +105,5 @@ pub fn run_source(alloc: Global, f: &Function, start: &Start, n: u32) -> Result<
     ensures { IfOk result (IsSourceOutcome f.now start.now n) }
 {
     let live = live_in(alloc, f)?;
-    let mut s = first_state(alloc, f, start)?;
-    let blocks = f.blocks.as_slice();
-    let left = run_blocks(alloc, blocks, start.replies.as_slice(), n, &mut s)?;
-    let end = end_of(alloc, blocks, &live, s.values.as_slice(), left)?;
-    Ok(Outcome {
-        end,
-        memory: s.memory,
-        calls: s.calls,
-        cycles: None,
-    })
+    run_with(alloc, f, &live, start, n)
 }
