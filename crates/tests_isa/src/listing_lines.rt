@@ -1,7 +1,7 @@
 //! Lines of a listing, read.
 
 use std::alloc::Global;
-use un_listing::line::{read_frame, read_line};
+use un_listing_reader::line::{read_frame, read_line};
 
 /// Lines that spell something in code with a frame of 8 bytes.
 static GOOD: [&[u8]; 22] = [

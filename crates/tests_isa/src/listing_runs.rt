@@ -11,7 +11,7 @@ use un_isa::outcome::{CallRecord, End, Outcome};
 use un_isa::reg::{LINK, REGISTERS, STACK};
 use un_isa::start::{Reply, Start};
 use un_isa::table::hexagon;
-use un_listing::read::read_code;
+use un_listing_reader::read::read_code;
 use un_lists::items::Items;
 use un_packet::code::Code;
 use un_packet::run::run_packets;

@@ -2,7 +2,7 @@
 
 use std::alloc::Global;
 use un_listing::print::print_code;
-use un_listing::read::{ListingError, read_code};
+use un_listing_reader::read::{ListingError, read_code};
 use un_packet::code::Code;
 
 /// Texts and the first bad line, 0 where there is none.

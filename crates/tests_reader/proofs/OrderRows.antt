@@ -3,12 +3,12 @@ use Rattle.std.specs.Prelude.{ℕ, ◌≡◌, false, List, [], ◌∷◌, Some, 
 use Rattle.std.specs.List.{range_with_len}
 use Rattle.std.proofs.Common.{refl}
 use Rattle.un_isa.specs.declared.op.Op.TheVariants.{Imm}
-use Rattle.un_reader.specs.declared.before.Before.{Before}
-use Rattle.un_reader.specs.declared.fault.Fault.TheVariants.{TooMany, WideLiteral, FallsOff, UnknownLabel, JumpToEntry, MixedResult}
-use Rattle.un_reader.specs.LineFaults.{shaped_fault}
+use Rattle.un_faults.specs.declared.before.Before.{Before}
+use Rattle.un_faults.specs.declared.fault.Fault.TheVariants.{TooMany, WideLiteral, FallsOff, UnknownLabel, JumpToEntry, MixedResult}
+use Rattle.un_faults.specs.LineFaults.{shaped_fault}
 use Rattle.un_words.specs.Shapes.{line_of}
-use Rattle.un_reader.specs.TextFaults.{shape_fault}
-use Rattle.un_reader.specs.Vocabulary.{General, Line, Block, Operation, Spelled}
+use Rattle.un_faults.specs.TextFaults.{shape_fault}
+use Rattle.un_faults.specs.Vocabulary.{General, Line, Block, Operation, Spelled}
 
 -- ---- lines, behind 40 names and 16 labels of one letter each
 

@@ -1,9 +1,5 @@
 pub mod Forms
-pub mod LabelSets
 pub mod Listing
 pub mod ListingWords
-pub mod Needed
-pub mod PacketWords
-pub mod Reading
 pub mod Recognized
 pub mod Report

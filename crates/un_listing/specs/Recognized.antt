@@ -1,6 +1,6 @@
 -- The instruction that words spell, if they are the words of one.
 use Rattle.std.specs.Prelude.{ℕ, ℤ, pos, negsuc, Bool, true, false, ◌==◌, List, [], ◌∷◌, Option, Some, None, codes, slice_get, take, drop}
-use Rattle.std.specs.Prelude.{nat_lt, is_some, if◌then◌else◌}
+use Rattle.std.specs.Prelude.{nat_lt, is_some, unwrap_or, if◌then◌else◌}
 use Rattle.std.specs.List.{filter_map, find}
 use Rattle.std.specs.Option.{option_and_then, option_map, option_map_or}
 use Rattle.std.specs.Str.{bytes_eq}
@@ -17,17 +17,21 @@ use Rattle.un_listing.specs.declared.form.Form.TheVariants.{JumpedIfNot, Idle, S
 use Rattle.un_isa.specs.Facts.{printed_name}
 use Rattle.un_listing.specs.Forms.{form_of}
 use Rattle.un_listing.specs.declared.word.Word.{Word}
-use Rattle.un_listing.specs.declared.word.Word.TheVariants.{Named, Literal, Negated}
+use Rattle.un_listing.specs.declared.word.Word.TheVariants.{Named, Literal, Negated, Other}
 use Rattle.un_listing.specs.ListingWords.{reg_of}
 
 -- ---- words at their places
+
+-- none of the forms where there is none
+abbrev pub word_at : ℕ → List Word → Word
+word_at k ws = unwrap_or (slice_get ws k) Other
 
 abbrev pub name_in : Word → Option (List ℕ)
 name_in (Named name) = Some name
 name_in _ = None
 
 abbrev pub name_at : ℕ → List Word → Option (List ℕ)
-name_at k ws = option_and_then name_in (slice_get ws k)
+name_at k ws = name_in (word_at k ws)
 
 abbrev pub is_word_at : ℕ → List ℕ → List Word → Bool
 is_word_at k text ws = option_map_or (λ name. bytes_eq name text) (name_at k ws) false
@@ -39,7 +43,7 @@ reg_in (Negated reg) = Some reg
 reg_in _ = None
 
 abbrev pub reg_at : ℕ → List Word → Option Reg
-reg_at k ws = option_and_then reg_in (slice_get ws k)
+reg_at k ws = reg_in (word_at k ws)
 
 abbrev pub is_general : Reg → Bool
 is_general r = nat_lt r.0 GENERALS
@@ -55,14 +59,14 @@ literal_in (Literal n) = Some n
 literal_in _ = None
 
 abbrev pub literal_at : ℕ → List Word → Option ℤ
-literal_at k ws = option_and_then literal_in (slice_get ws k)
+literal_at k ws = literal_in (word_at k ws)
 
 abbrev pub is_negated : Word → Bool
 is_negated (Negated reg) = true
 is_negated _ = false
 
 abbrev pub is_negated_at : ℕ → List Word → Bool
-is_negated_at k ws = option_map_or is_negated (slice_get ws k) false
+is_negated_at k ws = is_negated (word_at k ws)
 
 -- the first literal
 abbrev pub literal_or : ℤ → Word → ℤ

@@ -1,17 +1,9 @@
-//! The text of code.
+//! The text of code and of the first report, and the instruction that the words of a text spell.
 #![tactic(auto)]
 
 pub mod form;
-pub mod judge;
-pub mod labels;
-pub mod line;
-pub mod lines;
-mod needs;
-pub mod packet;
 mod pieces;
 pub mod print;
-pub mod read;
 pub mod recognize;
 pub mod report;
-pub mod rules;
 pub mod word;

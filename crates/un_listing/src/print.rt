@@ -153,7 +153,7 @@ fn put_instrs(out: &mut Vec<u8>, instrs: &[Instr]) -> Result<(), NoMemory>
 }
 
 /// Appends the line of a packet.
-pub(crate) fn put_packet(out: &mut Vec<u8>, packet: &Packet) -> Result<(), NoMemory>
+pub fn put_packet(out: &mut Vec<u8>, packet: &Packet) -> Result<(), NoMemory>
     ensures { OnOk result (out.new.items ≡ out.old.items ++ (packet_line packet.now ++ codes "\n")) }
 {
     put_text(out, b"{ ")?;
@@ -162,7 +162,7 @@ pub(crate) fn put_packet(out: &mut Vec<u8>, packet: &Packet) -> Result<(), NoMem
 }
 
 /// Appends the lines of packets.
-pub(crate) fn put_packets(out: &mut Vec<u8>, packets: &[Packet]) -> Result<(), NoMemory>
+fn put_packets(out: &mut Vec<u8>, packets: &[Packet]) -> Result<(), NoMemory>
     ensures { OnOk result
         (out.new.items ≡ out.old.items ++ joined_lines (map packet_line packets.now)) }
 {

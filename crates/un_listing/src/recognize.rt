@@ -3,7 +3,7 @@
 ghost use Rattle.std.specs.Prelude.{◌≡◌, IfOk, OnOk, ◌++◌, slice_get, take, drop, is_some, if◌then◌else◌};
 ghost use Rattle.std.specs.List.{filter_map, find};
 ghost use Rattle.std.specs.Option.{option_and_then};
-ghost use Rattle.un_listing.specs.Recognized.{name_in, name_at, is_word_at, reg_in, reg_at, is_general, is_stack, is_stack_at, literal_in};
+ghost use Rattle.un_listing.specs.Recognized.{word_at, name_in, name_at, is_word_at, reg_in, reg_at, is_general, is_stack, is_stack_at};
 ghost use Rattle.un_listing.specs.Recognized.{literal_at, is_negated, is_negated_at, literal_or, literal_of_words, op_with, computed_ops};
 ghost use Rattle.un_listing.specs.Recognized.{literal_ops, copy_between, is_minus, moved_by, assigned_op, worded_op, op_of, has_result};
 ghost use Rattle.un_listing.specs.Recognized.{first_operand, operand_words, operands_in, label_in, result_in, instr_with, instr_of};
@@ -46,12 +46,22 @@ const LITERAL_OPS: [Op; 8] = [
     Op::Lsr,
 ];
 
+/// The word at place `k`, or `Other` where there is none.
+fn word_at(words: &[Word], k: usize) -> Word
+    ensures { result ≡ word_at k words.now }
+{
+    match words.get(k) {
+        Some(word) => *word,
+        None => Word::Other,
+    }
+}
+
 /// The name at place `k`.
 fn name_at(words: &[Word], k: usize) -> Option<Name>
     ensures { result ≡ name_at k words.now }
 {
-    match words.get(k)? {
-        Word::Named(name) => Some(*name),
+    match word_at(words, k) {
+        Word::Named(name) => Some(name),
         _ => None,
     }
 }
@@ -81,7 +91,7 @@ fn reg_in(word: &Word) -> Option<Reg>
 fn reg_at(words: &[Word], k: usize) -> Option<Reg>
     ensures { result ≡ reg_at k words.now }
 {
-    reg_in(words.get(k)?)
+    reg_in(&word_at(words, k))
 }
 
 /// Whether the stack pointer stands at place `k`.
@@ -98,8 +108,8 @@ fn is_stack_at(words: &[Word], k: usize) -> bool
 fn literal_at(words: &[Word], k: usize) -> Option<i32>
     ensures { result ≡ literal_at k words.now }
 {
-    match words.get(k)? {
-        Word::Literal(n) => Some(*n),
+    match word_at(words, k) {
+        Word::Literal(n) => Some(n),
         _ => None,
     }
 }
@@ -108,10 +118,7 @@ fn literal_at(words: &[Word], k: usize) -> Option<i32>
 fn is_negated_at(words: &[Word], k: usize) -> bool
     ensures { result ≡ is_negated_at k words.now }
 {
-    match words.get(k) {
-        Some(Word::Negated(_)) => true,
-        _ => false,
-    }
+    matches!(word_at(words, k), Word::Negated(_))
 }
 
 /// The first literal, or 0.

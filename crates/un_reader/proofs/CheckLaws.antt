@@ -4,19 +4,19 @@ use Rattle.std.proofs.Common.{below_more, arith, subst, true, false}
 use Rattle.std.proofs.lemmas.List.{map_push, take_at, length_push, length-map}
 use Rattle.std.specs.List.{list_all}
 use Rattle.un_base.specs.Lines.{pieces_of}
-use Rattle.un_reader.specs.declared.fault.Fault.{Fault}
-use Rattle.un_reader.specs.declared.fault.Fault.TheVariants.{BadByte, BadLine}
-use Rattle.un_reader.specs.declared.before.Before.{Before}
+use Rattle.un_faults.specs.declared.fault.Fault.{Fault}
+use Rattle.un_faults.specs.declared.fault.Fault.TheVariants.{BadByte, BadLine}
+use Rattle.un_faults.specs.declared.before.Before.{Before}
 use Rattle.un_words.specs.declared.line.Line.{Line}
 use Rattle.un_reader.specs.declared.error.ReadError.{ReadError}
 use Rattle.un_reader.specs.declared.error.ReadError.TheVariants.{NoMemory, TextFault}
-use Rattle.un_reader.specs.Before.{before_of}
-use Rattle.un_reader.specs.Codes.{code_of}
+use Rattle.un_faults.specs.Before.{before_of}
+use Rattle.un_faults.specs.Codes.{code_of}
 use Rattle.un_reader.specs.Errors.{Tells}
 use Rattle.un_words.specs.Pieces.{without_end, without_comment, lines_in}
 use Rattle.un_words.specs.Tokens.{tokens_of}
 use Rattle.un_words.specs.Shapes.{shape_of, line_of}
-use Rattle.un_reader.specs.LineFaults.{is_plain_byte, line_fault, fault_at}
+use Rattle.un_faults.specs.LineFaults.{is_plain_byte, line_fault, fault_at}
 use Rattle.un_reader.specs.Lines.{IsFirstLineFault}
 
 -- these lines were read without a fault, and these bytes are left

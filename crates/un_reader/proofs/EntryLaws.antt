@@ -5,7 +5,7 @@ use Rattle.un_live.specs.Marks.{marked, IsColumn}
 use Rattle.un_live.specs.Tables.{reads}
 use Rattle.un_live.proofs.LiveLaws.{reads-Contains, Contains-reads}
 use Rattle.un_reader.specs.Entry.{IsLiveAtEntry}
-use Rattle.un_reader.specs.Vocabulary.{NameId, Spelled}
+use Rattle.un_faults.specs.Vocabulary.{NameId, Spelled}
 
 module _ (params : List NameId) (names : List Spelled) (blocks : List Block) (name : NameId) (marks : List Bool)
     (column : IsColumn blocks name marks) where

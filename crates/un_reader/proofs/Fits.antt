@@ -6,23 +6,23 @@ use Rattle.std.specs.Option.{option_map, option_to_list}
 use Rattle.std.proofs.lemmas.Bool.{leb-true, or_parts, and_parts, not-false, ltb-false}
 use Rattle.std.proofs.lemmas.Bool.Decides.{nat_tests}
 use Rattle.std.proofs.lemmas.List.Elements.{All-from_recursion as Each-All, recursion_from_All as Each-from}
-use Rattle.un_reader.specs.Vocabulary.{NameId, Kind, General, Pred, Number, TermLine, Branch, Ret, Line, Blank, Func}
-use Rattle.un_reader.specs.Vocabulary.{Block, Operation, Terminator, Spelled}
+use Rattle.un_faults.specs.Vocabulary.{NameId, Kind, General, Pred, Number, TermLine, Branch, Ret, Line, Blank, Func}
+use Rattle.un_faults.specs.Vocabulary.{Block, Operation, Terminator, Spelled}
 use Rattle.un_ir.specs.WellFormed.{IsOfKind, IsGoodOp, IsGoodBlock, TestsItsKind}
 use Rattle.un_ir.specs.declared.function.TheConstants.{FREQUENCY, PARAMS}
-use Rattle.un_reader.specs.Before.{same_name}
+use Rattle.un_faults.specs.Before.{same_name}
 use Rattle.un_words.specs.LineNames.{names_on, names_on_term}
-use Rattle.un_reader.specs.Groups.{Group}
-use Rattle.un_reader.specs.LineFaults.{has_repeat, term_clashes, freq_fits, operands_clash}
-use Rattle.un_reader.specs.Literals.{literal_fits}
-use Rattle.un_reader.specs.LineFaults.{result_clashes}
+use Rattle.un_faults.specs.Groups.{Group}
+use Rattle.un_faults.specs.LineFaults.{has_repeat, term_clashes, freq_fits, operands_clash}
+use Rattle.un_faults.specs.Literals.{literal_fits}
+use Rattle.un_faults.specs.LineFaults.{result_clashes}
 use Rattle.un_reader.specs.Functions.{name_id, op_of, term_by, block_of}
 use Rattle.un_words.proofs.Each.{Each-weaken, Each-map, Each-unmap, Each-both, EachPair, EachPair-map, EachPair-unmap, Each-none, any_none}
-use Rattle.un_reader.proofs.FirstNames.{name_itself, name_differs}
+use Rattle.un_faults.proofs.FirstNames.{name_itself, name_differs}
 use Rattle.un_words.proofs.TokenFacts.{IsNameWord, IfThere}
 use Rattle.un_words.proofs.LineShapes.{IsShaped}
 use Rattle.un_reader.proofs.OpFacts.{IsKnown, kind_matches, matches_kind, spelled_kind, word_kind, are_words, words_are, op_good, op_told}
-use Rattle.un_reader.proofs.Rules.{IsGoodLine}
+use Rattle.un_faults.proofs.Rules.{IsGoodLine}
 use Rattle.un_reader.proofs.TextLines.{EachOf, text_lines, from_groups, to_groups}
 
 -- the number of the name leads to it

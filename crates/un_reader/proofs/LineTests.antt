@@ -4,18 +4,18 @@ use Rattle.std.proofs.Common.{unwrap_or}
 use Rattle.std.proofs.Common.{if◌then◌else◌, refl, sym, ap, ◌∙◌, arith, subst, append_assoc}
 use Rattle.std.specs.List.{AllByRecursion as Each, list_all}
 use Rattle.std.proofs.lemmas.List.{map_push, length-append}
-use Rattle.un_reader.specs.declared.fault.Fault.TheVariants.{BadByte}
-use Rattle.un_reader.specs.Vocabulary.{Line, Blank}
-use Rattle.un_reader.specs.declared.before.Before.{Before}
+use Rattle.un_faults.specs.declared.fault.Fault.TheVariants.{BadByte}
+use Rattle.un_faults.specs.Vocabulary.{Line, Blank}
+use Rattle.un_faults.specs.declared.before.Before.{Before}
 use Rattle.un_words.specs.Tokens.{tokens_of}
 use Rattle.un_words.specs.Shapes.{shape_of, line_of}
-use Rattle.un_reader.specs.Before.{before_of}
-use Rattle.un_reader.specs.Noted.{noted}
-use Rattle.un_reader.specs.LineFaults.{is_plain_byte, faults_on, first_of, shaped_fault, line_fault, fault_at}
+use Rattle.un_faults.specs.Before.{before_of}
+use Rattle.un_faults.specs.Noted.{noted}
+use Rattle.un_faults.specs.LineFaults.{is_plain_byte, faults_on, first_of, shaped_fault, line_fault, fault_at}
 use Rattle.un_reader.specs.Lines.{HasNoLineFault}
-use Rattle.un_reader.proofs.BeforeLaws.{before_of_push}
+use Rattle.un_faults.proofs.BeforeLaws.{before_of_push}
 use Rattle.un_reader.proofs.CheckLaws.{next_fault}
-use Rattle.un_reader.proofs.Rules.{AreFaultless, IsGoodBefore, KeepRules, lines_keep, behind_all, good_start}
+use Rattle.un_faults.proofs.Rules.{AreFaultless, IsGoodBefore, KeepRules, lines_keep, behind_all, good_start}
 use Rattle.un_words.proofs.LineShapes.{IsShaped, line_shaped}
 
 line_clean : (before : Before) (bytes : List ℕ) → line_fault before bytes ≡ None

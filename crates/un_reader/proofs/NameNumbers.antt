@@ -9,12 +9,12 @@ use Rattle.std.proofs.lemmas.List.FromFn.{length-map-range_with_len, get_or-map-
 use Rattle.std.proofs.lemmas.List.FromFn.{length-range_with_len}
 use Rattle.std.proofs.lemmas.List.Sums.{position_or_len_is}
 use Rattle.std.proofs.lemmas.Option.{unwrap_or-slice_get}
-use Rattle.un_reader.specs.Vocabulary.{NameId, General, Spelled}
+use Rattle.un_faults.specs.Vocabulary.{NameId, General, Spelled}
 use Rattle.un_ir.specs.Names.{see, first_appearances}
-use Rattle.un_reader.specs.Before.{same_name, add_name, numbered}
+use Rattle.un_faults.specs.Before.{same_name, add_name, numbered}
 use Rattle.un_reader.specs.Functions.{name_id}
 use Rattle.un_words.proofs.Each.{Each-weaken, Each-append, Each-left, Each-right, Each-map, EachPair-AllPairs}
-use Rattle.un_reader.proofs.FirstNames.{IsPlaced, name_itself, name_differs, in_numbered, name_placed, numbered_apart}
+use Rattle.un_faults.proofs.FirstNames.{IsPlaced, name_itself, name_differs, in_numbered, name_placed, numbered_apart}
 
 -- no name stands twice
 abbrev pub AreDistinct : List Spelled → Type 0

@@ -2,13 +2,13 @@
 use Rattle.std.proofs.Common.{ℕ, List, map, take, slice_get, arith}
 use Rattle.std.proofs.lemmas.Option.{option_and_then_some, slice_get_within}
 use Rattle.un_ir.specs.declared.function.Function.{Function}
-use Rattle.un_reader.specs.Before.{before_of}
-use Rattle.un_reader.specs.LineFaults.{line_fault}
+use Rattle.un_faults.specs.Before.{before_of}
+use Rattle.un_faults.specs.LineFaults.{line_fault}
 use Rattle.un_words.specs.Shapes.{line_of}
 use Rattle.un_reader.specs.Lines.{HasNoLineFault, IsFirstLineFault, shapes_in}
 use Rattle.un_words.specs.Pieces.{lines_in}
 use Rattle.un_reader.specs.Read.{IsRead, IsTextFault, too_long, on_line, in_whole, at_entry}
-use Rattle.un_reader.specs.declared.fault.Fault.{Fault}
+use Rattle.un_faults.specs.declared.fault.Fault.{Fault}
 use Rattle.un_reader.proofs.PartLaws.{live_in_parts}
 
 -- no line has a fault, and one has

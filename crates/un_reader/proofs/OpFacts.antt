@@ -13,14 +13,14 @@ use Rattle.un_isa.specs.declared.reg.Space.{Space}
 use Rattle.un_isa.specs.declared.facts.Range.{Range}
 use Rattle.un_isa.specs.Facts.{Operands, Fixed, Arguments, facts_of, fixed_spaces, result_space, literal_range}
 use Rattle.un_isa.specs.Operands.{IsLiteralOf}
-use Rattle.un_reader.specs.Vocabulary.{Kind, General, Pred, Number, OpLine, Spelled}
+use Rattle.un_faults.specs.Vocabulary.{Kind, General, Pred, Number, OpLine, Spelled}
 use Rattle.un_ir.specs.Names.{kind_of}
 use Rattle.un_ir.specs.WellFormed.{kind_in, takes_arguments, IsOfKind, AreRead, IsAssigned, IsGoodOp}
 use Rattle.un_ir.specs.declared.function.TheConstants.{PARAMS}
 use Rattle.un_words.specs.Shapes.{result_by}
-use Rattle.un_reader.specs.Before.{same_kind}
-use Rattle.un_reader.specs.LineFaults.{is_predicate, misfits, operands_clash, result_clashes}
-use Rattle.un_reader.specs.Literals.{literal_value, literal_fits}
+use Rattle.un_faults.specs.Before.{same_kind}
+use Rattle.un_faults.specs.LineFaults.{is_predicate, misfits, operands_clash, result_clashes}
+use Rattle.un_faults.specs.Literals.{literal_value, literal_fits}
 use Rattle.un_reader.specs.Functions.{name_id, op_of}
 use Rattle.un_words.proofs.Each.{Each-left, Each-right}
 use Rattle.un_words.proofs.OpShapes.{Counted, LacksLiteral, IsShapedOp}

@@ -1,19 +1,18 @@
 -- What the parts of a function have, once its lines and the whole of them have no fault.
-use Rattle.std.proofs.Common.{◌≡◌, ℕ, ◌+◌, ◌≤◌, List, [], None, length, unwrap_or, sym, ap, ◌∙◌, subst}
+use Rattle.std.proofs.Common.{◌≡◌, ℕ, ◌+◌, List, [], None, unwrap_or, sym, ap, ◌∙◌, subst}
 use Rattle.std.specs.List.{position_or_len}
-use Rattle.un_reader.specs.Vocabulary.{NameId, SourceBlock, Line, Spelled}
+use Rattle.un_faults.specs.Vocabulary.{NameId, SourceBlock, Line, Spelled}
 use Rattle.un_ir.specs.declared.function.Function.{Function}
 use Rattle.un_ir.specs.WellFormed.{IsWellFormed}
 use Rattle.un_ir.proofs.SameFunction.{same_function}
-use Rattle.un_reader.specs.declared.fault.Fault.TheVariants.{LiveAtEntry}
-use Rattle.un_reader.specs.declared.limits.TheConstants.{TEXT}
-use Rattle.un_reader.specs.Before.{name_of, names_of}
+use Rattle.un_faults.specs.declared.fault.Fault.TheVariants.{LiveAtEntry}
+use Rattle.un_faults.specs.Before.{name_of, names_of}
 use Rattle.un_reader.specs.Lines.{HasNoLineFault, shapes_in}
 use Rattle.un_words.specs.Pieces.{lines_in}
-use Rattle.un_reader.specs.TextFaults.{is_block, shape_fault}
+use Rattle.un_faults.specs.TextFaults.{is_block, shape_fault}
 use Rattle.un_reader.specs.Functions.{IsFunctionOf, ArePartsOf, param_ids, source_blocks}
 use Rattle.un_reader.specs.Entry.{IsLiveAtEntry, HasNoneLive}
-use Rattle.un_reader.specs.Read.{IsTextFault, at_entry}
+use Rattle.un_reader.specs.Read.{AreLinesOf, IsRead, IsTextFault, at_entry}
 use Rattle.un_reader.proofs.WellFormed.{well_formed}
 
 -- the parts that a text gives
@@ -24,12 +23,11 @@ pub record Parts (text : List ℕ) (name : List ℕ) (params : List NameId) (nam
 
 -- the same, by other words for the lines
 pub parts_of : (text : List ℕ) (lines : List Line) (name : List ℕ) (params : List NameId) (names : List Spelled) (blocks : List SourceBlock)
-    → HasNoLineFault (lines_in text) → lines ≡ shapes_in text → shape_fault lines ≡ None → ArePartsOf lines name params names blocks
-    → Parts text name params names blocks
-parts_of text lines name params names blocks good same none are = record {
-  lines = good;
-  whole = subst (λ (ls : List Line). shape_fault ls ≡ None) same none;
-  are = subst (λ (ls : List Line). ArePartsOf ls name params names blocks) same are;
+    → AreLinesOf text lines → shape_fault lines ≡ None → ArePartsOf lines name params names blocks → Parts text name params names blocks
+parts_of text lines name params names blocks of none are = record {
+  lines = of.good;
+  whole = subst (λ (ls : List Line). shape_fault ls ≡ None) of.are none;
+  are = subst (λ (ls : List Line). ArePartsOf ls name params names blocks) of.are are;
 }
 
 module _ (lines : List Line) (its_name : List ℕ) (params : List NameId) (names : List Spelled) (blocks : List SourceBlock)
@@ -50,12 +48,12 @@ module _ (lines : List Line) (its_name : List ℕ) (params : List NameId) (names
 
 pub entry_fault : (text : List ℕ) (lines : List Line) (its_name : List ℕ) (params : List NameId) (names : List Spelled)
     (blocks : List SourceBlock) (place : ℕ)
-    → length text ≤ TEXT → Parts text its_name params names blocks → lines ≡ shapes_in text → place ≡ position_or_len is_block lines
+    → AreLinesOf text lines → Parts text its_name params names blocks → place ≡ position_or_len is_block lines
     → (name : NameId) → IsLiveAtEntry params names blocks name → IsTextFault text (place + 1) LiveAtEntry
-entry_fault text lines its_name params names blocks place within parts same at name live =
-    let p : place ≡ position_or_len is_block (shapes_in text) = at ∙ ap (position_or_len is_block) same in
+entry_fault text lines its_name params names blocks place of parts at name live =
+    let p : place ≡ position_or_len is_block (shapes_in text) = at ∙ ap (position_or_len is_block) of.are in
     subst (λ (k : ℕ). IsTextFault text (k + 1) LiveAtEntry) (sym p)
-    (at_entry name within parts.lines parts.whole (live_in_lines (shapes_in text) its_name params names blocks name parts.are live))
+    (at_entry name of.within parts.lines parts.whole (live_in_lines (shapes_in text) its_name params names blocks name parts.are live))
 
 -- parts without a live name are those of a function without a fault
 pub parts_well_formed : (text : List ℕ) (its_name : List ℕ) (params : List NameId) (names : List Spelled) (blocks : List SourceBlock)
@@ -76,6 +74,27 @@ parts_well_formed text its_name params names blocks parts none = moved
         (subst (λ (x : List Spelled). IsWellFormed (unwrap_or (name_of lines) []) (param_ids lines) x blocks) (sym parts.are.names)
         (subst (λ (x : List SourceBlock). IsWellFormed (unwrap_or (name_of lines) []) (param_ids lines) (names_of lines) x)
         (sym parts.are.blocks) w)))
+
+-- a function with the parts is what the text is read as
+pub is_read : (text : List ℕ) (its_name : List ℕ) (params : List NameId) (names : List Spelled) (blocks : List SourceBlock)
+    (lines : List Line) (f : Function)
+    → AreLinesOf text lines → Parts text its_name params names blocks → HasNoneLive params names blocks
+    → f.name ≡ its_name → f.params ≡ params → f.names ≡ names → f.blocks ≡ blocks → IsRead text f
+is_read text its_name params names blocks lines f of parts none a b c d = record {
+  within = of.within;
+  lines = parts.lines;
+  whole = parts.whole;
+  is = record {
+    name = a ∙ parts.are.name;
+    params = b ∙ parts.are.params;
+    names = c ∙ parts.are.names;
+    blocks = d ∙ parts.are.blocks;
+  };
+  entry =
+      subst (λ (x : List NameId). HasNoneLive x f.names f.blocks) (sym b)
+      (subst (λ (x : List Spelled). HasNoneLive params x f.blocks) (sym c)
+      (subst (λ (x : List SourceBlock). HasNoneLive params names x) (sym d) none));
+}
 
 -- lines are one function
 pub one_function : (lines : List Line) (f g : Function) → IsFunctionOf lines f → IsFunctionOf lines g → f ≡ g

@@ -2,25 +2,25 @@
 use Rattle.std.proofs.Common.{◌≡◌, ℕ, suc, ◌+◌, ◌≤◌, List, [], ◌∷◌, Option, Some, None, map, length, refl, sym, ap, ◌∙◌, arith, subst}
 use Rattle.std.specs.List.{cons_option}
 use Rattle.std.proofs.lemmas.List.{length-map}
-use Rattle.un_reader.specs.Vocabulary.{Line, Spelled}
+use Rattle.un_faults.specs.Vocabulary.{Line, Spelled}
 use Rattle.un_ir.specs.declared.function.TheConstants.{NAMES}
-use Rattle.un_reader.specs.declared.fault.Fault.TheVariants.{NoBlock}
+use Rattle.un_faults.specs.declared.fault.Fault.TheVariants.{NoBlock}
 use Rattle.un_words.specs.Shapes.{line_of}
-use Rattle.un_reader.specs.Before.{label_on, names_of, labels_of, before_of}
-use Rattle.un_reader.specs.Groups.{Group, grouped}
-use Rattle.un_reader.specs.Named.{IsNamed}
-use Rattle.un_reader.specs.Lines.{HasNoLineFault, IsFirstLineFault, shapes_in}
-use Rattle.un_reader.specs.TextFaults.{shape_fault}
+use Rattle.un_faults.specs.Before.{label_on, names_of, labels_of, before_of}
+use Rattle.un_faults.specs.Groups.{Group, grouped}
+use Rattle.un_faults.specs.Named.{IsNamed}
+use Rattle.un_reader.specs.Lines.{HasNoLineFault, IsFirstLineFault}
+use Rattle.un_faults.specs.TextFaults.{shape_fault}
 use Rattle.un_reader.specs.Functions.{block_of, blocks_of}
 use Rattle.un_reader.specs.declared.limits.TheConstants.{TEXT}
 use Rattle.un_reader.specs.declared.error.ReadError.{ReadError}
 use Rattle.un_reader.specs.declared.error.ReadError.TheVariants.{NoMemory, TextFault}
 use Rattle.un_reader.specs.Errors.{Tells}
 use Rattle.un_words.specs.Pieces.{lines_in}
-use Rattle.un_reader.specs.Read.{IsTextFault, on_line, in_whole}
+use Rattle.un_reader.specs.Read.{AreLinesOf, IsTextFault, on_line, in_whole}
 use Rattle.un_reader.proofs.TextLines.{group_labels}
 use Rattle.un_reader.proofs.LineTests.{all_keep, all_good}
-use Rattle.un_reader.proofs.Rules.{behind_all, lines_named}
+use Rattle.un_faults.proofs.Rules.{behind_all, lines_named}
 
 -- ---- all lines
 
@@ -63,13 +63,12 @@ pub line_told : (text : List ℕ) (e : ReadError) → length text ≤ TEXT → T
 line_told text NoMemory within t = tt
 line_told text (TextFault line code) within (fault, is, first) = (fault, is, on_line line fault within first)
 
-pub whole_told : (text : List ℕ) (lines : List Line) (e : ReadError) → length text ≤ TEXT → HasNoLineFault (lines_in text)
-    → lines ≡ shapes_in text
+pub whole_told : (text : List ℕ) (lines : List Line) (e : ReadError) → AreLinesOf text lines
     → Tells (λ line fault. shape_fault lines ≡ Some (line, fault)) e → Tells (IsTextFault text) e
-whole_told text lines NoMemory within good same t = tt
-whole_told text lines (TextFault line code) within good same (fault, is, there) =
-    (fault, is, in_whole line fault within good (ap shape_fault (sym same) ∙ there))
+whole_told text lines NoMemory of t = tt
+whole_told text lines (TextFault line code) of (fault, is, there) =
+    (fault, is, in_whole line fault of.within of.good (ap shape_fault (sym of.are) ∙ there))
 
 -- what is kept, at the lines and what stands before a line behind them
-pub kept_here : (text : List ℕ) (lines : List Line) → HasNoLineFault (lines_in text) → lines ≡ shapes_in text → Kept lines
-kept_here text lines good same = subst Kept (sym same) (kept_all (lines_in text) good)
+pub kept_lines : (lines : List Line) → (text : List ℕ) × AreLinesOf text lines → Kept lines
+kept_lines lines (text, is) = subst Kept (sym is.are) (kept_all (lines_in text) is.good)

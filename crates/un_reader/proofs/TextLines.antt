@@ -7,17 +7,17 @@ use Rattle.std.specs.Option.{option_map, option_to_list}
 use Rattle.std.proofs.lemmas.Bool.Decides.{nat_tests}
 use Rattle.std.proofs.lemmas.List.{length-append, map-append}
 use Rattle.std.proofs.lemmas.List.Sums.{sum_by-cons}
-use Rattle.un_reader.specs.Vocabulary.{OpLine, TermLine, Ret, Line, Blank, Func, Block, Operation, Terminator, Spelled}
+use Rattle.un_faults.specs.Vocabulary.{OpLine, TermLine, Ret, Line, Blank, Func, Block, Operation, Terminator, Spelled}
 use Rattle.un_ir.specs.Live.{read_by_term}
 use Rattle.un_ir.specs.Names.{names_on_op, names_in_block, appearances}
-use Rattle.un_reader.specs.declared.before.Before.{Before}
-use Rattle.un_reader.specs.Before.{labels_of, name_of, is_operation, before_of}
+use Rattle.un_faults.specs.declared.before.Before.{Before}
+use Rattle.un_faults.specs.Before.{labels_of, name_of, is_operation, before_of}
 use Rattle.un_words.specs.LineNames.{names_on, names_on_term}
-use Rattle.un_reader.specs.Groups.{Group, ops_of, term_of, grouped}
-use Rattle.un_reader.specs.Noted.{noted}
+use Rattle.un_faults.specs.Groups.{Group, ops_of, term_of, grouped}
+use Rattle.un_faults.specs.Noted.{noted}
 use Rattle.un_reader.specs.Functions.{name_id, op_of, term_by, block_of, params_of}
 use Rattle.un_words.proofs.TokenFacts.{IfThere}
-use Rattle.un_reader.proofs.Rules.{IsOpen, AreInOrder, still_named}
+use Rattle.un_faults.proofs.Rules.{IsOpen, AreInOrder, still_named}
 
 -- ---- the lines of blocks
 

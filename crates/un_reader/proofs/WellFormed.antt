@@ -8,33 +8,33 @@ use Rattle.std.proofs.lemmas.Bool.Decides.{nat_tests}
 use Rattle.std.proofs.lemmas.List.{length-map, length-append}
 use Rattle.std.proofs.lemmas.List.Sums.{sum_by-cons}
 use Rattle.std.proofs.lemmas.List.Elements.{All-from_recursion as Each-All, recursion_from_All as Each-from}
-use Rattle.un_reader.specs.Vocabulary.{NameId, Kind, General, SrcOp, SourceBlock, OpLine, TermLine, Line, Func, Block, Operation}
-use Rattle.un_reader.specs.Vocabulary.{Terminator}
-use Rattle.un_reader.specs.Vocabulary.{Spelled}
+use Rattle.un_faults.specs.Vocabulary.{NameId, Kind, General, SrcOp, SourceBlock, OpLine, TermLine, Line, Func, Block, Operation}
+use Rattle.un_faults.specs.Vocabulary.{Terminator}
+use Rattle.un_faults.specs.Vocabulary.{Spelled}
 use Rattle.un_ir.specs.Live.{IsLive, targets_of, used, kept, read_by_term, read_by, read_at}
 use Rattle.un_ir.specs.Names.{names_on_op, names_in_block, appearances, first_appearances}
 use Rattle.un_ir.specs.WellFormed.{IsName, IsOfKind, IsGoodBlock, LeadsInside, ReturnAlike, IsWellFormed}
 use Rattle.un_ir.specs.declared.function.TheConstants.{OPS}
-use Rattle.un_reader.specs.declared.fault.Fault.{Fault}
-use Rattle.un_reader.specs.declared.fault.Fault.TheVariants.{NoBlock, FallsOff, UnknownLabel, JumpToEntry, MixedResult}
-use Rattle.un_reader.specs.Before.{same_name, names_of, labels_of, name_of, is_operation, before_of}
-use Rattle.un_reader.specs.Groups.{Group, grouped}
+use Rattle.un_faults.specs.declared.fault.Fault.{Fault}
+use Rattle.un_faults.specs.declared.fault.Fault.TheVariants.{NoBlock, FallsOff, UnknownLabel, JumpToEntry, MixedResult}
+use Rattle.un_faults.specs.Before.{same_name, names_of, labels_of, name_of, is_operation, before_of}
+use Rattle.un_faults.specs.Groups.{Group, grouped}
 use Rattle.un_words.specs.LineNames.{names_on}
 use Rattle.un_words.specs.Shapes.{line_of}
 use Rattle.un_reader.specs.Lines.{HasNoLineFault}
-use Rattle.un_reader.specs.TextFaults.{falls_off, jumps_outside, jumps_to_entry, mixed_return, placed, no_block, first_there, shape_fault}
+use Rattle.un_faults.specs.TextFaults.{falls_off, jumps_outside, jumps_to_entry, mixed_return, placed, no_block, first_there, shape_fault}
 use Rattle.un_reader.specs.Functions.{name_id, op_of, block_of, blocks_of, params_of}
 use Rattle.un_live.specs.Tables.{reads}
 use Rattle.un_live.proofs.LiveLaws.{reads-Contains, Contains-reads}
 use Rattle.un_reader.proofs.ReadLaws.{kept_all}
 use Rattle.un_words.proofs.Each.{Each-weaken, Each-both, Each-map, Each-unmap, Each-append, Each-left, Each-right, Each-unflat, Each-at}
 use Rattle.un_words.proofs.Each.{Each-in, EachPair, EachPair-AllPairs, EachPair-from, EachPair-map, EachPair-unmap}
-use Rattle.un_reader.proofs.FirstNames.{IsPlaced, in_numbered, name_placed, Each-numbered, numbered_apart}
+use Rattle.un_faults.proofs.FirstNames.{IsPlaced, in_numbered, name_placed, Each-numbered, numbered_apart}
 use Rattle.un_reader.proofs.NameNumbers.{numbers_first}
 use Rattle.un_words.proofs.TokenFacts.{IfThere, IsSpelled}
 use Rattle.un_words.proofs.LineShapes.{IsShaped}
 use Rattle.un_reader.proofs.LineTests.{all_shaped, all_keep, all_good}
-use Rattle.un_reader.proofs.Rules.{AreApart, IsGoodBefore, IsGoodLine, AreFaultless, lines_faultless, behind_all}
+use Rattle.un_faults.proofs.Rules.{AreApart, IsGoodBefore, IsGoodLine, AreFaultless, lines_faultless, behind_all}
 use Rattle.un_reader.proofs.TextLines.{solid, text_lines, group_lines, laid, Each-solid, names_solid, ops_solid, group_labels, EachOf}
 use Rattle.un_reader.proofs.TextLines.{from_groups, to_groups, count_groups, text_names, groups_back, text_order}
 use Rattle.un_reader.proofs.Fits.{IsKept, IsAsked, IsPlain, AreFit, lines_fit, fit_lines}

@@ -7,17 +7,17 @@ use Rattle.std.specs.Str.{bytes_eq}
 use Rattle.std.proofs.lemmas.Bool.{not-false}
 use Rattle.std.proofs.lemmas.Bool.Decides.{nat_tests}
 use Rattle.std.proofs.lemmas.Slice.Eq.{bytes_eq-Decides}
-use Rattle.un_reader.specs.Vocabulary.{Term, SourceBlock, TermLine, Jump, Branch, Ret, Line, Block}
-use Rattle.un_reader.specs.Vocabulary.{Terminator, Spelled}
+use Rattle.un_faults.specs.Vocabulary.{Term, SourceBlock, TermLine, Jump, Branch, Ret, Line, Block}
+use Rattle.un_faults.specs.Vocabulary.{Terminator, Spelled}
 use Rattle.un_ir.specs.Live.{targets_of}
 use Rattle.un_ir.specs.WellFormed.{gives_value, ReturnAlike}
-use Rattle.un_reader.specs.Groups.{Group, term_of, grouped}
-use Rattle.un_reader.specs.TextFaults.{later_block, last_block, ends_well, falls_off, jumps_outside, is_entry, jumps_to_entry}
-use Rattle.un_reader.specs.TextFaults.{value_on_term, value_on, first_value, differs, returns_else, mixed_return}
+use Rattle.un_faults.specs.Groups.{Group, term_of, grouped}
+use Rattle.un_faults.specs.TextFaults.{later_block, last_block, ends_well, falls_off, jumps_outside, is_entry, jumps_to_entry}
+use Rattle.un_faults.specs.TextFaults.{value_on_term, value_on, first_value, differs, returns_else, mixed_return}
 use Rattle.un_reader.specs.Functions.{block_id, term_by, block_of}
 use Rattle.un_words.proofs.Each.{Each-weaken, EachPair, EachPair-alike}
 use Rattle.un_words.proofs.TokenFacts.{IfThere}
-use Rattle.un_reader.proofs.FirstNames.{placed}
+use Rattle.un_faults.proofs.FirstNames.{placed}
 
 -- ---- a test that no element passes
 

@@ -1,6 +1,6 @@
 -- Liveness at the start of the entry.
 use Rattle.std.specs.Prelude.{◌<◌, List, length, Contains}
-use Rattle.un_reader.specs.Vocabulary.{NameId, Spelled}
+use Rattle.un_faults.specs.Vocabulary.{NameId, Spelled}
 use Rattle.un_ir.specs.declared.function.Block.{Block}
 use Rattle.un_ir.specs.Live.{IsLive}
 

@@ -3,12 +3,12 @@ use Rattle.std.specs.Prelude.{ℕ, ◌≡◌, List, [], ◌∷◌, Option, Some,
 use Rattle.std.specs.List.{position_or_len}
 use Rattle.std.specs.Option.{option_map}
 use Rattle.std.specs.Str.{bytes_eq}
-use Rattle.un_reader.specs.Vocabulary.{NameId, BlockId, SrcOp, Term, Fall, JumpTo, BranchTo, Return, SourceBlock, OpLine, TermLine}
-use Rattle.un_reader.specs.Vocabulary.{Jump, Branch, Ret, Line, Func, Spelled}
+use Rattle.un_faults.specs.Vocabulary.{NameId, BlockId, SrcOp, Term, Fall, JumpTo, BranchTo, Return, SourceBlock, OpLine, TermLine}
+use Rattle.un_faults.specs.Vocabulary.{Jump, Branch, Ret, Line, Func, Spelled}
 use Rattle.un_ir.specs.declared.function.Function.{Function}
-use Rattle.un_reader.specs.Before.{same_name, names_of, labels_of, name_of}
-use Rattle.un_reader.specs.Groups.{Group, grouped}
-use Rattle.un_reader.specs.Literals.{literal_value}
+use Rattle.un_faults.specs.Before.{same_name, names_of, labels_of, name_of}
+use Rattle.un_faults.specs.Groups.{Group, grouped}
+use Rattle.un_faults.specs.Literals.{literal_value}
 
 -- the number of a name is its place among the names
 abbrev pub name_id : List Spelled → Spelled → NameId

@@ -1,14 +1,5 @@
-pub mod Before
-pub mod Codes
 pub mod Entry
 pub mod Errors
 pub mod Functions
-pub mod Groups
-pub mod LineFaults
 pub mod Lines
-pub mod Literals
-pub mod Named
-pub mod Noted
 pub mod Read
-pub mod TextFaults
-pub mod Vocabulary

@@ -1,8 +1,8 @@
 -- The first line of a text that has a fault.
 use Rattle.std.specs.Prelude.{ℕ, ◌≡◌, ◌+◌, ◌<◌, List, length, Some, None, map}
-use Rattle.un_reader.specs.declared.fault.Fault.{Fault}
+use Rattle.un_faults.specs.declared.fault.Fault.{Fault}
 use Rattle.un_words.specs.declared.line.Line.{Line}
-use Rattle.un_reader.specs.LineFaults.{fault_at}
+use Rattle.un_faults.specs.LineFaults.{fault_at}
 use Rattle.un_words.specs.Shapes.{line_of}
 use Rattle.un_words.specs.Pieces.{lines_in}
 

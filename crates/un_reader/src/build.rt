@@ -4,18 +4,18 @@ ghost use Rattle.std.specs.Prelude.{◌≡◌, ◌+◌, ◌<◌, ◌^◌, ◌≤
 ghost use Rattle.std.specs.Option.{option_map};
 ghost use Rattle.std.specs.List.{position_or_len};
 ghost use Rattle.std.specs.Str.{bytes_eq};
-ghost use Rattle.un_reader.specs.Before.{same_name, names_of, labels_of, name_of};
-ghost use Rattle.un_reader.specs.Groups.{ops_of, term_of};
+ghost use Rattle.un_faults.specs.Before.{same_name, names_of, labels_of, name_of};
+ghost use Rattle.un_faults.specs.Groups.{ops_of, term_of};
 ghost use Rattle.un_reader.specs.Functions.{name_id, block_id, op_of, term_by, blocks_of, params_of, ArePartsOf};
 
 use crate::draft::Draft;
-use crate::literal::literal_value;
-use crate::names::Names;
-use crate::text_fault::find_term;
 use std::alloc::Global;
 use un_base::ids::{BlockId, NameId};
 use un_base::memory_error::NoMemory;
 use un_base::name::Name;
+use un_faults::literal::literal_value;
+use un_faults::names::Names;
+use un_faults::text_fault::find_term;
 use un_ir::function::{Block, Kind, SrcOp, Term};
 use un_lists::few::Few;
 use un_lists::items::Items;

@@ -1,22 +1,22 @@
 //! The lines of a text, each checked against what stands before it.
 
 ghost use Rattle.std.specs.Prelude.{◌≡◌, ◌+◌, ◌<◌, ◌≤◌, ◌^◌, ◌++◌, ◌∷◌, [], OnOk, IfOk, IfErr, Some, None, length};
-ghost use Rattle.un_reader.specs.Before.{before_of};
-ghost use Rattle.un_reader.specs.Codes.{code_of};
+ghost use Rattle.un_faults.specs.Before.{before_of};
+ghost use Rattle.un_faults.specs.Codes.{code_of};
 ghost use Rattle.un_reader.specs.declared.limits.TheConstants.{TEXT};
 ghost use Rattle.un_reader.specs.Errors.{Tells};
 ghost use Rattle.un_words.specs.Tokens.{tokens_of};
 ghost use Rattle.un_words.specs.Shapes.{shape_of, line_of};
-ghost use Rattle.un_reader.specs.LineFaults.{line_fault};
+ghost use Rattle.un_faults.specs.LineFaults.{line_fault};
 ghost use Rattle.un_reader.specs.Lines.{HasNoLineFault, IsFirstLineFault, shapes_in};
 ghost use Rattle.un_words.specs.Pieces.{lines_in};
 
-use crate::before::Before;
 use crate::error::ReadError;
-use crate::fault::Fault;
-use crate::line_fault::{are_plain, shaped_fault};
 use std::alloc::Global;
 use un_base::memory_error::NoMemory;
+use un_faults::before::Before;
+use un_faults::fault::Fault;
+use un_faults::line_fault::{are_plain, shaped_fault};
 use un_lists::items::Items;
 use un_words::line::Line;
 use un_words::pieces::{content, first_len};
@@ -61,32 +61,48 @@ fn good_line(alloc: Global, before: &Before, bytes: &[u8], place: usize) -> Resu
     }
 }
 
-/// Reads one line more.
-#[tactic(auto, using(crate::proofs::BeforeLaws::before_of_push, crate::proofs::BeforeLaws::few_ops))]
-fn add_line(
-    alloc: Global,
-    lines: &mut Items<Line>,
-    before: &mut Before,
-    bytes: &[u8],
-) -> Result<(), ReadError>
-    requires before { before.old ≡ before_of lines.old }
-    requires count { length lines.old < TEXT }
-    ensures good { OnOk result (line_fault before.old bytes.now ≡ None) }
-    ensures lines { OnOk result (lines.new ≡ lines.old ++ line_of bytes.now ∷ []) }
-    ensures before { OnOk result (before.new ≡ before_of lines.new) }
-    ensures bad { IfErr result (Tells (λ l fault. (l ≡ length lines.old + 1) × (line_fault before.old bytes.now ≡ Some fault))) }
-{
-    let line = good_line(alloc, before, bytes, lines.len())?;
-    before.note(&line)?;
-    lines.push(line)?;
-    Ok(())
-}
-
 /// The lines of a text, and what would stand before a line behind them.
 #[derive(Drop)]
 pub struct Checked {
     pub lines: Items<Line>,
     pub before: Before,
+}
+
+/// Reads one line more.
+#[tactic(auto, using(un_faults::proofs::BeforeLaws::before_of_push, un_faults::proofs::BeforeLaws::few_ops))]
+fn add_line(alloc: Global, checked: &mut Checked, bytes: &[u8]) -> Result<(), ReadError>
+    requires before { checked.old.before ≡ before_of checked.old.lines }
+    requires count { length checked.old.lines < TEXT }
+    ensures good { OnOk result (line_fault checked.old.before bytes.now ≡ None) }
+    ensures lines { OnOk result (checked.new.lines ≡ checked.old.lines ++ line_of bytes.now ∷ []) }
+    ensures before { OnOk result (checked.new.before ≡ before_of checked.new.lines) }
+    ensures bad { IfErr result (Tells (λ l fault. (l ≡ length checked.old.lines + 1)
+        × (line_fault checked.old.before bytes.now ≡ Some fault))) }
+{
+    let line = good_line(alloc, &checked.before, bytes, checked.lines.len())?;
+    checked.before.note(&line)?;
+    checked.lines.push(line)?;
+    Ok(())
+}
+
+/// Reads the lines of a text, of which none has been read.
+fn add_lines(alloc: Global, checked: &mut Checked, text: &[u8]) -> Result<(), ReadError>
+    requires lines { checked.old.lines ≡ [] }
+    requires before { checked.old.before ≡ before_of [] }
+    requires count { length text.now ≤ TEXT }
+    ensures good { OnOk result (HasNoLineFault (lines_in text.now)) }
+    ensures lines { OnOk result (checked.new.lines ≡ shapes_in text.now) }
+    ensures before { OnOk result (checked.new.before ≡ before_of checked.new.lines) }
+    ensures count { OnOk result (length checked.new.lines ≤ length text.now) }
+    ensures bad { IfErr result (Tells (IsFirstLineFault (lines_in text.now))) }
+{
+    let mut rest = text;
+    while !rest.is_empty() {
+        let len = first_len(rest);
+        add_line(alloc, checked, content(&rest[..len]))?;
+        rest = &rest[len..];
+    }
+    Ok(())
 }
 
 /// The lines of a text by their shapes, one for each, where none has a fault, or else the first fault.
@@ -98,13 +114,12 @@ pub fn check_lines(alloc: Global, text: &[u8]) -> Result<Checked, ReadError>
     ensures count { IfOk result (λ checked. length checked.lines ≤ length text.now) }
     ensures bad { IfErr result (Tells (IsFirstLineFault (lines_in text.now))) }
 {
-    let mut lines = Items::new(alloc);
-    let mut before = Before::new(alloc);
-    let mut rest = text;
-    while !rest.is_empty() {
-        let len = first_len(rest);
-        add_line(alloc, &mut lines, &mut before, content(&rest[..len]))?;
-        rest = &rest[len..];
+    let mut checked = Checked {
+        lines: Items::new(alloc),
+        before: Before::new(alloc),
+    };
+    match add_lines(alloc, &mut checked, text) {
+        Ok(_) => Ok(checked),
+        Err(error) => Err(error),
     }
-    Ok(Checked { lines, before })
 }

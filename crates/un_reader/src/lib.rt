@@ -1,17 +1,10 @@
-//! Reading functions: the faults of a line given what stands before it, the faults of a whole text, and the function.
+//! Reading functions: the first fault of a text, or the function that it is.
 #![tactic(auto)]
 
-pub mod before;
 pub mod build;
 pub mod check;
 pub mod draft;
 pub mod entry;
 pub mod error;
-pub mod fault;
 pub mod limits;
-pub mod line_fault;
-mod literal;
-pub mod names;
-mod new_names;
 pub mod read;
-pub mod text_fault;

@@ -12,7 +12,7 @@ use Rattle.std.proofs.Math.Seq.{take-append_seam}
 use Rattle.un_base.specs.Lines.{pieces_of, HasNoFeed}
 use Rattle.un_base.proofs.LineLaws.{pieces_of-line}
 use Rattle.un_ir.specs.Text.{ended}
-use Rattle.un_reader.specs.LineFaults.{is_plain_byte}
+use Rattle.un_faults.specs.LineFaults.{is_plain_byte}
 use Rattle.un_words.specs.Pieces.{ends_with, without_end, without_comment, lines_in}
 
 -- a byte from a space to a tilde, but no semicolon

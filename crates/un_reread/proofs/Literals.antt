@@ -6,7 +6,7 @@ use Rattle.un_isa.specs.declared.facts.Range.{Range}
 use Rattle.un_isa.specs.declared.facts.Range.TheVariants.{Signed16, Signed10, Unsigned5}
 use Rattle.un_isa.specs.Facts.{literal_range}
 use Rattle.un_isa.specs.Operands.{IsLiteralOf, IsSigned16, HasLiteral}
-use Rattle.un_reader.specs.Literals.{literal_value}
+use Rattle.un_faults.specs.Literals.{literal_value}
 use Rattle.un_reread.specs.Printed.{as_number}
 
 small : (literal : Option Range) (z : ℤ) → IsLiteralOf literal z → IsSigned16 z

@@ -7,7 +7,7 @@ use Rattle.std.proofs.lemmas.Bool.Decides.{nat_tests}
 use Rattle.std.proofs.lemmas.List.{length-append}
 use Rattle.std.proofs.lemmas.List.Folds.{list_all-append}
 use Rattle.un_base.specs.Names.{is_first, is_rest}
-use Rattle.un_reader.specs.Vocabulary.{Kind, General, Pred}
+use Rattle.un_faults.specs.Vocabulary.{Kind, General, Pred}
 use Rattle.un_ir.specs.Text.{with_sigil}
 use Rattle.un_ir.specs.WellFormed.{IsName}
 use Rattle.un_words.specs.declared.token.Token.{Token}

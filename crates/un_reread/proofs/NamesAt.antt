@@ -1,7 +1,7 @@
 -- The words of the names of a function.
 use Rattle.std.proofs.Common.{◌≡◌, ℕ, List, ◌∷◌, Option, Some, None, slice_get, option_map, refl, subst, All}
 use Rattle.std.proofs.lemmas.Option.{slice_get_within, get_or_from_slice_get}
-use Rattle.un_reader.specs.Vocabulary.{NameId, Kind}
+use Rattle.un_faults.specs.Vocabulary.{NameId, Kind}
 use Rattle.un_ir.specs.Text.{Names, name_text}
 use Rattle.un_ir.specs.WellFormed.{IsName, IsOfKind}
 use Rattle.un_words.specs.declared.token.Token.TheVariants.{Named, Negated}

@@ -5,7 +5,7 @@ use Rattle.un_isa.specs.declared.reg.Space.{Space}
 use Rattle.un_isa.specs.declared.facts.Range.{Range}
 use Rattle.un_isa.specs.declared.facts.Range.TheVariants.{Offset}
 use Rattle.un_ir.specs.Text.{with_literal}
-use Rattle.un_reader.specs.Vocabulary.{Number, Token, Spelled}
+use Rattle.un_faults.specs.Vocabulary.{Number, Token, Spelled}
 use Rattle.un_words.specs.declared.token.Token.TheVariants.{Named, Literal}
 use Rattle.un_words.specs.declared.slot.Slot.{Slot}
 use Rattle.un_words.specs.declared.slot.Slot.TheVariants.{Literal as LiteralSlot}

@@ -2,7 +2,7 @@
 use Rattle.std.proofs.Common.{◌≡◌, ℕ, ◌+◌, ◌*◌, ◌≤◌, true, false, List, [], ◌∷◌, ◌++◌, map, codes, length, Option, Some, None, IfSome}
 use Rattle.std.proofs.Common.{option_map}
 use Rattle.std.proofs.Common.{refl, sym, arith, subst, append_assoc}
-use Rattle.un_reader.specs.Vocabulary.{NameId, Kind, SrcOp, Token, Spelled}
+use Rattle.un_faults.specs.Vocabulary.{NameId, Kind, SrcOp, Token, Spelled}
 use Rattle.un_base.specs.Names.{is_name}
 use Rattle.un_isa.specs.Facts.{source_name}
 use Rattle.un_ir.specs.Text.{Names, name_text, result_text, comma_joined, spaced, callee_text, operand_texts, op_line}

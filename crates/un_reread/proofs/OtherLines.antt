@@ -4,8 +4,8 @@ use Rattle.std.proofs.Common.{refl, ap}
 use Rattle.std.proofs.Common.{◌∙◌, arith, All, flat_map, decimal}
 use Rattle.std.specs.List.{list_all}
 use Rattle.std.proofs.lemmas.List.Elements.{All-head, All-tail}
-use Rattle.un_reader.specs.Vocabulary.{NameId, General, Pred, SourceBlock, Term, Fall, JumpTo, BranchTo, Return, Token, Number, Line, Func}
-use Rattle.un_reader.specs.Vocabulary.{Block, Jump, Branch, Ret, Terminator, Spelled}
+use Rattle.un_faults.specs.Vocabulary.{NameId, General, Pred, SourceBlock, Term, Fall, JumpTo, BranchTo, Return, Token, Number, Line, Func}
+use Rattle.un_faults.specs.Vocabulary.{Block, Jump, Branch, Ret, Terminator, Spelled}
 use Rattle.un_ir.specs.declared.function.Function.{Function}
 use Rattle.un_ir.specs.declared.function.TheConstants.{FREQUENCY, PARAMS}
 use Rattle.un_ir.specs.Text.{Names, name_text, label_of, func_line, block_line, term_lines}

@@ -12,9 +12,9 @@ use Rattle.un_words.specs.Shapes.{line_of}
 use Rattle.un_words.specs.Tokens.{Spelled}
 use Rattle.un_reader.specs.Lines.{HasNoLineFault, shapes_in}
 use Rattle.un_words.specs.Pieces.{lines_in}
-use Rattle.un_reader.specs.TextFaults.{shape_fault}
-use Rattle.un_reader.specs.Before.{names_of}
-use Rattle.un_reader.specs.Groups.{Group, grouped}
+use Rattle.un_faults.specs.TextFaults.{shape_fault}
+use Rattle.un_faults.specs.Before.{names_of}
+use Rattle.un_faults.specs.Groups.{Group, grouped}
 use Rattle.un_reader.specs.Functions.{name_id, block_of, IsFunctionOf}
 use Rattle.un_reader.specs.Read.{IsRead}
 use Rattle.un_reader.proofs.LineTests.{lines_are, no_line_fault}

@@ -2,7 +2,7 @@
 use Rattle.std.proofs.Common.{◌≡◌, ℕ, ◌+◌, ◌++◌, List, [], ◌∷◌, Some, map, slice_get, refl, append_assoc}
 use Rattle.std.specs.List.{All, AllByRecursion as Each, flat_map}
 use Rattle.std.proofs.lemmas.List.Elements.{All-nil, All-cons, All-weaker, recursion_from_All as Each-from}
-use Rattle.un_reader.specs.Vocabulary.{SrcOp, Term, SourceBlock, Line}
+use Rattle.un_faults.specs.Vocabulary.{SrcOp, Term, SourceBlock, Line}
 use Rattle.un_ir.specs.declared.function.Function.{Function}
 use Rattle.un_ir.specs.Text.{Names, op_line, term_lines, block_lines, function_lines}
 use Rattle.un_ir.specs.WellFormed.{IsName, IsGoodOp, IsGoodBlock, TestsItsKind, LeadsInside, IsWellFormed}

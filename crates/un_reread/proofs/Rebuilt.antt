@@ -10,17 +10,17 @@ use Rattle.std.proofs.lemmas.List.{length-map, map-append}
 use Rattle.std.proofs.lemmas.List.Elements.{recursion_from_All as Each-from}
 use Rattle.std.proofs.lemmas.List.Sums.{position_or_len_is}
 use Rattle.std.proofs.lemmas.Slice.Eq.{bytes_eq-Decides}
-use Rattle.un_reader.specs.Vocabulary.{NameId, BlockId, SrcOp, Term, Fall, JumpTo, BranchTo, Return, SourceBlock}
+use Rattle.un_faults.specs.Vocabulary.{NameId, BlockId, SrcOp, Term, Fall, JumpTo, BranchTo, Return, SourceBlock}
 use Rattle.un_ir.specs.Live.{read_by_term}
 use Rattle.un_ir.specs.Names.{names_on_op, names_in_block, appearances}
 use Rattle.un_ir.specs.Text.{Names, label_of}
 use Rattle.un_ir.specs.WellFormed.{IsWellFormed, LeadsInside, IsGoodBlock, IsGoodOp}
 use Rattle.un_isa.specs.Operands.{HasLiteral}
-use Rattle.un_reader.specs.Before.{numbered, names_of}
-use Rattle.un_reader.specs.Groups.{Group}
+use Rattle.un_faults.specs.Before.{numbered, names_of}
+use Rattle.un_faults.specs.Groups.{Group}
 use Rattle.un_words.specs.LineNames.{names_on}
 use Rattle.un_reader.specs.Functions.{name_id, block_id, op_of, term_by, block_of}
-use Rattle.un_reader.specs.Literals.{literal_value}
+use Rattle.un_faults.specs.Literals.{literal_value}
 use Rattle.un_words.proofs.Each.{Each-left, Each-right, Each-unflat}
 use Rattle.un_reader.proofs.NameNumbers.{IsPlace, place_back, numbers_placed, names_first}
 use Rattle.un_reader.proofs.TextLines.{text_lines, names_on_line, names_at_end, group_names, names_of_groups}

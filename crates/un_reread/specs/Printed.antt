@@ -1,9 +1,9 @@
 -- The lines of a function's text, as a reader finds them.
 use Rattle.std.specs.Prelude.{ℤ, pos, negsuc, ◌+◌, true, false, List, [], Option, Some, None, map, slice_get, unwrap_or}
 use Rattle.std.specs.Option.{option_map}
-use Rattle.un_reader.specs.Groups.{Group}
-use Rattle.un_reader.specs.Vocabulary.{NameId, General, SrcOp, Term, Fall, JumpTo, BranchTo, Return, SourceBlock, Number, OpLine, TermLine}
-use Rattle.un_reader.specs.Vocabulary.{Jump, Branch, Ret, Spelled}
+use Rattle.un_faults.specs.Groups.{Group}
+use Rattle.un_faults.specs.Vocabulary.{NameId, General, SrcOp, Term, Fall, JumpTo, BranchTo, Return, SourceBlock, Number, OpLine, TermLine}
+use Rattle.un_faults.specs.Vocabulary.{Jump, Branch, Ret, Spelled}
 use Rattle.un_ir.specs.Text.{Names, label_of}
 
 -- a name as it is spelled

@@ -13,7 +13,7 @@ use Rattle.un_base.specs.declared.status.Status.TheVariants.{Done, Infeasible, S
 use Rattle.un_base.specs.declared.status.Status.TheVariants.{BadReport}
 use Rattle.un_ir.specs.declared.function.Function.{Function}
 use Rattle.un_reader.specs.Read.{IsRead, IsTextFault, too_long}
-use Rattle.un_reader.specs.declared.fault.Fault.TheVariants.{TooMany}
+use Rattle.un_faults.specs.declared.fault.Fault.TheVariants.{TooMany}
 use Rattle.un_top.specs.Faults.{IsFault}
 use Rattle.un_top.specs.Reports.{IsReportOf}
 use Rattle.un_top.specs.Runs.{AnswersFault, AnswersAccepted, IsAnswer, IsRefusal, KeepsOut, OutAfter}

@@ -3,13 +3,13 @@ use Rattle.std.proofs.Common.{ℕ, zero, suc, ◌≡◌, ◌+◌, ◌<◌, ◌�
 use Rattle.std.proofs.Common.{slice_get, refl, sym, ap, ◌∙◌, subst, arith}
 use Rattle.std.proofs.lemmas.Bool.{cases_lt}
 use Rattle.un_ir.specs.declared.function.Function.{Function}
-use Rattle.un_reader.specs.Codes.{code_of}
-use Rattle.un_reader.specs.LineFaults.{fault_at}
+use Rattle.un_faults.specs.Codes.{code_of}
+use Rattle.un_faults.specs.LineFaults.{fault_at}
 use Rattle.un_reader.specs.Lines.{HasNoLineFault, IsFirstLineFault, shapes_in}
 use Rattle.un_words.specs.Pieces.{lines_in}
 use Rattle.un_reader.specs.Read.{IsRead, IsTextFault, too_long, on_line, in_whole, at_entry}
-use Rattle.un_reader.specs.declared.fault.Fault.{Fault}
-use Rattle.un_reader.specs.declared.fault.Fault.TheVariants.{TooMany}
+use Rattle.un_faults.specs.declared.fault.Fault.{Fault}
+use Rattle.un_faults.specs.declared.fault.Fault.TheVariants.{TooMany}
 use Rattle.un_reader.proofs.OneAnswer.{no_line_fault, language_or_fault}
 use Rattle.un_top.specs.Faults.{IsFault}
 

@@ -1,5 +1,6 @@
 pub mod Each
 pub mod LineShapes
+pub mod NameBytes
 pub mod NumberLaws
 pub mod OpShapes
 pub mod PieceLaws

@@ -1,9 +1,9 @@
 use Rattle.std.proofs.Common.{rules, sym, ◌∙◌, ◌≡◌, ◌+◌, None, true, false, refl}
 use Rattle.std.specs.List.{list_all}
-use Rattle.un_reader.specs.declared.fault.Fault.TheVariants.{BadByte, BadLine}
+use Rattle.un_faults.specs.declared.fault.Fault.TheVariants.{BadByte, BadLine}
 use Rattle.un_words.specs.Tokens.{tokens_of}
 use Rattle.un_words.specs.Shapes.{shape_of}
-use Rattle.un_reader.specs.LineFaults.{is_plain_byte}
+use Rattle.un_faults.specs.LineFaults.{is_plain_byte}
 use Rattle.un_reader.proofs.CheckLaws.{told, bad_byte, bad_line}
 use Rattle.un_reader.proofs.check.good_line.Goals as goal
 

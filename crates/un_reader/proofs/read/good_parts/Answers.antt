@@ -1,10 +1,10 @@
 use Rattle.std.proofs.Common.{rules, ◌≡◌, ◌+◌, [], Some, length, sym, ap, ◌∙◌}
-use Rattle.un_reader.specs.declared.before.Before.{Before}
-use Rattle.un_reader.specs.declared.fault.Fault.TheVariants.{NoBlock}
+use Rattle.un_faults.specs.declared.before.Before.{Before}
+use Rattle.un_faults.specs.declared.fault.Fault.TheVariants.{NoBlock}
 use Rattle.un_reader.specs.declared.error.ReadError.TheVariants.{TextFault}
-use Rattle.un_reader.specs.Codes.{code_of}
-use Rattle.un_reader.specs.Before.{labels_of}
-use Rattle.un_reader.specs.TextFaults.{shape_fault}
+use Rattle.un_faults.specs.Codes.{code_of}
+use Rattle.un_faults.specs.Before.{labels_of}
+use Rattle.un_faults.specs.TextFaults.{shape_fault}
 use Rattle.un_reader.proofs.CheckLaws.{told}
 use Rattle.un_reader.proofs.ReadLaws.{unnamed}
 use Rattle.un_reader.proofs.read.good_parts.Goals as goal

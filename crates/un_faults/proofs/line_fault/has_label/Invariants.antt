@@ -1,0 +1,8 @@
+-- the labels that are left decide
+use Rattle.std.proofs.Common.{◌≡◌, drop}
+use Rattle.std.specs.List.{list_any}
+use Rattle.std.specs.Str.{bytes_eq}
+use Rattle.un_faults.proofs.line_fault.has_label.Given as goal
+
+abbrev pub invariant-loop-other : goal.invariant-loop-other
+invariant-loop-other l = list_any (bytes_eq l.label) l.labels ≡ list_any (bytes_eq l.label) (drop l.other-index l.labels)

@@ -1,0 +1,9 @@
+pub mod Before
+pub mod Codes
+pub mod Groups
+pub mod LineFaults
+pub mod Literals
+pub mod Named
+pub mod Noted
+pub mod TextFaults
+pub mod Vocabulary

@@ -1,6 +1,0 @@
-use Rattle.std.proofs.Common.{◌∙◌}
-use Rattle.un_listing.proofs.LabelEq.{any_same}
-use Rattle.un_listing.proofs.labels.Labels.has.Goals as goal
-
-pub returns : goal.returns
-returns c = rw (← c.self.view_is) (c.contains.ensures ∙ any_same c.args.label.now c.self.inside.places.keys)

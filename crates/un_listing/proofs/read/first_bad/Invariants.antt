@@ -1,6 +1,0 @@
--- the lines so far stand
-use Rattle.un_listing.proofs.Standing.{StandSoFar}
-use Rattle.un_listing.proofs.read.first_bad.Given as goal
-
-abbrev pub invariant-loop-k : goal.invariant-loop-k
-invariant-loop-k l = StandSoFar l.before l.lines l.k

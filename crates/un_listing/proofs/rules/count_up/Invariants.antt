@@ -1,7 +1,0 @@
--- the numbers count up so far
-use Rattle.std.proofs.Common.{◌≡◌, drop}
-use Rattle.un_listing.specs.Needed.{counts_from}
-use Rattle.un_listing.proofs.rules.count_up.Given as goal
-
-abbrev pub invariant-loop-i : goal.invariant-loop-i
-invariant-loop-i l = counts_from 0 l.regs ≡ counts_from l.i (drop l.i l.regs)

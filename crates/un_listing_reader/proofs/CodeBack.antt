@@ -1,0 +1,201 @@
+-- Code is read back from its listing.
+use Rattle.std.proofs.Common.{
+  ◌≡◌,
+  ◌<◌,
+  ℕ,
+  ◌+◌,
+  pos,
+  List,
+  [],
+  ◌∷◌,
+  ◌++◌,
+  Option,
+  None,
+  codes,
+  All,
+  inl,
+  inr,
+  refl,
+  sym,
+  ap,
+  ◌∙◌,
+  subst,
+  arith,
+}
+use Rattle.std.specs.List.{AllZip, flat_map}
+use Rattle.std.specs.Fmt.{decimal}
+use Rattle.std.specs.Coded.{coded_list}
+use Rattle.std.proofs.lemmas.List.Elements.{All-from_recursion}
+use Rattle.std.proofs.Math.Logic.{∥∥₁_elim, ∥∥₁_prop}
+use Rattle.std.proofs.Math.Nat.{ℕ_set}
+use base.Stored.{Coded-set}
+use Rattle.un_base.specs.Lines.{pieces_of, joined_lines}
+use Rattle.un_isa.specs.declared.op.Op.TheVariants.{Jumpr}
+use Rattle.un_packet.specs.contracts.code.CodeBlock as block_row
+use Rattle.un_packet.specs.declared.code.Packet.{Packet}
+use Rattle.un_packet.specs.declared.code.CodeBlock.{CodeBlock}
+use Rattle.un_packet.specs.declared.code.Code.{Code}
+use Rattle.un_packet.specs.CodeRules.{KeepsRules, labels_of}
+use Rattle.un_packet.proofs.Assembly.{i, packet, block}
+use Rattle.un_packet.proofs.Kept.{kept_without_frame}
+use Rattle.un_listing_reader.specs.declared.line.Line.{Line}
+use Rattle.un_listing_reader.specs.declared.read.ListingError.{ListingError}
+use Rattle.un_listing_reader.specs.declared.read.ListingError.TheVariants.{NoMemory, BadListing}
+use Rattle.un_listing.specs.Listing.{block_lines, code_text}
+use Rattle.un_listing_reader.specs.PacketWords.{IsNamed}
+use Rattle.un_listing_reader.specs.Reading.{lines_in, HasNames, IsReadAs, IsFrameLine, IsFirstBad, IsFirstBadIn, IsFirstBadOf, IsErrorOf}
+use Rattle.un_listing_reader.specs.Reading.{IsListingOf, frame_text}
+use Rattle.un_listing_reader.proofs.LinesStand.{lines_stand}
+use Rattle.un_listing_reader.proofs.LineTexts.{blocks_spelled, first_piece}
+use Rattle.un_listing_reader.proofs.LinesBack.{same_frame, readings_same, spelled_read, blocks_same}
+
+parts_same : {X : Type 0} (x y : X) (xs ys : List X) → x ∷ xs ≡ y ∷ ys → (x ≡ y) × (xs ≡ ys)
+parts_same x y xs ys e = (cc e, cc e)
+
+-- the listing of a frame and blocks
+abbrev listing : ℕ → List CodeBlock → List ℕ
+listing frame bs = joined_lines ((codes "frame " ++ decimal frame) ∷ flat_map block_lines bs)
+
+abbrev rest_of : List CodeBlock → List (List ℕ)
+rest_of bs = pieces_of (joined_lines (flat_map block_lines bs))
+
+module _ (frame : ℕ) (bs : List CodeBlock) (rules : KeepsRules frame bs) (names : All HasNames bs) where
+  readings : AllZip (IsReadAs frame) (rest_of bs) (lines_in bs)
+  readings =
+      spelled_read frame rules.small (rest_of bs) (lines_in bs)
+      (blocks_spelled frame rules.small (labels_of bs) bs rules.good_blocks names)
+
+  pieces : pieces_of (listing frame bs) ≡ frame_text frame ∷ rest_of bs
+  pieces = first_piece frame rules.small (flat_map block_lines bs)
+
+  framed : IsFrameLine (frame_text frame) frame
+  framed = record { whole = rules.whole; small = rules.small; spelled = refl }
+
+  -- each reading of the pieces is this one
+  one_text : (first : List ℕ) (rest : List (List ℕ)) (other : ℕ) (lines : List (Option Line)) → first ≡ frame_text frame → rest ≡ rest_of bs
+      → IsFrameLine first other → AllZip (IsReadAs other) rest lines → (other ≡ frame) × (lines ≡ lines_in bs)
+  one_text first rest other lines e f is read =
+      let same : other ≡ frame = same_frame first other frame is.small rules.small is.spelled e in (
+        same,
+        readings_same frame rules.small (rest_of bs) lines (lines_in bs)
+            (subst (λ (n : ℕ). AllZip (IsReadAs n) (rest_of bs) lines) same
+            (subst (λ (ts : List (List ℕ)). AllZip (IsReadAs other) ts lines) f read))
+            readings,
+      )
+
+  -- no line of it is bad
+  pub none_bad : (number : ℕ) → IsFirstBad (listing frame bs) number → ⊥
+  none_bad number bad = by (subst (λ (ts : List (List ℕ)). IsFirstBadIn ts number) pieces bad)
+    where
+      stood : (lines : List (Option Line)) (place : ℕ) → lines ≡ lines_in bs → IsFirstBadOf lines place → ⊥
+      stood lines place e h =
+          let all = lines_stand frame bs rules in
+          let k : IsFirstBadOf (lines_in bs) place = subst (λ (ls : List (Option Line)). IsFirstBadOf ls place) e h in
+          k.here (all.each place (k.inside all.some))
+
+      by : IsFirstBadIn (frame_text frame ∷ rest_of bs) number → ⊥
+      by (inl (none, e)) = none frame framed
+      by (inr h) = stood h.lines h.place (one_text (frame_text frame) (rest_of bs) h.frame h.lines refl refl h.framed h.read).1 h.bad
+
+-- frames and blocks with one listing are the same
+module _ (frame frame' : ℕ) (bs bs' : List CodeBlock) (rules : KeepsRules frame bs) (rules' : KeepsRules frame' bs')
+    (names : All HasNames bs) (names' : All HasNames bs') (same : listing frame bs ≡ listing frame' bs') where
+  parts : (frame_text frame ≡ frame_text frame') × (rest_of bs ≡ rest_of bs')
+  parts = parts_same _ _ _ _ (sym (pieces frame bs rules names) ∙ ap pieces_of same ∙ pieces frame' bs' rules' names')
+
+  one_listing : (frame ≡ frame') × (lines_in bs ≡ lines_in bs')
+  one_listing =
+      one_text frame' bs' rules' names' (frame_text frame) (rest_of bs) frame (lines_in bs) parts.0 parts.1 (framed frame bs rules names)
+      (readings frame bs rules names)
+
+-- ---- code
+
+blocks_set : (bs bs' : List CodeBlock) (p q : bs ≡ bs') → p ≡ q
+blocks_set = Coded-set (coded_list block_row.the_row.coded)
+
+abbrev Keeps : ℕ → List CodeBlock → Type 0
+Keeps frame bs = ∥ KeepsRules frame bs ∥₁
+
+abbrev made : (frame : ℕ) (bs : List CodeBlock) → Keeps frame bs → Code
+made frame bs rules = record { frame = frame; blocks = bs; rules = rules }
+
+-- code is told by its parts, since its rules are kept in one way
+same_code : (frame frame' : ℕ) (bs bs' : List CodeBlock) → frame ≡ frame' → bs ≡ bs' → (rules : Keeps frame bs) (rules' : Keeps frame' bs')
+    → made frame bs rules ≡ made frame' bs' rules'
+same_code frame frame' bs bs' e f rules =
+    subst (λ (n : ℕ). (k : Keeps n bs') → made frame bs rules ≡ made n bs' k) e
+    (subst (λ (x : List CodeBlock). (k : Keeps frame x) → made frame bs rules ≡ made frame x k) f
+    (λ k. ap (made frame bs) (∥∥₁_prop rules k)))
+
+-- a text is the listing of one code
+pub one_code : (text : List ℕ) (c d : Code) → IsListingOf text c → IsListingOf text d → c ≡ d
+one_code text c d h k = same_code c.frame d.frame c.blocks d.blocks frames blocks c.rules d.rules
+  where
+    both : KeepsRules c.frame c.blocks → KeepsRules d.frame d.blocks → (c.frame ≡ d.frame) × (lines_in c.blocks ≡ lines_in d.blocks)
+    both of_c of_d = one_listing c.frame d.frame c.blocks d.blocks of_c of_d h.names k.names (sym h.spelled ∙ k.spelled)
+
+    frames : c.frame ≡ d.frame
+    frames = ∥∥₁_elim c.rules (ℕ_set _ _) (λ of_c. ∥∥₁_elim d.rules (ℕ_set _ _) (λ of_d. (both of_c of_d).0))
+
+    blocks : c.blocks ≡ d.blocks
+    blocks =
+        ∥∥₁_elim c.rules (blocks_set _ _)
+        (λ of_c. ∥∥₁_elim d.rules (blocks_set _ _) (λ of_d. blocks_same c.blocks d.blocks (both of_c of_d).1))
+
+-- no listing of code is refused
+pub refused : (text : List ℕ) (e : ListingError) (c : Code) → IsErrorOf text e → IsListingOf text c → e ≡ NoMemory
+refused text NoMemory c h k = refl
+refused text (BadListing line) c h k =
+    absurd (∥∥₁_elim c.rules (λ (x y : ⊥). absurd x)
+    (λ rules. none_bad c.frame c.blocks rules k.names line (subst (λ (t : List ℕ). IsFirstBad t line) k.spelled h)))
+
+-- ---- the first bad line
+
+one_place : (lines : List (Option Line)) (j k : ℕ) → IsFirstBadOf lines j → IsFirstBadOf lines k → j ≡ k
+one_place lines j k h g =
+    let not_before : j < k → ⊥ = λ below. h.here (g.before j below) in
+    let not_behind : k < j → ⊥ = λ below. g.here (h.before k below) in
+    omega arith
+
+-- a text has at most one first bad line
+pub one_bad : (text : List ℕ) (m n : ℕ) → IsFirstBad text m → IsFirstBad text n → m ≡ n
+one_bad text m n = by (pieces_of text)
+  where
+    by : (ts : List (List ℕ)) → IsFirstBadIn ts m → IsFirstBadIn ts n → m ≡ n
+    by [] e f = e ∙ sym f
+    by (t ∷ ts) (inl (none, e)) (inl (other, f)) = e ∙ sym f
+    by (t ∷ ts) (inl (none, e)) (inr h) = absurd (none h.frame h.framed)
+    by (t ∷ ts) (inr h) (inl (none, e)) = absurd (none h.frame h.framed)
+    by (t ∷ ts) (inr h) (inr k) =
+        let frames : h.frame ≡ k.frame = same_frame t h.frame k.frame h.framed.small k.framed.small h.framed.spelled k.framed.spelled in
+        let lines : h.lines ≡ k.lines = readings_same k.frame k.framed.small ts h.lines k.lines
+        (subst (λ (f : ℕ). AllZip (IsReadAs f) ts h.lines) frames h.read) k.read in
+        h.numbered
+        ∙ ap (λ (p : ℕ). p + 2) (one_place k.lines h.place k.place
+        (subst (λ (ls : List (Option Line)). IsFirstBadOf ls h.place) lines h.bad) k.bad)
+        ∙ sym k.numbered
+
+-- ---- there is a listing
+
+-- `jumpr r31` alone under a label
+abbrev returning : Code
+returning = record {
+  frame = 0;
+  blocks = block (codes "e") (packet (i Jumpr None (31 ∷ []) (pos 0) None ∷ []) ∷ []) ∷ [];
+  rules = ∣ kept_without_frame ∣₁;
+}
+
+pub returning_listed : IsListingOf (code_text returning) returning
+returning_listed = record {
+  names = All-from_recursion HasNames returning.blocks (
+    record {
+      label = refl;
+      packets = All-from_recursion (λ (p : Packet). All IsNamed p.instrs) (packet (i Jumpr None (31 ∷ []) (pos 0) None ∷ []) ∷ []) (
+        All-from_recursion IsNamed (i Jumpr None (31 ∷ []) (pos 0) None ∷ []) (tt, tt),
+        tt,
+      );
+    },
+    tt,
+  );
+  spelled = refl;
+}

@@ -1,0 +1,17 @@
+pub mod CleanTexts
+pub mod CodeBack
+pub mod CodeRead
+pub mod Judged
+pub mod LabelEq
+pub mod LabelNames
+pub mod LineCuts
+pub mod LineTexts
+pub mod LinesBack
+pub mod LinesStand
+pub mod NeedLaws
+pub mod Noting
+pub mod PacketBack
+pub mod PartCuts
+pub mod RulesKept
+pub mod Standing
+pub mod TextRead

@@ -1,0 +1,4 @@
+pub mod LabelSets
+pub mod Needed
+pub mod PacketWords
+pub mod Reading

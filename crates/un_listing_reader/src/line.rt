@@ -1,0 +1,67 @@
+//! The lines of a listing behind the first, as they are read.
+
+ghost use Rattle.std.specs.Prelude.{◌≡◌, ◌≢◌, ℕ, List, [], ◌∷◌, ◌++◌, ◌≤◌, true, IfOk, IfSome, IfNone, codes};
+ghost use Rattle.un_base.specs.Names.{is_name};
+ghost use Rattle.un_listing_reader.specs.Reading.{Spells, IsReadAs, IsFrameLine};
+
+use crate::packet::read_packet;
+use std::alloc::Global;
+use un_base::decimal::read_decimal;
+use un_base::memory_error::NoMemory;
+use un_base::name::Name;
+use un_isa::reg::FRAME;
+use un_packet::code::Packet;
+
+/// A line behind the first: the line of a block's label, or of a packet.
+#[derive(Drop)]
+pub enum Line {
+    Block(Name),
+    Packet(Packet),
+}
+
+/// What stands between a text and the line feed.
+fn within<'a>(line: &'a [u8], start: &[u8]) -> Option<&'a [u8]>
+    ensures some { IfSome result (λ rest. line.now ≡ start.now ++ (rest.now ++ 10 ∷ [])) }
+    ensures none { IfNone result ((rest : List ℕ) → line.now ≢ start.now ++ (rest ++ 10 ∷ [])) }
+{
+    line.strip_prefix(start)?.strip_suffix(b"\n")
+}
+
+/// The label of a block's line.
+fn block_label(line: &[u8]) -> Option<Name>
+    ensures some { IfSome result (λ label. (is_name label ≡ true) × (line.now ≡ codes "block " ++ (label ++ codes "\n"))) }
+    ensures whole { (label : List ℕ) → is_name label ≡ true → line.now ≡ codes "block " ++ (label ++ codes "\n") → result ≡ Some label }
+{
+    Name::from_bytes(within(line, b"block ")?)
+}
+
+/// The line of a listing with a frame of so many bytes, behind its first line, where it spells one.
+///
+/// # Errors
+/// `NoMemory` where there is no memory for the line or for what it is compared with.
+pub fn read_line(alloc: Global, frame: u32, text: &[u8]) -> Result<Option<Line>, NoMemory>
+    requires { frame ≤ 256 }
+    ensures read { IfOk result (IsReadAs frame text.now) }
+    ensures whole { (line : Line) → Spells frame text.now line → IfOk result (λ r. r ≡ Some line) }
+{
+    if let Some(label) = block_label(text) {
+        return Ok(Some(Line::Block(label)));
+    }
+    match read_packet(alloc, frame, text)? {
+        Some(packet) => Ok(Some(Line::Packet(packet))),
+        None => Ok(None),
+    }
+}
+
+/// The size of the frame in bytes, where the first line spells it.
+pub fn read_frame(text: &[u8]) -> Option<u32>
+    ensures some { IfSome result (IsFrameLine text.now) }
+    ensures none { IfNone result ((frame : ℕ) → ¬ (IsFrameLine text.now frame)) }
+{
+    let frame = read_decimal(within(text, b"frame ")?)?;
+    if frame % 8 == 0 && frame <= u64::from(FRAME) {
+        Some(frame as u32)
+    } else {
+        None
+    }
+}

@@ -1,7 +1,0 @@
-use Rattle.std.proofs.Common.{◌∙◌}
-use Rattle.un_reader.proofs.NameEq.{any_same}
-use Rattle.un_reader.proofs.names.Names.has.Goals as goal
-
--- src/names.rt:47:5
-pub returns : goal.returns
-returns c = rw (← c.self.view_is) (c.contains.ensures ∙ any_same c.args.name.now c.self.inside.places.keys)
