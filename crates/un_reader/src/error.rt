@@ -1,13 +1,16 @@
 //! What the reader answers other than a function.
 
 use std::alloc::AllocError;
+use thiserror::Error;
 use un_base::memory_error::NoMemory;
 
 /// Why there is no function: there was no memory, or the text has a fault. A fault's line is counted from 1, and is 0
 /// where the text is too long. Its code is that of `Fault`.
-#[derive(Clone, Copy)]
+#[derive(Clone, Copy, Debug, PartialEq, Eq, Error)]
 pub enum ReadError {
+    #[error("no memory")]
     NoMemory,
+    #[error("line {line}: fault {code}")]
     TextFault { line: u32, code: u8 },
 }
 
