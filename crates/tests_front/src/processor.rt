@@ -1,7 +1,8 @@
 //! Values of the processor's tables and functions, and a run of code.
 
 use crate::framed::framed_code;
-use crate::listing_runs::{Case, Want, runs_to};
+use crate::listings::{put_truth, run_of};
+use crate::rows::number;
 use std::alloc::{AllocError, Global};
 use un_base::memory_error::NoMemory;
 use un_isa::alu::eval_alu;
@@ -11,38 +12,30 @@ use un_isa::op::Op;
 use un_isa::reg_set::{RegSet, callee_saved};
 use un_isa::table::{hexagon, latency};
 
-/// Numbers at the ends of ranges, and whether they are within.
-static LITERALS: [(Range, i32, bool); 20] = [
-    (Range::Signed16, -32768, true),
-    (Range::Signed16, -32769, false),
-    (Range::Signed16, 32767, true),
-    (Range::Signed16, 32768, false),
-    (Range::Signed10, -512, true),
-    (Range::Signed10, -513, false),
-    (Range::Signed10, 511, true),
-    (Range::Signed10, 512, false),
-    (Range::Unsigned5, 31, true),
-    (Range::Unsigned5, 32, false),
-    (Range::Unsigned5, 0, true),
-    (Range::Unsigned5, -1, false),
-    (Range::Offset, -4096, true),
-    (Range::Offset, -4100, false),
-    (Range::Offset, 4092, true),
-    (Range::Offset, 4096, false),
-    (Range::Offset, 2, false),
-    (Range::FrameOffset, -4, false),
-    (Range::FrameOffset, 0, true),
-    (Range::FrameOffset, 4096, false),
-];
-
-/// Whether literals have their ranges.
-fn literals_have_their_ranges() -> bool {
-    for (range, n, within) in LITERALS.iter() {
-        if is_in_range(*range, *n) != *within {
-            return false;
-        }
+/// The range of a question.
+fn range(question: &[u8]) -> Range {
+    match question.last() {
+        Some(b'6') => Range::Signed16,
+        Some(b'0') => Range::Signed10,
+        Some(b'5') => Range::Unsigned5,
+        Some(b'y') => Range::Offset,
+        _ => Range::FrameOffset,
     }
-    true
+}
+
+/// The number of a text, which may have a sign.
+fn literal(text: &[u8]) -> i32 {
+    let size = number(text.strip_prefix(b"-").unwrap_or(text)).min(65535) as i32;
+    if text.starts_with(b"-") { -size } else { size }
+}
+
+/// Appends whether a number is in a range.
+pub(crate) fn put_in_range(
+    out: &mut Vec<u8>,
+    text: &[u8],
+    question: &[u8],
+) -> Result<(), NoMemory> {
+    put_truth(out, is_in_range(range(question), literal(text)))
 }
 
 /// Whether a set has what was put in, and nothing else.
@@ -74,21 +67,11 @@ fn twelve_are_saved(alloc: Global) -> Result<bool, NoMemory> {
     Ok(saved.len() == 12)
 }
 
-/// The run of the code of the largest frame: it returns to r31 in its second cycle.
-static FRAMED: Case = Case {
-    regs: [0; 4],
-    memory: &[],
-    reply: None,
-    want: Want::Returned(0),
-    after: &[],
-    calls: &[],
-    cycles: 2,
-};
-
-/// Whether that code runs so.
+/// Whether the code of the largest frame returns to r31 in its second cycle.
 fn code_returns(alloc: Global) -> Result<bool, NoMemory> {
     let code = framed_code(alloc)?;
-    runs_to(alloc, &code, &FRAMED)
+    let shown = run_of(alloc, &code, b"packets 10;;")?;
+    Ok(shown.as_slice() == b"returned 0 to 100\ncycles 2\n".as_slice())
 }
 
 /// Whether all that needs memory goes well.
@@ -97,14 +80,9 @@ fn memory_saved_and_code_go_well(alloc: Global) -> Result<bool, NoMemory> {
 }
 
 #[test]
-fn processor_answers(rt: HostRuntime) {
+fn answers_of_the_processor(rt: HostRuntime) {
     let computes = eval_alu(Op::Sub, &[1, 2], 0) == 4294967295;
     let waits = latency(&hexagon(), Op::Load) == 2;
-    assert!(rt; computes && waits && literals_have_their_ranges() && set_contains());
-}
-
-#[test]
-fn memory_and_code_answer(rt: HostRuntime) {
     let well = matches!(memory_saved_and_code_go_well(rt.alloc()), Ok(true));
-    assert!(rt; well);
+    assert!(rt; computes && waits && set_contains() && well);
 }
