@@ -1,8 +1,9 @@
 //! Listings: lines and texts that are read, and runs of code: an exchange and calls, memory, a trap, a predicate across a call, a loop over
 //! spilled values.
 
+use crate::framed::framed_code;
 use crate::outcomes::outcome_text;
-use crate::processor::put_in_range;
+use crate::processor::{computes, put_in_range, put_memory, put_saved};
 use crate::rows::{About, all_answered, cut, number_at};
 use crate::starts::start;
 use std::alloc::Global;
@@ -17,7 +18,13 @@ use un_packet::code::Code;
 use un_packet::run::run_packets;
 
 /// What the processor and listings are.
-static ROWS: &[u8] = b"# Numbers at the ends of ranges, and whether they are within.\
+static ROWS: &[u8] =
+    b"# Words that a memory keeps, how many registers calls keep, and the code that enters and leaves the largest frame: it returns to r31 in its second cycle.\
+|?memory:yes\
+|?saved:12\
+|?enter 10;;:returned 0 to 100
+cycles 2
+|# Numbers at the ends of ranges, and whether they are within.\
 |-32768?in signed16:yes\
 |-32769?in signed16:no\
 |32767?in signed16:yes\
@@ -267,19 +274,35 @@ fn run_from(alloc: Global, code: &Code, start: &Start, blocks: u32) -> Result<Ve
 }
 
 /// What the run of a question comes to.
-pub(crate) fn run_of(alloc: Global, code: &Code, question: &[u8]) -> Result<Vec<u8>, NoMemory> {
+fn run_of(alloc: Global, code: &Code, question: &[u8]) -> Result<Vec<u8>, NoMemory> {
     let (blocks, given) = cut(question, b';');
     let start = start(alloc, given)?;
     run_from(alloc, code, &start, number_at(blocks, 1))
 }
 
+/// Appends what the run of a question comes to.
+fn put_run_of(
+    alloc: Global,
+    out: &mut Vec<u8>,
+    code: &Code,
+    question: &[u8],
+) -> Result<(), NoMemory> {
+    let shown = run_of(alloc, code, question)?;
+    put_text(out, shown.as_slice())
+}
+
+/// Appends what the run of the code of the largest frame comes to.
+fn put_framed(alloc: Global, out: &mut Vec<u8>, question: &[u8]) -> Result<(), NoMemory> {
+    let code = framed_code(alloc)?;
+    put_run_of(alloc, out, &code, question)
+}
+
 /// Appends what the run of a listing comes to.
 fn put_run(alloc: Global, out: &mut Vec<u8>, text: &[u8], question: &[u8]) -> Result<(), NoMemory> {
-    let Ok(code) = read_code(alloc, text) else {
-        return Err(NoMemory);
-    };
-    let shown = run_of(alloc, &code, question)?;
-    put_text(out, shown.as_slice())
+    match read_code(alloc, text) {
+        Ok(code) => put_run_of(alloc, out, &code, question),
+        Err(_) => Err(NoMemory),
+    }
 }
 
 /// Appends the answer to a question about a listing.
@@ -292,7 +315,10 @@ pub(crate) fn put_of_listing(
     match question.first() {
         Some(b'l') => put_line(alloc, out, text),
         Some(b'f') => put_frame(out, text),
+        Some(b'e') => put_framed(alloc, out, question),
         Some(b'i') => put_in_range(out, text, question),
+        Some(b'm') => put_memory(alloc, out),
+        Some(b's') => put_saved(alloc, out),
         Some(b't') => put_first_bad(alloc, out, text),
         _ => put_run(alloc, out, text, question),
     }
@@ -301,5 +327,5 @@ pub(crate) fn put_of_listing(
 #[test]
 fn answers_of_listings(rt: HostRuntime) {
     let well = matches!(all_answered(rt.alloc(), About::Listings, ROWS), Ok(true));
-    assert!(rt; well);
+    assert!(rt; well && computes());
 }

@@ -1,10 +1,10 @@
-//! Values of the processor's tables and functions, and a run of code.
+//! Values of the processor's tables and functions.
 
-use crate::framed::framed_code;
-use crate::listings::{put_truth, run_of};
+use crate::listings::put_truth;
 use crate::rows::number;
-use std::alloc::{AllocError, Global};
+use std::alloc::Global;
 use un_base::memory_error::NoMemory;
+use un_ir::text::{put_number, put_text};
 use un_isa::alu::eval_alu;
 use un_isa::facts::{Range, is_in_range};
 use un_isa::memory::Memory;
@@ -52,37 +52,23 @@ fn keeps_words(memory: &mut Memory) -> bool {
     memory.get(4) == Some(7) && memory.get(8) == None && memory.get(12) == Some(9)
 }
 
-/// Whether a memory of two words keeps writes.
-fn memory_keeps_words(alloc: Global) -> Result<bool, AllocError> {
+/// Appends whether a memory of two words keeps writes.
+pub(crate) fn put_memory(alloc: Global, out: &mut Vec<u8>) -> Result<(), NoMemory> {
     let words = [(4, 7), (12, 8)].to_vec(alloc)?;
     match Memory::new(words) {
-        Some(mut memory) => Ok(keeps_words(&mut memory)),
-        None => Ok(false),
+        Some(mut memory) => put_truth(out, keeps_words(&mut memory)),
+        None => put_text(out, b"none"),
     }
 }
 
-/// Whether calls keep twelve registers.
-fn twelve_are_saved(alloc: Global) -> Result<bool, NoMemory> {
+/// Appends how many registers calls keep.
+pub(crate) fn put_saved(alloc: Global, out: &mut Vec<u8>) -> Result<(), NoMemory> {
     let saved = callee_saved(alloc, &hexagon())?;
-    Ok(saved.len() == 12)
+    put_number(out, saved.len() as u64)
 }
 
-/// Whether the code of the largest frame returns to r31 in its second cycle.
-fn code_returns(alloc: Global) -> Result<bool, NoMemory> {
-    let code = framed_code(alloc)?;
-    let shown = run_of(alloc, &code, b"packets 10;;")?;
-    Ok(shown.as_slice() == b"returned 0 to 100\ncycles 2\n".as_slice())
-}
-
-/// Whether all that needs memory goes well.
-fn memory_saved_and_code_go_well(alloc: Global) -> Result<bool, NoMemory> {
-    Ok(memory_keeps_words(alloc)? && twelve_are_saved(alloc)? && code_returns(alloc)?)
-}
-
-#[test]
-fn answers_of_the_processor(rt: HostRuntime) {
-    let computes = eval_alu(Op::Sub, &[1, 2], 0) == 4294967295;
-    let waits = latency(&hexagon(), Op::Load) == 2;
-    let well = matches!(memory_saved_and_code_go_well(rt.alloc()), Ok(true));
-    assert!(rt; computes && waits && set_contains() && well);
+/// Whether operations compute and wait as they do, and sets contain what was put in.
+pub(crate) fn computes() -> bool {
+    let subtracts = eval_alu(Op::Sub, &[1, 2], 0) == 4294967295;
+    subtracts && latency(&hexagon(), Op::Load) == 2 && set_contains()
 }

@@ -1,6 +1,6 @@
 //! Starts of runs, from texts.
 
-ghost use Rattle.std.specs.Prelude.{◌≡◌, true, is_some, IfOk};
+ghost use Rattle.std.specs.Prelude.{◌≡◌, true, is_some, IfOk, OnOk};
 ghost use Rattle.std.specs.List.{list_all};
 ghost use Rattle.un_isa.specs.Memories.{is_memory, word_at};
 ghost use Rattle.un_isa.specs.Starts.{are_predicates, is_reply};
@@ -80,6 +80,21 @@ fn reply(alloc: Global, memory: &Memory, text: &[u8]) -> Result<Reply, NoMemory>
     })
 }
 
+/// Adds what a call that runs on a memory answers.
+fn add_reply(
+    alloc: Global,
+    memory: &Memory,
+    list: &mut Items<Reply>,
+    text: &[u8],
+) -> Result<(), NoMemory>
+    requires { list_all (is_reply memory.now) list.old ≡ true }
+    ensures { OnOk result (list_all (is_reply memory.now) list.new ≡ true) }
+{
+    let reply = reply(alloc, memory, text)?;
+    list.push(reply)?;
+    Ok(())
+}
+
 /// What calls that run on a memory answer, in order.
 fn replies(alloc: Global, memory: &Memory, text: &[u8]) -> Result<Items<Reply>, NoMemory>
     ensures { IfOk result (λ list. list_all (is_reply memory.now) list ≡ true) }
@@ -87,7 +102,7 @@ fn replies(alloc: Global, memory: &Memory, text: &[u8]) -> Result<Items<Reply>, 
     let mut list = Items::new(alloc);
     for answer in text.split(|b| *b == b';') {
         if !answer.is_empty() {
-            list.push(reply(alloc, memory, answer)?)?;
+            add_reply(alloc, memory, &mut list, answer)?;
         }
     }
     Ok(list)

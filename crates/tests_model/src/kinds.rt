@@ -86,11 +86,18 @@ fn zeros(alloc: Global) -> Result<AnyProp, NoMemory> {
     make_zeros(alloc, VarId(0), others)
 }
 
+/// Adds a list of registers.
+fn add_set(alloc: Global, sets: &mut Items<Items<u32>>, set: &[u32]) -> Result<(), AllocError> {
+    let set = list(alloc, set)?;
+    sets.push(set)
+}
+
 /// The registers of each number: none, two registers, two slots.
 fn register_sets(alloc: Global) -> Result<Items<Items<u32>>, AllocError> {
-    let mut sets = alone(alloc, Items::new(alloc))?;
-    sets.push(list(alloc, &[1, 2])?)?;
-    sets.push(list(alloc, &[36, 37])?)?;
+    let mut sets = Items::new(alloc);
+    for set in [[].as_slice(), [1, 2].as_slice(), [36, 37].as_slice()] {
+        add_set(alloc, &mut sets, set)?;
+    }
     Ok(sets)
 }
 
@@ -192,55 +199,81 @@ fn temp(alloc: Global, on: Act, at: At, reg: u32, users: &[UserOf]) -> Result<Te
     Ok(Temp { on, at, reg, users })
 }
 
-/// Two temporaries with a user each.
-fn two(alloc: Global) -> Result<AnyProp, NoMemory> {
+/// Adds a temporary.
+fn add_temp(
+    alloc: Global,
+    temps: &mut Items<Temp>,
+    on: Act,
+    at: At,
+    reg: u32,
+    users: &[UserOf],
+) -> Result<(), AllocError> {
+    let temp = temp(alloc, on, at, reg, users)?;
+    temps.push(temp)
+}
+
+/// Adds two temporaries with a user each.
+fn add_two(alloc: Global, temps: &mut Items<Temp>) -> Result<(), AllocError> {
     let user = plain(At::Var(VarId(3)));
     let other = plain(At::Var(VarId(7)));
-    let first = temp(alloc, Act::Var(VarId(1)), At::Var(VarId(0)), 2, &[user])?;
-    let second = temp(alloc, Act::Var(VarId(5)), At::Var(VarId(4)), 6, &[other])?;
-    let temps = both(alloc, first, second)?;
+    let (first, second) = (Act::Var(VarId(1)), Act::Var(VarId(5)));
+    add_temp(alloc, temps, first, At::Var(VarId(0)), 2, &[user])?;
+    add_temp(alloc, temps, second, At::Var(VarId(4)), 6, &[other])
+}
+
+/// The propagator of both.
+fn two(alloc: Global) -> Result<AnyProp, NoMemory> {
+    let mut temps = Items::new(alloc);
+    add_two(alloc, &mut temps)?;
     make_apart(alloc, temps)
 }
 
-/// A value, which its spill, its reload and its user read.
-fn value(alloc: Global) -> Result<Temp, AllocError> {
+/// Adds a value, which its spill, its reload and its user read, and its slot, which the reload and the user read.
+fn add_saved(alloc: Global, temps: &mut Items<Temp>) -> Result<(), AllocError> {
     let spill = UserOf {
         on: Act::Var(VarId(2)),
         at: At::Var(VarId(3)),
         choice: None,
         value: 0,
     };
-    let reload = choosing(Act::Var(VarId(5)), 6, 7, 0);
-    let users = [spill, reload, choosing(Act::Always, 9, 10, 0)];
-    temp(alloc, Act::Always, At::Var(VarId(0)), 1, &users)
+    let reload = Act::Var(VarId(5));
+    let users = [
+        spill,
+        choosing(reload, 6, 7, 0),
+        choosing(Act::Always, 9, 10, 0),
+    ];
+    add_temp(alloc, temps, Act::Always, At::Var(VarId(0)), 1, &users)?;
+    let users = [choosing(reload, 6, 7, 1), choosing(Act::Always, 9, 10, 1)];
+    add_temp(
+        alloc,
+        temps,
+        Act::Var(VarId(2)),
+        At::Var(VarId(3)),
+        4,
+        &users,
+    )
 }
 
-/// Its slot, which the reload and the user read.
-fn slot(alloc: Global) -> Result<Temp, AllocError> {
-    let reload = choosing(Act::Var(VarId(5)), 6, 7, 1);
-    let users = [reload, choosing(Act::Always, 9, 10, 1)];
-    temp(alloc, Act::Var(VarId(2)), At::Var(VarId(3)), 4, &users)
-}
-
-/// What is reloaded, which the user reads.
-fn reloaded(alloc: Global) -> Result<Temp, AllocError> {
+/// Adds what is reloaded, which the user reads, and another temporary from 4 to 7.
+fn add_others(alloc: Global, temps: &mut Items<Temp>) -> Result<(), AllocError> {
     let user = choosing(Act::Always, 9, 10, 2);
-    temp(alloc, Act::Var(VarId(5)), At::Var(VarId(6)), 8, &[user])
+    let other = plain(At::Const(7));
+    add_temp(
+        alloc,
+        temps,
+        Act::Var(VarId(5)),
+        At::Var(VarId(6)),
+        8,
+        &[user],
+    )?;
+    add_temp(alloc, temps, Act::Always, At::Const(4), 11, &[other])
 }
 
-/// The value and its slot.
-fn saved(alloc: Global) -> Result<Items<Temp>, AllocError> {
-    let value = value(alloc)?;
-    let slot = slot(alloc)?;
-    both(alloc, value, slot)
-}
-
-/// Both, what is reloaded, and another from 4 to 7.
+/// The propagator of these four.
 fn values(alloc: Global) -> Result<AnyProp, NoMemory> {
-    let user = plain(At::Const(7));
-    let mut temps = saved(alloc)?;
-    temps.push(reloaded(alloc)?)?;
-    temps.push(temp(alloc, Act::Always, At::Const(4), 11, &[user])?)?;
+    let mut temps = Items::new(alloc);
+    add_saved(alloc, &mut temps)?;
+    add_others(alloc, &mut temps)?;
     make_apart(alloc, temps)
 }
 
@@ -306,56 +339,67 @@ fn needs(mem: u8, store: u8, control: u8) -> Needs {
     }
 }
 
-/// An operation with these needs for its numbers.
-fn item(alloc: Global, on: Act, at: u32, uses: &[Needs]) -> Result<Item, AllocError> {
+/// Adds an operation with these needs for its numbers.
+fn add_item(
+    alloc: Global,
+    items: &mut Items<Item>,
+    on: Act,
+    at: u32,
+    uses: &[Needs],
+) -> Result<(), AllocError> {
     let uses = list(alloc, uses)?;
     let at = VarId(at);
-    Ok(Item { on, at, uses })
+    items.push(Item { on, at, uses })
 }
 
-/// A load and a store.
-fn accesses(alloc: Global) -> Result<Items<Item>, AllocError> {
+/// Adds a load, a store and a control transfer.
+fn add_fixed(alloc: Global, items: &mut Items<Item>) -> Result<(), AllocError> {
     let load = [needs(0, 0, 0), needs(1, 0, 0)];
     let store = [needs(0, 0, 0), needs(1, 1, 0)];
-    let first = item(alloc, Act::Always, 0, &load)?;
-    let second = item(alloc, Act::Always, 1, &store)?;
-    both(alloc, first, second)
+    let jump = [needs(0, 0, 0), needs(0, 0, 1)];
+    add_item(alloc, items, Act::Always, 0, &load)?;
+    add_item(alloc, items, Act::Always, 1, &store)?;
+    add_item(alloc, items, Act::Always, 2, &jump)
 }
 
-/// Both, a control transfer, a store or nothing of memory, and a copy that may be a move, a store or a load, before cycle 8.
-fn packets(alloc: Global) -> Result<AnyProp, NoMemory> {
+/// Adds a store or nothing of memory, and a copy that may be a move, a store or a load.
+fn add_open(alloc: Global, items: &mut Items<Item>) -> Result<(), AllocError> {
     let none = needs(0, 0, 0);
     let store = needs(1, 1, 0);
-    let jump = [none, needs(0, 0, 1)];
     let either = [none, store, none];
     let copy = [none, none, store, needs(1, 0, 0)];
-    let mut items = accesses(alloc)?;
-    items.push(item(alloc, Act::Always, 2, &jump)?)?;
-    items.push(item(alloc, Act::Var(VarId(4)), 3, &either)?)?;
-    items.push(item(alloc, Act::Var(VarId(6)), 5, &copy)?)?;
+    add_item(alloc, items, Act::Var(VarId(4)), 3, &either)?;
+    add_item(alloc, items, Act::Var(VarId(6)), 5, &copy)
+}
+
+/// All of these, before cycle 8.
+fn packets(alloc: Global) -> Result<AnyProp, NoMemory> {
+    let mut items = Items::new(alloc);
+    add_fixed(alloc, &mut items)?;
+    add_open(alloc, &mut items)?;
     make_per_cycle(alloc, items, 8)
 }
 
-/// The propagator of a kind.
+/// The propagator of a kind, by the first letter of its word.
 pub(crate) fn prop(alloc: Global, kind: &[u8]) -> Result<AnyProp, NoMemory> {
     let first = At::Var(VarId(0));
     let on = Act::Var(VarId(1));
-    match kind {
-        b"before" => make_before(alloc, first, on, At::Var(VarId(2)), Act::Var(VarId(3)), 2),
-        b"inside" => make_inside(alloc, VarId(0), on, VarId(2)),
-        b"last" => make_last(alloc, VarId(0), VarId(1)),
-        b"cost" => cost(alloc),
-        b"reads" => reads(alloc),
-        b"definers" => definers(alloc),
-        b"zeros" => zeros(alloc),
-        b"spaces" => spaces(alloc),
-        b"moves" => moves(alloc),
-        b"home" => home(alloc),
-        b"frame" => frame(alloc),
-        b"two" => two(alloc),
-        b"values" => values(alloc),
-        b"operands" => operands(alloc),
-        b"across" => across(alloc),
+    match kind.first() {
+        Some(b'b') => make_before(alloc, first, on, At::Var(VarId(2)), Act::Var(VarId(3)), 2),
+        Some(b'i') => make_inside(alloc, VarId(0), on, VarId(2)),
+        Some(b'l') => make_last(alloc, VarId(0), VarId(1)),
+        Some(b'c') => cost(alloc),
+        Some(b'r') => reads(alloc),
+        Some(b'd') => definers(alloc),
+        Some(b'z') => zeros(alloc),
+        Some(b's') => spaces(alloc),
+        Some(b'm') => moves(alloc),
+        Some(b'h') => home(alloc),
+        Some(b'f') => frame(alloc),
+        Some(b't') => two(alloc),
+        Some(b'v') => values(alloc),
+        Some(b'o') => operands(alloc),
+        Some(b'a') => across(alloc),
         _ => packets(alloc),
     }
 }

@@ -268,19 +268,37 @@ fn prunes_store(
     Ok(is_wanted(answer, store, before, want))
 }
 
-/// The same for the store of the sets before.
-fn prunes(alloc: Global, p: &AnyProp, sets: &[u8]) -> Result<bool, NoMemory> {
-    match store_of(alloc, cut(sets, b'>').0)? {
-        None => Ok(false),
-        Some(mut store) => prunes_store(alloc, p, &mut store, sets),
+/// What prunes as rows say.
+trait Prunes {
+    /// Whether pruning the store of the sets before `>` answers and leaves what is wanted.
+    fn prunes(&self, alloc: Global, sets: &[u8]) -> Result<bool, NoMemory>;
+}
+
+impl Prunes for AnyProp {
+    fn prunes(&self, alloc: Global, sets: &[u8]) -> Result<bool, NoMemory> {
+        match store_of(alloc, cut(sets, b'>').0)? {
+            None => Ok(false),
+            Some(mut store) => prunes_store(alloc, self, &mut store, sets),
+        }
+    }
+}
+
+/// The same for what was made. The type is a parameter, so that its drop is one step here.
+fn made_prunes<P: Prunes + Drop>(
+    alloc: Global,
+    made: Result<P, NoMemory>,
+    sets: &[u8],
+) -> Result<bool, NoMemory> {
+    match made {
+        Ok(p) => p.prunes(alloc, sets),
+        Err(e) => Err(e),
     }
 }
 
 /// The same for a propagator of the kind of a row.
 fn row_prunes(alloc: Global, row: &[u8]) -> Result<bool, NoMemory> {
     let (kind, sets) = cut(row, b' ');
-    let p = prop(alloc, kind)?;
-    prunes(alloc, &p, sets)
+    made_prunes(alloc, prop(alloc, kind), sets)
 }
 
 /// Whether each row but for comments is so.
