@@ -1,0 +1,3 @@
+mod FactRows
+mod OrderRows
+mod PacketRows

@@ -1,21 +1,30 @@
-//! Tests of what stands between a function's text and its model: runs, live names, linear and extended functions.
+//! Tests of what stands below models: bytes in and out, the processor and its packets, listings, the input language, and what a function
+//! becomes before its model. They are rows of texts with what is asked of them and the answers that were worked out.
 #![tactic(auto)]
 
 #[cfg(test)]
-mod extended;
+mod base;
+#[cfg(test)]
+mod faults;
+#[cfg(test)]
+mod framed;
 #[cfg(test)]
 mod functions;
 #[cfg(test)]
-mod linear;
+mod known;
 #[cfg(test)]
-mod live;
+mod listings;
 #[cfg(test)]
 mod outcomes;
 #[cfg(test)]
-mod outside;
+mod outside_faults;
 #[cfg(test)]
-mod problem;
+mod outside_runs;
 #[cfg(test)]
-mod runs;
+mod processor;
+#[cfg(test)]
+mod rows;
+#[cfg(test)]
+mod scripts;
 #[cfg(test)]
 mod starts;

@@ -1,48 +1,51 @@
-//! Starts of runs, from tables.
+//! Starts of runs, from texts.
 
-ghost use Rattle.std.specs.Prelude.{◌≡◌, true, is_some, IfOk};
+ghost use Rattle.std.specs.Prelude.{◌≡◌, true, is_some, IfOk, OnOk};
 ghost use Rattle.std.specs.List.{list_all};
 ghost use Rattle.un_isa.specs.Memories.{is_memory, word_at};
 ghost use Rattle.un_isa.specs.Starts.{are_predicates, is_reply};
 
-use std::alloc::Global;
-use std::test::Fail;
+use crate::rows::{cut, number, number_at};
+use std::alloc::{AllocError, Global};
+use un_base::memory_error::NoMemory;
 use un_isa::memory::Memory;
 use un_isa::reg::REGISTERS;
 use un_isa::start::{Reply, Start};
 use un_lists::items::Items;
 
-/// The result of a call, and the words of memory that it changes.
-#[derive(Clone, Copy)]
-pub struct Answer {
-    pub result: u32,
-    pub changed: &'static [(u32, u32)],
-}
-
-/// Where a run starts: the parameters, the words of memory, what the calls answer.
-#[derive(Clone, Copy)]
-pub struct Given {
-    pub params: [u32; 6],
-    pub memory: &'static [(u32, u32)],
-    pub answers: &'static [Answer],
-}
-
-/// The registers that hold the parameters; every other is 0.
-fn registers(p: &[u32; 6]) -> [u32; REGISTERS as usize]
+/// The registers from r0, then r16; the stack pointer is 4096, the link register 100, and every other is 0.
+fn registers(text: &[u8]) -> [u32; REGISTERS as usize]
     ensures { are_predicates result ≡ true }
 {
+    let r0 = number_at(text, 0);
+    let r1 = number_at(text, 1);
+    let r2 = number_at(text, 2);
+    let r3 = number_at(text, 3);
+    let r4 = number_at(text, 4);
+    let r5 = number_at(text, 5);
+    let r16 = number_at(text, 6);
     [
-        p[0], p[1], p[2], p[3], p[4], p[5], 0, 0, 0, 0, 0, 0, 0, 0, 0, 0, 0, 0, 0, 0, 0, 0, 0, 0,
-        0, 0, 0, 0, 0, 0, 0, 0, 0, 0, 0, 0,
+        r0, r1, r2, r3, r4, r5, 0, 0, 0, 0, 0, 0, 0, 0, 0, 0, r16, 0, 0, 0, 0, 0, 0, 0, 0, 0, 0, 0,
+        0, 4096, 0, 100, 0, 0, 0, 0,
     ]
 }
 
-/// The words of a table, where they are a memory.
-fn memory_of(alloc: Global, words: &[(u32, u32)]) -> Result<Memory, Fail>
-    ensures { IfOk result (λ m. m ≡ words.now) }
-{
-    let words = words.to_vec(alloc)?;
-    Ok(Memory::new(words).ok_or("addresses rise")?)
+/// The words of a text: each behind its address and `=`.
+fn words(alloc: Global, text: &[u8]) -> Result<Vec<(u32, u32)>, AllocError> {
+    let mut words = Vec::new(alloc);
+    for word in text.split(|b| *b == b' ') {
+        let (address, value) = cut(word, b'=');
+        if !word.is_empty() {
+            words.push((number(address), number(value)))?;
+        }
+    }
+    Ok(words)
+}
+
+/// The memory of a text.
+fn memory_of(alloc: Global, text: &[u8]) -> Result<Memory, NoMemory> {
+    let words = words(alloc, text)?;
+    Memory::new(words).ok_or(NoMemory)
 }
 
 /// Whether each of these words stands in a memory.
@@ -52,49 +55,67 @@ fn stand_in(memory: &Memory, words: &[(u32, u32)]) -> bool
     words.iter().all(|w| memory.get(w.0).is_some())
 }
 
-/// The words of a table as those that a call changes.
-fn changed_words(alloc: Global, words: &[(u32, u32)]) -> Result<Items<(u32, u32)>, Fail>
-    ensures same { IfOk result (λ list. list ≡ words.now) }
-    ensures memory { IfOk result (λ list. is_memory list ≡ true) }
+/// The words that a call changes.
+fn changed_words(alloc: Global, text: &[u8]) -> Result<Items<(u32, u32)>, NoMemory>
+    ensures { IfOk result (λ list. is_memory list ≡ true) }
 {
-    let memory = memory_of(alloc, words)?;
+    let memory = memory_of(alloc, text)?;
     let list = memory.words().to_vec(alloc)?;
     Ok(Items::from_vec(list))
 }
 
-/// What a call that runs on a memory answers. It leaves nothing in other registers than that of its result.
-fn reply(alloc: Global, memory: &Memory, answer: &Answer) -> Result<Reply, Fail>
+/// What a call that runs on a memory answers: its result, and the words that it changes. It leaves nothing in other registers.
+fn reply(alloc: Global, memory: &Memory, text: &[u8]) -> Result<Reply, NoMemory>
     ensures { IfOk result (λ r. is_reply memory.now r ≡ true) }
 {
-    if !stand_in(memory, answer.changed) {
-        return Err("a call changes a word that is not there")?;
+    let (given, changed) = cut(text, b' ');
+    let changed = changed_words(alloc, changed)?;
+    if !stand_in(memory, changed.as_slice()) {
+        return Err(NoMemory);
     }
-    let changed = changed_words(alloc, answer.changed)?;
     Ok(Reply {
-        result: answer.result,
+        result: number(given),
         changed,
         junk: [0; REGISTERS as usize],
     })
 }
 
+/// Adds what a call that runs on a memory answers.
+fn add_reply(
+    alloc: Global,
+    memory: &Memory,
+    list: &mut Items<Reply>,
+    text: &[u8],
+) -> Result<(), NoMemory>
+    requires { list_all (is_reply memory.now) list.old ≡ true }
+    ensures { OnOk result (list_all (is_reply memory.now) list.new ≡ true) }
+{
+    let reply = reply(alloc, memory, text)?;
+    list.push(reply)?;
+    Ok(())
+}
+
 /// What calls that run on a memory answer, in order.
-fn replies(alloc: Global, memory: &Memory, answers: &[Answer]) -> Result<Items<Reply>, Fail>
+fn replies(alloc: Global, memory: &Memory, text: &[u8]) -> Result<Items<Reply>, NoMemory>
     ensures { IfOk result (λ list. list_all (is_reply memory.now) list ≡ true) }
 {
     let mut list = Items::new(alloc);
-    for answer in answers {
-        let reply = reply(alloc, memory, answer)?;
-        list.push(reply)?;
+    for answer in text.split(|b| *b == b';') {
+        if !answer.is_empty() {
+            add_reply(alloc, memory, &mut list, answer)?;
+        }
     }
     Ok(list)
 }
 
-/// The start that a table gives.
-pub fn start(alloc: Global, given: &Given) -> Result<Start, Fail> {
-    let memory = memory_of(alloc, given.memory)?;
-    let replies = replies(alloc, &memory, given.answers)?;
+/// The start of a text: registers, words of memory and answers of calls, with `;` between them.
+pub(crate) fn start(alloc: Global, text: &[u8]) -> Result<Start, NoMemory> {
+    let (regs, rest) = cut(text, b';');
+    let (memory, answers) = cut(rest, b';');
+    let memory = memory_of(alloc, memory)?;
+    let replies = replies(alloc, &memory, answers)?;
     Ok(Start {
-        regs: registers(&given.params),
+        regs: registers(regs),
         memory,
         replies,
     })

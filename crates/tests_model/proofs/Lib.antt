@@ -1,7 +1,6 @@
 pub mod BoundRows
 mod ModelRows
-mod PostRows
 mod RunRows
 mod ScheduleRows
 mod SimulationRows
-mod WorkedModel
+pub mod StoreLaws

@@ -1,15 +1,23 @@
-//! Tests of models with values from outside.
+//! Tests of stores, propagators and models, with values that were worked out by hand or by another program from the rules alone.
 #![tactic(auto)]
 
 #[cfg(test)]
-mod bounds;
+mod broken;
 #[cfg(test)]
-mod cases;
+mod kinds;
+#[cfg(test)]
+mod models;
 #[cfg(test)]
 mod orders;
 #[cfg(test)]
-mod posts;
+mod prunes;
 #[cfg(test)]
-mod tests;
+mod relaxed;
+#[cfg(test)]
+mod sets;
+#[cfg(test)]
+mod stores;
 #[cfg(test)]
 mod ways;
+#[cfg(test)]
+mod words;

@@ -1,37 +1,25 @@
-//! Which precedences a block has, worked out by hand.
+//! Functions with the precedences of a block and the least costs of their models, worked out by hand.
 
-use crate::tests::{model_of, numbers};
-use std::alloc::Global;
-use un_base::ids::BlockId;
-use un_base::memory_error::NoMemory;
-use un_model::model::{Arc, Model};
-
-/// A function, a block of it by its number, and the precedences there, a line each: the earlier operation, the later one and the gap.
-struct Ordered {
-    function: &'static [u8],
-    block: u32,
-    arcs: &'static [u8],
-}
-
-/// A dot product's loop: both loads feed the product and that the sum; the loads are free among themselves.
-static DOT: Ordered = Ordered {
-    function: b"func dot %x %y %n\n\
-        block entry freq 1\n\
-          %s = imm #0\n\
-        block loop freq 100\n\
-          %u = load %x, #0\n\
-          %v = load %y, #0\n\
-          %m = mpyi %u, %v\n\
-          %s = add %s, %m\n\
-          %x = addi %x, #4\n\
-          %y = addi %y, #4\n\
-          %n = addi %n, #-1\n\
-          $c = cmpgti %n, #0\n\
-          if $c jump loop\n\
-        block exit freq 1\n\
-          ret %s",
-    block: 1,
-    arcs: b"38 44 1
+/// Precedences of a block stand a line each: the earlier operation, the later one and the gap. `relaxed` has the place of a block and what
+/// its end is at most.
+pub(crate) static ORDERS: &[u8] =
+    b"# A dot product's loop: both loads feed the product and that the sum; the loads are free among themselves.\
+|func dot %x %y %n
+block entry freq 1
+  %s = imm #0
+block loop freq 100
+  %u = load %x, #0
+  %v = load %y, #0
+  %m = mpyi %u, %v
+  %s = add %s, %m
+  %x = addi %x, #4
+  %y = addi %y, #4
+  %n = addi %n, #-1
+  $c = cmpgti %n, #0
+  if $c jump loop
+block exit freq 1
+  ret %s
+^?arcs 1:38 44 1
 38 47 1
 44 51 2
 47 51 2
@@ -46,21 +34,20 @@ static DOT: Ordered = Ordered {
 55 77 1
 58 77 1
 61 77 1
-64 77 1",
-};
-
-/// A Load, a Store, a Load, a Call and a Store: by data and by memory the larger gap counts.
-static MEMORY: Ordered = Ordered {
-    function: b"func memory %a\n\
-        block e freq 1\n\
-          %x = load %a, #0\n\
-          store %a, #4, %x\n\
-          %y = load %a, #8\n\
-          call f %y\n\
-          store %a, #12, %y\n\
-          ret",
-    block: 0,
-    arcs: b"0 17 1
+64 77 1
+|&?bound:502\
+|&?relaxed 1 6:502\
+|&?relaxed 1 5:empty\
+|# A Load, a Store, a Load, a Call and a Store: by data and by memory the larger gap counts.\
+|func memory %a
+block e freq 1
+  %x = load %a, #0
+  store %a, #4, %x
+  %y = load %a, #8
+  call f %y
+  store %a, #12, %y
+  ret
+^?arcs 0:0 17 1
 0 21 1
 17 21 2
 0 23 1
@@ -74,55 +61,80 @@ static MEMORY: Ordered = Ordered {
 23 29 2
 26 29 1
 0 32 1
-0 45 1",
-};
-
-/// A call's result that one operation reads twice.
-static TWICE: Ordered = Ordered {
-    function: b"func twice\nblock e freq 1\n  %r = call g\n  %s = add %r, %r\n  ret %s",
-    block: 0,
-    arcs: b"15 19 1
+0 45 1
+|# A call's result that one operation reads twice.\
+|func twice
+block e freq 1
+  %r = call g
+  %s = add %r, %r
+  ret %s
+^?arcs 0:15 19 1
 0 23 1
 0 37 1
-19 37 1",
-};
-
-/// Whether arcs are these: for each the earlier operation, the later one and the gap.
-fn are(found: &[Arc], numbers: &[u32]) -> bool {
-    if numbers.len() / 3 != found.len() {
-        return false;
-    }
-    for k in 0..numbers.len() / 3 {
-        let arc = &found[k];
-        let gap = (arc.from.0, arc.to.0, arc.gap);
-        if gap != (numbers[3 * k], numbers[3 * k + 1], numbers[3 * k + 2]) {
-            return false;
-        }
-    }
-    true
-}
-
-/// Whether the arcs of a block are these.
-fn has_arcs(m: &Model, block: u32, numbers: &[u32]) -> bool {
-    (block as usize) < m.arcs.len() && are(m.arcs(BlockId(block)), numbers)
-}
-
-/// Whether the block of a function has the precedences that stand there.
-fn is_ordered(alloc: Global, ordered: &Ordered) -> Result<bool, NoMemory> {
-    let arcs = numbers(alloc, ordered.arcs)?;
-    match model_of(alloc, ordered.function) {
-        None => Ok(false),
-        Some(m) => Ok(has_arcs(&m, ordered.block, arcs.as_slice())),
-    }
-}
-
-/// Whether each function has the precedences that stand there.
-fn are_ordered(alloc: Global) -> Result<bool, NoMemory> {
-    Ok(is_ordered(alloc, &DOT)? && is_ordered(alloc, &MEMORY)? && is_ordered(alloc, &TWICE)?)
-}
-
-#[test]
-fn orders_operations(rt: HostRuntime) {
-    let well = matches!(are_ordered(rt.alloc()), Ok(true));
-    assert!(rt; well);
-}
+19 37 1
+|# Five constants and their sum, in steps of two: four steps one after another.\
+|func s
+block e freq 1
+  %a = imm #1
+  %b = imm #2
+  %c = imm #3
+  %d = imm #4
+  %e = imm #5
+  %p = add %a, %b
+  %q = add %c, %d
+  %r = add %p, %q
+  %t = add %r, %e
+  ret %t
+^?bound:4\
+|&?relaxed 0 9999:4\
+|# Sixteen loads before a call, and a sum of sixteen steps behind it.\
+|func w %x
+block e freq 1
+  %v0 = load %x, #0
+  %v1 = load %x, #4
+  %v2 = load %x, #8
+  %v3 = load %x, #12
+  %v4 = load %x, #16
+  %v5 = load %x, #20
+  %v6 = load %x, #24
+  %v7 = load %x, #28
+  %v8 = load %x, #32
+  %v9 = load %x, #36
+  %v10 = load %x, #40
+  %v11 = load %x, #44
+  %v12 = load %x, #48
+  %v13 = load %x, #52
+  %v14 = load %x, #56
+  %v15 = load %x, #60
+  %s = call h
+  %s = add %s, %v0
+  %s = add %s, %v1
+  %s = add %s, %v2
+  %s = add %s, %v3
+  %s = add %s, %v4
+  %s = add %s, %v5
+  %s = add %s, %v6
+  %s = add %s, %v7
+  %s = add %s, %v8
+  %s = add %s, %v9
+  %s = add %s, %v10
+  %s = add %s, %v11
+  %s = add %s, %v12
+  %s = add %s, %v13
+  %s = add %s, %v14
+  %s = add %s, %v15
+  ret %s
+^?bound:18\
+|# A call whose result is read, and a return in the cycle of that.\
+|func c %a
+block e freq 1
+  %r = call h %a
+  %s = add %r, %a
+  ret %s
+^?bound:2\
+|# A call beside a return.\
+|func x %a %b
+block e freq 1
+  call h %b, %a
+  ret
+^?bound:1";

@@ -2,9 +2,11 @@
 
 ghost use Rattle.un_isa.specs.Hexagon.{HEXAGON};
 ghost use Rattle.un_model.specs.Extended.{HasSmallCounts};
+ghost use Rattle.un_model.specs.Solutions.{IsSolution};
 ghost use Rattle.un_model.specs.Variables.{IsModel};
 ghost use Rattle.un_problem.specs.Problems.{IsModelOf, default_options};
 
+use crate::rows::{cut, number};
 use std::alloc::{AllocError, Global};
 use un_base::memory_error::NoMemory;
 use un_ir::function::Function;
@@ -17,60 +19,51 @@ use un_top::code::code_by;
 use un_violations::violations::violations;
 
 /// Three blocks, of which the last returns at once.
-const EMPTY: &[u8] = b"func e\nblock a freq 3\nblock b freq 7\nblock c freq 2\n  ret\n";
+static EMPTY: &[u8] = b"func e\nblock a freq 3\nblock b freq 7\nblock c freq 2\n  ret\n";
 
 /// The code without copies, in which the saved values stay where they are: two packets' worth, as the last block runs twice.
-const LISTING: &[u8] = b"frame 0\nblock a\nblock b\nblock c\n{ jumpr r31 }\n";
+static LISTING: &[u8] = b"frame 0\nblock a\nblock b\nblock c\n{ jumpr r31 }\n";
 
 /// How many variables its model has.
 const VARIABLES: usize = 269;
 
-/// Where the registers of the values at each block's start stand among the variables.
-static STARTS: [usize; 3] = [0, 120, 147];
-
-/// The registers of the saved values.
-static SAVED: [u32; 13] = [16, 17, 18, 19, 20, 21, 22, 23, 24, 25, 26, 27, 31];
-
-/// The ends of the blocks, and the cycle of the return, with their places among the variables.
-static CYCLES: [(usize, u32); 4] = [(119, 1), (146, 1), (205, 1), (267, 2)];
-
-/// The value of a variable: a register of a saved value, a cycle or an end, or 0.
-fn value(v: usize) -> u32 {
-    for (place, cycle) in CYCLES.iter() {
-        if v == *place {
-            return *cycle;
-        }
-    }
-    register(v)
-}
-
-/// The register of a saved value at a block's start, where the variable is one, else 0.
-fn register(v: usize) -> u32 {
-    for start in STARTS.iter() {
-        if let Some(r) = SAVED.get(v.wrapping_sub(*start)) {
-            return *r;
-        }
-    }
-    0
-}
+/// The values that are not 0, behind their places: the registers of the saved values at each block's start, the ends of the blocks, and the
+/// cycle of the return.
+static VALUES: &[u8] =
+    b"0=16 1=17 2=18 3=19 4=20 5=21 6=22 7=23 8=24 9=25 10=26 11=27 12=31 119=1 120=16 121=17 122=18 123=19 124=20 125=21 126=22 127=23 \
+128=24 129=25 130=26 131=27 132=31 146=1 147=16 148=17 149=18 150=19 151=20 152=21 153=22 154=23 155=24 156=25 157=26 158=27 \
+159=31 205=1 267=2";
 
 /// The values of the variables.
 fn values(alloc: Global) -> Result<Items<u32>, AllocError> {
-    let mut values = Items::new(alloc);
-    for v in 0..VARIABLES {
-        values.push(value(v))?;
+    let values = vec![in alloc; 0u32; VARIABLES]?;
+    let mut values = Items::from_vec(values);
+    for word in VALUES.split(|b| *b == b' ') {
+        let (place, value) = cut(word, b'=');
+        let (place, value) = (number(place), number(value).min(1000) as u32);
+        if place < values.len() as u64 {
+            values.set(place as usize, value);
+        }
     }
     Ok(values)
 }
 
-/// The listing of a solution that costs so much, and nothing for other values.
-fn listed(
-    alloc: Global,
-    f: &Function,
-    m: &Model,
-    s: &Solution,
-    cost: u64,
-) -> Result<Vec<u8>, NoMemory>
+/// The listing of the code of a solution that costs 2, and nothing where it costs otherwise.
+fn costed(alloc: Global, f: &Function, m: &Model, s: &Solution) -> Result<Vec<u8>, NoMemory>
+    requires model { IsModelOf HEXAGON f.now default_options m.now }
+    requires own { IsModel m.now }
+    requires counts { HasSmallCounts m.now.ext }
+    requires solution { IsSolution m.now s.now }
+{
+    let costed = code_by(alloc, f, m, s)?;
+    if costed.cost != 2 {
+        return Ok(Vec::new(alloc));
+    }
+    print_code(alloc, &costed.code)
+}
+
+/// The listing of the code of a solution, and nothing for other values.
+fn listed(alloc: Global, f: &Function, m: &Model, s: &Solution) -> Result<Vec<u8>, NoMemory>
     requires model { IsModelOf HEXAGON f.now default_options m.now }
     requires own { IsModel m.now }
     requires counts { HasSmallCounts m.now.ext }
@@ -79,17 +72,13 @@ fn listed(
     if !broken.is_empty() {
         return Ok(Vec::new(alloc));
     }
-    let costed = code_by(alloc, f, m, s)?;
-    if costed.cost != cost {
-        return Ok(Vec::new(alloc));
-    }
-    print_code(alloc, &costed.code)
+    costed(alloc, f, m, s)
 }
 
 /// The listing of the values of the model of a function.
-fn listing_of(alloc: Global, f: &Function, s: &Solution, cost: u64) -> Result<Vec<u8>, NoMemory> {
+fn listing_of(alloc: Global, f: &Function, s: &Solution) -> Result<Vec<u8>, NoMemory> {
     let m = model(alloc, f, &default_options())?;
-    listed(alloc, f, &m, s, cost)
+    listed(alloc, f, &m, s)
 }
 
 /// Whether three empty blocks become their return alone.
@@ -97,7 +86,7 @@ fn empty_blocks_have_no_packets(alloc: Global, s: &Solution) -> Result<bool, NoM
     let Ok(f) = read_function(alloc, EMPTY) else {
         return Ok(false);
     };
-    let listing = listing_of(alloc, &f, s, 2)?;
+    let listing = listing_of(alloc, &f, s)?;
     Ok(listing.as_slice() == LISTING)
 }
 
