@@ -4,6 +4,6 @@ mod ExtendValues
 pub mod NameBounds
 pub mod FunctionFacts
 mod SourceRows
-mod TextLoops
+pub mod TextLoops
 pub mod SourceFacts
 pub mod GoodOps

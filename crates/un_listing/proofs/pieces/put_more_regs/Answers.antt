@@ -1,6 +1,6 @@
 use Rattle.std.proofs.Common.{◌++◌, ◌∙◌, codes, get_or, ap, refl, append_assoc}
 use Rattle.std.specs.List.{flat_map}
-use Rattle.un_listing.proofs.TextLoops.{text_step}
+use Rattle.un_ir.proofs.TextLoops.{text_step}
 use Rattle.un_listing.specs.Listing.{reg_text}
 use Rattle.un_listing.proofs.pieces.put_more_regs.Goals as goal
 

@@ -2,7 +2,7 @@ use Rattle.std.proofs.Common.{◌++◌, ◌∷◌, []}
 use Rattle.std.specs.List.{flat_map}
 use Rattle.std.proofs.lemmas.List.Concat.{flat_map-append}
 use Rattle.un_base.specs.Lines.{joined_lines}
-use Rattle.un_listing.proofs.TextLoops.{text_step}
+use Rattle.un_ir.proofs.TextLoops.{text_step}
 use Rattle.un_listing.specs.Listing.{block_lines}
 use Rattle.un_listing.proofs.print.put_blocks.Goals as goal
 

@@ -1,6 +1,6 @@
 use Rattle.std.proofs.Common.{◌++◌, ◌∙◌, codes, ap, refl, append_assoc}
 use Rattle.std.specs.List.{flat_map}
-use Rattle.un_listing.proofs.TextLoops.{text_step}
+use Rattle.un_ir.proofs.TextLoops.{text_step}
 use Rattle.un_listing.specs.Listing.{instr_text}
 use Rattle.un_listing.proofs.print.put_more_instrs.Goals as goal
 

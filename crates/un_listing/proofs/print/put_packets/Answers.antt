@@ -1,6 +1,6 @@
 use Rattle.std.proofs.Common.{◌++◌, codes, map, refl}
 use Rattle.un_base.specs.Lines.{joined_lines}
-use Rattle.un_listing.proofs.TextLoops.{text_step}
+use Rattle.un_ir.proofs.TextLoops.{text_step}
 use Rattle.un_listing.specs.Listing.{packet_line}
 use Rattle.un_listing.proofs.print.put_packets.Goals as goal
 

@@ -1,6 +1,6 @@
 use Rattle.std.proofs.Common.{refl}
 use Rattle.std.specs.List.{flat_map}
-use Rattle.un_listing.proofs.TextLoops.{text_step}
+use Rattle.un_ir.proofs.TextLoops.{text_step}
 use Rattle.un_packet.specs.CodeRules.{written}
 use Rattle.un_listing_reader.proofs.rules.all_written.Goals as goal
 
