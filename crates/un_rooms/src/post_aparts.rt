@@ -236,8 +236,7 @@ fn post_apart(props: &mut Props, sites: &[Site<'_>], spots: &[Spot<'_>]) -> Resu
 {
     let temps = temps_at(props.alloc(), sites, spots)?;
     let made = make_apart(props.alloc(), temps)?;
-    props.push(made)?;
-    Ok(())
+    props.push(made)
 }
 
 /// What is posted of the registers of block `b`, of which the first operation has the number `first`.
@@ -253,8 +252,7 @@ fn post_apart_in(
 {
     let mut spots = Items::new(props.alloc());
     add_block(&mut spots, b, first, block, vars)?;
-    post_apart(props, sites, spots.as_slice())?;
-    Ok(())
+    post_apart(props, sites, spots.as_slice())
 }
 
 /// What is posted of the registers of all blocks of a model, of which this is the table of definers.

@@ -156,8 +156,7 @@ fn post_wait(props: &mut Props, call: &Spot<'_>, u: &Spot<'_>, gap: u32) -> Resu
         Act::Always,
         gap,
     )?;
-    props.push(made)?;
-    Ok(())
+    props.push(made)
 }
 
 /// What is posted of an operation behind a call.
@@ -229,8 +228,7 @@ fn post_call<'a>(
         ++ of_call t.now arcs.now (map place_of spots.now) (option_map place_of next.entry) (place_of call.now)) }
 {
     let found = between(props.alloc(), reach, arcs, call, next, spots)?;
-    post_all_anew(props, t, call, found.as_slice())?;
-    Ok(())
+    post_all_anew(props, t, call, found.as_slice())
 }
 
 /// What is posted of the calls of a block.
@@ -284,8 +282,7 @@ fn post_block(
 {
     let reach = reach_of(spots, arcs);
     let calls = calls_in(props.alloc(), reach, spots)?;
-    post_calls(props, t, reach, arcs, spots, calls.as_slice())?;
-    Ok(())
+    post_calls(props, t, reach, arcs, spots, calls.as_slice())
 }
 
 /// What is posted of the calls of block `b`, of which the first operation has the number `first`.
@@ -302,8 +299,7 @@ fn post_block_at(
 {
     let mut spots = Items::new(props.alloc());
     add_block(&mut spots, b, first, block, vars)?;
-    post_block(props, &m.ext.table, arcs_at(&m.arcs, b), spots.as_slice())?;
-    Ok(())
+    post_block(props, &m.ext.table, arcs_at(&m.arcs, b), spots.as_slice())
 }
 
 /// What is posted of what the calls of a model separate.

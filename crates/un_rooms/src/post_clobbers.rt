@@ -148,8 +148,7 @@ fn post_block_at(
     let mut spots = Items::new(props.alloc());
     add_block(&mut spots, b, first, block, vars)?;
     let mask = m.ext.table.clobbered;
-    post_block(props, mask, sites, arcs_at(&m.arcs, b), spots.as_slice())?;
-    Ok(())
+    post_block(props, mask, sites, arcs_at(&m.arcs, b), spots.as_slice())
 }
 
 /// What is posted of the calls of all blocks of a model, of which this is the table of definers.

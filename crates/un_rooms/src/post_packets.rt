@@ -103,8 +103,7 @@ fn post_block(
 {
     let items = block_items(props.alloc(), t, b, n, block, vars)?;
     let made = make_per_cycle(props.alloc(), items, block.horizon)?;
-    props.push(made)?;
-    Ok(())
+    props.push(made)
 }
 
 /// Packets have room for what the operations of each block issue.

@@ -123,8 +123,7 @@ fn post_different(
 {
     let (first, second) = both_fields(props.alloc(), slots, sites, op, a, c, b, d)?;
     let made = make_operands(props.alloc(), first, second)?;
-    props.push(made)?;
-    Ok(())
+    props.push(made)
 }
 
 /// Two operands of an operation of the source have different registers, where both have choices.
@@ -267,6 +266,5 @@ pub fn post_twos(
     requires spots { map place_of spots.now ≡ places_of m.now }
     ensures { OnOk result (props.new ≡ props.old ++ twos_of m.now) }
 {
-    post_twos_at(props, m.options.slots, sites, spots)?;
-    Ok(())
+    post_twos_at(props, m.options.slots, sites, spots)
 }

@@ -39,8 +39,7 @@ fn post_arc(props: &mut Props, spots: &[Spot<'_>], arc: &Arc) -> Result<(), NoMe
         Act::Always,
         arc.gap,
     )?;
-    props.push(made)?;
-    Ok(())
+    props.push(made)
 }
 
 /// What is posted of the arcs of a block.
@@ -68,6 +67,5 @@ pub fn post_arcs(props: &mut Props, m: &Model, spots: &[Spot<'_>]) -> Result<(),
     requires { map place_of spots.now ≡ places_of m.now }
     ensures { OnOk result (props.new ≡ props.old ++ befores_of m.now) }
 {
-    post_blocks(props, spots, m.arcs.as_slice())?;
-    Ok(())
+    post_blocks(props, spots, m.arcs.as_slice())
 }

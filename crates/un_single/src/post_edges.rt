@@ -61,8 +61,7 @@ fn post_same(
 {
     let regs = registers_at(props.alloc(), sites, operand.alts.as_slice())?;
     let made = make_same(props.alloc(), choice, regs, site_of(sites, x).reg)?;
-    props.push(made)?;
-    Ok(())
+    props.push(made)
 }
 
 /// What the operand at place `k` of a block's end chooses has the register of a temporary.
@@ -89,8 +88,7 @@ fn post_handed(
         x,
         out.it.operands.get(k),
         *out.vars.choices.get(k),
-    )?;
-    Ok(())
+    )
 }
 
 /// The value at place `j` of those that block `b` takes has the register of what the end of block `a` hands over for it.
@@ -108,10 +106,7 @@ fn post_value(
 {
     match out {
         None => Ok(()),
-        Some(p) => {
-            post_handed(props, sites, p, place(a, b, j), x)?;
-            Ok(())
-        }
+        Some(p) => { post_handed(props, sites, p, place(a, b, j), x) }
     }
 }
 
@@ -149,8 +144,7 @@ fn post_edge(
     if l >= blocks.len() {
         return Ok(());
     }
-    post_values(props, sites, out, a, blocks.get(l))?;
-    Ok(())
+    post_values(props, sites, out, a, blocks.get(l))
 }
 
 /// What is posted of the edges from block `a`, number `k`.
@@ -175,8 +169,7 @@ fn post_edges_from(
         Term::Branch { to, .. } => {
             let next = advance(k, 1)?;
             post_edge(props, sites, blocks, out, a, next as usize)?;
-            post_edge(props, sites, blocks, out, a, to.0 as usize)?;
-            Ok(())
+            post_edge(props, sites, blocks, out, a, to.0 as usize)
         }
         Term::Ret(_) => Ok(()),
     }
@@ -198,8 +191,7 @@ fn post_block(
     let b = number(k)?;
     let a = blocks.get(k);
     let out = end_of(props.alloc(), b, n, a, vars)?;
-    post_edges_from(props, sites, blocks, &out, b, a)?;
-    Ok(())
+    post_edges_from(props, sites, blocks, &out, b, a)
 }
 
 /// What is posted of the edges between these blocks.
@@ -226,6 +218,5 @@ pub fn post_edges(props: &mut Props, m: &Model, sites: &[Site<'_>]) -> Result<()
     ensures { OnOk result (props.new ≡ props.old
         ++ over_blocks (edges_of m.now.ext.blocks (definers_of m.now)) 0 0 m.now.ext.blocks m.now.blocks) }
 {
-    post_blocks(props, sites, &m.ext.blocks, &m.blocks)?;
-    Ok(())
+    post_blocks(props, sites, &m.ext.blocks, &m.blocks)
 }

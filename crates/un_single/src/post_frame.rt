@@ -312,8 +312,7 @@ fn post_enter(
 {
     let f = fields(props.alloc(), m, sites, spots, enter)?;
     let made = make_frame(props.alloc(), f)?;
-    props.push(made)?;
-    Ok(())
+    props.push(made)
 }
 
 /// The frame agrees with its use.

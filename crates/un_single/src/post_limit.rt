@@ -40,8 +40,7 @@ pub fn post_limit(props: &mut Props, m: &Model, limit: Option<u64>) -> Result<()
         Some(most) => {
             let ends = ends_of(props.alloc(), &m.ext.blocks, &m.blocks)?;
             let made = make_below(props.alloc(), ends, most)?;
-            props.push(made)?;
-            Ok(())
+            props.push(made)
         }
     }
 }

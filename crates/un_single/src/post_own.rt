@@ -49,8 +49,7 @@ fn post_never(props: &mut Props, at: VarId) -> Result<(), NoMemory>
         Act::Always,
         0,
     )?;
-    props.push(made)?;
-    Ok(())
+    props.push(made)
 }
 
 /// An optional operation that is not active has only zeros.
@@ -58,8 +57,7 @@ fn post_idle(props: &mut Props, instr: VarId, others: Items<VarId>) -> Result<()
     ensures { OnOk result (props.new ≡ props.old ++ constraint.Zeros instr others ∷ []) }
 {
     let made = make_zeros(props.alloc(), instr, others)?;
-    props.push(made)?;
-    Ok(())
+    props.push(made)
 }
 
 /// An operation that is not active has only zeros.
@@ -76,8 +74,7 @@ pub fn post_zeros(props: &mut Props, sites: &[Site<'_>], p: &Spot<'_>) -> Result
         None => Ok(()),
         Some(instr) => {
             let others = idle_vars(props.alloc(), sites, p)?;
-            post_idle(props, instr, others)?;
-            Ok(())
+            post_idle(props, instr, others)
         }
     }
 }
@@ -87,8 +84,7 @@ fn post_last(props: &mut Props, at: VarId, end: VarId) -> Result<(), NoMemory>
     ensures { OnOk result (props.new ≡ props.old ++ constraint.Last at end ∷ []) }
 {
     let made = make_last(props.alloc(), at, end)?;
-    props.push(made)?;
-    Ok(())
+    props.push(made)
 }
 
 /// An operation issues within its block.
@@ -96,8 +92,7 @@ fn post_inside(props: &mut Props, at: VarId, on: Act, end: VarId) -> Result<(), 
     ensures { OnOk result (props.new ≡ props.old ++ constraint.Inside at on end ∷ []) }
 {
     let made = make_inside(props.alloc(), at, on, end)?;
-    props.push(made)?;
-    Ok(())
+    props.push(made)
 }
 
 /// When an operation with this cycle issues.
@@ -130,9 +125,6 @@ pub fn post_issue(props: &mut Props, p: &Spot<'_>) -> Result<(), NoMemory>
 {
     match p.vars.cycle {
         None => Ok(()),
-        Some(at) => {
-            post_issue_at(props, &p.it.kind, p.act(), p.end, at)?;
-            Ok(())
-        }
+        Some(at) => { post_issue_at(props, &p.it.kind, p.act(), p.end, at) }
     }
 }

@@ -57,8 +57,7 @@ fn post_operand(
         ++ of_operand t.now slots (asked (definers_in sites.now) (place_of p.now) j operand.now)) }
 {
     let alts = sites_at(props.alloc(), sites, operand.alts.as_slice())?;
-    post_read(props, t, slots, p, j, alts.as_slice(), operand.home)?;
-    Ok(())
+    post_read(props, t, slots, p, j, alts.as_slice(), operand.home)
 }
 
 /// What is posted of the operands of an operation.
@@ -126,6 +125,5 @@ pub fn post_operations(
     ensures { OnOk result (props.new ≡ props.old
         ++ over_places (of_place m.now.ext.table m.now.options.slots (definers_of m.now)) m.now) }
 {
-    post_places(props, &m.ext.table, m.options.slots, sites, spots)?;
-    Ok(())
+    post_places(props, &m.ext.table, m.options.slots, sites, spots)
 }

@@ -44,8 +44,7 @@ pub fn post_chosen(
         Some(v) => {
             let acts = acts_of(props.alloc(), alts)?;
             let made = make_chosen(props.alloc(), on, v, acts)?;
-            props.push(made)?;
-            Ok(())
+            props.push(made)
         }
     }
 }
@@ -86,8 +85,7 @@ fn post_lone(props: &mut Props, t: &Table, p: &Spot<'_>, site: &Site<'_>) -> Res
         p.act(),
         gap,
     )?;
-    props.push(made)?;
-    Ok(())
+    props.push(made)
 }
 
 /// The operand of a copy of a value waits for each of these.
@@ -111,15 +109,11 @@ pub fn post_waits(
     ensures { OnOk result (props.new ≡ props.old ++ waits_by t.now (place_of p.now) choice (definers_in alts.now)) }
 {
     match choice {
-        None => {
-            post_lones(props, t, p, alts)?;
-            Ok(())
-        }
+        None => { post_lones(props, t, p, alts) }
         Some(v) => {
             let found = read_alts(props.alloc(), t, alts)?;
             let made = make_reads(props.alloc(), p.time(), p.act(), v, found)?;
-            props.push(made)?;
-            Ok(())
+            props.push(made)
         }
     }
 }
@@ -138,8 +132,7 @@ pub fn post_home(
         Some(reg) => {
             let regs = registers_of(props.alloc(), alts)?;
             let made = make_home(props.alloc(), choice, regs, reg)?;
-            props.push(made)?;
-            Ok(())
+            props.push(made)
         }
     }
 }

@@ -65,8 +65,7 @@ fn post_in_space(
     let regs = registers_of(props.alloc(), alts)?;
     let sets = operand_sets(props.alloc(), slots, kind, j)?;
     let made = make_spaces(props.alloc(), on, choice, regs, sets)?;
-    props.push(made)?;
-    Ok(())
+    props.push(made)
 }
 
 /// An operand lies in the space of the operation's instruction, but at a block's end in any.
@@ -106,8 +105,7 @@ fn post_result(
     regs.push(reg)?;
     let sets = result_sets(props.alloc(), slots, kind)?;
     let made = make_spaces(props.alloc(), on, None, regs, sets)?;
-    props.push(made)?;
-    Ok(())
+    props.push(made)
 }
 
 /// The results of a copy lie in the space of its instruction.
