@@ -29,9 +29,9 @@ use Rattle.un_rect.specs.declared.clobber.ClobberCall.{ClobberCall}
 use Rattle.un_slots.specs.declared.item.Item.{Item}
 use Rattle.un_kinds.specs.Constraints.{Before, Reads, Inside, Last, Below, Chosen, Zeros, Spaces, Same, Home, Frame}
 use Rattle.un_kinds.specs.Constraints.{Apart, Clobber, Operands, PerCycle}
-use Rattle.un_post.specs.Postings.{postings_of}
-use Rattle.un_post.specs.Befores.{befores_of}
-use Rattle.un_post.specs.Rooms.{aparts_of, clobbers_of, packets_of, twos_of}
+use Rattle.un_sites.specs.Postings.{postings_of}
+use Rattle.un_sites.specs.Befores.{befores_of}
+use Rattle.un_sites.specs.Rooms.{aparts_of, clobbers_of, packets_of, twos_of}
 use Rattle.tests_top.proofs.WorkedModel.{model, names, reads, op, source}
 
 -- ---- variables, times, activities

@@ -5,4 +5,5 @@ pub mod any;
 pub mod make_alt;
 pub mod make_prec;
 pub mod make_rect;
+pub mod props;
 pub mod vars;

@@ -13,8 +13,8 @@ use Rattle.un_model.proofs.PlacedSchedules.{spots, spot_range, joined_member, pl
 use Rattle.un_prop.specs.declared.act.Temp.{Temp}
 use Rattle.un_prop.specs.Acts.{is_active}
 use Rattle.un_rect.specs.Spans.{starts, ends}
-use Rattle.un_post.specs.Places.{Definer, definers_of, definer_or}
-use Rattle.un_post.specs.Rooms.{temp_by, temp_at, temps_in}
+use Rattle.un_sites.specs.Places.{Definer, definers_of, definer_or}
+use Rattle.un_sites.specs.Rooms.{temp_by, temp_at, temps_in}
 use Rattle.un_post.proofs.Blocks.{blocks, region_places, joined_parts, map_twice}
 use Rattle.un_post.proofs.Facts.{Given, numbered, definer_is, definer_acts, definer_times}
 use Rattle.un_post.proofs.Meeting.{each_joined, joined_each}

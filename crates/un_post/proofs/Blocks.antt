@@ -13,7 +13,7 @@ use Rattle.un_model.proofs.Operations.{placed_is}
 use Rattle.un_model.proofs.Placed.{Placed, placed, Region, region_placed}
 use Rattle.un_model.proofs.PlacedSchedules.{all, member_joined, joined_member}
 use Rattle.un_kinds.specs.Constraints.{Constraint, AllMet}
-use Rattle.un_post.specs.Places.{Place, place_at, block_places}
+use Rattle.un_sites.specs.Places.{Place, place_at, block_places}
 use Rattle.un_post.proofs.Meeting.{Met, met_all, all_met, each_joined, joined_each}
 use Rattle.un_post.proofs.Placing.{place_of}
 use Rattle.un_post.proofs.Regions.{regions, placed_regions, over_regions, of_region}

@@ -35,8 +35,8 @@ use Rattle.un_model.proofs.Placed.{Placed, Region, region_placed, vars_of, issue
 use Rattle.un_model.proofs.PlacedSchedules.{all, spots, spot_range, range_at, range_here}
 use Rattle.un_model.proofs.Readings.{Solved, Reading, reading, fit_kinds, numbered as solved_numbered}
 use Rattle.un_model.proofs.TempKinds.{carried_at, carried_is}
-use Rattle.un_post.specs.CallBefores.{is_clobbered_home, reads_clobbered, is_home, reads_reply, reads_anew}
-use Rattle.un_post.specs.Postings.{is_call_kind}
+use Rattle.un_sites.specs.CallBefores.{is_clobbered_home, reads_clobbered, is_home, reads_reply, reads_anew}
+use Rattle.un_sites.specs.Postings.{is_call_kind}
 use Rattle.un_post.proofs.Blocks.{blocks, in_all}
 use Rattle.un_post.proofs.Facts.{Given, falls, in_domains, definer_is, reader_goes, Reading as Asking, reading as asked_of}
 use Rattle.un_post.proofs.Memory.{contains_member}

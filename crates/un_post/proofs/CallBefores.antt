@@ -21,13 +21,13 @@ use Rattle.un_model.proofs.Lists.{Each, Member, each_of, each_join, member_map_o
 use Rattle.un_model.proofs.Placed.{Placed, Region, region_placed, issue_at}
 use Rattle.un_prop.specs.Acts.{at_value}
 use Rattle.un_prop.specs.declared.act.Act.TheVariants.{Always}
-use Rattle.un_post.specs.CallBefores.{reads_anew, waits_anew, anew_count, anew_gap}
-use Rattle.un_post.specs.CallBefores.{anew_after}
-use Rattle.un_post.specs.CallBefores.{is_between, of_call, of_call_at, call_befores_by, call_befores_in, call_befores_of}
+use Rattle.un_sites.specs.CallBefores.{reads_anew, waits_anew, anew_count, anew_gap}
+use Rattle.un_sites.specs.CallBefores.{anew_after}
+use Rattle.un_sites.specs.CallBefores.{is_between, of_call, of_call_at, call_befores_by, call_befores_in, call_befores_of}
 use Rattle.un_kinds.specs.Constraints.{AllMet, Before}
-use Rattle.un_post.specs.Places.{Place, time_of}
-use Rattle.un_post.specs.Postings.{is_call_kind, with_kind}
-use Rattle.un_post.specs.Rooms.{arcs_or, is_behind}
+use Rattle.un_sites.specs.Places.{Place, time_of}
+use Rattle.un_sites.specs.Postings.{is_call_kind, with_kind}
+use Rattle.un_sites.specs.Rooms.{arcs_or, is_behind}
 use Rattle.un_post.proofs.Blocks.{blocks, region_places, region_vars, places_in, regions_met}
 use Rattle.un_post.proofs.CallAnew.{rewritten}
 use Rattle.un_post.proofs.CallCounts.{three_after}

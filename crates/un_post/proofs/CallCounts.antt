@@ -27,8 +27,8 @@ use Rattle.un_model.specs.Variables.{model_of, count_if}
 use Rattle.un_model.proofs.Lists.{Each, Pairwise, Member, each_of, each_more, each_member, length_get}
 use Rattle.un_model.proofs.Placed.{Placed, Region, region_placed, vars_of, issue_at, Spot, all_count, at_number}
 use Rattle.un_model.proofs.PlacedSchedules.{all, spots, spot_range, one_spot}
-use Rattle.un_post.specs.CallBefores.{reads_anew, count_from}
-use Rattle.un_post.specs.Postings.{is_call_kind}
+use Rattle.un_sites.specs.CallBefores.{reads_anew, count_from}
+use Rattle.un_sites.specs.Postings.{is_call_kind}
 use Rattle.un_post.proofs.Blocks.{blocks, in_all, stands_in}
 use Rattle.un_post.proofs.CallAnew.{Rewritten, rewritten}
 use Rattle.un_post.proofs.Facts.{Given, numbered, good_op, definer_is, Reading as Asking, reading as asked_of}

@@ -45,8 +45,8 @@ use Rattle.un_model.proofs.Operations.{placed_is}
 use Rattle.un_model.proofs.Placed.{Placed, Region, region_placed, vars_of, issue_at}
 use Rattle.un_model.proofs.PlacedSchedules.{all, issue_here, each_issue}
 use Rattle.un_kinds.specs.Constraints.{AllMet}
-use Rattle.un_post.specs.Postings.{is_call_kind}
-use Rattle.un_post.specs.Rooms.{led_by, reached, ends_block, arcs_or, clobbers_of}
+use Rattle.un_sites.specs.Postings.{is_call_kind}
+use Rattle.un_sites.specs.Rooms.{led_by, reached, ends_block, arcs_or, clobbers_of}
 use Rattle.un_post.proofs.Blocks.{blocks, in_all, past, region_close}
 use Rattle.un_post.proofs.Facts.{Given}
 use Rattle.un_post.proofs.Packets.{no_room, share, sum_part, whole_taken}

@@ -12,10 +12,10 @@ use Rattle.un_model.proofs.Lists.{Each, each_of, each_member, member_at, member_
 use Rattle.un_model.proofs.Placed.{Placed}
 use Rattle.un_prop.specs.Acts.{at_vars}
 use Rattle.un_prop.specs.declared.act.Act.TheVariants.{Always}
-use Rattle.un_post.specs.CallBefores.{waits_anew, anew_gap, anew_after, is_between, of_call, of_call_at, call_befores_by}
+use Rattle.un_sites.specs.CallBefores.{waits_anew, anew_gap, anew_after, is_between, of_call, of_call_at, call_befores_by}
 use Rattle.un_kinds.specs.Constraints.{Before}
-use Rattle.un_post.specs.Places.{Place, time_by, time_of}
-use Rattle.un_post.specs.Postings.{is_call_kind, with_kind}
+use Rattle.un_sites.specs.Places.{Place, time_by, time_of}
+use Rattle.un_sites.specs.Postings.{is_call_kind, with_kind}
 use Rattle.un_post.proofs.CallBefores.{each_lists}
 use Rattle.un_post.proofs.Meeting.{each_places, joined_each}
 use Rattle.un_post.proofs.Placing.{place_of}

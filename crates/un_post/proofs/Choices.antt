@@ -26,8 +26,8 @@ use Rattle.un_prop.specs.Choices.{passes_at}
 use Rattle.un_prop.specs.declared.act.Act.{Act}
 use Rattle.un_alt.specs.Registers.{place_of as chosen_place}
 use Rattle.un_kinds.specs.Constraints.{AllMet, Chosen}
-use Rattle.un_post.specs.Places.{Definer, act_by, act_of, definers_of, definers_at}
-use Rattle.un_post.specs.Postings.{over_operands, chosen_of, chosen_by}
+use Rattle.un_sites.specs.Places.{Definer, act_by, act_of, definers_of, definers_at}
+use Rattle.un_sites.specs.Postings.{over_operands, chosen_of, chosen_by}
 use Rattle.un_post.proofs.Meeting.{Met, passes_get, where_on}
 use Rattle.un_post.proofs.Placing.{place_of, definer_at}
 use Rattle.un_post.proofs.Facts.{Given, Reading, numbered, good_op, all_member, acts, definer_is, definer_acts, definer_counts, choice_var}

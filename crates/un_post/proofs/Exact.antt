@@ -17,12 +17,12 @@ use Rattle.un_model.specs.Options.{AreOptions}
 use Rattle.un_model.specs.Solutions.{InDomain, KeepsDomains}
 use Rattle.un_model.specs.Variables.{model_of}
 use Rattle.un_model.proofs.Lists.{Member}
-use Rattle.un_post.specs.Befores.{befores_of, all_postings_of}
-use Rattle.un_post.specs.CallBefores.{call_befores_of}
+use Rattle.un_sites.specs.Befores.{befores_of, all_postings_of}
+use Rattle.un_sites.specs.CallBefores.{call_befores_of}
 use Rattle.un_kinds.specs.Constraints.{AllMet}
-use Rattle.un_post.specs.Postings.{postings_of}
+use Rattle.un_sites.specs.Postings.{postings_of}
 use Rattle.un_post.specs.Posts.{IsCheaper}
-use Rattle.un_post.specs.Rooms.{rooms_of}
+use Rattle.un_sites.specs.Rooms.{rooms_of}
 use Rattle.un_post.proofs.CallBefores.{call_befores_met}
 use Rattle.un_post.proofs.Facts.{Given}
 use Rattle.un_post.proofs.Memory.{befores, memory, contains_member, member_contains}

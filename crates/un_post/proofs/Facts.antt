@@ -29,8 +29,8 @@ use Rattle.un_model.proofs.Operations.{GoodPlaced, all_good}
 use Rattle.un_model.proofs.PlacedSchedules.{all, spots, spot_range, the_ranges, range_get, joined_member, places_member, get_range}
 use Rattle.un_prop.specs.Acts.{act_number, is_active, at_value}
 use Rattle.un_alt.specs.Registers.{place_of as chosen_place, chosen_value}
-use Rattle.un_post.specs.Places.{Definer, act_by, act_of, time_by, time_of, by_number, definers_of, definers_at}
-use Rattle.un_post.specs.Postings.{registers_of}
+use Rattle.un_sites.specs.Places.{Definer, act_by, act_of, time_by, time_of, by_number, definers_of, definers_at}
+use Rattle.un_sites.specs.Postings.{registers_of}
 use Rattle.un_post.proofs.Meeting.{value_get}
 use Rattle.un_post.proofs.Placing.{place_of, definer_at, definer_among}
 

@@ -19,8 +19,8 @@ use Rattle.un_model.proofs.Placed.{Placed, vars_of, issue_at}
 use Rattle.un_model.proofs.PlacedSchedules.{all}
 use Rattle.un_prop.specs.Acts.{act_number, is_active, at_value}
 use Rattle.un_alt.specs.Frame.{counts}
-use Rattle.un_post.specs.Places.{act_by, time_by}
-use Rattle.un_post.specs.Postings.{is_call_op, is_call_kind, var_or, cycle_var, copy_use, single_use}
+use Rattle.un_sites.specs.Places.{act_by, time_by}
+use Rattle.un_sites.specs.Postings.{is_call_op, is_call_kind, var_or, cycle_var, copy_use, single_use}
 use Rattle.un_post.proofs.Facts.{Given, falls, good_op, in_domains, instr_bound, acts, times}
 use Rattle.un_post.proofs.FrameTags.{Tag, Enters, Calls, Leaves, tag, Fits, Sound, fits, is_touch, counted}
 use Rattle.un_post.proofs.Placing.{place_of}

@@ -29,8 +29,8 @@ use Rattle.un_prop.specs.Acts.{act_number, is_active}
 use Rattle.un_alt.specs.declared.frame.FrameLeave.{FrameLeave}
 use Rattle.un_alt.specs.Frame.{uses_frame as touches_frame, is_access, is_slot, is_on, all_on, none_on, in_order}
 use Rattle.un_kinds.specs.Constraints.{AllMet}
-use Rattle.un_post.specs.Places.{Place, act_by, places_of, definers_of, registers_at}
-use Rattle.un_post.specs.Postings.{with_kind, in_entry, var_or, instr_var, frame_op, uses_of, frame_by, frame_of}
+use Rattle.un_sites.specs.Places.{Place, act_by, places_of, definers_of, registers_at}
+use Rattle.un_sites.specs.Postings.{with_kind, in_entry, var_or, instr_var, frame_op, uses_of, frame_by, frame_of}
 use Rattle.un_post.proofs.Congruences.{in_is}
 use Rattle.un_post.proofs.Facts.{Given, falls, acts, definer_is, definer_counts}
 use Rattle.un_post.proofs.FrameOrder.{all_iff, tag_of, kind_fits, copy_counts}

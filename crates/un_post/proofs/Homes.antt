@@ -20,8 +20,8 @@ use Rattle.un_model.proofs.Placed.{Placed, vars_of, issue_at}
 use Rattle.un_model.proofs.PlacedSchedules.{spot_range, the_ranges}
 use Rattle.un_alt.specs.Registers.{some_passes}
 use Rattle.un_kinds.specs.Constraints.{AllMet, Home}
-use Rattle.un_post.specs.Places.{asked, definers_of, definers_at}
-use Rattle.un_post.specs.Postings.{over_operands, homes_of, home_by, registers_of}
+use Rattle.un_sites.specs.Places.{asked, definers_of, definers_at}
+use Rattle.un_sites.specs.Postings.{over_operands, homes_of, home_by, registers_of}
 use Rattle.un_post.proofs.Meeting.{Met}
 use Rattle.un_post.proofs.Placing.{place_of}
 use Rattle.un_post.proofs.Facts.{Given, Reading, reading, read_range, read_register}

@@ -35,8 +35,8 @@ use Rattle.un_prop.specs.Choices.{passes_at}
 use Rattle.un_prec.specs.Reads.{is_late}
 use Rattle.un_alt.specs.Registers.{place_of as chosen_place}
 use Rattle.un_kinds.specs.Constraints.{Constraint, AllMet, Reads, Inside, Last}
-use Rattle.un_post.specs.Places.{act_by, act_of, time_of, definers_of, definers_at, definer_or}
-use Rattle.un_post.specs.Postings.{over_places, over_operands, issue_by, issues_in, waits_of, waits_by, gaps_of, read_alt, lone_read}
+use Rattle.un_sites.specs.Places.{act_by, act_of, time_of, definers_of, definers_at, definer_or}
+use Rattle.un_sites.specs.Postings.{over_places, over_operands, issue_by, issues_in, waits_of, waits_by, gaps_of, read_alt, lone_read}
 use Rattle.un_post.proofs.Choices.{value_kind, value_active, lone_value}
 use Rattle.un_post.proofs.Cycles.{cycle_sits}
 use Rattle.un_post.proofs.Meeting.{Met, passes_get, where_on}

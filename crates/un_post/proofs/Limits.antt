@@ -8,7 +8,7 @@ use Rattle.un_model.specs.declared.model.Solution.{Solution}
 use Rattle.un_model.specs.Cost.{block_cost, blocks_cost, cost_of}
 use Rattle.un_prec.specs.Below.{cost_at}
 use Rattle.un_kinds.specs.Constraints.{AllMet, Below}
-use Rattle.un_post.specs.Postings.{ends_by, limit_of}
+use Rattle.un_sites.specs.Postings.{ends_by, limit_of}
 use Rattle.un_post.proofs.Meeting.{met_all, all_met}
 use Rattle.un_post.proofs.Tests.{iff_then, lt_iff, met_one}
 

@@ -31,9 +31,9 @@ use Rattle.un_model.proofs.Operations.{placed_is}
 use Rattle.un_model.proofs.Placed.{Placed, Region, region_placed, vars_of, issue_at, issues_are}
 use Rattle.un_model.proofs.PlacedSchedules.{all}
 use Rattle.un_prop.specs.Acts.{at_value}
-use Rattle.un_post.specs.Befores.{place_or, place_with, arc_before, befores_in, befores_of}
+use Rattle.un_sites.specs.Befores.{place_or, place_with, arc_before, befores_in, befores_of}
 use Rattle.un_kinds.specs.Constraints.{meets, AllMet}
-use Rattle.un_post.specs.Places.{Place, time_of, places_of}
+use Rattle.un_sites.specs.Places.{Place, time_of, places_of}
 use Rattle.un_post.proofs.Blocks.{blocks, in_all, rising}
 use Rattle.un_post.proofs.Facts.{Given, times}
 use Rattle.un_post.proofs.Meeting.{Met, met_all, all_met, each_joined, joined_each}

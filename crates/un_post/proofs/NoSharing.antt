@@ -20,8 +20,8 @@ use Rattle.un_prop.specs.Acts.{is_active}
 use Rattle.un_rect.specs.Apart.{pair_holds, apart_holds}
 use Rattle.un_rect.specs.Spans.{starts, ends}
 use Rattle.un_kinds.specs.Constraints.{AllMet, Apart}
-use Rattle.un_post.specs.Places.{Place, definers_of}
-use Rattle.un_post.specs.Rooms.{temp_at, temps_in, apart_in, aparts_of}
+use Rattle.un_sites.specs.Places.{Place, definers_of}
+use Rattle.un_sites.specs.Rooms.{temp_at, temps_in, apart_in, aparts_of}
 use Rattle.un_post.proofs.Blocks.{blocks, region_places, region_vars, map_twice, places_in, regions_met}
 use Rattle.un_post.proofs.BlockTemps.{region_spots, temp_of, results_are, spots_by_blocks, spot_block, temp_is, on_is, start_is, end_is}
 use Rattle.un_post.proofs.Facts.{Given}

@@ -9,9 +9,9 @@ use Rattle.un_model.specs.Schedules.{schedule_of}
 use Rattle.un_model.specs.Solutions.{KeepsZeros, KeepsChoices, KeepsSpaces, KeepsLatencies, KeepsHomes, latency_gap}
 use Rattle.un_model.specs.Variables.{model_of}
 use Rattle.un_kinds.specs.Constraints.{AllMet}
-use Rattle.un_post.specs.Places.{Place, Definer, Asked, definers_of, asked_by}
-use Rattle.un_post.specs.Postings.{over_places, over_operands, of_place, of_operand, zeros_of, issues_in, chosen_of, waits_of, spaces_of}
-use Rattle.un_post.specs.Postings.{homes_of, results_in}
+use Rattle.un_sites.specs.Places.{Place, Definer, Asked, definers_of, asked_by}
+use Rattle.un_sites.specs.Postings.{over_places, over_operands, of_place, of_operand, zeros_of, issues_in, chosen_of, waits_of, spaces_of}
+use Rattle.un_sites.specs.Postings.{homes_of, results_in}
 use Rattle.un_post.proofs.Facts.{Given}
 use Rattle.un_post.proofs.Choices.{choices}
 use Rattle.un_post.proofs.Homes.{homes}

@@ -8,7 +8,7 @@ use Rattle.un_model.specs.Schedules.{schedule_of}
 use Rattle.un_model.specs.Solutions.{IsSchedule, KeepsRegisters, KeepsPackets, latency_gap}
 use Rattle.un_model.specs.Variables.{model_of}
 use Rattle.un_kinds.specs.Constraints.{AllMet}
-use Rattle.un_post.specs.Rooms.{aparts_of, clobbers_of, packets_of, twos_of, rooms_of}
+use Rattle.un_sites.specs.Rooms.{aparts_of, clobbers_of, packets_of, twos_of, rooms_of}
 use Rattle.un_post.proofs.CallOrder.{calls_met}
 use Rattle.un_post.proofs.Facts.{Given}
 use Rattle.un_post.proofs.Meeting.{met_all, all_met}

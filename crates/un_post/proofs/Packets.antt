@@ -32,9 +32,9 @@ use Rattle.un_slots.specs.declared.item.Item.{Item}
 use Rattle.un_slots.specs.Slots.{share_at, taken_by, taken as taken_in}
 use Rattle.un_slots.specs.SlotLaws.{holds_fits, fits_holds}
 use Rattle.un_kinds.specs.Constraints.{AllMet, PerCycle}
-use Rattle.un_post.specs.Places.{Place, act_of, by_number}
-use Rattle.un_post.specs.Postings.{cycle_var, var_or, with_kind}
-use Rattle.un_post.specs.Rooms.{issues_kind, item_of, packets_in, packets_of}
+use Rattle.un_sites.specs.Places.{Place, act_of, by_number}
+use Rattle.un_sites.specs.Postings.{cycle_var, var_or, with_kind}
+use Rattle.un_sites.specs.Rooms.{issues_kind, item_of, packets_in, packets_of}
 use Rattle.un_post.proofs.Blocks.{region_owner, blocks, region_places, region_vars, places_in, regions_met, in_all, rising}
 use Rattle.un_post.proofs.Cycles.{cycle_sits}
 use Rattle.un_post.proofs.Facts.{Given, falls, good_op, in_domains, acts, numbers}

@@ -15,8 +15,8 @@ use Rattle.un_model.specs.Variables.{model_of, op_vars, ops_vars, var_count, var
 use Rattle.un_model.proofs.Lists.{Member, map-append, slice_get-map}
 use Rattle.un_model.proofs.Placed.{Placed, placed, block_placed, blocks_placed, vars_of, all_count, at_number, Spot, temp_vars, temps_are}
 use Rattle.un_model.proofs.PlacedSchedules.{all, spots, spot_here}
-use Rattle.un_post.specs.Places.{Place, Definer, place_at, block_places, places_of, definer_by, definer_of, definers_of, definer_or}
-use Rattle.un_post.specs.Places.{definers_at}
+use Rattle.un_sites.specs.Places.{Place, Definer, place_at, block_places, places_of, definer_by, definer_of, definers_of, definer_or}
+use Rattle.un_sites.specs.Places.{definers_at}
 
 abbrev pub place_of : Placed → Place
 place_of q = record { block = q.block; end = q.close; op = q.number; it = q.op; vars = vars_of q }

@@ -12,8 +12,8 @@ use Rattle.un_model.specs.Schedules.{schedule_of}
 use Rattle.un_model.specs.Solutions.{KeepsFrame}
 use Rattle.un_model.specs.Variables.{model_of}
 use Rattle.un_kinds.specs.Constraints.{Constraint, AllMet}
-use Rattle.un_post.specs.Places.{definers_of, places_of}
-use Rattle.un_post.specs.Postings.{over_places, of_place, edges_of, frame_of, limit_of, postings_of}
+use Rattle.un_sites.specs.Places.{definers_of, places_of}
+use Rattle.un_sites.specs.Postings.{over_places, of_place, edges_of, frame_of, limit_of, postings_of}
 use Rattle.un_post.proofs.Congruences.{congruences}
 use Rattle.un_post.proofs.Facts.{Given}
 use Rattle.un_post.proofs.Frames.{frames}

@@ -32,18 +32,18 @@ use Rattle.un_rect.specs.Apart.{user_vars}
 use Rattle.un_rect.specs.Spans.{choice_vars as user_choice}
 use Rattle.un_rect.specs.declared.clobber.ClobberCall.{ClobberCall}
 use Rattle.un_slots.specs.declared.item.Item.{Item}
-use Rattle.un_post.specs.Befores.{place_or, place_with, arc_before}
+use Rattle.un_sites.specs.Befores.{place_or, place_with, arc_before}
 use Rattle.un_kinds.specs.Constraints.{Constraint, Before, Reads, Inside, Last, Below, Chosen, Zeros, Spaces, Same, Home, Frame, meets}
 use Rattle.un_kinds.specs.Constraints.{Apart, Clobber, Operands, PerCycle}
-use Rattle.un_post.specs.Places.{Place, Definer, Asked, act_by, act_of, time_by, time_of, definers_at}
-use Rattle.un_post.specs.Places.{definer_or, registers_at, asked, asked_by}
-use Rattle.un_post.specs.Places.{no_place}
-use Rattle.un_post.specs.Postings.{zeros_by, zeros_of, issue_by, issues_in, chosen_by, chosen_of, read_alt, lone_read, waits_by, waits_of}
-use Rattle.un_post.specs.Postings.{registers_of, space_by, operand_sets, spaces_of, home_by, homes_of, of_operand, result_by, result_sets}
-use Rattle.un_post.specs.Postings.{results_in, of_place, last_place, same_by, var_or, instr_var, cycle_var, frame_op, with_kind, copy_use}
-use Rattle.un_post.specs.Postings.{single_use, uses_of, leave_of, in_entry, is_call_kind}
-use Rattle.un_post.specs.Rooms.{user_if, operand_users, place_users, users_of, temp_by, temp_at, temps_in, is_behind, call_at, calls_but}
-use Rattle.un_post.specs.Rooms.{spared_at, item_of, issues_kind, each_two, operand_side, two_by, one_value, two_at, twos_in}
+use Rattle.un_sites.specs.Places.{Place, Definer, Asked, act_by, act_of, time_by, time_of, definers_at}
+use Rattle.un_sites.specs.Places.{definer_or, registers_at, asked, asked_by}
+use Rattle.un_sites.specs.Places.{no_place}
+use Rattle.un_sites.specs.Postings.{zeros_by, zeros_of, issue_by, issues_in, chosen_by, chosen_of, read_alt, lone_read, waits_by, waits_of}
+use Rattle.un_sites.specs.Postings.{registers_of, space_by, operand_sets, spaces_of, home_by, homes_of, of_operand, result_by, result_sets}
+use Rattle.un_sites.specs.Postings.{results_in, of_place, last_place, same_by, var_or, instr_var, cycle_var, frame_op, with_kind, copy_use}
+use Rattle.un_sites.specs.Postings.{single_use, uses_of, leave_of, in_entry, is_call_kind}
+use Rattle.un_sites.specs.Rooms.{user_if, operand_users, place_users, users_of, temp_by, temp_at, temps_in, is_behind, call_at, calls_but}
+use Rattle.un_sites.specs.Rooms.{spared_at, item_of, issues_kind, each_two, operand_side, two_by, one_value, two_at, twos_in}
 use Rattle.un_kinds.specs.Scopes.{vars_of, vars_in, own_var, alt_vars, end_var, op_vars, use_vars, leave_vars, rectangle_vars, clobber_vars}
 use Rattle.un_kinds.specs.Scopes.{item_vars, side_vars}
 use Rattle.un_post.proofs.Meeting.{each_places, joined_each}

@@ -42,16 +42,16 @@ use Rattle.un_model.proofs.PlacedSchedules.{joined_member, places_member}
 use Rattle.un_prop.specs.Acts.{at_vars}
 use Rattle.un_alt.specs.declared.frame.FrameLeave.{FrameLeave}
 use Rattle.un_prec.specs.declared.below.Weighted.{Weighted}
-use Rattle.un_post.specs.Befores.{place_or, place_with, arc_before, befores_in, befores_of, all_postings_of}
-use Rattle.un_post.specs.CallBefores.{call_befores_by, call_befores_in, call_befores_of}
+use Rattle.un_sites.specs.Befores.{place_or, place_with, arc_before, befores_in, befores_of, all_postings_of}
+use Rattle.un_sites.specs.CallBefores.{call_befores_by, call_befores_in, call_befores_of}
 use Rattle.un_kinds.specs.Constraints.{Constraint}
-use Rattle.un_post.specs.Places.{Place, Definer, time_by, block_places, places_of, definer_by, definer_of, definers_of}
-use Rattle.un_post.specs.Postings.{over_places, of_place, last_place, congruence, over_edge, edges_of}
-use Rattle.un_post.specs.Postings.{with_kind, leaves_in, frame_by, frame_of}
-use Rattle.un_post.specs.Postings.{ends_by, limit_of, postings_of}
+use Rattle.un_sites.specs.Places.{Place, Definer, time_by, block_places, places_of, definer_by, definer_of, definers_of}
+use Rattle.un_sites.specs.Postings.{over_places, of_place, last_place, congruence, over_edge, edges_of}
+use Rattle.un_sites.specs.Postings.{with_kind, leaves_in, frame_by, frame_of}
+use Rattle.un_sites.specs.Postings.{ends_by, limit_of, postings_of}
 use Rattle.un_post.specs.Posts.{largest_horizon}
-use Rattle.un_post.specs.Rooms.{apart_in, aparts_of, spared_in, spared_at, arcs_or, clobbers_of, packets_in, packets_of, twos_in, twos_of}
-use Rattle.un_post.specs.Rooms.{rooms_of, temps_in}
+use Rattle.un_sites.specs.Rooms.{apart_in, aparts_of, spared_in, spared_at, arcs_or, clobbers_of, packets_in, packets_of, twos_in, twos_of}
+use Rattle.un_sites.specs.Rooms.{rooms_of, temps_in}
 use Rattle.un_kinds.specs.Scopes.{leave_vars}
 use Rattle.un_post.proofs.Blocks.{blocks, in_all, region_vars, places_in}
 use Rattle.un_post.proofs.CallReads.{calls_sound}

@@ -25,7 +25,7 @@ use Rattle.un_prop.specs.Fixes.{Known}
 use Rattle.un_prop.specs.Looks.{InWords}
 use Rattle.un_prop.specs.Rounds.{HasVars}
 use Rattle.un_kinds.specs.AnyProps.{constraint_of, scope_of, cut_of, strong_of, span_of, any_lawful, any_strength}
-use Rattle.un_post.specs.Befores.{all_postings_of}
+use Rattle.un_sites.specs.Befores.{all_postings_of}
 use Rattle.un_post.specs.Posts.{largest_horizon, ReadsFrom, IsGrounded, SpansAtMost, FailsWhereEmpty}
 use Rattle.un_kinds.specs.Scopes.{IsScope, IsTight, vars_of}
 use Rattle.un_post.specs.Strength.{Strong}

@@ -18,8 +18,8 @@ use Rattle.un_model.specs.Variables.{var_at, var_count, ops_count, block_count, 
 use Rattle.un_model.proofs.Lists.{Each, Member, each_all, each_join, each_more, place_of as position_of}
 use Rattle.un_model.proofs.Operations.{placed_is}
 use Rattle.un_model.proofs.Placed.{Placed, placed, blocks_placed, Region, region_placed}
-use Rattle.un_post.specs.Places.{Place}
-use Rattle.un_post.specs.Postings.{last_place}
+use Rattle.un_sites.specs.Places.{Place}
+use Rattle.un_sites.specs.Postings.{last_place}
 
 abbrev pub regions : ℕ → ℕ → ℕ → List ExtBlock → List Region
 regions b n first [] = []

@@ -42,13 +42,13 @@ use Rattle.un_bound.specs.Choices.{IsKnown, AreKnown, AllKnown}
 use Rattle.un_bound.specs.Relaxations.{Times, IsValue, InOwnSet, IsRelaxed, AreRelaxed, times_cost, IsMember, IsMemberUnder}
 use Rattle.un_bound.specs.Timings.{IsTimed, IsKept}
 use Rattle.un_bound.proofs.Knowns.{known_model}
-use Rattle.un_post.specs.Befores.{arc_before, befores_in, befores_of, all_postings_of}
-use Rattle.un_post.specs.CallBefores.{call_befores_of}
+use Rattle.un_sites.specs.Befores.{arc_before, befores_in, befores_of, all_postings_of}
+use Rattle.un_sites.specs.CallBefores.{call_befores_of}
 use Rattle.un_kinds.specs.Constraints.{Constraint, AllMet}
-use Rattle.un_post.specs.Places.{Place, act_of, places_of, definers_of, asked_by}
-use Rattle.un_post.specs.Postings.{over_places, of_place, of_operand, zeros_of, issue_by, issues_in, results_in, edges_of, frame_of}
-use Rattle.un_post.specs.Postings.{limit_of, postings_of}
-use Rattle.un_post.specs.Rooms.{rooms_of}
+use Rattle.un_sites.specs.Places.{Place, act_of, places_of, definers_of, asked_by}
+use Rattle.un_sites.specs.Postings.{over_places, of_place, of_operand, zeros_of, issue_by, issues_in, results_in, edges_of, frame_of}
+use Rattle.un_sites.specs.Postings.{limit_of, postings_of}
+use Rattle.un_sites.specs.Rooms.{rooms_of}
 use Rattle.un_post.specs.Strength.{is_timing, Strong}
 use Rattle.un_post.proofs.Blocks.{blocks, in_all}
 use Rattle.un_post.proofs.Exact.{of_domains}

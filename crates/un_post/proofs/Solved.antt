@@ -10,8 +10,8 @@ use Rattle.un_model.specs.Schedules.{schedule_of}
 use Rattle.un_model.specs.Solutions.{IsSolution, KeepsMemory}
 use Rattle.un_model.specs.Variables.{model_of}
 use Rattle.un_kinds.specs.Constraints.{AllMet}
-use Rattle.un_post.specs.Postings.{postings_of}
-use Rattle.un_post.specs.Rooms.{rooms_of}
+use Rattle.un_sites.specs.Postings.{postings_of}
+use Rattle.un_sites.specs.Rooms.{rooms_of}
 use Rattle.un_post.proofs.Facts.{Given}
 use Rattle.un_post.proofs.OfRooms.{rooms_met, rooms_kept}
 use Rattle.un_post.proofs.Posted.{posted}

@@ -8,7 +8,7 @@ use Rattle.un_isa.specs.declared.reg.Space.{Space}
 use Rattle.un_isa.specs.declared.reg.Space.TheVariants.{R, P, M}
 use Rattle.un_domains.specs.Sets.{has}
 use Rattle.un_model.specs.Solutions.{InSpace}
-use Rattle.un_post.specs.Postings.{registers_in}
+use Rattle.un_sites.specs.Postings.{registers_in}
 use Rattle.un_post.proofs.Tests.{iff_then}
 
 -- a run of numbers has what is between its ends

@@ -27,9 +27,9 @@ use Rattle.un_prop.specs.Choices.{passes_at}
 use Rattle.un_prop.specs.declared.act.Act.{Act}
 use Rattle.un_alt.specs.Registers.{chosen_value, some_passes}
 use Rattle.un_kinds.specs.Constraints.{Constraint, meets, AllMet, Spaces}
-use Rattle.un_post.specs.Places.{act_of, asked, definers_of, definers_at, registers_at}
-use Rattle.un_post.specs.Postings.{over_places, over_operands, registers_in, operand_sets, result_sets, spaces_of, space_by, results_in}
-use Rattle.un_post.specs.Postings.{result_by, registers_of}
+use Rattle.un_sites.specs.Places.{act_of, asked, definers_of, definers_at, registers_at}
+use Rattle.un_sites.specs.Postings.{over_places, over_operands, registers_in, operand_sets, result_sets, spaces_of, space_by, results_in}
+use Rattle.un_sites.specs.Postings.{result_by, registers_of}
 use Rattle.un_post.proofs.Meeting.{Met, passes_get, where_on}
 use Rattle.un_post.proofs.Placing.{place_of, definer_at}
 use Rattle.un_post.proofs.Facts.{Given, Reading, falls, good_op, in_domains, acts, numbers, definer_is, reading, read_range, read_register}

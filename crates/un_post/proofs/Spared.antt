@@ -32,10 +32,10 @@ use Rattle.un_rect.specs.Clobber.{spares, clobber_holds}
 use Rattle.un_rect.specs.Spans.{starts, ends, use_time}
 use Rattle.un_rect.specs.declared.clobber.ClobberCall.{ClobberCall}
 use Rattle.un_kinds.specs.Constraints.{Constraint, meets, AllMet, Clobber}
-use Rattle.un_post.specs.Places.{Place, Definer, definers_of, definer_or}
-use Rattle.un_post.specs.Postings.{is_call_kind, is_call_op, cycle_var, var_or}
-use Rattle.un_post.specs.Rooms.{temps_in, users_of, is_before, is_behind, call_at, calls_but, arcs_or, spared_by, spared_at}
-use Rattle.un_post.specs.Rooms.{spared_in, clobbers_of}
+use Rattle.un_sites.specs.Places.{Place, Definer, definers_of, definer_or}
+use Rattle.un_sites.specs.Postings.{is_call_kind, is_call_op, cycle_var, var_or}
+use Rattle.un_sites.specs.Rooms.{temps_in, users_of, is_before, is_behind, call_at, calls_but, arcs_or, spared_by, spared_at}
+use Rattle.un_sites.specs.Rooms.{spared_in, clobbers_of}
 use Rattle.un_post.proofs.Blocks.{blocks, region_places, region_vars, map_twice, places_in, regions_met, in_all, stands_in}
 use Rattle.un_post.proofs.BlockTemps.{region_spots, definer_in, temp_of, results_are, spots_in_blocks, spot_all, spot_block, on_is}
 use Rattle.un_post.proofs.BlockTemps.{start_is, end_is}

@@ -33,9 +33,9 @@ use Rattle.un_model.proofs.PlacedSchedules.{all, spots, spot_range, the_ranges, 
 use Rattle.un_alt.specs.Registers.{place_of as chosen_place}
 use Rattle.un_rect.specs.Operands.{side_passes}
 use Rattle.un_kinds.specs.Constraints.{Constraint, meets, AllMet, Operands}
-use Rattle.un_post.specs.Places.{Definer, definers_of, definers_at}
-use Rattle.un_post.specs.Postings.{registers_in, registers_of}
-use Rattle.un_post.specs.Rooms.{each_two, operand_side, two_by, one_value, two_at, twos_in, twos_of}
+use Rattle.un_sites.specs.Places.{Definer, definers_of, definers_at}
+use Rattle.un_sites.specs.Postings.{registers_in, registers_of}
+use Rattle.un_sites.specs.Rooms.{each_two, operand_side, two_by, one_value, two_at, twos_in, twos_of}
 use Rattle.un_post.proofs.Facts.{Given, numbered, all_member, in_domains, definer_is, choice_var, reading, read_temp, read_definer}
 use Rattle.un_post.proofs.Meeting.{Met, passes_get}
 use Rattle.un_post.proofs.Placing.{place_of, definer_at}

@@ -24,8 +24,8 @@ use Rattle.un_model.proofs.PlacedSchedules.{places_member, has_read}
 use Rattle.un_prop.specs.Acts.{at_value, chooses, is_user, is_active}
 use Rattle.un_prop.specs.declared.act.UserOf.{UserOf}
 use Rattle.un_rect.specs.Spans.{use_time, last_use, starts, ends}
-use Rattle.un_post.specs.Places.{act_of, time_of}
-use Rattle.un_post.specs.Rooms.{user_if, operand_users, place_users, users_of, temp_by}
+use Rattle.un_sites.specs.Places.{act_of, time_of}
+use Rattle.un_sites.specs.Rooms.{user_if, operand_users, place_users, users_of, temp_by}
 use Rattle.un_post.proofs.Facts.{Given, numbered, good_op, all_member, acts, times, definer_times, choice_var, reading}
 use Rattle.un_post.proofs.Facts.{read_temp, reader_goes}
 use Rattle.un_post.proofs.Placing.{place_of, definer_at}

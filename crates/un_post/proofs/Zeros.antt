@@ -27,8 +27,8 @@ use Rattle.un_prop.specs.declared.act.Act.TheVariants.{Always}
 use Rattle.un_prop.specs.declared.act.At.TheVariants.{Const, Var}
 use Rattle.un_alt.specs.Zeros.{all_zero}
 use Rattle.un_kinds.specs.Constraints.{Constraint, AllMet, Zeros, Before}
-use Rattle.un_post.specs.Places.{act_by, definers_of, registers_at}
-use Rattle.un_post.specs.Postings.{over_places, zeros_of, zeros_by}
+use Rattle.un_sites.specs.Places.{act_by, definers_of, registers_at}
+use Rattle.un_sites.specs.Postings.{over_places, zeros_of, zeros_by}
 use Rattle.un_post.proofs.Meeting.{Met}
 use Rattle.un_post.proofs.Placing.{place_of}
 use Rattle.un_post.proofs.Facts.{Given, falls, good_op, acts}

@@ -1,12 +1,2 @@
-pub mod Befores
-pub mod CallBefores
-pub mod Calls
-pub mod Gathered
-pub mod Places
-pub mod Postings
 pub mod Posts
-pub mod Reach
-pub mod Rooms
-pub mod Sites
 pub mod Strength
-pub mod Twos

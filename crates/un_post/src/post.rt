@@ -1,6 +1,6 @@
 //! What is posted for a model: a store and propagators that all hold for exactly the solutions that cost less than a limit.
 
-ghost use Rattle.std.specs.Prelude.{◌≡◌, [], ◌++◌, All, IfOk, OnOk, Option, map};
+ghost use Rattle.std.specs.Prelude.{◌≡◌, [], All, IfOk, Option, map};
 ghost use Rattle.un_isa.specs.Fit.{IsFit};
 ghost use Rattle.un_domains.specs.Domains.{values_of};
 ghost use Rattle.un_domains.specs.Sets.{NoneEmpty};
@@ -8,29 +8,22 @@ ghost use Rattle.un_ir.specs.Extended.{IsExtended};
 ghost use Rattle.un_model.specs.Options.{AreOptions};
 ghost use Rattle.un_model.specs.Variables.{IsModel};
 ghost use Rattle.un_kinds.specs.AnyProps.{constraint_of};
-ghost use Rattle.un_post.specs.Befores.{all_postings_of};
-ghost use Rattle.un_post.specs.Places.{definers_of, places_of};
+ghost use Rattle.un_sites.specs.Befores.{all_postings_of};
+ghost use Rattle.un_sites.specs.Places.{definers_of, places_of};
 ghost use Rattle.un_post.specs.Posts.{IsExact, ReadsFrom, IsGrounded, SpansAtMost, FailsWhereEmpty, largest_horizon};
-ghost use Rattle.un_post.specs.Rooms.{rooms_of};
 ghost use Rattle.un_kinds.specs.Scopes.{IsTight};
-ghost use Rattle.un_post.specs.Sites.{place_of, definers_in};
+ghost use Rattle.un_sites.specs.Sites.{place_of, definers_in};
 
-use crate::post_aparts::post_aparts;
-use crate::post_arcs::post_arcs;
-use crate::post_call_befores::post_call_befores;
-use crate::post_clobbers::post_clobbers;
-use crate::post_packets::post_packets;
-use crate::post_single::post_single;
+use crate::post_parts::post_each;
 use crate::post_store::{largest_horizon, store_of};
-use crate::post_twos::post_twos;
-use crate::props::Props;
-use crate::sites::{Site, Spot};
-use crate::tables::{all_sites, all_spots};
 use std::alloc::Global;
 use un_base::memory_error::NoMemory;
 use un_domains::store::Store;
 use un_kinds::any::AnyProp;
+use un_kinds::props::Props;
 use un_model::model::Model;
+use un_sites::sites::{Site, Spot};
+use un_sites::tables::{all_sites, all_spots};
 
 /// The propagators of a model, the store with its domains, and its largest horizon.
 #[derive(Drop)]
@@ -60,45 +53,6 @@ fn with_store(alloc: Global, m: &Model, props: Props) -> Result<Posted, NoMemory
         store,
         horizon,
     })
-}
-
-/// What is posted of registers, calls, packets and two operands of a model, of which these are the tables.
-#[tactic(auto, using(un_kinds::proofs::Appends::four_added))]
-fn post_rooms(
-    props: &mut Props,
-    m: &Model,
-    sites: &[Site<'_>],
-    spots: &[Spot<'_>],
-) -> Result<(), NoMemory>
-    requires sites { definers_in sites.now ≡ definers_of m.now }
-    requires spots { map place_of spots.now ≡ places_of m.now }
-    ensures { OnOk result (props.new ≡ props.old ++ rooms_of m.now) }
-{
-    post_aparts(props, m, sites)?;
-    post_clobbers(props, m, sites)?;
-    post_packets(props, m)?;
-    post_twos(props, m, sites, spots)?;
-    Ok(())
-}
-
-/// All that is posted for a model, of which these are the tables.
-#[tactic(auto, using(un_kinds::proofs::Appends::four_added))]
-fn post_each(
-    props: &mut Props,
-    m: &Model,
-    limit: Option<u64>,
-    sites: &[Site<'_>],
-    spots: &[Spot<'_>],
-) -> Result<(), NoMemory>
-    requires sites { definers_in sites.now ≡ definers_of m.now }
-    requires spots { map place_of spots.now ≡ places_of m.now }
-    ensures { OnOk result (props.new ≡ props.old ++ all_postings_of m.now limit) }
-{
-    post_single(props, m, limit, sites, spots)?;
-    post_arcs(props, m, spots)?;
-    post_rooms(props, m, sites, spots)?;
-    post_call_befores(props, m)?;
-    Ok(())
 }
 
 /// The propagators of a model, of which these are the tables.

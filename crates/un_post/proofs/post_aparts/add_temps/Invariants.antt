@@ -1,5 +1,0 @@
-use Rattle.std.proofs.Common.{◌≡◌, ◌++◌, drop}
-use Rattle.un_post.proofs.post_aparts.add_temps.Given as goal
-
-abbrev pub invariant-loop-t : goal.invariant-loop-t
-invariant-loop-t l = l.temps.items ++ drop l.t-index l.more ≡ l.initial.temps.items ++ l.more

@@ -1,7 +1,0 @@
-use Rattle.std.proofs.Common.{◌≡◌, ◌++◌, drop, map}
-use Rattle.un_post.specs.Postings.{in_entry}
-use Rattle.un_post.specs.Sites.{place_of}
-use Rattle.un_post.proofs.post_frame.entry_spots.Given as goal
-
-abbrev pub invariant-loop-p : goal.invariant-loop-p
-invariant-loop-p l = map place_of l.found ++ in_entry (map place_of (drop l.p-index l.spots)) ≡ in_entry (map place_of l.spots)

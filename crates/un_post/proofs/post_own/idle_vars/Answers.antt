@@ -1,8 +1,0 @@
-use Rattle.std.proofs.Common.{◌∙◌}
-use Rattle.un_post.proofs.Parts.{idle_vars}
-use Rattle.un_post.proofs.post_own.idle_vars.Goals as goal
-
-pub returns : goal.returns
-returns c =
-    c.from_vec.ensures ∙ idle_vars c.args.p.now.vars.now.cycle c.args.p.now.vars.now.choices _ _ _ _ _
-    c.new-vars.ensures.items c.in_ok-add_to.ensures c.in_ok-add_to-2.ensures (rw c.as_slice.ensures at c.in_ok-add_registers.ensures)

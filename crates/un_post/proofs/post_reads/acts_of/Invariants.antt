@@ -1,8 +1,0 @@
-use Rattle.std.proofs.Common.{◌≡◌, ◌++◌, drop, map}
-use Rattle.un_post.specs.Places.{Definer, act_of}
-use Rattle.un_post.specs.Sites.{definers_in}
-use Rattle.un_post.proofs.post_reads.acts_of.Given as goal
-
-abbrev pub invariant-loop-site : goal.invariant-loop-site
-invariant-loop-site l = l.acts.items ++ map (λ (d : Definer). act_of d.place) (definers_in (drop l.site-index l.alts)) ≡ map
-    (λ (d : Definer). act_of d.place) (definers_in l.alts)

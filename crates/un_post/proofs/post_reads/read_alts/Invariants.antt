@@ -1,7 +1,0 @@
-use Rattle.std.proofs.Common.{◌≡◌, ◌++◌, drop, map}
-use Rattle.un_post.specs.Postings.{read_alt}
-use Rattle.un_post.specs.Sites.{definers_in}
-use Rattle.un_post.proofs.post_reads.read_alts.Given as goal
-
-abbrev pub invariant-loop-site : goal.invariant-loop-site
-invariant-loop-site l = l.found ++ map (read_alt l.t) (definers_in (drop l.site-index l.alts)) ≡ map (read_alt l.t) (definers_in l.alts)

@@ -1,8 +1,0 @@
-use Rattle.std.proofs.Common.{◌≡◌, ◌++◌, drop}
-use Rattle.un_post.specs.Places.{definers_at}
-use Rattle.un_post.specs.Sites.{definers_in}
-use Rattle.un_post.proofs.sites.sites_at.Given as goal
-
-abbrev pub invariant-loop-x : goal.invariant-loop-x
-invariant-loop-x l = definers_in l.found.items ++ definers_at (definers_in l.sites) (drop l.x-index l.xs) ≡ definers_at
-    (definers_in l.sites) l.xs

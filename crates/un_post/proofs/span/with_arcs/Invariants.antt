@@ -1,7 +1,0 @@
-use Rattle.std.proofs.Common.{ℕ, All, take}
-use Rattle.un_post.specs.Reach.{IsBetween, IsArcBetween}
-use Rattle.un_post.proofs.span.with_arcs.Given as goal
-
-abbrev pub invariant-loop-arc : goal.invariant-loop-arc
-invariant-loop-arc l = All (IsArcBetween l.wider.low l.wider.past) (take l.arc-index l.arcs) × ((k : ℕ) →
-    IsBetween l.fn.span.low l.fn.span.past k → IsBetween l.wider.low l.wider.past k)

@@ -1,0 +1,82 @@
+//! What is posted for a model, part by part.
+
+ghost use Rattle.std.specs.Prelude.{◌≡◌, ◌++◌, OnOk, map};
+ghost use Rattle.un_sites.specs.Befores.{all_postings_of};
+ghost use Rattle.un_sites.specs.Places.{definers_of, places_of};
+ghost use Rattle.un_sites.specs.Postings.{postings_of};
+ghost use Rattle.un_sites.specs.Rooms.{rooms_of};
+ghost use Rattle.un_sites.specs.Sites.{place_of, definers_in};
+
+use un_base::memory_error::NoMemory;
+use un_kinds::props::Props;
+use un_model::model::Model;
+use un_rooms::post_aparts::post_aparts;
+use un_rooms::post_call_befores::post_call_befores;
+use un_rooms::post_clobbers::post_clobbers;
+use un_rooms::post_packets::post_packets;
+use un_rooms::post_twos::post_twos;
+use un_single::post_arcs::post_arcs;
+use un_single::post_edges::post_edges;
+use un_single::post_frame::post_frame;
+use un_single::post_limit::post_limit;
+use un_single::post_places::post_operations;
+use un_sites::sites::{Site, Spot};
+
+/// What is posted of single operations, of edges, of the frame and of the cost of a model, of which these are the tables.
+#[tactic(auto, using(un_kinds::proofs::Appends::four_added))]
+fn post_single(
+    props: &mut Props,
+    m: &Model,
+    limit: Option<u64>,
+    sites: &[Site<'_>],
+    spots: &[Spot<'_>],
+) -> Result<(), NoMemory>
+    requires sites { definers_in sites.now ≡ definers_of m.now }
+    requires spots { map place_of spots.now ≡ places_of m.now }
+    ensures { OnOk result (props.new ≡ props.old ++ postings_of m.now limit) }
+{
+    post_operations(props, m, sites, spots)?;
+    post_edges(props, m, sites)?;
+    post_frame(props, m, sites, spots)?;
+    post_limit(props, m, limit)?;
+    Ok(())
+}
+
+/// What is posted of registers, calls, packets and two operands of a model, of which these are the tables.
+#[tactic(auto, using(un_kinds::proofs::Appends::four_added))]
+fn post_rooms(
+    props: &mut Props,
+    m: &Model,
+    sites: &[Site<'_>],
+    spots: &[Spot<'_>],
+) -> Result<(), NoMemory>
+    requires sites { definers_in sites.now ≡ definers_of m.now }
+    requires spots { map place_of spots.now ≡ places_of m.now }
+    ensures { OnOk result (props.new ≡ props.old ++ rooms_of m.now) }
+{
+    post_aparts(props, m, sites)?;
+    post_clobbers(props, m, sites)?;
+    post_packets(props, m)?;
+    post_twos(props, m, sites, spots)?;
+    Ok(())
+}
+
+/// All that is posted for a model, of which these are the tables.
+#[tactic(auto, using(un_kinds::proofs::Appends::four_added))]
+pub fn post_each(
+    props: &mut Props,
+    m: &Model,
+    limit: Option<u64>,
+    sites: &[Site<'_>],
+    spots: &[Spot<'_>],
+) -> Result<(), NoMemory>
+    requires sites { definers_in sites.now ≡ definers_of m.now }
+    requires spots { map place_of spots.now ≡ places_of m.now }
+    ensures { OnOk result (props.new ≡ props.old ++ all_postings_of m.now limit) }
+{
+    post_single(props, m, limit, sites, spots)?;
+    post_arcs(props, m, spots)?;
+    post_rooms(props, m, sites, spots)?;
+    post_call_befores(props, m)?;
+    Ok(())
+}

@@ -1,0 +1,7 @@
+pub mod CallWalks
+pub mod Gathering
+pub mod Marking
+pub mod Pairing
+pub mod Seeing
+pub mod Spares
+pub mod Sparing

@@ -1,0 +1,4 @@
+pub mod Calls
+pub mod Gathered
+pub mod Reach
+pub mod Twos

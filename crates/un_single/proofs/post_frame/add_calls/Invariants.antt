@@ -1,0 +1,8 @@
+use Rattle.std.proofs.Common.{◌≡◌, ◌++◌, drop, map}
+use Rattle.un_sites.specs.Postings.{single_use, is_call_kind, with_kind}
+use Rattle.un_sites.specs.Sites.{place_of}
+use Rattle.un_single.proofs.post_frame.add_calls.Given as goal
+
+abbrev pub invariant-loop-p : goal.invariant-loop-p
+invariant-loop-p l = l.uses ++ map single_use (with_kind is_call_kind (map place_of (drop l.p-index l.spots))) ≡ l.initial.uses ++
+    map single_use (with_kind is_call_kind (map place_of l.spots))

@@ -1,0 +1,16 @@
+use Rattle.std.proofs.Common.{arith}
+use Rattle.un_model.proofs.Steps.{blocks_more, blocks_all}
+use Rattle.un_sites.specs.Postings.{leaves_in}
+use Rattle.un_single.proofs.post_frame.all_leaves.Goals as goal
+
+pub loop-k-preserved : goal.loop-k-preserved
+loop-k-preserved c =
+    let more = rw c.in_ok-b.ensures.number at c.in_ok-add_leaves_in.ensures in
+    let n = rw c.len-in-loop-k.ensures at c.in_ok-n.ensures.later in
+    blocks_more leaves_in c.loop-k.k c.loop-k.n c.in_ok-n.n c.loop-k.k c.args.m.now.ext.blocks c.args.m.now.blocks
+    c.get-block.result.now c.get.result.now c.loop-k.leaves _ _ c.loop-k.invariant c.get-block.ensures c.get.ensures more n
+
+pub returns : goal.returns
+returns c =
+    blocks_all leaves_in c.loop-k.k c.loop-k.n c.loop-k.k c.args.m.now.ext.blocks c.args.m.now.blocks c.loop-k.leaves _
+    c.loop-k.invariant (omega arith)

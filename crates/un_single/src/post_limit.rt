@@ -1,0 +1,46 @@
+//! What is posted of the cost.
+
+ghost use Rattle.std.specs.Prelude.{◌≡◌, ◌++◌, IfOk, OnOk};
+ghost use Rattle.un_sites.specs.Postings.{ends_by, limit_of};
+
+use std::alloc::Global;
+use un_base::memory_error::NoMemory;
+use un_ir::extended::ExtBlock;
+use un_kinds::make_prec::make_below;
+use un_kinds::props::Props;
+use un_lists::items::Items;
+use un_model::model::{BlockVars, Model};
+use un_prec::below::Weighted;
+
+/// The ends of the blocks, with their frequencies.
+fn ends_of(
+    alloc: Global,
+    blocks: &Items<ExtBlock>,
+    vars: &Items<BlockVars>,
+) -> Result<Items<Weighted>, NoMemory>
+    ensures { IfOk result (λ ends. ends ≡ ends_by blocks.now vars.now) }
+{
+    let mut ends = Items::new(alloc);
+    for k in 0..blocks.len().min(vars.len()) {
+        let weighted = Weighted {
+            end: vars.get(k).end,
+            freq: blocks.get(k).freq,
+        };
+        ends.push(weighted)?;
+    }
+    Ok(ends)
+}
+
+/// The cost is less than a limit, where there is one.
+pub fn post_limit(props: &mut Props, m: &Model, limit: Option<u64>) -> Result<(), NoMemory>
+    ensures { OnOk result (props.new ≡ props.old ++ limit_of m.now limit) }
+{
+    match limit {
+        None => Ok(()),
+        Some(most) => {
+            let ends = ends_of(props.alloc(), &m.ext.blocks, &m.blocks)?;
+            let made = make_below(props.alloc(), ends, most)?;
+            props.push(made)
+        }
+    }
+}

@@ -1,0 +1,3 @@
+pub mod Appends
+pub mod CallPins
+pub mod Parts

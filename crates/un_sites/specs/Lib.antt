@@ -1,0 +1,6 @@
+pub mod Befores
+pub mod CallBefores
+pub mod Places
+pub mod Postings
+pub mod Rooms
+pub mod Sites
