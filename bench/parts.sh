@@ -6,8 +6,8 @@
 # how often `post` and the rounds from the root, 10 times without it.
 set -eu
 top=$(cd "$(dirname "$0")/.." && pwd)
-binary=$top/crates/time_parts/out/time_parts
-[ -x "$binary" ] || (cd "$top/crates/time_parts" && rt run <stdin >/dev/null)
+binary=$top/crates/inspect/out/inspect
+[ -x "$binary" ] || (cd "$top/crates/inspect" && rt run -- arcs <stdin >/dev/null)
 
 sizes=("5 1" "10 2" "20 1" "20 4" "40 8" "65 16" "80 1" "80 16")
 
@@ -39,6 +39,6 @@ trap 'rm -f "$text"' EXIT
 for size in "${sizes[@]}"; do
   read -r ops blocks <<<"$size"
   function_text "$ops" "$blocks" >"$text"
-  echo "$ops operations in $blocks blocks, $("$binary" <"$text")"
-  "$binary" "${1-200}" "${2-10}" <"$text"
+  echo "$ops operations in $blocks blocks, $("$binary" times <"$text")"
+  "$binary" times "${1-200}" "${2-10}" <"$text"
 done

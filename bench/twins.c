@@ -1,4 +1,4 @@
-/* The examples in C. Prints, for some starts of each, what the function returns and leaves in memory: the rows of
+/* The examples in C. Prints, for some starts of each, what the function returns and leaves in memory: the lines of
    crates/all_examples/src/rows.rt. Memory is the words from byte 256 on.
 
    cc -O0 -fwrapv bench/twins.c -o /tmp/twins && /tmp/twins */
@@ -97,7 +97,7 @@ static void fill(const uint32_t *words) {
 }
 
 static void list(const uint32_t *words) {
-  for (int i = 0; i < WORDS; i++) printf(i ? ", %u" : "%u", words[i]);
+  for (int i = 0; i < WORDS; i++) printf(" %u", words[i]);
 }
 
 #define RUN(name, a, b, c, returns, ...)                                                              \
@@ -105,12 +105,11 @@ static void list(const uint32_t *words) {
     static const uint32_t words[WORDS] = __VA_ARGS__;                                                 \
     fill(words);                                                                                      \
     uint32_t result = returns;                                                                        \
-    printf("    Row {\n        name: \"%s\",\n        args: [%u, %u, %u],\n        before: [", name,  \
-           (uint32_t)(a), (uint32_t)(b), (uint32_t)(c));                                              \
+    printf("%s %u %u %u", name, (uint32_t)(a), (uint32_t)(b), (uint32_t)(c));                         \
     list(words);                                                                                      \
-    printf("],\n        result: %u,\n        after: [", result);                                      \
+    printf(" %u", result);                                                                            \
     list(memory);                                                                                     \
-    printf("],\n        calls: %d,\n    },\n", calls);                                                \
+    printf(" %d\n", calls);                                                                           \
   } while (0)
 
 #define RISING {2, 3, 5, 7, 11, 13, 17, 19}

@@ -35,22 +35,36 @@ static EXAMPLES: [&str; 14] = [
 /// How many bytes are written at most.
 const ROOM: usize = 65536;
 
-/// What `alloc` writes for a text, on `out` and then on `err`.
-fn written(alloc: Global, text: &[u8]) -> Result<Vec<u8>, NoMemory> {
-    let word = Word::new(alloc, "alloc")?;
-    let mut source = MemSource::new(text.to_vec(alloc)?, ROOM, Vec::new(alloc));
-    let mut out = MemSink::new(alloc, ROOM, ROOM, Vec::new(alloc))?;
-    let mut err = MemSink::new(alloc, ROOM, ROOM, Vec::new(alloc))?;
-    let _ = run(alloc, &[word], &mut source, &mut out, &mut err);
-    let mut all = out.bytes().to_vec(alloc)?;
-    all.extend_from_slice(err.bytes())?;
-    Ok(all)
+/// Whether a run over an outside writes what is expected, on `out` and then on `err`.
+fn writes(
+    alloc: Global,
+    words: &[Word],
+    src: &mut MemSource,
+    out: &mut MemSink,
+    err: &mut MemSink,
+    want: &[u8],
+) -> bool {
+    let _ = run(alloc, words, src, out, err);
+    want.strip_prefix(out.bytes()) == Some(err.bytes())
 }
 
-/// Whether what is written for a text is the expected one.
+/// The same with sinks for it.
+fn writes_from(
+    alloc: Global,
+    words: &[Word],
+    src: &mut MemSource,
+    want: &[u8],
+) -> Result<bool, NoMemory> {
+    let mut out = MemSink::new(alloc, ROOM, ROOM, Vec::new(alloc))?;
+    let mut err = MemSink::new(alloc, ROOM, ROOM, Vec::new(alloc))?;
+    Ok(writes(alloc, words, src, &mut out, &mut err, want))
+}
+
+/// Whether what `alloc` writes for a text is the expected one.
 fn is_as_expected(alloc: Global, text: &[u8], want: &[u8]) -> Result<bool, NoMemory> {
-    let all = written(alloc, text)?;
-    Ok(all.as_slice() == want)
+    let word = Word::new(alloc, "alloc")?;
+    let mut source = MemSource::new(text.to_vec(alloc)?, ROOM, Vec::new(alloc));
+    writes_from(alloc, &[word], &mut source, want)
 }
 
 /// What is said of an example's output.
@@ -62,21 +76,35 @@ fn verdict(expected: Result<bool, NoMemory>) -> &'static str {
     }
 }
 
-/// Says of an example whether its output is the expected one, and how many of its runs are not as its twin's.
-fn tell(rt: &(impl Files + Print + AllocGlobal), name: &str) -> io::Result<()> {
-    let text = fs::read_to_string(rt, format!(in rt.alloc(); "{name}.uni")?.as_str())?;
-    let want = fs::read_to_string(rt, format!(in rt.alloc(); "{name}.out")?.as_str())?;
-    let bytes = text.as_str().as_bytes();
-    let said = verdict(is_as_expected(rt.alloc(), bytes, want.as_str().as_bytes()));
-    match wrong_runs(rt.alloc(), name, bytes) {
-        Ok((wrong, all)) => println!(rt; "{name}: {said}, {wrong} of {all} runs otherwise"),
-        Err(_) => println!(rt; "{name}: {said}, no memory for its runs"),
-    }
+/// Says of an example whether its output is the expected one, and how many of its runs are not as its twin's: of 0 where
+/// there is no memory for them.
+fn tell(rt: &(impl Print + AllocGlobal), name: &str, text: &[u8], want: &[u8]) -> io::Result<()> {
+    let said = verdict(is_as_expected(rt.alloc(), text, want));
+    let (wrong, all) = wrong_runs(rt.alloc(), name.as_bytes(), text).unwrap_or((0, 0));
+    println!(rt; "{name}: {said}, {wrong} of {all} runs otherwise")
+}
+
+/// The text of a file of an example.
+fn file(rt: &(impl Files + AllocGlobal), name: &str, ending: &str) -> io::Result<String> {
+    let path = format!(in rt.alloc(); "{name}.{ending}")?;
+    fs::read_to_string(rt, path.as_str())
+}
+
+/// Says the same of an example with this text.
+fn tell_of(rt: &(impl Files + Print + AllocGlobal), name: &str, text: &[u8]) -> io::Result<()> {
+    let want = file(rt, name, "out")?;
+    tell(rt, name, text, want.as_bytes())
+}
+
+/// Says the same of the example of this name.
+fn tell_named(rt: &(impl Files + Print + AllocGlobal), name: &str) -> io::Result<()> {
+    let text = file(rt, name, "uni")?;
+    tell_of(rt, name, text.as_bytes())
 }
 
 fn main(rt: HostRuntime) -> io::Result<()> {
-    for name in EXAMPLES {
-        tell(&rt, name)?;
+    for name in EXAMPLES.iter() {
+        tell_named(&rt, name)?;
     }
     Ok(())
 }

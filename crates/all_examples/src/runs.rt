@@ -4,8 +4,9 @@ ghost use Rattle.std.specs.Prelude.{◌≡◌, ℕ, List, IfOk, true};
 ghost use Rattle.std.specs.List.{list_all};
 ghost use Rattle.un_isa.specs.Starts.{is_reply};
 
-use crate::rows::{ROWS, Row};
+use crate::rows::{ROWS, Row, row_for};
 use std::alloc::{AllocError, Global};
+use un_base::lines::lines;
 use un_base::memory_error::NoMemory;
 use un_ir::function::Function;
 use un_isa::memory::Memory;
@@ -14,6 +15,7 @@ use un_isa::reg::{LINK, REGISTERS, STACK};
 use un_isa::start::{Reply, Start};
 use un_isa::table::hexagon;
 use un_lists::items::Items;
+use un_packet::code::Code;
 use un_packet::run::run_packets;
 use un_reader::read::read_function;
 use un_source::run::run_source;
@@ -72,12 +74,12 @@ fn replies_of(alloc: Global, memory: &Memory) -> Result<Items<Reply>, NoMemory>
 
 /// The start of a row, with room for a frame.
 fn start_of(alloc: Global, row: &Row) -> Result<Start, NoMemory> {
-    let memory = memory_of(alloc, row.before.as_slice())?;
+    let memory = memory_of(alloc, &row[3..11])?;
     let replies = replies_of(alloc, &memory)?;
     let mut regs = [0; REGISTERS as usize];
-    regs[0] = row.args[0];
-    regs[1] = row.args[1];
-    regs[2] = row.args[2];
+    regs[0] = row[0];
+    regs[1] = row[1];
+    regs[2] = row[2];
     regs[STACK as usize] = 4096;
     regs[LINK as usize] = 64;
     Ok(Start {
@@ -103,39 +105,75 @@ fn result_of(outcome: &Outcome) -> Option<u32> {
     }
 }
 
+/// Whether these are the words of a row behind its run.
+fn are_after(words: &[(u32, u32)], row: &Row) -> bool {
+    if words.len() != 8 {
+        return false;
+    }
+    for i in 0..8usize {
+        if words[i].1 != row[12 + i] {
+            return false;
+        }
+    }
+    true
+}
+
 /// Whether memory has the words of a row behind its run, and it made as many calls.
 fn leaves(outcome: &Outcome, row: &Row) -> bool {
-    let words = outcome.memory.words();
-    words.len() == row.after.len()
-        && words.iter().zip(row.after.iter()).all(|(a, b)| a.1 == *b)
-        && outcome.calls.len() == row.calls
+    are_after(outcome.memory.words(), row) && outcome.calls.len() == row[20] as usize
 }
 
 /// Whether both runs return what a row says. Code leaves a value in r0 too where its function has no result.
 fn return_as(source: &Outcome, packets: &Outcome, row: &Row) -> bool {
     match result_of(source) {
-        Some(result) => result == row.result && result_of(packets) == Some(result),
-        None => row.result == 0 && returned(source) && returned(packets),
+        Some(result) => result == row[11] && result_of(packets) == Some(result),
+        None => row[11] == 0 && returned(source) && returned(packets),
     }
 }
 
-/// Whether the function and its code run as a row says.
-fn run_as(alloc: Global, f: &Function, row: &Row) -> Result<bool, NoMemory> {
-    let start = start_of(alloc, row)?;
-    let source = run_source(alloc, f, &start, ENTERED)?;
-    let costed = costed_code(alloc, f)?;
-    let packets = run_packets(alloc, &costed.code, &hexagon(), &start, ENTERED)?;
-    Ok(return_as(&source, &packets, row) && leaves(&source, row) && leaves(&packets, row))
+/// Whether code runs from a start as a row says, where its function ran so.
+fn code_runs(
+    alloc: Global,
+    code: &Code,
+    start: &Start,
+    source: &Outcome,
+    row: &Row,
+) -> Result<bool, NoMemory> {
+    let packets = run_packets(alloc, code, &hexagon(), start, ENTERED)?;
+    Ok(return_as(source, &packets, row) && leaves(source, row) && leaves(&packets, row))
 }
 
-/// How many rows of this name the text of an example and its code do not run as, out of how many.
-pub fn wrong_runs(alloc: Global, name: &str, text: &[u8]) -> Result<(usize, usize), NoMemory> {
+/// Whether a function and its code run from a start as a row says.
+fn both_run(
+    alloc: Global,
+    f: &Function,
+    code: &Code,
+    start: &Start,
+    row: &Row,
+) -> Result<bool, NoMemory> {
+    let source = run_source(alloc, f, start, ENTERED)?;
+    code_runs(alloc, code, start, &source, row)
+}
+
+/// Whether a function and its code run as a row says.
+fn run_as(alloc: Global, f: &Function, code: &Code, row: &Row) -> Result<bool, NoMemory> {
+    let start = start_of(alloc, row)?;
+    both_run(alloc, f, code, &start, row)
+}
+
+/// How many rows of this name a function and its code do not run as, out of how many.
+fn wrong_rows(
+    alloc: Global,
+    name: &[u8],
+    f: &Function,
+    code: &Code,
+) -> Result<(usize, usize), NoMemory> {
     let mut wrong = 0usize;
     let mut all = 0usize;
-    for row in ROWS.iter() {
-        if row.name == name {
+    for line in lines(ROWS.as_bytes()) {
+        if let Some(row) = row_for(line, name) {
             all = all.saturating_add(1);
-            if !runs_text(alloc, text, row)? {
+            if !run_as(alloc, f, code, &row)? {
                 wrong = wrong.saturating_add(1);
             }
         }
@@ -143,10 +181,16 @@ pub fn wrong_runs(alloc: Global, name: &str, text: &[u8]) -> Result<(usize, usiz
     Ok((wrong, all))
 }
 
-/// Whether the function of a text and its code run as a row says.
-fn runs_text(alloc: Global, text: &[u8], row: &Row) -> Result<bool, NoMemory> {
+/// The same of a function and the code that is made for it.
+fn wrong_of(alloc: Global, name: &[u8], f: &Function) -> Result<(usize, usize), NoMemory> {
+    let costed = costed_code(alloc, f)?;
+    wrong_rows(alloc, name, f, &costed.code)
+}
+
+/// How many rows of this name the function of a text and its code do not run as, out of how many; of a text with a fault none run.
+pub fn wrong_runs(alloc: Global, name: &[u8], text: &[u8]) -> Result<(usize, usize), NoMemory> {
     match read_function(alloc, text) {
-        Ok(f) => run_as(alloc, &f, row),
-        Err(_) => Ok(false),
+        Ok(f) => wrong_of(alloc, name, &f),
+        Err(_) => Ok((0, 0)),
     }
 }

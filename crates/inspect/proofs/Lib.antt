@@ -1,1 +1,2 @@
 mod ModelParts
+pub mod StoreLaws

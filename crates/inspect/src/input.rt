@@ -45,21 +45,20 @@ fn is_between(byte: u8) -> bool {
     byte == b' ' || byte == b'\t' || byte == b'\r'
 }
 
-/// The words of a line.
-///
-/// # Errors
-/// `NoMemory`.
-pub fn words<'a>(alloc: Global, line: &'a [u8]) -> Result<Vec<&'a [u8]>, Status> {
-    let mut words = Vec::new(alloc);
+/// The first three words of a line, and how many it has.
+pub fn words(line: &[u8]) -> ([&[u8]; 3], usize) {
+    let none: &[u8] = b"";
+    let mut first = [none; 3];
+    let mut n: usize = 0;
     for word in line.split(|b| is_between(*b)) {
-        if word.is_empty() {
-            continue;
-        }
-        if words.push(word).is_err() {
-            return Err(Status::NoMemory);
+        if !word.is_empty() {
+            if n < 3 {
+                first[n] = word;
+            }
+            n = n.saturating_add(1);
         }
     }
-    Ok(words)
+    (first, n)
 }
 
 /// The number below 2^32 that a word is.

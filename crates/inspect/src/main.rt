@@ -1,9 +1,11 @@
 //! A second program beside `unison`: it shows the parts of a function's problem as text, for a user who asks why code is
-//! as it is, and for tests that compare them with another reading of what they are. It reads standard input; the first
-//! word says which part, options of the model may follow.
+//! as it is, and for tests that compare them with another reading of what they are; and, for developers, how long the parts of
+//! `alloc` and of a search take. It reads standard input; the first word says which part, options of the model or counts may follow.
 #![tactic(auto)]
 
 mod arcs;
+mod chains;
+mod clock;
 mod domains;
 mod emission;
 mod input;
@@ -11,30 +13,42 @@ mod node;
 mod part;
 mod request;
 mod rounds;
+mod runs;
 mod shown;
 mod solution;
+mod times;
 mod variables;
 
 use crate::request::asked_for;
 use crate::shown::text_for;
-use std::alloc::AllocError;
+use std::alloc::Global;
+use std::env;
 use std::process::ExitCode;
 use std::rt::Env;
-use std::{env, io};
 use un_base::files::{StdSink, StdSource};
+use un_base::memory_error::NoMemory;
 use un_base::status::Status;
 use un_base::transfer::write_all;
 use un_base::words::Word;
 use un_top::faults::write_line;
 
+/// Appends a word of a command line.
+fn push_word(alloc: Global, words: &mut Vec<Word>, text: &str) -> Result<(), NoMemory> {
+    let word = Word::new(alloc, text)?;
+    match words.push(word) {
+        Ok(()) => Ok(()),
+        Err(_) => Err(NoMemory),
+    }
+}
+
 /// The arguments without the program's own name.
-fn words(rt: &(impl Env + AllocGlobal)) -> io::Result<Vec<Word>> {
+fn words(rt: &(impl Env + AllocGlobal)) -> Result<Vec<Word>, NoMemory> {
+    let Ok(texts) = env::args(rt) else {
+        return Err(NoMemory);
+    };
     let mut words = Vec::new(rt.alloc());
-    for text in env::args(rt)?.skip(1) {
-        match Word::new(rt.alloc(), text.as_str()) {
-            Ok(word) => words.push(word).map_err(AllocError::from)?,
-            Err(_) => return Err(io::Error::from(AllocError)),
-        }
+    for text in texts.skip(1) {
+        push_word(rt.alloc(), &mut words, text.as_str())?;
     }
     Ok(words)
 }
@@ -46,7 +60,7 @@ fn main(rt: HostRuntime) -> ExitCode {
     };
     let mut source = StdSource::new(rt.stdin());
     let outcome = match asked_for(words.as_slice()) {
-        Ok(asked) => text_for(rt.alloc(), &asked, &mut source),
+        Ok(asked) => text_for(&rt, rt.alloc(), &asked, &mut source),
         Err(word) => Err(Status::Usage { word }),
     };
     let mut out = StdSink::new(rt.stdout());

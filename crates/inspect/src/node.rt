@@ -86,21 +86,20 @@ fn set_limit(node: &mut Node, limit: Option<u64>, number: u32) -> Result<(), Sta
     Ok(())
 }
 
-/// Adds what the words of a line say.
+/// Adds what a line says.
 ///
 /// # Errors
-/// `BadReport` with this line's number where they say nothing that may stand there; `NoMemory`.
-fn add_line(node: &mut Node, words: &[&[u8]], vars: usize, number: u32) -> Result<(), Status>
+/// `BadReport` with this line's number where it says nothing that may stand there; `NoMemory`.
+fn add_line(node: &mut Node, line: &[u8], vars: usize, number: u32) -> Result<(), Status>
     requires { All (IsOn vars) node.old.decisions.items }
     ensures { OnOk result (All (IsOn vars) node.new.decisions.items) }
 {
-    match words {
-        [] => Ok(()),
-        [word, limit] if *word == b"limit".as_slice() => {
-            set_limit(node, read_decimal(limit), number)
-        }
-        [var, side, value] => {
-            let decision = decision_of(var, side, value, vars);
+    let (first, n) = words(line);
+    match n {
+        0 => Ok(()),
+        2 if first[0] == b"limit".as_slice() => set_limit(node, read_decimal(first[1]), number),
+        3 => {
+            let decision = decision_of(first[0], first[1], first[2], vars);
             add_decision(node, vars, decision, number)
         }
         _ => Err(Status::BadReport { line: number }),
@@ -121,8 +120,7 @@ pub fn node_of(alloc: Global, text: &[u8], vars: usize) -> Result<Node, Status>
     let mut number: u32 = 0;
     for line in lines(text) {
         number = number.saturating_add(1);
-        let words = words(alloc, line)?;
-        add_line(&mut node, words.as_slice(), vars, number)?;
+        add_line(&mut node, line, vars, number)?;
     }
     Ok(node)
 }

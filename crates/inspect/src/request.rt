@@ -8,17 +8,11 @@ use un_base::words::Word;
 use un_isa::reg::SLOTS;
 use un_model::model::{ASSIGNABLE, Options};
 
-/// Which part of a function's problem is shown.
+/// What is shown of a function's model.
 #[derive(Clone, Copy)]
-pub enum Part {
-    /// The names live at each block's start.
-    Live,
-    /// The extended function.
-    Extended,
-    /// The variables of its model with their domains.
+pub enum Shown {
+    /// Its variables with their domains.
     Variables,
-    /// The solution that keeps each name in a frame slot.
-    Baseline,
     /// The cost of a solution, or the clauses that values break.
     Violations,
     /// The code of a solution, or the clauses that values break.
@@ -29,23 +23,65 @@ pub enum Part {
     Rounds,
 }
 
-/// A part under options of the model.
+/// Which part of a function's problem is shown, or what is timed.
+#[derive(Clone, Copy)]
+pub enum Part {
+    /// The names live at each block's start.
+    Live,
+    /// The extended function.
+    Extended,
+    /// A part of its model.
+    Model(Shown),
+    /// The solution of its model that keeps each name in a frame slot.
+    Baseline,
+    /// The parts of `alloc` and of a search.
+    Times,
+    /// A store with chains of precedences, of no function.
+    Chains,
+}
+
+/// How often something is done, or how large it is: the numbers behind a word, of which the second is 1 where it is left out.
+#[derive(Clone, Copy)]
+pub struct Counts {
+    pub first: Option<u32>,
+    pub second: u32,
+}
+
+/// A part under options of the model, and with counts.
 #[derive(Clone, Copy)]
 pub struct Request {
     pub part: Part,
     pub options: Options,
+    pub counts: Counts,
 }
 
+/// The largest count.
+const MOST: u32 = 1_000_000;
+
+/// No count but the second's.
+const ONCE: Counts = Counts {
+    first: None,
+    second: 1,
+};
+
+/// All registers, and all slots.
+const DEFAULT: Options = Options {
+    regs: None,
+    slots: SLOTS,
+};
+
 /// The words, and the part that each names.
-static PARTS: [(&[u8], Part); 8] = [
+static PARTS: [(&[u8], Part); 10] = [
     (b"live", Part::Live),
     (b"extended", Part::Extended),
-    (b"variables", Part::Variables),
+    (b"variables", Part::Model(Shown::Variables)),
     (b"baseline", Part::Baseline),
-    (b"violations", Part::Violations),
-    (b"emit", Part::Emit),
-    (b"arcs", Part::Arcs),
-    (b"rounds", Part::Rounds),
+    (b"violations", Part::Model(Shown::Violations)),
+    (b"emit", Part::Model(Shown::Emit)),
+    (b"arcs", Part::Model(Shown::Arcs)),
+    (b"rounds", Part::Model(Shown::Rounds)),
+    (b"times", Part::Times),
+    (b"chains", Part::Chains),
 ];
 
 /// The part that a word names.
@@ -161,6 +197,55 @@ fn options_of(part: Part, words: &[Word]) -> Result<Options, u32>
     }
 }
 
+/// The count that stands at a place of the words, where there are so many.
+///
+/// # Errors
+/// The place, where another word stands there.
+fn count_at(words: &[Word], place: u32) -> Result<Option<u32>, u32> {
+    if words.len() <= place as usize {
+        return Ok(None);
+    }
+    match number_at(words, place, 1, MOST) {
+        Ok(n) => Ok(Some(n)),
+        Err(place) => Err(place),
+    }
+}
+
+/// The counts that the words behind the first are: two at most.
+///
+/// # Errors
+/// The least place at which no accepted list of words begins so.
+fn counts_in(words: &[Word]) -> Result<Counts, u32> {
+    let first = count_at(words, 1)?;
+    let second = count_at(words, 2)?;
+    if words.len() > 3 {
+        return Err(3);
+    }
+    Ok(Counts {
+        first,
+        second: second.unwrap_or(1),
+    })
+}
+
+/// What words ask for that begin with a part's.
+///
+/// # Errors
+/// The least place at which no accepted list of words begins so.
+fn request_of(part: Part, words: &[Word]) -> Result<Request, u32>
+    ensures { IfOk result (λ r. AreOptions r.options) }
+{
+    let mut asked = Request {
+        part,
+        options: DEFAULT,
+        counts: ONCE,
+    };
+    match part {
+        Part::Times | Part::Chains => asked.counts = counts_in(words)?,
+        _ => asked.options = options_of(part, words)?,
+    }
+    Ok(asked)
+}
+
 /// What the words ask for.
 ///
 /// # Errors
@@ -168,11 +253,8 @@ fn options_of(part: Part, words: &[Word]) -> Result<Options, u32>
 pub fn asked_for(words: &[Word]) -> Result<Request, u32>
     ensures { IfOk result (λ r. AreOptions r.options) }
 {
-    let Some(part) = words.first().and_then(named_part) else {
-        return Err(0);
-    };
-    match options_of(part, words) {
-        Ok(options) => Ok(Request { part, options }),
-        Err(place) => Err(place),
+    match words.first().and_then(named_part) {
+        Some(part) => request_of(part, words),
+        None => Err(0),
     }
 }

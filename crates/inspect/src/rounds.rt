@@ -13,6 +13,7 @@ ghost use Rattle.un_prop.specs.Sides.{side_test};
 
 use crate::domains::put_values;
 use crate::node::{Decision, Node};
+use crate::runs::settle;
 use std::alloc::{AllocError, Global};
 use un_base::ids::VarId;
 use un_base::memory_error::NoMemory;
@@ -23,7 +24,6 @@ use un_kinds::any::AnyProp;
 use un_model::model::Model;
 use un_post::post::{Posted, post};
 use un_prop::propagator::Scratch;
-use un_prop::run::{Fix, run_all};
 use un_prop::side::Side;
 
 /// Cuts a store to one side of a decision.
@@ -84,10 +84,7 @@ fn ends(
     if !decide_all(store, decisions) {
         return Ok(false);
     }
-    match run_all(props, store, &mut scratch) {
-        Fix::Stable => Ok(true),
-        Fix::Failed => Ok(false),
-    }
+    Ok(settle(props, store, &mut scratch))
 }
 
 /// The values that a variable has left.

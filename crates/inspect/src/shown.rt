@@ -2,10 +2,12 @@
 
 ghost use Rattle.un_model.specs.Options.{AreOptions};
 
+use crate::chains::chains_text;
 use crate::input::{Parts, split_input};
 use crate::part::part_text;
-use crate::request::{Part, Request};
+use crate::request::{Part, Request, Shown};
 use std::alloc::Global;
+use std::time::CpuClock;
 use un_base::outside::Source;
 use un_base::status::Status;
 use un_base::transfer::{ReadAll, read_all};
@@ -43,8 +45,8 @@ fn function(alloc: Global, text: &[u8]) -> Result<Function, Status> {
 /// Whether something stands behind the function.
 fn has_rest(part: Part) -> bool {
     match part {
-        Part::Violations | Part::Emit | Part::Rounds => true,
-        Part::Live | Part::Extended | Part::Variables | Part::Baseline | Part::Arcs => false,
+        Part::Model(Shown::Violations | Shown::Emit | Shown::Rounds) => true,
+        _ => false,
     }
 }
 
@@ -61,12 +63,17 @@ fn input_of(part: Part, text: &[u8]) -> Parts<'_> {
 }
 
 /// The text of the part that is asked for, of an input.
-fn text_of(alloc: Global, asked: &Request, text: &[u8]) -> Result<Vec<u8>, Status>
+fn text_of(
+    rt: &impl CpuClock,
+    alloc: Global,
+    asked: &Request,
+    text: &[u8],
+) -> Result<Vec<u8>, Status>
     requires { AreOptions asked.now.options }
 {
     let input = input_of(asked.part, text);
     let f = function(alloc, input.function)?;
-    part_text(alloc, asked, &f, input.rest)
+    part_text(rt, alloc, asked, &f, input)
 }
 
 /// The bytes of a source.
@@ -80,9 +87,32 @@ fn read<S: Source>(alloc: Global, src: &mut S) -> Result<Vec<u8>, Status> {
 }
 
 /// Reads the input, and gives the text of the part that is asked for.
-pub fn text_for<S: Source>(alloc: Global, asked: &Request, src: &mut S) -> Result<Vec<u8>, Status>
+fn read_text<S: Source>(
+    rt: &impl CpuClock,
+    alloc: Global,
+    asked: &Request,
+    src: &mut S,
+) -> Result<Vec<u8>, Status>
     requires { AreOptions asked.now.options }
 {
     let input = read(alloc, src)?;
-    text_of(alloc, asked, input.as_slice())
+    text_of(rt, alloc, asked, input.as_slice())
+}
+
+/// Gives the text of what is asked for, and reads the input for it where it is of a function.
+pub fn text_for<S: Source>(
+    rt: &impl CpuClock,
+    alloc: Global,
+    asked: &Request,
+    src: &mut S,
+) -> Result<Vec<u8>, Status>
+    requires { AreOptions asked.now.options }
+{
+    match asked.part {
+        Part::Chains => match chains_text(rt, alloc, asked.counts) {
+            Ok(text) => Ok(text),
+            Err(_) => Err(Status::NoMemory),
+        },
+        _ => read_text(rt, alloc, asked, src),
+    }
 }

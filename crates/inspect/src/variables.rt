@@ -107,8 +107,8 @@ fn put_ops(
     vars: &[OpVars],
 ) -> Result<OpId, NoMemory> {
     let mut id = first;
-    for (op, op_vars) in ops.iter().zip(vars) {
-        put_op_vars(out, m, id, op, op_vars)?;
+    for k in 0..ops.len().min(vars.len()) {
+        put_op_vars(out, m, id, &ops[k], &vars[k])?;
         id = OpId(id.0.saturating_add(1));
     }
     Ok(id)
@@ -134,14 +134,22 @@ fn put_flag(out: &mut Vec<u8>, m: &Model) -> Result<(), NoMemory> {
     put_end(out, m, m.flag)
 }
 
+/// Appends the lines of the variables of all blocks.
+fn put_blocks(out: &mut Vec<u8>, m: &Model) -> Result<(), NoMemory> {
+    let mut id = OpId(0);
+    for k in 0..m.ext.blocks.len().min(m.blocks.len()) {
+        let block = m.ext.blocks.get(k);
+        let vars = m.blocks.get(k);
+        id = put_ops(out, m, id, block.ops.as_slice(), vars.ops.as_slice())?;
+        put_block_end(out, m, block.label.as_bytes(), vars)?;
+    }
+    Ok(())
+}
+
 /// A line for each variable in order: its number, what it is, and its domain.
 pub fn variables_text(alloc: Global, m: &Model) -> Result<Vec<u8>, NoMemory> {
     let mut out = Vec::new(alloc);
-    let mut id = OpId(0);
-    for (block, vars) in m.ext.blocks.as_slice().iter().zip(m.blocks.as_slice()) {
-        id = put_ops(&mut out, m, id, block.ops.as_slice(), vars.ops.as_slice())?;
-        put_block_end(&mut out, m, block.label.as_bytes(), vars)?;
-    }
+    put_blocks(&mut out, m)?;
     put_flag(&mut out, m)?;
     Ok(out)
 }

@@ -1,0 +1,327 @@
+//! The parts of `alloc`, and of a search for a function, each called many times; and how large a function's problem is.
+
+ghost use Rattle.std.specs.Prelude.{All, IfOk};
+ghost use Rattle.inspect.specs.Inputs.{AreInputs};
+ghost use Rattle.un_domains.specs.Sets.{NoneEmpty};
+ghost use Rattle.un_ir.specs.LinearOf.{AreLive};
+ghost use Rattle.un_isa.specs.Hexagon.{HEXAGON};
+ghost use Rattle.un_model.specs.Extended.{HasSmallCounts};
+ghost use Rattle.un_model.specs.Solutions.{IsSolution};
+ghost use Rattle.un_model.specs.Variables.{IsModel};
+ghost use Rattle.un_post.specs.Posts.{ReadsFrom, SpansAtMost};
+ghost use Rattle.un_problem.specs.Problems.{IsModelOf, default_options};
+
+use crate::clock::{mean, now, put_time};
+use crate::request::Counts;
+use crate::runs::put_runs;
+use std::alloc::{AllocError, Global};
+use std::time::CpuClock;
+use un_base::ids::VarId;
+use un_base::memory_error::NoMemory;
+use un_extend::extend::extend;
+use un_ir::extended::{LiveSets, Lssa};
+use un_ir::function::Function;
+use un_ir::text::{put_number, put_text};
+use un_isa::table::hexagon;
+use un_listing::report::print_first_report;
+use un_live::live::live_in;
+use un_lssa::linearize::linearize;
+use un_model::build::build;
+use un_model::model::{Model, Solution};
+use un_post::post::{Posted, post};
+use un_problem::problem::default_options;
+use un_reader::read::read_function;
+use un_baseline::spilled::spilled;
+use un_top::bound::full_packets;
+use un_top::code::{Costed, code_by};
+use un_violations::violations::violations;
+
+/// A part that is timed.
+#[derive(Clone, Copy)]
+enum Call {
+    Live,
+    Linear,
+    Extend,
+    Build,
+    Violations,
+    Read,
+    Solution,
+    Code,
+    Report,
+    Post,
+}
+
+/// The parts of `alloc`, in the order in which their times are told.
+static PARTS: [Call; 9] = [
+    Call::Live,
+    Call::Linear,
+    Call::Extend,
+    Call::Build,
+    Call::Violations,
+    Call::Read,
+    Call::Solution,
+    Call::Code,
+    Call::Report,
+];
+
+/// What the parts are called on: a function with its text, and what each part makes of it.
+#[derive(Clone, Copy)]
+struct Inputs<'a> {
+    text: &'a [u8],
+    f: &'a Function,
+    m: &'a Model,
+    s: &'a Solution,
+    costed: &'a Costed,
+    live: &'a LiveSets,
+    linear: &'a Lssa,
+}
+
+/// The name of a part.
+fn name_of(part: Call) -> &'static str {
+    match part {
+        Call::Live => "live_in",
+        Call::Linear => "linearize",
+        Call::Extend => "extend",
+        Call::Build => "build",
+        Call::Violations => "violations",
+        Call::Read => "read",
+        Call::Solution => "solution",
+        Call::Code => "code",
+        Call::Report => "report",
+        Call::Post => "post",
+    }
+}
+
+/// Calls one of the last parts once, and answers whether there was memory.
+fn call_late(alloc: Global, part: Call, x: &Inputs<'_>) -> bool
+    requires { AreInputs x.now }
+{
+    match part {
+        Call::Read => read_function(alloc, x.text).is_ok(),
+        Call::Solution => spilled(alloc, x.f, x.m).is_ok(),
+        Call::Code => code_by(alloc, x.f, x.m, x.s).is_ok(),
+        Call::Report => {
+            let bound = full_packets(x.f);
+            print_first_report(alloc, x.costed.cost, bound, &x.costed.code).is_ok()
+        }
+        _ => posted(alloc, x.f, x.m).is_ok(),
+    }
+}
+
+/// Calls a part once, and answers whether there was memory.
+fn call_once(alloc: Global, part: Call, x: &Inputs<'_>) -> bool
+    requires { AreInputs x.now }
+{
+    match part {
+        Call::Live => live_in(alloc, x.f).is_ok(),
+        Call::Linear => linearize(alloc, x.f, x.live, &hexagon()).is_ok(),
+        Call::Extend => extend(alloc, x.linear).is_ok(),
+        Call::Build => build(alloc, &x.m.ext, &default_options()).is_ok(),
+        Call::Violations => violations(alloc, x.m, x.s).is_ok(),
+        _ => call_late(alloc, part, x),
+    }
+}
+
+/// Appends the mean time of a part that is called so often.
+fn put_part(
+    rt: &impl CpuClock,
+    alloc: Global,
+    out: &mut Vec<u8>,
+    part: Call,
+    x: &Inputs<'_>,
+    calls: u32,
+) -> Result<(), NoMemory>
+    requires { AreInputs x.now }
+{
+    let start = now(rt);
+    for _ in 0..calls {
+        if !call_once(alloc, part, x) {
+            return Err(NoMemory);
+        }
+    }
+    put_time(alloc, out, name_of(part), mean(rt, start, u64::from(calls)))
+}
+
+/// Appends the mean times of the parts of `alloc`.
+fn put_parts(
+    rt: &impl CpuClock,
+    alloc: Global,
+    out: &mut Vec<u8>,
+    x: &Inputs<'_>,
+    calls: u32,
+) -> Result<(), NoMemory>
+    requires { AreInputs x.now }
+{
+    for part in PARTS.iter() {
+        put_part(rt, alloc, out, *part, x, calls)?;
+    }
+    Ok(())
+}
+
+/// The variables of the cycles of a model.
+fn cycles(alloc: Global, m: &Model) -> Result<Vec<VarId>, AllocError> {
+    let mut vars = Vec::new(alloc);
+    for block in m.blocks.as_slice() {
+        for op in block.ops.as_slice() {
+            if let Some(v) = op.cycle {
+                vars.push(v)?;
+            }
+        }
+    }
+    Ok(vars)
+}
+
+/// What is posted for the model of a function under default options.
+fn posted(alloc: Global, f: &Function, m: &Model) -> Result<Posted, NoMemory>
+    requires gives { IsModelOf HEXAGON f.now default_options m.now }
+    requires own { IsModel m.now }
+    ensures live { IfOk result (λ p. NoneEmpty p.store.sets) }
+    ensures reads { IfOk result (λ p. All (ReadsFrom p.store.sets) p.props.items) }
+    ensures spans { IfOk result (λ p. All (SpansAtMost p.horizon) p.props.items) }
+{
+    let _ = f;
+    let posted = post(alloc, m, None)?;
+    Ok(posted)
+}
+
+/// Appends the times of rounds of what is posted, with decisions on these variables.
+fn put_rounds(
+    rt: &impl CpuClock,
+    alloc: Global,
+    out: &mut Vec<u8>,
+    x: &Inputs<'_>,
+    vars: &[VarId],
+) -> Result<(), NoMemory>
+    requires { AreInputs x.now }
+{
+    let Posted {
+        props,
+        mut store,
+        horizon,
+    } = posted(alloc, x.f, x.m)?;
+    let _ = put_runs(rt, alloc, out, props.as_slice(), &mut store, horizon, vars)?;
+    Ok(())
+}
+
+/// Appends the mean times of the parts of `alloc`, of posting, and of rounds of what is posted.
+fn put_times(
+    rt: &impl CpuClock,
+    alloc: Global,
+    out: &mut Vec<u8>,
+    x: &Inputs<'_>,
+    calls: u32,
+    posts: u32,
+) -> Result<(), NoMemory>
+    requires { AreInputs x.now }
+{
+    put_parts(rt, alloc, out, x, calls)?;
+    put_part(rt, alloc, out, Call::Post, x, posts)?;
+    let vars = cycles(alloc, x.m)?;
+    put_rounds(rt, alloc, out, x, vars.as_slice())
+}
+
+/// Appends the same times, of a solution of the model, its code and the names live at each block's start.
+fn put_live(
+    rt: &impl CpuClock,
+    alloc: Global,
+    out: &mut Vec<u8>,
+    counts: Counts,
+    text: &[u8],
+    f: &Function,
+    m: &Model,
+    s: &Solution,
+    costed: &Costed,
+    live: &LiveSets,
+) -> Result<(), NoMemory>
+    requires gives { IsModelOf HEXAGON f.now default_options m.now }
+    requires own { IsModel m.now }
+    requires counts { HasSmallCounts m.now.ext }
+    requires solution { IsSolution m.now s.now }
+    requires live { AreLive f.now.blocks live.now.at_start }
+{
+    let linear = linearize(alloc, f, live, &hexagon())?;
+    let x = Inputs {
+        text,
+        f,
+        m,
+        s,
+        costed,
+        live,
+        linear: &linear,
+    };
+    put_times(rt, alloc, out, &x, counts.first.unwrap_or(1), counts.second)
+}
+
+/// Appends the same times, of a solution of the model and its code.
+fn put_coded(
+    rt: &impl CpuClock,
+    alloc: Global,
+    out: &mut Vec<u8>,
+    counts: Counts,
+    text: &[u8],
+    f: &Function,
+    m: &Model,
+    s: &Solution,
+    costed: &Costed,
+) -> Result<(), NoMemory>
+    requires gives { IsModelOf HEXAGON f.now default_options m.now }
+    requires own { IsModel m.now }
+    requires counts { HasSmallCounts m.now.ext }
+    requires solution { IsSolution m.now s.now }
+{
+    let live = live_in(alloc, f)?;
+    put_live(rt, alloc, out, counts, text, f, m, s, costed, &live)
+}
+
+/// Appends the same times, of a function and its model.
+fn put_all(
+    rt: &impl CpuClock,
+    alloc: Global,
+    out: &mut Vec<u8>,
+    counts: Counts,
+    text: &[u8],
+    f: &Function,
+    m: &Model,
+) -> Result<(), NoMemory>
+    requires gives { IsModelOf HEXAGON f.now default_options m.now }
+    requires own { IsModel m.now }
+    requires counts { HasSmallCounts m.now.ext }
+{
+    let s = spilled(alloc, f, m)?;
+    let costed = code_by(alloc, f, m, &s)?;
+    put_coded(rt, alloc, out, counts, text, f, m, &s, &costed)
+}
+
+/// Appends how many variables and propagators a function has.
+fn put_sizes(alloc: Global, out: &mut Vec<u8>, f: &Function, m: &Model) -> Result<(), NoMemory>
+    requires gives { IsModelOf HEXAGON f.now default_options m.now }
+    requires own { IsModel m.now }
+{
+    let posted = posted(alloc, f, m)?;
+    put_number(out, u64::from(posted.store.len()))?;
+    put_text(out, b" variables, ")?;
+    put_number(out, posted.props.len() as u64)?;
+    put_text(out, b" propagators\n")
+}
+
+/// The mean times of the parts, where the words say how often they are called, and else how many variables and propagators
+/// a function has.
+pub fn times_text(
+    rt: &impl CpuClock,
+    alloc: Global,
+    counts: Counts,
+    text: &[u8],
+    f: &Function,
+    m: &Model,
+) -> Result<Vec<u8>, NoMemory>
+    requires gives { IsModelOf HEXAGON f.now default_options m.now }
+    requires own { IsModel m.now }
+    requires counts { HasSmallCounts m.now.ext }
+{
+    let mut out = Vec::new(alloc);
+    match counts.first {
+        None => put_sizes(alloc, &mut out, f, m)?,
+        Some(_) => put_all(rt, alloc, &mut out, counts, text, f, m)?,
+    }
+    Ok(out)
+}

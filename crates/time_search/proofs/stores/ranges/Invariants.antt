@@ -1,7 +1,0 @@
--- so many domains so far
-use Rattle.std.proofs.Common.{◌≡◌, length, All}
-use Rattle.un_domains.specs.Domains.{IsDomain}
-use Rattle.time_search.proofs.stores.ranges.Given as goal
-
-abbrev pub invariant-loop : goal.invariant-loop
-invariant-loop l = record { each : All IsDomain l.domains.items; long : length l.domains.items ≡ l.counter }
