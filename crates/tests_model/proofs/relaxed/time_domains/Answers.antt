@@ -1,4 +1,4 @@
-use Rattle.std.proofs.Common.{◌≡◌, ◌+◌, length, List, [], ◌∷◌, ◌++◌, subst, sym, arith, ap, ◌∙◌, length-append}
+use Rattle.std.proofs.Common.{length, List, [], ◌∷◌, subst, sym, arith, ap, ◌∙◌, length-append}
 use Rattle.std.specs.Prelude.{All}
 use Rattle.std.proofs.lemmas.List.Elements.{All-push}
 use Rattle.un_domains.specs.declared.domain.Domain.{Domain}
