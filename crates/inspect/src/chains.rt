@@ -192,13 +192,17 @@ fn put_chains(
     put_time(alloc, out, "run", run)
 }
 
-/// The mean times of a mark, a cut, a run of so many precedences from the root, a decision with the run after it, and that run.
-pub fn chains_text(rt: &impl CpuClock, alloc: Global, counts: Counts) -> Result<Vec<u8>, NoMemory> {
+/// Appends the mean times of a mark, a cut, a run of so many precedences from the root, a decision with the run after it, and
+/// that run.
+pub fn put_scale(
+    rt: &impl CpuClock,
+    alloc: Global,
+    out: &mut Vec<u8>,
+    counts: Counts,
+) -> Result<(), NoMemory> {
     let links = counts.first.unwrap_or(LINKS).min(MOST);
     let chains = links / CHAIN + 1;
-    let mut out = Vec::new(alloc);
-    put_store(rt, alloc, &mut out, (CHAIN + 1) * chains, counts.second)?;
+    put_store(rt, alloc, out, (CHAIN + 1) * chains, counts.second)?;
     let props = all_links(alloc, links)?;
-    put_chains(rt, alloc, &mut out, props.as_slice(), chains)?;
-    Ok(out)
+    put_chains(rt, alloc, out, props.as_slice(), chains)
 }

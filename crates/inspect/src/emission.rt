@@ -6,48 +6,53 @@ ghost use Rattle.un_model.specs.Solutions.{IsSolution};
 ghost use Rattle.un_model.specs.Variables.{IsModel};
 ghost use Rattle.un_problem.specs.Problems.{IsModelOf};
 
-use crate::solution::broken_text;
+use crate::solution::put_broken;
 use std::alloc::Global;
 use un_base::memory_error::NoMemory;
 use un_emit::emit::emit;
 use un_ir::function::Function;
+use un_ir::text::put_text;
 use un_listing::print::print_code;
 use un_model::model::{Model, Options, Solution};
 use un_violations::violations::violations;
 
-/// The listing of the code of a solution.
-fn listing(
+/// Appends the listing of the code of a solution.
+fn put_listing(
     alloc: Global,
+    out: &mut Vec<u8>,
     f: &Function,
     options: &Options,
     m: &Model,
     s: &Solution,
-) -> Result<Vec<u8>, NoMemory>
+) -> Result<(), NoMemory>
     requires gives { IsModelOf HEXAGON f.now options.now m.now }
     requires options { AreOptions options.now }
     requires solution { IsSolution m.now s.now }
 {
     let _ = options;
     let code = emit(alloc, f, &m.ext, m, s)?;
-    print_code(alloc, &code)
+    let text = print_code(alloc, &code)?;
+    put_text(out, text.as_slice())
 }
 
-/// The listing of the code of values of a model's variables, where they are a solution, and the clauses that they break.
-pub fn listing_text(
+/// Appends the listing of the code of values of a model's variables, where they are a solution, and else the clauses that they
+/// break.
+pub fn put_emitted(
     alloc: Global,
+    out: &mut Vec<u8>,
     f: &Function,
     options: &Options,
     m: &Model,
     s: &Solution,
-) -> Result<Vec<u8>, NoMemory>
+) -> Result<(), NoMemory>
     requires gives { IsModelOf HEXAGON f.now options.now m.now }
     requires own { IsModel m.now }
     requires options { AreOptions options.now }
 {
     let broken = violations(alloc, m, s)?;
     if broken.is_empty() {
-        listing(alloc, f, options, m, s)
+        put_listing(alloc, out, f, options, m, s)
     } else {
-        broken_text(alloc, broken.as_slice())
+        put_broken(out, broken.as_slice())
     }
 }

@@ -16,11 +16,12 @@ mod rounds;
 mod runs;
 mod shown;
 mod solution;
+mod text;
 mod times;
 mod variables;
 
 use crate::request::asked_for;
-use crate::shown::text_for;
+use crate::shown::put_asked;
 use std::alloc::Global;
 use std::env;
 use std::process::ExitCode;
@@ -59,13 +60,14 @@ fn main(rt: HostRuntime) -> ExitCode {
         return ExitCode::from(Status::NoMemory.number());
     };
     let mut source = StdSource::new(rt.stdin());
+    let mut text = Vec::new(rt.alloc());
     let outcome = match asked_for(words.as_slice()) {
-        Ok(asked) => text_for(&rt, rt.alloc(), &asked, &mut source),
+        Ok(asked) => put_asked(&rt, rt.alloc(), &mut text, &asked, &mut source),
         Err(word) => Err(Status::Usage { word }),
     };
     let mut out = StdSink::new(rt.stdout());
     let status = match outcome {
-        Ok(text) => match write_all(&mut out, text.as_slice()) {
+        Ok(()) => match write_all(&mut out, text.as_slice()) {
             Ok(()) => Status::Done,
             Err(_) => Status::WriteFault,
         },

@@ -14,12 +14,13 @@ ghost use Rattle.un_prop.specs.Sides.{side_test};
 use crate::domains::put_values;
 use crate::node::{Decision, Node};
 use crate::runs::settle;
+use crate::text::put_between;
 use std::alloc::{AllocError, Global};
 use un_base::ids::VarId;
 use un_base::memory_error::NoMemory;
 use un_domains::cut::Cut;
 use un_domains::store::Store;
-use un_ir::text::{put_number, put_text};
+use un_ir::text::put_text;
 use un_kinds::any::AnyProp;
 use un_model::model::Model;
 use un_post::post::{Posted, post};
@@ -110,33 +111,28 @@ fn put_left(alloc: Global, out: &mut Vec<u8>, store: &Store, v: VarId) -> Result
     requires some { 0 < length (set_at store.now.sets v.0) }
 {
     let values = values_left(alloc, store, v)?;
-    put_text(out, b"v")?;
-    put_number(out, u64::from(v.0))?;
-    put_text(out, b": ")?;
+    put_between(out, b"v", u64::from(v.0), b": ")?;
     put_values(out, values.as_slice())?;
     put_text(out, b"\n")
 }
 
-/// A line for each variable, with the values that it has left.
-fn left_text(alloc: Global, store: &Store) -> Result<Vec<u8>, NoMemory>
+/// Appends a line for each variable, with the values that it has left.
+fn put_all_left(alloc: Global, out: &mut Vec<u8>, store: &Store) -> Result<(), NoMemory>
     requires { NoneEmpty store.now.sets }
 {
-    let mut out = Vec::new(alloc);
     for v in 0..store.len() {
-        put_left(alloc, &mut out, store, VarId(v))?;
+        put_left(alloc, out, store, VarId(v))?;
     }
-    Ok(out)
+    Ok(())
 }
 
-/// The line for rounds that fail.
-fn failed_text(alloc: Global) -> Result<Vec<u8>, NoMemory> {
-    let mut out = Vec::new(alloc);
-    put_text(&mut out, b"failed\n")?;
-    Ok(out)
-}
-
-/// The lines for what the rounds leave of a store after decisions.
-fn lines_left(alloc: Global, posted: Posted, decisions: &[Decision]) -> Result<Vec<u8>, NoMemory>
+/// Appends the lines for what the rounds leave of a store after decisions.
+fn put_lines_left(
+    alloc: Global,
+    out: &mut Vec<u8>,
+    posted: Posted,
+    decisions: &[Decision],
+) -> Result<(), NoMemory>
     requires known { All (IsOn (length posted.store.sets)) decisions.now }
     requires live { NoneEmpty posted.store.sets }
     requires reads { All (ReadsFrom posted.store.sets) posted.props.items }
@@ -148,14 +144,15 @@ fn lines_left(alloc: Global, posted: Posted, decisions: &[Decision]) -> Result<V
         horizon,
     } = posted;
     if ends(alloc, props.as_slice(), &mut store, horizon, decisions)? {
-        left_text(alloc, &store)
+        put_all_left(alloc, out, &store)
     } else {
-        failed_text(alloc)
+        put_text(out, b"failed\n")
     }
 }
 
-/// A line for each variable with the values that the rounds leave it at a node of a search, or the line for rounds that fail.
-pub fn rounds_text(alloc: Global, m: &Model, node: &Node) -> Result<Vec<u8>, NoMemory>
+/// Appends a line for each variable with the values that the rounds leave it at a node of a search, or the line for rounds that
+/// fail.
+pub fn put_rounds(alloc: Global, out: &mut Vec<u8>, m: &Model, node: &Node) -> Result<(), NoMemory>
     requires model { IsModel m.now }
     requires extended { IsExtended m.now.ext }
     requires fit { IsFit m.now.ext.table }
@@ -163,5 +160,5 @@ pub fn rounds_text(alloc: Global, m: &Model, node: &Node) -> Result<Vec<u8>, NoM
     requires known { All (IsOn (length m.now.domains)) node.now.decisions.items }
 {
     let posted = post(alloc, m, node.limit)?;
-    lines_left(alloc, posted, node.decisions.as_slice())
+    put_lines_left(alloc, out, posted, node.decisions.as_slice())
 }

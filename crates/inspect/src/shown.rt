@@ -2,9 +2,9 @@
 
 ghost use Rattle.un_model.specs.Options.{AreOptions};
 
-use crate::chains::chains_text;
+use crate::chains::put_scale;
 use crate::input::{Parts, split_input};
-use crate::part::part_text;
+use crate::part::put_part;
 use crate::request::{Part, Request, Shown};
 use std::alloc::Global;
 use std::time::CpuClock;
@@ -62,18 +62,19 @@ fn input_of(part: Part, text: &[u8]) -> Parts<'_> {
     }
 }
 
-/// The text of the part that is asked for, of an input.
-fn text_of(
+/// Appends what is asked for, of an input.
+fn put_of(
     rt: &impl CpuClock,
     alloc: Global,
+    out: &mut Vec<u8>,
     asked: &Request,
     text: &[u8],
-) -> Result<Vec<u8>, Status>
+) -> Result<(), Status>
     requires { AreOptions asked.now.options }
 {
     let input = input_of(asked.part, text);
     let f = function(alloc, input.function)?;
-    part_text(rt, alloc, asked, &f, input)
+    put_part(rt, alloc, out, asked, &f, input)
 }
 
 /// The bytes of a source.
@@ -86,33 +87,35 @@ fn read<S: Source>(alloc: Global, src: &mut S) -> Result<Vec<u8>, Status> {
     }
 }
 
-/// Reads the input, and gives the text of the part that is asked for.
-fn read_text<S: Source>(
+/// Reads the input, and appends what is asked for.
+fn put_read<S: Source>(
     rt: &impl CpuClock,
     alloc: Global,
+    out: &mut Vec<u8>,
     asked: &Request,
     src: &mut S,
-) -> Result<Vec<u8>, Status>
+) -> Result<(), Status>
     requires { AreOptions asked.now.options }
 {
     let input = read(alloc, src)?;
-    text_of(rt, alloc, asked, input.as_slice())
+    put_of(rt, alloc, out, asked, input.as_slice())
 }
 
-/// Gives the text of what is asked for, and reads the input for it where it is of a function.
-pub fn text_for<S: Source>(
+/// Appends what is asked for, and reads the input for it where it is of a function.
+pub fn put_asked<S: Source>(
     rt: &impl CpuClock,
     alloc: Global,
+    out: &mut Vec<u8>,
     asked: &Request,
     src: &mut S,
-) -> Result<Vec<u8>, Status>
+) -> Result<(), Status>
     requires { AreOptions asked.now.options }
 {
     match asked.part {
-        Part::Chains => match chains_text(rt, alloc, asked.counts) {
-            Ok(text) => Ok(text),
+        Part::Chains => match put_scale(rt, alloc, out, asked.counts) {
+            Ok(()) => Ok(()),
             Err(_) => Err(Status::NoMemory),
         },
-        _ => read_text(rt, alloc, asked, src),
+        _ => put_read(rt, alloc, out, asked, src),
     }
 }

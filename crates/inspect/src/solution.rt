@@ -4,10 +4,11 @@ ghost use Rattle.un_model.specs.Extended.{HasSmallCounts};
 ghost use Rattle.un_model.specs.Variables.{IsModel};
 
 use crate::input::numbers;
+use crate::text::put_between;
 use std::alloc::Global;
 use un_base::memory_error::NoMemory;
 use un_base::status::Status;
-use un_ir::text::{put_number, put_text};
+use un_ir::text::put_text;
 use un_lists::items::Items;
 use un_model::cost::cost;
 use un_model::model::{Model, Solution};
@@ -25,37 +26,30 @@ pub fn solution_of(alloc: Global, text: &[u8]) -> Result<Solution, Status> {
     })
 }
 
-/// The line for broken clauses.
-pub fn broken_text(alloc: Global, broken: &[Broken]) -> Result<Vec<u8>, NoMemory> {
-    let mut out = Vec::new(alloc);
-    put_text(&mut out, b"broken")?;
+/// Appends the line for broken clauses.
+pub fn put_broken(out: &mut Vec<u8>, broken: &[Broken]) -> Result<(), NoMemory> {
+    put_text(out, b"broken")?;
     for clause in broken {
-        put_text(&mut out, b" ")?;
-        put_number(&mut out, u64::from(clause.clause))?;
+        put_between(out, b" ", u64::from(clause.clause), b"")?;
     }
-    put_text(&mut out, b"\n")?;
-    Ok(out)
+    put_text(out, b"\n")
 }
 
-/// The line for a solution of this cost.
-fn cost_text(alloc: Global, cost: u64) -> Result<Vec<u8>, NoMemory> {
-    let mut out = Vec::new(alloc);
-    put_text(&mut out, b"solution cost ")?;
-    put_number(&mut out, cost)?;
-    put_text(&mut out, b"\n")?;
-    Ok(out)
-}
-
-/// The line for values of a model's variables: the cost, where they are a solution, and the clauses that they break.
-pub fn verdict_text(alloc: Global, m: &Model, s: &Solution) -> Result<Vec<u8>, NoMemory>
+/// Appends the line for values of a model's variables: the cost, where they are a solution, and else the clauses that they break.
+pub fn put_verdict(
+    alloc: Global,
+    out: &mut Vec<u8>,
+    m: &Model,
+    s: &Solution,
+) -> Result<(), NoMemory>
     requires model { IsModel m.now }
     requires counts { HasSmallCounts m.now.ext }
 {
     let broken = violations(alloc, m, s)?;
     if broken.is_empty() {
-        cost_text(alloc, cost(m, s))
+        put_between(out, b"solution cost ", cost(m, s), b"\n")
     } else {
-        broken_text(alloc, broken.as_slice())
+        put_broken(out, broken.as_slice())
     }
 }
 
@@ -73,13 +67,10 @@ fn separator(place: usize) -> &'static [u8] {
     }
 }
 
-/// The values of a solution, sixteen on a line.
-pub fn values_text(alloc: Global, s: &Solution) -> Result<Vec<u8>, NoMemory> {
-    let mut out = Vec::new(alloc);
+/// Appends the values of a solution, sixteen on a line.
+pub fn put_values(out: &mut Vec<u8>, s: &Solution) -> Result<(), NoMemory> {
     for (place, value) in s.values.as_slice().iter().enumerate() {
-        put_text(&mut out, separator(place))?;
-        put_number(&mut out, u64::from(*value))?;
+        put_between(out, separator(place), u64::from(*value), b"")?;
     }
-    put_text(&mut out, b"\n")?;
-    Ok(out)
+    put_text(out, b"\n")
 }

@@ -14,6 +14,7 @@ ghost use Rattle.un_problem.specs.Problems.{IsModelOf, default_options};
 use crate::clock::{mean, now, put_time};
 use crate::request::Counts;
 use crate::runs::put_runs;
+use crate::text::put_between;
 use std::alloc::{AllocError, Global};
 use std::time::CpuClock;
 use un_base::ids::VarId;
@@ -21,7 +22,6 @@ use un_base::memory_error::NoMemory;
 use un_extend::extend::extend;
 use un_ir::extended::{LiveSets, Lssa};
 use un_ir::function::Function;
-use un_ir::text::{put_number, put_text};
 use un_isa::table::hexagon;
 use un_listing::report::print_first_report;
 use un_live::live::live_in;
@@ -298,30 +298,27 @@ fn put_sizes(alloc: Global, out: &mut Vec<u8>, f: &Function, m: &Model) -> Resul
     requires own { IsModel m.now }
 {
     let posted = posted(alloc, f, m)?;
-    put_number(out, u64::from(posted.store.len()))?;
-    put_text(out, b" variables, ")?;
-    put_number(out, posted.props.len() as u64)?;
-    put_text(out, b" propagators\n")
+    put_between(out, b"", u64::from(posted.store.len()), b" variables, ")?;
+    put_between(out, b"", posted.props.len() as u64, b" propagators\n")
 }
 
-/// The mean times of the parts, where the words say how often they are called, and else how many variables and propagators
-/// a function has.
-pub fn times_text(
+/// Appends the mean times of the parts, where the words say how often they are called, and else how many variables and
+/// propagators a function has.
+pub fn put_timed(
     rt: &impl CpuClock,
     alloc: Global,
+    out: &mut Vec<u8>,
     counts: Counts,
     text: &[u8],
     f: &Function,
     m: &Model,
-) -> Result<Vec<u8>, NoMemory>
+) -> Result<(), NoMemory>
     requires gives { IsModelOf HEXAGON f.now default_options m.now }
     requires own { IsModel m.now }
     requires counts { HasSmallCounts m.now.ext }
 {
-    let mut out = Vec::new(alloc);
     match counts.first {
-        None => put_sizes(alloc, &mut out, f, m)?,
-        Some(_) => put_all(rt, alloc, &mut out, counts, text, f, m)?,
+        None => put_sizes(alloc, out, f, m),
+        Some(_) => put_all(rt, alloc, out, counts, text, f, m),
     }
-    Ok(out)
 }

@@ -1,25 +1,18 @@
 //! The variables of a model with their domains.
 
 use crate::domains::put_domain;
-use std::alloc::Global;
+use crate::text::put_between;
 use un_base::ids::{OpId, TempId, VarId};
 use un_base::memory_error::NoMemory;
 use un_ir::extended::ExtOp;
 use un_ir::text::{put_number, put_text};
 use un_model::model::{BlockVars, Model, OpVars};
-use un_parts::pieces::{put_op, put_temp};
+use un_parts::pieces::put_temp;
 
-/// Appends the number of a variable and a space.
-fn put_var(out: &mut Vec<u8>, var: VarId) -> Result<(), NoMemory> {
-    put_text(out, b"v")?;
-    put_number(out, u64::from(var.0))?;
-    put_text(out, b" ")
-}
-
-/// Appends the number of a variable, and the operation to which it belongs.
-fn put_op_var(out: &mut Vec<u8>, var: VarId, op: OpId) -> Result<(), NoMemory> {
-    put_var(out, var)?;
-    put_op(out, op)
+/// Appends the number of a variable, the operation to which it belongs, and what it is of that.
+fn put_op_var(out: &mut Vec<u8>, var: VarId, op: OpId, meaning: &[u8]) -> Result<(), NoMemory> {
+    put_between(out, b"v", u64::from(var.0), b" o")?;
+    put_between(out, b"", u64::from(op.0), meaning)
 }
 
 /// Appends what ends the line of a variable: its domain.
@@ -42,8 +35,7 @@ fn put_single(
     let Some(var) = var else {
         return Ok(());
     };
-    put_op_var(out, var, op)?;
-    put_text(out, meaning)?;
+    put_op_var(out, var, op, meaning)?;
     put_end(out, m, var)
 }
 
@@ -55,8 +47,7 @@ fn put_choice(
     place: usize,
     var: VarId,
 ) -> Result<(), NoMemory> {
-    put_op_var(out, var, op)?;
-    put_text(out, b" choice ")?;
+    put_op_var(out, var, op, b" choice ")?;
     put_number(out, place as u64)?;
     put_end(out, m, var)
 }
@@ -74,8 +65,7 @@ fn put_register(out: &mut Vec<u8>, m: &Model, op: OpId, temp: TempId) -> Result<
     let Some(vars) = m.temps.as_slice().get(temp.0 as usize) else {
         return Ok(());
     };
-    put_op_var(out, vars.reg, op)?;
-    put_text(out, b" register ")?;
+    put_op_var(out, vars.reg, op, b" register ")?;
     put_temp(out, temp)?;
     put_end(out, m, vars.reg)
 }
@@ -121,16 +111,14 @@ fn put_block_end(
     label: &[u8],
     vars: &BlockVars,
 ) -> Result<(), NoMemory> {
-    put_var(out, vars.end)?;
-    put_text(out, b"end ")?;
+    put_between(out, b"v", u64::from(vars.end.0), b" end ")?;
     put_text(out, label)?;
     put_end(out, m, vars.end)
 }
 
 /// Appends the line of the frame flag.
 fn put_flag(out: &mut Vec<u8>, m: &Model) -> Result<(), NoMemory> {
-    put_var(out, m.flag)?;
-    put_text(out, b"flag")?;
+    put_between(out, b"v", u64::from(m.flag.0), b" flag")?;
     put_end(out, m, m.flag)
 }
 
@@ -146,10 +134,8 @@ fn put_blocks(out: &mut Vec<u8>, m: &Model) -> Result<(), NoMemory> {
     Ok(())
 }
 
-/// A line for each variable in order: its number, what it is, and its domain.
-pub fn variables_text(alloc: Global, m: &Model) -> Result<Vec<u8>, NoMemory> {
-    let mut out = Vec::new(alloc);
-    put_blocks(&mut out, m)?;
-    put_flag(&mut out, m)?;
-    Ok(out)
+/// Appends a line for each variable in order: its number, what it is, and its domain.
+pub fn put_variables(out: &mut Vec<u8>, m: &Model) -> Result<(), NoMemory> {
+    put_blocks(out, m)?;
+    put_flag(out, m)
 }
