@@ -19,6 +19,7 @@ use std::alloc::Global;
 use std::time::CpuClock;
 use un_base::memory_error::NoMemory;
 use un_base::status::Status;
+use un_baseline::spilled::spilled;
 use un_ir::function::Function;
 use un_ir::text::put_text;
 use un_live::live::live_in;
@@ -26,7 +27,6 @@ use un_model::model::{Model, Options};
 use un_parts::extended::extended_text;
 use un_parts::live::live_text;
 use un_problem::problem::{default_options, extended, model};
-use un_baseline::spilled::spilled;
 
 /// What a call answered, with the status for want of memory.
 fn told(answer: Result<(), NoMemory>) -> Result<(), Status> {
