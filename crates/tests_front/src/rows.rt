@@ -1,5 +1,6 @@
-//! Rows of texts with what is asked of them. Between two `|` stands a row: a text, `?`, a question, `:` and the answer. `&` is the text of
-//! the row before, and a row that begins with `#` is a comment. A question begins with its letter, which counts alone, and may have numbers.
+//! Rows of texts with what is asked of them. Between two `|` stands a row: a text, `?`, a question, `:` and the answer. `&` is the
+//! text of the row before, and a row that begins with `#` is a comment. A question begins with its letter, which counts alone, and
+//! may have numbers.
 
 ghost use Rattle.std.specs.Prelude.{◌<◌, ◌^◌};
 

@@ -10,9 +10,9 @@ use un_base::words::Word;
 use un_ir::text::{put_number, put_text};
 use un_top::run::run;
 
-/// Texts and the words of a run, behind `;` also how many bytes a call of the source or of `out` moves, how many bytes `out` holds, and the
-/// numbers of the calls of the source, of `out` and of `err` that fail, where `-` is none. Then what is left: the status, and what `out` and
-/// `err` hold, behind `>` each.
+/// Texts and the words of a run, behind `;` also how many bytes a call of the source or of `out` moves, how many bytes `out`
+/// holds, and the numbers of the calls of the source, of `out` and of `err` that fail, where `-` is none. Then what is left: the
+/// status, and what `out` and `err` hold, behind `>` each.
 static RUNS: &[u8] = b"# The smallest function, by pieces of any size and in another spelling.\
 |func f
 block e freq 1

@@ -62,17 +62,19 @@ front (x ∷ a) (y ∷ b) p q e l =
     let first : x ≡ y = cc e in
     let rest = front a b p q (cc e) (omega (arith, l)) in cc
 
+abbrev pub padded : List ℕ → List ℕ
+padded a = a ++ replicate (NAME_BYTES - length a) 0
+
 abbrev pub padded_same : List ℕ → List ℕ → Bool
-padded_same a b = pointwise nat_eq (a ++ replicate (NAME_BYTES - length a) 0) (b ++ replicate (NAME_BYTES - length b) 0) && nat_eq (length a) (length b)
+padded_same a b = pointwise nat_eq (padded a) (padded b) && nat_eq (length a) (length b)
 
 name_exact : Identifies (List ℕ) padded_same
 name_exact a b h =
-    let parts = both (pointwise nat_eq (a ++ replicate (NAME_BYTES - length a) 0) (b ++ replicate (NAME_BYTES - length b) 0)) (nat_eq (length a) (length b))
-    h in
+    let parts = both (pointwise nat_eq (padded a) (padded b)) (nat_eq (length a) (length b)) h in
     front a b _ _ (list_exact nat_eq nat_exact _ _ parts.0) (nat_exact _ _ parts.1)
 
 name_reflexive : Accepts (List ℕ) padded_same
-name_reflexive a = rw (list_reflexive nat_eq nat_same (a ++ replicate (NAME_BYTES - length a) 0)) (nat_same (length a))
+name_reflexive a = rw (list_reflexive nat_eq nat_same (padded a)) (nat_same (length a))
 
 op_exact : Identifies Op (sameb the_type)
 op_exact a b h = same_true the_type (search rules) a b h

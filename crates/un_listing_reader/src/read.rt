@@ -1,8 +1,8 @@
 //! Code from its listing.
 
 ghost use Rattle.std.specs.Prelude.{◌≡◌, ◌≢◌, ◌+◌, ◌<◌, ◌^◌, ◌++◌, ◌∷◌, [], ℕ, List, Option, IfOk, IfErr, OnOk, MatchOption};
-ghost use Rattle.un_listing_reader.specs.Reading.{AllStand, IsErrorOf, IsFirstBad, IsFirstBadOf, IsListingOf, IsReadBack, IsUnder, LineValue};
-ghost use Rattle.un_listing_reader.specs.Reading.{labels_in, lines_in};
+ghost use Rattle.un_listing_reader.specs.Reading.{AllStand, IsErrorOf, IsFirstBad, IsFirstBadOf, IsListingOf, IsReadBack};
+ghost use Rattle.un_listing_reader.specs.Reading.{IsUnder, LineValue, labels_in, lines_in};
 ghost use Rattle.un_listing_reader.specs.LabelSets.{IsBefore, SameLabels};
 
 use crate::judge::stands;

@@ -4,7 +4,8 @@ use Rattle.std.specs.Fmt.{decimal}
 use Rattle.std.proofs.lemmas.Fmt.{decimal_injective}
 use Rattle.un_listing_reader.proofs.LineCuts.{same_within}
 use Rattle.un_listing_reader.proofs.line.read_frame.Goals as goal
-use Rattle.un_listing_reader.proofs.line.read_frame.Goals.{else-frame-eq0-via-then-frame-eq0+else-frame-from, else-frame-eq0-via-else-frame-eq0}
+use Rattle.un_listing_reader.proofs.line.read_frame.Goals.{else-frame-eq0-via-then-frame-eq0+else-frame-from}
+use Rattle.un_listing_reader.proofs.line.read_frame.Goals.{else-frame-eq0-via-else-frame-eq0}
 
 pub returns-else-frame-eq0-clause-none : goal.returns-else-frame-eq0-clause-none
 returns-else-frame-eq0-clause-none c = λ frame h.

@@ -15,14 +15,16 @@ returns-in-None c =
 
 pub returns-then-end-rest : goal.returns-then-end-rest
 returns-then-end-rest c =
-    let read : instr_of (words_of (take c.part_end-end.result c.parts.rest.now)) ≡ Some c.in-Some.instr = sym c.in_ok-instr.ensures ∙ c.in-Some.is in
+    let read : instr_of (words_of (take c.part_end-end.result c.parts.rest.now)) ≡ Some c.in-Some.instr =
+    sym c.in_ok-instr.ensures ∙ c.in-Some.is in
     let e = the_last (instrs_in (parts_of c.args.text.now)) c.parts.found c.parts.rest.now
     c.part_end-end.result c.parts.invariant c.part_end-end.ensures.place c.in-Some.instr (omega arith) read in
     ap (λ (is : List Instr). Some is) c.in_ok-push-in-Some.ensures.ok ∙ sym e
 
 pub parts-preserved : goal.parts-preserved
 parts-preserved c =
-    let read : instr_of (words_of (take c.part_end-end.result c.parts.rest.now)) ≡ Some c.in-Some.instr = sym c.in_ok-instr.ensures ∙ c.in-Some.is in
+    let read : instr_of (words_of (take c.part_end-end.result c.parts.rest.now)) ≡ Some c.in-Some.instr =
+    sym c.in_ok-instr.ensures ∙ c.in-Some.is in
     let e = one_more (instrs_in (parts_of c.args.text.now)) c.parts.found c.parts.rest.now
     c.part_end-end.result c.parts.invariant c.part_end-end.ensures.place c.in-Some.instr (omega arith) read in
     rw (c.in_ok-push-in-Some.ensures.ok, c.behind-rest.ensures) e

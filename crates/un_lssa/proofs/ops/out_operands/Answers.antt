@@ -23,5 +23,5 @@ returns-in-Jump c =
 pub returns-in-Branch : goal.returns-in-Branch
 returns-in-Branch c =
     let a = c.args in
-    branches a.t.now a.current.now a.first (length a.registers.now + 1) a.live_out.now a.registers.now a.term c.next_operands-in-Branch.result
-    c.in-Branch.pred c.in-Branch.sense c.in-Branch.to c.requires.kept refl c.in-Branch.is c.next_operands-in-Branch.ensures
+    branches a.t.now a.current.now a.first (length a.registers.now + 1) a.live_out.now a.registers.now a.term
+    c.next_operands-in-Branch.result c.in-Branch.pred c.in-Branch.sense c.in-Branch.to c.requires.kept refl c.in-Branch.is c.next_operands-in-Branch.ensures

@@ -27,8 +27,8 @@ loop-rest-preserved c =
     let shorter = length-drop n rest in
     record {
       seen = rw (take_rest rest n, more)
-          (seen_step (lines_in c.args.text.now) c.loop-rest.checked.lines (line_of c.content.result.now) c.loop-rest.checked.before (take n rest) rest
-          (drop n rest) c.content.result.now
+          (seen_step (lines_in c.args.text.now) c.loop-rest.checked.lines (line_of c.content.result.now) c.loop-rest.checked.before
+          (take n rest) rest (drop n rest) c.content.result.now
           c.loop-rest.invariant.seen c.first_len-len.ensures.cut c.content.ensures c.loop-rest.invariant.before
           c.in_ok-add_line.ensures.good refl);
       before = c.in_ok-add_line.ensures.before;
