@@ -1,7 +1,7 @@
 #!/usr/bin/env bash
 # Tries the must-fail edits that the gate leaves out, `crates/NAME/must-fail/*.md`: of the crates that its words name, or of all. The
-# prover must refuse each. But for those of un_single and un_rooms, whose checks are long, the proofs of crates above rest on the
-# contracts that they break; so they are tried by hand, when contracts change.
+# prover must refuse each. The proofs of crates above rest on most contracts that they break, and the checks of the others are long;
+# so they are tried by hand, when contracts change.
 set -eu
 top=$(cd "$(dirname "$0")/.." && pwd)
 cd "$top"
