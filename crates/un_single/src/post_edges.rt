@@ -169,7 +169,8 @@ fn post_edges_from(
         Term::Branch { to, .. } => {
             let next = advance(k, 1)?;
             post_edge(props, sites, blocks, out, a, next as usize)?;
-            post_edge(props, sites, blocks, out, a, to.0 as usize)
+            post_edge(props, sites, blocks, out, a, to.0 as usize)?;
+            Ok(())
         }
         Term::Ret(_) => Ok(()),
     }
