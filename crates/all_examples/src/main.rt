@@ -9,9 +9,9 @@ use crate::runs::wrong_runs;
 use std::alloc::Global;
 use std::rt::Files;
 use std::{fs, io};
-use un_base::memory::{MemSink, MemSource};
 use un_base::memory_error::NoMemory;
-use un_base::words::Word;
+use un_outside::memory::{MemSink, MemSource};
+use un_outside::words::Word;
 use un_top::run::run;
 
 /// The names of the examples: `NAME.uni` has the function, `NAME.out` what is written.

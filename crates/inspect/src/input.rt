@@ -3,7 +3,7 @@
 use std::alloc::Global;
 use un_base::decimal::read_decimal;
 use un_base::lines::lines;
-use un_base::status::Status;
+use un_outside::status::Status;
 
 /// A function's text, and what follows the line `---`.
 #[derive(Clone, Copy)]

@@ -26,11 +26,11 @@ use std::alloc::Global;
 use std::env;
 use std::process::ExitCode;
 use std::rt::Env;
-use un_base::files::{StdSink, StdSource};
 use un_base::memory_error::NoMemory;
-use un_base::status::Status;
-use un_base::transfer::write_all;
-use un_base::words::Word;
+use un_outside::files::{StdSink, StdSource};
+use un_outside::status::Status;
+use un_outside::transfer::write_all;
+use un_outside::words::Word;
 use un_top::faults::write_line;
 
 /// Appends a word of a command line.

@@ -8,7 +8,7 @@ use std::alloc::Global;
 use un_base::decimal::read_decimal;
 use un_base::ids::VarId;
 use un_base::lines::lines;
-use un_base::status::Status;
+use un_outside::status::Status;
 use un_prop::side::Side;
 
 /// A decision on a variable: it is at most a value, or above it.

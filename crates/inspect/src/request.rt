@@ -4,9 +4,9 @@ ghost use Rattle.std.specs.Prelude.{◌≤◌, ◌<◌, ◌^◌, IfOk, IfSome};
 ghost use Rattle.un_model.specs.Options.{AreOptions, IsCountOfRegisters};
 
 use un_base::decimal::read_decimal;
-use un_base::words::Word;
 use un_isa::reg::SLOTS;
 use un_model::model::{ASSIGNABLE, Options};
+use un_outside::words::Word;
 
 /// What is shown of a function's model.
 #[derive(Clone, Copy)]

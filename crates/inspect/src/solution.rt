@@ -7,12 +7,12 @@ use crate::input::numbers;
 use crate::text::put_between;
 use std::alloc::Global;
 use un_base::memory_error::NoMemory;
-use un_base::status::Status;
 use un_ir::text::put_text;
 use un_lists::items::Items;
 use un_model::cost::cost;
 use un_model::model::{Model, Solution};
 use un_model::verdict::Broken;
+use un_outside::status::Status;
 use un_violations::violations::violations;
 
 /// The values that a text writes.

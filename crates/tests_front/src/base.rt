@@ -5,12 +5,12 @@ use crate::scripts::put_scripted;
 use std::alloc::{AllocError, Global};
 use un_base::decimal::{read_decimal, write_decimal};
 use un_base::lines::lines;
-use un_base::memory::{MemSink, MemSource, SureSource};
 use un_base::memory_error::NoMemory;
-use un_base::outside::Source;
-use un_base::transfer::{ReadAll, read_all, write_all};
-use un_base::words::Word;
 use un_ir::text::put_text;
+use un_outside::memory::{MemSink, MemSource, SureSource};
+use un_outside::outside::Source;
+use un_outside::transfer::{ReadAll, read_all, write_all};
+use un_outside::words::Word;
 
 /// What bytes are.
 static ROWS: &[u8] = b"# Texts, and the numbers that they write.\

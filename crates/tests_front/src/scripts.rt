@@ -4,10 +4,10 @@ ghost use Rattle.std.specs.Prelude.{◌≤◌, IfOk};
 
 use std::io;
 use std::io::{ErrorKind, Read, Write};
-use un_base::files::{StdSink, StdSource};
 use un_base::memory_error::NoMemory;
-use un_base::outside::{Sink, Source};
 use un_ir::text::{put_number, put_text};
+use un_outside::files::{StdSink, StdSource};
+use un_outside::outside::{Sink, Source};
 
 /// A reader and a writer whose calls answer in turn: so many bytes where they fit, or an error.
 #[derive(Drop)]

@@ -3,11 +3,11 @@
 use crate::rows::{all_answered, cut, number, number_at};
 use std::alloc::{AllocError, Global};
 use std::str::from_utf8;
-use un_base::memory::{MemSink, MemSource};
 use un_base::memory_error::NoMemory;
-use un_base::status::Status;
-use un_base::words::Word;
 use un_ir::text::{put_number, put_text};
+use un_outside::memory::{MemSink, MemSource};
+use un_outside::status::Status;
+use un_outside::words::Word;
 use un_top::run::run;
 
 /// Texts and the words of a run, behind `;` also how many bytes a call of the source or of `out` moves, how many bytes `out`

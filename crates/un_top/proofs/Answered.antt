@@ -7,10 +7,10 @@ use Rattle.std.specs.declared.result.Result.TheVariants.{Ok, Err}
 use Rattle.std.specs.Option.{IfSome}
 use Rattle.std.specs.Io.KnownBytes.{Appends}
 use Rattle.std.specs.Result.{IfErr, IfOk, OnErr, OnOk}
-use Rattle.un_base.specs.Causes.{AppendsPrefix}
-use Rattle.un_base.specs.declared.status.Status.{Status}
-use Rattle.un_base.specs.declared.status.Status.TheVariants.{Done, Infeasible, Spent, TextFault, Usage, ReadFault, WriteFault, NoMemory, No}
-use Rattle.un_base.specs.declared.status.Status.TheVariants.{BadReport}
+use Rattle.un_outside.specs.Causes.{AppendsPrefix}
+use Rattle.un_outside.specs.declared.status.Status.{Status}
+use Rattle.un_outside.specs.declared.status.Status.TheVariants.{Done, Infeasible, Spent, TextFault, Usage, ReadFault, WriteFault, NoMemory, No}
+use Rattle.un_outside.specs.declared.status.Status.TheVariants.{BadReport}
 use Rattle.un_ir.specs.declared.function.Function.{Function}
 use Rattle.un_reader.specs.Read.{IsRead, IsTextFault, too_long}
 use Rattle.un_faults.specs.declared.fault.Fault.TheVariants.{TooMany}

@@ -6,7 +6,7 @@ use Rattle.std.specs.Borrow.{Bor}
 use Rattle.std.specs.declared.option.Option.{Option}
 use Rattle.std.specs.Io.KnownBytes.{Appends}
 use Rattle.std.proofs.KnownBytes.{Appends-trans}
-use Rattle.un_base.specs.Causes.{AppendsPrefix}
+use Rattle.un_outside.specs.Causes.{AppendsPrefix}
 
 -- what the parts are
 abbrev pub texts_of : List (Bor (List ℕ)) → List (List ℕ)

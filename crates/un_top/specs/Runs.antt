@@ -4,10 +4,10 @@ use Rattle.std.specs.declared.option.Option.{Option}
 use Rattle.std.specs.List.{concat}
 use Rattle.std.specs.Fmt.{decimal}
 use Rattle.std.specs.Io.KnownBytes.{Appends}
-use Rattle.un_base.specs.Causes.{AppendsPrefix}
-use Rattle.un_base.specs.declared.status.Status.{Status}
-use Rattle.un_base.specs.declared.status.Status.TheVariants.{Done, Infeasible, Spent, TextFault, Usage, ReadFault, WriteFault, NoMemory, No}
-use Rattle.un_base.specs.declared.status.Status.TheVariants.{BadReport}
+use Rattle.un_outside.specs.Causes.{AppendsPrefix}
+use Rattle.un_outside.specs.declared.status.Status.{Status}
+use Rattle.un_outside.specs.declared.status.Status.TheVariants.{Done, Infeasible, Spent, TextFault, Usage, ReadFault, WriteFault, NoMemory, No}
+use Rattle.un_outside.specs.declared.status.Status.TheVariants.{BadReport}
 use Rattle.un_top.specs.Reports.{IsReportOf}
 
 -- what `out` holds after a run over this text: the report where it is done, a prefix of it after a fault of writing

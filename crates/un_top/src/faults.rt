@@ -3,13 +3,13 @@
 ghost use Rattle.std.specs.Prelude.{◌≡◌, ◌⊎◌, ◌++◌, ℕ, ◌<◌, ◌≤◌, ◌^◌, List, OnOk, OnErr, map};
 ghost use Rattle.std.specs.List.{concat};
 ghost use Rattle.std.specs.Io.KnownBytes.{Appends};
-ghost use Rattle.un_base.specs.Causes.{Rose, AppendsPrefix};
+ghost use Rattle.un_outside.specs.Causes.{Rose, AppendsPrefix};
 ghost use Rattle.un_top.specs.Runs.{fault_name, fault_line, numbered, line_of};
 
 use itoa::Buffer;
-use un_base::outside::{Failed, Sink};
-use un_base::status::Status;
-use un_base::transfer::write_all;
+use un_outside::outside::{Failed, Sink};
+use un_outside::status::Status;
+use un_outside::transfer::write_all;
 
 /// The name of a fault of a text, and none for another number.
 fn fault_name(code: u8) -> &'static [u8]

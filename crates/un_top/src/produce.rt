@@ -2,7 +2,7 @@
 
 ghost use Rattle.std.specs.Prelude.{◌≡◌, ℕ, ◌≤◌, Ok, Err, IfSome, IfOk, IfErr, length};
 ghost use Rattle.std.specs.Io.KnownBytes.{IsAtEnd};
-ghost use Rattle.un_base.specs.Causes.{Rose};
+ghost use Rattle.un_outside.specs.Causes.{Rose};
 ghost use Rattle.un_reader.specs.Read.{IsRead};
 ghost use Rattle.un_top.specs.Faults.{IsFault};
 ghost use Rattle.un_top.specs.Reports.{IsReportOf};
@@ -14,12 +14,12 @@ use crate::code::costed_code;
 use crate::words::check_words;
 use std::alloc::Global;
 use un_base::memory_error::NoMemory;
-use un_base::outside::Source;
-use un_base::status::Status;
-use un_base::transfer::{ReadAll, read_all};
-use un_base::words::Word;
 use un_ir::function::Function;
 use un_listing::report::print_first_report;
+use un_outside::outside::Source;
+use un_outside::status::Status;
+use un_outside::transfer::{ReadAll, read_all};
+use un_outside::words::Word;
 use un_reader::error::ReadError;
 use un_reader::limits::TEXT;
 use un_reader::read::read_function;

@@ -2,7 +2,7 @@
 
 ghost use Rattle.std.specs.Prelude.{◌≡◌, ℕ, ◌⊎◌, ◌<◌, ◌≤◌, Ok, Err, IfSome, IfOk, IfErr, OnOk, OnErr};
 ghost use Rattle.std.specs.Io.KnownBytes.{Appends, IsAtEnd};
-ghost use Rattle.un_base.specs.Causes.{Rose, AppendsPrefix};
+ghost use Rattle.un_outside.specs.Causes.{Rose, AppendsPrefix};
 ghost use Rattle.un_ir.specs.declared.function.Function.{Function};
 ghost use Rattle.un_reader.specs.Read.{IsRead};
 ghost use Rattle.un_top.specs.Faults.{IsFault};
@@ -12,10 +12,10 @@ ghost use Rattle.un_top.specs.Runs.{OutAfter, KeepsOut, AnswersFault, AnswersAcc
 use crate::faults::write_line;
 use crate::produce::produce;
 use std::alloc::Global;
-use un_base::outside::{Sink, Source};
-use un_base::status::Status;
-use un_base::transfer::write_all;
-use un_base::words::Word;
+use un_outside::outside::{Sink, Source};
+use un_outside::status::Status;
+use un_outside::transfer::write_all;
+use un_outside::words::Word;
 
 /// Writes the output, or hands the refusal on.
 fn finish<K: Sink>(outcome: Result<Vec<u8>, Status>, out: &mut K) -> Status

@@ -3,7 +3,7 @@
 ghost use Rattle.std.specs.Prelude.{◌≡◌, ℕ, ◌⊎◌, Ok, Err};
 ghost use Rattle.un_top.specs.Words.{IsCommand, IsBadWord};
 
-use un_base::words::Word;
+use un_outside::words::Word;
 
 /// Whether the words are `alloc` alone.
 ///

@@ -3,18 +3,18 @@
 
 ghost use Rattle.std.specs.Prelude.{◌≡◌, ℕ};
 ghost use Rattle.std.specs.Process.{exit_status};
-ghost use Rattle.un_base.specs.Statuses.{number_of};
+ghost use Rattle.un_outside.specs.Statuses.{number_of};
 ghost use Rattle.un_top.specs.Words.{IsBadWord};
 
 use std::alloc::Global;
 use std::env;
 use std::process::ExitCode;
 use std::rt::Env;
-use un_base::files::{StdSink, StdSource};
 use un_base::memory_error::NoMemory;
-use un_base::outside::{Sink, Source};
-use un_base::status::Status;
-use un_base::words::Word;
+use un_outside::files::{StdSink, StdSource};
+use un_outside::outside::{Sink, Source};
+use un_outside::status::Status;
+use un_outside::words::Word;
 use un_top::run::run;
 
 /// Appends a word of a command line.

@@ -1,6 +1,6 @@
 use Rattle.std.proofs.Common.{refl, ap, List}
 use Rattle.std.specs.Io.KnownBytes.{IsAtEnd}
-use Rattle.un_base.specs.declared.status.Status.TheVariants.{TextFault, Usage, ReadFault}
+use Rattle.un_outside.specs.declared.status.Status.TheVariants.{TextFault, Usage, ReadFault}
 use Rattle.un_top.proofs.Answered.{from_before, answers_fault, answers_accepted, out_after, kept_and_answered, when_done, status_of}
 use Rattle.un_top.proofs.Answered.{line_written, line_whole}
 use Rattle.un_top.proofs.run.run.Goals as goal

@@ -1,0 +1,74 @@
+//! How a run of the program ends.
+
+ghost use Rattle.std.specs.Prelude.{◌≡◌};
+ghost use Rattle.un_outside.specs.Statuses.{number_of};
+
+/// Why a report is not accepted.
+#[derive(Clone, Copy, PartialEq)]
+pub enum NoCause {
+    /// The report is on a function of another name.
+    Name,
+    /// The numbers are no solution, by the rule of this number, from 1.
+    Solution(u8),
+    /// The cost is not the solution's.
+    Cost,
+    /// The listing is not the solution's code.
+    Listing,
+    /// The tree's node at this place, from 0, is a branch that does not split its variable's values.
+    Strict(u32),
+    /// The tree's node at this place, from 0, is a branch or an open leaf whose box has no relaxed schedule.
+    Alive(u32),
+    /// The tree's node at this place, from 0, is a closed leaf that propagation does not refute.
+    Closed(u32),
+    /// The tree's list ends inside the tree, or goes on after it.
+    Short,
+    /// A leaf is open and the budget of nodes was not used, or the answer does not fit the leaves.
+    Spent,
+    /// The bound is not the tree's.
+    Bound,
+}
+
+/// How a run of the program ended.
+#[derive(Clone, Copy, PartialEq)]
+pub enum Status {
+    /// The output was written whole.
+    Done,
+    /// The function has no code under the options.
+    Infeasible,
+    /// No code was found within the budget of nodes.
+    Spent,
+    /// The function's text has a fault at this line, from 1. The line 0 stands for an input that is too long.
+    TextFault { line: u32, code: u8 },
+    /// The words of the command line are not in the grammar, at this place, from 0.
+    Usage { word: u32 },
+    /// The source has failed.
+    ReadFault,
+    /// The sink has failed.
+    WriteFault,
+    /// There was no memory.
+    NoMemory,
+    /// The report is not accepted.
+    No(NoCause),
+    /// The input's second part is not in its grammar, at this line of it, from 1.
+    BadReport { line: u32 },
+}
+
+impl Status {
+    /// The exit status of the program, 0 to 9 in the order of the variants.
+    pub fn number(&self) -> u8
+        ensures { result ≡ number_of self.now }
+    {
+        match self {
+            Status::Done => 0,
+            Status::Infeasible => 1,
+            Status::Spent => 2,
+            Status::TextFault { .. } => 3,
+            Status::Usage { .. } => 4,
+            Status::ReadFault => 5,
+            Status::WriteFault => 6,
+            Status::NoMemory => 7,
+            Status::No(_) => 8,
+            Status::BadReport { .. } => 9,
+        }
+    }
+}
