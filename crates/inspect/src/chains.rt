@@ -10,7 +10,6 @@ ghost use Rattle.un_prop.specs.Among.{among};
 ghost use Rattle.un_prop.specs.LastLaws.{Ascend};
 
 use crate::clock::{mean, now, put_time};
-use crate::request::Counts;
 use crate::runs::put_runs;
 use std::alloc::{AllocError, Global};
 use std::time::CpuClock;
@@ -198,11 +197,12 @@ pub fn put_scale(
     rt: &impl CpuClock,
     alloc: Global,
     out: &mut Vec<u8>,
-    counts: Counts,
+    links: Option<u32>,
+    marks: u32,
 ) -> Result<(), NoMemory> {
-    let links = counts.first.unwrap_or(LINKS).min(MOST);
+    let links = links.unwrap_or(LINKS).min(MOST);
     let chains = links / CHAIN + 1;
-    put_store(rt, alloc, out, (CHAIN + 1) * chains, counts.second)?;
+    put_store(rt, alloc, out, (CHAIN + 1) * chains, marks)?;
     let props = all_links(alloc, links)?;
     put_chains(rt, alloc, out, props.as_slice(), chains)
 }

@@ -3,22 +3,15 @@
 //! `alloc` and of a search take. It reads standard input; the first word says which part, options of the model or counts may follow.
 #![tactic(auto)]
 
-mod arcs;
 mod chains;
 mod clock;
-mod domains;
-mod emission;
-mod input;
 mod node;
 mod part;
 mod request;
 mod rounds;
 mod runs;
 mod shown;
-mod solution;
-mod text;
 mod times;
-mod variables;
 
 use crate::request::asked_for;
 use crate::shown::put_asked;

@@ -3,13 +3,13 @@
 ghost use Rattle.std.specs.Prelude.{◌≡◌, All, IfOk, IfSome, OnOk};
 ghost use Rattle.inspect.specs.Nodes.{IsOn};
 
-use crate::input::{small_number, words};
 use std::alloc::Global;
 use un_base::decimal::read_decimal;
 use un_base::ids::VarId;
 use un_base::lines::lines;
 use un_outside::status::Status;
 use un_prop::side::Side;
+use un_shown::input::{small_number, words};
 
 /// A decision on a variable: it is at most a value, or above it.
 #[derive(Clone, Copy)]

@@ -6,15 +6,10 @@ ghost use Rattle.un_model.specs.Options.{AreOptions};
 ghost use Rattle.un_model.specs.Variables.{IsModel};
 ghost use Rattle.un_problem.specs.Problems.{IsModelOf, default_options};
 
-use crate::arcs::put_all_arcs;
-use crate::emission::put_emitted;
-use crate::input::Parts;
 use crate::node::node_of;
 use crate::request::{Part, Request, Shown};
 use crate::rounds::put_rounds;
-use crate::solution::{put_values, put_verdict, solution_of};
 use crate::times::put_timed;
-use crate::variables::put_variables;
 use std::alloc::Global;
 use std::time::CpuClock;
 use un_base::memory_error::NoMemory;
@@ -27,6 +22,11 @@ use un_outside::status::Status;
 use un_parts::extended::extended_text;
 use un_parts::live::live_text;
 use un_problem::problem::{default_options, extended, model};
+use un_shown::arcs::put_all_arcs;
+use un_shown::emission::put_emitted;
+use un_shown::input::Parts;
+use un_shown::solution::{put_values, put_verdict, solution_of};
+use un_shown::variables::put_variables;
 
 /// What a call answered, with the status for want of memory.
 fn told(answer: Result<(), NoMemory>) -> Result<(), Status> {

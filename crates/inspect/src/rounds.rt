@@ -11,10 +11,8 @@ ghost use Rattle.un_model.specs.Variables.{IsModel};
 ghost use Rattle.un_post.specs.Posts.{ReadsFrom, SpansAtMost};
 ghost use Rattle.un_prop.specs.Sides.{side_test};
 
-use crate::domains::put_values;
 use crate::node::{Decision, Node};
 use crate::runs::settle;
-use crate::text::put_between;
 use std::alloc::{AllocError, Global};
 use un_base::ids::VarId;
 use un_base::memory_error::NoMemory;
@@ -26,6 +24,8 @@ use un_model::model::Model;
 use un_post::post::{Posted, post};
 use un_prop::propagator::Scratch;
 use un_prop::side::Side;
+use un_shown::domains::put_values;
+use un_shown::text::put_between;
 
 /// Cuts a store to one side of a decision.
 fn cut_to(store: &mut Store, decision: &Decision) -> Cut

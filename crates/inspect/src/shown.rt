@@ -3,7 +3,6 @@
 ghost use Rattle.un_model.specs.Options.{AreOptions};
 
 use crate::chains::put_scale;
-use crate::input::{Parts, split_input};
 use crate::part::put_part;
 use crate::request::{Part, Request, Shown};
 use std::alloc::Global;
@@ -15,6 +14,7 @@ use un_outside::transfer::{ReadAll, read_all};
 use un_reader::error::ReadError;
 use un_reader::limits::TEXT;
 use un_reader::read::read_function;
+use un_shown::input::{Parts, split_input};
 
 /// How many bytes an input of two parts may have.
 const INPUT: usize = 16_777_216;
@@ -112,7 +112,7 @@ pub fn put_asked<S: Source>(
     requires { AreOptions asked.now.options }
 {
     match asked.part {
-        Part::Chains => match put_scale(rt, alloc, out, asked.counts) {
+        Part::Chains => match put_scale(rt, alloc, out, asked.counts.first, asked.counts.second) {
             Ok(()) => Ok(()),
             Err(_) => Err(Status::NoMemory),
         },

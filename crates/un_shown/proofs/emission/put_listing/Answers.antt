@@ -2,7 +2,7 @@ use Rattle.std.proofs.Common.{sym, subst}
 use Rattle.un_isa.specs.Hexagon.{HEXAGON}
 use Rattle.un_model.specs.Options.{AreOptions}
 use Rattle.un_problem.proofs.ProblemLaws.{of_function, fit_table, options_are, own_model}
-use Rattle.inspect.proofs.emission.put_listing.Goals as goal
+use Rattle.un_shown.proofs.emission.put_listing.Goals as goal
 
 pub emit-requires : goal.emit-requires
 emit-requires c =
