@@ -78,7 +78,7 @@ fn padded(text: &[u8]) -> [u8; NAME_BYTES]
     requires { length text.now ≤ NAME_BYTES }
     ensures { result ≡ text.now ++ replicate (NAME_BYTES - length text.now) 0 }
 {
-    let mut bytes = [0; 32];
+    let mut bytes = [0; NAME_BYTES];
     for (i, b) in text.iter().enumerate() {
         bytes[i] = *b;
     }
