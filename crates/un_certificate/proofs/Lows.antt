@@ -1,0 +1,87 @@
+-- What is below the least costs of the open leaves' boxes is below each solution in them.
+use Rattle.std.proofs.Common.{ℕ, zero, suc, ◌≡◌, ◌<◌, ◌≤◌, ◌+◌, ◌⊎◌, List, [], ◌∷◌, Some, max, inl, inr, refl, sym, ap, subst, arith}
+use Rattle.std.specs.declared.option.Option.{Option}
+use Rattle.std.proofs.lemmas.List.Elements.{recursion_from_All, All-from_recursion}
+use Rattle.std.specs.List.{AllByRecursion}
+use Rattle.std.proofs.lemmas.Bool.{cases_lt}
+use Rattle.un_base.specs.declared.ids.VarId.{VarId}
+use Rattle.un_domains.specs.Sets.{Sets, IsIn}
+use Rattle.un_ir.specs.Extended.{IsExtended}
+use Rattle.un_isa.specs.Fit.{IsFit}
+use Rattle.un_model.specs.declared.model.Model.{Model}
+use Rattle.un_model.specs.declared.model.Solution.{Solution}
+use Rattle.un_model.specs.Cost.{cost_of}
+use Rattle.un_model.specs.Options.{AreOptions}
+use Rattle.un_model.specs.Solutions.{IsSolution}
+use Rattle.un_model.specs.Variables.{IsModel}
+use Rattle.un_bound.specs.Relaxations.{Times, times_cost, IsMember, IsLeast}
+use Rattle.un_bound.proofs.Members.{known_box, solution_member}
+use Rattle.un_bound.proofs.Plains.{plain_below}
+use Rattle.un_post.proofs.Exact.{of_domains}
+use Rattle.un_tree.proofs.CoverLaws.{covered}
+use Rattle.un_tree.specs.Covered.{InOpen, IsOpenAt, Stands}
+use Rattle.un_tree.specs.Waits.{Waiting, Whole, Visit, IsStrict, visits_of}
+use Rattle.un_tree.specs.declared.node.Node.{Node}
+use Rattle.un_tree.specs.declared.node.Node.TheVariants.{Branch, Closed, Open}
+use Rattle.un_certificate.specs.Bounds.{IsBound}
+use Rattle.un_certificate.specs.Certificates.{IsOpenLeast, IsMade, IsBelow, IsCertificate, root_of}
+
+-- a number below the least cost of the members, where there is one, is below each member's cost
+module _ (m : Model) (b : Sets) (low : ℕ) (below : (l : ℕ) → IsLeast m b l → low ≤ l) where
+  by_cost : (n : ℕ) (times : List Times) → IsMember m b times → times_cost m.ext.blocks times < n → low ≤ times_cost m.ext.blocks times
+  by_cost zero times is lt = absurd (omega (arith, lt))
+  by_cost (suc n) times is lt = elim (cases_lt (times_cost m.ext.blocks times) low) [
+    | inr ge ↦ ge
+    | inl less ↦ below (times_cost m.ext.blocks times) (record {
+        reached = (times, is, refl);
+        least = λ other o. elim (cases_lt (times_cost m.ext.blocks other) (times_cost m.ext.blocks times)) [
+          | inr ge ↦ ge
+          | inl cheaper ↦ (let h = by_cost n other o (omega (arith, cheaper, lt)) in absurd (omega (arith, h, cheaper, less)))
+        ];
+      })
+  ]
+
+  pub member_above : (times : List Times) → IsMember m b times → low ≤ times_cost m.ext.blocks times
+  member_above times is = by_cost (suc (times_cost m.ext.blocks times)) times is (omega arith)
+
+module _ (m : Model) (x : Solution) (low : ℕ) (own : IsModel m) (extended : IsExtended m.ext) (fit : IsFit m.ext.table)
+    (options : AreOptions m.options) (is : IsSolution m x) where
+  open_above : (node : Node) (w : Waiting) → ((l : ℕ) → IsOpenLeast m node w l → low ≤ l) → IsOpenAt x.values node w → low ≤ cost_of m x
+  open_above (Branch v y) w below h = absurd h
+  open_above Closed w below h = absurd h
+  open_above Open (Whole b) below h =
+      let t = solution_member m x b own extended fit options is h in
+      subst (λ (n : ℕ). low ≤ n) t.2 (member_above m b low below t.0 t.1)
+
+  -- a solution in an open leaf's box costs no less than the lowest of the open leaves
+  pub solution_above : (ps : List Visit) → AllByRecursion (λ (p : Visit). (l : ℕ) → IsOpenLeast m p.node p.waiting l → low ≤ l) ps
+      → InOpen x.values ps → low ≤ cost_of m x
+  solution_above [] all h = absurd h
+  solution_above (p ∷ ps) all (inl here) = open_above p.node p.waiting all.0 here
+  solution_above (p ∷ ps) all (inr later) = solution_above ps all.1 later
+
+strict_each : (m : Model) (limit : Option ℕ) (ps : List Visit) → AllByRecursion (IsMade m limit) ps → AllByRecursion IsStrict ps
+strict_each m limit [] all = tt
+strict_each m limit (p ∷ ps) all = (all.0.strict, strict_each m limit ps all.1)
+
+-- values that are a solution below the limit are in the box of an open leaf
+pub below_open : (m : Model) (limit : Option ℕ) (nodes : List Node) → IsModel m → IsCertificate m limit nodes → (x : List ℕ)
+    → IsBelow m limit x → InOpen x (visits_of (root_of m) nodes)
+below_open m limit nodes own c x is =
+    covered (IsBelow m limit) x is 0 nodes (Whole (root_of m) ∷ []) c.whole
+    (strict_each m limit _ (recursion_from_All (IsMade m limit) (visits_of (root_of m) nodes) c.made))
+    (recursion_from_All (Stands (IsBelow m limit)) (visits_of (root_of m) nodes) c.stands)
+    (inl ((of_domains m.domains (root_of m) x refl).1 is.0.in_domains))
+
+-- no solution costs less than the bound
+pub bound_below : (m : Model) (c : ℕ) (nodes : List Node) → IsModel m → IsExtended m.ext → IsFit m.ext.table → AreOptions m.options
+    → IsCertificate m (Some c) nodes → (n : ℕ) → IsBound m c (visits_of (root_of m) nodes) n → (x : Solution) → IsSolution m x → n ≤ cost_of m x
+bound_below m c nodes own extended fit options is n bound x solution =
+    let plain = plain_below m x bound.plain own extended fit options solution bound.is_plain in
+    let low : bound.low ≤ cost_of m x = elim (cases_lt (cost_of m x) c) [
+      | inr ge ↦ (let w = bound.is_lowest.within in omega (arith, w, ge))
+      | inl less ↦ solution_above m x bound.low own extended fit options solution (visits_of (root_of m) nodes)
+          (recursion_from_All _ (visits_of (root_of m) nodes) bound.is_lowest.below)
+          (below_open m (Some c) nodes own is x.values (solution, less))
+    ] in
+    let e = bound.greatest in omega (arith, plain, low, e)
