@@ -20,7 +20,8 @@ use Rattle.un_ir.specs.declared.extended.ExtKind.TheVariants.{In, Out, End}
 use Rattle.un_ir.specs.declared.extended.Operand.{Operand}
 use Rattle.un_ir.specs.declared.extended.ExtOp.{ExtOp}
 use Rattle.un_ir.specs.declared.extended.ExtBlock.{ExtBlock}
-use Rattle.un_model.specs.Congruences.{IsCongruent, HandsOn, HandsOver, KeepsCongruences, place_over}
+use Rattle.un_ir.specs.Linear.{place_over}
+use Rattle.un_model.specs.Congruences.{IsCongruent, HandsOn, HandsOver, KeepsCongruences}
 use Rattle.un_domains.specs.declared.domain.Domain.TheVariants.{Range, Set}
 use Rattle.un_model.specs.Schedules.{is_zero, last_read}
 use Rattle.un_model.specs.Solutions.{Precedes, InDomain, KeepsZeros, KeepsChoices, KeepsSpaces, KeepsLatencies, latency_gap}

@@ -26,7 +26,8 @@ use Rattle.un_model.specs.declared.model.Options.{Options}
 use Rattle.un_model.specs.Emission.{frame_bytes, largest_slot, frame_of, instr_if, instr_by, operand_registers, result_register}
 use Rattle.un_model.specs.Cost.{value_of}
 use Rattle.un_model.specs.Instructions.{instruction_of, frame_instr}
-use Rattle.un_model.specs.Schedules.{is_frame_op, is_delimiter, value_by, instr_of, issues_of}
+use Rattle.un_ir.specs.Kinds.{is_frame_op, is_delimiter}
+use Rattle.un_model.specs.Schedules.{value_by, instr_of, issues_of}
 use Rattle.un_model.specs.declared.schedule.Issue.{Issue}
 use Rattle.un_model.specs.Solutions.{frame_distance, HasFrame, is_frame_access, starts_in_slot}
 use Rattle.un_model.specs.Variables.{model_of}

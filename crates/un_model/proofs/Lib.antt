@@ -15,3 +15,4 @@ pub mod TempKinds
 pub mod Readings
 pub mod ArcsKept
 pub mod EndLaws
+pub mod Gaps

@@ -16,10 +16,11 @@ use Rattle.un_model.specs.declared.schedule.Issue.{Issue}
 use Rattle.un_model.specs.Cost.{value_of}
 use Rattle.un_model.specs.Instructions.{instruction_of}
 use Rattle.un_model.specs.Pairs.{joined}
-use Rattle.un_model.specs.Schedules.{issues_of, schedule_of, value_by, is_delimiter, is_frame_op}
+use Rattle.un_ir.specs.Kinds.{is_delimiter, is_frame_op, is_optional}
+use Rattle.un_model.specs.Schedules.{issues_of, schedule_of, value_by}
 use Rattle.un_model.specs.Solutions.{KeepsFrame, KeepsFrameOrder, HasFrame, Precedes, frame_distance, uses_frame, is_frame_access}
 use Rattle.un_model.specs.Solutions.{starts_in_slot}
-use Rattle.un_model.specs.Variables.{model_of, is_optional, var_if}
+use Rattle.un_model.specs.Variables.{model_of, var_if}
 use Rattle.un_model.proofs.Lists.{Each, Member, each_of, each_member, any_of, member_filter, member_of_filter, member_map, member_map_of}
 use Rattle.un_model.proofs.Lists.{member_at}
 use Rattle.un_model.proofs.OpDomains.{flag_sits}
