@@ -32,7 +32,7 @@ use Rattle.un_model.specs.ArcLaws.{arc_told, arcs_rise}
 use Rattle.un_model.proofs.Gaps.{gap_short}
 use Rattle.un_model.specs.Instructions.{instruction_of, is_transfer}
 use Rattle.un_model.specs.Pairs.{places_from}
-use Rattle.un_model.specs.Solutions.{memory_distance, after_load, after_write}
+use Rattle.un_model.specs.Solutions.{latency_gap, memory_distance, after_load, after_write}
 use Rattle.un_model.specs.Variables.{IsModel, arcs_of, register_place, var_count, block_count, op_temps, ops_temps, blocks_temps, temp_of}
 use Rattle.un_bound.specs.Arcs.{MayLead, MayWait, LeadsOn, LeadOn, IsBefore, AllLeadOn, HasFewOps, IsOrderly}
 

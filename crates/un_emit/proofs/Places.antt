@@ -549,7 +549,7 @@ module _ (e : Ext) (o : Options) (values : List ℕ) (h : Solved e o values) whe
       let s = h.schedule in
       let fr = s.frame in
       let used = fr.used in
-      let flag = used.1 (slot_used x a le) in
+      let flag = used (slot_used x a le) in
       let m = holds_slot (the_ranges e o values) 0 (range_at e o values x)
       (member_at (the_ranges e o values) x (range_at e o values x) (range_in e o values h x a)) a le in
       let f : frame_of (model_of e o) values ≡ frame_bytes (largest_slot (the_ranges e o values)) =

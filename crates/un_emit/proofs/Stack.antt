@@ -457,7 +457,7 @@ module _ (e : Ext) (o : Options) (values : List ℕ) (h : Solved e o values) (k 
             (member_map (issue_at values) (all e o values) p all') in
             let y = any_true (λ (i : Issue). is_frame_access i.instr) (issues_of (model_of e o) values) (issue_at values p) mem
             (ap is_frame_access i ∙ q) in
-            used.1 (ap (λ (b : Bool). b || list_any starts_in_slot (the_ranges e o values)) y)
+            used (ap (λ (b : Bool). b || list_any starts_in_slot (the_ranges e o values)) y)
 
         by_access : (op : Op) → j.instr.op ≡ op → is_frame_access (Some op) ≡ true → frame_distance (Some op) (Some LeaveOp) ≡ Some 0
             → frame_distance (Some EnterOp) (Some op) ≡ Some 1 → stack_of base c ≡ base

@@ -11,7 +11,7 @@ ghost use Rattle.un_model.specs.Emission.{nop, or_nop, instrs_in};
 ghost use Rattle.un_model.specs.Schedules.{block_issues, issues_of};
 
 use crate::instructions::emitted;
-use crate::registers::value;
+use un_model::cost::value;
 use std::alloc::{AllocError, Global};
 use un_base::memory_error::NoMemory;
 use un_ir::extended::ExtBlock;

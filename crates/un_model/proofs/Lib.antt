@@ -16,3 +16,4 @@ pub mod Readings
 pub mod ArcsKept
 pub mod EndLaws
 pub mod Gaps
+mod ArcLists

@@ -1,6 +1,6 @@
 -- The precedences among the operations that every solution issues: a block's start and its end, the operations of the source
 -- and the terminator. Copies only lengthen the way from a definer to a reader.
-use Rattle.std.specs.Prelude.{ℕ, ◌≡◌, ◌+◌, ◌<◌, ◌≤◌, ◌⊎◌, ◌==◌, ◌&&◌, Bool, true, false, if◌then◌else◌, List, [], ◌∷◌, Option, Some, None}
+use Rattle.std.specs.Prelude.{ℕ, zero, suc, ◌≡◌, ◌+◌, ◌<◌, ◌≤◌, ◌⊎◌, ◌==◌, ◌&&◌, Bool, true, false, if◌then◌else◌, List, [], ◌∷◌, Option, Some, None}
 use Rattle.std.specs.Prelude.{map, max, take, length, slice_get}
 use Rattle.std.specs.List.{list_any}
 use Rattle.std.specs.Option.{option_to_list, option_map_or}
@@ -106,6 +106,12 @@ pub record IsArcOf (t : Table) (temps : List TempVars) (n : ℕ) (ops : List Ext
   pub numbers : (a.from.0 ≡ n + earlier) × (a.to.0 ≡ n + later)
   pub mandatory : (is_mandatory from.kind ≡ true) × (is_mandatory to.kind ≡ true)
   pub gap : IsLargest t (reads_from temps a.from.0 to) from to a.gap
+
+-- the number of the first operation of block b
+abbrev pub first_number : List ExtBlock → ℕ → ℕ
+first_number [] b = 0
+first_number (block ∷ blocks) zero = 0
+first_number (block ∷ blocks) (suc b) = length block.ops + first_number blocks b
 
 -- by rising `to` and then rising `from`
 abbrev pub RisesTo : Arc → Arc → Type 0

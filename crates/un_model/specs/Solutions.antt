@@ -241,7 +241,8 @@ abbrev pub KeepsFrameOrder : List Issue → Type 0
 KeepsFrameOrder issues = All (λ (i : Issue). All (Precedes frame_distance i) issues) issues
 
 pub record KeepsFrame (flag : ℕ) (t : Schedule) : Type 0 where
-  pub used : (flag ≡ 1) ↔ (uses_frame t ≡ true)
+  pub used : uses_frame t ≡ true → flag ≡ 1
+  pub needed : flag ≡ 1 → uses_frame t ≡ true
   pub without : flag ≡ 0 → All (HasFrame false) t.issues
   pub with_frame : flag ≡ 1 → All (HasFrame true) t.issues
   pub ordered : flag ≡ 1 → KeepsFrameOrder t.issues

@@ -16,7 +16,7 @@ ghost use Rattle.un_model.specs.Variables.{block_domains, blocks_domains, own_ho
 use crate::arcs::arcs;
 use crate::homes::homes;
 use crate::model::{BlockVars, Model, OpVars, Options, TempVars};
-use crate::registers::{Scope, carried, domain, is_truth, saved};
+use crate::registers::{Scope, carried, domain, is_truth};
 use std::alloc::Global;
 use un_base::ids::{OpId, TempId, VarId};
 use un_base::memory_error::NoMemory;
@@ -24,6 +24,7 @@ use un_base::numbers::{advance, number};
 use un_domains::domain::Domain;
 use un_ir::extended::{Ext, ExtBlock, ExtKind, ExtOp, Operand, RELOAD, TO_PREDICATE};
 use un_isa::reg::SLOTS;
+use un_isa::reg_set::saved_registers;
 use un_lists::items::Items;
 
 /// The instructions of a copy of a truth value, or of another.
@@ -296,7 +297,7 @@ fn add_blocks(
     ensures temps { OnOk result (temps.new ≡ temps.old ++ blocks_temps 0 (length domains.old) e.now.blocks) }
     ensures vars { IfOk result (λ vars. vars ≡ blocks_vars (length domains.old) e.now.blocks) }
 {
-    let saved = saved(alloc, &e.table)?;
+    let saved = saved_registers(alloc, &e.table)?;
     let mut vars = Items::new(alloc);
     let mut n = 0;
     for k in 0..e.blocks.len() {

@@ -100,7 +100,7 @@ pub(crate) fn chosen(alts: &Items<TempId>, c: u32) -> TempId
 }
 
 /// The temporary that the operand at place `j` chooses.
-fn choice(values: &[u32], vars: &OpVars, j: usize, operand: &Operand) -> TempId
+pub fn choice(values: &[u32], vars: &OpVars, j: usize, operand: &Operand) -> TempId
     ensures { result ≡ choice_of values.now vars.now j operand.now }
 {
     let var = vars.choices.as_slice().get(j).copied();

@@ -13,7 +13,6 @@ use std::alloc::{AllocError, Global};
 use un_base::memory_error::NoMemory;
 use un_base::numbers::{advance, number};
 use un_ir::extended::{ExtBlock, ExtKind};
-use un_ir::function::Term;
 use un_isa::table::{Needs, Table};
 use un_kinds::make_rect::make_per_cycle;
 use un_kinds::props::Props;

@@ -12,11 +12,11 @@ ghost use Rattle.un_sites.specs.Postings.{leave_of, leaves_in, single_use, uses_
 ghost use Rattle.un_sites.specs.Sites.{place_of, definers_in};
 
 use std::alloc::{AllocError, Global};
-use un_alt::frame::{FrameLeave, FrameOp, FrameUse, RELOAD, SPILL};
+use un_alt::frame::{FrameLeave, FrameOp, FrameUse};
 use un_base::ids::VarId;
 use un_base::memory_error::NoMemory;
 use un_base::numbers::{advance, number};
-use un_ir::extended::{ExtBlock, ExtKind};
+use un_ir::extended::{ExtBlock, RELOAD, SPILL};
 use un_kinds::make_alt::{FrameFields, make_frame};
 use un_kinds::props::Props;
 use un_lists::items::Items;

@@ -10,7 +10,7 @@ use un_domains::domain::Domain;
 use un_isa::op::Op;
 use un_isa::reg::{Reg, Space, space_of};
 use un_isa::table::Table;
-use un_model::instructions::{is_transfer, gap, space_given, space_read};
+use un_model::instructions::{gap, is_transfer, space_given, space_read};
 use un_model::schedule::{Issue, LiveRange, Read};
 
 /// Whether a value is in a domain.
