@@ -213,7 +213,8 @@ module _ (e : Ext) (fit : IsFit e.table) (block : ExtBlock) (good : IsGoodExtBlo
   temps = blocks_temps 0 0 e.blocks
 
   short : (reads : Bool) (from to : ExtOp) (g : ℕ) → NeedsGap e.table reads from to g → g < 2 ^ 8
-  short reads from to g (ByData d) = omega (arith, gap_short e.table fit (own_instr from) (own_instr to), (data_told e.table reads from to g d).1)
+  short reads from to g (ByData d) =
+      omega (arith, gap_short e.table fit (own_instr from) (own_instr to), (data_told e.table reads from to g d).1)
   short reads from to g (ByMemory d) = omega (arith, memory_short (own_instr from) (own_instr to) g d)
 
   leads : (k : ℕ) (from to : ExtOp) (g : ℕ) → slice_get block.ops k ≡ Some from

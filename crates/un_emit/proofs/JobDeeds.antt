@@ -55,7 +55,8 @@ use Rattle.un_model.proofs.PlacedSchedules.{all, spots, range_at, spot_range, ra
 use Rattle.un_model.proofs.Operations.{contains_member}
 use Rattle.un_model.proofs.TempKinds.{kind_at, kind_or, carried_at, own_kind, same_kind, carried_is}
 use Rattle.un_model.proofs.OpDomains.{register_sits, in_entry}
-use Rattle.un_model.proofs.Readings.{Solved, numbered, fit_kinds, placed_good, placed_domains, Reading, reading, register_is, waited_latency}
+use Rattle.un_model.proofs.Readings.{Solved, numbered, fit_kinds, placed_good, placed_domains, Reading, reading, register_is}
+use Rattle.un_model.proofs.Readings.{waited_latency}
 use Rattle.un_emit.proofs.Jobs.{given_temp, job_with}
 
 -- ---- spaces

@@ -32,7 +32,10 @@ fn copy_instructions(truth: bool) -> Domain
     ensures { result ≡ copy_domain truth }
 {
     if truth {
-        Domain::Range { lo: 0, hi: TO_PREDICATE }
+        Domain::Range {
+            lo: 0,
+            hi: TO_PREDICATE,
+        }
     } else {
         Domain::Range { lo: 0, hi: RELOAD }
     }

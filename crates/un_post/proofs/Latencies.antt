@@ -272,11 +272,12 @@ module _ (e : Ext) (o : Options) (x : List ℕ) (given : Given e o x) where
             let here : slice_get ds (slice_index x v.0) ≡ Some d =
             ap (λ (w : Option VarId). slice_get ds (chosen_place w x)) (sym (choice_var e o x given q j operand at c))
             ∙ read_definer e o x given q j operand r in
-            let gap : is_late (at_value user x) x (read_alt e.table (place_of q) d) ≡ nat_le (at_value (time_of d.place) x + waited q r.spot)
-            (at_value user x) =
+            let gap : is_late (at_value user x) x (read_alt e.table (place_of q) d) ≡ nat_le
+            (at_value (time_of d.place) x + waited q r.spot) (at_value user x) =
             passes_get (λ (g : ℕ). nat_le (at_value (time_of d.place) x + g) (at_value user x)) (gaps_of e.table (place_of q) d)
             (act_number (act_of d.place) x) (waited q r.spot)
-            (numbers e o x given (λ (i : Option Op). latency_gap e.table i (own_instr q.op)) r.spot.definer (definer_is e o x given r.spot r.member).0) in
+            (numbers e o x given (λ (i : Option Op). latency_gap e.table i (own_instr q.op)) r.spot.definer
+            (definer_is e o x given r.spot r.member).0) in
             let passes : passes_at (is_late (at_value user x) x) reads (slice_index x v.0) ≡ nat_le (h.from + waited q r.spot)
             (issue_at x q).cycle =
             passes_get (is_late (at_value user x) x) reads (slice_index x v.0) (read_alt e.table (place_of q) d)
@@ -309,8 +310,10 @@ module _ (e : Ext) (o : Options) (x : List ℕ) (given : Given e o x) where
             let own = lone_value e o x given q j operand r c in
             let fixed = value_kind e o x given r.spot r.member own in
             let first : slice_get (gaps_of e.table (place_of q) d) 1 ≡ Some (waited q r.spot) =
-            ap (λ (b : Bool). slice_get (gaps_of e.table (place_of q) d) (act_number (act_by (var_if b r.spot.definer.first)) x)) (sym fixed)
-            ∙ numbers e o x given (λ (i : Option Op). latency_gap e.table i (own_instr q.op)) r.spot.definer (definer_is e o x given r.spot r.member).0 in
+            ap (λ (b : Bool). slice_get (gaps_of e.table (place_of q) d) (act_number (act_by (var_if b r.spot.definer.first)) x))
+            (sym fixed)
+            ∙ numbers e o x given (λ (i : Option Op). latency_gap e.table i (own_instr q.op)) r.spot.definer
+            (definer_is e o x given r.spot r.member).0 in
             let gap : slice_index (gaps_of e.table (place_of q) d) 1 ≡ waited q r.spot =
             index_get (gaps_of e.table (place_of q) d) 1 (waited q r.spot) first in
             let on : is_active (act_of d.place) x ≡ true = definer_acts e o x given r.spot r.member

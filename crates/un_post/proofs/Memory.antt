@@ -245,7 +245,8 @@ module _ (e : Ext) (o : Options) (x : List ℕ) (given : Given e o x) where
           let reads = reads_from temps p.number q.op in
           let some = some_larger (data_gap e.table reads p.op q.op) n in
           let largest : largest_gap e.table reads p.op q.op ≡ Some some.0 =
-          ap (λ (b : Bool). if b && is_mandatory q.op.kind then larger (data_gap e.table reads p.op q.op) (memory_gap p.op q.op) else None) op.0
+          ap (λ (b : Bool). if b && is_mandatory q.op.kind then larger (data_gap e.table reads p.op q.op) (memory_gap p.op q.op) else None)
+          op.0
           ∙ ap (λ (b : Bool). if b then larger (data_gap e.table reads p.op q.op) (memory_gap p.op q.op) else None) oq.0
           ∙ ap (larger (data_gap e.table reads p.op q.op)) gap ∙ some.1 in
           let told = gap_told e.table reads p.op q.op some.0 largest in
