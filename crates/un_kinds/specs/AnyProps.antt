@@ -61,6 +61,7 @@ use Rattle.un_slots.specs.contracts.per_cycle.PerCyclePredicate.TheImpl.Laws as 
 use Rattle.un_slots.specs.contracts.per_cycle.PerCyclePropagator.TheImpl.Laws as per_cycle_laws
 use Rattle.un_kinds.specs.Constraints as constraint
 use Rattle.un_kinds.specs.Constraints.{Constraint, meets}
+use Rattle.un_kinds.specs.Cuts.{cut_with}
 use Rattle.un_kinds.specs.declared.any.AnyProp.{AnyProp}
 use Rattle.un_kinds.specs.declared.any.AnyProp.TheVariants.{Before, Reads, Inside, Last, Below, Chosen, Zeros, Spaces, Same, Home}
 use Rattle.un_kinds.specs.declared.any.AnyProp.TheVariants.{Frame, Apart, Clobber, Operands, PerCycle}
@@ -107,37 +108,7 @@ holds_of p x = meets (constraint_of p) x
 
 -- the sets that it leaves, or none where it fails
 abbrev pub cut_of : AnyProp → Sets → Option Sets
-cut_of (Before p) s = option_and_then
-    (last_cut p.vars (before_holds p.a p.a_on p.b p.b_on p.gap))
-    (before_steps p.vars p.a p.a_on p.b p.b_on p.gap s)
-cut_of (Reads p) s = option_and_then
-    (last_cut p.vars (reads_holds p.user p.user_on p.choice p.alts))
-    (reads_steps p.user p.user_on p.choice p.alts s)
-cut_of (Inside p) s = option_and_then (last_cut p.vars (inside_holds p.at p.on p.end)) (inside_steps p.vars p.at p.on p.end s)
-cut_of (Last p) s = option_and_then (last_cut p.vars (last_holds p.at p.end)) (last_steps p.vars p.at p.end s)
-cut_of (Below p) s = option_and_then (last_cut p.vars (below_holds p.ends p.limit)) (below_steps p.vars p.ends p.limit s)
-cut_of (Chosen p) s = option_and_then
-    (last_cut p.vars (chosen_holds p.user p.choice p.alts))
-    (choice_cut p.user (Some p.choice) (chosen_can p.alts) (places_in p.alts) s)
-cut_of (Zeros p) s = last_cut p.vars (zeros_holds p.instr p.others) s
-cut_of (Spaces p) s = option_and_then
-    (last_cut p.vars (spaces_holds p.on p.choice p.regs p.sets))
-    (choice_cut p.on p.choice (spaces_can p.on p.regs p.sets) (places_in p.regs) s)
-cut_of (Same p) s = option_and_then
-    (last_cut p.vars (same_holds p.choice p.regs p.to))
-    (choice_cut Always (Some p.choice) (same_can p.regs p.to) (places_in p.regs) s)
-cut_of (Home p) s = option_and_then
-    (last_cut p.vars (home_holds p.choice p.regs p.home.0))
-    (choice_cut Always p.choice (home_can p.regs p.home.0) (places_in p.regs) s)
-cut_of (Frame p) s = last_cut p.vars (frame_holds p.flag p.touch p.ins p.enter p.entry p.leaves) s
-cut_of (Apart p) s = apart_cut p.vars p.temps s
-cut_of (Clobber p) s = clobber_cut p.vars p.mask p.temp p.calls s
-cut_of (Operands p) s = option_and_then
-    (last_cut p.vars (operands_holds (side p.first p.first_regs p.first_set) (side p.second p.second_regs p.second_set)))
-    (operands_steps (side p.first p.first_regs p.first_set) (side p.second p.second_regs p.second_set) s)
-cut_of (PerCycle p) s = option_and_then
-    (last_cut p.vars (per_cycle_holds p.items p.horizon))
-    (per_cycle_steps p.vars p.items p.horizon s)
+cut_of p s = cut_with (constraint_of p) (scope_of p) s
 
 -- the parts that are all met where it holds
 abbrev pub parts_of : AnyProp → List Part
