@@ -1,32 +1,28 @@
 -- A propagator of any kind: what it asks for, and its members, which are those of its kind.
-use Rattle.std.specs.Prelude.{ℕ, ◌≡◌, Bool, true, List, length, Some, Contains, option_and_then}
+use Rattle.std.specs.Prelude.{ℕ, ◌≡◌, Bool, true, List, length, Some, Contains}
 use Rattle.std.specs.declared.option.Option.{Option}
 use Rattle.un_base.specs.declared.ids.VarId.{VarId}
 use Rattle.un_domains.specs.Sets.{Sets, IsIn, NoneEmpty, Kept}
+use Rattle.un_prop.specs.Among.{AllAmong}
 use Rattle.un_prop.specs.Lawful.{Lawful}
 use Rattle.un_prop.specs.Looks.{InWords}
 use Rattle.un_prop.specs.Parts.{Part, all_meet, SameAt, ChecksForward}
 use Rattle.un_prop.specs.Rounds.{HasVars}
-use Rattle.un_alt.specs.Chosen.{chosen_can, chosen_holds}
-use Rattle.un_alt.specs.Filters.{choice_cut}
+use Rattle.un_alt.specs.Chosen.{chosen_holds}
 use Rattle.un_alt.specs.Frame.{frame_holds}
-use Rattle.un_alt.specs.Home.{home_can, home_holds}
-use Rattle.un_alt.specs.Same.{same_can, same_holds}
-use Rattle.un_alt.specs.Spaces.{spaces_can, spaces_holds}
+use Rattle.un_alt.specs.Home.{home_holds}
+use Rattle.un_alt.specs.Same.{same_holds}
+use Rattle.un_alt.specs.Spaces.{spaces_holds}
 use Rattle.un_alt.specs.Zeros.{zeros_holds}
-use Rattle.un_prec.specs.Before.{BeforeStrong, before_holds, before_steps}
-use Rattle.un_prec.specs.Below.{BelowStrong, below_holds, below_steps}
-use Rattle.un_prec.specs.Inside.{InsideStrong, inside_holds, inside_steps}
-use Rattle.un_prec.specs.Last.{LastStrong, last_holds, last_steps}
-use Rattle.un_prec.specs.Reads.{ReadsStrong, reads_holds, reads_steps}
-use Rattle.un_prop.specs.Last.{last_cut}
+use Rattle.un_prec.specs.Before.{BeforeStrong, before_holds}
+use Rattle.un_prec.specs.Below.{BelowStrong, below_holds}
+use Rattle.un_prec.specs.Inside.{InsideStrong, inside_holds}
+use Rattle.un_prec.specs.Last.{LastStrong, last_holds}
+use Rattle.un_prec.specs.Reads.{ReadsStrong, reads_holds}
 use Rattle.un_prop.specs.PartLaws.{one_part}
-use Rattle.un_prop.specs.Places.{places_in}
-use Rattle.un_prop.specs.declared.act.Act.TheVariants.{Always}
-use Rattle.un_rect.specs.Apart.{ApartStrong, apart_cut, apart_parts}
-use Rattle.un_rect.specs.Clobber.{ClobberStrong, clobber_cut, clobber_parts}
-use Rattle.un_rect.specs.Operands.{side, operands_holds, operands_steps}
-use Rattle.un_slots.specs.Fulls.{per_cycle_steps}
+use Rattle.un_rect.specs.Apart.{ApartStrong, apart_parts}
+use Rattle.un_rect.specs.Clobber.{ClobberStrong, clobber_parts}
+use Rattle.un_rect.specs.Operands.{side, operands_holds}
 use Rattle.un_slots.specs.Loads.{SlotsStrong}
 use Rattle.un_slots.specs.Slots.{per_cycle_holds}
 use Rattle.un_prec.specs.contracts.before.BeforePredicate.TheImpl.Laws as before_looks
@@ -234,6 +230,23 @@ any_whole (Apart p) x = apart_laws.whole-law p x
 any_whole (Clobber p) x = clobber_laws.whole-law p x
 any_whole (Operands p) x = operands_laws.whole-law p x
 any_whole (PerCycle p) x = per_cycle_laws.whole-law p x
+
+pub any_within : (p : AnyProp) (part : Part) → Contains (parts_of p) part → AllAmong (scope_of p) part.vars
+any_within (Before p) part there = before_laws.within-law p part there
+any_within (Reads p) part there = reads_laws.within-law p part there
+any_within (Inside p) part there = inside_laws.within-law p part there
+any_within (Last p) part there = last_laws.within-law p part there
+any_within (Below p) part there = below_laws.within-law p part there
+any_within (Chosen p) part there = chosen_laws.within-law p part there
+any_within (Zeros p) part there = zeros_laws.within-law p part there
+any_within (Spaces p) part there = spaces_laws.within-law p part there
+any_within (Same p) part there = same_laws.within-law p part there
+any_within (Home p) part there = home_laws.within-law p part there
+any_within (Frame p) part there = frame_laws.within-law p part there
+any_within (Apart p) part there = apart_laws.within-law p part there
+any_within (Clobber p) part there = clobber_laws.within-law p part there
+any_within (Operands p) part there = operands_laws.within-law p part there
+any_within (PerCycle p) part there = per_cycle_laws.within-law p part there
 
 pub any_forward : (p : AnyProp) (part : Part) → Contains (parts_of p) part → ChecksForward part (scope_of p) (cut_of p)
 any_forward (Before p) part there = before_laws.forward-law p part there
