@@ -1,6 +1,6 @@
 //! The parts of `alloc`, and of a search for a function, each called many times; and how large a function's problem is.
 
-ghost use Rattle.std.specs.Prelude.{All, IfOk};
+ghost use Rattle.std.specs.Prelude.{◌≡◌, [], All, IfOk};
 ghost use Rattle.inspect.specs.Inputs.{AreInputs};
 ghost use Rattle.un_domains.specs.Sets.{NoneEmpty};
 ghost use Rattle.un_ir.specs.LinearOf.{AreLive};
@@ -176,6 +176,7 @@ fn posted(alloc: Global, f: &Function, m: &Model) -> Result<Posted, NoMemory>
     requires gives { IsModelOf HEXAGON f.now default_options m.now }
     requires own { IsModel m.now }
     ensures live { IfOk result (λ p. NoneEmpty p.store.sets) }
+    ensures fresh { IfOk result (λ p. p.store.marked ≡ []) }
     ensures reads { IfOk result (λ p. All (ReadsFrom p.store.sets) p.props.items) }
     ensures spans { IfOk result (λ p. All (SpansAtMost p.horizon) p.props.items) }
 {
@@ -196,10 +197,10 @@ fn put_rounds(
 {
     let Posted {
         props,
-        mut store,
+        store,
         horizon,
     } = posted(alloc, x.f, x.m)?;
-    let _ = put_runs(rt, alloc, out, props.as_slice(), &mut store, horizon, vars)?;
+    let _ = put_runs(rt, alloc, out, props, store, horizon, vars)?;
     Ok(())
 }
 

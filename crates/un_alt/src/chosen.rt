@@ -84,6 +84,7 @@ impl Propagator for Chosen {
     ghost use Rattle.std.specs.Prelude.{Some, option_and_then};
     ghost use Rattle.un_prop.specs.Last.{last_cut};
     ghost use Rattle.un_prop.specs.PartLaws.{one_part, one_whole};
+    ghost use Rattle.un_prop.specs.WithinLaws.{one_within};
     ghost use Rattle.un_prop.specs.Places.{places_in};
     ghost use Rattle.un_prop.specs.declared.act.Act.TheVariants.{Always};
     ghost use Rattle.un_alt.specs.Filters.{choice_cut};
@@ -117,6 +118,8 @@ impl Propagator for Chosen {
         (chosen_lawful p.vars p.user p.choice p.alts p.among) };
 
     ghost whole = { λ p x. one_whole p.vars (chosen_holds p.user p.choice p.alts) x };
+
+    ghost within = { λ p. one_within p.vars (chosen_holds p.user p.choice p.alts) };
 
     ghost forward = { λ p. filtered_forward p.vars (chosen_holds p.user p.choice p.alts)
         (chosen_looks p.vars p.user p.choice p.alts p.among) p.ascend p.user (Some p.choice) (chosen_can p.alts) (places_in p.alts)

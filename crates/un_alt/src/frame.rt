@@ -260,6 +260,7 @@ impl Propagator for Frame {
     ghost use Rattle.un_prop.specs.Last.{last_cut};
     ghost use Rattle.un_prop.specs.LastLaws.{last_keeps, last_lawful};
     ghost use Rattle.un_prop.specs.PartLaws.{one_part, one_whole, forward_one};
+    ghost use Rattle.un_prop.specs.WithinLaws.{one_within};
     ghost use Rattle.un_alt.specs.Frame.{frame_holds};
     ghost use Rattle.un_alt.specs.FrameLaws.{frame_looks};
 
@@ -282,6 +283,8 @@ impl Propagator for Frame {
         (λ x y same. frame_looks p.vars x y same p.flag p.touch p.ins p.enter p.entry p.leaves p.among) };
 
     ghost whole = { λ p x. one_whole p.vars (frame_holds p.flag p.touch p.ins p.enter p.entry p.leaves) x };
+
+    ghost within = { λ p. one_within p.vars (frame_holds p.flag p.touch p.ins p.enter p.entry p.leaves) };
 
     ghost forward = { λ p. forward_one p.vars (frame_holds p.flag p.touch p.ins p.enter p.entry p.leaves)
         (λ x y same. frame_looks p.vars x y same p.flag p.touch p.ins p.enter p.entry p.leaves p.among) p.ascend };

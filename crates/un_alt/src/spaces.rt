@@ -154,6 +154,7 @@ impl Propagator for Spaces {
     ghost use Rattle.std.specs.Prelude.{Some, option_and_then};
     ghost use Rattle.un_prop.specs.Last.{last_cut};
     ghost use Rattle.un_prop.specs.PartLaws.{one_part, one_whole};
+    ghost use Rattle.un_prop.specs.WithinLaws.{one_within};
     ghost use Rattle.un_prop.specs.Places.{places_in};
     ghost use Rattle.un_prop.specs.declared.act.Act.TheVariants.{Always};
     ghost use Rattle.un_alt.specs.Filters.{choice_cut};
@@ -187,6 +188,8 @@ impl Propagator for Spaces {
         p.among.of_on p.among.of_choice (spaces_lawful p.vars p.on p.choice p.regs p.sets p.among) };
 
     ghost whole = { λ p x. one_whole p.vars (spaces_holds p.on p.choice p.regs p.sets) x };
+
+    ghost within = { λ p. one_within p.vars (spaces_holds p.on p.choice p.regs p.sets) };
 
     ghost forward = { λ p. filtered_forward p.vars (spaces_holds p.on p.choice p.regs p.sets)
         (spaces_looks p.vars p.on p.choice p.regs p.sets p.among) p.ascend p.on p.choice (spaces_can p.on p.regs p.sets) (places_in p.regs)

@@ -61,6 +61,7 @@ impl Propagator for Zeros {
     ghost use Rattle.un_prop.specs.Last.{last_cut};
     ghost use Rattle.un_prop.specs.LastLaws.{last_keeps, last_lawful};
     ghost use Rattle.un_prop.specs.PartLaws.{one_part, one_whole, forward_one};
+    ghost use Rattle.un_prop.specs.WithinLaws.{one_within};
     ghost use Rattle.un_alt.specs.Zeros.{zeros_holds};
     ghost use Rattle.un_alt.specs.ZerosLaws.{zeros_looks};
 
@@ -82,6 +83,8 @@ impl Propagator for Zeros {
     ghost lawful = { λ p. last_lawful p.vars (zeros_holds p.instr p.others) (zeros_looks p.vars p.instr p.others p.among) };
 
     ghost whole = { λ p x. one_whole p.vars (zeros_holds p.instr p.others) x };
+
+    ghost within = { λ p. one_within p.vars (zeros_holds p.instr p.others) };
 
     ghost forward = { λ p. forward_one p.vars (zeros_holds p.instr p.others) (zeros_looks p.vars p.instr p.others p.among) p.ascend };
 

@@ -103,6 +103,7 @@ impl Predicate for Below {
 impl Propagator for Below {
     ghost use Rattle.un_prop.specs.Last.{last_cut};
     ghost use Rattle.un_prop.specs.PartLaws.{one_part, one_whole, lawful_checked, keeps_checked, forward_checked, stable_first};
+    ghost use Rattle.un_prop.specs.WithinLaws.{one_within};
     ghost use Rattle.std.specs.Prelude.{option_and_then};
     ghost use Rattle.un_prec.specs.Below.{below_holds, below_steps, BelowVars, BelowStrong};
     ghost use Rattle.un_prec.specs.BelowLaws.{below_looks, below_lawful, below_keeps, below_strong};
@@ -128,6 +129,8 @@ impl Propagator for Below {
         (below_steps p.vars p.ends p.limit) (below_lawful p.vars p.ends p.limit p.among) };
 
     ghost whole = { λ p x. one_whole p.vars (below_holds p.ends p.limit) x };
+
+    ghost within = { λ p. one_within p.vars (below_holds p.ends p.limit) };
 
     ghost forward = { λ p. forward_checked p.vars (below_holds p.ends p.limit) (below_looks p.vars p.ends p.limit p.among) p.ascend
         (below_steps p.vars p.ends p.limit) (below_lawful p.vars p.ends p.limit p.among) };

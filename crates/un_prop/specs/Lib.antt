@@ -9,6 +9,7 @@ pub mod Failing
 pub mod Fixes
 pub mod Going
 pub mod GoingLaws
+pub mod KeepLaws
 pub mod Last
 pub mod LastLaws
 pub mod Lawful
@@ -28,3 +29,4 @@ pub mod SingleLaws
 pub mod Somewhere
 pub mod SomewhereLaws
 pub mod Steps
+pub mod WithinLaws

@@ -551,6 +551,7 @@ impl Predicate for Clobber {
 
 impl Propagator for Clobber {
     ghost use Rattle.un_rect.specs.Clobber.{clobber_parts, clobber_cut, ClobberStrong};
+    ghost use Rattle.un_rect.specs.PartsWithin.{clobber_within};
     ghost use Rattle.un_rect.specs.ClobberLaws.{clobber_whole, clobber_lawful, clobber_keeps, clobber_forward, clobber_strong};
 
     ghost cut = { λ p s. clobber_cut p.vars p.mask p.temp p.calls s };
@@ -578,6 +579,8 @@ impl Propagator for Clobber {
     ghost lawful = { λ p. clobber_lawful p.vars p.mask p.temp p.of_temp p.ascend p.calls p.of_calls };
 
     ghost whole = { λ p x. clobber_whole p.vars p.mask p.temp p.calls x };
+
+    ghost within = { λ p. clobber_within p.vars p.mask p.temp p.calls };
 
     ghost forward = { λ p. clobber_forward p.vars p.mask p.temp p.of_temp p.ascend p.calls p.of_calls };
 

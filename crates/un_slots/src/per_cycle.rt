@@ -77,6 +77,7 @@ impl Propagator for PerCycle {
     ghost use Rattle.std.specs.Prelude.{option_and_then};
     ghost use Rattle.un_prop.specs.Last.{last_cut};
     ghost use Rattle.un_prop.specs.PartLaws.{one_part, one_whole, lawful_checked, keeps_checked, forward_checked, stable_first};
+    ghost use Rattle.un_prop.specs.WithinLaws.{one_within};
     ghost use Rattle.un_slots.specs.Slots.{per_cycle_holds};
     ghost use Rattle.un_slots.specs.SlotLaws.{per_cycle_looks};
     ghost use Rattle.un_slots.specs.Loads.{SlotsStrong};
@@ -110,6 +111,8 @@ impl Propagator for PerCycle {
         (steps_lawful p.vars p.items p.horizon p.among) };
 
     ghost whole = { λ p x. one_whole p.vars (per_cycle_holds p.items p.horizon) x };
+
+    ghost within = { λ p. one_within p.vars (per_cycle_holds p.items p.horizon) };
 
     ghost forward = { λ p. forward_checked p.vars (per_cycle_holds p.items p.horizon)
         (per_cycle_looks p.vars p.items p.horizon p.among) p.ascend (per_cycle_steps p.vars p.items p.horizon)
