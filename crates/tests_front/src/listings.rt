@@ -84,6 +84,9 @@ cycles 2
 |{ r0 = memw(r29+#-4) }\n?line:no\
 |{ call h(r1) }\n?line:no\
 |{ call h(); r0 = r1 }\n?line:no\
+|{ call h(); r31 = r1 }\n?line:no\
+|{ call h(); p3 = r1 }\n?line:no\
+|{ call h(); r6 = r1 }\n?line:yes\
 |{ memw(r0+#0) = r1; memw(r0+#4) = r2 }\n?line:no\
 |{ r0 = r1; r2 = r1; r3 = r1; r4 = r1; r5 = r1 }\n?line:no\
 |# Lines, and the frames that they are read as.\
@@ -107,6 +110,7 @@ cycles 2
 |frame 0\nblock e\n{ jump f }\n?text:3\
 |frame 0\nblock e\n{ jump e }\n?text:0\
 |frame 0\nblock e\n{ jump e }\n{ nop }\n?text:3\
+|frame 0\nblock e\n{ jumpr r31 }\n{ jumpr r31 }\n?text:3\
 |frame 0\nblock e\n{ jump e }\nnop\n?text:4\
 |frame 0\nblock e\n{ nop }\n?text:3\
 |frame 0\nblock e\n{ if (p0) jump e }\n?text:3\
@@ -114,6 +118,7 @@ cycles 2
 |frame 0\nblock e\n{ nop; r0 = r1 }\n{ jumpr r31 }\n?text:3\
 |frame 8\nblock e\n{ r29 = add(r29,#-8) }\n{ r29 = add(r29,#8); jumpr r31 }\n?text:0\
 |frame 0\nblock e\n{ r29 = add(r29,#-8) }\n{ jumpr r31 }\n?text:3\
+|frame 0\nblock e\n{ r29 = add(r29,#0); jumpr r31 }\n?text:3\
 |frame 0\nblock e\n{ r0 = r1; jumpr r31 }\n\n?text:4\
 |# Listings, and what comes out of their runs.
 |frame 8

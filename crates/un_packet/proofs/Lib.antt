@@ -1,4 +1,5 @@
 pub mod Assembly
+pub mod Broken
 pub mod Cycles
 pub mod Drawn
 pub mod Each
