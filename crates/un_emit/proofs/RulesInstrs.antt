@@ -51,7 +51,7 @@ use Rattle.un_emit.proofs.RulesFrame.{IsLow, low}
 use Rattle.un_emit.proofs.RulesLists.{zip_length}
 use Rattle.un_emit.proofs.RulesOps.{spaces_of, space_at, told_apart, space_listed, reads_plain, writes_plain, base_of, offset_fits}
 use Rattle.un_emit.proofs.RulesOps.{minus_is, source_count, source_gives, source_number, source_label, IsCopyOp, mov, spill, reload, p2r}
-use Rattle.un_emit.proofs.RulesOps.{r2p, copy_is, LeadsIn, end_facts, only_end}
+use Rattle.un_emit.proofs.RulesOps.{r2p, copy_is, AreNamed, LeadsIn, end_facts, only_end}
 use Rattle.un_model.proofs.PlacedSchedules.{all, the_ranges, range_at, range_here, each_issue, member_joined, member_places}
 use Rattle.un_emit.proofs.Timed.{Job}
 
@@ -96,6 +96,11 @@ meant_low (Some r) f = f.1
 module _ (e : Ext) (o : Options) (values : List ℕ) (h : Solved e o values) where
   abbrev frame : ℕ
   frame = frame_of (model_of e o) values
+
+  pub named_blocks : AreNamed e.blocks
+  named_blocks k block q =
+      let g = good e o values h in
+      let b = at_all (IsGoodExtBlock e.table e.names e.blocks) e.blocks k block g.each q in b.label
 
   module _ (p : Placed) (m : Member p (all e o values)) where
     abbrev srcs : List Reg
@@ -340,7 +345,7 @@ module _ (e : Ext) (o : Options) (values : List ℕ) (h : Solved e o values) whe
           stack = λ z. absurd (cc z);
           base = base_of op srcs (srcs_safe act);
           literal = f.literal;
-          label = f.label (end_leads term k);
+          label = f.label (named_blocks e o values h) (end_leads term k);
         }
 
     -- ---- a copy

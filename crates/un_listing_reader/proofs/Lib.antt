@@ -3,7 +3,6 @@ pub mod CodeBack
 pub mod CodeRead
 pub mod Judged
 pub mod LabelEq
-pub mod LabelNames
 pub mod LineCuts
 pub mod LineTexts
 pub mod LinesBack

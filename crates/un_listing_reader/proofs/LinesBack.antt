@@ -3,6 +3,7 @@ use Rattle.std.proofs.Common.{◌≡◌, ◌≤◌, ℕ, List, [], ◌∷◌, �
 use Rattle.std.specs.List.{AllZip}
 use Rattle.std.specs.Fmt.{decimal}
 use Rattle.std.proofs.lemmas.Fmt.{decimal_injective}
+use Rattle.un_isa.specs.declared.reg.TheConstants.{FRAME}
 use Rattle.un_isa.specs.declared.instr.Instr.{Instr}
 use Rattle.un_packet.specs.declared.code.Packet.{Packet}
 use Rattle.un_packet.specs.declared.code.CodeBlock.{CodeBlock}
@@ -25,16 +26,16 @@ first_same m n a b e = cc e
 apart : (text a b : List ℕ) → text ≡ 98 ∷ a → text ≡ 123 ∷ b → ⊥
 apart text a b e f = omega (arith, first_same 98 123 a b (sym e ∙ f))
 
-pub same_frame : (text : List ℕ) (m n : ℕ) → m ≤ 256 → n ≤ 256 → text ≡ frame_text m → text ≡ frame_text n → m ≡ n
+pub same_frame : (text : List ℕ) (m n : ℕ) → m ≤ FRAME → n ≤ FRAME → text ≡ frame_text m → text ≡ frame_text n → m ≡ n
 same_frame text m n small few e f = decimal_injective m n (omega arith) (omega arith)
     (same_within (codes "frame ") (decimal m) (decimal n) (sym e ∙ f))
 
-module _ (frame : ℕ) (small : frame ≤ 256) where
+module _ (frame : ℕ) (small : frame ≤ FRAME) where
   instrs_same : (text : List ℕ) (p q : Packet) → Spells frame text (PacketLine p) → Spells frame text (PacketLine q) → p.instrs ≡ q.instrs
   instrs_same text p q h k =
       one_value _ p.instrs q.instrs
-      (packet_back frame small text p (record { packet = h.good; text = h.spelled }))
-      (packet_back frame small text q (record { packet = k.good; text = k.spelled }))
+      (packet_back frame small text p (record { rules = h.good; text = h.spelled }))
+      (packet_back frame small text q (record { rules = k.good; text = k.spelled }))
 
   one_line : (text : List ℕ) (a b : Line) → Spells frame text a → Spells frame text b → a ≡ b
   one_line text (BlockLine a) (BlockLine b) h k = ap BlockLine (same_within (codes "block ") a b (sym h.spelled ∙ k.spelled))

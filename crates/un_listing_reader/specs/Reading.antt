@@ -11,13 +11,12 @@ use Rattle.un_packet.specs.declared.code.TheConstants.{PACKETS, BLOCKS}
 use Rattle.un_packet.specs.declared.code.Packet.{Packet}
 use Rattle.un_packet.specs.declared.code.CodeBlock.{CodeBlock}
 use Rattle.un_packet.specs.declared.code.Code.{Code}
-use Rattle.un_packet.specs.CodeRules.{LeadsToOneOf, transfers, leaves}
+use Rattle.un_packet.specs.CodeRules.{IsGoodPacket, LeadsToOneOf, transfers, leaves}
 use Rattle.un_listing_reader.specs.declared.line.Line.{Line}
 use Rattle.un_listing_reader.specs.declared.line.Line.TheVariants.{Block as BlockLine, Packet as PacketLine}
 use Rattle.un_listing_reader.specs.declared.read.ListingError.{ListingError}
 use Rattle.un_listing_reader.specs.declared.read.ListingError.TheVariants.{NoMemory, BadListing}
 use Rattle.un_listing.specs.Listing.{packet_line, code_text}
-use Rattle.un_listing_reader.specs.PacketWords.{IsNamed, IsCodePacket}
 
 abbrev pub LineValue : Type 0
 LineValue = Line
@@ -31,7 +30,7 @@ line_text (PacketLine p) = packet_line p ++ codes "\n"
 -- a name, or a packet of code with a frame of so many bytes
 abbrev pub IsGoodLine : ℕ → Line → Type 0
 IsGoodLine frame (BlockLine label) = is_name label ≡ true
-IsGoodLine frame (PacketLine p) = IsCodePacket frame p
+IsGoodLine frame (PacketLine p) = IsGoodPacket frame p
 
 -- a line with its line feed
 pub record Spells (frame : ℕ) (text : List ℕ) (line : Line) : Type 0 where
@@ -149,15 +148,9 @@ IsErrorOf text (BadListing line) = IsFirstBad text line
 
 -- ---- the listing of code
 
--- the label of the block is a name, and so are those in its packets
-pub record HasNames (block : CodeBlock) : Type 0 where
-  pub label : is_name block.label ≡ true
-  pub packets : All (λ (p : Packet). All IsNamed p.instrs) block.packets
-
--- the text is the listing of code, which keeps the rules of its type, and whose labels are names
-pub record IsListingOf (text : List ℕ) (c : Code) : Type 0 where
-  pub names : All HasNames c.blocks
-  pub spelled : text ≡ code_text c
+-- the text is the listing of code, which keeps the rules of its type
+abbrev pub IsListingOf : List ℕ → Code → Type 0
+IsListingOf text c = text ≡ code_text c
 
 -- an answer to the listing of code is that code, or there was no memory
 abbrev pub IsReadBack : Code → Result Code ListingError → Type 0

@@ -1,6 +1,7 @@
 //! The lines of a listing behind the first, as they are read.
 
 ghost use Rattle.std.specs.Prelude.{◌≡◌, ◌≢◌, ℕ, List, [], ◌∷◌, ◌++◌, ◌≤◌, true, IfOk, IfSome, IfNone, codes};
+ghost use Rattle.un_isa.specs.declared.reg.TheConstants.{FRAME};
 ghost use Rattle.un_base.specs.Names.{is_name};
 ghost use Rattle.un_listing_reader.specs.Reading.{Spells, IsReadAs, IsFrameLine};
 
@@ -40,7 +41,7 @@ fn block_label(line: &[u8]) -> Option<Name>
 /// # Errors
 /// `NoMemory` where there is no memory for the line or for what it is compared with.
 pub fn read_line(alloc: Global, frame: u32, text: &[u8]) -> Result<Option<Line>, NoMemory>
-    requires { frame ≤ 256 }
+    requires { frame ≤ FRAME }
     ensures read { IfOk result (IsReadAs frame text.now) }
     ensures whole { (line : Line) → Spells frame text.now line → IfOk result (λ r. r ≡ Some line) }
 {

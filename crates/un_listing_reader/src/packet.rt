@@ -2,6 +2,7 @@
 
 ghost use Rattle.std.specs.Prelude.{◌≡◌, ◌≤◌, ◌++◌, ◌↔◌, IsTrue, IfOk, IfSome, length, codes};
 ghost use Rattle.std.specs.List.{position_or_len};
+ghost use Rattle.un_isa.specs.declared.reg.TheConstants.{FRAME};
 ghost use Rattle.un_packet.specs.CodeRules.{IsGoodPacket};
 ghost use Rattle.un_listing.specs.Listing.{packet_line};
 ghost use Rattle.un_listing.specs.ListingWords.{words_of};
@@ -69,7 +70,7 @@ fn is_printed(alloc: Global, packet: &Packet, line: &[u8]) -> Result<bool, NoMem
 
 /// Whether it is a packet of code with a frame of so many bytes, and this is its line.
 fn is_packet_of(alloc: Global, frame: u32, packet: &Packet, line: &[u8]) -> Result<bool, NoMemory>
-    requires { frame ≤ 256 }
+    requires { frame ≤ FRAME }
     ensures { IfOk result (λ is. IsTrue is ↔ (IsGoodPacket frame packet.now × (packet_line packet.now ++ codes "\n" ≡ line.now))) }
 {
     if !is_good_packet(alloc, frame, packet)? {
@@ -84,7 +85,7 @@ fn is_packet_of(alloc: Global, frame: u32, packet: &Packet, line: &[u8]) -> Resu
 /// # Errors
 /// `NoMemory` where there is no memory for the packet or for what it is compared with.
 pub fn read_packet(alloc: Global, frame: u32, line: &[u8]) -> Result<Option<Packet>, NoMemory>
-    requires { frame ≤ 256 }
+    requires { frame ≤ FRAME }
     ensures some { IfOk result (λ r. IfSome r (IsPacketLine frame line.now)) }
     ensures whole { (p : Packet) → IsPacketLine frame line.now p → IfOk result (λ r. r ≡ Some p) }
 {

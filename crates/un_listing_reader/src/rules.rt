@@ -4,11 +4,12 @@ ghost use Rattle.std.specs.Prelude.{◌≡◌, ◌≢◌, ◌≤◌, ◌<◌, �
 ghost use Rattle.std.specs.Prelude.{IfOk};
 ghost use Rattle.std.specs.List.{list_any, range_with_len, flat_map};
 ghost use Rattle.std.specs.Bool.{OnTrue};
+ghost use Rattle.un_isa.specs.declared.reg.TheConstants.{FRAME};
 ghost use Rattle.un_isa.specs.PacketCounts.{FitPacket};
 ghost use Rattle.un_isa.specs.Registers.{space_of};
 ghost use Rattle.un_listing_reader.specs.Needed.{counts_from, is_distinct};
 ghost use Rattle.un_packet.specs.CodeRules.{ReadsItsSpaces, WritesItsSpace, HasItsBase, HasItsNumber, HasItsLabel, IsGoodInstr};
-ghost use Rattle.un_packet.specs.CodeRules.{IsGoodPacket, written, needs_of, is_nop, number};
+ghost use Rattle.un_packet.specs.CodeRules.{IsGoodPacket, IsSomeName, written, needs_of, is_nop, number};
 
 use crate::needs::fit_packet;
 use std::alloc::Global;
@@ -110,7 +111,7 @@ fn has_its_base(op: Op, srcs: &[Reg]) -> bool
 
 /// Whether the number is one of the operation, in code with a frame of so many bytes.
 fn has_its_number(frame: u32, op: Op, n: i32) -> bool
-    requires { frame ≤ 256 }
+    requires { frame ≤ FRAME }
     ensures { IsTrue result ↔ (HasItsNumber frame op n) }
 {
     match op {
@@ -123,12 +124,22 @@ fn has_its_number(frame: u32, op: Op, n: i32) -> bool
     }
 }
 
+/// Whether there is a name.
+fn is_some_name(name: &Option<Name>) -> bool
+    ensures { IsTrue result ↔ (IsSomeName name.now) }
+{
+    match name {
+        Some(name) => !name.as_bytes().is_empty(),
+        None => false,
+    }
+}
+
 /// Whether there is a label exactly where the operation has one.
 fn has_its_label(op: Op, label: &Option<Name>) -> bool
     ensures { IsTrue result ↔ (HasItsLabel op label.now) }
 {
     match op {
-        Op::Call | Op::Jump | Op::JumpIf | Op::JumpIfNot => label.is_some(),
+        Op::Call | Op::Jump | Op::JumpIf | Op::JumpIfNot => is_some_name(label),
         _ => label.is_none(),
     }
 }
@@ -145,7 +156,7 @@ fn spares_stack(dst: Option<Reg>) -> bool
 
 /// Whether it is an instruction of code with a frame of so many bytes.
 fn is_good_instr(frame: u32, i: &Instr) -> bool
-    requires { frame ≤ 256 }
+    requires { frame ≤ FRAME }
     ensures { IsTrue result ↔ (IsGoodInstr frame i.now) }
 {
     if !reads_its_spaces(i.op, i.srcs.as_slice()) || !writes_its_space(i.op, i.dst) {
@@ -159,7 +170,7 @@ fn is_good_instr(frame: u32, i: &Instr) -> bool
 
 /// Whether all are instructions of code with a frame of so many bytes.
 fn are_good(frame: u32, instrs: &[Instr]) -> bool
-    requires { frame ≤ 256 }
+    requires { frame ≤ FRAME }
     ensures { IsTrue result ↔ (All (IsGoodInstr frame) instrs.now) }
 {
     for i in instrs {
@@ -246,7 +257,7 @@ fn are_distinct(numbers: &[u32]) -> bool
 /// `NoMemory` where there is no memory for the list of the registers that they write.
 #[tactic(auto, using(crate::proofs::NeedLaws::distinct_decides))]
 pub fn is_good_packet(alloc: Global, frame: u32, packet: &Packet) -> Result<bool, NoMemory>
-    requires { frame ≤ 256 }
+    requires { frame ≤ FRAME }
     ensures { IfOk result (λ good. IsTrue good ↔ (IsGoodPacket frame packet.now)) }
 {
     let instrs = packet.instrs.as_slice();

@@ -35,6 +35,9 @@ large_frame h = let k = h.small in omega (arith, k)
 no_blocks : KeepsRules 0 [] → ⊥
 no_blocks h = let k = h.some in omega (arith, k)
 
+label_of_a_digit : KeepsRules 0 (under (codes "2") ∷ []) → ⊥
+label_of_a_digit h = let k = h.named 0 (under []) (lit< tt) in cc k
+
 one_label_twice : KeepsRules 0 (under (codes "e") ∷ under (codes "e") ∷ []) → ⊥
 one_label_twice h = h.distinct_labels 0 1 (under []) (lit< tt) (lit< tt) refl
 
@@ -134,6 +137,9 @@ no_frame h = let k = h.literal.0 in omega (arith, k)
 
 no_label : IsGoodInstr 8 (i Jump None [] (pos 0) None) → ⊥
 no_label h = h.label
+
+label_of_digits : IsGoodInstr 8 (i Jump None [] (pos 0) (named (codes "2"))) → ⊥
+label_of_digits h = let k = h.label in cc k
 
 label_of_a_sum : IsGoodInstr 8 (i Add (r 0) (0 ∷ 1 ∷ []) (pos 0) (named (codes "h"))) → ⊥
 label_of_a_sum h = let k = h.label in cc k

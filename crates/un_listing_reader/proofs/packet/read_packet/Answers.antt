@@ -3,7 +3,6 @@ use Rattle.std.proofs.Common.{rules, ◌≡◌, List, Some, None, sym, ap, subst
 use Rattle.un_isa.specs.declared.instr.Instr.{Instr}
 use Rattle.un_packet.specs.declared.code.Packet.{Packet}
 use Rattle.un_listing_reader.specs.PacketWords.{parts_of, instrs_in, IsPacketLine}
-use Rattle.un_listing_reader.proofs.LabelNames.{all_named}
 use Rattle.un_listing_reader.proofs.PacketBack.{packet_back}
 use Rattle.un_listing_reader.proofs.packet.read_packet.Goals as goal
 
@@ -15,12 +14,8 @@ returns-in_default-clause-whole c = λ p h.
 
 pub returns-then-branch-clause-some : goal.returns-then-branch-clause-some
 returns-then-branch-clause-some c =
-    let found : instrs_in (parts_of c.args.line.now) ≡ Some c.in-Some.instrs = search rules in
     let is = c.in_ok-is_packet_of.ensures.0 c.if-branch.true in
-    record {
-      packet = record { rules = is.0; names = all_named (parts_of c.args.line.now) c.in-Some.instrs found };
-      text = sym is.1;
-    }
+    record { rules = is.0; text = sym is.1 }
 
 pub returns-then-branch-clause-whole : goal.returns-then-branch-clause-whole
 returns-then-branch-clause-whole c = λ p h.
@@ -36,4 +31,4 @@ returns-else-branch-clause-whole c = λ p h.
     let same : p.instrs ≡ c.in-Some.instrs = cc (e, found) in
     let here : IsPacketLine c.args.frame c.args.line.now (record { instrs = c.in-Some.instrs }) = subst
     (λ (is : List Instr). IsPacketLine c.args.frame c.args.line.now (record { instrs = is })) same h in
-    absurd (cc (c.in_ok-is_packet_of.ensures.1 (here.packet.rules, sym here.text), c.if-branch.false))
+    absurd (cc (c.in_ok-is_packet_of.ensures.1 (here.rules, sym here.text), c.if-branch.false))

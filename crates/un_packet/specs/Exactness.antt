@@ -1,0 +1,30 @@
+-- Equal packets and blocks are identical where equal instructions are.
+use Rattle.std.specs.Prelude.{◌≡◌, ◌&&◌, Bool, true, List}
+use Rattle.std.specs.Cmp.Lexicographic.{pointwise}
+use Rattle.std.proofs.Common.{ap}
+use Rattle.un_lists.specs.Exactness.{list_exact, list_reflexive}
+use Rattle.un_isa.specs.declared.instr.Instr.{Instr}
+use Rattle.un_isa.specs.Exactness.{padded_same, name_exact, name_reflexive, both}
+use Rattle.un_packet.specs.declared.code.Packet.{Packet}
+use Rattle.un_packet.specs.declared.code.CodeBlock.{CodeBlock}
+
+pub packet_exact : (eq : Instr → Instr → Bool) → ((a b : Instr) → eq a b ≡ true → a ≡ b) → (a b : Packet)
+    → pointwise eq a.instrs b.instrs ≡ true → a ≡ b
+packet_exact eq exact a b h = ap (λ (is : List Instr). let p : Packet = record { instrs = is } in p) (list_exact eq exact a.instrs b.instrs h)
+
+pub packet_reflexive : (eq : Instr → Instr → Bool) → ((a : Instr) → eq a a ≡ true) → (a : Packet) → pointwise eq a.instrs a.instrs ≡ true
+packet_reflexive eq reflexive a = list_reflexive eq reflexive a.instrs
+
+made_same : (k l : List ℕ) (ps qs : List Packet) → k ≡ l → ps ≡ qs
+    → (let a : CodeBlock = record { label = k; packets = ps } in let b : CodeBlock = record { label = l; packets = qs } in a ≡ b)
+made_same k l ps qs e f = rw (e, f) refl
+
+pub block_exact : (eq : Packet → Packet → Bool) → ((a b : Packet) → eq a b ≡ true → a ≡ b) → (a b : CodeBlock)
+    → (padded_same a.label b.label && pointwise eq a.packets b.packets) ≡ true → a ≡ b
+block_exact eq exact a b h =
+    let parts = both (padded_same a.label b.label) (pointwise eq a.packets b.packets) h in
+    made_same a.label b.label a.packets b.packets (name_exact a.label b.label parts.0) (list_exact eq exact a.packets b.packets parts.1)
+
+pub block_reflexive : (eq : Packet → Packet → Bool) → ((a : Packet) → eq a a ≡ true) → (a : CodeBlock)
+    → (padded_same a.label a.label && pointwise eq a.packets a.packets) ≡ true
+block_reflexive eq reflexive a = rw (name_reflexive a.label) (list_reflexive eq reflexive a.packets)
