@@ -24,8 +24,10 @@ use Rattle.un_ir.specs.declared.extended.NodeCopy.{NodeCopy}
 use Rattle.un_ir.specs.declared.extended.ExtKind.{ExtKind}
 use Rattle.un_ir.specs.declared.extended.ExtKind.TheVariants.{In, Out, Body, End, Copy, Enter, Leave}
 use Rattle.un_ir.specs.declared.extended.Operand.{Operand}
+use Rattle.un_ir.specs.declared.extended.ExtBlock.{ExtBlock}
 use Rattle.un_ir.specs.declared.extended.Ext.{Ext}
 use Rattle.un_ir.specs.Extended.{Want, word_in, wants_of, wants_of_op, result_count, IsGoodOperand, IsGoodKind, IsSourceOp, HasItsResult}
+use Rattle.un_ir.specs.Extended.{IsGoodExtBlock}
 use Rattle.un_ir.specs.WellFormed.{NamesItsCallee, result_kind}
 use Rattle.un_model.specs.declared.model.Options.{Options}
 use Rattle.un_model.specs.declared.schedule.LiveRange.{LiveRange}
@@ -38,6 +40,7 @@ use Rattle.un_model.specs.Schedules.{choice_of, instr_of, value_by, is_frame_op}
 use Rattle.un_model.specs.Solutions.{HasFrame, HasHome}
 use Rattle.un_model.specs.Variables.{model_of}
 use Rattle.un_packet.specs.CodeRules.{IsGoodInstr, number}
+use Rattle.un_packet.proofs.Rules.{at_all}
 use Rattle.un_emit.proofs.BlockEdges.{ends_by}
 use Rattle.un_emit.proofs.BlockJobs.{IsJob, active_of, some_active}
 use Rattle.un_emit.proofs.JobDeeds.{TextClass, text_class, alu, load as loading, store as storing, call as calling, space_for, result_in}
