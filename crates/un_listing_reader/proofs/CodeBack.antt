@@ -24,17 +24,15 @@ use Rattle.std.proofs.Common.{
 }
 use Rattle.std.specs.List.{AllZip, flat_map}
 use Rattle.std.specs.Fmt.{decimal}
-use Rattle.std.specs.Coded.{coded_list}
-use Rattle.std.proofs.Math.Logic.{∥∥₁_elim, ∥∥₁_prop}
+use Rattle.std.proofs.Math.Logic.{∥∥₁_elim}
 use Rattle.std.proofs.Math.Nat.{ℕ_set}
-use base.Stored.{Coded-set}
 use Rattle.un_base.specs.Lines.{pieces_of, joined_lines}
 use Rattle.un_isa.specs.declared.op.Op.TheVariants.{Jumpr}
-use Rattle.un_packet.specs.contracts.code.CodeBlock as block_row
 use Rattle.un_packet.specs.declared.code.Packet.{Packet}
 use Rattle.un_packet.specs.declared.code.CodeBlock.{CodeBlock}
 use Rattle.un_packet.specs.declared.code.Code.{Code}
 use Rattle.un_packet.specs.CodeRules.{KeepsRules, labels_of}
+use Rattle.un_packet.proofs.SameCode.{blocks_set, same_code}
 use Rattle.un_packet.proofs.Assembly.{i, packet, block}
 use Rattle.un_packet.proofs.Kept.{kept_without_frame}
 use Rattle.un_listing_reader.specs.declared.line.Line.{Line}
@@ -107,23 +105,6 @@ module _ (frame frame' : ℕ) (bs bs' : List CodeBlock) (rules : KeepsRules fram
       (readings frame bs rules)
 
 -- ---- code
-
-blocks_set : (bs bs' : List CodeBlock) (p q : bs ≡ bs') → p ≡ q
-blocks_set = Coded-set (coded_list block_row.the_row.coded)
-
-abbrev Keeps : ℕ → List CodeBlock → Type 0
-Keeps frame bs = ∥ KeepsRules frame bs ∥₁
-
-abbrev made : (frame : ℕ) (bs : List CodeBlock) → Keeps frame bs → Code
-made frame bs rules = record { frame = frame; blocks = bs; rules = rules }
-
--- code is told by its parts, since its rules are kept in one way
-same_code : (frame frame' : ℕ) (bs bs' : List CodeBlock) → frame ≡ frame' → bs ≡ bs' → (rules : Keeps frame bs) (rules' : Keeps frame' bs')
-    → made frame bs rules ≡ made frame' bs' rules'
-same_code frame frame' bs bs' e f rules =
-    subst (λ (n : ℕ). (k : Keeps n bs') → made frame bs rules ≡ made n bs' k) e
-    (subst (λ (x : List CodeBlock). (k : Keeps frame x) → made frame bs rules ≡ made frame x k) f
-    (λ k. ap (made frame bs) (∥∥₁_prop rules k)))
 
 -- a text is the listing of one code
 pub one_code : (text : List ℕ) (c d : Code) → IsListingOf text c → IsListingOf text d → c ≡ d

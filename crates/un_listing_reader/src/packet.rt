@@ -7,7 +7,7 @@ ghost use Rattle.un_packet.specs.CodeRules.{IsGoodPacket};
 ghost use Rattle.un_listing.specs.Listing.{packet_line};
 ghost use Rattle.un_listing.specs.ListingWords.{words_of};
 ghost use Rattle.un_listing.specs.Recognized.{instr_of};
-ghost use Rattle.un_listing_reader.specs.PacketWords.{is_semicolon, parts_of, instrs_in, IsCodePacket, IsPacketLine};
+ghost use Rattle.un_listing_reader.specs.PacketWords.{is_semicolon, parts_of, instrs_in, IsPacketLine};
 
 use crate::rules::is_good_packet;
 use std::alloc::Global;

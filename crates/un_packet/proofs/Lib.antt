@@ -8,5 +8,6 @@ pub mod Kept
 pub mod Lengths
 pub mod Rules
 pub mod Runs
+pub mod SameCode
 pub mod Steps
 pub mod Worked
