@@ -14,7 +14,7 @@ use Rattle.un_isa.specs.contracts.op.Op.{the_type}
 use Rattle.un_isa.specs.declared.reg.Reg.{Reg}
 use Rattle.un_isa.specs.declared.instr.Instr.{Instr}
 
-pub both : (b c : Bool) → (b && c) ≡ true → (b ≡ true) × (c ≡ true)
+both : (b c : Bool) → (b && c) ≡ true → (b ≡ true) × (c ≡ true)
 both true c h = (refl, h)
 both false c h = absurd (cc h)
 
@@ -68,12 +68,12 @@ padded a = a ++ replicate (NAME_BYTES - length a) 0
 abbrev pub padded_same : List ℕ → List ℕ → Bool
 padded_same a b = pointwise nat_eq (padded a) (padded b) && nat_eq (length a) (length b)
 
-pub name_exact : Identifies (List ℕ) padded_same
+name_exact : Identifies (List ℕ) padded_same
 name_exact a b h =
     let parts = both (pointwise nat_eq (padded a) (padded b)) (nat_eq (length a) (length b)) h in
     front a b _ _ (list_exact nat_eq nat_exact _ _ parts.0) (nat_exact _ _ parts.1)
 
-pub name_reflexive : Accepts (List ℕ) padded_same
+name_reflexive : Accepts (List ℕ) padded_same
 name_reflexive a = rw (list_reflexive nat_eq nat_same (padded a)) (nat_same (length a))
 
 op_exact : Identifies Op (sameb the_type)

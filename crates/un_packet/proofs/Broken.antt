@@ -1,6 +1,7 @@
 -- Parts that break one rule of code each.
-use Rattle.std.proofs.Common.{ℕ, zero, suc, pos, negsuc, ◌≡◌, ◌+◌, ◌<◌, true, List, [], ◌∷◌, None, IsSomeAnd, slice_get, get_or, refl, arith, lit<}
-use Rattle.std.specs.Prelude.{codes}
+use Rattle.std.proofs.Common.{ℕ, zero, suc, pos, negsuc, ◌≡◌, ◌+◌, ◌<◌, true, List, [], ◌∷◌, None, IsSomeAnd, slice_get, get_or, refl, ap, arith, lit<}
+use Rattle.std.specs.Prelude.{codes, slice_index}
+use Rattle.std.proofs.lemmas.Int.{ints}
 use Rattle.un_isa.specs.declared.op.Op.TheVariants.{Imm, Mov, Add, Mpyi, Load, Store, Call, Jump, Jumpr, Reload, Enter, Leave, Nop}
 use Rattle.un_isa.specs.declared.instr.Instr.{Instr}
 use Rattle.un_packet.specs.declared.code.Packet.{Packet}
@@ -59,7 +60,7 @@ no_such_label h =
     by k below is
   where
     by : (k : ℕ) → k < 1 → get_or (codes "e" ∷ []) k (codes "f") ≡ codes "f" → ⊥
-    by zero below is = cc is
+    by zero below is = let e = ap (λ label. slice_index label 0) is in omega (arith, e)
     by (suc k) below is = omega arith
 
 -- ---- packets
@@ -124,7 +125,7 @@ stack_is_a_base : IsGoodInstr 8 (i Load (r 0) (29 ∷ []) (pos 0) None) → ⊥
 stack_is_a_base h = h.base refl
 
 wide_literal : IsGoodInstr 8 (i Imm (r 0) [] (pos 32768) None) → ⊥
-wide_literal h = let k = h.literal.1 in cc k
+wide_literal h = let k = h.literal.1 in omega (arith, ints, k)
 
 half_word : IsGoodInstr 8 (i Reload (r 0) [] (pos 2) None) → ⊥
 half_word h = let k = h.literal.2 in cc k

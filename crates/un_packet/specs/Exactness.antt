@@ -1,10 +1,11 @@
 -- Equal packets and blocks are identical where equal instructions are.
-use Rattle.std.specs.Prelude.{◌≡◌, ◌&&◌, Bool, true, List}
+use Rattle.std.specs.Prelude.{ℕ, pos, ◌≡◌, ◌&&◌, Bool, true, false, List, [], Some, None}
 use Rattle.std.specs.Cmp.Lexicographic.{pointwise}
-use Rattle.std.proofs.Common.{ap}
+use Rattle.std.proofs.Common.{ap, refl}
 use Rattle.un_lists.specs.Exactness.{list_exact, list_reflexive}
 use Rattle.un_isa.specs.declared.instr.Instr.{Instr}
-use Rattle.un_isa.specs.Exactness.{padded_same, name_exact, name_reflexive, both}
+use Rattle.un_isa.specs.declared.op.Op.TheVariants.{Nop}
+use Rattle.un_isa.specs.Exactness.{padded_same, made, instr_exact, instr_reflexive}
 use Rattle.un_packet.specs.declared.code.Packet.{Packet}
 use Rattle.un_packet.specs.declared.code.CodeBlock.{CodeBlock}
 
@@ -15,6 +16,22 @@ packet_exact eq exact a b h = ap (λ (is : List Instr). let p : Packet = record 
 pub packet_reflexive : (eq : Instr → Instr → Bool) → ((a : Instr) → eq a a ≡ true) → (a : Packet) → pointwise eq a.instrs a.instrs ≡ true
 packet_reflexive eq reflexive a = list_reflexive eq reflexive a.instrs
 
+both : (b c : Bool) → (b && c) ≡ true → (b ≡ true) × (c ≡ true)
+both true c h = (refl, h)
+both false c h = absurd (cc h)
+
+-- a label alone, as an instruction has it
+abbrev labelled : List ℕ → Instr
+labelled label = made Nop None [] (pos 0) (Some label)
+
+label_exact : (a b : List ℕ) → padded_same a b ≡ true → a ≡ b
+label_exact a b h =
+    let same : labelled a ≡ labelled b = instr_exact (labelled a) (labelled b) h in
+    let e = ap (λ (i : Instr). i.label) same in cc e
+
+label_reflexive : (a : List ℕ) → padded_same a a ≡ true
+label_reflexive a = instr_reflexive (labelled a)
+
 made_same : (k l : List ℕ) (ps qs : List Packet) → k ≡ l → ps ≡ qs
     → (let a : CodeBlock = record { label = k; packets = ps } in let b : CodeBlock = record { label = l; packets = qs } in a ≡ b)
 made_same k l ps qs e f = rw (e, f) refl
@@ -23,8 +40,8 @@ pub block_exact : (eq : Packet → Packet → Bool) → ((a b : Packet) → eq a
     → (padded_same a.label b.label && pointwise eq a.packets b.packets) ≡ true → a ≡ b
 block_exact eq exact a b h =
     let parts = both (padded_same a.label b.label) (pointwise eq a.packets b.packets) h in
-    made_same a.label b.label a.packets b.packets (name_exact a.label b.label parts.0) (list_exact eq exact a.packets b.packets parts.1)
+    made_same a.label b.label a.packets b.packets (label_exact a.label b.label parts.0) (list_exact eq exact a.packets b.packets parts.1)
 
 pub block_reflexive : (eq : Packet → Packet → Bool) → ((a : Packet) → eq a a ≡ true) → (a : CodeBlock)
     → (padded_same a.label a.label && pointwise eq a.packets a.packets) ≡ true
-block_reflexive eq reflexive a = rw (name_reflexive a.label) (list_reflexive eq reflexive a.packets)
+block_reflexive eq reflexive a = rw (label_reflexive a.label) (list_reflexive eq reflexive a.packets)

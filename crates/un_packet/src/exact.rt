@@ -1,6 +1,8 @@
 //! Equal packets, blocks and code are identical.
 
 ghost use Rattle.std.specs.Prelude.{◌≡◌, ◌↔◌, IsTrue};
+ghost use Rattle.un_isa.specs.Exactness.{instr_exact, instr_reflexive};
+ghost use Rattle.un_packet.specs.Exactness.{packet_exact, packet_reflexive, block_exact, block_reflexive};
 
 use crate::code::{Code, CodeBlock, Packet};
 use un_base::name::Name;
@@ -9,19 +11,15 @@ use un_lists::exact::{Exact, same};
 use un_lists::items::Items;
 
 impl Exact for Packet {
-    ghost use Rattle.un_packet.specs.Exactness.{packet_exact, packet_reflexive};
+    ghost is_exact = { packet_exact ⟦<Instr as PartialEq>⟧.eq instr_exact };
 
-    ghost is_exact = { packet_exact ⟦<Instr as PartialEq>⟧.eq ⟦<Instr as Exact>⟧.is_exact };
-
-    ghost is_reflexive = { packet_reflexive ⟦<Instr as PartialEq>⟧.eq ⟦<Instr as Exact>⟧.is_reflexive };
+    ghost is_reflexive = { packet_reflexive ⟦<Instr as PartialEq>⟧.eq instr_reflexive };
 }
 
 impl Exact for CodeBlock {
-    ghost use Rattle.un_packet.specs.Exactness.{block_exact, block_reflexive};
+    ghost is_exact = { block_exact ⟦<Packet as PartialEq>⟧.eq (packet_exact ⟦<Instr as PartialEq>⟧.eq instr_exact) };
 
-    ghost is_exact = { block_exact ⟦<Packet as PartialEq>⟧.eq ⟦<Packet as Exact>⟧.is_exact };
-
-    ghost is_reflexive = { block_reflexive ⟦<Packet as PartialEq>⟧.eq ⟦<Packet as Exact>⟧.is_reflexive };
+    ghost is_reflexive = { block_reflexive ⟦<Packet as PartialEq>⟧.eq (packet_reflexive ⟦<Instr as PartialEq>⟧.eq instr_reflexive) };
 }
 
 /// Whether two codes are one.
