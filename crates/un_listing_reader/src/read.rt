@@ -31,6 +31,7 @@ fn add_label_of(labels: &mut Labels, line: &Option<Line>) -> Result<(), NoMemory
     match line {
         Some(Line::Block(label)) => labels.add(label),
         Some(Line::Packet(_)) => Ok(()),
+        Some(Line::Broken) => Ok(()),
         None => Ok(()),
     }
 }
@@ -58,6 +59,7 @@ fn note(before: &mut Before, line: &Line) -> Result<(), NoMemory>
             before.blocks = before.blocks.saturating_add(1);
         }
         Line::Packet(_) => before.packets = before.packets.saturating_add(1),
+        Line::Broken => {}
     }
     Ok(())
 }
@@ -140,6 +142,7 @@ fn add_line(alloc: Global, blocks: &mut Vec<CodeBlock>, line: Line) -> Result<()
             }
             None => Ok(()),
         },
+        Line::Broken => Ok(()),
     }
 }
 

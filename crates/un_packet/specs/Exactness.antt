@@ -5,7 +5,7 @@ use Rattle.std.proofs.Common.{ap, refl}
 use Rattle.un_lists.specs.Exactness.{list_exact, list_reflexive}
 use Rattle.un_isa.specs.declared.instr.Instr.{Instr}
 use Rattle.un_isa.specs.declared.op.Op.TheVariants.{Nop}
-use Rattle.un_isa.specs.Exactness.{padded_same, made, instr_exact, instr_reflexive}
+use Rattle.un_isa.specs.Exactness.{padded_same, instr_exact, instr_reflexive}
 use Rattle.un_packet.specs.declared.code.Packet.{Packet}
 use Rattle.un_packet.specs.declared.code.CodeBlock.{CodeBlock}
 
@@ -22,7 +22,7 @@ both false c h = absurd (cc h)
 
 -- a label alone, as an instruction has it
 abbrev labelled : List ℕ → Instr
-labelled label = made Nop None [] (pos 0) (Some label)
+labelled label = record { op = Nop; dst = None; srcs = []; imm = pos 0; label = Some label }
 
 label_exact : (a b : List ℕ) → padded_same a b ≡ true → a ≡ b
 label_exact a b h =
