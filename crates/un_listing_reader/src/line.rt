@@ -5,7 +5,7 @@ ghost use Rattle.un_isa.specs.declared.reg.TheConstants.{FRAME};
 ghost use Rattle.un_base.specs.Names.{is_name};
 ghost use Rattle.un_listing_reader.specs.Reading.{Spells, IsReadAs, IsFrameLine};
 
-use crate::packet::read_packet;
+use crate::packet::{PacketRead, read_packet};
 use std::alloc::Global;
 use un_base::decimal::read_decimal;
 use un_base::memory_error::NoMemory;
@@ -13,11 +13,13 @@ use un_base::name::Name;
 use un_isa::reg::FRAME;
 use un_packet::code::Packet;
 
-/// A line behind the first: the line of a block's label, or of a packet.
+/// A line behind the first: the line of a block's label, that of a packet, or one that is a packet's by its form and breaks a rule
+/// of packets.
 #[derive(Drop)]
 pub enum Line {
     Block(Name),
     Packet(Packet),
+    Broken,
 }
 
 /// What stands between a text and the line feed.
@@ -36,7 +38,7 @@ fn block_label(line: &[u8]) -> Option<Name>
     Name::from_bytes(within(line, b"block ")?)
 }
 
-/// The line of a listing with a frame of so many bytes, behind its first line, where it spells one.
+/// What a line of a listing with a frame of so many bytes is, behind its first line.
 ///
 /// # Errors
 /// `NoMemory` where there is no memory for the line or for what it is compared with.
@@ -49,8 +51,9 @@ pub fn read_line(alloc: Global, frame: u32, text: &[u8]) -> Result<Option<Line>,
         return Ok(Some(Line::Block(label)));
     }
     match read_packet(alloc, frame, text)? {
-        Some(packet) => Ok(Some(Line::Packet(packet))),
-        None => Ok(None),
+        PacketRead::Good(packet) => Ok(Some(Line::Packet(packet))),
+        PacketRead::Broken => Ok(Some(Line::Broken)),
+        PacketRead::Other => Ok(None),
     }
 }
 

@@ -5,6 +5,7 @@ ghost use Rattle.std.specs.Prelude.{IfOk};
 ghost use Rattle.std.specs.List.{list_any, range_with_len, flat_map};
 ghost use Rattle.std.specs.Bool.{OnTrue};
 ghost use Rattle.un_isa.specs.declared.reg.TheConstants.{FRAME};
+ghost use Rattle.un_isa.specs.Operands.{HasLiteral};
 ghost use Rattle.un_isa.specs.PacketCounts.{FitPacket};
 ghost use Rattle.un_isa.specs.Registers.{space_of};
 ghost use Rattle.un_listing_reader.specs.Needed.{counts_from, is_distinct};
@@ -49,7 +50,7 @@ fn count_up(regs: &[Reg]) -> bool
 }
 
 /// Whether a register lies in the space.
-fn is_in(reg: Reg, space: Space) -> bool
+pub(crate) fn is_in(reg: Reg, space: Space) -> bool
     ensures { IsTrue result ↔ (space_of reg.0 ≡ space) }
 {
     match space {
@@ -60,7 +61,7 @@ fn is_in(reg: Reg, space: Space) -> bool
 }
 
 /// Whether the registers lie in these spaces, one for one.
-fn are_in(regs: &[Reg], spaces: &[Space]) -> bool
+pub(crate) fn are_in(regs: &[Reg], spaces: &[Space]) -> bool
     ensures { IsTrue result ↔ (map (λ r. space_of r.0) regs.now ≡ spaces.now) }
 {
     if regs.len() != spaces.len() {
@@ -86,7 +87,7 @@ fn reads_its_spaces(op: Op, srcs: &[Reg]) -> bool
 }
 
 /// Whether the register that is written is one of the operation.
-fn writes_its_space(op: Op, dst: Option<Reg>) -> bool
+pub(crate) fn writes_its_space(op: Op, dst: Option<Reg>) -> bool
     ensures { IsTrue result ↔ (WritesItsSpace op dst) }
 {
     match op {
@@ -109,6 +110,16 @@ fn has_its_base(op: Op, srcs: &[Reg]) -> bool
     }
 }
 
+/// Whether the number is in the range of the operation's literal, or 0 where it has none.
+pub(crate) fn has_literal(op: Op, n: i32) -> bool
+    ensures { IsTrue result ↔ (HasLiteral op n) }
+{
+    match literal_range(op) {
+        None => n == 0,
+        Some(range) => is_in_range(range, n),
+    }
+}
+
 /// Whether the number is one of the operation, in code with a frame of so many bytes.
 fn has_its_number(frame: u32, op: Op, n: i32) -> bool
     requires { frame ≤ FRAME }
@@ -117,10 +128,7 @@ fn has_its_number(frame: u32, op: Op, n: i32) -> bool
     match op {
         Op::Enter => frame > 0 && n == -(frame as i32),
         Op::Leave => frame > 0 && n == frame as i32,
-        _ => match literal_range(op) {
-            None => n == 0,
-            Some(range) => is_in_range(range, n),
-        },
+        _ => has_literal(op, n),
     }
 }
 
@@ -135,7 +143,7 @@ fn is_some_name(name: &Option<Name>) -> bool
 }
 
 /// Whether there is a label exactly where the operation has one.
-fn has_its_label(op: Op, label: &Option<Name>) -> bool
+pub(crate) fn has_its_label(op: Op, label: &Option<Name>) -> bool
     ensures { IsTrue result ↔ (HasItsLabel op label.now) }
 {
     match op {
