@@ -34,7 +34,7 @@ fn run_on<S: Source, K: Sink, E: Sink>(
 ) -> ExitCode
     ensures refused { (place : ℕ) → IsBadWord words.now place → exit_status result ≡ 4 }
     ensures told { (status : Status) × (exit_status result ≡ number_of status)
-        × IfSome (S.left src.old) (λ text. OutAfter status text (K.held out.old) (K.held out.new))
+        × IfSome (S.left src.old) (λ text. OutAfter status words.now text (K.held out.old) (K.held out.new))
         × KeepsOut status (K.held out.old) (K.held out.new)
         × AppendsPrefix (E.held err.old) (E.held err.new) (line_of status) }
 {
