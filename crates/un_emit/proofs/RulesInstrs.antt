@@ -348,7 +348,7 @@ module _ (e : Ext) (o : Options) (values : List ℕ) (h : Solved e o values) whe
           stack = λ z. absurd (cc z);
           base = base_of op srcs (srcs_safe act);
           literal = f.literal;
-          label = f.label (named_blocks e o values h) (end_leads term k);
+          label = f.label named_blocks (end_leads term k);
         }
 
     -- ---- a copy

@@ -94,20 +94,20 @@ module _ (frame : ℕ) (small : frame ≤ FRAME) (line : List ℕ) where
         )
 
     pub not_formed : (b : Bool) → b ≡ false → IsTrue b ↔ IsFormOf is line → IsPacketReadAs frame line Other
-    not_formed b no told = (λ p h. never (line_form (its_line p h)), λ f. never (form_form f))
+    not_formed b fails told = (λ p h. never (line_form (its_line p h)), λ f. never (form_form f))
       where
         never : IsFormOf is line → ⊥
-        never both = true≢false (sym (told.1 both) ∙ no)
+        never both = true≢false (sym (told.1 both) ∙ fails)
 
     pub by_its_rules : (b : Bool) → b ≡ true → IsTrue b ↔ IsFormOf is line → (r : PacketRead) → IsByRules frame (made is) r
         → IsPacketReadAs frame line r
-    by_its_rules b yes told (Good q) h =
-        subst (IsPacketLine frame line) (sym h.1) (record { rules = h.0; text = sym (told.0 yes).1 })
-    by_its_rules b yes told Broken h = (
+    by_its_rules b passes told (Good q) h =
+        subst (IsPacketLine frame line) (sym h.1) (record { rules = h.0; text = sym (told.0 passes).1 })
+    by_its_rules b passes told Broken h = (
       λ p k. (let good = its_line p k in h good.rules),
-      record { packet = made is; parts = found; formed = (told.0 yes).0; text = sym (told.0 yes).1 },
+      record { packet = made is; parts = found; formed = (told.0 passes).0; text = sym (told.0 passes).1 },
     )
-    by_its_rules b yes told Other h = absurd h
+    by_its_rules b passes told Other h = absurd h
 
   -- a line of a packet is read as that packet
   pub whole : (r : PacketRead) → IsPacketReadAs frame line r → (p : Packet) → IsPacketLine frame line p → r ≡ Good p

@@ -1,12 +1,11 @@
 -- What a line is read as, by what it is as a packet's.
-use Rattle.std.proofs.Common.{◌≡◌, ℕ, true, List, ◌++◌, Option, Some, None, codes}
+use Rattle.std.proofs.Common.{◌≡◌, ℕ, true, List, ◌++◌, codes}
 use Rattle.un_base.specs.Names.{is_name}
 use Rattle.un_packet.specs.declared.code.Packet.{Packet}
-use Rattle.un_listing_reader.specs.declared.line.Line.{Line}
 use Rattle.un_listing_reader.specs.declared.line.Line.TheVariants.{Block as BlockLine, Packet as PacketLine, Broken as BrokenLine}
 use Rattle.un_listing_reader.specs.declared.packet.PacketRead.{PacketRead}
 use Rattle.un_listing_reader.specs.declared.packet.PacketRead.TheVariants.{Good, Broken, Other}
-use Rattle.un_listing_reader.specs.PacketReads.{IsPacketReadAs}
+use Rattle.un_listing_reader.specs.PacketReads.{IsPacketReadAs, line_of}
 use Rattle.un_listing_reader.specs.PacketWords.{IsPacketLine}
 use Rattle.un_listing_reader.specs.Reading.{Spells, SpellsNone, IsReadAs}
 
@@ -14,15 +13,10 @@ use Rattle.un_listing_reader.specs.Reading.{Spells, SpellsNone, IsReadAs}
 abbrev pub HasNoLabel : List ℕ → Type 0
 HasNoLabel text = (label : List ℕ) → is_name label ≡ true → text ≡ codes "block " ++ (label ++ codes "\n") → ⊥
 
-abbrev pub line_of : PacketRead → Option Line
-line_of (Good p) = Some (PacketLine p)
-line_of Broken = Some BrokenLine
-line_of Other = None
-
 spells_none : (frame : ℕ) (text : List ℕ) → HasNoLabel text → ((p : Packet) → ¬ IsPacketLine frame text p) → SpellsNone frame text
-spells_none frame text none no (BlockLine label) s = none label s.good s.spelled
-spells_none frame text none no (PacketLine p) s = no p (record { rules = s.good; text = s.spelled })
-spells_none frame text none no BrokenLine s = s.good
+spells_none frame text none unlike (BlockLine label) s = none label s.good s.spelled
+spells_none frame text none unlike (PacketLine p) s = unlike p (record { rules = s.good; text = s.spelled })
+spells_none frame text none unlike BrokenLine s = s.good
 
 pub line_read : (frame : ℕ) (text : List ℕ) → HasNoLabel text → (r : PacketRead) → IsPacketReadAs frame text r
     → IsReadAs frame text (line_of r)

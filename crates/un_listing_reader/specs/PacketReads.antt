@@ -1,7 +1,9 @@
 -- What a line is read as, as a packet's.
-use Rattle.std.specs.Prelude.{ℕ, ◌≡◌, List}
+use Rattle.std.specs.Prelude.{ℕ, ◌≡◌, List, Option, Some, None}
 use Rattle.un_packet.specs.declared.code.Packet.{Packet}
 use Rattle.un_packet.specs.CodeRules.{IsGoodPacket}
+use Rattle.un_listing_reader.specs.declared.line.Line.{Line}
+use Rattle.un_listing_reader.specs.declared.line.Line.TheVariants.{Packet as PacketLine, Broken as BrokenLine}
 use Rattle.un_listing_reader.specs.declared.packet.PacketRead.{PacketRead}
 use Rattle.un_listing_reader.specs.declared.packet.PacketRead.TheVariants.{Good, Broken, Other}
 use Rattle.un_listing_reader.specs.PacketForms.{IsPacketForm}
@@ -18,3 +20,9 @@ abbrev pub IsPacketReadAs : ℕ → List ℕ → PacketRead → Type 0
 IsPacketReadAs frame line (Good p) = IsPacketLine frame line p
 IsPacketReadAs frame line Broken = ((p : Packet) → ¬ IsPacketLine frame line p) × IsPacketForm line
 IsPacketReadAs frame line Other = ((p : Packet) → ¬ IsPacketLine frame line p) × ¬ IsPacketForm line
+
+-- the line that it is
+abbrev pub line_of : PacketRead → Option Line
+line_of (Good p) = Some (PacketLine p)
+line_of Broken = Some BrokenLine
+line_of Other = None

@@ -3,6 +3,7 @@
 ghost use Rattle.std.specs.Prelude.{◌≡◌, ◌≢◌, ℕ, List, [], ◌∷◌, ◌++◌, ◌≤◌, true, IfOk, IfSome, IfNone, codes};
 ghost use Rattle.un_isa.specs.declared.reg.TheConstants.{FRAME};
 ghost use Rattle.un_base.specs.Names.{is_name};
+ghost use Rattle.un_listing_reader.specs.PacketReads.{line_of};
 ghost use Rattle.un_listing_reader.specs.Reading.{Spells, IsReadAs, IsFrameLine};
 
 use crate::packet::{PacketRead, read_packet};
@@ -38,6 +39,17 @@ fn block_label(line: &[u8]) -> Option<Name>
     Name::from_bytes(within(line, b"block ")?)
 }
 
+/// The line that it is, by what it is as a packet's.
+fn line_of(read: PacketRead) -> Option<Line>
+    ensures { result ≡ line_of read }
+{
+    match read {
+        PacketRead::Good(packet) => Some(Line::Packet(packet)),
+        PacketRead::Broken => Some(Line::Broken),
+        PacketRead::Other => None,
+    }
+}
+
 /// What a line of a listing with a frame of so many bytes is, behind its first line.
 ///
 /// # Errors
@@ -50,11 +62,8 @@ pub fn read_line(alloc: Global, frame: u32, text: &[u8]) -> Result<Option<Line>,
     if let Some(label) = block_label(text) {
         return Ok(Some(Line::Block(label)));
     }
-    match read_packet(alloc, frame, text)? {
-        PacketRead::Good(packet) => Ok(Some(Line::Packet(packet))),
-        PacketRead::Broken => Ok(Some(Line::Broken)),
-        PacketRead::Other => Ok(None),
-    }
+    let read = read_packet(alloc, frame, text)?;
+    Ok(line_of(read))
 }
 
 /// The size of the frame in bytes, where the first line spells it.

@@ -17,6 +17,7 @@ use Rattle.un_faults.specs.declared.fault.Fault.TheVariants.{TooMany}
 use Rattle.un_top.specs.Faults.{IsFault}
 use Rattle.un_top.specs.declared.words.Command.{Command}
 use Rattle.un_top.specs.declared.words.Command.TheVariants.{Alloc}
+use Rattle.un_top.specs.Words.{IsCommand}
 use Rattle.un_top.specs.Runs.{AnswersFault, AnswersAccepted, IsAnswer, IsRefusal, IsOutput, IsOutputOf, KeepsOut, OutAfter}
 use Rattle.un_top.proofs.FaultLaws.{fault_unique, read_has_no_fault}
 
@@ -51,6 +52,19 @@ refused_fault text line code (BadReport l) r f h = absurd r
 -- what has an output is the text of a function
 text_of : (command : Command) (text out : List ℕ) → IsOutput command text out → (f : Function) × IsRead text f
 text_of Alloc text out h = (h.function, h.read)
+
+-- an output of the command that the words are, over the text that the source told
+pub with_command : (words : List (List ℕ)) (command : Command) (told : Option (List ℕ)) (text : List ℕ)
+    (outcome : Result (Vec ℕ Global) Status) → IsCommand words command → IfSome told (λ (bs : List ℕ). text ≡ bs)
+    → IfOk outcome (λ out. IsOutput command text out.items)
+    → IfOk outcome (λ out. IfSome told (λ (bs : List ℕ). IsOutputOf words bs out.items))
+with_command words command told text (Err e) is same output = tt
+with_command words command None text (Ok out) is same output = tt
+with_command words command (Some bs) text (Ok out) is same output = record {
+  command = command;
+  asked = is;
+  output = subst (λ (x : List ℕ). IsOutput command x out.items) same output;
+}
 
 -- a run that wrote, or refused before it, answers the text's fault
 pub answers_fault : (words : List (List ℕ)) (told : Option (List ℕ)) (outcome : Result (Vec ℕ Global) Status) (status : Status) → IfErr outcome IsRefusal

@@ -10,8 +10,7 @@ pub loop-reg-preserved : goal.loop-reg-preserved
 loop-reg-preserved c =
     let passed : c.is_in.result ≡ true = search rules in
     let here = c.is_in.ensures.0 passed in
-    All-more IsGeneral c.args.regs.now c.loop-reg.reg-index c.reg-item.result (omega arith) c.loop-reg.invariant
-    (subst (λ (x : Reg). IsGeneral x) c.reg-item.is here)
+    All-more IsGeneral c.args.regs.now c.loop-reg.reg-index _ (omega arith) c.loop-reg.invariant here
 
 pub returns : goal.returns
 returns c = (

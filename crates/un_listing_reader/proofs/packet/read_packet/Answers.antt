@@ -11,16 +11,16 @@ returns-in_default c =
     let read = other c.args.frame c.requires c.args.line.now none in
     record { read = read; whole = whole c.args.frame c.requires c.args.line.now _ read }
 
-pub returns-then-branch : goal.returns-then-branch
-returns-then-branch c =
+pub returns-in_ok-read : goal.returns-in_ok-read
+returns-in_ok-read c =
     let found : instrs_in (parts_of c.args.line.now) ≡ Some c.in-Some.instrs = search rules in
-    let read = by_its_rules c.args.frame c.requires c.args.line.now c.in-Some.instrs found c.in_ok-is_form_of.is_form_of c.if-branch.true
+    let read = by_its_rules c.args.frame c.requires c.args.line.now c.in-Some.instrs found _ c.if-branch.true
     c.in_ok-is_form_of.ensures c.in_ok-read.read c.in_ok-read.ensures in
     record { read = read; whole = whole c.args.frame c.requires c.args.line.now _ read }
 
 pub returns-else-branch : goal.returns-else-branch
 returns-else-branch c =
     let found : instrs_in (parts_of c.args.line.now) ≡ Some c.in-Some.instrs = search rules in
-    let read = not_formed c.args.frame c.requires c.args.line.now c.in-Some.instrs found c.in_ok-is_form_of.is_form_of c.if-branch.false
+    let read = not_formed c.args.frame c.requires c.args.line.now c.in-Some.instrs found _ c.if-branch.false
     c.in_ok-is_form_of.ensures in
     record { read = read; whole = whole c.args.frame c.requires c.args.line.now _ read }
