@@ -109,7 +109,8 @@ module _ (frame : ℕ) (small : frame ≤ FRAME) where
       (packet_no_feed p here) (record { good = here; spelled = refl })
       (packets_spelled ps (All-tail (IsGoodPacket frame) p ps good) rest ls later)
 
-  pub blocks_spelled : (labels : List (List ℕ)) (bs : List CodeBlock) → All (IsGoodCodeBlock frame labels) bs → All (λ (b : CodeBlock). is_name b.label ≡ true) bs
+  pub blocks_spelled : (labels : List (List ℕ)) (bs : List CodeBlock) → All (IsGoodCodeBlock frame labels) bs
+      → All (λ (b : CodeBlock). is_name b.label ≡ true) bs
       → AllZip (IsSpelled frame) (pieces_of (joined_lines (flat_map block_lines bs))) (lines_in bs)
   blocks_spelled labels [] good named = tt
   blocks_spelled labels (b ∷ bs) good named =
@@ -124,7 +125,8 @@ module _ (frame : ℕ) (small : frame ≤ FRAME) where
       ∙ append_assoc (codes "block " ++ b.label) (10 ∷ []) (packets ++ rest))
       (label_no_feed b.label name) (record { good = name; spelled = refl })
       (packets_spelled b.packets here.packets rest (lines_in bs)
-      (blocks_spelled labels bs (All-tail (IsGoodCodeBlock frame labels) b bs good) (All-tail (λ (b : CodeBlock). is_name b.label ≡ true) b bs named)))
+      (blocks_spelled labels bs (All-tail (IsGoodCodeBlock frame labels) b bs good)
+      (All-tail (λ (b : CodeBlock). is_name b.label ≡ true) b bs named)))
 
   -- the first piece tells the frame
   pub first_piece : (ls : List (List ℕ))

@@ -1,5 +1,6 @@
 -- Parts that break one rule of code each.
-use Rattle.std.proofs.Common.{ℕ, zero, suc, pos, negsuc, ◌≡◌, ◌+◌, ◌<◌, true, List, [], ◌∷◌, None, IsSomeAnd, slice_get, get_or, refl, ap, arith, lit<}
+use Rattle.std.proofs.Common.{ℕ, zero, suc, pos, negsuc, ◌≡◌, ◌+◌, ◌<◌, true, List, [], ◌∷◌, None, IsSomeAnd, slice_get, get_or, refl, ap}
+use Rattle.std.proofs.Common.{arith, lit<}
 use Rattle.std.specs.Prelude.{codes, slice_index}
 use Rattle.std.proofs.lemmas.Int.{ints}
 use Rattle.un_isa.specs.declared.op.Op.TheVariants.{Imm, Mov, Add, Mpyi, Load, Store, Call, Jump, Jumpr, Reload, Enter, Leave, Nop}

@@ -18,8 +18,8 @@ abbrev pub made : (frame : ℕ) (bs : List CodeBlock) → Keeps frame bs → Cod
 made frame bs rules = record { frame = frame; blocks = bs; rules = rules }
 
 -- code is told by its parts, since its rules are kept in one way
-pub same_code : (frame frame' : ℕ) (bs bs' : List CodeBlock) → frame ≡ frame' → bs ≡ bs' → (rules : Keeps frame bs) (rules' : Keeps frame' bs')
-    → made frame bs rules ≡ made frame' bs' rules'
+pub same_code : (frame frame' : ℕ) (bs bs' : List CodeBlock) → frame ≡ frame' → bs ≡ bs' → (rules : Keeps frame bs)
+    (rules' : Keeps frame' bs') → made frame bs rules ≡ made frame' bs' rules'
 same_code frame frame' bs bs' e f rules =
     subst (λ (n : ℕ). (k : Keeps n bs') → made frame bs rules ≡ made n bs' k) e
     (subst (λ (x : List CodeBlock). (k : Keeps frame x) → made frame bs rules ≡ made frame x k) f

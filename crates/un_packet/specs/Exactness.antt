@@ -11,7 +11,8 @@ use Rattle.un_packet.specs.declared.code.CodeBlock.{CodeBlock}
 
 pub packet_exact : (eq : Instr → Instr → Bool) → ((a b : Instr) → eq a b ≡ true → a ≡ b) → (a b : Packet)
     → pointwise eq a.instrs b.instrs ≡ true → a ≡ b
-packet_exact eq exact a b h = ap (λ (is : List Instr). let p : Packet = record { instrs = is } in p) (list_exact eq exact a.instrs b.instrs h)
+packet_exact eq exact a b h =
+    ap (λ (is : List Instr). let p : Packet = record { instrs = is } in p) (list_exact eq exact a.instrs b.instrs h)
 
 pub packet_reflexive : (eq : Instr → Instr → Bool) → ((a : Instr) → eq a a ≡ true) → (a : Packet) → pointwise eq a.instrs a.instrs ≡ true
 packet_reflexive eq reflexive a = list_reflexive eq reflexive a.instrs

@@ -53,21 +53,16 @@ refused_fault text line code (BadReport l) r f h = absurd r
 text_of : (command : Command) (text out : List ℕ) → IsOutput command text out → (f : Function) × IsRead text f
 text_of Alloc text out h = (h.function, h.read)
 
--- an output of the command that the words are, over the text that the source told
-pub with_command : (words : List (List ℕ)) (command : Command) (told : Option (List ℕ)) (text : List ℕ)
-    (outcome : Result (Vec ℕ Global) Status) → IsCommand words command → IfSome told (λ (bs : List ℕ). text ≡ bs)
-    → IfOk outcome (λ out. IsOutput command text out.items)
-    → IfOk outcome (λ out. IfSome told (λ (bs : List ℕ). IsOutputOf words bs out.items))
-with_command words command told text (Err e) is same output = tt
-with_command words command None text (Ok out) is same output = tt
-with_command words command (Some bs) text (Ok out) is same output = record {
-  command = command;
-  asked = is;
-  output = subst (λ (x : List ℕ). IsOutput command x out.items) same output;
-}
+-- an output of the command that the words are
+pub with_command : (words : List (List ℕ)) (command : Command) (text : List ℕ) (outcome : Result (Vec ℕ Global) Status)
+    → IsCommand words command → IfOk outcome (λ out. IsOutput command text out.items)
+    → IfOk outcome (λ out. IsOutputOf words text out.items)
+with_command words command text (Err e) is output = tt
+with_command words command text (Ok out) is output = record { command = command; asked = is; output = output }
 
 -- a run that wrote, or refused before it, answers the text's fault
-pub answers_fault : (words : List (List ℕ)) (told : Option (List ℕ)) (outcome : Result (Vec ℕ Global) Status) (status : Status) → IfErr outcome IsRefusal
+pub answers_fault : (words : List (List ℕ)) (told : Option (List ℕ)) (outcome : Result (Vec ℕ Global) Status) (status : Status)
+    → IfErr outcome IsRefusal
     → IfErr outcome (λ e. status ≡ e)
     → ((l c : ℕ) → outcome ≡ Err (TextFault l c) → IfSome told (λ (text : List ℕ). IsFault text l c))
     → IfOk outcome (λ out. IfSome told (λ (text : List ℕ). IsOutputOf words text out.items))
@@ -113,8 +108,8 @@ refused_out (No cause) words text old new r k = absurd r
 refused_out (BadReport l) words text old new r k = absurd r
 
 -- what `out` holds after a run that wrote, or refused before it
-pub out_after : (words : List (List ℕ)) (told : Option (List ℕ)) (outcome : Result (Vec ℕ Global) Status) (status : Status) (old new : Option (List ℕ))
-    → IfErr outcome IsRefusal → IfErr outcome (λ e. status ≡ e) → OnErr outcome (new ≡ old)
+pub out_after : (words : List (List ℕ)) (told : Option (List ℕ)) (outcome : Result (Vec ℕ Global) Status) (status : Status)
+    (old new : Option (List ℕ)) → IfErr outcome IsRefusal → IfErr outcome (λ e. status ≡ e) → OnErr outcome (new ≡ old)
     → (status ≡ Done → IfOk outcome (λ out. Appends old new out.items))
     → (status ≡ WriteFault → IfOk outcome (λ out. AppendsPrefix old new out.items))
     → OnOk outcome ((status ≡ Done) ⊎ (status ≡ WriteFault))

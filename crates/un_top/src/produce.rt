@@ -6,7 +6,7 @@ ghost use Rattle.un_outside.specs.Causes.{Rose};
 ghost use Rattle.un_reader.specs.Read.{IsRead};
 ghost use Rattle.un_top.specs.Faults.{IsFault};
 ghost use Rattle.un_top.specs.Reports.{IsReportOf};
-ghost use Rattle.un_top.specs.Words.{IsBadWord};
+ghost use Rattle.un_top.specs.Words.{IsBadWord, IsCommand};
 ghost use Rattle.un_top.specs.Runs.{IsOutput, IsOutputOf, IsTextRefusal, IsRefusal};
 
 use crate::bound::full_packets;
@@ -70,6 +70,23 @@ fn output(alloc: Global, command: Command, text: &[u8]) -> Result<Vec<u8>, Statu
     }
 }
 
+/// What the command of these words puts out over a text.
+fn output_of(
+    alloc: Global,
+    words: &[Word],
+    command: Command,
+    text: &[u8],
+) -> Result<Vec<u8>, Status>
+    requires asked { IsCommand words.now command }
+    requires few { length text.now ≤ TEXT }
+    ensures ok { IfOk result (λ out. IsOutputOf words.now text.now out.items) }
+    ensures fault { (line code : ℕ) → result ≡ Err (Status.TextFault line code) → IsFault text.now line code }
+    ensures only { IfErr result IsTextRefusal }
+{
+    let _ = words;
+    output(alloc, command, text)
+}
+
 /// Looks at the words, reads the input and makes the output. Nothing is read where the words are no command.
 pub fn produce<S: Source>(alloc: Global, words: &[Word], src: &mut S) -> Result<Vec<u8>, Status>
     ensures ok { IfOk result (λ out. IfSome (S.left src.old) (λ text. IsOutputOf words.now text out.items)) }
@@ -97,5 +114,5 @@ pub fn produce<S: Source>(alloc: Global, words: &[Word], src: &mut S) -> Result<
         }
         Err(ReadAll::NoMemory) => return Err(Status::NoMemory),
     };
-    output(alloc, command, text.as_slice())
+    output_of(alloc, words, command, text.as_slice())
 }
