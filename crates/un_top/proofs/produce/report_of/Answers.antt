@@ -1,6 +1,10 @@
 use Rattle.std.proofs.Common.{ℕ, ap, ◌∙◌}
+use Rattle.un_baseline.proofs.Spillable.{default_roomy}
 use Rattle.un_listing.specs.Report.{first_report_text}
 use Rattle.un_top.proofs.produce.report_of.Goals as goal
+
+pub costed_code-requires-clause-roomy : goal.costed_code-requires-clause-roomy
+costed_code-requires-clause-roomy c = default_roomy c.args.f.now
 
 pub returns : goal.returns
 returns c =
