@@ -1,9 +1,7 @@
 -- Under roomy options each name of a function can be spilled, and default options are roomy for every function.
-use Rattle.std.proofs.Common.{◌≡◌, ◌+◌, ◌<◌, ℕ, Some, None, length, sym, subst, arith}
-use Rattle.un_isa.specs.declared.reg.TheConstants.{SLOTS}
+use Rattle.std.proofs.Common.{◌≡◌, ◌+◌, ℕ, Some, None, length, sym, subst, arith}
 use Rattle.un_isa.specs.declared.table.Table.{Table}
 use Rattle.un_ir.specs.declared.function.Function.{Function}
-use Rattle.un_ir.specs.declared.function.TheConstants.{NAMES}
 use Rattle.un_model.specs.declared.model.Model.{Model}
 use Rattle.un_model.specs.declared.model.Options.{Options}
 use Rattle.un_problem.specs.Problems.{IsModelOf, IsProblemOf, default_options}
@@ -33,8 +31,11 @@ pub roomy_model : (t : Table) (f : Function) (o : Options) (m : Model) → IsMod
 roomy_model t f o m is roomy = subst (AreRoomyFor f) (sym (options_are t f o m is)) roomy
 
 -- a function has fewer names than a frame has slots
-pub default_roomy : (f : Function) → AreRoomyFor f default_options
-default_roomy f = record { regs = tt; slots = let few = few_names f in omega (arith, few) }
+own_roomy : (f : Function) → AreRoomyFor f default_options
+own_roomy f = record { regs = tt; slots = let few = few_names f in omega (arith, few) }
+
+pub default_roomy : (f : Function) (o : Options) → o ≡ default_options → AreRoomyFor f o
+default_roomy f o is = subst (AreRoomyFor f) (sym is) (own_roomy f)
 
 -- six registers will do, five will not; nor will as many slots as names
 six_registers : (f : Function) (n : ℕ) → length f.names ≡ n → AreRoomyFor f (record { regs = Some 6; slots = n + 1 })

@@ -6,7 +6,6 @@ use Rattle.std.proofs.Math.Logic.{∥∥₁_elim}
 use Rattle.std.proofs.lemmas.List.{get_or-map, length-map}
 use Rattle.un_base.specs.declared.ids.NameId.{NameId}
 use Rattle.un_isa.specs.Fit.{IsFit}
-use Rattle.un_isa.specs.declared.reg.TheConstants.{SLOTS}
 use Rattle.un_isa.specs.declared.table.Table.{Table}
 use Rattle.un_ir.specs.declared.extended.TheConstants.{BLOCK_SIZE, BLOCK_OPS}
 use Rattle.un_ir.specs.declared.function.Block.{Block}
@@ -18,7 +17,7 @@ use Rattle.un_ir.specs.declared.extended.ExtBlock.{ExtBlock}
 use Rattle.un_ir.specs.declared.extended.Growth.{Growth}
 use Rattle.un_ir.specs.declared.extended.Value.{Value}
 use Rattle.un_ir.specs.ExtendOf.{extended_blocks, extend_of, grown_block}
-use Rattle.un_ir.specs.Extended.{returns, IsLinear, IsExtended}
+use Rattle.un_ir.specs.Extended.{IsLinear, IsExtended}
 use Rattle.un_ir.specs.LinearOf.{AreLive, linear_blocks, past_block, kind_of_pair, lin_of}
 use Rattle.un_ir.specs.WellFormed.{IsGoodBlock, IsWellFormed}
 use Rattle.un_lssa.proofs.KeptFunctions.{made_kept, small_blocks}

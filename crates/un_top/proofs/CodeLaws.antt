@@ -1,12 +1,8 @@
 -- What the code of a function rests on.
-use Rattle.std.proofs.Common.{ℕ, ◌≡◌, List, refl, sym, ap, ◌∙◌, subst}
-use Rattle.un_base.specs.declared.ids.NameId.{NameId}
-use Rattle.un_isa.specs.Fit.{IsFit}
+use Rattle.std.proofs.Common.{ℕ, ◌≡◌, sym, ap, ◌∙◌, subst}
 use Rattle.un_isa.specs.declared.table.Table.{Table}
 use Rattle.un_ir.specs.declared.extended.Ext.{Ext}
 use Rattle.un_ir.specs.declared.function.Function.{Function}
-use Rattle.un_ir.specs.ExtendOf.{extend_of}
-use Rattle.un_ir.specs.LinearOf.{AreLive, lin_of}
 use Rattle.un_model.specs.Cost.{cost_of}
 use Rattle.un_model.specs.Solutions.{IsSolution}
 use Rattle.un_model.specs.Variables.{model_of}
@@ -41,9 +37,13 @@ code_is t f o m s code cost is solves emitted simulates counted costs =
       simulates = subst (λ (u : Table). Simulates u f (start_places m s.values) code) (table_is t f m.ext e) simulates;
     }
 
--- for the table and under the options that its model has
+-- for another table and under other options that are the same
+pub code_at : (t u : Table) (f : Function) (o p : Options) (code : Code) (cost : ℕ) → t ≡ u → o ≡ p → IsCodeOf t f o code cost
+    → IsCodeOf u f p code cost
+code_at t u f o p code cost same chosen is =
+    subst (λ (w : Table). IsCodeOf w f p code cost) same (subst (λ (q : Options). IsCodeOf t f q code cost) chosen is)
+
+-- as for those that its model has
 pub code_for : (t : Table) (f : Function) (o : Options) (m : Model) (code : Code) (cost : ℕ) → IsModelOf t f o m
     → IsCodeOf m.ext.table f m.options code cost → IsCodeOf t f o code cost
-code_for t f o m code cost is own =
-    subst (λ (u : Table). IsCodeOf u f o code cost) (table_is t f m.ext is.ext)
-    (subst (λ (p : Options). IsCodeOf m.ext.table f p code cost) (options_are t f o m is) own)
+code_for t f o m code cost is = code_at m.ext.table t f m.options o code cost (table_is t f m.ext is.ext) (options_are t f o m is)
