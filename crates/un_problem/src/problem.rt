@@ -55,12 +55,7 @@ pub fn extended(alloc: Global, f: &Function, t: &Table) -> Result<Ext, NoMemory>
 ///
 /// # Errors
 /// `NoMemory` where there is no memory for it.
-pub fn model(
-    alloc: Global,
-    f: &Function,
-    t: &Table,
-    options: &Options,
-) -> Result<Model, NoMemory>
+pub fn model(alloc: Global, f: &Function, t: &Table, options: &Options) -> Result<Model, NoMemory>
     requires fit { IsFit t.now }
     requires options { AreOptions options.now }
     ensures gives { IfOk result (IsModelOf t.now f.now options.now) }
