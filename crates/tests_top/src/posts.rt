@@ -14,6 +14,7 @@ use un_base::memory_error::NoMemory;
 use un_domains::store::Store;
 use un_ir::text::{put_number, put_text};
 use un_isa::reg::SLOTS;
+use un_isa::table::hexagon;
 use un_kinds::any::AnyProp;
 use un_model::model::{Model, Options};
 use un_post::post::{Posted, post};
@@ -175,7 +176,7 @@ fn model_under(alloc: Global, function: &[u8], options: &Options) -> Result<Mode
     let Ok(f) = read_function(alloc, function) else {
         return Err(NoMemory);
     };
-    let m = model(alloc, &f, options)?;
+    let m = model(alloc, &f, &hexagon(), options)?;
     Ok(m)
 }
 

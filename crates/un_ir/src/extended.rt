@@ -7,14 +7,22 @@ ghost use Rattle.un_ir.specs.Kinds.{is_optional, is_mandatory, is_delimiter, is_
 ghost use Rattle.un_ir.specs.Kinds.{ends_block, issues_kind};
 ghost use Rattle.un_ir.specs.Linear.{is_in};
 
-use crate::function::{Kind, SrcOp, Term};
+use crate::function::{Kind, NAMES, OPS, PARAMS, SrcOp, Term};
 use std::alloc::AllocError;
 use un_base::ids::{NameId, TempId};
 use un_base::name::Name;
 use un_isa::op::Op;
-use un_isa::reg::Reg;
+use un_isa::reg::{GENERALS, Reg};
 use un_isa::table::Table;
 use un_lists::items::Items;
+
+/// The most operations, operands and results of a block of the linear function of a function, together: its start gives and its end
+/// reads a value for each name and each register that a function keeps, an operation reads at most as many names as a call has
+/// arguments and assigns one, and a terminator reads one.
+pub const BLOCK_SIZE: u32 = 2 * (NAMES + GENERALS + 1) + (PARAMS + 2) * OPS + 4;
+
+/// The most operations of a block of the extended function of a function.
+pub const BLOCK_OPS: u32 = 2 * BLOCK_SIZE;
 
 /// The number of a copy's instruction that moves a register into another; 0 is a copy that is left out.
 pub const MOVE: u32 = 1;

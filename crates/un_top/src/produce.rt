@@ -15,11 +15,13 @@ use crate::words::{Command, read_command};
 use std::alloc::Global;
 use un_base::memory_error::NoMemory;
 use un_ir::function::Function;
+use un_isa::table::hexagon;
 use un_listing::report::print_first_report;
 use un_outside::outside::Source;
 use un_outside::status::Status;
 use un_outside::transfer::{ReadAll, read_all};
 use un_outside::words::Word;
+use un_problem::problem::default_options;
 use un_reader::error::ReadError;
 use un_reader::limits::TEXT;
 use un_reader::read::read_function;
@@ -33,7 +35,7 @@ fn report_of(alloc: Global, text: &[u8], f: &Function) -> Result<Vec<u8>, NoMemo
     ensures { IfOk result (λ out. IsReportOf text.now out.items) }
 {
     let _ = text;
-    let costed = costed_code(alloc, f)?;
+    let costed = costed_code(alloc, f, &hexagon(), &default_options())?;
     let report = print_first_report(alloc, costed.cost, full_packets(f), &costed.code)?;
     Ok(report)
 }
