@@ -7,3 +7,4 @@ pub mod OrderSteps
 pub mod Refusals
 pub mod Rows
 pub mod Survivors
+pub mod Spared
