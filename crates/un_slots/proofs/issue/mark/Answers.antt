@@ -86,21 +86,21 @@ returns-clause-marks c e own =
     let cycles = c.args.scratch.now.cycles.items in
     elim (cases_lt e c.args.horizon) [
       | inl early ↦ ap (λ (b : Bool). nat_lt e c.args.horizon && b) (elim (cases_lt e c.loop-c.c) [
-          | inl below ↦ c.loop-c.invariant.marked e below own
-          | inr past ↦ (
-              let high = has-fold_max 0 xs e own in
-              let top = c.max-high.ensures in
-              let low = least-le xs e own in
-              let first = c.min-low.ensures in
-              let done = c.loop-c-test.false in
-              let idle = c.last_taken-last.ensures.idle e (omega (arith, low, first)) (omega (arith, done, past))
-              (omega (arith, early, high, top, c.min-end.ensures, c.saturating_add.ensures, c.ranges.horizon)) in
-              let two = free_unmarked items s e c.args.k i (listable items c.args.scratch.now.fixed.items) cycles c.requires.item
-              (omega arith) (ap (listable items) (sym c.as_slice.ensures.value) ∙ c.is_free-free.ensures.whole idle.0)
-              (c.requires.listed.heads e early) (ap (λ (ys : List ℕ). get_or ys e 0) (sym c.as_slice-2.ensures.value) ∙ idle.1)
-              (c.is_free-free.ensures.alone idle.0) in
-              ap (λ (y : ℕ). not (nat_eq y (2 ^ 32 - 1))) (c.loop-c.invariant.rest e past) ∙ (two.0 ∙ sym two.1))
-        ])
+        | inl below ↦ c.loop-c.invariant.marked e below own
+        | inr past ↦ (
+            let high = has-fold_max 0 xs e own in
+            let top = c.max-high.ensures in
+            let low = least-le xs e own in
+            let first = c.min-low.ensures in
+            let done = c.loop-c-test.false in
+            let idle = c.last_taken-last.ensures.idle e (omega (arith, low, first)) (omega (arith, done, past))
+            (omega (arith, early, high, top, c.min-end.ensures, c.saturating_add.ensures, c.ranges.horizon)) in
+            let two = free_unmarked items s e c.args.k i (listable items c.args.scratch.now.fixed.items) cycles c.requires.item
+            (omega arith) (ap (listable items) (sym c.as_slice.ensures.value) ∙ c.is_free-free.ensures.whole idle.0)
+            (c.requires.listed.heads e early) (ap (λ (ys : List ℕ). get_or ys e 0) (sym c.as_slice-2.ensures.value) ∙ idle.1)
+            (c.is_free-free.ensures.alone idle.0) in
+            ap (λ (y : ℕ). not (nat_eq y (2 ^ 32 - 1))) (c.loop-c.invariant.rest e past) ∙ (two.0 ∙ sym two.1))
+      ])
       | inr late ↦ (
           let no : nat_lt e c.args.horizon ≡ false = grind (arith, nat_tests, late) in
           ap (λ (b : Bool). b && is_unmarked c.loop-c.scratch.cycles.items e) no
