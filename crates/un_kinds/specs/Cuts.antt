@@ -21,7 +21,7 @@ use Rattle.un_alt.specs.Zeros.{zeros_holds}
 use Rattle.un_rect.specs.Apart.{apart_cut}
 use Rattle.un_rect.specs.Clobber.{clobber_cut}
 use Rattle.un_rect.specs.Operands.{operands_holds, operands_steps}
-use Rattle.un_slots.specs.Fulls.{per_cycle_steps}
+use Rattle.un_slots.specs.Crowds.{per_cycle_steps}
 use Rattle.un_slots.specs.Slots.{per_cycle_holds}
 use Rattle.un_kinds.specs.Constraints.{Constraint, Before, Reads, Inside, Last, Below, Chosen, Zeros, Spaces, Same, Home, Frame}
 use Rattle.un_kinds.specs.Constraints.{Apart, Clobber, Operands, PerCycle}
