@@ -10,10 +10,11 @@ use Rattle.un_prop.specs.Rounds.{HasVars}
 use Rattle.un_alt.specs.Chosen.{chosen_can, chosen_holds}
 use Rattle.un_alt.specs.Filters.{choice_cut}
 use Rattle.un_alt.specs.Frame.{frame_holds}
+use Rattle.un_alt.specs.FrameCuts.{frame_steps}
 use Rattle.un_alt.specs.Home.{home_can, home_holds}
 use Rattle.un_alt.specs.Same.{same_can, same_holds}
 use Rattle.un_alt.specs.Spaces.{spaces_can, spaces_holds}
-use Rattle.un_alt.specs.Zeros.{zeros_holds}
+use Rattle.un_alt.specs.Zeros.{ZerosStrong, zeros_holds, zeros_steps}
 use Rattle.un_prec.specs.Before.{BeforeStrong, before_holds, before_steps}
 use Rattle.un_prec.specs.Below.{BelowStrong, below_holds, below_steps}
 use Rattle.un_prec.specs.Inside.{InsideStrong, inside_holds, inside_steps}
@@ -119,7 +120,7 @@ cut_of (Below p) s = option_and_then (last_cut p.vars (below_holds p.ends p.limi
 cut_of (Chosen p) s = option_and_then
     (last_cut p.vars (chosen_holds p.user p.choice p.alts))
     (choice_cut p.user (Some p.choice) (chosen_can p.alts) (places_in p.alts) s)
-cut_of (Zeros p) s = last_cut p.vars (zeros_holds p.instr p.others) s
+cut_of (Zeros p) s = option_and_then (last_cut p.vars (zeros_holds p.instr p.others)) (zeros_steps p.instr p.others s)
 cut_of (Spaces p) s = option_and_then
     (last_cut p.vars (spaces_holds p.on p.choice p.regs p.sets))
     (choice_cut p.on p.choice (spaces_can p.on p.regs p.sets) (places_in p.regs) s)
@@ -129,7 +130,9 @@ cut_of (Same p) s = option_and_then
 cut_of (Home p) s = option_and_then
     (last_cut p.vars (home_holds p.choice p.regs p.home.0))
     (choice_cut Always p.choice (home_can p.regs p.home.0) (places_in p.regs) s)
-cut_of (Frame p) s = last_cut p.vars (frame_holds p.flag p.touch p.ins p.enter p.entry p.leaves) s
+cut_of (Frame p) s = option_and_then
+    (last_cut p.vars (frame_holds p.flag p.touch p.ins p.enter p.entry p.leaves))
+    (frame_steps p.flag p.touch p.ins p.enter p.entry p.leaves s)
 cut_of (Apart p) s = apart_cut p.vars p.temps s
 cut_of (Clobber p) s = clobber_cut p.vars p.mask p.temp p.calls s
 cut_of (Operands p) s = option_and_then
@@ -165,7 +168,7 @@ strong_of (Inside p) s = InsideStrong p.at p.on p.end s
 strong_of (Last p) s = LastStrong p.at p.end s
 strong_of (Below p) s = BelowStrong p.ends p.limit s
 strong_of (Chosen p) s = Unit {0}
-strong_of (Zeros p) s = Unit {0}
+strong_of (Zeros p) s = ZerosStrong p.instr p.others s
 strong_of (Spaces p) s = Unit {0}
 strong_of (Same p) s = Unit {0}
 strong_of (Home p) s = Unit {0}
