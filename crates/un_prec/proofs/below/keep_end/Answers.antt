@@ -81,8 +81,17 @@ returns-then-greatest-high-clause-step c d =
     let low = least (set_at s.sets e.end.0) in
     let high = max low 1 + c.args.room / e.freq in
     let most : greatest (set_at s.sets e.end.0) ≤ high = (let f = ap (λ (n : ℕ). c.args.room / n) c.from.ensures in
-    omega (arith, c.if-greatest-high.true, c.from-greatest.ensures, c.max-2.ensures, c.saturating_add-high.ensures, c.from-least.ensures,
-    c.max.ensures, c.min.ensures, f)) in
+    omega (
+      arith,
+      c.if-greatest-high.true,
+      c.from-greatest.ensures,
+      c.max-2.ensures,
+      c.saturating_add-high.ensures,
+      c.from-least.ensures,
+      c.max.ensures,
+      c.min.ensures,
+      f,
+    )) in
     subst (λ (u : Weighted). Stepped c.args.w.now.vars.now (end_cut p.ends p.limit u) s s c.args.before c.args.before)
     (lent_end p.ends lent c.args.i none d c.as_slice.ensures c.requires.there)
     (stepped_same c.args.w.now.vars.now (end_cut p.ends p.limit e) s c.args.before
@@ -101,8 +110,17 @@ returns-clause-step c d =
     let low = least (set_at s.sets e.end.0) in
     let high = c.saturating_add-high.result in
     let is : high ≡ max low 1 + c.args.room / e.freq = (let f = ap (λ (n : ℕ). c.args.room / n) c.from.ensures in
-    omega (arith, c.if-greatest-high.false, c.from-greatest.ensures, c.max-2.type_inv, c.saturating_add-high.ensures, c.from-least.ensures,
-    c.max.ensures, c.min.ensures, f)) in
+    omega (
+      arith,
+      c.if-greatest-high.false,
+      c.from-greatest.ensures,
+      c.max-2.type_inv,
+      c.saturating_add-high.ensures,
+      c.from-least.ensures,
+      c.max.ensures,
+      c.min.ensures,
+      f,
+    )) in
     subst (λ (u : Weighted). Stepped c.args.w.now.vars.now (end_cut p.ends p.limit u) s c.keep_le.new.w.store.now c.args.before
     c.keep_le.result)
     (lent_end p.ends lent c.args.i none d c.as_slice.ensures c.requires.there)
@@ -123,8 +141,16 @@ returns-clause-room c still =
     let going : c.args.before ≢ Failed = λ e. let h = rw e at c.if-eq.ensures in cc h in
     let room = c.requires.room going in
     let high = c.saturating_add-high.result in
-    let le : least (set_at s.sets e.end.0) ≤ high = omega (arith, c.if-greatest-high.false, c.from-greatest.ensures, c.max-2.type_inv,
-    c.saturating_add-high.ensures, c.from-least.ensures, c.max.ensures, c.min.ensures) in
+    let le : least (set_at s.sets e.end.0) ≤ high = omega (
+      arith,
+      c.if-greatest-high.false,
+      c.from-greatest.ensures,
+      c.max-2.type_inv,
+      c.saturating_add-high.ensures,
+      c.from-least.ensures,
+      c.max.ensures,
+      c.min.ensures,
+    ) in
     ap (λ (n : ℕ). n + c.args.room + 1)
     (least_stays p.ends s.sets c.keep_le.new.w.store.now.sets e.end.0 high within (c.requires.live going e.end.0 within) le c.keep_le.ensures.sets)
     ∙ room
