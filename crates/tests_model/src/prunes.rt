@@ -67,6 +67,10 @@ definers 0,1 0,1 0,1>same
 definers 1 1 0>failed
 definers 1,2 0,1 0>1,2 0 0
 definers 0,3 1 0>0 1 0
+# The only definer that is left to choose is active, where the user is.
+definers 1,2 1 0,1,3>1,2 1 1,3
+definers 0,1 1 0,1>same
+definers 1,2 0,1 0,1>same
 # Sets of an instruction and two other variables of its operation.
 zeros 0 0 0,4>0 0 0
 zeros 0,1 0 5>1 0 5

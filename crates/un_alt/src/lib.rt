@@ -10,4 +10,5 @@ pub mod order;
 mod registers;
 pub mod same;
 pub mod spaces;
+pub mod span;
 pub mod zeros;

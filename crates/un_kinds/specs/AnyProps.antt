@@ -7,7 +7,7 @@ use Rattle.un_prop.specs.Lawful.{Lawful}
 use Rattle.un_prop.specs.Looks.{InWords}
 use Rattle.un_prop.specs.Parts.{Part, all_meet, SameAt, ChecksForward}
 use Rattle.un_prop.specs.Rounds.{HasVars}
-use Rattle.un_alt.specs.Chosen.{chosen_can, chosen_holds}
+use Rattle.un_alt.specs.Chosen.{chosen_holds, chosen_steps}
 use Rattle.un_alt.specs.Filters.{choice_cut}
 use Rattle.un_alt.specs.Frame.{frame_holds}
 use Rattle.un_alt.specs.FrameCuts.{frame_steps}
@@ -119,7 +119,7 @@ cut_of (Last p) s = option_and_then (last_cut p.vars (last_holds p.at p.end)) (l
 cut_of (Below p) s = option_and_then (last_cut p.vars (below_holds p.ends p.limit)) (below_steps p.vars p.ends p.limit s)
 cut_of (Chosen p) s = option_and_then
     (last_cut p.vars (chosen_holds p.user p.choice p.alts))
-    (choice_cut p.user (Some p.choice) (chosen_can p.alts) (places_in p.alts) s)
+    (chosen_steps p.user p.choice p.alts s)
 cut_of (Zeros p) s = option_and_then (last_cut p.vars (zeros_holds p.instr p.others)) (zeros_steps p.instr p.others s)
 cut_of (Spaces p) s = option_and_then
     (last_cut p.vars (spaces_holds p.on p.choice p.regs p.sets))

@@ -79,7 +79,7 @@ module _ (vs : List VarId) where
   pub fixed_test : (p : ℕ → Bool) → LawfulTest vs (λ s. p)
   fixed_test p = record { monotone = λ t s y known full le e. e; local = λ s t y agree. refl }
 
-  when_lawful_test : (so : Sets → Bool) (q : Sets → ℕ → Bool) → LawfulFact vs so → LawfulTest vs q → LawfulTest vs (when_test so q)
+  pub when_lawful_test : (so : Sets → Bool) (q : Sets → ℕ → Bool) → LawfulFact vs so → LawfulTest vs q → LawfulTest vs (when_test so q)
   when_lawful_test so q h k = record {
     monotone = λ t s y known full le e. not_or (so s) (q s y)
         (λ is. k.monotone t s y known full le (or_not (so t) (q t y) e (h.grows t s known full le is)));
