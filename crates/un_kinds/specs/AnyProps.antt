@@ -13,7 +13,7 @@ use Rattle.un_alt.specs.Frame.{frame_holds}
 use Rattle.un_alt.specs.Home.{home_holds}
 use Rattle.un_alt.specs.Same.{same_holds}
 use Rattle.un_alt.specs.Spaces.{spaces_holds}
-use Rattle.un_alt.specs.Zeros.{zeros_holds}
+use Rattle.un_alt.specs.Zeros.{ZerosStrong, zeros_holds}
 use Rattle.un_prec.specs.Before.{BeforeStrong, before_holds}
 use Rattle.un_prec.specs.Below.{BelowStrong, below_holds}
 use Rattle.un_prec.specs.Inside.{InsideStrong, inside_holds}
@@ -132,7 +132,7 @@ strong_of (Inside p) s = InsideStrong p.at p.on p.end s
 strong_of (Last p) s = LastStrong p.at p.end s
 strong_of (Below p) s = BelowStrong p.ends p.limit s
 strong_of (Chosen p) s = Unit {0}
-strong_of (Zeros p) s = Unit {0}
+strong_of (Zeros p) s = ZerosStrong p.instr p.others s
 strong_of (Spaces p) s = Unit {0}
 strong_of (Same p) s = Unit {0}
 strong_of (Home p) s = Unit {0}

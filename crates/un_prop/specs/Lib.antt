@@ -4,6 +4,7 @@ pub mod AmongLaws
 pub mod ChainLaws
 pub mod ChoiceLaws
 pub mod Choices
+pub mod EachLaws
 pub mod FailLaws
 pub mod Failing
 pub mod Fixes
@@ -30,3 +31,5 @@ pub mod Somewhere
 pub mod SomewhereLaws
 pub mod Steps
 pub mod WithinLaws
+pub mod When
+pub mod WhenLaws
