@@ -13,10 +13,11 @@ ghost use Rattle.un_alt.specs.Frame.{FrameOpVars, FrameUseVars, FrameLeaveVars};
 ghost use Rattle.un_alt.specs.FrameCuts.{is_within, is_unused, sure_use, flag_cut, touch_cut, slot_cut, op_cut, leave_op_cut, entry_cut, copy_cut};
 ghost use Rattle.un_alt.specs.FrameCuts.{call_cut, left_cut, use_steps, op_steps, order_steps, frame_steps};
 
-use crate::frame::{Frame, FrameLeave, FrameOp, FrameUse, RELOAD, SPILL};
+use crate::frame::{Frame, FrameLeave, FrameOp, FrameUse};
 use crate::order::{Order, is_within, keep_order};
 use un_base::ids::VarId;
 use un_domains::window::Window;
+use un_ir::extended::{RELOAD, SPILL};
 use un_isa::reg::FIRST_SLOT;
 use un_prop::act::Act;
 use un_prop::propagator::Pruned;
