@@ -17,6 +17,7 @@ use un_isa::table::hexagon;
 use un_lists::items::Items;
 use un_packet::code::Code;
 use un_packet::run::run_packets;
+use un_problem::problem::default_options;
 use un_reader::read::read_function;
 use un_source::run::run_source;
 use un_top::code::costed_code;
@@ -183,7 +184,7 @@ fn wrong_rows(
 
 /// The same of a function and the code that is made for it.
 fn wrong_of(alloc: Global, name: &[u8], f: &Function) -> Result<(usize, usize), NoMemory> {
-    let costed = costed_code(alloc, f)?;
+    let costed = costed_code(alloc, f, &hexagon(), &default_options())?;
     wrong_rows(alloc, name, f, &costed.code)
 }
 

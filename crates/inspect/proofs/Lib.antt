@@ -1,2 +1,1 @@
-mod ModelParts
 pub mod StoreLaws

@@ -1,6 +1,6 @@
 //! A store and thousands of precedences in chains, timed: how what a search does grows with the size of its problem.
 
-ghost use Rattle.std.specs.Prelude.{◌≡◌, ℕ, ◌<◌, ◌≤◌, ◌*◌, ◌+◌, ◌/◌, length, All, IfOk, true};
+ghost use Rattle.std.specs.Prelude.{◌≡◌, ℕ, ◌<◌, ◌≤◌, ◌*◌, ◌+◌, ◌/◌, [], length, All, IfOk, true};
 ghost use Rattle.un_base.specs.declared.ids.VarId.{VarId};
 ghost use Rattle.un_domains.specs.Domains.{IsDomain};
 ghost use Rattle.un_domains.specs.Sets.{NoneEmpty};
@@ -90,6 +90,7 @@ fn ranges(alloc: Global, vars: u32) -> Result<Vec<Domain>, AllocError>
 /// The store of these domains.
 fn range_store(alloc: Global, vars: u32) -> Result<Store, NoMemory>
     ensures live { IfOk result (λ s. NoneEmpty s.sets) }
+    ensures fresh { IfOk result (λ s. s.marked ≡ []) }
     ensures long { IfOk result (λ s. length s.sets ≡ vars) }
 {
     let domains = ranges(alloc, vars)?;
@@ -178,21 +179,21 @@ fn put_chains(
     rt: &impl CpuClock,
     alloc: Global,
     out: &mut Vec<u8>,
-    props: &[AnyProp],
+    props: Vec<AnyProp>,
     chains: u32,
 ) -> Result<(), NoMemory>
     requires few { chains ≤ 1_000_000 }
-    requires among { All (λ p. All (λ v. v.0 < 5 * chains) (scope_of p)) props.now }
-    requires spans { All (λ p. span_of p ≤ 0) props.now }
+    requires among { All (λ p. All (λ v. v.0 < 5 * chains) (scope_of p)) props.items }
+    requires spans { All (λ p. span_of p ≤ 0) props.items }
 {
-    let mut store = range_store(alloc, (CHAIN + 1) * chains)?;
     let vars = ends(alloc, chains)?;
-    let run = put_runs(rt, alloc, out, props, &mut store, 0, vars.as_slice())?;
+    let store = range_store(alloc, (CHAIN + 1) * chains)?;
+    let run = put_runs(rt, alloc, out, props, store, 0, vars.as_slice())?;
     put_time(alloc, out, "run", run)
 }
 
-/// Appends the mean times of a mark, a cut, a run of so many precedences from the root, a decision with the run after it, and
-/// that run.
+/// Appends the mean times of a mark, a cut, an engine of so many precedences with its run from the root, a decision with the run after
+/// it and the way back, and the same without the way back.
 pub fn put_scale(
     rt: &impl CpuClock,
     alloc: Global,
@@ -204,5 +205,5 @@ pub fn put_scale(
     let chains = links / CHAIN + 1;
     put_store(rt, alloc, out, (CHAIN + 1) * chains, marks)?;
     let props = all_links(alloc, links)?;
-    put_chains(rt, alloc, out, props.as_slice(), chains)
+    put_chains(rt, alloc, out, props, chains)
 }

@@ -1,10 +1,11 @@
 //! The text of a part of a function's problem. Each function appends one.
 
-ghost use Rattle.un_isa.specs.Hexagon.{HEXAGON};
+ghost use Rattle.un_baseline.specs.RoomyOptions.{AreRoomyFor};
+ghost use Rattle.un_isa.specs.Fit.{IsFit};
 ghost use Rattle.un_model.specs.Extended.{HasSmallCounts};
 ghost use Rattle.un_model.specs.Options.{AreOptions};
 ghost use Rattle.un_model.specs.Variables.{IsModel};
-ghost use Rattle.un_problem.specs.Problems.{IsModelOf, default_options};
+ghost use Rattle.un_problem.specs.Problems.{IsProblemOf};
 
 use crate::node::node_of;
 use crate::request::{Part, Request, Shown};
@@ -13,9 +14,10 @@ use crate::times::put_timed;
 use std::alloc::Global;
 use std::time::CpuClock;
 use un_base::memory_error::NoMemory;
-use un_baseline::spilled::spilled;
+use un_baseline::spill::spill_everywhere;
 use un_ir::function::Function;
 use un_ir::text::put_text;
+use un_isa::table::Table;
 use un_live::live::live_in;
 use un_model::model::{Model, Options};
 use un_outside::status::Status;
@@ -44,8 +46,13 @@ fn put_live(alloc: Global, out: &mut Vec<u8>, f: &Function) -> Result<(), NoMemo
 }
 
 /// The extended function.
-fn put_extended(alloc: Global, out: &mut Vec<u8>, f: &Function) -> Result<(), NoMemory> {
-    let ext = extended(alloc, f)?;
+fn put_extended(
+    alloc: Global,
+    out: &mut Vec<u8>,
+    f: &Function,
+    t: &Table,
+) -> Result<(), NoMemory> {
+    let ext = extended(alloc, f, t)?;
     let text = extended_text(alloc, &ext)?;
     put_text(out, text.as_slice())
 }
@@ -64,16 +71,13 @@ fn code(
     alloc: Global,
     out: &mut Vec<u8>,
     f: &Function,
-    options: &Options,
     m: &Model,
     rest: &[u8],
 ) -> Result<(), Status>
-    requires gives { IsModelOf HEXAGON f.now options.now m.now }
-    requires own { IsModel m.now }
-    requires options { AreOptions options.now }
+    requires { IsProblemOf f.now m.now }
 {
     let s = solution_of(alloc, rest)?;
-    told(put_emitted(alloc, out, f, options, m, &s))
+    told(put_emitted(alloc, out, f, m, &s))
 }
 
 /// What the rounds leave at the node that a text describes, of a function's model.
@@ -81,27 +85,21 @@ fn rounds(
     alloc: Global,
     out: &mut Vec<u8>,
     f: &Function,
-    options: &Options,
     m: &Model,
     rest: &[u8],
 ) -> Result<(), Status>
-    requires gives { IsModelOf HEXAGON f.now options.now m.now }
-    requires own { IsModel m.now }
-    requires options { AreOptions options.now }
+    requires { IsProblemOf f.now m.now }
 {
     let _ = f;
-    let _ = options;
     let node = node_of(alloc, rest, m.domains.len())?;
     told(put_rounds(alloc, out, m, &node))
 }
 
 /// The precedences of a function's model, and the bound that they give.
-fn arcs(out: &mut Vec<u8>, f: &Function, options: &Options, m: &Model) -> Result<(), NoMemory>
-    requires gives { IsModelOf HEXAGON f.now options.now m.now }
-    requires own { IsModel m.now }
+fn arcs(out: &mut Vec<u8>, f: &Function, m: &Model) -> Result<(), NoMemory>
+    requires { IsProblemOf f.now m.now }
 {
     let _ = f;
-    let _ = options;
     put_all_arcs(out, m)
 }
 
@@ -111,46 +109,46 @@ fn put_of_model(
     out: &mut Vec<u8>,
     shown: Shown,
     f: &Function,
-    options: &Options,
     m: &Model,
     rest: &[u8],
 ) -> Result<(), Status>
-    requires gives { IsModelOf HEXAGON f.now options.now m.now }
-    requires own { IsModel m.now }
-    requires counts { HasSmallCounts m.now.ext }
-    requires options { AreOptions options.now }
+    requires { IsProblemOf f.now m.now }
 {
     match shown {
         Shown::Variables => told(put_variables(out, m)),
         Shown::Violations => verdict(alloc, out, m, rest),
-        Shown::Emit => code(alloc, out, f, options, m, rest),
-        Shown::Arcs => told(arcs(out, f, options, m)),
-        Shown::Rounds => rounds(alloc, out, f, options, m, rest),
+        Shown::Emit => code(alloc, out, f, m, rest),
+        Shown::Arcs => told(arcs(out, f, m)),
+        Shown::Rounds => rounds(alloc, out, f, m, rest),
     }
 }
 
-/// The same under options.
+/// The same for a table and under options.
 fn put_shown(
     alloc: Global,
     out: &mut Vec<u8>,
     shown: Shown,
     f: &Function,
+    t: &Table,
     options: &Options,
     rest: &[u8],
 ) -> Result<(), Status>
-    requires { AreOptions options.now }
+    requires fit { IsFit t.now }
+    requires options { AreOptions options.now }
 {
-    match model(alloc, f, options) {
-        Ok(m) => put_of_model(alloc, out, shown, f, options, &m, rest),
+    match model(alloc, f, t, options) {
+        Ok(m) => put_of_model(alloc, out, shown, f, &m, rest),
         Err(_) => Err(Status::NoMemory),
     }
 }
 
 /// The values of the solution that keeps each name in a frame slot.
 fn baseline(alloc: Global, out: &mut Vec<u8>, f: &Function, m: &Model) -> Result<(), NoMemory>
-    requires { IsModelOf HEXAGON f.now default_options m.now }
+    requires problem { IsProblemOf f.now m.now }
+    requires roomy { AreRoomyFor f.now m.now.options }
 {
-    let s = spilled(alloc, f, m)?;
+    let _ = f;
+    let s = spill_everywhere(alloc, m)?;
     put_values(out, &s)
 }
 
@@ -161,30 +159,35 @@ fn put_by_default(
     out: &mut Vec<u8>,
     asked: &Request,
     f: &Function,
+    t: &Table,
     text: &[u8],
-) -> Result<(), NoMemory> {
-    let m = model(alloc, f, &default_options())?;
+) -> Result<(), NoMemory>
+    requires { IsFit t.now }
+{
+    let m = model(alloc, f, t, &default_options())?;
     match asked.part {
         Part::Times => put_timed(rt, alloc, out, asked.counts, text, f, &m),
         _ => baseline(alloc, out, f, &m),
     }
 }
 
-/// What is asked for, of a function and an input, which has the function's text.
+/// What is asked for, of a function and an input, which has the function's text, for a table.
 pub fn put_part(
     rt: &impl CpuClock,
     alloc: Global,
     out: &mut Vec<u8>,
     asked: &Request,
     f: &Function,
+    t: &Table,
     input: Parts<'_>,
 ) -> Result<(), Status>
-    requires { AreOptions asked.now.options }
+    requires options { AreOptions asked.now.options }
+    requires fit { IsFit t.now }
 {
     match asked.part {
         Part::Live => told(put_live(alloc, out, f)),
-        Part::Extended => told(put_extended(alloc, out, f)),
-        Part::Model(shown) => put_shown(alloc, out, shown, f, &asked.options, input.rest),
-        _ => told(put_by_default(rt, alloc, out, asked, f, input.function)),
+        Part::Extended => told(put_extended(alloc, out, f, t)),
+        Part::Model(shown) => put_shown(alloc, out, shown, f, t, &asked.options, input.rest),
+        _ => told(put_by_default(rt, alloc, out, asked, f, t, input.function)),
     }
 }

@@ -1,6 +1,6 @@
 //! What rounds of propagators leave of a model's domains at a node of a search.
 
-ghost use Rattle.std.specs.Prelude.{◌≡◌, ◌<◌, All, IfOk, IsTrue, length};
+ghost use Rattle.std.specs.Prelude.{◌≡◌, ◌<◌, [], All, IsTrue, length};
 ghost use Rattle.inspect.specs.Nodes.{IsOn};
 ghost use Rattle.un_domains.specs.Cuts.{IsCut};
 ghost use Rattle.un_domains.specs.Sets.{NoneEmpty, set_at};
@@ -12,17 +12,15 @@ ghost use Rattle.un_post.specs.Posts.{ReadsFrom, SpansAtMost};
 ghost use Rattle.un_prop.specs.Sides.{side_test};
 
 use crate::node::{Decision, Node};
-use crate::runs::settle;
 use std::alloc::{AllocError, Global};
 use un_base::ids::VarId;
 use un_base::memory_error::NoMemory;
 use un_domains::cut::Cut;
 use un_domains::store::Store;
+use un_engine::engine::Engine;
 use un_ir::text::put_text;
-use un_kinds::any::AnyProp;
 use un_model::model::Model;
 use un_post::post::{Posted, post};
-use un_prop::propagator::Scratch;
 use un_prop::side::Side;
 use un_shown::domains::put_values;
 use un_shown::text::put_between;
@@ -44,6 +42,7 @@ fn decide(store: &mut Store, decision: &Decision) -> bool
     requires live { NoneEmpty store.old.sets }
     ensures live { IsTrue result → NoneEmpty store.new.sets }
     ensures long { length store.new.sets ≡ length store.old.sets }
+    ensures marked { store.new.marked ≡ store.old.marked }
 {
     match cut_to(store, decision) {
         Cut::Same => true,
@@ -58,6 +57,7 @@ fn decide_all(store: &mut Store, decisions: &[Decision]) -> bool
     requires live { NoneEmpty store.old.sets }
     ensures live { IsTrue result → NoneEmpty store.new.sets }
     ensures long { length store.new.sets ≡ length store.old.sets }
+    ensures marked { store.new.marked ≡ store.old.marked }
 {
     for decision in decisions {
         if !decide(store, decision) {
@@ -65,27 +65,6 @@ fn decide_all(store: &mut Store, decisions: &[Decision]) -> bool
         }
     }
     true
-}
-
-/// Runs rounds on what decisions leave of a store, and answers whether they end with a value left for each variable.
-fn ends(
-    alloc: Global,
-    props: &[AnyProp],
-    store: &mut Store,
-    horizon: u32,
-    decisions: &[Decision],
-) -> Result<bool, NoMemory>
-    requires known { All (IsOn (length store.old.sets)) decisions.now }
-    requires live { NoneEmpty store.old.sets }
-    requires reads { All (ReadsFrom store.old.sets) props.now }
-    requires spans { All (SpansAtMost horizon) props.now }
-    ensures { IfOk result (λ stable. IsTrue stable → NoneEmpty store.new.sets) }
-{
-    let mut scratch = Scratch::new(alloc, store.len(), horizon)?;
-    if !decide_all(store, decisions) {
-        return Ok(false);
-    }
-    Ok(settle(props, store, &mut scratch))
 }
 
 /// The values that a variable has left.
@@ -135,6 +114,7 @@ fn put_lines_left(
 ) -> Result<(), NoMemory>
     requires known { All (IsOn (length posted.store.sets)) decisions.now }
     requires live { NoneEmpty posted.store.sets }
+    requires fresh { posted.store.marked ≡ [] }
     requires reads { All (ReadsFrom posted.store.sets) posted.props.items }
     requires spans { All (SpansAtMost posted.horizon) posted.props.items }
 {
@@ -143,10 +123,12 @@ fn put_lines_left(
         mut store,
         horizon,
     } = posted;
-    if ends(alloc, props.as_slice(), &mut store, horizon, decisions)? {
-        put_all_left(alloc, out, &store)
-    } else {
-        put_text(out, b"failed\n")
+    if !decide_all(&mut store, decisions) {
+        return put_text(out, b"failed\n");
+    }
+    match Engine::new(alloc, props, store, horizon)? {
+        Some(engine) => put_all_left(alloc, out, engine.store()),
+        None => put_text(out, b"failed\n"),
     }
 }
 

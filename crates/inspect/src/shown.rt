@@ -8,6 +8,7 @@ use crate::request::{Part, Request, Shown};
 use std::alloc::Global;
 use std::time::CpuClock;
 use un_ir::function::Function;
+use un_isa::table::hexagon;
 use un_outside::outside::Source;
 use un_outside::status::Status;
 use un_outside::transfer::{ReadAll, read_all};
@@ -74,7 +75,7 @@ fn put_of(
 {
     let input = input_of(asked.part, text);
     let f = function(alloc, input.function)?;
-    put_part(rt, alloc, out, asked, &f, input)
+    put_part(rt, alloc, out, asked, &f, &hexagon(), input)
 }
 
 /// The bytes of a source.

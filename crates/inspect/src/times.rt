@@ -1,15 +1,13 @@
 //! The parts of `alloc`, and of a search for a function, each called many times; and how large a function's problem is.
 
-ghost use Rattle.std.specs.Prelude.{All, IfOk};
+ghost use Rattle.std.specs.Prelude.{◌≡◌, [], All, IfOk};
 ghost use Rattle.inspect.specs.Inputs.{AreInputs};
 ghost use Rattle.un_domains.specs.Sets.{NoneEmpty};
 ghost use Rattle.un_ir.specs.LinearOf.{AreLive};
-ghost use Rattle.un_isa.specs.Hexagon.{HEXAGON};
-ghost use Rattle.un_model.specs.Extended.{HasSmallCounts};
+ghost use Rattle.un_baseline.specs.RoomyOptions.{AreRoomyFor};
 ghost use Rattle.un_model.specs.Solutions.{IsSolution};
-ghost use Rattle.un_model.specs.Variables.{IsModel};
 ghost use Rattle.un_post.specs.Posts.{ReadsFrom, SpansAtMost};
-ghost use Rattle.un_problem.specs.Problems.{IsModelOf, default_options};
+ghost use Rattle.un_problem.specs.Problems.{IsProblemOf};
 
 use crate::clock::{mean, now, put_time};
 use crate::request::Counts;
@@ -18,18 +16,16 @@ use std::alloc::{AllocError, Global};
 use std::time::CpuClock;
 use un_base::ids::VarId;
 use un_base::memory_error::NoMemory;
-use un_baseline::spilled::spilled;
+use un_baseline::spill::spill_everywhere;
 use un_extend::extend::extend;
 use un_ir::extended::{LiveSets, Lssa};
 use un_ir::function::Function;
-use un_isa::table::hexagon;
 use un_listing::report::print_first_report;
 use un_live::live::live_in;
 use un_lssa::linearize::linearize;
 use un_model::build::build;
 use un_model::model::{Model, Solution};
 use un_post::post::{Posted, post};
-use un_problem::problem::default_options;
 use un_reader::read::read_function;
 use un_shown::text::put_between;
 use un_top::bound::full_packets;
@@ -98,7 +94,7 @@ fn call_late(alloc: Global, part: Call, x: &Inputs<'_>) -> bool
 {
     match part {
         Call::Read => read_function(alloc, x.text).is_ok(),
-        Call::Solution => spilled(alloc, x.f, x.m).is_ok(),
+        Call::Solution => spill_everywhere(alloc, x.m).is_ok(),
         Call::Code => code_by(alloc, x.f, x.m, x.s).is_ok(),
         Call::Report => {
             let bound = full_packets(x.f);
@@ -114,9 +110,9 @@ fn call_once(alloc: Global, part: Call, x: &Inputs<'_>) -> bool
 {
     match part {
         Call::Live => live_in(alloc, x.f).is_ok(),
-        Call::Linear => linearize(alloc, x.f, x.live, &hexagon()).is_ok(),
+        Call::Linear => linearize(alloc, x.f, x.live, &x.m.ext.table).is_ok(),
         Call::Extend => extend(alloc, x.linear).is_ok(),
-        Call::Build => build(alloc, &x.m.ext, &default_options()).is_ok(),
+        Call::Build => build(alloc, &x.m.ext, &x.m.options).is_ok(),
         Call::Violations => violations(alloc, x.m, x.s).is_ok(),
         _ => call_late(alloc, part, x),
     }
@@ -171,11 +167,11 @@ fn cycles(alloc: Global, m: &Model) -> Result<Vec<VarId>, AllocError> {
     Ok(vars)
 }
 
-/// What is posted for the model of a function under default options.
+/// What is posted for the model of a function.
 fn posted(alloc: Global, f: &Function, m: &Model) -> Result<Posted, NoMemory>
-    requires gives { IsModelOf HEXAGON f.now default_options m.now }
-    requires own { IsModel m.now }
+    requires { IsProblemOf f.now m.now }
     ensures live { IfOk result (λ p. NoneEmpty p.store.sets) }
+    ensures fresh { IfOk result (λ p. p.store.marked ≡ []) }
     ensures reads { IfOk result (λ p. All (ReadsFrom p.store.sets) p.props.items) }
     ensures spans { IfOk result (λ p. All (SpansAtMost p.horizon) p.props.items) }
 {
@@ -196,10 +192,10 @@ fn put_rounds(
 {
     let Posted {
         props,
-        mut store,
+        store,
         horizon,
     } = posted(alloc, x.f, x.m)?;
-    let _ = put_runs(rt, alloc, out, props.as_slice(), &mut store, horizon, vars)?;
+    let _ = put_runs(rt, alloc, out, props, store, horizon, vars)?;
     Ok(())
 }
 
@@ -233,13 +229,12 @@ fn put_live(
     costed: &Costed,
     live: &LiveSets,
 ) -> Result<(), NoMemory>
-    requires gives { IsModelOf HEXAGON f.now default_options m.now }
-    requires own { IsModel m.now }
-    requires counts { HasSmallCounts m.now.ext }
+    requires problem { IsProblemOf f.now m.now }
+    requires roomy { AreRoomyFor f.now m.now.options }
     requires solution { IsSolution m.now s.now }
     requires live { AreLive f.now.blocks live.now.at_start }
 {
-    let linear = linearize(alloc, f, live, &hexagon())?;
+    let linear = linearize(alloc, f, live, &m.ext.table)?;
     let x = Inputs {
         text,
         f,
@@ -264,9 +259,8 @@ fn put_coded(
     s: &Solution,
     costed: &Costed,
 ) -> Result<(), NoMemory>
-    requires gives { IsModelOf HEXAGON f.now default_options m.now }
-    requires own { IsModel m.now }
-    requires counts { HasSmallCounts m.now.ext }
+    requires problem { IsProblemOf f.now m.now }
+    requires roomy { AreRoomyFor f.now m.now.options }
     requires solution { IsSolution m.now s.now }
 {
     let live = live_in(alloc, f)?;
@@ -283,19 +277,17 @@ fn put_all(
     f: &Function,
     m: &Model,
 ) -> Result<(), NoMemory>
-    requires gives { IsModelOf HEXAGON f.now default_options m.now }
-    requires own { IsModel m.now }
-    requires counts { HasSmallCounts m.now.ext }
+    requires problem { IsProblemOf f.now m.now }
+    requires roomy { AreRoomyFor f.now m.now.options }
 {
-    let s = spilled(alloc, f, m)?;
+    let s = spill_everywhere(alloc, m)?;
     let costed = code_by(alloc, f, m, &s)?;
     put_coded(rt, alloc, out, counts, text, f, m, &s, &costed)
 }
 
 /// Appends how many variables and propagators a function has.
 fn put_sizes(alloc: Global, out: &mut Vec<u8>, f: &Function, m: &Model) -> Result<(), NoMemory>
-    requires gives { IsModelOf HEXAGON f.now default_options m.now }
-    requires own { IsModel m.now }
+    requires { IsProblemOf f.now m.now }
 {
     let posted = posted(alloc, f, m)?;
     put_between(out, b"", u64::from(posted.store.len()), b" variables, ")?;
@@ -313,9 +305,8 @@ pub fn put_timed(
     f: &Function,
     m: &Model,
 ) -> Result<(), NoMemory>
-    requires gives { IsModelOf HEXAGON f.now default_options m.now }
-    requires own { IsModel m.now }
-    requires counts { HasSmallCounts m.now.ext }
+    requires problem { IsProblemOf f.now m.now }
+    requires roomy { AreRoomyFor f.now m.now.options }
 {
     match counts.first {
         None => put_sizes(alloc, out, f, m),

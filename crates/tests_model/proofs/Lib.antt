@@ -1,4 +1,3 @@
-pub mod BoundRows
 mod ModelRows
 mod RunRows
 mod ScheduleRows

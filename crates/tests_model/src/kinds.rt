@@ -2,6 +2,7 @@
 
 use std::alloc::{AllocError, Global};
 use un_alt::frame::{FrameLeave, FrameOp, FrameUse};
+use un_alt::span::Span;
 use un_base::ids::VarId;
 use un_base::memory_error::NoMemory;
 use un_isa::reg::Reg;
@@ -86,18 +87,12 @@ fn zeros(alloc: Global) -> Result<AnyProp, NoMemory> {
     make_zeros(alloc, VarId(0), others)
 }
 
-/// Adds a list of registers.
-fn add_set(alloc: Global, sets: &mut Items<Items<u32>>, set: &[u32]) -> Result<(), AllocError> {
-    let set = list(alloc, set)?;
-    sets.push(set)
-}
-
 /// The registers of each number: none, two registers, two slots.
-fn register_sets(alloc: Global) -> Result<Items<Items<u32>>, AllocError> {
+fn register_sets(alloc: Global) -> Result<Items<Span>, AllocError> {
     let mut sets = Items::new(alloc);
-    for set in [[].as_slice(), [1, 2].as_slice(), [36, 37].as_slice()] {
-        add_set(alloc, &mut sets, set)?;
-    }
+    sets.push(Span::new(0, 0))?;
+    sets.push(Span::new(1, 2))?;
+    sets.push(Span::new(36, 2))?;
     Ok(sets)
 }
 

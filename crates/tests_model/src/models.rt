@@ -19,6 +19,7 @@ use un_base::memory_error::NoMemory;
 use un_bound::plain::{is_short, plain_bound};
 use un_bound::relax::RelaxAnswer;
 use un_ir::text::{put_number, put_text};
+use un_isa::table::hexagon;
 use un_lists::items::Items;
 use un_model::model::{Arc, Model, Solution};
 use un_model::verdict::Broken;
@@ -35,7 +36,7 @@ fn model_of(alloc: Global, function: &[u8]) -> Result<Model, NoMemory>
     let Ok(f) = read_function(alloc, function) else {
         return Err(NoMemory);
     };
-    let m = model(alloc, &f, &default_options())?;
+    let m = model(alloc, &f, &hexagon(), &default_options())?;
     Ok(m)
 }
 

@@ -137,4 +137,36 @@ block e freq 1
 block e freq 1
   call h %b, %a
   ret
-^?bound:1";
+^?bound:1\
+|# What packets hold counts where precedences would let all issue at once: two loads, four instructions, two shifts or transfers.\
+|func l %a
+block e freq 7
+  %v = load %a, #0
+  %w = load %a, #4
+  %x = load %a, #8
+  %y = load %a, #12
+  %z = load %a, #16
+  ret
+^?bound:21\
+|func i
+block e freq 1
+  %r = imm #1
+  %s = imm #2
+  %t = imm #3
+  %u = imm #4
+  %v = imm #5
+  %w = imm #6
+  %x = imm #7
+  %y = imm #8
+  %z = imm #9
+  ret
+^?bound:3\
+|func x %a
+block e freq 1
+  %v = asl %a, #1
+  %w = asl %a, #2
+  %x = asl %a, #3
+  %y = asl %a, #4
+  %z = asl %a, #5
+  ret
+^?bound:3";

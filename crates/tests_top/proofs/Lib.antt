@@ -1,3 +1,2 @@
-pub mod Extensions
 mod PostRows
 mod WorkedModel

@@ -14,6 +14,7 @@ use un_base::memory_error::NoMemory;
 use un_domains::store::Store;
 use un_ir::text::{put_number, put_text};
 use un_isa::reg::SLOTS;
+use un_isa::table::hexagon;
 use un_kinds::any::AnyProp;
 use un_model::model::{Model, Options};
 use un_post::post::{Posted, post};
@@ -23,7 +24,7 @@ use un_prop::run::{Fix, run_all};
 use un_reader::read::read_function;
 
 /// Functions, and how many propagators of each kind are posted without a limit, in the order of `kind`, under all registers and 64 slots;
-/// then how rounds end under so many registers, or under all.
+/// then how rounds end under so many registers, or under all; and how many propagators of two operands there are.
 static POSTS: &[u8] = b"func dot %x %y %n
 block entry freq 1
   %s = imm #0
@@ -109,7 +110,19 @@ block e freq 1
   %c = add %a, %b
   ret %c
 ?ends 1:failed\
-|&?ends:stable";
+|&?ends:stable\
+|# Each two of three operands that read different values, neighbours or not.\
+|func three %a %b %c
+block e freq 1
+  call h %c, %a, %b
+  ret
+?operands:3\
+|func m %a %b
+block e freq 1
+  $p = cmpeqi %a, #0
+  %m = mux $p, %a, %b
+  ret %m
+?operands:3";
 
 /// The number of a propagator's kind.
 fn kind(p: &AnyProp) -> usize {
@@ -163,7 +176,7 @@ fn model_under(alloc: Global, function: &[u8], options: &Options) -> Result<Mode
     let Ok(f) = read_function(alloc, function) else {
         return Err(NoMemory);
     };
-    let m = model(alloc, &f, options)?;
+    let m = model(alloc, &f, &hexagon(), options)?;
     Ok(m)
 }
 
@@ -186,6 +199,16 @@ pub(crate) fn put_counts(
 ) -> Result<(), NoMemory> {
     let posted = posted(alloc, function, &default_options())?;
     put_kinds(out, posted.props.as_slice())
+}
+
+/// Appends how many propagators of two operands are posted for a function.
+pub(crate) fn put_operands(
+    alloc: Global,
+    out: &mut Vec<u8>,
+    function: &[u8],
+) -> Result<(), NoMemory> {
+    let posted = posted(alloc, function, &default_options())?;
+    put_number(out, count(posted.props.as_slice(), 12))
 }
 
 /// How rounds on a store end.

@@ -1,15 +1,13 @@
 //! The code of given values of a model's variables.
 
-ghost use Rattle.un_isa.specs.Hexagon.{HEXAGON};
-ghost use Rattle.un_model.specs.Extended.{HasSmallCounts};
 ghost use Rattle.un_model.specs.Solutions.{IsSolution};
-ghost use Rattle.un_model.specs.Variables.{IsModel};
-ghost use Rattle.un_problem.specs.Problems.{IsModelOf, default_options};
+ghost use Rattle.un_problem.specs.Problems.{IsProblemOf};
 
 use crate::rows::{cut, number};
 use std::alloc::{AllocError, Global};
 use un_base::memory_error::NoMemory;
 use un_ir::function::Function;
+use un_isa::table::hexagon;
 use un_listing::print::print_code;
 use un_lists::items::Items;
 use un_model::model::{Model, Solution};
@@ -50,9 +48,7 @@ fn values(alloc: Global) -> Result<Items<u32>, AllocError> {
 
 /// The listing of the code of a solution that costs 2, and nothing where it costs otherwise.
 fn costed(alloc: Global, f: &Function, m: &Model, s: &Solution) -> Result<Vec<u8>, NoMemory>
-    requires model { IsModelOf HEXAGON f.now default_options m.now }
-    requires own { IsModel m.now }
-    requires counts { HasSmallCounts m.now.ext }
+    requires problem { IsProblemOf f.now m.now }
     requires solution { IsSolution m.now s.now }
 {
     let costed = code_by(alloc, f, m, s)?;
@@ -64,9 +60,7 @@ fn costed(alloc: Global, f: &Function, m: &Model, s: &Solution) -> Result<Vec<u8
 
 /// The listing of the code of a solution, and nothing for other values.
 fn listed(alloc: Global, f: &Function, m: &Model, s: &Solution) -> Result<Vec<u8>, NoMemory>
-    requires model { IsModelOf HEXAGON f.now default_options m.now }
-    requires own { IsModel m.now }
-    requires counts { HasSmallCounts m.now.ext }
+    requires { IsProblemOf f.now m.now }
 {
     let broken = violations(alloc, m, s)?;
     if !broken.is_empty() {
@@ -77,7 +71,7 @@ fn listed(alloc: Global, f: &Function, m: &Model, s: &Solution) -> Result<Vec<u8
 
 /// The listing of the values of the model of a function.
 fn listing_of(alloc: Global, f: &Function, s: &Solution) -> Result<Vec<u8>, NoMemory> {
-    let m = model(alloc, f, &default_options())?;
+    let m = model(alloc, f, &hexagon(), &default_options())?;
     listed(alloc, f, &m, s)
 }
 

@@ -1,27 +1,32 @@
--- What Chosen looks at.
-use Rattle.std.proofs.Common.{ℕ, ◌≡◌, ◌≤◌, Bool, true, not, ◌||◌, List, [], ◌∷◌, get_or, nat_eq, nat_lt, ap, arith, ◌∙◌}
+-- The laws of Chosen.
+use Rattle.std.proofs.Common.{ℕ, zero, suc, ◌≡◌, ◌≤◌, ◌&&◌, subst, Bool, true, not, ◌||◌, List, [], ◌∷◌, get_or, nat_eq, nat_lt, ap, arith, ◌∙◌}
 use Rattle.std.proofs.lemmas.Bool.Decides.{nat_tests}
-use Rattle.un_domains.specs.Sets.{Sets, greatest, IsIn}
+use Rattle.un_domains.specs.Sets.{Sets, greatest, IsIn, Kept}
 use Rattle.un_domains.specs.SetLaws.{has-fold_max}
 use Rattle.un_domains.specs.Order.{Below}
 use Rattle.un_domains.specs.OrderLaws.{greatest_below}
 use Rattle.un_prop.specs.Rounds.{HasVars}
-use Rattle.un_prop.specs.Lawful.{LawfulTest}
-use Rattle.un_prop.specs.Looks.{act_set}
-use Rattle.un_prop.specs.LookLaws.{or_not, act_alike, number_in}
-use Rattle.un_prop.specs.PlaceLaws.{entries_lawful}
+use Rattle.un_prop.specs.Lawful.{Lawful, LawfulTest}
+use Rattle.un_prop.specs.Steps.{lawful_then}
+use Rattle.un_prop.specs.ChainLaws.{then_kept, known_in, each_lawful, each_keeps}
+use Rattle.un_prop.specs.Places.{each_place, choice_steps, places_in}
+use Rattle.un_prop.specs.When.{is_only, when_test, other_than, LawfulFact}
+use Rattle.un_prop.specs.WhenLaws.{only_value, only_fact, both_facts, fixed_test, when_lawful_test}
+use Rattle.un_prop.specs.Looks.{act_set, sure}
+use Rattle.un_prop.specs.LookLaws.{not_or, or_not, firsts, act_alike, number_in, sure_below, sure_alike, sure_active}
+use Rattle.un_prop.specs.PlaceLaws.{entries_lawful, act_lawful, act_keeps, choice_lawful, choice_keeps}
 use Rattle.un_prop.specs.declared.act.Act.TheVariants.{Always, Var}
 use Rattle.std.proofs.lemmas.List.Elements.{recursion_from_All}
 use Rattle.std.specs.List.{AllByRecursion}
 use Rattle.un_base.specs.declared.ids.VarId.{VarId}
-use Rattle.un_prop.specs.Among.{AllAmong}
-use Rattle.un_prop.specs.AmongLaws.{same_var, same_active}
+use Rattle.un_prop.specs.Among.{AllAmong, among}
+use Rattle.un_prop.specs.AmongLaws.{same_var, same_active, has_among}
 use Rattle.un_prop.specs.Parts.{SameAt}
 use Rattle.un_prop.specs.Acts.{act_vars, act_number, is_active}
 use Rattle.un_prop.specs.declared.act.Act.{Act}
 use Rattle.un_prop.specs.Choices.{passes_at}
 use Rattle.un_prop.specs.ChoiceLaws.{passes_agree, passes_more}
-use Rattle.un_alt.specs.Chosen.{chosen_holds, may_be_active, chosen_can, ChosenVars}
+use Rattle.un_alt.specs.Chosen.{chosen_holds, may_be_active, chosen_can, ChosenVars, must_choose, definer_cut, chosen_steps}
 
 pub chosen_looks : (vs : List VarId) (user : Act) (choice : VarId) (alts : List Act) → ChosenVars vs user choice alts → (x y : List ℕ)
     → SameAt vs x y
@@ -68,3 +73,55 @@ module _ (vs : List VarId) (user : Act) (choice : VarId) (alts : List Act) (h : 
   chosen_fits x holds m k there is = passes_more (λ a. AllAmong vs (act_vars a)) (λ a. is_active a x) (may_be_active m) alts
       (get_or x choice.0 0) all_vars (active_in m x k there)
       (or_not (is_active user x) (passes_at (λ a. is_active a x) alts (get_or x choice.0 0)) holds is)
+
+  -- The definer at the only place
+
+  definer_among : (rest : List Act) (i : ℕ) → AllByRecursion (λ a. AllAmong vs (act_vars a)) rest → AllAmong vs (act_vars (get_or rest i Always))
+  definer_among [] i all = λ j d lt. absurd (omega (arith, lt))
+  definer_among (a ∷ rest) zero all = all.0
+  definer_among (a ∷ rest) (suc i) all = definer_among rest i all.1
+
+  definer_active : (p : Act → Bool) (rest : List Act) (i : ℕ) → passes_at p rest i ≡ true → p (get_or rest i Always) ≡ true
+  definer_active p [] i e = absurd (cc e)
+  definer_active p (a ∷ rest) zero e = e
+  definer_active p (a ∷ rest) (suc i) e = definer_active p rest i e
+
+  sure_fact : LawfulFact vs (sure user)
+  sure_fact = record {
+    grows = λ t s k full le e. sure_below vs t s le user e;
+    local = λ s t agree. sure_alike vs s t agree user h.of_user;
+  }
+
+  must_fact : (i : ℕ) → LawfulFact vs (must_choose user choice i)
+  must_fact i = both_facts vs (sure user) (is_only choice i) sure_fact (only_fact vs choice i h.of_choice)
+
+  definer_lawful : (i : ℕ) → Lawful vs (definer_cut user choice alts i)
+  definer_lawful i = act_lawful vs (when_test (must_choose user choice i) (other_than 0)) (get_or alts i Always) (definer_among alts i all_vars)
+      (when_lawful_test vs (must_choose user choice i) (other_than 0) (must_fact i) (fixed_test vs (λ y. not (nat_eq y 0))))
+
+  definer_keeps : (x : List ℕ) → chosen_holds user choice alts x ≡ true → (i : ℕ) (m : Sets) → HasVars vs m → IsIn x m
+      → Kept x (definer_cut user choice alts i m)
+  definer_keeps x holds i m k there = act_keeps vs (when_test (must_choose user choice i) (other_than 0)) (get_or alts i Always)
+      (definer_among alts i all_vars) m x k there
+      (not_or (must_choose user choice i m) (not (nat_eq (act_number (get_or alts i Always) x) 0)) (λ is.
+      (let two = firsts (sure user m) (is_only choice i m) is in
+      let on = sure_active vs m x there k user h.of_user two.0 in
+      let at = only_value choice i m (get_or x choice.0 0) two.1 (there.each choice.0 (has_among vs choice m h.of_choice k)) in
+      definer_active (λ a. is_active a x) alts i (subst (λ (n : ℕ). passes_at (λ a. is_active a x) alts n ≡ true) at
+      (or_not (is_active user x) (passes_at (λ a. is_active a x) alts (get_or x choice.0 0)) holds on)))))
+
+  places_lawful : Lawful vs (choice_steps user choice (chosen_can alts) (places_in alts))
+  places_lawful = choice_lawful vs user choice (chosen_can alts) h.of_user h.of_choice chosen_lawful (places_in alts)
+
+  pub steps_lawful : Lawful vs (chosen_steps user choice alts)
+  steps_lawful = lawful_then vs (choice_steps user choice (chosen_can alts) (places_in alts))
+      (each_place (definer_cut user choice alts) (places_in alts)) places_lawful
+      (each_lawful vs (definer_cut user choice alts) definer_lawful (places_in alts))
+
+  pub steps_keep : (s : Sets) (x : List ℕ) → HasVars vs s → IsIn x s → chosen_holds user choice alts x ≡ true → Kept x
+      (chosen_steps user choice alts s)
+  steps_keep s x k there holds = then_kept (each_place (definer_cut user choice alts) (places_in alts)) x
+      (choice_steps user choice (chosen_can alts) (places_in alts) s)
+      (choice_keeps vs user choice (chosen_can alts) h.of_user h.of_choice chosen_lawful (places_in alts) s x k there (chosen_fits x holds))
+      (λ m in_m. each_keeps vs (definer_cut user choice alts) x (definer_keeps x holds) (places_in alts) m (known_in vs s m x there in_m k)
+      in_m)

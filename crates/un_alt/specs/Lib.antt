@@ -12,5 +12,7 @@ pub mod Spaces
 pub mod SpacesLaws
 pub mod Frame
 pub mod FrameLaws
+pub mod FrameCuts
+pub mod FrameCutLaws
 pub mod Filters
 pub mod FilterLaws

@@ -1,21 +1,25 @@
 //! An active operand chooses an active temporary.
 
-ghost use Rattle.std.specs.Prelude.{◌≡◌, ℕ, List, Option, Some, ◌<◌, length, All, option_and_then, Bool};
-ghost use Rattle.un_base.specs.declared.ids.VarId.{VarId};
+ghost use Rattle.std.specs.Prelude.{◌≡◌, ◌≢◌, ◌<◌, ◌≤◌, ◌^◌, length};
+ghost use Rattle.un_prop.specs.Going.{Stepped};
 ghost use Rattle.un_prop.specs.LastLaws.{Ascend};
+ghost use Rattle.un_prop.specs.Places.{each_place};
+ghost use Rattle.un_prop.specs.declared.propagator.Pruned.TheVariants.{Failed};
 ghost use Rattle.un_domains.specs.Sets.{NoneEmpty};
 ghost use Rattle.un_prop.specs.Acts.{act_vars};
 ghost use Rattle.un_prop.specs.Rounds.{HasVars};
-ghost use Rattle.un_alt.specs.Chosen.{ChosenVars, may_be_active};
+ghost use Rattle.un_alt.specs.Chosen.{ChosenVars, may_be_active, definer_cut};
 
-use crate::filter::keep_chosen;
 use un_base::ids::VarId;
 use un_domains::window::Window;
 use un_lists::items::Items;
 use un_prop::act::{Act, active, value};
 use un_prop::last::check_last;
-use un_prop::place::{Choice, places};
+use un_prop::look::is_sure;
+use un_prop::place::{Choice, keep_choice, places};
 use un_prop::propagator::{Predicate, Propagator, Pruned, Scratch};
+use un_prop::step::drop_value;
+use un_prop::when::is_only;
 
 /// An operand of the operation `user` reads one of the temporaries whose definers are `alts`, that at the place `choice`.
 #[derive(Drop)]
@@ -38,6 +42,51 @@ fn may_be_active(w: &Window<'_>, a: Act) -> bool
         Act::Always => true,
         Act::Var(v) => w.max(v) > 0,
     }
+}
+
+/// Where the user is sure and place `i` alone is left to choose, the definer there is active.
+fn keep_definer(w: &mut Window<'_>, before: Pruned, p: &Chosen, i: usize) -> Pruned
+    requires there { i < length p.now.alts }
+    requires small { i < 2 ^ 32 }
+    requires vars { w.old.vars.now ≡ p.now.vars }
+    requires known { HasVars p.now.vars w.old.store.now.sets }
+    requires live { before ≢ Failed → NoneEmpty w.old.store.now.sets }
+    ensures step { Stepped w.old.vars.now (definer_cut p.now.user p.now.choice p.now.alts i) w.old.store.now w.new.store.now before result }
+    ensures same_reference { w.new.store.ghost_name ≡ w.old.store.ghost_name }
+    ensures vars { w.new.vars ≡ w.old.vars }
+{
+    if before == Pruned::Failed {
+        return before;
+    }
+    if !is_sure(w, p.user) {
+        return before;
+    }
+    if !is_only(w, p.choice, i as u32) {
+        return before;
+    }
+    match p.alts.as_slice()[i] {
+        Act::Always => before,
+        Act::Var(v) => drop_value(w, before, v, 0),
+    }
+}
+
+/// Where the user is sure and one place is left to choose, the definer there is active.
+fn keep_definers(w: &mut Window<'_>, before: Pruned, p: &Chosen, n: usize) -> Pruned
+    requires there { n ≤ length p.now.alts }
+    requires small { n ≤ 2 ^ 32 }
+    requires vars { w.old.vars.now ≡ p.now.vars }
+    requires known { HasVars p.now.vars w.old.store.now.sets }
+    requires live { before ≢ Failed → NoneEmpty w.old.store.now.sets }
+    ensures step { Stepped w.old.vars.now (each_place (definer_cut p.now.user p.now.choice p.now.alts) n) w.old.store.now w.new.store.now
+        before result }
+    ensures same_reference { w.new.store.ghost_name ≡ w.old.store.ghost_name }
+    ensures vars { w.new.vars ≡ w.old.vars }
+{
+    let mut did = before;
+    for i in 0..n {
+        did = keep_definer(w, did, p, i);
+    }
+    did
 }
 
 impl Predicate for Chosen {
@@ -81,19 +130,14 @@ impl Choice for Chosen {
 }
 
 impl Propagator for Chosen {
-    ghost use Rattle.std.specs.Prelude.{Some, option_and_then};
+    ghost use Rattle.std.specs.Prelude.{option_and_then};
     ghost use Rattle.un_prop.specs.Last.{last_cut};
-    ghost use Rattle.un_prop.specs.PartLaws.{one_part, one_whole};
-    ghost use Rattle.un_prop.specs.Places.{places_in};
-    ghost use Rattle.un_prop.specs.declared.act.Act.TheVariants.{Always};
-    ghost use Rattle.un_alt.specs.Filters.{choice_cut};
-    ghost use Rattle.un_alt.specs.FilterLaws.{filtered_keeps, filtered_lawful, filtered_forward, none_among};
-    ghost use Rattle.un_alt.specs.RegisterLaws.{one_among};
-    ghost use Rattle.un_alt.specs.Chosen.{chosen_holds, chosen_can};
-    ghost use Rattle.un_alt.specs.ChosenLaws.{chosen_looks, chosen_lawful, chosen_fits};
+    ghost use Rattle.un_prop.specs.PartLaws.{one_part, one_whole, lawful_checked, keeps_checked, forward_checked};
+    ghost use Rattle.un_alt.specs.Chosen.{chosen_holds, chosen_steps};
+    ghost use Rattle.un_alt.specs.ChosenLaws.{chosen_looks, steps_lawful, steps_keep};
+    ghost use Rattle.un_prop.specs.WithinLaws.{one_within};
 
-    ghost cut = { λ p s. option_and_then (last_cut p.vars (chosen_holds p.user p.choice p.alts))
-        (choice_cut p.user (Some p.choice) (chosen_can p.alts) (places_in p.alts) s) };
+    ghost cut = { λ p s. option_and_then (last_cut p.vars (chosen_holds p.user p.choice p.alts)) (chosen_steps p.user p.choice p.alts s) };
 
     ghost parts = { λ p. one_part p.vars (chosen_holds p.user p.choice p.alts) };
 
@@ -103,24 +147,26 @@ impl Propagator for Chosen {
 
     fn prune_in(&self, w: &mut Window<'_>, scratch: &mut Scratch) -> Pruned {
         let n = places(self.alts.as_slice());
-        let did = keep_chosen(self, w, self.user, Some(self.choice), n);
+        let first = keep_choice(self, w, Pruned::Same, self.user, self.choice, n);
+        let did = keep_definers(w, first, self, n);
         check_last(self, w, scratch, did)
     }
 
-    ghost keeps = { λ p s x k full there holds. filtered_keeps p.vars (chosen_holds p.user p.choice p.alts)
-        (chosen_looks p.vars p.user p.choice p.alts p.among) p.ascend p.user (Some p.choice) (chosen_can p.alts) (places_in p.alts)
-        p.among.of_user (one_among p.vars p.choice p.among.of_choice) (chosen_lawful p.vars p.user p.choice p.alts p.among)
-        (chosen_fits p.vars p.user p.choice p.alts p.among) s x k there holds };
+    ghost keeps = { λ p s x k full there holds. keeps_checked p.vars (chosen_holds p.user p.choice p.alts)
+        (chosen_looks p.vars p.user p.choice p.alts p.among) p.ascend (chosen_steps p.user p.choice p.alts)
+        (steps_lawful p.vars p.user p.choice p.alts p.among) s x k
+        (steps_keep p.vars p.user p.choice p.alts p.among s x k there holds) there.long holds };
 
-    ghost lawful = { λ p. filtered_lawful p.vars (chosen_holds p.user p.choice p.alts) (chosen_looks p.vars p.user p.choice p.alts p.among)
-        p.ascend p.user (Some p.choice) (chosen_can p.alts) (places_in p.alts) p.among.of_user (one_among p.vars p.choice p.among.of_choice)
-        (chosen_lawful p.vars p.user p.choice p.alts p.among) };
+    ghost lawful = { λ p. lawful_checked p.vars (chosen_holds p.user p.choice p.alts) (chosen_looks p.vars p.user p.choice p.alts p.among)
+        p.ascend (chosen_steps p.user p.choice p.alts) (steps_lawful p.vars p.user p.choice p.alts p.among) };
 
     ghost whole = { λ p x. one_whole p.vars (chosen_holds p.user p.choice p.alts) x };
 
-    ghost forward = { λ p. filtered_forward p.vars (chosen_holds p.user p.choice p.alts)
-        (chosen_looks p.vars p.user p.choice p.alts p.among) p.ascend p.user (Some p.choice) (chosen_can p.alts) (places_in p.alts)
-        p.among.of_user (one_among p.vars p.choice p.among.of_choice) (chosen_lawful p.vars p.user p.choice p.alts p.among) };
+    ghost within = { λ p. one_within p.vars (chosen_holds p.user p.choice p.alts) };
+
+    ghost forward = { λ p. forward_checked p.vars (chosen_holds p.user p.choice p.alts)
+        (chosen_looks p.vars p.user p.choice p.alts p.among) p.ascend (chosen_steps p.user p.choice p.alts)
+        (steps_lawful p.vars p.user p.choice p.alts p.among) };
 
     ghost strength = { λ p s k full words grounded e. tt };
 }

@@ -7,18 +7,15 @@ ghost use Rattle.un_prop.specs.LastLaws.{Ascend};
 ghost use Rattle.un_alt.specs.Frame.{is_access, is_slot, uses_frame, is_on, all_on, none_on, counts, is_after, is_until, is_left, in_order};
 ghost use Rattle.un_alt.specs.Frame.{FrameVars};
 
+use crate::frame_cuts::keep_frame;
 use un_base::ids::VarId;
 use un_domains::window::Window;
+use un_ir::extended::{RELOAD, SPILL};
 use un_isa::reg::FIRST_SLOT;
 use un_lists::items::Items;
 use un_prop::act::{Act, number, value};
 use un_prop::last::check_last;
 use un_prop::propagator::{Predicate, Propagator, Pruned, Scratch};
-
-/// The numbers of the instructions of a copy that access the frame.
-pub const SPILL: u32 = 2;
-
-pub const RELOAD: u32 = 3;
 
 /// Enter or a Leave: it is active where `instr` is not 0, and issues at `at`.
 #[derive(Clone, Copy)]
@@ -262,12 +259,16 @@ impl Predicate for Frame {
 
 impl Propagator for Frame {
     ghost use Rattle.un_prop.specs.Last.{last_cut};
-    ghost use Rattle.un_prop.specs.LastLaws.{last_keeps, last_lawful};
-    ghost use Rattle.un_prop.specs.PartLaws.{one_part, one_whole, forward_one};
+    ghost use Rattle.un_prop.specs.PartLaws.{one_part, one_whole, lawful_checked, keeps_checked, forward_checked};
+    ghost use Rattle.std.specs.Prelude.{option_and_then};
+    ghost use Rattle.un_prop.specs.WithinLaws.{one_within};
     ghost use Rattle.un_alt.specs.Frame.{frame_holds};
     ghost use Rattle.un_alt.specs.FrameLaws.{frame_looks};
+    ghost use Rattle.un_alt.specs.FrameCuts.{frame_steps};
+    ghost use Rattle.un_alt.specs.FrameCutLaws.{frame_lawful, frame_keeps};
 
-    ghost cut = { λ p. last_cut p.vars (frame_holds p.flag p.touch p.ins p.enter p.entry p.leaves) };
+    ghost cut = { λ p s. option_and_then (last_cut p.vars (frame_holds p.flag p.touch p.ins p.enter p.entry p.leaves))
+        (frame_steps p.flag p.touch p.ins p.enter p.entry p.leaves s) };
 
     ghost parts = { λ p. one_part p.vars (frame_holds p.flag p.touch p.ins p.enter p.entry p.leaves) };
 
@@ -276,19 +277,29 @@ impl Propagator for Frame {
     ghost span = { λ p. 0 };
 
     fn prune_in(&self, w: &mut Window<'_>, scratch: &mut Scratch) -> Pruned {
-        check_last(self, w, scratch, Pruned::Same)
+        let did = keep_frame(w, self);
+        check_last(self, w, scratch, did)
     }
 
-    ghost keeps = { λ p s x k full there holds. last_keeps p.vars (frame_holds p.flag p.touch p.ins p.enter p.entry p.leaves)
-        (λ x y same. frame_looks p.vars x y same p.flag p.touch p.ins p.enter p.entry p.leaves p.among) s x k there holds };
+    ghost keeps = { λ p s x k full there holds. keeps_checked p.vars (frame_holds p.flag p.touch p.ins p.enter p.entry p.leaves)
+        (λ x y same. frame_looks p.vars x y same p.flag p.touch p.ins p.enter p.entry p.leaves p.among) p.ascend
+        (frame_steps p.flag p.touch p.ins p.enter p.entry p.leaves)
+        (frame_lawful p.vars p.flag p.touch p.ins p.enter p.entry p.leaves p.among) s x k
+        (frame_keeps p.vars p.flag p.touch p.ins p.enter p.entry p.leaves p.among s x k there holds) there.long holds };
 
-    ghost lawful = { λ p. last_lawful p.vars (frame_holds p.flag p.touch p.ins p.enter p.entry p.leaves)
-        (λ x y same. frame_looks p.vars x y same p.flag p.touch p.ins p.enter p.entry p.leaves p.among) };
+    ghost lawful = { λ p. lawful_checked p.vars (frame_holds p.flag p.touch p.ins p.enter p.entry p.leaves)
+        (λ x y same. frame_looks p.vars x y same p.flag p.touch p.ins p.enter p.entry p.leaves p.among) p.ascend
+        (frame_steps p.flag p.touch p.ins p.enter p.entry p.leaves)
+        (frame_lawful p.vars p.flag p.touch p.ins p.enter p.entry p.leaves p.among) };
 
     ghost whole = { λ p x. one_whole p.vars (frame_holds p.flag p.touch p.ins p.enter p.entry p.leaves) x };
 
-    ghost forward = { λ p. forward_one p.vars (frame_holds p.flag p.touch p.ins p.enter p.entry p.leaves)
-        (λ x y same. frame_looks p.vars x y same p.flag p.touch p.ins p.enter p.entry p.leaves p.among) p.ascend };
+    ghost within = { λ p. one_within p.vars (frame_holds p.flag p.touch p.ins p.enter p.entry p.leaves) };
+
+    ghost forward = { λ p. forward_checked p.vars (frame_holds p.flag p.touch p.ins p.enter p.entry p.leaves)
+        (λ x y same. frame_looks p.vars x y same p.flag p.touch p.ins p.enter p.entry p.leaves p.among) p.ascend
+        (frame_steps p.flag p.touch p.ins p.enter p.entry p.leaves)
+        (frame_lawful p.vars p.flag p.touch p.ins p.enter p.entry p.leaves p.among) };
 
     ghost strength = { λ p s k full words grounded e. tt };
 }

@@ -67,6 +67,7 @@ impl Propagator for Home {
     ghost use Rattle.std.specs.Prelude.{Some, option_and_then};
     ghost use Rattle.un_prop.specs.Last.{last_cut};
     ghost use Rattle.un_prop.specs.PartLaws.{one_part, one_whole};
+    ghost use Rattle.un_prop.specs.WithinLaws.{one_within};
     ghost use Rattle.un_prop.specs.Places.{places_in};
     ghost use Rattle.un_prop.specs.declared.act.Act.TheVariants.{Always};
     ghost use Rattle.un_alt.specs.Filters.{choice_cut};
@@ -100,6 +101,8 @@ impl Propagator for Home {
         (home_lawful p.vars p.choice p.regs p.home.0 p.among) };
 
     ghost whole = { λ p x. one_whole p.vars (home_holds p.choice p.regs p.home.0) x };
+
+    ghost within = { λ p. one_within p.vars (home_holds p.choice p.regs p.home.0) };
 
     ghost forward = { λ p. filtered_forward p.vars (home_holds p.choice p.regs p.home.0)
         (home_looks p.vars p.choice p.regs p.home.0 p.among) p.ascend Always p.choice (home_can p.regs p.home.0) (places_in p.regs)

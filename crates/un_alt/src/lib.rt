@@ -4,8 +4,11 @@
 pub mod chosen;
 mod filter;
 pub mod frame;
+mod frame_cuts;
 pub mod home;
+pub mod order;
 mod registers;
 pub mod same;
 pub mod spaces;
+pub mod span;
 pub mod zeros;

@@ -88,6 +88,7 @@ impl Propagator for Same {
     ghost use Rattle.std.specs.Prelude.{Some, option_and_then};
     ghost use Rattle.un_prop.specs.Last.{last_cut};
     ghost use Rattle.un_prop.specs.PartLaws.{one_part, one_whole};
+    ghost use Rattle.un_prop.specs.WithinLaws.{one_within};
     ghost use Rattle.un_prop.specs.Places.{places_in};
     ghost use Rattle.un_prop.specs.declared.act.Act.TheVariants.{Always};
     ghost use Rattle.un_alt.specs.Filters.{choice_cut};
@@ -121,6 +122,8 @@ impl Propagator for Same {
         (same_lawful p.vars p.choice p.regs p.to p.among) };
 
     ghost whole = { λ p x. one_whole p.vars (same_holds p.choice p.regs p.to) x };
+
+    ghost within = { λ p. one_within p.vars (same_holds p.choice p.regs p.to) };
 
     ghost forward = { λ p. filtered_forward p.vars (same_holds p.choice p.regs p.to) (same_looks p.vars p.choice p.regs p.to p.among)
         p.ascend Always (Some p.choice) (same_can p.regs p.to) (places_in p.regs) (none_among p.vars)

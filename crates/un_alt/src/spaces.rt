@@ -11,6 +11,7 @@ ghost use Rattle.un_prop.specs.Choices.{passes_at};
 
 use crate::filter::keep_chosen;
 use crate::registers::chosen;
+use crate::span::Span;
 use un_base::ids::VarId;
 use un_domains::window::Window;
 use un_lists::items::Items;
@@ -26,59 +27,39 @@ pub struct Spaces {
     pub on: Act,
     pub choice: Option<VarId>,
     pub regs: Items<VarId>,
-    pub sets: Items<Items<u32>>,
+    pub sets: Items<Span>,
     pub vars: Items<VarId>,
     ghost ascend: { Ascend vars },
     ghost among: { SpacesVars vars on choice regs },
 }
 
-/// Whether a set has a number.
-fn has(set: &[u32], n: u32) -> bool
-    ensures { result ≡ has set.now n }
-{
-    set.iter().any(|m| n == *m)
-}
-
 /// Whether the set at a place has a number; there is none past the end.
-fn is_in(sets: &[Items<u32>], i: u32, n: u32) -> bool
+fn is_in(sets: &[Span], i: u32, n: u32) -> bool
     ensures { result ≡ passes_at (λ set. has set n) sets.now i }
 {
     let i = i as usize;
     if i < sets.len() {
-        has(sets[i].as_slice(), n)
+        sets[i].contains(n)
     } else {
         false
     }
 }
 
-/// Whether a variable has a value of a set.
-fn meets(w: &Window<'_>, v: VarId, set: &[u32]) -> bool
-    requires { v.0 < length w.now.store.now.sets }
-    ensures { result ≡ list_any (has (set_at w.now.store.now.sets v.0)) set.now }
-{
-    for r in set {
-        if w.has(v, *r) {
-            return true;
-        }
-    }
-    false
-}
-
 /// Whether a variable has a value of the set at a place.
-fn meets_at(w: &Window<'_>, v: VarId, sets: &[Items<u32>], n: u32) -> bool
+fn meets_at(w: &Window<'_>, v: VarId, sets: &[Span], n: u32) -> bool
     requires { v.0 < length w.now.store.now.sets }
     ensures { result ≡ passes_at (list_any (has (set_at w.now.store.now.sets v.0))) sets.now n }
 {
     let n = n as usize;
     if n < sets.len() {
-        meets(w, v, sets[n].as_slice())
+        sets[n].meets(w, v)
     } else {
         false
     }
 }
 
 /// Whether a variable has a value of the set at some place that `u` has left.
-fn meets_left(w: &Window<'_>, v: VarId, u: VarId, sets: &[Items<u32>]) -> bool
+fn meets_left(w: &Window<'_>, v: VarId, u: VarId, sets: &[Span]) -> bool
     requires there { v.0 < length w.now.store.now.sets }
     requires left { u.0 < length w.now.store.now.sets }
     requires live { NoneEmpty w.now.store.now.sets }
@@ -97,7 +78,7 @@ fn meets_left(w: &Window<'_>, v: VarId, u: VarId, sets: &[Items<u32>]) -> bool
 }
 
 /// Whether a register can be in the set of some number that an activity has left.
-fn may_lie(w: &Window<'_>, v: VarId, on: Act, sets: &[Items<u32>]) -> bool
+fn may_lie(w: &Window<'_>, v: VarId, on: Act, sets: &[Span]) -> bool
     requires there { v.0 < length w.now.store.now.sets }
     requires known { HasVars (act_vars on) w.now.store.now.sets }
     requires live { NoneEmpty w.now.store.now.sets }
@@ -154,6 +135,7 @@ impl Propagator for Spaces {
     ghost use Rattle.std.specs.Prelude.{Some, option_and_then};
     ghost use Rattle.un_prop.specs.Last.{last_cut};
     ghost use Rattle.un_prop.specs.PartLaws.{one_part, one_whole};
+    ghost use Rattle.un_prop.specs.WithinLaws.{one_within};
     ghost use Rattle.un_prop.specs.Places.{places_in};
     ghost use Rattle.un_prop.specs.declared.act.Act.TheVariants.{Always};
     ghost use Rattle.un_alt.specs.Filters.{choice_cut};
@@ -187,6 +169,8 @@ impl Propagator for Spaces {
         p.among.of_on p.among.of_choice (spaces_lawful p.vars p.on p.choice p.regs p.sets p.among) };
 
     ghost whole = { λ p x. one_whole p.vars (spaces_holds p.on p.choice p.regs p.sets) x };
+
+    ghost within = { λ p. one_within p.vars (spaces_holds p.on p.choice p.regs p.sets) };
 
     ghost forward = { λ p. filtered_forward p.vars (spaces_holds p.on p.choice p.regs p.sets)
         (spaces_looks p.vars p.on p.choice p.regs p.sets p.among) p.ascend p.on p.choice (spaces_can p.on p.regs p.sets) (places_in p.regs)

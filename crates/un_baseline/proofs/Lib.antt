@@ -48,14 +48,13 @@ pub mod Pushing
 pub mod Reaching
 pub mod RegistersIn
 pub mod Returning
-pub mod Roomy
 pub mod Shapes
 mod SmallFunctions
 pub mod Solved
 pub mod Sound
 pub mod Sources
 pub mod SpillSteps
-mod Spillable
+pub mod Spillable
 pub mod SpilledCosts
 pub mod Standing
 pub mod StartIn

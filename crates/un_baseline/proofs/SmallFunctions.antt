@@ -4,6 +4,7 @@ use Rattle.un_base.specs.declared.ids.NameId.{NameId}
 use Rattle.un_isa.specs.Hexagon.{HEXAGON}
 use Rattle.un_isa.specs.Registers.{callee_saved}
 use Rattle.un_isa.specs.declared.op.Op.{Op}
+use Rattle.un_isa.specs.declared.reg.TheConstants.{SLOTS}
 use Rattle.un_isa.specs.declared.op.Op.TheVariants.{Add, CmpEq, Call, Mux}
 use Rattle.un_ir.specs.LinearOf.{linear_blocks}
 use Rattle.un_ir.specs.ExtendOf.{extend_of}
@@ -35,10 +36,9 @@ extended names live block = extend_of (record {
 abbrev Costs : List Kind → List NameId → Block → ℕ → Type 0
 Costs names live block n =
     let e = extended names live block in
-    (cost_of (model_of e (record { regs = None; slots = 64 })) (record { values = spilled_values e }) ≡ n) × (spilled_cost HEXAGON
+    (cost_of (model_of e (record { regs = None; slots = SLOTS })) (record { values = spilled_values e }) ≡ n) × (spilled_cost HEXAGON
     (live ∷ []) true 0 (block ∷ []) ≡ n)
 
--- it only returns
 -- it only returns
 abbrev returns_alone : Ext
 returns_alone = extended [] [] (block_e 1 [] (Ret None))

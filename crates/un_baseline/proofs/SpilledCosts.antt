@@ -23,7 +23,7 @@ use Rattle.un_model.specs.declared.model.Options.{Options}
 use Rattle.un_model.specs.Cost.{cost_of}
 use Rattle.un_baseline.specs.RoomyOptions.{AreRoomy, IsOfFunction, IsSpillable}
 use Rattle.un_baseline.proofs.Grounds.{is_linear, is_extended}
-use Rattle.un_baseline.specs.SpilledCost.{block_packets, spilled_cost}
+use Rattle.un_baseline.specs.SpilledCost.{block_packets, spilled_cost, spill_cost}
 use Rattle.un_baseline.specs.SpillEverywhere.{block_plans, spilled_values}
 use Rattle.un_baseline.proofs.FunctionIn.{assigns_well, reads_own}
 use Rattle.un_baseline.proofs.AllIn.{low_results, past_count, AreWell, AllWell, all_well, source_ok}
@@ -95,7 +95,7 @@ module _ (f : Function) (lists : List (List NameId)) (t : Table) (o : Options) (
         ∙ ap (λ (n : ℕ). blk.freq * block_packets t entry (live_at lists bn) blk + n) rest
 
     pub function_costs : IsLinear (lin_of f lists t)
-        → plans_cost e.blocks (block_plans e true e.blocks) ≡ spilled_cost t lists true 0 f.blocks
+        → plans_cost e.blocks (block_plans e true e.blocks) ≡ spill_cost t f lists
     function_costs is_linear =
         blocks_take true 0 0 0 [] 0 f.blocks refl (λ not. absurd (cc not)) (all_well f f.blocks (λ b k block src at here. assigns_well f b k
         block src at here))
@@ -104,12 +104,12 @@ module _ (f : Function) (lists : List (List NameId)) (t : Table) (o : Options) (
 -- ---- the solution of a model
 
 pub cost_of_model : (m : Model) → IsSpillable m → (values : List ℕ) → values ≡ spilled_values m.ext → (source : IsOfFunction m.ext)
-    → cost_of m (record { values = values }) ≡ spilled_cost m.ext.table source.lists true 0 source.function.blocks
+    → cost_of m (record { values = values }) ≡ spill_cost m.ext.table source.function source.lists
 cost_of_model m h values same source =
     ap (λ (xs : List ℕ). cost_of m (record { values = xs })) same
     ∙ ap (λ (n : Model). cost_of n (record { values = spilled_values m.ext })) h.model ∙ cost_is m.ext m.options
     ∙ subst (λ (e : Ext). AreRoomy e m.options → IsExtended e
-    → plans_cost e.blocks (block_plans e true e.blocks) ≡ spilled_cost m.ext.table source.lists true 0 source.function.blocks)
+    → plans_cost e.blocks (block_plans e true e.blocks) ≡ spill_cost m.ext.table source.function source.lists)
     (sym source.extended)
     (λ roomy kept. function_costs source.function source.lists m.ext.table m.options h.table roomy kept (is_linear m h source)) h.roomy
     (is_extended m h)

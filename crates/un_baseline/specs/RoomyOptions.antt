@@ -3,6 +3,7 @@ use Rattle.std.specs.Prelude.{ℕ, ◌≡◌, ◌<◌, ◌≤◌, List, IfSome, 
 use Rattle.un_base.specs.declared.ids.NameId.{NameId}
 use Rattle.un_isa.specs.Fit.{IsFit}
 use Rattle.un_ir.specs.declared.function.Function.{Function}
+use Rattle.un_ir.specs.declared.function.TheConstants.{PARAMS}
 use Rattle.un_ir.specs.declared.extended.Ext.{Ext}
 use Rattle.un_ir.specs.ExtendOf.{extend_of}
 use Rattle.un_ir.specs.LinearOf.{AreLive, lin_of}
@@ -11,10 +12,16 @@ use Rattle.un_model.specs.declared.model.Model.{Model}
 use Rattle.un_model.specs.Options.{AreOptions}
 use Rattle.un_model.specs.Variables.{IsModel}
 
--- r0 to r5 at least may be assigned, and there is a slot for each name and one more
+-- enough registers may be assigned for the arguments of every call, r0 to r5, and there is a slot for each name of the function and one
+-- more
+pub record AreRoomyFor (f : Function) (o : Options) : Type 0 where
+  pub regs : IfSome o.regs (λ (n : ℕ). PARAMS ≤ n)
+  pub slots : length f.names < o.slots
+
+-- the same of an extended function's names, under options that a model may have
 pub record AreRoomy (e : Ext) (o : Options) : Type 0 where
   pub options : AreOptions o
-  pub regs : IfSome o.regs (λ (n : ℕ). 6 ≤ n)
+  pub regs : IfSome o.regs (λ (n : ℕ). PARAMS ≤ n)
   pub slots : length e.names < o.slots
 
 -- it is the extended function of a function

@@ -12,6 +12,7 @@ use Rattle.un_ir.specs.declared.function.SrcOp.{SrcOp}
 use Rattle.un_ir.specs.declared.function.Term.{Term}
 use Rattle.un_ir.specs.declared.function.Term.TheVariants.{Fall, Jump, Branch, Ret}
 use Rattle.un_ir.specs.declared.function.Block.{Block}
+use Rattle.un_ir.specs.declared.function.Function.{Function}
 use Rattle.un_ir.specs.WellFormed.{operand_kinds, result_kind}
 use Rattle.un_ir.specs.LinearOf.{live_at}
 
@@ -59,3 +60,7 @@ abbrev pub spilled_cost : Table → List (List NameId) → Bool → ℕ → List
 spilled_cost t lists entry b [] = 0
 spilled_cost t lists entry b (block ∷ blocks) = block.freq * block_packets t entry (live_at lists b) block + spilled_cost t lists false
     (b + 1) blocks
+
+-- that of a function, of which these names are live at each block's start
+abbrev pub spill_cost : Table → Function → List (List NameId) → ℕ
+spill_cost t f lists = spilled_cost t lists true 0 f.blocks

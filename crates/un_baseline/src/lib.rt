@@ -3,5 +3,5 @@
 
 mod copies;
 pub mod plan;
+pub mod roomy;
 pub mod spill;
-pub mod spilled;

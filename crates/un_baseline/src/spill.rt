@@ -20,7 +20,7 @@ ghost use Rattle.un_model.specs.Solutions.{IsSolution};
 ghost use Rattle.un_model.specs.Cost.{cost_of, value_of};
 ghost use Rattle.un_model.specs.Variables.{chosen_operands};
 ghost use Rattle.un_baseline.specs.RoomyOptions.{IsOfFunction, IsSpillable};
-ghost use Rattle.un_baseline.specs.SpilledCost.{spilled_cost};
+ghost use Rattle.un_baseline.specs.SpilledCost.{spill_cost};
 ghost use Rattle.un_baseline.specs.Plans.{step_values, steps_values, block_values, blocks_values};
 ghost use Rattle.un_baseline.specs.SpillEverywhere.{purpose_of_end, purpose_of_out, purpose_of, purpose_at, start_register, leave_cycle};
 ghost use Rattle.un_baseline.specs.SpillEverywhere.{end_cycle, copies_of, handed_place, out_place, operand_place, step_of, assigning};
@@ -724,7 +724,7 @@ pub fn spill_everywhere(alloc: Global, m: &Model) -> Result<Solution, NoMemory>
     ensures solution { IfOk result (IsSolution m.now) }
     ensures values { IfOk result (λ s. s.values ≡ spilled_values m.now.ext) }
     ensures cost { (source : IsOfFunction m.now.ext)
-        → IfOk result (λ s. cost_of m.now s ≡ spilled_cost m.now.ext.table source.lists true 0 source.function.blocks) }
+        → IfOk result (λ s. cost_of m.now s ≡ spill_cost m.now.ext.table source.function source.lists) }
 {
     let saved = saved_registers(alloc, &m.ext.table)?;
     let mut values = Items::new(alloc);

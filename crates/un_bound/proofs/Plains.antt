@@ -1,13 +1,17 @@
 -- The bound that knows no domain is at most what any solution costs.
 use Rattle.std.proofs.Common.{◌≡◌, ℕ, zero, suc, ◌+◌, ◌-◌, ◌*◌, ◌≤◌, ◌<◌, Bool, true, false, ◌==◌, if◌then◌else◌, List, [], ◌∷◌, ◌++◌}
 use Rattle.std.proofs.Common.{◌||◌, Option, Some, None, length, map, max, refl, sym, ap, ◌∙◌, subst, arith, mul-suc}
-use Rattle.std.specs.Prelude.{IfSome, slice_index, sum_by}
+use Rattle.std.specs.Prelude.{IfSome, IsSomeAnd, slice_get, slice_index, sum_by, unwrap_or}
 use Rattle.std.proofs.lemmas.List.{length-map}
 use Rattle.std.proofs.lemmas.Bool.{eqb-false, eq-eqb}
 use Rattle.std.proofs.lemmas.Nat.{mul-le}
 use Rattle.std.proofs.lemmas.List.Sums.{sum_by-cons, sum_by-append}
-use Rattle.un_isa.specs.Fit.{IsFit}
+use Rattle.un_isa.specs.Facts.{class_of}
+use Rattle.un_isa.specs.Fit.{AreFitNeeds, IsFit}
+use Rattle.un_isa.specs.Hexagon.{needs_by}
+use Rattle.un_isa.specs.Tables.{number_of}
 use Rattle.un_isa.specs.declared.op.Op.{Op}
+use Rattle.un_isa.specs.declared.table.Needs.{Needs}
 use Rattle.un_isa.specs.declared.table.Table.{Table}
 use Rattle.un_ir.specs.declared.extended.ExtKind.{ExtKind}
 use Rattle.un_ir.specs.declared.extended.ExtKind.TheVariants.{In, Out, Body, End, Copy, Enter, Leave}
@@ -24,15 +28,15 @@ use Rattle.un_model.specs.declared.schedule.Issue.{Issue}
 use Rattle.un_isa.specs.declared.packet_counts.Resource.{Resource}
 use Rattle.un_isa.specs.declared.packet_counts.Resource.TheVariants.{Instructions, Memory, Stores, MultiplyOrControl, Control}
 use Rattle.un_model.specs.Cost.{value_of, blocks_cost, cost_of}
-use Rattle.un_model.specs.Instructions.{instruction_of}
+use Rattle.un_model.specs.Instructions.{instruction_of, no_needs}
 use Rattle.un_model.specs.Options.{AreOptions}
 use Rattle.un_model.specs.Pairs.{pairs_from, over_blocks}
 use Rattle.un_model.specs.Schedules.{value_by, issue_of, block_issues, issues_of}
 use Rattle.un_model.specs.Solutions.{IsPlacedAs, IsPlaced, IsSolution, HasRoom, issues_at, share_of, taken}
-use Rattle.un_isa.specs.PacketCounts.{places_of}
+use Rattle.un_isa.specs.PacketCounts.{places_of, share_of as share_by}
 use Rattle.un_model.specs.Variables.{IsModel, block_count, blocks_vars}
 use Rattle.un_model.proofs.Lists.{Each, each_all, each_append}
-use Rattle.un_bound.specs.Plain.{needed, packets_for, IsPlainSum, IsPlainBound}
+use Rattle.un_bound.specs.Plain.{plain_share, needed, packets_for, IsPlainSum, IsPlainBound}
 use Rattle.un_bound.specs.Relaxations.{AreRelaxed}
 use Rattle.un_bound.specs.Choices.{AllKnown}
 use Rattle.un_bound.proofs.Members.{times_of, known_box, solution_times}
@@ -46,16 +50,31 @@ none_taken t Stores n = omega arith
 none_taken t MultiplyOrControl n = omega arith
 none_taken t Control n = omega arith
 
-surely : (t : Table) (r : Resource) (kind : ExtKind) (n : ℕ) → share_of t r (instruction_of kind 0) ≤ share_of t r (instruction_of kind n)
-surely t r In n = omega arith
-surely t r Out n = omega arith
-surely t r (Body o) n = omega arith
-surely t r (End term) n = omega arith
-surely t r (Copy node) n = none_taken t r (share_of t r (instruction_of (Copy node) n))
-surely t r Enter n = none_taken t r (share_of t r (instruction_of Enter n))
-surely t r Leave n = none_taken t r (share_of t r (instruction_of Leave n))
+-- at least what its class needs, for a table that the compiler works for
+by_needs : (r : Resource) (least : Needs) (o : Option Needs) → IsSomeAnd o (AreFitNeeds least)
+    → share_by r least ≤ share_by r (unwrap_or o no_needs)
+by_needs r least None h = absurd h
+by_needs Instructions least (Some n) h = omega arith
+by_needs Memory least (Some n) h = h.mem.0
+by_needs Stores least (Some n) h = h.store.0
+by_needs MultiplyOrControl least (Some n) h = h.xc.0
+by_needs Control least (Some n) h = h.control.0
 
-module _ (t : Table) (r : Resource) where
+by_class : (t : Table) → IsFit t → (r : Resource) (o : Option Op) → plain_share r o ≤ share_of t r o
+by_class t fit r None = omega arith
+by_class t fit r (Some op) = by_needs r (needs_by (class_of op)) (slice_get t.uses (number_of op)) (fit.needs op)
+
+surely : (t : Table) → IsFit t → (r : Resource) (kind : ExtKind) (n : ℕ)
+    → plain_share r (instruction_of kind 0) ≤ share_of t r (instruction_of kind n)
+surely t fit r In n = omega arith
+surely t fit r Out n = omega arith
+surely t fit r (Body o) n = by_class t fit r (instruction_of (Body o) 0)
+surely t fit r (End term) n = by_class t fit r (instruction_of (End term) 0)
+surely t fit r (Copy node) n = omega arith
+surely t fit r Enter n = omega arith
+surely t fit r Leave n = omega arith
+
+module _ (t : Table) (fit : IsFit t) (r : Resource) where
   abbrev share : Issue → ℕ
   share i = share_of t r i.instr
 
@@ -63,13 +82,13 @@ module _ (t : Table) (r : Resource) where
   shares is = sum_by share is
 
   needed_least : (x : List ℕ) (b end n : ℕ) (ops : List ExtOp) (vars : List OpVars) → length vars ≡ length ops
-      → needed t r ops ≤ shares (pairs_from (issue_of x b end) n ops vars)
+      → needed r ops ≤ shares (pairs_from (issue_of x b end) n ops vars)
   needed_least x b end n [] vars long = omega arith
   needed_least x b end n (op ∷ ops) [] long = absurd (omega (arith, long))
   needed_least x b end n (op ∷ ops) (v ∷ vars) long =
-      let a = sum_by-cons (λ (o : ExtOp). share_of t r (instruction_of o.kind 0)) op ops in
+      let a = sum_by-cons (λ (o : ExtOp). plain_share r (instruction_of o.kind 0)) op ops in
       let c = sum_by-cons share (issue_of x b end n op v) (pairs_from (issue_of x b end) (n + 1) ops vars) in
-      let d = surely t r op.kind (value_by x v.instr) in
+      let d = surely t fit r op.kind (value_by x v.instr) in
       let e = needed_least x b end (n + 1) ops vars (omega (arith, long)) in
       omega (arith, a, c, d, e)
 
@@ -145,7 +164,7 @@ module _ (t : Table) (r : Resource) where
   pub enough : (x : List ℕ) (b n : ℕ) (block : ExtBlock) (vars : BlockVars) → length vars.ops ≡ length block.ops
       → Each IsPlaced (block_issues x b n block vars)
       → ((c : ℕ) → taken t r (block_issues x b n block vars) b c ≤ places_of r)
-      → needed t r block.ops ≤ places_of r * (value_of x vars.end - 1)
+      → needed r block.ops ≤ places_of r * (value_of x vars.end - 1)
   enough x b n block vars long placed room =
       let end = value_of x vars.end in
       let a = needed_least x b end n block.ops vars.ops long in
@@ -156,30 +175,30 @@ module _ (t : Table) (r : Resource) where
   taken_parts : (xs ys : List Issue) (b c : ℕ) → taken t r (xs ++ ys) b c ≡ taken t r xs b c + taken t r ys b c
   taken_parts xs ys b c = sum_by-append (λ (i : Issue). if issues_at b c i then share i else 0) xs ys
 
-few_packets : (t : Table) (r : Resource) (ops : List ExtOp) (n : ℕ) → needed t r ops ≤ places_of r * n → packets_for t r ops ≤ n
-few_packets t Instructions ops n h = omega (arith, h)
-few_packets t Memory ops n h = omega (arith, h)
-few_packets t Stores ops n h = omega (arith, h)
-few_packets t MultiplyOrControl ops n h = omega (arith, h)
-few_packets t Control ops n h = omega (arith, h)
+few_packets : (r : Resource) (ops : List ExtOp) (n : ℕ) → needed r ops ≤ places_of r * n → packets_for r ops ≤ n
+few_packets Instructions ops n h = omega (arith, h)
+few_packets Memory ops n h = omega (arith, h)
+few_packets Stores ops n h = omega (arith, h)
+few_packets MultiplyOrControl ops n h = omega (arith, h)
+few_packets Control ops n h = omega (arith, h)
 
 most : (len a b c d n : ℕ) → len ≤ n → a ≤ n → b ≤ n → c ≤ n → d ≤ n → max len (max (max a b) (max c d)) ≤ n
 most len a b c d n l p q r s = omega (arith, l, p, q, r, s)
 
 -- ---- all blocks
 
-module _ (t : Table) (s : Sets) (x : List ℕ) where
+module _ (t : Table) (fit : IsFit t) (s : Sets) (x : List ℕ) where
   sum_below : (b n : ℕ) (blocks : List ExtBlock) (vars : List BlockVars) (arcs : List (List Arc)) (sum : ℕ)
       → length vars ≡ length blocks → AllKnown (length s) blocks vars → AreRelaxed s n blocks vars arcs (times_of x blocks vars)
       → Each IsPlaced (over_blocks (block_issues x) b n blocks vars)
       → ((r : Resource) (a c : ℕ) → taken t r (over_blocks (block_issues x) b n blocks vars) a c ≤ places_of r)
-      → IsPlainSum t n blocks arcs sum → sum ≤ blocks_cost x blocks vars
+      → IsPlainSum n blocks arcs sum → sum ≤ blocks_cost x blocks vars
   sum_below b n [] vars arcs sum long known member placed room is = omega (arith, is)
   sum_below b n (block ∷ blocks) vars [] sum long known member placed room is = omega (arith, is)
   sum_below b n (block ∷ blocks) [] (first ∷ arcs) sum long known member placed room is = absurd (omega (arith, long))
   sum_below b n (block ∷ blocks) (v ∷ vars) (first ∷ arcs) sum long known member placed room (packets, more, bound, rest, total) =
       let behind = sum_below (b + 1) (n + length block.ops) blocks vars arcs more (omega (arith, long)) known.1 member.1 parts.1
-      (λ r a c. omega (arith, taken_parts t r own others a c, room r a c)) rest in
+      (λ r a c. omega (arith, taken_parts t fit r own others a c, room r a c)) rest in
       omega (arith, total, times, behind)
     where
       own : List Issue
@@ -194,20 +213,20 @@ module _ (t : Table) (s : Sets) (x : List ℕ) where
       last : ℕ
       last = value_of x v.end - 1
 
-      packets_fit : (r : Resource) → packets_for t r block.ops ≤ last
-      packets_fit r = few_packets t r block.ops last
-          (enough t r x b n block v known.0.long parts.0 (λ c. omega (arith, taken_parts t r own others b c, room r b c)))
+      packets_fit : (r : Resource) → packets_for r block.ops ≤ last
+      packets_fit r = few_packets r block.ops last
+          (enough t fit r x b n block v known.0.long parts.0 (λ c. omega (arith, taken_parts t fit r own others b c, room r b c)))
 
       length_fits : (let len = bound.0 in len) ≤ last
       length_fits = bound.1.least (value_of x v.end) _ member.0.timing
 
-      fit : packets ≤ last
-      fit = rw bound.2 (most bound.0 (packets_for t Instructions block.ops) (packets_for t Memory block.ops)
-          (packets_for t Stores block.ops) (packets_for t MultiplyOrControl block.ops) last length_fits (packets_fit Instructions)
+      within : packets ≤ last
+      within = rw bound.2 (most bound.0 (packets_for Instructions block.ops) (packets_for Memory block.ops)
+          (packets_for Stores block.ops) (packets_for MultiplyOrControl block.ops) last length_fits (packets_fit Instructions)
           (packets_fit Memory) (packets_fit Stores) (packets_fit MultiplyOrControl))
 
       times : block.freq * packets ≤ block.freq * last
-      times = mul-le block.freq packets block.freq last (omega arith) fit
+      times = mul-le block.freq packets block.freq last (omega arith) within
 
 -- ---- the model
 
@@ -237,6 +256,6 @@ unfolding HasRoom
 plain_below m solution sum own extended fit options is bound =
     let x = solution.values in
     let long : length m.blocks ≡ length m.ext.blocks = ap (λ (y : Model). length y.blocks) own ∙ length-vars 0 m.ext.blocks in
-    sum_below m.ext.table (own_box x) x 0 0 m.ext.blocks m.blocks m.arcs sum long (known_box m solution (own_box x) own is (in_own x))
+    sum_below m.ext.table fit (own_box x) x 0 0 m.ext.blocks m.blocks m.arcs sum long (known_box m solution (own_box x) own is (in_own x))
     (solution_times m solution (own_box x) own extended fit options is (in_own x))
     (each_all IsPlaced (issues_of m x) is.latencies.0) (λ r a c. is.packets a c r) bound

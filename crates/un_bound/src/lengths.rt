@@ -5,12 +5,12 @@ ghost use Rattle.un_bound.specs.Arcs.{LeadOn};
 ghost use Rattle.un_bound.specs.Timings.{IsLeastLength};
 ghost use Rattle.un_bound.specs.Lengths.{first_cycle, StartAtFirst, FromFirst, AreEarliest, end_after, IsLeastEnd, AreSmall};
 
-use un_ir::extended::{ExtKind, ExtOp};
+use un_ir::extended::{BLOCK_OPS, ExtKind, ExtOp};
 use un_model::instructions::instruction;
 use un_model::model::Arc;
 
-/// The most operations of a block for which there is room: more than a block of any function has.
-pub const ROOM: usize = 2048;
+/// The most operations of a block for which there is room: as many as a block of any function has.
+pub const ROOM: usize = BLOCK_OPS as usize;
 
 /// The first cycle of an operation that every solution issues.
 pub(crate) fn first_cycle(kind: &ExtKind) -> u32

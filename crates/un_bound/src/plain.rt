@@ -5,63 +5,90 @@ ghost use Rattle.un_ir.specs.Extended.{IsExtended};
 ghost use Rattle.un_isa.specs.Fit.{IsFit};
 ghost use Rattle.un_model.specs.Variables.{IsModel};
 ghost use Rattle.un_bound.specs.Arcs.{LeadOn, IsShort, IsOrderly};
-ghost use Rattle.un_bound.specs.Plain.{needed, packets_for, packets_of, IsPacketBound, IsPlainBound};
+ghost use Rattle.un_bound.specs.Plain.{plain_share, share_by_class, needed, packets_for, packets_of, IsPacketBound, IsPlainBound};
 
 use crate::lengths::{ROOM, least_length};
 use un_ir::extended::{ExtBlock, ExtOp};
+use un_isa::facts::{Class, class_of};
+use un_isa::op::Op;
 use un_isa::packet_counts::{Resource, places};
-use un_isa::table::Table;
-use un_model::instructions::{instruction, share};
+use un_model::instructions::instruction;
 use un_model::model::{Arc, Model};
 
+/// How much of a resource an instruction of a class takes, whatever a table says.
+fn share_by_class(resource: Resource, class: Class) -> u32
+    ensures value { result ≡ share_by_class resource class }
+    ensures few { result ≤ 1 }
+{
+    let takes = match resource {
+        Resource::Instructions => true,
+        Resource::Memory => matches!(class, Class::Loading | Class::Storing),
+        Resource::Stores => matches!(class, Class::Storing),
+        Resource::MultiplyOrControl => matches!(class, Class::Xtype | Class::Control),
+        Resource::Control => matches!(class, Class::Control),
+    };
+    u32::from(takes)
+}
+
+/// How much of a resource an instruction takes by its class, if there is one.
+fn plain_share(resource: Resource, instr: Option<Op>) -> u32
+    ensures value { result ≡ plain_share resource instr }
+    ensures few { result ≤ 1 }
+{
+    match instr {
+        None => 0,
+        Some(op) => share_by_class(resource, class_of(op)),
+    }
+}
+
 /// How much of a resource the operations of a block take that every solution issues.
-fn needed(t: &Table, resource: Resource, ops: &[ExtOp]) -> u32
+fn needed(resource: Resource, ops: &[ExtOp]) -> u32
     requires { length ops.now ≤ ROOM }
-    ensures value { result ≡ needed t.now resource ops.now }
-    ensures few { result ≤ 256 * ROOM }
+    ensures value { result ≡ needed resource ops.now }
+    ensures few { result ≤ ROOM }
 {
     let mut sum = 0;
     for op in ops {
-        sum += share(t, resource, instruction(&op.kind, 0));
+        sum += plain_share(resource, instruction(&op.kind, 0));
     }
     sum
 }
 
 /// The least number of packets that has it.
-fn packets_for(t: &Table, resource: Resource, ops: &[ExtOp]) -> u32
+fn packets_for(resource: Resource, ops: &[ExtOp]) -> u32
     requires { length ops.now ≤ ROOM }
-    ensures value { result ≡ packets_for t.now resource ops.now }
+    ensures value { result ≡ packets_for resource ops.now }
     ensures few { result ≤ 256 * ROOM }
 {
     let places = places(resource);
-    (needed(t, resource, ops) + (places - 1)) / places
+    (needed(resource, ops) + (places - 1)) / places
 }
 
 /// The least number of packets of a block whose precedences allow this length.
-fn packets(t: &Table, len: u64, ops: &[ExtOp]) -> u64
+fn packets(len: u64, ops: &[ExtOp]) -> u64
     requires room { length ops.now ≤ ROOM }
     requires few { len ≤ 256 * ROOM }
-    ensures value { result ≡ packets_of t.now len ops.now }
+    ensures value { result ≡ packets_of len ops.now }
     ensures few { result ≤ 256 * ROOM }
 {
-    let all = packets_for(t, Resource::Instructions, ops);
-    let memory = packets_for(t, Resource::Memory, ops);
-    let stores = packets_for(t, Resource::Stores, ops);
-    let others = packets_for(t, Resource::MultiplyOrControl, ops);
+    let all = packets_for(Resource::Instructions, ops);
+    let memory = packets_for(Resource::Memory, ops);
+    let stores = packets_for(Resource::Stores, ops);
+    let others = packets_for(Resource::MultiplyOrControl, ops);
     len.max(u64::from(all.max(memory).max(stores.max(others))))
 }
 
 /// The least number of packets of a block, by way of `room`, which has a place for each operation.
-fn block_bound(t: &Table, room: &mut [u32], first: usize, block: &ExtBlock, arcs: &[Arc]) -> u64
+fn block_bound(room: &mut [u32], first: usize, block: &ExtBlock, arcs: &[Arc]) -> u64
     requires long { length block.now.ops ≤ length room.old }
     requires room { length block.now.ops ≤ ROOM }
     requires arcs { LeadOn first block.now.ops arcs.now }
-    ensures value { IsPacketBound t.now first block.now arcs.now result }
+    ensures value { IsPacketBound first block.now arcs.now result }
     ensures few { result ≤ 256 * ROOM }
 {
     let ops = block.ops.as_slice();
     let length = least_length(room, first, ops, arcs);
-    packets(t, length, ops)
+    packets(length, ops)
 }
 
 /// The sum over the blocks of their frequencies times their least numbers of packets, by way of `room`.
@@ -75,7 +102,7 @@ fn sum_of(m: &Model, room: &mut [u32]) -> u64
     let mut first = 0;
     for k in 0..m.ext.blocks.len().min(m.arcs.len()) {
         let block = m.ext.blocks.get(k);
-        let packets = block_bound(&m.ext.table, room, first, block, m.arcs.get(k).as_slice());
+        let packets = block_bound(room, first, block, m.arcs.get(k).as_slice());
         sum += u64::from(block.freq) * packets;
         first += block.ops.len();
     }

@@ -1,6 +1,7 @@
 -- The values of a solution give each temporary a register or one of the slots that a frame may have.
-use Rattle.std.proofs.Common.{ℕ, ◌≡◌, ◌<◌, true, List, ⊎_elim, refl, sym, subst, arith}
+use Rattle.std.proofs.Common.{ℕ, ◌≡◌, ◌+◌, ◌<◌, true, List, ⊎_elim, refl, sym, subst, arith}
 use Rattle.std.specs.Prelude.{Option, Some, None, slice_get}
+use Rattle.un_isa.specs.declared.reg.TheConstants.{FIRST_SLOT, SLOTS}
 use Rattle.un_ir.specs.declared.extended.Ext.{Ext}
 use Rattle.un_model.specs.declared.model.Options.{Options}
 use Rattle.un_model.specs.declared.model.TempVars.{TempVars}
@@ -36,7 +37,7 @@ module _ (e : Ext) (o : Options) (values : List ℕ) (h : Solved e o values) whe
       by (Some i) = refl
 
   -- an active temporary's register is in its domain, and an inactive one's is 0
-  is_place : (k : ℕ) (t : TempVars) → slice_get temps k ≡ Some t → value_of values t.reg < 100
+  is_place : (k : ℕ) (t : TempVars) → slice_get temps k ≡ Some t → value_of values t.reg < FIRST_SLOT + SLOTS
   is_place k t q =
       let there = range_there k t q in
       let same = index_get (the_ranges e o values) k idle_range (range k t) there in
@@ -44,9 +45,10 @@ module _ (e : Ext) (o : Options) (values : List ℕ) (h : Solved e o values) whe
       let zeros = s.zeros in
       let all = each_all IsZeroRange (the_ranges e o values) zeros.1 in
       let own = each_member IsZeroRange (the_ranges e o values) (range k t) all (member_at (the_ranges e o values) k (range k t) there) in
-      let active : (range k t).active ≡ true → (range k t).reg < 100 = λ a. subst (λ (r : LiveRange). r.reg < 100) same
+      let active : (range k t).active ≡ true → (range k t).reg < FIRST_SLOT + SLOTS =
+      λ a. subst (λ (r : LiveRange). r.reg < FIRST_SLOT + SLOTS) same
       (low e o values h k (subst (λ (r : LiveRange). r.active ≡ true) (sym same) a)) in
-      subst (λ (n : ℕ). n < 100) (register_is k t) (⊎_elim active (λ (z : (range k t).reg ≡ 0). omega (arith, z)) own)
+      subst (λ (n : ℕ). n < FIRST_SLOT + SLOTS) (register_is k t) (⊎_elim active (λ (z : (range k t).reg ≡ 0). omega (arith, z)) own)
 
   pub have_places : HavePlaces (model_of e o) values
   have_places x = by (slice_get temps x.0) refl

@@ -10,6 +10,7 @@ use Rattle.std.proofs.lemmas.Bool.{cases_eq, cases_lt}
 use Rattle.std.proofs.lemmas.Bool.Decides.{nat_tests}
 use Rattle.un_base.specs.declared.ids.TempId.{TempId}
 use Rattle.un_base.specs.declared.ids.NameId.{NameId}
+use Rattle.un_isa.specs.declared.reg.TheConstants.{FIRST_SLOT}
 use Rattle.un_isa.specs.Fit.{IsFit, may_be_saved}
 use Rattle.un_isa.specs.Registers.{callee_saved, saved_registers}
 use Rattle.un_isa.specs.Tables.{in_mask}
@@ -51,7 +52,8 @@ use Rattle.un_model.specs.Emission.{larger_slot, largest_slot, frame_of, frame_b
 use Rattle.un_model.specs.Instructions.{gives_truth, space_given, result_space_in, instruction_of, copy_of}
 use Rattle.un_model.specs.Schedules.{schedule_of, issues_of, value_by, instr_of}
 use Rattle.un_model.specs.Solutions.{InDomain, InSpace, uses_frame, is_frame_access, starts_in_slot}
-use Rattle.un_model.specs.Variables.{var_at, var_if, is_optional, carried_by, first_alternative, ops_count, copy_domain, carries_truth}
+use Rattle.un_ir.specs.Kinds.{is_optional}
+use Rattle.un_model.specs.Variables.{var_at, var_if, carried_by, first_alternative, ops_count, copy_domain, carries_truth}
 use Rattle.un_model.specs.Variables.{instr_domain, model_of, register_domain, source_domain, register_place, carried}
 use Rattle.un_emit.proofs.FramePlace.{le_true, lt_false}
 use Rattle.un_model.proofs.OpDomains.{register_sits, instr_sits, in_entry}
@@ -279,7 +281,7 @@ range_above low a (suc n) r le (inl e) = omega arith
 range_above low a (suc n) r le (inr m) = range_above low (a + 1) n r (omega arith) m
 
 slots_safe : (n : ℕ) → Each Safe (slots_of n)
-slots_safe n = each_of Safe (slots_of n) (λ r m q. let le = range_above 36 36 n r (omega arith) m in absurd (omega arith))
+slots_safe n = each_of Safe (slots_of n) (λ r m q. let le = range_above FIRST_SLOT FIRST_SLOT n r (omega arith) m in absurd (omega arith))
 
 preds_safe : Each Safe predicate_registers
 preds_safe = (λ q. absurd (omega arith), (λ q. absurd (omega arith), (λ q. absurd (omega arith), (λ q. absurd (omega arith), tt))))
@@ -376,9 +378,9 @@ module _ (e : Ext) (o : Options) (values : List ℕ) (h : Solved e o values) whe
   the_schedule = schedule_of (model_of e o) values
 
   larger : (h : ℕ) (r : LiveRange) → h ≤ larger_slot h r
-  larger h r = go (r.active && nat_le 36 r.reg)
+  larger h r = go (r.active && nat_le FIRST_SLOT r.reg)
     where
-      go : (b : Bool) → h ≤ (if b then max h (r.reg - 36) else h)
+      go : (b : Bool) → h ≤ (if b then max h (r.reg - FIRST_SLOT) else h)
       go true = omega arith
       go false = omega arith
 
@@ -386,19 +388,20 @@ module _ (e : Ext) (o : Options) (values : List ℕ) (h : Solved e o values) whe
   fold_slot [] a = omega arith
   fold_slot (r ∷ rs) a = let z = larger a r in let y = fold_slot rs (larger_slot a r) in omega arith
 
-  holds_slot : (rs : List LiveRange) (a : ℕ) (r : LiveRange) → Member r rs → r.active ≡ true → 36 ≤ r.reg
-      → r.reg - 36 ≤ fold larger_slot a rs
+  holds_slot : (rs : List LiveRange) (a : ℕ) (r : LiveRange) → Member r rs → r.active ≡ true → FIRST_SLOT ≤ r.reg
+      → r.reg - FIRST_SLOT ≤ fold larger_slot a rs
   holds_slot [] a r m act le = elim m [ ]
   holds_slot (q ∷ qs) a r (inl s) act le =
-      let t : (q.active && nat_le 36 q.reg) ≡ true = let z : nat_le 36 q.reg ≡ true = ap (λ (v : LiveRange). nat_le 36 v.reg) s
-      ∙ le_true 36 r.reg le in let y : q.active ≡ true = ap (λ (v : LiveRange). v.active) s ∙ act in rw (y, z) refl in
-      let v : larger_slot a q ≡ max a (q.reg - 36) = ap (λ (b : Bool). if b then max a (q.reg - 36) else a) t in
+      let t : (q.active && nat_le FIRST_SLOT q.reg) ≡ true = let z : nat_le FIRST_SLOT q.reg ≡ true =
+      ap (λ (v : LiveRange). nat_le FIRST_SLOT v.reg) s
+      ∙ le_true FIRST_SLOT r.reg le in let y : q.active ≡ true = ap (λ (v : LiveRange). v.active) s ∙ act in rw (y, z) refl in
+      let v : larger_slot a q ≡ max a (q.reg - FIRST_SLOT) = ap (λ (b : Bool). if b then max a (q.reg - FIRST_SLOT) else a) t in
       let w = fold_slot qs (larger_slot a q) in
       let e' : q.reg ≡ r.reg = ap (λ (v : LiveRange). v.reg) s in omega arith
   holds_slot (q ∷ qs) a r (inr m) act le = holds_slot qs (larger_slot a q) r m act le
 
   -- what stands in a slot makes the function use its frame
-  slot_used : (x : ℕ) → (range_at e o values x).active ≡ true → 36 ≤ (range_at e o values x).reg → uses_frame the_schedule ≡ true
+  slot_used : (x : ℕ) → (range_at e o values x).active ≡ true → FIRST_SLOT ≤ (range_at e o values x).reg → uses_frame the_schedule ≡ true
   slot_used x a le =
       let s = its_spot e o values h x a in
       let u = s.0 in
@@ -414,7 +417,7 @@ module _ (e : Ext) (o : Options) (values : List ℕ) (h : Solved e o values) whe
 
       by_start : (range_at e o values x).instr ≡ None → uses_frame the_schedule ≡ true
       by_start q =
-          let z : nat_le 36 (range_at e o values x).reg ≡ true = le_true 36 (range_at e o values x).reg le in
+          let z : nat_le FIRST_SLOT (range_at e o values x).reg ≡ true = le_true FIRST_SLOT (range_at e o values x).reg le in
           let t : starts_in_slot (range_at e o values x) ≡ true = rw (a, ap is_none q, z) refl in
           let y = any_true starts_in_slot (the_ranges e o values) (range_at e o values x) member t in
           or_true (list_any (λ (i : Issue). is_frame_access i.instr) (issues_of (model_of e o) values))
@@ -427,7 +430,7 @@ module _ (e : Ext) (o : Options) (values : List ℕ) (h : Solved e o values) whe
       in_memory : space_of (range_at e o values x).reg ≡ M
       in_memory =
           let f = lt_false (range_at e o values x).reg 32 (omega arith) in
-          let g = lt_false (range_at e o values x).reg 36 le in rw (f, g) refl
+          let g = lt_false (range_at e o values x).reg FIRST_SLOT le in rw (f, g) refl
 
       by_kind : (u : Spot) → Member u (spots e o values) → spot_range e o values u ≡ range_at e o values x → (k : ExtKind)
           → (let p = u.definer in p.op.kind ≡ k) → uses_frame the_schedule ≡ true
@@ -543,20 +546,20 @@ module _ (e : Ext) (o : Options) (values : List ℕ) (h : Solved e o values) whe
   half : (h n : ℕ) → n ≤ h → n < 8 * ((h + 2) / 2) / 4
   half h n le = omega arith
 
-  pub within : (x : ℕ) → (range_at e o values x).active ≡ true → (range_at e o values x).reg < 36 + words
-  within x a = ⊎_elim (λ (lt : (range_at e o values x).reg < 36). omega arith) (λ (le : 36 ≤ (range_at e o values x).reg).
+  pub within : (x : ℕ) → (range_at e o values x).active ≡ true → (range_at e o values x).reg < FIRST_SLOT + words
+  within x a = ⊎_elim (λ (lt : (range_at e o values x).reg < FIRST_SLOT). omega arith) (λ (le : FIRST_SLOT ≤ (range_at e o values x).reg).
       let s = h.schedule in
       let fr = s.frame in
       let used = fr.used in
-      let flag = used.1 (slot_used x a le) in
+      let flag = used (slot_used x a le) in
       let m = holds_slot (the_ranges e o values) 0 (range_at e o values x)
       (member_at (the_ranges e o values) x (range_at e o values x) (range_in e o values h x a)) a le in
       let f : frame_of (model_of e o) values ≡ frame_bytes (largest_slot (the_ranges e o values)) =
       ap (λ n. if n == 0 then 0 else frame_bytes (largest_slot (the_ranges e o values))) flag in
-      let g = half (largest_slot (the_ranges e o values)) ((range_at e o values x).reg - 36) m in
+      let g = half (largest_slot (the_ranges e o values)) ((range_at e o values x).reg - FIRST_SLOT) m in
       let w : words ≡ frame_bytes (largest_slot (the_ranges e o values)) / 4 = ap (λ n. n / 4) f in
-      let lt : (range_at e o values x).reg - 36 < words = subst (λ n. (range_at e o values x).reg - 36 < n) (sym w) g in
-      omega arith) (cases_lt (range_at e o values x).reg 36)
+      let lt : (range_at e o values x).reg - FIRST_SLOT < words = subst (λ n. (range_at e o values x).reg - FIRST_SLOT < n) (sym w) g in
+      omega arith) (cases_lt (range_at e o values x).reg FIRST_SLOT)
 
   -- ---- truth values
 

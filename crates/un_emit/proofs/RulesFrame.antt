@@ -12,7 +12,7 @@ use Rattle.un_isa.specs.Tables.{in_mask}
 use Rattle.un_isa.specs.declared.op.Op.{Op}
 use Rattle.un_isa.specs.declared.op.Op.TheVariants.{Call}
 use Rattle.un_isa.specs.declared.reg.Reg.{Reg}
-use Rattle.un_isa.specs.declared.reg.TheConstants.{FRAME}
+use Rattle.un_isa.specs.declared.reg.TheConstants.{LINK, GENERALS, FIRST_SLOT, SLOTS, FRAME}
 use Rattle.un_isa.specs.declared.table.Table.{Table}
 use Rattle.un_ir.specs.declared.extended.ExtKind.{ExtKind}
 use Rattle.un_ir.specs.declared.extended.ExtKind.TheVariants.{In, Out, Body, End, Copy, Enter, Leave}
@@ -36,18 +36,18 @@ use Rattle.un_model.proofs.Readings.{Solved, numbered, placed_domains}
 use Rattle.un_emit.proofs.RulesLists.{range_below}
 use Rattle.un_model.proofs.PlacedSchedules.{the_ranges, range_at, active_spot}
 
--- a register, or one of the 64 slots
+-- a register, or one of the slots that a frame may have
 abbrev pub IsLow : ℕ → Type 0
-IsLow r = r < 100
+IsLow r = r < FIRST_SLOT + SLOTS
 
 saved_low : (t : Table) → Each IsLow (callee_saved t)
 unfolding callee_saved
 saved_low t = each_of IsLow (callee_saved t) (λ r m.
-    let s = member_of_filter (in_mask t.saved) (range_with_len 0 32) r m in
-    let z = (range_below 0 32 r s.0).1 in omega arith)
+    let s = member_of_filter (in_mask t.saved) (range_with_len 0 GENERALS) r m in
+    let z = (range_below 0 GENERALS r s.0).1 in omega arith)
 
 registers_low : (t : Table) → Each IsLow (saved_registers t)
-registers_low t = each_join IsLow (callee_saved t) (31 ∷ []) (saved_low t) (omega arith, tt)
+registers_low t = each_join IsLow (callee_saved t) (LINK ∷ []) (saved_low t) (omega arith, tt)
 
 args_low : (t : Table) → IsFit t → Each IsLow t.args
 args_low t fit =
@@ -77,14 +77,14 @@ homes_low (Some r) s = (s, tt)
 general_low : (e : Ext) (o : Options) (ie : Bool) (block : ExtBlock) (x : TempId) → Each IsLow (general_registers e o.regs ie block x)
 unfolding general_registers
 general_low e o ie block x = each_of IsLow (general_registers e o.regs ie block x) (λ r m.
-    let f = member_of_filter (λ (r : ℕ). is_assignable o.regs r || is_home e.table ie block x r) (range_with_len 0 32) r m in
-    let z = (range_below 0 32 r f.0).1 in omega arith)
+    let f = member_of_filter (λ (r : ℕ). is_assignable o.regs r || is_home e.table ie block x r) (range_with_len 0 GENERALS) r m in
+    let z = (range_below 0 GENERALS r f.0).1 in omega arith)
 
 predicates_low : Each IsLow predicate_registers
 predicates_low = (omega arith, (omega arith, (omega arith, (omega arith, tt))))
 
-slots_low : (n : ℕ) → n ≤ 64 → Each IsLow (slots_of n)
-slots_low n le = each_of IsLow (slots_of n) (λ r m. let z = (range_below 36 n r m).1 in omega arith)
+slots_low : (n : ℕ) → n ≤ SLOTS → Each IsLow (slots_of n)
+slots_low n le = each_of IsLow (slots_of n) (λ r m. let z = (range_below FIRST_SLOT n r m).1 in omega arith)
 
 zero_low : (rs : List ℕ) → Each IsLow rs → Each IsLow (with_zero rs)
 zero_low [] s = (omega arith, tt)
@@ -99,19 +99,19 @@ in_set vs v s d = each_member IsLow vs v s (contains_member vs v d)
 
 -- ---- the largest slot
 
-larger_low : (h : ℕ) (r : LiveRange) → h ≤ 63 → IsLow r.reg → larger_slot h r ≤ 63
-larger_low h r le low = go (r.active && nat_le 36 r.reg)
+larger_low : (h : ℕ) (r : LiveRange) → h < SLOTS → IsLow r.reg → larger_slot h r < SLOTS
+larger_low h r le low = go (r.active && nat_le FIRST_SLOT r.reg)
   where
-    go : (b : Bool) → (if b then max h (r.reg - 36) else h) ≤ 63
+    go : (b : Bool) → (if b then max h (r.reg - FIRST_SLOT) else h) < SLOTS
     go true = omega arith
     go false = le
 
-fold_low : (rs : List LiveRange) (a : ℕ) → a ≤ 63 → Each (λ (r : LiveRange). IsLow r.reg) rs → fold larger_slot a rs ≤ 63
+fold_low : (rs : List LiveRange) (a : ℕ) → a < SLOTS → Each (λ (r : LiveRange). IsLow r.reg) rs → fold larger_slot a rs < SLOTS
 fold_low [] a le h = le
 fold_low (r ∷ rs) a le h = fold_low rs (larger_slot a r) (larger_low a r le h.0) h.1
 
 module _ (e : Ext) (o : Options) (values : List ℕ) (h : Solved e o values) where
-  few_slots : o.slots ≤ 64
+  few_slots : o.slots ≤ SLOTS
   few_slots = let x = h.options in x.slots
 
   value_low : (ie : Bool) (block : ExtBlock) (x : TempId) → Each IsLow (value_registers e o.regs o.slots ie block x)
@@ -170,7 +170,7 @@ module _ (e : Ext) (o : Options) (values : List ℕ) (h : Solved e o values) whe
   all_low = each_of (λ (r : LiveRange). IsLow r.reg) (the_ranges e o values) (λ r m.
       let z = place_of (the_ranges e o values) r m in range_low z.0 r z.2)
 
-  half : (n : ℕ) → n ≤ 63 → frame_bytes n ≤ FRAME
+  half : (n : ℕ) → n < SLOTS → frame_bytes n ≤ FRAME
   half n le = omega arith
 
   pub small : frame_of (model_of e o) values ≤ FRAME

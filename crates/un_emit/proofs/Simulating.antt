@@ -10,7 +10,7 @@ use Rattle.std.proofs.Math.Bridge.{le_prop}
 use Rattle.un_simulation.proofs.Startable.{start_for}
 use Rattle.un_isa.specs.Registers.{callee_saved}
 use Rattle.un_isa.specs.Tables.{in_mask}
-use Rattle.un_isa.specs.declared.reg.TheConstants.{STACK}
+use Rattle.un_isa.specs.declared.reg.TheConstants.{STACK, FRAME}
 use Rattle.un_isa.specs.declared.start.Start.{Start}
 use Rattle.un_isa.specs.declared.table.Table.{Table}
 use Rattle.un_ir.specs.declared.function.Function.{Function}
@@ -144,7 +144,7 @@ module _ (e : Ext) (o : Options) (values : List ℕ) (h : Solved e o values) (f 
         a)
 
   -- the rules of code bound the frame, so there is a start with room for it
-  frame_small : code.frame ≤ 256
+  frame_small : code.frame ≤ FRAME
   frame_small = ∥∥₁_elim code.rules le_prop (λ k. k.small)
 
   pub simulates : Simulates e.table f (start_places (model_of e o) values) code

@@ -1,32 +1,28 @@
 -- A propagator of any kind: what it asks for, and its members, which are those of its kind.
-use Rattle.std.specs.Prelude.{ℕ, ◌≡◌, Bool, true, List, length, Some, Contains, option_and_then}
+use Rattle.std.specs.Prelude.{ℕ, ◌≡◌, Bool, true, List, length, Some, Contains}
 use Rattle.std.specs.declared.option.Option.{Option}
 use Rattle.un_base.specs.declared.ids.VarId.{VarId}
 use Rattle.un_domains.specs.Sets.{Sets, IsIn, NoneEmpty, Kept}
+use Rattle.un_prop.specs.Among.{AllAmong}
 use Rattle.un_prop.specs.Lawful.{Lawful}
 use Rattle.un_prop.specs.Looks.{InWords}
 use Rattle.un_prop.specs.Parts.{Part, all_meet, SameAt, ChecksForward}
 use Rattle.un_prop.specs.Rounds.{HasVars}
-use Rattle.un_alt.specs.Chosen.{chosen_can, chosen_holds}
-use Rattle.un_alt.specs.Filters.{choice_cut}
+use Rattle.un_alt.specs.Chosen.{chosen_holds}
 use Rattle.un_alt.specs.Frame.{frame_holds}
-use Rattle.un_alt.specs.Home.{home_can, home_holds}
-use Rattle.un_alt.specs.Same.{same_can, same_holds}
-use Rattle.un_alt.specs.Spaces.{spaces_can, spaces_holds}
-use Rattle.un_alt.specs.Zeros.{zeros_holds}
-use Rattle.un_prec.specs.Before.{BeforeStrong, before_holds, before_steps}
-use Rattle.un_prec.specs.Below.{BelowStrong, below_holds, below_steps}
-use Rattle.un_prec.specs.Inside.{InsideStrong, inside_holds, inside_steps}
-use Rattle.un_prec.specs.Last.{LastStrong, last_holds, last_steps}
-use Rattle.un_prec.specs.Reads.{ReadsStrong, reads_holds, reads_steps}
-use Rattle.un_prop.specs.Last.{last_cut}
+use Rattle.un_alt.specs.Home.{home_holds}
+use Rattle.un_alt.specs.Same.{same_holds}
+use Rattle.un_alt.specs.Spaces.{spaces_holds}
+use Rattle.un_alt.specs.Zeros.{ZerosStrong, zeros_holds}
+use Rattle.un_prec.specs.Before.{BeforeStrong, before_holds}
+use Rattle.un_prec.specs.Below.{BelowStrong, below_holds}
+use Rattle.un_prec.specs.Inside.{InsideStrong, inside_holds}
+use Rattle.un_prec.specs.Last.{LastStrong, last_holds}
+use Rattle.un_prec.specs.Reads.{ReadsStrong, reads_holds}
 use Rattle.un_prop.specs.PartLaws.{one_part}
-use Rattle.un_prop.specs.Places.{places_in}
-use Rattle.un_prop.specs.declared.act.Act.TheVariants.{Always}
-use Rattle.un_rect.specs.Apart.{ApartStrong, apart_cut, apart_parts}
-use Rattle.un_rect.specs.Clobber.{ClobberStrong, clobber_cut, clobber_parts}
-use Rattle.un_rect.specs.Operands.{side, operands_holds, operands_steps}
-use Rattle.un_slots.specs.Fulls.{per_cycle_steps}
+use Rattle.un_rect.specs.Apart.{ApartStrong, apart_parts}
+use Rattle.un_rect.specs.Clobber.{ClobberStrong, clobber_parts}
+use Rattle.un_rect.specs.Operands.{side, operands_holds}
 use Rattle.un_slots.specs.Loads.{SlotsStrong}
 use Rattle.un_slots.specs.Slots.{per_cycle_holds}
 use Rattle.un_prec.specs.contracts.before.BeforePredicate.TheImpl.Laws as before_looks
@@ -61,6 +57,7 @@ use Rattle.un_slots.specs.contracts.per_cycle.PerCyclePredicate.TheImpl.Laws as 
 use Rattle.un_slots.specs.contracts.per_cycle.PerCyclePropagator.TheImpl.Laws as per_cycle_laws
 use Rattle.un_kinds.specs.Constraints as constraint
 use Rattle.un_kinds.specs.Constraints.{Constraint, meets}
+use Rattle.un_kinds.specs.Cuts.{cut_with}
 use Rattle.un_kinds.specs.declared.any.AnyProp.{AnyProp}
 use Rattle.un_kinds.specs.declared.any.AnyProp.TheVariants.{Before, Reads, Inside, Last, Below, Chosen, Zeros, Spaces, Same, Home}
 use Rattle.un_kinds.specs.declared.any.AnyProp.TheVariants.{Frame, Apart, Clobber, Operands, PerCycle}
@@ -107,37 +104,7 @@ holds_of p x = meets (constraint_of p) x
 
 -- the sets that it leaves, or none where it fails
 abbrev pub cut_of : AnyProp → Sets → Option Sets
-cut_of (Before p) s = option_and_then
-    (last_cut p.vars (before_holds p.a p.a_on p.b p.b_on p.gap))
-    (before_steps p.vars p.a p.a_on p.b p.b_on p.gap s)
-cut_of (Reads p) s = option_and_then
-    (last_cut p.vars (reads_holds p.user p.user_on p.choice p.alts))
-    (reads_steps p.user p.user_on p.choice p.alts s)
-cut_of (Inside p) s = option_and_then (last_cut p.vars (inside_holds p.at p.on p.end)) (inside_steps p.vars p.at p.on p.end s)
-cut_of (Last p) s = option_and_then (last_cut p.vars (last_holds p.at p.end)) (last_steps p.vars p.at p.end s)
-cut_of (Below p) s = option_and_then (last_cut p.vars (below_holds p.ends p.limit)) (below_steps p.vars p.ends p.limit s)
-cut_of (Chosen p) s = option_and_then
-    (last_cut p.vars (chosen_holds p.user p.choice p.alts))
-    (choice_cut p.user (Some p.choice) (chosen_can p.alts) (places_in p.alts) s)
-cut_of (Zeros p) s = last_cut p.vars (zeros_holds p.instr p.others) s
-cut_of (Spaces p) s = option_and_then
-    (last_cut p.vars (spaces_holds p.on p.choice p.regs p.sets))
-    (choice_cut p.on p.choice (spaces_can p.on p.regs p.sets) (places_in p.regs) s)
-cut_of (Same p) s = option_and_then
-    (last_cut p.vars (same_holds p.choice p.regs p.to))
-    (choice_cut Always (Some p.choice) (same_can p.regs p.to) (places_in p.regs) s)
-cut_of (Home p) s = option_and_then
-    (last_cut p.vars (home_holds p.choice p.regs p.home.0))
-    (choice_cut Always p.choice (home_can p.regs p.home.0) (places_in p.regs) s)
-cut_of (Frame p) s = last_cut p.vars (frame_holds p.flag p.touch p.ins p.enter p.entry p.leaves) s
-cut_of (Apart p) s = apart_cut p.vars p.temps s
-cut_of (Clobber p) s = clobber_cut p.vars p.mask p.temp p.calls s
-cut_of (Operands p) s = option_and_then
-    (last_cut p.vars (operands_holds (side p.first p.first_regs p.first_set) (side p.second p.second_regs p.second_set)))
-    (operands_steps (side p.first p.first_regs p.first_set) (side p.second p.second_regs p.second_set) s)
-cut_of (PerCycle p) s = option_and_then
-    (last_cut p.vars (per_cycle_holds p.items p.horizon))
-    (per_cycle_steps p.vars p.items p.horizon s)
+cut_of p s = cut_with (constraint_of p) (scope_of p) s
 
 -- the parts that are all met where it holds
 abbrev pub parts_of : AnyProp → List Part
@@ -165,7 +132,7 @@ strong_of (Inside p) s = InsideStrong p.at p.on p.end s
 strong_of (Last p) s = LastStrong p.at p.end s
 strong_of (Below p) s = BelowStrong p.ends p.limit s
 strong_of (Chosen p) s = Unit {0}
-strong_of (Zeros p) s = Unit {0}
+strong_of (Zeros p) s = ZerosStrong p.instr p.others s
 strong_of (Spaces p) s = Unit {0}
 strong_of (Same p) s = Unit {0}
 strong_of (Home p) s = Unit {0}
@@ -263,6 +230,23 @@ any_whole (Apart p) x = apart_laws.whole-law p x
 any_whole (Clobber p) x = clobber_laws.whole-law p x
 any_whole (Operands p) x = operands_laws.whole-law p x
 any_whole (PerCycle p) x = per_cycle_laws.whole-law p x
+
+pub any_within : (p : AnyProp) (part : Part) → Contains (parts_of p) part → AllAmong (scope_of p) part.vars
+any_within (Before p) part there = before_laws.within-law p part there
+any_within (Reads p) part there = reads_laws.within-law p part there
+any_within (Inside p) part there = inside_laws.within-law p part there
+any_within (Last p) part there = last_laws.within-law p part there
+any_within (Below p) part there = below_laws.within-law p part there
+any_within (Chosen p) part there = chosen_laws.within-law p part there
+any_within (Zeros p) part there = zeros_laws.within-law p part there
+any_within (Spaces p) part there = spaces_laws.within-law p part there
+any_within (Same p) part there = same_laws.within-law p part there
+any_within (Home p) part there = home_laws.within-law p part there
+any_within (Frame p) part there = frame_laws.within-law p part there
+any_within (Apart p) part there = apart_laws.within-law p part there
+any_within (Clobber p) part there = clobber_laws.within-law p part there
+any_within (Operands p) part there = operands_laws.within-law p part there
+any_within (PerCycle p) part there = per_cycle_laws.within-law p part there
 
 pub any_forward : (p : AnyProp) (part : Part) → Contains (parts_of p) part → ChecksForward part (scope_of p) (cut_of p)
 any_forward (Before p) part there = before_laws.forward-law p part there

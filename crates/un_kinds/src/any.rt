@@ -91,7 +91,7 @@ impl Predicate for AnyProp {
 
 impl Propagator for AnyProp {
     ghost use Rattle.un_kinds.specs.AnyProps.{cut_of, parts_of, strong_of, span_of};
-    ghost use Rattle.un_kinds.specs.AnyProps.{any_keeps, any_lawful, any_whole, any_forward, any_strength};
+    ghost use Rattle.un_kinds.specs.AnyProps.{any_keeps, any_lawful, any_whole, any_within, any_forward, any_strength};
 
     ghost cut = { cut_of };
 
@@ -100,6 +100,13 @@ impl Propagator for AnyProp {
     ghost strong = { strong_of };
 
     ghost span = { span_of };
+
+    fn is_heavy(&self) -> bool {
+        matches!(
+            self,
+            AnyProp::Frame(_) | AnyProp::Apart(_) | AnyProp::Clobber(_) | AnyProp::PerCycle(_)
+        )
+    }
 
     fn prune_in(&self, w: &mut Window<'_>, scratch: &mut Scratch) -> Pruned {
         match self {
@@ -126,6 +133,8 @@ impl Propagator for AnyProp {
     ghost lawful = { any_lawful };
 
     ghost whole = { any_whole };
+
+    ghost within = { any_within };
 
     ghost forward = { any_forward };
 

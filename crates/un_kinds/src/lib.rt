@@ -6,4 +6,5 @@ pub mod make_alt;
 pub mod make_prec;
 pub mod make_rect;
 pub mod props;
+pub mod table;
 pub mod vars;

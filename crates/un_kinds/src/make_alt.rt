@@ -14,6 +14,7 @@ use un_alt::frame::{Frame, FrameLeave, FrameOp, FrameUse};
 use un_alt::home::Home;
 use un_alt::same::Same;
 use un_alt::spaces::Spaces;
+use un_alt::span::Span;
 use un_alt::zeros::Zeros;
 use un_base::ids::VarId;
 use un_base::memory_error::NoMemory;
@@ -105,7 +106,7 @@ pub fn make_spaces(
     on: Act,
     choice: Option<VarId>,
     regs: Items<VarId>,
-    sets: Items<Items<u32>>,
+    sets: Items<Span>,
 ) -> Result<AnyProp, NoMemory>
     ensures { IfOk result (Makes (constraint.Spaces on choice regs sets)) }
 {

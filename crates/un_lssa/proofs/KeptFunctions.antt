@@ -16,7 +16,7 @@ use Rattle.un_isa.specs.Fit.{IsFit}
 use Rattle.un_isa.specs.Registers.{callee_saved, saved_registers}
 use Rattle.un_isa.specs.declared.op.Op.{Op}
 use Rattle.un_isa.specs.declared.op.Op.TheVariants.{Mux, Call}
-use Rattle.un_isa.specs.declared.reg.TheConstants.{LINK}
+use Rattle.un_isa.specs.declared.reg.TheConstants.{LINK, GENERALS}
 use Rattle.un_isa.specs.declared.table.Table.{Table}
 use Rattle.un_ir.specs.declared.function.Kind.{Kind}
 use Rattle.un_ir.specs.declared.function.Kind.TheVariants.{General}
@@ -25,11 +25,12 @@ use Rattle.un_ir.specs.declared.function.Term.{Term}
 use Rattle.un_ir.specs.declared.function.Term.TheVariants.{Fall, Jump, Branch, Ret}
 use Rattle.un_ir.specs.declared.function.Block.{Block}
 use Rattle.un_ir.specs.declared.function.Function.{Function}
-use Rattle.un_ir.specs.declared.function.TheConstants.{PARAMS}
+use Rattle.un_ir.specs.declared.function.TheConstants.{BLOCKS, OPS, NAMES, PARAMS}
 use Rattle.un_ir.specs.declared.extended.Operand.{Operand}
 use Rattle.un_ir.specs.declared.extended.ExtOp.{ExtOp}
 use Rattle.un_ir.specs.declared.extended.ExtBlock.{ExtBlock}
 use Rattle.un_ir.specs.declared.extended.Lssa.{Lssa}
+use Rattle.un_ir.specs.declared.extended.TheConstants.{BLOCK_SIZE}
 use Rattle.un_ir.specs.Extended.{temp, all_results, name_kind, size_of, LeadsOn, HandsNamesOver, AreGoodBlocks, IsLinear}
 use Rattle.un_ir.specs.Linear.{ending_of, Ending}
 use Rattle.un_ir.specs.Live.{IsLive, targets_of}
@@ -86,7 +87,19 @@ next_length current n count names =
     let c = length-map-range_with_len (λ (k : ℕ). reads k None) n count in
     omega (arith, a, b, c)
 
-kinds_few : (op : Op) → length (operand_kinds op) ≤ 6
+-- how many values stand at a block's start or end
+abbrev values_limit : ℕ
+values_limit = NAMES + GENERALS + 1
+
+-- the size of an operation of a function
+abbrev op_limit : ℕ
+op_limit = PARAMS + 2
+
+-- the size of the rest of a block
+abbrev rest_limit : ℕ
+rest_limit = 2 * values_limit + 4
+
+kinds_few : (op : Op) → length (operand_kinds op) ≤ PARAMS
 kinds_few Mux = omega arith
 kinds_few _ = omega arith
 
@@ -94,10 +107,10 @@ option_few : {X : Type 0} (o : Option X) → length (option_to_list o) ≤ 1
 option_few None = omega arith
 option_few (Some x) = omega arith
 
-srcs_few : (f : Function) (o : SrcOp) → IsGoodOp f.names o → length o.srcs ≤ 6
+srcs_few : (f : Function) (o : SrcOp) → IsGoodOp f.names o → length o.srcs ≤ PARAMS
 srcs_few f o g = by o.op (reads_kinds f.names o.op o.srcs g.op g.reads)
   where
-    by : (op : Op) → Reads f.names op o.srcs → length o.srcs ≤ 6
+    by : (op : Op) → Reads f.names op o.srcs → length o.srcs ≤ PARAMS
     by Call r = r.1
     by op r =
         let e = ap (λ (xs : List (Option Kind)). length xs) r in
@@ -107,7 +120,7 @@ srcs_few f o g = by o.op (reads_kinds f.names o.op o.srcs g.op g.reads)
         omega (arith, e, a, b, c)
 
 body_size : (t : Table) (f : Function) (current : List ℕ) (n : ℕ) (os : List SrcOp)
-    → ((k : ℕ) (o : SrcOp) → slice_get os k ≡ Some o → IsGoodOp f.names o) → ops_size (body_ops t current n os) ≤ 8 * length os
+    → ((k : ℕ) (o : SrcOp) → slice_get os k ≡ Some o → IsGoodOp f.names o) → ops_size (body_ops t current n os) ≤ op_limit * length os
 body_size t f current n [] g = omega arith
 body_size t f current n (o ∷ os) g =
     let r = body_size t f (assigned current o.dst n) (past o.dst n) os (λ k x h. g (suc k) x h) in
@@ -118,8 +131,8 @@ body_size t f current n (o ∷ os) g =
     let d = size_cons (body_op t current n o) (body_ops t (assigned current o.dst n) (past o.dst n) os) in
     omega (arith, r, a, s, b, c, d)
 
-out_size : (t : Table) (current : List ℕ) (n : ℕ) (live_out : List NameId) (term : Term) → length live_out ≤ 40
-    → length (out_operands_of t current n live_out term) ≤ 73
+out_size : (t : Table) (current : List ℕ) (n : ℕ) (live_out : List NameId) (term : Term) → length live_out ≤ NAMES
+    → length (out_operands_of t current n live_out term) ≤ values_limit
 out_size t current n live_out Fall h = let a = next_length current n (length (saved_registers t)) live_out in let s = saved_few t in
     omega (arith, a, s, h)
 out_size t current n live_out (Jump to) h = let a = next_length current n (length (saved_registers t)) live_out in let s = saved_few t in
@@ -139,10 +152,10 @@ end_size current link (Jump to) = omega arith
 end_size current link (Branch pred sense to) = omega arith
 end_size current link (Ret value) = omega arith
 
-block_size : (t : Table) (f : Function) (n : ℕ) (live_in live_out : List NameId) (block : Block) → length live_in ≤ 40
-    → length live_out ≤ 40
+block_size : (t : Table) (f : Function) (n : ℕ) (live_in live_out : List NameId) (block : Block) → length live_in ≤ NAMES
+    → length live_out ≤ NAMES
     → ((k : ℕ) (o : SrcOp) → slice_get block.ops k ≡ Some o → IsGoodOp f.names o)
-    → ops_size (linear_ops t (length f.names) n live_in live_out block) ≤ 150 + 8 * length block.ops
+    → ops_size (linear_ops t (length f.names) n live_in live_out block) ≤ rest_limit + op_limit * length block.ops
 block_size t f n live_in live_out block few_in few_out g =
     let saved = n + length live_in in
     let first = saved + length (saved_registers t) in
@@ -172,10 +185,11 @@ after_few lists names b term =
     let d = length-range_with_len 0 names in
     omega (arith, a, c, d)
 
-blocks_size : (t : Table) (f : Function) (lists : List (List NameId)) → length f.names ≤ 40 → ((b : ℕ) → length (live_at lists b) ≤ 40)
+blocks_size : (t : Table) (f : Function) (lists : List (List NameId)) → length f.names ≤ NAMES
+    → ((b : ℕ) → length (live_at lists b) ≤ NAMES)
     → (b n : ℕ) (blocks : List Block)
     → ((j k : ℕ) (block : Block) (o : SrcOp) → slice_get blocks j ≡ Some block → slice_get block.ops k ≡ Some o → IsGoodOp f.names o)
-    → size_of (linear_blocks t (length f.names) lists b n blocks) ≤ 150 * length blocks + 8 * length
+    → size_of (linear_blocks t (length f.names) lists b n blocks) ≤ rest_limit * length blocks + op_limit * length
     (flat_map (λ (block : Block). block.ops) blocks)
 blocks_size t f lists few live b n [] g = omega arith
 blocks_size t f lists few live b n (block ∷ blocks) g =
@@ -331,10 +345,10 @@ module _ (f : Function) (lists : List (List NameId)) (t : Table) (live : AreLive
       omega (arith, a, b, c)
 
   -- no block is large
-  pub small_blocks : All (λ (own : ExtBlock). ops_size own.ops ≤ 790) lin
+  pub small_blocks : All (λ (own : ExtBlock). ops_size own.ops ≤ BLOCK_SIZE) lin
   small_blocks k d lt = by (lin_made k (get_or lin k d) (slice_get-get_or lin k d lt))
     where
-      by : Made t count lists f.blocks k k (get_or lin k d) → (let own = get_or lin k d in ops_size own.ops) ≤ 790
+      by : Made t count lists f.blocks k k (get_or lin k d) → (let own = get_or lin k d in ops_size own.ops) ≤ BLOCK_SIZE
       by m =
           let block = m.block in
           let in_few = live_few f lists live k in
@@ -342,14 +356,14 @@ module _ (f : Function) (lists : List (List NameId)) (t : Table) (live : AreLive
           let after = after_few lists count k block.term in
           let a = block_size t f m.first (live_at lists k) (live_after lists count k block.term) block in_few
           (omega (arith, after, names)) (λ j o h. op_good k j block o m.at h) in
-          let b : length block.ops ≤ 80 = subst (λ (x : Block). length x.ops ≤ 80) (get_or_from_slice_get f.blocks k block block m.at)
+          let b : length block.ops ≤ OPS = subst (λ (x : Block). length x.ops ≤ OPS) (get_or_from_slice_get f.blocks k block block m.at)
           (block_ops_few f k block (slice_get_within f.blocks k block m.at)) in
-          subst (λ (x : ExtBlock). ops_size x.ops ≤ 790) m.is (omega (arith, a, b))
+          subst (λ (x : ExtBlock). ops_size x.ops ≤ BLOCK_SIZE) m.is (omega (arith, a, b))
 
   entry : 0 < length lin
   entry = let a = entry_there f in let b = lin_length in omega (arith, a, b)
 
-  few : length lin ≤ 16
+  few : length lin ≤ BLOCKS
   few = let a = blocks_few f in let b = lin_length in omega (arith, a, b)
 
   -- the linear function of every function, under a fit table

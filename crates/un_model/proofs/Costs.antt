@@ -3,6 +3,7 @@ use Rattle.std.proofs.Common.{◌≡◌, ℕ, suc, zero, ◌+◌, ◌*◌, ◌-�
 use Rattle.std.proofs.Common.{slice_get, All, refl, arith}
 use Rattle.std.specs.Prelude.{slice_index}
 use Rattle.std.proofs.lemmas.Nat.{mul-le}
+use Rattle.un_ir.specs.declared.function.TheConstants.{BLOCKS, FREQUENCY}
 use Rattle.un_ir.specs.declared.extended.ExtBlock.{ExtBlock}
 use Rattle.un_ir.specs.declared.extended.Ext.{Ext}
 use Rattle.un_model.specs.declared.model.BlockVars.{BlockVars}
@@ -35,16 +36,16 @@ cost_all values i blocks vars sum whole h g = by (within_min i blocks vars g)
     by (inr a) = let e : blocks_cost values (drop i blocks) (drop i vars) ≡ 0 = rw (drop_past i vars a) (cost-nil values (drop i blocks))
         in omega (arith, e, h)
 
-one_bound : (f v : ℕ) → f ≤ 1000000 → v < 2 ^ 32 → f * (v - 1) ≤ 1000000 * 4294967296
-one_bound f v h g = mul-le f (v - 1) 1000000 4294967296 h (omega (arith, g))
+one_bound : (f v : ℕ) → f ≤ FREQUENCY → v < 2 ^ 32 → f * (v - 1) ≤ FREQUENCY * 4294967296
+one_bound f v h g = mul-le f (v - 1) FREQUENCY 4294967296 h (omega (arith, g))
 
 bound : (values : List ℕ) (blocks : List ExtBlock) (vars : List BlockVars) → ((k : ℕ) → slice_index values k < 2 ^ 32)
-    → All IsRarelyRun blocks → blocks_cost values blocks vars ≤ length blocks * (1000000 * 4294967296)
+    → All IsRarelyRun blocks → blocks_cost values blocks vars ≤ length blocks * (FREQUENCY * 4294967296)
 bound values [] vars fit rare = omega arith
 bound values (block ∷ blocks) [] fit rare = omega arith
 bound values (block ∷ blocks) (v ∷ vars) fit rare =
     let rest = bound values blocks vars fit (λ k d lt. rare (suc k) d (omega (arith, lt))) in
-    let here : block_cost values block v ≤ 1000000 * 4294967296 = one_bound block.freq (value_of values v.end)
+    let here : block_cost values block v ≤ FREQUENCY * 4294967296 = one_bound block.freq (value_of values v.end)
     (rare zero block (omega arith)) (fit v.end.0) in
     omega (arith, rest, here)
 
@@ -55,6 +56,6 @@ pub fits : (e : Ext) (values : List ℕ) (vars : List BlockVars) (sum cost i : �
 fits e values vars sum cost i block v small fit h p q g =
     let all = bound values e.blocks vars fit small.frequencies in
     let s = cost_step values i e.blocks vars block v p q in
-    let few : length e.blocks * (1000000 * 4294967296) ≤ 16 * (1000000 * 4294967296) = mul-le (length e.blocks) (1000000 * 4294967296) 16
-    (1000000 * 4294967296) small.blocks (omega arith) in
+    let few : length e.blocks * (FREQUENCY * 4294967296) ≤ BLOCKS * (FREQUENCY * 4294967296) =
+    mul-le (length e.blocks) (FREQUENCY * 4294967296) BLOCKS (FREQUENCY * 4294967296) small.blocks (omega arith) in
     omega (arith, all, s, few, h, g)

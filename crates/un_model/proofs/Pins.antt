@@ -1,7 +1,8 @@
 -- What the definitions give for a small function: one block that sets a register and hands it back, with a copy of the value.
-use Rattle.std.proofs.Common.{◌≡◌, ℕ, List, [], ◌∷◌, map, Some, None, pos, refl, arith}
+use Rattle.std.proofs.Common.{◌≡◌, ℕ, ◌+◌, List, [], ◌∷◌, map, Some, None, pos, refl, arith}
 use Rattle.un_base.specs.declared.ids.TempId.{TempId}
 use Rattle.un_isa.specs.Hexagon.{HEXAGON}
+use Rattle.un_isa.specs.declared.reg.TheConstants.{SLOTS}
 use Rattle.un_isa.specs.declared.op.Op.TheVariants.{Imm, Load, Store, Call, Spill, Enter, Leave}
 use Rattle.un_isa.specs.declared.instr.Instr.{Instr}
 use Rattle.un_ir.specs.declared.function.SrcOp.{SrcOp}
@@ -19,13 +20,25 @@ use Rattle.un_model.specs.Registers.{general_registers, with_zero}
 use Rattle.un_model.specs.Solutions.{memory_distance, frame_distance}
 use Rattle.un_model.specs.Variables.{domains_of, own_horizon, blocks_temps, model_of}
 
--- ---- options: the default ones, and the narrowest
+-- ---- options: the default ones, the narrowest and the widest, and what no options are
 
-default_options : AreOptions (record { regs = None; slots = 64 })
+default_options : AreOptions (record { regs = None; slots = SLOTS })
 default_options = record { regs = tt; slots = omega arith }
 
 one_register : AreOptions (record { regs = Some 1; slots = 0 })
 one_register = record { regs = (omega arith, omega arith); slots = omega arith }
+
+most_registers : AreOptions (record { regs = Some 29; slots = SLOTS })
+most_registers = record { regs = (omega arith, omega arith); slots = omega arith }
+
+no_register : AreOptions (record { regs = Some 0; slots = 0 }) → ⊥
+no_register are = omega (arith, are.regs.0)
+
+too_many_registers : AreOptions (record { regs = Some 30; slots = 0 }) → ⊥
+too_many_registers are = omega (arith, are.regs.1)
+
+too_many_slots : AreOptions (record { regs = None; slots = SLOTS + 1 }) → ⊥
+too_many_slots are = omega (arith, are.slots)
 
 -- ---- a small function
 

@@ -11,7 +11,9 @@ use Rattle.un_model.specs.Variables.{own_horizon}
 use Rattle.un_prop.specs.Rounds.{HasVars, fix_of}
 use Rattle.un_bound.specs.Relaxations.{Times, IsMemberUnder}
 use Rattle.un_kinds.specs.AnyProps.{scope_of, holds_of, cut_of, span_of}
+use Rattle.un_kinds.specs.Fixing.{fix_by}
 use Rattle.un_kinds.specs.declared.any.AnyProp.{AnyProp}
+use Rattle.un_sites.specs.Befores.{all_postings_of}
 
 -- a solution that costs less than a limit, where there is one
 abbrev pub IsCheaper : Model → Option ℕ → Solution → Type 0
@@ -45,3 +47,7 @@ SpansAtMost horizon p = span_of p ≤ horizon
 unfoldable pub FailsWhereEmpty : Model → Option ℕ → Sets → List AnyProp → Type 0
 FailsWhereEmpty m limit first ps = (s : Sets) → Below s first → NoneEmpty s → ((times : List Times) → IsMemberUnder limit m s times → ⊥)
     → fix_of cut_of ps s ≡ None
+
+-- what the rounds of all that is posted leave of a box: it follows from the model and the limit alone
+abbrev pub fix_at : Model → Option ℕ → Sets → Option Sets
+fix_at m limit box = fix_by (all_postings_of m limit) box

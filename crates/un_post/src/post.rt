@@ -3,14 +3,15 @@
 ghost use Rattle.std.specs.Prelude.{◌≡◌, [], All, IfOk, Option, map};
 ghost use Rattle.un_isa.specs.Fit.{IsFit};
 ghost use Rattle.un_domains.specs.Domains.{values_of};
-ghost use Rattle.un_domains.specs.Sets.{NoneEmpty};
 ghost use Rattle.un_ir.specs.Extended.{IsExtended};
 ghost use Rattle.un_model.specs.Options.{AreOptions};
 ghost use Rattle.un_model.specs.Variables.{IsModel};
-ghost use Rattle.un_kinds.specs.AnyProps.{constraint_of};
+ghost use Rattle.un_kinds.specs.AnyProps.{constraint_of, cut_of};
+ghost use Rattle.un_domains.specs.Sets.{Sets, NoneEmpty};
+ghost use Rattle.un_prop.specs.Rounds.{fix_of};
 ghost use Rattle.un_sites.specs.Befores.{all_postings_of};
 ghost use Rattle.un_sites.specs.Places.{definers_of, places_of};
-ghost use Rattle.un_post.specs.Posts.{IsExact, ReadsFrom, IsGrounded, SpansAtMost, FailsWhereEmpty, largest_horizon};
+ghost use Rattle.un_post.specs.Posts.{IsExact, ReadsFrom, IsGrounded, SpansAtMost, FailsWhereEmpty, fix_at, largest_horizon};
 ghost use Rattle.un_kinds.specs.Scopes.{IsTight};
 ghost use Rattle.un_sites.specs.Sites.{place_of, definers_in};
 
@@ -104,6 +105,9 @@ pub fn post(alloc: Global, m: &Model, limit: Option<u64>) -> Result<Posted, NoMe
     ensures horizon { IfOk result (λ p. p.horizon ≡ largest_horizon m.now.ext.blocks) }
     ensures spans { IfOk result (λ p. All (SpansAtMost p.horizon) p.props.items) }
     ensures fails { IfOk result (λ p. FailsWhereEmpty m.now limit p.store.sets p.props.items) }
+
+    // What rounds leave of a box is one function of the model, the limit and the box, whichever list was posted.
+    ensures fixed { IfOk result (λ p. (box : Sets) → fix_of cut_of p.props.items box ≡ fix_at m.now limit box) }
 {
     let props = all_props(alloc, m, limit)?;
     let posted = with_store(alloc, m, props)?;

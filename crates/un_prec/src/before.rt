@@ -55,6 +55,7 @@ impl Predicate for Before {
 impl Propagator for Before {
     ghost use Rattle.un_prop.specs.Last.{last_cut};
     ghost use Rattle.un_prop.specs.PartLaws.{one_part, one_whole, lawful_checked, keeps_checked, forward_checked, stable_first};
+    ghost use Rattle.un_prop.specs.WithinLaws.{one_within};
     ghost use Rattle.std.specs.Prelude.{option_and_then};
     ghost use Rattle.un_prec.specs.Before.{before_link, before_holds, before_steps, BeforeVars, BeforeStrong};
     ghost use Rattle.un_prec.specs.BeforeLaws.{before_looks, before_lawful, before_keeps, before_strong};
@@ -90,6 +91,8 @@ impl Propagator for Before {
         (before_lawful p.vars p.a p.a_on p.b p.b_on p.gap p.among) };
 
     ghost whole = { λ p x. one_whole p.vars (before_holds p.a p.a_on p.b p.b_on p.gap) x };
+
+    ghost within = { λ p. one_within p.vars (before_holds p.a p.a_on p.b p.b_on p.gap) };
 
     ghost forward = { λ p. forward_checked p.vars (before_holds p.a p.a_on p.b p.b_on p.gap)
         (before_looks p.vars p.a p.a_on p.b p.b_on p.gap p.among) p.ascend (before_steps p.vars p.a p.a_on p.b p.b_on p.gap)

@@ -1,12 +1,13 @@
 //! The cost is less than a limit.
 
-ghost use Rattle.std.specs.Prelude.{◌≡◌, ◌+◌, ◌-◌, ◌*◌, ◌^◌, min};
+ghost use Rattle.std.specs.Prelude.{◌≡◌, ◌≢◌, ◌<◌, ◌+◌, ◌-◌, ◌*◌, ◌^◌, length, min, slice_index_or};
 ghost use Rattle.un_domains.specs.Sets.{NoneEmpty};
-ghost use Rattle.un_prop.specs.Rounds.{HasVars};
+ghost use Rattle.un_prop.specs.Rounds.{HasVars, round};
 ghost use Rattle.un_prop.specs.Going.{Stepped};
 ghost use Rattle.un_prop.specs.LastLaws.{Ascend};
-ghost use Rattle.un_prop.specs.declared.propagator.Pruned.TheVariants.{Same};
-ghost use Rattle.un_prec.specs.Below.{BelowVars, cost_at, least_cost, below_steps};
+ghost use Rattle.un_prop.specs.declared.propagator.Pruned.TheVariants.{Same, Failed};
+ghost use Rattle.un_prec.specs.Below.{BelowVars, cost_at, least_cost, end_cut, below_steps};
+ghost use Rattle.un_prec.specs.declared.below.Weighted.{Weighted};
 
 use un_base::ids::VarId;
 use un_domains::window::Window;
@@ -14,13 +15,23 @@ use un_lists::items::Items;
 use un_prop::act::value;
 use un_prop::last::check_last;
 use un_prop::propagator::{Predicate, Propagator, Pruned, Scratch};
-use un_prop::step::fail;
+use un_prop::step::{fail, keep_le};
 
 /// The end of a block, and how often the block is run.
 #[derive(Clone, Copy)]
 pub struct Weighted {
     pub end: VarId,
     pub freq: u32,
+}
+
+/// The sum over the blocks of frequency times the block end less 1 is less than `limit`.
+#[derive(Drop)]
+pub struct Below {
+    pub ends: Items<Weighted>,
+    pub limit: u64,
+    pub vars: Items<VarId>,
+    ghost ascend: { Ascend vars },
+    ghost among: { BelowVars vars ends },
 }
 
 /// One block's cost more, up to the greatest number.
@@ -56,29 +67,66 @@ fn cost_in(w: &Window<'_>, ends: &[Weighted]) -> u64
     total
 }
 
-/// Fails where the least ends cost the limit or more.
-fn keep_cost(w: &mut Window<'_>, ends: &[Weighted], limit: u64) -> Pruned
-    requires vars { BelowVars w.old.vars.now ends.now }
-    requires known { HasVars w.old.vars.now w.old.store.now.sets }
-    requires live { NoneEmpty w.old.store.now.sets }
-    ensures step { Stepped w.old.vars.now (below_steps w.old.vars.now ends.now limit) w.old.store.now w.new.store.now Same result }
+/// Keeps of an end what the limit leaves it: `room` is what it leaves above the cost of the least ends.
+fn keep_end(w: &mut Window<'_>, before: Pruned, p: &Below, i: usize, room: u64) -> Pruned
+    requires there { i < length p.now.ends }
+    requires vars { w.old.vars.now ≡ p.now.vars }
+    requires known { HasVars p.now.vars w.old.store.now.sets }
+    requires live { before ≢ Failed → NoneEmpty w.old.store.now.sets }
+    requires room { before ≢ Failed → least_cost p.now.ends w.old.store.now.sets + room + 1 ≡ p.now.limit }
+    ensures step { (d : Weighted) → Stepped w.old.vars.now (end_cut p.now.ends p.now.limit (slice_index_or p.now.ends i d))
+        w.old.store.now w.new.store.now before result }
+    ensures room { result ≢ Failed → least_cost p.now.ends w.new.store.now.sets + room + 1 ≡ p.now.limit }
     ensures same_reference { w.new.store.ghost_name ≡ w.old.store.ghost_name }
     ensures vars { w.new.vars ≡ w.old.vars }
 {
-    if cost_in(w, ends) < limit {
-        return Pruned::Same;
+    if before == Pruned::Failed {
+        return before;
     }
-    fail(w, Pruned::Same)
+    let e = p.ends.as_slice()[i];
+    if e.freq == 0 {
+        return before;
+    }
+    let least = u64::from(w.min(e.end).max(1));
+    let high = least.saturating_add(room / u64::from(e.freq));
+    let greatest = u64::from(w.max(e.end));
+    if greatest <= high {
+        return before;
+    }
+    keep_le(w, before, e.end, high as u32)
 }
 
-/// The sum over the blocks of frequency times the block end less 1 is less than `limit`.
-#[derive(Drop)]
-pub struct Below {
-    pub ends: Items<Weighted>,
-    pub limit: u64,
-    pub vars: Items<VarId>,
-    ghost ascend: { Ascend vars },
-    ghost among: { BelowVars vars ends },
+/// Keeps of each end what the limit leaves it.
+fn keep_ends(w: &mut Window<'_>, before: Pruned, p: &Below, room: u64) -> Pruned
+    requires vars { w.old.vars.now ≡ p.now.vars }
+    requires known { HasVars p.now.vars w.old.store.now.sets }
+    requires live { before ≢ Failed → NoneEmpty w.old.store.now.sets }
+    requires room { before ≢ Failed → least_cost p.now.ends w.old.store.now.sets + room + 1 ≡ p.now.limit }
+    ensures step { Stepped w.old.vars.now (round (end_cut p.now.ends p.now.limit) p.now.ends) w.old.store.now w.new.store.now before result }
+    ensures same_reference { w.new.store.ghost_name ≡ w.old.store.ghost_name }
+    ensures vars { w.new.vars ≡ w.old.vars }
+{
+    let mut did = before;
+    for i in 0..p.ends.len() {
+        did = keep_end(w, did, p, i, room);
+    }
+    did
+}
+
+/// Fails where the least ends cost the limit or more, and else keeps of each end what the limit leaves it.
+fn keep_cost(w: &mut Window<'_>, p: &Below) -> Pruned
+    requires vars { w.old.vars.now ≡ p.now.vars }
+    requires known { HasVars p.now.vars w.old.store.now.sets }
+    requires live { NoneEmpty w.old.store.now.sets }
+    ensures step { Stepped w.old.vars.now (below_steps w.old.vars.now p.now.ends p.now.limit) w.old.store.now w.new.store.now Same result }
+    ensures same_reference { w.new.store.ghost_name ≡ w.old.store.ghost_name }
+    ensures vars { w.new.vars ≡ w.old.vars }
+{
+    let cost = cost_in(w, p.ends.as_slice());
+    if cost < p.limit {
+        return keep_ends(w, Pruned::Same, p, p.limit - cost - 1);
+    }
+    fail(w, Pruned::Same)
 }
 
 impl Predicate for Below {
@@ -103,6 +151,7 @@ impl Predicate for Below {
 impl Propagator for Below {
     ghost use Rattle.un_prop.specs.Last.{last_cut};
     ghost use Rattle.un_prop.specs.PartLaws.{one_part, one_whole, lawful_checked, keeps_checked, forward_checked, stable_first};
+    ghost use Rattle.un_prop.specs.WithinLaws.{one_within};
     ghost use Rattle.std.specs.Prelude.{option_and_then};
     ghost use Rattle.un_prec.specs.Below.{below_holds, below_steps, BelowVars, BelowStrong};
     ghost use Rattle.un_prec.specs.BelowLaws.{below_looks, below_lawful, below_keeps, below_strong};
@@ -116,7 +165,7 @@ impl Propagator for Below {
     ghost span = { λ p. 0 };
 
     fn prune_in(&self, w: &mut Window<'_>, scratch: &mut Scratch) -> Pruned {
-        let did = keep_cost(w, self.ends.as_slice(), self.limit);
+        let did = keep_cost(w, self);
         check_last(self, w, scratch, did)
     }
 
@@ -128,6 +177,8 @@ impl Propagator for Below {
         (below_steps p.vars p.ends p.limit) (below_lawful p.vars p.ends p.limit p.among) };
 
     ghost whole = { λ p x. one_whole p.vars (below_holds p.ends p.limit) x };
+
+    ghost within = { λ p. one_within p.vars (below_holds p.ends p.limit) };
 
     ghost forward = { λ p. forward_checked p.vars (below_holds p.ends p.limit) (below_looks p.vars p.ends p.limit p.among) p.ascend
         (below_steps p.vars p.ends p.limit) (below_lawful p.vars p.ends p.limit p.among) };

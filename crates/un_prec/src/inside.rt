@@ -63,6 +63,7 @@ impl Predicate for Inside {
 impl Propagator for Inside {
     ghost use Rattle.un_prop.specs.Last.{last_cut};
     ghost use Rattle.un_prop.specs.PartLaws.{one_part, one_whole, lawful_checked, keeps_checked, forward_checked, stable_first};
+    ghost use Rattle.un_prop.specs.WithinLaws.{one_within};
     ghost use Rattle.std.specs.Prelude.{option_and_then};
     ghost use Rattle.un_prec.specs.Inside.{start_link, end_link, inside_holds, inside_steps, InsideVars, InsideStrong};
     ghost use Rattle.un_prec.specs.InsideLaws.{inside_looks, inside_lawful, inside_keeps, inside_strong};
@@ -104,6 +105,8 @@ impl Propagator for Inside {
         (inside_steps p.vars p.at p.on p.end) (inside_lawful p.vars p.at p.on p.end p.among) };
 
     ghost whole = { λ p x. one_whole p.vars (inside_holds p.at p.on p.end) x };
+
+    ghost within = { λ p. one_within p.vars (inside_holds p.at p.on p.end) };
 
     ghost forward = { λ p. forward_checked p.vars (inside_holds p.at p.on p.end) (inside_looks p.vars p.at p.on p.end p.among) p.ascend
         (inside_steps p.vars p.at p.on p.end) (inside_lawful p.vars p.at p.on p.end p.among) };

@@ -46,6 +46,7 @@ impl Predicate for Last {
 impl Propagator for Last {
     ghost use Rattle.un_prop.specs.Last.{last_cut};
     ghost use Rattle.un_prop.specs.PartLaws.{one_part, one_whole, lawful_checked, keeps_checked, forward_checked, stable_first};
+    ghost use Rattle.un_prop.specs.WithinLaws.{one_within};
     ghost use Rattle.std.specs.Prelude.{option_and_then};
     ghost use Rattle.un_prec.specs.Last.{last_holds, last_steps, LastVars, LastStrong};
     ghost use Rattle.un_prec.specs.LastLaws.{last_looks, last_steps_lawful, last_steps_keep, last_strong};
@@ -79,6 +80,8 @@ impl Propagator for Last {
         (last_steps p.vars p.at p.end) (last_steps_lawful p.vars p.at p.end p.among) };
 
     ghost whole = { λ p x. one_whole p.vars (last_holds p.at p.end) x };
+
+    ghost within = { λ p. one_within p.vars (last_holds p.at p.end) };
 
     ghost forward = { λ p. forward_checked p.vars (last_holds p.at p.end) (last_looks p.vars p.at p.end p.among) p.ascend
         (last_steps p.vars p.at p.end) (last_steps_lawful p.vars p.at p.end p.among) };

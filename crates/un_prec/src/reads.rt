@@ -247,6 +247,7 @@ impl Choice for Reads {
 impl Propagator for Reads {
     ghost use Rattle.un_prop.specs.Last.{last_cut};
     ghost use Rattle.un_prop.specs.PartLaws.{one_part, one_whole, lawful_checked, keeps_checked, forward_checked, stable_first};
+    ghost use Rattle.un_prop.specs.WithinLaws.{one_within};
     ghost use Rattle.std.specs.Prelude.{option_and_then};
     ghost use Rattle.un_prec.specs.Reads.{reads_holds, reads_steps, ReadsStrong};
     ghost use Rattle.un_prec.specs.ReadsLaws.{reads_looks, reads_lawful, reads_keeps, reads_strong};
@@ -277,6 +278,8 @@ impl Propagator for Reads {
         (reads_lawful p.vars p.user p.user_on p.choice p.alts p.among) };
 
     ghost whole = { λ p x. one_whole p.vars (reads_holds p.user p.user_on p.choice p.alts) x };
+
+    ghost within = { λ p. one_within p.vars (reads_holds p.user p.user_on p.choice p.alts) };
 
     ghost forward = { λ p. forward_checked p.vars (reads_holds p.user p.user_on p.choice p.alts)
         (reads_looks p.vars p.user p.user_on p.choice p.alts p.among) p.ascend (reads_steps p.user p.user_on p.choice p.alts)

@@ -1,12 +1,10 @@
 //! The problem of a function: its extended function, and the model of that.
 
 ghost use Rattle.std.specs.Prelude.{◌≡◌, IfOk};
-ghost use Rattle.un_isa.specs.Hexagon.{HEXAGON};
+ghost use Rattle.un_isa.specs.Fit.{IsFit};
 ghost use Rattle.un_ir.specs.LinearOf.{AreLive};
-ghost use Rattle.un_model.specs.Extended.{HasSmallCounts};
 ghost use Rattle.un_model.specs.Options.{AreOptions};
-ghost use Rattle.un_model.specs.Variables.{IsModel};
-ghost use Rattle.un_problem.specs.Problems.{IsExtOf, IsModelOf, default_options};
+ghost use Rattle.un_problem.specs.Problems.{IsExtOf, IsModelOf, IsProblemOf, default_options};
 
 use std::alloc::Global;
 use un_base::memory_error::NoMemory;
@@ -14,7 +12,7 @@ use un_extend::extend::extend;
 use un_ir::extended::{Ext, LiveSets};
 use un_ir::function::Function;
 use un_isa::reg::SLOTS;
-use un_isa::table::hexagon;
+use un_isa::table::Table;
 use un_live::live::live_in;
 use un_lssa::linearize::linearize;
 use un_model::build::build;
@@ -32,38 +30,38 @@ pub fn default_options() -> Options
 }
 
 /// The extended function of a function whose names are live so.
-fn extended_by(alloc: Global, f: &Function, live: &LiveSets) -> Result<Ext, NoMemory>
+fn extended_by(alloc: Global, f: &Function, live: &LiveSets, t: &Table) -> Result<Ext, NoMemory>
     requires { AreLive f.now.blocks live.now.at_start }
-    ensures { IfOk result (IsExtOf HEXAGON f.now) }
+    ensures { IfOk result (IsExtOf t.now f.now) }
 {
-    let linear = linearize(alloc, f, live, &hexagon())?;
+    let linear = linearize(alloc, f, live, t)?;
     let ext = extend(alloc, &linear)?;
     Ok(ext)
 }
 
-/// The extended function of a function, for the processor's table.
+/// The extended function of a function, for a table.
 ///
 /// # Errors
 /// `NoMemory` where there is no memory for it.
-pub fn extended(alloc: Global, f: &Function) -> Result<Ext, NoMemory>
-    ensures { IfOk result (IsExtOf HEXAGON f.now) }
+pub fn extended(alloc: Global, f: &Function, t: &Table) -> Result<Ext, NoMemory>
+    ensures { IfOk result (IsExtOf t.now f.now) }
 {
     let live = live_in(alloc, f)?;
-    let ext = extended_by(alloc, f, &live)?;
+    let ext = extended_by(alloc, f, &live, t)?;
     Ok(ext)
 }
 
-/// The model of a function under options, for the processor's table.
+/// The model of a function for a table and under options.
 ///
 /// # Errors
 /// `NoMemory` where there is no memory for it.
-pub fn model(alloc: Global, f: &Function, options: &Options) -> Result<Model, NoMemory>
-    requires { AreOptions options.now }
-    ensures gives { IfOk result (IsModelOf HEXAGON f.now options.now) }
-    ensures model { IfOk result IsModel }
-    ensures counts { IfOk result (λ m. HasSmallCounts m.ext) }
+pub fn model(alloc: Global, f: &Function, t: &Table, options: &Options) -> Result<Model, NoMemory>
+    requires fit { IsFit t.now }
+    requires options { AreOptions options.now }
+    ensures gives { IfOk result (IsModelOf t.now f.now options.now) }
+    ensures problem { IfOk result (IsProblemOf f.now) }
 {
-    let ext = extended(alloc, f)?;
+    let ext = extended(alloc, f, t)?;
     let model = build(alloc, &ext, options)?;
     Ok(model)
 }

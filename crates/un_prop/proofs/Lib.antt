@@ -1,5 +1,4 @@
 pub mod ChildLaws
-pub mod RoomLaws
 pub mod RoundLaws
 pub mod RunLaws
 pub mod WakeLaws

@@ -11,6 +11,7 @@ use Rattle.un_domains.specs.Cuts.{Contents}
 use Rattle.un_domains.specs.Order.{Below}
 use Rattle.un_domains.specs.OrderLaws.{Below-refl, Below-trans, total_below}
 use Rattle.un_prop.specs.Rounds.{round, fix_of, HasVars}
+use Rattle.un_prop.specs.KeepLaws.{round_kept}
 use Rattle.un_prop.specs.Lawful.{Lawful}
 use Rattle.un_prop.specs.Fixes.{Known, known_long, Shrunk, round_shrunk, round_next}
 use Rattle.un_prop.specs.Pruning.{IsPrune, Answers, Ends, HasRoom}
@@ -41,29 +42,7 @@ item_known scope ps i p first s all below at long =
     let here : HasVars (scope p) first = subst (λ q. HasVars (scope q) first) (sym at) (all i p below) in
     λ k d lt. rw long (here k d lt)
 
-nonempty_has : (xs : List ℕ) (x : ℕ) → has xs x ≡ true → 0 < length xs
-nonempty_has [] x h = absurd (cc h)
-nonempty_has (y ∷ ys) x h = omega arith
-
-pub IsIn-full : (x : List ℕ) (s : Sets) → IsIn x s → NoneEmpty s
-IsIn-full x s h v below = nonempty_has (set_at s v) (get_or x v 0) (h.each v below)
-
-then_kept : (f : Sets → Option Sets) (x : List ℕ) (c : Option Sets) → Kept x c → ((t : Sets) → IsIn x t → Kept x (f t))
-    → Kept x (option_and_then f c)
-then_kept f x None h g = absurd h
-then_kept f x (Some t) h g = g t h
-
 module _ {P : Type 0} (scope : P → List VarId) (cut : P → Sets → Option Sets) (lawful : (p : P) → Lawful (scope p) (cut p)) where
-  module _ (holds : P → List ℕ → Bool)
-      (keeps : (p : P) (s : Sets) (x : List ℕ) → HasVars (scope p) s → NoneEmpty s → IsIn x s → holds p x ≡ true → Kept x (cut p s)) where
-    pub round_kept : (ps : List P) (s : Sets) (x : List ℕ) → Known scope cut lawful ps s → IsIn x s
-        → AllByRecursion (λ p. holds p x ≡ true) ps
-        → Kept x (round cut ps s)
-    round_kept [] s x k h all = h
-    round_kept (p ∷ ps) s x k h all =
-        then_kept (round cut ps) x (cut p s) (keeps p s x k.0 (IsIn-full x s h) h all.0)
-        (λ t there. round_kept ps t x (known_long scope cut lawful ps s t (sym there.long ∙ h.long) k.1) there all.1)
-
   module _ (ps : List P) (first : Contents) where
     -- a round so far: what is left of it does to these sets what the whole does to the first
     pub record SoFar (i : ℕ) (s : Contents) (changed : Bool) : Type 0 where
@@ -157,7 +136,7 @@ module _ {P : Type 0} (scope : P → List VarId) (cut : P → Sets → Option Se
         full = h.1;
         below = Below-trans t.sets s.sets first.sets h.0 sofar.below;
         rest = round_next scope cut lawful ps s.sets t.sets known sofar.full e ∙ sofar.rest;
-        kept = λ x there all. subst (Kept x) e (round_kept holds keeps ps s.sets x known (sofar.kept x there all) all);
+        kept = λ x there all. subst (Kept x) e (round_kept scope cut lawful holds keeps ps s.sets x known (sofar.kept x there all) all);
         marked = marked ∙ sofar.marked;
       }
 

@@ -4,11 +4,13 @@ pub mod AmongLaws
 pub mod ChainLaws
 pub mod ChoiceLaws
 pub mod Choices
+pub mod EachLaws
 pub mod FailLaws
 pub mod Failing
 pub mod Fixes
 pub mod Going
 pub mod GoingLaws
+pub mod KeepLaws
 pub mod Last
 pub mod LastLaws
 pub mod Lawful
@@ -28,3 +30,6 @@ pub mod SingleLaws
 pub mod Somewhere
 pub mod SomewhereLaws
 pub mod Steps
+pub mod WithinLaws
+pub mod When
+pub mod WhenLaws

@@ -32,7 +32,7 @@ one_whole vs t x = sym (and_true_right (t x))
     and_true_right true = refl
     and_true_right false = refl
 
-only_part : (q p : Part) → Contains (q ∷ []) p → q ≡ p
+pub only_part : (q p : Part) → Contains (q ∷ []) p → q ≡ p
 only_part q p (zero, lt, e) = e
 only_part q p (suc i, lt, e) = absurd (omega (arith, lt))
 

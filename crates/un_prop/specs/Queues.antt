@@ -1,5 +1,5 @@
 -- What a queue of propagators keeps.
-use Rattle.std.specs.Prelude.{ℕ, ◌≡◌, ◌<◌, ◌≤◌, ◌⊎◌, Bool, true, false, cond, ◌==◌, List, length, sum_by, count_by, slice_index}
+use Rattle.std.specs.Prelude.{ℕ, ◌≡◌, ◌+◌, ◌<◌, ◌≤◌, ◌⊎◌, Bool, true, false, cond, ◌==◌, List, length, sum_by, count_by, slice_index}
 use Rattle.std.specs.Prelude.{slice_index_or, All, Some}
 use Rattle.std.specs.declared.option.Option.{Option}
 use Rattle.un_base.specs.declared.ids.VarId.{VarId}
@@ -25,11 +25,13 @@ waits ws i = slice_index_or ws i false
 abbrev pub flag : Bool → ℕ
 flag b = cond b 1 0
 
--- the places of those that wait, each of them once, with room for all
-pub record IsQueue (ws : List Bool) (places : List ℕ) (size : ℕ) : Type 0 where
-  pub once : (i : ℕ) → count_by (λ x. x == i) places ≡ flag (waits ws i)
-  pub long : length places ≡ sum_by flag ws
+-- the places of those that wait, each of them once in one of two lists, with room for all in each
+pub record IsQueue (ws : List Bool) (weights : ℕ) (light : List ℕ) (size : ℕ) (heavy : List ℕ) (heavy_size : ℕ) : Type 0 where
+  pub weighed : weights ≡ length ws
+  pub once : (i : ℕ) → count_by (λ x. x == i) light + count_by (λ x. x == i) heavy ≡ flag (waits ws i)
+  pub long : length light + length heavy ≡ sum_by flag ws
   pub room : length ws ≤ size
+  pub heavy_room : length ws ≤ heavy_size
 
 -- each propagator that does not wait leaves the store as it is
 abbrev pub IsReady : {P : Type 0} → (P → Sets → Option Sets) → List P → List Bool → Sets → Type 0

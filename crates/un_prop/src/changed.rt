@@ -11,6 +11,7 @@ use crate::queue::{Queue, wake_changed};
 use crate::readers::Readers;
 use crate::run::Fix;
 use un_domains::store::Store;
+use un_domains::trail::Words;
 
 /// Runs the propagators that wait, and those that read what they change, until one fails or none waits.
 pub fn run_from<P: Propagator>(
@@ -19,24 +20,26 @@ pub fn run_from<P: Propagator>(
     store: &mut Store,
     scratch: &mut Scratch,
     waiting: &mut Queue,
-    sizes: &mut [u32],
+    sizes: &mut Words,
 ) -> Fix
     requires known { All (λ p. HasVars (P.scope p) store.old.sets) props.now }
     requires live { NoneEmpty store.old.sets }
     requires room { All (λ p. HasRoom (length store.old.sets) (P.span p) scratch.old) props.now }
     requires table { IsTable P.scope props.now (length store.old.sets) readers.now.rows.items }
     requires flags { length waiting.old ≡ length props.now }
-    requires sizes { IsSizes sizes.old store.old.sets }
+    requires sizes { IsSizes sizes.old.words store.old.sets }
     requires ready { IsReady P.cut props.now waiting.old store.old.sets }
 
     // The store afterwards is that of the rounds.
     ensures rounds { IsFix (fix_of P.cut props.now store.old.sets) store.new.sets result }
+    ensures long { length store.new.sets ≡ length store.old.sets }
     ensures marked { store.new.marked ≡ store.old.marked }
+    ensures noted { sizes.new.marked ≡ sizes.old.marked }
     ensures fixed { length scratch.new.fixed.items ≡ length scratch.old.fixed.items }
     ensures cycles { length scratch.new.cycles.items ≡ length scratch.old.cycles.items }
     ensures flags { length waiting.new ≡ length waiting.old }
     ensures rests { result ≡ Fix.Stable → (i : ℕ) → waits waiting.new i ≡ false }
-    ensures sizes { result ≡ Fix.Stable → IsSizes sizes.new store.new.sets }
+    ensures sizes { result ≡ Fix.Stable → IsSizes sizes.new.words store.new.sets }
 {
     loop {
         match waiting.take() {

@@ -16,6 +16,7 @@ use crate::side::Side;
 use crate::step::answer;
 use un_base::ids::VarId;
 use un_domains::store::Store;
+use un_domains::trail::Words;
 
 /// Cuts a store to one side of a decision.
 fn decide(store: &mut Store, v: VarId, x: u32, side: Side) -> Pruned
@@ -39,7 +40,7 @@ pub fn run_child<P: Propagator>(
     store: &mut Store,
     scratch: &mut Scratch,
     waiting: &mut Queue,
-    sizes: &mut [u32],
+    sizes: &mut Words,
     v: VarId,
     x: u32,
     side: Side,
@@ -49,17 +50,21 @@ pub fn run_child<P: Propagator>(
     requires room { All (λ p. HasRoom (length store.old.sets) (P.span p) scratch.old) props.now }
     requires table { IsTable P.scope props.now (length store.old.sets) readers.now.rows.items }
     requires flags { length waiting.old ≡ length props.now }
-    requires sizes { IsSizes sizes.old store.old.sets }
+    requires sizes { IsSizes sizes.old.words store.old.sets }
     requires there { v.0 < length store.old.sets }
 
     // The node's run ended.
     requires stable { All (λ p. P.cut p store.old.sets ≡ Some store.old.sets) props.now }
 
     // Where the store is what the rounds leave of the node's box, it then is what they leave of the side's box.
+    ensures long { length store.new.sets ≡ length store.old.sets }
     ensures marked { store.new.marked ≡ store.old.marked }
+    ensures sizes { result ≡ Fix.Stable → IsSizes sizes.new.words store.new.sets }
+    ensures noted { sizes.new.marked ≡ sizes.old.marked }
     ensures fixed { length scratch.new.fixed.items ≡ length scratch.old.fixed.items }
     ensures cycles { length scratch.new.cycles.items ≡ length scratch.old.cycles.items }
     ensures flags { length waiting.new ≡ length waiting.old }
+    ensures rests { ((i : ℕ) → waits waiting.old i ≡ false) → result ≡ Fix.Stable → (i : ℕ) → waits waiting.new i ≡ false }
     ensures child { (box : Sets) → NoneEmpty box → All (λ p. HasVars (P.scope p) box) props.now → v.0 < length box
         → fix_of P.cut props.now box ≡ Some store.old.sets
         → IsFix (option_and_then (fix_of P.cut props.now) (cut_by (side_test side x) v.0 box)) store.new.sets result }

@@ -13,3 +13,4 @@ pub mod readers;
 pub mod run;
 pub mod side;
 pub mod step;
+pub mod when;

@@ -5,6 +5,7 @@ ghost use Rattle.un_base.specs.declared.ids.VarId.{VarId};
 ghost use Rattle.un_domains.specs.Sets.{Sets, IsIn, NoneEmpty, Kept};
 ghost use Rattle.un_prop.specs.Rounds.{HasVars};
 ghost use Rattle.un_prop.specs.Lawful.{Lawful};
+ghost use Rattle.un_prop.specs.Among.{AllAmong};
 ghost use Rattle.un_prop.specs.Looks.{InWords};
 ghost use Rattle.un_prop.specs.Parts.{Part, all_meet, SameAt, ChecksForward};
 
@@ -80,6 +81,11 @@ pub trait Propagator: Predicate {
     /// How many cycles, from 0, it counts over.
     ghost span: { Self → ℕ };
 
+    /// Whether its prunings are dear, so that it waits until no light one does. Which waits longer changes no set.
+    fn is_heavy(&self) -> bool {
+        false
+    }
+
     /// Takes values away through a window on its own variables.
     fn prune_in(&self, w: &mut Window<'_>, scratch: &mut Scratch) -> Pruned
         requires vars { w.old.vars.now ≡ Self.scope self.now }
@@ -113,6 +119,9 @@ pub trait Propagator: Predicate {
 
     /// It holds where all its parts are met.
     ghost whole: { (p : Self) (x : List ℕ) → Self.holds p x ≡ all_meet (parts p) x };
+
+    /// The parts speak of its variables alone.
+    ghost within: { (p : Self) (part : Part) → Contains (parts p) part → AllAmong (Self.scope p) part.vars };
 
     /// A part with one variable left is checked at each of its values.
     ghost forward: { (p : Self) (part : Part) → Contains (parts p) part → ChecksForward part (Self.scope p) (cut p) };

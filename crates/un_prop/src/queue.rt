@@ -2,26 +2,36 @@
 
 ghost use Rattle.std.specs.Prelude.{◌≡◌, ℕ, ◌<◌, ◌≤◌, ◌^◌, ◌⊎◌, List, [], ◌∷◌, length, All, IfOk, MatchOption, true, false, slice_index};
 ghost use Rattle.std.specs.Prelude.{slice_index_or, slice_set, replicate};
+ghost use Rattle.std.specs.VecDeque.{deque_capacity};
 ghost use Rattle.un_domains.specs.Sets.{Sets, set_at, has};
 ghost use Rattle.un_prop.specs.Queues.{waits, Grows, AllWait, IsSizes};
 
+use crate::propagator::Propagator;
 use std::alloc::{AllocError, Global};
 use std::collections::VecDeque;
 use std::marker::Model;
 use un_base::ids::VarId;
 use un_domains::store::Store;
+use un_domains::trail::Words;
 use un_lists::items::Items;
 
-/// Which propagators wait: a flag for each, and the places of those that wait, in the order in which they came. Contracts see
-/// the flags.
+/// The places of propagators that wait, in the order in which they came: the light ones, and the heavy ones.
+#[derive(Drop)]
+struct Places {
+    light: VecDeque<usize>,
+    heavy: VecDeque<usize>,
+}
+
+/// Which propagators wait: a flag for each, and the places of those that wait. Contracts see the flags.
 #[derive(Drop)]
 pub struct Queue {
     flags: Vec<bool>,
-    places: VecDeque<usize>,
+    heavy: Vec<bool>,
+    places: Places,
 }
 
 impl Model for Queue {
-    ghost use Rattle.std.specs.Prelude.{List, Bool};
+    ghost use Rattle.std.specs.Prelude.{List, Bool, length};
     ghost use Rattle.std.specs.VecDeque.{deque_capacity};
     ghost use Rattle.un_prop.specs.Queues.{IsQueue};
 
@@ -29,19 +39,46 @@ impl Model for Queue {
 
     ghost view = { λ a. a.flags.items };
 
-    ghost invariant = { λ a. IsQueue a.flags.items a.places.items (deque_capacity a.places) };
+    ghost invariant = { λ a. IsQueue a.flags.items (length a.heavy.items) a.places.light.items (deque_capacity a.places.light)
+        a.places.heavy.items (deque_capacity a.places.heavy) };
+}
+
+/// No places, with room for `n` of either weight.
+fn no_places(alloc: Global, n: usize) -> Result<Places, AllocError>
+    ensures light { IfOk result (λ p. (p.light.items ≡ []) × (n ≤ deque_capacity p.light)) }
+    ensures heavy { IfOk result (λ p. (p.heavy.items ≡ []) × (n ≤ deque_capacity p.heavy)) }
+{
+    let light = VecDeque::with_capacity(alloc, n)?;
+    let heavy = VecDeque::with_capacity(alloc, n)?;
+    Ok(Places { light, heavy })
+}
+
+/// Which of these propagators are heavy.
+fn weights<P: Propagator>(alloc: Global, props: &[P]) -> Result<Vec<bool>, AllocError>
+    ensures { IfOk result (λ ws. length ws.items ≡ length props.now) }
+{
+    let mut heavy = Vec::new(alloc);
+    for p in props {
+        heavy.push(p.is_heavy())?;
+    }
+    Ok(heavy)
 }
 
 impl Queue {
     ghost use Rattle.un_prop.specs.Queues.{waits};
 
-    /// A queue of `n` propagators of which none waits, with room for all.
-    pub fn new(alloc: Global, n: usize) -> Result<Queue, AllocError>
-        ensures { IfOk result (λ q. q ≡ replicate n false) }
+    /// A queue of these propagators, of which none waits, with room for all.
+    pub fn new<P: Propagator>(alloc: Global, props: &[P]) -> Result<Queue, AllocError>
+        ensures { IfOk result (λ q. q ≡ replicate (length props.now) false) }
     {
-        let flags = vec![in alloc; false; n]?;
-        let places = VecDeque::with_capacity(alloc, n)?;
-        Ok(Queue { flags, places })
+        let heavy = weights(alloc, props)?;
+        let places = no_places(alloc, props.len())?;
+        let flags = vec![in alloc; false; props.len()]?;
+        Ok(Queue {
+            flags,
+            heavy,
+            places,
+        })
     }
 
     /// How many propagators there are.
@@ -51,17 +88,24 @@ impl Queue {
         self.flags.len()
     }
 
-    /// The propagator that waits longest, which then waits no more.
+    /// A propagator that waits, which then waits no more. Of the light ones it is the one that waits longest; a heavy one comes after
+    /// them.
     pub fn take(&mut self) -> Option<usize>
         ensures next { MatchOption result ((i : ℕ) → waits self.old i ≡ false) (λ i. (i < length self.old) × (waits self.old i ≡ true)) }
         ensures rests { MatchOption result (self.new ≡ self.old) (λ i. self.new ≡ slice_set self.old i false) }
     {
-        match self.places.pop_front() {
-            None => None,
+        match self.places.light.pop_front() {
             Some(i) => {
                 self.flags[i] = false;
                 Some(i)
             }
+            None => match self.places.heavy.pop_front() {
+                Some(i) => {
+                    self.flags[i] = false;
+                    Some(i)
+                }
+                None => None,
+            },
         }
     }
 
@@ -70,9 +114,14 @@ impl Queue {
         requires { i < length self.old }
         ensures { self.new ≡ slice_set self.old i true }
     {
-        if !self.flags[i] {
-            self.flags[i] = true;
-            self.places.push_back_reserved(i);
+        if self.flags[i] {
+            return;
+        }
+        self.flags[i] = true;
+        if self.heavy[i] {
+            self.places.heavy.push_back_reserved(i);
+        } else {
+            self.places.light.push_back_reserved(i);
         }
     }
 }
@@ -95,37 +144,39 @@ pub fn wake_changed(
     vars: &[VarId],
     store: &Store,
     table: &[Items<usize>],
-    sizes: &mut [u32],
+    sizes: &mut Words,
     waiting: &mut Queue,
 )
     requires known { All (λ v. v.0 < length store.now.sets) vars.now }
-    requires sizes { length sizes.old ≡ length store.now.sets }
+    requires sizes { length sizes.old.words ≡ length store.now.sets }
     requires table { length table.now ≡ length store.now.sets }
     requires within { (v i : ℕ) → has (set_at table.now v) i ≡ true → i < length waiting.old }
     ensures flags { length waiting.new ≡ length waiting.old }
-    ensures noted { All (λ v. slice_index sizes.new v.0 ≡ length (set_at store.now.sets v.0)) vars.now }
-    ensures others { (w : ℕ) → All (λ v. (w ≡ v.0) → ⊥) vars.now → slice_index sizes.new w ≡ slice_index sizes.old w }
-    ensures woken { (w : ℕ) → (slice_index sizes.new w ≡ slice_index sizes.old w) ⊎ AllWait table.now waiting.new w }
+    ensures noted { All (λ v. slice_index sizes.new.words v.0 ≡ length (set_at store.now.sets v.0)) vars.now }
+    ensures others { (w : ℕ) → All (λ v. (w ≡ v.0) → ⊥) vars.now → slice_index sizes.new.words w ≡ slice_index sizes.old.words w }
+    ensures woken { (w : ℕ) → (slice_index sizes.new.words w ≡ slice_index sizes.old.words w) ⊎ AllWait table.now waiting.new w }
+    ensures long { length sizes.new.words ≡ length sizes.old.words }
+    ensures marked { sizes.new.marked ≡ sizes.old.marked }
     ensures grows { Grows waiting.old waiting.new }
 {
     for v in vars {
         let at = v.0 as usize;
-        let size = store.size(*v);
-        if size != sizes[at] {
-            sizes[at] = size;
+        let size = store.size(*v) as u64;
+        if size != sizes.get(at) {
+            sizes.set(at, size);
             wake(table[at].as_slice(), waiting);
         }
     }
 }
 
 /// Notes how many values each variable has.
-pub fn measure(store: &Store, sizes: &mut [u32])
+pub fn measure(store: &Store, sizes: &mut [u64])
     requires long { length sizes.old ≡ length store.now.sets }
     requires small { length sizes.old ≤ 2 ^ 32 }
     ensures { IsSizes sizes.new store.now.sets }
 {
     for i in 0..sizes.len() {
-        sizes[i] = store.size(VarId(i as u32));
+        sizes[i] = store.size(VarId(i as u32)) as u64;
     }
 }
 

@@ -1,9 +1,8 @@
 //! Rounds of propagators.
 
 ghost use Rattle.std.specs.Prelude.{◌≡◌, ◌≢◌, ℕ, ◌<◌, ◌≤◌, List, length, All, true, Some, MatchOption, Contains, None, false, ◌↔◌};
-ghost use Rattle.un_domains.specs.Sets.{Sets, IsIn, IsSingle, NoneEmpty};
+ghost use Rattle.un_domains.specs.Sets.{Sets, IsIn, IsSingle, Kept, NoneEmpty};
 ghost use Rattle.un_prop.specs.Rounds.{HasVars, round, fix_of};
-ghost use Rattle.un_prop.specs.Parts.{Part};
 ghost use Rattle.un_prop.specs.Pruning.{IsFix, Ends, HasRoom};
 ghost use Rattle.un_prop.specs.Fixes.{IsGreatest};
 
@@ -58,6 +57,7 @@ pub fn run_all<P: Propagator>(props: &[P], store: &mut Store, scratch: &mut Scra
 
     // A store that no propagator changes, and the greatest within the first.
     ensures greatest { result ≡ Fix.Stable → IsGreatest P.cut props.now store.old.sets store.new.sets }
+    ensures long { length store.new.sets ≡ length store.old.sets }
     ensures marked { store.new.marked ≡ store.old.marked }
     ensures fixed { length scratch.new.fixed.items ≡ length scratch.old.fixed.items }
     ensures cycles { length scratch.new.cycles.items ≡ length scratch.old.cycles.items }
@@ -81,10 +81,21 @@ pub fn same_in_any_order<P: Propagator>(props: &[P], others: &[P])
     let _ = others;
 }
 
-/// On a store of single values, a propagator that reads some variable fails exactly where it does not hold.
+/// Rounds lose no assignment for which all propagators hold, so they fail only where there is none.
+pub fn rounds_keep<P: Propagator>(props: &[P])
+    ensures { (s : Sets) (x : List ℕ) → All (λ p. HasVars (P.scope p) s) props.now → IsIn x s
+        → All (λ p. P.holds p x ≡ true) props.now → Kept x (fix_of P.cut props.now s) }
+{
+    let _ = props;
+}
+
+/// On a store of single values, a propagator that reads some variable fails exactly where it does not hold, and one that leaves the
+/// store as it is holds.
 pub fn exact_on_single_values<P: Propagator>(p: &P)
-    ensures { (s : Sets) (x : List ℕ) → HasVars (P.scope p.now) s → All (λ (q : Part). HasVars q.vars s) (P.parts p.now) → IsSingle x s
-        → 0 < length (P.scope p.now) → (P.cut p.now s ≡ None) ↔ (P.holds p.now x ≡ false) }
+    ensures exact { (s : Sets) (x : List ℕ) → HasVars (P.scope p.now) s → IsSingle x s → 0 < length (P.scope p.now)
+        → (P.cut p.now s ≡ None) ↔ (P.holds p.now x ≡ false) }
+    ensures holds { (s : Sets) (x : List ℕ) → HasVars (P.scope p.now) s → IsSingle x s
+        → (length (P.scope p.now) ≡ 0 → P.holds p.now x ≡ true) → P.cut p.now s ≡ Some s → P.holds p.now x ≡ true }
 {
     let _ = p;
 }

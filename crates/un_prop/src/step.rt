@@ -2,7 +2,7 @@
 //! of them did; after one that failed, it does nothing.
 
 ghost use Rattle.std.specs.Prelude.{◌≡◌, ◌≢◌, ◌<◌, ℕ, length, nat_le, nat_lt, nat_eq, not, true};
-ghost use Rattle.un_domains.specs.Sets.{set_at, cut_by};
+ghost use Rattle.un_domains.specs.Sets.{set_at, kept, cut_by};
 ghost use Rattle.un_prop.specs.Pruning.{join};
 ghost use Rattle.un_prop.specs.Rounds.{HasVars};
 ghost use Rattle.un_prop.specs.Failing.{fail_cut};
@@ -44,6 +44,7 @@ pub fn keep_le(w: &mut Window<'_>, before: Pruned, v: VarId, x: u32) -> Pruned
     requires lent { among w.old.vars.now v ≡ true }
     requires going { before ≢ Failed }
     ensures step { Stepped w.old.vars.now (cut_by (λ y. nat_le y x) v.0) w.old.store.now w.new.store.now before result }
+    ensures sets { w.new.store.now.sets ≡ kept (λ y. nat_le y x) w.old.store.now.sets v.0 }
     ensures same_reference { w.new.store.ghost_name ≡ w.old.store.ghost_name }
     ensures vars { w.new.vars ≡ w.old.vars }
 {

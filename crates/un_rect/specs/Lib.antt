@@ -15,6 +15,7 @@ pub mod Orders
 pub mod OrdersLaws
 pub mod PairLaws
 pub mod Pairs
+pub mod PartsWithin
 pub mod Sides
 pub mod Spans
 pub mod SpansLaws

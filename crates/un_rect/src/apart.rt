@@ -62,6 +62,7 @@ impl Predicate for Apart {
 
 impl Propagator for Apart {
     ghost use Rattle.un_rect.specs.Apart.{apart_cut, apart_parts, ApartStrong};
+    ghost use Rattle.un_rect.specs.PartsWithin.{apart_within};
     ghost use Rattle.un_rect.specs.ApartLaws.{apart_lawful, apart_keeps, apart_whole, apart_forward, apart_strong};
 
     ghost cut = { λ p. apart_cut p.vars p.temps };
@@ -84,6 +85,8 @@ impl Propagator for Apart {
     ghost lawful = { λ p. apart_lawful p.vars p.ascend p.temps p.among };
 
     ghost whole = { λ p x. apart_whole p.vars p.temps x };
+
+    ghost within = { λ p. apart_within p.vars p.temps };
 
     ghost forward = { λ p. apart_forward p.vars p.ascend p.temps p.among };
 

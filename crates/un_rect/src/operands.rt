@@ -214,6 +214,7 @@ impl Predicate for Operands {
 
 impl Propagator for Operands {
     ghost use Rattle.un_prop.specs.PartLaws.{one_part, one_whole};
+    ghost use Rattle.un_prop.specs.WithinLaws.{one_within};
     ghost use Rattle.un_rect.specs.Operands.{operands_holds, operands_cut};
     ghost use Rattle.un_rect.specs.OperandsLaws.{operands_cut_lawful, operands_cut_keeps, operands_cut_forward};
 
@@ -240,6 +241,9 @@ impl Propagator for Operands {
 
     ghost whole = { λ p x. one_whole p.vars (operands_holds (side p.first p.first_regs p.first_set)
         (side p.second p.second_regs p.second_set)) x };
+
+    ghost within = { λ p. one_within p.vars (operands_holds (side p.first p.first_regs p.first_set)
+        (side p.second p.second_regs p.second_set)) };
 
     ghost forward = { λ p. operands_cut_forward p.vars (side p.first p.first_regs p.first_set) (side p.second p.second_regs p.second_set)
         p.of_first p.of_second p.ascend };

@@ -8,6 +8,7 @@ ghost use Rattle.un_sites.specs.Postings.{operand_sets, result_sets, registers_o
 ghost use Rattle.un_sites.specs.Sites.{place_of, definers_in};
 
 use std::alloc::Global;
+use un_alt::span::Span;
 use un_base::ids::{TempId, VarId};
 use un_base::memory_error::NoMemory;
 use un_ir::extended::ExtKind;
@@ -18,7 +19,7 @@ use un_model::instructions::{instruction, space_given, space_read};
 use un_prop::act::Act;
 use un_sites::numbers::number_count;
 use un_sites::sites::{Site, Spot, registers_of, site_of};
-use un_sites::space_sets::space_registers;
+use un_sites::space_sets::space_span;
 
 /// The registers that each number of an operation lets its operand at place `j` have.
 fn operand_sets(
@@ -26,24 +27,24 @@ fn operand_sets(
     slots: u32,
     kind: &ExtKind,
     j: u32,
-) -> Result<Items<Items<u32>>, NoMemory>
+) -> Result<Items<Span>, NoMemory>
     ensures { IfOk result (λ sets. sets ≡ operand_sets slots kind.now j) }
 {
     let mut sets = Items::new(alloc);
     for n in 0..number_count(kind) {
-        let set = space_registers(alloc, slots, space_read(instruction(kind, n), j))?;
+        let set = space_span(slots, space_read(instruction(kind, n), j))?;
         sets.push(set)?;
     }
     Ok(sets)
 }
 
 /// The registers that each number of an operation lets its result have.
-fn result_sets(alloc: Global, slots: u32, kind: &ExtKind) -> Result<Items<Items<u32>>, NoMemory>
+fn result_sets(alloc: Global, slots: u32, kind: &ExtKind) -> Result<Items<Span>, NoMemory>
     ensures { IfOk result (λ sets. sets ≡ result_sets slots kind.now) }
 {
     let mut sets = Items::new(alloc);
     for n in 0..number_count(kind) {
-        let set = space_registers(alloc, slots, space_given(instruction(kind, n)))?;
+        let set = space_span(slots, space_given(instruction(kind, n)))?;
         sets.push(set)?;
     }
     Ok(sets)

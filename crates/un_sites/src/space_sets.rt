@@ -5,6 +5,7 @@ ghost use Rattle.std.specs.List.{range_with_len};
 ghost use Rattle.un_sites.specs.Postings.{registers_in};
 
 use std::alloc::{AllocError, Global};
+use un_alt::span::Span;
 use un_base::memory_error::NoMemory;
 use un_isa::reg::{FIRST_SLOT, GENERALS, PREDICATES, Space};
 use un_lists::items::Items;
@@ -37,5 +38,20 @@ pub fn space_registers(
         Some(Space::R) => Ok(numbers_from(alloc, 0, GENERALS)?),
         Some(Space::P) => Ok(numbers_from(alloc, GENERALS, PREDICATES)?),
         Some(Space::M) => Ok(numbers_from(alloc, FIRST_SLOT, slots)?),
+    }
+}
+
+/// The same registers as a range, which takes no memory.
+pub fn space_span(slots: u32, space: Option<Space>) -> Result<Span, NoMemory>
+    ensures { IfOk result (λ rs. rs ≡ registers_in slots space) }
+{
+    let Some(end) = FIRST_SLOT.checked_add(slots) else {
+        return Err(NoMemory);
+    };
+    match space {
+        None => Ok(Span::new(0, end)),
+        Some(Space::R) => Ok(Span::new(0, GENERALS)),
+        Some(Space::P) => Ok(Span::new(GENERALS, PREDICATES)),
+        Some(Space::M) => Ok(Span::new(FIRST_SLOT, slots)),
     }
 }

@@ -5,7 +5,6 @@ ghost use Rattle.un_prop.specs.LastLaws.{Ascend};
 ghost use Rattle.un_slots.specs.Slots.{SlotVars, has_room, item_holds};
 
 use crate::crowd::keep_crowds;
-use crate::full::keep_fulls;
 use crate::item::Item;
 use crate::keep::keep_items;
 use crate::load::{is_within, taken};
@@ -77,10 +76,11 @@ impl Propagator for PerCycle {
     ghost use Rattle.std.specs.Prelude.{option_and_then};
     ghost use Rattle.un_prop.specs.Last.{last_cut};
     ghost use Rattle.un_prop.specs.PartLaws.{one_part, one_whole, lawful_checked, keeps_checked, forward_checked, stable_first};
+    ghost use Rattle.un_prop.specs.WithinLaws.{one_within};
     ghost use Rattle.un_slots.specs.Slots.{per_cycle_holds};
     ghost use Rattle.un_slots.specs.SlotLaws.{per_cycle_looks};
     ghost use Rattle.un_slots.specs.Loads.{SlotsStrong};
-    ghost use Rattle.un_slots.specs.Fulls.{per_cycle_steps};
+    ghost use Rattle.un_slots.specs.Crowds.{per_cycle_steps};
     ghost use Rattle.un_slots.specs.PerCycleLaws.{steps_lawful, steps_keeps, steps_strong};
 
     ghost cut = { λ p s. option_and_then (last_cut p.vars (per_cycle_holds p.items p.horizon))
@@ -95,8 +95,7 @@ impl Propagator for PerCycle {
     fn prune_in(&self, w: &mut Window<'_>, scratch: &mut Scratch) -> Pruned {
         let items = self.items.as_slice();
         let kept = keep_items(items, self.horizon, w, scratch);
-        let crowds = keep_crowds(items, self.horizon, w, kept, scratch);
-        let did = keep_fulls(items, self.horizon, w, crowds, scratch);
+        let did = keep_crowds(items, self.horizon, w, kept, scratch);
         check_last(self, w, scratch, did)
     }
 
@@ -110,6 +109,8 @@ impl Propagator for PerCycle {
         (steps_lawful p.vars p.items p.horizon p.among) };
 
     ghost whole = { λ p x. one_whole p.vars (per_cycle_holds p.items p.horizon) x };
+
+    ghost within = { λ p. one_within p.vars (per_cycle_holds p.items p.horizon) };
 
     ghost forward = { λ p. forward_checked p.vars (per_cycle_holds p.items p.horizon)
         (per_cycle_looks p.vars p.items p.horizon p.among) p.ascend (per_cycle_steps p.vars p.items p.horizon)

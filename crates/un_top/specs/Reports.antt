@@ -20,6 +20,7 @@ use Rattle.un_model.specs.Variables.{model_of}
 use Rattle.un_emit.specs.Emitted.{IsEmitted, start_places}
 use Rattle.un_reader.specs.Read.{IsRead}
 use Rattle.un_listing.specs.Report.{first_report_text}
+use Rattle.un_model.specs.declared.model.Options.{Options}
 use Rattle.un_problem.specs.Problems.{default_options}
 
 -- how many instructions a block's end is: none where it falls through to the next
@@ -34,14 +35,14 @@ full_packets_of block = block.freq * ((length block.ops + terminators block.term
 abbrev pub full_packets : Function → ℕ
 full_packets f = sum_by full_packets_of f.blocks
 
--- the code is that of a solution of the function's model, whose cost it has, and it does what the function does: the places
--- of the names at each block's start are the solution's
-pub record IsCodeOf (t : Table) (f : Function) (code : Code) (cost : ℕ) : Type 0 where
+-- the code is that of a solution of the function's model under these options, whose cost it has, and it does what the function does: the
+-- places of the names at each block's start are the solution's
+pub record IsCodeOf (t : Table) (f : Function) (o : Options) (code : Code) (cost : ℕ) : Type 0 where
   -- the names that are live at each block's start
   pub live : List (List NameId)
   pub are_live : AreLive f.blocks live
   pub model : Model
-  pub is_model : model ≡ model_of (extend_of (lin_of f live t)) default_options
+  pub is_model : model ≡ model_of (extend_of (lin_of f live t)) o
   pub solution : Solution
   pub is_solution : IsSolution model solution
   pub is_emitted : IsEmitted model solution.values code
@@ -55,5 +56,5 @@ pub record IsReportOf (text report : List ℕ) : Type 0 where
   pub read : IsRead text function
   pub code : Code
   pub cost : ℕ
-  pub built : IsCodeOf HEXAGON function code cost
+  pub built : IsCodeOf HEXAGON function default_options code cost
   pub printed : report ≡ first_report_text cost (full_packets function) code

@@ -1,22 +1,23 @@
 //! Code by a solution of the model.
 
 ghost use Rattle.std.specs.Prelude.{◌≡◌, IfOk};
-ghost use Rattle.un_isa.specs.Hexagon.{HEXAGON};
-ghost use Rattle.un_model.specs.Extended.{HasSmallCounts};
+ghost use Rattle.un_baseline.specs.RoomyOptions.{AreRoomyFor};
+ghost use Rattle.un_isa.specs.Fit.{IsFit};
+ghost use Rattle.un_model.specs.Options.{AreOptions};
 ghost use Rattle.un_model.specs.Solutions.{IsSolution};
-ghost use Rattle.un_model.specs.Variables.{IsModel};
-ghost use Rattle.un_problem.specs.Problems.{IsModelOf, default_options};
+ghost use Rattle.un_problem.specs.Problems.{IsProblemOf};
 ghost use Rattle.un_top.specs.Reports.{IsCodeOf};
 
 use std::alloc::Global;
 use un_base::memory_error::NoMemory;
-use un_baseline::spilled::spilled;
+use un_baseline::spill::spill_everywhere;
 use un_emit::emit::emit;
 use un_ir::function::Function;
+use un_isa::table::Table;
 use un_model::cost::cost;
-use un_model::model::{Model, Solution};
+use un_model::model::{Model, Options, Solution};
 use un_packet::code::Code;
-use un_problem::problem::{default_options, model};
+use un_problem::problem::model;
 
 /// Code with its cost.
 #[derive(Drop)]
@@ -32,11 +33,9 @@ pub fn code_by(
     model: &Model,
     solution: &Solution,
 ) -> Result<Costed, NoMemory>
-    requires model { IsModelOf HEXAGON f.now default_options model.now }
-    requires own { IsModel model.now }
-    requires counts { HasSmallCounts model.now.ext }
+    requires problem { IsProblemOf f.now model.now }
     requires solution { IsSolution model.now solution.now }
-    ensures { IfOk result (λ c. IsCodeOf HEXAGON f.now c.code c.cost) }
+    ensures { IfOk result (λ c. IsCodeOf model.now.ext.table f.now model.now.options c.code c.cost) }
 {
     let code = emit(alloc, f, &model.ext, model, solution)?;
     let cost = cost(model, solution);
@@ -45,22 +44,31 @@ pub fn code_by(
 
 /// The code of the solution of a function's model that keeps each name in a frame slot, with its cost.
 fn spilled_code(alloc: Global, f: &Function, model: &Model) -> Result<Costed, NoMemory>
-    requires model { IsModelOf HEXAGON f.now default_options model.now }
-    requires own { IsModel model.now }
-    requires counts { HasSmallCounts model.now.ext }
-    ensures { IfOk result (λ c. IsCodeOf HEXAGON f.now c.code c.cost) }
+    requires problem { IsProblemOf f.now model.now }
+    requires roomy { AreRoomyFor f.now model.now.options }
+    ensures { IfOk result (λ c. IsCodeOf model.now.ext.table f.now model.now.options c.code c.cost) }
 {
-    let solution = spilled(alloc, f, model)?;
+    let solution = spill_everywhere(alloc, model)?;
     code_by(alloc, f, model, &solution)
 }
 
-/// The code of a function, by the solution of its model that keeps each name in a frame slot of its own, with its cost.
+/// The code of a function for a table and under options, by the solution of its model that keeps each name in a frame slot of its own,
+/// with its cost.
 ///
 /// # Errors
 /// `NoMemory` where there is no memory for the function's model or its code.
-pub fn costed_code(alloc: Global, f: &Function) -> Result<Costed, NoMemory>
-    ensures { IfOk result (λ c. IsCodeOf HEXAGON f.now c.code c.cost) }
+pub fn costed_code(
+    alloc: Global,
+    f: &Function,
+    t: &Table,
+    options: &Options,
+) -> Result<Costed, NoMemory>
+    requires fit { IsFit t.now }
+    requires options { AreOptions options.now }
+    requires roomy { AreRoomyFor f.now options.now }
+    ensures { IfOk result (λ c. IsCodeOf t.now f.now options.now c.code c.cost) }
 {
-    let model = model(alloc, f, &default_options())?;
-    spilled_code(alloc, f, &model)
+    let model = model(alloc, f, t, options)?;
+    let costed = spilled_code(alloc, f, &model)?;
+    Ok(costed)
 }

@@ -4,4 +4,8 @@ use Rattle.un_domains.specs.Sets.{NoneEmpty}
 use Rattle.inspect.proofs.rounds.decide_all.Given as goal
 
 abbrev pub invariant-loop-decision : goal.invariant-loop-decision
-invariant-loop-decision l = record { live : NoneEmpty l.store.sets; long : length l.store.sets ≡ length l.fn.store.sets }
+invariant-loop-decision l = record {
+  live : NoneEmpty l.store.sets;
+  long : length l.store.sets ≡ length l.fn.store.sets;
+  marked : l.store.marked ≡ l.fn.store.marked;
+}

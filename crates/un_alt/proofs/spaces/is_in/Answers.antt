@@ -7,7 +7,7 @@ pub returns-then-i-sets : goal.returns-then-i-sets
 returns-then-i-sets c =
     let t = λ (set : List ℕ). has set c.args.n in
     let set = c.index-sets-i.result in
-    c.has.ensures ∙ (ap t (c.as_slice.ensures ∙ c.index-sets-i.is) ∙ sym (passes_within t c.args.sets.now c.args.i set c.if-i-sets.true))
+    c.contains.ensures ∙ (ap t c.index-sets-i.is ∙ sym (passes_within t c.args.sets.now c.args.i set c.if-i-sets.true))
 
 pub returns-else-i-sets : goal.returns-else-i-sets
 returns-else-i-sets c = sym (passes_past (λ (set : List ℕ). has set c.args.n) c.args.sets.now c.args.i c.if-i-sets.false)

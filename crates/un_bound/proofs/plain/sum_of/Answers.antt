@@ -31,7 +31,7 @@ loop-k-preserved c =
     let rare = block_at IsRarelyRun m.ext.blocks k block c.get-block.ensures c.requires.orderly.counts.frequencies in
     let few = few_cycles c.from.result packets (omega (arith, rare, c.from.ensures)) c.block_bound-packets.ensures.few in
     let lead = (lead_here c.loop-k.first k m.ext.blocks m.arcs block here c.get-block.ensures is c.loop-k.invariant.lead).1 in
-    let more = sum_more m.ext.table c.loop-k.first k m.ext.blocks m.arcs block here (IsPlainBound m) c.loop-k.sum packets
+    let more = sum_more c.loop-k.first k m.ext.blocks m.arcs block here (IsPlainBound m) c.loop-k.sum packets
     c.get-block.ensures is c.block_bound-packets.ensures.value c.loop-k.invariant.plain in
     record {
       plain = rw (c.len-first.ensures, c.from.ensures) more;
@@ -43,5 +43,5 @@ loop-k-preserved c =
 pub returns : goal.returns
 returns c =
     let m = c.args.m.now in
-    sum_all m.ext.table c.loop-k.first c.loop-k.k m.ext.blocks m.arcs (IsPlainBound m) c.loop-k.sum c.loop-k.invariant.plain
+    sum_all c.loop-k.first c.loop-k.k m.ext.blocks m.arcs (IsPlainBound m) c.loop-k.sum c.loop-k.invariant.plain
     (omega (arith, c.min-k-end.ensures, c.len.ensures, c.len-2.ensures, c.loop-k-test.false))

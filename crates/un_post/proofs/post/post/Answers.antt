@@ -1,5 +1,6 @@
 -- What is posted, as the clauses of `post` say it.
 use Rattle.std.proofs.Common.{◌∙◌}
+use Rattle.un_kinds.specs.FixingLaws.{fix_is}
 use Rattle.un_post.proofs.ExactProps.{exact_props}
 use Rattle.un_post.proofs.Ready.{posted_reads, posted_live, posted_grounded, posted_spans, posted_fails}
 use Rattle.un_post.proofs.post.post.Goals as goal
@@ -44,3 +45,8 @@ returns-clause-fails c =
     let r = c.requires in
     posted_fails c.args.m.now c.args.limit _ c.in_ok-posted.posted.props.items r.model r.extended r.fit r.options e.sets
     (e.asks ∙ c.in_ok-props.ensures) e.tight
+
+pub returns-clause-fixed : goal.returns-clause-fixed
+returns-clause-fixed c box =
+    let e = c.in_ok-posted.ensures in
+    fix_is c.in_ok-posted.posted.props.items _ (e.asks ∙ c.in_ok-props.ensures) e.tight box

@@ -1,11 +1,10 @@
-use Rattle.std.proofs.Common.{sym, ap, subst}
-use Rattle.un_isa.specs.Hexagon.{HEXAGON}
-use Rattle.un_model.specs.Extended.{HasSmallCounts}
-use Rattle.un_model.specs.declared.model.Model.{Model}
-use Rattle.un_problem.proofs.ProblemLaws.{small_counts}
+use Rattle.un_problem.proofs.ProblemLaws.{built, problem}
 use Rattle.un_problem.proofs.problem.model.Goals as goal
 
-pub returns-clause-counts : goal.returns-clause-counts
-returns-clause-counts c =
-    subst HasSmallCounts (sym (ap (λ (m : Model). m.ext) c.in_ok-model.ensures.gives))
-    (small_counts HEXAGON c.args.f.now c.in_ok-ext.ext c.in_ok-ext.ensures)
+pub returns-clause-problem : goal.returns-clause-problem
+returns-clause-problem c =
+    let f = c.args.f.now in
+    let t = c.args.t.now in
+    let o = c.args.options.now in
+    let m = c.in_ok-model.model in
+    problem t f o m c.requires.fit c.requires.options (built t f o c.in_ok-ext.ext m c.in_ok-ext.ensures c.in_ok-model.ensures.gives)

@@ -8,7 +8,7 @@ use Rattle.un_prop.specs.declared.run.Fix.TheVariants.{Stable, Failed as Lost}
 use Rattle.un_prop.proofs.RoundLaws.{left_of, none_of, room_kept}
 use Rattle.un_prop.specs.Sides.{side_test}
 use Rattle.un_prop.specs.Nodes.{decide_by}
-use Rattle.un_prop.specs.Queues.{AllWait}
+use Rattle.un_prop.specs.Queues.{AllWait, IsSizes}
 use Rattle.un_prop.proofs.ChildLaws.{has_one, sizes_after, ready_next, fix_stable, child_fix}
 use Rattle.un_prop.proofs.child.run_child.Goals as goal
 
@@ -56,11 +56,11 @@ run_from-requires-clause-sizes g c =
     let left = left_of (cut_by q c.args.v.0 f) f t Tighter c.in-Tighter.ensures.ends (λ e. cc e) in
     let known : HasVars vs f = λ i d lt. has_one c.args.v f c.requires.there i d lt in
     let e = c.wake_changed.ensures in
-    let noted = subst (All (λ v. get_or c.wake_changed.new.sizes v.0 0 ≡ length (set_at t v.0))) c.as_slice.ensures e.noted in
-    let others : (w : ℕ) → All (λ v. (w ≡ v.0) → ⊥) vs → get_or c.wake_changed.new.sizes w 0 ≡ get_or c.args.sizes.now w 0 =
+    let noted = subst (All (λ v. get_or c.wake_changed.new.sizes.words v.0 0 ≡ length (set_at t v.0))) c.as_slice.ensures e.noted in
+    let others : (w : ℕ) → All (λ v. (w ≡ v.0) → ⊥) vs → get_or c.wake_changed.new.sizes.words w 0 ≡ get_or c.args.sizes.now.words w 0 =
     λ w all. e.others w (subst (All (λ v. (w ≡ v.0) → ⊥)) (sym c.as_slice.ensures) all) in
-    let after = sizes_after vs (cut_by q c.args.v.0) (decide_by c.args.v q).lawful f t known c.requires.live left.0 c.args.sizes.now
-    c.wake_changed.new.sizes c.requires.sizes c.wake_changed.auto.sizes noted others in
+    let after = sizes_after vs (cut_by q c.args.v.0) (decide_by c.args.v q).lawful f t known c.requires.live left.0 c.args.sizes.now.words
+    c.wake_changed.new.sizes.words c.requires.sizes e.long noted others in
     after
 
 pub run_from-requires-clause-ready : goal.run_from-requires-clause-ready
@@ -73,19 +73,26 @@ run_from-requires-clause-ready g c =
     let left = left_of (cut_by q c.args.v.0 f) f t Tighter c.in-Tighter.ensures.ends (λ e. cc e) in
     let known : HasVars vs f = λ i d lt. has_one c.args.v f c.requires.there i d lt in
     let e = c.wake_changed.ensures in
-    let noted = subst (All (λ v. get_or c.wake_changed.new.sizes v.0 0 ≡ length (set_at t v.0))) c.as_slice.ensures e.noted in
-    let others : (w : ℕ) → All (λ v. (w ≡ v.0) → ⊥) vs → get_or c.wake_changed.new.sizes w 0 ≡ get_or c.args.sizes.now w 0 =
+    let noted = subst (All (λ v. get_or c.wake_changed.new.sizes.words v.0 0 ≡ length (set_at t v.0))) c.as_slice.ensures e.noted in
+    let others : (w : ℕ) → All (λ v. (w ≡ v.0) → ⊥) vs → get_or c.wake_changed.new.sizes.words w 0 ≡ get_or c.args.sizes.now.words w 0 =
     λ w all. e.others w (subst (All (λ v. (w ≡ v.0) → ⊥)) (sym c.as_slice.ensures) all) in
-    let after = sizes_after vs (cut_by q c.args.v.0) (decide_by c.args.v q).lawful f t known c.requires.live left.0 c.args.sizes.now
-    c.wake_changed.new.sizes c.requires.sizes c.wake_changed.auto.sizes noted others in
-    ready_next vs (cut_by q c.args.v.0) (decide_by c.args.v q).lawful f t known c.requires.live left.0 c.args.sizes.now
-    c.wake_changed.new.sizes c.requires.sizes
+    let after = sizes_after vs (cut_by q c.args.v.0) (decide_by c.args.v q).lawful f t known c.requires.live left.0 c.args.sizes.now.words
+    c.wake_changed.new.sizes.words c.requires.sizes e.long noted others in
+    ready_next vs (cut_by q c.args.v.0) (decide_by c.args.v q).lawful f t known c.requires.live left.0 c.args.sizes.now.words
+    c.wake_changed.new.sizes.words c.requires.sizes
     g.P.Predicate.scope P.cut g.met.P.Propagator.lawful c.args.props.now (length f) c.args.readers.now.rows.items c.args.waiting.now
     c.wake_changed.new.waiting c.requires.table c.requires.known after e.grows
-    (λ w. subst (λ (table : Sets). (get_or c.wake_changed.new.sizes w 0 ≡ get_or c.args.sizes.now w 0)
+    (λ w. subst (λ (table : Sets). (get_or c.wake_changed.new.sizes.words w 0 ≡ get_or c.args.sizes.now.words w 0)
     ⊎ AllWait table c.wake_changed.new.waiting w) c.as_slice-in-Tighter.ensures.value (e.woken w))
     (λ i d lt rests. c.requires.stable i d lt)
 
 pub run_from-requires-clause-room : goal.run_from-requires-clause-room
 run_from-requires-clause-room g c k d lt = room_kept _ _ _ c.args.scratch.now c.args.scratch.now c.decide.ensures.long refl refl
     (c.requires.room k d lt)
+
+pub returns-in-Same-clause-sizes : goal.returns-in-Same-clause-sizes
+returns-in-Same-clause-sizes g c h =
+    let f = c.args.store.now.sets in
+    let t = c.decide.new.store.sets in
+    let left = left_of (cut_by (side_test c.args.side c.args.x) c.args.v.0 f) f t Same c.in-Same.ensures.ends (λ e. cc e) in
+    subst (IsSizes c.args.sizes.now.words) (sym left.2) c.requires.sizes

@@ -8,7 +8,8 @@ use Rattle.un_prop.specs.Fixes.{IsFixOf, fix_greatest, round_ends, round_fails, 
 use Rattle.un_prop.specs.Pruning.{IsFix}
 use Rattle.un_prop.specs.declared.propagator.Pruned.TheVariants.{Same, Tighter}
 use Rattle.un_prop.specs.declared.run.Fix.TheVariants.{Stable, Failed as Lost}
-use Rattle.un_prop.proofs.RoundLaws.{left_of, none_of, fix_goes, round_kept, room_kept}
+use Rattle.un_prop.specs.KeepLaws.{round_kept}
+use Rattle.un_prop.proofs.RoundLaws.{left_of, none_of, fix_goes, room_kept}
 use Rattle.un_prop.proofs.run.run_all.Goals as goal
 
 pub loop-init : goal.loop-init

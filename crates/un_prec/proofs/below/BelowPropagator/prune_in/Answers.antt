@@ -20,10 +20,8 @@ returns-clause-prune c =
     let new = c.check_last.new.w.store.now in
     let did = c.keep_cost-did.result in
     let t = below_holds p.ends p.limit in
-    let ends_is = c.as_slice.ensures in
     let step = subst (λ (us : List VarId). Stepped us (below_steps us p.ends p.limit) old mid Same did) c.requires.vars
-    (subst (λ es. Stepped c.args.w.now.vars.now (below_steps c.args.w.now.vars.now es p.limit) old mid Same did) ends_is
-    c.keep_cost-did.ensures.step) in
+    c.keep_cost-did.ensures.step in
     let last = subst (λ (us : List VarId). Goes us (last_cut p.vars t) mid new did c.check_last.result)
     (ap (λ r. r.now) c.keep_cost-did.ensures.vars ∙ c.requires.vars) c.check_last.ensures.goes in
     checked p.vars p.vars (λ s. option_and_then (last_cut p.vars t) (below_steps p.vars p.ends p.limit s)) old new c.check_last.result refl

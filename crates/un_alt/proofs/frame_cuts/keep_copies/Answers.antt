@@ -1,0 +1,60 @@
+use Rattle.std.proofs.Common.{ℕ, List, Bool, true, false, ◌≡◌, ◌≢◌, ◌<◌, ◌≤◌, ◌+◌, ◌-◌, ◌∙◌, length, get_or, nat_eq, nat_le, nat_lt, not, option_and_then, refl, ap, sym}
+use Rattle.std.proofs.Common.{subst, arith}
+use Rattle.un_base.specs.declared.ids.VarId.{VarId}
+use Rattle.std.proofs.lemmas.Bool.Decides.{nat_tests}
+use Rattle.un_domains.specs.SetLaws.{least-le}
+use Rattle.un_domains.specs.Sets.{Sets, cut_by, least, greatest, set_at}
+use Rattle.un_prop.specs.Acts.{act_vars}
+use Rattle.un_prop.specs.Among.{among}
+use Rattle.un_prop.specs.AmongLaws.{has_among}
+use Rattle.un_prop.specs.EachLaws.{each_next, each_end}
+use Rattle.un_prop.specs.Going.{Stepped}
+use Rattle.un_prop.specs.GoingLaws.{stepped_same, stepped_by, stepped_chain}
+use Rattle.un_prop.specs.LookLaws.{known_of}
+use Rattle.un_prop.specs.Rounds.{HasVars, round}
+use Rattle.un_prop.specs.When.{is_only, when_cut, other_than, up_to}
+use Rattle.un_prop.specs.WhenLaws.{when_not, when_so, when_all}
+use Rattle.un_prop.specs.declared.act.Act.TheVariants.{Always}
+use Rattle.un_prop.specs.declared.propagator.Pruned.TheVariants.{Same, Failed}
+use Rattle.un_alt.specs.declared.frame.FrameUse.{FrameUse}
+use Rattle.un_alt.specs.declared.frame.FrameLeave.{FrameLeave}
+use Rattle.un_ir.specs.declared.extended.TheConstants.{SPILL, RELOAD}
+use Rattle.un_alt.specs.Frame.{FrameUseVars, FrameLeaveVars}
+use Rattle.un_alt.specs.FrameCuts.{is_unused, is_ordered, sure_use, flag_cut, touch_cut, slot_cut, op_cut, leave_op_cut, late_test, early_test}
+use Rattle.un_alt.specs.FrameCuts.{order_cut, entry_cut, copy_cut, call_cut, left_cut, use_steps, op_steps, order_steps, OrderVars}
+use Rattle.un_alt.proofs.Orders.{late_is, going}
+use Rattle.un_alt.proofs.frame_cuts.keep_copies.Goals as goal
+
+pub keep_copy-did-requires-clause-of_v : goal.keep_copy-did-requires-clause-of_v
+keep_copy-did-requires-clause-of_v c =
+    let p = c.args.p.now in
+    let i = c.loop-v.v-index in
+    let lent = c.as_slice-touch.ensures in
+    let lt : i < length p.touch = (let long = ap length lent in omega (arith, c.loop-v-test.true, long)) in
+    let d : VarId = record { 0 = 0 } in
+    subst (λ (us : List VarId). among p.vars (get_or us i d) ≡ true) (sym lent) (p.among.of_touch i d lt)
+
+pub loop-v-preserved : goal.loop-v-preserved
+loop-v-preserved c =
+    let p = c.args.p.now in
+    let i = c.loop-v.v-index in
+    let lent = c.as_slice-touch.ensures in
+    let lt : i < length p.touch = (let long = ap length lent in omega (arith, c.loop-v-test.true, long)) in
+    let d : VarId = record { 0 = 0 } in
+    let inv = c.loop-v.invariant in
+    let did = c.keep_copy-did in
+    record {
+      step = each_next c.args.w.now.vars.now c.loop-v.w.vars.now (touch_cut p.flag) p.touch i d c.args.w.now.store.now
+          c.loop-v.w.store.now did.new.w.store.now c.args.before c.loop-v.did did.result (ap (λ r. r.now) inv.vars) lt inv.step
+          (subst (λ (us : List VarId). Stepped c.loop-v.w.vars.now ((touch_cut p.flag) (get_or us i d)) c.loop-v.w.store.now
+          did.new.w.store.now c.loop-v.did did.result) lent did.ensures.step);
+      same_reference = did.ensures.same_reference ∙ inv.same_reference;
+      vars = did.ensures.vars ∙ inv.vars;
+    }
+
+pub returns-clause-step : goal.returns-clause-step
+returns-clause-step c =
+    let p = c.args.p.now in
+    let long = ap length c.as_slice-touch.ensures in
+    each_end c.args.w.now.vars.now (touch_cut p.flag) p.touch c.loop-v.v-index c.args.w.now.store.now c.loop-v.w.store.now
+    c.args.before c.loop-v.did (omega (arith, c.loop-v-test.false, long)) c.loop-v.invariant.step

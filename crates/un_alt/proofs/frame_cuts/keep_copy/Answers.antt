@@ -1,0 +1,66 @@
+use Rattle.std.proofs.Common.{ℕ, List, Bool, true, false, ◌≡◌, ◌≢◌, ◌<◌, ◌≤◌, ◌+◌, ◌-◌, ◌∙◌, length, get_or, nat_eq, nat_le, nat_lt, not, option_and_then, refl, ap, sym}
+use Rattle.std.proofs.Common.{subst, arith}
+use Rattle.un_base.specs.declared.ids.VarId.{VarId}
+use Rattle.std.proofs.lemmas.Bool.Decides.{nat_tests}
+use Rattle.un_domains.specs.SetLaws.{least-le}
+use Rattle.un_domains.specs.Sets.{Sets, cut_by, least, greatest, set_at}
+use Rattle.un_prop.specs.Acts.{act_vars}
+use Rattle.un_prop.specs.Among.{among}
+use Rattle.un_prop.specs.AmongLaws.{has_among}
+use Rattle.un_prop.specs.EachLaws.{each_next, each_end}
+use Rattle.un_prop.specs.Going.{Stepped}
+use Rattle.un_prop.specs.GoingLaws.{stepped_same, stepped_by, stepped_chain}
+use Rattle.un_prop.specs.LookLaws.{known_of}
+use Rattle.un_prop.specs.Rounds.{HasVars, round}
+use Rattle.un_prop.specs.When.{is_only, when_cut, other_than, up_to}
+use Rattle.un_prop.specs.WhenLaws.{when_not, when_so, when_all}
+use Rattle.un_prop.specs.declared.act.Act.TheVariants.{Always}
+use Rattle.un_prop.specs.declared.propagator.Pruned.TheVariants.{Same, Failed}
+use Rattle.un_alt.specs.declared.frame.FrameUse.{FrameUse}
+use Rattle.un_alt.specs.declared.frame.FrameLeave.{FrameLeave}
+use Rattle.un_ir.specs.declared.extended.TheConstants.{SPILL, RELOAD}
+use Rattle.un_alt.specs.Frame.{FrameUseVars, FrameLeaveVars}
+use Rattle.un_alt.specs.FrameCuts.{is_unused, is_ordered, sure_use, flag_cut, touch_cut, slot_cut, op_cut, leave_op_cut, late_test, early_test}
+use Rattle.un_alt.specs.FrameCuts.{order_cut, entry_cut, copy_cut, call_cut, left_cut, use_steps, op_steps, order_steps, OrderVars}
+use Rattle.un_alt.proofs.Orders.{late_is, going}
+use Rattle.un_alt.proofs.frame_cuts.keep_copy.Goals as goal
+
+pub drop_when-first-requires-clause-there : goal.drop_when-first-requires-clause-there
+drop_when-first-requires-clause-there c = has_among c.args.p.now.vars c.args.v c.args.w.now.store.now.sets c.requires.of_v c.requires.known
+
+-- the variables are still there
+still_known : (vs : List VarId) (s t : Sets) → length t ≡ length s → HasVars vs s → HasVars vs t
+still_known vs s t long k i d lt = rw long (k i d lt)
+
+pub is_unused-still-requires : goal.is_unused-still-requires
+is_unused-still-requires c =
+    let p = c.args.p.now in
+    let step1 = c.drop_when-first.ensures.step (is_unused p.flag) (λ still. c.is_unused-unused.ensures) in
+    still_known p.vars c.args.w.now.store.now.sets c.drop_when-first.new.w.store.now.sets step1.long c.requires.known
+
+pub drop_when-requires-clause-there : goal.drop_when-requires-clause-there
+drop_when-requires-clause-there c =
+    let p = c.args.p.now in
+    let step1 = c.drop_when-first.ensures.step (is_unused p.flag) (λ still. c.is_unused-unused.ensures) in
+    has_among p.vars c.args.v c.drop_when-first.new.w.store.now.sets c.requires.of_v
+    (still_known p.vars c.args.w.now.store.now.sets c.drop_when-first.new.w.store.now.sets step1.long c.requires.known)
+
+pub drop_when-requires-clause-live : goal.drop_when-requires-clause-live
+drop_when-requires-clause-live c =
+    let p = c.args.p.now in
+    let step1 = c.drop_when-first.ensures.step (is_unused p.flag) (λ still. c.is_unused-unused.ensures) in
+    step1.live c.requires.live
+
+pub returns-clause-step : goal.returns-clause-step
+returns-clause-step c =
+    let p = c.args.p.now in
+    let v = c.args.v in
+    let mid = c.drop_when-first.new.w.store.now in
+    let new = c.drop_when.new.w.store.now in
+    let first = c.drop_when-first.result in
+    let step1 = c.drop_when-first.ensures.step (is_unused p.flag) (λ still. c.is_unused-unused.ensures) in
+    let step2 = subst (λ (us : List VarId). Stepped us (when_cut (is_unused p.flag) (other_than RELOAD) v) mid new first c.drop_when.result)
+    (ap (λ r. r.now) c.drop_when-first.ensures.vars)
+    (c.drop_when.ensures.step (is_unused p.flag) (λ still. c.is_unused-still.ensures)) in
+    stepped_chain c.args.w.now.vars.now (when_cut (is_unused p.flag) (other_than SPILL) v) (when_cut (is_unused p.flag) (other_than RELOAD) v)
+    c.args.w.now.store.now mid new c.args.before first c.drop_when.result step1 step2

@@ -1,0 +1,68 @@
+use Rattle.std.proofs.Common.{ℕ, List, Bool, true, false, ◌≡◌, ◌≢◌, ◌<◌, ◌≤◌, ◌+◌, ◌-◌, ◌∙◌, length, get_or, nat_eq, nat_le, nat_lt, not, option_and_then, refl, ap, sym}
+use Rattle.std.proofs.Common.{subst, arith}
+use Rattle.un_base.specs.declared.ids.VarId.{VarId}
+use Rattle.std.proofs.lemmas.Bool.Decides.{nat_tests}
+use Rattle.un_domains.specs.SetLaws.{least-le}
+use Rattle.un_domains.specs.Sets.{Sets, cut_by, least, greatest, set_at}
+use Rattle.un_prop.specs.Acts.{act_vars}
+use Rattle.un_prop.specs.Among.{among}
+use Rattle.un_prop.specs.AmongLaws.{has_among}
+use Rattle.un_prop.specs.EachLaws.{each_next, each_end}
+use Rattle.un_prop.specs.Going.{Stepped}
+use Rattle.un_prop.specs.GoingLaws.{stepped_same, stepped_by, stepped_chain}
+use Rattle.un_prop.specs.LookLaws.{known_of}
+use Rattle.un_prop.specs.Rounds.{HasVars, round}
+use Rattle.un_prop.specs.When.{is_only, when_cut, other_than, up_to}
+use Rattle.un_prop.specs.WhenLaws.{when_not, when_so, when_all}
+use Rattle.un_prop.specs.declared.act.Act.TheVariants.{Always}
+use Rattle.un_prop.specs.declared.propagator.Pruned.TheVariants.{Same, Failed}
+use Rattle.un_alt.specs.declared.frame.FrameUse.{FrameUse}
+use Rattle.un_alt.specs.declared.frame.FrameLeave.{FrameLeave}
+use Rattle.un_ir.specs.declared.extended.TheConstants.{SPILL, RELOAD}
+use Rattle.un_alt.specs.Frame.{FrameUseVars, FrameLeaveVars}
+use Rattle.un_alt.specs.FrameCuts.{is_unused, is_ordered, sure_use, flag_cut, touch_cut, slot_cut, op_cut, leave_op_cut, late_test, early_test}
+use Rattle.un_alt.specs.FrameCuts.{order_cut, entry_cut, copy_cut, call_cut, left_cut, use_steps, op_steps, order_steps, OrderVars}
+use Rattle.un_alt.proofs.Orders.{late_is, going}
+use Rattle.un_alt.proofs.frame_cuts.keep_frame.Goals as goal
+
+pub keep_entry-entry-requires-clause-live : goal.keep_entry-entry-requires-clause-live
+keep_entry-entry-requires-clause-live c = c.keep_leaves-leaves.ensures.step.live
+    (c.keep_op-enter.ensures.step.live (c.keep_use-used.ensures.step.live (λ still. c.requires.live)))
+
+pub keep_all_left-requires-clause-live : goal.keep_all_left-requires-clause-live
+keep_all_left-requires-clause-live c = c.keep_entry-entry.ensures.step.live (c.keep_leaves-leaves.ensures.step.live
+    (c.keep_op-enter.ensures.step.live (c.keep_use-used.ensures.step.live (λ still. c.requires.live))))
+
+pub returns-clause-step : goal.returns-clause-step
+returns-clause-step c =
+    let p = c.args.p.now in
+    let vs = c.args.w.now.vars.now in
+    let s0 = c.args.w.now.store.now in
+    let s1 = c.keep_use-used.new.w.store.now in
+    let s2 = c.keep_op-enter.new.w.store.now in
+    let s3 = c.keep_leaves-leaves.new.w.store.now in
+    let s4 = c.keep_entry-entry.new.w.store.now in
+    let s5 = c.keep_all_left.new.w.store.now in
+    let r1 = c.keep_use-used.result in
+    let r2 = c.keep_op-enter.result in
+    let r3 = c.keep_leaves-leaves.result in
+    let r4 = c.keep_entry-entry.result in
+    let r5 = c.keep_all_left.result in
+    let e1 = ap (λ r. r.now) c.keep_use-used.ensures.vars in
+    let e2 = ap (λ r. r.now) c.keep_op-enter.ensures.vars ∙ e1 in
+    let e3 = ap (λ r. r.now) c.keep_leaves-leaves.ensures.vars ∙ e2 in
+    let e4 = ap (λ r. r.now) c.keep_entry-entry.ensures.vars ∙ e3 in
+    let f1 = use_steps p.flag p.touch p.ins in
+    let f2 = op_cut p.flag p.enter in
+    let f3 = round (leave_op_cut p.flag) p.leaves in
+    let f4 = round (entry_cut p.flag p.enter) p.entry in
+    let f5 = round (left_cut p.flag) p.leaves in
+    let step2 = subst (λ (us : List VarId). Stepped us f2 s1 s2 r1 r2) e1 c.keep_op-enter.ensures.step in
+    let step3 = subst (λ (us : List VarId). Stepped us f3 s2 s3 r2 r3) e2 c.keep_leaves-leaves.ensures.step in
+    let step4 = subst (λ (us : List VarId). Stepped us f4 s3 s4 r3 r4) e3 c.keep_entry-entry.ensures.step in
+    let step5 = subst (λ (us : List VarId). Stepped us f5 s4 s5 r4 r5) e4 c.keep_all_left.ensures.step in
+    let ops = op_steps p.flag p.enter p.leaves in
+    let orders = order_steps p.flag p.enter p.entry p.leaves in
+    stepped_chain vs (λ s. option_and_then ops (f1 s)) orders s0 s3 s5 Same r3 r5
+    (stepped_chain vs f1 ops s0 s1 s3 Same r1 r3 c.keep_use-used.ensures.step (stepped_chain vs f2 f3 s1 s2 s3 r1 r2 r3 step2 step3))
+    (stepped_chain vs f4 f5 s3 s4 s5 r3 r4 r5 step4 step5)

@@ -1,0 +1,13 @@
+-- the variables so far
+use Rattle.std.proofs.Common.{◌≡◌, take}
+use Rattle.un_prop.specs.Going.{Stepped}
+use Rattle.un_prop.specs.Rounds.{round}
+use Rattle.un_alt.specs.Zeros.{zero_cut}
+use Rattle.un_alt.proofs.zeros.keep_zeros.Given as goal
+
+abbrev pub invariant-loop-v : goal.invariant-loop-v
+invariant-loop-v l = record {
+  step : Stepped l.fn.w.vars.now (round (zero_cut l.p.instr) (take l.v-index l.p.others)) l.fn.w.store.now l.w.store.now l.fn.before l.did;
+  same_reference : l.w.store.ghost_name ≡ l.fn.w.store.ghost_name;
+  vars : l.w.vars ≡ l.fn.w.vars;
+}
