@@ -20,8 +20,9 @@ use Rattle.un_tree.specs.Boxes.{IsBox}
 use Rattle.un_tree.specs.Covered.{Stands, StandsIn}
 use Rattle.un_tree.specs.Waits.{Waiting, Whole, Visit, visits_of, after, IsStrict, IsStrictIn}
 use Rattle.un_branching.specs.Growths.{Listed, Stays, node_of, next_of, follow, listing, opened, one, count, blank}
-use Rattle.un_branching.specs.Searched.{IsLook, IsSearchedAt, IsSearched, IsOpenBox, IsBefore, IsBeforeIn, IsTree, HasAtLeast, HasLeast}
-use Rattle.un_branching.specs.Searched.{IsLowest, IsRefutation, IsStopped}
+use Rattle.un_tree.specs.Searched.{IsSearchedAt, IsSearched, IsOpenBox, IsBefore, IsBeforeIn, IsTree, HasAtLeast, HasLeast}
+use Rattle.un_branching.specs.Searched.{IsLook}
+use Rattle.un_tree.specs.Searched.{IsLowest, IsRefutation, IsStopped}
 use Rattle.un_branching.specs.Searching.{Waits, times, is_open, first_wait, order, Nodes, Noted, Searching, Taken}
 use Rattle.un_branching.proofs.ListedLemmas.{one_same, one_other, listed_follow, listed_whole, listed_all, listed_some, listed_nodes}
 use Rattle.un_branching.proofs.BoxLemmas.{some_of, splits_box}

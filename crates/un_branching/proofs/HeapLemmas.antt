@@ -23,7 +23,8 @@ use Rattle.un_tree.specs.Boxes.{IsBox}
 use Rattle.un_domains.specs.Order.{Below}
 use Rattle.un_domains.specs.OrderLaws.{Below-refl}
 use Rattle.un_branching.specs.Growths.{one}
-use Rattle.un_branching.specs.Searched.{IsLook, IsSearchedAt}
+use Rattle.un_tree.specs.Searched.{IsSearchedAt}
+use Rattle.un_branching.specs.Searched.{IsLook}
 use Rattle.un_branching.specs.Searching.{Waits, order, times, Enters, Noted, Searching, Taken}
 use Rattle.un_branching.proofs.ListedLemmas.{IsLeaf, one_other}
 

@@ -21,7 +21,8 @@ use Rattle.un_branching.specs.declared.attempt.Entered.{Entered}
 use Rattle.un_branching.specs.declared.attempt.Entered.TheVariants.{Leaf}
 use Rattle.un_tree.specs.Boxes.{IsBox, half, decided, Splits, reached}
 use Rattle.un_branching.specs.Growths.{Grown, Listed, IsChild, entry_at, node_of, next_of, branched, blank, count}
-use Rattle.un_branching.specs.Searched.{IsSearchedAt, IsOpenBox, IsBefore, IsLook, IsExpansion}
+use Rattle.un_tree.specs.Searched.{IsSearchedAt, IsOpenBox, IsBefore}
+use Rattle.un_branching.specs.Searched.{IsLook, IsExpansion}
 use Rattle.un_branching.specs.Searching.{Waits, times, is_open, Noted, Searching, Taken, Enters}
 use Rattle.un_branching.proofs.ListedLemmas.{IsLeaf, one_same, one_other, put, length-put, count-put, listed_fresh, listed_put}
 use Rattle.un_branching.proofs.BranchedLemmas.{cases, new_long, new_old, new_branch, new_right, new_left, new_past, boxes, boxes_old}

@@ -14,7 +14,7 @@ use Rattle.un_branching.specs.declared.problem.Look.TheVariants.{Failed, Found, 
 use Rattle.un_branching.specs.declared.attempt.Entered.{Entered}
 use Rattle.un_branching.specs.declared.attempt.Entered.TheVariants.{Leaf, Solution}
 use Rattle.un_tree.specs.Boxes.{IsBox}
-use Rattle.un_branching.specs.Searched.{IsSearchedAt, IsBefore}
+use Rattle.un_tree.specs.Searched.{IsSearchedAt, IsBefore}
 use Rattle.un_branching.specs.Growths.{Grown, entry_at, node_of, one}
 
 -- an open node: its least cost, and its place

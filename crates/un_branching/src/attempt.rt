@@ -4,7 +4,8 @@ ghost use Rattle.std.specs.Prelude.{◌≡◌, ℕ, ◌+◌, ◌<◌, ◌≤◌,
 ghost use Rattle.std.specs.List.Sorted.{IsPermutation};
 ghost use Rattle.std.specs.BinaryHeap.{heap_items, IsHeap};
 ghost use Rattle.un_domains.specs.Sets.{NoneEmpty};
-ghost use Rattle.un_branching.specs.Searched.{IsTried, IsByRoot, IsOpenBox};
+ghost use Rattle.un_tree.specs.Searched.{IsOpenBox};
+ghost use Rattle.un_branching.specs.Searched.{IsTried, IsByRoot};
 ghost use Rattle.un_branching.specs.Searching.{Enters, Searching, Taken, first_wait, order};
 
 use crate::growth::{Entry, begin, branch, leaf_alone, list, path_to};

@@ -4,7 +4,8 @@ ghost use Rattle.std.specs.Prelude.{◌≡◌, ℕ, ◌<◌, ◌≤◌, List, le
 ghost use Rattle.un_domains.specs.Sets.{Sets, IsIn, NoneEmpty};
 ghost use Rattle.un_domains.specs.Order.{Below};
 ghost use Rattle.un_tree.specs.Boxes.{reached, IsBox};
-ghost use Rattle.un_branching.specs.Searched.{IsLook, IsExpansion, IsOpenBox, WhenOpen};
+ghost use Rattle.un_tree.specs.Searched.{IsOpenBox};
+ghost use Rattle.un_branching.specs.Searched.{IsLook, IsExpansion, WhenOpen};
 
 use un_base::ids::VarId;
 use un_base::memory_error::NoMemory;

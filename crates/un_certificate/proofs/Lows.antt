@@ -20,11 +20,12 @@ use Rattle.un_bound.proofs.Plains.{plain_below}
 use Rattle.un_post.proofs.Exact.{of_domains}
 use Rattle.un_tree.proofs.CoverLaws.{covered}
 use Rattle.un_tree.specs.Covered.{InOpen, IsOpenAt, Stands}
+use Rattle.un_tree.specs.Searched.{HasAtLeast}
 use Rattle.un_tree.specs.Waits.{Waiting, Whole, Visit, IsStrict, visits_of}
 use Rattle.un_tree.specs.declared.node.Node.{Node}
 use Rattle.un_tree.specs.declared.node.Node.TheVariants.{Branch, Closed, Open}
 use Rattle.un_certificate.specs.Bounds.{IsBound}
-use Rattle.un_certificate.specs.Certificates.{IsOpenLeast, IsMade, IsBelow, IsCertificate, root_of}
+use Rattle.un_certificate.specs.Certificates.{IsBelow, IsCertificate, root_of}
 
 -- a number below the least cost of the members, where there is one, is below each member's cost
 module _ (m : Model) (b : Sets) (low : ℕ) (below : (l : ℕ) → IsLeast m b l → low ≤ l) where
@@ -46,7 +47,7 @@ module _ (m : Model) (b : Sets) (low : ℕ) (below : (l : ℕ) → IsLeast m b l
 
 module _ (m : Model) (x : Solution) (low : ℕ) (own : IsModel m) (extended : IsExtended m.ext) (fit : IsFit m.ext.table)
     (options : AreOptions m.options) (is : IsSolution m x) where
-  open_above : (node : Node) (w : Waiting) → ((l : ℕ) → IsOpenLeast m node w l → low ≤ l) → IsOpenAt x.values node w → low ≤ cost_of m x
+  open_above : (node : Node) (w : Waiting) → HasAtLeast (IsLeast m) low node w → IsOpenAt x.values node w → low ≤ cost_of m x
   open_above (Branch v y) w below h = absurd h
   open_above Closed w below h = absurd h
   open_above Open (Whole b) below h =
@@ -54,23 +55,19 @@ module _ (m : Model) (x : Solution) (low : ℕ) (own : IsModel m) (extended : Is
       subst (λ (n : ℕ). low ≤ n) t.2 (member_above m b low below t.0 t.1)
 
   -- a solution in an open leaf's box costs no less than the lowest of the open leaves
-  pub solution_above : (ps : List Visit) → AllByRecursion (λ (p : Visit). (l : ℕ) → IsOpenLeast m p.node p.waiting l → low ≤ l) ps
+  pub solution_above : (ps : List Visit) → AllByRecursion (λ (p : Visit). HasAtLeast (IsLeast m) low p.node p.waiting) ps
       → InOpen x.values ps → low ≤ cost_of m x
   solution_above [] all h = absurd h
   solution_above (p ∷ ps) all (inl here) = open_above p.node p.waiting all.0 here
   solution_above (p ∷ ps) all (inr later) = solution_above ps all.1 later
 
-strict_each : (m : Model) (limit : Option ℕ) (ps : List Visit) → AllByRecursion (IsMade m limit) ps → AllByRecursion IsStrict ps
-strict_each m limit [] all = tt
-strict_each m limit (p ∷ ps) all = (all.0.strict, strict_each m limit ps all.1)
-
 -- values that are a solution below the limit are in the box of an open leaf
 pub below_open : (m : Model) (limit : Option ℕ) (nodes : List Node) → IsModel m → IsCertificate m limit nodes → (x : List ℕ)
     → IsBelow m limit x → InOpen x (visits_of (root_of m) nodes)
 below_open m limit nodes own c x is =
-    covered (IsBelow m limit) x is 0 nodes (Whole (root_of m) ∷ []) c.whole
-    (strict_each m limit _ (recursion_from_All (IsMade m limit) (visits_of (root_of m) nodes) c.made))
-    (recursion_from_All (Stands (IsBelow m limit)) (visits_of (root_of m) nodes) c.stands)
+    covered (IsBelow m limit) x is 0 nodes (Whole (root_of m) ∷ []) c.tree.whole
+    (recursion_from_All IsStrict (visits_of (root_of m) nodes) c.tree.strict)
+    (recursion_from_All (Stands (IsBelow m limit)) (visits_of (root_of m) nodes) c.tree.stands)
     (inl ((of_domains m.domains (root_of m) x refl).1 is.0.in_domains))
 
 -- no solution costs less than the bound

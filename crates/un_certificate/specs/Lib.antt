@@ -1,3 +1,2 @@
-pub mod Certificates
 pub mod Bounds
-pub mod Fixes
+pub mod Certificates

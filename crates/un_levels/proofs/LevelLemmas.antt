@@ -17,7 +17,8 @@ use Rattle.un_tree.specs.declared.node.Decision.{Decision}
 use Rattle.un_tree.specs.Boxes.{IsBox, Splits, half, decided, reached}
 use Rattle.un_branching.specs.declared.problem.Look.{Look}
 use Rattle.un_branching.specs.declared.problem.Look.TheVariants.{Failed, Found, Open as Alive}
-use Rattle.un_branching.specs.Searched.{IsOpenBox, HasTwo, WhenOpen}
+use Rattle.un_tree.specs.Searched.{IsOpenBox, HasTwo}
+use Rattle.un_branching.specs.Searched.{WhenOpen}
 use Rattle.un_levels.specs.Levels.{Sheet, IsEnd, IsRun, IsCutTo, Leveled, AtPath, ways}
 use Rattle.un_branching.proofs.BoxLemmas.{half_box}
 use Rattle.un_branching.proofs.WalkLemmas.{reached-push}

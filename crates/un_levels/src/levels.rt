@@ -2,7 +2,8 @@
 
 ghost use Rattle.std.specs.Prelude.{◌≡◌, ℕ, ◌+◌, ◌<◌, ◌≤◌, List, [], ◌∷◌, ◌++◌, All, length, take, Some, None, IfOk, OnOk, IsTrue, ◌↔◌};
 ghost use Rattle.un_tree.specs.Boxes.{IsBox, Splits, decided, reached};
-ghost use Rattle.un_branching.specs.Searched.{IsLook, IsExpansion, IsOpenBox, WhenOpen};
+ghost use Rattle.un_tree.specs.Searched.{IsOpenBox};
+ghost use Rattle.un_branching.specs.Searched.{IsLook, IsExpansion, WhenOpen};
 ghost use Rattle.un_levels.specs.Levels.{AtPath, IsCutTo, IsReady, IsRun};
 
 use crate::rounds::Rounds;

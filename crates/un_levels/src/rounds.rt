@@ -4,7 +4,8 @@ ghost use Rattle.std.specs.Prelude.{◌≡◌, ℕ, ◌<◌, ◌≤◌, List, []
 ghost use Rattle.un_domains.specs.Sets.{Sets, IsIn, NoneEmpty};
 ghost use Rattle.un_domains.specs.Order.{Below};
 ghost use Rattle.un_tree.specs.Boxes.{IsBox, Splits, decided};
-ghost use Rattle.un_branching.specs.Searched.{IsLook, HasTwo};
+ghost use Rattle.un_tree.specs.Searched.{HasTwo};
+ghost use Rattle.un_branching.specs.Searched.{IsLook};
 ghost use Rattle.un_levels.specs.Levels.{Sheet, IsEnd, IsRun};
 
 use un_base::ids::VarId;

@@ -3,7 +3,7 @@ use Rattle.un_tree.specs.declared.node.Decision.{Decision}
 use Rattle.un_branching.specs.declared.growth.Entry.{Entry}
 use Rattle.un_branching.specs.Growths.{entry_at}
 use Rattle.un_tree.specs.Boxes.{IsBox}
-use Rattle.un_branching.specs.Searched.{IsOpenBox}
+use Rattle.un_tree.specs.Searched.{IsOpenBox}
 use Rattle.un_branching.proofs.StepLemmas.{taken_path, taken_open, step_goes}
 use Rattle.un_branching.proofs.attempt.step.Goals as goal
 

@@ -2,7 +2,8 @@ use Rattle.std.proofs.Common.{◌∙◌, refl, sym, ap, subst}
 use Rattle.un_domains.specs.Sets.{Sets}
 use Rattle.un_prop.specs.declared.side.Side.TheVariants.{AtMost, Above}
 use Rattle.un_tree.specs.Boxes.{half, reached, Splits}
-use Rattle.un_branching.specs.Searched.{HasTwo, IsLook}
+use Rattle.un_tree.specs.Searched.{HasTwo}
+use Rattle.un_branching.specs.Searched.{IsLook}
 use Rattle.un_levels.proofs.LevelLemmas.{at_end, choice_at, choice_of, side_known, side_inside}
 use Rattle.un_levels.proofs.levels.expand.Goals as goal
 
