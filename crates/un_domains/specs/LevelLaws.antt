@@ -1,8 +1,10 @@
 -- Laws of levels of saved words.
-use Rattle.std.proofs.Common.{ℕ, zero, suc, take, ◌≡◌, ◌<◌, ◌≤◌, ◌+◌, Bool, true, false, List, [], ◌∷◌, ◌++◌, length, get_or, set, sum_by}
+use Rattle.std.proofs.Common.{ℕ, zero, suc, take, ◌≡◌, ◌≢◌, ◌<◌, ◌≤◌, ◌+◌, Bool, true, false, List, [], ◌∷◌, ◌++◌, length, get_or, set}
+use Rattle.std.proofs.Common.{sum_by}
 use Rattle.std.proofs.Common.{All, vec_capacity, replicate, refl, sym, ap, ◌∙◌, subst, arith, inl, inr}
 use Rattle.std.specs.List.{AllByRecursion}
-use Rattle.std.proofs.lemmas.List.{set-set, set_comm, set-get_or, get_or-set_other, get_or-replicate, get_or_past, length-set}
+use Rattle.std.proofs.lemmas.List.{set-set, set_comm, set-get_or, get_or-set_same, get_or-set_other, get_or-replicate, get_or_past}
+use Rattle.std.proofs.lemmas.List.{length-set}
 use Rattle.std.proofs.lemmas.List.{length-replicate, length_push, map-append}
 use Rattle.std.proofs.lemmas.Bool.{cases_lt}
 use Rattle.std.proofs.lemmas.List.Sums.{sum_by-cons, sum_by-set}
@@ -13,7 +15,7 @@ use Rattle.un_domains.specs.SetLaws.{has-cons, same_or_not}
 use Rattle.un_domains.specs.OrderLaws.{has_here, has_later}
 use Rattle.un_domains.specs.declared.levels.Saved.{Saved}
 use Rattle.un_domains.specs.declared.levels.Level.{Level}
-use Rattle.un_domains.specs.Levels.{unwind, unwind_all, marked_of, places, flag, IsLevel, IsSave}
+use Rattle.un_domains.specs.Levels.{unwind, unwind_all, marked_of, places, flag, IsLevel, IsClean, IsSave}
 
 pub length-unwind : (es : List Saved) (ws : List ℕ) → length (unwind es ws) ≡ length ws
 length-unwind [] ws = refl
@@ -137,6 +139,56 @@ level_new n l saved entries room = record {
   room = room;
 }
 
+-- a level whose words are given back, one by one
+
+pub last_within : (n : ℕ) (old new : List Saved) (e : Saved) → old ≡ new ++ e ∷ [] → All (λ (x : Saved). x.at < n) old → e.at < n
+last_within n old new e is all = by new (recursion_from_All _ _ (subst (All (λ (x : Saved). x.at < n)) is all))
+  where
+    by : (es : List Saved) → AllByRecursion (λ (x : Saved). x.at < n) (es ++ e ∷ []) → e.at < n
+    by [] h = h.0
+    by (x ∷ es) h = by es h.1
+
+has_split : (xs : List ℕ) (y i : ℕ) → has (xs ++ y ∷ []) i ≡ true → i ≢ y → has xs i ≡ true
+has_split [] y i h ne = elim (has-cons y i [] h) [ inl e ↦ absurd (ne e) | inr k ↦ k ]
+has_split (x ∷ xs) y i h ne = elim (has-cons x i (xs ++ y ∷ []) h) [
+  | inl e ↦ subst (λ (k : ℕ). has (k ∷ xs) i ≡ true) e (has_here i xs)
+  | inr k ↦ has_later x i xs (has_split xs y i k ne)
+]
+
+pub saved_popped : (old new : List Saved) (e : Saved) (bs : List Bool) → old ≡ new ++ e ∷ [] → e.at < length bs
+    → ((i : ℕ) → get_or bs i false ≡ true → has (places old) i ≡ true)
+    → (i : ℕ) → get_or (set bs e.at false) i false ≡ true → has (places new) i ≡ true
+saved_popped old new e bs is lt all i on = elim (same_or_not i e.at) [
+  | inl same ↦ absurd (let off = get_or-set_same bs e.at false false lt in
+      let bad : false ≡ true = sym off ∙ subst (λ (k : ℕ). get_or (set bs e.at false) k false ≡ true) same on in cc bad)
+  | inr ne ↦ (let before : get_or bs i false ≡ true = sym (get_or-set_other bs e.at i false false ne) ∙ on in
+      let at : places old ≡ places new ++ e.at ∷ [] = ap places is ∙ map-append (λ (x : Saved). x.at) new (e ∷ []) in
+      has_split (places new) e.at i (subst (λ (xs : List ℕ). has xs i ≡ true) at (all i before)) ne)
+]
+
+pub none_of : (es : List Saved) → length es ≡ 0 → es ≡ []
+none_of [] e = refl
+none_of (x ∷ es) e = absurd (omega (arith, e))
+
+none_up : (bs : List Bool) → ((i : ℕ) → get_or bs i false ≡ true → ⊥) → sum_by flag bs ≡ 0
+none_up [] off = refl
+none_up (true ∷ bs) off = absurd (off zero refl)
+none_up (false ∷ bs) off = let rest = none_up bs (λ i on. off (suc i) on) in omega (arith, sum_by-cons flag false bs, rest)
+
+pub level_cleaned : (n : ℕ) (l : Level) → length l.saved.items ≡ n → l.entries.items ≡ [] → n ≤ vec_capacity l.entries
+    → ((i : ℕ) → get_or l.saved.items i false ≡ true → has (places l.entries.items) i ≡ true) → IsClean n l
+level_cleaned n l flags none room there = record {
+  level = record {
+    flags = flags;
+    there = there;
+    within = subst (All (λ (x : Saved). x.at < n)) (sym none) (λ k d lt. absurd (omega (arith, lt)));
+    count = none_up l.saved.items (λ i on. let h = subst (λ (es : List Saved). has (places es) i ≡ true) none (there i on) in cc h)
+        ∙ sym (ap length none);
+    room = room;
+  };
+  none = none;
+}
+
 -- All levels
 
 pub marked_same : (ls : List Level) (l l' : Level) (ws ws' : List ℕ) → unwind l'.entries.items ws' ≡ unwind l.entries.items ws
@@ -230,3 +282,11 @@ pub levels_popped : (n m : ℕ) (old new : List Level) (l : Level) → m ≡ n �
 levels_popped n m old new l e is all =
     subst (λ (k : ℕ). All (IsLevel k) new) (sym e)
     (All-from_recursion _ _ (but_last n new l (recursion_from_All _ _ (subst (All (IsLevel n)) is all))))
+
+-- one more that is kept
+pub clean_more : (n : ℕ) (spare : List Level) (l : Level) → All (IsClean n) spare → IsClean n l → All (IsClean n) (spare ++ l ∷ [])
+clean_more n spare l all h = All-from_recursion _ _ (by spare (recursion_from_All _ _ all))
+  where
+    by : (ls : List Level) → AllByRecursion (IsClean n) ls → AllByRecursion (IsClean n) (ls ++ l ∷ [])
+    by [] rest = (h, tt)
+    by (x ∷ ls) rest = (rest.0, by ls rest.1)

@@ -40,6 +40,16 @@ pub record IsLevel (n : ℕ) (l : Level) : Type 0 where
   pub count : sum_by flag l.saved.items ≡ length l.entries.items
   pub room : n ≤ vec_capacity l.entries
 
+-- a level in which no word is saved
+pub record IsClean (n : ℕ) (l : Level) : Type 0 where
+  pub level : IsLevel n l
+  pub none : l.entries.items ≡ []
+
+-- the levels of the marks, and those that are kept for marks to come
+pub record AreLevels (n : ℕ) (levels spare : List Level) : Type 0 where
+  pub marks : All (IsLevel n) levels
+  pub clean : All (IsClean n) spare
+
 -- the level after the word at i is saved, if it was not
 pub record IsSave (n i old : ℕ) (before after : Level) : Type 0 where
   pub level : IsLevel n after

@@ -4,7 +4,7 @@ use Rattle.std.proofs.Common.{◌||◌, ◌&&◌, List, [], ◌∷◌, ◌++◌,
 use Rattle.std.proofs.Common.{nat_le, All, refl, sym, ap, ◌∙◌, subst, arith, inl, inr, length-take-le, length-drop, append_assoc}
 use Rattle.std.proofs.Common.{length-append}
 use Rattle.std.proofs.lemmas.List.{get_or_append_left, get_or-set_same, get_or-take, get_or-drop, get_or-map, get_or_default, length-map}
-use Rattle.std.proofs.lemmas.List.{length-set, length_push, map-append, get_or-set_other, get_or-append-add, get_or-replicate}
+use Rattle.std.proofs.lemmas.List.{length-set, length_push, map-append, get_or-set_other, get_or-append-add, get_or-replicate, get_or_past}
 use Rattle.std.proofs.lemmas.List.{length-replicate, ext_get_or}
 use Rattle.std.proofs.Math.Seq.{get_or-append_seam}
 use Rattle.std.proofs.lemmas.Bool.{cases_lt}
@@ -214,6 +214,7 @@ module _ (hs : List Shape) (ws us : List ℕ) (marked marked' : List (List ℕ))
     now = moved.1;
     before = subst (All (λ us. All (IsLaid us) hs)) (sym cut.marked) store.before;
     full = subst (All (λ us. NoneEmpty (sets_of hs us))) (sym cut.marked) store.full;
+    deep = omega (arith, ap length cut.marked, store.deep);
   }
 
   new_long : length (set_at (sets_of hs us) v) ≡ length (places_of us h.at h.n)
@@ -810,6 +811,7 @@ add_store hs old new d h few domain store added = (
     now = All-from_recursion _ _ (all_one_more (IsLaid new) hs h more.1 added.laid);
     before = λ i x lt. absurd (omega (arith, lt));
     full = λ i x lt. absurd (omega (arith, lt));
+    deep = omega arith;
   },
   map-append (set_of new) hs (h ∷ [])
       ∙ (ap (λ (xss : Sets). xss ++ set_of new h ∷ []) more.0 ∙ ap (λ (xs : List ℕ). sets_of hs old ++ xs ∷ []) added.values),
@@ -845,9 +847,9 @@ all_split P (y ∷ ys) x all = let rest = all_split P ys x all.1 in ((all.0, res
 
 pub mark_store : {X E : Type 0} (hs : List Shape) (old new : MarkedWords) (r : Result X E)
     → OnOk r (new.marked ≡ old.marked ++ old.words ∷ [])
-    → new.words ≡ old.words → OnErr r (new ≡ old) → NoneEmpty (sets_of hs old.words) → IsStore hs old.words old.marked
-    → IsStore hs new.words new.marked
-mark_store hs old new (Ok x) ok words err live h = record {
+    → new.words ≡ old.words → OnErr r (new ≡ old) → NoneEmpty (sets_of hs old.words) → length old.marked + 1 < 2 ^ 32
+    → IsStore hs old.words old.marked → IsStore hs new.words new.marked
+mark_store hs old new (Ok x) ok words err live few h = record {
   few = h.few;
   apart = h.apart;
   domains = h.domains;
@@ -856,8 +858,9 @@ mark_store hs old new (Ok x) ok words err live h = record {
       (All-from_recursion _ _ (all_one_more (λ us. All (IsLaid us) hs) old.marked old.words (recursion_from_All _ _ h.before) h.now));
   full = subst (All (λ us. NoneEmpty (sets_of hs us))) (sym ok)
       (All-from_recursion _ _ (all_one_more (λ us. NoneEmpty (sets_of hs us)) old.marked old.words (recursion_from_All _ _ h.full) live));
+  deep = omega (arith, ap length ok, length_push old.marked old.words, few);
 }
-mark_store hs old new (Err e) ok words err live h = subst (λ (c : MarkedWords). IsStore hs c.words c.marked) (sym err) h
+mark_store hs old new (Err e) ok words err live few h = subst (λ (c : MarkedWords). IsStore hs c.words c.marked) (sym err) h
 
 pub undo_store : (hs : List Shape) (old new : MarkedWords) → old.marked ≡ new.marked ++ new.words ∷ [] → IsStore hs old.words old.marked
     → IsStore hs new.words new.marked × NoneEmpty (sets_of hs new.words)
@@ -873,6 +876,49 @@ undo_store hs old new is h =
         now = laid.1;
         before = All-from_recursion _ _ laid.0;
         full = All-from_recursion _ _ full.0;
+        deep = omega (arith, ap length is, length_push new.marked new.words, h.deep);
       },
       full.1,
     )
+
+-- each mark has as many sets
+pub long_map : (hs : List Shape) (n : ℕ) (marked : List (List ℕ)) → n ≡ length hs → All (λ m. length m ≡ n) (map (sets_of hs) marked)
+long_map hs n marked e = All-from_recursion _ _ (by marked)
+  where
+    by : (ms : List (List ℕ)) → AllByRecursion (λ m. length m ≡ n) (map (sets_of hs) ms)
+    by [] = tt
+    by (m ∷ ms) = (length-map hs (set_of m) ∙ sym e, by ms)
+
+some_shape : (hs : List Shape) → 0 < length hs → Shape
+some_shape [] lt = absurd (omega (arith, lt))
+some_shape (h ∷ hs) lt = h
+
+-- two values are a choice
+module _ (hs : List Shape) (ws : List ℕ) (marked : List (List ℕ)) (store : IsStore hs ws marked) where
+  spread_at : (v : ℕ) (h : Shape) → v < length hs → h ≡ get_or hs v h → 1 < length (set_at (sets_of hs ws) v)
+      → least (set_at (sets_of hs ws) v) < greatest (set_at (sets_of hs ws) v)
+  spread_at v h below at two =
+      let laid = laid_at hs ws marked store v h below at in
+      let domain = domain_at hs ws marked store v h below at in
+      let is = old_set hs ws marked store v h below at in
+      let lo = get_or ws h.at 0 in
+      let end = get_or ws (h.at + 1) 0 in
+      let some : 0 < length (set_of ws h) = subst (λ (xs : List ℕ). 0 < length xs) is (omega (arith, two)) in
+      let lt : lo < end = bounds_lt h ws laid domain some in
+      let wide : lo + (end - lo) ≡ end = omega (arith, lt) in
+      let most : length (members (row_of ws h.at h.n) lo (lo + (end - lo))) ≤ end - lo =
+      le_width (row_of ws h.at h.n) lo (end - lo) (omega (arith, wide, laid.tight.within)) in
+      let small : length (places_of ws h.at h.n) ≤ end - lo =
+      subst (λ (e : ℕ). length (members (row_of ws h.at h.n) lo e) ≤ end - lo) wide most in
+      let apart : lo < end - 1 = omega (arith, small, two, old_long hs ws marked store v h below at) in
+      let rise = value_rises h.first lo (end - 1) domain.rises apart (omega (arith, lt, laid.counted)) in
+      let a = ap least is ∙ least_value h ws laid domain some in
+      let b = ap greatest is ∙ greatest_value h ws laid domain some in
+      omega (arith, rise, a, b)
+
+  pub spread_all : (v : ℕ) → 1 < length (set_at (sets_of hs ws) v) → least (set_at (sets_of hs ws) v) < greatest (set_at (sets_of hs ws) v)
+  spread_all v two = elim (cases_lt v (length hs)) [
+    | inl lt ↦ (let d = some_shape hs (omega (arith, lt)) in spread_at v (get_or hs v d) lt (get_or_default hs v d (get_or hs v d) lt) two)
+    | inr le ↦ absurd (let none = ap length (get_or_past (sets_of hs ws) v [] (omega (arith, le, length-map hs (set_of ws)))) in
+        omega (arith, none, two))
+  ]

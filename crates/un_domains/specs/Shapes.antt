@@ -37,7 +37,7 @@ AreApart hs = (v w : ℕ) (d : Shape) → v < length hs → w < length hs → v 
     → ((slice_index_or hs v d).at + 2 + (slice_index_or hs v d).n ≤ (slice_index_or hs w d).at)
     ⊎ ((slice_index_or hs w d).at + 2 + (slice_index_or hs w d).n ≤ (slice_index_or hs v d).at)
 
--- the words now and those of each mark hold sets of these shapes, and no set of a mark is empty
+-- the words now and those of each mark hold sets of these shapes, no set of a mark is empty, and there are fewer than 2^32 marks
 pub record IsStore (hs : List Shape) (ws : List ℕ) (marked : List (List ℕ)) : Type 0 where
   pub few : length hs < 2 ^ 32
   pub apart : AreApart hs
@@ -45,6 +45,7 @@ pub record IsStore (hs : List Shape) (ws : List ℕ) (marked : List (List ℕ)) 
   pub now : All (IsLaid ws) hs
   pub before : All (λ us. All (IsLaid us) hs) marked
   pub full : All (λ us. NoneEmpty (sets_of hs us)) marked
+  pub deep : length marked < 2 ^ 32
 
 -- the words are the same but for those of the variable at this place, with n words of bits
 pub record SameOutside (at n : ℕ) (old new : List ℕ) : Type 0 where

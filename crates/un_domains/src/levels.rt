@@ -2,7 +2,7 @@
 
 ghost use Rattle.std.specs.Prelude.{◌≡◌, ℕ, ◌+◌, ◌<◌, ◌≤◌, List, [], ◌∷◌, ◌++◌, length, slice_index, slice_set, OnOk, OnErr, IfOk, All};
 ghost use Rattle.std.specs.Prelude.{vec_capacity};
-ghost use Rattle.un_domains.specs.Levels.{IsLevel, IsSave, marked_of, unwind};
+ghost use Rattle.un_domains.specs.Levels.{IsLevel, IsClean, IsSave, marked_of, unwind};
 
 use std::alloc::{AllocError, Global};
 
@@ -22,7 +22,7 @@ pub struct Level {
 
 /// A level in which no word is saved, with room for `n`.
 pub fn new_level(alloc: Global, n: usize) -> Result<Level, AllocError>
-    ensures { IfOk result (λ l. IsLevel n l × (l.entries.items ≡ [])) }
+    ensures { IfOk result (IsClean n) }
 {
     let saved = vec![in alloc; false; n]?;
     let entries = Vec::with_capacity(alloc, n)?;
@@ -44,13 +44,37 @@ pub fn save(level: &mut Level, i: usize, old: u64)
     }
 }
 
-/// Gives the saved words back, the last first.
-pub fn restore(words: &mut Vec<u64>, entries: &mut Vec<Saved>)
-    requires { All (λ (e : Saved). e.at < length words.old.items) entries.old.items }
-    ensures { words.new.items ≡ unwind entries.old.items words.old.items }
+/// A level in which no word is saved: one that is spare, or a new one.
+pub fn clean_level(spare: &mut Vec<Level>, alloc: Global, n: usize) -> Result<Level, AllocError>
+    requires { All (IsClean n) spare.old.items }
+    ensures level { IfOk result (IsClean n) }
+    ensures spare { All (IsClean n) spare.new.items }
 {
-    while let Some(entry) = entries.pop() {
+    match spare.pop() {
+        Some(level) => Ok(level),
+        None => new_level(alloc, n),
+    }
+}
+
+/// Gives the saved words back, the last first, and leaves none saved. It costs what was saved.
+pub fn restore(words: &mut Vec<u64>, level: &mut Level)
+    requires { IsLevel (length words.old.items) level.old }
+    ensures words { words.new.items ≡ unwind level.old.entries.items words.old.items }
+    ensures level { IsClean (length words.old.items) level.new }
+{
+    while let Some(entry) = level.entries.pop() {
         words[entry.at] = entry.old;
+        level.saved[entry.at] = false;
+    }
+}
+
+/// Keeps a level for marks to come, where there is room for it.
+pub fn keep(spare: &mut Vec<Level>, level: Level)
+    ensures { (n : ℕ) → All (IsClean n) spare.old.items → IsClean n level → All (IsClean n) spare.new.items }
+{
+    match spare.push(level) {
+        Ok(()) => {}
+        Err(_) => {}
     }
 }
 

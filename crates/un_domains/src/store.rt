@@ -22,6 +22,9 @@ use un_base::ids::VarId;
 use un_base::memory_error::NoMemory;
 use un_lists::items::Items;
 
+/// How many marks there may be at once.
+const MOST_MARKS: usize = u32::MAX as usize;
+
 /// A set of values for each variable, and the sets of each mark. Contracts see the lists of the values, rising. The store
 /// has failed where some set is empty. A set is the bounds and the bits of the places in the variable's first domain: a
 /// look at a bound costs nothing more, a cut costs the words that it passes.
@@ -136,10 +139,15 @@ impl Store {
         })
     }
 
-    /// There are fewer than 2^32 variables, and no set of a mark is empty.
+    /// There are fewer than 2^32 variables and fewer than 2^32 marks, each mark has as many sets, none of them empty, and two values
+    /// of a variable are a choice.
     pub fn facts(&self)
         ensures few { length self.now.sets < 2 ^ 32 }
+        ensures marks { length self.now.marked < 2 ^ 32 }
         ensures full { All NoneEmpty self.now.marked }
+        ensures long { All (λ m. length m ≡ length self.now.sets) self.now.marked }
+        ensures spread { (v : ℕ) → 1 < length (set_at self.now.sets v)
+            → least (set_at self.now.sets v) < greatest (set_at self.now.sets v) }
     {
         let _ = &self.shapes;
     }
@@ -246,20 +254,22 @@ impl Store {
 
     /// How many marks there are.
     pub fn marks(&self) -> u32
-        requires { length self.now.marked < 2 ^ 32 }
         ensures { result ≡ length self.now.marked }
     {
         self.words.marks() as u32
     }
 
-    /// A mark of the sets as they are. Room for each word is taken here, so that cuts take none. After want of memory
-    /// nothing changed.
+    /// A mark of the sets as they are. Room for each word is taken here, so that cuts take none. There is none after `MOST_MARKS`
+    /// marks. After want of memory nothing changed.
     pub fn mark(&mut self) -> Result<(), NoMemory>
         requires { NoneEmpty self.old.sets }
         ensures ok { OnOk result (self.new.marked ≡ self.old.marked ++ self.old.sets ∷ []) }
         ensures sets { self.new.sets ≡ self.old.sets }
         ensures err { OnErr result (self.new ≡ self.old) }
     {
+        if self.words.marks() >= MOST_MARKS {
+            return Err(NoMemory);
+        }
         self.words.mark(self.alloc)?;
         Ok(())
     }

@@ -2,26 +2,28 @@
 
 ghost use Rattle.std.specs.Prelude.{◌≡◌, ℕ, ◌+◌, ◌<◌, ◌≤◌, List, [], ◌∷◌, ◌++◌, length, slice_index, slice_set, OnOk, OnErr, All};
 
-use crate::levels::{Level, new_level, note, restore};
+use crate::levels::{Level, clean_level, keep, note, restore};
 use std::alloc::{AllocError, Global};
 use std::marker::Model;
 
-/// Words with marks: `undo` gives back the words of the last.
+/// Words with marks: `undo` gives back the words of the last. What a mark needs is kept for marks to come, so that a mark and its
+/// way back cost what changed in between.
 #[derive(Drop)]
 pub struct Words {
     words: Vec<u64>,
     levels: Vec<Level>,
+    spare: Vec<Level>,
 }
 
 impl Model for Words {
     ghost use Rattle.std.specs.Prelude.{length, All};
-    ghost use Rattle.un_domains.specs.Levels.{MarkedWords, marked_of, IsLevel};
+    ghost use Rattle.un_domains.specs.Levels.{MarkedWords, marked_of, AreLevels};
 
     ghost Value = { MarkedWords };
 
     ghost view = { λ a. record { words = a.words.items; marked = marked_of a.levels.items a.words.items } };
 
-    ghost invariant = { λ a. All (IsLevel (length a.words.items)) a.levels.items };
+    ghost invariant = { λ a. AreLevels (length a.words.items) a.levels.items a.spare.items };
 }
 
 impl Words {
@@ -35,6 +37,7 @@ impl Words {
         Words {
             words,
             levels: Vec::new(alloc),
+            spare: Vec::new(alloc),
         }
     }
 
@@ -74,24 +77,27 @@ impl Words {
         self.words[i] = word;
     }
 
-    /// A mark of the words as they are. Room for each of them is taken here.
+    /// A mark of the words as they are. Room for each of them is taken here, unless a mark that was taken back had it.
     pub fn mark(&mut self, alloc: Global) -> Result<(), AllocError>
         ensures ok { OnOk result (self.new.marked ≡ self.old.marked ++ self.old.words ∷ []) }
         ensures words { self.new.words ≡ self.old.words }
         ensures err { OnErr result (self.new ≡ self.old) }
     {
-        let level = new_level(alloc, self.words.len())?;
+        let level = clean_level(&mut self.spare, alloc, self.words.len())?;
+        self.spare.reserve(self.levels.len() + 1)?;
         self.levels.push(level)?;
         Ok(())
     }
 
-    /// Takes the words of the last mark back. It takes no memory.
+    /// Takes the words of the last mark back. It takes no memory, and costs what was saved since.
     pub fn undo(&mut self)
         requires { 0 < length self.old.marked }
         ensures { self.old.marked ≡ self.new.marked ++ self.new.words ∷ [] }
     {
         if let Some(mut level) = self.levels.pop() {
-            restore(&mut self.words, &mut level.entries);
+            restore(&mut self.words, &mut level);
+            // Room for it was taken with its mark.
+            keep(&mut self.spare, level);
         }
     }
 }

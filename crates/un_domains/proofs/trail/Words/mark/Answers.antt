@@ -8,5 +8,5 @@ pub returns-clause-ok : goal.returns-clause-ok
 returns-clause-ok c =
     let a = c.self.inside in
     ap (λ (ls : List Level). marked_of ls a.words.items) c.in_ok-push.ensures.items
-    ∙ ((marked_new a.levels.items c.in_ok-level.level a.words.items c.in_ok-level.ensures.1).1
+    ∙ ((marked_new a.levels.items c.in_ok-level.level a.words.items c.in_ok-level.ensures.level.none).1
     ∙ ap (λ (s : MarkedWords). s.marked ++ s.words ∷ []) c.self.view_is)
