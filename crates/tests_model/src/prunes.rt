@@ -221,10 +221,10 @@ packets 5,6 2,3 5 2,3 1 6,7 2>same
 packets 5,6 2,3 5 2,3 1 2,3 2>failed
 # What may be no store is not counted.
 packets 5,6 2,3 5 2,3 1 2,3 1,2>same
-# Two stores fill cycles 2 and 3, though none is settled: a third is in neither.
-packets 5,6 2,3 5 2,3 1 1,2,3,6 2>5,6 2,3 5 2,3 1 1,6 2
-# A load takes no place for stores, so it may be in them.
-packets 5,6 2,3 5 2,3 1 1,2,3,6 3>same
+# Two stores fill cycles 2 and 3, but none is settled there: no cycle of a third goes.
+packets 5,6 2,3 5 2,3 1 1,2,3,6 2>same
+# The third has room behind them.
+packets 5,6 2,3 5 2,3,6 1 2,3 2>same
 # A load and two stores leave one of the places for memory in cycles 2 and 3.
 packets 2,4 2,3 5 2,3 1 2,3 3>same";
 

@@ -26,7 +26,7 @@ use Rattle.un_prop.specs.declared.act.Act.TheVariants.{Always}
 use Rattle.un_rect.specs.Apart.{ApartStrong, apart_cut, apart_parts}
 use Rattle.un_rect.specs.Clobber.{ClobberStrong, clobber_cut, clobber_parts}
 use Rattle.un_rect.specs.Operands.{side, operands_holds, operands_steps}
-use Rattle.un_slots.specs.Fulls.{per_cycle_steps}
+use Rattle.un_slots.specs.Crowds.{per_cycle_steps}
 use Rattle.un_slots.specs.Loads.{SlotsStrong}
 use Rattle.un_slots.specs.Slots.{per_cycle_holds}
 use Rattle.un_prec.specs.contracts.before.BeforePredicate.TheImpl.Laws as before_looks

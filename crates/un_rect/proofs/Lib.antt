@@ -8,3 +8,4 @@ pub mod PlainCalls
 pub mod Refusals
 pub mod Rows
 pub mod Survivors
+pub mod Spared

@@ -34,11 +34,11 @@ use Rattle.un_rect.proofs.Refusals.{no_left, no_right, passes_unmet, choice_same
 
 -- Entries that cut nothing
 
-each_idle : (f : ℕ → Sets → Option Sets) (s : Sets) (n : ℕ) → ((k : ℕ) → f k s ≡ Some s) → each_place f n s ≡ Some s
+pub each_idle : (f : ℕ → Sets → Option Sets) (s : Sets) (n : ℕ) → ((k : ℕ) → f k s ≡ Some s) → each_place f n s ≡ Some s
 each_idle f s zero h = refl
 each_idle f s (suc n) h = rw (each_idle f s n h) (h n)
 
-entry_idle : {A : Type 0} (P : A → Type 0) (f : A → Sets → Option Sets) (s : Sets) → ((x : A) → P x → f x s ≡ Some s) → (xs : List A)
+pub entry_idle : {A : Type 0} (P : A → Type 0) (f : A → Sets → Option Sets) (s : Sets) → ((x : A) → P x → f x s ≡ Some s) → (xs : List A)
     → AllByRecursion P xs → (i : ℕ) → entry_cut f xs i s ≡ Some s
 entry_idle P f s h [] all i = refl
 entry_idle P f s h (x ∷ xs) all zero = h x all.0

@@ -2,7 +2,7 @@
 
 ghost use Rattle.std.specs.Prelude.{◌≡◌, ◌≢◌, ◌<◌, ◌≤◌, ℕ, ◌&&◌, true, length, not, All};
 ghost use Rattle.std.specs.List.{list_any};
-ghost use Rattle.un_domains.specs.Sets.{NoneEmpty};
+ghost use Rattle.un_domains.specs.Sets.{NoneEmpty, set_at};
 ghost use Rattle.un_isa.specs.Tables.{in_mask};
 ghost use Rattle.un_prop.specs.Acts.{is_user};
 ghost use Rattle.un_prop.specs.Looks.{sure};
@@ -16,6 +16,7 @@ ghost use Rattle.un_rect.specs.Entries.{each_entry};
 ghost use Rattle.un_rect.specs.Clobber.{CallVars, avoids, spares, may_survive, covers, is_read_behind, lasts, hit_cut, off_cut, cycle_cut};
 ghost use Rattle.un_rect.specs.Clobber.{reader_cut, call_steps, check_call, IsOpen};
 
+use crate::clashes::ends_after;
 use crate::opened::{Opened, is_more, with_temp, with_users, with_var};
 use crate::spans::{end, is_sure_user, least_end, reads};
 use crate::values::{ValueTest, keep_passing};
@@ -95,6 +96,24 @@ fn may_survive(w: &Window<'_>, mask: u64, a: &Temp) -> bool
     false
 }
 
+/// Whether a variable may be a register of a mask.
+fn may_be_hit(w: &Window<'_>, mask: u64, a: &Temp) -> bool
+    requires there { a.now.reg.0 < length w.now.store.now.sets }
+    requires live { NoneEmpty w.now.store.now.sets }
+    ensures { result ≡ list_any (in_mask mask) (set_at w.now.store.now.sets a.now.reg.0) }
+{
+    let low = u64::from(w.min(a.reg));
+    let high = u64::from(w.max(a.reg)) + 1;
+    for r in low..high {
+        if w.has(a.reg, r as u32) {
+            if is_in_mask(mask, r as u32) {
+                return true;
+            }
+        }
+    }
+    false
+}
+
 /// Whether some user surely reads its temporary.
 fn any_sure(w: &Window<'_>, users: &[UserOf]) -> bool
     requires vars { All (UserVars w.now.vars.now) users.now }
@@ -121,7 +140,7 @@ fn covers(w: &Window<'_>, a: &Temp, c: &ClobberCall) -> bool
     if greatest_time(w, a.at) > w.min(c.at) {
         return false;
     }
-    u64::from(w.max(c.at)) < least_end(w, a)
+    ends_after(w, a, w.max(c.at))
 }
 
 /// Whether a temporary is defined before a call for sure, and read behind it for sure.
@@ -562,6 +581,10 @@ impl Propagator for Clobber {
     ghost span = { λ p. 0 };
 
     fn prune_in(&self, w: &mut Window<'_>, scratch: &mut Scratch) -> Pruned {
+        // A temporary that has no register of the mask left is spared.
+        if !may_be_hit(w, self.mask, &self.temp) {
+            return Pruned::Same;
+        }
         let did = keep_calls(
             w,
             Pruned::Same,

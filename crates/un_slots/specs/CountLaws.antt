@@ -1,17 +1,18 @@
 -- Laws of counts of crowds.
 use Rattle.std.proofs.Common.{ℕ, zero, suc, ◌≡◌, ◌≢◌, ◌<◌, ◌≤◌, ◌+◌, ◌-◌, ◌*◌, ◌^◌, ◌⊎◌, ◌∙◌, Bool, true, false, not, ◌&&◌, ◌||◌}
 use Rattle.std.proofs.Common.{if◌then◌else◌, List, [], ◌∷◌, length, get_or, take, sum_by, min, nat_eq, nat_le, nat_lt, refl, sym, ap}
-use Rattle.std.proofs.Common.{slice_index, subst, arith, inl, inr}
+use Rattle.std.proofs.Common.{slice_index, slice_set, set, subst, arith, inl, inr}
 use Rattle.std.specs.List.{list_any, AllByRecursion}
 use Rattle.std.proofs.lemmas.Bool.{cases_lt}
 use Rattle.std.proofs.lemmas.Bool.Decides.{nat_tests}
-use Rattle.std.proofs.Math.Nat.{mul-suc}
+use Rattle.std.proofs.Math.Nat.{mul-suc, mul-le-mul_left}
+use Rattle.std.proofs.lemmas.List.{get_or-set_same, get_or-set_other}
 use Rattle.std.proofs.lemmas.List.Sums.{sum_by-cons}
 use Rattle.un_domains.specs.Sets.{Sets, set_at, least, greatest, NoneEmpty}
 use Rattle.un_domains.specs.SetLaws.{has-fold_max}
 use Rattle.un_domains.specs.OrderLaws.{same_test}
 use Rattle.un_prop.specs.ChainLaws.{least_in}
-use Rattle.un_prop.specs.LookLaws.{both, firsts, or_not}
+use Rattle.un_prop.specs.LookLaws.{both, firsts}
 use Rattle.un_slots.specs.declared.item.Item.{Item}
 use Rattle.un_isa.specs.declared.packet_counts.Resource.{Resource}
 use Rattle.un_base.specs.declared.ids.VarId.{VarId}
@@ -21,10 +22,10 @@ use Rattle.std.proofs.lemmas.List.Elements.{recursion_from_All}
 use Rattle.un_slots.specs.Slots.{ItemVars, SlotVars}
 use Rattle.un_isa.specs.PacketCounts.{places_of}
 use Rattle.un_slots.specs.SlotLaws.{map_each, sum_alike}
-use Rattle.un_slots.specs.Crowds.{surely_takes, lies_in, crowded, crowd, crowd_fits, all_below, starts, sum_from, ends_fit, counted}
-use Rattle.un_slots.specs.Crowds.{AreCounts, ends_at, is_roomy}
+use Rattle.un_slots.specs.LoadLaws.{sum_le}
+use Rattle.un_slots.specs.Crowds.{surely_takes, lies_in, crowded, crowd, crowd_fits, all_below, counted}
+use Rattle.un_slots.specs.Counts.{AreCounts, ends_at, ending, adds, ended, starts, sum_from, end_fits}
 use Rattle.un_slots.specs.CrowdLaws.{below_each, each_below, le_true, true_le, sum_plus, sum_none, places_more, take_each}
-use Rattle.un_slots.specs.CrowdLaws.{places_some}
 
 -- Numbers
 
@@ -49,11 +50,17 @@ take_min xs n m e = elim (cases_lt (length xs) m) [
   | inr more ↦ (let is : n ≡ m = omega (arith, e, more) in ap (λ (k : ℕ). take k xs) is)
 ]
 
-pub each_taken : {A : Type 0} (P : A → Type 0) (xs : List A) (m : ℕ) → ((i : ℕ) (d : A) → i < min (length xs) m → P (get_or xs i d))
-    → AllByRecursion P (take m xs)
-each_taken P xs zero h = tt
-each_taken P [] (suc m) h = tt
-each_taken P (x ∷ xs) (suc m) h = (h 0 x (omega arith), each_taken P xs m (λ i d lt. h (suc i) d (omega (arith, lt))))
+-- the sum up to a place and what stands there
+pub sum_below : (f : Item → ℕ) (xs : List Item) (j n : ℕ) (d : Item) → j < length xs → j < n
+    → sum_by f (take j xs) + f (get_or xs j d) ≤ sum_by f (take n xs)
+sum_below f [] j n d within lt = absurd (omega (arith, within))
+sum_below f (x ∷ xs) j zero d within lt = absurd (omega (arith, lt))
+sum_below f (x ∷ xs) zero (suc n) d within lt = (let a = sum_by-cons f x (take n xs) in omega (arith, a))
+sum_below f (x ∷ xs) (suc j) (suc n) d within lt = (
+    let a = sum_by-cons f x (take j xs) in
+    let b = sum_by-cons f x (take n xs) in
+    let rest = sum_below f xs j n d (omega (arith, within)) (omega (arith, lt)) in
+    omega (arith, a, b, rest))
 
 pub not_below : (p : ℕ → Bool) (n k : ℕ) → k < n → p k ≡ false → false ≡ all_below p n
 not_below p n k lt off = by (all_below p n) refl
@@ -65,10 +72,6 @@ not_below p n k lt off = by (all_below p n) refl
 pub below_same : (p q : ℕ → Bool) (n : ℕ) → ((k : ℕ) → k < n → p k ≡ q k) → all_below p n ≡ all_below q n
 below_same p q n h = same_test (all_below p n) (all_below q n)
     (λ e. each_below q n (λ k lt. sym (h k lt) ∙ below_each p n e k lt)) (λ e. each_below p n (λ k lt. h k lt ∙ below_each q n e k lt))
-
-pub none_any : {A : Type 0} (p : A → Bool) (xs : List A) → AllByRecursion (λ a. p a ≡ false) xs → list_any p xs ≡ false
-none_any p [] h = refl
-none_any p (x ∷ xs) h = ap (λ (b : Bool). b || list_any p xs) h.0 ∙ none_any p xs h.1
 
 pub more_false : (a b : ℕ) → b < a → nat_le a b ≡ false
 more_false a b lt = grind (arith, nat_tests, lt)
@@ -93,6 +96,30 @@ from_same f g low (suc n) h = (
     let a = h low (omega arith) in
     let b = from_same f g (suc low) n (λ c lt. h c (omega (arith, lt))) in
     omega (arith, a, b))
+
+-- a part of an interval has no more than the whole
+pub from_less : (f : ℕ → ℕ) (a k m : ℕ) → sum_from f (a + k) m ≤ sum_from f a (k + m)
+from_less f a zero m = (let z : a + 0 ≡ a = omega arith in let y : 0 + m ≡ m = omega arith in
+    let e = ap (λ (i : ℕ). sum_from f i m) z in let d = ap (sum_from f a) y in omega (arith, e, d))
+from_less f a (suc k) m =
+    let z : a + suc k ≡ suc a + k = omega arith in
+    let y : suc k + m ≡ suc (k + m) = omega arith in
+    let e = ap (λ (i : ℕ). sum_from f i m) z in
+    let d = ap (sum_from f a) y in
+    let rest = from_less f (suc a) k m in
+    omega (arith, e, d, rest)
+
+-- where the packets of an interval have room for all, those of each longer one have
+pub room_for_all : (f : ℕ → ℕ) (places end low at total : ℕ) → sum_from f 0 end ≤ total → total ≤ places * (end - at) → low ≤ at → at ≤ end
+    → sum_from f low (end - low) ≤ places * (end - low)
+room_for_all f places end low at total whole room le within =
+    let part = from_less f 0 low (end - low) in
+    let z : 0 + low ≡ low = omega arith in
+    let y : low + (end - low) ≡ end = omega (arith, le, within) in
+    let e = ap (λ (i : ℕ). sum_from f i (end - low)) z in
+    let d = ap (sum_from f 0) y in
+    let more = mul-le-mul_left {m = end - at} {n = end - low} places (omega (arith, le)) in
+    omega (arith, part, e, d, more, whole, room)
 
 -- What is counted is the crowd
 
@@ -136,23 +163,68 @@ pick true g low m = elim (cases_lt m low) [
     by_first true = refl
     by_first false = refl
 
-pub starts_one : (r : Resource) (high : ℕ) (s : Sets) (c : ℕ) (i : Item) → starts r high s c i ≤ 1
-starts_one r high s c i = by (surely_takes r s i && (nat_eq (least (set_at s i.at.0)) c && nat_le (greatest (set_at s i.at.0)) high))
-  where
-    by : (b : Bool) → (if b then 1 else 0) ≤ 1
-    by true = omega arith
-    by false = omega arith
+bound_more : (g h : ℕ) → (if nat_lt g (h + 1) then 1 else 0) ≡ (if nat_lt g h then 1 else 0) + (if nat_eq g h then 1 else 0)
+bound_more g h = elim (cases_lt g h) [
+  | inl less ↦ (
+      let a : nat_lt g (h + 1) ≡ true = grind (arith, nat_tests, less) in
+      let b : nat_lt g h ≡ true = grind (arith, nat_tests, less) in
+      let c : nat_eq g h ≡ false = grind (arith, nat_tests, less) in
+      rw (a, b, c) refl)
+  | inr more ↦ elim (cases_lt h g) [
+    | inl above ↦ (
+        let a : nat_lt g (h + 1) ≡ false = grind (arith, nat_tests, above) in
+        let b : nat_lt g h ≡ false = grind (arith, nat_tests, above) in
+        let c : nat_eq g h ≡ false = grind (arith, nat_tests, above) in
+        rw (a, b, c) refl)
+    | inr same ↦ (
+        let is : g ≡ h = omega (arith, more, same) in
+        let a : nat_lt g (h + 1) ≡ true = grind (arith, nat_tests, is) in
+        let b : nat_lt g h ≡ false = grind (arith, nat_tests, is) in
+        let c : nat_eq g h ≡ true = grind (arith, nat_tests, is) in
+        rw (a, b, c) refl)
+  ]
+]
 
-always_each : (P : Item → Type 0) → ((i : Item) → P i) → (xs : List Item) → AllByRecursion P xs
+of_taker : (t : Bool) (g h : ℕ)
+    → (if t && nat_lt g (h + 1) then 1 else 0) ≡ (if t && nat_lt g h then 1 else 0) + (if t && nat_eq g h then 1 else 0)
+of_taker false g h = refl
+of_taker true g h = bound_more g h
+
+of_both : (t q : Bool) (g h : ℕ) → (if t && (q && nat_lt g (h + 1)) then 1 else 0) ≡ (if t && (q && nat_lt g h) then 1 else 0)
+    + (if t && (q && nat_eq g h) then 1 else 0)
+of_both false q g h = refl
+of_both true q g h = of_taker q g h
+
+one_at_most : (b : Bool) → (if b then 1 else 0) ≤ 1
+one_at_most true = omega arith
+one_at_most false = omega arith
+
+pub always_each : (P : Item → Type 0) → ((i : Item) → P i) → (xs : List Item) → AllByRecursion P xs
 always_each P h [] = tt
 always_each P h (x ∷ xs) = (h x, always_each P h xs)
 
 module _ (r : Resource) (s : Sets) (xs : List Item) where
-  pub crowd_step : (low high : ℕ) → crowd r xs low high s ≡ sum_by (starts r high s low) xs + crowd r xs (suc low) high s
-  crowd_step low high = sum_alike (crowded r low high s) (λ i. starts r high s low i + crowded r (suc low) high s i) xs
-      (always_each (λ i. crowded r low high s i ≡ starts r high s low i + crowded r (suc low) high s i)
-      (λ i. pick (surely_takes r s i) (nat_le (greatest (set_at s i.at.0)) high) low (least (set_at s i.at.0))) xs)
-      ∙ sum_plus (starts r high s low) (crowded r (suc low) high s) xs
+  pub crowd_step : (low high : ℕ) → crowd r xs low high s ≡ sum_by (starts r (high + 1) s low) xs + crowd r xs (suc low) high s
+  crowd_step low high = sum_alike (crowded r low high s) (λ i. starts r (high + 1) s low i + crowded r (suc low) high s i) xs
+      (always_each (λ i. crowded r low high s i ≡ starts r (high + 1) s low i + crowded r (suc low) high s i)
+      (λ i. pick (surely_takes r s i) (nat_le (greatest (set_at s i.at.0)) high) low (least (set_at s i.at.0))
+      ∙ ap (λ (b : Bool). (if surely_takes r s i && (nat_eq (least (set_at s i.at.0)) low && b) then 1 else 0)
+      + crowded r (suc low) high s i) (same_bound (greatest (set_at s i.at.0)) high)) xs)
+      ∙ sum_plus (starts r (high + 1) s low) (crowded r (suc low) high s) xs
+    where
+      same_bound : (g h : ℕ) → nat_le g h ≡ nat_lt g (h + 1)
+      same_bound g h = same_test (nat_le g h) (nat_lt g (h + 1)) (λ e. grind (arith, nat_tests, e)) (λ e. grind (arith, nat_tests, e))
+
+  pub ended_more : (high : ℕ) → sum_by (ended r (high + 1) s) xs ≡ sum_by (ended r high s) xs + sum_by (ending r s high) xs
+  ended_more high = sum_alike (ended r (high + 1) s) (λ i. ended r high s i + ending r s high i) xs
+      (always_each (λ i. ended r (high + 1) s i ≡ ended r high s i + ending r s high i)
+      (λ i. of_taker (surely_takes r s i) (greatest (set_at s i.at.0)) high) xs) ∙ sum_plus (ended r high s) (ending r s high) xs
+
+  pub starts_more : (high c : ℕ) → sum_by (starts r (high + 1) s c) xs ≡ sum_by (starts r high s c) xs + sum_by (adds r high s c) xs
+  starts_more high c = sum_alike (starts r (high + 1) s c) (λ i. starts r high s c i + adds r high s c i) xs
+      (always_each (λ i. starts r (high + 1) s c i ≡ starts r high s c i + adds r high s c i)
+      (λ i. of_both (surely_takes r s i) (nat_eq (least (set_at s i.at.0)) c) (greatest (set_at s i.at.0)) high) xs)
+      ∙ sum_plus (starts r high s c) (adds r high s c) xs
 
   -- no cycle is after the last
   module _ (ordered : AllByRecursion (λ (i : Item). least (set_at s i.at.0) ≤ greatest (set_at s i.at.0)) xs) where
@@ -172,34 +244,15 @@ module _ (r : Resource) (s : Sets) (xs : List Item) where
                 let to = true_le (greatest (set_at s i.at.0)) high lies.1 in
                 absurd (omega (arith, from, to, le, lt))
 
-    pub crowd_sum : (high n low : ℕ) → low + n ≡ high + 1 → sum_from (λ c. sum_by (starts r high s c) xs) low n ≡ crowd r xs low high s
+    pub crowd_sum : (high n low : ℕ) → low + n ≡ high + 1 → sum_from (λ c. sum_by (starts r (high + 1) s c) xs) low n
+        ≡ crowd r xs low high s
     crowd_sum high zero low e = sym (crowd_none low high (omega (arith, e)))
     crowd_sum high (suc n) low e = (
         let rest = crowd_sum high n (suc low) (omega (arith, e)) in
         let step = crowd_step low high in
         omega (arith, rest, step))
 
-    -- Where the intervals up to each item's end have room, all have
-
-    found : (high : ℕ) (horizon : ℕ) (ys : List Item) → high < horizon → AllByRecursion (λ (i : Item). ends_fit r xs horizon s i ≡ true) ys
-        → list_any (ends_at r s high) ys ≡ true → all_below (crowd_fits r xs s high) (high + 1) ≡ true
-    found high horizon [] early all some = absurd (cc some)
-    found high horizon (y ∷ ys) early all some = by (surely_takes r s y && nat_eq (greatest (set_at s y.at.0)) high) refl some
-        (found high horizon ys early all.1)
-      where
-        by : (b : Bool) → (surely_takes r s y && nat_eq (greatest (set_at s y.at.0)) high) ≡ b
-            → (b || list_any (ends_at r s high) ys) ≡ true
-            → (list_any (ends_at r s high) ys ≡ true → all_below (crowd_fits r xs s high) (high + 1) ≡ true)
-            → all_below (crowd_fits r xs s high) (high + 1) ≡ true
-        by false e rest more = more rest
-        by true e rest more =
-            let two = firsts (surely_takes r s y) _ e in
-            let eq = two.1 in
-            let is : greatest (set_at s y.at.0) ≡ high = grind (arith, nat_tests, eq) in
-            let less : nat_lt (greatest (set_at s y.at.0)) horizon
-            ≡ true = (let lt : greatest (set_at s y.at.0) < horizon = omega (arith, is, early) in grind (arith, nat_tests, lt)) in
-            let fit = or_not (nat_lt (greatest (set_at s y.at.0)) horizon) _ (or_not (surely_takes r s y) _ all.0 two.0) less in
-            subst (λ (h : ℕ). all_below (crowd_fits r xs s h) (h + 1) ≡ true) is fit
+    -- Where no item ends at a cycle, the intervals that end there have room where those before have
 
     none_ends : (high : ℕ) (ys : List Item) → list_any (ends_at r s (suc high)) ys ≡ false → (low : ℕ)
         → sum_by (crowded r low (suc high) s) ys ≤ sum_by (crowded r low high s) ys
@@ -262,98 +315,184 @@ module _ (r : Resource) (s : Sets) (xs : List Item) where
         by true e rest more = absurd (cc rest)
         by false e rest more = (let a = sum_by-cons (crowded r 0 0 s) y ys in let c = more rest in let d = one e in omega (arith, a, c, d))
 
-    pub ends_all : (horizon high : ℕ) → high < horizon → AllByRecursion (λ (i : Item). ends_fit r xs horizon s i ≡ true) xs
-        → all_below (crowd_fits r xs s high) (high + 1) ≡ true
-    ends_all horizon zero early all = by (list_any (ends_at r s 0) xs) refl
-      where
-        by : (b : Bool) → list_any (ends_at r s 0) xs ≡ b → all_below (crowd_fits r xs s 0) (0 + 1) ≡ true
-        by true e = found 0 horizon xs early all e
-        by false e = each_below (crowd_fits r xs s 0) (0 + 1) (λ low lt. le_true (crowd r xs low 0 s) (places_of r * (0 + 1 - low))
-            (let first : low ≡ 0 = omega (arith, lt) in
-            let same = ap (λ (k : ℕ). crowd r xs k 0 s) first in
-            let none = none_first xs e in
-            omega (arith, same, none)))
-    ends_all horizon (suc high) early all = by (list_any (ends_at r s (suc high)) xs) refl
-        (ends_all horizon high (omega (arith, early)) all)
-      where
-        by : (b : Bool) → list_any (ends_at r s (suc high)) xs ≡ b → all_below (crowd_fits r xs s high) (high + 1) ≡ true
-            → all_below (crowd_fits r xs s (suc high)) (suc high + 1) ≡ true
-        by true e before = found (suc high) horizon xs early all e
-        by false e before = each_below (crowd_fits r xs s (suc high)) (suc high + 1)
-            (λ low lt. le_true (crowd r xs low (suc high) s) (places_of r * (suc high + 1 - low)) (room low lt (cases_lt low (high + 1))))
-          where
-            room : (low : ℕ) → low < suc high + 1 → (low < high + 1) ⊎ (high + 1 ≤ low)
-                → crowd r xs low (suc high) s ≤ places_of r * (suc high + 1 - low)
-            room low lt (inl less) = (
-                let fewer = none_ends high xs e low in
-                let fit = true_le (crowd r xs low high s) (places_of r * (high + 1 - low)) (below_each (crowd_fits r xs s high)
-                (high + 1) before low less) in
-                let n : suc high + 1 - low ≡ suc (high + 1 - low) = omega (arith, less) in
-                let more = ap (λ (k : ℕ). places_of r * k) n ∙ places_more r (high + 1 - low) in
-                omega (arith, fewer, fit, more))
-            room low lt (inr last) = (
-                let fewer = none_ends high xs e low in
-                let none = crowd_none low high (omega (arith, last)) in
-                omega (arith, fewer, none))
-
-    -- Where the intervals that end right before a cycle have room, and no item ends with it, those that end with it have room for one
-    -- more
-
-    pub roomy_next : (high : ℕ)
-        → all_below (λ low. nat_le (crowd r xs low high s + 1) (places_of r * (high + 1 - low))) (high + 1) ≡ true
-        → is_roomy r xs s (suc high) ≡ true
-    roomy_next high h = each_below (crowd_fits r xs s high) (high + 1)
-        (λ low lt. (let le = true_le (crowd r xs low high s + 1) (places_of r * (high + 1 - low))
-        (below_each (λ low. nat_le (crowd r xs low high s + 1) (places_of r * (high + 1 - low))) (high + 1) h low lt) in
-        le_true (crowd r xs low high s) (places_of r * (high + 1 - low)) (omega (arith, le))))
-
-    pub next_roomy : (high : ℕ) → is_roomy r xs s high ≡ true → list_any (ends_at r s high) xs ≡ false
-        → all_below (λ low. nat_le (crowd r xs low high s + 1) (places_of r * (high + 1 - low))) (high + 1) ≡ true
-    next_roomy zero before off = each_below (λ low. nat_le (crowd r xs low 0 s + 1) (places_of r * (0 + 1 - low))) (0 + 1)
-        (λ low lt. le_true (crowd r xs low 0 s + 1) (places_of r * (0 + 1 - low))
+    pub quiet_end : (high : ℕ) → all_below (end_fits r xs s) high ≡ true → list_any (ends_at r s high) xs ≡ false
+        → end_fits r xs s high ≡ true
+    quiet_end zero before off = each_below (crowd_fits r xs s 0) (0 + 1)
+        (λ low lt. le_true (crowd r xs low 0 s) (places_of r * (0 + 1 - low))
         (let first : low ≡ 0 = omega (arith, lt) in
         let same = ap (λ (k : ℕ). crowd r xs k 0 s) first in
         let none = none_first xs off in
-        let some = places_some r (0 + 1 - low) (omega (arith, lt)) in
-        omega (arith, same, none, some)))
-    next_roomy (suc high) before off =
-        each_below (λ low. nat_le (crowd r xs low (suc high) s + 1) (places_of r * (suc high + 1 - low))) (suc high + 1)
-        (λ low lt. le_true (crowd r xs low (suc high) s + 1) (places_of r * (suc high + 1 - low)) (room low lt (cases_lt low (high + 1))))
+        omega (arith, same, none)))
+    quiet_end (suc high) before off = each_below (crowd_fits r xs s (suc high)) (suc high + 1)
+        (λ low lt. le_true (crowd r xs low (suc high) s) (places_of r * (suc high + 1 - low)) (room low lt (cases_lt low (high + 1))))
       where
         room : (low : ℕ) → low < suc high + 1 → (low < high + 1) ⊎ (high + 1 ≤ low)
-            → crowd r xs low (suc high) s + 1 ≤ places_of r * (suc high + 1 - low)
+            → crowd r xs low (suc high) s ≤ places_of r * (suc high + 1 - low)
         room low lt (inl less) = (
             let fewer = none_ends high xs off low in
             let fit = true_le (crowd r xs low high s) (places_of r * (high + 1 - low)) (below_each (crowd_fits r xs s high)
-            (high + 1) before low less) in
+            (high + 1) (below_each (end_fits r xs s) (suc high) before high (omega arith)) low less) in
             let n : suc high + 1 - low ≡ suc (high + 1 - low) = omega (arith, less) in
             let more = ap (λ (k : ℕ). places_of r * k) n ∙ places_more r (high + 1 - low) in
-            let some = places_some r 1 (omega arith) in
-            omega (arith, fewer, fit, more, some))
+            omega (arith, fewer, fit, more))
         room low lt (inr last) = (
             let fewer = none_ends high xs off low in
             let none = crowd_none low high (omega (arith, last)) in
-            let some = places_some r (suc high + 1 - low) (omega (arith, lt)) in
-            omega (arith, fewer, none, some))
+            omega (arith, fewer, none))
 
-    pub gap_roomy : (from k : ℕ) → is_roomy r xs s from ≡ true
-        → ((c : ℕ) → from ≤ c → c < from + k → list_any (ends_at r s c) xs ≡ false) → is_roomy r xs s (from + k) ≡ true
-    gap_roomy from zero h off = (let same : from ≡ from + 0 = omega arith in subst (λ (n : ℕ). is_roomy r xs s n ≡ true) same h)
-    gap_roomy from (suc k) h off = (
-        let next : suc (from + k) ≡ from + suc k = omega arith in
-        let before = gap_roomy from k h (λ c le lt. off c le (omega (arith, lt))) in
-        let here = next_roomy (from + k) before (off (from + k) (omega arith) (omega arith)) in
-        subst (λ (n : ℕ). is_roomy r xs s n ≡ true) next (roomy_next (from + k) here))
+    -- Where the items that end before a cycle are counted, and none of them or more than the packets have, the intervals are known
 
-  -- what is counted at a cycle is in the interval that begins with it, and not in the next
-  pub count_next : (low high n : ℕ) (cycles : List ℕ) → AreCounts r xs high s cycles → low ≤ high → n ≡ crowd r xs (low + 1) high s
-      → n + slice_index cycles low ≡ crowd r xs low high s
-  count_next low high n cycles counts le e = (
-      let next : low + 1 ≡ suc low = omega arith in
-      let rest = ap (λ (k : ℕ). crowd r xs k high s) next in
-      let step = crowd_step low high in
-      let here = counts low le in
-      omega (arith, e, rest, step, here))
+    crowd_ended : (low high : ℕ) → crowd r xs low high s ≤ sum_by (ended r (high + 1) s) xs
+    crowd_ended low high = sum_le (crowded r low high s) (ended r (high + 1) s) xs
+        (always_each (λ i. crowded r low high s i ≤ ended r (high + 1) s i) one xs)
+      where
+        one : (i : Item) → crowded r low high s i ≤ ended r (high + 1) s i
+        one i = by (surely_takes r s i && lies_in low high s i) refl
+          where
+            by : (b : Bool) → (surely_takes r s i && lies_in low high s i) ≡ b → (if b then 1 else 0) ≤ ended r (high + 1) s i
+            by false e = omega arith
+            by true e =
+                let two = firsts (surely_takes r s i) _ e in
+                let to = true_le (greatest (set_at s i.at.0)) high (firsts (nat_le low (least (set_at s i.at.0))) _ two.1).1 in
+                let less : nat_lt (greatest (set_at s i.at.0)) (high + 1) ≡ true = grind (arith, nat_tests, to) in
+                let is : ended r (high + 1) s i ≡ 1 = ap (λ (b : Bool). if b then 1 else 0) (both (surely_takes r s i) _ two.0 less) in
+                omega (arith, is)
+
+    module _ (high : ℕ) (cycles : List ℕ) (counts : AreCounts r xs (high + 1) s cycles) where
+      sums : (low : ℕ) → low < high + 1 → sum_from (slice_index cycles) low (high + 1 - low) ≡ crowd r xs low high s
+      sums low lt =
+          let n : low + (high + 1 - low) ≡ high + 1 = omega (arith, lt) in
+          from_same (slice_index cycles) (λ k. sum_by (starts r (high + 1) s k) xs) low (high + 1 - low)
+          (λ k less. counts k (omega (arith, less, n))) ∙ crowd_sum high (high + 1 - low) low n
+
+      pub whole_counted : sum_from (slice_index cycles) 0 (high + 1) ≤ sum_by (ended r (high + 1) s) xs
+      whole_counted =
+          let none : high + 1 - 0 ≡ high + 1 = omega arith in
+          let same = ap (sum_from (slice_index cycles) 0) none in
+          let is = sums 0 (omega arith) in
+          let le = crowd_ended 0 high in
+          omega (arith, same, is, le)
+
+      pub fits_counted : all_below (λ low. nat_le (sum_from (slice_index cycles) low (high + 1 - low)) (places_of r * (high + 1 - low)))
+          (high + 1)
+          ≡ end_fits r xs s high
+      fits_counted = below_same (λ low. nat_le (sum_from (slice_index cycles) low (high + 1 - low)) (places_of r * (high + 1 - low)))
+          (crowd_fits r xs s high) (high + 1) (λ low lt. ap (λ (m : ℕ). nat_le m (places_of r * (high + 1 - low))) (sums low lt))
+
+    -- One cycle more
+
+    adds_late : (high c : ℕ) → high < c → sum_by (adds r high s c) xs ≡ 0
+    adds_late high c lt = sum_alike (adds r high s c) (λ i. 0) xs (map_each (λ (i : Item). least (set_at s i.at.0) ≤ greatest
+        (set_at s i.at.0))
+        (λ i. adds r high s c i ≡ 0) (λ i le. apart (surely_takes r s i) (least (set_at s i.at.0)) (greatest (set_at s i.at.0)) le) xs
+        ordered) ∙ sum_none xs
+      where
+        apart : (t : Bool) (l g : ℕ) → l ≤ g → ◌≡◌ {A = ℕ} (if t && (nat_eq l c && nat_eq g high) then 1 else 0) 0
+        apart false l g le = refl
+        apart true l g le = by (nat_eq l c) (nat_eq g high) refl refl
+          where
+            by : (a b : Bool) → nat_eq l c ≡ a → nat_eq g high ≡ b → ◌≡◌ {A = ℕ} (if nat_eq l c && nat_eq g high then 1 else 0) 0
+            by false b e h = ap (λ (q : Bool). if q && nat_eq g high then 1 else 0) e
+            by true false e h = rw (e, h) refl
+            by true true e h = absurd (
+                let x : l ≡ c = grind (arith, nat_tests, e) in
+                let y : g ≡ high = grind (arith, nat_tests, h) in
+                omega (arith, x, y, le, lt))
+
+    starts_none : (c : ℕ) → sum_by (starts r c s c) xs ≡ 0
+    starts_none c = sum_alike (starts r c s c) (λ i. 0) xs (map_each (λ (i : Item). least (set_at s i.at.0) ≤ greatest (set_at s i.at.0))
+        (λ i. starts r c s c i ≡ 0) (λ i le. apart (surely_takes r s i) (least (set_at s i.at.0)) (greatest (set_at s i.at.0)) le) xs
+        ordered) ∙ sum_none xs
+      where
+        apart : (t : Bool) (l g : ℕ) → l ≤ g → ◌≡◌ {A = ℕ} (if t && (nat_eq l c && nat_lt g c) then 1 else 0) 0
+        apart false l g le = refl
+        apart true l g le = by (nat_eq l c) (nat_lt g c) refl refl
+          where
+            by : (a b : Bool) → nat_eq l c ≡ a → nat_lt g c ≡ b → ◌≡◌ {A = ℕ} (if nat_eq l c && nat_lt g c then 1 else 0) 0
+            by false b e h = ap (λ (q : Bool). if q && nat_lt g c then 1 else 0) e
+            by true false e h = rw (e, h) refl
+            by true true e h = absurd (
+                let x : l ≡ c = grind (arith, nat_tests, e) in
+                let y : g < c = grind (arith, nat_tests, h) in
+                omega (arith, x, y, le))
+
+    module _ (high : ℕ) (cycles : List ℕ) (within : high < length cycles) (counts : AreCounts r xs high s cycles) where
+      pub next_counts : (c : ℕ) → c ≤ high
+          → slice_index (slice_set cycles high 0) c + sum_by (adds r high s c) xs ≡ sum_by (starts r (high + 1) s c) xs
+      next_counts c le = elim (cases_lt c high) [
+        | inl less ↦ (
+            let other = get_or-set_other cycles high c 0 0 (λ is. omega (arith, less, is)) in
+            let was = counts c less in
+            let more = starts_more high c in
+            omega (arith, other, was, more))
+        | inr last ↦ (
+            let is : c ≡ high = omega (arith, le, last) in
+            let same = ap (λ (k : ℕ). get_or (set cycles high 0) k 0) is ∙ get_or-set_same cycles high 0 0 within in
+            let none = ap (λ (k : ℕ). sum_by (starts r high s k) xs) is ∙ starts_none high in
+            let more = starts_more high c in
+            omega (arith, same, none, more))
+      ]
+
+      pub next_later : (c : ℕ) → high < c → slice_index (slice_set cycles high 0) c + sum_by (adds r high s c) xs ≡ slice_index cycles c
+      next_later c lt = (
+          let other = get_or-set_other cycles high c 0 0 (λ is. omega (arith, lt, is)) in
+          let none = adds_late high c lt in
+          omega (arith, other, none))
+
+  -- What ends at a cycle
+
+  -- no item ends where none is counted
+  pub none_ending : (high : ℕ) → sum_by (ending r s high) xs ≡ 0 → list_any (ends_at r s high) xs ≡ false
+  none_ending high = go xs
+    where
+      go : (ys : List Item) → sum_by (ending r s high) ys ≡ 0 → list_any (ends_at r s high) ys ≡ false
+      go [] e = refl
+      go (y ∷ ys) e = by (ends_at r s high y) refl (go ys)
+        where
+          by : (b : Bool) → ends_at r s high y ≡ b → (sum_by (ending r s high) ys ≡ 0 → list_any (ends_at r s high) ys ≡ false)
+              → (b || list_any (ends_at r s high) ys) ≡ false
+          by false is rest = rest (let a = sum_by-cons (ending r s high) y ys in omega (arith, a, e))
+          by true is rest = absurd (
+              let a = sum_by-cons (ending r s high) y ys in
+              let one : ending r s high y ≡ 1 = ap (λ (b : Bool). if b then 1 else 0) is in
+              omega (arith, a, e, one))
+
+  -- before the first cycle nothing is counted
+  pub none_ended : sum_by (ended r 0 s) xs ≡ 0
+  none_ended = sum_alike (ended r 0 s) (λ i. 0) xs (always_each (λ i. ended r 0 s i ≡ 0)
+      (λ i. never (surely_takes r s i) (greatest (set_at s i.at.0))) xs) ∙ sum_none xs
+    where
+      never : (t : Bool) (g : ℕ) → ◌≡◌ {A = ℕ} (if t && nat_lt g 0 then 1 else 0) 0
+      never false g = refl
+      never true g = (let no : nat_lt g 0 ≡ false = grind (arith, nat_tests) in ap (λ (b : Bool). if b then 1 else 0) no)
+
+  -- where no item surely takes some, all intervals have room
+  pub untaken : (high low : ℕ) → list_any (surely_takes r s) xs ≡ false → crowd r xs low high s ≡ 0
+  untaken high low = go xs
+    where
+      go : (ys : List Item) → list_any (surely_takes r s) ys ≡ false → sum_by (crowded r low high s) ys ≡ 0
+      go [] e = refl
+      go (y ∷ ys) e = by (surely_takes r s y) refl e (go ys)
+        where
+          by : (b : Bool) → surely_takes r s y ≡ b → (b || list_any (surely_takes r s) ys) ≡ false
+              → (list_any (surely_takes r s) ys ≡ false → sum_by (crowded r low high s) ys ≡ 0)
+              → sum_by (crowded r low high s) (y ∷ ys) ≡ 0
+          by true is h rest = absurd (cc h)
+          by false is h rest = (
+              let a = sum_by-cons (crowded r low high s) y ys in
+              let none : crowded r low high s y ≡ 0 = ap (λ (b : Bool). if b && lies_in low high s y then 1 else 0) is in
+              let more = rest h in
+              omega (arith, a, none, more))
+
+pub any_taken : (p : Item → Bool) (items : List Item) (n : ℕ) → list_any p items ≡ false → list_any p (take n items) ≡ false
+any_taken p items zero e = refl
+any_taken p [] (suc n) e = refl
+any_taken p (i ∷ rest) (suc n) e = by (p i) (any_taken p rest n) e
+  where
+    by : (b : Bool) → (list_any p rest ≡ false → list_any p (take n rest) ≡ false) → (b || list_any p rest) ≡ false
+        → (b || list_any p (take n rest)) ≡ false
+    by true more h = absurd (cc h)
+    by false more h = more h
 
 -- no item's least cycle is after its greatest
 pub ordered_counted : (vs : List VarId) (items : List Item) (s : Sets) → SlotVars vs items → HasVars vs s → NoneEmpty s
@@ -363,15 +502,46 @@ ordered_counted vs items s among_all known full = map_each (ItemVars vs) (λ (i 
     (λ i h. least_most (set_at s i.at.0) (full i.at.0 (has_among vs i.at s h.of_at known))) (counted items)
     (take_each (ItemVars vs) (2 ^ 32 - 1) items (recursion_from_All _ _ among_all))
 
--- an item whose end has no room shows an interval without
-pub end_of_all : (r : Resource) (s : Sets) (xs : List Item) (horizon : ℕ) (i : Item) → ends_fit r xs horizon s i ≡ false
-    → false ≡ all_below (λ high. all_below (crowd_fits r xs s high) (high + 1)) horizon
-end_of_all r s xs horizon i off = by (surely_takes r s i) (nat_lt (greatest (set_at s i.at.0)) horizon) refl refl off
+-- One item that ends at a cycle
+
+pub starts_one : (r : Resource) (end : ℕ) (s : Sets) (c : ℕ) (i : Item) → starts r end s c i ≤ 1
+starts_one r end s c i = one_at_most (surely_takes r s i && (nat_eq (least (set_at s i.at.0)) c && nat_lt (greatest (set_at s i.at.0)) end))
+
+pub ended_one : (r : Resource) (end : ℕ) (s : Sets) (i : Item) → ended r end s i ≤ 1
+ended_one r end s i = one_at_most (surely_takes r s i && nat_lt (greatest (set_at s i.at.0)) end)
+
+pub ending_one : (r : Resource) (s : Sets) (high : ℕ) (i : Item) → ending r s high i ≤ 1
+ending_one r s high i = one_at_most (ends_at r s high i)
+
+pub end_is : (r : Resource) (s : Sets) (high : ℕ) (i : Item) → ends_at r s high i ≡ true → greatest (set_at s i.at.0) ≡ high
+end_is r s high i e = (let two = (firsts (surely_takes r s i) _ e).1 in grind (arith, nat_tests, two))
+
+pub end_of : (r : Resource) (s : Sets) (high : ℕ) (i : Item) → surely_takes r s i ≡ true
+    → ends_at r s high i ≡ nat_eq (greatest (set_at s i.at.0)) high
+end_of r s high i e = ap (λ (b : Bool). b && nat_eq (greatest (set_at s i.at.0)) high) e
+
+pub no_end : (r : Resource) (s : Sets) (high : ℕ) (i : Item) → surely_takes r s i ≡ false → ends_at r s high i ≡ false
+no_end r s high i e = ap (λ (b : Bool). b && nat_eq (greatest (set_at s i.at.0)) high) e
+
+pub not_ending : (r : Resource) (s : Sets) (high : ℕ) (i : Item) → ends_at r s high i ≡ false → ending r s high i ≡ 0
+not_ending r s high i e = ap (λ (b : Bool). if b then 1 else 0) e
+
+pub adds_one : (r : Resource) (s : Sets) (high : ℕ) (i : Item) → ends_at r s high i ≡ true
+    → adds r high s (least (set_at s i.at.0)) i ≡ 1
+adds_one r s high i e =
+    let two = firsts (surely_takes r s i) (nat_eq (greatest (set_at s i.at.0)) high) e in
+    let own : nat_eq (least (set_at s i.at.0)) (least (set_at s i.at.0)) ≡ true = grind (arith, nat_tests) in
+    ap (λ (b : Bool). if b then 1 else 0) (both (surely_takes r s i) _ two.0 (both
+    (nat_eq (least (set_at s i.at.0)) (least (set_at s i.at.0))) (nat_eq (greatest (set_at s i.at.0)) high) own two.1))
+
+pub adds_none : (r : Resource) (s : Sets) (high c : ℕ) (i : Item) → ends_at r s high i ≡ false → adds r high s c i ≡ 0
+adds_none r s high c i = by (surely_takes r s i) (nat_eq (least (set_at s i.at.0)) c) (nat_eq (greatest (set_at s i.at.0)) high)
   where
-    by : (a b : Bool) → surely_takes r s i ≡ a → nat_lt (greatest (set_at s i.at.0)) horizon ≡ b
-        → (not a || (not b || all_below (crowd_fits r xs s (greatest (set_at s i.at.0))) (greatest (set_at s i.at.0) + 1))) ≡ false
-        → false ≡ all_below (λ high. all_below (crowd_fits r xs s high) (high + 1)) horizon
-    by false b e h is = absurd (cc is)
-    by true false e h is = absurd (cc is)
-    by true true e h is = not_below (λ high. all_below (crowd_fits r xs s high) (high + 1)) horizon (greatest (set_at s i.at.0))
-        (grind (arith, nat_tests, h)) is
+    by : (t q g : Bool) → (t && g) ≡ false → ◌≡◌ {A = ℕ} (if t && (q && g) then 1 else 0) 0
+    by false q g e = refl
+    by true false g e = refl
+    by true true g e = ap (λ (b : Bool). if b then 1 else 0) e
+
+pub right_of : (a b : Bool) → (a || b) ≡ false → b ≡ false
+right_of true b e = absurd (cc e)
+right_of false b e = e

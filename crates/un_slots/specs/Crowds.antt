@@ -1,15 +1,17 @@
 -- Crowds: where the sure items whose cycles all lie in an interval need more of a resource than its packets have, nothing holds.
-use Rattle.std.specs.Prelude.{ℕ, zero, suc, ◌≡◌, ◌≤◌, ◌+◌, ◌-◌, ◌*◌, ◌^◌, Bool, true, not, ◌&&◌, ◌||◌, if◌then◌else◌, List}
-use Rattle.std.specs.Prelude.{take, sum_by, nat_eq, nat_le, nat_lt, slice_index}
+use Rattle.std.specs.Prelude.{ℕ, zero, suc, ◌+◌, ◌-◌, ◌*◌, ◌^◌, Bool, true, not, ◌&&◌, ◌||◌, if◌then◌else◌, List}
+use Rattle.std.specs.Prelude.{take, sum_by, nat_eq, nat_le, length, option_and_then}
 use Rattle.std.specs.declared.option.Option.{Option}
 use Rattle.std.specs.List.{list_any, list_all}
 use Rattle.un_base.specs.declared.ids.VarId.{VarId}
 use Rattle.un_domains.specs.Sets.{Sets, set_at, least, greatest}
 use Rattle.un_prop.specs.Failing.{first_cut}
 use Rattle.un_prop.specs.Looks.{act_set, sure}
+use Rattle.un_prop.specs.Places.{each_place}
 use Rattle.un_slots.specs.declared.item.Item.{Item}
 use Rattle.un_isa.specs.declared.packet_counts.Resource.{Resource}
 use Rattle.un_slots.specs.Slots.{share_at}
+use Rattle.un_slots.specs.Loads.{slot_cut}
 use Rattle.un_isa.specs.PacketCounts.{resources, places_of}
 
 -- an item surely takes some of a resource: it is sure, and no number that is left takes none
@@ -40,35 +42,6 @@ all_below p (suc n) = all_below p n && p n
 abbrev pub counted : List Item → List Item
 counted items = take (2 ^ 32 - 1) items
 
--- whether an item is counted at cycle c: it surely takes some, begins there and has no cycle after high
-abbrev pub starts : Resource → ℕ → Sets → ℕ → Item → ℕ
-starts r high s c i = if surely_takes r s i && (nat_eq (least (set_at s i.at.0)) c && nat_le (greatest
-    (set_at s i.at.0)) high) then 1 else 0
-
--- the items are counted at their least cycles, up to high
-abbrev pub AreCounts : Resource → List Item → ℕ → Sets → List ℕ → Type 0
-AreCounts r items high s cycles = (c : ℕ) → c ≤ high → slice_index cycles c ≡ sum_by (starts r high s c) items
-
--- whether an item surely takes some and has this cycle as its last
-abbrev pub ends_at : Resource → Sets → ℕ → Item → Bool
-ends_at r s high i = surely_takes r s i && nat_eq (greatest (set_at s i.at.0)) high
-
--- all intervals that end right before a cycle have room
-abbrev pub is_roomy : Resource → List Item → Sets → ℕ → Bool
-is_roomy r items s zero = true
-is_roomy r items s (suc high) = all_below (crowd_fits r items s high) (high + 1)
-
--- the sum of n numbers from low on
-abbrev pub sum_from : (ℕ → ℕ) → ℕ → ℕ → ℕ
-sum_from f low zero = 0
-sum_from f low (suc n) = f low + sum_from f (suc low) n
-
--- where an item that surely takes some ends before the horizon, the intervals up to its end have room
-abbrev pub ends_fit : Resource → List Item → ℕ → Sets → Item → Bool
-ends_fit r items horizon s i =
-    not (surely_takes r s i) || (not (nat_lt (greatest (set_at s i.at.0)) horizon)
-    || all_below (crowd_fits r items s (greatest (set_at s i.at.0))) (greatest (set_at s i.at.0) + 1))
-
 -- in no interval before the horizon there are more
 abbrev pub crowds_fit : List Item → ℕ → Sets → Bool
 crowds_fit items horizon s =
@@ -77,3 +50,7 @@ crowds_fit items horizon s =
 -- it fails where in some interval there are more
 abbrev pub crowd_cut : List VarId → List Item → ℕ → Sets → Option Sets
 crowd_cut vs items horizon s = first_cut (λ s c. crowds_fit items horizon s) vs s
+
+-- all that is known before all but one is fixed
+abbrev pub per_cycle_steps : List VarId → List Item → ℕ → Sets → Option Sets
+per_cycle_steps vs items horizon s = option_and_then (crowd_cut vs items horizon) (each_place (slot_cut items horizon) (length items) s)

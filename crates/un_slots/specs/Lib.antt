@@ -1,10 +1,9 @@
 pub mod AmountLaws
 pub mod Amounts
 pub mod CountLaws
+pub mod Counts
 pub mod CrowdLaws
 pub mod Crowds
-pub mod FullLaws
-pub mod Fulls
 pub mod ListingLaws
 pub mod Listings
 pub mod LoadLaws

@@ -8,9 +8,9 @@ ghost use Rattle.un_prop.specs.Looks.{act_set};
 ghost use Rattle.un_prop.specs.Rounds.{HasVars};
 ghost use Rattle.un_isa.specs.declared.packet_counts.Resource.{Resource};
 ghost use Rattle.un_slots.specs.Slots.{SlotVars, ItemVars};
-ghost use Rattle.un_slots.specs.Loads.{fits_beside, others, can_issue};
+ghost use Rattle.un_slots.specs.Loads.{settled_at, fits_beside, others, can_issue};
 ghost use Rattle.un_slots.specs.Amounts.{IsLoad};
-ghost use Rattle.un_slots.specs.Listings.{last_settled, Chained, Listed, listable, is_unmarked, is_left};
+ghost use Rattle.un_slots.specs.Listings.{last_passing, Chained, Listed, listable, is_unmarked, is_left};
 
 use crate::item::Item;
 use crate::listing::{listable, load_at};
@@ -79,9 +79,10 @@ fn can_issue(
     requires live { NoneEmpty w.now.store.now.sets }
     requires its_own { has (set_at w.now.store.now.sets item.now.at.0) c ≡ true }
     requires span { c < length scratch.now.cycles.items }
-    requires head { slice_index scratch.now.cycles.items c ≡ last_settled items.now w.now.store.now.sets c
+    requires head { slice_index scratch.now.cycles.items c ≡ last_passing items.now (settled_at w.now.store.now.sets c)
         (listable items.now scratch.now.fixed.items) }
-    requires nexts { Chained items.now (listable items.now scratch.now.fixed.items) w.now.store.now.sets c scratch.now.fixed.items }
+    requires nexts { Chained items.now (listable items.now scratch.now.fixed.items) (settled_at w.now.store.now.sets c)
+        scratch.now.fixed.items }
     ensures { result ≡ can_issue (others k items.now) item.now w.now.store.now.sets c }
 {
     let load = load_at(
@@ -132,9 +133,10 @@ fn mark_at(
     requires known { HasVars w.now.vars.now w.now.store.now.sets }
     requires live { NoneEmpty w.now.store.now.sets }
     requires span { c < length scratch.old.cycles.items }
-    requires head { slice_index scratch.old.cycles.items c ≡ last_settled items.now w.now.store.now.sets c
+    requires head { slice_index scratch.old.cycles.items c ≡ last_passing items.now (settled_at w.now.store.now.sets c)
         (listable items.now scratch.old.fixed.items) }
-    requires nexts { Chained items.now (listable items.now scratch.old.fixed.items) w.now.store.now.sets c scratch.old.fixed.items }
+    requires nexts { Chained items.now (listable items.now scratch.old.fixed.items) (settled_at w.now.store.now.sets c)
+        scratch.old.fixed.items }
     requires alone { free ≡ true → list_any (fits_beside (λ r. 0) item.now) (act_set item.now.on w.now.store.now.sets) ≡ true }
     requires whole { free ≡ true → listable items.now scratch.old.fixed.items ≡ length items.now }
     ensures here { has (set_at w.now.store.now.sets item.now.at.0) c ≡ true
@@ -161,6 +163,26 @@ fn mark_at(
     true
 }
 
+/// The end of the cycles from `low` on that have to be looked at for an item: where it is free, those up to the last that a settled
+/// item has.
+fn last_taken(cycles: &[u32], free: bool, low: u32, end: u32) -> u32
+    requires { end ≤ length cycles.now }
+    ensures within { result ≤ end }
+    ensures idle { (c : ℕ) → low ≤ c → result ≤ c → c < end → (free ≡ true) × (slice_index cycles.now c ≡ 0) }
+{
+    if !free {
+        return end;
+    }
+    let mut last = end;
+    while last > low {
+        if cycles[last as usize - 1] != 0 {
+            return last;
+        }
+        last -= 1;
+    }
+    last
+}
+
 /// Marks each cycle of an item before the horizon in which it can't issue; whether there is one, or one at or past the horizon.
 pub(crate) fn mark(
     items: &[Item],
@@ -176,8 +198,8 @@ pub(crate) fn mark(
     requires known { HasVars w.now.vars.now w.now.store.now.sets }
     requires live { NoneEmpty w.now.store.now.sets }
     requires span { horizon ≤ length scratch.old.cycles.items }
-    requires listed { Listed items.now horizon (listable items.now scratch.old.fixed.items) w.now.store.now.sets scratch.old.cycles.items
-        scratch.old.fixed.items }
+    requires listed { Listed items.now horizon (listable items.now scratch.old.fixed.items) (settled_at w.now.store.now.sets)
+        scratch.old.cycles.items scratch.old.fixed.items }
     ensures marks { (c : ℕ) → has (set_at w.now.store.now.sets item.now.at.0) c ≡ true
         → is_left scratch.new.cycles.items horizon c ≡ (nat_lt c horizon && can_issue
         (others k items.now) item.now w.now.store.now.sets c) }
@@ -191,8 +213,9 @@ pub(crate) fn mark(
     let high = w.max(item.at);
     let end = horizon.min(high.saturating_add(1));
     let free = is_free(items, w, item, scratch.fixed.as_slice());
+    let last = last_taken(scratch.cycles.as_slice(), free, low, end);
     let mut any = high >= horizon;
-    for c in low..end {
+    for c in low..last {
         let here = mark_at(items, w, k, item, free, c, scratch);
         any = any || here;
     }

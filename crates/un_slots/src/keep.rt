@@ -9,7 +9,7 @@ ghost use Rattle.un_prop.specs.Pruning.{IsPrune};
 ghost use Rattle.un_prop.specs.Rounds.{HasVars};
 ghost use Rattle.un_prop.specs.declared.propagator.Pruned.TheVariants.{Same, Failed};
 ghost use Rattle.un_slots.specs.Slots.{SlotVars};
-ghost use Rattle.un_slots.specs.Loads.{slot_cut};
+ghost use Rattle.un_slots.specs.Loads.{settled_at, slot_cut};
 ghost use Rattle.un_slots.specs.Listings.{Listed, listable, is_left};
 
 use crate::issue::{MARK, mark};
@@ -95,10 +95,10 @@ fn keep_item(
     requires live { before ≢ Failed → NoneEmpty w.old.store.now.sets }
     requires span { horizon ≤ length scratch.old.cycles.items }
     requires listed { before ≢ Failed → Listed items.now horizon
-        (listable items.now scratch.old.fixed.items) w.old.store.now.sets scratch.old.cycles.items scratch.old.fixed.items }
+        (listable items.now scratch.old.fixed.items) (settled_at w.old.store.now.sets) scratch.old.cycles.items scratch.old.fixed.items }
     ensures step { Stepped w.old.vars.now (slot_cut items.now horizon k) w.old.store.now w.new.store.now before result }
     ensures listed { result ≢ Failed → Listed items.now horizon
-        (listable items.now scratch.new.fixed.items) w.new.store.now.sets scratch.new.cycles.items scratch.new.fixed.items }
+        (listable items.now scratch.new.fixed.items) (settled_at w.new.store.now.sets) scratch.new.cycles.items scratch.new.fixed.items }
     ensures fixed { length scratch.new.fixed.items ≡ length scratch.old.fixed.items }
     ensures cycles { length scratch.new.cycles.items ≡ length scratch.old.cycles.items }
     ensures same_reference { w.new.store.ghost_name ≡ w.old.store.ghost_name }

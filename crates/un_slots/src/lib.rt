@@ -2,10 +2,10 @@
 #![tactic(auto)]
 
 mod crowd;
-mod full;
 mod issue;
 pub mod item;
 mod keep;
 mod listing;
 mod load;
 pub mod per_cycle;
+mod takes;

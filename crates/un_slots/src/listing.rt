@@ -6,9 +6,9 @@ ghost use Rattle.std.specs.Prelude.{◌≡◌, ◌+◌, ◌<◌, ◌≤◌, ◌-
 ghost use Rattle.un_domains.specs.Sets.{NoneEmpty};
 ghost use Rattle.un_prop.specs.Rounds.{HasVars};
 ghost use Rattle.un_slots.specs.Slots.{SlotVars};
-ghost use Rattle.un_slots.specs.Loads.{load};
+ghost use Rattle.un_slots.specs.Loads.{settled_at, load};
 ghost use Rattle.un_slots.specs.Amounts.{IsLoad};
-ghost use Rattle.un_slots.specs.Listings.{last_settled, Chained, Listed, listable};
+ghost use Rattle.un_slots.specs.Listings.{last_passing, Chained, Listed, listable};
 
 use crate::item::Item;
 use crate::load::{Load, is_settled, least_number, load_from, take};
@@ -45,8 +45,8 @@ fn link(items: &[Item], horizon: u32, w: &Window<'_>, j: usize, scratch: &mut Sc
     requires vars { SlotVars w.now.vars.now items.now }
     requires known { HasVars w.now.vars.now w.now.store.now.sets }
     requires live { NoneEmpty w.now.store.now.sets }
-    requires listed { Listed items.now horizon j w.now.store.now.sets scratch.old.cycles.items scratch.old.fixed.items }
-    ensures listed { Listed items.now horizon (j + 1) w.now.store.now.sets scratch.new.cycles.items scratch.new.fixed.items }
+    requires listed { Listed items.now horizon j (settled_at w.now.store.now.sets) scratch.old.cycles.items scratch.old.fixed.items }
+    ensures listed { Listed items.now horizon (j + 1) (settled_at w.now.store.now.sets) scratch.new.cycles.items scratch.new.fixed.items }
     ensures fixed { length scratch.new.fixed.items ≡ length scratch.old.fixed.items }
     ensures cycles { length scratch.new.cycles.items ≡ length scratch.old.cycles.items }
 {
@@ -66,8 +66,8 @@ pub(crate) fn list(items: &[Item], horizon: u32, w: &Window<'_>, scratch: &mut S
     requires vars { SlotVars w.now.vars.now items.now }
     requires known { HasVars w.now.vars.now w.now.store.now.sets }
     requires live { NoneEmpty w.now.store.now.sets }
-    ensures listed { Listed items.now horizon (listable items.now scratch.new.fixed.items) w.now.store.now.sets scratch.new.cycles.items
-        scratch.new.fixed.items }
+    ensures listed { Listed items.now horizon (listable items.now scratch.new.fixed.items) (settled_at w.now.store.now.sets)
+        scratch.new.cycles.items scratch.new.fixed.items }
     ensures fixed { length scratch.new.fixed.items ≡ length scratch.old.fixed.items }
     ensures cycles { length scratch.new.cycles.items ≡ length scratch.old.cycles.items }
 {
@@ -90,8 +90,8 @@ pub(crate) fn load_at(
     requires vars { SlotVars w.now.vars.now items.now }
     requires known { HasVars w.now.vars.now w.now.store.now.sets }
     requires live { NoneEmpty w.now.store.now.sets }
-    requires head { slice_index cycles.now c ≡ last_settled items.now w.now.store.now.sets c (listable items.now before.now) }
-    requires nexts { Chained items.now (listable items.now before.now) w.now.store.now.sets c before.now }
+    requires head { slice_index cycles.now c ≡ last_passing items.now (settled_at w.now.store.now.sets c) (listable items.now before.now) }
+    requires nexts { Chained items.now (listable items.now before.now) (settled_at w.now.store.now.sets c) before.now }
     ensures { IsLoad result (λ r. load r items.now w.now.store.now.sets c) }
 {
     let mut load = load_from(items, w, listable(items, before), c);

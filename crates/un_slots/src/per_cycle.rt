@@ -5,7 +5,6 @@ ghost use Rattle.un_prop.specs.LastLaws.{Ascend};
 ghost use Rattle.un_slots.specs.Slots.{SlotVars, has_room, item_holds};
 
 use crate::crowd::keep_crowds;
-use crate::full::keep_fulls;
 use crate::item::Item;
 use crate::keep::keep_items;
 use crate::load::{is_within, taken};
@@ -80,7 +79,7 @@ impl Propagator for PerCycle {
     ghost use Rattle.un_slots.specs.Slots.{per_cycle_holds};
     ghost use Rattle.un_slots.specs.SlotLaws.{per_cycle_looks};
     ghost use Rattle.un_slots.specs.Loads.{SlotsStrong};
-    ghost use Rattle.un_slots.specs.Fulls.{per_cycle_steps};
+    ghost use Rattle.un_slots.specs.Crowds.{per_cycle_steps};
     ghost use Rattle.un_slots.specs.PerCycleLaws.{steps_lawful, steps_keeps, steps_strong};
 
     ghost cut = { λ p s. option_and_then (last_cut p.vars (per_cycle_holds p.items p.horizon))
@@ -95,8 +94,7 @@ impl Propagator for PerCycle {
     fn prune_in(&self, w: &mut Window<'_>, scratch: &mut Scratch) -> Pruned {
         let items = self.items.as_slice();
         let kept = keep_items(items, self.horizon, w, scratch);
-        let crowds = keep_crowds(items, self.horizon, w, kept, scratch);
-        let did = keep_fulls(items, self.horizon, w, crowds, scratch);
+        let did = keep_crowds(items, self.horizon, w, kept, scratch);
         check_last(self, w, scratch, did)
     }
 

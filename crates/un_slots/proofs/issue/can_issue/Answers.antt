@@ -1,8 +1,8 @@
 use Rattle.std.proofs.Common.{ℕ, List, ◌≡◌, ◌<◌, ◌∙◌, length, get_or, sym, subst, arith}
 use Rattle.un_prop.specs.Acts.{act_vars}
 use Rattle.un_prop.specs.LookLaws.{known_of}
-use Rattle.un_slots.specs.Listings.{last_settled, Chained, listable}
-use Rattle.un_slots.specs.Loads.{others, load}
+use Rattle.un_slots.specs.Listings.{last_passing, Chained, listable}
+use Rattle.un_slots.specs.Loads.{settled_at, others, load}
 use Rattle.un_slots.specs.LoadLaws.{beside_unsettled, settled_fits}
 use Rattle.un_slots.specs.AmountLaws.{load_as, within_is}
 use Rattle.un_slots.proofs.issue.can_issue.Goals as goal
@@ -24,15 +24,17 @@ load_at-load-requires-clause-head c =
     let items = c.args.items.now in
     let s = c.args.w.now.store.now.sets in
     let e = c.as_slice.ensures.value in
-    subst (λ (before : List ℕ). get_or c.as_slice.result.now c.args.c 0 ≡ last_settled items s c.args.c (listable items before))
+    subst (λ (before : List ℕ). get_or c.as_slice.result.now c.args.c 0
+    ≡ last_passing items (settled_at s c.args.c) (listable items before))
     (sym c.as_slice-2.ensures.value)
-    (subst (λ (cycles : List ℕ). get_or cycles c.args.c 0 ≡ last_settled items s c.args.c (listable items c.args.scratch.now.fixed.items))
+    (subst (λ (cycles : List ℕ). get_or cycles c.args.c 0
+    ≡ last_passing items (settled_at s c.args.c) (listable items c.args.scratch.now.fixed.items))
     (sym e) c.requires.head)
 
 pub load_at-load-requires-clause-nexts : goal.load_at-load-requires-clause-nexts
 load_at-load-requires-clause-nexts c =
     let items = c.args.items.now in
-    subst (λ (before : List ℕ). Chained items (listable items before) c.args.w.now.store.now.sets c.args.c before)
+    subst (λ (before : List ℕ). Chained items (listable items before) (settled_at c.args.w.now.store.now.sets c.args.c) before)
     (sym c.as_slice-2.ensures.value) c.requires.nexts
 
 pub is_settled-requires-clause-vars : goal.is_settled-requires-clause-vars

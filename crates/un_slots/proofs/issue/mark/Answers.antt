@@ -1,12 +1,13 @@
-use Rattle.std.proofs.Common.{ℕ, ◌≡◌, ◌<◌, ◌+◌, ◌-◌, ◌^◌, ◌⊎◌, ◌∙◌, Bool, true, false, ◌&&◌, not, nat_eq, nat_lt, refl, sym, ap, subst}
-use Rattle.std.proofs.Common.{arith, inl, inr}
+use Rattle.std.proofs.Common.{ℕ, ◌≡◌, ◌<◌, ◌≤◌, ◌+◌, ◌-◌, ◌^◌, ◌⊎◌, ◌∙◌, Bool, true, false, ◌&&◌, not, nat_eq, nat_lt, refl, sym, ap, subst}
+use Rattle.std.proofs.Common.{List, get_or, arith, inl, inr}
 use Rattle.std.proofs.lemmas.Bool.Decides.{nat_tests}
 use Rattle.std.proofs.lemmas.Bool.{cases_lt}
 use Rattle.un_domains.specs.Sets.{set_at, has}
 use Rattle.un_domains.specs.SetLaws.{least-le, has-fold_max}
 use Rattle.un_prop.specs.AmongLaws.{has_among}
 use Rattle.un_slots.specs.Loads.{others, can_issue}
-use Rattle.un_slots.specs.Listings.{is_unmarked}
+use Rattle.un_slots.specs.Listings.{is_unmarked, listable}
+use Rattle.un_slots.specs.ListingLaws.{free_unmarked}
 use Rattle.un_slots.proofs.issue.mark.Goals as goal
 use Rattle.un_slots.proofs.issue.mark.Goals.{then-any, else-any}
 
@@ -78,41 +79,56 @@ loop-c-preserved c =
 
 pub returns-clause-marks : goal.returns-clause-marks
 returns-clause-marks c e own =
+    let items = c.args.items.now in
     let s = c.args.w.now.store.now.sets in
     let i = c.args.item.now in
     let xs = set_at s i.at.0 in
+    let cycles = c.args.scratch.now.cycles.items in
     elim (cases_lt e c.args.horizon) [
-      | inl early ↦ (
-          let high = has-fold_max 0 xs e own in
-          let top = c.max-high.ensures in
-          let done = c.loop-c-test.false in
-          let below : e < c.loop-c.c = omega (
-            arith,
-            early,
-            high,
-            top,
-            done,
-            c.min-end.ensures,
-            c.saturating_add.ensures,
-            c.ranges.horizon,
-          ) in
-          ap (λ (b : Bool). nat_lt e c.args.horizon && b) (c.loop-c.invariant.marked e below own))
+      | inl early ↦ ap (λ (b : Bool). nat_lt e c.args.horizon && b) (elim (cases_lt e c.loop-c.c) [
+        | inl below ↦ c.loop-c.invariant.marked e below own
+        | inr past ↦ (
+            let high = has-fold_max 0 xs e own in
+            let top = c.max-high.ensures in
+            let low = least-le xs e own in
+            let first = c.min-low.ensures in
+            let done = c.loop-c-test.false in
+            let idle = c.last_taken-last.ensures.idle e (omega (arith, low, first)) (omega (arith, done, past))
+            (omega (arith, early, high, top, c.min-end.ensures, c.saturating_add.ensures, c.ranges.horizon)) in
+            let two = free_unmarked items s e c.args.k i (listable items c.args.scratch.now.fixed.items) cycles c.requires.item
+            (omega arith) (ap (listable items) (sym c.as_slice.ensures.value) ∙ c.is_free-free.ensures.whole idle.0)
+            (c.requires.listed.heads e early) (ap (λ (ys : List ℕ). get_or ys e 0) (sym c.as_slice-2.ensures.value) ∙ idle.1)
+            (c.is_free-free.ensures.alone idle.0) in
+            ap (λ (y : ℕ). not (nat_eq y (2 ^ 32 - 1))) (c.loop-c.invariant.rest e past) ∙ (two.0 ∙ sym two.1))
+      ])
       | inr late ↦ (
           let no : nat_lt e c.args.horizon ≡ false = grind (arith, nat_tests, late) in
           ap (λ (b : Bool). b && is_unmarked c.loop-c.scratch.cycles.items e) no
-          ∙ sym (ap (λ (b : Bool). b && can_issue (others c.args.k c.args.items.now) i s e) no))
+          ∙ sym (ap (λ (b : Bool). b && can_issue (others c.args.k items) i s e) no))
     ]
 
 pub returns-clause-none : goal.returns-clause-none
 returns-clause-none c off e own =
+    let items = c.args.items.now in
     let s = c.args.w.now.store.now.sets in
     let i = c.args.item.now in
     let xs = set_at s i.at.0 in
+    let cycles = c.args.scratch.now.cycles.items in
     let high = has-fold_max 0 xs e own in
     let top = c.max-high.ensures in
-    let early = c.loop-c.invariant.early off in
-    let lt : e < c.args.horizon = omega (arith, high, top, early) in
-    let done = c.loop-c-test.false in
-    let below : e < c.loop-c.c = omega (arith, lt, high, top, done, c.min-end.ensures, c.saturating_add.ensures, c.ranges.horizon) in
-    let yes_lt : nat_lt e c.args.horizon ≡ true = grind (arith, nat_tests, lt) in
-    ap (λ (b : Bool). b && can_issue (others c.args.k c.args.items.now) i s e) yes_lt ∙ c.loop-c.invariant.none off e below own
+    let before = c.loop-c.invariant.early off in
+    let early : e < c.args.horizon = omega (arith, high, top, before) in
+    let yes_lt : nat_lt e c.args.horizon ≡ true = grind (arith, nat_tests, early) in
+    ap (λ (b : Bool). b && can_issue (others c.args.k items) i s e) yes_lt ∙ elim (cases_lt e c.loop-c.c) [
+      | inl below ↦ c.loop-c.invariant.none off e below own
+      | inr past ↦ (
+          let low = least-le xs e own in
+          let first = c.min-low.ensures in
+          let done = c.loop-c-test.false in
+          let idle = c.last_taken-last.ensures.idle e (omega (arith, low, first)) (omega (arith, done, past))
+          (omega (arith, early, high, top, c.min-end.ensures, c.saturating_add.ensures, c.ranges.horizon)) in
+          (free_unmarked items s e c.args.k i (listable items c.args.scratch.now.fixed.items) cycles c.requires.item
+          (omega arith) (ap (listable items) (sym c.as_slice.ensures.value) ∙ c.is_free-free.ensures.whole idle.0)
+          (c.requires.listed.heads e early) (ap (λ (ys : List ℕ). get_or ys e 0) (sym c.as_slice-2.ensures.value) ∙ idle.1)
+          (c.is_free-free.ensures.alone idle.0)).1)
+    ]

@@ -1,7 +1,8 @@
 use Rattle.std.proofs.Common.{◌≡◌, ◌∙◌, length, get_or, ap, sym, arith}
 use Rattle.un_prop.specs.AmongLaws.{has_among}
 use Rattle.std.proofs.lemmas.List.{get_or_default}
-use Rattle.un_slots.specs.Listings.{last_settled, listable}
+use Rattle.un_slots.specs.Loads.{settled_at}
+use Rattle.un_slots.specs.Listings.{last_passing, listable}
 use Rattle.un_slots.specs.ListingLaws.{head_unmarked, free_issues}
 use Rattle.un_slots.proofs.issue.mark_at.Goals as goal
 
@@ -12,7 +13,8 @@ pub returns-then-can_issue-clause-here : goal.returns-then-can_issue-clause-here
 returns-then-can_issue-clause-here c own =
     let items = c.args.items.now in
     let s = c.args.w.now.store.now.sets in
-    head_unmarked items s c.args.c (listable items c.args.scratch.now.fixed.items) c.args.scratch.now.cycles.items c.requires.head
+    head_unmarked items (settled_at s c.args.c) c.args.c (listable items c.args.scratch.now.fixed.items)
+    c.args.scratch.now.cycles.items c.requires.head
     (omega arith)
     ∙ (sym c.if-can_issue.true ∙ c.can_issue.ensures)
 
@@ -24,9 +26,10 @@ returns-then-index-eq0-clause-here c own =
     let n = listable items c.args.scratch.now.fixed.items in
     let none : get_or cycles c.args.c 0 ≡ 0 = get_or_default cycles c.args.c 0 c.index.result.now c.requires.span
     ∙ (sym c.index.ensures ∙ c.if-index-eq0.true) in
-    let last : last_settled items s c.args.c (length items) ≡ 0 = ap (last_settled items s c.args.c) (sym (c.requires.whole c.if-free.true))
+    let last : last_passing items (settled_at s c.args.c) (length items) ≡ 0 =
+    ap (last_passing items (settled_at s c.args.c)) (sym (c.requires.whole c.if-free.true))
     ∙ (sym c.requires.head ∙ none) in
-    head_unmarked items s c.args.c n cycles c.requires.head (omega arith)
+    head_unmarked items (settled_at s c.args.c) c.args.c n cycles c.requires.head (omega arith)
     ∙ sym (free_issues items s c.args.c c.args.k c.args.item.now c.requires.item last (c.requires.alone c.if-free.true))
 
 pub returns-then-index-eq0-clause-none : goal.returns-then-index-eq0-clause-none
@@ -36,7 +39,8 @@ returns-then-index-eq0-clause-none c off own =
     let cycles = c.args.scratch.now.cycles.items in
     let none : get_or cycles c.args.c 0 ≡ 0 = get_or_default cycles c.args.c 0 c.index.result.now c.requires.span
     ∙ (sym c.index.ensures ∙ c.if-index-eq0.true) in
-    let last : last_settled items s c.args.c (length items) ≡ 0 = ap (last_settled items s c.args.c) (sym (c.requires.whole c.if-free.true))
+    let last : last_passing items (settled_at s c.args.c) (length items) ≡ 0 =
+    ap (last_passing items (settled_at s c.args.c)) (sym (c.requires.whole c.if-free.true))
     ∙ (sym c.requires.head ∙ none) in
     free_issues items s c.args.c c.args.k c.args.item.now c.requires.item last (c.requires.alone c.if-free.true)
 

@@ -14,7 +14,7 @@ use Rattle.un_prop.specs.declared.propagator.Pruned.{Pruned}
 use Rattle.un_prop.specs.declared.propagator.Pruned.TheVariants.{Failed}
 use Rattle.un_slots.specs.declared.item.Item.{Item}
 use Rattle.un_slots.specs.Slots.{ItemVars, SlotVars}
-use Rattle.un_slots.specs.Loads.{slot_cut}
+use Rattle.un_slots.specs.Loads.{settled_at, slot_cut}
 use Rattle.un_slots.specs.LoadLaws.{slot_unsure, slot_is, slot_all}
 use Rattle.un_slots.specs.Listings.{is_left}
 use Rattle.un_slots.proofs.Carried.{same_known, same_vars}
@@ -162,9 +162,9 @@ returns-then-not-mark-clause-listed c still =
     let items = c.args.items.now in
     let s = c.args.w.now.store.now.sets in
     let fixed = c.mark.new.scratch.fixed.items in
-    subst (λ (cycles : List ℕ). Listed items c.args.horizon (listable items fixed) s cycles fixed)
+    subst (λ (cycles : List ℕ). Listed items c.args.horizon (listable items fixed) (settled_at s) cycles fixed)
     (sym (c.mark.ensures.same c.if-not-mark.true))
-    (subst (λ (all : List ℕ). Listed items c.args.horizon (listable items all) s c.args.scratch.now.cycles.items all)
+    (subst (λ (all : List ℕ). Listed items c.args.horizon (listable items all) (settled_at s) c.args.scratch.now.cycles.items all)
     (sym c.mark.ensures.fixed) (c.requires.listed still))
 
 pub keep_left-did-requires-clause-span : goal.keep_left-did-requires-clause-span

@@ -3,12 +3,11 @@ use Rattle.un_prop.specs.GoingLaws.{stepped_same}
 use Rattle.un_prop.specs.Places.{each_place}
 use Rattle.un_prop.specs.declared.propagator.Pruned.TheVariants.{Same}
 use Rattle.un_slots.specs.Loads.{slot_cut}
-use Rattle.un_slots.proofs.Carried.{same_known, same_vars}
+use Rattle.un_slots.proofs.Carried.{next_place, same_known, same_vars}
 use Rattle.std.proofs.Common.{ℕ, ◌≡◌, length, subst}
 use Rattle.un_prop.specs.Going.{Stepped}
 use Rattle.std.proofs.Common.{◌∙◌, List}
 use Rattle.un_base.specs.declared.ids.VarId.{VarId}
-use Rattle.un_slots.specs.FullLaws.{next_place}
 use Rattle.un_slots.proofs.keep.keep_items.Goals as goal
 
 pub list-requires-clause-span : goal.list-requires-clause-span

@@ -21,9 +21,10 @@ returns-then-c-horizon-clause-listed c =
     let j = c.args.j in
     let at = c.min-c.result in
     let i = c.index-items-j.result in
-    subst (λ (n : ℕ). Listed items c.args.horizon n s (set cycles at (j + 1)) (set before j c.index.result.now)) (sym (add-one j))
-    (listed_link items c.args.horizon j at s cycles before (set cycles at (j + 1)) (set before j c.index.result.now) c.requires.listed
-    c.if-c-horizon.true
+    subst (λ (n : ℕ). Listed items c.args.horizon n (settled_at s) (set cycles at (j + 1)) (set before j c.index.result.now))
+    (sym (add-one j))
+    (listed_link items c.args.horizon j at (settled_at s) cycles before (set cycles at (j + 1)) (set before j c.index.result.now)
+    c.requires.listed c.if-c-horizon.true
     (λ e lt. passes_within (settled_at s e) items j i c.requires.there ∙ (ap (settled_at s e) (sym c.index-items-j.is)
     ∙ (settled_is s e i (sym c.is_settled.ensures ∙ c.if-is_settled.true) ∙ ap (λ (n : ℕ). nat_eq n e) (sym c.min-c.ensures))))
     (get_or-set_same cycles at (j + 1) 0 (omega (arith, c.if-c-horizon.true, c.requires.span)) ∙ add-one j)
@@ -40,8 +41,8 @@ returns-else-c-horizon-clause-listed c =
     let before = c.args.scratch.now.fixed.items in
     let j = c.args.j in
     let i = c.index-items-j.result in
-    subst (λ (n : ℕ). Listed items c.args.horizon n s cycles before) (sym (add-one j))
-    (listed_skip items c.args.horizon j s cycles before c.requires.listed
+    subst (λ (n : ℕ). Listed items c.args.horizon n (settled_at s) cycles before) (sym (add-one j))
+    (listed_skip items c.args.horizon j (settled_at s) cycles before c.requires.listed
     (λ e lt. passes_within (settled_at s e) items j i c.requires.there ∙ (ap (settled_at s e) (sym c.index-items-j.is)
     ∙ (settled_is s e i (sym c.is_settled.ensures ∙ c.if-is_settled.true)
     ∙ (let late = c.if-c-horizon.false in let at = c.min-c.ensures in grind (arith, nat_tests, late, at, lt))))))
@@ -54,7 +55,7 @@ returns-else-is_settled-clause-listed c =
     let before = c.args.scratch.now.fixed.items in
     let j = c.args.j in
     let i = c.index-items-j.result in
-    subst (λ (n : ℕ). Listed items c.args.horizon n s cycles before) (sym (add-one j))
-    (listed_skip items c.args.horizon j s cycles before c.requires.listed
+    subst (λ (n : ℕ). Listed items c.args.horizon n (settled_at s) cycles before) (sym (add-one j))
+    (listed_skip items c.args.horizon j (settled_at s) cycles before c.requires.listed
     (λ e lt. passes_within (settled_at s e) items j i c.requires.there ∙ (ap (settled_at s e) (sym c.index-items-j.is)
     ∙ settled_not s e i (sym c.is_settled.ensures ∙ c.if-is_settled.false))))

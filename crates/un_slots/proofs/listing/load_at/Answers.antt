@@ -6,8 +6,8 @@ use Rattle.un_prop.specs.Looks.{act_set}
 use Rattle.un_prop.specs.LookLaws.{known_of}
 use Rattle.un_slots.specs.declared.item.Item.{Item}
 use Rattle.un_slots.specs.Slots.{share_at, ItemVars}
-use Rattle.un_slots.specs.Loads.{load_by, load}
-use Rattle.un_slots.specs.Listings.{last_settled, listable}
+use Rattle.un_slots.specs.Loads.{settled_at, load_by, load}
+use Rattle.un_slots.specs.Listings.{last_passing, listable}
 use Rattle.un_slots.specs.ListingLaws.{last_le, last_own, last_here, load_last, load_step}
 use Rattle.un_slots.proofs.listing.load_at.Goals as goal
 
@@ -27,8 +27,8 @@ loop-last-init c =
           let whole = load_last items s at r n (omega arith) in
           let split = sum_by-take-drop (load_by r s at) items n in
           omega (arith, rest, start, last, whole, split));
-      own = head ∙ (sym (last_own items s at n) ∙ ap (last_settled items s at) (sym head));
-      within = (let le = last_le items s at n in omega (arith, le, head));
+      own = head ∙ (sym (last_own items (settled_at s at) n) ∙ ap (last_passing items (settled_at s at)) (sym head));
+      within = (let le = last_le items (settled_at s at) n in omega (arith, le, head));
     }
 
 pub least_number-requires-clause-known : goal.least_number-requires-clause-known
@@ -46,9 +46,10 @@ loop-last-smaller c =
     let last = c.loop-last.last in
     let j = last - 1 in
     let is : last ≡ suc j = omega (arith, c.loop-last-test.true) in
-    let own = subst (λ (m : ℕ). m ≡ last_settled items s c.args.c m) is c.loop-last.invariant.own in
-    let next = c.requires.nexts j (omega (arith, c.loop-last-test.true, c.loop-last.invariant.within)) (last_here items s c.args.c j own) in
-    let le = last_le items s c.args.c j in
+    let own = subst (λ (m : ℕ). m ≡ last_passing items (settled_at s c.args.c) m) is c.loop-last.invariant.own in
+    let next = c.requires.nexts j (omega (arith, c.loop-last-test.true, c.loop-last.invariant.within))
+    (last_here items (settled_at s c.args.c) j own) in
+    let le = last_le items (settled_at s c.args.c) j in
     omega (arith, next, le, c.loop-last-test.true)
 
 pub loop-last-preserved : goal.loop-last-preserved
@@ -61,8 +62,8 @@ loop-last-preserved c =
     let i = c.index-items-last.result in
     let inv = c.loop-last.invariant in
     let is : last ≡ suc j = omega (arith, c.loop-last-test.true) in
-    let own = subst (λ (m : ℕ). m ≡ last_settled items s at m) is inv.own in
-    let next = c.requires.nexts j (omega (arith, c.loop-last-test.true, inv.within)) (last_here items s at j own) in
+    let own = subst (λ (m : ℕ). m ≡ last_passing items (settled_at s at) m) is inv.own in
+    let next = c.requires.nexts j (omega (arith, c.loop-last-test.true, inv.within)) (last_here items (settled_at s at) j own) in
     record {
       so_far = λ r. (
           let so_far = inv.so_far r in
@@ -74,8 +75,8 @@ loop-last-preserved c =
           let number = ap (share_at r i.uses) c.least_number.ensures in
           let rest = ap (λ (m : ℕ). load r (take m items) s at) next in
           omega (arith, so_far, more, step, here, taken, uses, number, rest));
-      own = next ∙ (sym (last_own items s at j) ∙ ap (last_settled items s at) (sym next));
-      within = (let le = last_le items s at j in let w = inv.within in omega (arith, next, le, w));
+      own = next ∙ (sym (last_own items (settled_at s at) j) ∙ ap (last_passing items (settled_at s at)) (sym next));
+      within = (let le = last_le items (settled_at s at) j in let w = inv.within in omega (arith, next, le, w));
     }
 
 pub load_from-load-requires-clause-vars : goal.load_from-load-requires-clause-vars

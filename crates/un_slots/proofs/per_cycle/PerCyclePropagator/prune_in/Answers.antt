@@ -9,8 +9,7 @@ use Rattle.un_prop.specs.declared.propagator.Pruned.TheVariants.{Same}
 use Rattle.un_slots.specs.declared.item.Item.{Item}
 use Rattle.un_slots.specs.Slots.{SlotVars, per_cycle_holds}
 use Rattle.un_slots.specs.Loads.{slot_cut}
-use Rattle.un_slots.specs.Crowds.{crowd_cut}
-use Rattle.un_slots.specs.Fulls.{full_cuts, per_cycle_steps}
+use Rattle.un_slots.specs.Crowds.{crowd_cut, per_cycle_steps}
 use Rattle.un_slots.proofs.Carried.{same_known}
 use Rattle.un_slots.proofs.per_cycle.PerCyclePropagator.prune_in.Goals as goal
 
@@ -20,55 +19,40 @@ keep_items-kept-requires-clause-vars c =
     subst (λ (xs : List Item). SlotVars c.args.w.now.vars.now xs) (sym c.as_slice-items.ensures)
     (subst (λ (us : List VarId). SlotVars us p.items) (sym c.requires.vars) p.among)
 
-pub keep_crowds-crowds-requires-clause-vars : goal.keep_crowds-crowds-requires-clause-vars
-keep_crowds-crowds-requires-clause-vars c =
+pub keep_crowds-did-requires-clause-vars : goal.keep_crowds-did-requires-clause-vars
+keep_crowds-did-requires-clause-vars c =
     let p = c.args.self.now in
     subst (λ (xs : List Item). SlotVars c.keep_items-kept.new.w.vars.now xs) (sym c.as_slice-items.ensures)
     (subst (λ (us : List VarId). SlotVars us p.items) (sym (ap (λ r. r.now) c.keep_items-kept.ensures.vars ∙ c.requires.vars)) p.among)
 
-pub keep_fulls-did-requires-clause-vars : goal.keep_fulls-did-requires-clause-vars
-keep_fulls-did-requires-clause-vars c =
-    let p = c.args.self.now in
-    subst (λ (xs : List Item). SlotVars c.keep_crowds-crowds.new.w.vars.now xs) (sym c.as_slice-items.ensures)
-    (subst (λ (us : List VarId). SlotVars us p.items) (sym (ap (λ r. r.now) c.keep_crowds-crowds.ensures.vars
-    ∙ (ap (λ r. r.now) c.keep_items-kept.ensures.vars ∙ c.requires.vars))) p.among)
-
 pub check_last-requires-clause-live : goal.check_last-requires-clause-live
-check_last-requires-clause-live c = c.keep_fulls-did.ensures.step.live
-    (c.keep_crowds-crowds.ensures.step.live (c.keep_items-kept.ensures.step.live (λ going. c.requires.live)))
+check_last-requires-clause-live c = c.keep_crowds-did.ensures.step.live (c.keep_items-kept.ensures.step.live (λ going. c.requires.live))
 
 pub returns-clause-prune : goal.returns-clause-prune
 returns-clause-prune c =
     let p = c.args.self.now in
     let old = c.args.w.now.store.now in
     let mid = c.keep_items-kept.new.w.store.now in
-    let next = c.keep_crowds-crowds.new.w.store.now in
-    let clear = c.keep_fulls-did.new.w.store.now in
+    let next = c.keep_crowds-did.new.w.store.now in
     let new = c.check_last.new.w.store.now in
     let kept = c.keep_items-kept.result in
-    let crowds = c.keep_crowds-crowds.result in
-    let did = c.keep_fulls-did.result in
+    let did = c.keep_crowds-did.result in
     let t = per_cycle_holds p.items p.horizon in
     let xs = c.as_slice-items.result.now in
     let f = λ (xs : List Item). each_place (slot_cut xs p.horizon) (length xs) in
     let vars_mid : c.keep_items-kept.new.w.vars.now ≡ p.vars = ap (λ r. r.now) c.keep_items-kept.ensures.vars ∙ c.requires.vars in
-    let vars_next : c.keep_crowds-crowds.new.w.vars.now ≡ p.vars = ap (λ r. r.now) c.keep_crowds-crowds.ensures.vars ∙ vars_mid in
-    let vars_clear : c.keep_fulls-did.new.w.vars.now ≡ p.vars = ap (λ r. r.now) c.keep_fulls-did.ensures.vars ∙ vars_next in
+    let vars_next : c.keep_crowds-did.new.w.vars.now ≡ p.vars = ap (λ r. r.now) c.keep_crowds-did.ensures.vars ∙ vars_mid in
     let first = subst (λ (xs : List Item). Stepped p.vars (f xs) old mid Same kept) c.as_slice-items.ensures
     (subst (λ (us : List VarId). Stepped us (f xs) old mid Same kept) c.requires.vars c.keep_items-kept.ensures.step) in
-    let second = subst (λ (xs : List Item). Stepped p.vars (crowd_cut p.vars xs p.horizon) mid next kept crowds) c.as_slice-items.ensures
-    (subst (λ (us : List VarId). Stepped us (crowd_cut us xs p.horizon) mid next kept crowds) vars_mid c.keep_crowds-crowds.ensures.step) in
-    let third = subst (λ (xs : List Item). Stepped p.vars (full_cuts xs p.horizon) next clear crowds did) c.as_slice-items.ensures
-    (subst (λ (us : List VarId). Stepped us (full_cuts xs p.horizon) next clear crowds did) vars_next c.keep_fulls-did.ensures.step) in
-    let two = stepped_chain p.vars (f p.items) (crowd_cut p.vars p.items p.horizon) old mid next Same kept crowds first second in
-    let step = stepped_chain p.vars (λ s. option_and_then (crowd_cut p.vars p.items p.horizon) (f p.items s)) (full_cuts p.items p.horizon)
-    old next clear Same crowds did two third in
-    let last = subst (λ (us : List VarId). Goes us (last_cut p.vars t) clear new did c.check_last.result) vars_clear
+    let second = subst (λ (xs : List Item). Stepped p.vars (crowd_cut p.vars xs p.horizon) mid next kept did) c.as_slice-items.ensures
+    (subst (λ (us : List VarId). Stepped us (crowd_cut us xs p.horizon) mid next kept did) vars_mid c.keep_crowds-did.ensures.step) in
+    let step = stepped_chain p.vars (f p.items) (crowd_cut p.vars p.items p.horizon) old mid next Same kept did first second in
+    let last = subst (λ (us : List VarId). Goes us (last_cut p.vars t) next new did c.check_last.result) vars_next
     c.check_last.ensures.goes in
     checked p.vars p.vars (λ s. option_and_then (last_cut p.vars t)
     (per_cycle_steps p.vars p.items p.horizon s)) old new c.check_last.result refl
     c.requires.live
-    (goes_chain p.vars (per_cycle_steps p.vars p.items p.horizon) (last_cut p.vars t) old clear new Same did c.check_last.result step last)
+    (goes_chain p.vars (per_cycle_steps p.vars p.items p.horizon) (last_cut p.vars t) old next new Same did c.check_last.result step last)
 
 pub keep_items-kept-requires-clause-known : goal.keep_items-kept-requires-clause-known
 keep_items-kept-requires-clause-known c = same_known c.args.self.now.vars c.args.w.now.vars.now c.args.w.now.store.now.sets
@@ -78,20 +62,10 @@ keep_items-kept-requires-clause-known c = same_known c.args.self.now.vars c.args
 pub keep_items-kept-requires-clause-live : goal.keep_items-kept-requires-clause-live
 keep_items-kept-requires-clause-live c = c.requires.live
 
-pub keep_crowds-crowds-requires-clause-known : goal.keep_crowds-crowds-requires-clause-known
-keep_crowds-crowds-requires-clause-known c = same_known c.args.self.now.vars c.keep_items-kept.new.w.vars.now
+pub keep_crowds-did-requires-clause-known : goal.keep_crowds-did-requires-clause-known
+keep_crowds-did-requires-clause-known c = same_known c.args.self.now.vars c.keep_items-kept.new.w.vars.now
     c.args.w.now.store.now.sets c.keep_items-kept.new.w.store.now.sets
     (ap (λ r. r.now) c.keep_items-kept.ensures.vars ∙ c.requires.vars) c.keep_items-kept.ensures.step.long c.requires.known
 
-pub keep_crowds-crowds-requires-clause-live : goal.keep_crowds-crowds-requires-clause-live
-keep_crowds-crowds-requires-clause-live c = c.keep_items-kept.ensures.step.live (λ going. c.requires.live)
-
-pub keep_fulls-did-requires-clause-known : goal.keep_fulls-did-requires-clause-known
-keep_fulls-did-requires-clause-known c = same_known c.args.self.now.vars c.keep_crowds-crowds.new.w.vars.now c.args.w.now.store.now.sets
-    c.keep_crowds-crowds.new.w.store.now.sets
-    (ap (λ r. r.now) c.keep_crowds-crowds.ensures.vars ∙ (ap (λ r. r.now) c.keep_items-kept.ensures.vars ∙ c.requires.vars))
-    (c.keep_crowds-crowds.ensures.step.long ∙ c.keep_items-kept.ensures.step.long) c.requires.known
-
-pub keep_fulls-did-requires-clause-live : goal.keep_fulls-did-requires-clause-live
-keep_fulls-did-requires-clause-live c = c.keep_crowds-crowds.ensures.step.live
-    (c.keep_items-kept.ensures.step.live (λ going. c.requires.live))
+pub keep_crowds-did-requires-clause-live : goal.keep_crowds-did-requires-clause-live
+keep_crowds-did-requires-clause-live c = c.keep_items-kept.ensures.step.live (λ going. c.requires.live)
