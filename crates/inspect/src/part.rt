@@ -46,12 +46,7 @@ fn put_live(alloc: Global, out: &mut Vec<u8>, f: &Function) -> Result<(), NoMemo
 }
 
 /// The extended function.
-fn put_extended(
-    alloc: Global,
-    out: &mut Vec<u8>,
-    f: &Function,
-    t: &Table,
-) -> Result<(), NoMemory> {
+fn put_extended(alloc: Global, out: &mut Vec<u8>, f: &Function, t: &Table) -> Result<(), NoMemory> {
     let ext = extended(alloc, f, t)?;
     let text = extended_text(alloc, &ext)?;
     put_text(out, text.as_slice())

@@ -12,6 +12,7 @@ use Rattle.un_outside.specs.declared.status.Status.{Status}
 use Rattle.un_outside.specs.declared.status.Status.TheVariants.{Done, Infeasible, Spent, TextFault, Usage, ReadFault, WriteFault, NoMemory, No}
 use Rattle.un_outside.specs.declared.status.Status.TheVariants.{BadReport}
 use Rattle.un_ir.specs.declared.function.Function.{Function}
+use Rattle.un_reader.specs.declared.limits.TheConstants.{TEXT}
 use Rattle.un_reader.specs.Read.{IsRead, IsTextFault, too_long}
 use Rattle.un_faults.specs.declared.fault.Fault.TheVariants.{TooMany}
 use Rattle.un_top.specs.Faults.{IsFault}
@@ -23,7 +24,7 @@ use Rattle.un_top.proofs.FaultLaws.{fault_unique, read_has_no_fault}
 
 -- a text that is too long has its fault
 pub too_long_fault : (told : Option (List ℕ)) (line code : ℕ) → 0 ≡ line → 13 ≡ code
-    → IfSome told (λ (bs : List ℕ). 65536 < length bs) → IfSome told (λ (text : List ℕ). IsFault text line code)
+    → IfSome told (λ (bs : List ℕ). TEXT < length bs) → IfSome told (λ (text : List ℕ). IsFault text line code)
 too_long_fault None line code p q h = tt
 too_long_fault (Some text) line code p q h =
     record { fault = TooMany; is = subst (λ (l : ℕ). IsTextFault text l TooMany) p (too_long h); coded = sym q }

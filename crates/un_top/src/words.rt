@@ -25,5 +25,9 @@ pub fn read_command(words: &[Word]) -> Result<Command, u32>
         Some(word) if word.is(b"alloc") => {}
         _ => return Err(0),
     }
-    if words.len() > 1 { Err(1) } else { Ok(Command::Alloc) }
+    if words.len() > 1 {
+        Err(1)
+    } else {
+        Ok(Command::Alloc)
+    }
 }

@@ -1,0 +1,196 @@
+//! Changes of a plan's places.
+
+use crate::chance::Noise;
+use crate::facts::{Block, Facts};
+use crate::places::{Places, taken};
+use un_trial::sets::{
+    EMPTY, FIRST_PREDICATE, FIRST_SLOT, PREDICATES, REGISTERS, RegisterSet, Space, space_at,
+};
+use un_trial::table::NONE;
+
+/// A place for a key in a group.
+#[derive(Clone, Copy)]
+pub struct Change {
+    pub group: u32,
+    pub key: u32,
+    pub place: u32,
+}
+
+/// The slots that no group uses.
+pub fn spare_slots(facts: &Facts, places: &Places) -> RegisterSet {
+    let mut set = facts.slots;
+    for g in 0..facts.groups {
+        set = set.minus(taken(places, g));
+    }
+    set
+}
+
+/// The slot that a key has in some group, else one that no group uses.
+fn slot_of(facts: &Facts, places: &Places, k: u32) -> u32 {
+    for g in 0..facts.groups {
+        let r = places.at(g, k);
+        if r != NONE && r >= FIRST_SLOT {
+            return r;
+        }
+    }
+    spare_slots(facts, places).least()
+}
+
+/// Another key that stands in a place of a group.
+fn other_at(facts: &Facts, places: &Places, g: u32, k: u32, r: u32) -> u32 {
+    for y in 0..facts.keys {
+        if y != k && places.at(g, y) == r {
+            return y;
+        }
+    }
+    NONE
+}
+
+/// Puts a saved value into a slot in its region.
+fn put_in_slot(facts: &Facts, places: &mut Places, g: u32, k: u32) {
+    let slot = slot_of(facts, places, k);
+    for h in 0..facts.groups {
+        if facts.is_beside(g, h, k) {
+            places.put(h, k, slot);
+        }
+    }
+}
+
+/// Puts a key into a place of a group. A name that stands there takes the old place, a saved value goes to a slot. Whether it can.
+fn put(facts: &Facts, places: &mut Places, change: Change, frame: bool) -> bool {
+    let g = change.group;
+    let old = places.at(g, change.key);
+    let other = other_at(facts, places, g, change.key, change.place);
+    places.put(g, change.key, change.place);
+    if other == NONE {
+        return true;
+    }
+    if !facts.is_free(g, other) {
+        return false;
+    }
+    if other < facts.names {
+        places.put(g, other, old);
+        return space_at(old) != Space::Predicate || facts.name_is_predicate.at(other);
+    }
+    put_in_slot(facts, places, g, other);
+    frame
+}
+
+/// Whether no two keys of a group have one place, and every live one has a place.
+fn is_sound_in(facts: &Facts, places: &Places, g: u32) -> bool {
+    let mut set = EMPTY;
+    for k in 0..facts.keys {
+        let r = places.at(g, k);
+        if facts.live.at(g, k) && (r >= REGISTERS || set.has(r)) {
+            return false;
+        }
+        set = set.with(r);
+    }
+    true
+}
+
+fn is_sound(facts: &Facts, places: &Places) -> bool {
+    for g in 0..facts.groups {
+        if !is_sound_in(facts, places, g) {
+            return false;
+        }
+    }
+    true
+}
+
+/// How many names have an open place in a group.
+fn free_names(facts: &Facts, g: u32) -> u32 {
+    let mut count = 0u32;
+    for k in 0..facts.names {
+        if facts.is_free(g, k) {
+            count = count.saturating_add(1);
+        }
+    }
+    count
+}
+
+/// One of the names that have an open place in a group.
+fn free_name(facts: &Facts, g: u32, place: u32) -> Option<u32> {
+    let mut left = place;
+    for k in 0..facts.names {
+        if facts.is_free(g, k) {
+            if left == 0 {
+                return Some(k);
+            }
+            left = left.saturating_sub(1);
+        }
+    }
+    None
+}
+
+/// A place by chance for a name at one of a block's ends.
+pub fn any_change(
+    facts: &Facts,
+    places: &Places,
+    block: &Block,
+    frame: bool,
+    noise: &mut Noise,
+) -> Option<Change> {
+    let group = if noise.one_in(2) {
+        block.group_in
+    } else {
+        block.group_out
+    };
+    let key = free_name(facts, group, noise.place(free_names(facts, group)))?;
+    let to_slot = noise.one_in(8);
+    if to_slot && frame {
+        let place = slot_of(facts, places, key);
+        return Some(Change { group, key, place });
+    }
+    let is_predicate = facts.name_is_predicate.at(key) && !noise.one_in(4);
+    let place = if is_predicate {
+        FIRST_PREDICATE.saturating_add(noise.place(4))
+    } else {
+        noise.place(32)
+    };
+    if facts.assignable.or(PREDICATES).has(place) {
+        Some(Change { group, key, place })
+    } else {
+        None
+    }
+}
+
+/// Whether a change is made in another group too: wherever a name has the same place (wide), or in the region of a saved value.
+fn reaches(facts: &Facts, old: &Places, change: Change, h: u32, wide: bool) -> bool {
+    let g = change.group;
+    if change.key >= facts.names {
+        return facts.is_beside(g, h, change.key);
+    }
+    let same = old.at(h, change.key) == old.at(g, change.key);
+    facts.is_free(h, change.key) && (h == g || wide && same)
+}
+
+/// Puts one key of a group into a place: there alone, wherever it has the same place (wide), or a saved value in its region. The
+/// new places are the old ones before. Whether it can.
+pub fn change_place(
+    facts: &Facts,
+    old: &Places,
+    new: &mut Places,
+    change: Change,
+    frame: bool,
+    wide: bool,
+) -> bool {
+    let present = old.at(change.group, change.key);
+    let is_open = facts.is_free(change.group, change.key);
+    if change.place >= REGISTERS || change.place == present || !is_open {
+        return false;
+    }
+    for h in 0..facts.groups {
+        if reaches(facts, old, change, h, wide) {
+            let there = Change {
+                group: h,
+                key: change.key,
+                place: change.place,
+            };
+            if !put(facts, new, there, frame) {
+                return false;
+            }
+        }
+    }
+    is_sound(facts, new)
+}

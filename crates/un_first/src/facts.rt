@@ -1,0 +1,114 @@
+//! What the search knows of a function. Blocks, groups, keys and variables are numbers in the function.
+
+use crate::places::Grid;
+use un_trial::facts::{BlockFacts, Operation, Temporary};
+use un_trial::sets::RegisterSet;
+use un_trial::table::{NONE, Table};
+
+/// How many values a function hands back: the link register's and those of r16 to r27.
+pub const SAVED: u32 = 13;
+
+/// How many of them stand in registers that a call keeps.
+pub const KEPT: u32 = 12;
+
+/// The register of the first of them.
+pub const FIRST_KEPT: u32 = 16;
+
+/// A block, with the groups of places at its start and at its end.
+#[derive(Drop)]
+pub struct Block {
+    pub facts: BlockFacts,
+    pub frequency: u64,
+    /// A lower bound of the block's end.
+    pub least_end: u32,
+    pub group_in: u32,
+    pub group_out: u32,
+}
+
+/// A function. A group is a set of block boundaries joined by edges: one place for each key that is live there. Keys are the
+/// names, then the saved values.
+#[derive(Drop)]
+pub struct Facts {
+    pub blocks: Vec<Block>,
+    pub groups: u32,
+    pub names: u32,
+    pub keys: u32,
+    /// Whether a key is live in a group.
+    pub live: Grid<bool>,
+    /// The place that the model prescribes; NONE where it is free.
+    pub fixed: Grid<u32>,
+    /// Groups joined by blocks without copies of saved values have one region.
+    pub region: Table<u32>,
+    pub name_is_predicate: Table<bool>,
+    pub assignable: RegisterSet,
+    pub slots: RegisterSet,
+    pub flag: u32,
+    pub variables: u32,
+    /// The instruction variables of copies, and the register variables of values at blocks' starts, which tell whether there is a
+    /// frame.
+    pub copy_instructions: Vec<u32>,
+    pub start_registers: Vec<u32>,
+}
+
+/// Whether a list has an item.
+pub fn has(list: &[u32], item: u32) -> bool {
+    for x in list {
+        if *x == item {
+            return true;
+        }
+    }
+    false
+}
+
+/// How many items a list has.
+pub fn count_of<T>(list: &[T]) -> u32
+where
+    T: Drop,
+{
+    u32::try_from(list.len()).unwrap_or(u32::MAX)
+}
+
+/// The item at a place, 0 where there is none.
+pub fn at(list: &[u32], place: u32) -> u32 {
+    list.get(place as usize).copied().unwrap_or(0)
+}
+
+impl Block {
+    /// An operation of the block.
+    pub fn operation(&self, o: u32) -> &Operation {
+        self.facts.operations.row(o)
+    }
+
+    /// A temporary of the block.
+    pub fn temporary(&self, t: u32) -> &Temporary {
+        self.facts.temporaries.row(t)
+    }
+
+    /// Whether a temporary is a value at the block's start.
+    pub fn is_in(&self, t: u32) -> bool {
+        has(self.facts.input.as_slice(), t)
+    }
+
+    /// Whether the block calls.
+    pub fn has_call(&self) -> bool {
+        for o in &self.facts.body {
+            if self.operation(*o).is_call {
+                return true;
+            }
+        }
+        false
+    }
+}
+
+impl Facts {
+    /// Whether a key has a place in a group that the model leaves open.
+    pub fn is_free(&self, g: u32, k: u32) -> bool {
+        self.live.at(g, k) && self.fixed.at(g, k) == NONE
+    }
+
+    /// Whether a key is free in a group and has to have one place there and in another group: that of a name anywhere, that of a
+    /// saved value in its region.
+    pub fn is_beside(&self, g: u32, h: u32, k: u32) -> bool {
+        self.is_free(h, k) && self.region.at(h) == self.region.at(g)
+    }
+}

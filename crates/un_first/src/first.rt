@@ -1,0 +1,85 @@
+//! A first solution.
+
+ghost use Rattle.std.specs.Prelude.{IfOk, IfSome};
+ghost use Rattle.un_model.specs.Solutions.{IsSolution};
+ghost use Rattle.un_model.specs.Variables.{IsModel};
+
+use crate::assemble::assembled;
+use crate::facts::Facts;
+use crate::groups::facts;
+use crate::places::Grid;
+use crate::plan::Plan;
+use crate::search::Search;
+use crate::start::best_start;
+use std::alloc::{AllocError, Global};
+use un_base::memory_error::NoMemory;
+use un_lists::items::Items;
+use un_model::model::{Model, Solution};
+use un_violations::violations::violations;
+
+/// The values as a solution, where they are one.
+fn judged(alloc: Global, m: &Model, values: Vec<u32>) -> Result<Option<Solution>, NoMemory>
+    requires model { IsModel m.now }
+    ensures { IfOk result (λ found. IfSome found (λ s. IsSolution m.now s)) }
+{
+    let solution = Solution {
+        values: Items::from_vec(values),
+    };
+    let broken = violations(alloc, m, &solution)?;
+    if broken.is_empty() {
+        Ok(Some(solution))
+    } else {
+        Ok(None)
+    }
+}
+
+/// Climbs from a plan, and spends the trials that are left.
+fn improve(
+    alloc: Global,
+    search: &mut Search<'_>,
+    plan: &mut Plan,
+    reserve: u64,
+) -> Result<(), AllocError> {
+    let places = Grid::filled(alloc, search.facts.groups, search.facts.keys, 0)?;
+    let mut next = Plan::new(alloc, search.facts, places, plan.frame)?;
+    search.climb(plan, &mut next, reserve)?;
+    search.spend(plan)?;
+    Ok(())
+}
+
+/// The values that a search with so many trials finds.
+fn searched(alloc: Global, facts: &Facts, budget: u64) -> Result<Option<Vec<u32>>, AllocError> {
+    let Some(first) = facts.blocks.as_slice().first() else {
+        return Ok(None);
+    };
+    let mut search = Search::new(alloc, facts, first, budget)?;
+    let quarter = budget / 4;
+    let Some(mut plan) = best_start(alloc, &mut search, budget.saturating_sub(quarter))? else {
+        return Ok(None);
+    };
+    improve(alloc, &mut search, &mut plan, quarter)?;
+    let values = assembled(alloc, facts, &plan)?;
+    Ok(Some(values))
+}
+
+/// A solution by at most `budget` trials of blocks, which follows from the model, the bounds and the budget alone; None where none
+/// was found. `least_ends` has a lower bound of each block's end: a block that has reached it gets no more trials. A wrong one makes
+/// the answer worse, and not wrong.
+///
+/// # Errors
+/// `NoMemory` where there is no memory for the plans.
+pub fn first(
+    alloc: Global,
+    m: &Model,
+    least_ends: &[u32],
+    budget: u32,
+) -> Result<Option<Solution>, NoMemory>
+    requires model { IsModel m.now }
+    ensures { IfOk result (λ found. IfSome found (λ s. IsSolution m.now s)) }
+{
+    let facts = facts(alloc, m, least_ends)?;
+    let Some(values) = searched(alloc, &facts, u64::from(budget))? else {
+        return Ok(None);
+    };
+    judged(alloc, m, values)
+}

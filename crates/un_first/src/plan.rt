@@ -1,0 +1,150 @@
+//! Plans: places of all keys, and for each block the best schedule under them.
+
+use crate::facts::Facts;
+use crate::places::Places;
+use std::alloc::{AllocError, Global};
+
+/// What a trial may vary: the order of the source operations, and whether saved values that end in registers may be spilled.
+#[derive(Drop)]
+pub struct Recipe {
+    pub order: Vec<u32>,
+    pub spill_saved: bool,
+}
+
+impl Recipe {
+    pub fn new(alloc: Global) -> Recipe {
+        Recipe {
+            order: Vec::new(alloc),
+            spill_saved: false,
+        }
+    }
+
+    pub fn copy_from(&mut self, order: &[u32], spill_saved: bool) -> Result<(), AllocError> {
+        self.spill_saved = spill_saved;
+        copy_list(&mut self.order, order)
+    }
+}
+
+/// A block's result: its variables from its first on, and how it was made.
+#[derive(Drop)]
+pub struct Schedule {
+    pub end: u32,
+    pub copies: u32,
+    pub values: Vec<u32>,
+    pub recipe: Recipe,
+}
+
+/// The number of trials of a block under a plan's places, and the best of them where there is one.
+#[derive(Drop)]
+pub struct BlockPlan {
+    pub tried: u64,
+    pub is_found: bool,
+    pub best: Schedule,
+}
+
+/// Places, and the blocks under them.
+#[derive(Drop)]
+pub struct Plan {
+    pub places: Places,
+    pub frame: bool,
+    pub blocks: Vec<BlockPlan>,
+}
+
+/// What a plan costs: cycles, then copies, both by frequency.
+#[derive(Clone, Copy)]
+pub struct Cost {
+    pub cycles: u64,
+    pub copies: u64,
+}
+
+/// More than any plan costs.
+pub const ENDLESS: Cost = Cost {
+    cycles: u64::MAX,
+    copies: 0,
+};
+
+impl Cost {
+    /// Whether this cost is less than another.
+    pub fn is_below(self, other: Cost) -> bool {
+        self.cycles < other.cycles || self.cycles == other.cycles && self.copies < other.copies
+    }
+}
+
+/// Makes a list that of other items.
+pub fn copy_list(to: &mut Vec<u32>, from: &[u32]) -> Result<(), AllocError> {
+    to.clear();
+    to.extend_from_slice(from)
+}
+
+impl BlockPlan {
+    fn new(alloc: Global) -> BlockPlan {
+        BlockPlan {
+            tried: 0,
+            is_found: false,
+            best: Schedule {
+                end: 0,
+                copies: 0,
+                values: Vec::new(alloc),
+                recipe: Recipe::new(alloc),
+            },
+        }
+    }
+
+    /// Forgets the trials.
+    pub fn restart(&mut self) {
+        self.tried = 0;
+        self.is_found = false;
+    }
+
+    fn copy_from(&mut self, other: &BlockPlan) -> Result<(), AllocError> {
+        self.tried = other.tried;
+        self.is_found = other.is_found;
+        self.best.end = other.best.end;
+        self.best.copies = other.best.copies;
+        copy_list(&mut self.best.values, other.best.values.as_slice())?;
+        let recipe = &other.best.recipe;
+        self.best
+            .recipe
+            .copy_from(recipe.order.as_slice(), recipe.spill_saved)
+    }
+
+    /// Whether a schedule with this end and so many copies is not worse.
+    pub fn is_no_worse(&self, end: u32, copies: u32) -> bool {
+        !self.is_found || end < self.best.end || end == self.best.end && copies <= self.best.copies
+    }
+}
+
+impl Plan {
+    /// A plan without trials.
+    pub fn new(
+        alloc: Global,
+        facts: &Facts,
+        places: Places,
+        frame: bool,
+    ) -> Result<Plan, AllocError> {
+        let blocks = block_plans(alloc, facts.blocks.len())?;
+        Ok(Plan {
+            places,
+            frame,
+            blocks,
+        })
+    }
+
+    /// Makes the plan another's, which has as many blocks.
+    pub fn copy_from(&mut self, other: &Plan) -> Result<(), AllocError> {
+        self.frame = other.frame;
+        self.places.copy_from(&other.places)?;
+        for (mine, block) in self.blocks.iter_mut().zip(other.blocks.as_slice()) {
+            mine.copy_from(block)?;
+        }
+        Ok(())
+    }
+}
+
+fn block_plans(alloc: Global, count: usize) -> Result<Vec<BlockPlan>, AllocError> {
+    let mut list = Vec::new(alloc);
+    for _ in 0..count {
+        list.push(BlockPlan::new(alloc))?;
+    }
+    Ok(list)
+}

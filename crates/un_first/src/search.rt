@@ -1,0 +1,260 @@
+//! Trials of a plan's blocks.
+
+use crate::chance::Noise;
+use crate::changes::spare_slots;
+use crate::facts::{Block, Facts};
+use crate::orders::move_one;
+use crate::places::Places;
+use crate::plan::{BlockPlan, Cost, Plan, Recipe, copy_list};
+use std::alloc::{AllocError, Global};
+use un_trial::sets::{EMPTY, RegisterSet};
+use un_trial::trial::{Task, Trial};
+
+/// A recipe to begin with, where there is one.
+#[derive(Drop)]
+struct Seed {
+    is_there: bool,
+    recipe: Recipe,
+}
+
+/// The state of a search, but for its plans.
+#[derive(Drop)]
+pub struct Search<'a> {
+    pub facts: &'a Facts,
+    pub noise: Noise,
+    /// How many trials are left.
+    pub left: u64,
+    /// The cost of the blocks' least ends.
+    pub least: u64,
+    trial: Trial<'a>,
+    recipe: Recipe,
+    /// The present plan's recipes are the first trials under other places.
+    seeds: Vec<Seed>,
+}
+
+/// The cost of a block that ends so.
+fn cycles(block: &Block, end: u32) -> u64 {
+    block
+        .frequency
+        .saturating_mul(u64::from(end.saturating_sub(1)))
+}
+
+/// The cost of the blocks' least ends.
+fn least_cost(facts: &Facts) -> u64 {
+    let mut sum = 0u64;
+    for block in &facts.blocks {
+        sum = sum.saturating_add(cycles(block, block.least_end));
+    }
+    sum
+}
+
+fn seeds(alloc: Global, count: usize) -> Result<Vec<Seed>, AllocError> {
+    let mut list = Vec::new(alloc);
+    for _ in 0..count {
+        list.push(Seed {
+            is_there: false,
+            recipe: Recipe::new(alloc),
+        })?;
+    }
+    Ok(list)
+}
+
+impl<'a> Search<'a> {
+    /// A search with so many trials, which begin at one of the function's blocks.
+    pub fn new(
+        alloc: Global,
+        facts: &'a Facts,
+        first: &'a Block,
+        budget: u64,
+    ) -> Result<Search<'a>, AllocError> {
+        let task = Task {
+            block: &first.facts,
+            frame: false,
+            spill_saved: false,
+            assignable: EMPTY,
+            spare_slots: EMPTY,
+        };
+        let seeds = seeds(alloc, facts.blocks.len())?;
+        Ok(Search {
+            facts,
+            noise: Noise::new(0),
+            left: budget,
+            least: least_cost(facts),
+            trial: Trial::empty(alloc, task),
+            recipe: Recipe::new(alloc),
+            seeds,
+        })
+    }
+
+    /// The recipe of a block's first trial: the seed or the source order.
+    fn first_recipe(&mut self, b: u32, block: &Block, spill_saved: bool) -> Result<(), AllocError> {
+        match self.seeds.get(b as usize) {
+            Some(seed) if seed.is_there => {
+                self.recipe
+                    .copy_from(seed.recipe.order.as_slice(), seed.recipe.spill_saved)
+            }
+            _ => self
+                .recipe
+                .copy_from(block.facts.body.as_slice(), spill_saved),
+        }
+    }
+
+    /// The recipe of a further trial: the best so far with one to three operations moved.
+    fn other_recipe(
+        &mut self,
+        block: &Block,
+        mine: &BlockPlan,
+        spill_saved: bool,
+    ) -> Result<(), AllocError> {
+        if mine.is_found {
+            let best = &mine.best.recipe;
+            self.recipe
+                .copy_from(best.order.as_slice(), best.spill_saved)?;
+        } else {
+            self.recipe
+                .copy_from(block.facts.body.as_slice(), spill_saved)?;
+        }
+        if self.noise.one_in(8) {
+            self.recipe.spill_saved = spill_saved;
+        }
+        let moves = self.noise.below(3).saturating_add(1);
+        for _ in 0..moves {
+            move_one(block, self.recipe.order.as_mut_slice(), &mut self.noise);
+        }
+        Ok(())
+    }
+
+    fn next_recipe(&mut self, b: u32, block: &Block, mine: &BlockPlan) -> Result<(), AllocError> {
+        let spill_saved = self.noise.one_in(2);
+        if mine.tried == 0 {
+            self.first_recipe(b, block, spill_saved)
+        } else {
+            self.other_recipe(block, mine, spill_saved)
+        }
+    }
+
+    /// Makes the trial the best of its block, where it is not worse.
+    fn keep(&mut self, end: u32, mine: &mut BlockPlan) -> Result<(), AllocError> {
+        let copies = self.trial.copies();
+        if !mine.is_no_worse(end, copies) {
+            return Ok(());
+        }
+        mine.is_found = true;
+        mine.best.end = end;
+        mine.best.copies = copies;
+        copy_list(&mut mine.best.values, self.trial.values())?;
+        mine.best
+            .recipe
+            .copy_from(self.recipe.order.as_slice(), self.recipe.spill_saved)
+    }
+
+    /// Makes one trial of a block.
+    fn try_block(
+        &mut self,
+        b: u32,
+        block: &'a Block,
+        scene: &Scene<'_>,
+        mine: &mut BlockPlan,
+    ) -> Result<(), AllocError> {
+        self.next_recipe(b, block, mine)?;
+        let task = Task {
+            block: &block.facts,
+            frame: scene.frame,
+            spill_saved: self.recipe.spill_saved,
+            assignable: self.facts.assignable,
+            spare_slots: scene.spare_slots,
+        };
+        let start = scene.places.row(block.group_in);
+        let finish = scene.places.row(block.group_out);
+        let end = self
+            .trial
+            .run(task, start, finish, self.recipe.order.as_slice())?;
+        self.left = self.left.saturating_sub(1);
+        mine.tried = mine.tried.saturating_add(1);
+        match end {
+            Some(found) => self.keep(found, mine),
+            None => Ok(()),
+        }
+    }
+
+    /// Makes the trials of a block up to `effort`, until its end is the least.
+    fn try_up_to(
+        &mut self,
+        b: u32,
+        block: &'a Block,
+        scene: &Scene<'_>,
+        mine: &mut BlockPlan,
+        effort: u64,
+    ) -> Result<(), AllocError> {
+        for _ in mine.tried..effort {
+            let is_least = mine.is_found && mine.best.end <= block.least_end;
+            if is_least || self.left == 0 {
+                break;
+            }
+            self.try_block(b, block, scene, mine)?;
+        }
+        Ok(())
+    }
+
+    /// Makes the trials of each block up to `effort`. Answers the cost; None where it exceeds the limit or a block has no schedule.
+    pub fn cost(
+        &mut self,
+        plan: &mut Plan,
+        effort: u64,
+        limit: u64,
+    ) -> Result<Option<Cost>, AllocError> {
+        let facts = self.facts;
+        let scene = Scene {
+            places: &plan.places,
+            frame: plan.frame,
+            spare_slots: spare_slots(facts, &plan.places),
+        };
+        let mut cost = Cost {
+            cycles: 0,
+            copies: 0,
+        };
+        let mut b = 0u32;
+        for (mine, block) in plan.blocks.iter_mut().zip(facts.blocks.as_slice()) {
+            self.try_up_to(b, block, &scene, mine, effort)?;
+            if !mine.is_found {
+                return Ok(None);
+            }
+            cost = with_block(cost, block, mine);
+            if cost.cycles > limit {
+                return Ok(None);
+            }
+            b = b.saturating_add(1);
+        }
+        Ok(Some(cost))
+    }
+
+    /// Makes the plan's recipes those of the first trials under other places.
+    pub fn remember(&mut self, plan: &Plan) -> Result<(), AllocError> {
+        for (seed, mine) in self.seeds.iter_mut().zip(plan.blocks.as_slice()) {
+            if mine.is_found {
+                let recipe = &mine.best.recipe;
+                seed.is_there = true;
+                seed.recipe
+                    .copy_from(recipe.order.as_slice(), recipe.spill_saved)?;
+            }
+        }
+        Ok(())
+    }
+}
+
+/// A cost with that of one block more.
+fn with_block(cost: Cost, block: &Block, mine: &BlockPlan) -> Cost {
+    let copies = block.frequency.saturating_mul(u64::from(mine.best.copies));
+    Cost {
+        cycles: cost.cycles.saturating_add(cycles(block, mine.best.end)),
+        copies: cost.copies.saturating_add(copies),
+    }
+}
+
+/// What the trials of a plan share.
+#[derive(Clone, Copy)]
+struct Scene<'p> {
+    places: &'p Places,
+    frame: bool,
+    spare_slots: RegisterSet,
+}

@@ -1,0 +1,142 @@
+//! Which block's places are changed, and what its schedule would like.
+
+use crate::chance::Noise;
+use crate::changes::Change;
+use crate::facts::{Block, Facts, at};
+use crate::plan::{BlockPlan, Plan};
+use un_trial::facts::Operation;
+use un_trial::table::NONE;
+
+/// What a block costs above its least end.
+fn excess(block: &Block, mine: &BlockPlan) -> u64 {
+    let end = if mine.is_found { mine.best.end } else { 0 };
+    block
+        .frequency
+        .saturating_mul(u64::from(end.saturating_sub(block.least_end)))
+}
+
+fn total_excess(facts: &Facts, plan: &Plan) -> u64 {
+    let mut sum = 0u64;
+    for (block, mine) in facts.blocks.as_slice().iter().zip(plan.blocks.as_slice()) {
+        sum = sum.saturating_add(excess(block, mine));
+    }
+    sum
+}
+
+/// A block by chance: by the cost above its least, one in four any.
+pub fn pick_block(facts: &Facts, plan: &Plan, noise: &mut Noise) -> u32 {
+    let total = total_excess(facts, plan);
+    if noise.one_in(4) {
+        return noise.place(u32::try_from(facts.blocks.len()).unwrap_or(0));
+    }
+    let mut rest = noise.below(total);
+    let mut b = 0u32;
+    for (block, mine) in facts.blocks.as_slice().iter().zip(plan.blocks.as_slice()) {
+        let excess = excess(block, mine);
+        if rest < excess {
+            return b;
+        }
+        rest = rest.saturating_sub(excess);
+        b = b.saturating_add(1);
+    }
+    0
+}
+
+/// A block's schedule as it is read: the values of variables.
+#[derive(Clone, Copy)]
+struct Reading<'a> {
+    block: &'a Block,
+    values: &'a [u32],
+}
+
+impl<'a> Reading<'a> {
+    /// The value of a variable, 0 where the block has none.
+    fn value(&self, variable: u32) -> u32 {
+        at(
+            self.values,
+            variable.saturating_sub(self.block.facts.first_variable),
+        )
+    }
+
+    /// The register of a temporary.
+    fn register(&self, t: u32) -> u32 {
+        self.value(self.block.temporary(t).register)
+    }
+
+    /// Whether an operation is an active copy of a value that stands at the block's start or at its end.
+    fn is_copied(&self, op: &Operation) -> bool {
+        let Some(x) = op.operands.first() else {
+            return false;
+        };
+        let is_copy = op.instruction != NONE && op.result != NONE;
+        let is_at_bound = self.block.is_in(x.value) || self.block.temporary(x.value).at_end != NONE;
+        is_copy && self.value(op.instruction) > 0 && is_at_bound
+    }
+
+    /// How many such copies there are.
+    fn copies(&self) -> u32 {
+        let mut count = 0u32;
+        for o in 0..self.block.facts.operations.len() {
+            if self.is_copied(self.block.operation(o)) {
+                count = count.saturating_add(1);
+            }
+        }
+        count
+    }
+
+    /// One of them.
+    fn copy(&self, place: u32) -> Option<&'a Operation> {
+        let mut left = place;
+        for o in 0..self.block.facts.operations.len() {
+            let op = self.block.operation(o);
+            if self.is_copied(op) {
+                if left == 0 {
+                    return Some(op);
+                }
+                left = left.saturating_sub(1);
+            }
+        }
+        None
+    }
+
+    /// The temporary that a copy reads.
+    fn source(&self, op: &Operation) -> Option<u32> {
+        let x = op.operands.first()?;
+        let choice = if x.choice == NONE {
+            0
+        } else {
+            self.value(x.choice)
+        };
+        x.alternatives.get(choice as usize).copied()
+    }
+}
+
+/// A place that makes a copy of a block's schedule needless: where a copy of a value from the block's start went, or where a value
+/// stood that was copied to its place at the end.
+pub fn wish_of(block: &Block, mine: &BlockPlan, noise: &mut Noise) -> Option<Change> {
+    if !mine.is_found {
+        return None;
+    }
+    let reading = Reading {
+        block,
+        values: mine.best.values.as_slice(),
+    };
+    let op = reading.copy(noise.place(reading.copies()))?;
+    let source = reading.source(op)?;
+    let v = op.operands.first()?.value;
+    let x = block.temporary(v);
+    let is_start = block.is_in(v) && (x.at_end == NONE || noise.one_in(2));
+    if is_start {
+        Some(Change {
+            group: block.group_in,
+            key: x.key,
+            place: reading.register(op.result),
+        })
+    } else {
+        Some(Change {
+            group: block.group_out,
+            key: x.key,
+            place: reading.register(source),
+        })
+    }
+}

@@ -1,0 +1,4 @@
+pub mod Lowering
+pub mod Merging
+pub mod Passes
+pub mod Pins
