@@ -146,7 +146,8 @@ impl Store {
         ensures marks { length self.now.marked < 2 ^ 32 }
         ensures full { All NoneEmpty self.now.marked }
         ensures long { All (λ m. length m ≡ length self.now.sets) self.now.marked }
-        ensures spread { (v : ℕ) → 1 < length (set_at self.now.sets v) → least (set_at self.now.sets v) < greatest (set_at self.now.sets v) }
+        ensures spread { (v : ℕ) → 1 < length (set_at self.now.sets v)
+            → least (set_at self.now.sets v) < greatest (set_at self.now.sets v) }
     {
         let _ = &self.shapes;
     }

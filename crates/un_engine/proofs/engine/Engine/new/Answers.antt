@@ -3,18 +3,28 @@ use Rattle.un_domains.specs.Sets.{Sets}
 use Rattle.std.proofs.lemmas.List.{length-replicate}
 use Rattle.un_prop.specs.Pruning.{IsFix}
 use Rattle.un_prop.specs.Rounds.{fix_of}
-use Rattle.un_prop.specs.declared.run.Fix.TheVariants.{Stable}
+use Rattle.un_prop.specs.declared.run.Fix.TheVariants.{Stable, Failed as Lost}
 use Rattle.un_engine.specs.Engines.{AllNoted, IsNode}
-use Rattle.un_engine.proofs.EngineLaws.{fix_rests, stable_is, vars_kept}
+use Rattle.un_engine.proofs.EngineLaws.{fix_rests, stable_is, failed_is, vars_kept}
 use Rattle.un_engine.proofs.engine.Engine.new.Goals as goal
 
 pub returns-in-Stable : goal.returns-in-Stable
 returns-in-Stable g c =
     let P = g.P.Propagator in
     let t = c.run_from-fix.new.store.sets in
-    let fix : IsFix (fix_of P.cut c.args.props.items c.args.store.sets) t Stable = rw (← c.as_slice-3.ensures.value) c.in-Stable.ensures.rounds in
+    let fix : IsFix (fix_of P.cut c.args.props.items c.args.store.sets) t Stable = rw (← c.as_slice-3.ensures.value)
+        c.in-Stable.ensures.rounds in
     let left = stable_is (fix_of P.cut c.args.props.items c.args.store.sets) t fix in
-    record { props = refl; fix = left.0; long = c.run_from-fix.ensures.long; live = left.1; fresh = c.run_from-fix.ensures.marked ∙ c.requires.fresh }
+    record { props = refl; fix = left.0; long = c.run_from-fix.ensures.long; live = left.1; fresh = c.run_from-fix.ensures.marked ∙
+        c.requires.fresh }
+
+pub returns-in-Failed : goal.returns-in-Failed
+returns-in-Failed g c =
+    let P = g.P.Propagator in
+    let t = c.run_from-fix.new.store.sets in
+    let fix : IsFix (fix_of P.cut c.args.props.items c.args.store.sets) t Lost =
+    rw (← c.as_slice-3.ensures.value) c.in-Failed.ensures.rounds in
+    failed_is (fix_of P.cut c.args.props.items c.args.store.sets) t fix
 
 pub invariant_of-result : goal.invariant_of-result
 invariant_of-result g c =
@@ -23,12 +33,13 @@ invariant_of-result g c =
     let s = c.args.store.sets in
     let t = c.run_from-fix.new.store in
     let fix : IsFix (fix_of P.cut ps s) t.sets Stable = rw (← c.as_slice-3.ensures.value) c.in-Stable.ensures.rounds in
-    let rests = fix_rests g.P.Predicate.scope P.cut g.met.P.Propagator.lawful P.span ps s t.sets Stable c.requires.known c.requires.live fix in
+    let rests = fix_rests g.P.Predicate.scope P.cut g.met.P.Propagator.lawful P.span ps s t.sets Stable c.requires.known
+        c.requires.live fix in
     let long = c.run_from-fix.ensures.long in
     let vars : length t.sets ≡ c.len-vars.result = long ∙ sym c.len-vars.ensures in
     record {
       known = vars_kept g.P.Predicate.scope P.cut g.met.P.Propagator.lawful P.span ps s t.sets long c.requires.known;
-      room = λ i d lt. (let r = c.in_ok-scratch.ensures in let one = c.requires.room i d lt in record {
+      room = λ i d lt. (let r = c.in_ok-scratch.ensures in let one = c.requires.spans i d lt in record {
         fixed = omega (arith, r.fixed, vars, c.run_from-fix.ensures.fixed);
         cycles = omega (arith, r.cycles, one, c.run_from-fix.ensures.cycles);
       });
@@ -37,8 +48,10 @@ invariant_of-result g c =
           ∙ ap length c.as_slice-2.ensures.value)));
       sizes = λ full. c.in-Stable.ensures.sizes refl;
       stable = λ full. (rests full).1;
-      marks = subst (All (IsNode P.cut ps (length t.sets))) (sym (c.run_from-fix.ensures.marked ∙ c.requires.fresh)) (λ i d lt. absurd (omega (arith, lt)));
-      notes = subst (λ (ms : List Sets). AllNoted c.run_from-fix.new.sizes.marked ms) (sym (c.run_from-fix.ensures.marked ∙ c.requires.fresh))
+      marks = subst (All (IsNode P.cut ps (length t.sets))) (sym (c.run_from-fix.ensures.marked ∙ c.requires.fresh))
+          (λ i d lt. absurd (omega (arith, lt)));
+      notes = subst (λ (ms : List Sets). AllNoted c.run_from-fix.new.sizes.marked ms)
+          (sym (c.run_from-fix.ensures.marked ∙ c.requires.fresh))
           (subst (λ (ns : List (List ℕ)). AllNoted ns []) (sym (c.run_from-fix.ensures.noted ∙ c.new-sizes.ensures.marked)) tt);
     }
 
