@@ -1,0 +1,4 @@
+pub mod Boxes
+pub mod Covered
+pub mod Texts
+pub mod Waits

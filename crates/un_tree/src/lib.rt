@@ -1,0 +1,8 @@
+//! Trees of a search: nodes in preorder, where they stand, and their text, written and read.
+#![tactic(auto)]
+
+pub mod laws;
+mod line;
+pub mod node;
+pub mod print;
+pub mod read;

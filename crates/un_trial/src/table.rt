@@ -1,0 +1,71 @@
+//! Total tables: a place outside answers a default and ignores a change.
+
+use std::alloc::AllocError;
+
+/// No register, slot, operation, temporary, key or variable.
+pub const NONE: u32 = u32::MAX;
+
+/// A table whose places outside answer one item.
+#[derive(Drop)]
+pub struct Table<T> {
+    items: Vec<T>,
+    outside: T,
+}
+
+impl<T> Table<T> {
+    /// The items as a table. It takes no memory.
+    pub fn of(items: Vec<T>, outside: T) -> Table<T> {
+        Table { items, outside }
+    }
+
+    /// How many places there are.
+    pub fn len(&self) -> u32 {
+        u32::try_from(self.items.len()).unwrap_or(u32::MAX)
+    }
+
+    /// The items.
+    pub fn as_slice(&self) -> &[T] {
+        self.items.as_slice()
+    }
+
+    /// The item at a place, lent.
+    pub fn row(&self, i: u32) -> &T {
+        match self.items.get(i as usize) {
+            Some(item) => item,
+            None => &self.outside,
+        }
+    }
+}
+
+impl<T: Copy> Table<T> {
+    /// Makes the table one of so many places, all with this item.
+    pub fn refill(&mut self, length: u32, item: T) -> Result<(), AllocError> {
+        self.items.clear();
+        self.items.resize(length as usize, item)
+    }
+
+    /// Makes the table one of these items.
+    pub fn copy_from(&mut self, items: &[T]) -> Result<(), AllocError> {
+        self.items.clear();
+        self.items.extend_from_slice(items)
+    }
+
+    /// The item at a place.
+    pub fn at(&self, i: u32) -> T {
+        *self.row(i)
+    }
+
+    /// Another item at a place.
+    pub fn put(&mut self, i: u32, item: T) {
+        if let Some(place) = self.items.get_mut(i as usize) {
+            *place = item;
+        }
+    }
+}
+
+impl Table<u32> {
+    /// At least this number at a place.
+    pub fn raise(&mut self, i: u32, item: u32) {
+        self.put(i, self.at(i).max(item));
+    }
+}

@@ -1,0 +1,270 @@
+//! One trial: a block is allocated and scheduled in one sweep over an order of its operations. Registers and slots go to values
+//! as the sweep meets them; every instruction takes the first cycle that fits. A step that cannot be made ends the trial.
+
+mod body;
+mod calls;
+mod choice;
+mod ends;
+mod moves;
+mod ranges;
+mod spills;
+
+use crate::facts::{BlockFacts, Needs, Operand, Operation, ROOM, Temporary};
+use crate::sets::{EMPTY, REGISTERS, RegisterSet};
+use crate::table::{NONE, Table};
+use std::alloc::{AllocError, Global};
+
+/// What a trial is made of, besides its order and the places: the block, whether the function has a frame, whether saved values
+/// that end in registers may be spilled, the registers that may be assigned, and the slots that no place uses.
+#[derive(Clone, Copy)]
+pub struct Task<'a> {
+    pub block: &'a BlockFacts,
+    pub frame: bool,
+    pub spill_saved: bool,
+    pub assignable: RegisterSet,
+    pub spare_slots: RegisterSet,
+}
+
+/// A temporary's register and its live range so far, `defined` to `last_read`.
+#[derive(Clone, Copy)]
+struct Stay {
+    active: bool,
+    register: u32,
+    defined: u32,
+    available: u32,
+    last_read: u32,
+}
+
+const NOWHERE: Stay = Stay {
+    active: false,
+    register: NONE,
+    defined: 0,
+    available: 0,
+    last_read: 0,
+};
+
+const NO_NEEDS: Needs = [0, 0, 0, 0, 0];
+
+/// How far a trial has come.
+#[derive(Clone, Copy)]
+struct Marks {
+    /// The registers from which nothing may be moved now.
+    locked: RegisterSet,
+    /// The registers and slots in which values end.
+    ends_in: RegisterSet,
+    /// The place in the order. The terminator reads at the order's length, the block's end one behind it.
+    position: u32,
+    copies: u32,
+    last_cycle: u32,
+    /// The last cycle of a Spill or Reload.
+    last_touch: u32,
+    last_call: u32,
+    /// The first cycle behind Enter.
+    frame_from: u32,
+}
+
+const START: Marks = Marks {
+    locked: EMPTY,
+    ends_in: EMPTY,
+    position: 0,
+    copies: 0,
+    last_cycle: 0,
+    last_touch: 0,
+    last_call: 0,
+    frame_from: 1,
+};
+
+/// The place of an item in a list.
+fn place_of(list: &[u32], item: u32) -> Option<u32> {
+    let mut place = 0u32;
+    for x in list {
+        if *x == item {
+            return Some(place);
+        }
+        place = place.saturating_add(1);
+    }
+    None
+}
+
+/// The state of a trial. Its tables serve one trial after another.
+#[derive(Drop)]
+pub struct Trial<'a> {
+    task: Task<'a>,
+    /// The places of all keys at the block's start and at its end.
+    start: Table<u32>,
+    finish: Table<u32>,
+    /// The source operations in the order in which they are placed, the place of each operation, the places of calls.
+    order: Table<u32>,
+    position_of: Table<u32>,
+    calls: Vec<u32>,
+    /// The block's variables from its first on.
+    values: Table<u32>,
+    /// What each packet has given away.
+    counts: Table<Needs>,
+    stays: Table<Stay>,
+    /// Whether a copy was made.
+    placed: Table<bool>,
+    /// The temporary in each register and slot, and the cycle from which another may start there.
+    occupant: Table<u32>,
+    free_from: Table<u32>,
+    marks: Marks,
+}
+
+/// A table of numbers without places.
+fn no_numbers(alloc: Global, outside: u32) -> Table<u32> {
+    Table::of(Vec::new(alloc), outside)
+}
+
+impl<'a> Trial<'a> {
+    /// A trial without tables. It takes no memory yet.
+    pub fn empty(alloc: Global, task: Task<'a>) -> Trial<'a> {
+        Trial {
+            task,
+            start: no_numbers(alloc, NONE),
+            finish: no_numbers(alloc, NONE),
+            order: no_numbers(alloc, NONE),
+            position_of: no_numbers(alloc, NONE),
+            calls: Vec::new(alloc),
+            values: no_numbers(alloc, 0),
+            counts: Table::of(Vec::new(alloc), NO_NEEDS),
+            stays: Table::of(Vec::new(alloc), NOWHERE),
+            placed: Table::of(Vec::new(alloc), false),
+            occupant: no_numbers(alloc, NONE),
+            free_from: no_numbers(alloc, 0),
+            marks: START,
+        }
+    }
+
+    /// Makes a trial of the task: a sweep over the order, with these places of the keys at the block's start and end. Answers the
+    /// block's end; None where a step cannot be made.
+    pub fn run(
+        &mut self,
+        task: Task<'a>,
+        start: &[u32],
+        finish: &[u32],
+        order: &[u32],
+    ) -> Result<Option<u32>, AllocError> {
+        self.task = task;
+        self.start.copy_from(start)?;
+        self.finish.copy_from(finish)?;
+        self.order.copy_from(order)?;
+        self.clear()?;
+        self.note_order()?;
+        Ok(self.sweep())
+    }
+
+    /// Clears the tables for the task's block.
+    fn clear(&mut self) -> Result<(), AllocError> {
+        let block = self.task.block;
+        self.marks = START;
+        self.values.refill(block.variables, 0)?;
+        self.counts.refill(block.horizon, NO_NEEDS)?;
+        self.stays.refill(block.temporaries.len(), NOWHERE)?;
+        self.placed.refill(block.operations.len(), false)?;
+        self.occupant.refill(REGISTERS, NONE)?;
+        self.free_from.refill(REGISTERS, 0)?;
+        self.position_of.refill(block.operations.len(), NONE)
+    }
+
+    /// Notes the place of each operation, the calls, and the registers in which values end.
+    fn note_order(&mut self) -> Result<(), AllocError> {
+        self.calls.clear();
+        for place in 0..self.order.len() {
+            let o = self.order.at(place);
+            self.position_of.put(o, place);
+            if self.operation(o).is_call {
+                self.calls.push(place)?;
+            }
+        }
+        self.position_of
+            .put(self.task.block.terminator, self.order.len());
+        for x in &self.operation(self.task.block.output).operands {
+            let r = self.place_at_end(x);
+            self.marks.ends_in = self.marks.ends_in.with(r);
+        }
+        Ok(())
+    }
+
+    /// How many copies the trial made.
+    pub fn copies(&self) -> u32 {
+        self.marks.copies
+    }
+
+    /// The values of the block's variables, from its first on.
+    pub fn values(&self) -> &[u32] {
+        self.values.as_slice()
+    }
+
+    fn operation(&self, o: u32) -> &'a Operation {
+        self.task.block.operations.row(o)
+    }
+
+    fn temporary(&self, t: u32) -> &'a Temporary {
+        self.task.block.temporaries.row(t)
+    }
+
+    fn value_of(&self, t: u32) -> u32 {
+        self.temporary(t).value
+    }
+
+    fn length(&self) -> u32 {
+        self.order.len()
+    }
+
+    fn set(&mut self, variable: u32, x: u32) {
+        let first = self.task.block.first_variable;
+        self.values.put(variable.saturating_sub(first), x);
+    }
+
+    fn cycle_of(&self, o: u32) -> u32 {
+        let variable = self.operation(o).cycle;
+        self.values
+            .at(variable.saturating_sub(self.task.block.first_variable))
+    }
+
+    fn choose(&mut self, x: &Operand, t: u32) -> Option<()> {
+        let place = place_of(x.alternatives.as_slice(), t)?;
+        self.set(x.choice, place);
+        Some(())
+    }
+
+    fn fits(&self, cycle: u32, needs: Needs) -> bool {
+        let used = self.counts.at(cycle);
+        for k in 0..5 {
+            if used[k].saturating_add(needs[k]) > ROOM[k] {
+                return false;
+            }
+        }
+        true
+    }
+
+    /// The first cycle from `earliest` on with room; the horizon where there is none.
+    fn first_fit(&self, earliest: u32, needs: Needs) -> u32 {
+        let horizon = self.task.block.horizon;
+        for c in earliest.max(1)..horizon {
+            if self.fits(c, needs) {
+                return c;
+            }
+        }
+        horizon
+    }
+
+    fn issue(&mut self, o: u32, cycle: u32, needs: Needs) {
+        let mut used = self.counts.at(cycle);
+        for k in 0..5 {
+            used[k] = used[k].saturating_add(needs[k]);
+        }
+        self.counts.put(cycle, used);
+        self.marks.last_cycle = self.marks.last_cycle.max(cycle);
+        self.set(self.operation(o).cycle, cycle);
+    }
+
+    /// The least cycle that the precedences to an operation allow.
+    fn ready(&self, o: u32) -> u32 {
+        let mut ready = 1;
+        for gap in &self.operation(o).before {
+            ready = ready.max(self.cycle_of(gap.from).saturating_add(gap.cycles));
+        }
+        ready
+    }
+}

@@ -1,0 +1,105 @@
+//! The choice of registers.
+
+use super::Trial;
+use crate::sets::{FIRST_SLOT, GENERAL, KEPT, PREDICATES, RegisterSet};
+use crate::table::NONE;
+
+impl<'a> Trial<'a> {
+    /// The free register that is free first; the hint is preferred, places of others at the end are spared.
+    pub(super) fn best_free(&self, set: RegisterSet, earliest: u32, hint: u32) -> u32 {
+        let open = set.minus(self.marks.locked);
+        let mut best = NONE;
+        let mut least = u64::MAX;
+        for r in 0..FIRST_SLOT {
+            if !open.has(r) || self.occupant.at(r) != NONE {
+                continue;
+            }
+            let taste = if r == hint {
+                0
+            } else if self.marks.ends_in.has(r) {
+                100
+            } else {
+                80
+            };
+            let start = u64::from(earliest.max(self.free_from.at(r)));
+            let score = start.saturating_mul(64).saturating_add(taste);
+            if score < least {
+                least = score;
+                best = r;
+            }
+        }
+        best
+    }
+
+    /// How willingly the saved value in a register gives it up; 2 where it does not.
+    fn kept_rank(&self, r: u32) -> u32 {
+        let t = self.occupant.at(r);
+        let x = self.temporary(t);
+        if self.marks.locked.has(r)
+            || x.saved == NONE
+            || x.value != t
+            || !self.copy_is_left(x.copy)
+        {
+            return 2;
+        }
+        if self.ends_in_slot(t) {
+            return 0;
+        }
+        if self.task.spill_saved { 1 } else { 2 }
+    }
+
+    /// A kept register for a value that crosses a call: a free one, else that of a saved value which goes to a slot anyway, or
+    /// which may be spilled.
+    pub(super) fn take_kept(&mut self, earliest: u32, hint: u32) -> u32 {
+        let set = KEPT.and(self.task.assignable);
+        let free = self.best_free(set, earliest, hint);
+        if free != NONE {
+            return free;
+        }
+        let mut best = NONE;
+        let mut least = 2;
+        for r in 0..FIRST_SLOT {
+            let rank = if set.has(r) { self.kept_rank(r) } else { 2 };
+            if rank < least {
+                least = rank;
+                best = self.occupant.at(r);
+            }
+        }
+        self.evict_general(best).unwrap_or(NONE)
+    }
+
+    pub(super) fn take_general(&mut self, earliest: u32, hint: u32, crosses: bool) -> Option<u32> {
+        let set = self.task.assignable.and(GENERAL);
+        let kept = if crosses {
+            self.take_kept(earliest, hint)
+        } else {
+            NONE
+        };
+        if kept != NONE {
+            return Some(kept);
+        }
+        let free = self.best_free(set, earliest, hint);
+        if free != NONE {
+            return Some(free);
+        }
+        self.evict_general(self.victim(set))
+    }
+
+    pub(super) fn take_predicate(&mut self, earliest: u32, hint: u32) -> Option<u32> {
+        let free = self.best_free(PREDICATES, earliest, hint);
+        if free != NONE {
+            return Some(free);
+        }
+        self.evict_predicate(self.victim(PREDICATES))
+    }
+
+    /// A predicate's copy d in a general register.
+    pub(super) fn to_general(&mut self, v: u32, crosses: bool) -> Option<u32> {
+        let copy = self.temporary(v).copy;
+        if !self.copy_is_left(copy) || !self.is_resident(v) {
+            return None;
+        }
+        let r = self.take_general(0, NONE, crosses)?;
+        self.copy(copy, v, r)
+    }
+}

@@ -1,0 +1,277 @@
+//! Operands that are brought to registers, one by one and in parallel. A list of pairs has places of the reader's operands, with the
+//! registers that they want or the temporaries that they got.
+
+use super::{Trial, place_of};
+use crate::facts::{Operand, copy_instruction};
+use crate::pairs::{Pair, Pairs};
+use crate::sets::{GENERAL, Space, space_at};
+use crate::table::NONE;
+
+impl<'a> Trial<'a> {
+    /// How late a source is: slots come last.
+    fn lateness(&self, t: u32) -> u64 {
+        let late = if self.space_of(t) == Space::Slot {
+            1u64 << 32
+        } else {
+            0
+        };
+        u64::from(self.stays.at(t).available) | late
+    }
+
+    /// What an operand's copy reads: the register temporary that is available first, else a slot.
+    fn source(&self, x: &Operand) -> u32 {
+        let mut best = NONE;
+        let mut least = u64::MAX;
+        for y in &self.operation(x.copy).operands {
+            for t in &y.alternatives {
+                if self.is_resident(*t) && self.lateness(*t) < least {
+                    best = *t;
+                    least = self.lateness(*t);
+                }
+            }
+        }
+        best
+    }
+
+    /// Brings an operand's value into a register: by u, or by two copies between slots and predicate registers.
+    fn bring(&mut self, x: &Operand, register: u32) -> Option<u32> {
+        let source = self.source(x);
+        if source == NONE {
+            return None;
+        }
+        let from = self.space_of(source);
+        if copy_instruction(from, space_at(register)).is_some() {
+            return self.copy(x.copy, source, register);
+        }
+        if from == Space::Predicate {
+            let middle = self.to_general(x.value, false)?;
+            return self.bring_on(x.copy, middle, register);
+        }
+        let r = self.take_general(0, NONE, false)?;
+        let middle = self.copy(x.copy, source, r)?;
+        self.bring_on(x.second_copy, middle, register)
+    }
+
+    /// The second of two copies, behind which the first is let go.
+    pub(super) fn bring_on(&mut self, copy: u32, middle: u32, register: u32) -> Option<u32> {
+        let got = self.copy(copy, middle, register)?;
+        self.release(middle);
+        Some(got)
+    }
+
+    /// An operand's alternative in a register that is available first.
+    fn standing(&self, x: &Operand, wanted: Space) -> u32 {
+        let mut best = NONE;
+        let mut least = u32::MAX;
+        for t in &x.alternatives {
+            let is_there = self.is_resident(*t) && self.space_of(*t) == wanted;
+            if is_there && self.stays.at(*t).available < least {
+                best = *t;
+                least = self.stays.at(*t).available;
+            }
+        }
+        best
+    }
+
+    pub(super) fn take(
+        &mut self,
+        is_predicate: bool,
+        v: u32,
+        earliest: u32,
+        hint: u32,
+    ) -> Option<u32> {
+        if is_predicate {
+            self.take_predicate(earliest, hint)
+        } else {
+            self.take_general(earliest, hint, self.crosses(v))
+        }
+    }
+
+    /// The temporary that an operand reads: one that stands in a register, else a new one.
+    pub(super) fn acquire(&mut self, x: &Operand, hint: u32) -> Option<u32> {
+        let is_predicate = self.temporary(x.value).is_predicate;
+        let wanted = if is_predicate {
+            Space::Predicate
+        } else {
+            Space::General
+        };
+        let best = self.standing(x, wanted);
+        if best != NONE {
+            return Some(best);
+        }
+        let source = self.source(x);
+        self.lock(source);
+        let earliest = self.stays.at(source).available;
+        let r = self.take(is_predicate, x.value, earliest, hint)?;
+        self.bring(x, r)
+    }
+
+    pub(super) fn lock_all(&mut self, got: &Pairs) {
+        for i in 0..got.len() {
+            self.lock(got.at(i).item);
+        }
+    }
+
+    /// Whether a value is wanted in another register.
+    fn is_wanted(&self, operands: &[Operand], v: u32, register: u32, wanted: &Pairs) -> bool {
+        for i in 0..wanted.len() {
+            let pair = wanted.at(i);
+            if let Some(x) = operands.get(pair.place as usize)
+                && x.value == v
+                && pair.item != register
+            {
+                return true;
+            }
+        }
+        false
+    }
+
+    /// Whether a register can be filled now, after its occupant was let go where that loses nothing.
+    fn vacate(&mut self, register: u32, reader: u32, wanted: &Pairs) -> bool {
+        let t = self.occupant.at(register);
+        if self.marks.locked.has(register) || t == NONE {
+            return !self.marks.locked.has(register);
+        }
+        let v = self.value_of(t);
+        let operands = self.operation(reader).operands.as_slice();
+        let is_read_later = reader != self.task.block.output && self.use_behind(v) != NONE;
+        let is_used = is_read_later || self.is_wanted(operands, v, register, wanted);
+        if self.is_elsewhere(t) || !is_used {
+            self.release(t);
+        }
+        self.occupant.at(register) == NONE
+    }
+
+    /// One of the values in the way goes to a free register by its copy d.
+    fn break_ring(&mut self, wanted: &Pairs) -> Option<()> {
+        let free = self.best_free(self.task.assignable.and(GENERAL), 0, NONE);
+        for i in 0..wanted.len() {
+            let register = wanted.at(i).item;
+            let t = self.occupant.at(register);
+            let copy = self.temporary(t).copy;
+            if self.value_of(t) == t
+                && !self.marks.locked.has(register)
+                && self.copy_is_left(copy)
+            {
+                self.copy(copy, t, free)?;
+                self.release(t);
+                return Some(());
+            }
+        }
+        None
+    }
+
+    /// The move that waits for a temporary.
+    fn waiting_for(&self, operands: &[Operand], t: u32, wanted: &Pairs) -> Option<Pair> {
+        for i in 0..wanted.len() {
+            let pair = wanted.at(i);
+            let x = operands.get(pair.place as usize)?;
+            if place_of(x.alternatives.as_slice(), t).is_some() {
+                return Some(pair);
+            }
+        }
+        None
+    }
+
+    /// The moves that wait for each other in a ring from the first on, none where it does not close.
+    fn ring(&self, operands: &[Operand], wanted: &Pairs) -> Option<Pairs> {
+        let mut ring = Pairs::new();
+        let first = wanted.at(0);
+        let mut register = first.item;
+        for _ in 0..4 {
+            let t = self.occupant.at(register);
+            let next = self.waiting_for(operands, t, wanted)?;
+            if self.space_of(t) != Space::General || space_at(next.item) != Space::General {
+                return None;
+            }
+            ring.push(next.place, next.item)?;
+            register = next.item;
+            if next.place == first.place {
+                return Some(ring);
+            }
+        }
+        None
+    }
+
+    /// Moves that wait for each other in a ring, as in an exchange of two registers: all issue in one cycle.
+    fn rotate(&mut self, operands: &[Operand], ring: &Pairs) -> Option<Pairs> {
+        let mut sources = Pairs::new();
+        let mut earliest = 1;
+        let mut register = ring.at(ring.len().saturating_sub(1)).item;
+        for i in 0..ring.len() {
+            let t = self.occupant.at(register);
+            let stay = self.stays.at(t);
+            earliest = earliest.max(stay.available).max(stay.last_read);
+            sources.push(ring.at(i).place, t)?;
+            register = ring.at(i).item;
+        }
+        let count = u8::try_from(ring.len()).unwrap_or(u8::MAX);
+        let cycle = self.first_fit(earliest, [count, 0, 0, 0, 0]);
+        for i in 0..sources.len() {
+            self.read_at(sources.at(i).item, cycle);
+            self.release(sources.at(i).item);
+        }
+        let mut made = Pairs::new();
+        for i in 0..sources.len() {
+            let x = operands.get(sources.at(i).place as usize)?;
+            let t = self.copy(x.copy, sources.at(i).item, ring.at(i).item)?;
+            made.push(sources.at(i).place, t)?;
+        }
+        Some(made)
+    }
+
+    /// The first wanted register that can be filled now.
+    fn first_vacant(&mut self, reader: u32, wanted: &Pairs) -> Option<Pair> {
+        for i in 0..wanted.len() {
+            if self.vacate(wanted.at(i).item, reader, wanted) {
+                return Some(wanted.at(i));
+            }
+        }
+        None
+    }
+
+    /// One round of moves: one operand, or a ring. Answers what was brought.
+    fn move_some(&mut self, reader: u32, wanted: &Pairs) -> Option<Pairs> {
+        let operands = self.operation(reader).operands.as_slice();
+        let mut made = Pairs::new();
+        match self.first_vacant(reader, wanted) {
+            Some(ready) => {
+                let x = operands.get(ready.place as usize)?;
+                made.push(ready.place, self.bring(x, ready.item)?)?;
+            }
+            None => match self.ring(operands, wanted) {
+                Some(ring) => made = self.rotate(operands, &ring)?,
+                None => self.break_ring(wanted)?,
+            },
+        }
+        Some(made)
+    }
+
+    /// Brings operands of one reader into given registers. Answers the temporaries.
+    pub(super) fn move_all(&mut self, reader: u32, targets: &Pairs) -> Option<Pairs> {
+        let operands = self.operation(reader).operands.as_slice();
+        let mut got = Pairs::new();
+        let mut wanted = Pairs::new();
+        for i in 0..targets.len() {
+            let pair = targets.at(i);
+            let t = self.occupant.at(pair.item);
+            let x = operands.get(pair.place as usize)?;
+            if place_of(x.alternatives.as_slice(), t).is_some() {
+                got.push(pair.place, t)?;
+            } else {
+                wanted.push(pair.place, pair.item)?;
+            }
+        }
+        self.lock_all(&got);
+        for _ in 0..targets.len().saturating_mul(2) {
+            if wanted.len() == 0 {
+                break;
+            }
+            let made = self.move_some(reader, &wanted)?;
+            self.lock_all(&made);
+            wanted = wanted.without(&made)?;
+            got.append(&made)?;
+        }
+        if wanted.len() == 0 { Some(got) } else { None }
+    }
+}

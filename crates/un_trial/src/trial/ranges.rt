@@ -1,0 +1,148 @@
+//! Where temporaries stand, and from when to when.
+
+use super::{Stay, Trial};
+use crate::facts::Operand;
+use crate::sets::{FIRST_SLOT, Space, space_at};
+use crate::table::NONE;
+
+impl<'a> Trial<'a> {
+    pub(super) fn register_of(&self, t: u32) -> u32 {
+        self.stays.at(t).register
+    }
+
+    pub(super) fn space_of(&self, t: u32) -> Space {
+        space_at(self.register_of(t))
+    }
+
+    pub(super) fn is_resident(&self, t: u32) -> bool {
+        let stay = self.stays.at(t);
+        stay.active && self.occupant.at(stay.register) == t
+    }
+
+    pub(super) fn place_at_end(&self, x: &Operand) -> u32 {
+        if x.home == NONE {
+            self.finish.at(x.key)
+        } else {
+            x.home
+        }
+    }
+
+    pub(super) fn value_ends_in(&self, v: u32) -> u32 {
+        let out = self.operation(self.task.block.output);
+        match out.operands.get(self.temporary(v).at_end as usize) {
+            Some(x) => self.place_at_end(x),
+            None => NONE,
+        }
+    }
+
+    pub(super) fn ends_in_slot(&self, v: u32) -> bool {
+        let r = self.value_ends_in(v);
+        r != NONE && r >= FIRST_SLOT
+    }
+
+    /// The first place from `from` on that reads a value; NONE where there is none.
+    pub(super) fn next_use(&self, v: u32, from: u32) -> u32 {
+        let x = self.temporary(v);
+        let mut next = if x.at_end == NONE {
+            NONE
+        } else {
+            self.length().saturating_add(1)
+        };
+        for o in &x.readers {
+            let p = self.position_of.at(*o);
+            if p >= from && p < next {
+                next = p;
+            }
+        }
+        next
+    }
+
+    pub(super) fn use_behind(&self, v: u32) -> u32 {
+        self.next_use(v, self.marks.position.saturating_add(1))
+    }
+
+    fn next_call(&self) -> u32 {
+        self.calls
+            .iter()
+            .copied()
+            .find(|p| *p > self.marks.position)
+            .unwrap_or(NONE)
+    }
+
+    /// Whether a value is needed in a register behind a call that is still to come.
+    pub(super) fn crosses(&self, v: u32) -> bool {
+        let call = self.next_call();
+        if call == NONE {
+            return false;
+        }
+        let next = self.next_use(v, call.saturating_add(1));
+        next != NONE && !(next > self.length() && self.ends_in_slot(v))
+    }
+
+    pub(super) fn is_root(&self, t: u32) -> bool {
+        self.is_resident(t) && self.temporary(t).is_root
+    }
+
+    /// Whether another copy that every later reader may choose stands somewhere.
+    pub(super) fn is_elsewhere(&self, t: u32) -> bool {
+        self.temporary(self.value_of(t))
+            .carriers
+            .iter()
+            .any(|c| *c != t && self.is_root(*c))
+    }
+
+    pub(super) fn slot_copy(&self, v: u32) -> u32 {
+        for t in &self.temporary(v).carriers {
+            if self.is_resident(*t) && self.space_of(*t) == Space::Slot {
+                return *t;
+            }
+        }
+        NONE
+    }
+
+    pub(super) fn occupy(&mut self, t: u32, register: u32, cycle: u32, latency: u32) {
+        let stay = Stay {
+            active: true,
+            register,
+            defined: cycle,
+            available: cycle.saturating_add(latency),
+            last_read: cycle,
+        };
+        self.stays.put(t, stay);
+        self.occupant.put(register, t);
+        self.set(self.temporary(t).register, register);
+    }
+
+    pub(super) fn read_at(&mut self, t: u32, cycle: u32) {
+        let mut stay = self.stays.at(t);
+        stay.last_read = stay.last_read.max(cycle);
+        self.stays.put(t, stay);
+    }
+
+    pub(super) fn release(&mut self, t: u32) {
+        if !self.is_resident(t) {
+            return;
+        }
+        let stay = self.stays.at(t);
+        self.occupant.put(stay.register, NONE);
+        self.free_from.raise(
+            stay.register,
+            stay.last_read.max(stay.defined.saturating_add(1)),
+        );
+    }
+
+    pub(super) fn release_if_dead(&mut self, v: u32) {
+        if self.use_behind(v) != NONE {
+            return;
+        }
+        for t in &self.temporary(v).carriers {
+            self.release(*t);
+        }
+    }
+
+    pub(super) fn lock(&mut self, t: u32) {
+        if self.is_resident(t) {
+            self.marks.locked = self.marks.locked.with(self.register_of(t));
+        }
+    }
+}
