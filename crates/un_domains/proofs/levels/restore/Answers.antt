@@ -14,8 +14,12 @@ loop-entry-preserved c =
     let inv = c.loop-entry.invariant in
     let left = c.pop.new.self.items in
     let bs = c.loop-entry.level.saved.items in
-    let within : e.at < length bs = omega (arith, last_within (length ws) c.loop-entry.level.entries.items left e items inv.there,
-        inv.long, inv.flags) in
+    let within : e.at < length bs = omega (
+      arith,
+      last_within (length ws) c.loop-entry.level.entries.items left e items inv.there,
+      inv.long,
+      inv.flags,
+    ) in
     record {
       there = subst (λ (n : ℕ). All (λ (x : Saved). x.at < n) left) (sym (length-set ws e.at e.old))
           (there_popped (length ws) c.loop-entry.level.entries.items left e items inv.there);
