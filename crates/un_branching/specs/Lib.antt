@@ -1,0 +1,3 @@
+pub mod Growths
+pub mod Searched
+pub mod Searching

@@ -1,0 +1,6 @@
+//! Best-first search over any `Problem`: a tree of boxes grows from its open node with the least cost bound.
+#![tactic(auto)]
+
+pub mod attempt;
+pub mod growth;
+pub mod problem;
