@@ -20,7 +20,8 @@ use Rattle.un_ir.specs.declared.extended.ExtKind.TheVariants.{In, Out, End}
 use Rattle.un_ir.specs.declared.extended.Operand.{Operand}
 use Rattle.un_ir.specs.declared.extended.ExtOp.{ExtOp}
 use Rattle.un_ir.specs.declared.extended.ExtBlock.{ExtBlock}
-use Rattle.un_model.specs.Congruences.{IsCongruent, HandsOn, HandsOver, KeepsCongruences, place_over}
+use Rattle.un_ir.specs.Linear.{place_over}
+use Rattle.un_model.specs.Congruences.{IsCongruent, HandsOn, HandsOver, KeepsCongruences}
 use Rattle.un_domains.specs.declared.domain.Domain.TheVariants.{Range, Set}
 use Rattle.un_model.specs.Schedules.{is_zero, last_read}
 use Rattle.un_model.specs.Solutions.{Precedes, InDomain, KeepsZeros, KeepsChoices, KeepsSpaces, KeepsLatencies, latency_gap}
@@ -276,10 +277,10 @@ uses : uses_frame (schedule (issue 0 Spill 2 ∷ []) [] []) ∷ uses_frame (sche
 uses = refl
 
 flag_without_use : KeepsFrame 1 (schedule [] [] []) → ⊥
-flag_without_use h = no (h.used.0 refl) refl
+flag_without_use h = no (h.needed refl) refl
 
 use_without_flag : KeepsFrame 0 (schedule (issue 0 Spill 2 ∷ []) [] []) → ⊥
-use_without_flag h = let one : 0 ≡ 1 = h.used.1 refl in omega (arith, one)
+use_without_flag h = let one : 0 ≡ 1 = h.used refl in omega (arith, one)
 
 enters_without_flag : KeepsFrame 0 (schedule (mover (Some Enter) true 1 ∷ []) [] []) → ⊥
 enters_without_flag h = no refl (h.without refl 0 (idle true) (lit< tt) refl)

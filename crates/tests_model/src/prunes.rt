@@ -7,6 +7,7 @@ ghost use Rattle.un_kinds.specs.AnyProps.{span_of};
 
 use crate::kinds::prop;
 use crate::sets::{has_sets, store_of};
+use crate::stores::is_live;
 use crate::words::cut;
 use std::alloc::Global;
 use un_base::ids::VarId;
@@ -52,6 +53,9 @@ reads 1,7,8 1 1 2 5,6 2>7,8 1 1 2 5,6 2
 reads 3 1 0 2 6 1>same
 reads 7 1 1 2 6 1,2>7 1 1 2 6 1
 reads 2 1 0 2 6 1>failed
+# A place past the list, and a number past the gaps.
+reads 9 1 2 2 6 1>failed
+reads 9 1 1 2 6 3>failed
 # Sets of a user, its choice, and the activity of the second definer.
 definers 1 0,1 0>1 0 0
 definers 0,1 1 0>0 1 0
@@ -60,6 +64,9 @@ definers 0,1 0,1 0,1>same
 definers 1 1 0>failed
 definers 1,2 0,1 0>1,2 0 0
 definers 0,3 1 0>0 1 0
+# A place past the list.
+definers 1 2 0,1>failed
+definers 0,1 2 1>0 2 1
 # Sets of an instruction and two other variables of its operation.
 zeros 0 0 0,4>0 0 0
 zeros 0,1 0 5>1 0 5
@@ -84,6 +91,8 @@ moves 0 5 7 6>failed
 moves 0 6 7 5>failed
 moves 0,1 5,6 7,8 6,9>0 5,6 7,8 6,9
 moves 0,1 5,7 8,9 6>failed
+# A place past the list.
+moves 2 5 7 5>failed
 # Sets of a choice and two registers, of which the chosen one is r3.
 home 0 1,3 9>0 3 9
 home 0,1 3 9>0 3 9
@@ -244,7 +253,7 @@ fn span(p: &AnyProp) -> u32
 /// Whether a pruning answered and left what is wanted.
 fn is_wanted(answer: Pruned, store: &Store, before: &[u8], want: &[u8]) -> bool {
     match answer {
-        Pruned::Failed => want == b"failed".as_slice(),
+        Pruned::Failed => want == b"failed".as_slice() && !is_live(store),
         Pruned::Same => want == b"same".as_slice() && has_sets(store, before),
         Pruned::Tighter => has_sets(store, want),
     }

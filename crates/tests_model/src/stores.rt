@@ -126,7 +126,7 @@ fn marked(store: &mut Store, text: &[u8]) -> Result<bool, NoMemory>
 }
 
 /// Whether each variable has a value.
-fn is_live(store: &Store) -> bool
+pub(crate) fn is_live(store: &Store) -> bool
     ensures { result ≡ true → NoneEmpty store.now.sets }
 {
     for v in 0..store.len() {

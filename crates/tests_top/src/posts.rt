@@ -23,7 +23,7 @@ use un_prop::run::{Fix, run_all};
 use un_reader::read::read_function;
 
 /// Functions, and how many propagators of each kind are posted without a limit, in the order of `kind`, under all registers and 64 slots;
-/// then how rounds end under so many registers, or under all.
+/// then how rounds end under so many registers, or under all; and how many propagators of two operands there are.
 static POSTS: &[u8] = b"func dot %x %y %n
 block entry freq 1
   %s = imm #0
@@ -109,7 +109,19 @@ block e freq 1
   %c = add %a, %b
   ret %c
 ?ends 1:failed\
-|&?ends:stable";
+|&?ends:stable\
+|# Each two of three operands that read different values, neighbours or not.\
+|func three %a %b %c
+block e freq 1
+  call h %c, %a, %b
+  ret
+?operands:3\
+|func m %a %b
+block e freq 1
+  $p = cmpeqi %a, #0
+  %m = mux $p, %a, %b
+  ret %m
+?operands:3";
 
 /// The number of a propagator's kind.
 fn kind(p: &AnyProp) -> usize {
@@ -186,6 +198,16 @@ pub(crate) fn put_counts(
 ) -> Result<(), NoMemory> {
     let posted = posted(alloc, function, &default_options())?;
     put_kinds(out, posted.props.as_slice())
+}
+
+/// Appends how many propagators of two operands are posted for a function.
+pub(crate) fn put_operands(
+    alloc: Global,
+    out: &mut Vec<u8>,
+    function: &[u8],
+) -> Result<(), NoMemory> {
+    let posted = posted(alloc, function, &default_options())?;
+    put_number(out, count(posted.props.as_slice(), 12))
 }
 
 /// How rounds on a store end.

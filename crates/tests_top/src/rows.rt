@@ -1,7 +1,7 @@
 //! Rows of texts with what is asked of them. Between two `|` stands a row: a text, `?`, a question, `:` and the answer, which may break off
 //! at `...`. `&` is the text of the row before, and a row that begins with `#` is a comment.
 
-use crate::posts::{put_counts, put_end};
+use crate::posts::{put_counts, put_end, put_operands};
 use crate::runs::put_run;
 use std::alloc::Global;
 use un_base::decimal::read_decimal;
@@ -26,7 +26,8 @@ pub(crate) fn number_at(text: &[u8], k: usize) -> u64 {
     number(text.split(|b| *b == b' ').nth(k).unwrap_or(&[]))
 }
 
-/// Appends the answer to a question about a text: of what is posted, of how rounds end, or else of a run by words.
+/// Appends the answer to a question about a text: of what is posted, of how rounds end, of propagators of two
+/// operands, or else of a run by words.
 fn put_answer(
     alloc: Global,
     out: &mut Vec<u8>,
@@ -36,6 +37,7 @@ fn put_answer(
     match question.first() {
         Some(b'p') => put_counts(alloc, out, text),
         Some(b'e') => put_end(alloc, out, text, question),
+        Some(b'o') => put_operands(alloc, out, text),
         _ => put_run(alloc, out, text, question),
     }
 }

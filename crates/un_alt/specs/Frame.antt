@@ -8,7 +8,7 @@ use Rattle.un_prop.specs.Acts.{act_vars, act_number}
 use Rattle.un_alt.specs.declared.frame.FrameOp.{FrameOp}
 use Rattle.un_alt.specs.declared.frame.FrameUse.{FrameUse}
 use Rattle.un_alt.specs.declared.frame.FrameLeave.{FrameLeave}
-use Rattle.un_alt.specs.declared.frame.TheConstants.{SPILL, RELOAD}
+use Rattle.un_ir.specs.declared.extended.TheConstants.{SPILL, RELOAD}
 
 -- a copy's instruction is a Spill or a Reload
 abbrev pub is_access : List ℕ → VarId → Bool

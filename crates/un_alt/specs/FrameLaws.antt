@@ -11,7 +11,7 @@ use Rattle.un_prop.specs.AmongLaws.{same_var, same_number}
 use Rattle.un_alt.specs.declared.frame.FrameOp.{FrameOp}
 use Rattle.un_alt.specs.declared.frame.FrameUse.{FrameUse}
 use Rattle.un_alt.specs.declared.frame.FrameLeave.{FrameLeave}
-use Rattle.un_alt.specs.declared.frame.TheConstants.{SPILL, RELOAD}
+use Rattle.un_ir.specs.declared.extended.TheConstants.{SPILL, RELOAD}
 use Rattle.un_alt.specs.Frame.{is_access, is_slot, uses_frame, is_on, all_on, none_on, counts, is_after, is_until, is_left, in_order}
 use Rattle.un_alt.specs.Frame.{frame_holds, FrameOpVars, FrameUseVars, FrameLeaveVars, FrameVars}
 

@@ -9,16 +9,12 @@ ghost use Rattle.un_alt.specs.Frame.{FrameVars};
 
 use un_base::ids::VarId;
 use un_domains::window::Window;
+use un_ir::extended::{RELOAD, SPILL};
 use un_isa::reg::FIRST_SLOT;
 use un_lists::items::Items;
 use un_prop::act::{Act, number, value};
 use un_prop::last::check_last;
 use un_prop::propagator::{Predicate, Propagator, Pruned, Scratch};
-
-/// The numbers of the instructions of a copy that access the frame.
-pub const SPILL: u32 = 2;
-
-pub const RELOAD: u32 = 3;
 
 /// Enter or a Leave: it is active where `instr` is not 0, and issues at `at`.
 #[derive(Clone, Copy)]

@@ -35,7 +35,8 @@ use Rattle.un_model.specs.declared.schedule.Issue.{Issue}
 use Rattle.un_model.specs.declared.schedule.Read.{Read}
 use Rattle.un_model.specs.declared.schedule.LiveRange.{LiveRange}
 use Rattle.un_model.specs.declared.schedule.Schedule.{Schedule}
-use Rattle.un_model.specs.Congruences.{term_of, live_in_temps, is_live_out, live_out_reads, place_by, place_over, register_of}
+use Rattle.un_ir.specs.Linear.{place_by, place_over}
+use Rattle.un_model.specs.Congruences.{term_of, live_in_temps, is_live_out, live_out_reads, register_of}
 use Rattle.un_model.specs.Congruences.{register_read, HandsOver, HandsOn, KeepsCongruences}
 use Rattle.un_model.specs.Pairs.{places_from, pairs_from, joined}
 use Rattle.un_baseline.specs.Plans.{Step, BlockPlan, planned_issue, planned_issues, planned_read, planned_reads, planned_reads_by}

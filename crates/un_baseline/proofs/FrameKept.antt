@@ -74,7 +74,8 @@ module _ (m : Model) (h : IsSpillable m) (values : List ℕ) (same : values ≡ 
   frame_of_model =
       let one = flag_of_model m h values same in
       record {
-        used = ((λ flag. used), (λ uses. one));
+        used = λ uses. one;
+        needed = λ flag. used;
         without = λ none. let z : 0 ≡ 1 = sym none ∙ one in absurd (cc z);
         with_frame = λ flag. frame_ops_of_model m h values same;
         ordered = λ flag. frame_order;

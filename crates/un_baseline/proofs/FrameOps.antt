@@ -7,7 +7,7 @@ use Rattle.un_ir.specs.declared.extended.ExtOp.{ExtOp}
 use Rattle.un_ir.specs.declared.extended.ExtBlock.{ExtBlock}
 use Rattle.un_ir.specs.declared.extended.Ext.{Ext}
 use Rattle.un_model.specs.Instructions.{instruction_of}
-use Rattle.un_model.specs.Schedules.{is_delimiter, is_frame_op}
+use Rattle.un_ir.specs.Kinds.{is_delimiter, is_frame_op}
 use Rattle.un_model.specs.Solutions.{HasFrame}
 use Rattle.un_baseline.specs.declared.plan.Purpose.{Purpose}
 use Rattle.un_baseline.specs.declared.plan.Setting.{Setting}

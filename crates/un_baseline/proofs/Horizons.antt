@@ -24,7 +24,7 @@ use Rattle.un_ir.specs.declared.extended.Ext.{Ext}
 use Rattle.un_model.specs.Congruences.{term_of}
 use Rattle.un_model.specs.Instructions.{copy_of, instruction_of, latency_by, transfer_of}
 use Rattle.un_model.specs.Pairs.{pairs_from}
-use Rattle.un_model.specs.Schedules.{is_delimiter}
+use Rattle.un_ir.specs.Kinds.{is_delimiter}
 use Rattle.un_model.specs.Solutions.{InDomain, IsPlacedAs, IsPlaced}
 use Rattle.un_model.specs.Variables.{has_cycle, cycle_domain}
 use Rattle.un_baseline.specs.declared.plan.Purpose.{Purpose}

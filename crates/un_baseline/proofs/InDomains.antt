@@ -15,7 +15,8 @@ use Rattle.un_domains.specs.declared.domain.Domain.TheVariants.{Range}
 use Rattle.un_model.specs.declared.model.Options.{Options}
 use Rattle.un_model.specs.Pairs.{places_from}
 use Rattle.un_model.specs.Solutions.{InDomain, KeepsDomains}
-use Rattle.un_model.specs.Variables.{is_optional, has_cycle, chosen_operands, instr_domain, cycle_domain, choice_domain, result_domain}
+use Rattle.un_ir.specs.Kinds.{is_optional}
+use Rattle.un_model.specs.Variables.{has_cycle, chosen_operands, instr_domain, cycle_domain, choice_domain, result_domain}
 use Rattle.un_model.specs.Variables.{carries_truth, op_domains, ops_domains, block_domains, blocks_domains, own_horizon, domains_of}
 use Rattle.un_baseline.specs.Plans.{Step, value_if, step_values, steps_values, block_values, blocks_values, planned_issues}
 use Rattle.un_baseline.specs.SpillEverywhere.{setting_of, first_progress, first_cycle, block_plan, block_plans, spilled_values}

@@ -32,7 +32,7 @@ use Rattle.un_model.specs.declared.schedule.Read.{Read}
 use Rattle.un_model.specs.declared.schedule.LiveRange.{LiveRange}
 use Rattle.un_model.specs.Instructions.{instruction_of}
 use Rattle.un_model.specs.Pairs.{places_from, pairs_from, joined}
-use Rattle.un_model.specs.Schedules.{is_delimiter}
+use Rattle.un_ir.specs.Kinds.{is_delimiter}
 use Rattle.un_baseline.specs.Plans.{Step, planned_issue, planned_read, planned_reads_by}
 use Rattle.un_baseline.proofs.Grown.{copy_ops, value_ops, values_ops, operand_ops_by, operand_ops, operands_ops, leave_ops, enter_ops}
 use Rattle.un_baseline.proofs.Grown.{made_op, behind_op, extended_ops, all_ops}

@@ -38,9 +38,11 @@ use Rattle.un_ir.proofs.NameBounds.{at_all}
 use Rattle.un_model.specs.declared.schedule.Issue.{Issue}
 use Rattle.un_model.specs.declared.schedule.Read.{Read}
 use Rattle.un_model.specs.declared.schedule.LiveRange.{LiveRange}
+use Rattle.un_model.proofs.Gaps.{gap_latency}
 use Rattle.un_model.specs.Instructions.{copy_of, space_read, space_given, transfer_of, instruction_of, latency_by, is_transfer}
 use Rattle.un_model.specs.Pairs.{pairs_from}
-use Rattle.un_model.specs.Schedules.{is_delimiter, chosen, last_read}
+use Rattle.un_ir.specs.Kinds.{is_delimiter}
+use Rattle.un_model.specs.Schedules.{chosen, last_read}
 use Rattle.un_model.specs.Solutions.{IsLast, IsPlacedAs, IsPlaced, InSpace, ReadsInSpace, IsGivenInSpace, KeepsSpaces, LeavesGap}
 use Rattle.un_model.specs.Solutions.{latency_gap, KeepsLatencies}
 use Rattle.un_baseline.specs.Plans.{Step, BlockPlan, planned_issue, planned_issues, planned_cycle, planned_read, over_plans, place_at}
@@ -435,6 +437,7 @@ module _ (e : Ext) (fit : IsFit e.table) (ranges : List LiveRange) (reads : List
       begun : LeavesGap (latency_gap e.table) read (slice_get ranges 0)
       begun = subst (LeavesGap (latency_gap e.table) read) (sym begins.at) (λ here.
           let l : latency_by e.table begins.range.instr ≡ 1 = ap (latency_by e.table) begins.none in
+          let g = gap_latency e.table begins.range.instr read.instr in
           let z = begins.from in
           let p = used_after e.table fit first times.now times.left plan.end (first_positive e.table entry) times.entered_by times.now_left
           times.now_end user (at_all (IsTimed e.table first times.now times.left plan.end) list k user timed user_at) is_used in
@@ -456,6 +459,7 @@ module _ (e : Ext) (fit : IsFit e.table) (ranges : List LiveRange) (reads : List
           let in_space : ReadsInSpace read (Some h) = subst (ReadsInSpace read) range.there space in
           let is_given : IsGivenInSpace h = at_all IsGivenInSpace ranges y.0 h given range.there in
           subst (LeavesGap (latency_gap e.table) read) (sym range.there) (λ here.
+          subst (λ (n : ℕ). h.from + n ≤ read.cycle) (sym (gap_latency e.table h.instr read.instr)) (
           waits e.table fit first times.now times.left plan.end (first_positive e.table entry) times.entered_by times.now_left
           times.now_end i
           user (at_all (IsTimed e.table first times.now times.left plan.end) list d.place i timed at_i)
@@ -464,7 +468,7 @@ module _ (e : Ext) (fit : IsFit e.table) (ranges : List LiveRange) (reads : List
           (definition b plan.end (n + d.place) d.op def.step (definer_kind e.table block d.op.kind d.op.results d.result y gd.results d.is)
           (source_kind d.op.kind d.op gd.kind) here) is_used
           (λ p q. never_both h.reg (subst (λ (o : Option Op). InSpace h.reg (space_given o)) p is_given)
-          (subst (λ (o : Option Op). InSpace h.reg (space_read o j)) q in_space)))
+          (subst (λ (o : Option Op). InSpace h.reg (space_read o j)) q in_space))))
 
       read_waits : Waits e.table ranges read
       read_waits = by (cases_lt c (length x.alts))

@@ -25,9 +25,10 @@ use Rattle.un_model.specs.declared.schedule.Schedule.{Schedule}
 use Rattle.un_model.specs.Cost.{value_of}
 use Rattle.un_model.specs.Instructions.{instruction_of}
 use Rattle.un_model.specs.Pairs.{places_from, pairs_from, joined, over_blocks}
-use Rattle.un_model.specs.Schedules.{value_by, cycle_by, is_delimiter, is_frame_op, issue_of, block_issues, chosen, read_of, op_reads}
+use Rattle.un_ir.specs.Kinds.{is_delimiter, is_frame_op, is_optional}
+use Rattle.un_model.specs.Schedules.{value_by, cycle_by, issue_of, block_issues, chosen, read_of, op_reads}
 use Rattle.un_model.specs.Schedules.{reads_at, block_reads, last_read, range_by, range_of, schedule_of}
-use Rattle.un_model.specs.Variables.{is_optional, has_cycle, count_if, chosen_operands, cycle_place, choice_place, register_place}
+use Rattle.un_model.specs.Variables.{has_cycle, count_if, chosen_operands, cycle_place, choice_place, register_place}
 use Rattle.un_model.specs.Variables.{var_count, var_at, op_vars, ops_vars, ops_count, block_vars, block_count, blocks_vars, blocks_count}
 use Rattle.un_model.specs.Variables.{op_temps, ops_temps, blocks_temps, carried, model_of}
 use Rattle.un_baseline.specs.Plans.{Step, BlockPlan, value_if, step_values, steps_values, block_values, blocks_values, plan_values, Suits}

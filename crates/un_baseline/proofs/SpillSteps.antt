@@ -22,8 +22,8 @@ use Rattle.un_ir.specs.Extended.{name_kind}
 use Rattle.un_isa.specs.declared.table.Table.{Table}
 use Rattle.un_model.specs.Instructions.{instruction_of, copy_of, transfer_of}
 use Rattle.un_model.specs.Pairs.{places_from}
-use Rattle.un_model.specs.Schedules.{is_delimiter}
-use Rattle.un_model.specs.Variables.{has_cycle, has_choices, chosen_operands}
+use Rattle.un_ir.specs.Kinds.{is_delimiter, has_choices}
+use Rattle.un_model.specs.Variables.{has_cycle, chosen_operands}
 use Rattle.un_model.specs.Solutions.{IsIdleAtZero, IsZeroRange, KeepsZeros}
 use Rattle.un_baseline.specs.declared.plan.Purpose.{Purpose}
 use Rattle.un_baseline.specs.declared.plan.Purpose.TheVariants.{Operands, Link, Returned, Unread}

@@ -13,8 +13,9 @@ use Rattle.un_model.specs.declared.schedule.LiveRange.{LiveRange}
 use Rattle.un_model.specs.declared.schedule.Schedule.{Schedule}
 use Rattle.un_model.specs.Instructions.{instruction_of}
 use Rattle.un_model.specs.Pairs.{places_from, pairs_from, joined}
-use Rattle.un_model.specs.Schedules.{is_delimiter, is_frame_op, chosen, last_read}
-use Rattle.un_model.specs.Variables.{is_optional, has_cycle, chosen_operands}
+use Rattle.un_ir.specs.Kinds.{is_delimiter, is_frame_op, is_optional}
+use Rattle.un_model.specs.Schedules.{chosen, last_read}
+use Rattle.un_model.specs.Variables.{has_cycle, chosen_operands}
 
 -- what an operation does: the number of its instruction, where it is optional, its cycle, the place of the alternative that
 -- each operand chooses, the register of each result

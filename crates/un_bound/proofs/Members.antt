@@ -19,7 +19,8 @@ use Rattle.un_model.specs.declared.model.Model.{Model}
 use Rattle.un_model.specs.declared.model.OpVars.{OpVars}
 use Rattle.un_model.specs.declared.model.Solution.{Solution}
 use Rattle.un_model.specs.declared.schedule.Issue.{Issue}
-use Rattle.un_model.specs.Arcs.{is_mandatory, blocks_arcs}
+use Rattle.un_ir.specs.Kinds.{is_mandatory}
+use Rattle.un_model.specs.Arcs.{blocks_arcs}
 use Rattle.un_model.specs.Cost.{value_of, blocks_cost, cost_of}
 use Rattle.un_model.specs.Instructions.{instruction_of}
 use Rattle.un_model.specs.Options.{AreOptions}

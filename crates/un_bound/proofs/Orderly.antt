@@ -24,13 +24,15 @@ use Rattle.un_ir.specs.Extended.{size_of}
 use Rattle.un_model.specs.declared.model.Arc.{Arc}
 use Rattle.un_model.specs.declared.model.Model.{Model}
 use Rattle.un_model.specs.declared.model.TempVars.{TempVars}
-use Rattle.un_model.specs.Arcs.{is_mandatory, own_instr, value_read, defines, reads_from, data_gap, NeedsGap, block_arcs, blocks_arcs}
+use Rattle.un_ir.specs.Kinds.{is_mandatory}
+use Rattle.un_model.specs.Arcs.{own_instr, value_read, defines, reads_from, data_gap, NeedsGap, block_arcs, blocks_arcs}
 use Rattle.un_model.specs.Arcs.{IsLargest, IsArcOf, RisesTo}
 use Rattle.un_model.specs.Arcs.NeedsGap.{ByData, ByMemory}
 use Rattle.un_model.specs.ArcLaws.{arc_told, arcs_rise}
-use Rattle.un_model.specs.Instructions.{instruction_of, is_transfer, latency_by}
+use Rattle.un_model.proofs.Gaps.{gap_short}
+use Rattle.un_model.specs.Instructions.{instruction_of, is_transfer}
 use Rattle.un_model.specs.Pairs.{places_from}
-use Rattle.un_model.specs.Solutions.{memory_distance, after_load, after_write}
+use Rattle.un_model.specs.Solutions.{latency_gap, memory_distance, after_load, after_write}
 use Rattle.un_model.specs.Variables.{IsModel, arcs_of, register_place, var_count, block_count, op_temps, ops_temps, blocks_temps, temp_of}
 use Rattle.un_bound.specs.Arcs.{MayLead, MayWait, LeadsOn, LeadOn, IsBefore, AllLeadOn, HasFewOps, IsOrderly}
 
@@ -53,14 +55,10 @@ memory_short (Some Store) b g h = after_write_short b g h
 memory_short (Some Call) b g h = after_write_short b g h
 memory_short a b g h = absurd (cc h)
 
-latency_short : (t : Table) (a : Option Op) → IsFit t → latency_by t a ≤ 2
-latency_short t None fit = omega arith
-latency_short t (Some op) fit = omega (arith, (fit.latencies op).1)
-
-data_told : (t : Table) (reads : Bool) (from : ExtOp) (g : ℕ) → data_gap t reads from ≡ Some g
-    → (reads ≡ true) × (latency_by t (own_instr from) ≡ g)
-data_told t true from g h = (refl, cc h)
-data_told t false from g h = absurd (cc h)
+data_told : (t : Table) (reads : Bool) (from to : ExtOp) (g : ℕ) → data_gap t reads from to ≡ Some g
+    → (reads ≡ true) × (latency_gap t (own_instr from) (own_instr to) ≡ g)
+data_told t true from to g h = (refl, cc h)
+data_told t false from to g h = absurd (cc h)
 
 -- ---- what may lead and what may wait
 
@@ -215,14 +213,15 @@ module _ (e : Ext) (fit : IsFit e.table) (block : ExtBlock) (good : IsGoodExtBlo
   temps = blocks_temps 0 0 e.blocks
 
   short : (reads : Bool) (from to : ExtOp) (g : ℕ) → NeedsGap e.table reads from to g → g < 2 ^ 8
-  short reads from to g (ByData d) = omega (arith, latency_short e.table (own_instr from) fit, (data_told e.table reads from g d).1)
+  short reads from to g (ByData d) =
+      omega (arith, gap_short e.table fit (own_instr from) (own_instr to), (data_told e.table reads from to g d).1)
   short reads from to g (ByMemory d) = omega (arith, memory_short (own_instr from) (own_instr to) g d)
 
   leads : (k : ℕ) (from to : ExtOp) (g : ℕ) → slice_get block.ops k ≡ Some from
       → NeedsGap e.table (reads_from temps (n + k) to) from to g → MayLead from.kind
   leads k from to g at (ByMemory d) = lead_by_memory from.kind (own_instr to) g d
   leads k from to g at (ByData d) =
-      let t = definer temps (n + k) to (data_told e.table (reads_from temps (n + k) to) from g d).0 in
+      let t = definer temps (n + k) to (data_told e.table (reads_from temps (n + k) to) from to g d).0 in
       let made = blocks_defined 0 0 e.blocks t.0 t.1 t.2 in
       let place : made.place ≡ n + k = omega (arith, made.number, t.3) in
       let found : slice_get (all_ops e.blocks) (n + k) ≡ Some made.op =
@@ -248,7 +247,7 @@ module _ (e : Ext) (fit : IsFit e.table) (block : ExtBlock) (good : IsGoodExtBlo
           let none : own_instr to ≡ None = ap (λ (kind : ExtKind). instruction_of kind 0) start in
           no_distance (own_instr from) g (subst (λ (b : Option Op). memory_distance (own_instr from) b ≡ Some g) none d)
       never start (ByData d) =
-          let reads = (data_told e.table (reads_from temps k to) from g d).0 in
+          let reads = (data_told e.table (reads_from temps k to) from to g d).0 in
           let nothing : reads_from temps k to ≡ false =
           ap (λ (xs : List Operand). list_any (λ (x : Operand). defines temps k (value_read x)) xs) (empty start) in
           cc (reads, nothing)

@@ -11,7 +11,7 @@ use Rattle.un_ir.specs.declared.extended.ExtOp.{ExtOp}
 use Rattle.un_domains.specs.Sets.{Sets}
 use Rattle.un_model.specs.declared.model.Arc.{Arc}
 use Rattle.un_model.specs.declared.model.OpVars.{OpVars}
-use Rattle.un_model.specs.Arcs.{is_mandatory}
+use Rattle.un_ir.specs.Kinds.{is_mandatory}
 use Rattle.un_model.specs.Instructions.{instruction_of, is_transfer}
 use Rattle.un_model.specs.Solutions.{IsPlacedAs, IsLast}
 use Rattle.un_bound.specs.Arcs.{LeadOn}

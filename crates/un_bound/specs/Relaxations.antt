@@ -9,7 +9,7 @@ use Rattle.un_model.specs.declared.model.Arc.{Arc}
 use Rattle.un_model.specs.declared.model.OpVars.{OpVars}
 use Rattle.un_model.specs.declared.model.BlockVars.{BlockVars}
 use Rattle.un_model.specs.declared.model.Model.{Model}
-use Rattle.un_model.specs.Arcs.{is_mandatory}
+use Rattle.un_ir.specs.Kinds.{is_mandatory}
 use Rattle.un_bound.specs.declared.relax.RelaxAnswer.{RelaxAnswer}
 use Rattle.un_bound.specs.declared.relax.RelaxAnswer.TheVariants.{Empty, Least}
 use Rattle.un_bound.specs.Timings.{IsTiming}

@@ -24,7 +24,8 @@ use Rattle.un_ir.specs.Linear.{Values, World, value_of, out_operands, Ending, en
 use Rattle.un_model.specs.declared.model.Options.{Options}
 use Rattle.un_model.specs.Emission.{label_of, instr_if, instr_by, frame_of, operand_registers, result_register}
 use Rattle.un_model.specs.Instructions.{instruction_of, transfer_of as transfer_op_of, copy_of, frame_instr}
-use Rattle.un_model.specs.Schedules.{cycle_by, value_by, instr_of, is_delimiter}
+use Rattle.un_ir.specs.Kinds.{is_delimiter}
+use Rattle.un_model.specs.Schedules.{cycle_by, value_by, instr_of}
 use Rattle.un_model.specs.Variables.{model_of, var_at, ops_count}
 use Rattle.un_packet.specs.Step.{PacketState}
 use Rattle.un_simulation.specs.Simulation.{as_held, held_at}
@@ -34,7 +35,7 @@ use Rattle.un_emit.proofs.Exits.{transfer_of, is_false}
 use Rattle.un_emit.proofs.Cycles.{At, first_read}
 use Rattle.un_model.proofs.Placed.{Placed, vars_of, issue_at, end_of, region_placed}
 use Rattle.un_model.proofs.PlacedSchedules.{all, range_at}
-use Rattle.un_model.proofs.Readings.{Solved, placed_good, Reading, reading}
+use Rattle.un_model.proofs.Readings.{Solved, placed_good, Reading, reading, waited_latency}
 use Rattle.un_emit.proofs.JobDeeds.{temps_of, active_in, TextClass, text_class, alu, load as loading, store as storing, call as calling}
 use Rattle.un_emit.proofs.Deeds.{alu_op}
 use Rattle.un_emit.proofs.BlockJobs.{InRegion, IsJob, job_from, some_active}
@@ -131,7 +132,7 @@ module _ (e : Ext) (o : Options) (values : List ℕ) (h : Solved e o values) (k 
         let temps = timed.temps in
         let actv = active_in e o values h n k g.active there in
         let quick = temps.quick n actv in
-        let rdy = g.ready in
+        let rdy = waited_latency e o values h p i x want g in
         let lst = g.last in
         let stands : Stands (temps_of e o values h k) n (the_end - 1) =
         record { active = actv; begun = omega (arith, quick, rdy, cyc); held = omega (arith, lst, cyc, le) } in

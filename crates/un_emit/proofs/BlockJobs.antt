@@ -22,7 +22,8 @@ use Rattle.un_ir.specs.Extended.{result_count}
 use Rattle.un_model.specs.declared.model.Options.{Options}
 use Rattle.un_model.specs.Emission.{instr_by, instr_if, frame_of, operand_registers, result_register, source_instr, copy_instr}
 use Rattle.un_model.specs.Instructions.{instruction_of, frame_instr}
-use Rattle.un_model.specs.Schedules.{instr_of, is_delimiter, value_by}
+use Rattle.un_ir.specs.Kinds.{is_delimiter}
+use Rattle.un_model.specs.Schedules.{instr_of, value_by}
 use Rattle.un_model.specs.Variables.{model_of, var_at, var_count, ops_count, block_count, block_vars, blocks_vars}
 use Rattle.un_model.proofs.Lists.{Each, Pairwise, Member, each_member, each_of, pairwise_append_left, pairwise_append_right}
 use Rattle.un_model.proofs.Lists.{member_append_left, member_append_right}

@@ -35,7 +35,8 @@ use Rattle.un_model.specs.Cost.{value_of}
 use Rattle.un_model.specs.Instructions.{latency_by, needs_by, no_needs, instruction_of, transfer_of, copy_of, frame_instr}
 use Rattle.un_model.specs.Instructions.{is_transfer as ends_block}
 use Rattle.un_model.specs.Emission.{instr_if, instr_by, frame_of, operand_registers, result_register}
-use Rattle.un_model.specs.Schedules.{instr_of, issues_of, value_by, cycle_by, is_delimiter, is_frame_op}
+use Rattle.un_ir.specs.Kinds.{is_delimiter, is_frame_op}
+use Rattle.un_model.specs.Schedules.{instr_of, issues_of, value_by, cycle_by}
 use Rattle.un_model.specs.Solutions.{IsPlaced, IsPlacedAs, Precedes, memory_distance, ShareNoCycle, SparesRange, IsSpared, HasRoom}
 use Rattle.un_model.specs.Solutions.{share_of, taken, issues_at, HasFrame, frame_distance, IsLast}
 use Rattle.un_isa.specs.PacketCounts.{places_of}

@@ -17,7 +17,8 @@ use Rattle.un_model.specs.declared.model.Options.{Options}
 use Rattle.un_model.specs.Congruences.{term_of, term_or, is_live_out, live_out_reads}
 use Rattle.un_model.specs.Instructions.{instruction_of}
 use Rattle.un_model.specs.Pairs.{places_from, joined}
-use Rattle.un_model.specs.Schedules.{read_of, value_by, instr_of, is_delimiter}
+use Rattle.un_ir.specs.Kinds.{is_delimiter}
+use Rattle.un_model.specs.Schedules.{read_of, value_by, instr_of}
 use Rattle.un_model.proofs.Lists.{Each, Pairwise, Member, split_at, each_member, each_of, pairwise_before, pairwise_after}
 use Rattle.un_model.proofs.Lists.{member_append_left, member_append_right}
 use Rattle.un_model.proofs.OpDomains.{get_places}

@@ -56,6 +56,7 @@ use Rattle.un_model.proofs.Operations.{contains_member}
 use Rattle.un_model.proofs.TempKinds.{kind_at, kind_or, carried_at, own_kind, same_kind, carried_is}
 use Rattle.un_model.proofs.OpDomains.{register_sits, in_entry}
 use Rattle.un_model.proofs.Readings.{Solved, numbered, fit_kinds, placed_good, placed_domains, Reading, reading, register_is}
+use Rattle.un_model.proofs.Readings.{waited_latency}
 use Rattle.un_emit.proofs.Jobs.{given_temp, job_with}
 
 -- ---- spaces
@@ -226,7 +227,11 @@ module _ (e : Ext) (o : Options) (values : List ℕ) (h : Solved e o values) whe
           register = ap (λ (y : TempId). (temp_register (model_of e o) values y).0) (sym r.is) ∙ register_is e o values h r.spot r.member
               ∙ ap (λ n. (range_at e o values n).reg) k;
           read = subst (λ n. IsReadAt (temps_of p.block) n (issue_at values p).cycle) k
-              (let l = r.last in record { active = active_in r.spot.temp.0 p.block r.active r.there; ready = r.ready; held = l });
+              (let l = r.last in record {
+                active = active_in r.spot.temp.0 p.block r.active r.there;
+                ready = waited_latency e o values h p j x want r;
+                held = l;
+              });
         }
 
     -- the place, the kind and the space of what an operand reads

@@ -51,7 +51,8 @@ use Rattle.un_model.specs.Emission.{larger_slot, largest_slot, frame_of, frame_b
 use Rattle.un_model.specs.Instructions.{gives_truth, space_given, result_space_in, instruction_of, copy_of}
 use Rattle.un_model.specs.Schedules.{schedule_of, issues_of, value_by, instr_of}
 use Rattle.un_model.specs.Solutions.{InDomain, InSpace, uses_frame, is_frame_access, starts_in_slot}
-use Rattle.un_model.specs.Variables.{var_at, var_if, is_optional, carried_by, first_alternative, ops_count, copy_domain, carries_truth}
+use Rattle.un_ir.specs.Kinds.{is_optional}
+use Rattle.un_model.specs.Variables.{var_at, var_if, carried_by, first_alternative, ops_count, copy_domain, carries_truth}
 use Rattle.un_model.specs.Variables.{instr_domain, model_of, register_domain, source_domain, register_place, carried}
 use Rattle.un_emit.proofs.FramePlace.{le_true, lt_false}
 use Rattle.un_model.proofs.OpDomains.{register_sits, instr_sits, in_entry}
@@ -548,7 +549,7 @@ module _ (e : Ext) (o : Options) (values : List ℕ) (h : Solved e o values) whe
       let s = h.schedule in
       let fr = s.frame in
       let used = fr.used in
-      let flag = used.1 (slot_used x a le) in
+      let flag = used (slot_used x a le) in
       let m = holds_slot (the_ranges e o values) 0 (range_at e o values x)
       (member_at (the_ranges e o values) x (range_at e o values x) (range_in e o values h x a)) a le in
       let f : frame_of (model_of e o) values ≡ frame_bytes (largest_slot (the_ranges e o values)) =

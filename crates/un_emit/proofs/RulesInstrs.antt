@@ -34,7 +34,8 @@ use Rattle.un_model.specs.Emission.{temp_register, operand_registers, result_reg
 use Rattle.un_model.specs.Emission.{instr_by, instr_if, frame_of, frame_bytes, largest_slot}
 use Rattle.un_model.specs.Instructions.{instruction_of, transfer_of, frame_instr, result_space_in}
 use Rattle.un_model.specs.Pairs.{places_from}
-use Rattle.un_model.specs.Schedules.{choice_of, instr_of, value_by, is_frame_op}
+use Rattle.un_ir.specs.Kinds.{is_frame_op}
+use Rattle.un_model.specs.Schedules.{choice_of, instr_of, value_by}
 use Rattle.un_model.specs.Solutions.{HasFrame, HasHome}
 use Rattle.un_model.specs.Variables.{model_of}
 use Rattle.un_packet.specs.CodeRules.{IsGoodInstr, number}

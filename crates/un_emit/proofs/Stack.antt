@@ -26,7 +26,8 @@ use Rattle.un_model.specs.declared.model.Options.{Options}
 use Rattle.un_model.specs.Emission.{frame_bytes, largest_slot, frame_of, instr_if, instr_by, operand_registers, result_register}
 use Rattle.un_model.specs.Cost.{value_of}
 use Rattle.un_model.specs.Instructions.{instruction_of, frame_instr}
-use Rattle.un_model.specs.Schedules.{is_frame_op, is_delimiter, value_by, instr_of, issues_of}
+use Rattle.un_ir.specs.Kinds.{is_frame_op, is_delimiter}
+use Rattle.un_model.specs.Schedules.{value_by, instr_of, issues_of}
 use Rattle.un_model.specs.declared.schedule.Issue.{Issue}
 use Rattle.un_model.specs.Solutions.{frame_distance, HasFrame, is_frame_access, starts_in_slot}
 use Rattle.un_model.specs.Variables.{model_of}
@@ -456,7 +457,7 @@ module _ (e : Ext) (o : Options) (values : List ℕ) (h : Solved e o values) (k 
             (member_map (issue_at values) (all e o values) p all') in
             let y = any_true (λ (i : Issue). is_frame_access i.instr) (issues_of (model_of e o) values) (issue_at values p) mem
             (ap is_frame_access i ∙ q) in
-            used.1 (ap (λ (b : Bool). b || list_any starts_in_slot (the_ranges e o values)) y)
+            used (ap (λ (b : Bool). b || list_any starts_in_slot (the_ranges e o values)) y)
 
         by_access : (op : Op) → j.instr.op ≡ op → is_frame_access (Some op) ≡ true → frame_distance (Some op) (Some LeaveOp) ≡ Some 0
             → frame_distance (Some EnterOp) (Some op) ≡ Some 1 → stack_of base c ≡ base

@@ -5,8 +5,8 @@ ghost use Rattle.un_isa.specs.declared.reg.TheConstants.{FRAME};
 ghost use Rattle.un_model.specs.Emission.{larger_slot, largest_slot, frame_of};
 ghost use Rattle.un_model.specs.Schedules.{schedule_of};
 
-use crate::registers::value;
 use un_isa::reg::FIRST_SLOT;
+use un_model::cost::value;
 use un_model::model::Model;
 use un_model::schedule::{LiveRange, Schedule};
 

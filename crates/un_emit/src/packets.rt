@@ -11,7 +11,6 @@ ghost use Rattle.un_model.specs.Emission.{nop, or_nop, instrs_in};
 ghost use Rattle.un_model.specs.Schedules.{block_issues, issues_of};
 
 use crate::instructions::emitted;
-use crate::registers::value;
 use std::alloc::{AllocError, Global};
 use un_base::memory_error::NoMemory;
 use un_ir::extended::ExtBlock;
@@ -19,6 +18,7 @@ use un_isa::instr::Instr;
 use un_isa::op::Op;
 use un_lists::few::Few;
 use un_lists::items::Items;
+use un_model::cost::value;
 use un_model::model::{BlockVars, Model};
 use un_model::schedule::Issue;
 use un_packet::code::{CodeBlock, Packet};

@@ -1,24 +1,17 @@
 //! The registers and slots that the values of a model's variables give to the temporaries.
 
-ghost use Rattle.std.specs.Prelude.{◌≡◌, IfOk, slice_get};
-ghost use Rattle.un_model.specs.Cost.{value_of};
+ghost use Rattle.std.specs.Prelude.{◌≡◌, IfOk};
 ghost use Rattle.un_model.specs.Emission.{temp_register, operand_registers, result_register};
-ghost use Rattle.un_model.specs.Schedules.{choice_of, value_by};
 
 use std::alloc::Global;
-use un_base::ids::{TempId, VarId};
+use un_base::ids::TempId;
 use un_base::memory_error::NoMemory;
-use un_ir::extended::{ExtOp, Operand};
+use un_ir::extended::ExtOp;
 use un_isa::reg::Reg;
 use un_lists::few::Few;
+use un_model::cost::value;
 use un_model::model::{Model, OpVars};
-
-/// The value of a variable, 0 where there is none.
-pub(crate) fn value(values: &[u32], v: VarId) -> u32
-    ensures { result ≡ value_of values.now v }
-{
-    values.get(v.0 as usize).copied().unwrap_or(0)
-}
+use un_model::placement::choice;
 
 /// The register or slot of a temporary.
 fn register(m: &Model, values: &[u32], x: TempId) -> Reg
@@ -28,29 +21,6 @@ fn register(m: &Model, values: &[u32], x: TempId) -> Reg
         None => Reg(0),
         Some(vars) => Reg(value(values, vars.reg)),
     }
-}
-
-/// The place of the alternative that the operand at place `j` chooses: the first where it has no choice.
-fn choice(values: &[u32], vars: &OpVars, j: usize) -> u32
-    ensures { result ≡ value_by values.now (slice_get vars.now.choices j) }
-{
-    match vars.choices.as_slice().get(j) {
-        None => 0,
-        Some(v) => value(values, *v),
-    }
-}
-
-/// The temporary that the operand at place `j` chooses.
-fn chosen(values: &[u32], vars: &OpVars, j: usize, operand: &Operand) -> TempId
-    ensures { result ≡ choice_of values.now vars.now j operand.now }
-{
-    let place = choice(values, vars, j) as usize;
-    operand
-        .alts
-        .as_slice()
-        .get(place)
-        .copied()
-        .unwrap_or(TempId(0))
 }
 
 /// The registers of the temporaries that the operands choose.
@@ -65,7 +35,7 @@ pub(crate) fn operand_registers(
 {
     let mut regs = Few::new(alloc);
     for j in 0..op.operands.len() {
-        let x = chosen(values, vars, j, op.operands.get(j));
+        let x = choice(values, vars, j, op.operands.get(j));
         regs.push(register(m, values, x))?;
     }
     Ok(regs)

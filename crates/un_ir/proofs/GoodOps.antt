@@ -1,9 +1,8 @@
 -- The operations of a block, one after another, and lists that meet.
-use Rattle.std.proofs.Common.{◌≡◌, ℕ, zero, suc, ◌+◌, ◌-◌, ◌<◌, ◌≤◌, ◌++◌, List, [], ◌∷◌, Option, Some, None, map, length, take, get_or}
-use Rattle.std.proofs.Common.{slice_get, All, Contains, refl, sym, ap, ◌∙◌, arith, subst, append_assoc, append-nil}
-use Rattle.std.specs.List.{flat_map, range_with_len, AllZip}
+use Rattle.std.proofs.Common.{◌≡◌, ℕ, zero, suc, ◌+◌, ◌-◌, ◌<◌, ◌≤◌, ◌++◌, List, [], ◌∷◌, Some, map, length, take}
+use Rattle.std.proofs.Common.{slice_get, Contains, refl, sym, ap, ◌∙◌, arith, subst, append_assoc, append-nil}
+use Rattle.std.specs.List.{range_with_len, AllZip}
 use Rattle.std.proofs.lemmas.Grind.{flat_map-append}
-use Rattle.std.proofs.lemmas.List.{length-append}
 use Rattle.std.proofs.lemmas.List.FromFn.{length-map-range_with_len, get_or-map-range_with_len}
 use Rattle.un_base.specs.declared.ids.TempId.{TempId}
 use Rattle.un_isa.specs.declared.table.Table.{Table}

@@ -1,6 +1,6 @@
 -- The names that a function reads and assigns are names of the function; so is each name that is live somewhere.
-use Rattle.std.proofs.Common.{◌≡◌, ℕ, zero, suc, ◌+◌, ◌<◌, ◌≤◌, List, [], ◌∷◌, Option, Some, None, map, length, slice_get, slice_index_or}
-use Rattle.std.proofs.Common.{All, Contains, refl, sym, ap, ◌∙◌, arith, subst}
+use Rattle.std.proofs.Common.{◌≡◌, ℕ, zero, suc, ◌<◌, List, [], ◌∷◌, Option, Some, None, map, length, slice_get}
+use Rattle.std.proofs.Common.{All, Contains, refl, arith, subst}
 use Rattle.std.specs.Option.{option_map}
 use Rattle.std.proofs.Math.Bridge.{le_prop}
 use Rattle.std.proofs.Math.Logic.{∥∥₁_elim}

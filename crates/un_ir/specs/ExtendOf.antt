@@ -2,7 +2,7 @@
 -- operand has a copy u, and one that reads a predicate a second copy u2. An operand may choose its value, the value's own
 -- copies, and the copies of the operands up to itself that read the value. Saved values, and operands that read them, have
 -- copies only in the entry and in blocks that return. The temporaries are numbered anew, in the order of definition.
-use Rattle.std.specs.Prelude.{ℕ, ◌≡◌, ◌+◌, ◌-◌, ◌*◌, ◌||◌, Bool, true, false, nat_eq, if◌then◌else◌, List, [], ◌∷◌, ◌++◌, Option, Some}
+use Rattle.std.specs.Prelude.{ℕ, ◌+◌, ◌-◌, ◌*◌, ◌||◌, Bool, true, false, if◌then◌else◌, List, [], ◌∷◌, ◌++◌, Option, Some}
 use Rattle.std.specs.Prelude.{None, unwrap_or, map, length, slice_get, slice_set, replicate}
 use Rattle.std.specs.List.{range_with_len}
 use Rattle.un_base.specs.declared.ids.NameId.{NameId}
@@ -12,7 +12,7 @@ use Rattle.un_ir.specs.declared.function.Kind.TheVariants.{General, Pred}
 use Rattle.un_ir.specs.declared.extended.NodeCopy.{NodeCopy}
 use Rattle.un_ir.specs.declared.extended.NodeCopy.TheVariants.{D, D2, U, U2}
 use Rattle.un_ir.specs.declared.extended.ExtKind.{ExtKind}
-use Rattle.un_ir.specs.declared.extended.ExtKind.TheVariants.{In, Out, Body, End, Copy, Enter, Leave}
+use Rattle.un_ir.specs.declared.extended.ExtKind.TheVariants.{In, Body, End, Copy, Enter, Leave}
 use Rattle.un_ir.specs.declared.extended.Operand.{Operand}
 use Rattle.un_ir.specs.declared.extended.ExtOp.{ExtOp}
 use Rattle.un_ir.specs.declared.extended.ExtBlock.{ExtBlock}
@@ -21,7 +21,7 @@ use Rattle.un_ir.specs.declared.extended.Lssa.{Lssa}
 use Rattle.un_ir.specs.declared.extended.Sort.{Sort}
 use Rattle.un_ir.specs.declared.extended.Value.{Value}
 use Rattle.un_ir.specs.declared.extended.Growth.{Growth}
-use Rattle.un_ir.specs.Extended.{temp, in_kinds, is_end, is_return, returns}
+use Rattle.un_ir.specs.Extended.{temp, is_return, returns}
 use Rattle.un_ir.specs.Linear.{first_of}
 use Rattle.un_ir.specs.WellFormed.{result_kind}
 

@@ -19,7 +19,6 @@ use Rattle.un_ir.specs.declared.function.SrcOp.{SrcOp}
 use Rattle.un_ir.specs.declared.function.Term.{Term}
 use Rattle.un_ir.specs.declared.function.Term.TheVariants.{Fall, Jump, Branch, Ret}
 use Rattle.un_ir.specs.declared.function.TheConstants.{BLOCKS, PARAMS, FREQUENCY}
-use Rattle.un_ir.specs.declared.extended.NodeCopy.{NodeCopy}
 use Rattle.un_ir.specs.declared.extended.NodeCopy.TheVariants.{D}
 use Rattle.un_ir.specs.declared.extended.ExtKind.{ExtKind}
 use Rattle.un_ir.specs.declared.extended.ExtKind.TheVariants.{In, Out, Body, End, Copy, Enter, Leave}

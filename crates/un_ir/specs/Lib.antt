@@ -1,5 +1,6 @@
 pub mod Extended
 pub mod ExtendOf
+pub mod Kinds
 pub mod LinearOf
 pub mod Linear
 pub mod Live

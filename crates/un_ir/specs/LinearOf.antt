@@ -1,8 +1,8 @@
 -- The linear function of a function: every block defines its own temporaries, first one for each value at its start. The
 -- temporaries are numbered over the whole function in the order in which they are defined.
 use Rattle.std.specs.Prelude.{ℕ, ◌≡◌, ◌+◌, ◌*◌, ◌<◌, Bool, nat_eq, List, [], ◌∷◌, ◌++◌, Option, Some, None, unwrap_or, map, filter, length}
-use Rattle.std.specs.Prelude.{slice_get, slice_index, slice_set, replicate, All, AllPairs, Contains, ◌↔◌}
-use Rattle.std.specs.List.{range_with_len, list_any, sum_by}
+use Rattle.std.specs.Prelude.{slice_get, slice_index, slice_set, replicate, AllPairs, Contains, ◌↔◌}
+use Rattle.std.specs.List.{range_with_len, list_any}
 use Rattle.std.specs.Option.{option_to_list}
 use Rattle.un_base.specs.declared.ids.NameId.{NameId}
 use Rattle.un_isa.specs.Registers.{callee_saved, saved_registers}

@@ -1,5 +1,5 @@
 -- What the run of a linear function comes to, by the run of the source.
-use Rattle.std.specs.Prelude.{ℕ, ◌≡◌, List, [], ◌++◌, Option, map, length, slice_index}
+use Rattle.std.specs.Prelude.{ℕ, ◌≡◌, List, ◌++◌, map, length, slice_index}
 use Rattle.un_base.specs.declared.ids.NameId.{NameId}
 use Rattle.un_isa.specs.Registers.{callee_saved}
 use Rattle.un_isa.specs.declared.reg.TheConstants.{LINK, REGISTERS}

@@ -2,14 +2,34 @@
 //! linear SSA form with copy extension and alternative temporaries.
 
 ghost use Rattle.std.specs.Prelude.{◌≡◌};
+ghost use Rattle.un_ir.specs.Extended.{is_copy, is_enter, is_leave};
+ghost use Rattle.un_ir.specs.Kinds.{is_optional, is_mandatory, is_delimiter, is_frame_op, has_choices, is_source, is_call_kind, is_fall};
+ghost use Rattle.un_ir.specs.Kinds.{ends_block, issues_kind};
+ghost use Rattle.un_ir.specs.Linear.{is_in};
 
 use crate::function::{Kind, SrcOp, Term};
 use std::alloc::AllocError;
 use un_base::ids::{NameId, TempId};
 use un_base::name::Name;
+use un_isa::op::Op;
 use un_isa::reg::Reg;
 use un_isa::table::Table;
 use un_lists::items::Items;
+
+/// The number of a copy's instruction that moves a register into another; 0 is a copy that is left out.
+pub const MOVE: u32 = 1;
+
+/// The number of a copy's instruction that writes a frame slot.
+pub const SPILL: u32 = 2;
+
+/// The number of a copy's instruction that reads a frame slot.
+pub const RELOAD: u32 = 3;
+
+/// The number of a copy's instruction that moves a truth value from a predicate to a general register.
+pub const FROM_PREDICATE: u32 = 4;
+
+/// The number of a copy's instruction that moves a truth value from a general register to a predicate.
+pub const TO_PREDICATE: u32 = 5;
 
 /// The names that are live at the start of each block, those of a block in the order of their first appearance.
 #[derive(Drop)]
@@ -37,6 +57,115 @@ pub enum ExtKind {
     Copy(NodeCopy),
     Enter,
     Leave,
+}
+
+impl ExtKind {
+    /// Whether it is a block's start.
+    pub fn is_in(&self) -> bool
+        ensures { result ≡ is_in self.now }
+    {
+        matches!(self, ExtKind::In)
+    }
+
+    /// Whether it is a copy.
+    pub fn is_copy(&self) -> bool
+        ensures { result ≡ is_copy self.now }
+    {
+        matches!(self, ExtKind::Copy(_))
+    }
+
+    /// Whether it is an Enter.
+    pub fn is_enter(&self) -> bool
+        ensures { result ≡ is_enter self.now }
+    {
+        matches!(self, ExtKind::Enter)
+    }
+
+    /// Whether it is a Leave.
+    pub fn is_leave(&self) -> bool
+        ensures { result ≡ is_leave self.now }
+    {
+        matches!(self, ExtKind::Leave)
+    }
+
+    /// Whether a solution may leave it out.
+    pub fn is_optional(&self) -> bool
+        ensures { result ≡ is_optional self.now }
+    {
+        matches!(self, ExtKind::Copy(_) | ExtKind::Enter | ExtKind::Leave)
+    }
+
+    /// Whether every solution issues it.
+    pub fn is_mandatory(&self) -> bool
+        ensures { result ≡ is_mandatory self.now }
+    {
+        !self.is_optional()
+    }
+
+    /// Whether it is a block's start or its end.
+    pub fn is_delimiter(&self) -> bool
+        ensures { result ≡ is_delimiter self.now }
+    {
+        matches!(self, ExtKind::In | ExtKind::Out)
+    }
+
+    /// Whether it is Enter or Leave.
+    pub fn is_frame_op(&self) -> bool
+        ensures { result ≡ is_frame_op self.now }
+    {
+        matches!(self, ExtKind::Enter | ExtKind::Leave)
+    }
+
+    /// Whether its operands have choices.
+    pub fn has_choices(&self) -> bool
+        ensures { result ≡ has_choices self.now }
+    {
+        !matches!(self, ExtKind::Copy(NodeCopy::D))
+    }
+
+    /// Whether it is an operation of the source.
+    pub fn is_source(&self) -> bool
+        ensures { result ≡ is_source self.now }
+    {
+        matches!(self, ExtKind::Body(_))
+    }
+
+    /// Whether it is a call.
+    pub fn is_call(&self) -> bool
+        ensures { result ≡ is_call_kind self.now }
+    {
+        match self {
+            ExtKind::Body(source) => matches!(source.op, Op::Call),
+            _ => false,
+        }
+    }
+
+    /// Whether it is an end that falls through to the next block.
+    pub fn is_fall(&self) -> bool
+        ensures { result ≡ is_fall self.now }
+    {
+        matches!(self, ExtKind::End(Term::Fall))
+    }
+
+    /// Whether it stands last in its block: a terminator that is issued, or the block's end.
+    pub fn ends_block(&self) -> bool
+        ensures { result ≡ ends_block self.now }
+    {
+        match self {
+            ExtKind::End(term) => !matches!(term, Term::Fall),
+            _ => matches!(self, ExtKind::Out),
+        }
+    }
+
+    /// Whether it issues an instruction where it is active.
+    pub fn issues(&self) -> bool
+        ensures { result ≡ issues_kind self.now }
+    {
+        match self {
+            ExtKind::End(term) => !matches!(term, Term::Fall),
+            _ => !self.is_delimiter(),
+        }
+    }
 }
 
 impl Clone for ExtKind {

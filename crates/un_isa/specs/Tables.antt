@@ -48,6 +48,10 @@ number_of Nop = 33
 abbrev pub latency_of : Table → Op → ℕ
 latency_of t op = slice_index t.lat (number_of op)
 
+-- how many cycles after its definer an instruction that reads what that writes may issue: the definer's latency, whatever reads it
+abbrev pub gap_by : Table → Op → Op → ℕ
+gap_by t definer user = latency_of t definer
+
 -- whether register r is in a mask
 abbrev pub in_mask : ℕ → ℕ → Bool
 in_mask mask r = nat_eq (bit_at mask r) 1

@@ -1,5 +1,8 @@
 //! Operations.
 
+/// How many operations there are.
+pub const OPERATIONS: usize = 34;
+
 /// An operation of the source or an instruction of the processor. `docs/DEFINITIONS.md` lists what each does.
 #[derive(Clone, Copy, PartialEq)]
 pub enum Op {

@@ -31,6 +31,17 @@ pub enum Resource {
     Control,
 }
 
+impl Resource {
+    /// All of them.
+    pub const ALL: [Resource; 5] = [
+        Resource::Instructions,
+        Resource::Memory,
+        Resource::Stores,
+        Resource::MultiplyOrControl,
+        Resource::Control,
+    ];
+}
+
 /// How much of a resource a packet has.
 pub fn places(r: Resource) -> u32
     ensures { result ≡ places_of r }

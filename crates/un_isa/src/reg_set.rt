@@ -2,14 +2,15 @@
 
 ghost use Rattle.std.specs.Prelude.{◌≡◌, ℕ, ◌<◌, ◌≤◌, ◌||◌, nat_eq, false, length, IfOk};
 ghost use Rattle.un_isa.specs.RegSets.{has, members};
-ghost use Rattle.un_isa.specs.Registers.{callee_saved};
+ghost use Rattle.un_isa.specs.Registers.{callee_saved, saved_registers};
 ghost use Rattle.un_isa.specs.Tables.{in_mask};
 
-use crate::reg::{GENERALS, REGISTERS};
+use crate::reg::{GENERALS, LINK, REGISTERS};
 use crate::table::Table;
 use std::alloc::Global;
 use std::marker::Model;
 use un_base::memory_error::NoMemory;
+use un_lists::items::Items;
 
 /// Whether a register is in a mask, in which bit r stands for register r.
 pub fn is_in_mask(mask: u64, r: u32) -> bool
@@ -96,5 +97,17 @@ pub fn callee_saved(alloc: Global, t: &Table) -> Result<Vec<u32>, NoMemory>
 {
     let saved = RegSet::of_mask(t.saved);
     let registers = (0..GENERALS).filter(|r| saved.contains(*r)).collect(alloc)?;
+    Ok(registers)
+}
+
+/// The registers whose values at a function's entry are wanted at its return: those that it keeps, rising, then the link register.
+///
+/// # Errors
+/// `NoMemory` where there is no memory for the list.
+pub fn saved_registers(alloc: Global, t: &Table) -> Result<Items<u32>, NoMemory>
+    ensures { IfOk result (λ registers. registers ≡ saved_registers t.now) }
+{
+    let mut registers = Items::from_vec(callee_saved(alloc, t)?);
+    registers.push(LINK)?;
     Ok(registers)
 }

@@ -1,11 +1,11 @@
 //! The table of the processor.
 
 ghost use Rattle.std.specs.Prelude.{◌≡◌, slice_get, Some};
-ghost use Rattle.un_isa.specs.Tables.{number_of, latency_of};
+ghost use Rattle.un_isa.specs.Tables.{number_of, latency_of, gap_by};
 ghost use Rattle.un_isa.specs.Hexagon.{HEXAGON, IsHexagon};
 ghost use Rattle.un_isa.specs.Fit.{IsFit};
 
-use crate::op::Op;
+use crate::op::{OPERATIONS, Op};
 
 /// How many of each resource of a packet an instruction takes.
 #[derive(Clone, Copy)]
@@ -24,9 +24,9 @@ pub struct Needs {
 #[derive(Clone, Copy)]
 pub struct Table {
     /// The latency of each operation, in cycles, by its number.
-    pub lat: [u8; 34],
+    pub lat: [u8; OPERATIONS],
     /// What each operation needs of a packet, by its number.
-    pub uses: [Needs; 34],
+    pub uses: [Needs; OPERATIONS],
     /// The registers that a call writes.
     pub clobbered: u64,
     /// The registers of a call's arguments, in order.
@@ -77,6 +77,40 @@ const CONTROL: Needs = Needs {
     control: 1,
 };
 
+/// The latency of each operation: 2 cycles for Load, Reload and Mpyi, and 1 for all others.
+fn latencies() -> [u8; OPERATIONS]
+    ensures { result ≡ HEXAGON.lat }
+{
+    let mut lat = [1; OPERATIONS];
+    lat[Op::Load as usize] = 2;
+    lat[Op::Reload as usize] = 2;
+    lat[Op::Mpyi as usize] = 2;
+    lat
+}
+
+/// What each operation needs of a packet: what those of its class do.
+fn shares() -> [Needs; OPERATIONS]
+    ensures { result ≡ HEXAGON.uses }
+{
+    let mut uses = [ALU; OPERATIONS];
+    uses[Op::Load as usize] = LOAD;
+    uses[Op::Reload as usize] = LOAD;
+    uses[Op::Store as usize] = STORE;
+    uses[Op::Spill as usize] = STORE;
+    uses[Op::Mpyi as usize] = XTYPE;
+    uses[Op::Asl as usize] = XTYPE;
+    uses[Op::Asr as usize] = XTYPE;
+    uses[Op::Lsr as usize] = XTYPE;
+    uses[Op::P2R as usize] = XTYPE;
+    uses[Op::R2P as usize] = XTYPE;
+    uses[Op::Call as usize] = CONTROL;
+    uses[Op::Jump as usize] = CONTROL;
+    uses[Op::JumpIf as usize] = CONTROL;
+    uses[Op::JumpIfNot as usize] = CONTROL;
+    uses[Op::Jumpr as usize] = CONTROL;
+    uses
+}
+
 /// The table of this project's profile of Hexagon V4: 2 cycles for Load, Reload and Mpyi, and 1 for all others. A call
 /// clobbers r0 to r15, r28, r31 and p0 to p3, its arguments are in r0 to r5 and its result in r0; a function keeps r16 to
 /// r27.
@@ -86,15 +120,8 @@ pub fn hexagon() -> Table
     ensures fit { IsFit result }
 {
     Table {
-        lat: [
-            1, 1, 1, 1, 1, 1, 1, 1, 1, 1, 1, 1, 1, 1, 1, 1, 2, 1, 1, 1, 2, 1, 1, 1, 1, 1, 1, 1, 2,
-            1, 1, 1, 1, 1,
-        ],
-        uses: [
-            ALU, ALU, ALU, ALU, ALU, ALU, ALU, ALU, ALU, ALU, ALU, ALU, ALU, ALU, ALU, ALU, XTYPE,
-            XTYPE, XTYPE, XTYPE, LOAD, STORE, CONTROL, CONTROL, CONTROL, CONTROL, CONTROL, STORE,
-            LOAD, XTYPE, XTYPE, ALU, ALU, ALU,
-        ],
+        lat: latencies(),
+        uses: shares(),
         clobbered: 0xF_9000_FFFF,
         args: [0, 1, 2, 3, 4, 5],
         result: 0,
@@ -107,6 +134,15 @@ pub fn latency(t: &Table, op: Op) -> u32
     ensures { result ≡ latency_of t.now op }
 {
     t.lat[op as usize] as u32
+}
+
+/// How many cycles after an instruction another one, which reads what the first writes, may issue: the latency of the first,
+/// whatever the second is.
+pub fn gap(t: &Table, definer: Op, user: Op) -> u32
+    ensures { result ≡ gap_by t.now definer user }
+{
+    let _ = user;
+    latency(t, definer)
 }
 
 /// What an operation needs of a packet.

@@ -8,7 +8,8 @@ use Rattle.un_ir.specs.declared.extended.ExtOp.{ExtOp}
 use Rattle.un_ir.specs.declared.extended.ExtBlock.{ExtBlock}
 use Rattle.un_model.specs.declared.model.Arc.{Arc}
 use Rattle.un_model.specs.declared.model.TempVars.{TempVars}
-use Rattle.un_model.specs.Arcs.{is_mandatory, reads_from, largest_gap, arc, arcs_between, arcs_into, arcs_at, block_arcs, blocks_arcs}
+use Rattle.un_ir.specs.Kinds.{is_mandatory}
+use Rattle.un_model.specs.Arcs.{reads_from, largest_gap, arc, arcs_between, arcs_into, arcs_at, block_arcs, blocks_arcs}
 use Rattle.un_model.specs.Pairs.{places_from, joined}
 use Rattle.un_model.proofs.Steps.{drop_at, drop_past, append-nil}
 

@@ -28,10 +28,12 @@ use Rattle.un_model.specs.declared.model.TempVars.{TempVars}
 use Rattle.un_model.specs.declared.schedule.Issue.{Issue}
 use Rattle.un_model.specs.declared.schedule.LiveRange.{LiveRange}
 use Rattle.un_model.specs.ArcLaws.{arc_told}
-use Rattle.un_model.specs.Arcs.{is_mandatory, own_instr, value_read, defines, reads_from, data_gap, memory_gap, NeedsGap, block_arcs}
+use Rattle.un_ir.specs.Kinds.{is_mandatory, is_delimiter}
+use Rattle.un_model.specs.Arcs.{own_instr, value_read, defines, reads_from, data_gap, memory_gap, NeedsGap, block_arcs}
 use Rattle.un_model.specs.Arcs.{blocks_arcs}
 use Rattle.un_model.specs.Arcs.NeedsGap.{ByData, ByMemory}
 use Rattle.un_model.proofs.Operations.{placed_get}
+use Rattle.un_model.proofs.Gaps.{gap_latency}
 use Rattle.un_model.specs.Instructions.{instruction_of, latency_by}
 use Rattle.un_model.proofs.Lists.{Member, any_of, place_of, member_at, member_append_left, member_append_right, index_get, length_get}
 use Rattle.un_model.proofs.Lists.{slice_get-map}
@@ -39,8 +41,8 @@ use Rattle.un_model.proofs.PlacedSchedules.{all, spots, issue_here, one_spot, de
 use Rattle.un_model.specs.Options.{AreOptions}
 use Rattle.un_model.proofs.Placed.{Placed, Region, region_placed, blocks_placed, block_placed, issue_at, vars_of, Spot, temp_vars}
 use Rattle.un_model.proofs.Placed.{temps_are, at_number, all_count}
-use Rattle.un_model.proofs.Readings.{Solved, numbered, fit_kinds, placed_good, Reading, reading, zip_get}
-use Rattle.un_model.specs.Schedules.{issues_of, schedule_of, value_by, is_delimiter}
+use Rattle.un_model.proofs.Readings.{Solved, numbered, fit_kinds, placed_good, Reading, reading, waited_latency, zip_get}
+use Rattle.un_model.specs.Schedules.{issues_of, schedule_of, value_by}
 use Rattle.un_model.specs.Solutions.{IsSchedule, IsSolution, Precedes, memory_distance, latency_gap}
 use Rattle.un_model.proofs.TempKinds.{carried_at, spot_carried, carried_is}
 use Rattle.un_model.specs.Variables.{IsModel, model_of, arcs_of, blocks_temps, var_at, ops_count, block_count}
@@ -148,7 +150,8 @@ module _ (e : Ext) (o : Options) (values : List ℕ) (h : Solved e o values) whe
           range = range_here e o values (numbered e o values h) r.spot r.member
 
           ready : ready_at r.spot ≤ (issue_at values q).cycle
-          ready = subst (λ (v : LiveRange). v.from + latency_by e.table v.instr ≤ (issue_at values q).cycle) range r.ready
+          ready = subst (λ (v : LiveRange). v.from + latency_by e.table v.instr ≤ (issue_at values q).cycle) range
+              (waited_latency e o values h q j x want r)
 
           active : (issue_at values r.spot.definer).active ≡ true
           active = subst (λ (v : LiveRange). v.active ≡ true) range r.active
@@ -278,12 +281,13 @@ module _ (e : Ext) (o : Options) (values : List ℕ) (h : Solved e o values) whe
     where
       by : (r : Bool) → reads_from (blocks_temps 0 0 e.blocks) p.number q.op ≡ r → (issue_at values p).cycle + g ≤ (issue_at values q).cycle
       by true f =
-          let is : data_gap e.table true p.op ≡ Some g = sym (ap (λ (r : Bool). data_gap e.table r p.op) f) ∙ gap in
-          let k : latency_by e.table (own_instr p.op) ≡ g = cc is in
+          let is : data_gap e.table true p.op q.op ≡ Some g = sym (ap (λ (r : Bool). data_gap e.table r p.op q.op) f) ∙ gap in
+          let k : latency_gap e.table (own_instr p.op) (own_instr q.op) ≡ g = cc is in
+          let l = gap_latency e.table (own_instr p.op) (own_instr q.op) in
           let w = by_data p q mp mq a b f in
-          omega (arith, k, w)
+          omega (arith, k, l, w)
       by false f =
-          let is : data_gap e.table false p.op ≡ Some g = sym (ap (λ (r : Bool). data_gap e.table r p.op) f) ∙ gap in
+          let is : data_gap e.table false p.op q.op ≡ Some g = sym (ap (λ (r : Bool). data_gap e.table r p.op q.op) f) ∙ gap in
           absurd (cc is)
 
   arc_kept : (k : ℕ) (arcs : List Arc) (a : Arc) → slice_get (arcs_of e) k ≡ Some arcs → Contains arcs a

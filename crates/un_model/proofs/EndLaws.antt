@@ -1,9 +1,9 @@
 -- What a block's operations say of its start and its end, found by loops.
-use Rattle.std.proofs.Common.{◌≡◌, ℕ, ◌+◌, Bool, true, false, Option, Some, None, List, [], ◌∷◌, drop, slice_get, sym, ap, ◌∙◌}
+use Rattle.std.proofs.Common.{◌≡◌, ℕ, ◌+◌, Bool, true, false, Option, Some, None, List, drop, slice_get, sym, ap, ◌∙◌}
 use Rattle.std.specs.Prelude.{unwrap_or, if◌then◌else◌}
-use Rattle.un_base.specs.declared.ids.TempId.{TempId}
 use Rattle.un_ir.specs.declared.function.Term.{Term}
 use Rattle.un_ir.specs.declared.extended.ExtOp.{ExtOp}
+use Rattle.un_ir.specs.Linear.{is_in}
 use Rattle.un_model.specs.Congruences.{term_or, term_of, results_of_start, live_in_temps}
 use Rattle.un_model.proofs.Steps.{drop_at}
 
@@ -24,19 +24,19 @@ term_on ops k op o at h e so =
     sym (ap (λ (p : Option Term). unwrap_or p (term_of (drop (k + 1) ops))) e) ∙ h (term_of (drop (k + 1) ops)) ∙ sym s ∙ so
 
 pub start_found : (ops : List ExtOp) (k : ℕ) (op : ExtOp) (t : Bool) → slice_get ops k ≡ Some op
-    → ((results later : List TempId) → (if t then results else later) ≡ results_of_start op.kind results later) → t ≡ true
+    → t ≡ is_in op.kind → t ≡ true
     → live_in_temps (drop k ops) ≡ live_in_temps ops → op.results ≡ live_in_temps ops
 start_found ops k op t at h e so =
     let s : live_in_temps (drop k ops) ≡ results_of_start op.kind op.results (live_in_temps (drop (k + 1) ops)) = ap live_in_temps
     (drop_at ops k op at) in
-    sym (ap (λ (b : Bool). if b then op.results else live_in_temps (drop (k + 1) ops)) e) ∙ h op.results
-    (live_in_temps (drop (k + 1) ops)) ∙ sym s ∙ so
+    sym (ap (λ (b : Bool). if b then op.results else live_in_temps (drop (k + 1) ops)) e) ∙ ap
+    (λ (b : Bool). if b then op.results else live_in_temps (drop (k + 1) ops)) h ∙ sym s ∙ so
 
 pub start_on : (ops : List ExtOp) (k : ℕ) (op : ExtOp) (t : Bool) → slice_get ops k ≡ Some op
-    → ((results later : List TempId) → (if t then results else later) ≡ results_of_start op.kind results later) → t ≡ false
+    → t ≡ is_in op.kind → t ≡ false
     → live_in_temps (drop k ops) ≡ live_in_temps ops → live_in_temps (drop (k + 1) ops) ≡ live_in_temps ops
 start_on ops k op t at h e so =
     let s : live_in_temps (drop k ops) ≡ results_of_start op.kind op.results (live_in_temps (drop (k + 1) ops)) = ap live_in_temps
     (drop_at ops k op at) in
-    sym (ap (λ (b : Bool). if b then op.results else live_in_temps (drop (k + 1) ops)) e) ∙ h op.results
-    (live_in_temps (drop (k + 1) ops)) ∙ sym s ∙ so
+    sym (ap (λ (b : Bool). if b then op.results else live_in_temps (drop (k + 1) ops)) e) ∙ ap
+    (λ (b : Bool). if b then op.results else live_in_temps (drop (k + 1) ops)) h ∙ sym s ∙ so

@@ -15,3 +15,5 @@ pub mod TempKinds
 pub mod Readings
 pub mod ArcsKept
 pub mod EndLaws
+pub mod Gaps
+mod ArcLists

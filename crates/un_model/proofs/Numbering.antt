@@ -22,7 +22,8 @@ use Rattle.un_model.specs.declared.model.Model.{Model}
 use Rattle.un_model.specs.declared.model.Arc.{Arc}
 use Rattle.un_model.specs.Arcs.{blocks_arcs}
 use Rattle.un_model.specs.Pairs.{places_from}
-use Rattle.un_model.specs.Variables.{is_optional, has_cycle, count_if, chosen_operands, cycle_place, choice_place, register_place}
+use Rattle.un_ir.specs.Kinds.{is_optional}
+use Rattle.un_model.specs.Variables.{has_cycle, count_if, chosen_operands, cycle_place, choice_place, register_place}
 use Rattle.un_model.specs.Variables.{var_count, var_at, op_vars, ops_vars, ops_count, block_vars, block_count, blocks_vars, blocks_count}
 use Rattle.un_model.specs.Variables.{op_temps, ops_temps, blocks_temps, instr_domain, cycle_domain, choice_domain, result_domain}
 use Rattle.un_model.specs.Variables.{carries_truth, op_domains, ops_domains, block_domains, blocks_domains, own_horizon, IsModel, model_of}

@@ -18,7 +18,8 @@ use Rattle.un_model.specs.declared.model.Options.{Options}
 use Rattle.un_model.specs.Cost.{value_of}
 use Rattle.un_model.specs.Pairs.{places_from}
 use Rattle.un_model.specs.Solutions.{InDomain, KeepsDomains}
-use Rattle.un_model.specs.Variables.{var_count, var_at, ops_count, block_count, count_if, is_optional, has_cycle, chosen_operands}
+use Rattle.un_ir.specs.Kinds.{is_optional}
+use Rattle.un_model.specs.Variables.{var_count, var_at, ops_count, block_count, count_if, has_cycle, chosen_operands}
 use Rattle.un_model.specs.Variables.{register_place, choice_place, instr_domain, cycle_domain, choice_domain, carries_truth, result_domain}
 use Rattle.un_model.specs.Variables.{op_domains, ops_domains, block_domains, blocks_domains, own_horizon, domains_of, blocks_count}
 use Rattle.un_model.proofs.Lists.{Each, each_join}

@@ -15,7 +15,7 @@ use Rattle.un_model.specs.declared.schedule.Issue.{Issue}
 use Rattle.un_model.specs.declared.schedule.Read.{Read}
 use Rattle.un_model.specs.declared.schedule.LiveRange.{LiveRange}
 use Rattle.un_model.specs.Cost.{value_of}
-use Rattle.un_model.specs.Instructions.{latency_by, space_read, space_given}
+use Rattle.un_model.specs.Instructions.{space_read, space_given}
 use Rattle.un_model.specs.Pairs.{places_from, joined}
 use Rattle.un_model.specs.Schedules.{issues_of, reads_of, read_of, range_by, range_of, ranges_of, last_read, cycle_for, schedule_of}
 use Rattle.un_model.specs.Solutions.{IsSchedule, IsLive, InSpace, ReadsInSpace, LeavesGap, latency_gap, HasHome, ReadsHome, IsGivenInSpace}
@@ -203,7 +203,7 @@ module _ (e : Ext) (o : Options) (values : List ℕ) where
       pub is : result.temp.0 ≡ r.temp.0
       pub active : (spot_range result).active ≡ true
       pub space : InSpace (spot_range result).reg (space_read r.instr r.operand)
-      pub ready : (spot_range result).from + latency_by e.table (spot_range result).instr ≤ r.cycle
+      pub ready : (spot_range result).from + latency_gap e.table (spot_range result).instr r.instr ≤ r.cycle
       pub home : HasHome r.home (spot_range result)
       pub last : r.cycle ≤ (spot_range result).last + 1
 
@@ -236,7 +236,7 @@ module _ (e : Ext) (o : Options) (values : List ℕ) where
               is = s.2;
               active = back (λ (x : LiveRange). x.active ≡ true) live;
               space = back (λ (x : LiveRange). InSpace x.reg (space_read r.instr r.operand)) space;
-              ready = back (λ (x : LiveRange). x.from + latency_by e.table x.instr ≤ r.cycle) (gap live);
+              ready = back (λ (x : LiveRange). x.from + latency_gap e.table x.instr r.instr ≤ r.cycle) (gap live);
               home = back (λ (x : LiveRange). HasHome r.home x) home;
               last = omega arith;
             }

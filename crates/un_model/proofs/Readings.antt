@@ -23,11 +23,13 @@ use Rattle.un_model.specs.declared.model.Options.{Options}
 use Rattle.un_model.specs.declared.model.TempVars.{TempVars}
 use Rattle.un_model.specs.declared.schedule.LiveRange.{LiveRange}
 use Rattle.un_model.specs.Emission.{temp_register, register_by}
+use Rattle.un_model.proofs.Gaps.{gap_latency}
 use Rattle.un_model.specs.Instructions.{latency_by, space_read}
 use Rattle.un_model.specs.Options.{AreOptions}
 use Rattle.un_model.specs.Schedules.{choice_of, value_by, read_of, schedule_of}
 use Rattle.un_model.specs.Solutions.{IsSchedule, latency_gap, InSpace, HasHome}
-use Rattle.un_model.specs.Variables.{model_of, var_at, choice_place, chosen_operands, has_choices, domains_of, own_horizon}
+use Rattle.un_ir.specs.Kinds.{has_choices}
+use Rattle.un_model.specs.Variables.{model_of, var_at, choice_place, chosen_operands, domains_of, own_horizon}
 use Rattle.un_model.proofs.Lists.{Each, Member, each_member, each_of, each_all, member_at, get_below, slice_get-map, length_get}
 use Rattle.un_model.proofs.Placed.{Placed, vars_of, issue_at, Spot, temp_vars, temps_are}
 use Rattle.un_model.proofs.OpDomains.{InDomains, in_entry, keeps_sits, sits_left, all_sit, choice_sits}
@@ -134,8 +136,8 @@ module _ (e : Ext) (o : Options) (values : List ℕ) (h : Solved e o values) whe
     pub active : (range_at e o values spot.temp.0).active ≡ true
     pub there : (range_at e o values spot.temp.0).block.0 ≡ p.block
     pub space : InSpace (range_at e o values spot.temp.0).reg (space_read (issue_at values p).instr j)
-    pub ready : (range_at e o values spot.temp.0).from + latency_by e.table (range_at e o values spot.temp.0).instr ≤
-        (issue_at values p).cycle
+    pub ready : (range_at e o values spot.temp.0).from + latency_gap e.table (range_at e o values spot.temp.0).instr
+        (issue_at values p).instr ≤ (issue_at values p).cycle
     pub last : (issue_at values p).cycle ≤ (range_at e o values spot.temp.0).last + 1
     pub home : HasHome want.home (range_at e o values spot.temp.0)
     pub value : carried e.blocks spot.temp ≡ temp (first_of x.alts)
@@ -175,7 +177,7 @@ module _ (e : Ext) (o : Options) (values : List ℕ) (h : Solved e o values) whe
           active = back (λ v. v.active ≡ true) r.active;
           there = ap (λ (v : LiveRange). v.block.0) (range_here e o values numbered s.0 s.1) ∙ s.3;
           space = back (λ v. InSpace v.reg (space_read (issue_at values p).instr j)) r.space;
-          ready = back (λ v. v.from + latency_by e.table v.instr ≤ (issue_at values p).cycle) r.ready;
+          ready = back (λ v. v.from + latency_gap e.table v.instr (issue_at values p).instr ≤ (issue_at values p).cycle) r.ready;
           last = back (λ v. (issue_at values p).cycle ≤ v.last + 1) r.last;
           home = subst (λ (r : Option Reg). HasHome r (range_at e o values s.0.temp.0)) ok.home (back (λ v. HasHome x.home v) r.home);
           value = ap (carried e.blocks) s.2 ∙ one_val;
@@ -188,6 +190,14 @@ module _ (e : Ext) (o : Options) (values : List ℕ) (h : Solved e o values) whe
       first_in : (alts : List TempId) → 0 < length alts → Member (temp (first_of alts)) alts
       first_in [] lt = absurd (omega arith)
       first_in (y ∷ ys) lt = inl refl
+
+  -- what is read was given its definer's latency before
+  pub waited_latency : (p : Placed) (j : ℕ) (x : Operand) (want : Want) (r : Reading p j x want)
+      → (range_at e o values r.spot.temp.0).from + latency_by e.table (range_at e o values r.spot.temp.0).instr ≤ (issue_at values p).cycle
+  waited_latency p j x want r =
+      let g = gap_latency e.table (range_at e o values r.spot.temp.0).instr (issue_at values p).instr in
+      let late = r.ready in
+      omega (arith, g, late)
 
   -- the number of the register that a result has
   pub register_is : (s : Spot) → Member s (spots e o values) → (temp_register (model_of e o) values s.temp).0 ≡

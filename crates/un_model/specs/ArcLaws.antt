@@ -12,7 +12,8 @@ use Rattle.un_ir.specs.declared.extended.ExtOp.{ExtOp}
 use Rattle.un_ir.specs.declared.extended.ExtBlock.{ExtBlock}
 use Rattle.un_model.specs.declared.model.Arc.{Arc}
 use Rattle.un_model.specs.declared.model.TempVars.{TempVars}
-use Rattle.un_model.specs.Arcs.{is_mandatory, reads_from, data_gap, memory_gap, NeedsGap, larger, largest_gap, arc, arcs_between, arcs_into}
+use Rattle.un_ir.specs.Kinds.{is_mandatory}
+use Rattle.un_model.specs.Arcs.{reads_from, data_gap, memory_gap, NeedsGap, larger, largest_gap, arc, arcs_between, arcs_into}
 use Rattle.un_model.specs.Arcs.{arcs_at, block_arcs, blocks_arcs, IsLargest, IsArcOf, RisesTo}
 use Rattle.un_model.specs.Arcs.NeedsGap.{ByData, ByMemory}
 use Rattle.un_model.specs.Pairs.{places_from, joined}
@@ -54,11 +55,11 @@ larger_known a b g o most = by (larger a b) refl
         e ∙ ap Some (omega (arith, low, high))
 
 module _ (t : Table) (reads : Bool) (from to : ExtOp) where
-  as_one : (g : ℕ) → NeedsGap t reads from to g → OneOf (data_gap t reads from) (memory_gap from to) g
+  as_one : (g : ℕ) → NeedsGap t reads from to g → OneOf (data_gap t reads from to) (memory_gap from to) g
   as_one g (ByData h) = inl h
   as_one g (ByMemory h) = inr h
 
-  as_need : (g : ℕ) → OneOf (data_gap t reads from) (memory_gap from to) g → NeedsGap t reads from to g
+  as_need : (g : ℕ) → OneOf (data_gap t reads from to) (memory_gap from to) g → NeedsGap t reads from to g
   as_need g (inl h) = ByData h
   as_need g (inr h) = ByMemory h
 
@@ -74,7 +75,7 @@ module _ (t : Table) (reads : Bool) (from to : ExtOp) where
       by : (b : Bool) → (is_mandatory from.kind && is_mandatory to.kind) ≡ b
           → ((is_mandatory from.kind ≡ true) × (is_mandatory to.kind ≡ true)) × IsLargest t reads from to g
       by true e =
-          let k : larger (data_gap t reads from) (memory_gap from to) ≡ Some g = rw e at h in (
+          let k : larger (data_gap t reads from to) (memory_gap from to) ≡ Some g = rw e at h in (
             both _ _ e,
             record {
               asked = as_need g (larger_asked _ _ g k);

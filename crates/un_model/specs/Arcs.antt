@@ -1,5 +1,6 @@
 -- The precedences among the operations that every solution issues: a block's start and its end, the operations of the source
 -- and the terminator. Copies only lengthen the way from a definer to a reader.
+use Rattle.std.specs.Prelude.{zero, suc}
 use Rattle.std.specs.Prelude.{ℕ, ◌≡◌, ◌+◌, ◌<◌, ◌≤◌, ◌⊎◌, ◌==◌, ◌&&◌, Bool, true, false, if◌then◌else◌, List, [], ◌∷◌, Option, Some, None}
 use Rattle.std.specs.Prelude.{map, max, take, length, slice_get}
 use Rattle.std.specs.List.{list_any}
@@ -7,26 +8,18 @@ use Rattle.std.specs.Option.{option_to_list, option_map_or}
 use Rattle.un_base.specs.declared.ids.TempId.{TempId}
 use Rattle.un_isa.specs.declared.op.Op.{Op}
 use Rattle.un_isa.specs.declared.table.Table.{Table}
-use Rattle.un_ir.specs.declared.extended.ExtKind.{ExtKind}
-use Rattle.un_ir.specs.declared.extended.ExtKind.TheVariants.{In, Out, Body, End}
+use Rattle.un_ir.specs.Kinds.{is_mandatory}
 use Rattle.un_ir.specs.declared.extended.Operand.{Operand}
 use Rattle.un_ir.specs.declared.extended.ExtOp.{ExtOp}
 use Rattle.un_ir.specs.declared.extended.ExtBlock.{ExtBlock}
 use Rattle.un_model.specs.declared.model.TempVars.{TempVars}
 use Rattle.un_model.specs.declared.model.Arc.{Arc}
-use Rattle.un_model.specs.Instructions.{instruction_of, latency_by}
+use Rattle.un_model.specs.Instructions.{instruction_of}
 use Rattle.un_model.specs.Pairs.{places_from, joined}
 use Rattle.un_model.specs.Schedules.{chosen}
-use Rattle.un_model.specs.Solutions.{memory_distance}
+use Rattle.un_model.specs.Solutions.{memory_distance, latency_gap}
 
 -- ---- precedences
-
-abbrev pub is_mandatory : ExtKind → Bool
-is_mandatory In = true
-is_mandatory Out = true
-is_mandatory (Body o) = true
-is_mandatory (End term) = true
-is_mandatory _ = false
 
 -- the instruction that a mandatory operation issues, none at the bounds of a block
 abbrev pub own_instr : ExtOp → Option Op
@@ -44,17 +37,17 @@ defines temps n x = option_map_or (λ (t : TempVars). t.op.0 == n) (slice_get te
 abbrev pub reads_from : List TempVars → ℕ → ExtOp → Bool
 reads_from temps n op = list_any (λ (x : Operand). defines temps n (value_read x)) op.operands
 
--- how long after operation n, which is `from`, a later one has to issue: by data its latency, by memory what keeps Loads, Stores
--- and Calls in their order
-abbrev pub data_gap : Table → Bool → ExtOp → Option ℕ
-data_gap t reads from = if reads then Some (latency_by t (own_instr from)) else None
+-- how long after operation n, which is `from`, a later one has to issue: by data the gap between the two, by memory what keeps
+-- Loads, Stores and Calls in their order
+abbrev pub data_gap : Table → Bool → ExtOp → ExtOp → Option ℕ
+data_gap t reads from to = if reads then Some (latency_gap t (own_instr from) (own_instr to)) else None
 
 abbrev pub memory_gap : ExtOp → ExtOp → Option ℕ
 memory_gap from to = memory_distance (own_instr from) (own_instr to)
 
 -- an operation, which reads from operation n or does not, has to issue so long after that
 pub data NeedsGap (t : Table) (reads : Bool) (from to : ExtOp) (gap : ℕ) : Type 0 where
-  ByData : data_gap t reads from ≡ Some gap → NeedsGap t reads from to gap
+  ByData : data_gap t reads from to ≡ Some gap → NeedsGap t reads from to gap
   ByMemory : memory_gap from to ≡ Some gap → NeedsGap t reads from to gap
 
 -- ---- arcs
@@ -68,7 +61,7 @@ larger (Some a) (Some b) = Some (max a b)
 -- the largest gap between two mandatory operations
 abbrev pub largest_gap : Table → Bool → ExtOp → ExtOp → Option ℕ
 largest_gap t reads from to =
-    if is_mandatory from.kind && is_mandatory to.kind then larger (data_gap t reads from) (memory_gap from to) else None
+    if is_mandatory from.kind && is_mandatory to.kind then larger (data_gap t reads from to) (memory_gap from to) else None
 
 abbrev pub arc : ℕ → ℕ → ℕ → Arc
 arc n m gap = record { from = record { 0 = n }; to = record { 0 = m }; gap = gap }
@@ -114,6 +107,12 @@ pub record IsArcOf (t : Table) (temps : List TempVars) (n : ℕ) (ops : List Ext
   pub numbers : (a.from.0 ≡ n + earlier) × (a.to.0 ≡ n + later)
   pub mandatory : (is_mandatory from.kind ≡ true) × (is_mandatory to.kind ≡ true)
   pub gap : IsLargest t (reads_from temps a.from.0 to) from to a.gap
+
+-- the number of the first operation of block b
+abbrev pub first_number : List ExtBlock → ℕ → ℕ
+first_number [] b = 0
+first_number (block ∷ blocks) zero = 0
+first_number (block ∷ blocks) (suc b) = length block.ops + first_number blocks b
 
 -- by rising `to` and then rising `from`
 abbrev pub RisesTo : Arc → Arc → Type 0

@@ -1,16 +1,15 @@
 -- The congruences of a solution: what a block hands over stands in the same register where the next block takes it.
-use Rattle.std.specs.Prelude.{ℕ, ◌≡◌, ◌+◌, ◌-◌, ◌==◌, ◌&&◌, Bool, List, [], ◌∷◌, Option, Some, None, is_none, filter, length, slice_get}
+use Rattle.std.specs.Prelude.{ℕ, ◌≡◌, ◌==◌, ◌&&◌, Bool, List, [], ◌∷◌, Option, Some, None, is_none, filter, slice_get, if◌then◌else◌}
 use Rattle.std.specs.Prelude.{Contains}
-use Rattle.std.specs.List.{position_or_len}
 use Rattle.std.specs.Option.{option_map}
-use Rattle.un_base.specs.declared.ids.NameId.{NameId}
 use Rattle.un_base.specs.declared.ids.TempId.{TempId}
+use Rattle.un_ir.specs.Linear.{is_in, place_over}
 use Rattle.un_ir.specs.Live.{targets_of}
 use Rattle.un_ir.specs.declared.function.Term.{Term}
 use Rattle.un_ir.specs.declared.function.Term.TheVariants.{Fall}
 use Rattle.un_ir.specs.declared.extended.ExtBlock.{ExtBlock}
 use Rattle.un_ir.specs.declared.extended.ExtKind.{ExtKind}
-use Rattle.un_ir.specs.declared.extended.ExtKind.TheVariants.{In, End}
+use Rattle.un_ir.specs.declared.extended.ExtKind.TheVariants.{End}
 use Rattle.un_ir.specs.declared.extended.ExtOp.{ExtOp}
 use Rattle.un_model.specs.declared.schedule.LiveRange.{LiveRange}
 use Rattle.un_model.specs.declared.schedule.Read.{Read}
@@ -30,8 +29,7 @@ term_of (op ∷ ops) = term_or op.kind (term_of ops)
 -- ---- what goes over an edge
 
 abbrev pub results_of_start : ExtKind → List TempId → List TempId → List TempId
-results_of_start In results later = results
-results_of_start _ results later = later
+results_of_start kind results later = if is_in kind then results else later
 
 -- the live-in temporaries of a block, those of its `in`: the names that are live, then the saved values
 abbrev pub live_in_temps : List ExtOp → List TempId
@@ -45,14 +43,6 @@ is_live_out b r = r.block.0 == b && is_none r.instr
 -- what block b hands over: the names that are live, then the saved values
 abbrev pub live_out_reads : ℕ → List Read → List Read
 live_out_reads b reads = filter (is_live_out b) reads
-
--- the place among what block a hands over of what block b takes at place j: by name, and by order behind the names
-abbrev pub place_by : ExtBlock → ExtBlock → ℕ → Option NameId → ℕ
-place_by a b j None = length a.live_out + (j - length b.live_in)
-place_by a b j (Some name) = position_or_len (λ (n : NameId). n.0 == name.0) a.live_out
-
-abbrev pub place_over : ExtBlock → ExtBlock → ℕ → ℕ
-place_over a b j = place_by a b j (slice_get b.live_in j)
 
 -- ---- registers
 

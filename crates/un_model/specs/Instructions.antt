@@ -13,6 +13,7 @@ use Rattle.un_isa.specs.declared.table.Needs.{Needs}
 use Rattle.un_isa.specs.declared.table.Table.{Table}
 use Rattle.un_ir.specs.declared.function.Term.{Term}
 use Rattle.un_ir.specs.declared.function.Term.TheVariants.{Fall, Jump, Branch, Ret}
+use Rattle.un_ir.specs.declared.extended.TheConstants.{MOVE, SPILL, RELOAD, FROM_PREDICATE, TO_PREDICATE}
 use Rattle.un_ir.specs.declared.extended.ExtKind.{ExtKind}
 use Rattle.un_ir.specs.declared.extended.ExtKind.TheVariants.{In, Out, Body, End, Copy, Enter, Leave}
 
@@ -27,9 +28,9 @@ transfer_of (Ret value) = Some Jumpr
 -- the instruction of a copy that has the number n; 0 is an inactive copy
 abbrev pub copy_of : ℕ → Option Op
 copy_of n =
-    if n == 1 then Some Mov
-    else (if n == 2 then Some Spill else
-    (if n == 3 then Some Reload else (if n == 4 then Some P2R else (if n == 5 then Some R2P else None))))
+    if n == MOVE then Some Mov
+    else (if n == SPILL then Some Spill else
+    (if n == RELOAD then Some Reload else (if n == FROM_PREDICATE then Some P2R else (if n == TO_PREDICATE then Some R2P else None))))
 
 -- the instruction of Enter or Leave that has the number n; 0 is inactive
 abbrev pub frame_instr : Op → ℕ → Option Op

@@ -1,12 +1,13 @@
 -- A solution read as a schedule.
-use Rattle.std.specs.Prelude.{ℕ, ◌-◌, Bool, true, false, ◌==◌, ◌&&◌, ◌||◌, if◌then◌else◌, List, [], Option, Some, None, is_some, unwrap_or}
+use Rattle.std.specs.Prelude.{ℕ, ◌-◌, Bool, false, ◌==◌, ◌&&◌, ◌||◌, if◌then◌else◌, List, [], Option, Some, None, is_some, unwrap_or}
 use Rattle.std.specs.Prelude.{◌≡◌, ◌<◌, fold, length, max, slice_get, slice_index}
 use Rattle.std.specs.List.{list_all}
 use Rattle.un_base.specs.declared.ids.VarId.{VarId}
 use Rattle.un_base.specs.declared.ids.TempId.{TempId}
 use Rattle.un_isa.specs.declared.op.Op.{Op}
+use Rattle.un_ir.specs.Kinds.{is_delimiter, is_frame_op}
 use Rattle.un_ir.specs.declared.extended.ExtKind.{ExtKind}
-use Rattle.un_ir.specs.declared.extended.ExtKind.TheVariants.{In, Out, Enter, Leave}
+use Rattle.un_ir.specs.declared.extended.ExtKind.TheVariants.{In, Out}
 use Rattle.un_ir.specs.declared.extended.Operand.{Operand}
 use Rattle.un_ir.specs.declared.extended.ExtOp.{ExtOp}
 use Rattle.un_ir.specs.declared.extended.ExtBlock.{ExtBlock}
@@ -40,17 +41,6 @@ cycle_by values end _ vars = value_by values vars.cycle
 
 abbrev pub cycle_of : List ℕ → ℕ → ExtOp → OpVars → ℕ
 cycle_of values end op vars = cycle_by values end op.kind vars
-
--- a block's start and its end
-abbrev pub is_delimiter : ExtKind → Bool
-is_delimiter In = true
-is_delimiter Out = true
-is_delimiter _ = false
-
-abbrev pub is_frame_op : ExtKind → Bool
-is_frame_op Enter = true
-is_frame_op Leave = true
-is_frame_op _ = false
 
 -- a block's start and its end are active, and what issues an instruction
 abbrev pub is_active : List ℕ → ExtOp → OpVars → Bool

@@ -9,7 +9,7 @@ use Rattle.un_isa.specs.declared.reg.Space.{Space}
 use Rattle.un_isa.specs.declared.reg.TheConstants.{FIRST_SLOT}
 use Rattle.un_isa.specs.Registers.{space_of}
 use Rattle.un_isa.specs.declared.table.Table.{Table}
-use Rattle.un_isa.specs.Tables.{in_mask}
+use Rattle.un_isa.specs.Tables.{latency_of, gap_by, in_mask}
 use Rattle.un_domains.specs.declared.domain.Domain.{Domain}
 use Rattle.un_domains.specs.declared.domain.Domain.TheVariants.{Range, Set}
 use Rattle.un_model.specs.declared.model.Model.{Model}
@@ -23,7 +23,7 @@ use Rattle.un_model.specs.declared.schedule.Schedule.{Schedule}
 use Rattle.un_model.specs.declared.verdict.Verdict.{Verdict}
 use Rattle.un_model.specs.Congruences.{KeepsCongruences}
 use Rattle.un_model.specs.Cost.{value_of}
-use Rattle.un_model.specs.Instructions.{latency_by, needs_by, is_transfer, space_read, space_given}
+use Rattle.un_model.specs.Instructions.{needs_by, is_transfer, space_read, space_given}
 use Rattle.un_model.specs.Schedules.{schedule_of}
 
 -- the least number of cycles from the instruction of one operation to that of another, none where they may be in any order
@@ -103,9 +103,12 @@ abbrev pub LeavesGap : Gap → Read → Option LiveRange → Type 0
 LeavesGap gap r None = ⊥
 LeavesGap gap r (Some h) = h.active ≡ true → h.from + gap h.instr r.instr ≤ r.cycle
 
--- a user waits for its definer's latency
+-- a user waits for its definer as the table says; it waits one cycle for what is there at a block's start, and a block's end waits
+-- for the definer's latency
 abbrev pub latency_gap : Table → Gap
-latency_gap t definer user = latency_by t definer
+latency_gap t None user = 1
+latency_gap t (Some definer) None = latency_of t definer
+latency_gap t (Some definer) (Some user) = gap_by t definer user
 
 abbrev pub KeepsLatencies : Gap → Schedule → Type 0
 KeepsLatencies gap t = All IsPlaced t.issues × All (λ (r : Read). LeavesGap gap r (slice_get t.ranges r.temp.0)) t.reads
@@ -238,7 +241,8 @@ abbrev pub KeepsFrameOrder : List Issue → Type 0
 KeepsFrameOrder issues = All (λ (i : Issue). All (Precedes frame_distance i) issues) issues
 
 pub record KeepsFrame (flag : ℕ) (t : Schedule) : Type 0 where
-  pub used : (flag ≡ 1) ↔ (uses_frame t ≡ true)
+  pub used : uses_frame t ≡ true → flag ≡ 1
+  pub needed : flag ≡ 1 → uses_frame t ≡ true
   pub without : flag ≡ 0 → All (HasFrame false) t.issues
   pub with_frame : flag ≡ 1 → All (HasFrame true) t.issues
   pub ordered : flag ≡ 1 → KeepsFrameOrder t.issues

@@ -8,9 +8,10 @@ use Rattle.un_base.specs.declared.ids.VarId.{VarId}
 use Rattle.un_isa.specs.declared.op.Op.{Op}
 use Rattle.un_isa.specs.declared.op.Op.TheVariants.{Call}
 use Rattle.un_isa.specs.declared.reg.Reg.{Reg}
+use Rattle.un_ir.specs.Kinds.{is_optional, has_choices}
+use Rattle.un_ir.specs.declared.extended.TheConstants.{RELOAD, TO_PREDICATE}
 use Rattle.un_ir.specs.declared.extended.ExtKind.{ExtKind}
 use Rattle.un_ir.specs.declared.extended.ExtKind.TheVariants.{In, Out, Body, End, Copy, Enter, Leave}
-use Rattle.un_ir.specs.declared.extended.NodeCopy.TheVariants.{D}
 use Rattle.un_ir.specs.declared.extended.Operand.{Operand}
 use Rattle.un_ir.specs.declared.extended.ExtOp.{ExtOp}
 use Rattle.un_ir.specs.declared.extended.ExtBlock.{ExtBlock}
@@ -30,23 +31,11 @@ use Rattle.un_model.specs.Registers.{result_home, is_truth, predicate_registers,
 
 -- ---- which variables there are
 
--- an optional operation has a variable for its instruction
-abbrev pub is_optional : ExtKind → Bool
-is_optional (Copy node) = true
-is_optional Enter = true
-is_optional Leave = true
-is_optional _ = false
-
 -- what is neither a block's start nor its end has a variable for its cycle
 abbrev pub has_cycle : ExtKind → Bool
 has_cycle In = false
 has_cycle Out = false
 has_cycle _ = true
-
--- each operand has a variable for its choice, but that of a copy d, which has one alternative
-abbrev pub has_choices : ExtKind → Bool
-has_choices (Copy D) = false
-has_choices _ = true
 
 abbrev pub count_if : Bool → ℕ
 count_if true = 1
@@ -145,8 +134,8 @@ blocks_temps n first (block ∷ blocks) = ops_temps n first block.ops ++ blocks_
 
 -- the instructions of a copy: 0 inactive, 1 Mov, 2 Spill, 3 Reload, and for a truth value 4 P2R and 5 R2P
 abbrev pub copy_domain : Bool → Domain
-copy_domain false = Range 0 3
-copy_domain true = Range 0 5
+copy_domain false = Range 0 RELOAD
+copy_domain true = Range 0 TO_PREDICATE
 
 -- the instructions of an operation, which carries a truth value or another
 abbrev pub instr_domain : Bool → ExtKind → Option Domain

@@ -2,30 +2,21 @@
 
 ghost use Rattle.std.specs.Prelude.{◌≡◌, ℕ, ◌+◌, ◌<◌, ◌++◌, ◌||◌, Bool, Option, Some, map, length, IfOk, OnOk, slice_index_or};
 ghost use Rattle.std.specs.Option.{option_to_list};
-ghost use Rattle.un_model.specs.Arcs.{is_mandatory, own_instr, value_read, defines, reads_from, data_gap, memory_gap, larger, largest_gap};
+ghost use Rattle.un_ir.specs.Kinds.{is_mandatory};
+ghost use Rattle.un_model.specs.Arcs.{own_instr, value_read, defines, reads_from, data_gap, memory_gap, larger, largest_gap};
 ghost use Rattle.un_model.specs.Arcs.{arc, arcs_between, arcs_into, block_arcs, blocks_arcs};
 
 use crate::distances::memory_distance;
-use crate::instructions::{instruction, latency};
+use crate::instructions::{gap, instruction};
 use crate::model::{Arc, TempVars};
 use crate::placement::chosen;
 use std::alloc::Global;
 use un_base::ids::OpId;
 use un_base::memory_error::NoMemory;
 use un_base::numbers::advance;
-use un_ir::extended::{Ext, ExtKind, ExtOp, Operand};
+use un_ir::extended::{Ext, ExtOp, Operand};
 use un_isa::table::Table;
 use un_lists::items::Items;
-
-/// Whether every solution issues an operation.
-pub fn is_mandatory(kind: &ExtKind) -> bool
-    ensures { result ≡ is_mandatory kind.now }
-{
-    match kind {
-        ExtKind::In | ExtKind::Out | ExtKind::Body(_) | ExtKind::End(_) => true,
-        ExtKind::Copy(_) | ExtKind::Enter | ExtKind::Leave => false,
-    }
-}
 
 /// The larger of two gaps.
 fn larger(a: Option<u32>, b: Option<u32>) -> Option<u32>
@@ -40,12 +31,12 @@ fn larger(a: Option<u32>, b: Option<u32>) -> Option<u32>
     }
 }
 
-/// How long after `from` an operation issues by data, which reads what that defines or does not.
-fn data_gap(t: &Table, reads: bool, from: &ExtOp) -> Option<u32>
-    ensures { result ≡ data_gap t.now reads from.now }
+/// How long after `from` the operation `to` issues by data, which reads what that defines or does not.
+fn data_gap(t: &Table, reads: bool, from: &ExtOp, to: &ExtOp) -> Option<u32>
+    ensures { result ≡ data_gap t.now reads from.now to.now }
 {
     if reads {
-        Some(latency(t, instruction(&from.kind, 0)))
+        Some(gap(t, instruction(&from.kind, 0), instruction(&to.kind, 0)))
     } else {
         None
     }
@@ -55,11 +46,11 @@ fn data_gap(t: &Table, reads: bool, from: &ExtOp) -> Option<u32>
 fn largest_gap(t: &Table, reads: bool, from: &ExtOp, to: &ExtOp) -> Option<u32>
     ensures { result ≡ largest_gap t.now reads from.now to.now }
 {
-    if !is_mandatory(&from.kind) || !is_mandatory(&to.kind) {
+    if !from.kind.is_mandatory() || !to.kind.is_mandatory() {
         return None;
     }
     let by_memory = memory_distance(instruction(&from.kind, 0), instruction(&to.kind, 0));
-    larger(data_gap(t, reads, from), by_memory)
+    larger(data_gap(t, reads, from, to), by_memory)
 }
 
 /// Marks the operation that defines what an operand reads, where it is one of those from number `first` on.
@@ -150,7 +141,7 @@ fn push_into(
 ) -> Result<(), NoMemory>
     ensures { OnOk result (arcs.new ≡ arcs.old ++ arcs_into t.now temps.now first before.now m to.now) }
 {
-    if !is_mandatory(&to.kind) {
+    if !to.kind.is_mandatory() {
         return Ok(());
     }
     let marks = definers(alloc, temps, first, before.len(), to)?;

@@ -7,7 +7,8 @@ ghost use Rattle.un_isa.specs.Registers.{saved_registers};
 ghost use Rattle.un_model.specs.Homes.{IsScope};
 ghost use Rattle.un_model.specs.Options.{AreOptions};
 ghost use Rattle.un_model.specs.Pairs.{places_from};
-ghost use Rattle.un_model.specs.Variables.{is_optional, has_cycle, has_choices, chosen_operands, register_place, var_at, var_if, op_vars};
+ghost use Rattle.un_ir.specs.Kinds.{is_optional, has_choices};
+ghost use Rattle.un_model.specs.Variables.{has_cycle, chosen_operands, register_place, var_at, var_if, op_vars};
 ghost use Rattle.un_model.specs.Variables.{ops_vars, block_vars, blocks_vars, op_temps, ops_temps, blocks_temps, copy_domain, instr_domain};
 ghost use Rattle.un_model.specs.Variables.{cycle_domain, choice_domain, result_domain, carries_truth, op_domains, ops_domains};
 ghost use Rattle.un_model.specs.Variables.{block_domains, blocks_domains, own_horizon, IsModel, model_of};
@@ -15,14 +16,15 @@ ghost use Rattle.un_model.specs.Variables.{block_domains, blocks_domains, own_ho
 use crate::arcs::arcs;
 use crate::homes::homes;
 use crate::model::{BlockVars, Model, OpVars, Options, TempVars};
-use crate::registers::{Scope, carried, domain, is_truth, saved};
+use crate::registers::{Scope, carried, domain, is_truth};
 use std::alloc::Global;
 use un_base::ids::{OpId, TempId, VarId};
 use un_base::memory_error::NoMemory;
 use un_base::numbers::{advance, number};
 use un_domains::domain::Domain;
-use un_ir::extended::{Ext, ExtBlock, ExtKind, ExtOp, NodeCopy, Operand};
+use un_ir::extended::{Ext, ExtBlock, ExtKind, ExtOp, Operand, RELOAD, TO_PREDICATE};
 use un_isa::reg::SLOTS;
+use un_isa::reg_set::saved_registers;
 use un_lists::items::Items;
 
 /// The instructions of a copy of a truth value, or of another.
@@ -30,9 +32,12 @@ fn copy_instructions(truth: bool) -> Domain
     ensures { result ≡ copy_domain truth }
 {
     if truth {
-        Domain::Range { lo: 0, hi: 5 }
+        Domain::Range {
+            lo: 0,
+            hi: TO_PREDICATE,
+        }
     } else {
-        Domain::Range { lo: 0, hi: 3 }
+        Domain::Range { lo: 0, hi: RELOAD }
     }
 }
 
@@ -69,21 +74,11 @@ fn choices(operand: &Operand) -> Result<Domain, NoMemory>
     Ok(Domain::Range { lo: 0, hi })
 }
 
-/// Whether the operands of an operation have choices.
-fn has_choices(kind: &ExtKind) -> bool
-    ensures { result ≡ has_choices kind.now }
-{
-    match kind {
-        ExtKind::Copy(NodeCopy::D) => false,
-        _ => true,
-    }
-}
-
 /// The operands that have choices.
 fn chosen_operands(op: &ExtOp) -> &[Operand]
     ensures { result.now ≡ chosen_operands op.now }
 {
-    if has_choices(&op.kind) {
+    if op.kind.has_choices() {
         op.operands.as_slice()
     } else {
         &[]
@@ -305,7 +300,7 @@ fn add_blocks(
     ensures temps { OnOk result (temps.new ≡ temps.old ++ blocks_temps 0 (length domains.old) e.now.blocks) }
     ensures vars { IfOk result (λ vars. vars ≡ blocks_vars (length domains.old) e.now.blocks) }
 {
-    let saved = saved(alloc, &e.table)?;
+    let saved = saved_registers(alloc, &e.table)?;
     let mut vars = Items::new(alloc);
     let mut n = 0;
     for k in 0..e.blocks.len() {

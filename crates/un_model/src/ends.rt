@@ -5,7 +5,8 @@ ghost use Rattle.std.specs.Prelude.{length, slice_get};
 ghost use Rattle.std.specs.List.{position_or_len};
 ghost use Rattle.un_base.specs.declared.ids.TempId.{TempId};
 ghost use Rattle.un_ir.specs.declared.function.Term.{Term};
-ghost use Rattle.un_model.specs.Congruences.{term_or, term_of, results_of_start, live_in_temps, place_by, place_over};
+ghost use Rattle.un_ir.specs.Linear.{place_by, place_over};
+ghost use Rattle.un_model.specs.Congruences.{term_or, term_of, results_of_start, live_in_temps};
 
 use un_base::ids::{NameId, TempId};
 use un_ir::extended::{ExtBlock, ExtKind, ExtOp};
@@ -34,23 +35,13 @@ pub fn term(ops: &Items<ExtOp>) -> Term
     Term::Fall
 }
 
-/// Whether an operation is a block's start.
-fn is_start(kind: &ExtKind) -> bool
-    ensures { (results later : List TempId) → (if result then results else later) ≡ results_of_start kind.now results later }
-{
-    match kind {
-        ExtKind::In => true,
-        _ => false,
-    }
-}
-
 /// The live-in temporaries of a block with these operations.
 pub fn live_in_temps(ops: &Items<ExtOp>) -> &[TempId]
     ensures { result.now ≡ live_in_temps ops.now }
 {
     for k in 0..ops.len() {
         let op = ops.get(k);
-        if is_start(&op.kind) {
+        if op.kind.is_in() {
             return op.results.as_slice();
         }
     }

@@ -4,9 +4,9 @@ ghost use Rattle.std.specs.Prelude.{◌≡◌, ◌^◌, ◌<◌};
 ghost use Rattle.un_model.specs.Instructions.{transfer_of, copy_of, frame_instr, instruction_of, latency_by, needs_by, no_needs};
 ghost use Rattle.un_model.specs.Instructions.{is_control, is_transfer, operand_space_in, result_space_in, space_read, space_given};
 ghost use Rattle.un_model.specs.Instructions.{is_predicate_space, gives_truth};
-ghost use Rattle.un_model.specs.Solutions.{share_of};
+ghost use Rattle.un_model.specs.Solutions.{share_of, latency_gap};
 
-use un_ir::extended::ExtKind;
+use un_ir::extended::{ExtKind, FROM_PREDICATE, MOVE, RELOAD, SPILL, TO_PREDICATE};
 use un_ir::function::Term;
 use un_isa::facts::{Class, class_of, operand_space, result_space};
 use un_isa::op::Op;
@@ -32,11 +32,11 @@ fn copy(n: u32) -> Option<Op>
     ensures { result ≡ copy_of n }
 {
     match n {
-        1 => Some(Op::Mov),
-        2 => Some(Op::Spill),
-        3 => Some(Op::Reload),
-        4 => Some(Op::P2R),
-        5 => Some(Op::R2P),
+        MOVE => Some(Op::Mov),
+        SPILL => Some(Op::Spill),
+        RELOAD => Some(Op::Reload),
+        FROM_PREDICATE => Some(Op::P2R),
+        TO_PREDICATE => Some(Op::R2P),
         _ => None,
     }
 }
@@ -70,6 +70,20 @@ pub fn latency(t: &Table, op: Option<Op>) -> u32
     match op {
         None => 1,
         Some(instruction) => table::latency(t, instruction),
+    }
+}
+
+/// How many cycles after its definer a user of what that gives may issue: 1 after what is there at a block's start, and the
+/// definer's latency at a block's end.
+pub fn gap(t: &Table, definer: Option<Op>, user: Option<Op>) -> u32
+    ensures { result ≡ latency_gap t.now definer user }
+{
+    match definer {
+        None => 1,
+        Some(given) => match user {
+            None => table::latency(t, given),
+            Some(reading) => table::gap(t, given, reading),
+        },
     }
 }
 

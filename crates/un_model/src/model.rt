@@ -1,6 +1,10 @@
 //! Models and solutions.
 
-ghost use Rattle.std.specs.Prelude.{◌≡◌, ◌<◌, length, slice_get, Some};
+ghost use Rattle.std.specs.Prelude.{◌≡◌, ◌<◌, ◌↔◌, AllPairs, Contains, length, slice_get, Some};
+ghost use Rattle.un_ir.specs.declared.extended.ExtBlock.{ExtBlock};
+ghost use Rattle.un_model.specs.declared.model.Arc.{Arc};
+ghost use Rattle.un_model.specs.Arcs.{IsArcOf, RisesTo, first_number};
+ghost use Rattle.un_model.specs.Variables.{IsModel};
 
 use un_base::ids::{BlockId, OpId, TempId, VarId};
 use un_domains::domain::Domain;
@@ -67,7 +71,11 @@ impl Model {
     /// The arcs of block `b`: each pair of operations once, with its largest gap, by rising `to` and then rising `from`.
     pub fn arcs(&self, b: BlockId) -> &[Arc]
         requires { b.0 < length self.now.arcs }
-        ensures { slice_get self.now.arcs b.0 ≡ Some result.now }
+        ensures is { slice_get self.now.arcs b.0 ≡ Some result.now }
+        ensures rising { IsModel self.now → AllPairs RisesTo result.now }
+        ensures each { IsModel self.now → (block : ExtBlock) → slice_get self.now.ext.blocks b.0 ≡ Some block
+            → (a : Arc) → Contains result.now a
+            ↔ IsArcOf self.now.ext.table self.now.temps (first_number self.now.ext.blocks b.0) block.ops a }
     {
         self.arcs.get(b.0 as usize).as_slice()
     }

@@ -6,7 +6,8 @@ ghost use Rattle.std.specs.List.{list_all};
 ghost use Rattle.un_model.specs.Cost.{value_of};
 ghost use Rattle.un_model.specs.Schedules.{HasLastReads};
 ghost use Rattle.un_model.specs.Pairs.{places_from, pairs_from, joined, over_blocks};
-ghost use Rattle.un_model.specs.Schedules.{value_by, instr_of, cycle_by, cycle_of, is_delimiter, is_frame_op, is_active, is_zero, issue_of};
+ghost use Rattle.un_ir.specs.Kinds.{is_delimiter, is_frame_op};
+ghost use Rattle.un_model.specs.Schedules.{value_by, instr_of, cycle_by, cycle_of, is_active, is_zero, issue_of};
 ghost use Rattle.un_model.specs.Schedules.{block_issues, issues_of, chosen, choice_of, read_of, op_reads, reads_at, block_reads, reads_of};
 ghost use Rattle.un_model.specs.Schedules.{last_read, cycle_for, range_by, range_of, ranges_of, schedule_of};
 
@@ -40,26 +41,6 @@ fn cycle(values: &[u32], end: u32, kind: &ExtKind, vars: &OpVars) -> u32
         ExtKind::In => 0,
         ExtKind::Out => end,
         _ => optional_value(values, vars.cycle),
-    }
-}
-
-/// Whether an operation is a block's start or its end.
-fn is_delimiter(kind: &ExtKind) -> bool
-    ensures { result ≡ is_delimiter kind.now }
-{
-    match kind {
-        ExtKind::In | ExtKind::Out => true,
-        _ => false,
-    }
-}
-
-/// Whether an operation is Enter or Leave.
-fn is_frame_op(kind: &ExtKind) -> bool
-    ensures { result ≡ is_frame_op kind.now }
-{
-    match kind {
-        ExtKind::Enter | ExtKind::Leave => true,
-        _ => false,
     }
 }
 
@@ -100,8 +81,8 @@ fn issue(values: &[u32], b: u32, end: u32, n: u32, op: &ExtOp, vars: &OpVars) ->
         block: BlockId(b),
         op: OpId(n),
         instr,
-        active: is_delimiter(&op.kind) || instr.is_some(),
-        frame: is_frame_op(&op.kind),
+        active: op.kind.is_delimiter() || instr.is_some(),
+        frame: op.kind.is_frame_op(),
         zero: is_zero(values, vars),
         cycle: cycle(values, end, &op.kind, vars),
         end,
@@ -119,7 +100,7 @@ pub(crate) fn chosen(alts: &Items<TempId>, c: u32) -> TempId
 }
 
 /// The temporary that the operand at place `j` chooses.
-fn choice(values: &[u32], vars: &OpVars, j: usize, operand: &Operand) -> TempId
+pub fn choice(values: &[u32], vars: &OpVars, j: usize, operand: &Operand) -> TempId
     ensures { result ≡ choice_of values.now vars.now j operand.now }
 {
     let var = vars.choices.as_slice().get(j).copied();

@@ -60,15 +60,6 @@ fn reg_at(numbers: &Items<u32>, k: usize) -> Option<Reg>
     }
 }
 
-/// The registers whose values a function hands back: those that it keeps, then the link register.
-pub(crate) fn saved(alloc: Global, t: &Table) -> Result<Items<u32>, NoMemory>
-    ensures { IfOk result (λ registers. registers ≡ saved_registers t.now) }
-{
-    let mut registers = Items::from_vec(callee_saved(alloc, t)?);
-    registers.push(LINK)?;
-    Ok(registers)
-}
-
 /// The name at place `j`, where there is one.
 fn name_at(names: &Items<NameId>, j: usize) -> Option<NameId>
     ensures { result ≡ slice_get names.now j }

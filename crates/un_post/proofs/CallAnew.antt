@@ -24,9 +24,10 @@ use Rattle.un_ir.specs.Linear.{first_of}
 use Rattle.un_model.specs.declared.model.Options.{Options}
 use Rattle.un_model.specs.declared.schedule.Issue.{Issue}
 use Rattle.un_model.specs.declared.schedule.LiveRange.{LiveRange}
-use Rattle.un_model.specs.Arcs.{is_mandatory}
-use Rattle.un_model.specs.Instructions.{instruction_of, latency_by, space_read, is_predicate_space}
-use Rattle.un_model.specs.Schedules.{schedule_of, issues_of, value_by, is_delimiter}
+use Rattle.un_ir.specs.Kinds.{is_mandatory, is_delimiter, is_call_kind}
+use Rattle.un_model.proofs.Gaps.{gap_some}
+use Rattle.un_model.specs.Instructions.{instruction_of, space_read, is_predicate_space}
+use Rattle.un_model.specs.Schedules.{schedule_of, issues_of, value_by}
 use Rattle.un_model.specs.Solutions.{IsSchedule, latency_gap, InDomain, InSpace, HasHome, SparesRange, IsSpared}
 use Rattle.un_model.specs.Variables.{model_of, register_domain, source_domain, carried}
 use Rattle.un_model.proofs.Lists.{Member, each_member}
@@ -36,7 +37,6 @@ use Rattle.un_model.proofs.PlacedSchedules.{all, spots, spot_range, range_at, ra
 use Rattle.un_model.proofs.Readings.{Solved, Reading, reading, fit_kinds, numbered as solved_numbered}
 use Rattle.un_model.proofs.TempKinds.{carried_at, carried_is}
 use Rattle.un_sites.specs.CallBefores.{is_clobbered_home, reads_clobbered, is_home, reads_reply, reads_anew}
-use Rattle.un_sites.specs.Postings.{is_call_kind}
 use Rattle.un_post.proofs.Blocks.{blocks, in_all}
 use Rattle.un_post.proofs.Facts.{Given, falls, in_domains, definer_is, reader_goes, Reading as Asking, reading as asked_of}
 use Rattle.un_post.proofs.Memory.{contains_member}
@@ -113,10 +113,6 @@ module _ (t : Table) (fit : IsFit t) where
           let z = fit.result in
           record { mask = predicates_clobbered reg lo (omega arith); reply = λ same. absurd (omega arith) }
       by false e k = at_home reg operand.home k home
-
-  waits_one : (i : Option Op) → 1 ≤ latency_by t i
-  waits_one None = omega arith
-  waits_one (Some op) = let l = fit.latencies op in l.0
 
 -- ---- mandatory operations
 
@@ -294,9 +290,9 @@ module _ (e : Ext) (o : Options) (x : List ℕ) (given : Given e o x)
 
       early : (issue_at x s.definer).cycle + 1 ≤ (issue_at x q).cycle
       early =
-          let ready : h.from + latency_by e.table h.instr ≤ (issue_at x q).cycle =
-          subst (λ (v : LiveRange). v.from + latency_by e.table v.instr ≤ (issue_at x q).cycle) range rd.ready in
-          let one = waits_one e.table given.fit h.instr in
+          let ready : h.from + latency_gap e.table h.instr (issue_at x q).instr ≤ (issue_at x q).cycle =
+          subst (λ (v : LiveRange). v.from + latency_gap e.table v.instr (issue_at x q).instr ≤ (issue_at x q).cycle) range rd.ready in
+          let one = gap_some e.table given.fit h.instr (issue_at x q).instr in
           omega (arith, ready, one)
 
       found : Rewritten c q operand

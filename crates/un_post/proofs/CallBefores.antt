@@ -11,7 +11,7 @@ use Rattle.un_model.specs.declared.model.Arc.{Arc}
 use Rattle.un_model.specs.declared.model.Model.{Model}
 use Rattle.un_model.specs.declared.model.Options.{Options}
 use Rattle.un_model.specs.declared.model.Solution.{Solution}
-use Rattle.un_model.specs.Arcs.{is_mandatory}
+use Rattle.un_ir.specs.Kinds.{is_mandatory, is_call_kind}
 use Rattle.un_model.specs.Options.{AreOptions}
 use Rattle.un_model.specs.Pairs.{any_from, places_from, joined}
 use Rattle.un_model.specs.Schedules.{schedule_of}
@@ -26,7 +26,7 @@ use Rattle.un_sites.specs.CallBefores.{anew_after}
 use Rattle.un_sites.specs.CallBefores.{is_between, of_call, of_call_at, call_befores_by, call_befores_in, call_befores_of}
 use Rattle.un_kinds.specs.Constraints.{AllMet, Before}
 use Rattle.un_sites.specs.Places.{Place, time_of}
-use Rattle.un_sites.specs.Postings.{is_call_kind, with_kind}
+use Rattle.un_sites.specs.Postings.{with_kind}
 use Rattle.un_sites.specs.Rooms.{arcs_or, is_behind}
 use Rattle.un_post.proofs.Blocks.{blocks, region_places, region_vars, places_in, regions_met}
 use Rattle.un_post.proofs.CallAnew.{rewritten}

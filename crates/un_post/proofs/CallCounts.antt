@@ -18,17 +18,16 @@ use Rattle.un_ir.specs.declared.extended.Ext.{Ext}
 use Rattle.un_ir.specs.declared.extended.ExtBlock.{ExtBlock}
 use Rattle.un_ir.specs.Extended.{Want, word_in, at_register, wants_of, wants_of_op, result_count}
 use Rattle.un_model.specs.declared.model.Options.{Options}
-use Rattle.un_model.specs.Arcs.{is_mandatory}
+use Rattle.un_ir.specs.Kinds.{is_mandatory, is_delimiter, is_call_kind}
 use Rattle.un_model.specs.Instructions.{instruction_of}
 use Rattle.un_model.specs.Registers.{reg_at}
-use Rattle.un_model.specs.Schedules.{schedule_of, issues_of, value_by, cycle_by, is_delimiter}
+use Rattle.un_model.specs.Schedules.{schedule_of, issues_of, value_by, cycle_by}
 use Rattle.un_model.specs.Solutions.{IsSchedule, latency_gap, share_of}
 use Rattle.un_model.specs.Variables.{model_of, count_if}
 use Rattle.un_model.proofs.Lists.{Each, Pairwise, Member, each_of, each_more, each_member, length_get}
 use Rattle.un_model.proofs.Placed.{Placed, Region, region_placed, vars_of, issue_at, Spot, all_count, at_number}
 use Rattle.un_model.proofs.PlacedSchedules.{all, spots, spot_range, one_spot}
 use Rattle.un_sites.specs.CallBefores.{reads_anew, count_from}
-use Rattle.un_sites.specs.Postings.{is_call_kind}
 use Rattle.un_post.proofs.Blocks.{blocks, in_all, stands_in}
 use Rattle.un_post.proofs.CallAnew.{Rewritten, rewritten}
 use Rattle.un_post.proofs.Facts.{Given, numbered, good_op, definer_is, Reading as Asking, reading as asked_of}

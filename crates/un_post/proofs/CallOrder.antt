@@ -35,7 +35,8 @@ use Rattle.un_isa.specs.declared.packet_counts.Resource.TheVariants.{Control}
 use Rattle.un_model.specs.ArcLaws.{arc_told}
 use Rattle.un_model.specs.Arcs.{reads_from, own_instr, NeedsGap, block_arcs, blocks_arcs}
 use Rattle.un_model.specs.Arcs.NeedsGap.{ByData, ByMemory}
-use Rattle.un_model.specs.Instructions.{instruction_of, latency_by, needs_by, no_needs, is_control, is_transfer, transfer_of}
+use Rattle.un_model.proofs.Gaps.{gap_some}
+use Rattle.un_model.specs.Instructions.{instruction_of, needs_by, no_needs, is_control, is_transfer, transfer_of}
 use Rattle.un_model.specs.Schedules.{schedule_of, issues_of, value_by, cycle_by}
 use Rattle.un_model.specs.Solutions.{share_of, IsSchedule, IsPlaced, IsPlacedAs, IsLast, latency_gap, after_write, memory_distance}
 use Rattle.un_model.specs.Variables.{model_of, arcs_of, blocks_temps, block_count, ops_count, var_at}
@@ -45,8 +46,8 @@ use Rattle.un_model.proofs.Operations.{placed_is}
 use Rattle.un_model.proofs.Placed.{Placed, Region, region_placed, vars_of, issue_at}
 use Rattle.un_model.proofs.PlacedSchedules.{all, issue_here, each_issue}
 use Rattle.un_kinds.specs.Constraints.{AllMet}
-use Rattle.un_sites.specs.Postings.{is_call_kind}
-use Rattle.un_sites.specs.Rooms.{led_by, reached, ends_block, arcs_or, clobbers_of}
+use Rattle.un_ir.specs.Kinds.{is_call_kind, ends_block}
+use Rattle.un_sites.specs.Rooms.{led_by, reached, arcs_or, clobbers_of}
 use Rattle.un_post.proofs.Blocks.{blocks, in_all, past, region_close}
 use Rattle.un_post.proofs.Facts.{Given}
 use Rattle.un_post.proofs.Packets.{no_room, share, sum_part, whole_taken}
@@ -103,10 +104,8 @@ some_gap a b h = cc h
 call_gap : (t : Table) → IsFit t → (reads : Bool) (from to : ExtOp) (gap : ℕ) → own_instr from ≡ Some Call → NeedsGap t reads from to gap
     → 1 ≤ gap
 call_gap t fit true from to gap call (ByData h) =
-    let l = fit.latencies Call in
-    let lo = l.0 in
-    let e = some_gap (latency_by t (own_instr from)) gap h in
-    let f : latency_by t (own_instr from) ≡ latency_by t (Some Call) = ap (latency_by t) call in
+    let lo = gap_some t fit (own_instr from) (own_instr to) in
+    let e = some_gap (latency_gap t (own_instr from) (own_instr to)) gap h in
     omega arith
 call_gap t fit false from to gap call (ByData h) = absurd (cc h)
 call_gap t fit reads from to gap call (ByMemory h) =

@@ -15,7 +15,8 @@ use Rattle.un_prop.specs.declared.act.Act.TheVariants.{Always}
 use Rattle.un_sites.specs.CallBefores.{waits_anew, anew_gap, anew_after, is_between, of_call, of_call_at, call_befores_by}
 use Rattle.un_kinds.specs.Constraints.{Before}
 use Rattle.un_sites.specs.Places.{Place, time_by, time_of}
-use Rattle.un_sites.specs.Postings.{is_call_kind, with_kind}
+use Rattle.un_ir.specs.Kinds.{is_call_kind}
+use Rattle.un_sites.specs.Postings.{with_kind}
 use Rattle.un_post.proofs.CallBefores.{each_lists}
 use Rattle.un_post.proofs.Meeting.{each_places, joined_each}
 use Rattle.un_post.proofs.Placing.{place_of}

@@ -16,7 +16,8 @@ use Rattle.un_model.specs.declared.model.Options.{Options}
 use Rattle.un_model.specs.declared.schedule.Read.{Read}
 use Rattle.un_model.specs.Schedules.{schedule_of, read_of, value_by}
 use Rattle.un_model.specs.Solutions.{KeepsChoices, IsLive}
-use Rattle.un_model.specs.Variables.{model_of, is_optional, has_choices, var_at, var_if, choice_place}
+use Rattle.un_ir.specs.Kinds.{is_optional, has_choices}
+use Rattle.un_model.specs.Variables.{model_of, var_at, var_if, choice_place}
 use Rattle.un_model.proofs.Lists.{Member, member_at, slice_get-map}
 use Rattle.un_model.proofs.Placed.{Placed, vars_of, issue_at, Spot}
 use Rattle.un_model.proofs.PlacedSchedules.{spots, spot_range, the_ranges, spot_here, one_spot}

@@ -23,11 +23,13 @@ use Rattle.un_ir.specs.Linear.{ending_of, ending_or, is_in}
 use Rattle.un_ir.specs.Extended.{wants_of, wants_of_out, result_count, IsGoodOperand}
 use Rattle.un_model.specs.declared.model.Options.{Options}
 use Rattle.un_model.specs.declared.schedule.LiveRange.{LiveRange}
-use Rattle.un_model.specs.Congruences.{term_of, term_or, live_in_temps, results_of_start, live_out_reads, place_over, place_by, register_of}
+use Rattle.un_ir.specs.Linear.{place_over, place_by}
+use Rattle.un_model.specs.Congruences.{term_of, term_or, live_in_temps, results_of_start, live_out_reads, register_of}
 use Rattle.un_model.specs.Congruences.{register_read, IsCongruent, HandsOver, HandsOn, KeepsCongruences}
 use Rattle.un_model.specs.Pairs.{places_from, joined, over_blocks}
 use Rattle.un_model.specs.Schedules.{reads_of, schedule_of}
-use Rattle.un_model.specs.Variables.{model_of, has_choices, var_at, choice_place, block_vars, blocks_vars, ops_count}
+use Rattle.un_ir.specs.Kinds.{has_choices}
+use Rattle.un_model.specs.Variables.{model_of, var_at, choice_place, block_vars, blocks_vars, ops_count}
 use Rattle.un_model.proofs.Lists.{Each, Member, each_append, each_join, each_of, each_member, member_at, place_of as position_of, get_below}
 use Rattle.un_model.proofs.Lists.{length_get, map-append}
 use Rattle.un_model.proofs.Operations.{contains_member, placed_get}

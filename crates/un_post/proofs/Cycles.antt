@@ -9,7 +9,8 @@ use Rattle.un_domains.specs.declared.domain.Domain.{Domain}
 use Rattle.un_model.specs.declared.model.Options.{Options}
 use Rattle.un_model.specs.Pairs.{places_from}
 use Rattle.un_model.specs.Solutions.{InDomain}
-use Rattle.un_model.specs.Variables.{count_if, is_optional, cycle_place, chosen_operands, choice_domain, carries_truth, instr_domain}
+use Rattle.un_ir.specs.Kinds.{is_optional}
+use Rattle.un_model.specs.Variables.{count_if, cycle_place, chosen_operands, choice_domain, carries_truth, instr_domain}
 use Rattle.un_model.specs.Variables.{cycle_domain, result_domain, own_horizon}
 use Rattle.un_model.proofs.Placed.{Placed}
 use Rattle.un_model.proofs.OpDomains.{InDomains, sits_left, sits_right}

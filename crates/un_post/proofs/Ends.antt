@@ -18,7 +18,8 @@ use Rattle.un_model.specs.declared.schedule.Read.{Read}
 use Rattle.un_model.specs.Congruences.{is_live_out, live_out_reads}
 use Rattle.un_model.specs.Instructions.{instruction_of}
 use Rattle.un_model.specs.Pairs.{places_from, joined}
-use Rattle.un_model.specs.Schedules.{reads_of, read_of, value_by, is_delimiter}
+use Rattle.un_ir.specs.Kinds.{is_delimiter}
+use Rattle.un_model.specs.Schedules.{reads_of, read_of, value_by}
 use Rattle.un_model.specs.Variables.{model_of}
 use Rattle.un_model.proofs.Lists.{Each, Member, each_of, each_member, map-append, member_append_left, member_append_right, member_at}
 use Rattle.un_model.proofs.OpDomains.{get_places}

@@ -18,9 +18,10 @@ use Rattle.un_ir.specs.Extended.{IsExtended, AreGoodBlocks, all_results, temp, I
 use Rattle.un_model.specs.declared.model.Options.{Options}
 use Rattle.un_model.specs.Instructions.{instruction_of, copy_of}
 use Rattle.un_model.specs.Options.{AreOptions}
-use Rattle.un_model.specs.Schedules.{choice_of, value_by, cycle_by, is_delimiter}
+use Rattle.un_ir.specs.Kinds.{is_delimiter, is_optional, has_choices}
+use Rattle.un_model.specs.Schedules.{choice_of, value_by, cycle_by}
 use Rattle.un_model.specs.Solutions.{InDomain, KeepsDomains}
-use Rattle.un_model.specs.Variables.{model_of, var_at, var_if, is_optional, has_cycle, has_choices, choice_place, chosen_operands}
+use Rattle.un_model.specs.Variables.{model_of, var_at, var_if, has_cycle, choice_place, chosen_operands}
 use Rattle.un_model.specs.Variables.{domains_of, own_horizon, instr_domain, copy_domain, carries_truth}
 use Rattle.un_model.proofs.Lists.{Member, each_member, each_all, member_at, get_below, slice_get-map, length_get}
 use Rattle.un_model.proofs.Placed.{Placed, vars_of, issue_at, Spot, spot, spots_of}

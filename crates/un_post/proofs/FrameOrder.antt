@@ -11,8 +11,9 @@ use Rattle.un_ir.specs.Extended.{is_copy, is_enter, is_leave, IsGoodKind, IsSour
 use Rattle.un_domains.specs.declared.domain.Domain.TheVariants.{Range}
 use Rattle.un_model.specs.declared.model.Options.{Options}
 use Rattle.un_model.specs.Instructions.{instruction_of, copy_of}
-use Rattle.un_model.specs.Schedules.{value_by, is_delimiter}
-use Rattle.un_model.specs.Variables.{is_optional, has_cycle, var_if, cycle_place, carries_truth, instr_domain}
+use Rattle.un_ir.specs.Kinds.{is_delimiter, is_optional, is_call_op, is_call_kind}
+use Rattle.un_model.specs.Schedules.{value_by}
+use Rattle.un_model.specs.Variables.{has_cycle, var_if, cycle_place, carries_truth, instr_domain}
 use Rattle.un_model.proofs.Lists.{Each, Member}
 use Rattle.un_model.proofs.OpDomains.{in_entry, instr_sits}
 use Rattle.un_model.proofs.Placed.{Placed, vars_of, issue_at}
@@ -20,7 +21,7 @@ use Rattle.un_model.proofs.PlacedSchedules.{all}
 use Rattle.un_prop.specs.Acts.{act_number, is_active, at_value}
 use Rattle.un_alt.specs.Frame.{counts}
 use Rattle.un_sites.specs.Places.{act_by, time_by}
-use Rattle.un_sites.specs.Postings.{is_call_op, is_call_kind, var_or, cycle_var, copy_use, single_use}
+use Rattle.un_sites.specs.Postings.{var_or, cycle_var, copy_use, single_use}
 use Rattle.un_post.proofs.Facts.{Given, falls, good_op, in_domains, instr_bound, acts, times}
 use Rattle.un_post.proofs.FrameTags.{Tag, Enters, Calls, Leaves, tag, Fits, Sound, fits, is_touch, counted}
 use Rattle.un_post.proofs.Placing.{place_of}

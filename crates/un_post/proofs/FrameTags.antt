@@ -11,7 +11,7 @@ use Rattle.un_ir.specs.declared.extended.ExtKind.TheVariants.{In, Out, Body, End
 use Rattle.un_ir.specs.Extended.{is_copy, is_enter, is_leave}
 use Rattle.un_model.specs.Instructions.{instruction_of, copy_of}
 use Rattle.un_model.specs.Solutions.{is_frame_access, after_enter, before_leave, frame_distance}
-use Rattle.un_sites.specs.Postings.{is_call_op, is_call_kind}
+use Rattle.un_ir.specs.Kinds.{is_call_op, is_call_kind}
 
 pub data Tag : Type 0 where
   Enters : Tag

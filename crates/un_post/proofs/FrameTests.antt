@@ -11,7 +11,7 @@ use Rattle.un_ir.specs.declared.extended.Ext.{Ext}
 use Rattle.un_ir.specs.Extended.{is_copy, is_enter, is_leave}
 use Rattle.un_model.specs.declared.model.Options.{Options}
 use Rattle.un_model.specs.Pairs.{over_blocks}
-use Rattle.un_model.specs.Schedules.{is_delimiter}
+use Rattle.un_ir.specs.Kinds.{is_delimiter, is_call_kind}
 use Rattle.un_model.specs.Solutions.{Precedes, frame_distance}
 use Rattle.un_model.specs.Variables.{model_of, var_at, ops_count, block_vars, blocks_vars}
 use Rattle.un_model.proofs.Lists.{Each, Member, each_of, each_member, each_append, each_join, each_map, each_of_map, member_filter}
@@ -22,7 +22,7 @@ use Rattle.un_alt.specs.declared.frame.FrameUse.{FrameUse}
 use Rattle.un_alt.specs.declared.frame.FrameLeave.{FrameLeave}
 use Rattle.un_alt.specs.Frame.{counts, is_after, is_until, is_left, in_order}
 use Rattle.un_sites.specs.Places.{Place, places_of, block_places}
-use Rattle.un_sites.specs.Postings.{is_call_kind, with_kind, in_entry, cycle_var, frame_op, copy_use, single_use, uses_of, leave_of}
+use Rattle.un_sites.specs.Postings.{with_kind, in_entry, cycle_var, frame_op, copy_use, single_use, uses_of, leave_of}
 use Rattle.un_sites.specs.Postings.{leaves_in}
 use Rattle.un_post.proofs.Ends.{all_regions, region_member}
 use Rattle.un_post.proofs.Facts.{Given}

@@ -16,10 +16,11 @@ use Rattle.un_model.specs.declared.schedule.Issue.{Issue}
 use Rattle.un_model.specs.Cost.{value_of}
 use Rattle.un_model.specs.Instructions.{instruction_of}
 use Rattle.un_model.specs.Pairs.{joined}
-use Rattle.un_model.specs.Schedules.{issues_of, schedule_of, value_by, is_delimiter, is_frame_op}
+use Rattle.un_ir.specs.Kinds.{is_delimiter, is_frame_op, is_optional}
+use Rattle.un_model.specs.Schedules.{issues_of, schedule_of, value_by}
 use Rattle.un_model.specs.Solutions.{KeepsFrame, KeepsFrameOrder, HasFrame, Precedes, frame_distance, uses_frame, is_frame_access}
 use Rattle.un_model.specs.Solutions.{starts_in_slot}
-use Rattle.un_model.specs.Variables.{model_of, is_optional, var_if}
+use Rattle.un_model.specs.Variables.{model_of, var_if}
 use Rattle.un_model.proofs.Lists.{Each, Member, each_of, each_member, any_of, member_filter, member_of_filter, member_map, member_map_of}
 use Rattle.un_model.proofs.Lists.{member_at}
 use Rattle.un_model.proofs.OpDomains.{flag_sits}
@@ -332,14 +333,15 @@ module _ (e : Ext) (o : Options) (x : List ℕ) (given : Given e o x) where
       λ k.
           let u = k.used in
           let off : uses_frame (schedule_of (model_of e o) x) ≡ false =
-          not_used (uses_frame (schedule_of (model_of e o) x)) (λ h. let z = u.1 h in absurd (omega arith)) in
+          not_used (uses_frame (schedule_of (model_of e o) x)) (λ h. let z = u h in absurd (omega arith)) in
           (and_iff (not (uses_frame (schedule_of (model_of e o) x))) off_test).0
           ((not_iff (uses_frame (schedule_of (model_of e o) x))).0 off, none_on_iff.0 ((frames_are false).0 (k.without refl))),
       λ t.
           let a = (and_iff (not (uses_frame (schedule_of (model_of e o) x))) off_test).1 t in
           let off = (not_iff (uses_frame (schedule_of (model_of e o) x))).1 a.0 in
           record {
-            used = (λ z. absurd (omega arith), λ h. let z : true ≡ false = sym h ∙ off in absurd (cc z));
+            used = λ h. let z : true ≡ false = sym h ∙ off in absurd (cc z);
+            needed = λ z. absurd (omega arith);
             without = λ z. (frames_are false).1 (none_on_iff.1 a.1);
             with_frame = λ z. absurd (omega arith);
             ordered = λ z. absurd (omega arith);
@@ -351,10 +353,10 @@ module _ (e : Ext) (o : Options) (x : List ℕ) (given : Given e o x) where
         not_used false f = refl
     by_flag (suc zero) le = (
       λ k.
-          let u = k.used in
+          let u = k.needed in
           let on = (frames_are true).0 (k.with_frame refl) in
           (and_iff (uses_frame (schedule_of (model_of e o) x)) on_test).0 (
-            u.0 refl,
+            u refl,
             (and_iff (all_on (frame_op (place_of one.enter)) leaves x) _).0
                 (all_on_iff.0 on, (order_iff on).0 (k.ordered refl)),
           ),
@@ -363,7 +365,8 @@ module _ (e : Ext) (o : Options) (x : List ℕ) (given : Given e o x) where
           let b = (and_iff (all_on (frame_op (place_of one.enter)) leaves x) _).1 a.1 in
           let on = all_on_iff.1 b.0 in
           record {
-            used = (λ z. a.0, λ h. refl);
+            used = λ h. refl;
+            needed = λ z. a.0;
             without = λ z. absurd (omega arith);
             with_frame = λ z. (frames_are true).1 on;
             ordered = λ z. (order_iff on).1 b.1;

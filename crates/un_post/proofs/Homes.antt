@@ -13,7 +13,8 @@ use Rattle.un_ir.specs.Extended.{Want, anywhere, wants_of, wants_of_end}
 use Rattle.un_model.specs.declared.model.Options.{Options}
 use Rattle.un_model.specs.declared.schedule.Read.{Read}
 use Rattle.un_model.specs.Instructions.{instruction_of}
-use Rattle.un_model.specs.Schedules.{schedule_of, read_of, value_by, is_delimiter}
+use Rattle.un_ir.specs.Kinds.{is_delimiter}
+use Rattle.un_model.specs.Schedules.{schedule_of, read_of, value_by}
 use Rattle.un_model.specs.Solutions.{KeepsHomes, ReadsHome, HasHome}
 use Rattle.un_model.specs.Variables.{model_of}
 use Rattle.un_model.proofs.Placed.{Placed, vars_of, issue_at}

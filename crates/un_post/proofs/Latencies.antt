@@ -21,13 +21,16 @@ use Rattle.un_ir.specs.Extended.{IsGoodKind, IsSourceOp}
 use Rattle.un_domains.specs.declared.domain.Domain.TheVariants.{Range}
 use Rattle.un_model.specs.declared.model.Options.{Options}
 use Rattle.un_model.specs.declared.schedule.Read.{Read}
-use Rattle.un_model.specs.Instructions.{instruction_of, copy_of, is_transfer, latency_by}
-use Rattle.un_model.specs.Schedules.{schedule_of, read_of, value_by, cycle_by, is_delimiter}
+use Rattle.un_model.specs.Arcs.{own_instr}
+use Rattle.un_model.proofs.Gaps.{gap_own}
+use Rattle.un_model.specs.Instructions.{instruction_of, copy_of, is_transfer}
+use Rattle.un_ir.specs.Kinds.{is_delimiter, is_optional, has_choices}
+use Rattle.un_model.specs.Schedules.{schedule_of, read_of, value_by, cycle_by}
 use Rattle.un_model.specs.Solutions.{KeepsChoices, KeepsLatencies, IsLive, IsPlaced, IsPlacedAs, IsLast, LeavesGap, latency_gap}
-use Rattle.un_model.specs.Variables.{model_of, is_optional, has_cycle, has_choices, var_at, var_if, cycle_place, choice_place, own_horizon}
+use Rattle.un_model.specs.Variables.{model_of, has_cycle, var_at, var_if, cycle_place, choice_place, own_horizon}
 use Rattle.un_model.specs.Variables.{cycle_domain}
 use Rattle.un_model.proofs.Lists.{Member, each_member, each_of, member_at, slice_get-map}
-use Rattle.un_model.proofs.Placed.{Placed, vars_of, end_of, issue_at}
+use Rattle.un_model.proofs.Placed.{Placed, Spot, vars_of, end_of, issue_at}
 use Rattle.un_model.proofs.OpDomains.{in_entry}
 use Rattle.un_model.proofs.PlacedSchedules.{all, spot_range, the_ranges}
 use Rattle.un_prop.specs.Acts.{act_number, is_active, at_value}
@@ -224,25 +227,35 @@ module _ (e : Ext) (o : Options) (x : List ℕ) (given : Given e o x) where
   module _ (live : (q : Placed) (j : ℕ) (operand : Operand) → Member q (all e o x) → slice_get q.op.operands j ≡ Some operand
       → (issue_at x q).active ≡ true
       → IsLive (slice_get (the_ranges e o x) (read_of x (issue_at x q) (vars_of q) j operand).temp.0)) where
+    -- how long an operation waits for a result
+    abbrev waited : Placed → Spot → ℕ
+    waited q s = latency_gap e.table (spot_range e o x s).instr (own_instr q.op)
+
     agree : Agrees e o x given (λ (r : Read). LeavesGap (latency_gap e.table) r (slice_get (the_ranges e o x) r.temp.0)) (waits_of e.table)
     agree q j operand m at = let r = reading e o x given q j operand m at in by r (has_choices q.op.kind) refl
       where
+        -- whichever instruction it is
+        any : (i : Option Op) → latency_gap e.table i (issue_at x q).instr ≡ latency_gap e.table i (own_instr q.op)
+        any i = gap_own e.table i q.op.kind (value_by x (vars_of q).instr) 0
+
         -- late enough, where the operation is active
         late : (r : Reading e o x given q j operand)
             → ((issue_at x q).active ≡ true → LeavesGap (latency_gap e.table) (read_of x (issue_at x q) (vars_of q) j operand)
             (slice_get (the_ranges e o x) (read_of x (issue_at x q) (vars_of q) j operand).temp.0))
-            ↔ ((not (issue_at x q).active || nat_le ((spot_range e o x r.spot).from + latency_by e.table (spot_range e o x r.spot).instr)
+            ↔ ((not (issue_at x q).active || nat_le ((spot_range e o x r.spot).from + waited q r.spot)
             (issue_at x q).cycle) ≡ true)
         late r =
             let h = spot_range e o x r.spot in
             let read = read_of x (issue_at x q) (vars_of q) j operand in
             let found = read_range e o x given q j operand r in
             iff_then (
-              λ f act. subst (LeavesGap (latency_gap e.table) read) found (f act) (subst IsLive found (live q j operand m at act)),
-              λ f act. subst (LeavesGap (latency_gap e.table) read) (sym found) (λ on. f act),
-            ) (where_on (issue_at x q).active (nat_le (h.from + latency_by e.table h.instr) (issue_at x q).cycle)
-            (h.from + latency_by e.table h.instr ≤ (issue_at x q).cycle)
-            (le_iff (h.from + latency_by e.table h.instr) (issue_at x q).cycle))
+              λ f act. subst (λ (n : ℕ). h.from + n ≤ (issue_at x q).cycle) (any h.instr)
+                  (subst (LeavesGap (latency_gap e.table) read) found (f act) (subst IsLive found (live q j operand m at act))),
+              λ f act. subst (LeavesGap (latency_gap e.table) read) (sym found)
+                  (λ on. subst (λ (n : ℕ). h.from + n ≤ (issue_at x q).cycle) (sym (any h.instr)) (f act)),
+            ) (where_on (issue_at x q).active (nat_le (h.from + waited q r.spot) (issue_at x q).cycle)
+            (h.from + waited q r.spot ≤ (issue_at x q).cycle)
+            (le_iff (h.from + waited q r.spot) (issue_at x q).cycle))
 
         by : (r : Reading e o x given q j operand) (b : Bool) → has_choices q.op.kind ≡ b
             → ((issue_at x q).active ≡ true → LeavesGap (latency_gap e.table) (read_of x (issue_at x q) (vars_of q) j operand)
@@ -255,23 +268,24 @@ module _ (e : Ext) (o : Options) (x : List ℕ) (given : Given e o x) where
             let d = definer_at r.spot in
             let h = spot_range e o x r.spot in
             let user = time_of (place_of q) in
-            let reads = map (read_alt e.table) ds in
+            let reads = map (read_alt e.table (place_of q)) ds in
             let here : slice_get ds (slice_index x v.0) ≡ Some d =
             ap (λ (w : Option VarId). slice_get ds (chosen_place w x)) (sym (choice_var e o x given q j operand at c))
             ∙ read_definer e o x given q j operand r in
-            let gap : is_late (at_value user x) x (read_alt e.table d) ≡ nat_le (at_value (time_of d.place) x + latency_by e.table h.instr)
-            (at_value user x) =
-            passes_get (λ (g : ℕ). nat_le (at_value (time_of d.place) x + g) (at_value user x)) (gaps_of e.table d)
-            (act_number (act_of d.place) x) (latency_by e.table h.instr)
-            (numbers e o x given (latency_by e.table) r.spot.definer (definer_is e o x given r.spot r.member).0) in
-            let passes : passes_at (is_late (at_value user x) x) reads (slice_index x v.0) ≡ nat_le (h.from + latency_by e.table h.instr)
+            let gap : is_late (at_value user x) x (read_alt e.table (place_of q) d) ≡ nat_le
+            (at_value (time_of d.place) x + waited q r.spot) (at_value user x) =
+            passes_get (λ (g : ℕ). nat_le (at_value (time_of d.place) x + g) (at_value user x)) (gaps_of e.table (place_of q) d)
+            (act_number (act_of d.place) x) (waited q r.spot)
+            (numbers e o x given (λ (i : Option Op). latency_gap e.table i (own_instr q.op)) r.spot.definer
+            (definer_is e o x given r.spot r.member).0) in
+            let passes : passes_at (is_late (at_value user x) x) reads (slice_index x v.0) ≡ nat_le (h.from + waited q r.spot)
             (issue_at x q).cycle =
-            passes_get (is_late (at_value user x) x) reads (slice_index x v.0) (read_alt e.table d)
-            (slice_get-map (read_alt e.table) ds (slice_index x v.0) ∙ ap (option_map (read_alt e.table)) here)
-            ∙ gap ∙ ap (λ (t : ℕ). nat_le (t + latency_by e.table h.instr) (at_value user x)) (definer_times e o x given r.spot)
-            ∙ ap (nat_le (h.from + latency_by e.table h.instr)) (times e o x given q) in
+            passes_get (is_late (at_value user x) x) reads (slice_index x v.0) (read_alt e.table (place_of q) d)
+            (slice_get-map (read_alt e.table (place_of q)) ds (slice_index x v.0) ∙ ap (option_map (read_alt e.table (place_of q))) here)
+            ∙ gap ∙ ap (λ (t : ℕ). nat_le (t + waited q r.spot) (at_value user x)) (definer_times e o x given r.spot)
+            ∙ ap (nat_le (h.from + waited q r.spot)) (times e o x given q) in
             let one = met_one x (Reads user (act_of (place_of q)) v reads)
-            (not (issue_at x q).active || nat_le (h.from + latency_by e.table h.instr) (issue_at x q).cycle)
+            (not (issue_at x q).active || nat_le (h.from + waited q r.spot) (issue_at x q).cycle)
             (ap (λ (b : Bool). not b || passes_at (is_late (at_value user x) x) reads (slice_index x v.0))
             (acts e o x given q m (reader_goes e o x given q j operand r)) ∙ ap (λ (b : Bool). not (issue_at x q).active || b) passes)
             in
@@ -295,25 +309,27 @@ module _ (e : Ext) (o : Options) (x : List ℕ) (given : Given e o x) where
             (λ (y : TempId). definer_or (slice_get (definers_of (model_of e o)) y.0)) ∙ one_alt) here in
             let own = lone_value e o x given q j operand r c in
             let fixed = value_kind e o x given r.spot r.member own in
-            let first : slice_get (gaps_of e.table d) 1 ≡ Some (latency_by e.table h.instr) =
-            ap (λ (b : Bool). slice_get (gaps_of e.table d) (act_number (act_by (var_if b r.spot.definer.first)) x)) (sym fixed)
-            ∙ numbers e o x given (latency_by e.table) r.spot.definer (definer_is e o x given r.spot r.member).0 in
-            let gap : slice_index (gaps_of e.table d) 1 ≡ latency_by e.table h.instr =
-            index_get (gaps_of e.table d) 1 (latency_by e.table h.instr) first in
+            let first : slice_get (gaps_of e.table (place_of q) d) 1 ≡ Some (waited q r.spot) =
+            ap (λ (b : Bool). slice_get (gaps_of e.table (place_of q) d) (act_number (act_by (var_if b r.spot.definer.first)) x))
+            (sym fixed)
+            ∙ numbers e o x given (λ (i : Option Op). latency_gap e.table i (own_instr q.op)) r.spot.definer
+            (definer_is e o x given r.spot r.member).0 in
+            let gap : slice_index (gaps_of e.table (place_of q) d) 1 ≡ waited q r.spot =
+            index_get (gaps_of e.table (place_of q) d) 1 (waited q r.spot) first in
             let on : is_active (act_of d.place) x ≡ true = definer_acts e o x given r.spot r.member
             ∙ value_active e o x given r.spot r.member own in
             let user : is_active (act_of (place_of q)) x ≡ (issue_at x q).active =
             acts e o x given q m (reader_goes e o x given q j operand r) in
             let one = met_one x (lone_read e.table (place_of q) d)
-            (not (issue_at x q).active || nat_le (h.from + latency_by e.table h.instr) (issue_at x q).cycle)
+            (not (issue_at x q).active || nat_le (h.from + waited q r.spot) (issue_at x q).cycle)
             (ap (λ (b : Bool). not (b && is_active (act_of (place_of q)) x) ||
-            nat_le (at_value (time_of d.place) x + slice_index (gaps_of e.table d) 1) (at_value (time_of (place_of q)) x)) on
-            ∙ ap (λ (b : Bool). not b || nat_le (at_value (time_of d.place) x + slice_index (gaps_of e.table d) 1)
+            nat_le (at_value (time_of d.place) x + slice_index (gaps_of e.table (place_of q) d) 1) (at_value (time_of (place_of q)) x)) on
+            ∙ ap (λ (b : Bool). not b || nat_le (at_value (time_of d.place) x + slice_index (gaps_of e.table (place_of q) d) 1)
             (at_value (time_of (place_of q)) x)) user
             ∙ ap (λ (n : ℕ). not (issue_at x q).active || nat_le (at_value (time_of d.place) x + n) (at_value (time_of (place_of q)) x)) gap
-            ∙ ap (λ (n : ℕ). not (issue_at x q).active || nat_le (n + latency_by e.table h.instr) (at_value (time_of (place_of q)) x))
+            ∙ ap (λ (n : ℕ). not (issue_at x q).active || nat_le (n + waited q r.spot) (at_value (time_of (place_of q)) x))
             (definer_times e o x given r.spot)
-            ∙ ap (λ (n : ℕ). not (issue_at x q).active || nat_le (h.from + latency_by e.table h.instr) n) (times e o x given q)) in
+            ∙ ap (λ (n : ℕ). not (issue_at x q).active || nat_le (h.from + waited q r.spot) n) (times e o x given q)) in
             let whole = iff_then (late r) one in
             let posted : waits_by e.table (place_of q) (slice_get (vars_of q).choices j) ds ≡ lone_read e.table (place_of q) d ∷ [] =
             ap (λ (w : Option VarId). waits_by e.table (place_of q) w ds) (no_choice e o x given q j c)

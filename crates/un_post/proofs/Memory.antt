@@ -16,7 +16,8 @@ use Rattle.un_model.specs.declared.model.Options.{Options}
 use Rattle.un_model.specs.declared.model.TempVars.{TempVars}
 use Rattle.un_model.specs.declared.schedule.Issue.{Issue}
 use Rattle.un_model.specs.ArcLaws.{gap_told, arc_known}
-use Rattle.un_model.specs.Arcs.{is_mandatory, own_instr, reads_from, data_gap, memory_gap, larger, largest_gap, arc, block_arcs}
+use Rattle.un_ir.specs.Kinds.{is_mandatory}
+use Rattle.un_model.specs.Arcs.{own_instr, reads_from, data_gap, memory_gap, larger, largest_gap, arc, block_arcs}
 use Rattle.un_model.specs.Arcs.{blocks_arcs}
 use Rattle.un_model.specs.Arcs.NeedsGap.{ByMemory}
 use Rattle.un_model.specs.Instructions.{instruction_of}
@@ -242,11 +243,12 @@ module _ (e : Ext) (o : Options) (x : List ℕ) (given : Given e o x) where
           ap (λ (i : Option Op). memory_distance i (own_instr q.op)) (sym op.1)
           ∙ ap (λ (j : Option Op). memory_distance (issue_at x p).instr j) (sym oq.1) ∙ d in
           let reads = reads_from temps p.number q.op in
-          let some = some_larger (data_gap e.table reads p.op) n in
+          let some = some_larger (data_gap e.table reads p.op q.op) n in
           let largest : largest_gap e.table reads p.op q.op ≡ Some some.0 =
-          ap (λ (b : Bool). if b && is_mandatory q.op.kind then larger (data_gap e.table reads p.op) (memory_gap p.op q.op) else None) op.0
-          ∙ ap (λ (b : Bool). if b then larger (data_gap e.table reads p.op) (memory_gap p.op q.op) else None) oq.0
-          ∙ ap (larger (data_gap e.table reads p.op)) gap ∙ some.1 in
+          ap (λ (b : Bool). if b && is_mandatory q.op.kind then larger (data_gap e.table reads p.op q.op) (memory_gap p.op q.op) else None)
+          op.0
+          ∙ ap (λ (b : Bool). if b then larger (data_gap e.table reads p.op q.op) (memory_gap p.op q.op) else None) oq.0
+          ∙ ap (larger (data_gap e.table reads p.op q.op)) gap ∙ some.1 in
           let told = gap_told e.table reads p.op q.op some.0 largest in
           let most = told.1.most n (ByMemory gap) in
           let a : Arc = arc p.number q.number some.0 in

@@ -36,7 +36,8 @@ use Rattle.un_model.specs.Pairs.{places_from}
 use Rattle.un_model.specs.Registers.{reg_at, start_home, is_assignable, is_home, general_registers, value_registers, predicate_registers}
 use Rattle.un_model.specs.Registers.{slots_of, with_zero, is_truth}
 use Rattle.un_model.specs.Variables.{IsModel, instr_domain, cycle_domain, choice_domain, home_domain, source_domain, register_domain}
-use Rattle.un_model.specs.Variables.{result_domain, carries_truth, has_choices, chosen_operands, op_domains, ops_domains, blocks_domains}
+use Rattle.un_ir.specs.Kinds.{has_choices}
+use Rattle.un_model.specs.Variables.{result_domain, carries_truth, chosen_operands, op_domains, ops_domains, blocks_domains}
 use Rattle.un_model.specs.Variables.{own_horizon, domains_of, model_of}
 use Rattle.un_model.proofs.Lists.{Each, Pairwise, Member, each_of, each_member, each_more, each_map, each_join, each_all, pairwise_filter}
 use Rattle.un_model.proofs.Lists.{pairwise_map, pairwise_all, member_filter, member_map_of}

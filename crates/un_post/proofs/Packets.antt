@@ -19,7 +19,8 @@ use Rattle.un_model.specs.declared.schedule.Issue.{Issue}
 use Rattle.un_isa.specs.declared.packet_counts.Resource.{Resource}
 use Rattle.un_model.specs.Instructions.{instruction_of, needs_by}
 use Rattle.un_model.specs.Pairs.{joined}
-use Rattle.un_model.specs.Schedules.{schedule_of, issues_of, value_by, is_delimiter}
+use Rattle.un_ir.specs.Kinds.{is_delimiter, issues_kind}
+use Rattle.un_model.specs.Schedules.{schedule_of, issues_of, value_by}
 use Rattle.un_model.specs.Solutions.{KeepsPackets, HasRoom, Fits, share_of, issues_at, taken}
 use Rattle.un_isa.specs.PacketCounts.{places_of, share_of as need_of}
 use Rattle.un_model.specs.Variables.{model_of, has_cycle, var_if, cycle_place, cycle_domain, own_horizon}
@@ -34,7 +35,7 @@ use Rattle.un_slots.specs.SlotLaws.{holds_fits, fits_holds}
 use Rattle.un_kinds.specs.Constraints.{AllMet, PerCycle}
 use Rattle.un_sites.specs.Places.{Place, act_of, by_number}
 use Rattle.un_sites.specs.Postings.{cycle_var, var_or, with_kind}
-use Rattle.un_sites.specs.Rooms.{issues_kind, item_of, packets_in, packets_of}
+use Rattle.un_sites.specs.Rooms.{item_of, packets_in, packets_of}
 use Rattle.un_post.proofs.Blocks.{region_owner, blocks, region_places, region_vars, places_in, regions_met, in_all, rising}
 use Rattle.un_post.proofs.Cycles.{cycle_sits}
 use Rattle.un_post.proofs.Facts.{Given, falls, good_op, in_domains, acts, numbers}

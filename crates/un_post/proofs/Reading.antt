@@ -41,9 +41,10 @@ use Rattle.un_sites.specs.Places.{no_place}
 use Rattle.un_sites.specs.Postings.{zeros_by, zeros_of, issue_by, issues_in, chosen_by, chosen_of, read_alt, lone_read, waits_by, waits_of}
 use Rattle.un_sites.specs.Postings.{registers_of, space_by, operand_sets, spaces_of, home_by, homes_of, of_operand, result_by, result_sets}
 use Rattle.un_sites.specs.Postings.{results_in, of_place, last_place, same_by, var_or, instr_var, cycle_var, frame_op, with_kind, copy_use}
-use Rattle.un_sites.specs.Postings.{single_use, uses_of, leave_of, in_entry, is_call_kind}
+use Rattle.un_ir.specs.Kinds.{is_call_kind, issues_kind}
+use Rattle.un_sites.specs.Postings.{single_use, uses_of, leave_of, in_entry}
 use Rattle.un_sites.specs.Rooms.{user_if, operand_users, place_users, users_of, temp_by, temp_at, temps_in, is_behind, call_at, calls_but}
-use Rattle.un_sites.specs.Rooms.{spared_at, item_of, issues_kind, each_two, operand_side, two_by, one_value, two_at, twos_in}
+use Rattle.un_sites.specs.Rooms.{spared_at, item_of, each_two, operand_side, two_by, one_value, two_at, twos_in}
 use Rattle.un_kinds.specs.Scopes.{vars_of, vars_in, own_var, alt_vars, end_var, op_vars, use_vars, leave_vars, rectangle_vars, clobber_vars}
 use Rattle.un_kinds.specs.Scopes.{item_vars, side_vars}
 use Rattle.un_post.proofs.Meeting.{each_places, joined_each}
@@ -229,8 +230,8 @@ module _ (n : ℕ) (pos : 0 < n) where
           tt,
         )
 
-    alt_in : (t : Table) (d : Definer) → DefinerIn d → Within (alt_vars (read_alt t d))
-    alt_in t d h = two_in (at_vars (time_of d.place)) (act_vars (act_of d.place)) (time_in d.place h.place) (act_in d.place h.place)
+    alt_in : (t : Table) (p : Place) (d : Definer) → DefinerIn d → Within (alt_vars (read_alt t p d))
+    alt_in t p d h = two_in (at_vars (time_of d.place)) (act_vars (act_of d.place)) (time_in d.place h.place) (act_in d.place h.place)
 
     lone_are : (t : Table) (p : Place) (d : Definer) → PlaceIn p → Timed p → DefinerIn d → IsSound n most (lone_read t p d)
     lone_are t p d h timed k =
@@ -247,14 +248,14 @@ module _ (n : ℕ) (pos : 0 < n) where
     waits_are t p None alts h timed k l = each_map (IsSound n most) (lone_read t p) alts
         (each_more DefinerIn (λ (d : Definer). IsSound n most (lone_read t p d)) alts (λ d g. lone_are t p d h timed g) l)
     waits_are t p (Some c) alts h timed k l =
-        let reads = map (read_alt t) alts in
+        let reads = map (read_alt t p) alts in
         let a = at_vars (time_of p) in
         let b = act_vars (act_of p) in (
           sound (Reads (time_of p) (act_of p) c reads)
               (two_in (a ++ b ++ own_var c) (vars_in alt_vars reads)
               (two_in (a ++ b) (own_var c) (two_in a b (time_in p h) (act_in p h)) (k, tt))
-              (each_in alt_vars reads (each_map (λ (r : ReadAlt). Within (alt_vars r)) (read_alt t) alts
-              (each_more DefinerIn (λ (d : Definer). Within (alt_vars (read_alt t d))) alts (λ d g. alt_in t d g) l))))
+              (each_in alt_vars reads (each_map (λ (r : ReadAlt). Within (alt_vars r)) (read_alt t p) alts
+              (each_more DefinerIn (λ (d : Definer). Within (alt_vars (read_alt t p d))) alts (λ d g. alt_in t p d g) l))))
               (some_first (a ++ b ++ own_var c) (vars_in alt_vars reads) (some_last (a ++ b) (own_var c) (λ e. cc e))) refl,
           tt,
         )

@@ -25,10 +25,12 @@ use Rattle.un_model.specs.declared.model.Options.{Options}
 use Rattle.un_model.specs.declared.model.TempVars.{TempVars}
 use Rattle.un_model.specs.ArcLaws.{arc_told}
 use Rattle.un_model.specs.Arcs.{block_arcs, IsArcOf}
-use Rattle.un_model.specs.Congruences.{term_of, live_in_temps, place_over}
+use Rattle.un_ir.specs.Linear.{place_over}
+use Rattle.un_model.specs.Congruences.{term_of, live_in_temps}
 use Rattle.un_model.specs.Pairs.{over_blocks}
 use Rattle.un_model.specs.Variables.{model_of, var_at, var_if, var_count, ops_count, block_count, blocks_count, blocks_vars, blocks_temps}
-use Rattle.un_model.specs.Variables.{count_if, is_optional, has_cycle, cycle_place, choice_place}
+use Rattle.un_ir.specs.Kinds.{is_optional}
+use Rattle.un_model.specs.Variables.{count_if, has_cycle, cycle_place, choice_place}
 use Rattle.un_model.specs.Variables.{chosen_operands, own_horizon}
 use Rattle.un_model.proofs.Lists.{Each, Member, each_of, each_member, each_more, each_map, each_join}
 use Rattle.un_model.proofs.Lists.{each_all, each_filter, member_at, member_map}

@@ -24,7 +24,8 @@ use Rattle.un_model.specs.declared.model.Options.{Options}
 use Rattle.un_model.specs.declared.model.OpVars.{OpVars}
 use Rattle.un_model.specs.declared.model.Model.{Model}
 use Rattle.un_model.specs.ArcLaws.{arc_told}
-use Rattle.un_model.specs.Arcs.{is_mandatory, block_arcs, blocks_arcs}
+use Rattle.un_ir.specs.Kinds.{is_mandatory}
+use Rattle.un_model.specs.Arcs.{block_arcs, blocks_arcs}
 use Rattle.un_model.specs.Cost.{blocks_cost, cost_of}
 use Rattle.un_model.specs.Instructions.{instruction_of}
 use Rattle.un_model.specs.Options.{AreOptions}

@@ -15,7 +15,8 @@ use Rattle.un_domains.specs.Sets.{has}
 use Rattle.un_model.specs.declared.model.Options.{Options}
 use Rattle.un_model.specs.declared.schedule.Read.{Read}
 use Rattle.un_model.specs.Instructions.{instruction_of, space_read, space_given}
-use Rattle.un_model.specs.Schedules.{schedule_of, read_of, value_by, is_delimiter}
+use Rattle.un_ir.specs.Kinds.{is_delimiter}
+use Rattle.un_model.specs.Schedules.{schedule_of, read_of, value_by}
 use Rattle.un_model.specs.Solutions.{KeepsSpaces, InDomain, InSpace, ReadsInSpace, IsGivenInSpace}
 use Rattle.un_model.specs.Variables.{model_of, register_domain, register_place, carried}
 use Rattle.un_model.proofs.Lists.{Member, length_get, each_member, each_of, each_map, each_of_map}

@@ -33,7 +33,8 @@ use Rattle.un_rect.specs.Spans.{starts, ends, use_time}
 use Rattle.un_rect.specs.declared.clobber.ClobberCall.{ClobberCall}
 use Rattle.un_kinds.specs.Constraints.{Constraint, meets, AllMet, Clobber}
 use Rattle.un_sites.specs.Places.{Place, Definer, definers_of, definer_or}
-use Rattle.un_sites.specs.Postings.{is_call_kind, is_call_op, cycle_var, var_or}
+use Rattle.un_ir.specs.Kinds.{is_call_kind, is_call_op}
+use Rattle.un_sites.specs.Postings.{cycle_var, var_or}
 use Rattle.un_sites.specs.Rooms.{temps_in, users_of, is_before, is_behind, call_at, calls_but, arcs_or, spared_by, spared_at}
 use Rattle.un_sites.specs.Rooms.{spared_in, clobbers_of}
 use Rattle.un_post.proofs.Blocks.{blocks, region_places, region_vars, map_twice, places_in, regions_met, in_all, stands_in}

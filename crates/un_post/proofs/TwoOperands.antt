@@ -20,11 +20,13 @@ use Rattle.un_ir.specs.declared.extended.Ext.{Ext}
 use Rattle.un_domains.specs.Sets.{has}
 use Rattle.un_model.specs.declared.model.Options.{Options}
 use Rattle.un_model.specs.declared.schedule.LiveRange.{LiveRange}
-use Rattle.un_model.specs.Instructions.{latency_by, space_read, instruction_of}
+use Rattle.un_model.proofs.Gaps.{gap_some}
+use Rattle.un_model.specs.Instructions.{space_read, instruction_of}
 use Rattle.un_model.specs.Pairs.{places_from, joined}
-use Rattle.un_model.specs.Schedules.{schedule_of, read_of, value_by, is_delimiter}
+use Rattle.un_ir.specs.Kinds.{is_delimiter, has_choices}
+use Rattle.un_model.specs.Schedules.{schedule_of, read_of, value_by}
 use Rattle.un_model.specs.Solutions.{IsSchedule, InSpace, ShareNoCycle, latency_gap}
-use Rattle.un_model.specs.Variables.{model_of, var_at, choice_place, has_choices, register_place, carried as carried_here}
+use Rattle.un_model.specs.Variables.{model_of, var_at, choice_place, register_place, carried as carried_here}
 use Rattle.un_model.proofs.Lists.{Each, Pairwise, Member, each_of, each_join, member_at, pairwise_all, pairwise_of_map, pairwise_two}
 use Rattle.un_model.proofs.Lists.{slice_get-map}
 use Rattle.un_model.proofs.OpDomains.{in_entry, register_sits}
@@ -84,10 +86,6 @@ unequal a b h = by (nat_eq a b) refl
     by false e = refl
     by true e = absurd (h (grind (arith, nat_tests, e)))
 
-quick : (t : Table) → IsFit t → (i : Option Op) → 1 ≤ latency_by t i
-quick t fit None = omega arith
-quick t fit (Some op) = let l = fit.latencies op in l.0
-
 module _ (e : Ext) (o : Options) (x : List ℕ) (given : Given e o x)
     (solved : IsSchedule (latency_gap e.table) (model_of e o).domains (model_of e o) x (schedule_of (model_of e o) x)) where
   abbrev ds : List Definer
@@ -127,7 +125,7 @@ module _ (e : Ext) (o : Options) (x : List ℕ) (given : Given e o x)
       (slice_index x (p.first + register_place p.op + rd.spot.place)) given.fit
       (register_sits e o x (in_entry e o x p) p rd.spot.place rd.spot.temp (in_domains e o x given p def.0) def.1) in
       let space = back (λ s. InSpace (spot_range e o x s).reg (space_read (issue_at x q).instr j)) good.space in
-      let fast = quick e.table given.fit (spot_range e o x good.result).instr in
+      let fast = gap_some e.table given.fit (spot_range e o x good.result).instr (issue_at x q).instr in
       let ready = good.ready in
       record {
         spot = rd.spot;

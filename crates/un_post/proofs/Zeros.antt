@@ -15,9 +15,10 @@ use Rattle.un_ir.specs.Extended.{wants_of, result_count, IsGoodOperand}
 use Rattle.un_model.specs.declared.model.Options.{Options}
 use Rattle.un_model.specs.Cost.{value_of}
 use Rattle.un_model.specs.Instructions.{instruction_of}
-use Rattle.un_model.specs.Schedules.{schedule_of, value_by, is_delimiter}
+use Rattle.un_ir.specs.Kinds.{is_delimiter, is_optional, has_choices}
+use Rattle.un_model.specs.Schedules.{schedule_of, value_by}
 use Rattle.un_model.specs.Solutions.{KeepsZeros, IsIdleAtZero, IsZeroRange}
-use Rattle.un_model.specs.Variables.{model_of, var_at, var_if, is_optional, has_cycle, has_choices, cycle_place, choice_place}
+use Rattle.un_model.specs.Variables.{model_of, var_at, var_if, has_cycle, cycle_place, choice_place}
 use Rattle.un_model.specs.Variables.{chosen_operands}
 use Rattle.un_model.proofs.Lists.{Each, Member, length_get, each_member, each_of}
 use Rattle.un_model.proofs.Placed.{Placed, vars_of, issue_at, spot}

@@ -4,6 +4,7 @@ pub mod ClashLaws
 pub mod Going
 pub mod Loops
 pub mod OrderSteps
+pub mod PlainCalls
 pub mod Refusals
 pub mod Rows
 pub mod Survivors

@@ -13,7 +13,8 @@ use Rattle.un_model.proofs.Steps.{drop_at, drop_past}
 use Rattle.un_sites.specs.CallBefores.{of_call, of_call_at, of_calls, count_from, is_between}
 use Rattle.un_kinds.specs.Constraints.{Constraint}
 use Rattle.un_sites.specs.Places.{Place}
-use Rattle.un_sites.specs.Postings.{is_call_kind, with_kind}
+use Rattle.un_ir.specs.Kinds.{is_call_kind}
+use Rattle.un_sites.specs.Postings.{with_kind}
 use Rattle.un_sites.specs.Rooms.{is_behind}
 use Rattle.un_sites.specs.Sites.{place_of}
 use Rattle.un_sites.specs.declared.sites.Spot.{Spot}

@@ -9,7 +9,7 @@ use Rattle.un_model.specs.Pairs.{joined, places_from}
 use Rattle.un_model.proofs.Steps.{drop_at, drop_past, append-nil}
 use Rattle.un_sites.specs.Places.{Place, Definer}
 use Rattle.un_sites.specs.Rooms.{each_two, one_value, two_at, two_by, twos_in}
-use Rattle.un_rooms.specs.Twos.{is_source}
+use Rattle.un_ir.specs.Kinds.{is_source}
 
 -- ---- one with each that follows
 

@@ -12,7 +12,8 @@ use Rattle.un_ir.specs.Extended.{temp}
 use Rattle.un_model.proofs.Steps.{append-nil}
 use Rattle.un_rooms.specs.Gathered.{gathered}
 use Rattle.un_sites.specs.Places.{Place}
-use Rattle.un_sites.specs.Postings.{is_call_kind, with_kind}
+use Rattle.un_ir.specs.Kinds.{is_call_kind}
+use Rattle.un_sites.specs.Postings.{with_kind}
 use Rattle.un_sites.specs.Sites.{place_of}
 use Rattle.un_rooms.specs.declared.call_rows.CallSite.{CallSite}
 use Rattle.un_sites.specs.declared.sites.Spot.{Spot}

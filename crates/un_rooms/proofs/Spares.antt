@@ -9,7 +9,8 @@ use Rattle.un_model.specs.declared.model.Arc.{Arc}
 use Rattle.un_kinds.specs.Constraints.{Constraint, Clobber}
 use Rattle.un_rooms.specs.Gathered.{temp_with, IsAmong}
 use Rattle.un_sites.specs.Places.{Place, Definer}
-use Rattle.un_sites.specs.Postings.{is_call_kind, with_kind}
+use Rattle.un_ir.specs.Kinds.{is_call_kind}
+use Rattle.un_sites.specs.Postings.{with_kind}
 use Rattle.un_sites.specs.Rooms.{call_at, spared_by, users_of}
 use Rattle.un_rooms.specs.declared.call_rows.CallSite.{CallSite}
 use Rattle.un_rooms.proofs.Sparing.{but}

@@ -16,7 +16,6 @@ use un_base::ids::{TempId, VarId};
 use un_lists::items::Items;
 use un_prop::act::UserOf;
 use un_rect::clobber::ClobberCall;
-use un_sites::kinds::is_in;
 use un_sites::sites::Site;
 
 /// A call of a block: its number and cycle, marks, from `low` on, of the operations that lead to it, and the users of each
@@ -36,7 +35,7 @@ fn is_before(call: &CallSite, definer: &Site<'_>) -> bool
 {
     match definer.place {
         None => true,
-        Some(p) => is_in(&p.it.kind) || mark_at(call.low, call.leading.as_slice(), p.op),
+        Some(p) => p.it.kind.is_in() || mark_at(call.low, call.leading.as_slice(), p.op),
     }
 }
 

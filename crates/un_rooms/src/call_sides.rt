@@ -5,37 +5,21 @@ ghost use Rattle.un_model.specs.declared.model.Arc.{Arc};
 ghost use Rattle.un_sites.specs.Places.{Place};
 ghost use Rattle.un_rooms.specs.Calls.{on_side};
 ghost use Rattle.un_rooms.specs.Reach.{mark_at, IsWithin, IsArcWithin};
-ghost use Rattle.un_sites.specs.Rooms.{ends_block, is_behind};
+ghost use Rattle.un_ir.specs.Kinds.{ends_block};
+ghost use Rattle.un_sites.specs.Rooms.{is_behind};
 ghost use Rattle.un_sites.specs.Sites.{place_of};
 
 use crate::reach::{Reach, mark_at, mark_reached};
 use std::alloc::{AllocError, Global};
-use un_ir::extended::ExtKind;
-use un_ir::function::Term;
 use un_lists::items::Items;
 use un_model::model::Arc;
 use un_sites::sites::Spot;
-
-/// Whether an operation ends its block.
-fn ends_block(kind: &ExtKind) -> bool
-    ensures { result ≡ ends_block kind.now }
-{
-    match kind {
-        ExtKind::Out => true,
-        ExtKind::End(Term::Fall) => false,
-        ExtKind::End(Term::Jump(_)) => true,
-        ExtKind::End(Term::Branch { .. }) => true,
-        ExtKind::End(Term::Ret(_)) => true,
-        ExtKind::In | ExtKind::Body(_) | ExtKind::Copy(_) | ExtKind::Enter | ExtKind::Leave =>
-            false,
-    }
-}
 
 /// Whether an operation is behind the call with a number, of which the marks say what it reaches, or, as is asked for, is not.
 fn is_on_side(low: u32, marks: &[bool], call: u32, behind: bool, p: &Spot<'_>) -> bool
     ensures { result ≡ on_side behind (ends_block p.now.it.now.kind || (not (p.now.op == call) && mark_at low marks.now p.now.op)) }
 {
-    let is_behind = ends_block(&p.it.kind) || (p.op != call && mark_at(low, marks, p.op));
+    let is_behind = p.it.kind.ends_block() || (p.op != call && mark_at(low, marks, p.op));
     if behind { is_behind } else { !is_behind }
 }
 

@@ -12,7 +12,8 @@ ghost use Rattle.un_sites.specs.CallBefores.{anew_count, anew_gap, anew_after};
 ghost use Rattle.un_sites.specs.CallBefores.{is_between, of_call, of_calls, call_befores_by, call_befores_in, call_befores_of};
 ghost use Rattle.un_kinds.specs.Constraints as constraint;
 ghost use Rattle.un_sites.specs.Places.{time_of};
-ghost use Rattle.un_sites.specs.Postings.{is_call_kind, with_kind};
+ghost use Rattle.un_ir.specs.Kinds.{is_call_kind};
+ghost use Rattle.un_sites.specs.Postings.{with_kind};
 ghost use Rattle.un_rooms.specs.Reach.{IsWithin, IsArcWithin};
 ghost use Rattle.un_sites.specs.Sites.{place_of};
 ghost use Rattle.un_sites.specs.declared.sites.Spot.{Spot};
@@ -34,11 +35,9 @@ use un_isa::table::Table;
 use un_kinds::make_prec::make_before;
 use un_kinds::props::Props;
 use un_lists::items::Items;
-use un_model::arcs::is_mandatory;
 use un_model::instructions::{instruction, space_read};
 use un_model::model::{Arc, BlockVars, Model};
 use un_prop::act::Act;
-use un_sites::kinds::is_call;
 use un_sites::sites::{Spot, spot_at};
 use un_sites::tables::add_block;
 
@@ -107,7 +106,7 @@ fn any_anew(t: &Table, call: &Spot<'_>, u: &Spot<'_>) -> Result<bool, NoMemory>
 fn waits_anew(t: &Table, call: &Spot<'_>, u: &Spot<'_>) -> Result<bool, NoMemory>
     ensures { IfOk result (λ b. b ≡ waits_anew t.now (place_of call.now) (place_of u.now)) }
 {
-    if is_mandatory(&u.it.kind) {
+    if u.it.kind.is_mandatory() {
         any_anew(t, call, u)
     } else {
         Ok(false)
@@ -132,7 +131,7 @@ fn anew_count(t: &Table, call: &Spot<'_>, u: &Spot<'_>) -> Result<usize, NoMemor
 fn anew_gap(t: &Table, call: &Spot<'_>, u: &Spot<'_>) -> Result<u32, NoMemory>
     ensures { IfOk result (λ gap. gap ≡ anew_gap t.now (place_of call.now) (place_of u.now)) }
 {
-    if !is_call(&u.it.kind) {
+    if !u.it.kind.is_call() {
         return Ok(2);
     }
     let count = anew_count(t, call, u)?;
@@ -264,7 +263,7 @@ fn calls_in<'a>(
 {
     let mut calls = Items::new(alloc);
     for p in spots {
-        if is_call(&p.it.kind) {
+        if p.it.kind.is_call() {
             calls.push(*p)?;
         }
     }

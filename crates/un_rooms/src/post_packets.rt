@@ -5,14 +5,14 @@ ghost use Rattle.un_model.specs.Instructions.{needs_by};
 ghost use Rattle.un_kinds.specs.Constraints as constraint;
 ghost use Rattle.un_sites.specs.Places.{by_number};
 ghost use Rattle.un_sites.specs.Postings.{with_kind};
-ghost use Rattle.un_sites.specs.Rooms.{issues_kind, item_of, packets_in, packets_of};
+ghost use Rattle.un_ir.specs.Kinds.{issues_kind};
+ghost use Rattle.un_sites.specs.Rooms.{item_of, packets_in, packets_of};
 ghost use Rattle.un_sites.specs.Sites.{place_of};
 
 use std::alloc::{AllocError, Global};
 use un_base::memory_error::NoMemory;
 use un_base::numbers::{advance, number};
 use un_ir::extended::{ExtBlock, ExtKind};
-use un_ir::function::Term;
 use un_isa::table::{Needs, Table};
 use un_kinds::make_rect::make_per_cycle;
 use un_kinds::props::Props;
@@ -23,19 +23,6 @@ use un_sites::numbers::number_count;
 use un_sites::sites::{Spot, cycle_var};
 use un_sites::tables::add_block;
 use un_slots::item::Item;
-
-/// Whether an operation issues an instruction where it is active.
-fn is_issued(kind: &ExtKind) -> bool
-    ensures { result ≡ issues_kind kind.now }
-{
-    match kind {
-        ExtKind::In | ExtKind::Out | ExtKind::End(Term::Fall) => false,
-        ExtKind::End(Term::Jump(_)) => true,
-        ExtKind::End(Term::Branch { .. }) => true,
-        ExtKind::End(Term::Ret(_)) => true,
-        ExtKind::Body(_) | ExtKind::Copy(_) | ExtKind::Enter | ExtKind::Leave => true,
-    }
-}
 
 /// What an operation needs, by its numbers.
 fn needs_of(alloc: Global, t: &Table, kind: &ExtKind) -> Result<Items<Needs>, AllocError>
@@ -66,7 +53,7 @@ fn items_of(alloc: Global, t: &Table, spots: &[Spot<'_>]) -> Result<Items<Item>,
 {
     let mut items = Items::new(alloc);
     for p in spots {
-        if is_issued(&p.it.kind) {
+        if p.it.kind.issues() {
             items.push(item_of(alloc, t, p)?)?;
         }
     }

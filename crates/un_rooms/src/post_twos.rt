@@ -8,7 +8,7 @@ ghost use Rattle.un_kinds.specs.Constraints as constraint;
 ghost use Rattle.un_sites.specs.Places.{definers_of, places_of};
 ghost use Rattle.un_sites.specs.Rooms.{one_value, operand_side, two_at, two_by, twos_in, twos_of};
 ghost use Rattle.un_sites.specs.Sites.{place_of, definers_in};
-ghost use Rattle.un_rooms.specs.Twos.{is_source};
+ghost use Rattle.un_ir.specs.Kinds.{is_source};
 ghost use Rattle.un_rect.specs.Operands.{side};
 
 use std::alloc::Global;
@@ -30,21 +30,6 @@ pub struct Read<'a> {
     pub at: u32,
     pub it: &'a Operand,
     pub choice: Option<VarId>,
-}
-
-/// Whether an operation is one of the source.
-fn is_source(kind: &ExtKind) -> bool
-    ensures { result ≡ is_source kind.now }
-{
-    match kind {
-        ExtKind::Body(_) => true,
-        ExtKind::In
-        | ExtKind::Out
-        | ExtKind::End(_)
-        | ExtKind::Copy(_)
-        | ExtKind::Enter
-        | ExtKind::Leave => false,
-    }
 }
 
 /// The number of the first of these temporaries.
@@ -232,7 +217,7 @@ fn post_twos_in(
 ) -> Result<(), NoMemory>
     ensures { OnOk result (props.new ≡ props.old ++ twos_in slots (definers_in sites.now) (place_of p.now)) }
 {
-    if is_source(&p.it.kind) {
+    if p.it.kind.is_source() {
         post_each_two(props, slots, sites, p)
     } else {
         Ok(())

@@ -5,7 +5,8 @@ ghost use Rattle.std.specs.List.{AllZip};
 ghost use Rattle.un_rooms.specs.Calls.{SeesCall};
 ghost use Rattle.un_rooms.specs.Gathered.{gathered};
 ghost use Rattle.un_sites.specs.Places.{Place};
-ghost use Rattle.un_sites.specs.Postings.{is_call_kind, with_kind};
+ghost use Rattle.un_ir.specs.Kinds.{is_call_kind};
+ghost use Rattle.un_sites.specs.Postings.{with_kind};
 ghost use Rattle.un_rooms.specs.Reach.{IsWithin, IsArcWithin};
 ghost use Rattle.un_sites.specs.Rooms.{is_behind, users_of};
 ghost use Rattle.un_sites.specs.Sites.{place_of};
@@ -21,7 +22,6 @@ use un_base::memory_error::NoMemory;
 use un_lists::items::Items;
 use un_model::model::Arc;
 use un_prop::act::UserOf;
-use un_sites::kinds::is_call;
 use un_sites::sites::{Spot, cycle_var};
 
 /// A call, with the users of each temporary among what is behind it.
@@ -102,7 +102,7 @@ pub fn see_calls(
 {
     let mut calls = Items::new(alloc);
     for p in spots {
-        if is_call(&p.it.kind) {
+        if p.it.kind.is_call() {
             let site = see_among(alloc, reach, arcs, span, spots, p)?;
             calls.push(site)?;
         }

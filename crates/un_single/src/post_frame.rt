@@ -6,56 +6,23 @@ ghost use Rattle.un_ir.specs.Linear.{is_in};
 ghost use Rattle.un_model.specs.Pairs.{joined, over_blocks};
 ghost use Rattle.un_kinds.specs.Constraints as constraint;
 ghost use Rattle.un_sites.specs.Places.{Place, registers_at};
-ghost use Rattle.un_sites.specs.Postings.{copy_use, cycle_var, frame_by, frame_of, frame_op, in_entry, instr_var, is_call_kind};
+ghost use Rattle.un_ir.specs.Kinds.{is_call_kind};
+ghost use Rattle.un_sites.specs.Postings.{copy_use, cycle_var, frame_by, frame_of, frame_op, in_entry, instr_var};
 ghost use Rattle.un_sites.specs.Postings.{leave_of, leaves_in, single_use, uses_of, with_kind};
 ghost use Rattle.un_sites.specs.Sites.{place_of, definers_in};
 
 use std::alloc::{AllocError, Global};
-use un_alt::frame::{FrameLeave, FrameOp, FrameUse, RELOAD, SPILL};
+use un_alt::frame::{FrameLeave, FrameOp, FrameUse};
 use un_base::ids::VarId;
 use un_base::memory_error::NoMemory;
 use un_base::numbers::{advance, number};
-use un_ir::extended::{ExtBlock, ExtKind};
+use un_ir::extended::{ExtBlock, RELOAD, SPILL};
 use un_kinds::make_alt::{FrameFields, make_frame};
 use un_kinds::props::Props;
 use un_lists::items::Items;
 use un_model::model::{BlockVars, Model};
-use un_sites::kinds::{is_call, is_in};
 use un_sites::sites::{Site, Spot, add_registers, cycle_var};
 use un_sites::tables::add_block;
-
-/// Whether an operation is a copy.
-fn is_copy(kind: &ExtKind) -> bool
-    ensures { result ≡ is_copy kind.now }
-{
-    match kind {
-        ExtKind::Copy(_) => true,
-        ExtKind::In | ExtKind::Out | ExtKind::Body(_) | ExtKind::End(_) => false,
-        ExtKind::Enter | ExtKind::Leave => false,
-    }
-}
-
-/// Whether an operation is an Enter.
-fn is_enter(kind: &ExtKind) -> bool
-    ensures { result ≡ is_enter kind.now }
-{
-    match kind {
-        ExtKind::Enter => true,
-        ExtKind::In | ExtKind::Out | ExtKind::Body(_) | ExtKind::End(_) => false,
-        ExtKind::Copy(_) | ExtKind::Leave => false,
-    }
-}
-
-/// Whether an operation is a Leave.
-fn is_leave(kind: &ExtKind) -> bool
-    ensures { result ≡ is_leave kind.now }
-{
-    match kind {
-        ExtKind::Leave => true,
-        ExtKind::In | ExtKind::Out | ExtKind::Body(_) | ExtKind::End(_) => false,
-        ExtKind::Copy(_) | ExtKind::Enter => false,
-    }
-}
 
 /// The variable of an operation's instruction.
 fn instr_var(p: &Spot<'_>) -> VarId
@@ -107,7 +74,7 @@ fn touches(alloc: Global, spots: &[Spot<'_>]) -> Result<Items<VarId>, AllocError
 {
     let mut vars = Items::new(alloc);
     for p in spots {
-        if is_copy(&p.it.kind) {
+        if p.it.kind.is_copy() {
             vars.push(instr_var(p))?;
         }
     }
@@ -121,7 +88,7 @@ fn taken(alloc: Global, sites: &[Site<'_>], spots: &[Spot<'_>]) -> Result<Items<
 {
     let mut vars = Items::new(alloc);
     for p in spots {
-        if is_in(&p.it.kind) {
+        if p.it.kind.is_in() {
             add_registers(&mut vars, sites, p.it.results.as_slice())?;
         }
     }
@@ -146,7 +113,7 @@ fn add_copies(uses: &mut Items<FrameUse>, spots: &[Spot<'_>]) -> Result<(), Allo
     ensures { OnOk result (uses.new ≡ uses.old ++ map copy_use (with_kind is_copy (map place_of spots.now))) }
 {
     for p in spots {
-        if is_copy(&p.it.kind) {
+        if p.it.kind.is_copy() {
             uses.push(copy_use(p))?;
         }
     }
@@ -158,7 +125,7 @@ fn add_calls(uses: &mut Items<FrameUse>, spots: &[Spot<'_>]) -> Result<(), Alloc
     ensures { OnOk result (uses.new ≡ uses.old ++ map single_use (with_kind is_call_kind (map place_of spots.now))) }
 {
     for p in spots {
-        if is_call(&p.it.kind) {
+        if p.it.kind.is_call() {
             uses.push(single_use(p))?;
         }
     }
@@ -170,7 +137,7 @@ fn add_leaves(uses: &mut Items<FrameUse>, spots: &[Spot<'_>]) -> Result<(), Allo
     ensures { OnOk result (uses.new ≡ uses.old ++ map single_use (with_kind is_leave (map place_of spots.now))) }
 {
     for p in spots {
-        if is_leave(&p.it.kind) {
+        if p.it.kind.is_leave() {
             uses.push(single_use(p))?;
         }
     }
@@ -204,7 +171,7 @@ fn call_cycles(alloc: Global, spots: &[Spot<'_>]) -> Result<Items<VarId>, AllocE
 {
     let mut vars = Items::new(alloc);
     for p in spots {
-        if is_call(&p.it.kind) {
+        if p.it.kind.is_call() {
             vars.push(cycle_var(p))?;
         }
     }
@@ -235,7 +202,7 @@ fn add_leaves_of(
         ++ map (leave_of (map place_of spots.now)) (with_kind is_leave (map place_of spots.now))) }
 {
     for p in spots {
-        if is_leave(&p.it.kind) {
+        if p.it.kind.is_leave() {
             leaves.push(leave_of(alloc, spots, p)?)?;
         }
     }
@@ -325,7 +292,7 @@ pub fn post_frame(
     ensures { OnOk result (props.new ≡ props.old ++ frame_of m.now (definers_in sites.now) (map place_of spots.now)) }
 {
     for p in spots {
-        if is_enter(&p.it.kind) {
+        if p.it.kind.is_enter() {
             post_enter(props, m, sites, spots, p)?;
         }
     }

@@ -20,7 +20,6 @@ use un_kinds::props::Props;
 use un_kinds::vars::Naming;
 use un_lists::items::Items;
 use un_prop::act::{Act, At};
-use un_sites::kinds::is_fall;
 use un_sites::sites::{Site, Spot, registers_at};
 
 /// The variables of an optional operation but that of its instruction.
@@ -64,7 +63,7 @@ fn post_idle(props: &mut Props, instr: VarId, others: Items<VarId>) -> Result<()
 pub fn post_zeros(props: &mut Props, sites: &[Site<'_>], p: &Spot<'_>) -> Result<(), NoMemory>
     ensures { OnOk result (props.new ≡ props.old ++ zeros_of (definers_in sites.now) (place_of p.now)) }
 {
-    if is_fall(&p.it.kind) {
+    if p.it.kind.is_fall() {
         if let Some(at) = p.vars.cycle {
             post_never(props, at)?;
             return Ok(());

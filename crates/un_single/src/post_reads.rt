@@ -49,11 +49,16 @@ pub fn post_chosen(
     }
 }
 
-/// A definer that may be chosen.
-fn read_alt(alloc: Global, t: &Table, site: &Site<'_>) -> Result<ReadAlt, AllocError>
-    ensures { IfOk result (λ a. a ≡ read_alt t.now (definer_at site.now)) }
+/// A definer that a user may choose.
+fn read_alt(
+    alloc: Global,
+    t: &Table,
+    user: &Spot<'_>,
+    site: &Site<'_>,
+) -> Result<ReadAlt, AllocError>
+    ensures { IfOk result (λ a. a ≡ read_alt t.now (place_of user.now) (definer_at site.now)) }
 {
-    let gaps = gaps(alloc, t, site)?;
+    let gaps = gaps(alloc, t, user, site)?;
     Ok(ReadAlt {
         at: site.time(),
         on: site.act(),
@@ -61,13 +66,18 @@ fn read_alt(alloc: Global, t: &Table, site: &Site<'_>) -> Result<ReadAlt, AllocE
     })
 }
 
-/// The definers that may be chosen.
-fn read_alts(alloc: Global, t: &Table, alts: &[Site<'_>]) -> Result<Items<ReadAlt>, AllocError>
-    ensures { IfOk result (λ found. found ≡ map (read_alt t.now) (definers_in alts.now)) }
+/// The definers that a user may choose.
+fn read_alts(
+    alloc: Global,
+    t: &Table,
+    user: &Spot<'_>,
+    alts: &[Site<'_>],
+) -> Result<Items<ReadAlt>, AllocError>
+    ensures { IfOk result (λ found. found ≡ map (read_alt t.now (place_of user.now)) (definers_in alts.now)) }
 {
     let mut found = Items::new(alloc);
     for site in alts {
-        found.push(read_alt(alloc, t, site)?)?;
+        found.push(read_alt(alloc, t, user, site)?)?;
     }
     Ok(found)
 }
@@ -76,7 +86,7 @@ fn read_alts(alloc: Global, t: &Table, alts: &[Site<'_>]) -> Result<Items<ReadAl
 fn post_lone(props: &mut Props, t: &Table, p: &Spot<'_>, site: &Site<'_>) -> Result<(), NoMemory>
     ensures { OnOk result (props.new ≡ props.old ++ lone_read t.now (place_of p.now) (definer_at site.now) ∷ []) }
 {
-    let gap = first_gap(t, site);
+    let gap = first_gap(t, p, site);
     let made = make_before(
         props.alloc(),
         site.time(),
@@ -111,7 +121,7 @@ pub fn post_waits(
     match choice {
         None => { post_lones(props, t, p, alts) }
         Some(v) => {
-            let found = read_alts(props.alloc(), t, alts)?;
+            let found = read_alts(props.alloc(), t, p, alts)?;
             let made = make_reads(props.alloc(), p.time(), p.act(), v, found)?;
             props.push(made)
         }

@@ -13,7 +13,7 @@ use Rattle.un_alt.specs.Registers.{choice_vars}
 use Rattle.un_kinds.specs.Constraints.{Constraint, Before, Zeros}
 use Rattle.un_sites.specs.Postings.{zeros_by}
 use Rattle.un_kinds.specs.Scopes.{vars_in, own_var}
-use Rattle.un_sites.specs.Sites.{is_fall}
+use Rattle.un_ir.specs.Kinds.{is_fall}
 use Rattle.un_kinds.proofs.Appends.{three_added}
 
 pub own_vars : (vs : List VarId) → vars_in own_var vs ≡ vs

@@ -15,14 +15,14 @@ use Rattle.un_ir.specs.declared.extended.ExtBlock.{ExtBlock}
 use Rattle.un_model.specs.declared.model.Arc.{Arc}
 use Rattle.un_model.specs.declared.model.Model.{Model}
 use Rattle.un_model.specs.declared.model.BlockVars.{BlockVars}
-use Rattle.un_model.specs.Arcs.{is_mandatory}
+use Rattle.un_ir.specs.Kinds.{is_mandatory, is_call_kind}
 use Rattle.un_model.specs.Instructions.{instruction_of, space_read, is_predicate_space}
 use Rattle.un_model.specs.Pairs.{any_from, places_from, joined, over_blocks}
 use Rattle.un_model.specs.Variables.{count_if}
 use Rattle.un_prop.specs.declared.act.Act.TheVariants.{Always}
 use Rattle.un_kinds.specs.Constraints.{Constraint, Before}
 use Rattle.un_sites.specs.Places.{Place, time_of, block_places}
-use Rattle.un_sites.specs.Postings.{is_call_kind, with_kind}
+use Rattle.un_sites.specs.Postings.{with_kind}
 use Rattle.un_sites.specs.Rooms.{arcs_or, is_behind}
 
 -- ---- an operand

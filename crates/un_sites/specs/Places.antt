@@ -15,7 +15,8 @@ use Rattle.un_model.specs.declared.model.TempVars.{TempVars}
 use Rattle.un_model.specs.declared.model.OpVars.{OpVars}
 use Rattle.un_model.specs.declared.model.BlockVars.{BlockVars}
 use Rattle.un_model.specs.Instructions.{instruction_of}
-use Rattle.un_model.specs.Variables.{is_optional, var_at}
+use Rattle.un_ir.specs.Kinds.{is_optional}
+use Rattle.un_model.specs.Variables.{var_at}
 use Rattle.un_model.specs.Pairs.{places_from, pairs_from, over_blocks}
 use Rattle.un_prop.specs.declared.act.Act.{Act}
 use Rattle.un_prop.specs.declared.act.Act.TheVariants.{Always, Var as ActVar}

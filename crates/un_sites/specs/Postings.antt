@@ -11,7 +11,9 @@ use Rattle.un_isa.specs.declared.reg.Space.{Space}
 use Rattle.un_isa.specs.declared.reg.Space.TheVariants.{R, P, M}
 use Rattle.un_isa.specs.declared.reg.TheConstants.{GENERALS, FIRST_SLOT}
 use Rattle.un_isa.specs.declared.table.Table.{Table}
+use Rattle.un_ir.specs.Kinds.{is_call_kind}
 use Rattle.un_ir.specs.declared.function.Term.TheVariants.{Fall}
+use Rattle.un_ir.specs.declared.extended.TheConstants.{SPILL, RELOAD}
 use Rattle.un_ir.specs.declared.extended.ExtKind.{ExtKind}
 use Rattle.un_ir.specs.declared.extended.ExtKind.TheVariants.{Out, Body, End, Copy}
 use Rattle.un_ir.specs.declared.extended.Operand.{Operand}
@@ -21,10 +23,13 @@ use Rattle.un_ir.specs.Linear.{is_in}
 use Rattle.un_ir.specs.Live.{targets_of}
 use Rattle.un_model.specs.declared.model.Model.{Model}
 use Rattle.un_model.specs.declared.model.BlockVars.{BlockVars}
-use Rattle.un_model.specs.Congruences.{term_of, live_in_temps, place_over}
-use Rattle.un_model.specs.Instructions.{latency_by, space_read, space_given}
+use Rattle.un_model.specs.Arcs.{own_instr}
+use Rattle.un_ir.specs.Linear.{place_over}
+use Rattle.un_model.specs.Congruences.{term_of, live_in_temps}
+use Rattle.un_model.specs.Instructions.{space_read, space_given}
 use Rattle.un_model.specs.Pairs.{places_from, joined, over_blocks}
 use Rattle.un_model.specs.Registers.{predicate_registers, slots_of}
+use Rattle.un_model.specs.Solutions.{latency_gap}
 use Rattle.un_model.specs.Variables.{var_at}
 use Rattle.un_prop.specs.declared.act.Act.{Act}
 use Rattle.un_prop.specs.declared.act.Act.TheVariants.{Always}
@@ -79,21 +84,21 @@ chosen_by on (Some choice) alts = Chosen on choice (map (λ (d : Definer). act_o
 abbrev pub chosen_of : Asked → List Constraint
 chosen_of a = chosen_by (act_of a.user) a.choice a.alts
 
--- the latencies of a definer, by its numbers
-abbrev pub gaps_of : Table → Definer → List ℕ
-gaps_of t d = by_number (latency_by t) d.place.it.kind
+-- how long a user waits for a definer, by the definer's numbers; every number of a user waits alike
+abbrev pub gaps_of : Table → Place → Definer → List ℕ
+gaps_of t user d = by_number (λ (instr : Option Op). latency_gap t instr (own_instr user.it)) d.place.it.kind
 
-abbrev pub read_alt : Table → Definer → ReadAlt
-read_alt t d = record { at = time_of d.place; on = act_of d.place; gaps = gaps_of t d }
+abbrev pub read_alt : Table → Place → Definer → ReadAlt
+read_alt t user d = record { at = time_of d.place; on = act_of d.place; gaps = gaps_of t user d }
 
--- the operand of a copy d reads its value, which is always active: a precedence by the value's latency
+-- the operand of a copy d reads its value, which is always active: a precedence by the gap after the value
 abbrev pub lone_read : Table → Place → Definer → Constraint
-lone_read t p d = Before (time_of d.place) (act_of d.place) (time_of p) (act_of p) (slice_index (gaps_of t d) 1)
+lone_read t p d = Before (time_of d.place) (act_of d.place) (time_of p) (act_of p) (slice_index (gaps_of t p d) 1)
 
 -- an operand waits for what it chooses
 abbrev pub waits_by : Table → Place → Option VarId → List Definer → List Constraint
 waits_by t p None alts = map (lone_read t p) alts
-waits_by t p (Some choice) alts = Reads (time_of p) (act_of p) choice (map (read_alt t) alts) ∷ []
+waits_by t p (Some choice) alts = Reads (time_of p) (act_of p) choice (map (read_alt t p) alts) ∷ []
 
 abbrev pub waits_of : Table → Asked → List Constraint
 waits_of t a = waits_by t a.user a.choice a.alts
@@ -176,14 +181,6 @@ edges_of blocks ds k n a vars =
 
 -- ---- the frame
 
-abbrev pub is_call_op : Op → Bool
-is_call_op Call = true
-is_call_op op = false
-
-abbrev pub is_call_kind : ExtKind → Bool
-is_call_kind (Body o) = is_call_op o.op
-is_call_kind _ = false
-
 abbrev pub with_kind : (ExtKind → Bool) → List Place → List Place
 with_kind is ps = filter (λ (p : Place). is p.it.kind) ps
 
@@ -202,7 +199,7 @@ frame_op p = record { instr = instr_var p; at = cycle_var p }
 
 -- a copy that is a Spill or a Reload; a Call, and a Leave, that is active
 abbrev pub copy_use : Place → FrameUse
-copy_use p = record { instr = act_of p; least = 2; most = 3; at = cycle_var p }
+copy_use p = record { instr = act_of p; least = SPILL; most = RELOAD; at = cycle_var p }
 
 abbrev pub single_use : Place → FrameUse
 single_use p = record { instr = act_of p; least = 1; most = 1; at = cycle_var p }

@@ -23,7 +23,8 @@ use Rattle.un_rect.specs.Operands.{Side}
 use Rattle.un_rect.specs.declared.clobber.ClobberCall.{ClobberCall}
 use Rattle.un_slots.specs.declared.item.Item.{Item}
 use Rattle.un_sites.specs.Places.{Place, Definer, act_of, time_of, by_number, block_places, definers_of, definer_or, definers_at}
-use Rattle.un_sites.specs.Postings.{over_places, registers_in, registers_of, cycle_var, is_call_kind, with_kind}
+use Rattle.un_ir.specs.Kinds.{ends_block, is_call_kind, issues_kind}
+use Rattle.un_sites.specs.Postings.{over_places, registers_in, registers_of, cycle_var, with_kind}
 use Rattle.un_kinds.specs.Constraints.{Constraint, Apart, Clobber, Operands, PerCycle}
 
 -- ---- users
@@ -76,13 +77,6 @@ reached arcs n = fold led_by (n ∷ []) arcs
 abbrev pub is_before : List Arc → Place → Place → Bool
 is_before arcs definer call = is_in definer.it.kind || has (reached arcs definer.op) call.op
 
--- a transfer, and the block's end, which no call issues with or after
-abbrev pub ends_block : ExtKind → Bool
-ends_block Out = true
-ends_block (End Fall) = false
-ends_block (End term) = true
-ends_block _ = false
-
 -- an operation is behind a call, whatever the cycles: what ends the block, and what the call reaches
 abbrev pub is_behind : List Arc → Place → Place → Bool
 is_behind arcs call p = ends_block p.it.kind || (not (p.op == call.op) && has (reached arcs call.op) p.op)
@@ -117,13 +111,6 @@ abbrev pub clobbers_of : Model → List Constraint
 clobbers_of m = over_blocks (spared_in m.ext.table.clobbered m.arcs (definers_of m)) 0 0 m.ext.blocks m.blocks
 
 -- ---- packets
-
--- whether an operation issues an instruction where it is active
-abbrev pub issues_kind : ExtKind → Bool
-issues_kind In = false
-issues_kind Out = false
-issues_kind (End Fall) = false
-issues_kind _ = true
 
 abbrev pub item_of : Table → Place → Item
 item_of t p = record { on = act_of p; at = cycle_var p; uses = by_number (needs_by t) p.it.kind }

@@ -28,11 +28,6 @@ abbrev pub cycle_time : Option VarId → At
 cycle_time None = Const 0
 cycle_time (Some v) = Var v
 
--- an end that falls through to the next block
-abbrev pub is_fall : ExtKind → Bool
-is_fall (End Fall) = true
-is_fall _ = false
-
 -- an operation, where there is one
 abbrev pub place_in : Option Spot → Place
 place_in None = no_place

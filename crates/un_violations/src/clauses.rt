@@ -1,7 +1,7 @@
 //! Whether a schedule keeps the clauses of a solution that ask for one operation, read or temporary at a time.
 
 ghost use Rattle.std.specs.Prelude.{◌≡◌, ℕ, ◌+◌, ◌<◌, ◌≤◌, ◌↔◌, ◌⊎◌, IsTrue, true, All, Contains, IfSome, length, slice_get};
-ghost use Rattle.un_model.specs.Instructions.{latency_by, is_transfer, space_read, space_given};
+ghost use Rattle.un_model.specs.Instructions.{is_transfer, space_read, space_given};
 ghost use Rattle.un_model.specs.Solutions.{InDomain, KeepsDomains, IsIdleAtZero, IsZeroRange, IsLive, InSpace, ReadsInSpace};
 ghost use Rattle.un_model.specs.Solutions.{IsGivenInSpace, IsLast, IsWithin, IsPlacedAs, IsPlaced, LeavesGap, latency_gap, HasHome};
 ghost use Rattle.un_model.specs.Solutions.{ReadsHome};
@@ -10,7 +10,7 @@ use un_domains::domain::Domain;
 use un_isa::op::Op;
 use un_isa::reg::{Reg, Space, space_of};
 use un_isa::table::Table;
-use un_model::instructions::{is_transfer, latency, space_given, space_read};
+use un_model::instructions::{gap, is_transfer, space_given, space_read};
 use un_model::schedule::{Issue, LiveRange, Read};
 
 /// Whether a value is in a domain.
@@ -147,12 +147,12 @@ fn is_placed(i: &Issue) -> bool
     }
 }
 
-/// Whether a user issues no earlier than the latency after the definer of what it reads, where that is active.
+/// Whether a user leaves the gap after the definer of what it reads, where that is active.
 fn is_ready(t: &Table, h: &LiveRange, r: &Read) -> bool
     ensures { IsTrue result
         ↔ (h.now.active ≡ true → h.now.from + latency_gap t.now h.now.instr r.now.instr ≤ r.now.cycle) }
 {
-    !h.active || u64::from(h.from) + u64::from(latency(t, h.instr)) <= u64::from(r.cycle)
+    !h.active || u64::from(h.from) + u64::from(gap(t, h.instr, r.instr)) <= u64::from(r.cycle)
 }
 
 /// Whether a user waits for the definer of what it reads.

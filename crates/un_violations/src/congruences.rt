@@ -7,7 +7,8 @@ ghost use Rattle.un_base.specs.declared.ids.TempId.{TempId};
 ghost use Rattle.un_ir.specs.declared.extended.ExtBlock.{ExtBlock};
 ghost use Rattle.un_ir.specs.declared.function.Term.{Term};
 ghost use Rattle.un_model.specs.declared.schedule.Read.{Read};
-ghost use Rattle.un_model.specs.Congruences.{place_over, register_of, register_read, KeepsCongruences};
+ghost use Rattle.un_ir.specs.Linear.{place_over};
+ghost use Rattle.un_model.specs.Congruences.{register_of, register_read, KeepsCongruences};
 ghost use Rattle.un_violations.specs.Orders.{AllCongruent, HandsAll, AllHandOn};
 
 use std::alloc::Global;

@@ -11,7 +11,7 @@ loop-j-preserved c =
     let values = c.args.values.now in
     places_more (λ (j : ℕ) (operand : Operand). temp_register m values (choice_of values c.args.vars.now j operand)) c.loop-j.j c.loop-j.j
     c.args.op.now.operands c.get.result.now c.loop-j.regs _ c.push.new.self c.register.result c.loop-j.invariant c.get.ensures
-    (c.register.ensures ∙ ap (temp_register m values) c.chosen-x.ensures) c.in_ok-push.ensures.ok
+    (c.register.ensures ∙ ap (temp_register m values) c.choice-x.ensures) c.in_ok-push.ensures.ok
 
 pub returns : goal.returns
 returns c =

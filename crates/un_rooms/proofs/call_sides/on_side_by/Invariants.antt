@@ -3,7 +3,7 @@ use Rattle.std.specs.Prelude.{◌==◌, ◌||◌, ◌&&◌, not, filter}
 use Rattle.un_sites.specs.Places.{Place}
 use Rattle.un_rooms.specs.Calls.{on_side}
 use Rattle.un_rooms.specs.Reach.{mark_at}
-use Rattle.un_sites.specs.Rooms.{ends_block}
+use Rattle.un_ir.specs.Kinds.{ends_block}
 use Rattle.un_sites.specs.Sites.{place_of}
 use Rattle.un_rooms.proofs.call_sides.on_side_by.Given as goal
 

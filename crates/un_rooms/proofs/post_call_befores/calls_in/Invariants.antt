@@ -1,5 +1,6 @@
 use Rattle.std.proofs.Common.{◌≡◌, ◌++◌, drop, map, All}
-use Rattle.un_sites.specs.Postings.{is_call_kind, with_kind}
+use Rattle.un_ir.specs.Kinds.{is_call_kind}
+use Rattle.un_sites.specs.Postings.{with_kind}
 use Rattle.un_rooms.specs.Reach.{IsWithin}
 use Rattle.un_sites.specs.Sites.{place_of}
 use Rattle.un_sites.specs.declared.sites.Spot.{Spot}

@@ -1,7 +1,8 @@
 use Rattle.std.proofs.Common.{refl, sym, subst, List, map}
 use Rattle.std.specs.List.{AllZip}
 use Rattle.un_rooms.specs.Calls.{SeesCall}
-use Rattle.un_sites.specs.Postings.{is_call_kind, with_kind}
+use Rattle.un_ir.specs.Kinds.{is_call_kind}
+use Rattle.un_sites.specs.Postings.{with_kind}
 use Rattle.un_sites.specs.Rooms.{users_of}
 use Rattle.un_sites.specs.Sites.{place_of}
 use Rattle.un_rooms.specs.declared.call_rows.CallSite.{CallSite}

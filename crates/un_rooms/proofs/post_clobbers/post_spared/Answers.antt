@@ -1,6 +1,7 @@
 use Rattle.std.proofs.Common.{[], ◌∷◌, ◌++◌, ◌-◌, length, ap, ◌∙◌, arith}
 use Rattle.un_kinds.specs.Constraints.{Constraint}
-use Rattle.un_sites.specs.Postings.{is_call_kind, with_kind}
+use Rattle.un_ir.specs.Kinds.{is_call_kind}
+use Rattle.un_sites.specs.Postings.{with_kind}
 use Rattle.un_sites.specs.Rooms.{users_of}
 use Rattle.un_rooms.proofs.Gathering.{users_at}
 use Rattle.un_rooms.proofs.Spares.{spared_is}

@@ -4,7 +4,8 @@ use Rattle.un_model.specs.declared.model.Arc.{Arc}
 use Rattle.un_rooms.specs.Calls.{SeesCall}
 use Rattle.un_rooms.specs.Gathered.{gathered}
 use Rattle.un_sites.specs.Places.{Place}
-use Rattle.un_sites.specs.Postings.{is_call_kind, with_kind}
+use Rattle.un_ir.specs.Kinds.{is_call_kind}
+use Rattle.un_sites.specs.Postings.{with_kind}
 use Rattle.un_sites.specs.Rooms.{spared_at, users_of}
 use Rattle.un_sites.specs.Sites.{definers_in}
 use Rattle.un_rooms.proofs.post_clobbers.post_spared_all.Given as goal

@@ -1,6 +1,7 @@
 use Rattle.std.proofs.Common.{◌≡◌, ◌++◌, drop, map}
 use Rattle.un_sites.specs.Postings.{with_kind}
-use Rattle.un_sites.specs.Rooms.{issues_kind, item_of}
+use Rattle.un_ir.specs.Kinds.{issues_kind}
+use Rattle.un_sites.specs.Rooms.{item_of}
 use Rattle.un_sites.specs.Sites.{place_of}
 use Rattle.un_rooms.proofs.post_packets.items_of.Given as goal
 

@@ -1,5 +1,6 @@
 use Rattle.std.proofs.Common.{◌≡◌, ◌++◌, drop, map}
-use Rattle.un_sites.specs.Postings.{single_use, is_call_kind, with_kind}
+use Rattle.un_ir.specs.Kinds.{is_call_kind}
+use Rattle.un_sites.specs.Postings.{single_use, with_kind}
 use Rattle.un_sites.specs.Sites.{place_of}
 use Rattle.un_single.proofs.post_frame.add_calls.Given as goal
 

@@ -1,5 +1,6 @@
 use Rattle.std.proofs.Common.{◌≡◌, ◌++◌, drop, map}
-use Rattle.un_sites.specs.Postings.{cycle_var, is_call_kind, with_kind}
+use Rattle.un_ir.specs.Kinds.{is_call_kind}
+use Rattle.un_sites.specs.Postings.{cycle_var, with_kind}
 use Rattle.un_sites.specs.Sites.{place_of}
 use Rattle.un_single.proofs.post_frame.call_cycles.Given as goal
 

@@ -1,6 +1,7 @@
 use Rattle.std.proofs.Common.{ℕ, ◌≡◌, ◌<◌, get_or, slice_get}
 use Rattle.un_base.specs.declared.ids.TempId.{TempId}
-use Rattle.un_model.specs.Congruences.{place_over, register_of, register_read}
+use Rattle.un_ir.specs.Linear.{place_over}
+use Rattle.un_model.specs.Congruences.{register_of, register_read}
 use Rattle.un_violations.proofs.congruences.hands_over.Given as goal
 
 abbrev pub invariant-loop-j : goal.invariant-loop-j
