@@ -15,37 +15,12 @@ mod times;
 
 use crate::request::asked_for;
 use crate::shown::put_asked;
-use std::alloc::Global;
-use std::env;
 use std::process::ExitCode;
-use std::rt::Env;
-use un_base::memory_error::NoMemory;
 use un_outside::files::{StdSink, StdSource};
 use un_outside::status::Status;
 use un_outside::transfer::write_all;
-use un_outside::words::Word;
+use un_outside::words::words;
 use un_top::faults::write_line;
-
-/// Appends a word of a command line.
-fn push_word(alloc: Global, words: &mut Vec<Word>, text: &str) -> Result<(), NoMemory> {
-    let word = Word::new(alloc, text)?;
-    match words.push(word) {
-        Ok(()) => Ok(()),
-        Err(_) => Err(NoMemory),
-    }
-}
-
-/// The arguments without the program's own name.
-fn words(rt: &(impl Env + AllocGlobal)) -> Result<Vec<Word>, NoMemory> {
-    let Ok(texts) = env::args(rt) else {
-        return Err(NoMemory);
-    };
-    let mut words = Vec::new(rt.alloc());
-    for text in texts.skip(1) {
-        push_word(rt.alloc(), &mut words, text.as_str())?;
-    }
-    Ok(words)
-}
 
 fn main(rt: HostRuntime) -> ExitCode {
     let Ok(words) = words(&rt) else {

@@ -1,7 +1,7 @@
 //! Decimal numbers, lines, words and whole transfers over sources and sinks in memory.
 
-use crate::rows::{About, all_answered, number_at};
-use crate::scripts::put_scripted;
+use crate::rows::{About, all_answered, cut, number_at};
+use crate::scripts::{put_offered, put_scripted};
 use std::alloc::{AllocError, Global};
 use un_base::decimal::{read_decimal, write_decimal};
 use un_base::lines::lines;
@@ -46,7 +46,11 @@ static ROWS: &[u8] = b"# Texts, and the numbers that they write.\
 |310?adapters:3 1 0 /3 1 0 \
 |x2?adapters:x 2 /x 2 \
 |5xx0?adapters:5 x x 0 /5 x x 0 \
-|mn?adapters:5000 8192 /5000 8192 ";
+|mn?adapters:5000 16384 /5000 16384 \
+|# Texts, and whether `write_all` writes the whole over a writer that answers so many calls alone: one byte, and then all that is offered.\
+|cost 1?offered 1n:whole\
+|cost 1?offered n:whole\
+|cost 1?offered 11:failed";
 
 /// Appends the number that a text writes.
 fn put_decimal(alloc: Global, out: &mut Vec<u8>, text: &[u8]) -> Result<(), NoMemory> {
@@ -145,6 +149,7 @@ pub(crate) fn put_of_bytes(
         Some(b's') => put_sure(alloc, out, text),
         Some(b'w') => put_writing(alloc, out, text, question),
         Some(b'a') => put_scripted(out, text),
+        Some(b'o') => put_offered(out, text, cut(question, b' ').1),
         _ => put_text(out, b"?"),
     }
 }

@@ -12,7 +12,7 @@ use un_ir::text::{put_number, put_text};
 use un_isa::start::Start;
 use un_isa::table::hexagon;
 use un_listing::print::print_code;
-use un_listing_reader::line::{read_frame, read_line};
+use un_listing_reader::line::{Line, read_frame, read_line};
 use un_listing_reader::read::{ListingError, read_code};
 use un_packet::code::Code;
 use un_packet::run::run_packets;
@@ -45,7 +45,7 @@ cycles 2
 |-4?in frame:no\
 |0?in frame:yes\
 |4096?in frame:no\
-|# Lines that spell something in code with a frame of 8 bytes, and lines that spell nothing.\
+|# Lines that spell something in code with a frame of 8 bytes, and lines that spell nothing; those are broken that are packets by their form and break a rule.\
 |block e\n?line:yes\
 |block loop.2\n?line:yes\
 |{ nop }\n?line:yes\
@@ -72,20 +72,25 @@ cycles 2
 |block e?line:no\
 |block  e\n?line:no\
 |{ }\n?line:no\
-|{ nop; nop }\n?line:no\
-|{ nop; r0 = r1 }\n?line:no\
-|{ r0 = r1; r0 = r2 }\n?line:no\
+|{ nop; nop }\n?line:broken\
+|{ nop; r0 = r1 }\n?line:broken\
+|{ r0 = r1; r0 = r2 }\n?line:broken\
 |{ r0 = r1 ;r2 = r1 }\n?line:no\
 |{ r0 = #05 }\n?line:no\
 |{ r0 = #32768 }\n?line:no\
 |{ r32 = r0 }\n?line:no\
-|{ r29 = r0 }\n?line:no\
-|{ r29 = add(r29,#16) }\n?line:no\
+|{ r29 = r0 }\n?line:broken\
+|{ r29 = add(r29,#16) }\n?line:broken\
 |{ r0 = memw(r29+#-4) }\n?line:no\
-|{ call h(r1) }\n?line:no\
-|{ call h(); r0 = r1 }\n?line:no\
-|{ memw(r0+#0) = r1; memw(r0+#4) = r2 }\n?line:no\
-|{ r0 = r1; r2 = r1; r3 = r1; r4 = r1; r5 = r1 }\n?line:no\
+|{ call h(r1) }\n?line:broken\
+|{ call h(p0) }\n?line:no\
+|{ r29 = add(r29,#40000) }\n?line:no\
+|{ call h(); r0 = r1 }\n?line:broken\
+|{ call h(); r31 = r1 }\n?line:broken\
+|{ call h(); p3 = r1 }\n?line:broken\
+|{ call h(); r6 = r1 }\n?line:yes\
+|{ memw(r0+#0) = r1; memw(r0+#4) = r2 }\n?line:broken\
+|{ r0 = r1; r2 = r1; r3 = r1; r4 = r1; r5 = r1 }\n?line:broken\
 |# Lines, and the frames that they are read as.\
 |frame 0\n?frame:0\
 |frame 256\n?frame:256\
@@ -107,6 +112,12 @@ cycles 2
 |frame 0\nblock e\n{ jump f }\n?text:3\
 |frame 0\nblock e\n{ jump e }\n?text:0\
 |frame 0\nblock e\n{ jump e }\n{ nop }\n?text:3\
+|frame 0\nblock e\n{ jumpr r31 }\n{ jumpr r31 }\n?text:3\
+|frame 0\nblock e\n{ jumpr r31 }\n{ r0 = r1; r0 = r2 }\n?text:3\
+|frame 0\nblock e\n{ jumpr r31 }\n{ r29 = add(r29,#16) }\n?text:3\
+|frame 0\nblock e\n{ jumpr r31 }\n{ r0 = #32768 }\n?text:4\
+|frame 0\nblock e\n{ jumpr r31 }\n{ r0 = r1;r2 = r1 }\n?text:4\
+|frame 0\nblock e\n{ nop }\n{ r0 = r1; r0 = r2 }\n?text:4\
 |frame 0\nblock e\n{ jump e }\nnop\n?text:4\
 |frame 0\nblock e\n{ nop }\n?text:3\
 |frame 0\nblock e\n{ if (p0) jump e }\n?text:3\
@@ -114,6 +125,7 @@ cycles 2
 |frame 0\nblock e\n{ nop; r0 = r1 }\n{ jumpr r31 }\n?text:3\
 |frame 8\nblock e\n{ r29 = add(r29,#-8) }\n{ r29 = add(r29,#8); jumpr r31 }\n?text:0\
 |frame 0\nblock e\n{ r29 = add(r29,#-8) }\n{ jumpr r31 }\n?text:3\
+|frame 0\nblock e\n{ r29 = add(r29,#0); jumpr r31 }\n?text:3\
 |frame 0\nblock e\n{ r0 = r1; jumpr r31 }\n\n?text:4\
 |# Listings, and what comes out of their runs.
 |frame 8
@@ -229,10 +241,12 @@ pub(crate) fn put_truth(out: &mut Vec<u8>, is_so: bool) -> Result<(), NoMemory> 
     put_text(out, if is_so { b"yes" } else { b"no" })
 }
 
-/// Appends whether a line spells something.
+/// Appends whether a line spells something, or is a packet's by its form and breaks a rule.
 fn put_line(alloc: Global, out: &mut Vec<u8>, line: &[u8]) -> Result<(), NoMemory> {
-    let line = read_line(alloc, 8, line)?;
-    put_truth(out, line.is_some())
+    match read_line(alloc, 8, line)? {
+        Some(Line::Broken) => put_text(out, b"broken"),
+        line => put_truth(out, line.is_some()),
+    }
 }
 
 /// Appends the frame that a line is read as.

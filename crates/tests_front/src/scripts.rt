@@ -8,6 +8,7 @@ use un_base::memory_error::NoMemory;
 use un_ir::text::{put_number, put_text};
 use un_outside::files::{StdSink, StdSource};
 use un_outside::outside::{Sink, Source};
+use un_outside::transfer::write_all;
 
 /// A reader and a writer whose calls answer in turn: so many bytes where they fit, or an error.
 #[derive(Drop)]
@@ -17,7 +18,7 @@ struct Scripted<'a> {
 }
 
 impl Scripted<'_> {
-    /// What the next call answers, of at most `room` bytes: an error at `x`, 5000 at `m`, 8192 at `n`, else the digit. After the last
+    /// What the next call answers, of at most `room` bytes: an error at `x`, 5000 at `m`, 16384 at `n`, else the digit. After the last
     /// answer it is 0.
     fn next(&mut self, room: usize) -> io::Result<usize>
         ensures { IfOk result (λ n. n ≤ room) }
@@ -27,7 +28,7 @@ impl Scripted<'_> {
         match answer {
             Some(b'x') => Err(io::Error::from(ErrorKind::BrokenPipe)),
             Some(b'm') => Ok(room.min(5000)),
-            Some(b'n') => Ok(room.min(8192)),
+            Some(b'n') => Ok(room.min(16384)),
             Some(digit) => Ok(room.min(digit.saturating_sub(b'0') as usize)),
             None => Ok(0),
         }
@@ -61,7 +62,7 @@ fn put_count(out: &mut Vec<u8>, answer: Option<usize>) -> Result<(), NoMemory> {
 
 /// Appends what the calls of a source and of a sink over a script answer.
 pub(crate) fn put_scripted(out: &mut Vec<u8>, script: &[u8]) -> Result<(), NoMemory> {
-    let mut buf = [0u8; 8192];
+    let mut buf = [0u8; 16384];
     let mut source = StdSource::new(Scripted { script, at: 0 });
     for _ in script {
         put_count(out, source.read(&mut buf).ok())?;
@@ -72,4 +73,13 @@ pub(crate) fn put_scripted(out: &mut Vec<u8>, script: &[u8]) -> Result<(), NoMem
         put_count(out, sink.write(&buf).ok())?;
     }
     Ok(())
+}
+
+/// Appends whether `write_all` writes the whole of a text over a script, which answers so many calls alone.
+pub(crate) fn put_offered(out: &mut Vec<u8>, text: &[u8], script: &[u8]) -> Result<(), NoMemory> {
+    let mut sink = StdSink::new(Scripted { script, at: 0 });
+    match write_all(&mut sink, text) {
+        Ok(()) => put_text(out, b"whole"),
+        Err(_) => put_text(out, b"failed"),
+    }
 }

@@ -40,12 +40,12 @@ half_box b f v x AtMost full le ff s =
     let there : v.0 < length b = omega (arith, s.0, le.long) in
     let y = left_value x (set_at f v.0) (ff v.0 s.0) s.1 in
     kept_box (λ z. nat_le z x) b v there full (passes_some (λ z. nat_le z x) (set_at b v.0) y.0 (has_below f b v.0 y.0 le y.1)
-        (let h : y.0 ≤ x = y.2 in grind (arith, nat_tests)))
+    (let h : y.0 ≤ x = y.2 in grind (arith, nat_tests)))
 half_box b f v x Above full le ff s =
     let there : v.0 < length b = omega (arith, s.0, le.long) in
     let y = right_value x (set_at f v.0) s.2 in
     kept_box (λ z. nat_lt x z) b v there full (passes_some (λ z. nat_lt x z) (set_at b v.0) y.0 (has_below f b v.0 y.0 le y.1)
-        (let h : x < y.0 = y.2 in grind (arith, nat_tests)))
+    (let h : x < y.0 = y.2 in grind (arith, nat_tests)))
 
 -- what splits what is left splits the box
 pub splits_box : (b f : Sets) (v : VarId) (x : ℕ) → Below f b → NoneEmpty f → Splits f v x → Splits b v x

@@ -9,7 +9,6 @@ use Rattle.un_base.specs.declared.ids.VarId.{VarId}
 use Rattle.un_prop.specs.declared.side.Side.TheVariants.{AtMost, Above}
 use Rattle.un_tree.specs.declared.node.Node.{Node}
 use Rattle.un_branching.specs.declared.growth.Entry.{Entry}
-
 use Rattle.un_branching.specs.Growths.{entry_at, next_of, leaf_at, branch_at, branched, blank}
 
 -- the places of a list that got two more
@@ -47,8 +46,8 @@ module _ (es : List Entry) (k : ℕ) (v : VarId) (x : ℕ) (l r : Node) (there :
   pub new_old : (j : ℕ) → j < length es → j ≢ k → entry_at New j ≡ entry_at es j
   new_old j below apart =
       get_or-set_other ((es ++ R ∷ []) ++ L ∷ []) k j (branch_at es k v x) blank apart
-          ∙ (get_or_append_left (es ++ R ∷ []) (L ∷ []) blank j (omega (arith, below, long1))
-          ∙ get_or_append_left es (R ∷ []) blank j below)
+      ∙ (get_or_append_left (es ++ R ∷ []) (L ∷ []) blank j (omega (arith, below, long1))
+      ∙ get_or_append_left es (R ∷ []) blank j below)
 
   pub new_branch : entry_at New k ≡ branch_at es k v x
   new_branch = get_or-set_same ((es ++ R ∷ []) ++ L ∷ []) k (branch_at es k v x) blank (omega (arith, there, long2))
@@ -56,7 +55,7 @@ module _ (es : List Entry) (k : ℕ) (v : VarId) (x : ℕ) (l r : Node) (there :
   pub new_right : entry_at New (length es) ≡ R
   new_right =
       get_or-set_other ((es ++ R ∷ []) ++ L ∷ []) k (length es) (branch_at es k v x) blank (λ e. omega (arith, e, there))
-          ∙ (get_or_append_left (es ++ R ∷ []) (L ∷ []) blank (length es) (omega (arith, long1)) ∙ get_or_push es R blank (length es) refl)
+      ∙ (get_or_append_left (es ++ R ∷ []) (L ∷ []) blank (length es) (omega (arith, long1)) ∙ get_or_push es R blank (length es) refl)
 
   pub new_left : entry_at New (length es + 1) ≡ L
   new_left = get_or-set_other ((es ++ R ∷ []) ++ L ∷ []) k (length es + 1) (branch_at es k v x) blank (λ e. omega (arith, e, there))

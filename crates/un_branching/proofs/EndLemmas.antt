@@ -41,9 +41,11 @@ stays_listed : (es : List Entry) (box : ℕ → Sets) (i : ℕ) (xs : List ℕ) 
     → Listed (node_of es) (next_of es) box (length es) i xs ws → Stays es (length xs) i
 stays_listed es box i [] ws h = tt
 stays_listed es box i (x ∷ xs) [] h = absurd h
-stays_listed es box i (x ∷ xs) (Whole b ∷ ws) h = (omega (arith, h.0, h.1),
-    subst (Stays es (length xs)) (sym (ap (next_of es) h.0)) (stays_listed es box (next_of es x) xs (after (node_of es x) (Whole b) ws)
-        h.3))
+stays_listed es box i (x ∷ xs) (Whole b ∷ ws) h = (
+  omega (arith, h.0, h.1),
+  subst (Stays es (length xs)) (sym (ap (next_of es) h.0)) (stays_listed es box (next_of es x) xs (after (node_of es x) (Whole b) ws)
+      h.3),
+)
 
 module _ (root : Sets) (fix : Sets → Option Sets) (bound : Sets → ℕ → Type 0) where
   pub begin : (e : Entry) (heap : List Waits) (w : Waits) → NoneEmpty root → IsOpenBox fix root → e.node ≡ Open → bound root w.0.0
@@ -101,7 +103,7 @@ module _ (root : Sets) (fix : Sets → Option Sets) (bound : Sets → ℕ → Ty
     pub tree_closed : ((i : ℕ) → is_open (node_of es i) ≡ 0) → All (λ m. m ≢ Open) (listing es)
     tree_closed none = subst (All (λ m. m ≢ Open)) (sym in_order) (All-from_recursion (λ m. m ≢ Open) (map (node_of es) t.grown.order)
         (listed_nodes (node_of es) (next_of es) t.grown.box (length es) (λ m. m ≢ Open) (λ i lt e. (let h = ap is_open e in
-            let h' = none i in omega (arith, h, h'))) 0 t.grown.order (Whole root ∷ []) t.grown.listed))
+        let h' = none i in omega (arith, h, h'))) 0 t.grown.order (Whole root ∷ []) t.grown.listed))
 
     module _ (good : List ℕ → Type 0)
         (inside : (b f : Sets) → IsBox root b → fix b ≡ Some f → Below f b × NoneEmpty f)
@@ -150,15 +152,15 @@ module _ (root : Sets) (fix : Sets → Option Sets) (bound : Sets → ℕ → Ty
           → IsLowest bound (visits_of root (listing es)) low
       tree_lowest k low lt is own least =
           subst (λ (ns : List Node). IsLowest bound (visits_of root ns) low) (sym in_order) (
-            let at = listed_some (node_of es) (next_of es) t.grown.box (length es) k 0 0 t.grown.order (Whole root ∷ []) t.grown.listed
-            (omega (arith, t.grown.once k lt)) in
-            record {
-              below = all_nodes (λ p. HasAtLeast bound low p.node p.waiting)
-                  (λ i lt' place rest. at_least low (node_of es i) (t.grown.box i) (λ op n h. least i n lt' op h));
-              leaf = at.0;
-              there = at.1;
-              has = has_least low at.0.node (t.grown.box k) at.0.waiting (at.2 ∙ is) at.3 own;
-            }
+          let at = listed_some (node_of es) (next_of es) t.grown.box (length es) k 0 0 t.grown.order (Whole root ∷ []) t.grown.listed
+          (omega (arith, t.grown.once k lt)) in
+          record {
+            below = all_nodes (λ p. HasAtLeast bound low p.node p.waiting)
+                (λ i lt' place rest. at_least low (node_of es i) (t.grown.box i) (λ op n h. least i n lt' op h));
+            leaf = at.0;
+            there = at.1;
+            has = has_least low at.0.node (t.grown.box k) at.0.waiting (at.2 ∙ is) at.3 own;
+          }
           )
 
     pub fresh_closed : (length es ≡ 1 → node_of es 0 ≡ Open) → length es < 3 → ((i : ℕ) → is_open (node_of es i) ≡ 0) → ⊥
@@ -193,8 +195,15 @@ module _ (root : Sets) (fix : Sets → Option Sets) (bound : Sets → ℕ → Ty
         record {
           tree = subst (IsTree root fix bound good) e (tree_is es t.tree good inside keeps);
           some = subst (λ (ms : List Node). Contains ms Open) e (tree_open es t.tree k t.there here);
-          many = record { odd = (let h = t.tree.odd in rw long h); within = omega (arith, long, few); greatest = omega (arith, long,
-              most) };
+          many = record {
+            odd = (let h = t.tree.odd in rw long h);
+            within = omega (arith, long, few);
+            greatest = omega (
+              arith,
+              long,
+              most,
+            );
+          };
           lowest = subst (λ (ms : List Node). IsLowest bound (visits_of root ms) low) e
               (subst (IsLowest bound (visits_of root (listing es)))
               (sym own) (tree_lowest es t.tree good inside keeps k t.own t.there here t.is_own t.lowest));

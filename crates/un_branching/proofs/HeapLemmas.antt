@@ -60,8 +60,10 @@ module _ (fix : Sets → Option Sets) (bound : Sets → ℕ → Type 0) (good : 
     searched = h.0;
     leaf = tt;
     counted = λ j. omega (arith, sum_by_pushed (λ w. one j w.1) (record { 0 = l }, i) old new e.1);
-    each = λ Q all q. All-permutation Q ((record { 0 = l }, i) ∷ old) new e.1 (All-cons Q (record { 0 = l },
-        i) old (q (record { 0 = l }, i) refl h.1) all);
+    each = λ Q all q. All-permutation Q ((record { 0 = l }, i) ∷ old) new e.1 (All-cons Q (
+      record { 0 = l },
+      i,
+    ) old (q (record { 0 = l }, i) refl h.1) all);
   })
 
 module _ (root : Sets) (fix : Sets → Option Sets) (bound : Sets → ℕ → Type 0) where
@@ -92,7 +94,7 @@ module _ (root : Sets) (fix : Sets → Option Sets) (bound : Sets → ℕ → Ty
         is_own = at.1;
         lowest = λ j n below is least. (let inside = h.tree.inside j below in
             found es h.tree.grown.box e heap j n (λ m other. rises (h.tree.grown.box j) (h.tree.grown.box j) m n inside inside
-                (Below-refl (h.tree.grown.box j)) other least) up (recursion_from_All _ _ h.noted) (omega (arith, is, h.counted j)));
+            (Below-refl (h.tree.grown.box j)) other least) up (recursion_from_All _ _ h.noted) (omega (arith, is, h.counted j)));
       }
 
   pub taken_own : (rises : (b c : Sets) (n m : ℕ) → IsBox root b → IsBox root c → Below c b → bound b n → bound c m

@@ -102,11 +102,11 @@ module _ (node : ℕ → Node) (next : ℕ → ℕ) (box : ℕ → Sets) (n : �
       ap Whole (sym h.2 ∙ ap box (sym e)),
     )
     | inr apart ↦ (
-      let no = one_other k x apart in
-      let next_one = listed_some k (place + 1) (next x) xs (after (node x) (Whole b) ws) h.3 (omega (arith, some, no)) in
-      let at = next_one.1 in
-      (next_one.0, (suc at.0, omega (arith, at.1), at.2), next_one.2, next_one.3)
-    )
+        let no = one_other k x apart in
+        let next_one = listed_some k (place + 1) (next x) xs (after (node x) (Whole b) ws) h.3 (omega (arith, some, no)) in
+        let at = next_one.1 in
+        (next_one.0, (suc at.0, omega (arith, at.1), at.2), next_one.2, next_one.3)
+        )
   ]
 
   pub listed_nodes : (P : Node → Type 0) → ((i : ℕ) → i < n → P (node i)) → (i : ℕ) (xs : List ℕ) (ws : List Waiting)
@@ -123,7 +123,7 @@ module _ (node : ℕ → Node) (next : ℕ → ℕ) (box : ℕ → Sets) (n : �
     listed_same i (x ∷ xs) [] none h = h
     listed_same i (x ∷ xs) (Whole b ∷ ws) none h =
         let apart : x ≢ k = λ e. (let here : one k x ≡ 1 = subst (λ (y : ℕ). one k y ≡ 1) (sym e) (one_same k) in
-            omega (arith, here, none)) in
+        omega (arith, here, none)) in
         let at = same x h.1 apart in
         let rest : count k xs ≡ 0 = omega (arith, none) in (
           h.0,
@@ -131,13 +131,13 @@ module _ (node : ℕ → Node) (next : ℕ → ℕ) (box : ℕ → Sets) (n : �
           same_box x h.1 ∙ h.2,
           subst (λ (j : ℕ). Listed node' next' box' (n + 2) j xs (after (node' x) (Whole b) ws)) (sym at.1)
               (subst (λ (m : Node). Listed node' next' box' (n + 2) (next x) xs (after m (Whole b) ws)) (sym at.0)
-                  (listed_same (next x) xs (after (node x) (Whole b) ws) rest h.3)),
+              (listed_same (next x) xs (after (node x) (Whole b) ws) rest h.3)),
         )
 
     module _ (v : VarId) (x0 : ℕ) (was : node k ≡ Open) (is : node' k ≡ Branch v x0) (goes : next' k
         ≡ n + 1) (then_right : next' (n + 1) ≡ n) (back : next' n ≡ next k)
         (left : box' (n + 1) ≡ half (box k) v x0 AtMost) (right : box' n
-            ≡ half (box k) v x0 Above) (leaf : IsLeaf (node' n)) (leaf1 : IsLeaf (node' (n + 1))) where
+        ≡ half (box k) v x0 Above) (leaf : IsLeaf (node' n)) (leaf1 : IsLeaf (node' (n + 1))) where
       listed_here : (x : ℕ) (xs : List ℕ) (b : Sets) (ws : List Waiting) → k ≡ x → x < n → box x ≡ b → count k xs ≡ 0
           → Listed node next box n (next x) xs (after (node x) (Whole b) ws)
           → Listed node' next' box' (n + 2) x (x ∷ (n + 1) ∷ n ∷ xs) (Whole b ∷ ws)
@@ -145,7 +145,7 @@ module _ (node : ℕ → Node) (next : ℕ → ℕ) (box : ℕ → Sets) (n : �
           let D = λ (i : ℕ) (ys : List ℕ) (bs : List Waiting). Listed node' next' box' (n + 2) i ys bs in
           let bk : box k ≡ b = ap box e ∙ at in
           let rest : D (next x) xs ws = listed_same (next x) xs ws none (subst
-              (λ (m : Node). Listed node next box n (next x) xs (after m (Whole b) ws)) (sym (ap node e) ∙ was) h) in
+          (λ (m : Node). Listed node next box n (next x) xs (after m (Whole b) ws)) (sym (ap node e) ∙ was) h) in
           let third : D n (n ∷ xs) (Whole (half b v x0 Above) ∷ ws) = (
             refl,
             omega arith,
@@ -166,7 +166,7 @@ module _ (node : ℕ → Node) (next : ℕ → ℕ) (box : ℕ → Sets) (n : �
             same_box x below ∙ at,
             subst (λ (m : Node). D (next' x) ((n + 1) ∷ n ∷ xs) (after m (Whole b) ws)) (sym (sym (ap node' e)
                 ∙ is)) (subst (λ (j : ℕ). D j ((n + 1) ∷ n ∷ xs) (Whole (half b v x0 AtMost) ∷ Whole (half b v x0 Above) ∷ ws))
-                    (sym (sym (ap next' e) ∙ goes)) second),
+                (sym (sym (ap next' e) ∙ goes)) second),
           )
 
       pub listed_put : (i : ℕ) (xs : List ℕ) (ws : List Waiting) → count k xs ≡ 1 → Listed node next box n i xs ws
@@ -182,12 +182,12 @@ module _ (node : ℕ → Node) (next : ℕ → ℕ) (box : ℕ → Sets) (n : �
           by true e rec =
               let eq : k ≡ x = grind (arith, nat_tests) in
               let none : count k xs ≡ 0 = (let here : count k (x ∷ xs) ≡ 1 = once in let h1 : one k x
-                  ≡ 1 = subst (λ (y : ℕ). one k y ≡ 1) eq (one_same k) in omega (arith, here, h1)) in
+              ≡ 1 = subst (λ (y : ℕ). one k y ≡ 1) eq (one_same k) in omega (arith, here, h1)) in
               subst (λ (j : ℕ). Listed node' next' box' (n + 2) j (x ∷ (n + 1) ∷ n ∷ xs) (Whole b ∷ ws)) (sym h.0)
-                  (listed_here x xs b ws eq h.1 h.2 none h.3)
+              (listed_here x xs b ws eq h.1 h.2 none h.3)
           by false e rec =
               let apart : x ≢ k = λ eq. (let e' : nat_eq k x ≡ false = e in let e2 : nat_eq k x
-                  ≡ true = subst (λ (y : ℕ). nat_eq k y ≡ true) (sym eq) (grind (arith, nat_tests)) in cc (e', e2)) in
+              ≡ true = subst (λ (y : ℕ). nat_eq k y ≡ true) (sym eq) (grind (arith, nat_tests)) in cc (e', e2)) in
               let at = same x h.1 apart in
               let rest : count k xs ≡ 1 = later k x xs once e in (
                 h.0,
@@ -195,5 +195,5 @@ module _ (node : ℕ → Node) (next : ℕ → ℕ) (box : ℕ → Sets) (n : �
                 same_box x h.1 ∙ h.2,
                 subst (λ (j : ℕ). Listed node' next' box' (n + 2) j (put k (n + 1) n xs) (after (node' x) (Whole b) ws)) (sym at.1)
                     (subst (λ (m : Node). Listed node' next' box' (n + 2) (next x) (put k (n + 1) n xs) (after m (Whole b) ws))
-                        (sym at.0) (rec rest)),
+                    (sym at.0) (rec rest)),
               )

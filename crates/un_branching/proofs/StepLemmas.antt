@@ -137,7 +137,7 @@ module _ (root : Sets) (fix : Sets → Option Sets) (bound : Sets → ℕ → Ty
         → P l (to AtMost) → (j : ℕ) → j < n + 2 → P (node_of New j) (box' j)
     each P old at new new1 = cases (λ j. P (node_of New j) (box' j)) n k
         (λ j lt apart. at_same P (node_of es j) (node_of New j) (box j) (box' j) (node_old j lt apart)
-            (boxes_old box n (to AtMost) (to Above) j lt) (old j lt apart))
+        (boxes_old box n (to AtMost) (to Above) j lt) (old j lt apart))
         (at_same P (Branch v x) (node_of New k) (box k) (box' k) node_branch box_k at)
         (at_same P r (node_of New n) (to Above) (box' n) node_right (boxes_right box n (to AtMost) (to Above)) new)
         (at_same P l (node_of New (n + 1)) (to AtMost) (box' (n + 1)) node_left (boxes_left box n (to AtMost) (to Above)) new1)
@@ -148,7 +148,7 @@ module _ (root : Sets) (fix : Sets → Option Sets) (bound : Sets → ℕ → Ty
     up : (j : ℕ) → j < n + 2 → is_branch (node_of New j) ≡ 1 → (m : ℕ) → bound (box' j) m → m ≤ t.own
     up = each (λ m b. is_branch m ≡ 1 → (a : ℕ) → bound b a → a ≤ t.own)
         (λ j lt apart is a h. before_at bound (node_of es j) (box j) (node_of es k) (box k) (t.tree.best j k lt t.there) is was a t.own
-            h t.is_own)
+        h t.is_own)
         (λ is a h. (let i = t.tree.inside k t.there in rises (box k) (box k) a t.own i i (Below-refl (box k)) h t.is_own))
         (λ is a h. absurd (omega (arith, is, leaf_no_branch r right.leaf)))
         (λ is a h. absurd (omega (arith, is, leaf_no_branch l left.leaf)))
@@ -166,21 +166,25 @@ module _ (root : Sets) (fix : Sets → Option Sets) (bound : Sets → ℕ → Ty
     child' : (j : ℕ) → j < n + 2 → 0 < j → IsChild New box' j
     child' = cases (λ j. 0 < j
         → IsChild New box' j) n k (λ j lt apart some. same_child j lt some (entry_at New j)
-            (ap (λ (e : Entry). e.decision) (new_old es k v x l r t.there j lt apart))
-            (ap (λ (e : Entry). e.parent) (new_old es k v x l r t.there j lt apart)))
+        (ap (λ (e : Entry). e.decision) (new_old es k v x l r t.there j lt apart))
+        (ap (λ (e : Entry). e.parent) (new_old es k v x l r t.there j lt apart)))
         (λ some. same_child k t.there some (entry_at New k) (ap (λ (e : Entry). e.decision) (new_branch es k v x l r t.there))
-            (ap (λ (e : Entry). e.parent) (new_branch es k v x l r t.there)))
+        (ap (λ (e : Entry). e.parent) (new_branch es k v x l r t.there)))
         (λ some. new_child Above n (entry_at New n) (boxes_right box n (to AtMost) (to Above))
-            (ap (λ (e : Entry). decided e.decision (box' e.parent)) (new_right es k v x l r t.there)))
+        (ap (λ (e : Entry). decided e.decision (box' e.parent)) (new_right es k v x l r t.there)))
         (λ some. new_child AtMost (n + 1) (entry_at New (n + 1)) (boxes_left box n (to AtMost) (to Above))
-            (ap (λ (e : Entry). decided e.decision (box' e.parent)) (new_left es k v x l r t.there)))
+        (ap (λ (e : Entry). decided e.decision (box' e.parent)) (new_left es k v x l r t.there)))
       where
         same_child : (j : ℕ) → j < n → 0 < j → (e : Entry) → e.decision ≡ (entry_at es j).decision → e.parent ≡ (entry_at es j).parent
             → box' j ≡ decided e.decision (box' e.parent)
         same_child j lt some e d p =
             let up = t.tree.grown.parent j some lt in
-            rw (d, p, boxes_old box n (to AtMost) (to Above) j lt,
-                boxes_old box n (to AtMost) (to Above) (entry_at es j).parent (omega (arith, up, lt))) (t.tree.grown.kids j some lt)
+            rw (
+              d,
+              p,
+              boxes_old box n (to AtMost) (to Above) j lt,
+              boxes_old box n (to AtMost) (to Above) (entry_at es j).parent (omega (arith, up, lt)),
+            ) (t.tree.grown.kids j some lt)
 
         new_child : (side : Side) (j : ℕ) (e : Entry) → box' j ≡ to side → decided e.decision (box' e.parent) ≡ half (box' k) v x side
             → box' j ≡ decided e.decision (box' e.parent)
@@ -211,31 +215,38 @@ module _ (root : Sets) (fix : Sets → Option Sets) (bound : Sets → ℕ → Ty
     once_k = t.tree.grown.once k t.there
 
     fresh : (j : ℕ) → n ≤ j → count j t.tree.grown.order ≡ 0
-    fresh j far = listed_fresh (node_of es) (next_of es) box n j 0 t.tree.grown.order (Whole root ∷ []) (omega (arith,
-        far)) t.tree.grown.listed
+    fresh j far = listed_fresh (node_of es) (next_of es) box n j 0 t.tree.grown.order (Whole root ∷ []) (omega (
+      arith,
+      far,
+    )) t.tree.grown.listed
 
     once' : (j : ℕ) → j < n + 2 → count j (put k (n + 1) n t.tree.grown.order) ≡ 1
     once' = cases (λ j. count j (put k (n + 1) n t.tree.grown.order) ≡ 1) n k
         (λ j lt apart. old j lt)
         (old k t.there)
         (let h = count-put n k (n + 1) n t.tree.grown.order once_k in
-            omega (arith, h, fresh n (omega arith), one_same n, one_other n (n + 1) (λ e. omega (arith, e))))
+        omega (arith, h, fresh n (omega arith), one_same n, one_other n (n + 1) (λ e. omega (arith, e))))
         (let h = count-put (n + 1) k (n + 1) n t.tree.grown.order once_k in
-            omega (arith, h, fresh (n + 1) (omega arith), one_same (n + 1), one_other (n + 1) n (λ e. omega (arith, e))))
+        omega (arith, h, fresh (n + 1) (omega arith), one_same (n + 1), one_other (n + 1) n (λ e. omega (arith, e))))
       where
         old : (j : ℕ) → j < n → count j (put k (n + 1) n t.tree.grown.order) ≡ 1
         old j lt = let h = count-put j k (n + 1) n t.tree.grown.order once_k in
-            omega (arith, h, t.tree.grown.once j lt, one_other j n (λ e. omega (arith, e, lt)),
-            one_other j (n + 1) (λ e. omega (arith, e, lt)))
+            omega (
+              arith,
+              h,
+              t.tree.grown.once j lt,
+              one_other j n (λ e. omega (arith, e, lt)),
+              one_other j (n + 1) (λ e. omega (arith, e, lt)),
+            )
 
     listed' : Listed (node_of New) (next_of New) box' (n + 2) 0 (put k (n + 1) n t.tree.grown.order) (Whole root ∷ [])
     listed' = listed_put (node_of es) (next_of es) box n (node_of New) (next_of New) box' k
         (λ j lt apart. (node_old j lt apart, ap (λ (e : Entry). e.next) (new_old es k v x l r t.there j lt apart)))
         (λ j lt. boxes_old box n (to AtMost) (to Above) j lt)
         v x was node_branch (ap (λ (e : Entry). e.next) (new_branch es k v x l r t.there))
-            (ap (λ (e : Entry). e.next) (new_left es k v x l r t.there)) (ap (λ (e : Entry). e.next) (new_right es k v x l r t.there))
+        (ap (λ (e : Entry). e.next) (new_left es k v x l r t.there)) (ap (λ (e : Entry). e.next) (new_right es k v x l r t.there))
         (boxes_left box n (to AtMost) (to Above)) (boxes_right box n (to AtMost) (to Above)) (subst IsLeaf (sym node_right) right.leaf)
-            (subst IsLeaf (sym node_left) left.leaf)
+        (subst IsLeaf (sym node_left) left.leaf)
         0 t.tree.grown.order (Whole root ∷ []) once_k t.tree.grown.listed
 
     below' : (j : ℕ) → j < length New → j < n + 2
@@ -265,36 +276,72 @@ module _ (root : Sets) (fix : Sets → Option Sets) (bound : Sets → ℕ → Ty
 
     counted_within : (j : ℕ) → j < n + 2 → times j heap2 ≡ is_open (node_of New j)
     counted_within = cases (λ j. times j heap2 ≡ is_open (node_of New j)) n k
-        (λ j lt apart. (let h : times j heap2 ≡ is_open (node_of es j) = omega (arith, total j, t.counted j, one_other j k apart,
-            adds_other j n r (λ e. omega (arith, e, lt)), adds_other j (n + 1) l (λ e. omega (arith, e, lt))) in h
-            ∙ ap is_open (sym (node_old j lt apart))))
-        (let h : times k heap2 ≡ 0 = omega (arith, total k, t.counted k, ap is_open was, one_same k,
-            adds_other k n r (λ e. omega (arith, e, t.there)), adds_other k (n + 1) l (λ e. omega (arith, e, t.there))) in h
-            ∙ ap is_open (sym node_branch))
-        (let h : times n heap2 ≡ is_open r = omega (arith, total n, past n (omega arith), adds_self n r,
-            adds_other n (n + 1) l (λ e. omega (arith, e))) in h ∙ ap is_open (sym node_right))
-        (let h : times (n + 1) heap2 ≡ is_open l = omega (arith, total (n + 1), past (n + 1) (omega arith), adds_self (n + 1) l,
-            adds_other (n + 1) n r (λ e. omega (arith, e))) in h ∙ ap is_open (sym node_left))
+        (λ j lt apart. (let h : times j heap2 ≡ is_open (node_of es j) = omega (
+          arith,
+          total j,
+          t.counted j,
+          one_other j k apart,
+          adds_other j n r (λ e. omega (arith, e, lt)),
+          adds_other j (n + 1) l (λ e. omega (arith, e, lt)),
+        ) in h
+        ∙ ap is_open (sym (node_old j lt apart))))
+        (let h : times k heap2 ≡ 0 = omega (
+          arith,
+          total k,
+          t.counted k,
+          ap is_open was,
+          one_same k,
+          adds_other k n r (λ e. omega (arith, e, t.there)),
+          adds_other k (n + 1) l (λ e. omega (arith, e, t.there)),
+        ) in h
+        ∙ ap is_open (sym node_branch))
+        (let h : times n heap2 ≡ is_open r = omega (
+          arith,
+          total n,
+          past n (omega arith),
+          adds_self n r,
+          adds_other n (n + 1) l (λ e. omega (arith, e)),
+        ) in h ∙ ap is_open (sym node_right))
+        (let h : times (n + 1) heap2 ≡ is_open l = omega (
+          arith,
+          total (n + 1),
+          past (n + 1) (omega arith),
+          adds_self (n + 1) l,
+          adds_other (n + 1) n r (λ e. omega (arith, e)),
+        ) in h ∙ ap is_open (sym node_left))
 
     counted' : (j : ℕ) → times j heap2 ≡ is_open (node_of New j)
     counted' j = elim (cases_lt j (n + 2)) [
       | inl lt ↦ counted_within j lt
-      | inr far ↦ (let h : times j heap2 ≡ 0 = omega (arith, total j, past j (omega (arith, far)),
-          adds_other j n r (λ e. omega (arith, e, far)), adds_other j (n + 1) l (λ e. omega (arith, e, far))) in h
+      | inr far ↦ (let h : times j heap2 ≡ 0 = omega (
+        arith,
+        total j,
+        past j (omega (arith, far)),
+        adds_other j n r (λ e. omega (arith, e, far)),
+        adds_other j (n + 1) l (λ e. omega (arith, e, far)),
+      ) in h
           ∙ ap (λ (e : Entry). is_open e.node) (sym (new_past es k v x l r t.there j far)))
     ]
 
     noted' : All (Noted root fix bound New box') heap2
     noted' = left.each (Noted root fix bound New box') (right.each (Noted root fix bound New box')
         (λ i d lt. old (get_or heap i d) (t.noted i d lt))
-        (λ e at is. (omega (arith, at, long'), subst (λ (c : Sets). bound c e.0.0) (sym (ap box' at
-            ∙ boxes_right box n (to AtMost) (to Above))) is)))
-        (λ e at is. (omega (arith, at, long'), subst (λ (c : Sets). bound c e.0.0) (sym (ap box' at
-            ∙ boxes_left box n (to AtMost) (to Above))) is))
+        (λ e at is. (
+          omega (arith, at, long'),
+          subst (λ (c : Sets). bound c e.0.0) (sym (ap box' at
+              ∙ boxes_right box n (to AtMost) (to Above))) is,
+        )))
+        (λ e at is. (
+          omega (arith, at, long'),
+          subst (λ (c : Sets). bound c e.0.0) (sym (ap box' at
+              ∙ boxes_left box n (to AtMost) (to Above))) is,
+        ))
       where
         old : (e : Waits) → Noted root fix bound es box e → Noted root fix bound New box' e
-        old e h = (omega (arith, h.0, long'),
-            subst (λ (c : Sets). bound c e.0.0) (sym (boxes_old box n (to AtMost) (to Above) e.1 h.0)) h.1)
+        old e h = (
+          omega (arith, h.0, long'),
+          subst (λ (c : Sets). bound c e.0.0) (sym (boxes_old box n (to AtMost) (to Above) e.1 h.0)) h.1,
+        )
 
     -- **the search goes on**
     pub went : Searching root fix bound New heap2
@@ -317,19 +364,22 @@ module _ (root : Sets) (fix : Sets → Option Sets) (bound : Sets → ℕ
     → Type 0) (es : List Entry) (heap : List Waits) (k : ℕ) (t : Taken root fix bound es heap k) where
   pub taken_path : (ts : List Entry) (ds ps : List Decision) → ts ≡ es → ps ≡ ds
       → ((r : Sets) (box : ℕ → Sets) → box 0 ≡ r → ((i : ℕ) → 0 < i → i < length ts → IsChild ts box i) → reached r ds ≡ box k)
-          → reached root ps ≡ t.tree.grown.box k
+      → reached root ps ≡ t.tree.grown.box k
   taken_path ts ds ps e p h = ap (reached root) p ∙ h root t.tree.grown.box t.tree.grown.first (subst (λ (us : List Entry). (i : ℕ)
       → 0 < i → i < length us → IsChild us t.tree.grown.box i) (sym e) t.tree.grown.kids)
 
   pub taken_open : IsOpenBox fix (t.tree.grown.box k)
-  taken_open = subst (λ (m : Node). IsSearchedAt fix m (t.tree.grown.box k)) (open_is (node_of es k) (omega (arith, t.counted k,
-      one_same k))) (t.tree.searched k t.there)
+  taken_open = subst (λ (m : Node). IsSearchedAt fix m (t.tree.grown.box k)) (open_is (node_of es k) (omega (
+    arith,
+    t.counted k,
+    one_same k,
+  ))) (t.tree.searched k t.there)
 
   pub step_goes : (good : List ℕ → Type 0)
       → ((b f : Sets) → IsBox root b → fix b ≡ Some f → Below f b × NoneEmpty f)
       → ((b c : Sets) (n m : ℕ) → IsBox root b → IsBox root c → Below c b → bound b n → bound c m → n ≤ m)
       → (heap1 heap2 : List Waits) (b : Sets) (e : Expansion) (v : VarId) (x : ℕ) (left right : Look) (l r : Node) (el er : Entered)
-          (es' : List Entry) (n : ℕ)
+      (es' : List Entry) (n : ℕ)
       → b ≡ t.tree.grown.box k → IsExpansion fix bound good b e → v ≡ e.var → x ≡ e.val → left ≡ e.left → right ≡ e.right → n ≡ length es
       → er ≡ Leaf r → Enters right n heap heap1 er → el ≡ Leaf l → Enters left (n + 1) heap1 heap2 el → es' ≡ branched es k v x l r
       → Searching root fix bound es' heap2 × (length es' ≡ length es + 2)
@@ -340,12 +390,14 @@ module _ (root : Sets) (fix : Sets → Option Sets) (bound : Sets → ℕ
       let on_right : IsLook fix bound good (half (box k) v x Above) right = rw (ve, xe, re) sides.right in
       let on_left : IsLook fix bound good (half (box k) v x AtMost) left = rw (ve, xe, le) sides.left in
       let added : Adds fix bound good (length es) (half (box k) v x Above) heap heap1 r = adds_from fix bound good (length es)
-          (half (box k) v x Above) right heap heap1 r on_right (subst (λ (o : Entered). Enters right (length es) heap heap1 o) erl
-          (subst (λ (i : ℕ). Enters right i heap heap1 er) ne er_in)) in
+      (half (box k) v x Above) right heap heap1 r on_right (subst (λ (o : Entered). Enters right (length es) heap heap1 o) erl
+      (subst (λ (i : ℕ). Enters right i heap heap1 er) ne er_in)) in
       let added1 : Adds fix bound good (length es + 1) (half (box k) v x AtMost) heap1 heap2 l = adds_from fix bound good
-          (length es + 1) (half (box k) v x AtMost) left heap1 heap2 l on_left
-          (subst (λ (o : Entered). Enters left (length es + 1) heap1 heap2 o) ell
-          (subst (λ (i : ℕ). Enters left (i + 1) heap1 heap2 el) ne el_in)) in
-      (subst (λ (us : List Entry). Searching root fix bound us heap2) (sym new)
-          (went root fix bound good inside rises es heap heap1 heap2 k t v x l r splits added added1), ap length new ∙ new_long es k v
-          x l r t.there)
+      (length es + 1) (half (box k) v x AtMost) left heap1 heap2 l on_left
+      (subst (λ (o : Entered). Enters left (length es + 1) heap1 heap2 o) ell
+      (subst (λ (i : ℕ). Enters left (i + 1) heap1 heap2 el) ne el_in)) in (
+        subst (λ (us : List Entry). Searching root fix bound us heap2) (sym new)
+            (went root fix bound good inside rises es heap heap1 heap2 k t v x l r splits added added1),
+        ap length new ∙ new_long es k v
+            x l r t.there,
+      )

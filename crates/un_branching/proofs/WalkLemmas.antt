@@ -41,14 +41,14 @@ leads_more tree place at ds es d some child h e = rw (get_or_default tree at d b
   there = let up = child at some h.there in omega (arith, up, h.there);
   known = λ n all.
       let e' : es ≡ ds ++ (entry_at tree at).decision ∷ [] = subst (λ (n : Entry). es
-          ≡ ds ++ n.decision ∷ []) (get_or_default tree at d blank h.there) e in
+      ≡ ds ++ n.decision ∷ []) (get_or_default tree at d blank h.there) e in
       subst (All (λ (w : Decision). w.var.0 < n)) (sym e') (All-push (λ (w : Decision). w.var.0 < n) ds (entry_at tree at).decision
-          (h.known n all) (all at some h.there));
+      (h.known n all) (all at some h.there));
   leads = λ box kids.
       let e' : es ≡ ds ++ (entry_at tree at).decision ∷ [] = subst (λ (n : Entry). es
-          ≡ ds ++ n.decision ∷ []) (get_or_default tree at d blank h.there) e in
+      ≡ ds ++ n.decision ∷ []) (get_or_default tree at d blank h.there) e in
       ap (back (box (entry_at tree at).parent)) e' ∙ (back-push (box (entry_at tree at).parent) ds (entry_at tree at).decision
-          ∙ (ap (λ (b : Sets). back b ds) (sym (kids at some h.there)) ∙ h.leads box kids));
+      ∙ (ap (λ (b : Sets). back b ds) (sym (kids at some h.there)) ∙ h.leads box kids));
 })
 
 pub leads_all : (tree : List Entry) (place at : ℕ) (ds ps : List Decision) → at ≡ 0 → Leads tree place at ds → ps ≡ reverse ds

@@ -48,8 +48,12 @@ abbrev pub leaf_at : List Entry → ℕ → VarId → ℕ → Node → Side → 
 leaf_at es k v x n side next = record { node = n; next = next; parent = k; decision = record { var = v; val = x; side = side } }
 
 abbrev pub branch_at : List Entry → ℕ → VarId → ℕ → Entry
-branch_at es k v x = record { node = Branch v x; next = length es + 1; parent = (entry_at es k).parent; decision =
-    (entry_at es k).decision }
+branch_at es k v x = record {
+  node = Branch v x;
+  next = length es + 1;
+  parent = (entry_at es k).parent;
+  decision = (entry_at es k).decision;
+}
 
 -- a branch and its leaves in the place of a leaf
 abbrev pub branched : List Entry → ℕ → VarId → ℕ → Node → Node → List Entry

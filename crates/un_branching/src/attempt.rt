@@ -67,7 +67,7 @@ fn step<P: Problem>(
     ensures ordered { IfOk result (λ r. IsHeap order (heap_items heap.new)) }
     ensures went { IfOk result (λ r. MatchOption r
         (Searching (P.root problem.now) (P.fix problem.now) (P.least problem.now) tree.new.items (heap_items heap.new)
-            × (length tree.new.items ≡ length tree.old.items + 2))
+        × (length tree.new.items ≡ length tree.old.items + 2))
         (λ x. P.is_good problem.now x.items)) }
 {
     let path = path_to(alloc, tree.as_slice(), place)?;
@@ -91,10 +91,7 @@ fn step<P: Problem>(
 }
 
 /// The first box waits.
-fn first_waits(
-    alloc: Global,
-    least: u64,
-) -> Result<BinaryHeap<(Reverse<u64>, usize)>, AllocError>
+fn first_waits(alloc: Global, least: u64) -> Result<BinaryHeap<(Reverse<u64>, usize)>, AllocError>
     ensures waits { IfOk result (λ heap. IsPermutation (first_wait least ∷ []) (heap_items heap)) }
     ensures ordered { IfOk result (λ heap. IsHeap order (heap_items heap)) }
 {

@@ -1,11 +1,12 @@
 -- The emitted code of a solution keeps the rules of code, which the type `Code` asks of its parts. What emits it needs this alone:
 --   keeps_rules : (e : Ext) (o : Options) (values : List ℕ) → Solved e o values
 --       → KeepsRules (frame_of (model_of e o) values) (code_blocks (model_of e o) values)
-use Rattle.std.proofs.Common.{ℕ, ◌≡◌, ◌≢◌, ◌<◌, ◌≤◌, ◌+◌, ◌-◌, List, [], ◌∷◌, length, map, refl, sym, ap, ◌∙◌, subst, arith, All}
+use Rattle.std.proofs.Common.{ℕ, ◌≡◌, ◌≢◌, ◌<◌, ◌≤◌, ◌+◌, ◌-◌, true, List, [], ◌∷◌, length, map, refl, sym, ap, ◌∙◌, subst, arith, All}
 use Rattle.std.proofs.Common.{AllPairs, Contains}
 use Rattle.std.specs.Prelude.{Some, slice_get, IsSomeAnd}
 use Rattle.std.specs.List.{range_with_len}
 use Rattle.std.specs.Option.{option_map}
+use Rattle.un_base.specs.Names.{is_name}
 use Rattle.un_ir.specs.declared.extended.ExtBlock.{ExtBlock}
 use Rattle.un_ir.specs.declared.extended.Ext.{Ext}
 use Rattle.un_model.specs.declared.model.Options.{Options}
@@ -30,12 +31,15 @@ use Rattle.un_model.proofs.Readings.{Solved, good}
 use Rattle.un_emit.proofs.RulesCounts.{few_packets}
 use Rattle.un_emit.proofs.RulesEnds.{packets, jobs, the_end, timed, AllLead, LastLeaves, transfers_last, targets, ends_by_leaving}
 use Rattle.un_emit.proofs.RulesFrame.{small}
-use Rattle.un_emit.proofs.RulesInstrs.{good_instr}
+use Rattle.un_emit.proofs.RulesInstrs.{good_instr, named_blocks}
 use Rattle.un_emit.proofs.RulesLists.{all_each, all_pairwise, all_places, contains_at, some_and, range_below}
 use Rattle.un_emit.proofs.RulesRoom.{fit_packet, idle_alone}
 use Rattle.un_emit.proofs.RulesWriters.{one_writer}
 use Rattle.un_emit.proofs.Runs.{region}
 use Rattle.un_emit.proofs.Timed.{Job, instrs, nop, jobs_at, or_rest, packet_jobs, together}
+
+abbrev label_of : ExtBlock → List ℕ
+label_of block = block.label
 
 good_nop : (frame : ℕ) → IsGoodInstr frame nop
 good_nop frame = record { reads = refl; writes = refl; stack = λ z. absurd (cc z); base = tt; literal = refl; label = refl }
@@ -73,6 +77,17 @@ module _ (e : Ext) (o : Options) (values : List ℕ) (h : Solved e o values) whe
       let own = pairwise_all (λ (a b : ExtBlock). a.label ≢ b.label) e.blocks g.distinct_labels in
       let pairs = subst (Pairwise Differ) (sym labels_are) (pairwise_map Differ (λ (b : ExtBlock). b.label) e.blocks own) in
       all_pairwise (λ (a b : CodeBlock). a.label ≢ b.label) blocks (pairwise_of_map Differ (λ (c : CodeBlock). c.label) blocks pairs)
+
+  named_at : (k : ℕ) (c : CodeBlock) → slice_get blocks k ≡ Some c → is_name c.label ≡ true
+  named_at k c q =
+      let n = block_number e o values in
+      let lt = length_get blocks k c q in
+      let b = get_below e.blocks k (omega (arith, n, lt)) in
+      let own : Some c.label ≡ Some (label_of b.0) =
+      sym (slice_get-map (λ (x : CodeBlock). x.label) blocks k ∙ ap (option_map (λ (x : CodeBlock). x.label)) q)
+      ∙ ap (λ ls. slice_get ls k) labels_are ∙ slice_get-map label_of e.blocks k ∙ ap (option_map label_of) b.1 in
+      let same : c.label ≡ label_of b.0 = cc own in
+      rw same (named_blocks e o values h k b.0 b.1)
 
   -- ---- blocks
 
@@ -160,6 +175,7 @@ module _ (e : Ext) (o : Options) (values : List ℕ) (h : Solved e o values) whe
         some = omega (arith, n, entry);
         few_blocks = omega (arith, n, few);
         few_packets = few_packets e o values h;
+        named = all_places (λ (b : CodeBlock). is_name b.label ≡ true) blocks named_at;
         distinct_labels = distinct;
         good_blocks = all_places (IsGoodCodeBlock frame labels) blocks good_at;
         last = last_at;

@@ -24,8 +24,10 @@ use Rattle.un_ir.specs.declared.extended.NodeCopy.{NodeCopy}
 use Rattle.un_ir.specs.declared.extended.ExtKind.{ExtKind}
 use Rattle.un_ir.specs.declared.extended.ExtKind.TheVariants.{In, Out, Body, End, Copy, Enter, Leave}
 use Rattle.un_ir.specs.declared.extended.Operand.{Operand}
+use Rattle.un_ir.specs.declared.extended.ExtBlock.{ExtBlock}
 use Rattle.un_ir.specs.declared.extended.Ext.{Ext}
 use Rattle.un_ir.specs.Extended.{Want, word_in, wants_of, wants_of_op, result_count, IsGoodOperand, IsGoodKind, IsSourceOp, HasItsResult}
+use Rattle.un_ir.specs.Extended.{IsGoodExtBlock}
 use Rattle.un_ir.specs.WellFormed.{NamesItsCallee, result_kind}
 use Rattle.un_model.specs.declared.model.Options.{Options}
 use Rattle.un_model.specs.declared.schedule.LiveRange.{LiveRange}
@@ -39,6 +41,7 @@ use Rattle.un_model.specs.Schedules.{choice_of, instr_of, value_by}
 use Rattle.un_model.specs.Solutions.{HasFrame, HasHome}
 use Rattle.un_model.specs.Variables.{model_of}
 use Rattle.un_packet.specs.CodeRules.{IsGoodInstr, number}
+use Rattle.un_packet.proofs.Rules.{at_all}
 use Rattle.un_emit.proofs.BlockEdges.{ends_by}
 use Rattle.un_emit.proofs.BlockJobs.{IsJob, active_of, some_active}
 use Rattle.un_emit.proofs.JobDeeds.{TextClass, text_class, alu, load as loading, store as storing, call as calling, space_for, result_in}
@@ -52,7 +55,7 @@ use Rattle.un_emit.proofs.RulesFrame.{IsLow, low}
 use Rattle.un_emit.proofs.RulesLists.{zip_length}
 use Rattle.un_emit.proofs.RulesOps.{spaces_of, space_at, told_apart, space_listed, reads_plain, writes_plain, base_of, offset_fits}
 use Rattle.un_emit.proofs.RulesOps.{minus_is, source_count, source_gives, source_number, source_label, IsCopyOp, mov, spill, reload, p2r}
-use Rattle.un_emit.proofs.RulesOps.{r2p, copy_is, LeadsIn, end_facts, only_end}
+use Rattle.un_emit.proofs.RulesOps.{r2p, copy_is, AreNamed, LeadsIn, end_facts, only_end}
 use Rattle.un_model.proofs.PlacedSchedules.{all, the_ranges, range_at, range_here, each_issue, member_joined, member_places}
 use Rattle.un_emit.proofs.Timed.{Job}
 
@@ -97,6 +100,11 @@ meant_low (Some r) f = f.1
 module _ (e : Ext) (o : Options) (values : List ℕ) (h : Solved e o values) where
   abbrev frame : ℕ
   frame = frame_of (model_of e o) values
+
+  pub named_blocks : AreNamed e.blocks
+  named_blocks k block q =
+      let g = good e o values h in
+      let b = at_all (IsGoodExtBlock e.table e.names e.blocks) e.blocks k block g.each q in b.label
 
   module _ (p : Placed) (m : Member p (all e o values)) where
     abbrev srcs : List Reg
@@ -341,7 +349,7 @@ module _ (e : Ext) (o : Options) (values : List ℕ) (h : Solved e o values) whe
           stack = λ z. absurd (cc z);
           base = base_of op srcs (srcs_safe act);
           literal = f.literal;
-          label = f.label (end_leads term k);
+          label = f.label named_blocks (end_leads term k);
         }
 
     -- ---- a copy

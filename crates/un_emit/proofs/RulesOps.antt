@@ -23,10 +23,10 @@ use Rattle.un_ir.specs.declared.extended.ExtBlock.{ExtBlock}
 use Rattle.un_ir.specs.Extended.{wants_of_op, wants_of_end, is_end}
 use Rattle.un_ir.specs.Linear.{Ending, ending_of}
 use Rattle.un_ir.specs.Live.{targets_of}
-use Rattle.un_ir.specs.WellFormed.{NamesItsCallee}
+use Rattle.un_ir.specs.WellFormed.{IsName, NamesItsCallee}
 use Rattle.un_model.specs.Emission.{slot_offset, label_at, label_of}
 use Rattle.un_model.specs.Instructions.{transfer_of, copy_of, operand_space_in, result_space_in}
-use Rattle.un_packet.specs.CodeRules.{ReadsItsSpaces, WritesItsSpace, HasItsNumber, HasItsLabel, HasItsBase, IsThere, minus}
+use Rattle.un_packet.specs.CodeRules.{ReadsItsSpaces, WritesItsSpace, HasItsNumber, HasItsLabel, HasItsBase, IsSomeName, minus}
 use Rattle.un_emit.proofs.BlockEdges.{EndsBy, falls, ends}
 use Rattle.un_model.proofs.Lists.{Each, Member, each_member, get_below}
 use Rattle.un_emit.proofs.RulesFrame.{IsLow}
@@ -94,7 +94,7 @@ source_number frame _ n s h = h
 
 pub source_label : (op : Op) (callee : Option (List ℕ)) → is_source op ≡ true → NamesItsCallee op callee → HasItsLabel op callee
 source_label Call None s h = absurd h
-source_label Call (Some name) s h = tt
+source_label Call (Some name) s h = h
 source_label JumpOp callee s h = absurd (cc s)
 source_label JumpIf callee s h = absurd (cc s)
 source_label JumpIfNot callee s h = absurd (cc s)
@@ -142,8 +142,12 @@ there blocks to lt =
     let r = get_below blocks to.0 lt in
     (r.0, r.1, ap (λ (b : Option ExtBlock). option_map (λ (block : ExtBlock). block.label) b) r.1)
 
-label_there : (blocks : List ExtBlock) (to : BlockId) → to.0 < length blocks → IsThere (label_at blocks to)
-label_there blocks to lt = let r = there blocks to lt in subst IsThere (sym r.2) tt
+-- the labels of blocks are names
+abbrev pub AreNamed : List ExtBlock → Type 0
+AreNamed blocks = (k : ℕ) (block : ExtBlock) → slice_get blocks k ≡ Some block → IsName block.label
+
+label_there : (blocks : List ExtBlock) (to : BlockId) → AreNamed blocks → to.0 < length blocks → IsSomeName (label_at blocks to)
+label_there blocks to named lt = let r = there blocks to lt in subst IsSomeName (sym r.2) (named to.0 r.0 r.1)
 
 -- a terminator of block b leads to blocks other than the entry
 abbrev pub LeadsIn : List ExtBlock → ℕ → Term → Type 0
@@ -155,7 +159,7 @@ pub record EndFacts (frame : ℕ) (blocks : List ExtBlock) (b : ℕ) (term : Ter
   pub plain : op ≡ Call → ⊥
   pub result : result_space op ≡ None
   pub literal : HasItsNumber frame op (pos 0)
-  pub label : LeadsIn blocks b term → HasItsLabel op (label_of blocks term)
+  pub label : AreNamed blocks → LeadsIn blocks b term → HasItsLabel op (label_of blocks term)
 
 pub end_facts : (frame : ℕ) (blocks : List ExtBlock) (b : ℕ) (term : Term) (op : Op) → transfer_of term ≡ Some op
     → EndFacts frame blocks b term op
@@ -165,28 +169,28 @@ end_facts frame blocks b (Jump to) op q = let k : JumpOp ≡ op = cc q in subst 
   plain = λ z. absurd (cc z);
   result = refl;
   literal = refl;
-  label = λ l. label_there blocks to (l 0 0 (omega arith)).1;
+  label = λ named l. label_there blocks to named (l 0 0 (omega arith)).1;
 })
 end_facts frame blocks b (Branch pred true to) op q = let k : JumpIf ≡ op = cc q in subst (EndFacts frame blocks b _) k (record {
   count = refl;
   plain = λ z. absurd (cc z);
   result = refl;
   literal = refl;
-  label = λ l. label_there blocks to (l 1 0 (omega arith)).1;
+  label = λ named l. label_there blocks to named (l 1 0 (omega arith)).1;
 })
 end_facts frame blocks b (Branch pred false to) op q = let k : JumpIfNot ≡ op = cc q in subst (EndFacts frame blocks b _) k (record {
   count = refl;
   plain = λ z. absurd (cc z);
   result = refl;
   literal = refl;
-  label = λ l. label_there blocks to (l 1 0 (omega arith)).1;
+  label = λ named l. label_there blocks to named (l 1 0 (omega arith)).1;
 })
 end_facts frame blocks b (Ret value) op q = let k : Jumpr ≡ op = cc q in subst (EndFacts frame blocks b _) k (record {
   count = refl;
   plain = λ z. absurd (cc z);
   result = refl;
   literal = refl;
-  label = λ l. refl;
+  label = λ named l. refl;
 })
 
 -- an End of a block is how the block ends

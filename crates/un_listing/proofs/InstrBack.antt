@@ -8,6 +8,7 @@ use Rattle.un_isa.specs.declared.op.Op.{Op}
 use Rattle.un_isa.specs.declared.op.Op.TheVariants.{Imm, Mov, Add, Sub, And, Or, Xor, Addi, Andi, Ori, Mux, CmpEq, CmpGt, CmpGtu, CmpEqi}
 use Rattle.un_isa.specs.declared.op.Op.TheVariants.{CmpGti, Mpyi, Asl, Asr, Lsr, Load, Store, Call, Jump, JumpIf, JumpIfNot, Jumpr, Spill}
 use Rattle.un_isa.specs.declared.op.Op.TheVariants.{Reload, P2R, R2P, Enter, Leave, Nop}
+use Rattle.un_isa.specs.declared.reg.TheConstants.{FRAME}
 use Rattle.un_isa.specs.declared.reg.Space.{Space}
 use Rattle.un_isa.specs.declared.reg.Space.TheVariants.{R, P, M}
 use Rattle.un_isa.specs.declared.reg.Reg.{Reg}
@@ -30,7 +31,7 @@ use Rattle.un_isa.specs.declared.facts.Range.{Range}
 use Rattle.un_isa.specs.declared.facts.Range.TheVariants.{Signed16, Signed10, Unsigned5, Offset, FrameOffset}
 use Rattle.un_isa.specs.Operands.{InRange}
 use Rattle.un_listing.specs.Listing.{text_in}
-use Rattle.un_packet.specs.CodeRules.{number, HasItsBase, IsThere}
+use Rattle.un_packet.specs.CodeRules.{number, HasItsBase, IsSomeName}
 use Rattle.un_listing.proofs.WordTexts.{reg_back}
 use Rattle.un_listing.proofs.InstrWords.{reg_word, AreRegs, literal_words, copied_words, computed_words, with_literal_words, loaded_words}
 use Rattle.un_listing.proofs.InstrWords.{stored_words, moved_words, called_words, jumped_words, jumped_if_words, jumped_if_not_words}
@@ -297,7 +298,7 @@ spill_op None (a ∷ []) imm label w r l n =
 
 -- ---- the stack pointer
 
-enter_op : (frame : ℕ) (dst : Option Reg) (srcs : List Reg) (imm : ℤ) (label : Option (List ℕ)) → frame ≤ 256
+enter_op : (frame : ℕ) (dst : Option Reg) (srcs : List Reg) (imm : ℤ) (label : Option (List ℕ)) → frame ≤ FRAME
     → option_map (λ (r : Reg). space_of r.0) dst ≡ None → Spaces srcs [] → (0 < frame) × (imm ≡ minus frame) → label ≡ None
     → IsBack (instr Enter dst srcs imm label)
 enter_op frame (Some d) srcs imm label small w r l n = absurd (cc w)
@@ -305,7 +306,7 @@ enter_op frame None (a ∷ more) imm label small w r l n = absurd (cc r)
 enter_op zero None [] imm label small w r l n = let k = l.0 in absurd (omega arith)
 enter_op (suc k) None [] imm label small w r l n = rw (l.1, n) (ap instr_of (moved_words (negsuc k) (omega arith)))
 
-leave_op : (frame : ℕ) (dst : Option Reg) (srcs : List Reg) (imm : ℤ) (label : Option (List ℕ)) → frame ≤ 256
+leave_op : (frame : ℕ) (dst : Option Reg) (srcs : List Reg) (imm : ℤ) (label : Option (List ℕ)) → frame ≤ FRAME
     → option_map (λ (r : Reg). space_of r.0) dst ≡ None → Spaces srcs [] → (0 < frame) × (imm ≡ pos frame) → label ≡ None
     → IsBack (instr Leave dst srcs imm label)
 leave_op frame (Some d) srcs imm label small w r l n = absurd (cc w)
@@ -332,47 +333,43 @@ counted k (r ∷ rs) e h =
     (omega arith, counted (k + 1) rs rest (omega arith))
 
 call_op : (dst : Option Reg) (srcs : List Reg) (imm : ℤ) (label : Option (List ℕ))
-    → dst ≡ None → (map number srcs ≡ range_with_len 0 (length srcs)) × (length srcs ≤ 6) → imm ≡ pos 0 → IsThere label
-    → IfSome label (λ l. is_name l ≡ true)
+    → dst ≡ None → (map number srcs ≡ range_with_len 0 (length srcs)) × (length srcs ≤ 6) → imm ≡ pos 0 → IsSomeName label
     → IsBack (instr Call dst srcs imm label)
-call_op dst srcs imm None w r l n named = absurd n
-call_op dst srcs imm (Some label) w r l n named =
+call_op dst srcs imm None w r l n = absurd n
+call_op dst srcs imm (Some label) w r l n =
     let few = r.1 in
     let regs = counted 0 srcs r.0 (omega arith) in
-    rw (w, l) (ap instr_of (called_words label srcs named regs) ∙ rw (regs_back 6 srcs few regs, no_literal srcs) refl)
+    rw (w, l) (ap instr_of (called_words label srcs n regs) ∙ rw (regs_back 6 srcs few regs, no_literal srcs) refl)
 
 jump_op : (dst : Option Reg) (srcs : List Reg) (imm : ℤ) (label : Option (List ℕ))
-    → option_map (λ (r : Reg). space_of r.0) dst ≡ None → Spaces srcs [] → imm ≡ pos 0 → IsThere label
-    → IfSome label (λ l. is_name l ≡ true)
+    → option_map (λ (r : Reg). space_of r.0) dst ≡ None → Spaces srcs [] → imm ≡ pos 0 → IsSomeName label
     → IsBack (instr Jump dst srcs imm label)
-jump_op (Some d) srcs imm label w r l n named = absurd (cc w)
-jump_op None (a ∷ more) imm label w r l n named = absurd (cc r)
-jump_op None [] imm None w r l n named = absurd n
-jump_op None [] imm (Some label) w r l n named = rw l (ap instr_of (jumped_words label named))
+jump_op (Some d) srcs imm label w r l n = absurd (cc w)
+jump_op None (a ∷ more) imm label w r l n = absurd (cc r)
+jump_op None [] imm None w r l n = absurd n
+jump_op None [] imm (Some label) w r l n = rw l (ap instr_of (jumped_words label n))
 
 jump_if_op : (dst : Option Reg) (srcs : List Reg) (imm : ℤ) (label : Option (List ℕ))
-    → option_map (λ (r : Reg). space_of r.0) dst ≡ None → Spaces srcs (P ∷ []) → imm ≡ pos 0 → IsThere label
-    → IfSome label (λ l. is_name l ≡ true)
+    → option_map (λ (r : Reg). space_of r.0) dst ≡ None → Spaces srcs (P ∷ []) → imm ≡ pos 0 → IsSomeName label
     → IsBack (instr JumpIf dst srcs imm label)
-jump_if_op (Some d) srcs imm label w r l n named = absurd (cc w)
-jump_if_op None [] imm label w r l n named = absurd (cc r)
-jump_if_op None (a ∷ b ∷ more) imm label w r l n named = absurd (cc r)
-jump_if_op None (a ∷ []) imm None w r l n named = absurd n
-jump_if_op None (a ∷ []) imm (Some label) w r l n named =
+jump_if_op (Some d) srcs imm label w r l n = absurd (cc w)
+jump_if_op None [] imm label w r l n = absurd (cc r)
+jump_if_op None (a ∷ b ∷ more) imm label w r l n = absurd (cc r)
+jump_if_op None (a ∷ []) imm None w r l n = absurd n
+jump_if_op None (a ∷ []) imm (Some label) w r l n =
     let ha : a.0 < 36 = below a.0 P (λ e. cc e) (cc) in
-    rw l (ap instr_of (jumped_if_words a label ha named) ∙ rw ((reg_back a ha).reg) refl)
+    rw l (ap instr_of (jumped_if_words a label ha n) ∙ rw ((reg_back a ha).reg) refl)
 
 jump_if_not_op : (dst : Option Reg) (srcs : List Reg) (imm : ℤ) (label : Option (List ℕ))
-    → option_map (λ (r : Reg). space_of r.0) dst ≡ None → Spaces srcs (P ∷ []) → imm ≡ pos 0 → IsThere label
-    → IfSome label (λ l. is_name l ≡ true)
+    → option_map (λ (r : Reg). space_of r.0) dst ≡ None → Spaces srcs (P ∷ []) → imm ≡ pos 0 → IsSomeName label
     → IsBack (instr JumpIfNot dst srcs imm label)
-jump_if_not_op (Some d) srcs imm label w r l n named = absurd (cc w)
-jump_if_not_op None [] imm label w r l n named = absurd (cc r)
-jump_if_not_op None (a ∷ b ∷ more) imm label w r l n named = absurd (cc r)
-jump_if_not_op None (a ∷ []) imm None w r l n named = absurd n
-jump_if_not_op None (a ∷ []) imm (Some label) w r l n named =
+jump_if_not_op (Some d) srcs imm label w r l n = absurd (cc w)
+jump_if_not_op None [] imm label w r l n = absurd (cc r)
+jump_if_not_op None (a ∷ b ∷ more) imm label w r l n = absurd (cc r)
+jump_if_not_op None (a ∷ []) imm None w r l n = absurd n
+jump_if_not_op None (a ∷ []) imm (Some label) w r l n =
     let ha : a.0 < 36 = below a.0 P (λ e. cc e) (cc) in
-    rw l (ap instr_of (jumped_if_not_words a label ha named))
+    rw l (ap instr_of (jumped_if_not_words a label ha n))
 
 jumpr_op : (dst : Option Reg) (srcs : List Reg) (imm : ℤ) (label : Option (List ℕ))
     → option_map (λ (r : Reg). space_of r.0) dst ≡ None → Spaces srcs (R ∷ []) → imm ≡ pos 0 → label ≡ None
@@ -393,73 +390,73 @@ nop_op None [] imm label w r l n = rw (l, n) refl
 
 -- ---- every operation
 
-pub instr_back : (frame : ℕ) → frame ≤ 256 → (op : Op) (dst : Option Reg) (srcs : List Reg) (imm : ℤ) (label : Option (List ℕ))
-    → IsGoodInstr frame (instr op dst srcs imm label) → IfSome label (λ l. is_name l ≡ true) → IsBack (instr op dst srcs imm label)
-instr_back frame small Imm dst srcs imm label g named = imm_op dst srcs imm label g.writes g.reads g.literal g.label
-instr_back frame small Mov dst srcs imm label g named = mov_op dst srcs imm label g.writes g.reads g.literal g.label
-instr_back frame small P2R dst srcs imm label g named = p2r_op dst srcs imm label g.writes g.reads g.literal g.label
-instr_back frame small R2P dst srcs imm label g named = r2p_op dst srcs imm label g.writes g.reads g.literal g.label
-instr_back frame small Mux dst srcs imm label g named = mux_op dst srcs imm label g.writes g.reads g.literal g.label
-instr_back frame small Load dst srcs imm label g named = load_op dst srcs imm label g.writes g.base g.reads g.literal g.label
-instr_back frame small Store dst srcs imm label g named = store_op dst srcs imm label g.writes g.base g.reads g.literal g.label
-instr_back frame small Spill dst srcs imm label g named = spill_op dst srcs imm label g.writes g.reads g.literal g.label
-instr_back frame small Reload dst srcs imm label g named = reload_op dst srcs imm label g.writes g.reads g.literal g.label
-instr_back frame small Enter dst srcs imm label g named = enter_op frame dst srcs imm label small g.writes g.reads g.literal g.label
-instr_back frame small Leave dst srcs imm label g named = leave_op frame dst srcs imm label small g.writes g.reads g.literal g.label
-instr_back frame small Call dst srcs imm label g named = call_op dst srcs imm label g.writes g.reads g.literal g.label named
-instr_back frame small Jump dst srcs imm label g named = jump_op dst srcs imm label g.writes g.reads g.literal g.label named
-instr_back frame small JumpIf dst srcs imm label g named = jump_if_op dst srcs imm label g.writes g.reads g.literal g.label named
-instr_back frame small JumpIfNot dst srcs imm label g named = jump_if_not_op dst srcs imm label g.writes g.reads g.literal g.label named
-instr_back frame small Jumpr dst srcs imm label g named = jumpr_op dst srcs imm label g.writes g.reads g.literal g.label
-instr_back frame small Nop dst srcs imm label g named = nop_op dst srcs imm label g.writes g.reads g.literal g.label
-instr_back frame small Add dst srcs imm label g named =
+pub instr_back : (frame : ℕ) → frame ≤ FRAME → (op : Op) (dst : Option Reg) (srcs : List Reg) (imm : ℤ) (label : Option (List ℕ))
+    → IsGoodInstr frame (instr op dst srcs imm label) → IsBack (instr op dst srcs imm label)
+instr_back frame small Imm dst srcs imm label g = imm_op dst srcs imm label g.writes g.reads g.literal g.label
+instr_back frame small Mov dst srcs imm label g = mov_op dst srcs imm label g.writes g.reads g.literal g.label
+instr_back frame small P2R dst srcs imm label g = p2r_op dst srcs imm label g.writes g.reads g.literal g.label
+instr_back frame small R2P dst srcs imm label g = r2p_op dst srcs imm label g.writes g.reads g.literal g.label
+instr_back frame small Mux dst srcs imm label g = mux_op dst srcs imm label g.writes g.reads g.literal g.label
+instr_back frame small Load dst srcs imm label g = load_op dst srcs imm label g.writes g.base g.reads g.literal g.label
+instr_back frame small Store dst srcs imm label g = store_op dst srcs imm label g.writes g.base g.reads g.literal g.label
+instr_back frame small Spill dst srcs imm label g = spill_op dst srcs imm label g.writes g.reads g.literal g.label
+instr_back frame small Reload dst srcs imm label g = reload_op dst srcs imm label g.writes g.reads g.literal g.label
+instr_back frame small Enter dst srcs imm label g = enter_op frame dst srcs imm label small g.writes g.reads g.literal g.label
+instr_back frame small Leave dst srcs imm label g = leave_op frame dst srcs imm label small g.writes g.reads g.literal g.label
+instr_back frame small Call dst srcs imm label g = call_op dst srcs imm label g.writes g.reads g.literal g.label
+instr_back frame small Jump dst srcs imm label g = jump_op dst srcs imm label g.writes g.reads g.literal g.label
+instr_back frame small JumpIf dst srcs imm label g = jump_if_op dst srcs imm label g.writes g.reads g.literal g.label
+instr_back frame small JumpIfNot dst srcs imm label g = jump_if_not_op dst srcs imm label g.writes g.reads g.literal g.label
+instr_back frame small Jumpr dst srcs imm label g = jumpr_op dst srcs imm label g.writes g.reads g.literal g.label
+instr_back frame small Nop dst srcs imm label g = nop_op dst srcs imm label g.writes g.reads g.literal g.label
+instr_back frame small Add dst srcs imm label g =
     two_op Add R (record { printed = refl; name = refl; reg = refl; other = refl; found = refl })
     (λ e. cc e) dst srcs imm label g.writes g.reads g.literal g.label
-instr_back frame small Sub dst srcs imm label g named =
+instr_back frame small Sub dst srcs imm label g =
     two_op Sub R (record { printed = refl; name = refl; reg = refl; other = refl; found = refl })
     (λ e. cc e) dst srcs imm label g.writes g.reads g.literal g.label
-instr_back frame small And dst srcs imm label g named =
+instr_back frame small And dst srcs imm label g =
     two_op And R (record { printed = refl; name = refl; reg = refl; other = refl; found = refl })
     (λ e. cc e) dst srcs imm label g.writes g.reads g.literal g.label
-instr_back frame small Or dst srcs imm label g named =
+instr_back frame small Or dst srcs imm label g =
     two_op Or R (record { printed = refl; name = refl; reg = refl; other = refl; found = refl })
     (λ e. cc e) dst srcs imm label g.writes g.reads g.literal g.label
-instr_back frame small Xor dst srcs imm label g named =
+instr_back frame small Xor dst srcs imm label g =
     two_op Xor R (record { printed = refl; name = refl; reg = refl; other = refl; found = refl })
     (λ e. cc e) dst srcs imm label g.writes g.reads g.literal g.label
-instr_back frame small Mpyi dst srcs imm label g named =
+instr_back frame small Mpyi dst srcs imm label g =
     two_op Mpyi R (record { printed = refl; name = refl; reg = refl; other = refl; found = refl })
     (λ e. cc e) dst srcs imm label g.writes g.reads g.literal g.label
-instr_back frame small CmpEq dst srcs imm label g named =
+instr_back frame small CmpEq dst srcs imm label g =
     two_op CmpEq P (record { printed = refl; name = refl; reg = refl; other = refl; found = refl })
     (λ e. cc e) dst srcs imm label g.writes g.reads g.literal g.label
-instr_back frame small CmpGt dst srcs imm label g named =
+instr_back frame small CmpGt dst srcs imm label g =
     two_op CmpGt P (record { printed = refl; name = refl; reg = refl; other = refl; found = refl })
     (λ e. cc e) dst srcs imm label g.writes g.reads g.literal g.label
-instr_back frame small CmpGtu dst srcs imm label g named =
+instr_back frame small CmpGtu dst srcs imm label g =
     two_op CmpGtu P (record { printed = refl; name = refl; reg = refl; other = refl; found = refl })
     (λ e. cc e) dst srcs imm label g.writes g.reads g.literal g.label
-instr_back frame small Addi dst srcs imm label g named =
+instr_back frame small Addi dst srcs imm label g =
     with_literal_op Addi R Signed16 (record { printed = refl; name = refl; reg = refl; other = refl; found = refl })
     (λ e. cc e) dst srcs imm label g.writes g.stack g.reads g.literal g.label
-instr_back frame small Andi dst srcs imm label g named =
+instr_back frame small Andi dst srcs imm label g =
     with_literal_op Andi R Signed10 (record { printed = refl; name = refl; reg = refl; other = refl; found = refl })
     (λ e. cc e) dst srcs imm label g.writes g.stack g.reads g.literal g.label
-instr_back frame small Ori dst srcs imm label g named =
+instr_back frame small Ori dst srcs imm label g =
     with_literal_op Ori R Signed10 (record { printed = refl; name = refl; reg = refl; other = refl; found = refl })
     (λ e. cc e) dst srcs imm label g.writes g.stack g.reads g.literal g.label
-instr_back frame small CmpEqi dst srcs imm label g named =
+instr_back frame small CmpEqi dst srcs imm label g =
     with_literal_op CmpEqi P Signed10 (record { printed = refl; name = refl; reg = refl; other = refl; found = refl })
     (λ e. cc e) dst srcs imm label g.writes g.stack g.reads g.literal g.label
-instr_back frame small CmpGti dst srcs imm label g named =
+instr_back frame small CmpGti dst srcs imm label g =
     with_literal_op CmpGti P Signed10 (record { printed = refl; name = refl; reg = refl; other = refl; found = refl })
     (λ e. cc e) dst srcs imm label g.writes g.stack g.reads g.literal g.label
-instr_back frame small Asl dst srcs imm label g named =
+instr_back frame small Asl dst srcs imm label g =
     with_literal_op Asl R Unsigned5 (record { printed = refl; name = refl; reg = refl; other = refl; found = refl })
     (λ e. cc e) dst srcs imm label g.writes g.stack g.reads g.literal g.label
-instr_back frame small Asr dst srcs imm label g named =
+instr_back frame small Asr dst srcs imm label g =
     with_literal_op Asr R Unsigned5 (record { printed = refl; name = refl; reg = refl; other = refl; found = refl })
     (λ e. cc e) dst srcs imm label g.writes g.stack g.reads g.literal g.label
-instr_back frame small Lsr dst srcs imm label g named =
+instr_back frame small Lsr dst srcs imm label g =
     with_literal_op Lsr R Unsigned5 (record { printed = refl; name = refl; reg = refl; other = refl; found = refl })
     (λ e. cc e) dst srcs imm label g.writes g.stack g.reads g.literal g.label

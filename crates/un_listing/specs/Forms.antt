@@ -1,7 +1,7 @@
 -- The forms in which instructions are printed.
 use Rattle.un_isa.specs.declared.op.Op.{Op}
-use Rattle.un_isa.specs.declared.op.Op.TheVariants.{Imm, Mov, Addi, Andi, Ori, CmpEqi}
-use Rattle.un_isa.specs.declared.op.Op.TheVariants.{CmpGti, Asl, Asr, Lsr, Load, Store, Call, Jump, JumpIf, JumpIfNot, Jumpr, Spill}
+use Rattle.un_isa.specs.declared.op.Op.TheVariants.{Imm, Mov, Add, Sub, And, Or, Xor, Addi, Andi, Ori, Mux, CmpEq, CmpGt, CmpGtu, CmpEqi}
+use Rattle.un_isa.specs.declared.op.Op.TheVariants.{CmpGti, Mpyi, Asl, Asr, Lsr, Load, Store, Call, Jump, JumpIf, JumpIfNot, Jumpr, Spill}
 use Rattle.un_isa.specs.declared.op.Op.TheVariants.{Reload, P2R, R2P, Enter, Leave, Nop}
 use Rattle.un_listing.specs.declared.form.Form.{Form}
 use Rattle.un_listing.specs.declared.form.Form.TheVariants.{Literal, Copied, Computed, WithLiteral, Loaded, Stored, Reloaded, Spilled}
@@ -33,4 +33,13 @@ form_of JumpIf = JumpedIf
 form_of JumpIfNot = JumpedIfNot
 form_of Jumpr = Returned
 form_of Nop = Idle
-form_of _ = Computed
+form_of Add = Computed
+form_of Sub = Computed
+form_of And = Computed
+form_of Or = Computed
+form_of Xor = Computed
+form_of Mux = Computed
+form_of CmpEq = Computed
+form_of CmpGt = Computed
+form_of CmpGtu = Computed
+form_of Mpyi = Computed

@@ -8,6 +8,7 @@ use Rattle.std.proofs.lemmas.Bool.{and_parts}
 use Rattle.un_base.specs.Names.{is_name}
 use Rattle.un_isa.specs.declared.op.Op.{Op}
 use Rattle.un_isa.specs.declared.op.Op.TheVariants.{Add, Store, Call, Jump, JumpIf, JumpIfNot, Jumpr, Spill, Enter, Leave, Nop}
+use Rattle.un_isa.specs.declared.reg.TheConstants.{FRAME}
 use Rattle.un_isa.specs.declared.reg.Space.{Space}
 use Rattle.un_isa.specs.declared.reg.Space.TheVariants.{R, P, M}
 use Rattle.un_isa.specs.declared.reg.Reg.{Reg}
@@ -16,7 +17,7 @@ use Rattle.un_isa.specs.declared.instr.Instr.{Instr}
 use Rattle.un_isa.specs.Registers.{space_of}
 use Rattle.un_isa.specs.Facts.{operand_spaces, result_space, literal_range}
 use Rattle.un_isa.specs.Operands.{IsLiteralOf}
-use Rattle.un_packet.specs.CodeRules.{IsGoodInstr, ReadsItsSpaces, WritesItsSpace, HasItsNumber}
+use Rattle.un_packet.specs.CodeRules.{IsGoodInstr, ReadsItsSpaces, WritesItsSpace, HasItsNumber, HasItsLabel}
 use Rattle.un_listing.specs.declared.form.Form.{Form}
 use Rattle.un_listing.specs.declared.form.Form.TheVariants.{Literal, Copied, Computed, WithLiteral, Loaded, Stored, Reloaded, Spilled}
 use Rattle.un_listing.specs.declared.form.Form.TheVariants.{StackMoved, Called, Jumped, JumpedIf, JumpedIfNot, Returned, Idle}
@@ -26,7 +27,6 @@ use Rattle.un_listing.specs.Forms.{form_of}
 use Rattle.un_listing.specs.Listing.{joined, reg_text, some_reg_text, operand_text, operands_text, literal_text, result_text, word_text}
 use Rattle.un_listing.specs.Listing.{label_text, text_in, instr_text}
 use Rattle.un_listing.specs.ListingWords.{is_between}
-use Rattle.un_listing_reader.specs.PacketWords.{IsNamed}
 use Rattle.un_listing.proofs.WordTexts.{Says, reg_back, name_says, literal_says, all_weaker, other_byte}
 use Rattle.un_listing.proofs.InstrWords.{AreRegs}
 use Rattle.un_listing.proofs.InstrBack.{below, counted, small_literal}
@@ -57,7 +57,7 @@ record IsTame (i : Instr) : Type 0 where
   result : IfSome i.dst (λ r. r.0 < 36)
   operands : AreRegs i.srcs
   literal : unsigned_abs i.imm ≤ 65535
-  label : IsNamed i
+  label : IfSome i.label (λ l. is_name l ≡ true)
 
 abbrev is_home : Space → Bool
 is_home R = true
@@ -111,18 +111,26 @@ of_literal : (range : Option Range) (n : ℤ) → IsLiteralOf range n → unsign
 of_literal None n e = rw e (lit≤ tt)
 of_literal (Some range) n h = small_literal range n h
 
-number_small : (frame : ℕ) → frame ≤ 256 → (op : Op) (n : ℤ) → HasItsNumber frame op n → unsigned_abs n ≤ 65535
+label_named : (op : Op) (label : Option (List ℕ)) → HasItsLabel op label → IfSome label (λ l. is_name l ≡ true)
+label_named op None h = tt
+label_named Call (Some l) h = h
+label_named Jump (Some l) h = h
+label_named JumpIf (Some l) h = h
+label_named JumpIfNot (Some l) h = h
+label_named _ (Some l) h = absurd (cc h)
+
+number_small : (frame : ℕ) → frame ≤ FRAME → (op : Op) (n : ℤ) → HasItsNumber frame op n → unsigned_abs n ≤ 65535
 number_small zero small Enter n h = let k = h.0 in absurd (omega arith)
 number_small (suc k) small Enter n h = rw h.1 (omega arith)
 number_small frame small Leave n h = rw h.1 (omega arith)
 number_small frame small op n h = of_literal (literal_range op) n h
 
-tame : (frame : ℕ) → frame ≤ 256 → (i : Instr) → IsGoodInstr frame i → IsNamed i → IsTame i
-tame frame small i g named = record {
+tame : (frame : ℕ) → frame ≤ FRAME → (i : Instr) → IsGoodInstr frame i → IsTame i
+tame frame small i g = record {
   result = writes_reg i.op i.dst g.writes;
   operands = reads_regs i.op i.srcs g.reads;
   literal = number_small frame small i.op i.imm g.literal;
-  label = named;
+  label = label_named i.op i.label g.label;
 }
 
 -- ---- texts
@@ -206,5 +214,5 @@ module _ (i : Instr) (t : IsTame i) where
   text_clean Returned = operand_at 0
   text_clean Idle = refl
 
-pub instr_clean : (frame : ℕ) → frame ≤ 256 → (i : Instr) → IsGoodInstr frame i → IsNamed i → IsClean (instr_text i)
-instr_clean frame small i g named = text_clean i (tame frame small i g named) (form_of i.op)
+pub instr_clean : (frame : ℕ) → frame ≤ FRAME → (i : Instr) → IsGoodInstr frame i → IsClean (instr_text i)
+instr_clean frame small i g = text_clean i (tame frame small i g) (form_of i.op)

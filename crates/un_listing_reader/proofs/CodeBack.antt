@@ -24,26 +24,22 @@ use Rattle.std.proofs.Common.{
 }
 use Rattle.std.specs.List.{AllZip, flat_map}
 use Rattle.std.specs.Fmt.{decimal}
-use Rattle.std.specs.Coded.{coded_list}
-use Rattle.std.proofs.lemmas.List.Elements.{All-from_recursion}
-use Rattle.std.proofs.Math.Logic.{∥∥₁_elim, ∥∥₁_prop}
+use Rattle.std.proofs.Math.Logic.{∥∥₁_elim}
 use Rattle.std.proofs.Math.Nat.{ℕ_set}
-use base.Stored.{Coded-set}
 use Rattle.un_base.specs.Lines.{pieces_of, joined_lines}
 use Rattle.un_isa.specs.declared.op.Op.TheVariants.{Jumpr}
-use Rattle.un_packet.specs.contracts.code.CodeBlock as block_row
 use Rattle.un_packet.specs.declared.code.Packet.{Packet}
 use Rattle.un_packet.specs.declared.code.CodeBlock.{CodeBlock}
 use Rattle.un_packet.specs.declared.code.Code.{Code}
 use Rattle.un_packet.specs.CodeRules.{KeepsRules, labels_of}
+use Rattle.un_packet.proofs.SameCode.{blocks_set, same_code}
 use Rattle.un_packet.proofs.Assembly.{i, packet, block}
 use Rattle.un_packet.proofs.Kept.{kept_without_frame}
 use Rattle.un_listing_reader.specs.declared.line.Line.{Line}
 use Rattle.un_listing_reader.specs.declared.read.ListingError.{ListingError}
 use Rattle.un_listing_reader.specs.declared.read.ListingError.TheVariants.{NoMemory, BadListing}
 use Rattle.un_listing.specs.Listing.{block_lines, code_text}
-use Rattle.un_listing_reader.specs.PacketWords.{IsNamed}
-use Rattle.un_listing_reader.specs.Reading.{lines_in, HasNames, IsReadAs, IsFrameLine, IsFirstBad, IsFirstBadIn, IsFirstBadOf, IsErrorOf}
+use Rattle.un_listing_reader.specs.Reading.{lines_in, IsReadAs, IsFrameLine, IsFirstBad, IsFirstBadIn, IsFirstBadOf, IsErrorOf}
 use Rattle.un_listing_reader.specs.Reading.{IsListingOf, frame_text}
 use Rattle.un_listing_reader.proofs.LinesStand.{lines_stand}
 use Rattle.un_listing_reader.proofs.LineTexts.{blocks_spelled, first_piece}
@@ -59,11 +55,11 @@ listing frame bs = joined_lines ((codes "frame " ++ decimal frame) ∷ flat_map 
 abbrev rest_of : List CodeBlock → List (List ℕ)
 rest_of bs = pieces_of (joined_lines (flat_map block_lines bs))
 
-module _ (frame : ℕ) (bs : List CodeBlock) (rules : KeepsRules frame bs) (names : All HasNames bs) where
+module _ (frame : ℕ) (bs : List CodeBlock) (rules : KeepsRules frame bs) where
   readings : AllZip (IsReadAs frame) (rest_of bs) (lines_in bs)
   readings =
       spelled_read frame rules.small (rest_of bs) (lines_in bs)
-      (blocks_spelled frame rules.small (labels_of bs) bs rules.good_blocks names)
+      (blocks_spelled frame rules.small (labels_of bs) bs rules.good_blocks rules.named)
 
   pieces : pieces_of (listing frame bs) ≡ frame_text frame ∷ rest_of bs
   pieces = first_piece frame rules.small (flat_map block_lines bs)
@@ -99,40 +95,23 @@ module _ (frame : ℕ) (bs : List CodeBlock) (rules : KeepsRules frame bs) (name
 
 -- frames and blocks with one listing are the same
 module _ (frame frame' : ℕ) (bs bs' : List CodeBlock) (rules : KeepsRules frame bs) (rules' : KeepsRules frame' bs')
-    (names : All HasNames bs) (names' : All HasNames bs') (same : listing frame bs ≡ listing frame' bs') where
+    (same : listing frame bs ≡ listing frame' bs') where
   parts : (frame_text frame ≡ frame_text frame') × (rest_of bs ≡ rest_of bs')
-  parts = parts_same _ _ _ _ (sym (pieces frame bs rules names) ∙ ap pieces_of same ∙ pieces frame' bs' rules' names')
+  parts = parts_same _ _ _ _ (sym (pieces frame bs rules) ∙ ap pieces_of same ∙ pieces frame' bs' rules')
 
   one_listing : (frame ≡ frame') × (lines_in bs ≡ lines_in bs')
   one_listing =
-      one_text frame' bs' rules' names' (frame_text frame) (rest_of bs) frame (lines_in bs) parts.0 parts.1 (framed frame bs rules names)
-      (readings frame bs rules names)
+      one_text frame' bs' rules' (frame_text frame) (rest_of bs) frame (lines_in bs) parts.0 parts.1 (framed frame bs rules)
+      (readings frame bs rules)
 
 -- ---- code
-
-blocks_set : (bs bs' : List CodeBlock) (p q : bs ≡ bs') → p ≡ q
-blocks_set = Coded-set (coded_list block_row.the_row.coded)
-
-abbrev Keeps : ℕ → List CodeBlock → Type 0
-Keeps frame bs = ∥ KeepsRules frame bs ∥₁
-
-abbrev made : (frame : ℕ) (bs : List CodeBlock) → Keeps frame bs → Code
-made frame bs rules = record { frame = frame; blocks = bs; rules = rules }
-
--- code is told by its parts, since its rules are kept in one way
-same_code : (frame frame' : ℕ) (bs bs' : List CodeBlock) → frame ≡ frame' → bs ≡ bs' → (rules : Keeps frame bs) (rules' : Keeps frame' bs')
-    → made frame bs rules ≡ made frame' bs' rules'
-same_code frame frame' bs bs' e f rules =
-    subst (λ (n : ℕ). (k : Keeps n bs') → made frame bs rules ≡ made n bs' k) e
-    (subst (λ (x : List CodeBlock). (k : Keeps frame x) → made frame bs rules ≡ made frame x k) f
-    (λ k. ap (made frame bs) (∥∥₁_prop rules k)))
 
 -- a text is the listing of one code
 pub one_code : (text : List ℕ) (c d : Code) → IsListingOf text c → IsListingOf text d → c ≡ d
 one_code text c d h k = same_code c.frame d.frame c.blocks d.blocks frames blocks c.rules d.rules
   where
     both : KeepsRules c.frame c.blocks → KeepsRules d.frame d.blocks → (c.frame ≡ d.frame) × (lines_in c.blocks ≡ lines_in d.blocks)
-    both of_c of_d = one_listing c.frame d.frame c.blocks d.blocks of_c of_d h.names k.names (sym h.spelled ∙ k.spelled)
+    both of_c of_d = one_listing c.frame d.frame c.blocks d.blocks of_c of_d (sym h ∙ k)
 
     frames : c.frame ≡ d.frame
     frames = ∥∥₁_elim c.rules (ℕ_set _ _) (λ of_c. ∥∥₁_elim d.rules (ℕ_set _ _) (λ of_d. (both of_c of_d).0))
@@ -147,7 +126,7 @@ pub refused : (text : List ℕ) (e : ListingError) (c : Code) → IsErrorOf text
 refused text NoMemory c h k = refl
 refused text (BadListing line) c h k =
     absurd (∥∥₁_elim c.rules (λ (x y : ⊥). absurd x)
-    (λ rules. none_bad c.frame c.blocks rules k.names line (subst (λ (t : List ℕ). IsFirstBad t line) k.spelled h)))
+    (λ rules. none_bad c.frame c.blocks rules line (subst (λ (t : List ℕ). IsFirstBad t line) k h)))
 
 -- ---- the first bad line
 
@@ -186,16 +165,4 @@ returning = record {
 }
 
 pub returning_listed : IsListingOf (code_text returning) returning
-returning_listed = record {
-  names = All-from_recursion HasNames returning.blocks (
-    record {
-      label = refl;
-      packets = All-from_recursion (λ (p : Packet). All IsNamed p.instrs) (packet (i Jumpr None (31 ∷ []) (pos 0) None ∷ []) ∷ []) (
-        All-from_recursion IsNamed (i Jumpr None (31 ∷ []) (pos 0) None ∷ []) (tt, tt),
-        tt,
-      );
-    },
-    tt,
-  );
-  spelled = refl;
-}
+returning_listed = refl

@@ -1,5 +1,5 @@
 -- The text that is read as a frame and blocks, and the one that is not.
-use Rattle.std.proofs.Common.{◌≡◌, ◌≤◌, ◌-◌, ◌+◌, ℕ, List, [], ◌∷◌, ◌++◌, Option, Some, None, MatchOption, All, take, drop, length, codes}
+use Rattle.std.proofs.Common.{◌≡◌, ◌≤◌, ◌-◌, ◌+◌, ℕ, List, [], ◌∷◌, ◌++◌, Option, Some, None, MatchOption, take, drop, length, codes}
 use Rattle.std.proofs.Common.{inl, inr, refl, sym, ap, ◌∙◌, arith, append_assoc}
 use Rattle.std.specs.List.{AllZip, concat, flat_map}
 use Rattle.std.specs.Fmt.{decimal}
@@ -10,7 +10,7 @@ use Rattle.un_packet.specs.declared.code.CodeBlock.{CodeBlock}
 use Rattle.un_packet.specs.CodeRules.{KeepsRules}
 use Rattle.un_listing_reader.specs.declared.line.Line.{Line}
 use Rattle.un_listing.specs.Listing.{block_lines}
-use Rattle.un_listing_reader.specs.Reading.{AllStand, lines_in, IsReadAs, IsFrameLine, IsFirstBad, IsFirstBadOf, HasNames}
+use Rattle.un_listing_reader.specs.Reading.{AllStand, lines_in, IsReadAs, IsFrameLine, IsFirstBad, IsFirstBadOf}
 use Rattle.un_listing_reader.proofs.RulesKept.{rules_kept}
 use Rattle.un_listing_reader.proofs.TextRead.{blocks_read}
 
@@ -54,11 +54,9 @@ module _ (text : List ℕ) (len : ℕ) (below : len ≤ length text) (cut : piec
 
     module _ (bs : List CodeBlock) (all : AllStand lines) (same : AllStand lines → lines_in bs ≡ lines) where
       pub kept : KeepsRules frame bs
-      kept = rules_kept (take len text) frame bs framed (blocks_read frame (pieces_of tail) bs (rw (same all) read)).good
-          (rw (same all) all)
-
-      pub names_read : All HasNames bs
-      names_read = (blocks_read frame (pieces_of tail) bs (rw (same all) read)).names
+      kept =
+          let r = blocks_read frame (pieces_of tail) bs (rw (same all) read) in
+          rules_kept (take len text) frame bs framed r.good r.named (rw (same all) all)
 
       pub read_text : text ≡ joined_lines ((codes "frame " ++ decimal frame) ∷ flat_map block_lines bs)
       read_text =

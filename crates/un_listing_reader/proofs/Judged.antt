@@ -9,7 +9,7 @@ use Rattle.un_packet.specs.declared.code.TheConstants.{BLOCKS}
 use Rattle.un_listing_reader.specs.declared.line.Line.{Line}
 use Rattle.un_listing_reader.specs.declared.labels.Before.{Before}
 use Rattle.un_packet.specs.declared.code.Packet.{Packet}
-use Rattle.un_listing_reader.specs.declared.line.Line.TheVariants.{Block as BlockLine, Packet as PacketLine}
+use Rattle.un_listing_reader.specs.declared.line.Line.TheVariants.{Block as BlockLine, Packet as PacketLine, Broken}
 use Rattle.un_listing_reader.specs.Reading.{labels_in, BlockStands, PacketStands, Stands}
 use Rattle.un_listing_reader.specs.LabelSets.{has_label, SameLabels, IsBefore}
 
@@ -76,3 +76,7 @@ stands_block all lines after line label e b h = rw e h
 pub stands_packet : (all : List (List ℕ)) (lines after : List (Option Line)) (line : Line) (p : Packet) → line ≡ PacketLine p → (b : Bool)
     → IsTrue b ↔ PacketStands all lines after p → IsTrue b ↔ Stands all lines (Some line) after
 stands_packet all lines after line p e b h = rw e h
+
+pub stands_broken : (all : List (List ℕ)) (lines after : List (Option Line)) (line : Line) → line ≡ Broken → (b : Bool) → b ≡ false
+    → IsTrue b ↔ Stands all lines (Some line) after
+stands_broken all lines after line e b h = rw (e, h) (λ t. absurd (cc t), λ x. absurd x)

@@ -1,10 +1,11 @@
 pub mod CleanTexts
 pub mod CodeBack
 pub mod CodeRead
+pub mod Formed
 pub mod Judged
 pub mod LabelEq
-pub mod LabelNames
 pub mod LineCuts
+pub mod LineReads
 pub mod LineTexts
 pub mod LinesBack
 pub mod LinesStand

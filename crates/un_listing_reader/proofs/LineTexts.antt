@@ -9,6 +9,7 @@ use Rattle.std.proofs.lemmas.List.Folds.{list_all-append}
 use Rattle.un_base.specs.Names.{is_name}
 use Rattle.un_base.specs.Lines.{is_line_feed, pieces_of, joined_lines, HasNoFeed}
 use Rattle.un_base.proofs.LineLaws.{pieces_of-line}
+use Rattle.un_isa.specs.declared.reg.TheConstants.{FRAME}
 use Rattle.un_isa.specs.declared.instr.Instr.{Instr}
 use Rattle.un_packet.specs.declared.code.Packet.{Packet}
 use Rattle.un_packet.specs.declared.code.CodeBlock.{CodeBlock}
@@ -16,8 +17,7 @@ use Rattle.un_packet.specs.CodeRules.{IsGoodInstr, IsGoodPacket, IsGoodCodeBlock
 use Rattle.un_listing_reader.specs.declared.line.Line.{Line}
 use Rattle.un_listing_reader.specs.declared.line.Line.TheVariants.{Block as BlockLine, Packet as PacketLine}
 use Rattle.un_listing.specs.Listing.{joined, instr_text, packet_line, block_lines}
-use Rattle.un_listing_reader.specs.PacketWords.{IsNamed, IsCodePacket}
-use Rattle.un_listing_reader.specs.Reading.{lines_in, packet_lines, Spells, HasNames, frame_text}
+use Rattle.un_listing_reader.specs.Reading.{lines_in, packet_lines, Spells, frame_text}
 use Rattle.un_listing_reader.proofs.CleanTexts.{is_clean, IsClean, instr_clean, says_clean}
 use Rattle.un_listing.proofs.WordTexts.{all_weaker, name_says, literal_says}
 use Rattle.un_listing_reader.proofs.TextRead.{joined_append}
@@ -53,7 +53,7 @@ no_feed (b ∷ bs) h = let parts = and_parts _ _ h in All-cons (λ b. b ≢ 10) 
 label_no_feed : (label : List ℕ) → is_name label ≡ true → HasNoFeed (codes "block " ++ label)
 label_no_feed label h = no_feed (codes "block " ++ label) (inner label (says_clean label _ (name_says label h)))
 
-frame_no_feed : (frame : ℕ) → frame ≤ 256 → HasNoFeed (codes "frame " ++ decimal frame)
+frame_no_feed : (frame : ℕ) → frame ≤ FRAME → HasNoFeed (codes "frame " ++ decimal frame)
 frame_no_feed frame small =
     no_feed (codes "frame " ++ decimal frame)
     (inner (codes "#" ++ decimal frame) (says_clean (codes "#" ++ decimal frame) _ (literal_says (pos frame) (omega arith))))
@@ -62,29 +62,29 @@ frame_no_feed frame small =
 abbrev pub IsSpelled : ℕ → List ℕ → Option Line → Type 0
 IsSpelled frame text line = IsSomeAnd line (Spells frame text)
 
-module _ (frame : ℕ) (small : frame ≤ 256) where
-  instr_inner : (i : Instr) → IsGoodInstr frame i → IsNamed i → IsInner (instr_text i)
-  instr_inner i good named = inner (instr_text i) (instr_clean frame small i good named)
+module _ (frame : ℕ) (small : frame ≤ FRAME) where
+  instr_inner : (i : Instr) → IsGoodInstr frame i → IsInner (instr_text i)
+  instr_inner i good = inner (instr_text i) (instr_clean frame small i good)
 
-  more_inner : (is : List Instr) → All (IsGoodInstr frame) is → All IsNamed is
+  more_inner : (is : List Instr) → All (IsGoodInstr frame) is
       → IsInner (flat_map (λ (i : Instr). codes "; " ++ instr_text i) is)
-  more_inner [] good named = refl
-  more_inner (i ∷ is) good named =
+  more_inner [] good = refl
+  more_inner (i ∷ is) good =
       inner_append (codes "; " ++ instr_text i) (flat_map (λ (i : Instr). codes "; " ++ instr_text i) is)
-      (instr_inner i (All-head (IsGoodInstr frame) i is good) (All-head IsNamed i is named))
-      (more_inner is (All-tail (IsGoodInstr frame) i is good) (All-tail IsNamed i is named))
+      (instr_inner i (All-head (IsGoodInstr frame) i is good))
+      (more_inner is (All-tail (IsGoodInstr frame) i is good))
 
-  joined_inner : (is : List Instr) → All (IsGoodInstr frame) is → All IsNamed is → IsInner (joined (codes "; ") instr_text is)
-  joined_inner [] good named = refl
-  joined_inner (i ∷ is) good named =
+  joined_inner : (is : List Instr) → All (IsGoodInstr frame) is → IsInner (joined (codes "; ") instr_text is)
+  joined_inner [] good = refl
+  joined_inner (i ∷ is) good =
       inner_append (instr_text i) (flat_map (λ (i : Instr). codes "; " ++ instr_text i) is)
-      (instr_inner i (All-head (IsGoodInstr frame) i is good) (All-head IsNamed i is named))
-      (more_inner is (All-tail (IsGoodInstr frame) i is good) (All-tail IsNamed i is named))
+      (instr_inner i (All-head (IsGoodInstr frame) i is good))
+      (more_inner is (All-tail (IsGoodInstr frame) i is good))
 
-  packet_no_feed : (p : Packet) → IsCodePacket frame p → HasNoFeed (packet_line p)
+  packet_no_feed : (p : Packet) → IsGoodPacket frame p → HasNoFeed (packet_line p)
   packet_no_feed p h =
       no_feed (packet_line p)
-      (inner_append (joined (codes "; ") instr_text p.instrs) (codes " }") (joined_inner p.instrs h.rules.instrs h.names) refl)
+      (inner_append (joined (codes "; ") instr_text p.instrs) (codes " }") (joined_inner p.instrs h.instrs) refl)
 
   -- ---- the pieces
 
@@ -98,27 +98,24 @@ module _ (frame : ℕ) (small : frame ≤ 256) where
   line_seam : (line a b : List ℕ) → ((line ++ 10 ∷ []) ++ a) ++ b ≡ line ++ 10 ∷ (a ++ b)
   line_seam line a b = append_assoc (line ++ 10 ∷ []) a b ∙ append_assoc line (10 ∷ []) (a ++ b)
 
-  packets_spelled : (ps : List Packet) → All (IsCodePacket frame) ps → (rest : List ℕ) (ls : List (Option Line))
+  packets_spelled : (ps : List Packet) → All (IsGoodPacket frame) ps → (rest : List ℕ) (ls : List (Option Line))
       → AllZip (IsSpelled frame) (pieces_of rest) ls
       → AllZip (IsSpelled frame) (pieces_of (joined_lines (map packet_line ps) ++ rest)) (packet_lines ps ++ ls)
   packets_spelled [] good rest ls later = later
   packets_spelled (p ∷ ps) good rest ls later =
-      let here = All-head (IsCodePacket frame) p ps good in
+      let here = All-head (IsGoodPacket frame) p ps good in
       one_more (joined_lines (map packet_line (p ∷ ps)) ++ rest) (packet_line p) (joined_lines (map packet_line ps) ++ rest)
       (PacketLine p) (packet_lines ps ++ ls) (line_seam (packet_line p) (joined_lines (map packet_line ps)) rest)
       (packet_no_feed p here) (record { good = here; spelled = refl })
-      (packets_spelled ps (All-tail (IsCodePacket frame) p ps good) rest ls later)
+      (packets_spelled ps (All-tail (IsGoodPacket frame) p ps good) rest ls later)
 
-  code_packets : (ps : List Packet) → All (IsGoodPacket frame) ps → All (λ (p : Packet). All IsNamed p.instrs) ps
-      → All (IsCodePacket frame) ps
-  code_packets ps good named = λ k d below. record { rules = good k d below; names = named k d below }
-
-  pub blocks_spelled : (labels : List (List ℕ)) (bs : List CodeBlock) → All (IsGoodCodeBlock frame labels) bs → All HasNames bs
+  pub blocks_spelled : (labels : List (List ℕ)) (bs : List CodeBlock) → All (IsGoodCodeBlock frame labels) bs
+      → All (λ (b : CodeBlock). is_name b.label ≡ true) bs
       → AllZip (IsSpelled frame) (pieces_of (joined_lines (flat_map block_lines bs))) (lines_in bs)
   blocks_spelled labels [] good named = tt
   blocks_spelled labels (b ∷ bs) good named =
       let here = All-head (IsGoodCodeBlock frame labels) b bs good in
-      let names = All-head HasNames b bs named in
+      let name = All-head (λ (b : CodeBlock). is_name b.label ≡ true) b bs named in
       let packets : List ℕ = joined_lines (map packet_line b.packets) in
       let rest : List ℕ = joined_lines (flat_map block_lines bs) in
       one_more (joined_lines (flat_map block_lines (b ∷ bs))) (codes "block " ++ b.label) (packets ++ rest)
@@ -126,9 +123,10 @@ module _ (frame : ℕ) (small : frame ≤ 256) where
       (ap (λ (t : List ℕ). ((codes "block " ++ b.label) ++ 10 ∷ []) ++ t)
       (joined_append (map packet_line b.packets) (flat_map block_lines bs))
       ∙ append_assoc (codes "block " ++ b.label) (10 ∷ []) (packets ++ rest))
-      (label_no_feed b.label names.label) (record { good = names.label; spelled = refl })
-      (packets_spelled b.packets (code_packets b.packets here.packets names.packets) rest (lines_in bs)
-      (blocks_spelled labels bs (All-tail (IsGoodCodeBlock frame labels) b bs good) (All-tail HasNames b bs named)))
+      (label_no_feed b.label name) (record { good = name; spelled = refl })
+      (packets_spelled b.packets here.packets rest (lines_in bs)
+      (blocks_spelled labels bs (All-tail (IsGoodCodeBlock frame labels) b bs good)
+      (All-tail (λ (b : CodeBlock). is_name b.label ≡ true) b bs named)))
 
   -- the first piece tells the frame
   pub first_piece : (ls : List (List ℕ))

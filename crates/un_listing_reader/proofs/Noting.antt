@@ -5,7 +5,7 @@ use Rattle.std.proofs.Common.{append-nil, add-zero}
 use Rattle.std.proofs.lemmas.List.Elements.{Contains-append_left, Contains-push, Contains-push_cases}
 use Rattle.un_packet.specs.declared.code.Packet.{Packet}
 use Rattle.un_listing_reader.specs.declared.line.Line.{Line}
-use Rattle.un_listing_reader.specs.declared.line.Line.TheVariants.{Block as BlockLine, Packet as PacketLine}
+use Rattle.un_listing_reader.specs.declared.line.Line.TheVariants.{Block as BlockLine, Packet as PacketLine, Broken}
 use Rattle.un_listing_reader.specs.Reading.{labels_in, packets_in}
 use Rattle.un_listing_reader.specs.LabelSets.{has_label, add_label, IsBefore}
 use Rattle.un_listing_reader.proofs.Judged.{has_decides}
@@ -15,11 +15,13 @@ labels_append [] ms = refl
 labels_append (None ∷ ls) ms = labels_append ls ms
 labels_append (Some (BlockLine l) ∷ ls) ms = ap (λ (xs : List (List ℕ)). l ∷ xs) (labels_append ls ms)
 labels_append (Some (PacketLine p) ∷ ls) ms = labels_append ls ms
+labels_append (Some Broken ∷ ls) ms = labels_append ls ms
 
 pub packets_append : (ls ms : List (Option Line)) → packets_in (ls ++ ms) ≡ packets_in ls + packets_in ms
 packets_append [] ms = omega arith
 packets_append (None ∷ ls) ms = packets_append ls ms
 packets_append (Some (BlockLine l) ∷ ls) ms = packets_append ls ms
+packets_append (Some Broken ∷ ls) ms = packets_append ls ms
 packets_append (Some (PacketLine p) ∷ ls) ms = let e = packets_append ls ms in omega arith
 
 pub some_more : {X : Type 0} (xs : List X) (x : X) → xs ++ x ∷ [] ≢ []
@@ -46,12 +48,12 @@ add_contains labels label l = by (has_label labels label) refl
 
 module _ (lines : List (Option Line)) (labels : List (List ℕ)) (blocks packets : ℕ) (some : Bool)
     (known : IsBefore (record { labels = labels; blocks = blocks; packets = packets; some = some }) lines) where
-  pub none_noted : IsBefore (record { labels = labels; blocks = blocks; packets = packets; some = true }) (lines ++ None ∷ [])
-  none_noted = record {
-    labels = rw (labels_append lines (None ∷ []), append-nil (labels_in lines)) known.labels;
-    blocks = rw (labels_append lines (None ∷ []), append-nil (labels_in lines)) known.blocks;
-    packets = known.packets ∙ ap (λ n. min n (2 ^ 32 - 1)) (sym (packets_append lines (None ∷ []) ∙ add-zero (packets_in lines)));
-    some = always true refl (some_more lines None);
+  pub broken_noted : IsBefore (record { labels = labels; blocks = blocks; packets = packets; some = true }) (lines ++ Some Broken ∷ [])
+  broken_noted = record {
+    labels = rw (labels_append lines (Some Broken ∷ []), append-nil (labels_in lines)) known.labels;
+    blocks = rw (labels_append lines (Some Broken ∷ []), append-nil (labels_in lines)) known.blocks;
+    packets = known.packets ∙ ap (λ n. min n (2 ^ 32 - 1)) (sym (packets_append lines (Some Broken ∷ []) ∙ add-zero (packets_in lines)));
+    some = always true refl (some_more lines (Some Broken));
   }
 
   pub packet_noted : (p : Packet)

@@ -7,13 +7,14 @@ use Rattle.std.proofs.lemmas.List.{map-append}
 use Rattle.std.proofs.lemmas.List.Elements.{All-head, All-tail, filter-append}
 use Rattle.std.proofs.lemmas.List.Splits.{length-slice_split}
 use Rattle.std.proofs.lemmas.List.Folds.{list_all-append}
+use Rattle.un_isa.specs.declared.reg.TheConstants.{FRAME}
 use Rattle.un_isa.specs.declared.instr.Instr.{Instr}
 use Rattle.un_packet.specs.declared.code.Packet.{Packet}
 use Rattle.un_packet.specs.CodeRules.{IsGoodInstr}
 use Rattle.un_listing.specs.Listing.{joined, instr_text}
 use Rattle.un_listing.specs.ListingWords.{word_of, is_between, is_some_text, words_of}
 use Rattle.un_listing.specs.Recognized.{instr_of}
-use Rattle.un_listing_reader.specs.PacketWords.{IsNamed, is_semicolon, parts_of, put_before, instrs_in, IsPacketLine}
+use Rattle.un_listing_reader.specs.PacketWords.{is_semicolon, parts_of, put_before, instrs_in, IsPacketLine}
 use Rattle.un_listing.proofs.WordTexts.{all_weaker}
 use Rattle.un_listing.proofs.InstrBack.{IsBack, instr_back}
 use Rattle.un_listing_reader.proofs.CleanTexts.{is_clean, instr_clean}
@@ -98,14 +99,13 @@ parts_back text i (j ∷ js) clean read back =
 regroup : (a b c d : List ℕ) → ((a ++ b) ++ c) ++ d ≡ a ++ (b ++ (c ++ d))
 regroup a b c d = simp append_assoc
 
-are_back : (frame : ℕ) → frame ≤ 256 → (is : List Instr) → All (IsGoodInstr frame) is → All IsNamed is → AreBack is
-are_back frame small [] good named = tt
-are_back frame small (i ∷ is) good named =
-    let g = All-head (IsGoodInstr frame) i is good in
-    let n = All-head IsNamed i is named in (
-      instr_back frame small i.op i.dst i.srcs i.imm i.label g n,
-      all_weaker is_clean (λ b. not (is_semicolon b)) clean_byte (instr_text i) (instr_clean frame small i g n),
-      are_back frame small is (All-tail (IsGoodInstr frame) i is good) (All-tail IsNamed i is named),
+are_back : (frame : ℕ) → frame ≤ FRAME → (is : List Instr) → All (IsGoodInstr frame) is → AreBack is
+are_back frame small [] good = tt
+are_back frame small (i ∷ is) good =
+    let g = All-head (IsGoodInstr frame) i is good in (
+      instr_back frame small i.op i.dst i.srcs i.imm i.label g,
+      all_weaker is_clean (λ b. not (is_semicolon b)) clean_byte (instr_text i) (instr_clean frame small i g),
+      are_back frame small is (All-tail (IsGoodInstr frame) i is good),
     )
 
 line_back : (is : List Instr) → 0 < length is → AreBack is
@@ -116,8 +116,8 @@ line_back (i ∷ is) some back =
     ∙ parts_back (123 ∷ 32 ∷ instr_text i) i is back.1 back.0 back.2
 
 -- the instructions of a packet's line
-pub packet_back : (frame : ℕ) → frame ≤ 256 → (line : List ℕ) (p : Packet) → IsPacketLine frame line p
+pub packet_back : (frame : ℕ) → frame ≤ FRAME → (line : List ℕ) (p : Packet) → IsPacketLine frame line p
     → instrs_in (parts_of line) ≡ Some p.instrs
 packet_back frame small line p h =
     ap (λ (t : List ℕ). instrs_in (parts_of t)) h.text
-    ∙ line_back p.instrs h.packet.rules.some (are_back frame small p.instrs h.packet.rules.instrs h.packet.names)
+    ∙ line_back p.instrs h.rules.some (are_back frame small p.instrs h.rules.instrs)

@@ -5,6 +5,7 @@ use Rattle.std.specs.List.{AllByRecursion as Each}
 use Rattle.std.specs.Bool.{OnTrue}
 use Rattle.std.proofs.lemmas.List.Elements.{All-cons, All-nil, Contains-append_left, Contains-push}
 use Rattle.std.proofs.lemmas.List.Sums.{sum_by-cons}
+use Rattle.un_base.specs.Names.{is_name}
 use Rattle.un_words.proofs.Each.{EachPair, EachPair-AllPairs}
 use Rattle.un_packet.specs.declared.code.TheConstants.{PACKETS, BLOCKS}
 use Rattle.un_packet.specs.declared.code.Packet.{Packet}
@@ -183,9 +184,9 @@ some_block [] some = absurd (some refl)
 some_block (b ∷ bs) some = omega arith
 
 pub rules_kept : (text : List ℕ) (frame : ℕ) (bs : List CodeBlock) → IsFrameLine text frame
-    → Each (λ (b : CodeBlock). All (IsGoodPacket frame) b.packets) bs
+    → Each (λ (b : CodeBlock). All (IsGoodPacket frame) b.packets) bs → All (λ (b : CodeBlock). is_name b.label ≡ true) bs
     → AllStand (lines_in bs) → KeepsRules frame bs
-rules_kept text frame bs framed good stand =
+rules_kept text frame bs framed good named stand =
     let from : StandFrom (labels_in (lines_in bs)) [] (lines_in bs) = from_places [] (lines_in bs) stand.each in
     let h : StandFrom (labels_of bs) [] (lines_in bs) = subst (λ (all : List (List ℕ)). StandFrom all [] (lines_in bs))
     (labels_lines bs) from in
@@ -198,6 +199,7 @@ rules_kept text frame bs framed good stand =
       some = some_block bs stand.some;
       few_blocks = omega arith;
       few_packets = omega arith;
+      named = named;
       distinct_labels = EachPair-AllPairs (λ (a b : CodeBlock). a.label ≢ b.label) bs (distinct (labels_of bs) [] bs h);
       good_blocks = good_blocks (labels_of bs) frame [] bs h good;
       last = last_leaves (labels_of bs) [] bs h;

@@ -9,7 +9,7 @@ use Rattle.std.proofs.lemmas.Option.{slice_get_within, slice_get-get_or, get_or_
 use Rattle.un_packet.specs.declared.code.Packet.{Packet}
 use Rattle.un_packet.specs.declared.code.CodeBlock.{CodeBlock}
 use Rattle.un_listing_reader.specs.declared.line.Line.{Line}
-use Rattle.un_listing_reader.specs.declared.line.Line.TheVariants.{Block as BlockLine, Packet as PacketLine}
+use Rattle.un_listing_reader.specs.declared.line.Line.TheVariants.{Block as BlockLine, Packet as PacketLine, Broken}
 use Rattle.un_listing_reader.specs.declared.labels.Before.{Before}
 use Rattle.un_listing_reader.specs.Reading.{labels_in, StandsAt, Stands, AllStand, lines_in, packet_lines, IsUnder}
 use Rattle.un_listing_reader.specs.LabelSets.{IsBefore, SameLabels, add_label}
@@ -23,6 +23,9 @@ pub record StandSoFar (before : Before) (lines : List (Option Line)) (k : ℕ) :
 module _ (labels : List (List ℕ)) (lines : List (Option Line)) (same : SameLabels labels (labels_in lines)) where
   pub none_added : SameLabels labels (labels_in (lines ++ None ∷ []))
   none_added = rw (labels_append lines (None ∷ []), append-nil (labels_in lines)) same
+
+  pub broken_added : SameLabels labels (labels_in (lines ++ Some Broken ∷ []))
+  broken_added = rw (labels_append lines (Some Broken ∷ []), append-nil (labels_in lines)) same
 
   pub packet_added : (p : Packet) → SameLabels labels (labels_in (lines ++ Some (PacketLine p) ∷ []))
   packet_added p = rw (labels_append lines (Some (PacketLine p) ∷ []), append-nil (labels_in lines)) same
@@ -183,6 +186,10 @@ packet_pushed_to old front new block label ps more p line e b f g h = rw (e, b, 
 pub is_under : (blocks : List CodeBlock) (line : Line) (rest lines : List (Option Line)) → AllStand lines
     → lines_in blocks ++ Some line ∷ rest ≡ lines → IsUnder blocks line
 is_under blocks (BlockLine label) rest lines all e = tt
+is_under blocks Broken rest lines all e =
+    (here_stands (lines_in blocks) (Some Broken) rest).0
+    (rw e (all.each (length (lines_in blocks)) (let f = ap length e in let g = length-append (lines_in blocks)
+    (Some Broken ∷ rest) in omega arith)))
 is_under blocks (PacketLine p) rest lines all e = λ none.
     let stands = (here_stands (lines_in blocks) (Some (PacketLine p)) rest).0
     (rw e (all.each (length (lines_in blocks)) (let f = ap length e in let g = length-append (lines_in blocks)

@@ -1,8 +1,7 @@
 -- The instructions of a packet's line, part by part between its semicolons.
-use Rattle.std.specs.Prelude.{ℕ, ◌≡◌, true, Bool, ◌==◌, List, [], ◌∷◌, ◌++◌, Option, Some, All, IfSome, codes}
+use Rattle.std.specs.Prelude.{ℕ, ◌≡◌, Bool, ◌==◌, List, [], ◌∷◌, ◌++◌, Option, Some, codes}
 use Rattle.std.specs.List.{slice_split}
 use Rattle.std.specs.Option.{option_and_then, option_map}
-use Rattle.un_base.specs.Names.{is_name}
 use Rattle.un_isa.specs.declared.instr.Instr.{Instr}
 use Rattle.un_packet.specs.declared.code.Packet.{Packet}
 use Rattle.un_packet.specs.CodeRules.{IsGoodPacket}
@@ -24,16 +23,7 @@ abbrev pub instrs_in : List (List ℕ) → Option (List Instr)
 instrs_in [] = Some []
 instrs_in (part ∷ parts) = option_and_then (λ i. put_before i (instrs_in parts)) (instr_of (words_of part))
 
--- a label is a name
-abbrev pub IsNamed : Instr → Type 0
-IsNamed i = IfSome i.label (λ label. is_name label ≡ true)
-
--- a packet of code with a frame of so many bytes
-pub record IsCodePacket (frame : ℕ) (p : Packet) : Type 0 where
-  pub rules : IsGoodPacket frame p
-  pub names : All IsNamed p.instrs
-
--- a line with its line feed is the packet's
+-- a line with its line feed is that of a packet of code with a frame of so many bytes
 pub record IsPacketLine (frame : ℕ) (line : List ℕ) (p : Packet) : Type 0 where
-  pub packet : IsCodePacket frame p
+  pub rules : IsGoodPacket frame p
   pub text : line ≡ packet_line p ++ codes "\n"

@@ -11,13 +11,13 @@ use Rattle.un_packet.specs.declared.code.TheConstants.{PACKETS, BLOCKS}
 use Rattle.un_packet.specs.declared.code.Packet.{Packet}
 use Rattle.un_packet.specs.declared.code.CodeBlock.{CodeBlock}
 use Rattle.un_packet.specs.declared.code.Code.{Code}
-use Rattle.un_packet.specs.CodeRules.{LeadsToOneOf, transfers, leaves}
+use Rattle.un_packet.specs.CodeRules.{IsGoodPacket, LeadsToOneOf, transfers, leaves}
 use Rattle.un_listing_reader.specs.declared.line.Line.{Line}
-use Rattle.un_listing_reader.specs.declared.line.Line.TheVariants.{Block as BlockLine, Packet as PacketLine}
+use Rattle.un_listing_reader.specs.declared.line.Line.TheVariants.{Block as BlockLine, Packet as PacketLine, Broken}
 use Rattle.un_listing_reader.specs.declared.read.ListingError.{ListingError}
 use Rattle.un_listing_reader.specs.declared.read.ListingError.TheVariants.{NoMemory, BadListing}
 use Rattle.un_listing.specs.Listing.{packet_line, code_text}
-use Rattle.un_listing_reader.specs.PacketWords.{IsNamed, IsCodePacket}
+use Rattle.un_listing_reader.specs.PacketForms.{IsPacketForm}
 
 abbrev pub LineValue : Type 0
 LineValue = Line
@@ -27,21 +27,29 @@ LineValue = Line
 abbrev pub line_text : Line → List ℕ
 line_text (BlockLine label) = codes "block " ++ (label ++ codes "\n")
 line_text (PacketLine p) = packet_line p ++ codes "\n"
+line_text Broken = []
 
 -- a name, or a packet of code with a frame of so many bytes
 abbrev pub IsGoodLine : ℕ → Line → Type 0
 IsGoodLine frame (BlockLine label) = is_name label ≡ true
-IsGoodLine frame (PacketLine p) = IsCodePacket frame p
+IsGoodLine frame (PacketLine p) = IsGoodPacket frame p
+IsGoodLine frame Broken = ⊥
 
 -- a line with its line feed
 pub record Spells (frame : ℕ) (text : List ℕ) (line : Line) : Type 0 where
   pub good : IsGoodLine frame line
   pub spelled : text ≡ line_text line
 
--- a text is read as what it spells, and as None where it spells nothing
+-- a text spells nothing
+abbrev pub SpellsNone : ℕ → List ℕ → Type 0
+SpellsNone frame text = (line : Line) → ¬ Spells frame text line
+
+-- a text is read as what it spells; where it spells nothing, as a broken line where it is a packet's by its form, and else as None
 abbrev pub IsReadAs : ℕ → List ℕ → Option Line → Type 0
-IsReadAs frame text None = (line : Line) → ¬ Spells frame text line
-IsReadAs frame text (Some line) = Spells frame text line
+IsReadAs frame text None = SpellsNone frame text × ¬ IsPacketForm text
+IsReadAs frame text (Some (BlockLine label)) = Spells frame text (BlockLine label)
+IsReadAs frame text (Some (PacketLine p)) = Spells frame text (PacketLine p)
+IsReadAs frame text (Some Broken) = SpellsNone frame text × IsPacketForm text
 
 -- the first line: the size of the frame in bytes
 abbrev pub frame_text : ℕ → List ℕ
@@ -60,17 +68,20 @@ labels_in [] = []
 labels_in (None ∷ ls) = labels_in ls
 labels_in (Some (BlockLine label) ∷ ls) = label ∷ labels_in ls
 labels_in (Some (PacketLine p) ∷ ls) = labels_in ls
+labels_in (Some Broken ∷ ls) = labels_in ls
 
--- how many lines are packets'
+-- how many lines are packets of code
 abbrev pub packets_in : List (Option Line) → ℕ
 packets_in [] = 0
 packets_in (None ∷ ls) = packets_in ls
 packets_in (Some (BlockLine label) ∷ ls) = packets_in ls
 packets_in (Some (PacketLine p) ∷ ls) = suc (packets_in ls)
+packets_in (Some Broken ∷ ls) = packets_in ls
 
--- a packet of the same block comes next
+-- a packet of the same block comes next, also one that breaks a rule
 abbrev pub goes_on : List (Option Line) → Bool
 goes_on (Some (PacketLine p) ∷ ls) = true
+goes_on (Some Broken ∷ ls) = true
 goes_on _ = false
 
 -- a label's line among others: no earlier line has the label, there are not too many, and it is not the last line
@@ -92,6 +103,7 @@ abbrev pub Stands : List (List ℕ) → List (Option Line) → Option Line → L
 Stands labels before None after = ⊥
 Stands labels before (Some (BlockLine label)) after = BlockStands before after label
 Stands labels before (Some (PacketLine p)) after = PacketStands labels before after p
+Stands labels before (Some Broken) after = ⊥
 
 -- the line at place k from 0 behind the first line
 abbrev pub StandsAt : List (Option Line) → ℕ → Type 0
@@ -114,6 +126,7 @@ lines_in (block ∷ blocks) = Some (BlockLine block.label) ∷ packet_lines bloc
 abbrev pub IsUnder : List CodeBlock → Line → Type 0
 IsUnder blocks (BlockLine label) = Unit {0}
 IsUnder blocks (PacketLine p) = blocks ≢ []
+IsUnder blocks Broken = ⊥
 
 -- ---- the first bad line
 
@@ -149,15 +162,9 @@ IsErrorOf text (BadListing line) = IsFirstBad text line
 
 -- ---- the listing of code
 
--- the label of the block is a name, and so are those in its packets
-pub record HasNames (block : CodeBlock) : Type 0 where
-  pub label : is_name block.label ≡ true
-  pub packets : All (λ (p : Packet). All IsNamed p.instrs) block.packets
-
--- the text is the listing of code, which keeps the rules of its type, and whose labels are names
-pub record IsListingOf (text : List ℕ) (c : Code) : Type 0 where
-  pub names : All HasNames c.blocks
-  pub spelled : text ≡ code_text c
+-- the text is the listing of code, which keeps the rules of its type
+abbrev pub IsListingOf : List ℕ → Code → Type 0
+IsListingOf text c = text ≡ code_text c
 
 -- an answer to the listing of code is that code, or there was no memory
 abbrev pub IsReadBack : Code → Result Code ListingError → Type 0

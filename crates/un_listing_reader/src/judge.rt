@@ -48,12 +48,13 @@ fn leaves(packet: &Packet) -> bool
     packet.instrs.as_slice().iter().any(|i| is_leaving(i.op))
 }
 
-/// Whether a packet comes next.
+/// Whether a packet comes next, also one that breaks a rule.
 fn goes_on(after: &[Option<Line>]) -> bool
     ensures { result ≡ goes_on after.now }
 {
     match after {
         [Some(Line::Packet(_)), ..] => true,
+        [Some(Line::Broken), ..] => true,
         _ => false,
     }
 }
@@ -123,6 +124,7 @@ fn line_stands(labels: &Labels, before: &Before, line: &Line, after: &[Option<Li
     match line {
         Line::Block(label) => block_stands(before, after.is_empty(), label),
         Line::Packet(packet) => packet_stands(labels, before, after, packet),
+        Line::Broken => false,
     }
 }
 

@@ -1,10 +1,12 @@
 //! The lines of a listing behind the first, as they are read.
 
 ghost use Rattle.std.specs.Prelude.{◌≡◌, ◌≢◌, ℕ, List, [], ◌∷◌, ◌++◌, ◌≤◌, true, IfOk, IfSome, IfNone, codes};
+ghost use Rattle.un_isa.specs.declared.reg.TheConstants.{FRAME};
 ghost use Rattle.un_base.specs.Names.{is_name};
+ghost use Rattle.un_listing_reader.specs.PacketReads.{line_of};
 ghost use Rattle.un_listing_reader.specs.Reading.{Spells, IsReadAs, IsFrameLine};
 
-use crate::packet::read_packet;
+use crate::packet::{PacketRead, read_packet};
 use std::alloc::Global;
 use un_base::decimal::read_decimal;
 use un_base::memory_error::NoMemory;
@@ -12,11 +14,13 @@ use un_base::name::Name;
 use un_isa::reg::FRAME;
 use un_packet::code::Packet;
 
-/// A line behind the first: the line of a block's label, or of a packet.
+/// A line behind the first: the line of a block's label, that of a packet, or one that is a packet's by its form and breaks a rule
+/// of packets.
 #[derive(Drop)]
 pub enum Line {
     Block(Name),
     Packet(Packet),
+    Broken,
 }
 
 /// What stands between a text and the line feed.
@@ -35,22 +39,31 @@ fn block_label(line: &[u8]) -> Option<Name>
     Name::from_bytes(within(line, b"block ")?)
 }
 
-/// The line of a listing with a frame of so many bytes, behind its first line, where it spells one.
+/// The line that it is, by what it is as a packet's.
+fn line_of(read: PacketRead) -> Option<Line>
+    ensures { result ≡ line_of read }
+{
+    match read {
+        PacketRead::Good(packet) => Some(Line::Packet(packet)),
+        PacketRead::Broken => Some(Line::Broken),
+        PacketRead::Other => None,
+    }
+}
+
+/// What a line of a listing with a frame of so many bytes is, behind its first line.
 ///
 /// # Errors
 /// `NoMemory` where there is no memory for the line or for what it is compared with.
 pub fn read_line(alloc: Global, frame: u32, text: &[u8]) -> Result<Option<Line>, NoMemory>
-    requires { frame ≤ 256 }
+    requires { frame ≤ FRAME }
     ensures read { IfOk result (IsReadAs frame text.now) }
     ensures whole { (line : Line) → Spells frame text.now line → IfOk result (λ r. r ≡ Some line) }
 {
     if let Some(label) = block_label(text) {
         return Ok(Some(Line::Block(label)));
     }
-    match read_packet(alloc, frame, text)? {
-        Some(packet) => Ok(Some(Line::Packet(packet))),
-        None => Ok(None),
-    }
+    let read = read_packet(alloc, frame, text)?;
+    Ok(line_of(read))
 }
 
 /// The size of the frame in bytes, where the first line spells it.

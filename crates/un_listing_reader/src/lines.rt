@@ -2,6 +2,7 @@
 
 ghost use Rattle.std.specs.Prelude.{◌≡◌, ◌≤◌, IfOk};
 ghost use Rattle.std.specs.List.{AllZip};
+ghost use Rattle.un_isa.specs.declared.reg.TheConstants.{FRAME};
 ghost use Rattle.un_base.specs.Lines.{pieces_of};
 ghost use Rattle.un_listing_reader.specs.Reading.{IsReadAs};
 
@@ -16,7 +17,7 @@ use un_words::pieces::first_len;
 /// # Errors
 /// `NoMemory` where there is no memory for the lines or for what they are compared with.
 pub fn read_lines(alloc: Global, frame: u32, text: &[u8]) -> Result<Items<Option<Line>>, NoMemory>
-    requires { frame ≤ 256 }
+    requires { frame ≤ FRAME }
     ensures { IfOk result (λ lines. AllZip (IsReadAs frame) (pieces_of text.now) lines) }
 {
     let mut lines = Items::new(alloc);

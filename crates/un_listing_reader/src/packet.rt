@@ -1,13 +1,17 @@
-//! The packet that a line spells.
+//! The packet that a line spells, and what a line is as a packet's.
 
-ghost use Rattle.std.specs.Prelude.{◌≡◌, ◌≤◌, ◌++◌, ◌↔◌, IsTrue, IfOk, IfSome, length, codes};
+ghost use Rattle.std.specs.Prelude.{◌≡◌, ◌≤◌, ◌++◌, ◌↔◌, IsTrue, IfOk, All, length, codes};
 ghost use Rattle.std.specs.List.{position_or_len};
+ghost use Rattle.un_isa.specs.declared.reg.TheConstants.{FRAME};
 ghost use Rattle.un_packet.specs.CodeRules.{IsGoodPacket};
 ghost use Rattle.un_listing.specs.Listing.{packet_line};
 ghost use Rattle.un_listing.specs.ListingWords.{words_of};
 ghost use Rattle.un_listing.specs.Recognized.{instr_of};
-ghost use Rattle.un_listing_reader.specs.PacketWords.{is_semicolon, parts_of, instrs_in, IsCodePacket, IsPacketLine};
+ghost use Rattle.un_listing_reader.specs.PacketForms.{IsFormed};
+ghost use Rattle.un_listing_reader.specs.PacketReads.{IsByRules, IsPacketReadAs};
+ghost use Rattle.un_listing_reader.specs.PacketWords.{is_semicolon, parts_of, instrs_in, IsPacketLine};
 
+use crate::forms::are_formed;
 use crate::rules::is_good_packet;
 use std::alloc::Global;
 use un_base::memory_error::NoMemory;
@@ -67,34 +71,54 @@ fn is_printed(alloc: Global, packet: &Packet, line: &[u8]) -> Result<bool, NoMem
     Ok(text.as_slice() == line)
 }
 
-/// Whether it is a packet of code with a frame of so many bytes, and this is its line.
-fn is_packet_of(alloc: Global, frame: u32, packet: &Packet, line: &[u8]) -> Result<bool, NoMemory>
-    requires { frame ≤ 256 }
-    ensures { IfOk result (λ is. IsTrue is ↔ (IsGoodPacket frame packet.now × (packet_line packet.now ++ codes "\n" ≡ line.now))) }
+/// Whether the instructions have the form of instructions, and this is the line of their packet.
+fn is_form_of(alloc: Global, packet: &Packet, line: &[u8]) -> Result<bool, NoMemory>
+    ensures { IfOk result (λ is. IsTrue is ↔ (All IsFormed packet.now.instrs × (packet_line packet.now ++ codes "\n" ≡ line.now))) }
 {
-    if !is_good_packet(alloc, frame, packet)? {
+    if !are_formed(packet.instrs.as_slice()) {
         return Ok(false);
     }
     let same = is_printed(alloc, packet, line)?;
     Ok(same)
 }
 
-/// The packet of code with a frame of so many bytes whose line this is, with its line feed.
+/// What a line is as a packet's: that of a packet of code, one with a packet's form that breaks a rule, or another.
+#[derive(Drop)]
+pub enum PacketRead {
+    Good(Packet),
+    Broken,
+    Other,
+}
+
+/// A packet whose line has the form of one, by the rules of code with a frame of so many bytes.
+fn by_rules(alloc: Global, frame: u32, packet: Packet) -> Result<PacketRead, NoMemory>
+    requires { frame ≤ FRAME }
+    ensures { IfOk result (IsByRules frame packet) }
+{
+    if is_good_packet(alloc, frame, &packet)? {
+        Ok(PacketRead::Good(packet))
+    } else {
+        Ok(PacketRead::Broken)
+    }
+}
+
+/// What a line with its line feed is as a packet's, in code with a frame of so many bytes.
 ///
 /// # Errors
 /// `NoMemory` where there is no memory for the packet or for what it is compared with.
-pub fn read_packet(alloc: Global, frame: u32, line: &[u8]) -> Result<Option<Packet>, NoMemory>
-    requires { frame ≤ 256 }
-    ensures some { IfOk result (λ r. IfSome r (IsPacketLine frame line.now)) }
-    ensures whole { (p : Packet) → IsPacketLine frame line.now p → IfOk result (λ r. r ≡ Some p) }
+pub fn read_packet(alloc: Global, frame: u32, line: &[u8]) -> Result<PacketRead, NoMemory>
+    requires { frame ≤ FRAME }
+    ensures read { IfOk result (IsPacketReadAs frame line.now) }
+    ensures whole { (p : Packet) → IsPacketLine frame line.now p → IfOk result (λ r. r ≡ PacketRead.Good p) }
 {
     let Some(instrs) = read_instrs(alloc, line)? else {
-        return Ok(None);
+        return Ok(PacketRead::Other);
     };
     let packet = Packet { instrs };
-    if is_packet_of(alloc, frame, &packet, line)? {
-        Ok(Some(packet))
+    if is_form_of(alloc, &packet, line)? {
+        let read = by_rules(alloc, frame, packet)?;
+        Ok(read)
     } else {
-        Ok(None)
+        Ok(PacketRead::Other)
     }
 }

@@ -10,6 +10,7 @@ use crate::labels::{Before, Labels};
 use crate::line::{Line, read_frame};
 use crate::lines::read_lines;
 use std::alloc::Global;
+use thiserror::Error;
 use un_base::memory_error::NoMemory;
 use un_base::name::Name;
 use un_lists::items::Items;
@@ -17,9 +18,11 @@ use un_packet::code::{Code, CodeBlock, Packet};
 use un_words::pieces::first_len;
 
 /// Why there is no code: there was no memory, or a line is bad, counted from 1.
-#[derive(Clone, Copy)]
+#[derive(Clone, Copy, Debug, Error)]
 pub enum ListingError {
+    #[error("no memory")]
     NoMemory,
+    #[error("line {line}: bad listing")]
     BadListing { line: u32 },
 }
 
@@ -31,6 +34,7 @@ fn add_label_of(labels: &mut Labels, line: &Option<Line>) -> Result<(), NoMemory
     match line {
         Some(Line::Block(label)) => labels.add(label),
         Some(Line::Packet(_)) => Ok(()),
+        Some(Line::Broken) => Ok(()),
         None => Ok(()),
     }
 }
@@ -58,6 +62,7 @@ fn note(before: &mut Before, line: &Line) -> Result<(), NoMemory>
             before.blocks = before.blocks.saturating_add(1);
         }
         Line::Packet(_) => before.packets = before.packets.saturating_add(1),
+        Line::Broken => {}
     }
     Ok(())
 }
@@ -140,6 +145,7 @@ fn add_line(alloc: Global, blocks: &mut Vec<CodeBlock>, line: Line) -> Result<()
             }
             None => Ok(()),
         },
+        Line::Broken => Ok(()),
     }
 }
 

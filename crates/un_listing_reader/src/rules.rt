@@ -4,11 +4,13 @@ ghost use Rattle.std.specs.Prelude.{◌≡◌, ◌≢◌, ◌≤◌, ◌<◌, �
 ghost use Rattle.std.specs.Prelude.{IfOk};
 ghost use Rattle.std.specs.List.{list_any, range_with_len, flat_map};
 ghost use Rattle.std.specs.Bool.{OnTrue};
+ghost use Rattle.un_isa.specs.declared.reg.TheConstants.{FRAME};
+ghost use Rattle.un_isa.specs.Operands.{HasLiteral};
 ghost use Rattle.un_isa.specs.PacketCounts.{FitPacket};
 ghost use Rattle.un_isa.specs.Registers.{space_of};
 ghost use Rattle.un_listing_reader.specs.Needed.{counts_from, is_distinct};
 ghost use Rattle.un_packet.specs.CodeRules.{ReadsItsSpaces, WritesItsSpace, HasItsBase, HasItsNumber, HasItsLabel, IsGoodInstr};
-ghost use Rattle.un_packet.specs.CodeRules.{IsGoodPacket, written, needs_of, is_nop, number};
+ghost use Rattle.un_packet.specs.CodeRules.{IsGoodPacket, IsSomeName, written, needs_of, is_nop, number};
 
 use crate::needs::fit_packet;
 use std::alloc::Global;
@@ -48,7 +50,7 @@ fn count_up(regs: &[Reg]) -> bool
 }
 
 /// Whether a register lies in the space.
-fn is_in(reg: Reg, space: Space) -> bool
+pub(crate) fn is_in(reg: Reg, space: Space) -> bool
     ensures { IsTrue result ↔ (space_of reg.0 ≡ space) }
 {
     match space {
@@ -59,7 +61,7 @@ fn is_in(reg: Reg, space: Space) -> bool
 }
 
 /// Whether the registers lie in these spaces, one for one.
-fn are_in(regs: &[Reg], spaces: &[Space]) -> bool
+pub(crate) fn are_in(regs: &[Reg], spaces: &[Space]) -> bool
     ensures { IsTrue result ↔ (map (λ r. space_of r.0) regs.now ≡ spaces.now) }
 {
     if regs.len() != spaces.len() {
@@ -85,7 +87,7 @@ fn reads_its_spaces(op: Op, srcs: &[Reg]) -> bool
 }
 
 /// Whether the register that is written is one of the operation.
-fn writes_its_space(op: Op, dst: Option<Reg>) -> bool
+pub(crate) fn writes_its_space(op: Op, dst: Option<Reg>) -> bool
     ensures { IsTrue result ↔ (WritesItsSpace op dst) }
 {
     match op {
@@ -108,27 +110,44 @@ fn has_its_base(op: Op, srcs: &[Reg]) -> bool
     }
 }
 
+/// Whether the number is in the range of the operation's literal, or 0 where it has none.
+pub(crate) fn has_literal(op: Op, n: i32) -> bool
+    ensures { IsTrue result ↔ (HasLiteral op n) }
+{
+    match literal_range(op) {
+        None => n == 0,
+        Some(range) => is_in_range(range, n),
+    }
+}
+
 /// Whether the number is one of the operation, in code with a frame of so many bytes.
 fn has_its_number(frame: u32, op: Op, n: i32) -> bool
-    requires { frame ≤ 256 }
+    requires { frame ≤ FRAME }
     ensures { IsTrue result ↔ (HasItsNumber frame op n) }
 {
     match op {
         Op::Enter => frame > 0 && n == -(frame as i32),
         Op::Leave => frame > 0 && n == frame as i32,
-        _ => match literal_range(op) {
-            None => n == 0,
-            Some(range) => is_in_range(range, n),
-        },
+        _ => has_literal(op, n),
+    }
+}
+
+/// Whether there is a name.
+fn is_some_name(name: &Option<Name>) -> bool
+    ensures { IsTrue result ↔ (IsSomeName name.now) }
+{
+    match name {
+        Some(name) => !name.as_bytes().is_empty(),
+        None => false,
     }
 }
 
 /// Whether there is a label exactly where the operation has one.
-fn has_its_label(op: Op, label: &Option<Name>) -> bool
+pub(crate) fn has_its_label(op: Op, label: &Option<Name>) -> bool
     ensures { IsTrue result ↔ (HasItsLabel op label.now) }
 {
     match op {
-        Op::Call | Op::Jump | Op::JumpIf | Op::JumpIfNot => label.is_some(),
+        Op::Call | Op::Jump | Op::JumpIf | Op::JumpIfNot => is_some_name(label),
         _ => label.is_none(),
     }
 }
@@ -145,7 +164,7 @@ fn spares_stack(dst: Option<Reg>) -> bool
 
 /// Whether it is an instruction of code with a frame of so many bytes.
 fn is_good_instr(frame: u32, i: &Instr) -> bool
-    requires { frame ≤ 256 }
+    requires { frame ≤ FRAME }
     ensures { IsTrue result ↔ (IsGoodInstr frame i.now) }
 {
     if !reads_its_spaces(i.op, i.srcs.as_slice()) || !writes_its_space(i.op, i.dst) {
@@ -159,7 +178,7 @@ fn is_good_instr(frame: u32, i: &Instr) -> bool
 
 /// Whether all are instructions of code with a frame of so many bytes.
 fn are_good(frame: u32, instrs: &[Instr]) -> bool
-    requires { frame ≤ 256 }
+    requires { frame ≤ FRAME }
     ensures { IsTrue result ↔ (All (IsGoodInstr frame) instrs.now) }
 {
     for i in instrs {
@@ -246,7 +265,7 @@ fn are_distinct(numbers: &[u32]) -> bool
 /// `NoMemory` where there is no memory for the list of the registers that they write.
 #[tactic(auto, using(crate::proofs::NeedLaws::distinct_decides))]
 pub fn is_good_packet(alloc: Global, frame: u32, packet: &Packet) -> Result<bool, NoMemory>
-    requires { frame ≤ 256 }
+    requires { frame ≤ FRAME }
     ensures { IfOk result (λ good. IsTrue good ↔ (IsGoodPacket frame packet.now)) }
 {
     let instrs = packet.instrs.as_slice();

@@ -1,9 +1,11 @@
 //! Words of a command line.
 
-ghost use Rattle.std.specs.Prelude.{◌≡◌, ◌↔◌, IfOk, IsTrue};
+ghost use Rattle.std.specs.Prelude.{◌≡◌, ◌↔◌, ◌++◌, ◌∷◌, [], IfOk, OnOk, OnErr, IsTrue};
 
 use std::alloc::Global;
+use std::env;
 use std::marker::Model;
+use std::rt::Env;
 use un_base::memory_error::NoMemory;
 
 /// A word of a command line, a text of its own that contracts see as the list of its bytes.
@@ -45,4 +47,34 @@ impl Word {
     {
         self.bytes.as_slice() == text
     }
+}
+
+/// Appends a word of a command line.
+///
+/// # Errors
+/// `NoMemory` where there is no memory for it. Then the words are as they were.
+pub fn push_word(alloc: Global, words: &mut Vec<Word>, text: &str) -> Result<(), NoMemory>
+    ensures pushed { OnOk result (words.new.items ≡ words.old.items ++ text.now ∷ []) }
+    ensures kept { OnErr result (words.new.items ≡ words.old.items) }
+{
+    let word = Word::new(alloc, text)?;
+    match words.push(word) {
+        Ok(()) => Ok(()),
+        Err(_) => Err(NoMemory),
+    }
+}
+
+/// The arguments of the program, without its own name.
+///
+/// # Errors
+/// `NoMemory` where there is no memory for them, or where one of them is no text.
+pub fn words(rt: &(impl Env + AllocGlobal)) -> Result<Vec<Word>, NoMemory> {
+    let Ok(texts) = env::args(rt) else {
+        return Err(NoMemory);
+    };
+    let mut words = Vec::new(rt.alloc());
+    for text in texts.skip(1) {
+        push_word(rt.alloc(), &mut words, text.as_str())?;
+    }
+    Ok(words)
 }

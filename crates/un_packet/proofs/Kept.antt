@@ -1,14 +1,16 @@
 -- The rules of code can be kept, without a frame and with the largest one.
-use Rattle.std.proofs.Common.{ℕ, zero, suc, pos, negsuc, ◌≡◌, ◌≢◌, ◌+◌, ◌<◌, false, List, [], ◌∷◌, slice_get, None, IsSomeAnd, All}
+use Rattle.std.proofs.Common.{ℕ, zero, suc, pos, ◌≡◌, true, ◌≢◌, ◌+◌, ◌<◌, false, List, [], ◌∷◌, slice_get, None, IsSomeAnd, All}
 use Rattle.std.proofs.Common.{AllPairs, refl, arith, lit<, lit≤}
 use Rattle.std.specs.Prelude.{codes}
 use Rattle.std.proofs.lemmas.List.Elements.{All-from_recursion}
+use Rattle.un_base.specs.Names.{is_name}
 use Rattle.un_isa.specs.declared.op.Op.TheVariants.{Jumpr, Enter, Leave}
+use Rattle.un_isa.specs.declared.reg.TheConstants.{FRAME}
 use Rattle.un_isa.specs.declared.instr.Instr.{Instr}
 use Rattle.un_packet.specs.declared.code.Packet.{Packet}
 use Rattle.un_packet.specs.declared.code.CodeBlock.{CodeBlock}
 use Rattle.un_packet.specs.CodeRules.{KeepsRules, IsGoodCodeBlock, IsGoodPacket, IsGoodInstr, LeadsToOneOf, EndsByLeaving, labels_of}
-use Rattle.un_packet.specs.CodeRules.{transfers}
+use Rattle.un_packet.specs.CodeRules.{transfers, minus}
 use Rattle.un_packet.proofs.Assembly.{i, packet, block}
 
 one_only : {X : Type 0} (R : X → X → Type 0) (x : X) → AllPairs R (x ∷ [])
@@ -43,6 +45,7 @@ kept_without_frame = record {
   some = lit< tt;
   few_blocks = lit< tt;
   few_packets = lit< tt;
+  named = All-from_recursion (λ (b : CodeBlock). is_name b.label ≡ true) without_frame (refl, tt);
   distinct_labels = one_only (λ (a b : CodeBlock). a.label ≢ b.label) (block (codes "e") (returning ∷ []));
   good_blocks = All-from_recursion (IsGoodCodeBlock 0 (labels_of without_frame)) without_frame (
     record {
@@ -60,12 +63,12 @@ kept_without_frame = record {
     last_in zero e = (0, refl, refl)
     last_in (suc b) e = absurd (omega (arith, e))
 
--- `r29 = add(r29,#-256)`, and then `r29 = add(r29,#256); jumpr r31`
+-- the largest frame is entered, and then left with `jumpr r31`
 abbrev down : Instr
-down = i Enter None [] (negsuc 255) None
+down = i Enter None [] (minus FRAME) None
 
 abbrev up : Instr
-up = i Leave None [] (pos 256) None
+up = i Leave None [] (pos FRAME) None
 
 abbrev entering : Packet
 entering = packet (down ∷ [])
@@ -79,26 +82,27 @@ framed = block (codes "e") (entering ∷ leaving ∷ [])
 abbrev with_frame : List CodeBlock
 with_frame = framed ∷ []
 
-good_down : IsGoodInstr 256 down
+good_down : IsGoodInstr FRAME down
 good_down = record { reads = refl; writes = refl; stack = λ e. cc e; base = tt; literal = (lit< tt, refl); label = refl }
 
-good_up : IsGoodInstr 256 up
+good_up : IsGoodInstr FRAME up
 good_up = record { reads = refl; writes = refl; stack = λ e. cc e; base = tt; literal = (lit< tt, refl); label = refl }
 
-pub kept_with_frame : KeepsRules 256 with_frame
+pub kept_with_frame : KeepsRules FRAME with_frame
 kept_with_frame = record {
   whole = refl;
   small = lit≤ tt;
   some = lit< tt;
   few_blocks = lit< tt;
   few_packets = lit< tt;
+  named = All-from_recursion (λ (b : CodeBlock). is_name b.label ≡ true) with_frame (refl, tt);
   distinct_labels = one_only (λ (a b : CodeBlock). a.label ≢ b.label) framed;
-  good_blocks = All-from_recursion (IsGoodCodeBlock 256 (labels_of with_frame)) with_frame (
+  good_blocks = All-from_recursion (IsGoodCodeBlock FRAME (labels_of with_frame)) with_frame (
     record {
-      packets = All-from_recursion (IsGoodPacket 256) (entering ∷ leaving ∷ []) (
+      packets = All-from_recursion (IsGoodPacket FRAME) (entering ∷ leaving ∷ []) (
         record {
           some = lit< tt;
-          instrs = All-from_recursion (IsGoodInstr 256) (down ∷ []) (good_down, tt);
+          instrs = All-from_recursion (IsGoodInstr FRAME) (down ∷ []) (good_down, tt);
           counts = record { instructions = lit≤ tt; mem = lit≤ tt; store = lit≤ tt; xc = lit≤ tt; control = lit≤ tt };
           idle = tt;
           one_writer = one_only (λ (a b : ℕ). a ≢ b) 29;
@@ -106,7 +110,7 @@ kept_with_frame = record {
         (
           record {
             some = lit< tt;
-            instrs = All-from_recursion (IsGoodInstr 256) (up ∷ back ∷ []) (good_up, (good_back 256, tt));
+            instrs = All-from_recursion (IsGoodInstr FRAME) (up ∷ back ∷ []) (good_up, (good_back FRAME, tt));
             counts = record { instructions = lit≤ tt; mem = lit≤ tt; store = lit≤ tt; xc = lit≤ tt; control = lit≤ tt };
             idle = tt;
             one_writer = one_only (λ (a b : ℕ). a ≢ b) 29;

@@ -1,4 +1,5 @@
 pub mod Assembly
+pub mod Broken
 pub mod Cycles
 pub mod Drawn
 pub mod Each
@@ -7,5 +8,6 @@ pub mod Kept
 pub mod Lengths
 pub mod Rules
 pub mod Runs
+pub mod SameCode
 pub mod Steps
 pub mod Worked

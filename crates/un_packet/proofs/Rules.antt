@@ -29,7 +29,7 @@ use Rattle.un_isa.specs.Operands.{IsLiteralOf, IsShift, IsShiftOf}
 use Rattle.un_packet.specs.declared.code.Packet.{Packet}
 use Rattle.un_packet.specs.declared.code.CodeBlock.{CodeBlock}
 use Rattle.un_packet.specs.CodeRules.{KeepsRules, IsGoodCodeBlock, IsGoodPacket, IsGoodInstr, HasItsNumber, HasItsLabel, ReadsItsSpaces}
-use Rattle.un_packet.specs.CodeRules.{IsThere, LeadsToOneOf, labels_of, is_jump, is_leaving, leaves, EndsByLeaving}
+use Rattle.un_packet.specs.CodeRules.{IsThere, IsSomeName, LeadsToOneOf, labels_of, is_jump, is_leaving, leaves, EndsByLeaving}
 use Rattle.un_packet.specs.Machine.{LeadsTo}
 use Rattle.un_packet.specs.Run.{packets_run, then_packets, label_place}
 use Rattle.un_packet.specs.Runnable.{IsRunnable, AreRunnable}
@@ -61,11 +61,15 @@ few_of Call srcs h = h.1
 few_of op srcs h = let e : length (map (λ (r : Reg). space_of r.0) srcs) ≡ length (operand_spaces op) = ap length h in let m =
     length-map srcs (λ (r : Reg). space_of r.0) in omega (arith, e, m)
 
+is_there : (label : Option (List ℕ)) → IsSomeName label → IsThere label
+is_there None h = h
+is_there (Some name) h = tt
+
 label_of : (op : Op) (label : Option (List ℕ)) → HasItsLabel op label → OnTrue (is_call op || is_jump op) (IsThere label)
-label_of Call label h = h
-label_of Jump label h = h
-label_of JumpIf label h = h
-label_of JumpIfNot label h = h
+label_of Call label h = is_there label h
+label_of Jump label h = is_there label h
+label_of JumpIf label h = is_there label h
+label_of JumpIfNot label h = is_there label h
 label_of _ label h = tt
 
 runnable : (frame : ℕ) (i : Instr) → IsGoodInstr frame i → IsRunnable i

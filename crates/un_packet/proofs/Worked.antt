@@ -258,6 +258,20 @@ trapped_store_start = record {
 trapped_store : told (run_of 0 trapped_store_blocks trapped_store_start 5) ≡ (Trapped, trapped_store_memory, [], 0)
 trapped_store = refl
 
+-- A packet that traps, and that calls where no reply is left, traps: the call does not come to pass.
+abbrev traps_and_calls_blocks : List CodeBlock
+traps_and_calls_blocks =
+    block (codes "e") (
+    packet (i Load (r 3) (1 ∷ []) (pos 0) None
+    ∷ i Call None (0 ∷ []) (pos 0) (named (codes "h")) ∷ [])
+    ∷
+    packet (i Jumpr None (31 ∷ []) (pos 0) None ∷ [])
+    ∷ [])
+    ∷ []
+
+traps_and_calls : told (run_of 0 traps_and_calls_blocks trapped_store_start 5) ≡ (Trapped, trapped_store_memory, [], 0)
+traps_and_calls = refl
+
 -- A load and a later store in one packet: the load sees the word before the store.
 abbrev load_and_store_blocks : List CodeBlock
 load_and_store_blocks =

@@ -4,6 +4,7 @@ use Rattle.std.specs.Prelude.{Some, None, map, length, sum_by, All, AllPairs, Co
 use Rattle.std.specs.List.{flat_map, list_any, range_with_len}
 use Rattle.std.specs.Bool.{OnTrue}
 use Rattle.std.specs.Option.{option_map, option_to_list}
+use Rattle.un_base.specs.Names.{is_name}
 use Rattle.un_isa.specs.declared.op.Op.{Op}
 use Rattle.un_isa.specs.declared.op.Op.TheVariants.{Load, Store, Call, Jump, JumpIf, JumpIfNot, Jumpr, Enter, Leave, Nop}
 use Rattle.un_isa.specs.declared.reg.TheConstants.{STACK, LINK, GENERALS, PREDICATES, FRAME}
@@ -48,12 +49,15 @@ abbrev pub IsThere : {X : Type 0} → Option X → Type 0
 IsThere None = ⊥
 IsThere (Some x) = Unit {0}
 
--- a call has the name of its function, a jump its label, and no other instruction has one
+abbrev pub IsSomeName : Option (List ℕ) → Type 0
+IsSomeName label = IsSomeAnd label (λ name. is_name name ≡ true)
+
+-- a call has the name of its function, a jump its label, which is a name too, and no other instruction has one
 abbrev pub HasItsLabel : Op → Option (List ℕ) → Type 0
-HasItsLabel Call label = IsThere label
-HasItsLabel Jump label = IsThere label
-HasItsLabel JumpIf label = IsThere label
-HasItsLabel JumpIfNot label = IsThere label
+HasItsLabel Call label = IsSomeName label
+HasItsLabel Jump label = IsSomeName label
+HasItsLabel JumpIf label = IsSomeName label
+HasItsLabel JumpIfNot label = IsSomeName label
 HasItsLabel op label = label ≡ None
 
 -- the stack pointer is no base of a Load or a Store: those are Reload and Spill
@@ -155,6 +159,7 @@ pub record KeepsRules (frame : ℕ) (blocks : List CodeBlock) : Type 0 where
   pub some : 0 < length blocks
   pub few_blocks : length blocks < BLOCKS
   pub few_packets : sum_by (λ (b : CodeBlock). length b.packets) blocks < PACKETS
+  pub named : All (λ (b : CodeBlock). is_name b.label ≡ true) blocks
   pub distinct_labels : AllPairs (λ (a b : CodeBlock). a.label ≢ b.label) blocks
   pub good_blocks : All (IsGoodCodeBlock frame (labels_of blocks)) blocks
   -- the last block does not fall through

@@ -1,6 +1,7 @@
 pub mod CodeRules
 pub mod Cycles
 pub mod Ends
+pub mod Exactness
 pub mod Machine
 pub mod Outcomes
 pub mod Passes

@@ -3,6 +3,7 @@
 
 pub mod code;
 mod effects;
+pub mod exact;
 pub mod machine;
 pub mod pass;
 pub mod run;

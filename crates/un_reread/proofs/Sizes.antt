@@ -3,6 +3,7 @@ use Rattle.std.proofs.Common.{ℕ, ◌+◌, ◌*◌, ◌≤◌, List, [], ◌∷
 use Rattle.std.specs.List.{All, flat_map}
 use Rattle.std.proofs.lemmas.List.{length-append, length-map}
 use Rattle.std.proofs.lemmas.List.Elements.{All-head, All-tail}
+use Rattle.un_ir.specs.declared.function.TheConstants.{BLOCKS, OPS}
 use Rattle.un_ir.specs.declared.function.Term.{Term}
 use Rattle.un_ir.specs.declared.function.Term.TheVariants.{Ret}
 use Rattle.un_ir.specs.declared.function.Block.{Block}
@@ -43,6 +44,6 @@ pub text_within : (f : Function) → IsWellFormed f.name f.params f.names f.bloc
 text_within f w short =
     let size = joined_size (function_lines f) short in
     let count = line_count f.blocks f.names f.blocks in
-    let blocks : length f.blocks ≤ 16 = w.few_blocks in
-    let ops : length (flat_map (λ (b : Block). b.ops) f.blocks) ≤ 80 = w.few_ops in
+    let blocks : length f.blocks ≤ BLOCKS = w.few_blocks in
+    let ops : length (flat_map (λ (b : Block). b.ops) f.blocks) ≤ OPS = w.few_ops in
     omega arith

@@ -15,8 +15,10 @@ use Rattle.un_ir.specs.declared.function.Function.{Function}
 use Rattle.un_reader.specs.Read.{IsRead, IsTextFault, too_long}
 use Rattle.un_faults.specs.declared.fault.Fault.TheVariants.{TooMany}
 use Rattle.un_top.specs.Faults.{IsFault}
-use Rattle.un_top.specs.Reports.{IsReportOf}
-use Rattle.un_top.specs.Runs.{AnswersFault, AnswersAccepted, IsAnswer, IsRefusal, KeepsOut, OutAfter}
+use Rattle.un_top.specs.declared.words.Command.{Command}
+use Rattle.un_top.specs.declared.words.Command.TheVariants.{Alloc}
+use Rattle.un_top.specs.Words.{IsCommand}
+use Rattle.un_top.specs.Runs.{AnswersFault, AnswersAccepted, IsAnswer, IsRefusal, IsOutput, IsOutputOf, KeepsOut, OutAfter}
 use Rattle.un_top.proofs.FaultLaws.{fault_unique, read_has_no_fault}
 
 -- a text that is too long has its fault
@@ -47,15 +49,28 @@ refused_fault text line code NoMemory r f h = tt
 refused_fault text line code (No cause) r f h = absurd r
 refused_fault text line code (BadReport l) r f h = absurd r
 
+-- what has an output is the text of a function
+text_of : (command : Command) (text out : List ℕ) → IsOutput command text out → (f : Function) × IsRead text f
+text_of Alloc text out h = (h.function, h.read)
+
+-- an output of the command that the words are
+pub with_command : (words : List (List ℕ)) (command : Command) (text : List ℕ) (outcome : Result (Vec ℕ Global) Status)
+    → IsCommand words command → IfOk outcome (λ out. IsOutput command text out.items)
+    → IfOk outcome (λ out. IsOutputOf words text out.items)
+with_command words command text (Err e) is output = tt
+with_command words command text (Ok out) is output = record { command = command; asked = is; output = output }
+
 -- a run that wrote, or refused before it, answers the text's fault
-pub answers_fault : (told : Option (List ℕ)) (outcome : Result (Vec ℕ Global) Status) (status : Status) → IfErr outcome IsRefusal
+pub answers_fault : (words : List (List ℕ)) (told : Option (List ℕ)) (outcome : Result (Vec ℕ Global) Status) (status : Status)
+    → IfErr outcome IsRefusal
     → IfErr outcome (λ e. status ≡ e)
     → ((l c : ℕ) → outcome ≡ Err (TextFault l c) → IfSome told (λ (text : List ℕ). IsFault text l c))
-    → IfOk outcome (λ out. IfSome told (λ (text : List ℕ). IsReportOf text out.items))
+    → IfOk outcome (λ out. IfSome told (λ (text : List ℕ). IsOutputOf words text out.items))
     → IfSome told (λ (text : List ℕ). (line code : ℕ) → IsFault text line code → AnswersFault status line code)
-answers_fault None outcome status r e f o = tt
-answers_fault (Some text) (Ok out) status r e f o = λ line code h. absurd (read_has_no_fault text o.function line code o.read h)
-answers_fault (Some text) (Err s) status r e f o = λ line code h.
+answers_fault words None outcome status r e f o = tt
+answers_fault words (Some text) (Ok out) status r e f o = λ line code h.
+    let read = text_of o.command text out.items o.output in absurd (read_has_no_fault text read.0 line code read.1 h)
+answers_fault words (Some text) (Err s) status r e f o = λ line code h.
     subst (λ (t : Status). AnswersFault t line code) (sym e) (refused_fault text line code s r (λ l c k. f l c (ap Err k)) h)
 
 -- a status that tells a fault only where the text has one is no fault for an accepted text
@@ -79,33 +94,34 @@ answers_accepted None status fault = tt
 answers_accepted (Some text) status fault = λ f read. accepted_by text f status read fault
 
 -- what `out` holds after a refusal before writing, over whatever text
-refused_out : (s : Status) (text : List ℕ) (old new : Option (List ℕ)) → IsRefusal s → new ≡ old → OutAfter s text old new
-refused_out Done text old new r k = absurd r
-refused_out Infeasible text old new r k = absurd r
-refused_out Spent text old new r k = absurd r
-refused_out (TextFault l c) text old new r k = k
-refused_out (Usage place) text old new r k = k
-refused_out ReadFault text old new r k = k
-refused_out WriteFault text old new r k = absurd r
-refused_out NoMemory text old new r k = k
-refused_out (No cause) text old new r k = absurd r
-refused_out (BadReport l) text old new r k = absurd r
+refused_out : (s : Status) (words : List (List ℕ)) (text : List ℕ) (old new : Option (List ℕ)) → IsRefusal s → new ≡ old
+    → OutAfter s words text old new
+refused_out Done words text old new r k = absurd r
+refused_out Infeasible words text old new r k = absurd r
+refused_out Spent words text old new r k = absurd r
+refused_out (TextFault l c) words text old new r k = k
+refused_out (Usage place) words text old new r k = k
+refused_out ReadFault words text old new r k = k
+refused_out WriteFault words text old new r k = absurd r
+refused_out NoMemory words text old new r k = k
+refused_out (No cause) words text old new r k = absurd r
+refused_out (BadReport l) words text old new r k = absurd r
 
 -- what `out` holds after a run that wrote, or refused before it
-pub out_after : (told : Option (List ℕ)) (outcome : Result (Vec ℕ Global) Status) (status : Status) (old new : Option (List ℕ))
-    → IfErr outcome IsRefusal → IfErr outcome (λ e. status ≡ e) → OnErr outcome (new ≡ old)
+pub out_after : (words : List (List ℕ)) (told : Option (List ℕ)) (outcome : Result (Vec ℕ Global) Status) (status : Status)
+    (old new : Option (List ℕ)) → IfErr outcome IsRefusal → IfErr outcome (λ e. status ≡ e) → OnErr outcome (new ≡ old)
     → (status ≡ Done → IfOk outcome (λ out. Appends old new out.items))
     → (status ≡ WriteFault → IfOk outcome (λ out. AppendsPrefix old new out.items))
     → OnOk outcome ((status ≡ Done) ⊎ (status ≡ WriteFault))
-    → IfOk outcome (λ out. IfSome told (λ (text : List ℕ). IsReportOf text out.items))
-    → IfSome told (λ (text : List ℕ). OutAfter status text old new)
-out_after None outcome status old new r e k d p w o = tt
-out_after (Some text) (Ok out) status old new r e k d p (inl done) o =
-    subst (λ (s : Status). OutAfter s text old new) (sym done) (out.items, o, d done)
-out_after (Some text) (Ok out) status old new r e k d p (inr wrote) o =
-    subst (λ (s : Status). OutAfter s text old new) (sym wrote) (out.items, o, p wrote)
-out_after (Some text) (Err x) status old new r e k d p w o =
-    subst (λ (s : Status). OutAfter s text old new) (sym e) (refused_out x text old new r k)
+    → IfOk outcome (λ out. IfSome told (λ (text : List ℕ). IsOutputOf words text out.items))
+    → IfSome told (λ (text : List ℕ). OutAfter status words text old new)
+out_after words None outcome status old new r e k d p w o = tt
+out_after words (Some text) (Ok out) status old new r e k d p (inl done) o =
+    subst (λ (s : Status). OutAfter s words text old new) (sym done) (out.items, o, d done)
+out_after words (Some text) (Ok out) status old new r e k d p (inr wrote) o =
+    subst (λ (s : Status). OutAfter s words text old new) (sym wrote) (out.items, o, p wrote)
+out_after words (Some text) (Err x) status old new r e k d p w o =
+    subst (λ (s : Status). OutAfter s words text old new) (sym e) (refused_out x words text old new r k)
 
 -- a refusal before writing keeps `out`, and is an answer of today's command
 refused_keeps : (s : Status) (old new : Option (List ℕ)) → IsRefusal s → new ≡ old → KeepsOut s old new × IsAnswer s

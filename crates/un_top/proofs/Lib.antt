@@ -4,5 +4,6 @@ pub mod CodeLaws
 pub mod FaultLaws
 pub mod Firsts
 pub mod Parts
+pub mod Rows
 pub mod Told
 pub mod WordLaws

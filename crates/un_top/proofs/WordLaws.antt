@@ -1,14 +1,20 @@
 -- The words of a command, and the place of the first bad one.
 use Rattle.std.proofs.Common.{ℕ, ◌≡◌, ◌≤◌, List, refl}
+use Rattle.un_top.specs.declared.words.Command.{Command}
 use Rattle.un_top.specs.Words.{IsCommand, BeginsCommand, IsBadWord}
 use Rattle.un_top.proofs.Firsts.{begin_alike, first_unique}
 
 begins_less : (words : List (List ℕ)) (j k : ℕ) → j ≤ k → BeginsCommand words k → BeginsCommand words j
-begins_less words j k h b = record { command = b.command; is_command = b.is_command; begins = begin_alike j k words b.command h b.begins }
+begins_less words j k h b = record {
+  command = b.command;
+  spelled = b.spelled;
+  is_command = b.is_command;
+  begins = begin_alike j k words b.spelled h b.begins;
+}
 
 -- a command has no bad word
-pub command_is_good : (words : List (List ℕ)) (place : ℕ) → IsCommand words → IsBadWord words place → ⊥
-command_is_good words place h b = b.bad (record { command = words; is_command = h; begins = refl })
+pub command_is_good : (words : List (List ℕ)) (command : Command) (place : ℕ) → IsCommand words command → IsBadWord words place → ⊥
+command_is_good words command place h b = b.bad (record { command = command; spelled = words; is_command = h; begins = refl })
 
 -- there is one first bad word
 pub bad_word_unique : (words : List (List ℕ)) (p q : ℕ) → IsBadWord words p → IsBadWord words q → p ≡ q

@@ -8,13 +8,27 @@ use Rattle.un_outside.specs.Causes.{AppendsPrefix}
 use Rattle.un_outside.specs.declared.status.Status.{Status}
 use Rattle.un_outside.specs.declared.status.Status.TheVariants.{Done, Infeasible, Spent, TextFault, Usage, ReadFault, WriteFault, NoMemory, No}
 use Rattle.un_outside.specs.declared.status.Status.TheVariants.{BadReport}
+use Rattle.un_top.specs.declared.words.Command.{Command}
+use Rattle.un_top.specs.declared.words.Command.TheVariants.{Alloc}
 use Rattle.un_top.specs.Reports.{IsReportOf}
+use Rattle.un_top.specs.Words.{IsCommand}
 
--- what `out` holds after a run over this text: the report where it is done, a prefix of it after a fault of writing
-abbrev pub OutAfter : Status → List ℕ → Option (List ℕ) → Option (List ℕ) → Type 0
-OutAfter Done text old new = (report : List ℕ) × IsReportOf text report × Appends old new report
-OutAfter WriteFault text old new = (report : List ℕ) × IsReportOf text report × AppendsPrefix old new report
-OutAfter _ text old new = new ≡ old
+-- what a command puts out over a text
+abbrev pub IsOutput : Command → List ℕ → List ℕ → Type 0
+IsOutput Alloc text out = IsReportOf text out
+
+-- the words are those of a command, and this is its output over a text
+pub record IsOutputOf (words : List (List ℕ)) (text out : List ℕ) : Type 0 where
+  pub command : Command
+  pub asked : IsCommand words command
+  pub output : IsOutput command text out
+
+-- what `out` holds after a run over these words and this text: the output of the command where it is done, a prefix of it after a
+-- fault of writing
+abbrev pub OutAfter : Status → List (List ℕ) → List ℕ → Option (List ℕ) → Option (List ℕ) → Type 0
+OutAfter Done words text old new = (out : List ℕ) × IsOutputOf words text out × Appends old new out
+OutAfter WriteFault words text old new = (out : List ℕ) × IsOutputOf words text out × AppendsPrefix old new out
+OutAfter _ words text old new = new ≡ old
 
 -- the statuses that come of no output leave `out` as it was
 abbrev pub KeepsOut : Status → Option (List ℕ) → Option (List ℕ) → Type 0

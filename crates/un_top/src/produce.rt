@@ -6,12 +6,12 @@ ghost use Rattle.un_outside.specs.Causes.{Rose};
 ghost use Rattle.un_reader.specs.Read.{IsRead};
 ghost use Rattle.un_top.specs.Faults.{IsFault};
 ghost use Rattle.un_top.specs.Reports.{IsReportOf};
-ghost use Rattle.un_top.specs.Words.{IsCommand, IsBadWord};
-ghost use Rattle.un_top.specs.Runs.{IsTextRefusal, IsRefusal};
+ghost use Rattle.un_top.specs.Words.{IsBadWord, IsCommand};
+ghost use Rattle.un_top.specs.Runs.{IsOutput, IsOutputOf, IsTextRefusal, IsRefusal};
 
 use crate::bound::full_packets;
 use crate::code::costed_code;
-use crate::words::check_words;
+use crate::words::{Command, read_command};
 use std::alloc::Global;
 use un_base::memory_error::NoMemory;
 use un_ir::function::Function;
@@ -58,9 +58,38 @@ fn report(alloc: Global, text: &[u8]) -> Result<Vec<u8>, Status>
     }
 }
 
-/// Looks at the words, reads the input and makes its report. Nothing is read where the words are no command.
+/// What a command puts out over a text.
+fn output(alloc: Global, command: Command, text: &[u8]) -> Result<Vec<u8>, Status>
+    requires { length text.now ≤ TEXT }
+    ensures ok { IfOk result (λ out. IsOutput command text.now out.items) }
+    ensures fault { (line code : ℕ) → result ≡ Err (Status.TextFault line code) → IsFault text.now line code }
+    ensures only { IfErr result IsTextRefusal }
+{
+    match command {
+        Command::Alloc => report(alloc, text),
+    }
+}
+
+/// What the command of these words puts out over a text.
+fn output_of(
+    alloc: Global,
+    words: &[Word],
+    command: Command,
+    text: &[u8],
+) -> Result<Vec<u8>, Status>
+    requires asked { IsCommand words.now command }
+    requires few { length text.now ≤ TEXT }
+    ensures ok { IfOk result (λ out. IsOutputOf words.now text.now out.items) }
+    ensures fault { (line code : ℕ) → result ≡ Err (Status.TextFault line code) → IsFault text.now line code }
+    ensures only { IfErr result IsTextRefusal }
+{
+    let _ = words;
+    output(alloc, command, text)
+}
+
+/// Looks at the words, reads the input and makes the output. Nothing is read where the words are no command.
 pub fn produce<S: Source>(alloc: Global, words: &[Word], src: &mut S) -> Result<Vec<u8>, Status>
-    ensures ok { IfOk result (λ out. IfSome (S.left src.old) (λ text. IsReportOf text out.items)) }
+    ensures ok { IfOk result (λ out. IfSome (S.left src.old) (λ text. IsOutputOf words.now text out.items)) }
     ensures exactly_usage { (place : ℕ) → IsBadWord words.now place → result ≡ Err (Status.Usage place) }
     ensures read_all { IfOk result (λ out. IsAtEnd (S.left src.new)) }
     ensures usage { (place : ℕ) → result ≡ Err (Status.Usage place) → IsBadWord words.now place }
@@ -70,9 +99,10 @@ pub fn produce<S: Source>(alloc: Global, words: &[Word], src: &mut S) -> Result<
     ensures fault { (line code : ℕ) → result ≡ Err (Status.TextFault line code) → IfSome (S.left src.old) (λ text. IsFault text line code) }
     ensures only { IfErr result IsRefusal }
 {
-    if let Err(word) = check_words(words) {
-        return Err(Status::Usage { word });
-    }
+    let command = match read_command(words) {
+        Ok(command) => command,
+        Err(word) => return Err(Status::Usage { word }),
+    };
     let text = match read_all(alloc, src, TEXT) {
         Ok(text) => text,
         Err(ReadAll::ReadFault) => return Err(Status::ReadFault),
@@ -84,5 +114,5 @@ pub fn produce<S: Source>(alloc: Global, words: &[Word], src: &mut S) -> Result<
         }
         Err(ReadAll::NoMemory) => return Err(Status::NoMemory),
     };
-    report(alloc, text.as_slice())
+    output_of(alloc, words, command, text.as_slice())
 }

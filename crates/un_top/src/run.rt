@@ -6,7 +6,7 @@ ghost use Rattle.un_outside.specs.Causes.{Rose, AppendsPrefix};
 ghost use Rattle.un_ir.specs.declared.function.Function.{Function};
 ghost use Rattle.un_reader.specs.Read.{IsRead};
 ghost use Rattle.un_top.specs.Faults.{IsFault};
-ghost use Rattle.un_top.specs.Words.{IsCommand, IsBadWord};
+ghost use Rattle.un_top.specs.Words.{IsBadWord};
 ghost use Rattle.un_top.specs.Runs.{OutAfter, KeepsOut, AnswersFault, AnswersAccepted, IsAnswer, IsRefusal, line_of};
 
 use crate::faults::write_line;
@@ -49,8 +49,8 @@ pub fn run<S: Source, K: Sink, E: Sink>(
     out: &mut K,
     err: &mut E,
 ) -> Status
-    // The report is that of the text, whole, or a prefix of it where writing failed.
-    ensures out { IfSome (S.left src.old) (λ text. OutAfter result text (K.held out.old) (K.held out.new)) }
+    // The output is that of the command over the text, whole, or a prefix of it where writing failed.
+    ensures out { IfSome (S.left src.old) (λ text. OutAfter result words.now text (K.held out.old) (K.held out.new)) }
     ensures kept { KeepsOut result (K.held out.old) (K.held out.new) }
     ensures read_whole { result ≡ Status.Done → IsAtEnd (S.left src.new) }
 

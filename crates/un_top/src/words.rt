@@ -1,16 +1,23 @@
-//! The words of a command line.
+//! The words of a command line, and the commands that they are.
 
-ghost use Rattle.std.specs.Prelude.{◌≡◌, ℕ, ◌⊎◌, Ok, Err};
+ghost use Rattle.std.specs.Prelude.{◌≡◌, ℕ, ◌⊎◌, Ok, Err, IfOk};
 ghost use Rattle.un_top.specs.Words.{IsCommand, IsBadWord};
 
 use un_outside::words::Word;
 
-/// Whether the words are `alloc` alone.
+/// What a command line asks for.
+#[derive(Clone, Copy)]
+pub enum Command {
+    /// The report of a function, with its code.
+    Alloc,
+}
+
+/// The command that the words are.
 ///
 /// # Errors
-/// The least place, from 0, at which no accepted list of words begins with the words up to and with that place.
-pub fn check_words(words: &[Word]) -> Result<(), u32>
-    ensures ok { result ≡ Ok tt → IsCommand words.now }
+/// The least place, from 0, at which no command begins with the words up to and with that place.
+pub fn read_command(words: &[Word]) -> Result<Command, u32>
+    ensures ok { IfOk result (IsCommand words.now) }
     ensures exactly { (place : ℕ) → IsBadWord words.now place → result ≡ Err place }
     ensures bad { (place : ℕ) → result ≡ Err place → IsBadWord words.now place }
 {
@@ -18,5 +25,5 @@ pub fn check_words(words: &[Word]) -> Result<(), u32>
         Some(word) if word.is(b"alloc") => {}
         _ => return Err(0),
     }
-    if words.len() > 1 { Err(1) } else { Ok(()) }
+    if words.len() > 1 { Err(1) } else { Ok(Command::Alloc) }
 }

@@ -1,42 +1,21 @@
 //! The program over the real outside: its words, standard input, output and error, handed to `run` once.
 #![tactic(auto)]
 
-ghost use Rattle.std.specs.Prelude.{◌≡◌, ℕ};
+ghost use Rattle.std.specs.Prelude.{◌≡◌, ℕ, IfSome};
 ghost use Rattle.std.specs.Process.{exit_status};
+ghost use Rattle.un_outside.specs.Causes.{AppendsPrefix};
 ghost use Rattle.un_outside.specs.Statuses.{number_of};
+ghost use Rattle.un_outside.specs.declared.status.Status.{Status};
+ghost use Rattle.un_top.specs.Runs.{KeepsOut, OutAfter, line_of};
 ghost use Rattle.un_top.specs.Words.{IsBadWord};
 
 use std::alloc::Global;
-use std::env;
 use std::process::ExitCode;
-use std::rt::Env;
-use un_base::memory_error::NoMemory;
 use un_outside::files::{StdSink, StdSource};
 use un_outside::outside::{Sink, Source};
 use un_outside::status::Status;
-use un_outside::words::Word;
+use un_outside::words::{Word, words};
 use un_top::run::run;
-
-/// Appends a word of a command line.
-fn push_word(alloc: Global, words: &mut Vec<Word>, text: &str) -> Result<(), NoMemory> {
-    let word = Word::new(alloc, text)?;
-    match words.push(word) {
-        Ok(()) => Ok(()),
-        Err(_) => Err(NoMemory),
-    }
-}
-
-/// The arguments without the program's own name.
-fn words(rt: &(impl Env + AllocGlobal)) -> Result<Vec<Word>, NoMemory> {
-    let Ok(texts) = env::args(rt) else {
-        return Err(NoMemory);
-    };
-    let mut words = Vec::new(rt.alloc());
-    for text in texts.skip(1) {
-        push_word(rt.alloc(), &mut words, text.as_str())?;
-    }
-    Ok(words)
-}
 
 /// The exit status for a status: its number.
 fn exit_by(status: Status) -> ExitCode
@@ -54,6 +33,10 @@ fn run_on<S: Source, K: Sink, E: Sink>(
     err: &mut E,
 ) -> ExitCode
     ensures refused { (place : ℕ) → IsBadWord words.now place → exit_status result ≡ 4 }
+    ensures told { (status : Status) × (exit_status result ≡ number_of status)
+        × IfSome (S.left src.old) (λ text. OutAfter status words.now text (K.held out.old) (K.held out.new))
+        × KeepsOut status (K.held out.old) (K.held out.new)
+        × AppendsPrefix (E.held err.old) (E.held err.new) (line_of status) }
 {
     let status = run(alloc, words, src, out, err);
     exit_by(status)

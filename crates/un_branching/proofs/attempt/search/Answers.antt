@@ -26,7 +26,7 @@ list-requires g c =
     let P = g.P.Problem in
     let p = c.args.problem.now in
     subst (λ (us : List Entry). Stays us (length us) 0) (sym c.as_slice.ensures.value)
-        (tree_stays (P.root p) (P.fix p) (P.least p) _ c.loop-alloc.invariant.sofar.tree)
+    (tree_stays (P.root p) (P.fix p) (P.least p) _ c.loop-alloc.invariant.sofar.tree)
 
 pub returns-in-None-clause-tried : goal.returns-in-None-clause-tried
 returns-in-None-clause-tried g c =
@@ -35,7 +35,7 @@ returns-in-None-clause-tried g c =
     let p = c.args.problem.now in
     let none : heap_items c.loop-alloc.heap ≡ [] = nil_from_length _ (omega (arith, c.in-None.ensures.none)) in
     refutes (P.root p) (P.fix p) (P.least p) (P.is_good p) (m.inside p) (m.keeps p) _ _ _ _ _ c.loop-alloc.invariant.sofar
-        c.as_slice.ensures.value c.in_ok-list-in-None.ensures none c.loop-alloc.invariant.within
+    c.as_slice.ensures.value c.in_ok-list-in-None.ensures none c.loop-alloc.invariant.within
 
 pub returns-in-None-clause-first : goal.returns-in-None-clause-first
 returns-in-None-clause-first g c few =
@@ -44,15 +44,18 @@ returns-in-None-clause-first g c few =
     let p = c.args.problem.now in
     let none : heap_items c.loop-alloc.heap ≡ [] = nil_from_length _ (omega (arith, c.in-None.ensures.none)) in
     let i = c.loop-alloc.invariant in
-    absurd (fresh_closed (P.root p) (P.fix p) (P.least p) _ i.sofar.tree i.fresh (omega (arith, few,
-        i.within)) (none_open (P.root p) (P.fix p) (P.least p) (P.is_good p) (m.inside p) (m.keeps p) _ _ i.sofar none))
+    absurd (fresh_closed (P.root p) (P.fix p) (P.least p) _ i.sofar.tree i.fresh (omega (
+      arith,
+      few,
+      i.within,
+    )) (none_open (P.root p) (P.fix p) (P.least p) (P.is_good p) (m.inside p) (m.keeps p) _ _ i.sofar none))
 
 pub list-requires-then-len-nodes : goal.list-requires-then-len-nodes
 list-requires-then-len-nodes g c =
     let P = g.P.Problem in
     let p = c.args.problem.now in
     subst (λ (us : List Entry). Stays us (length us) 0) (sym c.as_slice-then-len-nodes.ensures.value)
-        (tree_stays (P.root p) (P.fix p) (P.least p) _ c.loop-alloc.invariant.sofar.tree)
+    (tree_stays (P.root p) (P.fix p) (P.least p) _ c.loop-alloc.invariant.sofar.tree)
 
 pub returns-then-len-nodes-clause-tried : goal.returns-then-len-nodes-clause-tried
 returns-then-len-nodes-clause-tried g c =
@@ -70,4 +73,4 @@ step-requires-clause-taken g c =
     let p = c.args.problem.now in
     let i = c.loop-alloc.invariant in
     take_out (P.root p) (P.fix p) (P.least p) (g.met.P.Problem.rises p) _ _ _ c.in-Some.top i.sofar c.in-Some.ensures.permutation
-        (c.in-Some.ensures.heap_order i.ordered).1
+    (c.in-Some.ensures.heap_order i.ordered).1

@@ -1,39 +1,26 @@
--- A line is read as the packet whose line it is, and as no other.
-use Rattle.std.proofs.Common.{rules, ◌≡◌, List, Some, None, sym, ap, subst}
+-- A line is read by its instructions, its form and its rules.
+use Rattle.std.proofs.Common.{rules, ◌≡◌, List, Some, None}
 use Rattle.un_isa.specs.declared.instr.Instr.{Instr}
-use Rattle.un_packet.specs.declared.code.Packet.{Packet}
-use Rattle.un_listing_reader.specs.PacketWords.{parts_of, instrs_in, IsPacketLine}
-use Rattle.un_listing_reader.proofs.LabelNames.{all_named}
-use Rattle.un_listing_reader.proofs.PacketBack.{packet_back}
+use Rattle.un_listing_reader.specs.PacketWords.{parts_of, instrs_in}
+use Rattle.un_listing_reader.proofs.Formed.{other, not_formed, by_its_rules, whole}
 use Rattle.un_listing_reader.proofs.packet.read_packet.Goals as goal
 
-pub returns-in_default-clause-whole : goal.returns-in_default-clause-whole
-returns-in_default-clause-whole c = λ p h.
-    let e = packet_back c.args.frame c.requires c.args.line.now p h in
+pub returns-in_default : goal.returns-in_default
+returns-in_default c =
     let none : instrs_in (parts_of c.args.line.now) ≡ None = search rules in
-    absurd (cc (e, none))
+    let read = other c.args.frame c.requires c.args.line.now none in
+    record { read = read; whole = whole c.args.frame c.requires c.args.line.now _ read }
 
-pub returns-then-branch-clause-some : goal.returns-then-branch-clause-some
-returns-then-branch-clause-some c =
+pub returns-in_ok-read : goal.returns-in_ok-read
+returns-in_ok-read c =
     let found : instrs_in (parts_of c.args.line.now) ≡ Some c.in-Some.instrs = search rules in
-    let is = c.in_ok-is_packet_of.ensures.0 c.if-branch.true in
-    record {
-      packet = record { rules = is.0; names = all_named (parts_of c.args.line.now) c.in-Some.instrs found };
-      text = sym is.1;
-    }
+    let read = by_its_rules c.args.frame c.requires c.args.line.now c.in-Some.instrs found _ c.if-branch.true
+    c.in_ok-is_form_of.ensures c.in_ok-read.read c.in_ok-read.ensures in
+    record { read = read; whole = whole c.args.frame c.requires c.args.line.now _ read }
 
-pub returns-then-branch-clause-whole : goal.returns-then-branch-clause-whole
-returns-then-branch-clause-whole c = λ p h.
-    let e = packet_back c.args.frame c.requires c.args.line.now p h in
+pub returns-else-branch : goal.returns-else-branch
+returns-else-branch c =
     let found : instrs_in (parts_of c.args.line.now) ≡ Some c.in-Some.instrs = search rules in
-    let same : c.in-Some.instrs ≡ p.instrs = cc (e, found) in
-    ap (λ (is : List Instr). let q : Packet = record { instrs = is } in Some q) same
-
-pub returns-else-branch-clause-whole : goal.returns-else-branch-clause-whole
-returns-else-branch-clause-whole c = λ p h.
-    let e = packet_back c.args.frame c.requires c.args.line.now p h in
-    let found : instrs_in (parts_of c.args.line.now) ≡ Some c.in-Some.instrs = search rules in
-    let same : p.instrs ≡ c.in-Some.instrs = cc (e, found) in
-    let here : IsPacketLine c.args.frame c.args.line.now (record { instrs = c.in-Some.instrs }) = subst
-    (λ (is : List Instr). IsPacketLine c.args.frame c.args.line.now (record { instrs = is })) same h in
-    absurd (cc (c.in_ok-is_packet_of.ensures.1 (here.packet.rules, sym here.text), c.if-branch.false))
+    let read = not_formed c.args.frame c.requires c.args.line.now c.in-Some.instrs found _ c.if-branch.false
+    c.in_ok-is_form_of.ensures in
+    record { read = read; whole = whole c.args.frame c.requires c.args.line.now _ read }

@@ -1,8 +1,8 @@
 -- A label comes to the set, and nothing else does.
 use Rattle.std.proofs.Common.{rules, ◌≡◌, Some}
 use Rattle.std.proofs.lemmas.Result.{on_ok_weaker}
-use Rattle.un_listing_reader.specs.declared.line.Line.TheVariants.{Block as BlockLine, Packet as PacketLine}
-use Rattle.un_listing_reader.proofs.Standing.{label_added_to, none_added, packet_added}
+use Rattle.un_listing_reader.specs.declared.line.Line.TheVariants.{Block as BlockLine, Packet as PacketLine, Broken}
+use Rattle.un_listing_reader.proofs.Standing.{label_added_to, none_added, packet_added, broken_added}
 use Rattle.un_listing_reader.proofs.read.add_label_of.Goals as goal
 
 pub returns-in-Some-Block : goal.returns-in-Some-Block
@@ -18,3 +18,8 @@ returns-in-Some-Packet c = λ lines same.
 
 pub returns-in-None : goal.returns-in-None
 returns-in-None c = λ lines same. rw c.in-None.is (none_added c.args.labels.now lines same)
+
+pub returns-in-Some-Broken : goal.returns-in-Some-Broken
+returns-in-Some-Broken c = λ lines same.
+    let is : c.args.line.now ≡ Some Broken = search rules in
+    rw is (broken_added c.args.labels.now lines same)

@@ -18,3 +18,6 @@ returns-in_ok-push-in-Some c =
     c.in-Some.label-1-given.0.0 c.in-Some.label-1-given.0.0.label c.in-Some.label-1-given.0.0.packets c.push.new.self
     c.in-Packet.packet c.args.line c.in-Some.ensures.items refl c.in_ok-push-in-Some.ensures.ok e c.in-Packet.is)
     c.push_block-in-Some.ensures
+
+pub returns-in-Broken : goal.returns-in-Broken
+returns-in-Broken c = λ under. absurd (rw c.in-Broken.is at under)

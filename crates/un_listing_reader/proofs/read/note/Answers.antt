@@ -1,6 +1,6 @@
 -- One label or one packet more.
 use Rattle.std.proofs.Common.{◌≡◌, ◌+◌, ◌-◌, ◌^◌, min, arith}
-use Rattle.un_listing_reader.proofs.Noting.{block_noted, packet_noted}
+use Rattle.un_listing_reader.proofs.Noting.{block_noted, packet_noted, broken_noted}
 use Rattle.un_listing_reader.proofs.read.note.Goals as goal
 
 pub returns-in_ok-add-in-Block : goal.returns-in_ok-add-in-Block
@@ -16,3 +16,8 @@ returns-in-Packet c = λ lines known.
     rw (c.in-Packet.is, count)
     (packet_noted lines c.args.before.now.labels c.args.before.now.blocks c.args.before.now.packets c.args.before.now.some known
     c.in-Packet.field-0)
+
+pub returns-in-Broken : goal.returns-in-Broken
+returns-in-Broken c = λ lines known.
+    rw c.in-Broken.is
+    (broken_noted lines c.args.before.now.labels c.args.before.now.blocks c.args.before.now.packets c.args.before.now.some known)

@@ -1,7 +1,7 @@
 -- The first line tells the frame, and the others the blocks or the first bad line.
 use Rattle.std.proofs.Common.{rules, ◌≡◌, Some, None}
 use Rattle.un_listing_reader.specs.Reading.{AllStand, IsFirstBadOf}
-use Rattle.un_listing_reader.proofs.CodeRead.{where_none, where_some, frame_bad, line_bad, kept, names_read, read_text}
+use Rattle.un_listing_reader.proofs.CodeRead.{where_none, where_some, frame_bad, line_bad, kept, read_text}
 use Rattle.un_listing_reader.proofs.CodeBack.{one_code, refused}
 use Rattle.un_listing_reader.proofs.read.read_code.Goals as goal
 
@@ -21,14 +21,12 @@ returns-in-Ok-assemble c =
     let none : c.in-Ok-None.field-0 ≡ None = search rules in
     let all : AllStand c.in-Ok.lines = where_none c.in-Ok-None.field-0 c.in-Ok.lines c.as_slice.result.now none c.as_slice.ensures
     c.in-Ok-None.ensures in
-    let names = names_read c.args.text.now c.first_len-len.result c.first_len-len.ensures.bound c.first_len-len.ensures.cut
-    c.in-Some.frame c.in-Ok.lines c.in-Some.ensures.some c.in-Ok.ensures c.in-Ok-assemble.blocks all c.in-Ok-assemble.ensures in
     let spelled = read_text c.args.text.now c.first_len-len.result c.first_len-len.ensures.bound c.first_len-len.ensures.cut
     c.in-Some.frame c.in-Ok.lines c.in-Some.ensures.some c.in-Ok.ensures c.in-Ok-assemble.blocks all c.in-Ok-assemble.ensures in
     record {
-      ok = record { names = names; spelled = spelled };
+      ok = spelled;
       bad = tt;
-      whole = λ code is. one_code c.args.text.now _ code (record { names = names; spelled = spelled }) is;
+      whole = λ code is. one_code c.args.text.now _ code spelled is;
     }
 
 -- a first line that is no frame's is not that of a listing

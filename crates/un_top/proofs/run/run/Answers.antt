@@ -9,7 +9,7 @@ pub returns-clause-out : goal.returns-clause-out
 returns-clause-out g c =
     let f = c.finish-status.ensures in
     let p = c.produce-outcome.ensures in
-    out_after _ c.produce-outcome.result c.finish-status.result _ _ p.only f.err f.kept f.done f.prefix f.which p.ok
+    out_after _ _ c.produce-outcome.result c.finish-status.result _ _ p.only f.err f.kept f.done f.prefix f.which p.ok
 
 pub returns-clause-kept : goal.returns-clause-kept
 returns-clause-kept g c =
@@ -69,7 +69,7 @@ returns-clause-err_whole g c =
 
 pub returns-clause-exactly_fault : goal.returns-clause-exactly_fault
 returns-clause-exactly_fault g c =
-    answers_fault _ c.produce-outcome.result c.finish-status.result c.produce-outcome.ensures.only c.finish-status.ensures.err
+    answers_fault _ _ c.produce-outcome.result c.finish-status.result c.produce-outcome.ensures.only c.finish-status.ensures.err
     c.produce-outcome.ensures.fault c.produce-outcome.ensures.ok
 
 pub returns-clause-accepted : goal.returns-clause-accepted

@@ -1,0 +1,43 @@
+-- Parts of reports, as they are to be printed.
+use Rattle.std.proofs.Common.{ℕ, ◌≡◌, List, [], ◌∷◌, None, Some, codes, refl}
+use Rattle.std.specs.Fmt.{digits}
+use Rattle.un_report.specs.Reports.{numbers_text, solution_text, model_text, costs_text, answer_text, tree_part}
+use Rattle.un_report.specs.declared.report.Answered.TheVariants.{Infeasible, Spent}
+use Rattle.un_tree.specs.declared.node.Node.TheVariants.{Branch, Closed, Open}
+
+one_register : model_text (record { regs = Some 1; slots = 64 }) 2000 ≡ codes "model regs 1 slots 64 nodes 2000\n"
+unfolding digits
+one_register = refl
+
+all_registers : model_text (record { regs = None; slots = 64 }) 1 ≡ codes "model regs all slots 64 nodes 1\n"
+unfolding digits
+all_registers = refl
+
+no_code : answer_text Infeasible ≡ codes "answer infeasible\n"
+no_code = refl
+
+stopped : answer_text Spent ≡ codes "answer spent\n"
+stopped = refl
+
+costs : costs_text 6 1 ≡ codes "answer code\ncost 6\nbound 1\n"
+unfolding digits
+costs = refl
+
+closed_tree : tree_part (Closed ∷ []) ≡ codes "tree 1\nC\nend\n"
+unfolding digits
+closed_tree = refl
+
+split_tree : tree_part (Branch (record { 0 = 122 }) 2 ∷ Open ∷ Closed ∷ []) ≡ codes "tree 3\nB 122 2\nO\nC\nend\n"
+unfolding digits
+split_tree = refl
+
+-- sixteen numbers stand on a line, and the last line ends too
+seventeen : solution_text (16 ∷ 17 ∷ 18 ∷ 19 ∷ 20 ∷ 21 ∷ 22 ∷ 23 ∷ 24 ∷ 25 ∷ 26 ∷ 27 ∷ 31 ∷ 0 ∷ 0 ∷ 0 ∷ 7 ∷ [])
+    ≡ codes "solution 17\n16 17 18 19 20 21 22 23 24 25 26 27 31 0 0 0\n7\n"
+unfolding digits
+seventeen = refl
+
+one_line : numbers_text (1 ∷ 0 ∷ 0 ∷ 0 ∷ 0 ∷ 0 ∷ 0 ∷ 0 ∷ 0 ∷ 0 ∷ 0 ∷ 0 ∷ 1 ∷ 0 ∷ 0 ∷ 0 ∷ [])
+    ≡ codes "1 0 0 0 0 0 0 0 0 0 0 0 1 0 0 0\n"
+unfolding digits
+one_line = refl
