@@ -15,7 +15,8 @@ use Rattle.un_prop.proofs.changed.run_from.Goals as goal
 pub loop-i-init : goal.loop-i-init
 loop-i-init g c = record {
   so_far = run_first g.P.Predicate.scope g.P.Propagator.cut g.met.P.Propagator.lawful c.args.props.now
-      c.args.store.now.sets c.requires.known c.requires.live c.args.store.now.sets c.args.waiting.now c.args.sizes.now.words refl c.requires.ready
+      c.args.store.now.sets c.requires.known c.requires.live c.args.store.now.sets c.args.waiting.now c.args.sizes.now.words refl
+      c.requires.ready
       c.requires.flags c.requires.sizes;
   marked = refl;
   sizes = refl;

@@ -5,7 +5,8 @@ use Rattle.un_prop.proofs.changed.run_from.Given as goal
 
 abbrev pub invariant-loop-i : goal.invariant-loop-i
 invariant-loop-i g l = record {
-  so_far : SoFar g.P.Predicate.scope g.P.Propagator.cut g.met.P.Propagator.lawful l.props l.fn.store.sets l.store.sets l.waiting l.sizes.words;
+  so_far : SoFar g.P.Predicate.scope g.P.Propagator.cut g.met.P.Propagator.lawful l.props l.fn.store.sets l.store.sets l.waiting
+      l.sizes.words;
   sizes : l.sizes.marked ≡ l.fn.sizes.marked;
   marked : l.store.marked ≡ l.fn.store.marked;
   fixed : length l.scratch.fixed.items ≡ length l.fn.scratch.fixed.items;

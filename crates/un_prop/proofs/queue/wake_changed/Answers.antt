@@ -41,9 +41,11 @@ loop-v-preserved c =
             flags = w.wake.ensures.flags ∙ inv.flags;
             noted = noted_then vars c.args.store.now.sets c.loop-v.sizes.words k at c.size-size.result c.loop-v-test.true is within
                 c.size-size.ensures inv.noted;
-            others = λ u other. get_or-set_other c.loop-v.sizes.words at u c.size-size.result 0 (other k (record { 0 = 0 }) c.loop-v-test.true)
+            others = λ u other. get_or-set_other c.loop-v.sizes.words at u c.size-size.result 0 (other k (record { 0 = 0 })
+                c.loop-v-test.true)
                 ∙ inv.others u other;
-            woken = woken_then c.args.table.now c.args.sizes.now.words c.loop-v.sizes.words c.loop-v.waiting w.wake.new.waiting at c.size-size.result
+            woken = woken_then c.args.table.now c.args.sizes.now.words c.loop-v.sizes.words c.loop-v.waiting w.wake.new.waiting at
+                c.size-size.result
                 all w.wake.ensures.grows inv.woken;
             grows = λ i h. w.wake.ensures.grows i (inv.grows i h);
           }))

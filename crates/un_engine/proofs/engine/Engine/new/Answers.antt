@@ -13,10 +13,16 @@ returns-in-Stable g c =
     let P = g.P.Propagator in
     let t = c.run_from-fix.new.store.sets in
     let fix : IsFix (fix_of P.cut c.args.props.items c.args.store.sets) t Stable = rw (← c.as_slice-3.ensures.value)
-        c.in-Stable.ensures.rounds in
+    c.in-Stable.ensures.rounds in
     let left = stable_is (fix_of P.cut c.args.props.items c.args.store.sets) t fix in
-    record { props = refl; fix = left.0; long = c.run_from-fix.ensures.long; live = left.1; fresh = c.run_from-fix.ensures.marked ∙
-        c.requires.fresh }
+    record {
+      props = refl;
+      fix = left.0;
+      long = c.run_from-fix.ensures.long;
+      live = left.1;
+      fresh = c.run_from-fix.ensures.marked ∙
+          c.requires.fresh;
+    }
 
 pub returns-in-Failed : goal.returns-in-Failed
 returns-in-Failed g c =
@@ -34,7 +40,7 @@ invariant_of-result g c =
     let t = c.run_from-fix.new.store in
     let fix : IsFix (fix_of P.cut ps s) t.sets Stable = rw (← c.as_slice-3.ensures.value) c.in-Stable.ensures.rounds in
     let rests = fix_rests g.P.Predicate.scope P.cut g.met.P.Propagator.lawful P.span ps s t.sets Stable c.requires.known
-        c.requires.live fix in
+    c.requires.live fix in
     let long = c.run_from-fix.ensures.long in
     let vars : length t.sets ≡ c.len-vars.result = long ∙ sym c.len-vars.ensures in
     record {
