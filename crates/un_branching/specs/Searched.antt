@@ -14,8 +14,8 @@ use Rattle.un_branching.specs.declared.attempt.Tried.TheVariants.{Found as Good,
 module _ (root : Sets) (fix : Sets → Option Sets) (least : Sets → ℕ → Type 0) (good : List ℕ → Type 0) where
   abbrev pub IsTried : ℕ → Tried → Type 0
   IsTried n (Good x) = good x.items
-  IsTried n (Refuted t) = IsRefutation n t.nodes.items
-  IsTried n (Cut t low) = IsStopped n t.nodes.items low
+  IsTried n (Refuted t) = IsRefutation root fix least good n t.nodes.items
+  IsTried n (Cut t low) = IsStopped root fix least good n t.nodes.items low
 
   -- by the first box alone
   abbrev pub IsByRoot : Tried → Type 0
