@@ -60,6 +60,13 @@ reads 1,7,8 1 1 2 5,6 2>7,8 1 1 2 5,6 2
 reads 3 1 0 2 6 1>same
 reads 7 1 1 2 6 1,2>7 1 1 2 6 1
 reads 2 1 0 2 6 1>failed
+# The only definer that is left to choose is in time for the user's last time, by the least gap of its numbers.
+reads 6,7,8 1 1 2 5,6,7,8 1,2>6,7,8 1 1 2 5,6,7 1,2
+reads 7,8 1 1 2 5,6,7,8 2>7,8 1 1 2 5,6 2
+reads 3,4 1 0 1,2,3,9 6 1>3,4 1 0 1,2,3 6 1
+# The user may be inactive, or choose another.
+reads 3,4 0,1 0 1,2,9 6 1>same
+reads 3,9 1 0,1 2,9 6,9 1>same
 # A place past the list, and a number past the gaps.
 reads 9 1 2 2 6 1>failed
 reads 9 1 1 2 6 3>failed

@@ -1,5 +1,6 @@
 -- Tests of the numbers of a range.
-use Rattle.std.proofs.Common.{ℕ, zero, suc, ◌≡◌, ◌<◌, ◌≤◌, ◌+◌, ◌-◌, ◌∙◌, Bool, true, false, ◌&&◌, ◌||◌, List, [], ◌∷◌, nat_eq, nat_le, nat_lt, refl, sym, ap, subst}
+use Rattle.std.proofs.Common.{ℕ, zero, suc, ◌≡◌, ◌<◌, ◌≤◌, ◌+◌, ◌-◌, ◌∙◌, Bool, true, false, ◌&&◌, ◌||◌, List, [], ◌∷◌, nat_eq, nat_le}
+use Rattle.std.proofs.Common.{nat_lt, refl, sym, ap, subst}
 use Rattle.std.proofs.Common.{arith}
 use Rattle.std.specs.List.{list_any, range_with_len}
 use Rattle.std.proofs.lemmas.Bool.Decides.{nat_tests}
@@ -23,7 +24,8 @@ has_range first zero n = none (nat_le first n) (nat_lt (n - first) 0) (grind (ar
     none true c e = sym e
     none false c e = refl
 has_range first (suc count) n = ap (λ (b : Bool). nat_eq n first || b) (has_range (first + 1) count n)
-    ∙ same_test (nat_eq n first || (nat_le (first + 1) n && nat_lt (n - (first + 1)) count)) (nat_le first n && nat_lt (n - first) (suc count))
+    ∙ same_test (nat_eq n first || (nat_le (first + 1) n && nat_lt (n - (first + 1)) count)) (nat_le first n && nat_lt (n - first) (suc
+    count))
     forth back
   where
     forth : (nat_eq n first || (nat_le (first + 1) n && nat_lt (n - (first + 1)) count)) ≡ true

@@ -41,4 +41,5 @@ definer_cut user choice alts i s = act_cut (when_test (must_choose user choice i
 -- places whose definer cannot be active go, and then the definer at the only place is active
 abbrev pub chosen_steps : Act → VarId → List Act → Sets → Option Sets
 chosen_steps user choice alts s =
-    option_and_then (each_place (definer_cut user choice alts) (places_in alts)) (choice_steps user choice (chosen_can alts) (places_in alts) s)
+    option_and_then (each_place (definer_cut user choice alts) (places_in alts)) (choice_steps user choice (chosen_can alts) (places_in
+    alts) s)

@@ -1,5 +1,6 @@
 -- The laws of Chosen.
-use Rattle.std.proofs.Common.{ℕ, zero, suc, ◌≡◌, ◌≤◌, ◌&&◌, subst, Bool, true, not, ◌||◌, List, [], ◌∷◌, get_or, nat_eq, nat_lt, ap, arith, ◌∙◌}
+use Rattle.std.proofs.Common.{ℕ, zero, suc, ◌≡◌, ◌≤◌, ◌&&◌, subst, Bool, true, not, ◌||◌, List, [], ◌∷◌, get_or, nat_eq, nat_lt, ap}
+use Rattle.std.proofs.Common.{arith, ◌∙◌}
 use Rattle.std.proofs.lemmas.Bool.Decides.{nat_tests}
 use Rattle.un_domains.specs.Sets.{Sets, greatest, IsIn, Kept}
 use Rattle.un_domains.specs.SetLaws.{has-fold_max}
@@ -76,7 +77,8 @@ module _ (vs : List VarId) (user : Act) (choice : VarId) (alts : List Act) (h : 
 
   -- The definer at the only place
 
-  definer_among : (rest : List Act) (i : ℕ) → AllByRecursion (λ a. AllAmong vs (act_vars a)) rest → AllAmong vs (act_vars (get_or rest i Always))
+  definer_among : (rest : List Act) (i : ℕ) → AllByRecursion (λ a. AllAmong vs (act_vars a)) rest → AllAmong vs (act_vars (get_or rest
+      i Always))
   definer_among [] i all = λ j d lt. absurd (omega (arith, lt))
   definer_among (a ∷ rest) zero all = all.0
   definer_among (a ∷ rest) (suc i) all = definer_among rest i all.1
@@ -96,7 +98,8 @@ module _ (vs : List VarId) (user : Act) (choice : VarId) (alts : List Act) (h : 
   must_fact i = both_facts vs (sure user) (is_only choice i) sure_fact (only_fact vs choice i h.of_choice)
 
   definer_lawful : (i : ℕ) → Lawful vs (definer_cut user choice alts i)
-  definer_lawful i = act_lawful vs (when_test (must_choose user choice i) (other_than 0)) (get_or alts i Always) (definer_among alts i all_vars)
+  definer_lawful i = act_lawful vs (when_test (must_choose user choice i) (other_than 0)) (get_or alts i Always) (definer_among alts i
+      all_vars)
       (when_lawful_test vs (must_choose user choice i) (other_than 0) (must_fact i) (fixed_test vs (λ y. not (nat_eq y 0))))
 
   definer_keeps : (x : List ℕ) → chosen_holds user choice alts x ≡ true → (i : ℕ) (m : Sets) → HasVars vs m → IsIn x m

@@ -1,5 +1,6 @@
 -- Laws of what Frame lets a store keep.
-use Rattle.std.proofs.Common.{ℕ, ◌≡◌, ◌≢◌, ◌<◌, ◌≤◌, ◌+◌, ◌-◌, ◌^◌, ◌∙◌, Bool, true, false, cond, not, ◌&&◌, ◌||◌, List, [], ◌∷◌, length, get_or, All, nat_eq}
+use Rattle.std.proofs.Common.{ℕ, ◌≡◌, ◌≢◌, ◌<◌, ◌≤◌, ◌+◌, ◌-◌, ◌^◌, ◌∙◌, Bool, true, false, cond, not, ◌&&◌, ◌||◌, List, [], ◌∷◌, length}
+use Rattle.std.proofs.Common.{get_or, All, nat_eq}
 use Rattle.std.proofs.Common.{nat_le, nat_lt, option_and_then, Some, refl, sym, ap, subst, arith}
 use Rattle.std.specs.List.{AllByRecursion, list_any, list_all}
 use Rattle.std.proofs.lemmas.Bool.Decides.{nat_tests}
@@ -395,7 +396,11 @@ module _ (vs : List VarId) (flag : VarId) (touch ins : List VarId) (enter : Fram
         (λ v at is. (let two = value_within vs SPILL RELOAD v at s x k there is in
         let low = two.0 in
         let high = two.1 in
-        both (nat_le SPILL (get_or x v.0 0)) (nat_le (get_or x v.0 0) RELOAD) (grind (arith, nat_tests, low)) (grind (arith, nat_tests, high))))
+        both (nat_le SPILL (get_or x v.0 0)) (nat_le (get_or x v.0 0) RELOAD) (grind (arith, nat_tests, low)) (grind (
+          arith,
+          nat_tests,
+          high,
+        ))))
         touch in_touch)
         (any_true (λ v. among vs v ≡ true) (λ (v : VarId). is_within FIRST_SLOT (2 ^ 32 - 1) (set_at s v.0)) (is_slot x)
         (λ v at is. (let low = (value_within vs FIRST_SLOT (2 ^ 32 - 1) v at s x k there is).0 in grind (arith, nat_tests, low)))
@@ -412,7 +417,8 @@ module _ (vs : List VarId) (flag : VarId) (touch ins : List VarId) (enter : Fram
         (λ ne. any_false (is_slot x) ins (parts (list_any (is_access x) touch) (list_any (is_slot x) ins) (keep.unused ne)).1))
 
     use_keeps : (s : Sets) → HasVars vs s → IsIn x s → Kept x (use_steps flag touch ins s)
-    use_keeps s k there = then_kept (round (slot_cut flag) ins) x (option_and_then (round (touch_cut flag) touch) (flag_cut flag touch ins s))
+    use_keeps s k there = then_kept (round (slot_cut flag) ins) x (option_and_then (round (touch_cut flag) touch) (flag_cut flag touch
+        ins s))
         (then_kept (round (touch_cut flag) touch) x (flag_cut flag touch ins s)
         (when_keeps vs (sure_use touch ins) (λ u y. nat_eq y 1) flag h.of_flag s x k there
         (λ is. (let one = keep.used (surely_used s k there is) in grind (arith, nat_tests, one))))
@@ -479,14 +485,16 @@ module _ (vs : List VarId) (flag : VarId) (touch ins : List VarId) (enter : Fram
         (each_kept vs (λ u. FrameUseVars vs u × (get_or x flag.0 0 ≡ 1 → is_until t x u ≡ true)) (copy_cut flag l.leave) x
         (λ u q. order_keeps vs flag h.of_flag (copy_order l.leave u) (of_copy_order l.leave p.0.of_leave u q.0) x
         (λ one. until_order l.leave u (q.1 one))) l.copies copies_of m k there)
-        (λ u in_u. each_kept vs (λ v. (among vs v ≡ true) × (get_or x flag.0 0 ≡ 1 → nat_lt (get_or x v.0 0) t ≡ true)) (call_cut flag l.leave)
+        (λ u in_u. each_kept vs (λ v. (among vs v ≡ true) × (get_or x flag.0 0 ≡ 1 → nat_lt (get_or x v.0 0) t ≡ true)) (call_cut flag
+        l.leave)
         x (λ v q. order_keeps vs flag h.of_flag (call_order l.leave v) (of_call_order l.leave p.0.of_leave v q.0) x
         (λ one. before_order l.leave v (q.1 one))) l.calls calls_of u (known_in vs m u x there in_u k) in_u)
       where
         t : ℕ
         t = get_or x l.leave.at.0 0
 
-        copies_of : AllByRecursion (λ u. FrameUseVars vs u × (get_or x flag.0 0 ≡ 1 → is_until (get_or x l.leave.at.0 0) x u ≡ true)) l.copies
+        copies_of : AllByRecursion (λ u. FrameUseVars vs u × (get_or x flag.0 0 ≡ 1 → is_until (get_or x l.leave.at.0 0) x u ≡ true))
+            l.copies
         copies_of = both_all (FrameUseVars vs) (λ u. get_or x flag.0 0 ≡ 1 → is_until (get_or x l.leave.at.0 0) x u ≡ true) l.copies
             (recursion_from_All _ _ p.0.of_copies)
             (all_when (get_or x flag.0 0 ≡ 1) (λ u. is_until (get_or x l.leave.at.0 0) x u ≡ true) l.copies
@@ -494,7 +502,8 @@ module _ (vs : List VarId) (flag : VarId) (touch ins : List VarId) (enter : Fram
             (firsts (list_all (is_until (get_or x l.leave.at.0 0) x) l.copies)
             (list_all (λ (v : VarId). nat_lt (get_or x v.0 0) (get_or x l.leave.at.0 0)) l.calls) (p.1 one)).0))
 
-        calls_of : AllByRecursion (λ v. (among vs v ≡ true) × (get_or x flag.0 0 ≡ 1 → nat_lt (get_or x v.0 0) (get_or x l.leave.at.0 0) ≡ true))
+        calls_of : AllByRecursion (λ v. (among vs v ≡ true) × (get_or x flag.0 0 ≡ 1 → nat_lt (get_or x v.0 0) (get_or x
+            l.leave.at.0 0) ≡ true))
             l.calls
         calls_of = both_all (λ v. among vs v ≡ true) (λ v. get_or x flag.0 0 ≡ 1 → nat_lt (get_or x v.0 0) (get_or x l.leave.at.0 0) ≡ true)
             l.calls (recursion_from_All _ _ p.0.of_calls)
@@ -505,10 +514,13 @@ module _ (vs : List VarId) (flag : VarId) (touch ins : List VarId) (enter : Fram
 
     orders_keep : (s : Sets) → HasVars vs s → IsIn x s → Kept x (order_steps flag enter entry leaves s)
     orders_keep s k there = then_kept (round (left_cut flag) leaves) x (round (entry_cut flag enter) entry s)
-        (each_kept vs (λ u. FrameUseVars vs u × (get_or x flag.0 0 ≡ 1 → is_after (get_or x enter.at.0 0) x u ≡ true)) (entry_cut flag enter) x
-        (λ u q. order_keeps vs flag h.of_flag (entry_order enter u) (of_entry_order u q.0) x (λ one. after_order u (q.1 one))) entry entry_of
+        (each_kept vs (λ u. FrameUseVars vs u × (get_or x flag.0 0 ≡ 1 → is_after (get_or x enter.at.0 0) x u ≡ true)) (entry_cut flag
+        enter) x
+        (λ u q. order_keeps vs flag h.of_flag (entry_order enter u) (of_entry_order u q.0) x (λ one. after_order u (q.1 one))) entry
+        entry_of
         s k there)
-        (λ m in_m. each_kept vs (λ l. FrameLeaveVars vs l × (get_or x flag.0 0 ≡ 1 → is_left x l ≡ true)) (left_cut flag) x left_keeps leaves
+        (λ m in_m. each_kept vs (λ l. FrameLeaveVars vs l × (get_or x flag.0 0 ≡ 1 → is_left x l ≡ true)) (left_cut flag) x left_keeps
+        leaves
         left_of m (known_in vs s m x there in_m k) in_m)
 
     steps_keep : (s : Sets) → HasVars vs s → IsIn x s → Kept x (frame_steps flag touch ins enter entry leaves s)

@@ -87,7 +87,8 @@ module _ (vs : List VarId) (instr : VarId) (others : List VarId) (h : ZerosVars 
   zero_of : (x : List ℕ) → zeros_holds instr others x ≡ true → get_or x instr.0 0 ≡ 0 → all_zero others x ≡ true
   zero_of x holds is = or_not (nat_eq (get_or x instr.0 0) 0) (all_zero others x) holds (grind (arith, nat_tests, is))
 
-  zero_keeps : (x : List ℕ) → zeros_holds instr others x ≡ true → (v : VarId) → (among vs v ≡ true) × (get_or x instr.0 0 ≡ 0 → get_or x v.0 0 ≡ 0)
+  zero_keeps : (x : List ℕ) → zeros_holds instr others x ≡ true → (v : VarId) → (among vs v ≡ true) × (get_or x instr.0 0 ≡ 0 → get_or
+      x v.0 0 ≡ 0)
       → (m : Sets) → HasVars vs m → IsIn x m → Kept x (zero_cut instr v m)
   zero_keeps x holds v p m k in_m = when_keeps vs (is_only instr 0) (up_to 0) v p.0 m x k in_m
       (λ is. let none = p.1 (only_value instr 0 m (get_or x instr.0 0) is (in_m.each instr.0 (has_among vs instr m h.of_instr k))) in

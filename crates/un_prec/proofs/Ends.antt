@@ -1,5 +1,6 @@
 -- What the limit leaves an end, as the code has it.
-use Rattle.std.proofs.Common.{ℕ, suc, ◌≡◌, ◌≢◌, ◌<◌, ◌≤◌, ◌+◌, ◌-◌, ◌*◌, ◌/◌, ◌∙◌, Bool, true, false, List, [], ◌∷◌, length, get_or, max, filter, nat_lt, nat_le}
+use Rattle.std.proofs.Common.{ℕ, suc, ◌≡◌, ◌≢◌, ◌<◌, ◌≤◌, ◌+◌, ◌-◌, ◌*◌, ◌/◌, ◌∙◌, Bool, true, false, List, [], ◌∷◌, length, get_or, max}
+use Rattle.std.proofs.Common.{filter, nat_lt, nat_le}
 use Rattle.std.proofs.Common.{None, Some, option_and_then, refl, sym, ap, subst, arith, inl, inr, ◌&&◌, ◌⊎◌}
 use Rattle.std.proofs.lemmas.Bool.Decides.{nat_tests}
 use Rattle.std.proofs.lemmas.List.{get_or-set_same, get_or-set_other}

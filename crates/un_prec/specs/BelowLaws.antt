@@ -1,5 +1,6 @@
 -- The laws of Below.
-use Rattle.std.proofs.Common.{ℕ, zero, suc, ◌≡◌, ◌≤◌, ◌<◌, ◌+◌, ◌-◌, ◌*◌, ◌∙◌, Bool, true, List, [], ◌∷◌, length, get_or, map, nat_lt, Some, refl, sym}
+use Rattle.std.proofs.Common.{ℕ, zero, suc, ◌≡◌, ◌≤◌, ◌<◌, ◌+◌, ◌-◌, ◌*◌, ◌∙◌, Bool, true, List, [], ◌∷◌, length, get_or, map, nat_lt}
+use Rattle.std.proofs.Common.{Some, refl, sym}
 use Rattle.std.proofs.Common.{ap, subst, arith, inl, inr}
 use Rattle.std.proofs.lemmas.Bool.Decides.{nat_tests}
 use Rattle.std.proofs.lemmas.List.{get_or-map, length-map}
@@ -25,7 +26,8 @@ use Rattle.std.proofs.lemmas.List.Elements.{All-contains}
 use Rattle.un_prop.specs.Looks.{InWords}
 use Rattle.un_prop.specs.ChainLaws.{least_in, then_kept, known_in, stable_then}
 use Rattle.un_prec.specs.declared.below.Weighted.{Weighted}
-use Rattle.un_prec.specs.Below.{cost_of, cost_at, least_cost, below_holds, below_test, more_cost, end_test, end_cut, below_steps, BelowVars, BelowStrong}
+use Rattle.un_prec.specs.Below.{cost_of, cost_at, least_cost, below_holds, below_test, more_cost, end_test, end_cut, below_steps}
+use Rattle.un_prec.specs.Below.{BelowVars, BelowStrong}
 
 -- ends alike cost alike, and no later ends cost no more
 cost_alike : (es : List Weighted) (f g : VarId → ℕ) → AllByRecursion (λ (e : Weighted). f e.end ≡ g e.end) es → cost_of es f ≡ cost_of es g
@@ -134,7 +136,8 @@ module _ (vs : List VarId) (es : List Weighted) (limit : ℕ) (h : BelowVars vs 
   below_lawful = lawful_then vs (first_cut (below_test es limit) vs) (round (end_cut es limit) es) fails_lawful ends_lawful
 
   -- the ends of an assignment are no sooner than the least
-  lows : (s : Sets) (x : List ℕ) → HasVars vs s → IsIn x s → AllByRecursion (λ (e : Weighted). least (set_at s e.end.0) ≤ get_or x e.end.0 0) es
+  lows : (s : Sets) (x : List ℕ) → HasVars vs s → IsIn x s → AllByRecursion (λ (e : Weighted). least (set_at s e.end.0) ≤ get_or x
+      e.end.0 0) es
   lows s x k there = each (λ e. among vs e.end ≡ true) (λ e. least (set_at s e.end.0) ≤ get_or x e.end.0 0)
       (λ e h. least-le (set_at s e.end.0) (get_or x e.end.0 0) (there.each e.end.0 (has_among vs e.end s h k))) es among_all
 
@@ -151,7 +154,8 @@ module _ (vs : List VarId) (es : List Weighted) (limit : ℕ) (h : BelowVars vs 
   below_keeps s x k there holds =
       then_kept (round (end_cut es limit) es) x (first_cut (below_test es limit) vs s)
       (first_keeps (below_test es limit) vs s x k there (λ y. let low = low_cost s x k there in grind (arith, nat_tests, holds, low)))
-      (λ m in_m. each_kept vs (Contains es) (end_cut es limit) x (end_keeps x holds) es (members es) m (known_in vs s m x there in_m k) in_m)
+      (λ m in_m. each_kept vs (Contains es) (end_cut es limit) x (end_keeps x holds) es (members es) m (known_in vs s m x there in_m k)
+      in_m)
 
   pub below_strong : (s : Sets) → HasVars vs s → NoneEmpty s → InWords s → (length vs ≡ 0 → (x : List ℕ) → below_holds es limit x ≡ true)
       → below_steps vs es limit s ≡ Some s → BelowStrong es limit s

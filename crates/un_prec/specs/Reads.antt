@@ -1,6 +1,7 @@
 -- Reads: an active user issues late enough after the definer of the temporary that it chooses.
-use Rattle.std.specs.Prelude.{ℕ, ◌≡◌, ◌+◌, ◌^◌, ◌≤◌, Bool, true, not, ◌||◌, List, [], ◌∷◌, nat_le, slice_index, slice_get, Some}
-use Rattle.std.specs.Prelude.{option_and_then, All}
+use Rattle.std.specs.Prelude.{ℕ, ◌≡◌, ◌+◌, ◌^◌, ◌≤◌, Bool, true, false, not, ◌&&◌, ◌||◌, List, [], ◌∷◌, nat_le, slice_index, slice_get}
+use Rattle.std.specs.Prelude.{Some}
+use Rattle.std.specs.Prelude.{option_and_then, All, None}
 use Rattle.std.specs.declared.option.Option.{Option}
 use Rattle.std.specs.List.{list_any}
 use Rattle.un_base.specs.declared.ids.VarId.{VarId}
@@ -9,7 +10,8 @@ use Rattle.un_prop.specs.Among.{among, AllAmong}
 use Rattle.un_prop.specs.Acts.{act_vars, act_number, is_active, at_vars, at_value}
 use Rattle.un_prop.specs.Choices.{passes_at}
 use Rattle.un_prop.specs.Looks.{at_set, act_set, sure}
-use Rattle.un_prop.specs.Places.{places_in, choice_steps}
+use Rattle.un_prop.specs.Places.{places_in, choice_steps, each_place}
+use Rattle.un_prop.specs.When.{is_only, when_test}
 use Rattle.un_prop.specs.declared.act.Act.{Act}
 use Rattle.un_prop.specs.declared.act.At.{At}
 use Rattle.un_prec.specs.Links.{at_cut}
@@ -39,9 +41,35 @@ may_read choice alts s t = list_any (passes_at (may_be_late s t) alts) (set_at s
 abbrev pub soon_test : Act → VarId → List ReadAlt → Sets → ℕ → Bool
 soon_test on choice alts s y = not (sure on s) || (nat_le (2 ^ 32) y || may_read choice alts s y)
 
+-- so the time of a sure user and the places of its choice
+abbrev pub user_steps : At → Act → VarId → List ReadAlt → Sets → Option Sets
+user_steps user on choice alts s =
+    option_and_then (choice_steps on choice (reads_can user alts) (places_in alts)) (at_cut (soon_test on choice alts) user s)
+
+-- a definer at t is early enough for the greatest time of the user, by the gap of some number that it has left
+abbrev pub is_in_time : At → ReadAlt → Sets → ℕ → Bool
+is_in_time user a s t = list_any (λ n. passes_at (λ g. nat_le (t + g) (greatest (at_set user s))) a.gaps n) (act_set a.on s)
+
+-- the user is sure, and place i alone is left to choose
+abbrev pub must_read : Act → VarId → ℕ → Sets → Bool
+must_read on choice i s = sure on s && is_only choice i s
+
+-- then the definer there is in time
+abbrev pub early_of : At → (Sets → Bool) → Option ReadAlt → Sets → Option Sets
+early_of user so None s = Some s
+early_of user so (Some a) s = at_cut (when_test so (is_in_time user a)) a.at s
+
+abbrev pub early_cut : At → Act → VarId → List ReadAlt → ℕ → Sets → Option Sets
+early_cut user on choice alts i s = early_of user (must_read on choice i) (slice_get alts i) s
+
 abbrev pub reads_steps : At → Act → VarId → List ReadAlt → Sets → Option Sets
 reads_steps user on choice alts s =
-    option_and_then (choice_steps on choice (reads_can user alts) (places_in alts)) (at_cut (soon_test on choice alts) user s)
+    option_and_then (each_place (early_cut user on choice alts) (places_in alts)) (user_steps user on choice alts s)
+
+-- as the code has it: a time ends by high, by the least gap, where there is one
+abbrev pub ends_by : Option ℕ → ℕ → ℕ → Bool
+ends_by None high y = false
+ends_by (Some g) high y = nat_le (y + g) high
 
 -- its variables stand in the list
 pub record ReadAltVars (vs : List VarId) (a : ReadAlt) : Type 0 where

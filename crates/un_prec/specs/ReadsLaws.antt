@@ -1,6 +1,8 @@
 -- The laws of Reads.
-use Rattle.std.proofs.Common.{ℕ, ◌≡◌, ◌≤◌, ◌<◌, ◌+◌, ◌^◌, ◌∙◌, Bool, true, false, not, ◌||◌, List, [], ◌∷◌, length, get_or, nat_le, Some}
+use Rattle.std.proofs.Common.{ℕ, zero, suc, ◌&&◌, None, ◌≡◌, ◌≤◌, ◌<◌, ◌+◌, ◌^◌, ◌∙◌, Bool, true, false, not, ◌||◌, List, [], ◌∷◌, length}
+use Rattle.std.proofs.Common.{get_or, nat_le, Some}
 use Rattle.std.proofs.Common.{option_and_then, All, refl, sym, ap, subst, arith}
+use Rattle.std.specs.declared.option.Option.{Option}
 use Rattle.std.specs.List.{AllByRecursion, list_any, slice_get}
 use Rattle.std.proofs.lemmas.Bool.Decides.{nat_tests}
 use Rattle.std.proofs.lemmas.List.Elements.{recursion_from_All}
@@ -12,17 +14,19 @@ use Rattle.un_prop.specs.Rounds.{HasVars}
 use Rattle.un_prop.specs.Parts.{SameAt}
 use Rattle.un_prop.specs.Lawful.{Agree, Lawful, LawfulTest}
 use Rattle.un_prop.specs.LastLaws.{passes_all}
-use Rattle.un_prop.specs.Steps.{lawful_then}
+use Rattle.un_prop.specs.Steps.{lawful_then, lawful_some}
 use Rattle.un_prop.specs.Among.{AllAmong}
 use Rattle.un_prop.specs.AmongLaws.{has_among, same_var, same_active, same_number, same_time}
 use Rattle.un_prop.specs.Acts.{act_number, is_active, at_vars, at_value}
 use Rattle.un_prop.specs.Choices.{passes_at}
 use Rattle.un_prop.specs.ChoiceLaws.{passes_agree, passes_get, passes_find, passes_more, get_within, map_all, always}
-use Rattle.un_prop.specs.ChainLaws.{then_kept, known_in, stable_then, least_in}
+use Rattle.un_prop.specs.ChainLaws.{then_kept, known_in, stable_then, least_in, each_lawful, each_keeps}
 use Rattle.un_prop.specs.Looks.{at_set, act_set, sure, InWords}
-use Rattle.un_prop.specs.LookLaws.{not_or, or_not, set_alike, at_alike, act_alike, act_below, number_in, sure_alike, sure_below}
+use Rattle.un_prop.specs.LookLaws.{not_or, or_not, firsts, set_alike, at_alike, act_alike, act_below, number_in, sure_alike, sure_below}
 use Rattle.un_prop.specs.LookLaws.{sure_active, least_at_below, greatest_at_below, value_in}
-use Rattle.un_prop.specs.Places.{places_in, choice_steps}
+use Rattle.un_prop.specs.Places.{places_in, choice_steps, each_place}
+use Rattle.un_prop.specs.When.{is_only, when_test, LawfulFact}
+use Rattle.un_prop.specs.WhenLaws.{only_value, only_fact, both_facts, when_lawful_test}
 use Rattle.un_prop.specs.PlaceLaws.{choice_lawful, choice_keeps, choice_strong}
 use Rattle.un_prop.specs.SomewhereLaws.{any_find, any_has, any_more, any_agree}
 use Rattle.un_prop.specs.declared.act.Act.{Act}
@@ -32,6 +36,7 @@ use Rattle.un_prec.specs.Links.{at_cut}
 use Rattle.un_prec.specs.LinkLaws.{at_lawful, at_keeps}
 use Rattle.un_prec.specs.declared.reads.ReadAlt.{ReadAlt}
 use Rattle.un_prec.specs.Reads.{is_late, reads_holds, may_be_late, reads_can, may_read, soon_test, reads_steps, ReadAltVars, ReadsVars}
+use Rattle.un_prec.specs.Reads.{user_steps, is_in_time, must_read, early_of, early_cut}
 use Rattle.un_prec.specs.Reads.{ReadsStrong}
 
 -- more pass the second part of a choice of tests
@@ -148,9 +153,60 @@ module _ (vs : List VarId) (user : At) (on : Act) (choice : VarId) (alts : List 
   f2 : Lawful vs (choice_steps on choice (reads_can user alts) (places_in alts))
   f2 = choice_lawful vs on choice (reads_can user alts) h.of_on h.of_choice can_lawful (places_in alts)
 
-  pub reads_lawful : Lawful vs (reads_steps user on choice alts)
-  reads_lawful = lawful_then vs (at_cut (soon_test on choice alts) user)
+  user_lawful : Lawful vs (user_steps user on choice alts)
+  user_lawful = lawful_then vs (at_cut (soon_test on choice alts) user)
       (choice_steps on choice (reads_can user alts) (places_in alts)) f1 f2
+
+  -- the definer at the only place
+  in_time_lawful : (a : ReadAlt) → ReadAltVars vs a → LawfulTest vs (is_in_time user a)
+  in_time_lawful a k = record {
+    monotone = λ t s y known full le e.
+        (let high = greatest_at_below vs t s le user in
+        any_more (λ n. passes_at (λ g. nat_le (y + g) (greatest (at_set user t))) a.gaps n)
+        (λ n. passes_at (λ g. nat_le (y + g) (greatest (at_set user s))) a.gaps n) (act_set a.on t) (act_set a.on s)
+        (λ n there pass. (
+          act_below vs t s n le a.on there,
+          passes_more (λ (g : ℕ). Unit {0}) (λ g. nat_le (y + g) (greatest (at_set user t))) (λ g. nat_le (y + g) (greatest (at_set
+              user s)))
+              a.gaps n (always a.gaps) (λ g u is. grind (arith, nat_tests, is, high)) pass,
+        )) e);
+    local = λ s t y agree.
+        ap (λ (xs : List ℕ). list_any (λ n. passes_at (λ g. nat_le (y + g) (greatest xs)) a.gaps n) (act_set a.on s))
+        (at_alike vs s t agree user h.of_user)
+        ∙ ap (list_any (λ n. passes_at (λ g. nat_le (y + g) (greatest (at_set user t))) a.gaps n)) (act_alike vs s t agree a.on k.of_on);
+  }
+
+  sure_fact : LawfulFact vs (sure on)
+  sure_fact = record {
+    grows = λ t s k full le e. sure_below vs t s le on e;
+    local = λ s t agree. sure_alike vs s t agree on h.of_on;
+  }
+
+  must_fact : (i : ℕ) → LawfulFact vs (must_read on choice i)
+  must_fact i = both_facts vs (sure on) (is_only choice i) sure_fact (only_fact vs choice i h.of_choice)
+
+  got_vars : (rest : List ReadAlt) (i : ℕ) (a : ReadAlt) → AllByRecursion (ReadAltVars vs) rest → slice_get rest i ≡ Some a →
+      ReadAltVars vs a
+  got_vars [] i a all e = absurd (cc e)
+  got_vars (b ∷ rest) zero a all e = let same : b ≡ a = cc e in subst (ReadAltVars vs) same all.0
+  got_vars (b ∷ rest) (suc i) a all e = got_vars rest i a all.1 e
+
+  early_lawful : (i : ℕ) → Lawful vs (early_cut user on choice alts i)
+  early_lawful i = by (slice_get alts i) refl
+    where
+      by : (o : Option ReadAlt) → slice_get alts i ≡ o → Lawful vs (early_of user (must_read on choice i) o)
+      by None e = lawful_some vs
+      by (Some a) e =
+          let k = got_vars alts i a all_vars e in
+          at_lawful vs (when_test (must_read on choice i) (is_in_time user a)) a.at k.of_at
+          (when_lawful_test vs (must_read on choice i) (is_in_time user a) (must_fact i) (in_time_lawful a k))
+
+  earlies_lawful : Lawful vs (each_place (early_cut user on choice alts) (places_in alts))
+  earlies_lawful = each_lawful vs (early_cut user on choice alts) early_lawful (places_in alts)
+
+  pub reads_lawful : Lawful vs (reads_steps user on choice alts)
+  reads_lawful = lawful_then vs (user_steps user on choice alts) (each_place (early_cut user on choice alts) (places_in alts)) user_lawful
+      earlies_lawful
 
   -- the definer that is chosen
   late : (x : List ℕ) → reads_holds user on choice alts x ≡ true → is_active on x ≡ true → passes_at (is_late (at_value user x) x) alts
@@ -173,19 +229,51 @@ module _ (vs : List VarId) (user : At) (on : Act) (choice : VarId) (alts : List 
       (may_be_late m (greatest (at_set user m))) alts (get_or x choice.0 0) all_vars
       (late_in vs m x k there (at_value user x) (greatest (at_set user m)) ((value_in vs m x there k user h.of_user).1)) (late x holds is)
 
-  pub reads_keeps : (s : Sets) (x : List ℕ) → HasVars vs s → IsIn x s → reads_holds user on choice alts x ≡ true → Kept x
-      (reads_steps user on choice alts s)
-  reads_keeps s x k there holds =
+  user_keeps : (s : Sets) (x : List ℕ) → HasVars vs s → IsIn x s → reads_holds user on choice alts x ≡ true → Kept x
+      (user_steps user on choice alts s)
+  user_keeps s x k there holds =
       then_kept (choice_steps on choice (reads_can user alts) (places_in alts)) x (at_cut (soon_test on choice alts) user s)
       (at_keeps vs (soon_test on choice alts) user h.of_user s x k there (soon_keeps s x k there holds))
       (λ m in_m. choice_keeps vs on choice (reads_can user alts) h.of_on h.of_choice can_lawful (places_in alts) m x
       (known_in vs s m x there in_m k) in_m (can_keeps x holds))
 
+  early_keeps : (x : List ℕ) → reads_holds user on choice alts x ≡ true → (i : ℕ) (m : Sets) → HasVars vs m → IsIn x m
+      → Kept x (early_cut user on choice alts i m)
+  early_keeps x holds i m k there = by (slice_get alts i) refl
+    where
+      by : (o : Option ReadAlt) → slice_get alts i ≡ o → Kept x (early_of user (must_read on choice i) o m)
+      by None e = there
+      by (Some a) e =
+          let va = got_vars alts i a all_vars e in
+          at_keeps vs (when_test (must_read on choice i) (is_in_time user a)) a.at va.of_at m x k there
+          (not_or (must_read on choice i m) (is_in_time user a m (at_value a.at x)) (λ is.
+          (let two = firsts (sure on m) (is_only choice i m) is in
+          let active = sure_active vs m x there k on h.of_on two.0 in
+          let at = only_value choice i m (get_or x choice.0 0) two.1 (there.each choice.0 (has_among vs choice m h.of_choice k)) in
+          let here = subst (λ (n : ℕ). passes_at (is_late (at_value user x) x) alts n ≡ true) at (late x holds active) in
+          let a_late : is_late (at_value user x) x a ≡ true = sym (passes_get (is_late (at_value user x) x) alts i a e) ∙ here in
+          let high = (value_in vs m x there k user h.of_user).1 in
+          any_has (λ n. passes_at (λ g. nat_le (at_value a.at x + g) (greatest (at_set user m))) a.gaps n) (act_set a.on m)
+          (act_number a.on x) (number_in vs m x there k a.on va.of_on)
+          (passes_more (λ (g : ℕ). Unit {0}) (λ g. nat_le (at_value a.at x + g) (at_value user x))
+          (λ g. nat_le (at_value a.at x + g) (greatest (at_set user m))) a.gaps (act_number a.on x) (always a.gaps)
+          (λ g u le. grind (arith, nat_tests, le, high)) a_late))))
+
+  pub reads_keeps : (s : Sets) (x : List ℕ) → HasVars vs s → IsIn x s → reads_holds user on choice alts x ≡ true → Kept x
+      (reads_steps user on choice alts s)
+  reads_keeps s x k there holds = then_kept (each_place (early_cut user on choice alts) (places_in alts)) x (user_steps user on choice
+      alts s)
+      (user_keeps s x k there holds)
+      (λ m in_m. each_keeps vs (early_cut user on choice alts) x (early_keeps x holds) (places_in alts) m (known_in vs s m x there in_m k)
+      in_m)
+
   pub reads_strong : (s : Sets) → HasVars vs s → NoneEmpty s → InWords s → reads_steps user on choice alts s ≡ Some s → ReadsStrong
       user on choice alts s
   reads_strong s k full words e is i a one got =
+      let outer = stable_then vs (user_steps user on choice alts) (each_place (early_cut user on choice alts) (places_in alts)) user_lawful
+      earlies_lawful s k full e in
       let two = stable_then vs (at_cut (soon_test on choice alts) user) (choice_steps on choice (reads_can user alts) (places_in alts))
-      f1 f2 s k full e in
+      f1 f2 s k full outer.0 in
       let here : has (set_at s choice.0) i ≡ true = subst (λ (xs : List ℕ). has xs i ≡ true) (sym one) (has_here i []) in
       let small = words choice.0 i here in
       let within = get_within alts i a got in

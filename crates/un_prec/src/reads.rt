@@ -1,17 +1,19 @@
 //! An operand: its user issues late enough after the definer of the temporary that it chooses.
 
-ghost use Rattle.std.specs.Prelude.{◌≡◌, ◌≢◌, ℕ, ◌+◌, ◌^◌, ◌<◌, ◌≤◌, ◌||◌, length, min, nat_le, nat_lt, true, All, MatchOption};
+ghost use Rattle.std.specs.Prelude.{◌≡◌, ◌≢◌, ℕ, ◌+◌, ◌-◌, ◌^◌, ◌<◌, ◌≤◌, ◌||◌, length, min, nat_le, nat_lt, true, All, MatchOption};
 ghost use Rattle.std.specs.List.{list_any};
-ghost use Rattle.un_domains.specs.Sets.{set_at, NoneEmpty};
+ghost use Rattle.un_domains.specs.Sets.{set_at, cut_by, NoneEmpty};
 ghost use Rattle.un_prop.specs.Rounds.{HasVars};
 ghost use Rattle.un_prop.specs.Among.{among};
 ghost use Rattle.un_prop.specs.Choices.{passes_at};
 ghost use Rattle.un_prop.specs.Going.{Stepped};
 ghost use Rattle.un_prop.specs.LastLaws.{Ascend};
+ghost use Rattle.un_prop.specs.Looks.{act_set};
+ghost use Rattle.un_prop.specs.Places.{each_place};
 ghost use Rattle.un_prop.specs.Somewhere.{is_by};
 ghost use Rattle.un_prop.specs.declared.propagator.Pruned.TheVariants.{Failed};
 ghost use Rattle.un_prec.specs.Links.{at_cut};
-ghost use Rattle.un_prec.specs.Reads.{is_late, may_be_late, may_read, soon_test, ReadAltVars, ReadsVars};
+ghost use Rattle.un_prec.specs.Reads.{is_late, may_be_late, may_read, soon_test, early_cut, ends_by, ReadAltVars, ReadsVars};
 
 use un_base::ids::VarId;
 use un_domains::window::Window;
@@ -21,7 +23,8 @@ use un_prop::last::check_last;
 use un_prop::look::{greatest_time, is_sure, least_time};
 use un_prop::place::{Choice, keep_choice, places};
 use un_prop::propagator::{Predicate, Propagator, Pruned, Scratch};
-use un_prop::step::keep_gt;
+use un_prop::step::{keep_gt, keep_le};
+use un_prop::when::is_only;
 
 /// A definer that may be chosen: it issues at `at`, and has a gap for each number of `on`.
 #[derive(Drop)]
@@ -99,6 +102,20 @@ fn first_end(w: &Window<'_>, v: VarId, least: u32, gaps: &[u32]) -> Option<u64>
     first
 }
 
+/// The first end of a gap of a definer, at a number that it has left, after a time.
+fn first_from(w: &Window<'_>, a: &ReadAlt, least: u32) -> Option<u64>
+    requires vars { ReadAltVars w.now.vars.now a.now }
+    requires known { HasVars w.now.vars.now w.now.store.now.sets }
+    requires live { NoneEmpty w.now.store.now.sets }
+    ensures { (t : ℕ) → is_by result t ≡ list_any (λ n. passes_at (λ g. nat_le (least + g) t) a.now.gaps n)
+        (act_set a.now.on w.now.store.now.sets) }
+{
+    match a.on {
+        Act::Always => end_of_gap(least, a.gaps.as_slice(), 1),
+        Act::Var(v) => first_end(w, v, least, a.gaps.as_slice()),
+    }
+}
+
 /// The first time at which a user may be late enough after a definer.
 fn first_late(w: &Window<'_>, a: &ReadAlt) -> Option<u64>
     requires vars { ReadAltVars w.now.vars.now a.now }
@@ -107,10 +124,7 @@ fn first_late(w: &Window<'_>, a: &ReadAlt) -> Option<u64>
     ensures { (t : ℕ) → is_by result t ≡ may_be_late w.now.store.now.sets t a.now }
 {
     let least = least_time(w, a.at);
-    match a.on {
-        Act::Always => end_of_gap(least, a.gaps.as_slice(), 1),
-        Act::Var(v) => first_end(w, v, least, a.gaps.as_slice()),
-    }
+    first_from(w, a, least)
 }
 
 /// The first time at which a user may be late enough after the definer at a place.
@@ -194,6 +208,89 @@ fn keep_soon(w: &mut Window<'_>, before: Pruned, reads: &Reads) -> Pruned
     }
 }
 
+/// The gap, or where there is none one that never ends.
+fn or_never(gap: Option<u64>) -> u64
+    ensures { (high y : ℕ) → high < 2 ^ 64 - 1 → ends_by gap high y ≡ nat_le (y + result) high }
+{
+    match gap {
+        None => u64::MAX,
+        Some(g) => g,
+    }
+}
+
+/// Keeps the values of `v` that end by `high` with the least gap; none where there is no gap.
+fn keep_by(w: &mut Window<'_>, before: Pruned, v: VarId, high: u32, gap: Option<u64>) -> Pruned
+    requires there { v.0 < length w.old.store.now.sets }
+    requires live { NoneEmpty w.old.store.now.sets }
+    requires lent { among w.old.vars.now v ≡ true }
+    requires going { before ≢ Failed }
+    ensures step { Stepped w.old.vars.now (cut_by (ends_by gap high) v.0) w.old.store.now w.new.store.now before result }
+    ensures same_reference { w.new.store.ghost_name ≡ w.old.store.ghost_name }
+    ensures vars { w.new.vars ≡ w.old.vars }
+{
+    let least = or_never(gap);
+    let top = w.max(v);
+    let last = u64::from(high);
+    if least <= last {
+        let end = last - least;
+        keep_le(w, before, v, end as u32)
+    } else {
+        keep_gt(w, before, v, top)
+    }
+}
+
+/// Where the user is sure and place `i` alone is left to choose, the definer there is in time.
+fn keep_early(w: &mut Window<'_>, before: Pruned, p: &Reads, i: usize) -> Pruned
+    requires there { i < length p.now.alts }
+    requires small { i < 2 ^ 32 }
+    requires vars { w.old.vars.now ≡ p.now.vars }
+    requires known { HasVars p.now.vars w.old.store.now.sets }
+    requires live { before ≢ Failed → NoneEmpty w.old.store.now.sets }
+    ensures step { Stepped w.old.vars.now (early_cut p.now.user p.now.user_on p.now.choice p.now.alts i) w.old.store.now w.new.store.now
+        before result }
+    ensures same_reference { w.new.store.ghost_name ≡ w.old.store.ghost_name }
+    ensures vars { w.new.vars ≡ w.old.vars }
+{
+    if before == Pruned::Failed {
+        return before;
+    }
+    if !is_sure(w, p.user_on) {
+        return before;
+    }
+    if !is_only(w, p.choice, i as u32) {
+        return before;
+    }
+    let alts = p.alts.as_slice();
+    let a = &alts[i];
+    match a.at {
+        At::Const(_) => before,
+        At::Var(v) => {
+            let gap = first_from(w, a, 0);
+            let high = greatest_time(w, p.user);
+            keep_by(w, before, v, high, gap)
+        }
+    }
+}
+
+/// Where the user is sure and one place is left to choose, the definer there is in time.
+fn keep_earlies(w: &mut Window<'_>, before: Pruned, p: &Reads, n: usize) -> Pruned
+    requires there { n ≤ length p.now.alts }
+    requires small { n ≤ 2 ^ 32 }
+    requires vars { w.old.vars.now ≡ p.now.vars }
+    requires known { HasVars p.now.vars w.old.store.now.sets }
+    requires live { before ≢ Failed → NoneEmpty w.old.store.now.sets }
+    ensures step { Stepped w.old.vars.now (each_place (early_cut p.now.user p.now.user_on p.now.choice p.now.alts) n) w.old.store.now
+        w.new.store.now before result }
+    ensures same_reference { w.new.store.ghost_name ≡ w.old.store.ghost_name }
+    ensures vars { w.new.vars ≡ w.old.vars }
+{
+    let mut did = before;
+    for i in 0..n {
+        did = keep_early(w, did, p, i);
+    }
+    did
+}
+
 /// The operation `user`, where it is active, issues at least the gap after the definer that it chooses of `alts`, by the number of
 /// that definer's activity.
 #[derive(Drop)]
@@ -264,7 +361,8 @@ impl Propagator for Reads {
     fn prune_in(&self, w: &mut Window<'_>, scratch: &mut Scratch) -> Pruned {
         let first = keep_soon(w, Pruned::Same, self);
         let n = places(self.alts.as_slice());
-        let did = keep_choice(self, w, first, self.user_on, self.choice, n);
+        let second = keep_choice(self, w, first, self.user_on, self.choice, n);
+        let did = keep_earlies(w, second, self, n);
         check_last(self, w, scratch, did)
     }
 

@@ -1,5 +1,6 @@
 -- Laws of a cut for each item of a list, in order.
-use Rattle.std.proofs.Common.{ℕ, zero, suc, ◌≡◌, ◌<◌, ◌≤◌, ◌+◌, ◌∙◌, List, [], ◌∷◌, length, get_or, take, Some, option_and_then, refl, sym, ap, subst}
+use Rattle.std.proofs.Common.{ℕ, zero, suc, ◌≡◌, ◌<◌, ◌≤◌, ◌+◌, ◌∙◌, List, [], ◌∷◌, length, get_or, take, Some, option_and_then, refl}
+use Rattle.std.proofs.Common.{sym, ap, subst}
 use Rattle.std.proofs.Common.{None, add-one, arith}
 use Rattle.std.specs.declared.option.Option.{Option}
 use Rattle.std.specs.List.{AllByRecursion, Contains}
@@ -53,7 +54,8 @@ take_all [] (suc k) le = refl
 take_all (x ∷ xs) zero le = absurd (omega (arith, le))
 take_all (x ∷ xs) (suc k) le = ap (λ ys. x ∷ ys) (take_all xs k (omega (arith, le)))
 
-pub each_end : {A : Type 0} (vs : List VarId) (f : A → Sets → Option Sets) (xs : List A) (k : ℕ) (old new : Contents) (before after : Pruned)
+pub each_end : {A : Type 0} (vs : List VarId) (f : A → Sets → Option Sets) (xs : List A) (k : ℕ) (old new : Contents) (before after :
+    Pruned)
     → length xs ≤ k → Stepped vs (round f (take k xs)) old new before after → Stepped vs (round f xs) old new before after
 each_end vs f xs k old new before after le h = subst (λ ys. Stepped vs (round f ys) old new before after) (take_all xs k le) h
 

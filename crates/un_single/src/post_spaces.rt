@@ -22,12 +22,7 @@ use un_sites::sites::{Site, Spot, registers_of, site_of};
 use un_sites::space_sets::space_span;
 
 /// The registers that each number of an operation lets its operand at place `j` have.
-fn operand_sets(
-    alloc: Global,
-    slots: u32,
-    kind: &ExtKind,
-    j: u32,
-) -> Result<Items<Span>, NoMemory>
+fn operand_sets(alloc: Global, slots: u32, kind: &ExtKind, j: u32) -> Result<Items<Span>, NoMemory>
     ensures { IfOk result (λ sets. sets ≡ operand_sets slots kind.now j) }
 {
     let mut sets = Items::new(alloc);

@@ -1,4 +1,5 @@
-use Rattle.std.proofs.Common.{ℕ, List, Bool, true, false, ◌≡◌, ◌≢◌, ◌<◌, ◌≤◌, ◌+◌, ◌-◌, ◌∙◌, length, get_or, nat_eq, nat_le, nat_lt, not, option_and_then, refl, ap, sym}
+use Rattle.std.proofs.Common.{ℕ, List, Bool, true, false, ◌≡◌, ◌≢◌, ◌<◌, ◌≤◌, ◌+◌, ◌-◌, ◌∙◌, length, get_or, nat_eq, nat_le, nat_lt, not}
+use Rattle.std.proofs.Common.{option_and_then, refl, ap, sym}
 use Rattle.std.proofs.Common.{subst, arith}
 use Rattle.un_base.specs.declared.ids.VarId.{VarId}
 use Rattle.std.proofs.lemmas.Bool.Decides.{nat_tests}
@@ -20,7 +21,8 @@ use Rattle.un_alt.specs.declared.frame.FrameUse.{FrameUse}
 use Rattle.un_alt.specs.declared.frame.FrameLeave.{FrameLeave}
 use Rattle.un_ir.specs.declared.extended.TheConstants.{SPILL, RELOAD}
 use Rattle.un_alt.specs.Frame.{FrameUseVars, FrameLeaveVars}
-use Rattle.un_alt.specs.FrameCuts.{is_unused, is_ordered, sure_use, flag_cut, touch_cut, slot_cut, op_cut, leave_op_cut, late_test, early_test}
+use Rattle.un_alt.specs.FrameCuts.{is_unused, is_ordered, sure_use, flag_cut, touch_cut, slot_cut, op_cut, leave_op_cut, late_test}
+use Rattle.un_alt.specs.FrameCuts.{early_test}
 use Rattle.un_alt.specs.FrameCuts.{order_cut, entry_cut, copy_cut, call_cut, left_cut, use_steps, op_steps, order_steps, OrderVars}
 use Rattle.un_alt.proofs.Orders.{late_is, going}
 use Rattle.un_alt.proofs.frame_cuts.keep_calls.Goals as goal
@@ -45,9 +47,11 @@ loop-v-preserved c =
     let inv = c.loop-v.invariant in
     let did = c.keep_order-did in
     record {
-      step = each_next c.args.w.now.vars.now c.loop-v.w.vars.now (call_cut p.flag c.args.l.now.leave) c.args.l.now.calls i d c.args.w.now.store.now
+      step = each_next c.args.w.now.vars.now c.loop-v.w.vars.now (call_cut p.flag c.args.l.now.leave) c.args.l.now.calls i d
+          c.args.w.now.store.now
           c.loop-v.w.store.now did.new.w.store.now c.args.before c.loop-v.did did.result (ap (λ r. r.now) inv.vars) lt inv.step
-          (subst (λ (us : List VarId). Stepped c.loop-v.w.vars.now ((call_cut p.flag c.args.l.now.leave) (get_or us i d)) c.loop-v.w.store.now
+          (subst (λ (us : List VarId). Stepped c.loop-v.w.vars.now ((call_cut p.flag c.args.l.now.leave) (get_or us i d))
+          c.loop-v.w.store.now
           did.new.w.store.now c.loop-v.did did.result) lent did.ensures.step);
       same_reference = did.ensures.same_reference ∙ inv.same_reference;
       vars = did.ensures.vars ∙ inv.vars;
@@ -57,5 +61,6 @@ pub returns-clause-step : goal.returns-clause-step
 returns-clause-step c =
     let p = c.args.p.now in
     let long = ap length c.as_slice-calls.ensures in
-    each_end c.args.w.now.vars.now (call_cut p.flag c.args.l.now.leave) c.args.l.now.calls c.loop-v.v-index c.args.w.now.store.now c.loop-v.w.store.now
+    each_end c.args.w.now.vars.now (call_cut p.flag c.args.l.now.leave) c.args.l.now.calls c.loop-v.v-index c.args.w.now.store.now
+    c.loop-v.w.store.now
     c.args.before c.loop-v.did (omega (arith, c.loop-v-test.false, long)) c.loop-v.invariant.step

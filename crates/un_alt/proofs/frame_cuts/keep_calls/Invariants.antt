@@ -7,7 +7,8 @@ use Rattle.un_alt.proofs.frame_cuts.keep_calls.Given as goal
 
 abbrev pub invariant-loop-v : goal.invariant-loop-v
 invariant-loop-v l = record {
-  step : Stepped l.fn.w.vars.now (round (call_cut l.p.flag l.l.leave) (take l.v-index l.l.calls)) l.fn.w.store.now l.w.store.now l.fn.before l.did;
+  step : Stepped l.fn.w.vars.now (round (call_cut l.p.flag l.l.leave) (take l.v-index l.l.calls)) l.fn.w.store.now l.w.store.now
+      l.fn.before l.did;
   same_reference : l.w.store.ghost_name ≡ l.fn.w.store.ghost_name;
   vars : l.w.vars ≡ l.fn.w.vars;
 }

@@ -1,4 +1,5 @@
-use Rattle.std.proofs.Common.{ℕ, List, Bool, true, false, ◌≡◌, ◌≢◌, ◌<◌, ◌≤◌, ◌+◌, ◌-◌, ◌∙◌, length, get_or, nat_eq, nat_le, nat_lt, not, option_and_then, refl, ap, sym}
+use Rattle.std.proofs.Common.{ℕ, List, Bool, true, false, ◌≡◌, ◌≢◌, ◌<◌, ◌≤◌, ◌+◌, ◌-◌, ◌∙◌, length, get_or, nat_eq, nat_le, nat_lt, not}
+use Rattle.std.proofs.Common.{option_and_then, refl, ap, sym}
 use Rattle.std.proofs.Common.{subst, arith}
 use Rattle.un_base.specs.declared.ids.VarId.{VarId}
 use Rattle.std.proofs.lemmas.Bool.Decides.{nat_tests}
@@ -20,7 +21,8 @@ use Rattle.un_alt.specs.declared.frame.FrameUse.{FrameUse}
 use Rattle.un_alt.specs.declared.frame.FrameLeave.{FrameLeave}
 use Rattle.un_ir.specs.declared.extended.TheConstants.{SPILL, RELOAD}
 use Rattle.un_alt.specs.Frame.{FrameUseVars, FrameLeaveVars}
-use Rattle.un_alt.specs.FrameCuts.{is_unused, is_ordered, sure_use, flag_cut, touch_cut, slot_cut, op_cut, leave_op_cut, late_test, early_test}
+use Rattle.un_alt.specs.FrameCuts.{is_unused, is_ordered, sure_use, flag_cut, touch_cut, slot_cut, op_cut, leave_op_cut, late_test}
+use Rattle.un_alt.specs.FrameCuts.{early_test}
 use Rattle.un_alt.specs.FrameCuts.{order_cut, entry_cut, copy_cut, call_cut, left_cut, use_steps, op_steps, order_steps, OrderVars}
 use Rattle.un_alt.proofs.Orders.{late_is, going}
 use Rattle.un_alt.proofs.frame_cuts.keep_flag.Goals as goal
@@ -36,7 +38,8 @@ pub sure_use-requires-clause-of_ins : goal.sure_use-requires-clause-of_ins
 sure_use-requires-clause-of_ins c =
     let p = c.args.p.now in
     let s = c.args.w.now.store.now in
-    subst (λ (us : List VarId). HasVars us s.sets) (sym c.as_slice-ins.ensures) (known_of p.vars p.ins s.sets p.among.of_ins c.requires.known)
+    subst (λ (us : List VarId). HasVars us s.sets) (sym c.as_slice-ins.ensures) (known_of p.vars p.ins s.sets p.among.of_ins
+    c.requires.known)
 
 -- what was found of the lists that are lent
 found : (touch lent_touch ins lent_ins : List VarId) (s : Sets) (r : Bool) → lent_touch ≡ touch → lent_ins ≡ ins

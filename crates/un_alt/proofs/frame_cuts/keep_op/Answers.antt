@@ -1,4 +1,5 @@
-use Rattle.std.proofs.Common.{ℕ, List, Bool, true, false, ◌≡◌, ◌≢◌, ◌<◌, ◌≤◌, ◌+◌, ◌-◌, ◌∙◌, length, get_or, nat_eq, nat_le, nat_lt, not, option_and_then, refl, ap, sym}
+use Rattle.std.proofs.Common.{ℕ, List, Bool, true, false, ◌≡◌, ◌≢◌, ◌<◌, ◌≤◌, ◌+◌, ◌-◌, ◌∙◌, length, get_or, nat_eq, nat_le, nat_lt, not}
+use Rattle.std.proofs.Common.{option_and_then, refl, ap, sym}
 use Rattle.std.proofs.Common.{subst, arith}
 use Rattle.un_base.specs.declared.ids.VarId.{VarId}
 use Rattle.std.proofs.lemmas.Bool.Decides.{nat_tests}
@@ -20,7 +21,8 @@ use Rattle.un_alt.specs.declared.frame.FrameUse.{FrameUse}
 use Rattle.un_alt.specs.declared.frame.FrameLeave.{FrameLeave}
 use Rattle.un_ir.specs.declared.extended.TheConstants.{SPILL, RELOAD}
 use Rattle.un_alt.specs.Frame.{FrameUseVars, FrameLeaveVars}
-use Rattle.un_alt.specs.FrameCuts.{is_unused, is_ordered, sure_use, flag_cut, touch_cut, slot_cut, op_cut, leave_op_cut, late_test, early_test}
+use Rattle.un_alt.specs.FrameCuts.{is_unused, is_ordered, sure_use, flag_cut, touch_cut, slot_cut, op_cut, leave_op_cut, late_test}
+use Rattle.un_alt.specs.FrameCuts.{early_test}
 use Rattle.un_alt.specs.FrameCuts.{order_cut, entry_cut, copy_cut, call_cut, left_cut, use_steps, op_steps, order_steps, OrderVars}
 use Rattle.un_alt.proofs.Orders.{late_is, going}
 use Rattle.un_alt.proofs.frame_cuts.keep_op.Goals as goal
@@ -32,7 +34,8 @@ returns-clause-step c =
     let mid = c.keep_off-first.new.w.store.now in
     let new = c.keep_on.new.w.store.now in
     let first = c.keep_off-first.result in
-    stepped_chain c.args.w.now.vars.now (when_cut (is_only p.flag 0) (up_to 0) op.instr) (when_cut (is_only p.flag 1) (other_than 0) op.instr)
+    stepped_chain c.args.w.now.vars.now (when_cut (is_only p.flag 0) (up_to 0) op.instr) (when_cut (is_only p.flag 1) (other_than 0)
+    op.instr)
     c.args.w.now.store.now mid new c.args.before first c.keep_on.result c.keep_off-first.ensures.step
     (subst (λ (us : List VarId). Stepped us (when_cut (is_only p.flag 1) (other_than 0) op.instr) mid new first c.keep_on.result)
     (ap (λ r. r.now) c.keep_off-first.ensures.vars) c.keep_on.ensures.step)

@@ -1,4 +1,5 @@
-use Rattle.std.proofs.Common.{ℕ, List, Bool, true, false, ◌≡◌, ◌≢◌, ◌<◌, ◌≤◌, ◌+◌, ◌-◌, ◌*◌, ◌/◌, ◌^◌, ◌∙◌, length, get_or, max, min, nat_lt, nat_le}
+use Rattle.std.proofs.Common.{ℕ, List, Bool, true, false, ◌≡◌, ◌≢◌, ◌<◌, ◌≤◌, ◌+◌, ◌-◌, ◌*◌, ◌/◌, ◌^◌, ◌∙◌, length, get_or, max, min}
+use Rattle.std.proofs.Common.{nat_lt, nat_le}
 use Rattle.std.proofs.Common.{refl, sym, ap, subst, arith}
 use Rattle.std.proofs.lemmas.Bool.Decides.{nat_tests}
 use Rattle.std.proofs.lemmas.List.{get_or_default}
@@ -152,5 +153,6 @@ returns-clause-room c still =
       c.min.ensures,
     ) in
     ap (λ (n : ℕ). n + c.args.room + 1)
-    (least_stays p.ends s.sets c.keep_le.new.w.store.now.sets e.end.0 high within (c.requires.live going e.end.0 within) le c.keep_le.ensures.sets)
+    (least_stays p.ends s.sets c.keep_le.new.w.store.now.sets e.end.0 high within (c.requires.live going e.end.0 within) le
+    c.keep_le.ensures.sets)
     ∙ room

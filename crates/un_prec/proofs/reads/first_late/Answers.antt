@@ -1,20 +1,18 @@
-use Rattle.std.proofs.Common.{List, ◌≡◌, subst, arith, true}
-use Rattle.un_base.specs.declared.ids.VarId.{VarId}
-use Rattle.un_prop.specs.Acts.{act_vars, at_vars}
-use Rattle.un_prop.specs.Among.{among, AllAmong}
-use Rattle.un_prop.specs.AmongLaws.{has_among}
+use Rattle.std.proofs.Common.{ℕ, ◌∙◌, ◌+◌, nat_le, ap}
+use Rattle.std.specs.List.{list_any}
+use Rattle.un_prop.specs.Acts.{at_vars}
+use Rattle.un_prop.specs.Choices.{passes_at}
 use Rattle.un_prop.specs.LookLaws.{known_of}
-use Rattle.un_prop.specs.declared.act.Act.{Act}
-use Rattle.un_prop.specs.declared.act.Act.TheVariants.{Var}
+use Rattle.un_prop.specs.Looks.{act_set}
 use Rattle.un_prec.proofs.reads.first_late.Goals as goal
 
 pub least_time-least-requires-clause-known : goal.least_time-least-requires-clause-known
 least_time-least-requires-clause-known c = known_of c.args.w.now.vars.now (at_vars c.args.a.now.at) c.args.w.now.store.now.sets
     c.requires.vars.of_at c.requires.known
 
-in_window : (vs : List VarId) (v : VarId) (on : Act) → on ≡ Var v → AllAmong vs (act_vars on) → among vs v ≡ true
-in_window vs v on e all = subst (λ (a : Act). AllAmong vs (act_vars a)) e all 0 v (omega arith)
-
-pub first_end-requires-clause-there : goal.first_end-requires-clause-there
-first_end-requires-clause-there c = has_among c.args.w.now.vars.now c.in-Var.v c.args.w.now.store.now.sets
-    (in_window c.args.w.now.vars.now c.in-Var.v c.args.a.now.on c.in-Var.is c.requires.vars.of_on) c.requires.known
+pub returns : goal.returns
+returns c t =
+    let a = c.args.a.now in
+    c.first_from.ensures t
+    ∙ ap (λ (m : ℕ). list_any (λ n. passes_at (λ g. nat_le (m + g) t) a.gaps n) (act_set a.on c.args.w.now.store.now.sets))
+    c.least_time-least.ensures

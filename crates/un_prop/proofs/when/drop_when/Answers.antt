@@ -19,5 +19,6 @@ returns-clause-step c fact is =
     let s = c.args.w.now.store.now in
     stepped_by c.args.w.now.vars.now (when_cut fact (other_than c.args.n) c.args.v) (cut_by (λ y. not (nat_eq y c.args.n)) c.args.v.0) s
     c.drop_value.new.w.store.now c.args.before c.drop_value.result
-    (λ live. when_so fact (other_than c.args.n) (λ y. not (nat_eq y c.args.n)) c.args.v s.sets (sym (is going) ∙ c.if-not-so.false) (λ y. refl))
+    (λ live. when_so fact (other_than c.args.n) (λ y. not (nat_eq y c.args.n)) c.args.v s.sets (sym (is going) ∙ c.if-not-so.false) (λ
+    y. refl))
     c.drop_value.ensures.step
