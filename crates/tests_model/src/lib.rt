@@ -18,6 +18,8 @@ mod sets;
 #[cfg(test)]
 mod stores;
 #[cfg(test)]
+mod trees;
+#[cfg(test)]
 mod ways;
 #[cfg(test)]
 mod words;
