@@ -6,6 +6,8 @@ mod broken;
 #[cfg(test)]
 mod kinds;
 #[cfg(test)]
+mod merges;
+#[cfg(test)]
 mod models;
 #[cfg(test)]
 mod orders;

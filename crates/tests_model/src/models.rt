@@ -9,6 +9,7 @@ ghost use Rattle.un_isa.specs.Fit.{IsFit};
 ghost use Rattle.un_model.specs.Variables.{IsModel};
 
 use crate::broken::BROKEN;
+use crate::merges::MERGES;
 use crate::orders::ORDERS;
 use crate::relaxed::relaxed;
 use crate::ways::WAYS;
@@ -21,6 +22,8 @@ use un_bound::relax::RelaxAnswer;
 use un_ir::text::{put_number, put_text};
 use un_isa::table::hexagon;
 use un_lists::items::Items;
+use un_merges::merges::without_merges;
+use un_model::cost::value;
 use un_model::model::{Arc, Model, Solution};
 use un_model::verdict::Broken;
 use un_problem::problem::{default_options, model};
@@ -146,6 +149,40 @@ fn put_relaxed(alloc: Global, out: &mut Vec<u8>, m: &Model, question: &[u8]) -> 
     }
 }
 
+/// Whether the first block ends as early as a question says.
+fn ends_by(m: &Model, s: &Solution, question: &[u8]) -> bool {
+    match m.blocks.as_slice().first() {
+        Some(block) => value(s.values.as_slice(), block.end) <= number_at(question, 1),
+        None => false,
+    }
+}
+
+/// Appends whether the first block of a solution ends as early as a question says, once merges are taken.
+fn put_merged(
+    alloc: Global,
+    out: &mut Vec<u8>,
+    m: &Model,
+    values: &[u8],
+    question: &[u8],
+) -> Result<(), NoMemory>
+    requires model { IsModel m.now }
+{
+    let values = numbers(alloc, values)?;
+    let s = Solution { values };
+    if !violations(alloc, m, &s)?.is_empty() {
+        return put_text(out, b"no solution");
+    }
+    let merged = without_merges(alloc, m, s)?;
+    put_text(
+        out,
+        if ends_by(m, &merged, question) {
+            b"yes".as_slice()
+        } else {
+            b"no".as_slice()
+        },
+    )
+}
+
 /// Appends the answer to a question about a model and values of its variables.
 fn put_answer(
     alloc: Global,
@@ -162,6 +199,7 @@ fn put_answer(
         Some(b'a') => put_arcs(out, m, number_at(question, 1)),
         Some(b'b') => put_bound(out, m),
         Some(b'r') => put_relaxed(alloc, out, m, question),
+        Some(b'm') => put_merged(alloc, out, m, values, question),
         _ => put_changed(alloc, out, m, values, question),
     }
 }
@@ -208,5 +246,6 @@ fn answers_of_models(rt: HostRuntime) {
     let broken = matches!(all_answered(rt.alloc(), BROKEN), Ok(true));
     let ways = matches!(all_answered(rt.alloc(), WAYS), Ok(true));
     let orders = matches!(all_answered(rt.alloc(), ORDERS), Ok(true));
-    assert!(rt; broken && ways && orders);
+    let merges = matches!(all_answered(rt.alloc(), MERGES), Ok(true));
+    assert!(rt; broken && ways && orders && merges);
 }
