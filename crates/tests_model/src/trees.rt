@@ -92,7 +92,12 @@ fn is_read(alloc: Global, text: &[u8], word: &[u8], n: u32) -> Result<bool, NoMe
 fn is_row(alloc: Global, row: &[u8]) -> Result<bool, NoMemory> {
     let (spelled, answer) = cut(row, b'>');
     let text = text_of(alloc, spelled)?;
-    is_read(alloc, text.as_slice(), cut(answer, b' ').0, number_at(answer, 1))
+    is_read(
+        alloc,
+        text.as_slice(),
+        cut(answer, b' ').0,
+        number_at(answer, 1),
+    )
 }
 
 /// Whether each row but for comments is so.

@@ -34,12 +34,12 @@ module _ (m : Model) (b : Sets) (low : ℕ) (below : (l : ℕ) → IsLeast m b l
   by_cost (suc n) times is lt = elim (cases_lt (times_cost m.ext.blocks times) low) [
     | inr ge ↦ ge
     | inl less ↦ below (times_cost m.ext.blocks times) (record {
-        reached = (times, is, refl);
-        least = λ other o. elim (cases_lt (times_cost m.ext.blocks other) (times_cost m.ext.blocks times)) [
-          | inr ge ↦ ge
-          | inl cheaper ↦ (let h = by_cost n other o (omega (arith, cheaper, lt)) in absurd (omega (arith, h, cheaper, less)))
-        ];
-      })
+      reached = (times, is, refl);
+      least = λ other o. elim (cases_lt (times_cost m.ext.blocks other) (times_cost m.ext.blocks times)) [
+        | inr ge ↦ ge
+        | inl cheaper ↦ (let h = by_cost n other o (omega (arith, cheaper, lt)) in absurd (omega (arith, h, cheaper, less)))
+      ];
+    })
   ]
 
   pub member_above : (times : List Times) → IsMember m b times → low ≤ times_cost m.ext.blocks times
