@@ -1,5 +1,5 @@
 -- The tree of an attempt is a certificate.
-use Rattle.std.proofs.Common.{ℕ, ◌≡◌, ◌<◌, ◌≤◌, ◌+◌, ◌≢◌, List, [], ◌∷◌, length, Option, None, Some, MatchOption, refl, sym, subst, arith}
+use Rattle.std.proofs.Common.{ℕ, ◌≡◌, ◌<◌, ◌≤◌, ◌+◌, ◌≢◌, List, [], ◌∷◌, length, Option, None, Some, MatchOption, refl, sym, ◌∙◌, subst, arith}
 use Rattle.std.proofs.Common.{All}
 use Rattle.std.specs.Bool.{⊤}
 use Rattle.std.specs.List.{AllByRecursion}
@@ -30,6 +30,8 @@ use Rattle.un_search.specs.declared.attempt.Tried.TheVariants.{Found, Refuted, C
 use Rattle.un_search.specs.Answers.{IsRefuted, IsCutOff, IsAnswerOf, IsByRoot, OnFound, OnRefuted, OnCut}
 use Rattle.un_search.specs.ModelLaws.{posted_empty}
 use Rattle.un_levels.specs.Levels.{IsReady, Leveled, Sheet}
+use Rattle.un_engine.specs.Ends.{IsEnd}
+use Rattle.un_engine.specs.Engines.{State}
 use Rattle.un_kinds.specs.AnyProps.{cut_of}
 use Rattle.un_kinds.specs.declared.any.AnyProp.{AnyProp}
 use Rattle.un_prop.specs.Rounds.{fix_of}
@@ -45,9 +47,9 @@ abbrev AllBoxes : Sets → List Waiting → Type 0
 AllBoxes root [] = ⊤
 AllBoxes root (Whole b ∷ ws) = IsBox root b × AllBoxes root ws
 
-some_lost : {P : Sets → Type 0} (c : Option Sets) → MatchOption c ⊥ P → c ≡ None → ⊥
-some_lost None h e = h
-some_lost (Some f) h e = cc e
+some_lost : (P : Sets → Type 0) (c : Option Sets) → MatchOption c ⊥ P → c ≡ None → ⊥
+some_lost P None h e = h
+some_lost P (Some f) h e = cc e
 
 half_inside : (root b : Sets) (v : VarId) (x : ℕ) (side : Side) → IsBox root b → Splits b v x → IsBox root (half b v x side)
 half_inside root b v x side i s =
@@ -60,15 +62,15 @@ module _ (m : Model) (limit : Option ℕ) (empty : (b : Sets) → IsBox (root_of
   all_alive i [] ws boxes strict searched = tt
   all_alive i (n ∷ ns) [] boxes strict searched = tt
   all_alive i (Branch v x ∷ ns) (Whole b ∷ ws) boxes strict searched = (
-    λ none. some_lost {P = λ f. Splits f v x} (fix_at m limit b) searched.0 (empty b boxes.0 none),
+    λ none. some_lost (λ f. Splits f v x) (fix_at m limit b) searched.0 (empty b boxes.0 none),
     all_alive (i + 1) ns (Whole (half b v x AtMost) ∷ Whole (half b v x Above) ∷ ws)
-    (half_inside (root_of m) b v x AtMost boxes.0 strict.0, half_inside (root_of m) b v x Above boxes.0 strict.0, boxes.1)
+    (half_inside (root_of m) b v x AtMost boxes.0 strict.0, (half_inside (root_of m) b v x Above boxes.0 strict.0, boxes.1))
     strict.1 searched.1,
   )
   all_alive i (Closed ∷ ns) (Whole b ∷ ws) boxes strict searched =
       (tt, all_alive (i + 1) ns ws boxes.1 strict.1 searched.1)
   all_alive i (Open ∷ ns) (Whole b ∷ ws) boxes strict searched = (
-    λ none. some_lost {P = HasTwo} (fix_at m limit b) searched.0 (empty b boxes.0 none),
+    λ none. some_lost HasTwo (fix_at m limit b) searched.0 (empty b boxes.0 none),
     all_alive (i + 1) ns ws boxes.1 strict.1 searched.1,
   )
 
@@ -158,3 +160,9 @@ by_root m limit (Gone t) (Cut u low) is k = absurd is
 by_root m limit (Short t low) (Found s) is k = absurd is
 by_root m limit (Short t low) (Refuted u) is k = absurd is
 by_root m limit (Short t low) (Cut u own) is k = k
+
+-- the first box has no end where there is no engine
+pub lost_root : (m : Model) (limit : Option ℕ) (s : Sets) (ps : List AnyProp) (e : Option (State AnyProp)) → s ≡ root_of m
+    → ((box : Sets) → fix_of cut_of ps box ≡ fix_at m limit box) → IsEnd cut_of ps s e → e ≡ None → fix_at m limit (root_of m) ≡ None
+lost_root m limit s ps e same fixed end is =
+    sym (fixed (root_of m)) ∙ subst (λ (r : Sets). fix_of cut_of ps r ≡ None) same (subst (IsEnd cut_of ps s) is end)

@@ -64,8 +64,8 @@ value_more s n v x h is some few = record {
 }
   where
     length_push : (xs : List ℕ) (y : ℕ) → length (xs ++ y ∷ []) ≡ length xs + 1
-    length_push [] y = refl
-    length_push (z ∷ xs) y = ap suc (length_push xs y)
+    length_push [] y = omega arith
+    length_push (z ∷ xs) y = (let e = length_push xs y in omega (arith, e))
 
 pub values_single : (s : Sets) (x : List ℕ) → HasValues s (length s) x → IsSingle x s
 values_single s x h = record { long = h.long; each = h.each }
@@ -122,12 +122,12 @@ last_long all ms t n h e = (all_snoc (λ (s : Sets). length s ≡ n) ms t (subst
 
 module _ (m : Model) (limit : Option ℕ) (ps : List AnyProp) (h : ArePosted m limit ps) (b f : Sets) (i : IsBox (root_of m) b)
     (e : fix_at m limit b ≡ Some f) where
-  at_end : {P : Sets → Type 0} → P f → MatchOption (fix_at m limit b) ⊥ P
-  at_end {P} p = subst (λ (c : Option Sets). MatchOption c ⊥ P) (sym e) p
+  at_end : (P : Sets → Type 0) → P f → MatchOption (fix_at m limit b) ⊥ P
+  at_end P p = subst (λ (c : Option Sets). MatchOption c ⊥ P) (sym e) p
 
   -- single values that the rounds leave are found
   pub found_look : (x : List ℕ) → IsSingle x f → MatchOption (fix_at m limit b) ⊥ (IsSingle x) × IsBelow m limit x
-  found_look x single = (at_end single, posted_single m limit ps h b f x i e single)
+  found_look x single = (at_end (IsSingle x) single, posted_single m limit ps h b f x i e single)
 
   -- a box with a choice left has the least cost of its relaxation
   pub open_look : (answer : RelaxAnswer) (look : Look) → HasTwo f → IsRelaxation m b answer → IsLookOf answer look
@@ -137,7 +137,7 @@ module _ (m : Model) (limit : Option ℕ) (ps : List AnyProp) (h : ArePosted m l
   open_look Empty (Open n) two none is = absurd is
   open_look (Least cost) Failed two least is = absurd is
   open_look (Least cost) (Found x) two least is = absurd is
-  open_look (Least cost) (Open n) two least is = (at_end two, subst (IsLeast m b) (sym is) least)
+  open_look (Least cost) (Open n) two least is = (at_end HasTwo two, subst (IsLeast m b) (sym is) least)
 
 -- room for the largest horizon is room for each block's
 each_room : (n top : ℕ) (scratch : Scratch) (blocks : List ExtBlock) → HasRoom n (top + 1) scratch

@@ -3,8 +3,10 @@ use Rattle.un_certificate.specs.Certificates.{root_of}
 use Rattle.un_search.proofs.AttemptLemmas.{answers, by_root, fresh_at}
 use Rattle.un_search.proofs.attempt.search.Goals as goal
 
-pub invariant_of-rounds : goal.invariant_of-rounds
-invariant_of-rounds c = record { posted = ∣ record { props = c.args.stores.engine.props; are = c.requires.stores.posted } ∣₁ }
+pub attempt-requires-clause-fresh : goal.attempt-requires-clause-fresh
+attempt-requires-clause-fresh c =
+    fresh_at (root_of c.args.m.now) (fix_at c.args.m.now c.args.limit) _ _ _ _ c.new-path.ensures.items c.requires.stores c.requires.full
+    c.requires.cuts c.requires.unmarked c.requires.ends c.requires.fresh
 
 pub returns-clause-found : goal.returns-clause-found
 returns-clause-found c = (answers c.args.m.now c.args.limit c.args.stores.engine.props c.requires.stores.posted c.requires.full c.args.nodes
