@@ -11,5 +11,5 @@ returns-in_ok-closed_leaf-in-None-clause-refuted c =
     closed_root m c.args.limit p.props.items c.args.nodes _
     (posted_of m c.args.limit p.store.sets p.props.items e.sets e.exact e.reads e.grounded e.fails e.fixed)
     (subst NoneEmpty e.sets e.live)
-    (lost_root m c.args.limit p.store.sets p.props.items _ e.sets e.fixed c.in_ok-engine.ensures c.in-None.is)
+    (lost_root m c.args.limit p.store.sets p.props.items _ e.sets e.fixed c.in_ok-new.ensures c.in-None.is)
     c.in_ok-closed_leaf-in-None.ensures c.requires.some
