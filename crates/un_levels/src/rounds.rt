@@ -50,6 +50,7 @@ pub trait Rounds {
     fn enter(&self, stores: &mut Self::Stores, decision: Decision) -> Result<bool, NoMemory>
         requires fit { is_fit self.now stores.old }
         requires known { decision.var.0 < length (root self.now) }
+        requires inside { IsBox (root self.now) (cuts stores.old).sets }
         requires stable { IsEnd (root self.now) (fix self.now) (ends stores.old).sets }
         ensures fit { IfOk result (λ stable. is_fit self.now stores.new) }
         ensures cut { IfOk result (λ stable. (cuts stores.new).sets ≡ decided decision (cuts stores.old).sets) }

@@ -1,4 +1,5 @@
-use Rattle.un_tree.specs.Boxes.{reached}
+use Rattle.std.proofs.Common.{sym, subst}
+use Rattle.un_tree.specs.Boxes.{IsBox, reached}
 use Rattle.un_levels.proofs.LevelLemmas.{is_end, leveled_end, cut_down}
 use Rattle.un_levels.proofs.levels.go_down.Goals as goal
 
@@ -7,6 +8,14 @@ enter-requires-clause-stable g c =
     let R = g.R.Rounds in
     let p = c.args.rounds.now in
     is_end (R.root p) (R.fix p) c.args.room.now.path.items (R.ends c.args.room.now.stores) c.requires.at
+
+pub enter-requires-clause-inside : goal.enter-requires-clause-inside
+enter-requires-clause-inside g c =
+    let R = g.R.Rounds in
+    let p = c.args.rounds.now in
+    let s = R.ends c.args.room.now.stores in
+    let e = leveled_end (R.root p) (R.fix p) (R.root p) c.args.room.now.path.items s.marked s.sets c.requires.at in
+    subst (IsBox (R.root p)) (sym c.requires.cut.sets) e.0
 
 pub returns-clause-ended : goal.returns-clause-ended
 returns-clause-ended g c =

@@ -1,0 +1,4 @@
+pub mod Answers
+pub mod Looks
+pub mod ModelLaws
+pub mod Stores
