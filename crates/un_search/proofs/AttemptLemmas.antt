@@ -64,8 +64,8 @@ module _ (m : Model) (limit : Option ℕ) (empty : (b : Sets) → IsBox (root_of
   all_alive i (Branch v x ∷ ns) (Whole b ∷ ws) boxes strict searched = (
     λ none. some_lost (λ f. Splits f v x) (fix_at m limit b) searched.0 (empty b boxes.0 none),
     all_alive (i + 1) ns (Whole (half b v x AtMost) ∷ Whole (half b v x Above) ∷ ws)
-    (half_inside (root_of m) b v x AtMost boxes.0 strict.0, (half_inside (root_of m) b v x Above boxes.0 strict.0, boxes.1))
-    strict.1 searched.1,
+        (half_inside (root_of m) b v x AtMost boxes.0 strict.0, (half_inside (root_of m) b v x Above boxes.0 strict.0, boxes.1))
+        strict.1 searched.1,
   )
   all_alive i (Closed ∷ ns) (Whole b ∷ ws) boxes strict searched =
       (tt, all_alive (i + 1) ns ws boxes.1 strict.1 searched.1)
@@ -145,7 +145,7 @@ module _ (m : Model) (limit : Option ℕ) (ps : List AnyProp) (h : ArePosted m l
     tt,
     tt,
     subst (λ (ts : List Node). IsCutOff m limit n ts own) (sym is.0)
-    (subst (IsCutOff m limit n t.nodes.items) (sym is.1) (cut_off_by m limit empties n t.nodes.items low full k)),
+        (subst (IsCutOff m limit n t.nodes.items) (sym is.1) (cut_off_by m limit empties n t.nodes.items low full k)),
   )
 
 pub by_root : (m : Model) (limit : Option ℕ) (a : Answer) (r : Tried) → IsAnswerOf a r

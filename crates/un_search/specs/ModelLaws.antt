@@ -36,7 +36,7 @@ each_holds : (ps : List AnyProp) (f : Sets) (x : List ℕ) → IsSingle x f → 
 each_holds [] f x single known grounded stable = tt
 each_holds (p ∷ ps) f x single known grounded stable = (
   single_holds (scope_of p) (holds_of p) (cut_of p) (parts_of p) (any_whole p) (any_within p) (any_forward p) (any_lawful p) (any_keeps p)
-  f x known.0 single (λ none. grounded.0 none x) stable.0,
+      f x known.0 single (λ none. grounded.0 none x) stable.0,
   each_holds ps f x single known.1 grounded.1 stable.1,
 )
 
@@ -70,7 +70,7 @@ module _ (m : Model) (limit : Option ℕ) (ps : List AnyProp) (h : ArePosted m l
       (h.exact x).1 (
         single_in f (root_of m) x single below,
         All-from_recursion (λ (p : AnyProp). holds_of p x ≡ true) ps (each_holds ps f x single (known f below)
-        (recursion_from_All IsGrounded ps h.grounded) g.stable),
+            (recursion_from_All IsGrounded ps h.grounded) g.stable),
       )
 
   -- the rounds fail where the relaxation has no member
