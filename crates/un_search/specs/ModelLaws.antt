@@ -1,12 +1,12 @@
 -- The laws of the rounds of what is posted for a model.
-use Rattle.std.proofs.Common.{ℕ, ◌≡◌, ◌<◌, ◌≤◌, true, List, [], ◌∷◌, length, get_or, Option, None, Some, All, refl, sym, ◌∙◌, subst, arith}
+use Rattle.std.proofs.Common.{ℕ, ◌≡◌, ◌<◌, ◌≤◌, true, List, [], ◌∷◌, length, get_or, Option, None, Some, refl, sym, ◌∙◌, subst, arith}
 use Rattle.std.proofs.Math.Logic.{∥∥₁_elim}
 use Rattle.std.proofs.Props.{props}
 use Rattle.std.specs.List.{AllByRecursion}
 use Rattle.std.proofs.lemmas.List.Elements.{recursion_from_All, All-from_recursion}
 use Rattle.un_domains.specs.Order.{Below}
 use Rattle.un_domains.specs.OrderLaws.{Below-trans, has_below, has_here}
-use Rattle.un_domains.specs.Sets.{Sets, IsIn, IsSingle, NoneEmpty, set_at, has}
+use Rattle.un_domains.specs.Sets.{Sets, IsIn, IsSingle, NoneEmpty, has}
 use Rattle.un_prop.specs.Fixes.{IsFixOf, IsGreatest, Known, Stable, fix_greatest, known_long}
 use Rattle.un_prop.specs.KeepLaws.{fix_refutes}
 use Rattle.un_prop.specs.Nodes.{fix_part_fails}
@@ -36,7 +36,7 @@ each_holds : (ps : List AnyProp) (f : Sets) (x : List ℕ) → IsSingle x f → 
 each_holds [] f x single known grounded stable = tt
 each_holds (p ∷ ps) f x single known grounded stable = (
   single_holds (scope_of p) (holds_of p) (cut_of p) (parts_of p) (any_whole p) (any_within p) (any_forward p) (any_lawful p) (any_keeps p)
-  f x known.0 single (λ none. grounded.0 none x) stable.0,
+      f x known.0 single (λ none. grounded.0 none x) stable.0,
   each_holds ps f x single known.1 grounded.1 stable.1,
 )
 
@@ -70,7 +70,7 @@ module _ (m : Model) (limit : Option ℕ) (ps : List AnyProp) (h : ArePosted m l
       (h.exact x).1 (
         single_in f (root_of m) x single below,
         All-from_recursion (λ (p : AnyProp). holds_of p x ≡ true) ps (each_holds ps f x single (known f below)
-        (recursion_from_All IsGrounded ps h.grounded) g.stable),
+            (recursion_from_All IsGrounded ps h.grounded) g.stable),
       )
 
   -- the rounds fail where the relaxation has no member

@@ -93,12 +93,7 @@ fn closed_leaf(alloc: Global) -> Result<Tree, NoMemory>
 ///
 /// # Errors
 /// Where memory is short, or there are more variables or operations than numbers below 2^32.
-pub fn attempt(
-    alloc: Global,
-    m: &Model,
-    limit: Option<u64>,
-    nodes: u32,
-) -> Result<Tried, NoMemory>
+pub fn attempt(alloc: Global, m: &Model, limit: Option<u64>, nodes: u32) -> Result<Tried, NoMemory>
     requires model { IsModel m.now }
     requires extended { IsExtended m.now.ext }
     requires fit { IsFit m.now.ext.table }

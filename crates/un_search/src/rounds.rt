@@ -120,7 +120,9 @@ impl Rounds for ModelRounds<'_> {
 
     fn enter(&self, stores: &mut ModelStores, decision: Decision) -> Result<bool, NoMemory> {
         mark_and_cut(&mut stores.cuts, decision)?;
-        let fix = stores.engine.decide(decision.var, decision.val, decision.side)?;
+        let fix = stores
+            .engine
+            .decide(decision.var, decision.val, decision.side)?;
         Ok(is_stable(fix))
     }
 
