@@ -1,11 +1,10 @@
 -- The tree of an attempt is a certificate.
-use Rattle.std.proofs.Common.{ℕ, ◌≡◌, ◌<◌, ◌≤◌, ◌+◌, ◌≢◌, List, [], ◌∷◌, length, Option, None, Some, MatchOption, refl, sym, ◌∙◌, subst, arith}
+use Rattle.std.proofs.Common.{ℕ, ◌≡◌, ◌<◌, ◌+◌, List, [], ◌∷◌, Option, None, Some, MatchOption, refl, sym, ◌∙◌, subst}
 use Rattle.std.proofs.Common.{All}
 use Rattle.std.specs.Bool.{⊤}
 use Rattle.std.specs.List.{AllByRecursion}
 use Rattle.std.proofs.lemmas.List.Elements.{recursion_from_All, All-from_recursion}
 use Rattle.un_base.specs.declared.ids.VarId.{VarId}
-use Rattle.un_domains.specs.Order.{Below}
 use Rattle.un_domains.specs.OrderLaws.{Below-refl, Below-trans}
 use Rattle.un_domains.specs.Sets.{Sets, NoneEmpty}
 use Rattle.un_prop.specs.declared.side.Side.{Side}
@@ -15,7 +14,7 @@ use Rattle.un_bound.specs.Relaxations.{IsLeast}
 use Rattle.un_post.specs.Posts.{fix_at}
 use Rattle.un_tree.specs.Boxes.{IsBox, Splits, half}
 use Rattle.un_tree.specs.Searched.{HasTwo, IsSearched, IsTree, IsRefutation, IsStopped}
-use Rattle.un_tree.specs.Waits.{Waiting, Whole, Visit, IsStrict, visits, visits_of}
+use Rattle.un_tree.specs.Waits.{Waiting, Whole, IsStrict, visits, visits_of}
 use Rattle.un_tree.specs.declared.node.Node.{Node}
 use Rattle.un_tree.specs.declared.node.Node.TheVariants.{Branch, Closed, Open}
 use Rattle.un_branching.proofs.BoxLemmas.{half_box}
@@ -40,7 +39,7 @@ use Rattle.un_tree.specs.declared.node.Decision.{Decision}
 use Rattle.un_branching.proofs.EndLemmas.{fails}
 use Rattle.un_branching.specs.declared.problem.Look.TheVariants.{Failed}
 use Rattle.un_search.specs.ModelLaws.{posted_keeps}
-use Rattle.un_search.specs.Stores.{ArePosted, AreStores, IsPostable}
+use Rattle.un_search.specs.Stores.{ArePosted}
 
 -- the boxes that wait are within the first one
 abbrev AllBoxes : Sets → List Waiting → Type 0

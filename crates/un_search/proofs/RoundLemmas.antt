@@ -1,10 +1,9 @@
 -- Steps of the rounds of a model.
-use Rattle.std.proofs.Common.{ℕ, zero, suc, ◌≡◌, ◌<◌, ◌≤◌, ◌+◌, Bool, true, false, cond, List, [], ◌∷◌, ◌++◌, length, get_or, filter, nat_eq}
-use Rattle.std.proofs.Common.{Option, None, Some, option_and_then, MatchOption, All, fold, max, map, refl, sym, ap, ◌∙◌, subst, arith, inl, inr}
+use Rattle.std.proofs.Common.{ℕ, ◌≡◌, ◌<◌, ◌≤◌, ◌+◌, Bool, true, false, cond, List, [], ◌∷◌, ◌++◌, length, get_or, filter, nat_eq}
+use Rattle.std.proofs.Common.{Option, None, Some, option_and_then, MatchOption, All, map, refl, sym, ap, ◌∙◌, subst, arith, inl, inr}
 use Rattle.std.proofs.lemmas.Bool.{cases_lt}
 use Rattle.std.proofs.lemmas.Bool.Decides.{nat_tests}
-use Rattle.std.proofs.lemmas.List.{get_or-set_same, length-set, length-map, get_or_append_left, get_or_at}
-use Rattle.un_base.specs.declared.ids.VarId.{VarId}
+use Rattle.std.proofs.lemmas.List.{get_or-set_same, length-set, get_or_append_left, get_or_at}
 use Rattle.std.specs.List.{AllByRecursion}
 use Rattle.std.proofs.lemmas.List.Elements.{All-from_recursion}
 use Rattle.un_domains.specs.OrderLaws.{has_here, has_later}
@@ -22,7 +21,7 @@ use Rattle.un_prop.specs.declared.run.Fix.TheVariants.{Stable as Rests, Failed a
 use Rattle.un_kinds.specs.declared.any.AnyProp.{AnyProp}
 use Rattle.un_model.specs.declared.model.Model.{Model}
 use Rattle.un_post.specs.Posts.{fix_at}
-use Rattle.un_tree.specs.Boxes.{IsBox, decided, half}
+use Rattle.un_tree.specs.Boxes.{IsBox, decided}
 use Rattle.un_tree.specs.declared.node.Decision.{Decision}
 use Rattle.un_levels.specs.Levels.{IsEnd, IsRun}
 use Rattle.un_certificate.specs.Certificates.{root_of}
@@ -33,7 +32,7 @@ use Rattle.un_bound.specs.Relaxations.{IsLeast, IsRelaxation}
 use Rattle.un_branching.specs.Searched.{IsLook}
 use Rattle.un_branching.specs.declared.problem.Look.{Look}
 use Rattle.un_branching.specs.declared.problem.Look.TheVariants.{Failed, Found, Open}
-use Rattle.un_tree.specs.Searched.{IsOpenBox, HasTwo}
+use Rattle.un_tree.specs.Searched.{HasTwo}
 use Rattle.un_certificate.specs.Certificates.{IsBelow}
 use Rattle.un_search.specs.Looks.{IsLookOf}
 use Rattle.un_search.specs.ModelLaws.{posted_inside, posted_single, posted_empty}

@@ -1,12 +1,12 @@
 -- The laws of the rounds of what is posted for a model.
-use Rattle.std.proofs.Common.{ℕ, ◌≡◌, ◌<◌, ◌≤◌, true, List, [], ◌∷◌, length, get_or, Option, None, Some, All, refl, sym, ◌∙◌, subst, arith}
+use Rattle.std.proofs.Common.{ℕ, ◌≡◌, ◌<◌, ◌≤◌, true, List, [], ◌∷◌, length, get_or, Option, None, Some, refl, sym, ◌∙◌, subst, arith}
 use Rattle.std.proofs.Math.Logic.{∥∥₁_elim}
 use Rattle.std.proofs.Props.{props}
 use Rattle.std.specs.List.{AllByRecursion}
 use Rattle.std.proofs.lemmas.List.Elements.{recursion_from_All, All-from_recursion}
 use Rattle.un_domains.specs.Order.{Below}
 use Rattle.un_domains.specs.OrderLaws.{Below-trans, has_below, has_here}
-use Rattle.un_domains.specs.Sets.{Sets, IsIn, IsSingle, NoneEmpty, set_at, has}
+use Rattle.un_domains.specs.Sets.{Sets, IsIn, IsSingle, NoneEmpty, has}
 use Rattle.un_prop.specs.Fixes.{IsFixOf, IsGreatest, Known, Stable, fix_greatest, known_long}
 use Rattle.un_prop.specs.KeepLaws.{fix_refutes}
 use Rattle.un_prop.specs.Nodes.{fix_part_fails}
