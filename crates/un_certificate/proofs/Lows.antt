@@ -1,5 +1,5 @@
 -- What is below the least costs of the open leaves' boxes is below each solution in them.
-use Rattle.std.proofs.Common.{ℕ, zero, suc, ◌≡◌, ◌<◌, ◌≤◌, ◌+◌, ◌⊎◌, List, [], ◌∷◌, Some, max, inl, inr, refl, sym, ap, subst, arith}
+use Rattle.std.proofs.Common.{ℕ, zero, suc, All, ◌≡◌, ◌≢◌, ◌<◌, ◌≤◌, ◌+◌, ◌⊎◌, List, [], ◌∷◌, Some, max, inl, inr, refl, sym, ap, subst, arith}
 use Rattle.std.specs.declared.option.Option.{Option}
 use Rattle.std.proofs.lemmas.List.Elements.{recursion_from_All, All-from_recursion}
 use Rattle.std.specs.List.{AllByRecursion}
@@ -21,11 +21,11 @@ use Rattle.un_post.proofs.Exact.{of_domains}
 use Rattle.un_tree.proofs.CoverLaws.{covered}
 use Rattle.un_tree.specs.Covered.{InOpen, IsOpenAt, Stands}
 use Rattle.un_tree.specs.Searched.{HasAtLeast}
-use Rattle.un_tree.specs.Waits.{Waiting, Whole, Visit, IsStrict, visits_of}
+use Rattle.un_tree.specs.Waits.{Waiting, Whole, Visit, IsStrict, after, visits, visits_of}
 use Rattle.un_tree.specs.declared.node.Node.{Node}
 use Rattle.un_tree.specs.declared.node.Node.TheVariants.{Branch, Closed, Open}
 use Rattle.un_certificate.specs.Bounds.{IsBound}
-use Rattle.un_certificate.specs.Certificates.{IsBelow, IsCertificate, root_of}
+use Rattle.un_certificate.specs.Certificates.{IsBelow, IsCertificate, IsStanding, root_of}
 
 -- a number below the least cost of the members, where there is one, is below each member's cost
 module _ (m : Model) (b : Sets) (low : ℕ) (below : (l : ℕ) → IsLeast m b l → low ≤ l) where
@@ -61,18 +61,43 @@ module _ (m : Model) (x : Solution) (low : ℕ) (own : IsModel m) (extended : Is
   solution_above (p ∷ ps) all (inl here) = open_above p.node p.waiting all.0 here
   solution_above (p ∷ ps) all (inr later) = solution_above ps all.1 later
 
+-- a certificate stands
+pub standing : (m : Model) (limit : Option ℕ) (nodes : List Node) → IsCertificate m limit nodes → IsStanding m limit nodes
+standing m limit nodes c = record { whole = c.tree.whole; strict = c.tree.strict; alive = c.alive; stands = c.tree.stands }
+
 -- values that are a solution below the limit are in the box of an open leaf
-pub below_open : (m : Model) (limit : Option ℕ) (nodes : List Node) → IsModel m → IsCertificate m limit nodes → (x : List ℕ)
+pub below_open : (m : Model) (limit : Option ℕ) (nodes : List Node) → IsModel m → IsStanding m limit nodes → (x : List ℕ)
     → IsBelow m limit x → InOpen x (visits_of (root_of m) nodes)
 below_open m limit nodes own c x is =
-    covered (IsBelow m limit) x is 0 nodes (Whole (root_of m) ∷ []) c.tree.whole
-    (recursion_from_All IsStrict (visits_of (root_of m) nodes) c.tree.strict)
-    (recursion_from_All (Stands (IsBelow m limit)) (visits_of (root_of m) nodes) c.tree.stands)
+    covered (IsBelow m limit) x is 0 nodes (Whole (root_of m) ∷ []) c.whole
+    (recursion_from_All IsStrict (visits_of (root_of m) nodes) c.strict)
+    (recursion_from_All (Stands (IsBelow m limit)) (visits_of (root_of m) nodes) c.stands)
     (inl ((of_domains m.domains (root_of m) x refl).1 is.0.in_domains))
+
+module _ (x : List ℕ) where
+  at_closed : (n : Node) (w : Waiting) → (n ≡ Open → ⊥) → IsOpenAt x n w → ⊥
+  at_closed (Branch v y) w no h = h
+  at_closed Closed w no h = h
+  at_closed Open w no h = no refl
+
+  -- no leaf is open where no node is
+  pub closed_holds_none : (i : ℕ) (ns : List Node) (ws : List Waiting) → AllByRecursion (λ (n : Node). n ≡ Open → ⊥) ns
+      → InOpen x (visits i ns ws) → ⊥
+  closed_holds_none i [] ws closed h = h
+  closed_holds_none i (n ∷ ns) [] closed h = h
+  closed_holds_none i (n ∷ ns) (w ∷ ws) closed (inl here) = at_closed n w closed.0 here
+  closed_holds_none i (n ∷ ns) (w ∷ ws) closed (inr later) = closed_holds_none (i + 1) ns (after n w ws) closed.1 later
+
+-- where no leaf is open, there is no solution below the limit
+pub refuted : (m : Model) (limit : Option ℕ) (nodes : List Node) → IsModel m → IsStanding m limit nodes
+    → All (λ (n : Node). n ≢ Open) nodes → (x : List ℕ) → IsBelow m limit x → ⊥
+refuted m limit nodes own c closed x is =
+    closed_holds_none x 0 nodes (Whole (root_of m) ∷ []) (recursion_from_All (λ (n : Node). n ≡ Open → ⊥) nodes closed)
+    (below_open m limit nodes own c x is)
 
 -- no solution costs less than the bound
 pub bound_below : (m : Model) (c : ℕ) (nodes : List Node) → IsModel m → IsExtended m.ext → IsFit m.ext.table → AreOptions m.options
-    → IsCertificate m (Some c) nodes → (n : ℕ) → IsBound m c (visits_of (root_of m) nodes) n → (x : Solution) → IsSolution m x → n ≤ cost_of m x
+    → IsStanding m (Some c) nodes → (n : ℕ) → IsBound m c (visits_of (root_of m) nodes) n → (x : Solution) → IsSolution m x → n ≤ cost_of m x
 bound_below m c nodes own extended fit options is n bound x solution =
     let plain = plain_below m x bound.plain own extended fit options solution bound.is_plain in
     let low : bound.low ≤ cost_of m x = elim (cases_lt (cost_of m x) c) [

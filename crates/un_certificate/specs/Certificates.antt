@@ -6,8 +6,9 @@ use Rattle.un_domains.specs.Sets.{Sets}
 use Rattle.un_model.specs.declared.model.Model.{Model}
 use Rattle.un_bound.specs.Relaxations.{Times, IsMemberUnder, IsLeast}
 use Rattle.un_post.specs.Posts.{IsCheaper, fix_at}
+use Rattle.un_tree.specs.Covered.{Stands}
 use Rattle.un_tree.specs.Searched.{IsTree}
-use Rattle.un_tree.specs.Waits.{Waiting, Whole, Visit, visits_of}
+use Rattle.un_tree.specs.Waits.{Waiting, Whole, Visit, IsTreeOf, IsStrict, visits_of}
 use Rattle.un_tree.specs.declared.node.Node.{Node}
 use Rattle.un_tree.specs.declared.node.Node.TheVariants.{Branch, Closed, Open}
 
@@ -31,6 +32,14 @@ IsAliveIn m limit Open (Whole b) = IsEmptyUnder m limit b → ⊥
 
 abbrev pub IsAlive : Model → Option ℕ → Visit → Type 0
 IsAlive m limit p = IsAliveIn m limit p.node p.waiting
+
+-- one whole tree of the model that is well made under the limit and stands: no solution below the limit is in a closed leaf's box. It
+-- speaks of no propagator
+pub record IsStanding (m : Model) (limit : Option ℕ) (nodes : List Node) : Type 0 where
+  pub whole : IsTreeOf (root_of m) nodes
+  pub strict : All IsStrict (visits_of (root_of m) nodes)
+  pub alive : All (IsAlive m limit) (visits_of (root_of m) nodes)
+  pub stands : All (Stands (IsBelow m limit)) (visits_of (root_of m) nodes)
 
 -- one whole tree of the model, well made, that stands, and that a search with the rounds of the model's propagators made, least cost of
 -- the relaxation first

@@ -7,5 +7,5 @@ pub mod OrderSteps
 pub mod PlainCalls
 pub mod Refusals
 pub mod Rows
-pub mod Survivors
 pub mod Spared
+pub mod Survivors

@@ -62,6 +62,24 @@ module _ (a b : Temp) (s : Sets) (many : nat_eq (length (set_at s b.reg.0)) 1 �
       ∙ ap (λ (c : Bool). cond ((c && is_only (set_at s a.reg.0) (least (set_at s b.reg.0)))
       && (sure b.on s && (sure a.on s && nat_lt (greatest_start b s) (least_end a s)))) (order_steps b a s) (Some s)) many
 
+-- they do not have the same one register left
+module _ (a b : Temp) (s : Sets) (other : share_one a b s ≡ false) where
+  turned : (p q : Bool) (m n : ℕ) → (p && (q && nat_eq n m)) ≡ false → (q && (p && nat_eq m n)) ≡ false
+  turned false true m n e = refl
+  turned false false m n e = refl
+  turned true false m n e = refl
+  turned true true m n e = same_test (nat_eq m n) (nat_eq n m) (λ h. let is : m ≡ n = grind (arith, nat_tests, h) in
+      grind (arith, nat_tests, is)) (λ h. let is : n ≡ m = grind (arith, nat_tests, h) in grind (arith, nat_tests, is)) ∙ e
+
+  pub pair_idle : order_pair a b s ≡ Some s
+  pair_idle =
+      let back : share_one b a s ≡ false = turned (nat_eq (length (set_at s a.reg.0)) 1) (nat_eq (length (set_at s b.reg.0)) 1)
+      (least (set_at s a.reg.0)) (least (set_at s b.reg.0)) other in
+      ap (λ (c : Bool). option_and_then (order_cut b a)
+      (cond (c && (sure a.on s && (sure b.on s && nat_lt (greatest_start a s) (least_end b s)))) (order_steps a b s) (Some s))) other
+      ∙ ap (λ (c : Bool). cond (c && (sure b.on s && (sure a.on s && nat_lt (greatest_start b s) (least_end a s)))) (order_steps b a s)
+      (Some s)) back
+
 pub row_idle : (vs : List VarId) (temps : List Temp) (b : Temp) (s : Sets) → AllByRecursion (TempVars vs) temps → TempVars vs b
     → HasVars vs s → NoneEmpty s
     → nat_eq (length (set_at s b.reg.0)) 1 ≡ false → (n : ℕ) → each_before order_pair temps b n s ≡ Some s

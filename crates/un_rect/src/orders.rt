@@ -238,7 +238,7 @@ fn keep_order(w: &mut Window<'_>, before: Pruned, a: &Temp, b: &Temp) -> Pruned
     }
 }
 
-/// And the other way round.
+/// And the other way round. Where they do not have the same one register left, there is nothing to do.
 fn keep_orders(w: &mut Window<'_>, before: Pruned, a: &Temp, b: &Temp) -> Pruned
     requires of_a { TempVars w.old.vars.now a.now }
     requires of_b { TempVars w.old.vars.now b.now }
@@ -248,6 +248,12 @@ fn keep_orders(w: &mut Window<'_>, before: Pruned, a: &Temp, b: &Temp) -> Pruned
     ensures same_reference { w.new.store.ghost_name ≡ w.old.store.ghost_name }
     ensures vars { w.new.vars ≡ w.old.vars }
 {
+    if before == Pruned::Failed {
+        return before;
+    }
+    if !share_one(w, a, b) {
+        return before;
+    }
     let first = keep_order(w, before, a, b);
     keep_order(w, first, b, a)
 }

@@ -4,3 +4,4 @@
 pub mod attempt;
 mod choices;
 pub mod rounds;
+pub mod solve;

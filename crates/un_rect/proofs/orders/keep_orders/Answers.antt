@@ -1,6 +1,22 @@
 use Rattle.un_rect.proofs.Rows.{same_known, same_temp}
 use Rattle.std.proofs.Common.{ap}
+use Rattle.std.proofs.Common.{◌∙◌, sym}
+use Rattle.un_prop.specs.GoingLaws.{stepped_same}
+use Rattle.un_rect.specs.Orders.{order_pair}
+use Rattle.un_rect.proofs.Going.{going}
+use Rattle.un_rect.proofs.OrderSteps.{pair_idle}
 use Rattle.un_rect.proofs.orders.keep_orders.Goals as goal
+
+pub share_one-requires-clause-live : goal.share_one-requires-clause-live
+share_one-requires-clause-live c = c.requires.live (going c.args.before c.if-eq.ensures)
+
+pub returns-then-not-share_one-clause-step : goal.returns-then-not-share_one-clause-step
+returns-then-not-share_one-clause-step c =
+    let s = c.args.w.now.store.now in
+    let a = c.args.a.now in
+    let b = c.args.b.now in
+    stepped_same c.args.w.now.vars.now (order_pair a b) s c.args.before
+    (λ live. pair_idle a b s.sets (sym c.share_one.ensures ∙ c.if-not-share_one.true))
 
 pub keep_order-first-requires-clause-of_a : goal.keep_order-first-requires-clause-of_a
 keep_order-first-requires-clause-of_a c = c.requires.of_a
