@@ -1,4 +1,5 @@
 pub mod Faults
 pub mod Reports
 pub mod Runs
+pub mod Searches
 pub mod Words

@@ -1,9 +1,8 @@
 //! The whole program over any outside.
 #![tactic(auto)]
 
-pub mod bound;
-pub mod code;
 pub mod faults;
 pub mod produce;
 pub mod run;
+pub mod search;
 pub mod words;
