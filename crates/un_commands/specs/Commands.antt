@@ -1,0 +1,38 @@
+-- The grammar of the words of a command line.
+use Rattle.std.specs.Prelude.{ℕ, ◌≡◌, ◌+◌, ◌<◌, ◌≤◌, ◌^◌, List, [], ◌∷◌, codes, take}
+use Rattle.un_commands.specs.declared.command.Command.{Command}
+use Rattle.un_commands.specs.declared.command.Command.TheVariants.{Alloc, Check, Run, RunCode, Generate, GenerateAlloc}
+use Rattle.un_commands.specs.Alloc.{IsAlloc, AreSearchOptions}
+use Rattle.un_commands.specs.Generate.{IsSize, IsGenerate, IsGenerateAlloc}
+use Rattle.un_commands.specs.Settings.{IsCountOfNodes}
+
+-- the words of a line are those of a command
+abbrev pub IsCommand : List (List ℕ) → Command → Type 0
+IsCommand words (Alloc options) = IsAlloc words options
+IsCommand words Check = words ≡ codes "check" ∷ []
+IsCommand words Run = words ≡ codes "run" ∷ []
+IsCommand words RunCode = words ≡ codes "run" ∷ codes "--code" ∷ []
+IsCommand words (Generate seed size) = IsGenerate words seed size
+IsCommand words (GenerateAlloc seed size nodes) = IsGenerateAlloc words seed size nodes
+
+-- some command's words begin with the first k of these, or with all where there are fewer and no other words
+pub record BeginsCommand (words : List (List ℕ)) (k : ℕ) : Type 0 where
+  pub command : Command
+  pub spelled : List (List ℕ)
+  pub is_command : IsCommand spelled command
+  pub begins : take k words ≡ take k spelled
+
+-- the least place at which no command begins with the words up to and with that place; where more words are needed, it is
+-- the number of words
+pub record IsBadWord (words : List (List ℕ)) (place : ℕ) : Type 0 where
+  pub good : BeginsCommand words place
+  pub bad : BeginsCommand words (place + 1) → ⊥
+
+-- the numbers of a command are in their ranges
+abbrev pub IsRanged : Command → Type 0
+IsRanged (Alloc options) = AreSearchOptions options
+IsRanged Check = Unit {0}
+IsRanged Run = Unit {0}
+IsRanged RunCode = Unit {0}
+IsRanged (Generate seed size) = (seed < 2 ^ 64) × IsSize size
+IsRanged (GenerateAlloc seed size nodes) = (seed < 2 ^ 64) × IsSize size × IsCountOfNodes nodes

@@ -1,0 +1,11 @@
+//! The words of a command line: which command they ask for, or the first place at which they are those of none.
+#![tactic(auto)]
+
+mod alloc;
+mod check;
+pub mod command;
+mod generate;
+pub mod line;
+mod place;
+mod run;
+pub mod setting;
