@@ -143,9 +143,10 @@ all_given n r k = record { nodes = Some n; regs = r; slots = Some k }
 
 all_ranged : (n : ℕ) (r : Option ℕ) (k : ℕ) → IsCountOfNodes n → IfSome r IsCountOfRegisters → IsCountOfSlots k
     → All IsInRange (all_settings n r k)
-all_ranged n None k nodes regs slots = All-cons IsInRange (Nodes n) _ nodes (All-cons IsInRange (Slots k) _ slots (All-nil IsInRange))
-all_ranged n (Some r) k nodes regs slots = All-cons IsInRange (Nodes n) _ nodes
-    (All-cons IsInRange (Regs r) _ regs (All-cons IsInRange (Slots k) _ slots (All-nil IsInRange)))
+all_ranged n None k nodes regs slots = All-cons IsInRange (Nodes n) (Slots k ∷ []) nodes
+    (All-cons IsInRange (Slots k) [] slots (All-nil IsInRange))
+all_ranged n (Some r) k nodes regs slots = All-cons IsInRange (Nodes n) (Regs r ∷ Slots k ∷ []) nodes
+    (All-cons IsInRange (Regs r) (Slots k ∷ []) regs (All-cons IsInRange (Slots k) [] slots (All-nil IsInRange)))
 
 all_said : (n : ℕ) (r : Option ℕ) (k : ℕ) → Say (all_settings n r k) (all_given n r k)
 all_said n None k = record { nodes = refl; regs = refl; slots = refl }
