@@ -15,7 +15,7 @@ IsCommand words RunCode = words ≡ codes "run" ∷ codes "--code" ∷ []
 IsCommand words (Generate seed size) = IsGenerate words seed size
 IsCommand words (GenerateAlloc seed size nodes) = IsGenerateAlloc words seed size nodes
 
--- some command's words begin with the first k of these, or with all where there are fewer and no other words
+-- the first k words, or all of them where there are fewer, are the first k of some command's words
 pub record BeginsCommand (words : List (List ℕ)) (k : ℕ) : Type 0 where
   pub command : Command
   pub spelled : List (List ℕ)

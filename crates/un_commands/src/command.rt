@@ -1,5 +1,7 @@
 //! What a command line may ask for.
 
+use un_model::model::Options;
+
 /// The most nodes that the tree of a search may be given.
 pub const MOST_NODES: u32 = 200_000;
 
@@ -16,6 +18,21 @@ pub struct SearchOptions {
     pub nodes: u32,
     pub regs: Option<u32>,
     pub slots: u32,
+}
+
+impl SearchOptions {
+    ghost use Rattle.std.specs.Prelude.{◌≡◌};
+    ghost use Rattle.un_commands.specs.Alloc.{model_options};
+
+    /// What the search may use of the processor.
+    pub fn model_options(&self) -> Options
+        ensures { result ≡ model_options self.now }
+    {
+        Options {
+            regs: self.regs,
+            slots: self.slots,
+        }
+    }
 }
 
 /// What a command line asks for.

@@ -5,6 +5,7 @@ mod alloc;
 mod check;
 pub mod command;
 mod generate;
+pub mod laws;
 pub mod line;
 mod place;
 mod run;
