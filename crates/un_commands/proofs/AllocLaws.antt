@@ -1,21 +1,20 @@
 -- The words of `alloc`.
-use Rattle.std.proofs.Common.{ℕ, suc, zero, ◌≡◌, ◌+◌, ◌*◌, ◌<◌, ◌≤◌, ◌^◌, List, [], ◌∷◌, ◌++◌, length, take, Some, None, All, codes, refl, sym, ap, ◌∙◌, arith, subst, inl, inr}
+use Rattle.std.proofs.Common.{ℕ, suc, ◌≡◌, ◌+◌, ◌<◌, ◌≤◌, List, [], ◌∷◌, ◌++◌, length, take, Some, None, All, codes, refl, sym, ap, ◌∙◌, arith, subst, inl, inr}
 use Rattle.std.specs.Fmt.{decimal}
 use Rattle.std.specs.List.{flat_map, slice_get}
 use Rattle.std.proofs.lemmas.Grind.{common_steps}
-use Rattle.std.proofs.lemmas.List.{take_all, append_assoc, append-nil, length-append, length-take-le}
+use Rattle.std.proofs.lemmas.List.{take_all, append_assoc, append-nil, length-take-le}
 use Rattle.std.proofs.lemmas.List.Concat.{flat_map-append}
 use Rattle.std.proofs.lemmas.List.Elements.{All-nil, All-push}
 use Rattle.std.proofs.lemmas.Option.{slice_get_within, slice_get_past, gets}
 use Rattle.std.proofs.Math.Seq.{take-append_seam}
 use Rattle.un_commands.specs.declared.command.SearchOptions.{SearchOptions}
-use Rattle.un_commands.specs.declared.command.Command.{Command}
 use Rattle.un_commands.specs.declared.command.Command.TheVariants.{Alloc}
 use Rattle.un_commands.specs.declared.setting.Setting.{Setting}
 use Rattle.un_commands.specs.declared.setting.Given.{Given}
 use Rattle.un_commands.specs.Alloc.{IsAlloc}
-use Rattle.un_commands.specs.Commands.{IsCommand, IsBadWord}
-use Rattle.un_commands.specs.Places.{StandsAt, IsFresh, IsNext, NoFlagAt, NoValueAt, IsBadSetting}
+use Rattle.un_commands.specs.Commands.{IsBadWord}
+use Rattle.un_commands.specs.Places.{StandsAt, IsNext, NoFlagAt, NoValueAt, IsBadSetting}
 use Rattle.un_commands.specs.Settings.{IsInRange, flag_of, number_of, words_of, Say, none_given, with_setting, over_defaults}
 use Rattle.un_commands.proofs.Firsts.{take_push, alike_at}
 use Rattle.un_commands.proofs.Openers.{opens_alloc}
@@ -66,7 +65,7 @@ begins_two : (words : List (List ℕ)) (place : ℕ) (given : Given) (h : SoFar 
     → take (place + 1 + 1) words ≡ line_of (h.settings ++ t ∷ [])
 begins_two words place given h t flag number = take_push (place + 1) words (decimal (number_of t)) number
     ∙ (ap (λ (ws : List (List ℕ)). ws ++ decimal (number_of t) ∷ []) (begins_flag words place given h (flag_of t) flag)
-      ∙ (append_assoc (line_of h.settings) (flag_of t ∷ []) (decimal (number_of t) ∷ []) ∙ sym (longer h.settings t)))
+    ∙ (append_assoc (line_of h.settings) (flag_of t ∷ []) (decimal (number_of t) ∷ []) ∙ sym (longer h.settings t)))
 
 two_more : (n : ℕ) → n + 2 ≡ n + 1 + 1
 two_more n = omega arith
@@ -76,12 +75,12 @@ pub so_far_more : (words : List (List ℕ)) (place : ℕ) (given : Given) (t : S
     → SoFar words (place + 2) (with_setting given t)
 so_far_more words place given t h next =
     let inside : place + 1 < length words = slice_get_within words (place + 1) _ next.number in record {
-  settings = h.settings ++ t ∷ [];
-  ranged = All-push IsInRange h.settings t h.ranged next.ranged;
-  said = say_more h.settings given t h.said next.fresh;
-  begins = ap (λ n. take n words) (two_more place) ∙ begins_two words place given h t next.flag next.number;
-  within = omega arith;
-}
+      settings = h.settings ++ t ∷ [];
+      ranged = All-push IsInRange h.settings t h.ranged next.ranged;
+      said = say_more h.settings given t h.said next.fresh;
+      begins = ap (λ n. take n words) (two_more place) ∙ begins_two words place given h t next.flag next.number;
+      within = omega arith;
+    }
 
 -- the settings so far are a command
 so_far : (words : List (List ℕ)) (place : ℕ) (given : Given) (h : SoFar words place given) → IsAlloc (line_of h.settings) (over_defaults given)
@@ -123,21 +122,21 @@ inner : (ws : List (List ℕ)) (xs ys : List (List ℕ)) (place : ℕ) → lengt
     → (j : ℕ) → j < length xs → slice_get xs j ≡ slice_get ys j
 inner ws xs ys place long begins alike j h =
     let here : slice_get ws (suc j) ≡ slice_get (codes "alloc" ∷ xs) (suc j) = alike_at (suc j) place ws (codes "alloc" ∷ xs) (omega arith)
-      (begins ∙ sym (take_all place (codes "alloc" ∷ xs) (omega arith))) in
+    (begins ∙ sym (take_all place (codes "alloc" ∷ xs) (omega arith))) in
     sym here ∙ alike (suc j) (omega arith)
 
 goes_on : (words : List (List ℕ)) (place : ℕ) (given : Given) (h : SoFar words place given) (others : List (List ℕ)) (options : SearchOptions)
     → IsAlloc others options → ((j : ℕ) → j < place → slice_get words j ≡ slice_get others j) → Goes words place given h others
 goes_on words place given h others options is alike =
     let before = begin_with h.settings is.settings h.ranged is.ranged
-      (inner words (flat_map words_of h.settings) (flat_map words_of is.settings) place (place_is words place given h) h.begins
-        (λ j below. alike j below ∙ ap (λ (ws : List (List ℕ)). slice_get ws j) is.spelled)) in record {
-  more = before.0;
-  whole = is.given;
-  spelled = is.spelled ∙ ap line_of before.1;
-  ranged = subst (All IsInRange) before.1 is.ranged;
-  said = subst (λ (ss : List Setting). Say ss is.given) before.1 is.said;
-}
+    (inner words (flat_map words_of h.settings) (flat_map words_of is.settings) place (place_is words place given h) h.begins
+    (λ j below. alike j below ∙ ap (λ (ws : List (List ℕ)). slice_get ws j) is.spelled)) in record {
+      more = before.0;
+      whole = is.given;
+      spelled = is.spelled ∙ ap line_of before.1;
+      ranged = subst (All IsInRange) before.1 is.ranged;
+      said = subst (λ (ss : List Setting). Say ss is.given) before.1 is.said;
+    }
 
 -- the words behind the settings so far
 ends_there : (words : List (List ℕ)) (place : ℕ) (given : Given) (h : SoFar words place given)
@@ -153,13 +152,13 @@ flag_there : (words : List (List ℕ)) (place : ℕ) (given : Given) (h : SoFar 
     → slice_get (line_of (h.settings ++ t ∷ ts)) place ≡ Some (flag_of t)
 flag_there words place given h t ts = ap (λ (ws : List (List ℕ)). slice_get ws place) (split h.settings t ts)
     ∙ (ap (λ n. slice_get (line_of h.settings ++ flag_of t ∷ decimal (number_of t) ∷ flat_map words_of ts) n) (sym (place_is words place given h))
-      ∙ at_seam (line_of h.settings) (decimal (number_of t) ∷ flat_map words_of ts) (flag_of t))
+    ∙ at_seam (line_of h.settings) (decimal (number_of t) ∷ flat_map words_of ts) (flag_of t))
 
 number_there : (words : List (List ℕ)) (place : ℕ) (given : Given) (h : SoFar words place given) (t : Setting) (ts : List Setting)
     → slice_get (line_of (h.settings ++ t ∷ ts)) (place + 1) ≡ Some (decimal (number_of t))
 number_there words place given h t ts = ap (λ (ws : List (List ℕ)). slice_get ws (place + 1)) (split h.settings t ts)
     ∙ (ap (λ n. slice_get (line_of h.settings ++ flag_of t ∷ decimal (number_of t) ∷ flat_map words_of ts) n) next_place
-      ∙ next_at_seam (line_of h.settings) (flat_map words_of ts) (flag_of t) (decimal (number_of t)))
+    ∙ next_at_seam (line_of h.settings) (flat_map words_of ts) (flag_of t) (decimal (number_of t)))
   where
     next_place : place + 1 ≡ suc (length (line_of h.settings))
     next_place = let long = place_is words place given h in omega arith
@@ -171,8 +170,8 @@ bad_flag words place given flag first h stands none = bad_word words place (Allo
     (so_far words place given h)
     (h.begins ∙ sym (take_all place (line_of h.settings) (let long = place_is words place given h in omega arith)))
     (λ other others is alike. let opened = opens_alloc others other is (sym (alike 0 (omega arith)) ∙ first) in
-      let on = goes_on words place given h others opened.0 opened.2 (λ j below. alike j (omega arith)) in
-      by others on.more on.whole on.spelled on.said (alike place (omega arith)))
+    let on = goes_on words place given h others opened.0 opened.2 (λ j below. alike j (omega arith)) in
+    by others on.more on.whole on.spelled on.said (alike place (omega arith)))
   where
     by : (others : List (List ℕ)) (more : List Setting) (whole : Given) → others ≡ line_of (h.settings ++ more)
         → Say (h.settings ++ more) whole → slice_get words place ≡ slice_get others place → ⊥
@@ -198,23 +197,24 @@ bad_value words place given first h bad = bad_word words (place + 1) (Alloc (ove
       chosen = refl;
     })
     (begins_flag words place given h (flag_of bad.some) bad.flag
-      ∙ sym (take_push place (line_of (h.settings ++ bad.some ∷ [])) (flag_of bad.some) (flag_there words place given h bad.some [])
-        ∙ ap (λ (ws : List (List ℕ)). ws ++ flag_of bad.some ∷ []) front))
+    ∙ sym (take_push place (line_of (h.settings ++ bad.some ∷ [])) (flag_of bad.some) (flag_there words place given h bad.some [])
+    ∙ ap (λ (ws : List (List ℕ)). ws ++ flag_of bad.some ∷ []) front))
     (λ other others is alike. let opened = opens_alloc others other is (sym (alike 0 (omega arith)) ∙ first) in
-      let on = goes_on words place given h others opened.0 opened.2 (λ j below. alike j (omega arith)) in
-      by others on.more on.spelled on.ranged (alike place (omega arith)) (alike (place + 1) (omega arith)))
+    let on = goes_on words place given h others opened.0 opened.2 (λ j below. alike j (omega arith)) in
+    by others on.more on.spelled on.ranged (alike place (omega arith)) (alike (place + 1) (omega arith)))
   where
     front : take place (line_of (h.settings ++ bad.some ∷ [])) ≡ line_of h.settings
     front = ap (take place) (split h.settings bad.some [])
         ∙ (ap (λ n. take n (line_of h.settings ++ words_of bad.some)) (sym (place_is words place given h))
-          ∙ take-append_seam (line_of h.settings) (words_of bad.some))
+        ∙ take-append_seam (line_of h.settings) (words_of bad.some))
+
     by : (others : List (List ℕ)) (more : List Setting) → others ≡ line_of (h.settings ++ more) → All IsInRange (h.settings ++ more)
         → slice_get words place ≡ slice_get others place → slice_get words (place + 1) ≡ slice_get others (place + 1) → ⊥
     by others [] spelled ranged same next = some_or_none words place (flag_of bad.some) bad.flag
         (same ∙ (ap (λ (ws : List (List ℕ)). slice_get ws place) spelled ∙ ends_there words place given h))
     by others (t ∷ ts) spelled ranged same next = bad.none t
         (same_flag words place (flag_of t) (flag_of bad.some)
-          (same ∙ (ap (λ (ws : List (List ℕ)). slice_get ws place) spelled ∙ flag_there words place given h t ts)) bad.flag)
+        (same ∙ (ap (λ (ws : List (List ℕ)). slice_get ws place) spelled ∙ flag_there words place given h t ts)) bad.flag)
         (all_middle IsInRange h.settings t ts ranged)
         (next ∙ (ap (λ (ws : List (List ℕ)). slice_get ws (place + 1)) spelled ∙ number_there words place given h t ts))
 

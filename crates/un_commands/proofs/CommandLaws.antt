@@ -1,5 +1,5 @@
 -- What is so of every command: its numbers are in their ranges, its words are of no other, and each in its ranges has words.
-use Rattle.std.proofs.Common.{ℕ, suc, zero, ◌≡◌, ◌+◌, ◌*◌, ◌<◌, ◌≤◌, ◌^◌, ◌⊎◌, inl, inr, List, [], ◌∷◌, ◌++◌, length, drop, Option, Some, None, Result, Ok, Err, All, codes, refl, sym, ap, subst, ◌∙◌, arith, lit≤}
+use Rattle.std.proofs.Common.{ℕ, ◌≡◌, ◌≤◌, inl, inr, List, [], ◌∷◌, ◌++◌, length, drop, Option, Some, None, Result, Ok, Err, All, codes, refl, sym, ap, subst, ◌∙◌, arith, lit≤}
 use Rattle.std.specs.Fmt.{decimal}
 use Rattle.std.specs.List.{flat_map, slice_get}
 use Rattle.std.specs.Option.{option_to_list, IfSome, unwrap_or}
@@ -170,8 +170,10 @@ words_for Check h = (codes "check" ∷ [], refl)
 words_for Run h = (codes "run" ∷ [], refl)
 words_for RunCode h = (codes "run" ∷ codes "--code" ∷ [], refl)
 words_for (Generate seed size) h = (codes "gen" ∷ decimal seed ∷ decimal size ∷ [], plain seed size h.0 h.1)
-words_for (GenerateAlloc seed size nodes) h = (codes "gen" ∷ decimal seed ∷ decimal size ∷ codes "--nodes" ∷ decimal nodes ∷ [],
-    costed seed size nodes h.0 h.1 h.2)
+words_for (GenerateAlloc seed size nodes) h = (
+  codes "gen" ∷ decimal seed ∷ decimal size ∷ codes "--nodes" ∷ decimal nodes ∷ [],
+  costed seed size nodes h.0 h.1 h.2,
+)
 
 -- no command begins with another first word
 pub bad_first : (words : List (List ℕ)) → ¬ StandsAt words 0 (codes "alloc") → ¬ StandsAt words 0 (codes "check")

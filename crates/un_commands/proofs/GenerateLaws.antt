@@ -1,5 +1,5 @@
 -- The words of `gen`.
-use Rattle.std.proofs.Common.{ℕ, ◌≡◌, ◌≢◌, ◌+◌, ◌<◌, ◌≤◌, ◌^◌, ◌⊎◌, inl, inr, List, [], ◌∷◌, ◌++◌, length, take, Some, None, codes, sym, ap, refl, ◌∙◌, arith, lit≤}
+use Rattle.std.proofs.Common.{ℕ, ◌≡◌, ◌≢◌, ◌<◌, ◌≤◌, ◌^◌, List, [], ◌∷◌, ◌++◌, length, take, None, codes, sym, ap, refl, ◌∙◌, arith, lit≤}
 use Rattle.std.specs.Fmt.{decimal}
 use Rattle.std.specs.List.{slice_get}
 use Rattle.std.proofs.lemmas.List.{take_all}
@@ -8,12 +8,12 @@ use Rattle.std.proofs.lemmas.Option.{slice_get_within, gets}
 use Rattle.un_commands.specs.declared.command.Command.{Command}
 use Rattle.un_commands.specs.declared.command.Command.TheVariants.{Generate, GenerateAlloc}
 use Rattle.un_commands.specs.declared.command.TheConstants.{MOST_SIZE, MOST_NODES}
-use Rattle.un_commands.specs.Commands.{IsCommand, IsBadWord}
+use Rattle.un_commands.specs.Commands.{IsBadWord}
 use Rattle.un_commands.specs.Generate.{IsSize, IsGenerate, IsGenerateAlloc, AsksFor}
 use Rattle.un_commands.specs.Settings.{IsCountOfNodes}
 use Rattle.un_commands.specs.Places.{StandsAt, NoNumberAt}
 use Rattle.un_commands.proofs.Firsts.{take_push}
-use Rattle.un_commands.proofs.Openers.{IsTail, ends, goes, IsGen, opens_gen}
+use Rattle.un_commands.proofs.Openers.{ends, goes, IsGen, opens_gen}
 use Rattle.un_commands.proofs.RunLaws.{begins_two}
 use Rattle.un_commands.proofs.Texts.{some_or_none}
 use Rattle.un_commands.proofs.WordLaws.{bad_word}
@@ -68,7 +68,7 @@ pub bad_seed : (words : List (List ℕ)) → StandsAt words 0 (codes "gen") → 
     → IsBadWord words 1
 bad_seed words first none = bad_word words 1 (Generate 0 1) _ (plain 0 1 (omega arith) least_size) (take_push 0 words (codes "gen") first)
     (λ other others is alike. let gen = opens_gen others other is (sym (alike 0 (omega arith)) ∙ first) in
-      none gen.seed gen.seed_fits (alike 1 (omega arith) ∙ gen.seed_at))
+    none gen.seed gen.seed_fits (alike 1 (omega arith) ∙ gen.seed_at))
 
 -- no size
 pub bad_size : (words : List (List ℕ)) (seed : ℕ) → StandsAt words 0 (codes "gen") → seed < 2 ^ 64 → StandsAt words 1 (decimal seed)
@@ -76,7 +76,7 @@ pub bad_size : (words : List (List ℕ)) (seed : ℕ) → StandsAt words 0 (code
 bad_size words seed first fits second none = bad_word words 2 (Generate seed 1) _ (plain seed 1 fits least_size)
     (begins_two words (codes "gen") (decimal seed) first second)
     (λ other others is alike. let gen = opens_gen others other is (sym (alike 0 (omega arith)) ∙ first) in
-      none gen.size gen.size_in.0 gen.size_in.1 (alike 2 (omega arith) ∙ gen.size_at))
+    none gen.size gen.size_in.0 gen.size_in.1 (alike 2 (omega arith) ∙ gen.size_at))
 
 is_there : (words : List (List ℕ)) (place : ℕ) → place < length words → slice_get words place ≡ None → ⊥
 is_there words place within none = grind (arith, common_steps, gets)
@@ -90,8 +90,10 @@ bad_flag words seed size h long none = bad_word words 3 (Generate seed size) _ (
   where
     three : 2 < length words
     three = slice_get_within words 2 (decimal size) h.size_at
+
     four : length words ≢ 3 → 2 < length words → 3 < length words
     four ne within = omega arith
+
     by : (others : List (List ℕ)) (other : Command) → slice_get words 3 ≡ slice_get others 3 → IsGen others other → ⊥
     by others other same gen = elim gen.tail [
       | ends is e ↦ is_there words 3 (four long three) (same ∙ e)
@@ -105,7 +107,7 @@ bad_nodes words seed size h flag none = bad_word words 4 (GenerateAlloc seed siz
     (costed seed size 1 h.seed_fits h.size_in least_nodes)
     (begins_four words seed size h flag)
     (λ other others is alike. by others other (alike 3 (omega arith)) (alike 4 (omega arith))
-      (opens_gen others other is (sym (alike 0 (omega arith)) ∙ h.gen)))
+    (opens_gen others other is (sym (alike 0 (omega arith)) ∙ h.gen)))
   where
     by : (others : List (List ℕ)) (other : Command) → slice_get words 3 ≡ slice_get others 3 → slice_get words 4 ≡ slice_get others 4
         → IsGen others other → ⊥
@@ -121,7 +123,7 @@ bad_end words seed size nodes h flag number in_range long = bad_word words 5 (Ge
     (costed seed size nodes h.seed_fits h.size_in in_range)
     (begins_five words seed size nodes h flag number)
     (λ other others is alike. by others other (alike 3 (omega arith)) (alike 5 (omega arith))
-      (opens_gen others other is (sym (alike 0 (omega arith)) ∙ h.gen)))
+    (opens_gen others other is (sym (alike 0 (omega arith)) ∙ h.gen)))
   where
     by : (others : List (List ℕ)) (other : Command) → slice_get words 3 ≡ slice_get others 3 → slice_get words 5 ≡ slice_get others 5
         → IsGen others other → ⊥

@@ -1,5 +1,5 @@
 -- What the first word of a command says of it.
-use Rattle.std.proofs.Common.{ℕ, ◌≡◌, ◌≢◌, ◌<◌, ◌≤◌, ◌^◌, ◌⊎◌, inl, inr, List, [], ◌∷◌, Some, None, codes, ap, refl, arith}
+use Rattle.std.proofs.Common.{ℕ, ◌≡◌, ◌<◌, ◌^◌, ◌⊎◌, inl, inr, List, [], ◌∷◌, Some, None, codes, ap, refl, arith}
 use Rattle.std.specs.Fmt.{decimal}
 use Rattle.std.specs.List.{slice_get}
 use Rattle.un_commands.specs.declared.command.SearchOptions.{SearchOptions}
@@ -85,7 +85,7 @@ opens_gen words (GenerateAlloc seed size nodes) h first = record {
 
 pub first_words : (words : List (List ℕ)) (command : Command) → IsCommand words command
     → StandsAt words 0 (codes "alloc")
-      ⊎ (StandsAt words 0 (codes "check") ⊎ (StandsAt words 0 (codes "run") ⊎ StandsAt words 0 (codes "gen")))
+    ⊎ (StandsAt words 0 (codes "check") ⊎ (StandsAt words 0 (codes "run") ⊎ StandsAt words 0 (codes "gen")))
 first_words words (Alloc options) h = inl (read_at words _ 0 h.spelled)
 first_words words Check h = inr (inl (read_at words _ 0 h))
 first_words words Run h = inr (inr (inl (read_at words _ 0 h)))

@@ -1,5 +1,5 @@
 -- Numbers of words within limits.
-use Rattle.std.proofs.Common.{ℕ, ◌≡◌, ◌<◌, ◌≤◌, ◌^◌, ◌⊎◌, List, Some, arith}
+use Rattle.std.proofs.Common.{ℕ, ◌≡◌, ◌<◌, ◌^◌, ◌⊎◌, List, arith}
 use Rattle.std.specs.Fmt.{decimal}
 use Rattle.un_commands.specs.Places.{StandsAt, NoNumberAt}
 use Rattle.un_commands.proofs.Texts.{one_number}

@@ -1,19 +1,15 @@
 -- Lines of words, and what they are.
-use Rattle.std.proofs.Common.{ℕ, ◌≡◌, ◌+◌, ◌<◌, ◌≤◌, ◌^◌, inl, inr, List, [], ◌∷◌, ◌++◌, get_or, Option, Some, None, codes, refl, sym, ap, ◌∙◌, arith, lit≤, lit<}
+use Rattle.std.proofs.Common.{ℕ, ◌≡◌, ◌+◌, ◌<◌, ◌^◌, inl, inr, List, [], ◌∷◌, ◌++◌, get_or, Some, None, codes, refl, sym, ap, ◌∙◌, arith, lit≤, lit<}
 use Rattle.std.specs.Fmt.{decimal}
-use Rattle.std.specs.List.{slice_get}
 use Rattle.std.proofs.lemmas.Bool.{eqb-false}
 use Rattle.std.proofs.lemmas.Fmt.{decimal_digit, decimal_step, decimal_injective}
-use Rattle.un_commands.specs.declared.command.Command.{Command}
-use Rattle.un_commands.specs.declared.command.Command.TheVariants.{Alloc, Run, RunCode}
+use Rattle.un_commands.specs.declared.command.Command.TheVariants.{Alloc, RunCode}
 use Rattle.un_commands.specs.declared.setting.Setting.{Setting}
 use Rattle.un_commands.specs.declared.setting.Setting.TheVariants.{Nodes, Regs, Slots}
-use Rattle.un_commands.specs.declared.setting.Given.{Given}
 use Rattle.un_commands.specs.Commands.{IsCommand, IsBadWord}
-use Rattle.un_commands.specs.Generate.{AsksFor}
-use Rattle.un_commands.specs.Places.{StandsAt, IsFresh, IsNext}
+use Rattle.un_commands.specs.Places.{StandsAt, IsFresh}
 use Rattle.un_commands.specs.Settings.{IsInRange, flag_of, number_of, none_given, with_setting}
-use Rattle.un_commands.proofs.AllocLaws.{SoFar, so_far_none, so_far_more, is_alloc, bad_flag, bad_value}
+use Rattle.un_commands.proofs.AllocLaws.{so_far_none, so_far_more, is_alloc, bad_flag, bad_value}
 use Rattle.un_commands.proofs.CommandLaws.{bad_first}
 use Rattle.un_commands.proofs.GenerateLaws.{bad_size, bad_nodes}
 use Rattle.un_commands.proofs.Openers.{opens_run, read_at}
@@ -45,6 +41,7 @@ no_option = bad_flag (codes "alloc" ∷ codes "x" ∷ []) 1 none_given (codes "x
   where
     third : (v w : List ℕ) → Some v ≡ Some w → get_or v 2 0 ≡ get_or w 2 0
     third v w e = let same : v ≡ w = cc in ap (λ (x : List ℕ). get_or x 2 0) same
+
     by : (s : Setting) → IsFresh none_given s → ¬ StandsAt (codes "alloc" ∷ codes "x" ∷ []) 1 (flag_of s)
     by (Nodes n) fresh e = eqb-false 0 110 refl (third (codes "x") (codes "--nodes") e)
     by (Regs n) fresh e = eqb-false 0 114 refl (third (codes "x") (codes "--regs") e)
@@ -77,12 +74,14 @@ twice = codes "alloc" ∷ codes "--slots" ∷ codes "1" ∷ codes "--slots" ∷ 
 slots_twice : IsBadWord twice 3
 slots_twice = bad_flag twice 3 (with_setting none_given (Slots 1)) (codes "--slots") refl
     (so_far_more twice 1 none_given (Slots 1) (so_far_none twice refl)
-      (record { fresh = refl; flag = refl; number = ap Some (digit 1 (lit< tt)); ranged = lit≤ tt })) refl by
+    (record { fresh = refl; flag = refl; number = ap Some (digit 1 (lit< tt)); ranged = lit≤ tt })) refl by
   where
     third : (v w : List ℕ) → Some v ≡ Some w → get_or v 2 0 ≡ get_or w 2 0
     third v w e = let same : v ≡ w = cc in ap (λ (x : List ℕ). get_or x 2 0) same
+
     given : (k : ℕ) → Some k ≡ None → ⊥
     given k e = cc
+
     by : (s : Setting) → IsFresh (with_setting none_given (Slots 1)) s → ¬ StandsAt twice 3 (flag_of s)
     by (Nodes n) fresh e = eqb-false 115 110 refl (third (codes "--slots") (codes "--nodes") e)
     by (Regs n) fresh e = eqb-false 115 114 refl (third (codes "--slots") (codes "--regs") e)
@@ -95,9 +94,9 @@ both = codes "alloc" ∷ codes "--slots" ∷ codes "3" ∷ codes "--nodes" ∷ c
 slots_and_nodes : IsCommand both (Alloc (record { nodes = 5; regs = None; slots = 3 }))
 slots_and_nodes = is_alloc both 5 _
     (so_far_more both 3 (with_setting none_given (Slots 3)) (Nodes 5)
-      (so_far_more both 1 none_given (Slots 3) (so_far_none both refl)
-        (record { fresh = refl; flag = refl; number = ap Some (digit 3 (lit< tt)); ranged = lit≤ tt }))
-      (record { fresh = refl; flag = refl; number = ap Some (digit 5 (lit< tt)); ranged = (lit≤ tt, lit≤ tt) })) refl
+    (so_far_more both 1 none_given (Slots 3) (so_far_none both refl)
+    (record { fresh = refl; flag = refl; number = ap Some (digit 3 (lit< tt)); ranged = lit≤ tt }))
+    (record { fresh = refl; flag = refl; number = ap Some (digit 5 (lit< tt)); ranged = (lit≤ tt, lit≤ tt) })) refl
 
 -- `alloc` alone
 alone : IsCommand (codes "alloc" ∷ []) (Alloc (record { nodes = 2000; regs = None; slots = 64 }))

@@ -1,11 +1,11 @@
 -- Lists of settings: their words, and what they say.
-use Rattle.std.proofs.Common.{ℕ, suc, zero, ◌≡◌, ◌+◌, ◌*◌, ◌<◌, ◌≤◌, ◌^◌, List, [], ◌∷◌, ◌++◌, length, get_or, take, Option, Some, None, All, codes, refl, sym, ap, ◌∙◌, arith, lit≤}
+use Rattle.std.proofs.Common.{ℕ, suc, ◌≡◌, ◌+◌, ◌*◌, ◌<◌, ◌≤◌, ◌^◌, List, [], ◌∷◌, ◌++◌, length, get_or, Option, Some, None, All, codes, refl, sym, ap, ◌∙◌, arith, lit≤}
 use Rattle.std.specs.Fmt.{decimal}
 use Rattle.std.specs.List.{flat_map, slice_get}
 use Rattle.std.specs.Option.{option_to_list}
 use Rattle.std.proofs.lemmas.Bool.{eqb-false}
 use Rattle.std.proofs.lemmas.Fmt.{decimal_injective}
-use Rattle.std.proofs.lemmas.List.{append-nil, length-append}
+use Rattle.std.proofs.lemmas.List.{append-nil}
 use Rattle.std.proofs.lemmas.List.Concat.{flat_map-append}
 use Rattle.std.proofs.lemmas.List.Elements.{All-nil, All-head, All-tail, All-append}
 use Rattle.un_isa.specs.declared.reg.TheConstants.{SLOTS}
@@ -22,7 +22,6 @@ small : (s : Setting) → IsInRange s → number_of s < 2 ^ 64
 small (Nodes n) h = omega arith
 small (Regs n) h = omega arith
 small (Slots k) h = omega arith
-
 
 -- a setting is known by its two words
 pub same_setting : (s t : Setting) → flag_of s ≡ flag_of t → decimal (number_of s) ≡ decimal (number_of t) → IsInRange s → IsInRange t
@@ -51,7 +50,7 @@ begin_with [] others a b alike = (others, refl)
 begin_with (s ∷ ss) [] a b alike = absurd (none_some (flag_of s) (alike 0 (omega arith)))
 begin_with (s ∷ ss) (t ∷ ts) a b alike =
     let same : s ≡ t = same_setting s t (same_some _ _ (alike 0 (omega arith))) (same_some _ _ (alike 1 (omega arith)))
-      (All-head IsInRange s ss a) (All-head IsInRange t ts b) in
+    (All-head IsInRange s ss a) (All-head IsInRange t ts b) in
     let rest = begin_with ss ts (All-tail IsInRange s ss a) (All-tail IsInRange t ts b) (λ j h. alike (suc (suc j)) (omega arith)) in
     (rest.0, ap (λ (u : Setting). u ∷ ts) (sym same) ∙ ap (λ (us : List Setting). s ∷ us) rest.1)
 
@@ -117,7 +116,7 @@ fresh_in : (f : Setting → List ℕ) (ss : List Setting) (t : Setting) (ts : Li
     → flat_map f ss ≡ option_to_list o → flat_map f (ss ++ t ∷ ts) ≡ option_to_list whole → f t ≡ n ∷ [] → o ≡ None
 fresh_in f ss t ts n o whole before all is = once o whole n (flat_map f ts)
     (ap (λ (vs : List ℕ). vs ++ n ∷ flat_map f ts) (sym before)
-      ∙ (ap (λ (vs : List ℕ). flat_map f ss ++ (vs ++ flat_map f ts)) (sym is) ∙ (sym (flat_map-append f ss (t ∷ ts)) ∙ all)))
+    ∙ (ap (λ (vs : List ℕ). flat_map f ss ++ (vs ++ flat_map f ts)) (sym is) ∙ (sym (flat_map-append f ss (t ∷ ts)) ∙ all)))
 
 -- of the option of a setting that follows nothing was said before
 pub is_fresh : (ss : List Setting) (t : Setting) (ts : List Setting) (given whole : Given) → Say ss given → Say (ss ++ t ∷ ts) whole

@@ -25,7 +25,7 @@ bad_word_unique words p q a b = first_unique (BeginsCommand words) (begins_less 
 pub bad_word : (words : List (List ℕ)) (place : ℕ) (command : Command) (spelled : List (List ℕ)) → IsCommand spelled command
     → take place words ≡ take place spelled
     → ((other : Command) (others : List (List ℕ)) → IsCommand others other
-      → ((j : ℕ) → j < place + 1 → slice_get words j ≡ slice_get others j) → ⊥)
+    → ((j : ℕ) → j < place + 1 → slice_get words j ≡ slice_get others j) → ⊥)
     → IsBadWord words place
 bad_word words place command spelled is_command begins none = record {
   good = record { command = command; spelled = spelled; is_command = is_command; begins = begins };

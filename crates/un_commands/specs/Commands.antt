@@ -1,5 +1,5 @@
 -- The grammar of the words of a command line.
-use Rattle.std.specs.Prelude.{ℕ, ◌≡◌, ◌+◌, ◌<◌, ◌≤◌, ◌^◌, List, [], ◌∷◌, codes, take}
+use Rattle.std.specs.Prelude.{ℕ, ◌≡◌, ◌+◌, ◌<◌, ◌^◌, List, [], ◌∷◌, codes, take}
 use Rattle.un_commands.specs.declared.command.Command.{Command}
 use Rattle.un_commands.specs.declared.command.Command.TheVariants.{Alloc, Check, Run, RunCode, Generate, GenerateAlloc}
 use Rattle.un_commands.specs.Alloc.{IsAlloc, AreSearchOptions}

@@ -1,5 +1,5 @@
 -- The options of a search on a command line: how each is spelled, and what several of them say together.
-use Rattle.std.specs.Prelude.{ℕ, ◌≡◌, ◌≤◌, List, [], ◌∷◌, Option, Some, None, codes, decimal, unwrap_or}
+use Rattle.std.specs.Prelude.{ℕ, ◌≡◌, ◌≤◌, List, [], ◌∷◌, Some, None, codes, decimal, unwrap_or}
 use Rattle.std.specs.Option.{option_to_list}
 use Rattle.std.specs.List.{flat_map}
 use Rattle.un_isa.specs.declared.reg.TheConstants.{SLOTS}

@@ -14,7 +14,7 @@ pub returns-in_err-setting-clause-bad : goal.returns-in_err-setting-clause-bad
 returns-in_err-setting-clause-bad c = let p = err_from_is_err_and c.from_residual.result c.from_residual.ensures.1 in
     let stands : StandsAt c.args.words.now c.loop-flag.place c.in-Some.flag.now = first_of (search rules, grind (arith, common_steps, gets)) in
     rw (p.1, p.2) (bad_setting c.args.words.now c.loop-flag.place c.loop-flag.given c.in-Some.flag.now _ c.requires c.loop-flag.invariant
-      stands c.in_err-setting.ensures.bad)
+    stands c.in_err-setting.ensures.bad)
 
 pub overflow_add-place : goal.overflow_add-place
 overflow_add-place c = omega (arith, place_small c.args.words.now c.loop-flag.place c.loop-flag.given c.loop-flag.invariant)

@@ -17,7 +17,7 @@ returns-in_err-nodes-clause-bad c = let p = err_from_is_err_and c.from_residual-
 pub returns-in_err-end_at-clause-bad : goal.returns-in_err-end_at-clause-bad
 returns-in_err-end_at-clause-bad c = let p = err_from_is_err_and c.from_residual-in_err-end_at.result c.from_residual-in_err-end_at.ensures.1 in let b = c.in_err-end_at.ensures.bad in
     rw (p.1, p.2, b.0) (bad_end c.args.words.now c.args.seed c.args.size c.in_ok-nodes.nodes c.requires c.in_ok-word_at.ensures.ok
-      c.in_ok-nodes.ensures.ok.0 (c.in_ok-nodes.ensures.ok.1, c.in_ok-nodes.ensures.ok.2) b.1)
+    c.in_ok-nodes.ensures.ok.0 (c.in_ok-nodes.ensures.ok.1, c.in_ok-nodes.ensures.ok.2) b.1)
 
 pub returns-clause-ok : goal.returns-clause-ok
 returns-clause-ok c = is_generate_alloc c.args.words.now c.args.seed c.args.size c.in_ok-nodes.nodes c.requires c.in_ok-word_at.ensures.ok
