@@ -1,5 +1,4 @@
 pub mod Alloc
 pub mod Commands
-pub mod Generate
 pub mod Places
 pub mod Settings

@@ -2,11 +2,8 @@
 #![tactic(auto)]
 
 mod alloc;
-mod check;
 pub mod command;
-mod generate;
 pub mod laws;
 pub mod line;
 mod place;
-mod run;
 pub mod setting;
