@@ -16,9 +16,9 @@ use Rattle.un_reader.specs.declared.limits.TheConstants.{TEXT}
 use Rattle.un_reader.specs.Read.{IsRead, IsTextFault, too_long}
 use Rattle.un_faults.specs.declared.fault.Fault.TheVariants.{TooMany}
 use Rattle.un_top.specs.Faults.{IsFault}
-use Rattle.un_top.specs.declared.words.Command.{Command}
-use Rattle.un_top.specs.declared.words.Command.TheVariants.{Alloc}
-use Rattle.un_top.specs.Words.{IsCommand}
+use Rattle.un_commands.specs.Commands.{IsCommand}
+use Rattle.un_commands.specs.declared.command.Command.{Command}
+use Rattle.un_commands.specs.declared.command.Command.TheVariants.{Alloc}
 use Rattle.un_top.specs.declared.produce.Output.{Output}
 use Rattle.un_top.specs.Runs.{AnswersFault, AnswersAccepted, IsAnswer, IsRefusal, IsOutput, IsOutputOf, IsWritten, Wrote, KeepsOut, OutAfter}
 use Rattle.un_top.proofs.FaultLaws.{fault_unique, read_has_no_fault}

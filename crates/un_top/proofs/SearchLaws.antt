@@ -1,5 +1,6 @@
 -- From what a search answers to what its report says.
-use Rattle.std.proofs.Common.{ℕ, ◌≡◌, ◌≢◌, ◌≤◌, ◌∙◌, List, All, Contains, None, Some, length, max, refl, sym, ap, subst, arith}
+use Rattle.std.specs.Bool.{IsTrue}
+use Rattle.std.proofs.Common.{ℕ, Bool, true, false, not, ◌≡◌, ◌≢◌, ◌≤◌, ◌∙◌, List, All, Contains, None, Some, length, max, refl, sym, ap, subst, arith}
 use Rattle.std.specs.declared.option.Option.{Option}
 use Rattle.std.specs.Option.{IfSome}
 use Rattle.un_base.specs.declared.ids.NameId.{NameId}
@@ -160,3 +161,8 @@ report_is t f o m nodes text status out read g found = record {
 pub report_for : (t u : Table) (o : Options) (nodes : ℕ) (text : List ℕ) (status : Status) (out : List ℕ) → t ≡ u
     → IsReportOf t o nodes text status out → IsReportOf u o nodes text status out
 report_for t u o nodes text status out e h = subst (λ (w : Table). IsReportOf w o nodes text status out) e h
+
+-- a truth value that is not denied
+pub not_false : (b : Bool) → not b ≡ false → IsTrue b
+not_false true e = refl
+not_false false e = absurd (cc e)

@@ -2,4 +2,3 @@ pub mod Faults
 pub mod Reports
 pub mod Runs
 pub mod Searches
-pub mod Words

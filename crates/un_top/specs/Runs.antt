@@ -4,19 +4,20 @@ use Rattle.std.specs.declared.option.Option.{Option}
 use Rattle.std.specs.List.{concat}
 use Rattle.std.specs.Fmt.{decimal}
 use Rattle.std.specs.Io.KnownBytes.{Appends}
+use Rattle.un_commands.specs.Alloc.{model_options}
+use Rattle.un_commands.specs.Commands.{IsCommand}
+use Rattle.un_commands.specs.declared.command.Command.{Command}
+use Rattle.un_commands.specs.declared.command.Command.TheVariants.{Alloc}
 use Rattle.un_isa.specs.Hexagon.{HEXAGON}
 use Rattle.un_outside.specs.Causes.{AppendsPrefix}
 use Rattle.un_outside.specs.declared.status.Status.{Status}
 use Rattle.un_outside.specs.declared.status.Status.TheVariants.{Done, Infeasible, Spent, TextFault, Usage, ReadFault, WriteFault, NoMemory, No}
 use Rattle.un_outside.specs.declared.status.Status.TheVariants.{BadReport}
-use Rattle.un_top.specs.declared.words.Command.{Command}
-use Rattle.un_top.specs.declared.words.Command.TheVariants.{Alloc}
 use Rattle.un_top.specs.Reports.{IsReportOf}
-use Rattle.un_top.specs.Words.{IsCommand, options_of}
 
 -- what a command puts out over a text, and how a run ends that writes it whole
 abbrev pub IsOutput : Command → List ℕ → Status → List ℕ → Type 0
-IsOutput (Alloc o) text status out = IsReportOf HEXAGON (options_of o) o.nodes text status out
+IsOutput (Alloc o) text status out = IsReportOf HEXAGON (model_options o) o.nodes text status out
 
 -- the words are those of a command, and this is its output over a text
 pub record IsOutputOf (words : List (List ℕ)) (text : List ℕ) (status : Status) (out : List ℕ) : Type 0 where

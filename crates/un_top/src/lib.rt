@@ -5,4 +5,3 @@ pub mod faults;
 pub mod produce;
 pub mod run;
 pub mod search;
-pub mod words;

@@ -2,24 +2,25 @@
 
 ghost use Rattle.std.specs.Prelude.{◌≡◌, ℕ, ◌≤◌, Ok, Err, IfSome, IfOk, IfErr, length};
 ghost use Rattle.std.specs.Io.KnownBytes.{IsAtEnd};
+ghost use Rattle.un_commands.specs.Alloc.{AreSearchOptions, model_options};
+ghost use Rattle.un_commands.specs.Commands.{IsBadWord, IsCommand, IsRanged};
 ghost use Rattle.un_isa.specs.Hexagon.{HEXAGON};
-ghost use Rattle.un_model.specs.Options.{AreOptions};
 ghost use Rattle.un_outside.specs.Causes.{Rose};
 ghost use Rattle.un_problem.specs.Problems.{IsProblemOf, IsExtOf};
 ghost use Rattle.un_reader.specs.Read.{IsRead};
 ghost use Rattle.un_report.specs.Reports.{report_text};
 ghost use Rattle.un_top.specs.Faults.{IsFault};
 ghost use Rattle.un_top.specs.Reports.{IsReportOf, IsSearchText, status_of};
-ghost use Rattle.un_top.specs.Words.{IsBadWord, IsCommand, IsRanged, options_of};
 ghost use Rattle.un_top.specs.Runs.{IsOutput, IsOutputOf, IsTextRefusal, IsRefusal, IsWritten};
 
 use crate::search::search_report;
-use crate::words::{Command, SearchOptions, read_command};
 use std::alloc::Global;
 use un_base::memory_error::NoMemory;
+use un_commands::command::{Command, SearchOptions};
+use un_commands::line::read_command;
 use un_ir::function::Function;
 use un_isa::table::hexagon;
-use un_model::model::{Model, Options};
+use un_model::model::Model;
 use un_outside::outside::Source;
 use un_outside::status::Status;
 use un_outside::transfer::{ReadAll, read_all};
@@ -86,17 +87,12 @@ fn report_of(
     options: SearchOptions,
 ) -> Result<Output, NoMemory>
     requires read { IsRead text.now f.now }
-    requires some { 1 ≤ options.nodes }
-    requires options { AreOptions (options_of options) }
-    ensures report { IfOk result (λ out. IsReportOf HEXAGON (options_of options) options.nodes text.now out.status out.text.items) }
+    requires options { AreSearchOptions options }
+    ensures report { IfOk result (λ out. IsReportOf HEXAGON (model_options options) options.nodes text.now out.status out.text.items) }
     ensures written { IfOk result (λ out. IsWritten out.status) }
 {
     let _ = text;
-    let chosen = Options {
-        regs: options.regs,
-        slots: options.slots,
-    };
-    let model = model(alloc, f, &hexagon(), &chosen)?;
+    let model = model(alloc, f, &hexagon(), &options.model_options())?;
     let output = found(alloc, f, &model, options.nodes)?;
     Ok(output)
 }
@@ -104,9 +100,8 @@ fn report_of(
 /// The report of a text.
 fn report(alloc: Global, text: &[u8], options: SearchOptions) -> Result<Output, Status>
     requires few { length text.now ≤ TEXT }
-    requires some { 1 ≤ options.nodes }
-    requires options { AreOptions (options_of options) }
-    ensures ok { IfOk result (λ out. IsReportOf HEXAGON (options_of options) options.nodes text.now out.status out.text.items) }
+    requires options { AreSearchOptions options }
+    ensures ok { IfOk result (λ out. IsReportOf HEXAGON (model_options options) options.nodes text.now out.status out.text.items) }
     ensures written { IfOk result (λ out. IsWritten out.status) }
     ensures fault { (line code : ℕ) → result ≡ Err (Status.TextFault line code) → IsFault text.now line code }
     ensures only { IfErr result IsTextRefusal }

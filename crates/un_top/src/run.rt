@@ -2,11 +2,11 @@
 
 ghost use Rattle.std.specs.Prelude.{◌≡◌, ℕ, ◌⊎◌, ◌<◌, ◌≤◌, Ok, Err, IfSome, IfOk, IfErr, OnOk, OnErr};
 ghost use Rattle.std.specs.Io.KnownBytes.{Appends, IsAtEnd};
+ghost use Rattle.un_commands.specs.Commands.{IsBadWord};
 ghost use Rattle.un_outside.specs.Causes.{Rose, AppendsPrefix};
 ghost use Rattle.un_ir.specs.declared.function.Function.{Function};
 ghost use Rattle.un_reader.specs.Read.{IsRead};
 ghost use Rattle.un_top.specs.Faults.{IsFault};
-ghost use Rattle.un_top.specs.Words.{IsBadWord};
 ghost use Rattle.un_top.specs.Runs.{OutAfter, KeepsOut, AnswersFault, AnswersAccepted, IsAnswer, IsRefusal, IsWritten, Wrote, line_of};
 
 use crate::faults::write_line;
