@@ -1,3 +1,4 @@
 pub mod AttemptLemmas
+pub mod EnoughLemmas
 pub mod RoundLemmas
 pub mod SolveLemmas

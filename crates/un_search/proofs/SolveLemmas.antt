@@ -48,9 +48,9 @@ cut_ended m limit n t low h = record { certificate = h.certificate; few = h.many
 
 module _ (least : Model) (c : ℕ) where
   at_closed : (n : Node) (w : Waiting) → (n ≡ Open → ⊥) → HasAtLeast (IsLeast least) c n w
-  at_closed (Branch v x) w no = tt
-  at_closed Closed w no = tt
-  at_closed Open (Whole b) no = absurd (no refl)
+  at_closed (Branch v x) w never = tt
+  at_closed Closed w never = tt
+  at_closed Open (Whole b) never = absurd (never refl)
 
   closed_above : (i : ℕ) (ns : List Node) (ws : List Waiting) → AllByRecursion (λ (n : Node). n ≡ Open → ⊥) ns
       → AllByRecursion (λ (p : Visit). HasAtLeast (IsLeast least) c p.node p.waiting) (visits i ns ws)
