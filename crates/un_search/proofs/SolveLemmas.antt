@@ -23,7 +23,7 @@ use Rattle.un_certificate.proofs.Lows.{bound_below, refuted, standing}
 use Rattle.un_certificate.specs.Bounds.{IsBound, IsLowestUnder}
 use Rattle.un_certificate.specs.Certificates.{root_of}
 use Rattle.un_search.specs.Answers.{IsRefuted, IsCutOff}
-use Rattle.un_search.specs.Solved.{IsBest, IsCode, IsEnded, OnCode, OnInfeasible, OnOther}
+use Rattle.un_search.specs.Solved.{IsBest, IsCode, IsEnded, OnInfeasible}
 use Rattle.un_search.specs.declared.best.Best.{Best}
 use Rattle.un_search.specs.declared.solve.Answer.{Answer}
 use Rattle.un_search.specs.declared.solve.Answer.TheVariants.{Code, Infeasible, Spent}
@@ -117,13 +117,7 @@ module _ (m : Model) (own : IsModel m) (extended : IsExtended m.ext) (fit : IsFi
 
 -- ---- answers
 
--- what follows of a solution that is printed
-pub on_code : (P Q : Solution → ℕ → ℕ → List Node → Type 0) → ((s : Solution) (cost bound : ℕ) (t : List Node) → P s cost bound t → Q s cost bound t)
-    → (a : Answer) → OnCode P a → OnCode Q a
-on_code P Q so (Code s cost bound t) h = so s cost bound t.nodes.items h
-on_code P Q so (Infeasible t) h = tt
-on_code P Q so (Spent t) h = tt
-
+-- what follows of the tree that shows that there is none
 pub on_infeasible : (P Q : List Node → Type 0) → ((t : List Node) → P t → Q t) → (a : Answer) → OnInfeasible P a → OnInfeasible Q a
 on_infeasible P Q so (Code s cost bound t) h = tt
 on_infeasible P Q so (Infeasible t) h = so t.nodes.items h

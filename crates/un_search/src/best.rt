@@ -48,12 +48,7 @@ fn priced(m: &Model, solution: Solution) -> Best
 }
 
 /// The solution without merges, where there are nodes for a branch.
-fn tightened(
-    alloc: Global,
-    m: &Model,
-    solution: Solution,
-    nodes: u32,
-) -> Result<Solution, NoMemory>
+fn tightened(alloc: Global, m: &Model, solution: Solution, nodes: u32) -> Result<Solution, NoMemory>
     requires model { IsModel m.now }
     requires solution { IsSolution m.now solution }
     ensures solution { IfOk result (λ s. IsSolution m.now s) }
