@@ -1,5 +1,4 @@
-//! Tests of the whole program over sources and sinks in memory, of the code of given values, of what is posted for
-//! functions, and of searches.
+//! Tests of the whole program over sources and sinks in memory, of the code of given values, and of what is posted for functions.
 #![tactic(auto)]
 
 #[cfg(test)]
@@ -8,7 +7,5 @@ mod posts;
 mod rows;
 #[cfg(test)]
 mod runs;
-#[cfg(test)]
-mod searches;
 #[cfg(test)]
 mod values;

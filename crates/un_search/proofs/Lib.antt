@@ -1,4 +1,3 @@
 pub mod AttemptLemmas
-pub mod EnoughLemmas
 pub mod RoundLemmas
 pub mod SolveLemmas
