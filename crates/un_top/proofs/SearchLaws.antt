@@ -1,6 +1,5 @@
 -- From what a search answers to what its report says.
-use Rattle.std.specs.Bool.{IsTrue}
-use Rattle.std.proofs.Common.{ℕ, Bool, true, false, not, ◌≡◌, ◌≢◌, ◌≤◌, ◌∙◌, List, All, Contains, None, Some, length, max, refl, sym, ap, subst, arith}
+use Rattle.std.proofs.Common.{ℕ, ◌≡◌, ◌≢◌, ◌≤◌, ◌∙◌, List, All, Contains, None, Some, length, max, refl, sym, ap, subst, arith}
 use Rattle.std.specs.declared.option.Option.{Option}
 use Rattle.std.specs.Option.{IfSome}
 use Rattle.un_base.specs.declared.ids.NameId.{NameId}
@@ -157,12 +156,8 @@ report_is t f o m nodes text status out read g found = record {
   });
 }
 
--- the same for a table that is another one
-pub report_for : (t u : Table) (o : Options) (nodes : ℕ) (text : List ℕ) (status : Status) (out : List ℕ) → t ≡ u
-    → IsReportOf t o nodes text status out → IsReportOf u o nodes text status out
-report_for t u o nodes text status out e h = subst (λ (w : Table). IsReportOf w o nodes text status out) e h
-
--- a truth value that is not denied
-pub not_false : (b : Bool) → not b ≡ false → IsTrue b
-not_false true e = refl
-not_false false e = absurd (cc e)
+-- the same for a table and options that are others
+pub report_for : (t u : Table) (o p : Options) (nodes : ℕ) (text : List ℕ) (status : Status) (out : List ℕ) → t ≡ u → o ≡ p
+    → IsReportOf t o nodes text status out → IsReportOf u p nodes text status out
+report_for t u o p nodes text status out e k h =
+    subst (λ (w : Table). IsReportOf w p nodes text status out) e (subst (λ (q : Options). IsReportOf t q nodes text status out) k h)
