@@ -1,6 +1,5 @@
 -- What the tree of a last attempt says of the best solution.
-use Rattle.std.proofs.Common.{ℕ, zero, suc, ◌≡◌, ◌≢◌, ◌<◌, ◌≤◌, ◌+◌, List, [], ◌∷◌, Option, None, Some, All, length, max, min, inl, inr, refl, sym, subst, arith}
-use Rattle.std.specs.Bool.{⊤}
+use Rattle.std.proofs.Common.{ℕ, ◌≡◌, ◌≢◌, ◌≤◌, ◌+◌, List, [], ◌∷◌, Option, None, Some, All, max, min, inl, inr, refl, sym, subst, arith}
 use Rattle.std.specs.List.{AllByRecursion, Contains}
 use Rattle.std.proofs.lemmas.Bool.{cases_lt}
 use Rattle.std.proofs.lemmas.List.Elements.{All-contains, recursion_from_All, All-from_recursion}
@@ -8,7 +7,6 @@ use Rattle.un_ir.specs.Extended.{IsExtended}
 use Rattle.un_isa.specs.Fit.{IsFit}
 use Rattle.un_model.specs.declared.model.Model.{Model}
 use Rattle.un_model.specs.declared.model.Solution.{Solution}
-use Rattle.un_model.specs.Cost.{cost_of}
 use Rattle.un_model.specs.Options.{AreOptions}
 use Rattle.un_model.specs.Solutions.{IsSolution}
 use Rattle.un_model.specs.Variables.{IsModel}

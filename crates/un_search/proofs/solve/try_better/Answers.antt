@@ -1,6 +1,5 @@
-use Rattle.std.proofs.Common.{ℕ, List, Some, subst, sym}
+use Rattle.std.proofs.Common.{Some, subst, sym}
 use Rattle.un_tree.specs.Waits.{visits_of}
-use Rattle.un_tree.specs.declared.node.Node.{Node}
 use Rattle.un_certificate.specs.Bounds.{IsLowestUnder}
 use Rattle.un_certificate.specs.Certificates.{root_of}
 use Rattle.un_search.specs.Answers.{IsRefuted, IsCutOff, OnRefuted, OnCut}
