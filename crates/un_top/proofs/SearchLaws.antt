@@ -1,5 +1,5 @@
 -- From what a search answers to what its report says.
-use Rattle.std.proofs.Common.{ℕ, ◌≡◌, ◌≢◌, ◌≤◌, ◌∙◌, List, All, Contains, None, Some, length, max, refl, sym, ap, subst, arith}
+use Rattle.std.proofs.Common.{ℕ, ◌≡◌, ◌≢◌, ◌≤◌, ◌∙◌, List, All, Contains, None, Some, length, sym, subst, arith}
 use Rattle.std.specs.declared.option.Option.{Option}
 use Rattle.std.specs.Option.{IfSome}
 use Rattle.un_base.specs.declared.ids.NameId.{NameId}
@@ -17,7 +17,7 @@ use Rattle.un_bound.specs.Plain.{IsPlainBound}
 use Rattle.un_problem.specs.Problems.{IsExtOf, IsModelOf}
 use Rattle.un_problem.proofs.ProblemLaws.{table_is}
 use Rattle.un_reader.specs.Read.{IsRead}
-use Rattle.un_baseline.specs.RoomyOptions.{AreRoomyFor, IsOfFunction}
+use Rattle.un_baseline.specs.RoomyOptions.{AreRoomyFor}
 use Rattle.un_baseline.specs.SpilledCost.{spill_cost}
 use Rattle.un_merges.specs.Merges.{HasNoMerge}
 use Rattle.un_tree.specs.Waits.{IsOdd, visits_of}

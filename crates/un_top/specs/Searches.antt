@@ -1,5 +1,5 @@
 -- From the start of a search to its report.
-use Rattle.std.specs.Prelude.{ℕ, ◌≡◌, ◌≢◌, ◌≤◌, List, All, Contains, None, Some, IfSome}
+use Rattle.std.specs.Prelude.{ℕ, ◌≡◌, List, None, Some}
 use Rattle.std.specs.declared.option.Option.{Option}
 use Rattle.un_ir.specs.declared.function.Function.{Function}
 use Rattle.un_simulation.specs.Count.{count_of}

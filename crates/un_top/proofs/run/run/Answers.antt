@@ -1,5 +1,3 @@
-use Rattle.std.proofs.Common.{refl, ap, List}
-use Rattle.std.specs.Io.KnownBytes.{IsAtEnd}
 use Rattle.un_outside.specs.declared.status.Status.TheVariants.{TextFault, Usage, ReadFault}
 use Rattle.un_top.proofs.Answered.{from_before, answers_fault, answers_accepted, out_after, kept_and_answered, when_written, status_of}
 use Rattle.un_top.proofs.Answered.{line_written, line_whole}
