@@ -3,5 +3,7 @@
 
 pub mod attempt;
 mod choices;
+mod lifts;
+pub mod order;
 pub mod rounds;
 pub mod solve;
