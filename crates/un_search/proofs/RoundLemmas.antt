@@ -24,9 +24,6 @@ use Rattle.un_post.specs.Posts.{fix_at}
 use Rattle.un_tree.specs.Boxes.{IsBox, decided}
 use Rattle.un_tree.specs.declared.node.Decision.{Decision}
 use Rattle.un_levels.specs.Levels.{IsEnd, IsRun}
-use Rattle.un_levels.proofs.LevelLemmas.{last_once}
-use Rattle.un_engine.specs.Ends.{IsDeeper}
-use Rattle.un_engine.specs.Engines.{State}
 use Rattle.un_certificate.specs.Certificates.{root_of}
 use Rattle.un_engine.proofs.EngineLaws.{all_snoc}
 use Rattle.un_bound.specs.declared.relax.RelaxAnswer.{RelaxAnswer}
@@ -115,15 +112,6 @@ module _ (m : Model) (limit : Option ℕ) where
   pub end_live : (ps : List AnyProp) (ends cuts : Sets) (scratch : Scratch) → AreStores m limit ps ends cuts scratch
       → IsEnd (root_of m) (fix_at m limit) ends → NoneEmpty ends
   end_live ps ends cuts scratch h e = (posted_inside m limit ps h.posted e.box ends e.inside e.ends).1
-
--- an engine that came back from a decision is as before
-pub same_engine : (a b c : State AnyProp) → IsDeeper a b → IsDeeper c b → c ≡ a
-same_engine a b c h k =
-    let last = last_once c.store.marked a.store.marked c.store.sets a.store.sets (sym k.marked ∙ h.marked) in
-    same_state c a (sym k.props ∙ h.props) last.1 last.0
-  where
-    same_state : (x y : State AnyProp) → x.props ≡ y.props → x.store.sets ≡ y.store.sets → x.store.marked ≡ y.store.marked → x ≡ y
-    same_state x y p s m = cc
 
 pub decided_long : (d : Decision) (b : Sets) → length (decided d b) ≡ length b
 decided_long d b = length-set b d.var.0 (filter (side_test d.side d.val) (set_at b d.var.0))
