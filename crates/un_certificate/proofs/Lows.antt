@@ -1,11 +1,10 @@
 -- What is below the least costs of the open leaves' boxes is below each solution in them.
-use Rattle.std.proofs.Common.{ℕ, zero, suc, All, ◌≡◌, ◌≢◌, ◌<◌, ◌≤◌, ◌+◌, ◌⊎◌, List, [], ◌∷◌, Some, max, inl, inr, refl, sym, ap, subst, arith}
+use Rattle.std.proofs.Common.{ℕ, zero, suc, All, ◌≡◌, ◌≢◌, ◌<◌, ◌≤◌, ◌+◌, List, [], ◌∷◌, Some, inl, inr, refl, subst, arith}
 use Rattle.std.specs.declared.option.Option.{Option}
-use Rattle.std.proofs.lemmas.List.Elements.{recursion_from_All, All-from_recursion}
+use Rattle.std.proofs.lemmas.List.Elements.{recursion_from_All}
 use Rattle.std.specs.List.{AllByRecursion}
 use Rattle.std.proofs.lemmas.Bool.{cases_lt}
-use Rattle.un_base.specs.declared.ids.VarId.{VarId}
-use Rattle.un_domains.specs.Sets.{Sets, IsIn}
+use Rattle.un_domains.specs.Sets.{Sets}
 use Rattle.un_ir.specs.Extended.{IsExtended}
 use Rattle.un_isa.specs.Fit.{IsFit}
 use Rattle.un_model.specs.declared.model.Model.{Model}
@@ -15,7 +14,7 @@ use Rattle.un_model.specs.Options.{AreOptions}
 use Rattle.un_model.specs.Solutions.{IsSolution}
 use Rattle.un_model.specs.Variables.{IsModel}
 use Rattle.un_bound.specs.Relaxations.{Times, times_cost, IsMember, IsLeast}
-use Rattle.un_bound.proofs.Members.{known_box, solution_member}
+use Rattle.un_bound.proofs.Members.{solution_member}
 use Rattle.un_bound.proofs.Plains.{plain_below}
 use Rattle.un_post.proofs.Exact.{of_domains}
 use Rattle.un_tree.proofs.CoverLaws.{covered}
@@ -76,9 +75,9 @@ below_open m limit nodes own c x is =
 
 module _ (x : List ℕ) where
   at_closed : (n : Node) (w : Waiting) → (n ≡ Open → ⊥) → IsOpenAt x n w → ⊥
-  at_closed (Branch v y) w no h = h
-  at_closed Closed w no h = h
-  at_closed Open w no h = no refl
+  at_closed (Branch v y) w never h = h
+  at_closed Closed w never h = h
+  at_closed Open w never h = never refl
 
   -- no leaf is open where no node is
   pub closed_holds_none : (i : ℕ) (ns : List Node) (ws : List Waiting) → AllByRecursion (λ (n : Node). n ≡ Open → ⊥) ns
