@@ -176,11 +176,7 @@ impl Rounds for ModelRounds<'_> {
         let lift = first_lift(&mut stores.engine, stores.order.as_slice())?;
         match lift {
             Some(choice) => Ok(choice),
-            None => Ok(choice_of(
-                stores.engine.store(),
-                self.m.flag,
-                stores.order.as_slice(),
-            )),
+            None => Ok(choice_of(stores.engine.store(), self.m.flag, stores.order.as_slice())),
         }
     }
 
