@@ -1,6 +1,7 @@
 pub mod CallSteps
 pub mod CheckSteps
 pub mod ClashLaws
+pub mod ExtentLaws
 pub mod Going
 pub mod Loops
 pub mod OrderSteps

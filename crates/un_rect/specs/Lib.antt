@@ -6,6 +6,7 @@ pub mod Clobber
 pub mod ClobberLaws
 pub mod Entries
 pub mod EntryLaws
+pub mod Extents
 pub mod Inherited
 pub mod Opened
 pub mod OpenedLaws

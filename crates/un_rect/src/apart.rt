@@ -6,6 +6,7 @@ ghost use Rattle.un_prop.specs.LastLaws.{Ascend};
 ghost use Rattle.un_rect.specs.Apart.{pair_holds, ApartVars};
 
 use crate::checks::{are_apart, check_all};
+use crate::extents::{NOTED, no_extent, note};
 use crate::{clashes, orders};
 use un_base::ids::VarId;
 use un_domains::window::Window;
@@ -75,8 +76,10 @@ impl Propagator for Apart {
 
     fn prune_in(&self, w: &mut Window<'_>, scratch: &mut Scratch) -> Pruned {
         let temps = self.temps.as_slice();
-        let first = clashes::keep_all(w, Pruned::Same, temps);
-        let second = orders::keep_all(w, first, temps);
+        let mut extents = [no_extent(); NOTED];
+        note(w, temps, &mut extents);
+        let first = clashes::keep_all(w, Pruned::Same, temps, &mut extents);
+        let second = orders::keep_all(w, first, temps, &mut extents);
         check_all(w, second, temps, scratch.fixed.as_mut_slice())
     }
 

@@ -5,6 +5,7 @@ pub mod apart;
 mod checks;
 mod clashes;
 pub mod clobber;
+mod extents;
 mod opened;
 mod operand;
 pub mod operands;

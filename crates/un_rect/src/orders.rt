@@ -1,22 +1,24 @@
 //! The order of two sure temporaries with the same one register left.
 
-ghost use Rattle.std.specs.Prelude.{◌≡◌, ◌≢◌, ◌≤◌, ◌+◌, All, length};
+ghost use Rattle.std.specs.Prelude.{◌≡◌, ◌≢◌, ◌<◌, ◌+◌, All, length, slice_index_or, true, Some};
 ghost use Rattle.un_domains.specs.Sets.{NoneEmpty};
 ghost use Rattle.un_prop.specs.Going.{Stepped};
 ghost use Rattle.un_prop.specs.Rounds.{HasVars};
-ghost use Rattle.un_prop.specs.declared.propagator.Pruned.TheVariants.{Failed};
+ghost use Rattle.un_prop.specs.declared.propagator.Pruned.TheVariants.{Same, Failed};
 ghost use Rattle.un_rect.specs.Spans.{least_end, UserVars, TempVars};
 ghost use Rattle.un_rect.specs.Orders.{share_one, comes_first, time_cut, late_test, early_test, user_test, sure_late};
 ghost use Rattle.un_rect.specs.Orders.{reader_cut, user_cut, users_cut, order_steps, order_cut, order_pair, orders_cut};
+ghost use Rattle.un_rect.specs.Extents.{AreExtents};
 ghost use Rattle.un_rect.specs.Pairs.{each_before};
 
 use crate::clashes::ends_after;
+use crate::extents::{Extent, cannot_order, note_again};
 use crate::spans::{is_only, is_sure_user, last_sure_use};
 use un_domains::window::Window;
 use un_prop::act::{At, Temp, UserOf};
 use un_prop::look::{greatest_time, is_sure, least_time};
 use un_prop::propagator::Pruned;
-use un_prop::step::{drop_value, keep_gt, keep_le};
+use un_prop::step::{drop_value, joined, keep_gt, keep_le};
 
 /// Whether two temporaries have the same one register left.
 fn share_one(w: &Window<'_>, a: &Temp, b: &Temp) -> bool
@@ -258,39 +260,94 @@ fn keep_orders(w: &mut Window<'_>, before: Pruned, a: &Temp, b: &Temp) -> Pruned
     keep_order(w, first, b, a)
 }
 
-/// Of `b` with each of the first `n` temporaries. There is nothing to do where `b` is not sure, or has other than one register.
-fn keep_row(w: &mut Window<'_>, before: Pruned, temps: &[Temp], b: &Temp, n: usize) -> Pruned
-    requires few { n ≤ length temps.now }
-    requires of_temps { All (TempVars w.old.vars.now) temps.now }
+/// The same, unless what was noted of them says that neither comes first.
+fn keep_noted(w: &mut Window<'_>, before: Pruned, a: &Temp, b: &Temp, passed: bool) -> Pruned
+    requires of_a { TempVars w.old.vars.now a.now }
     requires of_b { TempVars w.old.vars.now b.now }
     requires known { HasVars w.old.vars.now w.old.store.now.sets }
     requires live { before ≢ Failed → NoneEmpty w.old.store.now.sets }
-    ensures step { Stepped w.old.vars.now (each_before order_pair temps.now b.now n) w.old.store.now w.new.store.now before result }
+    requires passed { passed ≡ true → NoneEmpty w.old.store.now.sets
+        → order_pair a.now b.now w.old.store.now.sets ≡ Some w.old.store.now.sets }
+    ensures step { Stepped w.old.vars.now (order_pair a.now b.now) w.old.store.now w.new.store.now before result }
     ensures same_reference { w.new.store.ghost_name ≡ w.old.store.ghost_name }
     ensures vars { w.new.vars ≡ w.old.vars }
 {
-    if !w.is_single(b.reg) {
+    if passed {
         return before;
     }
-    let mut did = before;
-    for i in 0..n {
-        did = keep_orders(w, did, &temps[i], b);
+    keep_orders(w, before, a, b)
+}
+
+/// Of the temporary at place `j` with each one before it. There is nothing to do where it has other than one register.
+fn keep_row(w: &mut Window<'_>, temps: &[Temp], extents: &[Extent], j: usize) -> Pruned
+    requires there { j < length temps.now }
+    requires of_temps { All (TempVars w.old.vars.now) temps.now }
+    requires known { HasVars w.old.vars.now w.old.store.now.sets }
+    requires live { NoneEmpty w.old.store.now.sets }
+    requires are { AreExtents temps.now w.old.store.now.sets extents.now }
+    ensures step { (b : Temp) → Stepped w.old.vars.now (each_before order_pair temps.now (slice_index_or temps.now j b) j)
+        w.old.store.now w.new.store.now Same result }
+    ensures same_reference { w.new.store.ghost_name ≡ w.old.store.ghost_name }
+    ensures vars { w.new.vars ≡ w.old.vars }
+{
+    let b = &temps[j];
+    if !w.is_single(b.reg) {
+        return Pruned::Same;
+    }
+    let mut did = Pruned::Same;
+    for i in 0..j {
+        let passed = cannot_order(extents, did, i, j);
+        did = keep_noted(w, did, &temps[i], b, passed);
     }
     did
 }
 
-/// Of each two temporaries.
-pub(crate) fn keep_all(w: &mut Window<'_>, before: Pruned, temps: &[Temp]) -> Pruned
+/// The same, after other rows. Where it changes something, all is noted again.
+fn keep_next(
+    w: &mut Window<'_>,
+    before: Pruned,
+    temps: &[Temp],
+    extents: &mut [Extent],
+    j: usize,
+) -> Pruned
+    requires there { j < length temps.now }
     requires of_temps { All (TempVars w.old.vars.now) temps.now }
     requires known { HasVars w.old.vars.now w.old.store.now.sets }
     requires live { before ≢ Failed → NoneEmpty w.old.store.now.sets }
+    requires are { before ≢ Failed → AreExtents temps.now w.old.store.now.sets extents.old }
+    ensures step { (b : Temp) → Stepped w.old.vars.now (each_before order_pair temps.now (slice_index_or temps.now j b) j)
+        w.old.store.now w.new.store.now before result }
+    ensures are { result ≢ Failed → AreExtents temps.now w.new.store.now.sets extents.new }
+    ensures same_reference { w.new.store.ghost_name ≡ w.old.store.ghost_name }
+    ensures vars { w.new.vars ≡ w.old.vars }
+{
+    if before == Pruned::Failed {
+        return before;
+    }
+    let did = keep_row(w, temps, extents, j);
+    note_again(w, did, temps, extents);
+    joined(before, did)
+}
+
+/// Of each two temporaries, of which the extents were noted.
+pub(crate) fn keep_all(
+    w: &mut Window<'_>,
+    before: Pruned,
+    temps: &[Temp],
+    extents: &mut [Extent],
+) -> Pruned
+    requires of_temps { All (TempVars w.old.vars.now) temps.now }
+    requires known { HasVars w.old.vars.now w.old.store.now.sets }
+    requires live { before ≢ Failed → NoneEmpty w.old.store.now.sets }
+    requires are { before ≢ Failed → AreExtents temps.now w.old.store.now.sets extents.old }
     ensures step { Stepped w.old.vars.now (orders_cut temps.now) w.old.store.now w.new.store.now before result }
+    ensures are { result ≢ Failed → AreExtents temps.now w.new.store.now.sets extents.new }
     ensures same_reference { w.new.store.ghost_name ≡ w.old.store.ghost_name }
     ensures vars { w.new.vars ≡ w.old.vars }
 {
     let mut did = before;
     for j in 0..temps.len() {
-        did = keep_row(w, did, temps, &temps[j], j);
+        did = keep_next(w, did, temps, extents, j);
     }
     did
 }

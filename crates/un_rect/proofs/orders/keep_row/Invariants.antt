@@ -1,13 +1,15 @@
 -- the temporaries before place i
-use Rattle.std.proofs.Common.{◌≡◌}
+use Rattle.std.proofs.Common.{◌≡◌, get_or}
 use Rattle.un_prop.specs.Going.{Stepped}
+use Rattle.un_prop.specs.declared.act.Temp.{Temp}
+use Rattle.un_prop.specs.declared.propagator.Pruned.TheVariants.{Same}
 use Rattle.un_rect.specs.Orders.{order_pair}
 use Rattle.un_rect.specs.Pairs.{each_before}
 use Rattle.un_rect.proofs.orders.keep_row.Given as goal
 
 abbrev pub invariant-loop-i : goal.invariant-loop-i
 invariant-loop-i l = record {
-  step : Stepped l.fn.w.vars.now (each_before order_pair l.temps l.b l.i) l.fn.w.store.now l.w.store.now l.fn.before l.did;
+  step : Stepped l.fn.w.vars.now (each_before order_pair l.temps l.b l.i) l.fn.w.store.now l.w.store.now Same l.did;
   same_reference : l.w.store.ghost_name ≡ l.fn.w.store.ghost_name;
   vars : l.w.vars ≡ l.fn.w.vars;
 }

@@ -1,0 +1,179 @@
+-- What extents say of two temporaries.
+use Rattle.std.proofs.Common.{ℕ, ◌≡◌, Bool, true, false, cond, not, ◌&&◌, ◌||◌, List, [], ◌∷◌, length, nat_eq, nat_lt, Some}
+use Rattle.std.proofs.Common.{option_and_then, refl, sym, ap, ◌∙◌, subst, arith}
+use Rattle.std.proofs.Common.{◌≢◌, ◌<◌, All, None, get_or}
+use Rattle.std.specs.declared.option.Option.{Option}
+use Rattle.std.proofs.lemmas.Bool.Decides.{nat_tests}
+use Rattle.std.proofs.lemmas.List.{get_or_default}
+use Rattle.un_base.specs.declared.ids.VarId.{VarId}
+use Rattle.un_domains.specs.Sets.{Sets, set_at, has, least, NoneEmpty}
+use Rattle.un_domains.specs.Cuts.{Contents}
+use Rattle.un_domains.specs.OrderLaws.{same_test}
+use Rattle.un_prop.specs.Going.{Stepped}
+use Rattle.un_prop.specs.GoingLaws.{starts, stepped_then}
+use Rattle.un_prop.specs.Pruning.{Answers, Ends, join}
+use Rattle.un_prop.specs.declared.act.Act.TheVariants.{Always}
+use Rattle.un_prop.specs.declared.act.At.TheVariants.{Const}
+use Rattle.un_prop.specs.declared.propagator.Pruned.{Pruned}
+use Rattle.un_prop.specs.declared.propagator.Pruned.TheVariants.{Same, Failed}
+use Rattle.un_prop.specs.Rounds.{HasVars}
+use Rattle.un_prop.specs.AmongLaws.{has_among}
+use Rattle.un_prop.specs.LastLaws.{cut_all}
+use Rattle.un_prop.specs.Looks.{sure}
+use Rattle.un_prop.specs.declared.act.Temp.{Temp}
+use Rattle.un_rect.specs.Extents.{extent_of, may_clash, may_order, AreExtents, AreSpared}
+use Rattle.un_rect.specs.declared.extents.Extent.{Extent}
+use Rattle.un_rect.specs.Spans.{greatest_start, is_only, least_end, TempVars}
+use Rattle.un_rect.specs.Apart.{overlap, clash_test, clash_cut, clash_pair}
+use Rattle.un_rect.specs.Orders.{order_cut, order_pair, order_steps, comes_first}
+
+same_both : (m n : ℕ) → nat_eq m n ≡ nat_eq n m
+same_both m n = same_test (nat_eq m n) (nat_eq n m) (λ h. let is : m ≡ n = grind (arith, nat_tests, h) in
+    grind (arith, nat_tests, is)) (λ h. let is : n ≡ m = grind (arith, nat_tests, h) in grind (arith, nat_tests, is))
+
+none_below : (n : ℕ) → nat_lt n 0 ≡ false
+none_below n = grind (arith, nat_tests)
+
+-- the one value that is left
+only_has : (xs : List ℕ) (y : ℕ) → nat_eq (length xs) 1 ≡ true → has xs y ≡ true → y ≡ least xs
+only_has [] y one there = absurd (cc there)
+only_has (x ∷ []) y one there = by (nat_eq y x) refl there
+  where
+    by : (b : Bool) → nat_eq y x ≡ b → has (x ∷ []) y ≡ true → y ≡ x
+    by true e h = grind (arith, nat_tests, e)
+    by false e h = absurd (let no : has (x ∷ []) y ≡ false = rw e refl in cc (no, h))
+only_has (x ∷ (z ∷ rest)) y one there = absurd (grind (arith, nat_tests, one))
+
+second : (c d : Bool) → d ≡ false → (c && d) ≡ false
+second true d e = e
+second false d e = refl
+
+-- an end that is 0 where it is not sure is after no start
+both_sure : (p q : Bool) (m n u v : ℕ) → (nat_lt m (cond p u 0) && nat_lt n (cond q v 0)) ≡ (p && (q && (nat_lt m u && nat_lt n v)))
+both_sure true true m n u v = refl
+both_sure true false m n u v = second (nat_lt m u) (nat_lt n 0) (none_below n)
+both_sure false q m n u v = ap (λ (c : Bool). c && nat_lt n (cond q v 0)) (none_below m)
+
+turned : (p q o1 o2 : Bool) (m n : ℕ) → ((p && q) && cond (o1 && o2) (nat_eq m n) (o1 || o2)) ≡ false
+    → ((q && p) && cond (o2 && o1) (nat_eq n m) (o2 || o1)) ≡ false
+turned true true true true m n e = same_both n m ∙ e
+turned true true true false m n e = e
+turned true true false true m n e = e
+turned true true false false m n e = refl
+turned true false o1 o2 m n e = refl
+turned false true o1 o2 m n e = refl
+turned false false o1 o2 m n e = refl
+
+-- a value of the second stays
+stays : (o1 o2 : Bool) (ra rb y : ℕ) (over : Bool) → (o2 ≡ true → y ≡ rb)
+    → (over && cond (o1 && o2) (nat_eq ra rb) (o1 || o2)) ≡ false → not ((o1 && nat_eq ra y) && over) ≡ true
+stays false o2 ra rb y over is e = refl
+stays true o2 ra rb y false is e = ap not (second (nat_eq ra y) false refl)
+stays true false ra rb y true is e = absurd (cc e)
+stays true true ra rb y true is e = ap (λ (n : ℕ). not (nat_eq ra n && true)) (is refl) ∙ ap (λ (c : Bool). not (c && true)) e
+
+module _ (a b : Temp) (s : Sets) where
+  -- no value of the second goes
+  keeps_each : may_clash (extent_of a s) (extent_of b s) ≡ false → (y : ℕ) → has (set_at s b.reg.0) y ≡ true → clash_test a b s y ≡ true
+  keeps_each e y there =
+      let over = both_sure (sure a.on s) (sure b.on s) (greatest_start b s) (greatest_start a s) (least_end a s) (least_end b s) in
+      stays (nat_eq (length (set_at s a.reg.0)) 1) (nat_eq (length (set_at s b.reg.0)) 1) (least (set_at s a.reg.0))
+      (least (set_at s b.reg.0)) y (sure a.on s && (sure b.on s && overlap a b s)) (λ one. only_has (set_at s b.reg.0) y one there)
+      (subst (λ (c : Bool). (c && cond (nat_eq (length (set_at s a.reg.0)) 1 && nat_eq (length (set_at s b.reg.0)) 1)
+      (nat_eq (least (set_at s a.reg.0)) (least (set_at s b.reg.0)))
+      (nat_eq (length (set_at s a.reg.0)) 1 || nat_eq (length (set_at s b.reg.0)) 1)) ≡ false) over e)
+
+module _ (a b : Temp) (s : Sets) (vs : List VarId) (ha : TempVars vs a) (hb : TempVars vs b) (k : HasVars vs s) (full : NoneEmpty s) where
+  -- two that cannot clash do not
+  pub no_clash : may_clash (extent_of a s) (extent_of b s) ≡ false → clash_pair a b s ≡ Some s
+  no_clash e =
+      let back : may_clash (extent_of b s) (extent_of a s) ≡ false = turned (nat_lt (greatest_start b s) (extent_of a s).end)
+      (nat_lt (greatest_start a s) (extent_of b s).end) (nat_eq (length (set_at s a.reg.0)) 1) (nat_eq (length (set_at s b.reg.0)) 1)
+      (least (set_at s a.reg.0)) (least (set_at s b.reg.0)) e in
+      ap (option_and_then (clash_cut b a)) (cut_all (clash_test a b s) b.reg.0 s (has_among vs b.reg s hb.of_reg k) full
+      (keeps_each a b s e))
+      ∙ cut_all (clash_test b a s) a.reg.0 s (has_among vs a.reg s ha.of_reg k) full (keeps_each b a s back)
+
+-- neither comes first
+not_first : (p q o1 o2 : Bool) (m n : ℕ) (late : Bool) → (p && (q && (o1 && (o2 && nat_eq m n)))) ≡ false
+    → ((o1 && (o2 && nat_eq n m)) && (p && (q && late))) ≡ false
+not_first p q false o2 m n late e = refl
+not_first p q true false m n late e = refl
+not_first false q true true m n late e = second (nat_eq n m) false refl
+not_first true false true true m n late e = second (nat_eq n m) false refl
+not_first true true true true m n late e = ap (λ (c : Bool). c && late) (same_both n m ∙ e)
+
+swapped : (p q o1 o2 : Bool) (m n : ℕ) → (p && (q && (o1 && (o2 && nat_eq m n)))) ≡ false
+    → (q && (p && (o2 && (o1 && nat_eq n m)))) ≡ false
+swapped false false o1 o2 m n e = refl
+swapped false true o1 o2 m n e = refl
+swapped true false o1 o2 m n e = refl
+swapped true true false false m n e = refl
+swapped true true false true m n e = refl
+swapped true true true false m n e = refl
+swapped true true true true m n e = same_both n m ∙ e
+
+module _ (a b : Temp) (s : Sets) where
+  order_stays : may_order (extent_of a s) (extent_of b s) ≡ false → order_cut a b s ≡ Some s
+  order_stays e = ap (λ (c : Bool). cond c (order_steps a b s) (Some s))
+      (not_first (sure a.on s) (sure b.on s) (nat_eq (length (set_at s a.reg.0)) 1) (nat_eq (length (set_at s b.reg.0)) 1)
+      (least (set_at s a.reg.0)) (least (set_at s b.reg.0)) (nat_lt (greatest_start a s) (least_end b s)) e)
+
+module _ (a b : Temp) (s : Sets) where
+  -- two of which neither can come first are not ordered
+  pub no_order : may_order (extent_of a s) (extent_of b s) ≡ false → order_pair a b s ≡ Some s
+  no_order e = ap (option_and_then (order_cut b a)) (order_stays a b s e)
+      ∙ order_stays b a s (swapped (sure a.on s) (sure b.on s) (nat_eq (length (set_at s a.reg.0)) 1)
+      (nat_eq (length (set_at s b.reg.0)) 1) (least (set_at s a.reg.0)) (least (set_at s b.reg.0)) e)
+
+-- steps from the start
+
+module _ (vs : List VarId) (f : Sets → Option Sets) (old new : Contents) (did : Pruned) (h : Stepped vs f old new Same did) where
+  -- that changed nothing
+  pub same_sets : NoneEmpty old.sets → did ≡ Same → new.sets ≡ old.sets
+  same_sets full e = by (f old.sets) ((h.goes (Some old.sets) old (starts vs old full)).ends)
+    where
+      by : (c : Option Sets) → Ends c old.sets new.sets did → new.sets ≡ old.sets
+      by None p = absurd (cc (sym e ∙ p.0))
+      by (Some left) p = p.sets ∙ subst (λ (d : Pruned). Answers d old.sets left) e p.answers
+
+  -- after others
+  pub joined_steps : (before after : Pruned) → before ≢ Failed → after ≡ join before did → Stepped vs f old new before after
+  joined_steps before after other is = stepped_then vs f old new before did after other is h.long
+      (λ full. (let p = h.goes (Some old.sets) old (starts vs old full) in (p.ends, p.untouched)))
+
+-- the place of a list, whatever stands for one past its end
+pub some_temp : Temp
+some_temp = record { on = Always; at = Const 0; reg = record { 0 = 0 }; users = [] }
+
+pub at_place_is : (temps : List Temp) (j : ℕ) (a b : Temp) → j < length temps → a ≡ get_or temps j a → get_or temps j b ≡ a
+at_place_is temps j a b lt is = get_or_default temps j b a lt ∙ sym is
+
+-- of what was noted at the start
+module _ (vs us : List VarId) (temps : List Temp) (a b : Temp) (xs : List Extent) (i j : ℕ) (e : us ≡ vs) (is_a : a ≡ get_or temps i a)
+    (is_b : b ≡ get_or temps j b) (lt_a : i < length temps) (lt_b : j < length temps) (all : All (TempVars vs) temps) (old mid : Contents)
+    (k : HasVars vs old.sets) (full : NoneEmpty old.sets) (are : AreExtents temps old.sets xs) (f : Sets → Option Sets) (did : Pruned)
+    (h : Stepped vs f old mid Same did) where
+  noted : (may : Extent → Extent → Bool) → AreSpared may xs did i j → may (extent_of a old.sets) (extent_of b old.sets) ≡ false
+  noted may spared =
+      let first : get_or xs i (extent_of a old.sets) ≡ extent_of a old.sets = are i a (extent_of a old.sets) lt_a spared.first
+      ∙ ap (λ (t : Temp). extent_of t old.sets) (sym is_a) in
+      let second' : get_or xs j (extent_of b old.sets) ≡ extent_of b old.sets = are j b (extent_of b old.sets) lt_b spared.second
+      ∙ ap (λ (t : Temp). extent_of t old.sets) (sym is_b) in
+      subst (λ (x : Extent). may x (extent_of b old.sets) ≡ false) first
+      (subst (λ (y : Extent). may (get_or xs i (extent_of a old.sets)) y ≡ false) second'
+      (spared.none (extent_of a old.sets) (extent_of b old.sets)))
+
+  of_first : TempVars vs a
+  of_first = subst (λ (t : Temp). TempVars vs t) (sym is_a) (all i a lt_a)
+
+  of_second : TempVars vs b
+  of_second = subst (λ (t : Temp). TempVars vs t) (sym is_b) (all j b lt_b)
+
+  pub clash_spared : AreSpared may_clash xs did i j → clash_pair a b mid.sets ≡ Some mid.sets
+  clash_spared spared = subst (λ (s : Sets). clash_pair a b s ≡ Some s) (sym (same_sets vs f old mid did h full spared.same))
+      (no_clash a b old.sets vs of_first of_second k full (noted may_clash spared))
+
+  pub order_spared : AreSpared may_order xs did i j → order_pair a b mid.sets ≡ Some mid.sets
+  order_spared spared = subst (λ (s : Sets). order_pair a b s ≡ Some s) (sym (same_sets vs f old mid did h full spared.same))
+      (no_order a b old.sets (noted may_order spared))

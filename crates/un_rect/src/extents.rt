@@ -1,0 +1,152 @@
+//! What a store says of each temporary, noted once for many looks: its greatest start, its least end and its register.
+
+ghost use Rattle.std.specs.Prelude.{◌≡◌, ◌≢◌, All, cond, true};
+ghost use Rattle.un_domains.specs.Sets.{NoneEmpty};
+ghost use Rattle.un_prop.specs.Looks.{sure};
+ghost use Rattle.un_prop.specs.Rounds.{HasVars};
+ghost use Rattle.un_prop.specs.declared.propagator.Pruned.TheVariants.{Same, Failed};
+ghost use Rattle.un_rect.specs.Extents.{extent_of, may_clash, may_order, AreExtents, AreSpared};
+ghost use Rattle.un_rect.specs.Spans.{TempVars, least_end};
+
+use crate::spans::least_end;
+use un_domains::window::Window;
+use un_prop::act::Temp;
+use un_prop::look::{greatest_time, is_sure};
+use un_prop::propagator::Pruned;
+
+/// How many temporaries of a block are noted at most; those after them are looked at without a note.
+pub(crate) const NOTED: usize = 512;
+
+/// The greatest start of a temporary, its least end or 0 where it is not sure, whether it is sure, whether one register is left, and
+/// the least that is.
+#[derive(Clone, Copy)]
+pub(crate) struct Extent {
+    pub start: u32,
+    pub reg: u32,
+    pub end: u64,
+    pub sure: bool,
+    pub one: bool,
+}
+
+/// What is written of a temporary before it is noted.
+pub(crate) fn no_extent() -> Extent {
+    Extent {
+        start: 0,
+        reg: 0,
+        end: 0,
+        sure: false,
+        one: false,
+    }
+}
+
+/// The least end of a temporary that is sure, or 0.
+fn sure_end(w: &Window<'_>, a: &Temp) -> u64
+    requires vars { TempVars w.now.vars.now a.now }
+    requires known { HasVars w.now.vars.now w.now.store.now.sets }
+    requires live { NoneEmpty w.now.store.now.sets }
+    ensures { result ≡ cond (sure a.now.on w.now.store.now.sets) (least_end a.now w.now.store.now.sets) 0 }
+{
+    if is_sure(w, a.on) { least_end(w, a) } else { 0 }
+}
+
+/// What the store says of a temporary.
+fn extent_of(w: &Window<'_>, a: &Temp) -> Extent
+    requires vars { TempVars w.now.vars.now a.now }
+    requires known { HasVars w.now.vars.now w.now.store.now.sets }
+    requires live { NoneEmpty w.now.store.now.sets }
+    ensures { result ≡ extent_of a.now w.now.store.now.sets }
+{
+    let start = greatest_time(w, a.at);
+    let reg = w.min(a.reg);
+    let end = sure_end(w, a);
+    let sure = is_sure(w, a.on);
+    let one = w.is_single(a.reg);
+    Extent {
+        start,
+        reg,
+        end,
+        sure,
+        one,
+    }
+}
+
+/// Notes what the store says of each temporary for which there is room.
+pub(crate) fn note(w: &Window<'_>, temps: &[Temp], extents: &mut [Extent])
+    requires of_temps { All (TempVars w.now.vars.now) temps.now }
+    requires known { HasVars w.now.vars.now w.now.store.now.sets }
+    requires live { NoneEmpty w.now.store.now.sets }
+    ensures { AreExtents temps.now w.now.store.now.sets extents.new }
+{
+    for i in 0..temps.len().min(extents.len()) {
+        extents[i] = extent_of(w, &temps[i]);
+    }
+}
+
+/// Notes all again where a step since the last note changed something.
+pub(crate) fn note_again(w: &Window<'_>, did: Pruned, temps: &[Temp], extents: &mut [Extent])
+    requires of_temps { All (TempVars w.now.vars.now) temps.now }
+    requires known { HasVars w.now.vars.now w.now.store.now.sets }
+    requires live { did ≢ Failed → NoneEmpty w.now.store.now.sets }
+    requires are { did ≡ Same → AreExtents temps.now w.now.store.now.sets extents.old }
+    ensures { did ≢ Failed → AreExtents temps.now w.now.store.now.sets extents.new }
+{
+    if did == Pruned::Tighter {
+        note(w, temps, extents);
+    }
+}
+
+/// Whether two temporaries of these extents may clash: they surely overlap, one has one register left, and not both have other ones.
+fn may_clash(x: Extent, y: Extent) -> bool
+    ensures { result ≡ may_clash x y }
+{
+    if x.end <= u64::from(y.start) {
+        return false;
+    }
+    if y.end <= u64::from(x.start) {
+        return false;
+    }
+    if x.one && y.one {
+        x.reg == y.reg
+    } else {
+        x.one || y.one
+    }
+}
+
+/// Whether two temporaries of these extents are sure and have the same one register left.
+fn may_order(x: Extent, y: Extent) -> bool
+    ensures { result ≡ may_order x y }
+{
+    x.sure && y.sure && x.one && y.one && x.reg == y.reg
+}
+
+/// Whether what was noted of two temporaries, while nothing changed, says that they do not clash.
+pub(crate) fn cannot_clash(extents: &[Extent], did: Pruned, i: usize, j: usize) -> bool
+    ensures { result ≡ true → AreSpared may_clash extents.now did i j }
+{
+    if did != Pruned::Same {
+        return false;
+    }
+    if i >= extents.len() {
+        return false;
+    }
+    if j >= extents.len() {
+        return false;
+    }
+    !may_clash(extents[i], extents[j])
+}
+
+/// Whether what was noted of two temporaries, while nothing changed, says that neither comes first.
+pub(crate) fn cannot_order(extents: &[Extent], did: Pruned, i: usize, j: usize) -> bool
+    ensures { result ≡ true → AreSpared may_order extents.now did i j }
+{
+    if did != Pruned::Same {
+        return false;
+    }
+    if i >= extents.len() {
+        return false;
+    }
+    if j >= extents.len() {
+        return false;
+    }
+    !may_order(extents[i], extents[j])
+}
