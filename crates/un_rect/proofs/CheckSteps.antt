@@ -113,6 +113,34 @@ module _ (vs : List VarId) (a b : Temp) (ascend : Ascend vs) (ha : TempVars vs a
           (says_more (among (temp_vars b)) (among (temp_vars a ++ temp_vars b)) s (λ u. among_right (temp_vars a) (temp_vars b) u)
           (subst (Says (among (temp_vars b)) s) (more_is (opened_after s (temp_vars b) Nothing) t) (says_of s (temp_vars b))))
 
+  pub check_idle_first : (is_off a.on s || is_more (opened_after s (temp_vars a) Nothing)) ≡ true → check_pair vs a b s ≡ Some s
+  check_idle_first e = by (is_off a.on s) refl e
+    where
+      by : (c : Bool) → is_off a.on s ≡ c → (c || is_more (opened_after s (temp_vars a) Nothing)) ≡ true → check_pair vs a b s ≡ Some s
+      by true off t = check_apart vs a b ha hb s k full (ap (λ (c : Bool). c || (is_off b.on s || differ a.reg b.reg s)) off)
+      by false off t = last_many (temp_vars a ++ temp_vars b) vs sub rises (pair_holds a b) looks s
+          (says_more (among (temp_vars a)) (among (temp_vars a ++ temp_vars b)) s (λ u. among_left (temp_vars a) (temp_vars b) u)
+          (subst (Says (among (temp_vars a)) s) (more_is (opened_after s (temp_vars a) Nothing) t) (says_of s (temp_vars a))))
+
+  -- the one, or the other, or other registers
+  pub check_none : ((is_off a.on s || is_more (opened_after s (temp_vars a) Nothing))
+      || ((is_off b.on s || is_more (opened_after s (temp_vars b) Nothing)) || differ a.reg b.reg s)) ≡ true → check_pair vs a b s ≡ Some s
+  check_none e = by (is_off a.on s || is_more (opened_after s (temp_vars a) Nothing))
+      (is_off b.on s || is_more (opened_after s (temp_vars b) Nothing)) refl refl e
+    where
+      or_last : (c d : Bool) → (c || (d || true)) ≡ true
+      or_last true d = refl
+      or_last false true = refl
+      or_last false false = refl
+
+      by : (c d : Bool) → (is_off a.on s || is_more (opened_after s (temp_vars a) Nothing)) ≡ c
+          → (is_off b.on s || is_more (opened_after s (temp_vars b) Nothing)) ≡ d → (c || (d || differ a.reg b.reg s)) ≡ true
+          → check_pair vs a b s ≡ Some s
+      by true d first other t = check_idle_first first
+      by false true first other t = check_idle other
+      by false false first other t = check_apart vs a b ha hb s k full
+          (ap (λ (c : Bool). is_off a.on s || (is_off b.on s || c)) t ∙ or_last (is_off a.on s) (is_off b.on s))
+
 pub checks_idle : (vs : List VarId) (temps : List Temp) (b : Temp) (s : Sets) → Ascend vs → AllByRecursion (TempVars vs) temps
     → TempVars vs b → HasVars vs s → NoneEmpty s
     → (is_off b.on s || is_more (opened_after s (temp_vars b) Nothing)) ≡ true → (n : ℕ) → each_before (check_pair vs) temps b n s ≡ Some s

@@ -10,21 +10,22 @@ use Rattle.un_domains.specs.Sets.{Sets, set_at, has, least, NoneEmpty}
 use Rattle.un_domains.specs.Cuts.{Contents}
 use Rattle.un_domains.specs.OrderLaws.{same_test}
 use Rattle.un_prop.specs.Going.{Stepped}
-use Rattle.un_prop.specs.GoingLaws.{starts, stepped_then}
-use Rattle.un_prop.specs.Pruning.{Answers, Ends, join}
+use Rattle.un_prop.specs.GoingLaws.{starts}
+use Rattle.un_prop.specs.Pruning.{Answers, Ends}
 use Rattle.un_prop.specs.declared.act.Act.TheVariants.{Always}
 use Rattle.un_prop.specs.declared.act.At.TheVariants.{Const}
 use Rattle.un_prop.specs.declared.propagator.Pruned.{Pruned}
 use Rattle.un_prop.specs.declared.propagator.Pruned.TheVariants.{Same, Failed}
 use Rattle.un_prop.specs.Rounds.{HasVars}
 use Rattle.un_prop.specs.AmongLaws.{has_among}
-use Rattle.un_prop.specs.LastLaws.{cut_all}
+use Rattle.un_prop.specs.LastLaws.{Ascend, cut_all}
+use Rattle.un_rect.proofs.CheckSteps.{check_none}
 use Rattle.un_prop.specs.Looks.{sure}
 use Rattle.un_prop.specs.declared.act.Temp.{Temp}
-use Rattle.un_rect.specs.Extents.{extent_of, may_clash, may_order, AreExtents, AreSpared}
+use Rattle.un_rect.specs.Extents.{extent_of, may_clash, may_order, may_check, AreExtents, AreSpared}
 use Rattle.un_rect.specs.declared.extents.Extent.{Extent}
 use Rattle.un_rect.specs.Spans.{greatest_start, is_only, least_end, TempVars}
-use Rattle.un_rect.specs.Apart.{overlap, clash_test, clash_cut, clash_pair}
+use Rattle.un_rect.specs.Apart.{overlap, clash_test, clash_cut, clash_pair, check_pair}
 use Rattle.un_rect.specs.Orders.{order_cut, order_pair, order_steps, comes_first}
 
 same_both : (m n : ℕ) → nat_eq m n ≡ nat_eq n m
@@ -137,11 +138,6 @@ module _ (vs : List VarId) (f : Sets → Option Sets) (old new : Contents) (did 
       by None p = absurd (cc (sym e ∙ p.0))
       by (Some left) p = p.sets ∙ subst (λ (d : Pruned). Answers d old.sets left) e p.answers
 
-  -- after others
-  pub joined_steps : (before after : Pruned) → before ≢ Failed → after ≡ join before did → Stepped vs f old new before after
-  joined_steps before after other is = stepped_then vs f old new before did after other is h.long
-      (λ full. (let p = h.goes (Some old.sets) old (starts vs old full) in (p.ends, p.untouched)))
-
 -- the place of a list, whatever stands for one past its end
 pub some_temp : Temp
 some_temp = record { on = Always; at = Const 0; reg = record { 0 = 0 }; users = [] }
@@ -177,3 +173,12 @@ module _ (vs us : List VarId) (temps : List Temp) (a b : Temp) (xs : List Extent
   pub order_spared : AreSpared may_order xs did i j → order_pair a b mid.sets ≡ Some mid.sets
   order_spared spared = subst (λ (s : Sets). order_pair a b s ≡ Some s) (sym (same_sets vs f old mid did h full spared.same))
       (no_order a b old.sets (noted may_order spared))
+
+  negated : (c : Bool) → not c ≡ false → c ≡ true
+  negated true e = refl
+  negated false e = absurd (cc e)
+
+  pub check_spared : Ascend vs → AreSpared may_check xs did i j → check_pair us a b mid.sets ≡ Some mid.sets
+  check_spared ascend spared = subst (λ (ws : List VarId). check_pair ws a b mid.sets ≡ Some mid.sets) (sym e)
+      (subst (λ (s : Sets). check_pair vs a b s ≡ Some s) (sym (same_sets vs f old mid did h full spared.same))
+      (check_none vs a b ascend of_first of_second old.sets k full (negated _ (noted may_check spared))))

@@ -17,8 +17,3 @@ pub tighter : (p : Pruned) → true ≡ sameb the_type p Tighter → p ≢ Faile
 tighter Same e = absurd (cc e)
 tighter Tighter e = λ q. cc q
 tighter Failed e = absurd (cc e)
-
-pub not_tighter : (p : Pruned) → false ≡ sameb the_type p Tighter → p ≢ Failed → p ≡ Same
-not_tighter Same e other = refl
-not_tighter Tighter e other = absurd (cc e)
-not_tighter Failed e other = absurd (other refl)

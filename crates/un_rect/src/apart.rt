@@ -80,7 +80,7 @@ impl Propagator for Apart {
         note(w, temps, &mut extents);
         let first = clashes::keep_all(w, Pruned::Same, temps, &mut extents);
         let second = orders::keep_all(w, first, temps, &mut extents);
-        check_all(w, second, temps, scratch.fixed.as_mut_slice())
+        check_all(w, second, temps, &mut extents, scratch.fixed.as_mut_slice())
     }
 
     ghost keeps = { λ p s x k full there holds. apart_keeps p.vars p.ascend p.temps p.among s x k there holds };

@@ -1,6 +1,6 @@
 //! Checks of two temporaries of which one variable is left to decide: it keeps the values that meet their part.
 
-ghost use Rattle.std.specs.Prelude.{◌≡◌, ◌≢◌, ◌≤◌, ◌<◌, ℕ, All, ◌||◌, length, true, slice_index};
+ghost use Rattle.std.specs.Prelude.{◌≡◌, ◌≢◌, ◌≤◌, ◌<◌, ℕ, All, Some, length, true, slice_index, slice_index_or};
 ghost use Rattle.un_domains.specs.Sets.{NoneEmpty};
 ghost use Rattle.un_prop.specs.Among.{among};
 ghost use Rattle.un_prop.specs.Acts.{act_vars};
@@ -9,11 +9,11 @@ ghost use Rattle.un_prop.specs.LastLaws.{Ascend};
 ghost use Rattle.un_prop.specs.Rounds.{HasVars};
 ghost use Rattle.un_prop.specs.declared.propagator.Pruned.TheVariants.{Same, Failed};
 ghost use Rattle.un_rect.specs.Spans.{TempVars};
-ghost use Rattle.un_rect.specs.Apart.{shares, pair_holds, temp_vars, check_pair, check_row, checks_cut};
+ghost use Rattle.un_rect.specs.Apart.{shares, pair_holds, check_pair, check_row, checks_cut};
 ghost use Rattle.un_rect.specs.Checks.{is_off, differ, surely_apart, Written, decide_cut, try_cut, IsUndecided};
-ghost use Rattle.un_rect.specs.Opened.{opened_after, is_more};
-ghost use Rattle.un_rect.specs.declared.opened.Opened.TheVariants.{Nothing};
+ghost use Rattle.un_rect.specs.Extents.{is_idle, AreExtents};
 
+use crate::extents::{Extent, cannot_check, note_again};
 use crate::opened::{Opened, is_more, with_temp};
 use crate::spans::end;
 use un_base::ids::VarId;
@@ -220,11 +220,11 @@ fn check(w: &mut Window<'_>, before: Pruned, a: &Temp, b: &Temp, fixed: &mut [u3
 }
 
 /// Whether there is nothing to check of a temporary with any other: it is off, or more than one variable is open.
-fn is_idle(w: &Window<'_>, b: &Temp) -> bool
+pub(crate) fn is_idle(w: &Window<'_>, b: &Temp) -> bool
     requires of_b { TempVars w.now.vars.now b.now }
     requires known { HasVars w.now.vars.now w.now.store.now.sets }
     requires live { NoneEmpty w.now.store.now.sets }
-    ensures { result ≡ (is_off b.now.on w.now.store.now.sets || is_more (opened_after w.now.store.now.sets (temp_vars b.now) Nothing)) }
+    ensures { result ≡ is_idle b.now w.now.store.now.sets }
 {
     if is_off(w, b.on) {
         return true;
@@ -232,46 +232,106 @@ fn is_idle(w: &Window<'_>, b: &Temp) -> bool
     is_more(with_temp(w, Opened::Nothing, b))
 }
 
-/// Of `b` with each of the first `n` temporaries.
-fn check_row(
+/// The same, unless what was noted of them says that there is nothing to check.
+fn check_noted(
     w: &mut Window<'_>,
     before: Pruned,
-    temps: &[Temp],
+    a: &Temp,
     b: &Temp,
-    n: usize,
+    passed: bool,
     fixed: &mut [u32],
 ) -> Pruned
-    requires few { n ≤ length temps.now }
     requires ascend { Ascend w.old.vars.now }
-    requires of_temps { All (TempVars w.old.vars.now) temps.now }
+    requires of_a { TempVars w.old.vars.now a.now }
     requires of_b { TempVars w.old.vars.now b.now }
     requires known { HasVars w.old.vars.now w.old.store.now.sets }
     requires live { before ≢ Failed → NoneEmpty w.old.store.now.sets }
     requires room { length w.old.store.now.sets ≤ length fixed.old }
     requires written { before ≢ Failed → Written w.old.vars.now w.old.store.now.sets fixed.old }
-    ensures step { Stepped w.old.vars.now (check_row w.old.vars.now temps.now b.now n) w.old.store.now w.new.store.now before result }
+    requires passed { passed ≡ true → check_pair w.old.vars.now a.now b.now w.old.store.now.sets ≡ Some w.old.store.now.sets }
+    ensures step { Stepped w.old.vars.now (check_pair w.old.vars.now a.now b.now) w.old.store.now w.new.store.now before result }
     ensures written { result ≢ Failed → Written w.old.vars.now w.new.store.now.sets fixed.new }
+    ensures same_reference { w.new.store.ghost_name ≡ w.old.store.ghost_name }
+    ensures vars { w.new.vars ≡ w.old.vars }
+{
+    if passed {
+        return before;
+    }
+    check(w, before, a, b, fixed)
+}
+
+/// Of the temporary at place `j` with each one before it.
+fn check_row(
+    w: &mut Window<'_>,
+    temps: &[Temp],
+    extents: &[Extent],
+    j: usize,
+    fixed: &mut [u32],
+) -> Pruned
+    requires there { j < length temps.now }
+    requires ascend { Ascend w.old.vars.now }
+    requires of_temps { All (TempVars w.old.vars.now) temps.now }
+    requires known { HasVars w.old.vars.now w.old.store.now.sets }
+    requires live { NoneEmpty w.old.store.now.sets }
+    requires room { length w.old.store.now.sets ≤ length fixed.old }
+    requires written { Written w.old.vars.now w.old.store.now.sets fixed.old }
+    requires are { AreExtents temps.now w.old.store.now.sets extents.now }
+    ensures step { (b : Temp) → Stepped w.old.vars.now (check_row w.old.vars.now temps.now (slice_index_or temps.now j b) j)
+        w.old.store.now w.new.store.now Same result }
+    ensures written { result ≢ Failed → Written w.old.vars.now w.new.store.now.sets fixed.new }
+    ensures same_reference { w.new.store.ghost_name ≡ w.old.store.ghost_name }
+    ensures vars { w.new.vars ≡ w.old.vars }
+{
+    let b = &temps[j];
+    if is_idle(w, b) {
+        return Pruned::Same;
+    }
+    let mut did = Pruned::Same;
+    for i in 0..j {
+        let passed = cannot_check(extents, did, i, j);
+        did = check_noted(w, did, &temps[i], b, passed, fixed);
+    }
+    did
+}
+
+/// The same, after other rows. Where it changes something, all is noted again.
+fn check_next(
+    w: &mut Window<'_>,
+    before: Pruned,
+    temps: &[Temp],
+    extents: &mut [Extent],
+    j: usize,
+    fixed: &mut [u32],
+) -> Pruned
+    requires there { j < length temps.now }
+    requires ascend { Ascend w.old.vars.now }
+    requires of_temps { All (TempVars w.old.vars.now) temps.now }
+    requires known { HasVars w.old.vars.now w.old.store.now.sets }
+    requires live { before ≢ Failed → NoneEmpty w.old.store.now.sets }
+    requires room { length w.old.store.now.sets ≤ length fixed.old }
+    requires written { before ≢ Failed → Written w.old.vars.now w.old.store.now.sets fixed.old }
+    requires are { before ≢ Failed → AreExtents temps.now w.old.store.now.sets extents.old }
+    ensures step { (b : Temp) → Stepped w.old.vars.now (check_row w.old.vars.now temps.now (slice_index_or temps.now j b) j)
+        w.old.store.now w.new.store.now before result }
+    ensures written { result ≢ Failed → Written w.old.vars.now w.new.store.now.sets fixed.new }
+    ensures are { result ≢ Failed → AreExtents temps.now w.new.store.now.sets extents.new }
     ensures same_reference { w.new.store.ghost_name ≡ w.old.store.ghost_name }
     ensures vars { w.new.vars ≡ w.old.vars }
 {
     if before == Pruned::Failed {
         return before;
     }
-    if is_idle(w, b) {
-        return before;
-    }
-    let mut did = before;
-    for i in 0..n {
-        did = check(w, did, &temps[i], b, fixed);
-    }
-    did
+    let did = check_row(w, temps, extents, j, fixed);
+    note_again(w, did, temps, extents);
+    joined(before, did)
 }
 
-/// Of each two temporaries.
+/// Of each two temporaries, of which the extents were noted.
 pub(crate) fn check_all(
     w: &mut Window<'_>,
     before: Pruned,
     temps: &[Temp],
+    extents: &mut [Extent],
     fixed: &mut [u32],
 ) -> Pruned
     requires ascend { Ascend w.old.vars.now }
@@ -279,6 +339,7 @@ pub(crate) fn check_all(
     requires known { HasVars w.old.vars.now w.old.store.now.sets }
     requires live { before ≢ Failed → NoneEmpty w.old.store.now.sets }
     requires room { length w.old.store.now.sets ≤ length fixed.old }
+    requires are { before ≢ Failed → AreExtents temps.now w.old.store.now.sets extents.old }
     ensures step { Stepped w.old.vars.now (checks_cut w.old.vars.now temps.now) w.old.store.now w.new.store.now before result }
     ensures same_reference { w.new.store.ghost_name ≡ w.old.store.ghost_name }
     ensures vars { w.new.vars ≡ w.old.vars }
@@ -290,7 +351,7 @@ pub(crate) fn check_all(
     fill(vars, w, fixed);
     let mut did = before;
     for j in 0..temps.len() {
-        did = check_row(w, did, temps, &temps[j], j, fixed);
+        did = check_next(w, did, temps, extents, j, fixed);
     }
     did
 }

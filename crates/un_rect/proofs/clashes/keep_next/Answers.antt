@@ -7,7 +7,8 @@ use Rattle.un_rect.specs.Spans.{TempVars}
 use Rattle.un_rect.specs.Apart.{clash_pair}
 use Rattle.un_rect.specs.Pairs.{each_before}
 use Rattle.std.proofs.Common.{get_or}
-use Rattle.un_rect.proofs.ExtentLaws.{same_sets, joined_steps, some_temp}
+use Rattle.un_rect.proofs.ExtentLaws.{same_sets, some_temp}
+use Rattle.un_rect.proofs.CheckSteps.{step_after}
 use Rattle.un_rect.specs.Extents.{AreExtents}
 use Rattle.un_domains.specs.Sets.{Sets}
 use Rattle.un_rect.proofs.Going.{going}
@@ -39,9 +40,9 @@ note_again-requires-clause-are c = λ e.
 pub returns-clause-step : goal.returns-clause-step
 returns-clause-step c = λ b.
     (let temps = c.args.temps.now in
-    joined_steps c.args.w.now.vars.now (each_before clash_pair temps (get_or temps c.args.j b) c.args.j) c.args.w.now.store.now
-    c.keep_row-did.new.w.store.now c.keep_row-did.result (c.keep_row-did.ensures.step b) c.args.before c.joined.result
-    (going c.args.before c.if-eq.ensures) c.joined.ensures)
+    step_after c.args.w.now.vars.now (each_before clash_pair temps (get_or temps c.args.j b) c.args.j) c.args.w.now.store.now
+    c.keep_row-did.new.w.store.now c.args.before c.keep_row-did.result c.joined.result
+    (going c.args.before c.if-eq.ensures) c.joined.ensures (c.keep_row-did.ensures.step b))
 
 pub returns-clause-are : goal.returns-clause-are
 returns-clause-are c = λ still. c.note_again.ensures (λ e. still (c.joined.ensures ∙ (ap (join c.args.before) e

@@ -1,4 +1,4 @@
-use Rattle.un_rect.proofs.Going.{tighter, not_tighter}
+use Rattle.un_rect.proofs.Going.{tighter}
 use Rattle.un_rect.proofs.extents.note_again.Goals as goal
 
 pub note-requires-clause-live : goal.note-requires-clause-live
