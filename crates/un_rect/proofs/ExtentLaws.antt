@@ -22,7 +22,8 @@ use Rattle.un_prop.specs.LastLaws.{Ascend, cut_all}
 use Rattle.un_rect.proofs.CheckSteps.{check_none}
 use Rattle.un_prop.specs.Looks.{sure}
 use Rattle.un_prop.specs.declared.act.Temp.{Temp}
-use Rattle.un_rect.specs.Extents.{extent_of, may_clash, may_order, may_check, AreExtents, AreSpared}
+use Rattle.un_rect.specs.Extents.{extent_of, left_of, may_clash, may_order, may_check, AreNoted, AreExtents, AreLeft, AreSpared}
+use Rattle.un_rect.specs.declared.left.Left.{Left}
 use Rattle.un_rect.specs.declared.extents.Extent.{Extent}
 use Rattle.un_rect.specs.Spans.{greatest_start, is_only, least_end, TempVars}
 use Rattle.un_rect.specs.Apart.{overlap, clash_test, clash_cut, clash_pair, check_pair}
@@ -146,39 +147,50 @@ pub at_place_is : (temps : List Temp) (j : ℕ) (a b : Temp) → j < length temp
 at_place_is temps j a b lt is = get_or_default temps j b a lt ∙ sym is
 
 -- of what was noted at the start
-module _ (vs us : List VarId) (temps : List Temp) (a b : Temp) (xs : List Extent) (i j : ℕ) (e : us ≡ vs) (is_a : a ≡ get_or temps i a)
-    (is_b : b ≡ get_or temps j b) (lt_a : i < length temps) (lt_b : j < length temps) (all : All (TempVars vs) temps) (old mid : Contents)
-    (k : HasVars vs old.sets) (full : NoneEmpty old.sets) (are : AreExtents temps old.sets xs) (f : Sets → Option Sets) (did : Pruned)
-    (h : Stepped vs f old mid Same did) where
-  noted : (may : Extent → Extent → Bool) → AreSpared may xs did i j → may (extent_of a old.sets) (extent_of b old.sets) ≡ false
+module _ (A : Type 0) (of : Temp → Sets → A) (temps : List Temp) (a b : Temp) (xs : List A) (i j : ℕ) (is_a : a ≡ get_or temps i a)
+    (is_b : b ≡ get_or temps j b) (lt_a : i < length temps) (lt_b : j < length temps) (s : Sets) (are : AreNoted A of temps s xs)
+    (did : Pruned) where
+  noted : (may : A → A → Bool) → AreSpared may xs did i j → may (of a s) (of b s) ≡ false
   noted may spared =
-      let first : get_or xs i (extent_of a old.sets) ≡ extent_of a old.sets = are i a (extent_of a old.sets) lt_a spared.first
-      ∙ ap (λ (t : Temp). extent_of t old.sets) (sym is_a) in
-      let second' : get_or xs j (extent_of b old.sets) ≡ extent_of b old.sets = are j b (extent_of b old.sets) lt_b spared.second
-      ∙ ap (λ (t : Temp). extent_of t old.sets) (sym is_b) in
-      subst (λ (x : Extent). may x (extent_of b old.sets) ≡ false) first
-      (subst (λ (y : Extent). may (get_or xs i (extent_of a old.sets)) y ≡ false) second'
-      (spared.none (extent_of a old.sets) (extent_of b old.sets)))
+      let first : get_or xs i (of a s) ≡ of a s = are i a (of a s) lt_a spared.first ∙ ap (λ (t : Temp). of t s) (sym is_a) in
+      let second' : get_or xs j (of b s) ≡ of b s = are j b (of b s) lt_b spared.second ∙ ap (λ (t : Temp). of t s) (sym is_b) in
+      subst (λ (x : A). may x (of b s) ≡ false) first
+      (subst (λ (y : A). may (get_or xs i (of a s)) y ≡ false) second' (spared.none (of a s) (of b s)))
 
-  of_first : TempVars vs a
-  of_first = subst (λ (t : Temp). TempVars vs t) (sym is_a) (all i a lt_a)
+negated : (c : Bool) → not c ≡ false → c ≡ true
+negated true e = refl
+negated false e = absurd (cc e)
 
-  of_second : TempVars vs b
-  of_second = subst (λ (t : Temp). TempVars vs t) (sym is_b) (all j b lt_b)
+module _ (vs us : List VarId) (temps : List Temp) (a b : Temp) where
+  of_place : (i : ℕ) → a ≡ get_or temps i a → i < length temps → All (TempVars vs) temps → TempVars vs a
+  of_place i is lt all = subst (λ (t : Temp). TempVars vs t) (sym is) (all i a lt)
 
-  pub clash_spared : AreSpared may_clash xs did i j → clash_pair a b mid.sets ≡ Some mid.sets
-  clash_spared spared = subst (λ (s : Sets). clash_pair a b s ≡ Some s) (sym (same_sets vs f old mid did h full spared.same))
-      (no_clash a b old.sets vs of_first of_second k full (noted may_clash spared))
+  other_place : (j : ℕ) → b ≡ get_or temps j b → j < length temps → All (TempVars vs) temps → TempVars vs b
+  other_place j is lt all = subst (λ (t : Temp). TempVars vs t) (sym is) (all j b lt)
 
-  pub order_spared : AreSpared may_order xs did i j → order_pair a b mid.sets ≡ Some mid.sets
-  order_spared spared = subst (λ (s : Sets). order_pair a b s ≡ Some s) (sym (same_sets vs f old mid did h full spared.same))
-      (no_order a b old.sets (noted may_order spared))
+  pub clash_spared : (xs : List Extent) (i j : ℕ) → us ≡ vs → a ≡ get_or temps i a → b ≡ get_or temps j b → i < length temps
+      → j < length temps → All (TempVars vs) temps → (old mid : Contents) → HasVars vs old.sets → NoneEmpty old.sets
+      → AreExtents temps old.sets xs → (f : Sets → Option Sets) (did : Pruned) → Stepped vs f old mid Same did
+      → AreSpared may_clash xs did i j → clash_pair a b mid.sets ≡ Some mid.sets
+  clash_spared xs i j e is_a is_b lt_a lt_b all old mid k full are f did h spared =
+      subst (λ (s : Sets). clash_pair a b s ≡ Some s) (sym (same_sets vs f old mid did h full spared.same))
+      (no_clash a b old.sets vs (of_place i is_a lt_a all) (other_place j is_b lt_b all) k full
+      (noted Extent extent_of temps a b xs i j is_a is_b lt_a lt_b old.sets are did may_clash spared))
 
-  negated : (c : Bool) → not c ≡ false → c ≡ true
-  negated true e = refl
-  negated false e = absurd (cc e)
+  pub order_spared : (xs : List Extent) (i j : ℕ) → us ≡ vs → a ≡ get_or temps i a → b ≡ get_or temps j b → i < length temps
+      → j < length temps → All (TempVars vs) temps → (old mid : Contents) → HasVars vs old.sets → NoneEmpty old.sets
+      → AreExtents temps old.sets xs → (f : Sets → Option Sets) (did : Pruned) → Stepped vs f old mid Same did
+      → AreSpared may_order xs did i j → order_pair a b mid.sets ≡ Some mid.sets
+  order_spared xs i j e is_a is_b lt_a lt_b all old mid k full are f did h spared =
+      subst (λ (s : Sets). order_pair a b s ≡ Some s) (sym (same_sets vs f old mid did h full spared.same))
+      (no_order a b old.sets (noted Extent extent_of temps a b xs i j is_a is_b lt_a lt_b old.sets are did may_order spared))
 
-  pub check_spared : Ascend vs → AreSpared may_check xs did i j → check_pair us a b mid.sets ≡ Some mid.sets
-  check_spared ascend spared = subst (λ (ws : List VarId). check_pair ws a b mid.sets ≡ Some mid.sets) (sym e)
+  pub check_spared : (xs : List Left) (i j : ℕ) → us ≡ vs → a ≡ get_or temps i a → b ≡ get_or temps j b → i < length temps
+      → j < length temps → All (TempVars vs) temps → (old mid : Contents) → HasVars vs old.sets → NoneEmpty old.sets
+      → AreLeft temps old.sets xs → (f : Sets → Option Sets) (did : Pruned) → Stepped vs f old mid Same did → Ascend vs
+      → AreSpared may_check xs did i j → check_pair us a b mid.sets ≡ Some mid.sets
+  check_spared xs i j e is_a is_b lt_a lt_b all old mid k full are f did h ascend spared =
+      subst (λ (ws : List VarId). check_pair ws a b mid.sets ≡ Some mid.sets) (sym e)
       (subst (λ (s : Sets). check_pair vs a b s ≡ Some s) (sym (same_sets vs f old mid did h full spared.same))
-      (check_none vs a b ascend of_first of_second old.sets k full (negated _ (noted may_check spared))))
+      (check_none vs a b ascend (of_place i is_a lt_a all) (other_place j is_b lt_b all) old.sets k full
+      (negated _ (noted Left left_of temps a b xs i j is_a is_b lt_a lt_b old.sets are did may_check spared))))

@@ -11,12 +11,13 @@ use Rattle.un_rect.specs.Opened.{opened_after, is_more}
 use Rattle.un_rect.specs.declared.opened.Opened.TheVariants.{Nothing}
 use Rattle.un_rect.specs.Spans.{greatest_start, least_end}
 use Rattle.un_rect.specs.declared.extents.Extent.{Extent}
+use Rattle.un_rect.specs.declared.left.Left.{Left}
 
 -- it is off, or more than one of its variables are open
 abbrev pub is_idle : Temp → Sets → Bool
 is_idle a s = is_off a.on s || is_more (opened_after s (temp_vars a) Nothing)
 
--- the greatest start, the least end or 0 where it is not sure, the register, and whether there is nothing to check
+-- the greatest start, the least end or 0 where it is not sure, and the register
 abbrev pub extent_of : Temp → Sets → Extent
 extent_of a s = record {
   start = greatest_start a s;
@@ -24,13 +25,26 @@ extent_of a s = record {
   end = cond (sure a.on s) (least_end a s) 0;
   sure = sure a.on s;
   one = nat_eq (length (set_at s a.reg.0)) 1;
+}
+
+-- what is left to decide: nothing to check with any other, and the register
+abbrev pub left_of : Temp → Sets → Left
+left_of a s = record {
+  reg = least (set_at s a.reg.0);
+  one = nat_eq (length (set_at s a.reg.0)) 1;
   idle = is_idle a s;
 }
 
--- the extents that are noted are those of the temporaries
+-- what is noted of the temporaries
+abbrev pub AreNoted : (A : Type 0) → (Temp → Sets → A) → List Temp → Sets → List A → Type 0
+AreNoted A of temps s xs = (i : ℕ) (a : Temp) (x : A) → i < length temps → i < length xs
+    → slice_index_or xs i x ≡ of (slice_index_or temps i a) s
+
 abbrev pub AreExtents : List Temp → Sets → List Extent → Type 0
-AreExtents temps s extents = (i : ℕ) (a : Temp) (x : Extent) → i < length temps → i < length extents
-    → slice_index_or extents i x ≡ extent_of (slice_index_or temps i a) s
+AreExtents temps s extents = AreNoted Extent extent_of temps s extents
+
+abbrev pub AreLeft : List Temp → Sets → List Left → Type 0
+AreLeft temps s left = AreNoted Left left_of temps s left
 
 -- both are sure and overlap, one has one register left, and not both have other ones
 abbrev pub may_clash : Extent → Extent → Bool
@@ -41,12 +55,12 @@ abbrev pub may_order : Extent → Extent → Bool
 may_order x y = x.sure && (y.sure && (x.one && (y.one && nat_eq x.reg y.reg)))
 
 -- neither is idle, and their registers may be one
-abbrev pub may_check : Extent → Extent → Bool
+abbrev pub may_check : Left → Left → Bool
 may_check x y = not (x.idle || (y.idle || (x.one && (y.one && not (nat_eq x.reg y.reg)))))
 
--- nothing changed since, and by their extents the temporaries at two places may not do something
-pub record AreSpared (may : Extent → Extent → Bool) (extents : List Extent) (did : Pruned) (i j : ℕ) : Type 0 where
+-- nothing changed since, and by what was noted the temporaries at two places may not do something
+pub record AreSpared {A : Type 0} (may : A → A → Bool) (xs : List A) (did : Pruned) (i j : ℕ) : Type 0 where
   pub same : did ≡ Same
-  pub first : i < length extents
-  pub second : j < length extents
-  pub none : (x y : Extent) → may (slice_index_or extents i x) (slice_index_or extents j y) ≡ false
+  pub first : i < length xs
+  pub second : j < length xs
+  pub none : (x y : A) → may (slice_index_or xs i x) (slice_index_or xs j y) ≡ false

@@ -7,6 +7,7 @@ ghost use Rattle.un_rect.specs.Apart.{pair_holds, ApartVars};
 
 use crate::checks::{are_apart, check_all};
 use crate::extents::{NOTED, no_extent, note};
+use crate::left::nothing_left;
 use crate::{clashes, orders};
 use un_base::ids::VarId;
 use un_domains::window::Window;
@@ -80,7 +81,8 @@ impl Propagator for Apart {
         note(w, temps, &mut extents);
         let first = clashes::keep_all(w, Pruned::Same, temps, &mut extents);
         let second = orders::keep_all(w, first, temps, &mut extents);
-        check_all(w, second, temps, &mut extents, scratch.fixed.as_mut_slice())
+        let mut left = [nothing_left(); NOTED];
+        check_all(w, second, temps, &mut left, scratch.fixed.as_mut_slice())
     }
 
     ghost keeps = { λ p s x k full there holds. apart_keeps p.vars p.ascend p.temps p.among s x k there holds };

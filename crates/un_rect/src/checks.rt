@@ -11,9 +11,9 @@ ghost use Rattle.un_prop.specs.declared.propagator.Pruned.TheVariants.{Same, Fai
 ghost use Rattle.un_rect.specs.Spans.{TempVars};
 ghost use Rattle.un_rect.specs.Apart.{shares, pair_holds, check_pair, check_row, checks_cut};
 ghost use Rattle.un_rect.specs.Checks.{is_off, differ, surely_apart, Written, decide_cut, try_cut, IsUndecided};
-ghost use Rattle.un_rect.specs.Extents.{is_idle, AreExtents};
+ghost use Rattle.un_rect.specs.Extents.{is_idle, AreLeft};
 
-use crate::extents::{Extent, cannot_check, note_again};
+use crate::left::{Left, cannot_check, is_done, left_again, note_left};
 use crate::opened::{Opened, is_more, with_temp};
 use crate::spans::end;
 use un_base::ids::VarId;
@@ -264,7 +264,7 @@ fn check_noted(
 fn check_row(
     w: &mut Window<'_>,
     temps: &[Temp],
-    extents: &[Extent],
+    left: &[Left],
     j: usize,
     fixed: &mut [u32],
 ) -> Pruned
@@ -275,20 +275,20 @@ fn check_row(
     requires live { NoneEmpty w.old.store.now.sets }
     requires room { length w.old.store.now.sets ≤ length fixed.old }
     requires written { Written w.old.vars.now w.old.store.now.sets fixed.old }
-    requires are { AreExtents temps.now w.old.store.now.sets extents.now }
+    requires are { AreLeft temps.now w.old.store.now.sets left.now }
     ensures step { (b : Temp) → Stepped w.old.vars.now (check_row w.old.vars.now temps.now (slice_index_or temps.now j b) j)
         w.old.store.now w.new.store.now Same result }
     ensures written { result ≢ Failed → Written w.old.vars.now w.new.store.now.sets fixed.new }
     ensures same_reference { w.new.store.ghost_name ≡ w.old.store.ghost_name }
     ensures vars { w.new.vars ≡ w.old.vars }
 {
-    let b = &temps[j];
-    if is_idle(w, b) {
+    if is_done(w, temps, left, j) {
         return Pruned::Same;
     }
+    let b = &temps[j];
     let mut did = Pruned::Same;
     for i in 0..j {
-        let passed = cannot_check(extents, did, i, j);
+        let passed = cannot_check(left, did, i, j);
         did = check_noted(w, did, &temps[i], b, passed, fixed);
     }
     did
@@ -299,7 +299,7 @@ fn check_next(
     w: &mut Window<'_>,
     before: Pruned,
     temps: &[Temp],
-    extents: &mut [Extent],
+    left: &mut [Left],
     j: usize,
     fixed: &mut [u32],
 ) -> Pruned
@@ -310,28 +310,28 @@ fn check_next(
     requires live { before ≢ Failed → NoneEmpty w.old.store.now.sets }
     requires room { length w.old.store.now.sets ≤ length fixed.old }
     requires written { before ≢ Failed → Written w.old.vars.now w.old.store.now.sets fixed.old }
-    requires are { before ≢ Failed → AreExtents temps.now w.old.store.now.sets extents.old }
+    requires are { before ≢ Failed → AreLeft temps.now w.old.store.now.sets left.old }
     ensures step { (b : Temp) → Stepped w.old.vars.now (check_row w.old.vars.now temps.now (slice_index_or temps.now j b) j)
         w.old.store.now w.new.store.now before result }
     ensures written { result ≢ Failed → Written w.old.vars.now w.new.store.now.sets fixed.new }
-    ensures are { result ≢ Failed → AreExtents temps.now w.new.store.now.sets extents.new }
+    ensures are { result ≢ Failed → AreLeft temps.now w.new.store.now.sets left.new }
     ensures same_reference { w.new.store.ghost_name ≡ w.old.store.ghost_name }
     ensures vars { w.new.vars ≡ w.old.vars }
 {
     if before == Pruned::Failed {
         return before;
     }
-    let did = check_row(w, temps, extents, j, fixed);
-    note_again(w, did, temps, extents);
+    let did = check_row(w, temps, left, j, fixed);
+    left_again(w, did, temps, left);
     joined(before, did)
 }
 
-/// Of each two temporaries, of which the extents were noted.
+/// Of each two temporaries.
 pub(crate) fn check_all(
     w: &mut Window<'_>,
     before: Pruned,
     temps: &[Temp],
-    extents: &mut [Extent],
+    left: &mut [Left],
     fixed: &mut [u32],
 ) -> Pruned
     requires ascend { Ascend w.old.vars.now }
@@ -339,7 +339,6 @@ pub(crate) fn check_all(
     requires known { HasVars w.old.vars.now w.old.store.now.sets }
     requires live { before ≢ Failed → NoneEmpty w.old.store.now.sets }
     requires room { length w.old.store.now.sets ≤ length fixed.old }
-    requires are { before ≢ Failed → AreExtents temps.now w.old.store.now.sets extents.old }
     ensures step { Stepped w.old.vars.now (checks_cut w.old.vars.now temps.now) w.old.store.now w.new.store.now before result }
     ensures same_reference { w.new.store.ghost_name ≡ w.old.store.ghost_name }
     ensures vars { w.new.vars ≡ w.old.vars }
@@ -349,9 +348,10 @@ pub(crate) fn check_all(
     }
     let vars = w.vars;
     fill(vars, w, fixed);
+    note_left(w, temps, left);
     let mut did = before;
     for j in 0..temps.len() {
-        did = check_next(w, did, temps, extents, j, fixed);
+        did = check_next(w, did, temps, left, j, fixed);
     }
     did
 }

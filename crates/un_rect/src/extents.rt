@@ -5,10 +5,9 @@ ghost use Rattle.un_domains.specs.Sets.{NoneEmpty};
 ghost use Rattle.un_prop.specs.Looks.{sure};
 ghost use Rattle.un_prop.specs.Rounds.{HasVars};
 ghost use Rattle.un_prop.specs.declared.propagator.Pruned.TheVariants.{Same, Failed};
-ghost use Rattle.un_rect.specs.Extents.{extent_of, may_clash, may_order, may_check, AreExtents, AreSpared};
+ghost use Rattle.un_rect.specs.Extents.{extent_of, may_clash, may_order, AreExtents, AreSpared};
 ghost use Rattle.un_rect.specs.Spans.{TempVars, least_end};
 
-use crate::checks::is_idle;
 use crate::spans::least_end;
 use un_domains::window::Window;
 use un_prop::act::Temp;
@@ -18,8 +17,8 @@ use un_prop::propagator::Pruned;
 /// How many temporaries of a block are noted at most; those after them are looked at without a note.
 pub(crate) const NOTED: usize = 512;
 
-/// The greatest start of a temporary, its least end or 0 where it is not sure, whether it is sure, whether one register is left, the
-/// least that is, and whether there is nothing to check of it with any other.
+/// The greatest start of a temporary, its least end or 0 where it is not sure, whether it is sure, whether one register is left, and
+/// the least that is.
 #[derive(Clone, Copy)]
 pub(crate) struct Extent {
     pub start: u32,
@@ -27,7 +26,6 @@ pub(crate) struct Extent {
     pub end: u64,
     pub sure: bool,
     pub one: bool,
-    pub idle: bool,
 }
 
 /// What is written of a temporary before it is noted.
@@ -38,7 +36,6 @@ pub(crate) fn no_extent() -> Extent {
         end: 0,
         sure: false,
         one: false,
-        idle: false,
     }
 }
 
@@ -64,14 +61,12 @@ fn extent_of(w: &Window<'_>, a: &Temp) -> Extent
     let end = sure_end(w, a);
     let sure = is_sure(w, a.on);
     let one = w.is_single(a.reg);
-    let idle = is_idle(w, a);
     Extent {
         start,
         reg,
         end,
         sure,
         one,
-        idle,
     }
 }
 
@@ -124,20 +119,6 @@ fn may_order(x: Extent, y: Extent) -> bool
     x.sure && y.sure && x.one && y.one && x.reg == y.reg
 }
 
-/// Whether there may be something to check of two temporaries of these extents: neither has too many variables that are open, and their
-/// registers may be one.
-fn may_check(x: Extent, y: Extent) -> bool
-    ensures { result ≡ may_check x y }
-{
-    if x.idle {
-        return false;
-    }
-    if y.idle {
-        return false;
-    }
-    !(x.one && y.one && x.reg != y.reg)
-}
-
 /// Whether what was noted of two temporaries, while nothing changed, says that they do not clash.
 pub(crate) fn cannot_clash(extents: &[Extent], did: Pruned, i: usize, j: usize) -> bool
     ensures { result ≡ true → AreSpared may_clash extents.now did i j }
@@ -168,20 +149,4 @@ pub(crate) fn cannot_order(extents: &[Extent], did: Pruned, i: usize, j: usize) 
         return false;
     }
     !may_order(extents[i], extents[j])
-}
-
-/// Whether what was noted of two temporaries, while nothing changed, says that there is nothing to check.
-pub(crate) fn cannot_check(extents: &[Extent], did: Pruned, i: usize, j: usize) -> bool
-    ensures { result ≡ true → AreSpared may_check extents.now did i j }
-{
-    if did != Pruned::Same {
-        return false;
-    }
-    if i >= extents.len() {
-        return false;
-    }
-    if j >= extents.len() {
-        return false;
-    }
-    !may_check(extents[i], extents[j])
 }

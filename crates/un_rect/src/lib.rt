@@ -6,6 +6,7 @@ mod checks;
 mod clashes;
 pub mod clobber;
 mod extents;
+mod left;
 mod opened;
 mod operand;
 pub mod operands;

@@ -9,30 +9,30 @@ use Rattle.un_rect.specs.Pairs.{each_before}
 use Rattle.std.proofs.Common.{get_or}
 use Rattle.un_rect.proofs.ExtentLaws.{same_sets, some_temp}
 use Rattle.un_rect.proofs.CheckSteps.{step_after}
-use Rattle.un_rect.specs.Extents.{AreExtents}
+use Rattle.un_rect.specs.Extents.{AreLeft}
 use Rattle.un_domains.specs.Sets.{Sets}
 use Rattle.un_rect.proofs.Going.{going}
 use Rattle.un_rect.proofs.Rows.{same_known}
 use Rattle.un_rect.proofs.checks.check_next.Goals as goal
 
-pub note_again-requires-clause-of_temps : goal.note_again-requires-clause-of_temps
-note_again-requires-clause-of_temps c = subst (λ (us : List VarId). All (TempVars us) c.args.temps.now)
+pub left_again-requires-clause-of_temps : goal.left_again-requires-clause-of_temps
+left_again-requires-clause-of_temps c = subst (λ (us : List VarId). All (TempVars us) c.args.temps.now)
     (sym (ap (λ r. r.now) c.check_row-did.ensures.vars)) c.requires.of_temps
 
-pub note_again-requires-clause-known : goal.note_again-requires-clause-known
-note_again-requires-clause-known c = same_known c.args.w.now.vars.now c.check_row-did.new.w.vars.now c.args.w.now.store.now.sets
+pub left_again-requires-clause-known : goal.left_again-requires-clause-known
+left_again-requires-clause-known c = same_known c.args.w.now.vars.now c.check_row-did.new.w.vars.now c.args.w.now.store.now.sets
     c.check_row-did.new.w.store.now.sets (ap (λ r. r.now) c.check_row-did.ensures.vars) (c.check_row-did.ensures.step some_temp).long
     c.requires.known
 
-pub note_again-requires-clause-live : goal.note_again-requires-clause-live
-note_again-requires-clause-live c = (c.check_row-did.ensures.step some_temp).live
+pub left_again-requires-clause-live : goal.left_again-requires-clause-live
+left_again-requires-clause-live c = (c.check_row-did.ensures.step some_temp).live
     (λ still. c.requires.live (going c.args.before c.if-eq.ensures))
 
-pub note_again-requires-clause-are : goal.note_again-requires-clause-are
-note_again-requires-clause-are c = λ e.
+pub left_again-requires-clause-are : goal.left_again-requires-clause-are
+left_again-requires-clause-are c = λ e.
     (let other = going c.args.before c.if-eq.ensures in
     let temps = c.args.temps.now in
-    subst (λ (s : Sets). AreExtents temps s c.args.extents.now)
+    subst (λ (s : Sets). AreLeft temps s c.args.left.now)
     (sym (same_sets c.args.w.now.vars.now (each_before (check_pair c.args.w.now.vars.now) temps (get_or temps c.args.j some_temp) c.args.j) c.args.w.now.store.now
     c.check_row-did.new.w.store.now c.check_row-did.result (c.check_row-did.ensures.step some_temp) (c.requires.live other) e))
     (c.requires.are other))
@@ -45,5 +45,5 @@ returns-clause-step c = λ b.
     (going c.args.before c.if-eq.ensures) c.joined.ensures (c.check_row-did.ensures.step b))
 
 pub returns-clause-are : goal.returns-clause-are
-returns-clause-are c = λ still. c.note_again.ensures (λ e. still (c.joined.ensures ∙ (ap (join c.args.before) e
+returns-clause-are c = λ still. c.left_again.ensures (λ e. still (c.joined.ensures ∙ (ap (join c.args.before) e
     ∙ join_failed c.args.before)))

@@ -10,26 +10,19 @@ use Rattle.un_rect.specs.Spans.{TempVars}
 use Rattle.un_rect.specs.Apart.{check_pair}
 use Rattle.un_rect.specs.Pairs.{each_before}
 use Rattle.un_rect.proofs.CheckSteps.{checks_idle}
-use Rattle.un_rect.proofs.ExtentLaws.{at_place_is, check_spared}
+use Rattle.un_rect.proofs.ExtentLaws.{check_spared}
 use Rattle.un_rect.proofs.Rows.{row_next, same_ascend, same_known, same_temp, same_written}
 use Rattle.un_rect.proofs.checks.check_row.Goals as goal
 
-pub is_idle-requires-clause-of_b : goal.is_idle-requires-clause-of_b
-is_idle-requires-clause-of_b c = subst (λ (a : Temp). TempVars c.args.w.now.vars.now a) (sym c.index-temps-j.is)
-    (c.requires.of_temps c.args.j c.index-temps-j.result c.requires.there)
-
-pub returns-then-is_idle-clause-step : goal.returns-then-is_idle-clause-step
-returns-then-is_idle-clause-step c = λ d.
+pub returns-then-is_done-clause-step : goal.returns-then-is_done-clause-step
+returns-then-is_done-clause-step c = λ d.
     (let vs = c.args.w.now.vars.now in
     let s = c.args.w.now.store.now in
     let temps = c.args.temps.now in
-    let b = c.index-temps-j.result in
-    let of_b = subst (λ (a : Temp). TempVars vs a) (sym c.index-temps-j.is) (c.requires.of_temps c.args.j b c.requires.there) in
-    subst (λ (a : Temp). Stepped vs (each_before (check_pair vs) temps a c.args.j) s s Same Same)
-    (sym (at_place_is temps c.args.j b d c.requires.there c.index-temps-j.is))
-    (stepped_same vs (each_before (check_pair vs) temps b c.args.j) s Same
-    (λ live. checks_idle vs temps b s.sets c.requires.ascend (recursion_from_All (TempVars vs) temps c.requires.of_temps) of_b
-    c.requires.known live (sym c.is_idle.ensures ∙ c.if-is_idle.true) c.args.j)))
+    let b = get_or temps c.args.j d in
+    stepped_same vs (each_before (check_pair vs) temps b c.args.j) s Same
+    (λ live. checks_idle vs temps b s.sets c.requires.ascend (recursion_from_All (TempVars vs) temps c.requires.of_temps)
+    (c.requires.of_temps c.args.j d c.requires.there) c.requires.known live (sym (c.is_done.ensures d) ∙ c.if-is_done.true) c.args.j))
 
 pub check_noted-did-requires-clause-ascend : goal.check_noted-did-requires-clause-ascend
 check_noted-did-requires-clause-ascend c = same_ascend c.args.w.now.vars.now c.loop-i.w.vars.now
@@ -67,7 +60,7 @@ check_noted-did-requires-clause-passed c = λ yes.
     (let i = c.loop-i.i in
     let lt : i < length c.args.temps.now = omega (arith, c.loop-i-test.true, c.loop-i.auto.i-end, c.requires.there) in
     check_spared c.args.w.now.vars.now c.loop-i.w.vars.now c.args.temps.now c.index-temps-i.result c.index-temps-j.result
-    c.args.extents.now i c.args.j (ap (λ r. r.now) c.loop-i.invariant.vars) c.index-temps-i.is c.index-temps-j.is lt c.requires.there
+    c.args.left.now i c.args.j (ap (λ r. r.now) c.loop-i.invariant.vars) c.index-temps-i.is c.index-temps-j.is lt c.requires.there
     c.requires.of_temps c.args.w.now.store.now c.loop-i.w.store.now c.requires.known c.requires.live c.requires.are
     (each_before (check_pair c.args.w.now.vars.now) c.args.temps.now c.index-temps-j.result i) c.loop-i.did c.loop-i.invariant.step
     c.requires.ascend (c.cannot_check-passed.ensures yes))
