@@ -1,7 +1,7 @@
 -- What extents say of two temporaries.
 use Rattle.std.proofs.Common.{ℕ, ◌≡◌, Bool, true, false, cond, not, ◌&&◌, ◌||◌, List, [], ◌∷◌, length, nat_eq, nat_lt, Some}
 use Rattle.std.proofs.Common.{option_and_then, refl, sym, ap, ◌∙◌, subst, arith}
-use Rattle.std.proofs.Common.{◌≢◌, ◌<◌, All, None, get_or}
+use Rattle.std.proofs.Common.{◌<◌, All, None, get_or}
 use Rattle.std.specs.declared.option.Option.{Option}
 use Rattle.std.proofs.lemmas.Bool.Decides.{nat_tests}
 use Rattle.std.proofs.lemmas.List.{get_or_default}
@@ -15,7 +15,7 @@ use Rattle.un_prop.specs.Pruning.{Answers, Ends}
 use Rattle.un_prop.specs.declared.act.Act.TheVariants.{Always}
 use Rattle.un_prop.specs.declared.act.At.TheVariants.{Const}
 use Rattle.un_prop.specs.declared.propagator.Pruned.{Pruned}
-use Rattle.un_prop.specs.declared.propagator.Pruned.TheVariants.{Same, Failed}
+use Rattle.un_prop.specs.declared.propagator.Pruned.TheVariants.{Same}
 use Rattle.un_prop.specs.Rounds.{HasVars}
 use Rattle.un_prop.specs.AmongLaws.{has_among}
 use Rattle.un_prop.specs.LastLaws.{Ascend, cut_all}
@@ -25,9 +25,9 @@ use Rattle.un_prop.specs.declared.act.Temp.{Temp}
 use Rattle.un_rect.specs.Extents.{extent_of, left_of, may_clash, may_order, may_check, AreNoted, AreExtents, AreLeft, AreSpared}
 use Rattle.un_rect.specs.declared.left.Left.{Left}
 use Rattle.un_rect.specs.declared.extents.Extent.{Extent}
-use Rattle.un_rect.specs.Spans.{greatest_start, is_only, least_end, TempVars}
+use Rattle.un_rect.specs.Spans.{greatest_start, least_end, TempVars}
 use Rattle.un_rect.specs.Apart.{overlap, clash_test, clash_cut, clash_pair, check_pair}
-use Rattle.un_rect.specs.Orders.{order_cut, order_pair, order_steps, comes_first}
+use Rattle.un_rect.specs.Orders.{order_cut, order_pair, order_steps}
 
 same_both : (m n : ℕ) → nat_eq m n ≡ nat_eq n m
 same_both m n = same_test (nat_eq m n) (nat_eq n m) (λ h. let is : m ≡ n = grind (arith, nat_tests, h) in

@@ -1,5 +1,5 @@
 -- A temporary that has no register of the mask left is spared by all calls.
-use Rattle.std.proofs.Common.{ℕ, ◌≡◌, ◌≢◌, ◌<◌, ◌⊎◌, Bool, true, false, not, ◌&&◌, ◌||◌, List, length, map, [], get_or, set, All}
+use Rattle.std.proofs.Common.{ℕ, ◌≡◌, ◌≢◌, ◌<◌, ◌⊎◌, Bool, true, false, not, ◌&&◌, ◌||◌, List, length, [], get_or, set, All}
 use Rattle.std.proofs.Common.{None, Some, option_and_then, refl, sym, ap, ◌∙◌, subst, arith, inl, inr}
 use Rattle.std.specs.declared.option.Option.{Option}
 use Rattle.std.specs.List.{list_any}
@@ -11,7 +11,7 @@ use Rattle.un_isa.specs.Tables.{in_mask}
 use Rattle.un_prop.specs.Acts.{is_active}
 use Rattle.un_prop.specs.AmongLaws.{has_among}
 use Rattle.un_prop.specs.ChainLaws.{least_in}
-use Rattle.un_prop.specs.Last.{last_of, last_cut, last_cut_at, point}
+use Rattle.un_prop.specs.Last.{last_of, last_cut_at, point}
 use Rattle.un_prop.specs.LastLaws.{cut_all, last_single}
 use Rattle.un_prop.specs.Looks.{sure}
 use Rattle.un_prop.specs.Rounds.{HasVars}

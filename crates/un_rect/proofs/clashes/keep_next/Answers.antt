@@ -2,7 +2,6 @@ use Rattle.std.proofs.Common.{List, ◌∙◌, All, sym, ap, subst}
 use Rattle.un_base.specs.declared.ids.VarId.{VarId}
 use Rattle.un_prop.specs.GoingLaws.{join_failed}
 use Rattle.un_prop.specs.Pruning.{join}
-use Rattle.un_prop.specs.declared.act.Temp.{Temp}
 use Rattle.un_rect.specs.Spans.{TempVars}
 use Rattle.un_rect.specs.Apart.{clash_pair}
 use Rattle.un_rect.specs.Pairs.{each_before}

@@ -1,5 +1,5 @@
 -- the rows before place j
-use Rattle.std.proofs.Common.{◌≡◌, ◌≢◌, length}
+use Rattle.std.proofs.Common.{◌≡◌, ◌≢◌}
 use Rattle.un_prop.specs.Going.{Stepped}
 use Rattle.un_prop.specs.declared.propagator.Pruned.TheVariants.{Failed}
 use Rattle.un_rect.specs.Orders.{order_pair}

@@ -1,7 +1,6 @@
 -- the temporaries before place i
-use Rattle.std.proofs.Common.{◌≡◌, get_or}
+use Rattle.std.proofs.Common.{◌≡◌}
 use Rattle.un_prop.specs.Going.{Stepped}
-use Rattle.un_prop.specs.declared.act.Temp.{Temp}
 use Rattle.un_prop.specs.declared.propagator.Pruned.TheVariants.{Same}
 use Rattle.un_rect.specs.Orders.{order_pair}
 use Rattle.un_rect.specs.Pairs.{each_before}
