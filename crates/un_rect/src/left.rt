@@ -84,8 +84,7 @@ pub(crate) fn is_done(w: &Window<'_>, temps: &[Temp], left: &[Left], j: usize) -
     }
 }
 
-/// Whether there may be something to check of two temporaries of which this is left: neither has too many variables that are open, and their
-/// registers may be one.
+/// Whether there may be something to check of two temporaries of which this is left: neither is idle, and their registers may be one.
 fn may_check(x: Left, y: Left) -> bool
     ensures { result ≡ may_check x y }
 {

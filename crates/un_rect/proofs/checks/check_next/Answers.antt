@@ -32,14 +32,16 @@ left_again-requires-clause-are c = λ e.
     (let other = going c.args.before c.if-eq.ensures in
     let temps = c.args.temps.now in
     subst (λ (s : Sets). AreLeft temps s c.args.left.now)
-    (sym (same_sets c.args.w.now.vars.now (each_before (check_pair c.args.w.now.vars.now) temps (get_or temps c.args.j some_temp) c.args.j) c.args.w.now.store.now
+    (sym (same_sets c.args.w.now.vars.now (each_before (check_pair c.args.w.now.vars.now) temps (get_or temps c.args.j some_temp) c.args.j)
+    c.args.w.now.store.now
     c.check_row-did.new.w.store.now c.check_row-did.result (c.check_row-did.ensures.step some_temp) (c.requires.live other) e))
     (c.requires.are other))
 
 pub returns-clause-step : goal.returns-clause-step
 returns-clause-step c = λ b.
     (let temps = c.args.temps.now in
-    step_after c.args.w.now.vars.now (each_before (check_pair c.args.w.now.vars.now) temps (get_or temps c.args.j b) c.args.j) c.args.w.now.store.now
+    step_after c.args.w.now.vars.now (each_before (check_pair c.args.w.now.vars.now) temps (get_or temps c.args.j b) c.args.j)
+    c.args.w.now.store.now
     c.check_row-did.new.w.store.now c.args.before c.check_row-did.result c.joined.result
     (going c.args.before c.if-eq.ensures) c.joined.ensures (c.check_row-did.ensures.step b))
 

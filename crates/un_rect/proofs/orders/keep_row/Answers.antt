@@ -50,10 +50,11 @@ pub keep_noted-did-requires-clause-passed : goal.keep_noted-did-requires-clause-
 keep_noted-did-requires-clause-passed c = λ yes full.
     (let i = c.loop-i.i in
     let lt : i < length c.args.temps.now = omega (arith, c.loop-i-test.true, c.loop-i.auto.i-end, c.requires.there) in
-    order_spared c.args.w.now.vars.now c.loop-i.w.vars.now c.args.temps.now c.index-temps-i.result c.index-temps-j.result c.args.extents.now i
-    c.args.j (ap (λ r. r.now) c.loop-i.invariant.vars) c.index-temps-i.is c.index-temps-j.is lt c.requires.there c.requires.of_temps
+    order_spared c.args.w.now.vars.now c.loop-i.w.vars.now c.args.temps.now c.index-temps-i.result c.index-temps-j.result
+    c.args.extents.now i c.args.j (ap (λ r. r.now) c.loop-i.invariant.vars) c.index-temps-i.is c.index-temps-j.is lt c.requires.there c.requires.of_temps
     c.args.w.now.store.now c.loop-i.w.store.now c.requires.known c.requires.live c.requires.are
-    (each_before order_pair c.args.temps.now c.index-temps-j.result i) c.loop-i.did c.loop-i.invariant.step (c.cannot_order-passed.ensures yes))
+    (each_before order_pair c.args.temps.now c.index-temps-j.result i) c.loop-i.did c.loop-i.invariant.step
+    (c.cannot_order-passed.ensures yes))
 
 pub loop-i-preserved : goal.loop-i-preserved
 loop-i-preserved c =
