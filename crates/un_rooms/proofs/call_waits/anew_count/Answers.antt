@@ -2,8 +2,8 @@ use Rattle.std.proofs.Common.{◌∙◌, sym}
 use Rattle.un_sites.specs.CallBefores.{reads_anew}
 use Rattle.un_sites.specs.Sites.{place_of}
 use Rattle.un_rooms.proofs.CallWalks.{count_yes, count_no}
-use Rattle.un_rooms.proofs.post_call_befores.anew_count.Goals as goal
-use Rattle.un_rooms.proofs.post_call_befores.anew_count.Goals.{then-reads_anew, else-reads_anew}
+use Rattle.un_rooms.proofs.call_waits.anew_count.Goals as goal
+use Rattle.un_rooms.proofs.call_waits.anew_count.Goals.{then-reads_anew, else-reads_anew}
 
 pub loop-j-preserved : goal.loop-j-preserved
 loop-j-preserved c =

@@ -2,7 +2,7 @@ use Rattle.std.proofs.Common.{◌∙◌, sym}
 use Rattle.un_sites.specs.CallBefores.{reads_anew}
 use Rattle.un_sites.specs.Sites.{place_of}
 use Rattle.un_rooms.proofs.CallWalks.{any_found, any_next}
-use Rattle.un_rooms.proofs.post_call_befores.any_anew.Goals as goal
+use Rattle.un_rooms.proofs.call_waits.any_anew.Goals as goal
 
 pub returns-then-reads_anew : goal.returns-then-reads_anew
 returns-then-reads_anew c =

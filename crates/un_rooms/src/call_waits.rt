@@ -1,5 +1,5 @@
-//! What is posted of what calls separate: an operation behind a call that reads a register which the call clobbers waits for what
-//! writes it after the call.
+//! What calls separate: an operation behind a call that reads a register which the call clobbers waits for what writes it after the
+//! call.
 
 ghost use Rattle.std.specs.Prelude.{◌≡◌, ◌+◌, ◌<◌, ◌==◌, [], ◌∷◌, ◌++◌, All, IfOk, IfSome, OnOk, map, filter};
 ghost use Rattle.std.specs.List.{list_any};
@@ -9,8 +9,9 @@ ghost use Rattle.un_model.specs.Pairs.{any_from, joined};
 ghost use Rattle.un_prop.specs.declared.act.Act.TheVariants.{Always};
 ghost use Rattle.un_sites.specs.CallBefores.{is_clobbered_home, reads_clobbered, is_home, reads_reply, reads_anew, waits_anew};
 ghost use Rattle.un_sites.specs.CallBefores.{anew_count, anew_gap, anew_after};
-ghost use Rattle.un_sites.specs.CallBefores.{is_between, of_call, of_calls, call_befores_by, call_befores_in, call_befores_of};
+ghost use Rattle.un_sites.specs.CallBefores.{is_between, of_call, of_calls, call_befores_by};
 ghost use Rattle.un_kinds.specs.Constraints as constraint;
+ghost use Rattle.un_rooms.specs.Waits.{befores_by};
 ghost use Rattle.un_sites.specs.Places.{time_of};
 ghost use Rattle.un_ir.specs.Kinds.{is_call_kind};
 ghost use Rattle.un_sites.specs.Postings.{with_kind};
@@ -19,27 +20,23 @@ ghost use Rattle.un_sites.specs.Sites.{place_of};
 ghost use Rattle.un_sites.specs.declared.sites.Spot.{Spot};
 
 use crate::call_sides::on_side;
-use crate::post_clobbers::arcs_at;
 use crate::post_twos::first_of;
 use crate::reach::Reach;
 use crate::span::reach_of;
+use crate::wait::Wait;
 use std::alloc::{AllocError, Global};
 use un_base::ids::TempId;
 use un_base::memory_error::NoMemory;
-use un_base::numbers::{advance, number};
-use un_ir::extended::{ExtBlock, ExtKind, Operand};
+use un_base::numbers::number;
+use un_ir::extended::{ExtKind, Operand};
 use un_isa::packet_counts::PACKET;
 use un_isa::reg::{Reg, Space};
 use un_isa::reg_set::is_in_mask;
 use un_isa::table::Table;
-use un_kinds::make_prec::make_before;
-use un_kinds::props::Props;
 use un_lists::items::Items;
 use un_model::instructions::{instruction, space_read};
-use un_model::model::{Arc, BlockVars, Model};
-use un_prop::act::Act;
+use un_model::model::Arc;
 use un_sites::sites::{Spot, spot_at};
-use un_sites::tables::add_block;
 
 /// Whether calls clobber a home.
 fn is_clobbered_home(mask: u64, home: Option<Reg>) -> bool
@@ -143,44 +140,50 @@ fn anew_gap(t: &Table, call: &Spot<'_>, u: &Spot<'_>) -> Result<u32, NoMemory>
 }
 
 /// An operation waits for what is written after a call.
-fn post_wait(props: &mut Props, call: &Spot<'_>, u: &Spot<'_>, gap: u32) -> Result<(), NoMemory>
-    ensures { OnOk result (props.new ≡ props.old
+fn add_wait(
+    waits: &mut Items<Wait>,
+    call: &Spot<'_>,
+    u: &Spot<'_>,
+    gap: u32,
+) -> Result<(), AllocError>
+    ensures { OnOk result (befores_by waits.new ≡ befores_by waits.old
         ++ constraint.Before (time_of (place_of call.now)) Always (time_of (place_of u.now)) Always gap ∷ []) }
 {
-    let made = make_before(
-        props.alloc(),
-        call.time(),
-        Act::Always,
-        u.time(),
-        Act::Always,
+    waits.push(Wait {
+        from: call.time(),
+        to: u.time(),
         gap,
-    )?;
-    props.push(made)
+    })
 }
 
-/// What is posted of an operation behind a call.
-fn post_anew(props: &mut Props, t: &Table, call: &Spot<'_>, u: &Spot<'_>) -> Result<(), NoMemory>
-    ensures { OnOk result (props.new ≡ props.old ++ anew_after t.now (place_of call.now) (place_of u.now)) }
+/// What an operation behind a call waits for.
+fn add_anew(
+    waits: &mut Items<Wait>,
+    t: &Table,
+    call: &Spot<'_>,
+    u: &Spot<'_>,
+) -> Result<(), NoMemory>
+    ensures { OnOk result (befores_by waits.new ≡ befores_by waits.old ++ anew_after t.now (place_of call.now) (place_of u.now)) }
 {
     if waits_anew(t, call, u)? {
         let gap = anew_gap(t, call, u)?;
-        post_wait(props, call, u, gap)?;
+        add_wait(waits, call, u, gap)?;
     }
     Ok(())
 }
 
-/// What is posted of operations behind a call.
-fn post_all_anew(
-    props: &mut Props,
+/// What operations behind a call wait for.
+fn add_all_anew(
+    waits: &mut Items<Wait>,
     t: &Table,
     call: &Spot<'_>,
     spots: &[Spot<'_>],
 ) -> Result<(), NoMemory>
-    ensures { OnOk result (props.new ≡ props.old
+    ensures { OnOk result (befores_by waits.new ≡ befores_by waits.old
         ++ joined (map (anew_after t.now (place_of call.now)) (map place_of spots.now))) }
 {
     for u in spots {
-        post_anew(props, t, call, u)?;
+        add_anew(waits, t, call, u)?;
     }
     Ok(())
 }
@@ -210,9 +213,10 @@ fn between<'a>(
     }
 }
 
-/// What is posted of a call of a block, of which this is the next one.
-fn post_call<'a>(
-    props: &mut Props,
+/// What operations wait for after a call of a block, of which this is the next one.
+fn add_call<'a>(
+    alloc: Global,
+    waits: &mut Items<Wait>,
     t: &Table,
     reach: Reach,
     arcs: &[Arc],
@@ -223,16 +227,17 @@ fn post_call<'a>(
     requires arcs { All (IsArcWithin reach.low reach.count) arcs.now }
     requires call { IsWithin reach.low reach.count call.now.op }
     requires next { IfSome next (λ (d : Spot). IsWithin reach.low reach.count d.op) }
-    ensures { OnOk result (props.new ≡ props.old
+    ensures { OnOk result (befores_by waits.new ≡ befores_by waits.old
         ++ of_call t.now arcs.now (map place_of spots.now) (option_map place_of next.entry) (place_of call.now)) }
 {
-    let found = between(props.alloc(), reach, arcs, call, next, spots)?;
-    post_all_anew(props, t, call, found.as_slice())
+    let found = between(alloc, reach, arcs, call, next, spots)?;
+    add_all_anew(waits, t, call, found.as_slice())
 }
 
-/// What is posted of the calls of a block.
-fn post_calls<'a>(
-    props: &mut Props,
+/// What operations wait for after the calls of a block.
+fn add_calls<'a>(
+    alloc: Global,
+    waits: &mut Items<Wait>,
     t: &Table,
     reach: Reach,
     arcs: &[Arc],
@@ -241,12 +246,12 @@ fn post_calls<'a>(
 ) -> Result<(), NoMemory>
     requires arcs { All (IsArcWithin reach.low reach.count) arcs.now }
     requires calls { All (λ (p : Spot). IsWithin reach.low reach.count p.op) calls.now }
-    ensures { OnOk result (props.new ≡ props.old
+    ensures { OnOk result (befores_by waits.new ≡ befores_by waits.old
         ++ of_calls t.now arcs.now (map place_of spots.now) (map place_of calls.now)) }
 {
     for i in 0..calls.len() {
         let next = spot_at(calls, i + 1);
-        post_call(props, t, reach, arcs, spots, &calls[i], next)?;
+        add_call(alloc, waits, t, reach, arcs, spots, &calls[i], next)?;
     }
     Ok(())
 }
@@ -270,47 +275,18 @@ fn calls_in<'a>(
     Ok(calls)
 }
 
-/// What is posted of the calls of a block with these operations and arcs.
-fn post_block(
-    props: &mut Props,
+/// Adds what the operations of a block with these arcs wait for after its calls.
+pub(crate) fn add_call_waits(
+    alloc: Global,
+    waits: &mut Items<Wait>,
     t: &Table,
     arcs: &[Arc],
     spots: &[Spot<'_>],
 ) -> Result<(), NoMemory>
-    ensures { OnOk result (props.new ≡ props.old ++ call_befores_by t.now arcs.now (map place_of spots.now)) }
+    ensures { OnOk result (befores_by waits.new ≡ befores_by waits.old
+        ++ call_befores_by t.now arcs.now (map place_of spots.now)) }
 {
     let reach = reach_of(spots, arcs);
-    let calls = calls_in(props.alloc(), reach, spots)?;
-    post_calls(props, t, reach, arcs, spots, calls.as_slice())
-}
-
-/// What is posted of the calls of block `b`, of which the first operation has the number `first`.
-fn post_block_at(
-    props: &mut Props,
-    m: &Model,
-    b: u32,
-    first: u32,
-    block: &ExtBlock,
-    vars: &BlockVars,
-) -> Result<(), NoMemory>
-    ensures { OnOk result (props.new ≡ props.old
-        ++ call_befores_in m.now.ext.table m.now.arcs b first block.now vars.now) }
-{
-    let mut spots = Items::new(props.alloc());
-    add_block(&mut spots, b, first, block, vars)?;
-    post_block(props, &m.ext.table, arcs_at(&m.arcs, b), spots.as_slice())
-}
-
-/// What is posted of what the calls of a model separate.
-pub fn post_call_befores(props: &mut Props, m: &Model) -> Result<(), NoMemory>
-    ensures { OnOk result (props.new ≡ props.old ++ call_befores_of m.now) }
-{
-    let mut n = 0;
-    for k in 0..m.ext.blocks.len().min(m.blocks.len()) {
-        let b = number(k)?;
-        let block = m.ext.blocks.get(k);
-        post_block_at(props, m, b, n, block, m.blocks.get(k))?;
-        n = advance(n, block.ops.len())?;
-    }
-    Ok(())
+    let calls = calls_in(alloc, reach, spots)?;
+    add_calls(alloc, waits, t, reach, arcs, spots, calls.as_slice())
 }

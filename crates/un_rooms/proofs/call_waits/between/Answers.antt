@@ -2,7 +2,7 @@ use Rattle.std.proofs.Common.{ap, map}
 use Rattle.std.specs.Option.{option_map}
 use Rattle.un_sites.specs.Sites.{place_of}
 use Rattle.un_rooms.proofs.CallWalks.{between_is}
-use Rattle.un_rooms.proofs.post_call_befores.between.Goals as goal
+use Rattle.un_rooms.proofs.call_waits.between.Goals as goal
 
 pub returns : goal.returns
 returns c =

@@ -3,8 +3,8 @@ use Rattle.un_rooms.specs.Reach.{IsWithin}
 use Rattle.un_sites.specs.declared.sites.Spot.{Spot}
 use Rattle.un_rooms.proofs.CallWalks.{call_more, call_same}
 use Rattle.un_rooms.proofs.Gathering.{got}
-use Rattle.un_rooms.proofs.post_call_befores.calls_in.Goals as goal
-use Rattle.un_rooms.proofs.post_call_befores.calls_in.Goals.{then-is_call+in_ok-push, else-is_call}
+use Rattle.un_rooms.proofs.call_waits.calls_in.Goals as goal
+use Rattle.un_rooms.proofs.call_waits.calls_in.Goals.{then-is_call+in_ok-push, else-is_call}
 
 pub loop-p-preserved : goal.loop-p-preserved
 loop-p-preserved c =
