@@ -8,7 +8,7 @@ use Rattle.std.proofs.lemmas.List.Sums.{sum_by-cons, sum_by-append}
 use Rattle.un_base.specs.declared.ids.VarId.{VarId}
 use Rattle.un_isa.specs.declared.packet_counts.Resource.{Resource}
 use Rattle.un_isa.specs.declared.packet_counts.Resource.TheVariants.{Instructions, Memory, Stores, MultiplyOrControl, Control}
-use Rattle.un_isa.specs.PacketCounts.{places_of, share_of as need_of}
+use Rattle.un_isa.specs.PacketCounts.{places_of as room_of, share_of as need_of}
 use Rattle.un_isa.specs.declared.table.Table.{Table}
 use Rattle.un_ir.specs.declared.function.Term.TheVariants.{Fall, Jump, Branch, Ret}
 use Rattle.un_ir.specs.declared.extended.ExtKind.{ExtKind}
@@ -54,7 +54,7 @@ use Rattle.un_post.proofs.Meeting.{Met, all_each, joined_each}
 use Rattle.un_post.proofs.Memory.{kept_met}
 use Rattle.un_post.proofs.Packets.{share, no_room, whole_taken, sum_part}
 use Rattle.un_post.proofs.Placing.{place_of}
-use Rattle.un_post.proofs.Regions.{of_region, front_of, last_of, region_parts, front_stays}
+use Rattle.un_post.proofs.Regions.{Ended, of_region, front_of, last_of, region_parts, front_stays}
 use Rattle.un_post.proofs.Tests.{and_iff, eq_iff, le_iff}
 use Rattle.un_post.proofs.Whole.{posted_each}
 
@@ -105,7 +105,7 @@ needs_as t r Enter n k f = absurd (cc k)
 needs_as t r Leave n k f = absurd (cc k)
 
 -- a packet has room for a block's end
-end_fits : (t : Table) (r : Resource) → need_of r (needs_by t (instruction_of Out 0)) ≤ places_of r
+end_fits : (t : Table) (r : Resource) → need_of r (needs_by t (instruction_of Out 0)) ≤ room_of r
 end_fits t Instructions = omega arith
 end_fits t Memory = omega arith
 end_fits t Stores = omega arith
@@ -130,12 +130,13 @@ out_task kind e = ap is_task e
 value_at_place : (x : List ℕ) (ops : List Task) (v : VarId) → task_place ops v < length ops
     → at_place (cycle_of x) ops (task_place ops v) ≡ slice_index x v.0
 value_at_place x [] v lt = absurd (omega (arith, lt))
-value_at_place x (t ∷ ts) v lt = by (t.at.0 == v.0) refl lt
+value_at_place x (t ∷ ts) v lt = by (λ le. value_at_place x ts v le) (t.at.0 == v.0) refl lt
   where
-    by : (b : Bool) → (t.at.0 == v.0) ≡ b → (if b then 0 else suc (task_place ts v)) < length (t ∷ ts)
+    by : (task_place ts v < length ts → at_place (cycle_of x) ts (task_place ts v) ≡ slice_index x v.0) → (b : Bool)
+        → (t.at.0 == v.0) ≡ b → (if b then 0 else suc (task_place ts v)) < length (t ∷ ts)
         → at_place (cycle_of x) (t ∷ ts) (if b then 0 else suc (task_place ts v)) ≡ slice_index x v.0
-    by true e lt = let same : t.at.0 ≡ v.0 = grind (arith, nat_tests, e) in ap (slice_index x) same
-    by false e lt = value_at_place x ts v (omega (arith, lt))
+    by rest true e lt = let same : t.at.0 ≡ v.0 = grind (arith, nat_tests, e) in ap (slice_index x) same
+    by rest false e lt = rest (omega (arith, lt))
 
 abbrev Ordered : List ℕ → List Task → Precedence → Type 0
 Ordered x ops a = at_place (cycle_of x) ops a.from + a.gap ≤ at_place (cycle_of x) ops a.to
@@ -271,20 +272,20 @@ module _ (e : Ext) (o : Options) (x : List ℕ) (given : Given e o x)
     close = let owner = r.owner in var_at (r.first + ops_count owner.ops)
 
     -- what its operations take in a cycle
-    shares_fit : (resource : Resource) (c : ℕ) → sum_by (share e o x given resource r.block c) (region_placed r) ≤ places_of resource
+    shares_fit : (resource : Resource) (c : ℕ) → sum_by (share e o x given resource r.block c) (region_placed r) ≤ room_of resource
     shares_fit resource c =
         let le = (no_room e.table (issues_of (model_of e o) x) r.block c).1 (schedule.packets r.block c) resource in
         let whole = whole_taken e o x given resource r.block c in
         let one = sum_part (share e o x given resource r.block c) region_placed (blocks e o x) r mr in
         omega (arith, le, whole, one)
 
-    room_in : (resource : Resource) (c : ℕ) → taken resource (tasks (region_placed r)) x c ≤ places_of resource
-    room_in resource c = subst (λ qs. taken resource (tasks qs) x c ≤ places_of resource) (sym (region_parts r en))
+    room_in : (resource : Resource) (c : ℕ) → taken resource (tasks (region_placed r)) x c ≤ room_of resource
+    room_in resource c = subst (λ qs. taken resource (tasks qs) x c ≤ room_of resource) (sym (region_parts r en))
         (by (nat_eq (slice_index x close.0) c) refl)
       where
         k : (n : ℕ) × (n < length (blocks e o x)) × (slice_get (blocks e o x) n ≡ Some r)
         k = position_of (blocks e o x) r mr
-
+        en : Ended r
         en = region_end e o x given k.0 r k.2
 
         front : List Placed
@@ -308,14 +309,14 @@ module _ (e : Ext) (o : Options) (x : List ℕ) (given : Given e o x)
         last_at : cycle_of x (task last) ≡ slice_index x close.0
         last_at = let v = vars_of last in ap (λ (kind : ExtKind). slice_index x (var_in (time_by close kind v.cycle)).0) en.is_end
 
-        last_fits : part resource c last ≤ places_of resource
+        last_fits : part resource c last ≤ room_of resource
         last_fits = at (nat_eq (cycle_of x (task last)) c) refl
           where
-            one : need_of resource (needs_by e.table (instruction_of last.op.kind 0)) ≤ places_of resource
-            one = subst (λ (kind : ExtKind). need_of resource (needs_by e.table (instruction_of kind 0)) ≤ places_of resource) (sym en.is_end)
+            one : need_of resource (needs_by e.table (instruction_of last.op.kind 0)) ≤ room_of resource
+            one = subst (λ (kind : ExtKind). need_of resource (needs_by e.table (instruction_of kind 0)) ≤ room_of resource) (sym en.is_end)
                 (end_fits e.table resource)
 
-            at : (t : Bool) → nat_eq (cycle_of x (task last)) c ≡ t → part resource c last ≤ places_of resource
+            at : (t : Bool) → nat_eq (cycle_of x (task last)) c ≡ t → part resource c last ≤ room_of resource
             at true t =
                 let own : taken_by resource c x (task last) ≡ need_of resource (needs_by e.table (instruction_of last.op.kind 0)) =
                 ap (λ (b : Bool). if b then need_of resource (needs_by e.table (instruction_of last.op.kind 0)) else 0) t in
@@ -337,7 +338,7 @@ module _ (e : Ext) (o : Options) (x : List ℕ) (given : Given e o x)
             let own : slice_index x close.0 ≡ slice_index x q.close.0 = ap (λ (v : VarId). slice_index x v.0) (region_close r q mq) in
             absurd (omega (arith, le, one, own, is, at)))
 
-        by : (t : Bool) → nat_eq (slice_index x close.0) c ≡ t → taken resource (tasks (front ++ last ∷ [])) x c ≤ places_of resource
+        by : (t : Bool) → nat_eq (slice_index x close.0) c ≡ t → taken resource (tasks (front ++ last ∷ [])) x c ≤ room_of resource
         by true e1 =
             let split = taken_last resource c front last in
             let none = taken_none resource c front (none_at_end (grind (arith, nat_tests, e1))) in
@@ -350,7 +351,7 @@ module _ (e : Ext) (o : Options) (x : List ℕ) (given : Given e o x)
             let less = taken_less resource r.block c front
             (each_of (λ (q : Placed). q.block ≡ r.block) front (λ q m. of_region r q (in_region q m))) stays in
             let sums = sum_by-append (share e o x given resource r.block c) front (last ∷ []) in
-            let le = subst (λ qs. sum_by (share e o x given resource r.block c) qs ≤ places_of resource) (region_parts r en)
+            let le = subst (λ qs. sum_by (share e o x given resource r.block c) qs ≤ room_of resource) (region_parts r en)
             (shares_fit resource c) in
             omega (arith, split, none, less, sums, le)
           where
@@ -378,17 +379,17 @@ module _ (e : Ext) (o : Options) (x : List ℕ) (given : Given e o x)
     abbrev ops : List Task
     ops = tasks_in e.table (region_places r)
 
-    abbrev Ended : Task → Type 0
-    Ended t = cycle_of x t + t.tail ≤ slice_index x close.0
+    abbrev IsEnded : Task → Type 0
+    IsEnded t = cycle_of x t + t.tail ≤ slice_index x close.0
 
-    ended_in : Each Ended ops
+    ended_in : Each IsEnded ops
     ended_in =
         let found = with_kind is_task (region_places r) in
-        each_map Ended (task_of e.table) found (each_of (λ (p : Place). Ended (task_of e.table p)) found (λ p mp.
+        each_map IsEnded (task_of e.table) found (each_of (λ (p : Place). IsEnded (task_of e.table p)) found (λ p mp.
         let f = member_of_filter (λ (p : Place). is_task p.it.kind) (region_places r) p mp in
         let q = member_map_of place_of (region_placed r) p f.0 in
         let t : is_task q.0.op.kind ≡ true = ap (λ (p : Place). is_task p.it.kind) q.2 ∙ f.1 in
-        subst (λ (p : Place). Ended (task_of e.table p)) q.2
+        subst (λ (p : Place). IsEnded (task_of e.table p)) q.2
         (subst (λ (v : VarId). cycle_of x (task q.0) + tail_of q.0.op.kind ≤ slice_index x v.0) (sym (region_close r q.0 q.1))
         (ended_one q.0 (in_all e o x r q.0 mr q.1) t))))
 
@@ -396,7 +397,7 @@ module _ (e : Ext) (o : Options) (x : List ℕ) (given : Given e o x)
     fits = record {
       ordered = all_each (Ordered x ops) (precedences_by ops (known_befores m r.block (region_places r)))
           (ordered_each x ops (known_befores m r.block (region_places r)) order_met);
-      ended = all_each Ended ops ended_in;
+      ended = all_each IsEnded ops ended_in;
       room = room_in;
     }
 

@@ -402,9 +402,11 @@ module _ (e : Ext) (o : Options) (extended : IsExtended e) where
   lengths_ok = over_are IsOk (length_in m) (λ r mr.
       let owner = r.owner in
       let vars = region_vars r in
-      let le = most_of 0 (map own_horizon e.blocks) owner.horizon (member_map own_horizon e.blocks owner (owner_member r mr)) in
-      (length_are n pos most e.table (known_befores m r.block (places_at r)) vars.end owner.horizon (places_at r) (end_known r mr) le
-      (block_known r mr), tt))
+      let le = most_of 0 (map own_horizon e.blocks) owner.horizon (member_map own_horizon e.blocks owner (owner_member r mr)) in (
+        length_are n pos most e.table (known_befores m r.block (places_at r)) vars.end owner.horizon (places_at r) (end_known r mr) le
+            (block_known r mr),
+        tt,
+      ))
 
   join : (cs ds : List Constraint) → Each IsOk cs → Each IsOk ds → Each IsOk (cs ++ ds)
   join cs ds h k = each_join IsOk cs ds h k

@@ -5,4 +5,4 @@ pub mod Pairing
 pub mod Seeing
 pub mod Spares
 pub mod Sparing
-pub mod Tasks
+pub mod TaskPlaces

@@ -41,7 +41,11 @@ fn time_with(spots: &[Spot<'_>], op: OpId) -> At
 }
 
 /// Adds what the operations of arcs wait for, where this is the table of all operations.
-fn add_arc_waits(waits: &mut Items<Wait>, spots: &[Spot<'_>], arcs: &[Arc]) -> Result<(), AllocError>
+fn add_arc_waits(
+    waits: &mut Items<Wait>,
+    spots: &[Spot<'_>],
+    arcs: &[Arc],
+) -> Result<(), AllocError>
     ensures { OnOk result (befores_by waits.new ≡ befores_by waits.old ++ befores_in (map place_of spots.now) arcs.now) }
 {
     for arc in arcs {

@@ -63,7 +63,11 @@ fn task_of(t: &Table, p: &Spot<'_>) -> Task
 }
 
 /// Those of a block's operations that every solution issues, and its end.
-pub(crate) fn tasks_in(alloc: Global, t: &Table, spots: &[Spot<'_>]) -> Result<Items<Task>, AllocError>
+pub(crate) fn tasks_in(
+    alloc: Global,
+    t: &Table,
+    spots: &[Spot<'_>],
+) -> Result<Items<Task>, AllocError>
     ensures { IfOk result (λ ops. ops ≡ tasks_in t.now (map place_of spots.now)) }
 {
     let mut ops = Items::new(alloc);
@@ -113,7 +117,13 @@ fn add_precedence(arcs: &mut Items<Precedence>, ops: &[Task], wait: Wait) -> Res
         At::Const(_) => Ok(()),
         At::Var(a) => match wait.to {
             At::Const(_) => Ok(()),
-            At::Var(b) => add_between(arcs, ops.len(), task_place(ops, a), task_place(ops, b), wait.gap),
+            At::Var(b) => add_between(
+                arcs,
+                ops.len(),
+                task_place(ops, a),
+                task_place(ops, b),
+                wait.gap,
+            ),
         },
     }
 }
