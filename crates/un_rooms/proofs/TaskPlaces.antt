@@ -7,13 +7,15 @@ use Rattle.std.proofs.lemmas.Bool.Decides.{nat_tests}
 use Rattle.std.proofs.lemmas.List.Elements.{All-from_recursion}
 use Rattle.un_base.specs.declared.ids.VarId.{VarId}
 use Rattle.un_model.specs.Pairs.{joined}
-use Rattle.un_model.proofs.Steps.{drop_at, drop_past}
+use Rattle.un_model.proofs.Steps.{drop_at, drop_past, append-nil}
 use Rattle.un_prop.specs.declared.act.Act.TheVariants.{Always}
 use Rattle.un_prop.specs.declared.act.At.TheVariants.{Var}
 use Rattle.un_length.specs.declared.block.Precedence.{Precedence}
 use Rattle.un_length.specs.declared.block.Task.{Task}
 use Rattle.un_length.specs.Places.{Leads}
 use Rattle.un_kinds.specs.Constraints.{Constraint, Before}
+use Rattle.un_rooms.specs.Waits.{befores_by}
+use Rattle.un_rooms.specs.declared.wait.Wait.{Wait}
 use Rattle.un_sites.specs.Lengths.{task_place, precedence_at, precedence_by, precedences_by}
 
 -- ---- the place of a variable
@@ -37,7 +39,7 @@ module _ (ops : List Task) (i : ℕ) (v : VarId) (h : i + task_place (drop i ops
       by : (b : Bool) → (t.at.0 == v.0) ≡ b → i + 1 + task_place (drop (i + 1) ops) v ≡ task_place ops v
       by true s = absurd (e (grind (arith, nat_tests, s)))
       by false s =
-          let z : task_place (drop i ops) v ≡ task_place (drop (i + 1) ops) v + 1 =
+          let z : task_place (drop i ops) v ≡ suc (task_place (drop (i + 1) ops) v) =
           at_step t g ∙ ap (λ (b : Bool). if b then 0 else suc (task_place (drop (i + 1) ops) v)) s in
           omega (arith, z, h)
 
@@ -72,3 +74,12 @@ lead_each ops (c ∷ cs) = lead_more (length ops) (precedence_by ops c) (precede
 
 pub all_lead : (ops : List Task) (cs : List Constraint) → All (Leads (length ops)) (precedences_by ops cs)
 all_lead ops cs = All-from_recursion _ _ (lead_each ops cs)
+
+-- the precedences that a loop over waits has added
+pub added_lead : (ops : List Task) (waits : List Wait) (i : ℕ) (made : List Precedence)
+    → made ++ precedences_by ops (befores_by (drop i waits)) ≡ precedences_by ops (befores_by waits) → length waits ≤ i
+    → All (Leads (length ops)) made
+added_lead ops waits i made h le =
+    let none : made ++ precedences_by ops (befores_by (drop i waits)) ≡ made ++ [] =
+    ap (λ (ws : List Wait). made ++ precedences_by ops (befores_by ws)) (drop_past i waits le) in
+    subst (All (Leads (length ops))) (sym h ∙ none ∙ append-nil made) (all_lead ops (befores_by waits))

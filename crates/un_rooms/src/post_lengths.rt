@@ -98,6 +98,32 @@ fn block_by(
     })
 }
 
+/// The operations of block `b` with the order that is known of them.
+fn known_block(
+    alloc: Global,
+    m: &Model,
+    all: &[Spot<'_>],
+    b: u32,
+    end: VarId,
+    horizon: u32,
+    spots: &[Spot<'_>],
+) -> Result<Block, NoMemory>
+    requires { map place_of all.now ≡ places_of m.now }
+    ensures { IfOk result (λ k. constraint.Length k.ops k.arcs k.end k.horizon ≡ length_by m.now.ext.table
+        (known_befores m.now b (map place_of spots.now)) end horizon (map place_of spots.now)) }
+{
+    let waits = known_waits(alloc, m, all, b, spots)?;
+    let made = block_by(
+        alloc,
+        &m.ext.table,
+        waits.as_slice(),
+        end,
+        horizon,
+        spots,
+    )?;
+    Ok(made)
+}
+
 /// The operations of block `b`, of which the first has the number `first`, with the order among them.
 fn block_at(
     alloc: Global,
@@ -113,15 +139,8 @@ fn block_at(
 {
     let mut spots = Items::new(alloc);
     add_block(&mut spots, b, first, block, vars)?;
-    let waits = known_waits(alloc, m, all, b, spots.as_slice())?;
-    block_by(
-        alloc,
-        &m.ext.table,
-        waits.as_slice(),
-        vars.end,
-        block.horizon,
-        spots.as_slice(),
-    )
+    let made = known_block(alloc, m, all, b, vars.end, block.horizon, spots.as_slice())?;
+    Ok(made)
 }
 
 /// What is posted of the length of block `b`, of which the first operation has the number `first`.
