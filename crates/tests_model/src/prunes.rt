@@ -282,6 +282,7 @@ fn span(p: &AnyProp) -> u32
 {
     match p {
         AnyProp::PerCycle(p) => p.horizon,
+        AnyProp::Length(p) => p.block.horizon,
         _ => 0,
     }
 }

@@ -28,9 +28,11 @@ use Rattle.un_rect.specs.Operands.{Side}
 use Rattle.un_rect.specs.declared.clobber.ClobberCall.{ClobberCall}
 use Rattle.un_slots.specs.declared.item.Item.{Item}
 use Rattle.un_kinds.specs.Constraints.{Before, Reads, Inside, Last, Below, Chosen, Zeros, Spaces, Same, Home, Frame}
-use Rattle.un_kinds.specs.Constraints.{Apart, Clobber, Operands, PerCycle}
+use Rattle.un_length.specs.declared.block.Precedence.{Precedence}
+use Rattle.un_length.specs.declared.block.Task.{Task}
+use Rattle.un_kinds.specs.Constraints.{Apart, Clobber, Operands, PerCycle, Length}
 use Rattle.un_sites.specs.Postings.{postings_of}
-use Rattle.un_sites.specs.Befores.{befores_of}
+use Rattle.un_sites.specs.Befores.{befores_of, lengths_of}
 use Rattle.un_sites.specs.Rooms.{aparts_of, clobbers_of, packets_of, twos_of}
 use Rattle.tests_top.proofs.WorkedModel.{model, names, reads, op, source}
 
@@ -230,6 +232,13 @@ worked_packets = refl
 worked_twos : twos_of model ≡ []
 worked_twos = refl
 
+-- an operation that every solution issues, so long before the end, and a precedence between the places of two
+abbrev task : ℕ → ℕ → Needs → Task
+task n tail uses = record { at = v n; tail = tail; needs = uses }
+
+abbrev after : ℕ → ℕ → ℕ → Precedence
+after from to gap = record { from = from; to = to; gap = gap }
+
 -- ---- a sum of two names that goes over an edge, to where it is read twice
 
 -- temporaries 0 and 1 are the names, 2 their sum, 3 its copy
@@ -300,6 +309,12 @@ sum_befores : befores_of summing ≡
     Before (Const 0) Always (at 2) Always 1 ∷ Before (at 2) Always (at 10) Always 1 ∷ Before (Const 0) Always (at 12) Always 1 ∷ []
 sum_befores = refl
 
+-- the sum before the end of its block; what waits for the start is no precedence of these
+sum_lengths : lengths_of summing ≡
+    Length (task 2 1 none ∷ task 10 0 none ∷ []) (after 0 1 1 ∷ []) (v 10) 10
+    ∷ Length (task 12 1 none ∷ task 16 0 none ∷ []) [] (v 16) 8 ∷ []
+sum_lengths = refl
+
 -- one propagator for the two names; none for the sum beside itself
 sum_twos : twos_of summing ≡
     (let first : Side = record { choice = v 3; regs = vs (0 ∷ []); allowed = general } in
@@ -356,3 +371,9 @@ call_clobbers : clobbers_of calling ≡
     (call 4 true (user Always (at 6) (Some (v 8)) 0 ∷ []) ∷ [])
     ∷ Clobber lost (temp Always (at 4) 5 (user Always (at 10) (Some (v 9)) 0 ∷ [])) [] ∷ []
 call_clobbers = refl
+
+-- the load, the call, the store and the end; the call's result stands where the call gives it, and nothing else waits for the call
+call_lengths : lengths_of calling ≡
+    Length (task 1 1 (needs 1 0 0 0) ∷ task 4 1 (needs 0 0 1 1) ∷ task 6 1 (needs 1 1 0 0) ∷ task 10 0 none ∷ [])
+    (after 0 1 1 ∷ after 0 2 2 ∷ after 1 2 1 ∷ after 1 3 1 ∷ []) (v 10) 12 ∷ []
+call_lengths = refl

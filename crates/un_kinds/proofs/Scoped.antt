@@ -32,8 +32,10 @@ use Rattle.un_rect.specs.Spans.{UserVars, TempVars, choice_vars as user_choice}
 use Rattle.un_rect.specs.declared.clobber.ClobberCall.{ClobberCall}
 use Rattle.un_slots.specs.Slots.{SlotVars}
 use Rattle.un_slots.specs.declared.item.Item.{Item}
+use Rattle.un_length.specs.Blocks.{BlockVars}
+use Rattle.un_length.specs.declared.block.Task.{Task}
 use Rattle.un_kinds.specs.Scopes.{IsScope, vars_in, own_var, alt_vars, end_var, op_vars, use_vars, leave_vars}
-use Rattle.un_kinds.specs.Scopes.{rectangle_vars, clobber_vars, item_vars, side_vars}
+use Rattle.un_kinds.specs.Scopes.{rectangle_vars, clobber_vars, item_vars, side_vars, task_vars}
 use Rattle.un_kinds.proofs.Rising.{among_own}
 
 -- ---- parts of lists
@@ -228,3 +230,8 @@ pub slot_vars : (vs : List VarId) (items : List Item) → IsScope vs (vars_in it
 slot_vars vs items s i d lt =
     let p = two vs (act_vars (get_or items i d).on) (own_var (get_or items i d).at) (each item_vars vs items (scoped vs _ s) i d lt) in
     record { of_on = p.0; of_at = one vs (get_or items i d).at p.1 }
+
+pub block_vars : (vs : List VarId) (ops : List Task) (end : VarId) → IsScope vs (vars_in task_vars ops ++ own_var end) → BlockVars vs ops end
+block_vars vs ops end s =
+    let p = two vs (vars_in task_vars ops) (own_var end) (scoped vs _ s) in
+    record { of_ops = λ i d lt. one vs (get_or ops i d).at (each task_vars vs ops p.0 i d lt); of_end = one vs end p.1 }

@@ -26,6 +26,9 @@ use Rattle.un_rect.specs.Operands.{Side, operands_holds}
 use Rattle.un_rect.specs.declared.clobber.ClobberCall.{ClobberCall}
 use Rattle.un_slots.specs.Slots.{per_cycle_holds}
 use Rattle.un_slots.specs.declared.item.Item.{Item}
+use Rattle.un_length.specs.Blocks.{block_holds}
+use Rattle.un_length.specs.declared.block.Precedence.{Precedence}
+use Rattle.un_length.specs.declared.block.Task.{Task}
 
 pub data Constraint : Type 0 where
   Before : At → Act → At → Act → ℕ → Constraint
@@ -43,6 +46,7 @@ pub data Constraint : Type 0 where
   Clobber : ℕ → Temp → List ClobberCall → Constraint
   Operands : Side → Side → Constraint
   PerCycle : List Item → ℕ → Constraint
+  Length : List Task → List Precedence → VarId → ℕ → Constraint
 
 -- whether an assignment meets it
 abbrev pub meets : Constraint → List ℕ → Bool
@@ -61,6 +65,7 @@ meets (Apart temps) x = apart_holds temps x
 meets (Clobber mask temp calls) x = clobber_holds mask temp calls x
 meets (Operands a b) x = operands_holds a b x
 meets (PerCycle items horizon) x = per_cycle_holds items horizon x
+meets (Length ops arcs end horizon) x = block_holds ops arcs end x
 
 -- it meets all of them
 abbrev pub AllMet : List Constraint → List ℕ → Type 0

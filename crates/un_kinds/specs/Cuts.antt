@@ -24,8 +24,10 @@ use Rattle.un_rect.specs.Clobber.{clobber_cut}
 use Rattle.un_rect.specs.Operands.{operands_holds, operands_steps}
 use Rattle.un_slots.specs.Crowds.{per_cycle_steps}
 use Rattle.un_slots.specs.Slots.{per_cycle_holds}
+use Rattle.un_length.specs.Blocks.{block_holds}
+use Rattle.un_length.specs.Lengths.{length_cut}
 use Rattle.un_kinds.specs.Constraints.{Constraint, Before, Reads, Inside, Last, Below, Chosen, Zeros, Spaces, Same, Home, Frame}
-use Rattle.un_kinds.specs.Constraints.{Apart, Clobber, Operands, PerCycle}
+use Rattle.un_kinds.specs.Constraints.{Apart, Clobber, Operands, PerCycle, Length}
 
 -- the sets that it leaves, or none where it fails
 abbrev pub cut_with : Constraint → List VarId → Sets → Option Sets
@@ -50,3 +52,4 @@ cut_with (Apart temps) vs s = apart_cut vs temps s
 cut_with (Clobber mask temp calls) vs s = clobber_cut vs mask temp calls s
 cut_with (Operands a b) vs s = option_and_then (last_cut vs (operands_holds a b)) (operands_steps a b s)
 cut_with (PerCycle items horizon) vs s = option_and_then (last_cut vs (per_cycle_holds items horizon)) (per_cycle_steps vs items horizon s)
+cut_with (Length ops arcs end horizon) vs s = option_and_then (last_cut vs (block_holds ops arcs end)) (length_cut vs ops arcs end horizon s)

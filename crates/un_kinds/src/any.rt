@@ -8,6 +8,7 @@ use un_alt::spaces::Spaces;
 use un_alt::zeros::Zeros;
 use un_base::ids::VarId;
 use un_domains::window::Window;
+use un_length::length::Length;
 use un_prec::before::Before;
 use un_prec::below::Below;
 use un_prec::inside::Inside;
@@ -37,6 +38,7 @@ pub enum AnyProp {
     Clobber(Clobber),
     Operands(Operands),
     PerCycle(PerCycle),
+    Length(Length),
 }
 
 impl Predicate for AnyProp {
@@ -63,6 +65,7 @@ impl Predicate for AnyProp {
             AnyProp::Clobber(p) => p.reads(),
             AnyProp::Operands(p) => p.reads(),
             AnyProp::PerCycle(p) => p.reads(),
+            AnyProp::Length(p) => p.reads(),
         }
     }
 
@@ -83,6 +86,7 @@ impl Predicate for AnyProp {
             AnyProp::Clobber(p) => p.test(fixed),
             AnyProp::Operands(p) => p.test(fixed),
             AnyProp::PerCycle(p) => p.test(fixed),
+            AnyProp::Length(p) => p.test(fixed),
         }
     }
 
@@ -104,7 +108,11 @@ impl Propagator for AnyProp {
     fn is_heavy(&self) -> bool {
         matches!(
             self,
-            AnyProp::Frame(_) | AnyProp::Apart(_) | AnyProp::Clobber(_) | AnyProp::PerCycle(_)
+            AnyProp::Frame(_)
+                | AnyProp::Apart(_)
+                | AnyProp::Clobber(_)
+                | AnyProp::PerCycle(_)
+                | AnyProp::Length(_)
         )
     }
 
@@ -125,6 +133,7 @@ impl Propagator for AnyProp {
             AnyProp::Clobber(p) => p.prune_in(w, scratch),
             AnyProp::Operands(p) => p.prune_in(w, scratch),
             AnyProp::PerCycle(p) => p.prune_in(w, scratch),
+            AnyProp::Length(p) => p.prune_in(w, scratch),
         }
     }
 

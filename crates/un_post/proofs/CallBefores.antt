@@ -130,7 +130,7 @@ module _ (e : Ext) (o : Options) (x : List ℕ) (given : Given e o x)
         subst (λ (u : Place). is_behind arcs (place_of p.0) u ≡ true) (sym q.2) (behind_of arcs (place_of p.0) next u f.1) in
         subst (λ (u : Place). Met x (anew_after e.table (place_of p.0) u)) q.2 (one_met p.0 q.0 p.1 q.1 call far))))
 
-    block_met : Met x (call_befores_in e.table (arcs_of e) r.block r.number r.owner (region_vars r))
+    pub block_met : Met x (call_befores_in e.table (arcs_of e) r.block r.number r.owner (region_vars r))
     block_met =
         let calls = with_kind is_call_kind ps in
         subst (λ (qs : List Place). Met x (call_befores_by e.table arcs qs)) (sym (places_in r))

@@ -178,7 +178,7 @@ module _ (e : Ext) (o : Options) (x : List ℕ) (given : Given e o x)
     arcs_are : (let owner = r.owner in arcs ≡ block_arcs e.table temps r.number owner.ops)
     arcs_are = ap arcs_or at
 
-    kept : (a : Arc) → Member a arcs → KeepsArc (issues_of (model_of e o) x) a
+    pub kept : (a : Arc) → Member a arcs → KeepsArc (issues_of (model_of e o) x) a
     kept a m =
         let owner = r.owner in
         arcs_kept (model_of e o) (record { values = x }) refl given.extended given.fit given.options schedule r.block

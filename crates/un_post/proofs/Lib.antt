@@ -4,7 +4,6 @@ pub mod CallAnew
 pub mod CallBefores
 pub mod CallCounts
 pub mod CallOrder
-pub mod CallReads
 pub mod Choices
 pub mod Congruences
 pub mod Cycles
@@ -20,6 +19,7 @@ pub mod Frames
 pub mod Homes
 pub mod Latencies
 pub mod LeastValues
+pub mod Lengths
 pub mod Limits
 pub mod Meeting
 pub mod ModelDomains

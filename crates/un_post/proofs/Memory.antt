@@ -183,7 +183,7 @@ module _ (e : Ext) (o : Options) (x : List ℕ) (given : Given e o x) where
         r.2,
       )
 
-  kept_met : (a : Arc) → KeepsArc (issues_of (model_of e o) x) a → meets (arc_before places a) x ≡ true
+  pub kept_met : (a : Arc) → KeepsArc (issues_of (model_of e o) x) a → meets (arc_before places a) x ≡ true
   kept_met a k =
       let p = issued a.from.0 k.earlier k.from_at in
       let q = issued a.to.0 k.later k.to_at in

@@ -20,6 +20,7 @@ use Rattle.un_model.proofs.Lists.{Each, each_of, each_member, each_more, each_ma
 use Rattle.un_prop.specs.Acts.{act_vars, at_vars}
 use Rattle.un_prop.specs.declared.act.Act.{Act}
 use Rattle.un_prop.specs.declared.act.Act.TheVariants.{Always}
+use Rattle.un_prop.specs.declared.act.At.{At}
 use Rattle.un_prop.specs.declared.act.At.TheVariants.{Const, Var}
 use Rattle.un_prop.specs.declared.act.Temp.{Temp}
 use Rattle.un_prop.specs.declared.act.UserOf.{UserOf}
@@ -32,9 +33,11 @@ use Rattle.un_rect.specs.Apart.{user_vars}
 use Rattle.un_rect.specs.Spans.{choice_vars as user_choice}
 use Rattle.un_rect.specs.declared.clobber.ClobberCall.{ClobberCall}
 use Rattle.un_slots.specs.declared.item.Item.{Item}
+use Rattle.un_length.specs.declared.block.Task.{Task}
 use Rattle.un_sites.specs.Befores.{place_or, place_with, arc_before}
 use Rattle.un_kinds.specs.Constraints.{Constraint, Before, Reads, Inside, Last, Below, Chosen, Zeros, Spaces, Same, Home, Frame, meets}
-use Rattle.un_kinds.specs.Constraints.{Apart, Clobber, Operands, PerCycle}
+use Rattle.un_kinds.specs.Constraints.{Apart, Clobber, Operands, PerCycle, Length}
+use Rattle.un_sites.specs.Lengths.{is_task, var_in, task_of, tasks_in, precedences_by, length_by}
 use Rattle.un_sites.specs.Places.{Place, Definer, Asked, act_by, act_of, time_by, time_of, definers_at}
 use Rattle.un_sites.specs.Places.{definer_or, registers_at, asked, asked_by}
 use Rattle.un_sites.specs.Places.{no_place}
@@ -46,12 +49,13 @@ use Rattle.un_sites.specs.Postings.{single_use, uses_of, leave_of, in_entry}
 use Rattle.un_sites.specs.Rooms.{user_if, operand_users, place_users, users_of, temp_by, temp_at, temps_in, is_behind, call_at, calls_but}
 use Rattle.un_sites.specs.Rooms.{spared_at, item_of, each_two, operand_side, two_by, one_value, two_at, twos_in}
 use Rattle.un_kinds.specs.Scopes.{vars_of, vars_in, own_var, alt_vars, end_var, op_vars, use_vars, leave_vars, rectangle_vars, clobber_vars}
-use Rattle.un_kinds.specs.Scopes.{item_vars, side_vars}
+use Rattle.un_kinds.specs.Scopes.{item_vars, side_vars, task_vars}
 use Rattle.un_post.proofs.Meeting.{each_places, joined_each}
 
 -- how many cycles a constraint counts over
 abbrev pub cycles_of : Constraint → ℕ
 cycles_of (PerCycle items horizon) = horizon
+cycles_of (Length ops arcs end horizon) = horizon
 cycles_of _ = 0
 
 -- a constraint on the first n variables alone, which is met where it is on none, and counts over at most so many cycles
@@ -565,6 +569,25 @@ module _ (n : ℕ) (pos : 0 < n) where
         by [] e x = refl
         by (i ∷ is) e x = absurd (some_first (act_vars i.on ++ own_var i.at) (vars_in item_vars is)
             (some_last (act_vars i.on) (own_var i.at) (λ f. cc f)) e)
+
+    var_known : (a : At) → Within (at_vars a) → (var_in a).0 < n
+    var_known (Const k) h = pos
+    var_known (Var v) h = h.0
+
+    pub length_are : (t : Table) (befores : List Constraint) (end : VarId) (horizon : ℕ) (ps : List Place) → end.0 < n → horizon ≤ most
+        → Each PlaceIn ps → IsSound n most (length_by t befores end horizon ps)
+    length_are t befores end horizon ps lt le h =
+        let found = with_kind is_task ps in
+        let ops = tasks_in t ps in
+        record {
+          within = two_in (vars_in task_vars ops) (own_var end)
+              (each_in task_vars ops (each_map (λ (k : Task). Within (task_vars k)) (task_of t) found
+              (each_more PlaceIn (λ (p : Place). Within (task_vars (task_of t p))) found
+              (λ p g. (var_known (time_of p) (time_in p g), tt))
+              (each_filter PlaceIn (λ (p : Place). is_task p.it.kind) ps h)))) (lt, tt);
+          grounded = λ e x. absurd (some_last (vars_in task_vars ops) (own_var end) (λ f. cc f) e);
+          spans = le;
+        }
 
     pub below_are : (ends : List Weighted) (limit : ℕ) → Each (λ (w : Weighted). w.end.0 < n) ends → (ends ≡ [] → ⊥)
         → IsSound n most (Below ends limit)

@@ -34,7 +34,7 @@ use Rattle.un_model.specs.Variables.{count_if, has_cycle, cycle_place, choice_pl
 use Rattle.un_model.specs.Variables.{chosen_operands, own_horizon}
 use Rattle.un_model.proofs.Lists.{Each, Member, each_of, each_member, each_more, each_map, each_join}
 use Rattle.un_model.proofs.Lists.{each_all, each_filter, member_at, member_map}
-use Rattle.un_model.proofs.Lists.{length_get}
+use Rattle.un_model.proofs.Lists.{length_get, member_append_right}
 use Rattle.un_model.proofs.Lists.{place_of as position_of}
 use Rattle.un_model.proofs.Operations.{GoodPlaced, all_good, placed_get}
 use Rattle.un_model.proofs.Placed.{Placed, placed, block_placed, blocks_placed, Region, region_placed, Spot}
@@ -44,8 +44,8 @@ use Rattle.un_model.proofs.PlacedSchedules.{joined_member, places_member}
 use Rattle.un_prop.specs.Acts.{at_vars}
 use Rattle.un_alt.specs.declared.frame.FrameLeave.{FrameLeave}
 use Rattle.un_prec.specs.declared.below.Weighted.{Weighted}
-use Rattle.un_sites.specs.Befores.{place_or, place_with, arc_before, befores_in, befores_of, all_postings_of}
-use Rattle.un_sites.specs.CallBefores.{call_befores_by, call_befores_in, call_befores_of}
+use Rattle.un_sites.specs.Befores.{place_or, place_with, arc_before, befores_in, befores_of, known_befores, length_in, lengths_of}
+use Rattle.un_sites.specs.Befores.{all_postings_of}
 use Rattle.un_kinds.specs.Constraints.{Constraint}
 use Rattle.un_sites.specs.Places.{Place, Definer, time_by, block_places, places_of, definer_by, definer_of, definers_of}
 use Rattle.un_sites.specs.Postings.{over_places, of_place, last_place, congruence, over_edge, edges_of}
@@ -56,7 +56,6 @@ use Rattle.un_sites.specs.Rooms.{apart_in, aparts_of, spared_in, spared_at, arcs
 use Rattle.un_sites.specs.Rooms.{rooms_of, temps_in}
 use Rattle.un_kinds.specs.Scopes.{leave_vars}
 use Rattle.un_post.proofs.Blocks.{blocks, in_all, region_vars, places_in}
-use Rattle.un_post.proofs.CallReads.{calls_sound}
 use Rattle.un_post.proofs.Congruences.{in_is}
 use Rattle.un_post.proofs.Meeting.{joined_each}
 use Rattle.un_post.proofs.Memory.{member_contains, arcs_by_regions}
@@ -65,9 +64,9 @@ use Rattle.un_post.proofs.Placing.{place_of, places_are, place_here}
 use Rattle.un_post.proofs.Reading.{IsSound, PlaceIn, DefinerIn, MayBe, Within, OperandsIn, no_place_in, get_in, place_are, last_in}
 use Rattle.un_post.proofs.Reading.{Timed}
 use Rattle.un_post.proofs.Reading.{same_are, apart_are, spared_are, twos_are, leaves_are, frame_are}
-use Rattle.un_post.proofs.Reading.{arc_are, packet_are, below_are, joined_places}
+use Rattle.un_post.proofs.Reading.{arc_are, packet_are, length_are, below_are, joined_places}
 use Rattle.un_post.proofs.RegisterBounds.{run_below}
-use Rattle.un_post.proofs.Regions.{over_regions, region_is}
+use Rattle.un_post.proofs.Regions.{over_regions, region_is, ended, last_of, front_of, region_parts}
 
 -- ---- what stands at a block's start stands nowhere else
 
@@ -390,11 +389,24 @@ module _ (e : Ext) (o : Options) (extended : IsExtended e) where
       (each_more (PlaceIn n pos) (λ p. Each IsOk (twos_in o.slots the_definers p)) the_places
       (λ p g. twos_are n pos most the_definers definers_known o.slots p g) places_known)
 
-  call_befores_ok : Each IsOk (call_befores_of m)
-  call_befores_ok = over_are IsOk (call_befores_in e.table m.arcs) (λ r mr.
-      let arcs = arcs_or (slice_get m.arcs r.block) in
-      subst (λ (ps : List Place). Each IsOk (call_befores_by e.table arcs ps)) (sym (places_in r))
-      (calls_sound n pos most e.table arcs (region_placed r) (subst (Each (PlaceIn n pos)) (places_in r) (block_known r mr))))
+  -- the end of a block is a variable of the model
+  end_known : (r : Region) → Member r (blocks e o []) → (let vars = region_vars r in vars.end.0 < n)
+  end_known r mr =
+      let en = ended e.table e.names e.blocks r (owner_good r mr) in
+      let last = last_of r en in
+      let there : Member last (region_placed r) = subst (Member last) (sym (region_parts r en))
+      (member_append_right (front_of r en) (last ∷ []) last (inl refl)) in
+      (each_member (InPlaced n) the_placed last in_placed (in_all e o [] r last mr there)).0
+
+  lengths_ok : Each IsOk (lengths_of m)
+  lengths_ok = over_are IsOk (length_in m) (λ r mr.
+      let owner = r.owner in
+      let vars = region_vars r in
+      let le = most_of 0 (map own_horizon e.blocks) owner.horizon (member_map own_horizon e.blocks owner (owner_member r mr)) in (
+        length_are n pos most e.table (known_befores m r.block (places_at r)) vars.end owner.horizon (places_at r) (end_known r mr) le
+            (block_known r mr),
+        tt,
+      ))
 
   join : (cs ds : List Constraint) → Each IsOk cs → Each IsOk ds → Each IsOk (cs ++ ds)
   join cs ds h k = each_join IsOk cs ds h k
@@ -405,11 +417,11 @@ module _ (e : Ext) (o : Options) (extended : IsExtended e) where
   all_sound limit =
       let edges = over_blocks (edges_of e.blocks the_definers) 0 0 e.blocks (blocks_vars 0 e.blocks) in
       let frame = frame_of m the_definers the_places in
-      join (postings_of m limit) (befores_of m ++ (rooms_of m ++ call_befores_of m))
+      join (postings_of m limit) (befores_of m ++ (rooms_of m ++ lengths_of m))
       (join (over_places (of_place e.table o.slots the_definers) m) (edges ++ (frame ++ limit_of m limit)) of_places_ok
       (join edges (frame ++ limit_of m limit) edges_ok (join frame (limit_of m limit) frame_ok (limit_ok limit))))
-      (join (befores_of m) (rooms_of m ++ call_befores_of m) befores_ok
-      (join (rooms_of m) (call_befores_of m)
+      (join (befores_of m) (rooms_of m ++ lengths_of m) befores_ok
+      (join (rooms_of m) (lengths_of m)
       (join (aparts_of m) (clobbers_of m ++ (packets_of m ++ twos_of m)) aparts_ok
       (join (clobbers_of m) (packets_of m ++ twos_of m) clobbers_ok
-      (join (packets_of m) (twos_of m) packets_ok twos_ok))) call_befores_ok))
+      (join (packets_of m) (twos_of m) packets_ok twos_ok))) lengths_ok))

@@ -32,7 +32,7 @@ use Rattle.un_post.specs.Strength.{Strong}
 use Rattle.un_kinds.specs.declared.any.AnyProp.{AnyProp}
 use Rattle.un_kinds.specs.declared.any.AnyProp.TheVariants.{Before, Reads, Inside, Last, Below as BelowProp, Chosen}
 use Rattle.un_kinds.specs.declared.any.AnyProp.TheVariants.{Zeros, Spaces, Same, Home}
-use Rattle.un_kinds.specs.declared.any.AnyProp.TheVariants.{Frame, Apart, Clobber, Operands, PerCycle}
+use Rattle.un_kinds.specs.declared.any.AnyProp.TheVariants.{Frame, Apart, Clobber, Operands, PerCycle, Length}
 use Rattle.un_post.proofs.Failing.{rounds_fail}
 use Rattle.un_post.proofs.Meeting.{all_each}
 use Rattle.un_post.proofs.Memory.{contains_member}
@@ -74,6 +74,7 @@ span_is (Apart p) = refl
 span_is (Clobber p) = refl
 span_is (Operands p) = refl
 span_is (PerCycle p) = refl
+span_is (Length p) = refl
 
 strong_as : (p : AnyProp) (s : Sets) → strong_of p s → Strong s (constraint_of p)
 strong_as (Before p) s h = h
@@ -91,6 +92,7 @@ strong_as (Apart p) s h = tt
 strong_as (Clobber p) s h = tt
 strong_as (Operands p) s h = tt
 strong_as (PerCycle p) s h = tt
+strong_as (Length p) s h = tt
 
 -- ---- those of a model
 

@@ -11,8 +11,8 @@ use un_base::memory_error::NoMemory;
 use un_kinds::props::Props;
 use un_model::model::Model;
 use un_rooms::post_aparts::post_aparts;
-use un_rooms::post_call_befores::post_call_befores;
 use un_rooms::post_clobbers::post_clobbers;
+use un_rooms::post_lengths::post_lengths;
 use un_rooms::post_packets::post_packets;
 use un_rooms::post_twos::post_twos;
 use un_single::post_arcs::post_arcs;
@@ -77,6 +77,6 @@ pub fn post_each(
     post_single(props, m, limit, sites, spots)?;
     post_arcs(props, m, spots)?;
     post_rooms(props, m, sites, spots)?;
-    post_call_befores(props, m)?;
+    post_lengths(props, m, spots)?;
     Ok(())
 }

@@ -5,3 +5,4 @@ pub mod Pairing
 pub mod Seeing
 pub mod Spares
 pub mod Sparing
+pub mod TaskPlaces

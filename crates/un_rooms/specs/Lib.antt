@@ -2,3 +2,4 @@ pub mod Calls
 pub mod Gathered
 pub mod Reach
 pub mod Twos
+pub mod Waits

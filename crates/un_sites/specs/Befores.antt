@@ -1,14 +1,17 @@
--- What is posted of the arcs of a model, and the whole list of what is posted for it.
-use Rattle.std.specs.Prelude.{ℕ, List, ◌++◌, Option, Some, None, map, slice_get}
+-- What is posted of the arcs of a model and of the lengths of its blocks, and the whole list of what is posted for it.
+use Rattle.std.specs.Prelude.{ℕ, List, [], ◌∷◌, ◌++◌, Option, Some, None, map, slice_get}
+use Rattle.un_ir.specs.declared.extended.ExtBlock.{ExtBlock}
 use Rattle.un_model.specs.declared.model.Arc.{Arc}
+use Rattle.un_model.specs.declared.model.BlockVars.{BlockVars}
 use Rattle.un_model.specs.declared.model.Model.{Model}
-use Rattle.un_model.specs.Pairs.{joined}
+use Rattle.un_model.specs.Pairs.{joined, over_blocks}
 use Rattle.un_prop.specs.declared.act.Act.TheVariants.{Always}
-use Rattle.un_sites.specs.CallBefores.{call_befores_of}
 use Rattle.un_kinds.specs.Constraints.{Constraint, Before}
-use Rattle.un_sites.specs.Places.{Place, no_place, time_of, places_of}
+use Rattle.un_sites.specs.CallBefores.{call_befores_by}
+use Rattle.un_sites.specs.Lengths.{length_by}
+use Rattle.un_sites.specs.Places.{Place, no_place, time_of, block_places, places_of}
 use Rattle.un_sites.specs.Postings.{postings_of}
-use Rattle.un_sites.specs.Rooms.{rooms_of}
+use Rattle.un_sites.specs.Rooms.{arcs_or, rooms_of}
 
 -- ---- arcs
 
@@ -32,9 +35,24 @@ befores_in ps arcs = map (arc_before ps) arcs
 abbrev pub befores_of : Model → List Constraint
 befores_of m = joined (map (befores_in (places_of m)) m.arcs)
 
+-- ---- lengths
+
+-- what is known of the order of the operations of block b: its arcs, and what its calls separate
+abbrev pub known_befores : Model → ℕ → List Place → List Constraint
+known_befores m b ps = let arcs : List Arc = arcs_or (slice_get m.arcs b) in
+    befores_in (places_of m) arcs ++ call_befores_by m.ext.table arcs ps
+
+abbrev pub length_in : Model → ℕ → ℕ → ExtBlock → BlockVars → List Constraint
+length_in m b n block vars = let ps : List Place = block_places b n block vars in
+    length_by m.ext.table (known_befores m b ps) vars.end block.horizon ps ∷ []
+
+-- one block after another
+abbrev pub lengths_of : Model → List Constraint
+lengths_of m = over_blocks (length_in m) 0 0 m.ext.blocks m.blocks
+
 -- ---- the whole list
 
 -- All that is posted for a model, under a limit on the cost or none: of single operations, congruences, the frame and the limit;
--- of arcs; of registers, calls, packets and two operands; and of what calls separate, which the rest implies.
+-- of arcs; of registers, calls, packets and two operands; and of the lengths of blocks, which the rest implies.
 abbrev pub all_postings_of : Model → Option ℕ → List Constraint
-all_postings_of m limit = postings_of m limit ++ (befores_of m ++ (rooms_of m ++ call_befores_of m))
+all_postings_of m limit = postings_of m limit ++ (befores_of m ++ (rooms_of m ++ lengths_of m))

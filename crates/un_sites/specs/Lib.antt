@@ -1,3 +1,4 @@
+pub mod Lengths
 pub mod Befores
 pub mod CallBefores
 pub mod Places

@@ -220,7 +220,7 @@ fn fits_down(cycles: &[u32], high: u32, places: u32, total: u32) -> bool
 }
 
 /// The same, where none of them ends at `high`, it is so if it was.
-fn has_room(cycles: &[u32], r: Resource, high: u32, many: u32, total: u32) -> bool
+pub fn has_room(cycles: &[u32], r: Resource, high: u32, many: u32, total: u32) -> bool
     requires room { high < length cycles.now }
     requires whole { sum_from (slice_index cycles.now) 0 (high + 1) ≤ total }
     ensures { result ≡ (nat_eq many 0 || all_below (λ low. nat_le (sum_from (slice_index cycles.now) low (high + 1 - low))

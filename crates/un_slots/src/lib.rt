@@ -1,7 +1,7 @@
 //! The propagator of packets: in each cycle the operations take no more of each resource than a packet has.
 #![tactic(auto)]
 
-mod crowd;
+pub mod crowd;
 mod issue;
 pub mod item;
 mod keep;

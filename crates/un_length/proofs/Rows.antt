@@ -1,0 +1,121 @@
+-- Blocks worked out by hand: the greatest end at which the operations have no room, and the one at which they have.
+use Rattle.std.proofs.Common.{ℕ, ◌≡◌, Bool, true, false, List, [], ◌∷◌, refl}
+use Rattle.un_base.specs.declared.ids.VarId.{VarId}
+use Rattle.un_isa.specs.declared.table.Needs.{Needs}
+use Rattle.un_length.specs.declared.block.Task.{Task}
+use Rattle.un_length.specs.declared.block.Precedence.{Precedence}
+use Rattle.un_length.specs.Blocks.{block_holds}
+use Rattle.un_length.specs.Lengths.{length_test}
+
+abbrev var : ℕ → VarId
+var v = record { 0 = v }
+
+-- what a constant, a product and a store need
+abbrev constant_needs : Needs
+constant_needs = record { mem = 0; store = 0; xc = 0; control = 0 }
+
+abbrev product_needs : Needs
+product_needs = record { mem = 0; store = 0; xc = 1; control = 0 }
+
+abbrev store_needs : Needs
+store_needs = record { mem = 1; store = 1; xc = 0; control = 0 }
+
+-- an operation by its variable, which issues before the end
+abbrev op : ℕ → Needs → Task
+op v needs = record { at = var v; tail = 1; needs = needs }
+
+abbrev after : ℕ → ℕ → ℕ → Precedence
+after from to gap = record { from = from; to = to; gap = gap }
+
+-- all cycles are from 1 to 5
+abbrev cycles : List ℕ
+cycles = 1 ∷ 5 ∷ []
+
+-- the end is from 1 to so much
+abbrev upto : ℕ → List ℕ
+upto end = 1 ∷ end ∷ []
+
+-- Three operations, each two cycles after the one before: in cycles 1, 3 and 5, so the end is 6
+
+abbrev three : List VarId
+three = var 0 ∷ var 1 ∷ var 2 ∷ var 3 ∷ []
+
+abbrev chain : List Task
+chain = op 0 constant_needs ∷ op 1 constant_needs ∷ op 2 constant_needs ∷ []
+
+abbrev links : List Precedence
+links = after 0 1 2 ∷ after 1 2 2 ∷ []
+
+abbrev chain_before : ℕ → Bool
+chain_before end = length_test three chain links (var 3) 10 (cycles ∷ cycles ∷ cycles ∷ upto end ∷ [])
+
+chain_too_long : chain_before 5 ≡ false
+chain_too_long = refl
+
+chain_fits : chain_before 6 ≡ true
+chain_fits = refl
+
+chain_holds : block_holds chain links (var 3) (1 ∷ 3 ∷ 5 ∷ 6 ∷ []) ≡ true
+chain_holds = refl
+
+-- Five constants in packets of four: in cycles 1 and 2, so the end is 3
+
+abbrev five : List VarId
+five = var 0 ∷ var 1 ∷ var 2 ∷ var 3 ∷ var 4 ∷ var 5 ∷ []
+
+abbrev crowd : List Task
+crowd = op 0 constant_needs ∷ op 1 constant_needs ∷ op 2 constant_needs ∷ op 3 constant_needs ∷ op 4 constant_needs ∷ []
+
+abbrev crowd_before : ℕ → Bool
+crowd_before end = length_test five crowd [] (var 5) 9 (cycles ∷ cycles ∷ cycles ∷ cycles ∷ cycles ∷ upto end ∷ [])
+
+crowd_too_many : crowd_before 2 ≡ false
+crowd_too_many = refl
+
+crowd_fits : crowd_before 3 ≡ true
+crowd_fits = refl
+
+crowd_holds : block_holds crowd [] (var 5) (1 ∷ 2 ∷ 1 ∷ 1 ∷ 1 ∷ 3 ∷ []) ≡ true
+crowd_holds = refl
+
+-- Two stores, one a packet: the end is 3
+
+abbrev two : List VarId
+two = var 0 ∷ var 1 ∷ var 2 ∷ []
+
+abbrev stores : List Task
+stores = op 0 store_needs ∷ op 1 store_needs ∷ []
+
+abbrev stores_before : ℕ → Bool
+stores_before end = length_test two stores [] (var 2) 6 (cycles ∷ cycles ∷ upto end ∷ [])
+
+stores_too_many : stores_before 2 ≡ false
+stores_too_many = refl
+
+stores_fit : stores_before 3 ≡ true
+stores_fit = refl
+
+stores_hold : block_holds stores [] (var 2) (2 ∷ 1 ∷ 3 ∷ []) ≡ true
+stores_hold = refl
+
+-- A product, and a sum of it two cycles later: in cycles 1 and 3, so the end is 4
+
+abbrev sum : List Task
+sum = op 0 product_needs ∷ op 1 constant_needs ∷ []
+
+abbrev sum_before : ℕ → Bool
+sum_before end = length_test two sum (after 0 1 2 ∷ []) (var 2) 7 (cycles ∷ cycles ∷ upto end ∷ [])
+
+sum_too_long : sum_before 3 ≡ false
+sum_too_long = refl
+
+sum_fits : sum_before 4 ≡ true
+sum_fits = refl
+
+sum_holds : block_holds sum (after 0 1 2 ∷ []) (var 2) (1 ∷ 3 ∷ 4 ∷ []) ≡ true
+sum_holds = refl
+
+-- An end that is not near is not looked at: two stores again, and the horizon at the end and the number of operations
+
+stores_far : length_test two stores [] (var 2) 4 (cycles ∷ cycles ∷ upto 2 ∷ []) ≡ true
+stores_far = refl

@@ -1,0 +1,14 @@
+pub mod Places
+pub mod Blocks
+pub mod BlockLaws
+pub mod ItemLaws
+pub mod Sums
+pub mod SumLaws
+pub mod Windows
+pub mod WindowLaws
+pub mod Rooms
+pub mod RoomLaws
+pub mod Counting
+pub mod CountingLaws
+pub mod Lengths
+pub mod LengthLaws

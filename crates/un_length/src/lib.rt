@@ -1,0 +1,9 @@
+//! The propagator of the length of a block: it fails where the operations of a block have no room before its greatest end.
+#![tactic(auto)]
+
+pub mod block;
+mod crowd;
+mod holds;
+pub mod length;
+mod room;
+mod window;

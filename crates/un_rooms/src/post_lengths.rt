@@ -1,0 +1,177 @@
+//! What is posted of the lengths of blocks: what a block issues in every solution has room before its end, in the order that the
+//! arcs and the calls ask for.
+
+ghost use Rattle.std.specs.Prelude.{◌≡◌, [], ◌∷◌, ◌++◌, IfOk, OnOk, map};
+ghost use Rattle.un_kinds.specs.Constraints as constraint;
+ghost use Rattle.un_rooms.specs.Waits.{befores_by};
+ghost use Rattle.un_sites.specs.Befores.{arc_before, befores_in, place_with, known_befores, length_in, lengths_of};
+ghost use Rattle.un_sites.specs.Lengths.{length_by};
+ghost use Rattle.un_sites.specs.Places.{places_of, time_of};
+ghost use Rattle.un_sites.specs.Sites.{place_of};
+
+use crate::call_waits::add_call_waits;
+use crate::post_clobbers::arcs_at;
+use crate::tasks::{precedences_by, tasks_in};
+use crate::wait::Wait;
+use std::alloc::{AllocError, Global};
+use un_base::ids::{OpId, VarId};
+use un_base::memory_error::NoMemory;
+use un_base::numbers::{advance, number};
+use un_ir::extended::ExtBlock;
+use un_isa::table::Table;
+use un_kinds::make_rect::make_length;
+use un_kinds::props::Props;
+use un_length::block::Block;
+use un_lists::items::Items;
+use un_model::model::{Arc, BlockVars, Model};
+use un_prop::act::At;
+use un_sites::sites::Spot;
+use un_sites::tables::add_block;
+
+/// The time of the operation with a number; what is not there is at a block's start.
+fn time_with(spots: &[Spot<'_>], op: OpId) -> At
+    ensures { result ≡ time_of (place_with (map place_of spots.now) op.0) }
+{
+    let i = op.0 as usize;
+    if i < spots.len() {
+        spots[i].time()
+    } else {
+        At::Const(0)
+    }
+}
+
+/// Adds what the operations of arcs wait for, where this is the table of all operations.
+fn add_arc_waits(
+    waits: &mut Items<Wait>,
+    spots: &[Spot<'_>],
+    arcs: &[Arc],
+) -> Result<(), AllocError>
+    ensures { OnOk result (befores_by waits.new ≡ befores_by waits.old ++ befores_in (map place_of spots.now) arcs.now) }
+{
+    for arc in arcs {
+        waits.push(Wait {
+            from: time_with(spots, arc.from),
+            to: time_with(spots, arc.to),
+            gap: arc.gap,
+        })?;
+    }
+    Ok(())
+}
+
+/// What the operations of block `b` wait for.
+fn known_waits(
+    alloc: Global,
+    m: &Model,
+    all: &[Spot<'_>],
+    b: u32,
+    spots: &[Spot<'_>],
+) -> Result<Items<Wait>, NoMemory>
+    requires { map place_of all.now ≡ places_of m.now }
+    ensures { IfOk result (λ waits. befores_by waits ≡ known_befores m.now b (map place_of spots.now)) }
+{
+    let arcs = arcs_at(&m.arcs, b);
+    let mut waits = Items::new(alloc);
+    add_arc_waits(&mut waits, all, arcs)?;
+    add_call_waits(alloc, &mut waits, &m.ext.table, arcs, spots)?;
+    Ok(waits)
+}
+
+/// A block's operations with the order among them.
+fn block_by(
+    alloc: Global,
+    t: &Table,
+    waits: &[Wait],
+    end: VarId,
+    horizon: u32,
+    spots: &[Spot<'_>],
+) -> Result<Block, NoMemory>
+    ensures { IfOk result (λ b. constraint.Length b.ops b.arcs b.end b.horizon
+        ≡ length_by t.now (befores_by waits.now) end horizon (map place_of spots.now)) }
+{
+    let ops = tasks_in(alloc, t, spots)?;
+    let arcs = precedences_by(alloc, ops.as_slice(), waits)?;
+    Ok(Block {
+        ops,
+        arcs,
+        end,
+        horizon,
+    })
+}
+
+/// The operations of block `b` with the order that is known of them.
+fn known_block(
+    alloc: Global,
+    m: &Model,
+    all: &[Spot<'_>],
+    b: u32,
+    end: VarId,
+    horizon: u32,
+    spots: &[Spot<'_>],
+) -> Result<Block, NoMemory>
+    requires { map place_of all.now ≡ places_of m.now }
+    ensures { IfOk result (λ k. constraint.Length k.ops k.arcs k.end k.horizon ≡ length_by m.now.ext.table
+        (known_befores m.now b (map place_of spots.now)) end horizon (map place_of spots.now)) }
+{
+    let waits = known_waits(alloc, m, all, b, spots)?;
+    let made = block_by(
+        alloc,
+        &m.ext.table,
+        waits.as_slice(),
+        end,
+        horizon,
+        spots,
+    )?;
+    Ok(made)
+}
+
+/// The operations of block `b`, of which the first has the number `first`, with the order among them.
+fn block_at(
+    alloc: Global,
+    m: &Model,
+    all: &[Spot<'_>],
+    b: u32,
+    first: u32,
+    block: &ExtBlock,
+    vars: &BlockVars,
+) -> Result<Block, NoMemory>
+    requires { map place_of all.now ≡ places_of m.now }
+    ensures { IfOk result (λ k. constraint.Length k.ops k.arcs k.end k.horizon ∷ [] ≡ length_in m.now b first block.now vars.now) }
+{
+    let mut spots = Items::new(alloc);
+    add_block(&mut spots, b, first, block, vars)?;
+    let made = known_block(alloc, m, all, b, vars.end, block.horizon, spots.as_slice())?;
+    Ok(made)
+}
+
+/// What is posted of the length of block `b`, of which the first operation has the number `first`.
+fn post_block(
+    props: &mut Props,
+    m: &Model,
+    all: &[Spot<'_>],
+    b: u32,
+    first: u32,
+    block: &ExtBlock,
+    vars: &BlockVars,
+) -> Result<(), NoMemory>
+    requires { map place_of all.now ≡ places_of m.now }
+    ensures { OnOk result (props.new ≡ props.old ++ length_in m.now b first block.now vars.now) }
+{
+    let known = block_at(props.alloc(), m, all, b, first, block, vars)?;
+    let made = make_length(props.alloc(), known)?;
+    props.push(made)
+}
+
+/// What is posted of the lengths of all blocks of a model, of which this is the table of operations.
+pub fn post_lengths(props: &mut Props, m: &Model, spots: &[Spot<'_>]) -> Result<(), NoMemory>
+    requires { map place_of spots.now ≡ places_of m.now }
+    ensures { OnOk result (props.new ≡ props.old ++ lengths_of m.now) }
+{
+    let mut n = 0;
+    for k in 0..m.ext.blocks.len().min(m.blocks.len()) {
+        let b = number(k)?;
+        let block = m.ext.blocks.get(k);
+        post_block(props, m, spots, b, n, block, m.blocks.get(k))?;
+        n = advance(n, block.ops.len())?;
+    }
+    Ok(())
+}
