@@ -37,8 +37,8 @@ fn kind_of(text: &[u8]) -> Option<(Kind, &[u8])>
 
 /// The line of the kind of answer.
 fn kind_line(at: Place) -> Result<(Kind, Place), ReportError>
-    ensures ok { IfOk result (λ p. IsRead IsAny kind_text one at p.0 p.1) }
-    ensures bad { IfErr result (IsErrorAt (IsBadLine IsAny kind_text) at) }
+    ensures ok { IfOk result (λ p. IsRead IsAny kind_text one at.entry p.0 p.1) }
+    ensures bad { IfErr result (IsErrorAt (IsBadLine IsAny kind_text) at.entry) }
 {
     match kind_of(at.rest) {
         Some((kind, rest)) => Ok((kind, behind(at, rest, 1)?)),
@@ -48,8 +48,8 @@ fn kind_line(at: Place) -> Result<(Kind, Place), ReportError>
 
 /// The lines of the cost and its bound.
 fn costs(at: Place) -> Result<((u64, u64), Place), ReportError>
-    ensures ok { IfOk result (λ p. IsRead AreCosts costs_lines two at p.0 p.1) }
-    ensures bad { IfErr result (IsErrorAt InCost at) }
+    ensures ok { IfOk result (λ p. IsRead AreCosts costs_lines two at.entry p.0 p.1) }
+    ensures bad { IfErr result (IsErrorAt InCost at.entry) }
 {
     let (cost, at) = number_line(at, b"cost ", 0, u64::MAX)?;
     let (bound, at) = number_line(at, b"bound ", 0, u64::MAX)?;
@@ -58,8 +58,8 @@ fn costs(at: Place) -> Result<((u64, u64), Place), ReportError>
 
 /// An answer that is code, behind the line of its kind.
 fn code_answer<'a>(alloc: Global, at: Place<'a>) -> Result<(Answered, Place<'a>), ReportError>
-    ensures ok { IfOk result (λ p. IsCodeRead at p.0 p.1) }
-    ensures bad { IfErr result (IsErrorAt InCost at) }
+    ensures ok { IfOk result (λ p. IsCodeRead at.entry p.0 p.1) }
+    ensures bad { IfErr result (IsErrorAt InCost at.entry) }
 {
     let ((cost, bound), at) = costs(at)?;
     let (code, at) = listing(alloc, at)?;
@@ -78,8 +78,8 @@ pub(crate) fn answer<'a>(
     alloc: Global,
     at: Place<'a>,
 ) -> Result<(Answered, Place<'a>), ReportError>
-    ensures ok { IfOk result (λ p. IsRead IsAnswer answer_text answer_lines at p.0 p.1) }
-    ensures bad { IfErr result (IsErrorAt InAnswer at) }
+    ensures ok { IfOk result (λ p. IsRead IsAnswer answer_text answer_lines at.entry p.0 p.1) }
+    ensures bad { IfErr result (IsErrorAt InAnswer at.entry) }
 {
     let (kind, at) = kind_line(at)?;
     match kind {

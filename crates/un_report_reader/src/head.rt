@@ -41,8 +41,8 @@ pub(crate) fn number_line<'a>(
     least: u64,
     most: u64,
 ) -> Result<(u64, Place<'a>), ReportError>
-    ensures ok { IfOk result (λ p. IsRead (IsWithin least most) (number_text word.now) one at p.0 p.1) }
-    ensures bad { IfErr result (IsErrorAt (IsBadLine (IsWithin least most) (number_text word.now)) at) }
+    ensures ok { IfOk result (λ p. IsRead (IsWithin least most) (number_text word.now) one at.entry p.0 p.1) }
+    ensures bad { IfErr result (IsErrorAt (IsBadLine (IsWithin least most) (number_text word.now)) at.entry) }
 {
     match number(at.rest, word, b'\n', least, most) {
         Some((n, rest)) => Ok((n, behind(at, rest, 1)?)),
@@ -64,8 +64,8 @@ fn name_of(text: &[u8]) -> Option<(&[u8], &[u8])>
 
 /// The line of the function's name.
 fn name_line<'a>(at: Place<'a>) -> Result<(&'a [u8], Place<'a>), ReportError>
-    ensures ok { IfOk result (λ p. IsRead IsName function_text one at p.0.now p.1) }
-    ensures bad { IfErr result (IsErrorAt (IsBadLine IsName function_text) at) }
+    ensures ok { IfOk result (λ p. IsRead IsName function_text one at.entry p.0.now p.1) }
+    ensures bad { IfErr result (IsErrorAt (IsBadLine IsName function_text) at.entry) }
 {
     match name_of(at.rest) {
         Some((name, rest)) => Ok((name, behind(at, rest, 1)?)),
@@ -106,8 +106,8 @@ fn settings_in(text: &[u8]) -> Option<(Settings, &[u8])>
 
 /// The line of the settings.
 fn settings_line(at: Place) -> Result<(Settings, Place), ReportError>
-    ensures ok { IfOk result (λ p. IsRead AreSettings settings_text one at (settings_of p.0) p.1) }
-    ensures bad { IfErr result (IsErrorAt (IsBadLine AreSettings settings_text) at) }
+    ensures ok { IfOk result (λ p. IsRead AreSettings settings_text one at.entry (settings_of p.0) p.1) }
+    ensures bad { IfErr result (IsErrorAt (IsBadLine AreSettings settings_text) at.entry) }
 {
     match settings_in(at.rest) {
         Some((settings, rest)) => Ok((settings, behind(at, rest, 1)?)),
@@ -116,9 +116,9 @@ fn settings_line(at: Place) -> Result<(Settings, Place), ReportError>
 }
 
 /// The lines before the answer.
-pub(crate) fn head(at: Place) -> Result<(Head, Place), ReportError>
-    ensures ok { IfOk result (λ p. IsRead IsHead head_text three at (head_of p.0) p.1) }
-    ensures bad { IfErr result (IsErrorAt InVersion at) }
+pub(crate) fn read_head(at: Place) -> Result<(Head, Place), ReportError>
+    ensures ok { IfOk result (λ p. IsRead IsHead head_text three at.entry (head_of p.0) p.1) }
+    ensures bad { IfErr result (IsErrorAt InVersion at.entry) }
 {
     let (_, at) = number_line(at, b"unison ", VERSION, VERSION)?;
     let (name, at) = name_line(at)?;

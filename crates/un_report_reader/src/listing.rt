@@ -35,7 +35,7 @@ fn behind_lines(text: &[u8], count: u32) -> Option<&[u8]>
 
 /// An error of a listing that begins at a place.
 fn refused(at: Place, error: ListingError) -> ReportError
-    ensures { IsErrorFrom at error result }
+    ensures { IsErrorFrom at.entry error result }
 {
     match error {
         ListingError::NoMemory => ReportError::NoMemory,
@@ -55,7 +55,7 @@ fn going_on(alloc: Global, text: &[u8]) -> Result<Vec<u8>, AllocError>
 
 /// The error of a listing whose lines are not all there.
 fn cut_short(alloc: Global, at: Place) -> ReportError
-    ensures { (count : ℕ) → length (pieces_of at.rest.now) < count → IsErrorAt (IsBadCode count) at result }
+    ensures { (count : ℕ) → length (pieces_of at.entry.rest.now) < count → IsErrorAt (IsBadCode count) at.entry result }
 {
     match going_on(alloc, at.rest) {
         Ok(text) => match read_code(alloc, text.as_slice()) {
@@ -69,8 +69,8 @@ fn cut_short(alloc: Global, at: Place) -> ReportError
 
 /// Code from so many lines of a listing.
 fn code<'a>(alloc: Global, at: Place<'a>, count: u32) -> Result<(Code, Place<'a>), ReportError>
-    ensures ok { IfOk result (λ p. IsRead (HasLines count) code_text (lines_in_code count) at p.0 p.1) }
-    ensures bad { IfErr result (IsErrorAt (IsBadCode count) at) }
+    ensures ok { IfOk result (λ p. IsRead (HasLines count) code_text (lines_in_code count) at.entry p.0 p.1) }
+    ensures bad { IfErr result (IsErrorAt (IsBadCode count) at.entry) }
 {
     let Some(rest) = behind_lines(at.rest, count) else {
         return Err(cut_short(alloc, at));
@@ -84,8 +84,8 @@ fn code<'a>(alloc: Global, at: Place<'a>, count: u32) -> Result<(Code, Place<'a>
 
 /// The listing, with the line of how many lines it has.
 pub(crate) fn listing<'a>(alloc: Global, at: Place<'a>) -> Result<(Code, Place<'a>), ReportError>
-    ensures ok { IfOk result (λ p. IsListingRead at p.0 p.1) }
-    ensures bad { IfErr result (IsErrorAt InListing at) }
+    ensures ok { IfOk result (λ p. IsListingRead at.entry p.0 p.1) }
+    ensures bad { IfErr result (IsErrorAt InListing at.entry) }
 {
     let (count, at) = number_line(at, b"listing ", 0, u64::from(u32::MAX))?;
     code(alloc, at, count as u32)

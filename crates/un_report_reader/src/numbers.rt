@@ -1,6 +1,6 @@
 //! The numbers of a solution, read.
 
-ghost use Rattle.std.specs.Prelude.{◌≡◌, ◌≢◌, ℕ, ◌<◌, List, [], ◌∷◌, IfOk, IfErr};
+ghost use Rattle.std.specs.Prelude.{◌≡◌, ◌≢◌, ℕ, ◌<◌, List, [], ◌∷◌, ◌++◌, IfOk, IfErr, OnOk};
 ghost use Rattle.un_report.specs.Reports.{after_number, numbers_text};
 ghost use Rattle.un_report_reader.specs.Answers.{IsSolutionRead};
 ghost use Rattle.un_report_reader.specs.Errors.{IsErrorAt, IsRead};
@@ -12,6 +12,7 @@ use crate::error::ReportError;
 use crate::head::number_line;
 use crate::place::{Place, bad_line, behind};
 use std::alloc::Global;
+use un_base::memory_error::NoMemory;
 use un_lists::items::Items;
 use un_model::model::Solution;
 use un_report::report::NUMBERS;
@@ -36,14 +37,22 @@ fn lines_of(count: u32) -> u32
     ((count as usize + (NUMBERS - 1)) / NUMBERS) as u32
 }
 
+/// Adds a number.
+fn add(values: &mut Items<u32>, n: u32) -> Result<(), NoMemory>
+    ensures { OnOk result (values.new ≡ values.old ++ n ∷ []) }
+{
+    values.push(n)?;
+    Ok(())
+}
+
 /// So many numbers of a solution.
 fn numbers<'a>(
     alloc: Global,
     at: Place<'a>,
     count: u32,
 ) -> Result<(Items<u32>, Place<'a>), ReportError>
-    ensures ok { IfOk result (λ p. IsRead (AreNumbers count) numbers_text numbers_lines at p.0 p.1) }
-    ensures bad { IfErr result (IsErrorAt (IsBadNumber count) at) }
+    ensures ok { IfOk result (λ p. IsRead (AreNumbers count) numbers_text numbers_lines at.entry p.0 p.1) }
+    ensures bad { IfErr result (IsErrorAt (IsBadNumber count) at.entry) }
 {
     let mut values = Items::new(alloc);
     let mut rest = at.rest;
@@ -51,7 +60,7 @@ fn numbers<'a>(
         let Some((n, left)) = number(rest, b"", end_of(k, count), 0, u64::from(u32::MAX)) else {
             return Err(bad_line(at, k / (NUMBERS as u32) + 1));
         };
-        values.push(n as u32)?;
+        add(&mut values, n as u32)?;
         rest = left;
     }
     Ok((values, behind(at, rest, lines_of(count))?))
@@ -62,8 +71,8 @@ pub(crate) fn solution<'a>(
     alloc: Global,
     at: Place<'a>,
 ) -> Result<(Solution, Place<'a>), ReportError>
-    ensures ok { IfOk result (λ p. IsSolutionRead at p.0.values p.1) }
-    ensures bad { IfErr result (IsErrorAt InSolution at) }
+    ensures ok { IfOk result (λ p. IsSolutionRead at.entry p.0.values p.1) }
+    ensures bad { IfErr result (IsErrorAt InSolution at.entry) }
 {
     let (count, at) = number_line(at, b"solution ", 0, u64::from(u32::MAX))?;
     let (values, at) = numbers(alloc, at, count as u32)?;

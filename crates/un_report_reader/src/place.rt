@@ -17,7 +17,7 @@ pub(crate) struct Place<'a> {
 /// The place so many lines later, where this is left.
 pub(crate) fn behind<'a>(at: Place<'a>, rest: &'a [u8], lines: u32) -> Result<Place<'a>, ReportError>
     ensures rest { IfOk result (λ next. next.rest.now ≡ rest.now) }
-    ensures lines { IfOk result (λ next. next.lines ≡ at.lines + lines) }
+    ensures lines { IfOk result (λ next. next.lines ≡ at.entry.lines + lines) }
     ensures err { IfErr result (λ e. e ≡ Error.NoMemory) }
 {
     let lines = later(at.lines, lines)?;
@@ -26,7 +26,7 @@ pub(crate) fn behind<'a>(at: Place<'a>, rest: &'a [u8], lines: u32) -> Result<Pl
 
 /// The answer where a line is bad, counted from a place. A number that is too large for a line is answered as want of memory.
 pub(crate) fn bad_line(at: Place, line: u32) -> ReportError
-    ensures { Names (at.lines + line) result }
+    ensures { Names (at.entry.lines + line) result }
 {
     match at.lines.checked_add(line) {
         Some(line) => ReportError::BadReport { line },

@@ -7,7 +7,7 @@ ghost use Rattle.un_report_reader.specs.Readings.{IsReport, IsErrorOf, IsViewRea
 
 use crate::answer::answer;
 use crate::error::ReportError;
-use crate::head::{Head, head};
+use crate::head::{Head, read_head};
 use crate::place::Place;
 use crate::tree::{Lines, end, tree};
 use std::alloc::Global;
@@ -30,7 +30,7 @@ pub fn read_view<'a>(alloc: Global, text: &'a [u8]) -> Result<ReportView<'a>, Re
         rest: text,
         lines: 0,
     };
-    let (Head { name, settings }, at) = head(at)?;
+    let (Head { name, settings }, at) = read_head(at)?;
     let (answer, at) = answer(alloc, at)?;
     let (Lines { text: tree, count }, at) = tree(at)?;
     end(at)?;

@@ -15,8 +15,8 @@ use un_tree::read::{Step, first_node};
 
 /// So many lines of nodes.
 fn nodes<'a>(at: Place<'a>, count: u32) -> Result<(&'a [u8], Place<'a>), ReportError>
-    ensures ok { IfOk result (λ p. IsNodesRead count at p.0.now p.1) }
-    ensures bad { IfErr result (IsErrorAt (IsBadNode count) at) }
+    ensures ok { IfOk result (λ p. IsNodesRead count at.entry p.0.now p.1) }
+    ensures bad { IfErr result (IsErrorAt (IsBadNode count) at.entry) }
 {
     let mut left = at.rest;
     for k in 0..count {
@@ -39,8 +39,8 @@ pub(crate) struct Lines<'a> {
 
 /// The lines of the tree, with the line of how many they are.
 pub(crate) fn tree(at: Place) -> Result<(Lines, Place), ReportError>
-    ensures ok { IfOk result (λ p. IsTreeRead at p.0 p.1) }
-    ensures bad { IfErr result (IsErrorAt InTree at) }
+    ensures ok { IfOk result (λ p. IsTreeRead at.entry p.0 p.1) }
+    ensures bad { IfErr result (IsErrorAt InTree at.entry) }
 {
     let (count, at) = number_line(at, b"tree ", 1, u64::from(MOST_NODES))?;
     let count = count as u32;
@@ -50,8 +50,8 @@ pub(crate) fn tree(at: Place) -> Result<(Lines, Place), ReportError>
 
 /// The line of the end.
 fn end_line(at: Place) -> Result<Place, ReportError>
-    ensures ok { IfOk result (λ next. IsRead IsPlain end_text one at tt next) }
-    ensures bad { IfErr result (IsErrorAt (IsBadLine IsPlain end_text) at) }
+    ensures ok { IfOk result (λ next. IsRead IsPlain end_text one at.entry tt next) }
+    ensures bad { IfErr result (IsErrorAt (IsBadLine IsPlain end_text) at.entry) }
 {
     match after(at.rest, b"end\n") {
         Some(rest) => behind(at, rest, 1),
@@ -61,8 +61,8 @@ fn end_line(at: Place) -> Result<Place, ReportError>
 
 /// Asks for the end, and nothing behind it.
 pub(crate) fn end(at: Place) -> Result<(), ReportError>
-    ensures ok { OnOk result (at.rest.now ≡ end_text tt) }
-    ensures bad { IfErr result (IsErrorAt InEnd at) }
+    ensures ok { OnOk result (at.entry.rest.now ≡ end_text tt) }
+    ensures bad { IfErr result (IsErrorAt InEnd at.entry) }
 {
     let at = end_line(at)?;
     if at.rest.is_empty() {
