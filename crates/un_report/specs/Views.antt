@@ -19,4 +19,4 @@ pub record IsViewOf (r : Report) (v : ReportView) : Type 0 where
 abbrev pub view_text : ReportView → List ℕ
 view_text v =
     (codes "unison " ++ decimal VERSION ++ codes "\nfunction " ++ v.name.now ++ codes "\n" ++ model_text v.options v.nodes)
-    ++ answer_text v.answer ++ codes "tree " ++ decimal v.count ++ codes "\n" ++ v.tree.now ++ codes "end\n"
+    ++ answer_text v.answer ++ (codes "tree " ++ decimal v.count ++ codes "\n" ++ v.tree.now ++ codes "end\n")

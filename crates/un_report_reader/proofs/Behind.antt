@@ -20,6 +20,7 @@ use Rattle.un_report_reader.specs.Trees.{AreNodeLines, IsTree, lines_text}
 use Rattle.un_report_reader.specs.declared.kind.Kind.{Kind}
 use Rattle.un_report_reader.specs.declared.kind.Kind.TheVariants as KindOf
 use Rattle.un_report_reader.specs.declared.tree.Lines.{Lines}
+use Rattle.un_report_reader.proofs.Seams.{woven}
 use Rattle.un_report_reader.proofs.Through.{behind_line}
 use Rattle.un_tree.specs.Texts.{tree_text}
 use Rattle.un_tree.specs.declared.node.Node.{Node}
@@ -64,9 +65,7 @@ behind_costs p text rest line good whole bad =
 pub listing_seam : (c : CodeValue) (rest : List ℕ)
     → listing_text c ++ rest ≡ listing_head (length (code_lines c)) ++ (code_text c ++ rest)
 listing_seam c rest =
-    let digits = decimal (length (code_lines c)) in
-    ap (λ (t : List ℕ). codes "listing " ++ t)
-    (append_assoc digits (10 ∷ code_text c) rest ∙ sym (append_assoc digits (10 ∷ []) (code_text c ++ rest)))
+    ap (λ (t : List ℕ). codes "listing " ++ t) (append_assoc (decimal (length (code_lines c)) ++ 10 ∷ []) (code_text c) rest)
 
 pub behind_listing : (c : CodeValue) (text rest : List ℕ) (line : ℕ) → IsListed c → text ≡ listing_text c ++ rest → InSolution rest line
     → InListing text (listing_lines c + line)
@@ -81,9 +80,7 @@ behind_listing c text rest line good whole bad =
 
 pub solution_seam : (xs rest : List ℕ) → solution_text xs ++ rest ≡ solution_head (length xs) ++ (numbers_text xs ++ rest)
 solution_seam xs rest =
-    let digits = decimal (length xs) in
-    ap (λ (t : List ℕ). codes "solution " ++ t)
-    (append_assoc digits (10 ∷ numbers_text xs) rest ∙ sym (append_assoc digits (10 ∷ []) (numbers_text xs ++ rest)))
+    ap (λ (t : List ℕ). codes "solution " ++ t) (append_assoc (decimal (length xs) ++ 10 ∷ []) (numbers_text xs) rest)
 
 pub behind_solution : (xs text rest : List ℕ) (line : ℕ) → AreValues xs → text ≡ solution_text xs ++ rest → InTree rest line
     → InSolution text (solution_lines xs + line)
@@ -98,7 +95,7 @@ behind_solution xs text rest line good whole bad =
     subst (λ (n : ℕ). InSolution text n) all in_solution
 
 -- what stands behind the kind of an answer that is code
-four_parts : (a b c d rest : List ℕ) → (a ++ (b ++ (c ++ d))) ++ rest ≡ (a ++ b) ++ (c ++ (d ++ rest))
+pub four_parts : (a b c d rest : List ℕ) → (a ++ (b ++ (c ++ d))) ++ rest ≡ (a ++ b) ++ (c ++ (d ++ rest))
 four_parts a b c d rest =
     append_assoc a (b ++ (c ++ d)) rest
     ∙ (ap (λ (t : List ℕ). a ++ t) (append_assoc b (c ++ d) rest ∙ ap (λ (t : List ℕ). b ++ t) (append_assoc c d rest))
@@ -123,11 +120,10 @@ behind_parts cost bound code values text rest line gc gb gl gv whole bad =
 pub answer_seam : (a : Answered) (rest : List ℕ) → answer_text a ++ rest ≡ kind_text (kind_of a) ++ (behind_kind a ++ rest)
 answer_seam (Code cost bound code solution) rest =
     let values = solution.values in
-    let digits = decimal cost in
-    let more = decimal bound in
-    ap (λ (t : List ℕ). codes "answer code\ncost " ++ t)
-    (ap (λ (t : List ℕ). t ++ rest) (append_assoc digits (codes "\nbound " ++ (more ++ 10 ∷ [])) (listing_text code ++ solution_text values)
-    ∙ sym (append_assoc digits (10 ∷ []) (codes "bound " ++ ((more ++ 10 ∷ []) ++ (listing_text code ++ solution_text values))))))
+    let front : List ℕ = ((decimal cost ++ codes "\nbound ") ++ decimal bound) ++ 10 ∷ [] in
+    ap (λ (t : List ℕ). codes "answer code\ncost " ++ (t ++ rest))
+    (append_assoc front (listing_text code) (solution_text values)
+    ∙ woven (decimal cost) (codes "bound ") (decimal bound) (listing_text code ++ solution_text values))
 answer_seam Infeasible rest = refl
 answer_seam Spent rest = refl
 

@@ -3,6 +3,9 @@ pub mod Cuts
 pub mod Listings
 pub mod NumberLaws
 pub mod Once
+pub mod Reads
 pub mod Seams
 pub mod Through
+pub mod TreeLaws
+pub mod ViewLaws
 pub mod WholeTexts

@@ -1,5 +1,5 @@
 -- The listing in a report: its lines, and what is left behind them.
-use Rattle.std.proofs.Common.{◌≡◌, ◌≢◌, ℕ, suc, ◌+◌, ◌<◌, ◌≤◌, ◌⊎◌, inl, inr, Bool, true, false, if◌then◌else◌, List, [], ◌∷◌, ◌++◌, map}
+use Rattle.std.proofs.Common.{◌≡◌, ◌≢◌, ℕ, suc, ◌+◌, ◌<◌, ◌≤◌, ◌⊎◌, ◌==◌, inl, inr, Bool, true, false, if◌then◌else◌, List, [], ◌∷◌, ◌++◌, map}
 use Rattle.std.proofs.Common.{length, take, codes, refl, sym, ap, ◌∙◌, arith, append_assoc, length-append}
 use Rattle.std.specs.List.{AllZip, concat, flat_map, onto_first}
 use Rattle.std.proofs.lemmas.List.Folds.{concat-append}
@@ -40,12 +40,13 @@ some_piece (b ∷ bs) rest e = by (is_line_feed b) e
 
 line_pieces : (line rest : List ℕ) → pieces_of (line ++ 10 ∷ rest) ≡ pieces_of (line ++ 10 ∷ []) ++ pieces_of rest
 line_pieces [] rest = refl
-line_pieces (b ∷ bs) rest = by (is_line_feed b)
+line_pieces (b ∷ bs) rest = by (line_pieces bs rest) (is_line_feed b)
   where
-    by : (v : Bool) → (if v then (b ∷ []) ∷ pieces_of (bs ++ 10 ∷ rest) else onto_first b (pieces_of (bs ++ 10 ∷ rest)))
+    by : pieces_of (bs ++ 10 ∷ rest) ≡ pieces_of (bs ++ 10 ∷ []) ++ pieces_of rest
+        → (v : Bool) → (if v then (b ∷ []) ∷ pieces_of (bs ++ 10 ∷ rest) else onto_first b (pieces_of (bs ++ 10 ∷ rest)))
         ≡ (if v then (b ∷ []) ∷ pieces_of (bs ++ 10 ∷ []) else onto_first b (pieces_of (bs ++ 10 ∷ []))) ++ pieces_of rest
-    by true = ap (λ (ts : List (List ℕ)). (b ∷ []) ∷ ts) (line_pieces bs rest)
-    by false = ap (onto_first b) (line_pieces bs rest) ∙ onto_append b (pieces_of (bs ++ 10 ∷ [])) (pieces_of rest) (some_piece bs [])
+    by later true = ap (λ (ts : List (List ℕ)). (b ∷ []) ∷ ts) later
+    by later false = ap (onto_first b) later ∙ onto_append b (pieces_of (bs ++ 10 ∷ [])) (pieces_of rest) (some_piece bs [])
 
 pub pieces_append : (ls : List (List ℕ)) (rest : List ℕ)
     → pieces_of (joined_lines ls ++ rest) ≡ pieces_of (joined_lines ls) ++ pieces_of rest
@@ -179,3 +180,22 @@ no_bad_code count c rest text line long is (inl bad) =
     ap concat (ap (take count) pieces ∙ (ap (λ (n : ℕ). take n (own ++ pieces_of rest)) (sym long ∙ sym (code_counted c))
     ∙ take-append_seam own (pieces_of rest))) ∙ concat-pieces_of (code_text c) in
     cc (refused (first_lines count text) (BadListing line) c bad.1 lines)
+
+-- ---- texts that are empty, and that are not
+
+pub some_text : (text : List ℕ) → false ≡ (length text == 0) → text ≢ []
+some_text [] e is = cc e
+some_text (x ∷ xs) e is = cc is
+
+pub no_text : (text : List ℕ) → true ≡ (length text == 0) → text ≡ []
+no_text [] e = refl
+no_text (x ∷ xs) e = absurd (cc e)
+
+-- where nothing is left behind fewer lines, there are no more
+pub few_behind : (text : List ℕ) (k count : ℕ) (rest : List ℕ) (h : IsBehindLines text k rest) → rest ≡ [] → k < count
+    → length (pieces_of text) < count
+few_behind text k count rest h none few =
+    let all = ap length h.cut ∙ length-append h.lines (pieces_of rest) in
+    let left : length (pieces_of rest) ≡ 0 = ap (λ (t : List ℕ). length (pieces_of t)) none in
+    let counted = h.counted in
+    omega (arith, all, left, counted, few)

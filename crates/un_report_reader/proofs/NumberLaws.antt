@@ -2,7 +2,7 @@
 use Rattle.std.proofs.Common.{◌≡◌, ◌≢◌, ℕ, suc, ◌+◌, ◌-◌, ◌%◌, ◌/◌, ◌<◌, ◌≤◌, ◌^◌, ◌==◌, ◌||◌, Bool, true, false, if◌then◌else◌, List, [], ◌∷◌, ◌++◌}
 use Rattle.std.proofs.Common.{All, length, codes, decimal, refl, sym, ap, ◌∙◌, subst, arith, append_assoc, length-append}
 use Rattle.std.specs.List.{AllByRecursion}
-use Rattle.std.proofs.lemmas.List.Elements.{recursion_from_All}
+use Rattle.std.proofs.lemmas.List.Elements.{recursion_from_All, All-cons, All-nil, All-append}
 use Rattle.un_report.specs.declared.report.TheConstants.{NUMBERS}
 use Rattle.un_report.specs.Reports.{after_number, numbers_from, numbers_text}
 use Rattle.un_report_reader.specs.FirstBad.{BeginsNoNumber, IsBadNumber}
@@ -86,5 +86,49 @@ pub no_bad_number : (count : ℕ) (xs rest : List ℕ) (text : List ℕ) (line :
 no_bad_number count xs rest text line are is bad =
     let long = are.0 in
     number_stands count 0 (length bad.before) bad.before xs bad.rest rest (recursion_from_All IsShort bad.before bad.short)
-    (recursion_from_All IsShort xs are.1) refl (omega (arith, long, bad.few))
+    (recursion_from_All IsShort xs are.1) (omega arith) (omega (arith, long, bad.few))
     (sym bad.whole ∙ (is ∙ ap (λ (n : ℕ). numbers_from n 0 xs ++ rest) long)) bad.is_bad
+
+-- ---- reading numbers
+
+-- the numbers so far and what is left are the text
+pub record SoFar (text left : List ℕ) (count : ℕ) (xs : List ℕ) (k : ℕ) : Type 0 where
+  pub short : All IsShort xs
+  pub counted : length xs ≡ k
+  pub whole : text ≡ numbers_from count 0 xs ++ left
+
+pub none_so_far : (text : List ℕ) (count : ℕ) → SoFar text text count [] 0
+none_so_far text count = record { short = All-nil IsShort; counted = refl; whole = refl }
+
+same_end : (count k end : ℕ) → after_number count k ≡ end ∷ [] → end ≡ end_byte count k
+same_end count k end is = let e : end ∷ [] ≡ end_byte count k ∷ [] = sym is ∙ ends_with count k in cc e
+
+pub one_more : (text left : List ℕ) (count : ℕ) (xs : List ℕ) (k next n end : ℕ) (rest : List ℕ) (ys : List ℕ) → SoFar text left count xs k
+    → after_number count k ≡ end ∷ [] → IsShort n → IsNumber left [] end n rest → ys ≡ xs ++ n ∷ [] → next ≡ k + 1
+    → SoFar text rest count ys next
+one_more text left count xs k next n end rest ys s is short here e one =
+    let more = length-append xs (n ∷ []) in
+    let counted = s.counted in
+    let grown : SoFar text rest count (xs ++ n ∷ []) next = record {
+      short = All-append IsShort xs (n ∷ []) s.short (All-cons IsShort n [] short (All-nil IsShort));
+      counted = omega (arith, more, counted, one);
+      whole = s.whole ∙ (ap (λ (t : List ℕ). numbers_from count 0 xs ++ t) (here
+          ∙ ap (λ (b : ℕ). decimal n ++ b ∷ rest) (same_end count k end is)) ∙ numbers_push count 0 xs n k rest (omega (arith, counted)));
+    } in
+    subst (λ (zs : List ℕ). SoFar text rest count zs next) (sym e) grown
+
+pub bad_number : (text left : List ℕ) (count : ℕ) (xs : List ℕ) (k end : ℕ) → SoFar text left count xs k → k < count
+    → after_number count k ≡ end ∷ [] → ((n : ℕ) (rest : List ℕ) → IsShort n → ¬ IsNumber left [] end n rest)
+    → IsBadNumber count text (k / NUMBERS + 1)
+bad_number text left count xs k end s few is none =
+    let counted = s.counted in
+    record {
+      before = xs;
+      rest = left;
+      short = s.short;
+      few = omega (arith, counted, few);
+      whole = s.whole;
+      is_bad = λ n rest short e. none n rest short (e ∙ (ap (λ (i : ℕ). (decimal n ++ after_number count i) ++ rest) counted
+          ∙ (append_assoc (decimal n) (after_number count k) rest ∙ ap (λ (t : List ℕ). decimal n ++ (t ++ rest)) is)));
+      numbered = ap (λ (i : ℕ). i / NUMBERS + 1) (sym counted);
+    }

@@ -162,3 +162,12 @@ no_bad_node count ns rest text line are is bad =
 
 pub end_once : Once IsPlain end_text
 end_once v w a b gv gw e = (refl, behind_once (codes "end\n") a b e)
+
+-- ---- texts that tell no number of registers
+
+pub no_regs : (word : List ℕ) (m : ℕ) → m < 2 ^ 64 → word ≡ decimal m → ¬ IsCountOfRegisters m → (r : Option ℕ)
+    → IfSome r IsCountOfRegisters → word ≢ regs_text r
+no_regs word m small is none None h e = all_is_none m small (sym e ∙ is)
+no_regs word m small is none (Some n) h e =
+    let same : m ≡ n = decimal_injective m n small (omega (arith, h.1)) (sym is ∙ e) in
+    none (omega (arith, same, h.0), omega (arith, same, h.1))

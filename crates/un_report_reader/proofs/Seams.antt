@@ -14,13 +14,27 @@ function_seam name rest = ap (λ (t : List ℕ). codes "function " ++ t) (append
 -- the texts of the options and the nodes, each before the next
 abbrev pub settings_parts : (Options × ℕ) → List ℕ → List ℕ
 settings_parts s rest =
-    codes "model regs " ++ (regs_text s.0.regs ++ 32 ∷ (codes "slots " ++ (decimal s.0.slots ++ 32 ∷ (codes "nodes "
-    ++ (decimal s.1 ++ 10 ∷ rest)))))
+    codes "model regs " ++ (regs_text s.0.regs ++ 32 ∷ (codes "slots " ++ (decimal s.0.slots ++ 32 ∷ (codes "nodes " ++ (decimal s.1
+    ++ 10 ∷ rest)))))
+
+-- six parts, each joined to those before it, and more text
+six_parts : (a b c d e f rest : List ℕ) → (((((a ++ b) ++ c) ++ d) ++ e) ++ f) ++ rest ≡ a ++ (b ++ (c ++ (d ++ (e ++ (f ++ rest)))))
+six_parts a b c d e f rest =
+    append_assoc ((((a ++ b) ++ c) ++ d) ++ e) f rest
+    ∙ (append_assoc (((a ++ b) ++ c) ++ d) e (f ++ rest)
+    ∙ (append_assoc ((a ++ b) ++ c) d (e ++ (f ++ rest))
+    ∙ (append_assoc (a ++ b) c (d ++ (e ++ (f ++ rest))) ∙ append_assoc a b (c ++ (d ++ (e ++ (f ++ rest)))))))
 
 pub settings_seam : (s : Options × ℕ) (rest : List ℕ) → settings_text s ++ rest ≡ settings_parts s rest
 settings_seam s rest =
     ap (λ (t : List ℕ). codes "model regs " ++ t)
-    (append_assoc (regs_text s.0.regs) (codes " slots " ++ (decimal s.0.slots ++ (codes " nodes " ++ (decimal s.1 ++ 10 ∷ [])))) rest
-    ∙ ap (λ (t : List ℕ). regs_text s.0.regs ++ 32 ∷ (codes "slots " ++ t))
-    (append_assoc (decimal s.0.slots) (codes " nodes " ++ (decimal s.1 ++ 10 ∷ [])) rest
-    ∙ ap (λ (t : List ℕ). decimal s.0.slots ++ 32 ∷ (codes "nodes " ++ t)) (append_assoc (decimal s.1) (10 ∷ []) rest)))
+    (six_parts (regs_text s.0.regs) (codes " slots ") (decimal s.0.slots) (codes " nodes ") (decimal s.1) (10 ∷ []) rest)
+
+-- two lines, joined in another way
+pub woven : (a w b more : List ℕ) → (((a ++ 10 ∷ w) ++ b) ++ 10 ∷ []) ++ more ≡ (a ++ 10 ∷ []) ++ (w ++ ((b ++ 10 ∷ []) ++ more))
+woven a w b more =
+    append_assoc ((a ++ 10 ∷ w) ++ b) (10 ∷ []) more
+    ∙ (append_assoc (a ++ 10 ∷ w) b (10 ∷ more)
+    ∙ (append_assoc a (10 ∷ w) (b ++ 10 ∷ more)
+    ∙ sym (append_assoc a (10 ∷ []) (w ++ ((b ++ 10 ∷ []) ++ more))
+    ∙ ap (λ (t : List ℕ). a ++ 10 ∷ (w ++ t)) (append_assoc b (10 ∷ []) more))))

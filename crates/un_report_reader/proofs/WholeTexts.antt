@@ -26,6 +26,7 @@ use Rattle.un_report_reader.specs.declared.error.ReportError.TheVariants.{NoMemo
 use Rattle.un_report_reader.specs.declared.kind.Kind.TheVariants as KindOf
 use Rattle.un_report_reader.proofs.Behind.{listing_seam, solution_seam, answer_seam, four_parts}
 use Rattle.un_report_reader.proofs.Listings.{codes_once, no_bad_code}
+use Rattle.un_report_reader.proofs.Seams.{woven}
 use Rattle.un_report_reader.proofs.NumberLaws.{numbers_once, no_bad_number}
 use Rattle.un_report_reader.proofs.Once.{Once, good_behind, good_line, number_line_once, function_once, settings_once, kind_once, tree_once}
 use Rattle.un_report_reader.proofs.Once.{no_bad_node, end_once}
@@ -202,12 +203,12 @@ answer_once x y a b gx gy e = by x y gx gy (kind_once (kind_of x) (kind_of y) (b
 -- what a text tells
 pub record AreTold (name name' : List ℕ) (options options' : Options) (nodes nodes' : ℕ) (answer answer' : Answered) (count count' : ℕ)
     (ns ns' : List Node) : Type 0 where
-  pub name : name ≡ name'
-  pub options : options ≡ options'
-  pub nodes : nodes ≡ nodes'
-  pub answer : answer ≡ answer'
-  pub count : count ≡ count'
-  pub tree : ns ≡ ns'
+  pub same_name : name ≡ name'
+  pub same_options : options ≡ options'
+  pub same_nodes : nodes ≡ nodes'
+  pub same_answer : answer ≡ answer'
+  pub same_count : count ≡ count'
+  pub same_tree : ns ≡ ns'
 
 pub told : (text name name' : List ℕ) (options options' : Options) (nodes nodes' : ℕ) (answer answer' : Answered) (count count' : ℕ)
     (ns ns' : List Node) → IsText text name options nodes answer count (tree_text ns)
@@ -224,54 +225,51 @@ told text name name' options options' nodes nodes' answer answer' count count' n
     let same = counts.0 in
     let trees = tree_once count' ns ns' (codes "end\n") (codes "end\n") (omega (arith, long, same), are.1) are' counts.1 in
     record {
-      name = names.0;
-      options = ap (λ (s : Options × ℕ). s.0) settings.0;
-      nodes = ap (λ (s : Options × ℕ). s.1) settings.0;
-      answer = answers.0;
-      count = counts.0;
-      tree = trees.0;
+      same_name = names.0;
+      same_options = ap (λ (s : Options × ℕ). s.0) settings.0;
+      same_nodes = ap (λ (s : Options × ℕ). s.1) settings.0;
+      same_answer = answers.0;
+      same_count = counts.0;
+      same_tree = trees.0;
     }
 
 -- ---- the text in these parts, as it is printed
 
-abbrev pub flat : List ℕ → Options → ℕ → Answered → ℕ → List ℕ → List ℕ
-flat name options nodes answer count tree =
-    (codes "unison " ++ (decimal VERSION ++ (codes "\nfunction " ++ (name ++ (codes "\n" ++ settings_text (options, nodes))))))
-    ++ (answer_text answer ++ (codes "tree " ++ (decimal count ++ (codes "\n" ++ (tree ++ codes "end\n")))))
+abbrev pub front : List ℕ → Options → ℕ → List ℕ
+front name options nodes =
+    codes "unison " ++ decimal VERSION ++ codes "\nfunction " ++ name ++ codes "\n" ++ settings_text (options, nodes)
 
-tree_seam : (count : ℕ) (rest : List ℕ) → codes "tree " ++ (decimal count ++ (codes "\n" ++ rest)) ≡ tree_head count ++ rest
-tree_seam count rest = ap (λ (t : List ℕ). codes "tree " ++ t) (sym (append_assoc (decimal count) (10 ∷ []) rest))
+abbrev pub last : ℕ → List ℕ → List ℕ
+last count tree = codes "tree " ++ decimal count ++ codes "\n" ++ tree ++ codes "end\n"
+
+abbrev pub flat : List ℕ → Options → ℕ → Answered → ℕ → List ℕ → List ℕ
+flat name options nodes answer count tree = front name options nodes ++ answer_text answer ++ last count tree
+
+tree_seam : (count : ℕ) (tree : List ℕ) → last count tree ≡ tree_head count ++ (tree ++ codes "end\n")
+tree_seam count tree = ap (λ (t : List ℕ). codes "tree " ++ t) (append_assoc (decimal count ++ 10 ∷ []) tree (codes "end\n"))
 
 -- the head before more text
 pub head_seam : (name : List ℕ) (options : Options) (nodes : ℕ) (rest : List ℕ)
-    → (codes "unison " ++ (decimal VERSION ++ (codes "\nfunction " ++ (name ++ (codes "\n" ++ settings_text (options, nodes)))))) ++ rest
-    ≡ version_text VERSION ++ (function_text name ++ (settings_text (options, nodes) ++ rest))
-head_seam name options nodes rest = by (decimal VERSION)
+    → front name options nodes ++ rest ≡ version_text VERSION ++ (function_text name ++ (settings_text (options, nodes) ++ rest))
+head_seam name options nodes rest = by (decimal VERSION) (settings_text (options, nodes))
   where
-    settings : List ℕ
-    settings = settings_text (options, nodes)
-
-    names : (name ++ 10 ∷ settings_text (options, nodes)) ++ rest ≡ (name ++ 10 ∷ []) ++ (settings_text (options, nodes) ++ rest)
-    names = append_assoc name (10 ∷ settings_text (options, nodes)) rest
-        ∙ sym (append_assoc name (10 ∷ []) (settings_text (options, nodes) ++ rest))
-
-    by : (digits : List ℕ)
-        → (codes "unison " ++ (digits ++ (codes "\nfunction " ++ (name ++ (codes "\n" ++ settings_text (options, nodes)))))) ++ rest
-        ≡ (codes "unison " ++ (digits ++ codes "\n")) ++ (function_text name ++ (settings_text (options, nodes) ++ rest))
-    by digits =
+    by : (digits settings : List ℕ)
+        → (codes "unison " ++ digits ++ codes "\nfunction " ++ name ++ codes "\n" ++ settings) ++ rest
+        ≡ (codes "unison " ++ (digits ++ codes "\n")) ++ (function_text name ++ (settings ++ rest))
+    by digits settings =
         ap (λ (t : List ℕ). codes "unison " ++ t)
-        (append_assoc digits (codes "\nfunction " ++ (name ++ 10 ∷ settings_text (options, nodes))) rest
-        ∙ (ap (λ (t : List ℕ). digits ++ (codes "\nfunction " ++ t)) names
-        ∙ sym (append_assoc digits (10 ∷ []) (codes "function " ++ ((name ++ 10 ∷ []) ++ (settings_text (options, nodes) ++ rest))))))
+        (append_assoc (((digits ++ codes "\nfunction ") ++ name) ++ 10 ∷ []) settings rest
+        ∙ woven digits (codes "function ") name (settings ++ rest))
 
 pub flat_seam : (name : List ℕ) (options : Options) (nodes : ℕ) (answer : Answered) (count : ℕ) (tree : List ℕ)
     → flat name options nodes answer count tree
     ≡ version_text VERSION ++ (function_text name ++ (settings_text (options, nodes) ++ (answer_text answer
     ++ (tree_head count ++ (tree ++ codes "end\n")))))
 flat_seam name options nodes answer count tree =
-    ap (λ (t : List ℕ). (codes "unison " ++ (decimal VERSION ++ (codes "\nfunction " ++ (name ++ (codes "\n"
-    ++ settings_text (options, nodes)))))) ++ (answer_text answer ++ t)) (tree_seam count (tree ++ codes "end\n"))
-    ∙ head_seam name options nodes (answer_text answer ++ (tree_head count ++ (tree ++ codes "end\n")))
+    append_assoc (front name options nodes) (answer_text answer) (last count tree)
+    ∙ (head_seam name options nodes (answer_text answer ++ last count tree)
+    ∙ ap (λ (t : List ℕ). version_text VERSION ++ (function_text name ++ (settings_text (options, nodes) ++ (answer_text answer ++ t))))
+    (tree_seam count tree))
 
 -- ---- reports and their views
 
@@ -304,12 +302,12 @@ view_back text r v good is h spelled =
     let t = told text v.name.now r.name v.options r.options v.nodes r.nodes v.answer r.answer v.count (length r.tree.nodes.items)
     h.tree.nodes r.tree.nodes.items (view_parts text v h spelled) (report_parts text r good is) h.tree.are (refl, good.fit) in
     record {
-      name = t.name;
-      options = t.options;
-      nodes = t.nodes;
-      answer = t.answer;
-      tree = h.tree.spelled ∙ ap tree_text t.tree;
-      count = t.count;
+      name = t.same_name;
+      options = t.same_options;
+      nodes = t.same_nodes;
+      answer = t.same_answer;
+      tree = h.tree.spelled ∙ ap tree_text t.same_tree;
+      count = t.same_count;
     }
 
 -- and its text is not refused

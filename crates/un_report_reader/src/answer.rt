@@ -23,15 +23,15 @@ fn kind_of(text: &[u8]) -> Option<(Kind, &[u8])>
     ensures some { IfSome result (λ p. text.now ≡ kind_text p.0 ++ p.1.now) }
     ensures none { IfNone result ((kind : Kind) (rest : List ℕ) → text.now ≢ kind_text kind ++ rest) }
 {
-    if let Some(rest) = after(text, b"answer code\n") {
-        return Some((Kind::Code, rest));
-    }
-    if let Some(rest) = after(text, b"answer infeasible\n") {
-        return Some((Kind::Infeasible, rest));
-    }
-    match after(text, b"answer spent\n") {
-        Some(rest) => Some((Kind::Spent, rest)),
-        None => None,
+    match after(text, b"answer code\n") {
+        Some(rest) => Some((Kind::Code, rest)),
+        None => match after(text, b"answer infeasible\n") {
+            Some(rest) => Some((Kind::Infeasible, rest)),
+            None => match after(text, b"answer spent\n") {
+                Some(rest) => Some((Kind::Spent, rest)),
+                None => None,
+            },
+        },
     }
 }
 

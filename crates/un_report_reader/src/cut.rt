@@ -1,6 +1,6 @@
 //! Words and numbers at the front of a text.
 
-ghost use Rattle.std.specs.Prelude.{◌≡◌, ◌≢◌, ℕ, ◌<◌, List, ◌∷◌, ◌++◌, All, IfSome, IfNone};
+ghost use Rattle.std.specs.Prelude.{◌≡◌, ◌≢◌, ℕ, ◌<◌, List, ◌∷◌, ◌++◌, All, IfSome, IfNone, IsTrue, ◌↔◌};
 ghost use Rattle.un_tree.specs.Texts.{IsCut};
 ghost use Rattle.un_report_reader.specs.Parts.{IsField, IsWithin, IsNumber};
 
@@ -32,7 +32,16 @@ pub(crate) fn field<'a>(text: &'a [u8], start: &[u8], end: u8) -> Option<(&'a [u
     ensures some { IfSome result (λ p. IsField text.now start.now end p.0.now p.1.now) }
     ensures none { IfNone result ((word rest : List ℕ) → text.now ≢ start.now ++ (word ++ end ∷ rest)) }
 {
-    cut(after(text, start)?, end)
+    let rest = after(text, start)?;
+    let (word, left) = cut(rest, end)?;
+    Some((word, left))
+}
+
+/// Whether a number is from `least` to `most`.
+fn within(n: u64, least: u64, most: u64) -> bool
+    ensures { IsTrue result ↔ IsWithin least most n }
+{
+    least <= n && n <= most
 }
 
 /// The number from `least` to `most` between these first bytes and the byte `end`, and what stands behind that.
@@ -49,9 +58,8 @@ pub(crate) fn number<'a>(
 {
     let (word, rest) = field(text, start, end)?;
     let n = read_decimal(word)?;
-    if least <= n && n <= most {
-        Some((n, rest))
-    } else {
-        None
+    if !within(n, least, most) {
+        return None;
     }
+    Some((n, rest))
 }
