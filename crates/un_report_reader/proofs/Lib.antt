@@ -3,7 +3,7 @@ pub mod Cuts
 pub mod Listings
 pub mod NumberLaws
 pub mod Once
-pub mod Reads
+pub mod PartLaws
 pub mod Seams
 pub mod Through
 pub mod TreeLaws

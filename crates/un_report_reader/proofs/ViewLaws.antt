@@ -9,7 +9,7 @@ use Rattle.un_report.specs.declared.view.ReportView.{ReportView}
 use Rattle.un_model.specs.declared.model.Options.{Options}
 use Rattle.un_report_reader.proofs.Behind.{behind_head, behind_answer, behind_tree}
 use Rattle.un_report_reader.proofs.Once.{tree_once}
-use Rattle.un_report_reader.proofs.Reads.{error_at_start}
+use Rattle.un_report_reader.proofs.PartLaws.{error_at_start}
 use Rattle.un_report_reader.proofs.Through.{through}
 use Rattle.un_report_reader.proofs.WholeTexts.{flat, flat_seam, view_back, error_back}
 use Rattle.un_report_reader.specs.Answers.{IsAnswer, answer_lines}

@@ -1,7 +1,7 @@
 use Rattle.std.proofs.lemmas.Result.{err_from_is_err_and}
 use Rattle.un_report_reader.specs.FirstBad.{BehindKind}
 use Rattle.un_report_reader.specs.Lines.{IsAny, kind_text}
-use Rattle.un_report_reader.proofs.Reads.{codes_ok, codes_bad, infeasible_read, spent_read}
+use Rattle.un_report_reader.proofs.PartLaws.{codes_ok, codes_bad, infeasible_read, spent_read}
 use Rattle.un_report_reader.proofs.Through.{in_line}
 use Rattle.un_report_reader.proofs.answer.answer.Goals as goal
 

@@ -3,7 +3,7 @@ use Rattle.un_report.specs.Reports.{listing_text}
 use Rattle.un_report_reader.specs.Answers.{AreCosts, costs_lines, two, IsListed, listing_lines}
 use Rattle.un_report_reader.specs.FirstBad.{InCost, InListing, InSolution}
 use Rattle.un_report_reader.proofs.Behind.{behind_costs, behind_listing}
-use Rattle.un_report_reader.proofs.Reads.{code_read}
+use Rattle.un_report_reader.proofs.PartLaws.{code_read}
 use Rattle.un_report_reader.proofs.Through.{through}
 use Rattle.un_report_reader.proofs.answer.code_answer.Goals as goal
 

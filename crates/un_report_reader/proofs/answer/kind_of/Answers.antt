@@ -1,4 +1,4 @@
-use Rattle.un_report_reader.proofs.Reads.{no_kind}
+use Rattle.un_report_reader.proofs.PartLaws.{no_kind}
 use Rattle.un_report_reader.proofs.answer.kind_of.Goals as goal
 
 pub returns-in-None-after-2-clause-none : goal.returns-in-None-after-2-clause-none

@@ -1,4 +1,4 @@
-use Rattle.un_report_reader.proofs.Reads.{word_is_name}
+use Rattle.un_report_reader.proofs.PartLaws.{word_is_name}
 use Rattle.un_report_reader.proofs.head.name_of.Goals as goal
 
 pub returns-in-None-clause-none : goal.returns-in-None-clause-none

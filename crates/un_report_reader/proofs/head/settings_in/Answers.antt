@@ -1,5 +1,5 @@
 use Rattle.un_tree.proofs.Cuts.{if_none}
-use Rattle.un_report_reader.proofs.Reads.{no_word, no_regs_word, no_slots, no_nodes}
+use Rattle.un_report_reader.proofs.PartLaws.{no_word, no_regs_word, no_slots, no_nodes}
 use Rattle.un_report_reader.proofs.head.settings_in.Goals as goal
 
 pub returns-in_err-word-clause-none : goal.returns-in_err-word-clause-none

@@ -1,5 +1,5 @@
 use Rattle.std.proofs.Common.{refl}
-use Rattle.un_report_reader.proofs.Reads.{rest_short, code_here, refused_at}
+use Rattle.un_report_reader.proofs.PartLaws.{rest_short, code_here, refused_at}
 use Rattle.un_report_reader.proofs.listing.code.Goals as goal
 
 pub slice_bounds-lines-count : goal.slice_bounds-lines-count

@@ -1,4 +1,4 @@
-use Rattle.un_report_reader.proofs.Reads.{listings_bad}
+use Rattle.un_report_reader.proofs.PartLaws.{listings_bad}
 use Rattle.un_report_reader.proofs.listing.listing.Goals as goal
 
 pub returns-clause-bad : goal.returns-clause-bad

@@ -1,7 +1,7 @@
 use Rattle.std.proofs.lemmas.Result.{err_from_is_err_and}
 use Rattle.un_report_reader.specs.FirstBad.{InNumbers}
 use Rattle.un_report_reader.specs.Lines.{IsShort, solution_head}
-use Rattle.un_report_reader.proofs.Reads.{own_numbers, solution_read}
+use Rattle.un_report_reader.proofs.PartLaws.{own_numbers, solution_read}
 use Rattle.un_report_reader.proofs.Through.{in_line, past_line}
 use Rattle.un_report_reader.proofs.numbers.solution.Goals as goal
 

@@ -1,6 +1,6 @@
 use Rattle.std.proofs.Common.{refl}
 use Rattle.std.proofs.lemmas.Result.{err_from_is_err_and}
-use Rattle.un_report_reader.proofs.Reads.{error_at_start}
+use Rattle.un_report_reader.proofs.PartLaws.{error_at_start}
 use Rattle.un_report_reader.proofs.ViewLaws.{in_answer, in_tree, in_end, view_read}
 use Rattle.un_report_reader.proofs.read.view.Goals as goal
 

@@ -2,7 +2,7 @@ use Rattle.std.proofs.lemmas.Result.{err_from_is_err_and}
 use Rattle.un_commands.specs.Settings.{IsCountOfNodes}
 use Rattle.un_report_reader.specs.FirstBad.{InNodes}
 use Rattle.un_report_reader.specs.Lines.{tree_head}
-use Rattle.un_report_reader.proofs.Reads.{own_nodes}
+use Rattle.un_report_reader.proofs.PartLaws.{own_nodes}
 use Rattle.un_report_reader.proofs.Through.{in_line, past_line}
 use Rattle.un_report_reader.proofs.tree.tree.Goals as goal
 
