@@ -187,10 +187,6 @@ pub some_text : (text : List ℕ) → false ≡ (length text == 0) → text ≢ 
 some_text [] e is = cc e
 some_text (x ∷ xs) e is = cc is
 
-pub no_text : (text : List ℕ) → true ≡ (length text == 0) → text ≡ []
-no_text [] e = refl
-no_text (x ∷ xs) e = absurd (cc e)
-
 -- where nothing is left behind fewer lines, there are no more
 pub few_behind : (text : List ℕ) (k count : ℕ) (rest : List ℕ) (h : IsBehindLines text k rest) → rest ≡ [] → k < count
     → length (pieces_of text) < count

@@ -94,8 +94,8 @@ fn settings_in(text: &[u8]) -> Option<(Settings, &[u8])>
 {
     let (word, rest) = field(text, b"model regs ", b' ')?;
     let regs = regs_of(word)?;
-    let (slots, rest) = number(rest, b"slots ", b' ', 0, u64::from(SLOTS))?;
-    let (nodes, rest) = number(rest, b"nodes ", b'\n', 1, u64::from(MOST_NODES))?;
+    let (slots, rest) = number(rest, b"slots ", b' ', 0, SLOTS as u64)?;
+    let (nodes, rest) = number(rest, b"nodes ", b'\n', 1, MOST_NODES as u64)?;
     let options = Options {
         regs,
         slots: slots as u32,

@@ -87,6 +87,6 @@ pub(crate) fn listing<'a>(alloc: Global, at: Place<'a>) -> Result<(Code, Place<'
     ensures ok { IfOk result (λ p. IsListingRead at.entry p.0 p.1) }
     ensures bad { IfErr result (IsErrorAt InListing at.entry) }
 {
-    let (count, at) = number_line(at, b"listing ", 0, u64::from(u32::MAX))?;
+    let (count, at) = number_line(at, b"listing ", 0, u32::MAX as u64)?;
     code(alloc, at, count as u32)
 }

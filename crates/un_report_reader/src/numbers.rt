@@ -57,7 +57,7 @@ fn numbers<'a>(
     let mut values = Items::new(alloc);
     let mut rest = at.rest;
     for k in 0..count {
-        let Some((n, left)) = number(rest, b"", end_of(k, count), 0, u64::from(u32::MAX)) else {
+        let Some((n, left)) = number(rest, b"", end_of(k, count), 0, u32::MAX as u64) else {
             return Err(bad_line(at, k / (NUMBERS as u32) + 1));
         };
         add(&mut values, n as u32)?;
@@ -74,7 +74,7 @@ pub(crate) fn solution<'a>(
     ensures ok { IfOk result (λ p. IsSolutionRead at.entry p.0.values p.1) }
     ensures bad { IfErr result (IsErrorAt InSolution at.entry) }
 {
-    let (count, at) = number_line(at, b"solution ", 0, u64::from(u32::MAX))?;
+    let (count, at) = number_line(at, b"solution ", 0, u32::MAX as u64)?;
     let (values, at) = numbers(alloc, at, count as u32)?;
     Ok((Solution { values }, at))
 }

@@ -42,7 +42,7 @@ pub(crate) fn tree(at: Place) -> Result<(Lines, Place), ReportError>
     ensures ok { IfOk result (λ p. IsTreeRead at.entry p.0 p.1) }
     ensures bad { IfErr result (IsErrorAt InTree at.entry) }
 {
-    let (count, at) = number_line(at, b"tree ", 1, u64::from(MOST_NODES))?;
+    let (count, at) = number_line(at, b"tree ", 1, MOST_NODES as u64)?;
     let count = count as u32;
     let (text, at) = nodes(at, count)?;
     Ok((Lines { text, count }, at))

@@ -18,9 +18,9 @@ returns-in_err-solution-clause-bad c =
     let p = err_from_is_err_and c.from_residual-in_err-solution.result c.from_residual-in_err-solution.ensures.1 in
     rw (p.1, p.2) (through AreCosts costs_lines two InListing InCost c.args.at _ _ c.in_ok-cost.ensures.ok
     (λ text rest line g w b. behind_costs _ text rest line g w b) _
-    (through IsListed listing_text listing_lines InSolution InListing _ _ _ c.in_ok-code.ensures.ok
-    (λ text rest line g w b. behind_listing _ text rest line g w b) _ c.in_err-solution.ensures.bad))
+    (through IsListed listing_text listing_lines InSolution InListing _ c.in_ok-code.code _ c.in_ok-code.ensures.ok
+    (λ text rest line g w b. behind_listing c.in_ok-code.code text rest line g w b) _ c.in_err-solution.ensures.bad))
 
-pub returns-in_ok-solution-clause-ok : goal.returns-in_ok-solution-clause-ok
-returns-in_ok-solution-clause-ok c =
+pub returns-clause-ok : goal.returns-clause-ok
+returns-clause-ok c =
     code_read c.args.at _ _ _ _ _ _ c.in_ok-cost.ensures.ok c.in_ok-code.ensures.ok c.in_ok-solution.ensures.ok

@@ -16,5 +16,5 @@ returns-in_err-values-clause-bad c =
     rw (p.1, p.2) (past_line IsShort solution_head InNumbers c.args.at _ _ c.in_ok-count.ensures.ok _
     (own_numbers _ _ _ c.in_err-values.ensures.bad))
 
-pub returns-in_ok-values-clause-ok : goal.returns-in_ok-values-clause-ok
-returns-in_ok-values-clause-ok c = solution_read c.args.at _ _ _ _ c.in_ok-count.ensures.ok c.in_ok-values.ensures.ok
+pub returns-clause-ok : goal.returns-clause-ok
+returns-clause-ok c = solution_read c.args.at _ _ _ _ c.in_ok-count.ensures.ok c.in_ok-values.ensures.ok

@@ -25,7 +25,7 @@ returns-in_err-end-clause-bad c =
     rw (p.1, p.2) (in_end c.args.text.now _ _ _ _ _ _ _ _ refl refl c.in_ok-name.ensures.ok c.in_ok-answer.ensures.ok c.in_ok-tree.ensures.ok
     c.in_err-end.ensures.bad)
 
-pub returns-in_ok-end-clause-ok : goal.returns-in_ok-end-clause-ok
-returns-in_ok-end-clause-ok c =
+pub returns-clause-ok : goal.returns-clause-ok
+returns-clause-ok c =
     view_read c.args.text.now _ _ _ _ _ _ _ _ refl c.in_ok-name.ensures.ok c.in_ok-answer.ensures.ok c.in_ok-tree.ensures.ok
     c.in_ok-end.ensures.ok refl refl refl refl refl refl
