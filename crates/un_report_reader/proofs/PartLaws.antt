@@ -284,5 +284,7 @@ pub refused_at : (at : Place) (count : ℕ) (rest : List ℕ) (error : ListingEr
     → IsBadListing (take (length at.rest.now - length rest) at.rest.now) error → IsErrorFrom at error e → IsErrorAt (IsBadCode count) at e
 refused_at at count rest Listing.NoMemory e h bad is = subst (IsErrorAt (IsBadCode count) at) (sym is) tt
 refused_at at count rest (Listing.BadListing line) e h bad is =
-    named (IsBadCode count) at line e is (inl (behind_enough at.rest.now count rest h,
-    subst (λ (t : List ℕ). IsFirstBad t line) (lines_cut at.rest.now count rest h ∙ sym (behind_first at.rest.now count rest h)) bad))
+    named (IsBadCode count) at line e is (inl (
+      behind_enough at.rest.now count rest h,
+      subst (λ (t : List ℕ). IsFirstBad t line) (lines_cut at.rest.now count rest h ∙ sym (behind_first at.rest.now count rest h)) bad,
+    ))

@@ -74,10 +74,7 @@ fn code_answer<'a>(alloc: Global, at: Place<'a>) -> Result<(Answered, Place<'a>)
 }
 
 /// The answer.
-pub(crate) fn answer<'a>(
-    alloc: Global,
-    at: Place<'a>,
-) -> Result<(Answered, Place<'a>), ReportError>
+pub(crate) fn answer<'a>(alloc: Global, at: Place<'a>) -> Result<(Answered, Place<'a>), ReportError>
     ensures ok { IfOk result (λ p. IsRead IsAnswer answer_text answer_lines at.entry p.0 p.1) }
     ensures bad { IfErr result (IsErrorAt InAnswer at.entry) }
 {
