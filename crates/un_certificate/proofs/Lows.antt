@@ -76,9 +76,9 @@ below_open m limit nodes own c x is =
 
 module _ (x : List ℕ) where
   at_closed : (n : Node) (w : Waiting) → (n ≡ Open → ⊥) → IsOpenAt x n w → ⊥
-  at_closed (Branch v y) w no h = h
-  at_closed Closed w no h = h
-  at_closed Open w no h = no refl
+  at_closed (Branch v y) w never h = h
+  at_closed Closed w never h = h
+  at_closed Open w never h = never refl
 
   -- no leaf is open where no node is
   pub closed_holds_none : (i : ℕ) (ns : List Node) (ws : List Waiting) → AllByRecursion (λ (n : Node). n ≡ Open → ⊥) ns
