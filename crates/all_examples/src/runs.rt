@@ -3,6 +3,7 @@
 ghost use Rattle.std.specs.Prelude.{◌≡◌, ℕ, List, IfOk, true};
 ghost use Rattle.std.specs.List.{list_all};
 ghost use Rattle.un_isa.specs.Starts.{is_reply};
+ghost use Rattle.un_problem.specs.Problems.{IsProblemOf};
 
 use crate::rows::{ROWS, Row, row_for};
 use std::alloc::{AllocError, Global};
@@ -15,18 +16,23 @@ use un_isa::reg::{LINK, REGISTERS, STACK};
 use un_isa::start::{Reply, Start};
 use un_isa::table::hexagon;
 use un_lists::items::Items;
+use un_model::model::Model;
 use un_packet::code::Code;
 use un_packet::run::run_packets;
-use un_problem::problem::default_options;
+use un_problem::problem::{default_options, model};
 use un_reader::read::read_function;
+use un_report::report::{Answered, Report};
 use un_source::run::run_source;
-use un_top::code::costed_code;
+use un_top::search::search_report;
 
 /// Where the words of a row stand.
 const BASE: u32 = 256;
 
 /// What the called functions give, call after call.
 static GIVEN: [u32; 3] = [10, 4294967295, 30];
+
+/// How many nodes a search has.
+const NODES: u32 = 2_000;
 
 /// How many blocks are entered at most.
 const ENTERED: u32 = 1000;
@@ -182,10 +188,36 @@ fn wrong_rows(
     Ok((wrong, all))
 }
 
+/// The same of a function and the code of a report on it, where it has some.
+fn wrong_of_report(
+    alloc: Global,
+    name: &[u8],
+    f: &Function,
+    report: &Report,
+) -> Result<(usize, usize), NoMemory> {
+    match &report.answer {
+        Answered::Code { code, .. } => wrong_rows(alloc, name, f, code),
+        _ => Ok((1, 1)),
+    }
+}
+
+/// The same of a function and the code that a search makes for it.
+fn wrong_of_model(
+    alloc: Global,
+    name: &[u8],
+    f: &Function,
+    m: &Model,
+) -> Result<(usize, usize), NoMemory>
+    requires { IsProblemOf f.now m.now }
+{
+    let report = search_report(alloc, f, m, NODES)?;
+    wrong_of_report(alloc, name, f, &report)
+}
+
 /// The same of a function and the code that is made for it.
 fn wrong_of(alloc: Global, name: &[u8], f: &Function) -> Result<(usize, usize), NoMemory> {
-    let costed = costed_code(alloc, f, &hexagon(), &default_options())?;
-    wrong_rows(alloc, name, f, &costed.code)
+    let m = model(alloc, f, &hexagon(), &default_options())?;
+    wrong_of_model(alloc, name, f, &m)
 }
 
 /// How many rows of this name the function of a text and its code do not run as, out of how many; of a text with a fault none run.

@@ -20,17 +20,20 @@ use un_baseline::spill::spill_everywhere;
 use un_extend::extend::extend;
 use un_ir::extended::{LiveSets, Lssa};
 use un_ir::function::Function;
-use un_listing::report::print_first_report;
+use un_listing::print::print_code;
 use un_live::live::live_in;
 use un_lssa::linearize::linearize;
 use un_model::build::build;
 use un_model::model::{Model, Solution};
+use un_packet::code::Code;
 use un_post::post::{Posted, post};
 use un_reader::read::read_function;
 use un_shown::text::put_between;
-use un_top::bound::full_packets;
-use un_top::code::{Costed, code_by};
+use un_top::search::{code_of, search_report};
 use un_violations::violations::violations;
+
+/// How many nodes the search that is timed has.
+const NODES: u32 = 2_000;
 
 /// A part that is timed.
 #[derive(Clone, Copy)]
@@ -43,8 +46,9 @@ enum Call {
     Read,
     Solution,
     Code,
-    Report,
+    Listing,
     Post,
+    Search,
 }
 
 /// The parts of `alloc`, in the order in which their times are told.
@@ -57,7 +61,7 @@ static PARTS: [Call; 9] = [
     Call::Read,
     Call::Solution,
     Call::Code,
-    Call::Report,
+    Call::Listing,
 ];
 
 /// What the parts are called on: a function with its text, and what each part makes of it.
@@ -67,7 +71,7 @@ struct Inputs<'a> {
     f: &'a Function,
     m: &'a Model,
     s: &'a Solution,
-    costed: &'a Costed,
+    code: &'a Code,
     live: &'a LiveSets,
     linear: &'a Lssa,
 }
@@ -83,7 +87,8 @@ fn name_of(part: Call) -> &'static str {
         Call::Read => "read",
         Call::Solution => "solution",
         Call::Code => "code",
-        Call::Report => "report",
+        Call::Listing => "listing",
+        Call::Search => "search",
         Call::Post => "post",
     }
 }
@@ -95,11 +100,9 @@ fn call_late(alloc: Global, part: Call, x: &Inputs<'_>) -> bool
     match part {
         Call::Read => read_function(alloc, x.text).is_ok(),
         Call::Solution => spill_everywhere(alloc, x.m).is_ok(),
-        Call::Code => code_by(alloc, x.f, x.m, x.s).is_ok(),
-        Call::Report => {
-            let bound = full_packets(x.f);
-            print_first_report(alloc, x.costed.cost, bound, &x.costed.code).is_ok()
-        }
+        Call::Code => code_of(alloc, x.f, x.m, x.s).is_ok(),
+        Call::Listing => print_code(alloc, x.code).is_ok(),
+        Call::Search => search_report(alloc, x.f, x.m, NODES).is_ok(),
         _ => posted(alloc, x.f, x.m).is_ok(),
     }
 }
@@ -212,6 +215,7 @@ fn put_times(
 {
     put_parts(rt, alloc, out, x, calls)?;
     put_part(rt, alloc, out, Call::Post, x, posts)?;
+    put_part(rt, alloc, out, Call::Search, x, 1)?;
     let vars = cycles(alloc, x.m)?;
     put_rounds(rt, alloc, out, x, vars.as_slice())
 }
@@ -226,7 +230,7 @@ fn put_live(
     f: &Function,
     m: &Model,
     s: &Solution,
-    costed: &Costed,
+    code: &Code,
     live: &LiveSets,
 ) -> Result<(), NoMemory>
     requires problem { IsProblemOf f.now m.now }
@@ -240,7 +244,7 @@ fn put_live(
         f,
         m,
         s,
-        costed,
+        code,
         live,
         linear: &linear,
     };
@@ -257,14 +261,14 @@ fn put_coded(
     f: &Function,
     m: &Model,
     s: &Solution,
-    costed: &Costed,
+    code: &Code,
 ) -> Result<(), NoMemory>
     requires problem { IsProblemOf f.now m.now }
     requires roomy { AreRoomyFor f.now m.now.options }
     requires solution { IsSolution m.now s.now }
 {
     let live = live_in(alloc, f)?;
-    put_live(rt, alloc, out, counts, text, f, m, s, costed, &live)
+    put_live(rt, alloc, out, counts, text, f, m, s, code, &live)
 }
 
 /// Appends the same times, of a function and its model.
@@ -281,8 +285,8 @@ fn put_all(
     requires roomy { AreRoomyFor f.now m.now.options }
 {
     let s = spill_everywhere(alloc, m)?;
-    let costed = code_by(alloc, f, m, &s)?;
-    put_coded(rt, alloc, out, counts, text, f, m, &s, &costed)
+    let code = code_of(alloc, f, m, &s)?;
+    put_coded(rt, alloc, out, counts, text, f, m, &s, &code)
 }
 
 /// Appends how many variables and propagators a function has.

@@ -1,6 +1,5 @@
 //! What is known of a function, as texts.
 
-use crate::outcomes::outcome_text;
 use crate::rows::{cut, number_at};
 use crate::starts::start;
 use std::alloc::Global;
@@ -13,6 +12,7 @@ use un_isa::start::Start;
 use un_isa::table::hexagon;
 use un_live::live::live_in;
 use un_lssa::linearize::linearize;
+use un_outcome::print::print_outcome;
 use un_parts::extended::{extended_text, linear_text};
 use un_parts::live::live_text;
 use un_reader::read::read_function;
@@ -51,7 +51,7 @@ fn extended(alloc: Global, f: &Function) -> Result<Vec<u8>, NoMemory> {
 /// What a run of at most so many blocks comes to.
 fn run_from(alloc: Global, f: &Function, start: &Start, blocks: u32) -> Result<Vec<u8>, NoMemory> {
     let outcome = run_source(alloc, f, start, blocks)?;
-    outcome_text(alloc, f.names.as_slice(), &outcome)
+    print_outcome(alloc, f.names.as_slice(), &outcome)
 }
 
 /// What the run of a question comes to.

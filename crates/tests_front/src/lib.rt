@@ -11,11 +11,11 @@ mod framed;
 #[cfg(test)]
 mod functions;
 #[cfg(test)]
+mod generated;
+#[cfg(test)]
 mod known;
 #[cfg(test)]
 mod listings;
-#[cfg(test)]
-mod outcomes;
 #[cfg(test)]
 mod outside_faults;
 #[cfg(test)]
@@ -25,6 +25,10 @@ mod processor;
 #[cfg(test)]
 mod rows;
 #[cfg(test)]
+mod run_texts;
+#[cfg(test)]
 mod scripts;
+#[cfg(test)]
+mod start_texts;
 #[cfg(test)]
 mod starts;

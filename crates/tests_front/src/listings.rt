@@ -2,7 +2,6 @@
 //! spilled values.
 
 use crate::framed::framed_code;
-use crate::outcomes::outcome_text;
 use crate::processor::{computes, put_in_range, put_memory, put_saved};
 use crate::rows::{About, all_answered, cut, number_at};
 use crate::starts::start;
@@ -14,6 +13,7 @@ use un_isa::table::hexagon;
 use un_listing::print::print_code;
 use un_listing_reader::line::{Line, read_frame, read_line};
 use un_listing_reader::read::{ListingError, read_code};
+use un_outcome::print::print_outcome;
 use un_packet::code::Code;
 use un_packet::run::run_packets;
 
@@ -22,7 +22,7 @@ static ROWS: &[u8] =
     b"# Words that a memory keeps, how many registers calls keep, and the code that enters and leaves the largest frame: it returns to r31 in its second cycle.\
 |?memory:yes\
 |?saved:12\
-|?enter 10;;:returned 0 to 100
+|?enter 10;;:returned 0 target 100
 cycles 2
 |# Numbers at the ends of ranges, and whether they are within.\
 |-32768?in signed16:yes\
@@ -134,7 +134,7 @@ block e
 { memw(r29+#0) = r16; r16 = r31; call h(r0,r1) }
 { r29 = add(r29,#8); r31 = r16; r16 = memw(r29+#0) }
 { jumpr r31 }
-?packets 10;5 9 0 0 0 0 44;;0:returned 0 to 100
+?packets 10;5 9 0 0 0 0 44;;0:returned 0 target 100
 call h 9 5
 cycles 4
 |frame 8
@@ -144,7 +144,7 @@ block e
 { r17 = r0; memw(r29+#4) = r17; call h(r0) }
 { r0 = add(r0,r17); r31 = r16; r16 = memw(r29+#0); r17 = memw(r29+#4) }
 { r29 = add(r29,#8); jumpr r31 }
-?packets 10;5 0 0 0 0 0 0;;7:returned 12 to 100
+?packets 10;5 0 0 0 0 0 0;;7:returned 12 target 100
 call h 5
 cycles 5
 |&?packets 10;5 0 0 0 0 0 0;:waiting h 5
@@ -160,7 +160,7 @@ block loop
 { r3 = add(r3,r4); if (p0) jump loop }
 block exit
 { r0 = r3; jumpr r31 }
-?packets 10;256 272 2 0 0 0 0;256=3 260=4 272=5 276=6:returned 39 to 100
+?packets 10;256 272 2 0 0 0 0;256=3 260=4 272=5 276=6:returned 39 target 100
 mem 256 3
 mem 260 4
 mem 272 5
@@ -178,7 +178,7 @@ block e
 { r3 = memw(r0+#0); memw(r0+#0) = r2 }
 { nop }
 { r0 = r3; jumpr r31 }
-?packets 10;256 0 9 0 0 0 0;256=17:returned 17 to 100
+?packets 10;256 0 9 0 0 0 0;256=17:returned 17 target 100
 mem 256 9
 cycles 3
 |frame 24
@@ -209,10 +209,10 @@ block e
 { nop }
 { r29 = add(r29,#24) }
 { jumpr r31 }
-?packets 10;5 9 0 0 0 0 0;;0:returned 9 to 100
+?packets 10;5 9 0 0 0 0 0;;0:returned 9 target 100
 call h 5
 cycles 26
-|&?packets 10;9 9 0 0 0 0 0;;0:returned 9 to 100
+|&?packets 10;9 9 0 0 0 0 0;;0:returned 9 target 100
 call h 9
 cycles 26
 |frame 16
@@ -228,7 +228,7 @@ block exit
 { r0 = memw(r29+#0) }
 { nop }
 { r29 = add(r29,#16); jumpr r31 }
-?packets 10;256 0 2 0 0 0 0;256=3 260=4 272=5 276=6:returned 7 to 100
+?packets 10;256 0 2 0 0 0 0;256=3 260=4 272=5 276=6:returned 7 target 100
 mem 256 3
 mem 260 4
 mem 272 5
@@ -284,7 +284,7 @@ fn put_first_bad(alloc: Global, out: &mut Vec<u8>, text: &[u8]) -> Result<(), No
 /// What a run of at most so many blocks comes to.
 fn run_from(alloc: Global, code: &Code, start: &Start, blocks: u32) -> Result<Vec<u8>, NoMemory> {
     let outcome = run_packets(alloc, code, &hexagon(), start, blocks)?;
-    outcome_text(alloc, &[], &outcome)
+    print_outcome(alloc, &[], &outcome)
 }
 
 /// What the run of a question comes to.

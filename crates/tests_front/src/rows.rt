@@ -6,8 +6,11 @@ ghost use Rattle.std.specs.Prelude.{◌<◌, ◌^◌};
 
 use crate::base::put_of_bytes;
 use crate::faults::put_of_text;
+use crate::generated::put_of_seed;
 use crate::known::put_of_function;
 use crate::listings::put_of_listing;
+use crate::run_texts::put_of_run;
+use crate::start_texts::put_of_start;
 use std::alloc::Global;
 use un_base::decimal::read_decimal;
 use un_base::memory_error::NoMemory;
@@ -20,6 +23,9 @@ pub(crate) enum About {
     Listings,
     Texts,
     Functions,
+    Seeds,
+    Starts,
+    Runs,
 }
 
 /// What stands before and behind the first byte of this kind.
@@ -57,6 +63,9 @@ fn put_answer(
         About::Listings => put_of_listing(alloc, out, text, question),
         About::Texts => put_of_text(alloc, out, text, question),
         About::Functions => put_of_function(alloc, out, text, question),
+        About::Seeds => put_of_seed(alloc, out, question),
+        About::Starts => put_of_start(alloc, out, text, question),
+        About::Runs => put_of_run(alloc, out, text, question),
     }
 }
 

@@ -1,4 +1,5 @@
-//! Tests of the whole program over sources and sinks in memory, of the code of given values, and of what is posted for functions.
+//! Tests of the whole program over sources and sinks in memory, of the code of given values, of what is posted for
+//! functions, and of searches.
 #![tactic(auto)]
 
 #[cfg(test)]
@@ -7,5 +8,7 @@ mod posts;
 mod rows;
 #[cfg(test)]
 mod runs;
+#[cfg(test)]
+mod searches;
 #[cfg(test)]
 mod values;

@@ -3,6 +3,7 @@
 
 use crate::posts::{put_counts, put_end, put_operands};
 use crate::runs::put_run;
+use crate::searches::{put_solved, put_tried};
 use std::alloc::Global;
 use un_base::decimal::read_decimal;
 use un_base::memory_error::NoMemory;
@@ -26,8 +27,8 @@ pub(crate) fn number_at(text: &[u8], k: usize) -> u64 {
     number(text.split(|b| *b == b' ').nth(k).unwrap_or(&[]))
 }
 
-/// Appends the answer to a question about a text: of what is posted, of how rounds end, of propagators of two
-/// operands, or else of a run by words.
+/// Appends the answer to a question about a text: of what is posted, of how rounds end, of propagators of two operands, of a search,
+/// of an attempt, or else of a run by words.
 fn put_answer(
     alloc: Global,
     out: &mut Vec<u8>,
@@ -38,6 +39,8 @@ fn put_answer(
         Some(b'p') => put_counts(alloc, out, text),
         Some(b'e') => put_end(alloc, out, text, question),
         Some(b'o') => put_operands(alloc, out, text),
+        Some(b's') => put_solved(alloc, out, text, question),
+        Some(b't') => put_tried(alloc, out, text, question),
         _ => put_run(alloc, out, text, question),
     }
 }

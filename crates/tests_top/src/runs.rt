@@ -17,53 +17,283 @@ static RUNS: &[u8] = b"# The smallest function, by pieces of any size and in ano
 |func f
 block e freq 1
   ret
-?alloc:done>cost 6
+?alloc:done>unison 1
+function f
+model regs all slots 64 nodes 2000
+answer code
+cost 1
 bound 1
-frame 8
+listing 3
+frame 0
 block e
-{ r29 = add(r29,#-8) }
-{ memw(r29+#0) = r31 }
-{ r31 = memw(r29+#0) }
-{ nop }
-{ r29 = add(r29,#8) }
 { jumpr r31 }
+solution 124
+16 17 18 19 20 21 22 23 24 25 26 27 31 0 0 0
+0 0 0 0 0 0 0 0 0 0 0 0 0 0 0 0
+0 0 0 0 0 0 0 0 0 0 0 0 0 0 0 0
+0 0 0 0 0 0 0 0 0 0 0 0 1 0 0 0
+0 0 0 0 0 0 0 0 0 0 0 0 0 0 0 0
+0 0 0 0 0 0 0 0 0 0 0 0 0 0 0 0
+0 0 0 0 0 0 0 0 0 0 0 0 0 0 0 0
+0 0 0 0 0 0 0 0 0 0 2 0
+tree 1
+C
+end
 >\
-|&?alloc;1:done>cost 6
+|&?alloc;1:done>unison 1
+function f
+model regs all slots 64 nodes 2000
+answer code
+cost 1
 bound 1
-frame 8
+listing 3
+frame 0
 block e
-{ r29 = add(r29,#-8) }
-{ memw(r29+#0) = r31 }
-{ r31 = memw(r29+#0) }
-{ nop }
-{ r29 = add(r29,#8) }
 { jumpr r31 }
+solution 124
+16 17 18 19 20 21 22 23 24 25 26 27 31 0 0 0
+0 0 0 0 0 0 0 0 0 0 0 0 0 0 0 0
+0 0 0 0 0 0 0 0 0 0 0 0 0 0 0 0
+0 0 0 0 0 0 0 0 0 0 0 0 1 0 0 0
+0 0 0 0 0 0 0 0 0 0 0 0 0 0 0 0
+0 0 0 0 0 0 0 0 0 0 0 0 0 0 0 0
+0 0 0 0 0 0 0 0 0 0 0 0 0 0 0 0
+0 0 0 0 0 0 0 0 0 0 2 0
+tree 1
+C
+end
 >\
-|; the smallest\r\n\r\nfunc f\r\n\tblock e freq 001 ; once\r\n\r\nret ; at once?alloc:done>cost 6
+|; the smallest\r\n\r\nfunc f\r\n\tblock e freq 001 ; once\r\n\r\nret ; at once?alloc:done>unison 1
+function f
+model regs all slots 64 nodes 2000
+answer code
+cost 1
 bound 1
-frame 8
+listing 3
+frame 0
 block e
-{ r29 = add(r29,#-8) }
-{ memw(r29+#0) = r31 }
-{ r31 = memw(r29+#0) }
-{ nop }
-{ r29 = add(r29,#8) }
 { jumpr r31 }
+solution 124
+16 17 18 19 20 21 22 23 24 25 26 27 31 0 0 0
+0 0 0 0 0 0 0 0 0 0 0 0 0 0 0 0
+0 0 0 0 0 0 0 0 0 0 0 0 0 0 0 0
+0 0 0 0 0 0 0 0 0 0 0 0 1 0 0 0
+0 0 0 0 0 0 0 0 0 0 0 0 0 0 0 0
+0 0 0 0 0 0 0 0 0 0 0 0 0 0 0 0
+0 0 0 0 0 0 0 0 0 0 0 0 0 0 0 0
+0 0 0 0 0 0 0 0 0 0 2 0
+tree 1
+C
+end
 >\
-|# A sum of two parameters that runs often: each operand is reloaded, each result is spilled.\
+|# A sum of two parameters and its return share a packet; the block runs ten times.\
 |func g %a %b
 block e freq 10
   %c = add %a, %b
   ret %c
-?alloc:done>cost 160
+?alloc:done>unison 1
+function g
+model regs all slots 64 nodes 2000
+answer code
+cost 10
 bound 10
+listing 3
+frame 0
+block e
+{ r0 = add(r0,r1); jumpr r31 }
+...\
+|# The loop of a dot product has five packets.\
+|func dot %x %y %n
+block entry freq 1
+  %s = imm #0
+block loop freq 100
+  %u = load %x, #0
+  %v = load %y, #0
+  %m = mpyi %u, %v
+  %s = add %s, %m
+  %x = addi %x, #4
+  %y = addi %y, #4
+  %n = addi %n, #-1
+  $c = cmpgti %n, #0
+  if $c jump loop
+block exit freq 1
+  ret %s
+?alloc:done>unison 1
+function dot
+model regs all slots 64 nodes 2000
+answer code
+cost 502
+bound 502
+...\
+|# Blocks without an operation have no packet.\
+|func e
+block a freq 3
+block b freq 7
+block c freq 2
+  ret
+?alloc:done>unison 1
+function e
+model regs all slots 64 nodes 2000
+answer code
+cost 2
+bound 2
+listing 5
+frame 0
+block a
+block b
+block c
+{ jumpr r31 }
+...\
+|# Four constants fill a packet, and the fifth waits.\
+|func s
+block e freq 1
+  %a = imm #1
+  %b = imm #2
+  %c = imm #3
+  %d = imm #4
+  %e = imm #5
+  %p = add %a, %b
+  %q = add %c, %d
+  %r = add %p, %q
+  %t = add %r, %e
+  ret %t
+?alloc:done>unison 1
+function s
+model regs all slots 64 nodes 2000
+answer code
+cost 4
+bound 4
+...\
+|# A predicate across a call, by one node: each name is kept in a slot, and the bound is what precedences say.\
+|func q %a %b
+block e freq 1
+  $p = cmpeq %a, %b
+  call h %a
+  %r = mux $p, %a, %b
+  ret %r
+?alloc --nodes 1:done>unison 1
+function q
+model regs all slots 64 nodes 1
+answer code
+cost 29
+bound 2
+...\
+|# Two operands cannot stand in one register.\
+|func two
+block e freq 1
+  %a = imm #1
+  %b = imm #2
+  %c = add %a, %b
+  ret %c
+?alloc --regs 1:infeasible>unison 1
+function two
+model regs 1 slots 64 nodes 2000
+answer infeasible
+tree 1
+C
+end
+>\
+|&?alloc --nodes 1 --regs 1:infeasible>unison 1
+function two
+model regs 1 slots 64 nodes 1
+answer infeasible
+tree 1
+C
+end
+>\
+|# One node, with too few registers for the arguments of every call, and with enough.\
+|func f
+block e freq 1
+  ret
+?alloc --regs 5 --nodes 1:spent>unison 1
+function f
+model regs 5 slots 64 nodes 1
+answer spent
+tree 1
+O
+end
+>\
+|&?alloc --regs 29 --nodes 1:done>unison 1
+function f
+model regs 29 slots 64 nodes 1
+answer code
+cost 6
+bound 1
+listing 8
+frame 8
+block e
+{ r29 = add(r29,#-8) }
+{ memw(r29+#0) = r31 }
+{ r31 = memw(r29+#0) }
+{ nop }
+{ r29 = add(r29,#8) }
+{ jumpr r31 }
+...\
+|&?alloc --nodes 1:done>unison 1
+function f
+model regs all slots 64 nodes 1
+answer code
+cost 6
+bound 1
+listing 8
+frame 8
+block e
+{ r29 = add(r29,#-8) }
+{ memw(r29+#0) = r31 }
+{ r31 = memw(r29+#0) }
+{ nop }
+{ r29 = add(r29,#8) }
+{ jumpr r31 }
+...\
+|# Sixteen blocks that run a million times each; all but the last only lead on.\
+|func f
+block b0 freq 1000000
+  jump b1
+block b1 freq 1000000
+  jump b2
+block b2 freq 1000000
+  jump b3
+block b3 freq 1000000
+  jump b4
+block b4 freq 1000000
+  jump b5
+block b5 freq 1000000
+  jump b6
+block b6 freq 1000000
+  jump b7
+block b7 freq 1000000
+  jump b8
+block b8 freq 1000000
+  jump b9
+block b9 freq 1000000
+  jump b10
+block b10 freq 1000000
+  jump b11
+block b11 freq 1000000
+  jump b12
+block b12 freq 1000000
+  jump b13
+block b13 freq 1000000
+  jump b14
+block b14 freq 1000000
+  jump b15
+block b15 freq 1000000
+  ret
+?alloc:done>unison 1
+function f
+model regs all slots 64 nodes 2000
+answer code
+cost 16000000
+bound 16000000
 ...\
 |# Words that are no command.\
 |func f
 block e freq 1
   ret
 ?:usage 0>>usage: word 0
-|&?check:usage 0>>usage: word 0
+|&?alloc --nodes 0:usage 2>>usage: word 2
+|&?alloc --regs:usage 2>>usage: word 2
+|&?alloc --slots 1 --slots 1:usage 3>>usage: word 3
 |&?alloc x:usage 1>>usage: word 1
 |&?x alloc x:usage 0>>usage: word 0
 |# Texts with a fault of the input language, with its line and its code.\
@@ -95,32 +325,41 @@ block e freq 1
 |func f
 block e freq 1
   ret
-?alloc;16 65536 - 0:write fault>>write fault
-|&?alloc;16 65536 - 1:write fault>cost 6
+?alloc;64 65536 - 0:write fault>>write fault
+|&?alloc;64 65536 - 1:write fault>unison 1
+function f
+model regs all slots 64 nodes 2000
+answer co>write fault
+|&?alloc;64 65536 - 2:write fault>unison 1
+function f
+model regs all slots 64 nodes 2000
+answer code
+cost 1
 bound 1
-f>write fault
-|&?alloc;16 65536 - 2:write fault>cost 6
-bound 1
-frame 8
+listing 3
+frame 0
 block e
-{>write fault
-|&?alloc;16 65536 - 3:write fault>cost 6
+{ jumpr r31 }
+soluti>write fault
+|&?alloc;64 65536 - 3:write fault>unison 1
+function f
+model regs all slots 64 nodes 2000
+answer code
+cost 1
 bound 1
-frame 8
+listing 3
+frame 0
 block e
-{ r29 = add(r29,#>write fault
-|&?alloc;16 65536 - 4:write fault>cost 6
-bound 1
-frame 8
-block e
-{ r29 = add(r29,#-8) }
-{ memw(r29>write fault
+{ jumpr r31 }
+solution 124
+16 17 18 19 20 21 22 23 24 25 26 27 31 0 0 0
+0 0 0 0 0 0 >write fault
 |# `out` keeps what has room, and a fault of `err` changes no status.\
 |func f
 block e freq 1
   ret
-?alloc;4096 10:write fault>cost 6
-bou>write fault
+?alloc;4096 10:write fault>unison 1
+f>write fault
 |?alloc;4096 65536 - - 0:fault 1 6>>";
 
 /// Adds a word.
@@ -176,6 +415,8 @@ fn put_number_of(found: &mut Vec<u8>, words: &[u8], n: u32) -> Result<(), NoMemo
 fn put_status(found: &mut Vec<u8>, status: Status) -> Result<(), NoMemory> {
     match status {
         Status::Done => put_text(found, b"done"),
+        Status::Infeasible => put_text(found, b"infeasible"),
+        Status::Spent => put_text(found, b"spent"),
         Status::ReadFault => put_text(found, b"read fault"),
         Status::WriteFault => put_text(found, b"write fault"),
         Status::Usage { word } => put_number_of(found, b"usage ", word),

@@ -10,10 +10,11 @@ use un_ir::function::Function;
 use un_isa::table::hexagon;
 use un_listing::print::print_code;
 use un_lists::items::Items;
+use un_model::cost::cost;
 use un_model::model::{Model, Solution};
 use un_problem::problem::{default_options, model};
 use un_reader::read::read_function;
-use un_top::code::code_by;
+use un_top::search::code_of;
 use un_violations::violations::violations;
 
 /// Three blocks, of which the last returns at once.
@@ -51,11 +52,11 @@ fn costed(alloc: Global, f: &Function, m: &Model, s: &Solution) -> Result<Vec<u8
     requires problem { IsProblemOf f.now m.now }
     requires solution { IsSolution m.now s.now }
 {
-    let costed = code_by(alloc, f, m, s)?;
-    if costed.cost != 2 {
+    if cost(m, s) != 2 {
         return Ok(Vec::new(alloc));
     }
-    print_code(alloc, &costed.code)
+    let code = code_of(alloc, f, m, s)?;
+    print_code(alloc, &code)
 }
 
 /// The listing of the code of a solution, and nothing for other values.

@@ -1,11 +1,10 @@
 -- What is below the least costs of the open leaves' boxes is below each solution in them.
-use Rattle.std.proofs.Common.{ℕ, zero, suc, All, ◌≡◌, ◌≢◌, ◌<◌, ◌≤◌, ◌+◌, ◌⊎◌, List, [], ◌∷◌, Some, max, inl, inr, refl, sym, ap, subst, arith}
+use Rattle.std.proofs.Common.{ℕ, zero, suc, All, ◌≡◌, ◌≢◌, ◌<◌, ◌≤◌, ◌+◌, List, [], ◌∷◌, Some, inl, inr, refl, subst, arith}
 use Rattle.std.specs.declared.option.Option.{Option}
-use Rattle.std.proofs.lemmas.List.Elements.{recursion_from_All, All-from_recursion}
+use Rattle.std.proofs.lemmas.List.Elements.{recursion_from_All}
 use Rattle.std.specs.List.{AllByRecursion}
 use Rattle.std.proofs.lemmas.Bool.{cases_lt}
-use Rattle.un_base.specs.declared.ids.VarId.{VarId}
-use Rattle.un_domains.specs.Sets.{Sets, IsIn}
+use Rattle.un_domains.specs.Sets.{Sets}
 use Rattle.un_ir.specs.Extended.{IsExtended}
 use Rattle.un_isa.specs.Fit.{IsFit}
 use Rattle.un_model.specs.declared.model.Model.{Model}
@@ -15,7 +14,7 @@ use Rattle.un_model.specs.Options.{AreOptions}
 use Rattle.un_model.specs.Solutions.{IsSolution}
 use Rattle.un_model.specs.Variables.{IsModel}
 use Rattle.un_bound.specs.Relaxations.{Times, times_cost, IsMember, IsLeast}
-use Rattle.un_bound.proofs.Members.{known_box, solution_member}
+use Rattle.un_bound.proofs.Members.{solution_member}
 use Rattle.un_bound.proofs.Plains.{plain_below}
 use Rattle.un_post.proofs.Exact.{of_domains}
 use Rattle.un_tree.proofs.CoverLaws.{covered}

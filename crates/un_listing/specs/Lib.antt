@@ -2,4 +2,3 @@ pub mod Forms
 pub mod Listing
 pub mod ListingWords
 pub mod Recognized
-pub mod Report

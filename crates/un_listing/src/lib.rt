@@ -1,9 +1,8 @@
-//! The text of code and of the first report, and the instruction that the words of a text spell.
+//! The text of code, and the instruction that the words of a text spell.
 #![tactic(auto)]
 
 pub mod form;
 mod pieces;
 pub mod print;
 pub mod recognize;
-pub mod report;
 pub mod word;

@@ -1,7 +1,12 @@
-//! A search for solutions of a model: an attempt at one that costs less than a limit, with at most so many nodes.
+//! A search for solutions of a model: an attempt at one that costs less than a limit, with at most so many nodes, and attempts until
+//! there is none that costs less than the best so far.
 #![tactic(auto)]
 
 pub mod attempt;
+mod best;
 mod choices;
+mod lifts;
+pub mod order;
 pub mod rounds;
 pub mod solve;
+mod start;

@@ -9,15 +9,20 @@ ghost use Rattle.un_model.specs.Solutions.{IsSolution};
 ghost use Rattle.un_model.specs.Variables.{IsModel};
 ghost use Rattle.un_model.specs.declared.model.Solution.{Solution};
 ghost use Rattle.un_bound.specs.Arcs.{IsShort};
-ghost use Rattle.un_certificate.specs.Bounds.{IsBound};
+ghost use Rattle.un_certificate.specs.Bounds.{IsBound, IsLowestUnder};
 ghost use Rattle.un_certificate.specs.Certificates.{root_of};
 ghost use Rattle.un_merges.specs.Merges.{HasNoMerge};
 ghost use Rattle.un_tree.specs.Waits.{visits_of};
 ghost use Rattle.un_tree.specs.declared.node.Node.TheVariants.{Open};
-ghost use Rattle.un_search.specs.Solved.{IsEnded, OnCode, OnInfeasible, OnSpent, OnOther};
+ghost use Rattle.un_search.specs.Answers.{IsRefuted};
+ghost use Rattle.un_search.specs.Solved.{IsBest, IsCode, IsLast, IsEnded, OnBetter, OnEnded, OnCode, OnInfeasible, OnSpent, OnOther};
 
+use crate::attempt::{Tried, attempt};
+use crate::best::{Best, best_of};
+use crate::start::incumbent;
 use std::alloc::Global;
 use un_base::memory_error::NoMemory;
+use un_bound::plain::plain_bound;
 use un_model::model::{Model, Solution};
 use un_tree::node::Tree;
 
@@ -35,6 +40,142 @@ pub enum Answer {
     Infeasible(Tree),
     /// The nodes were used before a solution was found.
     Spent(Tree),
+}
+
+/// The best solution of all attempts, with a bound that no solution costs less than and the tree that shows it.
+#[derive(Drop)]
+struct Last {
+    best: Best,
+    bound: u64,
+    tree: Tree,
+}
+
+/// What an attempt under the cost of the best solution came to.
+#[derive(Drop)]
+enum Step {
+    Better(Best),
+    Ended(Last),
+}
+
+/// The bound of a tree in which no solution costs less than `low`.
+fn with_bound(m: &Model, best: Best, tree: Tree, low: u64, nodes: u32) -> Last
+    requires model { IsModel m.now }
+    requires extended { IsExtended m.now.ext }
+    requires fit { IsFit m.now.ext.table }
+    requires options { AreOptions m.now.options }
+    requires short { All IsShort m.now.ext.blocks }
+    requires best { IsBest m.now nodes best }
+    requires ended { IsEnded m.now (Some best.cost) nodes tree.nodes.items }
+    requires lowest { IsLowestUnder m.now best.cost (visits_of (root_of m.now) tree.nodes.items) low }
+    requires closed { All (λ n. n ≢ Open) tree.nodes.items → low ≡ best.cost }
+    ensures last { IsLast m.now nodes result }
+    ensures same { result.best ≡ best }
+{
+    let bound = plain_bound(m).max(low);
+    Last { best, bound, tree }
+}
+
+/// An attempt at a solution that costs less than the best one.
+fn try_better(alloc: Global, m: &Model, best: Best, nodes: u32) -> Result<Step, NoMemory>
+    requires model { IsModel m.now }
+    requires extended { IsExtended m.now.ext }
+    requires fit { IsFit m.now.ext.table }
+    requires options { AreOptions m.now.options }
+    requires short { All IsShort m.now.ext.blocks }
+    requires some { 0 < nodes }
+    requires best { IsBest m.now nodes best }
+    ensures better { IfOk result (OnBetter (IsBest m.now nodes)) }
+    ensures falls { IfOk result (OnBetter (λ b. b.cost < best.cost)) }
+    ensures last { IfOk result (OnEnded (IsLast m.now nodes)) }
+    ensures same { IfOk result (OnEnded (λ l. l.best ≡ best)) }
+{
+    let limit = best.cost;
+    match attempt(alloc, m, Some(limit), nodes)? {
+        Tried::Found(solution) => {
+            let next = best_of(alloc, m, solution, nodes)?;
+            Ok(Step::Better(next))
+        }
+        Tried::Refuted(tree) => Ok(Step::Ended(with_bound(m, best, tree, limit, nodes))),
+        Tried::Cut { tree, least } => {
+            let low = limit.min(least);
+            Ok(Step::Ended(with_bound(m, best, tree, low, nodes)))
+        }
+    }
+}
+
+/// Attempts from a solution on, each under the cost of the best one so far, until there is none that costs less or the nodes are used.
+fn improved(alloc: Global, m: &Model, start: Best, nodes: u32) -> Result<Last, NoMemory>
+    requires model { IsModel m.now }
+    requires extended { IsExtended m.now.ext }
+    requires fit { IsFit m.now.ext.table }
+    requires options { AreOptions m.now.options }
+    requires short { All IsShort m.now.ext.blocks }
+    requires some { 0 < nodes }
+    requires start { IsBest m.now nodes start }
+    ensures last { IfOk result (IsLast m.now nodes) }
+    ensures no_dearer { IfOk result (λ l. l.best.cost ≤ start.cost) }
+{
+    let mut best = start;
+    loop {
+        match try_better(alloc, m, best, nodes)? {
+            Step::Better(next) => best = next,
+            Step::Ended(last) => return Ok(last),
+        }
+    }
+}
+
+/// The answer with the best solution of all attempts.
+fn code_of(last: Last) -> Answer
+    ensures { result ≡ Answer.Code last.best.solution last.best.cost last.bound last.tree }
+{
+    let Last { best, bound, tree } = last;
+    let Best { solution, cost } = best;
+    Answer::Code {
+        solution,
+        cost,
+        bound,
+        tree,
+    }
+}
+
+/// The answer from a solution on.
+fn from_best(alloc: Global, m: &Model, best: Best, nodes: u32) -> Result<Answer, NoMemory>
+    requires model { IsModel m.now }
+    requires extended { IsExtended m.now.ext }
+    requires fit { IsFit m.now.ext.table }
+    requires options { AreOptions m.now.options }
+    requires short { All IsShort m.now.ext.blocks }
+    requires some { 0 < nodes }
+    requires best { IsBest m.now nodes best }
+    ensures code { IfOk result (OnCode (IsCode m.now nodes)) }
+    ensures no_dearer { IfOk result (OnCode (λ s cost bound t. cost ≤ best.cost)) }
+    ensures found { IfOk result (OnOther ⊥) }
+{
+    let last = improved(alloc, m, best, nodes)?;
+    Ok(code_of(last))
+}
+
+/// The answer where no solution is known yet: the first attempt has no limit.
+fn from_none(alloc: Global, m: &Model, nodes: u32) -> Result<Answer, NoMemory>
+    requires model { IsModel m.now }
+    requires extended { IsExtended m.now.ext }
+    requires fit { IsFit m.now.ext.table }
+    requires options { AreOptions m.now.options }
+    requires short { All IsShort m.now.ext.blocks }
+    requires some { 0 < nodes }
+    ensures code { IfOk result (OnCode (IsCode m.now nodes)) }
+    ensures infeasible { IfOk result (OnInfeasible (IsRefuted m.now None nodes)) }
+    ensures spent { IfOk result (OnSpent (λ t. IsEnded m.now None nodes t × Contains t Open)) }
+{
+    match attempt(alloc, m, None, nodes)? {
+        Tried::Found(solution) => {
+            let best = best_of(alloc, m, solution, nodes)?;
+            let answer = from_best(alloc, m, best, nodes)?;
+            Ok(answer)
+        }
+        Tried::Refuted(tree) => Ok(Answer::Infeasible(tree)),
+        Tried::Cut { tree, least: _ } => Ok(Answer::Spent(tree)),
+    }
 }
 
 /// Looks for the best solution of a model, each attempt with at most so many nodes, and from `start` on where there is one.
@@ -72,9 +213,14 @@ pub fn solve(
     ensures none { IfOk result (OnInfeasible (λ t. (x : Solution) → IsSolution m.now x → ⊥)) }
     ensures spent { IfOk result (OnSpent (λ t. IsEnded m.now None nodes t × Contains t Open)) }
 {
-    let _ = alloc;
-    let _ = m;
-    let _ = start;
-    let _ = nodes;
-    Err(NoMemory)
+    match incumbent(alloc, m, start, nodes)? {
+        None => {
+            let answer = from_none(alloc, m, nodes)?;
+            Ok(answer)
+        }
+        Some(best) => {
+            let answer = from_best(alloc, m, best, nodes)?;
+            Ok(answer)
+        }
+    }
 }

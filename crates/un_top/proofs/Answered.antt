@@ -1,5 +1,5 @@
 -- What the answers before writing say of the answer of a run.
-use Rattle.std.proofs.Common.{ℕ, ◌≡◌, ◌<◌, ◌⊎◌, inl, inr, List, [], append-nil, length, subst, refl, sym, ap, ◌∙◌, Vec, Global}
+use Rattle.std.proofs.Common.{ℕ, ◌≡◌, ◌<◌, ◌⊎◌, inl, inr, List, [], append-nil, length, subst, refl, sym, ap, ◌∙◌}
 use Rattle.std.specs.declared.option.Option.{Option}
 use Rattle.std.specs.declared.option.Option.TheVariants.{Some, None}
 use Rattle.std.specs.declared.result.Result.{Result}
@@ -16,10 +16,11 @@ use Rattle.un_reader.specs.declared.limits.TheConstants.{TEXT}
 use Rattle.un_reader.specs.Read.{IsRead, IsTextFault, too_long}
 use Rattle.un_faults.specs.declared.fault.Fault.TheVariants.{TooMany}
 use Rattle.un_top.specs.Faults.{IsFault}
-use Rattle.un_top.specs.declared.words.Command.{Command}
-use Rattle.un_top.specs.declared.words.Command.TheVariants.{Alloc}
-use Rattle.un_top.specs.Words.{IsCommand}
-use Rattle.un_top.specs.Runs.{AnswersFault, AnswersAccepted, IsAnswer, IsRefusal, IsOutput, IsOutputOf, KeepsOut, OutAfter}
+use Rattle.un_commands.specs.Commands.{IsCommand}
+use Rattle.un_commands.specs.declared.command.Command.{Command}
+use Rattle.un_commands.specs.declared.command.Command.TheVariants.{Alloc}
+use Rattle.un_top.specs.declared.produce.Output.{Output}
+use Rattle.un_top.specs.Runs.{AnswersFault, AnswersAccepted, IsAnswer, IsRefusal, IsOutput, IsOutputOf, IsWritten, Wrote, KeepsOut, OutAfter}
 use Rattle.un_top.proofs.FaultLaws.{fault_unique, read_has_no_fault}
 
 -- a text that is too long has its fault
@@ -29,12 +30,14 @@ too_long_fault None line code p q h = tt
 too_long_fault (Some text) line code p q h =
     record { fault = TooMany; is = subst (λ (l : ℕ). IsTextFault text l TooMany) p (too_long h); coded = sym q }
 
--- a status that is neither of those of writing comes from before it
-pub from_before : {T : Type 0} (outcome : Result T Status) (status s : Status) → IfErr outcome (λ e. status ≡ e)
-    → OnOk outcome ((status ≡ Done) ⊎ (status ≡ WriteFault)) → status ≡ s → (s ≡ Done → ⊥) → (s ≡ WriteFault → ⊥) → outcome ≡ Err s
-from_before (Ok x) status s err (inl done) e not_done not_write = absurd (not_done (sym e ∙ done))
-from_before (Ok x) status s err (inr write) e not_done not_write = absurd (not_write (sym e ∙ write))
-from_before (Err x) status s err which e not_done not_write = let same : x ≡ s = sym err ∙ e in cc
+-- a status that is none of those of writing comes from before it
+pub from_before : (outcome : Result Output Status) (status s : Status) (old new : Option (List ℕ)) → IfErr outcome (λ e. status ≡ e)
+    → IfOk outcome (λ o. IsWritten o.status) → IfOk outcome (λ o. Wrote o.status o.text.items status old new) → status ≡ s
+    → (IsWritten s → ⊥) → (s ≡ WriteFault → ⊥) → outcome ≡ Err s
+from_before (Ok x) status s old new err own (inl done) e not_written not_write =
+    absurd (not_written (subst IsWritten (sym done.0 ∙ e) own))
+from_before (Ok x) status s old new err own (inr fault) e not_written not_write = absurd (not_write (sym e ∙ fault.0))
+from_before (Err x) status s old new err own wrote e not_written not_write = let same : x ≡ s = sym err ∙ e in cc
 
 -- a refusal before writing answers the text's fault
 pub refused_fault : (text : List ℕ) (line code : ℕ) (s : Status) → IsRefusal s
@@ -51,26 +54,27 @@ refused_fault text line code (No cause) r f h = absurd r
 refused_fault text line code (BadReport l) r f h = absurd r
 
 -- what has an output is the text of a function
-text_of : (command : Command) (text out : List ℕ) → IsOutput command text out → (f : Function) × IsRead text f
-text_of Alloc text out h = (h.function, h.read)
+text_of : (command : Command) (text : List ℕ) (status : Status) (out : List ℕ) → IsOutput command text status out
+    → (f : Function) × IsRead text f
+text_of (Alloc o) text status out h = (h.function, h.read)
 
 -- an output of the command that the words are
-pub with_command : (words : List (List ℕ)) (command : Command) (text : List ℕ) (outcome : Result (Vec ℕ Global) Status)
-    → IsCommand words command → IfOk outcome (λ out. IsOutput command text out.items)
-    → IfOk outcome (λ out. IsOutputOf words text out.items)
+pub with_command : (words : List (List ℕ)) (command : Command) (text : List ℕ) (outcome : Result Output Status)
+    → IsCommand words command → IfOk outcome (λ out. IsOutput command text out.status out.text.items)
+    → IfOk outcome (λ out. IsOutputOf words text out.status out.text.items)
 with_command words command text (Err e) is output = tt
 with_command words command text (Ok out) is output = record { command = command; asked = is; output = output }
 
 -- a run that wrote, or refused before it, answers the text's fault
-pub answers_fault : (words : List (List ℕ)) (told : Option (List ℕ)) (outcome : Result (Vec ℕ Global) Status) (status : Status)
+pub answers_fault : (words : List (List ℕ)) (told : Option (List ℕ)) (outcome : Result Output Status) (status : Status)
     → IfErr outcome IsRefusal
     → IfErr outcome (λ e. status ≡ e)
     → ((l c : ℕ) → outcome ≡ Err (TextFault l c) → IfSome told (λ (text : List ℕ). IsFault text l c))
-    → IfOk outcome (λ out. IfSome told (λ (text : List ℕ). IsOutputOf words text out.items))
+    → IfOk outcome (λ out. IfSome told (λ (text : List ℕ). IsOutputOf words text out.status out.text.items))
     → IfSome told (λ (text : List ℕ). (line code : ℕ) → IsFault text line code → AnswersFault status line code)
 answers_fault words None outcome status r e f o = tt
 answers_fault words (Some text) (Ok out) status r e f o = λ line code h.
-    let read = text_of o.command text out.items o.output in absurd (read_has_no_fault text read.0 line code read.1 h)
+    let read = text_of o.command text out.status out.text.items o.output in absurd (read_has_no_fault text read.0 line code read.1 h)
 answers_fault words (Some text) (Err s) status r e f o = λ line code h.
     subst (λ (t : Status). AnswersFault t line code) (sym e) (refused_fault text line code s r (λ l c k. f l c (ap Err k)) h)
 
@@ -108,21 +112,46 @@ refused_out NoMemory words text old new r k = k
 refused_out (No cause) words text old new r k = absurd r
 refused_out (BadReport l) words text old new r k = absurd r
 
+-- what `out` holds after an output was written whole
+whole_out : (words : List (List ℕ)) (text out : List ℕ) (old new : Option (List ℕ)) (s : Status) → IsWritten s → IsOutputOf words text s out
+    → Appends old new out → OutAfter s words text old new
+whole_out words text out old new Done w o a = (out, o, a)
+whole_out words text out old new Infeasible w o a = (out, o, a)
+whole_out words text out old new Spent w o a = (out, o, a)
+whole_out words text out old new (TextFault l c) w o a = absurd w
+whole_out words text out old new (Usage place) w o a = absurd w
+whole_out words text out old new ReadFault w o a = absurd w
+whole_out words text out old new WriteFault w o a = absurd w
+whole_out words text out old new NoMemory w o a = absurd w
+whole_out words text out old new (No cause) w o a = absurd w
+whole_out words text out old new (BadReport l) w o a = absurd w
+
 -- what `out` holds after a run that wrote, or refused before it
-pub out_after : (words : List (List ℕ)) (told : Option (List ℕ)) (outcome : Result (Vec ℕ Global) Status) (status : Status)
+pub out_after : (words : List (List ℕ)) (told : Option (List ℕ)) (outcome : Result Output Status) (status : Status)
     (old new : Option (List ℕ)) → IfErr outcome IsRefusal → IfErr outcome (λ e. status ≡ e) → OnErr outcome (new ≡ old)
-    → (status ≡ Done → IfOk outcome (λ out. Appends old new out.items))
-    → (status ≡ WriteFault → IfOk outcome (λ out. AppendsPrefix old new out.items))
-    → OnOk outcome ((status ≡ Done) ⊎ (status ≡ WriteFault))
-    → IfOk outcome (λ out. IfSome told (λ (text : List ℕ). IsOutputOf words text out.items))
+    → IfOk outcome (λ o. IsWritten o.status) → IfOk outcome (λ o. Wrote o.status o.text.items status old new)
+    → IfOk outcome (λ out. IfSome told (λ (text : List ℕ). IsOutputOf words text out.status out.text.items))
     → IfSome told (λ (text : List ℕ). OutAfter status words text old new)
-out_after words None outcome status old new r e k d p w o = tt
-out_after words (Some text) (Ok out) status old new r e k d p (inl done) o =
-    subst (λ (s : Status). OutAfter s words text old new) (sym done) (out.items, o, d done)
-out_after words (Some text) (Ok out) status old new r e k d p (inr wrote) o =
-    subst (λ (s : Status). OutAfter s words text old new) (sym wrote) (out.items, o, p wrote)
-out_after words (Some text) (Err x) status old new r e k d p w o =
+out_after words None outcome status old new r e k own w o = tt
+out_after words (Some text) (Ok out) status old new r e k own (inl done) o =
+    subst (λ (s : Status). OutAfter s words text old new) (sym done.0) (whole_out words text out.text.items old new out.status own o done.1)
+out_after words (Some text) (Ok out) status old new r e k own (inr fault) o =
+    subst (λ (s : Status). OutAfter s words text old new) (sym fault.0) (out.status, out.text.items, o, fault.1)
+out_after words (Some text) (Err x) status old new r e k own w o =
     subst (λ (s : Status). OutAfter s words text old new) (sym e) (refused_out x words text old new r k)
+
+-- what was written whole keeps no `out`, and is an answer
+written_keeps : (s : Status) (old new : Option (List ℕ)) → IsWritten s → KeepsOut s old new × IsAnswer s
+written_keeps Done old new w = (tt, tt)
+written_keeps Infeasible old new w = (tt, tt)
+written_keeps Spent old new w = (tt, tt)
+written_keeps (TextFault l c) old new w = absurd w
+written_keeps (Usage place) old new w = absurd w
+written_keeps ReadFault old new w = absurd w
+written_keeps WriteFault old new w = absurd w
+written_keeps NoMemory old new w = absurd w
+written_keeps (No cause) old new w = absurd w
+written_keeps (BadReport l) old new w = absurd w
 
 -- a refusal before writing keeps `out`, and is an answer of today's command
 refused_keeps : (s : Status) (old new : Option (List ℕ)) → IsRefusal s → new ≡ old → KeepsOut s old new × IsAnswer s
@@ -137,21 +166,35 @@ refused_keeps NoMemory old new r k = (k, tt)
 refused_keeps (No cause) old new r k = absurd r
 refused_keeps (BadReport l) old new r k = absurd r
 
-pub kept_and_answered : {T : Type 0} (outcome : Result T Status) (status : Status) (old new : Option (List ℕ))
+pub kept_and_answered : (outcome : Result Output Status) (status : Status) (old new : Option (List ℕ))
     → IfErr outcome IsRefusal → IfErr outcome (λ e. status ≡ e) → OnErr outcome (new ≡ old)
-    → OnOk outcome ((status ≡ Done) ⊎ (status ≡ WriteFault)) → KeepsOut status old new × IsAnswer status
-kept_and_answered (Ok x) status old new r e k (inl done) =
-    subst (λ (s : Status). KeepsOut s old new × IsAnswer s) (sym done) (tt, tt)
-kept_and_answered (Ok x) status old new r e k (inr fault) =
-    subst (λ (s : Status). KeepsOut s old new × IsAnswer s) (sym fault) (tt, tt)
-kept_and_answered (Err x) status old new r e k w =
+    → IfOk outcome (λ o. IsWritten o.status) → IfOk outcome (λ o. Wrote o.status o.text.items status old new)
+    → KeepsOut status old new × IsAnswer status
+kept_and_answered (Ok x) status old new r e k own (inl done) =
+    subst (λ (s : Status). KeepsOut s old new × IsAnswer s) (sym done.0) (written_keeps x.status old new own)
+kept_and_answered (Ok x) status old new r e k own (inr fault) =
+    subst (λ (s : Status). KeepsOut s old new × IsAnswer s) (sym fault.0) (tt, tt)
+kept_and_answered (Err x) status old new r e k own w =
     subst (λ (s : Status). KeepsOut s old new × IsAnswer s) (sym e) (refused_keeps x old new r k)
 
--- what holds of an output holds where the run is done
-pub when_done : {T : Type 0} (outcome : Result T Status) (status : Status) (P : Type 0) → IfErr outcome IsRefusal
-    → IfErr outcome (λ e. status ≡ e) → IfOk outcome (λ x. P) → status ≡ Done → P
-when_done (Ok x) status P r e h done = h
-when_done (Err x) status P r e h done = absurd (subst IsRefusal (sym e ∙ done) r)
+-- a refusal is no output
+not_written : (s : Status) → IsRefusal s → IsWritten s → ⊥
+not_written Done r w = r
+not_written Infeasible r w = r
+not_written Spent r w = r
+not_written (TextFault l c) r w = w
+not_written (Usage place) r w = w
+not_written ReadFault r w = w
+not_written WriteFault r w = w
+not_written NoMemory r w = w
+not_written (No cause) r w = w
+not_written (BadReport l) r w = w
+
+-- what holds of an output holds where it was written whole
+pub when_written : {T : Type 0} (outcome : Result T Status) (status : Status) (P : Type 0) → IfErr outcome IsRefusal
+    → IfErr outcome (λ e. status ≡ e) → IfOk outcome (λ x. P) → IsWritten status → P
+when_written (Ok x) status P r e h w = h
+when_written (Err x) status P r e h w = absurd (not_written x r (subst IsWritten e w))
 
 -- a refusal is the status
 pub status_of : {T : Type 0} (outcome : Result T Status) (status s : Status) → IfErr outcome (λ e. status ≡ e) → outcome ≡ Err s

@@ -1,9 +1,6 @@
 pub mod Answered
-pub mod BoundLaws
-pub mod CodeLaws
 pub mod FaultLaws
-pub mod Firsts
 pub mod Parts
 pub mod Rows
+pub mod SearchLaws
 pub mod Told
-pub mod WordLaws

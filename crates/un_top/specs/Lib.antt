@@ -1,4 +1,4 @@
 pub mod Faults
 pub mod Reports
 pub mod Runs
-pub mod Words
+pub mod Searches

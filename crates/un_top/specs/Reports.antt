@@ -1,60 +1,85 @@
--- The report of a function's text.
-use Rattle.std.specs.Prelude.{ℕ, ◌≡◌, ◌+◌, ◌*◌, ◌/◌, List, length, sum_by}
+-- The report of a function's text: what a search for its code answered.
+use Rattle.std.specs.Prelude.{ℕ, ◌≡◌, ◌≢◌, ◌≤◌, List, All, None, Some}
+use Rattle.std.specs.declared.option.Option.{Option}
 use Rattle.un_base.specs.declared.ids.NameId.{NameId}
-use Rattle.un_isa.specs.Hexagon.{HEXAGON}
+use Rattle.un_outside.specs.declared.status.Status.{Status}
+use Rattle.un_outside.specs.declared.status.Status.TheVariants.{Done, Infeasible as NoCode, Spent as NoNodes}
 use Rattle.un_isa.specs.declared.table.Table.{Table}
-use Rattle.un_ir.specs.declared.function.Block.{Block}
 use Rattle.un_ir.specs.declared.function.Function.{Function}
-use Rattle.un_ir.specs.declared.function.Term.{Term}
-use Rattle.un_ir.specs.declared.function.Term.TheVariants.{Fall}
-use Rattle.un_ir.specs.ExtendOf.{extend_of}
-use Rattle.un_ir.specs.LinearOf.{AreLive, lin_of}
-use Rattle.un_packet.specs.declared.code.Code.{Code}
+use Rattle.un_packet.specs.declared.code.Code.{Code as CodeValue}
 use Rattle.un_simulation.specs.Count.{count_of}
 use Rattle.un_simulation.specs.Simulation.{Simulates}
 use Rattle.un_model.specs.declared.model.Model.{Model}
+use Rattle.un_model.specs.declared.model.Options.{Options}
 use Rattle.un_model.specs.declared.model.Solution.{Solution}
 use Rattle.un_model.specs.Cost.{cost_of}
 use Rattle.un_model.specs.Solutions.{IsSolution}
-use Rattle.un_model.specs.Variables.{model_of}
-use Rattle.un_emit.specs.Emitted.{IsEmitted, start_places}
+use Rattle.un_bound.specs.Plain.{IsPlainBound}
+use Rattle.un_problem.specs.Problems.{IsModelOf}
+use Rattle.un_baseline.specs.RoomyOptions.{AreRoomyFor}
+use Rattle.un_baseline.specs.SpilledCost.{spill_cost}
+use Rattle.un_emit.specs.Emitted.{start_places}
 use Rattle.un_reader.specs.Read.{IsRead}
-use Rattle.un_listing.specs.Report.{first_report_text}
-use Rattle.un_model.specs.declared.model.Options.{Options}
-use Rattle.un_problem.specs.Problems.{default_options}
+use Rattle.un_merges.specs.Merges.{HasNoMerge}
+use Rattle.un_tree.specs.declared.node.Node.{Node}
+use Rattle.un_tree.specs.declared.node.Node.TheVariants.{Open}
+use Rattle.un_certificate.specs.Certificates.{IsCertificate}
+use Rattle.un_check.specs.Sound.{IsSoundFor}
+use Rattle.un_report.specs.Reports.{report_text}
+use Rattle.un_report.specs.declared.report.Answered.{Answered}
+use Rattle.un_report.specs.declared.report.Answered.TheVariants.{Code, Infeasible, Spent}
+use Rattle.un_report.specs.declared.report.Report.{Report}
 
--- how many instructions a block's end is: none where it falls through to the next
-abbrev pub terminators : Term → ℕ
-terminators Fall = 0
-terminators _ = 1
-
--- the packets that a block's operations and its terminator fill, four in each, as often as the block runs
-abbrev pub full_packets_of : Block → ℕ
-full_packets_of block = block.freq * ((length block.ops + terminators block.term + 3) / 4)
-
-abbrev pub full_packets : Function → ℕ
-full_packets f = sum_by full_packets_of f.blocks
-
--- the code is that of a solution of the function's model under these options, whose cost it has, and it does what the function does: the
--- places of the names at each block's start are the solution's
-pub record IsCodeOf (t : Table) (f : Function) (o : Options) (code : Code) (cost : ℕ) : Type 0 where
-  -- the names that are live at each block's start
-  pub live : List (List NameId)
-  pub are_live : AreLive f.blocks live
-  pub model : Model
-  pub is_model : model ≡ model_of (extend_of (lin_of f live t)) o
-  pub solution : Solution
-  pub is_solution : IsSolution model solution
-  pub is_emitted : IsEmitted model solution.values code
-  pub is_cost : cost ≡ cost_of model solution
+-- the code does what the function does, with the solution's places of the names that are live at each block's start; its packets, as often
+-- as they run, are the cost; no solution costs less than the bound, which is the cost where no leaf is open, and at least the plain bound;
+-- with three nodes or more no merge of the solution is one; and where each name can be kept in a frame slot of its own, that costs no less
+pub record IsGoodCode (f : Function) (m : Model) (live : List (List NameId)) (nodes : ℕ) (t : List Node) (cost bound : ℕ)
+    (code : CodeValue) (s : Solution) : Type 0 where
+  pub simulates : Simulates m.ext.table f (start_places m s.values) code
   pub counted : cost ≡ count_of f code
-  pub simulates : Simulates t f (start_places model solution.values) code
+  pub least : (x : Solution) → IsSolution m x → bound ≤ cost_of m x
+  pub plain : (n : ℕ) → IsPlainBound m n → n ≤ bound
+  pub equal : All (λ n. n ≢ Open) t → bound ≡ cost
+  pub tight : 3 ≤ nodes → HasNoMerge m s
+  pub roomy : AreRoomyFor f m.options → cost ≤ spill_cost m.ext.table f live
 
--- the report has the code, with its cost, of the function that the text is
-pub record IsReportOf (text report : List ℕ) : Type 0 where
+-- what is so of an answer besides; there is code where each name can be kept in a frame slot of its own
+abbrev pub IsGoodAnswer : Function → Model → List (List NameId) → ℕ → List Node → Answered → Type 0
+IsGoodAnswer f m live nodes t (Code cost bound code s) = IsGoodCode f m live nodes t cost bound code s
+IsGoodAnswer f m live nodes t Infeasible = (AreRoomyFor f m.options → ⊥) × ((x : Solution) → IsSolution m x → ⊥)
+IsGoodAnswer f m live nodes t Spent = AreRoomyFor f m.options → ⊥
+
+-- the limit on the cost under which the tree of an answer was searched
+abbrev pub limit_of : Answered → Option ℕ
+limit_of (Code cost bound code s) = Some cost
+limit_of Infeasible = None
+limit_of Spent = None
+
+-- how a run ends that writes the answer whole
+abbrev pub status_of : Answered → Status
+status_of (Code cost bound code s) = Done
+status_of Infeasible = NoCode
+status_of Spent = NoNodes
+
+-- the report of a search of the function's model with so many nodes, where these names are live at each block's start
+pub record IsSearchOf (f : Function) (m : Model) (live : List (List NameId)) (nodes : ℕ) (r : Report) : Type 0 where
+  pub chosen : r.options ≡ m.options
+  pub budget : r.nodes ≡ nodes
+  pub sound : IsSoundFor m f r
+  pub searched : IsCertificate m (limit_of r.answer) r.tree.nodes.items
+  pub answer : IsGoodAnswer f m live nodes r.tree.nodes.items r.answer
+
+-- the text of such a report; a run that writes it whole ends so
+pub record IsSearchText (f : Function) (m : Model) (live : List (List NameId)) (nodes : ℕ) (status : Status) (out : List ℕ) : Type 0 where
+  pub report : Report
+  pub is_search : IsSearchOf f m live nodes report
+  pub ends : status ≡ status_of report.answer
+  pub printed : out ≡ report_text report
+
+-- the report of the function that a text is, for a table and under options
+pub record IsReportOf (t : Table) (o : Options) (nodes : ℕ) (text : List ℕ) (status : Status) (out : List ℕ) : Type 0 where
   pub function : Function
   pub read : IsRead text function
-  pub code : Code
-  pub cost : ℕ
-  pub built : IsCodeOf HEXAGON function default_options code cost
-  pub printed : report ≡ first_report_text cost (full_packets function) code
+  pub model : Model
+  pub is_model : IsModelOf t function o model
+  pub found : IsSearchText function model is_model.ext.live nodes status out

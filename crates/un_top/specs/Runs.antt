@@ -1,38 +1,61 @@
 -- What a run of the program leaves on `out` and `err`.
-use Rattle.std.specs.Prelude.{ℕ, ◌≡◌, List, [], ◌∷◌, codes, nat_eq, if◌then◌else◌}
+use Rattle.std.specs.Prelude.{ℕ, ◌≡◌, ◌⊎◌, List, [], ◌∷◌, codes, nat_eq, if◌then◌else◌}
 use Rattle.std.specs.declared.option.Option.{Option}
 use Rattle.std.specs.List.{concat}
 use Rattle.std.specs.Fmt.{decimal}
 use Rattle.std.specs.Io.KnownBytes.{Appends}
+use Rattle.un_commands.specs.Alloc.{model_options}
+use Rattle.un_commands.specs.Commands.{IsCommand}
+use Rattle.un_commands.specs.declared.command.Command.{Command}
+use Rattle.un_commands.specs.declared.command.Command.TheVariants.{Alloc}
+use Rattle.un_isa.specs.Hexagon.{HEXAGON}
 use Rattle.un_outside.specs.Causes.{AppendsPrefix}
 use Rattle.un_outside.specs.declared.status.Status.{Status}
 use Rattle.un_outside.specs.declared.status.Status.TheVariants.{Done, Infeasible, Spent, TextFault, Usage, ReadFault, WriteFault, NoMemory, No}
 use Rattle.un_outside.specs.declared.status.Status.TheVariants.{BadReport}
-use Rattle.un_top.specs.declared.words.Command.{Command}
-use Rattle.un_top.specs.declared.words.Command.TheVariants.{Alloc}
 use Rattle.un_top.specs.Reports.{IsReportOf}
-use Rattle.un_top.specs.Words.{IsCommand}
 
--- what a command puts out over a text
-abbrev pub IsOutput : Command → List ℕ → List ℕ → Type 0
-IsOutput Alloc text out = IsReportOf text out
+-- what a command puts out over a text, and how a run ends that writes it whole
+abbrev pub IsOutput : Command → List ℕ → Status → List ℕ → Type 0
+IsOutput (Alloc o) text status out = IsReportOf HEXAGON (model_options o) o.nodes text status out
 
 -- the words are those of a command, and this is its output over a text
-pub record IsOutputOf (words : List (List ℕ)) (text out : List ℕ) : Type 0 where
+pub record IsOutputOf (words : List (List ℕ)) (text : List ℕ) (status : Status) (out : List ℕ) : Type 0 where
   pub command : Command
   pub asked : IsCommand words command
-  pub output : IsOutput command text out
+  pub output : IsOutput command text status out
 
--- what `out` holds after a run over these words and this text: the output of the command where it is done, a prefix of it after a
--- fault of writing
+-- `out` grew by the output of a run that ends so
+abbrev pub Outputs : Status → List (List ℕ) → List ℕ → Option (List ℕ) → Option (List ℕ) → Type 0
+Outputs status words text old new = (out : List ℕ) × IsOutputOf words text status out × Appends old new out
+
+-- what `out` holds after a run over these words and this text: the output of the command where it was written whole, a prefix of it
+-- after a fault of writing
 abbrev pub OutAfter : Status → List (List ℕ) → List ℕ → Option (List ℕ) → Option (List ℕ) → Type 0
-OutAfter Done words text old new = (out : List ℕ) × IsOutputOf words text out × Appends old new out
-OutAfter WriteFault words text old new = (out : List ℕ) × IsOutputOf words text out × AppendsPrefix old new out
+OutAfter Done words text old new = Outputs Done words text old new
+OutAfter Infeasible words text old new = Outputs Infeasible words text old new
+OutAfter Spent words text old new = Outputs Spent words text old new
+OutAfter WriteFault words text old new =
+    (status : Status) × (out : List ℕ) × IsOutputOf words text status out × AppendsPrefix old new out
 OutAfter _ words text old new = new ≡ old
+
+-- the output was written whole
+abbrev pub IsWritten : Status → Type 0
+IsWritten Done = Unit {0}
+IsWritten Infeasible = Unit {0}
+IsWritten Spent = Unit {0}
+IsWritten _ = ⊥
+
+-- an output was written whole, with its own status, or a prefix of it with a fault of writing
+abbrev pub Wrote : Status → List ℕ → Status → Option (List ℕ) → Option (List ℕ) → Type 0
+Wrote own text status old new =
+    ((status ≡ own) × Appends old new text) ⊎ ((status ≡ WriteFault) × AppendsPrefix old new text)
 
 -- the statuses that come of no output leave `out` as it was
 abbrev pub KeepsOut : Status → Option (List ℕ) → Option (List ℕ) → Type 0
 KeepsOut Done old new = Unit {0}
+KeepsOut Infeasible old new = Unit {0}
+KeepsOut Spent old new = Unit {0}
 KeepsOut WriteFault old new = Unit {0}
 KeepsOut _ old new = new ≡ old
 
@@ -52,8 +75,6 @@ AnswersAccepted _ = Unit {0}
 
 -- the statuses of today's command
 abbrev pub IsAnswer : Status → Type 0
-IsAnswer Infeasible = ⊥
-IsAnswer Spent = ⊥
 IsAnswer (No cause) = ⊥
 IsAnswer (BadReport line) = ⊥
 IsAnswer _ = Unit {0}

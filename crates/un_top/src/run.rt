@@ -2,15 +2,15 @@
 
 ghost use Rattle.std.specs.Prelude.{◌≡◌, ℕ, ◌⊎◌, ◌<◌, ◌≤◌, Ok, Err, IfSome, IfOk, IfErr, OnOk, OnErr};
 ghost use Rattle.std.specs.Io.KnownBytes.{Appends, IsAtEnd};
+ghost use Rattle.un_commands.specs.Commands.{IsBadWord};
 ghost use Rattle.un_outside.specs.Causes.{Rose, AppendsPrefix};
 ghost use Rattle.un_ir.specs.declared.function.Function.{Function};
 ghost use Rattle.un_reader.specs.Read.{IsRead};
 ghost use Rattle.un_top.specs.Faults.{IsFault};
-ghost use Rattle.un_top.specs.Words.{IsBadWord};
-ghost use Rattle.un_top.specs.Runs.{OutAfter, KeepsOut, AnswersFault, AnswersAccepted, IsAnswer, IsRefusal, line_of};
+ghost use Rattle.un_top.specs.Runs.{OutAfter, KeepsOut, AnswersFault, AnswersAccepted, IsAnswer, IsRefusal, IsWritten, Wrote, line_of};
 
 use crate::faults::write_line;
-use crate::produce::produce;
+use crate::produce::{Output, produce};
 use std::alloc::Global;
 use un_outside::outside::{Sink, Source};
 use un_outside::status::Status;
@@ -18,18 +18,17 @@ use un_outside::transfer::write_all;
 use un_outside::words::Word;
 
 /// Writes the output, or hands the refusal on.
-fn finish<K: Sink>(outcome: Result<Vec<u8>, Status>, out: &mut K) -> Status
-    requires { IfErr outcome IsRefusal }
+fn finish<K: Sink>(outcome: Result<Output, Status>, out: &mut K) -> Status
+    requires refusal { IfErr outcome IsRefusal }
+    requires written { IfOk outcome (λ o. IsWritten o.status) }
     ensures err { IfErr outcome (λ s. result ≡ s) }
     ensures kept { OnErr outcome (K.held out.new ≡ K.held out.old) }
-    ensures done { result ≡ Status.Done → IfOk outcome (λ text. Appends (K.held out.old) (K.held out.new) text.items) }
-    ensures prefix { result ≡ Status.WriteFault → IfOk outcome (λ text. AppendsPrefix (K.held out.old) (K.held out.new) text.items) }
-    ensures which { OnOk outcome ((result ≡ Status.Done) ⊎ (result ≡ Status.WriteFault)) }
+    ensures wrote { IfOk outcome (λ o. Wrote o.status o.text.items result (K.held out.old) (K.held out.new)) }
     ensures fault { result ≡ Status.WriteFault → Rose (K.faults out.old) (K.faults out.new) }
 {
     match outcome {
-        Ok(text) => match write_all(out, text.as_slice()) {
-            Ok(()) => Status::Done,
+        Ok(output) => match write_all(out, output.text.as_slice()) {
+            Ok(()) => output.status,
             Err(_) => Status::WriteFault,
         },
         Err(status) => status,
@@ -52,7 +51,7 @@ pub fn run<S: Source, K: Sink, E: Sink>(
     // The output is that of the command over the text, whole, or a prefix of it where writing failed.
     ensures out { IfSome (S.left src.old) (λ text. OutAfter result words.now text (K.held out.old) (K.held out.new)) }
     ensures kept { KeepsOut result (K.held out.old) (K.held out.new) }
-    ensures read_whole { result ≡ Status.Done → IsAtEnd (S.left src.new) }
+    ensures read_whole { IsWritten result → IsAtEnd (S.left src.new) }
 
     // When each other answer comes.
     ensures answers { IsAnswer result }

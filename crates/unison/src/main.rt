@@ -3,11 +3,11 @@
 
 ghost use Rattle.std.specs.Prelude.{◌≡◌, ℕ, IfSome};
 ghost use Rattle.std.specs.Process.{exit_status};
+ghost use Rattle.un_commands.specs.Commands.{IsBadWord};
 ghost use Rattle.un_outside.specs.Causes.{AppendsPrefix};
 ghost use Rattle.un_outside.specs.Statuses.{number_of};
 ghost use Rattle.un_outside.specs.declared.status.Status.{Status};
 ghost use Rattle.un_top.specs.Runs.{KeepsOut, OutAfter, line_of};
-ghost use Rattle.un_top.specs.Words.{IsBadWord};
 
 use std::alloc::Global;
 use std::process::ExitCode;

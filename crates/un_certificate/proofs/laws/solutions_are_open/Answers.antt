@@ -1,6 +1,3 @@
-use Rattle.std.proofs.Common.{◌∷◌, [], inl}
-use Rattle.un_tree.specs.Covered.{Stands}
-use Rattle.un_certificate.specs.Certificates.{IsBelow}
 use Rattle.un_certificate.proofs.Lows.{below_open}
 use Rattle.un_certificate.proofs.laws.solutions_are_open.Goals as goal
 

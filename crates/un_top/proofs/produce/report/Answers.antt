@@ -1,4 +1,3 @@
-use Rattle.std.proofs.Common.{◌≡◌}
 use Rattle.un_top.proofs.Told.{told_fault}
 use Rattle.un_top.proofs.produce.report.Goals as goal
 

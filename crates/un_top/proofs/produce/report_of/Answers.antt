@@ -1,23 +1,13 @@
-use Rattle.std.proofs.Common.{ℕ, ap, ◌∙◌}
-use Rattle.un_baseline.proofs.Spillable.{default_roomy}
-use Rattle.un_listing.specs.Report.{first_report_text}
+use Rattle.un_commands.specs.Alloc.{model_options}
 use Rattle.un_isa.specs.Hexagon.{HEXAGON}
-use Rattle.un_problem.specs.Problems.{default_options}
-use Rattle.un_top.proofs.CodeLaws.{code_at}
+use Rattle.un_top.proofs.SearchLaws.{report_is, report_for}
 use Rattle.un_top.proofs.produce.report_of.Goals as goal
 
-pub costed_code-requires-clause-roomy : goal.costed_code-requires-clause-roomy
-costed_code-requires-clause-roomy c = default_roomy c.args.f.now c.default_options.result c.default_options.ensures
-
-pub returns : goal.returns
-returns c =
-    let costed = c.in_ok-costed.costed in
-    record {
-      function = c.args.f.now;
-      read = c.requires;
-      code = costed.code;
-      cost = costed.cost;
-      built = code_at c.hexagon.result HEXAGON c.args.f.now c.default_options.result default_options costed.code costed.cost
-          c.hexagon.ensures.table c.default_options.ensures c.in_ok-costed.ensures;
-      printed = c.in_ok-report.ensures ∙ ap (λ (n : ℕ). first_report_text costed.cost n costed.code) c.full_packets.ensures;
-    }
+pub returns-clause-report : goal.returns-clause-report
+returns-clause-report c =
+    let m = c.in_ok-model.model in
+    let out = c.in_ok-output.output in
+    let nodes = c.args.options.nodes in
+    report_for c.hexagon.result HEXAGON c.model_options.result (model_options c.args.options) nodes c.args.text.now out.status out.text.items
+    c.hexagon.ensures.table c.model_options.ensures (report_is c.hexagon.result c.args.f.now c.model_options.result m nodes c.args.text.now
+    out.status out.text.items c.requires.read c.in_ok-model.ensures.gives c.in_ok-output.ensures.found)

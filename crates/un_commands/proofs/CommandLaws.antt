@@ -1,0 +1,157 @@
+-- What is so of every command: its numbers are in their ranges, its words are of no other, and each in its ranges has words.
+use Rattle.std.proofs.Common.{ℕ, ◌≡◌, ◌≤◌, List, [], ◌∷◌, ◌++◌, length, drop, Option, Some, None, Result, Ok, Err, All, codes, refl, sym, ap, subst, ◌∙◌, arith, lit≤}
+use Rattle.std.specs.List.{flat_map, slice_get}
+use Rattle.std.specs.Option.{option_to_list, IfSome, unwrap_or}
+use Rattle.std.specs.Result.{IfOk, IfErr}
+use Rattle.std.proofs.lemmas.List.{append-nil, length-append}
+use Rattle.std.proofs.lemmas.List.Elements.{All-nil, All-cons, All-head}
+use Rattle.un_isa.specs.declared.reg.TheConstants.{SLOTS}
+use Rattle.un_model.specs.Options.{IsCountOfRegisters}
+use Rattle.un_commands.specs.declared.command.SearchOptions.{SearchOptions}
+use Rattle.un_commands.specs.declared.command.TheConstants.{DEFAULT_NODES}
+use Rattle.un_commands.specs.declared.command.Command.{Command}
+use Rattle.un_commands.specs.declared.command.Command.TheVariants.{Alloc}
+use Rattle.un_commands.specs.declared.setting.Setting.{Setting}
+use Rattle.un_commands.specs.declared.setting.Setting.TheVariants.{Nodes, Regs, Slots}
+use Rattle.un_commands.specs.declared.setting.Given.{Given}
+use Rattle.un_commands.specs.Alloc.{IsAlloc, AreSearchOptions}
+use Rattle.un_commands.specs.Commands.{IsCommand, IsBadWord, IsRanged}
+use Rattle.un_commands.specs.Places.{StandsAt}
+use Rattle.un_commands.specs.Settings.{IsCountOfNodes, IsInRange, words_of, nodes_in, regs_in, slots_in, Say, none_given, over_defaults}
+use Rattle.un_commands.proofs.AllocLaws.{line_of}
+use Rattle.un_commands.proofs.Openers.{opens_alloc, read_at, first_words}
+use Rattle.un_commands.proofs.SettingLaws.{begin_with, length_words, one_saying, all_values, say_nothing}
+use Rattle.un_commands.proofs.WordLaws.{bad_word, command_is_good, bad_word_unique}
+
+each_nodes : (s : Setting) → IsInRange s → All IsCountOfNodes (nodes_in s)
+each_nodes (Nodes n) h = All-cons IsCountOfNodes n [] h (All-nil IsCountOfNodes)
+each_nodes (Regs n) h = All-nil IsCountOfNodes
+each_nodes (Slots k) h = All-nil IsCountOfNodes
+
+each_regs : (s : Setting) → IsInRange s → All IsCountOfRegisters (regs_in s)
+each_regs (Nodes n) h = All-nil IsCountOfRegisters
+each_regs (Regs n) h = All-cons IsCountOfRegisters n [] h (All-nil IsCountOfRegisters)
+each_regs (Slots k) h = All-nil IsCountOfRegisters
+
+abbrev IsCountOfSlots : ℕ → Type 0
+IsCountOfSlots k = k ≤ SLOTS
+
+each_slots : (s : Setting) → IsInRange s → All IsCountOfSlots (slots_in s)
+each_slots (Nodes n) h = All-nil IsCountOfSlots
+each_slots (Regs n) h = All-nil IsCountOfSlots
+each_slots (Slots k) h = All-cons IsCountOfSlots k [] h (All-nil IsCountOfSlots)
+
+value_ranged : (f : Setting → List ℕ) (P : ℕ → Type 0) → ((s : Setting) → IsInRange s → All P (f s)) → (ss : List Setting)
+    → All IsInRange ss → (n : ℕ) → flat_map f ss ≡ n ∷ [] → P n
+value_ranged f P each ss ranged n e = All-head P n [] (subst (All P) e (all_values f P each ss ranged))
+
+nodes_ranged : (ss : List Setting) (o : Option ℕ) → All IsInRange ss → flat_map nodes_in ss ≡ option_to_list o
+    → IsCountOfNodes (unwrap_or o DEFAULT_NODES)
+nodes_ranged ss None ranged e = (lit≤ tt, lit≤ tt)
+nodes_ranged ss (Some n) ranged e = value_ranged nodes_in IsCountOfNodes each_nodes ss ranged n e
+
+regs_ranged : (ss : List Setting) (o : Option ℕ) → All IsInRange ss → flat_map regs_in ss ≡ option_to_list o → IfSome o IsCountOfRegisters
+regs_ranged ss None ranged e = tt
+regs_ranged ss (Some n) ranged e = value_ranged regs_in IsCountOfRegisters each_regs ss ranged n e
+
+slots_ranged : (ss : List Setting) (o : Option ℕ) → All IsInRange ss → flat_map slots_in ss ≡ option_to_list o
+    → IsCountOfSlots (unwrap_or o SLOTS)
+slots_ranged ss None ranged e = lit≤ tt
+slots_ranged ss (Some k) ranged e = value_ranged slots_in IsCountOfSlots each_slots ss ranged k e
+
+settings_ranged : (ss : List Setting) (given : Given) → All IsInRange ss → Say ss given → AreSearchOptions (over_defaults given)
+settings_ranged ss given ranged said = record {
+  nodes = nodes_ranged ss given.nodes ranged said.nodes;
+  allowed = record {
+    regs = regs_ranged ss given.regs ranged said.regs;
+    slots = slots_ranged ss given.slots ranged said.slots;
+  };
+}
+
+-- the numbers of a command are in their ranges
+pub is_ranged : (words : List (List ℕ)) (command : Command) → IsCommand words command → IsRanged command
+is_ranged words (Alloc options) h = subst AreSearchOptions (sym h.chosen) (settings_ranged h.settings h.given h.ranged h.said)
+
+none_more : (more : List Setting) → length more ≡ 0 → more ≡ []
+none_more [] h = refl
+none_more (s ∷ more) h = absurd (omega arith)
+
+-- words are those of one list of settings
+same_settings : (ss ts : List Setting) → All IsInRange ss → All IsInRange ts → flat_map words_of ss ≡ flat_map words_of ts → ts ≡ ss
+same_settings ss ts a b e =
+    let before = begin_with ss ts a b (λ j h. ap (λ (ws : List (List ℕ)). slice_get ws j) e) in
+    let long : length ts ≡ length (ss ++ before.0) = ap length before.1 in
+    let same : length (flat_map words_of ss) ≡ length (flat_map words_of ts) = ap length e in
+    let none : length before.0 ≡ 0 = omega (arith, length-append ss before.0, length_words ss, length_words ts) in
+    before.1 ∙ (ap (λ (us : List Setting). ss ++ us) (none_more before.0 none) ∙ append-nil ss)
+
+one_alloc : (words : List (List ℕ)) (o p : SearchOptions) → IsAlloc words o → IsAlloc words p → o ≡ p
+one_alloc words o p a b =
+    let texts : flat_map words_of a.settings ≡ flat_map words_of b.settings = ap (λ (ws : List (List ℕ)). drop 1 ws) (sym a.spelled ∙ b.spelled) in
+    let same : b.settings ≡ a.settings = same_settings a.settings b.settings a.ranged b.ranged texts in
+    a.chosen ∙ (ap over_defaults (one_saying a.settings a.given b.given a.said (subst (λ (ss : List Setting). Say ss b.given) same b.said)) ∙ sym b.chosen)
+
+-- words are those of one command at most
+pub one_command : (words : List (List ℕ)) (a b : Command) → IsCommand words a → IsCommand words b → a ≡ b
+one_command words (Alloc options) b h k = let opened = opens_alloc words b k (read_at words _ 0 h.spelled) in
+    ap Alloc (one_alloc words options opened.0 h opened.2) ∙ sym opened.1
+
+-- settings for all options
+abbrev all_settings : ℕ → Option ℕ → ℕ → List Setting
+all_settings n None k = Nodes n ∷ Slots k ∷ []
+all_settings n (Some r) k = Nodes n ∷ Regs r ∷ Slots k ∷ []
+
+abbrev all_given : ℕ → Option ℕ → ℕ → Given
+all_given n r k = record { nodes = Some n; regs = r; slots = Some k }
+
+all_ranged : (n : ℕ) (r : Option ℕ) (k : ℕ) → IsCountOfNodes n → IfSome r IsCountOfRegisters → IsCountOfSlots k
+    → All IsInRange (all_settings n r k)
+all_ranged n None k nodes regs slots = All-cons IsInRange (Nodes n) (Slots k ∷ []) nodes
+    (All-cons IsInRange (Slots k) [] slots (All-nil IsInRange))
+all_ranged n (Some r) k nodes regs slots = All-cons IsInRange (Nodes n) (Regs r ∷ Slots k ∷ []) nodes
+    (All-cons IsInRange (Regs r) (Slots k ∷ []) regs (All-cons IsInRange (Slots k) [] slots (All-nil IsInRange)))
+
+all_said : (n : ℕ) (r : Option ℕ) (k : ℕ) → Say (all_settings n r k) (all_given n r k)
+all_said n None k = record { nodes = refl; regs = refl; slots = refl }
+all_said n (Some r) k = record { nodes = refl; regs = refl; slots = refl }
+
+can_be_asked : (options : SearchOptions) → AreSearchOptions options
+    → IsAlloc (line_of (all_settings options.nodes options.regs options.slots)) options
+can_be_asked options h = record {
+  settings = all_settings options.nodes options.regs options.slots;
+  given = all_given options.nodes options.regs options.slots;
+  spelled = refl;
+  ranged = all_ranged options.nodes options.regs options.slots h.nodes h.allowed.regs h.allowed.slots;
+  said = all_said options.nodes options.regs options.slots;
+  chosen = refl;
+}
+
+-- each command whose numbers are in their ranges has words
+pub words_for : (command : Command) → IsRanged command → (words : List (List ℕ)) × IsCommand words command
+words_for (Alloc options) h = (line_of (all_settings options.nodes options.regs options.slots), can_be_asked options h)
+
+-- no command begins with another first word
+pub bad_first : (words : List (List ℕ)) → ¬ StandsAt words 0 (codes "alloc") → IsBadWord words 0
+bad_first words alloc = bad_word words 0 (Alloc (over_defaults none_given)) (codes "alloc" ∷ []) plain_alloc refl
+    (λ other others is alike. alloc (alike 0 (omega arith) ∙ first_words others other is))
+  where
+    plain_alloc : IsAlloc (codes "alloc" ∷ []) (over_defaults none_given)
+    plain_alloc = record { settings = []; given = none_given; spelled = refl; ranged = All-nil IsInRange; said = say_nothing; chosen = refl }
+
+-- an answer that is a command of the words, or the place of their first bad one
+pub exactly : (words : List (List ℕ)) (answer : Result Command ℕ) → IfOk answer (IsCommand words) → IfErr answer (IsBadWord words)
+    → (place : ℕ) → IsBadWord words place → answer ≡ Err place
+exactly words (Ok command) ok bad place h = absurd (command_is_good words command place ok h)
+exactly words (Err p) ok bad place h = ap Err (bad_word_unique words p place bad h)
+
+pub bad_at : (words : List (List ℕ)) (answer : Result Command ℕ) → IfErr answer (IsBadWord words) → (place : ℕ) → answer ≡ Err place
+    → IsBadWord words place
+bad_at words (Ok command) bad place e = absurd (ok_or_err command place e)
+  where
+    ok_or_err : (command : Command) (place : ℕ) → Ok command ≡ Err place → ⊥
+    ok_or_err command place e = cc
+bad_at words (Err p) bad place e = let same : p ≡ place = cc in subst (IsBadWord words) same bad
+
+pub ranged : (words : List (List ℕ)) (answer : Result Command ℕ) → IfOk answer (IsCommand words) → IfOk answer IsRanged
+ranged words (Ok command) ok = is_ranged words command ok
+ranged words (Err p) ok = tt

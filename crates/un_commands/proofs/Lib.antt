@@ -1,0 +1,9 @@
+pub mod AllocLaws
+pub mod CommandLaws
+pub mod Firsts
+pub mod Openers
+pub mod PlaceLaws
+pub mod Rows
+pub mod SettingLaws
+pub mod Texts
+pub mod WordLaws

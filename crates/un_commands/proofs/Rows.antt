@@ -1,0 +1,94 @@
+-- Lines of words, and what they are.
+use Rattle.std.proofs.Common.{ℕ, ◌≡◌, ◌+◌, ◌<◌, ◌^◌, List, [], ◌∷◌, get_or, Some, None, codes, refl, sym, ap, arith, lit≤, lit<}
+use Rattle.std.specs.Fmt.{decimal}
+use Rattle.std.proofs.lemmas.Bool.{eqb-false}
+use Rattle.std.proofs.lemmas.Fmt.{decimal_digit, decimal_injective}
+use Rattle.un_commands.specs.declared.command.Command.TheVariants.{Alloc}
+use Rattle.un_commands.specs.declared.setting.Setting.{Setting}
+use Rattle.un_commands.specs.declared.setting.Setting.TheVariants.{Nodes, Regs, Slots}
+use Rattle.un_commands.specs.Commands.{IsCommand, IsBadWord}
+use Rattle.un_commands.specs.Places.{StandsAt, IsFresh}
+use Rattle.un_commands.specs.Settings.{IsInRange, flag_of, number_of, none_given, with_setting}
+use Rattle.un_commands.proofs.AllocLaws.{so_far_none, so_far_more, is_alloc, bad_flag, bad_value}
+use Rattle.un_commands.proofs.CommandLaws.{bad_first}
+
+digit : (n : ℕ) → n < 10 → (48 + n) ∷ [] ≡ decimal n
+digit n h = sym (decimal_digit n h)
+
+-- a word that writes another number
+other_number : (word : List ℕ) (m n : ℕ) → word ≡ decimal m → m < 2 ^ 64 → n < 2 ^ 64 → Some word ≡ Some (decimal n) → m ≡ n
+other_number word m n is small_m small_n e = let same : decimal m ≡ decimal n = cc in decimal_injective m n small_m small_n same
+
+-- no words at all
+nothing : IsBadWord [] 0
+nothing = bad_first [] (λ e. no _ e)
+  where
+    no : (w : List ℕ) → None ≡ Some w → ⊥
+    no w e = cc
+
+-- `alloc x`
+no_option : IsBadWord (codes "alloc" ∷ codes "x" ∷ []) 1
+no_option = bad_flag (codes "alloc" ∷ codes "x" ∷ []) 1 none_given (codes "x") refl (so_far_none (codes "alloc" ∷ codes "x" ∷ []) refl) refl by
+  where
+    third : (v w : List ℕ) → Some v ≡ Some w → get_or v 2 0 ≡ get_or w 2 0
+    third v w e = let same : v ≡ w = cc in ap (λ (x : List ℕ). get_or x 2 0) same
+
+    by : (s : Setting) → IsFresh none_given s → ¬ StandsAt (codes "alloc" ∷ codes "x" ∷ []) 1 (flag_of s)
+    by (Nodes n) fresh e = eqb-false 0 110 refl (third (codes "x") (codes "--nodes") e)
+    by (Regs n) fresh e = eqb-false 0 114 refl (third (codes "x") (codes "--regs") e)
+    by (Slots k) fresh e = eqb-false 0 115 refl (third (codes "x") (codes "--slots") e)
+
+-- `alloc --nodes 0`
+no_nodes : IsBadWord (codes "alloc" ∷ codes "--nodes" ∷ codes "0" ∷ []) 2
+no_nodes = bad_value (codes "alloc" ∷ codes "--nodes" ∷ codes "0" ∷ []) 1 none_given refl
+    (so_far_none (codes "alloc" ∷ codes "--nodes" ∷ codes "0" ∷ []) refl)
+    (record { some = Nodes 1; fresh = refl; ranged = (lit≤ tt, lit≤ tt); flag = refl; none = by })
+  where
+    by : (s : Setting) → flag_of s ≡ codes "--nodes" → IsInRange s
+        → ¬ StandsAt (codes "alloc" ∷ codes "--nodes" ∷ codes "0" ∷ []) 2 (decimal (number_of s))
+    by (Nodes n) flag ranged e = let zero_nodes : 0 ≡ n = other_number (codes "0") 0 n (digit 0 (lit< tt)) (lit< tt) (omega arith) e in omega arith
+    by (Regs n) flag ranged e = eqb-false 114 110 refl (ap (λ (w : List ℕ). get_or w 2 0) flag)
+    by (Slots k) flag ranged e = eqb-false 115 110 refl (ap (λ (w : List ℕ). get_or w 2 0) flag)
+
+-- `alloc --regs`
+no_registers : IsBadWord (codes "alloc" ∷ codes "--regs" ∷ []) 2
+no_registers = bad_value (codes "alloc" ∷ codes "--regs" ∷ []) 1 none_given refl (so_far_none (codes "alloc" ∷ codes "--regs" ∷ []) refl)
+    (record { some = Regs 1; fresh = refl; ranged = (lit≤ tt, lit≤ tt); flag = refl; none = λ s flag ranged e. no _ e })
+  where
+    no : (w : List ℕ) → None ≡ Some w → ⊥
+    no w e = cc
+
+-- `alloc --slots 1 --slots 1`
+abbrev twice : List (List ℕ)
+twice = codes "alloc" ∷ codes "--slots" ∷ codes "1" ∷ codes "--slots" ∷ codes "1" ∷ []
+
+slots_twice : IsBadWord twice 3
+slots_twice = bad_flag twice 3 (with_setting none_given (Slots 1)) (codes "--slots") refl
+    (so_far_more twice 1 none_given (Slots 1) (so_far_none twice refl)
+    (record { fresh = refl; flag = refl; number = ap Some (digit 1 (lit< tt)); ranged = lit≤ tt })) refl by
+  where
+    third : (v w : List ℕ) → Some v ≡ Some w → get_or v 2 0 ≡ get_or w 2 0
+    third v w e = let same : v ≡ w = cc in ap (λ (x : List ℕ). get_or x 2 0) same
+
+    given : (k : ℕ) → Some k ≡ None → ⊥
+    given k e = cc
+
+    by : (s : Setting) → IsFresh (with_setting none_given (Slots 1)) s → ¬ StandsAt twice 3 (flag_of s)
+    by (Nodes n) fresh e = eqb-false 115 110 refl (third (codes "--slots") (codes "--nodes") e)
+    by (Regs n) fresh e = eqb-false 115 114 refl (third (codes "--slots") (codes "--regs") e)
+    by (Slots k) fresh e = given 1 fresh
+
+-- `alloc --slots 3 --nodes 5`
+abbrev both : List (List ℕ)
+both = codes "alloc" ∷ codes "--slots" ∷ codes "3" ∷ codes "--nodes" ∷ codes "5" ∷ []
+
+slots_and_nodes : IsCommand both (Alloc (record { nodes = 5; regs = None; slots = 3 }))
+slots_and_nodes = is_alloc both 5 _
+    (so_far_more both 3 (with_setting none_given (Slots 3)) (Nodes 5)
+    (so_far_more both 1 none_given (Slots 3) (so_far_none both refl)
+    (record { fresh = refl; flag = refl; number = ap Some (digit 3 (lit< tt)); ranged = lit≤ tt }))
+    (record { fresh = refl; flag = refl; number = ap Some (digit 5 (lit< tt)); ranged = (lit≤ tt, lit≤ tt) })) refl
+
+-- `alloc` alone
+alone : IsCommand (codes "alloc" ∷ []) (Alloc (record { nodes = 2000; regs = None; slots = 64 }))
+alone = is_alloc (codes "alloc" ∷ []) 1 none_given (so_far_none (codes "alloc" ∷ []) refl) refl

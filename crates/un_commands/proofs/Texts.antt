@@ -1,0 +1,23 @@
+-- Words that are not the same.
+use Rattle.std.proofs.Common.{ℕ, ◌≡◌, ◌≢◌, ◌<◌, ◌^◌, List, ◌∷◌, Some, None, ap}
+use Rattle.std.specs.List.{slice_get}
+use Rattle.std.specs.Fmt.{decimal}
+use Rattle.std.proofs.lemmas.Fmt.{decimal_injective}
+
+-- a list whose first word has another first byte has another first word
+pub other_first : (a b : ℕ) (v w : List ℕ) (rest words : List (List ℕ)) → a ≢ b → words ≡ (a ∷ v) ∷ rest
+    → slice_get words 0 ≡ Some (b ∷ w) → ⊥
+other_first a b v w rest words ne is first =
+    let here : slice_get words 0 ≡ Some (a ∷ v) = ap (λ (ws : List (List ℕ)). slice_get ws 0) is in
+    let same : a ≡ b = cc in ne same
+
+-- there is a word or none
+pub some_or_none : (words : List (List ℕ)) (place : ℕ) (word : List ℕ) → slice_get words place ≡ Some word
+    → slice_get words place ≡ None → ⊥
+some_or_none words place word some none = cc
+
+-- a word that is a number is one number
+pub one_number : (words : List (List ℕ)) (place m n : ℕ) → m < 2 ^ 64 → n < 2 ^ 64 → slice_get words place ≡ Some (decimal m)
+    → slice_get words place ≡ Some (decimal n) → m ≡ n
+one_number words place m n small_m small_n is_m is_n =
+    let same : decimal m ≡ decimal n = cc in decimal_injective m n small_m small_n same

@@ -1,0 +1,26 @@
+-- The grammar of the words of a command line.
+use Rattle.std.specs.Prelude.{ℕ, ◌≡◌, ◌+◌, List, take}
+use Rattle.un_commands.specs.declared.command.Command.{Command}
+use Rattle.un_commands.specs.declared.command.Command.TheVariants.{Alloc}
+use Rattle.un_commands.specs.Alloc.{IsAlloc, AreSearchOptions}
+
+-- the words of a line are those of a command
+abbrev pub IsCommand : List (List ℕ) → Command → Type 0
+IsCommand words (Alloc options) = IsAlloc words options
+
+-- the first k words, or all of them where there are fewer, are the first k of some command's words
+pub record BeginsCommand (words : List (List ℕ)) (k : ℕ) : Type 0 where
+  pub command : Command
+  pub spelled : List (List ℕ)
+  pub is_command : IsCommand spelled command
+  pub begins : take k words ≡ take k spelled
+
+-- the least place at which no command begins with the words up to and with that place; where more words are needed, it is
+-- the number of words
+pub record IsBadWord (words : List (List ℕ)) (place : ℕ) : Type 0 where
+  pub good : BeginsCommand words place
+  pub bad : BeginsCommand words (place + 1) → ⊥
+
+-- the numbers of a command are in their ranges
+abbrev pub IsRanged : Command → Type 0
+IsRanged (Alloc options) = AreSearchOptions options

@@ -1,0 +1,4 @@
+pub mod Alloc
+pub mod Commands
+pub mod Places
+pub mod Settings

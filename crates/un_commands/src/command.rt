@@ -1,0 +1,40 @@
+//! What a command line may ask for.
+
+use un_model::model::Options;
+
+/// The most nodes that the tree of a search may be given.
+pub const MOST_NODES: u32 = 200_000;
+
+/// How many nodes the tree of a search may have where no number is given.
+pub const DEFAULT_NODES: u32 = 2_000;
+
+/// What a search may use: so many nodes of its tree, 1 to 200,000, the registers r0 to r(n − 1), where n is 1 to 29, or all,
+/// and so many frame slots, at most 64.
+#[derive(Clone, Copy)]
+pub struct SearchOptions {
+    pub nodes: u32,
+    pub regs: Option<u32>,
+    pub slots: u32,
+}
+
+impl SearchOptions {
+    ghost use Rattle.std.specs.Prelude.{◌≡◌};
+    ghost use Rattle.un_commands.specs.Alloc.{model_options};
+
+    /// What the search may use of the processor.
+    pub fn model_options(&self) -> Options
+        ensures { result ≡ model_options self.now }
+    {
+        Options {
+            regs: self.regs,
+            slots: self.slots,
+        }
+    }
+}
+
+/// What a command line asks for.
+#[derive(Clone, Copy)]
+pub enum Command {
+    /// The report of a function, with its code.
+    Alloc(SearchOptions),
+}

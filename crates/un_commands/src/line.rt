@@ -1,0 +1,29 @@
+//! Which command the words of a command line ask for.
+
+ghost use Rattle.std.specs.Prelude.{◌≡◌, ℕ, Err, IfOk};
+ghost use Rattle.un_commands.specs.Commands.{IsCommand, IsBadWord, IsRanged};
+
+use crate::alloc::read_alloc;
+use crate::command::Command;
+use un_outside::words::Word;
+
+/// The command that the words are, with its numbers in their ranges. It takes no memory.
+///
+/// # Errors
+/// The least place, from 0, at which no command begins with the words up to and with that place. It is the number of words
+/// where more are needed.
+pub fn read_command(words: &[Word]) -> Result<Command, u32>
+    ensures ok { IfOk result (IsCommand words.now) }
+    ensures exactly { (place : ℕ) → IsBadWord words.now place → result ≡ Err place }
+    ensures bad { (place : ℕ) → result ≡ Err place → IsBadWord words.now place }
+    ensures ranged { IfOk result IsRanged }
+{
+    let Some(first) = words.first() else {
+        return Err(0);
+    };
+    if first.is(b"alloc") {
+        read_alloc(words)
+    } else {
+        Err(0)
+    }
+}

@@ -1,0 +1,5 @@
+//! Outcomes of runs as text.
+#![tactic(auto)]
+
+mod pieces;
+pub mod print;
