@@ -1,12 +1,13 @@
 -- How far the check of a tree's text has come.
-use Rattle.std.proofs.Common.{length, length-append, ◌<◌, arith, ℕ, ◌≡◌, ◌⊎◌, List, [], ◌∷◌, ◌++◌, All, inl, inr, refl, sym, ap, ◌∙◌, subst, append_assoc}
+use Rattle.std.proofs.Common.{length, length-append, ◌<◌, ◌≤◌, ◌+◌, arith, ℕ, ◌≡◌, ◌⊎◌, List, [], ◌∷◌, ◌++◌, All, inl, inr, refl, sym, ap, ◌∙◌, subst, append_assoc}
 use Rattle.std.specs.declared.option.Option.{Option}
 use Rattle.std.specs.List.{AllByRecursion}
-use Rattle.std.proofs.lemmas.List.Elements.{recursion_from_All, All-from_recursion, All-tail, All-head}
+use Rattle.std.proofs.lemmas.List.Elements.{recursion_from_All, All-from_recursion, All-tail, All-head, All-push, All-nil}
 use Rattle.un_model.specs.declared.model.Model.{Model}
 use Rattle.un_tree.specs.Texts.{Fits, node_line, tree_text, BeginsNoNode, BeginsWith}
 use Rattle.un_tree.specs.declared.node.Node.{Node}
-use Rattle.un_tree.proofs.TreeTexts.{first_once, read_whole}
+use Rattle.un_tree.proofs.TreeTexts.{all_read, first_once, read_more, read_whole, text_end}
+use Rattle.un_check.specs.Causes.{AreLines}
 use Rattle.un_check.specs.Walks.{IsWalk}
 use Rattle.un_check.specs.declared.walk.Walk.{Walk}
 
@@ -59,3 +60,44 @@ next_line m limit nodes left w h n line rest b = by h.rest h.fit h.text h.walk
 
 pub shorter : (left line rest : List ℕ) → left ≡ line ++ 10 ∷ rest → length rest < length left
 shorter left line rest e = omega (arith, ap length e, length-append line (10 ∷ rest))
+
+-- so many lines before what is left are nodes'
+pub record AreCounted (text : List ℕ) (count : ℕ) (left : List ℕ) : Type 0 where
+  pub before : List Node
+  pub fit : All Fits before
+  pub whole : text ≡ tree_text before ++ left
+  pub counted : count ≡ length before
+  pub few : count + length left ≤ length text
+
+pub counted_first : (text : List ℕ) → AreCounted text 0 text
+counted_first text = record { before = []; fit = All-nil Fits; whole = refl; counted = refl; few = omega arith }
+
+pub counted_more : (text : List ℕ) (count : ℕ) (left : List ℕ) (n : Node) (line rest : List ℕ) → AreCounted text count left
+    → BeginsWith left n line rest → AreCounted text (count + 1) rest
+counted_more text count left n line rest h b = record {
+  before = h.before ++ n ∷ [];
+  fit = All-push Fits h.before n h.fit b.fits;
+  whole = read_more text h.before (h.before ++ n ∷ []) left n line rest h.whole b.spelled b.whole refl;
+  counted = (let e = h.counted in omega (arith, e, length-append h.before (n ∷ [])));
+  few = (let few = h.few in let e = shorter left line rest b.whole in omega (arith, few, e));
+}
+
+pub counted_all : (text : List ℕ) (count : ℕ) (left : List ℕ) → AreCounted text count left → left ≡ [] → AreLines count text
+counted_all text count left h none = record {
+  nodes = h.before;
+  fit = h.fit;
+  spelled = text_end text h.before left h.whole none;
+  counted = h.counted;
+}
+
+-- lines are those of one list of nodes
+pub lines_one : (text : List ℕ) (a b : List Node) → All Fits a → All Fits b → text ≡ tree_text a → text ≡ tree_text b → a ≡ b
+lines_one text a b f g x y = (all_read text a b [] (x ∙ sym (append_nil (tree_text a))) f g y (inl refl)).1
+  where
+    append_nil : (xs : List ℕ) → xs ++ [] ≡ xs
+    append_nil [] = refl
+    append_nil (x ∷ xs) = ap (λ (ys : List ℕ). x ∷ ys) (append_nil xs)
+
+pub same_count : (text : List ℕ) (count : ℕ) (nodes : List Node) → AreLines count text → All Fits nodes → text ≡ tree_text nodes
+    → length nodes ≡ count
+same_count text count nodes h fit is = ap length (lines_one text nodes h.nodes fit h.fit is h.spelled) ∙ sym h.counted

@@ -47,12 +47,12 @@ contains_last : (ps : List Visit) (p : Visit) → Contains (ps ++ p ∷ []) p
 contains_last ps p = (length ps, omega (arith, length-append ps (p ∷ [])), get_or_at ps p [] p (length ps) refl)
 
 module _ (m : Model) where
-  lower : (low k : ℕ) (n : Node) (w : Waiting) → low ≤ k → HasAtLeast (IsLeast m) k n w → HasAtLeast (IsLeast m) low n w
+  pub lower : (low k : ℕ) (n : Node) (w : Waiting) → low ≤ k → HasAtLeast (IsLeast m) k n w → HasAtLeast (IsLeast m) low n w
   lower low k (Branch v x) w le h = tt
   lower low k Closed w le h = tt
   lower low k Open (Whole b) le h = λ l is. (let e = h l is in omega (arith, e, le))
 
-  other_least : (low : ℕ) (n : Node) (w : Waiting) → n ≢ Open → HasAtLeast (IsLeast m) low n w
+  pub other_least : (low : ℕ) (n : Node) (w : Waiting) → n ≢ Open → HasAtLeast (IsLeast m) low n w
   other_least low (Branch v x) w never = tt
   other_least low Closed w never = tt
   other_least low Open w never = absurd (never refl)

@@ -1,3 +1,4 @@
+pub mod Causes
 pub mod Engines
 pub mod Judging
 pub mod Laws

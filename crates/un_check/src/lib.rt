@@ -1,8 +1,12 @@
 //! The check of a tree and of a report: what is said of them is so.
 #![tactic(auto)]
 
+mod answer;
 mod judge;
 pub mod laws;
+mod leaves;
+pub mod lines;
+pub mod report;
 mod room;
 mod rules;
 pub mod tree;
