@@ -35,7 +35,8 @@ fn check_by(
     ensures told { IfOk result (IsToldBy f.now.name m.now (claim_of r.now)) }
     ensures sound { IfOk result (λ told. OnOk told (IsSoundFor m.now f.now r.now)) }
 {
-    match judge_head(alloc, f, m, r.name.as_bytes(), &r.answer)? {
+    let head = judge_head(alloc, f, m, r.name.as_bytes(), &r.answer)?;
+    match head {
         Err(cause) => Ok(Err(cause)),
         Ok(()) => {
             let verdict = check_tree(alloc, m, limit_of(&r.answer), &r.tree)?;
@@ -82,7 +83,8 @@ fn check_view_by(
         → IfOk result (IsToldBy f.now.name m.now (claim_with v.now nodes)) }
     ensures sound { (r : Report) → IsViewOf r v.now → All Fits r.tree.nodes.items → IfOk result (λ told. OnOk told (IsSoundFor m.now f.now r)) }
 {
-    match judge_head(alloc, f, m, v.name, &v.answer)? {
+    let head = judge_head(alloc, f, m, v.name, &v.answer)?;
+    match head {
         Err(cause) => Ok(Err(cause)),
         Ok(()) => {
             let verdict = check_lines(alloc, m, limit_of(&v.answer), v.tree)?;

@@ -68,7 +68,6 @@ fn verdict_of(walk: &Walk) -> TreeVerdict
 ///
 /// # Errors
 /// Where memory is short, or there are more nodes, variables or operations than numbers below 2^32.
-#[tactic(none)]
 pub fn check_tree(
     alloc: Global,
     m: &Model,
@@ -85,7 +84,8 @@ pub fn check_tree(
     let rules = Rules { m, limit };
     let mut walk = begin(alloc, &rules)?;
     for node in &t.nodes {
-        if let Some(verdict) = visit(&rules, &mut walk, *node)? {
+        let told = visit(&rules, &mut walk, *node)?;
+        if let Some(verdict) = told {
             return Ok(verdict);
         }
     }
@@ -96,7 +96,6 @@ pub fn check_tree(
 ///
 /// # Errors
 /// Where memory is short, or there are more nodes, variables or operations than numbers below 2^32.
-#[tactic(none)]
 pub fn check_lines(
     alloc: Global,
     m: &Model,
@@ -120,7 +119,8 @@ pub fn check_lines(
             Step::End => return Ok(verdict_of(&walk)),
             Step::Bad => unreachable!(),
             Step::Node { node, rest, .. } => {
-                if let Some(verdict) = visit(&rules, &mut walk, node)? {
+                let told = visit(&rules, &mut walk, node)?;
+                if let Some(verdict) = told {
                     return Ok(verdict);
                 }
                 left = rest;

@@ -12,7 +12,7 @@ returns-in-Err-clause-told c =
     let f = c.args.f.now in
     subst (λ (name : List ℕ). IsCause f.name m (record { name = name; nodes = r.nodes; answer = r.answer; tree = r.tree.nodes.items }) c.in-Err.cause)
     c.as_bytes.ensures.bytes
-    (told_err _ _ c.in_ok-judge_head.field-0 c.in-Err.cause (c.in_ok-judge_head.ensures r.nodes r.tree.nodes.items) c.in-Err.is)
+    (told_err _ _ c.in_ok-head.head c.in-Err.cause (c.in_ok-head.ensures r.nodes r.tree.nodes.items) c.in-Err.is)
 
 pub returns-in-Ok-clause-told : goal.returns-in-Ok-clause-told
 returns-in-Ok-clause-told c =
@@ -23,7 +23,7 @@ returns-in-Ok-clause-told c =
     (subst (λ (limit : Option ℕ). IsVerdict m limit r.tree.nodes.items c.in_ok-verdict.verdict) c.limit_of.ensures c.in_ok-verdict.ensures.verdict)
     (subst (λ (name : List ℕ). IsRightHead f.name m (record { name = name; nodes = r.nodes; answer = r.answer; tree = r.tree.nodes.items }))
     c.as_bytes.ensures.bytes
-    (told_ok _ _ c.in_ok-judge_head.field-0 (c.in_ok-judge_head.ensures r.nodes r.tree.nodes.items) c.in-Ok.is))
+    (told_ok _ _ c.in_ok-head.head (c.in_ok-head.ensures r.nodes r.tree.nodes.items) c.in-Ok.is))
 
 pub returns-in-Ok-clause-sound : goal.returns-in-Ok-clause-sound
 returns-in-Ok-clause-sound c =

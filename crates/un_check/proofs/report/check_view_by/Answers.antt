@@ -13,7 +13,7 @@ check_lines-requires-clause-lines c =
 
 pub returns-in-Err-clause-told : goal.returns-in-Err-clause-told
 returns-in-Err-clause-told c nodes fit is =
-    told_err _ _ c.in_ok-judge_head.field-0 c.in-Err.cause (c.in_ok-judge_head.ensures c.args.v.now.nodes nodes) c.in-Err.is
+    told_err _ _ c.in_ok-head.head c.in-Err.cause (c.in_ok-head.ensures c.args.v.now.nodes nodes) c.in-Err.is
 
 pub returns-in-Ok-clause-told : goal.returns-in-Ok-clause-told
 returns-in-Ok-clause-told c nodes fit is =
@@ -21,7 +21,7 @@ returns-in-Ok-clause-told c nodes fit is =
     c.judge_tree.ensures.told v.name.now nodes (same_count v.tree.now v.count nodes c.requires.lines fit is)
     (subst (λ (limit : Option ℕ). IsVerdict c.args.m.now limit nodes c.in_ok-verdict.verdict) c.limit_of.ensures
     (c.in_ok-verdict.ensures.verdict nodes fit is))
-    (told_ok _ _ c.in_ok-judge_head.field-0 (c.in_ok-judge_head.ensures v.nodes nodes) c.in-Ok.is)
+    (told_ok _ _ c.in_ok-head.head (c.in_ok-head.ensures v.nodes nodes) c.in-Ok.is)
 
 pub returns-in-Ok-clause-sound : goal.returns-in-Ok-clause-sound
 returns-in-Ok-clause-sound c r view fit =

@@ -37,7 +37,7 @@ returns-in-Some-clause-verdict c nodes fit is =
     let h = next_line c.args.m.now c.args.limit nodes c.loop-walk.left.now c.loop-walk.walk (c.loop-walk.invariant.lines nodes fit is)
     c.in-Node.node c.in-Node.line.now c.in-Node.rest.now c.in-Node.ensures in
     told (IsWalk c.args.m.now c.args.limit nodes h.behind c.visit.new.walk) (IsVerdict c.args.m.now c.args.limit nodes)
-    c.in_ok-verdict-in-Node.verdict c.in-Some.verdict (c.in_ok-verdict-in-Node.ensures.visited nodes h.behind h.walk) c.in-Some.is
+    c.in_ok-told-in-Node.told c.in-Some.verdict (c.in_ok-told-in-Node.ensures.visited nodes h.behind h.walk) c.in-Some.is
 
 pub returns-in-Some-clause-sound : goal.returns-in-Some-clause-sound
 returns-in-Some-clause-sound c nodes fit is =
@@ -46,8 +46,8 @@ returns-in-Some-clause-sound c nodes fit is =
 
 pub loop-walk-preserved : goal.loop-walk-preserved
 loop-walk-preserved c = record {
-  at = c.in_ok-verdict-in-Node.ensures.at;
-  room = c.in_ok-verdict-in-Node.ensures.room;
+  at = c.in_ok-told-in-Node.ensures.at;
+  room = c.in_ok-told-in-Node.ensures.room;
   lines = λ nodes fit is.
       (let h = next_line c.args.m.now c.args.limit nodes c.loop-walk.left.now c.loop-walk.walk (c.loop-walk.invariant.lines nodes fit is)
       c.in-Node.node c.in-Node.line.now c.in-Node.rest.now c.in-Node.ensures in
@@ -56,42 +56,9 @@ loop-walk-preserved c = record {
         fit = h.fit;
         text = h.text;
         walk = silent (IsWalk c.args.m.now c.args.limit nodes h.behind c.visit.new.walk) (IsVerdict c.args.m.now c.args.limit nodes)
-            c.in_ok-verdict-in-Node.verdict (c.in_ok-verdict-in-Node.ensures.visited nodes h.behind h.walk) c.in_default.is;
+            c.in_ok-told-in-Node.told (c.in_ok-told-in-Node.ensures.visited nodes h.behind h.walk) c.in_default.is;
       });
 }
-
-pub begin-requires-clause-model : goal.begin-requires-clause-model
-begin-requires-clause-model c = c.requires.model
-
-pub begin-requires-clause-extended : goal.begin-requires-clause-extended
-begin-requires-clause-extended c = c.requires.extended
-
-pub begin-requires-clause-fit : goal.begin-requires-clause-fit
-begin-requires-clause-fit c = c.requires.fit
-
-pub begin-requires-clause-options : goal.begin-requires-clause-options
-begin-requires-clause-options c = c.requires.options
-
-pub visit-requires-clause-rules : goal.visit-requires-clause-rules
-visit-requires-clause-rules c = c.in_ok-walk.ensures.rules
-
-pub visit-requires-clause-at : goal.visit-requires-clause-at
-visit-requires-clause-at c = c.loop-walk.invariant.at
-
-pub visit-requires-clause-room : goal.visit-requires-clause-room
-visit-requires-clause-room c = c.loop-walk.invariant.room
-
-pub returns-in_err-verdict-in-Node-clause-sound : goal.returns-in_err-verdict-in-Node-clause-sound
-returns-in_err-verdict-in-Node-clause-sound c nodes fit is = tt
-
-pub returns-in_err-verdict-in-Node-clause-verdict : goal.returns-in_err-verdict-in-Node-clause-verdict
-returns-in_err-verdict-in-Node-clause-verdict c nodes fit is = tt
-
-pub returns-in_err-walk-clause-sound : goal.returns-in_err-walk-clause-sound
-returns-in_err-walk-clause-sound c nodes fit is = tt
-
-pub returns-in_err-walk-clause-verdict : goal.returns-in_err-walk-clause-verdict
-returns-in_err-walk-clause-verdict c nodes fit is = tt
 
 pub loop-walk-smaller : goal.loop-walk-smaller
 loop-walk-smaller c = shorter c.loop-walk.left.now c.in-Node.line.now c.in-Node.rest.now c.in-Node.ensures.whole

@@ -1,4 +1,5 @@
-use Rattle.std.proofs.Common.{◌+◌, [], drop, subst}
+use Rattle.std.proofs.Common.{◌+◌, ◌≤◌, List, [], drop, length, subst}
+use Rattle.un_tree.specs.declared.node.Node.{Node}
 use Rattle.un_check.specs.Verdicts.{IsVerdict}
 use Rattle.un_check.specs.Walks.{IsWalk}
 use Rattle.un_check.proofs.TreeLemmas.{next_walk, end_walk, told, silent}
@@ -11,8 +12,8 @@ loop-node-init c = let b = c.in_ok-walk.ensures in record { at = b.at; room = b.
 pub returns-in-Some-clause-verdict : goal.returns-in-Some-clause-verdict
 returns-in-Some-clause-verdict c = told (IsWalk c.args.m.now c.args.limit c.args.t.now.nodes.items (drop (c.loop-node.node-index + 1) c.args.t.now.nodes.items) c.visit.new.walk)
     (IsVerdict c.args.m.now c.args.limit c.args.t.now.nodes.items)
-    c.in_ok-verdict.verdict c.in-Some.verdict
-    (c.in_ok-verdict.ensures.visited c.args.t.now.nodes.items (drop (c.loop-node.node-index + 1) c.args.t.now.nodes.items)
+    c.in_ok-told.told c.in-Some.verdict
+    (c.in_ok-told.ensures.visited c.args.t.now.nodes.items (drop (c.loop-node.node-index + 1) c.args.t.now.nodes.items)
     (next_walk c.args.m.now c.args.limit c.args.t.now.nodes.items c.loop-node.node-index c.node-item.result c.loop-node.walk
     c.loop-node-test.true c.node-item.is c.loop-node.invariant.walk)) c.in-Some.is
 
@@ -23,54 +24,22 @@ returns-in-Some-clause-sound c =
 
 pub loop-node-preserved : goal.loop-node-preserved
 loop-node-preserved c = record {
-  at = c.in_ok-verdict.ensures.at;
-  room = c.in_ok-verdict.ensures.room;
+  at = c.in_ok-told.ensures.at;
+  room = c.in_ok-told.ensures.room;
   walk = silent (IsWalk c.args.m.now c.args.limit c.args.t.now.nodes.items (drop (c.loop-node.node-index + 1) c.args.t.now.nodes.items) c.visit.new.walk)
     (IsVerdict c.args.m.now c.args.limit c.args.t.now.nodes.items)
-      c.in_ok-verdict.verdict (c.in_ok-verdict.ensures.visited c.args.t.now.nodes.items (drop (c.loop-node.node-index + 1) c.args.t.now.nodes.items)
+      c.in_ok-told.told (c.in_ok-told.ensures.visited c.args.t.now.nodes.items (drop (c.loop-node.node-index + 1) c.args.t.now.nodes.items)
     (next_walk c.args.m.now c.args.limit c.args.t.now.nodes.items c.loop-node.node-index c.node-item.result c.loop-node.walk
     c.loop-node-test.true c.node-item.is c.loop-node.invariant.walk)) c.in_default.is;
 }
 
 pub returns-clause-verdict : goal.returns-clause-verdict
 returns-clause-verdict c = c.verdict_of.ensures c.args.m.now c.args.limit c.args.t.now.nodes.items
-    (end_walk c.args.m.now c.args.limit c.args.t.now.nodes.items c.loop-node.node-index c.loop-node.walk c.loop-node-test.false
+    (end_walk c.args.m.now c.args.limit c.args.t.now.nodes.items c.loop-node.node-index c.loop-node.walk
+    (subst (λ (ns : List Node). length ns ≤ c.loop-node.node-index) c.deref-node-items.ensures.value c.loop-node-test.false)
     c.loop-node.invariant.walk)
 
 pub returns-clause-sound : goal.returns-clause-sound
 returns-clause-sound c =
     let b = c.in_ok-walk.ensures.rules in
     yes_stands c.args.m.now c.args.limit b.postable c.args.t.now.nodes.items c.verdict_of.result b.full (returns-clause-verdict c)
-
-pub begin-requires-clause-model : goal.begin-requires-clause-model
-begin-requires-clause-model c = c.requires.model
-
-pub begin-requires-clause-extended : goal.begin-requires-clause-extended
-begin-requires-clause-extended c = c.requires.extended
-
-pub begin-requires-clause-fit : goal.begin-requires-clause-fit
-begin-requires-clause-fit c = c.requires.fit
-
-pub begin-requires-clause-options : goal.begin-requires-clause-options
-begin-requires-clause-options c = c.requires.options
-
-pub visit-requires-clause-rules : goal.visit-requires-clause-rules
-visit-requires-clause-rules c = c.in_ok-walk.ensures.rules
-
-pub visit-requires-clause-at : goal.visit-requires-clause-at
-visit-requires-clause-at c = c.loop-node.invariant.at
-
-pub visit-requires-clause-room : goal.visit-requires-clause-room
-visit-requires-clause-room c = c.loop-node.invariant.room
-
-pub returns-in_err-verdict-clause-sound : goal.returns-in_err-verdict-clause-sound
-returns-in_err-verdict-clause-sound c = tt
-
-pub returns-in_err-verdict-clause-verdict : goal.returns-in_err-verdict-clause-verdict
-returns-in_err-verdict-clause-verdict c = tt
-
-pub returns-in_err-walk-clause-sound : goal.returns-in_err-walk-clause-sound
-returns-in_err-walk-clause-sound c = tt
-
-pub returns-in_err-walk-clause-verdict : goal.returns-in_err-walk-clause-verdict
-returns-in_err-walk-clause-verdict c = tt
