@@ -1,5 +1,5 @@
 -- What the first rule that numbers break says, and which cause a verdict or a bound is.
-use Rattle.std.proofs.Common.{ℕ, zero, suc, ◌≡◌, ◌≤◌, ◌↔◌, IsTrue, nat_eq, List, [], ◌∷◌, Ok, Err, None, Some, MatchOption, OnOk, length, get_or, map, refl, sym, subst, arith}
+use Rattle.std.proofs.Common.{ℕ, zero, suc, ◌≡◌, ◌≤◌, ◌↔◌, ◌∙◌, Bool, IsTrue, nat_eq, List, [], ◌∷◌, Ok, Err, None, Some, MatchOption, OnOk, length, get_or, map, refl, sym, subst, arith}
 use Rattle.std.proofs.lemmas.Bool.Decides.{nat_tests}
 use Rattle.std.specs.declared.option.Option.{Option}
 use Rattle.std.specs.declared.result.Result.{Result}
@@ -9,6 +9,9 @@ use Rattle.un_model.specs.Solutions.{IsSolution, ListsBroken, latency_gap}
 use Rattle.un_model.specs.declared.model.Model.{Model}
 use Rattle.un_model.specs.declared.model.Solution.{Solution}
 use Rattle.un_model.specs.declared.verdict.Broken.{Broken}
+use Rattle.un_emit.specs.Emitted.{IsEmitted}
+use Rattle.un_packet.proofs.SameCode.{same_code}
+use Rattle.un_packet.specs.declared.code.Code.{Code}
 use Rattle.un_tree.specs.Waits.{Visit}
 use Rattle.un_certificate.specs.Bounds.{IsBound}
 use Rattle.un_check.proofs.BoundLemmas.{bound_one}
@@ -60,3 +63,12 @@ tree_cause name m r _ head x = absurd x
 pub on_ok : (r : Result (Unit {0}) NoCause) (P : Type 0) → P → OnOk r P
 on_ok (Ok u) P p = p
 on_ok (Err c) P p = tt
+
+-- whether code is the one that values come to
+pub emitted_test : (m : Model) (values : List ℕ) (emitted code : Code) (same : Bool) → IsEmitted m values emitted
+    → IsTrue same ↔ (emitted ≡ code) → IsTrue same ↔ IsEmitted m values code
+emitted_test m values emitted code same is test = (
+  λ yes. subst (IsEmitted m values) (test.0 yes) is,
+  λ own. test.1 (same_code emitted.frame code.frame emitted.blocks code.blocks (is.frame ∙ sym own.frame) (is.blocks ∙ sym own.blocks)
+      emitted.rules code.rules),
+)

@@ -10,12 +10,13 @@ use Rattle.un_check.specs.Walks.{IsWalk}
 use Rattle.un_check.specs.declared.verdict.TreeVerdict.{TreeVerdict}
 use Rattle.un_check.specs.declared.walk.Walk.{Walk}
 
-pub next_walk : (m : Model) (limit : Option ℕ) (nodes : List Node) (i : ℕ) (n : Node) (w : Walk) → i < length nodes → n ≡ get_or nodes i n
-    → IsWalk m limit nodes (drop i nodes) w → IsWalk m limit nodes (n ∷ drop (i + 1) nodes) w
-next_walk m limit nodes i n w lt is h =
-    let e : drop i nodes ≡ n ∷ drop (i + 1) nodes =
-    rw (add-one, drop-cons nodes i n) (ap (λ (k : Node). k ∷ drop (suc i) nodes) (sym is)) in
-    subst (λ (ns : List Node). IsWalk m limit nodes ns w) e h
+pub next_walk : (m : Model) (limit : Option ℕ) (nodes read : List Node) (i : ℕ) (d : Node) (w : Walk) → read ≡ nodes → i < length read
+    → IsWalk m limit nodes (drop i nodes) w → IsWalk m limit nodes (get_or read i d ∷ drop (i + 1) nodes) w
+next_walk m limit nodes read i d w same lt h =
+    let below : i < length nodes = omega (arith, lt, ap length same) in
+    let e : drop i nodes ≡ get_or nodes i d ∷ drop (i + 1) nodes = rw (add-one, drop-cons nodes i d) refl in
+    subst (λ (ns : List Node). IsWalk m limit nodes (get_or ns i d ∷ drop (i + 1) nodes) w) (sym same)
+    (subst (λ (ns : List Node). IsWalk m limit nodes ns w) e h)
 
 pub told : {A : Type 0} (P : Type 0) (Q : A → Type 0) (o : Option A) (v : A) → MatchOption o P Q → o ≡ Some v → Q v
 told P Q o v h is = subst (λ (k : Option _). MatchOption k P Q) is h

@@ -45,7 +45,7 @@ fn check_by(
                 m,
                 r.nodes,
                 &r.answer,
-                r.tree.nodes.len(),
+                r.tree.nodes.as_slice().len(),
                 verdict,
             ))
         }

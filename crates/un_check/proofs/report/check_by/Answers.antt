@@ -1,4 +1,4 @@
-use Rattle.std.proofs.Common.{List, ℕ, Option, sym, subst}
+use Rattle.std.proofs.Common.{List, ℕ, Option, length, ap, sym, subst, ◌∙◌}
 use Rattle.un_certificate.specs.Certificates.{IsStanding}
 use Rattle.un_check.specs.Causes.{claim_of, limit_of, IsCause, IsRightHead}
 use Rattle.un_check.specs.Verdicts.{IsVerdict, OnYes}
@@ -14,22 +14,22 @@ returns-in-Err-clause-told c =
     c.as_bytes.ensures.bytes
     (told_err _ _ c.in_ok-head.head c.in-Err.cause (c.in_ok-head.ensures r.nodes r.tree.nodes.items) c.in-Err.is)
 
-pub returns-in-Ok-clause-told : goal.returns-in-Ok-clause-told
-returns-in-Ok-clause-told c =
+pub returns-in_ok-verdict-in-Ok-clause-told : goal.returns-in_ok-verdict-in-Ok-clause-told
+returns-in_ok-verdict-in-Ok-clause-told c =
     let r = c.args.r.now in
     let m = c.args.m.now in
     let f = c.args.f.now in
-    c.judge_tree.ensures.told r.name r.tree.nodes.items (sym c.len.ensures)
-    (subst (λ (limit : Option ℕ). IsVerdict m limit r.tree.nodes.items c.in_ok-verdict.verdict) c.limit_of.ensures c.in_ok-verdict.ensures.verdict)
+    c.judge_tree.ensures.told r.name r.tree.nodes.items (ap length (sym c.as_slice.ensures.value) ∙ sym c.len.ensures)
+    (subst (λ (limit : Option ℕ). IsVerdict m limit r.tree.nodes.items c.in_ok-verdict-in-Ok.verdict) c.limit_of.ensures c.in_ok-verdict-in-Ok.ensures.verdict)
     (subst (λ (name : List ℕ). IsRightHead f.name m (record { name = name; nodes = r.nodes; answer = r.answer; tree = r.tree.nodes.items }))
     c.as_bytes.ensures.bytes
     (told_ok _ _ c.in_ok-head.head (c.in_ok-head.ensures r.nodes r.tree.nodes.items) c.in-Ok.is))
 
-pub returns-in-Ok-clause-sound : goal.returns-in-Ok-clause-sound
-returns-in-Ok-clause-sound c =
+pub returns-in_ok-verdict-in-Ok-clause-sound : goal.returns-in_ok-verdict-in-Ok-clause-sound
+returns-in_ok-verdict-in-Ok-clause-sound c =
     let r = c.args.r.now in
     let m = c.args.m.now in
-    sound_told c.args.f.now m r c.judge_tree.result (returns-in-Ok-clause-told c)
+    sound_told c.args.f.now m r c.judge_tree.result (returns-in_ok-verdict-in-Ok-clause-told c)
     (c.judge_tree.ensures.standing r.tree.nodes.items
-    (subst (λ (limit : Option ℕ). OnYes (IsStanding m limit r.tree.nodes.items) c.in_ok-verdict.verdict) c.limit_of.ensures
-    c.in_ok-verdict.ensures.sound))
+    (subst (λ (limit : Option ℕ). OnYes (IsStanding m limit r.tree.nodes.items) c.in_ok-verdict-in-Ok.verdict) c.limit_of.ensures
+    c.in_ok-verdict-in-Ok.ensures.sound))

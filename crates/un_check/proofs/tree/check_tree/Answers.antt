@@ -1,5 +1,6 @@
 use Rattle.std.proofs.Common.{◌+◌, ◌≤◌, List, [], drop, length, subst}
 use Rattle.un_tree.specs.declared.node.Node.{Node}
+use Rattle.un_tree.specs.declared.node.Node.TheVariants.{Branch}
 use Rattle.un_check.specs.Verdicts.{IsVerdict}
 use Rattle.un_check.specs.Walks.{IsWalk}
 use Rattle.un_check.proofs.TreeLemmas.{next_walk, end_walk, told, silent}
@@ -14,8 +15,8 @@ returns-in-Some-clause-verdict c = told (IsWalk c.args.m.now c.args.limit c.args
     (IsVerdict c.args.m.now c.args.limit c.args.t.now.nodes.items)
     c.in_ok-told.told c.in-Some.verdict
     (c.in_ok-told.ensures.visited c.args.t.now.nodes.items (drop (c.loop-node.node-index + 1) c.args.t.now.nodes.items)
-    (next_walk c.args.m.now c.args.limit c.args.t.now.nodes.items c.loop-node.node-index c.node-item.result c.loop-node.walk
-    c.loop-node-test.true c.node-item.is c.loop-node.invariant.walk)) c.in-Some.is
+    (next_walk c.args.m.now c.args.limit c.args.t.now.nodes.items c.deref-node-items.result.now c.loop-node.node-index
+    (Branch (record { 0 = 0 }) 0) c.loop-node.walk c.deref-node-items.ensures.value c.loop-node-test.true c.loop-node.invariant.walk)) c.in-Some.is
 
 pub returns-in-Some-clause-sound : goal.returns-in-Some-clause-sound
 returns-in-Some-clause-sound c =
@@ -29,8 +30,8 @@ loop-node-preserved c = record {
   walk = silent (IsWalk c.args.m.now c.args.limit c.args.t.now.nodes.items (drop (c.loop-node.node-index + 1) c.args.t.now.nodes.items) c.visit.new.walk)
     (IsVerdict c.args.m.now c.args.limit c.args.t.now.nodes.items)
       c.in_ok-told.told (c.in_ok-told.ensures.visited c.args.t.now.nodes.items (drop (c.loop-node.node-index + 1) c.args.t.now.nodes.items)
-    (next_walk c.args.m.now c.args.limit c.args.t.now.nodes.items c.loop-node.node-index c.node-item.result c.loop-node.walk
-    c.loop-node-test.true c.node-item.is c.loop-node.invariant.walk)) c.in_default.is;
+    (next_walk c.args.m.now c.args.limit c.args.t.now.nodes.items c.deref-node-items.result.now c.loop-node.node-index
+    (Branch (record { 0 = 0 }) 0) c.loop-node.walk c.deref-node-items.ensures.value c.loop-node-test.true c.loop-node.invariant.walk)) c.in_default.is;
 }
 
 pub returns-clause-verdict : goal.returns-clause-verdict
