@@ -41,11 +41,18 @@ module _ (m : Model) (s : Solution) where
   Told v = Tells (latency_gap m.ext.table) m.domains m s.values (schedule_of m s.values) v
 
   clauses_one : (v w : Verdict) → Told v → Told w → broken_clauses v ≡ broken_clauses w
-  clauses_one v w x y = cc (same_test _ v.domains w.domains x.in_domains y.in_domains, same_test _ v.zeros w.zeros x.zeros y.zeros,
-      same_test _ v.choices w.choices x.choices y.choices, same_test _ v.spaces w.spaces x.spaces y.spaces,
-      same_test _ v.latencies w.latencies x.latencies y.latencies, same_test _ v.memory w.memory x.memory y.memory,
-      same_test _ v.registers w.registers x.registers y.registers, same_test _ v.packets w.packets x.packets y.packets,
-      same_test _ v.homes w.homes x.homes y.homes, same_test _ v.frame w.frame x.frame y.frame)
+  clauses_one v w x y = cc (
+    same_test _ v.domains w.domains x.in_domains y.in_domains,
+    same_test _ v.zeros w.zeros x.zeros y.zeros,
+    same_test _ v.choices w.choices x.choices y.choices,
+    same_test _ v.spaces w.spaces x.spaces y.spaces,
+    same_test _ v.latencies w.latencies x.latencies y.latencies,
+    same_test _ v.memory w.memory x.memory y.memory,
+    same_test _ v.registers w.registers x.registers y.registers,
+    same_test _ v.packets w.packets x.packets y.packets,
+    same_test _ v.homes w.homes x.homes y.homes,
+    same_test _ v.frame w.frame x.frame y.frame,
+  )
 
   -- values break one first rule
   broken_one : (k j : ℕ) → IsFirstBroken m s k → IsFirstBroken m s j → k ≡ j

@@ -191,8 +191,7 @@ module _ (m : Model) (limit : Option ℕ) (full : NoneEmpty (root_of m)) (post :
   entered_lost none e is =
       let i = box_here m limit r h full in
       let side = half_box (reached (root_of m) (path_of r)) (reached (root_of m) (path_of r)) d.var d.val d.side i.1
-      (Below-refl (reached (root_of m) (path_of r))) i.1 s in
-      (
+      (Below-refl (reached (root_of m) (path_of r))) i.1 s in (
         subst (IsEndAt m limit r.live.items) (sym is) h.end,
         posted_parts m limit post.props post.are (reached (root_of m) (path_of r)) (decided d (reached (root_of m) (path_of r))) i
             (Below-trans _ _ _ side.0 i.0, side.1) side.0 none,
@@ -220,27 +219,31 @@ module _ (m : Model) (limit : Option ℕ) (full : NoneEmpty (root_of m)) (post :
         let side = side_box (root_of m) (reached (root_of m) (path_of r)) d d.side i s in
         let same : reached (root_of m) (path_of r) ≡ reached (root_of m) r.live.items =
         ap (λ (ds : List Decision). reached (root_of m) (r.live.items ++ ds)) none
-        ∙ reached-append (root_of m) r.live.items [] in
-        (none, subst (IsEndAt m limit (r.live.items ++ d ∷ [])) (sym is) (record {
-          posted = subst (ArePosted m limit) (sym h'.0.props) end_a.posted;
-          long = h'.0.long ∙ end_a.long;
-          at = subst (λ (ms : List Sets). Leveled (root_of m) (fix_at m limit) (root_of m) (r.live.items ++ d ∷ []) ms b.store.sets)
-              (sym h'.0.marked) (leveled_push (root_of m) (fix_at m limit) (root_of m) r.live.items a.store.marked a.store.sets b.store.sets d
-              end_a.at (subst (λ (c : Sets). IsBox (root_of m) (decided d c)) same side)
-              (subst (λ (c : Sets). fix_at m limit (decided d c) ≡ Some b.store.sets) same end));
-        }))
+        ∙ reached-append (root_of m) r.live.items [] in (
+          none,
+          subst (IsEndAt m limit (r.live.items ++ d ∷ [])) (sym is) (record {
+            posted = subst (ArePosted m limit) (sym h'.0.props) end_a.posted;
+            long = h'.0.long ∙ end_a.long;
+            at = subst (λ (ms : List Sets). Leveled (root_of m) (fix_at m limit) (root_of m) (r.live.items ++ d ∷ []) ms b.store.sets)
+                (sym h'.0.marked) (leveled_push (root_of m) (fix_at m limit) (root_of m) r.live.items a.store.marked a.store.sets b.store.sets d
+                end_a.at (subst (λ (c : Sets). IsBox (root_of m) (decided d c)) same side)
+                (subst (λ (c : Sets). fix_at m limit (decided d c) ≡ Some b.store.sets) same end));
+          }),
+        )
     entered_by b false e h' is =
         let i = box_here m limit r h full in
         let end = side_is m limit a.props d (reached (root_of m) (path_of r)) None end_a.posted i s
         (h'.1 (reached (root_of m) (path_of r)) i.1 (i.0.long ∙ sym end_a.long)
-        (end_a.posted.fixed (reached (root_of m) (path_of r)) ∙ rests_some m limit r h a at none)) in
-        (subst (IsEndAt m limit r.live.items) (sym is) (record {
-          posted = subst (ArePosted m limit) (sym h'.0.props) end_a.posted;
-          long = ap length h'.0.sets ∙ end_a.long;
-          at = subst (λ (ms : List Sets). Leveled (root_of m) (fix_at m limit) (root_of m) r.live.items ms b.store.sets)
-              (sym h'.0.marked) (subst (Leveled (root_of m) (fix_at m limit) (root_of m) r.live.items a.store.marked)
-              (sym h'.0.sets) end_a.at);
-        }), end)
+        (end_a.posted.fixed (reached (root_of m) (path_of r)) ∙ rests_some m limit r h a at none)) in (
+          subst (IsEndAt m limit r.live.items) (sym is) (record {
+            posted = subst (ArePosted m limit) (sym h'.0.props) end_a.posted;
+            long = ap length h'.0.sets ∙ end_a.long;
+            at = subst (λ (ms : List Sets). Leveled (root_of m) (fix_at m limit) (root_of m) r.live.items ms b.store.sets)
+                (sym h'.0.marked) (subst (Leveled (root_of m) (fix_at m limit) (root_of m) r.live.items a.store.marked)
+                (sym h'.0.sets) end_a.at);
+          }),
+          end,
+        )
 
   -- down, where the rounds do not fail
   pub down_live : (q : Room) → IsEntered m limit d r q.engine true → q.live.items ≡ r.live.items ++ d ∷ [] → q.dead.items ≡ r.dead.items
@@ -253,14 +256,16 @@ module _ (m : Model) (limit : Option ℕ) (full : NoneEmpty (root_of m)) (post :
       ∙ (ap (λ (ds : List Decision). (r.live.items ++ d ∷ []) ++ ds) none
       ∙ (append_nil (r.live.items ++ d ∷ [])
       ∙ (ap (λ (ds : List Decision). ds ++ d ∷ []) (sym (append_nil r.live.items))
-      ∙ ap (λ (ds : List Decision). (r.live.items ++ ds) ++ d ∷ []) (sym e.0)))) in
-      (record {
-        split = subst (AllSplit (root_of m)) (sym path) (split_snoc (root_of m) (path_of r) d h.split s);
-        box = cut_down (root_of m) (path_of r) (path_of q) d (record { sets = r.cuts.sets; marked = r.cuts.marked })
-            (record { sets = q.cuts.sets; marked = q.cuts.marked }) h.box path sets marked;
-        end = subst (λ (ds : List Decision). IsEndAt m limit ds q.engine) (sym live) e.1;
-        lost = subst (AllLost (fix_at m limit) (reached (root_of m) q.live.items)) (sym none) tt;
-      }, path)
+      ∙ ap (λ (ds : List Decision). (r.live.items ++ ds) ++ d ∷ []) (sym e.0)))) in (
+        record {
+          split = subst (AllSplit (root_of m)) (sym path) (split_snoc (root_of m) (path_of r) d h.split s);
+          box = cut_down (root_of m) (path_of r) (path_of q) d (record { sets = r.cuts.sets; marked = r.cuts.marked })
+              (record { sets = q.cuts.sets; marked = q.cuts.marked }) h.box path sets marked;
+          end = subst (λ (ds : List Decision). IsEndAt m limit ds q.engine) (sym live) e.1;
+          lost = subst (AllLost (fix_at m limit) (reached (root_of m) q.live.items)) (sym none) tt;
+        },
+        path,
+      )
 
   -- down, where they fail
   pub down_lost : (q : Room) → IsEntered m limit d r q.engine false → q.live.items ≡ r.live.items → q.dead.items ≡ r.dead.items ++ d ∷ []
@@ -269,17 +274,19 @@ module _ (m : Model) (limit : Option ℕ) (full : NoneEmpty (root_of m)) (post :
   down_lost q e live dead sets marked =
       let path : path_of q ≡ path_of r ++ d ∷ [] =
       ap (λ (ds : List Decision). ds ++ q.dead.items) live
-      ∙ (ap (λ (ds : List Decision). r.live.items ++ ds) dead ∙ sym (append_assoc r.live.items r.dead.items (d ∷ []))) in
-      (record {
-        split = subst (AllSplit (root_of m)) (sym path) (split_snoc (root_of m) (path_of r) d h.split s);
-        box = cut_down (root_of m) (path_of r) (path_of q) d (record { sets = r.cuts.sets; marked = r.cuts.marked })
-            (record { sets = q.cuts.sets; marked = q.cuts.marked }) h.box path sets marked;
-        end = subst (λ (ds : List Decision). IsEndAt m limit ds q.engine) (sym live) e.0;
-        lost = subst (λ (ds : List Decision). AllLost (fix_at m limit) (reached (root_of m) ds) q.dead.items) (sym live)
-            (subst (AllLost (fix_at m limit) (reached (root_of m) r.live.items)) (sym dead)
-            (lost_snoc (fix_at m limit) (reached (root_of m) r.live.items) r.dead.items d h.lost
-            (subst (λ (c : Sets). fix_at m limit (decided d c) ≡ None) (reached-append (root_of m) r.live.items r.dead.items) e.1)));
-      }, path)
+      ∙ (ap (λ (ds : List Decision). r.live.items ++ ds) dead ∙ sym (append_assoc r.live.items r.dead.items (d ∷ []))) in (
+        record {
+          split = subst (AllSplit (root_of m)) (sym path) (split_snoc (root_of m) (path_of r) d h.split s);
+          box = cut_down (root_of m) (path_of r) (path_of q) d (record { sets = r.cuts.sets; marked = r.cuts.marked })
+              (record { sets = q.cuts.sets; marked = q.cuts.marked }) h.box path sets marked;
+          end = subst (λ (ds : List Decision). IsEndAt m limit ds q.engine) (sym live) e.0;
+          lost = subst (λ (ds : List Decision). AllLost (fix_at m limit) (reached (root_of m) ds) q.dead.items) (sym live)
+              (subst (AllLost (fix_at m limit) (reached (root_of m) r.live.items)) (sym dead)
+              (lost_snoc (fix_at m limit) (reached (root_of m) r.live.items) r.dead.items d h.lost
+              (subst (λ (c : Sets). fix_at m limit (decided d c) ≡ None) (reached-append (root_of m) r.live.items r.dead.items) e.1)));
+        },
+        path,
+      )
 
 -- ---- up
 
@@ -304,16 +311,18 @@ module _ (m : Model) (limit : Option ℕ) (r q : Room) (h : IsAt m limit r) (d :
   up_dead dead live engine =
       let path : path_of r ≡ path_of q ++ d ∷ [] =
       ap (λ (ds : List Decision). ds ++ r.dead.items) (sym live)
-      ∙ (ap (λ (ds : List Decision). q.live.items ++ ds) dead ∙ sym (append_assoc q.live.items q.dead.items (d ∷ []))) in
-      (record {
-        split = (split_init (root_of m) (path_of q) d (subst (AllSplit (root_of m)) path h.split)).0;
-        box = cut_back (path_of q) path;
-        end = subst (IsEndAt m limit q.live.items) (sym engine)
-            (subst (λ (ds : List Decision). IsEndAt m limit ds r.engine) (sym live) h.end);
-        lost = lost_init (fix_at m limit) (reached (root_of m) q.live.items) q.dead.items d
-            (subst (AllLost (fix_at m limit) (reached (root_of m) q.live.items)) dead
-            (subst (λ (ds : List Decision). AllLost (fix_at m limit) (reached (root_of m) ds) r.dead.items) (sym live) h.lost));
-      }, path)
+      ∙ (ap (λ (ds : List Decision). q.live.items ++ ds) dead ∙ sym (append_assoc q.live.items q.dead.items (d ∷ []))) in (
+        record {
+          split = (split_init (root_of m) (path_of q) d (subst (AllSplit (root_of m)) path h.split)).0;
+          box = cut_back (path_of q) path;
+          end = subst (IsEndAt m limit q.live.items) (sym engine)
+              (subst (λ (ds : List Decision). IsEndAt m limit ds r.engine) (sym live) h.end);
+          lost = lost_init (fix_at m limit) (reached (root_of m) q.live.items) q.dead.items d
+              (subst (AllLost (fix_at m limit) (reached (root_of m) q.live.items)) dead
+              (subst (λ (ds : List Decision). AllLost (fix_at m limit) (reached (root_of m) ds) r.dead.items) (sym live) h.lost));
+        },
+        path,
+      )
 
   undone_end : (a b : Option (State AnyProp)) → IsEndAt m limit r.live.items a → IsUndone a b → r.live.items ≡ q.live.items ++ d ∷ []
       → IsEndAt m limit q.live.items b
@@ -335,13 +344,15 @@ module _ (m : Model) (limit : Option ℕ) (r q : Room) (h : IsAt m limit r) (d :
       let path : path_of r ≡ path_of q ++ d ∷ [] =
       ap (λ (ds : List Decision). r.live.items ++ ds) none
       ∙ (append_nil r.live.items ∙ (live ∙ ap (λ (ds : List Decision). ds ++ d ∷ [])
-      (sym (append_nil q.live.items) ∙ ap (λ (ds : List Decision). q.live.items ++ ds) (sym still)))) in
-      (record {
-        split = (split_init (root_of m) (path_of q) d (subst (AllSplit (root_of m)) path h.split)).0;
-        box = cut_back (path_of q) path;
-        end = undone_end r.engine q.engine h.end u live;
-        lost = subst (AllLost (fix_at m limit) (reached (root_of m) q.live.items)) (sym still) tt;
-      }, path)
+      (sym (append_nil q.live.items) ∙ ap (λ (ds : List Decision). q.live.items ++ ds) (sym still)))) in (
+        record {
+          split = (split_init (root_of m) (path_of q) d (subst (AllSplit (root_of m)) path h.split)).0;
+          box = cut_back (path_of q) path;
+          end = undone_end r.engine q.engine h.end u live;
+          lost = subst (AllLost (fix_at m limit) (reached (root_of m) q.live.items)) (sym still) tt;
+        },
+        path,
+      )
 
 -- an engine has a mark for each decision on the way
 pub engine_marks : (m : Model) (limit : Option ℕ) (ds : List Decision) (e : Option (State AnyProp)) → IsEndAt m limit ds e → ds ≢ []

@@ -35,24 +35,24 @@ module _ (m : Model) (t : List Node) where
   sound_bound Spent h = tt
 
 module _ (f : Function) (m : Model) (r : Report) (sound : IsSoundFor m f r) (tree : IsCertificate m (limit_of r.answer) r.tree.nodes.items)
-    where
-  stage_not : (c : NoCause) → Stage f.name m (claim_of r) c → ⊥
-  stage_not c (inl x) = x.1 sound.named
-  stage_not c (inr (inl x)) = answer_not m r.answer c x.1 (sound_answer m r.tree.nodes.items r.answer sound.answer)
-  stage_not c (inr (inr (inl x))) = tree_not m (limit_of r.answer) r.tree.nodes.items c x.1
-      (searched_keeps m (limit_of r.answer) r.tree.nodes.items tree) tree.tree.whole
-  stage_not c (inr (inr (inr (inl x)))) =
-      x.2 (record { used = sound.used; fits = sound_fits m r.tree.nodes.items r.answer sound.answer })
-  stage_not c (inr (inr (inr (inr x)))) = x.3 (sound_bound m r.tree.nodes.items r.answer sound.answer)
+  where
+    stage_not : (c : NoCause) → Stage f.name m (claim_of r) c → ⊥
+    stage_not c (inl x) = x.1 sound.named
+    stage_not c (inr (inl x)) = answer_not m r.answer c x.1 (sound_answer m r.tree.nodes.items r.answer sound.answer)
+    stage_not c (inr (inr (inl x))) = tree_not m (limit_of r.answer) r.tree.nodes.items c x.1
+        (searched_keeps m (limit_of r.answer) r.tree.nodes.items tree) tree.tree.whole
+    stage_not c (inr (inr (inr (inl x)))) =
+        x.2 (record { used = sound.used; fits = sound_fits m r.tree.nodes.items r.answer sound.answer })
+    stage_not c (inr (inr (inr (inr x)))) = x.3 (sound_bound m r.tree.nodes.items r.answer sound.answer)
 
-  pub search_not : (t : Table) (o : Options) → IsModelOf t f o m → (c : NoCause) → HasCause t f o (claim_of r) c → ⊥
-  search_not t o is c h =
-      stage_not c (stage f.name m (claim_of r) c
-      (subst (λ (n : Model). IsCause f.name n (claim_of r) c) (model_one t f o h.model m h.is_model is) h.cause))
+    pub search_not : (t : Table) (o : Options) → IsModelOf t f o m → (c : NoCause) → HasCause t f o (claim_of r) c → ⊥
+    search_not t o is c h =
+        stage_not c (stage f.name m (claim_of r) c
+        (subst (λ (n : Model). IsCause f.name n (claim_of r) c) (model_one t f o h.model m h.is_model is) h.cause))
 
-  pub search_told : (t : Table) (o : Options) → IsModelOf t f o m → (told : Result (Unit {0}) NoCause) → IsTold t f o (claim_of r) told → told ≡ Ok tt
-  search_told t o is (Ok u) h = refl
-  search_told t o is (Err c) h = absurd (search_not t o is c (record { model = h.model; is_model = h.is_model; cause = h.by_model }))
+    pub search_told : (t : Table) (o : Options) → IsModelOf t f o m → (told : Result (Unit {0}) NoCause) → IsTold t f o (claim_of r) told → told ≡ Ok tt
+    search_told t o is (Ok u) h = refl
+    search_told t o is (Err c) h = absurd (search_not t o is c (record { model = h.model; is_model = h.is_model; cause = h.by_model }))
 
 -- the model of a function under other options that are the same
 pub model_under : (f : Function) (m : Model) (o : Options) → o ≡ m.options → IsModelOf m.ext.table f m.options m → IsModelOf m.ext.table f o m

@@ -61,13 +61,7 @@ fn under(limit: Option<u64>, answer: RelaxAnswer) -> Option<u64>
         RelaxAnswer::Empty => None,
         RelaxAnswer::Least(least) => match limit {
             None => Some(least),
-            Some(limit) => {
-                if least < limit {
-                    Some(least)
-                } else {
-                    None
-                }
-            }
+            Some(limit) => { if least < limit { Some(least) } else { None } }
         },
     }
 }

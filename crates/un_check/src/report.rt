@@ -88,14 +88,7 @@ fn check_view_by(
         Err(cause) => Ok(Err(cause)),
         Ok(()) => {
             let verdict = check_lines(alloc, m, limit_of(&v.answer), v.tree)?;
-            Ok(judge_tree(
-                f,
-                m,
-                v.nodes,
-                &v.answer,
-                v.count as usize,
-                verdict,
-            ))
+            Ok(judge_tree(f, m, v.nodes, &v.answer, v.count as usize, verdict))
         }
     }
 }

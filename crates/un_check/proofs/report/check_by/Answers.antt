@@ -1,4 +1,4 @@
-use Rattle.std.proofs.Common.{List, ℕ, Option, length, ap, sym, subst, ◌∙◌}
+use Rattle.std.proofs.Common.{List, ℕ, Option, length, ap, sym, subst}
 use Rattle.un_certificate.specs.Certificates.{IsStanding}
 use Rattle.un_check.specs.Causes.{claim_of, limit_of, IsCause, IsRightHead}
 use Rattle.un_check.specs.Verdicts.{IsVerdict, OnYes}
@@ -19,7 +19,7 @@ returns-in_ok-verdict-in-Ok-clause-told c =
     let r = c.args.r.now in
     let m = c.args.m.now in
     let f = c.args.f.now in
-    c.judge_tree.ensures.told r.name r.tree.nodes.items (ap length (sym c.as_slice.ensures.value) ∙ sym c.len.ensures)
+    c.judge_tree.ensures.told r.name r.tree.nodes.items (ap length (sym c.as_slice.ensures.value))
     (subst (λ (limit : Option ℕ). IsVerdict m limit r.tree.nodes.items c.in_ok-verdict-in-Ok.verdict) c.limit_of.ensures c.in_ok-verdict-in-Ok.ensures.verdict)
     (subst (λ (name : List ℕ). IsRightHead f.name m (record { name = name; nodes = r.nodes; answer = r.answer; tree = r.tree.nodes.items }))
     c.as_bytes.ensures.bytes

@@ -28,10 +28,10 @@ loop-node-preserved c = record {
   at = c.in_ok-told.ensures.at;
   room = c.in_ok-told.ensures.room;
   walk = silent (IsWalk c.args.m.now c.args.limit c.args.t.now.nodes.items (drop (c.loop-node.node-index + 1) c.args.t.now.nodes.items) c.visit.new.walk)
-    (IsVerdict c.args.m.now c.args.limit c.args.t.now.nodes.items)
+      (IsVerdict c.args.m.now c.args.limit c.args.t.now.nodes.items)
       c.in_ok-told.told (c.in_ok-told.ensures.visited c.args.t.now.nodes.items (drop (c.loop-node.node-index + 1) c.args.t.now.nodes.items)
-    (next_walk c.args.m.now c.args.limit c.args.t.now.nodes.items c.deref-node-items.result.now c.loop-node.node-index
-    (Branch (record { 0 = 0 }) 0) c.loop-node.walk c.deref-node-items.ensures.value c.loop-node-test.true c.loop-node.invariant.walk)) c.in_default.is;
+      (next_walk c.args.m.now c.args.limit c.args.t.now.nodes.items c.deref-node-items.result.now c.loop-node.node-index
+      (Branch (record { 0 = 0 }) 0) c.loop-node.walk c.deref-node-items.ensures.value c.loop-node-test.true c.loop-node.invariant.walk)) c.in_default.is;
 }
 
 pub returns-clause-verdict : goal.returns-clause-verdict
