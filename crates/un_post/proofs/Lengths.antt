@@ -285,6 +285,7 @@ module _ (e : Ext) (o : Options) (x : List ℕ) (given : Given e o x)
       where
         k : (n : ℕ) × (n < length (blocks e o x)) × (slice_get (blocks e o x) n ≡ Some r)
         k = position_of (blocks e o x) r mr
+
         en : Ended r
         en = region_end e o x given k.0 r k.2
 

@@ -113,14 +113,7 @@ fn known_block(
         (known_befores m.now b (map place_of spots.now)) end horizon (map place_of spots.now)) }
 {
     let waits = known_waits(alloc, m, all, b, spots)?;
-    let made = block_by(
-        alloc,
-        &m.ext.table,
-        waits.as_slice(),
-        end,
-        horizon,
-        spots,
-    )?;
+    let made = block_by(alloc, &m.ext.table, waits.as_slice(), end, horizon, spots)?;
     Ok(made)
 }
 
