@@ -5,8 +5,6 @@
 pub mod attempt;
 mod best;
 mod choices;
-mod lifts;
-pub mod order;
 pub mod rounds;
 pub mod solve;
 mod start;

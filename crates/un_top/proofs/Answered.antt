@@ -1,5 +1,5 @@
 -- What the answers before writing say of the answer of a run.
-use Rattle.std.proofs.Common.{ℕ, ◌≡◌, ◌<◌, ◌⊎◌, inl, inr, List, [], append-nil, length, subst, refl, sym, ap, ◌∙◌}
+use Rattle.std.proofs.Common.{ℕ, ◌≡◌, ◌<◌, ◌⊎◌, inl, inr, true, false, List, [], append-nil, length, subst, refl, sym, ap, ◌∙◌, arith}
 use Rattle.std.specs.declared.option.Option.{Option}
 use Rattle.std.specs.declared.option.Option.TheVariants.{Some, None}
 use Rattle.std.specs.declared.result.Result.{Result}
@@ -11,24 +11,90 @@ use Rattle.un_outside.specs.Causes.{AppendsPrefix}
 use Rattle.un_outside.specs.declared.status.Status.{Status}
 use Rattle.un_outside.specs.declared.status.Status.TheVariants.{Done, Infeasible, Spent, TextFault, Usage, ReadFault, WriteFault, NoMemory, No}
 use Rattle.un_outside.specs.declared.status.Status.TheVariants.{BadReport}
-use Rattle.un_ir.specs.declared.function.Function.{Function}
-use Rattle.un_reader.specs.declared.limits.TheConstants.{TEXT}
-use Rattle.un_reader.specs.Read.{IsRead, IsTextFault, too_long}
+use Rattle.std.proofs.lemmas.Bool.{true≢false}
+use Rattle.un_reader.specs.Read.{IsTextFault, too_long}
 use Rattle.un_faults.specs.declared.fault.Fault.TheVariants.{TooMany}
-use Rattle.un_top.specs.Faults.{IsFault}
+use Rattle.un_runs.specs.Inputs.{first_part}
+use Rattle.un_commands.proofs.CommandLaws.{one_command}
 use Rattle.un_commands.specs.Commands.{IsCommand}
 use Rattle.un_commands.specs.declared.command.Command.{Command}
-use Rattle.un_commands.specs.declared.command.Command.TheVariants.{Alloc}
-use Rattle.un_top.specs.declared.produce.Output.{Output}
-use Rattle.un_top.specs.Runs.{AnswersFault, AnswersAccepted, IsAnswer, IsRefusal, IsOutput, IsOutputOf, IsWritten, Wrote, KeepsOut, OutAfter}
+use Rattle.un_commands.specs.declared.command.Command.TheVariants.{Alloc, Run, RunCode, Generate, GenerateAlloc}
+use Rattle.un_top.specs.declared.output.Output.{Output}
+use Rattle.un_top.specs.Runs.{reads_input, most_bytes, IsFaultIn, IsBadIn, IsFaultless, IsFaultOf, IsBadOf, AnswersFault, AnswersAccepted, IsAnswer}
+use Rattle.un_top.specs.Runs.{IsRefusal, IsOutput, IsOutputOf, IsWritten, Wrote, KeepsOut, OutAfter}
 use Rattle.un_top.proofs.FaultLaws.{fault_unique, read_has_no_fault}
 
--- a text that is too long has its fault
-pub too_long_fault : (told : Option (List ℕ)) (line code : ℕ) → 0 ≡ line → 13 ≡ code
-    → IfSome told (λ (bs : List ℕ). TEXT < length bs) → IfSome told (λ (text : List ℕ). IsFault text line code)
-too_long_fault None line code p q h = tt
-too_long_fault (Some text) line code p q h =
+-- an input that is too long has its fault
+too_long_in : (told : Option (List ℕ)) (command : Command) (line code : ℕ) → 0 ≡ line → 13 ≡ code
+    → IfSome told (λ (bs : List ℕ). most_bytes command < length bs)
+    → IfSome told (λ (text : List ℕ). (reads_input command ≡ true → IsFaultIn command text line code))
+too_long_in None command line code p q h = tt
+too_long_in (Some text) (Alloc o) line code p q h = λ reads.
     record { fault = TooMany; is = subst (λ (l : ℕ). IsTextFault text l TooMany) p (too_long h); coded = sym q }
+too_long_in (Some text) Run line code p q h = λ reads. inl (record { long = h; no_line = sym p; too_many = sym q })
+too_long_in (Some text) RunCode line code p q h = λ reads. record { long = h; no_line = sym p; too_many = sym q }
+too_long_in (Some text) (Generate seed size) line code p q h = λ reads. absurd (cc reads)
+too_long_in (Some text) (GenerateAlloc seed size nodes) line code p q h = λ reads. absurd (cc reads)
+
+pub too_long_by : (told : Option (List ℕ)) (command : Command) (max line code : ℕ) → max ≡ most_bytes command → 0 ≡ line → 13 ≡ code
+    → IfSome told (λ (bs : List ℕ). max < length bs)
+    → IfSome told (λ (text : List ℕ). (reads_input command ≡ true → IsFaultIn command text line code))
+too_long_by told command max line code most p q h =
+    too_long_in told command line code p q (subst (λ (n : ℕ). IfSome told (λ (bs : List ℕ). n < length bs)) most h)
+
+-- ---- what a command reads has one fault at most, and with it no output and no bad line
+
+one_fault : (command : Command) (text : List ℕ) (l c line code : ℕ) → IsFaultIn command text l c → IsFaultIn command text line code
+    → (l ≡ line) × (c ≡ code)
+one_fault (Alloc o) text l c line code a b = fault_unique text l c line code a b
+one_fault Run text l c line code (inl a) (inl b) = (a.no_line ∙ sym b.no_line, a.too_many ∙ sym b.too_many)
+one_fault Run text l c line code (inl a) (inr b) = absurd (let long = a.long in let short = b.0 in omega (arith, long, short))
+one_fault Run text l c line code (inr a) (inl b) = absurd (let long = b.long in let short = a.0 in omega (arith, long, short))
+one_fault Run text l c line code (inr a) (inr b) = fault_unique (first_part text) l c line code a.1 b.1
+one_fault RunCode text l c line code a b = (a.no_line ∙ sym b.no_line, a.too_many ∙ sym b.too_many)
+one_fault (Generate seed size) text l c line code a b = absurd a
+one_fault (GenerateAlloc seed size nodes) text l c line code a b = absurd a
+
+output_has_none : (command : Command) (text : List ℕ) (status : Status) (out : List ℕ) (line code : ℕ) → IsOutput command text status out
+    → IsFaultIn command text line code → ⊥
+output_has_none (Alloc o) text status out line code h f = read_has_no_fault text h.function line code h.read f
+output_has_none Run text status out line code h (inl f) = let long = f.long in let short = h.1 in omega (arith, long, short)
+output_has_none Run text status out line code h (inr f) = let run = h.2 in read_has_no_fault (first_part text) run.function line code run.read f.1
+output_has_none RunCode text status out line code h f = let long = f.long in let short = h.1 in omega (arith, long, short)
+output_has_none (Generate seed size) text status out line code h f = f
+output_has_none (GenerateAlloc seed size nodes) text status out line code h f = f
+
+bad_has_none : (command : Command) (text : List ℕ) (l line code : ℕ) → IsBadIn command text l → IsFaultIn command text line code → ⊥
+bad_has_none (Alloc o) text l line code b f = b
+bad_has_none Run text l line code b (inl f) = let long = f.long in let short = b.0 in omega (arith, long, short)
+bad_has_none Run text l line code b (inr f) = let run = b.1 in read_has_no_fault (first_part text) run.function line code run.read f.1
+bad_has_none RunCode text l line code b f = let long = f.long in let short = b.0 in omega (arith, long, short)
+bad_has_none (Generate seed size) text l line code b f = b
+bad_has_none (GenerateAlloc seed size nodes) text l line code b f = b
+
+faultless_has_none : (command : Command) (text : List ℕ) (line code : ℕ) → IsFaultless command text → IsFaultIn command text line code → ⊥
+faultless_has_none (Alloc o) text line code a f = read_has_no_fault text a.0 line code a.1 f
+faultless_has_none Run text line code a (inl f) = let long = f.long in let short = a.0 in omega (arith, long, short)
+faultless_has_none Run text line code a (inr f) = let read = a.1 in read_has_no_fault (first_part text) read.0 line code read.1 f.1
+faultless_has_none RunCode text line code a f = let long = f.long in omega (arith, long, a)
+faultless_has_none (Generate seed size) text line code a f = f
+faultless_has_none (GenerateAlloc seed size nodes) text line code a f = f
+
+-- ---- the same by words, which are those of one command
+
+fault_as : (words : List (List ℕ)) (command : Command) (text : List ℕ) (line code : ℕ) → IsCommand words command
+    → IsFaultOf words text line code → IsFaultIn command text line code
+fault_as words command text line code asked h =
+    subst (λ (k : Command). IsFaultIn k text line code) (one_command words h.command command h.asked asked) h.fault
+
+one_fault_of : (words : List (List ℕ)) (text : List ℕ) (l c line code : ℕ) → IsFaultOf words text l c → IsFaultOf words text line code
+    → (l ≡ line) × (c ≡ code)
+one_fault_of words text l c line code a b = one_fault a.command text l c line code a.fault (fault_as words a.command text line code a.asked b)
+
+-- words of a command that reads an input are those of none that does not
+pub other_way : (words : List (List ℕ)) (a b : Command) → IsCommand words a → IsCommand words b → reads_input a ≡ true
+    → reads_input b ≡ false → ⊥
+other_way words a b x y reads none = true≢false (sym reads ∙ (ap reads_input (one_command words a b x y) ∙ none))
 
 -- a status that is none of those of writing comes from before it
 pub from_before : (outcome : Result Output Status) (status s : Status) (old new : Option (List ℕ)) → IfErr outcome (λ e. status ≡ e)
@@ -39,24 +105,21 @@ from_before (Ok x) status s old new err own (inl done) e not_written not_write =
 from_before (Ok x) status s old new err own (inr fault) e not_written not_write = absurd (not_write (sym e ∙ fault.0))
 from_before (Err x) status s old new err own wrote e not_written not_write = let same : x ≡ s = sym err ∙ e in cc
 
--- a refusal before writing answers the text's fault
-pub refused_fault : (text : List ℕ) (line code : ℕ) (s : Status) → IsRefusal s
-    → ((l c : ℕ) → s ≡ TextFault l c → IsFault text l c) → IsFault text line code → AnswersFault s line code
-refused_fault text line code Done r f h = absurd r
-refused_fault text line code Infeasible r f h = absurd r
-refused_fault text line code Spent r f h = absurd r
-refused_fault text line code (TextFault l c) r f h = fault_unique text l c line code (f l c refl) h
-refused_fault text line code (Usage place) r f h = tt
-refused_fault text line code ReadFault r f h = tt
-refused_fault text line code WriteFault r f h = absurd r
-refused_fault text line code NoMemory r f h = tt
-refused_fault text line code (No cause) r f h = absurd r
-refused_fault text line code (BadReport l) r f h = absurd r
-
--- what has an output is the text of a function
-text_of : (command : Command) (text : List ℕ) (status : Status) (out : List ℕ) → IsOutput command text status out
-    → (f : Function) × IsRead text f
-text_of (Alloc o) text status out h = (h.function, h.read)
+-- a refusal before writing answers the input's fault
+pub refused_fault : (words : List (List ℕ)) (text : List ℕ) (line code : ℕ) (s : Status) → IsRefusal s
+    → ((l c : ℕ) → s ≡ TextFault l c → IsFaultOf words text l c) → ((l : ℕ) → s ≡ BadReport l → IsBadOf words text l)
+    → IsFaultOf words text line code → AnswersFault s line code
+refused_fault words text line code Done r f b h = absurd r
+refused_fault words text line code Infeasible r f b h = absurd r
+refused_fault words text line code Spent r f b h = absurd r
+refused_fault words text line code (TextFault l c) r f b h = one_fault_of words text l c line code (f l c refl) h
+refused_fault words text line code (Usage place) r f b h = tt
+refused_fault words text line code ReadFault r f b h = tt
+refused_fault words text line code WriteFault r f b h = absurd r
+refused_fault words text line code NoMemory r f b h = tt
+refused_fault words text line code (No cause) r f b h = absurd r
+refused_fault words text line code (BadReport l) r f b h =
+    let is = b l refl in absurd (bad_has_none is.command text l line code is.bad (fault_as words is.command text line code is.asked h))
 
 -- an output of the command that the words are
 pub with_command : (words : List (List ℕ)) (command : Command) (text : List ℕ) (outcome : Result Output Status)
@@ -65,38 +128,56 @@ pub with_command : (words : List (List ℕ)) (command : Command) (text : List �
 with_command words command text (Err e) is output = tt
 with_command words command text (Ok out) is output = record { command = command; asked = is; output = output }
 
--- a run that wrote, or refused before it, answers the text's fault
+-- what a command that reads nothing puts out, over whatever text
+pub made_output : (words : List (List ℕ)) (command : Command) (told : Option (List ℕ)) (status : Status) (out : List ℕ)
+    → IsCommand words command → ((text : List ℕ) → IsOutput command text status out)
+    → IfSome told (λ (text : List ℕ). IsOutputOf words text status out)
+made_output words command None status out asked output = tt
+made_output words command (Some text) status out asked output = record { command = command; asked = asked; output = output text }
+
+-- the fault of an input by its words
+pub fault_by : (words : List (List ℕ)) (command : Command) (told : Option (List ℕ)) (line code : ℕ) → IsCommand words command
+    → reads_input command ≡ true
+    → IfSome told (λ (text : List ℕ). (reads_input command ≡ true → IsFaultIn command text line code))
+    → IfSome told (λ (text : List ℕ). IsFaultOf words text line code)
+fault_by words command None line code asked reads h = tt
+fault_by words command (Some text) line code asked reads h = record { command = command; asked = asked; fault = h reads }
+
+-- a run that wrote, or refused before it, answers the input's fault
 pub answers_fault : (words : List (List ℕ)) (told : Option (List ℕ)) (outcome : Result Output Status) (status : Status)
     → IfErr outcome IsRefusal
     → IfErr outcome (λ e. status ≡ e)
-    → ((l c : ℕ) → outcome ≡ Err (TextFault l c) → IfSome told (λ (text : List ℕ). IsFault text l c))
+    → ((l c : ℕ) → outcome ≡ Err (TextFault l c) → IfSome told (λ (text : List ℕ). IsFaultOf words text l c))
+    → ((l : ℕ) → outcome ≡ Err (BadReport l) → IfSome told (λ (text : List ℕ). IsBadOf words text l))
     → IfOk outcome (λ out. IfSome told (λ (text : List ℕ). IsOutputOf words text out.status out.text.items))
-    → IfSome told (λ (text : List ℕ). (line code : ℕ) → IsFault text line code → AnswersFault status line code)
-answers_fault words None outcome status r e f o = tt
-answers_fault words (Some text) (Ok out) status r e f o = λ line code h.
-    let read = text_of o.command text out.status out.text.items o.output in absurd (read_has_no_fault text read.0 line code read.1 h)
-answers_fault words (Some text) (Err s) status r e f o = λ line code h.
-    subst (λ (t : Status). AnswersFault t line code) (sym e) (refused_fault text line code s r (λ l c k. f l c (ap Err k)) h)
+    → IfSome told (λ (text : List ℕ). (line code : ℕ) → IsFaultOf words text line code → AnswersFault status line code)
+answers_fault words None outcome status r e f b o = tt
+answers_fault words (Some text) (Ok out) status r e f b o = λ line code h.
+    absurd (output_has_none o.command text out.status out.text.items line code o.output (fault_as words o.command text line code o.asked h))
+answers_fault words (Some text) (Err s) status r e f b o = λ line code h.
+    subst (λ (t : Status). AnswersFault t line code) (sym e)
+    (refused_fault words text line code s r (λ l c k. f l c (ap Err k)) (λ l k. b l (ap Err k)) h)
 
--- a status that tells a fault only where the text has one is no fault for an accepted text
-pub accepted_by : (text : List ℕ) (f : Function) (status : Status) → IsRead text f
-    → ((line code : ℕ) → status ≡ TextFault line code → IsFault text line code) → AnswersAccepted status
-accepted_by text f (TextFault line code) read told = read_has_no_fault text f line code read (told line code refl)
-accepted_by text f Done read told = tt
-accepted_by text f Infeasible read told = tt
-accepted_by text f Spent read told = tt
-accepted_by text f (Usage place) read told = tt
-accepted_by text f ReadFault read told = tt
-accepted_by text f WriteFault read told = tt
-accepted_by text f NoMemory read told = tt
-accepted_by text f (No cause) read told = tt
-accepted_by text f (BadReport line) read told = tt
+-- a status that tells a fault only where the input has one is no fault where it has none
+pub accepted_by : (words : List (List ℕ)) (text : List ℕ) (command : Command) (status : Status) → IsCommand words command
+    → IsFaultless command text → ((line code : ℕ) → status ≡ TextFault line code → IsFaultOf words text line code) → AnswersAccepted status
+accepted_by words text command (TextFault line code) asked good told =
+    faultless_has_none command text line code good (fault_as words command text line code asked (told line code refl))
+accepted_by words text command Done asked good told = tt
+accepted_by words text command Infeasible asked good told = tt
+accepted_by words text command Spent asked good told = tt
+accepted_by words text command (Usage place) asked good told = tt
+accepted_by words text command ReadFault asked good told = tt
+accepted_by words text command WriteFault asked good told = tt
+accepted_by words text command NoMemory asked good told = tt
+accepted_by words text command (No cause) asked good told = tt
+accepted_by words text command (BadReport line) asked good told = tt
 
-pub answers_accepted : (told : Option (List ℕ)) (status : Status)
-    → ((line code : ℕ) → status ≡ TextFault line code → IfSome told (λ (text : List ℕ). IsFault text line code))
-    → IfSome told (λ (text : List ℕ). (f : Function) → IsRead text f → AnswersAccepted status)
-answers_accepted None status fault = tt
-answers_accepted (Some text) status fault = λ f read. accepted_by text f status read fault
+pub answers_accepted : (words : List (List ℕ)) (told : Option (List ℕ)) (status : Status)
+    → ((line code : ℕ) → status ≡ TextFault line code → IfSome told (λ (text : List ℕ). IsFaultOf words text line code))
+    → IfSome told (λ (text : List ℕ). (command : Command) → IsCommand words command → IsFaultless command text → AnswersAccepted status)
+answers_accepted words None status fault = tt
+answers_accepted words (Some text) status fault = λ command asked good. accepted_by words text command status asked good fault
 
 -- what `out` holds after a refusal before writing, over whatever text
 refused_out : (s : Status) (words : List (List ℕ)) (text : List ℕ) (old new : Option (List ℕ)) → IsRefusal s → new ≡ old
@@ -110,7 +191,7 @@ refused_out ReadFault words text old new r k = k
 refused_out WriteFault words text old new r k = absurd r
 refused_out NoMemory words text old new r k = k
 refused_out (No cause) words text old new r k = absurd r
-refused_out (BadReport l) words text old new r k = absurd r
+refused_out (BadReport l) words text old new r k = k
 
 -- what `out` holds after an output was written whole
 whole_out : (words : List (List ℕ)) (text out : List ℕ) (old new : Option (List ℕ)) (s : Status) → IsWritten s → IsOutputOf words text s out
@@ -153,7 +234,7 @@ written_keeps NoMemory old new w = absurd w
 written_keeps (No cause) old new w = absurd w
 written_keeps (BadReport l) old new w = absurd w
 
--- a refusal before writing keeps `out`, and is an answer of today's command
+-- a refusal before writing keeps `out`, and is an answer of today's commands
 refused_keeps : (s : Status) (old new : Option (List ℕ)) → IsRefusal s → new ≡ old → KeepsOut s old new × IsAnswer s
 refused_keeps Done old new r k = absurd r
 refused_keeps Infeasible old new r k = absurd r
@@ -164,7 +245,7 @@ refused_keeps ReadFault old new r k = (k, tt)
 refused_keeps WriteFault old new r k = absurd r
 refused_keeps NoMemory old new r k = (k, tt)
 refused_keeps (No cause) old new r k = absurd r
-refused_keeps (BadReport l) old new r k = absurd r
+refused_keeps (BadReport l) old new r k = (k, tt)
 
 pub kept_and_answered : (outcome : Result Output Status) (status : Status) (old new : Option (List ℕ))
     → IfErr outcome IsRefusal → IfErr outcome (λ e. status ≡ e) → OnErr outcome (new ≡ old)

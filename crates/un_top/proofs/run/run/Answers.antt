@@ -1,4 +1,4 @@
-use Rattle.un_outside.specs.declared.status.Status.TheVariants.{TextFault, Usage, ReadFault}
+use Rattle.un_outside.specs.declared.status.Status.TheVariants.{TextFault, Usage, ReadFault, BadReport}
 use Rattle.un_top.proofs.Answered.{from_before, answers_fault, answers_accepted, out_after, kept_and_answered, when_written, status_of}
 use Rattle.un_top.proofs.Answered.{line_written, line_whole}
 use Rattle.un_top.proofs.run.run.Goals as goal
@@ -22,9 +22,20 @@ returns-clause-answers g c =
     c.produce-outcome.ensures.written f.wrote).1
 
 pub returns-clause-read_whole : goal.returns-clause-read_whole
-returns-clause-read_whole g c =
+returns-clause-read_whole g c = λ command asked reads written.
     when_written c.produce-outcome.result c.finish-status.result _ c.produce-outcome.ensures.only c.finish-status.ensures.err
-    c.produce-outcome.ensures.read_all
+    c.produce-outcome.ensures.read_all written command asked reads
+
+pub returns-clause-left : goal.returns-clause-left
+returns-clause-left g c = c.produce-outcome.ensures.made_left
+
+pub returns-clause-calls : goal.returns-clause-calls
+returns-clause-calls g c = c.produce-outcome.ensures.made_calls
+
+pub returns-clause-bad : goal.returns-clause-bad
+returns-clause-bad g c = λ line e.
+    c.produce-outcome.ensures.bad line (from_before c.produce-outcome.result c.finish-status.result (BadReport line) _ _
+    c.finish-status.ensures.err c.produce-outcome.ensures.written c.finish-status.ensures.wrote e (λ h. h) (λ h. cc h))
 
 pub returns-clause-usage : goal.returns-clause-usage
 returns-clause-usage g c = λ place e.
@@ -70,10 +81,10 @@ returns-clause-err_whole g c =
 pub returns-clause-exactly_fault : goal.returns-clause-exactly_fault
 returns-clause-exactly_fault g c =
     answers_fault _ _ c.produce-outcome.result c.finish-status.result c.produce-outcome.ensures.only c.finish-status.ensures.err
-    c.produce-outcome.ensures.fault c.produce-outcome.ensures.ok
+    c.produce-outcome.ensures.fault c.produce-outcome.ensures.bad c.produce-outcome.ensures.ok
 
 pub returns-clause-accepted : goal.returns-clause-accepted
 returns-clause-accepted g c =
-    answers_accepted _ c.finish-status.result
+    answers_accepted _ _ c.finish-status.result
     (λ line code e. c.produce-outcome.ensures.fault line code (from_before c.produce-outcome.result c.finish-status.result
     (TextFault line code) _ _ c.finish-status.ensures.err c.produce-outcome.ensures.written c.finish-status.ensures.wrote e (λ h. h) (λ h. cc h)))
