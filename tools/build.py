@@ -2,46 +2,65 @@
 """Proves and builds a program of this repository on all processors: build.py PROGRAM.
 
 `rt` works on one crate of a checkout at a time, and takes what other checkouts on the machine have proved of the same files. So each
-processor gets a copy of the crates under a folder of its own, and the crates below the program are proved lowest first, several side by
-side; at the end the program itself is proved and linked in this checkout. Lines of progress go to standard error.
+processor gets a copy of the crates under a folder of its own, beside the checkout, and the crates below the program are proved lowest first,
+several side by side; at the end the program itself is proved and linked in the checkout. Lines of progress go to standard error.
 """
 import concurrent.futures
 import functools
 import os
-import queue
 import shutil
 import subprocess
 import sys
 import tempfile
-import threading
 import time
 
 TOP = os.path.dirname(os.path.dirname(os.path.realpath(__file__)))
 
 
-def crates():
-    """The crates of crates.txt, each with those of them that it stands on."""
-    named = {}
-    with open(f"{TOP}/crates.txt", encoding="utf-8") as lines:
-        for line in lines:
-            name, colon, rest = line.partition("#")[0].partition(":")
-            if colon:
-                named[name.split()[0]] = rest.split()
-    return {name: [it for it in rest if it in named] for name, rest in named.items()}
-
-
-def lines_of(name):
-    """How many lines of code a crate has, as a measure of how long it takes."""
-    total = 0
-    for at, _, files in os.walk(f"{TOP}/crates/{name}/src"):
-        for file in files:
-            with open(f"{at}/{file}", encoding="utf-8") as text:
-                total += sum(1 for _ in text)
-    return total + 100
-
-
 def say(text):
     print(f"unison: {text}", file=sys.stderr, flush=True)
+
+
+class Crates:
+    """The crates of crates.txt, each with those of them that it names."""
+
+    def __init__(self):
+        named = {}
+        with open(f"{TOP}/crates.txt", encoding="utf-8") as lines:
+            for line in lines:
+                name, colon, rest = line.partition("#")[0].partition(":")
+                if colon:
+                    named[name.split()[0]] = rest.split()
+        self.named = {name: [it for it in rest if it in named] for name, rest in named.items()}
+
+    def below(self, program):
+        """All libraries that a program stands on."""
+        found, waiting = set(), list(self.named[program])
+        while waiting:
+            name = waiting.pop()
+            if name not in found:
+                found.add(name)
+                waiting += self.named[name]
+        return found
+
+    def are_done(self, name, done):
+        return all(it in done for it in self.named[name])
+
+    @functools.lru_cache(maxsize=None)
+    def lines(self, name):
+        """How many lines of code a crate has: about how long it takes."""
+        total = 100
+        for at, _, files in os.walk(f"{TOP}/crates/{name}/src"):
+            for file in files:
+                with open(f"{at}/{file}", encoding="utf-8") as text:
+                    total += sum(1 for _ in text)
+        return total
+
+    @functools.lru_cache(maxsize=None)
+    def chain(self, name):
+        """The lines on the longest way from a crate up."""
+        users = [it for it, low in self.named.items() if name in low]
+        return self.lines(name) + max((self.chain(it) for it in users), default=0)
 
 
 def copy_of(room, number):
@@ -55,75 +74,55 @@ def copy_of(room, number):
 
 
 def prove(folder, name):
-    """Proves a library in a copy, and answers what went wrong, or nothing."""
-    made = subprocess.run(["rt", "lib", "--jobs", "1"], cwd=f"{folder}/crates/{name}", stdin=subprocess.DEVNULL,
-                          stdout=subprocess.PIPE, stderr=subprocess.STDOUT, text=True, check=False)
-    return made.stdout if made.returncode else None
+    """Proves a library in a copy. Answers what rt printed where it is not proved, else nothing."""
+    ran = subprocess.run(["rt", "lib", "--jobs", "1"], cwd=f"{folder}/crates/{name}", stdin=subprocess.DEVNULL,
+                         stdout=subprocess.PIPE, stderr=subprocess.STDOUT, text=True, check=False)
+    return ran.stdout if ran.returncode else None
 
 
-def build_below(program, below, room):
+def prove_below(crates, program, room):
     """Proves the libraries below a program, and answers whether all are proved."""
-    wanted = below[program]
-    users = {name: [it for it in wanted if name in below_direct[it]] for name in wanted}
-
-    @functools.lru_cache(maxsize=None)
-    def chain(name):
-        return lines_of(name) + max((chain(it) for it in users[name]), default=0)
-
-    workers = max(1, os.cpu_count() or 1)
-    copies = queue.SimpleQueue()
-    for number in range(workers):
-        copies.put(copy_of(room, number))
+    wanted = crates.below(program)
+    free = [copy_of(room, number) for number in range(os.cpu_count() or 1)]
     done, running, start = set(), {}, time.time()
-    with concurrent.futures.ThreadPoolExecutor(workers) as pool:
+    with concurrent.futures.ThreadPoolExecutor(len(free)) as pool:
         while len(done) < len(wanted):
-            ready = [it for it in wanted if it not in done and it not in running.values() and all(low in done for low in below_direct[it])]
-            for name in sorted(ready, key=chain, reverse=True)[: workers - len(running)]:
-                folder = copies.get()
-                running[pool.submit(prove, folder, name)] = name
-                where[name] = folder
-            ended, _ = concurrent.futures.wait(running, return_when=concurrent.futures.FIRST_COMPLETED)
-            for it in ended:
-                name = running.pop(it)
-                copies.put(where[name])
+            begun = done | {name for name, _ in running.values()}
+            ready = sorted((it for it in wanted - begun if crates.are_done(it, done)), key=crates.chain, reverse=True)
+            for name in ready[: len(free)]:
+                folder = free.pop()
+                running[pool.submit(prove, folder, name)] = (name, folder)
+            for it in concurrent.futures.wait(running, return_when=concurrent.futures.FIRST_COMPLETED)[0]:
+                name, folder = running.pop(it)
+                free.append(folder)
                 if it.result() is not None:
                     print(it.result(), file=sys.stderr)
                     say(f"{name} was not proved")
                     return False
                 done.add(name)
-                say(f"{len(done)} of {len(wanted) + 1} crates proved, {int(time.time() - start) // 60} min {int(time.time() - start) % 60} s")
+                minutes, seconds = divmod(int(time.time() - start), 60)
+                say(f"{len(done)} of {len(wanted) + 1} crates proved, {minutes} min {seconds} s")
     return True
 
 
-below_direct = crates()
-where = {}
-
-
-def all_below(name):
-    """A crate's libraries, and theirs."""
-    found = set()
-    waiting = list(below_direct[name])
-    while waiting:
-        it = waiting.pop()
-        if it not in found:
-            found.add(it)
-            waiting += below_direct[it]
-    return found
-
-
 def main():
+    crates = Crates()
     program = sys.argv[1] if len(sys.argv) == 2 else ""
-    if program not in below_direct:
+    if not os.path.isfile(f"{TOP}/crates/{program}/src/main.rt"):
         sys.exit("usage: tools/build.py PROGRAM")
     room = tempfile.mkdtemp(prefix="unison-build-", dir=os.path.dirname(TOP))
     try:
-        if not build_below(program, {program: all_below(program)}, room):
+        if not prove_below(crates, program, room):
             sys.exit(1)
         say(f"proving and linking {program}")
-        sys.exit(subprocess.run(["rt", "run"], cwd=f"{TOP}/crates/{program}", stdin=subprocess.DEVNULL, stdout=subprocess.DEVNULL,
-                                stderr=subprocess.DEVNULL, check=False).returncode not in (0, 4))
+        subprocess.run(["rt", "run"], cwd=f"{TOP}/crates/{program}", stdin=subprocess.DEVNULL, stdout=subprocess.DEVNULL,
+                       stderr=subprocess.DEVNULL, check=False)
     finally:
         shutil.rmtree(room, ignore_errors=True)
+    if not os.path.isfile(f"{TOP}/crates/{program}/out/{program}"):
+        say(f"{program} was not built: `rt run` in crates/{program} says why")
+        sys.exit(1)
+    say(f"{program} is built")
 
 
 main()

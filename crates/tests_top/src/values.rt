@@ -10,10 +10,10 @@ use un_ir::function::Function;
 use un_isa::table::hexagon;
 use un_listing::print::print_code;
 use un_lists::items::Items;
+use un_model::cost::cost;
 use un_model::model::{Model, Solution};
 use un_problem::problem::{default_options, model};
 use un_reader::read::read_function;
-use un_model::cost::cost;
 use un_top::search::code_of;
 use un_violations::violations::violations;
 

@@ -19,7 +19,7 @@ use Rattle.un_branching.specs.declared.problem.Look.{Look}
 use Rattle.un_branching.specs.declared.problem.Look.TheVariants.{Failed, Found, Open as Alive}
 use Rattle.un_tree.specs.Searched.{IsOpenBox, HasTwo}
 use Rattle.un_branching.specs.Searched.{WhenOpen}
-use Rattle.un_levels.specs.Levels.{Sheet, IsEnd, IsRun, IsCutTo, Leveled, AtPath, ways}
+use Rattle.un_levels.specs.Levels.{Sheet, IsEnd, IsReady, IsRun, IsCutTo, Leveled, AtPath, ways}
 use Rattle.un_branching.proofs.BoxLemmas.{half_box}
 use Rattle.un_branching.proofs.WalkLemmas.{reached-push}
 
@@ -199,7 +199,8 @@ ways_long : (b : Sets) (ds : List Decision) → length (ways b ds) ≡ length ds
 ways_long b [] = refl
 ways_long b (d ∷ ds) = ap suc (ways_long (decided d b) ds)
 
-last_once : (xs ys : List Sets) (x y : Sets) → xs ++ x ∷ [] ≡ ys ++ y ∷ [] → (xs ≡ ys) × (x ≡ y)
+-- lists that end alike with one more are alike
+pub last_once : (xs ys : List Sets) (x y : Sets) → xs ++ x ∷ [] ≡ ys ++ y ∷ [] → (xs ≡ ys) × (x ≡ y)
 last_once [] [] x y e = (refl, cc e)
 last_once [] (z ∷ []) x y e = absurd (cc e)
 last_once [] (z ∷ w ∷ ws) x y e = absurd (cc e)
@@ -247,3 +248,32 @@ pub when_open : (look : Look) (P : Type 0) → P → WhenOpen look P
 when_open Failed P p = tt
 when_open (Found x) P p = tt
 when_open (Alive l) P p = p
+
+-- stores that are as before are ready as before
+pub ready_kept : (root : Sets) (fix : Sets → Option Sets) (ds es : List Decision) (box box' ends ends' : Sheet) (F G : Type 0)
+    → IsReady root fix ds box ends F → es ≡ ds → box' ≡ box → ends' ≡ ends → G → IsReady root fix es box' ends' G
+ready_kept root fix ds es box box' ends ends' F G h same b e fit = record {
+  fit = fit;
+  at = subst (AtPath root fix es) (sym e) (subst (λ (xs : List Decision). AtPath root fix xs ends) (sym same) h.at);
+  cut = subst (IsCutTo root es) (sym b) (subst (λ (xs : List Decision). IsCutTo root xs box) (sym same) h.cut);
+}
+
+-- a sheet as one with a mark has that mark
+pub some_last : (c d : Sheet) (ms : List Sets) (t : Sets) → d ≡ c → c.marked ≡ ms ++ t ∷ [] → 0 < length d.marked
+some_last c d ms t same e = subst (λ (s : Sheet). 0 < length s.marked) (sym same)
+    (subst (λ (xs : List Sets). 0 < length xs) (sym e) (omega (arith, length-append ms (t ∷ []))))
+
+pub run_alive : (c : Option Sets) (s : Sets) (stable : Bool) → stable ≡ true → IsRun c s stable → c ≡ None → ⊥
+run_alive None s stable is h none = let no : true ≡ false = sym is ∙ h in cc no
+run_alive (Some f) s stable is h none = cc none
+
+-- a side whose rounds are stable is ready
+pub side_ready : (root : Sets) (fix : Sets → Option Sets) (ds es : List Decision) (d : Decision) (box ends ends' : Sheet) (stable : Bool)
+    (F : Type 0) → AtPath root fix ds ends → IsBox root (decided d (reached root ds)) → stable ≡ true → es ≡ ds ++ d ∷ []
+    → ends'.marked ≡ ends.marked ++ ends.sets ∷ [] → IsRun (fix (decided d (reached root ds))) ends'.sets stable → IsCutTo root es box → F
+    → IsReady root fix es box ends' F
+side_ready root fix ds es d box ends ends' stable F h i is path marked end cut fit = record {
+  fit = fit;
+  at = down root fix ds es d ends ends' stable h i (run_alive (fix (decided d (reached root ds))) ends'.sets stable is end) path marked end;
+  cut = cut;
+}

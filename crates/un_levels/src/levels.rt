@@ -2,11 +2,11 @@
 
 ghost use Rattle.std.specs.Prelude.{◌≡◌, ℕ, ◌+◌, ◌<◌, ◌≤◌, List, [], ◌∷◌, ◌++◌, All, length, take, Some, None, IfOk, OnOk, IsTrue, ◌↔◌};
 ghost use Rattle.un_tree.specs.Boxes.{IsBox, Splits, decided, reached};
-ghost use Rattle.un_tree.specs.Searched.{IsOpenBox};
+ghost use Rattle.un_tree.specs.Searched.{HasTwo, IsOpenBox};
 ghost use Rattle.un_branching.specs.Searched.{IsLook, IsExpansion, WhenOpen};
 ghost use Rattle.un_levels.specs.Levels.{AtPath, IsCutTo, IsReady, IsRun};
 
-use crate::rounds::Rounds;
+use crate::rounds::{Choice, Rounds};
 use std::alloc::AllocError;
 use un_base::memory_error::NoMemory;
 use un_branching::problem::{Expansion, Look, Problem};
@@ -125,18 +125,26 @@ fn descend<R: Rounds>(
 }
 
 /// Looks at the end of the rounds.
-fn look_at<R: Rounds>(rounds: &R, room: &Levels<R::Stores>, stable: bool) -> Result<Look, NoMemory>
-    requires fit { R.is_fit rounds.now room.now.stores }
-    requires cut { IsCutTo (R.root rounds.now) room.now.path.items (R.cuts room.now.stores) }
-    requires inside { IsBox (R.root rounds.now) (reached (R.root rounds.now) room.now.path.items) }
-    requires ended { IsRun (R.fix rounds.now (reached (R.root rounds.now) room.now.path.items)) (R.ends room.now.stores).sets stable }
-    ensures { IfOk result (IsLook (R.fix rounds.now) (R.least rounds.now) (R.is_good rounds.now)
-        (reached (R.root rounds.now) room.now.path.items)) }
+fn look_at<R: Rounds>(
+    rounds: &R,
+    room: &mut Levels<R::Stores>,
+    stable: bool,
+) -> Result<Look, NoMemory>
+    requires fit { R.is_fit rounds.now room.old.stores }
+    requires cut { IsCutTo (R.root rounds.now) room.old.path.items (R.cuts room.old.stores) }
+    requires inside { IsBox (R.root rounds.now) (reached (R.root rounds.now) room.old.path.items) }
+    requires ended { IsRun (R.fix rounds.now (reached (R.root rounds.now) room.old.path.items)) (R.ends room.old.stores).sets stable }
+    ensures fit { IfOk result (λ look. R.is_fit rounds.now room.new.stores) }
+    ensures cut { IfOk result (λ look. R.cuts room.new.stores ≡ R.cuts room.old.stores) }
+    ensures ended { IfOk result (λ look. R.ends room.new.stores ≡ R.ends room.old.stores) }
+    ensures path { room.new.path.items ≡ room.old.path.items }
+    ensures look { IfOk result (IsLook (R.fix rounds.now) (R.least rounds.now) (R.is_good rounds.now)
+        (reached (R.root rounds.now) room.old.path.items)) }
 {
     if !stable {
         return Ok(Look::Failed);
     }
-    let look = rounds.look(&room.stores)?;
+    let look = rounds.look(&mut room.stores)?;
     Ok(look)
 }
 
@@ -165,7 +173,50 @@ fn side<R: Rounds>(
     Ok(look)
 }
 
-/// Chooses at the end of a path, and looks at both sides.
+/// Chooses at the end of the path.
+fn choose_at<R: Rounds>(rounds: &R, room: &mut Levels<R::Stores>) -> Result<Choice, NoMemory>
+    requires fit { R.is_fit rounds.now room.old.stores }
+    requires at { AtPath (R.root rounds.now) (R.fix rounds.now) room.old.path.items (R.ends room.old.stores) }
+    requires cut { IsCutTo (R.root rounds.now) room.old.path.items (R.cuts room.old.stores) }
+    requires two { HasTwo (R.ends room.old.stores).sets }
+    ensures fit { IfOk result (λ choice. R.is_fit rounds.now room.new.stores) }
+    ensures at { IfOk result (λ choice. AtPath (R.root rounds.now) (R.fix rounds.now) room.new.path.items (R.ends room.new.stores)) }
+    ensures cut { IfOk result (λ choice. IsCutTo (R.root rounds.now) room.new.path.items (R.cuts room.new.stores)) }
+    ensures path { room.new.path.items ≡ room.old.path.items }
+    ensures splits { IfOk result (λ choice. Splits (R.ends room.old.stores).sets choice.var choice.val) }
+{
+    let choice = rounds.choose(&mut room.stores)?;
+    Ok(choice)
+}
+
+/// Looks at a side, and stays there where its rounds are stable.
+fn stay<R: Rounds>(
+    rounds: &R,
+    room: &mut Levels<R::Stores>,
+    decision: Decision,
+) -> Result<Look, NoMemory>
+    requires known { decision.var.0 < length (R.root rounds.now) }
+    requires fit { R.is_fit rounds.now room.old.stores }
+    requires at { AtPath (R.root rounds.now) (R.fix rounds.now) room.old.path.items (R.ends room.old.stores) }
+    requires cut { IsCutTo (R.root rounds.now) room.old.path.items (R.cuts room.old.stores) }
+    requires inside { IsBox (R.root rounds.now) (decided decision (reached (R.root rounds.now) room.old.path.items)) }
+    ensures ready { IfOk result (λ look. IsReady (R.root rounds.now) (R.fix rounds.now) room.new.path.items (R.cuts room.new.stores)
+        (R.ends room.new.stores) (R.is_fit rounds.now room.new.stores)) }
+    ensures look { IfOk result (IsLook (R.fix rounds.now) (R.least rounds.now) (R.is_good rounds.now)
+        (decided decision (reached (R.root rounds.now) room.old.path.items))) }
+{
+    let stable = go_down(rounds, room, decision)?;
+    let look = look_at(rounds, room, stable)?;
+    if stable {
+        return Ok(look);
+    }
+    rounds.leave(&mut room.stores);
+    room.path.pop();
+    Ok(look)
+}
+
+/// Chooses at the end of a path, and looks at both sides. It ends on the left side, which the search takes next while no other open
+/// node has a lower least cost.
 fn expand<R: Rounds>(
     rounds: &R,
     room: &mut Levels<R::Stores>,
@@ -185,16 +236,7 @@ fn expand<R: Rounds>(
     let keep = shared(room.path.as_slice(), path);
     rise(rounds, room, keep);
     descend(rounds, room, path)?;
-    let choice = rounds.choose(&room.stores);
-    let left = side(
-        rounds,
-        room,
-        Decision {
-            var: choice.var,
-            val: choice.val,
-            side: Side::AtMost,
-        },
-    )?;
+    let choice = choose_at(rounds, room)?;
     let right = side(
         rounds,
         room,
@@ -202,6 +244,15 @@ fn expand<R: Rounds>(
             var: choice.var,
             val: choice.val,
             side: Side::Above,
+        },
+    )?;
+    let left = stay(
+        rounds,
+        room,
+        Decision {
+            var: choice.var,
+            val: choice.val,
+            side: Side::AtMost,
         },
     )?;
     Ok(Expansion {

@@ -69,17 +69,24 @@ pub trait Rounds {
         ensures last { (ends stores.old).marked ≡ (ends stores.new).marked ++ (ends stores.new).sets ∷ [] };
 
     /// Looks at the end of the rounds.
-    fn look(&self, stores: &Self::Stores) -> Result<Look, NoMemory>
-        requires fit { is_fit self.now stores.now }
-        requires inside { IsBox (root self.now) (cuts stores.now).sets }
-        requires stable { fix self.now (cuts stores.now).sets ≡ Some (ends stores.now).sets }
-        ensures { IfOk result (IsLook (fix self.now) (least self.now) (is_good self.now) (cuts stores.now).sets) };
+    fn look(&self, stores: &mut Self::Stores) -> Result<Look, NoMemory>
+        requires fit { is_fit self.now stores.old }
+        requires inside { IsBox (root self.now) (cuts stores.old).sets }
+        requires stable { fix self.now (cuts stores.old).sets ≡ Some (ends stores.old).sets }
+        ensures fit { IfOk result (λ look. is_fit self.now stores.new) }
+        ensures cut { IfOk result (λ look. cuts stores.new ≡ cuts stores.old) }
+        ensures ended { IfOk result (λ look. ends stores.new ≡ ends stores.old) }
+        ensures look { IfOk result (IsLook (fix self.now) (least self.now) (is_good self.now) (cuts stores.old).sets) };
 
-    /// Chooses where a choice is left.
-    fn choose(&self, stores: &Self::Stores) -> Choice
-        requires fit { is_fit self.now stores.now }
-        requires two { HasTwo (ends stores.now).sets }
-        ensures { Splits (ends stores.now).sets result.var result.val };
+    /// Chooses where a choice is left. It may try decisions on the stores, and takes them back.
+    fn choose(&self, stores: &mut Self::Stores) -> Result<Choice, NoMemory>
+        requires fit { is_fit self.now stores.old }
+        requires stable { IsEnd (root self.now) (fix self.now) (ends stores.old).sets }
+        requires two { HasTwo (ends stores.old).sets }
+        ensures fit { IfOk result (λ choice. is_fit self.now stores.new) }
+        ensures cut { IfOk result (λ choice. cuts stores.new ≡ cuts stores.old) }
+        ensures ended { IfOk result (λ choice. ends stores.new ≡ ends stores.old) }
+        ensures splits { IfOk result (λ choice. Splits (ends stores.old).sets choice.var choice.val) };
 
     /// Rounds take values away.
     ghost inside: { (p : Self) (b f : Sets) → IsBox (root p) b → fix p b ≡ Some f → Below f b × NoneEmpty f };

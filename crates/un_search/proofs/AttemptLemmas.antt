@@ -1,17 +1,18 @@
 -- The tree of an attempt is a certificate.
-use Rattle.std.proofs.Common.{ℕ, ◌≡◌, ◌<◌, ◌+◌, List, [], ◌∷◌, Option, None, Some, MatchOption, refl, sym, ◌∙◌, subst}
+use Rattle.std.proofs.Common.{ℕ, ◌≡◌, ◌<◌, ◌+◌, List, [], ◌∷◌, Option, None, Some, MatchOption, refl, sym, ap, ◌∙◌, subst, length}
 use Rattle.std.proofs.Common.{All}
 use Rattle.std.specs.Bool.{⊤}
 use Rattle.std.specs.List.{AllByRecursion}
 use Rattle.std.proofs.lemmas.List.Elements.{recursion_from_All, All-from_recursion}
 use Rattle.un_base.specs.declared.ids.VarId.{VarId}
+use Rattle.un_domains.specs.Cuts.{Contents}
 use Rattle.un_domains.specs.OrderLaws.{Below-refl, Below-trans}
 use Rattle.un_domains.specs.Sets.{Sets, NoneEmpty}
 use Rattle.un_prop.specs.declared.side.Side.{Side}
 use Rattle.un_prop.specs.declared.side.Side.TheVariants.{AtMost, Above}
 use Rattle.un_model.specs.declared.model.Model.{Model}
 use Rattle.un_bound.specs.Relaxations.{IsLeast}
-use Rattle.un_post.specs.Posts.{fix_at}
+use Rattle.un_post.specs.Posts.{fix_at, largest_horizon}
 use Rattle.un_tree.specs.Boxes.{IsBox, Splits, half}
 use Rattle.un_tree.specs.Searched.{HasTwo, IsSearched, IsTree, IsRefutation, IsStopped}
 use Rattle.un_tree.specs.Waits.{Waiting, Whole, IsStrict, visits, visits_of}
@@ -29,17 +30,22 @@ use Rattle.un_search.specs.declared.attempt.Tried.TheVariants.{Found, Refuted, C
 use Rattle.un_search.specs.Answers.{IsRefuted, IsCutOff, IsAnswerOf, IsByRoot, OnFound, OnRefuted, OnCut}
 use Rattle.un_search.specs.ModelLaws.{posted_empty}
 use Rattle.un_levels.specs.Levels.{IsReady, Leveled, Sheet}
-use Rattle.un_engine.specs.Ends.{IsEnd}
+use Rattle.un_engine.specs.Ends.{IsAt, IsEnd}
 use Rattle.un_engine.specs.Engines.{State}
 use Rattle.un_kinds.specs.AnyProps.{cut_of}
 use Rattle.un_kinds.specs.declared.any.AnyProp.{AnyProp}
 use Rattle.un_prop.specs.Rounds.{fix_of}
+use Rattle.un_prop.specs.Pruning.{HasRoom}
+use Rattle.un_prop.specs.declared.propagator.Scratch.{Scratch}
+use Rattle.un_ir.specs.Extended.{IsExtended}
+use Rattle.un_isa.specs.Fit.{IsFit}
+use Rattle.un_model.specs.Variables.{IsModel}
 use Rattle.un_post.specs.Posts.{IsExact, ReadsFrom, IsGrounded, FailsWhereEmpty}
 use Rattle.un_tree.specs.declared.node.Decision.{Decision}
 use Rattle.un_branching.proofs.EndLemmas.{fails}
 use Rattle.un_branching.specs.declared.problem.Look.TheVariants.{Failed}
 use Rattle.un_search.specs.ModelLaws.{posted_keeps}
-use Rattle.un_search.specs.Stores.{ArePosted}
+use Rattle.un_search.specs.Stores.{ArePosted, AreStores}
 
 -- the boxes that wait are within the first one
 abbrev AllBoxes : Sets → List Waiting → Type 0
@@ -165,3 +171,31 @@ pub lost_root : (m : Model) (limit : Option ℕ) (s : Sets) (ps : List AnyProp) 
     → ((box : Sets) → fix_of cut_of ps box ≡ fix_at m limit box) → IsEnd cut_of ps s e → e ≡ None → fix_at m limit (root_of m) ≡ None
 lost_root m limit s ps e same fixed end is =
     sym (fixed (root_of m)) ∙ subst (λ (r : Sets). fix_of cut_of ps r ≡ None) same (subst (IsEnd cut_of ps s) is end)
+
+-- an engine at the end of the first box
+pub engine_at : (ps : List AnyProp) (s : Sets) (e : Option (State AnyProp)) (k : State AnyProp) → IsEnd cut_of ps s e → e ≡ Some k
+    → IsAt cut_of ps s k
+engine_at ps s e k end is = subst (IsEnd cut_of ps s) is end
+
+-- stores at the first box
+module _ (m : Model) (limit : Option ℕ) (ps : List AnyProp) (s : Sets) (k j : State AnyProp) (same : s ≡ root_of m)
+    (at : IsAt cut_of ps s k) (is : j ≡ k) where
+  pub first_are : (horizon : ℕ) (box copy : Contents) (scratch : Scratch) → IsModel m → IsExtended m.ext → IsFit m.ext.table
+      → ArePosted m limit ps → box.sets ≡ s → copy ≡ box → HasRoom (length box.sets) (horizon + 1) scratch
+      → horizon ≡ largest_horizon m.ext.blocks → AreStores m limit j.props j.store.sets copy.sets scratch
+  first_are horizon box copy scratch model extended table posted sets copied room largest =
+      subst (λ (e : State AnyProp). AreStores m limit e.props e.store.sets copy.sets scratch) (sym is)
+      (subst (λ (b : Contents). AreStores m limit k.props k.store.sets b.sets scratch) (sym copied) (record {
+        model = model;
+        extended = extended;
+        table = table;
+        posted = subst (ArePosted m limit) (sym at.props) posted;
+        ends_long = at.long ∙ ap length same;
+        cuts_long = ap length (sets ∙ same);
+        room = subst (λ (h : ℕ). HasRoom (length (root_of m)) (h + 1) scratch) largest
+            (subst (λ (n : ℕ). HasRoom n (horizon + 1) scratch) (ap length (sets ∙ same)) room);
+      }))
+
+  pub first_end : ((box : Sets) → fix_of cut_of ps box ≡ fix_at m limit box) → fix_at m limit (root_of m) ≡ Some j.store.sets
+  first_end fixed = sym (fixed (root_of m)) ∙ (subst (λ (r : Sets). fix_of cut_of ps r ≡ Some k.store.sets) same at.fix
+      ∙ ap (λ (e : State AnyProp). Some e.store.sets) (sym is))

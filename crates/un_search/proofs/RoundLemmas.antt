@@ -93,24 +93,25 @@ side_run cut fix b d new answer stable same there full h went lost =
     (ap (option_and_then cut) (cut_leaves (side_test d.side d.val) d.var.0 b there full) ∙ same (decided d b))
     (run_is (option_and_then cut (cut_by (side_test d.side d.val) d.var.0 b)) new answer stable h went lost)
 
-module _ (m : Model) (limit : Option ℕ) (horizon : ℕ) where
+module _ (m : Model) (limit : Option ℕ) where
   -- other sets, for as many variables
-  pub stores_kept : (ps qs : List AnyProp) (ends ends' cuts cuts' : Sets) → AreStores m limit horizon ps ends cuts → qs ≡ ps
-      → length ends' ≡ length ends → length cuts' ≡ length cuts → AreStores m limit horizon qs ends' cuts'
-  stores_kept ps qs ends ends' cuts cuts' h same e c = record {
+  pub stores_kept : (ps qs : List AnyProp) (ends ends' cuts cuts' : Sets) (scratch scratch' : Scratch) → AreStores m limit ps ends cuts scratch
+      → qs ≡ ps → length ends' ≡ length ends → length cuts' ≡ length cuts
+      → HasRoom (length (root_of m)) (largest_horizon m.ext.blocks + 1) scratch' → AreStores m limit qs ends' cuts' scratch'
+  stores_kept ps qs ends ends' cuts cuts' scratch scratch' h same e c room = record {
     model = h.model;
     extended = h.extended;
     table = h.table;
-    largest = h.largest;
     posted = subst (ArePosted m limit) (sym same) h.posted;
     ends_long = e ∙ h.ends_long;
     cuts_long = c ∙ h.cuts_long;
+    room = room;
   }
 
   -- the rounds leave no set empty
-  pub end_live : (ps : List AnyProp) (ends cuts : Sets) → AreStores m limit horizon ps ends cuts
+  pub end_live : (ps : List AnyProp) (ends cuts : Sets) (scratch : Scratch) → AreStores m limit ps ends cuts scratch
       → IsEnd (root_of m) (fix_at m limit) ends → NoneEmpty ends
-  end_live ps ends cuts h e = (posted_inside m limit ps h.posted e.box ends e.inside e.ends).1
+  end_live ps ends cuts scratch h e = (posted_inside m limit ps h.posted e.box ends e.inside e.ends).1
 
 pub decided_long : (d : Decision) (b : Sets) → length (decided d b) ≡ length b
 decided_long d b = length-set b d.var.0 (filter (side_test d.side d.val) (set_at b d.var.0))
@@ -151,9 +152,9 @@ each_room n top scratch (b ∷ bs) room under = (
   each_room n top scratch bs room (λ x there. under x (has_later b.horizon x (map own_horizon bs) there)),
 )
 
-pub all_room : (n vars horizon : ℕ) (scratch : Scratch) (blocks : List ExtBlock) → HasRoom vars (horizon + 1) scratch → vars ≡ n
-    → horizon ≡ largest_horizon blocks → All (λ (block : ExtBlock). HasRoom n (block.horizon + 1) scratch) blocks
-all_room n vars horizon scratch blocks room same is =
+pub all_room : (n vars : ℕ) (scratch : Scratch) (blocks : List ExtBlock) → HasRoom vars (largest_horizon blocks + 1) scratch → n ≡ vars
+    → All (λ (block : ExtBlock). HasRoom n (block.horizon + 1) scratch) blocks
+all_room n vars scratch blocks room same =
     All-from_recursion (λ (block : ExtBlock). HasRoom n (block.horizon + 1) scratch) blocks
-    (each_room n horizon scratch blocks (subst (λ (k : ℕ). HasRoom k (horizon + 1) scratch) same room)
-    (λ x there. subst (λ (k : ℕ). x ≤ k) (sym is) (has-fold_max 0 (map own_horizon blocks) x there)))
+    (each_room n (largest_horizon blocks) scratch blocks (subst (λ (k : ℕ). HasRoom k (largest_horizon blocks + 1) scratch) (sym same) room)
+    (λ x there. has-fold_max 0 (map own_horizon blocks) x there))

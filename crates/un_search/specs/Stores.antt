@@ -1,11 +1,13 @@
 -- What posting says of its propagators, and the stores of a search of a model.
-use Rattle.std.specs.Prelude.{ℕ, ◌≡◌, List, Option, All, length}
+use Rattle.std.specs.Prelude.{ℕ, ◌≡◌, ◌+◌, List, Option, All, length}
 use Rattle.un_domains.specs.Sets.{Sets}
 use Rattle.un_ir.specs.Extended.{IsExtended}
 use Rattle.un_isa.specs.Fit.{IsFit}
 use Rattle.un_model.specs.declared.model.Model.{Model}
 use Rattle.un_model.specs.Variables.{IsModel}
+use Rattle.un_prop.specs.Pruning.{HasRoom}
 use Rattle.un_prop.specs.Rounds.{fix_of}
+use Rattle.un_prop.specs.declared.propagator.Scratch.{Scratch}
 use Rattle.un_kinds.specs.AnyProps.{cut_of}
 use Rattle.un_kinds.specs.declared.any.AnyProp.{AnyProp}
 use Rattle.un_post.specs.Posts.{IsExact, ReadsFrom, IsGrounded, FailsWhereEmpty, fix_at, largest_horizon}
@@ -24,12 +26,12 @@ pub record IsPostable (m : Model) (limit : Option ℕ) : Type 0 where
   pub props : List AnyProp
   pub are : ArePosted m limit props
 
--- the propagators of a model, the sets that they leave and the sets of a box, which have the variables of the model
-pub record AreStores (m : Model) (limit : Option ℕ) (horizon : ℕ) (ps : List AnyProp) (ends cuts : Sets) : Type 0 where
+-- the propagators of a model, the sets that they leave and the sets of a box, which have the variables of the model, and room for looks
+pub record AreStores (m : Model) (limit : Option ℕ) (ps : List AnyProp) (ends cuts : Sets) (scratch : Scratch) : Type 0 where
   pub model : IsModel m
   pub extended : IsExtended m.ext
   pub table : IsFit m.ext.table
-  pub largest : horizon ≡ largest_horizon m.ext.blocks
   pub posted : ArePosted m limit ps
   pub ends_long : length ends ≡ length (root_of m)
   pub cuts_long : length cuts ≡ length (root_of m)
+  pub room : HasRoom (length (root_of m)) (largest_horizon m.ext.blocks + 1) scratch

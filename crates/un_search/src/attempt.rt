@@ -12,7 +12,7 @@ ghost use Rattle.un_certificate.specs.Certificates.{root_of};
 ghost use Rattle.un_search.specs.Stores.{AreStores};
 ghost use Rattle.un_search.specs.Answers.{OnFound, OnRefuted, OnCut, IsRefuted, IsCutOff, IsByRoot, IsAnswerOf};
 
-use crate::rounds::{ModelRounds, ModelStores};
+use crate::rounds::{ModelRounds, ModelStores, first_stores};
 use std::alloc::Global;
 use un_base::memory_error::NoMemory;
 use un_branching::attempt::{Tried as Answer, attempt as attempt_by};
@@ -51,11 +51,10 @@ fn search(
     alloc: Global,
     m: &Model,
     limit: Option<u64>,
-    horizon: u32,
     stores: ModelStores,
     nodes: u32,
 ) -> Result<Tried, NoMemory>
-    requires stores { AreStores m.now limit horizon stores.engine.props stores.engine.store.sets stores.cuts.sets }
+    requires stores { AreStores m.now limit stores.engine.props stores.engine.store.sets stores.cuts.sets stores.scratch }
     requires full { NoneEmpty (root_of m.now) }
     requires cuts { stores.cuts.sets ≡ root_of m.now }
     requires unmarked { stores.cuts.marked ≡ [] }
@@ -67,12 +66,7 @@ fn search(
     ensures cut { IfOk result (OnCut (IsCutOff m.now limit nodes)) }
     ensures first { nodes < 3 → IfOk result (IsByRoot m.now limit) }
 {
-    let rounds = ModelRounds {
-        alloc,
-        m,
-        limit,
-        horizon,
-    };
+    let rounds = ModelRounds { alloc, m, limit };
     let dive = Dive { rounds };
     let path = Vec::new(alloc);
     let mut room = Levels { stores, path };
@@ -113,13 +107,9 @@ pub fn attempt(alloc: Global, m: &Model, limit: Option<u64>, nodes: u32) -> Resu
     } = posted;
     match Engine::new(alloc, props, store, horizon)? {
         None => Ok(Tried::Refuted(closed_leaf(alloc)?)),
-        Some(engine) => search(
-            alloc,
-            m,
-            limit,
-            horizon,
-            ModelStores { engine, cuts },
-            nodes,
-        ),
+        Some(engine) => {
+            let stores = first_stores(alloc, m, engine, cuts, horizon)?;
+            search(alloc, m, limit, stores, nodes)
+        }
     }
 }

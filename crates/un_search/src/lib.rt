@@ -5,6 +5,8 @@
 pub mod attempt;
 mod best;
 mod choices;
+mod lifts;
+pub mod order;
 pub mod rounds;
 pub mod solve;
 mod start;

@@ -1,10 +1,11 @@
 //! The rounds of a model's propagators, for a search.
 
-ghost use Rattle.std.specs.Prelude.{◌≡◌, ◌<◌, ◌++◌, ◌∷◌, [], OnOk, IfOk, true, false, length};
+ghost use Rattle.std.specs.Prelude.{◌≡◌, ◌+◌, ◌<◌, ◌++◌, ◌∷◌, [], OnOk, IfOk, true, false, length};
 ghost use Rattle.un_domains.specs.Sets.{NoneEmpty};
 ghost use Rattle.un_tree.specs.Boxes.{decided};
 ghost use Rattle.un_ir.specs.Extended.{IsExtended};
 ghost use Rattle.un_isa.specs.Fit.{IsFit};
+ghost use Rattle.un_prop.specs.Pruning.{HasRoom};
 ghost use Rattle.un_model.specs.Variables.{IsModel};
 ghost use Rattle.un_bound.specs.Relaxations.{IsRelaxation};
 ghost use Rattle.un_post.specs.Posts.{largest_horizon};
@@ -13,6 +14,8 @@ ghost use Rattle.un_search.specs.Looks.{IsLookOf};
 ghost use Rattle.un_search.specs.Stores.{IsPostable};
 
 use crate::choices::{choice_of, first_open, single_values};
+use crate::lifts::first_lift;
+use crate::order::{BlockOrder, order_of};
 use std::alloc::Global;
 use un_base::memory_error::NoMemory;
 use un_bound::relax::{RelaxAnswer, relax_bound};
@@ -27,21 +30,45 @@ use un_prop::run::Fix;
 use un_prop::side::Side;
 use un_tree::node::Decision;
 
-/// An engine at what the rounds leave of a box, and a store with the box itself.
+/// An engine at what the rounds leave of a box, and a store with the box itself; room for looks at it, and the order in which its
+/// variables are split.
 #[derive(Drop)]
 pub struct ModelStores {
     pub engine: Engine<AnyProp>,
     pub cuts: Store,
+    pub scratch: Scratch,
+    pub order: Vec<BlockOrder>,
 }
 
-/// A model for which propagators were posted, under a limit on the cost. Cycles go from 0 to `horizon`.
+/// A model for which propagators were posted, under a limit on the cost.
 #[derive(Drop)]
 pub struct ModelRounds<'a> {
     pub alloc: Global,
     pub m: &'a Model,
     pub limit: Option<u64>,
-    pub horizon: u32,
     pub ghost posted: { ∥ IsPostable m.now limit ∥₁ },
+}
+
+/// Stores with room for looks and the order of a model, whose cycles go from 0 to `horizon`.
+pub fn first_stores(
+    alloc: Global,
+    m: &Model,
+    engine: Engine<AnyProp>,
+    cuts: Store,
+    horizon: u32,
+) -> Result<ModelStores, NoMemory>
+    ensures engine { IfOk result (λ s. s.engine ≡ engine) }
+    ensures cuts { IfOk result (λ s. s.cuts ≡ cuts) }
+    ensures room { IfOk result (λ s. HasRoom (length cuts.sets) (horizon + 1) s.scratch) }
+{
+    let scratch = Scratch::new(alloc, cuts.len(), horizon)?;
+    let order = order_of(alloc, m)?;
+    Ok(ModelStores {
+        engine,
+        cuts,
+        scratch,
+        order,
+    })
 }
 
 /// Marks a store, and cuts it by a decision.
@@ -70,19 +97,18 @@ fn is_stable(fix: Fix) -> bool
     }
 }
 
-/// The relaxation of a model in a box. Its cycles go from 0 to `horizon`.
-fn relaxed(alloc: Global, m: &Model, cuts: &Store, horizon: u32) -> Result<RelaxAnswer, NoMemory>
+/// The relaxation of a model in a box.
+fn relaxed(m: &Model, cuts: &Store, scratch: &mut Scratch) -> RelaxAnswer
     requires model { IsModel m.now }
     requires extended { IsExtended m.now.ext }
     requires table { IsFit m.now.ext.table }
-    requires largest { horizon ≡ largest_horizon m.now.ext.blocks }
     requires long { length cuts.now.sets ≡ length (root_of m.now) }
     requires live { NoneEmpty cuts.now.sets }
-    ensures { IfOk result (IsRelaxation m.now cuts.now.sets) }
+    requires room { HasRoom (length (root_of m.now)) (largest_horizon m.now.ext.blocks + 1) scratch.old }
+    ensures answer { IsRelaxation m.now cuts.now.sets result }
+    ensures room { HasRoom (length (root_of m.now)) (largest_horizon m.now.ext.blocks + 1) scratch.new }
 {
-    let mut scratch = Scratch::new(alloc, cuts.len(), horizon)?;
-    let answer = relax_bound(m, cuts, &mut scratch);
-    Ok(answer)
+    relax_bound(m, cuts, scratch)
 }
 
 /// An open box with its least cost, or a box without a relaxation.
@@ -116,7 +142,7 @@ impl Rounds for ModelRounds<'_> {
 
     ghost ends = { λ s. record { sets = s.engine.store.sets; marked = s.engine.store.marked } };
 
-    ghost is_fit = { λ r s. AreStores r.m.now r.limit r.horizon s.engine.props s.engine.store.sets s.cuts.sets };
+    ghost is_fit = { λ r s. AreStores r.m.now r.limit s.engine.props s.engine.store.sets s.cuts.sets s.scratch };
 
     fn enter(&self, stores: &mut ModelStores, decision: Decision) -> Result<bool, NoMemory> {
         mark_and_cut(&mut stores.cuts, decision)?;
@@ -132,7 +158,7 @@ impl Rounds for ModelRounds<'_> {
         stores.engine.undo();
     }
 
-    fn look(&self, stores: &ModelStores) -> Result<Look, NoMemory> {
+    fn look(&self, stores: &mut ModelStores) -> Result<Look, NoMemory> {
         let store = stores.engine.store();
         match first_open(store) {
             None => {
@@ -140,14 +166,18 @@ impl Rounds for ModelRounds<'_> {
                 Ok(Look::Found(values))
             }
             Some(_) => {
-                let answer = relaxed(self.alloc, self.m, &stores.cuts, self.horizon)?;
+                let answer = relaxed(self.m, &stores.cuts, &mut stores.scratch);
                 Ok(look_of(answer))
             }
         }
     }
 
-    fn choose(&self, stores: &ModelStores) -> Choice {
-        choice_of(stores.engine.store(), self.m.blocks.as_slice())
+    fn choose(&self, stores: &mut ModelStores) -> Result<Choice, NoMemory> {
+        let lift = first_lift(&mut stores.engine, stores.order.as_slice())?;
+        match lift {
+            Some(choice) => Ok(choice),
+            None => Ok(choice_of(stores.engine.store(), self.m.flag, stores.order.as_slice())),
+        }
     }
 
     ghost inside = { λ r b f i e. model_inside r.m.now r.limit r.posted b f i e };

@@ -177,12 +177,7 @@ fn run_command(alloc: Global, command: Command, text: &[u8]) -> Result<Output, S
 }
 
 /// What the command of these words puts out over a text.
-fn run_words(
-    alloc: Global,
-    words: &[Word],
-    command: Command,
-    text: &[u8],
-) -> Result<Output, Status>
+fn run_words(alloc: Global, words: &[Word], command: Command, text: &[u8]) -> Result<Output, Status>
     requires asked { IsCommand words.now command }
     requires ranged { IsRanged command }
     requires reads { reads_input command ≡ true }

@@ -98,12 +98,7 @@ fn code_report(
 ///
 /// # Errors
 /// `NoMemory` where there is no memory for the search or the code.
-pub fn search_report(
-    alloc: Global,
-    f: &Function,
-    m: &Model,
-    nodes: u32,
-) -> Result<Report, NoMemory>
+pub fn search_report(alloc: Global, f: &Function, m: &Model, nodes: u32) -> Result<Report, NoMemory>
     requires problem { IsProblemOf f.now m.now }
     requires some { 1 ≤ nodes }
     ensures { IfOk result (λ r. (e : IsExtOf m.now.ext.table f.now m.now.ext) → IsSearchOf f.now m.now e.live nodes r) }

@@ -17,8 +17,8 @@ look-requires-clause-stable g c =
     ∙ stopped (R.fix p (reached (R.root p) c.args.room.now.path.items)) (R.ends c.args.room.now.stores).sets c.args.stable
     c.if-not-stable.false c.requires.ended
 
-pub returns : goal.returns
-returns g c =
+pub returns-clause-look : goal.returns-clause-look
+returns-clause-look g c =
     let R = g.R.Rounds in
     let p = c.args.rounds.now in
-    subst (λ (b : Sets). IsLook (R.fix p) (R.least p) (R.is_good p) b c.in_ok-look.look) c.requires.cut.sets c.in_ok-look.ensures
+    subst (λ (b : Sets). IsLook (R.fix p) (R.least p) (R.is_good p) b c.in_ok-look.look) c.requires.cut.sets c.in_ok-look.ensures.look

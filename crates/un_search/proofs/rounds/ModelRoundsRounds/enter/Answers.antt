@@ -12,15 +12,15 @@ pub decide-requires-clause-live : goal.decide-requires-clause-live
 decide-requires-clause-live c =
     let r = c.args.self.now in
     let s = c.args.stores.now in
-    end_live r.m.now r.limit r.horizon s.engine.props s.engine.store.sets s.cuts.sets c.requires.fit c.requires.stable
+    end_live r.m.now r.limit s.engine.props s.engine.store.sets s.cuts.sets s.scratch c.requires.fit c.requires.stable
 
 pub returns-clause-fit : goal.returns-clause-fit
 returns-clause-fit c =
     let r = c.args.self.now in
     let s = c.args.stores.now in
     let deeper = c.in_ok-fix.ensures.deeper in
-    stores_kept r.m.now r.limit r.horizon s.engine.props _ s.engine.store.sets _ s.cuts.sets _ c.requires.fit deeper.props deeper.long
-    (ap length c.in_ok-mark_and_cut.ensures.cut ∙ decided_long c.args.decision s.cuts.sets)
+    stores_kept r.m.now r.limit s.engine.props _ s.engine.store.sets _ s.cuts.sets _ s.scratch _ c.requires.fit deeper.props deeper.long
+    (ap length c.in_ok-mark_and_cut.ensures.cut ∙ decided_long c.args.decision s.cuts.sets) c.requires.fit.room
 
 pub returns-clause-ended : goal.returns-clause-ended
 returns-clause-ended c b i e j =

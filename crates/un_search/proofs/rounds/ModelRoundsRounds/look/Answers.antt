@@ -14,21 +14,21 @@ single_values-requires-clause-live c =
     (posted_inside r.m.now r.limit s.engine.props c.requires.fit.posted s.cuts.sets s.engine.store.sets c.requires.inside
     c.requires.stable).1
 
-pub returns-in_ok-values-in-None : goal.returns-in_ok-values-in-None
-returns-in_ok-values-in-None c =
+pub returns-in_ok-values-in-None-clause-look : goal.returns-in_ok-values-in-None-clause-look
+returns-in_ok-values-in-None-clause-look c =
     let r = c.args.self.now in
     let s = c.args.stores.now in
     let x = c.in_ok-values-in-None.values.items in
     found_look r.m.now r.limit s.engine.props c.requires.fit.posted s.cuts.sets s.engine.store.sets c.requires.inside c.requires.stable x
     (subst (λ (k : Contents). IsSingle x k.sets) c.store-store.ensures c.in_ok-values-in-None.ensures)
 
-pub returns-in_ok-answer-in-Some : goal.returns-in_ok-answer-in-Some
-returns-in_ok-answer-in-Some c =
+pub returns-in-Some-clause-look : goal.returns-in-Some-clause-look
+returns-in-Some-clause-look c =
     let r = c.args.self.now in
     let s = c.args.stores.now in
     let two = c.in-Some.ensures.some in
     open_look r.m.now r.limit s.engine.props c.requires.fit.posted s.cuts.sets s.engine.store.sets c.requires.inside c.requires.stable
-    c.in_ok-answer-in-Some.answer c.look_of.result
+    c.relaxed-answer.result c.look_of.result
     (subst (λ (k : Contents). HasTwo k.sets) c.store-store.ensures
     (record { var = c.in-Some.field-0.0; there = two.0; two = two.1 }))
-    c.in_ok-answer-in-Some.ensures c.look_of.ensures
+    c.relaxed-answer.ensures.answer c.look_of.ensures
