@@ -22,7 +22,7 @@ use Rattle.un_top.specs.Reports.{IsGoodAnswer, status_of}
 use Rattle.un_top.specs.Generated.{IsSummedUp, IsGeneratedReport}
 
 -- with room for each name in a frame slot of its own there is code
-code_there : (f : Function) (m : Model) (live : List (List NameId)) (nodes : ℕ) (t : List Node) (a : Answered) → AreRoomyFor f m.options
+pub code_there : (f : Function) (m : Model) (live : List (List NameId)) (nodes : ℕ) (t : List Node) (a : Answered) → AreRoomyFor f m.options
     → IsGoodAnswer f m live nodes t a → status_of a ≡ Done
 code_there f m live nodes t (Code cost bound code s) roomy good = refl
 code_there f m live nodes t Infeasible roomy good = absurd (good.0 roomy)

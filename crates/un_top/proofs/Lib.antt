@@ -1,4 +1,5 @@
 pub mod Answered
+pub mod Completed
 pub mod FaultLaws
 pub mod GeneratedLaws
 pub mod Parts

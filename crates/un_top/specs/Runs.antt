@@ -1,16 +1,18 @@
 -- What a run of the program leaves on `out` and `err`.
 use Rattle.std.specs.Prelude.{ℕ, ◌≡◌, ◌<◌, ◌≤◌, ◌⊎◌, Bool, true, false, length, List, [], ◌∷◌, codes, nat_eq, if◌then◌else◌}
+use Rattle.std.specs.Prelude.{IfSome}
 use Rattle.std.specs.declared.option.Option.{Option}
 use Rattle.std.specs.List.{concat}
 use Rattle.std.specs.Fmt.{decimal}
 use Rattle.std.specs.Io.KnownBytes.{Appends}
 use Rattle.un_commands.specs.Alloc.{model_options}
-use Rattle.un_commands.specs.Commands.{IsCommand}
+use Rattle.un_commands.specs.Commands.{IsCommand, IsBadWord}
 use Rattle.un_commands.specs.declared.command.Command.{Command}
 use Rattle.un_commands.specs.declared.command.Command.TheVariants.{Alloc, Run, RunCode, Generate, GenerateAlloc}
+use Rattle.un_baseline.specs.RoomyOptions.{AreRoomyFor}
 use Rattle.un_ir.specs.declared.function.Function.{Function}
 use Rattle.un_isa.specs.Hexagon.{HEXAGON}
-use Rattle.un_outside.specs.Causes.{AppendsPrefix}
+use Rattle.un_outside.specs.Causes.{Rose, AppendsPrefix}
 use Rattle.un_outside.specs.declared.status.Status.{Status}
 use Rattle.un_outside.specs.declared.status.Status.TheVariants.{Done, Infeasible, Spent, TextFault, Usage, ReadFault, WriteFault, NoMemory, No}
 use Rattle.un_outside.specs.declared.status.Status.TheVariants.{BadReport}
@@ -20,6 +22,7 @@ use Rattle.un_runs.specs.declared.refused.Refused.{Refused}
 use Rattle.un_runs.specs.declared.refused.Refused.TheVariants as RefusedBy
 use Rattle.un_runs.specs.Inputs.{first_part}
 use Rattle.un_runs.specs.Refusals.{IsFaultOf as IsFault, IsBadSourceRun, IsBadCodeRun}
+use Rattle.un_runs.specs.Grammars.{IsSourceInput, IsCodeInput}
 use Rattle.un_runs.specs.Shown.{IsSourceRun, IsCodeRun, IsGeneratedText}
 use Rattle.un_top.specs.Generated.{IsGeneratedReport}
 use Rattle.un_top.specs.Reports.{IsReportOf}
@@ -80,6 +83,35 @@ IsFaultless RunCode text = length text ≤ INPUT
 IsFaultless (Generate seed size) text = Unit {0}
 IsFaultless (GenerateAlloc seed size nodes) text = Unit {0}
 
+-- what a command reads is in its grammars and within its limits
+abbrev pub IsGoodInput : Command → List ℕ → Type 0
+IsGoodInput (Alloc o) text = (f : Function) × IsRead text f
+IsGoodInput Run text = (length text ≤ INPUT) × IsSourceInput text
+IsGoodInput RunCode text = (length text ≤ INPUT) × IsCodeInput text
+IsGoodInput (Generate seed size) text = Unit {0}
+IsGoodInput (GenerateAlloc seed size nodes) text = Unit {0}
+
+-- why a command puts nothing out over a text
+abbrev pub RefusesText : Command → List ℕ → Status → Type 0
+RefusesText command text (TextFault line code) = IsFaultIn command text line code
+RefusesText command text (BadReport line) = IsBadIn command text line
+RefusesText command text NoMemory = Unit {0}
+RefusesText command text _ = ⊥
+
+-- how a run ends where there is no outcome
+abbrev pub status_by : Refused → Status
+status_by RefusedBy.NoMemory = NoMemory
+status_by (RefusedBy.TextFault line code) = TextFault line code
+status_by (RefusedBy.BadSecond line) = BadReport line
+
+-- why it puts nothing out over what a source gives, where that tells its bytes, whose count of faults was and is now so
+abbrev pub Refuses : Command → Option (List ℕ) → ℕ → ℕ → Status → Type 0
+Refuses command told before now (TextFault line code) = IfSome told (λ text. IsFaultIn command text line code)
+Refuses command told before now (BadReport line) = IfSome told (λ text. IsBadIn command text line)
+Refuses command told before now ReadFault = Rose before now
+Refuses command told before now NoMemory = Unit {0}
+Refuses command told before now _ = ⊥
+
 -- ---- by words
 
 -- the words are those of a command, and this is its output over a text
@@ -99,6 +131,15 @@ pub record IsBadOf (words : List (List ℕ)) (text : List ℕ) (line : ℕ) : Ty
   pub command : Command
   pub asked : IsCommand words command
   pub bad : IsBadIn command text line
+
+-- why words put nothing out
+abbrev pub RefusesWords : List (List ℕ) → Option (List ℕ) → ℕ → ℕ → Status → Type 0
+RefusesWords words told before now (Usage place) = IsBadWord words place
+RefusesWords words told before now (TextFault line code) = IfSome told (λ text. IsFaultOf words text line code)
+RefusesWords words told before now (BadReport line) = IfSome told (λ text. IsBadOf words text line)
+RefusesWords words told before now ReadFault = Rose before now
+RefusesWords words told before now NoMemory = Unit {0}
+RefusesWords words told before now _ = ⊥
 
 -- ---- what a run leaves
 
@@ -145,6 +186,13 @@ AnswersFault ReadFault line code = Unit {0}
 AnswersFault NoMemory line code = Unit {0}
 AnswersFault _ line code = ⊥
 
+-- a run over an input with this bad line answers it, unless the source or want of memory stood before
+abbrev pub AnswersBad : Status → ℕ → Type 0
+AnswersBad (BadReport l) line = l ≡ line
+AnswersBad ReadFault line = Unit {0}
+AnswersBad NoMemory line = Unit {0}
+AnswersBad _ line = ⊥
+
 -- an input without a fault is refused with none
 abbrev pub AnswersAccepted : Status → Type 0
 AnswersAccepted (TextFault line code) = ⊥
@@ -155,25 +203,23 @@ abbrev pub IsAnswer : Status → Type 0
 IsAnswer (No cause) = ⊥
 IsAnswer _ = Unit {0}
 
--- the answers of a text that is not reported
-abbrev pub IsTextRefusal : Status → Type 0
-IsTextRefusal (TextFault line code) = Unit {0}
-IsTextRefusal (BadReport line) = Unit {0}
-IsTextRefusal NoMemory = Unit {0}
-IsTextRefusal _ = ⊥
+-- the output was written whole, or there was no memory for it
+abbrev pub IsDone : Status → Type 0
+IsDone Done = Unit {0}
+IsDone NoMemory = Unit {0}
+IsDone _ = ⊥
 
--- how a run of the program ends where there is no outcome
-abbrev pub status_by : Refused → Status
-status_by RefusedBy.NoMemory = NoMemory
-status_by (RefusedBy.TextFault line code) = TextFault line code
-status_by (RefusedBy.BadSecond line) = BadReport line
+-- or a search found no code
+abbrev pub IsSearched : Status → Type 0
+IsSearched Infeasible = Unit {0}
+IsSearched Spent = Unit {0}
+IsSearched status = IsDone status
 
--- the answers of an input that is not read
-abbrev pub IsReadRefusal : Status → Type 0
-IsReadRefusal (TextFault line code) = Unit {0}
-IsReadRefusal ReadFault = Unit {0}
-IsReadRefusal NoMemory = Unit {0}
-IsReadRefusal _ = ⊥
+-- how a run over a good input ends where nothing outside fails; a search finds code where each name can be kept in a frame slot of its own
+abbrev pub EndsWell : Command → List ℕ → Status → Type 0
+EndsWell (Alloc o) text status =
+    IsSearched status × (((f : Function) → IsRead text f → AreRoomyFor f (model_options o)) → IsDone status)
+EndsWell command text status = IsDone status
 
 -- the answers before anything is written
 abbrev pub IsRefusal : Status → Type 0

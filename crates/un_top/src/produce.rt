@@ -1,18 +1,16 @@
 //! The whole output, before anything is written.
 
-ghost use Rattle.std.specs.Prelude.{◌≡◌, ◌≢◌, ℕ, ◌≤◌, List, true, false, Ok, Err, IfSome, IfOk, IfErr, length};
+ghost use Rattle.std.specs.Prelude.{◌≡◌, ℕ, ◌≤◌, List, true, false, Err, IfSome, IfOk, IfErr, OnOk, length};
 ghost use Rattle.std.specs.Io.KnownBytes.{IsAtEnd};
 ghost use Rattle.un_commands.specs.Alloc.{AreSearchOptions, model_options};
 ghost use Rattle.un_commands.specs.Commands.{IsBadWord, IsCommand, IsRanged};
 ghost use Rattle.un_commands.specs.declared.command.Command.{Command};
 ghost use Rattle.un_isa.specs.Hexagon.{HEXAGON};
-ghost use Rattle.un_outside.specs.Causes.{Rose};
 ghost use Rattle.un_problem.specs.Problems.{IsProblemOf, IsExtOf};
 ghost use Rattle.un_reader.specs.Read.{IsRead};
-ghost use Rattle.un_runs.specs.Refusals.{IsFaultOf as IsFault};
 ghost use Rattle.un_top.specs.Reports.{IsReportOf, IsSearchText};
-ghost use Rattle.un_top.specs.Runs.{reads_input, most_bytes, status_by, IsOutput, IsFaultIn, IsBadIn, IsOutputOf, IsFaultOf, IsBadOf};
-ghost use Rattle.un_top.specs.Runs.{IsReadRefusal, IsTextRefusal, IsRefusal, IsWritten};
+ghost use Rattle.un_top.specs.Runs.{reads_input, most_bytes, status_by, IsOutput, IsOutputOf, IsWritten};
+ghost use Rattle.un_top.specs.Runs.{RefusesText, Refuses, RefusesWords};
 ghost use Rattle.un_top.specs.declared.limits.TheConstants.{INPUT};
 
 use crate::generated::generated_report;
@@ -72,13 +70,10 @@ fn report_of(
 
 /// The report of a text.
 fn report(alloc: Global, text: &[u8], options: SearchOptions) -> Result<Output, Status>
-    requires few { length text.now ≤ TEXT }
     requires options { AreSearchOptions options }
     ensures ok { IfOk result (λ out. IsReportOf HEXAGON (model_options options) options.nodes text.now out.status out.text.items) }
     ensures written { IfOk result (λ out. IsWritten out.status) }
-    ensures fault { (line code : ℕ) → result ≡ Err (Status.TextFault line code) → IsFault text.now line code }
-    ensures bad { (line : ℕ) → result ≢ Err (Status.BadReport line) }
-    ensures only { IfErr result IsTextRefusal }
+    ensures refused { IfErr result (RefusesText (Command.Alloc options) text.now) }
 {
     let f = match read_function(alloc, text) {
         Ok(f) => f,
@@ -105,8 +100,7 @@ fn most_bytes(command: Command) -> usize
 
 /// How a run of the program ends where there is no outcome.
 fn status_by(refused: Refused) -> Status
-    ensures is { result ≡ status_by refused }
-    ensures only { IsTextRefusal result }
+    ensures { result ≡ status_by refused }
 {
     match refused {
         Refused::NoMemory => Status::NoMemory,
@@ -131,9 +125,7 @@ fn source_output(alloc: Global, text: &[u8]) -> Result<Output, Status>
     requires few { length text.now ≤ INPUT }
     ensures ok { IfOk result (λ out. IsOutput Command.Run text.now out.status out.text.items) }
     ensures written { IfOk result (λ out. IsWritten out.status) }
-    ensures fault { (line code : ℕ) → result ≡ Err (Status.TextFault line code) → IsFaultIn Command.Run text.now line code }
-    ensures bad { (line : ℕ) → result ≡ Err (Status.BadReport line) → IsBadIn Command.Run text.now line }
-    ensures only { IfErr result IsTextRefusal }
+    ensures refused { IfErr result (RefusesText Command.Run text.now) }
 {
     match source_run(alloc, text) {
         Ok(shown) => Ok(done(shown)),
@@ -146,9 +138,7 @@ fn code_output(alloc: Global, text: &[u8]) -> Result<Output, Status>
     requires few { length text.now ≤ INPUT }
     ensures ok { IfOk result (λ out. IsOutput Command.RunCode text.now out.status out.text.items) }
     ensures written { IfOk result (λ out. IsWritten out.status) }
-    ensures fault { (line code : ℕ) → result ≡ Err (Status.TextFault line code) → IsFaultIn Command.RunCode text.now line code }
-    ensures bad { (line : ℕ) → result ≡ Err (Status.BadReport line) → IsBadIn Command.RunCode text.now line }
-    ensures only { IfErr result IsTextRefusal }
+    ensures refused { IfErr result (RefusesText Command.RunCode text.now) }
 {
     match code_run(alloc, text) {
         Ok(shown) => Ok(done(shown)),
@@ -163,9 +153,7 @@ fn run_command(alloc: Global, command: Command, text: &[u8]) -> Result<Output, S
     requires ranged { IsRanged command }
     ensures ok { IfOk result (λ out. IsOutput command text.now out.status out.text.items) }
     ensures written { IfOk result (λ out. IsWritten out.status) }
-    ensures fault { (line code : ℕ) → result ≡ Err (Status.TextFault line code) → IsFaultIn command text.now line code }
-    ensures bad { (line : ℕ) → result ≡ Err (Status.BadReport line) → IsBadIn command text.now line }
-    ensures only { IfErr result IsTextRefusal }
+    ensures refused { IfErr result (RefusesText command text.now) }
 {
     match command {
         Command::Alloc(options) => report(alloc, text, options),
@@ -176,33 +164,39 @@ fn run_command(alloc: Global, command: Command, text: &[u8]) -> Result<Output, S
     }
 }
 
-/// What the command of these words puts out over a text.
-fn run_words(alloc: Global, words: &[Word], command: Command, text: &[u8]) -> Result<Output, Status>
-    requires asked { IsCommand words.now command }
-    requires ranged { IsRanged command }
-    requires reads { reads_input command ≡ true }
-    requires few { length text.now ≤ most_bytes command }
-    ensures ok { IfOk result (λ out. IsOutputOf words.now text.now out.status out.text.items) }
-    ensures written { IfOk result (λ out. IsWritten out.status) }
-    ensures fault { (line code : ℕ) → result ≡ Err (Status.TextFault line code) → IsFaultOf words.now text.now line code }
-    ensures bad { (line : ℕ) → result ≡ Err (Status.BadReport line) → IsBadOf words.now text.now line }
-    ensures only { IfErr result IsTextRefusal }
+/// The input of a command.
+fn input_of<S: Source>(alloc: Global, command: Command, src: &mut S) -> Result<Vec<u8>, Status>
+    requires { reads_input command ≡ true }
+    ensures told { IfOk result (λ text. IfSome (S.left src.old) (λ bs. text.items ≡ bs)) }
+    ensures end { OnOk result (IsAtEnd (S.left src.new)) }
+    ensures few { IfOk result (λ text. length text.items ≤ most_bytes command) }
+    ensures refused { IfErr result (Refuses command (S.left src.old) (S.faults src.old) (S.faults src.new)) }
 {
-    let _ = words;
-    run_command(alloc, command, text)
+    match read_all(alloc, src, most_bytes(command)) {
+        Ok(text) => Ok(text),
+        Err(ReadAll::ReadFault) => Err(Status::ReadFault),
+        Err(ReadAll::TooLong) => Err(Status::TextFault {
+            line: 0,
+            code: TOO_MANY,
+        }),
+        Err(ReadAll::NoMemory) => Err(Status::NoMemory),
+    }
 }
 
-/// Whether a command reads an input.
-fn reads_input(command: Command) -> bool
-    ensures { result ≡ reads_input command }
+/// What a command that reads an input puts out over what a source gives.
+fn read_and_run<S: Source>(alloc: Global, command: Command, src: &mut S) -> Result<Output, Status>
+    requires reads { reads_input command ≡ true }
+    requires ranged { IsRanged command }
+    ensures ok { IfOk result (λ out. IfSome (S.left src.old) (λ text. IsOutput command text out.status out.text.items)) }
+    ensures written { IfOk result (λ out. IsWritten out.status) }
+    ensures end { OnOk result (IsAtEnd (S.left src.new)) }
+    ensures refused { IfErr result (Refuses command (S.left src.old) (S.faults src.old) (S.faults src.new)) }
 {
-    match command {
-        Command::Alloc(_) => true,
-        Command::Run => true,
-        Command::RunCode => true,
-        Command::Generate { .. } => false,
-        Command::GenerateAlloc { .. } => false,
-    }
+    let text = match input_of(alloc, command, src) {
+        Ok(text) => text,
+        Err(status) => return Err(status),
+    };
+    run_command(alloc, command, text.as_slice())
 }
 
 /// The text of a generated function.
@@ -231,24 +225,36 @@ fn made(alloc: Global, command: Command) -> Result<Output, NoMemory>
     }
 }
 
-/// The input of a command.
-fn input_of<S: Source>(alloc: Global, command: Command, src: &mut S) -> Result<Vec<u8>, Status>
-    ensures told { IfOk result (λ text. IfSome (S.left src.old) (λ bs. text.items ≡ bs)) }
-    ensures end { IfOk result (λ text. IsAtEnd (S.left src.new)) }
-    ensures few { IfOk result (λ text. length text.items ≤ most_bytes command) }
-    ensures read { result ≡ Err Status.ReadFault → Rose (S.faults src.old) (S.faults src.new) }
-    ensures fault { (line code : ℕ) → result ≡ Err (Status.TextFault line code)
-        → IfSome (S.left src.old) (λ text. (reads_input command ≡ true → IsFaultIn command text line code)) }
-    ensures only { IfErr result IsReadRefusal }
+/// Whether a command reads an input.
+fn reads_input(command: Command) -> bool
+    ensures { result ≡ reads_input command }
 {
-    match read_all(alloc, src, most_bytes(command)) {
-        Ok(text) => Ok(text),
-        Err(ReadAll::ReadFault) => Err(Status::ReadFault),
-        Err(ReadAll::TooLong) => Err(Status::TextFault {
-            line: 0,
-            code: TOO_MANY,
-        }),
-        Err(ReadAll::NoMemory) => Err(Status::NoMemory),
+    match command {
+        Command::Alloc(_) => true,
+        Command::Run => true,
+        Command::RunCode => true,
+        Command::Generate { .. } => false,
+        Command::GenerateAlloc { .. } => false,
+    }
+}
+
+/// What a command puts out, over what a source gives where it reads an input. A command that reads none leaves the source alone.
+fn serve<S: Source>(alloc: Global, command: Command, src: &mut S) -> Result<Output, Status>
+    requires { IsRanged command }
+    ensures ok { IfOk result (λ out. IfSome (S.left src.old) (λ text. IsOutput command text out.status out.text.items)) }
+    ensures written { IfOk result (λ out. IsWritten out.status) }
+    ensures refused { IfErr result (Refuses command (S.left src.old) (S.faults src.old) (S.faults src.new)) }
+    ensures end { reads_input command ≡ true → OnOk result (IsAtEnd (S.left src.new)) }
+    ensures left { reads_input command ≡ false → S.left src.new ≡ S.left src.old }
+    ensures calls { reads_input command ≡ false → S.calls src.new ≡ S.calls src.old }
+{
+    if reads_input(command) {
+        read_and_run(alloc, command, src)
+    } else {
+        match made(alloc, command) {
+            Ok(output) => Ok(output),
+            Err(_) => Err(Status::NoMemory),
+        }
     }
 }
 
@@ -256,32 +262,17 @@ fn input_of<S: Source>(alloc: Global, command: Command, src: &mut S) -> Result<V
 pub fn produce<S: Source>(alloc: Global, words: &[Word], src: &mut S) -> Result<Output, Status>
     ensures ok { IfOk result (λ out. IfSome (S.left src.old) (λ text. IsOutputOf words.now text out.status out.text.items)) }
     ensures written { IfOk result (λ out. IsWritten out.status) }
+    ensures refused { IfErr result (RefusesWords words.now (S.left src.old) (S.faults src.old) (S.faults src.new)) }
     ensures exactly_usage { (place : ℕ) → IsBadWord words.now place → result ≡ Err (Status.Usage place) }
-    ensures read_all { IfOk result (λ out. (command : Command) → IsCommand words.now command → reads_input command ≡ true
-        → IsAtEnd (S.left src.new)) }
-    ensures made_left { (command : Command) → IsCommand words.now command → reads_input command ≡ false → S.left src.new ≡ S.left src.old }
-    ensures made_calls { (command : Command) → IsCommand words.now command → reads_input command ≡ false → S.calls src.new ≡ S.calls src.old }
-    ensures usage { (place : ℕ) → result ≡ Err (Status.Usage place) → IsBadWord words.now place }
-    ensures unread { (place : ℕ) → result ≡ Err (Status.Usage place) → S.left src.new ≡ S.left src.old }
-    ensures not_called { (place : ℕ) → result ≡ Err (Status.Usage place) → S.calls src.new ≡ S.calls src.old }
-    ensures read { result ≡ Err Status.ReadFault → Rose (S.faults src.old) (S.faults src.new) }
-    ensures fault { (line code : ℕ) → result ≡ Err (Status.TextFault line code) → IfSome (S.left src.old) (λ text. IsFaultOf words.now text line code) }
-    ensures bad { (line : ℕ) → result ≡ Err (Status.BadReport line) → IfSome (S.left src.old) (λ text. IsBadOf words.now text line) }
-    ensures only { IfErr result IsRefusal }
+    ensures end { (command : Command) → IsCommand words.now command → reads_input command ≡ true
+        → OnOk result (IsAtEnd (S.left src.new)) }
+    ensures left { (command : Command) → IsCommand words.now command → reads_input command ≡ false → S.left src.new ≡ S.left src.old }
+    ensures calls { (command : Command) → IsCommand words.now command → reads_input command ≡ false → S.calls src.new ≡ S.calls src.old }
+    ensures unread { (place : ℕ) → IsBadWord words.now place → S.left src.new ≡ S.left src.old }
+    ensures not_called { (place : ℕ) → IsBadWord words.now place → S.calls src.new ≡ S.calls src.old }
 {
-    let command = match read_command(words) {
-        Ok(command) => command,
-        Err(word) => return Err(Status::Usage { word }),
-    };
-    if !reads_input(command) {
-        return match made(alloc, command) {
-            Ok(output) => Ok(output),
-            Err(_) => Err(Status::NoMemory),
-        };
+    match read_command(words) {
+        Ok(command) => serve(alloc, command, src),
+        Err(word) => Err(Status::Usage { word }),
     }
-    let text = match input_of(alloc, command, src) {
-        Ok(text) => text,
-        Err(status) => return Err(status),
-    };
-    run_words(alloc, words, command, text.as_slice())
 }

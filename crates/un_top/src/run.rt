@@ -5,8 +5,8 @@ ghost use Rattle.std.specs.Io.KnownBytes.{Appends, IsAtEnd};
 ghost use Rattle.un_commands.specs.Commands.{IsBadWord, IsCommand};
 ghost use Rattle.un_commands.specs.declared.command.Command.{Command};
 ghost use Rattle.un_outside.specs.Causes.{Rose, AppendsPrefix};
-ghost use Rattle.un_top.specs.Runs.{reads_input, IsFaultOf, IsBadOf, IsFaultless};
-ghost use Rattle.un_top.specs.Runs.{OutAfter, KeepsOut, AnswersFault, AnswersAccepted, IsAnswer, IsRefusal, IsWritten, Wrote, line_of};
+ghost use Rattle.un_top.specs.Runs.{reads_input, IsFaultOf, IsBadOf, IsFaultless, IsGoodInput, EndsWell};
+ghost use Rattle.un_top.specs.Runs.{OutAfter, KeepsOut, AnswersFault, AnswersBad, AnswersAccepted, IsAnswer, IsRefusal, IsWritten, Wrote, line_of};
 
 use crate::faults::write_line;
 use crate::output::Output;
@@ -69,10 +69,15 @@ pub fn run<S: Source, K: Sink, E: Sink>(
         → IfSome (S.left src.old) (λ text. IsFaultOf words.now text line code) }
     ensures exactly_fault { IfSome (S.left src.old) (λ text. (line code : ℕ) → IsFaultOf words.now text line code
         → AnswersFault result line code) }
+    ensures exactly_bad { IfSome (S.left src.old) (λ text. (line : ℕ) → IsBadOf words.now text line → AnswersBad result line) }
     ensures accepted { IfSome (S.left src.old) (λ text. (command : Command) → IsCommand words.now command → IsFaultless command text
         → AnswersAccepted result) }
     ensures bad { (line : ℕ) → result ≡ Status.BadReport line → IfSome (S.left src.old) (λ text. IsBadOf words.now text line) }
     ensures write { result ≡ Status.WriteFault → Rose (K.faults out.old) (K.faults out.new) }
+
+    // A good input is answered by its output, or there was no memory, where nothing outside fails.
+    ensures complete { IfSome (S.left src.old) (λ text. (command : Command) → IsCommand words.now command → IsGoodInput command text
+        → Rose (S.faults src.old) (S.faults src.new) ⊎ (Rose (K.faults out.old) (K.faults out.new) ⊎ EndsWell command text result)) }
 
     // The line for the status goes to `err`, whole where its count did not rise.
     ensures err_line { AppendsPrefix (E.held err.old) (E.held err.new) (line_of result) }
