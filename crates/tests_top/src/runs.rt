@@ -286,48 +286,6 @@ answer code
 cost 16000000
 bound 16000000
 ...\
-|# A generated function of one block.\
-|?gen 7 1:done>func gen %v0 %v1 %v2 %v3
-block b0 freq 1
-  %v4 = imm #4
-  %v5 = imm #5
-  %v6 = imm #6
-  %v7 = imm #7
-  $p0 = cmpeq %v0, %v1
-  ret %v0
->\
-|# What a dot product of two numbers comes to.\
-|func dot %x %y %n
-block entry freq 1
-  %s = imm #0
-block loop freq 100
-  %u = load %x, #0
-  %v = load %y, #0
-  %m = mpyi %u, %v
-  %s = add %s, %m
-  %x = addi %x, #4
-  %y = addi %y, #4
-  %n = addi %n, #-1
-  $c = cmpgti %n, #0
-  if $c jump loop
-block exit freq 1
-  ret %s
----
-reg 0 256
-reg 1 272
-reg 2 2
-reg 31 100
-mem 256 3
-mem 260 4
-mem 272 5
-mem 276 6
-blocks 10
-?run:done>returned 39
-mem 256 3
-mem 260 4
-mem 272 5
-mem 276 6
->\
 |# Words that are no command.\
 |func f
 block e freq 1
@@ -461,12 +419,14 @@ fn put_status(found: &mut Vec<u8>, status: Status) -> Result<(), NoMemory> {
         Status::Spent => put_text(found, b"spent"),
         Status::ReadFault => put_text(found, b"read fault"),
         Status::WriteFault => put_text(found, b"write fault"),
+        Status::NoMemory => put_text(found, b"no memory"),
         Status::Usage { word } => put_number_of(found, b"usage ", word),
+        Status::BadReport { line } => put_number_of(found, b"bad ", line),
         Status::TextFault { line, code } => {
             put_number_of(found, b"fault ", line)?;
             put_number_of(found, b" ", u32::from(code))
         }
-        _ => put_text(found, b"?"),
+        Status::No(_) => put_text(found, b"no"),
     }
 }
 
