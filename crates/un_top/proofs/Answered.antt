@@ -43,12 +43,13 @@ too_long_by told command max most reads h =
 -- ---- from the text that was read to the source, and from the command to its words
 
 -- what a command puts out over the text that was read is that over the source's
-pub over_told : (told : Option (List ℕ)) (command : Command) (text : List ℕ) (outcome : Result Output Status)
-    → IfSome told (λ (bs : List ℕ). text ≡ bs) → IfOk outcome (λ out. IsOutput command text out.status out.text.items)
+pub over_told : (told : Option (List ℕ)) (command : Command) (text items : List ℕ) (outcome : Result Output Status) → text ≡ items
+    → IfSome told (λ (bs : List ℕ). items ≡ bs) → IfOk outcome (λ out. IsOutput command text out.status out.text.items)
     → IfOk outcome (λ out. IfSome told (λ (bs : List ℕ). IsOutput command bs out.status out.text.items))
-over_told told command text (Err e) is h = tt
-over_told None command text (Ok out) is h = tt
-over_told (Some bs) command text (Ok out) is h = subst (λ (t : List ℕ). IsOutput command t out.status out.text.items) is h
+over_told told command text items (Err e) same is h = tt
+over_told None command text items (Ok out) same is h = tt
+over_told (Some bs) command text items (Ok out) same is h =
+    subst (λ (t : List ℕ). IsOutput command t out.status out.text.items) (same ∙ is) h
 
 refuses_told : (told : Option (List ℕ)) (command : Command) (text : List ℕ) (before now : ℕ) (s : Status)
     → IfSome told (λ (bs : List ℕ). text ≡ bs) → RefusesText command text s → Refuses command told before now s
@@ -65,11 +66,17 @@ refuses_told told command text before now ReadFault is h = absurd h
 refuses_told told command text before now WriteFault is h = absurd h
 refuses_told told command text before now (No cause) is h = absurd h
 
-pub refused_told : (told : Option (List ℕ)) (command : Command) (text : List ℕ) (before now : ℕ) (outcome : Result Output Status)
-    → IfSome told (λ (bs : List ℕ). text ≡ bs) → IfErr outcome (RefusesText command text)
+pub refused_told : (told : Option (List ℕ)) (command : Command) (text items : List ℕ) (before now : ℕ) (outcome : Result Output Status)
+    → text ≡ items → IfSome told (λ (bs : List ℕ). items ≡ bs) → IfErr outcome (RefusesText command text)
     → IfErr outcome (Refuses command told before now)
-refused_told told command text before now (Ok out) is h = tt
-refused_told told command text before now (Err s) is h = refuses_told told command text before now s is h
+refused_told told command text items before now (Ok out) same is h = tt
+refused_told told command text items before now (Err s) same is h =
+    refuses_told told command text before now s (read_as told text items same is) h
+  where
+    read_as : (told : Option (List ℕ)) (text items : List ℕ) → text ≡ items → IfSome told (λ (bs : List ℕ). items ≡ bs)
+        → IfSome told (λ (bs : List ℕ). text ≡ bs)
+    read_as None text items same is = tt
+    read_as (Some bs) text items same is = same ∙ is
 
 -- what a command puts out that reads nothing, over whatever text
 pub made_told : (told : Option (List ℕ)) (command : Command) (status : Status) (out : List ℕ)

@@ -7,4 +7,4 @@ use Rattle.un_top.proofs.produce.code_output.Goals as goal
 pub returns-in-Err-clause-refused : goal.returns-in-Err-clause-refused
 returns-in-Err-clause-refused c =
     subst (RefusesText RunCode c.args.text.now) (sym c.status_by.ensures)
-    (code_refused c.args.text.now c.in-Err.refused c.requires c.in-Err.ensures.refused)
+    (code_refused c.args.text.now c.in-Err.refused c.requires.few c.in-Err.ensures.refused)
