@@ -4,14 +4,17 @@ use Rattle.un_top.proofs.Answered.{output_by, refused_by, reads_alike}
 use Rattle.un_top.proofs.produce.produce.Goals as goal
 
 pub returns-in-Ok-clause-ok : goal.returns-in-Ok-clause-ok
-returns-in-Ok-clause-ok g c = output_by c.args.words.now c.in-Ok.command (g.S.Source.left c.args.src.now) c.serve.result c.in-Ok.ensures.ok c.serve.ensures.ok
+returns-in-Ok-clause-ok g c =
+    output_by c.args.words.now c.in-Ok.command (g.S.Source.left c.args.src.now) c.serve.result c.in-Ok.ensures.ok c.serve.ensures.ok
 
 pub returns-in-Ok-clause-refused : goal.returns-in-Ok-clause-refused
-returns-in-Ok-clause-refused g c = refused_by c.args.words.now c.in-Ok.command (g.S.Source.left c.args.src.now) (g.S.Source.faults c.args.src.now)
+returns-in-Ok-clause-refused g c =
+    refused_by c.args.words.now c.in-Ok.command (g.S.Source.left c.args.src.now) (g.S.Source.faults c.args.src.now)
     (g.S.Source.faults c.serve.new.src) c.serve.result c.in-Ok.ensures.ok c.serve.ensures.refused
 
 pub returns-in-Ok-clause-exactly_usage : goal.returns-in-Ok-clause-exactly_usage
-returns-in-Ok-clause-exactly_usage g c = λ place bad. absurd (command_is_good c.args.words.now c.in-Ok.command place c.in-Ok.ensures.ok bad)
+returns-in-Ok-clause-exactly_usage g c = λ place bad.
+    absurd (command_is_good c.args.words.now c.in-Ok.command place c.in-Ok.ensures.ok bad)
 
 pub returns-in-Ok-clause-end : goal.returns-in-Ok-clause-end
 returns-in-Ok-clause-end g c = λ command asked reads.

@@ -4,5 +4,6 @@ use Rattle.un_top.proofs.produce.report.Goals as goal
 
 pub returns-in-Err-TextFault-clause-refused : goal.returns-in-Err-TextFault-clause-refused
 returns-in-Err-TextFault-clause-refused c =
-    told_fault c.args.text.now c.in-Err-TextFault.field-0 c.in-Err-TextFault.line c.in-Err-TextFault.code c.in-Err-TextFault.line
-    c.in-Err-TextFault.code c.in-Err-TextFault.ensures.fault c.in-Err-TextFault.field-0-is refl refl
+    let at = c.in-Err-TextFault in
+    rw at.field-0-is
+    (told_fault c.args.text.now at.field-0 at.line at.code at.line at.code at.ensures.fault at.field-0-is refl refl)
