@@ -419,12 +419,14 @@ fn put_status(found: &mut Vec<u8>, status: Status) -> Result<(), NoMemory> {
         Status::Spent => put_text(found, b"spent"),
         Status::ReadFault => put_text(found, b"read fault"),
         Status::WriteFault => put_text(found, b"write fault"),
+        Status::NoMemory => put_text(found, b"no memory"),
         Status::Usage { word } => put_number_of(found, b"usage ", word),
+        Status::BadReport { line } => put_number_of(found, b"bad ", line),
         Status::TextFault { line, code } => {
             put_number_of(found, b"fault ", line)?;
             put_number_of(found, b" ", u32::from(code))
         }
-        _ => put_text(found, b"?"),
+        Status::No(_) => put_text(found, b"no"),
     }
 }
 

@@ -1,5 +1,6 @@
 -- What is so of every command: its numbers are in their ranges, its words are of no other, and each in its ranges has words.
-use Rattle.std.proofs.Common.{ℕ, ◌≡◌, ◌≤◌, List, [], ◌∷◌, ◌++◌, length, drop, Option, Some, None, Result, Ok, Err, All, codes, refl, sym, ap, subst, ◌∙◌, arith, lit≤}
+use Rattle.std.proofs.Common.{ℕ, ◌≡◌, ◌≤◌, inl, inr, List, [], ◌∷◌, ◌++◌, length, drop, Option, Some, None, Result, Ok, Err, All, codes, refl, sym, ap, subst, ◌∙◌, arith, lit≤}
+use Rattle.std.specs.Fmt.{decimal}
 use Rattle.std.specs.List.{flat_map, slice_get}
 use Rattle.std.specs.Option.{option_to_list, IfSome, unwrap_or}
 use Rattle.std.specs.Result.{IfOk, IfErr}
@@ -10,17 +11,19 @@ use Rattle.un_model.specs.Options.{IsCountOfRegisters}
 use Rattle.un_commands.specs.declared.command.SearchOptions.{SearchOptions}
 use Rattle.un_commands.specs.declared.command.TheConstants.{DEFAULT_NODES}
 use Rattle.un_commands.specs.declared.command.Command.{Command}
-use Rattle.un_commands.specs.declared.command.Command.TheVariants.{Alloc}
+use Rattle.un_commands.specs.declared.command.Command.TheVariants.{Alloc, Run, RunCode, Generate, GenerateAlloc}
 use Rattle.un_commands.specs.declared.setting.Setting.{Setting}
 use Rattle.un_commands.specs.declared.setting.Setting.TheVariants.{Nodes, Regs, Slots}
 use Rattle.un_commands.specs.declared.setting.Given.{Given}
 use Rattle.un_commands.specs.Alloc.{IsAlloc, AreSearchOptions}
 use Rattle.un_commands.specs.Commands.{IsCommand, IsBadWord, IsRanged}
 use Rattle.un_commands.specs.Places.{StandsAt}
-use Rattle.un_commands.specs.Settings.{IsCountOfNodes, IsInRange, words_of, nodes_in, regs_in, slots_in, Say, none_given, over_defaults}
+use Rattle.un_commands.specs.Settings.{IsCountOfNodes, IsInRange, words_of, nodes_in, regs_in, slots_in, Say, over_defaults}
 use Rattle.un_commands.proofs.AllocLaws.{line_of}
-use Rattle.un_commands.proofs.Openers.{opens_alloc, read_at, first_words}
-use Rattle.un_commands.proofs.SettingLaws.{begin_with, length_words, one_saying, all_values, say_nothing}
+use Rattle.un_commands.proofs.GenerateLaws.{plain, costed}
+use Rattle.un_commands.proofs.Openers.{opens_alloc, opens_run, opens_gen, read_at, first_words, IsGen, IsTail, ends, goes}
+use Rattle.un_commands.proofs.SettingLaws.{begin_with, length_words, one_saying, all_values}
+use Rattle.un_commands.proofs.Texts.{some_or_none, one_number}
 use Rattle.un_commands.proofs.WordLaws.{bad_word, command_is_good, bad_word_unique}
 
 each_nodes : (s : Setting) → IsInRange s → All IsCountOfNodes (nodes_in s)
@@ -71,6 +74,10 @@ settings_ranged ss given ranged said = record {
 -- the numbers of a command are in their ranges
 pub is_ranged : (words : List (List ℕ)) (command : Command) → IsCommand words command → IsRanged command
 is_ranged words (Alloc options) h = subst AreSearchOptions (sym h.chosen) (settings_ranged h.settings h.given h.ranged h.said)
+is_ranged words Run h = tt
+is_ranged words RunCode h = tt
+is_ranged words (Generate seed size) h = (h.seed_fits, h.size_in)
+is_ranged words (GenerateAlloc seed size nodes) h = (h.seed_fits, h.size_in, h.nodes_in)
 
 none_more : (more : List Setting) → length more ≡ 0 → more ≡ []
 none_more [] h = refl
@@ -91,10 +98,38 @@ one_alloc words o p a b =
     let same : b.settings ≡ a.settings = same_settings a.settings b.settings a.ranged b.ranged texts in
     a.chosen ∙ (ap over_defaults (one_saying a.settings a.given b.given a.said (subst (λ (ss : List Setting). Say ss b.given) same b.said)) ∙ sym b.chosen)
 
+one_tail : (words : List (List ℕ)) (a b : Command) (seed size seed' size' : ℕ) → seed ≡ seed' → size ≡ size' → IsTail words a seed size
+    → IsTail words b seed' size' → a ≡ b
+one_tail words a b seed size seed' size' seeds sizes (ends is e) (ends is' e') = cc
+one_tail words a b seed size seed' size' seeds sizes (ends is e) (goes n is' e' in_range number end) = absurd (some_or_none words 3 _ e' e)
+one_tail words a b seed size seed' size' seeds sizes (goes n is e in_range number end) (ends is' e') = absurd (some_or_none words 3 _ e e')
+one_tail words a b seed size seed' size' seeds sizes (goes m is e in_range number end) (goes n is' e' in_range' number' end') =
+    let same : m ≡ n = one_number words 4 m n (omega arith) (omega arith) number number' in cc
+
+one_gen : (words : List (List ℕ)) (a b : Command) → IsGen words a → IsGen words b → a ≡ b
+one_gen words a b g h = one_tail words a b g.seed g.size h.seed h.size
+    (one_number words 1 g.seed h.seed g.seed_fits h.seed_fits g.seed_at h.seed_at)
+    (one_number words 2 g.size h.size (omega arith) (omega arith) g.size_at h.size_at) g.tail h.tail
+
+one_run : (words : List (List ℕ)) → words ≡ codes "run" ∷ [] → words ≡ codes "run" ∷ codes "--code" ∷ [] → ⊥
+one_run words a b = some_or_none words 1 (codes "--code") (read_at words _ 1 b) (read_at words _ 1 a)
+
 -- words are those of one command at most
 pub one_command : (words : List (List ℕ)) (a b : Command) → IsCommand words a → IsCommand words b → a ≡ b
 one_command words (Alloc options) b h k = let opened = opens_alloc words b k (read_at words _ 0 h.spelled) in
     ap Alloc (one_alloc words options opened.0 h opened.2) ∙ sym opened.1
+one_command words Run b h k = elim (opens_run words b k (read_at words _ 0 h)) [
+  | inl plain_run ↦ sym plain_run.0
+  | inr with_code ↦ absurd (one_run words h with_code.1)
+]
+one_command words RunCode b h k = elim (opens_run words b k (read_at words _ 0 h)) [
+  | inl plain_run ↦ absurd (one_run words plain_run.1 h)
+  | inr with_code ↦ sym with_code.0
+]
+one_command words (Generate seed size) b h k = one_gen words (Generate seed size) b
+    (opens_gen words (Generate seed size) h (read_at words _ 0 h.spelled)) (opens_gen words b k (read_at words _ 0 h.spelled))
+one_command words (GenerateAlloc seed size nodes) b h k = one_gen words (GenerateAlloc seed size nodes) b
+    (opens_gen words (GenerateAlloc seed size nodes) h (read_at words _ 0 h.spelled)) (opens_gen words b k (read_at words _ 0 h.spelled))
 
 -- settings for all options
 abbrev all_settings : ℕ → Option ℕ → ℕ → List Setting
@@ -129,14 +164,23 @@ can_be_asked options h = record {
 -- each command whose numbers are in their ranges has words
 pub words_for : (command : Command) → IsRanged command → (words : List (List ℕ)) × IsCommand words command
 words_for (Alloc options) h = (line_of (all_settings options.nodes options.regs options.slots), can_be_asked options h)
+words_for Run h = (codes "run" ∷ [], refl)
+words_for RunCode h = (codes "run" ∷ codes "--code" ∷ [], refl)
+words_for (Generate seed size) h = (codes "gen" ∷ decimal seed ∷ decimal size ∷ [], plain seed size h.0 h.1)
+words_for (GenerateAlloc seed size nodes) h = (
+  codes "gen" ∷ decimal seed ∷ decimal size ∷ codes "--nodes" ∷ decimal nodes ∷ [],
+  costed seed size nodes h.0 h.1 h.2,
+)
 
 -- no command begins with another first word
-pub bad_first : (words : List (List ℕ)) → ¬ StandsAt words 0 (codes "alloc") → IsBadWord words 0
-bad_first words alloc = bad_word words 0 (Alloc (over_defaults none_given)) (codes "alloc" ∷ []) plain_alloc refl
-    (λ other others is alike. alloc (alike 0 (omega arith) ∙ first_words others other is))
-  where
-    plain_alloc : IsAlloc (codes "alloc" ∷ []) (over_defaults none_given)
-    plain_alloc = record { settings = []; given = none_given; spelled = refl; ranged = All-nil IsInRange; said = say_nothing; chosen = refl }
+pub bad_first : (words : List (List ℕ)) → ¬ StandsAt words 0 (codes "alloc") → ¬ StandsAt words 0 (codes "run")
+    → ¬ StandsAt words 0 (codes "gen") → IsBadWord words 0
+bad_first words alloc run gen = bad_word words 0 Run (codes "run" ∷ []) refl refl
+    (λ other others is alike. elim (first_words others other is) [
+      | inl e ↦ alloc (alike 0 (omega arith) ∙ e)
+      | inr (inl e) ↦ run (alike 0 (omega arith) ∙ e)
+      | inr (inr e) ↦ gen (alike 0 (omega arith) ∙ e)
+    ])
 
 -- an answer that is a command of the words, or the place of their first bad one
 pub exactly : (words : List (List ℕ)) (answer : Result Command ℕ) → IfOk answer (IsCommand words) → IfErr answer (IsBadWord words)

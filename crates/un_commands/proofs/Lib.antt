@@ -1,9 +1,11 @@
 pub mod AllocLaws
 pub mod CommandLaws
 pub mod Firsts
+pub mod GenerateLaws
 pub mod Openers
 pub mod PlaceLaws
 pub mod Rows
+pub mod RunLaws
 pub mod SettingLaws
 pub mod Texts
 pub mod WordLaws

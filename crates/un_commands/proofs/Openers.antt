@@ -1,19 +1,81 @@
 -- What the first word of a command says of it.
-use Rattle.std.proofs.Common.{ℕ, ◌≡◌, List, Some, codes, ap, refl}
+use Rattle.std.proofs.Common.{ℕ, ◌≡◌, ◌<◌, ◌^◌, ◌⊎◌, inl, inr, List, [], ◌∷◌, Some, None, codes, ap, refl, arith}
+use Rattle.std.specs.Fmt.{decimal}
 use Rattle.std.specs.List.{slice_get}
 use Rattle.un_commands.specs.declared.command.SearchOptions.{SearchOptions}
 use Rattle.un_commands.specs.declared.command.Command.{Command}
-use Rattle.un_commands.specs.declared.command.Command.TheVariants.{Alloc}
+use Rattle.un_commands.specs.declared.command.Command.TheVariants.{Alloc, Run, RunCode, Generate, GenerateAlloc}
 use Rattle.un_commands.specs.Alloc.{IsAlloc}
 use Rattle.un_commands.specs.Commands.{IsCommand}
+use Rattle.un_commands.specs.Generate.{IsSize}
 use Rattle.un_commands.specs.Places.{StandsAt}
+use Rattle.un_commands.specs.Settings.{IsCountOfNodes}
+use Rattle.un_commands.proofs.Texts.{other_first}
 
 pub opens_alloc : (words : List (List ℕ)) (command : Command) → IsCommand words command → slice_get words 0 ≡ Some (codes "alloc")
     → (options : SearchOptions) × (command ≡ Alloc options) × IsAlloc words options
 opens_alloc words (Alloc options) h first = (options, refl, h)
+opens_alloc words Run h first = absurd (other_first 114 97 _ _ _ words (λ e. omega arith) h first)
+opens_alloc words RunCode h first = absurd (other_first 114 97 _ _ _ words (λ e. omega arith) h first)
+opens_alloc words (Generate seed size) h first = absurd (other_first 103 97 _ _ _ words (λ e. omega arith) h.spelled first)
+opens_alloc words (GenerateAlloc seed size nodes) h first = absurd (other_first 103 97 _ _ _ words (λ e. omega arith) h.spelled first)
+
+pub opens_run : (words : List (List ℕ)) (command : Command) → IsCommand words command → slice_get words 0 ≡ Some (codes "run")
+    → ((command ≡ Run) × (words ≡ codes "run" ∷ [])) ⊎ ((command ≡ RunCode) × (words ≡ codes "run" ∷ codes "--code" ∷ []))
+opens_run words (Alloc options) h first = absurd (other_first 97 114 _ _ _ words (λ e. omega arith) h.spelled first)
+opens_run words Run h first = inl (refl, h)
+opens_run words RunCode h first = inr (refl, h)
+opens_run words (Generate seed size) h first = absurd (other_first 103 114 _ _ _ words (λ e. omega arith) h.spelled first)
+opens_run words (GenerateAlloc seed size nodes) h first = absurd (other_first 103 114 _ _ _ words (λ e. omega arith) h.spelled first)
+
+-- what stands behind a size: nothing, or a number of nodes
+pub data IsTail (words : List (List ℕ)) (command : Command) (seed size : ℕ) : Type 0 where
+  ends : command ≡ Generate seed size → slice_get words 3 ≡ None → IsTail words command seed size
+  goes : (n : ℕ) → command ≡ GenerateAlloc seed size n → slice_get words 3 ≡ Some (codes "--nodes") → IsCountOfNodes n
+      → slice_get words 4 ≡ Some (decimal n) → slice_get words 5 ≡ None → IsTail words command seed size
+
+-- the words of a command that begins with `gen`
+pub record IsGen (words : List (List ℕ)) (command : Command) : Type 0 where
+  pub seed : ℕ
+  pub size : ℕ
+  pub seed_fits : seed < 2 ^ 64
+  pub size_in : IsSize size
+  pub seed_at : slice_get words 1 ≡ Some (decimal seed)
+  pub size_at : slice_get words 2 ≡ Some (decimal size)
+  pub tail : IsTail words command seed size
 
 pub read_at : (words more : List (List ℕ)) (place : ℕ) → words ≡ more → slice_get words place ≡ slice_get more place
 read_at words more place e = ap (λ (ws : List (List ℕ)). slice_get ws place) e
 
-pub first_words : (words : List (List ℕ)) (command : Command) → IsCommand words command → StandsAt words 0 (codes "alloc")
-first_words words (Alloc options) h = read_at words _ 0 h.spelled
+pub opens_gen : (words : List (List ℕ)) (command : Command) → IsCommand words command → slice_get words 0 ≡ Some (codes "gen")
+    → IsGen words command
+opens_gen words (Alloc options) h first = absurd (other_first 97 103 _ _ _ words (λ e. omega arith) h.spelled first)
+opens_gen words Run h first = absurd (other_first 114 103 _ _ _ words (λ e. omega arith) h first)
+opens_gen words RunCode h first = absurd (other_first 114 103 _ _ _ words (λ e. omega arith) h first)
+opens_gen words (Generate seed size) h first = record {
+  seed = seed;
+  size = size;
+  seed_fits = h.seed_fits;
+  size_in = h.size_in;
+  seed_at = read_at words _ 1 h.spelled;
+  size_at = read_at words _ 2 h.spelled;
+  tail = ends refl (read_at words _ 3 h.spelled);
+}
+opens_gen words (GenerateAlloc seed size nodes) h first = record {
+  seed = seed;
+  size = size;
+  seed_fits = h.seed_fits;
+  size_in = h.size_in;
+  seed_at = read_at words _ 1 h.spelled;
+  size_at = read_at words _ 2 h.spelled;
+  tail = goes nodes refl (read_at words _ 3 h.spelled) h.nodes_in (read_at words _ 4 h.spelled) (read_at words _ 5 h.spelled);
+}
+
+pub first_words : (words : List (List ℕ)) (command : Command) → IsCommand words command
+    → StandsAt words 0 (codes "alloc")
+    ⊎ (StandsAt words 0 (codes "run") ⊎ StandsAt words 0 (codes "gen"))
+first_words words (Alloc options) h = inl (read_at words _ 0 h.spelled)
+first_words words Run h = inr (inl (read_at words _ 0 h))
+first_words words RunCode h = inr (inl (read_at words _ 0 h))
+first_words words (Generate seed size) h = inr (inr (read_at words _ 0 h.spelled))
+first_words words (GenerateAlloc seed size nodes) h = inr (inr (read_at words _ 0 h.spelled))

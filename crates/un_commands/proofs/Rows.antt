@@ -1,9 +1,9 @@
 -- Lines of words, and what they are.
-use Rattle.std.proofs.Common.{ℕ, ◌≡◌, ◌+◌, ◌<◌, ◌^◌, List, [], ◌∷◌, get_or, Some, None, codes, refl, sym, ap, arith, lit≤, lit<}
+use Rattle.std.proofs.Common.{ℕ, ◌≡◌, ◌+◌, ◌<◌, ◌^◌, inl, inr, List, [], ◌∷◌, ◌++◌, get_or, Some, None, codes, refl, sym, ap, ◌∙◌, arith, lit≤, lit<}
 use Rattle.std.specs.Fmt.{decimal}
 use Rattle.std.proofs.lemmas.Bool.{eqb-false}
-use Rattle.std.proofs.lemmas.Fmt.{decimal_digit, decimal_injective}
-use Rattle.un_commands.specs.declared.command.Command.TheVariants.{Alloc}
+use Rattle.std.proofs.lemmas.Fmt.{decimal_digit, decimal_step, decimal_injective}
+use Rattle.un_commands.specs.declared.command.Command.TheVariants.{Alloc, RunCode}
 use Rattle.un_commands.specs.declared.setting.Setting.{Setting}
 use Rattle.un_commands.specs.declared.setting.Setting.TheVariants.{Nodes, Regs, Slots}
 use Rattle.un_commands.specs.Commands.{IsCommand, IsBadWord}
@@ -11,9 +11,18 @@ use Rattle.un_commands.specs.Places.{StandsAt, IsFresh}
 use Rattle.un_commands.specs.Settings.{IsInRange, flag_of, number_of, none_given, with_setting}
 use Rattle.un_commands.proofs.AllocLaws.{so_far_none, so_far_more, is_alloc, bad_flag, bad_value}
 use Rattle.un_commands.proofs.CommandLaws.{bad_first}
+use Rattle.un_commands.proofs.GenerateLaws.{bad_size, bad_nodes}
+use Rattle.un_commands.proofs.Openers.{opens_run, read_at}
+use Rattle.un_commands.proofs.WordLaws.{bad_word}
 
 digit : (n : ℕ) → n < 10 → (48 + n) ∷ [] ≡ decimal n
 digit n h = sym (decimal_digit n h)
+
+sixteen : codes "16" ≡ decimal 16
+sixteen = sym (decimal_step 16 (lit≤ tt) (lit< tt) ∙ ap (λ (ds : List ℕ). ds ++ 54 ∷ []) (decimal_digit 1 (lit< tt)))
+
+seventeen : codes "17" ≡ decimal 17
+seventeen = sym (decimal_step 17 (lit≤ tt) (lit< tt) ∙ ap (λ (ds : List ℕ). ds ++ 55 ∷ []) (decimal_digit 1 (lit< tt)))
 
 -- a word that writes another number
 other_number : (word : List ℕ) (m n : ℕ) → word ≡ decimal m → m < 2 ^ 64 → n < 2 ^ 64 → Some word ≡ Some (decimal n) → m ≡ n
@@ -21,7 +30,7 @@ other_number word m n is small_m small_n e = let same : decimal m ≡ decimal n 
 
 -- no words at all
 nothing : IsBadWord [] 0
-nothing = bad_first [] (λ e. no _ e)
+nothing = bad_first [] (λ e. no _ e) (λ e. no _ e) (λ e. no _ e)
   where
     no : (w : List ℕ) → None ≡ Some w → ⊥
     no w e = cc
@@ -92,3 +101,35 @@ slots_and_nodes = is_alloc both 5 _
 -- `alloc` alone
 alone : IsCommand (codes "alloc" ∷ []) (Alloc (record { nodes = 2000; regs = None; slots = 64 }))
 alone = is_alloc (codes "alloc" ∷ []) 1 none_given (so_far_none (codes "alloc" ∷ []) refl) refl
+
+-- `gen 7`
+no_size : IsBadWord (codes "gen" ∷ codes "7" ∷ []) 2
+no_size = bad_size (codes "gen" ∷ codes "7" ∷ []) 7 refl (lit< tt) (ap Some (digit 7 (lit< tt))) (λ n low high e. no _ e)
+  where
+    no : (w : List ℕ) → None ≡ Some w → ⊥
+    no w e = cc
+
+-- `gen 7 17`
+large_size : IsBadWord (codes "gen" ∷ codes "7" ∷ codes "17" ∷ []) 2
+large_size = bad_size (codes "gen" ∷ codes "7" ∷ codes "17" ∷ []) 7 refl (lit< tt) (ap Some (digit 7 (lit< tt)))
+    (λ n low high e. let same : 17 ≡ n = other_number (codes "17") 17 n seventeen (lit< tt) (omega arith) e in omega arith)
+
+-- `gen 7 16 --nodes`
+no_count : IsBadWord (codes "gen" ∷ codes "7" ∷ codes "16" ∷ codes "--nodes" ∷ []) 4
+no_count = bad_nodes (codes "gen" ∷ codes "7" ∷ codes "16" ∷ codes "--nodes" ∷ []) 7 16
+    (record { gen = refl; seed_at = ap Some (digit 7 (lit< tt)); size_at = ap Some sixteen; seed_fits = lit< tt; size_in = (lit≤ tt, lit≤ tt) })
+    refl (λ n low high e. no _ e)
+  where
+    no : (w : List ℕ) → None ≡ Some w → ⊥
+    no w e = cc
+
+-- `run --code x`
+word_more : IsBadWord (codes "run" ∷ codes "--code" ∷ codes "x" ∷ []) 2
+word_more = bad_word (codes "run" ∷ codes "--code" ∷ codes "x" ∷ []) 2 RunCode (codes "run" ∷ codes "--code" ∷ []) refl refl
+    (λ other others is alike. elim (opens_run others other is (sym (alike 0 (lit< tt)))) [
+      | inl alone_run ↦ no _ (alike 1 (lit< tt) ∙ read_at others _ 1 alone_run.1)
+      | inr with_code ↦ no _ (alike 2 (lit< tt) ∙ read_at others _ 2 with_code.1)
+    ])
+  where
+    no : (w : List ℕ) → Some w ≡ None → ⊥
+    no w e = cc

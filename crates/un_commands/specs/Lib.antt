@@ -1,4 +1,5 @@
 pub mod Alloc
 pub mod Commands
+pub mod Generate
 pub mod Places
 pub mod Settings

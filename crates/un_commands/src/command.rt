@@ -8,6 +8,9 @@ pub const MOST_NODES: u32 = 200_000;
 /// How many nodes the tree of a search may have where no number is given.
 pub const DEFAULT_NODES: u32 = 2_000;
 
+/// The largest size of a function that is made.
+pub const MOST_SIZE: u32 = 16;
+
 /// What a search may use: so many nodes of its tree, 1 to 200,000, the registers r0 to r(n − 1), where n is 1 to 29, or all,
 /// and so many frame slots, at most 64.
 #[derive(Clone, Copy)]
@@ -37,4 +40,12 @@ impl SearchOptions {
 pub enum Command {
     /// The report of a function, with its code.
     Alloc(SearchOptions),
+    /// What a function does from a start.
+    Run,
+    /// What code does from a start.
+    RunCode,
+    /// The function that is made from a seed, with so many blocks, 1 to 16.
+    Generate { seed: u64, size: u32 },
+    /// The report of such a function, by a search of so many nodes, 1 to 200,000.
+    GenerateAlloc { seed: u64, size: u32, nodes: u32 },
 }

@@ -3,7 +3,9 @@
 
 mod alloc;
 pub mod command;
+mod generate;
 pub mod laws;
 pub mod line;
 mod place;
+mod run;
 pub mod setting;

@@ -5,6 +5,8 @@ ghost use Rattle.un_commands.specs.Commands.{IsCommand, IsBadWord, IsRanged};
 
 use crate::alloc::read_alloc;
 use crate::command::Command;
+use crate::generate::read_generate;
+use crate::run::read_run;
 use un_outside::words::Word;
 
 /// The command that the words are, with its numbers in their ranges. It takes no memory.
@@ -23,6 +25,10 @@ pub fn read_command(words: &[Word]) -> Result<Command, u32>
     };
     if first.is(b"alloc") {
         read_alloc(words)
+    } else if first.is(b"run") {
+        read_run(words)
+    } else if first.is(b"gen") {
+        read_generate(words)
     } else {
         Err(0)
     }

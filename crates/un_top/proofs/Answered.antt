@@ -1,5 +1,5 @@
 -- What the answers before writing say of the answer of a run.
-use Rattle.std.proofs.Common.{ℕ, ◌≡◌, ◌<◌, ◌⊎◌, inl, inr, List, [], append-nil, length, subst, refl, sym, ap, ◌∙◌}
+use Rattle.std.proofs.Common.{ℕ, ◌≡◌, ◌<◌, ◌⊎◌, inl, inr, Bool, true, false, List, [], append-nil, length, subst, refl, sym, ap, ◌∙◌, arith}
 use Rattle.std.specs.declared.option.Option.{Option}
 use Rattle.std.specs.declared.option.Option.TheVariants.{Some, None}
 use Rattle.std.specs.declared.result.Result.{Result}
@@ -11,24 +11,184 @@ use Rattle.un_outside.specs.Causes.{AppendsPrefix}
 use Rattle.un_outside.specs.declared.status.Status.{Status}
 use Rattle.un_outside.specs.declared.status.Status.TheVariants.{Done, Infeasible, Spent, TextFault, Usage, ReadFault, WriteFault, NoMemory, No}
 use Rattle.un_outside.specs.declared.status.Status.TheVariants.{BadReport}
-use Rattle.un_ir.specs.declared.function.Function.{Function}
-use Rattle.un_reader.specs.declared.limits.TheConstants.{TEXT}
-use Rattle.un_reader.specs.Read.{IsRead, IsTextFault, too_long}
+use Rattle.std.proofs.lemmas.Bool.{true≢false}
+use Rattle.un_reader.specs.Read.{IsTextFault, too_long}
 use Rattle.un_faults.specs.declared.fault.Fault.TheVariants.{TooMany}
-use Rattle.un_top.specs.Faults.{IsFault}
+use Rattle.un_runs.specs.Inputs.{first_part}
+use Rattle.un_commands.proofs.CommandLaws.{one_command}
 use Rattle.un_commands.specs.Commands.{IsCommand}
 use Rattle.un_commands.specs.declared.command.Command.{Command}
-use Rattle.un_commands.specs.declared.command.Command.TheVariants.{Alloc}
-use Rattle.un_top.specs.declared.produce.Output.{Output}
-use Rattle.un_top.specs.Runs.{AnswersFault, AnswersAccepted, IsAnswer, IsRefusal, IsOutput, IsOutputOf, IsWritten, Wrote, KeepsOut, OutAfter}
+use Rattle.un_commands.specs.declared.command.Command.TheVariants.{Alloc, Run, RunCode, Generate, GenerateAlloc}
+use Rattle.un_top.specs.declared.output.Output.{Output}
+use Rattle.un_top.specs.Runs.{reads_input, most_bytes, IsFaultIn, IsBadIn, IsFaultless, IsFaultOf, IsBadOf, AnswersFault, AnswersAccepted, IsAnswer}
+use Rattle.un_top.specs.Runs.{RefusesText, Refuses, RefusesWords}
+use Rattle.un_top.specs.Runs.{IsRefusal, IsOutput, IsOutputOf, IsWritten, Wrote, KeepsOut, OutAfter}
 use Rattle.un_top.proofs.FaultLaws.{fault_unique, read_has_no_fault}
 
--- a text that is too long has its fault
-pub too_long_fault : (told : Option (List ℕ)) (line code : ℕ) → 0 ≡ line → 13 ≡ code
-    → IfSome told (λ (bs : List ℕ). TEXT < length bs) → IfSome told (λ (text : List ℕ). IsFault text line code)
-too_long_fault None line code p q h = tt
-too_long_fault (Some text) line code p q h =
-    record { fault = TooMany; is = subst (λ (l : ℕ). IsTextFault text l TooMany) p (too_long h); coded = sym q }
+-- an input that is too long has its fault
+too_long_in : (told : Option (List ℕ)) (command : Command) → reads_input command ≡ true
+    → IfSome told (λ (bs : List ℕ). most_bytes command < length bs) → IfSome told (λ (text : List ℕ). IsFaultIn command text 0 13)
+too_long_in None command reads h = tt
+too_long_in (Some text) (Alloc o) reads h = record { fault = TooMany; is = too_long h; coded = refl }
+too_long_in (Some text) Run reads h = inl (record { long = h; no_line = refl; too_many = refl })
+too_long_in (Some text) RunCode reads h = record { long = h; no_line = refl; too_many = refl }
+too_long_in (Some text) (Generate seed size) reads h = absurd (true≢false (sym reads))
+too_long_in (Some text) (GenerateAlloc seed size nodes) reads h = absurd (true≢false (sym reads))
+
+pub too_long_by : (told : Option (List ℕ)) (command : Command) (max : ℕ) → max ≡ most_bytes command → reads_input command ≡ true
+    → IfSome told (λ (bs : List ℕ). max < length bs) → IfSome told (λ (text : List ℕ). IsFaultIn command text 0 13)
+too_long_by told command max most reads h =
+    too_long_in told command reads (subst (λ (n : ℕ). IfSome told (λ (bs : List ℕ). n < length bs)) most h)
+
+-- ---- from the text that was read to the source, and from the command to its words
+
+-- what a command puts out over the text that was read is that over the source's
+pub over_told : (told : Option (List ℕ)) (command : Command) (text items : List ℕ) (outcome : Result Output Status) → text ≡ items
+    → IfSome told (λ (bs : List ℕ). items ≡ bs) → IfOk outcome (λ out. IsOutput command text out.status out.text.items)
+    → IfOk outcome (λ out. IfSome told (λ (bs : List ℕ). IsOutput command bs out.status out.text.items))
+over_told told command text items (Err e) same is h = tt
+over_told None command text items (Ok out) same is h = tt
+over_told (Some bs) command text items (Ok out) same is h =
+    subst (λ (t : List ℕ). IsOutput command t out.status out.text.items) (same ∙ is) h
+
+refuses_told : (told : Option (List ℕ)) (command : Command) (text : List ℕ) (before now : ℕ) (s : Status)
+    → IfSome told (λ (bs : List ℕ). text ≡ bs) → RefusesText command text s → Refuses command told before now s
+refuses_told None command text before now (TextFault l c) is h = tt
+refuses_told (Some bs) command text before now (TextFault l c) is h = subst (λ (t : List ℕ). IsFaultIn command t l c) is h
+refuses_told None command text before now (BadReport l) is h = tt
+refuses_told (Some bs) command text before now (BadReport l) is h = subst (λ (t : List ℕ). IsBadIn command t l) is h
+refuses_told told command text before now NoMemory is h = tt
+refuses_told told command text before now Done is h = absurd h
+refuses_told told command text before now Infeasible is h = absurd h
+refuses_told told command text before now Spent is h = absurd h
+refuses_told told command text before now (Usage place) is h = absurd h
+refuses_told told command text before now ReadFault is h = absurd h
+refuses_told told command text before now WriteFault is h = absurd h
+refuses_told told command text before now (No cause) is h = absurd h
+
+pub refused_told : (told : Option (List ℕ)) (command : Command) (text items : List ℕ) (before now : ℕ) (outcome : Result Output Status)
+    → text ≡ items → IfSome told (λ (bs : List ℕ). items ≡ bs) → IfErr outcome (RefusesText command text)
+    → IfErr outcome (Refuses command told before now)
+refused_told told command text items before now (Ok out) same is h = tt
+refused_told told command text items before now (Err s) same is h =
+    refuses_told told command text before now s (read_as told text items same is) h
+  where
+    read_as : (told : Option (List ℕ)) (text items : List ℕ) → text ≡ items → IfSome told (λ (bs : List ℕ). items ≡ bs)
+        → IfSome told (λ (bs : List ℕ). text ≡ bs)
+    read_as None text items same is = tt
+    read_as (Some bs) text items same is = same ∙ is
+
+-- what a command puts out that reads nothing, over whatever text
+pub made_told : (told : Option (List ℕ)) (command : Command) (status : Status) (out : List ℕ)
+    → ((text : List ℕ) → IsOutput command text status out) → IfSome told (λ (text : List ℕ). IsOutput command text status out)
+made_told None command status out output = tt
+made_told (Some text) command status out output = output text
+
+pub output_by : (words : List (List ℕ)) (command : Command) (told : Option (List ℕ)) (outcome : Result Output Status)
+    → IsCommand words command
+    → IfOk outcome (λ out. IfSome told (λ (text : List ℕ). IsOutput command text out.status out.text.items))
+    → IfOk outcome (λ out. IfSome told (λ (text : List ℕ). IsOutputOf words text out.status out.text.items))
+output_by words command told (Err s) asked h = tt
+output_by words command None (Ok out) asked h = tt
+output_by words command (Some text) (Ok out) asked h = record { command = command; asked = asked; output = h }
+
+refuses_by : (words : List (List ℕ)) (command : Command) (told : Option (List ℕ)) (before now : ℕ) (s : Status) → IsCommand words command
+    → Refuses command told before now s → RefusesWords words told before now s
+refuses_by words command None before now (TextFault l c) asked h = tt
+refuses_by words command (Some text) before now (TextFault l c) asked h = record { command = command; asked = asked; fault = h }
+refuses_by words command None before now (BadReport l) asked h = tt
+refuses_by words command (Some text) before now (BadReport l) asked h = record { command = command; asked = asked; bad = h }
+refuses_by words command told before now ReadFault asked h = h
+refuses_by words command told before now NoMemory asked h = tt
+refuses_by words command told before now Done asked h = absurd h
+refuses_by words command told before now Infeasible asked h = absurd h
+refuses_by words command told before now Spent asked h = absurd h
+refuses_by words command told before now (Usage place) asked h = absurd h
+refuses_by words command told before now WriteFault asked h = absurd h
+refuses_by words command told before now (No cause) asked h = absurd h
+
+pub refused_by : (words : List (List ℕ)) (command : Command) (told : Option (List ℕ)) (before now : ℕ) (outcome : Result Output Status)
+    → IsCommand words command → IfErr outcome (Refuses command told before now) → IfErr outcome (RefusesWords words told before now)
+refused_by words command told before now (Ok out) asked h = tt
+refused_by words command told before now (Err s) asked h = refuses_by words command told before now s asked h
+
+-- words of one command read an input as it does
+pub reads_alike : (words : List (List ℕ)) (a b : Command) (reads : Bool) → IsCommand words a → IsCommand words b → reads_input b ≡ reads
+    → reads_input a ≡ reads
+reads_alike words a b reads x y e = ap reads_input (one_command words a b x y) ∙ e
+
+-- ---- what a refusal says
+
+is_refusal : (words : List (List ℕ)) (told : Option (List ℕ)) (before now : ℕ) (s : Status) → RefusesWords words told before now s
+    → IsRefusal s
+is_refusal words told before now Done h = h
+is_refusal words told before now Infeasible h = h
+is_refusal words told before now Spent h = h
+is_refusal words told before now (TextFault l c) h = tt
+is_refusal words told before now (Usage place) h = tt
+is_refusal words told before now ReadFault h = tt
+is_refusal words told before now WriteFault h = h
+is_refusal words told before now NoMemory h = tt
+is_refusal words told before now (No cause) h = h
+is_refusal words told before now (BadReport l) h = tt
+
+pub only_of : (words : List (List ℕ)) (told : Option (List ℕ)) (before now : ℕ) (outcome : Result Output Status)
+    → IfErr outcome (RefusesWords words told before now) → IfErr outcome IsRefusal
+only_of words told before now (Ok out) h = tt
+only_of words told before now (Err s) h = is_refusal words told before now s h
+
+pub refusal_at : (outcome : Result Output Status) (s : Status) (P : Status → Type 0) → IfErr outcome P → outcome ≡ Err s → P s
+refusal_at (Ok out) s P h e = absurd (cc e)
+refusal_at (Err x) s P h e = let same : x ≡ s = cc e in subst P same h
+
+-- ---- what a command reads has one fault at most, and with it no output and no bad line
+
+one_fault : (command : Command) (text : List ℕ) (l c line code : ℕ) → IsFaultIn command text l c → IsFaultIn command text line code
+    → (l ≡ line) × (c ≡ code)
+one_fault (Alloc o) text l c line code a b = fault_unique text l c line code a b
+one_fault Run text l c line code (inl a) (inl b) = (a.no_line ∙ sym b.no_line, a.too_many ∙ sym b.too_many)
+one_fault Run text l c line code (inl a) (inr b) = absurd (let long = a.long in let short = b.0 in omega (arith, long, short))
+one_fault Run text l c line code (inr a) (inl b) = absurd (let long = b.long in let short = a.0 in omega (arith, long, short))
+one_fault Run text l c line code (inr a) (inr b) = fault_unique (first_part text) l c line code a.1 b.1
+one_fault RunCode text l c line code a b = (a.no_line ∙ sym b.no_line, a.too_many ∙ sym b.too_many)
+one_fault (Generate seed size) text l c line code a b = absurd a
+one_fault (GenerateAlloc seed size nodes) text l c line code a b = absurd a
+
+pub output_has_none : (command : Command) (text : List ℕ) (status : Status) (out : List ℕ) (line code : ℕ) → IsOutput command text status out
+    → IsFaultIn command text line code → ⊥
+output_has_none (Alloc o) text status out line code h f = read_has_no_fault text h.function line code h.read f
+output_has_none Run text status out line code h (inl f) = let long = f.long in let short = h.1 in omega (arith, long, short)
+output_has_none Run text status out line code h (inr f) = let run = h.2 in read_has_no_fault (first_part text) run.function line code run.read f.1
+output_has_none RunCode text status out line code h f = let long = f.long in let short = h.1 in omega (arith, long, short)
+output_has_none (Generate seed size) text status out line code h f = f
+output_has_none (GenerateAlloc seed size nodes) text status out line code h f = f
+
+pub bad_has_none : (command : Command) (text : List ℕ) (l line code : ℕ) → IsBadIn command text l → IsFaultIn command text line code → ⊥
+bad_has_none (Alloc o) text l line code b f = b
+bad_has_none Run text l line code b (inl f) = let long = f.long in let short = b.0 in omega (arith, long, short)
+bad_has_none Run text l line code b (inr f) = let run = b.1 in read_has_no_fault (first_part text) run.function line code run.read f.1
+bad_has_none RunCode text l line code b f = let long = f.long in let short = b.0 in omega (arith, long, short)
+bad_has_none (Generate seed size) text l line code b f = b
+bad_has_none (GenerateAlloc seed size nodes) text l line code b f = b
+
+pub faultless_has_none : (command : Command) (text : List ℕ) (line code : ℕ) → IsFaultless command text → IsFaultIn command text line code → ⊥
+faultless_has_none (Alloc o) text line code a f = read_has_no_fault text a.0 line code a.1 f
+faultless_has_none Run text line code a (inl f) = let long = f.long in let short = a.0 in omega (arith, long, short)
+faultless_has_none Run text line code a (inr f) = let read = a.1 in read_has_no_fault (first_part text) read.0 line code read.1 f.1
+faultless_has_none RunCode text line code a f = let long = f.long in omega (arith, long, a)
+faultless_has_none (Generate seed size) text line code a f = f
+faultless_has_none (GenerateAlloc seed size nodes) text line code a f = f
+
+-- ---- the same by words, which are those of one command
+
+pub fault_as : (words : List (List ℕ)) (command : Command) (text : List ℕ) (line code : ℕ) → IsCommand words command
+    → IsFaultOf words text line code → IsFaultIn command text line code
+fault_as words command text line code asked h =
+    subst (λ (k : Command). IsFaultIn k text line code) (one_command words h.command command h.asked asked) h.fault
+
+pub one_fault_of : (words : List (List ℕ)) (text : List ℕ) (l c line code : ℕ) → IsFaultOf words text l c → IsFaultOf words text line code
+    → (l ≡ line) × (c ≡ code)
+one_fault_of words text l c line code a b = one_fault a.command text l c line code a.fault (fault_as words a.command text line code a.asked b)
 
 -- a status that is none of those of writing comes from before it
 pub from_before : (outcome : Result Output Status) (status s : Status) (old new : Option (List ℕ)) → IfErr outcome (λ e. status ≡ e)
@@ -39,64 +199,53 @@ from_before (Ok x) status s old new err own (inl done) e not_written not_write =
 from_before (Ok x) status s old new err own (inr fault) e not_written not_write = absurd (not_write (sym e ∙ fault.0))
 from_before (Err x) status s old new err own wrote e not_written not_write = let same : x ≡ s = sym err ∙ e in cc
 
--- a refusal before writing answers the text's fault
-pub refused_fault : (text : List ℕ) (line code : ℕ) (s : Status) → IsRefusal s
-    → ((l c : ℕ) → s ≡ TextFault l c → IsFault text l c) → IsFault text line code → AnswersFault s line code
-refused_fault text line code Done r f h = absurd r
-refused_fault text line code Infeasible r f h = absurd r
-refused_fault text line code Spent r f h = absurd r
-refused_fault text line code (TextFault l c) r f h = fault_unique text l c line code (f l c refl) h
-refused_fault text line code (Usage place) r f h = tt
-refused_fault text line code ReadFault r f h = tt
-refused_fault text line code WriteFault r f h = absurd r
-refused_fault text line code NoMemory r f h = tt
-refused_fault text line code (No cause) r f h = absurd r
-refused_fault text line code (BadReport l) r f h = absurd r
+-- a refusal before writing answers the input's fault
+refused_fault : (words : List (List ℕ)) (text : List ℕ) (line code before now : ℕ) (s : Status)
+    → RefusesWords words (Some text) before now s → IsFaultOf words text line code → AnswersFault s line code
+refused_fault words text line code before now Done r h = absurd r
+refused_fault words text line code before now Infeasible r h = absurd r
+refused_fault words text line code before now Spent r h = absurd r
+refused_fault words text line code before now (TextFault l c) r h = one_fault_of words text l c line code r h
+refused_fault words text line code before now (Usage place) r h = tt
+refused_fault words text line code before now ReadFault r h = tt
+refused_fault words text line code before now WriteFault r h = absurd r
+refused_fault words text line code before now NoMemory r h = tt
+refused_fault words text line code before now (No cause) r h = absurd r
+refused_fault words text line code before now (BadReport l) r h =
+    absurd (bad_has_none r.command text l line code r.bad (fault_as words r.command text line code r.asked h))
 
--- what has an output is the text of a function
-text_of : (command : Command) (text : List ℕ) (status : Status) (out : List ℕ) → IsOutput command text status out
-    → (f : Function) × IsRead text f
-text_of (Alloc o) text status out h = (h.function, h.read)
-
--- an output of the command that the words are
-pub with_command : (words : List (List ℕ)) (command : Command) (text : List ℕ) (outcome : Result Output Status)
-    → IsCommand words command → IfOk outcome (λ out. IsOutput command text out.status out.text.items)
-    → IfOk outcome (λ out. IsOutputOf words text out.status out.text.items)
-with_command words command text (Err e) is output = tt
-with_command words command text (Ok out) is output = record { command = command; asked = is; output = output }
-
--- a run that wrote, or refused before it, answers the text's fault
-pub answers_fault : (words : List (List ℕ)) (told : Option (List ℕ)) (outcome : Result Output Status) (status : Status)
-    → IfErr outcome IsRefusal
+-- a run that wrote, or refused before it, answers the input's fault
+pub answers_fault : (words : List (List ℕ)) (told : Option (List ℕ)) (before now : ℕ) (outcome : Result Output Status) (status : Status)
+    → IfErr outcome (RefusesWords words told before now)
     → IfErr outcome (λ e. status ≡ e)
-    → ((l c : ℕ) → outcome ≡ Err (TextFault l c) → IfSome told (λ (text : List ℕ). IsFault text l c))
     → IfOk outcome (λ out. IfSome told (λ (text : List ℕ). IsOutputOf words text out.status out.text.items))
-    → IfSome told (λ (text : List ℕ). (line code : ℕ) → IsFault text line code → AnswersFault status line code)
-answers_fault words None outcome status r e f o = tt
-answers_fault words (Some text) (Ok out) status r e f o = λ line code h.
-    let read = text_of o.command text out.status out.text.items o.output in absurd (read_has_no_fault text read.0 line code read.1 h)
-answers_fault words (Some text) (Err s) status r e f o = λ line code h.
-    subst (λ (t : Status). AnswersFault t line code) (sym e) (refused_fault text line code s r (λ l c k. f l c (ap Err k)) h)
+    → IfSome told (λ (text : List ℕ). (line code : ℕ) → IsFaultOf words text line code → AnswersFault status line code)
+answers_fault words None before now outcome status r e o = tt
+answers_fault words (Some text) before now (Ok out) status r e o = λ line code h.
+    absurd (output_has_none o.command text out.status out.text.items line code o.output (fault_as words o.command text line code o.asked h))
+answers_fault words (Some text) before now (Err s) status r e o = λ line code h.
+    subst (λ (t : Status). AnswersFault t line code) (sym e) (refused_fault words text line code before now s r h)
 
--- a status that tells a fault only where the text has one is no fault for an accepted text
-pub accepted_by : (text : List ℕ) (f : Function) (status : Status) → IsRead text f
-    → ((line code : ℕ) → status ≡ TextFault line code → IsFault text line code) → AnswersAccepted status
-accepted_by text f (TextFault line code) read told = read_has_no_fault text f line code read (told line code refl)
-accepted_by text f Done read told = tt
-accepted_by text f Infeasible read told = tt
-accepted_by text f Spent read told = tt
-accepted_by text f (Usage place) read told = tt
-accepted_by text f ReadFault read told = tt
-accepted_by text f WriteFault read told = tt
-accepted_by text f NoMemory read told = tt
-accepted_by text f (No cause) read told = tt
-accepted_by text f (BadReport line) read told = tt
+-- a status that tells a fault only where the input has one is no fault where it has none
+pub accepted_by : (words : List (List ℕ)) (text : List ℕ) (command : Command) (status : Status) → IsCommand words command
+    → IsFaultless command text → ((line code : ℕ) → status ≡ TextFault line code → IsFaultOf words text line code) → AnswersAccepted status
+accepted_by words text command (TextFault line code) asked good told =
+    faultless_has_none command text line code good (fault_as words command text line code asked (told line code refl))
+accepted_by words text command Done asked good told = tt
+accepted_by words text command Infeasible asked good told = tt
+accepted_by words text command Spent asked good told = tt
+accepted_by words text command (Usage place) asked good told = tt
+accepted_by words text command ReadFault asked good told = tt
+accepted_by words text command WriteFault asked good told = tt
+accepted_by words text command NoMemory asked good told = tt
+accepted_by words text command (No cause) asked good told = tt
+accepted_by words text command (BadReport line) asked good told = tt
 
-pub answers_accepted : (told : Option (List ℕ)) (status : Status)
-    → ((line code : ℕ) → status ≡ TextFault line code → IfSome told (λ (text : List ℕ). IsFault text line code))
-    → IfSome told (λ (text : List ℕ). (f : Function) → IsRead text f → AnswersAccepted status)
-answers_accepted None status fault = tt
-answers_accepted (Some text) status fault = λ f read. accepted_by text f status read fault
+pub answers_accepted : (words : List (List ℕ)) (told : Option (List ℕ)) (status : Status)
+    → ((line code : ℕ) → status ≡ TextFault line code → IfSome told (λ (text : List ℕ). IsFaultOf words text line code))
+    → IfSome told (λ (text : List ℕ). (command : Command) → IsCommand words command → IsFaultless command text → AnswersAccepted status)
+answers_accepted words None status fault = tt
+answers_accepted words (Some text) status fault = λ command asked good. accepted_by words text command status asked good fault
 
 -- what `out` holds after a refusal before writing, over whatever text
 refused_out : (s : Status) (words : List (List ℕ)) (text : List ℕ) (old new : Option (List ℕ)) → IsRefusal s → new ≡ old
@@ -110,7 +259,7 @@ refused_out ReadFault words text old new r k = k
 refused_out WriteFault words text old new r k = absurd r
 refused_out NoMemory words text old new r k = k
 refused_out (No cause) words text old new r k = absurd r
-refused_out (BadReport l) words text old new r k = absurd r
+refused_out (BadReport l) words text old new r k = k
 
 -- what `out` holds after an output was written whole
 whole_out : (words : List (List ℕ)) (text out : List ℕ) (old new : Option (List ℕ)) (s : Status) → IsWritten s → IsOutputOf words text s out
@@ -153,7 +302,7 @@ written_keeps NoMemory old new w = absurd w
 written_keeps (No cause) old new w = absurd w
 written_keeps (BadReport l) old new w = absurd w
 
--- a refusal before writing keeps `out`, and is an answer of today's command
+-- a refusal before writing keeps `out`, and is an answer of today's commands
 refused_keeps : (s : Status) (old new : Option (List ℕ)) → IsRefusal s → new ≡ old → KeepsOut s old new × IsAnswer s
 refused_keeps Done old new r k = absurd r
 refused_keeps Infeasible old new r k = absurd r
@@ -164,7 +313,7 @@ refused_keeps ReadFault old new r k = (k, tt)
 refused_keeps WriteFault old new r k = absurd r
 refused_keeps NoMemory old new r k = (k, tt)
 refused_keeps (No cause) old new r k = absurd r
-refused_keeps (BadReport l) old new r k = absurd r
+refused_keeps (BadReport l) old new r k = (k, tt)
 
 pub kept_and_answered : (outcome : Result Output Status) (status : Status) (old new : Option (List ℕ))
     → IfErr outcome IsRefusal → IfErr outcome (λ e. status ≡ e) → OnErr outcome (new ≡ old)
@@ -192,7 +341,7 @@ not_written (BadReport l) r w = w
 
 -- what holds of an output holds where it was written whole
 pub when_written : {T : Type 0} (outcome : Result T Status) (status : Status) (P : Type 0) → IfErr outcome IsRefusal
-    → IfErr outcome (λ e. status ≡ e) → IfOk outcome (λ x. P) → IsWritten status → P
+    → IfErr outcome (λ e. status ≡ e) → OnOk outcome P → IsWritten status → P
 when_written (Ok x) status P r e h w = h
 when_written (Err x) status P r e h w = absurd (not_written x r (subst IsWritten e w))
 

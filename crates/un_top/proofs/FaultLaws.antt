@@ -11,7 +11,7 @@ use Rattle.un_reader.specs.Read.{IsRead, IsTextFault, too_long, on_line, in_whol
 use Rattle.un_faults.specs.declared.fault.Fault.{Fault}
 use Rattle.un_faults.specs.declared.fault.Fault.TheVariants.{TooMany}
 use Rattle.un_reader.proofs.OneAnswer.{no_line_fault, language_or_fault}
-use Rattle.un_top.specs.Faults.{IsFault}
+use Rattle.un_runs.specs.Refusals.{IsFaultOf as IsFault}
 
 first_line_unique : (lines : List (List ℕ)) (l line : ℕ) (f fault : Fault) → IsFirstLineFault lines l f → IsFirstLineFault lines line fault
     → (l ≡ line) × (f ≡ fault)

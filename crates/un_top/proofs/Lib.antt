@@ -1,6 +1,9 @@
 pub mod Answered
+pub mod Completed
 pub mod FaultLaws
+pub mod GeneratedLaws
 pub mod Parts
+pub mod Refused
 pub mod Rows
 pub mod SearchLaws
 pub mod Told

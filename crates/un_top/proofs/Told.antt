@@ -4,7 +4,7 @@ use Rattle.un_reader.specs.Errors.{Tells}
 use Rattle.un_reader.specs.Read.{IsTextFault}
 use Rattle.un_reader.specs.declared.error.ReadError.{ReadError}
 use Rattle.un_reader.specs.declared.error.ReadError.TheVariants.{TextFault}
-use Rattle.un_top.specs.Faults.{IsFault}
+use Rattle.un_runs.specs.Refusals.{IsFaultOf as IsFault}
 
 -- a fault that is told is the text's
 pub told_fault : (text : List ℕ) (error : ReadError) (l c line code : ℕ) → Tells (IsTextFault text) error → error ≡ TextFault l c → l ≡ line

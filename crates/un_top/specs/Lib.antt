@@ -1,4 +1,4 @@
-pub mod Faults
+pub mod Generated
 pub mod Reports
 pub mod Runs
 pub mod Searches

@@ -2,6 +2,9 @@
 #![tactic(auto)]
 
 pub mod faults;
+pub mod generated;
+pub mod limits;
+pub mod output;
 pub mod produce;
 pub mod run;
 pub mod search;

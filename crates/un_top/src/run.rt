@@ -1,16 +1,16 @@
 //! Everything that the program does.
 
-ghost use Rattle.std.specs.Prelude.{◌≡◌, ℕ, ◌⊎◌, ◌<◌, ◌≤◌, Ok, Err, IfSome, IfOk, IfErr, OnOk, OnErr};
+ghost use Rattle.std.specs.Prelude.{◌≡◌, ℕ, ◌⊎◌, ◌<◌, ◌≤◌, true, false, Ok, Err, IfSome, IfOk, IfErr, OnOk, OnErr};
 ghost use Rattle.std.specs.Io.KnownBytes.{Appends, IsAtEnd};
-ghost use Rattle.un_commands.specs.Commands.{IsBadWord};
+ghost use Rattle.un_commands.specs.Commands.{IsBadWord, IsCommand};
+ghost use Rattle.un_commands.specs.declared.command.Command.{Command};
 ghost use Rattle.un_outside.specs.Causes.{Rose, AppendsPrefix};
-ghost use Rattle.un_ir.specs.declared.function.Function.{Function};
-ghost use Rattle.un_reader.specs.Read.{IsRead};
-ghost use Rattle.un_top.specs.Faults.{IsFault};
-ghost use Rattle.un_top.specs.Runs.{OutAfter, KeepsOut, AnswersFault, AnswersAccepted, IsAnswer, IsRefusal, IsWritten, Wrote, line_of};
+ghost use Rattle.un_top.specs.Runs.{reads_input, IsFaultOf, IsBadOf, IsFaultless, IsGoodInput, EndsWell};
+ghost use Rattle.un_top.specs.Runs.{OutAfter, KeepsOut, AnswersFault, AnswersBad, AnswersAccepted, IsAnswer, IsRefusal, IsWritten, Wrote, line_of};
 
 use crate::faults::write_line;
-use crate::produce::{Output, produce};
+use crate::output::Output;
+use crate::produce::produce;
 use std::alloc::Global;
 use un_outside::outside::{Sink, Source};
 use un_outside::status::Status;
@@ -35,9 +35,9 @@ fn finish<K: Sink>(outcome: Result<Output, Status>, out: &mut K) -> Status
     }
 }
 
-/// Does all that the program does: `words` are the arguments without the program's own name, a function's text is read
-/// from `src`, its report goes to `out`, and a refusal to `err` as one line. The report is built whole before the first
-/// write, and a failure of `err` changes no status.
+/// Does all that the program does: `words` are the arguments without the program's own name, the input of their command is read
+/// from `src`, where it has one, its output goes to `out`, and a refusal to `err` as one line. The output is built whole before the
+/// first write, and a failure of `err` changes no status.
 ///
 /// The answers come in this order: the words, reading, the text, writing. Want of memory may stand at each of them after
 /// the words.
@@ -51,7 +51,12 @@ pub fn run<S: Source, K: Sink, E: Sink>(
     // The output is that of the command over the text, whole, or a prefix of it where writing failed.
     ensures out { IfSome (S.left src.old) (λ text. OutAfter result words.now text (K.held out.old) (K.held out.new)) }
     ensures kept { KeepsOut result (K.held out.old) (K.held out.new) }
-    ensures read_whole { IsWritten result → IsAtEnd (S.left src.new) }
+
+    // A command that reads its input reads it to the end before it writes; one that reads none leaves the source alone.
+    ensures read_whole { (command : Command) → IsCommand words.now command → reads_input command ≡ true → IsWritten result
+        → IsAtEnd (S.left src.new) }
+    ensures left { (command : Command) → IsCommand words.now command → reads_input command ≡ false → S.left src.new ≡ S.left src.old }
+    ensures calls { (command : Command) → IsCommand words.now command → reads_input command ≡ false → S.calls src.new ≡ S.calls src.old }
 
     // When each other answer comes.
     ensures answers { IsAnswer result }
@@ -61,11 +66,18 @@ pub fn run<S: Source, K: Sink, E: Sink>(
     ensures exactly_usage { (place : ℕ) → IsBadWord words.now place → result ≡ Status.Usage place }
     ensures read { result ≡ Status.ReadFault → Rose (S.faults src.old) (S.faults src.new) }
     ensures fault { (line code : ℕ) → result ≡ Status.TextFault line code
-        → IfSome (S.left src.old) (λ text. IsFault text line code) }
-    ensures exactly_fault { IfSome (S.left src.old) (λ text. (line code : ℕ) → IsFault text line code
+        → IfSome (S.left src.old) (λ text. IsFaultOf words.now text line code) }
+    ensures exactly_fault { IfSome (S.left src.old) (λ text. (line code : ℕ) → IsFaultOf words.now text line code
         → AnswersFault result line code) }
-    ensures accepted { IfSome (S.left src.old) (λ text. (f : Function) → IsRead text f → AnswersAccepted result) }
+    ensures exactly_bad { IfSome (S.left src.old) (λ text. (line : ℕ) → IsBadOf words.now text line → AnswersBad result line) }
+    ensures accepted { IfSome (S.left src.old) (λ text. (command : Command) → IsCommand words.now command → IsFaultless command text
+        → AnswersAccepted result) }
+    ensures bad { (line : ℕ) → result ≡ Status.BadReport line → IfSome (S.left src.old) (λ text. IsBadOf words.now text line) }
     ensures write { result ≡ Status.WriteFault → Rose (K.faults out.old) (K.faults out.new) }
+
+    // A good input is answered by its output, or there was no memory, where nothing outside fails.
+    ensures complete { IfSome (S.left src.old) (λ text. (command : Command) → IsCommand words.now command → IsGoodInput command text
+        → Rose (S.faults src.old) (S.faults src.new) ⊎ (Rose (K.faults out.old) (K.faults out.new) ⊎ EndsWell command text result)) }
 
     // The line for the status goes to `err`, whole where its count did not rise.
     ensures err_line { AppendsPrefix (E.held err.old) (E.held err.new) (line_of result) }

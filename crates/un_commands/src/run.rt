@@ -1,0 +1,26 @@
+//! The words of `run`.
+
+ghost use Rattle.std.specs.Prelude.{IfOk, IfErr, codes};
+ghost use Rattle.un_commands.specs.Commands.{IsCommand, IsBadWord};
+ghost use Rattle.un_commands.specs.Places.{StandsAt};
+
+use crate::command::Command;
+use crate::place::{end_at, word_at};
+use un_outside::words::Word;
+
+/// The command of words that begin with `run`.
+///
+/// # Errors
+/// The first place that is bad.
+pub fn read_run(words: &[Word]) -> Result<Command, u32>
+    requires { StandsAt words.now 0 (codes "run") }
+    ensures ok { IfOk result (IsCommand words.now) }
+    ensures bad { IfErr result (IsBadWord words.now) }
+{
+    if words.len() == 1 {
+        return Ok(Command::Run);
+    }
+    word_at(words, 1, b"--code")?;
+    end_at(words, 2)?;
+    Ok(Command::RunCode)
+}

@@ -1,0 +1,85 @@
+-- Refusals of the parts of an input are those of the input.
+use Rattle.std.proofs.Common.{◌≡◌, ℕ, inl, inr, false, List, subst}
+use Rattle.un_isa.specs.Hexagon.{HEXAGON}
+use Rattle.un_isa.specs.declared.outcome.Outcome.{Outcome}
+use Rattle.un_isa.specs.declared.start.Start.{Start}
+use Rattle.un_isa.specs.declared.table.Table.{Table}
+use Rattle.un_ir.specs.declared.function.Function.{Function}
+use Rattle.un_packet.specs.Ends.{IsOutcome}
+use Rattle.un_packet.specs.Run.{packet_run}
+use Rattle.un_packet.specs.declared.code.Code.{Code}
+use Rattle.un_reader.specs.Read.{IsRead}
+use Rattle.un_listing_reader.specs.Reading.{IsListingOf, IsFirstBad as IsBadListing}
+use Rattle.un_start.specs.StartTexts.{IsStartText, IsFirstBad as IsBadStart}
+use Rattle.un_runs.specs.declared.refused.Refused.{Refused}
+use Rattle.un_runs.specs.declared.refused.Refused.TheVariants.{NoMemory, TextFault, BadSecond}
+use Rattle.un_runs.specs.Inputs.{first_part, second_part}
+use Rattle.un_runs.specs.Refusals.{RefusesFunction, RefusesStart, RefusesListing, RefusesFor, RefusesSource, RefusesCode, IsTight, IsFaultOf, IsBadFor}
+use Rattle.un_runs.specs.Shown.{has_room, IsRunOf, IsSourceRun, IsRunOfCode, IsCodeRun}
+
+pub source_first : (input part : List ℕ) (e : Refused) → part ≡ first_part input → RefusesFunction part e → RefusesSource input e
+source_first input part NoMemory is h = tt
+source_first input part (TextFault line code) is h = subst (λ (t : List ℕ). IsFaultOf t line code) is h
+source_first input part (BadSecond line) is h = absurd h
+
+pub source_second : (input first second : List ℕ) (f : Function) (e : Refused) → first ≡ first_part input → second ≡ second_part input
+    → IsRead first f → RefusesStart second e → RefusesSource input e
+source_second input first second f NoMemory a b read h = tt
+source_second input first second f (TextFault line code) a b read h = absurd h
+source_second input first second f (BadSecond line) a b read h = record {
+  function = f;
+  read = subst (λ (t : List ℕ). IsRead t f) a read;
+  bad = subst (λ (t : List ℕ). IsBadStart t line) b h;
+}
+
+pub source_is : (input first second out : List ℕ) (f : Function) → first ≡ first_part input → second ≡ second_part input
+    → IsRead first f → IsRunOf f second out → IsSourceRun input out
+source_is input first second out f a b read run = record {
+  function = f;
+  read = subst (λ (t : List ℕ). IsRead t f) a read;
+  run = subst (λ (t : List ℕ). IsRunOf f t out) b run;
+}
+
+-- ---- code
+
+pub code_first : (input part : List ℕ) (e : Refused) → part ≡ first_part input → RefusesListing part e → RefusesCode input e
+code_first input part NoMemory is h = tt
+code_first input part (TextFault line code) is h = absurd h
+code_first input part (BadSecond line) is h = inl (subst (λ (t : List ℕ). IsBadListing t line) is h)
+
+pub code_second : (input first second : List ℕ) (c : Code) (e : Refused) → first ≡ first_part input → second ≡ second_part input
+    → IsListingOf first c → RefusesFor c.frame second e → RefusesCode input e
+code_second input first second c NoMemory a b listed h = tt
+code_second input first second c (TextFault line code) a b listed h = absurd h
+code_second input first second c (BadSecond line) a b listed h = inr (record {
+  code = c;
+  listed = subst (λ (t : List ℕ). IsListingOf t c) a listed;
+  bad = subst (λ (t : List ℕ). IsBadFor c.frame t line) b h;
+})
+
+pub code_is : (input first second out : List ℕ) (c : Code) → first ≡ first_part input → second ≡ second_part input
+    → IsListingOf first c → IsRunOfCode c second out → IsCodeRun input out
+code_is input first second out c a b listed run = record {
+  code = c;
+  listed = subst (λ (t : List ℕ). IsListingOf t c) a listed;
+  run = subst (λ (t : List ℕ). IsRunOfCode c t out) b run;
+}
+
+-- the outcome for the table of the machine
+pub of_table : (t : Table) (c : Code) (start : Start) (count : ℕ) (outcome : Outcome) → t ≡ HEXAGON
+    → IsOutcome c.blocks (packet_run t c start count) outcome → IsOutcome c.blocks (packet_run HEXAGON c start count) outcome
+of_table t c start count outcome same is = subst (λ (u : Table). IsOutcome c.blocks (packet_run u c start count) outcome) same is
+
+-- a start is refused for code as it is
+pub for_start : (frame : ℕ) (text : List ℕ) (e : Refused) → RefusesStart text e → RefusesFor frame text e
+for_start frame text NoMemory h = tt
+for_start frame text (TextFault line code) h = absurd h
+for_start frame text (BadSecond line) h = inl h
+
+-- or where it has no room
+pub for_room : (frame : ℕ) (text : List ℕ) (start : Start) (count : ℕ) (e : Refused) → IsStartText text start count
+    → has_room frame start.regs ≡ false → IsTight text e → RefusesFor frame text e
+for_room frame text start count NoMemory started tight h = tt
+for_room frame text start count (TextFault line code) started tight h = absurd h
+for_room frame text start count (BadSecond line) started tight h =
+    inr (record { start = start; count = count; started = started; tight = tight; last = h })

@@ -1,0 +1,4 @@
+pub mod Grammars
+pub mod Inputs
+pub mod Refusals
+pub mod Shown

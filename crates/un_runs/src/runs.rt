@@ -1,0 +1,160 @@
+//! Runs and generated functions as text.
+
+ghost use Rattle.std.specs.Prelude.{◌≡◌, ◌<◌, ◌≤◌, count_by, IfOk, IfErr};
+ghost use Rattle.un_base.specs.Lines.{is_line_feed};
+ghost use Rattle.un_ir.specs.declared.function.TheConstants.{BLOCKS};
+ghost use Rattle.un_listing_reader.specs.Reading.{IsListingOf};
+ghost use Rattle.un_reader.specs.Read.{IsRead};
+ghost use Rattle.un_start.specs.StartTexts.{IsStartText};
+ghost use Rattle.un_runs.specs.Refusals.{RefusesFunction, RefusesStart, RefusesListing, IsTight, RefusesFor, RefusesSource, RefusesCode};
+ghost use Rattle.un_runs.specs.Shown.{has_room, IsRunOf, IsSourceRun, IsRunOfCode, IsCodeRun, IsGeneratedText};
+
+use crate::input::split;
+use crate::refused::Refused;
+use std::alloc::Global;
+use un_base::memory_error::NoMemory;
+use un_base::numbers::number;
+use un_gen::generate::generate;
+use un_ir::function::{BLOCKS, Function};
+use un_ir::print::print_function;
+use un_isa::reg::{REGISTERS, STACK};
+use un_isa::start::Start;
+use un_isa::table::hexagon;
+use un_listing_reader::read::{ListingError, read_code};
+use un_outcome::print::print_outcome;
+use un_packet::code::Code;
+use un_packet::run::run_packets;
+use un_reader::error::ReadError;
+use un_reader::read::read_function;
+use un_source::run::run_source;
+use un_start::read::{StartError, read_start};
+
+/// The function of a text.
+fn function_of(alloc: Global, text: &[u8]) -> Result<Function, Refused>
+    ensures ok { IfOk result (IsRead text.now) }
+    ensures refused { IfErr result (RefusesFunction text.now) }
+{
+    match read_function(alloc, text) {
+        Ok(f) => Ok(f),
+        Err(ReadError::NoMemory) => Err(Refused::NoMemory),
+        Err(ReadError::TextFault { line, code }) => Err(Refused::TextFault { line, code }),
+    }
+}
+
+/// The start of a text, with the number of blocks.
+fn start_of(alloc: Global, text: &[u8]) -> Result<(Start, u32), Refused>
+    ensures ok { IfOk result (λ read. IsStartText text.now read.0 read.1) }
+    ensures refused { IfErr result (RefusesStart text.now) }
+{
+    match read_start(alloc, text) {
+        Ok(read) => Ok(read),
+        Err(StartError::NoMemory) => Err(Refused::NoMemory),
+        Err(StartError::BadStart { line }) => Err(Refused::BadSecond { line }),
+    }
+}
+
+/// The code of a listing.
+fn code_of(alloc: Global, text: &[u8]) -> Result<Code, Refused>
+    ensures ok { IfOk result (IsListingOf text.now) }
+    ensures refused { IfErr result (RefusesListing text.now) }
+{
+    match read_code(alloc, text) {
+        Ok(code) => Ok(code),
+        Err(ListingError::NoMemory) => Err(Refused::NoMemory),
+        Err(ListingError::BadListing { line }) => Err(Refused::BadSecond { line }),
+    }
+}
+
+/// What a function comes to from the start of a text.
+fn run_of(alloc: Global, f: &Function, text: &[u8]) -> Result<Vec<u8>, Refused>
+    ensures ok { IfOk result (λ out. IsRunOf f.now text.now out.items) }
+    ensures refused { IfErr result (RefusesStart text.now) }
+{
+    let (start, count) = start_of(alloc, text)?;
+    let outcome = run_source(alloc, f, &start, count)?;
+    let out = print_outcome(alloc, f.names.as_slice(), &outcome)?;
+    Ok(out)
+}
+
+/// What the function in the first part of an input comes to from the start in the second one.
+///
+/// # Errors
+/// `TextFault` with the first fault of the function's text; `BadSecond` with the first bad line of the start; `NoMemory` where there is no
+/// memory for the run.
+pub fn source_run(alloc: Global, input: &[u8]) -> Result<Vec<u8>, Refused>
+    ensures ok { IfOk result (λ out. IsSourceRun input.now out.items) }
+    ensures refused { IfErr result (RefusesSource input.now) }
+{
+    let parts = split(input);
+    let f = function_of(alloc, parts.first)?;
+    let out = run_of(alloc, &f, parts.second)?;
+    Ok(out)
+}
+
+/// Whether the stack pointer is a multiple of 8 with room for a frame below it.
+fn has_room(frame: u32, regs: &[u32; REGISTERS as usize]) -> bool
+    ensures { result ≡ has_room frame regs.now }
+{
+    let stack = regs[STACK as usize];
+    stack % 8 == 0 && frame <= stack
+}
+
+/// How many line feeds a text has.
+fn feed_count(text: &[u8]) -> usize
+    ensures { result ≡ count_by is_line_feed text.now }
+{
+    text.iter().filter(|b| **b == b'\n').count()
+}
+
+/// The answer where a start has no room.
+fn no_room(text: &[u8]) -> Refused
+    ensures { IsTight text.now result }
+{
+    match number(feed_count(text)) {
+        Ok(line) => Refused::BadSecond { line },
+        Err(_) => Refused::NoMemory,
+    }
+}
+
+/// What code comes to from the start of a text.
+fn code_run_of(alloc: Global, code: &Code, text: &[u8]) -> Result<Vec<u8>, Refused>
+    ensures ok { IfOk result (λ out. IsRunOfCode code.now text.now out.items) }
+    ensures refused { IfErr result (RefusesFor code.now.frame text.now) }
+{
+    let (start, count) = start_of(alloc, text)?;
+    if !has_room(code.frame, &start.regs) {
+        return Err(no_room(text));
+    }
+    let outcome = run_packets(alloc, code, &hexagon(), &start, count)?;
+    let out = print_outcome(alloc, &[], &outcome)?;
+    Ok(out)
+}
+
+/// What the code whose listing is the first part of an input comes to from the start in the second one.
+///
+/// # Errors
+/// `BadSecond` with the first bad line of the listing, counted there, else with that of the start, whose last line is bad where the stack
+/// pointer is no multiple of 8 or has no room for the code's frame; `NoMemory` where there is no memory for the run.
+pub fn code_run(alloc: Global, input: &[u8]) -> Result<Vec<u8>, Refused>
+    ensures ok { IfOk result (λ out. IsCodeRun input.now out.items) }
+    ensures refused { IfErr result (RefusesCode input.now) }
+{
+    let parts = split(input);
+    let code = code_of(alloc, parts.first)?;
+    let out = code_run_of(alloc, &code, parts.second)?;
+    Ok(out)
+}
+
+/// The text of the function of so many blocks, 1 to 16, that a seed generates.
+///
+/// # Errors
+/// `NoMemory` where there is no memory for it.
+pub fn generated_text(alloc: Global, seed: u64, size: u32) -> Result<Vec<u8>, NoMemory>
+    requires some { 0 < size }
+    requires few { size ≤ BLOCKS }
+    ensures { IfOk result (λ out. IsGeneratedText seed size out.items) }
+{
+    let f = generate(alloc, seed, size)?;
+    let text = print_function(alloc, &f)?;
+    Ok(text)
+}

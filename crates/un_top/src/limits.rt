@@ -1,0 +1,4 @@
+//! How much the program reads.
+
+/// The most bytes of an input in two parts.
+pub const INPUT: usize = 16_777_216;
