@@ -1,7 +1,9 @@
 //! Tests of the whole program over sources and sinks in memory, command by command, of the code of given values, of what is posted for
-//! functions, and of searches.
+//! functions, of searches, and of the check of reports.
 #![tactic(auto)]
 
+#[cfg(test)]
+mod checks;
 #[cfg(test)]
 mod commands;
 #[cfg(test)]

@@ -1,1 +1,15 @@
+pub mod AnswerLemmas
+pub mod BeginLemmas
+pub mod BoundLemmas
+pub mod CauseLemmas
+pub mod JudgeLemmas
+pub mod LeafLemmas
+pub mod LineLemmas
+pub mod OneModel
+pub mod ReportLemmas
+pub mod RoomLemmas
+pub mod SearchLemmas
 pub mod SoundBounds
+pub mod TreeLemmas
+pub mod VerdictLemmas
+pub mod WalkLemmas

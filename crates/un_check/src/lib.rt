@@ -1,4 +1,14 @@
-//! The check of a report: what a sound one says of its function.
+//! The check of a tree and of a report: what is said of them is so.
 #![tactic(auto)]
 
+mod answer;
+mod judge;
 pub mod laws;
+mod leaves;
+pub mod lines;
+pub mod report;
+mod room;
+mod rules;
+pub mod tree;
+pub mod verdict;
+mod walk;

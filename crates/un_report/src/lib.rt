@@ -3,3 +3,4 @@
 
 pub mod print;
 pub mod report;
+pub mod view;

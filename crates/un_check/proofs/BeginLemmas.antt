@@ -1,0 +1,107 @@
+-- Before the first node.
+use Rattle.std.proofs.Common.{ℕ, ◌≡◌, ◌≢◌, ◌+◌, ◌≤◌, Bool, true, List, [], ◌∷◌, ◌++◌, All, length, fold, map, max, None, Some}
+use Rattle.std.proofs.Common.{refl, sym, ap, subst, ◌∙◌, arith}
+use Rattle.std.specs.declared.option.Option.{Option}
+use Rattle.std.specs.List.{AllByRecursion}
+use Rattle.std.proofs.lemmas.List.Elements.{All-nil, All-from_recursion}
+use Rattle.un_domains.specs.OrderLaws.{Below-refl, has_here, has_later}
+use Rattle.un_domains.specs.SetLaws.{has-fold_max}
+use Rattle.un_domains.specs.Sets.{Sets, NoneEmpty, has}
+use Rattle.un_engine.specs.Ends.{IsEnd}
+use Rattle.un_engine.specs.Engines.{State}
+use Rattle.un_ir.specs.declared.extended.ExtBlock.{ExtBlock}
+use Rattle.un_kinds.specs.AnyProps.{cut_of}
+use Rattle.un_kinds.specs.declared.any.AnyProp.{AnyProp}
+use Rattle.un_model.specs.declared.model.Model.{Model}
+use Rattle.un_model.specs.Variables.{own_horizon}
+use Rattle.un_post.specs.Posts.{IsExact, ReadsFrom, fix_at, largest_horizon}
+use Rattle.un_prop.specs.Pruning.{HasRoom}
+use Rattle.un_prop.specs.Rounds.{fix_of}
+use Rattle.un_prop.specs.declared.propagator.Scratch.{Scratch}
+use Rattle.un_tree.specs.Boxes.{reached}
+use Rattle.un_tree.specs.Waits.{Waiting, Whole, Visit, IsWhole, visits}
+use Rattle.un_tree.specs.declared.node.Decision.{Decision}
+use Rattle.un_tree.specs.declared.node.Node.{Node}
+use Rattle.un_tree.specs.declared.node.Node.TheVariants.{Open}
+use Rattle.un_levels.specs.Levels.{Leveled, IsCutTo, ways}
+use Rattle.un_certificate.specs.Certificates.{root_of}
+use Rattle.un_check.specs.Posted.{ArePosted}
+use Rattle.un_check.specs.Rooms.{AllSplit, AllLost, HasScratch, IsAt, IsEndAt, path_of, waits, waiting_at}
+use Rattle.un_check.specs.Verdicts.{IsLeastOpen}
+use Rattle.un_check.specs.Walks.{IsWalk}
+use Rattle.un_check.specs.declared.room.Room.{Room}
+use Rattle.un_check.specs.declared.walk.Walk.{Walk}
+
+-- what posting says, said of the first box
+pub posted_of : (m : Model) (limit : Option ℕ) (s : Sets) (ps : List AnyProp) → s ≡ root_of m → IsExact m limit s ps
+    → All (ReadsFrom s) ps → ((box : Sets) → fix_of cut_of ps box ≡ fix_at m limit box) → ArePosted m limit ps
+posted_of m limit s ps is exact reads fixed = record {
+  exact = subst (λ (r : Sets). IsExact m limit r ps) is exact;
+  reads = subst (λ (r : Sets). All (ReadsFrom r) ps) is reads;
+  fixed = fixed;
+}
+
+pub path_none : (live dead : List Decision) → live ≡ [] → dead ≡ [] → live ++ dead ≡ []
+path_none live dead l d = ap (λ (ds : List Decision). ds ++ dead) l ∙ d
+
+module _ (m : Model) (limit : Option ℕ) (full : NoneEmpty (root_of m)) (ps : List AnyProp) (posted : ArePosted m limit ps) where
+  first_end : (e : Option (State AnyProp)) → IsEnd cut_of ps (root_of m) e → IsEndAt m limit [] e
+  first_end None h = (refl, sym (posted.fixed (root_of m)) ∙ h)
+  first_end (Some e) h = record {
+    posted = subst (ArePosted m limit) (sym h.props) posted;
+    long = h.long;
+    at = subst (λ (ms : List Sets). Leveled (root_of m) (fix_at m limit) (root_of m) [] ms e.store.sets) (sym h.fresh)
+        ((Below-refl (root_of m), full), sym (posted.fixed (root_of m)) ∙ h.fix);
+  }
+
+  pub first_at : (s : Sets) (r : Room) → s ≡ root_of m → IsEnd cut_of ps s r.engine → r.cuts.sets ≡ s → r.cuts.marked ≡ []
+      → r.live.items ≡ [] → r.dead.items ≡ [] → IsAt m limit r
+  first_at s r is end sets marked live dead =
+      let path : path_of r ≡ [] = path_none r.live.items r.dead.items live dead in
+      record {
+        split = subst (AllSplit (root_of m)) (sym path) tt;
+        box = record {
+          sets = sets ∙ (is ∙ ap (reached (root_of m)) (sym path));
+          marked = marked ∙ ap (ways (root_of m)) (sym path);
+        };
+        end = subst (λ (ds : List Decision). IsEndAt m limit ds r.engine) (sym live)
+            (first_end r.engine (subst (λ (b : Sets). IsEnd cut_of ps b r.engine) is end));
+        lost = subst (AllLost (fix_at m limit) (reached (root_of m) r.live.items)) (sym dead) tt;
+      }
+
+pub first_walk : (m : Model) (limit : Option ℕ) (nodes : List Node) (w : Walk) → path_of w.room ≡ [] → w.more ≡ true → w.place ≡ 0
+    → w.open_leaves ≡ 0 → w.least ≡ None → IsWalk m limit nodes nodes w
+first_walk m limit nodes w path more place count least =
+    let one : waiting_at (root_of m) (path_of w.room) w.more ≡ Whole (root_of m) ∷ [] =
+    ap (λ (b : Bool). waiting_at (root_of m) (path_of w.room) b) more
+    ∙ ap (λ (ds : List Decision). Whole (reached (root_of m) ds) ∷ waits (root_of m) ds) path in
+    record {
+      done = [];
+      split = ap (λ (i : ℕ). visits i nodes (Whole (root_of m) ∷ [])) (sym place)
+          ∙ ap (λ (ws : List Waiting). visits w.place nodes ws) (sym one);
+      kept = All-nil _;
+      forth = λ h. subst (IsWhole nodes) (sym one) h;
+      back = λ h. subst (IsWhole nodes) one h;
+      counted = omega (arith, count);
+      lowest = subst (IsLeastOpen m []) (sym least) (All-nil (λ (p : Visit). p.node ≢ Open));
+    }
+
+-- room for the largest horizon is room for each block's
+each_room : (n top : ℕ) (scratch : Scratch) (blocks : List ExtBlock) → HasRoom n (top + 1) scratch
+    → ((x : ℕ) → has (map own_horizon blocks) x ≡ true → x ≤ top)
+    → AllByRecursion (λ (block : ExtBlock). HasRoom n (block.horizon + 1) scratch) blocks
+each_room n top scratch [] room under = tt
+each_room n top scratch (b ∷ bs) room under = (
+  record {
+    fixed = room.fixed;
+    cycles = (let le = under b.horizon (has_here b.horizon (map own_horizon bs)) in omega (arith, le, room.cycles));
+  },
+  each_room n top scratch bs room (λ x there. under x (has_later b.horizon x (map own_horizon bs) there)),
+)
+
+pub all_room : (m : Model) (n horizon : ℕ) (scratch : Scratch) → HasRoom n (horizon + 1) scratch → n ≡ length (root_of m)
+    → horizon ≡ largest_horizon m.ext.blocks → HasScratch m scratch
+all_room m n horizon scratch room same is =
+    All-from_recursion (λ (block : ExtBlock). HasRoom (length (root_of m)) (block.horizon + 1) scratch) m.ext.blocks
+    (each_room (length (root_of m)) horizon scratch m.ext.blocks (subst (λ (k : ℕ). HasRoom k (horizon + 1) scratch) same room)
+    (λ x there. subst (λ (k : ℕ). x ≤ k) (sym is) (has-fold_max 0 (map own_horizon m.ext.blocks) x there)))

@@ -1,0 +1,103 @@
+-- How far the check of a tree's text has come.
+use Rattle.std.proofs.Common.{length, length-append, ◌<◌, ◌≤◌, ◌+◌, arith, ℕ, ◌≡◌, ◌⊎◌, List, [], ◌∷◌, ◌++◌, All, inl, inr, refl, sym, ap, ◌∙◌, subst, append_assoc}
+use Rattle.std.specs.declared.option.Option.{Option}
+use Rattle.std.specs.List.{AllByRecursion}
+use Rattle.std.proofs.lemmas.List.Elements.{recursion_from_All, All-from_recursion, All-tail, All-head, All-push, All-nil}
+use Rattle.un_model.specs.declared.model.Model.{Model}
+use Rattle.un_tree.specs.Texts.{Fits, node_line, tree_text, BeginsNoNode, BeginsWith}
+use Rattle.un_tree.specs.declared.node.Node.{Node}
+use Rattle.un_tree.proofs.TreeTexts.{all_read, first_once, read_more, read_whole, text_end}
+use Rattle.un_check.specs.Causes.{AreLines}
+use Rattle.un_check.specs.Walks.{IsWalk}
+use Rattle.un_check.specs.declared.walk.Walk.{Walk}
+
+-- the lines that are left are those of the nodes that the walk has not come to
+pub record IsLeft (m : Model) (limit : Option ℕ) (nodes : List Node) (left : List ℕ) (w : Walk) : Type 0 where
+  pub rest : List Node
+  pub fit : All Fits rest
+  pub text : left ≡ tree_text rest
+  pub walk : IsWalk m limit nodes rest w
+
+module _ (m : Model) (limit : Option ℕ) (nodes : List Node) (left : List ℕ) (w : Walk) (h : IsLeft m limit nodes left w) where
+  none_left : (left ≡ []) ⊎ BeginsNoNode left → (left ≡ []) × ([] ≡ h.rest)
+  none_left end = read_whole [] h.rest left tt (recursion_from_All Fits h.rest h.fit) h.text end
+
+  pub lines_end : left ≡ [] → IsWalk m limit nodes [] w
+  lines_end none = subst (λ (ns : List Node). IsWalk m limit nodes ns w) (sym (none_left (inl none)).1) h.walk
+
+  pub lines_good : (left ≡ [] → ⊥) → BeginsNoNode left → ⊥
+  lines_good some bad = some (none_left (inr bad)).0
+
+-- a node more
+pub record IsNext (m : Model) (limit : Option ℕ) (nodes : List Node) (n : Node) (rest : List ℕ) (w : Walk) : Type 0 where
+  pub behind : List Node
+  pub fit : All Fits behind
+  pub text : rest ≡ tree_text behind
+  pub walk : IsWalk m limit nodes (n ∷ behind) w
+
+pub next_line : (m : Model) (limit : Option ℕ) (nodes : List Node) (left : List ℕ) (w : Walk) → IsLeft m limit nodes left w
+    → (n : Node) (line rest : List ℕ) → BeginsWith left n line rest → IsNext m limit nodes n rest w
+next_line m limit nodes left w h n line rest b = by h.rest h.fit h.text h.walk
+  where
+    starts : left ≡ node_line n ++ 10 ∷ rest
+    starts = b.whole ∙ ap (λ (t : List ℕ). t ++ 10 ∷ rest) b.spelled
+
+    some : (t : List ℕ) → t ++ 10 ∷ rest ≡ [] → ⊥
+    some [] e = cc e
+    some (x ∷ xs) e = cc e
+
+    by : (ns : List Node) → All Fits ns → left ≡ tree_text ns → IsWalk m limit nodes ns w → IsNext m limit nodes n rest w
+    by [] fit text walk = absurd (some (node_line n) (sym starts ∙ text))
+    by (k ∷ ks) fit text walk =
+        let one = first_once k n (tree_text ks) rest (All-head Fits k ks fit) b.fits
+        (sym (append_assoc (node_line k) (10 ∷ []) (tree_text ks)) ∙ (sym text ∙ starts)) in
+        record {
+          behind = ks;
+          fit = All-tail Fits k ks fit;
+          text = sym one.1;
+          walk = subst (λ (j : Node). IsWalk m limit nodes (j ∷ ks) w) one.0 walk;
+        }
+
+pub shorter : (left line rest : List ℕ) → left ≡ line ++ 10 ∷ rest → length rest < length left
+shorter left line rest e = omega (arith, ap length e, length-append line (10 ∷ rest))
+
+-- so many lines before what is left are nodes'
+pub record AreCounted (text : List ℕ) (count : ℕ) (left : List ℕ) : Type 0 where
+  pub before : List Node
+  pub fit : All Fits before
+  pub whole : text ≡ tree_text before ++ left
+  pub counted : count ≡ length before
+  pub few : count + length left ≤ length text
+
+pub counted_first : (text : List ℕ) → AreCounted text 0 text
+counted_first text = record { before = []; fit = All-nil Fits; whole = refl; counted = refl; few = omega arith }
+
+pub counted_more : (text : List ℕ) (count : ℕ) (left : List ℕ) (n : Node) (line rest : List ℕ) → AreCounted text count left
+    → BeginsWith left n line rest → AreCounted text (count + 1) rest
+counted_more text count left n line rest h b = record {
+  before = h.before ++ n ∷ [];
+  fit = All-push Fits h.before n h.fit b.fits;
+  whole = read_more text h.before (h.before ++ n ∷ []) left n line rest h.whole b.spelled b.whole refl;
+  counted = (let e = h.counted in omega (arith, e, length-append h.before (n ∷ [])));
+  few = (let few = h.few in let e = shorter left line rest b.whole in omega (arith, few, e));
+}
+
+pub counted_all : (text : List ℕ) (count : ℕ) (left : List ℕ) → AreCounted text count left → left ≡ [] → AreLines count text
+counted_all text count left h none = record {
+  nodes = h.before;
+  fit = h.fit;
+  spelled = text_end text h.before left h.whole none;
+  counted = h.counted;
+}
+
+-- lines are those of one list of nodes
+pub lines_one : (text : List ℕ) (a b : List Node) → All Fits a → All Fits b → text ≡ tree_text a → text ≡ tree_text b → a ≡ b
+lines_one text a b f g x y = (all_read text a b [] (x ∙ sym (append_nil (tree_text a))) f g y (inl refl)).1
+  where
+    append_nil : (xs : List ℕ) → xs ++ [] ≡ xs
+    append_nil [] = refl
+    append_nil (x ∷ xs) = ap (λ (ys : List ℕ). x ∷ ys) (append_nil xs)
+
+pub same_count : (text : List ℕ) (count : ℕ) (nodes : List Node) → AreLines count text → All Fits nodes → text ≡ tree_text nodes
+    → length nodes ≡ count
+same_count text count nodes h fit is = ap length (lines_one text nodes h.nodes fit h.fit is h.spelled) ∙ sym h.counted

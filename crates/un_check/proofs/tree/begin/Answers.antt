@@ -1,0 +1,41 @@
+use Rattle.std.proofs.Common.{refl, sym, ap, subst, ◌∙◌, length, true}
+use Rattle.un_domains.specs.Sets.{NoneEmpty}
+use Rattle.un_certificate.specs.Certificates.{root_of}
+use Rattle.un_check.proofs.BeginLemmas.{posted_of, path_none, first_at, first_walk, all_room}
+use Rattle.un_check.proofs.tree.begin.Goals as goal
+
+pub returns-clause-rules : goal.returns-clause-rules
+returns-clause-rules c =
+    let g = c.args.rules.now in
+    let p = c.in_ok-posted.posted in
+    let e = c.in_ok-posted.ensures in
+    record {
+      model = c.requires.model;
+      extended = c.requires.extended;
+      table = c.requires.fit;
+      full = subst NoneEmpty e.sets e.live;
+      postable = record { props = p.props.items; are = posted_of g.m.now g.limit p.store.sets p.props.items e.sets e.exact e.reads e.fixed };
+    }
+
+pub returns-clause-at : goal.returns-clause-at
+returns-clause-at c =
+    let g = c.args.rules.now in
+    let p = c.in_ok-posted.posted in
+    let e = c.in_ok-posted.ensures in
+    let r = c.in_ok-room.ensures in
+    first_at g.m.now g.limit (subst NoneEmpty e.sets e.live) p.props.items
+    (posted_of g.m.now g.limit p.store.sets p.props.items e.sets e.exact e.reads e.fixed) p.store.sets c.in_ok-room.room e.sets r.engine r.sets
+    r.marked r.live r.dead
+
+pub returns-clause-room : goal.returns-clause-room
+returns-clause-room c =
+    let g = c.args.rules.now in
+    let p = c.in_ok-posted.posted in
+    let e = c.in_ok-posted.ensures in
+    all_room g.m.now c.len.result p.horizon c.in_ok-scratch.scratch c.in_ok-scratch.ensures (c.len.ensures ∙ ap length e.sets) e.horizon
+
+pub returns-clause-walk : goal.returns-clause-walk
+returns-clause-walk c nodes =
+    let g = c.args.rules.now in
+    let r = c.in_ok-room.ensures in
+    first_walk g.m.now g.limit nodes _ (path_none c.in_ok-room.room.live.items c.in_ok-room.room.dead.items r.live r.dead) refl refl refl refl

@@ -1,0 +1,171 @@
+//! Whether the tree of a report shows what its answer says.
+
+ghost use Rattle.std.specs.Prelude.{◌≡◌, ◌↔◌, ℕ, List, Option, IsTrue, Contains, OnOk, MatchResult, length};
+ghost use Rattle.un_model.specs.declared.model.Model.{Model};
+ghost use Rattle.un_problem.specs.Problems.{IsProblemOf};
+ghost use Rattle.un_tree.specs.Waits.{IsOdd, Visit, open_count, visits_of};
+ghost use Rattle.un_tree.specs.declared.node.Node.{Node};
+ghost use Rattle.un_tree.specs.declared.node.Node.TheVariants.{Open};
+ghost use Rattle.un_certificate.specs.Bounds.{IsBound, IsLowestUnder};
+ghost use Rattle.un_certificate.specs.Certificates.{IsStanding, root_of};
+ghost use Rattle.un_check.specs.Causes.{FitsAnswer, HasRightBound, HasRightLeaves, IsRightHead, IsToldBy, IsTreeCause, limit_of};
+ghost use Rattle.un_check.specs.Verdicts.{IsLeastOpen, IsVerdict, IsYes, OnYes};
+
+use crate::verdict::TreeVerdict;
+use un_bound::plain::plain_bound;
+use un_ir::function::Function;
+use un_model::model::Model;
+use un_outside::status::NoCause;
+use un_report::report::Answered;
+
+/// The open leaves of a tree: the least of the least costs in their boxes, and how many they are.
+#[derive(Clone, Copy)]
+struct Leaves {
+    least: Option<u64>,
+    count: u32,
+}
+
+/// The limit of an answer's tree: for code its cost.
+pub(crate) fn limit_of(answer: &Answered) -> Option<u64>
+    ensures { result ≡ limit_of answer.now }
+{
+    match answer {
+        Answered::Code { cost, .. } => Some(*cost),
+        Answered::Infeasible => None,
+        Answered::Spent => None,
+    }
+}
+
+/// Whether a number is the greatest odd one of at most so many nodes.
+fn is_odd(count: usize, nodes: usize) -> bool
+    ensures { IsTrue result ↔ IsOdd count nodes }
+{
+    count % 2 == 1 && count <= nodes && nodes - count < 2
+}
+
+/// Whether a tree has as many of so many nodes as it can have, where a leaf is open.
+fn uses_nodes(nodes: u32, count: usize, open_leaves: u32) -> bool
+    ensures { (t : List Node) → length t ≡ count → open_leaves ≡ open_count t
+        → (IsTrue result ↔ (Contains t Open → IsOdd (length t) nodes)) }
+{
+    if open_leaves == 0 {
+        return true;
+    }
+    is_odd(count, nodes as usize)
+}
+
+/// Whether an answer fits the number of open leaves.
+fn fits_answer(answer: &Answered, open_leaves: u32) -> bool
+    ensures { (t : List Node) → open_leaves ≡ open_count t → (IsTrue result ↔ FitsAnswer answer.now t) }
+{
+    match answer {
+        Answered::Code { .. } => true,
+        Answered::Infeasible => open_leaves == 0,
+        Answered::Spent => open_leaves != 0,
+    }
+}
+
+/// Whether the open leaves of a tree are right.
+fn has_right_leaves(nodes: u32, answer: &Answered, count: usize, open_leaves: u32) -> bool
+    ensures { (t : List Node) → length t ≡ count → open_leaves ≡ open_count t → (IsTrue result ↔ HasRightLeaves nodes answer.now t) }
+{
+    uses_nodes(nodes, count, open_leaves) && fits_answer(answer, open_leaves)
+}
+
+/// The least of a cost and of the least costs in open leaves' boxes.
+fn lowest_under(cost: u64, least: Option<u64>) -> u64
+    ensures { (m : Model) (ps : List Visit) → IsLeastOpen m ps least → IsLowestUnder m cost ps result }
+{
+    match least {
+        None => cost,
+        Some(low) => cost.min(low),
+    }
+}
+
+/// The bound of a tree under the cost of a solution.
+fn bound_of(f: &Function, m: &Model, cost: u64, least: Option<u64>) -> u64
+    requires problem { IsProblemOf f.now m.now }
+    ensures { (t : List Node) → IsLeastOpen m.now (visits_of (root_of m.now) t) least
+        → IsBound m.now cost (visits_of (root_of m.now) t) result }
+{
+    let _ = f;
+    plain_bound(m).max(lowest_under(cost, least))
+}
+
+/// Whether the bound of an answer is the tree's.
+fn has_right_bound(f: &Function, m: &Model, answer: &Answered, least: Option<u64>) -> bool
+    requires problem { IsProblemOf f.now m.now }
+    ensures { (t : List Node) → IsLeastOpen m.now (visits_of (root_of m.now) t) least
+        → (IsTrue result ↔ HasRightBound m.now answer.now t) }
+{
+    match answer {
+        Answered::Code { cost, bound, .. } => *bound == bound_of(f, m, *cost, least),
+        Answered::Infeasible => true,
+        Answered::Spent => true,
+    }
+}
+
+/// Whether the open leaves of a tree that keeps all points, and the bound of the answer, are right.
+fn judge_leaves(
+    f: &Function,
+    m: &Model,
+    nodes: u32,
+    answer: &Answered,
+    count: usize,
+    leaves: Leaves,
+) -> Result<(), NoCause>
+    requires problem { IsProblemOf f.now m.now }
+    ensures { (name : List ℕ) (t : List Node) → length t ≡ count → IsYes m.now (limit_of answer.now) t leaves.least leaves.count
+        → IsRightHead f.now.name m.now (record { name = name; nodes = nodes; answer = answer.now; tree = t })
+        → IsToldBy f.now.name m.now (record { name = name; nodes = nodes; answer = answer.now; tree = t }) result }
+{
+    if !has_right_leaves(nodes, answer, count, leaves.count) {
+        return Err(NoCause::Spent);
+    }
+    if !has_right_bound(f, m, answer, leaves.least) {
+        return Err(NoCause::Bound);
+    }
+    Ok(())
+}
+
+/// The open leaves of a tree that keeps all points, or which point it breaks.
+fn leaves_of(verdict: TreeVerdict) -> Result<Leaves, NoCause>
+    ensures told { (m : Model) (limit : Option ℕ) (t : List Node) → IsVerdict m limit t verdict
+        → MatchResult result (λ leaves. IsYes m limit t leaves.least leaves.count) (IsTreeCause m limit t) }
+    ensures standing { (m : Model) (limit : Option ℕ) (t : List Node) → OnYes (IsStanding m limit t) verdict
+        → OnOk result (IsStanding m limit t) }
+{
+    match verdict {
+        TreeVerdict::Yes { least, open_leaves } => Ok(Leaves {
+            least,
+            count: open_leaves,
+        }),
+        TreeVerdict::NotStrict(place) => Err(NoCause::Strict(place)),
+        TreeVerdict::NotAlive(place) => Err(NoCause::Alive(place)),
+        TreeVerdict::NotClosed(place) => Err(NoCause::Closed(place)),
+        TreeVerdict::Short => Err(NoCause::Short),
+    }
+}
+
+/// Whether the tree of a report shows what its answer says, from the verdict on its tree and the number of its nodes. The name, the
+/// numbers, the cost and the listing are right.
+pub(crate) fn judge_tree(
+    f: &Function,
+    m: &Model,
+    nodes: u32,
+    answer: &Answered,
+    count: usize,
+    verdict: TreeVerdict,
+) -> Result<(), NoCause>
+    requires problem { IsProblemOf f.now m.now }
+    ensures told { (name : List ℕ) (t : List Node) → length t ≡ count → IsVerdict m.now (limit_of answer.now) t verdict
+        → IsRightHead f.now.name m.now (record { name = name; nodes = nodes; answer = answer.now; tree = t })
+        → IsToldBy f.now.name m.now (record { name = name; nodes = nodes; answer = answer.now; tree = t }) result }
+    ensures standing { (t : List Node) → OnYes (IsStanding m.now (limit_of answer.now) t) verdict
+        → OnOk result (IsStanding m.now (limit_of answer.now) t) }
+{
+    match leaves_of(verdict) {
+        Err(cause) => Err(cause),
+        Ok(leaves) => judge_leaves(f, m, nodes, answer, count, leaves),
+    }
+}
