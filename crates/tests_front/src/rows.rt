@@ -9,6 +9,7 @@ use crate::faults::put_of_text;
 use crate::generated::put_of_seed;
 use crate::known::put_of_function;
 use crate::listings::put_of_listing;
+use crate::report_texts::put_of_report;
 use crate::run_texts::put_of_run;
 use crate::start_texts::put_of_start;
 use std::alloc::Global;
@@ -26,6 +27,7 @@ pub(crate) enum About {
     Seeds,
     Starts,
     Runs,
+    Reports,
 }
 
 /// What stands before and behind the first byte of this kind.
@@ -66,6 +68,7 @@ fn put_answer(
         About::Seeds => put_of_seed(alloc, out, question),
         About::Starts => put_of_start(alloc, out, text, question),
         About::Runs => put_of_run(alloc, out, text, question),
+        About::Reports => put_of_report(alloc, out, text, question),
     }
 }
 

@@ -1,5 +1,7 @@
 -- Reports whose name and tree are slices of a text.
-use Rattle.std.specs.Prelude.{◌≡◌, length}
+use Rattle.std.specs.Prelude.{ℕ, ◌≡◌, List, ◌++◌, codes, decimal, length}
+use Rattle.un_report.specs.Reports.{model_text, answer_text}
+use Rattle.un_report.specs.declared.report.TheConstants.{VERSION}
 use Rattle.un_report.specs.declared.report.Report.{Report}
 use Rattle.un_report.specs.declared.view.ReportView.{ReportView}
 use Rattle.un_tree.specs.Texts.{tree_text}
@@ -12,3 +14,9 @@ pub record IsViewOf (r : Report) (v : ReportView) : Type 0 where
   pub answer : v.answer ≡ r.answer
   pub tree : v.tree.now ≡ tree_text r.tree.nodes.items
   pub count : v.count ≡ length r.tree.nodes.items
+
+-- the text of the report that a view is of
+abbrev pub view_text : ReportView → List ℕ
+view_text v =
+    (codes "unison " ++ decimal VERSION ++ codes "\nfunction " ++ v.name.now ++ codes "\n" ++ model_text v.options v.nodes)
+    ++ answer_text v.answer ++ (codes "tree " ++ decimal v.count ++ codes "\n" ++ v.tree.now ++ codes "end\n")

@@ -1,0 +1,11 @@
+pub mod Behind
+pub mod Cuts
+pub mod Listings
+pub mod NumberLaws
+pub mod Once
+pub mod PartLaws
+pub mod Seams
+pub mod Through
+pub mod TreeLaws
+pub mod ViewLaws
+pub mod WholeTexts

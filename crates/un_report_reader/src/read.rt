@@ -1,0 +1,91 @@
+//! Reports from texts.
+
+ghost use Rattle.std.specs.Prelude.{◌≡◌, ◌++◌, IfOk, IfErr};
+ghost use Rattle.un_report.specs.Reports.{report_text};
+ghost use Rattle.un_report.specs.declared.report.Report.{Report};
+ghost use Rattle.un_report_reader.specs.declared.error.ReportError.TheVariants as Error;
+ghost use Rattle.un_report.specs.Views.{IsViewOf};
+ghost use Rattle.un_report_reader.specs.Readings.{IsReport, IsView, IsErrorOf, IsViewRead, IsViewBack, IsReportRead, IsReportBack};
+
+use crate::answer::answer;
+use crate::error::ReportError;
+use crate::head::{Head, read_head};
+use crate::place::Place;
+use crate::tree::{Lines, end, tree};
+use std::alloc::Global;
+use un_base::name::Name;
+use un_report::report::Report;
+use un_report::view::ReportView;
+use un_tree::read::read_tree;
+
+/// The view of the report whose text this is.
+fn view<'a>(alloc: Global, text: &'a [u8]) -> Result<ReportView<'a>, ReportError>
+    ensures ok { IfOk result (IsViewRead text.now) }
+    ensures bad { IfErr result (IsErrorOf text.now) }
+{
+    let at = Place {
+        rest: text,
+        lines: 0,
+    };
+    let (Head { name, settings }, at) = read_head(at)?;
+    let (answer, at) = answer(alloc, at)?;
+    let (Lines { text: tree, count }, at) = tree(at)?;
+    end(at)?;
+    Ok(ReportView {
+        name,
+        options: settings.options,
+        nodes: settings.nodes,
+        answer,
+        tree,
+        count,
+    })
+}
+
+/// The report whose text this is, its name and its tree as slices of the text. No tree is made: each of its lines is looked at once.
+///
+/// # Errors
+/// `BadReport` with the first line outside the grammar, from 1, the one behind the last where lines are missing; `NoMemory` where there is
+/// no memory for the report.
+pub fn read_view<'a>(alloc: Global, text: &'a [u8]) -> Result<ReportView<'a>, ReportError>
+    ensures ok { IfOk result (IsViewRead text.now) }
+    ensures bad { IfErr result (IsErrorOf text.now) }
+    ensures whole { (r : Report) → IsReport r → text.now ≡ report_text r → IsViewBack r result }
+{
+    view(alloc, text)
+}
+
+/// The report that a view is of.
+fn report_of(alloc: Global, view: ReportView) -> Result<Report, ReportError>
+    requires { IsView view }
+    ensures ok { IfOk result (λ s. IsReport s × IsViewOf s view.entry) }
+    ensures err { IfErr result (λ e. e ≡ Error.NoMemory) }
+{
+    let Some(name) = Name::from_bytes(view.name) else {
+        return Err(ReportError::NoMemory);
+    };
+    match read_tree(alloc, view.tree) {
+        Ok(tree) => Ok(Report {
+            name,
+            options: view.options,
+            nodes: view.nodes,
+            answer: view.answer,
+            tree,
+        }),
+        Err(_) => Err(ReportError::NoMemory),
+    }
+}
+
+/// The report whose text this is.
+///
+/// # Errors
+/// As `read_view` has them; `NoMemory` also where there is no memory for the tree.
+pub fn read_report(alloc: Global, text: &[u8]) -> Result<Report, ReportError>
+    ensures ok { IfOk result (IsReportRead text.now) }
+    ensures bad { IfErr result (IsErrorOf text.now) }
+    ensures whole { (r : Report) → IsReport r → text.now ≡ report_text r → IsReportBack r result }
+{
+    match read_view(alloc, text) {
+        Ok(view) => report_of(alloc, view),
+        Err(error) => Err(error),
+    }
+}

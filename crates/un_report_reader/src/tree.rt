@@ -1,0 +1,73 @@
+//! The tree in a report, and its end.
+
+ghost use Rattle.std.specs.Prelude.{◌≡◌, ◌≢◌, ℕ, ◌+◌, ◌<◌, List, [], ◌++◌, IfOk, IfErr, OnOk};
+ghost use Rattle.un_report_reader.specs.Errors.{IsErrorAt, IsRead};
+ghost use Rattle.un_report_reader.specs.FirstBad.{IsBadLine, IsBadNode, InTree, InEnd, InNothing};
+ghost use Rattle.un_report_reader.specs.Lines.{IsPlain, one, end_text};
+ghost use Rattle.un_report_reader.specs.Trees.{IsNodesRead, IsTreeRead};
+
+use crate::cut::after;
+use crate::error::ReportError;
+use crate::head::number_line;
+use crate::place::{Place, bad_line, behind};
+use un_commands::command::MOST_NODES;
+use un_tree::read::{Step, first_node};
+
+/// So many lines of nodes.
+fn nodes<'a>(at: Place<'a>, count: u32) -> Result<(&'a [u8], Place<'a>), ReportError>
+    ensures ok { IfOk result (λ p. IsNodesRead count at.entry p.0.now p.1) }
+    ensures bad { IfErr result (IsErrorAt (IsBadNode count) at.entry) }
+{
+    let mut left = at.rest;
+    for k in 0..count {
+        match first_node(left) {
+            Step::Node { rest, .. } => left = rest,
+            Step::End => return Err(bad_line(at, k + 1)),
+            Step::Bad => return Err(bad_line(at, k + 1)),
+        }
+    }
+    let lines = &at.rest[..at.rest.len() - left.len()];
+    Ok((lines, behind(at, left, count)?))
+}
+
+/// The lines of a tree and how many they are.
+#[derive(Clone, Copy)]
+pub(crate) struct Lines<'a> {
+    pub(crate) text: &'a [u8],
+    pub(crate) count: u32,
+}
+
+/// The lines of the tree, with the line of how many they are.
+pub(crate) fn tree(at: Place) -> Result<(Lines, Place), ReportError>
+    ensures ok { IfOk result (λ p. IsTreeRead at.entry p.0 p.1) }
+    ensures bad { IfErr result (IsErrorAt InTree at.entry) }
+{
+    let (count, at) = number_line(at, b"tree ", 1, MOST_NODES as u64)?;
+    let count = count as u32;
+    let (text, at) = nodes(at, count)?;
+    Ok((Lines { text, count }, at))
+}
+
+/// The line of the end.
+fn end_line(at: Place) -> Result<Place, ReportError>
+    ensures ok { IfOk result (λ next. IsRead IsPlain end_text one at.entry tt next) }
+    ensures bad { IfErr result (IsErrorAt (IsBadLine IsPlain end_text) at.entry) }
+{
+    match after(at.rest, b"end\n") {
+        Some(rest) => behind(at, rest, 1),
+        None => Err(bad_line(at, 1)),
+    }
+}
+
+/// Asks for the end, and nothing behind it.
+pub(crate) fn end(at: Place) -> Result<(), ReportError>
+    ensures ok { OnOk result (at.entry.rest.now ≡ end_text tt) }
+    ensures bad { IfErr result (IsErrorAt InEnd at.entry) }
+{
+    let at = end_line(at)?;
+    if at.rest.is_empty() {
+        Ok(())
+    } else {
+        Err(bad_line(at, 1))
+    }
+}
