@@ -11,7 +11,7 @@ use Rattle.un_model.specs.Options.{IsCountOfRegisters}
 use Rattle.un_commands.specs.declared.command.SearchOptions.{SearchOptions}
 use Rattle.un_commands.specs.declared.command.TheConstants.{DEFAULT_NODES}
 use Rattle.un_commands.specs.declared.command.Command.{Command}
-use Rattle.un_commands.specs.declared.command.Command.TheVariants.{Alloc, Run, RunCode, Generate, GenerateAlloc}
+use Rattle.un_commands.specs.declared.command.Command.TheVariants.{Alloc, Run, RunCode, Check, Generate, GenerateAlloc}
 use Rattle.un_commands.specs.declared.setting.Setting.{Setting}
 use Rattle.un_commands.specs.declared.setting.Setting.TheVariants.{Nodes, Regs, Slots}
 use Rattle.un_commands.specs.declared.setting.Given.{Given}
@@ -21,7 +21,7 @@ use Rattle.un_commands.specs.Places.{StandsAt}
 use Rattle.un_commands.specs.Settings.{IsCountOfNodes, IsInRange, words_of, nodes_in, regs_in, slots_in, Say, over_defaults}
 use Rattle.un_commands.proofs.AllocLaws.{line_of}
 use Rattle.un_commands.proofs.GenerateLaws.{plain, costed}
-use Rattle.un_commands.proofs.Openers.{opens_alloc, opens_run, opens_gen, read_at, first_words, IsGen, IsTail, ends, goes}
+use Rattle.un_commands.proofs.Openers.{opens_alloc, opens_run, opens_check, opens_gen, read_at, first_words, IsGen, IsTail, ends, goes}
 use Rattle.un_commands.proofs.SettingLaws.{begin_with, length_words, one_saying, all_values}
 use Rattle.un_commands.proofs.Texts.{some_or_none, one_number}
 use Rattle.un_commands.proofs.WordLaws.{bad_word, command_is_good, bad_word_unique}
@@ -76,6 +76,7 @@ pub is_ranged : (words : List (List ℕ)) (command : Command) → IsCommand word
 is_ranged words (Alloc options) h = subst AreSearchOptions (sym h.chosen) (settings_ranged h.settings h.given h.ranged h.said)
 is_ranged words Run h = tt
 is_ranged words RunCode h = tt
+is_ranged words Check h = tt
 is_ranged words (Generate seed size) h = (h.seed_fits, h.size_in)
 is_ranged words (GenerateAlloc seed size nodes) h = (h.seed_fits, h.size_in, h.nodes_in)
 
@@ -126,6 +127,7 @@ one_command words RunCode b h k = elim (opens_run words b k (read_at words _ 0 h
   | inl plain_run ↦ absurd (one_run words plain_run.1 h)
   | inr with_code ↦ sym with_code.0
 ]
+one_command words Check b h k = sym (opens_check words b k (read_at words _ 0 h)).0
 one_command words (Generate seed size) b h k = one_gen words (Generate seed size) b
     (opens_gen words (Generate seed size) h (read_at words _ 0 h.spelled)) (opens_gen words b k (read_at words _ 0 h.spelled))
 one_command words (GenerateAlloc seed size nodes) b h k = one_gen words (GenerateAlloc seed size nodes) b
@@ -166,6 +168,7 @@ pub words_for : (command : Command) → IsRanged command → (words : List (List
 words_for (Alloc options) h = (line_of (all_settings options.nodes options.regs options.slots), can_be_asked options h)
 words_for Run h = (codes "run" ∷ [], refl)
 words_for RunCode h = (codes "run" ∷ codes "--code" ∷ [], refl)
+words_for Check h = (codes "check" ∷ [], refl)
 words_for (Generate seed size) h = (codes "gen" ∷ decimal seed ∷ decimal size ∷ [], plain seed size h.0 h.1)
 words_for (GenerateAlloc seed size nodes) h = (
   codes "gen" ∷ decimal seed ∷ decimal size ∷ codes "--nodes" ∷ decimal nodes ∷ [],
@@ -174,12 +177,13 @@ words_for (GenerateAlloc seed size nodes) h = (
 
 -- no command begins with another first word
 pub bad_first : (words : List (List ℕ)) → ¬ StandsAt words 0 (codes "alloc") → ¬ StandsAt words 0 (codes "run")
-    → ¬ StandsAt words 0 (codes "gen") → IsBadWord words 0
-bad_first words alloc run gen = bad_word words 0 Run (codes "run" ∷ []) refl refl
+    → ¬ StandsAt words 0 (codes "check") → ¬ StandsAt words 0 (codes "gen") → IsBadWord words 0
+bad_first words alloc run check gen = bad_word words 0 Run (codes "run" ∷ []) refl refl
     (λ other others is alike. elim (first_words others other is) [
       | inl e ↦ alloc (alike 0 (omega arith) ∙ e)
       | inr (inl e) ↦ run (alike 0 (omega arith) ∙ e)
-      | inr (inr e) ↦ gen (alike 0 (omega arith) ∙ e)
+      | inr (inr (inl e)) ↦ check (alike 0 (omega arith) ∙ e)
+      | inr (inr (inr e)) ↦ gen (alike 0 (omega arith) ∙ e)
     ])
 
 -- an answer that is a command of the words, or the place of their first bad one

@@ -4,7 +4,7 @@ use Rattle.std.specs.Fmt.{decimal}
 use Rattle.std.specs.List.{slice_get}
 use Rattle.un_commands.specs.declared.command.SearchOptions.{SearchOptions}
 use Rattle.un_commands.specs.declared.command.Command.{Command}
-use Rattle.un_commands.specs.declared.command.Command.TheVariants.{Alloc, Run, RunCode, Generate, GenerateAlloc}
+use Rattle.un_commands.specs.declared.command.Command.TheVariants.{Alloc, Run, RunCode, Check, Generate, GenerateAlloc}
 use Rattle.un_commands.specs.Alloc.{IsAlloc}
 use Rattle.un_commands.specs.Commands.{IsCommand}
 use Rattle.un_commands.specs.Generate.{IsSize}
@@ -17,6 +17,7 @@ pub opens_alloc : (words : List (List ℕ)) (command : Command) → IsCommand wo
 opens_alloc words (Alloc options) h first = (options, refl, h)
 opens_alloc words Run h first = absurd (other_first 114 97 _ _ _ words (λ e. omega arith) h first)
 opens_alloc words RunCode h first = absurd (other_first 114 97 _ _ _ words (λ e. omega arith) h first)
+opens_alloc words Check h first = absurd (other_first 99 97 _ _ _ words (λ e. omega arith) h first)
 opens_alloc words (Generate seed size) h first = absurd (other_first 103 97 _ _ _ words (λ e. omega arith) h.spelled first)
 opens_alloc words (GenerateAlloc seed size nodes) h first = absurd (other_first 103 97 _ _ _ words (λ e. omega arith) h.spelled first)
 
@@ -25,8 +26,18 @@ pub opens_run : (words : List (List ℕ)) (command : Command) → IsCommand word
 opens_run words (Alloc options) h first = absurd (other_first 97 114 _ _ _ words (λ e. omega arith) h.spelled first)
 opens_run words Run h first = inl (refl, h)
 opens_run words RunCode h first = inr (refl, h)
+opens_run words Check h first = absurd (other_first 99 114 _ _ _ words (λ e. omega arith) h first)
 opens_run words (Generate seed size) h first = absurd (other_first 103 114 _ _ _ words (λ e. omega arith) h.spelled first)
 opens_run words (GenerateAlloc seed size nodes) h first = absurd (other_first 103 114 _ _ _ words (λ e. omega arith) h.spelled first)
+
+pub opens_check : (words : List (List ℕ)) (command : Command) → IsCommand words command → slice_get words 0 ≡ Some (codes "check")
+    → (command ≡ Check) × (words ≡ codes "check" ∷ [])
+opens_check words (Alloc options) h first = absurd (other_first 97 99 _ _ _ words (λ e. omega arith) h.spelled first)
+opens_check words Run h first = absurd (other_first 114 99 _ _ _ words (λ e. omega arith) h first)
+opens_check words RunCode h first = absurd (other_first 114 99 _ _ _ words (λ e. omega arith) h first)
+opens_check words Check h first = (refl, h)
+opens_check words (Generate seed size) h first = absurd (other_first 103 99 _ _ _ words (λ e. omega arith) h.spelled first)
+opens_check words (GenerateAlloc seed size nodes) h first = absurd (other_first 103 99 _ _ _ words (λ e. omega arith) h.spelled first)
 
 -- what stands behind a size: nothing, or a number of nodes
 pub data IsTail (words : List (List ℕ)) (command : Command) (seed size : ℕ) : Type 0 where
@@ -52,6 +63,7 @@ pub opens_gen : (words : List (List ℕ)) (command : Command) → IsCommand word
 opens_gen words (Alloc options) h first = absurd (other_first 97 103 _ _ _ words (λ e. omega arith) h.spelled first)
 opens_gen words Run h first = absurd (other_first 114 103 _ _ _ words (λ e. omega arith) h first)
 opens_gen words RunCode h first = absurd (other_first 114 103 _ _ _ words (λ e. omega arith) h first)
+opens_gen words Check h first = absurd (other_first 99 103 _ _ _ words (λ e. omega arith) h first)
 opens_gen words (Generate seed size) h first = record {
   seed = seed;
   size = size;
@@ -73,9 +85,10 @@ opens_gen words (GenerateAlloc seed size nodes) h first = record {
 
 pub first_words : (words : List (List ℕ)) (command : Command) → IsCommand words command
     → StandsAt words 0 (codes "alloc")
-    ⊎ (StandsAt words 0 (codes "run") ⊎ StandsAt words 0 (codes "gen"))
+    ⊎ (StandsAt words 0 (codes "run") ⊎ (StandsAt words 0 (codes "check") ⊎ StandsAt words 0 (codes "gen")))
 first_words words (Alloc options) h = inl (read_at words _ 0 h.spelled)
 first_words words Run h = inr (inl (read_at words _ 0 h))
 first_words words RunCode h = inr (inl (read_at words _ 0 h))
-first_words words (Generate seed size) h = inr (inr (read_at words _ 0 h.spelled))
-first_words words (GenerateAlloc seed size nodes) h = inr (inr (read_at words _ 0 h.spelled))
+first_words words Check h = inr (inr (inl (read_at words _ 0 h)))
+first_words words (Generate seed size) h = inr (inr (inr (read_at words _ 0 h.spelled)))
+first_words words (GenerateAlloc seed size nodes) h = inr (inr (inr (read_at words _ 0 h.spelled)))

@@ -3,7 +3,7 @@ use Rattle.std.proofs.Common.{ℕ, ◌≡◌, ◌+◌, ◌<◌, ◌^◌, inl, in
 use Rattle.std.specs.Fmt.{decimal}
 use Rattle.std.proofs.lemmas.Bool.{eqb-false}
 use Rattle.std.proofs.lemmas.Fmt.{decimal_digit, decimal_step, decimal_injective}
-use Rattle.un_commands.specs.declared.command.Command.TheVariants.{Alloc, RunCode}
+use Rattle.un_commands.specs.declared.command.Command.TheVariants.{Alloc, RunCode, Check}
 use Rattle.un_commands.specs.declared.setting.Setting.{Setting}
 use Rattle.un_commands.specs.declared.setting.Setting.TheVariants.{Nodes, Regs, Slots}
 use Rattle.un_commands.specs.Commands.{IsCommand, IsBadWord}
@@ -12,7 +12,7 @@ use Rattle.un_commands.specs.Settings.{IsInRange, flag_of, number_of, none_given
 use Rattle.un_commands.proofs.AllocLaws.{so_far_none, so_far_more, is_alloc, bad_flag, bad_value}
 use Rattle.un_commands.proofs.CommandLaws.{bad_first}
 use Rattle.un_commands.proofs.GenerateLaws.{bad_size, bad_nodes}
-use Rattle.un_commands.proofs.Openers.{opens_run, read_at}
+use Rattle.un_commands.proofs.Openers.{opens_run, opens_check, read_at}
 use Rattle.un_commands.proofs.WordLaws.{bad_word}
 
 digit : (n : ℕ) → n < 10 → (48 + n) ∷ [] ≡ decimal n
@@ -30,7 +30,7 @@ other_number word m n is small_m small_n e = let same : decimal m ≡ decimal n 
 
 -- no words at all
 nothing : IsBadWord [] 0
-nothing = bad_first [] (λ e. no _ e) (λ e. no _ e) (λ e. no _ e)
+nothing = bad_first [] (λ e. no _ e) (λ e. no _ e) (λ e. no _ e) (λ e. no _ e)
   where
     no : (w : List ℕ) → None ≡ Some w → ⊥
     no w e = cc
@@ -130,6 +130,18 @@ word_more = bad_word (codes "run" ∷ codes "--code" ∷ codes "x" ∷ []) 2 Run
       | inl alone_run ↦ no _ (alike 1 (lit< tt) ∙ read_at others _ 1 alone_run.1)
       | inr with_code ↦ no _ (alike 2 (lit< tt) ∙ read_at others _ 2 with_code.1)
     ])
+  where
+    no : (w : List ℕ) → Some w ≡ None → ⊥
+    no w e = cc
+
+-- `check`
+check_alone : IsCommand (codes "check" ∷ []) Check
+check_alone = refl
+
+-- `check x`
+word_behind_check : IsBadWord (codes "check" ∷ codes "x" ∷ []) 1
+word_behind_check = bad_word (codes "check" ∷ codes "x" ∷ []) 1 Check (codes "check" ∷ []) refl refl
+    (λ other others is alike. no _ (alike 1 (lit< tt) ∙ read_at others _ 1 (opens_check others other is (sym (alike 0 (lit< tt)))).1))
   where
     no : (w : List ℕ) → Some w ≡ None → ⊥
     no w e = cc

@@ -1,7 +1,7 @@
 -- The grammar of the words of a command line.
 use Rattle.std.specs.Prelude.{ℕ, ◌≡◌, ◌+◌, ◌<◌, ◌^◌, List, [], ◌∷◌, codes, take}
 use Rattle.un_commands.specs.declared.command.Command.{Command}
-use Rattle.un_commands.specs.declared.command.Command.TheVariants.{Alloc, Run, RunCode, Generate, GenerateAlloc}
+use Rattle.un_commands.specs.declared.command.Command.TheVariants.{Alloc, Run, RunCode, Check, Generate, GenerateAlloc}
 use Rattle.un_commands.specs.Alloc.{IsAlloc, AreSearchOptions}
 use Rattle.un_commands.specs.Generate.{IsSize, IsGenerate, IsGenerateAlloc}
 use Rattle.un_commands.specs.Settings.{IsCountOfNodes}
@@ -11,6 +11,7 @@ abbrev pub IsCommand : List (List ℕ) → Command → Type 0
 IsCommand words (Alloc options) = IsAlloc words options
 IsCommand words Run = words ≡ codes "run" ∷ []
 IsCommand words RunCode = words ≡ codes "run" ∷ codes "--code" ∷ []
+IsCommand words Check = words ≡ codes "check" ∷ []
 IsCommand words (Generate seed size) = IsGenerate words seed size
 IsCommand words (GenerateAlloc seed size nodes) = IsGenerateAlloc words seed size nodes
 
@@ -32,5 +33,6 @@ abbrev pub IsRanged : Command → Type 0
 IsRanged (Alloc options) = AreSearchOptions options
 IsRanged Run = Unit {0}
 IsRanged RunCode = Unit {0}
+IsRanged Check = Unit {0}
 IsRanged (Generate seed size) = (seed < 2 ^ 64) × IsSize size
 IsRanged (GenerateAlloc seed size nodes) = (seed < 2 ^ 64) × IsSize size × IsCountOfNodes nodes

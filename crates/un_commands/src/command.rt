@@ -44,6 +44,8 @@ pub enum Command {
     Run,
     /// What code does from a start.
     RunCode,
+    /// Whether the report of a function is accepted.
+    Check,
     /// The function that is made from a seed, with so many blocks, 1 to 16.
     Generate { seed: u64, size: u32 },
     /// The report of such a function, by a search of so many nodes, 1 to 200,000.

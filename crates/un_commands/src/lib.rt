@@ -2,6 +2,7 @@
 #![tactic(auto)]
 
 mod alloc;
+mod check;
 pub mod command;
 mod generate;
 pub mod laws;

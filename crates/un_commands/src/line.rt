@@ -4,6 +4,7 @@ ghost use Rattle.std.specs.Prelude.{◌≡◌, ℕ, Err, IfOk};
 ghost use Rattle.un_commands.specs.Commands.{IsCommand, IsBadWord, IsRanged};
 
 use crate::alloc::read_alloc;
+use crate::check::read_check;
 use crate::command::Command;
 use crate::generate::read_generate;
 use crate::run::read_run;
@@ -27,6 +28,8 @@ pub fn read_command(words: &[Word]) -> Result<Command, u32>
         read_alloc(words)
     } else if first.is(b"run") {
         read_run(words)
+    } else if first.is(b"check") {
+        read_check(words)
     } else if first.is(b"gen") {
         read_generate(words)
     } else {
