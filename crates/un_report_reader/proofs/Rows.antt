@@ -2,7 +2,7 @@
 use Rattle.std.proofs.Common.{ℕ, ◌≡◌, ◌≢◌, ◌+◌, inl, inr, List, [], ◌∷◌, ◌++◌, All, None, codes, decimal, length}
 use Rattle.std.proofs.Common.{refl, sym, ap, ◌∙◌, subst, arith}
 use Rattle.std.specs.Fmt.{digits}
-use Rattle.std.proofs.lemmas.List.Elements.{All-cons, All-nil}
+use Rattle.std.proofs.lemmas.List.Elements.{All-cons, All-nil, All-from_recursion}
 use Rattle.un_base.specs.Names.{is_name}
 use Rattle.un_commands.specs.Settings.{IsCountOfNodes}
 use Rattle.un_model.specs.Options.{AreOptions}
@@ -15,11 +15,11 @@ use Rattle.un_report_reader.proofs.Once.{number_line_once}
 use Rattle.un_report_reader.proofs.Through.{behind_line}
 use Rattle.un_report_reader.proofs.WholeTexts.{IsText, flat, text_is_good}
 use Rattle.un_report_reader.specs.Answers.{IsAnswer}
-use Rattle.un_report_reader.specs.FirstBad.{BeginsNone, BehindKind, BeginsNoNumber, IsBadNumber, InFunction, InModel, InAnswer, InTree}
+use Rattle.un_report_reader.specs.FirstBad.{BeginsNone, BehindKind, IsBadNumber, InFunction, InModel, InAnswer, InTree}
 use Rattle.un_report_reader.specs.FirstBad.{InNodes, InEnd, InNothing, IsFirstBad}
 use Rattle.un_report_reader.specs.Lines.{IsVersion, version_text, IsName, function_text, AreSettings, settings_text, IsAny, kind_text}
 use Rattle.un_report_reader.specs.Lines.{IsShort, tree_head, IsPlain, end_text}
-use Rattle.un_report_reader.specs.Readings.{IsReport, IsReportRead}
+use Rattle.un_report_reader.specs.Readings.{IsReportRead}
 use Rattle.un_report_reader.specs.declared.kind.Kind.TheVariants as KindOf
 use Rattle.un_tree.proofs.Cuts.{cut_none}
 use Rattle.un_tree.specs.Texts.{Fits, tree_text}
@@ -43,7 +43,7 @@ abbrev stopped_text : List ℕ
 stopped_text = codes "unison 1\nfunction f\nmodel regs all slots 64 nodes 1\nanswer spent\ntree 1\nO\nend\n"
 
 well_set : AreSettings (all_registers, 1)
-well_set = (record { regs = tt; slots = omega arith }, omega arith, omega arith)
+well_set = (record { regs = tt; slots = omega arith }, (omega arith, omega arith))
 
 one_fits : All Fits (Open ∷ [])
 one_fits = All-cons Fits Open [] tt (All-nil Fits)
@@ -132,10 +132,11 @@ not_none count rest good e =
 no_nodes : IsFirstBad (codes "unison 1\nfunction f\nmodel regs all slots 64 nodes 1\nanswer spent\ntree 0\nend\n") 5
 no_nodes = behind_four (codes "tree 0\nend\n") 1 (inl (not_none, refl))
 
--- two numbers stand on one line, so a line feed behind the first is none of theirs
 no_space : All (λ y. y ≢ 32) (codes "1\n2\n")
-no_space = recursion_to_All
+no_space = All-from_recursion (λ y. y ≢ 32) (codes "1\n2\n")
+    ((λ e. omega (arith, e)), ((λ e. omega (arith, e)), ((λ e. omega (arith, e)), ((λ e. omega (arith, e)), tt))))
 
+-- two numbers stand on one line, so a line feed behind the first is none of theirs
 short_line : IsBadNumber 2 (codes "1\n2\n") 1
 short_line = record {
   before = [];
