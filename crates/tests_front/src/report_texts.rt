@@ -9,7 +9,8 @@ use un_report_reader::error::ReportError;
 use un_report_reader::read::{read_report, read_view};
 
 /// Texts, each with its first bad line, or that it is printed again as it stands.
-static ROWS: &[u8] = b"# The report of the smallest function, its first lines alone, and reports that were altered, read by another program from the rules.\
+static ROWS: &[u8] =
+    b"# The report of the smallest function, its first lines alone, and reports that were altered, read by another program from the rules.\
 |unison 1\nfunction f\nmodel regs all slots 64 nodes 2000\nanswer code\ncost 1\nbound 1\nlisting 3\nframe 0\nblock e\n{ jumpr r31 }\nsolution 124\n16 17 18 19 20 21 22 23 24 25 26 27 31 0 0 0\n0 0 0 0 0 0 0 0 0 0 0 0 0 0 0 0\n0 0 0 0 0 0 0 0 0 0 0 0 0 0 0 0\n0 0 0 0 0 0 0 0 0 0 0 0 1 0 0 0\n0 0 0 0 0 0 0 0 0 0 0 0 0 0 0 0\n0 0 0 0 0 0 0 0 0 0 0 0 0 0 0 0\n0 0 0 0 0 0 0 0 0 0 0 0 0 0 0 0\n0 0 0 0 0 0 0 0 0 0 2 0\ntree 1\nC\nend\n?same:yes\
 |&?first 0:bad 1\
 |&?first 1:bad 2\
@@ -99,7 +100,11 @@ fn put_again(alloc: Global, out: &mut Vec<u8>, text: &[u8]) -> Result<(), NoMemo
     match read_report(alloc, text) {
         Ok(report) => {
             let printed = print_report(alloc, &report)?;
-            let word: &[u8] = if printed.as_slice() == text { b"yes" } else { b"no" };
+            let word: &[u8] = if printed.as_slice() == text {
+                b"yes"
+            } else {
+                b"no"
+            };
             put_text(out, word)
         }
         Err(error) => put_error(out, error),

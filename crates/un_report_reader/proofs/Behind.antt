@@ -1,5 +1,5 @@
 -- A bad line behind several parts of a report.
-use Rattle.std.proofs.Common.{◌≡◌, ℕ, ◌+◌, ◌⊎◌, inl, inr, List, [], ◌∷◌, ◌++◌, codes, decimal, length, refl, sym, ap, ◌∙◌, subst, arith, append_assoc, append-nil}
+use Rattle.std.proofs.Common.{◌≡◌, ℕ, ◌+◌, inr, List, [], ◌∷◌, ◌++◌, codes, decimal, length, refl, sym, ap, ◌∙◌, subst, arith, append_assoc}
 use Rattle.un_commands.specs.Settings.{IsCountOfNodes}
 use Rattle.un_listing.specs.Listing.{code_lines, code_text}
 use Rattle.un_model.specs.declared.model.Options.{Options}
@@ -10,20 +10,17 @@ use Rattle.un_report.specs.declared.report.Answered.TheVariants.{Code, Infeasibl
 use Rattle.un_report.specs.declared.report.TheConstants.{VERSION}
 use Rattle.un_report_reader.specs.Answers.{AreCosts, costs_lines, IsListed, listing_lines, AreValues, solution_lines, kind_of, IsAnswer}
 use Rattle.un_report_reader.specs.Answers.{behind_kind, lines_behind, answer_lines}
-use Rattle.un_report_reader.specs.FirstBad.{InLine, IsBadBehind, BehindKind, InVersion, InFunction, InModel, InAnswer, InCost, InBound}
-use Rattle.un_report_reader.specs.FirstBad.{InListing, InCode, InSolution, InNumbers, InTree, InNodes, InEnd, numbers_lines, lines_in_code}
+use Rattle.un_report_reader.specs.FirstBad.{BehindKind, InVersion, InFunction, InModel, InAnswer, InCost, InBound}
+use Rattle.un_report_reader.specs.FirstBad.{InListing, InCode, InSolution, InNumbers, InTree, InNodes, InEnd}
 use Rattle.un_report_reader.specs.Heads.{HeadValue, IsHead, head_text}
 use Rattle.un_report_reader.specs.Lines.{IsVersion, version_text, IsName, function_text, AreSettings, settings_text, IsAny, kind_text}
-use Rattle.un_report_reader.specs.Lines.{number_text, IsLong, IsShort, cost_text, bound_text, listing_head, HasLines, solution_head, AreNumbers}
-use Rattle.un_report_reader.specs.Lines.{line_count, tree_head, AreNodes}
-use Rattle.un_report_reader.specs.Trees.{AreNodeLines, IsTree, lines_text}
-use Rattle.un_report_reader.specs.declared.kind.Kind.{Kind}
+use Rattle.un_report_reader.specs.Lines.{IsLong, IsShort, cost_text, bound_text, listing_head, solution_head}
+use Rattle.un_report_reader.specs.Lines.{line_count, tree_head}
+use Rattle.un_report_reader.specs.Trees.{IsTree, lines_text}
 use Rattle.un_report_reader.specs.declared.kind.Kind.TheVariants as KindOf
 use Rattle.un_report_reader.specs.declared.tree.Lines.{Lines}
 use Rattle.un_report_reader.proofs.Seams.{woven}
 use Rattle.un_report_reader.proofs.Through.{behind_line}
-use Rattle.un_tree.specs.Texts.{tree_text}
-use Rattle.un_tree.specs.declared.node.Node.{Node}
 
 -- a text of two parts before more
 two_parts : (text first second rest : List ℕ) → text ≡ (first ++ second) ++ rest → text ≡ first ++ (second ++ rest)

@@ -1,9 +1,9 @@
 -- Fields and numbers at the front of a text.
-use Rattle.std.proofs.Common.{◌≡◌, ◌≢◌, ℕ, ◌+◌, ◌-◌, ◌%◌, ◌<◌, ◌≤◌, ◌^◌, List, [], ◌∷◌, ◌++◌, All, Option, Some, None, Bor, MatchOption, IfSome, IfNone}
+use Rattle.std.proofs.Common.{◌≡◌, ◌≢◌, ℕ, ◌+◌, ◌<◌, ◌^◌, List, [], ◌∷◌, ◌++◌, All, Option, Some, None, Bor, MatchOption, IfSome, IfNone}
 use Rattle.std.proofs.Common.{length, take, drop, refl, sym, ap, ◌∙◌, decimal, arith, true, false}
 use Rattle.std.specs.List.{AllByRecursion}
 use Rattle.std.specs.Str.{bytes_eq}
-use Rattle.std.proofs.lemmas.Fmt.{decimal_by_steps, decimal_injective}
+use Rattle.std.proofs.lemmas.Fmt.{decimal_injective}
 use Rattle.un_report_reader.specs.Parts.{IsField, IsWithin, IsNumber}
 use Rattle.un_tree.proofs.Cuts.{begins, not_begins, cut_once, cut_none, cut_parts}
 use Rattle.un_tree.proofs.NodeLines.{digits_apart}

@@ -4,6 +4,7 @@ pub mod Listings
 pub mod NumberLaws
 pub mod Once
 pub mod PartLaws
+pub mod Rows
 pub mod Seams
 pub mod Through
 pub mod TreeLaws

@@ -1,6 +1,6 @@
 -- The listing in a report: its lines, and what is left behind them.
-use Rattle.std.proofs.Common.{◌≡◌, ◌≢◌, ℕ, suc, ◌+◌, ◌<◌, ◌≤◌, ◌⊎◌, ◌==◌, inl, inr, Bool, true, false, if◌then◌else◌, List, [], ◌∷◌, ◌++◌, map}
-use Rattle.std.proofs.Common.{length, take, codes, refl, sym, ap, ◌∙◌, arith, append_assoc, length-append}
+use Rattle.std.proofs.Common.{◌≡◌, ◌≢◌, ℕ, suc, ◌+◌, ◌<◌, ◌≤◌, ◌==◌, inl, inr, Bool, true, false, if◌then◌else◌, List, [], ◌∷◌, ◌++◌, map}
+use Rattle.std.proofs.Common.{length, take, refl, sym, ap, ◌∙◌, arith, append_assoc, length-append}
 use Rattle.std.specs.List.{AllZip, concat, flat_map, onto_first}
 use Rattle.std.proofs.lemmas.List.Folds.{concat-append}
 use Rattle.std.proofs.Math.Logic.{∥∥₁_elim}
@@ -12,7 +12,7 @@ use Rattle.un_listing.specs.Listing.{packet_line, block_lines, code_lines, code_
 use Rattle.un_listing_reader.proofs.CodeBack.{one_code, refused}
 use Rattle.un_listing_reader.proofs.LineTexts.{IsSpelled, blocks_spelled, first_piece}
 use Rattle.un_listing_reader.specs.Reading.{lines_in, packet_lines}
-use Rattle.un_listing_reader.specs.declared.read.ListingError.TheVariants.{NoMemory, BadListing}
+use Rattle.un_listing_reader.specs.declared.read.ListingError.TheVariants.{BadListing}
 use Rattle.un_packet.specs.CodeRules.{KeepsRules, labels_of}
 use Rattle.un_packet.specs.declared.code.Code.{Code}
 use Rattle.un_packet.specs.declared.code.CodeBlock.{CodeBlock}

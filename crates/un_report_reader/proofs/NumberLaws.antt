@@ -1,5 +1,5 @@
 -- The numbers of a solution, read from the front.
-use Rattle.std.proofs.Common.{◌≡◌, ◌≢◌, ℕ, suc, ◌+◌, ◌-◌, ◌%◌, ◌/◌, ◌<◌, ◌≤◌, ◌^◌, ◌==◌, ◌||◌, Bool, true, false, if◌then◌else◌, List, [], ◌∷◌, ◌++◌}
+use Rattle.std.proofs.Common.{◌≡◌, ℕ, ◌+◌, ◌%◌, ◌/◌, ◌<◌, ◌==◌, ◌||◌, Bool, true, false, if◌then◌else◌, List, [], ◌∷◌, ◌++◌}
 use Rattle.std.proofs.Common.{All, length, codes, decimal, refl, sym, ap, ◌∙◌, subst, arith, append_assoc, length-append}
 use Rattle.std.specs.List.{AllByRecursion}
 use Rattle.std.proofs.lemmas.List.Elements.{recursion_from_All, All-cons, All-nil, All-append}
@@ -7,7 +7,7 @@ use Rattle.un_report.specs.declared.report.TheConstants.{NUMBERS}
 use Rattle.un_report.specs.Reports.{after_number, numbers_from, numbers_text}
 use Rattle.un_report_reader.specs.FirstBad.{BeginsNoNumber, IsBadNumber}
 use Rattle.un_report_reader.specs.Lines.{IsShort, AreNumbers}
-use Rattle.un_report_reader.specs.Parts.{IsWithin, IsNumber}
+use Rattle.un_report_reader.specs.Parts.{IsNumber}
 use Rattle.un_report_reader.proofs.Cuts.{number_once}
 
 -- ---- the byte behind a number

@@ -1,22 +1,20 @@
 -- Each part of a report is told by its text, and no line of it is bad.
-use Rattle.std.proofs.Common.{◌≡◌, ◌≢◌, ℕ, ◌+◌, ◌-◌, ◌%◌, ◌<◌, ◌≤◌, ◌^◌, ◌⊎◌, inl, inr, true, false, List, [], ◌∷◌, ◌++◌, All, Option, Some, None, IfSome}
+use Rattle.std.proofs.Common.{◌≡◌, ◌≢◌, ℕ, ◌+◌, ◌%◌, ◌<◌, ◌^◌, inl, inr, true, false, List, [], ◌∷◌, ◌++◌, Option, Some, None, IfSome}
 use Rattle.std.proofs.Common.{length, codes, decimal, get_or, refl, sym, ap, ◌∙◌, subst, arith}
 use Rattle.std.specs.List.{AllByRecursion, list_all}
 use Rattle.std.proofs.lemmas.Bool.{and_parts}
 use Rattle.std.proofs.lemmas.Fmt.{decimal_by_steps, decimal_injective}
 use Rattle.std.proofs.lemmas.List.Elements.{recursion_from_All}
-use Rattle.un_base.specs.Names.{is_name, is_rest}
-use Rattle.un_commands.specs.Settings.{IsCountOfNodes}
+use Rattle.un_base.specs.Names.{is_rest}
 use Rattle.un_model.specs.declared.model.Options.{Options}
 use Rattle.un_model.specs.Options.{IsCountOfRegisters}
 use Rattle.un_report.specs.Reports.{regs_text}
 use Rattle.un_report_reader.proofs.Cuts.{behind_once, number_once}
-use Rattle.un_report_reader.proofs.Seams.{number_seam, function_seam, settings_parts, settings_seam}
-use Rattle.un_report_reader.specs.FirstBad.{BeginsNone, IsBadLine, IsBadBehind, InLine, IsBadNode}
+use Rattle.un_report_reader.proofs.Seams.{number_seam, function_seam, settings_seam}
+use Rattle.un_report_reader.specs.FirstBad.{IsBadBehind, InLine, IsBadNode}
 use Rattle.un_report_reader.specs.Lines.{one, number_text, IsName, function_text, AreSettings, settings_text, IsAny, kind_text, AreNodes}
 use Rattle.un_report_reader.specs.Lines.{IsPlain, end_text}
 use Rattle.un_report_reader.specs.Parts.{IsWithin}
-use Rattle.un_report_reader.specs.declared.kind.Kind.{Kind}
 use Rattle.un_report_reader.specs.declared.kind.Kind.TheVariants as KindOf
 use Rattle.un_tree.proofs.Cuts.{cut_once}
 use Rattle.un_tree.proofs.NodeLines.{digits_apart}

@@ -1,5 +1,5 @@
 -- Parts of a report that are read, one after another.
-use Rattle.std.proofs.Common.{◌≡◌, ◌≢◌, ℕ, ◌+◌, ◌≤◌, ◌<◌, inl, List, [], ◌∷◌, ◌++◌, Option, Some, None, Bor, IfSome, IfNone, IfOk, IfErr, Result, Ok, Err, codes, decimal, length}
+use Rattle.std.proofs.Common.{◌≡◌, ◌≢◌, ℕ, ◌+◌, ◌≤◌, inl, List, ◌∷◌, ◌++◌, Option, IfSome, IfOk, IfErr, Result, Ok, Err, codes, decimal, length}
 use Rattle.std.proofs.Common.{◌-◌, take, length-append, refl, sym, ap, ◌∙◌, subst, arith, append_assoc}
 use Rattle.un_model.specs.declared.model.Options.{Options}
 use Rattle.un_packet.specs.declared.code.Code.{Code as CodeValue}
@@ -34,7 +34,7 @@ use Rattle.un_commands.specs.Settings.{IsCountOfNodes}
 use Rattle.un_listing.specs.Listing.{code_lines, code_text}
 use Rattle.un_report_reader.specs.Heads.{IsHead, head_text, three}
 use Rattle.un_report_reader.specs.Lines.{one, IsVersion, version_text, IsName, function_text, AreSettings, settings_text, IsAny, kind_text}
-use Rattle.un_report_reader.specs.Lines.{number_text, IsLong, IsShort, cost_text, bound_text, tree_head, listing_head, HasLines, solution_head, AreNumbers}
+use Rattle.un_report_reader.specs.Lines.{IsLong, IsShort, cost_text, bound_text, tree_head, listing_head, HasLines, solution_head, AreNumbers}
 use Rattle.un_report_reader.specs.Parts.{IsField, IsWithin, IsNumber}
 use Rattle.un_report_reader.specs.Readings.{IsErrorOf}
 use Rattle.un_report_reader.specs.declared.error.ReportError.{ReportError}

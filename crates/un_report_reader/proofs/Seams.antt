@@ -1,5 +1,5 @@
 -- The lines of a report before more text.
-use Rattle.std.proofs.Common.{◌≡◌, ℕ, List, [], ◌∷◌, ◌++◌, Option, codes, decimal, refl, sym, ap, ◌∙◌, append_assoc}
+use Rattle.std.proofs.Common.{◌≡◌, ℕ, List, [], ◌∷◌, ◌++◌, codes, decimal, sym, ap, ◌∙◌, append_assoc}
 use Rattle.un_model.specs.declared.model.Options.{Options}
 use Rattle.un_report.specs.Reports.{regs_text}
 use Rattle.un_report_reader.specs.Lines.{number_text, function_text, settings_text}

@@ -1,10 +1,10 @@
 -- Errors at a place, and at an earlier one.
-use Rattle.std.proofs.Common.{◌≡◌, ℕ, ◌+◌, ◌⊎◌, inl, inr, List, ◌++◌, refl, sym, ap, ◌∙◌, subst, arith}
+use Rattle.std.proofs.Common.{◌≡◌, ℕ, ◌+◌, inl, inr, List, ◌++◌, refl, sym, subst, arith}
 use Rattle.un_report_reader.specs.declared.error.ReportError.{ReportError}
 use Rattle.un_report_reader.specs.declared.error.ReportError.TheVariants.{NoMemory, BadReport}
 use Rattle.un_report_reader.specs.declared.place.Place.{Place}
-use Rattle.un_report_reader.specs.Errors.{Names, IsBadAt, IsErrorAt, IsRead}
-use Rattle.un_report_reader.specs.FirstBad.{BeginsNone, IsBadLine, IsBadBehind, InLine}
+use Rattle.un_report_reader.specs.Errors.{Names, IsErrorAt, IsRead}
+use Rattle.un_report_reader.specs.FirstBad.{IsBadLine, InLine}
 use Rattle.un_report_reader.specs.Lines.{one}
 
 -- an error that names a line is that of a relation that has it

@@ -1,6 +1,6 @@
 -- Views of reports: which report one is of, and what reading one answers.
-use Rattle.std.proofs.Common.{◌≡◌, ℕ, ◌+◌, List, [], ◌∷◌, ◌++◌, Result, Ok, Err, IfOk, IfErr, All, codes, decimal, length, refl, sym, ap, ◌∙◌, subst}
-use Rattle.std.proofs.Common.{arith, append_assoc}
+use Rattle.std.proofs.Common.{◌≡◌, ℕ, List, [], ◌++◌, Result, Ok, Err, IfOk, IfErr, codes, length, refl, sym, ap, ◌∙◌, subst}
+use Rattle.std.proofs.Common.{append_assoc}
 use Rattle.un_report.specs.Reports.{answer_text, report_text}
 use Rattle.un_report.specs.Views.{IsViewOf, view_text}
 use Rattle.un_report.specs.declared.report.Report.{Report}
@@ -16,15 +16,14 @@ use Rattle.un_report_reader.specs.Answers.{IsAnswer, answer_lines}
 use Rattle.un_report_reader.specs.Errors.{IsErrorAt, IsRead}
 use Rattle.un_report_reader.specs.FirstBad.{InVersion, InAnswer, InTree, InEnd}
 use Rattle.un_report_reader.specs.Heads.{HeadValue, IsHead, head_text, three}
-use Rattle.un_report_reader.specs.Lines.{version_text, function_text, settings_text, tree_head, AreNodes, end_text}
+use Rattle.un_report_reader.specs.Lines.{version_text, function_text, settings_text, tree_head, end_text}
 use Rattle.un_report_reader.specs.Readings.{IsReport, IsView, IsErrorOf, IsViewRead, IsViewBack, IsReportRead, AreSame, IsReportBack}
 use Rattle.un_report_reader.specs.Trees.{IsTree, lines_text, tree_lines, IsTreeRead}
 use Rattle.un_report_reader.specs.declared.error.ReportError.{ReportError}
 use Rattle.un_report_reader.specs.declared.error.ReportError.TheVariants.{NoMemory}
 use Rattle.un_report_reader.specs.declared.place.Place.{Place}
 use Rattle.un_report_reader.specs.declared.tree.Lines.{Lines}
-use Rattle.un_tree.specs.Texts.{Fits, tree_text}
-use Rattle.un_tree.specs.declared.node.Node.{Node}
+use Rattle.un_tree.specs.Texts.{tree_text}
 
 -- ---- errors in the parts of a report
 

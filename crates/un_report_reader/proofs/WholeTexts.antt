@@ -1,6 +1,6 @@
 -- Reports are told by their texts, and no line of one is bad.
-use Rattle.std.proofs.Common.{◌≡◌, ℕ, ◌+◌, ◌-◌, ◌<◌, ◌^◌, ◌⊎◌, inl, inr, List, [], ◌∷◌, ◌++◌, Result, Ok, Err, All, codes, decimal, length}
-use Rattle.std.proofs.Common.{refl, sym, ap, ◌∙◌, subst, arith, append_assoc, append-nil}
+use Rattle.std.proofs.Common.{◌≡◌, ℕ, ◌-◌, ◌^◌, inl, inr, List, [], ◌∷◌, ◌++◌, codes, decimal, length}
+use Rattle.std.proofs.Common.{refl, sym, ap, ◌∙◌, arith, append_assoc}
 use Rattle.un_commands.specs.Settings.{IsCountOfNodes}
 use Rattle.un_listing.specs.Listing.{code_lines, code_text}
 use Rattle.un_model.specs.declared.model.Options.{Options}
@@ -14,16 +14,14 @@ use Rattle.un_report.specs.declared.report.Report.{Report}
 use Rattle.un_report.specs.declared.report.TheConstants.{VERSION}
 use Rattle.un_report.specs.declared.view.ReportView.{ReportView}
 use Rattle.un_report_reader.specs.Answers.{IsListed, AreValues, kind_of, IsAnswer, behind_kind}
-use Rattle.un_report_reader.specs.FirstBad.{InLine, BehindKind, InVersion, InFunction, InModel, InAnswer, InCost, InBound, InListing, InCode}
-use Rattle.un_report_reader.specs.FirstBad.{InSolution, InNumbers, InTree, InNodes, InEnd, InNothing, numbers_lines, lines_in_code, IsBadCode}
-use Rattle.un_report_reader.specs.FirstBad.{IsBadNumber, IsBadNode}
+use Rattle.un_report_reader.specs.FirstBad.{BehindKind, InVersion, InFunction, InModel, InAnswer, InCost, InBound, InListing, InCode}
+use Rattle.un_report_reader.specs.FirstBad.{InSolution, InNumbers, InTree, InNodes, InEnd, InNothing, numbers_lines, lines_in_code}
 use Rattle.un_report_reader.specs.Lines.{IsVersion, version_text, IsName, function_text, AreSettings, settings_text, IsAny, kind_text}
 use Rattle.un_report_reader.specs.Lines.{number_text, IsLong, IsShort, cost_text, bound_text, listing_head, HasLines, solution_head, AreNumbers}
 use Rattle.un_report_reader.specs.Lines.{tree_head, AreNodes, IsPlain, end_text}
 use Rattle.un_report_reader.specs.Readings.{IsReport, IsView, IsErrorOf}
 use Rattle.un_report_reader.specs.declared.error.ReportError.{ReportError}
 use Rattle.un_report_reader.specs.declared.error.ReportError.TheVariants.{NoMemory, BadReport}
-use Rattle.un_report_reader.specs.declared.kind.Kind.TheVariants as KindOf
 use Rattle.un_report_reader.proofs.Behind.{listing_seam, solution_seam, answer_seam, four_parts}
 use Rattle.un_report_reader.proofs.Listings.{codes_once, no_bad_code}
 use Rattle.un_report_reader.proofs.Seams.{woven}
@@ -31,7 +29,7 @@ use Rattle.un_report_reader.proofs.NumberLaws.{numbers_once, no_bad_number}
 use Rattle.un_report_reader.proofs.Once.{Once, good_behind, good_line, number_line_once, function_once, settings_once, kind_once, tree_once}
 use Rattle.un_report_reader.proofs.Once.{no_bad_node, end_once}
 use Rattle.std.proofs.lemmas.List.Elements.{recursion_from_All}
-use Rattle.un_tree.specs.Texts.{Fits, tree_text}
+use Rattle.un_tree.specs.Texts.{tree_text}
 use Rattle.un_tree.specs.declared.node.Node.{Node}
 
 -- ---- the parts, each told by its text

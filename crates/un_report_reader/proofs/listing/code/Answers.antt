@@ -1,4 +1,3 @@
-use Rattle.std.proofs.Common.{refl}
 use Rattle.un_report_reader.proofs.PartLaws.{rest_short, code_here, refused_at}
 use Rattle.un_report_reader.proofs.listing.code.Goals as goal
 

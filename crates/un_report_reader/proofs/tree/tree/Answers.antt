@@ -3,7 +3,7 @@ use Rattle.un_commands.specs.Settings.{IsCountOfNodes}
 use Rattle.un_report_reader.specs.FirstBad.{InNodes}
 use Rattle.un_report_reader.specs.Lines.{tree_head}
 use Rattle.un_report_reader.proofs.PartLaws.{own_nodes}
-use Rattle.un_report_reader.proofs.Through.{in_line, past_line}
+use Rattle.un_report_reader.proofs.Through.{past_line}
 use Rattle.un_report_reader.proofs.tree.tree.Goals as goal
 
 pub returns-in_err-text-clause-bad : goal.returns-in_err-text-clause-bad

@@ -1,0 +1,149 @@
+-- Small texts of reports, read by hand: a whole one, and some with a bad line.
+use Rattle.std.proofs.Common.{ℕ, ◌≡◌, ◌≢◌, ◌+◌, inl, inr, List, [], ◌∷◌, ◌++◌, All, None, codes, decimal, length}
+use Rattle.std.proofs.Common.{refl, sym, ap, ◌∙◌, subst, arith}
+use Rattle.std.specs.Fmt.{digits}
+use Rattle.std.proofs.lemmas.List.Elements.{All-cons, All-nil, All-from_recursion}
+use Rattle.un_base.specs.Names.{is_name}
+use Rattle.un_commands.specs.Settings.{IsCountOfNodes}
+use Rattle.un_model.specs.Options.{AreOptions}
+use Rattle.un_model.specs.declared.model.Options.{Options}
+use Rattle.un_report.specs.declared.report.Answered.{Answered}
+use Rattle.un_report.specs.declared.report.Answered.TheVariants.{Spent}
+use Rattle.un_report.specs.declared.report.Report.{Report}
+use Rattle.un_report_reader.proofs.NumberLaws.{number_here}
+use Rattle.un_report_reader.proofs.Once.{number_line_once}
+use Rattle.un_report_reader.proofs.Through.{behind_line}
+use Rattle.un_report_reader.proofs.WholeTexts.{IsText, flat, text_is_good}
+use Rattle.un_report_reader.specs.Answers.{IsAnswer}
+use Rattle.un_report_reader.specs.FirstBad.{BeginsNone, BehindKind, IsBadNumber, InFunction, InModel, InAnswer, InTree}
+use Rattle.un_report_reader.specs.FirstBad.{InNodes, InEnd, InNothing, IsFirstBad}
+use Rattle.un_report_reader.specs.Lines.{IsVersion, version_text, IsName, function_text, AreSettings, settings_text, IsAny, kind_text}
+use Rattle.un_report_reader.specs.Lines.{IsShort, tree_head, IsPlain, end_text}
+use Rattle.un_report_reader.specs.Readings.{IsReportRead}
+use Rattle.un_report_reader.specs.declared.kind.Kind.TheVariants as KindOf
+use Rattle.un_tree.proofs.Cuts.{cut_none}
+use Rattle.un_tree.specs.Texts.{Fits, tree_text}
+use Rattle.un_tree.specs.declared.node.Node.{Node}
+use Rattle.un_tree.specs.declared.node.Node.TheVariants.{Open}
+
+-- ---- a whole text
+
+abbrev all_registers : Options
+all_registers = record { regs = None; slots = 64 }
+
+-- the report of a search that stopped at once
+record IsStopped (r : Report) : Type 0 where
+  pub name : r.name ≡ codes "f"
+  pub options : r.options ≡ all_registers
+  pub nodes : r.nodes ≡ 1
+  pub answer : r.answer ≡ Spent
+  pub tree : r.tree.nodes.items ≡ Open ∷ []
+
+abbrev stopped_text : List ℕ
+stopped_text = codes "unison 1\nfunction f\nmodel regs all slots 64 nodes 1\nanswer spent\ntree 1\nO\nend\n"
+
+well_set : AreSettings (all_registers, 1)
+well_set = (record { regs = tt; slots = omega arith }, (omega arith, omega arith))
+
+one_fits : All Fits (Open ∷ [])
+one_fits = All-cons Fits Open [] tt (All-nil Fits)
+
+whole_parts : IsText stopped_text (codes "f") all_registers 1 Spent 1 (tree_text (Open ∷ []))
+unfolding digits
+whole_parts = record { named = refl; settled = well_set; answered = tt; counted = (omega arith, omega arith); whole = refl }
+
+no_line_is_bad : (line : ℕ) → ¬ IsFirstBad stopped_text line
+no_line_is_bad line bad =
+    text_is_good stopped_text (codes "f") all_registers 1 Spent 1 (Open ∷ []) line whole_parts (refl, one_fits) bad
+
+stopped_flat : stopped_text ≡ flat (codes "f") all_registers 1 Spent 1 (tree_text (Open ∷ []))
+unfolding digits
+stopped_flat = refl
+
+is_read : (r : Report) → IsStopped r → IsReportRead stopped_text r
+is_read r h = record {
+  is_report = record {
+    name = ap is_name h.name;
+    options = subst AreOptions (sym h.options) well_set.0;
+    nodes = subst IsCountOfNodes (sym h.nodes) well_set.1;
+    answer = subst IsAnswer (sym h.answer) tt;
+    count = subst (λ (ns : List Node). IsCountOfNodes (length ns)) (sym h.tree) (omega arith, omega arith);
+    fit = subst (λ (ns : List Node). All Fits ns) (sym h.tree) one_fits;
+  };
+  spelled = stopped_flat ∙ sym (
+      ap (λ (name : List ℕ). flat name r.options r.nodes r.answer (length r.tree.nodes.items) (tree_text r.tree.nodes.items)) h.name
+      ∙ (ap (λ (o : Options). flat (codes "f") o r.nodes r.answer (length r.tree.nodes.items) (tree_text r.tree.nodes.items)) h.options
+      ∙ (ap (λ (n : ℕ). flat (codes "f") all_registers n r.answer (length r.tree.nodes.items) (tree_text r.tree.nodes.items)) h.nodes
+      ∙ (ap (λ (a : Answered). flat (codes "f") all_registers 1 a (length r.tree.nodes.items) (tree_text r.tree.nodes.items)) h.answer
+      ∙ ap (λ (ns : List Node). flat (codes "f") all_registers 1 Spent (length ns) (tree_text ns)) h.tree))));
+}
+
+-- ---- texts with a bad line
+
+abbrev before_tree : List ℕ
+before_tree = codes "unison 1\nfunction f\nmodel regs all slots 64 nodes 1\nanswer spent\n"
+
+-- the bad line is behind the first four
+behind_four : (rest : List ℕ) (line : ℕ) → InTree rest line → IsFirstBad (before_tree ++ rest) (1 + (1 + (1 + (1 + line))))
+unfolding digits
+behind_four rest line bad =
+    behind_line IsVersion version_text (λ v. InFunction) 1 (before_tree ++ rest)
+    (codes "function f\nmodel regs all slots 64 nodes 1\nanswer spent\n" ++ rest) (1 + (1 + (1 + line))) (omega arith, omega arith) refl
+    (behind_line IsName function_text (λ n. InModel) (codes "f")
+    (codes "function f\nmodel regs all slots 64 nodes 1\nanswer spent\n" ++ rest)
+    (codes "model regs all slots 64 nodes 1\nanswer spent\n" ++ rest) (1 + (1 + line)) refl refl
+    (behind_line AreSettings settings_text (λ s. InAnswer) (all_registers, 1)
+    (codes "model regs all slots 64 nodes 1\nanswer spent\n" ++ rest) (codes "answer spent\n" ++ rest) (1 + line) well_set refl
+    (behind_line IsAny kind_text BehindKind KindOf.Spent (codes "answer spent\n" ++ rest) rest line tt refl bad)))
+
+-- behind a tree of one node
+behind_node : (rest : List ℕ) (line : ℕ) → InEnd rest line → InTree (codes "tree 1\nO\n" ++ rest) (1 + (1 + line))
+unfolding digits
+behind_node rest line bad =
+    behind_line IsCountOfNodes tree_head InNodes 1 (codes "tree 1\nO\n" ++ rest) (codes "O\n" ++ rest) (1 + line)
+    (omega arith, omega arith) refl
+    (inr (record {
+      value = Open ∷ [];
+      rest = rest;
+      behind = line;
+      is_good = (refl, one_fits);
+      whole = refl;
+      is_bad = bad;
+      numbered = refl;
+    }))
+
+-- without an end the line behind the last is bad
+no_end : IsFirstBad (codes "unison 1\nfunction f\nmodel regs all slots 64 nodes 1\nanswer spent\ntree 1\nO\n") 7
+no_end = behind_four (codes "tree 1\nO\n") 3 (behind_node [] 1 (inl ((λ v rest good e. cc e), refl)))
+
+-- and with a line behind the end that line
+past_end : IsFirstBad (codes "unison 1\nfunction f\nmodel regs all slots 64 nodes 1\nanswer spent\ntree 1\nO\nend\nend\n") 8
+past_end = behind_four (codes "tree 1\nO\nend\nend\n") 4 (behind_node (codes "end\nend\n") 2
+    (behind_line IsPlain end_text (λ v. InNothing) tt (codes "end\nend\n") (codes "end\n") 1 tt refl ((λ e. cc e), refl)))
+
+not_none : BeginsNone IsCountOfNodes tree_head (codes "tree 0\nend\n")
+unfolding digits
+not_none count rest good e =
+    let same = (number_line_once (codes "tree ") 0 200000 (omega arith) 0 count (codes "end\n") rest (omega arith, omega arith)
+    (omega arith, omega (arith, good.1)) e).0 in
+    omega (arith, same, good.0)
+
+-- a tree has a node
+no_nodes : IsFirstBad (codes "unison 1\nfunction f\nmodel regs all slots 64 nodes 1\nanswer spent\ntree 0\nend\n") 5
+no_nodes = behind_four (codes "tree 0\nend\n") 1 (inl (not_none, refl))
+
+no_space : All (λ y. y ≢ 32) (codes "1\n2\n")
+no_space = All-from_recursion (λ y. y ≢ 32) (codes "1\n2\n")
+    ((λ e. omega (arith, e)), ((λ e. omega (arith, e)), ((λ e. omega (arith, e)), ((λ e. omega (arith, e)), tt))))
+
+-- two numbers stand on one line, so a line feed behind the first is none of theirs
+short_line : IsBadNumber 2 (codes "1\n2\n") 1
+short_line = record {
+  before = [];
+  rest = codes "1\n2\n";
+  short = All-nil IsShort;
+  few = omega arith;
+  whole = refl;
+  is_bad = λ n rest short e. cut_none 32 (codes "1\n2\n") (decimal n) rest no_space (e ∙ number_here 2 0 n rest);
+  numbered = refl;
+}
