@@ -36,6 +36,8 @@ pub enum Part {
     Baseline,
     /// The parts of `alloc` and of a search.
     Times,
+    /// Attempts at a solution that costs less than the one before.
+    Search,
     /// A store with chains of precedences, of no function.
     Chains,
 }
@@ -71,7 +73,7 @@ const DEFAULT: Options = Options {
 };
 
 /// The words, and the part that each names.
-static PARTS: [(&[u8], Part); 10] = [
+static PARTS: [(&[u8], Part); 11] = [
     (b"live", Part::Live),
     (b"extended", Part::Extended),
     (b"variables", Part::Model(Shown::Variables)),
@@ -81,6 +83,7 @@ static PARTS: [(&[u8], Part); 10] = [
     (b"arcs", Part::Model(Shown::Arcs)),
     (b"rounds", Part::Model(Shown::Rounds)),
     (b"times", Part::Times),
+    (b"search", Part::Search),
     (b"chains", Part::Chains),
 ];
 
@@ -240,7 +243,7 @@ fn request_of(part: Part, words: &[Word]) -> Result<Request, u32>
         counts: ONCE,
     };
     match part {
-        Part::Times | Part::Chains => asked.counts = counts_in(words)?,
+        Part::Times | Part::Search | Part::Chains => asked.counts = counts_in(words)?,
         _ => asked.options = options_of(part, words)?,
     }
     Ok(asked)
