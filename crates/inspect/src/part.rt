@@ -16,6 +16,7 @@ use std::alloc::Global;
 use std::time::CpuClock;
 use un_base::memory_error::NoMemory;
 use un_baseline::spill::spill_everywhere;
+use un_drawn::drawn::put_drawn;
 use un_ir::function::Function;
 use un_ir::text::put_text;
 use un_isa::table::Table;
@@ -116,6 +117,7 @@ fn put_of_model(
         Shown::Emit => code(alloc, out, f, m, rest),
         Shown::Arcs => told(arcs(out, f, m)),
         Shown::Rounds => rounds(alloc, out, f, m, rest),
+        Shown::Drawn(form) => put_drawn(alloc, out, f, m, rest, form),
     }
 }
 
