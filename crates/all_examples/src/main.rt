@@ -115,11 +115,7 @@ fn tell_named(rt: &(impl Files + Print + AllocGlobal), name: &str) -> io::Result
 }
 
 /// Says of a report whether it is drawn and explained as expected.
-fn tell_drawn(
-    rt: &(impl Files + Print + AllocGlobal),
-    name: &str,
-    input: &[u8],
-) -> io::Result<()> {
+fn tell_drawn(rt: &(impl Files + Print + AllocGlobal), name: &str, input: &[u8]) -> io::Result<()> {
     let want = file(rt, name, "drawn")?;
     let said = verdict(Ok(is_drawn_as(rt.alloc(), input, want.as_bytes())));
     println!(rt; "{name}, drawn and explained: {said}")

@@ -35,11 +35,7 @@ fn put_own_cost(out: &mut Vec<u8>, section: &Section<'_>, cost: u64) -> Result<(
 }
 
 /// What every solution costs at least by precedences and counts alone.
-fn plain_bound(
-    alloc: Global,
-    m: &Model,
-    sections: &[Section<'_>],
-) -> Result<u64, NoMemory> {
+fn plain_bound(alloc: Global, m: &Model, sections: &[Section<'_>]) -> Result<u64, NoMemory> {
     let mut sum: u64 = 0;
     for section in sections {
         let least = u64::from(least_packets(alloc, m, section)?);
@@ -63,19 +59,23 @@ fn put_difference(out: &mut Vec<u8>, cost: u64, bound: u64) -> Result<(), NoMemo
 /// Appends who says so, where something is left open.
 fn put_open(out: &mut Vec<u8>, given: &Given<'_>) -> Result<(), NoMemory> {
     if given.bound.is_none() {
-        return put_text(out, b") may be saved; the bound is of precedences and counts alone\n");
+        return put_text(
+            out,
+            b") may be saved; the bound is of precedences and counts alone\n",
+        );
     }
-    put_numbers(out, &[(b") may be saved; open leaves of the tree: ", u64::from(given.open))])?;
+    put_numbers(
+        out,
+        &[(
+            b") may be saved; open leaves of the tree: ",
+            u64::from(given.open),
+        )],
+    )?;
     put_text(out, b"\n")
 }
 
 /// Appends whether the bound meets the cost.
-fn put_bound(
-    out: &mut Vec<u8>,
-    given: &Given<'_>,
-    cost: u64,
-    bound: u64,
-) -> Result<(), NoMemory> {
+fn put_bound(out: &mut Vec<u8>, given: &Given<'_>, cost: u64, bound: u64) -> Result<(), NoMemory> {
     put_difference(out, cost, bound)?;
     if cost > bound {
         put_open(out, given)?;

@@ -20,11 +20,7 @@ use un_parts::extended::first_words;
 use un_parts::pieces::put_name;
 
 /// The least number of packets of a block by its precedences and by the counts of its packets.
-pub fn least_packets(
-    alloc: Global,
-    m: &Model,
-    section: &Section<'_>,
-) -> Result<u32, NoMemory> {
+pub fn least_packets(alloc: Global, m: &Model, section: &Section<'_>) -> Result<u32, NoMemory> {
     let all = earliest_cycles(alloc, m, section)?;
     let (_, packets) = longest(all.as_slice(), section.block.ops.as_slice());
     Ok(packets.max(heaviest(&m.ext.table, section).packets))
@@ -80,7 +76,10 @@ fn put_chain(
     all: &[Earliest],
     last: u32,
 ) -> Result<(), NoMemory> {
-    put_text(out, b"  its length is what this chain of precedences asks for:\n")?;
+    put_text(
+        out,
+        b"  its length is what this chain of precedences asks for:\n",
+    )?;
     let chain = chain(alloc, all, last)?;
     for place in chain.as_slice().iter().rev() {
         put_link(out, sheet, section, all, *place)?;
@@ -160,7 +159,10 @@ fn put_longer(
     if crossings.is_empty() {
         put_text(out, b"; nothing that is known holds it\n")
     } else {
-        put_texts(out, &[b"; these values cross a call:\n", crossings.as_slice()])
+        put_texts(
+            out,
+            &[b"; these values cross a call:\n", crossings.as_slice()],
+        )
     }
 }
 

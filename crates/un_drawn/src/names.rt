@@ -70,11 +70,7 @@ pub fn meaning_of(sheet: &Sheet<'_>, section: &Section<'_>, temp: TempId) -> Mea
 }
 
 /// Appends what a value is.
-pub fn put_meaning(
-    out: &mut Vec<u8>,
-    sheet: &Sheet<'_>,
-    meaning: Meaning,
-) -> Result<(), NoMemory> {
+pub fn put_meaning(out: &mut Vec<u8>, sheet: &Sheet<'_>, meaning: Meaning) -> Result<(), NoMemory> {
     match meaning {
         Meaning::Named(name) => put_name(out, sheet.names, name),
         Meaning::Saved(reg) => {

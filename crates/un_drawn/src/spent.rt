@@ -126,7 +126,10 @@ pub fn put_spent(
     let cost = packets.saturating_mul(u64::from(section.block.freq));
     put_numbers(
         out,
-        &[(b"; packets with nothing else ", packets), (b", cost ", cost)],
+        &[
+            (b"; packets with nothing else ", packets),
+            (b", cost ", cost),
+        ],
     )?;
     put_text(out, b"\n")
 }

@@ -61,7 +61,8 @@ fn column_width(column: &Column) -> u32 {
 
 /// How far down a cycle of a block lies.
 fn row_of(top: u32, cycle: u32) -> u32 {
-    top.saturating_add(HEAD).saturating_add(cycle.saturating_mul(ROW))
+    top.saturating_add(HEAD)
+        .saturating_add(cycle.saturating_mul(ROW))
 }
 
 /// How a bar looks.
@@ -289,7 +290,10 @@ fn put_sections(
     sheet: &Sheet<'_>,
     sections: &[Section<'_>],
 ) -> Result<Extent, NoMemory> {
-    let mut extent = Extent { down: 8, across: 480 };
+    let mut extent = Extent {
+        down: 8,
+        across: 480,
+    };
     for section in sections {
         let own = put_section(alloc, out, sheet, section, extent.down)?;
         extent.down = own.down;
@@ -310,7 +314,11 @@ fn put_start(out: &mut Vec<u8>, extent: Extent) -> Result<(), NoMemory> {
     )?;
     put_texts(
         out,
-        &[b"\">\n", STYLE, b"<rect width=\"100%\" height=\"100%\" style=\"fill: white; stroke: none\"/>\n"],
+        &[
+            b"\">\n",
+            STYLE,
+            b"<rect width=\"100%\" height=\"100%\" style=\"fill: white; stroke: none\"/>\n",
+        ],
     )
 }
 
