@@ -1,10 +1,13 @@
 //! Runs the program on each example beside it, and compares the first lines that it writes, up to the cost, with the file of what is
-//! expected, and what the function and its code do from some starts with what a twin in C does.
+//! expected, and what the function and its code do from some starts with what a twin in C does; and draws and explains some reports,
+//! whose texts it compares with files too.
 #![tactic(auto)]
 
+mod drawings;
 mod rows;
 mod runs;
 
+use crate::drawings::is_drawn_as;
 use crate::runs::wrong_runs;
 use std::alloc::Global;
 use std::rt::Files;
@@ -32,6 +35,10 @@ static EXAMPLES: [&str; 14] = [
     "total",
     "wide",
 ];
+
+/// The names of reports that are drawn and explained: `NAME.report` has a function, a line `---` and a report on it, and `NAME.drawn` what
+/// is expected.
+static DRAWN: [&str; 2] = ["call", "keep"];
 
 /// How many bytes are written at most.
 const ROOM: usize = 65536;
@@ -107,9 +114,25 @@ fn tell_named(rt: &(impl Files + Print + AllocGlobal), name: &str) -> io::Result
     tell_of(rt, name, text.as_bytes())
 }
 
+/// Says of a report whether it is drawn and explained as expected.
+fn tell_drawn(rt: &(impl Files + Print + AllocGlobal), name: &str, input: &[u8]) -> io::Result<()> {
+    let want = file(rt, name, "drawn")?;
+    let said = verdict(Ok(is_drawn_as(rt.alloc(), input, want.as_bytes())));
+    println!(rt; "{name}, drawn and explained: {said}")
+}
+
+/// Says the same of the report of this name.
+fn tell_drawing(rt: &(impl Files + Print + AllocGlobal), name: &str) -> io::Result<()> {
+    let input = file(rt, name, "report")?;
+    tell_drawn(rt, name, input.as_bytes())
+}
+
 fn main(rt: HostRuntime) -> io::Result<()> {
     for name in EXAMPLES.iter() {
         tell_named(&rt, name)?;
+    }
+    for name in DRAWN.iter() {
+        tell_drawing(&rt, name)?;
     }
     Ok(())
 }

@@ -3,6 +3,7 @@
 //! `alloc` and of a search take. It reads standard input; the first word says which part, options of the model or counts may follow.
 #![tactic(auto)]
 
+mod attempts;
 mod chains;
 mod clock;
 mod node;

@@ -7,6 +7,7 @@ ghost use Rattle.un_model.specs.Options.{AreOptions};
 ghost use Rattle.un_model.specs.Variables.{IsModel};
 ghost use Rattle.un_problem.specs.Problems.{IsProblemOf};
 
+use crate::attempts::put_attempts;
 use crate::node::node_of;
 use crate::request::{Part, Request, Shown};
 use crate::rounds::put_rounds;
@@ -15,6 +16,7 @@ use std::alloc::Global;
 use std::time::CpuClock;
 use un_base::memory_error::NoMemory;
 use un_baseline::spill::spill_everywhere;
+use un_drawn::drawn::put_drawn;
 use un_ir::function::Function;
 use un_ir::text::put_text;
 use un_isa::table::Table;
@@ -115,6 +117,7 @@ fn put_of_model(
         Shown::Emit => code(alloc, out, f, m, rest),
         Shown::Arcs => told(arcs(out, f, m)),
         Shown::Rounds => rounds(alloc, out, f, m, rest),
+        Shown::Drawn(form) => put_drawn(alloc, out, f, m, rest, form),
     }
 }
 
@@ -147,7 +150,7 @@ fn baseline(alloc: Global, out: &mut Vec<u8>, f: &Function, m: &Model) -> Result
     put_values(out, &s)
 }
 
-/// What is told of a function's model under default options: the values of a solution, or times.
+/// What is told of a function's model under default options: the values of a solution, attempts at better ones, or times.
 fn put_by_default(
     rt: &impl CpuClock,
     alloc: Global,
@@ -162,6 +165,7 @@ fn put_by_default(
     let m = model(alloc, f, t, &default_options())?;
     match asked.part {
         Part::Times => put_timed(rt, alloc, out, asked.counts, text, f, &m),
+        Part::Search => put_attempts(rt, alloc, out, asked.counts, f, &m),
         _ => baseline(alloc, out, f, &m),
     }
 }

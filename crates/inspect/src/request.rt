@@ -4,6 +4,7 @@ ghost use Rattle.std.specs.Prelude.{◌≤◌, ◌<◌, ◌^◌, IfOk, IfSome};
 ghost use Rattle.un_model.specs.Options.{AreOptions, IsCountOfRegisters};
 
 use un_base::decimal::read_decimal;
+use un_drawn::drawn::Form;
 use un_isa::reg::SLOTS;
 use un_model::model::{ASSIGNABLE, Options};
 use un_outside::words::Word;
@@ -21,6 +22,8 @@ pub enum Shown {
     Arcs,
     /// What rounds of propagators leave of the variables' domains, under a limit on the cost and decisions.
     Rounds,
+    /// A solution drawn or explained, or the clauses that values break.
+    Drawn(Form),
 }
 
 /// Which part of a function's problem is shown, or what is timed.
@@ -36,6 +39,8 @@ pub enum Part {
     Baseline,
     /// The parts of `alloc` and of a search.
     Times,
+    /// Attempts at a solution that costs less than the one before.
+    Search,
     /// A store with chains of precedences, of no function.
     Chains,
 }
@@ -71,7 +76,7 @@ const DEFAULT: Options = Options {
 };
 
 /// The words, and the part that each names.
-static PARTS: [(&[u8], Part); 10] = [
+static PARTS: [(&[u8], Part); 13] = [
     (b"live", Part::Live),
     (b"extended", Part::Extended),
     (b"variables", Part::Model(Shown::Variables)),
@@ -80,7 +85,10 @@ static PARTS: [(&[u8], Part); 10] = [
     (b"emit", Part::Model(Shown::Emit)),
     (b"arcs", Part::Model(Shown::Arcs)),
     (b"rounds", Part::Model(Shown::Rounds)),
+    (b"draw", Part::Model(Shown::Drawn(Form::Tables))),
+    (b"explain", Part::Model(Shown::Drawn(Form::Words))),
     (b"times", Part::Times),
+    (b"search", Part::Search),
     (b"chains", Part::Chains),
 ];
 
@@ -240,10 +248,37 @@ fn request_of(part: Part, words: &[Word]) -> Result<Request, u32>
         counts: ONCE,
     };
     match part {
-        Part::Times | Part::Chains => asked.counts = counts_in(words)?,
+        Part::Times | Part::Search | Part::Chains => asked.counts = counts_in(words)?,
         _ => asked.options = options_of(part, words)?,
     }
     Ok(asked)
+}
+
+/// What words ask for that begin with a part's and `--svg`, which only the part of tables takes.
+///
+/// # Errors
+/// The least place at which no accepted list of words begins so.
+fn drawing_of(part: Part, words: &[Word]) -> Result<Request, u32>
+    ensures { IfOk result (λ r. AreOptions r.options) }
+{
+    match part {
+        Part::Model(Shown::Drawn(Form::Tables)) => {
+            let drawing = Part::Model(Shown::Drawn(Form::Drawing));
+            match request_of(drawing, words.get(1..).unwrap_or(words)) {
+                Ok(asked) => Ok(asked),
+                Err(place) => Err(place.saturating_add(1)),
+            }
+        }
+        _ => request_of(part, words),
+    }
+}
+
+/// Whether the second word is `--svg`.
+fn has_svg(words: &[Word]) -> bool {
+    match words.get(1) {
+        Some(word) => word.is(b"--svg"),
+        None => false,
+    }
 }
 
 /// What the words ask for.
@@ -254,6 +289,7 @@ pub fn asked_for(words: &[Word]) -> Result<Request, u32>
     ensures { IfOk result (λ r. AreOptions r.options) }
 {
     match words.first().and_then(named_part) {
+        Some(part) if has_svg(words) => drawing_of(part, words),
         Some(part) => request_of(part, words),
         None => Err(0),
     }

@@ -46,7 +46,7 @@ fn function(alloc: Global, text: &[u8]) -> Result<Function, Status> {
 /// Whether something stands behind the function.
 fn has_rest(part: Part) -> bool {
     match part {
-        Part::Model(Shown::Violations | Shown::Emit | Shown::Rounds) => true,
+        Part::Model(Shown::Violations | Shown::Emit | Shown::Rounds | Shown::Drawn(_)) => true,
         _ => false,
     }
 }

@@ -89,7 +89,7 @@ fn put_label(out: &mut Vec<u8>, blocks: &[ExtBlock], to: BlockId) -> Result<(), 
 }
 
 /// The words of a terminator before its operands.
-fn first_words(term: Term) -> &'static [u8] {
+pub fn first_words(term: Term) -> &'static [u8] {
     match term {
         Term::Fall => b"fall",
         Term::Jump(_) => b"jump",

@@ -11,7 +11,19 @@ use un_ir::function::Function;
 use un_ir::text::put_text;
 use un_listing::print::print_code;
 use un_model::model::{Model, Solution};
+use un_packet::code::Code;
 use un_violations::violations::violations;
+
+/// The code of a solution of a function's model.
+///
+/// # Errors
+/// `NoMemory` where there is no memory for it.
+pub fn code_of(alloc: Global, f: &Function, m: &Model, s: &Solution) -> Result<Code, NoMemory>
+    requires problem { IsProblemOf f.now m.now }
+    requires solution { IsSolution m.now s.now }
+{
+    emit(alloc, f, &m.ext, m, s)
+}
 
 /// Appends the listing of the code of a solution.
 fn put_listing(
@@ -24,7 +36,7 @@ fn put_listing(
     requires problem { IsProblemOf f.now m.now }
     requires solution { IsSolution m.now s.now }
 {
-    let code = emit(alloc, f, &m.ext, m, s)?;
+    let code = code_of(alloc, f, m, s)?;
     let text = print_code(alloc, &code)?;
     put_text(out, text.as_slice())
 }

@@ -1,5 +1,5 @@
 use Rattle.un_problem.proofs.ProblemLaws.{of_function}
-use Rattle.un_shown.proofs.emission.put_listing.Goals as goal
+use Rattle.un_shown.proofs.emission.code_of.Goals as goal
 
 pub emit-requires : goal.emit-requires
 emit-requires c =
