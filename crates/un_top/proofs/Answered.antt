@@ -398,7 +398,7 @@ not_written (Usage place) r w = w
 not_written ReadFault r w = w
 not_written WriteFault r w = w
 not_written NoMemory r w = w
-not_written (No cause) r w = w
+not_written (No cause) r w = r
 not_written (BadReport l) r w = w
 
 -- what holds of an output holds where it was written whole
