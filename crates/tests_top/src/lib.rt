@@ -9,6 +9,8 @@ mod commands;
 #[cfg(test)]
 mod posts;
 #[cfg(test)]
+mod reports;
+#[cfg(test)]
 mod rows;
 #[cfg(test)]
 mod runs;

@@ -2,6 +2,7 @@
 //! at `...`. `&` is the text of the row before, and a row that begins with `#` is a comment.
 
 use crate::posts::{put_counts, put_end, put_operands};
+use crate::reports::put_altered;
 use crate::runs::put_run;
 use crate::searches::{put_solved, put_tried};
 use std::alloc::Global;
@@ -28,7 +29,7 @@ pub(crate) fn number_at(text: &[u8], k: usize) -> u64 {
 }
 
 /// Appends the answer to a question about a text: of what is posted, of how rounds end, of propagators of two operands, of a search,
-/// of an attempt, or else of a run by words.
+/// of an attempt, of a run over an altered report, or else of a run by words.
 fn put_answer(
     alloc: Global,
     out: &mut Vec<u8>,
@@ -40,6 +41,7 @@ fn put_answer(
         Some(b'e') => put_end(alloc, out, text, question),
         Some(b'o') => put_operands(alloc, out, text),
         Some(b's') => put_solved(alloc, out, text, question),
+        Some(b'=') => put_altered(alloc, out, text, question),
         Some(b't') => put_tried(alloc, out, text, question),
         _ => put_run(alloc, out, text, question),
     }

@@ -18,11 +18,14 @@ use Rattle.un_runs.specs.Inputs.{first_part}
 use Rattle.un_commands.proofs.CommandLaws.{one_command}
 use Rattle.un_commands.specs.Commands.{IsCommand}
 use Rattle.un_commands.specs.declared.command.Command.{Command}
-use Rattle.un_commands.specs.declared.command.Command.TheVariants.{Alloc, Run, RunCode, Generate, GenerateAlloc}
+use Rattle.un_commands.specs.declared.command.Command.TheVariants.{Alloc, Run, RunCode, Check, Generate, GenerateAlloc}
 use Rattle.un_top.specs.declared.output.Output.{Output}
-use Rattle.un_top.specs.Runs.{reads_input, most_bytes, IsFaultIn, IsBadIn, IsFaultless, IsFaultOf, IsBadOf, AnswersFault, AnswersAccepted, IsAnswer}
+use Rattle.un_top.specs.Runs.{reads_input, most_bytes, IsFaultIn, IsBadIn, IsFaultless, IsFaultOf, IsBadOf, AnswersFault, AnswersAccepted, CanEnd, IsAnswer}
 use Rattle.un_top.specs.Runs.{RefusesText, Refuses, RefusesWords}
 use Rattle.un_top.specs.Runs.{IsRefusal, IsOutput, IsOutputOf, IsWritten, Wrote, KeepsOut, OutAfter}
+use Rattle.un_report.specs.declared.report.Answered.{Answered}
+use Rattle.un_report.specs.declared.report.Answered.TheVariants.{Code, Infeasible as NoSolution, Spent as Stopped}
+use Rattle.un_top.specs.Reports.{status_of as ends_with}
 use Rattle.un_top.proofs.FaultLaws.{fault_unique, read_has_no_fault}
 
 -- an input that is too long has its fault
@@ -32,6 +35,7 @@ too_long_in None command reads h = tt
 too_long_in (Some text) (Alloc o) reads h = record { fault = TooMany; is = too_long h; coded = refl }
 too_long_in (Some text) Run reads h = inl (record { long = h; no_line = refl; too_many = refl })
 too_long_in (Some text) RunCode reads h = record { long = h; no_line = refl; too_many = refl }
+too_long_in (Some text) Check reads h = inl (record { long = h; no_line = refl; too_many = refl })
 too_long_in (Some text) (Generate seed size) reads h = absurd (true≢false (sym reads))
 too_long_in (Some text) (GenerateAlloc seed size nodes) reads h = absurd (true≢false (sym reads))
 
@@ -117,6 +121,53 @@ pub reads_alike : (words : List (List ℕ)) (a b : Command) (reads : Bool) → I
     → reads_input a ≡ reads
 reads_alike words a b reads x y e = ap reads_input (one_command words a b x y) ∙ e
 
+-- ---- which outputs a command has
+
+-- only a check does not accept
+pub ends_by : (command : Command) (text : List ℕ) (status : Status) (out : List ℕ) → IsOutput command text status out → CanEnd command status
+ends_by command text Done out h = tt
+ends_by command text Infeasible out h = tt
+ends_by command text Spent out h = tt
+ends_by command text (TextFault l c) out h = tt
+ends_by command text (Usage place) out h = tt
+ends_by command text ReadFault out h = tt
+ends_by command text WriteFault out h = tt
+ends_by command text NoMemory out h = tt
+ends_by command text (BadReport l) out h = tt
+ends_by (Alloc o) text (No cause) out h = absurd (by h.found.report.answer h.found.ends)
+  where
+    by : (a : Answered) → No cause ≡ ends_with a → ⊥
+    by (Code cost bound code s) e = cc e
+    by NoSolution e = cc e
+    by Stopped e = cc e
+ends_by Run text (No cause) out h = absurd (cc (h.0))
+ends_by RunCode text (No cause) out h = absurd (cc (h.0))
+ends_by Check text (No cause) out h = refl
+ends_by (Generate seed size) text (No cause) out h = absurd (cc (h.0))
+ends_by (GenerateAlloc seed size nodes) text (No cause) out h = absurd (cc (h.done))
+
+pub ends_ok : (command : Command) (text : List ℕ) (outcome : Result Output Status)
+    → IfOk outcome (λ out. IsOutput command text out.status out.text.items) → IfOk outcome (λ out. CanEnd command out.status)
+ends_ok command text (Ok out) h = ends_by command text out.status out.text.items h
+ends_ok command text (Err s) h = tt
+
+answer_by : (words : List (List ℕ)) (command : Command) (s : Status) → IsCommand words command → CanEnd command s → IsAnswer words s
+answer_by words command Done asked h = tt
+answer_by words command Infeasible asked h = tt
+answer_by words command Spent asked h = tt
+answer_by words command (TextFault l c) asked h = tt
+answer_by words command (Usage place) asked h = tt
+answer_by words command ReadFault asked h = tt
+answer_by words command WriteFault asked h = tt
+answer_by words command NoMemory asked h = tt
+answer_by words command (No cause) asked h = subst (IsCommand words) h asked
+answer_by words command (BadReport l) asked h = tt
+
+pub answers_by : (words : List (List ℕ)) (command : Command) (outcome : Result Output Status) → IsCommand words command
+    → IfOk outcome (λ out. CanEnd command out.status) → IfOk outcome (λ out. IsAnswer words out.status)
+answers_by words command (Ok out) asked h = answer_by words command out.status asked h
+answers_by words command (Err s) asked h = tt
+
 -- ---- what a refusal says
 
 is_refusal : (words : List (List ℕ)) (told : Option (List ℕ)) (before now : ℕ) (s : Status) → RefusesWords words told before now s
@@ -151,6 +202,10 @@ one_fault Run text l c line code (inl a) (inr b) = absurd (let long = a.long in 
 one_fault Run text l c line code (inr a) (inl b) = absurd (let long = b.long in let short = a.0 in omega (arith, long, short))
 one_fault Run text l c line code (inr a) (inr b) = fault_unique (first_part text) l c line code a.1 b.1
 one_fault RunCode text l c line code a b = (a.no_line ∙ sym b.no_line, a.too_many ∙ sym b.too_many)
+one_fault Check text l c line code (inl a) (inl b) = (a.no_line ∙ sym b.no_line, a.too_many ∙ sym b.too_many)
+one_fault Check text l c line code (inl a) (inr b) = absurd (let long = a.long in let short = b.0 in omega (arith, long, short))
+one_fault Check text l c line code (inr a) (inl b) = absurd (let long = b.long in let short = a.0 in omega (arith, long, short))
+one_fault Check text l c line code (inr a) (inr b) = fault_unique (first_part text) l c line code a.1 b.1
 one_fault (Generate seed size) text l c line code a b = absurd a
 one_fault (GenerateAlloc seed size nodes) text l c line code a b = absurd a
 
@@ -160,6 +215,8 @@ output_has_none (Alloc o) text status out line code h f = read_has_no_fault text
 output_has_none Run text status out line code h (inl f) = let long = f.long in let short = h.1 in omega (arith, long, short)
 output_has_none Run text status out line code h (inr f) = let run = h.2 in read_has_no_fault (first_part text) run.function line code run.read f.1
 output_has_none RunCode text status out line code h f = let long = f.long in let short = h.1 in omega (arith, long, short)
+output_has_none Check text status out line code h (inl f) = let long = f.long in let short = h.0 in omega (arith, long, short)
+output_has_none Check text status out line code h (inr f) = let own = h.1 in read_has_no_fault (first_part text) own.function line code own.read f.1
 output_has_none (Generate seed size) text status out line code h f = f
 output_has_none (GenerateAlloc seed size nodes) text status out line code h f = f
 
@@ -168,6 +225,8 @@ bad_has_none (Alloc o) text l line code b f = b
 bad_has_none Run text l line code b (inl f) = let long = f.long in let short = b.0 in omega (arith, long, short)
 bad_has_none Run text l line code b (inr f) = let run = b.1 in read_has_no_fault (first_part text) run.function line code run.read f.1
 bad_has_none RunCode text l line code b f = let long = f.long in let short = b.0 in omega (arith, long, short)
+bad_has_none Check text l line code b (inl f) = let long = f.long in let short = b.0 in omega (arith, long, short)
+bad_has_none Check text l line code b (inr f) = let own = b.1 in read_has_no_fault (first_part text) own.function line code own.read f.1
 bad_has_none (Generate seed size) text l line code b f = b
 bad_has_none (GenerateAlloc seed size nodes) text l line code b f = b
 
@@ -176,6 +235,8 @@ faultless_has_none (Alloc o) text line code a f = read_has_no_fault text a.0 lin
 faultless_has_none Run text line code a (inl f) = let long = f.long in let short = a.0 in omega (arith, long, short)
 faultless_has_none Run text line code a (inr f) = let read = a.1 in read_has_no_fault (first_part text) read.0 line code read.1 f.1
 faultless_has_none RunCode text line code a f = let long = f.long in omega (arith, long, a)
+faultless_has_none Check text line code a (inl f) = let long = f.long in let short = a.0 in omega (arith, long, short)
+faultless_has_none Check text line code a (inr f) = let read = a.1 in read_has_no_fault (first_part text) read.0 line code read.1 f.1
 faultless_has_none (Generate seed size) text line code a f = f
 faultless_has_none (GenerateAlloc seed size nodes) text line code a f = f
 
@@ -272,7 +333,7 @@ whole_out words text out old new (Usage place) w o a = absurd w
 whole_out words text out old new ReadFault w o a = absurd w
 whole_out words text out old new WriteFault w o a = absurd w
 whole_out words text out old new NoMemory w o a = absurd w
-whole_out words text out old new (No cause) w o a = absurd w
+whole_out words text out old new (No cause) w o a = (out, o, a)
 whole_out words text out old new (BadReport l) w o a = absurd w
 
 -- what `out` holds after a run that wrote, or refused before it
@@ -289,42 +350,43 @@ out_after words (Some text) (Ok out) status old new r e k own (inr fault) o =
 out_after words (Some text) (Err x) status old new r e k own w o =
     subst (λ (s : Status). OutAfter s words text old new) (sym e) (refused_out x words text old new r k)
 
--- what was written whole keeps no `out`, and is an answer
-written_keeps : (s : Status) (old new : Option (List ℕ)) → IsWritten s → KeepsOut s old new × IsAnswer s
-written_keeps Done old new w = (tt, tt)
-written_keeps Infeasible old new w = (tt, tt)
-written_keeps Spent old new w = (tt, tt)
+-- what was written whole keeps no `out`
+written_keeps : (s : Status) (old new : Option (List ℕ)) → IsWritten s → KeepsOut s old new
+written_keeps Done old new w = tt
+written_keeps Infeasible old new w = tt
+written_keeps Spent old new w = tt
 written_keeps (TextFault l c) old new w = absurd w
 written_keeps (Usage place) old new w = absurd w
 written_keeps ReadFault old new w = absurd w
 written_keeps WriteFault old new w = absurd w
 written_keeps NoMemory old new w = absurd w
-written_keeps (No cause) old new w = absurd w
+written_keeps (No cause) old new w = tt
 written_keeps (BadReport l) old new w = absurd w
 
--- a refusal before writing keeps `out`, and is an answer of today's commands
-refused_keeps : (s : Status) (old new : Option (List ℕ)) → IsRefusal s → new ≡ old → KeepsOut s old new × IsAnswer s
-refused_keeps Done old new r k = absurd r
-refused_keeps Infeasible old new r k = absurd r
-refused_keeps Spent old new r k = absurd r
-refused_keeps (TextFault l c) old new r k = (k, tt)
-refused_keeps (Usage place) old new r k = (k, tt)
-refused_keeps ReadFault old new r k = (k, tt)
-refused_keeps WriteFault old new r k = absurd r
-refused_keeps NoMemory old new r k = (k, tt)
-refused_keeps (No cause) old new r k = absurd r
-refused_keeps (BadReport l) old new r k = (k, tt)
+-- a refusal before writing keeps `out`, and is an answer
+refused_keeps : (words : List (List ℕ)) (s : Status) (old new : Option (List ℕ)) → IsRefusal s → new ≡ old → KeepsOut s old new × IsAnswer words s
+refused_keeps words Done old new r k = absurd r
+refused_keeps words Infeasible old new r k = absurd r
+refused_keeps words Spent old new r k = absurd r
+refused_keeps words (TextFault l c) old new r k = (k, tt)
+refused_keeps words (Usage place) old new r k = (k, tt)
+refused_keeps words ReadFault old new r k = (k, tt)
+refused_keeps words WriteFault old new r k = absurd r
+refused_keeps words NoMemory old new r k = (k, tt)
+refused_keeps words (No cause) old new r k = absurd r
+refused_keeps words (BadReport l) old new r k = (k, tt)
 
-pub kept_and_answered : (outcome : Result Output Status) (status : Status) (old new : Option (List ℕ))
+pub kept_and_answered : (words : List (List ℕ)) (outcome : Result Output Status) (status : Status) (old new : Option (List ℕ))
     → IfErr outcome IsRefusal → IfErr outcome (λ e. status ≡ e) → OnErr outcome (new ≡ old)
-    → IfOk outcome (λ o. IsWritten o.status) → IfOk outcome (λ o. Wrote o.status o.text.items status old new)
-    → KeepsOut status old new × IsAnswer status
-kept_and_answered (Ok x) status old new r e k own (inl done) =
-    subst (λ (s : Status). KeepsOut s old new × IsAnswer s) (sym done.0) (written_keeps x.status old new own)
-kept_and_answered (Ok x) status old new r e k own (inr fault) =
-    subst (λ (s : Status). KeepsOut s old new × IsAnswer s) (sym fault.0) (tt, tt)
-kept_and_answered (Err x) status old new r e k own w =
-    subst (λ (s : Status). KeepsOut s old new × IsAnswer s) (sym e) (refused_keeps x old new r k)
+    → IfOk outcome (λ o. IsWritten o.status) → IfOk outcome (λ o. IsAnswer words o.status)
+    → IfOk outcome (λ o. Wrote o.status o.text.items status old new)
+    → KeepsOut status old new × IsAnswer words status
+kept_and_answered words (Ok x) status old new r e k own a (inl done) =
+    subst (λ (s : Status). KeepsOut s old new × IsAnswer words s) (sym done.0) (written_keeps x.status old new own, a)
+kept_and_answered words (Ok x) status old new r e k own a (inr fault) =
+    subst (λ (s : Status). KeepsOut s old new × IsAnswer words s) (sym fault.0) (tt, tt)
+kept_and_answered words (Err x) status old new r e k own a w =
+    subst (λ (s : Status). KeepsOut s old new × IsAnswer words s) (sym e) (refused_keeps words x old new r k)
 
 -- a refusal is no output
 not_written : (s : Status) → IsRefusal s → IsWritten s → ⊥
@@ -336,7 +398,7 @@ not_written (Usage place) r w = w
 not_written ReadFault r w = w
 not_written WriteFault r w = w
 not_written NoMemory r w = w
-not_written (No cause) r w = w
+not_written (No cause) r w = r
 not_written (BadReport l) r w = w
 
 -- what holds of an output holds where it was written whole

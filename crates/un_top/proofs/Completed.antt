@@ -13,7 +13,7 @@ use Rattle.un_commands.proofs.WordLaws.{command_is_good}
 use Rattle.un_commands.specs.Alloc.{model_options}
 use Rattle.un_commands.specs.Commands.{IsCommand, IsBadWord}
 use Rattle.un_commands.specs.declared.command.Command.{Command}
-use Rattle.un_commands.specs.declared.command.Command.TheVariants.{Alloc, Run, RunCode, Generate, GenerateAlloc}
+use Rattle.un_commands.specs.declared.command.Command.TheVariants.{Alloc, Run, RunCode, Check, Generate, GenerateAlloc}
 use Rattle.un_ir.specs.declared.function.Function.{Function}
 use Rattle.un_isa.specs.Hexagon.{HEXAGON}
 use Rattle.un_model.specs.declared.model.Model.{Model}
@@ -24,14 +24,17 @@ use Rattle.un_outside.specs.declared.status.Status.TheVariants.{BadReport}
 use Rattle.un_problem.specs.Problems.{IsModelOf}
 use Rattle.un_reader.specs.Read.{IsRead}
 use Rattle.un_runs.proofs.OneAnswer.{one_source_line, one_code_line, good_source, good_code, source_run_good, code_run_good}
-use Rattle.un_runs.specs.Inputs.{first_part}
+use Rattle.un_runs.specs.Inputs.{first_part, second_part}
 use Rattle.un_top.specs.declared.output.Output.{Output}
+use Rattle.un_outside.specs.declared.status.NoCause.{NoCause}
+use Rattle.un_top.specs.Checks.{told_status}
 use Rattle.un_top.specs.Reports.{IsReportOf}
 use Rattle.un_top.specs.Runs.{IsOutput, IsFaultIn, IsBadIn, IsGoodInput, IsOutputOf, IsFaultOf, IsBadOf, OutAfter, IsAnswer}
-use Rattle.un_top.specs.Runs.{AnswersBad, IsSearched, EndsWell, RefusesWords}
+use Rattle.un_top.specs.Runs.{AnswersBad, IsSearched, IsChecked, EndsWell, RefusesWords}
 use Rattle.un_top.proofs.Answered.{bad_has_none, fault_as}
 use Rattle.un_top.proofs.FaultLaws.{read_has_no_fault}
 use Rattle.un_top.proofs.GeneratedLaws.{code_there}
+use Rattle.un_top.proofs.ReportLines.{one_report_line, report_not_bad}
 
 -- ---- bad lines
 
@@ -39,6 +42,7 @@ one_bad : (command : Command) (text : List ℕ) (m n : ℕ) → IsBadIn command 
 one_bad (Alloc o) text m n b c = absurd b
 one_bad Run text m n b c = one_source_line text m n b.1 c.1
 one_bad RunCode text m n b c = one_code_line text m n b.1 c.1
+one_bad Check text m n b c = one_report_line (second_part text) m n b.1.bad c.1.bad
 one_bad (Generate seed size) text m n b c = absurd b
 one_bad (GenerateAlloc seed size nodes) text m n b c = absurd b
 
@@ -47,6 +51,7 @@ output_has_no_bad : (command : Command) (text : List ℕ) (status : Status) (out
 output_has_no_bad (Alloc o) text status out line h b = b
 output_has_no_bad Run text status out line h b = good_source text line (source_run_good text out h.2) b.1
 output_has_no_bad RunCode text status out line h b = good_code text line (code_run_good text out h.2) b.1
+output_has_no_bad Check text status out line h b = let own = h.1.check.answered in report_not_bad (second_part text) own.report line own.reported b.1.bad
 output_has_no_bad (Generate seed size) text status out line h b = b
 output_has_no_bad (GenerateAlloc seed size nodes) text status out line h b = b
 
@@ -88,6 +93,8 @@ good_has_no_fault (Alloc o) text line code g f = read_has_no_fault text g.0 line
 good_has_no_fault Run text line code g (inl f) = let long = f.long in let short = g.0 in omega (arith, long, short)
 good_has_no_fault Run text line code g (inr f) = let input = g.1 in read_has_no_fault (first_part text) input.function line code input.read f.1
 good_has_no_fault RunCode text line code g f = let long = f.long in let short = g.0 in omega (arith, long, short)
+good_has_no_fault Check text line code g (inl f) = let long = f.long in let short = g.0 in omega (arith, long, short)
+good_has_no_fault Check text line code g (inr f) = let input = g.1 in read_has_no_fault (first_part text) input.function line code input.read f.1
 good_has_no_fault (Generate seed size) text line code g f = f
 good_has_no_fault (GenerateAlloc seed size nodes) text line code g f = f
 
@@ -95,6 +102,7 @@ good_has_no_bad : (command : Command) (text : List ℕ) (line : ℕ) → IsGoodI
 good_has_no_bad (Alloc o) text line g b = b
 good_has_no_bad Run text line g b = good_source text line g.1 b.1
 good_has_no_bad RunCode text line g b = good_code text line g.1 b.1
+good_has_no_bad Check text line g b = let input = g.1 in report_not_bad (second_part text) input.report line input.reported b.1.bad
 good_has_no_bad (Generate seed size) text line g b = b
 good_has_no_bad (GenerateAlloc seed size nodes) text line g b = b
 
@@ -109,11 +117,18 @@ not_roomy o nodes text out status h none roomy =
     let room : AreRoomyFor f m.options = subst (λ (p : Options). AreRoomyFor f p) (sym options) (roomy f h.read) in
     none (h.found.ends ∙ code_there f m h.is_model.ext.live nodes r.tree.nodes.items r.answer room h.found.is_search.answer)
 
+-- a check ends in no answer of a search
+searched_check : (status : Status) → IsSearched status → (status ≡ Done → ⊥) → (told : Result (Unit {0}) NoCause) → status ≡ told_status told
+    → IsChecked status
+searched_check status s none (Ok all) ends = absurd (none ends)
+searched_check status s none (Err cause) ends = subst IsChecked (sym ends) tt
+
 no_code : (command : Command) (text out : List ℕ) (status : Status) → IsSearched status → (status ≡ Done → ⊥)
     → IsOutput command text status out → EndsWell command text status
 no_code (Alloc o) text out status s none h = (s, λ roomy. absurd (not_roomy (model_options o) o.nodes text out status h none roomy))
 no_code Run text out status s none h = absurd (none h.0)
 no_code RunCode text out status s none h = absurd (none h.0)
+no_code Check text out status s none h = searched_check status s none h.1.check.told h.1.check.ends
 no_code (Generate seed size) text out status s none h = absurd (none h.0)
 no_code (GenerateAlloc seed size nodes) text out status s none h = absurd (none h.done)
 
@@ -127,6 +142,7 @@ done_well : (command : Command) (text : List ℕ) → EndsWell command text Done
 done_well (Alloc o) text = (tt, λ roomy. tt)
 done_well Run text = tt
 done_well RunCode text = tt
+done_well Check text = tt
 done_well (Generate seed size) text = tt
 done_well (GenerateAlloc seed size nodes) text = tt
 
@@ -134,11 +150,12 @@ short_well : (command : Command) (text : List ℕ) → EndsWell command text NoM
 short_well (Alloc o) text = (tt, λ roomy. tt)
 short_well Run text = tt
 short_well RunCode text = tt
+short_well Check text = tt
 short_well (Generate seed size) text = tt
 short_well (GenerateAlloc seed size nodes) text = tt
 
 completed : (words : List (List ℕ)) (text : List ℕ) (command : Command) (status : Status) (old new : Option (List ℕ)) (R W : Type 0)
-    → IsCommand words command → IsGoodInput command text → IsAnswer status
+    → IsCommand words command → IsGoodInput command text → IsAnswer words status
     → ((place : ℕ) → status ≡ Usage place → IsBadWord words place)
     → ((line code : ℕ) → status ≡ TextFault line code → IsFaultOf words text line code)
     → ((line : ℕ) → status ≡ BadReport line → IsBadOf words text line)
@@ -156,13 +173,14 @@ completed words text command (Usage place) old new R W asked good a u f b r w o 
 completed words text command ReadFault old new R W asked good a u f b r w o = inl (r refl)
 completed words text command WriteFault old new R W asked good a u f b r w o = inr (inl (w refl))
 completed words text command NoMemory old new R W asked good a u f b r w o = inr (inr (short_well command text))
-completed words text command (No cause) old new R W asked good a u f b r w o = absurd a
+completed words text command (No cause) old new R W asked good a u f b r w o =
+    inr (inr (subst (λ (k : Command). EndsWell k text (No cause)) (one_command words Check command a asked) tt))
 completed words text command (BadReport l) old new R W asked good a u f b r w o =
     absurd (good_has_no_bad command text l good (bad_as words command text l asked (b l refl)))
 
 -- a run over a good input puts its output out, or there was no memory, where nothing outside fails
 pub completes : (words : List (List ℕ)) (told : Option (List ℕ)) (status : Status) (old new : Option (List ℕ)) (R W : Type 0)
-    → IsAnswer status
+    → IsAnswer words status
     → ((place : ℕ) → status ≡ Usage place → IsBadWord words place)
     → ((line code : ℕ) → status ≡ TextFault line code → IfSome told (λ (text : List ℕ). IsFaultOf words text line code))
     → ((line : ℕ) → status ≡ BadReport line → IfSome told (λ (text : List ℕ). IsBadOf words text line))

@@ -1,9 +1,11 @@
 pub mod Answered
+pub mod CheckLaws
 pub mod Completed
 pub mod FaultLaws
 pub mod GeneratedLaws
 pub mod Parts
 pub mod Refused
+pub mod ReportLines
 pub mod Rows
 pub mod SearchLaws
 pub mod Told

@@ -1,3 +1,4 @@
+pub mod Checks
 pub mod Generated
 pub mod Reports
 pub mod Runs

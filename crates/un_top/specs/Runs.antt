@@ -8,7 +8,7 @@ use Rattle.std.specs.Io.KnownBytes.{Appends}
 use Rattle.un_commands.specs.Alloc.{model_options}
 use Rattle.un_commands.specs.Commands.{IsCommand, IsBadWord}
 use Rattle.un_commands.specs.declared.command.Command.{Command}
-use Rattle.un_commands.specs.declared.command.Command.TheVariants.{Alloc, Run, RunCode, Generate, GenerateAlloc}
+use Rattle.un_commands.specs.declared.command.Command.TheVariants.{Alloc, Run, RunCode, Check, Generate, GenerateAlloc}
 use Rattle.un_baseline.specs.RoomyOptions.{AreRoomyFor}
 use Rattle.un_ir.specs.declared.function.Function.{Function}
 use Rattle.un_isa.specs.Hexagon.{HEXAGON}
@@ -24,6 +24,7 @@ use Rattle.un_runs.specs.Inputs.{first_part}
 use Rattle.un_runs.specs.Refusals.{IsFaultOf as IsFault, IsBadSourceRun, IsBadCodeRun}
 use Rattle.un_runs.specs.Grammars.{IsSourceInput, IsCodeInput}
 use Rattle.un_runs.specs.Shown.{IsSourceRun, IsCodeRun, IsGeneratedText}
+use Rattle.un_top.specs.Checks.{IsCheck, IsCheckInput, IsBadCheck}
 use Rattle.un_top.specs.Generated.{IsGeneratedReport}
 use Rattle.un_top.specs.Reports.{IsReportOf}
 use Rattle.un_top.specs.declared.limits.TheConstants.{INPUT}
@@ -35,6 +36,7 @@ abbrev pub reads_input : Command → Bool
 reads_input (Alloc o) = true
 reads_input Run = true
 reads_input RunCode = true
+reads_input Check = true
 reads_input (Generate seed size) = false
 reads_input (GenerateAlloc seed size nodes) = false
 
@@ -48,6 +50,7 @@ abbrev pub IsOutput : Command → List ℕ → Status → List ℕ → Type 0
 IsOutput (Alloc o) text status out = IsReportOf HEXAGON (model_options o) o.nodes text status out
 IsOutput Run text status out = (status ≡ Done) × (length text ≤ INPUT) × IsSourceRun text out
 IsOutput RunCode text status out = (status ≡ Done) × (length text ≤ INPUT) × IsCodeRun text out
+IsOutput Check text status out = (length text ≤ INPUT) × IsCheck text status out
 IsOutput (Generate seed size) text status out = (status ≡ Done) × IsGeneratedText seed size out
 IsOutput (GenerateAlloc seed size nodes) text status out = IsGeneratedReport seed size nodes status out
 
@@ -66,6 +69,7 @@ abbrev pub IsFaultIn : Command → List ℕ → ℕ → ℕ → Type 0
 IsFaultIn (Alloc o) text line code = IsFault text line code
 IsFaultIn Run text line code = IsPartFault text line code
 IsFaultIn RunCode text line code = IsTooLong text line code
+IsFaultIn Check text line code = IsPartFault text line code
 IsFaultIn (Generate seed size) text line code = ⊥
 IsFaultIn (GenerateAlloc seed size nodes) text line code = ⊥
 
@@ -73,6 +77,7 @@ IsFaultIn (GenerateAlloc seed size nodes) text line code = ⊥
 abbrev pub IsBadIn : Command → List ℕ → ℕ → Type 0
 IsBadIn Run text line = (length text ≤ INPUT) × IsBadSourceRun text line
 IsBadIn RunCode text line = (length text ≤ INPUT) × IsBadCodeRun text line
+IsBadIn Check text line = (length text ≤ INPUT) × IsBadCheck text line
 IsBadIn command text line = ⊥
 
 -- what a command reads has no fault
@@ -80,6 +85,7 @@ abbrev pub IsFaultless : Command → List ℕ → Type 0
 IsFaultless (Alloc o) text = (f : Function) × IsRead text f
 IsFaultless Run text = (length text ≤ INPUT) × ((f : Function) × IsRead (first_part text) f)
 IsFaultless RunCode text = length text ≤ INPUT
+IsFaultless Check text = (length text ≤ INPUT) × ((f : Function) × IsRead (first_part text) f)
 IsFaultless (Generate seed size) text = Unit {0}
 IsFaultless (GenerateAlloc seed size nodes) text = Unit {0}
 
@@ -88,6 +94,7 @@ abbrev pub IsGoodInput : Command → List ℕ → Type 0
 IsGoodInput (Alloc o) text = (f : Function) × IsRead text f
 IsGoodInput Run text = (length text ≤ INPUT) × IsSourceInput text
 IsGoodInput RunCode text = (length text ≤ INPUT) × IsCodeInput text
+IsGoodInput Check text = (length text ≤ INPUT) × IsCheckInput text
 IsGoodInput (Generate seed size) text = Unit {0}
 IsGoodInput (GenerateAlloc seed size nodes) text = Unit {0}
 
@@ -153,6 +160,7 @@ abbrev pub OutAfter : Status → List (List ℕ) → List ℕ → Option (List �
 OutAfter Done words text old new = Outputs Done words text old new
 OutAfter Infeasible words text old new = Outputs Infeasible words text old new
 OutAfter Spent words text old new = Outputs Spent words text old new
+OutAfter (No cause) words text old new = Outputs (No cause) words text old new
 OutAfter WriteFault words text old new =
     (status : Status) × (out : List ℕ) × IsOutputOf words text status out × AppendsPrefix old new out
 OutAfter _ words text old new = new ≡ old
@@ -162,6 +170,7 @@ abbrev pub IsWritten : Status → Type 0
 IsWritten Done = Unit {0}
 IsWritten Infeasible = Unit {0}
 IsWritten Spent = Unit {0}
+IsWritten (No cause) = Unit {0}
 IsWritten _ = ⊥
 
 -- an output was written whole, with its own status, or a prefix of it with a fault of writing
@@ -174,6 +183,7 @@ abbrev pub KeepsOut : Status → Option (List ℕ) → Option (List ℕ) → Typ
 KeepsOut Done old new = Unit {0}
 KeepsOut Infeasible old new = Unit {0}
 KeepsOut Spent old new = Unit {0}
+KeepsOut (No cause) old new = Unit {0}
 KeepsOut WriteFault old new = Unit {0}
 KeepsOut _ old new = new ≡ old
 
@@ -198,10 +208,15 @@ abbrev pub AnswersAccepted : Status → Type 0
 AnswersAccepted (TextFault line code) = ⊥
 AnswersAccepted _ = Unit {0}
 
--- the statuses of today's commands
-abbrev pub IsAnswer : Status → Type 0
-IsAnswer (No cause) = ⊥
-IsAnswer _ = Unit {0}
+-- that a report is not accepted comes of `check` alone
+abbrev pub CanEnd : Command → Status → Type 0
+CanEnd command (No cause) = command ≡ Check
+CanEnd command _ = Unit {0}
+
+-- the same by words
+abbrev pub IsAnswer : List (List ℕ) → Status → Type 0
+IsAnswer words (No cause) = IsCommand words Check
+IsAnswer words _ = Unit {0}
 
 -- the output was written whole, or there was no memory for it
 abbrev pub IsDone : Status → Type 0
@@ -215,10 +230,16 @@ IsSearched Infeasible = Unit {0}
 IsSearched Spent = Unit {0}
 IsSearched status = IsDone status
 
+-- or a report was not accepted
+abbrev pub IsChecked : Status → Type 0
+IsChecked (No cause) = Unit {0}
+IsChecked status = IsDone status
+
 -- how a run over a good input ends where nothing outside fails; a search finds code where each name can be kept in a frame slot of its own
 abbrev pub EndsWell : Command → List ℕ → Status → Type 0
 EndsWell (Alloc o) text status =
     IsSearched status × (((f : Function) → IsRead text f → AreRoomyFor f (model_options o)) → IsDone status)
+EndsWell Check text status = IsChecked status
 EndsWell command text status = IsDone status
 
 -- the answers before anything is written

@@ -1,6 +1,7 @@
 //! The whole program over any outside.
 #![tactic(auto)]
 
+pub mod check;
 pub mod faults;
 pub mod generated;
 pub mod limits;

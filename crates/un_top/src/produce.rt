@@ -9,10 +9,11 @@ ghost use Rattle.un_isa.specs.Hexagon.{HEXAGON};
 ghost use Rattle.un_problem.specs.Problems.{IsProblemOf, IsExtOf};
 ghost use Rattle.un_reader.specs.Read.{IsRead};
 ghost use Rattle.un_top.specs.Reports.{IsReportOf, IsSearchText};
-ghost use Rattle.un_top.specs.Runs.{reads_input, most_bytes, status_by, IsOutput, IsOutputOf, IsWritten};
+ghost use Rattle.un_top.specs.Runs.{reads_input, most_bytes, status_by, IsOutput, IsOutputOf, IsWritten, CanEnd, IsAnswer};
 ghost use Rattle.un_top.specs.Runs.{RefusesText, Refuses, RefusesWords};
 ghost use Rattle.un_top.specs.declared.limits.TheConstants.{INPUT};
 
+use crate::check::check_input;
 use crate::generated::generated_report;
 use crate::limits::INPUT;
 use crate::output::{Output, printed};
@@ -146,6 +147,19 @@ fn code_output(alloc: Global, text: &[u8]) -> Result<Output, Status>
     }
 }
 
+/// The answer to a report on a function.
+fn check_output(alloc: Global, text: &[u8]) -> Result<Output, Status>
+    requires few { length text.now ≤ INPUT }
+    ensures ok { IfOk result (λ out. IsOutput Command.Check text.now out.status out.text.items) }
+    ensures written { IfOk result (λ out. IsWritten out.status) }
+    ensures refused { IfErr result (RefusesText Command.Check text.now) }
+{
+    match check_input(alloc, text) {
+        Ok(output) => Ok(output),
+        Err(refused) => Err(status_by(refused)),
+    }
+}
+
 /// What a command that reads an input puts out over it.
 fn run_command(alloc: Global, command: Command, text: &[u8]) -> Result<Output, Status>
     requires reads { reads_input command ≡ true }
@@ -159,6 +173,7 @@ fn run_command(alloc: Global, command: Command, text: &[u8]) -> Result<Output, S
         Command::Alloc(options) => report(alloc, text, options),
         Command::Run => source_output(alloc, text),
         Command::RunCode => code_output(alloc, text),
+        Command::Check => check_output(alloc, text),
         Command::Generate { .. } => unreachable!(),
         Command::GenerateAlloc { .. } => unreachable!(),
     }
@@ -189,6 +204,7 @@ fn read_and_run<S: Source>(alloc: Global, command: Command, src: &mut S) -> Resu
     requires ranged { IsRanged command }
     ensures ok { IfOk result (λ out. IfSome (S.left src.old) (λ text. IsOutput command text out.status out.text.items)) }
     ensures written { IfOk result (λ out. IsWritten out.status) }
+    ensures ends { IfOk result (λ out. CanEnd command out.status) }
     ensures end { OnOk result (IsAtEnd (S.left src.new)) }
     ensures refused { IfErr result (Refuses command (S.left src.old) (S.faults src.old) (S.faults src.new)) }
 {
@@ -220,6 +236,7 @@ fn made(alloc: Global, command: Command) -> Result<Output, NoMemory>
         Command::Alloc(_) => unreachable!(),
         Command::Run => unreachable!(),
         Command::RunCode => unreachable!(),
+        Command::Check => unreachable!(),
         Command::Generate { seed, size } => generated(alloc, seed, size),
         Command::GenerateAlloc { seed, size, nodes } => generated_report(alloc, seed, size, nodes),
     }
@@ -233,6 +250,7 @@ fn reads_input(command: Command) -> bool
         Command::Alloc(_) => true,
         Command::Run => true,
         Command::RunCode => true,
+        Command::Check => true,
         Command::Generate { .. } => false,
         Command::GenerateAlloc { .. } => false,
     }
@@ -243,6 +261,7 @@ fn serve<S: Source>(alloc: Global, command: Command, src: &mut S) -> Result<Outp
     requires { IsRanged command }
     ensures ok { IfOk result (λ out. IfSome (S.left src.old) (λ text. IsOutput command text out.status out.text.items)) }
     ensures written { IfOk result (λ out. IsWritten out.status) }
+    ensures ends { IfOk result (λ out. CanEnd command out.status) }
     ensures refused { IfErr result (Refuses command (S.left src.old) (S.faults src.old) (S.faults src.new)) }
     ensures end { reads_input command ≡ true → OnOk result (IsAtEnd (S.left src.new)) }
     ensures left { reads_input command ≡ false → S.left src.new ≡ S.left src.old }
@@ -263,6 +282,7 @@ pub fn produce<S: Source>(alloc: Global, words: &[Word], src: &mut S) -> Result<
     ensures ok { IfOk result (λ out. IfSome (S.left src.old) (λ text. IsOutputOf words.now text out.status out.text.items)) }
     ensures written { IfOk result (λ out. IsWritten out.status) }
     ensures refused { IfErr result (RefusesWords words.now (S.left src.old) (S.faults src.old) (S.faults src.new)) }
+    ensures answers { IfOk result (λ out. IsAnswer words.now out.status) }
     ensures exactly_usage { (place : ℕ) → IsBadWord words.now place → result ≡ Err (Status.Usage place) }
     ensures end { (command : Command) → IsCommand words.now command → reads_input command ≡ true
         → OnOk result (IsAtEnd (S.left src.new)) }

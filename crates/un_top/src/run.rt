@@ -59,7 +59,7 @@ pub fn run<S: Source, K: Sink, E: Sink>(
     ensures calls { (command : Command) → IsCommand words.now command → reads_input command ≡ false → S.calls src.new ≡ S.calls src.old }
 
     // When each other answer comes.
-    ensures answers { IsAnswer result }
+    ensures answers { IsAnswer words.now result }
     ensures usage { (place : ℕ) → result ≡ Status.Usage place → IsBadWord words.now place }
     ensures unread { (place : ℕ) → result ≡ Status.Usage place → S.left src.new ≡ S.left src.old }
     ensures not_called { (place : ℕ) → result ≡ Status.Usage place → S.calls src.new ≡ S.calls src.old }

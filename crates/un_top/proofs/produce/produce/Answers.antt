@@ -1,6 +1,6 @@
 use Rattle.std.proofs.Common.{true, false, refl}
 use Rattle.un_commands.proofs.WordLaws.{command_is_good}
-use Rattle.un_top.proofs.Answered.{output_by, refused_by, reads_alike}
+use Rattle.un_top.proofs.Answered.{output_by, refused_by, reads_alike, answers_by}
 use Rattle.un_top.proofs.produce.produce.Goals as goal
 
 pub returns-in-Ok-clause-ok : goal.returns-in-Ok-clause-ok
@@ -36,3 +36,7 @@ returns-in-Ok-clause-not_called g c = λ place bad. absurd (command_is_good c.ar
 
 pub returns-in-Err-clause-refused : goal.returns-in-Err-clause-refused
 returns-in-Err-clause-refused g c = c.in-Err.ensures.bad c.in-Err.word refl
+
+pub returns-in-Ok-clause-answers : goal.returns-in-Ok-clause-answers
+returns-in-Ok-clause-answers g c =
+    answers_by c.args.words.now c.in-Ok.command c.serve.result c.in-Ok.ensures.ok c.serve.ensures.ends

@@ -1,4 +1,4 @@
-use Rattle.un_top.proofs.Answered.{over_told, refused_told}
+use Rattle.un_top.proofs.Answered.{over_told, refused_told, ends_ok}
 use Rattle.un_top.proofs.produce.read_and_run.Goals as goal
 
 pub returns-clause-ok : goal.returns-clause-ok
@@ -13,3 +13,6 @@ returns-clause-refused g c =
     c.args.src.now)
     (g.S.Source.faults c.input_of.new.src) c.run_command.result c.as_slice.ensures.value c.in-Ok.ensures.told
     c.run_command.ensures.refused
+
+pub returns-clause-ends : goal.returns-clause-ends
+returns-clause-ends g c = ends_ok c.args.command c.as_slice.result.now c.run_command.result c.run_command.ensures.ok

@@ -20,21 +20,21 @@ pub returns-clause-kept : goal.returns-clause-kept
 returns-clause-kept g c =
     let f = c.finish-status.ensures in
     let p = c.produce-outcome.ensures in
-    (kept_and_answered c.produce-outcome.result c.finish-status.result (g.K.Sink.held c.args.out.now)
+    (kept_and_answered c.args.words.now c.produce-outcome.result c.finish-status.result (g.K.Sink.held c.args.out.now)
     (g.K.Sink.held c.finish-status.new.out)
     (only_of c.args.words.now (g.S.Source.left c.args.src.now) (g.S.Source.faults c.args.src.now)
     (g.S.Source.faults c.produce-outcome.new.src) c.produce-outcome.result c.produce-outcome.ensures.refused) f.err f.kept p.written
-    f.wrote).0
+    p.answers f.wrote).0
 
 pub returns-clause-answers : goal.returns-clause-answers
 returns-clause-answers g c =
     let f = c.finish-status.ensures in
     let p = c.produce-outcome.ensures in
-    (kept_and_answered c.produce-outcome.result c.finish-status.result (g.K.Sink.held c.args.out.now)
+    (kept_and_answered c.args.words.now c.produce-outcome.result c.finish-status.result (g.K.Sink.held c.args.out.now)
     (g.K.Sink.held c.finish-status.new.out)
     (only_of c.args.words.now (g.S.Source.left c.args.src.now) (g.S.Source.faults c.args.src.now)
     (g.S.Source.faults c.produce-outcome.new.src) c.produce-outcome.result c.produce-outcome.ensures.refused) f.err f.kept p.written
-    f.wrote).1
+    p.answers f.wrote).1
 
 pub returns-clause-read_whole : goal.returns-clause-read_whole
 returns-clause-read_whole g c = λ command asked reads written.

@@ -1,0 +1,180 @@
+-- The first bad line of a report's text is one, and the text of a report has none.
+use Rattle.std.proofs.Common.{◌≡◌, ℕ, ◌+◌, ◌-◌, ◌/◌, ◌<◌, ◌≤◌, ◌^◌, ◌⊎◌, inl, inr, List, [], ◌∷◌, ◌++◌, codes, length, refl, sym, ap, ◌∙◌, subst, arith}
+use Rattle.std.proofs.lemmas.Bool.{cases_lt}
+use Rattle.std.proofs.lemmas.List.Elements.{recursion_from_All}
+use Rattle.un_commands.specs.Settings.{IsCountOfNodes}
+use Rattle.un_listing.specs.Listing.{code_text}
+use Rattle.un_listing_reader.proofs.CodeBack.{one_bad}
+use Rattle.un_report.specs.declared.report.TheConstants.{NUMBERS}
+use Rattle.un_report.specs.declared.report.Report.{Report}
+use Rattle.un_report.specs.Reports.{numbers_from, numbers_text}
+use Rattle.un_report_reader.specs.FirstBad.{IsBadBehind, InLine, BehindKind, InVersion, InFunction, InModel, InAnswer, InCost, InBound}
+use Rattle.un_report_reader.specs.FirstBad.{InListing, InCode, InSolution, InNumbers, InTree, InNodes, InEnd, InNothing, IsFirstBad}
+use Rattle.un_report_reader.specs.FirstBad.{IsBadCode, IsBadNumber, IsBadNode, first_lines, numbers_lines, lines_in_code}
+use Rattle.un_report_reader.specs.Lines.{one, IsVersion, version_text, IsName, function_text, AreSettings, settings_text, IsAny, kind_text}
+use Rattle.un_report_reader.specs.Lines.{number_text, IsLong, IsShort, cost_text, bound_text, listing_head, HasLines, solution_head, AreNumbers}
+use Rattle.un_report_reader.specs.Lines.{tree_head, AreNodes, IsPlain, end_text}
+use Rattle.un_report_reader.specs.Readings.{IsReportRead}
+use Rattle.un_report_reader.specs.declared.kind.Kind.{Kind}
+use Rattle.un_report_reader.specs.declared.kind.Kind.TheVariants as KindOf
+use Rattle.un_report_reader.proofs.Listings.{codes_once, no_bad_code}
+use Rattle.un_report_reader.proofs.NumberLaws.{numbers_once, number_stands, no_bad_number}
+use Rattle.un_report_reader.proofs.Once.{Once, number_line_once, function_once, settings_once, kind_once, tree_once, no_bad_node, end_once}
+use Rattle.un_report_reader.proofs.WholeTexts.{text_is_good, report_parts}
+use Rattle.std.specs.List.{AllByRecursion}
+use Rattle.un_tree.proofs.TreeTexts.{first_once, text_cons}
+use Rattle.un_tree.specs.Texts.{Fits, tree_text, BeginsNoNode}
+use Rattle.un_tree.specs.declared.node.Node.{Node}
+
+-- ---- a part, and what is behind it
+
+-- lines behind a part are one where those of what is left are
+one_behind : {V : Type 0} (good : V → Type 0) (text_of : V → List ℕ) (lines_of : V → ℕ) (later : V → List ℕ → ℕ → Type 0)
+    → Once good text_of → ((v : V) (rest : List ℕ) (m n : ℕ) → later v rest m → later v rest n → m ≡ n) → (text : List ℕ) (m n : ℕ)
+    → IsBadBehind good text_of lines_of later text m → IsBadBehind good text_of lines_of later text n → m ≡ n
+one_behind {V} good text_of lines_of later once each text m n b c =
+    let same = once c.value b.value c.rest b.rest c.is_good b.is_good (sym c.whole ∙ b.whole) in
+    let there : later b.value b.rest c.behind = subst (λ (t : List ℕ). later b.value t c.behind) same.1
+    (subst (λ (w : V). later w c.rest c.behind) same.0 c.is_bad) in
+    b.numbered ∙ (ap (λ (k : ℕ). lines_of b.value + k) (each b.value b.rest b.behind c.behind b.is_bad there)
+    ∙ (ap (λ (w : V). lines_of w + c.behind) (sym same.0) ∙ sym c.numbered))
+
+one_line : {V : Type 0} (good : V → Type 0) (text_of : V → List ℕ) (later : V → List ℕ → ℕ → Type 0)
+    → Once good text_of → ((v : V) (rest : List ℕ) (m n : ℕ) → later v rest m → later v rest n → m ≡ n) → (text : List ℕ) (m n : ℕ)
+    → InLine good text_of later text m → InLine good text_of later text n → m ≡ n
+one_line good text_of later once each text m n (inl b) (inl c) = b.1 ∙ sym c.1
+one_line good text_of later once each text m n (inl b) (inr c) = absurd (b.0 c.value c.rest c.is_good c.whole)
+one_line good text_of later once each text m n (inr b) (inl c) = absurd (c.0 b.value b.rest b.is_good b.whole)
+one_line good text_of later once each text m n (inr b) (inr c) = one_behind good text_of one later once each text m n b c
+
+long_once : (word : List ℕ) → Once IsLong (number_text word)
+long_once word = number_line_once word 0 (2 ^ 64 - 1) (omega arith)
+
+short_once : (word : List ℕ) → Once IsShort (number_text word)
+short_once word = number_line_once word 0 (2 ^ 32 - 1) (omega arith)
+
+-- ---- the tree
+
+-- where fewer nodes stand, the next does
+node_stands : (before ns : List Node) (rest a : List ℕ) → AllByRecursion Fits before → AllByRecursion Fits ns → length before < length ns
+    → tree_text before ++ rest ≡ tree_text ns ++ a → BeginsNoNode rest → ⊥
+node_stands before [] rest a f g few e none = absurd (omega (arith, few))
+node_stands [] (n ∷ ns) rest a f g few e none = none n (tree_text ns ++ a) g.0 (e ∙ text_cons n ns a)
+node_stands (m ∷ ms) (n ∷ ns) rest a f g few e none =
+    let first = first_once m n (tree_text ms ++ rest) (tree_text ns ++ a) f.0 g.0 (sym (text_cons m ms rest) ∙ (e ∙ text_cons n ns a)) in
+    node_stands ms ns rest a f.1 g.1 (omega (arith, few)) first.1 none
+
+one_bad_node : (count : ℕ) (text : List ℕ) (m n : ℕ) → IsBadNode count text m → IsBadNode count text n → m ≡ n
+one_bad_node count text m n b c = by (cases_lt (length b.before) (length c.before))
+  where
+    same : length b.before ≡ length c.before → m ≡ n
+    same long = b.numbered ∙ (ap (λ (k : ℕ). k + 1) long ∙ sym c.numbered)
+
+    by_other : length c.before ≤ length b.before → (length c.before < length b.before) ⊎ (length b.before ≤ length c.before) → m ≡ n
+    by_other h (inl k) = absurd (node_stands c.before b.before c.rest b.rest (recursion_from_All Fits c.before c.fit)
+        (recursion_from_All Fits b.before b.fit) k (sym c.whole ∙ b.whole) c.is_bad)
+    by_other h (inr k) = same (omega (arith, h, k))
+
+    by : (length b.before < length c.before) ⊎ (length c.before ≤ length b.before) → m ≡ n
+    by (inl h) = absurd (node_stands b.before c.before b.rest c.rest (recursion_from_All Fits b.before b.fit)
+        (recursion_from_All Fits c.before c.fit) h (sym b.whole ∙ c.whole) b.is_bad)
+    by (inr h) = by_other h (cases_lt (length c.before) (length b.before))
+
+one_end : (text : List ℕ) (m n : ℕ) → InEnd text m → InEnd text n → m ≡ n
+one_end = one_line IsPlain end_text (λ v. InNothing) end_once (λ v rest m n b c. b.1 ∙ sym c.1)
+
+one_nodes : (count : ℕ) (text : List ℕ) (m n : ℕ) → InNodes count text m → InNodes count text n → m ≡ n
+one_nodes count text m n (inl b) (inl c) = one_bad_node count text m n b c
+one_nodes count text m n (inl b) (inr c) = absurd (no_bad_node count c.value c.rest text m c.is_good c.whole b)
+one_nodes count text m n (inr b) (inl c) = absurd (no_bad_node count b.value b.rest text n b.is_good b.whole c)
+one_nodes count text m n (inr b) (inr c) =
+    one_behind (AreNodes count) tree_text length (λ ns. InEnd) (tree_once count) (λ v. one_end) text m n b c
+
+one_tree : (text : List ℕ) (m n : ℕ) → InTree text m → InTree text n → m ≡ n
+one_tree = one_line IsCountOfNodes tree_head InNodes (number_line_once (codes "tree ") 1 200000 (omega arith)) one_nodes
+
+-- ---- the solution
+
+one_bad_number : (count : ℕ) (text : List ℕ) (m n : ℕ) → IsBadNumber count text m → IsBadNumber count text n → m ≡ n
+one_bad_number count text m n b c = by (cases_lt (length b.before) (length c.before))
+  where
+    same : length b.before ≡ length c.before → m ≡ n
+    same long = b.numbered ∙ (ap (λ (k : ℕ). k / NUMBERS + 1) long ∙ sym c.numbered)
+
+    by_other : length c.before ≤ length b.before → (length c.before < length b.before) ⊎ (length b.before ≤ length c.before) → m ≡ n
+    by_other h (inl k) = absurd (number_stands count 0 (length c.before) c.before b.before c.rest b.rest
+        (recursion_from_All IsShort c.before c.short) (recursion_from_All IsShort b.before b.short) (omega arith) k (sym c.whole ∙ b.whole) c.is_bad)
+    by_other h (inr k) = same (omega (arith, h, k))
+
+    by : (length b.before < length c.before) ⊎ (length c.before ≤ length b.before) → m ≡ n
+    by (inl h) = absurd (number_stands count 0 (length b.before) b.before c.before b.rest c.rest
+        (recursion_from_All IsShort b.before b.short) (recursion_from_All IsShort c.before c.short) (omega arith) h (sym b.whole ∙ c.whole) b.is_bad)
+    by (inr h) = by_other h (cases_lt (length c.before) (length b.before))
+
+numbers_told : (count : ℕ) → Once (AreNumbers count) numbers_text
+numbers_told count v w a b gv gw e =
+    let one_way = gv.0 in
+    let other = gw.0 in
+    numbers_once count 0 v w a b (recursion_from_All IsShort v gv.1) (recursion_from_All IsShort w gw.1) (gv.0 ∙ sym gw.0)
+    (ap (λ (n : ℕ). numbers_from n 0 v ++ a) (sym one_way) ∙ (e ∙ ap (λ (n : ℕ). numbers_from n 0 w ++ b) other))
+
+one_numbers : (count : ℕ) (text : List ℕ) (m n : ℕ) → InNumbers count text m → InNumbers count text n → m ≡ n
+one_numbers count text m n (inl b) (inl c) = one_bad_number count text m n b c
+one_numbers count text m n (inl b) (inr c) = absurd (no_bad_number count c.value c.rest text m c.is_good c.whole b)
+one_numbers count text m n (inr b) (inl c) = absurd (no_bad_number count b.value b.rest text n b.is_good b.whole c)
+one_numbers count text m n (inr b) (inr c) =
+    one_behind (AreNumbers count) numbers_text numbers_lines (λ xs. InTree) (numbers_told count) (λ v. one_tree) text m n b c
+
+one_solution : (text : List ℕ) (m n : ℕ) → InSolution text m → InSolution text n → m ≡ n
+one_solution = one_line IsShort solution_head InNumbers (short_once (codes "solution ")) one_numbers
+
+-- ---- the listing
+
+one_bad_code : (count : ℕ) (text : List ℕ) (m n : ℕ) → IsBadCode count text m → IsBadCode count text n → m ≡ n
+one_bad_code count text m n (inl b) (inl c) = one_bad (first_lines count text) m n b.1 c.1
+one_bad_code count text m n (inl b) (inr c) = absurd (let long = b.0 in let short = c.0 in omega (arith, long, short))
+one_bad_code count text m n (inr b) (inl c) = absurd (let long = c.0 in let short = b.0 in omega (arith, long, short))
+one_bad_code count text m n (inr b) (inr c) = one_bad (text ++ codes "?") m n b.1 c.1
+
+one_code : (count : ℕ) (text : List ℕ) (m n : ℕ) → InCode count text m → InCode count text n → m ≡ n
+one_code count text m n (inl b) (inl c) = one_bad_code count text m n b c
+one_code count text m n (inl b) (inr c) = absurd (no_bad_code count c.value c.rest text m c.is_good c.whole b)
+one_code count text m n (inr b) (inl c) = absurd (no_bad_code count b.value b.rest text n b.is_good b.whole c)
+one_code count text m n (inr b) (inr c) =
+    one_behind (HasLines count) code_text (lines_in_code count) (λ k. InSolution)
+    (λ v w x y gv gw e. codes_once v w x y (gv ∙ sym gw) e) (λ v. one_solution) text m n b c
+
+one_listing : (text : List ℕ) (m n : ℕ) → InListing text m → InListing text n → m ≡ n
+one_listing = one_line IsShort listing_head InCode (short_once (codes "listing ")) one_code
+
+-- ---- the answer and the head
+
+one_bound : (text : List ℕ) (m n : ℕ) → InBound text m → InBound text n → m ≡ n
+one_bound = one_line IsLong bound_text (λ bound. InListing) (long_once (codes "bound ")) (λ v. one_listing)
+
+one_cost : (text : List ℕ) (m n : ℕ) → InCost text m → InCost text n → m ≡ n
+one_cost = one_line IsLong cost_text (λ cost. InBound) (long_once (codes "cost ")) (λ v. one_bound)
+
+one_behind_kind : (kind : Kind) (text : List ℕ) (m n : ℕ) → BehindKind kind text m → BehindKind kind text n → m ≡ n
+one_behind_kind KindOf.Code = one_cost
+one_behind_kind KindOf.Infeasible = one_tree
+one_behind_kind KindOf.Spent = one_tree
+
+one_answer : (text : List ℕ) (m n : ℕ) → InAnswer text m → InAnswer text n → m ≡ n
+one_answer = one_line IsAny kind_text BehindKind kind_once one_behind_kind
+
+one_model : (text : List ℕ) (m n : ℕ) → InModel text m → InModel text n → m ≡ n
+one_model = one_line AreSettings settings_text (λ settings. InAnswer) settings_once (λ v. one_answer)
+
+one_function : (text : List ℕ) (m n : ℕ) → InFunction text m → InFunction text n → m ≡ n
+one_function = one_line IsName function_text (λ name. InModel) function_once (λ v. one_model)
+
+-- ---- texts
+
+pub one_report_line : (text : List ℕ) (m n : ℕ) → IsFirstBad text m → IsFirstBad text n → m ≡ n
+one_report_line = one_line IsVersion version_text (λ v. InFunction) (number_line_once (codes "unison ") 1 1 (omega arith)) (λ v. one_function)
+
+pub report_not_bad : (text : List ℕ) (r : Report) (line : ℕ) → IsReportRead text r → IsFirstBad text line → ⊥
+report_not_bad text r line h bad =
+    text_is_good text r.name r.options r.nodes r.answer (length r.tree.nodes.items) r.tree.nodes.items line
+    (report_parts text r h.is_report h.spelled) (refl, h.is_report.fit) bad

@@ -1,0 +1,13 @@
+use Rattle.un_top.proofs.CheckLaws.{view_lines, answered}
+use Rattle.un_top.proofs.check.answer_of.Goals as goal
+
+pub check_view-requires-clause-options : goal.check_view-requires-clause-options
+check_view-requires-clause-options c = c.requires.is_view.options
+
+pub check_view-requires-clause-lines : goal.check_view-requires-clause-lines
+check_view-requires-clause-lines c = view_lines c.args.text.now c.args.view.now c.requires
+
+pub returns : goal.returns
+returns c =
+    answered c.args.alloc c.args.f.now c.args.text.now c.args.view.now c.check_view.result c.requires c.check_view.ensures.told
+    c.check_view.ensures.sound
