@@ -264,6 +264,15 @@ block e
 ---
 blocks 1
 ?run --code:bad 1>>bad report: line 1
+|frame 256
+block e
+{ r29 = add(r29,#-256) }
+{ r29 = add(r29,#256); jumpr r31 }
+---
+reg 29 248
+blocks 5
+x
+?run --code:bad 2>>bad report: line 2
 |# The function is looked at first, with its faults, then the start.\
 |func f
 block e freq 0

@@ -41,11 +41,11 @@ so_far_more input rest line behind n s cut is left none =
     behind_other p ps e = rw e refl
 
 -- what stands before the rest of an input
-front_of : (input rest : List ℕ) (s : SoFar input rest) → take (length input - length rest) input ≡ s.front
-front_of input rest s =
-    let long : length input - length rest ≡ length s.front =
-    (let all = ap length s.whole in let parts = length-append s.front rest in omega (arith, all, parts)) in
-    ap (λ (n : ℕ). take n input) long ∙ (ap (take (length s.front)) s.whole ∙ take-append_seam s.front rest)
+pub front_of : (input front rest : List ℕ) → input ≡ front ++ rest → take (length input - length rest) input ≡ front
+front_of input front rest whole =
+    let long : length input - length rest ≡ length front =
+    (let all = ap length whole in let parts = length-append front rest in omega (arith, all, parts)) in
+    ap (λ (n : ℕ). take n input) long ∙ (ap (take (length front)) whole ∙ take-append_seam front rest)
 
 -- the line parts the input
 pub parted : (input rest line behind : List ℕ) (n : ℕ) → SoFar input rest → pieces_of rest ≡ take n rest ∷ pieces_of (drop n rest)
@@ -53,7 +53,7 @@ pub parted : (input rest line behind : List ℕ) (n : ℕ) → SoFar input rest 
     → (take (length input - length rest) input ≡ first_part input) × (behind ≡ second_part input)
 parted input rest line behind n s cut is left yes' =
     let rule : is_rule (take n rest) ≡ true = ap is_rule (sym is) ∙ yes' in (
-      front_of input rest s
+      front_of input s.front rest s.whole
           ∙ sym (s.first ∙ (ap (λ (ps : List (List ℕ)). s.front ++ before_rule ps) cut
           ∙ (ap (λ (xs : List ℕ). s.front ++ xs) (before_it (take n rest) (pieces_of (drop n rest)) rule) ∙ append-nil s.front))),
       left ∙ sym (s.second ∙ (ap behind_rule cut ∙ (behind_it (take n rest) (pieces_of (drop n rest)) rule ∙ concat-pieces_of (drop n rest)))),

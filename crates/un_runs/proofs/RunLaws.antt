@@ -1,5 +1,5 @@
 -- Refusals of the parts of an input are those of the input.
-use Rattle.std.proofs.Common.{◌≡◌, ℕ, inl, inr, false, List, subst}
+use Rattle.std.proofs.Common.{◌≡◌, ℕ, inl, inr, false, List, ◌++◌, subst}
 use Rattle.un_isa.specs.Hexagon.{HEXAGON}
 use Rattle.un_isa.specs.declared.outcome.Outcome.{Outcome}
 use Rattle.un_isa.specs.declared.start.Start.{Start}
@@ -14,7 +14,7 @@ use Rattle.un_start.specs.StartTexts.{IsStartText, IsFirstBad as IsBadStart}
 use Rattle.un_runs.specs.declared.refused.Refused.{Refused}
 use Rattle.un_runs.specs.declared.refused.Refused.TheVariants.{NoMemory, TextFault, BadSecond}
 use Rattle.un_runs.specs.Inputs.{first_part, second_part}
-use Rattle.un_runs.specs.Refusals.{RefusesFunction, RefusesStart, RefusesListing, RefusesFor, RefusesSource, RefusesCode, IsTight, IsFaultOf, IsBadFor}
+use Rattle.un_runs.specs.Refusals.{RefusesFunction, RefusesStart, RefusesListing, RefusesFor, RefusesSource, RefusesCode, IsTight, IsRoomy, IsFaultOf, IsBadFor}
 use Rattle.un_runs.specs.Shown.{has_room, IsRunOf, IsSourceRun, IsRunOfCode, IsCodeRun}
 
 pub source_first : (input part : List ℕ) (e : Refused) → part ≡ first_part input → RefusesFunction part e → RefusesSource input e
@@ -70,16 +70,14 @@ pub of_table : (t : Table) (c : Code) (start : Start) (count : ℕ) (outcome : O
     → IsOutcome c.blocks (packet_run t c start count) outcome → IsOutcome c.blocks (packet_run HEXAGON c start count) outcome
 of_table t c start count outcome same is = subst (λ (u : Table). IsOutcome c.blocks (packet_run u c start count) outcome) same is
 
--- a start is refused for code as it is
-pub for_start : (frame : ℕ) (text : List ℕ) (e : Refused) → RefusesStart text e → RefusesFor frame text e
-for_start frame text NoMemory h = tt
-for_start frame text (TextFault line code) h = absurd h
-for_start frame text (BadSecond line) h = inl h
+-- a line of a start is bad for code as it is, where none without room stands before it
+pub for_line : (frame : ℕ) (text : List ℕ) (line : ℕ) → IsRoomy frame text → IsBadStart text line → RefusesFor frame text (BadSecond line)
+for_line frame text line roomy bad = inr (roomy, bad)
 
--- or where it has no room
-pub for_room : (frame : ℕ) (text : List ℕ) (start : Start) (count : ℕ) (e : Refused) → IsStartText text start count
-    → has_room frame start.regs ≡ false → IsTight text e → RefusesFor frame text e
-for_room frame text start count NoMemory started tight h = tt
-for_room frame text start count (TextFault line code) started tight h = absurd h
-for_room frame text start count (BadSecond line) started tight h =
-    inr (record { start = start; count = count; started = started; tight = tight; last = h })
+-- or where a start without room ends
+pub for_room : (frame : ℕ) (text front rest : List ℕ) (start : Start) (count : ℕ) (e : Refused) → text ≡ front ++ rest
+    → IsStartText front start count → has_room frame start.regs ≡ false → IsTight front e → RefusesFor frame text e
+for_room frame text front rest start count NoMemory whole started tight h = tt
+for_room frame text front rest start count (TextFault line code) whole started tight h = absurd h
+for_room frame text front rest start count (BadSecond line) whole started tight h =
+    inl (record { front = front; rest = rest; whole = whole; start = start; count = count; started = started; tight = tight; last = h })

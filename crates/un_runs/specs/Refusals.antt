@@ -1,5 +1,5 @@
 -- Which answers other than an outcome come, and when.
-use Rattle.std.specs.Prelude.{ℕ, ◌≡◌, ◌⊎◌, ⊤, false, List, count_by}
+use Rattle.std.specs.Prelude.{ℕ, ◌≡◌, ◌⊎◌, ⊤, false, List, ◌++◌, count_by}
 use Rattle.un_base.specs.Lines.{is_line_feed}
 use Rattle.un_faults.specs.Codes.{code_of}
 use Rattle.un_faults.specs.declared.fault.Fault.{Fault}
@@ -38,16 +38,24 @@ RefusesListing text NoMemory = ⊤
 RefusesListing text (TextFault line code) = ⊥
 RefusesListing text (BadSecond line) = IsBadListing text line
 
--- a start without room for a frame: its last line is bad
+-- a start without room for a frame stands at the front of the text: its last line is bad, whatever stands behind it
 pub record HasNoRoom (frame : ℕ) (text : List ℕ) (line : ℕ) : Type 0 where
+  pub front : List ℕ
+  pub rest : List ℕ
+  pub whole : text ≡ front ++ rest
   pub start : Start
   pub count : ℕ
-  pub started : IsStartText text start count
+  pub started : IsStartText front start count
   pub tight : has_room frame start.regs ≡ false
-  pub last : line ≡ count_by is_line_feed text
+  pub last : line ≡ count_by is_line_feed front
 
+-- none stands there
+abbrev pub IsRoomy : ℕ → List ℕ → Type 0
+IsRoomy frame text = (line : ℕ) → HasNoRoom frame text line → ⊥
+
+-- the first bad line of a start for code with a frame
 abbrev pub IsBadFor : ℕ → List ℕ → ℕ → Type 0
-IsBadFor frame text line = IsBadStart text line ⊎ HasNoRoom frame text line
+IsBadFor frame text line = HasNoRoom frame text line ⊎ (IsRoomy frame text × IsBadStart text line)
 
 -- where a start has no room, its last line is bad
 abbrev pub IsTight : List ℕ → Refused → Type 0

@@ -1,11 +1,12 @@
 //! Runs and generated functions as text.
 
-ghost use Rattle.std.specs.Prelude.{◌≡◌, ◌<◌, ◌≤◌, count_by, IfOk, IfErr};
-ghost use Rattle.un_base.specs.Lines.{is_line_feed};
+ghost use Rattle.std.specs.Prelude.{◌≡◌, ◌<◌, ◌≤◌, true, count_by, take, IfOk, IfErr};
+ghost use Rattle.std.specs.List.{concat};
+ghost use Rattle.un_base.specs.Lines.{is_line_feed, pieces_of};
 ghost use Rattle.un_ir.specs.declared.function.TheConstants.{BLOCKS};
 ghost use Rattle.un_listing_reader.specs.Reading.{IsListingOf};
 ghost use Rattle.un_reader.specs.Read.{IsRead};
-ghost use Rattle.un_start.specs.StartTexts.{IsStartText};
+ghost use Rattle.un_start.specs.StartTexts.{IsStartText, IsFirstBad};
 ghost use Rattle.un_runs.specs.Refusals.{RefusesFunction, RefusesStart, RefusesListing, IsTight, RefusesFor, RefusesSource, RefusesCode};
 ghost use Rattle.un_runs.specs.Shown.{has_room, IsRunOf, IsSourceRun, IsRunOfCode, IsCodeRun, IsGeneratedText};
 
@@ -28,6 +29,7 @@ use un_reader::error::ReadError;
 use un_reader::read::read_function;
 use un_source::run::run_source;
 use un_start::read::{StartError, read_start};
+use un_words::pieces::first_len;
 
 /// The function of a text.
 fn function_of(alloc: Global, text: &[u8]) -> Result<Function, Refused>
@@ -116,15 +118,68 @@ fn no_room(text: &[u8]) -> Refused
     }
 }
 
+/// The first lines of a text, so many, all where it has fewer.
+fn first_lines(text: &[u8], count: u32) -> &[u8]
+    ensures { result.now ≡ concat (take count (pieces_of text.now)) }
+{
+    let mut rest = text;
+    let mut left = count;
+    while left > 0 {
+        if rest.is_empty() {
+            return text;
+        }
+        let (_, behind) = rest.split_at(first_len(rest));
+        rest = behind;
+        left -= 1;
+    }
+    &text[..text.len() - rest.len()]
+}
+
+/// The answer where this is the first line of a text that does not stand where a start's may: the line before it is bad where those up to
+/// there are a start without room for the frame.
+fn refused_at(alloc: Global, frame: u32, text: &[u8], line: u32) -> Refused
+    requires { IsFirstBad text.now line }
+    ensures { RefusesFor frame text.now result }
+{
+    let front = first_lines(text, line - 1);
+    match read_start(alloc, front) {
+        Ok((start, _)) => {
+            if has_room(frame, &start.regs) {
+                Refused::BadSecond { line }
+            } else {
+                no_room(front)
+            }
+        }
+        Err(StartError::NoMemory) => Refused::NoMemory,
+        Err(StartError::BadStart { .. }) => Refused::BadSecond { line },
+    }
+}
+
+/// The start of a text, with the number of blocks, where it has room for a frame.
+fn roomy_start(alloc: Global, frame: u32, text: &[u8]) -> Result<(Start, u32), Refused>
+    ensures ok { IfOk result (λ read. IsStartText text.now read.0 read.1) }
+    ensures room { IfOk result (λ read. has_room frame read.0.regs ≡ true) }
+    ensures refused { IfErr result (RefusesFor frame text.now) }
+{
+    match read_start(alloc, text) {
+        Ok((start, count)) => {
+            if has_room(frame, &start.regs) {
+                Ok((start, count))
+            } else {
+                Err(no_room(text))
+            }
+        }
+        Err(StartError::NoMemory) => Err(Refused::NoMemory),
+        Err(StartError::BadStart { line }) => Err(refused_at(alloc, frame, text, line)),
+    }
+}
+
 /// What code comes to from the start of a text.
 fn code_run_of(alloc: Global, code: &Code, text: &[u8]) -> Result<Vec<u8>, Refused>
     ensures ok { IfOk result (λ out. IsRunOfCode code.now text.now out.items) }
     ensures refused { IfErr result (RefusesFor code.now.frame text.now) }
 {
-    let (start, count) = start_of(alloc, text)?;
-    if !has_room(code.frame, &start.regs) {
-        return Err(no_room(text));
-    }
+    let (start, count) = roomy_start(alloc, code.frame, text)?;
     let outcome = run_packets(alloc, code, &hexagon(), &start, count)?;
     let out = print_outcome(alloc, &[], &outcome)?;
     Ok(out)
@@ -134,7 +189,7 @@ fn code_run_of(alloc: Global, code: &Code, text: &[u8]) -> Result<Vec<u8>, Refus
 ///
 /// # Errors
 /// `BadSecond` with the first bad line of the listing, counted there, else with that of the start, whose last line is bad where the stack
-/// pointer is no multiple of 8 or has no room for the code's frame; `NoMemory` where there is no memory for the run.
+/// pointer is no multiple of 8 or has no room for the code's frame, also where more lines stand behind it; `NoMemory` where there is no memory for the run.
 pub fn code_run(alloc: Global, input: &[u8]) -> Result<Vec<u8>, Refused>
     ensures ok { IfOk result (λ out. IsCodeRun input.now out.items) }
     ensures refused { IfErr result (RefusesCode input.now) }
