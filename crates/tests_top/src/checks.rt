@@ -37,6 +37,7 @@ static NUMBERS: &[u8] = b"16 17 18 19 20 21 22 23 24 25 26 27 31 0 0 0 \
 
 /// The listing of its code, and the same after a packet that does nothing.
 static LISTING: &[u8] = b"frame 0\nblock e\n{ jumpr r31 }\n";
+
 static LATER: &[u8] = b"frame 0\nblock e\n{ nop }\n{ jumpr r31 }\n";
 
 /// Between two `|` stands a report with what the check answers for it: a line with the name, the answer, the cost, the bound, and the places

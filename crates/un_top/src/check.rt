@@ -69,7 +69,11 @@ fn put_no(out: &mut Vec<u8>, cause: NoCause) -> Result<(), NoMemory>
 }
 
 /// The line for an answer to a report.
-fn told_text(alloc: Global, answer: &Answered, told: Result<(), NoCause>) -> Result<Vec<u8>, NoMemory>
+fn told_text(
+    alloc: Global,
+    answer: &Answered,
+    told: Result<(), NoCause>,
+) -> Result<Vec<u8>, NoMemory>
     ensures { IfOk result (λ text. text.items ≡ told_line answer.now told) }
 {
     let mut out = Vec::new(alloc);
