@@ -11,18 +11,23 @@ use un_outside::status::Status;
 use un_prop::side::Side;
 use un_shown::input::{small_number, words};
 
-/// A decision on a variable: it is at most a value, or above it.
+/// A decision on a variable.
 #[derive(Clone, Copy)]
 pub struct Decision {
+    /// The variable that is decided on.
     pub var: VarId,
+    /// Whether its values up to `value` are kept, or those above.
     pub side: Side,
+    /// The greatest value of the lower side.
     pub value: u32,
 }
 
-/// A node of a search: a limit that the cost is to be below, where there is one, and the decisions that lead to it.
+/// A node of a search.
 #[derive(Drop)]
 pub struct Node {
+    /// What the cost is to be less than; None where the text has no limit.
     pub limit: Option<u64>,
+    /// The decisions that lead to it from the first box, in order.
     pub decisions: Vec<Decision>,
 }
 

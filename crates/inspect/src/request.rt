@@ -45,18 +45,23 @@ pub enum Part {
     Chains,
 }
 
-/// How often something is done, or how large it is: the numbers behind a word, of which the second is 1 where it is left out.
+/// The numbers behind a word: each is 1 to 1,000,000.
 #[derive(Clone, Copy)]
 pub struct Counts {
+    /// How often a part is called, how many nodes an attempt has, or how many precedences there are; None where it is left out.
     pub first: Option<u32>,
+    /// How often a model is posted, by how many trials attempts begin, or how many marks are set; 1 where it is left out.
     pub second: u32,
 }
 
-/// A part under options of the model, and with counts.
+/// What the words ask for.
 #[derive(Clone, Copy)]
 pub struct Request {
+    /// What is shown or timed.
     pub part: Part,
+    /// The options of the function's model; all registers and slots where the words give none.
     pub options: Options,
+    /// How often or how large, for what is timed.
     pub counts: Counts,
 }
 

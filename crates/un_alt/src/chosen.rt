@@ -24,9 +24,13 @@ use un_prop::when::is_only;
 /// An operand of the operation `user` reads one of the temporaries whose definers are `alts`, that at the place `choice`.
 #[derive(Drop)]
 pub struct Chosen {
+    /// The activity of the operation that reads.
     pub user: Act,
+    /// The variable of the operand's choice: a place in `alts`.
     pub choice: VarId,
+    /// The activities of the definers of the operand's alternatives, in order: the chosen one has to be active.
     pub alts: Items<Act>,
+    /// The variables of the user, the choice and the definers, rising, each once: it reads these, and cuts these alone.
     pub vars: Items<VarId>,
     ghost ascend: { Ascend vars },
     ghost among: { ChosenVars vars user choice alts },

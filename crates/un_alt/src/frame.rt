@@ -17,27 +17,36 @@ use un_prop::act::{Act, number, value};
 use un_prop::last::check_last;
 use un_prop::propagator::{Predicate, Propagator, Pruned, Scratch};
 
-/// Enter or a Leave: it is active where `instr` is not 0, and issues at `at`.
+/// Enter or a Leave.
 #[derive(Clone, Copy)]
 pub struct FrameOp {
+    /// The variable of its instruction: 1 where it is active, else 0.
     pub instr: VarId,
+    /// The variable of its cycle.
     pub at: VarId,
 }
 
-/// An operation that needs the frame where the number of its instruction is from `least` to `most`. It issues at `at`.
+/// An operation that needs the frame where the number of its instruction is within bounds.
 #[derive(Clone, Copy)]
 pub struct FrameUse {
+    /// The activity that gives the number of its instruction; a call, which is always active, has 1.
     pub instr: Act,
+    /// The least number with which it needs the frame: that of Spill for a copy, 1 for a call or a Leave.
     pub least: u32,
+    /// The greatest number with which it needs the frame: that of Reload for a copy, 1 for a call or a Leave.
     pub most: u32,
+    /// The variable of its cycle.
     pub at: VarId,
 }
 
-/// A Leave with the copies of its block and the cycles of its block's calls.
+/// A Leave with what has to issue before it in its block.
 #[derive(Drop)]
 pub struct FrameLeave {
+    /// The Leave itself.
     pub leave: FrameOp,
+    /// The copies of its block: where they need the frame, they issue no later than it.
     pub copies: Items<FrameUse>,
+    /// The variables of the cycles of its block's calls, which issue before it.
     pub calls: Items<VarId>,
 }
 
@@ -207,12 +216,19 @@ fn stands(fixed: &[u32], enter: FrameOp, entry: &[FrameUse], leaves: &[FrameLeav
 /// a Leave no copy that needs the frame issues after it, and each call before it. Where `flag` is 0, Enter and Leave are inactive.
 #[derive(Drop)]
 pub struct Frame {
+    /// The variable of the frame flag: 1 where the code has a frame, else 0.
     pub flag: VarId,
+    /// The variables of the instructions of all copies.
     pub touch: Items<VarId>,
+    /// The variables of the registers of the values at blocks' starts.
     pub ins: Items<VarId>,
+    /// Enter, of the entry block.
     pub enter: FrameOp,
+    /// What issues after Enter where it needs the frame: the copies and calls of the entry block, and its Leave.
     pub entry: Items<FrameUse>,
+    /// Each Leave, with what has to issue before it.
     pub leaves: Items<FrameLeave>,
+    /// The variables of all other fields, rising, each once: it reads these, and cuts these alone.
     pub vars: Items<VarId>,
     ghost ascend: { Ascend vars },
     ghost among: { FrameVars vars flag touch ins enter entry leaves },

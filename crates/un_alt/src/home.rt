@@ -18,9 +18,13 @@ use un_prop::propagator::{Predicate, Propagator, Pruned, Scratch};
 /// The temporary that a choice names among `regs`, or the only one where there is no choice, has the register `home`.
 #[derive(Drop)]
 pub struct Home {
+    /// The variable of the operand's choice: a place in `regs`; None where it has one alternative and no choice.
     pub choice: Option<VarId>,
+    /// The variables of the registers of the operand's alternatives, in order.
     pub regs: Items<VarId>,
+    /// The register to which the operand is preassigned.
     pub home: Reg,
+    /// The variables of the choice and the registers, rising, each once: it reads these, and cuts these alone.
     pub vars: Items<VarId>,
     ghost ascend: { Ascend vars },
     ghost among: { HomeVars vars choice regs },

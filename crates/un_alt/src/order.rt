@@ -18,14 +18,20 @@ use un_prop::propagator::Pruned;
 use un_prop::step::{keep_gt, keep_le};
 use un_prop::when::is_only;
 
-/// Where the number of the instruction `instr` is from `least` to `most`, the time `to` is at least `gap` after the time `from`.
+/// Two times of which the second is late enough after the first, where an instruction is one of those that ask for it.
 #[derive(Clone, Copy)]
 pub struct Order {
+    /// The variable of the first cycle.
     pub from: VarId,
+    /// The variable of the second cycle.
     pub to: VarId,
+    /// How many cycles the second is after the first, at least.
     pub gap: u32,
+    /// The activity that gives the number of the instruction.
     pub instr: Act,
+    /// The least number with which it asks for the gap.
     pub least: u32,
+    /// The greatest number with which it asks for the gap.
     pub most: u32,
 }
 

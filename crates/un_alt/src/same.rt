@@ -16,13 +16,16 @@ use un_prop::last::check_last;
 use un_prop::place::{Choice, places};
 use un_prop::propagator::{Predicate, Propagator, Pruned, Scratch};
 
-/// The temporary that a choice names among `regs` has the register of the temporary `to`. `regs` are the registers of the
-/// alternatives, by their places.
+/// The temporary that an operand chooses has the register of another temporary.
 #[derive(Drop)]
 pub struct Same {
+    /// The variable of the operand's choice: a place in `regs`.
     pub choice: VarId,
+    /// The variables of the registers of the operand's alternatives, in order.
     pub regs: Items<VarId>,
+    /// The variable of the register of the other temporary, which takes the value over in the next block.
     pub to: VarId,
+    /// The variables of the choice and of all registers, rising, each once: it reads these, and cuts these alone.
     pub vars: Items<VarId>,
     ghost ascend: { Ascend vars },
     ghost among: { SameVars vars choice regs to },

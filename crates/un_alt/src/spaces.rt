@@ -24,10 +24,15 @@ use un_prop::propagator::{Predicate, Propagator, Pruned, Scratch};
 /// at the number of `on`, where that is active.
 #[derive(Drop)]
 pub struct Spaces {
+    /// The activity of the operation, whose number says which set counts: that of its instruction, or 1 for one always active.
     pub on: Act,
+    /// The variable of the operand's choice: a place in `regs`; None for a result, and for an operand without a choice.
     pub choice: Option<VarId>,
+    /// The variables of the registers of the operand's alternatives, in order; for a result its own alone.
     pub regs: Items<VarId>,
+    /// The registers that the temporary may have, at the place of the activity's number.
     pub sets: Items<Span>,
+    /// The variables of the operation, the choice and the registers, rising, each once: it reads these, and cuts these alone.
     pub vars: Items<VarId>,
     ghost ascend: { Ascend vars },
     ghost among: { SpacesVars vars on choice regs },

@@ -59,14 +59,14 @@ impl Span {
         Span { first, count }
     }
 
-    /// Whether a number is one of them.
+    /// Whether a number is one of the span's.
     pub fn contains(&self, n: u32) -> bool
         ensures { result ≡ has self.now n }
     {
         is_from(self.first, self.count, n)
     }
 
-    /// Whether a variable has one of them.
+    /// Whether a variable has a value that is one of the span's.
     pub fn meets(&self, w: &Window<'_>, v: VarId) -> bool
         requires { v.0 < length w.now.store.now.sets }
         ensures { result ≡ list_any (has (set_at w.now.store.now.sets v.0)) self.now }

@@ -22,8 +22,11 @@ use un_prop::when::{drop_when, is_only, keep_le_when};
 /// its register, are 0.
 #[derive(Drop)]
 pub struct Zeros {
+    /// The variable of the operation's instruction: 0 where it is inactive.
     pub instr: VarId,
+    /// The operation's other variables, which are 0 where it is inactive.
     pub others: Items<VarId>,
+    /// The operation's variables, rising, each once: it reads these, and cuts these alone.
     pub vars: Items<VarId>,
     ghost ascend: { Ascend vars },
     ghost among: { ZerosVars vars instr others },

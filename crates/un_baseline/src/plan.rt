@@ -41,7 +41,9 @@ pub enum Definer {
 /// What holds in the whole of a block.
 #[derive(Clone, Copy)]
 pub struct Setting {
+    /// Whether it is the function's first block.
     pub is_entry: bool,
+    /// How the block ends.
     pub term: Term,
     /// The slot that keeps the link register's value, as a register.
     pub link: u32,
@@ -51,21 +53,28 @@ pub struct Setting {
     pub placed: u32,
 }
 
-/// How far the plan of a block has come: the next cycle, and since the last operation that is no copy, how many values and how
-/// many operands have had their first copy, and what that operation was.
+/// How far the plan of a block has come.
 #[derive(Clone, Copy)]
 pub struct Progress {
+    /// The cycle in which the next operation issues.
     pub cycle: u32,
+    /// How many values of the last operation that is no copy have had their first copy since.
     pub values: u32,
+    /// How many operands of the next operation that is no copy have had their first copy so far.
     pub operands: u32,
+    /// What defined the values whose copies come next.
     pub definer: Definer,
 }
 
-/// What a copy does: its instruction, cycle, choice and register. All are 0 where it does nothing.
+/// What a copy does: all is 0 where it does nothing.
 #[derive(Clone, Copy)]
 pub struct Move {
+    /// The number of its instruction: 1 Mov, 2 Spill, 3 Reload, 4 P2R, 5 R2P, and 0 where it is inactive.
     pub instr: u32,
+    /// The cycle in which it issues.
     pub cycle: u32,
+    /// The place among its operand's alternatives of the temporary that it reads.
     pub place: u32,
+    /// The number of the register or slot that it writes: slots from 36 on.
     pub register: u32,
 }

@@ -10,12 +10,16 @@ use un_base::ids::VarId;
 use un_prop::side::Side;
 use un_tree::node::{Decision, Node, Tree};
 
-/// A node, the place of the next one in the tree's order, and where the node comes from.
+/// A node of a tree that grows.
 #[derive(Clone, Copy)]
 pub struct Entry {
+    /// The node itself: a Branch, or a leaf that is open or closed.
     pub node: Node,
+    /// The place in the list of the node that comes next in preorder; behind the last node it is 0.
     pub next: usize,
+    /// The place in the list of the Branch above it; 0 for the root, which has none.
     pub parent: usize,
+    /// The decision that leads to it from its parent; for the root one that means nothing.
     pub decision: Decision,
 }
 

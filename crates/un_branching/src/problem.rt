@@ -20,12 +20,16 @@ pub enum Look {
     Open(u64),
 }
 
-/// A choice at a node, and how the rounds end on its sides.
+/// How a node is split, and how the rounds end on both sides.
 #[derive(Drop)]
 pub struct Expansion {
+    /// The variable on which it is split.
     pub var: VarId,
+    /// The greatest value of the left side; the right side has the values above it.
     pub val: u32,
+    /// How the rounds end where the variable is at most `val`.
     pub left: Look,
+    /// How the rounds end where the variable is above `val`.
     pub right: Look,
 }
 

@@ -27,7 +27,7 @@ pub fn sound_bound(f: &Function, m: &Model, r: &Report)
     let _ = r;
 }
 
-/// The check accepts the tree of a search under the same limit.
+/// The check accepts the tree of a search under the limit that the search had.
 pub fn accepts_certificate(m: &Model, limit: Option<u64>, tree: &Tree)
     requires { IsCertificate m.now limit tree.now.nodes.items }
     ensures { (v : TreeVerdict) → IsVerdict m.now limit tree.now.nodes.items v → IsAccepting v }

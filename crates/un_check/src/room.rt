@@ -32,9 +32,9 @@ pub(crate) struct Room {
     pub engine: Option<Engine<AnyProp>>,
     /// The box of all decisions, with a mark for each.
     pub cuts: Store,
-    /// The first decisions.
+    /// The first decisions: those on whose boxes the rounds do not fail.
     pub live: Vec<Decision>,
-    /// The others.
+    /// The decisions behind the first ones: those on whose boxes the rounds fail.
     pub dead: Vec<Decision>,
 }
 

@@ -11,12 +11,14 @@ pub const DEFAULT_NODES: u32 = 2_000;
 /// The largest size of a function that is made.
 pub const MOST_SIZE: u32 = 16;
 
-/// What a search may use: so many nodes of its tree, 1 to 200,000, the registers r0 to r(n − 1), where n is 1 to 29, or all,
-/// and so many frame slots, at most 64.
+/// What a search may use.
 #[derive(Clone, Copy)]
 pub struct SearchOptions {
+    /// How many nodes its tree may have, 1 to 200,000.
     pub nodes: u32,
+    /// How many general registers it may assign, r0 to r(n − 1), where n is 1 to 29; None for all of r0 to r28 and r31.
     pub regs: Option<u32>,
+    /// How many frame slots it may use, 0 to 64.
     pub slots: u32,
 }
 

@@ -20,8 +20,11 @@ pub enum Setting {
 /// The values that settings have given, each option at most once.
 #[derive(Clone, Copy)]
 pub struct Given {
+    /// How many nodes the search's tree may have; None where that is not given.
     pub nodes: Option<u32>,
+    /// How many general registers it may assign; None where that is not given.
     pub regs: Option<u32>,
+    /// How many frame slots it may use; None where that is not given.
     pub slots: Option<u32>,
 }
 

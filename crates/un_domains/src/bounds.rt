@@ -6,10 +6,12 @@ ghost use Rattle.un_domains.specs.Bits.{bit, inside, members, IsTight};
 
 use crate::scan::{last_set, next_set, test};
 
-/// The first place of a set, and the place after its last. They are one where the set is empty.
+/// The bounds of a set of places: both are one number where the set is empty.
 #[derive(Clone, Copy)]
 pub struct Bounds {
+    /// The first place of the set.
     pub lo: usize,
+    /// The place after its last one.
     pub end: usize,
 }
 

@@ -6,17 +6,21 @@ ghost use Rattle.un_domains.specs.Levels.{IsLevel, IsClean, IsSave, marked_of, u
 
 use std::alloc::{AllocError, Global};
 
-/// A word before a change: its place and what it was.
+/// A word before a change.
 #[derive(Clone, Copy)]
 pub struct Saved {
+    /// The place of the word in the store's list of words.
     pub at: usize,
+    /// What the word was.
     pub old: u64,
 }
 
-/// The words that changed since a mark: a flag for each word, and what each that has its flag was.
+/// The words that changed since a mark.
 #[derive(Drop)]
 pub struct Level {
+    /// A flag for each word of the store: whether it is among the entries.
     pub saved: Vec<bool>,
+    /// Each word that has its flag, with what it was at the mark.
     pub entries: Vec<Saved>,
 }
 

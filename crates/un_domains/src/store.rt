@@ -283,7 +283,7 @@ impl Store {
         self.words.undo();
     }
 
-    /// The same sets once more, without marks.
+    /// A store with the same sets, and without marks.
     pub fn copy(&self, alloc: Global) -> Result<Store, NoMemory>
         ensures sets { IfOk result (λ s. s.sets ≡ self.now.sets) }
         ensures marked { IfOk result (λ s. s.marked ≡ []) }

@@ -11,7 +11,9 @@ use un_base::ids::VarId;
 /// A store in which only the variables of a list may be written.
 #[derive(Drop)]
 pub struct Window<'a> {
+    /// The store that is lent.
     pub store: &'a mut Store,
+    /// The variables that may be written; all may be read.
     pub vars: &'a [VarId],
 }
 

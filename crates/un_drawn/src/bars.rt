@@ -22,22 +22,29 @@ pub enum Role {
     Moved,
 }
 
-/// The live range of a temporary: what it carries and how it came there, its register or slot, its cycles from the first to the last,
-/// and how many bytes its label has.
+/// The live range of a temporary, as a bar in the column of its register or slot.
 #[derive(Clone, Copy)]
 pub struct Bar {
+    /// What it carries: the value of a name, what the caller left in a register, or a call's result that no name takes.
     pub carried: Meaning,
+    /// How what it carries came there.
     pub role: Role,
+    /// The number of its register or slot: slots from 36 on.
     pub reg: u32,
+    /// Its first cycle: that of its definer, 0 for a value at the block's start.
     pub from: u32,
+    /// Its last cycle, inclusive.
     pub last: u32,
+    /// How many bytes its label has.
     pub width: usize,
 }
 
-/// A register or slot in use, and how many bytes what stands there has at most.
+/// A register or slot that is in use.
 #[derive(Clone, Copy)]
 pub struct Column {
+    /// Its number: slots from 36 on.
     pub reg: u32,
+    /// How many bytes its name and the labels in it have at most.
     pub width: usize,
 }
 

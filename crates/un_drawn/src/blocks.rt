@@ -13,22 +13,31 @@ use un_model::model::Model;
 use un_model::schedule::Schedule;
 use un_packet::code::{CodeBlock, Packet};
 
-/// A solution: the names of the function, its model, its schedule, the registers that a function keeps, and the code.
+/// A solution with all that is drawn of it.
 #[derive(Clone, Copy)]
 pub struct Sheet<'a> {
+    /// The names of the function with their kinds, by number.
     pub names: &'a [(Name, Kind)],
+    /// The function's model.
     pub m: &'a Model,
+    /// The solution as a schedule.
     pub plan: &'a Schedule,
+    /// The numbers of the registers that a function keeps, rising, and then that of the link register.
     pub saved: &'a [u32],
+    /// The code of the solution, block by block.
     pub code: &'a [CodeBlock],
 }
 
-/// A block: its number, the number of its first operation, and how many packets the solution has in it.
+/// A block of a solution.
 #[derive(Clone, Copy)]
 pub struct Section<'a> {
+    /// The block of the extended function.
     pub block: &'a ExtBlock,
+    /// Its place among the function's blocks, 0 for the entry.
     pub number: u32,
+    /// The number of its first operation in the function.
     pub first: u32,
+    /// How many packets the solution has in it: its end less 1.
     pub length: u32,
 }
 

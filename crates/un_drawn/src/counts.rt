@@ -6,12 +6,16 @@ use un_isa::packet_counts::{Resource, places};
 use un_isa::table::Table;
 use un_model::instructions::{instruction, share};
 
-/// What a block needs of a resource: how much all together, how much a packet has, and how many packets have it.
+/// What the operations of a block that every solution issues need of a resource.
 #[derive(Clone, Copy)]
 pub struct Count {
+    /// The resource of a packet that is counted.
     pub resource: Resource,
+    /// How much of it they need together.
     pub needed: u32,
+    /// How much of it a packet has, at least 1.
     pub places: u32,
+    /// How many packets have that much: the block has no fewer.
     pub packets: u32,
 }
 

@@ -3,12 +3,16 @@
 use un_base::decimal::read_decimal;
 use un_base::lines::lines;
 
-/// The text of the values, how many lines stand before it, and, where a report has them, its bound and how many leaves are open.
+/// What stands behind a function for a drawing.
 #[derive(Clone, Copy)]
 pub struct Given<'a> {
+    /// The text of the values of a solution: its numbers alone.
     pub values: &'a [u8],
+    /// How many lines of what stands behind the function come before those numbers; 0 where it is no report.
     pub before: u32,
+    /// The bound that a report has; None where there is none.
     pub bound: Option<u64>,
+    /// How many open leaves a report's tree has; 0 where there is no tree.
     pub open: u32,
 }
 

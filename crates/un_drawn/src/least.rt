@@ -7,10 +7,12 @@ use un_ir::extended::{ExtKind, ExtOp};
 use un_model::instructions::instruction;
 use un_model::model::{Arc, Model};
 
-/// The earliest cycle of an operation, and the place in the block of the operation that holds it there, where one does.
+/// The earliest cycle of an operation by the precedences of its block.
 #[derive(Clone, Copy)]
 pub struct Earliest {
+    /// The first cycle in which it can issue; 0 for the block's start.
     pub cycle: u32,
+    /// The place in the block of the operation that holds it there; None where no other holds it.
     pub behind: Option<u32>,
 }
 

@@ -16,14 +16,18 @@ use un_lists::items::Items;
 use un_words::forms::is_text;
 use un_words::line::{Line, OpLine, TermLine};
 
-/// What stands before a line: the name on the `func` line, the labels, the names in the order of their first
-/// appearance, how many operations there are, and whether a terminator has ended the last block.
+/// What stands before a line.
 #[derive(Drop)]
 pub struct Before {
+    /// The name on the `func` line; None before that line.
     pub name: Option<Name>,
+    /// The labels of the block lines, in order.
     pub labels: Items<Name>,
+    /// The names of values, in the order of their first appearance.
     pub names: Names,
+    /// How many operations there are, terminators not counted.
     pub ops: usize,
+    /// Whether a terminator has ended the last block: false behind its block line, and before any block.
     pub ended: bool,
 }
 

@@ -6,10 +6,12 @@ use std::alloc::{AllocError, Global};
 use un_trial::sets::{EMPTY, FIRST_SLOT, LINK, RegisterSet};
 use un_trial::table::NONE;
 
-/// A start assignment: with a frame or without, and how many saved values, from r16 on, stand in slots between entry and returns.
+/// A start assignment.
 #[derive(Clone, Copy)]
 pub struct Start {
+    /// Whether the function has a frame, so that keys may stand in slots.
     pub frame: bool,
+    /// How many saved values, from that of r16 on, stand in slots between entry and returns: 0 to 12.
     pub spilled: u32,
 }
 

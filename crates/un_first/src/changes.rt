@@ -11,8 +11,11 @@ use un_trial::table::NONE;
 /// A place for a key in a group.
 #[derive(Clone, Copy)]
 pub struct Change {
+    /// The group, as a row of the table of places.
     pub group: u32,
+    /// The key: a name by its number, or a saved value by its place behind all names.
     pub key: u32,
+    /// The number of the register or slot that it is to have there.
     pub place: u32,
 }
 

@@ -8,20 +8,24 @@ use un_trial::table::{NONE, Table};
 /// How many values a function hands back: the link register's and those of r16 to r27.
 pub const SAVED: u32 = 13;
 
-/// How many of them stand in registers that a call keeps.
+/// How many of the values that a function hands back stand in registers that a call keeps.
 pub const KEPT: u32 = 12;
 
-/// The register of the first of them.
+/// The first register that a call keeps: r16.
 pub const FIRST_KEPT: u32 = 16;
 
 /// A block, with the groups of places at its start and at its end.
 #[derive(Drop)]
 pub struct Block {
+    /// What a trial reads of it.
     pub facts: BlockFacts,
+    /// How often it runs, 1 to 1,000,000: its weight in a cost.
     pub frequency: u64,
-    /// A lower bound of the block's end.
+    /// A lower bound of the block's end, in cycles: a schedule with this end is not tried to be made better.
     pub least_end: u32,
+    /// The group of its start.
     pub group_in: u32,
+    /// The group of its end.
     pub group_out: u32,
 }
 
@@ -29,24 +33,33 @@ pub struct Block {
 /// names, then the saved values.
 #[derive(Drop)]
 pub struct Facts {
+    /// The blocks, in order; the first is the entry.
     pub blocks: Vec<Block>,
+    /// Two for each block: a group has the number of its least boundary, where starts of blocks come first, and then their ends.
     pub groups: u32,
+    /// How many names the function has: these are the keys below this number.
     pub names: u32,
+    /// How many keys there are: the names, and 13 saved values behind them.
     pub keys: u32,
     /// Whether a key is live in a group.
     pub live: Grid<bool>,
     /// The place that the model prescribes; NONE where it is free.
     pub fixed: Grid<u32>,
-    /// Groups joined by blocks without copies of saved values have one region.
+    /// The region of each group: groups joined by blocks without copies of saved values have one region.
     pub region: Table<u32>,
+    /// For each name, by number, whether it is a predicate.
     pub name_is_predicate: Table<bool>,
+    /// The general registers that may be assigned.
     pub assignable: RegisterSet,
+    /// The frame slots that there are.
     pub slots: RegisterSet,
+    /// The variable of the frame flag: 1 where the code has a frame, else 0.
     pub flag: u32,
+    /// How many variables the model has.
     pub variables: u32,
-    /// The instruction variables of copies, and the register variables of values at blocks' starts, which tell whether there is a
-    /// frame.
+    /// The variables of the instructions of all copies: a Spill or a Reload among them makes a frame.
     pub copy_instructions: Vec<u32>,
+    /// The variables of the registers of all values at blocks' starts: a slot among them makes a frame.
     pub start_registers: Vec<u32>,
 }
 

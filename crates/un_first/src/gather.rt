@@ -11,16 +11,24 @@ use un_model::model::{Arc, BlockVars, Model, OpVars, TempVars};
 use un_trial::facts::{self, Gap, Needs, Operation};
 use un_trial::table::NONE;
 
-/// A block of the model, with the numbers of its first operation and its first temporary in the function.
+/// A block of a model, with the numbers at which it begins.
 #[derive(Clone, Copy)]
 pub struct Scope<'a> {
+    /// The model that the block is of.
     pub m: &'a Model,
+    /// The block with its operations.
     pub block: &'a ExtBlock,
+    /// The variables of the block's operations, and of its end.
     pub vars: &'a BlockVars,
+    /// The block's precedences, whose operations have their numbers in the function.
     pub arcs: &'a [Arc],
+    /// The number of its first operation in the function.
     pub first_op: u32,
+    /// The number of its first temporary in the function.
     pub first_temp: u32,
+    /// How many temporaries it defines: their numbers follow one another.
     pub temps: u32,
+    /// Whether it is the function's first block.
     pub is_entry: bool,
 }
 

@@ -4,10 +4,12 @@ use crate::facts::Facts;
 use crate::places::Places;
 use std::alloc::{AllocError, Global};
 
-/// What a trial may vary: the order of the source operations, and whether saved values that end in registers may be spilled.
+/// What a trial may vary.
 #[derive(Drop)]
 pub struct Recipe {
+    /// The source operations of the block without its terminator, in the order in which a trial places them.
     pub order: Vec<u32>,
+    /// Whether a saved value that ends in a register may be spilled in between.
     pub spill_saved: bool,
 }
 
@@ -25,35 +27,47 @@ impl Recipe {
     }
 }
 
-/// A block's result: its variables from its first on, and how it was made.
+/// What a trial of a block gave.
 #[derive(Drop)]
 pub struct Schedule {
+    /// The block's end, in cycles.
     pub end: u32,
+    /// How many of its copies are active.
     pub copies: u32,
+    /// The values of the block's variables, from its first on.
     pub values: Vec<u32>,
+    /// The order, and the freedom to spill, with which it was made.
     pub recipe: Recipe,
 }
 
-/// The number of trials of a block under a plan's places, and the best of them where there is one.
+/// The trials of a block under a plan's places.
 #[derive(Drop)]
 pub struct BlockPlan {
+    /// How many trials were made under these places.
     pub tried: u64,
+    /// Whether one of them came to an end, so that `best` tells something.
     pub is_found: bool,
+    /// The schedule with the least end, among those with one end with the fewest copies.
     pub best: Schedule,
 }
 
 /// Places, and the blocks under them.
 #[derive(Drop)]
 pub struct Plan {
+    /// The place of each key in each group.
     pub places: Places,
+    /// Whether the function has a frame, so that keys may stand in slots.
     pub frame: bool,
+    /// The trials of each block under these places.
     pub blocks: Vec<BlockPlan>,
 }
 
-/// What a plan costs: cycles, then copies, both by frequency.
+/// What a plan costs: cycles count first, and then copies.
 #[derive(Clone, Copy)]
 pub struct Cost {
+    /// The sum over the blocks of frequency times packets.
     pub cycles: u64,
+    /// The sum over the blocks of frequency times active copies.
     pub copies: u64,
 }
 

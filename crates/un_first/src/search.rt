@@ -20,11 +20,13 @@ struct Seed {
 /// The state of a search, but for its plans.
 #[derive(Drop)]
 pub struct Search<'a> {
+    /// The function whose plans are tried.
     pub facts: &'a Facts,
+    /// Where its chance comes from, which follows from a fixed seed.
     pub noise: Noise,
     /// How many trials are left.
     pub left: u64,
-    /// The cost of the blocks' least ends.
+    /// What the blocks' least ends cost together: no plan costs less.
     pub least: u64,
     trial: Trial<'a>,
     recipe: Recipe,

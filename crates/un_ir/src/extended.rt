@@ -39,9 +39,10 @@ pub const FROM_PREDICATE: u32 = 4;
 /// The number of a copy's instruction that moves a truth value from a general register to a predicate.
 pub const TO_PREDICATE: u32 = 5;
 
-/// The names that are live at the start of each block, those of a block in the order of their first appearance.
+/// The names that are live at the start of each block.
 #[derive(Drop)]
 pub struct LiveSets {
+    /// For each block the names that are live at its start, in the order of their first appearance in the text.
     pub at_start: Items<Items<NameId>>,
 }
 
@@ -193,10 +194,12 @@ impl Clone for ExtKind {
     }
 }
 
-/// An operand: the temporaries that it may choose, in order, and the register to which it is preassigned.
+/// An operand of an operation of an extended block.
 #[derive(Drop)]
 pub struct Operand {
+    /// The temporaries that it may choose, in the order of its choice's values: the value itself comes first.
     pub alts: Items<TempId>,
+    /// The register to which it is preassigned; None where there is none.
     pub home: Option<Reg>,
 }
 
@@ -212,11 +215,14 @@ impl Clone for Operand {
     }
 }
 
-/// An operation of an extended block, with the temporaries that it defines.
+/// An operation of an extended block.
 #[derive(Drop)]
 pub struct ExtOp {
+    /// Which operation it is: a block's start or end, one of the source, a terminator, a copy, Enter or Leave.
     pub kind: ExtKind,
+    /// Its operands, in order.
     pub operands: Items<Operand>,
+    /// The temporaries that it defines: many at a block's start, else one at most.
     pub results: Items<TempId>,
 }
 
@@ -235,15 +241,20 @@ impl Clone for ExtOp {
     }
 }
 
-/// An extended block. `live_in` are the names of the first values of `In`, `live_out` those that `Out` reads before the
-/// saved values; no cycle of the block is past `horizon`.
+/// An extended block.
 #[derive(Drop)]
 pub struct ExtBlock {
+    /// How often it runs: 1 to 1,000,000.
     pub freq: u32,
+    /// Its label in the text.
     pub label: Name,
+    /// The names whose values are the first that `In` defines, by first appearance in the text; the saved values follow.
     pub live_in: Items<NameId>,
+    /// The names whose values are the first that `Out` reads, by first appearance in the text; the saved values follow.
     pub live_out: Items<NameId>,
+    /// Its operations, `In` first and `Out` last.
     pub ops: Items<ExtOp>,
+    /// One past the last of its cycles: an operation issues before it, and the block's end is at most this.
     pub horizon: u32,
 }
 
@@ -265,11 +276,14 @@ impl Clone for ExtBlock {
     }
 }
 
-/// An extended function with its table. `names` has the kind of each name of the function, by its number.
+/// An extended function with its table.
 #[derive(Drop)]
 pub struct Ext {
+    /// The processor that it is made for.
     pub table: Table,
+    /// The kind of each name of the function, by its number.
     pub names: Items<Kind>,
+    /// Its blocks, in order; the first is the entry.
     pub blocks: Items<ExtBlock>,
 }
 
@@ -290,36 +304,44 @@ impl Clone for Ext {
 /// A block of a linear function: an extended block without copies, Enter and Leave, with one alternative per operand.
 pub type LssaBlock = ExtBlock;
 
-/// A linear function with its table. `names` has the kind of each name of the function, by its number.
+/// A linear function with its table.
 #[derive(Drop)]
 pub struct Lssa {
+    /// The processor that it is made for.
     pub table: Table,
+    /// The kind of each name of the function, by its number.
     pub names: Items<Kind>,
+    /// Its blocks, in order; the first is the entry.
     pub blocks: Items<LssaBlock>,
 }
 
-/// What a value of a linear function is to have in the extended one: its kind, and whether it and the operands that read
-/// it have copies.
+/// What a value of a linear function is to have in the extended one.
 #[derive(Clone, Copy)]
 pub struct Sort {
+    /// What it stands for: a truth value has a second copy.
     pub kind: Kind,
+    /// Whether it and the operands that read it have copies.
     pub copied: bool,
 }
 
-/// A value of a linear function as the extended one has it: its temporary and its own copies, all temporaries so far that
-/// carry it, and its sort.
+/// A value of a linear function as the extended one has it.
 #[derive(Drop)]
 pub struct Value {
+    /// Its temporary, and behind it those of its own copies d and d2.
     pub own: Items<TempId>,
+    /// All temporaries so far that carry it, its own first: what a further operand may choose.
     pub all: Items<TempId>,
+    /// Its kind, and whether it has copies.
     pub sort: Sort,
 }
 
-/// How far an extended function has come: the operations of the block, the values by their numbers in the linear function,
-/// and the number of the next temporary.
+/// How far an extended function has come.
 #[derive(Drop)]
 pub struct Growth {
+    /// The operations of the block so far.
     pub ops: Items<ExtOp>,
+    /// The values so far, by their numbers in the linear function.
     pub values: Items<Value>,
+    /// The number of the next temporary.
     pub next: u32,
 }

@@ -32,14 +32,18 @@ pub enum Kind {
     Pred,
 }
 
-/// An operation: `dst` is the name that it assigns, `srcs` are the names that it reads, in the order of the text, `imm`
-/// is its literal or 0, `callee` is the function that a Call calls.
+/// An operation of the source.
 #[derive(Drop)]
 pub struct SrcOp {
+    /// What it does.
     pub op: Op,
+    /// The name that it assigns; None where it assigns none.
     pub dst: Option<NameId>,
+    /// The names that it reads, in the order of the text.
     pub srcs: Few<NameId>,
+    /// Its literal; 0 where it has none.
     pub imm: i32,
+    /// The name of the function that a Call calls; None for other operations.
     pub callee: Option<Name>,
 }
 
@@ -71,17 +75,20 @@ pub enum Term {
     Ret(Option<NameId>),
 }
 
-/// A block: how often it runs for each run of the function, its operations and its terminator.
+/// A block of the source.
 #[derive(Drop)]
 pub struct Block {
+    /// Its label, which no other block of the function has.
     pub label: Name,
+    /// How often it runs for each run of the function: 1 to 1,000,000.
     pub freq: u32,
+    /// Its operations, in order.
     pub ops: Items<SrcOp>,
+    /// How it ends.
     pub term: Term,
 }
 
-/// A function of the input language. A NameId is a place in `names`, which stand in the order of their first appearance in
-/// the text, so the parameters are the first. The first block is the entry.
+/// A function of the input language.
 ///
 /// The type keeps that the function has no fault: there is a block; the numbers of blocks, operations, names and
 /// parameters and the frequencies are within the limits above; no name of a kind, no label and no parameter stands twice;
@@ -90,9 +97,13 @@ pub struct Block {
 /// only parameters are live at the start of the entry.
 #[derive(Drop)]
 pub struct Function {
+    /// The function's name.
     pub name: Name,
+    /// The parameters, which start with r0 to r5 in this order: at most 6, and the first of `names`.
     pub params: Items<NameId>,
+    /// The names with their kinds, in the order of their first appearance in the text: a NameId is a place here.
     pub names: Items<(Name, Kind)>,
+    /// The blocks, in order; the first is the entry.
     pub blocks: Items<Block>,
     pub ghost well_formed: { ∥ IsWellFormed name params names blocks ∥₁ },
 }

@@ -5,11 +5,14 @@ use un_base::ids::NameId;
 use un_base::name::Name;
 use un_lists::items::Items;
 
-/// A call as its callee saw it: its name, its arguments and the memory at that moment.
+/// A call as its callee saw it.
 #[derive(PartialEq, Drop)]
 pub struct CallRecord {
+    /// The name of the function that was called.
     pub name: Name,
+    /// The arguments, in order.
     pub args: Items<u32>,
+    /// The memory at that moment.
     pub memory: Memory,
 }
 
@@ -32,11 +35,15 @@ pub enum End {
     },
 }
 
-/// How a run ended, with the memory and the calls up to then, and for packets the cycle counter.
+/// How a run ended.
 #[derive(PartialEq, Drop)]
 pub struct Outcome {
+    /// Whether it returned, trapped, waited for a reply, or went on.
     pub end: End,
+    /// The memory at its end.
     pub memory: Memory,
+    /// The calls that were answered up to then, in order.
     pub calls: Items<CallRecord>,
+    /// For packets the cycle in which the last completed one issued, from 1, and 0 before; None for the source.
     pub cycles: Option<u64>,
 }

@@ -8,16 +8,16 @@ use crate::table::Needs;
 /// How many instructions a packet may have.
 pub const PACKET: u32 = 4;
 
-/// How many loads and stores together.
+/// How many loads and stores together a packet may have.
 pub const MEM_PLACES: u32 = 2;
 
-/// How many stores.
+/// How many stores a packet may have.
 pub const STORE_PLACES: u32 = 1;
 
-/// How many multiplications, shifts, predicate moves and control transfers together.
+/// How many multiplications, shifts, predicate moves and control transfers together a packet may have.
 pub const XC_PLACES: u32 = 2;
 
-/// How many control transfers.
+/// How many control transfers a packet may have.
 pub const CONTROL_PLACES: u32 = 1;
 
 /// What the instructions of a packet share: its places for instructions, for loads and stores, for stores, for
@@ -32,7 +32,7 @@ pub enum Resource {
 }
 
 impl Resource {
-    /// All of them.
+    /// All resources.
     pub const ALL: [Resource; 5] = [
         Resource::Instructions,
         Resource::Memory,
@@ -55,7 +55,7 @@ pub fn places(r: Resource) -> u32
     }
 }
 
-/// How much of it an instruction with these needs takes.
+/// How much of a resource an instruction with these needs takes.
 pub fn share(r: Resource, n: Needs) -> u8
     ensures { result ≡ share_of r n }
 {

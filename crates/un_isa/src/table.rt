@@ -10,13 +10,13 @@ use crate::op::{OPERATIONS, Op};
 /// How many of each resource of a packet an instruction takes.
 #[derive(Clone, Copy)]
 pub struct Needs {
-    /// Of the two places for loads and stores together.
+    /// How many of the two places for loads and stores together.
     pub mem: u8,
-    /// Of the one place for stores.
+    /// How many of the one place for stores.
     pub store: u8,
-    /// Of the two places for multiplications, shifts, predicate moves and control transfers together.
+    /// How many of the two places for multiplications, shifts, predicate moves and control transfers together.
     pub xc: u8,
-    /// Of the one place for control transfers.
+    /// How many of the one place for control transfers.
     pub control: u8,
 }
 

@@ -192,11 +192,17 @@ pub fn make_home(
 /// What a Frame asks for, without the list of its variables.
 #[derive(Drop)]
 pub struct FrameFields {
+    /// The variable of the frame flag: 1 where the code has a frame, else 0.
     pub flag: VarId,
+    /// The variables of the instructions of all copies, each of which needs the frame where it is a Spill or a Reload.
     pub touch: Items<VarId>,
+    /// The variables of the registers of the values at blocks' starts, each of which needs the frame where it has a slot.
     pub ins: Items<VarId>,
+    /// Enter, of the entry block.
     pub enter: FrameOp,
+    /// What has to issue after Enter where it needs the frame: the copies of the entry block, its calls, and its Leave.
     pub entry: Items<FrameUse>,
+    /// Each Leave, with what has to issue before it in its block.
     pub leaves: Items<FrameLeave>,
 }
 

@@ -74,8 +74,11 @@ pub fn make_clobber(
 /// An operand with the registers of what it may choose, and those that it may have.
 #[derive(Drop)]
 pub struct OperandFields {
+    /// The variable of the operand's choice: a place in `regs`.
     pub choice: VarId,
+    /// The variables of the registers of the temporaries that it may choose, in the order of its alternatives.
     pub regs: Items<VarId>,
+    /// The numbers of the registers that the chosen temporary may have.
     pub allowed: Items<u32>,
 }
 

@@ -7,20 +7,25 @@ use un_base::ids::VarId;
 use un_isa::table::Needs;
 use un_lists::items::Items;
 
-/// An operation: it issues in cycle `at`, at least `tail` cycles before the end of its block, and takes from its packet one place
-/// for an instruction, and what `needs` says.
+/// An operation. It takes one place for an instruction from the packet of its cycle, and what it needs.
 #[derive(Clone, Copy)]
 pub struct Task {
+    /// The variable of its cycle, or for the block's end the variable of the end.
     pub at: VarId,
+    /// How many cycles before the block's end it issues, at least: 1, and 0 for the end itself.
     pub tail: u32,
+    /// What it takes of each resource of its packet.
     pub needs: Needs,
 }
 
-/// The operation at place `to` issues at least `gap` cycles after the one at place `from`.
+/// A precedence between two operations of a block's list.
 #[derive(Clone, Copy)]
 pub struct Precedence {
+    /// The place in the list of the operation that comes first.
     pub from: u32,
+    /// The place in the list of the operation that waits.
     pub to: u32,
+    /// How many cycles after the first the second issues, at least.
     pub gap: u32,
 }
 
@@ -31,21 +36,23 @@ fn leads(arc: Precedence, count: usize) -> bool
     (arc.from as usize) < count && (arc.to as usize) < count
 }
 
-/// Whether the places of all are: those of a block have to be.
+/// Whether both places of each precedence are among the first `count`: those of a block have to be.
 pub fn all_lead(arcs: &[Precedence], count: usize) -> bool
     ensures { IsTrue result ↔ All (Leads count) arcs.now }
 {
     arcs.iter().all(|arc| leads(*arc, count))
 }
 
-/// Operations of a block, and precedences among them, best with rising `to` and with `from` before it: others tell less. The block's
-/// end is `end`. What the operations have no room for is looked for where the greatest end and the number of operations are together
-/// less than `horizon`.
+/// Operations of a block, and precedences among them.
 #[derive(Drop)]
 pub struct Block {
+    /// The operations, the block's end with them.
     pub ops: Items<Task>,
+    /// Precedences between places of `ops`, best with rising `to` and with `from` before it: others tell less.
     pub arcs: Items<Precedence>,
+    /// The variable of the block's end, in cycles: one more than the cycle of its last packet.
     pub end: VarId,
+    /// Room is looked for only where the greatest end and the number of operations are together less than this.
     pub horizon: u32,
     ghost within: { All (Leads (length ops)) arcs },
 }

@@ -18,7 +18,9 @@ use un_prop::propagator::{Predicate, Propagator, Pruned, Scratch};
 /// fixed: so it raises no end.
 #[derive(Drop)]
 pub struct Length {
+    /// The operations, precedences and end of the block.
     pub block: Block,
+    /// The variables of the operations and of the end, rising, each once: it reads these, and cuts these alone.
     pub vars: Items<VarId>,
     ghost ascend: { Ascend vars },
     ghost among: { BlockVars vars block.ops block.end },

@@ -16,7 +16,9 @@ use un_tree::node::Decision;
 /// Stores, and the decisions that lead to their sets.
 #[derive(Drop)]
 pub struct Levels<S> {
+    /// The stores, with a mark for each decision of `path`.
     pub stores: S,
+    /// The decisions that lead from the first box to where the stores are, the first one first.
     pub path: Vec<Decision>,
 }
 
@@ -266,6 +268,7 @@ fn expand<R: Rounds>(
 /// A problem whose stores have a mark for each decision.
 #[derive(Drop)]
 pub struct Dive<R> {
+    /// What the search asks of its stores, and of the rounds on them.
     pub rounds: R,
 }
 

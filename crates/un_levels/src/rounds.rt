@@ -13,10 +13,12 @@ use un_base::memory_error::NoMemory;
 use un_branching::problem::Look;
 use un_tree::node::Decision;
 
-/// Where a box is split: between the values up to `val` and those above it.
+/// Where a box is split in two.
 #[derive(Clone, Copy)]
 pub struct Choice {
+    /// The variable whose values are split.
     pub var: VarId,
+    /// The greatest value of the left side; the right side has the values above it.
     pub val: u32,
 }
 

@@ -54,12 +54,15 @@ impl Labels {
     }
 }
 
-/// What stands before a line: the labels, how many lines are of blocks and how many of packets, and whether there is a
-/// line.
+/// What stands before a line of a listing.
 #[derive(Drop)]
 pub struct Before {
+    /// The labels of the block lines.
     pub labels: Labels,
+    /// How many lines are of blocks.
     pub blocks: u32,
+    /// How many lines are of packets.
     pub packets: u32,
+    /// Whether there is a line before it: only the first has none.
     pub some: bool,
 }

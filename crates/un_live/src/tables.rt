@@ -96,7 +96,7 @@ fn push_table(
     Ok(())
 }
 
-/// The same of each block.
+/// What each block does first to each of so many names.
 pub fn block_tables(
     alloc: Global,
     blocks: &[Block],

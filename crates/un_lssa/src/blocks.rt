@@ -17,10 +17,12 @@ use un_ir::function::{Block, SrcOp, Term};
 use un_isa::table::Table;
 use un_lists::items::Items;
 
-/// A block, and the next temporary.
+/// A block of a linear function whose temporaries are numbered.
 #[derive(Drop)]
 pub struct Numbered {
+    /// The block, whose temporaries have their numbers in the whole function.
     pub block: LssaBlock,
+    /// The number of the temporary that comes next behind the block.
     pub next: u32,
 }
 

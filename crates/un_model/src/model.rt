@@ -15,42 +15,54 @@ use un_lists::items::Items;
 /// The largest number of registers that an option may name: r0 to r28 may be assigned.
 pub const ASSIGNABLE: u32 = STACK;
 
-/// Which registers may be assigned, r0 to r(n − 1) or all of r0 to r28 and r31, and how many frame slots there are.
+/// What a solution may use of the processor's registers and of the frame.
 #[derive(Clone, Copy)]
 pub struct Options {
+    /// How many general registers may be assigned, r0 to r(n − 1), where n is 1 to 29; None for all of r0 to r28 and r31.
     pub regs: Option<u32>,
+    /// How many frame slots there are, 0 to 64: the registers from 36 on.
     pub slots: u32,
 }
 
-/// A temporary: its definer, the value that it carries and the variable of its register.
+/// A temporary.
 #[derive(Clone, Copy)]
 pub struct TempVars {
+    /// The operation that defines it.
     pub op: OpId,
+    /// The value that it carries, as that value's own temporary: itself where it is no copy.
     pub value: TempId,
+    /// The variable of its register, 0 where its definer is inactive.
     pub reg: VarId,
 }
 
-/// The variables of an operation: its instruction where it is optional, its cycle, and the choice of each operand. The operand
-/// of a copy d has one alternative and no choice.
+/// The variables of an operation.
 #[derive(Drop)]
 pub struct OpVars {
+    /// The variable of its instruction's number, 0 where it is inactive; None where it is not optional.
     pub instr: Option<VarId>,
+    /// The variable of its cycle, 0 where it is inactive; None for a block's start and end.
     pub cycle: Option<VarId>,
+    /// The variables of its operands' choices, in order; none for a copy d, whose operand has one alternative.
     pub choices: Items<VarId>,
 }
 
-/// The variables of a block: those of each operation, and its end.
+/// The variables of a block.
 #[derive(Drop)]
 pub struct BlockVars {
+    /// The variables of each of its operations, in order.
     pub ops: Items<OpVars>,
+    /// The variable of its end, in cycles: one more than the cycle of its last packet.
     pub end: VarId,
 }
 
-/// A precedence between two operations of a block that every solution issues: `to` issues at least `gap` cycles after `from`.
+/// A precedence between two operations of a block that every solution issues.
 #[derive(Clone, Copy)]
 pub struct Arc {
+    /// The operation that comes first.
     pub from: OpId,
+    /// The operation that waits.
     pub to: OpId,
+    /// How many cycles after the first the second issues, at least.
     pub gap: u32,
 }
 
@@ -58,12 +70,19 @@ pub struct Arc {
 /// the whole function.
 #[derive(Drop)]
 pub struct Model {
+    /// The extended function whose problem it is.
     pub ext: Ext,
+    /// The options under which it was made.
     pub options: Options,
+    /// The domain of each variable, by number.
     pub domains: Items<Domain>,
+    /// The temporaries, by number.
     pub temps: Items<TempVars>,
+    /// The variables of each block, in order.
     pub blocks: Items<BlockVars>,
+    /// The variable of the frame flag: 1 where the code has a frame, else 0. It is the last one.
     pub flag: VarId,
+    /// The precedences of each block: each pair of operations once, by rising `to` and then rising `from`.
     pub arcs: Items<Items<Arc>>,
 }
 
@@ -81,8 +100,9 @@ impl Model {
     }
 }
 
-/// A value for each variable, in the order of the model.
+/// An assignment: a solution where it keeps the ten clauses.
 #[derive(Drop)]
 pub struct Solution {
+    /// The value of each variable, by number.
     pub values: Items<u32>,
 }

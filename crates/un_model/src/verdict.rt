@@ -1,8 +1,9 @@
 //! What is found of each clause of a solution.
 
-/// A clause of a solution that is broken, by its number from 1 to 10.
+/// A clause of a solution that is broken.
 #[derive(Clone, Copy)]
 pub struct Broken {
+    /// Its number, 1 to 10, as in `Verdict`.
     pub clause: u8,
 }
 

@@ -18,13 +18,16 @@ pub const ARGUMENTS: u32 = 6;
 /// Instructions that issue in one cycle: all read the state before it, and write together at its end.
 #[derive(PartialEq, Drop)]
 pub struct Packet {
+    /// Its instructions, as they are printed: one to four, or a `nop` alone.
     pub instrs: Items<Instr>,
 }
 
 /// The packets under a label.
 #[derive(PartialEq, Drop)]
 pub struct CodeBlock {
+    /// The label under which they stand, which no other block has.
     pub label: Name,
+    /// Its packets, one a cycle, in order; there may be none.
     pub packets: Items<Packet>,
 }
 
@@ -37,7 +40,9 @@ pub struct CodeBlock {
 /// its operation asks, where only Enter and Leave write the stack pointer.
 #[derive(Drop)]
 pub struct Code {
+    /// The size of its frame in bytes: a multiple of 8 from 0 to 256.
     pub frame: u32,
+    /// Its blocks, in order: what does not jump goes on with the next one.
     pub blocks: Items<CodeBlock>,
     pub ghost rules: { ∥ KeepsRules frame blocks ∥₁ },
 }

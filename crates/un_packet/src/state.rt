@@ -17,14 +17,23 @@ use un_lists::items::Items;
 /// reply that is left.
 #[derive(Drop)]
 pub struct State {
+    /// What each register holds, by number: r0 to r31, and p0 to p3 behind them, which are 0 or 1.
     pub(crate) regs: [u32; REGISTERS as usize],
+    /// The memory now, without the frame.
     pub(crate) memory: Memory,
+    /// The words of the frame, by rising address.
     pub(crate) frame: Items<u32>,
+    /// The address of the frame's first word: what r29 holds at the start less the frame's size in bytes.
     pub(crate) frame_start: u32,
+    /// The calls that were answered so far, in order.
     pub(crate) calls: Vec<CallRecord>,
+    /// All replies of the start, in order.
     pub(crate) replies: Items<Reply>,
+    /// How many of the replies were taken.
     pub(crate) answered: usize,
+    /// The cycle in which the last completed packet issued, from 1; 0 before the first.
     pub(crate) cycle: u64,
+    /// For each register, by number, the first cycle in which it can be read.
     pub(crate) ready: [u64; REGISTERS as usize],
 }
 
@@ -50,10 +59,12 @@ impl Model for State {
         × (vec_len s.calls + length s.replies ≤ vec_capacity s.calls + s.answered) };
 }
 
-/// Room for the record of a call to come: for its arguments and its memory.
+/// Room for the record of a call to come.
 #[derive(Drop)]
 pub struct Spare {
+    /// Room for as many arguments as a call may have.
     pub(crate) args: Vec<u32>,
+    /// A memory of as many words as the run's, which is written over.
     pub(crate) memory: Memory,
 }
 

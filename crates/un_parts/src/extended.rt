@@ -256,7 +256,7 @@ pub fn extended_text(alloc: Global, e: &Ext) -> Result<Vec<u8>, NoMemory> {
     blocks_text(alloc, &e.table, e.blocks.as_slice())
 }
 
-/// The same for a linear function.
+/// A line for each block of a linear function, and below it one for each operation: what it is, reads and defines.
 pub fn linear_text(alloc: Global, l: &Lssa) -> Result<Vec<u8>, NoMemory> {
     blocks_text(alloc, &l.table, l.blocks.as_slice())
 }

@@ -26,11 +26,14 @@ use un_model::model::Model;
 use un_sites::sites::{Site, Spot};
 use un_sites::tables::{all_sites, all_spots};
 
-/// The propagators of a model, the store with its domains, and its largest horizon.
+/// What is posted for a model.
 #[derive(Drop)]
 pub struct Posted {
+    /// The propagators, in the order in which they are posted.
     pub props: Vec<AnyProp>,
+    /// The store with the domains of the model's variables, without marks.
     pub store: Store,
+    /// The largest horizon of a block, in cycles: no propagator counts over more.
     pub horizon: u32,
 }
 

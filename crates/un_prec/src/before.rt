@@ -16,11 +16,17 @@ use un_prop::propagator::{Predicate, Propagator, Pruned, Scratch};
 /// Both operations are active and `b` is at least `gap` after `a`, or one is inactive.
 #[derive(Drop)]
 pub struct Before {
+    /// The time of the first operation: its cycle, or 0 for a block's start.
     pub a: At,
+    /// The activity of the first operation.
     pub a_on: Act,
+    /// The time of the second operation: its cycle, or the end of the block for `out`.
     pub b: At,
+    /// The activity of the second operation.
     pub b_on: Act,
+    /// How many cycles the second is after the first, at least.
     pub gap: u32,
+    /// The variables of both operations, rising, each once: it reads these, and cuts these alone.
     pub vars: Items<VarId>,
     ghost ascend: { Ascend vars },
     ghost among: { BeforeVars vars a a_on b b_on gap },

@@ -17,18 +17,23 @@ use un_prop::last::check_last;
 use un_prop::propagator::{Predicate, Propagator, Pruned, Scratch};
 use un_prop::step::{fail, keep_le};
 
-/// The end of a block, and how often the block is run.
+/// A block as a cost counts it.
 #[derive(Clone, Copy)]
 pub struct Weighted {
+    /// The variable of its end, in cycles: one more than the cycle of its last packet.
     pub end: VarId,
+    /// How often it runs: each of its packets costs so much.
     pub freq: u32,
 }
 
 /// The sum over the blocks of frequency times the block end less 1 is less than `limit`.
 #[derive(Drop)]
 pub struct Below {
+    /// The ends of all blocks with their frequencies.
     pub ends: Items<Weighted>,
+    /// What the cost is to be less than.
     pub limit: u64,
+    /// The variables of the ends, rising, each once: it reads these, and cuts these alone.
     pub vars: Items<VarId>,
     ghost ascend: { Ascend vars },
     ghost among: { BelowVars vars ends },

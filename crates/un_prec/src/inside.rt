@@ -16,9 +16,13 @@ use un_prop::propagator::{Predicate, Propagator, Pruned, Scratch};
 /// An active operation issues from cycle 1 to the end of its block less 1.
 #[derive(Drop)]
 pub struct Inside {
+    /// The variable of the operation's cycle.
     pub at: VarId,
+    /// The operation's activity.
     pub on: Act,
+    /// The variable of the block's end, in cycles.
     pub end: VarId,
+    /// The variables of the operation and of the end, rising, each once: it reads these, and cuts these alone.
     pub vars: Items<VarId>,
     ghost ascend: { Ascend vars },
     ghost among: { InsideVars vars at on end },

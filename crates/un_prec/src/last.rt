@@ -16,8 +16,11 @@ use un_prop::propagator::{Predicate, Propagator, Pruned, Scratch};
 /// The control transfer that issues at `at` does so in the last cycle before the end of its block.
 #[derive(Drop)]
 pub struct Last {
+    /// The variable of the transfer's cycle.
     pub at: VarId,
+    /// The variable of the block's end, which is to be one more than that cycle.
     pub end: VarId,
+    /// Both variables, rising, each once: it reads these, and cuts these alone.
     pub vars: Items<VarId>,
     ghost ascend: { Ascend vars },
     ghost among: { LastVars vars at end },

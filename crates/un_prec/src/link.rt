@@ -8,10 +8,15 @@ use un_prop::act::{Act, At, active, time};
 /// The time `to` is at least `gap` after the time `from`, where both `from_on` and `to_on` are active.
 #[derive(Clone, Copy)]
 pub struct Link {
+    /// The time of the first operation: its cycle, or 0 for a block's start.
     pub from: At,
+    /// The activity of the first operation.
     pub from_on: Act,
+    /// The time of the second operation: its cycle, or a block's end.
     pub to: At,
+    /// The activity of the second operation.
     pub to_on: Act,
+    /// How many cycles the second is after the first, at least.
     pub gap: u32,
 }
 

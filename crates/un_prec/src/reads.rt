@@ -26,11 +26,14 @@ use un_prop::propagator::{Predicate, Propagator, Pruned, Scratch};
 use un_prop::step::{keep_gt, keep_le};
 use un_prop::when::is_only;
 
-/// A definer that may be chosen: it issues at `at`, and has a gap for each number of `on`.
+/// A definer that an operand may choose.
 #[derive(Drop)]
 pub struct ReadAlt {
+    /// The time at which it issues; 0 for a block's start.
     pub at: At,
+    /// Its activity, whose number says which gap it has: that of its instruction, or 1 for one that is always active.
     pub on: Act,
+    /// How many cycles after it the reader issues, at least, at the place of its activity's number.
     pub gaps: Items<u32>,
 }
 
@@ -295,10 +298,15 @@ fn keep_earlies(w: &mut Window<'_>, before: Pruned, p: &Reads, n: usize) -> Prun
 /// that definer's activity.
 #[derive(Drop)]
 pub struct Reads {
+    /// The time of the operation that reads: its cycle, or the end of the block for `out`.
     pub user: At,
+    /// The activity of the operation that reads.
     pub user_on: Act,
+    /// The variable of the operand's choice: a place in `alts`.
     pub choice: VarId,
+    /// The definers of the operand's alternatives, in order.
     pub alts: Items<ReadAlt>,
+    /// The variables of the user, the choice and the definers, rising, each once: it reads these, and cuts these alone.
     pub vars: Items<VarId>,
     ghost ascend: { Ascend vars },
     ghost among: { ReadsVars vars user user_on choice alts },

@@ -20,23 +20,30 @@ pub enum At {
     Var(VarId),
 }
 
-/// A user of a temporary: it reads the temporary where `on` is active and its choice is `value`, or where it has no choice.
-/// It issues at `at`.
+/// A user of a temporary: an operand that may choose it. It reads the temporary where its operation is active and it chooses it.
 #[derive(Clone, Copy)]
 pub struct UserOf {
+    /// The activity of the operation that reads.
     pub on: Act,
+    /// The cycle in which that operation issues, or the end of the block for an operand of `out`.
     pub at: At,
+    /// The variable of the operand's choice; None where it has no other alternative, and reads the temporary where it is active.
     pub choice: Option<VarId>,
+    /// The place of the temporary among the operand's alternatives, from 0: it is read where the choice has this value.
     pub value: u32,
 }
 
-/// A temporary: its definer is active where `on` is, and issues at `at`. It occupies the register `reg` from then, inclusive,
-/// to the largest time of its users, exclusive, and at least at that time.
+/// A temporary. Where its definer is active it occupies its register from its definer's time, inclusive, to the largest time of
+/// its users, exclusive, and at least at its definer's time.
 #[derive(Drop)]
 pub struct Temp {
+    /// The activity of its definer.
     pub on: Act,
+    /// The cycle in which its definer issues; 0 for a value at a block's start.
     pub at: At,
+    /// The variable of its register, whose values are numbers of registers: frame slots from 36 on.
     pub reg: VarId,
+    /// The operands that may choose it.
     pub users: Items<UserOf>,
 }
 

@@ -24,10 +24,12 @@ pub enum Pruned {
     Failed,
 }
 
-/// Room for propagation: a number for each variable, and one for each cycle. Its content is not promised.
+/// Room for propagation. Its content is not promised.
 #[derive(Drop)]
 pub struct Scratch {
+    /// A number for each variable of the store: room for an assignment, or for as many other numbers.
     pub fixed: Vec<u32>,
+    /// A number for each cycle from 0 to the greatest horizon: room for counts by cycle, and for lists.
     pub cycles: Vec<u32>,
 }
 

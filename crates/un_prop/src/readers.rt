@@ -9,9 +9,10 @@ use std::alloc::{AllocError, Global};
 use un_base::ids::VarId;
 use un_lists::items::Items;
 
-/// The places of the propagators that read each variable, a row for each.
+/// Which propagators read each variable.
 #[derive(Drop)]
 pub struct Readers {
+    /// For each variable, at its number, the rising places in the list of propagators of those that read it.
     pub rows: Vec<Items<usize>>,
 }
 

@@ -61,10 +61,12 @@ fn good_line(alloc: Global, before: &Before, bytes: &[u8], place: usize) -> Resu
     }
 }
 
-/// The lines of a text, and what would stand before a line behind them.
+/// A text whose lines have no fault.
 #[derive(Drop)]
 pub struct Checked {
+    /// Its lines, in order.
     pub lines: Items<Line>,
+    /// What would stand before a line behind them.
     pub before: Before,
 }
 

@@ -18,7 +18,9 @@ use un_prop::propagator::{Predicate, Propagator, Pruned, Scratch};
 /// Of each two of the temporaries not both are active, or they have other registers, or one ends before the other starts.
 #[derive(Drop)]
 pub struct Apart {
+    /// The temporaries of a block, each two of which are kept apart.
     pub temps: Items<Temp>,
+    /// The variables of the temporaries, rising, each once: it reads these, and cuts these alone.
     pub vars: Items<VarId>,
     ghost ascend: { Ascend vars },
     ghost among: { ApartVars vars temps },

@@ -326,7 +326,7 @@ fn check_next(
     joined(before, did)
 }
 
-/// Of each two temporaries.
+/// Tries the values of each two temporaries of which one variable is left to decide.
 pub(crate) fn check_all(
     w: &mut Window<'_>,
     before: Pruned,

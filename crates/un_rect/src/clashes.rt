@@ -189,7 +189,7 @@ fn keep_next(
     joined(before, did)
 }
 
-/// Of each two temporaries, of which the extents were noted.
+/// Of each two sure temporaries that overlap, takes the one register left of one from the other. Their extents were noted.
 pub(crate) fn keep_all(
     w: &mut Window<'_>,
     before: Pruned,

@@ -30,12 +30,14 @@ use un_prop::look::{greatest_time, is_sure};
 use un_prop::propagator::{Predicate, Propagator, Pruned, Scratch};
 use un_prop::step::{drop_value, joined, keep_le};
 
-/// A call, for a temporary: it issues at `at`. `before` says that the temporary is defined before the call, whatever the cycles;
-/// the users of `behind` issue after it, whatever the cycles.
+/// A call, as it bears on one temporary.
 #[derive(Drop)]
 pub struct ClobberCall {
+    /// The variable of the call's cycle.
     pub at: VarId,
+    /// Whether it is defined before the call whatever the cycles: at the block's start, or by what leads to the call over arcs.
     pub before: bool,
+    /// Those users of the temporary that issue after the call whatever the cycles.
     pub behind: Items<UserOf>,
 }
 
@@ -509,9 +511,13 @@ fn check(w: &mut Window<'_>, before: Pruned, p: &CallPart<'_>, fixed: &mut [u32]
 /// read behind a call that comes after the temporary's definer for sure, by a user that issues after the call for sure.
 #[derive(Drop)]
 pub struct Clobber {
+    /// The calls of the temporary's block, but for the one of which it is the result.
     pub calls: Items<ClobberCall>,
+    /// The temporary that calls are not to destroy.
     pub temp: Temp,
+    /// The registers that a call writes: bit r stands for register r.
     pub mask: u64,
+    /// The variables of the temporary and of the calls, rising, each once: it reads these, and cuts these alone.
     pub vars: Items<VarId>,
     ghost ascend: { Ascend vars },
     ghost of_temp: { TempVars vars temp },

@@ -17,8 +17,11 @@ use un_prop::propagator::Predicate;
 /// An operand: its choice names a place among its registers, and the register there has to be an allowed one.
 #[derive(Clone, Copy)]
 pub struct Operand<'a> {
+    /// The variable of the operand's choice: a place in `regs`.
     pub choice: VarId,
+    /// The variables of the registers of the temporaries that it may choose, in the order of the alternatives.
     pub regs: &'a [VarId],
+    /// The numbers of the registers that the chosen temporary may have.
     pub allowed: &'a [u32],
 }
 
@@ -93,8 +96,11 @@ pub(crate) fn may_be(w: &Window<'_>, o: &Operand<'_>, other: &Operand<'_>, v: Va
 /// An operand, and another that reads a different value.
 #[derive(Drop)]
 pub struct Facing<'a> {
+    /// The operand that is cut.
     pub one: Operand<'a>,
+    /// The operand whose register has to be another than that of `one`.
     pub other: Operand<'a>,
+    /// The variables of both operands, rising, each once.
     pub vars: &'a [VarId],
     ghost of_one: { SideVars vars.now (side_of one) },
     ghost of_other: { SideVars vars.now (side_of other) },

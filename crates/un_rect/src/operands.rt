@@ -141,12 +141,19 @@ fn keep_operand(w: &mut Window<'_>, before: Pruned, f: &Facing<'_>) -> Pruned
 /// `second_set`, and the two differ.
 #[derive(Drop)]
 pub struct Operands {
+    /// The variable of the first operand's choice: a place in `first_regs`.
     pub first: VarId,
+    /// The variables of the registers of the temporaries that the first operand may choose, in the order of its alternatives.
     pub first_regs: Items<VarId>,
+    /// The numbers of the registers that the first operand's temporary may have.
     pub first_set: Items<u32>,
+    /// The variable of the second operand's choice: a place in `second_regs`.
     pub second: VarId,
+    /// The variables of the registers of the temporaries that the second operand may choose, in the order of its alternatives.
     pub second_regs: Items<VarId>,
+    /// The numbers of the registers that the second operand's temporary may have.
     pub second_set: Items<u32>,
+    /// The variables of both operands, rising, each once: it reads these, and cuts these alone.
     pub vars: Items<VarId>,
     ghost ascend: { Ascend vars },
     ghost of_first: { SideVars vars (side first first_regs first_set) },

@@ -329,7 +329,7 @@ fn keep_next(
     joined(before, did)
 }
 
-/// Of each two temporaries, of which the extents were noted.
+/// Of each two temporaries with the same one register left, keeps the times with which one comes first. Their extents were noted.
 pub(crate) fn keep_all(
     w: &mut Window<'_>,
     before: Pruned,

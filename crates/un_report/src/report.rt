@@ -25,12 +25,17 @@ pub enum Answered {
     Spent,
 }
 
-/// A report: the name of the function, the options of its model, how many nodes the search was given, its answer and its tree.
+/// A report: what a search answered for a function.
 #[derive(Drop)]
 pub struct Report {
+    /// The name of the function.
     pub name: Name,
+    /// The options of its model: the registers and the frame slots that the search might use.
     pub options: Options,
+    /// How many nodes the search was given for its tree, 1 to 200,000.
     pub nodes: u32,
+    /// Code with its cost, bound and solution; or that there is no solution; or that the search stopped before it knew.
     pub answer: Answered,
+    /// The tree of its last attempt.
     pub tree: Tree,
 }

@@ -3,14 +3,19 @@
 use crate::report::Answered;
 use un_model::model::Options;
 
-/// A report whose name and tree are slices of its text: the name of the function, the options of its model, how many nodes the search
-/// was given, its answer, the lines of its tree, each with its line feed, and how many these are.
+/// A report whose name and tree are slices of its text.
 #[derive(Drop)]
 pub struct ReportView<'a> {
+    /// The name of the function, as it stands in the text.
     pub name: &'a [u8],
+    /// The options of its model: the registers and the frame slots that the search might use.
     pub options: Options,
+    /// How many nodes the search was given for its tree, 1 to 200,000.
     pub nodes: u32,
+    /// Code with its cost, bound and solution; or that there is no solution; or that the search stopped before it knew.
     pub answer: Answered,
+    /// The lines of its tree, each with its line feed.
     pub tree: &'a [u8],
+    /// How many lines the tree has: one a node.
     pub count: u32,
 }

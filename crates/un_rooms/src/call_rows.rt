@@ -18,14 +18,18 @@ use un_prop::act::UserOf;
 use un_rect::clobber::ClobberCall;
 use un_sites::sites::Site;
 
-/// A call of a block: its number and cycle, marks, from `low` on, of the operations that lead to it, and the users of each
-/// temporary among the operations behind it.
+/// A call of a block, with what leads to it, and what reads behind it.
 #[derive(Drop)]
 pub struct CallSite {
+    /// The number of the call's operation in the function.
     pub op: u32,
+    /// The variable of the call's cycle.
     pub at: VarId,
+    /// The number of the operation that the first mark of `leading` is of.
     pub low: u32,
+    /// Marks, one an operation from number `low` on: whether arcs lead from it to the call, or it is the call itself.
     pub leading: Items<bool>,
+    /// For each temporary of a span, by its place there, its users among the operations behind the call whatever the cycles.
     pub users: Items<Items<UserOf>>,
 }
 
@@ -49,7 +53,7 @@ fn op_of(definer: &Site<'_>) -> u32
     }
 }
 
-/// The same users.
+/// A copy of a list of users.
 pub fn copy_users(alloc: Global, users: &[UserOf]) -> Result<Items<UserOf>, AllocError>
     ensures { IfOk result (λ list. list ≡ users.now) }
 {

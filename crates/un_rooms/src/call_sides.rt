@@ -44,7 +44,7 @@ fn on_side_by<'a>(
     Ok(found)
 }
 
-/// Those of the operations that are behind a call, or those that are not.
+/// The operations of a list that are behind a call, or, where `behind` is false, those that are not.
 pub fn on_side<'a>(
     alloc: Global,
     reach: Reach,

@@ -28,7 +28,9 @@ use un_sites::tables::add_block;
 /// Consecutive numbers of temporaries.
 #[derive(Clone, Copy)]
 pub struct Span {
+    /// The number of the first temporary; the greatest word where there is none.
     pub first: u32,
+    /// How many temporaries there are from `first` on.
     pub count: usize,
 }
 

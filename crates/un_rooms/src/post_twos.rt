@@ -24,11 +24,14 @@ use un_model::model::Model;
 use un_sites::sites::{Site, Spot, choice_at, registers_at};
 use un_sites::space_sets::space_registers;
 
-/// The operand at place `at` of an operation, with the variable of its choice.
+/// An operand of an operation, with where it stands and the variable of its choice.
 #[derive(Clone, Copy)]
 pub struct Read<'a> {
+    /// The place of the operand among those of its operation, from 0.
     pub at: u32,
+    /// The operand, with its alternatives and its home.
     pub it: &'a Operand,
+    /// The variable of its choice; None where it has none.
     pub choice: Option<VarId>,
 }
 

@@ -11,7 +11,9 @@ use un_model::model::Arc;
 /// Consecutive numbers of operations.
 #[derive(Clone, Copy)]
 pub struct Reach {
+    /// The number of the first operation; the greatest word where there is none.
     pub low: u32,
+    /// How many operations there are from `low` on.
     pub count: usize,
 }
 

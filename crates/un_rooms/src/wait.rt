@@ -2,10 +2,13 @@
 
 use un_prop::act::At;
 
-/// What is at time `to` is at least `gap` cycles after what is at time `from`.
+/// A precedence between two operations that every solution issues.
 #[derive(Clone, Copy)]
 pub struct Wait {
+    /// The time of the first: its cycle, or 0 for a block's start.
     pub from: At,
+    /// The time of the one that waits: its cycle, or the end of the block for `out`.
     pub to: At,
+    /// How many cycles the second is after the first, at least.
     pub gap: u32,
 }

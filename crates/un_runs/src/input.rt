@@ -5,10 +5,12 @@ ghost use Rattle.un_runs.specs.Inputs.{is_rule, first_part, second_part};
 
 use un_words::pieces::first_len;
 
-/// What stands before the first line `---`, and what stands behind it.
+/// The two parts of an input, which the first line `---` parts.
 #[derive(Clone, Copy)]
 pub struct Parts<'a> {
+    /// What stands before that line; the whole input where there is none.
     pub first: &'a [u8],
+    /// What stands behind that line; nothing where there is none.
     pub second: &'a [u8],
 }
 

@@ -21,7 +21,9 @@ pub(crate) const BRANCH_NODES: u32 = 3;
 /// A solution and what it costs.
 #[derive(Drop)]
 pub struct Best {
+    /// The solution: a value for each variable of the model.
     pub solution: Solution,
+    /// Its cost: the sum over the blocks of frequency times packets.
     pub cost: u64,
 }
 

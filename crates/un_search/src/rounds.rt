@@ -30,21 +30,27 @@ use un_prop::run::Fix;
 use un_prop::side::Side;
 use un_tree::node::Decision;
 
-/// An engine at what the rounds leave of a box, and a store with the box itself; room for looks at it, and the order in which its
-/// variables are split.
+/// The stores of a search at a node, with room for looks at them.
 #[derive(Drop)]
 pub struct ModelStores {
+    /// The propagators, and a store with what their rounds leave of the node's box, with a mark for each decision.
     pub engine: Engine<AnyProp>,
+    /// The node's box itself: the first domains cut by the decisions, with a mark for each of them and without any propagation.
     pub cuts: Store,
+    /// Room for the relaxation of the box.
     pub scratch: Scratch,
+    /// The order in which variables are split, block by block.
     pub order: Vec<BlockOrder>,
 }
 
 /// A model for which propagators were posted, under a limit on the cost.
 #[derive(Drop)]
 pub struct ModelRounds<'a> {
+    /// The allocator for what the rounds and looks need.
     pub alloc: Global,
+    /// The model whose solutions are searched for.
     pub m: &'a Model,
+    /// What a solution is to cost less than; None where each solution will do.
     pub limit: Option<u64>,
     pub ghost posted: { ∥ IsPostable m.now limit ∥₁ },
 }

@@ -13,20 +13,27 @@ use un_lists::items::Items;
 use un_model::model::OpVars;
 use un_prop::act::{Act, At};
 
-/// An operation, number `op` of the function, of a block that has this number and this end, with its variables.
+/// An operation of the function with its variables and its block.
 #[derive(Clone, Copy)]
 pub struct Spot<'a> {
+    /// The number of its block: its place among the function's blocks, 0 for the entry.
     pub block: u32,
+    /// The variable of its block's end, in cycles.
     pub end: VarId,
+    /// Its number in the whole function, as an OpId has it.
     pub op: u32,
+    /// The operation: its kind, its operands and its results.
     pub it: &'a ExtOp,
+    /// The variables of its instruction, its cycle and its choices, as far as it has them.
     pub vars: &'a OpVars,
 }
 
-/// The definer of a temporary, where there is one, and the variable of its register.
+/// Where a temporary comes from, and where it stands.
 #[derive(Clone, Copy)]
 pub struct Site<'a> {
+    /// The operation that defines it; None for a temporary that no operation defines.
     pub place: Option<Spot<'a>>,
+    /// The variable of its register.
     pub reg: VarId,
 }
 
@@ -66,14 +73,14 @@ fn time_by(end: VarId, kind: &ExtKind, cycle: Option<VarId>) -> At
 }
 
 impl Spot<'_> {
-    /// Its activity.
+    /// The activity of the operation.
     pub fn act(&self) -> Act
         ensures { result ≡ act_of (place_of self.now) }
     {
         act_by(self.vars.instr)
     }
 
-    /// Its time.
+    /// The time of the operation: its cycle, 0 for a block's start, and the end of its block for `out`.
     pub fn time(&self) -> At
         ensures { result ≡ time_of (place_of self.now) }
     {

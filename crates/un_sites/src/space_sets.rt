@@ -41,7 +41,8 @@ pub fn space_registers(
     }
 }
 
-/// The same registers as a range, which takes no memory.
+/// The registers of a space of a machine with so many slots, as a range, which takes no memory; where no space is asked for, all
+/// of them.
 pub fn space_span(slots: u32, space: Option<Space>) -> Result<Span, NoMemory>
     ensures { IfOk result (λ rs. rs ≡ registers_in slots space) }
 {

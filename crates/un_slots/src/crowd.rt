@@ -219,7 +219,8 @@ fn fits_down(cycles: &[u32], high: u32, places: u32, total: u32) -> bool
     true
 }
 
-/// The same, where none of them ends at `high`, it is so if it was.
+/// Whether no interval of cycles that ends with `high` has more of the counted operations than its packets have of a resource.
+/// `many` of them end there: where that is 0, a shorter interval has told it. In all there are at most `total`.
 pub fn has_room(cycles: &[u32], r: Resource, high: u32, many: u32, total: u32) -> bool
     requires room { high < length cycles.now }
     requires whole { sum_from (slice_index cycles.now) 0 (high + 1) ≤ total }

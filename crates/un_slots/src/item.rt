@@ -5,11 +5,13 @@ use un_isa::table::Needs;
 use un_lists::items::Items;
 use un_prop::act::Act;
 
-/// An operation. Where `on` is active, it takes one place for an instruction in cycle `at`, and what the entry of `uses` at the
-/// number of `on` says.
+/// An operation. Where it is active it takes from the packet of its cycle one place for an instruction, and its needs.
 #[derive(Drop)]
 pub struct Item {
+    /// Its activity, whose number says which needs it has: that of its instruction, or 1 for an operation that is always active.
     pub on: Act,
+    /// The variable of its cycle.
     pub at: VarId,
+    /// What it takes of each resource, at the place of its activity's number.
     pub uses: Items<Needs>,
 }

@@ -43,8 +43,11 @@ fn item_holds(items: &[Item], horizon: u32, fixed: &[u32], item: &Item) -> bool
 /// `horizon`, and each has needs for its number.
 #[derive(Drop)]
 pub struct PerCycle {
+    /// The operations of a block that may issue, optional ones with them.
     pub items: Items<Item>,
+    /// The block's horizon: the cycles that it counts over go from 0 to `horizon` − 1.
     pub horizon: u32,
+    /// The variables of the items, rising, each once: it reads these, and cuts these alone.
     pub vars: Items<VarId>,
     ghost ascend: { Ascend vars },
     ghost among: { SlotVars vars items },

@@ -13,12 +13,16 @@ use un_isa::outcome::CallRecord;
 use un_isa::start::Start;
 use un_lists::items::Items;
 
-/// Values by the number of their name, memory, the calls so far, and how many of the start's replies they took.
+/// The state of a run of a function.
 #[derive(Drop)]
 pub struct State {
+    /// The value of each name, by number; 0 before it is assigned.
     pub values: Items<u32>,
+    /// The memory now.
     pub memory: Memory,
+    /// The calls so far, in order.
     pub calls: Items<CallRecord>,
+    /// How many of the start's replies they took.
     pub replied: usize,
 }
 

@@ -14,7 +14,9 @@ use un_report::report::{Answered, Report};
 /// What a command puts out, and how a run ends that writes it whole.
 #[derive(Drop)]
 pub struct Output {
+    /// The bytes to write.
     pub text: Vec<u8>,
+    /// How the run ends where they are written whole.
     pub status: Status,
 }
 

@@ -14,16 +14,20 @@ pub enum Node {
     Open,
 }
 
-/// A tree as the list of its nodes in preorder.
+/// A tree of a search.
 #[derive(Drop)]
 pub struct Tree {
+    /// Its nodes in preorder: behind a Branch comes the left subtree, and then the right one.
     pub nodes: Vec<Node>,
 }
 
-/// A decision: the values of `var` on one side of `val`.
+/// A decision on a variable, which keeps the values on one side.
 #[derive(Clone, Copy)]
 pub struct Decision {
+    /// The variable that is decided on.
     pub var: VarId,
+    /// The greatest value of the lower side.
     pub val: u32,
+    /// Which side is kept: the values up to `val`, or those above it.
     pub side: Side,
 }

@@ -6,7 +6,7 @@ use crate::table::Table;
 /// Needs of a packet: instructions, memory, stores, X and C together, control.
 pub type Needs = [u8; 5];
 
-/// What a packet has of each.
+/// What a packet has of each of its needs, in their order.
 pub const ROOM: Needs = [4, 2, 1, 2, 1];
 
 pub const MOVE: u32 = 1;
@@ -46,71 +46,111 @@ pub fn copy_latency(instruction: u32) -> u32 {
     if instruction == RELOAD { 2 } else { 1 }
 }
 
-/// An operand: its value, what it may read, the register that it must stand in and the variable of its choice; the copies u and
-/// u2 that bring it; the name or saved value, of `out`'s operands alone.
+/// An operand of an operation, or of the block's end.
 #[derive(Drop)]
 pub struct Operand {
+    /// The value that it reads, by the number of that value's own temporary; NONE where there is none.
     pub value: u32,
+    /// The temporaries that it may choose, in the order of its choice's values.
     pub alternatives: Vec<u32>,
+    /// The register that its temporary must stand in, by number; NONE where it may be any.
     pub home: u32,
+    /// The variable of its choice; NONE where it has none.
     pub choice: u32,
+    /// The operation that is its copy u; NONE where it has none.
     pub copy: u32,
+    /// The operation that is its copy u2, which a predicate has; NONE where it has none.
     pub second_copy: u32,
+    /// The name or saved value that it hands over at the block's end; NONE for an operand of any other operation.
     pub key: u32,
 }
 
-/// A precedence with its gap, from another operation that every solution issues.
+/// A precedence to an operation, from another one: every solution issues both.
 #[derive(Clone, Copy)]
 pub struct Gap {
+    /// The operation that comes first.
     pub from: u32,
+    /// How many cycles after it the other issues, at least.
     pub cycles: u32,
 }
 
-/// An operation with the variables of its instruction and its cycle.
+/// An operation of the block.
 #[derive(Drop)]
 pub struct Operation {
+    /// Its operands, in order.
     pub operands: Vec<Operand>,
+    /// The temporary that it defines; NONE where it defines none, and for the operation of the block's start.
     pub result: u32,
+    /// How many cycles after it its result can be read; for a copy that of a Mov.
     pub latency: u32,
+    /// What it takes of its packet; for a copy what a Mov takes.
     pub needs: Needs,
+    /// Whether it is a call of the source.
     pub is_call: bool,
+    /// Whether it is the terminator of a block that returns.
     pub is_return: bool,
+    /// The variable of its instruction; NONE where it is not optional.
     pub instruction: u32,
+    /// The variable of its cycle; NONE for the block's start and end.
     pub cycle: u32,
+    /// The precedences to it.
     pub before: Vec<Gap>,
 }
 
-/// A temporary: the value that it carries, the variable of its register, and whether every later reader may choose it. The
-/// rest is told for values.
+/// A temporary: a value, or a copy of one. `carriers`, `readers` and `at_end` are told of values.
 #[derive(Drop)]
 pub struct Temporary {
+    /// The value that it carries, by the number of that value's own temporary: its own number where it is no copy.
     pub value: u32,
+    /// The variable of its register.
     pub register: u32,
+    /// Whether its value is a truth value.
     pub is_predicate: bool,
+    /// Whether every later reader of its value may choose it: so of the value itself and of its copies d and d2.
     pub is_root: bool,
+    /// The register, r16 to r27 or r31, of which its value is what stood there at the function's entry; NONE for other values.
     pub saved: u32,
+    /// The key that its value stands for: a name, or a saved value; NONE where it stands for none.
     pub key: u32,
+    /// The operation that is the copy d of its value; NONE where there is none.
     pub copy: u32,
+    /// The operation that is the copy d2 of its value, which a predicate has; NONE where there is none.
     pub second_copy: u32,
+    /// The temporary that the copy d of its value defines; NONE where there is none.
     pub first_carrier: u32,
+    /// The temporaries that carry this value, its own among them; none for a copy.
     pub carriers: Vec<u32>,
+    /// The operations that every solution issues and that read this value, rising, without the block's end; none for a copy.
     pub readers: Vec<u32>,
+    /// The place of the first operand of the block's end that reads this value; NONE where none does.
     pub at_end: u32,
 }
 
-/// A block.
+/// A block as a trial reads it.
 #[derive(Drop)]
 pub struct BlockFacts {
+    /// The block's horizon: its cycles go from 0 to `horizon` − 1, and its end is at most this.
     pub horizon: u32,
+    /// The variable of its end, which is the last variable of the block.
     pub end: u32,
+    /// Its first variable.
     pub first_variable: u32,
+    /// How many variables it has: their numbers follow one another, from `first_variable` to `end`.
     pub variables: u32,
+    /// Its operations, by number.
     pub operations: Table<Operation>,
+    /// Its temporaries, by number.
     pub temporaries: Table<Temporary>,
+    /// Its source operations without the terminator, in the order of the source.
     pub body: Vec<u32>,
+    /// The temporaries of the values at its start: those of names, and then those of saved values.
     pub input: Vec<u32>,
+    /// The operation of its end, which reads what is handed over.
     pub output: u32,
+    /// The operation Enter; NONE where it is not the entry block.
     pub enter: u32,
+    /// The operation Leave; NONE where the block does not return.
     pub leave: u32,
+    /// The operation that ends it; NONE where it falls through.
     pub terminator: u32,
 }

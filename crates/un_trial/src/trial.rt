@@ -14,14 +14,18 @@ use crate::sets::{EMPTY, REGISTERS, RegisterSet};
 use crate::table::{NONE, Table};
 use std::alloc::{AllocError, Global};
 
-/// What a trial is made of, besides its order and the places: the block, whether the function has a frame, whether saved values
-/// that end in registers may be spilled, the registers that may be assigned, and the slots that no place uses.
+/// What a trial is made of, besides its order and the places of the keys.
 #[derive(Clone, Copy)]
 pub struct Task<'a> {
+    /// The block that is allocated and scheduled.
     pub block: &'a BlockFacts,
+    /// Whether the function has a frame, so that there may be Spills and Reloads.
     pub frame: bool,
+    /// Whether a saved value that ends in a register may be spilled in between.
     pub spill_saved: bool,
+    /// The general registers that may be assigned.
     pub assignable: RegisterSet,
+    /// The slots that no place uses.
     pub spare_slots: RegisterSet,
 }
 

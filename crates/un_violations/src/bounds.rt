@@ -20,13 +20,18 @@ pub enum Rule {
     Frame,
 }
 
-/// From which cycles of a block on a further Load, Store, Call, Spill or Reload, and Leave may issue.
+/// The cycles of a block from which on further operations may issue, each 0 where nothing before holds them back.
 #[derive(Clone, Copy)]
 pub struct Bounds {
+    /// From which cycle a further Load may issue.
     pub load: u64,
+    /// From which cycle a further Store may issue.
     pub store: u64,
+    /// From which cycle a further Call may issue.
     pub call: u64,
+    /// From which cycle a further Spill or Reload may issue.
     pub access: u64,
+    /// From which cycle a Leave may issue.
     pub leave: u64,
 }
 

@@ -6,14 +6,18 @@ use un_ir::function::Kind;
 use un_isa::op::Op;
 use un_lists::items::Items;
 
-/// The line of an operation: its result, its operands in the order of the text, its literal or 0, and the function that
-/// a call calls.
+/// The line of an operation.
 #[derive(Drop)]
 pub struct OpLine {
+    /// What it does.
     pub op: Op,
+    /// The name that it assigns; None where it assigns none.
     pub dst: Option<(Name, Kind)>,
+    /// Its operands in the order of the text.
     pub srcs: Items<(Name, Kind)>,
+    /// Its literal; 0 where it has none.
     pub imm: Number,
+    /// The name of the function that a call calls; None for other operations.
     pub callee: Option<Name>,
 }
 

@@ -7,11 +7,12 @@ use crate::number::read_number;
 use un_base::name::Name;
 use un_ir::function::Kind;
 
-/// A number of a text: its sign, and its size. Sizes past 2^32 - 1 are kept as that, which no range of the language
-/// reaches.
+/// A number of a text.
 #[derive(Clone, Copy, PartialEq, Eq)]
 pub struct Number {
+    /// Whether it has a minus sign.
     pub negative: bool,
+    /// Its size without the sign; greater ones than 2^32 − 1, which no range of the language reaches, are kept as that.
     pub size: u32,
 }
 
