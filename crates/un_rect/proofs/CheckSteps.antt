@@ -1,8 +1,9 @@
 -- Steps of the checks.
-use Rattle.std.proofs.Common.{ℕ, ◌≡◌, ◌≢◌, ◌<◌, Bool, true, false, ◌||◌, List, ◌++◌, length, get_or, set, Some, All, refl, sym, ap, ◌∙◌}
-use Rattle.std.proofs.Common.{subst, inl, inr}
+use Rattle.std.proofs.Common.{ℕ, ◌≡◌, ◌≢◌, ◌<◌, Bool, true, false, cond, not, ◌&&◌, ◌||◌, List, ◌++◌, length, get_or, set, Some, All}
+use Rattle.std.proofs.Common.{nat_eq, refl, sym, ap, ◌∙◌, subst, arith, inl, inr}
 use Rattle.std.specs.declared.option.Option.{Option}
 use Rattle.std.specs.List.{AllByRecursion}
+use Rattle.std.proofs.lemmas.Bool.Decides.{nat_tests}
 use Rattle.std.proofs.lemmas.List.{get_or-set_same, get_or-set_other}
 use Rattle.un_base.specs.declared.ids.VarId.{VarId}
 use Rattle.un_domains.specs.Sets.{Sets, set_at, least, cut_by, NoneEmpty}
@@ -23,6 +24,7 @@ use Rattle.un_rect.specs.Spans.{TempVars}
 use Rattle.un_rect.specs.Apart.{temp_vars, pair_vars, pair_holds, check_pair}
 use Rattle.un_rect.specs.ApartLaws.{pair_looks}
 use Rattle.un_rect.specs.Checks.{is_off, differ}
+use Rattle.un_rect.specs.Extents.{left_opened, at_most_one}
 use Rattle.un_rect.specs.CheckLaws.{check_apart, ends_outside}
 use Rattle.un_rect.specs.Opened.{opened_after, is_more, Says}
 use Rattle.un_rect.specs.OpenedLaws.{after_append, more_is, says_of, says_more, last_many, last_more, last_one, last_none}
@@ -122,24 +124,77 @@ module _ (vs : List VarId) (a b : Temp) (ascend : Ascend vs) (ha : TempVars vs a
           (says_more (among (temp_vars a)) (among (temp_vars a ++ temp_vars b)) s (λ u. among_left (temp_vars a) (temp_vars b) u)
           (subst (Says (among (temp_vars a)) s) (more_is (opened_after s (temp_vars a) Nothing) t) (says_of s (temp_vars a))))
 
-  -- the one, or the other, or other registers
-  pub check_none : ((is_off a.on s || is_more (opened_after s (temp_vars a) Nothing))
-      || ((is_off b.on s || is_more (opened_after s (temp_vars b) Nothing)) || differ a.reg b.reg s)) ≡ true → check_pair vs a b s ≡ Some s
-  check_none e = by (is_off a.on s || is_more (opened_after s (temp_vars a) Nothing))
-      (is_off b.on s || is_more (opened_after s (temp_vars b) Nothing)) refl refl e
+  -- a variable of each is open, and not the same
+  check_two : (u v : VarId) → opened_after s (temp_vars a) Nothing ≡ One u → opened_after s (temp_vars b) Nothing ≡ One v
+      → nat_eq u.0 v.0 ≡ false → check_pair vs a b s ≡ Some s
+  check_two u v p q e =
+      let first = subst (Says (among (temp_vars a)) s) p (says_of s (temp_vars a)) in
+      let other = subst (Says (among (temp_vars b)) s) q (says_of s (temp_vars b)) in
+      let ne : u.0 ≢ v.0 = grind (arith, nat_tests, e) in
+      last_many (temp_vars a ++ temp_vars b) vs sub rises (pair_holds a b) looks s (
+        u,
+        v,
+        among_left (temp_vars a) (temp_vars b) u first.0,
+        among_right (temp_vars a) (temp_vars b) v other.0,
+        first.1,
+        other.1,
+        ne,
+      )
+
+  -- more than one is open, of what is left of both
+  check_open : at_most_one (left_opened a s) (left_opened b s) ≡ false → check_pair vs a b s ≡ Some s
+  check_open e = by (is_off a.on s) (is_off b.on s) refl refl e
+    where
+      or_right : (c d : Bool) → d ≡ true → (c || d) ≡ true
+      or_right true d h = refl
+      or_right false d h = h
+
+      idle_first : opened_after s (temp_vars a) Nothing ≡ More → check_pair vs a b s ≡ Some s
+      idle_first p = check_idle_first (or_right (is_off a.on s) _ (ap is_more p))
+
+      idle_other : opened_after s (temp_vars b) Nothing ≡ More → check_pair vs a b s ≡ Some s
+      idle_other q = check_idle (or_right (is_off b.on s) _ (ap is_more q))
+
+      few : (o p : Opened) → opened_after s (temp_vars a) Nothing ≡ o → opened_after s (temp_vars b) Nothing ≡ p
+          → at_most_one o p ≡ false → check_pair vs a b s ≡ Some s
+      few Nothing Nothing is other t = absurd (cc t)
+      few Nothing (One v) is other t = absurd (cc t)
+      few Nothing More is other t = idle_other other
+      few (One u) Nothing is other t = absurd (cc t)
+      few (One u) (One v) is other t = check_two u v is other t
+      few (One u) More is other t = idle_other other
+      few More p is other t = idle_first is
+
+      by : (c d : Bool) → is_off a.on s ≡ c → is_off b.on s ≡ d
+          → at_most_one (cond c More (opened_after s (temp_vars a) Nothing)) (cond d More (opened_after s (temp_vars b) Nothing)) ≡ false
+          → check_pair vs a b s ≡ Some s
+      by true d first other t = check_idle_first (ap (λ (c : Bool). c || is_more (opened_after s (temp_vars a) Nothing)) first)
+      by false true first other t = check_idle (ap (λ (c : Bool). c || is_more (opened_after s (temp_vars b) Nothing)) other)
+      by false false first other t = few _ _ refl refl t
+
+  -- more than one is open, or they have other registers
+  pub check_none : (at_most_one (left_opened a s) (left_opened b s) && not (differ a.reg b.reg s)) ≡ false → check_pair vs a b s ≡ Some s
+  check_none e = by (at_most_one (left_opened a s) (left_opened b s)) refl e
     where
       or_last : (c d : Bool) → (c || (d || true)) ≡ true
       or_last true d = refl
       or_last false true = refl
       or_last false false = refl
 
-      by : (c d : Bool) → (is_off a.on s || is_more (opened_after s (temp_vars a) Nothing)) ≡ c
-          → (is_off b.on s || is_more (opened_after s (temp_vars b) Nothing)) ≡ d → (c || (d || differ a.reg b.reg s)) ≡ true
+      negated : (c : Bool) → not c ≡ false → c ≡ true
+      negated true e = refl
+      negated false e = absurd (cc e)
+
+      by : (c : Bool) → at_most_one (left_opened a s) (left_opened b s) ≡ c → (c && not (differ a.reg b.reg s)) ≡ false
           → check_pair vs a b s ≡ Some s
-      by true d first other t = check_idle_first first
-      by false true first other t = check_idle other
-      by false false first other t = check_apart vs a b ha hb s k full
-          (ap (λ (c : Bool). is_off a.on s || (is_off b.on s || c)) t ∙ or_last (is_off a.on s) (is_off b.on s))
+      by false is t = check_open is
+      by true is t = check_apart vs a b ha hb s k full
+          (ap (λ (c : Bool). is_off a.on s || (is_off b.on s || c)) (negated _ t) ∙ or_last (is_off a.on s) (is_off b.on s))
+
+-- what is left of one that is idle
+pub idle_open : (c : Bool) (o : Opened) → is_more (cond c More o) ≡ (c || is_more o)
+idle_open true o = refl
+idle_open false o = refl
 
 pub checks_idle : (vs : List VarId) (temps : List Temp) (b : Temp) (s : Sets) → Ascend vs → AllByRecursion (TempVars vs) temps
     → TempVars vs b → HasVars vs s → NoneEmpty s

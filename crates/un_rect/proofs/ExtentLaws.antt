@@ -157,10 +157,6 @@ module _ (A : Type 0) (of : Temp → Sets → A) (temps : List Temp) (a b : Temp
       subst (λ (x : A). may x (of b s) ≡ false) first
       (subst (λ (y : A). may (get_or xs i (of a s)) y ≡ false) second' (spared.none (of a s) (of b s)))
 
-negated : (c : Bool) → not c ≡ false → c ≡ true
-negated true e = refl
-negated false e = absurd (cc e)
-
 module _ (vs us : List VarId) (temps : List Temp) (a b : Temp) where
   of_place : (i : ℕ) → a ≡ get_or temps i a → i < length temps → All (TempVars vs) temps → TempVars vs a
   of_place i is lt all = subst (λ (t : Temp). TempVars vs t) (sym is) (all i a lt)
@@ -193,4 +189,4 @@ module _ (vs us : List VarId) (temps : List Temp) (a b : Temp) where
       subst (λ (ws : List VarId). check_pair ws a b mid.sets ≡ Some mid.sets) (sym e)
       (subst (λ (s : Sets). check_pair vs a b s ≡ Some s) (sym (same_sets vs f old mid did h full spared.same))
       (check_none vs a b ascend (of_place i is_a lt_a all) (other_place j is_b lt_b all) old.sets k full
-      (negated _ (noted Left left_of temps a b xs i j is_a is_b lt_a lt_b old.sets are did may_check spared))))
+      (noted Left left_of temps a b xs i j is_a is_b lt_a lt_b old.sets are did may_check spared)))

@@ -1,5 +1,5 @@
 -- What a store says of each temporary, noted once for many looks.
-use Rattle.std.specs.Prelude.{ℕ, ◌≡◌, ◌<◌, Bool, false, cond, not, ◌&&◌, ◌||◌, List, length, nat_eq, nat_lt, slice_index_or}
+use Rattle.std.specs.Prelude.{ℕ, ◌≡◌, ◌<◌, Bool, true, false, cond, not, ◌&&◌, ◌||◌, List, length, nat_eq, nat_lt, slice_index_or}
 use Rattle.un_domains.specs.Sets.{Sets, set_at, least}
 use Rattle.un_prop.specs.Looks.{sure}
 use Rattle.un_prop.specs.declared.act.Temp.{Temp}
@@ -8,7 +8,8 @@ use Rattle.un_prop.specs.declared.propagator.Pruned.TheVariants.{Same}
 use Rattle.un_rect.specs.Apart.{temp_vars}
 use Rattle.un_rect.specs.Checks.{is_off}
 use Rattle.un_rect.specs.Opened.{opened_after, is_more}
-use Rattle.un_rect.specs.declared.opened.Opened.TheVariants.{Nothing}
+use Rattle.un_rect.specs.declared.opened.Opened.{Opened}
+use Rattle.un_rect.specs.declared.opened.Opened.TheVariants.{Nothing, One, More}
 use Rattle.un_rect.specs.Spans.{greatest_start, least_end}
 use Rattle.un_rect.specs.declared.extents.Extent.{Extent}
 use Rattle.un_rect.specs.declared.left.Left.{Left}
@@ -27,12 +28,16 @@ extent_of a s = record {
   one = nat_eq (length (set_at s a.reg.0)) 1;
 }
 
--- what is left to decide: nothing to check with any other, and the register
+-- which variables are open, more than one where it is off
+abbrev pub left_opened : Temp → Sets → Opened
+left_opened a s = cond (is_off a.on s) More (opened_after s (temp_vars a) Nothing)
+
+-- what is left to decide: what is open, and the register
 abbrev pub left_of : Temp → Sets → Left
 left_of a s = record {
+  opened = left_opened a s;
   reg = least (set_at s a.reg.0);
   one = nat_eq (length (set_at s a.reg.0)) 1;
-  idle = is_idle a s;
 }
 
 -- what is noted of the temporaries
@@ -54,9 +59,17 @@ may_clash x y = (nat_lt y.start x.end && nat_lt x.start y.end) && cond (x.one &&
 abbrev pub may_order : Extent → Extent → Bool
 may_order x y = x.sure && (y.sure && (x.one && (y.one && nat_eq x.reg y.reg)))
 
--- neither is idle, and their registers may be one
+-- of two that are open each, there is one variable at most
+abbrev pub at_most_one : Opened → Opened → Bool
+at_most_one Nothing p = not (is_more p)
+at_most_one (One u) Nothing = true
+at_most_one (One u) (One v) = nat_eq u.0 v.0
+at_most_one (One u) More = false
+at_most_one More p = false
+
+-- at most one variable is open, and their registers may be one
 abbrev pub may_check : Left → Left → Bool
-may_check x y = not (x.idle || (y.idle || (x.one && (y.one && not (nat_eq x.reg y.reg)))))
+may_check x y = at_most_one x.opened y.opened && not (x.one && (y.one && not (nat_eq x.reg y.reg)))
 
 -- nothing changed since, and by what was noted the temporaries at two places may not do something
 pub record AreSpared {A : Type 0} (may : A → A → Bool) (xs : List A) (did : Pruned) (i j : ℕ) : Type 0 where

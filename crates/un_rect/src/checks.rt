@@ -50,7 +50,7 @@ pub(crate) fn are_apart(fixed: &[u32], a: &Temp, b: &Temp) -> bool
 }
 
 /// Whether an activity is surely off.
-fn is_off(w: &Window<'_>, on: Act) -> bool
+pub(crate) fn is_off(w: &Window<'_>, on: Act) -> bool
     requires known { HasVars (act_vars on) w.now.store.now.sets }
     requires live { NoneEmpty w.now.store.now.sets }
     ensures { result ≡ is_off on w.now.store.now.sets }

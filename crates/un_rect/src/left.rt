@@ -5,29 +5,43 @@ ghost use Rattle.un_domains.specs.Sets.{NoneEmpty};
 ghost use Rattle.un_prop.specs.Rounds.{HasVars};
 ghost use Rattle.un_prop.specs.declared.act.Temp.{Temp};
 ghost use Rattle.un_prop.specs.declared.propagator.Pruned.TheVariants.{Same, Failed};
-ghost use Rattle.un_rect.specs.Extents.{is_idle, left_of, may_check, AreLeft, AreSpared};
+ghost use Rattle.un_rect.specs.Extents.{is_idle, left_opened, left_of, at_most_one, may_check, AreLeft, AreSpared};
 ghost use Rattle.un_rect.specs.Spans.{TempVars};
 
-use crate::checks::is_idle;
+use crate::checks::{is_idle, is_off};
+use crate::opened::{Opened, is_more, with_temp};
 use un_domains::window::Window;
 use un_prop::act::Temp;
 use un_prop::propagator::Pruned;
 
-/// Whether there is nothing to check of a temporary with any other, whether one register is left, and the least that is.
+/// Which variables of a temporary are open, more than one where it is off; whether one register is left, and the least that is.
 #[derive(Clone, Copy)]
 pub(crate) struct Left {
+    pub opened: Opened,
     pub reg: u32,
     pub one: bool,
-    pub idle: bool,
 }
 
 /// What is written of a temporary before it is noted.
 pub(crate) fn nothing_left() -> Left {
     Left {
+        opened: Opened::Nothing,
         reg: 0,
         one: false,
-        idle: false,
     }
+}
+
+/// Which variables of a temporary are open. There is nothing to check of one that is off, as where more than one are open.
+fn left_opened(w: &Window<'_>, a: &Temp) -> Opened
+    requires vars { TempVars w.now.vars.now a.now }
+    requires known { HasVars w.now.vars.now w.now.store.now.sets }
+    requires live { NoneEmpty w.now.store.now.sets }
+    ensures { result ≡ left_opened a.now w.now.store.now.sets }
+{
+    if is_off(w, a.on) {
+        return Opened::More;
+    }
+    with_temp(w, Opened::Nothing, a)
 }
 
 /// What is left to decide of a temporary.
@@ -37,10 +51,10 @@ fn left_of(w: &Window<'_>, a: &Temp) -> Left
     requires live { NoneEmpty w.now.store.now.sets }
     ensures { result ≡ left_of a.now w.now.store.now.sets }
 {
+    let opened = left_opened(w, a);
     let reg = w.min(a.reg);
     let one = w.is_single(a.reg);
-    let idle = is_idle(w, a);
-    Left { reg, one, idle }
+    Left { opened, reg, one }
 }
 
 /// Notes what is left to decide of each temporary for which there is room.
@@ -78,20 +92,33 @@ pub(crate) fn is_done(w: &Window<'_>, temps: &[Temp], left: &[Left], j: usize) -
     ensures { (b : Temp) → result ≡ is_idle (slice_index_or temps.now j b) w.now.store.now.sets }
 {
     if j < left.len() {
-        left[j].idle
+        is_more(left[j].opened)
     } else {
         is_idle(w, &temps[j])
     }
 }
 
-/// Whether there may be something to check of two temporaries of which this is left: neither is idle, and their registers may be one.
+/// Whether at most one variable of two temporaries is open.
+fn at_most_one(x: Opened, y: Opened) -> bool
+    ensures { result ≡ at_most_one x y }
+{
+    match x {
+        Opened::Nothing => !is_more(y),
+        Opened::One(u) => match y {
+            Opened::Nothing => true,
+            Opened::One(v) => u.0 == v.0,
+            Opened::More => false,
+        },
+        Opened::More => false,
+    }
+}
+
+/// Whether there may be something to check of two temporaries of which this is left: at most one variable of them is open, and their
+/// registers may be one.
 fn may_check(x: Left, y: Left) -> bool
     ensures { result ≡ may_check x y }
 {
-    if x.idle {
-        return false;
-    }
-    if y.idle {
+    if !at_most_one(x.opened, y.opened) {
         return false;
     }
     !(x.one && y.one && x.reg != y.reg)

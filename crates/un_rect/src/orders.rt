@@ -278,7 +278,7 @@ fn keep_noted(w: &mut Window<'_>, before: Pruned, a: &Temp, b: &Temp, passed: bo
     keep_orders(w, before, a, b)
 }
 
-/// Of the temporary at place `j` with each one before it. There is nothing to do where it has other than one register.
+/// Of the temporary at place `j` with each one before it. There is nothing to do where it has other than one register, or is not sure.
 fn keep_row(w: &mut Window<'_>, temps: &[Temp], extents: &[Extent], j: usize) -> Pruned
     requires there { j < length temps.now }
     requires of_temps { All (TempVars w.old.vars.now) temps.now }
@@ -292,6 +292,9 @@ fn keep_row(w: &mut Window<'_>, temps: &[Temp], extents: &[Extent], j: usize) ->
 {
     let b = &temps[j];
     if !w.is_single(b.reg) {
+        return Pruned::Same;
+    }
+    if !is_sure(w, b.on) {
         return Pruned::Same;
     }
     let mut did = Pruned::Same;
