@@ -1,5 +1,5 @@
 -- Steps of the checks.
-use Rattle.std.proofs.Common.{ℕ, ◌≡◌, ◌≢◌, ◌<◌, Bool, true, false, cond, not, ◌&&◌, ◌||◌, List, ◌++◌, length, get_or, set, Some, All}
+use Rattle.std.proofs.Common.{ℕ, ◌≡◌, ◌≢◌, ◌<◌, Bool, true, false, cond, ◌||◌, List, ◌++◌, length, get_or, set, Some, All}
 use Rattle.std.proofs.Common.{nat_eq, refl, sym, ap, ◌∙◌, subst, arith, inl, inr}
 use Rattle.std.specs.declared.option.Option.{Option}
 use Rattle.std.specs.List.{AllByRecursion}
@@ -23,11 +23,11 @@ use Rattle.un_prop.specs.declared.propagator.Pruned.TheVariants.{Same, Failed}
 use Rattle.un_rect.specs.Spans.{TempVars}
 use Rattle.un_rect.specs.Apart.{temp_vars, pair_vars, pair_holds, check_pair}
 use Rattle.un_rect.specs.ApartLaws.{pair_looks}
-use Rattle.un_rect.specs.Checks.{is_off, differ}
-use Rattle.un_rect.specs.Extents.{left_opened, at_most_one}
+use Rattle.un_rect.specs.Checks.{is_off, differ, IsUndecided}
+use Rattle.un_rect.specs.Extents.{left_opened, left_of, opened_both, left_both, var_of}
 use Rattle.un_rect.specs.CheckLaws.{check_apart, ends_outside}
 use Rattle.un_rect.specs.Opened.{opened_after, is_more, Says}
-use Rattle.un_rect.specs.OpenedLaws.{after_append, more_is, says_of, says_more, last_many, last_more, last_one, last_none}
+use Rattle.un_rect.specs.OpenedLaws.{after_append, after_same, more_is, says_of, says_more, last_many, last_more, last_one, last_none}
 use Rattle.un_rect.specs.Pairs.{at_place, each_before}
 use Rattle.un_rect.specs.PairLaws.{each_same, at_same}
 use Rattle.un_rect.specs.TempLaws.{among_left, among_right, among_here, pair_first, pair_second, pair_all, part_all, filter_ascends}
@@ -141,55 +141,67 @@ module _ (vs : List VarId) (a b : Temp) (ascend : Ascend vs) (ha : TempVars vs a
         ne,
       )
 
-  -- more than one is open, of what is left of both
-  check_open : at_most_one (left_opened a s) (left_opened b s) ≡ false → check_pair vs a b s ≡ Some s
-  check_open e = by (is_off a.on s) (is_off b.on s) refl refl e
+  -- what is open of both
+  few : (o p : Opened) → opened_after s (temp_vars a) Nothing ≡ o → opened_after s (temp_vars b) Nothing ≡ p
+      → IsUndecided vs a b s (var_of a.reg (opened_both o p))
+  few o p is other = by o p is other
     where
       or_right : (c d : Bool) → d ≡ true → (c || d) ≡ true
       or_right true d h = refl
       or_right false d h = h
 
-      idle_first : opened_after s (temp_vars a) Nothing ≡ More → check_pair vs a b s ≡ Some s
-      idle_first p = check_idle_first (or_right (is_off a.on s) _ (ap is_more p))
-
       idle_other : opened_after s (temp_vars b) Nothing ≡ More → check_pair vs a b s ≡ Some s
       idle_other q = check_idle (or_right (is_off b.on s) _ (ap is_more q))
 
-      few : (o p : Opened) → opened_after s (temp_vars a) Nothing ≡ o → opened_after s (temp_vars b) Nothing ≡ p
-          → at_most_one o p ≡ false → check_pair vs a b s ≡ Some s
-      few Nothing Nothing is other t = absurd (cc t)
-      few Nothing (One v) is other t = absurd (cc t)
-      few Nothing More is other t = idle_other other
-      few (One u) Nothing is other t = absurd (cc t)
-      few (One u) (One v) is other t = check_two u v is other t
-      few (One u) More is other t = idle_other other
-      few More p is other t = idle_first is
+      at : (u v : VarId) → opened_after s (temp_vars a) Nothing ≡ One u → opened_after s (temp_vars b) Nothing ≡ One v
+          → (c : Bool) → nat_eq u.0 v.0 ≡ c → IsUndecided vs a b s (var_of a.reg (cond c (One u) More))
+      at u v is other true e =
+          let says = subst (Says (among (temp_vars b)) s) other (says_of s (temp_vars b)) in
+          let same : u.0 ≡ v.0 = grind (arith, nat_tests, e) in
+          left_one u (One u) (One u) (sym is) (sym (after_same s u (temp_vars b) (λ w t wide. says.2 w t wide ∙ sym same))) refl
+      at u v is other false e = check_two u v is other e
 
-      by : (c d : Bool) → is_off a.on s ≡ c → is_off b.on s ≡ d
-          → at_most_one (cond c More (opened_after s (temp_vars a) Nothing)) (cond d More (opened_after s (temp_vars b) Nothing)) ≡ false
-          → check_pair vs a b s ≡ Some s
-      by true d first other t = check_idle_first (ap (λ (c : Bool). c || is_more (opened_after s (temp_vars a) Nothing)) first)
-      by false true first other t = check_idle (ap (λ (c : Bool). c || is_more (opened_after s (temp_vars b) Nothing)) other)
-      by false false first other t = few _ _ refl refl t
+      by : (o p : Opened) → opened_after s (temp_vars a) Nothing ≡ o → opened_after s (temp_vars b) Nothing ≡ p
+          → IsUndecided vs a b s (var_of a.reg (opened_both o p))
+      by Nothing Nothing is other = (ha.of_reg, left_nothing Nothing Nothing (sym is) (sym other) refl)
+      by Nothing (One v) is other = left_one v Nothing (One v) (sym is) (sym other) refl
+      by Nothing More is other = idle_other other
+      by (One u) Nothing is other =
+          let says = subst (Says (among (temp_vars b)) s) other (says_of s (temp_vars b)) in
+          left_one u (One u) (One u) (sym is) (sym (after_same s u (temp_vars b)
+          (λ w t wide. absurd (let bad : true ≡ false = sym wide ∙ says w t in cc bad)))) refl
+      by (One u) (One v) is other = at u v is other (nat_eq u.0 v.0) refl
+      by (One u) More is other = idle_other other
+      by More p is other = check_idle_first (or_right (is_off a.on s) _ (ap is_more is))
 
-  -- more than one is open, or they have other registers
-  pub check_none : (at_most_one (left_opened a s) (left_opened b s) && not (differ a.reg b.reg s)) ≡ false → check_pair vs a b s ≡ Some s
-  check_none e = by (at_most_one (left_opened a s) (left_opened b s)) refl e
+  -- what is left of both
+  pub check_both : IsUndecided vs a b s (var_of a.reg (left_both (left_of a s) (left_of b s)))
+  check_both = by (differ a.reg b.reg s) refl
     where
       or_last : (c d : Bool) → (c || (d || true)) ≡ true
       or_last true d = refl
       or_last false true = refl
       or_last false false = refl
 
-      negated : (c : Bool) → not c ≡ false → c ≡ true
-      negated true e = refl
-      negated false e = absurd (cc e)
+      both_more : (o : Opened) → opened_both o More ≡ More
+      both_more Nothing = refl
+      both_more (One u) = refl
+      both_more More = refl
 
-      by : (c : Bool) → at_most_one (left_opened a s) (left_opened b s) ≡ c → (c && not (differ a.reg b.reg s)) ≡ false
-          → check_pair vs a b s ≡ Some s
-      by false is t = check_open is
-      by true is t = check_apart vs a b ha hb s k full
-          (ap (λ (c : Bool). is_off a.on s || (is_off b.on s || c)) (negated _ t) ∙ or_last (is_off a.on s) (is_off b.on s))
+      on : (c d : Bool) → is_off a.on s ≡ c → is_off b.on s ≡ d
+          → IsUndecided vs a b s (var_of a.reg (opened_both (cond c More (opened_after s (temp_vars a) Nothing))
+          (cond d More (opened_after s (temp_vars b) Nothing))))
+      on true d first other = check_idle_first (ap (λ (c : Bool). c || is_more (opened_after s (temp_vars a) Nothing)) first)
+      on false true first other = subst (λ (o : Opened). IsUndecided vs a b s (var_of a.reg o))
+          (sym (both_more (opened_after s (temp_vars a) Nothing)))
+          (check_idle (ap (λ (c : Bool). c || is_more (opened_after s (temp_vars b) Nothing)) other))
+      on false false first other = few _ _ refl refl
+
+      by : (c : Bool) → differ a.reg b.reg s ≡ c
+          → IsUndecided vs a b s (var_of a.reg (cond c More (opened_both (left_opened a s) (left_opened b s))))
+      by true e = check_apart vs a b ha hb s k full
+          (ap (λ (c : Bool). is_off a.on s || (is_off b.on s || c)) e ∙ or_last (is_off a.on s) (is_off b.on s))
+      by false e = on (is_off a.on s) (is_off b.on s) refl refl
 
 -- what is left of one that is idle
 pub idle_open : (c : Bool) (o : Opened) → is_more (cond c More o) ≡ (c || is_more o)

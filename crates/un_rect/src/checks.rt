@@ -11,9 +11,10 @@ ghost use Rattle.un_prop.specs.declared.propagator.Pruned.TheVariants.{Same, Fai
 ghost use Rattle.un_rect.specs.Spans.{TempVars};
 ghost use Rattle.un_rect.specs.Apart.{shares, pair_holds, check_pair, check_row, checks_cut};
 ghost use Rattle.un_rect.specs.Checks.{is_off, differ, surely_apart, Written, decide_cut, try_cut, IsUndecided};
-ghost use Rattle.un_rect.specs.Extents.{is_idle, AreLeft};
+ghost use Rattle.un_rect.specs.Extents.{is_idle, var_of, AreLeft};
+ghost use Rattle.un_rect.specs.declared.opened.Opened.{Opened};
 
-use crate::left::{Left, cannot_check, is_done, left_again, note_left};
+use crate::left::{Left, is_done, left_again, note_left, noted_both};
 use crate::opened::{Opened, is_more, with_temp};
 use crate::spans::end;
 use un_base::ids::VarId;
@@ -114,6 +115,34 @@ fn undecided(w: &Window<'_>, a: &Temp, b: &Temp) -> Option<VarId>
     }
 }
 
+/// The variable to decide where this is open of two temporaries; the register of the first where nothing is.
+fn var_of(reg: VarId, opened: Opened) -> Option<VarId>
+    ensures { result ≡ var_of reg opened }
+{
+    match opened {
+        Opened::Nothing => Some(reg),
+        Opened::One(v) => Some(v),
+        Opened::More => None,
+    }
+}
+
+/// The variable of two temporaries that is left to decide, by what was noted of them where that still stands.
+fn to_decide(w: &Window<'_>, a: &Temp, b: &Temp, noted: Option<Opened>) -> Option<VarId>
+    requires ascend { Ascend w.now.vars.now }
+    requires of_a { TempVars w.now.vars.now a.now }
+    requires of_b { TempVars w.now.vars.now b.now }
+    requires known { HasVars w.now.vars.now w.now.store.now.sets }
+    requires live { NoneEmpty w.now.store.now.sets }
+    requires noted { (o : Opened) → noted ≡ Some o
+        → IsUndecided w.now.vars.now a.now b.now w.now.store.now.sets (var_of a.now.reg o) }
+    ensures { IsUndecided w.now.vars.now a.now b.now w.now.store.now.sets result }
+{
+    match noted {
+        None => undecided(w, a, b),
+        Some(opened) => var_of(a.reg, opened),
+    }
+}
+
 /// Takes the value `y` from `v`, where two temporaries are not apart for it and what is written of the others.
 fn try_value(
     w: &mut Window<'_>,
@@ -197,12 +226,21 @@ fn decide(
 }
 
 /// Where one variable of two temporaries is left to decide, it keeps the values that meet their part.
-fn check(w: &mut Window<'_>, before: Pruned, a: &Temp, b: &Temp, fixed: &mut [u32]) -> Pruned
+fn check(
+    w: &mut Window<'_>,
+    before: Pruned,
+    a: &Temp,
+    b: &Temp,
+    noted: Option<Opened>,
+    fixed: &mut [u32],
+) -> Pruned
     requires ascend { Ascend w.old.vars.now }
     requires of_a { TempVars w.old.vars.now a.now }
     requires of_b { TempVars w.old.vars.now b.now }
     requires known { HasVars w.old.vars.now w.old.store.now.sets }
     requires live { before ≢ Failed → NoneEmpty w.old.store.now.sets }
+    requires noted { before ≢ Failed → (o : Opened) → noted ≡ Some o
+        → IsUndecided w.old.vars.now a.now b.now w.old.store.now.sets (var_of a.now.reg o) }
     requires room { length w.old.store.now.sets ≤ length fixed.old }
     requires written { before ≢ Failed → Written w.old.vars.now w.old.store.now.sets fixed.old }
     ensures step { Stepped w.old.vars.now (check_pair w.old.vars.now a.now b.now) w.old.store.now w.new.store.now before result }
@@ -213,7 +251,7 @@ fn check(w: &mut Window<'_>, before: Pruned, a: &Temp, b: &Temp, fixed: &mut [u3
     if before == Pruned::Failed {
         return before;
     }
-    match undecided(w, a, b) {
+    match to_decide(w, a, b, noted) {
         None => before,
         Some(v) => decide(w, before, a, b, v, fixed),
     }
@@ -230,34 +268,6 @@ pub(crate) fn is_idle(w: &Window<'_>, b: &Temp) -> bool
         return true;
     }
     is_more(with_temp(w, Opened::Nothing, b))
-}
-
-/// The same, unless what was noted of them says that there is nothing to check.
-fn check_noted(
-    w: &mut Window<'_>,
-    before: Pruned,
-    a: &Temp,
-    b: &Temp,
-    passed: bool,
-    fixed: &mut [u32],
-) -> Pruned
-    requires ascend { Ascend w.old.vars.now }
-    requires of_a { TempVars w.old.vars.now a.now }
-    requires of_b { TempVars w.old.vars.now b.now }
-    requires known { HasVars w.old.vars.now w.old.store.now.sets }
-    requires live { before ≢ Failed → NoneEmpty w.old.store.now.sets }
-    requires room { length w.old.store.now.sets ≤ length fixed.old }
-    requires written { before ≢ Failed → Written w.old.vars.now w.old.store.now.sets fixed.old }
-    requires passed { passed ≡ true → check_pair w.old.vars.now a.now b.now w.old.store.now.sets ≡ Some w.old.store.now.sets }
-    ensures step { Stepped w.old.vars.now (check_pair w.old.vars.now a.now b.now) w.old.store.now w.new.store.now before result }
-    ensures written { result ≢ Failed → Written w.old.vars.now w.new.store.now.sets fixed.new }
-    ensures same_reference { w.new.store.ghost_name ≡ w.old.store.ghost_name }
-    ensures vars { w.new.vars ≡ w.old.vars }
-{
-    if passed {
-        return before;
-    }
-    check(w, before, a, b, fixed)
 }
 
 /// Of the temporary at place `j` with each one before it.
@@ -288,8 +298,8 @@ fn check_row(
     let b = &temps[j];
     let mut did = Pruned::Same;
     for i in 0..j {
-        let passed = cannot_check(left, did, i, j);
-        did = check_noted(w, did, &temps[i], b, passed, fixed);
+        let noted = noted_both(left, did, i, j);
+        did = check(w, did, &temps[i], b, noted, fixed);
     }
     did
 }

@@ -1,12 +1,13 @@
 //! What is left to decide of each temporary, noted once for many checks.
 
-ghost use Rattle.std.specs.Prelude.{◌≡◌, ◌≢◌, ◌<◌, All, length, true, slice_index_or};
+ghost use Rattle.std.specs.Prelude.{◌≡◌, ◌≢◌, ◌<◌, All, Some, length, slice_index_or};
 ghost use Rattle.un_domains.specs.Sets.{NoneEmpty};
 ghost use Rattle.un_prop.specs.Rounds.{HasVars};
 ghost use Rattle.un_prop.specs.declared.act.Temp.{Temp};
 ghost use Rattle.un_prop.specs.declared.propagator.Pruned.TheVariants.{Same, Failed};
-ghost use Rattle.un_rect.specs.Extents.{is_idle, left_opened, left_of, at_most_one, may_check, AreLeft, AreSpared};
+ghost use Rattle.un_rect.specs.Extents.{is_idle, left_opened, left_of, opened_both, left_both, AreLeft, IsNoted};
 ghost use Rattle.un_rect.specs.Spans.{TempVars};
+ghost use Rattle.un_rect.specs.declared.opened.Opened.{Opened};
 
 use crate::checks::{is_idle, is_off};
 use crate::opened::{Opened, is_more, with_temp};
@@ -98,44 +99,44 @@ pub(crate) fn is_done(w: &Window<'_>, temps: &[Temp], left: &[Left], j: usize) -
     }
 }
 
-/// Whether at most one variable of two temporaries is open.
-fn at_most_one(x: Opened, y: Opened) -> bool
-    ensures { result ≡ at_most_one x y }
+/// Which variables of two temporaries are open.
+fn opened_both(x: Opened, y: Opened) -> Opened
+    ensures { result ≡ opened_both x y }
 {
     match x {
-        Opened::Nothing => !is_more(y),
+        Opened::Nothing => y,
         Opened::One(u) => match y {
-            Opened::Nothing => true,
-            Opened::One(v) => u.0 == v.0,
-            Opened::More => false,
+            Opened::Nothing => x,
+            Opened::One(v) => { if u.0 == v.0 { x } else { Opened::More } }
+            Opened::More => y,
         },
-        Opened::More => false,
+        Opened::More => x,
     }
 }
 
-/// Whether there may be something to check of two temporaries of which this is left: at most one variable of them is open, and their
-/// registers may be one.
-fn may_check(x: Left, y: Left) -> bool
-    ensures { result ≡ may_check x y }
+/// Which variables are open of two temporaries of which this is left. There is nothing to check of two with other registers, as where
+/// more than one are open.
+fn left_both(x: Left, y: Left) -> Opened
+    ensures { result ≡ left_both x y }
 {
-    if !at_most_one(x.opened, y.opened) {
-        return false;
+    if x.one && y.one && x.reg != y.reg {
+        return Opened::More;
     }
-    !(x.one && y.one && x.reg != y.reg)
+    opened_both(x.opened, y.opened)
 }
 
-/// Whether what was noted of two temporaries, while nothing changed, says that there is nothing to check.
-pub(crate) fn cannot_check(left: &[Left], did: Pruned, i: usize, j: usize) -> bool
-    ensures { result ≡ true → AreSpared may_check left.now did i j }
+/// The same of the temporaries at two places, where both were noted and nothing changed since.
+pub(crate) fn noted_both(left: &[Left], did: Pruned, i: usize, j: usize) -> Option<Opened>
+    ensures { (o : Opened) → result ≡ Some o → IsNoted left.now did i j o }
 {
     if did != Pruned::Same {
-        return false;
+        return None;
     }
     if i >= left.len() {
-        return false;
+        return None;
     }
     if j >= left.len() {
-        return false;
+        return None;
     }
-    !may_check(left[i], left[j])
+    Some(left_both(left[i], left[j]))
 }
