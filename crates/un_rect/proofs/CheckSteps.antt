@@ -1,10 +1,10 @@
 -- Steps of the checks.
-use Rattle.std.proofs.Common.{ℕ, ◌≡◌, ◌≢◌, ◌<◌, Bool, true, false, cond, ◌||◌, List, ◌++◌, length, get_or, set, Some, All}
-use Rattle.std.proofs.Common.{nat_eq, refl, sym, ap, ◌∙◌, subst, arith, inl, inr}
+use Rattle.std.proofs.Common.{ℕ, not, ◌&&◌, ◌≡◌, ◌≢◌, ◌<◌, Bool, true, false, cond, ◌||◌, List, ◌++◌, length, get_or, set, Some, All, nat_eq}
+use Rattle.std.proofs.Common.{refl, sym, ap, ◌∙◌, subst, arith, inl, inr, [], nat_le}
 use Rattle.std.specs.declared.option.Option.{Option}
 use Rattle.std.specs.List.{AllByRecursion}
 use Rattle.std.proofs.lemmas.Bool.Decides.{nat_tests}
-use Rattle.std.proofs.lemmas.List.{get_or-set_same, get_or-set_other}
+use Rattle.std.proofs.lemmas.List.{get_or-set_same, get_or-set_other, get_or-map, length-map}
 use Rattle.un_base.specs.declared.ids.VarId.{VarId}
 use Rattle.un_domains.specs.Sets.{Sets, set_at, least, cut_by, NoneEmpty}
 use Rattle.un_domains.specs.SetLaws.{same_or_not}
@@ -12,6 +12,7 @@ use Rattle.un_domains.specs.Cuts.{Contents}
 use Rattle.un_prop.specs.Rounds.{HasVars}
 use Rattle.un_prop.specs.Parts.{SameAt}
 use Rattle.un_prop.specs.Among.{among}
+use Rattle.un_prop.specs.Acts.{is_active}
 use Rattle.un_prop.specs.Going.{Stepped}
 use Rattle.un_prop.specs.GoingLaws.{starts, stepped_then}
 use Rattle.un_prop.specs.Last.{point}
@@ -20,7 +21,7 @@ use Rattle.un_prop.specs.Pruning.{join}
 use Rattle.un_prop.specs.declared.act.Temp.{Temp}
 use Rattle.un_prop.specs.declared.propagator.Pruned.{Pruned}
 use Rattle.un_prop.specs.declared.propagator.Pruned.TheVariants.{Same, Failed}
-use Rattle.un_rect.specs.Spans.{TempVars}
+use Rattle.un_rect.specs.Spans.{starts as starts_at, ends, TempVars}
 use Rattle.un_rect.specs.Apart.{temp_vars, pair_vars, pair_holds, check_pair}
 use Rattle.un_rect.specs.ApartLaws.{pair_looks}
 use Rattle.un_rect.specs.Checks.{is_off, differ, IsUndecided}
@@ -61,6 +62,46 @@ written_after vs v old new first mid m written others outside within is i d lt =
       | inl e ↦ subst (λ (k : ℕ). get_or (set mid v m) k 0 ≡ least (set_at new k)) (sym e) (get_or-set_same mid v m 0 within ∙ is)
       | inr ne ↦ get_or-set_other mid v u m 0 ne ∙ (others u ne ∙ (written i d lt ∙ ap least (sym (outside u ne))))
     ]
+
+-- One value alone is tried
+
+pub tried_only : (q : ℕ → Bool) (y m : ℕ) (tried : Bool) → tried ≡ q y → y ≡ m → ((z : ℕ) → z ≢ m → q z ≡ true) → (z : ℕ)
+    → q z ≡ (not (nat_eq z y) || tried)
+tried_only q y m tried is same apart z = by (nat_eq z y) refl
+  where
+    by : (c : Bool) → nat_eq z y ≡ c → q z ≡ (not c || tried)
+    by true e = let equal : z ≡ y = grind (arith, nat_tests, e) in ap q equal ∙ sym is
+    by false e = let other : z ≢ y = grind (arith, nat_tests, e) in apart z (λ h. other (h ∙ sym same))
+
+-- two registers that differ part two temporaries
+module _ (a b : Temp) (s : Sets) (y : ℕ) (within_a : a.reg.0 < length s) (within_b : b.reg.0 < length s) (ne : a.reg.0 ≢ b.reg.0) where
+  parted : (x : List ℕ) → nat_eq (get_or x a.reg.0 0) (get_or x b.reg.0 0) ≡ false → pair_holds a b x ≡ true
+  parted x e = ap (λ (c : Bool). not (is_active a.on x && (is_active b.on x && c))
+      || (nat_le (ends a x) (starts_at b x) || nat_le (ends b x) (starts_at a x))) e
+      ∙ off (is_active a.on x) (is_active b.on x) (nat_le (ends a x) (starts_at b x) || nat_le (ends b x) (starts_at a x))
+    where
+      off : (c d r : Bool) → (not (c && (d && false)) || r) ≡ true
+      off true true r = refl
+      off true false r = refl
+      off false d r = refl
+
+  pub first_parted : y ≢ least (set_at s b.reg.0) → pair_holds a b (set (point s) a.reg.0 y) ≡ true
+  first_parted other =
+      let x = set (point s) a.reg.0 y in
+      let here : get_or x a.reg.0 0 ≡ y = get_or-set_same (point s) a.reg.0 y 0 (omega (arith, within_a, length-map s least)) in
+      let there : get_or x b.reg.0 0 ≡ least (set_at s b.reg.0) = get_or-set_other (point s) a.reg.0 b.reg.0 y 0 (λ h. ne (sym h))
+      ∙ get_or-map least s b.reg.0 [] 0 within_b in
+      let none : get_or x a.reg.0 0 ≢ get_or x b.reg.0 0 = λ h. other (sym here ∙ (h ∙ there)) in
+      parted x (grind (arith, nat_tests, none))
+
+  pub second_parted : y ≢ least (set_at s a.reg.0) → pair_holds a b (set (point s) b.reg.0 y) ≡ true
+  second_parted other =
+      let x = set (point s) b.reg.0 y in
+      let here : get_or x b.reg.0 0 ≡ y = get_or-set_same (point s) b.reg.0 y 0 (omega (arith, within_b, length-map s least)) in
+      let there : get_or x a.reg.0 0 ≡ least (set_at s a.reg.0) = get_or-set_other (point s) b.reg.0 a.reg.0 y 0 ne
+      ∙ get_or-map least s a.reg.0 [] 0 within_a in
+      let none : get_or x a.reg.0 0 ≢ get_or x b.reg.0 0 = λ h. other (sym here ∙ (sym h ∙ there)) in
+      parted x (grind (arith, nat_tests, none))
 
 -- The variable that is left to decide
 

@@ -1,10 +1,11 @@
 //! Checks of two temporaries of which one variable is left to decide: it keeps the values that meet their part.
 
-ghost use Rattle.std.specs.Prelude.{◌≡◌, ◌≢◌, ◌≤◌, ◌<◌, ℕ, All, Some, length, true, slice_index, slice_index_or};
-ghost use Rattle.un_domains.specs.Sets.{NoneEmpty};
+ghost use Rattle.std.specs.Prelude.{◌≡◌, ◌≢◌, ◌≤◌, ◌<◌, ℕ, All, Some, length, true, slice_index, slice_index_or, slice_set};
+ghost use Rattle.un_domains.specs.Sets.{set_at, least, NoneEmpty};
 ghost use Rattle.un_prop.specs.Among.{among};
 ghost use Rattle.un_prop.specs.Acts.{act_vars};
 ghost use Rattle.un_prop.specs.Going.{Stepped};
+ghost use Rattle.un_prop.specs.Last.{point};
 ghost use Rattle.un_prop.specs.LastLaws.{Ascend};
 ghost use Rattle.un_prop.specs.Rounds.{HasVars};
 ghost use Rattle.un_prop.specs.declared.propagator.Pruned.TheVariants.{Same, Failed};
@@ -195,6 +196,60 @@ fn try_all(w: &mut Window<'_>, a: &Temp, b: &Temp, v: VarId, fixed: &mut [u32]) 
     did
 }
 
+/// Tries the value of `v` that another variable has, where two temporaries are apart for each other one.
+fn try_other(
+    w: &mut Window<'_>,
+    a: &Temp,
+    b: &Temp,
+    v: VarId,
+    other: VarId,
+    fixed: &mut [u32],
+) -> Pruned
+    requires of_a { TempVars w.old.vars.now a.now }
+    requires of_b { TempVars w.old.vars.now b.now }
+    requires lent { among w.old.vars.now v ≡ true }
+    requires known { HasVars w.old.vars.now w.old.store.now.sets }
+    requires live { NoneEmpty w.old.store.now.sets }
+    requires room { length w.old.store.now.sets ≤ length fixed.old }
+    requires written { Written w.old.vars.now w.old.store.now.sets fixed.old }
+    requires there { among w.old.vars.now other ≡ true }
+    requires apart { (y : ℕ) → y ≢ least (set_at w.old.store.now.sets other.0)
+        → pair_holds a.now b.now (slice_set (point w.old.store.now.sets) v.0 y) ≡ true }
+    ensures step { Stepped w.old.vars.now (decide_cut a.now b.now v w.old.store.now.sets) w.old.store.now w.new.store.now Same result }
+    ensures others { (u : ℕ) → u ≢ v.0 → slice_index fixed.new u ≡ slice_index fixed.old u }
+    ensures same_reference { w.new.store.ghost_name ≡ w.old.store.ghost_name }
+    ensures vars { w.new.vars ≡ w.old.vars }
+{
+    let y = value(fixed, other);
+    try_value(w, Pruned::Same, a, b, v, y, fixed)
+}
+
+/// Tries the values of `v` for which two temporaries may not be apart: of the register of one the register of the other.
+fn try_some(w: &mut Window<'_>, a: &Temp, b: &Temp, v: VarId, fixed: &mut [u32]) -> Pruned
+    requires of_a { TempVars w.old.vars.now a.now }
+    requires of_b { TempVars w.old.vars.now b.now }
+    requires lent { among w.old.vars.now v ≡ true }
+    requires known { HasVars w.old.vars.now w.old.store.now.sets }
+    requires live { NoneEmpty w.old.store.now.sets }
+    requires room { length w.old.store.now.sets ≤ length fixed.old }
+    requires written { Written w.old.vars.now w.old.store.now.sets fixed.old }
+    ensures step { Stepped w.old.vars.now (decide_cut a.now b.now v w.old.store.now.sets) w.old.store.now w.new.store.now Same result }
+    ensures others { (u : ℕ) → u ≢ v.0 → slice_index fixed.new u ≡ slice_index fixed.old u }
+    ensures same_reference { w.new.store.ghost_name ≡ w.old.store.ghost_name }
+    ensures vars { w.new.vars ≡ w.old.vars }
+{
+    if a.reg.0 == b.reg.0 {
+        return try_all(w, a, b, v, fixed);
+    }
+    if v.0 == a.reg.0 {
+        return try_other(w, a, b, v, b.reg, fixed);
+    }
+    if v.0 == b.reg.0 {
+        return try_other(w, a, b, v, a.reg, fixed);
+    }
+    try_all(w, a, b, v, fixed)
+}
+
 /// Decides `v`, and writes its least value that is left.
 fn decide(
     w: &mut Window<'_>,
@@ -217,7 +272,7 @@ fn decide(
     ensures same_reference { w.new.store.ghost_name ≡ w.old.store.ghost_name }
     ensures vars { w.new.vars ≡ w.old.vars }
 {
-    let did = try_all(w, a, b, v, fixed);
+    let did = try_some(w, a, b, v, fixed);
     if did == Pruned::Failed {
         return Pruned::Failed;
     }
