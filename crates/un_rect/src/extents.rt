@@ -7,10 +7,10 @@ ghost use Rattle.un_prop.specs.declared.propagator.Pruned.TheVariants.{Same, Fai
 ghost use Rattle.un_rect.specs.Extents.{extent_of, unsure_extent, may_clash, may_order, AreExtents, AreSpared};
 ghost use Rattle.un_rect.specs.Spans.{TempVars};
 
-use crate::spans::least_end;
+use crate::spans::{is_on, least_end};
 use un_domains::window::Window;
 use un_prop::act::Temp;
-use un_prop::look::{greatest_time, is_sure};
+use un_prop::look::greatest_time;
 use un_prop::propagator::Pruned;
 
 /// How many temporaries of a block are noted at most; those after them are looked at without a note.
@@ -46,7 +46,7 @@ fn extent_of(w: &Window<'_>, a: &Temp) -> Extent
     requires live { NoneEmpty w.now.store.now.sets }
     ensures { result ≡ extent_of a.now w.now.store.now.sets }
 {
-    if !is_sure(w, a.on) {
+    if !is_on(w, a.on) {
         return no_extent();
     }
     let start = greatest_time(w, a.at);
