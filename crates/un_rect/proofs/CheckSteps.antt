@@ -1,5 +1,6 @@
 -- Steps of the checks.
-use Rattle.std.proofs.Common.{ℕ, not, ◌&&◌, ◌≡◌, ◌≢◌, ◌<◌, Bool, true, false, cond, ◌||◌, List, ◌++◌, length, get_or, set, Some, All, nat_eq}
+use Rattle.std.proofs.Common.{ℕ, not, ◌&&◌, ◌≡◌, ◌≢◌, ◌<◌, Bool, true, false, cond, ◌||◌, List}
+use Rattle.std.proofs.Common.{◌++◌, length, get_or, set, Some, All, nat_eq}
 use Rattle.std.proofs.Common.{refl, sym, ap, ◌∙◌, subst, arith, inl, inr, [], nat_le}
 use Rattle.std.specs.declared.option.Option.{Option}
 use Rattle.std.specs.List.{AllByRecursion}

@@ -22,7 +22,8 @@ use Rattle.un_prop.specs.LastLaws.{Ascend, cut_all}
 use Rattle.un_rect.proofs.CheckSteps.{check_both}
 use Rattle.un_prop.specs.Looks.{sure}
 use Rattle.un_prop.specs.declared.act.Temp.{Temp}
-use Rattle.un_rect.specs.Extents.{extent_of, sure_extent, unsure_extent, left_of, left_both, var_of, may_clash, may_order, AreNoted, AreExtents, AreLeft, AreSpared}
+use Rattle.un_rect.specs.Extents.{extent_of, sure_extent, unsure_extent, left_of, left_both, var_of, may_clash, may_order}
+use Rattle.un_rect.specs.Extents.{AreNoted, AreExtents, AreLeft, AreSpared}
 use Rattle.un_rect.specs.Extents.{IsNoted}
 use Rattle.un_rect.specs.Checks.{IsUndecided}
 use Rattle.un_rect.specs.declared.opened.Opened.{Opened}
@@ -101,7 +102,8 @@ module _ (a b : Temp) (s : Sets) where
   noted_of p c = cond p (sure_extent c s) unsure_extent
 
   none_first : (x y : Extent) → x.end ≡ 0 → may_clash x y ≡ false
-  none_first x y e = ap (λ (n : ℕ). (nat_lt y.start n && nat_lt x.start y.end) && cond (x.one && y.one) (nat_eq x.reg y.reg) (x.one || y.one)) e
+  none_first x y e = ap (λ (n : ℕ). (nat_lt y.start n && nat_lt x.start y.end) && cond (x.one && y.one) (nat_eq x.reg y.reg)
+      (x.one || y.one)) e
       ∙ ap (λ (c : Bool). (c && nat_lt x.start y.end) && cond (x.one && y.one) (nat_eq x.reg y.reg) (x.one || y.one)) (none_below y.start)
 
   none_second : (x y : Extent) → y.end ≡ 0 → may_clash x y ≡ false

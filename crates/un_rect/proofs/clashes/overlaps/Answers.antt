@@ -7,7 +7,8 @@ is_on-requires-clause-known c = known_of c.args.w.now.vars.now (act_vars c.args.
     c.requires.known
 
 pub is_on-requires-2-clause-known : goal.is_on-requires-2-clause-known
-is_on-requires-2-clause-known c = known_of c.args.w.now.vars.now (act_vars c.args.b.now.on) c.args.w.now.store.now.sets c.requires.of_b.of_on
+is_on-requires-2-clause-known c = known_of c.args.w.now.vars.now (act_vars c.args.b.now.on) c.args.w.now.store.now.sets
+    c.requires.of_b.of_on
     c.requires.known
 
 pub greatest_time-requires-clause-known : goal.greatest_time-requires-clause-known
