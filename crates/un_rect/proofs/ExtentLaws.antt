@@ -19,14 +19,18 @@ use Rattle.un_prop.specs.declared.propagator.Pruned.TheVariants.{Same}
 use Rattle.un_prop.specs.Rounds.{HasVars}
 use Rattle.un_prop.specs.AmongLaws.{has_among}
 use Rattle.un_prop.specs.LastLaws.{Ascend, cut_all}
-use Rattle.un_rect.proofs.CheckSteps.{check_none}
+use Rattle.un_rect.proofs.CheckSteps.{check_both}
 use Rattle.un_prop.specs.Looks.{sure}
 use Rattle.un_prop.specs.declared.act.Temp.{Temp}
-use Rattle.un_rect.specs.Extents.{extent_of, left_of, may_clash, may_order, may_check, AreNoted, AreExtents, AreLeft, AreSpared}
+use Rattle.un_rect.specs.Extents.{extent_of, sure_extent, unsure_extent, left_of, left_both, var_of, may_clash, may_order}
+use Rattle.un_rect.specs.Extents.{AreNoted, AreExtents, AreLeft, AreSpared}
+use Rattle.un_rect.specs.Extents.{IsNoted}
+use Rattle.un_rect.specs.Checks.{IsUndecided}
+use Rattle.un_rect.specs.declared.opened.Opened.{Opened}
 use Rattle.un_rect.specs.declared.left.Left.{Left}
 use Rattle.un_rect.specs.declared.extents.Extent.{Extent}
 use Rattle.un_rect.specs.Spans.{greatest_start, least_end, TempVars}
-use Rattle.un_rect.specs.Apart.{overlap, clash_test, clash_cut, clash_pair, check_pair}
+use Rattle.un_rect.specs.Apart.{overlap, clash_test, clash_cut, clash_pair}
 use Rattle.un_rect.specs.Orders.{order_cut, order_pair, order_steps}
 
 same_both : (m n : ℕ) → nat_eq m n ≡ nat_eq n m
@@ -74,9 +78,56 @@ stays true o2 ra rb y false is e = ap not (second (nat_eq ra y) false refl)
 stays true false ra rb y true is e = absurd (cc e)
 stays true true ra rb y true is e = ap (λ (n : ℕ). not (nat_eq ra n && true)) (is refl) ∙ ap (λ (c : Bool). not (c && true)) e
 
+-- the same, where one that is not sure has an end at 0
+abbrev whole_of : Temp → Sets → Extent
+whole_of a s = record {
+  start = greatest_start a s;
+  reg = least (set_at s a.reg.0);
+  end = cond (sure a.on s) (least_end a s) 0;
+  sure = sure a.on s;
+  one = nat_eq (length (set_at s a.reg.0)) 1;
+}
+
 module _ (a b : Temp) (s : Sets) where
+  abbrev ended : Bool → Temp → Extent
+  ended p c = record {
+    start = greatest_start c s;
+    reg = least (set_at s c.reg.0);
+    end = cond p (least_end c s) 0;
+    sure = p;
+    one = nat_eq (length (set_at s c.reg.0)) 1;
+  }
+
+  abbrev noted_of : Bool → Temp → Extent
+  noted_of p c = cond p (sure_extent c s) unsure_extent
+
+  none_first : (x y : Extent) → x.end ≡ 0 → may_clash x y ≡ false
+  none_first x y e = ap (λ (n : ℕ). (nat_lt y.start n && nat_lt x.start y.end) && cond (x.one && y.one) (nat_eq x.reg y.reg)
+      (x.one || y.one)) e
+      ∙ ap (λ (c : Bool). (c && nat_lt x.start y.end) && cond (x.one && y.one) (nat_eq x.reg y.reg) (x.one || y.one)) (none_below y.start)
+
+  none_second : (x y : Extent) → y.end ≡ 0 → may_clash x y ≡ false
+  none_second x y e = ap (λ (c : Bool). c && cond (x.one && y.one) (nat_eq x.reg y.reg) (x.one || y.one))
+      (second (nat_lt y.start x.end) (nat_lt x.start y.end) (ap (nat_lt x.start) e ∙ none_below x.start))
+
+  clash_alike : (p q : Bool) → may_clash (noted_of p a) (noted_of q b) ≡ may_clash (ended p a) (ended q b)
+  clash_alike true true = refl
+  clash_alike true false = none_second (noted_of true a) (noted_of false b) refl ∙ sym (none_second (ended true a) (ended false b) refl)
+  clash_alike false q = none_first (noted_of false a) (noted_of q b) refl ∙ sym (none_first (ended false a) (ended q b) refl)
+
+  order_alike : (p q : Bool) → may_order (noted_of p a) (noted_of q b) ≡ may_order (ended p a) (ended q b)
+  order_alike true true = refl
+  order_alike true false = refl
+  order_alike false q = refl
+
+  clash_whole : may_clash (extent_of a s) (extent_of b s) ≡ false → may_clash (whole_of a s) (whole_of b s) ≡ false
+  clash_whole e = sym (clash_alike (sure a.on s) (sure b.on s)) ∙ e
+
+  order_whole : may_order (extent_of a s) (extent_of b s) ≡ false → may_order (whole_of a s) (whole_of b s) ≡ false
+  order_whole e = sym (order_alike (sure a.on s) (sure b.on s)) ∙ e
+
   -- no value of the second goes
-  keeps_each : may_clash (extent_of a s) (extent_of b s) ≡ false → (y : ℕ) → has (set_at s b.reg.0) y ≡ true → clash_test a b s y ≡ true
+  keeps_each : may_clash (whole_of a s) (whole_of b s) ≡ false → (y : ℕ) → has (set_at s b.reg.0) y ≡ true → clash_test a b s y ≡ true
   keeps_each e y there =
       let over = both_sure (sure a.on s) (sure b.on s) (greatest_start b s) (greatest_start a s) (least_end a s) (least_end b s) in
       stays (nat_eq (length (set_at s a.reg.0)) 1) (nat_eq (length (set_at s b.reg.0)) 1) (least (set_at s a.reg.0))
@@ -88,9 +139,10 @@ module _ (a b : Temp) (s : Sets) where
 module _ (a b : Temp) (s : Sets) (vs : List VarId) (ha : TempVars vs a) (hb : TempVars vs b) (k : HasVars vs s) (full : NoneEmpty s) where
   -- two that cannot clash do not
   pub no_clash : may_clash (extent_of a s) (extent_of b s) ≡ false → clash_pair a b s ≡ Some s
-  no_clash e =
-      let back : may_clash (extent_of b s) (extent_of a s) ≡ false = turned (nat_lt (greatest_start b s) (extent_of a s).end)
-      (nat_lt (greatest_start a s) (extent_of b s).end) (nat_eq (length (set_at s a.reg.0)) 1) (nat_eq (length (set_at s b.reg.0)) 1)
+  no_clash noted =
+      let e = clash_whole a b s noted in
+      let back : may_clash (whole_of b s) (whole_of a s) ≡ false = turned (nat_lt (greatest_start b s) (whole_of a s).end)
+      (nat_lt (greatest_start a s) (whole_of b s).end) (nat_eq (length (set_at s a.reg.0)) 1) (nat_eq (length (set_at s b.reg.0)) 1)
       (least (set_at s a.reg.0)) (least (set_at s b.reg.0)) e in
       ap (option_and_then (clash_cut b a)) (cut_all (clash_test a b s) b.reg.0 s (has_among vs b.reg s hb.of_reg k) full
       (keeps_each a b s e))
@@ -116,7 +168,7 @@ swapped true true true false m n e = refl
 swapped true true true true m n e = same_both n m ∙ e
 
 module _ (a b : Temp) (s : Sets) where
-  order_stays : may_order (extent_of a s) (extent_of b s) ≡ false → order_cut a b s ≡ Some s
+  order_stays : may_order (whole_of a s) (whole_of b s) ≡ false → order_cut a b s ≡ Some s
   order_stays e = ap (λ (c : Bool). cond c (order_steps a b s) (Some s))
       (not_first (sure a.on s) (sure b.on s) (nat_eq (length (set_at s a.reg.0)) 1) (nat_eq (length (set_at s b.reg.0)) 1)
       (least (set_at s a.reg.0)) (least (set_at s b.reg.0)) (nat_lt (greatest_start a s) (least_end b s)) e)
@@ -124,7 +176,7 @@ module _ (a b : Temp) (s : Sets) where
 module _ (a b : Temp) (s : Sets) where
   -- two of which neither can come first are not ordered
   pub no_order : may_order (extent_of a s) (extent_of b s) ≡ false → order_pair a b s ≡ Some s
-  no_order e = ap (option_and_then (order_cut b a)) (order_stays a b s e)
+  no_order noted = let e = order_whole a b s noted in ap (option_and_then (order_cut b a)) (order_stays a b s e)
       ∙ order_stays b a s (swapped (sure a.on s) (sure b.on s) (nat_eq (length (set_at s a.reg.0)) 1)
       (nat_eq (length (set_at s b.reg.0)) 1) (least (set_at s a.reg.0)) (least (set_at s b.reg.0)) e)
 
@@ -157,10 +209,6 @@ module _ (A : Type 0) (of : Temp → Sets → A) (temps : List Temp) (a b : Temp
       subst (λ (x : A). may x (of b s) ≡ false) first
       (subst (λ (y : A). may (get_or xs i (of a s)) y ≡ false) second' (spared.none (of a s) (of b s)))
 
-negated : (c : Bool) → not c ≡ false → c ≡ true
-negated true e = refl
-negated false e = absurd (cc e)
-
 module _ (vs us : List VarId) (temps : List Temp) (a b : Temp) where
   of_place : (i : ℕ) → a ≡ get_or temps i a → i < length temps → All (TempVars vs) temps → TempVars vs a
   of_place i is lt all = subst (λ (t : Temp). TempVars vs t) (sym is) (all i a lt)
@@ -185,12 +233,23 @@ module _ (vs us : List VarId) (temps : List Temp) (a b : Temp) where
       subst (λ (s : Sets). order_pair a b s ≡ Some s) (sym (same_sets vs f old mid did h full spared.same))
       (no_order a b old.sets (noted Extent extent_of temps a b xs i j is_a is_b lt_a lt_b old.sets are did may_order spared))
 
-  pub check_spared : (xs : List Left) (i j : ℕ) → us ≡ vs → a ≡ get_or temps i a → b ≡ get_or temps j b → i < length temps
+  both_of : (xs : List Left) (i j : ℕ) (s : Sets) → a ≡ get_or temps i a → b ≡ get_or temps j b → i < length temps → j < length temps
+      → AreLeft temps s xs → (did : Pruned) (o : Opened) → IsNoted xs did i j o → left_both (left_of a s) (left_of b s) ≡ o
+  both_of xs i j s is_a is_b lt_a lt_b are did o noted =
+      let first : get_or xs i (left_of a s) ≡ left_of a s = are i a (left_of a s) lt_a noted.first
+      ∙ ap (λ (t : Temp). left_of t s) (sym is_a) in
+      let other : get_or xs j (left_of b s) ≡ left_of b s = are j b (left_of b s) lt_b noted.second
+      ∙ ap (λ (t : Temp). left_of t s) (sym is_b) in
+      subst (λ (x : Left). left_both x (left_of b s) ≡ o) first
+      (subst (λ (y : Left). left_both (get_or xs i (left_of a s)) y ≡ o) other (noted.is (left_of a s) (left_of b s)))
+
+  pub check_noted : (xs : List Left) (i j : ℕ) → us ≡ vs → a ≡ get_or temps i a → b ≡ get_or temps j b → i < length temps
       → j < length temps → All (TempVars vs) temps → (old mid : Contents) → HasVars vs old.sets → NoneEmpty old.sets
       → AreLeft temps old.sets xs → (f : Sets → Option Sets) (did : Pruned) → Stepped vs f old mid Same did → Ascend vs
-      → AreSpared may_check xs did i j → check_pair us a b mid.sets ≡ Some mid.sets
-  check_spared xs i j e is_a is_b lt_a lt_b all old mid k full are f did h ascend spared =
-      subst (λ (ws : List VarId). check_pair ws a b mid.sets ≡ Some mid.sets) (sym e)
-      (subst (λ (s : Sets). check_pair vs a b s ≡ Some s) (sym (same_sets vs f old mid did h full spared.same))
-      (check_none vs a b ascend (of_place i is_a lt_a all) (other_place j is_b lt_b all) old.sets k full
-      (negated _ (noted Left left_of temps a b xs i j is_a is_b lt_a lt_b old.sets are did may_check spared))))
+      → (o : Opened) → IsNoted xs did i j o → IsUndecided us a b mid.sets (var_of a.reg o)
+  check_noted xs i j e is_a is_b lt_a lt_b all old mid k full are f did h ascend o noted =
+      subst (λ (ws : List VarId). IsUndecided ws a b mid.sets (var_of a.reg o)) (sym e)
+      (subst (λ (s : Sets). IsUndecided vs a b s (var_of a.reg o)) (sym (same_sets vs f old mid did h full noted.same))
+      (subst (λ (p : Opened). IsUndecided vs a b old.sets (var_of a.reg p))
+      (both_of xs i j old.sets is_a is_b lt_a lt_b are did o noted)
+      (check_both vs a b ascend (of_place i is_a lt_a all) (other_place j is_b lt_b all) old.sets k full)))

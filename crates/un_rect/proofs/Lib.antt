@@ -4,6 +4,7 @@ pub mod ClashLaws
 pub mod ExtentLaws
 pub mod Going
 pub mod Loops
+pub mod OperandSteps
 pub mod OrderSteps
 pub mod PlainCalls
 pub mod Refusals

@@ -16,7 +16,7 @@ use Rattle.un_prop.specs.declared.act.At.TheVariants.{Var}
 use Rattle.un_prop.specs.declared.act.UserOf.{UserOf}
 use Rattle.un_prop.specs.declared.act.Temp.{Temp}
 use Rattle.un_rect.specs.Spans.{greatest_start, least_end, is_only, choice_vars, TempVars}
-use Rattle.un_rect.specs.Orders.{share_one, reader_test, order_steps, order_cut, order_pair}
+use Rattle.un_rect.specs.Orders.{share_one, comes_first, reader_test, order_steps, order_cut, order_pair}
 use Rattle.un_rect.specs.Pairs.{at_place, each_before}
 use Rattle.un_rect.specs.PairLaws.{each_same, at_same}
 
@@ -80,8 +80,34 @@ module _ (a b : Temp) (s : Sets) (other : share_one a b s ≡ false) where
       ∙ ap (λ (c : Bool). cond (c && (sure b.on s && (sure a.on s && nat_lt (greatest_start b s) (least_end a s)))) (order_steps b a s)
       (Some s)) back
 
+-- the second is not sure
+module _ (a b : Temp) (s : Sets) (unsure : sure b.on s ≡ false) where
+  not_first : (c d : Bool) → (c && (d && false)) ≡ false
+  not_first true true = refl
+  not_first true false = refl
+  not_first false d = refl
+
+  not_second : (c : Bool) → (c && false) ≡ false
+  not_second true = refl
+  not_second false = refl
+
+  pub order_unsure : order_pair a b s ≡ Some s
+  order_unsure =
+      let before : comes_first a b s ≡ false = ap (λ (c : Bool). share_one a b s
+      && (sure a.on s && (c && nat_lt (greatest_start a s) (least_end b s)))) unsure ∙ not_first (share_one a b s) (sure a.on s) in
+      let after : comes_first b a s ≡ false = ap (λ (c : Bool). share_one b a s
+      && (c && (sure a.on s && nat_lt (greatest_start b s) (least_end a s)))) unsure ∙ not_second (share_one b a s) in
+      ap (λ (c : Bool). option_and_then (order_cut b a) (cond c (order_steps a b s) (Some s))) before
+      ∙ ap (λ (c : Bool). cond c (order_steps b a s) (Some s)) after
+
+-- so there is nothing to do in such rows
 pub row_idle : (vs : List VarId) (temps : List Temp) (b : Temp) (s : Sets) → AllByRecursion (TempVars vs) temps → TempVars vs b
     → HasVars vs s → NoneEmpty s
     → nat_eq (length (set_at s b.reg.0)) 1 ≡ false → (n : ℕ) → each_before order_pair temps b n s ≡ Some s
 row_idle vs temps b s all hb k full e n = each_same (at_place (λ a. order_pair a b) temps) n s
     (at_same (TempVars vs) (λ a. order_pair a b) temps s all (λ a ha. order_idle a b s e))
+
+pub row_unsure : (vs : List VarId) (temps : List Temp) (b : Temp) (s : Sets) → AllByRecursion (TempVars vs) temps
+    → sure b.on s ≡ false → (n : ℕ) → each_before order_pair temps b n s ≡ Some s
+row_unsure vs temps b s all e n = each_same (at_place (λ a. order_pair a b) temps) n s
+    (at_same (TempVars vs) (λ a. order_pair a b) temps s all (λ a ha. order_unsure a b s e))

@@ -1,5 +1,8 @@
 -- What a store says of each temporary, noted once for many looks.
-use Rattle.std.specs.Prelude.{ℕ, ◌≡◌, ◌<◌, Bool, false, cond, not, ◌&&◌, ◌||◌, List, length, nat_eq, nat_lt, slice_index_or}
+use Rattle.std.specs.Prelude.{ℕ, ◌≡◌, ◌<◌, Bool, true, false, cond, not, ◌&&◌, ◌||◌, List}
+use Rattle.std.specs.Prelude.{length, nat_eq, nat_lt, slice_index_or, None, Some}
+use Rattle.std.specs.declared.option.Option.{Option}
+use Rattle.un_base.specs.declared.ids.VarId.{VarId}
 use Rattle.un_domains.specs.Sets.{Sets, set_at, least}
 use Rattle.un_prop.specs.Looks.{sure}
 use Rattle.un_prop.specs.declared.act.Temp.{Temp}
@@ -8,7 +11,8 @@ use Rattle.un_prop.specs.declared.propagator.Pruned.TheVariants.{Same}
 use Rattle.un_rect.specs.Apart.{temp_vars}
 use Rattle.un_rect.specs.Checks.{is_off}
 use Rattle.un_rect.specs.Opened.{opened_after, is_more}
-use Rattle.un_rect.specs.declared.opened.Opened.TheVariants.{Nothing}
+use Rattle.un_rect.specs.declared.opened.Opened.{Opened}
+use Rattle.un_rect.specs.declared.opened.Opened.TheVariants.{Nothing, One, More}
 use Rattle.un_rect.specs.Spans.{greatest_start, least_end}
 use Rattle.un_rect.specs.declared.extents.Extent.{Extent}
 use Rattle.un_rect.specs.declared.left.Left.{Left}
@@ -17,22 +21,32 @@ use Rattle.un_rect.specs.declared.left.Left.{Left}
 abbrev pub is_idle : Temp → Sets → Bool
 is_idle a s = is_off a.on s || is_more (opened_after s (temp_vars a) Nothing)
 
--- the greatest start, the least end or 0 where it is not sure, and the register
-abbrev pub extent_of : Temp → Sets → Extent
-extent_of a s = record {
+-- the greatest start, the least end and the register of one that is sure
+abbrev pub sure_extent : Temp → Sets → Extent
+sure_extent a s = record {
   start = greatest_start a s;
   reg = least (set_at s a.reg.0);
-  end = cond (sure a.on s) (least_end a s) 0;
-  sure = sure a.on s;
+  end = least_end a s;
+  sure = true;
   one = nat_eq (length (set_at s a.reg.0)) 1;
 }
 
--- what is left to decide: nothing to check with any other, and the register
+abbrev pub unsure_extent : Extent
+unsure_extent = record { start = 0; reg = 0; end = 0; sure = false; one = false }
+
+abbrev pub extent_of : Temp → Sets → Extent
+extent_of a s = cond (sure a.on s) (sure_extent a s) unsure_extent
+
+-- which variables are open, more than one where it is off
+abbrev pub left_opened : Temp → Sets → Opened
+left_opened a s = cond (is_off a.on s) More (opened_after s (temp_vars a) Nothing)
+
+-- what is left to decide: what is open, and the register
 abbrev pub left_of : Temp → Sets → Left
 left_of a s = record {
+  opened = left_opened a s;
   reg = least (set_at s a.reg.0);
   one = nat_eq (length (set_at s a.reg.0)) 1;
-  idle = is_idle a s;
 }
 
 -- what is noted of the temporaries
@@ -54,9 +68,30 @@ may_clash x y = (nat_lt y.start x.end && nat_lt x.start y.end) && cond (x.one &&
 abbrev pub may_order : Extent → Extent → Bool
 may_order x y = x.sure && (y.sure && (x.one && (y.one && nat_eq x.reg y.reg)))
 
--- neither is idle, and their registers may be one
-abbrev pub may_check : Left → Left → Bool
-may_check x y = not (x.idle || (y.idle || (x.one && (y.one && not (nat_eq x.reg y.reg)))))
+-- what is open of two
+abbrev pub opened_both : Opened → Opened → Opened
+opened_both Nothing p = p
+opened_both (One u) Nothing = One u
+opened_both (One u) (One v) = cond (nat_eq u.0 v.0) (One u) More
+opened_both (One u) More = More
+opened_both More p = More
+
+-- what is open of two of which this is left, more than one where they have other registers
+abbrev pub left_both : Left → Left → Opened
+left_both x y = cond (x.one && (y.one && not (nat_eq x.reg y.reg))) More (opened_both x.opened y.opened)
+
+-- the variable to decide, or none where there is nothing to check
+abbrev pub var_of : VarId → Opened → Option VarId
+var_of r Nothing = Some r
+var_of r (One v) = Some v
+var_of r More = None
+
+-- nothing changed since, and by what was noted this is open of the temporaries at two places
+pub record IsNoted (left : List Left) (did : Pruned) (i j : ℕ) (o : Opened) : Type 0 where
+  pub same : did ≡ Same
+  pub first : i < length left
+  pub second : j < length left
+  pub is : (x y : Left) → left_both (slice_index_or left i x) (slice_index_or left j y) ≡ o
 
 -- nothing changed since, and by what was noted the temporaries at two places may not do something
 pub record AreSpared {A : Type 0} (may : A → A → Bool) (xs : List A) (did : Pruned) (i j : ℕ) : Type 0 where

@@ -152,6 +152,17 @@ says_of s vs = says_same (λ u. among vs u || false) (among vs) s (opened_after 
     or_false true = refl
     or_false false = refl
 
+-- one that is open stays the one, where no other is
+pub after_same : (s : Sets) (u : VarId) (vs : List VarId) → ((w : VarId) → among vs w ≡ true → is_open s w ≡ true → w.0 ≡ u.0)
+    → opened_after s vs (One u) ≡ One u
+after_same s u [] h = refl
+after_same s u (v ∷ vs) h = ap (opened_after s vs) (at (is_open s v) refl) ∙ after_same s u vs (λ w t wide. h w (among_later v w vs t) wide)
+  where
+    at : (b : Bool) → is_open s v ≡ b → cond b (opened_with (One u) v) (One u) ≡ One u
+    at true e = (let is : v.0 ≡ u.0 = h v (among_here v vs) e in let same : nat_eq u.0 v.0 ≡ true = grind (arith, nat_tests, is) in
+        ap (λ (b : Bool). cond b (One u) More) same)
+    at false e = refl
+
 -- The last variable of those that a list has of others
 
 passes : (q : VarId → Bool) (vs : List VarId) (u : VarId) → among (filter q vs) u ≡ true → q u ≡ true

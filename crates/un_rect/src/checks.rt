@@ -1,19 +1,21 @@
 //! Checks of two temporaries of which one variable is left to decide: it keeps the values that meet their part.
 
-ghost use Rattle.std.specs.Prelude.{◌≡◌, ◌≢◌, ◌≤◌, ◌<◌, ℕ, All, Some, length, true, slice_index, slice_index_or};
-ghost use Rattle.un_domains.specs.Sets.{NoneEmpty};
+ghost use Rattle.std.specs.Prelude.{◌≡◌, ◌≢◌, ◌≤◌, ◌<◌, ℕ, All, Some, length, true, slice_index, slice_index_or, slice_set};
+ghost use Rattle.un_domains.specs.Sets.{set_at, least, NoneEmpty};
 ghost use Rattle.un_prop.specs.Among.{among};
 ghost use Rattle.un_prop.specs.Acts.{act_vars};
 ghost use Rattle.un_prop.specs.Going.{Stepped};
+ghost use Rattle.un_prop.specs.Last.{point};
 ghost use Rattle.un_prop.specs.LastLaws.{Ascend};
 ghost use Rattle.un_prop.specs.Rounds.{HasVars};
 ghost use Rattle.un_prop.specs.declared.propagator.Pruned.TheVariants.{Same, Failed};
 ghost use Rattle.un_rect.specs.Spans.{TempVars};
 ghost use Rattle.un_rect.specs.Apart.{shares, pair_holds, check_pair, check_row, checks_cut};
 ghost use Rattle.un_rect.specs.Checks.{is_off, differ, surely_apart, Written, decide_cut, try_cut, IsUndecided};
-ghost use Rattle.un_rect.specs.Extents.{is_idle, AreLeft};
+ghost use Rattle.un_rect.specs.Extents.{is_idle, var_of, AreLeft};
+ghost use Rattle.un_rect.specs.declared.opened.Opened.{Opened};
 
-use crate::left::{Left, cannot_check, is_done, left_again, note_left};
+use crate::left::{Left, is_done, left_again, note_left, noted_both};
 use crate::opened::{Opened, is_more, with_temp};
 use crate::spans::end;
 use un_base::ids::VarId;
@@ -50,7 +52,7 @@ pub(crate) fn are_apart(fixed: &[u32], a: &Temp, b: &Temp) -> bool
 }
 
 /// Whether an activity is surely off.
-fn is_off(w: &Window<'_>, on: Act) -> bool
+pub(crate) fn is_off(w: &Window<'_>, on: Act) -> bool
     requires known { HasVars (act_vars on) w.now.store.now.sets }
     requires live { NoneEmpty w.now.store.now.sets }
     ensures { result ≡ is_off on w.now.store.now.sets }
@@ -114,6 +116,34 @@ fn undecided(w: &Window<'_>, a: &Temp, b: &Temp) -> Option<VarId>
     }
 }
 
+/// The variable to decide where this is open of two temporaries; the register of the first where nothing is.
+fn var_of(reg: VarId, opened: Opened) -> Option<VarId>
+    ensures { result ≡ var_of reg opened }
+{
+    match opened {
+        Opened::Nothing => Some(reg),
+        Opened::One(v) => Some(v),
+        Opened::More => None,
+    }
+}
+
+/// The variable of two temporaries that is left to decide, by what was noted of them where that still stands.
+fn to_decide(w: &Window<'_>, a: &Temp, b: &Temp, noted: Option<Opened>) -> Option<VarId>
+    requires ascend { Ascend w.now.vars.now }
+    requires of_a { TempVars w.now.vars.now a.now }
+    requires of_b { TempVars w.now.vars.now b.now }
+    requires known { HasVars w.now.vars.now w.now.store.now.sets }
+    requires live { NoneEmpty w.now.store.now.sets }
+    requires noted { (o : Opened) → noted ≡ Some o
+        → IsUndecided w.now.vars.now a.now b.now w.now.store.now.sets (var_of a.now.reg o) }
+    ensures { IsUndecided w.now.vars.now a.now b.now w.now.store.now.sets result }
+{
+    match noted {
+        None => undecided(w, a, b),
+        Some(opened) => var_of(a.reg, opened),
+    }
+}
+
 /// Takes the value `y` from `v`, where two temporaries are not apart for it and what is written of the others.
 fn try_value(
     w: &mut Window<'_>,
@@ -166,6 +196,60 @@ fn try_all(w: &mut Window<'_>, a: &Temp, b: &Temp, v: VarId, fixed: &mut [u32]) 
     did
 }
 
+/// Tries the value of `v` that another variable has, where two temporaries are apart for each other one.
+fn try_other(
+    w: &mut Window<'_>,
+    a: &Temp,
+    b: &Temp,
+    v: VarId,
+    other: VarId,
+    fixed: &mut [u32],
+) -> Pruned
+    requires of_a { TempVars w.old.vars.now a.now }
+    requires of_b { TempVars w.old.vars.now b.now }
+    requires lent { among w.old.vars.now v ≡ true }
+    requires known { HasVars w.old.vars.now w.old.store.now.sets }
+    requires live { NoneEmpty w.old.store.now.sets }
+    requires room { length w.old.store.now.sets ≤ length fixed.old }
+    requires written { Written w.old.vars.now w.old.store.now.sets fixed.old }
+    requires there { among w.old.vars.now other ≡ true }
+    requires apart { (y : ℕ) → y ≢ least (set_at w.old.store.now.sets other.0)
+        → pair_holds a.now b.now (slice_set (point w.old.store.now.sets) v.0 y) ≡ true }
+    ensures step { Stepped w.old.vars.now (decide_cut a.now b.now v w.old.store.now.sets) w.old.store.now w.new.store.now Same result }
+    ensures others { (u : ℕ) → u ≢ v.0 → slice_index fixed.new u ≡ slice_index fixed.old u }
+    ensures same_reference { w.new.store.ghost_name ≡ w.old.store.ghost_name }
+    ensures vars { w.new.vars ≡ w.old.vars }
+{
+    let y = value(fixed, other);
+    try_value(w, Pruned::Same, a, b, v, y, fixed)
+}
+
+/// Tries the values of `v` for which two temporaries may not be apart: of the register of one the register of the other.
+fn try_some(w: &mut Window<'_>, a: &Temp, b: &Temp, v: VarId, fixed: &mut [u32]) -> Pruned
+    requires of_a { TempVars w.old.vars.now a.now }
+    requires of_b { TempVars w.old.vars.now b.now }
+    requires lent { among w.old.vars.now v ≡ true }
+    requires known { HasVars w.old.vars.now w.old.store.now.sets }
+    requires live { NoneEmpty w.old.store.now.sets }
+    requires room { length w.old.store.now.sets ≤ length fixed.old }
+    requires written { Written w.old.vars.now w.old.store.now.sets fixed.old }
+    ensures step { Stepped w.old.vars.now (decide_cut a.now b.now v w.old.store.now.sets) w.old.store.now w.new.store.now Same result }
+    ensures others { (u : ℕ) → u ≢ v.0 → slice_index fixed.new u ≡ slice_index fixed.old u }
+    ensures same_reference { w.new.store.ghost_name ≡ w.old.store.ghost_name }
+    ensures vars { w.new.vars ≡ w.old.vars }
+{
+    if a.reg.0 == b.reg.0 {
+        return try_all(w, a, b, v, fixed);
+    }
+    if v.0 == a.reg.0 {
+        return try_other(w, a, b, v, b.reg, fixed);
+    }
+    if v.0 == b.reg.0 {
+        return try_other(w, a, b, v, a.reg, fixed);
+    }
+    try_all(w, a, b, v, fixed)
+}
+
 /// Decides `v`, and writes its least value that is left.
 fn decide(
     w: &mut Window<'_>,
@@ -188,7 +272,7 @@ fn decide(
     ensures same_reference { w.new.store.ghost_name ≡ w.old.store.ghost_name }
     ensures vars { w.new.vars ≡ w.old.vars }
 {
-    let did = try_all(w, a, b, v, fixed);
+    let did = try_some(w, a, b, v, fixed);
     if did == Pruned::Failed {
         return Pruned::Failed;
     }
@@ -197,12 +281,21 @@ fn decide(
 }
 
 /// Where one variable of two temporaries is left to decide, it keeps the values that meet their part.
-fn check(w: &mut Window<'_>, before: Pruned, a: &Temp, b: &Temp, fixed: &mut [u32]) -> Pruned
+fn check(
+    w: &mut Window<'_>,
+    before: Pruned,
+    a: &Temp,
+    b: &Temp,
+    noted: Option<Opened>,
+    fixed: &mut [u32],
+) -> Pruned
     requires ascend { Ascend w.old.vars.now }
     requires of_a { TempVars w.old.vars.now a.now }
     requires of_b { TempVars w.old.vars.now b.now }
     requires known { HasVars w.old.vars.now w.old.store.now.sets }
     requires live { before ≢ Failed → NoneEmpty w.old.store.now.sets }
+    requires noted { before ≢ Failed → (o : Opened) → noted ≡ Some o
+        → IsUndecided w.old.vars.now a.now b.now w.old.store.now.sets (var_of a.now.reg o) }
     requires room { length w.old.store.now.sets ≤ length fixed.old }
     requires written { before ≢ Failed → Written w.old.vars.now w.old.store.now.sets fixed.old }
     ensures step { Stepped w.old.vars.now (check_pair w.old.vars.now a.now b.now) w.old.store.now w.new.store.now before result }
@@ -213,7 +306,7 @@ fn check(w: &mut Window<'_>, before: Pruned, a: &Temp, b: &Temp, fixed: &mut [u3
     if before == Pruned::Failed {
         return before;
     }
-    match undecided(w, a, b) {
+    match to_decide(w, a, b, noted) {
         None => before,
         Some(v) => decide(w, before, a, b, v, fixed),
     }
@@ -230,34 +323,6 @@ pub(crate) fn is_idle(w: &Window<'_>, b: &Temp) -> bool
         return true;
     }
     is_more(with_temp(w, Opened::Nothing, b))
-}
-
-/// The same, unless what was noted of them says that there is nothing to check.
-fn check_noted(
-    w: &mut Window<'_>,
-    before: Pruned,
-    a: &Temp,
-    b: &Temp,
-    passed: bool,
-    fixed: &mut [u32],
-) -> Pruned
-    requires ascend { Ascend w.old.vars.now }
-    requires of_a { TempVars w.old.vars.now a.now }
-    requires of_b { TempVars w.old.vars.now b.now }
-    requires known { HasVars w.old.vars.now w.old.store.now.sets }
-    requires live { before ≢ Failed → NoneEmpty w.old.store.now.sets }
-    requires room { length w.old.store.now.sets ≤ length fixed.old }
-    requires written { before ≢ Failed → Written w.old.vars.now w.old.store.now.sets fixed.old }
-    requires passed { passed ≡ true → check_pair w.old.vars.now a.now b.now w.old.store.now.sets ≡ Some w.old.store.now.sets }
-    ensures step { Stepped w.old.vars.now (check_pair w.old.vars.now a.now b.now) w.old.store.now w.new.store.now before result }
-    ensures written { result ≢ Failed → Written w.old.vars.now w.new.store.now.sets fixed.new }
-    ensures same_reference { w.new.store.ghost_name ≡ w.old.store.ghost_name }
-    ensures vars { w.new.vars ≡ w.old.vars }
-{
-    if passed {
-        return before;
-    }
-    check(w, before, a, b, fixed)
 }
 
 /// Of the temporary at place `j` with each one before it.
@@ -288,8 +353,8 @@ fn check_row(
     let b = &temps[j];
     let mut did = Pruned::Same;
     for i in 0..j {
-        let passed = cannot_check(left, did, i, j);
-        did = check_noted(w, did, &temps[i], b, passed, fixed);
+        let noted = noted_both(left, did, i, j);
+        did = check(w, did, &temps[i], b, noted, fixed);
     }
     did
 }

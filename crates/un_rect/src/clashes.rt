@@ -12,10 +12,10 @@ ghost use Rattle.un_rect.specs.Extents.{AreExtents};
 ghost use Rattle.un_rect.specs.Pairs.{each_before};
 
 use crate::extents::{Extent, cannot_clash, note_again};
-use crate::spans::is_sure_user;
+use crate::spans::{is_on, is_sure_user};
 use un_domains::window::Window;
 use un_prop::act::{Temp, UserOf};
-use un_prop::look::{greatest_time, is_sure, least_time};
+use un_prop::look::{greatest_time, least_time};
 use un_prop::propagator::Pruned;
 use un_prop::step::{drop_value, joined};
 
@@ -57,10 +57,10 @@ fn overlaps(w: &Window<'_>, a: &Temp, b: &Temp) -> bool
     requires live { NoneEmpty w.now.store.now.sets }
     ensures { result ≡ sure_overlap a.now b.now w.now.store.now.sets }
 {
-    if !is_sure(w, a.on) {
+    if !is_on(w, a.on) {
         return false;
     }
-    if !is_sure(w, b.on) {
+    if !is_on(w, b.on) {
         return false;
     }
     if !ends_after(w, a, greatest_time(w, b.at)) {
@@ -151,7 +151,7 @@ fn keep_row(w: &mut Window<'_>, temps: &[Temp], extents: &[Extent], j: usize) ->
     ensures vars { w.new.vars ≡ w.old.vars }
 {
     let b = &temps[j];
-    if !is_sure(w, b.on) {
+    if !is_on(w, b.on) {
         return Pruned::Same;
     }
     let mut did = Pruned::Same;

@@ -1,24 +1,22 @@
 //! What a store says of each temporary, noted once for many looks: its greatest start, its least end and its register.
 
-ghost use Rattle.std.specs.Prelude.{◌≡◌, ◌≢◌, All, cond, true};
+ghost use Rattle.std.specs.Prelude.{◌≡◌, ◌≢◌, All, true};
 ghost use Rattle.un_domains.specs.Sets.{NoneEmpty};
-ghost use Rattle.un_prop.specs.Looks.{sure};
 ghost use Rattle.un_prop.specs.Rounds.{HasVars};
 ghost use Rattle.un_prop.specs.declared.propagator.Pruned.TheVariants.{Same, Failed};
-ghost use Rattle.un_rect.specs.Extents.{extent_of, may_clash, may_order, AreExtents, AreSpared};
-ghost use Rattle.un_rect.specs.Spans.{TempVars, least_end};
+ghost use Rattle.un_rect.specs.Extents.{extent_of, unsure_extent, may_clash, may_order, AreExtents, AreSpared};
+ghost use Rattle.un_rect.specs.Spans.{TempVars};
 
-use crate::spans::least_end;
+use crate::spans::{is_on, least_end};
 use un_domains::window::Window;
 use un_prop::act::Temp;
-use un_prop::look::{greatest_time, is_sure};
+use un_prop::look::greatest_time;
 use un_prop::propagator::Pruned;
 
 /// How many temporaries of a block are noted at most; those after them are looked at without a note.
 pub(crate) const NOTED: usize = 512;
 
-/// The greatest start of a temporary, its least end or 0 where it is not sure, whether it is sure, whether one register is left, and
-/// the least that is.
+/// The greatest start of a temporary that is sure, its least end, whether it is sure, whether one register is left, and the least that is.
 #[derive(Clone, Copy)]
 pub(crate) struct Extent {
     pub start: u32,
@@ -28,8 +26,10 @@ pub(crate) struct Extent {
     pub one: bool,
 }
 
-/// What is written of a temporary before it is noted.
-pub(crate) fn no_extent() -> Extent {
+/// What is written of a temporary that is not sure, and before it is noted.
+pub(crate) fn no_extent() -> Extent
+    ensures { result ≡ unsure_extent }
+{
     Extent {
         start: 0,
         reg: 0,
@@ -39,33 +39,25 @@ pub(crate) fn no_extent() -> Extent {
     }
 }
 
-/// The least end of a temporary that is sure, or 0.
-fn sure_end(w: &Window<'_>, a: &Temp) -> u64
-    requires vars { TempVars w.now.vars.now a.now }
-    requires known { HasVars w.now.vars.now w.now.store.now.sets }
-    requires live { NoneEmpty w.now.store.now.sets }
-    ensures { result ≡ cond (sure a.now.on w.now.store.now.sets) (least_end a.now w.now.store.now.sets) 0 }
-{
-    if is_sure(w, a.on) { least_end(w, a) } else { 0 }
-}
-
-/// What the store says of a temporary.
+/// What the store says of a temporary. One that is not sure neither clashes nor has an order.
 fn extent_of(w: &Window<'_>, a: &Temp) -> Extent
     requires vars { TempVars w.now.vars.now a.now }
     requires known { HasVars w.now.vars.now w.now.store.now.sets }
     requires live { NoneEmpty w.now.store.now.sets }
     ensures { result ≡ extent_of a.now w.now.store.now.sets }
 {
+    if !is_on(w, a.on) {
+        return no_extent();
+    }
     let start = greatest_time(w, a.at);
     let reg = w.min(a.reg);
-    let end = sure_end(w, a);
-    let sure = is_sure(w, a.on);
+    let end = least_end(w, a);
     let one = w.is_single(a.reg);
     Extent {
         start,
         reg,
         end,
-        sure,
+        sure: true,
         one,
     }
 }

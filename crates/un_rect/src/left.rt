@@ -1,33 +1,48 @@
 //! What is left to decide of each temporary, noted once for many checks.
 
-ghost use Rattle.std.specs.Prelude.{◌≡◌, ◌≢◌, ◌<◌, All, length, true, slice_index_or};
+ghost use Rattle.std.specs.Prelude.{◌≡◌, ◌≢◌, ◌<◌, All, Some, length, slice_index_or};
 ghost use Rattle.un_domains.specs.Sets.{NoneEmpty};
 ghost use Rattle.un_prop.specs.Rounds.{HasVars};
 ghost use Rattle.un_prop.specs.declared.act.Temp.{Temp};
 ghost use Rattle.un_prop.specs.declared.propagator.Pruned.TheVariants.{Same, Failed};
-ghost use Rattle.un_rect.specs.Extents.{is_idle, left_of, may_check, AreLeft, AreSpared};
+ghost use Rattle.un_rect.specs.Extents.{is_idle, left_opened, left_of, opened_both, left_both, AreLeft, IsNoted};
 ghost use Rattle.un_rect.specs.Spans.{TempVars};
+ghost use Rattle.un_rect.specs.declared.opened.Opened.{Opened};
 
-use crate::checks::is_idle;
+use crate::checks::{is_idle, is_off};
+use crate::opened::{Opened, is_more, with_temp};
 use un_domains::window::Window;
 use un_prop::act::Temp;
 use un_prop::propagator::Pruned;
 
-/// Whether there is nothing to check of a temporary with any other, whether one register is left, and the least that is.
+/// Which variables of a temporary are open, more than one where it is off; whether one register is left, and the least that is.
 #[derive(Clone, Copy)]
 pub(crate) struct Left {
+    pub opened: Opened,
     pub reg: u32,
     pub one: bool,
-    pub idle: bool,
 }
 
 /// What is written of a temporary before it is noted.
 pub(crate) fn nothing_left() -> Left {
     Left {
+        opened: Opened::Nothing,
         reg: 0,
         one: false,
-        idle: false,
     }
+}
+
+/// Which variables of a temporary are open. There is nothing to check of one that is off, as where more than one are open.
+fn left_opened(w: &Window<'_>, a: &Temp) -> Opened
+    requires vars { TempVars w.now.vars.now a.now }
+    requires known { HasVars w.now.vars.now w.now.store.now.sets }
+    requires live { NoneEmpty w.now.store.now.sets }
+    ensures { result ≡ left_opened a.now w.now.store.now.sets }
+{
+    if is_off(w, a.on) {
+        return Opened::More;
+    }
+    with_temp(w, Opened::Nothing, a)
 }
 
 /// What is left to decide of a temporary.
@@ -37,10 +52,10 @@ fn left_of(w: &Window<'_>, a: &Temp) -> Left
     requires live { NoneEmpty w.now.store.now.sets }
     ensures { result ≡ left_of a.now w.now.store.now.sets }
 {
+    let opened = left_opened(w, a);
     let reg = w.min(a.reg);
     let one = w.is_single(a.reg);
-    let idle = is_idle(w, a);
-    Left { reg, one, idle }
+    Left { opened, reg, one }
 }
 
 /// Notes what is left to decide of each temporary for which there is room.
@@ -78,37 +93,50 @@ pub(crate) fn is_done(w: &Window<'_>, temps: &[Temp], left: &[Left], j: usize) -
     ensures { (b : Temp) → result ≡ is_idle (slice_index_or temps.now j b) w.now.store.now.sets }
 {
     if j < left.len() {
-        left[j].idle
+        is_more(left[j].opened)
     } else {
         is_idle(w, &temps[j])
     }
 }
 
-/// Whether there may be something to check of two temporaries of which this is left: neither is idle, and their registers may be one.
-fn may_check(x: Left, y: Left) -> bool
-    ensures { result ≡ may_check x y }
+/// Which variables of two temporaries are open.
+fn opened_both(x: Opened, y: Opened) -> Opened
+    ensures { result ≡ opened_both x y }
 {
-    if x.idle {
-        return false;
+    match x {
+        Opened::Nothing => y,
+        Opened::One(u) => match y {
+            Opened::Nothing => x,
+            Opened::One(v) => { if u.0 == v.0 { x } else { Opened::More } }
+            Opened::More => y,
+        },
+        Opened::More => x,
     }
-    if y.idle {
-        return false;
-    }
-    !(x.one && y.one && x.reg != y.reg)
 }
 
-/// Whether what was noted of two temporaries, while nothing changed, says that there is nothing to check.
-pub(crate) fn cannot_check(left: &[Left], did: Pruned, i: usize, j: usize) -> bool
-    ensures { result ≡ true → AreSpared may_check left.now did i j }
+/// Which variables are open of two temporaries of which this is left. There is nothing to check of two with other registers, as where
+/// more than one are open.
+fn left_both(x: Left, y: Left) -> Opened
+    ensures { result ≡ left_both x y }
+{
+    if x.one && y.one && x.reg != y.reg {
+        return Opened::More;
+    }
+    opened_both(x.opened, y.opened)
+}
+
+/// The same of the temporaries at two places, where both were noted and nothing changed since.
+pub(crate) fn noted_both(left: &[Left], did: Pruned, i: usize, j: usize) -> Option<Opened>
+    ensures { (o : Opened) → result ≡ Some o → IsNoted left.now did i j o }
 {
     if did != Pruned::Same {
-        return false;
+        return None;
     }
     if i >= left.len() {
-        return false;
+        return None;
     }
     if j >= left.len() {
-        return false;
+        return None;
     }
-    !may_check(left[i], left[j])
+    Some(left_both(left[i], left[j]))
 }

@@ -75,6 +75,21 @@ pub(crate) fn may_avoid(w: &Window<'_>, o: &Operand<'_>, r: u32) -> bool
     false
 }
 
+/// Whether the register of an operand may be two allowed ones, so that it may be another than any.
+pub(crate) fn is_free(w: &Window<'_>, o: &Operand<'_>) -> bool
+    requires vars { SideVars w.now.vars.now (side_of o.now) }
+    requires known { HasVars w.now.vars.now w.now.store.now.sets }
+    requires live { NoneEmpty w.now.store.now.sets }
+    ensures { result ≡ true → (r : ℕ) → may_avoid (side_of o.now) w.now.store.now.sets r ≡ true }
+{
+    for q in o.allowed {
+        if may_have(w, o, *q) {
+            return may_avoid(w, o, *q);
+        }
+    }
+    false
+}
+
 /// Whether the variable `v` may be an allowed register of an operand, and another one that of the operand `other`.
 pub(crate) fn may_be(w: &Window<'_>, o: &Operand<'_>, other: &Operand<'_>, v: VarId) -> bool
     requires there { among w.now.vars.now v ≡ true }

@@ -11,7 +11,7 @@ ghost use Rattle.un_rect.specs.Entries.{each_entry};
 ghost use Rattle.un_rect.specs.Operands.{side, SideVars, other_cut, chosen_cut, fixed_cut, side_steps};
 ghost use Rattle.un_rect.specs.Sides.{side_of};
 
-use crate::operand::{Facing, Operand, is_in, may_avoid};
+use crate::operand::{Facing, Operand, is_free, is_in, may_avoid};
 use crate::values::{ValueTest, keep_passing};
 use un_base::ids::VarId;
 use un_domains::window::Window;
@@ -58,7 +58,7 @@ fn keep_other(w: &mut Window<'_>, before: Pruned, other: &Operand<'_>, v: VarId,
     drop_value(w, before, v, r)
 }
 
-/// Takes the register that the operand `other` needs from `v`.
+/// Takes the register that the operand `other` needs from `v`. It needs none where it may have two.
 fn keep_others(w: &mut Window<'_>, before: Pruned, other: &Operand<'_>, v: VarId) -> Pruned
     requires lent { among w.old.vars.now v ≡ true }
     requires vars { SideVars w.old.vars.now (side_of other.now) }
@@ -69,6 +69,12 @@ fn keep_others(w: &mut Window<'_>, before: Pruned, other: &Operand<'_>, v: VarId
     ensures same_reference { w.new.store.ghost_name ≡ w.old.store.ghost_name }
     ensures vars { w.new.vars ≡ w.old.vars }
 {
+    if before == Pruned::Failed {
+        return before;
+    }
+    if is_free(w, other) {
+        return before;
+    }
     let mut did = before;
     for r in other.allowed {
         did = keep_other(w, did, other, v, *r);

@@ -13,10 +13,10 @@ ghost use Rattle.un_rect.specs.Pairs.{each_before};
 
 use crate::clashes::ends_after;
 use crate::extents::{Extent, cannot_order, note_again};
-use crate::spans::{is_only, is_sure_user, last_sure_use};
+use crate::spans::{is_on, is_only, is_sure_user, last_sure_use};
 use un_domains::window::Window;
 use un_prop::act::{At, Temp, UserOf};
-use un_prop::look::{greatest_time, is_sure, least_time};
+use un_prop::look::{greatest_time, least_time};
 use un_prop::propagator::Pruned;
 use un_prop::step::{drop_value, joined, keep_gt, keep_le};
 
@@ -45,10 +45,10 @@ fn comes_first(w: &Window<'_>, a: &Temp, b: &Temp) -> bool
     if !share_one(w, a, b) {
         return false;
     }
-    if !is_sure(w, a.on) {
+    if !is_on(w, a.on) {
         return false;
     }
-    if !is_sure(w, b.on) {
+    if !is_on(w, b.on) {
         return false;
     }
     ends_after(w, b, greatest_time(w, a.at))
@@ -143,7 +143,7 @@ fn is_late(w: &Window<'_>, b: &Temp, u: &UserOf) -> bool
     requires live { NoneEmpty w.now.store.now.sets }
     ensures { result ≡ sure_late b.now u.now w.now.store.now.sets }
 {
-    if !is_sure(w, u.on) {
+    if !is_on(w, u.on) {
         return false;
     }
     greatest_time(w, b.at) < least_time(w, u.at)
@@ -278,7 +278,7 @@ fn keep_noted(w: &mut Window<'_>, before: Pruned, a: &Temp, b: &Temp, passed: bo
     keep_orders(w, before, a, b)
 }
 
-/// Of the temporary at place `j` with each one before it. There is nothing to do where it has other than one register.
+/// Of the temporary at place `j` with each one before it. There is nothing to do where it has other than one register, or is not sure.
 fn keep_row(w: &mut Window<'_>, temps: &[Temp], extents: &[Extent], j: usize) -> Pruned
     requires there { j < length temps.now }
     requires of_temps { All (TempVars w.old.vars.now) temps.now }
@@ -292,6 +292,9 @@ fn keep_row(w: &mut Window<'_>, temps: &[Temp], extents: &[Extent], j: usize) ->
 {
     let b = &temps[j];
     if !w.is_single(b.reg) {
+        return Pruned::Same;
+    }
+    if !is_on(w, b.on) {
         return Pruned::Same;
     }
     let mut did = Pruned::Same;

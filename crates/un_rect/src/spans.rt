@@ -3,15 +3,16 @@
 ghost use Rattle.std.specs.Prelude.{◌≡◌, ◌+◌, ◌<◌, All, length};
 ghost use Rattle.un_domains.specs.Sets.{set_at, NoneEmpty};
 ghost use Rattle.un_prop.specs.Among.{AllAmong};
-ghost use Rattle.un_prop.specs.Acts.{chooses, is_user};
+ghost use Rattle.un_prop.specs.Acts.{act_vars, chooses, is_user};
+ghost use Rattle.un_prop.specs.Looks.{sure};
 ghost use Rattle.un_prop.specs.Rounds.{HasVars};
 ghost use Rattle.un_rect.specs.Spans.{last_use, ends, is_only, sure_choice, sure_user, last_sure_use, least_end};
 ghost use Rattle.un_rect.specs.Spans.{choice_vars, UserVars, TempVars};
 
 use un_base::ids::VarId;
 use un_domains::window::Window;
-use un_prop::act::{Temp, UserOf, active, time, value};
-use un_prop::look::{is_sure, least_time};
+use un_prop::act::{Act, Temp, UserOf, active, time, value};
+use un_prop::look::least_time;
 
 /// Whether a user reads its temporary.
 pub(crate) fn reads(fixed: &[u32], u: &UserOf) -> bool
@@ -70,6 +71,18 @@ fn is_sure_choice(w: &Window<'_>, choice: Option<VarId>, n: u32) -> bool
     }
 }
 
+/// Whether an activity is surely on: its least number is not 0.
+pub(crate) fn is_on(w: &Window<'_>, on: Act) -> bool
+    requires known { HasVars (act_vars on) w.now.store.now.sets }
+    requires live { NoneEmpty w.now.store.now.sets }
+    ensures { result ≡ sure on w.now.store.now.sets }
+{
+    match on {
+        Act::Always => true,
+        Act::Var(v) => w.min(v) != 0,
+    }
+}
+
 /// Whether a user surely reads its temporary.
 pub(crate) fn is_sure_user(w: &Window<'_>, u: &UserOf) -> bool
     requires vars { UserVars w.now.vars.now u.now }
@@ -77,7 +90,7 @@ pub(crate) fn is_sure_user(w: &Window<'_>, u: &UserOf) -> bool
     requires live { NoneEmpty w.now.store.now.sets }
     ensures { result ≡ sure_user u.now w.now.store.now.sets }
 {
-    if !is_sure(w, u.on) {
+    if !is_on(w, u.on) {
         return false;
     }
     is_sure_choice(w, u.choice, u.value)

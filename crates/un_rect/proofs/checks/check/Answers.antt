@@ -4,20 +4,23 @@ use Rattle.un_rect.specs.Checks.{decide_cut}
 use Rattle.un_rect.proofs.Going.{going}
 use Rattle.un_rect.proofs.checks.check.Goals as goal
 
-pub undecided-requires-clause-ascend : goal.undecided-requires-clause-ascend
-undecided-requires-clause-ascend c = c.requires.ascend
+pub to_decide-requires-clause-ascend : goal.to_decide-requires-clause-ascend
+to_decide-requires-clause-ascend c = c.requires.ascend
 
-pub undecided-requires-clause-of_a : goal.undecided-requires-clause-of_a
-undecided-requires-clause-of_a c = c.requires.of_a
+pub to_decide-requires-clause-of_a : goal.to_decide-requires-clause-of_a
+to_decide-requires-clause-of_a c = c.requires.of_a
 
-pub undecided-requires-clause-of_b : goal.undecided-requires-clause-of_b
-undecided-requires-clause-of_b c = c.requires.of_b
+pub to_decide-requires-clause-of_b : goal.to_decide-requires-clause-of_b
+to_decide-requires-clause-of_b c = c.requires.of_b
 
-pub undecided-requires-clause-known : goal.undecided-requires-clause-known
-undecided-requires-clause-known c = c.requires.known
+pub to_decide-requires-clause-known : goal.to_decide-requires-clause-known
+to_decide-requires-clause-known c = c.requires.known
 
-pub undecided-requires-clause-live : goal.undecided-requires-clause-live
-undecided-requires-clause-live c = c.requires.live (going c.args.before c.if-eq.ensures)
+pub to_decide-requires-clause-live : goal.to_decide-requires-clause-live
+to_decide-requires-clause-live c = c.requires.live (going c.args.before c.if-eq.ensures)
+
+pub to_decide-requires-clause-noted : goal.to_decide-requires-clause-noted
+to_decide-requires-clause-noted c = c.requires.noted (going c.args.before c.if-eq.ensures)
 
 pub returns-in-None-clause-step : goal.returns-in-None-clause-step
 returns-in-None-clause-step c = stepped_same c.args.w.now.vars.now (check_pair c.args.w.now.vars.now c.args.a.now c.args.b.now)

@@ -10,7 +10,7 @@ use Rattle.un_rect.specs.Spans.{TempVars}
 use Rattle.un_rect.specs.Apart.{check_pair}
 use Rattle.un_rect.specs.Pairs.{each_before}
 use Rattle.un_rect.proofs.CheckSteps.{checks_idle}
-use Rattle.un_rect.proofs.ExtentLaws.{check_spared}
+use Rattle.un_rect.proofs.ExtentLaws.{check_noted}
 use Rattle.un_rect.proofs.Rows.{row_next, same_ascend, same_known, same_temp, same_written}
 use Rattle.un_rect.proofs.checks.check_row.Goals as goal
 
@@ -24,46 +24,46 @@ returns-then-is_done-clause-step c = λ d.
     (λ live. checks_idle vs temps b s.sets c.requires.ascend (recursion_from_All (TempVars vs) temps c.requires.of_temps)
     (c.requires.of_temps c.args.j d c.requires.there) c.requires.known live (sym (c.is_done.ensures d) ∙ c.if-is_done.true) c.args.j))
 
-pub check_noted-did-requires-clause-ascend : goal.check_noted-did-requires-clause-ascend
-check_noted-did-requires-clause-ascend c = same_ascend c.args.w.now.vars.now c.loop-i.w.vars.now
+pub check-did-requires-clause-ascend : goal.check-did-requires-clause-ascend
+check-did-requires-clause-ascend c = same_ascend c.args.w.now.vars.now c.loop-i.w.vars.now
     (ap (λ r. r.now) c.loop-i.invariant.vars) c.requires.ascend
 
-pub check_noted-did-requires-clause-of_a : goal.check_noted-did-requires-clause-of_a
-check_noted-did-requires-clause-of_a c =
+pub check-did-requires-clause-of_a : goal.check-did-requires-clause-of_a
+check-did-requires-clause-of_a c =
     let i = c.loop-i.i in
     same_temp c.args.w.now.vars.now c.loop-i.w.vars.now c.index-temps-i.result (ap (λ r. r.now) c.loop-i.invariant.vars)
     (subst (λ (a : Temp). TempVars c.args.w.now.vars.now a) (sym c.index-temps-i.is) (c.requires.of_temps i c.index-temps-i.result
     (omega (arith, c.loop-i-test.true, c.loop-i.auto.i-end, c.requires.there))))
 
-pub check_noted-did-requires-clause-of_b : goal.check_noted-did-requires-clause-of_b
-check_noted-did-requires-clause-of_b c =
+pub check-did-requires-clause-of_b : goal.check-did-requires-clause-of_b
+check-did-requires-clause-of_b c =
     same_temp c.args.w.now.vars.now c.loop-i.w.vars.now c.index-temps-j.result (ap (λ r. r.now) c.loop-i.invariant.vars)
     (subst (λ (a : Temp). TempVars c.args.w.now.vars.now a) (sym c.index-temps-j.is) (c.requires.of_temps c.args.j
     c.index-temps-j.result c.requires.there))
 
-pub check_noted-did-requires-clause-known : goal.check_noted-did-requires-clause-known
-check_noted-did-requires-clause-known c = same_known c.args.w.now.vars.now c.loop-i.w.vars.now c.args.w.now.store.now.sets
+pub check-did-requires-clause-known : goal.check-did-requires-clause-known
+check-did-requires-clause-known c = same_known c.args.w.now.vars.now c.loop-i.w.vars.now c.args.w.now.store.now.sets
     c.loop-i.w.store.now.sets (ap (λ r. r.now) c.loop-i.invariant.vars) c.loop-i.invariant.step.long c.requires.known
 
-pub check_noted-did-requires-clause-live : goal.check_noted-did-requires-clause-live
-check_noted-did-requires-clause-live c = c.loop-i.invariant.step.live (λ still. c.requires.live)
+pub check-did-requires-clause-live : goal.check-did-requires-clause-live
+check-did-requires-clause-live c = c.loop-i.invariant.step.live (λ still. c.requires.live)
 
-pub check_noted-did-requires-clause-room : goal.check_noted-did-requires-clause-room
-check_noted-did-requires-clause-room c = omega (arith, c.loop-i.invariant.step.long, c.requires.room, c.loop-i.auto.fixed)
+pub check-did-requires-clause-room : goal.check-did-requires-clause-room
+check-did-requires-clause-room c = omega (arith, c.loop-i.invariant.step.long, c.requires.room, c.loop-i.auto.fixed)
 
-pub check_noted-did-requires-clause-written : goal.check_noted-did-requires-clause-written
-check_noted-did-requires-clause-written c = same_written c.args.w.now.vars.now c.loop-i.w.vars.now c.loop-i.w.store.now.sets
+pub check-did-requires-clause-written : goal.check-did-requires-clause-written
+check-did-requires-clause-written c = same_written c.args.w.now.vars.now c.loop-i.w.vars.now c.loop-i.w.store.now.sets
     c.loop-i.fixed c.loop-i.did (ap (λ r. r.now) c.loop-i.invariant.vars) c.loop-i.invariant.written
 
-pub check_noted-did-requires-clause-passed : goal.check_noted-did-requires-clause-passed
-check_noted-did-requires-clause-passed c = λ yes.
+pub check-did-requires-clause-noted : goal.check-did-requires-clause-noted
+check-did-requires-clause-noted c = λ other o is.
     (let i = c.loop-i.i in
     let lt : i < length c.args.temps.now = omega (arith, c.loop-i-test.true, c.loop-i.auto.i-end, c.requires.there) in
-    check_spared c.args.w.now.vars.now c.loop-i.w.vars.now c.args.temps.now c.index-temps-i.result c.index-temps-j.result
+    check_noted c.args.w.now.vars.now c.loop-i.w.vars.now c.args.temps.now c.index-temps-i.result c.index-temps-j.result
     c.args.left.now i c.args.j (ap (λ r. r.now) c.loop-i.invariant.vars) c.index-temps-i.is c.index-temps-j.is lt c.requires.there
     c.requires.of_temps c.args.w.now.store.now c.loop-i.w.store.now c.requires.known c.requires.live c.requires.are
     (each_before (check_pair c.args.w.now.vars.now) c.args.temps.now c.index-temps-j.result i) c.loop-i.did c.loop-i.invariant.step
-    c.requires.ascend (c.cannot_check-passed.ensures yes))
+    c.requires.ascend o (c.noted_both-noted.ensures o is))
 
 pub loop-i-init : goal.loop-i-init
 loop-i-init c =
@@ -79,7 +79,7 @@ loop-i-init c =
 pub loop-i-preserved : goal.loop-i-preserved
 loop-i-preserved c =
     let inv = c.loop-i.invariant in
-    let did = c.check_noted-did in
+    let did = c.check-did in
     let e = ap (λ r. r.now) inv.vars in
     let vs = c.args.w.now.vars.now in
     let us = c.loop-i.w.vars.now in

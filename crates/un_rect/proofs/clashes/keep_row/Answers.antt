@@ -14,15 +14,15 @@ use Rattle.un_rect.proofs.ExtentLaws.{at_place_is, clash_spared}
 use Rattle.un_rect.proofs.Rows.{row_next, same_temp}
 use Rattle.un_rect.proofs.clashes.keep_row.Goals as goal
 
-pub is_sure-requires : goal.is_sure-requires
-is_sure-requires c =
+pub is_on-requires-clause-known : goal.is_on-requires-clause-known
+is_on-requires-clause-known c =
     let b = c.index-temps-j.result in
     let of_b = subst (λ (a : Temp). TempVars c.args.w.now.vars.now a) (sym c.index-temps-j.is) (c.requires.of_temps c.args.j b
     c.requires.there) in
     known_of c.args.w.now.vars.now (act_vars b.on) c.args.w.now.store.now.sets of_b.of_on c.requires.known
 
-pub returns-then-not-is_sure-clause-step : goal.returns-then-not-is_sure-clause-step
-returns-then-not-is_sure-clause-step c = λ d.
+pub returns-then-not-is_on-clause-step : goal.returns-then-not-is_on-clause-step
+returns-then-not-is_on-clause-step c = λ d.
     (let vs = c.args.w.now.vars.now in
     let s = c.args.w.now.store.now in
     let temps = c.args.temps.now in
@@ -32,7 +32,7 @@ returns-then-not-is_sure-clause-step c = λ d.
     (sym (at_place_is temps c.args.j b d c.requires.there c.index-temps-j.is))
     (stepped_same vs (each_before clash_pair temps b c.args.j) s Same
     (λ live. row_idle vs temps b s.sets (recursion_from_All (TempVars vs) temps c.requires.of_temps) of_b c.requires.known live
-    (sym c.is_sure.ensures ∙ c.if-not-is_sure.true) c.args.j)))
+    (sym c.is_on.ensures ∙ c.if-not-is_on.true) c.args.j)))
 
 pub keep_noted-did-requires-clause-of_a : goal.keep_noted-did-requires-clause-of_a
 keep_noted-did-requires-clause-of_a c =

@@ -15,8 +15,8 @@ pub min-reg-requires-clause-some : goal.min-reg-requires-clause-some
 min-reg-requires-clause-some c = c.requires.live c.args.a.now.reg.0
     (has_among c.args.w.now.vars.now c.args.a.now.reg c.args.w.now.store.now.sets c.requires.vars.of_reg c.requires.known)
 
-pub is_sure-sure-requires : goal.is_sure-sure-requires
-is_sure-sure-requires c = known_of c.args.w.now.vars.now (act_vars c.args.a.now.on) c.args.w.now.store.now.sets c.requires.vars.of_on
+pub is_on-requires-clause-known : goal.is_on-requires-clause-known
+is_on-requires-clause-known c = known_of c.args.w.now.vars.now (act_vars c.args.a.now.on) c.args.w.now.store.now.sets c.requires.vars.of_on
     c.requires.known
 
 pub is_single-one-requires : goal.is_single-one-requires

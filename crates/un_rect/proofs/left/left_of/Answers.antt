@@ -12,12 +12,3 @@ min-reg-requires-clause-some c = c.requires.live c.args.a.now.reg.0
 pub is_single-one-requires : goal.is_single-one-requires
 is_single-one-requires c = has_among c.args.w.now.vars.now c.args.a.now.reg c.args.w.now.store.now.sets c.requires.vars.of_reg
     c.requires.known
-
-pub is_idle-idle-requires-clause-of_b : goal.is_idle-idle-requires-clause-of_b
-is_idle-idle-requires-clause-of_b c = c.requires.vars
-
-pub is_idle-idle-requires-clause-known : goal.is_idle-idle-requires-clause-known
-is_idle-idle-requires-clause-known c = c.requires.known
-
-pub is_idle-idle-requires-clause-live : goal.is_idle-idle-requires-clause-live
-is_idle-idle-requires-clause-live c = c.requires.live

@@ -2,10 +2,34 @@ use Rattle.std.proofs.Common.{◌≡◌, ◌∙◌, true, List, sym, ap, subst}
 use Rattle.un_base.specs.declared.ids.VarId.{VarId}
 use Rattle.un_prop.specs.Among.{among}
 use Rattle.un_prop.specs.Rounds.{HasVars}
+use Rattle.un_prop.specs.AmongLaws.{has_among}
+use Rattle.un_prop.specs.GoingLaws.{stepped_same}
+use Rattle.un_rect.specs.Entries.{each_entry}
 use Rattle.un_rect.specs.Operands.{SideVars, other_cut}
 use Rattle.un_rect.specs.Sides.{side_of}
+use Rattle.un_rect.proofs.Going.{going}
 use Rattle.un_rect.proofs.Loops.{stepped_entry}
+use Rattle.un_rect.proofs.OperandSteps.{others_free}
 use Rattle.un_rect.proofs.operands.keep_others.Goals as goal
+
+pub is_free-requires-clause-vars : goal.is_free-requires-clause-vars
+is_free-requires-clause-vars c = c.requires.vars
+
+pub is_free-requires-clause-known : goal.is_free-requires-clause-known
+is_free-requires-clause-known c = c.requires.known
+
+pub is_free-requires-clause-live : goal.is_free-requires-clause-live
+is_free-requires-clause-live c = c.requires.live (going c.args.before c.if-eq.ensures)
+
+pub returns-then-is_free-clause-step : goal.returns-then-is_free-clause-step
+returns-then-is_free-clause-step c =
+    let w = c.args.w.now in
+    let s = w.store.now in
+    let b = side_of c.args.other.now in
+    let v = c.args.v in
+    stepped_same w.vars.now (each_entry (other_cut b v) b.allowed) s c.args.before
+    (λ live. others_free b v s.sets (has_among w.vars.now v s.sets c.requires.lent c.requires.known) live
+    (c.is_free.ensures c.if-is_free.true))
 
 pub keep_other-did-requires-clause-lent : goal.keep_other-did-requires-clause-lent
 keep_other-did-requires-clause-lent c = subst (λ (us : List VarId). among us c.args.v ≡ true)

@@ -2,8 +2,8 @@ use Rattle.un_prop.specs.Acts.{act_vars, at_vars}
 use Rattle.un_prop.specs.LookLaws.{known_of}
 use Rattle.un_rect.proofs.orders.is_late.Goals as goal
 
-pub is_sure-requires : goal.is_sure-requires
-is_sure-requires c = known_of c.args.w.now.vars.now (act_vars c.args.u.now.on) c.args.w.now.store.now.sets c.requires.of_u.of_on
+pub is_on-requires-clause-known : goal.is_on-requires-clause-known
+is_on-requires-clause-known c = known_of c.args.w.now.vars.now (act_vars c.args.u.now.on) c.args.w.now.store.now.sets c.requires.of_u.of_on
     c.requires.known
 
 pub greatest_time-requires-clause-known : goal.greatest_time-requires-clause-known

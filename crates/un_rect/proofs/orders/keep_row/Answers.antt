@@ -1,14 +1,16 @@
 use Rattle.std.proofs.Common.{◌<◌, ◌∙◌, length, sym, ap, subst, arith}
 use Rattle.std.proofs.lemmas.List.Elements.{recursion_from_All}
+use Rattle.un_prop.specs.Acts.{act_vars}
 use Rattle.un_prop.specs.AmongLaws.{has_among}
 use Rattle.un_prop.specs.Going.{Stepped}
 use Rattle.un_prop.specs.GoingLaws.{stepped_same}
+use Rattle.un_prop.specs.LookLaws.{known_of}
 use Rattle.un_prop.specs.declared.act.Temp.{Temp}
 use Rattle.un_prop.specs.declared.propagator.Pruned.TheVariants.{Same}
 use Rattle.un_rect.specs.Spans.{TempVars}
 use Rattle.un_rect.specs.Orders.{order_pair}
 use Rattle.un_rect.specs.Pairs.{each_before}
-use Rattle.un_rect.proofs.OrderSteps.{row_idle}
+use Rattle.un_rect.proofs.OrderSteps.{row_idle, row_unsure}
 use Rattle.un_rect.proofs.ExtentLaws.{at_place_is, order_spared}
 use Rattle.un_rect.proofs.Rows.{row_next, same_temp}
 use Rattle.un_rect.proofs.orders.keep_row.Goals as goal
@@ -32,6 +34,25 @@ returns-then-not-is_single-clause-step c = λ d.
     (stepped_same vs (each_before order_pair temps b c.args.j) s Same
     (λ live. row_idle vs temps b s.sets (recursion_from_All (TempVars vs) temps c.requires.of_temps) of_b c.requires.known live
     (sym c.is_single.ensures ∙ c.if-not-is_single.true) c.args.j)))
+
+pub is_on-requires-clause-known : goal.is_on-requires-clause-known
+is_on-requires-clause-known c =
+    let b = c.index-temps-j.result in
+    let of_b = subst (λ (a : Temp). TempVars c.args.w.now.vars.now a) (sym c.index-temps-j.is) (c.requires.of_temps c.args.j b
+    c.requires.there) in
+    known_of c.args.w.now.vars.now (act_vars b.on) c.args.w.now.store.now.sets of_b.of_on c.requires.known
+
+pub returns-then-not-is_on-clause-step : goal.returns-then-not-is_on-clause-step
+returns-then-not-is_on-clause-step c = λ d.
+    (let vs = c.args.w.now.vars.now in
+    let s = c.args.w.now.store.now in
+    let temps = c.args.temps.now in
+    let b = c.index-temps-j.result in
+    subst (λ (a : Temp). Stepped vs (each_before order_pair temps a c.args.j) s s Same Same)
+    (sym (at_place_is temps c.args.j b d c.requires.there c.index-temps-j.is))
+    (stepped_same vs (each_before order_pair temps b c.args.j) s Same
+    (λ live. row_unsure vs temps b s.sets (recursion_from_All (TempVars vs) temps c.requires.of_temps)
+    (sym c.is_on.ensures ∙ c.if-not-is_on.true) c.args.j)))
 
 pub keep_noted-did-requires-clause-of_a : goal.keep_noted-did-requires-clause-of_a
 keep_noted-did-requires-clause-of_a c =

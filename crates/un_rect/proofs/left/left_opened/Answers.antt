@@ -1,0 +1,7 @@
+use Rattle.un_prop.specs.Acts.{act_vars}
+use Rattle.un_prop.specs.LookLaws.{known_of}
+use Rattle.un_rect.proofs.left.left_opened.Goals as goal
+
+pub is_off-requires-clause-known : goal.is_off-requires-clause-known
+is_off-requires-clause-known c = known_of c.args.w.now.vars.now (act_vars c.args.a.now.on) c.args.w.now.store.now.sets c.requires.vars.of_on
+    c.requires.known
