@@ -49,6 +49,7 @@ module _ (e : Ext) (o : Options) (values : List ℕ) (h : Solved e o values) whe
   pub record Held (v : TempId) (t : ℕ) (last : Reader v t) : Type 0 where
     pub reader : Reader v t
     pub want : Want
+    pub wants : (let p = reader.user in slice_get (wants_of e.table e.names e.blocks p.owner p.op.kind p.op) reader.place ≡ Some want)
     pub reading : Reading e o values h reader.user reader.place reader.operand want
     pub from : cycle_at reading.spot.definer ≤ t
     pub block : reader.user.block ≡ last.user.block
@@ -56,13 +57,13 @@ module _ (e : Ext) (o : Options) (values : List ℕ) (h : Solved e o values) whe
 
   module _ (v : TempId) (t : ℕ) (own : Spot) (mo : Member own (spots e o values)) (is : own.temp ≡ v) (early : cycle_at own.definer ≤ t) where
     step : (r : Reader v t) → ((q : Reader v t) → q.user.number < r.user.number → Held v t q) → Held v t r
-    step r below = given (reading e o values h r.user r.place r.operand r.member r.active r.at).0
-        (reading e o values h r.user r.place r.operand r.member r.active r.at).2
+    step r below = let read = reading e o values h r.user r.place r.operand r.member r.active r.at in given read.0 read.1 read.2
       where
-        given : (want : Want) → Reading e o values h r.user r.place r.operand want → Held v t r
-        given want d = elim (cases_lt t (cycle_at d.spot.definer)) [
+        given : (want : Want) → (let p = r.user in slice_get (wants_of e.table e.names e.blocks p.owner p.op.kind p.op) r.place ≡ Some want)
+            → Reading e o values h r.user r.place r.operand want → Held v t r
+        given want wants d = elim (cases_lt t (cycle_at d.spot.definer)) [
           | inl late ↦ down late
-          | inr le ↦ record { reader = r; want = want; reading = d; from = le; block = refl; way = inl refl }
+          | inr le ↦ record { reader = r; want = want; wants = wants; reading = d; from = le; block = refl; way = inl refl }
         ]
           where
             definer : Placed
@@ -126,6 +127,7 @@ module _ (e : Ext) (o : Options) (values : List ℕ) (h : Solved e o values) whe
                     on copy q same w = record {
                       reader = w.reader;
                       want = w.want;
+                      wants = w.wants;
                       reading = w.reading;
                       from = w.from;
                       block = w.block ∙ ap (λ (p : Placed). p.block) same ∙ d.block;
