@@ -215,8 +215,8 @@ module _ (e : Ext) (o : Options) (values : List ℕ) (h : Solved e o values) whe
   different c k l ne =
       other_register (spot_in c k) (spot_in c l) (cycle_at e o values h c) (spot_member c k) (spot_member c l)
       (λ same. ne (
-          let one = one_spot e o values (numbered e o values h) (spot_in c k) (spot_in c l) (spot_member c k) (spot_member c l) same in
-          sym (spot_value c k) ∙ ap spot_carried one ∙ spot_value c l))
+      let one = one_spot e o values (numbered e o values h) (spot_in c k) (spot_in c l) (spot_member c k) (spot_member c l) same in
+      sym (spot_value c k) ∙ ap spot_carried one ∙ spot_value c l))
       (spot_active c k) (spot_active c l) (spot_block c k ∙ sym (spot_block c l)) (spot_there c k) (spot_there c l)
 
   -- the registers, but for slots, in which what is active in the block of call c may be, and which it does not clobber, are among these

@@ -1,6 +1,10 @@
 pub mod Counting
 pub mod Crossings
 pub mod Descent
+pub mod Kept
+pub mod Loops
 pub mod Needs
+pub mod Premises
 pub mod Reloading
+pub mod Searching
 pub mod Spilling

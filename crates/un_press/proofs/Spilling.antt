@@ -28,7 +28,7 @@ use Rattle.un_model.proofs.Placed.{Placed, block_placed, blocks_placed, vars_of,
 use Rattle.un_model.proofs.PlacedSchedules.{all, spots, definer_in, one_spot, issue_here, given_space}
 use Rattle.un_model.proofs.PlacedSchedules.{joined_member, places_member, split_member}
 use Rattle.un_model.proofs.Readings.{Solved, numbered, placed_good}
-use Rattle.un_model.proofs.TempKinds.{spot_carried}
+use Rattle.un_model.proofs.TempKinds.{carried_at, spot_carried}
 use Rattle.un_press.specs.Accesses.{is_spill, spills_by, Spills}
 use Rattle.un_press.proofs.Counting.{Differ, PassesAt, many_pass, length_mapped}
 use Rattle.un_press.proofs.Crossings.{reg_of, is_active, Crossing, Carried, carried_all, carried_values, spot_in, spot_member, spot_active}
@@ -68,16 +68,16 @@ closes : (b n first : ℕ) (blocks : List ExtBlock) (p : Placed) → Member p (b
 closes b n first [] p m = elim m [ ]
 closes b n first (block ∷ blocks) p m = elim (split_member (block_placed b n first block)
     (blocks_placed (b + 1) (n + length block.ops) (first + block_count block) blocks) p m) [
-  | inl here ↦ (
-    let r = place_of (block_placed b n first block) p here in
-    let is = placed_is b block (var_at (first + ops_count block.ops)) n first r.0 block.ops p r.2 in
-    let at = is.2 in
-    (0, omega (arith, at), is.4))
-  | inr later ↦ (
-    let r = closes (b + 1) (n + length block.ops) (first + block_count block) blocks p later in
-    let at = r.1 in
-    (suc r.0, omega (arith, at), r.2))
-]
+      | inl here ↦ (
+          let r = place_of (block_placed b n first block) p here in
+          let is = placed_is b block (var_at (first + ops_count block.ops)) n first r.0 block.ops p r.2 in
+          let at = is.2 in
+          (0, omega (arith, at), is.4))
+      | inr later ↦ (
+          let r = closes (b + 1) (n + length block.ops) (first + block_count block) blocks p later in
+          let at = r.1 in
+          (suc r.0, omega (arith, at), r.2))
+    ]
 
 module _ (e : Ext) (o : Options) (values : List ℕ) (h : Solved e o values) where
   pub same_end : (p q : Placed) → Member p (all e o values) → Member q (all e o values) → p.block ≡ q.block
@@ -146,7 +146,7 @@ module _ (e : Ext) (o : Options) (values : List ℕ) (h : Solved e o values) whe
 
   -- ---- definers of slots
 
-  result_at : (s : Spot) → Member s (spots e o values) → slice_get s.definer.op.results s.place ≡ Some s.temp
+  pub result_at : (s : Spot) → Member s (spots e o values) → slice_get s.definer.op.results s.place ≡ Some s.temp
   result_at s m =
       let r = joined_member spots_of (all e o values) s m in
       let u = places_member (spot r.0) 0 r.0.op.results s r.2 in
@@ -232,39 +232,63 @@ module _ (e : Ext) (o : Options) (values : List ℕ) (h : Solved e o values) whe
 
   -- ---- Spills
 
-  -- no value at the start of the block of call c has a slot
-  abbrev pub StartsInRegisters : Placed → Type 0
-  StartsInRegisters c = (s : Spot) → Member s (spots e o values) → s.definer.block ≡ c.block → is_in s.definer.op.kind ≡ true
-      → reg_of e o values h s < 36
-
   abbrev cycle : Placed → ℕ
   cycle p = cycle_at e o values h p
+
+  -- value v crosses call c, and has no slot at the start of the block
+  pub record Saved (c : Placed) (v : TempId) : Type 0 where
+    pub crossing : Crossing e o values h c v
+    pub starts : let u = crossing.own in is_in u.definer.op.kind ≡ true → reg_of e o values h u < 36
+
+  abbrev pub crossings : (c : Placed) (vs : List TempId) → Each (Saved c) vs → Each (Crossing e o values h c) vs
+  crossings c [] each = tt
+  crossings c (v ∷ vs) each = (each.0.crossing, crossings c vs each.1)
+
+  abbrev IsSaved : (c : Placed) → Carried e o values h c → Type 0
+  IsSaved c k = let x = k.crossing in let u = x.own in is_in u.definer.op.kind ≡ true → reg_of e o values h u < 36
+
+  all_saved : (c : Placed) (vs : List TempId) (each : Each (Saved c) vs) → Each (IsSaved c) (carried_all e o values h c vs (crossings c vs each))
+  all_saved c [] each = tt
+  all_saved c (v ∷ vs) each = (each.0.starts, all_saved c vs each.1)
 
   abbrev spiller : (c : Placed) → Carried e o values h c → ℕ
   spiller c k = let s = spot_in e o values h c k in s.definer.number
 
-  module _ (c : Placed) (starts : StartsInRegisters c) where
-    spilled : (k : Carried e o values h c) → in_slot e o values h c k ≡ true
-        → (let s = spot_in e o values h c k in ((issue_at values s.definer).instr ≡ Some Spill) × (is_copy s.definer.op.kind ≡ true))
-    spilled k t =
-        let s = spot_in e o values h c k in
-        let m = spot_member e o values h c k in
-        let slot = true_le 36 (reg_of e o values h s) t in
-        slot_spilled s m (spot_active e o values h c k) slot (by (is_in s.definer.op.kind) refl m slot)
-      where
-        by : (b : Bool) → (let s = spot_in e o values h c k in is_in s.definer.op.kind ≡ b)
-            → Member (spot_in e o values h c k) (spots e o values) → 36 ≤ reg_of e o values h (spot_in e o values h c k)
-            → (let s = spot_in e o values h c k in is_in s.definer.op.kind ≡ false)
-        by false q m slot = q
-        by true q m slot =
-            let lt = starts (spot_in e o values h c k) m (spot_block e o values h c k) q in absurd (omega (arith, lt, slot))
+  start_carries : (kind : ExtKind) (s : Spot) → is_in kind ≡ true → carried_at kind s ≡ s.temp
+  start_carries In s t = refl
+  start_carries Out s t = absurd (cc t)
+  start_carries (Body so) s t = absurd (cc t)
+  start_carries (End term) s t = absurd (cc t)
+  start_carries (Copy node) s t = absurd (cc t)
+  start_carries Enter s t = absurd (cc t)
+  start_carries Leave s t = absurd (cc t)
 
-    spill_passes : (k : Carried e o values h c) → in_slot e o values h c k ≡ true
-        → PassesAt (spills_by c.block (cycle c)) (issues_of (model_of e o) values) (spiller c k)
-    spill_passes k t =
+  module _ (c : Placed) (k : Carried e o values h c) (saved : IsSaved c k) (t : in_slot e o values h c k ≡ true) where
+    slot : 36 ≤ reg_of e o values h (spot_in e o values h c k)
+    slot = true_le 36 (reg_of e o values h (spot_in e o values h c k)) t
+
+    not_start : (b : Bool) → (let s = spot_in e o values h c k in is_in s.definer.op.kind ≡ b)
+        → (let s = spot_in e o values h c k in is_in s.definer.op.kind ≡ false)
+    not_start false q = q
+    not_start true q =
+        let s = spot_in e o values h c k in
+        let x = k.crossing in
+        let value : s.temp ≡ k.value = sym (start_carries s.definer.op.kind s q) ∙ spot_value e o values h c k in
+        let one = one_spot e o values (numbered e o values h) s x.own (spot_member e o values h c k) x.member
+        (ap (λ (z : TempId). z.0) (value ∙ sym x.is)) in
+        let low : reg_of e o values h x.own < 36 = saved (ap (λ (u : Spot). is_in u.definer.op.kind) (sym one) ∙ q) in
+        let high : 36 ≤ reg_of e o values h x.own = subst (λ (u : Spot). 36 ≤ reg_of e o values h u) one slot in
+        absurd (omega (arith, low, high))
+
+    pub spilled : (let s = spot_in e o values h c k in ((issue_at values s.definer).instr ≡ Some Spill) × (is_copy s.definer.op.kind ≡ true))
+    spilled = let s = spot_in e o values h c k in
+        slot_spilled s (spot_member e o values h c k) (spot_active e o values h c k) slot (not_start (is_in s.definer.op.kind) refl)
+
+    pub spill_passes : PassesAt (spills_by c.block (cycle c)) (issues_of (model_of e o) values) (spiller c k)
+    spill_passes =
         let s = spot_in e o values h c k in
         let md = definer_in e o values (numbered e o values h) s (spot_member e o values h c k) in
-        let is = (spilled k t).0 in
+        let is = spilled.0 in
         let placed = subst (λ (j : Option Op). IfSome j (IsPlacedAs (cycle s.definer) (end_of values s.definer))) is
         (placed_issue s.definer md) in
         let within = placed.0 in
@@ -277,47 +301,50 @@ module _ (e : Ext) (o : Options) (values : List ℕ) (h : Solved e o values) whe
               (le_true (cycle s.definer) (cycle c) there.0),
         )
 
-    spillers_differ : (k l : Carried e o values h c) → in_slot e o values h c k ≡ true → in_slot e o values h c l ≡ true
-        → Differs e o values h c k l → spiller c k ≡ spiller c l → ⊥
-    spillers_differ k l tk tl ne same =
-        let s = spot_in e o values h c k in
-        let u = spot_in e o values h c l in
-        let ms = spot_member e o values h c k in
-        let mu = spot_member e o values h c l in
-        let one = one_placed s.definer u.definer (definer_in e o values (numbered e o values h) s ms)
-        (definer_in e o values (numbered e o values h) u mu) same in
-        let temp = one_result s u ms mu (spilled k tk).1 one in
-        let spot_same = one_spot e o values (numbered e o values h) s u ms mu (ap (λ (t : TempId). t.0) temp) in
-        ne (sym (spot_value e o values h c k) ∙ ap spot_carried spot_same ∙ spot_value e o values h c l)
+  spillers_differ : (c : Placed) (k l : Carried e o values h c) → IsSaved c k → in_slot e o values h c k ≡ true
+      → Differs e o values h c k l → spiller c k ≡ spiller c l → ⊥
+  spillers_differ c k l saved t ne same =
+      let s = spot_in e o values h c k in
+      let u = spot_in e o values h c l in
+      let ms = spot_member e o values h c k in
+      let mu = spot_member e o values h c l in
+      let one = one_placed s.definer u.definer (definer_in e o values (numbered e o values h) s ms)
+      (definer_in e o values (numbered e o values h) u mu) same in
+      let temp = one_result s u ms mu (spilled c k saved t).1 one in
+      let spot_same = one_spot e o values (numbered e o values h) s u ms mu (ap (λ (z : TempId). z.0) temp) in
+      ne (sym (spot_value e o values h c k) ∙ ap spot_carried spot_same ∙ spot_value e o values h c l)
 
-    many_spill : (ks : List (Carried e o values h c)) → Pairwise (Differs e o values h c) ks
-        → length (filter (in_slot e o values h c) ks) ≤ count_by (spills_by c.block (cycle c)) (issues_of (model_of e o) values)
-    many_spill ks differ =
-        let slot = in_slot e o values h c in
-        let high = filter slot ks in
-        let ns = map (spiller c) high in
-        let others : Differ ns = pairwise_map (λ x y. x ≡ y → ⊥) (spiller c) high
-        (pairwise_more (Differs e o values h c) (λ k l. spiller c k ≡ spiller c l → ⊥) high
-        (λ k l mk ml ne. spillers_differ k l (member_of_filter slot ks k mk).1 (member_of_filter slot ks l ml).1 ne)
-        (pairwise_filter (Differs e o values h c) slot ks differ)) in
-        let each = each_map (PassesAt (spills_by c.block (cycle c)) (issues_of (model_of e o) values)) (spiller c) high
-        (each_of (λ k. PassesAt (spills_by c.block (cycle c)) (issues_of (model_of e o) values) (spiller c k)) high
-        (λ k m. spill_passes k (member_of_filter slot ks k m).1)) in
-        let le = many_pass (spills_by c.block (cycle c)) (issues_of (model_of e o) values) ns others each in
-        let len = length_mapped (spiller c) high in
-        omega (arith, le, len)
+  many_spill : (c : Placed) (ks : List (Carried e o values h c)) → Each (IsSaved c) ks → Pairwise (Differs e o values h c) ks
+      → length (filter (in_slot e o values h c) ks) ≤ count_by (spills_by c.block (cycle c)) (issues_of (model_of e o) values)
+  many_spill c ks all differ =
+      let slot = in_slot e o values h c in
+      let high = filter slot ks in
+      let ns = map (spiller c) high in
+      let need : (k : Carried e o values h c) → Member k high → IsSaved c k =
+      λ k m. each_member (IsSaved c) ks k all (member_of_filter slot ks k m).0 in
+      let others : Differ ns = pairwise_map (λ x y. x ≡ y → ⊥) (spiller c) high
+      (pairwise_more (Differs e o values h c) (λ k l. spiller c k ≡ spiller c l → ⊥) high
+      (λ k l mk ml ne. spillers_differ c k l (need k mk) (member_of_filter slot ks k mk).1 ne)
+      (pairwise_filter (Differs e o values h c) slot ks differ)) in
+      let each = each_map (PassesAt (spills_by c.block (cycle c)) (issues_of (model_of e o) values)) (spiller c) high
+      (each_of (λ k. PassesAt (spills_by c.block (cycle c)) (issues_of (model_of e o) values) (spiller c k)) high
+      (λ k m. spill_passes c k (need k m) (member_of_filter slot ks k m).1)) in
+      let le = many_pass (spills_by c.block (cycle c)) (issues_of (model_of e o) values) ns others each in
+      let len = length_mapped (spiller c) high in
+      omega (arith, le, len)
 
-  -- The values that cross a call are spilled by its cycle, but for as many as there are registers that it keeps, where no value at the
-  -- start of its block has a slot.
+  -- The values that cross a call are spilled by its cycle, but for as many as there are registers that it keeps, where they have no
+  -- slots at the start of its block.
   pub must_spill : (c : Placed) → Member c (all e o values) → is_call_kind c.op.kind ≡ true → (kept : List ℕ)
-      → Covers e o values h c kept → StartsInRegisters c → (vs : List TempId) → Each (Crossing e o values h c) vs → Differ vs
+      → Covers e o values h c kept → (vs : List TempId) → Each (Saved c) vs → Differ vs
       → (n : ℕ) → n + length kept ≤ length vs
       → Spills (model_of e o) (record { values = values }) c.block (cycle_at e o values h c) n
-  must_spill c mc call kept covers starts vs each differ n few =
-      let ks = carried_all e o values h c vs each in
-      let apart = values_differ e o values h c vs each differ in
+  must_spill c mc call kept covers vs each differ n few =
+      let cross = crossings c vs each in
+      let ks = carried_all e o values h c vs cross in
+      let apart = values_differ e o values h c vs cross differ in
       let some = many_in_slots e o values h c mc call kept covers ks apart in
-      let le = many_spill c starts ks apart in
-      let a = ap length (carried_values e o values h c vs each) in
+      let le = many_spill c ks (all_saved c vs each) apart in
+      let a = ap length (carried_values e o values h c vs cross) in
       let b = length_mapped (λ (k : Carried e o values h c). k.value) ks in
       omega (arith, few, some, le, a, b)
