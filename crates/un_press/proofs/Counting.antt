@@ -1,10 +1,10 @@
 -- Lists of different items are no longer than lists that have them all.
 use Rattle.std.proofs.Common.{ℕ, zero, suc, ◌≡◌, ◌≤◌, ◌+◌, Bool, true, false, cond, List, [], ◌∷◌, ◌++◌, length, map, filter, inl, inr, refl, sym}
 use Rattle.std.proofs.Common.{ap, ◌∙◌, subst, arith}
-use Rattle.std.specs.Prelude.{Some, slice_get, not, count_by}
+use Rattle.std.specs.Prelude.{Some, slice_get, not, count_by, sum_by}
 use Rattle.std.proofs.lemmas.List.{length-append}
-use Rattle.std.proofs.lemmas.List.Sums.{sum_by-cons}
-use Rattle.un_model.proofs.Lists.{Each, Pairwise, Member, each_member, each_of, split_at}
+use Rattle.std.proofs.lemmas.List.Sums.{sum_by-cons, sum_by-append}
+use Rattle.un_model.proofs.Lists.{Each, Pairwise, Member, each_member, each_of, split_at, member_filter}
 
 -- no item stands twice
 abbrev pub Differ : {X : Type 0} → List X → Type 0
@@ -86,3 +86,46 @@ many_pass p xs ns d each =
     place_in p 0 n n xs at.0 at.1 at.2 (omega arith))) in
     let e = places_count p 0 xs in
     omega (arith, le, e)
+
+-- ---- sums
+
+-- what different items of a list have together is no more than what the list has
+pub sum_within : {X : Type 0} (f : X → ℕ) (xs ys : List X) → Differ xs → Each (λ x. Member x ys) xs → sum_by f xs ≤ sum_by f ys
+sum_within f [] ys d m = omega arith
+sum_within f (x ∷ xs) ys d m =
+    let s = split_at ys x m.0 in
+    let rest = sum_within f xs (s.before ++ s.after) d.1 (each_of (λ y. Member y (s.before ++ s.after)) xs (λ y my.
+    still_there s.before s.after x y (each_member (λ z. x ≡ z → ⊥) xs y d.0 my)
+    (subst (λ zs. Member y zs) s.is (each_member (λ z. Member z ys) xs y m.1 my)))) in
+    let whole : sum_by f ys ≡ sum_by f (s.before ++ x ∷ s.after) = ap (sum_by f) s.is in
+    let a = sum_by-append f s.before (x ∷ s.after) in
+    let b = sum_by-append f s.before s.after in
+    let c = sum_by-cons f x s.after in
+    let g = sum_by-cons f x xs in
+    omega (arith, rest, whole, a, b, c, g)
+
+-- what passes a test and what does not have the whole together
+pub sum_parts : {X : Type 0} (f : X → ℕ) (p : X → Bool) (xs : List X)
+    → sum_by f (filter p xs) + sum_by f (filter (λ x. not (p x)) xs) ≡ sum_by f xs
+sum_parts f p [] = refl
+sum_parts f p (x ∷ xs) =
+    let rest = sum_parts f p xs in
+    let whole = sum_by-cons f x xs in
+    let a = sum_by-cons f x (filter p xs) in
+    let b = sum_by-cons f x (filter (λ y. not (p y)) xs) in
+    elim (p x) as (λ c. sum_by f (cond c (x ∷ filter p xs) (filter p xs)) +
+    sum_by f (cond (not c) (x ∷ filter (λ y. not (p y)) xs) (filter (λ y. not (p y)) xs)) ≡ sum_by f (x ∷ xs)) [
+      | true ↦ omega (arith, rest, whole, a)
+      | false ↦ omega (arith, rest, whole, b)
+    ]
+
+-- what passes, and different items that do not pass, have no more than the whole
+pub sum_beside : {X : Type 0} (f : X → ℕ) (p : X → Bool) (xs ys : List X) → Differ ys → Each (λ y. Member y xs × (p y ≡ false)) ys
+    → sum_by f (filter p xs) + sum_by f ys ≤ sum_by f xs
+sum_beside f p xs ys d each =
+    let others = filter (λ x. not (p x)) xs in
+    let le = sum_within f ys others d (each_of (λ y. Member y others) ys (λ y m.
+    let at = each_member (λ y. Member y xs × (p y ≡ false)) ys y each m in
+    member_filter (λ x. not (p x)) xs y at.0 (ap not at.1))) in
+    let parts = sum_parts f p xs in
+    omega (arith, le, parts)

@@ -1,7 +1,7 @@
 -- The Reloads that values which cross a call owe after it, where what reads them then needs a register.
 use Rattle.std.proofs.Common.{ℕ, zero, suc, ◌≡◌, ◌<◌, ◌≤◌, ◌+◌, true, List, [], ◌∷◌, length, map, filter, inl, inr, refl, sym}
 use Rattle.std.proofs.Common.{ap, ◌∙◌, subst, arith, eq-eqb}
-use Rattle.std.specs.Prelude.{Option, Some, slice_get, ◌||◌, ◌==◌, nat_le, nat_lt, is_some, IfSome, count_by}
+use Rattle.std.specs.Prelude.{Option, Some, slice_get, ◌||◌, ◌==◌, nat_le, nat_lt, is_some, IfSome}
 use Rattle.un_base.specs.declared.ids.TempId.{TempId}
 use Rattle.un_isa.specs.Tables.{latency_of}
 use Rattle.un_isa.specs.declared.op.Op.TheVariants.{Reload}
@@ -15,22 +15,22 @@ use Rattle.un_ir.specs.declared.extended.Ext.{Ext}
 use Rattle.un_model.specs.declared.model.Options.{Options}
 use Rattle.un_model.specs.declared.schedule.LiveRange.{LiveRange}
 use Rattle.un_model.specs.Instructions.{instruction_of, latency_by, space_read, copy_of}
-use Rattle.un_model.specs.Schedules.{issues_of, value_by, choice_of}
+use Rattle.un_model.specs.Schedules.{value_by, choice_of}
 use Rattle.un_model.specs.Solutions.{InSpace, HasHome}
 use Rattle.un_model.specs.Variables.{model_of}
 use Rattle.un_model.proofs.Lists.{Each, Pairwise, Member, each_member, each_of, each_map, pairwise_more, pairwise_map, pairwise_filter}
 use Rattle.un_model.proofs.Lists.{member_of_filter}
-use Rattle.un_model.proofs.Placed.{Placed, vars_of, issue_at}
-use Rattle.un_model.proofs.PlacedSchedules.{all, range_at, range_here, spot_range, one_spot, issue_here}
+use Rattle.un_model.proofs.Placed.{Placed, vars_of, end_of, issue_at}
+use Rattle.un_model.proofs.PlacedSchedules.{all, range_at, range_here, spot_range, one_spot}
 use Rattle.un_model.proofs.Readings.{Solved, numbered, placed_good, Reading, zip_get}
 use Rattle.un_model.proofs.TempKinds.{spot_carried}
 use Rattle.un_press.specs.Accesses.{is_reload, reloads_after, Reloads}
-use Rattle.un_press.proofs.Counting.{Differ, PassesAt, many_pass, length_mapped}
+use Rattle.un_press.proofs.Counting.{Differ, length_mapped}
 use Rattle.un_press.proofs.Crossings.{reg_of, Crossing, Carried, carried_all, carried_values, spot_in, spot_member}
 use Rattle.un_press.proofs.Crossings.{spot_value, Covers, in_slot, Differs, many_in_slots, values_differ}
 use Rattle.un_press.proofs.Descent.{cycle_at, Reader, IsOnTheWay}
 use Rattle.un_press.proofs.Needs.{reads_slot}
-use Rattle.un_press.proofs.Spilling.{three, lt_true, le_true, true_le, same_end, by_end, one_placed}
+use Rattle.un_press.proofs.Spilling.{Several, counted, fewer, three, lt_true, le_true, true_le, same_end, by_end}
 
 module _ (e : Ext) (o : Options) (values : List ℕ) (h : Solved e o values) where
   abbrev cycle : Placed → ℕ
@@ -132,8 +132,14 @@ module _ (e : Ext) (o : Options) (values : List ℕ) (h : Solved e o values) whe
   abbrev reader_of : (c : Placed) → Carried e o values h c → Placed
   reader_of c k = let w = k.held in let r = w.reader in r.user
 
-  abbrev reloader : (c : Placed) → Carried e o values h c → ℕ
-  reloader c k = let p = reader_of c k in p.number
+  -- a copy in the block of call c reloads after its cycle, and what it gives is there by the end of the block
+  pub record ReloadedAfter (c p : Placed) : Type 0 where
+    pub member : Member p (all e o values)
+    pub block : p.block ≡ c.block
+    pub copy : is_copy p.op.kind ≡ true
+    pub instr : (issue_at values p).instr ≡ Some Reload
+    pub first : cycle c < cycle p
+    pub last : cycle p + latency_of e.table Reload ≤ end_of values p
 
   module _ (c : Placed) (k : Carried e o values h c) (needs : IsWanted c k) (t : in_slot e o values h c k ≡ true) where
     slot : 36 ≤ reg_of e o values h (spot_in e o values h c k)
@@ -163,34 +169,33 @@ module _ (e : Ext) (o : Options) (values : List ℕ) (h : Solved e o values) whe
     one_operand = let w = k.held in let p = reader_of c k in first_place k.value (cycle c) w.reader w.want w.wants w.reading p.op.kind refl
         by_copy
 
-    pub reload_passes : PassesAt (reloads_after e.table c.block (cycle c)) (issues_of (model_of e o) values) (reloader c k)
-    reload_passes =
+    pub reload_is : ReloadedAfter c (reader_of c k)
+    reload_is =
         let w = k.held in
         let r = w.reader in
         let x = k.crossing in
         let last = x.reader in
         let on = way in
-        let i = issue_at values r.user in
-        let block = w.block ∙ x.block in
         let done = by_end e o values h last.user last.member last.active in
         let end = same_end e o values h r.user last.user r.member last.member w.block in
-        let late : latency_by e.table i.instr ≡ latency_of e.table Reload = ap (latency_by e.table) reloaded in
-        let ready = on.ready in (
-          i,
-          issue_here e o values r.user r.member,
-          three (r.user.block == c.block) (is_reload i.instr) (nat_lt (cycle c) i.cycle) (nat_le (i.cycle + latency_of e.table Reload) i.end)
-              (eq-eqb r.user.block c.block block) (ap is_reload reloaded) (lt_true (cycle c) i.cycle r.after)
-              (le_true (i.cycle + latency_of e.table Reload) i.end (omega (arith, done, end, late, ready))),
-        )
+        let late : latency_by e.table (issue_at values r.user).instr ≡ latency_of e.table Reload = ap (latency_by e.table) reloaded in
+        let ready = on.ready in
+        record {
+          member = r.member;
+          block = w.block ∙ x.block;
+          copy = on.copy;
+          instr = reloaded;
+          first = r.after;
+          last = omega (arith, done, end, late, ready);
+        }
 
   reloaders_differ : (c : Placed) (k l : Carried e o values h c) → IsWanted c k → IsWanted c l → in_slot e o values h c k ≡ true
-      → in_slot e o values h c l ≡ true → Differs e o values h c k l → reloader c k ≡ reloader c l → ⊥
-  reloaders_differ c k l nk nl tk tl ne same =
+      → in_slot e o values h c l ≡ true → Differs e o values h c k l → reader_of c k ≡ reader_of c l → ⊥
+  reloaders_differ c k l nk nl tk tl ne one =
       let a = k.held in
       let b = l.held in
       let r = a.reader in
       let q = b.reader in
-      let one = one_placed e o values h r.user q.user r.member q.member same in
       let x : r.place ≡ 0 = one_operand c k nk tk in
       let y : q.place ≡ 0 = one_operand c l nl tl in
       let place : r.place ≡ q.place = x ∙ sym y in
@@ -208,36 +213,47 @@ module _ (e : Ext) (o : Options) (values : List ℕ) (h : Solved e o values) whe
       ne (sym (spot_value e o values h c k) ∙ ap spot_carried spot_same ∙ spot_value e o values h c l)
 
   many_reload : (c : Placed) (ks : List (Carried e o values h c)) → Each (IsWanted c) ks → Pairwise (Differs e o values h c) ks
-      → length (filter (in_slot e o values h c) ks) ≤ count_by (reloads_after e.table c.block (cycle c)) (issues_of (model_of e o) values)
+      → Several e o values h (ReloadedAfter c) (length (filter (in_slot e o values h c) ks))
   many_reload c ks wanted differ =
       let slot = in_slot e o values h c in
       let high = filter slot ks in
-      let ns = map (reloader c) high in
       let need : (k : Carried e o values h c) → Member k high → IsWanted c k =
       λ k m. each_member (IsWanted c) ks k wanted (member_of_filter slot ks k m).0 in
-      let others : Differ ns = pairwise_map (λ x y. x ≡ y → ⊥) (reloader c) high
-      (pairwise_more (Differs e o values h c) (λ k l. reloader c k ≡ reloader c l → ⊥) high
-      (λ k l mk ml ne. reloaders_differ c k l (need k mk) (need l ml) (member_of_filter slot ks k mk).1 (member_of_filter slot ks l ml).1 ne)
-      (pairwise_filter (Differs e o values h c) slot ks differ)) in
-      let each = each_map (PassesAt (reloads_after e.table c.block (cycle c)) (issues_of (model_of e o) values)) (reloader c) high
-      (each_of (λ k. PassesAt (reloads_after e.table c.block (cycle c)) (issues_of (model_of e o) values) (reloader c k)) high
-      (λ k m. reload_passes c k (need k m) (member_of_filter slot ks k m).1)) in
-      let le = many_pass (reloads_after e.table c.block (cycle c)) (issues_of (model_of e o) values) ns others each in
-      let len = length_mapped (reloader c) high in
-      omega (arith, le, len)
+      let len = length_mapped (reader_of c) high in
+      record {
+        listed = map (reader_of c) high;
+        differ = pairwise_map (λ x y. x ≡ y → ⊥) (reader_of c) high
+            (pairwise_more (Differs e o values h c) (λ k l. reader_of c k ≡ reader_of c l → ⊥) high
+            (λ k l mk ml ne. reloaders_differ c k l (need k mk) (need l ml) (member_of_filter slot ks k mk).1
+            (member_of_filter slot ks l ml).1 ne)
+            (pairwise_filter (Differs e o values h c) slot ks differ));
+        each = each_map (ReloadedAfter c) (reader_of c) high (each_of (λ k. ReloadedAfter c (reader_of c k)) high
+            (λ k m. reload_is c k (need k m) (member_of_filter slot ks k m).1));
+        many = omega (arith, len);
+      }
 
   -- The values that cross a call to readers that need a register are reloaded after it, but for as many as there are registers that it
   -- keeps.
+  pub reload_copies : (c : Placed) → Member c (all e o values) → is_call_kind c.op.kind ≡ true → (kept : List ℕ)
+      → Covers e o values h c kept → (vs : List TempId) → Each (Wanted c) vs → Differ vs
+      → (n : ℕ) → n + length kept ≤ length vs → Several e o values h (ReloadedAfter c) n
+  reload_copies c mc call kept covers vs each differ n few =
+      let cross = crossings c vs each in
+      let ks = carried_all e o values h c vs cross in
+      let apart = values_differ e o values h c vs cross differ in
+      let some = many_in_slots e o values h c mc call kept covers ks apart in
+      let a = ap length (carried_values e o values h c vs cross) in
+      let b = length_mapped (λ (k : Carried e o values h c). k.value) ks in
+      fewer e o values h (ReloadedAfter c) n (length (filter (in_slot e o values h c) ks)) (omega (arith, few, some, a, b))
+      (many_reload c ks (all_wanted c vs each) apart)
+
   pub must_reload : (c : Placed) → Member c (all e o values) → is_call_kind c.op.kind ≡ true → (kept : List ℕ)
       → Covers e o values h c kept → (vs : List TempId) → Each (Wanted c) vs → Differ vs
       → (n : ℕ) → n + length kept ≤ length vs
       → Reloads (model_of e o) (record { values = values }) c.block (cycle_at e o values h c) n
   must_reload c mc call kept covers vs each differ n few =
-      let cross = crossings c vs each in
-      let ks = carried_all e o values h c vs cross in
-      let apart = values_differ e o values h c vs cross differ in
-      let some = many_in_slots e o values h c mc call kept covers ks apart in
-      let le = many_reload c ks (all_wanted c vs each) apart in
-      let a = ap length (carried_values e o values h c vs cross) in
-      let b = length_mapped (λ (k : Carried e o values h c). k.value) ks in
-      omega (arith, few, some, le, a, b)
+      counted e o values h (ReloadedAfter c) (reloads_after e.table c.block (cycle c)) n (λ p s. s.member) (λ p s.
+      three (p.block == c.block) (is_reload (issue_at values p).instr) (nat_lt (cycle c) (cycle p))
+      (nat_le (cycle p + latency_of e.table Reload) (end_of values p)) (eq-eqb p.block c.block s.block) (ap is_reload s.instr)
+      (lt_true (cycle c) (cycle p) s.first) (le_true (cycle p + latency_of e.table Reload) (end_of values p) s.last))
+      (reload_copies c mc call kept covers vs each differ n few)

@@ -16,6 +16,7 @@ use Rattle.un_ir.specs.declared.extended.ExtKind.TheVariants.{In, Out, Body, End
 use Rattle.un_ir.specs.declared.extended.ExtBlock.{ExtBlock}
 use Rattle.un_ir.specs.declared.extended.Ext.{Ext}
 use Rattle.un_model.specs.declared.model.Options.{Options}
+use Rattle.un_model.specs.declared.schedule.Issue.{Issue}
 use Rattle.un_model.specs.Cost.{value_of}
 use Rattle.un_model.specs.Instructions.{instruction_of, space_given, copy_of}
 use Rattle.un_model.specs.Schedules.{issues_of, value_by, cycle_by}
@@ -144,6 +145,33 @@ module _ (e : Ext) (o : Options) (values : List ℕ) (h : Solved e o values) whe
       let both : Some p ≡ Some q = sym a ∙ b in
       cc both
 
+  -- ---- different operations
+
+  -- at least n different operations of which P holds
+  pub record Several (P : Placed → Type 0) (n : ℕ) : Type 0 where
+    pub listed : List Placed
+    pub differ : Differ listed
+    pub each : Each P listed
+    pub many : n ≤ length listed
+
+  -- so many issues pass a test, where those of the operations do
+  pub counted : (P : Placed → Type 0) (test : Issue → Bool) (n : ℕ) → ((p : Placed) → P p → Member p (all e o values))
+      → ((p : Placed) → P p → test (issue_at values p) ≡ true) → Several P n → n ≤ count_by test (issues_of (model_of e o) values)
+  counted P test n member passes s =
+      let ns = map (λ (p : Placed). p.number) s.listed in
+      let others : Differ ns = pairwise_map (λ x y. x ≡ y → ⊥) (λ (p : Placed). p.number) s.listed
+      (pairwise_more (λ p q. p ≡ q → ⊥) (λ p q. p.number ≡ q.number → ⊥) s.listed
+      (λ p q mp mq ne same. ne (one_placed p q (member p (each_member P s.listed p s.each mp)) (member q (each_member P s.listed q s.each mq))
+      same)) s.differ) in
+      let each = each_map (PassesAt test (issues_of (model_of e o) values)) (λ (p : Placed). p.number) s.listed
+      (each_of (λ p. PassesAt test (issues_of (model_of e o) values) p.number) s.listed (λ p m.
+      let holds = each_member P s.listed p s.each m in
+      (issue_at values p, issue_here e o values p (member p holds), passes p holds))) in
+      let le = many_pass test (issues_of (model_of e o) values) ns others each in
+      let len = length_mapped (λ (p : Placed). p.number) s.listed in
+      let many = s.many in
+      omega (arith, le, len, many)
+
   -- ---- definers of slots
 
   pub result_at : (s : Spot) → Member s (spots e o values) → slice_get s.definer.op.results s.place ≡ Some s.temp
@@ -251,8 +279,17 @@ module _ (e : Ext) (o : Options) (values : List ℕ) (h : Solved e o values) whe
   all_saved c [] each = tt
   all_saved c (v ∷ vs) each = (each.0.starts, all_saved c vs each.1)
 
-  abbrev spiller : (c : Placed) → Carried e o values h c → ℕ
-  spiller c k = let s = spot_in e o values h c k in s.definer.number
+  abbrev spiller : (c : Placed) → Carried e o values h c → Placed
+  spiller c k = let s = spot_in e o values h c k in s.definer
+
+  -- a copy in the block of call c spills by its cycle
+  pub record SpilledBy (c p : Placed) : Type 0 where
+    pub member : Member p (all e o values)
+    pub block : p.block ≡ c.block
+    pub copy : is_copy p.op.kind ≡ true
+    pub instr : (issue_at values p).instr ≡ Some Spill
+    pub first : 0 < cycle p
+    pub last : cycle p ≤ cycle c
 
   start_carries : (kind : ExtKind) (s : Spot) → is_in kind ≡ true → carried_at kind s ≡ s.temp
   start_carries In s t = refl
@@ -284,22 +321,23 @@ module _ (e : Ext) (o : Options) (values : List ℕ) (h : Solved e o values) whe
     spilled = let s = spot_in e o values h c k in
         slot_spilled s (spot_member e o values h c k) (spot_active e o values h c k) slot (not_start (is_in s.definer.op.kind) refl)
 
-    pub spill_passes : PassesAt (spills_by c.block (cycle c)) (issues_of (model_of e o) values) (spiller c k)
-    spill_passes =
+    pub spill_is : SpilledBy c (spiller c k)
+    spill_is =
         let s = spot_in e o values h c k in
         let md = definer_in e o values (numbered e o values h) s (spot_member e o values h c k) in
-        let is = spilled.0 in
-        let placed = subst (λ (j : Option Op). IfSome j (IsPlacedAs (cycle s.definer) (end_of values s.definer))) is
+        let is = spilled in
+        let placed = subst (λ (j : Option Op). IfSome j (IsPlacedAs (cycle s.definer) (end_of values s.definer))) is.0
         (placed_issue s.definer md) in
         let within = placed.0 in
-        let there = spot_there e o values h c k in (
-          issue_at values s.definer,
-          issue_here e o values s.definer md,
-          three (s.definer.block == c.block) (is_spill (issue_at values s.definer).instr) (nat_lt 0 (cycle s.definer))
-              (nat_le (cycle s.definer) (cycle c))
-              (eq-eqb s.definer.block c.block (spot_block e o values h c k)) (ap is_spill is) (lt_true 0 (cycle s.definer) within.0)
-              (le_true (cycle s.definer) (cycle c) there.0),
-        )
+        let there = spot_there e o values h c k in
+        record {
+          member = md;
+          block = spot_block e o values h c k;
+          copy = is.1;
+          instr = is.0;
+          first = within.0;
+          last = there.0;
+        }
 
   spillers_differ : (c : Placed) (k l : Carried e o values h c) → IsSaved c k → in_slot e o values h c k ≡ true
       → Differs e o values h c k l → spiller c k ≡ spiller c l → ⊥
@@ -308,43 +346,54 @@ module _ (e : Ext) (o : Options) (values : List ℕ) (h : Solved e o values) whe
       let u = spot_in e o values h c l in
       let ms = spot_member e o values h c k in
       let mu = spot_member e o values h c l in
-      let one = one_placed s.definer u.definer (definer_in e o values (numbered e o values h) s ms)
-      (definer_in e o values (numbered e o values h) u mu) same in
-      let temp = one_result s u ms mu (spilled c k saved t).1 one in
+      let temp = one_result s u ms mu (spilled c k saved t).1 same in
       let spot_same = one_spot e o values (numbered e o values h) s u ms mu (ap (λ (z : TempId). z.0) temp) in
       ne (sym (spot_value e o values h c k) ∙ ap spot_carried spot_same ∙ spot_value e o values h c l)
 
   many_spill : (c : Placed) (ks : List (Carried e o values h c)) → Each (IsSaved c) ks → Pairwise (Differs e o values h c) ks
-      → length (filter (in_slot e o values h c) ks) ≤ count_by (spills_by c.block (cycle c)) (issues_of (model_of e o) values)
+      → Several (SpilledBy c) (length (filter (in_slot e o values h c) ks))
   many_spill c ks all differ =
       let slot = in_slot e o values h c in
       let high = filter slot ks in
-      let ns = map (spiller c) high in
       let need : (k : Carried e o values h c) → Member k high → IsSaved c k =
       λ k m. each_member (IsSaved c) ks k all (member_of_filter slot ks k m).0 in
-      let others : Differ ns = pairwise_map (λ x y. x ≡ y → ⊥) (spiller c) high
-      (pairwise_more (Differs e o values h c) (λ k l. spiller c k ≡ spiller c l → ⊥) high
-      (λ k l mk ml ne. spillers_differ c k l (need k mk) (member_of_filter slot ks k mk).1 ne)
-      (pairwise_filter (Differs e o values h c) slot ks differ)) in
-      let each = each_map (PassesAt (spills_by c.block (cycle c)) (issues_of (model_of e o) values)) (spiller c) high
-      (each_of (λ k. PassesAt (spills_by c.block (cycle c)) (issues_of (model_of e o) values) (spiller c k)) high
-      (λ k m. spill_passes c k (need k m) (member_of_filter slot ks k m).1)) in
-      let le = many_pass (spills_by c.block (cycle c)) (issues_of (model_of e o) values) ns others each in
       let len = length_mapped (spiller c) high in
-      omega (arith, le, len)
+      record {
+        listed = map (spiller c) high;
+        differ = pairwise_map (λ x y. x ≡ y → ⊥) (spiller c) high
+            (pairwise_more (Differs e o values h c) (λ k l. spiller c k ≡ spiller c l → ⊥) high
+            (λ k l mk ml ne. spillers_differ c k l (need k mk) (member_of_filter slot ks k mk).1 ne)
+            (pairwise_filter (Differs e o values h c) slot ks differ));
+        each = each_map (SpilledBy c) (spiller c) high (each_of (λ k. SpilledBy c (spiller c k)) high
+            (λ k m. spill_is c k (need k m) (member_of_filter slot ks k m).1));
+        many = omega (arith, len);
+      }
+
+  pub fewer : (P : Placed → Type 0) (n m : ℕ) → n ≤ m → Several P m → Several P n
+  fewer P n m le s = let many = s.many in
+      record { listed = s.listed; differ = s.differ; each = s.each; many = omega (arith, le, many) }
 
   -- The values that cross a call are spilled by its cycle, but for as many as there are registers that it keeps, where they have no
   -- slots at the start of its block.
+  pub spill_copies : (c : Placed) → Member c (all e o values) → is_call_kind c.op.kind ≡ true → (kept : List ℕ)
+      → Covers e o values h c kept → (vs : List TempId) → Each (Saved c) vs → Differ vs
+      → (n : ℕ) → n + length kept ≤ length vs → Several (SpilledBy c) n
+  spill_copies c mc call kept covers vs each differ n few =
+      let cross = crossings c vs each in
+      let ks = carried_all e o values h c vs cross in
+      let apart = values_differ e o values h c vs cross differ in
+      let some = many_in_slots e o values h c mc call kept covers ks apart in
+      let a = ap length (carried_values e o values h c vs cross) in
+      let b = length_mapped (λ (k : Carried e o values h c). k.value) ks in
+      fewer (SpilledBy c) n (length (filter (in_slot e o values h c) ks)) (omega (arith, few, some, a, b))
+      (many_spill c ks (all_saved c vs each) apart)
+
   pub must_spill : (c : Placed) → Member c (all e o values) → is_call_kind c.op.kind ≡ true → (kept : List ℕ)
       → Covers e o values h c kept → (vs : List TempId) → Each (Saved c) vs → Differ vs
       → (n : ℕ) → n + length kept ≤ length vs
       → Spills (model_of e o) (record { values = values }) c.block (cycle_at e o values h c) n
   must_spill c mc call kept covers vs each differ n few =
-      let cross = crossings c vs each in
-      let ks = carried_all e o values h c vs cross in
-      let apart = values_differ e o values h c vs cross differ in
-      let some = many_in_slots e o values h c mc call kept covers ks apart in
-      let le = many_spill c ks (all_saved c vs each) apart in
-      let a = ap length (carried_values e o values h c vs cross) in
-      let b = length_mapped (λ (k : Carried e o values h c). k.value) ks in
-      omega (arith, few, some, le, a, b)
+      counted (SpilledBy c) (spills_by c.block (cycle c)) n (λ p s. s.member) (λ p s.
+      three (p.block == c.block) (is_spill (issue_at values p).instr) (nat_lt 0 (cycle p)) (nat_le (cycle p) (cycle c))
+      (eq-eqb p.block c.block s.block) (ap is_spill s.instr) (lt_true 0 (cycle p) s.first) (le_true (cycle p) (cycle c) s.last))
+      (spill_copies c mc call kept covers vs each differ n few)
