@@ -106,6 +106,54 @@ module _ (e : Ext) (o : Options) (values : List ℕ) (h : Solved e o values) whe
       by true e = absurd (other (each_member (λ (i : Issue). SparesRange clobbered i r) issues i
           (each_all (λ (i : Issue). SparesRange clobbered i r) issues all) m call active block e there))
 
+  -- ---- what carries a value
+
+  module _ (v : TempId) (t : ℕ) (last : Reader e o values h v t) (w : Held e o values h v t last) where
+    abbrev pub held_spot : Spot
+    held_spot = let d = w.reading in d.spot
+
+    pub held_member : Member held_spot (spots e o values)
+    held_member = let d = w.reading in d.member
+
+    held_range : (let s = held_spot in range_at e o values s.temp.0 ≡ spot_range e o values s)
+    held_range = range_here e o values (numbered e o values h) held_spot held_member
+
+    pub held_active : is_active held_spot ≡ true
+    held_active = let d = w.reading in subst (λ (r : LiveRange). r.active ≡ true) held_range d.active
+
+    pub held_there : IsThere held_spot t
+    held_there =
+        let d = w.reading in
+        let r = w.reader in
+        let from = w.from in
+        let after = r.after in
+        let end : cycle_at e o values h r.user ≤ (spot_range e o values held_spot).last + 1 =
+        subst (λ (v : LiveRange). cycle_at e o values h r.user ≤ v.last + 1) held_range d.last in
+        (from, omega (arith, after, end))
+
+    pub held_block : (let s = held_spot in s.definer.block ≡ last.user.block)
+    held_block = let d = w.reading in d.block ∙ w.block
+
+    pub held_value : spot_carried held_spot ≡ v
+    held_value =
+        let d = w.reading in
+        let r = w.reader in
+        sym (carried_is e o values (numbered e o values h) (fit_kinds e o values h) held_spot held_member) ∙ d.value ∙ r.value
+
+  -- what carries two values of a block in one cycle has different registers
+  pub held_differ : (v u : TempId) (t : ℕ) (p : Reader e o values h v t) (q : Reader e o values h u t) (a : Held e o values h v t p)
+      (b : Held e o values h u t q) → p.user.block ≡ q.user.block → (v ≡ u → ⊥)
+      → reg_of (held_spot v t p a) ≡ reg_of (held_spot u t q b) → ⊥
+  held_differ v u t p q a b block ne =
+      let s = held_spot v t p a in
+      let z = held_spot u t q b in
+      other_register s z t (held_member v t p a) (held_member u t q b)
+      (λ same. ne (
+      let one = one_spot e o values (numbered e o values h) s z (held_member v t p a) (held_member u t q b) same in
+      sym (held_value v t p a) ∙ ap spot_carried one ∙ held_value u t q b))
+      (held_active v t p a) (held_active u t q b) (held_block v t p a ∙ block ∙ sym (held_block u t q b)) (held_there v t p a)
+      (held_there u t q b)
+
   -- ---- values that cross
 
   -- value v is defined by the cycle of call c, whose result it is not, and is read after that
@@ -147,34 +195,19 @@ module _ (e : Ext) (o : Options) (values : List ℕ) (h : Solved e o values) whe
     s = spot_in c k
 
     pub spot_member : Member (spot_in c k) (spots e o values)
-    spot_member = let w = k.held in let d = w.reading in d.member
-
-    range : range_at e o values s.temp.0 ≡ spot_range e o values s
-    range = range_here e o values (numbered e o values h) s spot_member
+    spot_member = let x = k.crossing in held_member k.value (cycle_at e o values h c) x.reader k.held
 
     pub spot_active : is_active (spot_in c k) ≡ true
-    spot_active = let w = k.held in let d = w.reading in subst (λ (r : LiveRange). r.active ≡ true) range d.active
+    spot_active = let x = k.crossing in held_active k.value (cycle_at e o values h c) x.reader k.held
 
     pub spot_there : IsThere (spot_in c k) (cycle_at e o values h c)
-    spot_there =
-        let w = k.held in
-        let d = w.reading in
-        let r = w.reader in
-        let from = w.from in
-        let after = r.after in
-        let last : cycle_at e o values h r.user ≤ (spot_range e o values s).last + 1 =
-        subst (λ (v : LiveRange). cycle_at e o values h r.user ≤ v.last + 1) range d.last in
-        (from, omega (arith, after, last))
+    spot_there = let x = k.crossing in held_there k.value (cycle_at e o values h c) x.reader k.held
 
     pub spot_block : (let q = spot_in c k in q.definer.block ≡ c.block)
-    spot_block = let w = k.held in let d = w.reading in let x = k.crossing in d.block ∙ w.block ∙ x.block
+    spot_block = let x = k.crossing in held_block k.value (cycle_at e o values h c) x.reader k.held ∙ x.block
 
     pub spot_value : spot_carried (spot_in c k) ≡ k.value
-    spot_value =
-        let w = k.held in
-        let d = w.reading in
-        let r = w.reader in
-        sym (carried_is e o values (numbered e o values h) (fit_kinds e o values h) s spot_member) ∙ d.value ∙ r.value
+    spot_value = let x = k.crossing in held_value k.value (cycle_at e o values h c) x.reader k.held
 
     module _ (mc : Member c (all e o values)) (call : is_call_kind c.op.kind ≡ true) where
       -- the call does not give it
@@ -213,11 +246,9 @@ module _ (e : Ext) (o : Options) (values : List ℕ) (h : Solved e o values) whe
   -- what carries different values has different registers
   pub different : (c : Placed) (k l : Carried c) → (k.value ≡ l.value → ⊥) → reg_of (spot_in c k) ≡ reg_of (spot_in c l) → ⊥
   different c k l ne =
-      other_register (spot_in c k) (spot_in c l) (cycle_at e o values h c) (spot_member c k) (spot_member c l)
-      (λ same. ne (
-      let one = one_spot e o values (numbered e o values h) (spot_in c k) (spot_in c l) (spot_member c k) (spot_member c l) same in
-      sym (spot_value c k) ∙ ap spot_carried one ∙ spot_value c l))
-      (spot_active c k) (spot_active c l) (spot_block c k ∙ sym (spot_block c l)) (spot_there c k) (spot_there c l)
+      let x = k.crossing in
+      let y = l.crossing in
+      held_differ k.value l.value (cycle_at e o values h c) x.reader y.reader k.held l.held (x.block ∙ sym y.block) ne
 
   -- the registers, but for slots, in which what is active in the block of call c may be, and which it does not clobber, are among these
   abbrev pub Covers : Placed → List ℕ → Type 0
@@ -257,3 +288,26 @@ module _ (e : Ext) (o : Options) (values : List ℕ) (h : Solved e o values) whe
   pub values_differ : (c : Placed) (vs : List TempId) (each : Each (Crossing c) vs) → Differ vs → Pairwise (Differs c) (carried_all c vs each)
   values_differ c vs each differ = pairwise_of_map (λ x y. x ≡ y → ⊥) (λ (k : Carried c). k.value) (carried_all c vs each)
       (subst (λ us. Differ us) (sym (carried_values c vs each)) differ)
+
+  -- the registers and slots in which what is active in the block of call c may be, and which it does not clobber, are among these
+  abbrev pub CoversAll : Placed → List ℕ → Type 0
+  CoversAll c room = (s : Spot) → Member s (spots e o values) → s.definer.block ≡ c.block → is_active s ≡ true
+      → in_mask (e.table).clobbered (reg_of s) ≡ false → Member (reg_of s) room
+
+  -- no more values cross a call than there is room for
+  pub across_fits : (c : Placed) → Member c (all e o values) → is_call_kind c.op.kind ≡ true → (room : List ℕ) → CoversAll c room
+      → (vs : List TempId) → Each (Crossing c) vs → Differ vs → length vs ≤ length room
+  across_fits c mc call room covers vs each differ =
+      let ks = carried_all c vs each in
+      let regs = map (λ (k : Carried c). reg_of (spot_in c k)) ks in
+      let others : Differ regs = pairwise_map (λ x y. x ≡ y → ⊥) (λ (k : Carried c). reg_of (spot_in c k)) ks
+      (pairwise_more (Differs c) (λ k l. reg_of (spot_in c k) ≡ reg_of (spot_in c l) → ⊥) ks (λ k l mk ml ne. different c k l ne)
+      (values_differ c vs each differ)) in
+      let there : Each (λ x. Member x room) regs = each_map (λ x. Member x room) (λ (k : Carried c). reg_of (spot_in c k)) ks
+      (each_of (λ k. Member (reg_of (spot_in c k)) room) ks (λ k m. covers (spot_in c k) (spot_member c k) (spot_block c k) (spot_active c k)
+      (spot_kept c k mc call))) in
+      let le = pigeons regs room others there in
+      let long = length_mapped (λ (k : Carried c). reg_of (spot_in c k)) ks in
+      let a = ap length (carried_values c vs each) in
+      let b = length_mapped (λ (k : Carried c). k.value) ks in
+      omega (arith, le, long, a, b)

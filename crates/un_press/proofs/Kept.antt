@@ -43,22 +43,35 @@ use Rattle.un_model.specs.Registers.{is_truth}
 use Rattle.un_model.specs.Instructions.{gives_truth}
 use Rattle.un_model.specs.Solutions.{InDomain}
 use Rattle.un_model.specs.Variables.{register_domain, source_domain, carried}
-use Rattle.un_model.proofs.Lists.{Each, Member, each_member, each_of, each_join, any_of, member_of_filter, member_filter, place_of}
+use Rattle.un_model.proofs.Lists.{Each, Member, member_append_left, member_append_right, each_more, member_at, each_member, each_of, each_join, any_of, member_of_filter, member_filter, place_of}
 use Rattle.un_model.proofs.OpDomains.{register_sits, in_entry}
 use Rattle.un_model.proofs.Operations.{contains_member}
 use Rattle.un_model.proofs.Placed.{Placed, Spot}
 use Rattle.un_model.proofs.PlacedSchedules.{all, spots, definer_in}
 use Rattle.un_model.proofs.Readings.{Solved, numbered, placed_good, placed_domains}
-use Rattle.un_press.proofs.Crossings.{reg_of, Covers}
+use Rattle.un_press.proofs.Crossings.{reg_of, Covers, CoversAll}
 use Rattle.un_press.proofs.Spilling.{result_at}
 
 -- ---- registers that are neither r29 nor r30
 
-abbrev Safe : ℕ → Type 0
-Safe r = (r < 29) ⊎ (31 ≤ r)
+-- a register that may be a home
+abbrev pub Home : ℕ → Type 0
+Home r = (r < 29) ⊎ (r ≡ 31)
 
-abbrev SafeHome : Option Reg → Type 0
-SafeHome home = IfSome home (λ (r : Reg). Safe r.0)
+abbrev pub HasHome : Option Reg → Type 0
+HasHome home = IfSome home (λ (r : Reg). Home r.0)
+
+-- a register or one of so many slots
+abbrev pub Safe : ℕ → ℕ → Type 0
+Safe slots r = (r < 29) ⊎ ((31 ≤ r) × (r < 36 + slots))
+
+home_safe : (slots r : ℕ) → Home r → Safe slots r
+home_safe slots r (inl lt) = inl lt
+home_safe slots r (inr is) = inr (omega (arith, is), omega (arith, is))
+
+home_low : (r : ℕ) → Home r → r < 36
+home_low r (inl lt) = omega (arith, lt)
+home_low r (inr is) = omega (arith, is)
 
 below : (a n r : ℕ) → Member r (range_with_len a n) → r < a + n
 below a zero r m = elim m [ ]
@@ -96,119 +109,119 @@ module _ (t : Table) (fit : IsFit t) where
       let f = and_right (nat_le 6 r) (nat_lt r 29) (fit.saved r (omega (arith, lt)) m) in
       grind (arith, nat_tests, f)
 
-  saved_safe : Each Safe (callee_saved t)
+  saved_homes : Each Home (callee_saved t)
   unfolding callee_saved
-  saved_safe = each_of Safe (callee_saved t) (λ r m.
+  saved_homes = each_of Home (callee_saved t) (λ r m.
       let s = member_of_filter (in_mask t.saved) (range_with_len 0 32) r m in
       let lt = below 0 32 r s.0 in
       inl (saved_low r (omega (arith, lt)) s.1))
 
-  registers_safe : Each Safe (saved_registers t)
-  registers_safe = each_join Safe (callee_saved t) (31 ∷ []) saved_safe (inr (omega arith), tt)
+  register_homes : Each Home (saved_registers t)
+  register_homes = each_join Home (callee_saved t) (31 ∷ []) saved_homes (inr refl, tt)
 
-  arg_safe : Each Safe t.args
-  arg_safe = subst (λ xs. Each Safe xs) (sym fit.args)
+  arg_homes : Each Home t.args
+  arg_homes = subst (λ xs. Each Home xs) (sym fit.args)
       (inl (omega arith), (inl (omega arith), (inl (omega arith), (inl (omega arith), (inl (omega arith), (inl (omega arith), tt))))))
 
-  result_safe : Safe t.result
-  result_safe = let z = fit.result in inl (omega (arith, z))
+  result_is_home : Home t.result
+  result_is_home = let z = fit.result in inl (omega (arith, z))
 
-  index_safe : (xs : List ℕ) (k : ℕ) → Each Safe xs → Safe (slice_index xs k)
-  index_safe [] k h = inl (omega arith)
-  index_safe (x ∷ xs) zero h = h.0
-  index_safe (x ∷ xs) (suc k) h = index_safe xs k h.1
+  index_home : (xs : List ℕ) (k : ℕ) → Each Home xs → Home (slice_index xs k)
+  index_home [] k h = inl (omega arith)
+  index_home (x ∷ xs) zero h = h.0
+  index_home (x ∷ xs) (suc k) h = index_home xs k h.1
 
-  get_safe : (xs : List ℕ) (k : ℕ) → Each Safe xs → SafeHome (option_map reg_at (slice_get xs k))
-  get_safe [] k h = tt
-  get_safe (x ∷ xs) zero h = h.0
-  get_safe (x ∷ xs) (suc k) h = get_safe xs k h.1
+  get_home : (xs : List ℕ) (k : ℕ) → Each Home xs → HasHome (option_map reg_at (slice_get xs k))
+  get_home [] k h = tt
+  get_home (x ∷ xs) zero h = h.0
+  get_home (x ∷ xs) (suc k) h = get_home xs k h.1
 
-  start_safe : (ie : Bool) (live : List NameId) (j : ℕ) (x : Option NameId) → SafeHome (start_home t ie live j x)
-  start_safe ie live j None = get_safe (saved_registers t) (j - length live) registers_safe
-  start_safe true live j (Some name) = index_safe t.args name.0 arg_safe
-  start_safe false live j (Some name) = tt
+  start_is_home : (ie : Bool) (live : List NameId) (j : ℕ) (x : Option NameId) → HasHome (start_home t ie live j x)
+  start_is_home ie live j None = get_home (saved_registers t) (j - length live) register_homes
+  start_is_home true live j (Some name) = index_home t.args name.0 arg_homes
+  start_is_home false live j (Some name) = tt
 
-  call_safe : (op : Op) → SafeHome (call_home t op)
-  call_safe Call = result_safe
-  call_safe _ = tt
+  call_is_home : (op : Op) → HasHome (call_home t op)
+  call_is_home Call = result_is_home
+  call_is_home _ = tt
 
-  home_safe : (ie : Bool) (live : List NameId) (k : ExtKind) (j : ℕ) → SafeHome (result_home t ie live k j)
-  home_safe ie live In j = start_safe ie live j (slice_get live j)
-  home_safe ie live (Body so) j = call_safe so.op
-  home_safe ie live Out j = tt
-  home_safe ie live (End term) j = tt
-  home_safe ie live (Copy node) j = tt
-  home_safe ie live Enter j = tt
-  home_safe ie live Leave j = tt
+  result_has_home : (ie : Bool) (live : List NameId) (k : ExtKind) (j : ℕ) → HasHome (result_home t ie live k j)
+  result_has_home ie live In j = start_is_home ie live j (slice_get live j)
+  result_has_home ie live (Body so) j = call_is_home so.op
+  result_has_home ie live Out j = tt
+  result_has_home ie live (End term) j = tt
+  result_has_home ie live (Copy node) j = tt
+  result_has_home ie live Enter j = tt
+  result_has_home ie live Leave j = tt
 
   -- ---- homes that operands want
 
-  abbrev SafeWant : Want → Type 0
-  SafeWant w = SafeHome w.home
+  abbrev WantsHome : Want → Type 0
+  WantsHome w = HasHome w.home
 
-  words_safe : (rs : List ℕ) → Each Safe rs → Each SafeWant (map word_in rs)
-  words_safe [] h = tt
-  words_safe (r ∷ rs) h = (h.0, words_safe rs h.1)
+  words_home : (rs : List ℕ) → Each Home rs → Each WantsHome (map word_in rs)
+  words_home [] h = tt
+  words_home (r ∷ rs) h = (h.0, words_home rs h.1)
 
-  names_safe : {A : Type 0} (f : A → Kind) (xs : List A) → Each SafeWant (map (λ (x : A). anywhere (f x)) xs)
-  names_safe f [] = tt
-  names_safe f (x ∷ xs) = (tt, names_safe f xs)
+  names_home : {A : Type 0} (f : A → Kind) (xs : List A) → Each WantsHome (map (λ (x : A). anywhere (f x)) xs)
+  names_home f [] = tt
+  names_home f (x ∷ xs) = (tt, names_home f xs)
 
-  kinds_safe : (ks : List Kind) → Each SafeWant (map anywhere ks)
-  kinds_safe [] = tt
-  kinds_safe (k ∷ ks) = (tt, kinds_safe ks)
+  kinds_home : (ks : List Kind) → Each WantsHome (map anywhere ks)
+  kinds_home [] = tt
+  kinds_home (k ∷ ks) = (tt, kinds_home ks)
 
-  take_safe : (n : ℕ) (xs : List ℕ) → Each Safe xs → Each Safe (take n xs)
-  take_safe zero xs h = tt
-  take_safe (suc n) [] h = tt
-  take_safe (suc n) (x ∷ xs) h = (h.0, take_safe n xs h.1)
+  take_home : (n : ℕ) (xs : List ℕ) → Each Home xs → Each Home (take n xs)
+  take_home zero xs h = tt
+  take_home (suc n) [] h = tt
+  take_home (suc n) (x ∷ xs) h = (h.0, take_home n xs h.1)
 
-  op_safe : (so : SrcOp) (op : Op) → Each SafeWant (wants_of_op t so op)
-  op_safe so Call = words_safe (take (length so.srcs) t.args) (take_safe (length so.srcs) t.args arg_safe)
-  op_safe so op = kinds_safe (operand_kinds op)
+  op_home : (so : SrcOp) (op : Op) → Each WantsHome (wants_of_op t so op)
+  op_home so Call = words_home (take (length so.srcs) t.args) (take_home (length so.srcs) t.args arg_homes)
+  op_home so op = kinds_home (operand_kinds op)
 
-  handed_safe : (names : List Kind) (live : List NameId) → Each SafeWant (map (λ (name : NameId). anywhere (name_kind names name)) live ++
+  handed_home : (names : List Kind) (live : List NameId) → Each WantsHome (map (λ (name : NameId). anywhere (name_kind names name)) live ++
       map (λ (r : ℕ). anywhere General) (saved_registers t))
-  handed_safe names live = each_join SafeWant (map (λ (name : NameId). anywhere (name_kind names name)) live)
-      (map (λ (r : ℕ). anywhere General) (saved_registers t)) (names_safe (name_kind names) live)
-      (names_safe (λ (r : ℕ). General) (saved_registers t))
+  handed_home names live = each_join WantsHome (map (λ (name : NameId). anywhere (name_kind names name)) live)
+      (map (λ (r : ℕ). anywhere General) (saved_registers t)) (names_home (name_kind names) live)
+      (names_home (λ (r : ℕ). General) (saved_registers t))
 
-  out_safe : (names : List Kind) (live : List NameId) (term : Term) → Each SafeWant (wants_of_out t names live term)
-  out_safe names live (Ret None) = words_safe (callee_saved t) saved_safe
-  out_safe names live (Ret (Some name)) = (result_safe, words_safe (callee_saved t) saved_safe)
-  out_safe names live Fall = handed_safe names live
-  out_safe names live (Jump to) = handed_safe names live
-  out_safe names live (Branch pred sense to) = handed_safe names live
+  out_home : (names : List Kind) (live : List NameId) (term : Term) → Each WantsHome (wants_of_out t names live term)
+  out_home names live (Ret None) = words_home (callee_saved t) saved_homes
+  out_home names live (Ret (Some name)) = (result_is_home, words_home (callee_saved t) saved_homes)
+  out_home names live Fall = handed_home names live
+  out_home names live (Jump to) = handed_home names live
+  out_home names live (Branch pred sense to) = handed_home names live
 
-  end_safe : (term : Term) → Each SafeWant (wants_of_end term)
-  end_safe Fall = tt
-  end_safe (Jump to) = tt
-  end_safe (Branch pred sense to) = (tt, tt)
-  end_safe (Ret value) = (tt, tt)
+  end_home : (term : Term) → Each WantsHome (wants_of_end term)
+  end_home Fall = tt
+  end_home (Jump to) = tt
+  end_home (Branch pred sense to) = (tt, tt)
+  end_home (Ret value) = (tt, tt)
 
-  wants_safe : (names : List Kind) (blocks : List ExtBlock) (block : ExtBlock) (k : ExtKind) (op : ExtOp)
-      → Each SafeWant (wants_of t names blocks block k op)
-  wants_safe names blocks block Out op = let ending = ending_of block.ops in out_safe names block.live_out ending.term
-  wants_safe names blocks block (Body so) op = op_safe so so.op
-  wants_safe names blocks block (End term) op = end_safe term
-  wants_safe names blocks block (Copy node) op = (tt, tt)
-  wants_safe names blocks block In op = tt
-  wants_safe names blocks block Enter op = tt
-  wants_safe names blocks block Leave op = tt
+  wants_home : (names : List Kind) (blocks : List ExtBlock) (block : ExtBlock) (k : ExtKind) (op : ExtOp)
+      → Each WantsHome (wants_of t names blocks block k op)
+  wants_home names blocks block Out op = let ending = ending_of block.ops in out_home names block.live_out ending.term
+  wants_home names blocks block (Body so) op = op_home so so.op
+  wants_home names blocks block (End term) op = end_home term
+  wants_home names blocks block (Copy node) op = (tt, tt)
+  wants_home names blocks block In op = tt
+  wants_home names blocks block Enter op = tt
+  wants_home names blocks block Leave op = tt
 
   zip_homes : (names : List Kind) (blocks : List ExtBlock) (before : List TempId) (xs : List Operand) (ws : List Want)
-      → AllZip (IsGoodOperand names blocks before) xs ws → Each SafeWant ws → Each (λ (x : Operand). SafeHome x.home) xs
+      → AllZip (IsGoodOperand names blocks before) xs ws → Each WantsHome ws → Each (λ (x : Operand). HasHome x.home) xs
   zip_homes names blocks before [] [] h s = tt
   zip_homes names blocks before [] (w ∷ ws) h s = absurd h
   zip_homes names blocks before (x ∷ xs) [] h s = absurd h
   zip_homes names blocks before (x ∷ xs) (w ∷ ws) h s = let k = h.0 in
-      (subst SafeHome (sym k.home) s.0, zip_homes names blocks before xs ws h.1 s.1)
+      (subst HasHome (sym k.home) s.0, zip_homes names blocks before xs ws h.1 s.1)
 
   -- ---- the homes of a value
 
-  is_reg_safe : (home : Option Reg) (r : ℕ) → SafeHome home → is_register home r ≡ true → Safe r
-  is_reg_safe None r s q = absurd (cc q)
-  is_reg_safe (Some x) r s q = let same : x.0 ≡ r = eqb-true x.0 r q in subst Safe same s
+  is_reg_home : (home : Option Reg) (r : ℕ) → HasHome home → is_register home r ≡ true → Home r
+  is_reg_home None r s q = absurd (cc q)
+  is_reg_home (Some x) r s q = let same : x.0 ≡ r = eqb-true x.0 r q in subst Home same s
 
   any_place : {A : Type 0} (p : ℕ → A → Bool) (i : ℕ) (xs : List A) → any_from p i xs ≡ true → (j : ℕ) × (x : A) × (p j x ≡ true)
   any_place p i [] q = absurd (cc q)
@@ -219,31 +232,31 @@ module _ (t : Table) (fit : IsFit t) where
       by true e f rest = (i, x, e)
       by false e f rest = rest f
 
-  -- the homes of a block's operands are safe
-  abbrev SafeBlock : ExtBlock → Type 0
-  SafeBlock block = Each (λ (op : ExtOp). Each (λ (x : Operand). SafeHome x.home) op.operands) block.ops
+  -- the homes of a block's operands are homes
+  abbrev HomesIn : ExtBlock → Type 0
+  HomesIn block = Each (λ (op : ExtOp). Each (λ (x : Operand). HasHome x.home) op.operands) block.ops
 
-  home_is_safe : (ie : Bool) (block : ExtBlock) (x : TempId) (r : ℕ) → SafeBlock block → is_home t ie block x r ≡ true → Safe r
-  home_is_safe ie block x r s q =
+  value_home : (ie : Bool) (block : ExtBlock) (x : TempId) (r : ℕ) → HomesIn block → is_home t ie block x r ≡ true → Home r
+  value_home ie block x r s q =
       let some = any_of (λ (op : ExtOp). is_operand_home op x r || is_result_home t ie block.live_in op x r) block.ops q in
       let op = some.0 in
       elim (or_cases (is_operand_home op x r) (is_result_home t ie block.live_in op x r) some.2) [
         | inl f ↦ (
             let y = any_of (λ (operand : Operand). reads_value operand x && is_register operand.home r) op.operands f in
-            let homes = each_member (λ (op : ExtOp). Each (λ (x : Operand). SafeHome x.home) op.operands) block.ops op s some.1 in
-            is_reg_safe (y.0).home r (each_member (λ (x : Operand). SafeHome x.home) op.operands y.0 homes y.1)
+            let homes = each_member (λ (op : ExtOp). Each (λ (x : Operand). HasHome x.home) op.operands) block.ops op s some.1 in
+            is_reg_home (y.0).home r (each_member (λ (x : Operand). HasHome x.home) op.operands y.0 homes y.1)
             (and_right (reads_value y.0 x) (is_register (y.0).home r) y.2))
         | inr f ↦ (
             let y = any_place (λ (j : ℕ) (y : TempId). y.0 == x.0 && is_register (result_home t ie block.live_in op.kind j) r) 0 op.results f
             in
-            is_reg_safe (result_home t ie block.live_in op.kind y.0) r (home_safe ie block.live_in op.kind y.0)
+            is_reg_home (result_home t ie block.live_in op.kind y.0) r (result_has_home ie block.live_in op.kind y.0)
             (and_right ((y.1).0 == x.0) (is_register (result_home t ie block.live_in op.kind y.0) r) y.2))
       ]
 
   -- a safe register that a call keeps is one that functions keep
-  pub kept_saved : (r : ℕ) → Safe r → r < 36 → in_mask t.clobbered r ≡ false → Member r (callee_saved t)
+  pub kept_saved : (slots r : ℕ) → Safe slots r → r < 36 → in_mask t.clobbered r ≡ false → Member r (callee_saved t)
   unfolding callee_saved
-  kept_saved r safe lt spared = by (in_mask t.saved r) refl (is_clobbered r) refl
+  kept_saved slots r safe lt spared = by (in_mask t.saved r) refl (is_clobbered r) refl
     where
       by : (b : Bool) → in_mask t.saved r ≡ b → (d : Bool) → is_clobbered r ≡ d → Member r (callee_saved t)
       by true s d c =
@@ -262,7 +275,7 @@ module _ (t : Table) (fit : IsFit t) where
           let a : nat_le 16 r ≡ true = grind (arith, nat_tests, lo) in
           let b : nat_le r 27 ≡ true = elim safe [
             | inl low ↦ grind (arith, nat_tests, low, m)
-            | inr high ↦ grind (arith, nat_tests, high, l, hi)
+            | inr high ↦ (let least = high.0 in grind (arith, nat_tests, least, l, hi))
           ] in
           let saved : is_saved r ≡ true = rw (a, b) refl in
           let no : true ≡ false = sym (fit.kept r lt saved) ∙ s in
@@ -277,79 +290,113 @@ module _ (t : Table) (fit : IsFit t) where
 
 -- ---- domains
 
-assignable_safe : (regs : Option ℕ) → IfSome regs IsCountOfRegisters → (r : ℕ) → is_assignable regs r ≡ true → Safe r
-assignable_safe None h r q = elim (or_cases (nat_lt r 29) (r == 31) q) [
+assignable_home : (regs : Option ℕ) → IfSome regs IsCountOfRegisters → (r : ℕ) → is_assignable regs r ≡ true → Home r
+assignable_home None h r q = elim (or_cases (nat_lt r 29) (r == 31) q) [
   | inl lt ↦ inl (grind (arith, nat_tests, lt))
-  | inr same ↦ inr (let e : r ≡ 31 = eqb-true r 31 same in omega (arith, e))
+  | inr same ↦ inr (eqb-true r 31 same)
 ]
-assignable_safe (Some n) h r q = inl (let le = h.1 in let lt : r < n = grind (arith, nat_tests, q) in omega (arith, le, lt))
-
-slots_safe : (n : ℕ) → Each Safe (slots_of n)
-slots_safe n = each_of Safe (slots_of n) (λ r m. inr (let le = from 36 36 n r (omega arith) m in omega (arith, le)))
-
-preds_safe : Each Safe predicate_registers
-preds_safe = (inr (omega arith), (inr (omega arith), (inr (omega arith), (inr (omega arith), tt))))
+assignable_home (Some n) h r q = inl (let le = h.1 in let lt : r < n = grind (arith, nat_tests, q) in omega (arith, le, lt))
 
 module _ (e : Ext) (o : Options) (values : List ℕ) (h : Solved e o values) where
-  safe_block : (p : Placed) → Member p (all e o values) → SafeBlock e.table h.fit p.owner
-  safe_block p m = each_of (λ (op : ExtOp). Each (λ (x : Operand). SafeHome x.home) op.operands) p.owner.ops (λ op mo.
+  block_homes : (p : Placed) → Member p (all e o values) → HomesIn e.table h.fit p.owner
+  block_homes p m = each_of (λ (op : ExtOp). Each (λ (x : Operand). HasHome x.home) op.operands) p.owner.ops (λ op mo.
       let g = placed_good e o values h p m in
       let b = g.block in
       let r = place_of p.owner.ops op mo in
       let k = b.ops r.0 op r.2 in
       zip_homes e.table h.fit e.names e.blocks (results_of (take r.0 p.owner.ops)) op.operands
-      (wants_of e.table e.names e.blocks p.owner op.kind op) k.operands (wants_safe e.table h.fit e.names e.blocks p.owner op.kind op))
+      (wants_of e.table e.names e.blocks p.owner op.kind op) k.operands (wants_home e.table h.fit e.names e.blocks p.owner op.kind op))
 
-  general_safe : (ie : Bool) (p : Placed) (x : TempId) → Member p (all e o values) → Each Safe (general_registers e o.regs ie p.owner x)
+  -- the home of an operand is no slot
+  pub operand_home : (p : Placed) (j : ℕ) (x : Operand) → Member p (all e o values) → slice_get p.op.operands j ≡ Some x
+      → IfSome x.home (λ (r : Reg). r.0 < 36)
+  operand_home p j x m at =
+      let g = placed_good e o values h p m in
+      let keeps = g.keeps in
+      let homes = zip_homes e.table h.fit e.names e.blocks g.before p.op.operands
+      (wants_of e.table e.names e.blocks p.owner p.op.kind p.op) keeps.operands (wants_home e.table h.fit e.names e.blocks p.owner p.op.kind p.op)
+      in
+      low x.home (each_member (λ (y : Operand). HasHome y.home) p.op.operands x homes (member_at p.op.operands j x at))
+    where
+      low : (home : Option Reg) → HasHome home → IfSome home (λ (r : Reg). r.0 < 36)
+      low None a = tt
+      low (Some r) a = home_low r.0 a
+
+  general_homes : (ie : Bool) (p : Placed) (x : TempId) → Member p (all e o values) → Each Home (general_registers e o.regs ie p.owner x)
   unfolding general_registers
-  general_safe ie p x m = each_of Safe (general_registers e o.regs ie p.owner x) (λ r mr.
+  general_homes ie p x m = each_of Home (general_registers e o.regs ie p.owner x) (λ r mr.
       let f = member_of_filter (λ (r : ℕ). is_assignable o.regs r || is_home e.table ie p.owner x r) (range_with_len 0 32) r mr in
       let opt = h.options in
       elim (or_cases (is_assignable o.regs r) (is_home e.table ie p.owner x r) f.1) [
-        | inl a ↦ assignable_safe o.regs opt.regs r a
-        | inr b ↦ home_is_safe e.table h.fit ie p.owner x r (safe_block p m) b
+        | inl a ↦ assignable_home o.regs opt.regs r a
+        | inr b ↦ value_home e.table h.fit ie p.owner x r (block_homes p m) b
       ])
 
-  value_safe : (ie : Bool) (p : Placed) (x : TempId) → Member p (all e o values) → Each Safe (value_registers e o.regs o.slots ie p.owner x)
+  abbrev IsSafe : ℕ → Type 0
+  IsSafe r = Safe o.slots r
+
+  from_homes : (rs : List ℕ) → Each Home rs → Each IsSafe rs
+  from_homes rs a = each_more Home IsSafe rs (λ r b. home_safe o.slots r b) a
+
+  slots_safe : Each IsSafe (slots_of o.slots)
+  slots_safe = each_of IsSafe (slots_of o.slots) (λ r m.
+      let lo = from 36 36 o.slots r (omega arith) m in
+      let hi = below 36 o.slots r m in
+      inr (omega (arith, lo), omega (arith, hi)))
+
+  preds_safe : Each IsSafe predicate_registers
+  preds_safe = (
+    inr (omega arith, omega arith),
+    (inr (omega arith, omega arith), (inr (omega arith, omega arith), (inr (omega arith, omega arith), tt))),
+  )
+
+  value_safe : (ie : Bool) (p : Placed) (x : TempId) → Member p (all e o values) → Each IsSafe (value_registers e o.regs o.slots ie p.owner x)
   value_safe ie p x m =
-      each_join Safe (general_registers e o.regs ie p.owner x ++ (if is_truth e.names p.owner x then predicate_registers else []))
+      each_join IsSafe (general_registers e o.regs ie p.owner x ++ (if is_truth e.names p.owner x then predicate_registers else []))
       (slots_of o.slots)
-      (each_join Safe (general_registers e o.regs ie p.owner x) (if is_truth e.names p.owner x then predicate_registers else [])
-      (general_safe ie p x m) (preds (is_truth e.names p.owner x))) (slots_safe o.slots)
+      (each_join IsSafe (general_registers e o.regs ie p.owner x) (if is_truth e.names p.owner x then predicate_registers else [])
+      (from_homes (general_registers e o.regs ie p.owner x) (general_homes ie p x m)) (preds (is_truth e.names p.owner x))) slots_safe
     where
-      preds : (b : Bool) → Each Safe (if b then predicate_registers else [])
+      preds : (b : Bool) → Each IsSafe (if b then predicate_registers else [])
       preds true = preds_safe
       preds false = tt
 
-  zero_safe : (rs : List ℕ) → Each Safe rs → Each Safe (with_zero rs)
+  zero_safe : (rs : List ℕ) → Each IsSafe rs → Each IsSafe (with_zero rs)
   zero_safe [] s = (inl (omega arith), tt)
   zero_safe (r ∷ rs) s = go (r == 0)
     where
-      go : (b : Bool) → Each Safe (if b then r ∷ rs else 0 ∷ r ∷ rs)
+      go : (b : Bool) → Each IsSafe (if b then r ∷ rs else 0 ∷ r ∷ rs)
       go true = s
       go false = (inl (omega arith), s)
 
-  in_set : (vs : List ℕ) (v : ℕ) → Each Safe vs → InDomain v (Set vs) → Safe v
-  in_set vs v s d = each_member Safe vs v s (contains_member vs v d)
+  in_set : (vs : List ℕ) (v : ℕ) → Each IsSafe vs → InDomain v (Set vs) → IsSafe v
+  in_set vs v s d = each_member IsSafe vs v s (contains_member vs v d)
 
   source_safe : (ie : Bool) (p : Placed) (op : Op) (x : TempId) (v : ℕ) → Member p (all e o values)
-      → InDomain v (source_domain e o ie p.owner op x) → Safe v
-  source_safe ie p Call x v m d = in_set ((e.table).result ∷ []) v (result_safe e.table h.fit, tt) d
+      → InDomain v (source_domain e o ie p.owner op x) → IsSafe v
+  source_safe ie p Call x v m d = in_set ((e.table).result ∷ []) v
+      (home_safe o.slots (e.table).result (result_is_home e.table h.fit), tt) d
   source_safe ie p op x v m d = in_set (if gives_truth op then predicate_registers else general_registers e o.regs ie p.owner x) v
       (go (gives_truth op)) d
     where
-      go : (b : Bool) → Each Safe (if b then predicate_registers else general_registers e o.regs ie p.owner x)
+      go : (b : Bool) → Each IsSafe (if b then predicate_registers else general_registers e o.regs ie p.owner x)
       go true = preds_safe
-      go false = general_safe ie p x m
+      go false = from_homes (general_registers e o.regs ie p.owner x) (general_homes ie p x m)
 
-  homes_safe : (r : Option Reg) → SafeHome r → Each Safe (map (λ (r : Reg). r.0) (option_to_list r))
-  homes_safe None s = tt
-  homes_safe (Some r) s = (s, tt)
+  one_home : (r : Option Reg) → HasHome r → Each Home (map (λ (r : Reg). r.0) (option_to_list r))
+  one_home None s = tt
+  one_home (Some r) s = (s, tt)
+
+  abbrev entry_home : Placed → ℕ → Option Reg
+  entry_home p j = result_home e.table true p.owner.live_in In j
+
+  entry_homes : (p : Placed) (j : ℕ) → Each Home (map (λ (r : Reg). r.0) (option_to_list (entry_home p j)))
+  entry_homes p j = one_home (entry_home p j) (result_has_home e.table h.fit true p.owner.live_in In j)
 
   domain_safe : (ie : Bool) (p : Placed) (k : ExtKind) (j : ℕ) (x y : TempId) (v : ℕ) → Member p (all e o values)
-      → InDomain v (register_domain e o ie p.owner k j x y) → Safe v
-  domain_safe true p In j x y v m d = in_set (map (λ (r : Reg). r.0) (option_to_list (result_home e.table true p.owner.live_in In j))) v
-      (homes_safe (result_home e.table true p.owner.live_in In j) (home_safe e.table h.fit true p.owner.live_in In j)) d
+      → InDomain v (register_domain e o ie p.owner k j x y) → IsSafe v
+  domain_safe true p In j x y v m d = in_set (map (λ (r : Reg). r.0) (option_to_list (entry_home p j))) v
+      (from_homes (map (λ (r : Reg). r.0) (option_to_list (entry_home p j))) (entry_homes p j)) d
   domain_safe false p In j x y v m d = in_set (value_registers e o.regs o.slots false p.owner x) v (value_safe false p x m) d
   domain_safe ie p (Body so) j x y v m d = source_safe ie p so.op x v m d
   domain_safe ie p (Copy node) j x y v m d = in_set (with_zero (value_registers e o.regs o.slots ie p.owner y)) v
@@ -369,51 +416,34 @@ module _ (e : Ext) (o : Options) (values : List ℕ) (h : Solved e o values) whe
       let mp = definer_in e o values (numbered e o values h) s m in
       register_sits e o values (in_entry e o values p) p s.place s.temp (placed_domains e o values h p mp) (result_at e o values h s m)
 
+  -- the register of a result is neither r29 nor r30, nor past the slots
+  pub register_safe : (s : Spot) → Member s (spots e o values) → Safe o.slots (reg_of e o values h s)
+  register_safe s m =
+      let p = s.definer in
+      domain_safe (in_entry e o values p) p p.op.kind s.place s.temp (carried p.op s.temp) (reg_of e o values h s)
+      (definer_in e o values (numbered e o values h) s m) (sits s m)
+
   -- the registers that functions keep are all that calls keep of those that temporaries may have
   pub saved_cover : (c : Placed) → Covers e o values h c (callee_saved e.table)
-  saved_cover c s m block act low spared =
-      let p = s.definer in
-      kept_saved e.table h.fit (reg_of e o values h s)
-      (domain_safe (in_entry e o values p) p p.op.kind s.place s.temp (carried p.op s.temp) (reg_of e o values h s)
-      (definer_in e o values (numbered e o values h) s m) (sits s m)) low spared
+  saved_cover c s m block act low spared = kept_saved e.table h.fit o.slots (reg_of e o values h s) (register_safe s m) low spared
+
+  -- with the slots they are all in which what crosses a call may be
+  pub saved_and_slots : (c : Placed) → CoversAll e o values h c (callee_saved e.table ++ slots_of o.slots)
+  saved_and_slots c s m block act spared = by (nat_lt (reg_of e o values h s) 36) refl
+    where
+      by : (b : Bool) → nat_lt (reg_of e o values h s) 36 ≡ b → Member (reg_of e o values h s) (callee_saved e.table ++ slots_of o.slots)
+      by true f =
+          let low : reg_of e o values h s < 36 = grind (arith, nat_tests, f) in
+          member_append_left (callee_saved e.table) (slots_of o.slots) (reg_of e o values h s) (saved_cover c s m block act low spared)
+      by false f =
+          let high : 36 ≤ reg_of e o values h s = grind (arith, nat_tests, f) in
+          member_append_right (callee_saved e.table) (slots_of o.slots) (reg_of e o values h s)
+          (there 36 o.slots (reg_of e o values h s) high (elim (register_safe s m) [
+            | inl lt ↦ absurd (omega (arith, lt, high))
+            | inr two ↦ two.1
+          ]))
 
   -- ---- the start of the entry
-
-  abbrev Low : ℕ → Type 0
-  Low r = r < 36
-
-  abbrev LowHome : Option Reg → Type 0
-  LowHome home = IfSome home (λ (r : Reg). Low r.0)
-
-  saved_below : Each Low (saved_registers e.table)
-  unfolding callee_saved
-  saved_below = each_join Low (callee_saved e.table) (31 ∷ [])
-      (each_of Low (callee_saved e.table) (λ r m.
-      let s = member_of_filter (in_mask (e.table).saved) (range_with_len 0 32) r m in
-      let lt = below 0 32 r s.0 in omega (arith, lt)))
-      (omega arith, tt)
-
-  args_below : Each Low (e.table).args
-  args_below = let fit = h.fit in subst (λ xs. Each Low xs) (sym fit.args)
-      (omega arith, (omega arith, (omega arith, (omega arith, (omega arith, (omega arith, tt))))))
-
-  index_low : (xs : List ℕ) (k : ℕ) → Each Low xs → Low (slice_index xs k)
-  index_low [] k a = omega arith
-  index_low (x ∷ xs) zero a = a.0
-  index_low (x ∷ xs) (suc k) a = index_low xs k a.1
-
-  get_low : (xs : List ℕ) (k : ℕ) → Each Low xs → LowHome (option_map reg_at (slice_get xs k))
-  get_low [] k a = tt
-  get_low (x ∷ xs) zero a = a.0
-  get_low (x ∷ xs) (suc k) a = get_low xs k a.1
-
-  start_low : (live : List NameId) (j : ℕ) (x : Option NameId) → LowHome (start_home e.table true live j x)
-  start_low live j None = get_low (saved_registers e.table) (j - length live) saved_below
-  start_low live j (Some name) = index_low (e.table).args name.0 args_below
-
-  home_low : (home : Option Reg) (v : ℕ) → LowHome home → InDomain v (Set (map (λ (r : Reg). r.0) (option_to_list home))) → Low v
-  home_low None v a d = let n = contains_member [] v d in elim n [ ]
-  home_low (Some r) v a d = elim (contains_member (r.0 ∷ []) v d) [ inl same ↦ subst Low same a | inr none ↦ elim none [ ] ]
 
   -- no value at the start of the entry has a slot
   pub entry_starts : (s : Spot) → Member s (spots e o values) → (let p = s.definer in p.block ≡ 0) → (let p = s.definer in is_in p.op.kind ≡ true)
@@ -424,12 +454,13 @@ module _ (e : Ext) (o : Options) (values : List ℕ) (h : Solved e o values) whe
           → is_in kind ≡ true → sits_in s → reg_of e o values h s < 36
       by In true k f t d =
           let p = s.definer in
+          let homes = map (λ (r : Reg). r.0) (option_to_list (entry_home p s.place)) in
           let here = subst (λ (b : Bool). InDomain (reg_of e o values h s) (register_domain e o b p.owner In s.place s.temp
           (carried p.op s.temp))) f
           (subst (λ (z : ExtKind). InDomain (reg_of e o values h s) (register_domain e o (in_entry e o values p) p.owner z s.place s.temp
           (carried p.op s.temp))) k d) in
-          home_low (result_home e.table true p.owner.live_in In s.place) (reg_of e o values h s)
-          (start_low p.owner.live_in s.place (slice_get p.owner.live_in s.place)) here
+          home_low (reg_of e o values h s)
+          (each_member Home homes (reg_of e o values h s) (entry_homes p s.place) (contains_member homes (reg_of e o values h s) here))
       by In false k f t d = let p = s.definer in let no : true ≡ false = sym (is_zero p.block entry) ∙ f in absurd (cc no)
         where
           is_zero : (n : ℕ) → n ≡ 0 → nat_eq n 0 ≡ true

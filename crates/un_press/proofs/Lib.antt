@@ -2,6 +2,7 @@ pub mod Counting
 pub mod Crossings
 pub mod Descent
 pub mod Kept
+pub mod Living
 pub mod Loops
 pub mod Needs
 pub mod Premises

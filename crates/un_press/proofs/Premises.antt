@@ -1,7 +1,7 @@
 -- What the operations of an extended function say of values that cross a call: which operations read a value, and that they need a
 -- register.
-use Rattle.std.proofs.Common.{ℕ, ◌≡◌, ◌<◌, Bool, true, false, ◌||◌, List, refl, ap, ◌∙◌, subst, arith}
-use Rattle.std.specs.Prelude.{Option, Some, slice_get, is_some, IfSome}
+use Rattle.std.proofs.Common.{ℕ, ◌≡◌, ◌<◌, ◌≤◌, ◌+◌, ◌⊎◌, inl, inr, Bool, true, false, ◌||◌, List, refl, sym, ap, ◌∙◌, subst, arith}
+use Rattle.std.specs.Prelude.{Option, Some, None, slice_get, is_some, IfSome}
 use Rattle.un_base.specs.declared.ids.TempId.{TempId}
 use Rattle.un_isa.specs.declared.reg.Reg.{Reg}
 use Rattle.un_ir.specs.declared.function.SrcOp.{SrcOp}
@@ -13,18 +13,22 @@ use Rattle.un_ir.specs.declared.extended.Operand.{Operand}
 use Rattle.un_ir.specs.declared.extended.Ext.{Ext}
 use Rattle.un_ir.specs.Extended.{IsGoodKind, IsGoodOperand, IsSourceOp, Want, wants_of, temp}
 use Rattle.un_ir.specs.Kinds.{is_mandatory, is_delimiter}
-use Rattle.un_ir.specs.Linear.{first_of}
+use Rattle.un_ir.specs.Linear.{first_of, is_in}
 use Rattle.un_model.specs.declared.model.Options.{Options}
 use Rattle.un_model.specs.Instructions.{instruction_of, space_read}
 use Rattle.un_model.specs.Schedules.{value_by}
 use Rattle.un_model.specs.Solutions.{InSpace}
 use Rattle.un_model.proofs.Lists.{Member}
-use Rattle.un_model.proofs.Placed.{Placed, vars_of, issue_at}
-use Rattle.un_model.proofs.PlacedSchedules.{all}
+use Rattle.un_model.proofs.Placed.{Placed, vars_of, issue_at, Spot}
+use Rattle.un_model.proofs.PlacedSchedules.{all, spots}
 use Rattle.un_model.proofs.Readings.{Solved, placed_good, zip_get}
+use Rattle.un_press.specs.Accesses.{takes_register}
+use Rattle.un_press.proofs.Crossings.{Crossing}
 use Rattle.un_press.proofs.Descent.{cycle_at, Reader}
+use Rattle.un_press.proofs.Kept.{operand_home, entry_starts}
 use Rattle.un_press.proofs.Needs.{no_slot, reads_register, ends_register}
-use Rattle.un_press.proofs.Reloading.{NeedsRegister}
+use Rattle.un_press.proofs.Reloading.{NeedsRegister, Wanted}
+use Rattle.un_press.proofs.Spilling.{Saved}
 
 module _ (e : Ext) (o : Options) (values : List ℕ) (h : Solved e o values) where
   -- what an operand is to be
@@ -44,7 +48,7 @@ module _ (e : Ext) (o : Options) (values : List ℕ) (h : Solved e o values) whe
   -- ---- readers
 
   -- a mandatory operation that reads is active: a Fall reads nothing
-  reads_active : (q : Placed) (j : ℕ) (x : Operand) → Member q (all e o values) → is_mandatory q.op.kind ≡ true
+  pub reads_active : (q : Placed) (j : ℕ) (x : Operand) → Member q (all e o values) → is_mandatory q.op.kind ≡ true
       → slice_get q.op.operands j ≡ Some x → (issue_at values q).active ≡ true
   reads_active q j x m mandatory at = by q.op.kind refl mandatory
     where
@@ -115,7 +119,79 @@ module _ (e : Ext) (o : Options) (values : List ℕ) (h : Solved e o values) whe
         (ends_register term r.place w.0 wants)
 
     -- an operand with a home
-    pub home_needs : (x : Reg) → (let y = r.operand in y.home ≡ Some x) → x.0 < 36 → NeedsRegister e o values h v t r
-    home_needs x is low reg space home =
-        let same = subst (λ (z : Option Reg). IfSome z (λ (y : Reg). reg ≡ y.0)) is home in
-        omega (arith, same, low)
+    pub home_needs : (let y = r.operand in is_some y.home ≡ true) → NeedsRegister e o values h v t r
+    home_needs some reg space home =
+        let y = r.operand in
+        low y.home some (operand_home e o values h q r.place r.operand r.member r.at) home
+      where
+        low : (place : Option Reg) → is_some place ≡ true → IfSome place (λ (x : Reg). x.0 < 36) → IfSome place (λ (x : Reg). reg ≡ x.0)
+            → reg < 36
+        low None s a b = absurd (cc s)
+        low (Some x) s a b = omega (arith, a, b)
+
+    pub takes_needs : (let p = r.user in takes_register p.op.kind r.operand ≡ true) → NeedsRegister e o values h v t r
+    takes_needs takes = by q.op.kind refl takes
+      where
+        by : (kind : ExtKind) → (let p = r.user in p.op.kind ≡ kind) → takes_register kind r.operand ≡ true → NeedsRegister e o values h v t r
+        by (Body so) k s = source_needs so k
+        by (End term) k s = end_needs term k
+        by Out k s = home_needs s
+        by In k s = absurd (cc s)
+        by (Copy node) k s = absurd (cc s)
+        by Enter k s = absurd (cc s)
+        by Leave k s = absurd (cc s)
+
+  -- ---- values that cross a call
+
+  -- result s is there by the cycle of call c, which does not give it, and an operand of operation q, which is its block's and mandatory,
+  -- reads it after that
+  pub record IsCrosser (c : Placed) (s : Spot) (q : Placed) (j : ℕ) (x : Operand) : Type 0 where
+    pub member : Member s (spots e o values)
+    pub early : let d = s.definer in cycle_at e o values h d ≤ cycle_at e o values h c
+    pub other : let d = s.definer in d.number ≡ c.number → ⊥
+    pub user : Member q (all e o values)
+    pub mandatory : is_mandatory q.op.kind ≡ true
+    pub block : q.block ≡ c.block
+    pub at : slice_get q.op.operands j ≡ Some x
+    pub reads : first_of x.alts ≡ s.temp.0
+    pub late : cycle_at e o values h c + 1 ≤ cycle_at e o values h q
+
+  module _ (c : Placed) (s : Spot) (q : Placed) (j : ℕ) (x : Operand) (is : IsCrosser c s q j x) where
+    abbrev crossing_reader : Reader e o values h s.temp (cycle_at e o values h c)
+    crossing_reader = record {
+      user = q;
+      member = is.user;
+      active = reads_active q j x is.user is.mandatory is.at;
+      place = j;
+      operand = x;
+      at = is.at;
+      value = ap temp is.reads;
+      after = (let late = is.late in omega (arith, late));
+    }
+
+    abbrev pub crossing_of : Crossing e o values h c s.temp
+    crossing_of = record {
+      own = s;
+      member = is.member;
+      is = refl;
+      early = is.early;
+      other = is.other;
+      reader = crossing_reader;
+      block = is.block;
+    }
+
+    -- where it is not at the start of the block, or the block is the entry, it has no slot there
+    pub saved_of : (let d = s.definer in (is_in d.op.kind ≡ false) ⊎ (d.block ≡ 0)) → Saved e o values h c s.temp
+    saved_of starts = record {
+      crossing = crossing_of;
+      starts = λ t. (let d = s.definer in elim starts [
+        | inl inner ↦ (let z : true ≡ false = sym t ∙ inner in absurd (cc z))
+        | inr entry ↦ entry_starts e o values h s is.member entry t
+      ]);
+    }
+
+    pub wanted_of : takes_register q.op.kind x ≡ true → Wanted e o values h c s.temp
+    wanted_of takes = record {
+      crossing = crossing_of;
+      needs = takes_needs s.temp (cycle_at e o values h c) crossing_reader takes;
+    }
