@@ -1,7 +1,7 @@
 -- What the search for a carrier finds is one, and it finds one where a value crosses a cycle.
 use Rattle.std.proofs.Common.{ℕ, zero, suc, ◌≡◌, ◌<◌, ◌≤◌, ◌+◌, ◌-◌, Bool, true, false, List, [], ◌∷◌, ◌++◌, length, inl, inr, refl, sym}
-use Rattle.std.proofs.Common.{ap, ◌∙◌, subst, arith, eq-eqb}
-use Rattle.std.specs.Prelude.{Option, Some, None, slice_get, unwrap_or, ◌&&◌, ◌==◌, nat_le, nat_lt, IsSomeAnd, if◌then◌else◌}
+use Rattle.std.proofs.Common.{ap, ◌∙◌, subst, arith, eq-eqb, Contains}
+use Rattle.std.specs.Prelude.{◌↔◌, Option, Some, None, is_some, slice_get, unwrap_or, ◌&&◌, ◌==◌, nat_le, nat_lt, IsSomeAnd, if◌then◌else◌}
 use Rattle.std.specs.List.{find, AllZip}
 use Rattle.std.specs.Option.{option_map}
 use Rattle.std.proofs.lemmas.Bool.{eqb-true}
@@ -32,16 +32,16 @@ use Rattle.un_model.specs.Schedules.{choice_of, cycle_of, read_of, schedule_of, 
 use Rattle.un_model.specs.Solutions.{IsSchedule, IsSolution, Occupies, latency_gap}
 use Rattle.un_model.specs.Variables.{IsModel, model_of, carried_by, first_alternative, blocks_temps, op_vars, ops_vars, var_count, var_at}
 use Rattle.un_model.specs.Variables.{ops_count, block_count, block_vars, blocks_vars}
-use Rattle.un_model.proofs.Lists.{Member, found, none_found, each_member, place_of, slice_get-map, length_get}
+use Rattle.un_model.proofs.Lists.{Member, member_at, index_get, found, none_found, each_member, place_of, slice_get-map, length_get}
 use Rattle.un_model.proofs.Operations.{placed_is, contains_member}
 use Rattle.un_model.proofs.Placed.{Placed, placed, block_placed, blocks_placed, vars_of, end_of, issue_at, reads_at, reads_are, Counts, all_count}
 use Rattle.un_model.proofs.Placed.{Spot, temp_vars, temps_are}
-use Rattle.un_model.proofs.PlacedSchedules.{all, spots, definer_in, range_here, range_get, spot_range, spot_here, active_spot, the_ranges}
+use Rattle.un_model.proofs.PlacedSchedules.{all, spots, definer_in, range_here, range_get, spot_range, spot_here, spot_temp, active_spot, the_ranges, has_read}
 use Rattle.un_model.proofs.PlacedSchedules.{joined_member, places_member, split_member, member_places}
 use Rattle.un_model.proofs.Readings.{Solved, numbered, fit_kinds, placed_good, reading}
 use Rattle.un_model.proofs.TempKinds.{carried_at, spot_carried, carried_is}
-use Rattle.un_press.specs.Carriers.{value_at, Crosses, Carries}
-use Rattle.un_press.specs.Searches.{place_cycle, block_cycle, cycle_in, is_there, there_by, read_by, read_in, read_in_blocks, or_later}
+use Rattle.un_press.specs.Carriers.{value_at, range_of, Crosses, Carries}
+use Rattle.un_press.specs.Searches.{by_cycle, defined_by, is_defined, place_cycle, block_cycle, cycle_in, is_there, there_by, read_by, read_in, read_in_blocks, or_later}
 use Rattle.un_press.proofs.Descent.{cycle_at, Reader, held}
 
 -- ---- tests
@@ -230,16 +230,21 @@ module _ (e : Ext) (o : Options) (values : List ℕ) (h : Solved e o values) whe
       ap (λ (n : ℕ). cycle_in values n e.blocks (blocks_vars 0 e.blocks)) (sym z)
       ∙ cycle_is values 0 0 0 e.blocks u.definer (definer_in e o values (numbered e o values h) u mu)
 
-  module _ (x : TempId) (t : ℕ) where
-    abbrev test : TempId → Bool
-    test y = is_there m values x t y
+  module _ (x : TempId) (by : Option ℕ) where
+    abbrev test_by : TempId → Bool
+    test_by y = is_there m values x by y
 
     -- a result passes where it carries the value and is defined by the cycle
-    test_is : (u : Spot) → Member u (spots e o values) → test u.temp ≡ ((spot_carried u).0 == x.0) && nat_le (cycle_at e o values h u.definer) t
+    test_is : (u : Spot) → Member u (spots e o values)
+        → test_by u.temp ≡ ((spot_carried u).0 == x.0) && by_cycle by (cycle_at e o values h u.definer)
     test_is u mu =
-        ap (there_by m values x t) (temp_get u mu)
-        ∙ ap (λ (v : TempId). (v.0 == x.0) && nat_le (cycle_in values u.definer.number e.blocks (blocks_vars 0 e.blocks)) t) (value_is u mu)
-        ∙ ap (λ (n : ℕ). ((spot_carried u).0 == x.0) && nat_le n t) (definer_cycle u mu)
+        ap (there_by m values x by) (temp_get u mu)
+        ∙ ap (λ (v : TempId). (v.0 == x.0) && by_cycle by (cycle_in values u.definer.number e.blocks (blocks_vars 0 e.blocks))) (value_is u mu)
+        ∙ ap (λ (n : ℕ). ((spot_carried u).0 == x.0) && by_cycle by n) (definer_cycle u mu)
+
+  module _ (x : TempId) (t : ℕ) where
+    abbrev test : TempId → Bool
+    test y = is_there m values x (Some t) y
 
     -- ---- what is found is a carrier
 
@@ -251,7 +256,7 @@ module _ (e : Ext) (o : Options) (values : List ℕ) (h : Solved e o values) whe
         let d = read.2 in
         let u = d.spot in
         let two = both ((spot_carried u).0 == x.0) (nat_le (cycle_at e o values h u.definer) t)
-        (sym (test_is u d.member) ∙ ap test d.is ∙ passes) in
+        (sym (test_is x (Some t) u d.member) ∙ ap test d.is ∙ passes) in
         let number : (spot_carried u).0 ≡ x.0 = eqb-true (spot_carried u).0 x.0 two.0 in
         let value : spot_carried u ≡ x = ap temp number in
         let from : cycle_at e o values h u.definer ≤ t = le_of (cycle_at e o values h u.definer) t two.1 in
@@ -292,7 +297,7 @@ module _ (e : Ext) (o : Options) (values : List ℕ) (h : Solved e o values) whe
         let f = found test (places_from (choice_of values (vars_of p)) 0 p.op.operands) y c.2 in
         chosen_carries p y mp c.0 (lt_of t (cycle_at e o values h p) c.1) f.0 f.1
 
-    pub some_carries : (y : TempId) → read_in_blocks (is_there m values x t) values t e.blocks (blocks_vars 0 e.blocks) ≡ Some y
+    pub some_carries : (y : TempId) → read_in_blocks (is_there m values x (Some t)) values t e.blocks (blocks_vars 0 e.blocks) ≡ Some y
         → Carries m s x t y
     some_carries y got =
         let r = firsts_some test values t (all e o values) y (sym (in_blocks test values t 0 0 0 e.blocks) ∙ got) in
@@ -350,7 +355,7 @@ module _ (e : Ext) (o : Options) (values : List ℕ) (h : Solved e o values) whe
               let u = active_spot e o values (numbered e o values h) x.0 g f in
               (u.0, u.1, ap temp u.2, subst (λ (r : LiveRange). r.from ≤ t) (sym u.3) d)
 
-      pub none_crosses : read_in_blocks (is_there m values x t) values t e.blocks (blocks_vars 0 e.blocks) ≡ None → ⊥
+      pub none_crosses : read_in_blocks (is_there m values x (Some t)) values t e.blocks (blocks_vars 0 e.blocks) ≡ None → ⊥
       none_crosses none =
           let a = own in
           let w = held e o values h x t a.0 a.1 a.2 a.3 reader in
@@ -367,7 +372,7 @@ module _ (e : Ext) (o : Options) (values : List ℕ) (h : Solved e o values) whe
           y each listed in
           let value : spot_carried d.spot ≡ x =
           sym (carried_is e o values (numbered e o values h) (fit_kinds e o values h) d.spot d.member) ∙ d.value ∙ r.value in
-          let passes : test d.spot.temp ≡ true = test_is d.spot d.member
+          let passes : test d.spot.temp ≡ true = test_is x (Some t) d.spot d.member
           ∙ join ((spot_carried d.spot).0 == x.0) (nat_le (cycle_at e o values h d.spot.definer) t)
           (eq-eqb (spot_carried d.spot).0 x.0 (ap (λ (v : TempId). v.0) value)) (le_is (cycle_at e o values h d.spot.definer) t w.from) in
           let no : true ≡ false = sym passes ∙ ap test d.is ∙ fails in
@@ -378,6 +383,143 @@ module _ (e : Ext) (o : Options) (values : List ℕ) (h : Solved e o values) whe
 
           le_is : (a b : ℕ) → a ≤ b → nat_le a b ≡ true
           le_is a b le = grind (arith, nat_tests, le)
+
+  -- ---- whether a value crosses
+
+  module _ (x : TempId) (t : ℕ) where
+    abbrev reads : TempId → Bool
+    reads y = is_there m values x None y
+
+    abbrev searched : Option TempId
+    searched = read_in_blocks (is_there m values x None) values t e.blocks (blocks_vars 0 e.blocks)
+
+    abbrev IsRead : Type 0
+    IsRead = (r : Read) × (Contains (reads_of m values) r) × (value_at m r.temp ≡ Some x) × (t < r.cycle)
+
+    at_operand : (p : Placed) (j : ℕ) (operand : Operand) → Member p (all e o values) → (issue_at values p).active ≡ true
+        → t < cycle_at e o values h p → slice_get p.op.operands j ≡ Some operand → reads (choice_of values (vars_of p) j operand) ≡ true
+        → IsRead
+    at_operand p j operand mp act after at passes =
+        let read = reading e o values h p j operand mp act at in
+        let d = read.2 in
+        let u = d.spot in
+        let two = both ((spot_carried u).0 == x.0) true (sym (test_is x None u d.member) ∙ ap reads d.is ∙ passes) in
+        let number : (spot_carried u).0 ≡ x.0 = eqb-true (spot_carried u).0 x.0 two.0 in
+        let value : spot_carried u ≡ x = ap temp number in
+        let r = read_of values (issue_at values p) (vars_of p) j operand in (
+          r,
+          member_contains (reads_of m values) r (has_read e o values p j operand mp act at),
+          ap (value_at m) (sym d.is) ∙ value_here u d.member ∙ ap (λ (v : TempId). Some v) value,
+          after,
+        )
+      where
+        member_contains : (xs : List Read) (r : Read) → Member r xs → Contains xs r
+        member_contains xs r m = let k = place_of xs r m in (k.0, k.1, index_get xs k.0 r r k.2)
+
+    some_read : (y : TempId) → searched ≡ Some y → IsRead
+    some_read y got =
+        let r = firsts_some reads values t (all e o values) y (sym (in_blocks reads values t 0 0 0 e.blocks) ∙ got) in
+        of_operation r.0 r.1 r.2
+      where
+        lt_of : (a b : ℕ) → nat_lt a b ≡ true → a < b
+        lt_of a b h = grind (arith, nat_tests, h)
+
+        of_choice : (p : Placed) → Member p (all e o values) → (issue_at values p).active ≡ true → t < cycle_at e o values h p
+            → (j : ℕ) (operand : Operand) → slice_get p.op.operands j ≡ Some operand → choice_of values (vars_of p) (0 + j) operand ≡ y
+            → reads y ≡ true → IsRead
+        of_choice p mp act after j operand at is passes =
+            let place : 0 + j ≡ j = omega arith in
+            at_operand p j operand mp act after at
+            (ap reads (ap (λ (k : ℕ). choice_of values (vars_of p) k operand) (sym place) ∙ is) ∙ passes)
+
+        of_operation : (p : Placed) → Member p (all e o values) → found_at reads values t p ≡ Some y → IsRead
+        of_operation p mp got =
+            let c = chosen_if (issue_at values p).active (nat_lt t (cycle_at e o values h p))
+            (find reads (places_from (choice_of values (vars_of p)) 0 p.op.operands)) y got in
+            let f = found reads (places_from (choice_of values (vars_of p)) 0 p.op.operands) y c.2 in
+            let q = places_member (choice_of values (vars_of p)) 0 p.op.operands y f.0 in
+            of_choice p mp c.0 (lt_of t (cycle_at e o values h p) c.1) q.0 q.1 q.2 q.3 f.1
+
+    none_read : Crosses m s x t → searched ≡ None → ⊥
+    none_read crosses none =
+        let r = reader x t crosses in
+        let p = r.user in
+        let read = reading e o values h p r.place r.operand r.member r.active r.at in
+        let d = read.2 in
+        let nowhere = firsts_none reads values t (all e o values) (sym (in_blocks reads values t 0 0 0 e.blocks) ∙ none) p r.member in
+        let at_all = none_if (issue_at values p).active (nat_lt t (cycle_at e o values h p))
+        (find reads (places_from (choice_of values (vars_of p)) 0 p.op.operands)) nowhere r.active (lt_is t (cycle_at e o values h p) r.after) in
+        let each = none_found reads (places_from (choice_of values (vars_of p)) 0 p.op.operands) at_all in
+        let y = choice_of values (vars_of p) r.place r.operand in
+        let listed = member_places (choice_of values (vars_of p)) p.op.operands 0 r.place r.place r.operand (omega arith) r.at in
+        let fails : reads y ≡ false = each_member (λ (z : TempId). reads z ≡ false) (places_from (choice_of values (vars_of p)) 0 p.op.operands)
+        y each listed in
+        let value : spot_carried d.spot ≡ x =
+        sym (carried_is e o values (numbered e o values h) (fit_kinds e o values h) d.spot d.member) ∙ d.value ∙ r.value in
+        let passes : reads d.spot.temp ≡ true = test_is x None d.spot d.member
+        ∙ join ((spot_carried d.spot).0 == x.0) true (eq-eqb (spot_carried d.spot).0 x.0 (ap (λ (v : TempId). v.0) value)) refl in
+        let no : true ≡ false = sym passes ∙ ap reads d.is ∙ fails in
+        cc no
+      where
+        lt_is : (a b : ℕ) → a < b → nat_lt a b ≡ true
+        lt_is a b lt = grind (arith, nat_tests, lt)
+
+    -- ---- the definer
+
+    spot_at : (r : Option Spot) → slice_get (spots e o values) x.0 ≡ r → (v : TempVars) → slice_get (blocks_temps 0 0 e.blocks) x.0 ≡ Some v
+        → (u : Spot) × (Member u (spots e o values)) × (u.temp ≡ x) × (v ≡ temp_vars u)
+    spot_at r f v at = by r f (sym at ∙ ap (λ (xs : List TempVars). slice_get xs x.0) (temps_are 0 0 0 e.blocks)
+        ∙ slice_get-map temp_vars (spots e o values) x.0 ∙ ap (option_map temp_vars) f)
+      where
+        by : (r : Option Spot) → slice_get (spots e o values) x.0 ≡ r → Some v ≡ option_map temp_vars r
+            → (u : Spot) × (Member u (spots e o values)) × (u.temp ≡ x) × (v ≡ temp_vars u)
+        by None f g = absurd (cc g)
+        by (Some u) f g = (u, member_at (spots e o values) x.0 u f, spot_temp e o values (numbered e o values h) x.0 u f, cc g)
+
+    defined_there : is_defined m values x t ≡ true → IsSomeAnd (range_of m s x) (λ (g : LiveRange). g.from ≤ t)
+    defined_there given = by (slice_get (blocks_temps 0 0 e.blocks) x.0) refl given
+      where
+        le_of : (a b : ℕ) → nat_le a b ≡ true → a ≤ b
+        le_of a b h = grind (arith, nat_tests, h)
+
+        by : (r : Option TempVars) → slice_get (blocks_temps 0 0 e.blocks) x.0 ≡ r → defined_by m values t r ≡ true
+            → IsSomeAnd (range_of m s x) (λ (g : LiveRange). g.from ≤ t)
+        by None f d = absurd (cc d)
+        by (Some v) f d =
+            let w = spot_at (slice_get (spots e o values) x.0) refl v f in
+            let u = w.0 in
+            let from : cycle_at e o values h u.definer ≤ t = le_of (cycle_at e o values h u.definer) t
+            (sym (ap (λ (n : ℕ). nat_le n t) (definer_cycle u w.1))
+            ∙ sym (ap (λ (z : TempVars). nat_le (cycle_in values z.op.0 e.blocks (blocks_vars 0 e.blocks)) t) w.3) ∙ d) in
+            subst (λ (r : Option LiveRange). IsSomeAnd r (λ (g : LiveRange). g.from ≤ t))
+            (sym (ap (λ (z : TempId). slice_get (the_ranges e o values) z.0) (sym w.2) ∙ range_get e o values (numbered e o values h) u w.1))
+            from
+
+    there_defined : Crosses m s x t → is_defined m values x t ≡ true
+    there_defined crosses =
+        let a = own x t crosses in
+        let u = a.0 in
+        ap (λ (z : TempId). defined_by m values t (slice_get (blocks_temps 0 0 e.blocks) z.0)) (sym a.2)
+        ∙ ap (defined_by m values t) (temp_get u a.1) ∙ ap (λ (n : ℕ). nat_le n t) (definer_cycle u a.1)
+        ∙ le_is (cycle_at e o values h u.definer) t a.3
+      where
+        le_is : (a b : ℕ) → a ≤ b → nat_le a b ≡ true
+        le_is a b le = grind (arith, nat_tests, le)
+
+    pub crosses_told : is_defined m values x t ≡ true → is_some searched ≡ true → Crosses m s x t
+    crosses_told given some = by searched refl some
+      where
+        by : (r : Option TempId) → searched ≡ r → is_some r ≡ true → Crosses m s x t
+        by None f t = absurd (cc t)
+        by (Some y) f z = let r = some_read y f in
+            record { defined = defined_there given; read = r.0; listed = r.1; value = r.2; after = r.3 }
+
+    pub crosses_known : Crosses m s x t → (is_defined m values x t ≡ true) × (is_some searched ≡ true)
+    crosses_known crosses = (there_defined crosses, by searched refl)
+      where
+        by : (r : Option TempId) → searched ≡ r → is_some r ≡ true
+        by None f = absurd (none_read crosses f)
+        by (Some y) f = refl
 
 -- ---- of a model
 
@@ -392,16 +534,46 @@ module _ (m : Model) (s : Solution) (x : TempId) (t : ℕ) (own : IsModel m) (ex
   }
 
   abbrev search : Model → Option TempId
-  search z = read_in_blocks (is_there z s.values x t) s.values t z.ext.blocks z.blocks
+  search z = read_in_blocks (is_there z s.values x (Some t)) s.values t z.ext.blocks z.blocks
 
   -- what the search finds
-  pub search_carries : (y : TempId) → read_in_blocks (is_there m s.values x t) s.values t m.ext.blocks m.blocks ≡ Some y → Carries m s x t y
+  pub search_carries : (y : TempId) → read_in_blocks (is_there m s.values x (Some t)) s.values t m.ext.blocks m.blocks ≡ Some y → Carries m s x t y
   search_carries y got =
       let here : search (model_of m.ext m.options) ≡ Some y = sym (ap search own) ∙ got in
       subst (λ (z : Model). Carries z s x t y) (sym own) (some_carries m.ext m.options s.values solved x t y here)
 
   -- it finds something
-  pub search_finds : Crosses m s x t → read_in_blocks (is_there m s.values x t) s.values t m.ext.blocks m.blocks ≡ None → ⊥
+  pub search_finds : Crosses m s x t → read_in_blocks (is_there m s.values x (Some t)) s.values t m.ext.blocks m.blocks ≡ None → ⊥
   search_finds crosses none =
       let here : search (model_of m.ext m.options) ≡ None = sym (ap search own) ∙ none in
       none_crosses m.ext m.options s.values solved x t (subst (λ (z : Model). Crosses z s x t) own crosses) here
+
+  abbrev read_later : Model → Option TempId
+  read_later z = read_in_blocks (is_there z s.values x None) s.values t z.ext.blocks z.blocks
+
+  -- what the test of crossing says
+  pub tells_crossing : is_defined m s.values x t ≡ true
+      → is_some (read_in_blocks (is_there m s.values x None) s.values t m.ext.blocks m.blocks) ≡ true → Crosses m s x t
+  tells_crossing given some =
+      subst (λ (z : Model). Crosses z s x t) (sym own) (crosses_told m.ext m.options s.values solved x t
+      (subst (λ (z : Model). is_defined z s.values x t ≡ true) own given) (subst (λ (z : Model). is_some (read_later z) ≡ true) own some))
+
+  pub knows_crossing : Crosses m s x t → (is_defined m s.values x t ≡ true)
+      × (is_some (read_in_blocks (is_there m s.values x None) s.values t m.ext.blocks m.blocks) ≡ true)
+  knows_crossing crosses =
+      let r = crosses_known m.ext m.options s.values solved x t (subst (λ (z : Model). Crosses z s x t) own crosses) in (
+        subst (λ (z : Model). is_defined z s.values x t ≡ true) (sym own) r.0,
+        subst (λ (z : Model). is_some (read_later z) ≡ true) (sym own) r.1,
+      )
+
+  -- by the two parts of the test
+  pub crosses_then : (defined read : Bool) → defined ≡ is_defined m s.values x t
+      → read ≡ is_some (read_in_blocks (is_there m s.values x None) s.values t m.ext.blocks m.blocks) → defined ≡ true
+      → (read ≡ true) ↔ Crosses m s x t
+  crosses_then defined read f g given = (λ r. tells_crossing (sym f ∙ given) (sym g ∙ r), λ c. g ∙ (knows_crossing c).1)
+
+  pub crosses_else : (defined : Bool) → defined ≡ is_defined m s.values x t → defined ≡ false → (defined ≡ true) ↔ Crosses m s x t
+  crosses_else defined f given = (
+    λ r. (let impossible : true ≡ false = sym r ∙ given in absurd (cc impossible)),
+    λ c. f ∙ (knows_crossing c).0,
+  )

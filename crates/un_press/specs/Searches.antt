@@ -1,5 +1,5 @@
 -- Words of private contracts: the first operand that reads a value after a cycle by what was defined by then.
-use Rattle.std.specs.Prelude.{ℕ, ◌-◌, Bool, false, ◌==◌, ◌&&◌, nat_lt, nat_le, if◌then◌else◌, List, [], ◌∷◌, Option, Some, None, slice_get}
+use Rattle.std.specs.Prelude.{ℕ, ◌-◌, Bool, true, false, ◌==◌, ◌&&◌, nat_lt, nat_le, if◌then◌else◌, List, [], ◌∷◌, Option, Some, None, slice_get}
 use Rattle.std.specs.Prelude.{length}
 use Rattle.std.specs.List.{find}
 use Rattle.un_base.specs.declared.ids.TempId.{TempId}
@@ -29,13 +29,18 @@ cycle_in values n (block ∷ blocks) [] = 0
 cycle_in values n (block ∷ blocks) (vars ∷ more) =
     if nat_lt n (length block.ops) then block_cycle values block vars n else cycle_in values (n - length block.ops) blocks more
 
--- a temporary carries value x and is defined by cycle t
-abbrev pub there_by : Model → List ℕ → TempId → ℕ → Option TempVars → Bool
-there_by m values x t None = false
-there_by m values x t (Some v) = (v.value.0 == x.0) && nat_le (cycle_in values v.op.0 m.ext.blocks m.blocks) t
+-- by a cycle, where one is given
+abbrev pub by_cycle : Option ℕ → ℕ → Bool
+by_cycle None n = true
+by_cycle (Some t) n = nat_le n t
 
-abbrev pub is_there : Model → List ℕ → TempId → ℕ → TempId → Bool
-is_there m values x t y = there_by m values x t (slice_get m.temps y.0)
+-- a temporary carries value x and is defined by a cycle, where one is given
+abbrev pub there_by : Model → List ℕ → TempId → Option ℕ → Option TempVars → Bool
+there_by m values x by None = false
+there_by m values x by (Some v) = (v.value.0 == x.0) && by_cycle by (cycle_in values v.op.0 m.ext.blocks m.blocks)
+
+abbrev pub is_there : Model → List ℕ → TempId → Option ℕ → TempId → Bool
+is_there m values x by y = there_by m values x by (slice_get m.temps y.0)
 
 -- the first that passes of what an operation reads after cycle t
 abbrev pub read_by : (TempId → Bool) → List ℕ → ℕ → ℕ → ExtOp → OpVars → Option TempId
@@ -58,3 +63,11 @@ read_in_blocks test values t [] vars = None
 read_in_blocks test values t (block ∷ blocks) [] = None
 read_in_blocks test values t (block ∷ blocks) (vars ∷ more) =
     or_later (read_in test values t (value_of values vars.end) block.ops vars.ops) (read_in_blocks test values t blocks more)
+
+-- a temporary is defined by cycle t
+abbrev pub defined_by : Model → List ℕ → ℕ → Option TempVars → Bool
+defined_by m values t None = false
+defined_by m values t (Some v) = nat_le (cycle_in values v.op.0 m.ext.blocks m.blocks) t
+
+abbrev pub is_defined : Model → List ℕ → TempId → ℕ → Bool
+is_defined m values x t = defined_by m values t (slice_get m.temps x.0)

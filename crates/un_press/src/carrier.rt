@@ -1,6 +1,6 @@
 //! What carries a value in a cycle.
 
-ghost use Rattle.std.specs.Prelude.{◌≡◌, ◌||◌, ◌==◌, ◌&&◌, nat_le};
+ghost use Rattle.std.specs.Prelude.{◌≡◌, ◌↔◌, ◌||◌, ◌==◌, ◌&&◌, nat_le, is_some, IsTrue, None};
 ghost use Rattle.std.specs.List.{find};
 ghost use Rattle.un_isa.specs.Fit.{IsFit};
 ghost use Rattle.un_ir.specs.Extended.{IsExtended};
@@ -11,7 +11,7 @@ ghost use Rattle.un_model.specs.Schedules.{choice_of, cycle_by, is_active, value
 ghost use Rattle.un_model.specs.Solutions.{IsSolution};
 ghost use Rattle.un_model.specs.Variables.{IsModel};
 ghost use Rattle.un_press.specs.Carriers.{Crosses, Carries};
-ghost use Rattle.un_press.specs.Searches.{block_cycle, cycle_in, is_there, read_by, read_in, read_in_blocks};
+ghost use Rattle.un_press.specs.Searches.{block_cycle, by_cycle, cycle_in, is_there, is_defined, read_by, read_in, read_in_blocks};
 
 use un_base::ids::{OpId, TempId, VarId};
 use un_ir::extended::{ExtBlock, ExtKind, ExtOp};
@@ -78,31 +78,50 @@ fn cycle_at(m: &Model, values: &[u32], op: OpId) -> u32
     0
 }
 
-/// Whether a temporary carries value `x` and is defined by cycle `t`.
-fn is_there(m: &Model, values: &[u32], x: TempId, t: u32, y: TempId) -> bool
-    ensures { result ≡ is_there m.now values.now x t y }
+/// What is looked for: temporaries that carry a value and are defined by a cycle, where one is given.
+#[derive(Clone, Copy)]
+struct Sought {
+    value: TempId,
+    by: Option<u32>,
+}
+
+/// Whether a cycle is early enough, where a latest one is given.
+fn by_cycle(by: Option<u32>, cycle: u32) -> bool
+    ensures { result ≡ by_cycle by cycle }
 {
-    match m.temps.as_slice().get(y.0 as usize) {
-        None => false,
-        Some(temp) => temp.value.0 == x.0 && cycle_at(m, values, temp.op) <= t,
+    match by {
+        None => true,
+        Some(t) => cycle <= t,
     }
 }
 
-/// The first temporary of value `x` that an operation reads and that is defined by cycle `t`.
+/// Whether a temporary is one that is looked for.
+fn is_there(m: &Model, values: &[u32], sought: Sought, y: TempId) -> bool
+    ensures { result ≡ is_there m.now values.now sought.value sought.by y }
+{
+    match m.temps.as_slice().get(y.0 as usize) {
+        None => false,
+        Some(temp) => {
+            temp.value.0 == sought.value.0 && by_cycle(sought.by, cycle_at(m, values, temp.op))
+        }
+    }
+}
+
+/// The first one that an operation reads.
 fn first_there(
     m: &Model,
     values: &[u32],
-    x: TempId,
-    t: u32,
+    sought: Sought,
     op: &ExtOp,
     vars: &OpVars,
 ) -> Option<TempId>
-    ensures { result ≡ find (is_there m.now values.now x t) (places_from (choice_of values.now vars.now) 0 op.now.operands) }
+    ensures { result ≡ find (is_there m.now values.now sought.value sought.by)
+        (places_from (choice_of values.now vars.now) 0 op.now.operands) }
 {
     for j in 0..op.operands.len() {
         let operand = op.operands.get(j);
         let y = choice(values, vars, j, operand);
-        if is_there(m, values, x, t, y) {
+        if is_there(m, values, sought, y) {
             return Some(y);
         }
     }
@@ -113,16 +132,16 @@ fn first_there(
 fn read_by(
     m: &Model,
     values: &[u32],
-    x: TempId,
+    sought: Sought,
     t: u32,
     end: u32,
     op: &ExtOp,
     vars: &OpVars,
 ) -> Option<TempId>
-    ensures { result ≡ read_by (is_there m.now values.now x t) values.now t end op.now vars.now }
+    ensures { result ≡ read_by (is_there m.now values.now sought.value sought.by) values.now t end op.now vars.now }
 {
     if is_active(values, op, vars) && t < cycle(values, end, &op.kind, vars) {
-        first_there(m, values, x, t, op, vars)
+        first_there(m, values, sought, op, vars)
     } else {
         None
     }
@@ -132,19 +151,19 @@ fn read_by(
 fn read_in(
     m: &Model,
     values: &[u32],
-    x: TempId,
+    sought: Sought,
     t: u32,
     block: &ExtBlock,
     vars: &BlockVars,
 ) -> Option<TempId>
-    ensures { result
-        ≡ read_in (is_there m.now values.now x t) values.now t (value_of values.now vars.now.end) block.now.ops vars.now.ops }
+    ensures { result ≡ read_in (is_there m.now values.now sought.value sought.by) values.now t
+        (value_of values.now vars.now.end) block.now.ops vars.now.ops }
 {
     let end = value(values, vars.end);
     for k in 0..block.ops.len().min(vars.ops.len()) {
         let op = block.ops.get(k);
         let op_vars = vars.ops.get(k);
-        if let Some(y) = read_by(m, values, x, t, end, op, op_vars) {
+        if let Some(y) = read_by(m, values, sought, t, end, op, op_vars) {
             return Some(y);
         }
     }
@@ -152,17 +171,52 @@ fn read_in(
 }
 
 /// The same of all operations.
-fn read_in_blocks(m: &Model, values: &[u32], x: TempId, t: u32) -> Option<TempId>
-    ensures { result ≡ read_in_blocks (is_there m.now values.now x t) values.now t m.now.ext.blocks m.now.blocks }
+fn read_in_blocks(m: &Model, values: &[u32], sought: Sought, t: u32) -> Option<TempId>
+    ensures { result ≡ read_in_blocks (is_there m.now values.now sought.value sought.by) values.now t
+        m.now.ext.blocks m.now.blocks }
 {
     for k in 0..m.ext.blocks.len().min(m.blocks.len()) {
         let block = m.ext.blocks.get(k);
         let vars = m.blocks.get(k);
-        if let Some(y) = read_in(m, values, x, t, block, vars) {
+        if let Some(y) = read_in(m, values, sought, t, block, vars) {
             return Some(y);
         }
     }
     None
+}
+
+/// Whether temporary `x` is defined by cycle `t`.
+fn is_defined(m: &Model, values: &[u32], x: TempId, t: u32) -> bool
+    ensures { result ≡ is_defined m.now values.now x t }
+{
+    match m.temps.as_slice().get(x.0 as usize) {
+        None => false,
+        Some(temp) => cycle_at(m, values, temp.op) <= t,
+    }
+}
+
+/// Whether an operation reads value `x` after cycle `t`.
+fn is_read(m: &Model, values: &[u32], x: TempId, t: u32) -> bool
+    ensures { result ≡ is_some (read_in_blocks (is_there m.now values.now x None) values.now t m.now.ext.blocks m.now.blocks) }
+{
+    let sought = Sought { value: x, by: None };
+    let read = read_in_blocks(m, values, sought, t);
+    read.is_some()
+}
+
+/// Whether value `x` is defined by cycle `t` and is read later.
+pub fn crosses(m: &Model, s: &Solution, x: TempId, t: u32) -> bool
+    requires model { IsModel m.now }
+    requires extended { IsExtended m.now.ext }
+    requires fit { IsFit m.now.ext.table }
+    requires options { AreOptions m.now.options }
+    requires solution { IsSolution m.now s.now }
+    ensures { IsTrue result ↔ Crosses m.now s.now x t }
+{
+    let values = s.values.as_slice();
+    let defined = is_defined(m, values, x, t);
+    let read = is_read(m, values, x, t);
+    defined && read
 }
 
 /// An active temporary of value `x` that occupies its register in cycle `t`: `x` is defined by then, and is read later.
@@ -175,7 +229,11 @@ pub fn carrier(m: &Model, s: &Solution, x: TempId, t: u32) -> TempId
     requires crosses { Crosses m.now s.now x t }
     ensures { Carries m.now s.now x t result }
 {
-    match read_in_blocks(m, s.values.as_slice(), x, t) {
+    let sought = Sought {
+        value: x,
+        by: Some(t),
+    };
+    match read_in_blocks(m, s.values.as_slice(), sought, t) {
         Some(y) => y,
         None => unreachable!(),
     }

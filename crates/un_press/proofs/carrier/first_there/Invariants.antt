@@ -7,5 +7,5 @@ use Rattle.un_press.proofs.carrier.first_there.Given as goal
 
 abbrev pub invariant-loop-j : goal.invariant-loop-j
 invariant-loop-j l =
-    find (is_there l.m l.values l.x l.t) (places_from (choice_of l.values l.vars) l.j (drop l.j l.op.operands)) ≡
-    find (is_there l.m l.values l.x l.t) (places_from (choice_of l.values l.vars) 0 l.op.operands)
+    find (is_there l.m l.values l.sought.value l.sought.by) (places_from (choice_of l.values l.vars) l.j (drop l.j l.op.operands)) ≡
+    find (is_there l.m l.values l.sought.value l.sought.by) (places_from (choice_of l.values l.vars) 0 l.op.operands)

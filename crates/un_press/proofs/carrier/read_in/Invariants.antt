@@ -4,5 +4,5 @@ use Rattle.un_press.proofs.carrier.read_in.Given as goal
 
 abbrev pub invariant-loop-k : goal.invariant-loop-k
 invariant-loop-k l =
-    read_in (is_there l.m l.values l.x l.t) l.values l.t l.end (drop l.k l.block.ops) (drop l.k l.vars.ops) ≡
-    read_in (is_there l.m l.values l.x l.t) l.values l.t l.end l.block.ops l.vars.ops
+    read_in (is_there l.m l.values l.sought.value l.sought.by) l.values l.t l.end (drop l.k l.block.ops) (drop l.k l.vars.ops) ≡
+    read_in (is_there l.m l.values l.sought.value l.sought.by) l.values l.t l.end l.block.ops l.vars.ops
