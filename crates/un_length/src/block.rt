@@ -7,11 +7,12 @@ use un_base::ids::VarId;
 use un_isa::table::Needs;
 use un_lists::items::Items;
 
-/// An operation: it issues in cycle `at`, at least `tail` cycles before the end of its block, and takes from its packet one place
-/// for an instruction, and what `needs` says.
+/// An operation: it issues in cycle `at`, which is at least `head`, at least `tail` cycles before the end of its block, and takes from
+/// its packet one place for an instruction, and what `needs` says.
 #[derive(Clone, Copy)]
 pub struct Task {
     pub at: VarId,
+    pub head: u32,
     pub tail: u32,
     pub needs: Needs,
 }
