@@ -1,6 +1,8 @@
 pub mod Counting
 pub mod Crossings
 pub mod Descent
+pub mod Entering
+pub mod Intervals
 pub mod Kept
 pub mod Living
 pub mod Loops
