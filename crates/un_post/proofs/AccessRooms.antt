@@ -5,7 +5,6 @@ use Rattle.std.specs.Prelude.{Option, Some, None, IfSome, IsSomeAnd, unwrap_or, 
 use Rattle.std.specs.Prelude.{if◌then◌else◌}
 use Rattle.std.specs.List.{list_any}
 use Rattle.std.proofs.lemmas.Bool.{eqb-true}
-use Rattle.std.proofs.lemmas.Bool.Decides.{nat_tests}
 use Rattle.std.proofs.lemmas.List.Sums.{sum_by-cons}
 use Rattle.un_isa.specs.Facts.{class_of}
 use Rattle.un_isa.specs.Fit.{IsFit, AreFitNeeds}
@@ -25,14 +24,14 @@ use Rattle.un_ir.specs.declared.extended.ExtKind.TheVariants.{In, Out, Body, End
 use Rattle.un_ir.specs.declared.extended.Ext.{Ext}
 use Rattle.un_model.specs.declared.model.Options.{Options}
 use Rattle.un_model.specs.declared.schedule.Issue.{Issue}
-use Rattle.un_model.specs.Instructions.{instruction_of, needs_by, no_needs}
+use Rattle.un_model.specs.Instructions.{instruction_of, no_needs}
 use Rattle.un_model.specs.Schedules.{schedule_of, issues_of, value_by}
 use Rattle.un_model.specs.Solutions.{IsSchedule, IsPlaced, IsPlacedAs, Precedes, HasFrame, is_frame_access, frame_distance, latency_gap}
-use Rattle.un_model.specs.Solutions.{share_of, taken, issues_at}
+use Rattle.un_model.specs.Solutions.{share_of, issues_at}
 use Rattle.un_model.specs.Variables.{model_of}
 use Rattle.un_model.proofs.Lists.{Each, Member, each_member, each_of, each_all, member_at}
 use Rattle.un_model.proofs.Placed.{Placed, vars_of, issue_at}
-use Rattle.un_model.proofs.PlacedSchedules.{all, issue_here}
+use Rattle.un_model.proofs.PlacedSchedules.{issue_here}
 use Rattle.un_press.specs.Accesses.{is_spill, is_reload, spills_by, reloads_after, Spills, Reloads}
 use Rattle.un_post.proofs.Facts.{Given}
 use Rattle.un_post.proofs.OneEnter.{one_enter}

@@ -1,10 +1,9 @@
 -- Which values cross a call in a solution, and that the call issues behind their Spills and before their Reloads.
 use Rattle.std.proofs.Common.{ℕ, zero, suc, ◌≡◌, ◌<◌, ◌≤◌, ◌+◌, ◌-◌, ◌/◌, Bool, true, false, cond, List, [], ◌∷◌, ◌++◌, length, map, filter, inl, inr}
 use Rattle.std.proofs.Common.{refl, sym, ap, ◌∙◌, subst, arith, eq-eqb}
-use Rattle.std.specs.Prelude.{Option, Some, None, not, nat_eq, nat_lt, ◌&&◌, ◌||◌, ◌==◌, slice_get, slice_index, is_some, if◌then◌else◌}
+use Rattle.std.specs.Prelude.{Option, Some, None, not, ◌&&◌, ◌||◌, ◌==◌, slice_get, slice_index, is_some, if◌then◌else◌}
 use Rattle.std.specs.List.{list_any, range_with_len}
 use Rattle.std.proofs.lemmas.Bool.{eqb-true}
-use Rattle.std.proofs.lemmas.Bool.Decides.{nat_tests}
 use Rattle.std.proofs.lemmas.List.Elements.{filter-append}
 use Rattle.un_base.specs.declared.ids.TempId.{TempId}
 use Rattle.un_base.specs.declared.ids.VarId.{VarId}
@@ -16,7 +15,7 @@ use Rattle.un_ir.specs.declared.function.Term.{Term}
 use Rattle.un_ir.specs.declared.function.Term.TheVariants.{Fall, Jump, Branch, Ret}
 use Rattle.un_ir.specs.Extended.{temp, all_results, wants_of}
 use Rattle.un_ir.specs.Kinds.{is_call_kind, is_delimiter, is_mandatory}
-use Rattle.un_ir.specs.Linear.{first_of, is_in}
+use Rattle.un_ir.specs.Linear.{first_of}
 use Rattle.un_ir.specs.declared.extended.ExtKind.{ExtKind}
 use Rattle.un_ir.specs.declared.extended.ExtKind.TheVariants.{In, Out, Body, End, Copy, Enter, Leave}
 use Rattle.un_ir.specs.declared.extended.Operand.{Operand}
@@ -28,8 +27,8 @@ use Rattle.un_model.specs.Instructions.{instruction_of}
 use Rattle.un_model.specs.Pairs.{joined, places_from}
 use Rattle.un_model.specs.Schedules.{schedule_of, issues_of, value_by}
 use Rattle.un_model.specs.Solutions.{IsSchedule, latency_gap}
-use Rattle.un_model.specs.Variables.{model_of, arcs_of, var_at, ops_count}
-use Rattle.un_model.proofs.Lists.{Each, Pairwise, Member, each_member, each_of, each_map, member_map_of, member_of_filter, any_of, place_of as position_of}
+use Rattle.un_model.specs.Variables.{model_of, arcs_of}
+use Rattle.un_model.proofs.Lists.{Each, Pairwise, Member, each_of, each_map, member_map_of, member_of_filter, any_of, place_of as position_of}
 use Rattle.un_model.proofs.Lists.{pairwise_of_map, pairwise_map, pairwise_filter, pairwise_append_left, pairwise_append_right, member_map}
 use Rattle.un_model.proofs.Placed.{Placed, Region, region_placed, vars_of, issue_at, Spot, spot, spots_of, all_spots, issues_are, results_are}
 use Rattle.un_model.proofs.PlacedSchedules.{all, spots}

@@ -1,7 +1,7 @@
 -- Each solution meets what is posted of the lengths of blocks.
-use Rattle.std.proofs.Common.{ℕ, zero, suc, ◌≡◌, ◌+◌, ◌<◌, ◌≤◌, Bool, true, false, List, [], ◌∷◌, ◌++◌, length, map, inl, inr, refl, sym}
+use Rattle.std.proofs.Common.{ℕ, suc, ◌≡◌, ◌+◌, ◌<◌, ◌≤◌, Bool, true, false, List, [], ◌∷◌, ◌++◌, length, map, refl, sym}
 use Rattle.std.proofs.Common.{ap, ◌∙◌, subst, arith, eq-eqb}
-use Rattle.std.specs.Prelude.{Option, Some, None, ◌&&◌, ◌||◌, ◌==◌, nat_eq, nat_lt, filter, slice_get, slice_index, sum_by}
+use Rattle.std.specs.Prelude.{Some, ◌&&◌, ◌==◌, nat_eq, nat_lt, slice_get, slice_index, sum_by}
 use Rattle.std.specs.Prelude.{if◌then◌else◌}
 use Rattle.std.proofs.lemmas.Bool.Decides.{nat_tests}
 use Rattle.std.proofs.lemmas.List.Sums.{sum_by-cons, sum_by-append}
@@ -22,12 +22,11 @@ use Rattle.un_model.specs.declared.model.Arc.{Arc}
 use Rattle.un_model.specs.declared.model.Model.{Model}
 use Rattle.un_model.specs.declared.model.Options.{Options}
 use Rattle.un_model.specs.Instructions.{instruction_of, needs_by}
-use Rattle.un_model.specs.Pairs.{joined}
 use Rattle.un_model.specs.Schedules.{issues_of, schedule_of, value_by}
 use Rattle.un_model.specs.Solutions.{IsSchedule, latency_gap, share_of}
 use Rattle.un_model.specs.Variables.{model_of, arcs_of, var_at, var_if, has_cycle, cycle_place, ops_count}
 use Rattle.un_model.proofs.Lists.{Each, Member, each_of, each_member, each_more, each_map, each_join, member_map_of, member_of_filter}
-use Rattle.un_model.proofs.Lists.{member_append_left, member_append_right, place_of as position_of}
+use Rattle.un_model.proofs.Lists.{member_append_left, place_of as position_of}
 use Rattle.un_model.proofs.Placed.{Placed, Region, region_placed, vars_of, issue_at}
 use Rattle.un_model.proofs.PlacedSchedules.{all}
 use Rattle.un_prop.specs.Acts.{at_value}
@@ -42,10 +41,10 @@ use Rattle.un_kinds.specs.Constraints.{Constraint, AllMet, Before, meets}
 use Rattle.un_sites.specs.Befores.{arc_before, befores_in, known_befores, length_in, lengths_of}
 use Rattle.un_sites.specs.CallBefores.{call_befores_by}
 use Rattle.un_sites.specs.Crossings.{spills_at, reloads_at}
-use Rattle.un_sites.specs.Lengths.{is_task, tail_of, head_by, tail_by, var_in, task_of, tasks_in, task_place, precedence_at, precedence_by, precedences_by}
+use Rattle.un_sites.specs.Lengths.{is_task, tail_of, head_by, tail_by, var_in, task_of, tasks_in, task_place, precedence_by, precedences_by}
 use Rattle.un_sites.specs.Lengths.{length_by}
 use Rattle.un_sites.specs.Places.{Place, act_by, time_by, places_of}
-use Rattle.un_sites.specs.Postings.{issue_by, issues_in, over_places, with_kind}
+use Rattle.un_sites.specs.Postings.{issue_by, issues_in, with_kind}
 use Rattle.un_sites.specs.Rooms.{arcs_or}
 use Rattle.un_post.proofs.Blocks.{blocks, region_places, region_vars, region_close, places_in, regions_met, in_all}
 use Rattle.un_post.proofs.CallBefores.{block_met}

@@ -37,7 +37,7 @@ use Rattle.un_length.specs.declared.block.Task.{Task}
 use Rattle.un_sites.specs.Befores.{place_or, place_with, arc_before}
 use Rattle.un_kinds.specs.Constraints.{Constraint, Before, Reads, Inside, Last, Below, Chosen, Zeros, Spaces, Same, Home, Frame, meets}
 use Rattle.un_kinds.specs.Constraints.{Apart, Clobber, Operands, PerCycle, Length}
-use Rattle.un_sites.specs.Lengths.{is_task, var_in, task_of, tasks_in, precedences_by, length_by}
+use Rattle.un_sites.specs.Lengths.{is_task, var_in, task_of, tasks_in, length_by}
 use Rattle.un_sites.specs.Places.{Place, Definer, Asked, act_by, act_of, time_by, time_of, definers_at}
 use Rattle.un_sites.specs.Places.{definer_or, registers_at, asked, asked_by}
 use Rattle.un_sites.specs.Places.{no_place}
