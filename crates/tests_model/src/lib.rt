@@ -4,6 +4,8 @@
 #[cfg(test)]
 mod broken;
 #[cfg(test)]
+mod carriers;
+#[cfg(test)]
 mod kinds;
 #[cfg(test)]
 mod merges;

@@ -6,16 +6,18 @@ ghost use Rattle.std.specs.Prelude.{IfOk, IsTrue, All};
 ghost use Rattle.un_bound.specs.Arcs.{IsShort};
 ghost use Rattle.un_ir.specs.Extended.{IsExtended};
 ghost use Rattle.un_isa.specs.Fit.{IsFit};
+ghost use Rattle.un_model.specs.Options.{AreOptions};
 ghost use Rattle.un_model.specs.Variables.{IsModel};
 
 use crate::broken::BROKEN;
+use crate::carriers::CARRIERS;
 use crate::merges::MERGES;
 use crate::orders::ORDERS;
 use crate::relaxed::relaxed;
 use crate::ways::WAYS;
 use crate::words::{cut, number, number_at};
 use std::alloc::Global;
-use un_base::ids::BlockId;
+use un_base::ids::{BlockId, TempId};
 use un_base::memory_error::NoMemory;
 use un_bound::plain::{is_short, plain_bound};
 use un_bound::relax::RelaxAnswer;
@@ -26,6 +28,7 @@ use un_merges::merges::without_merges;
 use un_model::cost::value;
 use un_model::model::{Arc, Model, Solution};
 use un_model::verdict::Broken;
+use un_press::carrier::{carrier, crosses};
 use un_problem::problem::{default_options, model};
 use un_reader::read::read_function;
 use un_violations::violations::violations;
@@ -35,6 +38,7 @@ fn model_of(alloc: Global, function: &[u8]) -> Result<Model, NoMemory>
     ensures model { IfOk result IsModel }
     ensures extended { IfOk result (λ m. IsExtended m.ext) }
     ensures fit { IfOk result (λ m. IsFit m.ext.table) }
+    ensures options { IfOk result (λ m. AreOptions m.options) }
 {
     let Ok(f) = read_function(alloc, function) else {
         return Err(NoMemory);
@@ -183,6 +187,32 @@ fn put_merged(
     )
 }
 
+/// Appends the temporary that carries a value in a cycle of a solution.
+fn put_carrier(
+    alloc: Global,
+    out: &mut Vec<u8>,
+    m: &Model,
+    values: &[u8],
+    question: &[u8],
+) -> Result<(), NoMemory>
+    requires model { IsModel m.now }
+    requires extended { IsExtended m.now.ext }
+    requires fit { IsFit m.now.ext.table }
+    requires options { AreOptions m.now.options }
+{
+    let values = numbers(alloc, values)?;
+    let s = Solution { values };
+    if !violations(alloc, m, &s)?.is_empty() {
+        return put_text(out, b"no solution");
+    }
+    let x = TempId(number_at(question, 1));
+    let t = number_at(question, 2);
+    if !crosses(m, &s, x, t) {
+        return put_text(out, b"none");
+    }
+    put_number(out, u64::from(carrier(m, &s, x, t).0))
+}
+
 /// Appends the answer to a question about a model and values of its variables.
 fn put_answer(
     alloc: Global,
@@ -194,12 +224,14 @@ fn put_answer(
     requires model { IsModel m.now }
     requires extended { IsExtended m.now.ext }
     requires fit { IsFit m.now.ext.table }
+    requires options { AreOptions m.now.options }
 {
     match question.first() {
         Some(b'a') => put_arcs(out, m, number_at(question, 1)),
         Some(b'b') => put_bound(out, m),
         Some(b'r') => put_relaxed(alloc, out, m, question),
         Some(b'm') => put_merged(alloc, out, m, values, question),
+        Some(b'k') => put_carrier(alloc, out, m, values, question),
         _ => put_changed(alloc, out, m, values, question),
     }
 }
@@ -209,6 +241,7 @@ fn has_answer(alloc: Global, m: &Model, values: &[u8], section: &[u8]) -> Result
     requires model { IsModel m.now }
     requires extended { IsExtended m.now.ext }
     requires fit { IsFit m.now.ext.table }
+    requires options { AreOptions m.now.options }
 {
     let (question, answer) = cut(section, b':');
     let mut out = Vec::new(alloc);
@@ -247,5 +280,6 @@ fn answers_of_models(rt: HostRuntime) {
     let ways = matches!(all_answered(rt.alloc(), WAYS), Ok(true));
     let orders = matches!(all_answered(rt.alloc(), ORDERS), Ok(true));
     let merges = matches!(all_answered(rt.alloc(), MERGES), Ok(true));
-    assert!(rt; broken && ways && orders && merges);
+    let carriers = matches!(all_answered(rt.alloc(), CARRIERS), Ok(true));
+    assert!(rt; broken && ways && orders && merges && carriers);
 }

@@ -5,8 +5,10 @@ use Rattle.std.specs.List.{range_with_len}
 use Rattle.std.proofs.Common.{refl}
 use Rattle.un_base.specs.declared.ids.VarId.{VarId}
 use Rattle.un_isa.specs.declared.op.Op.{Op}
+use Rattle.un_isa.specs.declared.reg.Reg.{Reg}
 use Rattle.un_isa.specs.declared.table.Needs.{Needs}
 use Rattle.un_isa.specs.Hexagon.{HEXAGON}
+use Rattle.un_isa.specs.Registers.{callee_saved}
 use Rattle.un_ir.specs.declared.function.Kind.TheVariants.{General}
 use Rattle.un_ir.specs.declared.extended.NodeCopy.TheVariants.{D}
 use Rattle.un_ir.specs.declared.extended.ExtKind.TheVariants.{In, Out, Copy}
@@ -234,7 +236,7 @@ worked_twos = refl
 
 -- an operation that every solution issues, so long before the end, and a precedence between the places of two
 abbrev task : ℕ → ℕ → Needs → Task
-task n tail uses = record { at = v n; tail = tail; needs = uses }
+task n tail uses = record { at = v n; head = 0; tail = tail; needs = uses }
 
 abbrev after : ℕ → ℕ → ℕ → Precedence
 after from to gap = record { from = from; to = to; gap = gap }
@@ -376,4 +378,38 @@ call_clobbers = refl
 call_lengths : lengths_of calling ≡
     Length (task 1 1 (needs 1 0 0 0) ∷ task 4 1 (needs 0 0 1 1) ∷ task 6 1 (needs 1 1 0 0) ∷ task 10 0 none ∷ [])
     (after 0 1 1 ∷ after 0 2 2 ∷ after 1 2 1 ∷ after 1 3 1 ∷ []) (v 10) 12 ∷ []
+unfolding callee_saved
 call_lengths = refl
+
+-- ---- thirteen values across a call, of which it keeps twelve
+
+abbrev numbers : List ℕ
+numbers = range_with_len 0 13
+
+-- the end reads each of them in a register
+abbrev r16 : Option Reg
+r16 = Some (record { 0 = 16 })
+
+abbrev across_block : ExtBlock
+across_block = record {
+  freq = 1;
+  label = codes "d";
+  live_in = names numbers;
+  live_out = names numbers;
+  ops =
+      op In [] numbers
+      ∷ op (source Op.Call (pos 0)) [] (13 ∷ [])
+      ∷ op Out (map (λ (k : ℕ). reads (k ∷ []) r16) numbers) [] ∷ [];
+  horizon = 8;
+}
+
+abbrev crossing : Model
+crossing =
+    model_of (record { table = HEXAGON; names = map (λ (k : ℕ). General) numbers; blocks = across_block ∷ [] })
+    (record { regs = None; slots = 1 })
+
+-- one is spilled behind Enter, so the call is in cycle 2 at the earliest; and reloaded after the call, two cycles before the end
+crossing_lengths : lengths_of crossing ≡
+    Length (record { at = v 13; head = 2; tail = 3; needs = needs 0 0 1 1 } ∷ task 28 0 none ∷ []) [] (v 28) 8 ∷ []
+unfolding callee_saved
+crossing_lengths = refl

@@ -22,7 +22,7 @@ store_needs = record { mem = 1; store = 1; xc = 0; control = 0 }
 
 -- an operation by its variable, which issues before the end
 abbrev op : ℕ → Needs → Task
-op v needs = record { at = var v; tail = 1; needs = needs }
+op v needs = record { at = var v; head = 1; tail = 1; needs = needs }
 
 abbrev after : ℕ → ℕ → ℕ → Precedence
 after from to gap = record { from = from; to = to; gap = gap }
@@ -114,6 +114,50 @@ sum_fits = refl
 
 sum_holds : block_holds sum (after 0 1 2 ∷ []) (var 2) (1 ∷ 3 ∷ 4 ∷ []) ≡ true
 sum_holds = refl
+
+-- Thirteen values across a call that keeps twelve registers: one is spilled behind an Enter, so the call is in cycle 2, and is reloaded in
+-- cycle 3, so the end is 5
+
+abbrev call_needs : Needs
+call_needs = record { mem = 0; store = 0; xc = 1; control = 1 }
+
+abbrev call_op : ℕ → Task
+call_op v = record { at = var v; head = 2; tail = 3; needs = call_needs }
+
+abbrev one_call : List Task
+one_call = call_op 0 ∷ record { at = var 1; head = 0; tail = 0; needs = constant_needs } ∷ []
+
+abbrev call_before : ℕ → Bool
+call_before end = length_test (var 0 ∷ var 1 ∷ []) one_call [] (var 1) 9 (cycles ∷ upto end ∷ [])
+
+call_too_long : call_before 4 ≡ false
+call_too_long = refl
+
+call_fits : call_before 5 ≡ true
+call_fits = refl
+
+call_holds : block_holds one_call [] (var 1) (2 ∷ 5 ∷ []) ≡ true
+call_holds = refl
+
+call_too_early : block_holds one_call [] (var 1) (1 ∷ 5 ∷ []) ≡ false
+call_too_early = refl
+
+-- the same across two calls: in cycles 2 and 3, so the end is 6
+
+abbrev two_calls : List Task
+two_calls = call_op 0 ∷ call_op 1 ∷ []
+
+abbrev calls_before : ℕ → Bool
+calls_before end = length_test two two_calls (after 0 1 1 ∷ []) (var 2) 9 (cycles ∷ cycles ∷ upto end ∷ [])
+
+calls_too_long : calls_before 5 ≡ false
+calls_too_long = refl
+
+calls_fit : calls_before 6 ≡ true
+calls_fit = refl
+
+calls_hold : block_holds two_calls (after 0 1 1 ∷ []) (var 2) (2 ∷ 3 ∷ 6 ∷ []) ≡ true
+calls_hold = refl
 
 -- An end that is not near is not looked at: two stores again, and the horizon at the end and the number of operations
 

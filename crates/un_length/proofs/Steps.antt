@@ -25,7 +25,7 @@ use Rattle.un_slots.specs.Crowds.{all_below}
 
 -- what stands at no place
 abbrev pub no_task : Task
-no_task = record { at = record { 0 = 0 }; tail = 0; needs = record { mem = 0; store = 0; xc = 0; control = 0 } }
+no_task = record { at = record { 0 = 0 }; head = 0; tail = 0; needs = record { mem = 0; store = 0; xc = 0; control = 0 } }
 
 abbrev pub no_arc : Precedence
 no_arc = record { from = 0; to = 0; gap = 0 }

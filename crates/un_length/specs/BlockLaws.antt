@@ -29,6 +29,11 @@ place_less f g [] all i = omega arith
 place_less f g (t ∷ ts) all zero = all.0
 place_less f g (t ∷ ts) all (suc i) = place_less f g ts all.1 i
 
+-- two facts of each
+pub each_two : (P Q : Task → Type 0) (ops : List Task) → AllByRecursion P ops → AllByRecursion Q ops → AllByRecursion (λ t. P t × Q t) ops
+each_two P Q [] a b = tt
+each_two P Q (t ∷ ts) a b = ((a.0, b.0), each_two P Q ts a.1 b.1)
+
 -- The predicate as relations
 
 true_le : (a b : ℕ) → nat_le a b ≡ true → a ≤ b
@@ -47,7 +52,8 @@ idle_or_room ops end x r c (t ∷ rest) all = by (nat_eq (cycle_of x t) c) refl 
         → (taken r (t ∷ rest) x c ≡ 0) ⊎ (has_room ops x c ≡ true)
     by true e more =
         let is : cycle_of x t ≡ c = grind (arith, nat_tests, e) in
-        let room = (firsts (nat_le (cycle_of x t + t.tail) (get_or x end.0 0)) _ all.0).1 in
+        let late = (firsts (nat_le t.head (cycle_of x t)) _ all.0).1 in
+        let room = (firsts (nat_le (cycle_of x t + t.tail) (get_or x end.0 0)) _ late).1 in
         inr (subst (λ (n : ℕ). has_room ops x n ≡ true) is room)
     by false e (inr room) = inr room
     by false e (inl none) =
@@ -61,9 +67,11 @@ holds_fits ops arcs end x h = record {
       at_place (cycle_of x) ops a.to)
       (λ a e. true_le (at_place (cycle_of x) ops a.from + a.gap) (at_place (cycle_of x) ops a.to) e) arcs
       (each_true (arc_holds ops x) arcs two.0));
+  begun = All-from_recursion _ _ (map_each (λ t. task_holds ops end x t ≡ true) (λ t. t.head ≤ cycle_of x t)
+      (λ t e. true_le t.head (cycle_of x t) (firsts (nat_le t.head (cycle_of x t)) _ e).0) ops each);
   ended = All-from_recursion _ _ (map_each (λ t. task_holds ops end x t ≡ true) (λ t. cycle_of x t + t.tail ≤ get_or x end.0 0)
       (λ t e. true_le (cycle_of x t + t.tail) (get_or x end.0 0)
-      (firsts (nat_le (cycle_of x t + t.tail) (get_or x end.0 0)) _ e).0) ops each);
+      (firsts (nat_le (cycle_of x t + t.tail) (get_or x end.0 0)) _ (firsts (nat_le t.head (cycle_of x t)) _ e).1).0) ops each);
   room = λ r c. elim (idle_or_room ops end x r c ops each) [
     | inl none ↦ omega (arith, none)
     | inr room ↦ true_le (taken r ops x c) (places_of r) (of_each (λ r. nat_le (taken r ops x c) (places_of r)) room r)
@@ -83,10 +91,14 @@ fits_holds ops arcs end x f = both (list_all (arc_holds ops x) arcs) (list_all (
     (λ a. arc_holds ops x a ≡ true)
     (λ a le. le_true (at_place (cycle_of x) ops a.from + a.gap) (at_place (cycle_of x) ops a.to) le) arcs
     (recursion_from_All _ _ f.ordered)))
-    (all_true (task_holds ops end x) ops (map_each (λ t. cycle_of x t + t.tail ≤ get_or x end.0 0) (λ t. task_holds ops end x t ≡ true)
-    (λ t le. both (nat_le (cycle_of x t + t.tail) (get_or x end.0 0)) _ (le_true (cycle_of x t + t.tail) (get_or x end.0 0) le)
+    (all_true (task_holds ops end x) ops (map_each (λ t. (t.head ≤ cycle_of x t) × (cycle_of x t + t.tail ≤ get_or x end.0 0))
+    (λ t. task_holds ops end x t ≡ true)
+    (λ t h. both (nat_le t.head (cycle_of x t)) _ (le_true t.head (cycle_of x t) h.0)
+    (both (nat_le (cycle_of x t + t.tail) (get_or x end.0 0)) _ (le_true (cycle_of x t + t.tail) (get_or x end.0 0) h.1)
     (for_each (λ r. nat_le (taken r ops x (cycle_of x t)) (places_of r))
-    (λ r. le_true (taken r ops x (cycle_of x t)) (places_of r) (f.room r (cycle_of x t))))) ops (recursion_from_All _ _ f.ended)))
+    (λ r. le_true (taken r ops x (cycle_of x t)) (places_of r) (f.room r (cycle_of x t)))))) ops
+    (each_two (λ t. t.head ≤ cycle_of x t) (λ t. cycle_of x t + t.tail ≤ get_or x end.0 0) ops
+    (recursion_from_All _ _ f.begun) (recursion_from_All _ _ f.ended))))
 
 -- It looks at its variables alone
 
@@ -130,9 +142,11 @@ module _ (vs : List VarId) (ops : List Task) (arcs : List Precedence) (end : Var
 
   task_alike : (t : Task) → among vs t.at ≡ true → task_holds ops end x t ≡ task_holds ops end y t
   task_alike t h =
-      ap (λ (n : ℕ). nat_le (n + t.tail) (get_or x end.0 0) && has_room ops x n) (cycle_alike t h)
-      ∙ (ap (λ (n : ℕ). nat_le (cycle_of y t + t.tail) n && has_room ops x (cycle_of y t)) (same_var vs x y same end among_all.of_end)
-      ∙ ap (λ (b : Bool). nat_le (cycle_of y t + t.tail) (get_or y end.0 0) && b) (room_alike (cycle_of y t)))
+      ap (λ (n : ℕ). nat_le t.head n && (nat_le (n + t.tail) (get_or x end.0 0) && has_room ops x n)) (cycle_alike t h)
+      ∙ (ap (λ (n : ℕ). nat_le t.head (cycle_of y t) && (nat_le (cycle_of y t + t.tail) n && has_room ops x (cycle_of y t)))
+      (same_var vs x y same end among_all.of_end)
+      ∙ ap (λ (b : Bool). nat_le t.head (cycle_of y t) && (nat_le (cycle_of y t + t.tail) (get_or y end.0 0) && b))
+      (room_alike (cycle_of y t)))
 
   pub block_looks : block_holds ops arcs end x ≡ block_holds ops arcs end y
   block_looks =

@@ -28,9 +28,10 @@ taken r ops x c = sum_by (taken_by r c x) ops
 abbrev pub has_room : List Task → List ℕ → ℕ → Bool
 has_room ops x c = list_all (λ r. nat_le (taken r ops x c) (places_of r)) resources
 
--- an operation issues so long before the end, and its cycle has room
+-- an operation issues from its head on and so long before the end, and its cycle has room
 abbrev pub task_holds : List Task → VarId → List ℕ → Task → Bool
-task_holds ops end x t = nat_le (cycle_of x t + t.tail) (slice_index x end.0) && has_room ops x (cycle_of x t)
+task_holds ops end x t =
+    nat_le t.head (cycle_of x t) && (nat_le (cycle_of x t + t.tail) (slice_index x end.0) && has_room ops x (cycle_of x t))
 
 -- all precedences are kept, and so it is for all operations
 abbrev pub block_holds : List Task → List Precedence → VarId → List ℕ → Bool
@@ -39,6 +40,7 @@ block_holds ops arcs end x = list_all (arc_holds ops x) arcs && list_all (task_h
 -- the same as relations
 pub record FitsBlock (ops : List Task) (arcs : List Precedence) (end : VarId) (x : List ℕ) : Type 0 where
   pub ordered : All (λ (a : Precedence). at_place (cycle_of x) ops a.from + a.gap ≤ at_place (cycle_of x) ops a.to) arcs
+  pub begun : All (λ (t : Task). t.head ≤ cycle_of x t) ops
   pub ended : All (λ (t : Task). cycle_of x t + t.tail ≤ slice_index x end.0) ops
   pub room : (r : Resource) (c : ℕ) → taken r ops x c ≤ places_of r
 

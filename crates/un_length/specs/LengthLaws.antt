@@ -1,6 +1,6 @@
 -- Laws of lengths.
 use Rattle.std.proofs.Common.{ℕ, zero, suc, ◌≡◌, ◌<◌, ◌≤◌, ◌+◌, ◌-◌, ◌∙◌, true, not, ◌&&◌, ◌||◌, List, [], ◌∷◌, length}
-use Rattle.std.proofs.Common.{get_or, map, min, nat_le, nat_lt, Some, ap, arith}
+use Rattle.std.proofs.Common.{get_or, map, max, min, nat_le, nat_lt, Some, ap, arith}
 use Rattle.std.specs.List.{AllByRecursion}
 use Rattle.std.proofs.lemmas.Bool.Decides.{nat_tests}
 use Rattle.std.proofs.lemmas.List.Elements.{recursion_from_All}
@@ -20,7 +20,7 @@ use Rattle.un_length.specs.declared.block.Task.{Task}
 use Rattle.un_length.specs.declared.block.Precedence.{Precedence}
 use Rattle.un_length.specs.Places.{at_place}
 use Rattle.un_length.specs.Blocks.{cycle_of, block_holds, FitsBlock, BlockVars}
-use Rattle.un_length.specs.BlockLaws.{place_alike, place_less, holds_fits}
+use Rattle.un_length.specs.BlockLaws.{place_alike, place_less, each_two, holds_fits}
 use Rattle.un_length.specs.Windows.{raised, lowered, first_cycle, last_cycle, earliest, latest}
 use Rattle.un_length.specs.WindowLaws.{raised_less, lowered_less, raised_keeps, lowered_keeps, lowered_falls}
 use Rattle.un_length.specs.Rooms.{have_room}
@@ -51,7 +51,9 @@ module _ (vs : List VarId) (ops : List Task) (arcs : List Precedence) (end : Var
     end_less = greatest_below t s end.0 le
 
     first_less : (o : Task) → among vs o.at ≡ true → first_cycle s o ≤ first_cycle t o
-    first_less o h = least_below t s o.at.0 le (full o.at.0 (let at = has_among vs o.at s h known in omega (arith, at, le.long)))
+    first_less o h = (
+        let up = least_below t s o.at.0 le (full o.at.0 (let at = has_among vs o.at s h known in omega (arith, at, le.long))) in
+        omega (arith, up))
 
     last_less : (o : Task) → among vs o.at ≡ true → last_cycle end t o ≤ last_cycle end s o
     last_less o h = (let down = greatest_below t s o.at.0 le in let ends = end_less in omega (arith, down, ends))
@@ -90,7 +92,7 @@ module _ (vs : List VarId) (ops : List Task) (arcs : List Precedence) (end : Var
 
     firsts_alike : map (first_cycle s) ops ≡ map (first_cycle t) ops
     firsts_alike = place_alike (first_cycle s) (first_cycle t) ops (map_each (λ o. among vs o.at ≡ true)
-        (λ o. first_cycle s o ≡ first_cycle t o) (λ o h. ap least (set_alike vs s t agree o.at h)) ops of_ops)
+        (λ o. first_cycle s o ≡ first_cycle t o) (λ o h. ap (λ (xs : List ℕ). max (least xs) o.head) (set_alike vs s t agree o.at h)) ops of_ops)
 
     lasts_alike : map (last_cycle end s) ops ≡ map (last_cycle end t) ops
     lasts_alike = place_alike (last_cycle end s) (last_cycle end t) ops (map_each (λ o. among vs o.at ≡ true)
@@ -119,8 +121,11 @@ module _ (vs : List VarId) (ops : List Task) (arcs : List Precedence) (end : Var
   -- An assignment that keeps all
 
   module _ (s : Sets) (x : List ℕ) (known : HasVars vs s) (there : IsIn x s) (fits : FitsBlock ops arcs end x) where
-    from_first : (o : Task) → among vs o.at ≡ true → first_cycle s o ≤ cycle_of x o
-    from_first o h = least-le (set_at s o.at.0) (get_or x o.at.0 0) (there.each o.at.0 (has_among vs o.at s h known))
+    from_first : (o : Task) → (among vs o.at ≡ true) × (o.head ≤ cycle_of x o) → first_cycle s o ≤ cycle_of x o
+    from_first o h = (
+        let least_of = least-le (set_at s o.at.0) (get_or x o.at.0 0) (there.each o.at.0 (has_among vs o.at s h.0 known)) in
+        let head = h.1 in
+        omega (arith, least_of, head))
 
     to_last : (o : Task) → (among vs o.at ≡ true) × (cycle_of x o + o.tail ≤ get_or x end.0 0) → cycle_of x o ≤ last_cycle end s o
     to_last o h = (
@@ -129,22 +134,19 @@ module _ (vs : List VarId) (ops : List Task) (arcs : List Precedence) (end : Var
         let before = h.1 in
         omega (arith, own, ends, before))
 
-    two_each : (rest : List Task) → AllByRecursion (λ (t : Task). among vs t.at ≡ true) rest
-        → AllByRecursion (λ (t : Task). cycle_of x t + t.tail ≤ get_or x end.0 0) rest
-        → AllByRecursion (λ (t : Task). (among vs t.at ≡ true) × (cycle_of x t + t.tail ≤ get_or x end.0 0)) rest
-    two_each [] a b = tt
-    two_each (o ∷ rest) a b = ((a.0, b.0), two_each rest a.1 b.1)
-
     pub test_kept : length_test vs ops arcs end horizon s ≡ true
     test_kept = not_or (is_near vs ops end horizon s) (have_room ops horizon (earliest ops arcs s) (latest ops arcs end s))
         (λ near. keeps_room ops horizon x (earliest ops arcs s) (latest ops arcs end s)
         (raised_keeps arcs (at_place (first_cycle s) ops) (at_place (cycle_of x) ops) (recursion_from_All _ _ fits.ordered)
-        (place_less (first_cycle s) (cycle_of x) ops (map_each (λ o. among vs o.at ≡ true) (λ o. first_cycle s o ≤ cycle_of x o)
-        from_first ops of_ops)))
+        (place_less (first_cycle s) (cycle_of x) ops
+        (map_each (λ o. (among vs o.at ≡ true) × (o.head ≤ cycle_of x o)) (λ o. first_cycle s o ≤ cycle_of x o) from_first ops
+        (each_two (λ o. among vs o.at ≡ true) (λ o. o.head ≤ cycle_of x o) ops of_ops (recursion_from_All _ _ fits.begun)))))
         (lowered_keeps arcs (at_place (last_cycle end s) ops) (at_place (cycle_of x) ops) (recursion_from_All _ _ fits.ordered)
         (place_less (cycle_of x) (last_cycle end s) ops
         (map_each (λ o. (among vs o.at ≡ true) × (cycle_of x o + o.tail ≤ get_or x end.0 0))
-        (λ o. cycle_of x o ≤ last_cycle end s o) to_last ops (two_each ops of_ops (recursion_from_All _ _ fits.ended)))))
+        (λ o. cycle_of x o ≤ last_cycle end s o) to_last ops
+        (each_two (λ o. among vs o.at ≡ true) (λ o. cycle_of x o + o.tail ≤ get_or x end.0 0) ops of_ops
+        (recursion_from_All _ _ fits.ended)))))
         fits.room)
 
   pub length_keeps : (s : Sets) (x : List ℕ) → HasVars vs s → IsIn x s → block_holds ops arcs end x ≡ true

@@ -25,9 +25,9 @@ abbrev pub lowered : List Precedence → (ℕ → ℕ) → ℕ → ℕ
 lowered [] f i = f i
 lowered (a ∷ rest) f i = lower a (lowered rest f) i
 
--- the least cycle of an operation
+-- the first cycle of an operation: its least, from its head on
 abbrev pub first_cycle : Sets → Task → ℕ
-first_cycle s t = least (set_at s t.at.0)
+first_cycle s t = max (least (set_at s t.at.0)) t.head
 
 -- its greatest, so long before the greatest end as it issues
 abbrev pub last_cycle : VarId → Sets → Task → ℕ

@@ -12,7 +12,9 @@ use un_lists::items::Items;
 pub struct Task {
     /// The variable of its cycle, or for the block's end the variable of the end.
     pub at: VarId,
-    /// How many cycles before the block's end it issues, at least: 1, and 0 for the end itself.
+    /// The least cycle in which it may issue: more than 0 for a call by which values are spilled.
+    pub head: u32,
+    /// How many cycles before the block's end it issues, at least: 1, more for a call after which values are reloaded, and 0 for the end.
     pub tail: u32,
     /// What it takes of each resource of its packet.
     pub needs: Needs,

@@ -67,11 +67,14 @@ fn has_room(ops: &[Task], fixed: &[u32], c: u32) -> bool
         && fits(Resource::Control, ops, fixed, c)
 }
 
-/// Whether an operation issues so long before the end as it has to, and its cycle has room.
+/// Whether an operation issues neither too early nor too near the end, and its cycle has room.
 fn task_holds(block: &Block, fixed: &[u32], task: &Task) -> bool
     ensures { result ≡ task_holds block.now.ops block.now.end fixed.now task.now }
 {
     let at = value(fixed, task.at);
+    if at < task.head {
+        return false;
+    }
     if u64::from(at) + u64::from(task.tail) > u64::from(value(fixed, block.end)) {
         return false;
     }

@@ -1,7 +1,7 @@
 //! The earliest and the latest cycles of the operations of a block, as a store and the precedences leave them.
 
-ghost use Rattle.std.specs.Prelude.{◌≡◌, ◌<◌, ◌≤◌, ◌-◌, ℕ, All, length, min, slice_index, true};
-ghost use Rattle.un_domains.specs.Sets.{NoneEmpty, greatest, set_at};
+ghost use Rattle.std.specs.Prelude.{◌≡◌, ◌<◌, ◌≤◌, ◌-◌, ℕ, All, length, max, min, slice_index, true};
+ghost use Rattle.un_domains.specs.Sets.{NoneEmpty, greatest, least, set_at};
 ghost use Rattle.un_prop.specs.Among.{among};
 ghost use Rattle.un_prop.specs.Rounds.{HasVars};
 ghost use Rattle.un_length.specs.Places.{at_place, Leads};
@@ -12,7 +12,16 @@ use crate::block::{Block, Precedence, Task};
 use un_base::ids::VarId;
 use un_domains::window::Window;
 
-/// Writes the least cycle of each operation.
+/// The first cycle of an operation.
+fn first_cycle(task: Task, w: &Window<'_>) -> u32
+    requires there { task.at.0 < length w.now.store.now.sets }
+    requires live { NoneEmpty w.now.store.now.sets }
+    ensures { result ≡ max (least (set_at w.now.store.now.sets task.at.0)) task.head }
+{
+    w.min(task.at).max(task.head)
+}
+
+/// Writes the first cycle of each operation.
 fn write_firsts(ops: &[Task], w: &Window<'_>, early: &mut [u32])
     requires vars { TaskVars w.now.vars.now ops.now }
     requires known { HasVars w.now.vars.now w.now.store.now.sets }
@@ -21,7 +30,7 @@ fn write_firsts(ops: &[Task], w: &Window<'_>, early: &mut [u32])
     ensures { (i : ℕ) → i < length ops.now → slice_index early.new i ≡ at_place (first_cycle w.now.store.now.sets) ops.now i }
 {
     for i in 0..ops.len() {
-        early[i] = w.min(ops[i].at);
+        early[i] = first_cycle(ops[i], w);
     }
 }
 

@@ -1,7 +1,7 @@
 -- Each solution meets what is posted of the lengths of blocks.
-use Rattle.std.proofs.Common.{ℕ, zero, suc, ◌≡◌, ◌+◌, ◌<◌, ◌≤◌, Bool, true, false, List, [], ◌∷◌, ◌++◌, length, map, inl, inr, refl, sym}
+use Rattle.std.proofs.Common.{ℕ, suc, ◌≡◌, ◌+◌, ◌<◌, ◌≤◌, Bool, true, false, List, [], ◌∷◌, ◌++◌, length, map, refl, sym}
 use Rattle.std.proofs.Common.{ap, ◌∙◌, subst, arith, eq-eqb}
-use Rattle.std.specs.Prelude.{Option, Some, None, ◌&&◌, ◌||◌, ◌==◌, nat_eq, nat_lt, filter, slice_get, slice_index, sum_by}
+use Rattle.std.specs.Prelude.{Some, ◌&&◌, ◌==◌, nat_eq, nat_lt, slice_get, slice_index, sum_by}
 use Rattle.std.specs.Prelude.{if◌then◌else◌}
 use Rattle.std.proofs.lemmas.Bool.Decides.{nat_tests}
 use Rattle.std.proofs.lemmas.List.Sums.{sum_by-cons, sum_by-append}
@@ -9,23 +9,24 @@ use Rattle.un_base.specs.declared.ids.VarId.{VarId}
 use Rattle.un_isa.specs.declared.packet_counts.Resource.{Resource}
 use Rattle.un_isa.specs.declared.packet_counts.Resource.TheVariants.{Instructions, Memory, Stores, MultiplyOrControl, Control}
 use Rattle.un_isa.specs.PacketCounts.{places_of as room_of, share_of as need_of}
+use Rattle.un_isa.specs.Tables.{latency_of}
+use Rattle.un_isa.specs.declared.op.Op.TheVariants.{Reload}
 use Rattle.un_isa.specs.declared.table.Table.{Table}
 use Rattle.un_ir.specs.declared.function.Term.TheVariants.{Fall, Jump, Branch, Ret}
 use Rattle.un_ir.specs.declared.extended.ExtKind.{ExtKind}
 use Rattle.un_ir.specs.declared.extended.ExtKind.TheVariants.{In, Out, Body, End, Copy, Enter, Leave}
 use Rattle.un_ir.specs.declared.extended.Ext.{Ext}
-use Rattle.un_ir.specs.Kinds.{is_optional}
+use Rattle.un_ir.specs.Kinds.{is_optional, is_call_kind}
 use Rattle.un_ir.specs.Linear.{is_out}
 use Rattle.un_model.specs.declared.model.Arc.{Arc}
 use Rattle.un_model.specs.declared.model.Model.{Model}
 use Rattle.un_model.specs.declared.model.Options.{Options}
 use Rattle.un_model.specs.Instructions.{instruction_of, needs_by}
-use Rattle.un_model.specs.Pairs.{joined}
 use Rattle.un_model.specs.Schedules.{issues_of, schedule_of, value_by}
 use Rattle.un_model.specs.Solutions.{IsSchedule, latency_gap, share_of}
 use Rattle.un_model.specs.Variables.{model_of, arcs_of, var_at, var_if, has_cycle, cycle_place, ops_count}
 use Rattle.un_model.proofs.Lists.{Each, Member, each_of, each_member, each_more, each_map, each_join, member_map_of, member_of_filter}
-use Rattle.un_model.proofs.Lists.{member_append_left, member_append_right, place_of as position_of}
+use Rattle.un_model.proofs.Lists.{member_append_left, place_of as position_of}
 use Rattle.un_model.proofs.Placed.{Placed, Region, region_placed, vars_of, issue_at}
 use Rattle.un_model.proofs.PlacedSchedules.{all}
 use Rattle.un_prop.specs.Acts.{at_value}
@@ -39,14 +40,16 @@ use Rattle.un_length.specs.BlockLaws.{fits_holds}
 use Rattle.un_kinds.specs.Constraints.{Constraint, AllMet, Before, meets}
 use Rattle.un_sites.specs.Befores.{arc_before, befores_in, known_befores, length_in, lengths_of}
 use Rattle.un_sites.specs.CallBefores.{call_befores_by}
-use Rattle.un_sites.specs.Lengths.{is_task, tail_of, var_in, task_of, tasks_in, task_place, precedence_at, precedence_by, precedences_by}
+use Rattle.un_sites.specs.Crossings.{spills_at, reloads_at}
+use Rattle.un_sites.specs.Lengths.{is_task, tail_of, head_by, tail_by, var_in, task_of, tasks_in, task_place, precedence_by, precedences_by}
 use Rattle.un_sites.specs.Lengths.{length_by}
 use Rattle.un_sites.specs.Places.{Place, act_by, time_by, places_of}
-use Rattle.un_sites.specs.Postings.{issue_by, issues_in, over_places, with_kind}
+use Rattle.un_sites.specs.Postings.{issue_by, issues_in, with_kind}
 use Rattle.un_sites.specs.Rooms.{arcs_or}
 use Rattle.un_post.proofs.Blocks.{blocks, region_places, region_vars, region_close, places_in, regions_met, in_all}
 use Rattle.un_post.proofs.CallBefores.{block_met}
 use Rattle.un_post.proofs.CallOrder.{kept}
+use Rattle.un_post.proofs.Crossed.{heads, tails}
 use Rattle.un_post.proofs.Ends.{region_end}
 use Rattle.un_post.proofs.Facts.{Given, times}
 use Rattle.un_post.proofs.Latencies.{latencies}
@@ -121,6 +124,15 @@ tail_one (Copy node) h = refl
 tail_one Enter h = refl
 tail_one Leave h = refl
 
+call_tail : (kind : ExtKind) → is_call_kind kind ≡ true → tail_of kind ≡ 1
+call_tail (Body so) h = refl
+call_tail In h = absurd (cc h)
+call_tail Out h = absurd (cc h)
+call_tail (End term) h = absurd (cc h)
+call_tail (Copy node) h = absurd (cc h)
+call_tail Enter h = absurd (cc h)
+call_tail Leave h = absurd (cc h)
+
 out_task : (kind : ExtKind) → kind ≡ Out → is_task kind ≡ true
 out_task kind e = ap is_task e
 
@@ -165,109 +177,117 @@ ordered_each x ops cs met =
 
 module _ (e : Ext) (o : Options) (x : List ℕ) (given : Given e o x)
     (schedule : IsSchedule (latency_gap e.table) (model_of e o).domains (model_of e o) x (schedule_of (model_of e o) x)) where
-  abbrev task : Placed → Task
-  task q = task_of e.table (place_of q)
-
-  abbrev tasks : List Placed → List Task
-  tasks qs = tasks_in e.table (map place_of qs)
-
-  -- ---- single operations
-
-  cycle_is : (q : Placed) → is_task q.op.kind ≡ true → cycle_of x (task q) ≡ (issue_at x q).cycle
-  cycle_is q t = timed_by q.op.kind q.close (q.first + cycle_place q.op) x t ∙ times e o x given q
-
-  issues_each : Each (λ q. Met x (issues_in (place_of q))) (all e o x)
-  issues_each = (posted_each e o x given issues_in).0 ((latencies e o x given schedule.choices).0 schedule.latencies).0
-
-  ended_one : (q : Placed) → Member q (all e o x) → is_task q.op.kind ≡ true
-      → cycle_of x (task q) + tail_of q.op.kind ≤ slice_index x q.close.0
-  ended_one q m t = ended_by q.op.kind q.close q.first (q.first + cycle_place q.op) x t
-      (each_member (λ q. Met x (issues_in (place_of q))) (all e o x) q issues_each m)
-
-  -- ---- room
-
-  one_taken : (r : Resource) (b c : ℕ) (q : Placed) → q.block ≡ b → is_task q.op.kind ≡ true → is_out q.op.kind ≡ false
-      → taken_by r c x (task q) ≡ share e o x given r b c q
-  one_taken r b c q block t out =
-      let i = issue_at x q in
-      let here : (q.block == b) ≡ true = eq-eqb q.block b block in
-      ap (λ n. if nat_eq n c then need_of r (needs_by e.table (instruction_of q.op.kind 0)) else 0) (cycle_is q t)
-      ∙ ap (λ n. if nat_eq i.cycle c then n else 0) (needs_as e.table r q.op.kind (value_by x (vars_of q).instr) t out)
-      ∙ ap (λ s. if s && nat_eq i.cycle c then share_of e.table r i.instr else 0) (sym here)
-
-  -- what an operation takes as a task
-  abbrev part : Resource → ℕ → Placed → ℕ
-  part r c q = if is_task q.op.kind then taken_by r c x (task q) else 0
-
-  taken_cons : (r : Resource) (c : ℕ) (q : Placed) (qs : List Placed)
-      → taken r (tasks (q ∷ qs)) x c ≡ part r c q + taken r (tasks qs) x c
-  taken_cons r c q qs = by (is_task q.op.kind) refl
-    where
-      by : (b : Bool) → is_task q.op.kind ≡ b → taken r (tasks (q ∷ qs)) x c ≡ part r c q + taken r (tasks qs) x c
-      by true k =
-          ap (λ (b : Bool). taken r (map (task_of e.table)
-          (if b then place_of q ∷ with_kind is_task (map place_of qs) else with_kind is_task (map place_of qs))) x c) k
-          ∙ sum_by-cons (taken_by r c x) (task q) (tasks qs)
-          ∙ ap (λ (b : Bool). (if b then taken_by r c x (task q) else 0) + taken r (tasks qs) x c) (sym k)
-      by false k =
-          let z : taken r (tasks qs) x c ≡ 0 + taken r (tasks qs) x c = omega arith in
-          ap (λ (b : Bool). taken r (map (task_of e.table)
-          (if b then place_of q ∷ with_kind is_task (map place_of qs) else with_kind is_task (map place_of qs))) x c) k
-          ∙ z ∙ ap (λ (b : Bool). (if b then taken_by r c x (task q) else 0) + taken r (tasks qs) x c) (sym k)
-
-  taken_last : (r : Resource) (c : ℕ) (qs : List Placed) (l : Placed)
-      → taken r (tasks (qs ++ l ∷ [])) x c ≡ taken r (tasks qs) x c + part r c l
-  taken_last r c [] l = let a = taken_cons r c l [] in omega (arith, a)
-  taken_last r c (q ∷ qs) l =
-      let a = taken_cons r c q (qs ++ l ∷ []) in
-      let b = taken_cons r c q qs in
-      let m = taken_last r c qs l in
-      omega (arith, a, b, m)
-
-  -- operations but a block's end take no more than the packets have for them
-  part_less : (r : Resource) (b c : ℕ) (q : Placed) → q.block ≡ b → is_out q.op.kind ≡ false
-      → part r c q ≤ share e o x given r b c q
-  part_less r b c q block out = by (is_task q.op.kind) refl
-    where
-      by : (t : Bool) → is_task q.op.kind ≡ t → (if t then taken_by r c x (task q) else 0) ≤ share e o x given r b c q
-      by true t = let same = one_taken r b c q block t out in omega (arith, same)
-      by false t = omega arith
-
-  taken_less : (r : Resource) (b c : ℕ) (qs : List Placed) → Each (λ (q : Placed). q.block ≡ b) qs
-      → Each (λ (q : Placed). is_out q.op.kind ≡ false) qs → taken r (tasks qs) x c ≤ sum_by (share e o x given r b c) qs
-  taken_less r b c [] h k = omega arith
-  taken_less r b c (q ∷ qs) h k =
-      let a = taken_cons r c q qs in
-      let s = sum_by-cons (share e o x given r b c) q qs in
-      let here = part_less r b c q h.0 k.0 in
-      let rest = taken_less r b c qs h.1 k.1 in
-      omega (arith, a, s, here, rest)
-
-  -- an operation that is not in a cycle takes nothing there
-  part_none : (r : Resource) (c : ℕ) (q : Placed) → (is_task q.op.kind ≡ true → cycle_of x (task q) ≡ c → ⊥) → part r c q ≡ 0
-  part_none r c q h = by (is_task q.op.kind) refl
-    where
-      by : (t : Bool) → is_task q.op.kind ≡ t → (if t then taken_by r c x (task q) else 0) ≡ 0
-      by true t = off (nat_eq (cycle_of x (task q)) c) refl
-        where
-          off : (s : Bool) → nat_eq (cycle_of x (task q)) c ≡ s
-              → (if s then need_of r (needs_by e.table (instruction_of q.op.kind 0)) else 0) ≡ 0
-          off true s = absurd (h t (grind (arith, nat_tests, s)))
-          off false s = refl
-      by false t = refl
-
-  taken_none : (r : Resource) (c : ℕ) (qs : List Placed)
-      → Each (λ (q : Placed). is_task q.op.kind ≡ true → cycle_of x (task q) ≡ c → ⊥) qs → taken r (tasks qs) x c ≡ 0
-  taken_none r c [] h = refl
-  taken_none r c (q ∷ qs) h =
-      let a = taken_cons r c q qs in
-      let here = part_none r c q h.0 in
-      let rest = taken_none r c qs h.1 in
-      omega (arith, a, here, rest)
-
-  -- ---- a block
-
   module _ (r : Region) (mr : Member r (blocks e o x)) where
+    abbrev arcs : List Arc
+    arcs = arcs_or (slice_get (arcs_of e) r.block)
+
+    -- ---- the operations of a block
+
+    abbrev made : Place → Task
+    made = task_of e.table (r.block == 0) arcs (region_places r)
+
+    abbrev task : Placed → Task
+    task q = made (place_of q)
+
+    abbrev tasks : List Placed → List Task
+    tasks qs = map made (with_kind is_task (map place_of qs))
+
+    -- ---- single operations
+
+    cycle_is : (q : Placed) → is_task q.op.kind ≡ true → cycle_of x (task q) ≡ (issue_at x q).cycle
+    cycle_is q t = timed_by q.op.kind q.close (q.first + cycle_place q.op) x t ∙ times e o x given q
+
+    issues_each : Each (λ q. Met x (issues_in (place_of q))) (all e o x)
+    issues_each = (posted_each e o x given issues_in).0 ((latencies e o x given schedule.choices).0 schedule.latencies).0
+
+    ended_one : (q : Placed) → Member q (all e o x) → is_task q.op.kind ≡ true
+        → cycle_of x (task q) + tail_of q.op.kind ≤ slice_index x q.close.0
+    ended_one q m t = ended_by q.op.kind q.close q.first (q.first + cycle_place q.op) x t
+        (each_member (λ q. Met x (issues_in (place_of q))) (all e o x) q issues_each m)
+
+    -- ---- room
+
+    one_taken : (r : Resource) (b c : ℕ) (q : Placed) → q.block ≡ b → is_task q.op.kind ≡ true → is_out q.op.kind ≡ false
+        → taken_by r c x (task q) ≡ share e o x given r b c q
+    one_taken r b c q block t out =
+        let i = issue_at x q in
+        let here : (q.block == b) ≡ true = eq-eqb q.block b block in
+        ap (λ n. if nat_eq n c then need_of r (needs_by e.table (instruction_of q.op.kind 0)) else 0) (cycle_is q t)
+        ∙ ap (λ n. if nat_eq i.cycle c then n else 0) (needs_as e.table r q.op.kind (value_by x (vars_of q).instr) t out)
+        ∙ ap (λ s. if s && nat_eq i.cycle c then share_of e.table r i.instr else 0) (sym here)
+
+    -- what an operation takes as a task
+    abbrev part : Resource → ℕ → Placed → ℕ
+    part r c q = if is_task q.op.kind then taken_by r c x (task q) else 0
+
+    taken_cons : (r : Resource) (c : ℕ) (q : Placed) (qs : List Placed)
+        → taken r (tasks (q ∷ qs)) x c ≡ part r c q + taken r (tasks qs) x c
+    taken_cons r c q qs = by (is_task q.op.kind) refl
+      where
+        by : (b : Bool) → is_task q.op.kind ≡ b → taken r (tasks (q ∷ qs)) x c ≡ part r c q + taken r (tasks qs) x c
+        by true k =
+            ap (λ (b : Bool). taken r (map made
+            (if b then place_of q ∷ with_kind is_task (map place_of qs) else with_kind is_task (map place_of qs))) x c) k
+            ∙ sum_by-cons (taken_by r c x) (task q) (tasks qs)
+            ∙ ap (λ (b : Bool). (if b then taken_by r c x (task q) else 0) + taken r (tasks qs) x c) (sym k)
+        by false k =
+            let z : taken r (tasks qs) x c ≡ 0 + taken r (tasks qs) x c = omega arith in
+            ap (λ (b : Bool). taken r (map made
+            (if b then place_of q ∷ with_kind is_task (map place_of qs) else with_kind is_task (map place_of qs))) x c) k
+            ∙ z ∙ ap (λ (b : Bool). (if b then taken_by r c x (task q) else 0) + taken r (tasks qs) x c) (sym k)
+
+    taken_last : (r : Resource) (c : ℕ) (qs : List Placed) (l : Placed)
+        → taken r (tasks (qs ++ l ∷ [])) x c ≡ taken r (tasks qs) x c + part r c l
+    taken_last r c [] l = let a = taken_cons r c l [] in omega (arith, a)
+    taken_last r c (q ∷ qs) l =
+        let a = taken_cons r c q (qs ++ l ∷ []) in
+        let b = taken_cons r c q qs in
+        let m = taken_last r c qs l in
+        omega (arith, a, b, m)
+
+    -- operations but a block's end take no more than the packets have for them
+    part_less : (r : Resource) (b c : ℕ) (q : Placed) → q.block ≡ b → is_out q.op.kind ≡ false
+        → part r c q ≤ share e o x given r b c q
+    part_less r b c q block out = by (is_task q.op.kind) refl
+      where
+        by : (t : Bool) → is_task q.op.kind ≡ t → (if t then taken_by r c x (task q) else 0) ≤ share e o x given r b c q
+        by true t = let same = one_taken r b c q block t out in omega (arith, same)
+        by false t = omega arith
+
+    taken_less : (r : Resource) (b c : ℕ) (qs : List Placed) → Each (λ (q : Placed). q.block ≡ b) qs
+        → Each (λ (q : Placed). is_out q.op.kind ≡ false) qs → taken r (tasks qs) x c ≤ sum_by (share e o x given r b c) qs
+    taken_less r b c [] h k = omega arith
+    taken_less r b c (q ∷ qs) h k =
+        let a = taken_cons r c q qs in
+        let s = sum_by-cons (share e o x given r b c) q qs in
+        let here = part_less r b c q h.0 k.0 in
+        let rest = taken_less r b c qs h.1 k.1 in
+        omega (arith, a, s, here, rest)
+
+    -- an operation that is not in a cycle takes nothing there
+    part_none : (r : Resource) (c : ℕ) (q : Placed) → (is_task q.op.kind ≡ true → cycle_of x (task q) ≡ c → ⊥) → part r c q ≡ 0
+    part_none r c q h = by (is_task q.op.kind) refl
+      where
+        by : (t : Bool) → is_task q.op.kind ≡ t → (if t then taken_by r c x (task q) else 0) ≡ 0
+        by true t = off (nat_eq (cycle_of x (task q)) c) refl
+          where
+            off : (s : Bool) → nat_eq (cycle_of x (task q)) c ≡ s
+                → (if s then need_of r (needs_by e.table (instruction_of q.op.kind 0)) else 0) ≡ 0
+            off true s = absurd (h t (grind (arith, nat_tests, s)))
+            off false s = refl
+        by false t = refl
+
+    taken_none : (r : Resource) (c : ℕ) (qs : List Placed)
+        → Each (λ (q : Placed). is_task q.op.kind ≡ true → cycle_of x (task q) ≡ c → ⊥) qs → taken r (tasks qs) x c ≡ 0
+    taken_none r c [] h = refl
+    taken_none r c (q ∷ qs) h =
+        let a = taken_cons r c q qs in
+        let here = part_none r c q h.0 in
+        let rest = taken_none r c qs h.1 in
+        omega (arith, a, here, rest)
+
+    -- ---- room in a block
+
     abbrev close : VarId
     close = let owner = r.owner in var_at (r.first + ops_count owner.ops)
 
@@ -361,9 +381,6 @@ module _ (e : Ext) (o : Options) (x : List ℕ) (given : Given e o x)
 
     -- ---- order
 
-    abbrev arcs : List Arc
-    arcs = arcs_or (slice_get (arcs_of e) r.block)
-
     abbrev m : Model
     m = model_of e o
 
@@ -378,33 +395,66 @@ module _ (e : Ext) (o : Options) (x : List ℕ) (given : Given e o x)
     -- ---- its length
 
     abbrev ops : List Task
-    ops = tasks_in e.table (region_places r)
+    ops = tasks_in e.table (r.block == 0) arcs (region_places r)
 
     abbrev IsEnded : Task → Type 0
     IsEnded t = cycle_of x t + t.tail ≤ slice_index x close.0
 
-    ended_in : Each IsEnded ops
-    ended_in =
+    abbrev IsBegun : Task → Type 0
+    IsBegun t = t.head ≤ cycle_of x t
+
+    -- a call issues behind its Spills
+    begun_task : (q : Placed) → Member q (region_placed r) → is_task q.op.kind ≡ true → IsBegun (task q)
+    begun_task q m t = by (is_call_kind q.op.kind) refl
+      where
+        by : (b : Bool) → is_call_kind q.op.kind ≡ b
+            → (if b then head_by (spills_at e.table (r.block == 0) arcs (region_places r) (place_of q)) else 0) ≤ cycle_of x (task q)
+        by true k = let le = heads e o x given schedule r mr q m k in let same = cycle_is q t in omega (arith, le, same)
+        by false k = omega arith
+
+    -- and before its Reloads
+    ended_task : (q : Placed) → Member q (region_placed r) → is_task q.op.kind ≡ true → IsEnded (task q)
+    ended_task q m t = by (is_call_kind q.op.kind) refl
+      where
+        own : cycle_of x (task q) + tail_of q.op.kind ≤ slice_index x close.0
+        own = subst (λ (v : VarId). cycle_of x (task q) + tail_of q.op.kind ≤ slice_index x v.0) (sym (region_close r q m))
+            (ended_one q (in_all e o x r q mr m) t)
+
+        by : (b : Bool) → is_call_kind q.op.kind ≡ b
+            → cycle_of x (task q)
+            + (if b then tail_by (latency_of e.table Reload) (reloads_at e.table arcs (region_places r) (place_of q)) else tail_of q.op.kind)
+            ≤ slice_index x close.0
+        by true k =
+            let same = cycle_is q t in
+            let one = call_tail q.op.kind k in
+            let end : slice_index x close.0 ≡ (issue_at x q).end = ap (λ (v : VarId). slice_index x v.0) (region_close r q m) in
+            let inside = own in
+            let le = tails e o x given schedule r mr q m k (omega (arith, same, one, end, inside)) in
+            omega (arith, le, same, end)
+        by false k = own
+
+    each_task : (P : Task → Type 0) → ((q : Placed) → Member q (region_placed r) → is_task q.op.kind ≡ true → P (task q)) → Each P ops
+    each_task P h =
         let found = with_kind is_task (region_places r) in
-        each_map IsEnded (task_of e.table) found (each_of (λ (p : Place). IsEnded (task_of e.table p)) found (λ p mp.
+        each_map P made found (each_of (λ (p : Place). P (made p)) found (λ p mp.
         let f = member_of_filter (λ (p : Place). is_task p.it.kind) (region_places r) p mp in
         let q = member_map_of place_of (region_placed r) p f.0 in
         let t : is_task q.0.op.kind ≡ true = ap (λ (p : Place). is_task p.it.kind) q.2 ∙ f.1 in
-        subst (λ (p : Place). IsEnded (task_of e.table p)) q.2
-        (subst (λ (v : VarId). cycle_of x (task q.0) + tail_of q.0.op.kind ≤ slice_index x v.0) (sym (region_close r q.0 q.1))
-        (ended_one q.0 (in_all e o x r q.0 mr q.1) t))))
+        subst (λ (p : Place). P (made p)) q.2 (h q.0 q.1 t)))
 
     fits : FitsBlock ops (precedences_by ops (known_befores m r.block (region_places r))) close x
     fits = record {
       ordered = all_each (Ordered x ops) (precedences_by ops (known_befores m r.block (region_places r)))
           (ordered_each x ops (known_befores m r.block (region_places r)) order_met);
-      ended = all_each IsEnded ops ended_in;
+      begun = all_each IsBegun ops (each_task IsBegun begun_task);
+      ended = all_each IsEnded ops (each_task IsEnded ended_task);
       room = room_in;
     }
 
     length_met : Met x (length_in (model_of e o) r.block r.number r.owner (region_vars r))
     length_met = let owner = r.owner in
-        subst (λ (ps : List Place). Met x (length_by e.table (known_befores m r.block ps) close owner.horizon ps ∷ [])) (sym (places_in r))
+        subst (λ (ps : List Place). Met x (length_by e.table (r.block == 0) arcs (known_befores m r.block ps) close owner.horizon ps ∷ []))
+        (sym (places_in r))
         (fits_holds ops (precedences_by ops (known_befores m r.block (region_places r))) close x fits, tt)
 
   pub lengths_met : AllMet (lengths_of (model_of e o)) x

@@ -1,3 +1,4 @@
+pub mod AccessRooms
 pub mod BlockTemps
 pub mod Blocks
 pub mod CallAnew
@@ -6,6 +7,7 @@ pub mod CallCounts
 pub mod CallOrder
 pub mod Choices
 pub mod Congruences
+pub mod Crossed
 pub mod Cycles
 pub mod Ends
 pub mod Exact

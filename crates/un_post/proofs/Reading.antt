@@ -37,7 +37,7 @@ use Rattle.un_length.specs.declared.block.Task.{Task}
 use Rattle.un_sites.specs.Befores.{place_or, place_with, arc_before}
 use Rattle.un_kinds.specs.Constraints.{Constraint, Before, Reads, Inside, Last, Below, Chosen, Zeros, Spaces, Same, Home, Frame, meets}
 use Rattle.un_kinds.specs.Constraints.{Apart, Clobber, Operands, PerCycle, Length}
-use Rattle.un_sites.specs.Lengths.{is_task, var_in, task_of, tasks_in, precedences_by, length_by}
+use Rattle.un_sites.specs.Lengths.{is_task, var_in, task_of, tasks_in, length_by}
 use Rattle.un_sites.specs.Places.{Place, Definer, Asked, act_by, act_of, time_by, time_of, definers_at}
 use Rattle.un_sites.specs.Places.{definer_or, registers_at, asked, asked_by}
 use Rattle.un_sites.specs.Places.{no_place}
@@ -574,15 +574,16 @@ module _ (n : ℕ) (pos : 0 < n) where
     var_known (Const k) h = pos
     var_known (Var v) h = h.0
 
-    pub length_are : (t : Table) (befores : List Constraint) (end : VarId) (horizon : ℕ) (ps : List Place) → end.0 < n → horizon ≤ most
-        → Each PlaceIn ps → IsSound n most (length_by t befores end horizon ps)
-    length_are t befores end horizon ps lt le h =
+    pub length_are : (t : Table) (is_entry : Bool) (arcs : List Arc) (befores : List Constraint) (end : VarId) (horizon : ℕ) (ps : List Place)
+        → end.0 < n → horizon ≤ most → Each PlaceIn ps → IsSound n most (length_by t is_entry arcs befores end horizon ps)
+    length_are t is_entry arcs befores end horizon ps lt le h =
         let found = with_kind is_task ps in
-        let ops = tasks_in t ps in
+        let ops = tasks_in t is_entry arcs ps in
+        let made = task_of t is_entry arcs ps in
         record {
           within = two_in (vars_in task_vars ops) (own_var end)
-              (each_in task_vars ops (each_map (λ (k : Task). Within (task_vars k)) (task_of t) found
-              (each_more PlaceIn (λ (p : Place). Within (task_vars (task_of t p))) found
+              (each_in task_vars ops (each_map (λ (k : Task). Within (task_vars k)) made found
+              (each_more PlaceIn (λ (p : Place). Within (task_vars (made p))) found
               (λ p g. (var_known (time_of p) (time_in p g), tt))
               (each_filter PlaceIn (λ (p : Place). is_task p.it.kind) ps h)))) (lt, tt);
           grounded = λ e x. absurd (some_last (vars_in task_vars ops) (own_var end) (λ f. cc f) e);

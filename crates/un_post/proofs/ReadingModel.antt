@@ -2,7 +2,7 @@
 -- the largest horizon.
 use Rattle.std.proofs.Common.{ℕ, zero, suc, ◌≡◌, ◌+◌, ◌<◌, ◌≤◌, ◌^◌, Bool, true, false, List, [], ◌∷◌, ◌++◌, length, map, fold, max}
 use Rattle.std.proofs.Common.{inl, inr, refl, sym, ap, ◌∙◌, subst, arith}
-use Rattle.std.specs.Prelude.{Option, Some, None, slice_get}
+use Rattle.std.specs.Prelude.{Option, Some, None, slice_get, ◌==◌}
 use Rattle.std.specs.List.{range_with_len, AllZip}
 use Rattle.std.specs.Option.{option_to_list}
 use Rattle.un_base.specs.declared.ids.TempId.{TempId}
@@ -403,8 +403,8 @@ module _ (e : Ext) (o : Options) (extended : IsExtended e) where
       let owner = r.owner in
       let vars = region_vars r in
       let le = most_of 0 (map own_horizon e.blocks) owner.horizon (member_map own_horizon e.blocks owner (owner_member r mr)) in (
-        length_are n pos most e.table (known_befores m r.block (places_at r)) vars.end owner.horizon (places_at r) (end_known r mr) le
-            (block_known r mr),
+        length_are n pos most e.table (r.block == 0) (arcs_or (slice_get m.arcs r.block)) (known_befores m r.block (places_at r)) vars.end
+            owner.horizon (places_at r) (end_known r mr) le (block_known r mr),
         tt,
       ))
 

@@ -1,7 +1,8 @@
 -- What is posted of the calls of a block, as a loop over them adds it.
-use Rattle.std.proofs.Common.{ℕ, ◌≡◌, ◌+◌, ◌≤◌, Bool, true, false, List, [], ◌∷◌, ◌++◌, length, map, drop, All, refl, sym, ap}
+use Rattle.std.proofs.Common.{ℕ, ◌≡◌, ◌+◌, ◌≤◌, Bool, true, false, cond, List, [], ◌∷◌, ◌++◌, length, map, drop, All, refl, sym, ap}
 use Rattle.std.proofs.Common.{◌∙◌, subst, append_assoc, arith}
 use Rattle.std.specs.Prelude.{Option, Some, filter, not, slice_get, ◌||◌}
+use Rattle.std.specs.List.{list_any}
 use Rattle.std.proofs.lemmas.List.Elements.{All-push}
 use Rattle.std.specs.Option.{option_map}
 use Rattle.un_isa.specs.declared.table.Table.{Table}
@@ -36,6 +37,16 @@ pub calls_are : (t : Table) (arcs : List Arc) (ps : List Place) (calls : List Sp
 calls_are t arcs ps calls = ap joined
     (places_mapped (spot_call t arcs ps calls) (of_call_at t arcs ps (map place_of calls)) place_of 0 calls
     (λ k x. ap (λ (next : Option Place). of_call t arcs ps next (place_of x)) (sym (slice_get-map place_of calls (k + 1)))))
+
+pub any_mapped : {A B : Type 0} (p : B → Bool) (f : A → B) (xs : List A) → list_any (λ x. p (f x)) xs ≡ list_any p (map f xs)
+any_mapped p f [] = refl
+any_mapped p f (x ∷ xs) = ap (λ (b : Bool). p (f x) || b) (any_mapped p f xs)
+
+pub filter_alike : {A : Type 0} (p q : A → Bool) (xs : List A) → ((x : A) → p x ≡ q x) → filter p xs ≡ filter q xs
+filter_alike p q [] same = refl
+filter_alike p q (x ∷ xs) same =
+    ap (λ (b : Bool). cond b (x ∷ filter p xs) (filter p xs)) (same x)
+    ∙ ap (λ ys. cond (q x) (x ∷ ys) ys) (filter_alike p q xs same)
 
 -- ---- operands that pass, as a loop finds or counts them
 

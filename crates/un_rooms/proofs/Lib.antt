@@ -6,3 +6,4 @@ pub mod Seeing
 pub mod Spares
 pub mod Sparing
 pub mod TaskPlaces
+pub mod TaskWalks

@@ -1,12 +1,11 @@
 -- Places of operations by their variables, as a loop finds them, and precedences between them.
-use Rattle.std.proofs.Common.{ℕ, suc, ◌≡◌, ◌+◌, ◌<◌, ◌≤◌, Bool, true, false, List, [], ◌∷◌, ◌++◌, length, map, drop, All, refl, sym, ap}
+use Rattle.std.proofs.Common.{ℕ, suc, ◌≡◌, ◌+◌, ◌≤◌, Bool, true, false, List, [], ◌∷◌, ◌++◌, length, drop, All, refl, sym, ap}
 use Rattle.std.proofs.Common.{◌∙◌, subst, arith}
-use Rattle.std.specs.Prelude.{Option, Some, slice_get, ◌==◌, ◌&&◌, nat_lt, if◌then◌else◌}
+use Rattle.std.specs.Prelude.{Some, slice_get, ◌==◌, ◌&&◌, nat_lt, if◌then◌else◌}
 use Rattle.std.specs.List.{AllByRecursion}
 use Rattle.std.proofs.lemmas.Bool.Decides.{nat_tests}
 use Rattle.std.proofs.lemmas.List.Elements.{All-from_recursion}
 use Rattle.un_base.specs.declared.ids.VarId.{VarId}
-use Rattle.un_model.specs.Pairs.{joined}
 use Rattle.un_model.proofs.Steps.{drop_at, drop_past, append-nil}
 use Rattle.un_prop.specs.declared.act.Act.TheVariants.{Always}
 use Rattle.un_prop.specs.declared.act.At.TheVariants.{Var}

@@ -4,6 +4,7 @@
 mod call_rows;
 mod call_sides;
 mod call_waits;
+mod crossings;
 pub mod post_aparts;
 pub mod post_clobbers;
 pub mod post_lengths;

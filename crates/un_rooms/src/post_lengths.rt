@@ -1,12 +1,13 @@
 //! What is posted of the lengths of blocks: what a block issues in every solution has room before its end, in the order that the
 //! arcs and the calls ask for.
 
-ghost use Rattle.std.specs.Prelude.{◌≡◌, [], ◌∷◌, ◌++◌, IfOk, OnOk, map};
+ghost use Rattle.std.specs.Prelude.{◌≡◌, ◌==◌, [], ◌∷◌, ◌++◌, IfOk, OnOk, map, slice_get};
 ghost use Rattle.un_kinds.specs.Constraints as constraint;
 ghost use Rattle.un_rooms.specs.Waits.{befores_by};
 ghost use Rattle.un_sites.specs.Befores.{arc_before, befores_in, place_with, known_befores, length_in, lengths_of};
 ghost use Rattle.un_sites.specs.Lengths.{length_by};
 ghost use Rattle.un_sites.specs.Places.{places_of, time_of};
+ghost use Rattle.un_sites.specs.Rooms.{arcs_or};
 ghost use Rattle.un_sites.specs.Sites.{place_of};
 
 use crate::call_waits::add_call_waits;
@@ -80,15 +81,17 @@ fn known_waits(
 fn block_by(
     alloc: Global,
     t: &Table,
+    is_entry: bool,
+    known: &[Arc],
     waits: &[Wait],
     end: VarId,
     horizon: u32,
     spots: &[Spot<'_>],
 ) -> Result<Block, NoMemory>
     ensures { IfOk result (λ b. constraint.Length b.ops b.arcs b.end b.horizon
-        ≡ length_by t.now (befores_by waits.now) end horizon (map place_of spots.now)) }
+        ≡ length_by t.now is_entry known.now (befores_by waits.now) end horizon (map place_of spots.now)) }
 {
-    let ops = tasks_in(alloc, t, spots)?;
+    let ops = tasks_in(alloc, t, is_entry, known, spots)?;
     let arcs = precedences_by(alloc, ops.as_slice(), waits)?;
     Ok(Block {
         ops,
@@ -109,11 +112,21 @@ fn known_block(
     spots: &[Spot<'_>],
 ) -> Result<Block, NoMemory>
     requires { map place_of all.now ≡ places_of m.now }
-    ensures { IfOk result (λ k. constraint.Length k.ops k.arcs k.end k.horizon ≡ length_by m.now.ext.table
-        (known_befores m.now b (map place_of spots.now)) end horizon (map place_of spots.now)) }
+    ensures { IfOk result (λ k. constraint.Length k.ops k.arcs k.end k.horizon ≡ length_by m.now.ext.table (b == 0)
+        (arcs_or (slice_get m.now.arcs b)) (known_befores m.now b (map place_of spots.now)) end horizon (map place_of spots.now)) }
 {
     let waits = known_waits(alloc, m, all, b, spots)?;
-    let made = block_by(alloc, &m.ext.table, waits.as_slice(), end, horizon, spots)?;
+    let arcs = arcs_at(&m.arcs, b);
+    let made = block_by(
+        alloc,
+        &m.ext.table,
+        b == 0,
+        arcs,
+        waits.as_slice(),
+        end,
+        horizon,
+        spots,
+    )?;
     Ok(made)
 }
 

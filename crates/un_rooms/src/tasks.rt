@@ -2,10 +2,17 @@
 
 ghost use Rattle.std.specs.Prelude.{◌≡◌, ◌+◌, ◌<◌, ◌++◌, All, IfOk, OnOk, map, length};
 ghost use Rattle.un_length.specs.Places.{Leads};
+ghost use Rattle.un_model.specs.Arcs.{own_instr};
+ghost use Rattle.un_model.specs.Instructions.{needs_by};
+ghost use Rattle.un_rooms.specs.Reach.{IsWithin, IsArcWithin};
 ghost use Rattle.un_rooms.specs.Waits.{before_of, befores_by};
-ghost use Rattle.un_sites.specs.Lengths.{is_task, tail_of, var_in, task_of, tasks_in, task_place, precedence_at, precedence_by, precedences_by};
+ghost use Rattle.un_sites.specs.Places.{time_of};
+ghost use Rattle.un_sites.specs.Lengths.{is_task, tail_of, var_in, head_of, tail_in, task_of, tasks_in, task_place, precedence_at, precedence_by, precedences_by};
 ghost use Rattle.un_sites.specs.Sites.{place_of};
 
+use crate::crossings::{Margins, call_margins};
+use crate::reach::Reach;
+use crate::span::reach_of;
 use crate::wait::Wait;
 use std::alloc::{AllocError, Global};
 use un_base::ids::VarId;
@@ -16,6 +23,7 @@ use un_isa::table::Table;
 use un_length::block::{Precedence, Task};
 use un_lists::items::Items;
 use un_model::instructions::{instruction, needs};
+use un_model::model::Arc;
 use un_prop::act::At;
 use un_sites::sites::Spot;
 
@@ -51,29 +59,80 @@ fn is_task(kind: &ExtKind) -> bool
     kind.is_source() || kind.ends_block()
 }
 
+/// How far an operation is from the ends of its block.
+fn margins_of(
+    alloc: Global,
+    t: &Table,
+    is_entry: bool,
+    reach: Reach,
+    arcs: &[Arc],
+    p: &Spot<'_>,
+    spots: &[Spot<'_>],
+) -> Result<Margins, NoMemory>
+    requires arcs { All (IsArcWithin reach.low reach.count) arcs.now }
+    requires within { IsWithin reach.low reach.count p.now.op }
+    ensures head { IfOk result (λ m. m.head ≡ head_of t.now is_entry arcs.now (map place_of spots.now) (place_of p.now)) }
+    ensures tail { IfOk result (λ m. m.tail ≡ tail_in t.now arcs.now (map place_of spots.now) (place_of p.now)) }
+{
+    if p.it.kind.is_call() {
+        return call_margins(alloc, t, is_entry, reach, arcs, p, spots);
+    }
+    Ok(Margins {
+        head: 0,
+        tail: tail_of(&p.it.kind),
+    })
+}
+
 /// An operation as what takes a place before the end.
-fn task_of(t: &Table, p: &Spot<'_>) -> Task
-    ensures { result ≡ task_of t.now (place_of p.now) }
+fn task_by(t: &Table, p: &Spot<'_>, margins: Margins) -> Task
+    ensures { result ≡ record {
+      at = var_in (time_of (place_of p.now));
+      head = margins.head;
+      tail = margins.tail;
+      needs = needs_by t.now (own_instr p.now.it.now);
+    } }
 {
     Task {
         at: var_in(p.time()),
-        tail: tail_of(&p.it.kind),
+        head: margins.head,
+        tail: margins.tail,
         needs: needs(t, instruction(&p.it.kind, 0)),
     }
+}
+
+/// The same, of a block with these operations and arcs.
+fn task_of(
+    alloc: Global,
+    t: &Table,
+    is_entry: bool,
+    reach: Reach,
+    arcs: &[Arc],
+    p: &Spot<'_>,
+    spots: &[Spot<'_>],
+) -> Result<Task, NoMemory>
+    requires arcs { All (IsArcWithin reach.low reach.count) arcs.now }
+    requires within { IsWithin reach.low reach.count p.now.op }
+    ensures { IfOk result (λ task. task ≡ task_of t.now is_entry arcs.now (map place_of spots.now) (place_of p.now)) }
+{
+    let margins = margins_of(alloc, t, is_entry, reach, arcs, p, spots)?;
+    Ok(task_by(t, p, margins))
 }
 
 /// Those of a block's operations that every solution issues, and its end.
 pub(crate) fn tasks_in(
     alloc: Global,
     t: &Table,
+    is_entry: bool,
+    arcs: &[Arc],
     spots: &[Spot<'_>],
-) -> Result<Items<Task>, AllocError>
-    ensures { IfOk result (λ ops. ops ≡ tasks_in t.now (map place_of spots.now)) }
+) -> Result<Items<Task>, NoMemory>
+    ensures { IfOk result (λ ops. ops ≡ tasks_in t.now is_entry arcs.now (map place_of spots.now)) }
 {
+    let reach = reach_of(spots, arcs);
     let mut ops = Items::new(alloc);
     for p in spots {
         if is_task(&p.it.kind) {
-            ops.push(task_of(t, p))?;
+            ops.push(task_of(alloc, t, is_entry, reach, arcs, p, spots)?)?;
         }
     }
     Ok(ops)

@@ -1,5 +1,5 @@
 -- What is posted of the arcs of a model and of the lengths of its blocks, and the whole list of what is posted for it.
-use Rattle.std.specs.Prelude.{ℕ, List, [], ◌∷◌, ◌++◌, Option, Some, None, map, slice_get}
+use Rattle.std.specs.Prelude.{ℕ, ◌==◌, List, [], ◌∷◌, ◌++◌, Option, Some, None, map, slice_get}
 use Rattle.un_ir.specs.declared.extended.ExtBlock.{ExtBlock}
 use Rattle.un_model.specs.declared.model.Arc.{Arc}
 use Rattle.un_model.specs.declared.model.BlockVars.{BlockVars}
@@ -43,8 +43,10 @@ known_befores m b ps = let arcs : List Arc = arcs_or (slice_get m.arcs b) in
     befores_in (places_of m) arcs ++ call_befores_by m.ext.table arcs ps
 
 abbrev pub length_in : Model → ℕ → ℕ → ExtBlock → BlockVars → List Constraint
-length_in m b n block vars = let ps : List Place = block_places b n block vars in
-    length_by m.ext.table (known_befores m b ps) vars.end block.horizon ps ∷ []
+length_in m b n block vars =
+    let ps : List Place = block_places b n block vars in
+    let arcs : List Arc = arcs_or (slice_get m.arcs b) in
+    length_by m.ext.table (b == 0) arcs (known_befores m b ps) vars.end block.horizon ps ∷ []
 
 -- one block after another
 abbrev pub lengths_of : Model → List Constraint

@@ -1,20 +1,24 @@
 -- What is posted of the length of a block: what it issues in every solution has room before its end, in the order that is known of it.
-use Rattle.std.specs.Prelude.{ℕ, suc, ◌==◌, nat_lt, Bool, ◌&&◌, ◌||◌, if◌then◌else◌, List, [], ◌∷◌, length, map}
+use Rattle.std.specs.Prelude.{ℕ, suc, ◌+◌, ◌/◌, ◌==◌, nat_lt, Bool, ◌&&◌, ◌||◌, if◌then◌else◌, List, [], ◌∷◌, length, map}
 use Rattle.un_base.specs.declared.ids.VarId.{VarId}
+use Rattle.un_isa.specs.Tables.{latency_of}
+use Rattle.un_isa.specs.declared.op.Op.TheVariants.{Reload}
 use Rattle.un_isa.specs.declared.table.Table.{Table}
 use Rattle.un_ir.specs.declared.extended.ExtKind.{ExtKind}
 use Rattle.un_ir.specs.declared.extended.ExtKind.TheVariants.{Out}
-use Rattle.un_ir.specs.Kinds.{is_source, ends_block}
+use Rattle.un_ir.specs.Kinds.{is_source, is_call_kind, ends_block}
 use Rattle.un_model.specs.Arcs.{own_instr}
 use Rattle.un_model.specs.Instructions.{needs_by}
 use Rattle.un_model.specs.Pairs.{joined}
 use Rattle.un_model.specs.Variables.{var_at}
+use Rattle.un_model.specs.declared.model.Arc.{Arc}
 use Rattle.un_prop.specs.declared.act.Act.TheVariants.{Always}
 use Rattle.un_prop.specs.declared.act.At.{At}
 use Rattle.un_prop.specs.declared.act.At.TheVariants.{Const, Var}
 use Rattle.un_length.specs.declared.block.Precedence.{Precedence}
 use Rattle.un_length.specs.declared.block.Task.{Task}
 use Rattle.un_kinds.specs.Constraints.{Constraint, Before, Length}
+use Rattle.un_sites.specs.Crossings.{spills_at, reloads_at}
 use Rattle.un_sites.specs.Places.{Place, time_of}
 use Rattle.un_sites.specs.Postings.{with_kind}
 
@@ -34,12 +38,32 @@ abbrev pub var_in : At → VarId
 var_in (Const n) = var_at 0
 var_in (Var v) = v
 
--- the end takes the place of an instruction in its own cycle, where nothing else is
-abbrev pub task_of : Table → Place → Task
-task_of t p = record { at = var_in (time_of p); tail = tail_of p.it.kind; needs = needs_by t (own_instr p.it) }
+-- A call issues by no earlier cycle than its Spills have room for, of which there is one a cycle, from the one after the frame's Enter on.
+abbrev pub head_by : ℕ → ℕ
+head_by spills = if spills == 0 then 0 else spills + 1
 
-abbrev pub tasks_in : Table → List Place → List Task
-tasks_in t ps = map (task_of t) (with_kind is_task ps)
+-- Between a call and the end its Reloads have room, of which there are two a cycle, and what they give is ready by the end.
+abbrev pub tail_by : ℕ → ℕ → ℕ
+tail_by latency reloads = if reloads == 0 then 1 else latency + (reloads + 1) / 2
+
+abbrev pub head_of : Table → Bool → List Arc → List Place → Place → ℕ
+head_of t is_entry arcs ps p = if is_call_kind p.it.kind then head_by (spills_at t is_entry arcs ps p) else 0
+
+abbrev pub tail_in : Table → List Arc → List Place → Place → ℕ
+tail_in t arcs ps p =
+    if is_call_kind p.it.kind then tail_by (latency_of t Reload) (reloads_at t arcs ps p) else tail_of p.it.kind
+
+-- the end takes the place of an instruction in its own cycle, where nothing else is
+abbrev pub task_of : Table → Bool → List Arc → List Place → Place → Task
+task_of t is_entry arcs ps p = record {
+  at = var_in (time_of p);
+  head = head_of t is_entry arcs ps p;
+  tail = tail_in t arcs ps p;
+  needs = needs_by t (own_instr p.it);
+}
+
+abbrev pub tasks_in : Table → Bool → List Arc → List Place → List Task
+tasks_in t is_entry arcs ps = map (task_of t is_entry arcs ps) (with_kind is_task ps)
 
 -- ---- their order
 
@@ -63,5 +87,6 @@ precedences_by ops befores = joined (map (precedence_by ops) befores)
 -- ---- a block
 
 -- these operations have room before this end, in this order
-abbrev pub length_by : Table → List Constraint → VarId → ℕ → List Place → Constraint
-length_by t befores end horizon ps = let ops : List Task = tasks_in t ps in Length ops (precedences_by ops befores) end horizon
+abbrev pub length_by : Table → Bool → List Arc → List Constraint → VarId → ℕ → List Place → Constraint
+length_by t is_entry arcs befores end horizon ps =
+    let ops : List Task = tasks_in t is_entry arcs ps in Length ops (precedences_by ops befores) end horizon

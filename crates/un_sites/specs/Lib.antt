@@ -1,3 +1,4 @@
+pub mod Crossings
 pub mod Lengths
 pub mod Befores
 pub mod CallBefores

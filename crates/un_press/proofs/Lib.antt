@@ -1,0 +1,13 @@
+pub mod Counting
+pub mod Crossings
+pub mod Descent
+pub mod Entering
+pub mod Intervals
+pub mod Kept
+pub mod Living
+pub mod Loops
+pub mod Needs
+pub mod Premises
+pub mod Reloading
+pub mod Searching
+pub mod Spilling
