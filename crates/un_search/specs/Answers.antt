@@ -1,10 +1,11 @@
 -- What an attempt says of its answer.
-use Rattle.std.specs.Prelude.{ℕ, ◌≡◌, ◌≢◌, ◌≤◌, List, Option, None, MatchOption, ⊤, All, Contains, length}
+use Rattle.std.specs.Prelude.{ℕ, ◌≡◌, ◌≢◌, ◌≤◌, ◌+◌, ◌*◌, List, Option, None, MatchOption, ⊤, All, Contains, length}
 use Rattle.un_domains.specs.Sets.{IsSingle}
 use Rattle.un_model.specs.declared.model.Model.{Model}
 use Rattle.un_model.specs.declared.model.Solution.{Solution}
 use Rattle.un_bound.specs.Relaxations.{IsLeast}
 use Rattle.un_post.specs.Posts.{fix_at}
+use Rattle.un_tree.specs.Boxes.{volume}
 use Rattle.un_tree.specs.declared.node.Node.{Node}
 use Rattle.un_tree.specs.declared.node.Node.TheVariants.{Open}
 use Rattle.un_tree.specs.Searched.{IsLowest, IsOpenBox}
@@ -43,6 +44,10 @@ pub record IsCutOff (m : Model) (limit : Option ℕ) (n : ℕ) (t : List Node) (
   pub some : Contains t Open
   pub many : IsOdd (length t) n
   pub lowest : IsLowest (IsLeast m) (visits_of (root_of m) t) low
+
+-- more than twice as many nodes as the first box has assignments
+abbrev pub AreEnough : Model → ℕ → Type 0
+AreEnough m n = 2 * volume (root_of m) + 1 ≤ n
 
 -- the answer follows from what the rounds leave of the first box alone
 abbrev pub IsByRoot : Model → Option ℕ → Tried → Type 0

@@ -74,3 +74,9 @@ abbrev pub OnOther : Type 0 → Answer → Type 0
 OnOther P (Code s cost bound t) = ⊤
 OnOther P (Infeasible t) = P
 OnOther P (Spent t) = P
+
+-- there is no open leaf in the answer's tree
+abbrev pub HasNoOpenLeaf : Answer → Type 0
+HasNoOpenLeaf (Code s cost bound t) = All (λ k. k ≢ Open) t.nodes.items
+HasNoOpenLeaf (Infeasible t) = All (λ k. k ≢ Open) t.nodes.items
+HasNoOpenLeaf (Spent t) = ⊥

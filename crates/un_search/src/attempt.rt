@@ -10,7 +10,7 @@ ghost use Rattle.un_post.specs.Posts.{IsCheaper, fix_at};
 ghost use Rattle.un_tree.specs.declared.node.Node.TheVariants.{Closed};
 ghost use Rattle.un_certificate.specs.Certificates.{root_of};
 ghost use Rattle.un_search.specs.Stores.{AreStores};
-ghost use Rattle.un_search.specs.Answers.{OnFound, OnRefuted, OnCut, IsRefuted, IsCutOff, IsByRoot, IsAnswerOf};
+ghost use Rattle.un_search.specs.Answers.{OnFound, OnRefuted, OnCut, AreEnough, IsRefuted, IsCutOff, IsByRoot, IsAnswerOf};
 
 use crate::rounds::{ModelRounds, ModelStores, first_stores};
 use std::alloc::Global;
@@ -65,6 +65,7 @@ fn search(
     ensures refuted { IfOk result (OnRefuted (IsRefuted m.now limit nodes)) }
     ensures cut { IfOk result (OnCut (IsCutOff m.now limit nodes)) }
     ensures first { nodes < 3 → IfOk result (IsByRoot m.now limit) }
+    ensures enough { AreEnough m.now nodes → IfOk result (OnCut (λ t low. ⊥)) }
 {
     let rounds = ModelRounds { alloc, m, limit };
     let dive = Dive { rounds };
@@ -83,7 +84,7 @@ fn closed_leaf(alloc: Global) -> Result<Tree, NoMemory>
 }
 
 /// Looks for a solution of a model that costs less than a limit, with at most so many nodes. With one or two nodes the answer follows
-/// from what the rounds leave of the first box.
+/// from what the rounds leave of the first box. With more than twice as many as that box has assignments it is not cut off.
 ///
 /// # Errors
 /// Where memory is short, or there are more variables or operations than numbers below 2^32.
@@ -97,6 +98,7 @@ pub fn attempt(alloc: Global, m: &Model, limit: Option<u64>, nodes: u32) -> Resu
     ensures refuted { IfOk result (OnRefuted (IsRefuted m.now limit nodes)) }
     ensures cut { IfOk result (OnCut (IsCutOff m.now limit nodes)) }
     ensures first { nodes < 3 → IfOk result (IsByRoot m.now limit) }
+    ensures enough { AreEnough m.now nodes → IfOk result (OnCut (λ t low. ⊥)) }
 {
     let posted = post(alloc, m, limit)?;
     let cuts = posted.store.copy(alloc)?;

@@ -14,8 +14,9 @@ ghost use Rattle.un_certificate.specs.Certificates.{root_of};
 ghost use Rattle.un_merges.specs.Merges.{HasNoMerge};
 ghost use Rattle.un_tree.specs.Waits.{visits_of};
 ghost use Rattle.un_tree.specs.declared.node.Node.TheVariants.{Open};
-ghost use Rattle.un_search.specs.Answers.{IsRefuted};
+ghost use Rattle.un_search.specs.Answers.{AreEnough, IsRefuted};
 ghost use Rattle.un_search.specs.Solved.{IsBest, IsCode, IsLast, IsEnded, OnBetter, OnEnded, OnCode, OnInfeasible, OnSpent, OnOther};
+ghost use Rattle.un_search.specs.Solved.{HasNoOpenLeaf};
 
 use crate::attempt::{Tried, attempt};
 use crate::best::{Best, best_of};
@@ -212,6 +213,9 @@ pub fn solve(
     ensures infeasible { IfOk result (OnInfeasible (λ t. IsEnded m.now None nodes t × All (λ n. n ≢ Open) t)) }
     ensures none { IfOk result (OnInfeasible (λ t. (x : Solution) → IsSolution m.now x → ⊥)) }
     ensures spent { IfOk result (OnSpent (λ t. IsEnded m.now None nodes t × Contains t Open)) }
+
+    // With as many nodes the search comes to its end.
+    ensures enough { AreEnough m.now nodes → IfOk result HasNoOpenLeaf }
 {
     match incumbent(alloc, m, start, nodes)? {
         None => {

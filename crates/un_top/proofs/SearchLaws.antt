@@ -27,14 +27,16 @@ use Rattle.un_certificate.specs.Bounds.{IsBound}
 use Rattle.un_certificate.specs.Certificates.{IsCertificate, root_of}
 use Rattle.un_certificate.proofs.Lows.{standing}
 use Rattle.un_certificate.proofs.Numbers.{plain_one}
-use Rattle.un_check.specs.Sound.{IsSoundAnswer}
+use Rattle.un_check.proofs.SearchLemmas.{model_under, search_not}
+use Rattle.un_check.specs.Causes.{limit_of}
+use Rattle.un_check.specs.Sound.{IsSoundAnswer, IsSoundFor}
 use Rattle.un_report.specs.declared.report.Answered.{Answered}
 use Rattle.un_report.specs.declared.report.Answered.TheVariants.{Code, Infeasible, Spent}
 use Rattle.un_report.specs.declared.report.Report.{Report}
 use Rattle.un_search.specs.Solved.{IsEnded, OnCode, OnInfeasible, OnSpent, OnOther}
 use Rattle.un_search.specs.declared.solve.Answer.{Answer}
 use Rattle.un_search.specs.declared.solve.Answer.TheVariants.{Code as Solved, Infeasible as Refuted, Spent as Stopped}
-use Rattle.un_top.specs.Reports.{IsGoodAnswer, IsSearchOf, IsSearchText, IsReportOf, limit_of}
+use Rattle.un_top.specs.Reports.{IsGoodAnswer, IsSearchOf, IsSearchText, IsReportOf}
 use Rattle.un_top.specs.Searches.{IsStartOf, IsAnswerOf, IsReported}
 
 -- what a search says of its answer
@@ -125,18 +127,21 @@ module _ (f : Function) (m : Model) (e : IsExtOf m.ext.table f m.ext) (nodes : �
   })
 
   -- the report of a search
-  pub search_is : (a : Answer) (r : Report) → IsSolved m start nodes a → IsReported f m nodes a r → IsSearchOf f m e.live nodes r
-  search_is a r h w =
+  pub search_is : IsModelOf m.ext.table f m.options m → (a : Answer) (r : Report) → IsSolved m start nodes a → IsReported f m nodes a r
+      → IsSearchOf f m e.live nodes r
+  search_is g a r h w =
       let p = parts a r.answer r.tree.nodes.items h w.answer in
+      let sound : IsSoundFor m f r = record {
+        named = w.named;
+        used = λ some. subst (IsOdd (length r.tree.nodes.items)) (sym w.budget) (p.used some);
+        answer = p.sound;
+      } in
       record {
         chosen = w.chosen;
         budget = w.budget;
-        sound = record {
-          named = w.named;
-          used = λ some. subst (IsOdd (length r.tree.nodes.items)) (sym w.budget) (p.used some);
-          answer = p.sound;
-        };
+        sound = sound;
         searched = p.searched;
+        accepted = search_not f m r sound p.searched m.ext.table r.options (model_under f m r.options w.chosen g);
         answer = p.good;
       }
 

@@ -1,9 +1,9 @@
 -- The report of a function's text: what a search for its code answered.
-use Rattle.std.specs.Prelude.{ℕ, ◌≡◌, ◌≢◌, ◌≤◌, List, All, None, Some}
-use Rattle.std.specs.declared.option.Option.{Option}
+use Rattle.std.specs.Prelude.{ℕ, ◌≡◌, ◌≢◌, ◌≤◌, List, All}
 use Rattle.un_base.specs.declared.ids.NameId.{NameId}
 use Rattle.un_outside.specs.declared.status.Status.{Status}
 use Rattle.un_outside.specs.declared.status.Status.TheVariants.{Done, Infeasible as NoCode, Spent as NoNodes}
+use Rattle.un_outside.specs.declared.status.NoCause.{NoCause}
 use Rattle.un_isa.specs.declared.table.Table.{Table}
 use Rattle.un_ir.specs.declared.function.Function.{Function}
 use Rattle.un_packet.specs.declared.code.Code.{Code as CodeValue}
@@ -24,6 +24,7 @@ use Rattle.un_merges.specs.Merges.{HasNoMerge}
 use Rattle.un_tree.specs.declared.node.Node.{Node}
 use Rattle.un_tree.specs.declared.node.Node.TheVariants.{Open}
 use Rattle.un_certificate.specs.Certificates.{IsCertificate}
+use Rattle.un_check.specs.Causes.{HasCause, claim_of, limit_of}
 use Rattle.un_check.specs.Sound.{IsSoundFor}
 use Rattle.un_report.specs.Reports.{report_text}
 use Rattle.un_report.specs.declared.report.Answered.{Answered}
@@ -49,11 +50,9 @@ IsGoodAnswer f m live nodes t (Code cost bound code s) = IsGoodCode f m live nod
 IsGoodAnswer f m live nodes t Infeasible = (AreRoomyFor f m.options → ⊥) × ((x : Solution) → IsSolution m x → ⊥)
 IsGoodAnswer f m live nodes t Spent = AreRoomyFor f m.options → ⊥
 
--- the limit on the cost under which the tree of an answer was searched
-abbrev pub limit_of : Answered → Option ℕ
-limit_of (Code cost bound code s) = Some cost
-limit_of Infeasible = None
-limit_of Spent = None
+-- the check of a report of a function accepts it: no cause stands
+abbrev pub HasNoCause : Table → Function → Report → Type 0
+HasNoCause t f r = (c : NoCause) → HasCause t f r.options (claim_of r) c → ⊥
 
 -- how a run ends that writes the answer whole
 abbrev pub status_of : Answered → Status
@@ -67,6 +66,7 @@ pub record IsSearchOf (f : Function) (m : Model) (live : List (List NameId)) (no
   pub budget : r.nodes ≡ nodes
   pub sound : IsSoundFor m f r
   pub searched : IsCertificate m (limit_of r.answer) r.tree.nodes.items
+  pub accepted : HasNoCause m.ext.table f r
   pub answer : IsGoodAnswer f m live nodes r.tree.nodes.items r.answer
 
 -- the text of such a report; a run that writes it whole ends so

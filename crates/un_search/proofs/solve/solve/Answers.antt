@@ -1,8 +1,11 @@
-use Rattle.std.proofs.Common.{List, None}
+use Rattle.std.proofs.Common.{List, None, refl}
 use Rattle.un_model.specs.declared.model.Solution.{Solution}
 use Rattle.un_model.specs.Solutions.{IsSolution}
 use Rattle.un_tree.specs.declared.node.Node.{Node}
 use Rattle.un_search.specs.Answers.{IsRefuted}
+use Rattle.un_certificate.specs.Certificates.{root_of}
+use Rattle.un_post.proofs.Ready.{posted_live}
+use Rattle.un_search.proofs.EnoughLemmas.{none_left_open, code_left_open}
 use Rattle.un_search.proofs.SolveLemmas.{none_left, on_infeasible}
 use Rattle.un_search.proofs.solve.solve.Goals as goal
 
@@ -10,3 +13,17 @@ pub returns-in_ok-answer-in-None-clause-none : goal.returns-in_ok-answer-in-None
 returns-in_ok-answer-in-None-clause-none c =
     on_infeasible (IsRefuted c.args.m.now None c.args.nodes) (λ (t : List Node). (x : Solution) → IsSolution c.args.m.now x → ⊥)
     (λ (t : List Node) h. none_left c.args.m.now c.args.nodes t c.requires.model h) _ c.in_ok-answer-in-None.ensures.infeasible
+
+pub returns-in_ok-answer-in-None-clause-enough : goal.returns-in_ok-answer-in-None-clause-enough
+returns-in_ok-answer-in-None-clause-enough c enough =
+    let m = c.args.m.now in
+    let r = c.requires in
+    let e = c.in_ok-answer-in-None.ensures in
+    none_left_open m (posted_live m (root_of m) r.model r.extended r.fit r.options refl) c.args.nodes enough _ e.code e.infeasible e.spent
+
+pub returns-in_ok-answer-in-Some-clause-enough : goal.returns-in_ok-answer-in-Some-clause-enough
+returns-in_ok-answer-in-Some-clause-enough c enough =
+    let m = c.args.m.now in
+    let r = c.requires in
+    let e = c.in_ok-answer-in-Some.ensures in
+    code_left_open m (posted_live m (root_of m) r.model r.extended r.fit r.options refl) c.args.nodes enough _ e.code e.found

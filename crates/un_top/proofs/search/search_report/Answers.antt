@@ -4,8 +4,8 @@ use Rattle.un_top.proofs.search.search_report.Goals as goal
 pub returns : goal.returns
 returns c = λ e.
     let s = c.in_ok-solved.ensures in
-    search_is c.args.f.now c.args.m.now e c.args.nodes c.in_ok-start.start c.in_ok-start.ensures c.in_ok-solved.solved
-    c.in_ok-report.report (record {
+    search_is c.args.f.now c.args.m.now e c.args.nodes c.in_ok-start.start c.in_ok-start.ensures
+    c.requires.problem.gives c.in_ok-solved.solved c.in_ok-report.report (record {
       solution = s.solution;
       no_dearer = s.no_dearer;
       tight = s.tight;

@@ -1,0 +1,56 @@
+-- A search with more than twice as many nodes as the first box has assignments leaves no leaf open.
+use Rattle.std.proofs.Common.{ℕ, ◌≡◌, ◌≢◌, ◌+◌, ◌*◌, List, [], ◌∷◌, Option, None, Some, All, length, ap, subst, arith}
+use Rattle.std.specs.List.{Contains}
+use Rattle.std.proofs.lemmas.List.Elements.{Contains-get_or, recursion_from_All}
+use Rattle.un_domains.specs.Sets.{NoneEmpty}
+use Rattle.un_model.specs.declared.model.Model.{Model}
+use Rattle.un_tree.proofs.Volumes.{leaves_room}
+use Rattle.un_tree.specs.Waits.{Waiting, Whole, IsOdd, IsWhole, IsStrict, leaves, visits_of}
+use Rattle.un_tree.specs.declared.node.Node.{Node}
+use Rattle.un_tree.specs.declared.node.Node.TheVariants.{Branch, Closed, Open}
+use Rattle.un_certificate.specs.Certificates.{IsCertificate, root_of}
+use Rattle.un_search.specs.Answers.{AreEnough, IsCutOff, IsRefuted, OnCut}
+use Rattle.un_search.specs.Solved.{HasNoOpenLeaf, IsCode, IsEnded, OnCode, OnInfeasible, OnOther, OnSpent}
+use Rattle.un_search.specs.declared.attempt.Tried.{Tried}
+use Rattle.un_search.specs.declared.attempt.Tried.TheVariants.{Found, Refuted, Cut}
+use Rattle.un_search.specs.declared.solve.Answer.{Answer}
+use Rattle.un_search.specs.declared.solve.Answer.TheVariants.{Code, Infeasible, Spent}
+
+-- half of what is there and of what waits are leaves
+leaf_count : (ns : List Node) (ws : List Waiting) → IsWhole ns ws → length ns + length ws ≡ 2 * leaves ns
+leaf_count [] ws whole = let e = ap length whole in omega (arith, e)
+leaf_count (n ∷ ns) [] whole = absurd whole
+leaf_count (Branch v x ∷ ns) (Whole b ∷ ws) whole = let h = leaf_count ns _ whole in omega (arith, h)
+leaf_count (Closed ∷ ns) (Whole b ∷ ws) whole = let h = leaf_count ns ws whole in omega (arith, h)
+leaf_count (Open ∷ ns) (Whole b ∷ ws) whole = let h = leaf_count ns ws whole in omega (arith, h)
+
+module _ (m : Model) (full : NoneEmpty (root_of m)) (n : ℕ) (enough : AreEnough m n) where
+  never_used : (limit : Option ℕ) (t : List Node) → IsCertificate m limit t → IsOdd (length t) n → ⊥
+  never_used limit t h used =
+      let few = leaves_room t (Whole (root_of m) ∷ []) 0 h.tree.whole
+      (recursion_from_All IsStrict (visits_of (root_of m) t) h.tree.strict) (full, tt) in
+      let count = leaf_count t (Whole (root_of m) ∷ []) h.tree.whole in
+      let most = used.greatest in
+      omega (arith, few, count, most, enough)
+
+  pub not_cut : (limit : Option ℕ) (r : Tried) → OnCut (IsCutOff m limit n) r → OnCut (λ (t : List Node) (low : ℕ). ⊥) r
+  not_cut limit (Found s) h = tt
+  not_cut limit (Refuted t) h = tt
+  not_cut limit (Cut t low) h = never_used limit t.nodes.items h.certificate h.many
+
+  none_open : (limit : Option ℕ) (t : List Node) → IsEnded m limit n t → All (λ (k : Node). k ≢ Open) t
+  none_open limit t h k d lt =
+      λ is. never_used limit t h.certificate (h.used (subst (Contains t) is (Contains-get_or t k d lt)))
+
+  -- of an answer from no solution on
+  pub none_left_open : (a : Answer) → OnCode (IsCode m n) a → OnInfeasible (IsRefuted m None n) a
+      → OnSpent (λ (t : List Node). IsEnded m None n t × Contains t Open) a → HasNoOpenLeaf a
+  none_left_open (Code s cost bound t) code refuted spent = none_open (Some cost) t.nodes.items code.tree
+  none_left_open (Infeasible t) code refuted spent = refuted.closed
+  none_left_open (Spent t) code refuted spent = never_used None t.nodes.items spent.0.certificate (spent.0.used spent.1)
+
+  -- of one from a solution on
+  pub code_left_open : (a : Answer) → OnCode (IsCode m n) a → OnOther ⊥ a → HasNoOpenLeaf a
+  code_left_open (Code s cost bound t) code found = none_open (Some cost) t.nodes.items code.tree
+  code_left_open (Infeasible t) code found = absurd found
+  code_left_open (Spent t) code found = absurd found
