@@ -1,8 +1,8 @@
 //! The values of all variables, from the schedules of a plan's blocks.
 
-use crate::facts::{Block, Facts, at};
 use crate::plan::Plan;
 use std::alloc::{AllocError, Global};
+use un_blocks::facts::{Block, Facts, at};
 use un_trial::facts::{RELOAD, SPILL};
 use un_trial::sets::FIRST_SLOT;
 

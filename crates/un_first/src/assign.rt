@@ -1,8 +1,9 @@
 //! Start assignments: one place for each key.
 
-use crate::facts::{Block, FIRST_KEPT, Facts, KEPT};
-use crate::places::{Grid, Places, taken};
+use crate::places::{Places, taken};
 use std::alloc::{AllocError, Global};
+use un_blocks::facts::{Block, FIRST_KEPT, Facts, KEPT};
+use un_blocks::grid::Grid;
 use un_trial::sets::{EMPTY, FIRST_SLOT, LINK, RegisterSet};
 use un_trial::table::NONE;
 

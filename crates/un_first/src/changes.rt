@@ -1,8 +1,8 @@
 //! Changes of a plan's places.
 
 use crate::chance::Noise;
-use crate::facts::{Block, Facts};
 use crate::places::{Places, taken};
+use un_blocks::facts::{Block, Facts};
 use un_trial::sets::{
     EMPTY, FIRST_PREDICATE, FIRST_SLOT, PREDICATES, REGISTERS, RegisterSet, Space, space_at,
 };

@@ -1,13 +1,13 @@
 //! Hill climbing on the places: a change that costs no more is kept.
 
 use crate::changes::{Change, any_change, change_place};
-use crate::facts::Facts;
 use crate::places::Places;
 use crate::plan::{Cost, Plan};
 use crate::search::Search;
 use crate::wishes::{pick_block, wish_of};
 use std::alloc::AllocError;
 use std::mem;
+use un_blocks::facts::Facts;
 
 /// After so many changes without gain each block gets more trials.
 const PATIENCE: u32 = 400;

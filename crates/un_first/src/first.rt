@@ -5,14 +5,14 @@ ghost use Rattle.un_model.specs.Solutions.{IsSolution};
 ghost use Rattle.un_model.specs.Variables.{IsModel};
 
 use crate::assemble::assembled;
-use crate::facts::Facts;
-use crate::groups::facts;
-use crate::places::Grid;
 use crate::plan::Plan;
 use crate::search::Search;
 use crate::start::best_start;
 use std::alloc::{AllocError, Global};
 use un_base::memory_error::NoMemory;
+use un_blocks::facts::Facts;
+use un_blocks::grid::Grid;
+use un_blocks::groups::facts;
 use un_lists::items::Items;
 use un_model::model::{Model, Solution};
 use un_violations::violations::violations;
@@ -62,6 +62,22 @@ fn searched(alloc: Global, facts: &Facts, budget: u64) -> Result<Option<Vec<u32>
     Ok(Some(values))
 }
 
+/// The values that a search with at most `budget` trials of blocks makes; None where no start assignment leads to any. Nothing is
+/// promised of them: `first` judges them.
+///
+/// # Errors
+/// `NoMemory` where there is no memory for the plans.
+pub fn candidate(
+    alloc: Global,
+    m: &Model,
+    least_ends: &[u32],
+    budget: u32,
+) -> Result<Option<Vec<u32>>, NoMemory> {
+    let facts = facts(alloc, m, least_ends)?;
+    let values = searched(alloc, &facts, u64::from(budget))?;
+    Ok(values)
+}
+
 /// A solution by at most `budget` trials of blocks, which follows from the model, the bounds and the budget alone; None where none
 /// was found. `least_ends` has a lower bound of each block's end: a block that has reached it gets no more trials. A wrong one makes
 /// the answer worse, and not wrong.
@@ -77,9 +93,8 @@ pub fn first(
     requires model { IsModel m.now }
     ensures { IfOk result (λ found. IfSome found (λ s. IsSolution m.now s)) }
 {
-    let facts = facts(alloc, m, least_ends)?;
-    let Some(values) = searched(alloc, &facts, u64::from(budget))? else {
-        return Ok(None);
-    };
-    judged(alloc, m, values)
+    match candidate(alloc, m, least_ends, budget)? {
+        None => Ok(None),
+        Some(values) => judged(alloc, m, values),
+    }
 }

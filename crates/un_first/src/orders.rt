@@ -1,7 +1,7 @@
 //! Orders of a block's operations, with one operation moved by chance.
 
 use crate::chance::Noise;
-use crate::facts::{Block, at};
+use un_blocks::facts::{Block, at};
 use un_trial::facts::Operation;
 
 /// Whether an operation has to stand before this one.

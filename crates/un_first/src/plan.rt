@@ -1,8 +1,8 @@
 //! Plans: places of all keys, and for each block the best schedule under them.
 
-use crate::facts::Facts;
 use crate::places::Places;
 use std::alloc::{AllocError, Global};
+use un_blocks::facts::Facts;
 
 /// What a trial may vary.
 #[derive(Drop)]

@@ -2,11 +2,11 @@
 
 use crate::chance::Noise;
 use crate::changes::spare_slots;
-use crate::facts::{Block, Facts};
 use crate::orders::move_one;
 use crate::places::Places;
 use crate::plan::{BlockPlan, Cost, Plan, Recipe, copy_list};
 use std::alloc::{AllocError, Global};
+use un_blocks::facts::{Block, Facts};
 use un_trial::sets::{EMPTY, RegisterSet};
 use un_trial::trial::{Task, Trial};
 

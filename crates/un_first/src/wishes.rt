@@ -2,8 +2,8 @@
 
 use crate::chance::Noise;
 use crate::changes::Change;
-use crate::facts::{Block, Facts, at};
 use crate::plan::{BlockPlan, Plan};
+use un_blocks::facts::{Block, Facts, at};
 use un_trial::facts::Operation;
 use un_trial::table::NONE;
 

@@ -1,6 +1,6 @@
 //! What the search knows of a function. Blocks, groups, keys and variables are numbers in the function.
 
-use crate::places::Grid;
+use crate::grid::Grid;
 use un_trial::facts::{BlockFacts, Operation, Temporary};
 use un_trial::sets::RegisterSet;
 use un_trial::table::{NONE, Table};
@@ -64,21 +64,13 @@ pub struct Facts {
 }
 
 /// Whether a list has an item.
-pub fn has(list: &[u32], item: u32) -> bool {
+fn has(list: &[u32], item: u32) -> bool {
     for x in list {
         if *x == item {
             return true;
         }
     }
     false
-}
-
-/// How many items a list has.
-pub fn count_of<T>(list: &[T]) -> u32
-where
-    T: Drop,
-{
-    u32::try_from(list.len()).unwrap_or(u32::MAX)
 }
 
 /// The item at a place, 0 where there is none.

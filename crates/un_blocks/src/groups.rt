@@ -2,7 +2,7 @@
 
 use crate::facts::{Block, Facts, SAVED, at};
 use crate::gather::{Scope, number_of};
-use crate::places::Grid;
+use crate::grid::Grid;
 use crate::temporaries::block_facts;
 use std::alloc::{AllocError, Global};
 use un_domains::domain::Domain;
