@@ -92,7 +92,8 @@ module _ (vs : List VarId) (ops : List Task) (arcs : List Precedence) (end : Var
 
     firsts_alike : map (first_cycle s) ops ≡ map (first_cycle t) ops
     firsts_alike = place_alike (first_cycle s) (first_cycle t) ops (map_each (λ o. among vs o.at ≡ true)
-        (λ o. first_cycle s o ≡ first_cycle t o) (λ o h. ap (λ (xs : List ℕ). max (least xs) o.head) (set_alike vs s t agree o.at h)) ops of_ops)
+        (λ o. first_cycle s o ≡ first_cycle t o)
+        (λ o h. ap (λ (xs : List ℕ). max (least xs) o.head) (set_alike vs s t agree o.at h)) ops of_ops)
 
     lasts_alike : map (last_cycle end s) ops ≡ map (last_cycle end t) ops
     lasts_alike = place_alike (last_cycle end s) (last_cycle end t) ops (map_each (λ o. among vs o.at ≡ true)

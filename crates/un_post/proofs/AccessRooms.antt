@@ -1,7 +1,9 @@
 -- How many Spills and Reloads the cycles of a block have room for.
-use Rattle.std.proofs.Common.{ℕ, zero, suc, ◌≡◌, ◌<◌, ◌≤◌, ◌+◌, ◌-◌, ◌⊎◌, Bool, true, false, cond, List, [], ◌∷◌, inl, inr, refl, sym, ap, ◌∙◌, subst}
+use Rattle.std.proofs.Common.{ℕ, zero, suc, ◌≡◌, ◌<◌, ◌≤◌, ◌+◌, ◌-◌, ◌⊎◌, Bool, true}
+use Rattle.std.proofs.Common.{false, cond, List, [], ◌∷◌, inl, inr, refl, sym, ap, ◌∙◌, subst}
 use Rattle.std.proofs.Common.{arith, eq-eqb, All}
-use Rattle.std.specs.Prelude.{Option, Some, None, IfSome, IsSomeAnd, unwrap_or, nat_eq, nat_lt, nat_le, ◌&&◌, ◌||◌, ◌==◌, is_some, slice_get, sum_by, count_by}
+use Rattle.std.specs.Prelude.{Option, Some, None, IfSome, IsSomeAnd, unwrap_or, nat_eq, nat_lt}
+use Rattle.std.specs.Prelude.{nat_le, ◌&&◌, ◌||◌, ◌==◌, is_some, slice_get, sum_by, count_by}
 use Rattle.std.specs.Prelude.{if◌then◌else◌}
 use Rattle.std.specs.List.{list_any}
 use Rattle.std.proofs.lemmas.Bool.{eqb-true}
@@ -192,7 +194,8 @@ unfolding Precedes
 precedes i j h = h
 
 -- a Spill comes after an Enter
-after_enter_one : (a b : Option Op) (c d : ℕ) → a ≡ Some EnterOp → b ≡ Some Spill → IfSome (frame_distance a b) (λ (n : ℕ). c + n ≤ d) → c + 1 ≤ d
+after_enter_one : (a b : Option Op) (c d : ℕ) → a ≡ Some EnterOp → b ≡ Some Spill
+    → IfSome (frame_distance a b) (λ (n : ℕ). c + n ≤ d) → c + 1 ≤ d
 after_enter_one a b c d f g h = subst (λ (z : Option Op). IfSome (frame_distance (Some EnterOp) z) (λ (n : ℕ). c + n ≤ d)) g
     (subst (λ (z : Option Op). IfSome (frame_distance z b) (λ (n : ℕ). c + n ≤ d)) f h)
 
@@ -207,7 +210,8 @@ module _ (e : Ext) (o : Options) (x : List ℕ) (given : Given e o x)
 
   -- ---- one cycle
 
-  module _ (b c : ℕ) (resource : Resource) (is : Option Op → Bool) (takes : (i : Option Op) → is i ≡ true → 1 ≤ share_of e.table resource i) where
+  module _ (b c : ℕ) (resource : Resource) (is : Option Op → Bool)
+      (takes : (i : Option Op) → is i ≡ true → 1 ≤ share_of e.table resource i) where
     pub one_cycle : count_by (λ i. ((i.block.0 == b) && is i.instr) && (i.cycle == c)) issues ≤ room_of resource
     one_cycle =
         let le = (no_room e.table issues b c).1 (schedule.packets b c) resource in
@@ -314,13 +318,14 @@ module _ (e : Ext) (o : Options) (x : List ℕ) (given : Given e o x)
 
   -- those of a block after a cycle have room till what they give is ready by the end, two in each
   pub reloads_fit : (b t end n : ℕ) → Each (λ (i : Issue). i.block.0 ≡ b → i.end ≡ end) issues
-      → Reloads (model_of e o) (record { values = x }) b t n → n ≤ (end - latency_of e.table Reload - t) + (end - latency_of e.table Reload - t)
+      → Reloads (model_of e o) (record { values = x }) b t n
+      → n ≤ (end - latency_of e.table Reload - t) + (end - latency_of e.table Reload - t)
   reloads_fit b t end n ends h =
       let l = latency_of e.table Reload in
       let p = λ (i : Issue). (i.block.0 == b) && is_reload i.instr in
-      let less = count_less (reloads_after e.table b t) (λ (i : Issue). p i && (nat_lt t i.cycle && nat_le i.cycle (t + (end - l - t)))) issues
-      (each_of (λ (i : Issue). reloads_after e.table b t i ≡ true → (p i && (nat_lt t i.cycle && nat_le i.cycle (t + (end - l - t)))) ≡ true)
-      issues step) in
+      let inner = λ (i : Issue). p i && (nat_lt t i.cycle && nat_le i.cycle (t + (end - l - t))) in
+      let less = count_less (reloads_after e.table b t) inner issues
+      (each_of (λ (i : Issue). reloads_after e.table b t i ≡ true → inner i ≡ true) issues step) in
       let room = in_cycles issues p 2 (λ c. one_cycle b c Memory is_reload (λ i s. subst (λ (z : Option Op). 1 ≤ share_of e.table Memory z)
       (sym (reload_is i s)) (takes_memory e.table given.fit))) t (end - l - t) in
       let is = times_two (end - l - t) in

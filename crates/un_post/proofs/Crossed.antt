@@ -1,5 +1,6 @@
 -- Which values cross a call in a solution, and that the call issues behind their Spills and before their Reloads.
-use Rattle.std.proofs.Common.{ℕ, zero, suc, ◌≡◌, ◌<◌, ◌≤◌, ◌+◌, ◌-◌, ◌/◌, Bool, true, false, cond, List, [], ◌∷◌, ◌++◌, length, map, filter, inl, inr}
+use Rattle.std.proofs.Common.{ℕ, zero, suc, ◌≡◌, ◌<◌, ◌≤◌, ◌+◌, ◌-◌, ◌/◌, Bool, true}
+use Rattle.std.proofs.Common.{false, cond, List, [], ◌∷◌, ◌++◌, length, map, filter, inl, inr}
 use Rattle.std.proofs.Common.{refl, sym, ap, ◌∙◌, subst, arith, eq-eqb}
 use Rattle.std.specs.Prelude.{Option, Some, None, not, ◌&&◌, ◌||◌, ◌==◌, slice_get, slice_index, is_some, if◌then◌else◌}
 use Rattle.std.specs.List.{list_any, range_with_len}
@@ -28,9 +29,11 @@ use Rattle.un_model.specs.Pairs.{joined, places_from}
 use Rattle.un_model.specs.Schedules.{schedule_of, issues_of, value_by}
 use Rattle.un_model.specs.Solutions.{IsSchedule, latency_gap}
 use Rattle.un_model.specs.Variables.{model_of, arcs_of}
-use Rattle.un_model.proofs.Lists.{Each, Pairwise, Member, each_of, each_map, member_map_of, member_of_filter, any_of, place_of as position_of}
+use Rattle.un_model.proofs.Lists.{Each, Pairwise, Member, each_of}
+use Rattle.un_model.proofs.Lists.{each_map, member_map_of, member_of_filter, any_of, place_of as position_of}
 use Rattle.un_model.proofs.Lists.{pairwise_of_map, pairwise_map, pairwise_filter, pairwise_append_left, pairwise_append_right, member_map}
-use Rattle.un_model.proofs.Placed.{Placed, Region, region_placed, vars_of, issue_at, Spot, spot, spots_of, all_spots, issues_are, results_are}
+use Rattle.un_model.proofs.Placed.{Placed, Region, region_placed, vars_of, issue_at}
+use Rattle.un_model.proofs.Placed.{Spot, spot, spots_of, all_spots, issues_are, results_are}
 use Rattle.un_model.proofs.PlacedSchedules.{all, spots}
 use Rattle.un_model.proofs.Readings.{Solved}
 use Rattle.un_press.specs.Accesses.{Spills, Reloads}
@@ -68,7 +71,8 @@ range_differs : (a n : ℕ) → Pairwise (λ (x y : TempId). x ≡ y → ⊥) (m
 range_differs a zero = tt
 range_differs a (suc n) = (above a (a + 1) n (omega arith), range_differs (a + 1) n)
 
-pairwise_part : {X : Type 0} (R : X → X → Type 0) (xss : List (List X)) (xs : List X) → Pairwise R (joined xss) → Member xs xss → Pairwise R xs
+pairwise_part : {X : Type 0} (R : X → X → Type 0) (xss : List (List X)) (xs : List X) → Pairwise R (joined xss)
+    → Member xs xss → Pairwise R xs
 pairwise_part R [] xs h m = elim m [ ]
 pairwise_part R (ys ∷ yss) xs h (inl e) = subst (Pairwise R) e (pairwise_append_left R ys (joined yss) h)
 pairwise_part R (ys ∷ yss) xs h (inr m) = pairwise_part R yss xs (pairwise_append_right R ys (joined yss) h) m

@@ -422,7 +422,8 @@ module _ (e : Ext) (o : Options) (x : List ℕ) (given : Given e o x)
 
         by : (b : Bool) → is_call_kind q.op.kind ≡ b
             → cycle_of x (task q)
-            + (if b then tail_by (latency_of e.table Reload) (reloads_at e.table arcs (region_places r) (place_of q)) else tail_of q.op.kind)
+            + (if b then tail_by (latency_of e.table Reload) (reloads_at e.table arcs (region_places r) (place_of q))
+            else tail_of q.op.kind)
             ≤ slice_index x close.0
         by true k =
             let same = cycle_is q t in

@@ -574,8 +574,8 @@ module _ (n : ℕ) (pos : 0 < n) where
     var_known (Const k) h = pos
     var_known (Var v) h = h.0
 
-    pub length_are : (t : Table) (is_entry : Bool) (arcs : List Arc) (befores : List Constraint) (end : VarId) (horizon : ℕ) (ps : List Place)
-        → end.0 < n → horizon ≤ most → Each PlaceIn ps → IsSound n most (length_by t is_entry arcs befores end horizon ps)
+    pub length_are : (t : Table) (is_entry : Bool) (arcs : List Arc) (befores : List Constraint) (end : VarId) (horizon : ℕ)
+        (ps : List Place) → end.0 < n → horizon ≤ most → Each PlaceIn ps → IsSound n most (length_by t is_entry arcs befores end horizon ps)
     length_are t is_entry arcs befores end horizon ps lt le h =
         let found = with_kind is_task ps in
         let ops = tasks_in t is_entry arcs ps in
