@@ -20,10 +20,12 @@ use Rattle.un_model.specs.Instructions.{instruction_of}
 use Rattle.un_model.specs.Schedules.{issues_of, value_by}
 use Rattle.un_model.specs.Solutions.{Occupies, ShareNoCycle, SparesRange, IsSpared}
 use Rattle.un_model.specs.Variables.{model_of}
-use Rattle.un_model.proofs.Lists.{Each, Pairwise, Member, each_member, each_all, each_of, each_map, pairwise_more, pairwise_map, pairwise_filter}
+use Rattle.un_model.proofs.Lists.{Each, Pairwise, Member, each_member, each_all, each_of, each_map, pairwise_more, pairwise_map}
+use Rattle.un_model.proofs.Lists.{pairwise_filter}
 use Rattle.un_model.proofs.Lists.{pairwise_of_map, member_at, member_of_filter, index_get, length_get}
 use Rattle.un_model.proofs.Placed.{Placed, vars_of, issue_at, Spot, all_count, at_number}
-use Rattle.un_model.proofs.PlacedSchedules.{all, spots, definer_in, range_at, range_here, range_get, spot_range, one_spot, the_ranges, issue_here}
+use Rattle.un_model.proofs.PlacedSchedules.{all, spots, definer_in, range_at, range_here, range_get, spot_range, one_spot, the_ranges}
+use Rattle.un_model.proofs.PlacedSchedules.{issue_here}
 use Rattle.un_model.proofs.Readings.{Solved, numbered, fit_kinds}
 use Rattle.un_model.proofs.TempKinds.{carried_at, spot_carried, carried_is}
 use Rattle.un_press.proofs.Counting.{Differ, pigeons, length_parts, length_mapped}
@@ -272,7 +274,8 @@ module _ (e : Ext) (o : Options) (values : List ℕ) (h : Solved e o values) whe
       (pairwise_more (Differs c) (λ k l. reg_of (spot_in c k) ≡ reg_of (spot_in c l) → ⊥) low (λ k l mk ml ne. different c k l ne)
       (pairwise_filter (Differs c) (λ k. not (in_slot c k)) ks differ)) in
       let there : Each (λ x. Member x kept) regs = each_map (λ x. Member x kept) (λ (k : Carried c). reg_of (spot_in c k)) low
-      (each_of (λ k. Member (reg_of (spot_in c k)) kept) low (λ k m. covers (spot_in c k) (spot_member c k) (spot_block c k) (spot_active c k)
+      (each_of (λ k. Member (reg_of (spot_in c k)) kept) low (λ k m. covers (spot_in c k) (spot_member c k) (spot_block c k)
+      (spot_active c k)
       (below (reg_of (spot_in c k)) (member_of_filter (λ k. not (in_slot c k)) ks k m).1) (spot_kept c k mc call))) in
       let le = pigeons regs kept others there in
       let long = length_mapped (λ (k : Carried c). reg_of (spot_in c k)) low in
@@ -285,7 +288,8 @@ module _ (e : Ext) (o : Options) (values : List ℕ) (h : Solved e o values) whe
           by true p n = absurd (cc n)
           by false p n = grind (arith, nat_tests, p)
 
-  pub values_differ : (c : Placed) (vs : List TempId) (each : Each (Crossing c) vs) → Differ vs → Pairwise (Differs c) (carried_all c vs each)
+  pub values_differ : (c : Placed) (vs : List TempId) (each : Each (Crossing c) vs) → Differ vs
+      → Pairwise (Differs c) (carried_all c vs each)
   values_differ c vs each differ = pairwise_of_map (λ x y. x ≡ y → ⊥) (λ (k : Carried c). k.value) (carried_all c vs each)
       (subst (λ us. Differ us) (sym (carried_values c vs each)) differ)
 
@@ -304,7 +308,8 @@ module _ (e : Ext) (o : Options) (values : List ℕ) (h : Solved e o values) whe
       (pairwise_more (Differs c) (λ k l. reg_of (spot_in c k) ≡ reg_of (spot_in c l) → ⊥) ks (λ k l mk ml ne. different c k l ne)
       (values_differ c vs each differ)) in
       let there : Each (λ x. Member x room) regs = each_map (λ x. Member x room) (λ (k : Carried c). reg_of (spot_in c k)) ks
-      (each_of (λ k. Member (reg_of (spot_in c k)) room) ks (λ k m. covers (spot_in c k) (spot_member c k) (spot_block c k) (spot_active c k)
+      (each_of (λ k. Member (reg_of (spot_in c k)) room) ks (λ k m. covers (spot_in c k) (spot_member c k) (spot_block c k)
+      (spot_active c k)
       (spot_kept c k mc call))) in
       let le = pigeons regs room others there in
       let long = length_mapped (λ (k : Carried c). reg_of (spot_in c k)) ks in

@@ -55,7 +55,8 @@ module _ (e : Ext) (o : Options) (values : List ℕ) (h : Solved e o values) whe
     pub block : reader.user.block ≡ last.user.block
     pub way : (reader ≡ last) ⊎ IsOnTheWay reader.user last.user
 
-  module _ (v : TempId) (t : ℕ) (own : Spot) (mo : Member own (spots e o values)) (is : own.temp ≡ v) (early : cycle_at own.definer ≤ t) where
+  module _ (v : TempId) (t : ℕ) (own : Spot) (mo : Member own (spots e o values)) (is : own.temp ≡ v)
+      (early : cycle_at own.definer ≤ t) where
     step : (r : Reader v t) → ((q : Reader v t) → q.user.number < r.user.number → Held v t q) → Held v t r
     step r below = let read = reading e o values h r.user r.place r.operand r.member r.active r.at in given read.0 read.1 read.2
       where

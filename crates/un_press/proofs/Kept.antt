@@ -43,7 +43,8 @@ use Rattle.un_model.specs.Registers.{is_truth}
 use Rattle.un_model.specs.Instructions.{gives_truth}
 use Rattle.un_model.specs.Solutions.{InDomain}
 use Rattle.un_model.specs.Variables.{register_domain, source_domain, carried}
-use Rattle.un_model.proofs.Lists.{Each, Member, member_append_left, member_append_right, each_more, member_at, each_member, each_of, each_join, any_of, member_of_filter, member_filter, place_of}
+use Rattle.un_model.proofs.Lists.{Each, Member, member_append_left, member_append_right, each_more, member_at, each_member, each_of}
+use Rattle.un_model.proofs.Lists.{each_join, any_of, member_of_filter, member_filter, place_of}
 use Rattle.un_model.proofs.OpDomains.{register_sits, in_entry}
 use Rattle.un_model.proofs.Operations.{contains_member}
 use Rattle.un_model.proofs.Placed.{Placed, Spot}
@@ -247,7 +248,8 @@ module _ (t : Table) (fit : IsFit t) where
             is_reg_home (y.0).home r (each_member (λ (x : Operand). HasHome x.home) op.operands y.0 homes y.1)
             (and_right (reads_value y.0 x) (is_register (y.0).home r) y.2))
         | inr f ↦ (
-            let y = any_place (λ (j : ℕ) (y : TempId). y.0 == x.0 && is_register (result_home t ie block.live_in op.kind j) r) 0 op.results f
+            let y = any_place (λ (j : ℕ) (y : TempId). y.0 == x.0 && is_register
+            (result_home t ie block.live_in op.kind j) r) 0 op.results f
             in
             is_reg_home (result_home t ie block.live_in op.kind y.0) r (result_has_home ie block.live_in op.kind y.0)
             (and_right ((y.1).0 == x.0) (is_register (result_home t ie block.live_in op.kind y.0) r) y.2))
@@ -314,7 +316,8 @@ module _ (e : Ext) (o : Options) (values : List ℕ) (h : Solved e o values) whe
       let g = placed_good e o values h p m in
       let keeps = g.keeps in
       let homes = zip_homes e.table h.fit e.names e.blocks g.before p.op.operands
-      (wants_of e.table e.names e.blocks p.owner p.op.kind p.op) keeps.operands (wants_home e.table h.fit e.names e.blocks p.owner p.op.kind p.op)
+      (wants_of e.table e.names e.blocks p.owner p.op.kind p.op) keeps.operands
+      (wants_home e.table h.fit e.names e.blocks p.owner p.op.kind p.op)
       in
       low x.home (each_member (λ (y : Operand). HasHome y.home) p.op.operands x homes (member_at p.op.operands j x at))
     where
@@ -350,7 +353,8 @@ module _ (e : Ext) (o : Options) (values : List ℕ) (h : Solved e o values) whe
     (inr (omega arith, omega arith), (inr (omega arith, omega arith), (inr (omega arith, omega arith), tt))),
   )
 
-  value_safe : (ie : Bool) (p : Placed) (x : TempId) → Member p (all e o values) → Each IsSafe (value_registers e o.regs o.slots ie p.owner x)
+  value_safe : (ie : Bool) (p : Placed) (x : TempId) → Member p (all e o values) → Each IsSafe
+      (value_registers e o.regs o.slots ie p.owner x)
   value_safe ie p x m =
       each_join IsSafe (general_registers e o.regs ie p.owner x ++ (if is_truth e.names p.owner x then predicate_registers else []))
       (slots_of o.slots)
@@ -446,7 +450,8 @@ module _ (e : Ext) (o : Options) (values : List ℕ) (h : Solved e o values) whe
   -- ---- the start of the entry
 
   -- no value at the start of the entry has a slot
-  pub entry_starts : (s : Spot) → Member s (spots e o values) → (let p = s.definer in p.block ≡ 0) → (let p = s.definer in is_in p.op.kind ≡ true)
+  pub entry_starts : (s : Spot) → Member s (spots e o values) → (let p = s.definer in p.block ≡ 0)
+      → (let p = s.definer in is_in p.op.kind ≡ true)
       → reg_of e o values h s < 36
   entry_starts s m entry start = let p = s.definer in by p.op.kind (in_entry e o values p) refl refl start (sits s m)
     where

@@ -1,5 +1,6 @@
 -- The loops that look for what is read: what is left to look at has what is looked for.
-use Rattle.std.proofs.Common.{ℕ, ◌≡◌, ◌<◌, ◌≤◌, ◌⊎◌, inl, inr, min, ◌+◌, ◌-◌, Bool, true, false, List, [], ◌∷◌, length, drop, Option, Some, None, slice_get, refl}
+use Rattle.std.proofs.Common.{ℕ, ◌≡◌, ◌<◌, ◌≤◌, ◌⊎◌, inl, inr, min, ◌+◌, ◌-◌, Bool, true, false, List, [], ◌∷◌, length, drop, Option}
+use Rattle.std.proofs.Common.{Some, None, slice_get, refl}
 use Rattle.std.proofs.Common.{ap, ◌∙◌, arith}
 use Rattle.std.specs.Prelude.{nat_lt, if◌then◌else◌, cond}
 use Rattle.std.specs.List.{find}
@@ -124,13 +125,18 @@ module _ (values : List ℕ) (k left : ℕ) (blocks : List ExtBlock) (vars : Lis
 
   pub cycle_here : (block : ExtBlock) (v : BlockVars) → slice_get blocks k ≡ Some block → slice_get vars k ≡ Some v
       → left < length block.ops → cycle_in values left (drop k blocks) (drop k vars) ≡ block_cycle values block v left
-  cycle_here block v p q lt = let r : nat_lt left (length block.ops) ≡ true = grind (arith, nat_tests, lt) in cycle_by_block block v p q ∙ ap (λ (b : Bool). if b then block_cycle values block v left
+  cycle_here block v p q lt =
+      let r : nat_lt left (length block.ops) ≡ true = grind (arith, nat_tests, lt) in
+      cycle_by_block block v p q ∙ ap (λ (b : Bool). if b then block_cycle values block v left
       else cycle_in values (left - length block.ops) (drop (k + 1) blocks) (drop (k + 1) vars)) r
 
   pub cycle_later : (block : ExtBlock) (v : BlockVars) → slice_get blocks k ≡ Some block → slice_get vars k ≡ Some v
       → length block.ops ≤ left
-      → cycle_in values left (drop k blocks) (drop k vars) ≡ cycle_in values (left - length block.ops) (drop (k + 1) blocks) (drop (k + 1) vars)
-  cycle_later block v p q le = let r : nat_lt left (length block.ops) ≡ false = grind (arith, nat_tests, le) in cycle_by_block block v p q ∙ ap (λ (b : Bool). if b then block_cycle values block v left
+      → cycle_in values left (drop k blocks) (drop k vars) ≡ cycle_in values (left - length block.ops) (drop (k + 1) blocks)
+      (drop (k + 1) vars)
+  cycle_later block v p q le =
+      let r : nat_lt left (length block.ops) ≡ false = grind (arith, nat_tests, le) in
+      cycle_by_block block v p q ∙ ap (λ (b : Bool). if b then block_cycle values block v left
       else cycle_in values (left - length block.ops) (drop (k + 1) blocks) (drop (k + 1) vars)) r
 
   no_cycles : (xs : List ExtBlock) → cycle_in values left xs [] ≡ 0

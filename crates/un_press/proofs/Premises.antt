@@ -132,7 +132,8 @@ module _ (e : Ext) (o : Options) (values : List ℕ) (h : Solved e o values) whe
     pub takes_needs : (let p = r.user in takes_register p.op.kind r.operand ≡ true) → NeedsRegister e o values h v t r
     takes_needs takes = by q.op.kind refl takes
       where
-        by : (kind : ExtKind) → (let p = r.user in p.op.kind ≡ kind) → takes_register kind r.operand ≡ true → NeedsRegister e o values h v t r
+        by : (kind : ExtKind) → (let p = r.user in p.op.kind ≡ kind) → takes_register kind r.operand ≡ true
+            → NeedsRegister e o values h v t r
         by (Body so) k s = source_needs so k
         by (End term) k s = end_needs term k
         by Out k s = home_needs s

@@ -92,7 +92,8 @@ module _ (e : Ext) (o : Options) (values : List ℕ) (h : Solved e o values) whe
     -- a copy reads its one operand
     first_place : (kind : ExtKind) → (let p = r.user in p.op.kind ≡ kind) → is_copy kind ≡ true → r.place ≡ 0
     first_place (Copy node) k c = only r.place
-        (subst (λ (z : ExtKind). let p = r.user in slice_get (wants_of e.table e.names e.blocks p.owner z p.op) r.place ≡ Some want) k wants)
+        (subst (λ (z : ExtKind). let p = r.user in slice_get (wants_of e.table e.names e.blocks p.owner z p.op) r.place ≡ Some want) k
+        wants)
       where
         only : (n : ℕ) → (let p = r.user in slice_get (wants_of e.table e.names e.blocks p.owner (Copy node) p.op) n ≡ Some want) → n ≡ 0
         only zero e = refl
@@ -114,7 +115,8 @@ module _ (e : Ext) (o : Options) (values : List ℕ) (h : Solved e o values) whe
             let p = r.user in
             let vars = vars_of p in
             let n = value_by values vars.instr in
-            let goes : is_some (copy_of n) ≡ true = sym (ap (λ (z : ExtKind). is_delimiter z || is_some (instruction_of z n)) k) ∙ r.active in
+            let goes : is_some (copy_of n) ≡ true = sym (ap (λ (z : ExtKind). is_delimiter z || is_some (instruction_of z n)) k)
+            ∙ r.active in
             let here : InSpace (reg_of e o values h d.spot) (space_read (issue_at values r.user).instr 0) =
             subst (λ (j : ℕ). InSpace (reg_of e o values h d.spot) (space_read (issue_at values r.user).instr j))
             (first_place (Copy node) k refl) read_space in

@@ -34,14 +34,17 @@ use Rattle.un_model.specs.Variables.{IsModel, model_of, carried_by, first_altern
 use Rattle.un_model.specs.Variables.{ops_count, block_count, block_vars, blocks_vars}
 use Rattle.un_model.proofs.Lists.{Member, member_at, index_get, found, none_found, each_member, place_of, slice_get-map, length_get}
 use Rattle.un_model.proofs.Operations.{placed_is, contains_member}
-use Rattle.un_model.proofs.Placed.{Placed, placed, block_placed, blocks_placed, vars_of, end_of, issue_at, reads_at, reads_are, Counts, all_count}
+use Rattle.un_model.proofs.Placed.{Placed, placed, block_placed, blocks_placed, vars_of, end_of, issue_at, reads_at, reads_are, Counts}
+use Rattle.un_model.proofs.Placed.{all_count}
 use Rattle.un_model.proofs.Placed.{Spot, temp_vars, temps_are}
-use Rattle.un_model.proofs.PlacedSchedules.{all, spots, definer_in, range_here, range_get, spot_range, spot_here, spot_temp, active_spot, the_ranges, has_read}
+use Rattle.un_model.proofs.PlacedSchedules.{all, spots, definer_in, range_here, range_get, spot_range, spot_here, spot_temp}
+use Rattle.un_model.proofs.PlacedSchedules.{active_spot, the_ranges, has_read}
 use Rattle.un_model.proofs.PlacedSchedules.{joined_member, places_member, split_member, member_places}
 use Rattle.un_model.proofs.Readings.{Solved, numbered, fit_kinds, placed_good, reading}
 use Rattle.un_model.proofs.TempKinds.{carried_at, spot_carried, carried_is}
 use Rattle.un_press.specs.Carriers.{value_at, range_of, Crosses, Carries}
-use Rattle.un_press.specs.Searches.{by_cycle, defined_by, is_defined, place_cycle, block_cycle, cycle_in, is_there, there_by, read_by, read_in, read_in_blocks, or_later}
+use Rattle.un_press.specs.Searches.{by_cycle, defined_by, is_defined, place_cycle, block_cycle, cycle_in, is_there, there_by, read_by}
+use Rattle.un_press.specs.Searches.{read_in, read_in_blocks, or_later}
 use Rattle.un_press.proofs.Descent.{cycle_at, Reader, held}
 
 -- ---- tests
@@ -157,7 +160,8 @@ cycle_is values b n first (block ∷ blocks) p m = elim (split_member (block_pla
           ∙ ap (λ (c : VarId). cycle_of values (value_of values c) p.op (vars_of p)) (sym is.4))
       | inr later ↦ (
           let rest = blocks_placed (b + 1) (n + length block.ops) (first + block_count block) blocks in
-          let past = low (n + length block.ops) rest p (all_count (b + 1) (n + length block.ops) (first + block_count block) blocks) later in
+          let past = low (n + length block.ops) rest p (all_count (b + 1) (n + length block.ops)
+          (first + block_count block) blocks) later in
           let test : nat_lt (p.number - n) (length block.ops) ≡ false = grind (arith, nat_tests, past) in
           let left : p.number - n - length block.ops ≡ p.number - (n + length block.ops) = omega (arith, past) in
           let more = cycle_is values (b + 1) (n + length block.ops) (first + block_count block) blocks p later in
@@ -239,7 +243,8 @@ module _ (e : Ext) (o : Options) (values : List ℕ) (h : Solved e o values) whe
         → test_by u.temp ≡ ((spot_carried u).0 == x.0) && by_cycle by (cycle_at e o values h u.definer)
     test_is u mu =
         ap (there_by m values x by) (temp_get u mu)
-        ∙ ap (λ (v : TempId). (v.0 == x.0) && by_cycle by (cycle_in values u.definer.number e.blocks (blocks_vars 0 e.blocks))) (value_is u mu)
+        ∙ ap (λ (v : TempId). (v.0 == x.0) && by_cycle by (cycle_in values u.definer.number e.blocks (blocks_vars 0 e.blocks)))
+        (value_is u mu)
         ∙ ap (λ (n : ℕ). ((spot_carried u).0 == x.0) && by_cycle by n) (definer_cycle u mu)
 
   module _ (x : TempId) (t : ℕ) where
@@ -364,11 +369,13 @@ module _ (e : Ext) (o : Options) (values : List ℕ) (h : Solved e o values) whe
           let p = r.user in
           let nowhere = firsts_none test values t (all e o values) (sym (in_blocks test values t 0 0 0 e.blocks) ∙ none) p r.member in
           let at_all = none_if (issue_at values p).active (nat_lt t (cycle_at e o values h p))
-          (find test (places_from (choice_of values (vars_of p)) 0 p.op.operands)) nowhere r.active (lt_is t (cycle_at e o values h p) r.after) in
+          (find test (places_from (choice_of values (vars_of p)) 0 p.op.operands)) nowhere r.active (lt_is t
+          (cycle_at e o values h p) r.after) in
           let each = none_found test (places_from (choice_of values (vars_of p)) 0 p.op.operands) at_all in
           let y = choice_of values (vars_of p) r.place r.operand in
           let listed = member_places (choice_of values (vars_of p)) p.op.operands 0 r.place r.place r.operand (omega arith) r.at in
-          let fails : test y ≡ false = each_member (λ (z : TempId). test z ≡ false) (places_from (choice_of values (vars_of p)) 0 p.op.operands)
+          let fails : test y ≡ false = each_member (λ (z : TempId). test z ≡ false) (places_from (choice_of values
+          (vars_of p)) 0 p.op.operands)
           y each listed in
           let value : spot_carried d.spot ≡ x =
           sym (carried_is e o values (numbered e o values h) (fit_kinds e o values h) d.spot d.member) ∙ d.value ∙ r.value in
@@ -448,11 +455,13 @@ module _ (e : Ext) (o : Options) (values : List ℕ) (h : Solved e o values) whe
         let d = read.2 in
         let nowhere = firsts_none reads values t (all e o values) (sym (in_blocks reads values t 0 0 0 e.blocks) ∙ none) p r.member in
         let at_all = none_if (issue_at values p).active (nat_lt t (cycle_at e o values h p))
-        (find reads (places_from (choice_of values (vars_of p)) 0 p.op.operands)) nowhere r.active (lt_is t (cycle_at e o values h p) r.after) in
+        (find reads (places_from (choice_of values (vars_of p)) 0 p.op.operands)) nowhere r.active (lt_is t
+        (cycle_at e o values h p) r.after) in
         let each = none_found reads (places_from (choice_of values (vars_of p)) 0 p.op.operands) at_all in
         let y = choice_of values (vars_of p) r.place r.operand in
         let listed = member_places (choice_of values (vars_of p)) p.op.operands 0 r.place r.place r.operand (omega arith) r.at in
-        let fails : reads y ≡ false = each_member (λ (z : TempId). reads z ≡ false) (places_from (choice_of values (vars_of p)) 0 p.op.operands)
+        let fails : reads y ≡ false = each_member (λ (z : TempId). reads z ≡ false) (places_from (choice_of values
+        (vars_of p)) 0 p.op.operands)
         y each listed in
         let value : spot_carried d.spot ≡ x =
         sym (carried_is e o values (numbered e o values h) (fit_kinds e o values h) d.spot d.member) ∙ d.value ∙ r.value in
@@ -492,7 +501,8 @@ module _ (e : Ext) (o : Options) (values : List ℕ) (h : Solved e o values) whe
             (sym (ap (λ (n : ℕ). nat_le n t) (definer_cycle u w.1))
             ∙ sym (ap (λ (z : TempVars). nat_le (cycle_in values z.op.0 e.blocks (blocks_vars 0 e.blocks)) t) w.3) ∙ d) in
             subst (λ (r : Option LiveRange). IsSomeAnd r (λ (g : LiveRange). g.from ≤ t))
-            (sym (ap (λ (z : TempId). slice_get (the_ranges e o values) z.0) (sym w.2) ∙ range_get e o values (numbered e o values h) u w.1))
+            (sym (ap (λ (z : TempId). slice_get (the_ranges e o values) z.0) (sym w.2)
+            ∙ range_get e o values (numbered e o values h) u w.1))
             from
 
     there_defined : Crosses m s x t → is_defined m values x t ≡ true
@@ -537,7 +547,8 @@ module _ (m : Model) (s : Solution) (x : TempId) (t : ℕ) (own : IsModel m) (ex
   search z = read_in_blocks (is_there z s.values x (Some t)) s.values t z.ext.blocks z.blocks
 
   -- what the search finds
-  pub search_carries : (y : TempId) → read_in_blocks (is_there m s.values x (Some t)) s.values t m.ext.blocks m.blocks ≡ Some y → Carries m s x t y
+  pub search_carries : (y : TempId) → read_in_blocks (is_there m s.values x (Some t)) s.values t m.ext.blocks m.blocks ≡ Some y
+      → Carries m s x t y
   search_carries y got =
       let here : search (model_of m.ext m.options) ≡ Some y = sym (ap search own) ∙ got in
       subst (λ (z : Model). Carries z s x t y) (sym own) (some_carries m.ext m.options s.values solved x t y here)

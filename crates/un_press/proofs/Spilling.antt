@@ -22,10 +22,12 @@ use Rattle.un_model.specs.Instructions.{instruction_of, space_given, copy_of}
 use Rattle.un_model.specs.Schedules.{issues_of, value_by, cycle_by}
 use Rattle.un_model.specs.Solutions.{InSpace, IsPlaced, IsPlacedAs}
 use Rattle.un_model.specs.Variables.{model_of, var_at, ops_count, block_count}
-use Rattle.un_model.proofs.Lists.{Each, Pairwise, Member, each_member, each_all, each_of, each_map, pairwise_more, pairwise_map, pairwise_filter}
+use Rattle.un_model.proofs.Lists.{Each, Pairwise, Member, each_member, each_all, each_of, each_map, pairwise_more, pairwise_map}
+use Rattle.un_model.proofs.Lists.{pairwise_filter}
 use Rattle.un_model.proofs.Lists.{member_at, member_of_filter, length_get, place_of}
 use Rattle.un_model.proofs.Operations.{placed_is}
-use Rattle.un_model.proofs.Placed.{Placed, block_placed, blocks_placed, vars_of, end_of, issue_at, Spot, spot, spots_of, all_count, at_number}
+use Rattle.un_model.proofs.Placed.{Placed, block_placed, blocks_placed, vars_of, end_of, issue_at, Spot, spot, spots_of, all_count}
+use Rattle.un_model.proofs.Placed.{at_number}
 use Rattle.un_model.proofs.PlacedSchedules.{all, spots, definer_in, one_spot, issue_here, given_space}
 use Rattle.un_model.proofs.PlacedSchedules.{joined_member, places_member, split_member}
 use Rattle.un_model.proofs.Readings.{Solved, numbered, placed_good}
@@ -104,10 +106,12 @@ module _ (e : Ext) (o : Options) (values : List ℕ) (h : Solved e o values) whe
   by_end p m act = let v = vars_of p in by p.op.kind (value_by values v.instr) refl refl act (placed_issue p m)
     where
       issued : (kind : ExtKind) (n cycle : ℕ) (i : Option Op) → instruction_of kind n ≡ i → is_delimiter kind ≡ false
-          → (is_delimiter kind || is_some (instruction_of kind n)) ≡ true → IfSome (instruction_of kind n) (IsPlacedAs cycle (end_of values p))
+          → (is_delimiter kind || is_some (instruction_of kind n)) ≡ true → IfSome (instruction_of kind n) (IsPlacedAs cycle
+          (end_of values p))
           → cycle ≤ end_of values p
       issued kind n cycle None f d a placed =
-          let no : false ≡ true = sym (ap (λ (b : Bool). b || is_some (instruction_of kind n)) d ∙ ap (λ (j : Option Op). is_some j) f) ∙ a in
+          let no : false ≡ true = sym (ap (λ (b : Bool). b || is_some (instruction_of kind n)) d ∙ ap (λ (j : Option Op). is_some j) f)
+          ∙ a in
           absurd (cc no)
       issued kind n cycle (Some op) f d a placed =
           let is = subst (λ (j : Option Op). IfSome j (IsPlacedAs cycle (end_of values p))) f placed in
@@ -117,7 +121,8 @@ module _ (e : Ext) (o : Options) (values : List ℕ) (h : Solved e o values) whe
 
       by : (kind : ExtKind) (n : ℕ) → p.op.kind ≡ kind → (let v = vars_of p in value_by values v.instr ≡ n)
           → (is_delimiter p.op.kind || is_some (instruction_of p.op.kind (let v = vars_of p in value_by values v.instr))) ≡ true
-          → IfSome (instruction_of p.op.kind (let v = vars_of p in value_by values v.instr)) (IsPlacedAs (cycle_at e o values h p) (end_of values p))
+          → IfSome (instruction_of p.op.kind (let v = vars_of p in value_by values v.instr)) (IsPlacedAs (cycle_at e o values h p)
+          (end_of values p))
           → cycle_at e o values h p ≤ end_of values p
       by In n k g a placed =
           let v = vars_of p in
@@ -161,7 +166,8 @@ module _ (e : Ext) (o : Options) (values : List ℕ) (h : Solved e o values) whe
       let ns = map (λ (p : Placed). p.number) s.listed in
       let others : Differ ns = pairwise_map (λ x y. x ≡ y → ⊥) (λ (p : Placed). p.number) s.listed
       (pairwise_more (λ p q. p ≡ q → ⊥) (λ p q. p.number ≡ q.number → ⊥) s.listed
-      (λ p q mp mq ne same. ne (one_placed p q (member p (each_member P s.listed p s.each mp)) (member q (each_member P s.listed q s.each mq))
+      (λ p q mp mq ne same. ne (one_placed p q (member p (each_member P s.listed p s.each mp)) (member q
+      (each_member P s.listed q s.each mq))
       same)) s.differ) in
       let each = each_map (PassesAt test (issues_of (model_of e o) values)) (λ (p : Placed). p.number) s.listed
       (each_of (λ p. PassesAt test (issues_of (model_of e o) values) p.number) s.listed (λ p m.
@@ -275,7 +281,8 @@ module _ (e : Ext) (o : Options) (values : List ℕ) (h : Solved e o values) whe
   abbrev IsSaved : (c : Placed) → Carried e o values h c → Type 0
   IsSaved c k = let x = k.crossing in let u = x.own in is_in u.definer.op.kind ≡ true → reg_of e o values h u < 36
 
-  all_saved : (c : Placed) (vs : List TempId) (each : Each (Saved c) vs) → Each (IsSaved c) (carried_all e o values h c vs (crossings c vs each))
+  all_saved : (c : Placed) (vs : List TempId) (each : Each (Saved c) vs) → Each (IsSaved c) (carried_all e o values h c vs
+      (crossings c vs each))
   all_saved c [] each = tt
   all_saved c (v ∷ vs) each = (each.0.starts, all_saved c vs each.1)
 
@@ -317,7 +324,8 @@ module _ (e : Ext) (o : Options) (values : List ℕ) (h : Solved e o values) whe
         let high : 36 ≤ reg_of e o values h x.own = subst (λ (u : Spot). 36 ≤ reg_of e o values h u) one slot in
         absurd (omega (arith, low, high))
 
-    pub spilled : (let s = spot_in e o values h c k in ((issue_at values s.definer).instr ≡ Some Spill) × (is_copy s.definer.op.kind ≡ true))
+    pub spilled : (let s = spot_in e o values h c k in ((issue_at values s.definer).instr ≡ Some Spill) ×
+        (is_copy s.definer.op.kind ≡ true))
     spilled = let s = spot_in e o values h c k in
         slot_spilled s (spot_member e o values h c k) (spot_active e o values h c k) slot (not_start (is_in s.definer.op.kind) refl)
 

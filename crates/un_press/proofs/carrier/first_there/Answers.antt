@@ -7,7 +7,8 @@ use Rattle.un_press.proofs.carrier.first_there.Goals as goal
 
 pub loop-j-preserved : goal.loop-j-preserved
 loop-j-preserved c =
-    sym (found_later (is_there c.args.m.now c.args.values.now c.args.sought.value c.args.sought.by) (choice_of c.args.values.now c.args.vars.now) c.loop-j.j
+    sym (found_later (is_there c.args.m.now c.args.values.now c.args.sought.value c.args.sought.by)
+    (choice_of c.args.values.now c.args.vars.now) c.loop-j.j
     c.args.op.now.operands c.get-operand.result.now c.get-operand.ensures
     (ap (is_there c.args.m.now c.args.values.now c.args.sought.value c.args.sought.by) (sym c.choice-y.ensures) ∙ sym c.is_there.ensures
     ∙ c.if-is_there.false)) ∙ c.loop-j.invariant
@@ -15,11 +16,13 @@ loop-j-preserved c =
 pub returns-then-is_there : goal.returns-then-is_there
 returns-then-is_there c =
     ap (λ (y : TempId). Some y) c.choice-y.ensures
-    ∙ sym (found_here (is_there c.args.m.now c.args.values.now c.args.sought.value c.args.sought.by) (choice_of c.args.values.now c.args.vars.now) c.loop-j.j
+    ∙ sym (found_here (is_there c.args.m.now c.args.values.now c.args.sought.value c.args.sought.by)
+    (choice_of c.args.values.now c.args.vars.now) c.loop-j.j
     c.args.op.now.operands c.get-operand.result.now c.get-operand.ensures
     (ap (is_there c.args.m.now c.args.values.now c.args.sought.value c.args.sought.by) (sym c.choice-y.ensures) ∙ sym c.is_there.ensures
     ∙ c.if-is_there.true)) ∙ c.loop-j.invariant
 
 pub returns : goal.returns
-returns c = sym (found_nowhere (is_there c.args.m.now c.args.values.now c.args.sought.value c.args.sought.by) (choice_of c.args.values.now c.args.vars.now)
+returns c = sym (found_nowhere (is_there c.args.m.now c.args.values.now c.args.sought.value c.args.sought.by)
+    (choice_of c.args.values.now c.args.vars.now)
     c.loop-j.j c.args.op.now.operands (omega arith)) ∙ c.loop-j.invariant
