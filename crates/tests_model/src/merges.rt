@@ -1,6 +1,7 @@
 //! Solutions of models of one block, and what its end is at most once merges are taken.
 
-/// A block that only returns, and one that adds: each with every name in a slot, and with its operations one by one.
+/// A block that only returns, and one that adds: each with every name in a slot, and with its operations one by one. Of the first also
+/// what the merges of its packets break.
 pub(crate) static MERGES: &[u8] = b"func f
 block e freq 1
   ret
@@ -12,7 +13,13 @@ block e freq 1
 0 0 0 0 0 0 0 0 0 0 0 0 0 0 0 0
 0 0 0 0 0 0 0 0 0 0 0 0 0 0 0 0
 0 0 0 0 0 0 0 0 0 0 7 1
-?m 6:yes|func f
+?m 6:yes\
+|&?with 50=1 55=4 57=2 60=5 122=6: 10\
+|&?with 55=4 57=2 60=5 122=6: 5\
+|&?with 55=4 60=5 122=6:\
+|&?with 60=5 122=6:\
+|&?with 122=6: 5\
+|func f
 block e freq 1
   ret
 ^16 17 18 19 20 21 22 23 24 25 26 27 31 0 0 0

@@ -7,6 +7,8 @@ mod checks;
 #[cfg(test)]
 mod commands;
 #[cfg(test)]
+mod hostile;
+#[cfg(test)]
 mod posts;
 #[cfg(test)]
 mod reports;
@@ -18,3 +20,5 @@ mod runs;
 mod searches;
 #[cfg(test)]
 mod values;
+#[cfg(test)]
+mod verdicts;

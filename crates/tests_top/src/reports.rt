@@ -34,8 +34,9 @@ tree 1
 C
 end";
 
-/// The lines of that input that are changed, each its number and what stands there, `/` before a further line; then what a run leaves: the
-/// status, and what `out` and `err` hold, behind `>` each. Behind `?check` the text is the whole input.
+/// The lines of that input that are changed, each its number and what stands there, `/` before a further line, or `-` where the input ends
+/// before it; then what a run leaves: the status, and what `out` and `err` hold, behind `>` each. Behind `?check` the text is the whole
+/// input.
 static CHECKS: &[u8] = b"# As it is, and with one thing changed after another.\
 |?=check:done>yes code cost 1 bound 1\n>\
 |6 function g?=check:no>no name\n>\
@@ -76,7 +77,11 @@ fn put_lines(out: &mut Vec<u8>, text: &[u8]) -> Result<(), NoMemory> {
 fn put_line(out: &mut Vec<u8>, line: &[u8], place: u64, changes: &[u8]) -> Result<(), NoMemory> {
     for change in changes.split(|b| *b == b'\n') {
         let (changed, text) = cut(change, b' ');
-        if number(changed) == place {
+        let changed = number(changed);
+        if changed <= place && text == b"-".as_slice() {
+            return Ok(());
+        }
+        if changed == place {
             return put_lines(out, text);
         }
     }

@@ -1,10 +1,12 @@
 //! Rows of texts with what is asked of them. Between two `|` stands a row: a text, `?`, a question, `:` and the answer, which may break off
 //! at `...`. `&` is the text of the row before, and a row that begins with `#` is a comment.
 
+use crate::hostile::put_deep;
 use crate::posts::{put_counts, put_end, put_operands};
 use crate::reports::put_altered;
 use crate::runs::put_run;
 use crate::searches::{put_solved, put_tried};
+use crate::verdicts::put_verdict;
 use std::alloc::Global;
 use un_base::decimal::read_decimal;
 use un_base::memory_error::NoMemory;
@@ -29,7 +31,7 @@ pub(crate) fn number_at(text: &[u8], k: usize) -> u64 {
 }
 
 /// Appends the answer to a question about a text: of what is posted, of how rounds end, of propagators of two operands, of a search,
-/// of an attempt, of a run over an altered report, or else of a run by words.
+/// of an attempt, of the check of a tree, of a run over an altered report or a deep tree, or else of a run by words.
 fn put_answer(
     alloc: Global,
     out: &mut Vec<u8>,
@@ -39,6 +41,8 @@ fn put_answer(
     match question.first() {
         Some(b'p') => put_counts(alloc, out, text),
         Some(b'e') => put_end(alloc, out, text, question),
+        Some(b'd') => put_deep(alloc, out, text),
+        Some(b'v') => put_verdict(alloc, out, text, question),
         Some(b'o') => put_operands(alloc, out, text),
         Some(b's') => put_solved(alloc, out, text, question),
         Some(b'=') => put_altered(alloc, out, text, question),

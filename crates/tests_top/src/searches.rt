@@ -65,7 +65,7 @@ block e freq 1
 |&?solve 1 1:infeasible 1";
 
 /// The options of a question: so many registers, or all.
-fn options(question: &[u8]) -> Options
+pub(crate) fn options(question: &[u8]) -> Options
     ensures { AreOptions result }
 {
     let regs = number_at(question, 2);
@@ -94,7 +94,11 @@ fn limit(question: &[u8]) -> Option<u64> {
 }
 
 /// The model of the function that a text is, under options.
-fn model_under(alloc: Global, function: &[u8], options: &Options) -> Result<Model, NoMemory>
+pub(crate) fn model_under(
+    alloc: Global,
+    function: &[u8],
+    options: &Options,
+) -> Result<Model, NoMemory>
     requires { AreOptions options.now }
     ensures { IfOk result IsSearchable }
 {
