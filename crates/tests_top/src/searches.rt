@@ -65,7 +65,7 @@ block e freq 1
 |&?solve 1 1:infeasible 1";
 
 /// The options of a question: so many registers, or all.
-fn options(question: &[u8]) -> Options
+pub(crate) fn options(question: &[u8]) -> Options
     ensures { AreOptions result }
 {
     let regs = number_at(question, 2);
@@ -75,8 +75,8 @@ fn options(question: &[u8]) -> Options
     }
 }
 
-/// The number of nodes of a question.
-fn nodes(question: &[u8]) -> u32
+/// The number of nodes, or of trials, of a question.
+pub(crate) fn nodes(question: &[u8]) -> u32
     ensures { 0 < result }
 {
     match u32::try_from(number_at(question, 1)) {
@@ -94,7 +94,11 @@ fn limit(question: &[u8]) -> Option<u64> {
 }
 
 /// The model of the function that a text is, under options.
-fn model_under(alloc: Global, function: &[u8], options: &Options) -> Result<Model, NoMemory>
+pub(crate) fn model_under(
+    alloc: Global,
+    function: &[u8],
+    options: &Options,
+) -> Result<Model, NoMemory>
     requires { AreOptions options.now }
     ensures { IfOk result IsSearchable }
 {
@@ -106,7 +110,7 @@ fn model_under(alloc: Global, function: &[u8], options: &Options) -> Result<Mode
 }
 
 /// Appends a word and a number.
-fn put_part(out: &mut Vec<u8>, word: &[u8], n: u64) -> Result<(), NoMemory> {
+pub(crate) fn put_part(out: &mut Vec<u8>, word: &[u8], n: u64) -> Result<(), NoMemory> {
     put_text(out, word)?;
     put_number(out, n)
 }
