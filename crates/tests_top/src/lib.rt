@@ -1,11 +1,13 @@
 //! Tests of the whole program over sources and sinks in memory, command by command, of the code of given values, of what is posted for
-//! functions, of searches, and of the check of reports.
+//! functions, of searches and first solutions, and of the check of reports.
 #![tactic(auto)]
 
 #[cfg(test)]
 mod checks;
 #[cfg(test)]
 mod commands;
+#[cfg(test)]
+mod firsts;
 #[cfg(test)]
 mod hostile;
 #[cfg(test)]

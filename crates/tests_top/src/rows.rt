@@ -1,6 +1,7 @@
 //! Rows of texts with what is asked of them. Between two `|` stands a row: a text, `?`, a question, `:` and the answer, which may break off
 //! at `...`. `&` is the text of the row before, and a row that begins with `#` is a comment.
 
+use crate::firsts::put_first;
 use crate::hostile::put_deep;
 use crate::posts::{put_counts, put_end, put_operands};
 use crate::reports::put_altered;
@@ -31,7 +32,7 @@ pub(crate) fn number_at(text: &[u8], k: usize) -> u64 {
 }
 
 /// Appends the answer to a question about a text: of what is posted, of how rounds end, of propagators of two operands, of a search,
-/// of an attempt, of the check of a tree, of a run over an altered report or a deep tree, or else of a run by words.
+/// of an attempt, of a first solution, of the check of a tree, of a run over an altered report or a deep tree, or else of a run by words.
 fn put_answer(
     alloc: Global,
     out: &mut Vec<u8>,
@@ -46,6 +47,7 @@ fn put_answer(
         Some(b'o') => put_operands(alloc, out, text),
         Some(b's') => put_solved(alloc, out, text, question),
         Some(b'=') => put_altered(alloc, out, text, question),
+        Some(b'f') => put_first(alloc, out, text, question),
         Some(b't') => put_tried(alloc, out, text, question),
         _ => put_run(alloc, out, text, question),
     }

@@ -75,8 +75,8 @@ pub(crate) fn options(question: &[u8]) -> Options
     }
 }
 
-/// The number of nodes of a question.
-fn nodes(question: &[u8]) -> u32
+/// The number of nodes, or of trials, of a question.
+pub(crate) fn nodes(question: &[u8]) -> u32
     ensures { 0 < result }
 {
     match u32::try_from(number_at(question, 1)) {
@@ -110,7 +110,7 @@ pub(crate) fn model_under(
 }
 
 /// Appends a word and a number.
-fn put_part(out: &mut Vec<u8>, word: &[u8], n: u64) -> Result<(), NoMemory> {
+pub(crate) fn put_part(out: &mut Vec<u8>, word: &[u8], n: u64) -> Result<(), NoMemory> {
     put_text(out, word)?;
     put_number(out, n)
 }

@@ -1,0 +1,124 @@
+//! First solutions: what they cost on functions whose least cost was worked out by hand.
+
+use crate::rows::all_answered;
+use crate::searches::{model_under, nodes, options, put_part};
+use std::alloc::Global;
+use un_base::memory_error::NoMemory;
+use un_first::first::first;
+use un_ir::text::put_text;
+use un_model::cost::cost;
+
+/// Functions, and what the first solution of so many trials costs, where it finds one: the least cost of each.
+static FIRSTS: &[u8] = b"# A chain: the load and the product are each read two cycles later.\
+|func chain %a
+block e freq 1
+  %b = add %a, %a
+  %c = load %b, #0
+  %d = mpyi %c, %b
+  %e = add %d, %c
+  ret %e
+?first 200:cost 6\
+|# A ring of two moves and one of three: they issue in one packet with Enter, the call in the next with the Spill and the move that
+# save the link, and the return waits for what brings it back.\
+|func x %a %b
+block e freq 1
+  call h %b, %a
+  ret
+?first 200:cost 4\
+|func ring %a %b %c
+block e freq 1
+  call h %b, %c, %a
+  ret
+?first 200:cost 4\
+|# A value, and a predicate, across a call.\
+|func c %a
+block e freq 1
+  %r = call h %a
+  %s = add %r, %a
+  ret %s
+?first 200:cost 5\
+|func q %a %b
+block e freq 1
+  $p = cmpeq %a, %b
+  call h %a
+  %r = mux $p, %a, %b
+  ret %r
+?first 200:cost 5\
+|# More values than registers: sixteen of the eighteen loads have one, so that two kept registers are spilled. With these Spills and
+# the store that makes eleven packets of two memory instructions; the last load issues in the twelfth, and the sums two cycles later.\
+|func many %x
+block e freq 1
+  %v0 = load %x, #0
+  %v1 = load %x, #4
+  %v2 = load %x, #8
+  %v3 = load %x, #12
+  %v4 = load %x, #16
+  %v5 = load %x, #20
+  %v6 = load %x, #24
+  %v7 = load %x, #28
+  %v8 = load %x, #32
+  %v9 = load %x, #36
+  %v10 = load %x, #40
+  %v11 = load %x, #44
+  %v12 = load %x, #48
+  %v13 = load %x, #52
+  %v14 = load %x, #56
+  %v15 = load %x, #60
+  %v16 = load %x, #64
+  %v17 = load %x, #68
+  store %x, #0, %x
+  %s = load %x, #4
+  %s = add %s, %v0
+  %s = add %s, %v1
+  %s = add %s, %v2
+  %s = add %s, %v3
+  %s = add %s, %v4
+  %s = add %s, %v5
+  %s = add %s, %v6
+  %s = add %s, %v7
+  %s = add %s, %v8
+  %s = add %s, %v9
+  %s = add %s, %v10
+  %s = add %s, %v11
+  %s = add %s, %v12
+  %s = add %s, %v13
+  %s = add %s, %v14
+  %s = add %s, %v15
+  %s = add %s, %v16
+  %s = add %s, %v17
+  ret %s
+?first 200:cost 31\
+|# Two blocks that want other registers for %c: the call its second argument's, in which it stands, the other return r0, to which it
+# moves in the packet of the return. The branch waits for the compare, and behind the call the link is brought back.\
+|func two %a %b
+block e freq 1
+  %c = add %a, %b
+  $p = cmpgt %a, %b
+  if $p jump z
+block y freq 10
+  ret %c
+block z freq 100
+  %d = call h %b, %c
+  ret %d
+?first 1000:cost 312\
+|&?first 1:none";
+
+/// Appends what the first solution of a function costs.
+pub(crate) fn put_first(
+    alloc: Global,
+    out: &mut Vec<u8>,
+    function: &[u8],
+    question: &[u8],
+) -> Result<(), NoMemory> {
+    let m = model_under(alloc, function, &options(question))?;
+    match first(alloc, &m, [].as_slice(), nodes(question))? {
+        None => put_text(out, b"none"),
+        Some(solution) => put_part(out, b"cost ", cost(&m, &solution)),
+    }
+}
+
+#[test]
+fn first_solutions_cost_the_least(rt: HostRuntime) {
+    let well = matches!(all_answered(rt.alloc(), FIRSTS), Ok(true));
+    assert!(rt; well);
+}
