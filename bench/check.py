@@ -2,17 +2,16 @@
 """How long `check` takes beside `alloc`: check.py [PROGRAM] [NODES] [FUNCTIONS].
 
 For the examples and for functions that functions.py writes (FUNCTIONS of each kind, 12 without it; 0 for the examples alone): the report
-that `alloc` prints with NODES nodes (2,000 without it) is checked. A line each has the nodes of its tree, the milliseconds of `alloc` and of
-`check`, the best of three runs, and their ratio; then come sums and the greatest ratio. Then trees that no search made, with the megabytes
-that the check takes: a path of 819 branches, and a balanced tree of 199,999 nodes. PROGRAM is crates/unison/out/unison without it. The gate
-does not run it.
+that `alloc` prints with NODES nodes (2,000 without it) is checked. A line each has the nodes of its tree, the milliseconds of the
+processor for `alloc` and for `check`, the best of three runs, and their ratio; then come sums and the greatest ratio. Then trees that no
+search made, with the megabytes that the check takes: a path of 819 branches, and a balanced tree of 199,999 nodes. PROGRAM is
+crates/unison/out/unison without it. The gate does not run it.
 """
 import glob
 import os
 import subprocess
 import sys
 import tempfile
-import time
 
 TOP = os.path.dirname(os.path.dirname(os.path.realpath(__file__)))
 SMALLEST = "func f\nblock e freq 1\n  ret\n"
@@ -21,16 +20,14 @@ CYCLES = range(14, 51, 3)
 
 
 def run(program, words, text):
-    """The status, the output, the seconds and the megabytes of a run."""
+    """The status, the output, the seconds of the processor and the megabytes of a run."""
     with tempfile.TemporaryFile() as given, tempfile.TemporaryFile() as out:
         given.write(text)
         given.seek(0)
-        start = time.perf_counter()
         pid = subprocess.Popen([program, *words], stdin=given, stdout=out, stderr=subprocess.DEVNULL)
         _, status, used = os.wait4(pid.pid, 0)
-        seconds = time.perf_counter() - start
         out.seek(0)
-        return os.waitstatus_to_exitcode(status), out.read(), seconds, used.ru_maxrss / 1024
+        return os.waitstatus_to_exitcode(status), out.read(), used.ru_utime + used.ru_stime, used.ru_maxrss / 1024
 
 
 def best(program, words, text):
