@@ -9,4 +9,4 @@ mod lifts;
 pub mod order;
 pub mod rounds;
 pub mod solve;
-mod start;
+pub mod start;

@@ -21,7 +21,7 @@ use un_model::model::{BlockVars, Model, Solution};
 use un_post::post::{Posted, post};
 
 /// How often a block may be tried for the first solution.
-const TRIALS: u32 = 2_000;
+pub const TRIALS: u32 = 2_000;
 
 /// The least end that a store leaves, or the least of all where it has no such variable.
 fn least_end(store: &Store, end: VarId) -> u32
@@ -45,8 +45,12 @@ fn ends_in(alloc: Global, store: &Store, blocks: &[BlockVars]) -> Result<Vec<u32
     Ok(ends)
 }
 
-/// The least end of each block that the rounds leave of the first box, where they do not fail.
-fn least_ends(alloc: Global, m: &Model) -> Result<Option<Vec<u32>>, NoMemory>
+/// The least end of each block that the rounds leave of the first box, where they do not fail. Nothing is promised of them: a first
+/// solution that is made with others costs more or less, and is one.
+///
+/// # Errors
+/// `NoMemory` where there is no memory for the rounds.
+pub fn least_ends(alloc: Global, m: &Model) -> Result<Option<Vec<u32>>, NoMemory>
     requires model { IsModel m.now }
     requires extended { IsExtended m.now.ext }
     requires fit { IsFit m.now.ext.table }
