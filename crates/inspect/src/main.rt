@@ -6,6 +6,7 @@
 mod attempts;
 mod chains;
 mod clock;
+mod firsts;
 mod node;
 mod part;
 mod request;

@@ -8,6 +8,7 @@ ghost use Rattle.un_model.specs.Variables.{IsModel};
 ghost use Rattle.un_problem.specs.Problems.{IsProblemOf};
 
 use crate::attempts::put_attempts;
+use crate::firsts::put_first;
 use crate::node::node_of;
 use crate::request::{Part, Request, Shown};
 use crate::rounds::put_rounds;
@@ -150,7 +151,7 @@ fn baseline(alloc: Global, out: &mut Vec<u8>, f: &Function, m: &Model) -> Result
     put_values(out, &s)
 }
 
-/// What is told of a function's model under default options: the values of a solution, attempts at better ones, or times.
+/// What is told of a function's model under default options: the values of a solution, the first one, attempts at better ones, or times.
 fn put_by_default(
     rt: &impl CpuClock,
     alloc: Global,
@@ -166,6 +167,7 @@ fn put_by_default(
     match asked.part {
         Part::Times => put_timed(rt, alloc, out, asked.counts, text, f, &m),
         Part::Search => put_attempts(rt, alloc, out, asked.counts, f, &m),
+        Part::First => put_first(rt, alloc, out, asked.counts, f, &m),
         _ => baseline(alloc, out, f, &m),
     }
 }

@@ -41,6 +41,8 @@ pub enum Part {
     Times,
     /// Attempts at a solution that costs less than the one before.
     Search,
+    /// The first solution, and what it costs beside the root's bound.
+    First,
     /// A store with chains of precedences, of no function.
     Chains,
 }
@@ -81,7 +83,7 @@ const DEFAULT: Options = Options {
 };
 
 /// The words, and the part that each names.
-static PARTS: [(&[u8], Part); 13] = [
+static PARTS: [(&[u8], Part); 14] = [
     (b"live", Part::Live),
     (b"extended", Part::Extended),
     (b"variables", Part::Model(Shown::Variables)),
@@ -94,6 +96,7 @@ static PARTS: [(&[u8], Part); 13] = [
     (b"explain", Part::Model(Shown::Drawn(Form::Words))),
     (b"times", Part::Times),
     (b"search", Part::Search),
+    (b"first", Part::First),
     (b"chains", Part::Chains),
 ];
 
@@ -253,7 +256,7 @@ fn request_of(part: Part, words: &[Word]) -> Result<Request, u32>
         counts: ONCE,
     };
     match part {
-        Part::Times | Part::Search | Part::Chains => asked.counts = counts_in(words)?,
+        Part::Times | Part::Search | Part::First | Part::Chains => asked.counts = counts_in(words)?,
         _ => asked.options = options_of(part, words)?,
     }
     Ok(asked)
