@@ -57,7 +57,7 @@ fn greatest_failing(
 }
 
 /// Where a variable is lifted, if it is.
-fn lift_of(engine: &mut Engine<AnyProp>, var: VarId) -> Result<Option<Choice>, NoMemory>
+pub(crate) fn lift_of(engine: &mut Engine<AnyProp>, var: VarId) -> Result<Option<Choice>, NoMemory>
     requires live { NoneEmpty engine.old.store.sets }
     ensures same { IfOk result (λ lift. engine.new ≡ engine.old) }
     ensures splits { IfOk result (λ lift. IfSome lift (λ c. Splits engine.old.store.sets c.var c.val)) }

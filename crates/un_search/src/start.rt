@@ -1,6 +1,6 @@
 //! The solution from which a search starts.
 
-ghost use Rattle.std.specs.Prelude.{◌≤◌, IfOk, IfSome, IsSomeAnd};
+ghost use Rattle.std.specs.Prelude.{◌≡◌, ◌≤◌, IfOk, IfSome, IsSomeAnd};
 ghost use Rattle.un_ir.specs.Extended.{IsExtended};
 ghost use Rattle.un_isa.specs.Fit.{IsFit};
 ghost use Rattle.un_domains.specs.Sets.{NoneEmpty};
@@ -11,12 +11,14 @@ ghost use Rattle.un_model.specs.Variables.{IsModel};
 ghost use Rattle.un_search.specs.Solved.{IsBest};
 
 use crate::best::{BRANCH_NODES, Best, best_of, price};
+use crate::lifts::lift_of;
 use std::alloc::{AllocError, Global};
 use un_base::ids::VarId;
 use un_base::memory_error::NoMemory;
 use un_domains::store::Store;
 use un_engine::engine::Engine;
 use un_first::first::first;
+use un_kinds::any::AnyProp;
 use un_model::model::{BlockVars, Model, Solution};
 use un_post::post::{Posted, post};
 
@@ -24,7 +26,7 @@ use un_post::post::{Posted, post};
 pub const TRIALS: u32 = 2_000;
 
 /// The least end that a store leaves, or the least of all where it has no such variable.
-fn least_end(store: &Store, end: VarId) -> u32
+fn end_left(store: &Store, end: VarId) -> u32
     requires { NoneEmpty store.now.sets }
 {
     if end.0 < store.len() {
@@ -34,19 +36,41 @@ fn least_end(store: &Store, end: VarId) -> u32
     }
 }
 
-/// The least end of each block that a store leaves.
-fn ends_in(alloc: Global, store: &Store, blocks: &[BlockVars]) -> Result<Vec<u32>, AllocError>
-    requires { NoneEmpty store.now.sets }
+/// The least end of a block below which the rounds fail at once.
+fn least_end(engine: &mut Engine<AnyProp>, end: VarId) -> Result<u32, NoMemory>
+    requires live { NoneEmpty engine.old.store.sets }
+    ensures same { IfOk result (λ least. engine.new ≡ engine.old) }
+{
+    match lift_of(engine, end)? {
+        None => Ok(end_left(engine.store(), end)),
+        Some(lift) => Ok(lift.val.saturating_add(1)),
+    }
+}
+
+/// Adds an end.
+fn add_end(ends: &mut Vec<u32>, least: u32) -> Result<(), AllocError> {
+    ends.push(least)?;
+    Ok(())
+}
+
+/// The least end of each block below which the rounds fail at once.
+fn ends_in(
+    alloc: Global,
+    engine: &mut Engine<AnyProp>,
+    blocks: &[BlockVars],
+) -> Result<Vec<u32>, NoMemory>
+    requires live { NoneEmpty engine.old.store.sets }
 {
     let mut ends = Vec::new(alloc);
     for vars in blocks {
-        ends.push(least_end(store, vars.end))?;
+        let least = least_end(engine, vars.end)?;
+        add_end(&mut ends, least)?;
     }
     Ok(ends)
 }
 
-/// The least end of each block that the rounds leave of the first box, where they do not fail. Nothing is promised of them: a first
-/// solution that is made with others costs more or less, and is one.
+/// The least end of each block below which the rounds fail at once, where they do not fail on the first box. Nothing is promised of them:
+/// a first solution that is made with others costs more or less, and is one.
 ///
 /// # Errors
 /// `NoMemory` where there is no memory for the rounds.
@@ -63,8 +87,8 @@ pub fn least_ends(alloc: Global, m: &Model) -> Result<Option<Vec<u32>>, NoMemory
     } = post(alloc, m, None)?;
     match Engine::new(alloc, props, store, horizon)? {
         None => Ok(None),
-        Some(engine) => {
-            let ends = ends_in(alloc, engine.store(), m.blocks.as_slice())?;
+        Some(mut engine) => {
+            let ends = ends_in(alloc, &mut engine, m.blocks.as_slice())?;
             Ok(Some(ends))
         }
     }
