@@ -4,9 +4,11 @@
 - `gen-S-Z`: functions drawn by a linear generator from seed S (0 to 9), with Z blocks (1, 2, 3, 4, 8 and 16).
 - `made-N-K`: functions of N operations (20 to 80) in one to eight blocks, with up to 40 names, loads, stores and calls, from a fixed seed.
 """
+import math
 import os
 import random
 import sys
+import tempfile
 
 
 class Draws:
@@ -91,8 +93,8 @@ def made(ops, number):
     return "\n".join([*lines, f"  ret {draw.choice(known)}", ""])
 
 
-def main():
-    folder = sys.argv[1]
+def write(folder):
+    """Writes all of them."""
     os.makedirs(folder, exist_ok=True)
     texts = {f"gen-{seed}-{size}": generated(seed, size) for seed in range(10) for size in (1, 2, 3, 4, 8, 16)}
     texts |= {f"made-{ops}-{number}": made(ops, number) for ops in range(20, 81, 10) for number in range(7)}
@@ -101,4 +103,22 @@ def main():
             file.write(text)
 
 
-main()
+def read(folders):
+    """The functions of folders, the examples and those above where none is named: the group, the name and the text of each."""
+    if not folders:
+        folders = [f"{os.path.dirname(os.path.dirname(os.path.realpath(__file__)))}/examples", tempfile.mkdtemp(prefix="unison-functions-")]
+        write(folders[1])
+    for folder in folders:
+        for name in sorted(os.listdir(folder)):
+            if name.endswith(".uni"):
+                with open(f"{folder}/{name}", encoding="utf-8") as file:
+                    yield name.split("-")[0] if "-" in name else "examples", name[:-4], file.read()
+
+
+def mean(ratios):
+    """The geometric mean."""
+    return math.exp(sum(math.log(it) for it in ratios) / len(ratios)) if ratios else 1.0
+
+
+if __name__ == "__main__":
+    write(sys.argv[1])

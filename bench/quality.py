@@ -6,13 +6,13 @@ the cost of keeping each name in a frame slot, nodes of the tree and millisecond
 bound and of cost over that of the frame slots, how many meet their bound, and the mean and the greatest time. Run it by hand, on a built
 program; the gate does not run it.
 """
-import math
 import os
 import re
 import subprocess
 import sys
-import tempfile
 import time
+
+import functions
 
 TOP = os.path.dirname(os.path.dirname(os.path.realpath(__file__)))
 BINARY = f"{TOP}/crates/unison/out/unison"
@@ -28,36 +28,22 @@ def report(text, nodes):
     return {it: int(re.search(rf"^{it} (\d+)$", ran.stdout, re.M)[1]) for it in ("cost", "bound", "tree")}, took
 
 
-def mean(ratios):
-    return math.exp(sum(math.log(it) for it in ratios) / len(ratios)) if ratios else 1.0
-
-
 def told(group, rows):
     bound, slots, times = [it[0] for it in rows], [it[1] for it in rows], [it[2] for it in rows]
-    print(f"{group}: {len(rows)} functions, cost/bound {mean(bound):.4f}, {sum(it == 1 for it in bound)} meet the bound, "
-          f"cost/slots {mean(slots):.3f}, ms mean {sum(times) / len(times):.1f}, greatest {max(times):.1f}")
+    print(f"{group}: {len(rows)} functions, cost/bound {functions.mean(bound):.4f}, {sum(it == 1 for it in bound)} meet the bound, "
+          f"cost/slots {functions.mean(slots):.3f}, ms mean {sum(times) / len(times):.1f}, greatest {max(times):.1f}")
 
 
 def main():
     nodes = int(sys.argv[1]) if len(sys.argv) > 1 else 2000
-    folders = sys.argv[2:]
-    if not folders:
-        folders = [f"{TOP}/examples", tempfile.mkdtemp(prefix="unison-functions-")]
-        subprocess.run([f"{TOP}/bench/functions.py", folders[1]], check=True)
     groups = {}
-    for folder in folders:
-        for name in sorted(os.listdir(folder)):
-            if not name.endswith(".uni"):
-                continue
-            with open(f"{folder}/{name}", encoding="utf-8") as file:
-                text = file.read()
-            found, took = report(text, nodes)
-            if found is None:
-                continue
-            slots = report(text, 1)[0]["cost"]
-            print(f"{name[:-4]:20} cost {found['cost']:>9} bound {found['bound']:>9} slots {slots:>9} nodes {found['tree']:>6} ms {took:8.1f}", flush=True)
-            group = name.split("-")[0] if "-" in name else "examples"
-            groups.setdefault(group, []).append((found["cost"] / found["bound"], found["cost"] / slots, took))
+    for group, name, text in functions.read(sys.argv[2:]):
+        found, took = report(text, nodes)
+        if found is None:
+            continue
+        slots = report(text, 1)[0]["cost"]
+        print(f"{name:20} cost {found['cost']:>9} bound {found['bound']:>9} slots {slots:>9} nodes {found['tree']:>6} ms {took:8.1f}", flush=True)
+        groups.setdefault(group, []).append((found["cost"] / found["bound"], found["cost"] / slots, took))
     for group, rows in groups.items():
         told(group, rows)
 

@@ -14,6 +14,8 @@ import sys
 import tempfile
 import time
 
+import unproved
+
 TOP = os.path.dirname(os.path.dirname(os.path.realpath(__file__)))
 
 
@@ -25,12 +27,7 @@ class Crates:
     """The crates of crates.txt, each with those of them that it names."""
 
     def __init__(self):
-        named = {}
-        with open(f"{TOP}/crates.txt", encoding="utf-8") as lines:
-            for line in lines:
-                name, colon, rest = line.partition("#")[0].partition(":")
-                if colon:
-                    named[name.split()[0]] = rest.split()
+        named = unproved.named_crates()
         self.named = {name: [it for it in rest if it in named] for name, rest in named.items()}
 
     def below(self, program):
