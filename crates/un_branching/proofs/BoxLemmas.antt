@@ -1,16 +1,14 @@
 -- The sides of a box that rounds left with a choice.
-use Rattle.std.proofs.Common.{◌≡◌, ℕ, zero, suc, ◌<◌, ◌≤◌, Bool, true, false, ◌&&◌, cond, nat_eq, nat_le, nat_lt, List, [], ◌∷◌, length}
-use Rattle.std.proofs.Common.{filter, fold, min, max, None, Some, MatchOption, refl, ap, subst, ◌∙◌, ◌⊎◌, inl, inr, arith}
+use Rattle.std.proofs.Common.{◌≡◌, ℕ, zero, suc, ◌<◌, ◌≤◌, Bool, false, cond, nat_eq, nat_le, nat_lt, [], ◌∷◌, length}
+use Rattle.std.proofs.Common.{filter, None, Some, MatchOption, refl, ap, subst, arith}
 use Rattle.std.specs.declared.option.Option.{Option}
 use Rattle.std.specs.Bool.{⊤}
-use Rattle.std.proofs.lemmas.Bool.{cases_lt}
 use Rattle.std.proofs.lemmas.Bool.Decides.{nat_tests}
 use Rattle.un_base.specs.declared.ids.VarId.{VarId}
-use Rattle.un_domains.specs.Sets.{Sets, set_at, has, least, greatest, kept, cut_by, NoneEmpty}
-use Rattle.un_domains.specs.SetLaws.{has-filter}
+use Rattle.un_domains.specs.Sets.{Sets, set_at, kept, cut_by, NoneEmpty}
 use Rattle.un_prop.specs.Rounds.{HasVars}
 use Rattle.un_domains.specs.Order.{Below}
-use Rattle.un_domains.specs.OrderLaws.{has_here, has_later, has_below, least_below, greatest_below}
+use Rattle.un_domains.specs.OrderLaws.{has_below, least_below, greatest_below}
 use Rattle.un_prop.specs.Nodes.{decide_by}
 use Rattle.un_prop.specs.declared.side.Side.{Side}
 use Rattle.un_prop.specs.declared.side.Side.TheVariants.{AtMost, Above}

@@ -6,7 +6,6 @@ use Rattle.std.proofs.lemmas.Bool.Decides.{nat_tests}
 use Rattle.std.proofs.lemmas.List.{get_or_append_left, get_or-set_same, get_or-set_other, get_or_push, get_or_past, length-set}
 use Rattle.un_domains.specs.Sets.{Sets}
 use Rattle.un_base.specs.declared.ids.VarId.{VarId}
-use Rattle.un_prop.specs.declared.side.Side.TheVariants.{AtMost, Above}
 use Rattle.un_tree.specs.declared.node.Node.{Node}
 use Rattle.un_branching.specs.declared.growth.Entry.{Entry}
 use Rattle.un_branching.specs.Growths.{entry_at, next_of, leaf_at, branch_at, branched, blank}
@@ -26,10 +25,10 @@ cases P n k old at new new1 j below = elim (cases_eq j k) [
 
 module _ (es : List Entry) (k : ℕ) (v : VarId) (x : ℕ) (l r : Node) (there : k < length es) where
   abbrev R : Entry
-  R = leaf_at es k v x r Above (next_of es k)
+  R = leaf_at r (next_of es k)
 
   abbrev L : Entry
-  L = leaf_at es k v x l AtMost (length es)
+  L = leaf_at l (length es)
 
   abbrev pub New : List Entry
   New = branched es k v x l r
@@ -41,24 +40,24 @@ module _ (es : List Entry) (k : ℕ) (v : VarId) (x : ℕ) (l r : Node) (there :
   long2 = omega (arith, long1, length-append (es ++ R ∷ []) (L ∷ []))
 
   pub new_long : length New ≡ length es + 2
-  new_long = length-set ((es ++ R ∷ []) ++ L ∷ []) k (branch_at es k v x) ∙ long2
+  new_long = length-set ((es ++ R ∷ []) ++ L ∷ []) k (branch_at es v x) ∙ long2
 
   pub new_old : (j : ℕ) → j < length es → j ≢ k → entry_at New j ≡ entry_at es j
   new_old j below apart =
-      get_or-set_other ((es ++ R ∷ []) ++ L ∷ []) k j (branch_at es k v x) blank apart
+      get_or-set_other ((es ++ R ∷ []) ++ L ∷ []) k j (branch_at es v x) blank apart
       ∙ (get_or_append_left (es ++ R ∷ []) (L ∷ []) blank j (omega (arith, below, long1))
       ∙ get_or_append_left es (R ∷ []) blank j below)
 
-  pub new_branch : entry_at New k ≡ branch_at es k v x
-  new_branch = get_or-set_same ((es ++ R ∷ []) ++ L ∷ []) k (branch_at es k v x) blank (omega (arith, there, long2))
+  pub new_branch : entry_at New k ≡ branch_at es v x
+  new_branch = get_or-set_same ((es ++ R ∷ []) ++ L ∷ []) k (branch_at es v x) blank (omega (arith, there, long2))
 
   pub new_right : entry_at New (length es) ≡ R
   new_right =
-      get_or-set_other ((es ++ R ∷ []) ++ L ∷ []) k (length es) (branch_at es k v x) blank (λ e. omega (arith, e, there))
+      get_or-set_other ((es ++ R ∷ []) ++ L ∷ []) k (length es) (branch_at es v x) blank (λ e. omega (arith, e, there))
       ∙ (get_or_append_left (es ++ R ∷ []) (L ∷ []) blank (length es) (omega (arith, long1)) ∙ get_or_push es R blank (length es) refl)
 
   pub new_left : entry_at New (length es + 1) ≡ L
-  new_left = get_or-set_other ((es ++ R ∷ []) ++ L ∷ []) k (length es + 1) (branch_at es k v x) blank (λ e. omega (arith, e, there))
+  new_left = get_or-set_other ((es ++ R ∷ []) ++ L ∷ []) k (length es + 1) (branch_at es v x) blank (λ e. omega (arith, e, there))
       ∙ get_or_push (es ++ R ∷ []) L blank (length es + 1) long1
 
   pub new_past : (j : ℕ) → length es + 2 ≤ j → entry_at New j ≡ blank

@@ -1,5 +1,5 @@
 -- The first tree, and what the last one is.
-use Rattle.std.proofs.Common.{◌≡◌, ◌≢◌, ℕ, suc, ◌+◌, ◌<◌, ◌≤◌, List, [], ◌∷◌, ◌++◌, length, map, All, Some, None, refl, sym, ap, subst}
+use Rattle.std.proofs.Common.{◌≡◌, ◌≢◌, ℕ, suc, ◌+◌, ◌<◌, ◌≤◌, List, [], ◌∷◌, length, map, All, Some, None, refl, sym, ap, subst}
 use Rattle.std.proofs.Common.{◌∙◌, inl, inr, arith}
 use Rattle.std.specs.Prelude.{Contains}
 use Rattle.std.specs.declared.option.Option.{Option}
@@ -14,19 +14,22 @@ use Rattle.un_domains.specs.OrderLaws.{Below-refl}
 use Rattle.un_tree.specs.declared.node.Node.{Node}
 use Rattle.un_tree.specs.declared.node.Node.TheVariants.{Branch, Closed, Open}
 use Rattle.un_branching.specs.declared.growth.Entry.{Entry}
+use Rattle.un_branching.specs.declared.growth.Link.{Link}
+use Rattle.un_branching.specs.declared.open_nodes.OpenNode.{OpenNode}
 use Rattle.un_branching.specs.declared.problem.Look.{Look}
 use Rattle.un_branching.specs.declared.problem.Look.TheVariants.{Failed}
 use Rattle.un_tree.specs.Boxes.{IsBox}
 use Rattle.un_tree.specs.Covered.{Stands, StandsIn}
 use Rattle.un_tree.specs.Waits.{Waiting, Whole, Visit, visits_of, after, IsStrict, IsStrictIn}
-use Rattle.un_branching.specs.Growths.{Listed, Stays, node_of, next_of, follow, listing, opened, one, count, blank}
+use Rattle.un_branching.specs.Growths.{HaveParents, Listed, Stays, node_of, next_of, follow, listing, opened, one, count, blank}
 use Rattle.un_tree.specs.Searched.{IsSearchedAt, IsSearched, IsOpenBox, IsBefore, IsBeforeIn, IsTree, HasAtLeast, HasLeast}
 use Rattle.un_branching.specs.Searched.{IsLook}
 use Rattle.un_tree.specs.Searched.{IsLowest, IsRefutation, IsStopped}
-use Rattle.un_branching.specs.Searching.{Waits, times, is_open, first_wait, order, Nodes, Noted, Searching, Taken}
+use Rattle.un_branching.specs.Queues.{order}
+use Rattle.un_branching.specs.Searching.{times, is_open, root_node, Nodes, Noted, Searching, Taken}
 use Rattle.un_branching.proofs.ListedLemmas.{one_same, one_other, listed_follow, listed_whole, listed_all, listed_some, listed_nodes}
 use Rattle.un_branching.proofs.BoxLemmas.{some_of, splits_box}
-use Rattle.un_branching.proofs.HeapLemmas.{take_out, taken_own}
+use Rattle.un_branching.proofs.HeapLemmas.{take_out}
 use Rattle.un_branching.proofs.StepLemmas.{open_is}
 use Rattle.std.specs.BinaryHeap.{IsUpperBound}
 
@@ -49,38 +52,51 @@ stays_listed es box i (x ∷ xs) (Whole b ∷ ws) h = (
 )
 
 module _ (root : Sets) (fix : Sets → Option Sets) (bound : Sets → ℕ → Type 0) where
-  pub begin : (e : Entry) (heap : List Waits) (w : Waits) → NoneEmpty root → IsOpenBox fix root → e.node ≡ Open → bound root w.0.0
-      → w.1 ≡ 0 → IsPermutation (w ∷ []) heap → Searching root fix bound (e ∷ []) heap
-  begin e heap w full choice is note at perm = record {
+  -- there is no Branch yet
+  no_branches : HaveParents root []
+  no_branches = record {
+    box = λ i. root;
+    earlier = λ i lt. absurd (omega (arith, lt));
+    known = λ i lt. absurd (omega (arith, lt));
+    boxes = λ i lt. absurd (omega (arith, lt));
+  }
+
+  abbrev Note : OpenNode → Type 0
+  Note = Noted root fix bound 1 (λ i. root) [] no_branches.box
+
+  pub begin : (e : Entry) (ws : List OpenNode) (w : OpenNode) → NoneEmpty root → IsOpenBox fix root → e.node ≡ Open → bound root w.least
+      → w.place ≡ 0 → w.link ≡ None → IsPermutation (w ∷ []) ws → Searching root fix bound (e ∷ []) [] ws
+  begin e ws w full choice is note at link perm = record {
     tree = record {
       grown = record {
         box = λ i. root;
         order = 0 ∷ [];
-        first = refl;
-        parent = λ i some lt. absurd (omega (arith, some, lt));
-        kids = λ i some lt. absurd (omega (arith, some, lt));
         listed = (refl, omega arith, refl, subst (λ (m : Node). after m (Whole root) [] ≡ []) (sym is) refl);
         long = refl;
         once = λ i lt. (let z : i ≡ 0 = omega (arith, lt) in subst (λ (j : ℕ). count j (0 ∷ []) ≡ 1) (sym z) (omega (arith, one_same 0)));
       };
       inside = λ i lt. (Below-refl root, full);
-      known = λ i some lt. absurd (omega (arith, some, lt));
       searched = λ i lt. subst (λ (m : Node). IsSearchedAt fix m root) (sym (node_is i lt)) choice;
       best = λ i j lt lt'. subst (λ (m : Node). IsBefore bound m root (node_of (e ∷ []) j) root) (sym (node_is i lt)) tt;
       odd = refl;
     };
+    branches = no_branches;
     counted = λ i. elim (cases_eq i 0) [
-      | inl z ↦ subst (λ (j : ℕ). times j heap
-          ≡ is_open (node_of (e ∷ []) j)) (sym z) (let s = sum_by_pushed (λ (y : Waits). one 0 y.1) w [] heap perm in let o : one 0 w.1
-          ≡ 1 = subst (λ (j : ℕ). one 0 j ≡ 1) (sym at) (one_same 0) in let h : times 0 heap ≡ 1 = omega (arith, s, o) in h
-          ∙ ap is_open (sym is))
-      | inr apart ↦ (let s = sum_by_pushed (λ (y : Waits). one i y.1) w [] heap perm in let o : one i w.1
-          ≡ 0 = one_other i w.1 (λ q. apart (q ∙ at)) in let h : times i heap ≡ 0 = omega (arith, s, o) in h
+      | inl z ↦ subst (λ (j : ℕ). times j ws
+          ≡ is_open (node_of (e ∷ []) j)) (sym z) (let s = sum_by_pushed (λ (y : OpenNode). one 0 y.place) w [] ws perm in
+          let o : one 0 w.place ≡ 1 = subst (λ (j : ℕ). one 0 j ≡ 1) (sym at) (one_same 0) in
+          let h : times 0 ws ≡ 1 = omega (arith, s, o) in h ∙ ap is_open (sym is))
+      | inr apart ↦ (let s = sum_by_pushed (λ (y : OpenNode). one i y.place) w [] ws perm in let o : one i w.place
+          ≡ 0 = one_other i w.place (λ q. apart (q ∙ at)) in let h : times i ws ≡ 0 = omega (arith, s, o) in h
           ∙ ap (λ (y : Entry). is_open y.node) (sym (get_or_past (e ∷ []) i blank (omega (arith, apart)))))
     ];
-    noted = All-permutation (Noted root fix bound (e ∷ []) (λ i. root)) (w ∷ []) heap perm
-        (All-cons (Noted root fix bound (e ∷ []) (λ i. root)) w [] (omega (arith, at), note)
-        (All-nil (Noted root fix bound (e ∷ []) (λ i. root))));
+    noted = All-permutation Note (w ∷ []) ws perm (All-cons Note w [] (record {
+      there = omega (arith, at);
+      cost = note;
+      earlier = rw link tt;
+      known = rw link tt;
+      led = rw link refl;
+    }) (All-nil Note));
   }
     where
       node_is : (i : ℕ) → i < 1 → node_of (e ∷ []) i ≡ Open
@@ -173,29 +189,31 @@ module _ (root : Sets) (fix : Sets → Option Sets) (bound : Sets → ℕ → Ty
   module _ (good : List ℕ → Type 0)
       (inside : (b f : Sets) → IsBox root b → fix b ≡ Some f → Below f b × NoneEmpty f)
       (keeps : (b : Sets) (x : List ℕ) → IsBox root b → IsIn x b → good x → fix b ≡ None → ⊥) where
-    pub none_open : (es : List Entry) (heap : List Waits) → Searching root fix bound es heap → heap ≡ [] → (i : ℕ)
-        → is_open (node_of es i) ≡ 0
-    none_open es heap h none i = sym (h.counted i) ∙ ap (times i) none
+    pub none_open : (es : List Entry) (bs : List (Option Link)) (ws : List OpenNode) → Searching root fix bound es bs ws → ws ≡ []
+        → (i : ℕ) → is_open (node_of es i) ≡ 0
+    none_open es bs ws h none i = sym (h.counted i) ∙ ap (times i) none
 
-    pub refutes : (es ts : List Entry) (heap : List Waits) (ns : List Node) (n : ℕ) → Searching root fix bound es heap → ts ≡ es
-        → ns ≡ listing ts → heap ≡ [] → length es ≤ n → IsRefutation root fix bound good n ns
-    refutes es ts heap ns n h same is none few =
+    pub refutes : (es ts : List Entry) (bs : List (Option Link)) (ws : List OpenNode) (ns : List Node) (n : ℕ)
+        → Searching root fix bound es bs ws → ts ≡ es → ns ≡ listing ts → ws ≡ [] → length es ≤ n
+        → IsRefutation root fix bound good n ns
+    refutes es ts bs ws ns n h same is none few =
         let e : listing es ≡ ns = sym (is ∙ ap listing same) in
         record {
           tree = subst (IsTree root fix bound good) e (tree_is es h.tree good inside keeps);
-          closed = subst (All (λ m. m ≢ Open)) e (tree_closed es h.tree (none_open es heap h none));
+          closed = subst (All (λ m. m ≢ Open)) e (tree_closed es h.tree (none_open es bs ws h none));
           few = (let l = ap length e in omega (arith, l, tree_long es h.tree, few));
         }
 
-    pub cuts : (es ts : List Entry) (heap : List Waits) (k : ℕ) (ns : List Node) (n low : ℕ) (t : Taken root fix bound es heap k)
-        → low ≡ t.own → ts ≡ es → ns ≡ listing ts → length es ≤ n → n < length es + 2 → IsStopped root fix bound good n ns low
-    cuts es ts heap k ns n low t own same is few most =
+    cuts : (es ts : List Entry) (bs : List (Option Link)) (ws : List OpenNode) (k : OpenNode) (ns : List Node) (n : ℕ)
+        → Taken root fix bound es bs ws k → ts ≡ es → ns ≡ listing ts → length es ≤ n → n < length es + 2
+        → IsStopped root fix bound good n ns k.least
+    cuts es ts bs ws k ns n t same is few most =
         let e : listing es ≡ ns = sym (is ∙ ap listing same) in
         let long : length ns ≡ length es = sym (ap length e) ∙ tree_long es t.tree in
-        let here : node_of es k ≡ Open = open_is (node_of es k) (omega (arith, t.counted k, one_same k)) in
+        let here : node_of es k.place ≡ Open = open_is (node_of es k.place) (omega (arith, t.counted k.place, one_same k.place)) in
         record {
           tree = subst (IsTree root fix bound good) e (tree_is es t.tree good inside keeps);
-          some = subst (λ (ms : List Node). Contains ms Open) e (tree_open es t.tree k t.there here);
+          some = subst (λ (ms : List Node). Contains ms Open) e (tree_open es t.tree k.place t.own.there here);
           many = record {
             odd = (let h = t.tree.odd in rw long h);
             within = omega (arith, long, few);
@@ -205,25 +223,28 @@ module _ (root : Sets) (fix : Sets → Option Sets) (bound : Sets → ℕ → Ty
               most,
             );
           };
-          lowest = subst (λ (ms : List Node). IsLowest bound (visits_of root ms) low) e
-              (subst (IsLowest bound (visits_of root (listing es)))
-              (sym own) (tree_lowest es t.tree good inside keeps k t.own t.there here t.is_own t.lowest));
+          lowest = subst (λ (ms : List Node). IsLowest bound (visits_of root ms) k.least) e
+              (tree_lowest es t.tree good inside keeps k.place k.least t.own.there here t.own.cost t.lowest);
         }
 
     -- a search that stops takes its lowest cost from what it took out
     pub stops : ((b c : Sets) (n m : ℕ) → IsBox root b → IsBox root c → Below c b → bound b n → bound c m → n ≤ m)
-        → (es ts : List Entry) (heap rest : List Waits) (e : Waits) (ns : List Node) (n : ℕ) → Searching root fix bound es heap
-        → IsPermutation heap (e ∷ rest) → IsUpperBound order e heap → ts ≡ es → ns ≡ listing ts → length es ≤ n → n < length es + 2
-        → IsStopped root fix bound good n ns e.0.0
-    stops rises es ts heap rest e ns n h perm up same is few most =
-        cuts es ts rest e.1 ns n e.0.0 (take_out root fix bound rises es heap rest e h perm up)
-        (sym (taken_own root fix bound rises es heap rest e h perm up)) same is few most
+        → (es ts : List Entry) (bs : List (Option Link)) (ws rest : List OpenNode) (k : OpenNode) (ns : List Node) (n : ℕ)
+        → Searching root fix bound es bs ws → IsPermutation ws (k ∷ rest) → IsUpperBound order k ws → ts ≡ es → ns ≡ listing ts
+        → length es ≤ n → n < length es + 2 → IsStopped root fix bound good n ns k.least
+    stops rises es ts bs ws rest k ns n h perm up same is few most =
+        cuts es ts bs rest k ns n (take_out root fix bound rises es bs ws rest k h perm up) same is few most
 
-  pub begins : (es : List Entry) (heap : List Waits) (low : ℕ) → NoneEmpty root → IsOpenBox fix root → es ≡ opened ∷ [] → bound root low
-      → IsPermutation (first_wait low ∷ []) heap → Searching root fix bound es heap × (length es ≡ 1) × (node_of es 0 ≡ Open)
-  begins es heap low full choice is note perm =
-      subst (λ (us : List Entry). Searching root fix bound us heap × (length us ≡ 1) × (node_of us 0 ≡ Open)) (sym is)
-      (begin opened heap (first_wait low) full choice refl note refl perm, refl, refl)
+  pub begins : (es : List Entry) (bs : List (Option Link)) (ws : List OpenNode) (low : ℕ) → NoneEmpty root → IsOpenBox fix root
+      → es ≡ opened ∷ [] → bs ≡ [] → bound root low → IsPermutation (root_node low ∷ []) ws
+      → Searching root fix bound es bs ws × (length es ≡ 1) × (node_of es 0 ≡ Open)
+  begins es bs ws low full choice is none note perm =
+      subst (λ (us : List Entry). Searching root fix bound us bs ws × (length us ≡ 1) × (node_of us 0 ≡ Open)) (sym is) (
+        subst (λ (vs : List (Option Link)). Searching root fix bound (opened ∷ []) vs ws) (sym none)
+            (begin opened ws (root_node low) full choice refl note refl refl perm),
+        refl,
+        refl,
+      )
 
   -- the tree of a root that fails
   pub fails : (good : List ℕ → Type 0) (ns : List Node) (n : ℕ) (look : Look)

@@ -1,5 +1,6 @@
 -- Walks along a tree that grows.
-use Rattle.std.proofs.Common.{◌≡◌, ℕ, zero, suc, ◌-◌, ◌<◌, List, [], ◌∷◌, ◌++◌, length, All, map, reverse, get_or, refl, sym, ap, subst}
+use Rattle.std.proofs.Common.{◌≡◌, ℕ, zero, suc, ◌+◌, ◌-◌, ◌<◌, List, [], ◌∷◌, ◌++◌, length, All, map, reverse, get_or, refl, sym, ap, subst}
+use Rattle.std.proofs.Common.{Option, Some, None}
 use Rattle.std.proofs.Common.{◌∙◌, append_assoc, arith}
 use Rattle.std.proofs.lemmas.List.{get_or_default, reverse-append}
 use Rattle.std.proofs.lemmas.List.Elements.{All-push}
@@ -7,8 +8,10 @@ use Rattle.un_domains.specs.Sets.{Sets}
 use Rattle.un_tree.specs.declared.node.Node.{Node}
 use Rattle.un_tree.specs.declared.node.Decision.{Decision}
 use Rattle.un_branching.specs.declared.growth.Entry.{Entry}
+use Rattle.un_branching.specs.declared.growth.Link.{Link}
 use Rattle.un_tree.specs.Boxes.{reached, decided}
-use Rattle.un_branching.specs.Growths.{IsChild, entry_at, node_of, next_of, follow, Stays, blank}
+use Rattle.un_branching.proofs.LinkLemmas.{earlier_more}
+use Rattle.un_branching.specs.Growths.{link_at, box_under, IsEarlier, IsKnown, node_of, next_of, follow, Stays, blank}
 
 -- the box after decisions, the last one first
 abbrev pub back : Sets → List Decision → Sets
@@ -24,37 +27,48 @@ reached-reverse b [] = refl
 reached-reverse b (d ∷ ds) = ap (reached b) (reverse-append (d ∷ []) ds)
     ∙ (reached-push b (reverse ds) d ∙ ap (decided d) (reached-reverse b ds))
 
--- the decisions so far lead from the place at hand
-pub record Leads (tree : List Entry) (place at : ℕ) (ds : List Decision) : Type 0 where
-  pub there : at < length tree
-  pub leads : (box : ℕ → Sets) → ((i : ℕ) → 0 < i → i < length tree → IsChild tree box i) → back (box at) ds ≡ box place
-  pub known : (n : ℕ) → ((i : ℕ) → 0 < i → i < length tree → (entry_at tree i).decision.var.0 < n) → All (λ d. d.var.0 < n) ds
+-- the decisions so far lead from the node with the link `at` to the one with the link `link`
+pub record Leads (bs : List (Option Link)) (link at : Option Link) (ds : List Decision) : Type 0 where
+  pub there : IsEarlier (length bs) at
+  pub leads : (root : Sets) (box : ℕ → Sets) → ((i : ℕ) → i < length bs → box i ≡ box_under root box (link_at bs i))
+      → back (box_under root box at) ds ≡ box_under root box link
+  pub known : (n : ℕ) → ((i : ℕ) → i < length bs → IsKnown n (link_at bs i)) → IsKnown n link → All (λ d. d.var.0 < n) ds × IsKnown n at
+
+-- how far it is to the root, at most
+abbrev pub far : Option Link → ℕ
+far None = 0
+far (Some l) = l.parent + 1
+
+pub far_less : (n : ℕ) (link : Option Link) → IsEarlier n link → far link < n + 1
+far_less n None h = omega arith
+far_less n (Some l) h = omega (arith, h)
 
 back-push : (b : Sets) (ds : List Decision) (d : Decision) → back b (ds ++ d ∷ []) ≡ back (decided d b) ds
 back-push b [] d = refl
 back-push b (e ∷ ds) d = ap (decided e) (back-push b ds d)
 
-pub leads_more : (tree : List Entry) (place at : ℕ) (ds es : List Decision) (d : Entry) → 0 < at
-    → ((i : ℕ) → 0 < i → i < length tree → (entry_at tree i).parent < i) → Leads tree place at ds
-    → es ≡ ds ++ (get_or tree at d).decision ∷ [] → Leads tree place (get_or tree at d).parent es
-leads_more tree place at ds es d some child h e = rw (get_or_default tree at d blank h.there) (record {
-  there = let up = child at some h.there in omega (arith, up, h.there);
-  known = λ n all.
-      let e' : es ≡ ds ++ (entry_at tree at).decision ∷ [] = subst (λ (n : Entry). es
-      ≡ ds ++ n.decision ∷ []) (get_or_default tree at d blank h.there) e in
-      subst (All (λ (w : Decision). w.var.0 < n)) (sym e') (All-push (λ (w : Decision). w.var.0 < n) ds (entry_at tree at).decision
-      (h.known n all) (all at some h.there));
-  leads = λ box kids.
-      let e' : es ≡ ds ++ (entry_at tree at).decision ∷ [] = subst (λ (n : Entry). es
-      ≡ ds ++ n.decision ∷ []) (get_or_default tree at d blank h.there) e in
-      ap (back (box (entry_at tree at).parent)) e' ∙ (back-push (box (entry_at tree at).parent) ds (entry_at tree at).decision
-      ∙ (ap (λ (b : Sets). back b ds) (sym (kids at some h.there)) ∙ h.leads box kids));
-})
+pub leads_more : (bs : List (Option Link)) (link at : Option Link) (l : Link) (ds es : List Decision) (d : Option Link)
+    → ((i : ℕ) → i < length bs → IsEarlier i (link_at bs i)) → at ≡ Some l → Leads bs link at ds → es ≡ ds ++ l.decision ∷ []
+    → Leads bs link (get_or bs l.parent d) es
+leads_more bs link at l ds es d earlier is h e =
+    let h' : Leads bs link (Some l) ds = subst (λ (o : Option Link). Leads bs link o ds) is h in
+    rw (get_or_default bs l.parent d None h'.there) (record {
+      there = earlier_more l.parent (length bs) (link_at bs l.parent) (omega (arith, h'.there)) (earlier l.parent h'.there);
+      leads = λ root box all.
+          ap (back (box_under root box (link_at bs l.parent))) e ∙ (back-push (box_under root box (link_at bs l.parent)) ds l.decision
+          ∙ (ap (λ (b : Sets). back (decided l.decision b) ds) (sym (all l.parent h'.there)) ∙ h'.leads root box all));
+      known = λ n all mine.
+          let so = h'.known n all mine in (
+            subst (All (λ (w : Decision). w.var.0 < n)) (sym e) (All-push (λ (w : Decision). w.var.0 < n) ds l.decision so.0 so.1),
+            all l.parent h'.there,
+          );
+    })
 
-pub leads_all : (tree : List Entry) (place at : ℕ) (ds ps : List Decision) → at ≡ 0 → Leads tree place at ds → ps ≡ reverse ds
-    → (root : Sets) (box : ℕ → Sets) → box 0 ≡ root → ((i : ℕ) → 0 < i → i < length tree → IsChild tree box i) → reached root ps ≡ box place
-leads_all tree place at ds ps none h turned root box first kids = ap (reached root) turned
-    ∙ (reached-reverse root ds ∙ (ap (λ (b : Sets). back b ds) (sym first ∙ ap box (sym none)) ∙ h.leads box kids))
+pub leads_all : (bs : List (Option Link)) (link at : Option Link) (ds ps : List Decision) → ((l : Link) → at ≡ Some l → ⊥)
+    → Leads bs link at ds → ps ≡ reverse ds → (root : Sets) (box : ℕ → Sets)
+    → ((i : ℕ) → i < length bs → box i ≡ box_under root box (link_at bs i)) → reached root ps ≡ box_under root box link
+leads_all bs link (Some l) ds ps last h turned root box all = absurd (last l refl)
+leads_all bs link None ds ps last h turned root box all = ap (reached root) turned ∙ (reached-reverse root ds ∙ h.leads root box all)
 
 -- the nodes so far and those that are left are all
 pub record Lists (tree : List Entry) (left at : ℕ) (nodes : List Node) : Type 0 where

@@ -1,21 +1,22 @@
--- A tree that grows, as a list in which each node knows the next one.
+-- A tree that grows: a list in which each node knows the next one, and the parents of its Branches.
 use Rattle.std.specs.Prelude.{ℕ, zero, suc, ◌≡◌, ◌+◌, ◌<◌, cond, nat_eq, List, [], ◌∷◌, ◌++◌, length, map, slice_index_or, slice_set, ⊤}
+use Rattle.std.specs.Prelude.{Option, Some, None, IfSome}
 use Rattle.un_domains.specs.Sets.{Sets}
 use Rattle.un_base.specs.declared.ids.VarId.{VarId}
 use Rattle.un_prop.specs.declared.side.Side.{Side}
-use Rattle.un_prop.specs.declared.side.Side.TheVariants.{AtMost, Above}
 use Rattle.un_tree.specs.declared.node.Node.{Node}
 use Rattle.un_tree.specs.declared.node.Node.TheVariants.{Branch, Closed, Open}
 use Rattle.un_branching.specs.declared.growth.Entry.{Entry}
+use Rattle.un_branching.specs.declared.growth.Link.{Link}
 use Rattle.un_tree.specs.Boxes.{decided}
 use Rattle.un_tree.specs.Waits.{Waiting, Whole, after}
 
 abbrev pub blank : Entry
-blank = record { node = Closed; next = 0; parent = 0; decision = record { var = record { 0 = 0 }; val = 0; side = AtMost } }
+blank = record { node = Closed; next = 0 }
 
--- the root, which nothing was decided before
+-- the root
 abbrev pub opened : Entry
-opened = record { node = Open; next = 0; parent = 0; decision = record { var = record { 0 = 0 }; val = 0; side = AtMost } }
+opened = record { node = Open; next = 0 }
 
 abbrev pub entry_at : List Entry → ℕ → Entry
 entry_at es i = slice_index_or es i blank
@@ -40,25 +41,44 @@ abbrev pub Stays : List Entry → ℕ → ℕ → Type 0
 Stays es zero i = ⊤
 Stays es (suc n) i = (i < length es) × Stays es n (next_of es i)
 
--- a node comes from an earlier one, and its box is a side of that one's
-abbrev pub IsChild : List Entry → (ℕ → Sets) → ℕ → Type 0
-IsChild es box i = box i ≡ decided (entry_at es i).decision (box (entry_at es i).parent)
+-- a leaf, before the place that comes next
+abbrev pub leaf_at : Node → ℕ → Entry
+leaf_at n next = record { node = n; next = next }
 
-abbrev pub leaf_at : List Entry → ℕ → VarId → ℕ → Node → Side → ℕ → Entry
-leaf_at es k v x n side next = record { node = n; next = next; parent = k; decision = record { var = v; val = x; side = side } }
-
-abbrev pub branch_at : List Entry → ℕ → VarId → ℕ → Entry
-branch_at es k v x = record {
-  node = Branch v x;
-  next = length es + 1;
-  parent = (entry_at es k).parent;
-  decision = (entry_at es k).decision;
-}
+abbrev pub branch_at : List Entry → VarId → ℕ → Entry
+branch_at es v x = record { node = Branch v x; next = length es + 1 }
 
 -- a branch and its leaves in the place of a leaf
 abbrev pub branched : List Entry → ℕ → VarId → ℕ → Node → Node → List Entry
-branched es k v x l r =
-    slice_set ((es ++ leaf_at es k v x r Above (next_of es k) ∷ []) ++ leaf_at es k v x l AtMost (length es) ∷ []) k (branch_at es k v x)
+branched es k v x l r = slice_set ((es ++ leaf_at r (next_of es k) ∷ []) ++ leaf_at l (length es) ∷ []) k (branch_at es v x)
+
+-- the link of a child to the Branch with this number
+abbrev pub link_to : ℕ → VarId → ℕ → Side → Link
+link_to parent v x side = record { parent = parent; decision = record { var = v; val = x; side = side } }
+
+-- the link of the Branch with this number
+abbrev pub link_at : List (Option Link) → ℕ → Option Link
+link_at bs i = slice_index_or bs i None
+
+-- its parent, if it has one, is one of the first n Branches
+abbrev pub IsEarlier : ℕ → Option Link → Type 0
+IsEarlier n link = IfSome link (λ l. l.parent < n)
+
+-- its decision, if it has one, is on one of the first n variables
+abbrev pub IsKnown : ℕ → Option Link → Type 0
+IsKnown n link = IfSome link (λ l. l.decision.var.0 < n)
+
+-- the box of a node with this link, where the Branches have these boxes
+abbrev pub box_under : Sets → (ℕ → Sets) → Option Link → Sets
+box_under root box None = root
+box_under root box (Some l) = decided l.decision (box l.parent)
+
+-- each Branch but the root has an earlier parent, and a decision on a variable that is there, which makes its box of its parent's
+pub record HaveParents (root : Sets) (bs : List (Option Link)) : Type 0 where
+  pub box : ℕ → Sets
+  pub earlier : (i : ℕ) → i < length bs → IsEarlier i (link_at bs i)
+  pub known : (i : ℕ) → i < length bs → IsKnown (length root) (link_at bs i)
+  pub boxes : (i : ℕ) → i < length bs → box i ≡ box_under root box (link_at bs i)
 
 abbrev pub one : ℕ → ℕ → ℕ
 one i x = cond (nat_eq i x) 1 0
@@ -79,9 +99,6 @@ Listed node next box n i (x ∷ xs) (Whole b ∷ ws) = (i ≡ x) × (x < n) × (
 pub record Grown (root : Sets) (es : List Entry) : Type 0 where
   pub box : ℕ → Sets
   pub order : List ℕ
-  pub first : box 0 ≡ root
-  pub parent : (i : ℕ) → 0 < i → i < length es → (entry_at es i).parent < i
-  pub kids : (i : ℕ) → 0 < i → i < length es → IsChild es box i
   pub listed : Listed (node_of es) (next_of es) box (length es) 0 order (Whole root ∷ [])
   pub long : length order ≡ length es
   pub once : (i : ℕ) → i < length es → count i order ≡ 1

@@ -1,3 +1,4 @@
 pub mod Growths
+pub mod Queues
 pub mod Searched
 pub mod Searching

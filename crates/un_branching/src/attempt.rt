@@ -2,18 +2,17 @@
 
 ghost use Rattle.std.specs.Prelude.{◌≡◌, ℕ, ◌+◌, ◌<◌, ◌≤◌, ◌^◌, List, [], ◌∷◌, length, IfOk, MatchOption};
 ghost use Rattle.std.specs.List.Sorted.{IsPermutation};
-ghost use Rattle.std.specs.BinaryHeap.{heap_items, IsHeap};
 ghost use Rattle.un_domains.specs.Sets.{NoneEmpty};
 ghost use Rattle.un_tree.specs.Searched.{IsOpenBox};
 ghost use Rattle.un_branching.specs.Searched.{IsTried, IsByRoot};
-ghost use Rattle.un_branching.specs.Searching.{Enters, Searching, Taken, first_wait, order};
+ghost use Rattle.un_branching.specs.Searching.{Enters, Searching, Taken, root_node};
 
-use crate::growth::{Entry, begin, branch, leaf_alone, list, path_to};
+use crate::growth::{Growth, Link, begin, branch, leaf_alone, list, path_to, side_of};
+use crate::open_nodes::{OpenNode, OpenNodes};
 use crate::problem::{Expansion, Look, Problem};
 use std::alloc::{AllocError, Global};
-use std::cmp::Reverse;
-use std::collections::BinaryHeap;
 use un_base::memory_error::NoMemory;
+use un_prop::side::Side;
 use un_tree::node::{Node, Tree};
 
 /// What an attempt found: a solution, a tree without an open leaf, or a tree of all nodes that it was given, with the least cost
@@ -32,20 +31,19 @@ pub enum Entered {
     Solution(Vec<u32>),
 }
 
-/// Puts the place of a new leaf among what waits, where it is open.
-fn enter(
-    heap: &mut BinaryHeap<(Reverse<u64>, usize)>,
-    look: Look,
-    place: usize,
-) -> Result<Entered, AllocError>
-    ensures entered { IfOk result (Enters look place (heap_items heap.old) (heap_items heap.new)) }
-    ensures ordered { IsHeap order (heap_items heap.old) → IfOk result (λ r. IsHeap order (heap_items heap.new)) }
+/// Puts a new leaf among the open nodes, where it is open.
+fn enter(open: &mut OpenNodes, look: Look, place: usize, link: Link) -> Result<Entered, AllocError>
+    ensures { IfOk result (Enters look place link open.old open.new) }
 {
     match look {
         Look::Failed => Ok(Entered::Leaf(Node::Closed)),
         Look::Found(solution) => Ok(Entered::Solution(solution)),
         Look::Open(least) => {
-            heap.push((Reverse(least), place))?;
+            open.push(OpenNode {
+                least,
+                place,
+                link: Some(link),
+            })?;
             Ok(Entered::Leaf(Node::Open))
         }
     }
@@ -56,49 +54,62 @@ fn step<P: Problem>(
     alloc: Global,
     problem: &P,
     room: &mut P::Room,
-    tree: &mut Vec<Entry>,
-    heap: &mut BinaryHeap<(Reverse<u64>, usize)>,
-    place: usize,
+    tree: &mut Growth,
+    open: &mut OpenNodes,
+    taken: OpenNode,
 ) -> Result<Option<Vec<u32>>, NoMemory>
     requires ready { P.is_ready problem.now room.old }
-    requires taken { Taken (P.root problem.now) (P.fix problem.now) (P.least problem.now) tree.old.items (heap_items heap.old) place }
-    requires ordered { IsHeap order (heap_items heap.old) }
-    requires space { length tree.old.items + 2 < 2 ^ 32 }
+    requires taken { Taken (P.root problem.now) (P.fix problem.now) (P.least problem.now)
+        tree.old.nodes.items tree.old.branches.items open.old taken }
+    requires space { length tree.old.nodes.items + 2 < 2 ^ 32 }
     ensures ready { IfOk result (λ r. P.is_ready problem.now room.new) }
-    ensures ordered { IfOk result (λ r. IsHeap order (heap_items heap.new)) }
     ensures went { IfOk result (λ r. MatchOption r
-        (Searching (P.root problem.now) (P.fix problem.now) (P.least problem.now) tree.new.items (heap_items heap.new)
-        × (length tree.new.items ≡ length tree.old.items + 2))
+        (Searching (P.root problem.now) (P.fix problem.now) (P.least problem.now) tree.new.nodes.items tree.new.branches.items open.new
+        × (length tree.new.nodes.items ≡ length tree.old.nodes.items + 2))
         (λ x. P.is_good problem.now x.items)) }
 {
-    let path = path_to(alloc, tree.as_slice(), place)?;
+    let path = path_to(alloc, tree.branches.as_slice(), taken.link)?;
     let Expansion {
         var,
         val,
         left,
         right,
     } = problem.expand(room, path.as_slice())?;
-    let count = tree.len();
-    let right_leaf = match enter(heap, right, count)? {
+    let count = tree.nodes.len();
+    let parent = tree.branches.len();
+    let above = side_of(parent, var, val, Side::Above);
+    let right_leaf = match enter(open, right, count, above)? {
         Entered::Solution(solution) => return Ok(Some(solution)),
         Entered::Leaf(node) => node,
     };
-    let left_leaf = match enter(heap, left, count + 1)? {
+    let at_most = side_of(parent, var, val, Side::AtMost);
+    let left_leaf = match enter(open, left, count + 1, at_most)? {
         Entered::Solution(solution) => return Ok(Some(solution)),
         Entered::Leaf(node) => node,
     };
-    branch(tree, place, var, val, left_leaf, right_leaf)?;
+    branch(
+        tree,
+        taken.place,
+        taken.link,
+        var,
+        val,
+        left_leaf,
+        right_leaf,
+    )?;
     Ok(None)
 }
 
 /// The first box waits.
-fn first_waits(alloc: Global, least: u64) -> Result<BinaryHeap<(Reverse<u64>, usize)>, AllocError>
-    ensures waits { IfOk result (λ heap. IsPermutation (first_wait least ∷ []) (heap_items heap)) }
-    ensures ordered { IfOk result (λ heap. IsHeap order (heap_items heap)) }
+fn first_waits(alloc: Global, least: u64) -> Result<OpenNodes, AllocError>
+    ensures { IfOk result (IsPermutation (root_node least ∷ [])) }
 {
-    let mut heap = BinaryHeap::new(alloc);
-    heap.push((Reverse(least), 0))?;
-    Ok(heap)
+    let mut open = OpenNodes::new(alloc);
+    open.push(OpenNode {
+        least,
+        place: 0,
+        link: None,
+    })?;
+    Ok(open)
 }
 
 /// Searches from an open first box.
@@ -120,19 +131,19 @@ fn search<P: Problem>(
         (IsByRoot (P.root problem.now) (P.fix problem.now) (P.least problem.now) (P.is_good problem.now)) }
 {
     let mut tree = begin(alloc)?;
-    let mut heap = first_waits(alloc, least)?;
+    let mut open = first_waits(alloc, least)?;
     loop {
-        let top = match heap.pop() {
-            None => return Ok(Tried::Refuted(list(alloc, tree.as_slice())?)),
+        let top = match open.pop() {
+            None => return Ok(Tried::Refuted(list(alloc, tree.nodes.as_slice())?)),
             Some(top) => top,
         };
-        if tree.len() + 2 > nodes as usize {
+        if tree.nodes.len() + 2 > nodes as usize {
             return Ok(Tried::Cut {
-                tree: list(alloc, tree.as_slice())?,
-                least: top.0.0,
+                tree: list(alloc, tree.nodes.as_slice())?,
+                least: top.least,
             });
         }
-        match step(alloc, problem, room, &mut tree, &mut heap, top.1)? {
+        match step(alloc, problem, room, &mut tree, &mut open, top)? {
             None => {}
             Some(solution) => return Ok(Tried::Found(solution)),
         }

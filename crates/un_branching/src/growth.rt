@@ -1,9 +1,9 @@
-//! A tree that grows: a list in which each node knows the next one.
+//! A tree that grows: a list of nodes in which each knows the next one, and the parents of its Branches.
 
-ghost use Rattle.std.specs.Prelude.{◌≡◌, ℕ, ◌+◌, ◌<◌, ◌^◌, All, [], ◌∷◌, length, OnOk, IfOk};
+ghost use Rattle.std.specs.Prelude.{◌≡◌, ℕ, ◌+◌, ◌<◌, ◌^◌, All, [], ◌∷◌, ◌++◌, length, OnOk, IfOk, None};
 ghost use Rattle.un_domains.specs.Sets.{Sets};
 ghost use Rattle.un_tree.specs.Boxes.{reached};
-ghost use Rattle.un_branching.specs.Growths.{entry_at, opened, listing, IsChild, branched, Stays};
+ghost use Rattle.un_branching.specs.Growths.{link_at, link_to, box_under, IsEarlier, IsKnown, opened, listing, branched, Stays};
 
 use std::alloc::{AllocError, Global};
 use un_base::ids::VarId;
@@ -17,92 +17,101 @@ pub struct Entry {
     pub node: Node,
     /// The place in the list of the node that comes next in preorder; behind the last node it is 0.
     pub next: usize,
-    /// The place in the list of the Branch above it; 0 for the root, which has none.
+}
+
+/// The link of a node to its parent, the Branch above it.
+#[derive(Clone, Copy)]
+pub struct Link {
+    /// The number of its parent, in the order in which open nodes became Branches.
     pub parent: usize,
-    /// The decision that leads to it from its parent; for the root one that means nothing.
+    /// The decision that leads from its parent to the node.
     pub decision: Decision,
 }
 
+/// A tree that grows.
+#[derive(Drop)]
+pub struct Growth {
+    /// Its nodes, in the order in which they were made.
+    pub nodes: Vec<Entry>,
+    /// The link of each Branch, in the order in which open nodes became Branches; the root has none.
+    pub branches: Vec<Option<Link>>,
+}
+
 /// The tree of an open root.
-pub fn begin(alloc: Global) -> Result<Vec<Entry>, AllocError>
-    ensures { IfOk result (λ tree. tree.items ≡ opened ∷ []) }
+pub fn begin(alloc: Global) -> Result<Growth, AllocError>
+    ensures nodes { IfOk result (λ tree. tree.nodes.items ≡ opened ∷ []) }
+    ensures branches { IfOk result (λ tree. tree.branches.items ≡ []) }
 {
-    let mut tree = Vec::new(alloc);
-    let side = Side::AtMost;
-    tree.push(Entry {
+    let mut nodes = Vec::new(alloc);
+    nodes.push(Entry {
         node: Node::Open,
         next: 0,
-        parent: 0,
-        decision: Decision {
-            var: VarId(0),
-            val: 0,
-            side,
-        },
     })?;
-    Ok(tree)
+    let branches = Vec::new(alloc);
+    Ok(Growth { nodes, branches })
+}
+
+/// The link of a child to the Branch with this number.
+pub fn side_of(parent: usize, var: VarId, val: u32, side: Side) -> Link
+    ensures { result ≡ link_to parent var val side }
+{
+    Link {
+        parent,
+        decision: Decision { var, val, side },
+    }
 }
 
 /// The decisions that lead to a node.
-pub fn path_to(alloc: Global, tree: &[Entry], place: usize) -> Result<Vec<Decision>, AllocError>
-    requires there { place < length tree.now }
-    requires child { (i : ℕ) → 0 < i → i < length tree.now → (entry_at tree.now i).parent < i }
-    ensures leads { IfOk result (λ path. (root : Sets) (box : ℕ → Sets) → box 0 ≡ root
-        → ((i : ℕ) → 0 < i → i < length tree.now → IsChild tree.now box i) → reached root path.items ≡ box place) }
-    ensures known { IfOk result (λ path. (n : ℕ) → ((i : ℕ) → 0 < i → i < length tree.now → (entry_at tree.now i).decision.var.0 < n)
-        → All (λ d. d.var.0 < n) path.items) }
+pub fn path_to(
+    alloc: Global,
+    branches: &[Option<Link>],
+    link: Option<Link>,
+) -> Result<Vec<Decision>, AllocError>
+    requires earlier { (i : ℕ) → i < length branches.now → IsEarlier i (link_at branches.now i) }
+    requires there { IsEarlier (length branches.now) link }
+    ensures leads { IfOk result (λ path. (root : Sets) (box : ℕ → Sets)
+        → ((i : ℕ) → i < length branches.now → box i ≡ box_under root box (link_at branches.now i))
+        → reached root path.items ≡ box_under root box link) }
+    ensures known { IfOk result (λ path. (n : ℕ) → ((i : ℕ) → i < length branches.now → IsKnown n (link_at branches.now i))
+        → IsKnown n link → All (λ d. d.var.0 < n) path.items) }
 {
     let mut path = Vec::new(alloc);
-    let mut at = place;
-    while at > 0 {
-        let entry = tree[at];
-        path.push(entry.decision)?;
-        at = entry.parent;
+    let mut at = link;
+    while let Some(above) = at {
+        path.push(above.decision)?;
+        at = branches[above.parent];
     }
     path.reverse();
     Ok(path)
 }
 
-/// Puts a Branch and its two leaves in the place of a leaf.
+/// Puts a Branch and its two leaves in the place of an open leaf with this link.
 pub fn branch(
-    tree: &mut Vec<Entry>,
+    tree: &mut Growth,
     place: usize,
+    link: Option<Link>,
     var: VarId,
     val: u32,
     left: Node,
     right: Node,
 ) -> Result<(), AllocError>
-    requires there { place < length tree.old.items }
-    requires room { length tree.old.items + 2 < 2 ^ 32 }
-    ensures { OnOk result (tree.new.items ≡ branched tree.old.items place var val left right) }
+    requires there { place < length tree.old.nodes.items }
+    requires room { length tree.old.nodes.items + 2 < 2 ^ 32 }
+    ensures nodes { OnOk result (tree.new.nodes.items ≡ branched tree.old.nodes.items place var val left right) }
+    ensures branches { OnOk result (tree.new.branches.items ≡ tree.old.branches.items ++ link ∷ []) }
 {
-    let old = tree[place];
-    let count = tree.len();
-    tree.push(Entry {
-        node: right,
-        next: old.next,
-        parent: place,
-        decision: Decision {
-            var,
-            val,
-            side: Side::Above,
-        },
-    })?;
-    tree.push(Entry {
+    let next = tree.nodes[place].next;
+    let count = tree.nodes.len();
+    tree.nodes.push(Entry { node: right, next })?;
+    tree.nodes.push(Entry {
         node: left,
         next: count,
-        parent: place,
-        decision: Decision {
-            var,
-            val,
-            side: Side::AtMost,
-        },
     })?;
-    tree[place] = Entry {
+    tree.nodes[place] = Entry {
         node: Node::Branch { var, val },
         next: count + 1,
-        parent: old.parent,
-        decision: old.decision,
     };
+    tree.branches.push(link)?;
     Ok(())
 }
 

@@ -3,4 +3,5 @@
 
 pub mod attempt;
 pub mod growth;
+mod open_nodes;
 pub mod problem;

@@ -1,6 +1,4 @@
-use Rattle.std.proofs.Common.{◌≡◌, List, [], length, refl, sym, subst, arith}
-use Rattle.std.proofs.lemmas.List.{nil_from_length}
-use Rattle.std.specs.BinaryHeap.{heap_items}
+use Rattle.std.proofs.Common.{List, length, sym, subst, arith}
 use Rattle.un_branching.specs.declared.growth.Entry.{Entry}
 use Rattle.un_branching.specs.Growths.{Stays}
 use Rattle.un_branching.proofs.HeapLemmas.{take_out}
@@ -11,12 +9,11 @@ pub loop-alloc-init : goal.loop-alloc-init
 loop-alloc-init g c =
     let P = g.P.Problem in
     let p = c.args.problem.now in
-    let b = begins (P.root p) (P.fix p) (P.least p) _ _ _ c.requires.full c.requires.choice c.in_ok-tree.ensures c.requires.least
-    c.in_ok-heap.ensures.waits in
+    let b = begins (P.root p) (P.fix p) (P.least p) _ _ _ _ c.requires.full c.requires.choice c.in_ok-tree.ensures.nodes
+    c.in_ok-tree.ensures.branches c.requires.least c.in_ok-open.ensures in
     record {
       ready = c.requires.ready;
       sofar = b.0;
-      ordered = c.in_ok-heap.ensures.ordered;
       within = omega (arith, b.1, c.requires.some);
       fresh = λ e. b.2;
     }
@@ -33,22 +30,20 @@ returns-in-None-clause-tried g c =
     let P = g.P.Problem in
     let m = g.met.P.Problem in
     let p = c.args.problem.now in
-    let none : heap_items c.loop-alloc.heap ≡ [] = nil_from_length _ (omega (arith, c.in-None.ensures.none)) in
-    refutes (P.root p) (P.fix p) (P.least p) (P.is_good p) (m.inside p) (m.keeps p) _ _ _ _ _ c.loop-alloc.invariant.sofar
-    c.as_slice.ensures.value c.in_ok-list-in-None.ensures none c.loop-alloc.invariant.within
+    refutes (P.root p) (P.fix p) (P.least p) (P.is_good p) (m.inside p) (m.keeps p) _ _ _ _ _ _ c.loop-alloc.invariant.sofar
+    c.as_slice.ensures.value c.in_ok-list-in-None.ensures c.in-None.ensures.none c.loop-alloc.invariant.within
 
 pub returns-in-None-clause-first : goal.returns-in-None-clause-first
 returns-in-None-clause-first g c few =
     let P = g.P.Problem in
     let m = g.met.P.Problem in
     let p = c.args.problem.now in
-    let none : heap_items c.loop-alloc.heap ≡ [] = nil_from_length _ (omega (arith, c.in-None.ensures.none)) in
     let i = c.loop-alloc.invariant in
     absurd (fresh_closed (P.root p) (P.fix p) (P.least p) _ i.sofar.tree i.fresh (omega (
       arith,
       few,
       i.within,
-    )) (none_open (P.root p) (P.fix p) (P.least p) (P.is_good p) (m.inside p) (m.keeps p) _ _ i.sofar none))
+    )) (none_open (P.root p) (P.fix p) (P.least p) (P.is_good p) (m.inside p) (m.keeps p) _ _ _ i.sofar c.in-None.ensures.none))
 
 pub list-requires-then-len-nodes : goal.list-requires-then-len-nodes
 list-requires-then-len-nodes g c =
@@ -63,8 +58,8 @@ returns-then-len-nodes-clause-tried g c =
     let m = g.met.P.Problem in
     let p = c.args.problem.now in
     let i = c.loop-alloc.invariant in
-    stops (P.root p) (P.fix p) (P.least p) (P.is_good p) (m.inside p) (m.keeps p) (m.rises p) _ _ _ _ c.in-Some.top _ _ i.sofar
-    c.in-Some.ensures.permutation (c.in-Some.ensures.heap_order i.ordered).1 c.as_slice-then-len-nodes.ensures.value c.in_ok-list.ensures
+    stops (P.root p) (P.fix p) (P.least p) (P.is_good p) (m.inside p) (m.keeps p) (m.rises p) _ _ _ _ _ c.in-Some.top _ _ i.sofar
+    c.in-Some.ensures.rest c.in-Some.ensures.best c.as_slice-then-len-nodes.ensures.value c.in_ok-list.ensures
     i.within (omega arith)
 
 pub step-requires-clause-taken : goal.step-requires-clause-taken
@@ -72,5 +67,5 @@ step-requires-clause-taken g c =
     let P = g.P.Problem in
     let p = c.args.problem.now in
     let i = c.loop-alloc.invariant in
-    take_out (P.root p) (P.fix p) (P.least p) (g.met.P.Problem.rises p) _ _ _ c.in-Some.top i.sofar c.in-Some.ensures.permutation
-    (c.in-Some.ensures.heap_order i.ordered).1
+    take_out (P.root p) (P.fix p) (P.least p) (g.met.P.Problem.rises p) _ _ _ _ c.in-Some.top i.sofar c.in-Some.ensures.rest
+    c.in-Some.ensures.best
