@@ -3,7 +3,7 @@
 ghost use Rattle.std.specs.Prelude.{IfOk};
 ghost use Rattle.un_model.specs.Options.{AreOptions};
 
-use crate::rows::{cut, number, number_at};
+use crate::rows::{cut, named, number, number_at};
 use std::alloc::Global;
 use un_base::memory_error::NoMemory;
 use un_base::name::Name;
@@ -230,21 +230,21 @@ fn is_told(alloc: Global, f: &Function, row: &[u8]) -> Result<bool, NoMemory> {
     is_wanted(alloc, told, wanted)
 }
 
-/// Whether each row has its answer.
-fn all_told(alloc: Global) -> Result<bool, NoMemory> {
+/// The first row whose answer is another, if there is one.
+fn first_wrong(alloc: Global) -> Result<Option<&'static [u8]>, NoMemory> {
     let Ok(f) = read_function(alloc, FUNCTION) else {
         return Err(NoMemory);
     };
     for row in REPORTS.split(|b| *b == b'|') {
         if !is_told(alloc, &f, row)? {
-            return Ok(false);
+            return Ok(Some(row));
         }
     }
-    Ok(true)
+    Ok(None)
 }
 
 #[test]
 fn changed_reports(rt: HostRuntime) {
-    let well = matches!(all_told(rt.alloc()), Ok(true));
-    assert!(rt; well);
+    let wrong = named(first_wrong(rt.alloc()));
+    assert!(rt; wrong.is_empty(), "{wrong}");
 }

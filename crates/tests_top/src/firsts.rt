@@ -1,6 +1,6 @@
 //! First solutions: what they cost on functions whose least cost was worked out by hand.
 
-use crate::rows::all_answered;
+use crate::rows::wrong_row;
 use crate::searches::{model_under, nodes, options, put_part};
 use std::alloc::Global;
 use un_base::memory_error::NoMemory;
@@ -119,6 +119,6 @@ pub(crate) fn put_first(
 
 #[test]
 fn first_solutions_cost_the_least(rt: HostRuntime) {
-    let well = matches!(all_answered(rt.alloc(), FIRSTS), Ok(true));
-    assert!(rt; well);
+    let wrong = wrong_row(rt.alloc(), FIRSTS);
+    assert!(rt; wrong.is_empty(), "{wrong}");
 }

@@ -1,17 +1,35 @@
-//! The check of trees of small functions under a limit on the cost, or under none: values from outside, made from the rules of trees alone.
+//! The check of trees of small functions, and of their lines, under a limit on the cost, or under none: values from outside, made from the
+//! rules of trees alone.
 
-use crate::rows::{all_answered, cut, number_at};
+use crate::rows::{cut, number_at, wrong_row};
 use crate::searches::{model_under, options};
 use std::alloc::Global;
 use un_base::memory_error::NoMemory;
-use un_check::tree::check_tree;
+use un_check::lines::count_lines;
+use un_check::tree::{check_lines, check_tree};
 use un_check::verdict::TreeVerdict;
 use un_ir::text::{put_number, put_text};
 use un_tree::read::read_tree;
 
 /// Functions, each with a tree behind `^`, and the verdict under the limit that is asked for: the least cost in the boxes of the open leaves
-/// and how many these are, or the first node that breaks a point, and which. No closed leaf of them has a relaxation below the limit.
-static VERDICTS: &[u8] = b"func f\nblock e freq 1\n  ret\n^O\n?verdict 8:yes 1 open 1\
+/// and how many these are, or the first node that breaks a point, and which. `lines` asks it of the lines of the tree.
+static VERDICTS: &[u8] =
+    b"# The trees of reports on the smallest function, which costs 1: its own, and others.\
+|func f\nblock e freq 1\n  ret\n^C\n?verdict 1:yes none open 0\
+|&?lines 1:yes none open 0\
+|func f\nblock e freq 1\n  ret\n^B 0 16\nC\nC\n?verdict 1:strict 0\
+|&?lines 1:strict 0\
+|func f\nblock e freq 1\n  ret\n^O\n?verdict 1:alive 0\
+|&?lines 1:alive 0\
+|func f\nblock e freq 1\n  ret\n^C\nC\n?verdict 1:short\
+|&?lines 1:short\
+|func f\nblock e freq 1\n  ret\n^?verdict 1:short\
+|&?lines 1:short\
+|# The smallest function has a solution that costs less than 2, so rounds do not close the root.\
+|func f\nblock e freq 1\n  ret\n^C\n?verdict 2:closed 0\
+|&?lines 2:closed 0\
+|# Other trees, of which no closed leaf has a relaxation below the limit.\
+|func f\nblock e freq 1\n  ret\n^O\n?verdict 8:yes 1 open 1\
 |func f\nblock e freq 1\n  ret\n^B 123 1\nO\nO\n?verdict:strict 0\
 |func f\nblock e freq 1\n  ret\n^B 122 1\nO\nO\n?verdict:alive 1\
 |func f\nblock e freq 1\n  ret\n^B 60 1\nO\n?verdict 8:short\
@@ -80,8 +98,24 @@ pub(crate) fn put_verdict(
     put_told(out, verdict)
 }
 
+/// Appends the verdict on the lines of the tree of a row.
+pub(crate) fn put_verdict_by_lines(
+    alloc: Global,
+    out: &mut Vec<u8>,
+    text: &[u8],
+    question: &[u8],
+) -> Result<(), NoMemory> {
+    let (function, lines) = cut(text, b'^');
+    let m = model_under(alloc, function, &options(b""))?;
+    if count_lines(lines).is_none() {
+        return Err(NoMemory);
+    }
+    let verdict = check_lines(alloc, &m, limit(question), lines)?;
+    put_told(out, verdict)
+}
+
 #[test]
 fn trees_are_judged(rt: HostRuntime) {
-    let well = matches!(all_answered(rt.alloc(), VERDICTS), Ok(true));
-    assert!(rt; well);
+    let wrong = wrong_row(rt.alloc(), VERDICTS);
+    assert!(rt; wrong.is_empty(), "{wrong}");
 }
