@@ -1,9 +1,9 @@
 #!/usr/bin/env bash
 # For functions of 5 to 80 operations in 1 to 16 blocks, a fifth of the operations calls: prints how many variables and propagators
-# each has, how long the processor takes in the mean for a call of each part of `alloc` and of `post`, for rounds from the root with the
-# tables made for them, and for rounds after one decision: the lower half of a cycle, for each cycle in turn, with the mark before and the
-# way back. Run it by hand; the gate does not run it. Two numbers as its words say how often the parts of `alloc` are called, 200 times
-# without it, and how often `post`, 10 times without it.
+# each has, how long the processor takes in the mean for a call of each part of `alloc` and of `post`, how many first solutions were
+# refused (0 or 1), and how long it takes for rounds from the root with the tables made for them, and for rounds after one decision: the
+# lower half of a cycle, for each cycle in turn, with the mark before and the way back. Run it by hand; the gate does not run it. Two
+# numbers as its words say how often the parts of `alloc` are called, 200 times without it, and how often `post`, 10 times without it.
 set -eu
 top=$(cd "$(dirname "$0")/.." && pwd)
 binary=$top/crates/inspect/out/inspect

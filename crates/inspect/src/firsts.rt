@@ -65,6 +65,37 @@ fn put_candidate(
     put_time(alloc, out, "time", time)
 }
 
+/// Whether there is a first solution whose values break a clause, where a block's end is no less than these.
+fn is_refused(alloc: Global, f: &Function, m: &Model, ends: &[u32]) -> Result<bool, NoMemory>
+    requires { IsProblemOf f.now m.now }
+{
+    let _ = f;
+    match candidate(alloc, m, ends, TRIALS)? {
+        None => Ok(false),
+        Some(values) => {
+            let values = Items::from_vec(values);
+            let broken = violations(alloc, m, &Solution { values })?;
+            Ok(!broken.is_empty())
+        }
+    }
+}
+
+/// Appends how many first solutions a search for a function refuses, which makes at most one.
+pub fn put_refused(
+    alloc: Global,
+    out: &mut Vec<u8>,
+    f: &Function,
+    m: &Model,
+) -> Result<(), NoMemory>
+    requires { IsProblemOf f.now m.now }
+{
+    let refused = match least_ends(alloc, m)? {
+        None => false,
+        Some(ends) => is_refused(alloc, f, m, ends.as_slice())?,
+    };
+    put_between(out, b"refused ", u64::from(refused), b"\n")
+}
+
 /// Appends the bound of a search of one node.
 fn put_bound(alloc: Global, out: &mut Vec<u8>, f: &Function, m: &Model) -> Result<(), NoMemory>
     requires problem { IsProblemOf f.now m.now }

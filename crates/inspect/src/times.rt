@@ -1,4 +1,5 @@
-//! The parts of `alloc`, and of a search for a function, each called many times; and how large a function's problem is.
+//! The parts of `alloc`, and of a search for a function, each called many times; how many first solutions were refused; and how large a
+//! function's problem is.
 
 ghost use Rattle.std.specs.Prelude.{◌≡◌, [], All, IfOk};
 ghost use Rattle.inspect.specs.Inputs.{AreInputs};
@@ -10,6 +11,7 @@ ghost use Rattle.un_post.specs.Posts.{ReadsFrom, SpansAtMost};
 ghost use Rattle.un_problem.specs.Problems.{IsProblemOf};
 
 use crate::clock::{mean, now, put_time};
+use crate::firsts::put_refused;
 use crate::request::Counts;
 use crate::runs::put_runs;
 use std::alloc::{AllocError, Global};
@@ -202,7 +204,8 @@ fn put_rounds(
     Ok(())
 }
 
-/// Appends the mean times of the parts of `alloc`, of posting, and of rounds of what is posted.
+/// Appends the mean times of the parts of `alloc`, of posting and of a search, how many first solutions it refused, and the times of rounds
+/// of what is posted.
 fn put_times(
     rt: &impl CpuClock,
     alloc: Global,
@@ -216,6 +219,7 @@ fn put_times(
     put_parts(rt, alloc, out, x, calls)?;
     put_part(rt, alloc, out, Call::Post, x, posts)?;
     put_part(rt, alloc, out, Call::Search, x, 1)?;
+    put_refused(alloc, out, x.f, x.m)?;
     let vars = cycles(alloc, x.m)?;
     put_rounds(rt, alloc, out, x, vars.as_slice())
 }
