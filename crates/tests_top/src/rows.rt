@@ -1,6 +1,6 @@
-//! Rows of texts with what is asked of them. Between two `|` stands a row: a text, `?`, a question, `:` and the answer. The answer leaves out
-//! what `...` stands for, and may have a range `LO..HI` or `LO..` where any of these numbers will do. `&` is the text of the row before, and a
-//! row that begins with `#` is a comment.
+//! Rows of texts with what is asked of them. Between two `|` stands a row: a text, `?`, a question, `:` and the answer. The answer leaves
+//! out what `...` stands for, and has a range `LO..HI` or `LO..` where any of these numbers will do. `&` is the text of the row before, and
+//! a row that begins with `#` is a comment.
 
 use crate::firsts::put_first;
 use crate::hostile::put_deep;
