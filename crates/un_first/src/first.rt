@@ -17,8 +17,11 @@ use un_lists::items::Items;
 use un_model::model::{Model, Solution};
 use un_violations::violations::violations;
 
-/// The values as a solution, where they are one.
-fn judged(alloc: Global, m: &Model, values: Vec<u32>) -> Result<Option<Solution>, NoMemory>
+/// The values as a solution, where they are one: where no clause is broken.
+///
+/// # Errors
+/// `NoMemory` where there is no memory for the clauses' tables.
+pub fn judged(alloc: Global, m: &Model, values: Vec<u32>) -> Result<Option<Solution>, NoMemory>
     requires model { IsModel m.now }
     ensures { IfOk result (λ found. IfSome found (λ s. IsSolution m.now s)) }
 {

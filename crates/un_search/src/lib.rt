@@ -5,8 +5,11 @@
 pub mod attempt;
 mod best;
 mod choices;
+mod dive;
 mod lifts;
+mod near;
 pub mod order;
 pub mod rounds;
 pub mod solve;
 pub mod start;
+mod window;

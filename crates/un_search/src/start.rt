@@ -12,6 +12,7 @@ ghost use Rattle.un_search.specs.Solved.{IsBest};
 
 use crate::best::{BRANCH_NODES, Best, best_of, price};
 use crate::lifts::lift_of;
+use crate::near::best_near;
 use std::alloc::{AllocError, Global};
 use un_base::ids::VarId;
 use un_base::memory_error::NoMemory;
@@ -22,8 +23,23 @@ use un_kinds::any::AnyProp;
 use un_model::model::{BlockVars, Model, Solution};
 use un_post::post::{Posted, post};
 
-/// How often a block may be tried for the first solution.
+/// How often blocks may be tried for the first solution, where there are few nodes.
 pub const TRIALS: u32 = 2_000;
+
+/// How often they may be tried for each node, where that is more.
+const TRIALS_OF_NODE: u32 = 4;
+
+/// How often they may be tried at most.
+const MOST_TRIALS: u32 = 64_000;
+
+/// From so many nodes on better solutions are looked for near the first one.
+const NEAR_NODES: u32 = 100;
+
+/// How often blocks may be tried for the first solution of a search with so many nodes.
+fn trials(nodes: u32) -> u32 {
+    let wanted = nodes.saturating_mul(TRIALS_OF_NODE);
+    wanted.max(TRIALS).min(MOST_TRIALS)
+}
 
 /// The least end that a store leaves, or the least of all where it has no such variable.
 fn end_left(store: &Store, end: VarId) -> u32
@@ -94,19 +110,42 @@ pub fn least_ends(alloc: Global, m: &Model) -> Result<Option<Vec<u32>>, NoMemory
     }
 }
 
+/// A solution, where there is one, and what no solution costs less than, as the least ends say.
+#[derive(Drop)]
+struct Outlook {
+    solution: Option<Solution>,
+    least: u64,
+}
+
+/// What blocks with these ends cost.
+fn cost_of_ends(m: &Model, ends: &[u32]) -> u64 {
+    let mut sum = 0u64;
+    for (block, end) in m.ext.blocks.as_slice().iter().zip(ends) {
+        let packets = u64::from(end.saturating_sub(1));
+        sum = sum.saturating_add(packets.saturating_mul(u64::from(block.freq)));
+    }
+    sum
+}
+
 /// A solution that was made without a search of boxes, where one was found.
-fn made(alloc: Global, m: &Model) -> Result<Option<Solution>, NoMemory>
+fn made(alloc: Global, m: &Model, nodes: u32) -> Result<Outlook, NoMemory>
     requires model { IsModel m.now }
     requires extended { IsExtended m.now.ext }
     requires fit { IsFit m.now.ext.table }
     requires options { AreOptions m.now.options }
-    ensures { IfOk result (λ found. IfSome found (λ s. IsSolution m.now s)) }
+    ensures { IfOk result (λ made. IfSome made.solution (λ s. IsSolution m.now s)) }
 {
     match least_ends(alloc, m)? {
-        None => Ok(None),
+        None => Ok(Outlook {
+            solution: None,
+            least: 0,
+        }),
         Some(ends) => {
-            let found = first(alloc, m, ends.as_slice(), TRIALS)?;
-            Ok(found)
+            let solution = first(alloc, m, ends.as_slice(), trials(nodes))?;
+            Ok(Outlook {
+                solution,
+                least: cost_of_ends(m, ends.as_slice()),
+            })
         }
     }
 }
@@ -153,20 +192,42 @@ fn candidate(
     m: &Model,
     start: Option<Solution>,
     nodes: u32,
-) -> Result<Option<Solution>, NoMemory>
+) -> Result<Outlook, NoMemory>
     requires model { IsModel m.now }
     requires extended { IsExtended m.now.ext }
     requires fit { IsFit m.now.ext.table }
     requires options { AreOptions m.now.options }
     requires start { IfSome start (λ s. IsSolution m.now s) }
-    ensures solution { IfOk result (λ found. IfSome found (λ s. IsSolution m.now s)) }
-    ensures no_dearer { IfOk result (λ found. IfSome start (λ x. IsSomeAnd found (λ s. cost_of m.now s ≤ cost_of m.now x))) }
+    ensures solution { IfOk result (λ found. IfSome found.solution (λ s. IsSolution m.now s)) }
+    ensures no_dearer { IfOk result (λ found. IfSome start (λ x. IsSomeAnd found.solution (λ s. cost_of m.now s ≤ cost_of m.now x))) }
 {
     if nodes < BRANCH_NODES {
-        return Ok(start);
+        return Ok(Outlook {
+            solution: start,
+            least: 0,
+        });
     }
-    let found = made(alloc, m)?;
-    Ok(cheapest(m, start, found))
+    let made = made(alloc, m, nodes)?;
+    Ok(Outlook {
+        solution: cheapest(m, start, made.solution),
+        least: made.least,
+    })
+}
+
+/// The best solution that is found near one, where there are nodes for it and it costs more than the least.
+fn improved(alloc: Global, m: &Model, best: Best, least: u64, nodes: u32) -> Result<Best, NoMemory>
+    requires model { IsModel m.now }
+    requires extended { IsExtended m.now.ext }
+    requires fit { IsFit m.now.ext.table }
+    requires options { AreOptions m.now.options }
+    requires best { IsBest m.now nodes best }
+    ensures best { IfOk result (IsBest m.now nodes) }
+    ensures no_dearer { IfOk result (λ b. b.cost ≤ best.cost) }
+{
+    if nodes < NEAR_NODES || best.cost <= least {
+        return Ok(best);
+    }
+    best_near(alloc, m, best, nodes, nodes)
 }
 
 /// The best solution before the first attempt, where there is one.
@@ -184,11 +245,13 @@ pub(crate) fn incumbent(
     ensures best { IfOk result (λ found. IfSome found (IsBest m.now nodes)) }
     ensures no_dearer { IfOk result (λ found. IfSome start (λ x. IsSomeAnd found (λ b. b.cost ≤ cost_of m.now x))) }
 {
-    match candidate(alloc, m, start, nodes)? {
+    let Outlook { solution, least } = candidate(alloc, m, start, nodes)?;
+    match solution {
         None => Ok(None),
         Some(solution) => {
             let best = best_of(alloc, m, solution, nodes)?;
-            Ok(Some(best))
+            let near = improved(alloc, m, best, least, nodes)?;
+            Ok(Some(near))
         }
     }
 }
