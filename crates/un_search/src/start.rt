@@ -35,6 +35,9 @@ const MOST_TRIALS: u32 = 64_000;
 /// From so many nodes on better solutions are looked for near the first one.
 const NEAR_NODES: u32 = 100;
 
+/// For so many nodes there is one decision near the first solution, which costs more time than a node.
+const NODES_OF_DECISION: u32 = 4;
+
 /// How often blocks may be tried for the first solution of a search with so many nodes.
 fn trials(nodes: u32) -> u32 {
     let wanted = nodes.saturating_mul(TRIALS_OF_NODE);
@@ -227,7 +230,7 @@ fn improved(alloc: Global, m: &Model, best: Best, least: u64, nodes: u32) -> Res
     if nodes < NEAR_NODES || best.cost <= least {
         return Ok(best);
     }
-    best_near(alloc, m, best, nodes, nodes)
+    best_near(alloc, m, best, nodes, nodes / NODES_OF_DECISION)
 }
 
 /// The best solution before the first attempt, where there is one.
