@@ -23,6 +23,8 @@ pub struct Block {
     pub frequency: u64,
     /// A lower bound of the block's end, in cycles: a schedule with this end is not tried to be made better.
     pub least_end: u32,
+    /// Its copies of values that stand at its start or at its end.
+    pub bound_copies: Vec<u32>,
     /// The group of its start.
     pub group_in: u32,
     /// The group of its end.
@@ -64,7 +66,7 @@ pub struct Facts {
 }
 
 /// Whether a list has an item.
-fn has(list: &[u32], item: u32) -> bool {
+pub(crate) fn has(list: &[u32], item: u32) -> bool {
     for x in list {
         if *x == item {
             return true;

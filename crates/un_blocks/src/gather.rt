@@ -218,8 +218,11 @@ fn is_issued(s: &Scope<'_>, o: OpId) -> bool {
 /// The precedences to an operation, from others that every solution issues.
 fn gaps(alloc: Global, s: &Scope<'_>, o: OpId) -> Result<Vec<Gap>, AllocError> {
     let mut list = Vec::new(alloc);
+    if !is_issued(s, o) {
+        return Ok(list);
+    }
     for arc in s.arcs {
-        if arc.to == o && is_issued(s, arc.from) && is_issued(s, arc.to) {
+        if arc.to == o && is_issued(s, arc.from) {
             list.push(Gap {
                 from: s.local_op(arc.from),
                 cycles: arc.gap,

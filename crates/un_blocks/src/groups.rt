@@ -1,6 +1,6 @@
 //! The facts of a function, with the groups of block boundaries that edges join.
 
-use crate::facts::{Block, Facts, SAVED, at};
+use crate::facts::{Block, Facts, SAVED, at, has};
 use crate::gather::{Scope, number_of};
 use crate::grid::Grid;
 use crate::temporaries::block_facts;
@@ -10,6 +10,7 @@ use un_ir::extended::{ExtBlock, ExtKind};
 use un_ir::function::{Kind, Term};
 use un_isa::reg::{FIRST_SLOT, LINK, STACK};
 use un_model::model::{Model, Options};
+use un_trial::facts::{BlockFacts, Operation};
 use un_trial::sets::{EMPTY, RegisterSet};
 use un_trial::table::{NONE, Table};
 
@@ -112,6 +113,27 @@ fn temps_of(block: &ExtBlock) -> u32 {
     count
 }
 
+/// Whether an operation is a copy of a value that stands at the block's start or at its end.
+fn is_bound_copy(block: &BlockFacts, op: &Operation) -> bool {
+    let Some(x) = op.operands.first() else {
+        return false;
+    };
+    let is_copy = op.instruction != NONE && op.result != NONE;
+    let is_at_end = block.temporaries.row(x.value).at_end != NONE;
+    is_copy && (is_at_end || has(block.input.as_slice(), x.value))
+}
+
+/// The copies of values that stand at a block's start or at its end.
+fn bound_copies(alloc: Global, block: &BlockFacts) -> Result<Vec<u32>, AllocError> {
+    let mut list = Vec::new(alloc);
+    for o in 0..block.operations.len() {
+        if is_bound_copy(block, block.operations.row(o)) {
+            list.push(o)?;
+        }
+    }
+    Ok(list)
+}
+
 /// The facts of the blocks, with their groups.
 fn blocks(
     alloc: Global,
@@ -129,8 +151,10 @@ fn blocks(
     for b in 0..count {
         if let Some(scope) = scope_of(m, b, next) {
             let facts = block_facts(alloc, &scope, next.variable)?;
+            let bound_copies = bound_copies(alloc, &facts)?;
             list.push(Block {
                 facts,
+                bound_copies,
                 frequency: u64::from(scope.block.freq),
                 least_end: least_end(least_ends, b),
                 group_in: group.at(b),

@@ -79,98 +79,113 @@ fn is_predicate(s: &Scope<'_>, v: u32) -> bool {
     }
 }
 
-/// The temporaries of the block that carry a value.
-fn carriers(alloc: Global, s: &Scope<'_>, v: u32) -> Result<Vec<u32>, AllocError> {
-    let mut list = Vec::new(alloc);
-    for t in 0..s.temps {
-        if s.value(t) == v {
-            list.push(t)?;
-        }
-    }
-    Ok(list)
-}
-
-/// The place of the first operand that reads a value; NONE where none does.
-fn operand_of(s: &Scope<'_>, op: &ExtOp, v: u32) -> u32 {
-    let mut j = 0u32;
-    for x in op.operands.as_slice() {
-        if s.value_read(x) == v {
-            return j;
-        }
-        j = j.saturating_add(1);
-    }
-    NONE
-}
-
-/// The operations that every solution issues and that read a value.
-fn readers(alloc: Global, s: &Scope<'_>, v: u32) -> Result<Vec<u32>, AllocError> {
-    let mut list = Vec::new(alloc);
-    let mut o = 0u32;
-    for op in s.block.ops.as_slice() {
-        if is_mandatory(&op.kind) && operand_of(s, op, v) != NONE {
-            list.push(o)?;
-        }
-        o = o.saturating_add(1);
-    }
-    Ok(list)
-}
-
-/// Which operand at the block's end reads a value.
-fn end_place(s: &Scope<'_>, v: u32) -> u32 {
-    match s.op(output(s)) {
-        Some(op) => operand_of(s, op, v),
-        None => NONE,
-    }
-}
-
-/// The copy of a value.
-fn own_copy(s: &Scope<'_>, v: u32, which: NodeCopy) -> u32 {
-    for t in 0..s.temps {
-        if s.value(t) == v && s.is_copy(s.definer(t), which) {
-            return t;
-        }
-    }
-    NONE
-}
-
-/// The operation that defines a temporary, NONE where there is none.
-fn definer_of(s: &Scope<'_>, t: u32) -> u32 {
-    if t == NONE { NONE } else { s.definer(t) }
-}
-
 fn is_root(s: &Scope<'_>, t: u32) -> bool {
     let o = s.definer(t);
     s.value(t) == t || s.is_copy(o, NodeCopy::D) || s.is_copy(o, NodeCopy::D2)
 }
 
-/// Where the rest is told for values alone: what a copy answers.
-fn temporary(alloc: Global, s: &Scope<'_>, t: u32) -> Result<Temporary, AllocError> {
-    let v = s.value(t);
-    let carriers = carriers(alloc, s, t)?;
-    let readers = readers(alloc, s, t)?;
-    let first = own_copy(s, v, NodeCopy::D);
-    let key = key_of(s, v);
-    Ok(Temporary {
-        value: v,
+/// A temporary without what is told of values.
+fn copy(alloc: Global, s: &Scope<'_>, t: u32) -> Temporary {
+    Temporary {
+        value: s.value(t),
         register: s.temp(t).map_or(NONE, |vars| vars.reg.0),
-        is_predicate: is_predicate(s, v),
         is_root: is_root(s, t),
-        saved: saved_of(s, key),
-        key,
-        copy: definer_of(s, first),
-        second_copy: definer_of(s, own_copy(s, v, NodeCopy::D2)),
-        first_carrier: first,
-        carriers,
-        readers,
-        at_end: end_place(s, t),
-    })
+        ..no_temporary(alloc)
+    }
+}
+
+/// A temporary, with what its own value is, but not yet who carries and reads it.
+fn temporary(alloc: Global, s: &Scope<'_>, t: u32) -> Temporary {
+    let mut x = copy(alloc, s, t);
+    if x.value == t {
+        x.key = key_of(s, t);
+        x.saved = saved_of(s, x.key);
+        x.is_predicate = is_predicate(s, t);
+    }
+    x
+}
+
+/// Notes a temporary among the carriers of its value, and where it is the copy d or d2.
+fn note_carrier(s: &Scope<'_>, t: u32, x: &mut Temporary) -> Result<(), AllocError> {
+    let o = s.definer(t);
+    if s.is_copy(o, NodeCopy::D) {
+        x.first_carrier = t;
+        x.copy = o;
+    }
+    if s.is_copy(o, NodeCopy::D2) {
+        x.second_copy = o;
+    }
+    x.carriers.push(t)?;
+    Ok(())
+}
+
+fn note_carriers(s: &Scope<'_>, list: &mut [Temporary]) -> Result<(), AllocError> {
+    for t in 0..s.temps {
+        if let Some(x) = list.get_mut(s.value(t) as usize) {
+            note_carrier(s, t, x)?;
+        }
+    }
+    Ok(())
+}
+
+/// Notes an operation among the readers of what it reads.
+fn note_reader(
+    s: &Scope<'_>,
+    o: u32,
+    op: &ExtOp,
+    list: &mut [Temporary],
+) -> Result<(), AllocError> {
+    for x in op.operands.as_slice() {
+        if let Some(read) = list.get_mut(s.value_read(x) as usize)
+            && read.readers.last().copied() != Some(o)
+        {
+            read.readers.push(o)?;
+        }
+    }
+    Ok(())
+}
+
+/// Notes the readers of values that every solution issues.
+fn note_readers(s: &Scope<'_>, list: &mut [Temporary]) -> Result<(), AllocError> {
+    let mut o = 0u32;
+    for op in s.block.ops.as_slice() {
+        if is_mandatory(&op.kind) {
+            note_reader(s, o, op, list)?;
+        }
+        o = o.saturating_add(1);
+    }
+    Ok(())
+}
+
+/// Notes which values the block's end reads.
+fn note_end(op: &ExtOp, s: &Scope<'_>, list: &mut [Temporary]) {
+    let mut j = 0u32;
+    for x in op.operands.as_slice() {
+        if let Some(read) = list.get_mut(s.value_read(x) as usize)
+            && read.at_end == NONE
+        {
+            read.at_end = j;
+        }
+        j = j.saturating_add(1);
+    }
+}
+
+/// Notes of each value who carries and reads it.
+fn note_values(s: &Scope<'_>, list: &mut [Temporary]) -> Result<(), AllocError> {
+    note_carriers(s, list)?;
+    note_readers(s, list)?;
+    if let Some(op) = s.op(output(s)) {
+        note_end(op, s, list);
+    }
+    Ok(())
 }
 
 fn temporaries(alloc: Global, s: &Scope<'_>) -> Result<Vec<Temporary>, AllocError> {
     let mut list = Vec::new(alloc);
     for t in 0..s.temps {
-        list.push(temporary(alloc, s, t)?)?;
+        list.push(temporary(alloc, s, t))?;
     }
+    note_values(s, list.as_mut_slice())?;
     Ok(list)
 }
 

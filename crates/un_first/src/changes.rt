@@ -168,8 +168,15 @@ fn reaches(facts: &Facts, old: &Places, change: Change, h: u32, wide: bool) -> b
     facts.is_free(h, change.key) && (h == g || wide && same)
 }
 
+/// Whether a change leads to another place, and the key's place is open.
+pub fn is_change(facts: &Facts, places: &Places, change: Change) -> bool {
+    let present = places.at(change.group, change.key);
+    let is_open = facts.is_free(change.group, change.key);
+    change.place < REGISTERS && change.place != present && is_open
+}
+
 /// Puts one key of a group into a place: there alone, wherever it has the same place (wide), or a saved value in its region. The
-/// new places are the old ones before. Whether it can.
+/// new places are the old ones before, and the change is one. Whether it can.
 pub fn change_place(
     facts: &Facts,
     old: &Places,
@@ -178,11 +185,6 @@ pub fn change_place(
     frame: bool,
     wide: bool,
 ) -> bool {
-    let present = old.at(change.group, change.key);
-    let is_open = facts.is_free(change.group, change.key);
-    if change.place >= REGISTERS || change.place == present || !is_open {
-        return false;
-    }
     for h in 0..facts.groups {
         if reaches(facts, old, change, h, wide) {
             let there = Change {

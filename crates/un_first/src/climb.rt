@@ -1,6 +1,6 @@
 //! Hill climbing on the places: a change that costs no more is kept.
 
-use crate::changes::{Change, any_change, change_place};
+use crate::changes::{Change, any_change, change_place, is_change};
 use crate::places::Places;
 use crate::plan::{Cost, Plan};
 use crate::search::Search;
@@ -25,16 +25,20 @@ fn differs(old: &Places, new: &Places, g: u32) -> bool {
     old.row(g) != new.row(g)
 }
 
-/// Forgets the trials of the blocks whose places have changed.
-fn restart_blocks(facts: &Facts, old: &Plan, new: &mut Plan) {
-    for (block, mine) in facts.blocks.as_slice().iter().zip(new.blocks.iter_mut()) {
+/// Makes the blocks of the new plan those of the old one, without the trials of those whose places differ.
+fn copy_blocks(facts: &Facts, old: &Plan, new: &mut Plan) -> Result<(), AllocError> {
+    let blocks = facts.blocks.as_slice().iter().zip(old.blocks.as_slice());
+    for ((block, present), mine) in blocks.zip(new.blocks.iter_mut()) {
         let places = &new.places;
         if differs(&old.places, places, block.group_in)
             || differs(&old.places, places, block.group_out)
         {
             mine.restart();
+        } else {
+            mine.copy_from(present)?;
         }
     }
+    Ok(())
 }
 
 impl<'a> Search<'a> {
@@ -57,7 +61,10 @@ impl<'a> Search<'a> {
             return Ok(false);
         };
         let wide = !self.noise.one_in(3);
-        next.copy_from(plan)?;
+        if !is_change(self.facts, &plan.places, change) {
+            return Ok(false);
+        }
+        next.places.copy_from(&plan.places)?;
         if !change_place(
             self.facts,
             &plan.places,
@@ -68,7 +75,8 @@ impl<'a> Search<'a> {
         ) {
             return Ok(false);
         }
-        restart_blocks(self.facts, plan, next);
+        next.frame = plan.frame;
+        copy_blocks(self.facts, plan, next)?;
         Ok(true)
     }
 

@@ -110,7 +110,8 @@ impl BlockPlan {
         self.is_found = false;
     }
 
-    fn copy_from(&mut self, other: &BlockPlan) -> Result<(), AllocError> {
+    /// Makes the trials those of another.
+    pub fn copy_from(&mut self, other: &BlockPlan) -> Result<(), AllocError> {
         self.tried = other.tried;
         self.is_found = other.is_found;
         self.best.end = other.best.end;
@@ -142,16 +143,6 @@ impl Plan {
             frame,
             blocks,
         })
-    }
-
-    /// Makes the plan another's, which has as many blocks.
-    pub fn copy_from(&mut self, other: &Plan) -> Result<(), AllocError> {
-        self.frame = other.frame;
-        self.places.copy_from(&other.places)?;
-        for (mine, block) in self.blocks.iter_mut().zip(other.blocks.as_slice()) {
-            mine.copy_from(block)?;
-        }
-        Ok(())
     }
 }
 

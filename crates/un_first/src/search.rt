@@ -4,8 +4,9 @@ use crate::chance::Noise;
 use crate::changes::spare_slots;
 use crate::orders::move_one;
 use crate::places::Places;
-use crate::plan::{BlockPlan, Cost, Plan, Recipe, copy_list};
+use crate::plan::{BlockPlan, Cost, Plan, Recipe};
 use std::alloc::{AllocError, Global};
+use std::mem;
 use un_blocks::facts::{Block, Facts};
 use un_trial::sets::{EMPTY, RegisterSet};
 use un_trial::trial::{Task, Trial};
@@ -136,18 +137,16 @@ impl<'a> Search<'a> {
     }
 
     /// Makes the trial the best of its block, where it is not worse.
-    fn keep(&mut self, end: u32, mine: &mut BlockPlan) -> Result<(), AllocError> {
+    fn keep(&mut self, end: u32, mine: &mut BlockPlan) {
         let copies = self.trial.copies();
         if !mine.is_no_worse(end, copies) {
-            return Ok(());
+            return;
         }
         mine.is_found = true;
         mine.best.end = end;
         mine.best.copies = copies;
-        copy_list(&mut mine.best.values, self.trial.values())?;
-        mine.best
-            .recipe
-            .copy_from(self.recipe.order.as_slice(), self.recipe.spill_saved)
+        self.trial.exchange_values(&mut mine.best.values);
+        mem::swap(&mut self.recipe, &mut mine.best.recipe);
     }
 
     /// Makes one trial of a block.
@@ -173,10 +172,10 @@ impl<'a> Search<'a> {
             .run(task, start, finish, self.recipe.order.as_slice())?;
         self.left = self.left.saturating_sub(1);
         mine.tried = mine.tried.saturating_add(1);
-        match end {
-            Some(found) => self.keep(found, mine),
-            None => Ok(()),
+        if let Some(found) = end {
+            self.keep(found, mine);
         }
+        Ok(())
     }
 
     /// Makes the trials of a block up to `effort`, until its end is the least.

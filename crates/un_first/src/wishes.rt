@@ -63,21 +63,16 @@ impl<'a> Reading<'a> {
         self.value(self.block.temporary(t).register)
     }
 
-    /// Whether an operation is an active copy of a value that stands at the block's start or at its end.
-    fn is_copied(&self, op: &Operation) -> bool {
-        let Some(x) = op.operands.first() else {
-            return false;
-        };
-        let is_copy = op.instruction != NONE && op.result != NONE;
-        let is_at_bound = self.block.is_in(x.value) || self.block.temporary(x.value).at_end != NONE;
-        is_copy && self.value(op.instruction) > 0 && is_at_bound
+    /// Whether a copy is active.
+    fn is_active(&self, op: &Operation) -> bool {
+        self.value(op.instruction) > 0
     }
 
-    /// How many such copies there are.
+    /// How many active copies there are of values that stand at the block's start or at its end.
     fn copies(&self) -> u32 {
         let mut count = 0u32;
-        for o in 0..self.block.facts.operations.len() {
-            if self.is_copied(self.block.operation(o)) {
+        for o in &self.block.bound_copies {
+            if self.is_active(self.block.operation(*o)) {
                 count = count.saturating_add(1);
             }
         }
@@ -87,9 +82,9 @@ impl<'a> Reading<'a> {
     /// One of them.
     fn copy(&self, place: u32) -> Option<&'a Operation> {
         let mut left = place;
-        for o in 0..self.block.facts.operations.len() {
-            let op = self.block.operation(o);
-            if self.is_copied(op) {
+        for o in &self.block.bound_copies {
+            let op = self.block.operation(*o);
+            if self.is_active(op) {
                 if left == 0 {
                     return Some(op);
                 }

@@ -97,7 +97,7 @@ pub struct Operation {
     pub before: Vec<Gap>,
 }
 
-/// A temporary: a value, or a copy of one. `carriers`, `readers` and `at_end` are told of values.
+/// A temporary: a value, or a copy of one. Of a copy only `value`, `register` and `is_root` are told.
 #[derive(Drop)]
 pub struct Temporary {
     /// The value that it carries, by the number of that value's own temporary: its own number where it is no copy.
@@ -118,9 +118,9 @@ pub struct Temporary {
     pub second_copy: u32,
     /// The temporary that the copy d of its value defines; NONE where there is none.
     pub first_carrier: u32,
-    /// The temporaries that carry this value, its own among them; none for a copy.
+    /// The temporaries that carry this value, its own among them.
     pub carriers: Vec<u32>,
-    /// The operations that every solution issues and that read this value, rising, without the block's end; none for a copy.
+    /// The operations that every solution issues and that read this value, rising, without the block's end.
     pub readers: Vec<u32>,
     /// The place of the first operand of the block's end that reads this value; NONE where none does.
     pub at_end: u32,

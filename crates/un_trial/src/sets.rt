@@ -20,6 +20,10 @@ pub struct RegisterSet {
     mask: u128,
 }
 
+/// All registers and slots.
+pub const ALL: RegisterSet = RegisterSet {
+    mask: 0xf_ffff_ffff_ffff_ffff_ffff_ffff,
+};
 /// r0 to r31.
 pub const GENERAL: RegisterSet = RegisterSet { mask: 0xffff_ffff };
 /// p0 to p3.
@@ -81,6 +85,13 @@ impl RegisterSet {
         RegisterSet {
             mask: self.mask & !other.mask,
         }
+    }
+
+    /// Takes the smallest register out of the set; None where it has none.
+    pub fn take_least(&mut self) -> Option<u32> {
+        let least = self.least();
+        self.mask &= self.mask.wrapping_sub(1);
+        if least == NONE { None } else { Some(least) }
     }
 
     /// The smallest register.

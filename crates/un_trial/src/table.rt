@@ -1,6 +1,7 @@
 //! Total tables: a place outside answers a default and ignores a change.
 
 use std::alloc::AllocError;
+use std::mem;
 
 /// No register, slot, operation, temporary, key or variable.
 pub const NONE: u32 = u32::MAX;
@@ -48,6 +49,11 @@ impl<T: Copy> Table<T> {
     pub fn copy_from(&mut self, items: &[T]) -> Result<(), AllocError> {
         self.items.clear();
         self.items.extend_from_slice(items)
+    }
+
+    /// Exchanges the items with a list.
+    pub fn exchange(&mut self, items: &mut Vec<T>) {
+        mem::swap(&mut self.items, items);
     }
 
     /// The item at a place.

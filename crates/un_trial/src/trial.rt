@@ -10,7 +10,7 @@ mod ranges;
 mod spills;
 
 use crate::facts::{BlockFacts, Needs, Operand, Operation, ROOM, Temporary};
-use crate::sets::{EMPTY, REGISTERS, RegisterSet};
+use crate::sets::{ALL, EMPTY, REGISTERS, RegisterSet};
 use crate::table::{NONE, Table};
 use std::alloc::{AllocError, Global};
 
@@ -32,6 +32,7 @@ pub struct Task<'a> {
 /// A temporary's register and its live range so far, `defined` to `last_read`.
 #[derive(Clone, Copy)]
 struct Stay {
+    /// Whether it stands there still.
     active: bool,
     register: u32,
     defined: u32,
@@ -56,8 +57,12 @@ struct Marks {
     locked: RegisterSet,
     /// The registers and slots in which values end.
     ends_in: RegisterSet,
+    /// The registers and slots without a temporary.
+    vacant: RegisterSet,
     /// The place in the order. The terminator reads at the order's length, the block's end one behind it.
     position: u32,
+    /// The place of the next call behind it; NONE where there is none.
+    next_call: u32,
     copies: u32,
     last_cycle: u32,
     /// The last cycle of a Spill or Reload.
@@ -70,7 +75,9 @@ struct Marks {
 const START: Marks = Marks {
     locked: EMPTY,
     ends_in: EMPTY,
+    vacant: ALL,
     position: 0,
+    next_call: NONE,
     copies: 0,
     last_cycle: 0,
     last_touch: 0,
@@ -101,6 +108,9 @@ pub struct Trial<'a> {
     order: Table<u32>,
     position_of: Table<u32>,
     calls: Vec<u32>,
+    /// For each value the first place that reads it, from the present place on and behind it; NONE where there is none.
+    next_use: Table<u32>,
+    use_behind: Table<u32>,
     /// The block's variables from its first on.
     values: Table<u32>,
     /// What each packet has given away.
@@ -129,6 +139,8 @@ impl<'a> Trial<'a> {
             order: no_numbers(alloc, NONE),
             position_of: no_numbers(alloc, NONE),
             calls: Vec::new(alloc),
+            next_use: no_numbers(alloc, NONE),
+            use_behind: no_numbers(alloc, NONE),
             values: no_numbers(alloc, 0),
             counts: Table::of(Vec::new(alloc), NO_NEEDS),
             stays: Table::of(Vec::new(alloc), NOWHERE),
@@ -154,6 +166,7 @@ impl<'a> Trial<'a> {
         self.order.copy_from(order)?;
         self.clear()?;
         self.note_order()?;
+        self.note_uses();
         Ok(self.sweep())
     }
 
@@ -161,6 +174,8 @@ impl<'a> Trial<'a> {
     fn clear(&mut self) -> Result<(), AllocError> {
         let block = self.task.block;
         self.marks = START;
+        self.next_use.refill(block.temporaries.len(), NONE)?;
+        self.use_behind.refill(block.temporaries.len(), NONE)?;
         self.values.refill(block.variables, 0)?;
         self.counts.refill(block.horizon, NO_NEEDS)?;
         self.stays.refill(block.temporaries.len(), NOWHERE)?;
@@ -170,7 +185,7 @@ impl<'a> Trial<'a> {
         self.position_of.refill(block.operations.len(), NONE)
     }
 
-    /// Notes the place of each operation, the calls, and the registers in which values end.
+    /// Notes the place of each operation, and the calls.
     fn note_order(&mut self) -> Result<(), AllocError> {
         self.calls.clear();
         for place in 0..self.order.len() {
@@ -182,11 +197,28 @@ impl<'a> Trial<'a> {
         }
         self.position_of
             .put(self.task.block.terminator, self.order.len());
+        Ok(())
+    }
+
+    /// Notes the registers in which values end, and the first place that reads each value.
+    fn note_uses(&mut self) {
+        let length = self.length();
         for x in &self.operation(self.task.block.output).operands {
             let r = self.place_at_end(x);
             self.marks.ends_in = self.marks.ends_in.with(r);
+            self.note_use(x.value, length.saturating_add(1));
         }
-        Ok(())
+        for i in 0..length.saturating_add(1) {
+            let place = length.saturating_sub(i);
+            for x in &self.operation(self.operation_at(place)).operands {
+                self.note_use(x.value, place);
+            }
+        }
+    }
+
+    fn note_use(&mut self, v: u32, place: u32) {
+        self.next_use.put(v, place);
+        self.use_behind.put(v, place);
     }
 
     /// How many copies the trial made.
@@ -194,13 +226,22 @@ impl<'a> Trial<'a> {
         self.marks.copies
     }
 
-    /// The values of the block's variables, from its first on.
-    pub fn values(&self) -> &[u32] {
-        self.values.as_slice()
+    /// Exchanges the values of the block's variables, from its first on, with a list.
+    pub fn exchange_values(&mut self, values: &mut Vec<u32>) {
+        self.values.exchange(values);
     }
 
     fn operation(&self, o: u32) -> &'a Operation {
         self.task.block.operations.row(o)
+    }
+
+    /// The operation at a place of the order, or the terminator behind its last place.
+    fn operation_at(&self, place: u32) -> u32 {
+        if place == self.length() {
+            self.task.block.terminator
+        } else {
+            self.order.at(place)
+        }
     }
 
     fn temporary(&self, t: u32) -> &'a Temporary {

@@ -2,8 +2,8 @@
 
 use super::Trial;
 use crate::facts::Operand;
-use crate::pairs::{Pair, Pairs};
-use crate::sets::{CLOBBERED, EMPTY, FIRST_SLOT, LINK};
+use crate::pairs::Pairs;
+use crate::sets::{CLOBBERED, EMPTY, FIRST_SLOT, GENERAL, LINK, PREDICATES};
 use crate::table::NONE;
 
 impl<'a> Trial<'a> {
@@ -16,42 +16,19 @@ impl<'a> Trial<'a> {
         self.temporary(v).carriers.iter().any(|c| self.is_safe(*c))
     }
 
-    /// The value of least next use, from a use on, that a call would destroy; a pair of its use and itself.
-    fn least_endangered(&self, from: Pair) -> Option<Pair> {
-        let mut best = None;
-        let mut least = Pair {
-            place: NONE,
-            item: NONE,
-        };
-        for r in 0..FIRST_SLOT {
-            let v = self.value_of(self.occupant.at(r));
-            let next = self.use_behind(v);
-            let is_behind = next > from.place || next == from.place && v >= from.item;
-            let is_least = next < least.place || next == least.place && v < least.item;
-            if next != NONE && is_behind && is_least && !self.has_safe_carrier(v) {
-                least = Pair {
-                    place: next,
-                    item: v,
-                };
-                best = Some(least);
-            }
-        }
-        best
-    }
-
     /// The values that a call would destroy, by next use.
     fn endangered(&self) -> Option<Pairs> {
         let mut list = Pairs::new();
-        let mut from = Pair { place: 0, item: 0 };
+        let mut left = GENERAL.or(PREDICATES).minus(self.marks.vacant);
         for _ in 0..FIRST_SLOT {
-            let Some(next) = self.least_endangered(from) else {
+            let Some(r) = left.take_least() else {
                 break;
             };
-            list.push(next.place, next.item)?;
-            from = Pair {
-                place: next.place,
-                item: next.item.saturating_add(1),
-            };
+            let v = self.value_of(self.occupant.at(r));
+            let next = self.use_behind.at(v);
+            if next != NONE && !self.has_safe_carrier(v) {
+                list.insert(next, v)?;
+            }
         }
         Some(list)
     }
@@ -59,7 +36,7 @@ impl<'a> Trial<'a> {
     /// Saves a value from a call: a copy in a kept register, else in a slot. The link and what only `out` reads go to their slots.
     fn save(&mut self, v: u32) -> Option<u32> {
         let x = self.temporary(v);
-        let is_read_at_end = x.saved == LINK || self.use_behind(v) > self.length();
+        let is_read_at_end = x.saved == LINK || self.use_behind.at(v) > self.length();
         let to_slot = is_read_at_end && self.ends_in_slot(v);
         let (copy, from) = if self.is_resident(v) {
             (x.copy, v)
@@ -136,14 +113,27 @@ impl<'a> Trial<'a> {
     /// Lets go what a call overwrites. Answers the cycle from which it may issue.
     fn clear_for_call(&mut self, earliest: u32) -> u32 {
         let mut from = earliest.max(self.marks.frame_from);
-        for r in 0..FIRST_SLOT {
-            if CLOBBERED.has(r) {
-                let t = self.occupant.at(r);
-                self.release(t);
-                from = from.max(self.free_from.at(r));
-            }
+        let mut left = CLOBBERED;
+        for _ in 0..FIRST_SLOT {
+            let Some(r) = left.take_least() else {
+                break;
+            };
+            let t = self.occupant.at(r);
+            self.release(t);
+            from = from.max(self.free_from.at(r));
         }
         from
+    }
+
+    /// Nothing starts before this cycle in a register that a call clobbers.
+    fn close_clobbered(&mut self, from: u32) {
+        let mut left = CLOBBERED;
+        for _ in 0..FIRST_SLOT {
+            let Some(r) = left.take_least() else {
+                break;
+            };
+            self.free_from.put(r, from);
+        }
     }
 
     fn issue_call(&mut self, o: u32, got: &Pairs) {
@@ -155,11 +145,7 @@ impl<'a> Trial<'a> {
         for i in 0..got.len() {
             self.read_at(got.at(i).item, cycle);
         }
-        for r in 0..FIRST_SLOT {
-            if CLOBBERED.has(r) {
-                self.free_from.put(r, cycle.saturating_add(1));
-            }
-        }
+        self.close_clobbered(cycle.saturating_add(1));
         for x in &op.operands {
             self.release_if_dead(x.value);
         }

@@ -7,13 +7,13 @@ use crate::table::NONE;
 impl<'a> Trial<'a> {
     /// The free register that is free first; the hint is preferred, places of others at the end are spared.
     pub(super) fn best_free(&self, set: RegisterSet, earliest: u32, hint: u32) -> u32 {
-        let open = set.minus(self.marks.locked);
+        let mut left = set.and(self.marks.vacant).minus(self.marks.locked);
         let mut best = NONE;
         let mut least = u64::MAX;
-        for r in 0..FIRST_SLOT {
-            if !open.has(r) || self.occupant.at(r) != NONE {
-                continue;
-            }
+        for _ in 0..FIRST_SLOT {
+            let Some(r) = left.take_least() else {
+                break;
+            };
             let taste = if r == hint {
                 0
             } else if self.marks.ends_in.has(r) {
@@ -35,11 +35,7 @@ impl<'a> Trial<'a> {
     fn kept_rank(&self, r: u32) -> u32 {
         let t = self.occupant.at(r);
         let x = self.temporary(t);
-        if self.marks.locked.has(r)
-            || x.saved == NONE
-            || x.value != t
-            || !self.copy_is_left(x.copy)
-        {
+        if x.saved == NONE || x.value != t || !self.copy_is_left(x.copy) {
             return 2;
         }
         if self.ends_in_slot(t) {
@@ -56,10 +52,14 @@ impl<'a> Trial<'a> {
         if free != NONE {
             return free;
         }
+        let mut left = set.minus(self.marks.vacant).minus(self.marks.locked);
         let mut best = NONE;
         let mut least = 2;
-        for r in 0..FIRST_SLOT {
-            let rank = if set.has(r) { self.kept_rank(r) } else { 2 };
+        for _ in 0..FIRST_SLOT {
+            let Some(r) = left.take_least() else {
+                break;
+            };
+            let rank = self.kept_rank(r);
             if rank < least {
                 least = rank;
                 best = self.occupant.at(r);

@@ -23,7 +23,7 @@ impl<'a> Trial<'a> {
             self.marks.frame_from = 2;
         }
         for t in &block.input {
-            if self.next_use(*t, 0) == NONE {
+            if self.next_use.at(*t) == NONE {
                 self.release(*t);
             }
         }
@@ -111,7 +111,7 @@ impl<'a> Trial<'a> {
 
     fn finish(&mut self) -> Option<u32> {
         let block = self.task.block;
-        self.marks.position = self.length();
+        self.go_to(self.length());
         let tested = self.terminator_operand()?;
         self.marks.locked = EMPTY;
         self.lock(tested);
@@ -137,7 +137,7 @@ impl<'a> Trial<'a> {
     pub(super) fn sweep(&mut self) -> Option<u32> {
         self.begin()?;
         for place in 0..self.order.len() {
-            self.marks.position = place;
+            self.go_to(place);
             let o = self.order.at(place);
             self.place(o)?;
         }

@@ -134,7 +134,7 @@ impl<'a> Trial<'a> {
         }
         let v = self.value_of(t);
         let operands = self.operation(reader).operands.as_slice();
-        let is_read_later = reader != self.task.block.output && self.use_behind(v) != NONE;
+        let is_read_later = reader != self.task.block.output && self.use_behind.at(v) != NONE;
         let is_used = is_read_later || self.is_wanted(operands, v, register, wanted);
         if self.is_elsewhere(t) || !is_used {
             self.release(t);

@@ -15,8 +15,7 @@ impl<'a> Trial<'a> {
     }
 
     pub(super) fn is_resident(&self, t: u32) -> bool {
-        let stay = self.stays.at(t);
-        stay.active && self.occupant.at(stay.register) == t
+        self.stays.at(t).active
     }
 
     pub(super) fn place_at_end(&self, x: &Operand) -> u32 {
@@ -41,41 +40,51 @@ impl<'a> Trial<'a> {
     }
 
     /// The first place from `from` on that reads a value; NONE where there is none.
-    pub(super) fn next_use(&self, v: u32, from: u32) -> u32 {
+    fn first_use(&self, v: u32, from: u32) -> u32 {
         let x = self.temporary(v);
-        let mut next = if x.at_end == NONE {
+        let mut first = if x.at_end == NONE {
             NONE
         } else {
             self.length().saturating_add(1)
         };
         for o in &x.readers {
             let p = self.position_of.at(*o);
-            if p >= from && p < next {
-                next = p;
+            if p >= from && p < first {
+                first = p;
             }
         }
-        next
+        first
     }
 
-    pub(super) fn use_behind(&self, v: u32) -> u32 {
-        self.next_use(v, self.marks.position.saturating_add(1))
-    }
-
-    fn next_call(&self) -> u32 {
+    fn first_call(&self, from: u32) -> u32 {
         self.calls
             .iter()
             .copied()
-            .find(|p| *p > self.marks.position)
+            .find(|p| *p >= from)
             .unwrap_or(NONE)
+    }
+
+    /// Goes on to a place of the order: what is read there is read next behind it.
+    pub(super) fn go_to(&mut self, place: u32) {
+        for x in &self.operation(self.operation_at(self.marks.position)).operands {
+            self.next_use.put(x.value, self.use_behind.at(x.value));
+        }
+        self.marks.position = place;
+        let behind = place.saturating_add(1);
+        for x in &self.operation(self.operation_at(place)).operands {
+            let next = self.first_use(x.value, behind);
+            self.use_behind.put(x.value, next);
+        }
+        self.marks.next_call = self.first_call(behind);
     }
 
     /// Whether a value is needed in a register behind a call that is still to come.
     pub(super) fn crosses(&self, v: u32) -> bool {
-        let call = self.next_call();
+        let call = self.marks.next_call;
         if call == NONE {
             return false;
         }
-        let next = self.next_use(v, call.saturating_add(1));
+        let next = self.first_use(v, call.saturating_add(1));
         next != NONE && !(next > self.length() && self.ends_in_slot(v))
     }
 
@@ -110,6 +119,7 @@ impl<'a> Trial<'a> {
         };
         self.stays.put(t, stay);
         self.occupant.put(register, t);
+        self.marks.vacant = self.marks.vacant.without(register);
         self.set(self.temporary(t).register, register);
     }
 
@@ -120,11 +130,14 @@ impl<'a> Trial<'a> {
     }
 
     pub(super) fn release(&mut self, t: u32) {
-        if !self.is_resident(t) {
+        let mut stay = self.stays.at(t);
+        if !stay.active {
             return;
         }
-        let stay = self.stays.at(t);
+        stay.active = false;
+        self.stays.put(t, stay);
         self.occupant.put(stay.register, NONE);
+        self.marks.vacant = self.marks.vacant.with(stay.register);
         self.free_from.raise(
             stay.register,
             stay.last_read.max(stay.defined.saturating_add(1)),
@@ -132,7 +145,7 @@ impl<'a> Trial<'a> {
     }
 
     pub(super) fn release_if_dead(&mut self, v: u32) {
-        if self.use_behind(v) != NONE {
+        if self.use_behind.at(v) != NONE {
             return;
         }
         for t in &self.temporary(v).carriers {

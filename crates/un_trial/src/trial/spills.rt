@@ -45,13 +45,19 @@ impl<'a> Trial<'a> {
         if self.ends_in_slot(v) {
             return self.value_ends_in(v);
         }
+        let mut left = self.task.spare_slots.and(self.marks.vacant);
         let mut best = NONE;
         let mut least = NONE;
-        for s in FIRST_SLOT..REGISTERS {
-            let is_open = self.task.spare_slots.has(s) && self.occupant.at(s) == NONE;
-            if is_open && self.free_from.at(s) < least {
+        for _ in FIRST_SLOT..REGISTERS {
+            let Some(s) = left.take_least() else {
+                break;
+            };
+            if self.free_from.at(s) < least {
                 best = s;
                 least = self.free_from.at(s);
+            }
+            if least == 0 {
+                break;
             }
         }
         best
@@ -91,7 +97,7 @@ impl<'a> Trial<'a> {
     fn eviction_score(&self, t: u32) -> u64 {
         let v = self.value_of(t);
         let x = self.temporary(v);
-        let next = self.next_use(v, self.marks.position);
+        let next = self.next_use.at(v);
         if !self.is_resident(t) {
             return 0;
         }
@@ -130,13 +136,14 @@ impl<'a> Trial<'a> {
     }
 
     pub(super) fn victim(&self, set: RegisterSet) -> u32 {
+        let mut left = set.minus(self.marks.vacant).minus(self.marks.locked);
         let mut most = 0;
         let mut victim = NONE;
-        for r in 0..FIRST_SLOT {
+        for _ in 0..FIRST_SLOT {
+            let Some(r) = left.take_least() else {
+                break;
+            };
             let t = self.occupant.at(r);
-            if !set.has(r) || self.marks.locked.has(r) {
-                continue;
-            }
             let score = self.eviction_score(t);
             if score > most {
                 most = score;
@@ -148,7 +155,7 @@ impl<'a> Trial<'a> {
 
     /// Whether a temporary alone carries a value that is still read.
     fn is_needed(&self, t: u32) -> bool {
-        self.next_use(self.value_of(t), self.marks.position) != NONE && !self.is_elsewhere(t)
+        self.next_use.at(self.value_of(t)) != NONE && !self.is_elsewhere(t)
     }
 
     fn leave(&mut self, t: u32) -> Option<u32> {
