@@ -9,7 +9,7 @@ use un_isa::packet_counts::{Resource, share};
 use un_model::instructions::{instruction, latency, needs};
 use un_model::model::{Arc, BlockVars, Model, OpVars, TempVars};
 use un_trial::facts::{self, Gap, Needs, Operation};
-use un_trial::table::NONE;
+use un_trial::table::{NONE, Table};
 
 /// A block of a model, with the numbers at which it begins.
 #[derive(Clone, Copy)]
@@ -280,6 +280,28 @@ pub fn operations(alloc: Global, s: &Scope<'_>) -> Result<Vec<Operation>, AllocE
         o = o.saturating_add(1);
     }
     Ok(list)
+}
+
+/// For each operation, how many cycles behind it the block ends at least: precedences lead to later ones alone.
+pub fn tails(alloc: Global, operations: &[Operation]) -> Result<Table<u32>, AllocError> {
+    let mut tails = Table::of(Vec::new(alloc), 0);
+    tails.refill(u32::try_from(operations.len()).unwrap_or(0), 0)?;
+    let mut o = tails.len();
+    for op in operations.iter().rev() {
+        o = o.saturating_sub(1);
+        if op.cycle != NONE {
+            tails.raise(o, 1);
+        }
+        raise_tails(op, tails.at(o), &mut tails);
+    }
+    Ok(tails)
+}
+
+/// Raises the tails of the operations that stand before one with this tail.
+fn raise_tails(op: &Operation, tail: u32, tails: &mut Table<u32>) {
+    for gap in &op.before {
+        tails.raise(gap.from, tail.saturating_add(gap.cycles));
+    }
 }
 
 /// What stands for an operation where there is none.

@@ -1,7 +1,7 @@
 //! The facts of a block's temporaries, and of the block, read from the model.
 
 use crate::facts::{FIRST_KEPT, KEPT};
-use crate::gather::{Scope, is_mandatory, no_operation, operations};
+use crate::gather::{Scope, is_mandatory, no_operation, operations, tails};
 use std::alloc::{AllocError, Global};
 use un_ir::extended::{ExtKind, ExtOp, NodeCopy};
 use un_ir::function::{Kind, SrcOp};
@@ -280,6 +280,7 @@ pub fn block_facts(
 ) -> Result<BlockFacts, AllocError> {
     let operations = operations(alloc, s)?;
     let temporaries = temporaries(alloc, s)?;
+    let tails = tails(alloc, operations.as_slice())?;
     let (body, input) = lists(alloc, s)?;
     let end = s.vars.end.0;
     Ok(BlockFacts {
@@ -288,6 +289,7 @@ pub fn block_facts(
         first_variable,
         variables: end.saturating_add(1).saturating_sub(first_variable),
         operations: Table::of(operations, no_operation(alloc)),
+        tails,
         temporaries: Table::of(temporaries, no_temporary(alloc)),
         body,
         input,

@@ -3,6 +3,7 @@
 use crate::places::Places;
 use std::alloc::{AllocError, Global};
 use un_blocks::facts::Facts;
+use un_trial::trial::Size;
 
 /// What a trial may vary.
 #[derive(Drop)]
@@ -71,6 +72,12 @@ pub struct Cost {
     pub copies: u64,
 }
 
+/// No schedule is larger.
+pub const UNLIMITED: Size = Size {
+    end: u32::MAX,
+    copies: u32::MAX,
+};
+
 /// More than any plan costs.
 pub const ENDLESS: Cost = Cost {
     cycles: u64::MAX,
@@ -123,9 +130,16 @@ impl BlockPlan {
             .copy_from(recipe.order.as_slice(), recipe.spill_saved)
     }
 
-    /// Whether a schedule with this end and so many copies is not worse.
-    pub fn is_no_worse(&self, end: u32, copies: u32) -> bool {
-        !self.is_found || end < self.best.end || end == self.best.end && copies <= self.best.copies
+    /// The size of the best schedule; no limit where there is none.
+    pub fn size(&self) -> Size {
+        if self.is_found {
+            Size {
+                end: self.best.end,
+                copies: self.best.copies,
+            }
+        } else {
+            UNLIMITED
+        }
     }
 }
 

@@ -4,12 +4,12 @@ use crate::chance::Noise;
 use crate::changes::spare_slots;
 use crate::orders::move_one;
 use crate::places::Places;
-use crate::plan::{BlockPlan, Cost, Plan, Recipe};
+use crate::plan::{BlockPlan, Cost, Plan, Recipe, UNLIMITED};
 use std::alloc::{AllocError, Global};
 use std::mem;
 use un_blocks::facts::{Block, Facts};
 use un_trial::sets::{EMPTY, RegisterSet};
-use un_trial::trial::{Task, Trial};
+use un_trial::trial::{Size, Task, Trial};
 
 /// A recipe to begin with, where there is one.
 #[derive(Drop)]
@@ -76,6 +76,7 @@ impl<'a> Search<'a> {
             spill_saved: false,
             assignable: EMPTY,
             spare_slots: EMPTY,
+            most: UNLIMITED,
         };
         let seeds = seeds(alloc, facts.blocks.len())?;
         Ok(Search {
@@ -139,7 +140,7 @@ impl<'a> Search<'a> {
     /// Makes the trial the best of its block, where it is not worse.
     fn keep(&mut self, end: u32, mine: &mut BlockPlan) {
         let copies = self.trial.copies();
-        if !mine.is_no_worse(end, copies) {
+        if (Size { end, copies }).is_above(mine.size()) {
             return;
         }
         mine.is_found = true;
@@ -164,6 +165,7 @@ impl<'a> Search<'a> {
             spill_saved: self.recipe.spill_saved,
             assignable: self.facts.assignable,
             spare_slots: scene.spare_slots,
+            most: mine.size(),
         };
         let start = scene.places.row(block.group_in);
         let finish = scene.places.row(block.group_out);

@@ -139,6 +139,8 @@ pub struct BlockFacts {
     pub variables: u32,
     /// Its operations, by number.
     pub operations: Table<Operation>,
+    /// For each operation, how many cycles behind it the block ends at least.
+    pub tails: Table<u32>,
     /// Its temporaries, by number.
     pub temporaries: Table<Temporary>,
     /// Its source operations without the terminator, in the order of the source.

@@ -30,6 +30,10 @@ pub const GENERAL: RegisterSet = RegisterSet { mask: 0xffff_ffff };
 pub const PREDICATES: RegisterSet = RegisterSet {
     mask: 0xf_0000_0000,
 };
+/// All slots.
+pub const SLOTS: RegisterSet = RegisterSet {
+    mask: 0xf_ffff_ffff_ffff_fff0_0000_0000,
+};
 /// The registers that a call keeps and a return restores: r16 to r27.
 pub const KEPT: RegisterSet = RegisterSet { mask: 0xfff_0000 };
 /// What a call writes: r0 to r15, r28, r31, p0 to p3.

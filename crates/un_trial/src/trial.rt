@@ -10,6 +10,7 @@ mod ranges;
 mod spills;
 
 use crate::facts::{BlockFacts, Needs, Operand, Operation, ROOM, Temporary};
+use crate::pairs::Pairs;
 use crate::sets::{ALL, EMPTY, REGISTERS, RegisterSet};
 use crate::table::{NONE, Table};
 use std::alloc::{AllocError, Global};
@@ -27,6 +28,24 @@ pub struct Task<'a> {
     pub assignable: RegisterSet,
     /// The slots that no place uses.
     pub spare_slots: RegisterSet,
+    /// What a schedule may be at most: the trial is given up once it ends later, or as late with more copies.
+    pub most: Size,
+}
+
+/// How large a schedule is.
+#[derive(Clone, Copy)]
+pub struct Size {
+    /// The block's end.
+    pub end: u32,
+    /// How many copies are active.
+    pub copies: u32,
+}
+
+impl Size {
+    /// Whether a schedule is larger than another: it ends later, or as late with more copies.
+    pub fn is_above(self, other: Size) -> bool {
+        self.end > other.end || self.end == other.end && self.copies > other.copies
+    }
 }
 
 /// A temporary's register and its live range so far, `defined` to `last_read`.
@@ -63,7 +82,8 @@ struct Marks {
     position: u32,
     /// The place of the next call behind it; NONE where there is none.
     next_call: u32,
-    copies: u32,
+    /// What the schedule comes to at least.
+    least: Size,
     last_cycle: u32,
     /// The last cycle of a Spill or Reload.
     last_touch: u32,
@@ -78,7 +98,7 @@ const START: Marks = Marks {
     vacant: ALL,
     position: 0,
     next_call: NONE,
-    copies: 0,
+    least: Size { end: 0, copies: 0 },
     last_cycle: 0,
     last_touch: 0,
     last_call: 0,
@@ -121,6 +141,10 @@ pub struct Trial<'a> {
     /// The temporary in each register and slot, and the cycle from which another may start there.
     occupant: Table<u32>,
     free_from: Table<u32>,
+    /// The registers and slots in which temporaries stand that carry a value.
+    stands_in: Table<RegisterSet>,
+    /// The temporaries that the present operation reads, by operand.
+    got: Pairs,
     marks: Marks,
 }
 
@@ -147,6 +171,8 @@ impl<'a> Trial<'a> {
             placed: Table::of(Vec::new(alloc), false),
             occupant: no_numbers(alloc, NONE),
             free_from: no_numbers(alloc, 0),
+            stands_in: Table::of(Vec::new(alloc), EMPTY),
+            got: Pairs::new(),
             marks: START,
         }
     }
@@ -182,6 +208,7 @@ impl<'a> Trial<'a> {
         self.placed.refill(block.operations.len(), false)?;
         self.occupant.refill(REGISTERS, NONE)?;
         self.free_from.refill(REGISTERS, 0)?;
+        self.stands_in.refill(block.temporaries.len(), EMPTY)?;
         self.position_of.refill(block.operations.len(), NONE)
     }
 
@@ -223,7 +250,7 @@ impl<'a> Trial<'a> {
 
     /// How many copies the trial made.
     pub fn copies(&self) -> u32 {
-        self.marks.copies
+        self.marks.least.copies
     }
 
     /// Exchanges the values of the block's variables, from its first on, with a list.
@@ -301,6 +328,8 @@ impl<'a> Trial<'a> {
         }
         self.counts.put(cycle, used);
         self.marks.last_cycle = self.marks.last_cycle.max(cycle);
+        let end = cycle.saturating_add(self.task.block.tails.at(o));
+        self.marks.least.end = self.marks.least.end.max(end);
         self.set(self.operation(o).cycle, cycle);
     }
 

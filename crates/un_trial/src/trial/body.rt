@@ -1,29 +1,39 @@
 //! Operations of the source other than calls.
 
-use super::Trial;
-use crate::facts::Operation;
+use super::{Trial, place_of};
+use crate::facts::{Operand, Operation};
 use crate::pairs::Pairs;
-use crate::sets::EMPTY;
+use crate::sets::{EMPTY, REGISTERS};
 use crate::table::NONE;
 
 impl<'a> Trial<'a> {
-    /// The temporaries that an operation's operands read, each in a register of its own.
-    fn acquire_all(&mut self, o: u32) -> Option<Pairs> {
-        let operands = self.operation(o).operands.as_slice();
-        let mut got = Pairs::new();
-        self.marks.locked = EMPTY;
-        for x in operands {
-            for t in &x.alternatives {
-                self.lock(*t);
+    /// Locks the registers in which alternatives of an operand stand.
+    fn lock_alternatives(&mut self, x: &Operand) {
+        let mut left = self.stands_in.at(x.value);
+        for _ in 0..REGISTERS {
+            let Some(r) = left.take_least() else {
+                break;
+            };
+            if place_of(x.alternatives.as_slice(), self.occupant.at(r)).is_some() {
+                self.marks.locked = self.marks.locked.with(r);
             }
         }
-        for x in operands {
+    }
+
+    /// Gets what an operation's operands read, each in a register of its own.
+    fn acquire_all(&mut self, op: &Operation) -> Option<()> {
+        self.got.clear();
+        self.marks.locked = EMPTY;
+        for x in &op.operands {
+            self.lock_alternatives(x);
+        }
+        for x in &op.operands {
             let t = self.acquire(x, NONE)?;
-            got.push(got.len(), t)?;
+            self.got.push(self.got.len(), t)?;
             self.lock(t);
             self.choose(x, t)?;
         }
-        Some(got)
+        Some(())
     }
 
     /// The least cycle that the precedences to an operation and the temporaries that it reads allow.
@@ -36,9 +46,9 @@ impl<'a> Trial<'a> {
     }
 
     /// Reads operands at a cycle; the registers of those that died are free from then on. None where one was given away too early.
-    fn read_all(&mut self, got: &Pairs, cycle: u32) -> Option<()> {
-        for i in 0..got.len() {
-            let t = got.at(i).item;
+    fn read_all(&mut self, cycle: u32) -> Option<()> {
+        for i in 0..self.got.len() {
+            let t = self.got.at(i).item;
             self.read_at(t, cycle);
             let r = self.register_of(t);
             let other = self.occupant.at(r);
@@ -54,37 +64,38 @@ impl<'a> Trial<'a> {
     }
 
     /// Releases the values that an operation reads last, whose registers are free from the cycle at which it fits now.
-    fn release_read(&mut self, op: &Operation, got: &Pairs, cycle: u32) {
+    fn release_read(&mut self, op: &Operation, cycle: u32) {
         for x in &op.operands {
             self.release_if_dead(x.value);
         }
-        for i in 0..got.len() {
-            let t = got.at(i).item;
-            if !self.is_resident(t) {
-                let r = self.register_of(t);
+        self.marks.locked = EMPTY;
+        for i in 0..self.got.len() {
+            let t = self.got.at(i).item;
+            let r = self.register_of(t);
+            if self.is_resident(t) {
+                self.marks.locked = self.marks.locked.with(r);
+            } else {
                 self.free_from.raise(r, cycle);
             }
         }
-        self.marks.locked = EMPTY;
-        self.lock_all(got);
     }
 
     pub(super) fn place_body(&mut self, o: u32) -> Option<()> {
         let op = self.operation(o);
-        let got = self.acquire_all(o)?;
-        let earliest = self.ready_with(o, &got);
+        self.acquire_all(op)?;
+        let earliest = self.ready_with(o, &self.got);
         let cycle = self.first_fit(earliest, op.needs);
-        self.release_read(op, &got, cycle);
+        self.release_read(op, cycle);
         if op.result == NONE {
             self.issue(o, cycle, op.needs);
-            return self.read_all(&got, cycle);
+            return self.read_all(cycle);
         }
         let hint = self.value_ends_in(op.result);
         let is_predicate = self.temporary(op.result).is_predicate;
         let register = self.take(is_predicate, op.result, earliest, hint)?;
         let cycle = self.first_fit(earliest.max(self.free_from.at(register)), op.needs);
         self.issue(o, cycle, op.needs);
-        self.read_all(&got, cycle)?;
+        self.read_all(cycle)?;
         self.occupy(op.result, register, cycle, op.latency);
         self.release_if_dead(op.result);
         Some(())

@@ -3,19 +3,10 @@
 use super::Trial;
 use crate::facts::Operand;
 use crate::pairs::Pairs;
-use crate::sets::{CLOBBERED, EMPTY, FIRST_SLOT, GENERAL, LINK, PREDICATES};
+use crate::sets::{ALL, CLOBBERED, EMPTY, FIRST_SLOT, GENERAL, LINK, PREDICATES};
 use crate::table::NONE;
 
 impl<'a> Trial<'a> {
-    /// Whether a temporary outlives a call and serves all later readers.
-    fn is_safe(&self, t: u32) -> bool {
-        self.is_root(t) && !CLOBBERED.has(self.register_of(t))
-    }
-
-    fn has_safe_carrier(&self, v: u32) -> bool {
-        self.temporary(v).carriers.iter().any(|c| self.is_safe(*c))
-    }
-
     /// The values that a call would destroy, by next use.
     fn endangered(&self) -> Option<Pairs> {
         let mut list = Pairs::new();
@@ -26,7 +17,7 @@ impl<'a> Trial<'a> {
             };
             let v = self.value_of(self.occupant.at(r));
             let next = self.use_behind.at(v);
-            if next != NONE && !self.has_safe_carrier(v) {
+            if next != NONE && !self.has_root(v, ALL.minus(CLOBBERED), NONE) {
                 list.insert(next, v)?;
             }
         }

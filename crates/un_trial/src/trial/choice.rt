@@ -5,24 +5,31 @@ use crate::sets::{FIRST_SLOT, GENERAL, KEPT, PREDICATES, RegisterSet};
 use crate::table::NONE;
 
 impl<'a> Trial<'a> {
+    /// What speaks against a register: the cycle from which a value can stand there, and a taste.
+    fn score(&self, r: u32, earliest: u32, taste: u64) -> u64 {
+        let start = u64::from(earliest.max(self.free_from.at(r)));
+        start.saturating_mul(64).saturating_add(taste)
+    }
+
     /// The free register that is free first; the hint is preferred, places of others at the end are spared.
     pub(super) fn best_free(&self, set: RegisterSet, earliest: u32, hint: u32) -> u32 {
         let mut left = set.and(self.marks.vacant).minus(self.marks.locked);
         let mut best = NONE;
         let mut least = u64::MAX;
+        if left.has(hint) {
+            best = hint;
+            least = self.score(hint, earliest, 0);
+        }
+        let floor = u64::from(earliest).saturating_mul(64).saturating_add(80);
         for _ in 0..FIRST_SLOT {
             let Some(r) = left.take_least() else {
                 break;
             };
-            let taste = if r == hint {
-                0
-            } else if self.marks.ends_in.has(r) {
-                100
-            } else {
-                80
-            };
-            let start = u64::from(earliest.max(self.free_from.at(r)));
-            let score = start.saturating_mul(64).saturating_add(taste);
+            if least <= floor {
+                break;
+            }
+            let taste = if self.marks.ends_in.has(r) { 100 } else { 80 };
+            let score = self.score(r, earliest, taste);
             if score < least {
                 least = score;
                 best = r;

@@ -140,6 +140,9 @@ impl<'a> Trial<'a> {
             self.go_to(place);
             let o = self.order.at(place);
             self.place(o)?;
+            if self.marks.least.is_above(self.task.most) {
+                return None;
+            }
         }
         self.finish()
     }

@@ -4,7 +4,7 @@
 use super::{Trial, place_of};
 use crate::facts::{Operand, copy_instruction};
 use crate::pairs::{Pair, Pairs};
-use crate::sets::{GENERAL, Space, space_at};
+use crate::sets::{FIRST_SLOT, GENERAL, PREDICATES, RegisterSet, Space, space_at};
 use crate::table::NONE;
 
 impl<'a> Trial<'a> {
@@ -59,15 +59,29 @@ impl<'a> Trial<'a> {
         Some(got)
     }
 
-    /// An operand's alternative in a register that is available first.
-    fn standing(&self, x: &Operand, wanted: Space) -> u32 {
+    /// An operand's alternative in one of these registers that is available first, the first of them; NONE where there is none.
+    fn standing(&self, x: &Operand, wanted: RegisterSet) -> u32 {
+        let mut left = self.stands_in.at(x.value).and(wanted);
         let mut best = NONE;
-        let mut least = u32::MAX;
-        for t in &x.alternatives {
-            let is_there = self.is_resident(*t) && self.space_of(*t) == wanted;
-            if is_there && self.stays.at(*t).available < least {
-                best = *t;
-                least = self.stays.at(*t).available;
+        let mut least = Pair {
+            place: NONE,
+            item: NONE,
+        };
+        for _ in 0..FIRST_SLOT {
+            let Some(r) = left.take_least() else {
+                break;
+            };
+            let t = self.occupant.at(r);
+            let Some(place) = place_of(x.alternatives.as_slice(), t) else {
+                continue;
+            };
+            let it = Pair {
+                place: self.stays.at(t).available,
+                item: place,
+            };
+            if it.is_below(least) {
+                least = it;
+                best = t;
             }
         }
         best
@@ -91,9 +105,9 @@ impl<'a> Trial<'a> {
     pub(super) fn acquire(&mut self, x: &Operand, hint: u32) -> Option<u32> {
         let is_predicate = self.temporary(x.value).is_predicate;
         let wanted = if is_predicate {
-            Space::Predicate
+            PREDICATES
         } else {
-            Space::General
+            GENERAL
         };
         let best = self.standing(x, wanted);
         if best != NONE {

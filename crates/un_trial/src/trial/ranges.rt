@@ -2,7 +2,7 @@
 
 use super::{Stay, Trial};
 use crate::facts::Operand;
-use crate::sets::{FIRST_SLOT, Space, space_at};
+use crate::sets::{ALL, FIRST_SLOT, REGISTERS, RegisterSet, SLOTS, Space, space_at};
 use crate::table::NONE;
 
 impl<'a> Trial<'a> {
@@ -84,29 +84,33 @@ impl<'a> Trial<'a> {
         if call == NONE {
             return false;
         }
-        let next = self.first_use(v, call.saturating_add(1));
-        next != NONE && !(next > self.length() && self.ends_in_slot(v))
+        let x = self.temporary(v);
+        let is_read = x.readers.iter().any(|o| self.position_of.at(*o) > call);
+        is_read || x.at_end != NONE && !self.ends_in_slot(v)
     }
 
-    pub(super) fn is_root(&self, t: u32) -> bool {
-        self.is_resident(t) && self.temporary(t).is_root
+    /// Whether a temporary that every later reader of a value may choose stands in one of these registers, another than `t`.
+    pub(super) fn has_root(&self, v: u32, among: RegisterSet, t: u32) -> bool {
+        let mut left = self.stands_in.at(v).and(among);
+        for _ in 0..REGISTERS {
+            let Some(r) = left.take_least() else {
+                break;
+            };
+            let c = self.occupant.at(r);
+            if c != t && self.temporary(c).is_root {
+                return true;
+            }
+        }
+        false
     }
 
     /// Whether another copy that every later reader may choose stands somewhere.
     pub(super) fn is_elsewhere(&self, t: u32) -> bool {
-        self.temporary(self.value_of(t))
-            .carriers
-            .iter()
-            .any(|c| *c != t && self.is_root(*c))
+        self.has_root(self.value_of(t), ALL, t)
     }
 
     pub(super) fn slot_copy(&self, v: u32) -> u32 {
-        for t in &self.temporary(v).carriers {
-            if self.is_resident(*t) && self.space_of(*t) == Space::Slot {
-                return *t;
-            }
-        }
-        NONE
+        self.occupant.at(self.stands_in.at(v).and(SLOTS).least())
     }
 
     pub(super) fn occupy(&mut self, t: u32, register: u32, cycle: u32, latency: u32) {
@@ -120,6 +124,8 @@ impl<'a> Trial<'a> {
         self.stays.put(t, stay);
         self.occupant.put(register, t);
         self.marks.vacant = self.marks.vacant.without(register);
+        let v = self.value_of(t);
+        self.stands_in.put(v, self.stands_in.at(v).with(register));
         self.set(self.temporary(t).register, register);
     }
 
@@ -138,6 +144,9 @@ impl<'a> Trial<'a> {
         self.stays.put(t, stay);
         self.occupant.put(stay.register, NONE);
         self.marks.vacant = self.marks.vacant.with(stay.register);
+        let v = self.value_of(t);
+        self.stands_in
+            .put(v, self.stands_in.at(v).without(stay.register));
         self.free_from.raise(
             stay.register,
             stay.last_read.max(stay.defined.saturating_add(1)),
@@ -148,8 +157,13 @@ impl<'a> Trial<'a> {
         if self.use_behind.at(v) != NONE {
             return;
         }
-        for t in &self.temporary(v).carriers {
-            self.release(*t);
+        let mut left = self.stands_in.at(v);
+        for _ in 0..REGISTERS {
+            let Some(r) = left.take_least() else {
+                break;
+            };
+            let t = self.occupant.at(r);
+            self.release(t);
         }
     }
 

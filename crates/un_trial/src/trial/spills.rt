@@ -33,7 +33,7 @@ impl<'a> Trial<'a> {
         }
         self.read_at(source, cycle);
         self.placed.put(o, true);
-        self.marks.copies = self.marks.copies.saturating_add(1);
+        self.marks.least.copies = self.marks.least.copies.saturating_add(1);
         self.set(op.instruction, instruction);
         self.choose(op.operands.first()?, source)?;
         self.occupy(op.result, register, cycle, copy_latency(instruction));
