@@ -1,10 +1,10 @@
 -- Which values cross a call in a solution, and that the call issues behind their Spills and before their Reloads.
 use Rattle.std.proofs.Common.{ℕ, zero, suc, ◌≡◌, ◌<◌, ◌≤◌, ◌+◌, ◌-◌, ◌/◌, Bool, true}
 use Rattle.std.proofs.Common.{false, cond, List, [], ◌∷◌, ◌++◌, length, map, filter, inl, inr}
-use Rattle.std.proofs.Common.{refl, sym, ap, ◌∙◌, subst, arith, eq-eqb}
+use Rattle.std.proofs.Common.{◌⊎◌, refl, sym, ap, ◌∙◌, subst, arith, eq-eqb}
 use Rattle.std.specs.Prelude.{Option, Some, None, not, ◌&&◌, ◌||◌, ◌==◌, slice_get, slice_index, is_some, if◌then◌else◌}
 use Rattle.std.specs.List.{list_any, range_with_len}
-use Rattle.std.proofs.lemmas.Bool.{eqb-true}
+use Rattle.std.proofs.lemmas.Bool.{eqb-true, cases_lt}
 use Rattle.std.proofs.lemmas.List.Elements.{filter-append}
 use Rattle.un_base.specs.declared.ids.TempId.{TempId}
 use Rattle.un_base.specs.declared.ids.VarId.{VarId}
@@ -15,7 +15,7 @@ use Rattle.un_isa.specs.declared.reg.Reg.{Reg}
 use Rattle.un_ir.specs.declared.function.Term.{Term}
 use Rattle.un_ir.specs.declared.function.Term.TheVariants.{Fall, Jump, Branch, Ret}
 use Rattle.un_ir.specs.Extended.{temp, all_results, wants_of}
-use Rattle.un_ir.specs.Kinds.{is_call_kind, is_delimiter, is_mandatory}
+use Rattle.un_ir.specs.Kinds.{is_call_kind, is_delimiter, is_mandatory, is_source}
 use Rattle.un_ir.specs.Linear.{first_of}
 use Rattle.un_ir.specs.declared.extended.ExtKind.{ExtKind}
 use Rattle.un_ir.specs.declared.extended.ExtKind.TheVariants.{In, Out, Body, End, Copy, Enter, Leave}
@@ -29,15 +29,15 @@ use Rattle.un_model.specs.Pairs.{joined, places_from}
 use Rattle.un_model.specs.Schedules.{schedule_of, issues_of, value_by}
 use Rattle.un_model.specs.Solutions.{IsSchedule, latency_gap}
 use Rattle.un_model.specs.Variables.{model_of, arcs_of}
-use Rattle.un_model.proofs.Lists.{Each, Pairwise, Member, each_of}
+use Rattle.un_model.proofs.Lists.{Each, Pairwise, Member, each_of, each_member, pairwise_more, member_append_right}
 use Rattle.un_model.proofs.Lists.{each_map, member_map_of, member_of_filter, any_of, place_of as position_of}
 use Rattle.un_model.proofs.Lists.{pairwise_of_map, pairwise_map, pairwise_filter, pairwise_append_left, pairwise_append_right, member_map}
 use Rattle.un_model.proofs.Placed.{Placed, Region, region_placed, vars_of, issue_at}
 use Rattle.un_model.proofs.Placed.{Spot, spot, spots_of, all_spots, issues_are, results_are}
-use Rattle.un_model.proofs.PlacedSchedules.{all, spots}
+use Rattle.un_model.proofs.PlacedSchedules.{all, spots, one_spot, member_joined, member_places}
 use Rattle.un_model.proofs.Readings.{Solved}
 use Rattle.un_press.specs.Accesses.{Spills, Reloads}
-use Rattle.un_press.proofs.Counting.{Differ}
+use Rattle.un_press.proofs.Counting.{Differ, length_mapped}
 use Rattle.un_press.proofs.Crossings.{Crossing}
 use Rattle.un_press.proofs.Descent.{cycle_at, Reader}
 use Rattle.un_press.proofs.Kept.{saved_cover, entry_starts}
@@ -47,7 +47,9 @@ use Rattle.un_press.proofs.Spilling.{Saved, must_spill}
 use Rattle.un_sites.specs.Lengths.{head_by, tail_by}
 use Rattle.un_sites.specs.Places.{Place}
 use Rattle.un_sites.specs.Rooms.{arcs_or, is_behind, temps_in}
-use Rattle.un_sites.specs.Crossings.{is_register_home, is_asked, reads_value, is_read, is_ahead, crossing, spills_at, reloads_at}
+use Rattle.un_sites.specs.Crossings.{is_register_home, is_asked, reads_value, is_ahead, is_loose, is_carried, handed, crossing, is_crossing}
+use Rattle.un_sites.specs.Crossings.{spills_at, reloads_at}
+use Rattle.un_sites.proofs.Carrying.{GivesOthers, GiveNone, IsEarlyOrLate, Carrying, carrying}
 use Rattle.un_post.proofs.Blocks.{blocks, region_places, in_all, stands_in, region_close}
 use Rattle.un_post.proofs.BlockTemps.{region_spots, definer_in, spot_all, spots_by_blocks, results_are as temps_are}
 use Rattle.un_post.proofs.CallOrder.{ordered}
@@ -118,6 +120,54 @@ or_right : (a b : Bool) → a ≡ false → (a || b) ≡ true → b ≡ true
 or_right true b e h = absurd (cc e)
 or_right false b e h = h
 
+both_ways : (a : Bool) → a ≡ true → not a ≡ true → ⊥
+both_ways true h k = absurd (cc k)
+both_ways false h k = absurd (cc h)
+
+source_mandatory : (kind : ExtKind) → is_source kind ≡ true → is_mandatory kind ≡ true
+source_mandatory (Body so) h = refl
+source_mandatory In h = absurd (cc h)
+source_mandatory Out h = absurd (cc h)
+source_mandatory (End term) h = absurd (cc h)
+source_mandatory (Copy node) h = absurd (cc h)
+source_mandatory Enter h = absurd (cc h)
+source_mandatory Leave h = absurd (cc h)
+
+-- what an operation of the source reads is in a register
+source_asked : (b : Bool) (kind : ExtKind) (y : Operand) → is_source kind ≡ true → is_asked b kind y ≡ true
+source_asked true (Body so) y h = refl
+source_asked false (Body so) y h = refl
+source_asked b In y h = absurd (cc h)
+source_asked b Out y h = absurd (cc h)
+source_asked b (End term) y h = absurd (cc h)
+source_asked b (Copy node) y h = absurd (cc h)
+source_asked b Enter y h = absurd (cc h)
+source_asked b Leave y h = absurd (cc h)
+
+-- of two parts of a list of which each two are related, an element of the first is to one of the second
+pairwise_cross : {X : Type 0} (R : X → X → Type 0) (xs ys : List X) (a b : X) → Pairwise R (xs ++ ys) → Member a xs → Member b ys → R a b
+pairwise_cross R [] ys a b h m n = elim m [ ]
+pairwise_cross R (x ∷ xs) ys a b h (inl e) n =
+    subst (λ z. R z b) e (each_member (R x) (xs ++ ys) b h.0 (member_append_right xs ys b n))
+pairwise_cross R (x ∷ xs) ys a b h (inr m) n = pairwise_cross R xs ys a b h.1 m n
+
+abbrev OtherTemp : Spot → Spot → Type 0
+OtherTemp s u = s.temp ≡ u.temp → ⊥
+
+-- operations of which all results are different give different ones
+gives_others : (qs : List Placed) → Pairwise OtherTemp (all_spots qs) → Pairwise (λ p q. GivesOthers (place_of p) (place_of q)) qs
+gives_others [] h = tt
+gives_others (q ∷ qs) h = (
+  each_of (λ p. GivesOthers (place_of q) (place_of p)) qs (λ p m t u mt mu same.
+      let j = position_of q.op.results t mt in
+      let k = position_of p.op.results u mu in
+      pairwise_cross OtherTemp (spots_of q) (all_spots qs) (spot q j.0 t) (spot p k.0 u) h
+      (member_places (spot q) q.op.results 0 j.0 j.0 t (omega arith) j.2)
+      (member_joined (map spots_of qs) (spots_of p) (spot p k.0 u) (member_map spots_of qs p m)
+      (member_places (spot p) p.op.results 0 k.0 k.0 u (omega arith) k.2)) (ap temp same)),
+  gives_others qs (pairwise_append_right OtherTemp (spots_of q) (all_spots qs) h),
+)
+
 -- ---- margins
 
 some_of : (n : ℕ) → (n == 0) ≡ false → 0 < n
@@ -143,7 +193,7 @@ module _ (e : Ext) (o : Options) (x : List ℕ) (given : Given e o x)
   solved = record { extended = given.extended; fit = given.fit; options = given.options; schedule = schedule }
 
   abbrev Other : Spot → Spot → Type 0
-  Other s u = s.temp ≡ u.temp → ⊥
+  Other s u = OtherTemp s u
 
   -- all results are different
   different : Pairwise Other (spots e o x)
@@ -195,108 +245,259 @@ module _ (e : Ext) (o : Options) (x : List ℕ) (given : Given e o x)
     all_c : Member c (all e o x)
     all_c = in_all e o x r c mr mc
 
+    spot_in_region : (q : Placed) (k : ℕ) (t : TempId) → Member q (region_placed r) → slice_get q.op.results k ≡ Some t
+        → Member (spot q k t) (region_spots r)
+    spot_in_region q k t m at = member_joined (map spots_of (region_placed r)) (spots_of q) (spot q k t)
+        (member_map spots_of (region_placed r) q m) (member_places (spot q) q.op.results 0 k k t (omega arith) at)
+
+    abbrev loose : Placed → Bool
+    loose q = is_loose arcs (place_of c) (place_of q)
+
+    abbrev free : List Place
+    free = filter (is_loose arcs (place_of c)) (region_places r)
+
     -- ---- the values
 
+    abbrev crosses : Bool → ℕ → Bool
+    crosses b n = is_carried b behind (handed b behind free) n
+
     abbrev crossing_spots : Bool → List Spot
-    crossing_spots b = filter (λ (s : Spot). is_read b behind s.temp) (filter (by_definer ahead) (region_spots r))
+    crossing_spots b = filter (λ (s : Spot). crosses b s.temp.0) (filter (by_definer ahead) (region_spots r))
 
     values_are : (b : Bool) → crossing b arcs (region_places r) (place_of c) ≡ map (λ (s : Spot). s.temp) (crossing_spots b)
     values_are b =
-        ap (λ ps. filter (is_read b behind) (temps_in ps)) (filter_map (is_ahead arcs (place_of c)) place_of (region_placed r))
-        ∙ ap (filter (is_read b behind)) (temps_are (filter ahead (region_placed r)))
-        ∙ ap (λ ss. filter (is_read b behind) (map (λ (s : Spot). s.temp) ss)) (spots_filter ahead (region_placed r))
-        ∙ filter_map (is_read b behind) (λ (s : Spot). s.temp) (filter (by_definer ahead) (region_spots r))
+        ap (λ ps. filter (is_crossing b behind free) (temps_in ps)) (filter_map (is_ahead arcs (place_of c)) place_of (region_placed r))
+        ∙ ap (filter (is_crossing b behind free)) (temps_are (filter ahead (region_placed r)))
+        ∙ ap (λ ss. filter (is_crossing b behind free) (map (λ (s : Spot). s.temp) ss)) (spots_filter ahead (region_placed r))
+        ∙ filter_map (is_crossing b behind free) (λ (s : Spot). s.temp) (filter (by_definer ahead) (region_spots r))
 
-    values_differ : (b : Bool) → Differ (crossing b arcs (region_places r) (place_of c))
-    values_differ b = subst (λ vs. Differ vs) (sym (values_are b))
-        (pairwise_map (λ x y. x ≡ y → ⊥) (λ (s : Spot). s.temp) (crossing_spots b)
-        (pairwise_filter Other (λ (s : Spot). is_read b behind s.temp) (filter (by_definer ahead) (region_spots r))
-        (pairwise_filter Other (by_definer ahead) (region_spots r)
-        (pairwise_part Other (map region_spots (blocks e o x)) (region_spots r)
-        (subst (Pairwise Other) (spots_by_blocks e o x) different) (member_map region_spots (blocks e o x) r mr)))))
+    region_differs : Pairwise Other (region_spots r)
+    region_differs = pairwise_part Other (map region_spots (blocks e o x)) (region_spots r)
+        (subst (Pairwise Other) (spots_by_blocks e o x) different) (member_map region_spots (blocks e o x) r mr)
 
-    -- a value that crosses the call, and one of its readers
-    record Crosses (b : Bool) (v : TempId) : Type 0 where
+    spots_differ : (b : Bool) → Pairwise Other (crossing_spots b)
+    spots_differ b = pairwise_filter Other (λ (s : Spot). crosses b s.temp.0) (filter (by_definer ahead) (region_spots r))
+        (pairwise_filter Other (by_definer ahead) (region_spots r) region_differs)
+
+    -- ---- what is there, and what is read
+
+    -- a value that is there in the call's cycle and is not its result
+    record There (n : ℕ) : Type 0 where
       own : Spot
       member : Member own (region_spots r)
-      is : own.temp ≡ v
-      before : is_ahead arcs (place_of c) (place_of own.definer) ≡ true
+      is : own.temp ≡ temp n
+      early : cycle_at e o x solved own.definer ≤ cycle_at e o x solved c
+      other : own.definer.number ≡ c.number → ⊥
+
+    -- what reads a value after the call's cycle
+    record After (b : Bool) (n : ℕ) : Type 0 where
       user : Placed
       of_block : Member user (region_placed r)
-      after : is_behind arcs (place_of c) (place_of user) ≡ true
+      late : cycle_at e o x solved c < cycle_at e o x solved user
       mandatory : is_mandatory user.op.kind ≡ true
       place : ℕ
       operand : Operand
       at : slice_get user.op.operands place ≡ Some operand
-      reads : first_of operand.alts ≡ v.0
+      reads : first_of operand.alts ≡ n
       asked : is_asked b user.op.kind operand ≡ true
 
-    crosses : (b : Bool) (v : TempId) → Member v (crossing b arcs (region_places r) (place_of c)) → Crosses b v
-    crosses b v m =
-        let found = member_map_of (λ (s : Spot). s.temp) (crossing_spots b) v (subst (Member v) (values_are b) m) in
-        let s = found.0 in
-        let outer = member_of_filter (λ (s : Spot). is_read b behind s.temp) (filter (by_definer ahead) (region_spots r)) s found.1 in
-        let inner = member_of_filter (by_definer ahead) (region_spots r) s outer.0 in
-        let read = any_of (reads_value b s.temp.0) behind outer.1 in
+    -- what is ahead of the call is there
+    there_ahead : (s : Spot) → Member s (region_spots r) → ahead s.definer ≡ true → There s.temp.0
+    there_ahead s m t =
+        let two = (and_iff (not (s.definer.number == c.number)) _).1 t in
+        record {
+          own = s;
+          member = m;
+          is = refl;
+          early = order.before s.definer c (definer_in (region_placed r) s m) mc call two.1;
+          other = not_same s.definer.number c.number two.0;
+        }
+
+    -- what is behind it reads later
+    after_behind : (b : Bool) (n : ℕ) → list_any (reads_value b n) behind ≡ true → After b n
+    after_behind b n h =
+        let read = any_of (reads_value b n) behind h in
         let of_behind = member_of_filter (is_behind arcs (place_of c)) (region_places r) read.0 read.1 in
         let q = member_map_of place_of (region_placed r) read.0 of_behind.0 in
         let after : is_behind arcs (place_of c) (place_of q.0) ≡ true = ap (is_behind arcs (place_of c)) q.2 ∙ of_behind.1 in
-        let told : reads_value b s.temp.0 (place_of q.0) ≡ true = ap (reads_value b s.temp.0) q.2 ∙ read.2 in
-        let test = λ (y : Operand). first_of y.alts == s.temp.0 && is_asked b q.0.op.kind y in
+        let told : reads_value b n (place_of q.0) ≡ true = ap (reads_value b n) q.2 ∙ read.2 in
+        let test = λ (y : Operand). first_of y.alts == n && is_asked b q.0.op.kind y in
         let two = (and_iff (is_mandatory q.0.op.kind) (list_any test q.0.op.operands)).1 told in
         let y = any_of test q.0.op.operands two.1 in
-        let both = (and_iff (first_of y.0.alts == s.temp.0) (is_asked b q.0.op.kind y.0)).1 y.2 in
+        let both = (and_iff (first_of y.0.alts == n) (is_asked b q.0.op.kind y.0)).1 y.2 in
         let k = position_of q.0.op.operands y.0 y.1 in
+        let le = order.behind c q.0 mc q.1 call after in
         record {
-          own = s;
-          member = inner.0;
-          is = found.2;
-          before = inner.1;
           user = q.0;
           of_block = q.1;
-          after = after;
+          late = omega (arith, le);
           mandatory = two.0;
           place = k.0;
           operand = y.0;
           at = k.2;
-          reads = eqb-true (first_of y.0.alts) s.temp.0 both.0 ∙ ap (λ (t : TempId). t.0) found.2;
+          reads = eqb-true (first_of y.0.alts) n both.0;
           asked = both.1;
         }
 
+    -- ---- operations between
+
+    between : List Placed
+    between = filter loose (region_placed r)
+
+    free_are : free ≡ map place_of between
+    free_are = filter_map (is_loose arcs (place_of c)) place_of (region_placed r)
+
+    -- an operation between issues by the call's cycle or after it
+    early_or_late : (b : Bool) (q : Placed) → Member q between → IsEarlyOrLate b behind There (After b) (after_behind b) (place_of q)
+    early_or_late b q m = by (cases_lt (cycle_at e o x solved c) (cycle_at e o x solved q))
+      where
+        in_block : Member q (region_placed r)
+        in_block = (member_of_filter loose (region_placed r) q m).0
+
+        is : loose q ≡ true
+        is = (member_of_filter loose (region_placed r) q m).1
+
+        source : is_source q.op.kind ≡ true
+        source = ((and_iff (is_source q.op.kind) _).1 is).0
+
+        other : not (q.number == c.number) ≡ true
+        other = ((and_iff (not (q.number == c.number)) (not (ahead q))).1 ((and_iff (is_source q.op.kind) _).1 is).1).0
+
+        by : (cycle_at e o x solved c < cycle_at e o x solved q) ⊎ (cycle_at e o x solved q ≤ cycle_at e o x solved c)
+            → IsEarlyOrLate b behind There (After b) (after_behind b) (place_of q)
+        by (inl lt) = inr (λ k y at. record {
+          user = q;
+          of_block = in_block;
+          late = lt;
+          mandatory = source_mandatory q.op.kind source;
+          place = k;
+          operand = y;
+          at = at;
+          reads = refl;
+          asked = source_asked b q.op.kind y source;
+        })
+        by (inr le) = inl (λ t mt. (
+            let k = position_of q.op.results t mt in
+            record {
+              own = spot q k.0 t;
+              member = spot_in_region q k.0 t in_block k.2;
+              is = refl;
+              early = le;
+              other = not_same q.number c.number other;
+            }))
+
+    each_early_or_late : (b : Bool) → Each (IsEarlyOrLate b behind There (After b) (after_behind b)) free
+    each_early_or_late b = subst (λ ps. Each (IsEarlyOrLate b behind There (After b) (after_behind b)) ps) (sym free_are)
+        (each_map (IsEarlyOrLate b behind There (After b) (after_behind b)) place_of between
+        (each_of (λ q. IsEarlyOrLate b behind There (After b) (after_behind b) (place_of q)) between (early_or_late b)))
+
+    give_others : Pairwise GivesOthers free
+    give_others = subst (λ ps. Pairwise GivesOthers ps) (sym free_are)
+        (pairwise_map GivesOthers place_of between (gives_others between
+        (subst (Pairwise Other) (sym (spots_filter loose (region_placed r)))
+        (pairwise_filter Other (by_definer loose) (region_spots r) region_differs))))
+
+    carried : (b : Bool) → Carrying b behind There (After b) (after_behind b) free
+    carried b = carrying b behind There (After b) (after_behind b) free (each_early_or_late b) give_others
+
+    -- what is ahead of the call is given by none of them
+    none_gives : (s : Spot) → Member s (region_spots r) → ahead s.definer ≡ true → GiveNone free s.temp.0
+    none_gives s m t = subst (λ ps. GiveNone ps s.temp.0) (sym free_are)
+        (each_map (λ (p : Place). (u : TempId) → Member u p.it.results → u.0 ≡ s.temp.0 → ⊥) place_of between
+        (each_of (λ (q : Placed). (u : TempId) → Member u q.op.results → u.0 ≡ s.temp.0 → ⊥) between (λ q mq u mu same.
+        let found = member_of_filter loose (region_placed r) q mq in
+        let k = position_of q.op.results u mu in
+        let one = one_spot e o x (numbered e o x given) (spot q k.0 u) s (spot_all e o x r (spot q k.0 u) mr
+        (spot_in_region q k.0 u found.0 k.2)) (spot_all e o x r s mr m) same in
+        let is : ahead q ≡ true = ap (λ (v : Spot). ahead v.definer) one ∙ t in
+        let no : not (ahead q) ≡ true = ((and_iff (not (q.number == c.number)) (not (ahead q))).1
+        ((and_iff (is_source q.op.kind) _).1 found.1).1).1 in
+        absurd (both_ways (ahead q) is no))))
+
+    -- ---- what the values that cross come to
+
+    abbrev last : Bool → Spot → TempId
+    last b s = temp ((carried b).last s.temp.0)
+
+    record Found (b : Bool) (s : Spot) : Type 0 where
+      member : Member s (region_spots r)
+      crosses_on : crosses b s.temp.0 ≡ true
+      before : ahead s.definer ≡ true
+
+    found : (b : Bool) (s : Spot) → Member s (crossing_spots b) → Found b s
+    found b s m =
+        let outer = member_of_filter (λ (s : Spot). crosses b s.temp.0) (filter (by_definer ahead) (region_spots r)) s m in
+        let inner = member_of_filter (by_definer ahead) (region_spots r) s outer.0 in
+        record { member = inner.0; crosses_on = outer.1; before = inner.1 }
+
+    abbrev across : Bool → List TempId
+    across b = map (last b) (crossing_spots b)
+
+    values_many : (b : Bool) → length (across b) ≡ length (crossing b arcs (region_places r) (place_of c))
+    values_many b =
+        let k = length_mapped (last b) (crossing_spots b) in
+        let l = length_mapped (λ (s : Spot). s.temp) (crossing_spots b) in
+        let is = ap length (values_are b) in
+        omega (arith, k, l, is)
+
+    values_differ : (b : Bool) → Differ (across b)
+    values_differ b = pairwise_map (λ x y. x ≡ y → ⊥) (last b) (crossing_spots b)
+        (pairwise_more Other (λ s u. last b s ≡ last b u → ⊥) (crossing_spots b) (λ s u ms mu ne same.
+        let f = found b s ms in
+        let g = found b u mu in
+        let one : s.temp.0 ≡ u.temp.0 = (carried b).apart s.temp.0 u.temp.0 f.crosses_on g.crosses_on (none_gives s f.member f.before)
+        (none_gives u g.member g.before) (ap (λ (t : TempId). t.0) same) in
+        ne (ap temp one)) (spots_differ b))
+
+    -- a value that crosses the call, and one of its readers
+    record Crosses (b : Bool) (v : TempId) : Type 0 where
+      of_value : There v.0
+      user : After b v.0
+
+    crossed_by : (b : Bool) (v : TempId) → Member v (across b) → Crosses b v
+    crossed_by b v m =
+        let s = member_map_of (last b) (crossing_spots b) v m in
+        let f = found b s.0 s.1 in
+        let both = (carried b).there (s.0).temp.0 f.crosses_on (there_ahead s.0 f.member f.before) in
+        subst (Crosses b) s.2 (record { of_value = both.0; user = both.1 })
+
     module _ (b : Bool) (v : TempId) (k : Crosses b v) where
+      abbrev after : After b v.0
+      after = k.user
+
       abbrev reader : Reader e o x solved v (cycle_at e o x solved c)
-      reader = record {
-        user = k.user;
-        member = in_all e o x r k.user mr k.of_block;
-        active = reads_active k.user k.place k.operand (in_all e o x r k.user mr k.of_block) k.mandatory k.at;
-        place = k.place;
-        operand = k.operand;
-        at = k.at;
-        value = ap temp k.reads;
-        after = let le = order.behind c k.user mc k.of_block call k.after in omega (arith, le);
+      reader = let q = after in record {
+        user = q.user;
+        member = in_all e o x r q.user mr q.of_block;
+        active = reads_active q.user q.place q.operand (in_all e o x r q.user mr q.of_block) q.mandatory q.at;
+        place = q.place;
+        operand = q.operand;
+        at = q.at;
+        value = ap temp q.reads;
+        after = q.late;
       }
 
       abbrev crossed : Crossing e o x solved c v
       crossed =
-          let s = k.own in
-          let two = (and_iff (not (s.definer.number == c.number)) _).1 k.before in
+          let w = k.of_value in
           record {
-            own = s;
-            member = spot_all e o x r s mr k.member;
-            is = k.is;
-            early = order.before s.definer c (definer_in (region_placed r) s k.member) mc call two.1;
-            other = not_same s.definer.number c.number two.0;
+            own = w.own;
+            member = spot_all e o x r w.own mr w.member;
+            is = w.is;
+            early = w.early;
+            other = w.other;
             reader = reader;
-            block = of_region r k.user k.of_block ∙ sym (of_region r c mc);
+            block = (let q = after in of_region r q.user q.of_block ∙ sym (of_region r c mc));
           }
 
-      wants : is_asked true k.user.op.kind k.operand ≡ true → NeedsRegister e o x solved v (cycle_at e o x solved c) reader
-      wants asked = by k.user.op.kind refl k.mandatory asked
+      wants : b ≡ true → NeedsRegister e o x solved v (cycle_at e o x solved c) reader
+      wants is = let q = after in by q.user.op.kind refl q.mandatory (ap (λ (t : Bool). is_asked t q.user.op.kind q.operand) (sym is) ∙ q.asked)
         where
-          home : is_register_home k.operand.home ≡ true → NeedsRegister e o x solved v (cycle_at e o x solved c) reader
-          home h = home_needs e o x solved v (cycle_at e o x solved c) reader (some_home k.operand.home h)
+          home : (let q = after in is_register_home q.operand.home ≡ true) → NeedsRegister e o x solved v (cycle_at e o x solved c) reader
+          home h = let q = after in home_needs e o x solved v (cycle_at e o x solved c) reader (some_home q.operand.home h)
 
-          by : (kind : ExtKind) → k.user.op.kind ≡ kind → is_mandatory kind ≡ true → is_asked true kind k.operand ≡ true
+          by : (kind : ExtKind) → (let q = after in q.user.op.kind ≡ kind) → is_mandatory kind ≡ true
+              → (let q = after in is_asked true kind q.operand ≡ true)
               → NeedsRegister e o x solved v (cycle_at e o x solved c) reader
           by (Body so) f t h = source_needs e o x solved v (cycle_at e o x solved c) reader so f
           by (End term) f t h = end_needs e o x solved v (cycle_at e o x solved c) reader term f
@@ -311,19 +512,21 @@ module _ (e : Ext) (o : Options) (x : List ℕ) (given : Given e o x)
     spilled : (n : ℕ) → r.block ≡ 0 → n + length (callee_saved e.table) ≤ length (crossing false arcs (region_places r) (place_of c))
         → n ≤ (issue_at x c).cycle - 1
     spilled n entry few =
-        let vs = crossing false arcs (region_places r) (place_of c) in
+        let vs = across false in
+        let many = values_many false in
         let block : c.block ≡ 0 = of_region r c mc ∙ entry in
         spills_fit e o x given schedule (cycle_at e o x solved c) n
         (subst (λ (b : ℕ). Spills (model_of e o) (record { values = x }) b (cycle_at e o x solved c) n) block
         (must_spill e o x solved c all_c call (callee_saved e.table) (saved_cover e o x solved c) vs
         (each_of (Saved e o x solved c) vs (λ v m.
-        let k = crosses false v m in
+        let k = crossed_by false v m in
+        let w = k.of_value in
         record {
           crossing = crossed false v k;
-          starts = λ start. entry_starts e o x solved k.own (spot_all e o x r k.own mr k.member)
-              (of_region r (k.own).definer (definer_in (region_placed r) k.own k.member) ∙ entry) start;
+          starts = λ start. entry_starts e o x solved w.own (spot_all e o x r w.own mr w.member)
+              (of_region r (w.own).definer (definer_in (region_placed r) w.own w.member) ∙ entry) start;
         }))
-        (values_differ false) n few))
+        (values_differ false) n (omega (arith, few, many))))
 
     -- ---- Reloads
 
@@ -337,14 +540,15 @@ module _ (e : Ext) (o : Options) (x : List ℕ) (given : Given e o x)
         → n ≤ ((issue_at x c).end - latency_of e.table Reload - (issue_at x c).cycle)
         + ((issue_at x c).end - latency_of e.table Reload - (issue_at x c).cycle)
     reloaded n few =
-        let vs = crossing true arcs (region_places r) (place_of c) in
+        let vs = across true in
+        let many = values_many true in
         reloads_fit e o x given schedule r.block (cycle_at e o x solved c) (issue_at x c).end n ends
         (subst (λ (b : ℕ). Reloads (model_of e o) (record { values = x }) b (cycle_at e o x solved c) n) (of_region r c mc)
         (must_reload e o x solved c all_c call (callee_saved e.table) (saved_cover e o x solved c) vs
         (each_of (Wanted e o x solved c) vs (λ v m.
-        let k = crosses true v m in
-        record { crossing = crossed true v k; needs = wants true v k k.asked }))
-        (values_differ true) n few))
+        let k = crossed_by true v m in
+        record { crossing = crossed true v k; needs = wants true v k refl }))
+        (values_differ true) n (omega (arith, few, many))))
 
     -- ---- its cycle
 

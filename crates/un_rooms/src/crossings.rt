@@ -1,15 +1,17 @@
-//! What crosses calls: the values that are there before a call and are read behind it, and what room they ask for. A call keeps few
-//! registers, so of the values that cross it those that are more are spilled by its cycle and reloaded after it.
+//! What crosses calls: the values that are there before a call, and are read behind it or go into what is, and what room they ask for. A
+//! call keeps few registers, so of the values that cross it those that are more are spilled by its cycle and reloaded after it.
 
-ghost use Rattle.std.specs.Prelude.{◌≡◌, ◌-◌, ◌==◌, ◌&&◌, ◌||◌, not, true, false, All, IfOk, filter, length, map};
+ghost use Rattle.std.specs.Prelude.{◌≡◌, ◌-◌, ◌==◌, ◌&&◌, ◌||◌, ◌++◌, not, true, false, All, IfOk, OnOk, filter, length, map, ℕ};
 ghost use Rattle.std.specs.List.{list_any};
+ghost use Rattle.std.specs.Option.{option_to_list};
 ghost use Rattle.un_isa.specs.Registers.{callee_saved};
-ghost use Rattle.un_ir.specs.Kinds.{is_call_kind};
+ghost use Rattle.un_ir.specs.Kinds.{is_call_kind, is_source};
 ghost use Rattle.un_ir.specs.declared.extended.Operand.{Operand};
 ghost use Rattle.un_ir.specs.Linear.{first_of, is_in};
 ghost use Rattle.un_model.specs.declared.model.Arc.{Arc};
 ghost use Rattle.un_rooms.specs.Reach.{mark_at, IsWithin, IsArcWithin};
-ghost use Rattle.un_sites.specs.Crossings.{is_register_home, is_asked, reads_value, is_read, is_ahead, crossing};
+ghost use Rattle.un_sites.specs.Crossings.{is_register_home, is_asked, reads_value, is_ahead, is_loose, crossing, is_crossing};
+ghost use Rattle.un_sites.specs.Crossings.{is_carried, first_new, handed_by, handed};
 ghost use Rattle.un_sites.specs.Lengths.{head_by, tail_by, head_of, tail_in};
 ghost use Rattle.un_sites.specs.Places.{Place};
 ghost use Rattle.un_sites.specs.Sites.{place_of};
@@ -85,21 +87,122 @@ fn any_reads_value(in_register: bool, n: u32, behind: &[Spot<'_>]) -> bool
     behind.iter().any(|p| reads_value(in_register, n, p))
 }
 
-/// Whether one of these operations reads a value.
-fn is_read(in_register: bool, behind: &[Spot<'_>], t: TempId) -> bool
-    ensures { result ≡ is_read in_register (map place_of behind.now) t }
+/// Whether one of these operations reads value `n`.
+fn is_read(in_register: bool, behind: &[Spot<'_>], n: u32) -> bool
+    ensures { result ≡ list_any (reads_value in_register n) (map place_of behind.now) }
 {
-    any_reads_value(in_register, t.0, behind)
+    any_reads_value(in_register, n, behind)
 }
 
-/// How many of these values these operations read.
-fn read_count(in_register: bool, behind: &[Spot<'_>], values: &[TempId]) -> usize
-    ensures { result ≡ length (filter (is_read in_register (map place_of behind.now)) values.now) }
+/// Whether a value is one of these.
+fn is_among(ns: &[u32], n: u32) -> bool
+    ensures { result ≡ list_any (λ (m : ℕ). m == n) ns.now }
+{
+    ns.iter().any(|m| *m == n)
+}
+
+/// Whether a value is read by these operations, or is one of those for which a result stands.
+fn is_carried(in_register: bool, behind: &[Spot<'_>], ns: &[u32], n: u32) -> bool
+    ensures { result ≡ is_carried in_register (map place_of behind.now) ns.now n }
+{
+    is_read(in_register, behind, n) || is_among(ns, n)
+}
+
+/// The first value that operands read and that is not such.
+fn first_new(
+    in_register: bool,
+    behind: &[Spot<'_>],
+    ns: &[u32],
+    operands: &[Operand],
+) -> Option<u32>
+    ensures { result ≡ first_new (is_carried in_register (map place_of behind.now) ns.now) operands.now }
+{
+    for x in operands {
+        let n = first_of(x.alts.as_slice());
+        if !is_carried(in_register, behind, ns, n) {
+            return Some(n);
+        }
+    }
+    None
+}
+
+/// Whether some result of an operation is such.
+fn gives_carried(in_register: bool, behind: &[Spot<'_>], ns: &[u32], results: &[TempId]) -> bool
+    ensures { result ≡ list_any (λ (t : TempId). is_carried in_register (map place_of behind.now) ns.now t.0) results.now }
+{
+    results
+        .iter()
+        .any(|t| is_carried(in_register, behind, ns, t.0))
+}
+
+/// The value for which an operation's result stands, where that crosses.
+fn handed_by(in_register: bool, behind: &[Spot<'_>], ns: &[u32], p: &Spot<'_>) -> Option<u32>
+    ensures { result ≡ handed_by (is_carried in_register (map place_of behind.now) ns.now) (place_of p.now) }
+{
+    if gives_carried(in_register, behind, ns, p.it.results.as_slice()) {
+        first_new(in_register, behind, ns, p.it.operands.as_slice())
+    } else {
+        None
+    }
+}
+
+/// Adds it.
+fn hand(
+    ns: &mut Items<u32>,
+    in_register: bool,
+    behind: &[Spot<'_>],
+    p: &Spot<'_>,
+) -> Result<(), AllocError>
+    ensures { OnOk result (ns.new
+        ≡ ns.old ++ option_to_list (handed_by (is_carried in_register (map place_of behind.now) ns.old) (place_of p.now))) }
+{
+    match handed_by(in_register, behind, ns.as_slice(), p) {
+        None => Ok(()),
+        Some(n) => ns.push(n),
+    }
+}
+
+/// Those of several operations, the last one first.
+fn handed(
+    alloc: Global,
+    in_register: bool,
+    behind: &[Spot<'_>],
+    loose: &[Spot<'_>],
+) -> Result<Items<u32>, AllocError>
+    ensures { IfOk result (λ ns. ns ≡ handed in_register (map place_of behind.now) (map place_of loose.now)) }
+{
+    let mut ns = Items::new(alloc);
+    let mut j = loose.len();
+    while j > 0 {
+        j -= 1;
+        hand(&mut ns, in_register, behind, &loose[j])?;
+    }
+    Ok(ns)
+}
+
+/// How many of these values are such.
+fn carried_count(in_register: bool, behind: &[Spot<'_>], ns: &[u32], values: &[TempId]) -> usize
+    ensures { result ≡ length (filter (λ (t : TempId). is_carried in_register (map place_of behind.now) ns.now t.0) values.now) }
 {
     values
         .iter()
-        .filter(|t| is_read(in_register, behind, **t))
+        .filter(|t| is_carried(in_register, behind, ns, t.0))
         .count()
+}
+
+/// How many of these values cross a call that has these operations behind it, and these neither ahead of it nor the call.
+fn crossing_count(
+    alloc: Global,
+    in_register: bool,
+    behind: &[Spot<'_>],
+    loose: &[Spot<'_>],
+    values: &[TempId],
+) -> Result<usize, AllocError>
+    ensures { IfOk result (λ n. n
+        ≡ length (filter (is_crossing in_register (map place_of behind.now) (map place_of loose.now)) values.now)) }
+{
+    let ns = handed(alloc, in_register, behind, loose)?;
+    Ok(carried_count(in_register, behind, ns.as_slice(), values))
 }
 
 /// Whether an operation is ahead of the call with a number, of which the marks say what leads to it.
@@ -146,6 +249,51 @@ fn ahead<'a>(
     Ok(found)
 }
 
+/// Whether an operation of the source is neither ahead of the call with a number, of which the marks say what leads to it, nor the call.
+fn is_loose_by(low: u32, marks: &[bool], call: u32, p: &Spot<'_>) -> bool
+    ensures { result ≡ (is_source p.now.it.now.kind && (not (p.now.op == call)
+        && not (not (p.now.op == call) && (is_in p.now.it.now.kind || mark_at low marks.now p.now.op)))) }
+{
+    p.it.kind.is_source() && (p.op != call && !is_ahead_by(low, marks, call, p))
+}
+
+/// Those of the operations that are so.
+fn loose_by<'a>(
+    alloc: Global,
+    low: u32,
+    marks: &[bool],
+    call: u32,
+    spots: &[Spot<'a>],
+) -> Result<Items<Spot<'a>>, AllocError>
+    ensures { IfOk result (λ found. map place_of found ≡ filter (λ (p : Place). is_source p.it.kind && (not (p.op == call)
+        && not (not (p.op == call) && (is_in p.it.kind || mark_at low marks.now p.op)))) (map place_of spots.now)) }
+{
+    let mut found = Items::new(alloc);
+    for p in spots {
+        if is_loose_by(low, marks, call, p) {
+            found.push(*p)?;
+        }
+    }
+    Ok(found)
+}
+
+/// Those of the source's operations that are neither ahead of a call nor the call.
+fn loose<'a>(
+    alloc: Global,
+    reach: Reach,
+    arcs: &[Arc],
+    call: &Spot<'_>,
+    spots: &[Spot<'a>],
+) -> Result<Items<Spot<'a>>, AllocError>
+    requires arcs { All (IsArcWithin reach.low reach.count) arcs.now }
+    requires call { IsWithin reach.low reach.count call.now.op }
+    ensures { IfOk result (λ found. map place_of found ≡ filter (is_loose arcs.now (place_of call.now)) (map place_of spots.now)) }
+{
+    let marks = mark_leading(alloc, reach, arcs, call.op)?;
+    let found = loose_by(alloc, reach.low, marks.as_slice(), call.op, spots)?;
+    Ok(found)
+}
+
 /// What crosses a call.
 fn crossing_of(
     alloc: Global,
@@ -161,12 +309,24 @@ fn crossing_of(
         ≡ length (crossing true arcs.now (map place_of spots.now) (place_of call.now))) }
 {
     let behind = on_side(alloc, reach, arcs, call, true, spots)?;
+    let loose = loose(alloc, reach, arcs, call, spots)?;
     let before = ahead(alloc, reach, arcs, call, spots)?;
     let values = temps_in(alloc, before.as_slice())?;
-    Ok(Crossing {
-        all: read_count(false, behind.as_slice(), values.as_slice()),
-        in_registers: read_count(true, behind.as_slice(), values.as_slice()),
-    })
+    let all = crossing_count(
+        alloc,
+        false,
+        behind.as_slice(),
+        loose.as_slice(),
+        values.as_slice(),
+    )?;
+    let in_registers = crossing_count(
+        alloc,
+        true,
+        behind.as_slice(),
+        loose.as_slice(),
+        values.as_slice(),
+    )?;
+    Ok(Crossing { all, in_registers })
 }
 
 /// How many of so many values are more than a call keeps registers.

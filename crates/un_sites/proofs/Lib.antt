@@ -1,3 +1,4 @@
 pub mod Appends
 pub mod CallPins
+pub mod Carrying
 pub mod Parts

@@ -1,13 +1,15 @@
--- What crosses a call: the values that are there before it and are read behind it. A call keeps few registers, so of the values that
--- cross it those that are more are spilled by its cycle and reloaded after it.
-use Rattle.std.specs.Prelude.{ℕ, ◌-◌, ◌==◌, nat_lt, Bool, false, true, not, ◌&&◌, ◌||◌, if◌then◌else◌, List, Option, Some, None, filter, length}
+-- What crosses a call: the values that are there before it, and are read behind it or go into what is. A call keeps few registers, so
+-- of the values that cross it those that are more are spilled by its cycle and reloaded after it.
+use Rattle.std.specs.Prelude.{ℕ, ◌-◌, ◌==◌, nat_lt, Bool, false, true, not, ◌&&◌, ◌||◌, if◌then◌else◌, List, [], ◌∷◌, ◌++◌}
+use Rattle.std.specs.Prelude.{Option, Some, None, filter, length}
 use Rattle.std.specs.List.{list_any}
+use Rattle.std.specs.Option.{option_to_list}
 use Rattle.un_base.specs.declared.ids.TempId.{TempId}
 use Rattle.un_isa.specs.Registers.{callee_saved}
 use Rattle.un_isa.specs.declared.reg.Reg.{Reg}
 use Rattle.un_isa.specs.declared.reg.TheConstants.{FIRST_SLOT}
 use Rattle.un_isa.specs.declared.table.Table.{Table}
-use Rattle.un_ir.specs.Kinds.{is_delimiter, is_mandatory}
+use Rattle.un_ir.specs.Kinds.{is_delimiter, is_mandatory, is_source}
 use Rattle.un_ir.specs.Linear.{first_of}
 use Rattle.un_ir.specs.declared.extended.ExtKind.{ExtKind}
 use Rattle.un_ir.specs.declared.extended.Operand.{Operand}
@@ -30,19 +32,49 @@ abbrev pub reads_value : Bool → ℕ → Place → Bool
 reads_value in_register n p = is_mandatory p.it.kind
     && list_any (λ (x : Operand). first_of x.alts == n && is_asked in_register p.it.kind x) p.it.operands
 
-abbrev pub is_read : Bool → List Place → TempId → Bool
-is_read in_register ps t = list_any (reads_value in_register t.0) ps
-
 -- what an operation defines is there before a call, but for what the call gives
 abbrev pub is_ahead : List Arc → Place → Place → Bool
 is_ahead arcs call d = not (d.op == call.op) && is_before arcs d call
 
+-- ---- what stands for a value
+
+-- A value that is not read behind a call may be read before it or after it by an operation whose result is. Wherever the call issues,
+-- one of the two crosses it: so the value counts, and the operation, which stands for one value alone, for no other.
+
+-- value n is read by these operations, or is one of those for which a result stands
+abbrev pub is_carried : Bool → List Place → List ℕ → ℕ → Bool
+is_carried in_register behind ns n = list_any (reads_value in_register n) behind || list_any (λ (m : ℕ). m == n) ns
+
+-- the first value that these operands read and that does not cross already
+abbrev pub first_new : (ℕ → Bool) → List Operand → Option ℕ
+first_new crosses [] = None
+first_new crosses (x ∷ xs) = if crosses (first_of x.alts) then first_new crosses xs else Some (first_of x.alts)
+
+-- the value for which an operation's result stands, where that crosses
+abbrev pub handed_by : (ℕ → Bool) → Place → Option ℕ
+handed_by crosses p = if list_any (λ (t : TempId). crosses t.0) p.it.results then first_new crosses p.it.operands else None
+
+-- those of several operations, the last one first
+abbrev pub handed : Bool → List Place → List Place → List ℕ
+handed in_register behind [] = []
+handed in_register behind (p ∷ ps) =
+    let ns : List ℕ = handed in_register behind ps in ns ++ option_to_list (handed_by (is_carried in_register behind ns) p)
+
+-- an operation of the source that need not be before the call, and is not the call
+abbrev pub is_loose : List Arc → Place → Place → Bool
+is_loose arcs call p = is_source p.it.kind && (not (p.op == call.op) && not (is_ahead arcs call p))
+
+-- ---- a call
+
+-- a value crosses a call that has these operations behind it, and these neither ahead of it nor the call
+abbrev pub is_crossing : Bool → List Place → List Place → TempId → Bool
+is_crossing in_register behind loose t = is_carried in_register behind (handed in_register behind loose) t.0
+
 -- the values that cross a call, or those of them that are read in registers behind it
 abbrev pub crossing : Bool → List Arc → List Place → Place → List TempId
 crossing in_register arcs ps call =
-    filter (is_read in_register (filter (is_behind arcs call) ps)) (temps_in (filter (is_ahead arcs call) ps))
-
--- ---- a call
+    filter (is_crossing in_register (filter (is_behind arcs call) ps) (filter (is_loose arcs call) ps))
+    (temps_in (filter (is_ahead arcs call) ps))
 
 -- how many of them are spilled: no value at the start of the entry is in a slot
 abbrev pub spills_at : Table → Bool → List Arc → List Place → Place → ℕ
