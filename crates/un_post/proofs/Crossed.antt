@@ -341,7 +341,7 @@ module _ (e : Ext) (o : Options) (x : List ℕ) (given : Given e o x)
 
     -- ---- operations between
 
-    between : List Placed
+    abbrev between : List Placed
     between = filter loose (region_placed r)
 
     free_are : free ≡ map place_of between
