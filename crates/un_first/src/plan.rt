@@ -3,27 +3,27 @@
 use crate::places::Places;
 use std::alloc::{AllocError, Global};
 use un_blocks::facts::Facts;
-use un_trial::trial::Size;
+use un_trial::trial::{Manner, PLAIN, Size};
 
 /// What a trial may vary.
 #[derive(Drop)]
 pub struct Recipe {
     /// The source operations of the block without its terminator, in the order in which a trial places them.
     pub order: Vec<u32>,
-    /// Whether a saved value that ends in a register may be spilled in between.
-    pub spill_saved: bool,
+    /// What a trial does besides.
+    pub manner: Manner,
 }
 
 impl Recipe {
     pub fn new(alloc: Global) -> Recipe {
         Recipe {
             order: Vec::new(alloc),
-            spill_saved: false,
+            manner: PLAIN,
         }
     }
 
-    pub fn copy_from(&mut self, order: &[u32], spill_saved: bool) -> Result<(), AllocError> {
-        self.spill_saved = spill_saved;
+    pub fn copy_from(&mut self, order: &[u32], manner: Manner) -> Result<(), AllocError> {
+        self.manner = manner;
         copy_list(&mut self.order, order)
     }
 }
@@ -127,7 +127,7 @@ impl BlockPlan {
         let recipe = &other.best.recipe;
         self.best
             .recipe
-            .copy_from(recipe.order.as_slice(), recipe.spill_saved)
+            .copy_from(recipe.order.as_slice(), recipe.manner)
     }
 
     /// The size of the best schedule; no limit where there is none.

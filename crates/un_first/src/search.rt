@@ -9,7 +9,7 @@ use std::alloc::{AllocError, Global};
 use std::mem;
 use un_blocks::facts::{Block, Facts};
 use un_trial::sets::{EMPTY, RegisterSet};
-use un_trial::trial::{Size, Task, Trial};
+use un_trial::trial::{Manner, PLAIN, Size, Task, Trial};
 
 /// A recipe to begin with, where there is one.
 #[derive(Drop)]
@@ -73,7 +73,7 @@ impl<'a> Search<'a> {
         let task = Task {
             block: &first.facts,
             frame: false,
-            spill_saved: false,
+            manner: PLAIN,
             assignable: EMPTY,
             spare_slots: EMPTY,
             most: UNLIMITED,
@@ -91,15 +91,13 @@ impl<'a> Search<'a> {
     }
 
     /// The recipe of a block's first trial: the seed or the source order.
-    fn first_recipe(&mut self, b: u32, block: &Block, spill_saved: bool) -> Result<(), AllocError> {
+    fn first_recipe(&mut self, b: u32, block: &Block, manner: Manner) -> Result<(), AllocError> {
         match self.seeds.get(b as usize) {
             Some(seed) if seed.is_there => {
                 self.recipe
-                    .copy_from(seed.recipe.order.as_slice(), seed.recipe.spill_saved)
+                    .copy_from(seed.recipe.order.as_slice(), seed.recipe.manner)
             }
-            _ => self
-                .recipe
-                .copy_from(block.facts.body.as_slice(), spill_saved),
+            _ => self.recipe.copy_from(block.facts.body.as_slice(), manner),
         }
     }
 
@@ -108,18 +106,16 @@ impl<'a> Search<'a> {
         &mut self,
         block: &Block,
         mine: &BlockPlan,
-        spill_saved: bool,
+        manner: Manner,
     ) -> Result<(), AllocError> {
         if mine.is_found {
             let best = &mine.best.recipe;
-            self.recipe
-                .copy_from(best.order.as_slice(), best.spill_saved)?;
+            self.recipe.copy_from(best.order.as_slice(), best.manner)?;
         } else {
-            self.recipe
-                .copy_from(block.facts.body.as_slice(), spill_saved)?;
+            self.recipe.copy_from(block.facts.body.as_slice(), manner)?;
         }
         if self.noise.one_in(8) {
-            self.recipe.spill_saved = spill_saved;
+            self.recipe.manner = manner;
         }
         let moves = self.noise.below(3).saturating_add(1);
         for _ in 0..moves {
@@ -129,11 +125,14 @@ impl<'a> Search<'a> {
     }
 
     fn next_recipe(&mut self, b: u32, block: &Block, mine: &BlockPlan) -> Result<(), AllocError> {
-        let spill_saved = self.noise.one_in(2);
+        let manner = Manner {
+            spill_saved: self.noise.one_in(2),
+            link_first: self.noise.one_in(2),
+        };
         if mine.tried == 0 {
-            self.first_recipe(b, block, spill_saved)
+            self.first_recipe(b, block, manner)
         } else {
-            self.other_recipe(block, mine, spill_saved)
+            self.other_recipe(block, mine, manner)
         }
     }
 
@@ -162,7 +161,7 @@ impl<'a> Search<'a> {
         let task = Task {
             block: &block.facts,
             frame: scene.frame,
-            spill_saved: self.recipe.spill_saved,
+            manner: self.recipe.manner,
             assignable: self.facts.assignable,
             spare_slots: scene.spare_slots,
             most: mine.size(),
@@ -238,7 +237,7 @@ impl<'a> Search<'a> {
                 let recipe = &mine.best.recipe;
                 seed.is_there = true;
                 seed.recipe
-                    .copy_from(recipe.order.as_slice(), recipe.spill_saved)?;
+                    .copy_from(recipe.order.as_slice(), recipe.manner)?;
             }
         }
         Ok(())

@@ -15,6 +15,21 @@ use crate::sets::{ALL, EMPTY, REGISTERS, RegisterSet};
 use crate::table::{NONE, Table};
 use std::alloc::{AllocError, Global};
 
+/// What a trial does besides following its order.
+#[derive(Clone, Copy)]
+pub struct Manner {
+    /// Whether a saved value that ends in a register may be spilled in between.
+    pub spill_saved: bool,
+    /// Whether the link, which each call overwrites, is spilled before all else where there is a call.
+    pub link_first: bool,
+}
+
+/// Nothing besides.
+pub const PLAIN: Manner = Manner {
+    spill_saved: false,
+    link_first: false,
+};
+
 /// What a trial is made of, besides its order and the places of the keys.
 #[derive(Clone, Copy)]
 pub struct Task<'a> {
@@ -22,8 +37,8 @@ pub struct Task<'a> {
     pub block: &'a BlockFacts,
     /// Whether the function has a frame, so that there may be Spills and Reloads.
     pub frame: bool,
-    /// Whether a saved value that ends in a register may be spilled in between.
-    pub spill_saved: bool,
+    /// What it does besides following its order.
+    pub manner: Manner,
     /// The general registers that may be assigned.
     pub assignable: RegisterSet,
     /// The slots that no place uses.

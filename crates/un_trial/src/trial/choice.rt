@@ -48,7 +48,7 @@ impl<'a> Trial<'a> {
         if self.ends_in_slot(t) {
             return 0;
         }
-        if self.task.spill_saved { 1 } else { 2 }
+        if self.task.manner.spill_saved { 1 } else { 2 }
     }
 
     /// A kept register for a value that crosses a call: a free one, else that of a saved value which goes to a slot anyway, or

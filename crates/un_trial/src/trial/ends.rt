@@ -3,7 +3,7 @@
 use super::Trial;
 use crate::facts::Operand;
 use crate::pairs::Pairs;
-use crate::sets::{EMPTY, FIRST_SLOT, LINK, REGISTERS};
+use crate::sets::{EMPTY, FIRST_SLOT, LINK, REGISTERS, Space};
 use crate::table::NONE;
 
 impl<'a> Trial<'a> {
@@ -133,9 +133,29 @@ impl<'a> Trial<'a> {
         }
     }
 
+    /// Whether a temporary is the link, and stands in a general register.
+    fn is_link(&self, t: u32) -> bool {
+        self.temporary(t).saved == LINK && self.is_resident(t) && self.space_of(t) == Space::General
+    }
+
+    /// The link leaves its register before a call needs it to, where the manner asks for it: stores have room then.
+    fn save_link(&mut self) -> Option<()> {
+        if !self.task.manner.link_first || !self.task.frame || self.calls.is_empty() {
+            return Some(());
+        }
+        for t in &self.task.block.input {
+            if self.is_link(*t) {
+                self.spill(*t)?;
+                self.release(*t);
+            }
+        }
+        Some(())
+    }
+
     /// Sweeps over the order. Answers the block's end.
     pub(super) fn sweep(&mut self) -> Option<u32> {
         self.begin()?;
+        self.save_link()?;
         for place in 0..self.order.len() {
             self.go_to(place);
             let o = self.order.at(place);

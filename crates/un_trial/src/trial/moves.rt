@@ -104,11 +104,7 @@ impl<'a> Trial<'a> {
     /// The temporary that an operand reads: one that stands in a register, else a new one.
     pub(super) fn acquire(&mut self, x: &Operand, hint: u32) -> Option<u32> {
         let is_predicate = self.temporary(x.value).is_predicate;
-        let wanted = if is_predicate {
-            PREDICATES
-        } else {
-            GENERAL
-        };
+        let wanted = if is_predicate { PREDICATES } else { GENERAL };
         let best = self.standing(x, wanted);
         if best != NONE {
             return Some(best);

@@ -66,7 +66,10 @@ impl<'a> Trial<'a> {
 
     /// Goes on to a place of the order: what is read there is read next behind it.
     pub(super) fn go_to(&mut self, place: u32) {
-        for x in &self.operation(self.operation_at(self.marks.position)).operands {
+        for x in &self
+            .operation(self.operation_at(self.marks.position))
+            .operands
+        {
             self.next_use.put(x.value, self.use_behind.at(x.value));
         }
         self.marks.position = place;

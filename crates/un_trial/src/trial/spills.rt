@@ -109,7 +109,7 @@ impl<'a> Trial<'a> {
             return 0;
         }
         let clean = elsewhere || self.ends_in_slot(v);
-        if x.saved != NONE && x.saved != LINK && !clean && !self.task.spill_saved {
+        if x.saved != NONE && x.saved != LINK && !clean && !self.task.manner.spill_saved {
             return 1;
         }
         let distance = u64::from(next.saturating_sub(self.marks.position));
