@@ -107,9 +107,9 @@ pub(crate) fn put_verdict_by_lines(
 ) -> Result<(), NoMemory> {
     let (function, lines) = cut(text, b'^');
     let m = model_under(alloc, function, &options(b""))?;
-    if count_lines(lines).is_none() {
+    let Some(_) = count_lines(lines) else {
         return Err(NoMemory);
-    }
+    };
     let verdict = check_lines(alloc, &m, limit(question), lines)?;
     put_told(out, verdict)
 }
