@@ -12,10 +12,12 @@ use un_kinds::make_alt::{
     FrameFields, make_chosen, make_frame, make_home, make_same, make_spaces, make_zeros,
 };
 use un_kinds::make_prec::{make_before, make_below, make_inside, make_last, make_reads};
+use un_kinds::make_press::{make_across, make_live};
 use un_kinds::make_rect::{OperandFields, make_apart, make_clobber, make_operands, make_per_cycle};
 use un_lists::items::Items;
 use un_prec::below::Weighted;
 use un_prec::reads::ReadAlt;
+use un_press::live;
 use un_prop::act::{Act, At, Temp, UserOf};
 use un_rect::clobber::ClobberCall;
 use un_slots::item::Item;
@@ -375,6 +377,29 @@ fn packets(alloc: Global) -> Result<AnyProp, NoMemory> {
     make_per_cycle(alloc, items, 8)
 }
 
+/// Adds a value with these uses.
+fn add_value(
+    alloc: Global,
+    values: &mut Items<live::Span>,
+    def: At,
+    uses: &[At],
+) -> Result<(), AllocError> {
+    let uses = list(alloc, uses)?;
+    values.push(live::Span { def, uses })
+}
+
+/// Three values before cycle 8, of which there is room for two: one from a block's start that is read at the second time, one from the
+/// first time on that is read at the second and at the third, and one from the third time on that is read at the fourth.
+fn pressed(alloc: Global) -> Result<AnyProp, NoMemory> {
+    let mut values = Items::new(alloc);
+    let second = At::Var(VarId(1));
+    let third = At::Var(VarId(2));
+    add_value(alloc, &mut values, At::Const(0), &[second])?;
+    add_value(alloc, &mut values, At::Var(VarId(0)), &[second, third])?;
+    add_value(alloc, &mut values, third, &[At::Var(VarId(3))])?;
+    make_live(alloc, values, 2, 8)
+}
+
 /// The propagator of a kind, by the first letter of its word.
 pub(crate) fn prop(alloc: Global, kind: &[u8]) -> Result<AnyProp, NoMemory> {
     let first = At::Var(VarId(0));
@@ -395,6 +420,9 @@ pub(crate) fn prop(alloc: Global, kind: &[u8]) -> Result<AnyProp, NoMemory> {
         Some(b'v') => values(alloc),
         Some(b'o') => operands(alloc),
         Some(b'a') => across(alloc),
+        Some(b'e') => pressed(alloc),
+        Some(b'n') => make_across(alloc, VarId(0), 13, 12),
+        Some(b'w') => make_across(alloc, VarId(0), 12, 12),
         _ => packets(alloc),
     }
 }

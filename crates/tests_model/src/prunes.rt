@@ -262,7 +262,22 @@ packets 5,6 2,3 5 2,3 1 1,2,3,6 2>same
 # The third has room behind them.
 packets 5,6 2,3 5 2,3,6 1 2,3 2>same
 # A load and two stores leave one of the places for memory in cycles 2 and 3.
-packets 2,4 2,3 5 2,3 1 2,3 3>same";
+packets 2,4 2,3 5 2,3 1 2,3 3>same
+# Sets of four times of three values, of which there is room for two in each cycle before 8. In cycle 2 all three are there.
+each 1 4 2 6>failed
+# In cycle 3 they would be; what is read in a cycle is not there in it.
+each 1 4 2,3,4,5 6>1 4 4,5 6
+each 1 4 4 6>same
+# While two times are open nothing is taken, whatever is left.
+each 1 4,5 2,3 6>same
+# From cycle 8 on it counts none, so in cycle 7 alone these are too many.
+each 7 20 7 30>failed
+each 8 20 8 30>same
+# The last time that is open keeps no cycle.
+each 1 9 2,3 6>failed
+# A call that thirteen values cross, where there is room for twelve, and one that twelve cross: whatever its cycle.
+narrow 1,2,7>failed
+wide 1,2,7>same";
 
 /// Whether there are these variables among so many.
 fn knows(vars: &[VarId], n: u32) -> bool

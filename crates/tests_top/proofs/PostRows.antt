@@ -1,6 +1,6 @@
 -- What is posted for three small functions, written down by hand from the descriptions of models and of propagators: which variables
 -- each propagator speaks of, in order.
-use Rattle.std.specs.Prelude.{ℕ, ◌≡◌, Bool, true, false, List, [], ◌∷◌, Option, Some, None, codes, map, pos}
+use Rattle.std.specs.Prelude.{ℕ, ◌≡◌, Bool, true, false, List, [], ◌∷◌, ◌++◌, Option, Some, None, codes, map, pos}
 use Rattle.std.specs.List.{range_with_len}
 use Rattle.std.proofs.Common.{refl}
 use Rattle.un_base.specs.declared.ids.VarId.{VarId}
@@ -32,8 +32,10 @@ use Rattle.un_slots.specs.declared.item.Item.{Item}
 use Rattle.un_kinds.specs.Constraints.{Before, Reads, Inside, Last, Below, Chosen, Zeros, Spaces, Same, Home, Frame}
 use Rattle.un_length.specs.declared.block.Precedence.{Precedence}
 use Rattle.un_length.specs.declared.block.Task.{Task}
-use Rattle.un_kinds.specs.Constraints.{Apart, Clobber, Operands, PerCycle, Length}
+use Rattle.un_kinds.specs.Constraints.{Apart, Clobber, Operands, PerCycle, Length, Live, Across}
+use Rattle.un_press.specs.declared.live.Span.{Span}
 use Rattle.un_sites.specs.Postings.{postings_of}
+use Rattle.un_sites.specs.Pressures.{pressures_of, room_of}
 use Rattle.un_sites.specs.Befores.{befores_of, lengths_of}
 use Rattle.un_sites.specs.Rooms.{aparts_of, clobbers_of, packets_of, twos_of}
 use Rattle.tests_top.proofs.WorkedModel.{model, names, reads, op, source}
@@ -381,6 +383,9 @@ call_lengths : lengths_of calling ≡
 unfolding callee_saved
 call_lengths = refl
 
+abbrev span : At → List At → Span
+span def uses = record { def = def; uses = uses }
+
 -- ---- thirteen values across a call, of which it keeps twelve
 
 abbrev numbers : List ℕ
@@ -413,3 +418,10 @@ crossing_lengths : lengths_of crossing ≡
     Length (record { at = v 13; head = 2; tail = 3; needs = needs 0 0 1 1 } ∷ task 28 0 none ∷ []) [] (v 28) 8 ∷ []
 unfolding callee_saved
 crossing_lengths = refl
+
+-- they are there from the start to the end, and nothing reads the call's result; the domains are the homes r0 to r5, of which the call
+-- keeps none
+crossing_pressures : pressures_of crossing ≡
+    Live (map (λ (k : ℕ). span (Const 0) (at 28 ∷ [])) numbers ++ span (at 13) [] ∷ []) 6 8 ∷ Across (v 13) 13 0 ∷ []
+unfolding callee_saved room_of
+crossing_pressures = refl

@@ -40,7 +40,7 @@ block loop freq 100
   if $c jump loop
 block exit freq 1
   ret %s
-?posts: 107 102 2 0 107 93 194 48 13 1 3 147 2 3 3\
+?posts: 107 102 2 0 107 93 194 48 13 1 3 147 2 3 3 3 0\
 |func s
 block e freq 1
   %a = imm #1
@@ -53,7 +53,7 @@ block e freq 1
   %r = add %p, %q
   %t = add %r, %e
   ret %t
-?posts: 44 55 1 0 44 46 97 0 13 1 1 66 4 1 1\
+?posts: 44 55 1 0 44 46 97 0 13 1 1 66 4 1 1 1 0\
 |func w %x
 block e freq 1
   %v0 = load %x, #0
@@ -90,18 +90,18 @@ block e freq 1
   %s = add %s, %v14
   %s = add %s, %v15
   ret %s
-?posts: 124 144 1 0 124 111 267 0 13 1 1 156 16 1 1\
+?posts: 124 144 1 0 124 111 267 0 13 1 1 156 16 1 1 1 1\
 |func c %a
 block e freq 1
   %r = call h %a
   %s = add %r, %a
   ret %s
-?posts: 34 37 1 0 34 35 70 0 14 1 1 49 1 1 1\
+?posts: 34 37 1 0 34 35 70 0 14 1 1 49 1 1 1 1 1\
 |func x %a %b
 block e freq 1
   call h %b, %a
   ret
-?posts: 30 33 1 0 30 32 63 0 14 1 1 45 1 1 1\
+?posts: 30 33 1 0 30 32 63 0 14 1 1 45 1 1 1 1 1\
 |# A sum whose operands have no two registers where there is only one.\
 |func two
 block e freq 1
@@ -142,7 +142,9 @@ fn kind(p: &AnyProp) -> usize {
         AnyProp::Operands(_) => 12,
         AnyProp::PerCycle(_) => 13,
         AnyProp::Length(_) => 14,
-        AnyProp::Before(_) => 15,
+        AnyProp::Live(_) => 15,
+        AnyProp::Across(_) => 16,
+        AnyProp::Before(_) => 17,
     }
 }
 
@@ -159,7 +161,7 @@ fn count(props: &[AnyProp], n: usize) -> u64 {
 
 /// Appends how many propagators there are of each kind, each number behind a space.
 fn put_kinds(out: &mut Vec<u8>, props: &[AnyProp]) -> Result<(), NoMemory> {
-    for n in 0..15 {
+    for n in 0..17 {
         put_text(out, b" ")?;
         put_number(out, count(props, n))?;
     }

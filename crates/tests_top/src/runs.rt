@@ -237,6 +237,19 @@ tree 1
 C
 end
 >\
+|# Twelve saved values and the link register's cross the call, which keeps twelve registers, and there is no slot.\
+|func k
+block e freq 1
+  call h
+  ret
+?alloc --slots 0:infeasible>unison 1
+function k
+model regs all slots 0 nodes 2000
+answer infeasible
+tree 1
+C
+end
+>\
 |# One node, with too few registers for the arguments of every call, and with enough.\
 |func f
 block e freq 1

@@ -34,8 +34,10 @@ use Rattle.un_slots.specs.Slots.{SlotVars}
 use Rattle.un_slots.specs.declared.item.Item.{Item}
 use Rattle.un_length.specs.Blocks.{BlockVars}
 use Rattle.un_length.specs.declared.block.Task.{Task}
+use Rattle.un_press.specs.Pressures.{LiveVars}
+use Rattle.un_press.specs.declared.live.Span.{Span}
 use Rattle.un_kinds.specs.Scopes.{IsScope, vars_in, own_var, alt_vars, end_var, op_vars, use_vars, leave_vars}
-use Rattle.un_kinds.specs.Scopes.{rectangle_vars, clobber_vars, item_vars, side_vars, task_vars}
+use Rattle.un_kinds.specs.Scopes.{rectangle_vars, clobber_vars, item_vars, side_vars, task_vars, span_vars}
 use Rattle.un_kinds.proofs.Rising.{among_own}
 
 -- ---- parts of lists
@@ -235,3 +237,11 @@ pub block_vars : (vs : List VarId) (ops : List Task) (end : VarId) → IsScope v
 block_vars vs ops end s =
     let p = two vs (vars_in task_vars ops) (own_var end) (scoped vs _ s) in
     record { of_ops = λ i d lt. one vs (get_or ops i d).at (each task_vars vs ops p.0 i d lt); of_end = one vs end p.1 }
+
+-- ---- pressure
+
+pub live_vars : (vs : List VarId) (values : List Span) → IsScope vs (vars_in span_vars values) → LiveVars vs values
+live_vars vs values s i d lt =
+    let v = get_or values i d in
+    let p = two vs (at_vars v.def) (vars_in at_vars v.uses) (each span_vars vs values (scoped vs _ s) i d lt) in
+    record { of_def = p.0; of_uses = each at_vars vs v.uses p.1 }

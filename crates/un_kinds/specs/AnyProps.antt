@@ -27,6 +27,7 @@ use Rattle.un_slots.specs.Loads.{SlotsStrong}
 use Rattle.un_slots.specs.Slots.{per_cycle_holds}
 use Rattle.un_length.specs.Blocks.{block_holds}
 use Rattle.un_length.specs.Lengths.{LengthStrong}
+use Rattle.un_press.specs.Pressures.{live_holds, across_holds}
 use Rattle.un_prec.specs.contracts.before.BeforePredicate.TheImpl.Laws as before_looks
 use Rattle.un_prec.specs.contracts.before.BeforePropagator.TheImpl.Laws as before_laws
 use Rattle.un_prec.specs.contracts.reads.ReadsPredicate.TheImpl.Laws as reads_looks
@@ -59,12 +60,16 @@ use Rattle.un_slots.specs.contracts.per_cycle.PerCyclePredicate.TheImpl.Laws as 
 use Rattle.un_slots.specs.contracts.per_cycle.PerCyclePropagator.TheImpl.Laws as per_cycle_laws
 use Rattle.un_length.specs.contracts.length.LengthPredicate.TheImpl.Laws as length_looks
 use Rattle.un_length.specs.contracts.length.LengthPropagator.TheImpl.Laws as length_laws
+use Rattle.un_press.specs.contracts.live.LivePredicate.TheImpl.Laws as live_looks
+use Rattle.un_press.specs.contracts.live.LivePropagator.TheImpl.Laws as live_laws
+use Rattle.un_press.specs.contracts.across.AcrossPredicate.TheImpl.Laws as across_looks
+use Rattle.un_press.specs.contracts.across.AcrossPropagator.TheImpl.Laws as across_laws
 use Rattle.un_kinds.specs.Constraints as constraint
 use Rattle.un_kinds.specs.Constraints.{Constraint, meets}
 use Rattle.un_kinds.specs.Cuts.{cut_with}
 use Rattle.un_kinds.specs.declared.any.AnyProp.{AnyProp}
 use Rattle.un_kinds.specs.declared.any.AnyProp.TheVariants.{Before, Reads, Inside, Last, Below, Chosen, Zeros, Spaces, Same, Home}
-use Rattle.un_kinds.specs.declared.any.AnyProp.TheVariants.{Frame, Apart, Clobber, Operands, PerCycle, Length}
+use Rattle.un_kinds.specs.declared.any.AnyProp.TheVariants.{Frame, Apart, Clobber, Operands, PerCycle, Length, Live, Across}
 
 -- its kind and fields, without the list of its variables
 abbrev pub constraint_of : AnyProp → Constraint
@@ -84,6 +89,8 @@ constraint_of (Clobber p) = constraint.Clobber p.mask p.temp p.calls
 constraint_of (Operands p) = constraint.Operands (side p.first p.first_regs p.first_set) (side p.second p.second_regs p.second_set)
 constraint_of (PerCycle p) = constraint.PerCycle p.items p.horizon
 constraint_of (Length p) = constraint.Length p.block.ops p.block.arcs p.block.end p.block.horizon
+constraint_of (Live p) = constraint.Live p.values p.room p.horizon
+constraint_of (Across p) = constraint.Across p.call p.sure p.room
 
 -- its variables, rising
 abbrev pub scope_of : AnyProp → List VarId
@@ -103,6 +110,8 @@ scope_of (Clobber p) = p.vars
 scope_of (Operands p) = p.vars
 scope_of (PerCycle p) = p.vars
 scope_of (Length p) = p.vars
+scope_of (Live p) = p.vars
+scope_of (Across p) = p.vars
 
 -- it holds where what it asks for is met
 abbrev pub holds_of : AnyProp → List ℕ → Bool
@@ -130,6 +139,8 @@ parts_of (Clobber p) = clobber_parts p.vars p.mask p.temp p.calls
 parts_of (Operands p) = one_part p.vars (operands_holds (side p.first p.first_regs p.first_set) (side p.second p.second_regs p.second_set))
 parts_of (PerCycle p) = one_part p.vars (per_cycle_holds p.items p.horizon)
 parts_of (Length p) = one_part p.vars (block_holds p.block.ops p.block.arcs p.block.end)
+parts_of (Live p) = one_part p.vars (live_holds p.values p.room p.horizon)
+parts_of (Across p) = one_part p.vars (across_holds p.sure p.room)
 
 -- what is so of a store that it leaves as it is
 abbrev pub strong_of : AnyProp → Sets → Type 0
@@ -149,6 +160,8 @@ strong_of (Clobber p) s = ClobberStrong p.mask p.temp p.calls s
 strong_of (Operands p) s = Unit {0}
 strong_of (PerCycle p) s = SlotsStrong p.items s
 strong_of (Length p) s = LengthStrong p.vars p.block.ops p.block.arcs p.block.end p.block.horizon s
+strong_of (Live p) s = Unit {0}
+strong_of (Across p) s = Unit {0}
 
 -- how many cycles, from 0, it counts over
 abbrev pub span_of : AnyProp → ℕ
@@ -168,6 +181,8 @@ span_of (Clobber p) = 0
 span_of (Operands p) = 0
 span_of (PerCycle p) = p.horizon
 span_of (Length p) = p.block.horizon
+span_of (Live p) = 0
+span_of (Across p) = 0
 
 -- Its laws
 
@@ -188,6 +203,8 @@ any_looks (Clobber p) x y same = clobber_looks.looks-law p x y same
 any_looks (Operands p) x y same = operands_looks.looks-law p x y same
 any_looks (PerCycle p) x y same = per_cycle_looks.looks-law p x y same
 any_looks (Length p) x y same = length_looks.looks-law p x y same
+any_looks (Live p) x y same = live_looks.looks-law p x y same
+any_looks (Across p) x y same = across_looks.looks-law p x y same
 
 pub any_keeps : (p : AnyProp) (s : Sets) (x : List ℕ) → HasVars (scope_of p) s → NoneEmpty s → IsIn x s → holds_of p x ≡ true
     → Kept x (cut_of p s)
@@ -207,6 +224,8 @@ any_keeps (Clobber p) s x known full there holds = clobber_laws.keeps-law p s x 
 any_keeps (Operands p) s x known full there holds = operands_laws.keeps-law p s x known full there holds
 any_keeps (PerCycle p) s x known full there holds = per_cycle_laws.keeps-law p s x known full there holds
 any_keeps (Length p) s x known full there holds = length_laws.keeps-law p s x known full there holds
+any_keeps (Live p) s x known full there holds = live_laws.keeps-law p s x known full there holds
+any_keeps (Across p) s x known full there holds = across_laws.keeps-law p s x known full there holds
 
 pub any_lawful : (p : AnyProp) → Lawful (scope_of p) (cut_of p)
 any_lawful (Before p) = before_laws.lawful-law p
@@ -225,6 +244,8 @@ any_lawful (Clobber p) = clobber_laws.lawful-law p
 any_lawful (Operands p) = operands_laws.lawful-law p
 any_lawful (PerCycle p) = per_cycle_laws.lawful-law p
 any_lawful (Length p) = length_laws.lawful-law p
+any_lawful (Live p) = live_laws.lawful-law p
+any_lawful (Across p) = across_laws.lawful-law p
 
 pub any_whole : (p : AnyProp) (x : List ℕ) → holds_of p x ≡ all_meet (parts_of p) x
 any_whole (Before p) x = before_laws.whole-law p x
@@ -243,6 +264,8 @@ any_whole (Clobber p) x = clobber_laws.whole-law p x
 any_whole (Operands p) x = operands_laws.whole-law p x
 any_whole (PerCycle p) x = per_cycle_laws.whole-law p x
 any_whole (Length p) x = length_laws.whole-law p x
+any_whole (Live p) x = live_laws.whole-law p x
+any_whole (Across p) x = across_laws.whole-law p x
 
 pub any_within : (p : AnyProp) (part : Part) → Contains (parts_of p) part → AllAmong (scope_of p) part.vars
 any_within (Before p) part there = before_laws.within-law p part there
@@ -261,6 +284,8 @@ any_within (Clobber p) part there = clobber_laws.within-law p part there
 any_within (Operands p) part there = operands_laws.within-law p part there
 any_within (PerCycle p) part there = per_cycle_laws.within-law p part there
 any_within (Length p) part there = length_laws.within-law p part there
+any_within (Live p) part there = live_laws.within-law p part there
+any_within (Across p) part there = across_laws.within-law p part there
 
 pub any_forward : (p : AnyProp) (part : Part) → Contains (parts_of p) part → ChecksForward part (scope_of p) (cut_of p)
 any_forward (Before p) part there = before_laws.forward-law p part there
@@ -279,6 +304,8 @@ any_forward (Clobber p) part there = clobber_laws.forward-law p part there
 any_forward (Operands p) part there = operands_laws.forward-law p part there
 any_forward (PerCycle p) part there = per_cycle_laws.forward-law p part there
 any_forward (Length p) part there = length_laws.forward-law p part there
+any_forward (Live p) part there = live_laws.forward-law p part there
+any_forward (Across p) part there = across_laws.forward-law p part there
 
 pub any_strength : (p : AnyProp) (s : Sets) → HasVars (scope_of p) s → NoneEmpty s → InWords s
     → (length (scope_of p) ≡ 0 → (x : List ℕ) → holds_of p x ≡ true) → cut_of p s ≡ Some s → strong_of p s
@@ -298,3 +325,5 @@ any_strength (Clobber p) s known full words grounded same = clobber_laws.strengt
 any_strength (Operands p) s known full words grounded same = operands_laws.strength-law p s known full words grounded same
 any_strength (PerCycle p) s known full words grounded same = per_cycle_laws.strength-law p s known full words grounded same
 any_strength (Length p) s known full words grounded same = length_laws.strength-law p s known full words grounded same
+any_strength (Live p) s known full words grounded same = live_laws.strength-law p s known full words grounded same
+any_strength (Across p) s known full words grounded same = across_laws.strength-law p s known full words grounded same

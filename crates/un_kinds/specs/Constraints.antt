@@ -29,6 +29,8 @@ use Rattle.un_slots.specs.declared.item.Item.{Item}
 use Rattle.un_length.specs.Blocks.{block_holds}
 use Rattle.un_length.specs.declared.block.Precedence.{Precedence}
 use Rattle.un_length.specs.declared.block.Task.{Task}
+use Rattle.un_press.specs.Pressures.{live_holds, across_holds}
+use Rattle.un_press.specs.declared.live.Span.{Span}
 
 pub data Constraint : Type 0 where
   Before : At → Act → At → Act → ℕ → Constraint
@@ -47,6 +49,8 @@ pub data Constraint : Type 0 where
   Operands : Side → Side → Constraint
   PerCycle : List Item → ℕ → Constraint
   Length : List Task → List Precedence → VarId → ℕ → Constraint
+  Live : List Span → ℕ → ℕ → Constraint
+  Across : VarId → ℕ → ℕ → Constraint
 
 -- whether an assignment meets it
 abbrev pub meets : Constraint → List ℕ → Bool
@@ -66,6 +70,8 @@ meets (Clobber mask temp calls) x = clobber_holds mask temp calls x
 meets (Operands a b) x = operands_holds a b x
 meets (PerCycle items horizon) x = per_cycle_holds items horizon x
 meets (Length ops arcs end horizon) x = block_holds ops arcs end x
+meets (Live values room horizon) x = live_holds values room horizon x
+meets (Across call sure room) x = across_holds sure room x
 
 -- it meets all of them
 abbrev pub AllMet : List Constraint → List ℕ → Type 0

@@ -1,5 +1,5 @@
 -- What a propagator that asks for something leaves, by the list of its variables.
-use Rattle.std.specs.Prelude.{ℕ, List, Some, option_and_then}
+use Rattle.std.specs.Prelude.{List, Some, option_and_then}
 use Rattle.std.specs.declared.option.Option.{Option}
 use Rattle.un_base.specs.declared.ids.VarId.{VarId}
 use Rattle.un_domains.specs.Sets.{Sets}
@@ -26,8 +26,9 @@ use Rattle.un_slots.specs.Crowds.{per_cycle_steps}
 use Rattle.un_slots.specs.Slots.{per_cycle_holds}
 use Rattle.un_length.specs.Blocks.{block_holds}
 use Rattle.un_length.specs.Lengths.{length_cut}
+use Rattle.un_press.specs.Pressures.{live_holds, across_holds}
 use Rattle.un_kinds.specs.Constraints.{Constraint, Before, Reads, Inside, Last, Below, Chosen, Zeros, Spaces, Same, Home, Frame}
-use Rattle.un_kinds.specs.Constraints.{Apart, Clobber, Operands, PerCycle, Length}
+use Rattle.un_kinds.specs.Constraints.{Apart, Clobber, Operands, PerCycle, Length, Live, Across}
 
 -- the sets that it leaves, or none where it fails
 abbrev pub cut_with : Constraint → List VarId → Sets → Option Sets
@@ -53,3 +54,5 @@ cut_with (Clobber mask temp calls) vs s = clobber_cut vs mask temp calls s
 cut_with (Operands a b) vs s = option_and_then (last_cut vs (operands_holds a b)) (operands_steps a b s)
 cut_with (PerCycle items horizon) vs s = option_and_then (last_cut vs (per_cycle_holds items horizon)) (per_cycle_steps vs items horizon s)
 cut_with (Length ops arcs end horizon) vs s = option_and_then (last_cut vs (block_holds ops arcs end)) (length_cut vs ops arcs end horizon s)
+cut_with (Live values room horizon) vs s = last_cut vs (live_holds values room horizon) s
+cut_with (Across call sure room) vs s = last_cut vs (across_holds sure room) s

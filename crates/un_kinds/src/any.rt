@@ -14,6 +14,8 @@ use un_prec::below::Below;
 use un_prec::inside::Inside;
 use un_prec::last::Last;
 use un_prec::reads::Reads;
+use un_press::across::Across;
+use un_press::live::Live;
 use un_prop::propagator::{Predicate, Propagator, Pruned, Scratch};
 use un_rect::apart::Apart;
 use un_rect::clobber::Clobber;
@@ -39,6 +41,8 @@ pub enum AnyProp {
     Operands(Operands),
     PerCycle(PerCycle),
     Length(Length),
+    Live(Live),
+    Across(Across),
 }
 
 impl Predicate for AnyProp {
@@ -66,6 +70,8 @@ impl Predicate for AnyProp {
             AnyProp::Operands(p) => p.reads(),
             AnyProp::PerCycle(p) => p.reads(),
             AnyProp::Length(p) => p.reads(),
+            AnyProp::Live(p) => p.reads(),
+            AnyProp::Across(p) => p.reads(),
         }
     }
 
@@ -87,6 +93,8 @@ impl Predicate for AnyProp {
             AnyProp::Operands(p) => p.test(fixed),
             AnyProp::PerCycle(p) => p.test(fixed),
             AnyProp::Length(p) => p.test(fixed),
+            AnyProp::Live(p) => p.test(fixed),
+            AnyProp::Across(p) => p.test(fixed),
         }
     }
 
@@ -113,6 +121,7 @@ impl Propagator for AnyProp {
                 | AnyProp::Clobber(_)
                 | AnyProp::PerCycle(_)
                 | AnyProp::Length(_)
+                | AnyProp::Live(_)
         )
     }
 
@@ -134,6 +143,8 @@ impl Propagator for AnyProp {
             AnyProp::Operands(p) => p.prune_in(w, scratch),
             AnyProp::PerCycle(p) => p.prune_in(w, scratch),
             AnyProp::Length(p) => p.prune_in(w, scratch),
+            AnyProp::Live(p) => p.prune_in(w, scratch),
+            AnyProp::Across(p) => p.prune_in(w, scratch),
         }
     }
 

@@ -73,14 +73,14 @@ range_differs : (a n : ℕ) → Pairwise (λ (x y : TempId). x ≡ y → ⊥) (m
 range_differs a zero = tt
 range_differs a (suc n) = (above a (a + 1) n (omega arith), range_differs (a + 1) n)
 
-pairwise_part : {X : Type 0} (R : X → X → Type 0) (xss : List (List X)) (xs : List X) → Pairwise R (joined xss)
+pub pairwise_part : {X : Type 0} (R : X → X → Type 0) (xss : List (List X)) (xs : List X) → Pairwise R (joined xss)
     → Member xs xss → Pairwise R xs
 pairwise_part R [] xs h m = elim m [ ]
 pairwise_part R (ys ∷ yss) xs h (inl e) = subst (Pairwise R) e (pairwise_append_left R ys (joined yss) h)
 pairwise_part R (ys ∷ yss) xs h (inr m) = pairwise_part R yss xs (pairwise_append_right R ys (joined yss) h) m
 
 module _ (f : Placed → Bool) where
-  abbrev by_definer : Spot → Bool
+  abbrev pub by_definer : Spot → Bool
   by_definer s = f s.definer
 
   own_yes : (q : Placed) (k : ℕ) (ts : List TempId) → f q ≡ true → filter by_definer (places_from (spot q) k ts) ≡ places_from (spot q) k ts
@@ -96,7 +96,7 @@ module _ (f : Placed → Bool) where
       ap (λ (b : Bool). cond b (spot q k y ∷ rest) rest) t ∙ own_no q (k + 1) ys t
 
   -- the results of some operations are those of which the definer is one of them
-  spots_filter : (qs : List Placed) → all_spots (filter f qs) ≡ filter by_definer (all_spots qs)
+  pub spots_filter : (qs : List Placed) → all_spots (filter f qs) ≡ filter by_definer (all_spots qs)
   spots_filter [] = refl
   spots_filter (q ∷ qs) = by (f q) refl (spots_filter qs)
     where
@@ -113,7 +113,7 @@ some_home : (home : Option Reg) → is_register_home home ≡ true → is_some h
 some_home None h = absurd (cc h)
 some_home (Some r) h = refl
 
-not_same : (a b : ℕ) → not (a == b) ≡ true → a ≡ b → ⊥
+pub not_same : (a b : ℕ) → not (a == b) ≡ true → a ≡ b → ⊥
 not_same a b h same = let z : false ≡ true = sym (ap not (eq-eqb a b same)) ∙ h in cc z
 
 or_right : (a b : Bool) → a ≡ false → (a || b) ≡ true → b ≡ true
@@ -151,7 +151,7 @@ pairwise_cross R (x ∷ xs) ys a b h (inl e) n =
     subst (λ z. R z b) e (each_member (R x) (xs ++ ys) b h.0 (member_append_right xs ys b n))
 pairwise_cross R (x ∷ xs) ys a b h (inr m) n = pairwise_cross R xs ys a b h.1 m n
 
-abbrev OtherTemp : Spot → Spot → Type 0
+abbrev pub OtherTemp : Spot → Spot → Type 0
 OtherTemp s u = s.temp ≡ u.temp → ⊥
 
 -- operations of which all results are different give different ones
@@ -192,17 +192,17 @@ module _ (e : Ext) (o : Options) (x : List ℕ) (given : Given e o x)
   abbrev solved : Solved e o x
   solved = record { extended = given.extended; fit = given.fit; options = given.options; schedule = schedule }
 
-  abbrev Other : Spot → Spot → Type 0
+  abbrev pub Other : Spot → Spot → Type 0
   Other s u = OtherTemp s u
 
   -- all results are different
-  different : Pairwise Other (spots e o x)
+  pub different : Pairwise Other (spots e o x)
   different = pairwise_of_map (λ (a b : TempId). a ≡ b → ⊥) (λ (s : Spot). s.temp) (spots e o x)
       (subst (Pairwise (λ (a b : TempId). a ≡ b → ⊥)) (sym (results_are 0 0 0 e.blocks ∙ numbered e o x given))
       (range_differs 0 (length (all_results e.blocks))))
 
   -- a mandatory operation that reads is active: a Fall reads nothing
-  reads_active : (q : Placed) (j : ℕ) (y : Operand) → Member q (all e o x) → is_mandatory q.op.kind ≡ true
+  pub reads_active : (q : Placed) (j : ℕ) (y : Operand) → Member q (all e o x) → is_mandatory q.op.kind ≡ true
       → slice_get q.op.operands j ≡ Some y → (issue_at x q).active ≡ true
   reads_active q j y m mandatory at = by q.op.kind refl mandatory
     where
@@ -239,7 +239,7 @@ module _ (e : Ext) (o : Options) (x : List ℕ) (given : Given e o x)
     abbrev behind : List Place
     behind = filter (is_behind arcs (place_of c)) (region_places r)
 
-    order : Ordered x r arcs
+    pub order : Ordered x r arcs
     order = ordered e o x given schedule r mr
 
     all_c : Member c (all e o x)
@@ -261,7 +261,7 @@ module _ (e : Ext) (o : Options) (x : List ℕ) (given : Given e o x)
     abbrev crosses : Bool → ℕ → Bool
     crosses b n = is_carried b behind (handed b behind free) n
 
-    abbrev crossing_spots : Bool → List Spot
+    abbrev pub crossing_spots : Bool → List Spot
     crossing_spots b = filter (λ (s : Spot). crosses b s.temp.0) (filter (by_definer ahead) (region_spots r))
 
     values_are : (b : Bool) → crossing b arcs (region_places r) (place_of c) ≡ map (λ (s : Spot). s.temp) (crossing_spots b)
@@ -282,7 +282,7 @@ module _ (e : Ext) (o : Options) (x : List ℕ) (given : Given e o x)
     -- ---- what is there, and what is read
 
     -- a value that is there in the call's cycle and is not its result
-    record There (n : ℕ) : Type 0 where
+    pub record There (n : ℕ) : Type 0 where
       own : Spot
       member : Member own (region_spots r)
       is : own.temp ≡ temp n
@@ -290,7 +290,7 @@ module _ (e : Ext) (o : Options) (x : List ℕ) (given : Given e o x)
       other : own.definer.number ≡ c.number → ⊥
 
     -- what reads a value after the call's cycle
-    record After (b : Bool) (n : ℕ) : Type 0 where
+    pub record After (b : Bool) (n : ℕ) : Type 0 where
       user : Placed
       of_block : Member user (region_placed r)
       late : cycle_at e o x solved c < cycle_at e o x solved user
@@ -314,7 +314,7 @@ module _ (e : Ext) (o : Options) (x : List ℕ) (given : Given e o x)
         }
 
     -- what is behind it reads later
-    after_behind : (b : Bool) (n : ℕ) → list_any (reads_value b n) behind ≡ true → After b n
+    pub after_behind : (b : Bool) (n : ℕ) → list_any (reads_value b n) behind ≡ true → After b n
     after_behind b n h =
         let read = any_of (reads_value b n) behind h in
         let of_behind = member_of_filter (is_behind arcs (place_of c)) (region_places r) read.0 read.1 in
@@ -397,7 +397,7 @@ module _ (e : Ext) (o : Options) (x : List ℕ) (given : Given e o x)
         (subst (Pairwise Other) (sym (spots_filter loose (region_placed r)))
         (pairwise_filter Other (by_definer loose) (region_spots r) region_differs))))
 
-    carried : (b : Bool) → Carrying b behind There (After b) (after_behind b) free
+    pub carried : (b : Bool) → Carrying b behind There (After b) (after_behind b) free
     carried b = carrying b behind There (After b) (after_behind b) free (each_early_or_late b) give_others
 
     -- what is ahead of the call is given by none of them
@@ -416,7 +416,7 @@ module _ (e : Ext) (o : Options) (x : List ℕ) (given : Given e o x)
 
     -- ---- what the values that cross come to
 
-    abbrev last : Bool → Spot → TempId
+    abbrev pub last : Bool → Spot → TempId
     last b s = temp ((carried b).last s.temp.0)
 
     record Found (b : Bool) (s : Spot) : Type 0 where
@@ -430,17 +430,17 @@ module _ (e : Ext) (o : Options) (x : List ℕ) (given : Given e o x)
         let inner = member_of_filter (by_definer ahead) (region_spots r) s outer.0 in
         record { member = inner.0; crosses_on = outer.1; before = inner.1 }
 
-    abbrev across : Bool → List TempId
+    abbrev pub across : Bool → List TempId
     across b = map (last b) (crossing_spots b)
 
-    values_many : (b : Bool) → length (across b) ≡ length (crossing b arcs (region_places r) (place_of c))
+    pub values_many : (b : Bool) → length (across b) ≡ length (crossing b arcs (region_places r) (place_of c))
     values_many b =
         let k = length_mapped (last b) (crossing_spots b) in
         let l = length_mapped (λ (s : Spot). s.temp) (crossing_spots b) in
         let is = ap length (values_are b) in
         omega (arith, k, l, is)
 
-    values_differ : (b : Bool) → Differ (across b)
+    pub values_differ : (b : Bool) → Differ (across b)
     values_differ b = pairwise_map (λ x y. x ≡ y → ⊥) (last b) (crossing_spots b)
         (pairwise_more Other (λ s u. last b s ≡ last b u → ⊥) (crossing_spots b) (λ s u ms mu ne same.
         let f = found b s ms in
@@ -450,11 +450,11 @@ module _ (e : Ext) (o : Options) (x : List ℕ) (given : Given e o x)
         ne (ap temp one)) (spots_differ b))
 
     -- a value that crosses the call, and one of its readers
-    record Crosses (b : Bool) (v : TempId) : Type 0 where
+    pub record Crosses (b : Bool) (v : TempId) : Type 0 where
       of_value : There v.0
       user : After b v.0
 
-    crossed_by : (b : Bool) (v : TempId) → Member v (across b) → Crosses b v
+    pub crossed_by : (b : Bool) (v : TempId) → Member v (across b) → Crosses b v
     crossed_by b v m =
         let s = member_map_of (last b) (crossing_spots b) v m in
         let f = found b s.0 s.1 in
@@ -462,10 +462,10 @@ module _ (e : Ext) (o : Options) (x : List ℕ) (given : Given e o x)
         subst (Crosses b) s.2 (record { of_value = both.0; user = both.1 })
 
     module _ (b : Bool) (v : TempId) (k : Crosses b v) where
-      abbrev after : After b v.0
+      abbrev pub after : After b v.0
       after = k.user
 
-      abbrev reader : Reader e o x solved v (cycle_at e o x solved c)
+      abbrev pub reader : Reader e o x solved v (cycle_at e o x solved c)
       reader = let q = after in record {
         user = q.user;
         member = in_all e o x r q.user mr q.of_block;
@@ -477,7 +477,7 @@ module _ (e : Ext) (o : Options) (x : List ℕ) (given : Given e o x)
         after = q.late;
       }
 
-      abbrev crossed : Crossing e o x solved c v
+      abbrev pub crossed : Crossing e o x solved c v
       crossed =
           let w = k.of_value in
           record {

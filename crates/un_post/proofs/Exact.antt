@@ -20,12 +20,14 @@ use Rattle.un_model.proofs.Lists.{Member}
 use Rattle.un_sites.specs.Befores.{befores_of, lengths_of, all_postings_of}
 use Rattle.un_kinds.specs.Constraints.{AllMet}
 use Rattle.un_sites.specs.Postings.{postings_of}
+use Rattle.un_sites.specs.Pressures.{pressures_of}
 use Rattle.un_post.specs.Posts.{IsCheaper}
 use Rattle.un_sites.specs.Rooms.{rooms_of}
 use Rattle.un_post.proofs.Facts.{Given}
 use Rattle.un_post.proofs.Lengths.{lengths_met}
 use Rattle.un_post.proofs.Memory.{befores, memory, contains_member, member_contains}
 use Rattle.un_post.proofs.Posted.{all_append}
+use Rattle.un_post.proofs.Pressed.{pressures_met}
 use Rattle.un_post.proofs.Solved.{solved_by}
 use Rattle.un_post.proofs.SpaceSets.{has_run}
 
@@ -35,14 +37,15 @@ of_given : (e : Ext) (o : Options) (limit : Option ℕ) (x : List ℕ) → Given
     → IsCheaper (model_of e o) limit (record { values = x }) ↔ AllMet (all_postings_of (model_of e o) limit) x
 of_given e o limit x given =
     let m : Model = model_of e o in
-    let a = all_append x (postings_of m limit) (befores_of m ++ (rooms_of m ++ lengths_of m)) in
-    let b = all_append x (befores_of m) (rooms_of m ++ lengths_of m) in
-    let d = all_append x (rooms_of m) (lengths_of m) in
+    let a = all_append x (postings_of m limit) (befores_of m ++ (rooms_of m ++ (lengths_of m ++ pressures_of m))) in
+    let b = all_append x (befores_of m) (rooms_of m ++ (lengths_of m ++ pressures_of m)) in
+    let d = all_append x (rooms_of m) (lengths_of m ++ pressures_of m) in
+    let f = all_append x (lengths_of m) (pressures_of m) in
     let solved = solved_by e o limit (record { values = x }) given in (
       λ h.
           let s = h.0 in
           let parts = (solved s.memory).0 h in
-          a.1 (parts.0, b.1 (befores e o x given s, d.1 (parts.1, lengths_met e o x given s))),
+          a.1 (parts.0, b.1 (befores e o x given s, d.1 (parts.1, f.1 (lengths_met e o x given s, pressures_met e o x given s)))),
       λ h.
           let u = a.0 h in
           let v = b.0 u.1 in

@@ -57,7 +57,7 @@ module _ (t s : Sets) (below : Below t s) where
 
 -- ---- rounds
 
-each_stable : {P : Type 0} (Q : P → Type 0) (ps : List P) → AllByRecursion Q ps → Each Q ps
+pub each_stable : {P : Type 0} (Q : P → Type 0) (ps : List P) → AllByRecursion Q ps → Each Q ps
 each_stable Q [] h = tt
 each_stable Q (p ∷ ps) h = (h.0, each_stable Q ps h.1)
 

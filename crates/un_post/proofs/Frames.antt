@@ -43,7 +43,7 @@ use Rattle.un_post.proofs.Placing.{place_of, places_are, definer_at}
 use Rattle.un_post.proofs.Tests.{iff_then, iff_back, both, and_iff, same_test, met_one}
 use Rattle.un_post.proofs.Whole.{issues_each, ranges_are, spot_in, result_register, registers_each}
 
-any_true : {A : Type 0} (t : A → Bool) (xs : List A) (x : A) → Member x xs → t x ≡ true → list_any t xs ≡ true
+pub any_true : {A : Type 0} (t : A → Bool) (xs : List A) (x : A) → Member x xs → t x ≡ true → list_any t xs ≡ true
 any_true t [] x m q = elim m [ ]
 any_true t (y ∷ ys) x (inl e) q = ap (λ (b : Bool). b || list_any t ys) (ap t e ∙ q)
 any_true t (y ∷ ys) x (inr m) q = right (t y) (list_any t ys) (any_true t ys x m q)

@@ -30,11 +30,14 @@ pub mod NoSharing
 pub mod OfPlaces
 pub mod OfRooms
 pub mod OneEnter
+pub mod Overfull
 pub mod Packets
 pub mod Placing
 pub mod Posted
+pub mod Pressed
 pub mod Reading
 pub mod ReadingModel
+pub mod ReadingPressures
 pub mod Ready
 pub mod Regions
 pub mod RegisterBounds

@@ -1,5 +1,6 @@
 -- Lists of constraints that an assignment meets, and entries of lists at a place.
 use Rattle.std.proofs.Common.{ℕ, zero, suc, ◌≡◌, ◌↔◌, ◌+◌, Bool, true, false, List, [], ◌∷◌, map, refl, ap, ◌∙◌, subst, arith, All}
+use Rattle.std.specs.List.{AllZip}
 use Rattle.std.specs.Prelude.{Some, slice_get, slice_index, ◌||◌, not}
 use Rattle.std.proofs.lemmas.List.Elements.{All-nil, All-cons}
 use Rattle.un_base.specs.declared.ids.VarId.{VarId}
@@ -34,6 +35,12 @@ each_places P f xs h = each_of P (places_from f 0 xs) (λ y m.
 pub places_each : {X Y : Type 0} (P : Y → Type 0) (f : ℕ → X → Y) (xs : List X) → Each P (places_from f 0 xs) → (j : ℕ) (x : X)
     → slice_get xs j ≡ Some x → P (f j x)
 places_each P f xs h j x e = each_member P (places_from f 0 xs) (f j x) h (member_places f xs 0 j j x (omega arith) e)
+
+pub zip_each : {X Y : Type 0} (R : X → Y → Type 0) (P : X → Type 0) (xs : List X) (ys : List Y) → ((x : X) (y : Y) → R x y → P x)
+    → AllZip R xs ys → Each P xs
+zip_each R P [] ys f h = tt
+zip_each R P (x ∷ xs) [] f h = absurd h
+zip_each R P (x ∷ xs) (y ∷ ys) f h = (f x y h.0, zip_each R P xs ys f h.1)
 
 -- ---- what an assignment meets
 

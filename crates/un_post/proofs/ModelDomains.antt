@@ -44,7 +44,7 @@ use Rattle.un_model.proofs.Lists.{pairwise_map, pairwise_all, member_filter, mem
 use Rattle.un_model.proofs.Lists.{member_append_left, member_append_right, place_of}
 use Rattle.un_model.proofs.Lists.{length_get, get_below, member_at}
 use Rattle.un_model.proofs.Operations.{contains_member}
-use Rattle.un_post.proofs.Meeting.{all_each, each_places}
+use Rattle.un_post.proofs.Meeting.{all_each, each_places, zip_each}
 use Rattle.un_prop.specs.Looks.{InWords}
 use Rattle.un_post.proofs.Exact.{any_equal as has_member}
 use Rattle.un_post.proofs.RegisterBounds.{start_below, saved_below, result_below}
@@ -210,12 +210,6 @@ none_past : {X : Type 0} (xs : List X) (k : ℕ) → slice_get xs k ≡ None →
 none_past [] k h = omega arith
 none_past (x ∷ xs) zero h = absurd (cc h)
 none_past (x ∷ xs) (suc k) h = let r = none_past xs k h in omega arith
-
-pub zip_each : {X Y : Type 0} (R : X → Y → Type 0) (P : X → Type 0) (xs : List X) (ys : List Y) → ((x : X) (y : Y) → R x y → P x)
-    → AllZip R xs ys → Each P xs
-zip_each R P [] ys f h = tt
-zip_each R P (x ∷ xs) [] f h = absurd h
-zip_each R P (x ∷ xs) (y ∷ ys) f h = (f x y h.0, zip_each R P xs ys f h.1)
 
 -- ---- the registers of a result
 

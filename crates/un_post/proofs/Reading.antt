@@ -134,18 +134,18 @@ module _ (n : ℕ) (pos : 0 < n) where
   get_in (v ∷ vs) zero h = h.0
   get_in (v ∷ vs) (suc k) h = get_in vs k h.1
 
-  or_in : (o : Option VarId) → MayBe o → (var_or o).0 < n
+  pub or_in : (o : Option VarId) → MayBe o → (var_or o).0 < n
   or_in None h = pos
   or_in (Some v) h = h
 
-  each_in : {A : Type 0} (f : A → List VarId) (xs : List A) → Each (λ (a : A). Within (f a)) xs → Within (vars_in f xs)
+  pub each_in : {A : Type 0} (f : A → List VarId) (xs : List A) → Each (λ (a : A). Within (f a)) xs → Within (vars_in f xs)
   each_in f [] h = tt
   each_in f (x ∷ xs) h = each_join (λ (v : VarId). v.0 < n) (f x) (vars_in f xs) h.0 (each_in f xs h.1)
 
   owns_in : (vs : List VarId) → Within vs → Within (vars_in own_var vs)
   owns_in vs h = each_in own_var vs (each_more (λ (v : VarId). v.0 < n) (λ (v : VarId). Within (own_var v)) vs (λ v lt. (lt, tt)) h)
 
-  two_in : (xs ys : List VarId) → Within xs → Within ys → Within (xs ++ ys)
+  pub two_in : (xs ys : List VarId) → Within xs → Within ys → Within (xs ++ ys)
   two_in xs ys h k = each_join (λ (v : VarId). v.0 < n) xs ys h k
 
   -- ---- operations and definers
@@ -163,7 +163,7 @@ module _ (n : ℕ) (pos : 0 < n) where
   time_by_in end kind None h k = tt
   time_by_in end kind (Some v) h k = (k, tt)
 
-  time_in : (p : Place) → PlaceIn p → Within (at_vars (time_of p))
+  pub time_in : (p : Place) → PlaceIn p → Within (at_vars (time_of p))
   time_in p h = time_by_in p.end p.it.kind p.vars.cycle h.end h.cycle
 
   -- it has a variable for its time
@@ -192,7 +192,7 @@ module _ (n : ℕ) (pos : 0 < n) where
     abbrev pub Sound : List Constraint → Type 0
     Sound cs = Each (IsSound n most) cs
 
-    sound : (c : Constraint) → Within (vars_of c) → (vars_of c ≡ [] → ⊥) → cycles_of c ≡ 0 → IsSound n most c
+    pub sound : (c : Constraint) → Within (vars_of c) → (vars_of c ≡ [] → ⊥) → cycles_of c ≡ 0 → IsSound n most c
     sound c within some none = record { within = within; grounded = λ e x. absurd (some e); spans = omega arith }
 
     join : (cs ds : List Constraint) → Sound cs → Sound ds → Sound (cs ++ ds)

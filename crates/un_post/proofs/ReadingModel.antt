@@ -51,20 +51,21 @@ use Rattle.un_sites.specs.Places.{Place, Definer, time_by, block_places, places_
 use Rattle.un_sites.specs.Postings.{over_places, of_place, last_place, congruence, over_edge, edges_of}
 use Rattle.un_sites.specs.Postings.{with_kind, leaves_in, frame_by, frame_of}
 use Rattle.un_sites.specs.Postings.{ends_by, limit_of, postings_of}
+use Rattle.un_sites.specs.Pressures.{block_room, pressure_in, pressures_of}
 use Rattle.un_post.specs.Posts.{largest_horizon}
 use Rattle.un_sites.specs.Rooms.{apart_in, aparts_of, spared_in, spared_at, arcs_or, clobbers_of, packets_in, packets_of, twos_in, twos_of}
 use Rattle.un_sites.specs.Rooms.{rooms_of, temps_in}
 use Rattle.un_kinds.specs.Scopes.{leave_vars}
 use Rattle.un_post.proofs.Blocks.{blocks, in_all, region_vars, places_in}
 use Rattle.un_post.proofs.Congruences.{in_is}
-use Rattle.un_post.proofs.Meeting.{joined_each}
+use Rattle.un_post.proofs.Meeting.{joined_each, zip_each}
 use Rattle.un_post.proofs.Memory.{member_contains, arcs_by_regions}
-use Rattle.un_post.proofs.ModelDomains.{zip_each}
 use Rattle.un_post.proofs.Placing.{place_of, places_are, place_here}
 use Rattle.un_post.proofs.Reading.{IsSound, PlaceIn, DefinerIn, MayBe, Within, OperandsIn, no_place_in, get_in, place_are, last_in}
 use Rattle.un_post.proofs.Reading.{Timed}
 use Rattle.un_post.proofs.Reading.{same_are, apart_are, spared_are, twos_are, leaves_are, frame_are}
 use Rattle.un_post.proofs.Reading.{arc_are, packet_are, length_are, below_are, joined_places}
+use Rattle.un_post.proofs.ReadingPressures.{pressure_are}
 use Rattle.un_post.proofs.RegisterBounds.{run_below}
 use Rattle.un_post.proofs.Regions.{over_regions, region_is, ended, last_of, front_of, region_parts}
 
@@ -205,7 +206,7 @@ module _ (e : Ext) (o : Options) (extended : IsExtended e) where
   places_known : Each (PlaceIn n pos) the_places
   places_known = each_placed (PlaceIn n pos) place_known
 
-  spot_known : (s : Spot) → Member s (all_spots the_placed) → (temp_vars s).reg.0 < n
+  pub spot_known : (s : Spot) → Member s (all_spots the_placed) → (temp_vars s).reg.0 < n
   spot_known s ms =
       let r = joined_member spots_of the_placed s ms in
       let q = r.0 in
@@ -408,6 +409,12 @@ module _ (e : Ext) (o : Options) (extended : IsExtended e) where
         tt,
       ))
 
+  pressures_ok : Each IsOk (pressures_of m)
+  pressures_ok = over_are IsOk (pressure_in m the_definers) (λ r mr.
+      let owner = r.owner in
+      pressure_are n pos most e.table.clobbered (arcs_or (slice_get m.arcs r.block)) (block_room m.domains the_definers (places_at r))
+      owner.horizon (places_at r) (block_known r mr))
+
   join : (cs ds : List Constraint) → Each IsOk cs → Each IsOk ds → Each IsOk (cs ++ ds)
   join cs ds h k = each_join IsOk cs ds h k
 
@@ -417,11 +424,11 @@ module _ (e : Ext) (o : Options) (extended : IsExtended e) where
   all_sound limit =
       let edges = over_blocks (edges_of e.blocks the_definers) 0 0 e.blocks (blocks_vars 0 e.blocks) in
       let frame = frame_of m the_definers the_places in
-      join (postings_of m limit) (befores_of m ++ (rooms_of m ++ lengths_of m))
+      join (postings_of m limit) (befores_of m ++ (rooms_of m ++ (lengths_of m ++ pressures_of m)))
       (join (over_places (of_place e.table o.slots the_definers) m) (edges ++ (frame ++ limit_of m limit)) of_places_ok
       (join edges (frame ++ limit_of m limit) edges_ok (join frame (limit_of m limit) frame_ok (limit_ok limit))))
-      (join (befores_of m) (rooms_of m ++ lengths_of m) befores_ok
-      (join (rooms_of m) (lengths_of m)
+      (join (befores_of m) (rooms_of m ++ (lengths_of m ++ pressures_of m)) befores_ok
+      (join (rooms_of m) (lengths_of m ++ pressures_of m)
       (join (aparts_of m) (clobbers_of m ++ (packets_of m ++ twos_of m)) aparts_ok
       (join (clobbers_of m) (packets_of m ++ twos_of m) clobbers_ok
-      (join (packets_of m) (twos_of m) packets_ok twos_ok))) lengths_ok))
+      (join (packets_of m) (twos_of m) packets_ok twos_ok))) (join (lengths_of m) (pressures_of m) lengths_ok pressures_ok)))

@@ -1,7 +1,7 @@
 -- Propagators for all that is posted for a model are ready for rounds over its store, and fail where its relaxation has no member.
-use Rattle.std.proofs.Common.{ℕ, ◌≡◌, ◌+◌, ◌<◌, ◌≤◌, Bool, true, false, List, [], ◌∷◌, length, map, get_or, nat_eq, ◌||◌}
+use Rattle.std.proofs.Common.{ℕ, ◌≡◌, ◌+◌, ◌<◌, ◌≤◌, Bool, true, false, List, [], ◌∷◌, ◌++◌, length, map, get_or, nat_eq, ◌||◌, None}
 use Rattle.std.proofs.Common.{refl, sym, ap, ◌∙◌, subst, arith, All}
-use Rattle.std.specs.Prelude.{Option}
+use Rattle.std.specs.Prelude.{Option, Some}
 use Rattle.std.proofs.lemmas.Bool.Decides.{nat_tests}
 use Rattle.std.proofs.lemmas.List.{length-append, length-map}
 use Rattle.un_base.specs.declared.ids.VarId.{VarId}
@@ -17,26 +17,32 @@ use Rattle.un_model.specs.declared.model.Model.{Model}
 use Rattle.un_model.specs.declared.model.Options.{Options}
 use Rattle.un_model.specs.Options.{AreOptions}
 use Rattle.un_model.specs.Variables.{IsModel, model_of, domains_of, own_horizon, blocks_domains, blocks_count}
-use Rattle.un_model.proofs.Lists.{Each, Member, each_of, each_member, each_more, each_of_map, each_all}
+use Rattle.un_model.proofs.Lists.{Each, Member, each_of, each_member, each_more, each_of_map, each_all, member_map_of}
+use Rattle.un_model.proofs.Lists.{member_append_right}
 use Rattle.un_model.proofs.Numbering.{length-blocks_domains}
 use Rattle.un_prop.specs.Among.{among}
 use Rattle.un_prop.specs.AmongLaws.{in_list}
-use Rattle.un_prop.specs.Fixes.{Known}
+use Rattle.un_prop.specs.Fixes.{Known, order_free}
 use Rattle.un_prop.specs.Looks.{InWords}
 use Rattle.un_prop.specs.Rounds.{HasVars}
 use Rattle.un_kinds.specs.AnyProps.{constraint_of, scope_of, cut_of, strong_of, span_of, any_lawful, any_strength}
-use Rattle.un_sites.specs.Befores.{all_postings_of}
-use Rattle.un_post.specs.Posts.{largest_horizon, ReadsFrom, IsGrounded, SpansAtMost, FailsWhereEmpty}
+use Rattle.un_sites.specs.Befores.{befores_of, lengths_of, all_postings_of}
+use Rattle.un_sites.specs.Postings.{postings_of}
+use Rattle.un_sites.specs.Pressures.{pressures_of}
+use Rattle.un_sites.specs.Rooms.{rooms_of}
+use Rattle.un_post.specs.Posts.{largest_horizon, ReadsFrom, IsGrounded, SpansAtMost, FailsWhereEmpty, FailsWhereOverfull}
+use Rattle.un_kinds.specs.Constraints.{Constraint}
 use Rattle.un_kinds.specs.Scopes.{IsScope, IsTight, vars_of}
 use Rattle.un_post.specs.Strength.{Strong}
 use Rattle.un_kinds.specs.declared.any.AnyProp.{AnyProp}
 use Rattle.un_kinds.specs.declared.any.AnyProp.TheVariants.{Before, Reads, Inside, Last, Below as BelowProp, Chosen}
 use Rattle.un_kinds.specs.declared.any.AnyProp.TheVariants.{Zeros, Spaces, Same, Home}
-use Rattle.un_kinds.specs.declared.any.AnyProp.TheVariants.{Frame, Apart, Clobber, Operands, PerCycle, Length}
-use Rattle.un_post.proofs.Failing.{rounds_fail}
+use Rattle.un_kinds.specs.declared.any.AnyProp.TheVariants.{Frame, Apart, Clobber, Operands, PerCycle, Length, Live, Across}
+use Rattle.un_post.proofs.Failing.{each_stable, rounds_fail}
 use Rattle.un_post.proofs.Meeting.{all_each}
 use Rattle.un_post.proofs.Memory.{contains_member}
 use Rattle.un_post.proofs.ModelDomains.{domains_in_words, domains_live}
+use Rattle.un_post.proofs.Overfull.{not_overfull}
 use Rattle.un_post.proofs.Reading.{IsSound, cycles_of}
 use Rattle.un_post.proofs.ReadingModel.{all_sound}
 use Rattle.un_kinds.proofs.Rising.{among_own}
@@ -75,6 +81,8 @@ span_is (Clobber p) = refl
 span_is (Operands p) = refl
 span_is (PerCycle p) = refl
 span_is (Length p) = refl
+span_is (Live p) = refl
+span_is (Across p) = refl
 
 strong_as : (p : AnyProp) (s : Sets) → strong_of p s → Strong s (constraint_of p)
 strong_as (Before p) s h = h
@@ -93,6 +101,8 @@ strong_as (Clobber p) s h = tt
 strong_as (Operands p) s h = tt
 strong_as (PerCycle p) s h = tt
 strong_as (Length p) s h = tt
+strong_as (Live p) s h = tt
+strong_as (Across p) s h = tt
 
 -- ---- those of a model
 
@@ -153,6 +163,26 @@ module _ (e : Ext) (o : Options) (limit : Option ℕ) (ps : List AnyProp) (exten
       words t s below lower v y h = domains_in_words e o extended fit options v y
           (has_below s (map values_of (model_of e o).domains) v y below (has_below t s v y lower h))
 
+  -- what is posted of pressure is among the propagators
+  asked : (c : Constraint) → Member c (pressures_of (model_of e o)) → (p : AnyProp) × (Member p ps) × (constraint_of p ≡ c)
+  asked c mc =
+      let m = model_of e o in
+      member_map_of constraint_of ps c (subst (Member c) (sym asks)
+      (member_append_right (postings_of m limit) (befores_of m ++ (rooms_of m ++ (lengths_of m ++ pressures_of m))) c
+      (member_append_right (befores_of m) (rooms_of m ++ (lengths_of m ++ pressures_of m)) c
+      (member_append_right (rooms_of m) (lengths_of m ++ pressures_of m) c
+      (member_append_right (lengths_of m) (pressures_of m) c mc)))))
+
+  overfull : FailsWhereOverfull (model_of e o) (map values_of (model_of e o).domains) ps
+  overfull = unfold FailsWhereOverfull in λ s c below live there full.
+      let p = asked c (contains_member (pressures_of (model_of e o)) c there) in
+      order_free scope_of cut_of any_lawful ps s None
+      (known_each s (below.long ∙ long) ps (each_of (λ (p : AnyProp). Member p ps) ps (λ p mp. mp))) live (λ u lower some stable.
+      not_overfull p.0 u (reads_one u p.0 (lower.long ∙ below.long ∙ long) p.1) some (grounded_one p.0 p.1)
+      (each_member (λ (p : AnyProp). cut_of p u ≡ Some u) ps p.0 (each_stable (λ (p : AnyProp). cut_of p u ≡ Some u) ps stable) p.1)
+      s lower c p.2
+      (subst (λ (d : Constraint). IsScope (scope_of p.0) (vars_of d)) p.2 (each_member IsTight ps p.0 each_tight p.1)) full)
+
 -- ---- as the clauses of posting say it
 
 module _ (m : Model) (limit : Option ℕ) (s : Sets) (ps : List AnyProp) where
@@ -186,6 +216,11 @@ module _ (m : Model) (limit : Option ℕ) (s : Sets) (ps : List AnyProp) where
       → map constraint_of ps ≡ all_postings_of m limit → All IsTight ps → FailsWhereEmpty m limit s ps
   posted_fails = of_model (λ k. FailsWhereEmpty k limit s ps) (λ e o extended fit options same asks tight.
       subst (λ (t : Sets). FailsWhereEmpty (model_of e o) limit t ps) (sym same) (fails e o limit ps extended asks tight fit options))
+
+  pub posted_overfull : IsModel m → IsExtended m.ext → IsFit m.ext.table → AreOptions m.options → s ≡ map values_of m.domains
+      → map constraint_of ps ≡ all_postings_of m limit → All IsTight ps → FailsWhereOverfull m s ps
+  posted_overfull = of_model (λ k. FailsWhereOverfull k s ps) (λ e o extended fit options same asks tight.
+      subst (λ (t : Sets). FailsWhereOverfull (model_of e o) t ps) (sym same) (overfull e o limit ps extended asks tight))
 
 pub posted_live : (m : Model) (s : Sets) → IsModel m → IsExtended m.ext → IsFit m.ext.table → AreOptions m.options
     → s ≡ map values_of m.domains → NoneEmpty s

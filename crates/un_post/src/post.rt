@@ -11,7 +11,7 @@ ghost use Rattle.un_domains.specs.Sets.{Sets, NoneEmpty};
 ghost use Rattle.un_prop.specs.Rounds.{fix_of};
 ghost use Rattle.un_sites.specs.Befores.{all_postings_of};
 ghost use Rattle.un_sites.specs.Places.{definers_of, places_of};
-ghost use Rattle.un_post.specs.Posts.{IsExact, ReadsFrom, IsGrounded, SpansAtMost, FailsWhereEmpty, fix_at, largest_horizon};
+ghost use Rattle.un_post.specs.Posts.{IsExact, ReadsFrom, IsGrounded, SpansAtMost, FailsWhereEmpty, FailsWhereOverfull, fix_at, largest_horizon};
 ghost use Rattle.un_kinds.specs.Scopes.{IsTight};
 ghost use Rattle.un_sites.specs.Sites.{place_of, definers_in};
 
@@ -108,6 +108,9 @@ pub fn post(alloc: Global, m: &Model, limit: Option<u64>) -> Result<Posted, NoMe
     ensures horizon { IfOk result (λ p. p.horizon ≡ largest_horizon m.now.ext.blocks) }
     ensures spans { IfOk result (λ p. All (SpansAtMost p.horizon) p.props.items) }
     ensures fails { IfOk result (λ p. FailsWhereEmpty m.now limit p.store.sets p.props.items) }
+
+    // They fail, too, where more values are there in a cycle, or cross a call, than there is room for.
+    ensures overfull { IfOk result (λ p. FailsWhereOverfull m.now p.store.sets p.props.items) }
 
     // What rounds leave of a box is one function of the model, the limit and the box, whichever list was posted.
     ensures fixed { IfOk result (λ p. (box : Sets) → fix_of cut_of p.props.items box ≡ fix_at m.now limit box) }

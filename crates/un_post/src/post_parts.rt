@@ -1,9 +1,10 @@
 //! What is posted for a model, part by part.
 
 ghost use Rattle.std.specs.Prelude.{◌≡◌, ◌++◌, OnOk, map};
-ghost use Rattle.un_sites.specs.Befores.{all_postings_of};
+ghost use Rattle.un_sites.specs.Befores.{all_postings_of, lengths_of};
 ghost use Rattle.un_sites.specs.Places.{definers_of, places_of};
 ghost use Rattle.un_sites.specs.Postings.{postings_of};
+ghost use Rattle.un_sites.specs.Pressures.{pressures_of};
 ghost use Rattle.un_sites.specs.Rooms.{rooms_of};
 ghost use Rattle.un_sites.specs.Sites.{place_of, definers_in};
 
@@ -14,6 +15,7 @@ use un_rooms::post_aparts::post_aparts;
 use un_rooms::post_clobbers::post_clobbers;
 use un_rooms::post_lengths::post_lengths;
 use un_rooms::post_packets::post_packets;
+use un_rooms::post_pressures::post_pressures;
 use un_rooms::post_twos::post_twos;
 use un_single::post_arcs::post_arcs;
 use un_single::post_edges::post_edges;
@@ -61,6 +63,23 @@ fn post_rooms(
     Ok(())
 }
 
+/// What is posted of the lengths and the pressure of blocks, of which these are the tables: the rest implies it.
+#[tactic(auto, using(un_kinds::proofs::Appends::two_added))]
+fn post_implied(
+    props: &mut Props,
+    m: &Model,
+    sites: &[Site<'_>],
+    spots: &[Spot<'_>],
+) -> Result<(), NoMemory>
+    requires sites { definers_in sites.now ≡ definers_of m.now }
+    requires spots { map place_of spots.now ≡ places_of m.now }
+    ensures { OnOk result (props.new ≡ props.old ++ (lengths_of m.now ++ pressures_of m.now)) }
+{
+    post_lengths(props, m, spots)?;
+    post_pressures(props, m, sites)?;
+    Ok(())
+}
+
 /// All that is posted for a model, of which these are the tables.
 #[tactic(auto, using(un_kinds::proofs::Appends::four_added))]
 pub fn post_each(
@@ -77,6 +96,6 @@ pub fn post_each(
     post_single(props, m, limit, sites, spots)?;
     post_arcs(props, m, spots)?;
     post_rooms(props, m, sites, spots)?;
-    post_lengths(props, m, spots)?;
+    post_implied(props, m, sites, spots)?;
     Ok(())
 }

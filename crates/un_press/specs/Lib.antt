@@ -1,3 +1,5 @@
 pub mod Accesses
 pub mod Carriers
+pub mod PressureLaws
+pub mod Pressures
 pub mod Searches

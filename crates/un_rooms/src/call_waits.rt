@@ -257,7 +257,7 @@ fn add_calls<'a>(
 }
 
 /// The calls among the operations of a block.
-fn calls_in<'a>(
+pub(crate) fn calls_in<'a>(
     alloc: Global,
     reach: Reach,
     spots: &[Spot<'a>],

@@ -43,8 +43,8 @@ pub struct Margins {
 
 /// How many values cross a call, and how many of them are read in registers.
 #[derive(Clone, Copy)]
-struct Crossing {
-    all: usize,
+pub(crate) struct Crossing {
+    pub(crate) all: usize,
     in_registers: usize,
 }
 
@@ -73,7 +73,7 @@ fn any_reads(in_register: bool, n: u32, kind: &ExtKind, operands: &[Operand]) ->
 }
 
 /// Whether every solution has an operation that reads value `n`.
-fn reads_value(in_register: bool, n: u32, p: &Spot<'_>) -> bool
+pub(crate) fn reads_value(in_register: bool, n: u32, p: &Spot<'_>) -> bool
     ensures { result ≡ reads_value in_register n (place_of p.now) }
 {
     let kind = &p.it.kind;
@@ -295,7 +295,7 @@ fn loose<'a>(
 }
 
 /// What crosses a call.
-fn crossing_of(
+pub(crate) fn crossing_of(
     alloc: Global,
     reach: Reach,
     arcs: &[Arc],

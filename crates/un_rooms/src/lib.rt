@@ -1,4 +1,5 @@
-//! What is posted of the registers, the calls, the packets and the length of each block, and of each two operands of an operation.
+//! What is posted of the registers, the calls, the packets, the length and the pressure of each block, and of each two operands of an
+//! operation.
 #![tactic(auto)]
 
 mod call_rows;
@@ -9,9 +10,12 @@ pub mod post_aparts;
 pub mod post_clobbers;
 pub mod post_lengths;
 pub mod post_packets;
+pub mod post_pressures;
 pub mod post_twos;
 mod reach;
+mod room;
 mod see_calls;
 mod span;
+mod spans;
 mod tasks;
 mod wait;

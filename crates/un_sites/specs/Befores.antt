@@ -11,6 +11,7 @@ use Rattle.un_sites.specs.CallBefores.{call_befores_by}
 use Rattle.un_sites.specs.Lengths.{length_by}
 use Rattle.un_sites.specs.Places.{Place, no_place, time_of, block_places, places_of}
 use Rattle.un_sites.specs.Postings.{postings_of}
+use Rattle.un_sites.specs.Pressures.{pressures_of}
 use Rattle.un_sites.specs.Rooms.{arcs_or, rooms_of}
 
 -- ---- arcs
@@ -55,6 +56,6 @@ lengths_of m = over_blocks (length_in m) 0 0 m.ext.blocks m.blocks
 -- ---- the whole list
 
 -- All that is posted for a model, under a limit on the cost or none: of single operations, congruences, the frame and the limit;
--- of arcs; of registers, calls, packets and two operands; and of the lengths of blocks, which the rest implies.
+-- of arcs; of registers, calls, packets and two operands; and of the lengths of blocks and of pressure, which the rest implies.
 abbrev pub all_postings_of : Model → Option ℕ → List Constraint
-all_postings_of m limit = postings_of m limit ++ (befores_of m ++ (rooms_of m ++ lengths_of m))
+all_postings_of m limit = postings_of m limit ++ (befores_of m ++ (rooms_of m ++ (lengths_of m ++ pressures_of m)))

@@ -4,5 +4,6 @@ pub mod Befores
 pub mod CallBefores
 pub mod Places
 pub mod Postings
+pub mod Pressures
 pub mod Rooms
 pub mod Sites

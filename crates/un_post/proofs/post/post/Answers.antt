@@ -2,7 +2,7 @@
 use Rattle.std.proofs.Common.{◌∙◌}
 use Rattle.un_kinds.specs.FixingLaws.{fix_is}
 use Rattle.un_post.proofs.ExactProps.{exact_props}
-use Rattle.un_post.proofs.Ready.{posted_reads, posted_live, posted_grounded, posted_spans, posted_fails}
+use Rattle.un_post.proofs.Ready.{posted_reads, posted_live, posted_grounded, posted_spans, posted_fails, posted_overfull}
 use Rattle.un_post.proofs.post.post.Goals as goal
 
 pub returns-clause-exact : goal.returns-clause-exact
@@ -44,6 +44,13 @@ returns-clause-fails c =
     let e = c.in_ok-posted.ensures in
     let r = c.requires in
     posted_fails c.args.m.now c.args.limit _ c.in_ok-posted.posted.props.items r.model r.extended r.fit r.options e.sets
+    (e.asks ∙ c.in_ok-props.ensures) e.tight
+
+pub returns-clause-overfull : goal.returns-clause-overfull
+returns-clause-overfull c =
+    let e = c.in_ok-posted.ensures in
+    let r = c.requires in
+    posted_overfull c.args.m.now c.args.limit _ c.in_ok-posted.posted.props.items r.model r.extended r.fit r.options e.sets
     (e.asks ∙ c.in_ok-props.ensures) e.tight
 
 pub returns-clause-fixed : goal.returns-clause-fixed
