@@ -32,14 +32,14 @@ pub enum Entered {
 }
 
 /// Puts a new leaf among the open nodes, where it is open.
-fn enter(open: &mut OpenNodes, look: Look, place: usize, link: Link) -> Result<Entered, AllocError>
-    ensures { IfOk result (Enters look place link open.old open.new) }
+fn enter(waiting: &mut OpenNodes, look: Look, place: usize, link: Link) -> Result<Entered, AllocError>
+    ensures { IfOk result (Enters look place link waiting.old waiting.new) }
 {
     match look {
         Look::Failed => Ok(Entered::Leaf(Node::Closed)),
         Look::Found(solution) => Ok(Entered::Solution(solution)),
         Look::Open(least) => {
-            open.push(OpenNode {
+            waiting.push(OpenNode {
                 least,
                 place,
                 link: Some(link),
@@ -55,16 +55,16 @@ fn step<P: Problem>(
     problem: &P,
     room: &mut P::Room,
     tree: &mut Growth,
-    open: &mut OpenNodes,
+    waiting: &mut OpenNodes,
     taken: OpenNode,
 ) -> Result<Option<Vec<u32>>, NoMemory>
     requires ready { P.is_ready problem.now room.old }
     requires taken { Taken (P.root problem.now) (P.fix problem.now) (P.least problem.now)
-        tree.old.nodes.items tree.old.branches.items open.old taken }
+        tree.old.nodes.items tree.old.branches.items waiting.old taken }
     requires space { length tree.old.nodes.items + 2 < 2 ^ 32 }
     ensures ready { IfOk result (λ r. P.is_ready problem.now room.new) }
     ensures went { IfOk result (λ r. MatchOption r
-        (Searching (P.root problem.now) (P.fix problem.now) (P.least problem.now) tree.new.nodes.items tree.new.branches.items open.new
+        (Searching (P.root problem.now) (P.fix problem.now) (P.least problem.now) tree.new.nodes.items tree.new.branches.items waiting.new
         × (length tree.new.nodes.items ≡ length tree.old.nodes.items + 2))
         (λ x. P.is_good problem.now x.items)) }
 {
@@ -78,12 +78,12 @@ fn step<P: Problem>(
     let count = tree.nodes.len();
     let parent = tree.branches.len();
     let above = side_of(parent, var, val, Side::Above);
-    let right_leaf = match enter(open, right, count, above)? {
+    let right_leaf = match enter(waiting, right, count, above)? {
         Entered::Solution(solution) => return Ok(Some(solution)),
         Entered::Leaf(node) => node,
     };
     let at_most = side_of(parent, var, val, Side::AtMost);
-    let left_leaf = match enter(open, left, count + 1, at_most)? {
+    let left_leaf = match enter(waiting, left, count + 1, at_most)? {
         Entered::Solution(solution) => return Ok(Some(solution)),
         Entered::Leaf(node) => node,
     };
@@ -103,13 +103,13 @@ fn step<P: Problem>(
 fn first_waits(alloc: Global, least: u64) -> Result<OpenNodes, AllocError>
     ensures { IfOk result (IsPermutation (root_node least ∷ [])) }
 {
-    let mut open = OpenNodes::new(alloc);
-    open.push(OpenNode {
+    let mut waiting = OpenNodes::new(alloc);
+    waiting.push(OpenNode {
         least,
         place: 0,
         link: None,
     })?;
-    Ok(open)
+    Ok(waiting)
 }
 
 /// Searches from an open first box.
@@ -131,9 +131,9 @@ fn search<P: Problem>(
         (IsByRoot (P.root problem.now) (P.fix problem.now) (P.least problem.now) (P.is_good problem.now)) }
 {
     let mut tree = begin(alloc)?;
-    let mut open = first_waits(alloc, least)?;
+    let mut waiting = first_waits(alloc, least)?;
     loop {
-        let top = match open.pop() {
+        let top = match waiting.pop() {
             None => return Ok(Tried::Refuted(list(alloc, tree.nodes.as_slice())?)),
             Some(top) => top,
         };
@@ -143,7 +143,7 @@ fn search<P: Problem>(
                 least: top.least,
             });
         }
-        match step(alloc, problem, room, &mut tree, &mut open, top)? {
+        match step(alloc, problem, room, &mut tree, &mut waiting, top)? {
             None => {}
             Some(solution) => return Ok(Tried::Found(solution)),
         }

@@ -10,7 +10,7 @@ loop-alloc-init g c =
     let P = g.P.Problem in
     let p = c.args.problem.now in
     let b = begins (P.root p) (P.fix p) (P.least p) _ _ _ _ c.requires.full c.requires.choice c.in_ok-tree.ensures.nodes
-    c.in_ok-tree.ensures.branches c.requires.least c.in_ok-open.ensures in
+    c.in_ok-tree.ensures.branches c.requires.least c.in_ok-waiting.ensures in
     record {
       ready = c.requires.ready;
       sofar = b.0;

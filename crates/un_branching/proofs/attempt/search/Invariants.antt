@@ -9,7 +9,7 @@ abbrev pub invariant-loop-alloc : goal.invariant-loop-alloc
 invariant-loop-alloc g l = record {
   ready : g.P.Problem.is_ready l.problem l.room;
   sofar : Searching (g.P.Problem.root l.problem) (g.P.Problem.fix l.problem) (g.P.Problem.least l.problem) l.tree.nodes.items
-      l.tree.branches.items l.open;
+      l.tree.branches.items l.waiting;
   within : length l.tree.nodes.items ≤ l.nodes;
   fresh : length l.tree.nodes.items ≡ 1 → node_of l.tree.nodes.items 0 ≡ Open;
 }
