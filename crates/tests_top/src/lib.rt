@@ -7,6 +7,8 @@ mod checks;
 #[cfg(test)]
 mod commands;
 #[cfg(test)]
+mod ends;
+#[cfg(test)]
 mod firsts;
 #[cfg(test)]
 mod hostile;

@@ -2,6 +2,7 @@
 //! out what `...` stands for, and has a range `LO..HI` or `LO..` where any of these numbers will do. `&` is the text of the row before, and
 //! a row that begins with `#` is a comment.
 
+use crate::ends::put_ends;
 use crate::firsts::put_first;
 use crate::hostile::put_deep;
 use crate::posts::{put_counts, put_end, put_operands};
@@ -33,8 +34,8 @@ pub(crate) fn number_at(text: &[u8], k: usize) -> u64 {
     number(text.split(|b| *b == b' ').nth(k).unwrap_or(&[]))
 }
 
-/// Appends the answer to a question about a text: of what is posted, of how rounds end, of propagators of two operands, of a search,
-/// of an attempt, of a first solution, of the check of a tree or of its lines, of a run over an altered report or a deep tree, of the numbers
+/// Appends the answer to a question about a text: of what is posted, of how rounds end, of propagators of two operands, of the least ends
+/// of blocks, of a search, of an attempt, of a first solution, of the check of a tree or of its lines, of a run over an altered report or a deep tree, of the numbers
 /// of a report, or else of a run by words.
 fn put_answer(
     alloc: Global,
@@ -48,6 +49,7 @@ fn put_answer(
         Some(b'd') => put_deep(alloc, out, text),
         Some(b'v') => put_verdict(alloc, out, text, question),
         Some(b'l') => put_verdict_by_lines(alloc, out, text, question),
+        Some(b'b') => put_ends(alloc, out, text),
         Some(b'n') => put_numbers(alloc, out, text, question),
         Some(b'o') => put_operands(alloc, out, text),
         Some(b's') => put_solved(alloc, out, text, question),
