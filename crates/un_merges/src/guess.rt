@@ -10,7 +10,7 @@ use crate::packing::packed;
 use std::alloc::Global;
 use un_base::ids::BlockId;
 use un_base::memory_error::NoMemory;
-use un_ir::function::BLOCKS;
+use un_base::numbers::number;
 use un_lists::items::Items;
 use un_model::cost::value;
 use un_model::model::{BlockVars, Model, Solution};
@@ -30,7 +30,7 @@ fn end_no_later(blocks: &[BlockVars], new: &[u32], old: &[u32]) -> bool
     true
 }
 
-/// Takes a guess where it is a solution in which no block ends later.
+/// Takes a guess where it is another solution, in which no block ends later.
 #[tactic(auto, using(crate::proofs::Lowering::cost_no_more))]
 fn take_guess(alloc: Global, m: &Model, guess: Solution, s: &mut Solution) -> Result<(), NoMemory>
     requires model { IsModel m.now }
@@ -38,12 +38,11 @@ fn take_guess(alloc: Global, m: &Model, guess: Solution, s: &mut Solution) -> Re
     ensures solution { OnOk result (IsSolution m.now s.new) }
     ensures no_dearer { OnOk result (cost_of m.now s.new ≤ cost_of m.now s.old) }
 {
-    let earlier = end_no_later(
-        m.blocks.as_slice(),
-        guess.values.as_slice(),
-        s.values.as_slice(),
-    );
-    if earlier && violations(alloc, m, &guess)?.is_empty() {
+    let (new, old) = (guess.values.as_slice(), s.values.as_slice());
+    if new == old {
+        return Ok(());
+    }
+    if end_no_later(m.blocks.as_slice(), new, old) && violations(alloc, m, &guess)?.is_empty() {
         *s = guess;
     }
     Ok(())
@@ -69,7 +68,8 @@ fn repack(alloc: Global, m: &Model, t: &Schedule, s: &mut Solution) -> Result<()
     ensures solution { OnOk result (IsSolution m.now s.new) }
     ensures no_dearer { OnOk result (cost_of m.now s.new ≤ cost_of m.now s.old) }
 {
-    for b in 0..BLOCKS {
+    for k in 0..m.blocks.len() {
+        let b = number(k)?;
         let values = packed(alloc, m, t, BlockId(b), s.values.as_slice())?;
         let guess = Solution {
             values: Items::from_vec(values),
