@@ -8,7 +8,8 @@ use un_search::start::least_ends;
 
 /// Functions, and for each block the least end at which the rounds do not fail. In each row but the last such an end is also the least
 /// that a block of some solution has.
-static ENDS: &[u8] = b"# A chain of three issues in cycles 1 to 3, and its result is ready at the end.\
+static ENDS: &[u8] =
+    b"# A chain of three issues in cycles 1 to 3, and its result is ready at the end.\
 |func chain
 block e freq 1
   %a = imm #1

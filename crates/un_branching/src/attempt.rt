@@ -32,7 +32,12 @@ pub enum Entered {
 }
 
 /// Puts a new leaf among the open nodes, where it is open.
-fn enter(waiting: &mut OpenNodes, look: Look, place: usize, link: Link) -> Result<Entered, AllocError>
+fn enter(
+    waiting: &mut OpenNodes,
+    look: Look,
+    place: usize,
+    link: Link,
+) -> Result<Entered, AllocError>
     ensures { IfOk result (Enters look place link waiting.old waiting.new) }
 {
     match look {
