@@ -16,8 +16,8 @@ expand-requires-clause-inside g c =
     c.in_ok-path.ensures.leads in
     subst (IsBox (P.root p)) (sym at) (t.tree.inside c.args.taken.place t.own.there)
 
-pub expand-requires-clause-waiting : goal.expand-requires-clause-waiting
-expand-requires-clause-waiting g c =
+pub expand-requires-clause-open : goal.expand-requires-clause-open
+expand-requires-clause-open g c =
     let P = g.P.Problem in
     let p = c.args.problem.now in
     let t = c.requires.taken in
