@@ -30,11 +30,12 @@ use Rattle.un_ir.specs.Linear.{first_of, in_temps}
 use Rattle.un_ir.specs.WellFormed.{result_kind}
 use Rattle.un_ir.proofs.GoodOps.{got_left, got_right}
 use Rattle.un_extend.specs.Choices.{is_saved, has_copies, operand_copies, value_copies, leaves_by, enters_by, carriers}
-use Rattle.un_extend.specs.Choices.{IsWholeBlock}
+use Rattle.un_extend.specs.Choices.{is_use, read_besides, kinds_in, IsWholeBlock}
 use Rattle.un_extend.proofs.ChoiceLinks.{value_by, Linked}
 use Rattle.un_extend.proofs.ChoiceMarks.{less_not, more_not, below, equal, above, order, same_self, mine, at, at_none}
 use Rattle.un_extend.proofs.ChoiceMarks.{Fact, marks_idle}
-use Rattle.un_extend.proofs.ChoiceSteps.{kinds_in, AllOptional, AreChosen, AllChosen, KindsAre, Piece, piece_chosen}
+use Rattle.un_extend.proofs.ChoiceReads.{AllRead, read_at}
+use Rattle.un_extend.proofs.ChoiceSteps.{op_of, in_op, fresh, AllOptional, AreChosen, AllChosen, KindsAre, Piece, piece_chosen}
 use Rattle.un_extend.proofs.ChoiceSteps.{piece_kinds, InBlock, operands_step, values_step, results_step}
 use Rattle.un_extend.proofs.ExtendShape.{values_add, operands_add}
 use Rattle.un_extend.proofs.RunGrowth.{AreWithin, Defines, FitsOps}
@@ -165,15 +166,6 @@ enter_frames true _ g = frames_none g
 enter_frames false _ g = frames_none g
 
 -- ---- a block
-
-abbrev pub op_of : ExtKind → List Operand → List TempId → ExtOp
-op_of kind xs results = record { kind = kind; operands = xs; results = results }
-
-abbrev pub fresh : ℕ → List Value → Growth
-fresh start values = record { ops = []; values = values; next = start }
-
-abbrev pub in_op : List TempId → ExtOp
-in_op rs = op_of In [] rs
 
 module _ (e : Ext) (b : ℕ) (owner : ExtBlock) where
   abbrev pub saved : Bool
@@ -483,22 +475,42 @@ module _ (e : Ext) (b : ℕ) (owner : ExtBlock) where
 
     -- ---- the whole block
 
-    carriers_at : (x : ℕ) (done front more : List ExtOp) → owner.ops ≡ done ++ (front ++ more)
-        → carriers e x (results_of front) ≡ at x front
-    carriers_at x done [] more is = refl
-    carriers_at x done (op ∷ front) more is =
-        let test : TempId → Bool = λ y. (let v = carried e.blocks y in v.0) == x in
+    -- what an operation defines carries what it is known to carry
+    own_carriers : (x : ℕ) (done : List ExtOp) (op : ExtOp) (tail : List ExtOp) → owner.ops ≡ done ++ op ∷ tail
+        → carriers e x op.results ≡ mine x op.kind op
+    own_carriers x done op tail is =
         let k = length done in
         let z : k ≡ k + 0 = omega arith in
         let is_there : slice_get owner.ops k ≡ Some op =
-        ap (λ (xs : List ExtOp). slice_get xs k) is ∙ ap (slice_get (done ++ op ∷ (front ++ more))) z
-        ∙ got_right done (op ∷ (front ++ more)) 0 in
-        filter-append test op.results (results_of front)
-        ∙ ap (λ (ys : List TempId). ys ++ filter test (results_of front))
-        (filter_same test (λ (y : TempId). (let v = value_by op.kind op y in v.0) == x) op.results
-        (λ j y got. ap (λ (v : TempId). v.0 == x) (link.value k op is_there j y got)))
-        ∙ ap (λ (ys : List TempId). mine x op.kind op ++ ys)
-        (carriers_at x (done ++ op ∷ []) front more (is ∙ sym (append_assoc done (op ∷ []) (front ++ more))))
+        ap (λ (xs : List ExtOp). slice_get xs k) is ∙ ap (slice_get (done ++ op ∷ tail)) z ∙ got_right done (op ∷ tail) 0 in
+        filter_same (λ (y : TempId). (let v = carried e.blocks y in v.0) == x) (λ (y : TempId). (let v = value_by op.kind op y in v.0) == x)
+        op.results (λ j y got. ap (λ (v : TempId). v.0 == x) (link.value k op is_there j y got))
+
+    carriers_at : (keep : ExtKind → Bool) (x : ℕ) (done front more : List ExtOp) → owner.ops ≡ done ++ (front ++ more)
+        → carriers e x (results_of (filter (λ (op : ExtOp). keep op.kind) front)) ≡ at x (filter (λ (op : ExtOp). keep op.kind) front)
+    carriers_at keep x done [] more is = refl
+    carriers_at keep x done (op ∷ front) more is =
+        by (keep op.kind) (carriers_at keep x (done ++ op ∷ []) front more (is ∙ sym (append_assoc done (op ∷ []) (front ++ more))))
+      where
+        rest : List ExtOp
+        rest = filter (λ (o : ExtOp). keep o.kind) front
+
+        by : (v : Bool) → carriers e x (results_of rest) ≡ at x rest
+            → carriers e x (results_of (cond v (op ∷ rest) rest)) ≡ at x (cond v (op ∷ rest) rest)
+        by true ih =
+            filter-append (λ (y : TempId). (let v = carried e.blocks y in v.0) == x) op.results (results_of rest)
+            ∙ ap (λ (ys : List TempId). ys ++ carriers e x (results_of rest)) (own_carriers x done op (front ++ more) is)
+            ∙ ap (λ (ys : List TempId). mine x op.kind op ++ ys) ih
+        by false ih = ih
+
+    all_carriers : (x : ℕ) (front more : List ExtOp) → owner.ops ≡ front ++ more → carriers e x (results_of front) ≡ at x front
+    all_carriers x front more is =
+        let all = whole_kept front in
+        ap (λ (xs : List ExtOp). carriers e x (results_of xs)) (sym all) ∙ carriers_at (λ kind. true) x [] front more is ∙ ap (at x) all
+      where
+        whole_kept : (xs : List ExtOp) → filter (λ (op : ExtOp). true) xs ≡ xs
+        whole_kept [] = refl
+        whole_kept (op ∷ xs) = ap (λ (ys : List ExtOp). op ∷ ys) (whole_kept xs)
 
     chosen_at : (before ops : List ExtOp) (k : ℕ) (op : ExtOp) → AllChosen e b owner before ops → slice_get ops k ≡ Some op
         → is_mandatory op.kind ≡ true → AreChosen e b owner (before ++ take k ops) op.operands
@@ -512,8 +524,8 @@ module _ (e : Ext) (b : ℕ) (owner : ExtBlock) where
         subst (λ (xs : List ExtOp). AreChosen e b owner xs op.operands) (append_assoc before (o ∷ []) (take k ops))
         (chosen_at (before ++ o ∷ []) ops k op a.1 h m)
 
-    whole_block : (g : Growth) (m : ℕ) → owner.ops ≡ g.ops → Whole m g → IsWholeBlock e b owner
-    whole_block g m is w =
+    whole_block : (g : Growth) (m : ℕ) → owner.ops ≡ g.ops → AllRead [] owner.ops → Whole m g → IsWholeBlock e b owner
+    whole_block g m is reads w =
         let chosen = subst (AllChosen e b owner []) (sym is) w.chosen in
         record {
           copies = subst (KindsAre e b owner) (sym is) w.kinds;
@@ -533,19 +545,26 @@ module _ (e : Ext) (b : ℕ) (owner : ExtBlock) where
               let size : k - length (flat_map (operand_copies e b owner) later) ≡ length front = omega (arith, l1, l2, l3, width) in
               let taken : take (k - length (flat_map (operand_copies e b owner) later)) owner.ops ≡ front =
               ap (λ (n : ℕ). take n owner.ops) size ∙ ap (take (length front)) whole ∙ take_front front (rest ++ drop k owner.ops) in
-              c.alts ∙ sym (carriers_at (first_of x.alts) [] front (rest ++ drop k owner.ops) whole)
+              c.alts ∙ sym (all_carriers (first_of x.alts) front (rest ++ drop k owner.ops) whole)
               ∙ ap (λ (xs : List ExtOp). carriers e (first_of x.alts) (results_of xs)) (sym taken)
+              );
+          reads = λ k op node x got is_copy at_x. (
+              let before = take k owner.ops in
+              let r = read_at [] owner.ops k op reads got node x is_copy at_x in
+              let cut = sym (take-append-drop k owner.ops) in
+              r ∙ ap (λ (ys : List TempId). ys ++ read_besides node before)
+              (sym (carriers_at (λ kind. not (is_use kind)) (first_of x.alts) [] before (drop k owner.ops) cut))
               );
         }
 
     pub grown_whole : (rs : List TempId) (ops : List ExtOp) (values : List Value) → length rs ≡ many → length owner.live_in ≤ many
         → length values ≡ low → FitsOps low (low + length rs) ops
-        → owner.ops ≡ (let h = grow_all (in_op rs ∷ ops) (fresh start values) in h.ops)
+        → owner.ops ≡ (let h = grow_all (in_op rs ∷ ops) (fresh start values) in h.ops) → AllRead [] owner.ops
         → IsWholeBlock e b owner
         × ((let h = grow_all (in_op rs ∷ ops) (fresh start values) in length h.values) ≡ (low + length rs) + length (results_of ops))
-    grown_whole rs ops values count named long fits is =
+    grown_whole rs ops values count named long fits is reads =
         let g = grow (in_op rs) (fresh start values) in
         let h = grow_all ops g in
         let all : Within h.ops = ([], is ∙ sym (append-nil h.ops)) in
         let w = all_whole ops g (low + length rs) fits all (start_whole rs values count named long (all_within ops g all)) in
-        (whole_block h _ is w, w.count)
+        (whole_block h _ is reads w, w.count)

@@ -12,7 +12,7 @@ use Rattle.un_ir.specs.declared.function.Kind.TheVariants.{General}
 use Rattle.un_ir.specs.declared.extended.NodeCopy.{NodeCopy}
 use Rattle.un_ir.specs.declared.extended.NodeCopy.TheVariants.{D, D2, U, U2}
 use Rattle.un_ir.specs.declared.extended.ExtKind.{ExtKind}
-use Rattle.un_ir.specs.declared.extended.ExtKind.TheVariants.{Copy}
+use Rattle.un_ir.specs.declared.extended.ExtKind.TheVariants.{In, Copy}
 use Rattle.un_ir.specs.declared.extended.Operand.{Operand}
 use Rattle.un_ir.specs.declared.extended.ExtOp.{ExtOp}
 use Rattle.un_ir.specs.declared.extended.ExtBlock.{ExtBlock}
@@ -26,7 +26,7 @@ use Rattle.un_ir.specs.ExtendOf.{alternatives, chosen_from, with_results, value_
 use Rattle.un_ir.specs.Kinds.{is_mandatory}
 use Rattle.un_ir.specs.Linear.{first_of}
 use Rattle.un_extend.specs.Choices.{copies_by, copies_of, value_copies, operand_copies, leaves_by, enters_by}
-use Rattle.un_extend.specs.Choices.{with_its_copies}
+use Rattle.un_extend.specs.Choices.{with_its_copies, kinds_in, mandatory_in}
 use Rattle.un_extend.proofs.ChoiceMarks.{same_self, less_not, more_not, below, equal, above, order, mine, at, at_push, Added, added_none}
 use Rattle.un_extend.proofs.ChoiceMarks.{added_then, copies_added}
 use Rattle.un_extend.proofs.ChoiceMarks.{Fact, fact_copies, Marks, known_at, marks_value, marks_operand, longer, longer_known}
@@ -35,12 +35,6 @@ use Rattle.un_extend.proofs.RunGrowth.{AreWithin}
 use Rattle.un_extend.proofs.RunTails.{temps}
 
 -- ---- lists
-
-abbrev pub kinds_in : List ExtOp → List ExtKind
-kinds_in ops = map (λ (op : ExtOp). op.kind) ops
-
-abbrev pub mandatory : List ExtOp → List ExtOp
-mandatory ops = filter (λ (op : ExtOp). is_mandatory op.kind) ops
 
 abbrev pub AllOptional : List ExtKind → Type 0
 AllOptional [] = Unit {0}
@@ -54,28 +48,28 @@ pub copies_optional : (zs : List NodeCopy) → AllOptional (map Copy zs)
 copies_optional [] = tt
 copies_optional (z ∷ zs) = (refl, copies_optional zs)
 
-none_mandatory : (xs : List ExtOp) → AllOptional (kinds_in xs) → mandatory xs ≡ []
+none_mandatory : (xs : List ExtOp) → AllOptional (kinds_in xs) → mandatory_in xs ≡ []
 none_mandatory [] h = refl
 none_mandatory (x ∷ xs) h =
-    ap (λ (v : Bool). cond v (x ∷ mandatory xs) (mandatory xs)) h.0 ∙ none_mandatory xs h.1
+    ap (λ (v : Bool). cond v (x ∷ mandatory_in xs) (mandatory_in xs)) h.0 ∙ none_mandatory xs h.1
 
 added_long : (xs : List ExtOp) (zs : List NodeCopy) → kinds_in xs ≡ map Copy zs → length xs ≡ length zs
 added_long xs zs h =
     sym (length-map xs (λ (op : ExtOp). op.kind)) ∙ ap (λ (ks : List ExtKind). length ks) h ∙ length-map zs Copy
 
-only_low : (x s c : ℕ) → x < s → filter (λ (y : TempId). y.0 == x) (temps s c) ≡ []
+pub only_low : (x s c : ℕ) → x < s → filter (λ (y : TempId). y.0 == x) (temps s c) ≡ []
 only_low x s zero h = refl
 only_low x s (suc c) h =
     let rest = filter (λ (y : TempId). y.0 == x) (temps (s + 1) c) in
     ap (λ (v : Bool). cond v (temp s ∷ rest) rest) (more_not s x h) ∙ only_low x (s + 1) c (omega (arith, h))
 
-only_high : (x s c : ℕ) → s + c ≤ x → filter (λ (y : TempId). y.0 == x) (temps s c) ≡ []
+pub only_high : (x s c : ℕ) → s + c ≤ x → filter (λ (y : TempId). y.0 == x) (temps s c) ≡ []
 only_high x s zero h = refl
 only_high x s (suc c) h =
     let rest = filter (λ (y : TempId). y.0 == x) (temps (s + 1) c) in
     ap (λ (v : Bool). cond v (temp s ∷ rest) rest) (less_not s x (omega (arith, h))) ∙ only_high x (s + 1) c (omega (arith, h))
 
-only_here : (x s c : ℕ) → s ≤ x → x < s + c → filter (λ (y : TempId). y.0 == x) (temps s c) ≡ temp x ∷ []
+pub only_here : (x s c : ℕ) → s ≤ x → x < s + c → filter (λ (y : TempId). y.0 == x) (temps s c) ≡ temp x ∷ []
 only_here x s zero h k = absurd (omega (arith, h, k))
 only_here x s (suc c) h k = elim (order s x) [
   | below lt ↦ ap (λ (v : Bool). cond v (temp s ∷ rest) rest) (less_not s x lt)
@@ -88,6 +82,15 @@ only_here x s (suc c) h k = elim (order s x) [
   where
     rest : List TempId
     rest = filter (λ (y : TempId). y.0 == x) (temps (s + 1) c)
+
+abbrev pub op_of : ExtKind → List Operand → List TempId → ExtOp
+op_of kind xs results = record { kind = kind; operands = xs; results = results }
+
+abbrev pub fresh : ℕ → List Value → Growth
+fresh start values = record { ops = []; values = values; next = start }
+
+abbrev pub in_op : List TempId → ExtOp
+in_op rs = op_of In [] rs
 
 -- ---- operations one after another
 
@@ -108,7 +111,7 @@ module _ (e : Ext) (b : ℕ) (owner : ExtBlock) where
   AllChosen before (op ∷ ops) = (is_mandatory op.kind ≡ true → AreChosen before op.operands) × AllChosen (before ++ op ∷ []) ops
 
   abbrev pub KindsAre : List ExtOp → Type 0
-  KindsAre ops = kinds_in ops ≡ flat_map (with_its_copies e b owner) (mandatory ops)
+  KindsAre ops = kinds_in ops ≡ flat_map (with_its_copies e b owner) (mandatory_in ops)
 
   chosen_append : (before xs ys : List ExtOp) → AllChosen before xs → AllChosen (before ++ xs) ys → AllChosen before (xs ++ ys)
   chosen_append before [] ys h k = subst (λ (zs : List ExtOp). AllChosen zs ys) (append-nil before) k
@@ -158,18 +161,18 @@ module _ (e : Ext) (b : ℕ) (owner : ExtBlock) where
       ++ made.kind ∷ ks)) p.behind
       ∙ ap (λ (ks : List ExtKind). kinds_in g.ops ++ ks) (append_assoc (leaves_by made.kind)
       (map Copy (flat_map (operand_copies e b owner) made.operands)) _) in
-      let one : mandatory (made ∷ p.back) ≡ made ∷ [] =
-      ap (λ (v : Bool). cond v (made ∷ mandatory p.back) (mandatory p.back)) p.stays
+      let one : mandatory_in (made ∷ p.back) ≡ made ∷ [] =
+      ap (λ (v : Bool). cond v (made ∷ mandatory_in p.back) (mandatory_in p.back)) p.stays
       ∙ ap (λ (xs : List ExtOp). made ∷ xs) (none_mandatory p.back back) in
-      let right : mandatory h.ops ≡ mandatory g.ops ++ made ∷ [] =
-      ap mandatory p.is
+      let right : mandatory_in h.ops ≡ mandatory_in g.ops ++ made ∷ [] =
+      ap mandatory_in p.is
       ∙ filter-append (λ (op : ExtOp). is_mandatory op.kind) (g.ops ++ p.front) (made ∷ p.back)
-      ∙ ap (λ (xs : List ExtOp). xs ++ mandatory (made ∷ p.back)) (filter-append (λ (op : ExtOp). is_mandatory op.kind) g.ops p.front
-      ∙ ap (λ (xs : List ExtOp). mandatory g.ops ++ xs) (none_mandatory p.front front) ∙ append-nil (mandatory g.ops))
-      ∙ ap (λ (xs : List ExtOp). mandatory g.ops ++ xs) one in
+      ∙ ap (λ (xs : List ExtOp). xs ++ mandatory_in (made ∷ p.back)) (filter-append (λ (op : ExtOp). is_mandatory op.kind) g.ops p.front
+      ∙ ap (λ (xs : List ExtOp). mandatory_in g.ops ++ xs) (none_mandatory p.front front) ∙ append-nil (mandatory_in g.ops))
+      ∙ ap (λ (xs : List ExtOp). mandatory_in g.ops ++ xs) one in
       left ∙ ap (λ (ks : List ExtKind). ks ++ whole made) k
-      ∙ ap (λ (ks : List ExtKind). flat_map whole (mandatory g.ops) ++ ks) (sym (append-nil (whole made)))
-      ∙ sym (flat_map-append whole (mandatory g.ops) (made ∷ [])) ∙ ap (flat_map whole) (sym right)
+      ∙ ap (λ (ks : List ExtKind). flat_map whole (mandatory_in g.ops) ++ ks) (sym (append-nil (whole made)))
+      ∙ sym (flat_map-append whole (mandatory_in g.ops) (made ∷ [])) ∙ ap (flat_map whole) (sym right)
 
   -- ---- operands
 

@@ -20,8 +20,11 @@ use Rattle.un_ir.specs.Extended.{IsGoodExtBlock}
 use Rattle.un_ir.specs.Extended.{IsLinear}
 use Rattle.un_ir.specs.ExtendOf.{with_all_extended, grown_block, with_ops, extended_blocks, extend_of}
 use Rattle.un_ir.specs.Linear.{is_in, is_out, in_temps}
-use Rattle.un_extend.specs.Choices.{IsWholeBlock, HasAllChoices}
-use Rattle.un_extend.proofs.ChoiceBlocks.{in_op, fresh, first_made, grown_whole}
+use Rattle.un_extend.specs.Choices.{IsWholeBlock, HasAllChoices, KeepsOperations}
+use Rattle.un_extend.proofs.ChoiceBlocks.{first_made, grown_whole}
+use Rattle.un_extend.proofs.ChoiceOperations.{operations_kept}
+use Rattle.un_extend.proofs.ChoiceReads.{AllRead, all_read}
+use Rattle.un_extend.proofs.ChoiceSteps.{in_op, fresh}
 use Rattle.un_extend.proofs.ChoiceLinks.{linked}
 use Rattle.un_extend.proofs.ChoiceMarks.{more_not}
 use Rattle.un_extend.proofs.ExtendLinear.{extended_kept}
@@ -117,7 +120,9 @@ module _ (l : Lssa) (lin : IsLinear l) where
       let first = first_made e b owner rs fits.rest next values ops_are in
       let ins = start_temps owner.ops s.parts (temps next (length rs)) s.made first in
       let linked_block = linked e (extended_kept l lin) b owner at in
-      let r = grown_whole e b owner m next (length rs) ins linked_block rs fits.rest values refl fits.named long fits.later ops_are in
+      let reads = subst (AllRead []) (sym ops_are)
+      (all_read m l.names was.live_in (b == 0) (b == 0 || returns owner) rs fits.rest next values fits.named long fits.later) in
+      let r = grown_whole e b owner m next (length rs) ins linked_block rs fits.rest values refl fits.named long fits.later ops_are reads in
       let count = r.1 in
       let all = ap (λ (ops : List ExtOp). length (results_of ops)) fits.whole in
       let parts = length-append rs (results_of fits.rest) in
@@ -176,3 +181,9 @@ module _ (l : Lssa) (lin : IsLinear l) where
       subst (λ (ns : List Kind). HasAllChoices (let made : Ext = record { table = l.table; names = ns; blocks = blocks } in made)) (sym e1)
       (subst (λ (bs : List ExtBlock). HasAllChoices (let made : Ext = record { table = l.table; names = l.names; blocks = bs } in made))
       (sym e2) all_choices)
+
+  pub made_operations : (names : List Kind) (blocks : List ExtBlock) → blocks ≡ extended_blocks l.names true [] 0 l.blocks
+      → KeepsOperations l (let made : Ext = record { table = l.table; names = names; blocks = blocks } in made)
+  made_operations names blocks is =
+      subst (λ (bs : List ExtBlock). KeepsOperations l (let made : Ext = record { table = l.table; names = names; blocks = bs } in made))
+      (sym is) (operations_kept l lin)

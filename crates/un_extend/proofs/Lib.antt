@@ -13,3 +13,5 @@ pub mod ChoiceMarks
 pub mod ChoiceSteps
 pub mod ChoiceBlocks
 pub mod Choices
+pub mod ChoiceReads
+pub mod ChoiceOperations

@@ -13,6 +13,7 @@ use Rattle.un_ir.specs.declared.extended.Operand.{Operand}
 use Rattle.un_ir.specs.declared.extended.ExtOp.{ExtOp}
 use Rattle.un_ir.specs.declared.extended.ExtBlock.{ExtBlock}
 use Rattle.un_ir.specs.declared.extended.Ext.{Ext}
+use Rattle.un_ir.specs.declared.extended.Lssa.{Lssa}
 use Rattle.un_ir.specs.Extended.{temp, carried, is_return, kind_of_temp, results_of, returns}
 use Rattle.un_ir.specs.Kinds.{is_mandatory}
 use Rattle.un_ir.specs.Linear.{first_of, in_temps}
@@ -73,14 +74,46 @@ abbrev pub MayChooseAll : Ext → ℕ → ExtBlock → ℕ → ExtOp → Type 0
 MayChooseAll e b block k op = (j : ℕ) (x : Operand) → slice_get op.operands j ≡ Some x
     → x.alts ≡ carriers e (first_of x.alts) (defined_before e b block k (drop (j + 1) op.operands))
 
+-- ---- what a copy may read
+
+-- a copy u or u2 of an operand
+abbrev pub is_use : ExtKind → Bool
+is_use (Copy U) = true
+is_use (Copy U2) = true
+is_use _ = false
+
+abbrev pub but_uses : List ExtOp → List ExtOp
+but_uses ops = filter (λ (op : ExtOp). not (is_use op.kind)) ops
+
+-- what the last of these operations defines, for u2, which stands right behind its u
+abbrev pub read_besides : NodeCopy → List ExtOp → List TempId
+read_besides U2 before = results_of (drop (length before - 1) before)
+read_besides _ before = []
+
+-- a copy may read the value and the value's own copies, where these operations stand before it, and u2 its u besides
+abbrev pub MayReadOwn : Ext → List ExtOp → NodeCopy → Operand → Type 0
+MayReadOwn e before node x = x.alts ≡ carriers e (first_of x.alts) (results_of (but_uses before)) ++ read_besides node before
+
 -- ---- blocks and functions
+
+abbrev pub kinds_in : List ExtOp → List ExtKind
+kinds_in ops = map (λ (op : ExtOp). op.kind) ops
+
+abbrev pub mandatory_in : List ExtOp → List ExtOp
+mandatory_in ops = filter (λ (op : ExtOp). is_mandatory op.kind) ops
 
 pub record IsWholeBlock (e : Ext) (b : ℕ) (block : ExtBlock) : Type 0 where
   -- the block is its mandatory operations with their copies
-  pub copies : map (λ (op : ExtOp). op.kind) block.ops
-      ≡ flat_map (with_its_copies e b block) (filter (λ (op : ExtOp). is_mandatory op.kind) block.ops)
-  -- and they may choose all that they could
+  pub copies : kinds_in block.ops ≡ flat_map (with_its_copies e b block) (mandatory_in block.ops)
+  -- and they may choose all that they could, as copies may read all that is their own
   pub choices : (k : ℕ) (op : ExtOp) → slice_get block.ops k ≡ Some op → is_mandatory op.kind ≡ true → MayChooseAll e b block k op
+  pub reads : (k : ℕ) (op : ExtOp) (node : NodeCopy) (x : Operand) → slice_get block.ops k ≡ Some op → op.kind ≡ Copy node
+      → slice_get op.operands 0 ≡ Some x → MayReadOwn e (take k block.ops) node x
 
 abbrev pub HasAllChoices : Ext → Type 0
 HasAllChoices e = (b : ℕ) (block : ExtBlock) → slice_get e.blocks b ≡ Some block → IsWholeBlock e b block
+
+-- the mandatory operations of the extended function are the operations of the linear one, block by block
+abbrev pub KeepsOperations : Lssa → Ext → Type 0
+KeepsOperations l e = map (λ (block : ExtBlock). kinds_in (mandatory_in block.ops)) e.blocks
+    ≡ map (λ (block : ExtBlock). kinds_in block.ops) l.blocks
