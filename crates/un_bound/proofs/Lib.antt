@@ -9,3 +9,4 @@ pub mod Placed
 pub mod Plains
 pub mod Stops
 pub mod Sums
+pub mod Readers

@@ -4,3 +4,4 @@ pub mod Lengths
 pub mod Plain
 pub mod Relaxations
 pub mod Timings
+pub mod Readers

@@ -1,5 +1,5 @@
 -- The blocks of the extended function of a linear function are good, and its temporaries are numbered.
-use Rattle.std.proofs.Common.{◌≡◌, ℕ, zero, suc, ◌+◌, ◌-◌, ◌<◌, ◌≤◌, ◌++◌, ◌||◌, Bool, true, false, List, [], ◌∷◌, Option, Some, None, map}
+use Rattle.std.proofs.Common.{◌≡◌, ℕ, suc, ◌+◌, ◌-◌, ◌++◌, ◌||◌, Bool, false, List, [], ◌∷◌, Some, map}
 use Rattle.std.proofs.Common.{length, replicate, take, slice_get, All, refl, sym, ap, ◌∙◌, arith, subst, append_assoc, append-nil}
 use Rattle.std.specs.List.{flat_map, AllZip}
 use Rattle.std.proofs.lemmas.List.{length-append, length-map, length-replicate}
@@ -18,13 +18,12 @@ use Rattle.un_ir.specs.declared.extended.ExtBlock.{ExtBlock}
 use Rattle.un_ir.specs.declared.extended.Growth.{Growth}
 use Rattle.un_ir.specs.declared.extended.Value.{Value}
 use Rattle.un_ir.specs.Extended.{temp, returns, name_kind, result_count, carried, carried_by, all_carried, all_kinds, all_results}
-use Rattle.un_ir.specs.Extended.{defined_kinds, results_of, wants_of, Want, Parts, IsMadeOf, IsPlainOp, IsGoodOperand, IsGoodExtOp}
+use Rattle.un_ir.specs.Extended.{defined_kinds, results_of, wants_of, Parts, IsMadeOf, IsPlainOp, IsGoodOperand, IsGoodExtOp}
 use Rattle.un_ir.specs.Extended.{IsGoodExtBlock}
-use Rattle.un_ir.specs.Linear.{is_in, ending_of}
-use Rattle.un_ir.specs.ExtendOf.{with_all_extended, grown_block, with_ops, extended_blocks}
+use Rattle.un_ir.specs.ExtendOf.{grown_block, with_ops, extended_blocks}
 use Rattle.un_ir.proofs.GoodOps.{Numbers, numbers_none, numbers_append, AreGoodOps, all_good}
-use Rattle.un_extend.proofs.ExtendKept.{Fits, Facts, Grown, all_step, Split, numbers_split}
-use Rattle.un_extend.proofs.ExtendParts.{Shaped, shaped, in_is}
+use Rattle.un_extend.proofs.ExtendKept.{Fits, Facts, all_step, numbers_split}
+use Rattle.un_extend.proofs.ExtendParts.{shaped, in_is}
 
 good_from : (t : Table) (names : List Kind) (blocks : List ExtBlock) (block : ExtBlock) (before : List TempId) (ops : List ExtOp)
     → ((k : ℕ) (op : ExtOp) → slice_get ops k ≡ Some op → IsGoodExtOp t names blocks block (before ++ results_of (take k ops)) op)
@@ -37,7 +36,7 @@ good_from t names blocks block before (op ∷ ops) g = (
       (sym (append_assoc before op.results (results_of (take k ops)))) (g (suc k) other h)),
 )
 
-defined_length : (t : Table) (names : List Kind) (block : ExtBlock) (kind : ExtKind) (op : ExtOp)
+pub defined_length : (t : Table) (names : List Kind) (block : ExtBlock) (kind : ExtKind) (op : ExtOp)
     → length op.results ≡ result_count t block kind
     → length (defined_kinds names block kind op) ≡ length op.results
 defined_length t names block In op c =

@@ -2,7 +2,7 @@
 use Rattle.std.proofs.Common.{◌≡◌, ◌⊎◌, inl, inr, ℕ, zero, suc, ◌+◌, ◌-◌, ◌<◌, ◌≤◌, ◌++◌, Bool, true, false, if◌then◌else◌, List, [], ◌∷◌}
 use Rattle.std.proofs.Common.{Option, Some, None, unwrap_or, map, length, set, get_or, slice_get, replicate, All, AllPairs, Contains, refl}
 use Rattle.std.proofs.Common.{sym, ap, ◌∙◌, arith, subst, append_assoc, append-nil, length-set}
-use Rattle.std.specs.List.{flat_map, range_with_len, AllZip}
+use Rattle.std.specs.List.{flat_map, AllZip}
 use Rattle.std.specs.Option.{option_map}
 use Rattle.std.proofs.lemmas.Grind.{flat_map-append}
 use Rattle.std.proofs.lemmas.List.{length-append, length-map, length-replicate, length_push, map-append}
@@ -29,7 +29,7 @@ use Rattle.un_ir.specs.declared.extended.Growth.{Growth}
 use Rattle.un_ir.specs.declared.extended.Sort.{Sort}
 use Rattle.un_ir.specs.declared.extended.Value.{Value}
 use Rattle.un_ir.specs.Extended.{temp, name_kind, is_return, is_linear_kind, wants_of, wants_of_out, result_count, IsPlainOp, carried}
-use Rattle.un_ir.specs.Extended.{carried_by, all_carried, all_kinds, defined_kinds, kind_of_temp, results_of, Want, anywhere, IsGoodKind}
+use Rattle.un_ir.specs.Extended.{carried_by, all_carried, all_kinds, defined_kinds, kind_of_temp, results_of, Want, IsGoodKind}
 use Rattle.un_ir.specs.Extended.{IsGoodOperand, IsGoodExtOp}
 use Rattle.un_ir.specs.ExtendOf.{frame_op, with_op, with_leave, with_enter, with_results, with_extended, with_all_extended, sorts_of}
 use Rattle.un_ir.specs.ExtendOf.{sort_of_name, copy_op, with_copy, copy_count_by, copy_count, with_copies, new_temps, own_temps, value_of}
@@ -37,7 +37,7 @@ use Rattle.un_ir.specs.ExtendOf.{with_value, with_values, with_operand_by, with_
 use Rattle.un_ir.specs.ExtendOf.{new_operands}
 use Rattle.un_ir.specs.Linear.{first_of, ending_of}
 use Rattle.un_ir.specs.WellFormed.{result_kind}
-use Rattle.un_ir.proofs.GoodOps.{got_left, got_right, temps, temps_append, Numbers, numbers_row, numbers_append, numbers_has, AreGoodOps}
+use Rattle.un_ir.proofs.GoodOps.{got_left, got_right, temps, Numbers, numbers_append, numbers_has, AreGoodOps}
 use Rattle.un_ir.proofs.GoodOps.{good_append, results_append}
 
 -- ---- lists
@@ -55,14 +55,14 @@ place {X} front a b more all n j x is long got =
     (is ∙ regroup front a (b ++ []) more)
     ∙ got_right (front ++ a) ((b ++ []) ++ more) j ∙ got_left (b ++ []) more j x (got_left b [] j x got)
 
-push_cases : {X : Type 0} (xs : List X) (x : X) (k : ℕ) (w : X) → slice_get (xs ++ x ∷ []) k ≡ Some w
+pub push_cases : {X : Type 0} (xs : List X) (x : X) (k : ℕ) (w : X) → slice_get (xs ++ x ∷ []) k ≡ Some w
     → (slice_get xs k ≡ Some w) ⊎ ((k ≡ length xs) × (x ≡ w))
 push_cases [] x zero w h = inr (refl, (let e : x ≡ w = cc h in e))
 push_cases [] x (suc k) w h = absurd (cc h)
 push_cases (y ∷ xs) x zero w h = inl h
 push_cases (y ∷ xs) x (suc k) w h = elim (push_cases xs x k w h) [ inl a ↦ inl a | inr a ↦ inr (ap suc a.0, a.1) ]
 
-set_cases : {X : Type 0} (xs : List X) (i : ℕ) (y : X) (k : ℕ) (w : X) → slice_get (set xs i y) k ≡ Some w
+pub set_cases : {X : Type 0} (xs : List X) (i : ℕ) (y : X) (k : ℕ) (w : X) → slice_get (set xs i y) k ≡ Some w
     → ((k ≡ i) × (y ≡ w)) ⊎ (slice_get xs k ≡ Some w)
 set_cases [] i y k w h = absurd (cc h)
 set_cases (x ∷ xs) zero y zero w h = inl (refl, (let e : y ≡ w = cc h in e))
@@ -70,7 +70,7 @@ set_cases (x ∷ xs) zero y (suc k) w h = inr h
 set_cases (x ∷ xs) (suc i) y zero w h = inr h
 set_cases (x ∷ xs) (suc i) y (suc k) w h = elim (set_cases xs i y k w h) [ inl a ↦ inl (ap suc a.0, a.1) | inr a ↦ inr a ]
 
-set_same : {X : Type 0} (xs : List X) (i : ℕ) (y : X) → i < length xs → slice_get (set xs i y) i ≡ Some y
+pub set_same : {X : Type 0} (xs : List X) (i : ℕ) (y : X) → i < length xs → slice_get (set xs i y) i ≡ Some y
 set_same [] i y h = absurd (omega arith)
 set_same (x ∷ xs) zero y h = refl
 set_same (x ∷ xs) (suc i) y h = set_same xs i y (omega arith)

@@ -1,7 +1,7 @@
 -- The extended function of every linear function is extended.
-use Rattle.std.proofs.Common.{◌≡◌, ◌≢◌, ℕ, zero, suc, ◌+◌, ◌<◌, ◌≤◌, ◌++◌, ◌^◌, ◌==◌, ◌||◌, Bool, true, false, List, [], ◌∷◌, Option, Some}
-use Rattle.std.proofs.Common.{None, unwrap_or, map, length, get_or, slice_get, count_by, All, AllPairs, Contains, refl, sym, ap, ◌∙◌, arith}
-use Rattle.std.proofs.Common.{subst, add-one}
+use Rattle.std.proofs.Common.{◌≡◌, ◌≢◌, ℕ, zero, suc, ◌+◌, ◌<◌, ◌++◌, ◌==◌, ◌||◌, Bool, true, false, List, [], ◌∷◌, Some}
+use Rattle.std.proofs.Common.{length, get_or, slice_get, count_by, All, AllPairs, Contains, refl, sym, ap, ◌∙◌, arith}
+use Rattle.std.proofs.Common.{subst}
 use Rattle.std.specs.List.{flat_map}
 use Rattle.std.proofs.lemmas.List.Elements.{All-head, All-tail}
 use Rattle.std.proofs.lemmas.List.Sums.{sum_by-cons}
@@ -20,7 +20,7 @@ use Rattle.un_ir.specs.declared.extended.Ext.{Ext}
 use Rattle.un_ir.specs.declared.extended.Lssa.{Lssa}
 use Rattle.un_ir.specs.declared.extended.Value.{Value}
 use Rattle.un_ir.specs.Extended.{temp, name_kind, returns, one_if, is_enter, is_leave, is_return, is_linear_kind, carried, carried_by}
-use Rattle.un_ir.specs.Extended.{all_carried, all_results, results_of, size_of, LeadsOn, HandsNamesOver, IsPlainOp, IsGoodExtBlock}
+use Rattle.un_ir.specs.Extended.{all_carried, all_results, results_of, LeadsOn, HandsNamesOver, IsPlainOp, IsGoodExtBlock}
 use Rattle.un_ir.specs.Extended.{IsLinear, IsExtended}
 use Rattle.un_ir.specs.Linear.{ending_of}
 use Rattle.un_ir.specs.Live.{targets_of}

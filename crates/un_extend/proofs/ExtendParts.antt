@@ -1,17 +1,15 @@
 -- An extended block has the parts of a block, with Enter and Leave once where they are to be, and the terminator of the linear one.
-use Rattle.std.proofs.Common.{◌≡◌, ℕ, zero, suc, ◌+◌, ◌<◌, ◌++◌, Bool, true, false, List, [], ◌∷◌, Option, Some, None, length, get_or, All}
+use Rattle.std.proofs.Common.{◌≡◌, ℕ, ◌+◌, ◌++◌, Bool, true, false, List, [], ◌∷◌, Option, Some, None, All}
 use Rattle.std.proofs.Common.{refl, sym, ap, ◌∙◌, arith, subst, append_assoc, append-nil}
 use Rattle.std.specs.Option.{option_to_list}
 use Rattle.std.proofs.lemmas.List.Elements.{All-nil, All-cons, All-head, All-tail, All-append}
 use Rattle.std.proofs.lemmas.List.{get_or_append_left, length-append}
 use Rattle.un_base.specs.declared.ids.NameId.{NameId}
-use Rattle.un_base.specs.declared.ids.TempId.{TempId}
 use Rattle.un_ir.specs.declared.function.Kind.{Kind}
 use Rattle.un_ir.specs.declared.function.Term.{Term}
 use Rattle.un_ir.specs.declared.function.Term.TheVariants.{Fall}
 use Rattle.un_ir.specs.declared.extended.ExtKind.{ExtKind}
 use Rattle.un_ir.specs.declared.extended.ExtKind.TheVariants.{In, Out, Body, End, Copy, Enter, Leave}
-use Rattle.un_ir.specs.declared.extended.Operand.{Operand}
 use Rattle.un_ir.specs.declared.extended.ExtOp.{ExtOp}
 use Rattle.un_ir.specs.declared.extended.Growth.{Growth}
 use Rattle.un_ir.specs.declared.extended.Value.{Value}
@@ -19,7 +17,7 @@ use Rattle.un_ir.specs.Extended.{AllAre, is_copy, is_end, is_enter, is_leave, is
 use Rattle.un_ir.specs.Extended.{IsMadeOf, one_if}
 use Rattle.un_ir.specs.Linear.{is_in, is_out, ending_of, ending_or, Ending}
 use Rattle.un_ir.specs.ExtendOf.{with_extended, with_all_extended}
-use Rattle.un_extend.proofs.ExtendShape.{count, count_append, Adds, Begun, Ended, Closed, start_add, end_add, out_add, all_inner_add}
+use Rattle.un_extend.proofs.ExtendShape.{count, count_append, Adds, Ended, start_add, end_add, out_add, all_inner_add}
 use Rattle.un_extend.proofs.ExtendShape.{parts_end, end_term}
 
 all_left : {X : Type 0} (P : X → Type 0) (xs ys : List X) → All P (xs ++ ys) → All P xs

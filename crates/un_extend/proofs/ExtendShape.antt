@@ -1,6 +1,6 @@
 -- The parts of an extended block: its copies, Enter and Leave stand around the operations of the linear block.
-use Rattle.std.proofs.Common.{◌≡◌, ℕ, zero, suc, ◌+◌, ◌-◌, ◌*◌, ◌≤◌, ◌++◌, Bool, true, false, if◌then◌else◌, List, [], ◌∷◌, Option, Some}
-use Rattle.std.proofs.Common.{None, length, slice_get, count_by, All, refl, sym, ap, ◌∙◌, arith, subst, append_assoc, append-nil}
+use Rattle.std.proofs.Common.{◌≡◌, ℕ, ◌+◌, ◌++◌, Bool, true, false, if◌then◌else◌, List, [], ◌∷◌, Option, Some}
+use Rattle.std.proofs.Common.{None, length, slice_get, All, refl, sym, ap, ◌∙◌, arith, subst, append_assoc, append-nil}
 use Rattle.std.specs.Option.{option_to_list}
 use Rattle.std.proofs.lemmas.List.Elements.{All-nil, All-cons, All-head, All-tail, All-append, All-weaker}
 use Rattle.un_base.specs.declared.ids.NameId.{NameId}
@@ -8,7 +8,6 @@ use Rattle.un_base.specs.declared.ids.TempId.{TempId}
 use Rattle.un_ir.specs.declared.function.Kind.{Kind}
 use Rattle.un_ir.specs.declared.function.Kind.TheVariants.{General, Pred}
 use Rattle.un_ir.specs.declared.function.Term.{Term}
-use Rattle.un_ir.specs.declared.function.Term.TheVariants.{Fall}
 use Rattle.un_ir.specs.declared.extended.NodeCopy.{NodeCopy}
 use Rattle.un_ir.specs.declared.extended.NodeCopy.TheVariants.{D, D2, U, U2}
 use Rattle.un_ir.specs.declared.extended.ExtKind.{ExtKind}
@@ -22,7 +21,7 @@ use Rattle.un_ir.specs.Extended.{temp, AllAre, is_copy, is_end, is_enter, is_lea
 use Rattle.un_ir.specs.Extended.{IsMadeOf, one_if}
 use Rattle.un_ir.specs.Linear.{is_in, is_out, first_of, ending_of, ending_or, Ending}
 use Rattle.un_ir.specs.ExtendOf.{frame_op, with_op, with_leave, with_enter, with_results, with_extended, with_all_extended, sorts_of}
-use Rattle.un_ir.specs.ExtendOf.{copy_op, with_copy, with_copies, new_temps, with_value, with_values, with_operand_by, with_operand}
+use Rattle.un_ir.specs.ExtendOf.{copy_op, with_copies, new_temps, with_value, with_values, with_operand_by, with_operand}
 use Rattle.un_ir.specs.ExtendOf.{with_operands, new_operands}
 
 abbrev pub count : (ExtKind → Bool) → List ExtOp → ℕ
@@ -102,7 +101,7 @@ copies_add first second Pred true ys g =
     adds_then is_copy 0 0 0 0 g.ops (g.ops ++ copy_op first ys g.next ∷ []) _ (adds_one is_copy g.ops (copy_op first ys g.next) refl)
     (adds_one is_copy (g.ops ++ copy_op first ys g.next ∷ []) (copy_op second (ys ++ temp g.next ∷ []) (g.next + 1)) refl)
 
-values_add : (n : ℕ) (sorts : List Sort) (g : Growth) → Copied g (with_values n sorts g)
+pub values_add : (n : ℕ) (sorts : List Sort) (g : Growth) → Copied g (with_values n sorts g)
 values_add n [] g = adds_none is_copy g.ops
 values_add n (sort ∷ sorts) g =
     adds_then is_copy 0 0 0 0 g.ops (let grown = with_value n sort g in grown.ops) (let grown = with_values n (sort ∷ sorts) g in grown.ops)
@@ -112,13 +111,13 @@ by_add : (i : ℕ) (o : Option Value) (g : Growth) → Copied g (with_operand_by
 by_add i None g = adds_none is_copy g.ops
 by_add i (Some v) g = copies_add U U2 (let sort = v.sort in sort.kind) (let sort = v.sort in sort.copied) v.own g
 
-operands_add : (xs : List Operand) (g : Growth) → Copied g (with_operands xs g)
+pub operands_add : (xs : List Operand) (g : Growth) → Copied g (with_operands xs g)
 operands_add [] g = adds_none is_copy g.ops
 operands_add (x ∷ xs) g =
     adds_then is_copy 0 0 0 0 g.ops (let grown = with_operand x g in grown.ops) (let grown = with_operands (x ∷ xs) g in grown.ops)
     (by_add (first_of x.alts) (slice_get g.values (first_of x.alts)) g) (operands_add xs (with_operand x g))
 
-enter_same : (is_entry : Bool) (kind : ExtKind) (g : Growth) → is_in kind ≡ false → with_enter is_entry kind g ≡ g
+pub enter_same : (is_entry : Bool) (kind : ExtKind) (g : Growth) → is_in kind ≡ false → with_enter is_entry kind g ≡ g
 enter_same true In g h = absurd (cc h)
 enter_same _ _ g h = refl
 

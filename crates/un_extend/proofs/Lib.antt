@@ -8,3 +8,10 @@ pub mod ExtendParts
 pub mod ExtendFunction
 pub mod ExtendSize
 pub mod ExtendLinear
+pub mod ChoiceLinks
+pub mod ChoiceMarks
+pub mod ChoiceSteps
+pub mod ChoiceBlocks
+pub mod Choices
+pub mod ChoiceReads
+pub mod ChoiceOperations

@@ -230,7 +230,7 @@ module _ (t : Table) (names : List Kind) (blocks : List ExtBlock) (block : ExtBl
 abbrev HasPlainOps : ExtBlock → Type 0
 HasPlainOps block = All IsPlainOp block.ops
 
-fits_blocks : (t : Table) (names : List Kind) (all : List ExtBlock) (m : ℕ) (blocks : List ExtBlock)
+pub fits_blocks : (t : Table) (names : List Kind) (all : List ExtBlock) (m : ℕ) (blocks : List ExtBlock)
     → All (IsGoodExtBlock t names all) blocks
     → All HasPlainOps blocks → Numbered m (all_results blocks) → FitsBlocks m blocks
 fits_blocks t names all m [] good plain numbered = tt

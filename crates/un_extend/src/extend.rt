@@ -1,6 +1,7 @@
 //! Making an extended function.
 
 ghost use Rattle.std.specs.Prelude.{◌≡◌, ◌+◌, ◌*◌, ◌++◌, [], ◌∷◌, true, IfOk, OnOk};
+ghost use Rattle.un_extend.specs.Choices.{HasAllChoices, KeepsOperations};
 ghost use Rattle.un_extend.specs.Returns.{returns_by};
 ghost use Rattle.un_extend.specs.Runs.{RunsAsLinear};
 ghost use Rattle.un_ir.specs.Extended.{IsExtended, IsLinear};
@@ -123,7 +124,9 @@ fn extended_all(
 }
 
 /// The extended function of a linear function: optional copies of values and operands, with the alternatives of each
-/// operand. From each start it comes to what the linear function comes to, for any number of blocks entered.
+/// operand. From each start it comes to what the linear function comes to, for any number of blocks entered. Its
+/// mandatory operations are those of the linear function. It has all copies that there can be, and its operations may choose all
+/// that they could.
 ///
 /// # Errors
 /// `NoMemory` where there is no memory for it, or where its temporaries are too many to be numbered.
@@ -131,6 +134,8 @@ pub fn extend(alloc: Global, l: &Lssa) -> Result<Ext, NoMemory>
     ensures extended { IfOk result (λ e. e ≡ extend_of l.now) }
     ensures runs { IsLinear l.now → IfOk result (RunsAsLinear l.now) }
     ensures kept { IsLinear l.now → IfOk result IsExtended }
+    ensures operations { IsLinear l.now → IfOk result (KeepsOperations l.now) }
+    ensures choices { IsLinear l.now → IfOk result HasAllChoices }
 {
     let names = copied(alloc, l.names.as_slice())?;
     let blocks = extended_all(alloc, l.names.as_slice(), l.blocks.as_slice())?;
