@@ -9,5 +9,6 @@ pub mod OrderSteps
 pub mod PlainCalls
 pub mod Refusals
 pub mod Rows
+pub mod Settled
 pub mod Spared
 pub mod Survivors

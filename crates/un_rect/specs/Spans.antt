@@ -1,7 +1,7 @@
 -- When a temporary starts and ends by an assignment, and what a store says of it.
 use Rattle.std.specs.Prelude.{ℕ, ◌≡◌, ◌≤◌, ◌<◌, ◌+◌, Bool, true, cond, ◌&&◌, List, [], ◌∷◌, length, max, nat_eq, All, Option, None, Some}
 use Rattle.un_base.specs.declared.ids.VarId.{VarId}
-use Rattle.un_domains.specs.Sets.{Sets, set_at, least, greatest}
+use Rattle.un_domains.specs.Sets.{Sets, set_at, has, least, greatest}
 use Rattle.un_prop.specs.Among.{among, AllAmong}
 use Rattle.un_prop.specs.Acts.{act_vars, at_vars, at_value, is_user}
 use Rattle.un_prop.specs.Looks.{at_set, sure}
@@ -56,6 +56,26 @@ sure_use s u = cond (sure_user u s) (least (at_set u.at s)) 0
 abbrev pub last_sure_use : List UserOf → Sets → ℕ
 last_sure_use [] s = 0
 last_sure_use (u ∷ us) s = max (sure_use s u) (last_sure_use us s)
+
+-- a choice, where there is one, may have this value
+abbrev pub may_choose : Option VarId → ℕ → Sets → Bool
+may_choose None n s = true
+may_choose (Some v) n s = has (set_at s v.0) n
+
+-- the time of an active user as far as it bears on what comes behind its temporary: the greatest where it surely reads it, the least
+-- where it may
+abbrev pub reading_time : Sets → UserOf → ℕ
+reading_time s u = cond (sure_choice u.choice u.value s) (greatest (at_set u.at s))
+    (cond (may_choose u.choice u.value s) (least (at_set u.at s)) 0)
+
+-- the same, or 0 where it is not surely active
+abbrev pub sure_reading : Sets → UserOf → ℕ
+sure_reading s u = cond (sure u.on s) (reading_time s u) 0
+
+-- the largest of these times, or 0
+abbrev pub last_reading : List UserOf → Sets → ℕ
+last_reading [] s = 0
+last_reading (u ∷ us) s = max (sure_reading s u) (last_reading us s)
 
 -- the least end
 abbrev pub least_end : Temp → Sets → ℕ
