@@ -6,6 +6,7 @@ pub mod Going
 pub mod Loops
 pub mod OperandSteps
 pub mod OrderSteps
+pub mod Parted
 pub mod PlainCalls
 pub mod Refusals
 pub mod Rows

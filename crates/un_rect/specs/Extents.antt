@@ -13,7 +13,7 @@ use Rattle.un_rect.specs.Checks.{is_off}
 use Rattle.un_rect.specs.Opened.{opened_after, is_more}
 use Rattle.un_rect.specs.declared.opened.Opened.{Opened}
 use Rattle.un_rect.specs.declared.opened.Opened.TheVariants.{Nothing, One, More}
-use Rattle.un_rect.specs.Spans.{greatest_start, least_start, least_end, last_reading}
+use Rattle.un_rect.specs.Spans.{greatest_start, least_start, least_end, greatest_end, last_reading}
 use Rattle.un_rect.specs.declared.extents.Extent.{Extent}
 use Rattle.un_rect.specs.declared.left.Left.{Left}
 
@@ -43,12 +43,14 @@ extent_of a s = cond (sure a.on s) (sure_extent a s) unsure_extent
 abbrev pub left_opened : Temp → Sets → Opened
 left_opened a s = cond (is_off a.on s) More (opened_after s (temp_vars a) Nothing)
 
--- what is left to decide: what is open, and the register
+-- what is left to decide: what is open, the register, and the least start and the greatest end, 0 where more than one are open
 abbrev pub left_of : Temp → Sets → Left
 left_of a s = record {
   opened = left_opened a s;
   reg = least (set_at s a.reg.0);
   one = nat_eq (length (set_at s a.reg.0)) 1;
+  first = least_start a s;
+  end = cond (is_more (left_opened a s)) 0 (greatest_end a s);
 }
 
 -- what is noted of the temporaries
@@ -86,9 +88,14 @@ opened_both (One u) (One v) = cond (nat_eq u.0 v.0) (One u) More
 opened_both (One u) More = More
 opened_both More p = More
 
--- what is open of two of which this is left, more than one where they have other registers
+-- one ends before the other starts
+abbrev pub are_parted : Left → Left → Bool
+are_parted x y = nat_le x.end y.first || nat_le y.end x.first
+
+-- what is open of two of which this is left, more than one where they have other registers or one ends before the other starts
 abbrev pub left_both : Left → Left → Opened
-left_both x y = cond (x.one && (y.one && not (nat_eq x.reg y.reg))) More (opened_both x.opened y.opened)
+left_both x y = cond (x.one && (y.one && not (nat_eq x.reg y.reg))) More
+    (cond (are_parted x y) More (opened_both x.opened y.opened))
 
 -- the variable to decide, or none where there is nothing to check
 abbrev pub var_of : VarId → Opened → Option VarId

@@ -81,6 +81,19 @@ last_reading (u ∷ us) s = max (sure_reading s u) (last_reading us s)
 abbrev pub least_end : Temp → Sets → ℕ
 least_end a s = max (least_start a s + 1) (last_sure_use a.users s)
 
+-- the greatest time of a user that may choose its temporary, or 0
+abbrev pub possible_use : Sets → UserOf → ℕ
+possible_use s u = cond (may_choose u.choice u.value s) (greatest (at_set u.at s)) 0
+
+-- the largest of these times, or 0
+abbrev pub last_possible_use : List UserOf → Sets → ℕ
+last_possible_use [] s = 0
+last_possible_use (u ∷ us) s = max (possible_use s u) (last_possible_use us s)
+
+-- the greatest end
+abbrev pub greatest_end : Temp → Sets → ℕ
+greatest_end a s = max (greatest_start a s + 1) (last_possible_use a.users s)
+
 -- a sure temporary surely occupies the times from its greatest start to its least end. Where its start is fixed, that is one of them
 abbrev pub SurelyOccupies : Temp → ℕ → Sets → Type 0
 SurelyOccupies a t s = (sure a.on s ≡ true) × (greatest_start a s ≤ t) × (t < least_end a s)

@@ -7,7 +7,7 @@ ghost use Rattle.un_prop.specs.Acts.{act_vars, chooses, is_user};
 ghost use Rattle.un_prop.specs.Looks.{sure};
 ghost use Rattle.un_prop.specs.Rounds.{HasVars};
 ghost use Rattle.un_rect.specs.Spans.{last_use, ends, is_only, sure_choice, sure_user, last_sure_use, least_end};
-ghost use Rattle.un_rect.specs.Spans.{may_choose, reading_time, last_reading, choice_vars, UserVars, TempVars};
+ghost use Rattle.un_rect.specs.Spans.{may_choose, reading_time, last_reading, last_possible_use, greatest_end, choice_vars, UserVars, TempVars};
 
 use un_base::ids::VarId;
 use un_domains::window::Window;
@@ -168,5 +168,36 @@ pub(crate) fn least_end(w: &Window<'_>, a: &Temp) -> u64
 {
     let start = u64::from(least_time(w, a.at));
     let last = u64::from(last_sure_use(w, a.users.as_slice()));
+    last.max(start + 1)
+}
+
+/// The largest of the greatest times of the users that may choose their temporary, or 0. Times are looked at first, as above.
+fn last_possible_use(w: &Window<'_>, users: &[UserOf]) -> u32
+    requires vars { All (UserVars w.now.vars.now) users.now }
+    requires known { HasVars w.now.vars.now w.now.store.now.sets }
+    requires live { NoneEmpty w.now.store.now.sets }
+    ensures { result ≡ last_possible_use users.now w.now.store.now.sets }
+{
+    let mut last = 0;
+    for u in users {
+        let time = greatest_time(w, u.at);
+        if time > last {
+            if may_choose(w, u.choice, u.value) {
+                last = time;
+            }
+        }
+    }
+    last
+}
+
+/// The greatest end of a temporary.
+pub(crate) fn greatest_end(w: &Window<'_>, a: &Temp) -> u64
+    requires vars { TempVars w.now.vars.now a.now }
+    requires known { HasVars w.now.vars.now w.now.store.now.sets }
+    requires live { NoneEmpty w.now.store.now.sets }
+    ensures { result ≡ greatest_end a.now w.now.store.now.sets }
+{
+    let start = u64::from(greatest_time(w, a.at));
+    let last = u64::from(last_possible_use(w, a.users.as_slice()));
     last.max(start + 1)
 }
