@@ -22,12 +22,13 @@ use Rattle.un_prop.specs.Pruning.{join}
 use Rattle.un_prop.specs.declared.act.Temp.{Temp}
 use Rattle.un_prop.specs.declared.propagator.Pruned.{Pruned}
 use Rattle.un_prop.specs.declared.propagator.Pruned.TheVariants.{Same, Failed}
-use Rattle.un_rect.specs.Spans.{starts as starts_at, ends, TempVars}
+use Rattle.un_rect.specs.Spans.{starts as starts_at, ends, least_start, greatest_end, TempVars}
 use Rattle.un_rect.specs.Apart.{temp_vars, pair_vars, pair_holds, check_pair}
 use Rattle.un_rect.specs.ApartLaws.{pair_looks}
 use Rattle.un_rect.specs.Checks.{is_off, differ, IsUndecided}
-use Rattle.un_rect.specs.Extents.{left_opened, left_of, opened_both, left_both, var_of}
-use Rattle.un_rect.specs.CheckLaws.{check_apart, ends_outside}
+use Rattle.un_rect.specs.Extents.{left_opened, left_of, are_parted, opened_both, left_both, var_of}
+use Rattle.un_rect.specs.CheckLaws.{check_apart, ends_outside, last_all}
+use Rattle.un_rect.proofs.Parted.{parted_holds}
 use Rattle.un_rect.specs.Opened.{opened_after, is_more, Says}
 use Rattle.un_rect.specs.OpenedLaws.{after_append, after_same, more_is, says_of, says_more, last_many, last_more, last_one, last_none}
 use Rattle.un_rect.specs.Pairs.{at_place, each_before}
@@ -103,6 +104,11 @@ module _ (a b : Temp) (s : Sets) (y : ℕ) (within_a : a.reg.0 < length s) (with
       ∙ get_or-map least s a.reg.0 [] 0 within_a in
       let none : get_or x a.reg.0 0 ≢ get_or x b.reg.0 0 = λ h. other (sym here ∙ (sym h ∙ there)) in
       parted x (grind (arith, nat_tests, none))
+
+-- what is left of one that is idle
+pub idle_open : (c : Bool) (o : Opened) → is_more (cond c More o) ≡ (c || is_more o)
+idle_open true o = refl
+idle_open false o = refl
 
 -- The variable that is left to decide
 
@@ -216,6 +222,14 @@ module _ (vs : List VarId) (a b : Temp) (ascend : Ascend vs) (ha : TempVars vs a
       by (One u) More is other = idle_other other
       by More p is other = check_idle_first (or_right (is_off a.on s) _ (ap is_more is))
 
+  -- one ends before the other starts, or has more than one variable open
+  ends_before : (p q : Bool) → is_more (left_opened a s) ≡ p → is_more (left_opened b s) ≡ q
+      → (nat_le (cond p 0 (greatest_end a s)) (least_start b s) || nat_le (cond q 0 (greatest_end b s)) (least_start a s)) ≡ true
+      → check_pair vs a b s ≡ Some s
+  ends_before true q first other e = check_idle_first (sym (idle_open (is_off a.on s) (opened_after s (temp_vars a) Nothing)) ∙ first)
+  ends_before false true first other e = check_idle (sym (idle_open (is_off b.on s) (opened_after s (temp_vars b) Nothing)) ∙ other)
+  ends_before false false first other e = last_all (pair_vars vs a b) (pair_holds a b) s known full (parted_holds vs a b ha hb s k e)
+
   -- what is left of both
   pub check_both : IsUndecided vs a b s (var_of a.reg (left_both (left_of a s) (left_of b s)))
   check_both = by (differ a.reg b.reg s) refl
@@ -239,16 +253,17 @@ module _ (vs : List VarId) (a b : Temp) (ascend : Ascend vs) (ha : TempVars vs a
           (check_idle (ap (λ (c : Bool). c || is_more (opened_after s (temp_vars b) Nothing)) other))
       on false false first other = few _ _ refl refl
 
-      by : (c : Bool) → differ a.reg b.reg s ≡ c
+      split : (c : Bool) → are_parted (left_of a s) (left_of b s) ≡ c
           → IsUndecided vs a b s (var_of a.reg (cond c More (opened_both (left_opened a s) (left_opened b s))))
+      split true e = ends_before (is_more (left_opened a s)) (is_more (left_opened b s)) refl refl e
+      split false e = on (is_off a.on s) (is_off b.on s) refl refl
+
+      by : (c : Bool) → differ a.reg b.reg s ≡ c
+          → IsUndecided vs a b s (var_of a.reg (cond c More (cond (are_parted (left_of a s) (left_of b s)) More
+          (opened_both (left_opened a s) (left_opened b s)))))
       by true e = check_apart vs a b ha hb s k full
           (ap (λ (c : Bool). is_off a.on s || (is_off b.on s || c)) e ∙ or_last (is_off a.on s) (is_off b.on s))
-      by false e = on (is_off a.on s) (is_off b.on s) refl refl
-
--- what is left of one that is idle
-pub idle_open : (c : Bool) (o : Opened) → is_more (cond c More o) ≡ (c || is_more o)
-idle_open true o = refl
-idle_open false o = refl
+      by false e = split (are_parted (left_of a s) (left_of b s)) refl
 
 pub checks_idle : (vs : List VarId) (temps : List Temp) (b : Temp) (s : Sets) → Ascend vs → AllByRecursion (TempVars vs) temps
     → TempVars vs b → HasVars vs s → NoneEmpty s

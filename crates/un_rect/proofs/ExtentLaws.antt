@@ -1,7 +1,7 @@
 -- What extents say of two temporaries.
 use Rattle.std.proofs.Common.{ℕ, ◌≡◌, Bool, true, false, cond, not, ◌&&◌, ◌||◌, List, [], ◌∷◌, length, nat_eq, nat_lt, Some}
 use Rattle.std.proofs.Common.{option_and_then, refl, sym, ap, ◌∙◌, subst, arith}
-use Rattle.std.proofs.Common.{◌<◌, All, None, get_or}
+use Rattle.std.proofs.Common.{◌<◌, ◌≤◌, ◌⊎◌, All, None, get_or, nat_le, inl, inr}
 use Rattle.std.specs.declared.option.Option.{Option}
 use Rattle.std.proofs.lemmas.Bool.Decides.{nat_tests}
 use Rattle.std.proofs.lemmas.List.{get_or_default}
@@ -21,17 +21,20 @@ use Rattle.un_prop.specs.AmongLaws.{has_among}
 use Rattle.un_prop.specs.LastLaws.{Ascend, cut_all}
 use Rattle.un_rect.proofs.CheckSteps.{check_both}
 use Rattle.un_prop.specs.Looks.{sure}
+use Rattle.un_prop.specs.LookLaws.{firsts}
 use Rattle.un_prop.specs.declared.act.Temp.{Temp}
 use Rattle.un_rect.specs.Extents.{extent_of, sure_extent, unsure_extent, left_of, left_both, var_of, may_clash, may_order}
+use Rattle.un_rect.specs.Extents.{is_settled, may_lead}
 use Rattle.un_rect.specs.Extents.{AreNoted, AreExtents, AreLeft, AreSpared}
 use Rattle.un_rect.specs.Extents.{IsNoted}
 use Rattle.un_rect.specs.Checks.{IsUndecided}
 use Rattle.un_rect.specs.declared.opened.Opened.{Opened}
 use Rattle.un_rect.specs.declared.left.Left.{Left}
 use Rattle.un_rect.specs.declared.extents.Extent.{Extent}
-use Rattle.un_rect.specs.Spans.{greatest_start, least_end, TempVars}
+use Rattle.un_rect.specs.Spans.{greatest_start, least_start, least_end, last_reading, TempVars}
 use Rattle.un_rect.specs.Apart.{overlap, clash_test, clash_cut, clash_pair}
-use Rattle.un_rect.specs.Orders.{order_cut, order_pair, order_steps}
+use Rattle.un_rect.specs.Orders.{share_one, order_cut, order_pair, order_steps}
+use Rattle.un_rect.proofs.Settled.{steps_idle}
 
 same_both : (m n : ℕ) → nat_eq m n ≡ nat_eq n m
 same_both m n = same_test (nat_eq m n) (nat_eq n m) (λ h. let is : m ≡ n = grind (arith, nat_tests, h) in
@@ -82,6 +85,8 @@ stays true true ra rb y true is e = ap (λ (n : ℕ). not (nat_eq ra n && true))
 abbrev whole_of : Temp → Sets → Extent
 whole_of a s = record {
   start = greatest_start a s;
+  first = least_start a s;
+  last = cond (nat_eq (length (set_at s a.reg.0)) 1) (last_reading a.users s) 0;
   reg = least (set_at s a.reg.0);
   end = cond (sure a.on s) (least_end a s) 0;
   sure = sure a.on s;
@@ -92,6 +97,8 @@ module _ (a b : Temp) (s : Sets) where
   abbrev ended : Bool → Temp → Extent
   ended p c = record {
     start = greatest_start c s;
+    first = least_start c s;
+    last = cond (nat_eq (length (set_at s c.reg.0)) 1) (last_reading c.users s) 0;
     reg = least (set_at s c.reg.0);
     end = cond p (least_end c s) 0;
     sure = p;
@@ -115,16 +122,8 @@ module _ (a b : Temp) (s : Sets) where
   clash_alike true false = none_second (noted_of true a) (noted_of false b) refl ∙ sym (none_second (ended true a) (ended false b) refl)
   clash_alike false q = none_first (noted_of false a) (noted_of q b) refl ∙ sym (none_first (ended false a) (ended q b) refl)
 
-  order_alike : (p q : Bool) → may_order (noted_of p a) (noted_of q b) ≡ may_order (ended p a) (ended q b)
-  order_alike true true = refl
-  order_alike true false = refl
-  order_alike false q = refl
-
   clash_whole : may_clash (extent_of a s) (extent_of b s) ≡ false → may_clash (whole_of a s) (whole_of b s) ≡ false
   clash_whole e = sym (clash_alike (sure a.on s) (sure b.on s)) ∙ e
-
-  order_whole : may_order (extent_of a s) (extent_of b s) ≡ false → may_order (whole_of a s) (whole_of b s) ≡ false
-  order_whole e = sym (order_alike (sure a.on s) (sure b.on s)) ∙ e
 
   -- no value of the second goes
   keeps_each : may_clash (whole_of a s) (whole_of b s) ≡ false → (y : ℕ) → has (set_at s b.reg.0) y ≡ true → clash_test a b s y ≡ true
@@ -148,37 +147,88 @@ module _ (a b : Temp) (s : Sets) (vs : List VarId) (ha : TempVars vs a) (hb : Te
       (keeps_each a b s e))
       ∙ cut_all (clash_test b a s) a.reg.0 s (has_among vs a.reg s ha.of_reg k) full (keeps_each b a s back)
 
--- neither comes first
-not_first : (p q o1 o2 : Bool) (m n : ℕ) (late : Bool) → (p && (q && (o1 && (o2 && nat_eq m n)))) ≡ false
-    → ((o1 && (o2 && nat_eq n m)) && (p && (q && late))) ≡ false
-not_first p q false o2 m n late e = refl
-not_first p q true false m n late e = refl
-not_first false q true true m n late e = second (nat_eq n m) false refl
-not_first true false true true m n late e = second (nat_eq n m) false refl
-not_first true true true true m n late e = ap (λ (c : Bool). c && late) (same_both n m ∙ e)
+-- neither may be cut where it comes first
 
-swapped : (p q o1 o2 : Bool) (m n : ℕ) → (p && (q && (o1 && (o2 && nat_eq m n)))) ≡ false
-    → (q && (p && (o2 && (o1 && nat_eq n m)))) ≡ false
-swapped false false o1 o2 m n e = refl
-swapped false true o1 o2 m n e = refl
-swapped true false o1 o2 m n e = refl
-swapped true true false false m n e = refl
-swapped true true false true m n e = refl
-swapped true true true false m n e = refl
-swapped true true true true m n e = same_both n m ∙ e
+swapped : (p q o1 o2 : Bool) (m n : ℕ) (c d : Bool) → (p && (q && (o1 && (o2 && (nat_eq m n && (c || d)))))) ≡ false
+    → (q && (p && (o2 && (o1 && (nat_eq n m && (d || c)))))) ≡ false
+swapped false false o1 o2 m n c d e = refl
+swapped false true o1 o2 m n c d e = refl
+swapped true false o1 o2 m n c d e = refl
+swapped true true false false m n c d e = refl
+swapped true true false true m n c d e = refl
+swapped true true true false m n c d e = refl
+swapped true true true true m n c d e = ap (λ (x : Bool). x && (d || c)) (same_both n m) ∙ (ap (λ (x : Bool). nat_eq m n && x) (or_swap d c)
+    ∙ e)
+  where
+    or_swap : (x y : Bool) → (x || y) ≡ (y || x)
+    or_swap true true = refl
+    or_swap true false = refl
+    or_swap false true = refl
+    or_swap false false = refl
 
-module _ (a b : Temp) (s : Sets) where
-  order_stays : may_order (whole_of a s) (whole_of b s) ≡ false → order_cut a b s ≡ Some s
-  order_stays e = ap (λ (c : Bool). cond c (order_steps a b s) (Some s))
-      (not_first (sure a.on s) (sure b.on s) (nat_eq (length (set_at s a.reg.0)) 1) (nat_eq (length (set_at s b.reg.0)) 1)
-      (least (set_at s a.reg.0)) (least (set_at s b.reg.0)) (nat_lt (greatest_start a s) (least_end b s)) e)
+-- the first does not come first, or is settled
+first_or_settled : (o1 o2 : Bool) (m n : ℕ) (late settled other : Bool)
+    → (o1 && (o2 && (nat_eq m n && ((late && not settled) || other)))) ≡ false
+    → (((o1 && (o2 && nat_eq n m)) && late) ≡ false) ⊎ ((settled ≡ true) × (o1 ≡ true))
+first_or_settled false o2 m n late settled other e = inl refl
+first_or_settled true false m n late settled other e = inl refl
+first_or_settled true true m n false settled other e = inl (second (nat_eq n m) false refl)
+first_or_settled true true m n true true other e = inr (refl, refl)
+first_or_settled true true m n true false other e = inl (ap (λ (c : Bool). c && true) (same_both n m) ∙ by (nat_eq m n) e)
+  where
+    by : (c : Bool) → (c && true) ≡ false → (c && true) ≡ false
+    by c h = h
 
-module _ (a b : Temp) (s : Sets) where
-  -- two of which neither can come first are not ordered
+module _ (a b : Temp) (s : Sets) (vs : List VarId) (ha : TempVars vs a) (hb : TempVars vs b) (k : HasVars vs s) (full : NoneEmpty s) where
+  settled_steps : is_settled (sure_extent a s) (sure_extent b s) ≡ true → nat_eq (length (set_at s a.reg.0)) 1 ≡ true
+      → order_steps a b s ≡ Some s
+  settled_steps settled one =
+      let all = firsts (nat_le (least_end a s) (least_start b s)) _ settled in
+      let rest = firsts (nat_lt (greatest_start a s) (greatest_start b s)) _ all.1 in
+      let late : least_end a s ≤ least_start b s = (let h = all.0 in grind (arith, nat_tests, h)) in
+      let early : greatest_start a s < greatest_start b s = (let h = rest.0 in grind (arith, nat_tests, h)) in
+      let read : nat_le (last_reading a.users s) (greatest_start b s) ≡ true = subst (λ (c : Bool). nat_le (cond c (last_reading a.users s) 0)
+      (greatest_start b s) ≡ true) one rest.1 in
+      let reads : last_reading a.users s ≤ greatest_start b s = grind (arith, nat_tests, read) in
+      steps_idle vs s k full a b ha hb late early reads
+
+  order_stays : (p q : Bool) → sure a.on s ≡ p → sure b.on s ≡ q
+      → may_order (cond p (sure_extent a s) unsure_extent) (cond q (sure_extent b s) unsure_extent) ≡ false → order_cut a b s ≡ Some s
+  order_stays false q ep eq e = ap (λ (c : Bool). cond (share_one a b s && (c && (sure b.on s
+      && nat_lt (greatest_start a s) (least_end b s)))) (order_steps a b s) (Some s)) ep
+      ∙ ap (λ (c : Bool). cond c (order_steps a b s) (Some s)) (second (share_one a b s) false refl)
+  order_stays true false ep eq e = ap (λ (c : Bool). cond (share_one a b s && (sure a.on s && (c
+      && nat_lt (greatest_start a s) (least_end b s)))) (order_steps a b s) (Some s)) eq
+      ∙ ap (λ (c : Bool). cond c (order_steps a b s) (Some s)) (second (share_one a b s) (sure a.on s && false)
+      (second (sure a.on s) false refl))
+  order_stays true true ep eq e = ap (λ (c : Bool). cond (share_one a b s && (c && (sure b.on s
+      && nat_lt (greatest_start a s) (least_end b s)))) (order_steps a b s) (Some s)) ep
+      ∙ (ap (λ (c : Bool). cond (share_one a b s && (c && nat_lt (greatest_start a s) (least_end b s))) (order_steps a b s) (Some s)) eq
+      ∙ elim (first_or_settled (nat_eq (length (set_at s a.reg.0)) 1) (nat_eq (length (set_at s b.reg.0)) 1) (least (set_at s a.reg.0))
+      (least (set_at s b.reg.0)) (nat_lt (greatest_start a s) (least_end b s)) (is_settled (sure_extent a s) (sure_extent b s))
+      (may_lead (sure_extent b s) (sure_extent a s)) e) [
+        | inl missed ↦ ap (λ (c : Bool). cond c (order_steps a b s) (Some s)) missed
+        | inr done ↦ stays_both (share_one a b s && nat_lt (greatest_start a s) (least_end b s)) (settled_steps done.0 done.1)
+      ])
+    where
+      stays_both : (c : Bool) → order_steps a b s ≡ Some s → cond c (order_steps a b s) (Some s) ≡ Some s
+      stays_both true h = h
+      stays_both false h = refl
+
+module _ (a b : Temp) (s : Sets) (vs : List VarId) (ha : TempVars vs a) (hb : TempVars vs b) (k : HasVars vs s) (full : NoneEmpty s) where
+  turned_noted : (p q : Bool) → may_order (cond p (sure_extent a s) unsure_extent) (cond q (sure_extent b s) unsure_extent) ≡ false
+      → may_order (cond q (sure_extent b s) unsure_extent) (cond p (sure_extent a s) unsure_extent) ≡ false
+  turned_noted false false e = refl
+  turned_noted false true e = refl
+  turned_noted true false e = refl
+  turned_noted true true e = swapped true true (nat_eq (length (set_at s a.reg.0)) 1) (nat_eq (length (set_at s b.reg.0)) 1)
+      (least (set_at s a.reg.0)) (least (set_at s b.reg.0)) (may_lead (sure_extent a s) (sure_extent b s))
+      (may_lead (sure_extent b s) (sure_extent a s)) e
+
+  -- two of which neither may be cut where it comes first are not ordered
   pub no_order : may_order (extent_of a s) (extent_of b s) ≡ false → order_pair a b s ≡ Some s
-  no_order noted = let e = order_whole a b s noted in ap (option_and_then (order_cut b a)) (order_stays a b s e)
-      ∙ order_stays b a s (swapped (sure a.on s) (sure b.on s) (nat_eq (length (set_at s a.reg.0)) 1)
-      (nat_eq (length (set_at s b.reg.0)) 1) (least (set_at s a.reg.0)) (least (set_at s b.reg.0)) e)
+  no_order noted = ap (option_and_then (order_cut b a)) (order_stays a b s vs ha hb k full (sure a.on s) (sure b.on s) refl refl noted)
+      ∙ order_stays b a s vs hb ha k full (sure b.on s) (sure a.on s) refl refl (turned_noted (sure a.on s) (sure b.on s) noted)
 
 -- steps from the start
 
@@ -231,7 +281,8 @@ module _ (vs us : List VarId) (temps : List Temp) (a b : Temp) where
       → AreSpared may_order xs did i j → order_pair a b mid.sets ≡ Some mid.sets
   order_spared xs i j e is_a is_b lt_a lt_b all old mid k full are f did h spared =
       subst (λ (s : Sets). order_pair a b s ≡ Some s) (sym (same_sets vs f old mid did h full spared.same))
-      (no_order a b old.sets (noted Extent extent_of temps a b xs i j is_a is_b lt_a lt_b old.sets are did may_order spared))
+      (no_order a b old.sets vs (of_place i is_a lt_a all) (other_place j is_b lt_b all) k full
+      (noted Extent extent_of temps a b xs i j is_a is_b lt_a lt_b old.sets are did may_order spared))
 
   both_of : (xs : List Left) (i j : ℕ) (s : Sets) → a ≡ get_or temps i a → b ≡ get_or temps j b → i < length temps → j < length temps
       → AreLeft temps s xs → (did : Pruned) (o : Opened) → IsNoted xs did i j o → left_both (left_of a s) (left_of b s) ≡ o

@@ -6,8 +6,10 @@ pub mod Going
 pub mod Loops
 pub mod OperandSteps
 pub mod OrderSteps
+pub mod Parted
 pub mod PlainCalls
 pub mod Refusals
 pub mod Rows
+pub mod Settled
 pub mod Spared
 pub mod Survivors

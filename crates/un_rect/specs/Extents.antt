@@ -1,6 +1,6 @@
 -- What a store says of each temporary, noted once for many looks.
 use Rattle.std.specs.Prelude.{ℕ, ◌≡◌, ◌<◌, Bool, true, false, cond, not, ◌&&◌, ◌||◌, List}
-use Rattle.std.specs.Prelude.{length, nat_eq, nat_lt, slice_index_or, None, Some}
+use Rattle.std.specs.Prelude.{length, nat_eq, nat_le, nat_lt, slice_index_or, None, Some}
 use Rattle.std.specs.declared.option.Option.{Option}
 use Rattle.un_base.specs.declared.ids.VarId.{VarId}
 use Rattle.un_domains.specs.Sets.{Sets, set_at, least}
@@ -13,7 +13,7 @@ use Rattle.un_rect.specs.Checks.{is_off}
 use Rattle.un_rect.specs.Opened.{opened_after, is_more}
 use Rattle.un_rect.specs.declared.opened.Opened.{Opened}
 use Rattle.un_rect.specs.declared.opened.Opened.TheVariants.{Nothing, One, More}
-use Rattle.un_rect.specs.Spans.{greatest_start, least_end}
+use Rattle.un_rect.specs.Spans.{greatest_start, least_start, least_end, greatest_end, last_reading}
 use Rattle.un_rect.specs.declared.extents.Extent.{Extent}
 use Rattle.un_rect.specs.declared.left.Left.{Left}
 
@@ -21,10 +21,12 @@ use Rattle.un_rect.specs.declared.left.Left.{Left}
 abbrev pub is_idle : Temp → Sets → Bool
 is_idle a s = is_off a.on s || is_more (opened_after s (temp_vars a) Nothing)
 
--- the greatest start, the least end and the register of one that is sure
+-- the starts, the least end, the last reading and the register of one that is sure
 abbrev pub sure_extent : Temp → Sets → Extent
 sure_extent a s = record {
   start = greatest_start a s;
+  first = least_start a s;
+  last = cond (nat_eq (length (set_at s a.reg.0)) 1) (last_reading a.users s) 0;
   reg = least (set_at s a.reg.0);
   end = least_end a s;
   sure = true;
@@ -32,7 +34,7 @@ sure_extent a s = record {
 }
 
 abbrev pub unsure_extent : Extent
-unsure_extent = record { start = 0; reg = 0; end = 0; sure = false; one = false }
+unsure_extent = record { start = 0; first = 0; last = 0; reg = 0; end = 0; sure = false; one = false }
 
 abbrev pub extent_of : Temp → Sets → Extent
 extent_of a s = cond (sure a.on s) (sure_extent a s) unsure_extent
@@ -41,12 +43,14 @@ extent_of a s = cond (sure a.on s) (sure_extent a s) unsure_extent
 abbrev pub left_opened : Temp → Sets → Opened
 left_opened a s = cond (is_off a.on s) More (opened_after s (temp_vars a) Nothing)
 
--- what is left to decide: what is open, and the register
+-- what is left to decide: what is open, the register, and the least start and the greatest end, 0 where more than one are open
 abbrev pub left_of : Temp → Sets → Left
 left_of a s = record {
   opened = left_opened a s;
   reg = least (set_at s a.reg.0);
   one = nat_eq (length (set_at s a.reg.0)) 1;
+  first = least_start a s;
+  end = cond (is_more (left_opened a s)) 0 (greatest_end a s);
 }
 
 -- what is noted of the temporaries
@@ -64,9 +68,17 @@ AreLeft temps s left = AreNoted Left left_of temps s left
 abbrev pub may_clash : Extent → Extent → Bool
 may_clash x y = (nat_lt y.start x.end && nat_lt x.start y.end) && cond (x.one && y.one) (nat_eq x.reg y.reg) (x.one || y.one)
 
--- both are sure and have the same one register left
+-- the second starts behind the first and its readings
+abbrev pub is_settled : Extent → Extent → Bool
+is_settled x y = nat_le x.end y.first && (nat_lt x.start y.start && nat_le x.last y.start)
+
+-- the first comes first, and is not settled before the second
+abbrev pub may_lead : Extent → Extent → Bool
+may_lead x y = nat_lt x.start y.end && not (is_settled x y)
+
+-- both are sure and have the same one register left, and one of them may still be cut where it comes first
 abbrev pub may_order : Extent → Extent → Bool
-may_order x y = x.sure && (y.sure && (x.one && (y.one && nat_eq x.reg y.reg)))
+may_order x y = x.sure && (y.sure && (x.one && (y.one && (nat_eq x.reg y.reg && (may_lead x y || may_lead y x)))))
 
 -- what is open of two
 abbrev pub opened_both : Opened → Opened → Opened
@@ -76,9 +88,14 @@ opened_both (One u) (One v) = cond (nat_eq u.0 v.0) (One u) More
 opened_both (One u) More = More
 opened_both More p = More
 
--- what is open of two of which this is left, more than one where they have other registers
+-- one ends before the other starts
+abbrev pub are_parted : Left → Left → Bool
+are_parted x y = nat_le x.end y.first || nat_le y.end x.first
+
+-- what is open of two of which this is left, more than one where they have other registers or one ends before the other starts
 abbrev pub left_both : Left → Left → Opened
-left_both x y = cond (x.one && (y.one && not (nat_eq x.reg y.reg))) More (opened_both x.opened y.opened)
+left_both x y = cond (x.one && (y.one && not (nat_eq x.reg y.reg))) More
+    (cond (are_parted x y) More (opened_both x.opened y.opened))
 
 -- the variable to decide, or none where there is nothing to check
 abbrev pub var_of : VarId → Opened → Option VarId

@@ -1,7 +1,7 @@
 -- When a temporary starts and ends by an assignment, and what a store says of it.
 use Rattle.std.specs.Prelude.{ℕ, ◌≡◌, ◌≤◌, ◌<◌, ◌+◌, Bool, true, cond, ◌&&◌, List, [], ◌∷◌, length, max, nat_eq, All, Option, None, Some}
 use Rattle.un_base.specs.declared.ids.VarId.{VarId}
-use Rattle.un_domains.specs.Sets.{Sets, set_at, least, greatest}
+use Rattle.un_domains.specs.Sets.{Sets, set_at, has, least, greatest}
 use Rattle.un_prop.specs.Among.{among, AllAmong}
 use Rattle.un_prop.specs.Acts.{act_vars, at_vars, at_value, is_user}
 use Rattle.un_prop.specs.Looks.{at_set, sure}
@@ -57,9 +57,42 @@ abbrev pub last_sure_use : List UserOf → Sets → ℕ
 last_sure_use [] s = 0
 last_sure_use (u ∷ us) s = max (sure_use s u) (last_sure_use us s)
 
+-- a choice, where there is one, may have this value
+abbrev pub may_choose : Option VarId → ℕ → Sets → Bool
+may_choose None n s = true
+may_choose (Some v) n s = has (set_at s v.0) n
+
+-- the time of an active user as far as it bears on what comes behind its temporary: the greatest where it surely reads it, the least
+-- where it may
+abbrev pub reading_time : Sets → UserOf → ℕ
+reading_time s u = cond (sure_choice u.choice u.value s) (greatest (at_set u.at s))
+    (cond (may_choose u.choice u.value s) (least (at_set u.at s)) 0)
+
+-- the same, or 0 where it is not surely active
+abbrev pub sure_reading : Sets → UserOf → ℕ
+sure_reading s u = cond (sure u.on s) (reading_time s u) 0
+
+-- the largest of these times, or 0
+abbrev pub last_reading : List UserOf → Sets → ℕ
+last_reading [] s = 0
+last_reading (u ∷ us) s = max (sure_reading s u) (last_reading us s)
+
 -- the least end
 abbrev pub least_end : Temp → Sets → ℕ
 least_end a s = max (least_start a s + 1) (last_sure_use a.users s)
+
+-- the greatest time of a user that may choose its temporary, or 0
+abbrev pub possible_use : Sets → UserOf → ℕ
+possible_use s u = cond (may_choose u.choice u.value s) (greatest (at_set u.at s)) 0
+
+-- the largest of these times, or 0
+abbrev pub last_possible_use : List UserOf → Sets → ℕ
+last_possible_use [] s = 0
+last_possible_use (u ∷ us) s = max (possible_use s u) (last_possible_use us s)
+
+-- the greatest end
+abbrev pub greatest_end : Temp → Sets → ℕ
+greatest_end a s = max (greatest_start a s + 1) (last_possible_use a.users s)
 
 -- a sure temporary surely occupies the times from its greatest start to its least end. Where its start is fixed, that is one of them
 abbrev pub SurelyOccupies : Temp → ℕ → Sets → Type 0

@@ -1,25 +1,28 @@
-//! What a store says of each temporary, noted once for many looks: its greatest start, its least end and its register.
+//! What a store says of each temporary, noted once for many looks: its starts, its least end, its last reading and its register.
 
 ghost use Rattle.std.specs.Prelude.{◌≡◌, ◌≢◌, All, true};
 ghost use Rattle.un_domains.specs.Sets.{NoneEmpty};
 ghost use Rattle.un_prop.specs.Rounds.{HasVars};
 ghost use Rattle.un_prop.specs.declared.propagator.Pruned.TheVariants.{Same, Failed};
-ghost use Rattle.un_rect.specs.Extents.{extent_of, unsure_extent, may_clash, may_order, AreExtents, AreSpared};
+ghost use Rattle.un_rect.specs.Extents.{extent_of, unsure_extent, may_clash, is_settled, may_lead, may_order, AreExtents, AreSpared};
 ghost use Rattle.un_rect.specs.Spans.{TempVars};
 
-use crate::spans::{is_on, least_end};
+use crate::spans::{is_on, last_reading, least_end};
 use un_domains::window::Window;
 use un_prop::act::Temp;
-use un_prop::look::greatest_time;
+use un_prop::look::{greatest_time, least_time};
 use un_prop::propagator::Pruned;
 
 /// How many temporaries of a block are noted at most; those after them are looked at without a note.
 pub(crate) const NOTED: usize = 512;
 
-/// The greatest start of a temporary that is sure, its least end, whether it is sure, whether one register is left, and the least that is.
+/// The greatest and the least start of a temporary that is sure, its last reading where one register is left, its least register and
+/// its least end, whether it is sure, and whether one register is left.
 #[derive(Clone, Copy)]
 pub(crate) struct Extent {
     pub start: u32,
+    pub first: u32,
+    pub last: u32,
     pub reg: u32,
     pub end: u64,
     pub sure: bool,
@@ -32,6 +35,8 @@ pub(crate) fn no_extent() -> Extent
 {
     Extent {
         start: 0,
+        first: 0,
+        last: 0,
         reg: 0,
         end: 0,
         sure: false,
@@ -50,11 +55,15 @@ fn extent_of(w: &Window<'_>, a: &Temp) -> Extent
         return no_extent();
     }
     let start = greatest_time(w, a.at);
+    let first = least_time(w, a.at);
     let reg = w.min(a.reg);
     let end = least_end(w, a);
     let one = w.is_single(a.reg);
+    let last = if one { last_reading(w, a.users.as_slice()) } else { 0 };
     Extent {
         start,
+        first,
+        last,
         reg,
         end,
         sure: true,
@@ -104,11 +113,29 @@ fn may_clash(x: Extent, y: Extent) -> bool
     }
 }
 
-/// Whether two temporaries of these extents are sure and have the same one register left.
+/// Whether the second of two temporaries of these extents starts behind the first and its readings.
+fn is_settled(x: Extent, y: Extent) -> bool
+    ensures { result ≡ is_settled x y }
+{
+    x.end <= u64::from(y.first) && x.start < y.start && x.last <= y.start
+}
+
+/// Whether the first comes first, and is not settled before the second.
+fn may_lead(x: Extent, y: Extent) -> bool
+    ensures { result ≡ may_lead x y }
+{
+    u64::from(x.start) < y.end && !is_settled(x, y)
+}
+
+/// Whether two temporaries of these extents are sure and have the same one register left, and one of them may still be cut where it
+/// comes first.
 fn may_order(x: Extent, y: Extent) -> bool
     ensures { result ≡ may_order x y }
 {
-    x.sure && y.sure && x.one && y.one && x.reg == y.reg
+    if !(x.sure && y.sure && x.one && y.one && x.reg == y.reg) {
+        return false;
+    }
+    may_lead(x, y) || may_lead(y, x)
 }
 
 /// Whether what was noted of two temporaries, while nothing changed, says that they do not clash.
@@ -127,7 +154,7 @@ pub(crate) fn cannot_clash(extents: &[Extent], did: Pruned, i: usize, j: usize) 
     !may_clash(extents[i], extents[j])
 }
 
-/// Whether what was noted of two temporaries, while nothing changed, says that neither comes first.
+/// Whether what was noted of two temporaries, while nothing changed, says that neither is cut where it comes first.
 pub(crate) fn cannot_order(extents: &[Extent], did: Pruned, i: usize, j: usize) -> bool
     ensures { result ≡ true → AreSpared may_order extents.now did i j }
 {

@@ -5,22 +5,27 @@ ghost use Rattle.un_domains.specs.Sets.{NoneEmpty};
 ghost use Rattle.un_prop.specs.Rounds.{HasVars};
 ghost use Rattle.un_prop.specs.declared.act.Temp.{Temp};
 ghost use Rattle.un_prop.specs.declared.propagator.Pruned.TheVariants.{Same, Failed};
-ghost use Rattle.un_rect.specs.Extents.{is_idle, left_opened, left_of, opened_both, left_both, AreLeft, IsNoted};
+ghost use Rattle.un_rect.specs.Extents.{is_idle, left_opened, left_of, are_parted, opened_both, left_both, AreLeft, IsNoted};
 ghost use Rattle.un_rect.specs.Spans.{TempVars};
 ghost use Rattle.un_rect.specs.declared.opened.Opened.{Opened};
 
 use crate::checks::{is_idle, is_off};
 use crate::opened::{Opened, is_more, with_temp};
+use crate::spans::greatest_end;
 use un_domains::window::Window;
 use un_prop::act::Temp;
+use un_prop::look::least_time;
 use un_prop::propagator::Pruned;
 
-/// Which variables of a temporary are open, more than one where it is off; whether one register is left, and the least that is.
+/// Which variables of a temporary are open, more than one where it is off; its least register and whether it is the only one; its
+/// least start and its greatest end, 0 where more than one variable is open.
 #[derive(Clone, Copy)]
 pub(crate) struct Left {
     pub opened: Opened,
     pub reg: u32,
     pub one: bool,
+    pub first: u32,
+    pub end: u64,
 }
 
 /// What is written of a temporary before it is noted.
@@ -29,6 +34,8 @@ pub(crate) fn nothing_left() -> Left {
         opened: Opened::Nothing,
         reg: 0,
         one: false,
+        first: 0,
+        end: 0,
     }
 }
 
@@ -55,7 +62,15 @@ fn left_of(w: &Window<'_>, a: &Temp) -> Left
     let opened = left_opened(w, a);
     let reg = w.min(a.reg);
     let one = w.is_single(a.reg);
-    Left { opened, reg, one }
+    let first = least_time(w, a.at);
+    let end = if is_more(opened) { 0 } else { greatest_end(w, a) };
+    Left {
+        opened,
+        reg,
+        one,
+        first,
+        end,
+    }
 }
 
 /// Notes what is left to decide of each temporary for which there is room.
@@ -114,12 +129,22 @@ fn opened_both(x: Opened, y: Opened) -> Opened
     }
 }
 
-/// Which variables are open of two temporaries of which this is left. There is nothing to check of two with other registers, as where
-/// more than one are open.
+/// Whether one of two temporaries of which this is left ends before the other starts.
+fn are_parted(x: Left, y: Left) -> bool
+    ensures { result ≡ are_parted x y }
+{
+    x.end <= u64::from(y.first) || y.end <= u64::from(x.first)
+}
+
+/// Which variables are open of two temporaries of which this is left. There is nothing to check of two with other registers, or where
+/// one ends before the other starts, as where more than one are open.
 fn left_both(x: Left, y: Left) -> Opened
     ensures { result ≡ left_both x y }
 {
     if x.one && y.one && x.reg != y.reg {
+        return Opened::More;
+    }
+    if are_parted(x, y) {
         return Opened::More;
     }
     opened_both(x.opened, y.opened)

@@ -7,12 +7,12 @@ ghost use Rattle.un_prop.specs.Acts.{act_vars, chooses, is_user};
 ghost use Rattle.un_prop.specs.Looks.{sure};
 ghost use Rattle.un_prop.specs.Rounds.{HasVars};
 ghost use Rattle.un_rect.specs.Spans.{last_use, ends, is_only, sure_choice, sure_user, last_sure_use, least_end};
-ghost use Rattle.un_rect.specs.Spans.{choice_vars, UserVars, TempVars};
+ghost use Rattle.un_rect.specs.Spans.{may_choose, reading_time, last_reading, last_possible_use, greatest_end, choice_vars, UserVars, TempVars};
 
 use un_base::ids::VarId;
 use un_domains::window::Window;
 use un_prop::act::{Act, Temp, UserOf, active, time, value};
-use un_prop::look::least_time;
+use un_prop::look::{greatest_time, least_time};
 
 /// Whether a user reads its temporary.
 pub(crate) fn reads(fixed: &[u32], u: &UserOf) -> bool
@@ -96,7 +96,7 @@ pub(crate) fn is_sure_user(w: &Window<'_>, u: &UserOf) -> bool
     is_sure_choice(w, u.choice, u.value)
 }
 
-/// The largest of the least times of the sure users, or 0.
+/// The largest of the least times of the sure users, or 0. Times are looked at first, since few are larger than those before.
 pub(crate) fn last_sure_use(w: &Window<'_>, users: &[UserOf]) -> u32
     requires vars { All (UserVars w.now.vars.now) users.now }
     requires known { HasVars w.now.vars.now w.now.store.now.sets }
@@ -105,8 +105,55 @@ pub(crate) fn last_sure_use(w: &Window<'_>, users: &[UserOf]) -> u32
 {
     let mut last = 0;
     for u in users {
-        if is_sure_user(w, u) {
-            last = least_time(w, u.at).max(last);
+        let time = least_time(w, u.at);
+        if time > last {
+            if is_sure_user(w, u) {
+                last = time;
+            }
+        }
+    }
+    last
+}
+
+/// Whether a choice, where there is one, may have this value.
+fn may_choose(w: &Window<'_>, choice: Option<VarId>, n: u32) -> bool
+    requires vars { AllAmong w.now.vars.now (choice_vars choice) }
+    requires known { HasVars w.now.vars.now w.now.store.now.sets }
+    ensures { result ≡ may_choose choice n w.now.store.now.sets }
+{
+    match choice {
+        None => true,
+        Some(v) => w.has(v, n),
+    }
+}
+
+/// The greatest time of a user that surely reads its temporary where it is active, the least of one that may, else 0.
+fn reading_time(w: &Window<'_>, u: &UserOf) -> u32
+    requires vars { UserVars w.now.vars.now u.now }
+    requires known { HasVars w.now.vars.now w.now.store.now.sets }
+    requires live { NoneEmpty w.now.store.now.sets }
+    ensures { result ≡ reading_time w.now.store.now.sets u.now }
+{
+    if is_sure_choice(w, u.choice, u.value) {
+        return greatest_time(w, u.at);
+    }
+    if may_choose(w, u.choice, u.value) {
+        return least_time(w, u.at);
+    }
+    0
+}
+
+/// The largest of these times of the users that are surely active, or 0.
+pub(crate) fn last_reading(w: &Window<'_>, users: &[UserOf]) -> u32
+    requires vars { All (UserVars w.now.vars.now) users.now }
+    requires known { HasVars w.now.vars.now w.now.store.now.sets }
+    requires live { NoneEmpty w.now.store.now.sets }
+    ensures { result ≡ last_reading users.now w.now.store.now.sets }
+{
+    let mut last = 0;
+    for u in users {
+        if is_on(w, u.on) {
+            last = reading_time(w, u).max(last);
         }
     }
     last
@@ -121,5 +168,36 @@ pub(crate) fn least_end(w: &Window<'_>, a: &Temp) -> u64
 {
     let start = u64::from(least_time(w, a.at));
     let last = u64::from(last_sure_use(w, a.users.as_slice()));
+    last.max(start + 1)
+}
+
+/// The largest of the greatest times of the users that may choose their temporary, or 0. Times are looked at first, as above.
+fn last_possible_use(w: &Window<'_>, users: &[UserOf]) -> u32
+    requires vars { All (UserVars w.now.vars.now) users.now }
+    requires known { HasVars w.now.vars.now w.now.store.now.sets }
+    requires live { NoneEmpty w.now.store.now.sets }
+    ensures { result ≡ last_possible_use users.now w.now.store.now.sets }
+{
+    let mut last = 0;
+    for u in users {
+        let time = greatest_time(w, u.at);
+        if time > last {
+            if may_choose(w, u.choice, u.value) {
+                last = time;
+            }
+        }
+    }
+    last
+}
+
+/// The greatest end of a temporary.
+pub(crate) fn greatest_end(w: &Window<'_>, a: &Temp) -> u64
+    requires vars { TempVars w.now.vars.now a.now }
+    requires known { HasVars w.now.vars.now w.now.store.now.sets }
+    requires live { NoneEmpty w.now.store.now.sets }
+    ensures { result ≡ greatest_end a.now w.now.store.now.sets }
+{
+    let start = u64::from(greatest_time(w, a.at));
+    let last = u64::from(last_possible_use(w, a.users.as_slice()));
     last.max(start + 1)
 }

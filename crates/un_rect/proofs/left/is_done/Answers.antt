@@ -15,7 +15,7 @@ is_idle-requires-clause-of_b c = subst (λ (a : Temp). TempVars c.args.w.now.var
 
 pub returns-then-j-left : goal.returns-then-j-left
 returns-then-j-left c = λ b.
-    (let none : Left = record { opened = Nothing; reg = 0; one = false } in
+    (let none : Left = record { opened = Nothing; reg = 0; one = false; first = 0; end = 0 } in
     let s = c.args.w.now.store.now.sets in
     let a = get_or c.args.temps.now c.args.j b in
     c.is_more.ensures ∙ (ap (λ (x : Left). is_more x.opened) (c.requires.are c.args.j b none c.requires.there c.if-j-left.true)
