@@ -16,7 +16,7 @@ use crate::table::{NONE, Table};
 use std::alloc::{AllocError, Global};
 
 /// What a trial does besides following its order.
-#[derive(Clone, Copy)]
+#[derive(Clone, Copy, PartialEq)]
 pub struct Manner {
     /// Whether a saved value that ends in a register may be spilled in between.
     pub spill_saved: bool,
@@ -146,6 +146,8 @@ pub struct Trial<'a> {
     /// For each value the first place that reads it, from the present place on and behind it; NONE where there is none.
     next_use: Table<u32>,
     use_behind: Table<u32>,
+    /// For each operand of a place still to come the next place that reads its value, the nearest operand last.
+    later_uses: Vec<u32>,
     /// The block's variables from its first on.
     values: Table<u32>,
     /// What each packet has given away.
@@ -180,6 +182,7 @@ impl<'a> Trial<'a> {
             calls: Vec::new(alloc),
             next_use: no_numbers(alloc, NONE),
             use_behind: no_numbers(alloc, NONE),
+            later_uses: Vec::new(alloc),
             values: no_numbers(alloc, 0),
             counts: Table::of(Vec::new(alloc), NO_NEEDS),
             stays: Table::of(Vec::new(alloc), NOWHERE),
@@ -207,7 +210,7 @@ impl<'a> Trial<'a> {
         self.order.copy_from(order)?;
         self.clear()?;
         self.note_order()?;
-        self.note_uses();
+        self.note_uses()?;
         Ok(self.sweep())
     }
 
@@ -216,7 +219,6 @@ impl<'a> Trial<'a> {
         let block = self.task.block;
         self.marks = START;
         self.next_use.refill(block.temporaries.len(), NONE)?;
-        self.use_behind.refill(block.temporaries.len(), NONE)?;
         self.values.refill(block.variables, 0)?;
         self.counts.refill(block.horizon, NO_NEEDS)?;
         self.stays.refill(block.temporaries.len(), NOWHERE)?;
@@ -242,25 +244,30 @@ impl<'a> Trial<'a> {
         Ok(())
     }
 
-    /// Notes the registers in which values end, and the first place that reads each value.
-    fn note_uses(&mut self) {
+    /// Notes the registers in which values end, and which place reads each value first and which next.
+    fn note_uses(&mut self) -> Result<(), AllocError> {
         let length = self.length();
+        self.later_uses.clear();
         for x in &self.operation(self.task.block.output).operands {
             let r = self.place_at_end(x);
             self.marks.ends_in = self.marks.ends_in.with(r);
-            self.note_use(x.value, length.saturating_add(1));
+            self.next_use.put(x.value, length.saturating_add(1));
         }
         for i in 0..length.saturating_add(1) {
-            let place = length.saturating_sub(i);
-            for x in &self.operation(self.operation_at(place)).operands {
-                self.note_use(x.value, place);
-            }
+            self.note_uses_at(length.saturating_sub(i))?;
         }
+        self.use_behind.copy_from(self.next_use.as_slice())
     }
 
-    fn note_use(&mut self, v: u32, place: u32) {
-        self.next_use.put(v, place);
-        self.use_behind.put(v, place);
+    /// Notes the uses at a place, where those behind it are noted.
+    fn note_uses_at(&mut self, place: u32) -> Result<(), AllocError> {
+        let operands = self.operation(self.operation_at(place)).operands.as_slice();
+        for x in operands.iter().rev() {
+            let later = self.next_use.at(x.value);
+            self.later_uses.push(later)?;
+            self.next_use.put(x.value, place);
+        }
+        Ok(())
     }
 
     /// How many copies the trial made.
@@ -317,12 +324,11 @@ impl<'a> Trial<'a> {
 
     fn fits(&self, cycle: u32, needs: Needs) -> bool {
         let used = self.counts.at(cycle);
+        let mut fits = true;
         for k in 0..5 {
-            if used[k].saturating_add(needs[k]) > ROOM[k] {
-                return false;
-            }
+            fits = fits && used[k].saturating_add(needs[k]) <= ROOM[k];
         }
-        true
+        fits
     }
 
     /// The first cycle from `earliest` on with room; the horizon where there is none.

@@ -3,7 +3,7 @@
 
 use super::{Trial, place_of};
 use crate::facts::{Operand, copy_instruction};
-use crate::pairs::{Pair, Pairs};
+use crate::pairs::{LAST, Pair, Pairs};
 use crate::sets::{FIRST_SLOT, GENERAL, PREDICATES, RegisterSet, Space, space_at};
 use crate::table::NONE;
 
@@ -59,14 +59,17 @@ impl<'a> Trial<'a> {
         Some(got)
     }
 
-    /// An operand's alternative in one of these registers that is available first, the first of them; NONE where there is none.
-    fn standing(&self, x: &Operand, wanted: RegisterSet) -> u32 {
-        let mut left = self.stands_in.at(x.value).and(wanted);
-        let mut best = NONE;
-        let mut least = Pair {
-            place: NONE,
-            item: NONE,
+    /// Which of an operand's alternatives stands in one of these registers, its place and the temporary: the one that is available
+    /// first, the first of them.
+    pub(super) fn standing(&self, x: &Operand) -> Option<Pair> {
+        let wanted = if self.temporary(x.value).is_predicate {
+            PREDICATES
+        } else {
+            GENERAL
         };
+        let mut left = self.stands_in.at(x.value).and(wanted);
+        let mut best = None;
+        let mut least = LAST;
         for _ in 0..FIRST_SLOT {
             let Some(r) = left.take_least() else {
                 break;
@@ -75,13 +78,13 @@ impl<'a> Trial<'a> {
             let Some(place) = place_of(x.alternatives.as_slice(), t) else {
                 continue;
             };
-            let it = Pair {
+            let rank = Pair {
                 place: self.stays.at(t).available,
                 item: place,
             };
-            if it.is_below(least) {
-                least = it;
-                best = t;
+            if rank.is_below(least) {
+                least = rank;
+                best = Some(Pair { place, item: t });
             }
         }
         best
@@ -103,12 +106,10 @@ impl<'a> Trial<'a> {
 
     /// The temporary that an operand reads: one that stands in a register, else a new one.
     pub(super) fn acquire(&mut self, x: &Operand, hint: u32) -> Option<u32> {
-        let is_predicate = self.temporary(x.value).is_predicate;
-        let wanted = if is_predicate { PREDICATES } else { GENERAL };
-        let best = self.standing(x, wanted);
-        if best != NONE {
-            return Some(best);
+        if let Some(found) = self.standing(x) {
+            return Some(found.item);
         }
+        let is_predicate = self.temporary(x.value).is_predicate;
         let source = self.source(x);
         self.lock(source);
         let earliest = self.stays.at(source).available;

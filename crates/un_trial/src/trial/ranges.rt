@@ -39,23 +39,6 @@ impl<'a> Trial<'a> {
         r != NONE && r >= FIRST_SLOT
     }
 
-    /// The first place from `from` on that reads a value; NONE where there is none.
-    fn first_use(&self, v: u32, from: u32) -> u32 {
-        let x = self.temporary(v);
-        let mut first = if x.at_end == NONE {
-            NONE
-        } else {
-            self.length().saturating_add(1)
-        };
-        for o in &x.readers {
-            let p = self.position_of.at(*o);
-            if p >= from && p < first {
-                first = p;
-            }
-        }
-        first
-    }
-
     fn first_call(&self, from: u32) -> u32 {
         self.calls
             .iter()
@@ -75,7 +58,7 @@ impl<'a> Trial<'a> {
         self.marks.position = place;
         let behind = place.saturating_add(1);
         for x in &self.operation(self.operation_at(place)).operands {
-            let next = self.first_use(x.value, behind);
+            let next = self.later_uses.pop().unwrap_or(NONE);
             self.use_behind.put(x.value, next);
         }
         self.marks.next_call = self.first_call(behind);
