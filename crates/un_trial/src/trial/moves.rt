@@ -231,31 +231,39 @@ impl<'a> Trial<'a> {
         Some(made)
     }
 
-    /// The first wanted register that can be filled now.
-    fn first_vacant(&mut self, reader: u32, wanted: &Pairs) -> Option<Pair> {
+    /// The place of the first wanted register that can be filled now.
+    fn first_vacant(&mut self, reader: u32, wanted: &Pairs) -> Option<u32> {
         for i in 0..wanted.len() {
             if self.vacate(wanted.at(i).item, reader, wanted) {
-                return Some(wanted.at(i));
+                return Some(i);
             }
         }
         None
     }
 
-    /// One round of moves: one operand, or a ring. Answers what was brought.
-    fn move_some(&mut self, reader: u32, wanted: &Pairs) -> Option<Pairs> {
+    /// Brings the wanted operand at a place, whose register can be filled now.
+    fn move_one(&mut self, operands: &[Operand], wanted: &mut Pairs, i: u32) -> Option<Pair> {
+        let Pair { place, item } = wanted.at(i);
+        wanted.remove(i);
+        let t = self.bring(operands.get(place as usize)?, item)?;
+        self.lock(t);
+        Some(Pair { place, item: t })
+    }
+
+    /// One round of moves: one operand, or a ring, out of what is wanted, to what was got.
+    fn move_some(&mut self, reader: u32, wanted: &mut Pairs, got: &mut Pairs) -> Option<()> {
         let operands = self.operation(reader).operands.as_slice();
-        let mut made = Pairs::new();
-        match self.first_vacant(reader, wanted) {
-            Some(ready) => {
-                let x = operands.get(ready.place as usize)?;
-                made.push(ready.place, self.bring(x, ready.item)?)?;
-            }
-            None => match self.ring(operands, wanted) {
-                Some(ring) => made = self.rotate(operands, &ring)?,
-                None => self.break_ring(wanted)?,
-            },
+        if let Some(i) = self.first_vacant(reader, wanted) {
+            let made = self.move_one(operands, wanted, i)?;
+            return got.push(made.place, made.item);
         }
-        Some(made)
+        let Some(ring) = self.ring(operands, wanted) else {
+            return self.break_ring(wanted);
+        };
+        let made = self.rotate(operands, &ring)?;
+        self.lock_all(&made);
+        *wanted = wanted.without(&made)?;
+        got.append(&made)
     }
 
     /// Brings operands of one reader into given registers. Answers the temporaries.
@@ -278,10 +286,7 @@ impl<'a> Trial<'a> {
             if wanted.len() == 0 {
                 break;
             }
-            let made = self.move_some(reader, &wanted)?;
-            self.lock_all(&made);
-            wanted = wanted.without(&made)?;
-            got.append(&made)?;
+            self.move_some(reader, &mut wanted, &mut got)?;
         }
         if wanted.len() == 0 { Some(got) } else { None }
     }
