@@ -75,6 +75,14 @@ impl<'a> Scope<'a> {
         o.0.saturating_sub(self.first_op)
     }
 
+    /// The variable of an operation's cycle, NONE where there is none.
+    pub fn cycle(&self, o: u32) -> u32 {
+        match self.vars.ops.as_slice().get(o as usize) {
+            Some(vars) => number_of(vars.cycle),
+            None => NONE,
+        }
+    }
+
     /// The value that a temporary carries.
     pub fn value(&self, t: u32) -> u32 {
         match self.temp(t) {
@@ -225,6 +233,7 @@ fn gaps(alloc: Global, s: &Scope<'_>, o: OpId) -> Result<Vec<Gap>, AllocError> {
         if arc.to == o && is_issued(s, arc.from) {
             list.push(Gap {
                 from: s.local_op(arc.from),
+                issue: s.cycle(s.local_op(arc.from)),
                 cycles: arc.gap,
             })?;
         }

@@ -22,6 +22,11 @@ impl Recipe {
         }
     }
 
+    /// Whether a trial by the other recipe would be the same.
+    pub fn is_same(&self, other: &Recipe) -> bool {
+        self.manner == other.manner && self.order.as_slice() == other.order.as_slice()
+    }
+
     pub fn copy_from(&mut self, order: &[u32], manner: Manner) -> Result<(), AllocError> {
         self.manner = manner;
         copy_list(&mut self.order, order)

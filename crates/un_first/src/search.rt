@@ -149,7 +149,7 @@ impl<'a> Search<'a> {
         mem::swap(&mut self.recipe, &mut mine.best.recipe);
     }
 
-    /// Makes one trial of a block.
+    /// Makes one trial of a block, unless it would be that of its best schedule again.
     fn try_block(
         &mut self,
         b: u32,
@@ -158,6 +158,21 @@ impl<'a> Search<'a> {
         mine: &mut BlockPlan,
     ) -> Result<(), AllocError> {
         self.next_recipe(b, block, mine)?;
+        self.left = self.left.saturating_sub(1);
+        mine.tried = mine.tried.saturating_add(1);
+        if mine.is_found && self.recipe.is_same(&mine.best.recipe) {
+            return Ok(());
+        }
+        self.run_trial(block, scene, mine)
+    }
+
+    /// Makes the trial of a block by the recipe.
+    fn run_trial(
+        &mut self,
+        block: &'a Block,
+        scene: &Scene<'_>,
+        mine: &mut BlockPlan,
+    ) -> Result<(), AllocError> {
         let task = Task {
             block: &block.facts,
             frame: scene.frame,
@@ -171,8 +186,6 @@ impl<'a> Search<'a> {
         let end = self
             .trial
             .run(task, start, finish, self.recipe.order.as_slice())?;
-        self.left = self.left.saturating_sub(1);
-        mine.tried = mine.tried.saturating_add(1);
         if let Some(found) = end {
             self.keep(found, mine);
         }

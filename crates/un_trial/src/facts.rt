@@ -70,6 +70,8 @@ pub struct Operand {
 pub struct Gap {
     /// The operation that comes first.
     pub from: u32,
+    /// The variable of its cycle; NONE where it is the block's start.
+    pub issue: u32,
     /// How many cycles after it the other issues, at least.
     pub cycles: u32,
 }

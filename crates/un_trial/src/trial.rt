@@ -16,7 +16,7 @@ use crate::table::{NONE, Table};
 use std::alloc::{AllocError, Global};
 
 /// What a trial does besides following its order.
-#[derive(Clone, Copy)]
+#[derive(Clone, Copy, PartialEq)]
 pub struct Manner {
     /// Whether a saved value that ends in a register may be spilled in between.
     pub spill_saved: bool,
@@ -84,6 +84,9 @@ const NOWHERE: Stay = Stay {
 
 const NO_NEEDS: Needs = [0, 0, 0, 0, 0];
 
+/// An instruction that needs nothing but its place.
+const ONE: Needs = [1, 0, 0, 0, 0];
+
 /// How far a trial has come.
 #[derive(Clone, Copy)]
 struct Marks {
@@ -97,6 +100,8 @@ struct Marks {
     position: u32,
     /// The place of the next call behind it; NONE where there is none.
     next_call: u32,
+    /// The first cycle with room for an instruction: all before it are full.
+    open_from: u32,
     /// What the schedule comes to at least.
     least: Size,
     last_cycle: u32,
@@ -112,7 +117,8 @@ const START: Marks = Marks {
     ends_in: EMPTY,
     vacant: ALL,
     position: 0,
-    next_call: NONE,
+    next_call: 0,
+    open_from: 1,
     least: Size { end: 0, copies: 0 },
     last_cycle: 0,
     last_touch: 0,
@@ -143,9 +149,10 @@ pub struct Trial<'a> {
     order: Table<u32>,
     position_of: Table<u32>,
     calls: Vec<u32>,
-    /// For each value the first place that reads it, from the present place on and behind it; NONE where there is none.
-    next_use: Table<u32>,
+    /// For each value the first place behind the present one that reads it; NONE where there is none.
     use_behind: Table<u32>,
+    /// For each operand of a place still to come the next place that reads its value, the nearest operand last.
+    later_uses: Vec<u32>,
     /// The block's variables from its first on.
     values: Table<u32>,
     /// What each packet has given away.
@@ -178,8 +185,8 @@ impl<'a> Trial<'a> {
             order: no_numbers(alloc, NONE),
             position_of: no_numbers(alloc, NONE),
             calls: Vec::new(alloc),
-            next_use: no_numbers(alloc, NONE),
             use_behind: no_numbers(alloc, NONE),
+            later_uses: Vec::new(alloc),
             values: no_numbers(alloc, 0),
             counts: Table::of(Vec::new(alloc), NO_NEEDS),
             stays: Table::of(Vec::new(alloc), NOWHERE),
@@ -207,7 +214,7 @@ impl<'a> Trial<'a> {
         self.order.copy_from(order)?;
         self.clear()?;
         self.note_order()?;
-        self.note_uses();
+        self.note_uses()?;
         Ok(self.sweep())
     }
 
@@ -215,7 +222,6 @@ impl<'a> Trial<'a> {
     fn clear(&mut self) -> Result<(), AllocError> {
         let block = self.task.block;
         self.marks = START;
-        self.next_use.refill(block.temporaries.len(), NONE)?;
         self.use_behind.refill(block.temporaries.len(), NONE)?;
         self.values.refill(block.variables, 0)?;
         self.counts.refill(block.horizon, NO_NEEDS)?;
@@ -242,25 +248,29 @@ impl<'a> Trial<'a> {
         Ok(())
     }
 
-    /// Notes the registers in which values end, and the first place that reads each value.
-    fn note_uses(&mut self) {
+    /// Notes the registers in which values end, and which place reads each value first and which next.
+    fn note_uses(&mut self) -> Result<(), AllocError> {
         let length = self.length();
+        self.later_uses.clear();
         for x in &self.operation(self.task.block.output).operands {
             let r = self.place_at_end(x);
             self.marks.ends_in = self.marks.ends_in.with(r);
-            self.note_use(x.value, length.saturating_add(1));
+            self.use_behind.put(x.value, length.saturating_add(1));
         }
         for i in 0..length.saturating_add(1) {
-            let place = length.saturating_sub(i);
-            for x in &self.operation(self.operation_at(place)).operands {
-                self.note_use(x.value, place);
-            }
+            self.note_uses_at(length.saturating_sub(i))?;
         }
+        Ok(())
     }
 
-    fn note_use(&mut self, v: u32, place: u32) {
-        self.next_use.put(v, place);
-        self.use_behind.put(v, place);
+    /// Notes the uses at a place, where those behind it are noted.
+    fn note_uses_at(&mut self, place: u32) -> Result<(), AllocError> {
+        let operands = self.operation(self.operation_at(place)).operands.as_slice();
+        for x in operands.iter().rev() {
+            self.later_uses.push(self.use_behind.at(x.value))?;
+            self.use_behind.put(x.value, place);
+        }
+        Ok(())
     }
 
     /// How many copies the trial made.
@@ -303,10 +313,10 @@ impl<'a> Trial<'a> {
         self.values.put(variable.saturating_sub(first), x);
     }
 
-    fn cycle_of(&self, o: u32) -> u32 {
-        let variable = self.operation(o).cycle;
-        self.values
-            .at(variable.saturating_sub(self.task.block.first_variable))
+    /// The value of a variable, 0 where the block has none.
+    fn value(&self, variable: u32) -> u32 {
+        let first = self.task.block.first_variable;
+        self.values.at(variable.saturating_sub(first))
     }
 
     fn choose(&mut self, x: &Operand, t: u32) -> Option<()> {
@@ -317,18 +327,17 @@ impl<'a> Trial<'a> {
 
     fn fits(&self, cycle: u32, needs: Needs) -> bool {
         let used = self.counts.at(cycle);
+        let mut fits = true;
         for k in 0..5 {
-            if used[k].saturating_add(needs[k]) > ROOM[k] {
-                return false;
-            }
+            fits = fits && used[k].saturating_add(needs[k]) <= ROOM[k];
         }
-        true
+        fits
     }
 
     /// The first cycle from `earliest` on with room; the horizon where there is none.
     fn first_fit(&self, earliest: u32, needs: Needs) -> u32 {
         let horizon = self.task.block.horizon;
-        for c in earliest.max(1)..horizon {
+        for c in earliest.max(self.marks.open_from)..horizon {
             if self.fits(c, needs) {
                 return c;
             }
@@ -342,6 +351,9 @@ impl<'a> Trial<'a> {
             used[k] = used[k].saturating_add(needs[k]);
         }
         self.counts.put(cycle, used);
+        if cycle == self.marks.open_from && used[0] >= ROOM[0] {
+            self.marks.open_from = self.first_fit(cycle.saturating_add(1), ONE);
+        }
         self.marks.last_cycle = self.marks.last_cycle.max(cycle);
         let end = cycle.saturating_add(self.task.block.tails.at(o));
         self.marks.least.end = self.marks.least.end.max(end);
@@ -352,7 +364,7 @@ impl<'a> Trial<'a> {
     fn ready(&self, o: u32) -> u32 {
         let mut ready = 1;
         for gap in &self.operation(o).before {
-            ready = ready.max(self.cycle_of(gap.from).saturating_add(gap.cycles));
+            ready = ready.max(self.value(gap.issue).saturating_add(gap.cycles));
         }
         ready
     }

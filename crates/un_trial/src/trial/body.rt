@@ -20,8 +20,23 @@ impl<'a> Trial<'a> {
         }
     }
 
-    /// Gets what an operation's operands read, each in a register of its own.
-    fn acquire_all(&mut self, op: &Operation) -> Option<()> {
+    /// Takes for each operand of an operation an alternative that stands in a register. Whether each has one.
+    fn take_standing(&mut self, op: &Operation) -> bool {
+        self.got.clear();
+        for x in &op.operands {
+            let Some(found) = self.standing(x) else {
+                return false;
+            };
+            self.set(x.choice, found.place);
+            if self.got.push(self.got.len(), found.item).is_none() {
+                return false;
+            }
+        }
+        true
+    }
+
+    /// Gets what an operation's operands read, each in a register of its own, where not each has one.
+    fn bring_all(&mut self, op: &Operation) -> Option<()> {
         self.got.clear();
         self.marks.locked = EMPTY;
         for x in &op.operands {
@@ -34,6 +49,14 @@ impl<'a> Trial<'a> {
             self.choose(x, t)?;
         }
         Some(())
+    }
+
+    /// Gets what an operation's operands read, each in a register.
+    fn acquire_all(&mut self, op: &Operation) -> Option<()> {
+        if self.take_standing(op) {
+            return Some(());
+        }
+        self.bring_all(op)
     }
 
     /// The least cycle that the precedences to an operation and the temporaries that it reads allow.

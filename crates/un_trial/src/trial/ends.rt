@@ -23,7 +23,7 @@ impl<'a> Trial<'a> {
             self.marks.frame_from = 2;
         }
         for t in &block.input {
-            if self.next_use.at(*t) == NONE {
+            if self.use_behind.at(*t) == NONE {
                 self.release(*t);
             }
         }

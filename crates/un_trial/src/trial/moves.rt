@@ -3,7 +3,7 @@
 
 use super::{Trial, place_of};
 use crate::facts::{Operand, copy_instruction};
-use crate::pairs::{Pair, Pairs};
+use crate::pairs::{LAST, Pair, Pairs};
 use crate::sets::{FIRST_SLOT, GENERAL, PREDICATES, RegisterSet, Space, space_at};
 use crate::table::NONE;
 
@@ -59,14 +59,17 @@ impl<'a> Trial<'a> {
         Some(got)
     }
 
-    /// An operand's alternative in one of these registers that is available first, the first of them; NONE where there is none.
-    fn standing(&self, x: &Operand, wanted: RegisterSet) -> u32 {
-        let mut left = self.stands_in.at(x.value).and(wanted);
-        let mut best = NONE;
-        let mut least = Pair {
-            place: NONE,
-            item: NONE,
+    /// Which of an operand's alternatives stands in one of these registers, its place and the temporary: the one that is available
+    /// first, the first of them.
+    pub(super) fn standing(&self, x: &Operand) -> Option<Pair> {
+        let wanted = if self.temporary(x.value).is_predicate {
+            PREDICATES
+        } else {
+            GENERAL
         };
+        let mut left = self.stands_in.at(x.value).and(wanted);
+        let mut best = None;
+        let mut least = LAST;
         for _ in 0..FIRST_SLOT {
             let Some(r) = left.take_least() else {
                 break;
@@ -75,13 +78,13 @@ impl<'a> Trial<'a> {
             let Some(place) = place_of(x.alternatives.as_slice(), t) else {
                 continue;
             };
-            let it = Pair {
+            let rank = Pair {
                 place: self.stays.at(t).available,
                 item: place,
             };
-            if it.is_below(least) {
-                least = it;
-                best = t;
+            if rank.is_below(least) {
+                least = rank;
+                best = Some(Pair { place, item: t });
             }
         }
         best
@@ -103,12 +106,10 @@ impl<'a> Trial<'a> {
 
     /// The temporary that an operand reads: one that stands in a register, else a new one.
     pub(super) fn acquire(&mut self, x: &Operand, hint: u32) -> Option<u32> {
-        let is_predicate = self.temporary(x.value).is_predicate;
-        let wanted = if is_predicate { PREDICATES } else { GENERAL };
-        let best = self.standing(x, wanted);
-        if best != NONE {
-            return Some(best);
+        if let Some(found) = self.standing(x) {
+            return Some(found.item);
         }
+        let is_predicate = self.temporary(x.value).is_predicate;
         let source = self.source(x);
         self.lock(source);
         let earliest = self.stays.at(source).available;
@@ -230,31 +231,39 @@ impl<'a> Trial<'a> {
         Some(made)
     }
 
-    /// The first wanted register that can be filled now.
-    fn first_vacant(&mut self, reader: u32, wanted: &Pairs) -> Option<Pair> {
+    /// The place of the first wanted register that can be filled now.
+    fn first_vacant(&mut self, reader: u32, wanted: &Pairs) -> Option<u32> {
         for i in 0..wanted.len() {
             if self.vacate(wanted.at(i).item, reader, wanted) {
-                return Some(wanted.at(i));
+                return Some(i);
             }
         }
         None
     }
 
-    /// One round of moves: one operand, or a ring. Answers what was brought.
-    fn move_some(&mut self, reader: u32, wanted: &Pairs) -> Option<Pairs> {
+    /// Brings the wanted operand at a place, whose register can be filled now.
+    fn move_one(&mut self, operands: &[Operand], wanted: &mut Pairs, i: u32) -> Option<Pair> {
+        let Pair { place, item } = wanted.at(i);
+        wanted.remove(i);
+        let t = self.bring(operands.get(place as usize)?, item)?;
+        self.lock(t);
+        Some(Pair { place, item: t })
+    }
+
+    /// One round of moves: one operand, or a ring, out of what is wanted, to what was got.
+    fn move_some(&mut self, reader: u32, wanted: &mut Pairs, got: &mut Pairs) -> Option<()> {
         let operands = self.operation(reader).operands.as_slice();
-        let mut made = Pairs::new();
-        match self.first_vacant(reader, wanted) {
-            Some(ready) => {
-                let x = operands.get(ready.place as usize)?;
-                made.push(ready.place, self.bring(x, ready.item)?)?;
-            }
-            None => match self.ring(operands, wanted) {
-                Some(ring) => made = self.rotate(operands, &ring)?,
-                None => self.break_ring(wanted)?,
-            },
+        if let Some(i) = self.first_vacant(reader, wanted) {
+            let made = self.move_one(operands, wanted, i)?;
+            return got.push(made.place, made.item);
         }
-        Some(made)
+        let Some(ring) = self.ring(operands, wanted) else {
+            return self.break_ring(wanted);
+        };
+        let made = self.rotate(operands, &ring)?;
+        self.lock_all(&made);
+        *wanted = wanted.without(&made)?;
+        got.append(&made)
     }
 
     /// Brings operands of one reader into given registers. Answers the temporaries.
@@ -277,10 +286,7 @@ impl<'a> Trial<'a> {
             if wanted.len() == 0 {
                 break;
             }
-            let made = self.move_some(reader, &wanted)?;
-            self.lock_all(&made);
-            wanted = wanted.without(&made)?;
-            got.append(&made)?;
+            self.move_some(reader, &mut wanted, &mut got)?;
         }
         if wanted.len() == 0 { Some(got) } else { None }
     }

@@ -39,23 +39,6 @@ impl<'a> Trial<'a> {
         r != NONE && r >= FIRST_SLOT
     }
 
-    /// The first place from `from` on that reads a value; NONE where there is none.
-    fn first_use(&self, v: u32, from: u32) -> u32 {
-        let x = self.temporary(v);
-        let mut first = if x.at_end == NONE {
-            NONE
-        } else {
-            self.length().saturating_add(1)
-        };
-        for o in &x.readers {
-            let p = self.position_of.at(*o);
-            if p >= from && p < first {
-                first = p;
-            }
-        }
-        first
-    }
-
     fn first_call(&self, from: u32) -> u32 {
         self.calls
             .iter()
@@ -66,19 +49,25 @@ impl<'a> Trial<'a> {
 
     /// Goes on to a place of the order: what is read there is read next behind it.
     pub(super) fn go_to(&mut self, place: u32) {
-        for x in &self
-            .operation(self.operation_at(self.marks.position))
-            .operands
-        {
-            self.next_use.put(x.value, self.use_behind.at(x.value));
-        }
         self.marks.position = place;
-        let behind = place.saturating_add(1);
         for x in &self.operation(self.operation_at(place)).operands {
-            let next = self.first_use(x.value, behind);
+            let next = self.later_uses.pop().unwrap_or(NONE);
             self.use_behind.put(x.value, next);
         }
-        self.marks.next_call = self.first_call(behind);
+        if place >= self.marks.next_call {
+            self.marks.next_call = self.first_call(place.saturating_add(1));
+        }
+    }
+
+    /// The first place from the present one on that reads a value; NONE where there is none.
+    pub(super) fn next_use(&self, v: u32) -> u32 {
+        let place = self.marks.position;
+        for x in &self.operation(self.operation_at(place)).operands {
+            if x.value == v {
+                return place;
+            }
+        }
+        self.use_behind.at(v)
     }
 
     /// Whether a value is needed in a register behind a call that is still to come.

@@ -97,7 +97,7 @@ impl<'a> Trial<'a> {
     fn eviction_score(&self, t: u32) -> u64 {
         let v = self.value_of(t);
         let x = self.temporary(v);
-        let next = self.next_use.at(v);
+        let next = self.next_use(v);
         if !self.is_resident(t) {
             return 0;
         }
@@ -155,7 +155,7 @@ impl<'a> Trial<'a> {
 
     /// Whether a temporary alone carries a value that is still read.
     fn is_needed(&self, t: u32) -> bool {
-        self.next_use.at(self.value_of(t)) != NONE && !self.is_elsewhere(t)
+        self.next_use(self.value_of(t)) != NONE && !self.is_elsewhere(t)
     }
 
     fn leave(&mut self, t: u32) -> Option<u32> {
