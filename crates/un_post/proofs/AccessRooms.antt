@@ -31,7 +31,7 @@ use Rattle.un_model.specs.Schedules.{schedule_of, issues_of, value_by}
 use Rattle.un_model.specs.Solutions.{IsSchedule, IsPlaced, IsPlacedAs, Precedes, HasFrame, is_frame_access, frame_distance, latency_gap}
 use Rattle.un_model.specs.Solutions.{share_of, issues_at}
 use Rattle.un_model.specs.Variables.{model_of}
-use Rattle.un_model.proofs.Lists.{Each, Member, each_member, each_of, each_all, member_at}
+use Rattle.un_model.proofs.Lists.{Each, Member, each_member, each_of, each_all, each_more, member_at}
 use Rattle.un_model.proofs.Placed.{Placed, vars_of, issue_at}
 use Rattle.un_model.proofs.PlacedSchedules.{issue_here}
 use Rattle.un_press.specs.Accesses.{is_spill, is_reload, spills_by, reloads_after, Spills, Reloads}
@@ -199,9 +199,9 @@ after_enter_one : (a b : Option Op) (c d : ℕ) → a ≡ Some EnterOp → b ≡
 after_enter_one a b c d f g h = subst (λ (z : Option Op). IfSome (frame_distance (Some EnterOp) z) (λ (n : ℕ). c + n ≤ d)) g
     (subst (λ (z : Option Op). IfSome (frame_distance z b) (λ (n : ℕ). c + n ≤ d)) f h)
 
-enter_on : (b : Bool) → is_some (if b then None else Some EnterOp) ≡ true → (if b then None else Some EnterOp) ≡ Some EnterOp
-enter_on true h = absurd (cc h)
-enter_on false h = refl
+pub frame_on : (op : Op) (b : Bool) → is_some (if b then None else Some op) ≡ true → (if b then None else Some op) ≡ Some op
+frame_on op true h = absurd (cc h)
+frame_on op false h = refl
 
 module _ (e : Ext) (o : Options) (x : List ℕ) (given : Given e o x)
     (schedule : IsSchedule (latency_gap e.table) (model_of e o).domains (model_of e o) x (schedule_of (model_of e o) x)) where
@@ -229,12 +229,44 @@ module _ (e : Ext) (o : Options) (x : List ℕ) (given : Given e o x)
             let one = takes i.instr d.1 in
             omega (arith, same, one)
 
-  -- ---- Enter
+  -- ---- Enter and Leave
 
-  abbrev enter : Placed
+  -- they issue, in their order
+  pub record Framed : Type 0 where
+    pub active : Each (HasFrame true) issues
+    pub ordered : Each (λ (a : Issue). Each (Precedes frame_distance a) issues) issues
+
+  -- where a Spill or a Reload does
+  pub framed : (i : Issue) → Member i issues → is_frame_access i.instr ≡ true → Framed
+  framed i m access =
+      let frame = schedule.frame in
+      let used = or_left _ _ (any_one (λ (i : Issue). is_frame_access i.instr) issues i m access) in
+      let flag = frame.used used in
+      record {
+        active = each_all (HasFrame true) issues (frame.with_frame flag);
+        ordered = each_more (λ (a : Issue). All (Precedes frame_distance a) issues)
+            (λ (a : Issue). Each (Precedes frame_distance a) issues) issues
+            (λ a h. each_all (Precedes frame_distance a) issues h)
+            (each_all (λ (a : Issue). All (Precedes frame_distance a) issues) issues (frame.ordered flag));
+      }
+
+  -- one is so far behind another
+  pub distant : Framed → (i j : Issue) → Member i issues → Member j issues → i.block.0 ≡ j.block.0
+      → IfSome (frame_distance i.instr j.instr) (λ (n : ℕ). i.cycle + n ≤ j.cycle)
+  distant f i j mi mj same = precedes i j (each_member (Precedes frame_distance i) issues j
+      (each_member (λ (a : Issue). Each (Precedes frame_distance a) issues) issues i f.ordered mi) mj) same
+
+  -- what issues an instruction is within its block
+  pub placed_as : (i : Issue) (op : Op) → Member i issues → i.instr ≡ Some op → IsPlacedAs i.cycle i.end op
+  placed_as i op m is =
+      let latencies = schedule.latencies in
+      subst (λ (z : Option Op). IfSome z (IsPlacedAs i.cycle i.end)) is
+      (each_member IsPlaced issues i (each_all IsPlaced issues latencies.0) m)
+
+  abbrev pub enter : Placed
   enter = let one = one_enter e o x given in one.enter
 
-  abbrev enter_issue : Issue
+  abbrev pub enter_issue : Issue
   enter_issue = issue_at x enter
 
   enter_member : Member enter_issue issues
@@ -251,7 +283,7 @@ module _ (e : Ext) (o : Options) (x : List ℕ) (given : Given e o x)
 
   enter_instr : (kind : ExtKind) (n : ℕ) → is_enter kind ≡ true → (is_delimiter kind || is_some (instruction_of kind n)) ≡ true
       → instruction_of kind n ≡ Some EnterOp
-  enter_instr Enter n h a = enter_on (nat_eq n 0) a
+  enter_instr Enter n h a = frame_on EnterOp (nat_eq n 0) a
   enter_instr In n h a = absurd (cc h)
   enter_instr Out n h a = absurd (cc h)
   enter_instr (Body so) n h a = absurd (cc h)
@@ -259,27 +291,32 @@ module _ (e : Ext) (o : Options) (x : List ℕ) (given : Given e o x)
   enter_instr (Copy node) n h a = absurd (cc h)
   enter_instr Leave n h a = absurd (cc h)
 
-  -- a Spill of the entry issues after cycle 1
-  late : (i : Issue) → Member i issues → i.block.0 ≡ 0 → i.instr ≡ Some Spill → 1 < i.cycle
-  late i m block instr =
-      let frame = schedule.frame in
-      let used = or_left _ _ (any_one (λ (i : Issue). is_frame_access i.instr) issues i m (ap is_frame_access instr)) in
-      let flag = frame.used used in
+  pub entered : Framed → enter_issue.instr ≡ Some EnterOp
+  entered f =
       let one = one_enter e o x given in
       let v = vars_of enter in
-      let on : enter_issue.active ≡ true = each_member (HasFrame true) issues enter_issue
-      (each_all (HasFrame true) issues (frame.with_frame flag)) enter_member (enter_frames enter.op.kind one.is) in
-      let is : enter_issue.instr ≡ Some EnterOp = enter_instr enter.op.kind (value_by x v.instr) one.is on in
-      let latencies = schedule.latencies in
-      let placed = each_member IsPlaced issues enter_issue (each_all IsPlaced issues latencies.0) enter_member in
-      let there = subst (λ (z : Option Op). IfSome z (IsPlacedAs enter_issue.cycle enter_issue.end)) is placed in
-      let some = there.0.0 in
-      let ordered = each_member (λ (a : Issue). All (Precedes frame_distance a) issues) issues enter_issue
-      (each_all (λ (a : Issue). All (Precedes frame_distance a) issues) issues (frame.ordered flag)) enter_member in
-      let after = precedes enter_issue i (each_member (Precedes frame_distance enter_issue) issues i
-      (each_all (Precedes frame_distance enter_issue) issues ordered) m) (one.block ∙ sym block) in
-      let less = after_enter_one enter_issue.instr i.instr enter_issue.cycle i.cycle is instr after in
-      omega (arith, some, less)
+      let on : enter_issue.active ≡ true = each_member (HasFrame true) issues enter_issue f.active enter_member
+      (enter_frames enter.op.kind one.is) in
+      enter_instr enter.op.kind (value_by x v.instr) one.is on
+
+  -- a Spill of the entry issues after it, and so after cycle 1
+  pub record Late (i : Issue) : Type 0 where
+    pub is : enter_issue.instr ≡ Some EnterOp
+    pub some : 0 < enter_issue.cycle
+    pub after : enter_issue.cycle + 1 ≤ i.cycle
+
+  pub late : (i : Issue) → Member i issues → i.block.0 ≡ 0 → i.instr ≡ Some Spill → Late i
+  late i m block instr =
+      let f = framed i m (ap is_frame_access instr) in
+      let is = entered f in
+      let there = placed_as enter_issue EnterOp enter_member is in
+      let one = one_enter e o x given in
+      let after = distant f enter_issue i enter_member m (one.block ∙ sym block) in
+      record {
+        is = is;
+        some = there.0.0;
+        after = after_enter_one enter_issue.instr i.instr enter_issue.cycle i.cycle is instr after;
+      }
 
   -- ---- Spills
 
@@ -305,7 +342,10 @@ module _ (e : Ext) (o : Options) (x : List ℕ) (given : Given e o x)
           let a = three_of (i.block.0 == 0) (is_spill i.instr) (nat_lt 0 i.cycle && nat_le i.cycle t) k in
           let b = (and_iff (nat_lt 0 i.cycle) (nat_le i.cycle t)).1 a.2 in
           let le = (le_iff i.cycle t).1 b.1 in
-          let lt = late i m (eqb-true i.block.0 0 a.0) (spill_is i.instr a.1) in
+          let behind = late i m (eqb-true i.block.0 0 a.0) (spill_is i.instr a.1) in
+          let some = behind.some in
+          let after = behind.after in
+          let lt : 1 < i.cycle = omega (arith, some, after) in
           (and_iff ((i.block.0 == 0) && is_spill i.instr) (nat_lt 1 i.cycle && nat_le i.cycle (1 + (t - 1)))).0 (
             (and_iff (i.block.0 == 0) (is_spill i.instr)).0 (a.0, a.1),
             (and_iff (nat_lt 1 i.cycle) (nat_le i.cycle (1 + (t - 1)))).0 (

@@ -42,8 +42,8 @@ use Rattle.un_press.proofs.Crossings.{Crossing}
 use Rattle.un_press.proofs.Descent.{cycle_at, Reader}
 use Rattle.un_press.proofs.Kept.{saved_cover, entry_starts}
 use Rattle.un_press.proofs.Premises.{source_needs, end_needs, home_needs}
-use Rattle.un_press.proofs.Reloading.{NeedsRegister, Wanted, must_reload}
-use Rattle.un_press.proofs.Spilling.{Saved, must_spill}
+use Rattle.un_press.proofs.Reloading.{NeedsRegister, Wanted, ReloadedAfter, reload_copies, must_reload}
+use Rattle.un_press.proofs.Spilling.{Saved, Several, SpilledBy, spill_copies, must_spill}
 use Rattle.un_sites.specs.Lengths.{head_by, tail_by}
 use Rattle.un_sites.specs.Places.{Place}
 use Rattle.un_sites.specs.Rooms.{arcs_or, is_behind, temps_in}
@@ -54,6 +54,7 @@ use Rattle.un_post.proofs.Blocks.{blocks, region_places, in_all, stands_in, regi
 use Rattle.un_post.proofs.BlockTemps.{region_spots, definer_in, spot_all, spots_by_blocks, results_are as temps_are}
 use Rattle.un_post.proofs.CallOrder.{ordered}
 use Rattle.un_post.proofs.Facts.{Given, numbered, reading}
+use Rattle.un_post.proofs.Filling.{none_of, several_or_none, several_more}
 use Rattle.un_post.proofs.OneEnter.{filter_map}
 use Rattle.un_post.proofs.Placing.{place_of}
 use Rattle.un_post.proofs.Regions.{of_region}
@@ -509,23 +510,47 @@ module _ (e : Ext) (o : Options) (x : List ℕ) (given : Given e o x)
 
     -- ---- Spills
 
-    spilled : (n : ℕ) → r.block ≡ 0 → n + length (callee_saved e.table) ≤ length (crossing false arcs (region_places r) (place_of c))
-        → n ≤ (issue_at x c).cycle - 1
-    spilled n entry few =
-        let vs = across false in
-        let many = values_many false in
-        let block : c.block ≡ 0 = of_region r c mc ∙ entry in
-        spills_fit e o x given schedule (cycle_at e o x solved c) n
-        (subst (λ (b : ℕ). Spills (model_of e o) (record { values = x }) b (cycle_at e o x solved c) n) block
-        (must_spill e o x solved c all_c call (callee_saved e.table) (saved_cover e o x solved c) vs
-        (each_of (Saved e o x solved c) vs (λ v m.
+    saved : r.block ≡ 0 → Each (Saved e o x solved c) (across false)
+    saved entry = each_of (Saved e o x solved c) (across false) (λ v m.
         let k = crossed_by false v m in
         let w = k.of_value in
         record {
           crossing = crossed false v k;
           starts = λ start. entry_starts e o x solved w.own (spot_all e o x r w.own mr w.member)
               (of_region r (w.own).definer (definer_in (region_placed r) w.own w.member) ∙ entry) start;
-        }))
+        })
+
+    -- those that a call owes by its cycle
+    spillers : (n : ℕ) → r.block ≡ 0 → n + length (callee_saved e.table) ≤ length (crossing false arcs (region_places r) (place_of c))
+        → Several e o x solved (SpilledBy e o x solved c) n
+    spillers n entry few =
+        let many = values_many false in
+        spill_copies e o x solved c all_c call (callee_saved e.table) (saved_cover e o x solved c) (across false) (saved entry)
+        (values_differ false) n (omega (arith, few, many))
+
+    pub owed_spills : Several e o x solved (λ p. SpilledBy e o x solved c p × (r.block ≡ 0))
+        (spills_at e.table (r.block == 0) arcs (region_places r) (place_of c))
+    owed_spills = by (r.block == 0) refl
+      where
+        by : (b : Bool) → (r.block == 0) ≡ b
+            → Several e o x solved (λ p. SpilledBy e o x solved c p × (r.block ≡ 0))
+            (if b then length (crossing false arcs (region_places r) (place_of c)) - length (callee_saved e.table) else 0)
+        by false entry = none_of e o x solved (λ p. SpilledBy e o x solved c p × (r.block ≡ 0))
+        by true entry =
+            let n = length (crossing false arcs (region_places r) (place_of c)) - length (callee_saved e.table) in
+            let block = eqb-true r.block 0 entry in
+            several_or_none e o x solved (λ p. SpilledBy e o x solved c p × (r.block ≡ 0)) n (λ some.
+            several_more e o x solved (SpilledBy e o x solved c) (λ p. SpilledBy e o x solved c p × (r.block ≡ 0)) n (λ p h. (h, block))
+            (spillers n block (omega (arith, some))))
+
+    spilled : (n : ℕ) → r.block ≡ 0 → n + length (callee_saved e.table) ≤ length (crossing false arcs (region_places r) (place_of c))
+        → n ≤ (issue_at x c).cycle - 1
+    spilled n entry few =
+        let many = values_many false in
+        let block : c.block ≡ 0 = of_region r c mc ∙ entry in
+        spills_fit e o x given schedule (cycle_at e o x solved c) n
+        (subst (λ (b : ℕ). Spills (model_of e o) (record { values = x }) b (cycle_at e o x solved c) n) block
+        (must_spill e o x solved c all_c call (callee_saved e.table) (saved_cover e o x solved c) (across false) (saved entry)
         (values_differ false) n (omega (arith, few, many))))
 
     -- ---- Reloads
@@ -536,18 +561,28 @@ module _ (e : Ext) (o : Options) (x : List ℕ) (given : Given e o x)
         (each_of (λ (q : Placed). q.block ≡ r.block → (issue_at x q).end ≡ (issue_at x c).end) (all e o x) (λ q m same.
         ap (λ (v : VarId). slice_index x v.0) (sym (region_close r q (stands_in e o x r q mr m same)) ∙ region_close r c mc))))
 
+    wanted : Each (Wanted e o x solved c) (across true)
+    wanted = each_of (Wanted e o x solved c) (across true) (λ v m.
+        let k = crossed_by true v m in
+        record { crossing = crossed true v k; needs = wants true v k refl })
+
+    -- those that a call owes after its cycle
+    pub owed_reloads : Several e o x solved (ReloadedAfter e o x solved c) (reloads_at e.table arcs (region_places r) (place_of c))
+    owed_reloads =
+        let n = length (crossing true arcs (region_places r) (place_of c)) - length (callee_saved e.table) in
+        let many = values_many true in
+        several_or_none e o x solved (ReloadedAfter e o x solved c) n (λ some.
+        reload_copies e o x solved c all_c call (callee_saved e.table) (saved_cover e o x solved c) (across true) wanted
+        (values_differ true) n (omega (arith, some, many)))
+
     reloaded : (n : ℕ) → n + length (callee_saved e.table) ≤ length (crossing true arcs (region_places r) (place_of c))
         → n ≤ ((issue_at x c).end - latency_of e.table Reload - (issue_at x c).cycle)
         + ((issue_at x c).end - latency_of e.table Reload - (issue_at x c).cycle)
     reloaded n few =
-        let vs = across true in
         let many = values_many true in
         reloads_fit e o x given schedule r.block (cycle_at e o x solved c) (issue_at x c).end n ends
         (subst (λ (b : ℕ). Reloads (model_of e o) (record { values = x }) b (cycle_at e o x solved c) n) (of_region r c mc)
-        (must_reload e o x solved c all_c call (callee_saved e.table) (saved_cover e o x solved c) vs
-        (each_of (Wanted e o x solved c) vs (λ v m.
-        let k = crossed_by true v m in
-        record { crossing = crossed true v k; needs = wants true v k refl }))
+        (must_reload e o x solved c all_c call (callee_saved e.table) (saved_cover e o x solved c) (across true) wanted
         (values_differ true) n (omega (arith, few, many))))
 
     -- ---- its cycle

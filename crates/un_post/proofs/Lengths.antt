@@ -9,8 +9,6 @@ use Rattle.un_base.specs.declared.ids.VarId.{VarId}
 use Rattle.un_isa.specs.declared.packet_counts.Resource.{Resource}
 use Rattle.un_isa.specs.declared.packet_counts.Resource.TheVariants.{Instructions, Memory, Stores, MultiplyOrControl, Control}
 use Rattle.un_isa.specs.PacketCounts.{places_of as room_of, share_of as need_of}
-use Rattle.un_isa.specs.Tables.{latency_of}
-use Rattle.un_isa.specs.declared.op.Op.TheVariants.{Reload}
 use Rattle.un_isa.specs.declared.table.Table.{Table}
 use Rattle.un_ir.specs.declared.function.Term.TheVariants.{Fall, Jump, Branch, Ret}
 use Rattle.un_ir.specs.declared.extended.ExtKind.{ExtKind}
@@ -40,8 +38,7 @@ use Rattle.un_length.specs.BlockLaws.{fits_holds}
 use Rattle.un_kinds.specs.Constraints.{Constraint, AllMet, Before, meets}
 use Rattle.un_sites.specs.Befores.{arc_before, befores_in, known_befores, length_in, lengths_of}
 use Rattle.un_sites.specs.CallBefores.{call_befores_by}
-use Rattle.un_sites.specs.Crossings.{spills_at, reloads_at}
-use Rattle.un_sites.specs.Lengths.{is_task, tail_of, head_by, tail_by, var_in, task_of, tasks_in, task_place, precedence_by, precedences_by}
+use Rattle.un_sites.specs.Lengths.{is_task, tail_of, call_head, call_tail, cycles_in, var_in, task_of, tasks_in, task_place, precedence_by, precedences_by}
 use Rattle.un_sites.specs.Lengths.{length_by}
 use Rattle.un_sites.specs.Places.{Place, act_by, time_by, places_of}
 use Rattle.un_sites.specs.Postings.{issue_by, issues_in, with_kind}
@@ -52,12 +49,13 @@ use Rattle.un_post.proofs.CallOrder.{kept}
 use Rattle.un_post.proofs.Crossed.{heads, tails}
 use Rattle.un_post.proofs.Ends.{region_end}
 use Rattle.un_post.proofs.Facts.{Given, times}
+use Rattle.un_post.proofs.Filled.{heads_filled, tails_filled, end_filled}
 use Rattle.un_post.proofs.Latencies.{latencies}
 use Rattle.un_post.proofs.Meeting.{Met, all_each, joined_each}
 use Rattle.un_post.proofs.Memory.{kept_met}
 use Rattle.un_post.proofs.Packets.{share, no_room, whole_taken, sum_part}
 use Rattle.un_post.proofs.Placing.{place_of}
-use Rattle.un_post.proofs.Regions.{Ended, of_region, front_of, last_of, region_parts, front_stays}
+use Rattle.un_post.proofs.Regions.{Ended, of_region, front_of, last_of, region_parts, front_stays, out_is}
 use Rattle.un_post.proofs.Tests.{and_iff, eq_iff, le_iff}
 use Rattle.un_post.proofs.Whole.{posted_each}
 
@@ -124,14 +122,14 @@ tail_one (Copy node) h = refl
 tail_one Enter h = refl
 tail_one Leave h = refl
 
-call_tail : (kind : ExtKind) → is_call_kind kind ≡ true → tail_of kind ≡ 1
-call_tail (Body so) h = refl
-call_tail In h = absurd (cc h)
-call_tail Out h = absurd (cc h)
-call_tail (End term) h = absurd (cc h)
-call_tail (Copy node) h = absurd (cc h)
-call_tail Enter h = absurd (cc h)
-call_tail Leave h = absurd (cc h)
+call_tail_one : (kind : ExtKind) → is_call_kind kind ≡ true → tail_of kind ≡ 1
+call_tail_one (Body so) h = refl
+call_tail_one In h = absurd (cc h)
+call_tail_one Out h = absurd (cc h)
+call_tail_one (End term) h = absurd (cc h)
+call_tail_one (Copy node) h = absurd (cc h)
+call_tail_one Enter h = absurd (cc h)
+call_tail_one Leave h = absurd (cc h)
 
 out_task : (kind : ExtKind) → kind ≡ Out → is_task kind ≡ true
 out_task kind e = ap is_task e
@@ -403,16 +401,32 @@ module _ (e : Ext) (o : Options) (x : List ℕ) (given : Given e o x)
     abbrev IsBegun : Task → Type 0
     IsBegun t = t.head ≤ cycle_of x t
 
-    -- a call issues behind its Spills
-    begun_task : (q : Placed) → Member q (region_placed r) → is_task q.op.kind ≡ true → IsBegun (task q)
-    begun_task q m t = by (is_call_kind q.op.kind) refl
-      where
-        by : (b : Bool) → is_call_kind q.op.kind ≡ b
-            → (if b then head_by (spills_at e.table (r.block == 0) arcs (region_places r) (place_of q)) else 0) ≤ cycle_of x (task q)
-        by true k = let le = heads e o x given schedule r mr q m k in let same = cycle_is q t in omega (arith, le, same)
-        by false k = omega arith
+    -- the end is in the cycle of its variable
+    end_at : (q : Placed) → Member q (region_placed r) → is_out q.op.kind ≡ true → cycle_of x (task q) ≡ slice_index x close.0
+    end_at q m out =
+        let v = vars_of q in
+        ap (λ (kind : ExtKind). slice_index x (var_in (time_by q.close kind v.cycle)).0) (out_is q.op.kind out)
+        ∙ ap (λ (v : VarId). slice_index x v.0) (sym (region_close r q m))
 
-    -- and before its Reloads
+    -- a call issues behind its Spills and what is ahead of it, and the end behind all
+    begun_task : (q : Placed) → Member q (region_placed r) → is_task q.op.kind ≡ true → IsBegun (task q)
+    begun_task q m t = by (is_call_kind q.op.kind) (is_out q.op.kind) refl refl
+      where
+        by : (b c : Bool) → is_call_kind q.op.kind ≡ b → is_out q.op.kind ≡ c
+            → (if b then call_head e.table (r.block == 0) arcs (region_places r) (place_of q)
+            else (if c then cycles_in e.table (r.block == 0) arcs (region_places r) + 1 else 0)) ≤ cycle_of x (task q)
+        by true c k out =
+            let le = heads e o x given schedule r mr q m k in
+            let filled = heads_filled e o x given schedule r mr q m k in
+            let same = cycle_is q t in
+            omega (arith, le, filled, same)
+        by false true k out =
+            let filled = end_filled e o x given schedule r mr q m in
+            let at = end_at q m out in
+            omega (arith, filled, at)
+        by false false k out = omega arith
+
+    -- and before its Reloads and what is behind it
     ended_task : (q : Placed) → Member q (region_placed r) → is_task q.op.kind ≡ true → IsEnded (task q)
     ended_task q m t = by (is_call_kind q.op.kind) refl
       where
@@ -421,17 +435,16 @@ module _ (e : Ext) (o : Options) (x : List ℕ) (given : Given e o x)
             (ended_one q (in_all e o x r q mr m) t)
 
         by : (b : Bool) → is_call_kind q.op.kind ≡ b
-            → cycle_of x (task q)
-            + (if b then tail_by (latency_of e.table Reload) (reloads_at e.table arcs (region_places r) (place_of q))
-            else tail_of q.op.kind)
+            → cycle_of x (task q) + (if b then call_tail e.table arcs (region_places r) (place_of q) else tail_of q.op.kind)
             ≤ slice_index x close.0
         by true k =
             let same = cycle_is q t in
-            let one = call_tail q.op.kind k in
+            let one = call_tail_one q.op.kind k in
             let end : slice_index x close.0 ≡ (issue_at x q).end = ap (λ (v : VarId). slice_index x v.0) (region_close r q m) in
             let inside = own in
             let le = tails e o x given schedule r mr q m k (omega (arith, same, one, end, inside)) in
-            omega (arith, le, same, end)
+            let filled = tails_filled e o x given schedule r mr q m k in
+            omega (arith, le, filled, same, end)
         by false k = own
 
     each_task : (P : Task → Type 0) → ((q : Placed) → Member q (region_placed r) → is_task q.op.kind ≡ true → P (task q)) → Each P ops

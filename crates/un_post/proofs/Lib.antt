@@ -14,6 +14,8 @@ pub mod Exact
 pub mod ExactProps
 pub mod Facts
 pub mod Failing
+pub mod Filled
+pub mod Filling
 pub mod FrameOrder
 pub mod FrameTags
 pub mod FrameTests

@@ -125,7 +125,7 @@ copy_stays (Copy node) h = refl
 copy_stays Enter h = refl
 copy_stays Leave h = refl
 
-out_is : (k : ExtKind) → is_out k ≡ true → k ≡ Out
+pub out_is : (k : ExtKind) → is_out k ≡ true → k ≡ Out
 out_is Out h = refl
 out_is In h = absurd (cc h)
 out_is (Body so) h = absurd (cc h)

@@ -1,5 +1,6 @@
 pub mod CallWalks
 pub mod Gathering
+pub mod Greatest
 pub mod Marking
 pub mod Pairing
 pub mod Seeing

@@ -1,10 +1,20 @@
 -- The operations of a block that have room before its end, as a loop over the block's finds them.
-use Rattle.std.proofs.Common.{ℕ, ◌≡◌, ◌+◌, Bool, true, false, cond, List, [], ◌∷◌, ◌++◌, map, drop, sym, ap, ◌∙◌}
+use Rattle.std.proofs.Common.{ℕ, ◌≡◌, ◌+◌, max, Bool, true, false, cond, List, [], ◌∷◌, ◌++◌, map, drop, refl, sym, ap, ◌∙◌}
 use Rattle.std.proofs.Common.{append_assoc}
-use Rattle.std.specs.Prelude.{Some, slice_get}
+use Rattle.std.specs.Prelude.{Option, Some, fold, slice_get, if◌then◌else◌}
+use Rattle.std.specs.Option.{option_map}
+use Rattle.un_isa.specs.declared.table.Table.{Table}
+use Rattle.un_ir.specs.Kinds.{is_call_kind}
+use Rattle.un_ir.specs.Linear.{is_out}
+use Rattle.un_model.specs.declared.model.Arc.{Arc}
+use Rattle.un_model.proofs.Lists.{slice_get-map}
 use Rattle.un_length.specs.declared.block.Task.{Task}
 use Rattle.un_model.proofs.Steps.{drop_at}
-use Rattle.un_sites.specs.Lengths.{is_task}
+use Rattle.un_rooms.specs.Demands.{demand_of, end_by, task_by, task_with}
+use Rattle.un_rooms.specs.declared.demands.Demand.{Demand}
+use Rattle.un_sites.specs.Crossings.{spills_at}
+use Rattle.un_sites.specs.Lengths.{is_task, call_head, tail_in, cycles_in, most_of, task_of}
+use Rattle.un_sites.specs.Shares.{has_leave, cycles_with}
 use Rattle.un_sites.specs.Places.{Place}
 use Rattle.un_sites.specs.Postings.{with_kind}
 use Rattle.un_sites.specs.Sites.{place_of}
@@ -36,3 +46,64 @@ module _ (f : Place → Task) (i : ℕ) (spots : List Spot) (p : Spot) (ops next
   task_same b h g is t new =
       ap (λ (ts : List Task). ts ++ map f rest) new
       ∙ (ap (λ (qs : List Place). ops ++ map f qs) (sym (kept false g (sym is ∙ t))) ∙ h)
+
+  nothing_more : (ts : List Task) → ts ++ [] ≡ ts
+  nothing_more [] = refl
+  nothing_more (u ∷ us) = ap (λ ts. u ∷ ts) (nothing_more us)
+
+  -- an operation more, which is one of them or not
+  pub task_next : (made : Task) → Found i ops → slice_get spots i ≡ Some p → made ≡ f (place_of p)
+      → next ≡ ops ++ (if is_task (place_of p).it.kind then made ∷ [] else []) → Found (i + 1) next
+  task_next made h g is new = by (is_task (place_of p).it.kind) refl
+    where
+      by : (b : Bool) → is_task (place_of p).it.kind ≡ b → Found (i + 1) next
+      by true t = task_more true made h g (sym t) refl is (new ∙ ap (λ (b : Bool). ops ++ (if b then made ∷ [] else [])) t)
+      by false t = task_same false h g (sym t) refl (new ∙ ap (λ (b : Bool). ops ++ (if b then made ∷ [] else [])) t ∙ nothing_more ops)
+
+-- what is made of each operation, as a loop makes it
+pub mapped_more : {B : Type 0} (f : Place → B) (i : ℕ) (spots : List Spot) (p : Spot) (found next whole : List B) (d : B)
+    → found ++ map f (map place_of (drop i spots)) ≡ whole → slice_get spots i ≡ Some p → d ≡ f (place_of p) → next ≡ found ++ d ∷ []
+    → next ++ map f (map place_of (drop (i + 1) spots)) ≡ whole
+mapped_more {B} f i spots p found next whole d h g made new =
+    let rest = map f (map place_of (drop (i + 1) spots)) in
+    ap (λ ys. ys ++ rest) (new ∙ ap (λ (u : B). found ++ u ∷ []) made) ∙ append_assoc found (f (place_of p) ∷ []) rest
+    ∙ (ap (λ (ss : List Spot). found ++ map f (map place_of ss)) (sym (drop_at spots i p g)) ∙ h)
+
+-- ---- tasks by demands
+
+mapped_twice : {A B C : Type 0} (f : B → C) (g : A → B) (xs : List A) → map f (map g xs) ≡ map (λ x. f (g x)) xs
+mapped_twice f g [] = refl
+mapped_twice f g (x ∷ xs) = ap (λ ys. f (g x) ∷ ys) (mapped_twice f g xs)
+
+head_is : (b c : Bool) (n m : ℕ) → (if b then (if b then n else 0) else (if c then m else 0)) ≡ (if b then n else (if c then m else 0))
+head_is true c n m = refl
+head_is false c n m = refl
+
+module _ (t : Table) (is_entry : Bool) (arcs : List Arc) (ps : List Place) where
+  abbrev all : List Demand
+  all = map (demand_of t is_entry arcs ps) ps
+
+  end_is : end_by t ps all ≡ cycles_in t is_entry arcs ps + 1
+  end_is =
+      ap (λ (ns : List ℕ). cycles_with t ps (has_leave ps) (fold max 0 ns) (fold max 0 (map (λ (d : Demand). d.asked.reloads) all)) + 1)
+      (mapped_twice (λ (d : Demand). d.asked.spills) (demand_of t is_entry arcs ps) ps)
+      ∙ ap (λ (ns : List ℕ). cycles_with t ps (has_leave ps) (most_of (spills_at t is_entry arcs ps) ps) (fold max 0 ns) + 1)
+      (mapped_twice (λ (d : Demand). d.asked.reloads) (demand_of t is_entry arcs ps) ps)
+
+  pub task_is : (p : Place) (end : ℕ) (demands : List Demand) (d : Demand) → demands ≡ all → end ≡ end_by t ps demands
+      → d ≡ demand_of t is_entry arcs ps p → task_by t end p d ≡ task_of t is_entry arcs ps p
+  task_is p end demands d are is made =
+      ap (task_by t end p) made
+      ∙ ap (λ (n : ℕ). task_by t n p (demand_of t is_entry arcs ps p)) (is ∙ ap (end_by t ps) are ∙ end_is)
+      ∙ ap (task_with t p (tail_in t arcs ps p)) (head_is (is_call_kind p.it.kind) (is_out p.it.kind) (call_head t is_entry arcs ps p)
+      (cycles_in t is_entry arcs ps + 1))
+
+-- the demand at a place is that of the operation there
+pub demand_at : (f : Place → Demand) (i : ℕ) (spots : List Spot) (p : Spot) (demands : List Demand) (d : Demand)
+    → demands ≡ map f (map place_of spots) → slice_get spots i ≡ Some p → slice_get demands i ≡ Some d → d ≡ f (place_of p)
+demand_at f i spots p demands d are g h =
+    let there : Some (f (place_of p)) ≡ slice_get (map f (map place_of spots)) i =
+    ap (λ (q : Option Place). option_map f q) (sym (ap (option_map place_of) g)) ∙ ap (option_map f) (sym (slice_get-map place_of spots i))
+    ∙ sym (slice_get-map f (map place_of spots) i) in
+    let both : Some d ≡ Some (f (place_of p)) = sym h ∙ ap (λ ds. slice_get ds i) are ∙ sym there in
+    cc both

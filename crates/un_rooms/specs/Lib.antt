@@ -1,4 +1,5 @@
 pub mod Calls
+pub mod Demands
 pub mod Gathered
 pub mod Reach
 pub mod Twos

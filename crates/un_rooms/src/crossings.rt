@@ -1,19 +1,17 @@
-//! What crosses calls: the values that are there before a call, and are read behind it or go into what is, and what room they ask for. A
-//! call keeps few registers, so of the values that cross it those that are more are spilled by its cycle and reloaded after it.
+//! What crosses calls: the values that are there before a call, and are read behind it or go into what is.
 
-ghost use Rattle.std.specs.Prelude.{◌≡◌, ◌-◌, ◌==◌, ◌&&◌, ◌||◌, ◌++◌, not, true, false, All, IfOk, OnOk, filter, length, map, ℕ};
+ghost use Rattle.std.specs.Prelude.{◌≡◌, ◌==◌, ◌&&◌, ◌||◌, ◌++◌, not, true, false, All, IfOk, OnOk, filter, length, map, ℕ};
 ghost use Rattle.std.specs.List.{list_any};
 ghost use Rattle.std.specs.Option.{option_to_list};
-ghost use Rattle.un_isa.specs.Registers.{callee_saved};
-ghost use Rattle.un_ir.specs.Kinds.{is_call_kind, is_source};
+ghost use Rattle.un_ir.specs.Kinds.{is_source};
 ghost use Rattle.un_ir.specs.declared.extended.Operand.{Operand};
 ghost use Rattle.un_ir.specs.Linear.{first_of, is_in};
 ghost use Rattle.un_model.specs.declared.model.Arc.{Arc};
 ghost use Rattle.un_rooms.specs.Reach.{mark_at, IsWithin, IsArcWithin};
 ghost use Rattle.un_sites.specs.Crossings.{is_register_home, is_asked, reads_value, is_ahead, is_loose, crossing, is_crossing};
 ghost use Rattle.un_sites.specs.Crossings.{is_carried, first_new, handed_by, handed};
-ghost use Rattle.un_sites.specs.Lengths.{head_by, tail_by, head_of, tail_in};
 ghost use Rattle.un_sites.specs.Places.{Place};
+ghost use Rattle.un_sites.specs.Rooms.{is_behind};
 ghost use Rattle.un_sites.specs.Sites.{place_of};
 ghost use Rattle.un_sites.specs.declared.sites.Spot.{Spot};
 
@@ -23,29 +21,17 @@ use crate::post_twos::first_of;
 use crate::reach::{Reach, mark_at, mark_leading};
 use std::alloc::{AllocError, Global};
 use un_base::ids::TempId;
-use un_base::memory_error::NoMemory;
-use un_base::numbers::{later, number};
 use un_ir::extended::{ExtKind, Operand};
-use un_isa::op::Op;
 use un_isa::reg::{FIRST_SLOT, Reg};
-use un_isa::reg_set::callee_saved;
-use un_isa::table::{Table, latency};
 use un_lists::items::Items;
 use un_model::model::Arc;
 use un_sites::sites::Spot;
-
-/// A cycle from which on an operation issues, and how long before its block's end, at least.
-#[derive(Clone, Copy)]
-pub struct Margins {
-    pub head: u32,
-    pub tail: u32,
-}
 
 /// How many values cross a call, and how many of them are read in registers.
 #[derive(Clone, Copy)]
 pub(crate) struct Crossing {
     pub(crate) all: usize,
-    in_registers: usize,
+    pub(crate) in_registers: usize,
 }
 
 /// Whether a home is a register.
@@ -233,7 +219,7 @@ fn ahead_by<'a>(
 }
 
 /// Those of the operations that are ahead of a call.
-fn ahead<'a>(
+pub(crate) fn ahead<'a>(
     alloc: Global,
     reach: Reach,
     arcs: &[Arc],
@@ -294,6 +280,31 @@ fn loose<'a>(
     Ok(found)
 }
 
+/// What crosses a call that has these operations ahead of it, and these behind it.
+pub(crate) fn crossing_by(
+    alloc: Global,
+    reach: Reach,
+    arcs: &[Arc],
+    call: &Spot<'_>,
+    spots: &[Spot<'_>],
+    before: &[Spot<'_>],
+    behind: &[Spot<'_>],
+) -> Result<Crossing, AllocError>
+    requires arcs { All (IsArcWithin reach.low reach.count) arcs.now }
+    requires call { IsWithin reach.low reach.count call.now.op }
+    requires before { map place_of before.now ≡ filter (is_ahead arcs.now (place_of call.now)) (map place_of spots.now) }
+    requires behind { map place_of behind.now ≡ filter (is_behind arcs.now (place_of call.now)) (map place_of spots.now) }
+    ensures all { IfOk result (λ k. k.all ≡ length (crossing false arcs.now (map place_of spots.now) (place_of call.now))) }
+    ensures in_registers { IfOk result (λ k. k.in_registers
+        ≡ length (crossing true arcs.now (map place_of spots.now) (place_of call.now))) }
+{
+    let loose = loose(alloc, reach, arcs, call, spots)?;
+    let values = temps_in(alloc, before)?;
+    let all = crossing_count(alloc, false, behind, loose.as_slice(), values.as_slice())?;
+    let in_registers = crossing_count(alloc, true, behind, loose.as_slice(), values.as_slice())?;
+    Ok(Crossing { all, in_registers })
+}
+
 /// What crosses a call.
 pub(crate) fn crossing_of(
     alloc: Global,
@@ -309,77 +320,15 @@ pub(crate) fn crossing_of(
         ≡ length (crossing true arcs.now (map place_of spots.now) (place_of call.now))) }
 {
     let behind = on_side(alloc, reach, arcs, call, true, spots)?;
-    let loose = loose(alloc, reach, arcs, call, spots)?;
     let before = ahead(alloc, reach, arcs, call, spots)?;
-    let values = temps_in(alloc, before.as_slice())?;
-    let all = crossing_count(
+    let found = crossing_by(
         alloc,
-        false,
+        reach,
+        arcs,
+        call,
+        spots,
+        before.as_slice(),
         behind.as_slice(),
-        loose.as_slice(),
-        values.as_slice(),
     )?;
-    let in_registers = crossing_count(
-        alloc,
-        true,
-        behind.as_slice(),
-        loose.as_slice(),
-        values.as_slice(),
-    )?;
-    Ok(Crossing { all, in_registers })
-}
-
-/// How many of so many values are more than a call keeps registers.
-fn past_kept(alloc: Global, t: &Table, values: usize) -> Result<usize, NoMemory>
-    ensures { IfOk result (λ n. n ≡ values - length (callee_saved t.now)) }
-{
-    let kept = callee_saved(alloc, t)?;
-    Ok(values.saturating_sub(kept.len()))
-}
-
-/// The first cycle in which a call has its Spills behind it.
-fn head_by(spills: usize) -> Result<u32, NoMemory>
-    ensures { IfOk result (λ head. head ≡ head_by spills) }
-{
-    if spills == 0 {
-        return Ok(0);
-    }
-    let n = number(spills)?;
-    later(n, 1)
-}
-
-/// How long before its block's end a call issues, for its Reloads.
-fn tail_by(latency: u32, reloads: usize) -> Result<u32, NoMemory>
-    ensures { IfOk result (λ tail. tail ≡ tail_by latency reloads) }
-{
-    if reloads == 0 {
-        return Ok(1);
-    }
-    let n = number(reloads)?;
-    let more = later(n, 1)?;
-    later(latency, more / 2)
-}
-
-/// The margins of a call.
-pub fn call_margins(
-    alloc: Global,
-    t: &Table,
-    is_entry: bool,
-    reach: Reach,
-    arcs: &[Arc],
-    call: &Spot<'_>,
-    spots: &[Spot<'_>],
-) -> Result<Margins, NoMemory>
-    requires arcs { All (IsArcWithin reach.low reach.count) arcs.now }
-    requires within { IsWithin reach.low reach.count call.now.op }
-    requires call { is_call_kind call.now.it.now.kind ≡ true }
-    ensures head { IfOk result (λ m. m.head ≡ head_of t.now is_entry arcs.now (map place_of spots.now) (place_of call.now)) }
-    ensures tail { IfOk result (λ m. m.tail ≡ tail_in t.now arcs.now (map place_of spots.now) (place_of call.now)) }
-{
-    let crossing = crossing_of(alloc, reach, arcs, call, spots)?;
-    let spills = past_kept(alloc, t, crossing.all)?;
-    let head = head_by(if is_entry { spills } else { 0 })?;
-    let reloads = past_kept(alloc, t, crossing.in_registers)?;
-    let tail = tail_by(latency(t, Op::Reload), reloads)?;
-    Ok(Margins { head, tail })
+    Ok(found)
 }

@@ -1,23 +1,22 @@
 //! What a block issues in every solution, as the propagator of its length names it.
 
-ghost use Rattle.std.specs.Prelude.{◌≡◌, ◌+◌, ◌<◌, ◌++◌, All, IfOk, OnOk, map, length};
+ghost use Rattle.std.specs.Prelude.{◌≡◌, ◌+◌, ◌<◌, ◌++◌, All, IfOk, OnOk, map, length, if◌then◌else◌, [], ◌∷◌};
+ghost use Rattle.un_ir.specs.Kinds.{is_call_kind};
+ghost use Rattle.un_ir.specs.Linear.{is_out};
 ghost use Rattle.un_length.specs.Places.{Leads};
-ghost use Rattle.un_model.specs.Arcs.{own_instr};
-ghost use Rattle.un_model.specs.Instructions.{needs_by};
-ghost use Rattle.un_rooms.specs.Reach.{IsWithin, IsArcWithin};
+ghost use Rattle.un_rooms.specs.Demands.{end_by, task_by};
 ghost use Rattle.un_rooms.specs.Waits.{before_of, befores_by};
-ghost use Rattle.un_sites.specs.Places.{time_of};
-ghost use Rattle.un_sites.specs.Lengths.{is_task, tail_of, var_in, head_of, tail_in, task_of, tasks_in, task_place, precedence_at, precedence_by, precedences_by};
+ghost use Rattle.un_sites.specs.Lengths.{is_task, var_in, tasks_in, task_place, precedence_at, precedence_by, precedences_by};
 ghost use Rattle.un_sites.specs.Sites.{place_of};
 
-use crate::crossings::{Margins, call_margins};
-use crate::reach::Reach;
+use crate::demands::{Demand, demands_in, most};
+use crate::shares::{cycles_with, has_leave};
 use crate::span::reach_of;
 use crate::wait::Wait;
 use std::alloc::{AllocError, Global};
 use un_base::ids::VarId;
 use un_base::memory_error::NoMemory;
-use un_base::numbers::number;
+use un_base::numbers::{later, number};
 use un_ir::extended::ExtKind;
 use un_isa::table::Table;
 use un_length::block::{Precedence, Task};
@@ -37,21 +36,6 @@ fn var_in(time: At) -> VarId
     }
 }
 
-/// How long before its block's end an operation issues, at least.
-fn tail_of(kind: &ExtKind) -> u32
-    ensures { result ≡ tail_of kind.now }
-{
-    match kind {
-        ExtKind::Out => 0,
-        ExtKind::In => 1,
-        ExtKind::Body(_) => 1,
-        ExtKind::End(_) => 1,
-        ExtKind::Copy(_) => 1,
-        ExtKind::Enter => 1,
-        ExtKind::Leave => 1,
-    }
-}
-
 /// Whether every solution issues it, or it is the block's end.
 fn is_task(kind: &ExtKind) -> bool
     ensures { result ≡ is_task kind.now }
@@ -59,63 +43,59 @@ fn is_task(kind: &ExtKind) -> bool
     kind.is_source() || kind.ends_block()
 }
 
-/// How far an operation is from the ends of its block.
-fn margins_of(
-    alloc: Global,
-    t: &Table,
-    is_entry: bool,
-    reach: Reach,
-    arcs: &[Arc],
-    p: &Spot<'_>,
-    spots: &[Spot<'_>],
-) -> Result<Margins, NoMemory>
-    requires arcs { All (IsArcWithin reach.low reach.count) arcs.now }
-    requires within { IsWithin reach.low reach.count p.now.op }
-    ensures head { IfOk result (λ m. m.head ≡ head_of t.now is_entry arcs.now (map place_of spots.now) (place_of p.now)) }
-    ensures tail { IfOk result (λ m. m.tail ≡ tail_in t.now arcs.now (map place_of spots.now) (place_of p.now)) }
+/// The first cycle of an operation, of which the demand is known, in a block whose end has the head `end`.
+fn head_of(kind: &ExtKind, end: u32, demand: Demand) -> u32
+    ensures { result ≡ (if is_call_kind kind.now then demand.head else (if is_out kind.now then end else 0)) }
 {
-    if p.it.kind.is_call() {
-        return call_margins(alloc, t, is_entry, reach, arcs, p, spots);
+    if kind.is_call() {
+        return demand.head;
     }
-    Ok(Margins {
-        head: 0,
-        tail: tail_of(&p.it.kind),
-    })
+    match kind {
+        ExtKind::Out => end,
+        ExtKind::In => 0,
+        ExtKind::Body(_) => 0,
+        ExtKind::End(_) => 0,
+        ExtKind::Copy(_) => 0,
+        ExtKind::Enter => 0,
+        ExtKind::Leave => 0,
+    }
 }
 
 /// An operation as what takes a place before the end.
-fn task_by(t: &Table, p: &Spot<'_>, margins: Margins) -> Task
-    ensures { result ≡ record {
-      at = var_in (time_of (place_of p.now));
-      head = margins.head;
-      tail = margins.tail;
-      needs = needs_by t.now (own_instr p.now.it.now);
-    } }
+fn task_by(t: &Table, end: u32, p: &Spot<'_>, demand: Demand) -> Task
+    ensures { result ≡ task_by t.now end (place_of p.now) demand }
 {
     Task {
         at: var_in(p.time()),
-        head: margins.head,
-        tail: margins.tail,
+        head: head_of(&p.it.kind, end, demand),
+        tail: demand.tail,
         needs: needs(t, instruction(&p.it.kind, 0)),
     }
 }
 
-/// The same, of a block with these operations and arcs.
-fn task_of(
-    alloc: Global,
+/// Adds an operation, where every solution issues it or it is the end.
+fn add_task(
+    ops: &mut Items<Task>,
     t: &Table,
-    is_entry: bool,
-    reach: Reach,
-    arcs: &[Arc],
+    end: u32,
     p: &Spot<'_>,
-    spots: &[Spot<'_>],
-) -> Result<Task, NoMemory>
-    requires arcs { All (IsArcWithin reach.low reach.count) arcs.now }
-    requires within { IsWithin reach.low reach.count p.now.op }
-    ensures { IfOk result (λ task. task ≡ task_of t.now is_entry arcs.now (map place_of spots.now) (place_of p.now)) }
+    demand: Demand,
+) -> Result<(), AllocError>
+    ensures { OnOk result (ops.new
+        ≡ ops.old ++ (if is_task (place_of p.now).it.kind then task_by t.now end (place_of p.now) demand ∷ [] else [])) }
 {
-    let margins = margins_of(alloc, t, is_entry, reach, arcs, p, spots)?;
-    Ok(task_by(t, p, margins))
+    if is_task(&p.it.kind) {
+        ops.push(task_by(t, end, p, demand))?;
+    }
+    Ok(())
+}
+
+/// The first cycle of the end of a block whose operations ask for this.
+fn end_of(t: &Table, spots: &[Spot<'_>], demands: &[Demand]) -> Result<u32, NoMemory>
+    ensures { IfOk result (λ end. end ≡ end_by t.now (map place_of spots.now) demands.now) }
+{
+    let cycles = cycles_with(t, spots, has_leave(spots), most(demands))?;
+    later(cycles, 1)
 }
 
 /// Those of a block's operations that every solution issues, and its end.
@@ -129,11 +109,11 @@ pub(crate) fn tasks_in(
     ensures { IfOk result (λ ops. ops ≡ tasks_in t.now is_entry arcs.now (map place_of spots.now)) }
 {
     let reach = reach_of(spots, arcs);
+    let demands = demands_in(alloc, t, is_entry, reach, arcs, spots)?;
+    let end = end_of(t, spots, demands.as_slice())?;
     let mut ops = Items::new(alloc);
-    for p in spots {
-        if is_task(&p.it.kind) {
-            ops.push(task_of(alloc, t, is_entry, reach, arcs, p, spots)?)?;
-        }
+    for i in 0..spots.len() {
+        add_task(&mut ops, t, end, &spots[i], *demands.get(i))?;
     }
     Ok(ops)
 }

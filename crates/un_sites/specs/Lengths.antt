@@ -1,5 +1,6 @@
 -- What is posted of the length of a block: what it issues in every solution has room before its end, in the order that is known of it.
-use Rattle.std.specs.Prelude.{ℕ, suc, ◌+◌, ◌/◌, ◌==◌, nat_lt, Bool, ◌&&◌, ◌||◌, if◌then◌else◌, List, [], ◌∷◌, length, map}
+use Rattle.std.specs.Prelude.{ℕ, suc, ◌+◌, ◌/◌, ◌==◌, nat_lt, max, Bool, false, ◌&&◌, ◌||◌, if◌then◌else◌, List, [], ◌∷◌, ◌++◌, length}
+use Rattle.std.specs.Prelude.{map, filter, fold}
 use Rattle.un_base.specs.declared.ids.VarId.{VarId}
 use Rattle.un_isa.specs.Tables.{latency_of}
 use Rattle.un_isa.specs.declared.op.Op.TheVariants.{Reload}
@@ -7,6 +8,7 @@ use Rattle.un_isa.specs.declared.table.Table.{Table}
 use Rattle.un_ir.specs.declared.extended.ExtKind.{ExtKind}
 use Rattle.un_ir.specs.declared.extended.ExtKind.TheVariants.{Out}
 use Rattle.un_ir.specs.Kinds.{is_source, is_call_kind, ends_block}
+use Rattle.un_ir.specs.Linear.{is_out}
 use Rattle.un_model.specs.Arcs.{own_instr}
 use Rattle.un_model.specs.Instructions.{needs_by}
 use Rattle.un_model.specs.Pairs.{joined}
@@ -18,9 +20,11 @@ use Rattle.un_prop.specs.declared.act.At.TheVariants.{Const, Var}
 use Rattle.un_length.specs.declared.block.Precedence.{Precedence}
 use Rattle.un_length.specs.declared.block.Task.{Task}
 use Rattle.un_kinds.specs.Constraints.{Constraint, Before, Length}
-use Rattle.un_sites.specs.Crossings.{spills_at, reloads_at}
+use Rattle.un_sites.specs.Crossings.{is_ahead, spills_at, reloads_at}
 use Rattle.un_sites.specs.Places.{Place, time_of}
 use Rattle.un_sites.specs.Postings.{with_kind}
+use Rattle.un_sites.specs.Rooms.{is_behind}
+use Rattle.un_sites.specs.Shares.{has_leave, cycles_with}
 
 -- ---- what a block issues
 
@@ -46,12 +50,37 @@ head_by spills = if spills == 0 then 0 else spills + 1
 abbrev pub tail_by : ℕ → ℕ → ℕ
 tail_by latency reloads = if reloads == 0 then 1 else latency + (reloads + 1) / 2
 
+-- What is ahead of a call, the call and its Spills issue by its cycle.
+abbrev pub cycles_by : Table → Bool → List Arc → List Place → Place → ℕ
+cycles_by t is_entry arcs ps call =
+    cycles_with t (filter (is_ahead arcs call) ps ++ call ∷ []) false (spills_at t is_entry arcs ps call) 0
+
+-- What is behind it and its Reloads issue between it and the end.
+abbrev pub cycles_after : Table → List Arc → List Place → Place → ℕ
+cycles_after t arcs ps call = cycles_with t (filter (is_behind arcs call) ps) (has_leave ps) 0 (reloads_at t arcs ps call)
+
+-- the greatest of what is asked for the calls among these
+abbrev pub most_of : (Place → ℕ) → List Place → ℕ
+most_of f ps = fold max 0 (map (λ (p : Place). if is_call_kind p.it.kind then f p else 0) ps)
+
+-- All that a block issues is before its end, with the Spills of the call that has most and the Reloads of the call that has most.
+abbrev pub cycles_in : Table → Bool → List Arc → List Place → ℕ
+cycles_in t is_entry arcs ps =
+    cycles_with t ps (has_leave ps) (most_of (spills_at t is_entry arcs ps) ps) (most_of (reloads_at t arcs ps) ps)
+
+abbrev pub call_head : Table → Bool → List Arc → List Place → Place → ℕ
+call_head t is_entry arcs ps call = max (head_by (spills_at t is_entry arcs ps call)) (cycles_by t is_entry arcs ps call)
+
+abbrev pub call_tail : Table → List Arc → List Place → Place → ℕ
+call_tail t arcs ps call = max (tail_by (latency_of t Reload) (reloads_at t arcs ps call)) (cycles_after t arcs ps call + 1)
+
 abbrev pub head_of : Table → Bool → List Arc → List Place → Place → ℕ
-head_of t is_entry arcs ps p = if is_call_kind p.it.kind then head_by (spills_at t is_entry arcs ps p) else 0
+head_of t is_entry arcs ps p =
+    if is_call_kind p.it.kind then call_head t is_entry arcs ps p
+    else (if is_out p.it.kind then cycles_in t is_entry arcs ps + 1 else 0)
 
 abbrev pub tail_in : Table → List Arc → List Place → Place → ℕ
-tail_in t arcs ps p =
-    if is_call_kind p.it.kind then tail_by (latency_of t Reload) (reloads_at t arcs ps p) else tail_of p.it.kind
+tail_in t arcs ps p = if is_call_kind p.it.kind then call_tail t arcs ps p else tail_of p.it.kind
 
 -- the end takes the place of an instruction in its own cycle, where nothing else is
 abbrev pub task_of : Table → Bool → List Arc → List Place → Place → Task

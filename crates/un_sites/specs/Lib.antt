@@ -6,4 +6,5 @@ pub mod Places
 pub mod Postings
 pub mod Pressures
 pub mod Rooms
+pub mod Shares
 pub mod Sites

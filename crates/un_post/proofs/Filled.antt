@@ -1,0 +1,725 @@
+-- What a block issues fills cycles: what is ahead of a call with its Spills those up to it, what is behind it with its Reloads those from
+-- it to the end, and all of it those of the block.
+use Rattle.std.proofs.Common.{ℕ, zero, suc, ◌≡◌, ◌<◌, ◌≤◌, ◌+◌, ◌*◌, ◌-◌, Bool, true, false, List, [], ◌∷◌, ◌++◌, map, filter, inl, inr}
+use Rattle.std.proofs.Common.{refl, sym, ap, ◌∙◌, subst, arith, eq-eqb}
+use Rattle.std.specs.Prelude.{Option, Some, None, IfSome, not, ◌&&◌, ◌||◌, ◌==◌, slice_get, slice_index, is_some, sum_by, if◌then◌else◌}
+use Rattle.std.specs.List.{list_any}
+use Rattle.std.proofs.lemmas.List.Sums.{sum_by-cons, sum_by-append}
+use Rattle.un_base.specs.declared.ids.VarId.{VarId}
+use Rattle.un_isa.specs.Tables.{latency_of}
+use Rattle.un_isa.specs.PacketCounts.{places_of as room_of}
+use Rattle.un_isa.specs.declared.op.Op.{Op}
+use Rattle.un_isa.specs.declared.op.Op.TheVariants.{Call, Spill, Reload, Enter as EnterOp, Leave as LeaveOp}
+use Rattle.un_isa.specs.declared.packet_counts.Resource.{Resource}
+use Rattle.un_isa.specs.declared.table.Table.{Table}
+use Rattle.un_ir.specs.declared.function.Term.TheVariants.{Fall, Jump, Branch, Ret}
+use Rattle.un_ir.specs.declared.extended.ExtKind.{ExtKind}
+use Rattle.un_ir.specs.declared.extended.ExtKind.TheVariants.{In, Out, Body, End, Copy, Enter, Leave}
+use Rattle.un_ir.specs.declared.extended.Ext.{Ext}
+use Rattle.un_ir.specs.Extended.{is_copy, is_enter, is_leave}
+use Rattle.un_ir.specs.Kinds.{is_call_kind, is_delimiter, is_frame_op, is_mandatory}
+use Rattle.un_model.specs.declared.model.Arc.{Arc}
+use Rattle.un_model.specs.declared.model.Options.{Options}
+use Rattle.un_model.specs.declared.schedule.Issue.{Issue}
+use Rattle.un_model.specs.Arcs.{own_instr}
+use Rattle.un_model.specs.Instructions.{instruction_of}
+use Rattle.un_model.specs.Schedules.{schedule_of, issues_of, value_by}
+use Rattle.un_model.specs.Solutions.{IsSchedule, HasFrame, is_frame_access, frame_distance, latency_gap, share_of}
+use Rattle.un_model.specs.Variables.{model_of, arcs_of, ops_count, var_at}
+use Rattle.un_model.proofs.Lists.{Each, Member, each_of, each_member, each_map, member_map_of, member_at, any_of}
+use Rattle.un_model.proofs.Placed.{Placed, Region, region_placed, vars_of, issue_at}
+use Rattle.un_model.proofs.PlacedSchedules.{all, issue_here}
+use Rattle.un_model.proofs.Readings.{Solved}
+use Rattle.un_press.proofs.Descent.{cycle_at}
+use Rattle.un_press.proofs.Spilling.{Several, SpilledBy}
+use Rattle.un_press.proofs.Reloading.{ReloadedAfter}
+use Rattle.un_sites.specs.Crossings.{is_ahead, spills_at, reloads_at}
+use Rattle.un_sites.specs.Lengths.{cycles_by, cycles_after, cycles_in, most_of}
+use Rattle.un_sites.specs.Places.{Place}
+use Rattle.un_sites.specs.Rooms.{arcs_or, is_behind}
+use Rattle.un_sites.specs.Shares.{own_share, spills_share, reloads_share, has_leave}
+use Rattle.un_post.proofs.AccessRooms.{Framed, framed, distant, placed_as, frame_on, enter, entered, late}
+use Rattle.un_post.proofs.Blocks.{blocks, region_places, region_close, in_all, stands_in}
+use Rattle.un_post.proofs.CallOrder.{ordered}
+use Rattle.un_post.proofs.Crossed.{not_same, owed_spills, owed_reloads}
+use Rattle.un_post.proofs.Facts.{Given, in_domains}
+use Rattle.un_post.proofs.Filling.{enough, greatest_is, none_of, several_more, first_of_several, takes_is, Beside, Other, beside_none, beside_one}
+use Rattle.un_post.proofs.Filling.{beside_several, beside_both, beside_fits, takes, IsThere}
+use Rattle.un_post.proofs.OneEnter.{filter_map, one_enter}
+use Rattle.un_post.proofs.Packets.{sum_map, sum_part}
+use Rattle.un_post.proofs.Placing.{place_of}
+use Rattle.un_post.proofs.Regions.{of_region, placed_regions}
+use Rattle.un_post.proofs.Spared.{Ordered, call_instr}
+use Rattle.un_post.proofs.Tests.{and_iff}
+
+-- ---- operations
+
+-- every solution issues an instruction of it
+abbrev pub is_issued : ExtKind → Bool
+is_issued (Body so) = true
+is_issued (End Fall) = false
+is_issued (End term) = true
+is_issued _ = false
+
+own_as : (t : Table) (r : Resource) (kind : ExtKind) (n : ℕ) → is_issued kind ≡ true
+    → share_of t r (instruction_of kind 0) ≡ share_of t r (instruction_of kind n)
+own_as t r (Body so) n h = refl
+own_as t r (End Fall) n h = absurd (cc h)
+own_as t r (End (Jump to)) n h = refl
+own_as t r (End (Branch pred true to)) n h = refl
+own_as t r (End (Branch pred false to)) n h = refl
+own_as t r (End (Ret value)) n h = refl
+own_as t r In n h = absurd (cc h)
+own_as t r Out n h = absurd (cc h)
+own_as t r (Copy node) n h = absurd (cc h)
+own_as t r Enter n h = absurd (cc h)
+own_as t r Leave n h = absurd (cc h)
+
+own_none : (t : Table) (r : Resource) (kind : ExtKind) → is_issued kind ≡ false → share_of t r (instruction_of kind 0) ≡ 0
+own_none t r (Body so) h = absurd (cc h)
+own_none t r (End Fall) h = refl
+own_none t r (End (Jump to)) h = absurd (cc h)
+own_none t r (End (Branch pred sense to)) h = absurd (cc h)
+own_none t r (End (Ret value)) h = absurd (cc h)
+own_none t r In h = refl
+own_none t r Out h = refl
+own_none t r (Copy node) h = refl
+own_none t r Enter h = refl
+own_none t r Leave h = refl
+
+issued_some : (kind : ExtKind) (n : ℕ) → is_issued kind ≡ true → (op : Op) × (instruction_of kind n ≡ Some op)
+issued_some (Body so) n h = (so.op, refl)
+issued_some (End Fall) n h = absurd (cc h)
+issued_some (End (Jump to)) n h = (_, refl)
+issued_some (End (Branch pred true to)) n h = (_, refl)
+issued_some (End (Branch pred false to)) n h = (_, refl)
+issued_some (End (Ret value)) n h = (_, refl)
+issued_some In n h = absurd (cc h)
+issued_some Out n h = absurd (cc h)
+issued_some (Copy node) n h = absurd (cc h)
+issued_some Enter n h = absurd (cc h)
+issued_some Leave n h = absurd (cc h)
+
+issued_mandatory : (kind : ExtKind) → is_issued kind ≡ true → is_mandatory kind ≡ true
+issued_mandatory (Body so) h = refl
+issued_mandatory (End term) h = refl
+issued_mandatory In h = absurd (cc h)
+issued_mandatory Out h = absurd (cc h)
+issued_mandatory (Copy node) h = absurd (cc h)
+issued_mandatory Enter h = absurd (cc h)
+issued_mandatory Leave h = absurd (cc h)
+
+call_issued : (kind : ExtKind) → is_call_kind kind ≡ true → is_issued kind ≡ true
+call_issued (Body so) h = refl
+call_issued In h = absurd (cc h)
+call_issued Out h = absurd (cc h)
+call_issued (End term) h = absurd (cc h)
+call_issued (Copy node) h = absurd (cc h)
+call_issued Enter h = absurd (cc h)
+call_issued Leave h = absurd (cc h)
+
+copy_optional : (kind : ExtKind) → is_copy kind ≡ true → is_mandatory kind ≡ false
+copy_optional (Copy node) h = refl
+copy_optional In h = absurd (cc h)
+copy_optional Out h = absurd (cc h)
+copy_optional (Body so) h = absurd (cc h)
+copy_optional (End term) h = absurd (cc h)
+copy_optional Enter h = absurd (cc h)
+copy_optional Leave h = absurd (cc h)
+
+enter_optional : (kind : ExtKind) → is_enter kind ≡ true → is_mandatory kind ≡ false
+enter_optional Enter h = refl
+enter_optional In h = absurd (cc h)
+enter_optional Out h = absurd (cc h)
+enter_optional (Body so) h = absurd (cc h)
+enter_optional (End term) h = absurd (cc h)
+enter_optional (Copy node) h = absurd (cc h)
+enter_optional Leave h = absurd (cc h)
+
+leave_optional : (kind : ExtKind) → is_leave kind ≡ true → is_mandatory kind ≡ false
+leave_optional Leave h = refl
+leave_optional In h = absurd (cc h)
+leave_optional Out h = absurd (cc h)
+leave_optional (Body so) h = absurd (cc h)
+leave_optional (End term) h = absurd (cc h)
+leave_optional (Copy node) h = absurd (cc h)
+leave_optional Enter h = absurd (cc h)
+
+leave_frames : (kind : ExtKind) → is_leave kind ≡ true → is_frame_op kind ≡ true
+leave_frames Leave h = refl
+leave_frames In h = absurd (cc h)
+leave_frames Out h = absurd (cc h)
+leave_frames (Body so) h = absurd (cc h)
+leave_frames (End term) h = absurd (cc h)
+leave_frames (Copy node) h = absurd (cc h)
+leave_frames Enter h = absurd (cc h)
+
+leave_instr : (kind : ExtKind) (n : ℕ) → is_leave kind ≡ true → (is_delimiter kind || is_some (instruction_of kind n)) ≡ true
+    → instruction_of kind n ≡ Some LeaveOp
+leave_instr Leave n h a = frame_on LeaveOp (n == 0) a
+leave_instr In n h a = absurd (cc h)
+leave_instr Out n h a = absurd (cc h)
+leave_instr (Body so) n h a = absurd (cc h)
+leave_instr (End term) n h a = absurd (cc h)
+leave_instr (Copy node) n h a = absurd (cc h)
+leave_instr Enter n h a = absurd (cc h)
+
+-- tags keep what is named one by one apart
+abbrev tag : Option Op → ℕ
+tag (Some Call) = 1
+tag (Some EnterOp) = 2
+tag (Some Spill) = 3
+tag (Some Reload) = 4
+tag (Some LeaveOp) = 5
+tag _ = 0
+
+-- what comes no earlier than a Reload
+leave_after : (a b : Option Op) (c d : ℕ) → a ≡ Some Reload → b ≡ Some LeaveOp → IfSome (frame_distance a b) (λ (n : ℕ). c + n ≤ d) → c ≤ d
+leave_after a b c d f g h =
+    let le : c + 0 ≤ d = subst (λ (z : Option Op). IfSome (frame_distance (Some Reload) z) (λ (n : ℕ). c + n ≤ d)) g
+    (subst (λ (z : Option Op). IfSome (frame_distance z b) (λ (n : ℕ). c + n ≤ d)) f h) in
+    omega (arith, le)
+
+and_no : (a b : Bool) → b ≡ false → (a && b) ≡ false
+and_no true b h = h
+and_no false b h = refl
+
+first_no : (a b : Bool) → a ≡ false → (a && b) ≡ false
+first_no true b h = absurd (cc h)
+first_no false b h = refl
+
+-- ---- sums
+
+-- those that pass have no more than the whole, where each that passes has no more
+sum_passing : {X : Type 0} (early : X → Bool) (f g : X → ℕ) (xs : List X) → Each (λ x. early x ≡ true → f x ≤ g x) xs
+    → sum_by f (filter early xs) ≤ sum_by g xs
+sum_passing early f g [] each = omega arith
+sum_passing early f g (x ∷ xs) each = by (sum_passing early f g xs each.1) (early x) refl
+  where
+    by : sum_by f (filter early xs) ≤ sum_by g xs → (b : Bool) → early x ≡ b → sum_by f (filter early (x ∷ xs)) ≤ sum_by g (x ∷ xs)
+    by rest true is =
+        let here = each.0 is in
+        let a = sum_by-cons g x xs in
+        let c = sum_by-cons f x (filter early xs) in
+        let same : filter early (x ∷ xs) ≡ x ∷ filter early xs = rw is refl in
+        let sums = ap (sum_by f) same in
+        omega (arith, rest, here, a, c, sums)
+    by rest false is =
+        let a = sum_by-cons g x xs in
+        let same : filter early (x ∷ xs) ≡ filter early xs = rw is refl in
+        let sums = ap (sum_by f) same in
+        omega (arith, rest, a, sums)
+
+-- what passes has what it counts for in the whole
+sum_filter : {X : Type 0} (f : X → ℕ) (test : X → Bool) (xs : List X)
+    → sum_by (λ x. if test x then f x else 0) xs ≡ sum_by f (filter test xs)
+sum_filter f test [] = refl
+sum_filter f test (x ∷ xs) = by (sum_filter f test xs) (test x) refl
+  where
+    by : sum_by (λ x. if test x then f x else 0) xs ≡ sum_by f (filter test xs) → (b : Bool) → test x ≡ b
+        → sum_by (λ x. if test x then f x else 0) (x ∷ xs) ≡ sum_by f (filter test (x ∷ xs))
+    by rest true is =
+        let a = sum_by-cons (λ x. if test x then f x else 0) x xs in
+        let own : (if test x then f x else 0) ≡ f x = rw is refl in
+        let c = sum_by-cons f x (filter test xs) in
+        let same : filter test (x ∷ xs) ≡ x ∷ filter test xs = rw is refl in
+        let sums = ap (sum_by f) same in
+        omega (arith, rest, a, own, c, sums)
+    by rest false is =
+        let a = sum_by-cons (λ x. if test x then f x else 0) x xs in
+        let own : (if test x then f x else 0) ≡ 0 = rw is refl in
+        let same : filter test (x ∷ xs) ≡ filter test xs = rw is refl in
+        let sums = ap (sum_by f) same in
+        omega (arith, rest, a, own, sums)
+
+filter_whole : {X : Type 0} (xs : List X) → filter (λ x. true) xs ≡ xs
+filter_whole [] = refl
+filter_whole (x ∷ xs) = ap (λ ys. x ∷ ys) (filter_whole xs)
+
+module _ (e : Ext) (o : Options) (x : List ℕ) (given : Given e o x)
+    (schedule : IsSchedule (latency_gap e.table) (model_of e o).domains (model_of e o) x (schedule_of (model_of e o) x)) where
+  abbrev solved : Solved e o x
+  solved = record { extended = given.extended; fit = given.fit; options = given.options; schedule = schedule }
+
+  abbrev cycle : Placed → ℕ
+  cycle q = cycle_at e o x solved q
+
+  abbrev end : Placed → ℕ
+  end q = (issue_at x q).end
+
+  issue_member : (q : Placed) → Member q (all e o x) → Member (issue_at x q) (issues_of (model_of e o) x)
+  issue_member q m = member_at (issues_of (model_of e o) x) q.number (issue_at x q) (issue_here e o x q m)
+
+  -- an operation of the source, or a terminator, issues within its block
+  issued_within : (q : Placed) → Member q (all e o x) → is_issued q.op.kind ≡ true → (0 < cycle q) × (cycle q < end q)
+  issued_within q m t =
+      let v = vars_of q in
+      let some = issued_some q.op.kind (value_by x v.instr) t in
+      let placed = placed_as e o x given schedule (issue_at x q) some.0 (issue_member q m) some.1 in
+      placed.0
+
+  module _ (r : Region) (mr : Member r (blocks e o x)) where
+    abbrev arcs : List Arc
+    arcs = arcs_or (slice_get (arcs_of e) r.block)
+
+    abbrev ps : List Place
+    ps = region_places r
+
+    abbrev close : ℕ
+    close = let owner = r.owner in slice_index x (r.first + ops_count owner.ops)
+
+    end_is : (q : Placed) → Member q (region_placed r) → end q ≡ close
+    end_is q m = sym (ap (λ (v : VarId). slice_index x v.0) (region_close r q m))
+
+    -- ---- own operations in an interval of cycles
+
+    module _ (lo n : ℕ) (test : Placed → Bool) where
+      abbrev There : Placed → Type 0
+      There q = IsThere e o x solved r.block lo n test q
+
+      abbrev own : Resource → Placed → ℕ
+      own resource q = share_of e.table resource (own_instr q.op)
+
+      abbrev taken : Resource → Placed → ℕ
+      taken resource q = takes e o x solved r.block lo n test resource q
+
+      own_taken : (resource : Resource) (q : Placed) → Member q (region_placed r)
+          → (is_issued q.op.kind ≡ true → There q × (test q ≡ true)) → own resource q ≤ (if test q then taken resource q else 0)
+      own_taken resource q m issues = by (is_issued q.op.kind) refl
+        where
+          by : (b : Bool) → is_issued q.op.kind ≡ b → own resource q ≤ (if test q then taken resource q else 0)
+          by true t =
+              let there = issues t in
+              let v = vars_of q in
+              let same = own_as e.table resource q.op.kind (value_by x v.instr) t in
+              let all_of = takes_is e o x solved r.block lo n test resource q (of_region r q m) there.0 in
+              let passes = ap (λ (b : Bool). if b then taken resource q else 0) there.1 in
+              omega (arith, same, all_of, passes)
+          by false t = let none = own_none e.table resource q.op.kind t in omega (arith, none)
+
+      -- those that issue in the interval, and pass, take no more than what passes there
+      own_below : (early : Place → Bool)
+          → Each (λ q. early (place_of q) ≡ true → is_issued q.op.kind ≡ true → There q × (test q ≡ true)) (region_placed r)
+          → (resource : Resource)
+          → own_share e.table (filter early ps) resource ≤ sum_by (taken resource) (filter test (all e o x))
+      own_below early fits resource =
+          let qs = region_placed r in
+          let counted = λ (q : Placed). if test q then taken resource q else 0 in
+          let is : own_share e.table (filter early ps) resource ≡ sum_by (own resource) (filter (λ q. early (place_of q)) qs) =
+          ap (λ (zs : List Place). own_share e.table zs resource) (filter_map early place_of qs)
+          ∙ sum_map (λ (p : Place). share_of e.table resource (own_instr p.it)) place_of (filter (λ q. early (place_of q)) qs) in
+          let less = sum_passing (λ q. early (place_of q)) (own resource) counted qs
+          (each_of (λ q. early (place_of q) ≡ true → own resource q ≤ counted q) qs (λ q m is_early.
+          own_taken resource q m (each_member (λ q. early (place_of q) ≡ true → is_issued q.op.kind ≡ true → There q × (test q ≡ true))
+          qs q fits m is_early))) in
+          let part = sum_part counted region_placed (blocks e o x) r mr in
+          let whole = ap (sum_by counted) (placed_regions 0 0 0 e.blocks) in
+          let passing = sum_filter (taken resource) test (all e o x) in
+          omega (arith, is, less, part, whole, passing)
+
+      -- ---- Spills and Reloads beside them
+
+      module _ (optional : (q : Placed) → is_mandatory q.op.kind ≡ false → test q ≡ false) where
+        -- a copy of the entry that spills in these cycles
+        pub record Spilling (p : Placed) : Type 0 where
+          pub member : Member p (all e o x)
+          pub block : p.block ≡ r.block
+          pub entry : r.block ≡ 0
+          pub copy : is_copy p.op.kind ≡ true
+          pub instr : (issue_at x p).instr ≡ Some Spill
+          pub there : There p
+
+        pub record Reloading (p : Placed) : Type 0 where
+          pub member : Member p (all e o x)
+          pub block : p.block ≡ r.block
+          pub copy : is_copy p.op.kind ≡ true
+          pub instr : (issue_at x p).instr ≡ Some Reload
+          pub there : There p
+
+        spill_other : (p : Placed) → Spilling p → Other e o x solved r.block lo n test tag 3 4 p
+        spill_other p s =
+            let is : tag (issue_at x p).instr ≡ 3 = ap tag s.instr in
+            record {
+              member = s.member;
+              passes = optional p (copy_optional p.op.kind s.copy);
+              block = s.block;
+              there = s.there;
+              least = omega (arith, is);
+              greatest = omega (arith, is);
+            }
+
+        reload_other : (p : Placed) → Reloading p → Other e o x solved r.block lo n test tag 4 5 p
+        reload_other p s =
+            let is : tag (issue_at x p).instr ≡ 4 = ap tag s.instr in
+            record {
+              member = s.member;
+              passes = optional p (copy_optional p.op.kind s.copy);
+              block = s.block;
+              there = s.there;
+              least = omega (arith, is);
+              greatest = omega (arith, is);
+            }
+
+        abbrev With : ℕ → ℕ → (Resource → ℕ) → Type 0
+        With from to need = Beside e o x solved r.block lo n test tag from to need
+
+        spills_beside : (lo ≤ 1) → (count : ℕ) → Several e o x solved Spilling count
+            → With 2 4 (λ resource. spills_share e.table count resource)
+        spills_beside low count s = by (count == 0) refl
+          where
+            by : (b : Bool) → (count == 0) ≡ b
+                → With 2 4 (λ resource. if b then 0 else share_of e.table resource (Some EnterOp) + count * share_of e.table resource
+                (Some Spill))
+            by true is = beside_none e o x solved r.block lo n test tag 2 4 (λ resource. 0) (λ resource. refl)
+            by false some =
+                let ne : count ≡ 0 → ⊥ = λ z. (let w : true ≡ false = sym (eq-eqb count 0 z) ∙ some in cc w) in
+                let first = first_of_several e o x solved Spilling count (omega (arith, ne)) s in
+                let p = first.0 in
+                let spill = first.1 in
+                let after = late e o x given schedule (issue_at x p) (issue_member p spill.member) (spill.block ∙ spill.entry) spill.instr in
+                let one = one_enter e o x given in
+                let is : tag (issue_at x one.enter).instr ≡ 2 = ap tag after.is in
+                let begun = after.some in
+                let ahead = after.after in
+                let there = spill.there in
+                let till = there.1 in
+                let first_enter : With 2 3 (λ resource. share_of e.table resource (Some EnterOp)) =
+                beside_one e o x solved r.block lo n test tag 2 3 one.enter (λ resource. share_of e.table resource (Some EnterOp))
+                (record {
+                  member = one.member;
+                  passes = optional one.enter (enter_optional (one.enter).op.kind one.is);
+                  block = one.block ∙ sym spill.entry;
+                  there = (omega (arith, low, begun), omega (arith, ahead, till));
+                  least = omega (arith, is);
+                  greatest = omega (arith, is);
+                })
+                (λ resource. ap (share_of e.table resource) (sym after.is)) in
+                let spills = beside_several e o x solved r.block lo n test tag 3 4 count (Some Spill) Spilling spill_other (λ q p. p.instr) s in
+                beside_both e o x solved r.block lo n test tag 2 3 4 (λ resource. share_of e.table resource (Some EnterOp))
+                (λ resource. count * share_of e.table resource (Some Spill))
+                (λ resource. share_of e.table resource (Some EnterOp) + count * share_of e.table resource (Some Spill)) (omega arith)
+                (omega arith) (λ resource. refl) first_enter spills
+
+        reloads_beside : (close ≤ lo + n) → (count : ℕ) → Several e o x solved Reloading count
+            → With 4 6 (λ resource. reloads_share e.table (has_leave ps) count resource)
+        reloads_beside whole count s = by (count == 0) (has_leave ps) refl refl
+          where
+            reloads : With 4 5 (λ resource. count * share_of e.table resource (Some Reload))
+            reloads = beside_several e o x solved r.block lo n test tag 4 5 count (Some Reload) Reloading reload_other (λ q p. p.instr) s
+
+            by : (b leaves : Bool) → (count == 0) ≡ b → has_leave ps ≡ leaves
+                → With 4 6 (λ resource. if b then 0 else (if leaves then share_of e.table resource (Some LeaveOp) else 0) + count * share_of e.table
+                resource (Some Reload))
+            by true leaves is leave = beside_none e o x solved r.block lo n test tag 4 6 (λ resource. 0) (λ resource. refl)
+            by false false some leave =
+                beside_both e o x solved r.block lo n test tag 4 5 6 (λ resource. count * share_of e.table resource (Some Reload)) (λ resource. 0)
+                (λ resource. 0 + count * share_of e.table resource (Some Reload)) (omega arith) (omega arith) (λ resource. omega arith)
+                reloads (beside_none e o x solved r.block lo n test tag 5 6 (λ resource. 0) (λ resource. refl))
+            by false true some leave =
+                let ne : count ≡ 0 → ⊥ = λ z. (let w : true ≡ false = sym (eq-eqb count 0 z) ∙ some in cc w) in
+                let first = first_of_several e o x solved Reloading count (omega (arith, ne)) s in
+                let p = first.0 in
+                let reload = first.1 in
+                let f = framed e o x given schedule (issue_at x p) (issue_member p reload.member) (ap is_frame_access reload.instr) in
+                let found = any_of (λ (p : Place). is_leave p.it.kind) ps leave in
+                let q = member_map_of place_of (region_placed r) found.0 found.1 in
+                let is_so : is_leave q.0.op.kind ≡ true = ap (λ (p : Place). is_leave p.it.kind) q.2 ∙ found.2 in
+                let mq = in_all e o x r q.0 mr q.1 in
+                let mi = issue_member q.0 mq in
+                let on : (issue_at x q.0).active ≡ true = each_member (HasFrame true) (issues_of (model_of e o) x) (issue_at x q.0) f.active mi
+                (leave_frames q.0.op.kind is_so) in
+                let v = vars_of q.0 in
+                let instr = leave_instr q.0.op.kind (value_by x v.instr) is_so on in
+                let is : tag (issue_at x q.0).instr ≡ 5 = ap tag instr in
+                let within = placed_as e o x given schedule (issue_at x q.0) LeaveOp mi instr in
+                let before = within.0.1 in
+                let closes = end_is q.0 q.1 in
+                let behind = leave_after (issue_at x p).instr (issue_at x q.0).instr (cycle p) (cycle q.0) reload.instr instr
+                (distant e o x given schedule f (issue_at x p) (issue_at x q.0) (issue_member p reload.member) mi
+                (reload.block ∙ sym (of_region r q.0 q.1))) in
+                let there = reload.there in
+                let from = there.0 in
+                beside_both e o x solved r.block lo n test tag 4 5 6 (λ resource. count * share_of e.table resource (Some Reload))
+                (λ resource. share_of e.table resource (Some LeaveOp))
+                (λ resource. share_of e.table resource (Some LeaveOp) + count * share_of e.table resource (Some Reload)) (omega arith)
+                (omega arith) (λ resource. omega arith) reloads
+                (beside_one e o x solved r.block lo n test tag 5 6 q.0 (λ resource. share_of e.table resource (Some LeaveOp))
+                (record {
+                  member = mq;
+                  passes = optional q.0 (leave_optional q.0.op.kind is_so);
+                  block = of_region r q.0 q.1;
+                  there = (omega (arith, from, behind), omega (arith, before, closes, whole));
+                  least = omega (arith, is);
+                  greatest = omega (arith, is);
+                })
+                (λ resource. ap (share_of e.table resource) (sym instr)))
+
+    -- ---- a call
+
+    module _ (c : Placed) (mc : Member c (region_placed r)) (call : is_call_kind c.op.kind ≡ true) where
+      order : Ordered x r arcs
+      order = ordered e o x given schedule r mr
+
+      all_c : Member c (all e o x)
+      all_c = in_all e o x r c mr mc
+
+      call_is : (issue_at x c).instr ≡ Some Call
+      call_is = let v = vars_of c in call_instr c.op.kind (value_by x v.instr) call
+
+      inside : (0 < cycle c) × (cycle c < end c)
+      inside = issued_within c all_c (call_issued c.op.kind call)
+
+      -- ---- up to its cycle
+
+      abbrev others : Placed → Bool
+      others q = is_mandatory q.op.kind && not (q.number == c.number)
+
+      not_others : (q : Placed) → is_mandatory q.op.kind ≡ false → others q ≡ false
+      not_others q h = first_no (is_mandatory q.op.kind) (not (q.number == c.number)) h
+
+      not_itself : others c ≡ false
+      not_itself = and_no (is_mandatory c.op.kind) (not (c.number == c.number)) (ap not (eq-eqb c.number c.number refl))
+
+      spilling : (p : Placed) → SpilledBy e o x solved c p × (r.block ≡ 0) → Spilling 1 (cycle c) others not_others p
+      spilling p h =
+          let s = h.0 in
+          let first = s.first in
+          let last = s.last in
+          record {
+            member = s.member;
+            block = s.block ∙ of_region r c mc;
+            entry = h.1;
+            copy = s.copy;
+            instr = s.instr;
+            there = (omega (arith, first), omega (arith, last));
+          }
+
+      abbrev spills : ℕ
+      spills = spills_at e.table (r.block == 0) arcs ps (place_of c)
+
+      with_call : Beside e o x solved r.block 1 (cycle c) others tag 1 4
+          (λ resource. share_of e.table resource (Some Call) + spills_share e.table spills resource)
+      with_call =
+          let is : tag (issue_at x c).instr ≡ 1 = ap tag call_is in
+          let some = inside.0 in
+          beside_both e o x solved r.block 1 (cycle c) others tag 1 2 4 (λ resource. share_of e.table resource (Some Call))
+          (λ resource. spills_share e.table spills resource)
+          (λ resource. share_of e.table resource (Some Call) + spills_share e.table spills resource) (omega arith) (omega arith)
+          (λ resource. refl)
+          (beside_one e o x solved r.block 1 (cycle c) others tag 1 2 c (λ resource. share_of e.table resource (Some Call))
+          (record {
+            member = all_c;
+            passes = not_itself;
+            block = of_region r c mc;
+            there = (omega (arith, some), omega arith);
+            least = omega (arith, is);
+            greatest = omega (arith, is);
+          })
+          (λ resource. ap (share_of e.table resource) (sym call_is)))
+          (spills_beside 1 (cycle c) others not_others (omega arith) spills
+          (several_more e o x solved (λ p. SpilledBy e o x solved c p × (r.block ≡ 0)) (Spilling 1 (cycle c) others not_others) spills spilling
+          (owed_spills e o x given schedule r mr c mc call)))
+
+      ahead_there : (q : Placed) → Member q (region_placed r) → is_ahead arcs (place_of c) (place_of q) ≡ true → is_issued q.op.kind ≡ true
+          → There 1 (cycle c) others q × (others q ≡ true)
+      ahead_there q m early t =
+          let two = (and_iff (not (q.number == c.number)) _).1 early in
+          let within = issued_within q (in_all e o x r q mr m) t in
+          let some = within.0 in
+          let le = order.before q c m mc call two.1 in (
+            (omega (arith, some), omega (arith, le)),
+            (and_iff (is_mandatory q.op.kind) (not (q.number == c.number))).0 (issued_mandatory q.op.kind t, two.0),
+          )
+
+      pub heads_filled : cycles_by e.table (r.block == 0) arcs ps (place_of c) ≤ cycle c
+      heads_filled = enough e.table (filter (is_ahead arcs (place_of c)) ps ++ place_of c ∷ []) false spills 0 (cycle c) (λ resource.
+          let early = filter (is_ahead arcs (place_of c)) ps in
+          let f = λ (p : Place). share_of e.table resource (own_instr p.it) in
+          let parts = sum_by-append f early (place_of c ∷ []) in
+          let last = sum_by-cons f (place_of c) [] in
+          let v = vars_of c in
+          let same : f (place_of c) ≡ share_of e.table resource (Some Call) =
+          own_as e.table resource c.op.kind (value_by x v.instr) (call_issued c.op.kind call) ∙ ap (share_of e.table resource) call_is in
+          let own = own_below 1 (cycle c) others (is_ahead arcs (place_of c))
+          (each_of (λ q. is_ahead arcs (place_of c) (place_of q) ≡ true → is_issued q.op.kind ≡ true
+          → There 1 (cycle c) others q × (others q ≡ true)) (region_placed r) ahead_there) resource in
+          let fit = beside_fits e o x solved r.block 1 (cycle c) others tag 1 4
+          (λ resource. share_of e.table resource (Some Call) + spills_share e.table spills resource) with_call resource in
+          omega (arith, parts, last, same, own, fit))
+
+      -- ---- between it and the end
+
+      abbrev left : ℕ
+      left = close - 1 - cycle c
+
+      abbrev all_own : Placed → Bool
+      all_own q = is_mandatory q.op.kind
+
+      end_own : end c ≡ close
+      end_own = end_is c mc
+
+      reloading : (p : Placed) → ReloadedAfter e o x solved c p → Reloading (cycle c + 1) left all_own (λ q h. h) p
+      reloading p s =
+          let block = s.block ∙ of_region r c mc in
+          let mp = stands_in e o x r p mr s.member block in
+          let within = placed_as e o x given schedule (issue_at x p) Reload (issue_member p s.member) s.instr in
+          let before = within.0.1 in
+          let closes = end_is p mp in
+          let first = s.first in
+          record {
+            member = s.member;
+            block = block;
+            copy = s.copy;
+            instr = s.instr;
+            there = (omega (arith, first), omega (arith, before, closes, first));
+          }
+
+      abbrev reloads : ℕ
+      reloads = reloads_at e.table arcs ps (place_of c)
+
+      with_reloads : Beside e o x solved r.block (cycle c + 1) left all_own tag 4 6
+          (λ resource. reloads_share e.table (has_leave ps) reloads resource)
+      with_reloads =
+          let last = inside.1 in
+          let own = end_own in
+          reloads_beside (cycle c + 1) left all_own (λ q h. h) (omega (arith, last, own)) reloads
+          (several_more e o x solved (ReloadedAfter e o x solved c) (Reloading (cycle c + 1) left all_own (λ q h. h)) reloads reloading
+          (owed_reloads e o x given schedule r mr c mc call))
+
+      behind_there : (q : Placed) → Member q (region_placed r) → is_behind arcs (place_of c) (place_of q) ≡ true → is_issued q.op.kind ≡ true
+          → There (cycle c + 1) left all_own q × (all_own q ≡ true)
+      behind_there q m late t =
+          let within = issued_within q (in_all e o x r q mr m) t in
+          let before = within.1 in
+          let closes = end_is q m in
+          let le = order.behind c q mc m call late in
+          ((omega (arith, le), omega (arith, before, closes, le)), issued_mandatory q.op.kind t)
+
+      pub tails_filled : cycle c + (cycles_after e.table arcs ps (place_of c) + 1) ≤ end c
+      tails_filled =
+          let last = inside.1 in
+          let own_end = end_own in
+          let le = enough e.table (filter (is_behind arcs (place_of c)) ps) (has_leave ps) 0 reloads left (λ resource.
+          let own = own_below (cycle c + 1) left all_own (is_behind arcs (place_of c))
+          (each_of (λ q. is_behind arcs (place_of c) (place_of q) ≡ true → is_issued q.op.kind ≡ true
+          → There (cycle c + 1) left all_own q × (all_own q ≡ true)) (region_placed r) behind_there) resource in
+          let fit = beside_fits e o x solved r.block (cycle c + 1) left all_own tag 4 6
+          (λ resource. reloads_share e.table (has_leave ps) reloads resource) with_reloads resource in
+          omega (arith, own, fit)) in
+          omega (arith, le, last, own_end)
+
+    -- ---- the block
+
+    module _ (l : Placed) (ml : Member l (region_placed r)) where
+      abbrev whole : ℕ
+      whole = close - 1
+
+      abbrev mandatory : Placed → Bool
+      mandatory q = is_mandatory q.op.kind
+
+      some_end : 1 ≤ close
+      some_end =
+          let d = in_domains e o x given l (in_all e o x r l mr ml) in
+          let is = end_is l ml in
+          let some = d.close in
+          omega (arith, is, some)
+
+      abbrev SpillsIn : ℕ → Type 0
+      SpillsIn n = Several e o x solved (Spilling 1 whole mandatory (λ q h. h)) n
+
+      abbrev ReloadsIn : ℕ → Type 0
+      ReloadsIn n = Several e o x solved (Reloading 1 whole mandatory (λ q h. h)) n
+
+      module _ (c : Placed) (mc : Member c (region_placed r)) (call : is_call_kind c.op.kind ≡ true) where
+        call_within : (0 < cycle c) × (cycle c < end c)
+        call_within = issued_within c (in_all e o x r c mr mc) (call_issued c.op.kind call)
+
+        spilling_in : (p : Placed) → SpilledBy e o x solved c p × (r.block ≡ 0) → Spilling 1 whole mandatory (λ q h. h) p
+        spilling_in p h =
+            let s = h.0 in
+            let first = s.first in
+            let last = s.last in
+            let before = call_within.1 in
+            let is = end_is c mc in
+            record {
+              member = s.member;
+              block = s.block ∙ of_region r c mc;
+              entry = h.1;
+              copy = s.copy;
+              instr = s.instr;
+              there = (omega (arith, first), omega (arith, last, before, is));
+            }
+
+        reloading_in : (p : Placed) → ReloadedAfter e o x solved c p → Reloading 1 whole mandatory (λ q h. h) p
+        reloading_in p s =
+            let block = s.block ∙ of_region r c mc in
+            let mp = stands_in e o x r p mr s.member block in
+            let within = placed_as e o x given schedule (issue_at x p) Reload (issue_member p s.member) s.instr in
+            let before = within.0.1 in
+            let closes = end_is p mp in
+            let first = s.first in
+            record {
+              member = s.member;
+              block = block;
+              copy = s.copy;
+              instr = s.instr;
+              there = (omega (arith, first), omega (arith, before, closes, first));
+            }
+
+      -- of the calls the one with most of them has so many
+      most_in : (P : ℕ → Type 0) (f : Place → ℕ) → P 0
+          → ((c : Placed) → Member c (region_placed r) → is_call_kind c.op.kind ≡ true → P (f (place_of c))) → P (most_of f ps)
+      most_in P f none of_call =
+          greatest_is P 0 (map (λ (p : Place). if is_call_kind p.it.kind then f p else 0) ps) none
+          (each_map P (λ (p : Place). if is_call_kind p.it.kind then f p else 0) ps
+          (each_map (λ (p : Place). P (if is_call_kind p.it.kind then f p else 0)) place_of (region_placed r)
+          (each_of (λ (q : Placed). P (if is_call_kind q.op.kind then f (place_of q) else 0)) (region_placed r) (λ q m.
+          by q m (is_call_kind q.op.kind) refl))))
+        where
+          by : (q : Placed) → Member q (region_placed r) → (b : Bool) → is_call_kind q.op.kind ≡ b → P (if b then f (place_of q) else 0)
+          by q m true h = of_call q m h
+          by q m false h = none
+
+      abbrev spills_most : ℕ
+      spills_most = most_of (spills_at e.table (r.block == 0) arcs ps) ps
+
+      abbrev reloads_most : ℕ
+      reloads_most = most_of (reloads_at e.table arcs ps) ps
+
+      spills_in : SpillsIn spills_most
+      spills_in = most_in SpillsIn (spills_at e.table (r.block == 0) arcs ps) (none_of e o x solved (Spilling 1 whole mandatory (λ q h. h)))
+          (λ c mc call. several_more e o x solved (λ p. SpilledBy e o x solved c p × (r.block ≡ 0)) (Spilling 1 whole mandatory (λ q h. h))
+          (spills_at e.table (r.block == 0) arcs ps (place_of c)) (spilling_in c mc call) (owed_spills e o x given schedule r mr c mc call))
+
+      reloads_in : ReloadsIn reloads_most
+      reloads_in = most_in ReloadsIn (reloads_at e.table arcs ps) (none_of e o x solved (Reloading 1 whole mandatory (λ q h. h)))
+          (λ c mc call. several_more e o x solved (ReloadedAfter e o x solved c) (Reloading 1 whole mandatory (λ q h. h))
+          (reloads_at e.table arcs ps (place_of c)) (reloading_in c mc call) (owed_reloads e o x given schedule r mr c mc call))
+
+      abbrev need : Resource → ℕ
+      need resource = spills_share e.table spills_most resource + reloads_share e.table (has_leave ps) reloads_most resource
+
+      with_accesses : Beside e o x solved r.block 1 whole mandatory tag 2 6 need
+      with_accesses =
+          let some = some_end in
+          beside_both e o x solved r.block 1 whole mandatory tag 2 4 6 (λ resource. spills_share e.table spills_most resource)
+          (λ resource. reloads_share e.table (has_leave ps) reloads_most resource) need (omega arith) (omega arith) (λ resource. refl)
+          (spills_beside 1 whole mandatory (λ q h. h) (omega arith) spills_most spills_in)
+          (reloads_beside 1 whole mandatory (λ q h. h) (omega (arith, some)) reloads_most reloads_in)
+
+      pub end_filled : cycles_in e.table (r.block == 0) arcs ps + 1 ≤ close
+      end_filled =
+          let some = some_end in
+          let le = enough e.table ps (has_leave ps) spills_most reloads_most whole (λ resource.
+          let own = own_below 1 whole mandatory (λ p. true)
+          (each_of (λ q. true ≡ true → is_issued q.op.kind ≡ true → There 1 whole mandatory q × (mandatory q ≡ true)) (region_placed r)
+          (λ q m yes t.
+          let within = issued_within q (in_all e o x r q mr m) t in
+          let first = within.0 in
+          let before = within.1 in
+          let closes = end_is q m in
+          ((omega (arith, first), omega (arith, before, closes, first)), issued_mandatory q.op.kind t))) resource in
+          let all_of = ap (λ (zs : List Place). own_share e.table zs resource) (filter_whole ps) in
+          let fit = beside_fits e o x solved r.block 1 whole mandatory tag 2 6 need with_accesses resource in
+          omega (arith, own, all_of, fit)) in
+          omega (arith, le, some)
