@@ -13,7 +13,7 @@ use Rattle.un_base.specs.declared.ids.TempId.{TempId}
 use Rattle.un_ir.specs.declared.function.Kind.TheVariants.{General}
 use Rattle.un_ir.specs.declared.function.SrcOp.{SrcOp}
 use Rattle.un_ir.specs.declared.extended.ExtKind.{ExtKind}
-use Rattle.un_ir.specs.declared.extended.ExtKind.TheVariants.{In, Out, Body, End, Copy, Enter, Leave}
+use Rattle.un_ir.specs.declared.extended.ExtKind.TheVariants.{In, Out, Body, End, Enter, Leave}
 use Rattle.un_ir.specs.declared.extended.Operand.{Operand}
 use Rattle.un_ir.specs.declared.extended.ExtOp.{ExtOp}
 use Rattle.un_ir.specs.declared.extended.ExtBlock.{ExtBlock}
@@ -29,8 +29,8 @@ use Rattle.un_ir.specs.Kinds.{is_mandatory}
 use Rattle.un_ir.specs.Linear.{first_of, in_temps}
 use Rattle.un_ir.specs.WellFormed.{result_kind}
 use Rattle.un_ir.proofs.GoodOps.{got_left, got_right}
-use Rattle.un_extend.specs.Choices.{is_saved, has_copies, operand_copies, value_copies, leaves_by, enters_by, carriers}
-use Rattle.un_extend.specs.Choices.{is_use, read_besides, kinds_in, IsWholeBlock}
+use Rattle.un_extend.specs.Choices.{is_saved, has_copies, operand_copies, leaves_by, enters_by, carriers}
+use Rattle.un_extend.specs.Choices.{is_use, read_besides, IsWholeBlock, Shape, shape, shapes_in, no_copy, value_shapes}
 use Rattle.un_extend.proofs.ChoiceLinks.{value_by, Linked}
 use Rattle.un_extend.proofs.ChoiceMarks.{less_not, more_not, below, equal, above, order, same_self, mine, at, at_none}
 use Rattle.un_extend.proofs.ChoiceMarks.{Fact, marks_idle}
@@ -116,10 +116,10 @@ has_here x (suc k) s (suc c) h l = has_here x k (s + 1) c (omega (arith, h)) (om
 
 -- ---- Leave and Enter
 
-record Frames (g h : Growth) (ks : List ExtKind) : Type 0 where
+record Frames (g h : Growth) (ks : List Shape) : Type 0 where
   more : List ExtOp
   is : h.ops ≡ g.ops ++ more
-  kinds : kinds_in more ≡ ks
+  shapes : shapes_in more ≡ ks
   optional : AllOptional ks
   values : h.values ≡ g.values
   next : g.next ≡ h.next
@@ -129,7 +129,7 @@ frames_none : (g : Growth) → Frames g g []
 frames_none g = record {
   more = [];
   is = sym (append-nil g.ops);
-  kinds = refl;
+  shapes = refl;
   optional = tt;
   values = refl;
   next = refl;
@@ -139,11 +139,11 @@ frames_none g = record {
 leave_frames : (kind : ExtKind) (g : Growth) → Frames g (with_leave kind g) (leaves_by kind)
 leave_frames (End term) g = by (is_return term)
   where
-    by : (v : Bool) → Frames g (if v then with_op g (frame_op Leave) else g) (if v then Leave ∷ [] else [])
+    by : (v : Bool) → Frames g (if v then with_op g (frame_op Leave) else g) (if v then no_copy Leave ∷ [] else [])
     by true = record {
       more = frame_op Leave ∷ [];
       is = refl;
-      kinds = refl;
+      shapes = refl;
       optional = (refl, tt);
       values = refl;
       next = refl;
@@ -156,7 +156,7 @@ enter_frames : (v : Bool) (kind : ExtKind) (g : Growth) → Frames g (with_enter
 enter_frames true In g = record {
   more = frame_op Enter ∷ [];
   is = refl;
-  kinds = refl;
+  shapes = refl;
   optional = (refl, tt);
   values = refl;
   next = refl;
@@ -317,13 +317,13 @@ module _ (e : Ext) (b : ℕ) (owner : ExtBlock) where
             is = q.is ∙ ap (λ (xs : List ExtOp). xs ++ q.more) later.is ∙ append_assoc (r.ops ++ made ∷ []) later.more q.more
                 ∙ append_assoc r.ops (made ∷ []) (later.more ++ q.more)
                 ∙ ap (λ (xs : List ExtOp). xs ++ made ∷ (later.more ++ q.more)) front_is;
-            before = map-append (λ (o : ExtOp). o.kind) f.more added.more
-                ∙ ap (λ (ks : List ExtKind). ks ++ kinds_in added.more) f.kinds
-                ∙ ap (λ (ks : List ExtKind). leaves_by op.kind ++ ks) added.kinds;
-            behind = map-append (λ (o : ExtOp). o.kind) later.more q.more
-                ∙ ap (λ (ks : List ExtKind). ks ++ kinds_in q.more) (later.kinds
-                ∙ ap (λ (k : ℕ). map Copy (flat_map (value_copies e b owner) (temps r.next k))) long)
-                ∙ ap (λ (ks : List ExtKind). map Copy (flat_map (value_copies e b owner) made.results) ++ ks) q.kinds;
+            before = map-append shape f.more added.more
+                ∙ ap (λ (ks : List Shape). ks ++ shapes_in added.more) f.shapes
+                ∙ ap (λ (ks : List Shape). leaves_by op.kind ++ ks) added.shapes;
+            behind = map-append shape later.more q.more
+                ∙ ap (λ (ks : List Shape). ks ++ shapes_in q.more) (later.shapes
+                ∙ ap (λ (k : ℕ). flat_map (value_shapes e b owner) (temps r.next k)) long)
+                ∙ ap (λ (ks : List Shape). flat_map (value_shapes e b owner) made.results ++ ks) q.shapes;
             leaves = f.optional;
             enters = q.optional;
             stays = stays;

@@ -12,7 +12,6 @@ use Rattle.un_ir.specs.declared.function.Kind.TheVariants.{General, Pred}
 use Rattle.un_ir.specs.declared.extended.NodeCopy.{NodeCopy}
 use Rattle.un_ir.specs.declared.extended.NodeCopy.TheVariants.{D, D2, U, U2}
 use Rattle.un_ir.specs.declared.extended.ExtKind.{ExtKind}
-use Rattle.un_ir.specs.declared.extended.ExtKind.TheVariants.{Copy}
 use Rattle.un_ir.specs.declared.extended.ExtOp.{ExtOp}
 use Rattle.un_ir.specs.declared.extended.ExtBlock.{ExtBlock}
 use Rattle.un_ir.specs.declared.extended.Ext.{Ext}
@@ -23,7 +22,7 @@ use Rattle.un_ir.specs.Extended.{temp, kind_of_temp}
 use Rattle.un_ir.specs.ExtendOf.{copy_op, copy_count_by, copy_count, with_copies, new_temps, value_of, with_value}
 use Rattle.un_ir.specs.ExtendOf.{with_operand_by}
 use Rattle.un_ir.specs.Linear.{first_of}
-use Rattle.un_extend.specs.Choices.{copies_by, copies_of, has_copies}
+use Rattle.un_extend.specs.Choices.{copies_by, copies_of, has_copies, Shape, shape, shapes_in, copy_of}
 use Rattle.un_extend.proofs.ChoiceLinks.{value_by}
 use Rattle.un_extend.proofs.ExtendKept.{push_cases, set_cases, set_same}
 use Rattle.un_extend.proofs.RunGrowth.{Begins}
@@ -83,33 +82,32 @@ at_none x xs op h = at_push x xs op ∙ ap (λ (ys : List TempId). at x xs ++ ys
 -- ---- copies
 
 -- operations are added, copies of these sorts
-pub record Added (g h : Growth) (zs : List NodeCopy) : Type 0 where
+pub record Added (g h : Growth) (zs : List Shape) : Type 0 where
   pub more : List ExtOp
   pub is : h.ops ≡ g.ops ++ more
-  pub kinds : map (λ (op : ExtOp). op.kind) more ≡ map Copy zs
+  pub shapes : shapes_in more ≡ zs
 
 pub added_none : (g : Growth) → Added g g []
-added_none g = record { more = []; is = sym (append-nil g.ops); kinds = refl }
+added_none g = record { more = []; is = sym (append-nil g.ops); shapes = refl }
 
-pub added_then : (f g h : Growth) (ys zs : List NodeCopy) → Added f g ys → Added g h zs → Added f h (ys ++ zs)
+pub added_then : (f g h : Growth) (ys zs : List Shape) → Added f g ys → Added g h zs → Added f h (ys ++ zs)
 added_then f g h ys zs a b = record {
   more = a.more ++ b.more;
   is = b.is ∙ ap (λ (xs : List ExtOp). xs ++ b.more) a.is ∙ append_assoc f.ops a.more b.more;
-  kinds = map-append (λ (op : ExtOp). op.kind) a.more b.more
-      ∙ ap (λ (ks : List ExtKind). ks ++ map (λ (op : ExtOp). op.kind) b.more) a.kinds
-      ∙ ap (λ (ks : List ExtKind). map Copy ys ++ ks) b.kinds ∙ sym (map-append Copy ys zs);
+  shapes = map-append shape a.more b.more ∙ ap (λ (ks : List Shape). ks ++ shapes_in b.more) a.shapes
+      ∙ ap (λ (ks : List Shape). ys ++ ks) b.shapes;
 }
 
-pub copies_added : (first second : NodeCopy) (kind : Kind) (copied : Bool) (ys : List TempId) (g : Growth)
-    → Added g (with_copies first second kind copied ys g) (copies_by first second (Some kind) copied)
-copies_added first second General false ys g = added_none g
-copies_added first second Pred false ys g = added_none g
-copies_added first second General true ys g = record { more = copy_op first ys g.next ∷ []; is = refl; kinds = refl }
-copies_added first second Pred true ys g = record {
-  more = copy_op first ys g.next ∷ copy_op second (ys ++ temp g.next ∷ []) (g.next + 1) ∷ [];
-  is = append_assoc g.ops (copy_op first ys g.next ∷ []) (copy_op second (ys ++ temp g.next ∷ []) (g.next + 1) ∷ []);
-  kinds = refl;
-}
+pub copies_added : (first second : NodeCopy) (kind : Kind) (copied : Bool) (f : ℕ) (rest : List TempId) (g : Growth)
+    → Added g (with_copies first second kind copied (temp f ∷ rest) g) (map (copy_of (temp f)) (copies_by first second (Some kind) copied))
+copies_added first second General false f rest g = added_none g
+copies_added first second Pred false f rest g = added_none g
+copies_added first second General true f rest g =
+    record { more = copy_op first (temp f ∷ rest) g.next ∷ []; is = refl; shapes = refl }
+copies_added first second Pred true f rest g =
+    let one = copy_op first (temp f ∷ rest) g.next in
+    let two = copy_op second ((temp f ∷ rest) ++ temp g.next ∷ []) (g.next + 1) in
+    record { more = one ∷ two ∷ []; is = append_assoc g.ops (one ∷ []) (two ∷ []); shapes = refl }
 
 pub copies_next : (first second : NodeCopy) (kind : Kind) (copied : Bool) (ys : List TempId) (g : Growth)
     → g.next ≤ (let h = with_copies first second kind copied ys g in h.next)

@@ -4,7 +4,7 @@ use Rattle.std.proofs.Common.{None, map, length, drop, slice_get, refl, sym, ap,
 use Rattle.std.proofs.Common.{append-nil, length-set}
 use Rattle.std.specs.List.{flat_map, filter}
 use Rattle.std.proofs.lemmas.Grind.{flat_map-append}
-use Rattle.std.proofs.lemmas.List.{length-map, length_push, map-append}
+use Rattle.std.proofs.lemmas.List.{length-append, length-map, length_push, map-append}
 use Rattle.std.proofs.lemmas.List.Elements.{filter-append}
 use Rattle.std.proofs.lemmas.Option.{slice_get-get_or}
 use Rattle.un_base.specs.declared.ids.TempId.{TempId}
@@ -21,12 +21,13 @@ use Rattle.un_ir.specs.declared.extended.Growth.{Growth}
 use Rattle.un_ir.specs.declared.extended.Sort.{Sort}
 use Rattle.un_ir.specs.declared.extended.Value.{Value}
 use Rattle.un_ir.specs.Extended.{temp}
-use Rattle.un_ir.specs.ExtendOf.{with_values, with_value, with_operand_by, with_operand, with_operands, new_operands, new_temps}
-use Rattle.un_ir.specs.ExtendOf.{alternatives, chosen_from, with_results, value_of}
+use Rattle.un_ir.specs.ExtendOf.{with_copies, with_values, with_value, with_operand_by, with_operand, with_operands, new_operands}
+use Rattle.un_ir.specs.ExtendOf.{new_temps, alternatives, chosen_from, with_results, value_of}
 use Rattle.un_ir.specs.Kinds.{is_mandatory}
 use Rattle.un_ir.specs.Linear.{first_of}
 use Rattle.un_extend.specs.Choices.{copies_by, copies_of, value_copies, operand_copies, leaves_by, enters_by}
-use Rattle.un_extend.specs.Choices.{with_its_copies, kinds_in, mandatory_in}
+use Rattle.un_extend.specs.Choices.{with_its_copies, mandatory_in, Shape, copied_by, shape, shapes_in, no_copy, copy_of}
+use Rattle.un_extend.specs.Choices.{value_shapes, operand_shapes}
 use Rattle.un_extend.proofs.ChoiceMarks.{same_self, less_not, more_not, below, equal, above, order, mine, at, at_push, Added, added_none}
 use Rattle.un_extend.proofs.ChoiceMarks.{added_then, copies_added}
 use Rattle.un_extend.proofs.ChoiceMarks.{Fact, fact_copies, Marks, known_at, marks_value, marks_operand, longer, longer_known}
@@ -36,26 +37,27 @@ use Rattle.un_extend.proofs.RunTails.{temps}
 
 -- ---- lists
 
-abbrev pub AllOptional : List ExtKind → Type 0
+abbrev pub AllOptional : List Shape → Type 0
 AllOptional [] = Unit {0}
-AllOptional (k ∷ ks) = (is_mandatory k ≡ false) × AllOptional ks
+AllOptional (k ∷ ks) = (is_mandatory k.kind ≡ false) × AllOptional ks
 
-pub optional_append : (xs ys : List ExtKind) → AllOptional xs → AllOptional ys → AllOptional (xs ++ ys)
+pub optional_append : (xs ys : List Shape) → AllOptional xs → AllOptional ys → AllOptional (xs ++ ys)
 optional_append [] ys h k = k
 optional_append (x ∷ xs) ys h k = (h.0, optional_append xs ys h.1 k)
 
-pub copies_optional : (zs : List NodeCopy) → AllOptional (map Copy zs)
-copies_optional [] = tt
-copies_optional (z ∷ zs) = (refl, copies_optional zs)
+copies_optional : (y : TempId) (zs : List NodeCopy) → AllOptional (map (copy_of y) zs)
+copies_optional y [] = tt
+copies_optional y (z ∷ zs) = (refl, copies_optional y zs)
 
-none_mandatory : (xs : List ExtOp) → AllOptional (kinds_in xs) → mandatory_in xs ≡ []
+none_mandatory : (xs : List ExtOp) → AllOptional (shapes_in xs) → mandatory_in xs ≡ []
 none_mandatory [] h = refl
 none_mandatory (x ∷ xs) h =
     ap (λ (v : Bool). cond v (x ∷ mandatory_in xs) (mandatory_in xs)) h.0 ∙ none_mandatory xs h.1
 
-added_long : (xs : List ExtOp) (zs : List NodeCopy) → kinds_in xs ≡ map Copy zs → length xs ≡ length zs
-added_long xs zs h =
-    sym (length-map xs (λ (op : ExtOp). op.kind)) ∙ ap (λ (ks : List ExtKind). length ks) h ∙ length-map zs Copy
+-- a mandatory operation is no copy
+mandatory_shape : (kind : ExtKind) (op : ExtOp) → is_mandatory kind ≡ true → copied_by kind op ≡ None
+mandatory_shape (Copy node) op h = absurd (cc h)
+mandatory_shape _ op h = refl
 
 pub only_low : (x s c : ℕ) → x < s → filter (λ (y : TempId). y.0 == x) (temps s c) ≡ []
 only_low x s zero h = refl
@@ -111,7 +113,7 @@ module _ (e : Ext) (b : ℕ) (owner : ExtBlock) where
   AllChosen before (op ∷ ops) = (is_mandatory op.kind ≡ true → AreChosen before op.operands) × AllChosen (before ++ op ∷ []) ops
 
   abbrev pub KindsAre : List ExtOp → Type 0
-  KindsAre ops = kinds_in ops ≡ flat_map (with_its_copies e b owner) (mandatory_in ops)
+  KindsAre ops = shapes_in ops ≡ flat_map (with_its_copies e b owner) (mandatory_in ops)
 
   chosen_append : (before xs ys : List ExtOp) → AllChosen before xs → AllChosen (before ++ xs) ys → AllChosen before (xs ++ ys)
   chosen_append before [] ys h k = subst (λ (zs : List ExtOp). AllChosen zs ys) (append-nil before) k
@@ -120,7 +122,31 @@ module _ (e : Ext) (b : ℕ) (owner : ExtBlock) where
     chosen_append (before ++ x ∷ []) xs ys h.1 (subst (λ (zs : List ExtOp). AllChosen zs ys) (sym (append_assoc before (x ∷ []) xs)) k),
   )
 
-  chosen_none : (before xs : List ExtOp) → AllOptional (kinds_in xs) → AllChosen before xs
+  operands_optional : (xs : List Operand) → AllOptional (flat_map (operand_shapes e b owner) xs)
+  operands_optional [] = tt
+  operands_optional (x ∷ xs) = optional_append (operand_shapes e b owner x) (flat_map (operand_shapes e b owner) xs)
+      (copies_optional (temp (first_of x.alts)) (operand_copies e b owner x)) (operands_optional xs)
+
+  values_optional : (ys : List TempId) → AllOptional (flat_map (value_shapes e b owner) ys)
+  values_optional [] = tt
+  values_optional (y ∷ ys) = optional_append (value_shapes e b owner y) (flat_map (value_shapes e b owner) ys)
+      (copies_optional y (value_copies e b owner y)) (values_optional ys)
+
+  -- there are as many operations as copies
+  operands_long : (xs : List Operand) (more : List ExtOp) → shapes_in more ≡ flat_map (operand_shapes e b owner) xs
+      → length more ≡ length (flat_map (operand_copies e b owner) xs)
+  operands_long xs more h = sym (length-map more shape) ∙ ap (λ (ks : List Shape). length ks) h ∙ by xs
+    where
+      by : (ys : List Operand) → length (flat_map (operand_shapes e b owner) ys) ≡ length (flat_map (operand_copies e b owner) ys)
+      by [] = refl
+      by (y ∷ ys) =
+          let a = length-append (operand_shapes e b owner y) (flat_map (operand_shapes e b owner) ys) in
+          let c = length-append (operand_copies e b owner y) (flat_map (operand_copies e b owner) ys) in
+          let d = length-map (operand_copies e b owner y) (copy_of (temp (first_of y.alts))) in
+          let r = by ys in
+          omega (arith, a, c, d, r)
+
+  chosen_none : (before xs : List ExtOp) → AllOptional (shapes_in xs) → AllChosen before xs
   chosen_none before [] h = tt
   chosen_none before (x ∷ xs) h = ((λ is. absurd (let f = sym h.0 ∙ is in cc f)), chosen_none (before ++ x ∷ []) xs h.1)
 
@@ -130,8 +156,8 @@ module _ (e : Ext) (b : ℕ) (owner : ExtBlock) where
     pub made : ExtOp
     pub back : List ExtOp
     pub is : h.ops ≡ (g.ops ++ front) ++ made ∷ back
-    pub before : kinds_in front ≡ leaves_by made.kind ++ map Copy (flat_map (operand_copies e b owner) made.operands)
-    pub behind : kinds_in back ≡ map Copy (flat_map (value_copies e b owner) made.results) ++ enters_by (b == 0) made.kind
+    pub before : shapes_in front ≡ leaves_by made.kind ++ flat_map (operand_shapes e b owner) made.operands
+    pub behind : shapes_in back ≡ flat_map (value_shapes e b owner) made.results ++ enters_by (b == 0) made.kind
     pub leaves : AllOptional (leaves_by made.kind)
     pub enters : AllOptional (enters_by (b == 0) made.kind)
     pub stays : is_mandatory made.kind ≡ true
@@ -139,28 +165,32 @@ module _ (e : Ext) (b : ℕ) (owner : ExtBlock) where
 
   pub piece_chosen : (g h : Growth) → Piece g h → AllChosen [] g.ops → AllChosen [] h.ops
   piece_chosen g h p a =
-      let front = subst AllOptional (sym p.before) (optional_append _ _ p.leaves (copies_optional _)) in
-      let back = subst AllOptional (sym p.behind) (optional_append _ _ (copies_optional _) p.enters) in
+      let made = p.made in
+      let front = subst AllOptional (sym p.before) (optional_append _ _ p.leaves (operands_optional made.operands)) in
+      let back = subst AllOptional (sym p.behind) (optional_append _ _ (values_optional made.results) p.enters) in
       subst (AllChosen []) (sym p.is) (chosen_append [] (g.ops ++ p.front) (p.made ∷ p.back)
       (chosen_append [] g.ops p.front a (chosen_none g.ops p.front front))
       ((λ is. p.chosen), chosen_none ((g.ops ++ p.front) ++ p.made ∷ []) p.back back))
 
   pub piece_kinds : (g h : Growth) → Piece g h → KindsAre g.ops → KindsAre h.ops
   piece_kinds g h p k =
-      let front = subst AllOptional (sym p.before) (optional_append _ _ p.leaves (copies_optional _)) in
-      let back = subst AllOptional (sym p.behind) (optional_append _ _ (copies_optional _) p.enters) in
       let made = p.made in
+      let front = subst AllOptional (sym p.before) (optional_append _ _ p.leaves (operands_optional made.operands)) in
+      let back = subst AllOptional (sym p.behind) (optional_append _ _ (values_optional made.results) p.enters) in
       let whole = with_its_copies e b owner in
-      let left : kinds_in h.ops ≡ kinds_in g.ops ++ whole made =
-      ap kinds_in p.is
-      ∙ map-append (λ (op : ExtOp). op.kind) (g.ops ++ p.front) (made ∷ p.back)
-      ∙ ap (λ (ks : List ExtKind). ks ++ made.kind ∷ kinds_in p.back) (map-append (λ (op : ExtOp). op.kind) g.ops p.front)
-      ∙ append_assoc (kinds_in g.ops) (kinds_in p.front) (made.kind ∷ kinds_in p.back)
-      ∙ ap (λ (ks : List ExtKind). kinds_in g.ops ++ (ks ++ made.kind ∷ kinds_in p.back)) p.before
-      ∙ ap (λ (ks : List ExtKind). kinds_in g.ops ++ ((leaves_by made.kind ++ map Copy (flat_map (operand_copies e b owner) made.operands))
-      ++ made.kind ∷ ks)) p.behind
-      ∙ ap (λ (ks : List ExtKind). kinds_in g.ops ++ ks) (append_assoc (leaves_by made.kind)
-      (map Copy (flat_map (operand_copies e b owner) made.operands)) _) in
+      let itself : shape made ≡ no_copy made.kind =
+      ap (λ (y : Option TempId). (let s : Shape = record { kind = made.kind; copies = y } in s)) (mandatory_shape made.kind made p.stays) in
+      let left : shapes_in h.ops ≡ shapes_in g.ops ++ whole made =
+      ap shapes_in p.is
+      ∙ map-append shape (g.ops ++ p.front) (made ∷ p.back)
+      ∙ ap (λ (ks : List Shape). ks ++ shape made ∷ shapes_in p.back) (map-append shape g.ops p.front)
+      ∙ append_assoc (shapes_in g.ops) (shapes_in p.front) (shape made ∷ shapes_in p.back)
+      ∙ ap (λ (s : Shape). shapes_in g.ops ++ (shapes_in p.front ++ s ∷ shapes_in p.back)) itself
+      ∙ ap (λ (ks : List Shape). shapes_in g.ops ++ (ks ++ no_copy made.kind ∷ shapes_in p.back)) p.before
+      ∙ ap (λ (ks : List Shape). shapes_in g.ops ++ ((leaves_by made.kind ++ flat_map (operand_shapes e b owner) made.operands)
+      ++ no_copy made.kind ∷ ks)) p.behind
+      ∙ ap (λ (ks : List Shape). shapes_in g.ops ++ ks)
+      (append_assoc (leaves_by made.kind) (flat_map (operand_shapes e b owner) made.operands) _) in
       let one : mandatory_in (made ∷ p.back) ≡ made ∷ [] =
       ap (λ (v : Bool). cond v (made ∷ mandatory_in p.back) (mandatory_in p.back)) p.stays
       ∙ ap (λ (xs : List ExtOp). made ∷ xs) (none_mandatory p.back back) in
@@ -170,8 +200,8 @@ module _ (e : Ext) (b : ℕ) (owner : ExtBlock) where
       ∙ ap (λ (xs : List ExtOp). xs ++ mandatory_in (made ∷ p.back)) (filter-append (λ (op : ExtOp). is_mandatory op.kind) g.ops p.front
       ∙ ap (λ (xs : List ExtOp). mandatory_in g.ops ++ xs) (none_mandatory p.front front) ∙ append-nil (mandatory_in g.ops))
       ∙ ap (λ (xs : List ExtOp). mandatory_in g.ops ++ xs) one in
-      left ∙ ap (λ (ks : List ExtKind). ks ++ whole made) k
-      ∙ ap (λ (ks : List ExtKind). flat_map whole (mandatory_in g.ops) ++ ks) (sym (append-nil (whole made)))
+      left ∙ ap (λ (ks : List Shape). ks ++ whole made) k
+      ∙ ap (λ (ks : List Shape). flat_map whole (mandatory_in g.ops) ++ ks) (sym (append-nil (whole made)))
       ∙ sym (flat_map-append whole (mandatory_in g.ops) (made ∷ [])) ∙ ap (flat_map whole) (sym right)
 
   -- ---- operands
@@ -182,14 +212,18 @@ module _ (e : Ext) (b : ℕ) (owner : ExtBlock) where
 
     pub record Read (n : ℕ) (g h : Growth) (ys : List Operand) : Type 0 where
       pub marks : InBlock n n h
-      pub added : Added g h (flat_map (operand_copies e b owner) ys)
+      pub added : Added g h (flat_map (operand_shapes e b owner) ys)
       pub chosen : AreChosen h.ops ys
       pub same : length h.values ≡ length g.values
+
+    -- the copies of an operand that reads value f
+    abbrev uses : ℕ → List Shape
+    uses f = map (copy_of (temp f)) (copies_of U U2 e b owner (temp f))
 
     record One (n i : ℕ) (g h : Growth) : Type 0 where
       marks : InBlock n n h
       all : alternatives (slice_get h.values i) ≡ at (first_of (alternatives (slice_get h.values i))) h.ops
-      added : Added g h (copies_of U U2 e b owner (temp (first_of (alternatives (slice_get h.values i)))))
+      added : Added g h (uses (first_of (alternatives (slice_get h.values i))))
       same : length h.values ≡ length g.values
 
     one_step : (n i : ℕ) (o : Option Value) (g : Growth) → slice_get g.values i ≡ o → low ≤ i → i < length g.values → InBlock n n g
@@ -206,16 +240,20 @@ module _ (e : Ext) (b : ℕ) (owner : ExtBlock) where
         let l = longer_known e b owner low n v g k in
         let first : first_of new.all ≡ first_of v.own = let s = l.head in ap first_of s.1 in
         let now : slice_get h.values i ≡ Some new = set_same g.values i new inside in
-        let c = copies_added U U2 sort.kind sort.copied v.own g in
-        let copies : copies_by U U2 (Some sort.kind) sort.copied ≡ copies_of U U2 e b owner (temp (first_of new.all)) =
-        sym (fact_copies e b owner low U U2 (first_of v.own) sort k.fact)
-        ∙ ap (λ (m : ℕ). copies_of U U2 e b owner (temp m)) (sym first) in
+        let own = k.own in
+        let f = first_of v.own in
+        let as_asked : map (copy_of (temp f)) (copies_by U U2 (Some sort.kind) sort.copied) ≡ uses (first_of new.all) =
+        ap (map (copy_of (temp f))) (sym (fact_copies e b owner low U U2 f sort k.fact)) ∙ ap uses (sym first) in
+        let c : Added g h (map (copy_of (temp f)) (copies_by U U2 (Some sort.kind) sort.copied)) =
+        (let d = subst (λ (ys : List TempId). Added g (with_copies U U2 sort.kind sort.copied ys g)
+        (map (copy_of (temp f)) (copies_by U U2 (Some sort.kind) sort.copied))) (sym own.1)
+        (copies_added U U2 sort.kind sort.copied f own.0 g) in record { more = d.more; is = d.is; shapes = d.shapes }) in
         record {
           marks = marks_operand e b owner low n i v g at_i from a;
           all = subst (λ (o : Option Value). alternatives o ≡ at (first_of (alternatives o)) h.ops) (sym now)
               (l.all ∙ ap (λ (m : ℕ). at m h.ops) (sym first));
-          added = subst (λ (o : Option Value). Added g h (copies_of U U2 e b owner (temp (first_of (alternatives o))))) (sym now)
-              (record { more = c.more; is = c.is; kinds = c.kinds ∙ ap (map Copy) copies });
+          added = subst (λ (o : Option Value). Added g h (uses (first_of (alternatives o)))) (sym now)
+              (record { more = c.more; is = c.is; shapes = c.shapes ∙ as_asked });
           same = length-set g.values i new;
         }
 
@@ -240,12 +278,12 @@ module _ (e : Ext) (b : ℕ) (owner : ExtBlock) where
           front = h1.ops;
           rest = later.more;
           is = later.is;
-          long = added_long later.more (flat_map (operand_copies e b owner) ys) later.kinds;
+          long = operands_long ys later.more later.shapes;
           alts = one.all;
         } in
         record {
           marks = rest.marks;
-          added = added_then g h1 h (operand_copies e b owner y) (flat_map (operand_copies e b owner) ys) one.added later;
+          added = added_then g h1 h (operand_shapes e b owner y) (flat_map (operand_shapes e b owner) ys) one.added later;
           chosen = by h y ys first rest.chosen;
           same = rest.same ∙ one.same;
         }
@@ -260,7 +298,7 @@ module _ (e : Ext) (b : ℕ) (owner : ExtBlock) where
 
     pub record Valued (n m : ℕ) (g h : Growth) (count : ℕ) : Type 0 where
       pub marks : InBlock m m h
-      pub added : Added g h (flat_map (value_copies e b owner) (temps n count))
+      pub added : Added g h (flat_map (value_shapes e b owner) (temps n count))
       pub many : length h.values ≡ length g.values + count
 
     pub values_step : (sorts : List Sort) (n m : ℕ) (g : Growth) → n + length sorts ≡ m → InBlock n m g
@@ -273,11 +311,11 @@ module _ (e : Ext) (b : ℕ) (owner : ExtBlock) where
         let z : n + 0 ≡ n = omega arith in
         let fact = subst (λ (k : ℕ). Fact e b owner low k sort) z (each 0 sort refl) in
         let h1 = with_value n sort g in
-        let c = copies_added D D2 sort.kind sort.copied (temp n ∷ []) g in
-        let one : Added g h1 (value_copies e b owner (temp n)) = record {
+        let c = copies_added D D2 sort.kind sort.copied n [] g in
+        let one : Added g h1 (value_shapes e b owner (temp n)) = record {
           more = c.more;
           is = c.is;
-          kinds = c.kinds ∙ ap (map Copy) (sym (fact_copies e b owner low D D2 n sort fact));
+          shapes = c.shapes ∙ ap (map (copy_of (temp n))) (sym (fact_copies e b owner low D D2 n sort fact));
         } in
         let r = values_step sorts (n + 1) m h1 (omega (arith, reach)) (marks_value e b owner low n m sort g (omega (arith, reach)) fact a)
         (λ j other got. (let q : n + suc j ≡ (n + 1) + j = omega arith in
@@ -286,8 +324,8 @@ module _ (e : Ext) (b : ℕ) (owner : ExtBlock) where
         let w = r.many in
         record {
           marks = r.marks;
-          added = added_then g h1 (with_values (n + 1) sorts h1) (value_copies e b owner (temp n))
-              (flat_map (value_copies e b owner) (temps (n + 1) (length sorts))) one r.added;
+          added = added_then g h1 (with_values (n + 1) sorts h1) (value_shapes e b owner (temp n))
+              (flat_map (value_shapes e b owner) (temps (n + 1) (length sorts))) one r.added;
           many = omega (arith, l, w);
         }
 

@@ -1,6 +1,6 @@
 -- Which copies an extended function has, and what its operations may read: all that carries the value and is defined by then.
-use Rattle.std.specs.Prelude.{ℕ, ◌≡◌, ◌+◌, ◌-◌, ◌==◌, ◌||◌, not, Bool, true, false, if◌then◌else◌, List, [], ◌∷◌, ◌++◌, Option, Some, map}
-use Rattle.std.specs.Prelude.{drop, take, length, slice_get}
+use Rattle.std.specs.Prelude.{ℕ, ◌≡◌, ◌+◌, ◌-◌, ◌==◌, ◌||◌, not, Bool, true, false, if◌then◌else◌, List, [], ◌∷◌, ◌++◌, Option, Some, None}
+use Rattle.std.specs.Prelude.{map, drop, take, length, slice_get}
 use Rattle.std.specs.List.{filter, flat_map, list_any}
 use Rattle.un_base.specs.declared.ids.TempId.{TempId}
 use Rattle.un_ir.specs.declared.function.Kind.{Kind}
@@ -14,7 +14,7 @@ use Rattle.un_ir.specs.declared.extended.ExtOp.{ExtOp}
 use Rattle.un_ir.specs.declared.extended.ExtBlock.{ExtBlock}
 use Rattle.un_ir.specs.declared.extended.Ext.{Ext}
 use Rattle.un_ir.specs.declared.extended.Lssa.{Lssa}
-use Rattle.un_ir.specs.Extended.{temp, carried, is_return, kind_of_temp, results_of, returns}
+use Rattle.un_ir.specs.Extended.{temp, first_read, carried, is_return, kind_of_temp, results_of, returns}
 use Rattle.un_ir.specs.Kinds.{is_mandatory}
 use Rattle.un_ir.specs.Linear.{first_of, in_temps}
 
@@ -44,20 +44,48 @@ value_copies e b block y = copies_of D D2 e b block y
 abbrev pub operand_copies : Ext → ℕ → ExtBlock → Operand → List NodeCopy
 operand_copies e b block x = copies_of U U2 e b block (temp (first_of x.alts))
 
+-- the kind of an operation and, where it is a copy, the value that it copies
+pub record Shape : Type 0 where
+  pub kind : ExtKind
+  pub copies : Option TempId
+
+abbrev pub copied_by : ExtKind → ExtOp → Option TempId
+copied_by (Copy node) op = Some (first_read op.operands)
+copied_by _ op = None
+
+abbrev pub shape : ExtOp → Shape
+shape op = record { kind = op.kind; copies = copied_by op.kind op }
+
+abbrev pub shapes_in : List ExtOp → List Shape
+shapes_in ops = map shape ops
+
+abbrev pub no_copy : ExtKind → Shape
+no_copy kind = record { kind = kind; copies = None }
+
+abbrev pub copy_of : TempId → NodeCopy → Shape
+copy_of y node = record { kind = Copy node; copies = Some y }
+
 -- Leave stands before a return with its copies, Enter behind the values of the entry with theirs
-abbrev pub leaves_by : ExtKind → List ExtKind
-leaves_by (End term) = if is_return term then Leave ∷ [] else []
+abbrev pub leaves_by : ExtKind → List Shape
+leaves_by (End term) = if is_return term then no_copy Leave ∷ [] else []
 leaves_by _ = []
 
-abbrev pub enters_by : Bool → ExtKind → List ExtKind
-enters_by true In = Enter ∷ []
+abbrev pub enters_by : Bool → ExtKind → List Shape
+enters_by true In = no_copy Enter ∷ []
 enters_by _ _ = []
 
+-- the copies of a value, and those of an operand, which copy the value that it reads
+abbrev pub value_shapes : Ext → ℕ → ExtBlock → TempId → List Shape
+value_shapes e b block y = map (copy_of y) (value_copies e b block y)
+
+abbrev pub operand_shapes : Ext → ℕ → ExtBlock → Operand → List Shape
+operand_shapes e b block x = map (copy_of (temp (first_of x.alts))) (operand_copies e b block x)
+
 -- a mandatory operation with its copies: those of its operands before it, in their order, those of its results behind it
-abbrev pub with_its_copies : Ext → ℕ → ExtBlock → ExtOp → List ExtKind
+abbrev pub with_its_copies : Ext → ℕ → ExtBlock → ExtOp → List Shape
 with_its_copies e b block op =
-    leaves_by op.kind ++ (map Copy (flat_map (operand_copies e b block) op.operands)
-    ++ op.kind ∷ (map Copy (flat_map (value_copies e b block) op.results) ++ enters_by (b == 0) op.kind))
+    leaves_by op.kind ++ (flat_map (operand_shapes e b block) op.operands
+    ++ no_copy op.kind ∷ (flat_map (value_shapes e b block) op.results ++ enters_by (b == 0) op.kind))
 
 -- ---- what an operand may choose
 
@@ -104,7 +132,7 @@ mandatory_in ops = filter (λ (op : ExtOp). is_mandatory op.kind) ops
 
 pub record IsWholeBlock (e : Ext) (b : ℕ) (block : ExtBlock) : Type 0 where
   -- the block is its mandatory operations with their copies
-  pub copies : kinds_in block.ops ≡ flat_map (with_its_copies e b block) (mandatory_in block.ops)
+  pub copies : shapes_in block.ops ≡ flat_map (with_its_copies e b block) (mandatory_in block.ops)
   -- and they may choose all that they could, as copies may read all that is their own
   pub choices : (k : ℕ) (op : ExtOp) → slice_get block.ops k ≡ Some op → is_mandatory op.kind ≡ true → MayChooseAll e b block k op
   pub reads : (k : ℕ) (op : ExtOp) (node : NodeCopy) (x : Operand) → slice_get block.ops k ≡ Some op → op.kind ≡ Copy node
