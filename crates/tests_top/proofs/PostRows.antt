@@ -1,6 +1,6 @@
 -- What is posted for three small functions, written down by hand from the descriptions of models and of propagators: which variables
 -- each propagator speaks of, in order.
-use Rattle.std.specs.Prelude.{ℕ, ◌≡◌, Bool, true, false, List, [], ◌∷◌, ◌++◌, Option, Some, None, codes, map, pos}
+use Rattle.std.specs.Prelude.{ℕ, ◌≡◌, Bool, true, false, List, [], ◌∷◌, ◌++◌, Option, Some, None, codes, map, pos, slice_get}
 use Rattle.std.specs.List.{range_with_len}
 use Rattle.std.proofs.Common.{refl}
 use Rattle.un_base.specs.declared.ids.VarId.{VarId}
@@ -8,6 +8,7 @@ use Rattle.un_isa.specs.declared.op.Op.{Op}
 use Rattle.un_isa.specs.declared.reg.Reg.{Reg}
 use Rattle.un_isa.specs.declared.table.Needs.{Needs}
 use Rattle.un_isa.specs.Hexagon.{HEXAGON}
+use Rattle.un_ir.specs.Kinds.{is_call_kind}
 use Rattle.un_isa.specs.Registers.{callee_saved}
 use Rattle.un_ir.specs.declared.function.Kind.TheVariants.{General}
 use Rattle.un_ir.specs.declared.extended.NodeCopy.TheVariants.{D}
@@ -34,10 +35,12 @@ use Rattle.un_length.specs.declared.block.Precedence.{Precedence}
 use Rattle.un_length.specs.declared.block.Task.{Task}
 use Rattle.un_kinds.specs.Constraints.{Apart, Clobber, Operands, PerCycle, Length, Live, Across}
 use Rattle.un_press.specs.declared.live.Span.{Span}
-use Rattle.un_sites.specs.Postings.{postings_of}
+use Rattle.un_sites.specs.Postings.{postings_of, with_kind}
 use Rattle.un_sites.specs.Pressures.{pressures_of, room_of}
 use Rattle.un_sites.specs.Befores.{befores_of, lengths_of}
-use Rattle.un_sites.specs.Rooms.{aparts_of, clobbers_of, packets_of, twos_of}
+use Rattle.un_sites.specs.Crossings as crosses
+use Rattle.un_sites.specs.Places.{places_of}
+use Rattle.un_sites.specs.Rooms.{arcs_or, aparts_of, clobbers_of, packets_of, twos_of}
 use Rattle.tests_top.proofs.WorkedModel.{model, names, reads, op, source}
 
 -- ---- variables, times, activities
@@ -240,6 +243,13 @@ worked_twos = refl
 abbrev task : ℕ → ℕ → Needs → Task
 task n tail uses = record { at = v n; head = 0; tail = tail; needs = uses }
 
+abbrev call_task : ℕ → ℕ → ℕ → Task
+call_task n head tail = record { at = v n; head = head; tail = tail; needs = needs 0 0 1 1 }
+
+-- the end, which has so many cycles before it
+abbrev end_task : ℕ → ℕ → Task
+end_task n head = record { at = v n; head = head; tail = 0; needs = none }
+
 abbrev after : ℕ → ℕ → ℕ → Precedence
 after from to gap = record { from = from; to = to; gap = gap }
 
@@ -313,10 +323,10 @@ sum_befores : befores_of summing ≡
     Before (Const 0) Always (at 2) Always 1 ∷ Before (at 2) Always (at 10) Always 1 ∷ Before (Const 0) Always (at 12) Always 1 ∷ []
 sum_befores = refl
 
--- the sum before the end of its block; what waits for the start is no precedence of these
+-- the sum before the end of its block, in a packet of its own; what waits for the start is no precedence of these
 sum_lengths : lengths_of summing ≡
-    Length (task 2 1 none ∷ task 10 0 none ∷ []) (after 0 1 1 ∷ []) (v 10) 10
-    ∷ Length (task 12 1 none ∷ task 16 0 none ∷ []) [] (v 16) 8 ∷ []
+    Length (task 2 1 none ∷ end_task 10 2 ∷ []) (after 0 1 1 ∷ []) (v 10) 10
+    ∷ Length (task 12 1 none ∷ end_task 16 2 ∷ []) [] (v 16) 8 ∷ []
 sum_lengths = refl
 
 -- one propagator for the two names; none for the sum beside itself
@@ -376,9 +386,10 @@ call_clobbers : clobbers_of calling ≡
     ∷ Clobber lost (temp Always (at 4) 5 (user Always (at 10) (Some (v 9)) 0 ∷ [])) [] ∷ []
 call_clobbers = refl
 
--- the load, the call, the store and the end; the call's result stands where the call gives it, and nothing else waits for the call
+-- the load, the call, the store and the end; the call's result stands where the call gives it, and nothing else waits for the call. The
+-- call has room in a packet with the load, the store in one behind it, and all three in one before the end.
 call_lengths : lengths_of calling ≡
-    Length (task 1 1 (needs 1 0 0 0) ∷ task 4 1 (needs 0 0 1 1) ∷ task 6 1 (needs 1 1 0 0) ∷ task 10 0 none ∷ [])
+    Length (task 1 1 (needs 1 0 0 0) ∷ call_task 4 1 2 ∷ task 6 1 (needs 1 1 0 0) ∷ end_task 10 2 ∷ [])
     (after 0 1 1 ∷ after 0 2 2 ∷ after 1 2 1 ∷ after 1 3 1 ∷ []) (v 10) 12 ∷ []
 unfolding callee_saved
 call_lengths = refl
@@ -415,7 +426,7 @@ crossing =
 
 -- one is spilled behind Enter, so the call is in cycle 2 at the earliest; and reloaded after the call, two cycles before the end
 crossing_lengths : lengths_of crossing ≡
-    Length (record { at = v 13; head = 2; tail = 3; needs = needs 0 0 1 1 } ∷ task 28 0 none ∷ []) [] (v 28) 8 ∷ []
+    Length (call_task 13 2 3 ∷ end_task 28 2 ∷ []) [] (v 28) 8 ∷ []
 unfolding callee_saved
 crossing_lengths = refl
 
@@ -425,3 +436,30 @@ crossing_pressures : pressures_of crossing ≡
     Live (map (λ (k : ℕ). span (Const 0) (at 28 ∷ [])) numbers ++ span (at 13) [] ∷ []) 6 8 ∷ Across (v 13) 13 0 ∷ []
 unfolding callee_saved room_of
 crossing_pressures = refl
+
+-- ---- what crosses a call whether it is read before it or behind it
+
+-- a sum of two names that is read at the end, and a call that waits for nothing
+abbrev handing_block : ExtBlock
+handing_block = record {
+  freq = 1;
+  label = codes "h";
+  live_in = names (0 ∷ 1 ∷ []);
+  live_out = names (2 ∷ []);
+  ops =
+      op In [] (0 ∷ 1 ∷ [])
+      ∷ op (source Op.Add (pos 0)) (reads (0 ∷ []) None ∷ reads (1 ∷ []) None ∷ []) (2 ∷ [])
+      ∷ op (source Op.Call (pos 0)) [] (3 ∷ [])
+      ∷ op Out (reads (2 ∷ []) None ∷ []) [] ∷ [];
+  horizon = 10;
+}
+
+abbrev handing : Model
+handing =
+    model_of (record { table = HEXAGON; names = map (λ (k : ℕ). General) (range_with_len 0 3); blocks = handing_block ∷ [] })
+    (record { regs = None; slots = 1 })
+
+-- the sum may be made before the call, and then crosses it, or behind it, and then its first operand does: so that one counts
+handed_over : map (crosses.crossing false (arcs_or (slice_get handing.arcs 0)) (places_of handing))
+        (with_kind is_call_kind (places_of handing)) ≡ (record { 0 = 0 } ∷ []) ∷ []
+handed_over = refl
