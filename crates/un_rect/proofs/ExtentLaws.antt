@@ -187,8 +187,8 @@ module _ (a b : Temp) (s : Sets) (vs : List VarId) (ha : TempVars vs a) (hb : Te
       let rest = firsts (nat_lt (greatest_start a s) (greatest_start b s)) _ all.1 in
       let late : least_end a s ≤ least_start b s = (let h = all.0 in grind (arith, nat_tests, h)) in
       let early : greatest_start a s < greatest_start b s = (let h = rest.0 in grind (arith, nat_tests, h)) in
-      let read : nat_le (last_reading a.users s) (greatest_start b s) ≡ true = subst (λ (c : Bool). nat_le (cond c (last_reading a.users s) 0)
-      (greatest_start b s) ≡ true) one rest.1 in
+      let read : nat_le (last_reading a.users s) (greatest_start b s) ≡ true = subst (λ (c : Bool).
+      nat_le (cond c (last_reading a.users s) 0) (greatest_start b s) ≡ true) one rest.1 in
       let reads : last_reading a.users s ≤ greatest_start b s = grind (arith, nat_tests, read) in
       steps_idle vs s k full a b ha hb late early reads
 

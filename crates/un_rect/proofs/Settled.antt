@@ -1,6 +1,6 @@
 -- Two temporaries that are settled in their order are not cut for it.
 use Rattle.std.proofs.Common.{ℕ, zero, suc, ◌≡◌, ◌<◌, ◌≤◌, ◌-◌, Bool, true, false, cond, not, ◌&&◌, ◌||◌, List, [], ◌∷◌, length, max}
-use Rattle.std.proofs.Common.{nat_eq, nat_le, nat_lt, None, Some, option_and_then, refl, sym, ap, ◌∙◌, subst, arith}
+use Rattle.std.proofs.Common.{nat_eq, nat_le, nat_lt, None, Some, option_and_then, refl, ap, ◌∙◌, subst, arith}
 use Rattle.std.specs.declared.option.Option.{Option}
 use Rattle.std.specs.List.{AllByRecursion}
 use Rattle.std.proofs.lemmas.Bool.Decides.{nat_tests}
@@ -22,7 +22,7 @@ use Rattle.un_prop.specs.declared.act.UserOf.{UserOf}
 use Rattle.un_prop.specs.declared.act.Temp.{Temp}
 use Rattle.un_rect.specs.PairLaws.{each_same}
 use Rattle.un_rect.specs.Pairs.{at_place}
-use Rattle.un_rect.specs.Spans.{choice_vars, UserVars, TempVars, sure_choice, sure_user, may_choose, reading_time, sure_reading}
+use Rattle.un_rect.specs.Spans.{choice_vars, UserVars, TempVars, sure_choice, sure_user, may_choose, sure_reading}
 use Rattle.un_rect.specs.Spans.{greatest_start, least_start, least_end, last_reading}
 use Rattle.un_rect.specs.Orders.{time_cut, choice_cut, late_test, early_test, user_test, reader_test, reader_cut, user_cut, users_cut}
 use Rattle.un_rect.specs.Orders.{order_steps}

@@ -59,7 +59,11 @@ fn extent_of(w: &Window<'_>, a: &Temp) -> Extent
     let reg = w.min(a.reg);
     let end = least_end(w, a);
     let one = w.is_single(a.reg);
-    let last = if one { last_reading(w, a.users.as_slice()) } else { 0 };
+    let last = if one {
+        last_reading(w, a.users.as_slice())
+    } else {
+        0
+    };
     Extent {
         start,
         first,

@@ -63,7 +63,11 @@ fn left_of(w: &Window<'_>, a: &Temp) -> Left
     let reg = w.min(a.reg);
     let one = w.is_single(a.reg);
     let first = least_time(w, a.at);
-    let end = if is_more(opened) { 0 } else { greatest_end(w, a) };
+    let end = if is_more(opened) {
+        0
+    } else {
+        greatest_end(w, a)
+    };
     Left {
         opened,
         reg,

@@ -7,7 +7,8 @@ ghost use Rattle.un_prop.specs.Acts.{act_vars, chooses, is_user};
 ghost use Rattle.un_prop.specs.Looks.{sure};
 ghost use Rattle.un_prop.specs.Rounds.{HasVars};
 ghost use Rattle.un_rect.specs.Spans.{last_use, ends, is_only, sure_choice, sure_user, last_sure_use, least_end};
-ghost use Rattle.un_rect.specs.Spans.{may_choose, reading_time, last_reading, last_possible_use, greatest_end, choice_vars, UserVars, TempVars};
+ghost use Rattle.un_rect.specs.Spans.{may_choose, reading_time, last_reading, last_possible_use, greatest_end};
+ghost use Rattle.un_rect.specs.Spans.{choice_vars, UserVars, TempVars};
 
 use un_base::ids::VarId;
 use un_domains::window::Window;
