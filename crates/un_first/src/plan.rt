@@ -51,6 +51,8 @@ pub struct Schedule {
 pub struct BlockPlan {
     /// How many trials were made under these places.
     pub tried: u64,
+    /// How many of them were made when one was smaller than all before.
+    pub gained: u64,
     /// Whether one of them came to an end, so that `best` tells something.
     pub is_found: bool,
     /// The schedule with the least end, among those with one end with the fewest copies.
@@ -106,6 +108,7 @@ impl BlockPlan {
     fn new(alloc: Global) -> BlockPlan {
         BlockPlan {
             tried: 0,
+            gained: 0,
             is_found: false,
             best: Schedule {
                 end: 0,
@@ -119,12 +122,14 @@ impl BlockPlan {
     /// Forgets the trials.
     pub fn restart(&mut self) {
         self.tried = 0;
+        self.gained = 0;
         self.is_found = false;
     }
 
     /// Makes the trials those of another.
     pub fn copy_from(&mut self, other: &BlockPlan) -> Result<(), AllocError> {
         self.tried = other.tried;
+        self.gained = other.gained;
         self.is_found = other.is_found;
         self.best.end = other.best.end;
         self.best.copies = other.best.copies;

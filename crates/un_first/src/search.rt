@@ -11,6 +11,12 @@ use un_blocks::facts::{Block, Facts};
 use un_trial::sets::{EMPTY, RegisterSet};
 use un_trial::trial::{Manner, PLAIN, Size, Task, Trial};
 
+/// How many operations of a further trial's order are moved at most.
+const MOVES: u64 = 5;
+
+/// After so many trials that brought no smaller schedule a block is tried no more.
+const PATIENCE: u64 = 800;
+
 /// A recipe to begin with, where there is one.
 #[derive(Drop)]
 struct Seed {
@@ -101,7 +107,7 @@ impl<'a> Search<'a> {
         }
     }
 
-    /// The recipe of a further trial: the best so far with one to three operations moved.
+    /// The recipe of a further trial: the best so far with some operations moved.
     fn other_recipe(
         &mut self,
         block: &Block,
@@ -117,7 +123,7 @@ impl<'a> Search<'a> {
         if self.noise.one_in(8) {
             self.recipe.manner = manner;
         }
-        let moves = self.noise.below(3).saturating_add(1);
+        let moves = self.noise.below(MOVES).saturating_add(1);
         for _ in 0..moves {
             move_one(block, self.recipe.order.as_mut_slice(), &mut self.noise);
         }
@@ -139,8 +145,12 @@ impl<'a> Search<'a> {
     /// Makes the trial the best of its block, where it is not worse.
     fn keep(&mut self, end: u32, mine: &mut BlockPlan) {
         let copies = self.trial.copies();
-        if (Size { end, copies }).is_above(mine.size()) {
+        let found = Size { end, copies };
+        if found.is_above(mine.size()) {
             return;
+        }
+        if mine.size().is_above(found) {
+            mine.gained = mine.tried;
         }
         mine.is_found = true;
         mine.best.end = end;
@@ -192,7 +202,7 @@ impl<'a> Search<'a> {
         Ok(())
     }
 
-    /// Makes the trials of a block up to `effort`, until its end is the least.
+    /// Makes the trials of a block up to `effort`, until its end is the least or nothing was gained for long.
     fn try_up_to(
         &mut self,
         b: u32,
@@ -203,7 +213,8 @@ impl<'a> Search<'a> {
     ) -> Result<(), AllocError> {
         for _ in mine.tried..effort {
             let is_least = mine.is_found && mine.best.end <= block.least_end;
-            if is_least || self.left == 0 {
+            let is_idle = mine.tried.saturating_sub(mine.gained) > PATIENCE;
+            if is_least || is_idle || self.left == 0 {
                 break;
             }
             self.try_block(b, block, scene, mine)?;
