@@ -35,7 +35,7 @@ def told(group, rows):
 
 
 def main():
-    trials = int(sys.argv[1]) if len(sys.argv) > 1 else 2000
+    trials = int(sys.argv[1]) if len(sys.argv) > 1 else 1000
     groups = {}
     for group, name, text in functions.read(sys.argv[2:]):
         row = first(text, trials)

@@ -24,7 +24,7 @@ use un_model::model::{BlockVars, Model, Solution};
 use un_post::post::{Posted, post};
 
 /// How often blocks may be tried for the first solution, where there are few nodes.
-pub const TRIALS: u32 = 2_000;
+pub const TRIALS: u32 = 1_000;
 
 /// How often they may be tried for each node, where that is more.
 const TRIALS_OF_NODE: u32 = 2;
