@@ -1,31 +1,21 @@
 -- What a block issues fills cycles: what is ahead of a call with its Spills those up to it, what is behind it with its Reloads those from
 -- it to the end, and all of it those of the block.
-use Rattle.std.proofs.Common.{ℕ, zero, suc, ◌≡◌, ◌<◌, ◌≤◌, ◌+◌, ◌*◌, ◌-◌, Bool, true, false, List, [], ◌∷◌, ◌++◌, map, filter, inl, inr}
-use Rattle.std.proofs.Common.{refl, sym, ap, ◌∙◌, subst, arith, eq-eqb}
-use Rattle.std.specs.Prelude.{Option, Some, None, IfSome, not, ◌&&◌, ◌||◌, ◌==◌, slice_get, slice_index, is_some, sum_by, if◌then◌else◌}
-use Rattle.std.specs.List.{list_any}
+use Rattle.std.proofs.Common.{ℕ, ◌≡◌, ◌<◌, ◌≤◌, ◌+◌, ◌*◌, ◌-◌, Bool, true, false, List, [], ◌∷◌, ◌++◌, map, filter}
+use Rattle.std.proofs.Common.{refl, sym, ap, ◌∙◌, arith, eq-eqb}
+use Rattle.std.specs.Prelude.{Some, not, ◌&&◌, ◌==◌, slice_get, slice_index, sum_by, if◌then◌else◌}
 use Rattle.std.proofs.lemmas.List.Sums.{sum_by-cons, sum_by-append}
 use Rattle.un_base.specs.declared.ids.VarId.{VarId}
-use Rattle.un_isa.specs.Tables.{latency_of}
-use Rattle.un_isa.specs.PacketCounts.{places_of as room_of}
-use Rattle.un_isa.specs.declared.op.Op.{Op}
 use Rattle.un_isa.specs.declared.op.Op.TheVariants.{Call, Spill, Reload, Enter as EnterOp, Leave as LeaveOp}
 use Rattle.un_isa.specs.declared.packet_counts.Resource.{Resource}
-use Rattle.un_isa.specs.declared.table.Table.{Table}
-use Rattle.un_ir.specs.declared.function.Term.TheVariants.{Fall, Jump, Branch, Ret}
-use Rattle.un_ir.specs.declared.extended.ExtKind.{ExtKind}
-use Rattle.un_ir.specs.declared.extended.ExtKind.TheVariants.{In, Out, Body, End, Copy, Enter, Leave}
 use Rattle.un_ir.specs.declared.extended.Ext.{Ext}
-use Rattle.un_ir.specs.Extended.{is_copy, is_enter, is_leave}
-use Rattle.un_ir.specs.Kinds.{is_call_kind, is_delimiter, is_frame_op, is_mandatory}
+use Rattle.un_ir.specs.Extended.{is_copy, is_leave}
+use Rattle.un_ir.specs.Kinds.{is_call_kind, is_mandatory}
 use Rattle.un_model.specs.declared.model.Arc.{Arc}
 use Rattle.un_model.specs.declared.model.Options.{Options}
-use Rattle.un_model.specs.declared.schedule.Issue.{Issue}
 use Rattle.un_model.specs.Arcs.{own_instr}
-use Rattle.un_model.specs.Instructions.{instruction_of}
 use Rattle.un_model.specs.Schedules.{schedule_of, issues_of, value_by}
-use Rattle.un_model.specs.Solutions.{IsSchedule, HasFrame, is_frame_access, frame_distance, latency_gap, share_of}
-use Rattle.un_model.specs.Variables.{model_of, arcs_of, ops_count, var_at}
+use Rattle.un_model.specs.Solutions.{IsSchedule, HasFrame, is_frame_access, latency_gap, share_of}
+use Rattle.un_model.specs.Variables.{model_of, arcs_of, ops_count}
 use Rattle.un_model.proofs.Lists.{Each, Member, each_of, each_member, each_map, member_map_of, member_at, any_of}
 use Rattle.un_model.proofs.Placed.{Placed, Region, region_placed, vars_of, issue_at}
 use Rattle.un_model.proofs.PlacedSchedules.{all, issue_here}
@@ -38,203 +28,21 @@ use Rattle.un_sites.specs.Lengths.{cycles_by, cycles_after, cycles_in, most_of}
 use Rattle.un_sites.specs.Places.{Place}
 use Rattle.un_sites.specs.Rooms.{arcs_or, is_behind}
 use Rattle.un_sites.specs.Shares.{own_share, spills_share, reloads_share, has_leave}
-use Rattle.un_post.proofs.AccessRooms.{Framed, framed, distant, placed_as, frame_on, enter, entered, late}
+use Rattle.un_post.proofs.AccessRooms.{framed, distant, placed_as, late}
 use Rattle.un_post.proofs.Blocks.{blocks, region_places, region_close, in_all, stands_in}
 use Rattle.un_post.proofs.CallOrder.{ordered}
-use Rattle.un_post.proofs.Crossed.{not_same, owed_spills, owed_reloads}
+use Rattle.un_post.proofs.Crossed.{owed_spills, owed_reloads}
 use Rattle.un_post.proofs.Facts.{Given, in_domains}
 use Rattle.un_post.proofs.Filling.{enough, greatest_is, none_of, several_more, first_of_several, takes_is, Beside, Other, beside_none, beside_one}
-use Rattle.un_post.proofs.Filling.{beside_several, beside_both, beside_fits, takes, IsThere}
+use Rattle.un_post.proofs.Filling.{beside_several, beside_both, beside_fits, takes, IsThere, sum_passing, sum_filter, filter_whole}
+use Rattle.un_post.proofs.Issued.{is_issued, own_as, own_none, issued_some, issued_mandatory, call_issued, copy_optional}
+use Rattle.un_post.proofs.Issued.{enter_optional, leave_optional, leave_frames, leave_instr, tag, leave_after, and_no, first_no}
 use Rattle.un_post.proofs.OneEnter.{filter_map, one_enter}
 use Rattle.un_post.proofs.Packets.{sum_map, sum_part}
 use Rattle.un_post.proofs.Placing.{place_of}
 use Rattle.un_post.proofs.Regions.{of_region, placed_regions}
 use Rattle.un_post.proofs.Spared.{Ordered, call_instr}
 use Rattle.un_post.proofs.Tests.{and_iff}
-
--- ---- operations
-
--- every solution issues an instruction of it
-abbrev pub is_issued : ExtKind → Bool
-is_issued (Body so) = true
-is_issued (End Fall) = false
-is_issued (End term) = true
-is_issued _ = false
-
-own_as : (t : Table) (r : Resource) (kind : ExtKind) (n : ℕ) → is_issued kind ≡ true
-    → share_of t r (instruction_of kind 0) ≡ share_of t r (instruction_of kind n)
-own_as t r (Body so) n h = refl
-own_as t r (End Fall) n h = absurd (cc h)
-own_as t r (End (Jump to)) n h = refl
-own_as t r (End (Branch pred true to)) n h = refl
-own_as t r (End (Branch pred false to)) n h = refl
-own_as t r (End (Ret value)) n h = refl
-own_as t r In n h = absurd (cc h)
-own_as t r Out n h = absurd (cc h)
-own_as t r (Copy node) n h = absurd (cc h)
-own_as t r Enter n h = absurd (cc h)
-own_as t r Leave n h = absurd (cc h)
-
-own_none : (t : Table) (r : Resource) (kind : ExtKind) → is_issued kind ≡ false → share_of t r (instruction_of kind 0) ≡ 0
-own_none t r (Body so) h = absurd (cc h)
-own_none t r (End Fall) h = refl
-own_none t r (End (Jump to)) h = absurd (cc h)
-own_none t r (End (Branch pred sense to)) h = absurd (cc h)
-own_none t r (End (Ret value)) h = absurd (cc h)
-own_none t r In h = refl
-own_none t r Out h = refl
-own_none t r (Copy node) h = refl
-own_none t r Enter h = refl
-own_none t r Leave h = refl
-
-issued_some : (kind : ExtKind) (n : ℕ) → is_issued kind ≡ true → (op : Op) × (instruction_of kind n ≡ Some op)
-issued_some (Body so) n h = (so.op, refl)
-issued_some (End Fall) n h = absurd (cc h)
-issued_some (End (Jump to)) n h = (_, refl)
-issued_some (End (Branch pred true to)) n h = (_, refl)
-issued_some (End (Branch pred false to)) n h = (_, refl)
-issued_some (End (Ret value)) n h = (_, refl)
-issued_some In n h = absurd (cc h)
-issued_some Out n h = absurd (cc h)
-issued_some (Copy node) n h = absurd (cc h)
-issued_some Enter n h = absurd (cc h)
-issued_some Leave n h = absurd (cc h)
-
-issued_mandatory : (kind : ExtKind) → is_issued kind ≡ true → is_mandatory kind ≡ true
-issued_mandatory (Body so) h = refl
-issued_mandatory (End term) h = refl
-issued_mandatory In h = absurd (cc h)
-issued_mandatory Out h = absurd (cc h)
-issued_mandatory (Copy node) h = absurd (cc h)
-issued_mandatory Enter h = absurd (cc h)
-issued_mandatory Leave h = absurd (cc h)
-
-call_issued : (kind : ExtKind) → is_call_kind kind ≡ true → is_issued kind ≡ true
-call_issued (Body so) h = refl
-call_issued In h = absurd (cc h)
-call_issued Out h = absurd (cc h)
-call_issued (End term) h = absurd (cc h)
-call_issued (Copy node) h = absurd (cc h)
-call_issued Enter h = absurd (cc h)
-call_issued Leave h = absurd (cc h)
-
-copy_optional : (kind : ExtKind) → is_copy kind ≡ true → is_mandatory kind ≡ false
-copy_optional (Copy node) h = refl
-copy_optional In h = absurd (cc h)
-copy_optional Out h = absurd (cc h)
-copy_optional (Body so) h = absurd (cc h)
-copy_optional (End term) h = absurd (cc h)
-copy_optional Enter h = absurd (cc h)
-copy_optional Leave h = absurd (cc h)
-
-enter_optional : (kind : ExtKind) → is_enter kind ≡ true → is_mandatory kind ≡ false
-enter_optional Enter h = refl
-enter_optional In h = absurd (cc h)
-enter_optional Out h = absurd (cc h)
-enter_optional (Body so) h = absurd (cc h)
-enter_optional (End term) h = absurd (cc h)
-enter_optional (Copy node) h = absurd (cc h)
-enter_optional Leave h = absurd (cc h)
-
-leave_optional : (kind : ExtKind) → is_leave kind ≡ true → is_mandatory kind ≡ false
-leave_optional Leave h = refl
-leave_optional In h = absurd (cc h)
-leave_optional Out h = absurd (cc h)
-leave_optional (Body so) h = absurd (cc h)
-leave_optional (End term) h = absurd (cc h)
-leave_optional (Copy node) h = absurd (cc h)
-leave_optional Enter h = absurd (cc h)
-
-leave_frames : (kind : ExtKind) → is_leave kind ≡ true → is_frame_op kind ≡ true
-leave_frames Leave h = refl
-leave_frames In h = absurd (cc h)
-leave_frames Out h = absurd (cc h)
-leave_frames (Body so) h = absurd (cc h)
-leave_frames (End term) h = absurd (cc h)
-leave_frames (Copy node) h = absurd (cc h)
-leave_frames Enter h = absurd (cc h)
-
-leave_instr : (kind : ExtKind) (n : ℕ) → is_leave kind ≡ true → (is_delimiter kind || is_some (instruction_of kind n)) ≡ true
-    → instruction_of kind n ≡ Some LeaveOp
-leave_instr Leave n h a = frame_on LeaveOp (n == 0) a
-leave_instr In n h a = absurd (cc h)
-leave_instr Out n h a = absurd (cc h)
-leave_instr (Body so) n h a = absurd (cc h)
-leave_instr (End term) n h a = absurd (cc h)
-leave_instr (Copy node) n h a = absurd (cc h)
-leave_instr Enter n h a = absurd (cc h)
-
--- tags keep what is named one by one apart
-abbrev tag : Option Op → ℕ
-tag (Some Call) = 1
-tag (Some EnterOp) = 2
-tag (Some Spill) = 3
-tag (Some Reload) = 4
-tag (Some LeaveOp) = 5
-tag _ = 0
-
--- what comes no earlier than a Reload
-leave_after : (a b : Option Op) (c d : ℕ) → a ≡ Some Reload → b ≡ Some LeaveOp → IfSome (frame_distance a b) (λ (n : ℕ). c + n ≤ d) → c ≤ d
-leave_after a b c d f g h =
-    let le : c + 0 ≤ d = subst (λ (z : Option Op). IfSome (frame_distance (Some Reload) z) (λ (n : ℕ). c + n ≤ d)) g
-    (subst (λ (z : Option Op). IfSome (frame_distance z b) (λ (n : ℕ). c + n ≤ d)) f h) in
-    omega (arith, le)
-
-and_no : (a b : Bool) → b ≡ false → (a && b) ≡ false
-and_no true b h = h
-and_no false b h = refl
-
-first_no : (a b : Bool) → a ≡ false → (a && b) ≡ false
-first_no true b h = absurd (cc h)
-first_no false b h = refl
-
--- ---- sums
-
--- those that pass have no more than the whole, where each that passes has no more
-sum_passing : {X : Type 0} (early : X → Bool) (f g : X → ℕ) (xs : List X) → Each (λ x. early x ≡ true → f x ≤ g x) xs
-    → sum_by f (filter early xs) ≤ sum_by g xs
-sum_passing early f g [] each = omega arith
-sum_passing early f g (x ∷ xs) each = by (sum_passing early f g xs each.1) (early x) refl
-  where
-    by : sum_by f (filter early xs) ≤ sum_by g xs → (b : Bool) → early x ≡ b → sum_by f (filter early (x ∷ xs)) ≤ sum_by g (x ∷ xs)
-    by rest true is =
-        let here = each.0 is in
-        let a = sum_by-cons g x xs in
-        let c = sum_by-cons f x (filter early xs) in
-        let same : filter early (x ∷ xs) ≡ x ∷ filter early xs = rw is refl in
-        let sums = ap (sum_by f) same in
-        omega (arith, rest, here, a, c, sums)
-    by rest false is =
-        let a = sum_by-cons g x xs in
-        let same : filter early (x ∷ xs) ≡ filter early xs = rw is refl in
-        let sums = ap (sum_by f) same in
-        omega (arith, rest, a, sums)
-
--- what passes has what it counts for in the whole
-sum_filter : {X : Type 0} (f : X → ℕ) (test : X → Bool) (xs : List X)
-    → sum_by (λ x. if test x then f x else 0) xs ≡ sum_by f (filter test xs)
-sum_filter f test [] = refl
-sum_filter f test (x ∷ xs) = by (sum_filter f test xs) (test x) refl
-  where
-    by : sum_by (λ x. if test x then f x else 0) xs ≡ sum_by f (filter test xs) → (b : Bool) → test x ≡ b
-        → sum_by (λ x. if test x then f x else 0) (x ∷ xs) ≡ sum_by f (filter test (x ∷ xs))
-    by rest true is =
-        let a = sum_by-cons (λ x. if test x then f x else 0) x xs in
-        let own : (if test x then f x else 0) ≡ f x = rw is refl in
-        let c = sum_by-cons f x (filter test xs) in
-        let same : filter test (x ∷ xs) ≡ x ∷ filter test xs = rw is refl in
-        let sums = ap (sum_by f) same in
-        omega (arith, rest, a, own, c, sums)
-    by rest false is =
-        let a = sum_by-cons (λ x. if test x then f x else 0) x xs in
-        let own : (if test x then f x else 0) ≡ 0 = rw is refl in
-        let same : filter test (x ∷ xs) ≡ filter test xs = rw is refl in
-        let sums = ap (sum_by f) same in
-        omega (arith, rest, a, own, sums)
-
-filter_whole : {X : Type 0} (xs : List X) → filter (λ x. true) xs ≡ xs
-filter_whole [] = refl
-filter_whole (x ∷ xs) = ap (λ ys. x ∷ ys) (filter_whole xs)
 
 module _ (e : Ext) (o : Options) (x : List ℕ) (given : Given e o x)
     (schedule : IsSchedule (latency_gap e.table) (model_of e o).domains (model_of e o) x (schedule_of (model_of e o) x)) where

@@ -1,9 +1,8 @@
 -- The operations of a block that issue in an interval of cycles, named one by one or by a test, have room in it.
-use Rattle.std.proofs.Common.{ℕ, zero, suc, ◌≡◌, ◌<◌, ◌≤◌, ◌+◌, ◌*◌, ◌-◌, Bool, true, false, List, [], ◌∷◌, ◌++◌, length, map, filter}
-use Rattle.std.proofs.Common.{inl, inr, refl, sym, ap, ◌∙◌, subst, arith, eq-eqb, max}
-use Rattle.std.specs.Prelude.{Option, Some, None, ◌&&◌, ◌==◌, nat_le, nat_lt, sum_by, fold, if◌then◌else◌}
+use Rattle.std.proofs.Common.{ℕ, zero, suc, ◌≡◌, ◌<◌, ◌≤◌, ◌+◌, ◌*◌, Bool, true, false, List, [], ◌∷◌, ◌++◌, length, filter}
+use Rattle.std.proofs.Common.{inl, inr, refl, ap, ◌∙◌, subst, arith, eq-eqb, max}
+use Rattle.std.specs.Prelude.{Option, ◌&&◌, ◌==◌, nat_le, nat_lt, sum_by, fold, if◌then◌else◌}
 use Rattle.std.proofs.lemmas.Bool.{cases_lt}
-use Rattle.std.proofs.lemmas.Bool.Decides.{nat_tests}
 use Rattle.std.proofs.lemmas.List.Sums.{sum_by-cons, sum_by-append}
 use Rattle.un_isa.specs.PacketCounts.{places_of as room_of}
 use Rattle.un_isa.specs.declared.op.Op.{Op}
@@ -76,6 +75,52 @@ sum_least f (suc n) k (x ∷ xs) le each =
     let rest = sum_least f n k xs (omega (arith, le)) each.1 in
     let more : suc n * k ≡ n * k + k = grind arith in
     omega (arith, cons, here, rest, more)
+
+-- those that pass have no more than the whole, where each that passes has no more
+pub sum_passing : {X : Type 0} (early : X → Bool) (f g : X → ℕ) (xs : List X) → Each (λ x. early x ≡ true → f x ≤ g x) xs
+    → sum_by f (filter early xs) ≤ sum_by g xs
+sum_passing early f g [] each = omega arith
+sum_passing early f g (x ∷ xs) each = by (sum_passing early f g xs each.1) (early x) refl
+  where
+    by : sum_by f (filter early xs) ≤ sum_by g xs → (b : Bool) → early x ≡ b → sum_by f (filter early (x ∷ xs)) ≤ sum_by g (x ∷ xs)
+    by rest true is =
+        let here = each.0 is in
+        let a = sum_by-cons g x xs in
+        let c = sum_by-cons f x (filter early xs) in
+        let same : filter early (x ∷ xs) ≡ x ∷ filter early xs = rw is refl in
+        let sums = ap (sum_by f) same in
+        omega (arith, rest, here, a, c, sums)
+    by rest false is =
+        let a = sum_by-cons g x xs in
+        let same : filter early (x ∷ xs) ≡ filter early xs = rw is refl in
+        let sums = ap (sum_by f) same in
+        omega (arith, rest, a, sums)
+
+-- what passes has what it counts for in the whole
+pub sum_filter : {X : Type 0} (f : X → ℕ) (test : X → Bool) (xs : List X)
+    → sum_by (λ x. if test x then f x else 0) xs ≡ sum_by f (filter test xs)
+sum_filter f test [] = refl
+sum_filter f test (x ∷ xs) = by (sum_filter f test xs) (test x) refl
+  where
+    by : sum_by (λ x. if test x then f x else 0) xs ≡ sum_by f (filter test xs) → (b : Bool) → test x ≡ b
+        → sum_by (λ x. if test x then f x else 0) (x ∷ xs) ≡ sum_by f (filter test (x ∷ xs))
+    by rest true is =
+        let a = sum_by-cons (λ x. if test x then f x else 0) x xs in
+        let own : (if test x then f x else 0) ≡ f x = rw is refl in
+        let c = sum_by-cons f x (filter test xs) in
+        let same : filter test (x ∷ xs) ≡ x ∷ filter test xs = rw is refl in
+        let sums = ap (sum_by f) same in
+        omega (arith, rest, a, own, c, sums)
+    by rest false is =
+        let a = sum_by-cons (λ x. if test x then f x else 0) x xs in
+        let own : (if test x then f x else 0) ≡ 0 = rw is refl in
+        let same : filter test (x ∷ xs) ≡ filter test xs = rw is refl in
+        let sums = ap (sum_by f) same in
+        omega (arith, rest, a, own, sums)
+
+pub filter_whole : {X : Type 0} (xs : List X) → filter (λ x. true) xs ≡ xs
+filter_whole [] = refl
+filter_whole (x ∷ xs) = ap (λ ys. x ∷ ys) (filter_whole xs)
 
 module _ (e : Ext) (o : Options) (x : List ℕ) (h : Solved e o x) where
   -- ---- several operations

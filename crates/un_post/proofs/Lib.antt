@@ -21,6 +21,7 @@ pub mod FrameTags
 pub mod FrameTests
 pub mod Frames
 pub mod Homes
+pub mod Issued
 pub mod Latencies
 pub mod LeastValues
 pub mod Lengths

@@ -1,5 +1,5 @@
 -- The greatest of several numbers, as a loop over a list finds it.
-use Rattle.std.proofs.Common.{ℕ, ◌≡◌, ◌<◌, ◌+◌, cond, List, ◌∷◌, map, drop, max, sym, ap, ◌∙◌, arith}
+use Rattle.std.proofs.Common.{ℕ, ◌≡◌, ◌<◌, ◌+◌, cond, List, map, drop, max, sym, ap, ◌∙◌, arith}
 use Rattle.std.specs.Prelude.{Some, fold, slice_get}
 use Rattle.std.specs.Cmp.{ranks}
 use Rattle.std.specs.Ordering.{nat_cmp, is_lt, ord_max, MatchOrdering}

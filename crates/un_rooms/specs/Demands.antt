@@ -8,7 +8,6 @@ use Rattle.un_model.specs.Arcs.{own_instr}
 use Rattle.un_model.specs.Instructions.{needs_by}
 use Rattle.un_model.specs.declared.model.Arc.{Arc}
 use Rattle.un_rooms.specs.declared.demands.Demand.{Demand}
-use Rattle.un_rooms.specs.declared.shares.Accesses.{Accesses}
 use Rattle.un_sites.specs.Crossings.{spills_at, reloads_at}
 use Rattle.un_sites.specs.Lengths.{call_head, tail_in, var_in}
 use Rattle.un_sites.specs.Places.{Place, time_of}

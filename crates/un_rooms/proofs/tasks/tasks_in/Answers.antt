@@ -1,4 +1,4 @@
-use Rattle.std.proofs.Common.{◌∙◌, ap, map}
+use Rattle.std.proofs.Common.{◌∙◌, map}
 use Rattle.un_sites.specs.Lengths.{task_of, tasks_in}
 use Rattle.un_sites.specs.Sites.{place_of}
 use Rattle.un_rooms.specs.Demands.{demand_of, task_by}
