@@ -461,5 +461,5 @@ handing =
 
 -- the sum may be made before the call, and then crosses it, or behind it, and then its first operand does: so that one counts
 handed_over : map (crosses.crossing false (arcs_or (slice_get handing.arcs 0)) (places_of handing))
-        (with_kind is_call_kind (places_of handing)) ≡ (record { 0 = 0 } ∷ []) ∷ []
+    (with_kind is_call_kind (places_of handing)) ≡ (record { 0 = 0 } ∷ []) ∷ []
 handed_over = refl
